@@ -1,0 +1,26 @@
+-- worked examples, by computation
+pub mod WorkedSchemas
+pub mod WorkedRecords
+pub mod WorkedFaults
+pub mod WorkedPaths
+pub mod WorkedColumns
+pub mod WorkedAutomaton
+pub mod WorkedQueries
+pub mod WorkedMeaning
+pub mod WorkedWalk
+pub mod WorkedAsk
+-- lemmas of the laws of schema text
+pub mod SchemaMachine
+pub mod SchemaAccepted
+pub mod SchemaGoesOn
+pub mod SchemaDeadEnds
+pub mod SchemaLexing
+pub mod SchemaReadsBack
+pub mod SchemaValid
+-- lemmas of the laws of projections and columns
+pub mod ProjectionLemmas
+pub mod MeaningLemmas
+pub mod Blocks
+pub mod ColumnLemmas
+-- the record of a line is within the limits
+pub mod RecordLimits

@@ -1,0 +1,76 @@
+-- Input lines and the first command, by computation.
+use Rattle.std.specs.Prelude.{◌≡◌, ℕ, List, [], ◌∷◌, ◌++◌, Ok, Err, codes, refl}
+use Rattle.std.specs.Str.{is_utf8, chars}
+use Rattle.std.specs.Fmt.{digits}
+use Rattle.json.specs.Print.{escape_byte}
+use Rattle.serde_json.proofs.OnLiterals.{serde_json_on_literals}
+use Rattle.dr_meaning.specs.SchemaText.{parse_schema, empty_group}
+use Rattle.dr_meaning.specs.JsonRecord.{record_of_line, missing_field, not_json}
+use Rattle.dr_meaning.specs.Lines.{lines_of, records_of, no_record, too_many_records}
+use Rattle.dr_meaning.specs.QueryText.{count_text}
+use Rattle.dr_meaning.specs.Query.{meaning}
+use Rattle.dr_meaning.specs.Print.{result_text}
+use Rattle.dr_meaning.specs.Ask.{ask, count_of, schema_refused, query_refused, line_refused, schema_refusal_text, line_refusal_text}
+use Rattle.dr_meaning.proofs.WorkedSchemas.{document, document_text}
+use Rattle.dr_meaning.proofs.WorkedRecords.{line_10, line_20, line_30}
+
+abbrev input : List ℕ
+input = line_10 ++ 10 ∷ (line_20 ++ 10 ∷ [])
+
+-- ---- lines
+
+pub cut_lines : (lines_of (codes "a\n\nb") ≡ codes "a" ∷ [] ∷ codes "b" ∷ []) × (lines_of (codes "a\n") ≡ codes "a" ∷ []) × (lines_of [] ≡ []) × (lines_of (codes "\n") ≡ [] ∷ [])
+cut_lines = (refl, refl, refl, refl)
+
+pub second_line_refused : records_of document 5 (line_30 ++ codes "\n{}\nx") ≡ Err (record { line = 2; fault = no_record missing_field })
+unfolding records_of record_of_line is_utf8 chars serde_json_on_literals
+second_line_refused = refl
+
+-- past the greatest number of lines the count is what is refused, not the line
+pub one_line_too_many : records_of document 1 (line_30 ++ codes "\nx") ≡ Err (record { line = 2; fault = too_many_records })
+unfolding records_of record_of_line is_utf8 chars serde_json_on_literals
+one_line_too_many = refl
+
+-- ---- SELECT COUNT(Name.Url) FROM Document
+
+abbrev query : List ℕ
+query = codes "SELECT COUNT(Name.Url) FROM Document"
+
+pub first_answer : ask document_text query input ≡ Ok (codes "{\"f0_\":3}\n")
+unfolding ask parse_schema count_of count_text records_of record_of_line is_utf8 chars serde_json_on_literals result_text meaning escape_byte digits
+first_answer = refl
+
+pub of_empty_input : ask document_text query [] ≡ Ok (codes "{\"f0_\":0}\n")
+unfolding ask parse_schema count_of count_text records_of record_of_line is_utf8 chars serde_json_on_literals result_text meaning escape_byte digits
+of_empty_input = refl
+
+pub named_count : ask document_text (codes "select Count ( \"Name\" . Url ) as urls from Document ;") input ≡ Ok (codes "{\"urls\":3}\n")
+unfolding ask parse_schema count_of count_text records_of record_of_line is_utf8 chars serde_json_on_literals result_text meaning escape_byte digits
+named_count = refl
+
+-- ---- refusals: the schema, then the query, then the lines
+
+pub schema_first : ask (codes "message T { }") (codes "SELECT") (codes "x") ≡ Err (schema_refused (record { place = 12; problem = empty_group }))
+unfolding ask parse_schema count_of count_text records_of record_of_line is_utf8 chars serde_json_on_literals result_text meaning escape_byte digits
+schema_first = refl
+
+-- the FROM name isn't the message's; the path is a group's; two queries
+pub other_table : ask document_text (codes "SELECT COUNT(DocId) FROM T") (codes "x") ≡ Err query_refused
+unfolding ask parse_schema count_of count_text records_of record_of_line is_utf8 chars serde_json_on_literals result_text meaning escape_byte digits
+other_table = refl
+
+pub count_of_group : ask document_text (codes "SELECT COUNT(Name) FROM Document") input ≡ Err query_refused
+unfolding ask parse_schema count_of count_text records_of record_of_line is_utf8 chars serde_json_on_literals result_text meaning escape_byte digits
+count_of_group = refl
+
+pub more_behind : ask document_text (codes "SELECT COUNT(DocId) FROM Document; SELECT") input ≡ Err query_refused
+unfolding ask parse_schema count_of count_text records_of record_of_line is_utf8 chars serde_json_on_literals result_text meaning escape_byte digits
+more_behind = refl
+
+pub a_line_is_refused : ask document_text query (input ++ codes "\n{}") ≡ Err (line_refused (record { line = 3; fault = no_record not_json }))
+unfolding ask parse_schema count_of count_text records_of record_of_line is_utf8 chars serde_json_on_literals result_text meaning escape_byte digits
+a_line_is_refused = refl
+
+pub refusal_texts : (schema_refusal_text (record { place = 12; problem = empty_group }) ≡ codes "refused schema at 12: EmptyGroup\n") × (line_refusal_text (record { line = 1; fault = no_record missing_field }) ≡ codes "refused line 1: MissingField\n")
+unfolding digits
+refusal_texts = (refl, refl)

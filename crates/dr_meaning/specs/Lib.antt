@@ -1,0 +1,27 @@
+-- The definitions, from schemas to the first command, in the order in which they build on one another.
+-- schemas: trees of named fields; their text; paths and levels
+pub mod Schema
+pub mod SchemaText
+pub mod Path
+-- records: trees of instances, and projection; the record of a JSON line
+pub mod Record
+pub mod JsonRecord
+-- queries: rows and values, expressions, kept branches, results
+pub mod Rows
+pub mod Expression
+pub mod Kept
+pub mod Query
+pub mod Print
+-- columns, the automaton and the walk of records
+pub mod Column
+pub mod Automaton
+pub mod Walk
+-- input lines, query text, the first command
+pub mod Lines
+pub mod QueryText
+pub mod Ask
+-- laws, each proved on a law function of src/
+pub mod SchemaTextLaws
+pub mod ProjectionLaws
+pub mod MeaningLaws
+pub mod ColumnLaws

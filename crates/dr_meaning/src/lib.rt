@@ -1,0 +1,8 @@
+//! The definitions that every promise is stated in, and laws over them. specs/Lib.antt is the table of contents of the
+//! definitions; each function here has an empty body, and its contract is a law.
+#![tactic(auto)]
+
+pub mod column_laws;
+pub mod meaning_laws;
+pub mod projection_laws;
+pub mod schema_laws;
