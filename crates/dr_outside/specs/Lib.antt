@@ -1,0 +1,9 @@
+pub mod Faults
+pub mod Cause
+pub mod Source
+pub mod Sink
+pub mod Link
+pub mod Failing
+pub mod Memory
+pub mod Shelf
+pub mod MemLink

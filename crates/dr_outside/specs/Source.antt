@@ -1,0 +1,14 @@
+-- What a read does to the bytes that a source has left, where it tells them.
+use Rattle.std.specs.Prelude.{◌≡◌, ◌↔◌, ℕ, List, [], ◌++◌, None, Some, ⊤}
+use Rattle.std.specs.declared.option.Option.{Option}
+
+-- the bytes were the front of what was left before, and the rest is left after
+abbrev pub Took : Option (List ℕ) → Option (List ℕ) → List ℕ → Type 0
+Took None after bytes = ⊤
+Took (Some all) None bytes = ⊥
+Took (Some all) (Some rest) bytes = all ≡ bytes ++ rest
+
+-- a read of n bytes took none exactly where nothing was left
+abbrev pub EndsExactly : Option (List ℕ) → ℕ → Type 0
+EndsExactly None n = ⊤
+EndsExactly (Some all) n = (n ≡ 0) ↔ (all ≡ [])
