@@ -1,0 +1,10 @@
+pub mod ViewLemmas
+pub mod ReadingLemmas
+pub mod NameLemmas
+pub mod ScanLemmas
+pub mod ParseLemmas
+pub mod WritingLemmas
+pub mod CuttingLemmas
+pub mod FindingLemmas
+pub mod FittingLemmas
+pub mod ProjectingLemmas

@@ -1,0 +1,10 @@
+pub mod Views
+pub mod SchemaView
+pub mod Faults
+pub mod Room
+pub mod Reading
+pub mod Scanning
+pub mod PathView
+pub mod Finding
+pub mod Fitting
+pub mod Projecting

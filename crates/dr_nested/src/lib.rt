@@ -1,0 +1,28 @@
+//! Schemas, records and paths as types, with their views into the definitions.
+#![tactic(auto)]
+
+mod fault;
+mod finding;
+mod fitting;
+mod parsing;
+mod path;
+mod projecting;
+mod reading;
+mod record;
+mod schema;
+mod shape;
+mod state;
+#[cfg(test)]
+mod tests;
+mod writing;
+
+pub use fault::{NoMemory, PathFault, SchemaFault, SchemaProblem};
+pub use finding::find;
+pub use fitting::is_record;
+pub use parsing::{LONGEST_SCHEMA, parse_schema};
+pub use path::{Path, Step};
+pub use projecting::project;
+pub use record::{Instance, Node, Slot, Value};
+pub use schema::Schema;
+pub use shape::{Field, Kind, Rep, Shape};
+pub use writing::schema_text;

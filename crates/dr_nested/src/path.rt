@@ -1,0 +1,18 @@
+//! Paths of a schema: its leaves, by the places of the fields that lead to them.
+
+use crate::shape::{Kind, Rep};
+
+/// One field on a path: its place in its group, counted from 0, and its repetition.
+#[derive(Clone, Copy, PartialEq, Eq, Debug)]
+pub struct Step {
+    pub place: usize,
+    pub rep: Rep,
+}
+
+/// A leaf of a schema: the names on its path, its path, and its kind.
+#[derive(PartialEq, Eq, Debug, Drop)]
+pub struct Path {
+    pub names: Vec<String>,
+    pub steps: Vec<Step>,
+    pub kind: Kind,
+}

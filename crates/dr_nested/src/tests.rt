@@ -1,0 +1,300 @@
+use crate::{
+    Field, Instance, Kind, Node, Path, PathFault, Rep, Schema, SchemaFault, SchemaProblem, Shape,
+    Slot, Step, Value, find, is_record, parse_schema, project, schema_text,
+};
+use std::alloc::{AllocError, Global};
+use std::test::Fail;
+
+const DOCUMENT: &str =
+    "message Document { required int64 DocId; optional group Links { repeated int64 Backward; repeated int64 Forward; } repeated group Name { repeated group Language { required string Code; optional string Country; } optional string Url; } }";
+
+const LONG_NAME: &str = "aaaaaaaaaaaaaaaaaaaaaaaaaaaaaaaaaaaaaaaaaaaaaaaaaaaaaaaaaaaaaaaaa";
+
+fn fault_of(alloc: Global, text: &[u8]) -> Option<SchemaFault> {
+    match parse_schema(alloc, text) {
+        Ok(_) => None,
+        Err(fault) => Some(fault),
+    }
+}
+
+fn refused(place: usize, problem: SchemaProblem) -> Option<SchemaFault> {
+    Some(SchemaFault::Refused { place, problem })
+}
+
+#[test]
+fn a_token_with_which_no_schema_goes_on_is_refused(rt: HostRuntime) {
+    let rows = [
+        ("", 0),
+        ("massage T { }", 0),
+        ("message T { required int x; }", 21),
+        ("message T { int64 x; }", 12),
+        ("message T { required int64 x }", 29),
+        ("message T { required int64 x;; }", 29),
+        ("message T { required int64 9x; }", 27),
+        ("message T { required int64 é; }", 27),
+        ("message T { required int64 x;", 29),
+        ("message T { required int64 x; } x", 32),
+        ("message T { required int64 x; } ;", 32),
+    ];
+    for (text, place) in rows {
+        let fault = refused(place, SchemaProblem::Syntax);
+        assert_eq!(rt; fault_of(rt.alloc(), text.as_bytes()), fault, "at {text:?}");
+    }
+    let fault = refused(12, SchemaProblem::Syntax);
+    assert_eq!(rt; fault_of(rt.alloc(), b"message T { \xFF }"), fault);
+}
+
+#[test]
+fn a_field_against_the_rules_is_refused(rt: HostRuntime) {
+    use SchemaProblem::{DuplicateName, EmptyGroup, FloatKind};
+    let rows = [
+        ("message T { }", 12, EmptyGroup),
+        ("message T { required group g { } }", 31, EmptyGroup),
+        ("message T { required double x; }", 21, FloatKind),
+        ("message T { required float x; }", 21, FloatKind),
+        (
+            "message T { required int64 x; optional string x; }",
+            46,
+            DuplicateName,
+        ),
+        (
+            "message T { optional group x { required int64 x; } required int64 x; }",
+            66,
+            DuplicateName,
+        ),
+    ];
+    for (text, place, problem) in rows {
+        let fault = refused(place, problem);
+        assert_eq!(rt; fault_of(rt.alloc(), text.as_bytes()), fault, "at {text:?}");
+    }
+}
+
+#[test]
+fn names_are_words_by_their_position(rt: HostRuntime) {
+    let rows = [
+        "message message { required int64 int64; }",
+        "message T { required group group { optional boolean required; }; repeated int32 message; }",
+        "\tmessage\r\nT{required int64 x;required int64 X;}",
+        "message T { required group g { required int64 x; } required group h { required int64 x; } }",
+    ];
+    for text in rows {
+        assert_eq!(rt; fault_of(rt.alloc(), text.as_bytes()), None, "at {text:?}");
+    }
+}
+
+// A field of this name in a message `T`.
+fn field_named(alloc: Global, name: &str) -> Result<String, AllocError> {
+    format!(in alloc; "message T {{ required int64 {name}; }}")
+}
+
+// A leaf within so many groups.
+fn nested(alloc: Global, groups: usize) -> Result<String, AllocError> {
+    let mut text = String::from_str(alloc, "message T { ")?;
+    for _ in 0..groups {
+        text.push_str("required group g { ")?;
+    }
+    text.push_str("required int64 x; ")?;
+    for _ in 0..groups {
+        text.push_str("} ")?;
+    }
+    text.push_str("}")?;
+    Ok(text)
+}
+
+// So many leaves in one group.
+fn wide(alloc: Global, leaves: usize) -> Result<String, AllocError> {
+    let mut text = String::from_str(alloc, "message T { ")?;
+    for leaf in 0..leaves {
+        let field = format!(in alloc; "required int64 a{leaf}; ")?;
+        text.push_str(field.as_str())?;
+    }
+    text.push_str("}")?;
+    Ok(text)
+}
+
+#[test]
+fn a_schema_within_its_limits_is_accepted(rt: HostRuntime) -> Result<(), Fail> {
+    let alloc = rt.alloc();
+    let rows = [
+        (field_named(alloc, &LONG_NAME[1..])?, None),
+        (
+            field_named(alloc, LONG_NAME)?,
+            refused(27, SchemaProblem::BadName),
+        ),
+        (nested(alloc, 31)?, None),
+        (nested(alloc, 32)?, refused(635, SchemaProblem::TooDeep)),
+        (nested(alloc, 33)?, refused(635, SchemaProblem::TooDeep)),
+        (wide(alloc, 1024)?, None),
+        (
+            wide(alloc, 1025)?,
+            refused(21445, SchemaProblem::TooManyLeaves),
+        ),
+    ];
+    for (text, fault) in rows {
+        assert_eq!(rt; fault_of(alloc, text.as_bytes()), fault, "at {text}");
+    }
+    let blank = vec![in alloc; b' '; 1_048_577]?;
+    assert_eq!(rt; blank.len(), 1_048_577);
+    assert_eq!(rt;
+        fault_of(alloc, &blank),
+        refused(1_048_576, SchemaProblem::TooLong)
+    );
+    assert_eq!(rt;
+        fault_of(alloc, &blank[1..]),
+        refused(1_048_576, SchemaProblem::Syntax)
+    );
+    Ok(())
+}
+
+#[test]
+fn a_schema_is_written_on_one_line(rt: HostRuntime) -> Result<(), Fail> {
+    let alloc = rt.alloc();
+    let schema = parse_schema(alloc, DOCUMENT.as_bytes()).map_err(|_| "refused")?;
+    let written = schema_text(alloc, &schema).map_err(|_| "no memory")?;
+    let expected = format!(in alloc; "{DOCUMENT}\n")?;
+    assert_eq!(rt; written, expected);
+    let spaced = parse_schema(
+        alloc,
+        b"message T{required group g{repeated boolean b;optional int32 i;};}",
+    )
+    .map_err(|_| "refused")?;
+    let written = schema_text(alloc, &spaced).map_err(|_| "no memory")?;
+    assert_eq!(rt;
+        written.as_str(),
+        "message T { required group g { repeated boolean b; optional int32 i; } }\n"
+    );
+    Ok(())
+}
+
+#[test]
+fn a_leaf_is_found_by_its_names(rt: HostRuntime) -> Result<(), Fail> {
+    let alloc = rt.alloc();
+    let schema = parse_schema(alloc, DOCUMENT.as_bytes()).map_err(|_| "refused")?;
+    let path = find(alloc, &schema, "Name.Language.Country").map_err(|_| "refused")?;
+    let steps = [
+        Step {
+            place: 2,
+            rep: Rep::Repeated,
+        },
+        Step {
+            place: 0,
+            rep: Rep::Repeated,
+        },
+        Step {
+            place: 1,
+            rep: Rep::Optional,
+        },
+    ];
+    assert_eq!(rt; path.steps.as_slice(), steps.as_slice());
+    assert_eq!(rt; path.kind, Kind::Text);
+    assert_eq!(rt; path.names.len(), 3);
+    assert_eq!(rt; path.names[0].as_str(), "Name");
+    assert_eq!(rt; path.names[2].as_str(), "Country");
+    Ok(())
+}
+
+#[test]
+fn names_that_lead_to_no_leaf_are_refused(rt: HostRuntime) -> Result<(), Fail> {
+    let alloc = rt.alloc();
+    let schema = parse_schema(alloc, DOCUMENT.as_bytes()).map_err(|_| "refused")?;
+    let rows = [
+        ("Name", PathFault::NotALeaf),
+        ("Name.Language", PathFault::NotALeaf),
+        ("X", PathFault::UnknownField),
+        ("", PathFault::UnknownField),
+        (".", PathFault::UnknownField),
+        ("Name.", PathFault::UnknownField),
+        (".Name", PathFault::UnknownField),
+        ("docid", PathFault::UnknownField),
+        ("DocI", PathFault::UnknownField),
+        ("DocId.", PathFault::UnknownField),
+        ("DocId.x", PathFault::UnknownField),
+    ];
+    for (text, fault) in rows {
+        assert_eq!(rt; find(alloc, &schema, text), Err(fault), "at {text:?}");
+    }
+    Ok(())
+}
+
+fn held(alloc: Global, instances: &[i64]) -> Result<Slot, AllocError> {
+    let mut held = Vec::new(alloc);
+    for number in instances {
+        held.push(Instance::Atom(Value::Int(*number)))?;
+    }
+    Ok(Slot::Held(held))
+}
+
+// A group whose only field holds these texts.
+fn group_of(alloc: Global, texts: &[&str]) -> Result<Slot, AllocError> {
+    let mut words = Vec::new(alloc);
+    for text in texts {
+        words.push(Instance::Atom(Value::Text(String::from_str(alloc, *text)?)))?;
+    }
+    let node = Node {
+        slots: vec![in alloc; Slot::Held(words)]?,
+    };
+    Ok(Slot::Held(vec![in alloc; Instance::Group(node)]?))
+}
+
+fn small_schema(alloc: Global) -> Result<Schema, SchemaFault> {
+    parse_schema(
+        alloc,
+        b"message T { required int32 a; optional group g { repeated string s; } }",
+    )
+}
+
+#[test]
+fn a_record_fits_its_schema(rt: HostRuntime) -> Result<(), Fail> {
+    let alloc = rt.alloc();
+    let schema = small_schema(alloc).map_err(|_| "refused")?;
+    let rows = [
+        (held(alloc, &[5])?, group_of(alloc, &["x", "y"])?, true),
+        (held(alloc, &[-2_147_483_648])?, group_of(alloc, &[])?, true),
+        (held(alloc, &[2_147_483_647])?, held(alloc, &[])?, true),
+        (held(alloc, &[2_147_483_648])?, held(alloc, &[])?, false),
+        (held(alloc, &[-2_147_483_649])?, held(alloc, &[])?, false),
+        (held(alloc, &[])?, held(alloc, &[])?, false),
+        (held(alloc, &[1, 2])?, held(alloc, &[])?, false),
+        (held(alloc, &[1])?, held(alloc, &[1])?, false),
+        (held(alloc, &[1])?, Slot::Gap, false),
+        (group_of(alloc, &[])?, held(alloc, &[])?, false),
+    ];
+    for (first, second, fits) in rows {
+        let node = Node {
+            slots: vec![in alloc; first, second]?,
+        };
+        assert_eq!(rt; is_record(&schema, &node), fits, "at {node:?}");
+    }
+    let short = Node {
+        slots: vec![in alloc; held(alloc, &[5])?]?,
+    };
+    assert!(rt; !is_record(&schema, &short));
+    Ok(())
+}
+
+#[test]
+fn a_projection_keeps_what_lies_on_its_paths(rt: HostRuntime) -> Result<(), Fail> {
+    let alloc = rt.alloc();
+    let schema = small_schema(alloc).map_err(|_| "refused")?;
+    let number = find(alloc, &schema, "a").map_err(|_| "refused")?;
+    let text = find(alloc, &schema, "g.s").map_err(|_| "refused")?;
+    let node = Node {
+        slots: vec![in alloc; held(alloc, &[5])?, group_of(alloc, &["x"])?]?,
+    };
+    let kept = project(alloc, &[text], &node).map_err(|_| "no memory")?;
+    assert_eq!(rt;
+        format!(in alloc; "{kept:?}")?.as_str(),
+        "Node { slots: [Gap, Held([Group(Node { slots: [Held([Atom(Text(\"x\"))])] })])] }"
+    );
+    let kept = project(alloc, &[number], &node).map_err(|_| "no memory")?;
+    assert_eq!(rt;
+        format!(in alloc; "{kept:?}")?.as_str(),
+        "Node { slots: [Held([Atom(Int(5))]), Gap] }"
+    );
+    let kept = project(alloc, &[], &node).map_err(|_| "no memory")?;
+    assert_eq!(rt;
+        format!(in alloc; "{kept:?}")?.as_str(),
+        "Node { slots: [Gap, Gap] }"
+    );
+    Ok(())
+}
