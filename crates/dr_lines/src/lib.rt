@@ -1,0 +1,11 @@
+//! The lines of an input, cut as they come from a source.
+#![tactic(auto)]
+
+mod cutter;
+mod lines;
+
+pub use cutter::{LineFault, Lines};
+pub use lines::LONGEST_LINE;
+
+#[cfg(test)]
+mod tests;
