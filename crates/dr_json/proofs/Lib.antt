@@ -1,0 +1,4 @@
+pub mod KeyLemmas
+pub mod ReadingLemmas
+pub mod SizeLemmas
+pub mod LineLemmas

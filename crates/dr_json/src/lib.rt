@@ -1,0 +1,14 @@
+//! Records from lines of JSON: the record that a line reads as under a schema, or its first fault.
+#![tactic(auto)]
+
+mod fault;
+mod keys;
+mod leaf;
+mod line;
+mod reading;
+mod size;
+#[cfg(test)]
+mod tests;
+
+pub use fault::RecordFault;
+pub use line::record_of;

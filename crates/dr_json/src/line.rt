@@ -1,0 +1,61 @@
+//! The record of a line.
+
+ghost use Rattle.std.specs.Prelude.{◌≡◌, true};
+ghost use Rattle.serde_json.specs.View.{view};
+ghost use Rattle.dr_meaning.specs.Schema.{is_group};
+ghost use Rattle.dr_meaning.specs.JsonRecord as meant;
+ghost use Rattle.dr_meaning.specs.JsonRecord.{record_of_line, node_within_limits};
+ghost use Rattle.dr_nested.specs.Views.{fields_view, node_view};
+ghost use Rattle.dr_nested.specs.Faults.{Gives};
+ghost use Rattle.dr_json.specs.Faults.{record_fault_view};
+
+use crate::fault::RecordFault;
+use crate::reading::node_of;
+use crate::size::node_size;
+use dr_nested::{Field, Node, Schema};
+use serde_json::Value as Json;
+use std::alloc::Global;
+
+/// The greatest number of instances of fields in a record.
+pub const MOST_INSTANCES: u64 = 1_048_575;
+
+/// The greatest number of bytes of all the texts of a record.
+pub const MOST_TEXT_BYTES: u64 = 1 << 30;
+
+/// The record that a line reads as under a schema, or its first fault. An object's unknown key comes before the faults of
+/// its fields, these come in schema order, and a record that is too large comes last. A number that `serde_json` holds as
+/// a float, as `1.0`, `-0` or a whole number that fits neither `i64` nor `u64`, is a value of another kind.
+pub fn record_of(alloc: Global, schema: &Schema, line: &[u8]) -> Result<Node, RecordFault>
+    ensures { Gives node_view record_fault_view (record_of_line (fields_view schema.now.fields.items) line.now) result }
+{
+    match Json::from_slice(alloc, line) {
+        Ok(value) => record_of_value(alloc, &schema.fields, &value),
+        Err(error) if error.is_memory() => Err(RecordFault::NoMemory),
+        Err(_) => Err(RecordFault::NotJson),
+    }
+}
+
+fn record_of_value(alloc: Global, fields: &[Field], value: &Json) -> Result<Node, RecordFault>
+    requires { is_group (fields_view fields.now) ≡ true }
+    ensures { Gives node_view record_fault_view (meant.record_of_value (fields_view fields.now) (view value.now)) result }
+{
+    match value.as_object() {
+        Some(object) => match node_of(alloc, fields, object) {
+            Ok(node) => within_limits(node),
+            Err(fault) => Err(fault),
+        },
+        None => Err(RecordFault::WrongKind),
+    }
+}
+
+/// The record, unless it is too large.
+fn within_limits(node: Node) -> Result<Node, RecordFault>
+    ensures { Gives node_view record_fault_view (node_within_limits (node_view node)) result }
+{
+    let size = node_size(&node);
+    if size.instances > MOST_INSTANCES || size.text_bytes > MOST_TEXT_BYTES {
+        Err(RecordFault::TooLarge)
+    } else {
+        Ok(node)
+    }
+}
