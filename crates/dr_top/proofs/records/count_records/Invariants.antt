@@ -1,0 +1,18 @@
+use Rattle.std.proofs.Common.{◌≡◌, ◌≤◌, ◌-◌, ◌*◌, ◌+◌, map, None}
+use Rattle.dr_nested.specs.Views.{fields_view}
+use Rattle.dr_nested.specs.PathView.{step_view}
+use Rattle.dr_lines.specs.Cutting.{rest_of, fault_of}
+use Rattle.dr_top.specs.Records.{HasRead}
+use Rattle.dr_top.proofs.records.count_records.Given as goal
+
+abbrev pub invariant-lines : goal.invariant-lines
+invariant-lines g l = record {
+  has_read : HasRead (fields_view l.schema.fields.items) (map step_view l.steps) (g.S.Source.left l.fn.source) (rest_of l.lines (g.S.Source.left l.source)) l.number l.total;
+  not_stopped : fault_of l.lines ≡ None;
+  within : l.number ≤ 409600000;
+  small : l.total ≤ l.number * 1048575;
+  never_falls : g.S.Source.faults l.fn.source ≤ g.S.Source.faults l.source;
+}
+
+abbrev pub decreases-lines : goal.decreases-lines
+decreases-lines g l = 409600001 - l.number

@@ -1,0 +1,11 @@
+use Rattle.std.proofs.Common.{ap, subst, refl, List, ℕ, Err}
+use Rattle.dr_top.specs.Asking.{HasSaid}
+use Rattle.dr_top.specs.declared.words.WordsFault.{WordsFault}
+use Rattle.dr_top.proofs.running.run.Goals as goal
+
+pub returns-in-Err-Usage-clause-usage : goal.returns-in-Err-Usage-clause-usage
+returns-in-Err-Usage-clause-usage g c = λ _. (
+  c.in-Err-Usage.ensures.refused (ap (λ (f : WordsFault). Err f) c.in-Err-Usage.field-0-is),
+  subst (λ (line : List ℕ). HasSaid (g.E.Sink.written c.args.err.now) (g.E.Sink.written c.say.new.err) line (g.E.Sink.faults c.args.err.now) (g.E.Sink.faults c.say.new.err)) c.as_bytes.ensures.value c.say.ensures,
+  refl,
+)

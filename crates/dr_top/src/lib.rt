@@ -1,0 +1,26 @@
+//! The whole program as one call.
+#![tactic(auto)]
+
+mod answers;
+mod asking;
+mod counting;
+mod pieces;
+mod query;
+mod reading;
+mod records;
+mod refusal;
+mod report;
+mod running;
+mod schema_file;
+mod words;
+
+pub use counting::{count_line, count_values};
+pub use query::{CountQuery, LONGEST_QUERY, count_query};
+pub use refusal::{LineProblem, Refusal, Stop};
+pub use running::run;
+pub use words::{Ask, Command, USAGE, WordsFault, read_words, taken_words_ask};
+
+#[cfg(test)]
+mod counting_tests;
+#[cfg(test)]
+mod run_tests;
