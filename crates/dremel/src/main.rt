@@ -1,0 +1,38 @@
+//! The program: the real files and streams, and `run` over them.
+#![tactic(auto)]
+
+mod files;
+mod streams;
+#[cfg(test)]
+mod tests;
+
+use crate::files::{DirKeeper, DirLink};
+use crate::streams::{Incoming, Outgoing};
+use dr_outside::OpenGate;
+use dr_top::run;
+use std::process::ExitCode;
+use std::{env, io};
+
+/// The most leaves that a tree may have.
+const MOST_LEAVES: usize = 16;
+
+fn main(rt: HostRuntime) -> io::Result<ExitCode> {
+    let alloc = rt.alloc();
+    let words: Vec<String> = env::args(&rt)?.collect(alloc)?;
+    let mut links = Vec::new(alloc);
+    for _ in 0..MOST_LEAVES {
+        links.push(DirLink::new(alloc, rt))?;
+    }
+    let status = run(
+        &rt,
+        alloc,
+        &words,
+        &mut Incoming::new(rt.stdin()),
+        &mut Outgoing::new(rt.stdout()),
+        &mut Outgoing::new(rt.stderr()),
+        &mut DirKeeper::new(alloc, rt),
+        &mut links,
+        &OpenGate,
+    );
+    Ok(ExitCode::from(status))
+}
