@@ -1,0 +1,4 @@
+-- where a pass through a record stands
+pub mod Places
+-- what a pass appends to columns
+pub mod Striping
