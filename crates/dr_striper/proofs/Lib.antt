@@ -1,2 +1,3 @@
 pub mod GainLemmas
 pub mod PassLemmas
+pub mod CutLemmas

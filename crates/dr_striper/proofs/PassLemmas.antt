@@ -89,7 +89,7 @@ written now old i x h e =
     ap columns_view (sym (take-append-drop i (set now i x))) ∙ map-append column_view (take i (set now i x)) (drop i (set now i x))
     ∙ ap₂ (λ a b. columns_view a ++ columns_view b) (take-set now i x) (drop-set now i x h ∙ ap (λ r. x ∷ r) (drop_more_same now old i e))
 
-same_item : (now old : List columns.Column) (i : ℕ) (x : columns.Column) → i < length now → i < length old → drop i now ≡ drop i old → x ≡ get_or now i x → x ≡ get_or old i x
+pub same_item : (now old : List columns.Column) (i : ℕ) (x : columns.Column) → i < length now → i < length old → drop i now ≡ drop i old → x ≡ get_or now i x → x ≡ get_or old i x
 same_item now old i x h g e y =
     let k : get_or now i x ∷ drop (i + 1) now ≡ get_or old i x ∷ drop (i + 1) old = sym (drop_more now i x h) ∙ e ∙ drop_more old i x g in
     y ∙ cc

@@ -2,3 +2,5 @@
 pub mod Places
 -- what a pass appends to columns
 pub mod Striping
+-- what a striper holds
+pub mod Stripers
