@@ -1,0 +1,2 @@
+-- lemmas of the orders of leaves
+pub mod OrderLemmas

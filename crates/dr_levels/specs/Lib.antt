@@ -1,0 +1,2 @@
+-- the orders of leaves
+pub mod Orders

@@ -1,0 +1,1 @@
+use crate::{reading_order, schema_order};
