@@ -1,2 +1,3 @@
 -- lemmas of the orders of leaves
 pub mod OrderLemmas
+pub mod WithinLemmas

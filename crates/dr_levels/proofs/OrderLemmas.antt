@@ -1,5 +1,5 @@
 -- The orders of the leaves of a group, field by field.
-use Rattle.std.specs.Prelude.{◌≡◌, ℕ, zero, suc, ◌+◌, List, [], ◌∷◌, ◌++◌, map, ◌==◌, false, if◌then◌else◌}
+use Rattle.std.specs.Prelude.{◌≡◌, ℕ, zero, suc, ◌+◌, List, [], ◌∷◌, ◌++◌, ◌==◌, false, if◌then◌else◌}
 use Rattle.std.proofs.Common.{refl, sym, ap, ◌∙◌, arith, add-one, append_assoc, append-nil, ◌<◌, ◌≤◌, length, get_or, drop}
 use Rattle.std.proofs.lemmas.List.{drop_all, drop_more}
 use Rattle.std.proofs.lemmas.Bool.Decides.{nat_tests}
@@ -7,9 +7,9 @@ use Rattle.dr_meaning.specs.Path.{Step}
 use Rattle.dr_meaning.specs.Schema as tree
 use Rattle.dr_meaning.specs.Automaton.{Pick, behind, behind_if, beside, beside_if, schema_order_in, shape_schema_order, near_order, shape_near_order, far_order, shape_far_order, unless_repeated, where_repeated}
 use Rattle.dr_nested.specs.declared.shape.Field.{Field}
-use Rattle.dr_nested.specs.Views.{rep_view, shape_view, field_view, fields_view}
+use Rattle.dr_nested.specs.Views.{rep_view, shape_view, fields_view}
 use Rattle.dr_nested.proofs.ViewLemmas.{view-field}
-use Rattle.dr_levels.specs.Orders.{pick_at, picks_at}
+use Rattle.dr_levels.specs.Orders.{picks_at}
 
 -- the picks as the fields from a place on count them
 abbrev pub shifted : ℕ → List Pick → List Pick

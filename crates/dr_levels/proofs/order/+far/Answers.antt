@@ -1,9 +1,9 @@
-use Rattle.std.proofs.Common.{arith, ap, ◌∙◌, ◌≡◌, ◌<◌, List, length, get_or, map, ◌++◌, append_assoc, ap₂, sym, ℕ}
+use Rattle.std.proofs.Common.{arith, ap, ◌∙◌, ◌≡◌, ◌<◌, List, length, get_or, map, ◌++◌, append_assoc, ap₂, ℕ}
 use Rattle.dr_nested.specs.declared.shape.Field.{Field}
 use Rattle.dr_meaning.specs.Automaton.{Pick, where_repeated, shape_near_order, shape_far_order}
 use Rattle.dr_nested.specs.Views.{rep_view, shape_view}
 use Rattle.dr_levels.specs.Orders.{pick_view, picks_at}
-use Rattle.dr_levels.proofs.OrderLemmas.{far_next, far_order_of}
+use Rattle.dr_levels.proofs.OrderLemmas.{far_next}
 use Rattle.dr_levels.proofs.order.+far.Goals as goal
 
 pub add_group_far-fields-preserved : goal.add_group_far-fields-preserved
