@@ -62,7 +62,7 @@ behind_shifted k F = let e : k + 0 ≡ k = omega arith in behind-is (shifted k F
 -- ---- an order of a group, one field more
 
 module _ (order_in : tree.Fields → List Pick → List ℕ) (order_of : Field → List Pick → List ℕ)
-         (first : (f : Field) (fs : List Field) (F : List Pick) → order_in (fields_view (f ∷ fs)) F ≡ order_of f (behind F) ++ order_in (fields_view fs) (beside F)) where
+    (first : (f : Field) (fs : List Field) (F : List Pick) → order_in (fields_view (f ∷ fs)) F ≡ order_of f (behind F) ++ order_in (fields_view fs) (beside F)) where
   one_more : (f : Field) (fs : List Field) (k : ℕ) (F : List Pick) (done added : List ℕ) → added ≡ order_of f (picks_at k F)
       → (done ++ added) ++ order_in (fields_view fs) (shifted (k + 1) F) ≡ done ++ order_in (fields_view (f ∷ fs)) (shifted k F)
   one_more f fs k F done added e =

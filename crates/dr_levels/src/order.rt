@@ -215,11 +215,7 @@ fn places_by_level(
 /// The selected leaves in schema order, depth first, by their places in the selection.
 ///
 /// Errors: want of memory alone.
-pub fn schema_order(
-    alloc: Global,
-    schema: &Schema,
-    fields: &[Path],
-) -> Result<Vec<usize>, NoMemory>
+pub fn schema_order(alloc: Global, schema: &Schema, fields: &[Path]) -> Result<Vec<usize>, NoMemory>
     ensures order { IfOk result (λ v. v.items ≡ automaton.schema_order (fields_view (schema.now).fields.items) (map (λ (p : Path). (path_view p).path) fields.now)) }
     ensures within { IfOk result (λ v. All (λ i. i < length fields.now) v.items) }
 {
