@@ -1,0 +1,4 @@
+-- rows and tables of an automaton
+pub mod RowLemmas
+pub mod TransitionLemmas
+pub mod BuildLemmas
