@@ -48,7 +48,7 @@ fn lines(alloc: Global, names: &[&str], order: Order) -> Option<String> {
     for (place, index) in automaton.leaves().iter().enumerate() {
         let leaf = *names.get(*index)?;
         let place = u32::try_from(place).ok()?;
-        for level in 0..max_r(fields.get(*index)?) + 1 {
+        for level in 0..max_r(fields.get(*index)?).checked_add(1)? {
             let to = target(&automaton, names, automaton.next(place, level))?;
             text.push_str(&format!(in alloc; "{leaf} {level} {to}\n").ok()?)
                 .ok()?;
