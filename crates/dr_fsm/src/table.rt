@@ -1,9 +1,9 @@
 //! The table of all transitions: a row for each leaf, with a state for each level.
 
-ghost use Rattle.std.specs.Prelude.{◌≡◌, ◌++◌, ◌+◌, ◌-◌, ◌<◌, ◌^◌, ℕ, List, replicate, length, map, All, IfOk, OnOk};
+ghost use Rattle.std.specs.Prelude.{◌≡◌, ◌++◌, ◌+◌, ◌-◌, ◌<◌, ◌^◌, ℕ, replicate, length, map, All, IfOk, OnOk};
 ghost use Rattle.dr_meaning.specs.Automaton as meant;
 ghost use Rattle.dr_nested.specs.PathView.{path_view};
-ghost use Rattle.dr_fsm.specs.Tables.{lent_leaf, paths_at, state_or, state_view, table_at, Answers};
+ghost use Rattle.dr_fsm.specs.Tables.{lent_leaf, paths_at, state_view, table_at, Answers};
 
 use crate::state::State;
 use dr_levels::common;
