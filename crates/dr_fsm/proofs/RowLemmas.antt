@@ -1,15 +1,15 @@
 -- Rows of an automaton's table, filled leaf by leaf, and the table, row by row.
 use Rattle.std.specs.Prelude.{◌≡◌, ℕ, zero, suc, ◌+◌, ◌-◌, ◌<◌, ◌≤◌, List, [], ◌∷◌, ◌++◌, length, map, replicate, Bool, true, false, nat_le, if◌then◌else◌, Option, Some, None, Vec}
 use Rattle.std.specs.declared.alloc.Global.{Global}
-use Rattle.std.specs.List.{slice_get}
 use Rattle.std.proofs.Common.{refl, sym, ap, ◌∙◌, arith, add-one, get_or, drop, append_assoc, append-nil, length-append, inl, inr}
 use Rattle.std.proofs.lemmas.Bool.{cases_lt}
 use Rattle.std.proofs.lemmas.Bool.Decides.{nat_tests}
 use Rattle.std.proofs.lemmas.List.{drop_more, drop_all, map-append, get_or_append_left, get_or_push, get_or_past, length-map}
 use Rattle.std.proofs.lemmas.Option.{slice_get-get_or, slice_get_past}
 use Rattle.dr_meaning.specs.Path.{Step, common}
-use Rattle.dr_meaning.specs.Automaton.{first_common, transition, transition_by, transition_from}
+use Rattle.dr_meaning.specs.Automaton.{first_common, transition, transition_from}
 use Rattle.dr_fsm.specs.declared.state.State.{State}
+use Rattle.dr_fsm.proofs.TransitionLemmas.{with_next, with_no_next}
 use Rattle.dr_fsm.specs.Tables.{state_view, state_or, row_view, table_at, Answers}
 
 -- an element that was read, seen another way
@@ -73,12 +73,6 @@ filled : (row : List State) (d l : ℕ) (s : State) (other : Option ℕ) → sta
 filled row d l s other = filled_by (nat_le l d) row d l s other refl
 
 -- ---- the front of a row
-
-with_next : (order : List (List Step)) (i l : ℕ) (f g : List Step) → slice_get order i ≡ Some f → slice_get order (suc i) ≡ Some g → transition order i l ≡ (if nat_le l (common f g) then Some (suc i) else first_common 0 f l order)
-with_next order i l f g a b = ap (transition_from order i l) a ∙ ap (λ (next : Option (List Step)). transition_by order f i next l) b
-
-with_no_next : (order : List (List Step)) (i l : ℕ) (f : List Step) → slice_get order i ≡ Some f → slice_get order (suc i) ≡ None → transition order i l ≡ (if nat_le l 0 then None else first_common 0 f l order)
-with_no_next order i l f a b = ap (transition_from order i l) a ∙ ap (λ (next : Option (List Step)). transition_by order f i next l) b
 
 pub front_to_next : (order : List (List Step)) (i d : ℕ) (before row : List State) (s : State) → suc i < length order → before ≡ [] → d ≡ common (get_or order i []) (get_or order (suc i) []) → row ≡ before ++ replicate (d + 1 - length before) s
     → state_view s ≡ Some (suc i) → Answers order i row 0

@@ -1,7 +1,7 @@
 -- Automata and the orders of their leaves.
-use Rattle.std.specs.Prelude.{◌≡◌, ℕ, List, Option}
+use Rattle.std.specs.Prelude.{◌≡◌, ◌↔◌, ℕ, suc, ◌<◌, ◌≤◌, List, [], length, slice_index_or, Option, None}
 use Rattle.dr_meaning.specs.Schema.{Fields}
-use Rattle.dr_meaning.specs.Path.{Step}
+use Rattle.dr_meaning.specs.Path.{Step, max_repetition}
 use Rattle.dr_meaning.specs.Automaton.{schema_order, reading_order, transition}
 use Rattle.dr_fsm.specs.Tables.{table_at}
 use Rattle.dr_fsm.specs.declared.automaton.Automaton.{Automaton}
@@ -23,3 +23,7 @@ follow a i l = table_at a.rows.items i l
 -- it is the automaton of the leaves with these paths, in this order
 abbrev pub IsAutomatonOf : Automaton → List (List Step) → Type 0
 IsAutomatonOf a order = (i l : ℕ) → follow a i l ≡ transition order i l
+
+-- at each level that a leaf has it leads to a leaf, but for the last leaf's level 0, which leads to the end
+abbrev pub EndsBehindLast : Automaton → List (List Step) → Type 0
+EndsBehindLast a order = (i l : ℕ) → i < length order → l ≤ max_repetition (slice_index_or order i []) → (follow a i l ≡ None) ↔ ((suc i ≡ length order) × (l ≡ 0))

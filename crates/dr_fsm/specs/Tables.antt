@@ -13,6 +13,7 @@ abbrev pub state_view : State → Option ℕ
 state_view (State.Leaf i) = Some i
 state_view State.End = None
 
+-- the path of a leaf that is lent
 abbrev pub lent_leaf : Bor Path → List Step
 lent_leaf p = (path_view p.now).path
 
@@ -24,6 +25,7 @@ paths_at F is = map (λ (i : ℕ). slice_index_or F i []) is
 abbrev pub state_or : List State → ℕ → Option ℕ → Option ℕ
 state_or row l other = slice_index_or (map state_view row) l other
 
+-- the states of a row
 abbrev pub row_view : Vec State Global → List State
 row_view r = r.items
 
@@ -31,6 +33,6 @@ row_view r = r.items
 abbrev pub table_at : List (Vec State Global) → ℕ → ℕ → Option ℕ
 table_at rows i l = state_or (slice_index_or (map row_view rows) i []) l None
 
--- the row of the leaf at place i leads where the automaton does, if behind its end each level leads to the first leaf of that common level, from place k on
+-- a row leads where the automaton does from the leaf at place i, once each level behind its end is sent to the first leaf from place k on that has it in common
 abbrev pub Answers : List (List Step) → ℕ → List State → ℕ → Type 0
 Answers order i row k = (l : ℕ) → state_or row l (first_common k (slice_index_or order i []) l (drop k order)) ≡ transition order i l

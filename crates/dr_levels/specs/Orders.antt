@@ -5,6 +5,7 @@ use Rattle.dr_meaning.specs.Automaton as automaton
 use Rattle.dr_nested.specs.Projecting.{lent_path}
 use Rattle.dr_levels.specs.declared.order.Pick.{Pick}
 
+-- the rest of a selected leaf's path, and its place in the selection
 abbrev pub pick_view : Pick → automaton.Pick
 pick_view p = record { rest = lent_path p.rest; index = p.index }
 

@@ -4,7 +4,7 @@ ghost use Rattle.std.specs.Prelude.{◌≡◌, ◌<◌, ℕ, Some, length, map, 
 ghost use Rattle.dr_nested.specs.Views.{fields_view};
 ghost use Rattle.dr_nested.specs.PathView.{path_view};
 ghost use Rattle.dr_fsm.specs.Tables.{paths_at, state_view};
-ghost use Rattle.dr_fsm.specs.Automata.{order_of, leaves_of, follow, IsAutomatonOf};
+ghost use Rattle.dr_fsm.specs.Automata.{order_of, leaves_of, follow, IsAutomatonOf, EndsBehindLast};
 
 use super::{Automaton, Order};
 use crate::state::State;
@@ -40,6 +40,7 @@ impl Automaton {
     ) -> Result<Automaton, NoMemory>
         ensures order { IfOk result (λ a. leaves_of a ≡ order_of order (fields_view (schema.now).fields.items) (map (λ (p : Path). (path_view p).path) fields.now)) }
         ensures next { IfOk result (λ a. IsAutomatonOf a (paths_at (map (λ (p : Path). (path_view p).path) fields.now) (leaves_of a))) }
+        ensures ends { IfOk result (λ a. EndsBehindLast a (paths_at (map (λ (p : Path). (path_view p).path) fields.now) (leaves_of a))) }
         ensures within { IfOk result (λ a. All (λ i. i < length fields.now) (leaves_of a)) }
     {
         let order = leaf_order(alloc, schema, fields, order)?;
