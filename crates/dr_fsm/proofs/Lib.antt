@@ -2,3 +2,4 @@
 pub mod RowLemmas
 pub mod TransitionLemmas
 pub mod BuildLemmas
+pub mod SelectionLemmas
