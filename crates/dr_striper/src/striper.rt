@@ -120,7 +120,8 @@ impl<'a> Striper<'a> {
 
     /// The columns, one for each leaf, in the order in which the leaves were given.
     pub fn finish(self) -> Vec<Column>
-        ensures { columns_view result.items ≡ striped self.entry }
+        ensures columns { columns_view result.items ≡ striped self.entry }
+        ensures one_each { length result.items ≡ length (striped_paths self.entry) }
     {
         self.columns
     }

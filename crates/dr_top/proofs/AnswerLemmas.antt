@@ -14,6 +14,7 @@ use Rattle.dr_nested.specs.declared.fault.SchemaFault.{SchemaFault}
 use Rattle.dr_nested.specs.declared.fault.SchemaProblem.{SchemaProblem}
 use Rattle.dr_nested.proofs.ParseLemmas.{text_is_too_long}
 use Rattle.dr_outside.specs.Link.{Files}
+use Rattle.dr_top.specs.Words as words
 use Rattle.dr_top.specs.Asking.{HasAnswer, IsFile, IsLongFile}
 use Rattle.dr_top.specs.Answers.{HasRecordsAnswer, IsFileSchema, IsSchemaRefusal}
 use Rattle.dr_top.specs.Counting.{count_text, total_count}
@@ -55,13 +56,13 @@ parse_refusal (Some fs) path bytes text fault stop r b f s e h =
 
 -- ---- the steps together
 
-pub schema_refusal_answers : (files : Option Files) (input : Option (List ℕ)) (path p query : List ℕ) (r : Refusal) → path ≡ p → IsSchemaRefusal files path r → HasAnswer files input p query (Err (refusal_view r))
+pub schema_refusal_answers : (files : Option Files) (input : Option (List ℕ)) (path p query : List ℕ) (r : Refusal) → path ≡ p → IsSchemaRefusal files path r → HasAnswer files input (words.ask (record { schema = p; query = query })) (Err (refusal_view r))
 unfolding ask
 schema_refusal_answers None input path p query r e h = tt
 schema_refusal_answers (Some fs) None path p query r e h = tt
 schema_refusal_answers (Some fs) (Some bytes) path p query r e h = (h.0, ap fs (sym e) ∙ h.2, ap (ask_schema query bytes) h.3 ∙ ap Err (sym h.4))
 
-pub query_refusal_answers : (files : Option Files) (input : Option (List ℕ)) (path p text query : List ℕ) (s : Schema) (r : Refusal) → path ≡ p → text ≡ query → IsFileSchema files path s → count_of s text ≡ None → r ≡ Refusal.Query → HasAnswer files input p query (Err (refusal_view r))
+pub query_refusal_answers : (files : Option Files) (input : Option (List ℕ)) (path p text query : List ℕ) (s : Schema) (r : Refusal) → path ≡ p → text ≡ query → IsFileSchema files path s → count_of s text ≡ None → r ≡ Refusal.Query → HasAnswer files input (words.ask (record { schema = p; query = query })) (Err (refusal_view r))
 unfolding ask
 query_refusal_answers None input path p text query s r e q f n k = tt
 query_refusal_answers (Some fs) None path p text query s r e q f n k = tt
@@ -69,7 +70,7 @@ query_refusal_answers (Some fs) (Some bytes) path p text query s r e q f n k =
     (f.0, ap fs (sym e) ∙ f.1, ap (ask_schema query bytes) f.2 ∙ ap (ask_query s bytes) (ap (count_of s) (sym q) ∙ n) ∙ ap (λ (t : Refusal). Err (refusal_view t)) (sym k))
 
 pub records_answers : (files : Option Files) (input : Option (List ℕ)) (path p text query : List ℕ) (s : Schema) (q : Query) (answer : Result (List ℕ) CommandRefusal) → path ≡ p → text ≡ query → IsFileSchema files path s → count_of s text ≡ Some q
-    → HasRecordsAnswer input s q answer → HasAnswer files input p query answer
+    → HasRecordsAnswer input s q answer → HasAnswer files input (words.ask (record { schema = p; query = query })) answer
 unfolding ask
 records_answers None input path p text query s q answer e t f n h = tt
 records_answers (Some fs) None path p text query s q answer e t f n h = tt

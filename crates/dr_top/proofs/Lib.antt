@@ -17,3 +17,5 @@ pub mod CountingLemmas
 pub mod RecordLemmas
 -- answers of `ask`
 pub mod AnswerLemmas
+pub mod ColumnLemmas
+pub mod CommandLemmas

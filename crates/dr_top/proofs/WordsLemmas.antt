@@ -113,7 +113,7 @@ fsm_shape = built_leaf (inherited (on_top marked_built dremel_app).top fsm_app.t
 
 -- what has a first value has values
 first_and_all : (row : Option Row) → Has (option_and_then (λ (r : Row). slice_get r.values 0) row) → option_map (λ (r : Row). r.values) row ≡ None → ⊥
-first_and_all None h e = h
+first_and_all None h e = let q = h.1 in cc
 first_and_all (Some r) h e = cc
 
 -- and `fsm`

@@ -4,9 +4,9 @@ use Rattle.dr_meaning.specs.Refusals.{CommandRefusal}
 use Rattle.dr_outside.specs.Faults.{Rose}
 use Rattle.dr_outside.specs.Link.{Files}
 use Rattle.dr_outside.specs.Sink.{Added, AddedFront}
-use Rattle.dr_top.specs.Asking.{WhereTold, HasAnswer, HasSaid}
+use Rattle.dr_top.specs.Asking.{HasAnswer, HasSaid, IsReadBy}
 use Rattle.dr_top.specs.Stops.{IsRefusalText}
-use Rattle.dr_top.specs.Words.{AskWords, CommandWords, ask}
+use Rattle.dr_top.specs.Words.{CommandWords}
 
 -- what the outside showed at two moments: the bytes that a thing has left or holds, where it tells, and its count of faults
 pub record Seen : Type 0 where
@@ -30,24 +30,24 @@ HasRisen seen = Rose seen.faults_before seen.faults_now
 abbrev pub IsCalm : Seen → Type 0
 IsCalm seen = HasRisen seen → ⊥
 
--- neither the schema at this path, nor the query, nor a line of the input is refused
-abbrev pub IsAccepted : Option Files → Option (List ℕ) → AskWords → Type 0
-IsAccepted files input w = (r : CommandRefusal) → HasAnswer files input w.schema w.query (Err r) → ⊥
+-- nothing that the command looks at is refused: its schema, its FIELDs or its query, the input's lines
+abbrev pub IsAccepted : Option Files → Option (List ℕ) → CommandWords → Type 0
+IsAccepted files input w = (r : CommandRefusal) → HasAnswer files input w (Err r) → ⊥
 
--- status 0: the whole answer was written, and the input was read to its end
-abbrev pub Prints : Option Files → AskWords → Seen → Seen → Type 0
-Prints files w source out = (text : List ℕ) × HasAnswer files source.before w.schema w.query (Ok text) × Added out.before out.now text × WhereTold source.before (λ _. source.now ≡ Some [])
+-- status 0: the whole answer was written, and the input was read to its end, where the command reads it
+abbrev pub Prints : Option Files → CommandWords → Seen → Seen → Type 0
+Prints files w source out = (text : List ℕ) × HasAnswer files source.before w (Ok text) × Added out.before out.now text × IsReadBy w source.before source.now
 
 -- status 2: the answer is a refusal, which err names; out is as it was
-abbrev pub IsRefused : Option Files → AskWords → Seen → Seen → Seen → Type 0
-IsRefused files w source out err = (r : CommandRefusal) × (line : List ℕ) × HasAnswer files source.before w.schema w.query (Err r) × IsRefusalText r line × Says err line × IsSame out
+abbrev pub IsRefused : Option Files → CommandWords → Seen → Seen → Seen → Type 0
+IsRefused files w source out err = (r : CommandRefusal) × (line : List ℕ) × HasAnswer files source.before w (Err r) × IsRefusalText r line × Says err line × IsSame out
 
 -- status 4: the count of the object that err names rose; out is as it was, or holds a front of the answer where it is out
-abbrev pub IsOutside : Option Files → AskWords → Seen → Seen → Seen → Seen → Type 0
+abbrev pub IsOutside : Option Files → CommandWords → Seen → Seen → Seen → Seen → Type 0
 IsOutside files w source keeper out err =
     (Says err (codes "outside: source\n") × HasRisen source × IsSame out)
     ⊎ ((Says err (codes "outside: keeper\n") × HasRisen keeper × IsSame out)
-    ⊎ ((text : List ℕ) × Says err (codes "outside: out\n") × HasRisen out × HasAnswer files source.before w.schema w.query (Ok text) × AddedFront out.before out.now text))
+    ⊎ ((text : List ℕ) × Says err (codes "outside: out\n") × HasRisen out × HasAnswer files source.before w (Ok text) × AddedFront out.before out.now text))
 
 -- status 5: want of memory; out is as it was
 abbrev pub IsMemory : Seen → Seen → Type 0
@@ -58,6 +58,6 @@ abbrev pub IsUsage : Option CommandWords → Seen → Seen → Type 0
 IsUsage asked out err = (asked ≡ None) × Says err (codes "usage: dremel load|query|ask|dump|stripe|fsm|schema|explain|gen|trial ..\n") × IsSame out
 
 -- the words ask for this
-abbrev pub ForAsked : Option CommandWords → (AskWords → Type 0) → Type 0
+abbrev pub ForAsked : Option CommandWords → (CommandWords → Type 0) → Type 0
 ForAsked None P = ⊥
-ForAsked (Some (ask w)) P = P w
+ForAsked (Some w) P = P w

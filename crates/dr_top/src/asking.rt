@@ -7,6 +7,8 @@ ghost use Rattle.dr_nested.specs.SchemaView.{schema_view};
 ghost use Rattle.dr_nested.specs.PathView.{step_view};
 ghost use Rattle.dr_outside.specs.Faults.{Rose};
 ghost use Rattle.dr_top.specs.Asking.{HasAnswer, WhereTold};
+ghost use Rattle.dr_top.specs.Words as words;
+ghost use Rattle.dr_top.specs.WordsViews.{ask_view};
 ghost use Rattle.dr_top.specs.Stops.{refusal_view};
 
 use crate::answers::{count_answer, read_schema};
@@ -43,9 +45,9 @@ pub fn ask_answer<S: Source, K: Keeper>(
     source: &mut S,
     keeper: &mut K,
 ) -> Result<String, Stop>
-    ensures text { IfOk result (λ t. HasAnswer (K.held keeper.old) (S.left source.old) (string_bytes (ask.now).schema) (string_bytes (ask.now).query) (Ok (string_bytes t))) }
+    ensures text { IfOk result (λ t. HasAnswer (K.held keeper.old) (S.left source.old) (words.ask (ask_view ask.now)) (Ok (string_bytes t))) }
     ensures end { OnOk result (WhereTold (S.left source.old) (λ _. S.left source.new ≡ Some [])) }
-    ensures refused { (r : Refusal) → result ≡ Err (Stop.Refused r) → HasAnswer (K.held keeper.old) (S.left source.old) (string_bytes (ask.now).schema) (string_bytes (ask.now).query) (Err (refusal_view r)) }
+    ensures refused { (r : Refusal) → result ≡ Err (Stop.Refused r) → HasAnswer (K.held keeper.old) (S.left source.old) (words.ask (ask_view ask.now)) (Err (refusal_view r)) }
     ensures source_fault { result ≡ Err Stop.Source → Rose (S.faults source.old) (S.faults source.new) }
     ensures keeper_fault { result ≡ Err Stop.Keeper → Rose (K.faults keeper.old) (K.faults keeper.new) }
     ensures source_never_falls { S.faults source.old ≤ S.faults source.new }

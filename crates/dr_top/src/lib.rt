@@ -3,6 +3,9 @@
 
 mod answers;
 mod asking;
+mod automata;
+mod columns;
+mod commands;
 mod counting;
 mod pieces;
 mod query;
@@ -12,13 +15,14 @@ mod refusal;
 mod report;
 mod running;
 mod schema_file;
+mod striping;
 mod words;
 
 pub use counting::{count_line, count_values};
 pub use query::{CountQuery, LONGEST_QUERY, count_query};
-pub use refusal::{LineProblem, Refusal, Stop};
+pub use refusal::{FieldProblem, LineProblem, Refusal, Stop};
 pub use running::run;
-pub use words::{Ask, Command, USAGE, WordsFault, read_words, taken_words_ask};
+pub use words::{Ask, Command, Fsm, Stripe, USAGE, WordsFault, read_words, taken_words_ask};
 
 #[cfg(test)]
 mod counting_tests;

@@ -4,11 +4,11 @@ ghost use Rattle.std.specs.Prelude.{◌≡◌, ◌≢◌, ◌≤◌, ◌⊎◌, 
 ghost use Rattle.dr_top.specs.Asking.{HasSaid};
 ghost use Rattle.dr_top.specs.Running.{Prints, IsRefused, IsOutside, IsMemory, IsUsage, ForAsked, IsAccepted, IsCalm};
 ghost use Rattle.dr_top.specs.Words.{Taken, asked};
-ghost use Rattle.dr_top.specs.WordsViews.{ask_view};
+ghost use Rattle.dr_top.specs.WordsViews.{command_view};
 
-use crate::asking::ask_answer;
+use crate::commands::command_answer;
 use crate::refusal::Stop;
-use crate::words::{Ask, Command, USAGE, WordsFault, read_words};
+use crate::words::{Command, USAGE, WordsFault, read_words};
 use dr_outside::{Gate, Keeper, Link, Sink, Source, write_all};
 use std::alloc::Global;
 
@@ -19,23 +19,23 @@ fn say<E: Sink>(err: &mut E, line: &[u8])
     let _ = write_all(err, line);
 }
 
-/// The command `ask`.
-fn run_ask<S: Source, O: Sink, E: Sink, K: Keeper>(
+/// Does what a command asks.
+fn run_command<S: Source, O: Sink, E: Sink, K: Keeper>(
     alloc: Global,
-    ask: &Ask,
+    command: &Command,
     source: &mut S,
     out: &mut O,
     err: &mut E,
     keeper: &mut K,
 ) -> u8
-    ensures prints { result ≡ 0 → Prints (K.held keeper.old) (ask_view ask.now)
+    ensures prints { result ≡ 0 → Prints (K.held keeper.old) (command_view command.now)
         (record { before = S.left source.old; now = S.left source.new; faults_before = S.faults source.old; faults_now = S.faults source.new })
         (record { before = O.written out.old; now = O.written out.new; faults_before = O.faults out.old; faults_now = O.faults out.new }) }
-    ensures refused { result ≡ 2 → IsRefused (K.held keeper.old) (ask_view ask.now)
+    ensures refused { result ≡ 2 → IsRefused (K.held keeper.old) (command_view command.now)
         (record { before = S.left source.old; now = S.left source.new; faults_before = S.faults source.old; faults_now = S.faults source.new })
         (record { before = O.written out.old; now = O.written out.new; faults_before = O.faults out.old; faults_now = O.faults out.new })
         (record { before = E.written err.old; now = E.written err.new; faults_before = E.faults err.old; faults_now = E.faults err.new }) }
-    ensures outside { result ≡ 4 → IsOutside (K.held keeper.old) (ask_view ask.now)
+    ensures outside { result ≡ 4 → IsOutside (K.held keeper.old) (command_view command.now)
         (record { before = S.left source.old; now = S.left source.new; faults_before = S.faults source.old; faults_now = S.faults source.new })
         (record { before = None; now = None; faults_before = K.faults keeper.old; faults_now = K.faults keeper.new })
         (record { before = O.written out.old; now = O.written out.new; faults_before = O.faults out.old; faults_now = O.faults out.new })
@@ -43,13 +43,13 @@ fn run_ask<S: Source, O: Sink, E: Sink, K: Keeper>(
     ensures memory { result ≡ 5 → IsMemory
         (record { before = O.written out.old; now = O.written out.new; faults_before = O.faults out.old; faults_now = O.faults out.new })
         (record { before = E.written err.old; now = E.written err.new; faults_before = E.faults err.old; faults_now = E.faults err.new }) }
-    ensures complete { IsAccepted (K.held keeper.old) (S.left source.old) (ask_view ask.now) → IsCalm
+    ensures complete { IsAccepted (K.held keeper.old) (S.left source.old) (command_view command.now) → IsCalm
         (record { before = S.left source.old; now = S.left source.new; faults_before = S.faults source.old; faults_now = S.faults source.new }) → IsCalm
         (record { before = None; now = None; faults_before = K.faults keeper.old; faults_now = K.faults keeper.new }) → IsCalm
         (record { before = O.written out.old; now = O.written out.new; faults_before = O.faults out.old; faults_now = O.faults out.new }) → (result ≡ 0) ⊎ (result ≡ 5) }
     ensures known { (result ≡ 0) ⊎ ((result ≡ 2) ⊎ ((result ≡ 4) ⊎ (result ≡ 5))) }
 {
-    match ask_answer(alloc, ask, source, keeper) {
+    match command_answer(alloc, command, source, keeper) {
         Ok(text) => match write_all(out, text.as_bytes()) {
             Ok(()) => 0,
             Err(_) => {
@@ -78,8 +78,8 @@ fn run_ask<S: Source, O: Sink, E: Sink, K: Keeper>(
 
 /// Does what the words ask, of which the first is the program's name, and answers the program's status.
 ///
-/// 0: the whole text was written, and the input was read to its end. 1: the words ask for nothing. 2: the schema, the
-/// query or a line of the input is refused, the first in this order. 4: the source, the sink or the keeper failed.
+/// 0: the whole text was written, and the input was read to its end, where the command reads it. 1: the words ask for
+/// nothing. 2: the schema, a FIELD, the query or a line of the input is refused, the first in this order. 4: the source, the sink or the keeper failed.
 /// 5: want of memory. What isn't 0 has a line on standard error.
 pub fn run<R, S: Source, O: Sink, E: Sink, K: Keeper, L: Link + Send, G: Gate + Sync>(
     _rt: &R,
@@ -118,7 +118,7 @@ pub fn run<R, S: Source, O: Sink, E: Sink, K: Keeper, L: Link + Send, G: Gate + 
     ensures known { (result ≡ 0) ⊎ ((result ≡ 1) ⊎ ((result ≡ 2) ⊎ ((result ≡ 4) ⊎ (result ≡ 5)))) }
 {
     match read_words(alloc, words) {
-        Ok(Command::Ask(ask)) => run_ask(alloc, &ask, source, out, err, keeper),
+        Ok(command) => run_command(alloc, &command, source, out, err, keeper),
         Err(WordsFault::Usage) => {
             say(err, USAGE.as_bytes());
             1

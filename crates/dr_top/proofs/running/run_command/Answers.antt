@@ -1,7 +1,7 @@
 use Rattle.std.proofs.Common.{◌≡◌, ap, Err}
 use Rattle.dr_top.specs.Stops.{refusal_view}
 use Rattle.dr_top.specs.declared.refusal.Stop.{Stop}
-use Rattle.dr_top.proofs.running.run_ask.Goals as goal
+use Rattle.dr_top.proofs.running.run_command.Goals as goal
 
 pub returns-clause-complete : goal.returns-clause-complete
 returns-clause-complete g c = λ accepted _ _ _. (
