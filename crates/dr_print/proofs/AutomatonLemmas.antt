@@ -1,9 +1,9 @@
 -- The text of an automaton, piece by piece.
-use Rattle.std.specs.Prelude.{◌≡◌, ◌<◌, ◌≤◌, ℕ, zero, suc, ◌+◌, ◌-◌, ◌^◌, List, [], ◌∷◌, ◌++◌, length, map, take, drop, get_or, Option, Some, None, All, String, string_bytes, decimal, codes}
-use Rattle.std.specs.List.{slice_get, join_with_byte, flat_map, cons_option}
+use Rattle.std.specs.Prelude.{◌≡◌, ◌<◌, ◌≤◌, ℕ, zero, suc, ◌+◌, ◌-◌, List, [], ◌∷◌, ◌++◌, length, map, take, drop, get_or, Option, Some, All, String, string_bytes}
+use Rattle.std.specs.List.{join_with_byte, flat_map, cons_option}
 use Rattle.std.specs.declared.alloc.Global.{Global}
 use Rattle.std.proofs.Common.{refl, sym, ap, ◌∙◌, arith, subst, add-one, append_assoc, append-nil}
-use Rattle.std.proofs.lemmas.List.{drop_more, drop_all, take_all, length-map, map-append}
+use Rattle.std.proofs.lemmas.List.{drop_more, take_all, length-map, map-append}
 use Rattle.std.proofs.lemmas.Option.{slice_get-get_or}
 use denote.Ref.{Bor}
 use Rattle.dr_meaning.specs.Path.{Step, Leaf, max_repetition}
@@ -13,7 +13,7 @@ use Rattle.dr_nested.specs.PathView.{path_view}
 use Rattle.dr_nested.specs.declared.path.Path.{Path}
 use Rattle.dr_fsm.specs.declared.automaton.Automaton.{Automaton}
 use Rattle.dr_fsm.specs.Tables.{paths_at}
-use Rattle.dr_fsm.specs.Automata.{follow, IsAutomatonOf}
+use Rattle.dr_fsm.specs.Automata.{IsAutomatonOf}
 use Rattle.dr_fsm.proofs.RowLemmas.{read_map}
 use Rattle.dr_fsm.proofs.SelectionLemmas.{paths_of_leaves}
 use Rattle.dr_print.specs.Transitions.{lent_leaf, lent_leaves, paths_of, dotted, line_to}

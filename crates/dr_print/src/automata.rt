@@ -87,11 +87,7 @@ fn push_leaf(
 }
 
 /// Appends the lines of all the automaton's leaves.
-fn push_leaves(
-    text: &mut String,
-    leaves: &[&Path],
-    automaton: &Automaton,
-) -> Result<(), AllocError>
+fn push_leaves(text: &mut String, leaves: &[&Path], automaton: &Automaton) -> Result<(), AllocError>
     requires next { IsAutomatonOf automaton.now (paths_of (lent_leaves leaves.now)) }
     requires few { length leaves.now < 2 ^ 32 }
     ensures { OnOk result (string_bytes text.new ≡ string_bytes text.old ++ meant.automaton_text (lent_leaves leaves.now)) }

@@ -1,6 +1,5 @@
-use Rattle.std.proofs.Common.{arith, ap, ◌∙◌, ◌≡◌, ℕ, List, length, map}
+use Rattle.std.proofs.Common.{arith, ap, ◌∙◌, ◌≡◌, length, map}
 use Rattle.std.proofs.lemmas.List.{length-map}
-use Rattle.dr_meaning.specs.Path.{Leaf}
 use Rattle.dr_meaning.specs.Fsm.{leaves_at}
 use Rattle.dr_nested.specs.PathView.{path_view}
 use Rattle.dr_fsm.specs.Automata.{leaves_of}
