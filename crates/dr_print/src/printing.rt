@@ -25,7 +25,7 @@ fn push_quoted(alloc: Global, text: &mut String, value: &str) -> Result<(), Allo
 }
 
 /// Appends a number.
-fn push_level(text: &mut String, level: u32) -> Result<(), AllocError>
+pub fn push_level(text: &mut String, level: u32) -> Result<(), AllocError>
     ensures { OnOk result (string_bytes text.new ≡ string_bytes text.old ++ decimal level) }
 {
     let mut buffer = Buffer::new();
