@@ -19,3 +19,4 @@ pub mod RecordLemmas
 pub mod AnswerLemmas
 pub mod ColumnLemmas
 pub mod CommandLemmas
+pub mod AutomatonLemmas

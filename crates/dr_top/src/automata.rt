@@ -8,11 +8,7 @@ ghost use Rattle.dr_meaning.specs.Walk.{same_path};
 ghost use Rattle.dr_meaning.specs.Fsm.{with_leaf, named_leaves, fsm_leaves};
 ghost use Rattle.dr_nested.specs.Views.{fields_view};
 ghost use Rattle.dr_nested.specs.PathView.{path_view, step_view};
-ghost use Rattle.std.specs.Prelude.{◌<◌, All, length};
-ghost use Rattle.dr_meaning.specs.Automaton.{automaton_text as automaton_lines_text};
-ghost use Rattle.dr_meaning.specs.Fsm.{leaves_at};
-ghost use Rattle.dr_fsm.specs.Tables.{paths_at};
-ghost use Rattle.dr_fsm.specs.Automata.{IsAutomatonOf, leaves_of};
+ghost use Rattle.dr_nested.specs.declared.path.Path.{Path};
 ghost use Rattle.dr_top.specs.Asking.{HasAnswer};
 ghost use Rattle.dr_top.specs.Answers.{NamesLeaves};
 ghost use Rattle.dr_top.specs.Words as words;
@@ -26,6 +22,7 @@ use crate::words::Fsm;
 use dr_fsm::{Automaton, Order};
 use dr_nested::{NoMemory, Path, Schema, Step};
 use dr_outside::Keeper;
+use dr_print::automaton_text;
 use std::alloc::Global;
 
 /// Whether a path begins with another.
@@ -47,17 +44,24 @@ fn is_same_path(one: &Path, other: &Path) -> bool
     begins_with(&one.steps, &other.steps) && begins_with(&other.steps, &one.steps)
 }
 
+/// Whether a leaf is among others.
+fn is_among(leaves: &[Path], leaf: &Path) -> bool
+    ensures { result ≡ list_any (λ (m : Path). same_path (path_view leaf.now).path (path_view m).path) leaves.now }
+{
+    leaves.iter().any(|other| is_same_path(leaf, other))
+}
+
 /// Appends a leaf, unless it is there.
 fn add_leaf(leaves: &mut Vec<Path>, leaf: Path) -> Result<(), NoMemory>
     ensures { OnOk result (map path_view (leaves.new).items ≡ with_leaf (map path_view (leaves.old).items) (path_view leaf)) }
 {
-    if leaves.iter().any(|other| is_same_path(&leaf, other)) {
+    if is_among(leaves, &leaf) {
         return Ok(());
     }
-    match leaves.push(leaf) {
-        Ok(()) => Ok(()),
-        Err(_) => Err(NoMemory),
+    if leaves.push(leaf).is_err() {
+        return Err(NoMemory);
     }
+    Ok(())
 }
 
 /// The leaves that FIELD words name, each once.
@@ -77,15 +81,6 @@ fn find_fields(alloc: Global, schema: &Schema, texts: &[String]) -> Result<Vec<P
         }
     }
     Ok(leaves)
-}
-
-// STUB
-fn automaton_text(_alloc: Global, _fields: &[Path], _automaton: &Automaton) -> Result<String, NoMemory>
-    requires next { IsAutomatonOf _automaton.now (paths_at (map (λ (p : Path). (path_view p).path) _fields.now) (leaves_of _automaton.now)) }
-    requires within { All (λ i. i < length _fields.now) (leaves_of _automaton.now) }
-    ensures { IfOk result (λ s. string_bytes s ≡ automaton_lines_text (leaves_at (map path_view _fields.now) (leaves_of _automaton.now))) }
-{
-    Err(NoMemory)
 }
 
 /// The text of the automaton of leaves in schema order.
