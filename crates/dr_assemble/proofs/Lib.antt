@@ -1,0 +1,6 @@
+-- what is restored of the columns of records
+mod StripLemmas
+mod RestoringLemmas
+-- what is restored is the projection of records
+mod FillingLemmas
+mod AssemblyLemmas

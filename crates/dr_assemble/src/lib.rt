@@ -1,0 +1,2 @@
+//! Assembly: the projections of records, of their columns.
+#![tactic(auto)]
