@@ -2,7 +2,7 @@
 use Rattle.std.proofs.Common.{◌≡◌, ℕ, zero, suc, ◌+◌, List, [], ◌∷◌, ◌++◌, map, length, Bool, true, false, ◌&&◌, Option, Some, None, refl, sym, ap, ap₂, ◌∙◌, subst, true≢false, arith}
 use Rattle.std.specs.Prelude.{nat_lt, if◌then◌else◌, option_map, option_and_then, ◌==◌, pos}
 use Rattle.std.specs.List.{list_all}
-use Rattle.std.specs.Str.{is_utf8}
+use Rattle.std.proofs.lemmas.Str.{is_utf8-from_IsUtf8, IsUtf8-nil}
 use Rattle.dr_meaning.specs.Schema.{Repetition, required, optional, repeated, Kind, bool_kind, int32_kind, int64_kind, text_kind, Fields, no_fields, field, Shape, leaf, group, repetition_count, definition_count}
 use Rattle.dr_meaning.specs.Path.{Step}
 use Rattle.dr_meaning.specs.Record as record_tree
@@ -57,11 +57,10 @@ some_value int64_kind = int_value (pos 0)
 some_value text_kind = text_value []
 
 some_value-fits : (k : Kind) → is_of_kind k (some_value k) ≡ true
-unfolding is_utf8
 some_value-fits bool_kind = refl
 some_value-fits int32_kind = refl
 some_value-fits int64_kind = refl
-some_value-fits text_kind = refl
+some_value-fits text_kind = is_utf8-from_IsUtf8 [] IsUtf8-nil
 
 abbrev fewest : Repetition → Instance → Instances
 fewest required x = instance x no_instances
