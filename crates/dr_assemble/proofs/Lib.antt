@@ -4,3 +4,5 @@ mod RestoringLemmas
 -- what is restored is the projection of records
 mod FillingLemmas
 mod AssemblyLemmas
+-- worked examples, by computation
+mod WorkedAssembly
