@@ -109,7 +109,7 @@ goes_on_below text n rest fs before now last s inner (Err Refusal.NotALeaf) c e 
 
 -- ---- the whole path
 
-behind_nothing : (m : Option Found) → option_map (behind []) m ≡ m
+pub behind_nothing : (m : Option Found) → option_map (behind []) m ≡ m
 behind_nothing None = refl
 behind_nothing (Some f) = refl
 

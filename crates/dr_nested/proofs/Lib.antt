@@ -5,6 +5,7 @@ pub mod ScanLemmas
 pub mod ParseLemmas
 pub mod WritingLemmas
 pub mod CuttingLemmas
+pub mod DepthLemmas
 pub mod FindingLemmas
 pub mod FittingLemmas
 pub mod ProjectingLemmas
