@@ -1,2 +1,8 @@
 //! Assembly: the projections of records, of their columns.
 #![tactic(auto)]
+
+mod fault;
+mod restoring;
+mod strip;
+
+pub use fault::AssembleFault;
