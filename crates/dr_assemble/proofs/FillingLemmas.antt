@@ -9,7 +9,7 @@ use Rattle.dr_meaning.specs.Record as record_tree
 use Rattle.dr_meaning.specs.Record.{Value, bool_value, int_value, text_value, Node, no_slots, slot, gap, Instances, no_instances, instance, Instance, atom, inner, is_of_kind, count_instances, fits_repetition, all_instances, is_record, is_instance, slot_for, project, project_all, project_one}
 use Rattle.dr_meaning.specs.Column.{Triplet}
 use Rattle.dr_nested.specs.Views.{instances_of}
-use Rattle.dr_assemble.specs.Restoring.{Strip, strip, here_if, here_strip, strips_here, there_if, there_strip, strips_there, first_piece, later_pieces, count_pieces, first_pieces, other_pieces, before, restored_each, first_definition, first_value, unless_absent, restored_instances, restored_slot, onto_node, slot_before, restored_atom, restored, restored_one, has_rows, restored_records}
+use Rattle.dr_assemble.specs.Restoring.{Strip, strip, here_if, here_strip, strips_here, there_if, there_strip, strips_there, first_piece, later_pieces, count_pieces, first_pieces, other_pieces, before, restored_each, first_definition, first_strip_value, unless_absent, restored_instances, restored_slot, onto_node, slot_before, restored_atom, restored, restored_one, has_rows, restored_records}
 
 -- ---- the paths of strips
 
@@ -198,8 +198,7 @@ filled_atom k G (Some v) x e = kept (is_of_kind k v) refl e where
   kept false h g = absurd (cc)
 
 filled_leaf : (k : Kind) (S : List Strip) (x : Instance) → restored_atom k S ≡ Some x → IsOne (is_instance (leaf k)) (rests S) x
-filled_leaf k [] x e = absurd (cc)
-filled_leaf k (g ∷ S) x e = filled_atom k (rests (g ∷ S)) (first_value g.triplets) x e
+filled_leaf k S x e = filled_atom k (rests S) (first_strip_value S) x e
 
 mutual
   pub filled_node : (fs : Fields) (l d : ℕ) (S : List Strip) (n : Node) → restored fs l d S ≡ Some n → (m : Node) × (is_record fs m ≡ true) × (project (rests S) m ≡ n)

@@ -123,10 +123,17 @@ abbrev pub first_value : List Triplet → Option Value
 first_value [] = None
 first_value (t ∷ ts) = t.value
 
+abbrev pub first_strip_value : List Strip → Option Value
+first_strip_value [] = None
+first_strip_value (g ∷ S) = first_value g.triplets
+
+-- a value of the leaf's kind
+abbrev pub atom_of : Kind → Value → Option Instance
+atom_of k v = if is_of_kind k v then Some (atom v) else None
+
 -- the first strip's first value, where it is of the leaf's kind
 abbrev pub restored_atom : Kind → List Strip → Option Instance
-restored_atom k [] = None
-restored_atom k (g ∷ S) = option_and_then (λ v. if is_of_kind k v then Some (atom v) else None) (first_value g.triplets)
+restored_atom k S = option_and_then (atom_of k) (first_strip_value S)
 
 abbrev mutual
   -- a node of a group, below this many repeated fields, with this definition level; none where a leaf's value is missing or of another kind
@@ -139,6 +146,14 @@ abbrev mutual
   pub restored_one : Shape → ℕ → ℕ → List Strip → Option Instance
   restored_one (leaf k) l d S = restored_atom k S
   restored_one (group fs) l d S = option_map inner (restored fs l d S)
+
+-- a field's instances, in a group below l repeated fields with the definition level d; ts are the first strip's triplets
+abbrev pub field_instances : Repetition → Shape → ℕ → ℕ → List Triplet → List Strip → Option (List Instance)
+field_instances r s l d ts S = restored_instances r (restored_one s (l + repetition_count r) (d + definition_count r)) (l + repetition_count r) d ts S
+
+-- a field's place in a node, in a group below l repeated fields with the definition level d
+abbrev pub restored_field : Repetition → Shape → ℕ → ℕ → List Strip → Option (Option Instances)
+restored_field r s l d S = restored_slot r (restored_one s (l + repetition_count r) (d + definition_count r)) (l + repetition_count r) d S
 
 -- the first strip has as many pieces as there are rows
 abbrev pub has_rows : ℕ → List Strip → Bool
