@@ -1,0 +1,4 @@
+-- what triplets, columns and moves stand for
+pub mod Views
+-- how a column changes
+pub mod Columns

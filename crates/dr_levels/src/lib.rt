@@ -1,0 +1,14 @@
+//! Columns of values with their levels, and what the levels of paths have in common (Dremel 2010, section 4.1).
+#![tactic(auto)]
+
+mod chains;
+mod column;
+mod levels;
+mod moves;
+#[cfg(test)]
+mod tests;
+
+pub use chains::chain;
+pub use column::{Column, Triplet};
+pub use levels::{common, max_d, max_r};
+pub use moves::{Branch, Kept, Move};
