@@ -4,5 +4,7 @@ mod RestoringLemmas
 -- what is restored is the projection of records
 mod FillingLemmas
 mod AssemblyLemmas
+-- what the loops restore
+mod LoopLemmas
 -- worked examples, by computation
 mod WorkedAssembly
