@@ -6,5 +6,7 @@ mod FillingLemmas
 mod AssemblyLemmas
 -- what the loops restore
 mod LoopLemmas
+-- columns compared
+mod ComparingLemmas
 -- worked examples, by computation
 mod WorkedAssembly

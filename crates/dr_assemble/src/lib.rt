@@ -1,6 +1,8 @@
 //! Assembly: the projections of records, of their columns.
 #![tactic(auto)]
 
+mod assembling;
+mod comparing;
 mod fault;
 mod restoring;
 mod strip;
