@@ -1,7 +1,7 @@
 -- What is restored, where it has the given columns, are the projections of the records that have them; where it hasn't, no records have them.
 use Rattle.std.proofs.Common.{◌≡◌, ℕ, suc, List, [], ◌∷◌, ◌++◌, map, length, Bool, true, false, ◌&&◌, ◌||◌, Option, Some, None, refl, sym, ap, ap₂, ◌∙◌, subst, true≢false, arith, eq-eqb}
 use Rattle.std.proofs.lemmas.List.{length-map}
-use Rattle.std.specs.Prelude.{◌==◌}
+use Rattle.std.specs.Prelude.{◌==◌, Result, Ok, Err, IfOk, IsErrOf}
 use Rattle.std.specs.List.{list_all, list_any}
 use Rattle.dr_meaning.specs.Schema.{Fields}
 use Rattle.dr_meaning.specs.Path.{Step, is_leaf_path, begins_with}
@@ -11,6 +11,8 @@ use Rattle.dr_meaning.specs.ProjectionLaws.{leads}
 use Rattle.dr_meaning.proofs.MeaningLemmas.{column_of_projections}
 use Rattle.dr_assemble.specs.Restoring.{Strip, strip, strips, restored_records}
 use Rattle.dr_assemble.specs.Assembly.{HasColumns}
+use Rattle.dr_assemble.specs.Views.{Restores}
+use Rattle.dr_assemble.specs.declared.fault.AssembleFault.{AssembleFault}
 use Rattle.dr_assemble.proofs.StripLemmas.{strips_of, strips_of_map}
 use Rattle.dr_assemble.proofs.RestoringLemmas.{restored_of_columns}
 use Rattle.dr_assemble.proofs.FillingLemmas.{rests, AreRecords, filled_records}
@@ -85,7 +87,7 @@ pub none_restored : (fs : Fields) (F : List (List Step)) (C : List (List Triplet
     → restored_records fs rows (strips F C) ≡ None → (R : List Node) → HasColumns fs F C rows R → ⊥
 none_restored fs F C rows t e R h = let k : restored_records fs rows (strips F C) ≡ Some (map (project F) R) = columns_restored fs F C rows R t h in cc
 
-some_same : {A : Type 0} (a b : A) → Some a ≡ Some b → a ≡ b
+pub some_same : {A : Type 0} (a b : A) → Some a ≡ Some b → a ≡ b
 some_same a b e = cc
 
 -- what is restored hasn't these columns: no records have them
@@ -99,3 +101,19 @@ others_restored fs F C rows P t e g R h =
 -- other than one column for each leaf: no records have them
 pub as_many_columns : (fs : Fields) (F : List (List Step)) (C : List (List Triplet)) (rows : ℕ) → (length C ≡ length F → ⊥) → (R : List Node) → HasColumns fs F C rows R → ⊥
 as_many_columns fs F C rows g R h = g (ap length (sym h.2) ∙ length-map F (λ (p : List Step). column p R))
+
+-- ---- answers
+
+-- two facts of what an answer holds
+pub both_ok : {A E : Type 0} (P Q T : A → Type 0) (r : Result A E) → ((x : A) → P x → Q x → T x) → IfOk r P → IfOk r Q → IfOk r T
+both_ok P Q T (Ok x) f p q = f x p q
+both_ok P Q T (Err e) f p q = tt
+
+pub one_ok : {A E : Type 0} (P T : A → Type 0) (r : Result A E) → ((x : A) → P x → T x) → IfOk r P → IfOk r T
+one_ok P T (Ok x) f p = f x p
+one_ok P T (Err e) f p = tt
+
+-- bad data says that nothing is restored
+pub nothing_restored : {A B : Type 0} (see : A → B) (m : Option B) (e : AssembleFault) → Restores see m (Err e) → IsErrOf {T = A} (Err e) AssembleFault.BadData → m ≡ None
+nothing_restored see m AssembleFault.BadData h q = h
+nothing_restored see m AssembleFault.NoMemory h q = absurd (cc)
