@@ -8,5 +8,7 @@ mod AssemblyLemmas
 mod LoopLemmas
 -- columns compared
 mod ComparingLemmas
+-- paths that are found
+pub mod FoundLemmas
 -- worked examples, by computation
 mod WorkedAssembly
