@@ -9,3 +9,4 @@ pub mod DepthLemmas
 pub mod FindingLemmas
 pub mod FittingLemmas
 pub mod ProjectingLemmas
+pub mod LookingLemmas

@@ -1,9 +1,11 @@
 //! Schemas, records and paths as types, with their views into the definitions.
 #![tactic(auto)]
 
+mod copying;
 mod fault;
 mod finding;
 mod fitting;
+mod looking;
 mod parsing;
 mod path;
 mod projecting;
@@ -16,9 +18,11 @@ mod state;
 mod tests;
 mod writing;
 
+pub use copying::copy_value;
 pub use fault::{NoMemory, PathFault, SchemaFault, SchemaProblem};
 pub use finding::find;
 pub use fitting::is_record;
+pub use looking::instances_at;
 pub use parsing::{LONGEST_SCHEMA, parse_schema};
 pub use path::{Path, Step};
 pub use projecting::project;

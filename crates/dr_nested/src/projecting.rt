@@ -2,13 +2,14 @@
 
 ghost use Rattle.std.specs.Prelude.{◌≡◌, map, IfOk};
 ghost use Rattle.dr_meaning.specs.Record as record_tree;
-ghost use Rattle.dr_nested.specs.Views.{value_view, instance_view, instances_view, slot_view, node_view};
+ghost use Rattle.dr_nested.specs.Views.{instance_view, instances_view, slot_view, node_view};
 ghost use Rattle.dr_nested.specs.PathView.{path_view};
 ghost use Rattle.dr_nested.specs.Projecting.{lent_path, at_place, projected};
 
 use crate::fault::NoMemory;
 use crate::path::{Path, Step};
-use crate::record::{Instance, Node, Slot, Value};
+use crate::copying::copy_value;
+use crate::record::{Instance, Node, Slot};
 use std::alloc::{AllocError, Global};
 
 /// The rests of the paths that begin at a place of a group.
@@ -28,16 +29,6 @@ fn rests_at<'a>(
         }
     }
     Ok(rests)
-}
-
-fn copy_value(alloc: Global, value: &Value) -> Result<Value, AllocError>
-    ensures { IfOk result (λ v. value_view v ≡ value_view value.now) }
-{
-    match value {
-        Value::Bool(truth) => Ok(Value::Bool(*truth)),
-        Value::Int(number) => Ok(Value::Int(*number)),
-        Value::Text(text) => Ok(Value::Text(String::from_str(alloc, text.as_str())?)),
-    }
 }
 
 #[cycle(projecting)]

@@ -200,36 +200,6 @@ pub has_repeated_view : (ss : List code.Step) → has_repeated (map step_view ss
 has_repeated_view [] = refl
 has_repeated_view (s ∷ ss) = ap (λ b. is_repeated (rep_view s.rep) || b) (has_repeated_view ss)
 
-abbrev pub in_slot : Option Instances → Instances
-in_slot None = no_instances
-in_slot (Some xs) = xs
-
-at_slots : (os : List (Option Instances)) (i : ℕ) (o : Option Instances) → slice_get os i ≡ Some o → instances_at i (slots_of os) ≡ in_slot o
-at_slots [] i o h = cc
-at_slots (None ∷ os) zero o h = let e : None ≡ o = cc in rw (← e) refl
-at_slots (None ∷ os) (suc i) o h = at_slots os i o h
-at_slots (Some xs ∷ os) zero o h = let e : Some xs ≡ o = cc in rw (← e) refl
-at_slots (Some xs ∷ os) (suc i) o h = at_slots os i o h
-
-past_slots : (os : List (Option Instances)) (i : ℕ) → slice_get os i ≡ None → instances_at i (slots_of os) ≡ no_instances
-past_slots [] i h = refl
-past_slots (None ∷ os) zero h = refl
-past_slots (None ∷ os) (suc i) h = past_slots os i h
-past_slots (Some xs ∷ os) zero h = cc
-past_slots (Some xs ∷ os) (suc i) h = past_slots os i h
-
--- what is held at a place of a node
-pub at_held : (n : nodes.Node) (ss : List slots.Slot) (i : ℕ) (x : slots.Slot) (o : Option Instances) → ss ≡ n.slots.items → i < length ss → x ≡ get_or ss i x → slot_view x ≡ o → instances_at i (node_view n) ≡ in_slot o
-at_held n ss i x o e h g v =
-    let k : slice_get ss i ≡ Some x = slice_get_read ss (length ss) i x refl h g in
-    let m : slice_get (map slot_view ss) i ≡ Some o = slice_get-map slot_view ss i ∙ ap (option_map slot_view) k ∙ ap Some v in
-    ap (instances_at i) (view-node n ∙ ap slots_view (sym e)) ∙ at_slots (map slot_view ss) i o m
-
-pub at_past : (n : nodes.Node) (ss : List slots.Slot) (i : ℕ) → ss ≡ n.slots.items → length ss ≤ i → instances_at i (node_view n) ≡ no_instances
-at_past n ss i e h =
-    let m : slice_get (map slot_view ss) i ≡ None = slice_get-map slot_view ss i ∙ ap (option_map slot_view) (slice_get_past ss i h) in
-    ap (instances_at i) (view-node n ∙ ap slots_view (sym e)) ∙ past_slots (map slot_view ss) i m
-
 -- an atom has a value at the empty path alone
 pub in_atom : (ss : List code.Step) (v : Value) → values_in (map step_view ss) (atom v) ≡ bool_byte (length ss == 0)
 in_atom [] v = refl

@@ -10,7 +10,7 @@ ghost use Rattle.dr_nested.specs.PathView.{step_view};
 ghost use Rattle.dr_nested.specs.declared.path.Step.{Step};
 ghost use Rattle.dr_top.specs.Counting.{value_count, count_text, has_repeated, values_in, counted};
 
-use dr_nested::{Instance, NoMemory, Node, Rep, Slot, Step};
+use dr_nested::{Instance, NoMemory, Node, Rep, Step, instances_at};
 use std::alloc::Global;
 
 fn is_repeated(step: &Step) -> bool
@@ -24,17 +24,6 @@ fn is_repeated_ahead(steps: &[Step]) -> bool
     ensures { result ≡ list_any (λ (s : Step). tree.is_repeated (step_view s).repetition) steps.now }
 {
     steps.iter().any(is_repeated)
-}
-
-/// The instances of the field at a place of a node.
-fn instances_at(node: &Node, place: usize) -> &[Instance]
-    ensures { instances_view result.now ≡ record_tree.instances_at place (node_view node.now) }
-{
-    match node.slots.get(place) {
-        Some(Slot::Held(instances)) => instances.as_slice(),
-        Some(Slot::Gap) => &[],
-        None => &[],
-    }
 }
 
 /// How many values a path has in an instance.

@@ -4,8 +4,8 @@ use Rattle.dr_nested.specs.declared.record.Instance.{Instance}
 use Rattle.std.specs.Prelude.{Vec}
 use Rattle.std.specs.declared.alloc.Global.{Global}
 use Rattle.dr_nested.proofs.ViewLemmas.{view-held, view-gap}
-use Rattle.dr_top.proofs.RowLemmas.{at_held, at_past}
-use Rattle.dr_top.proofs.counting.instances_at.Goals as goal
+use Rattle.dr_nested.proofs.LookingLemmas.{at_held, at_past}
+use Rattle.dr_nested.proofs.looking.instances_at.Goals as goal
 
 pub returns-in-Some-Held : goal.returns-in-Some-Held
 returns-in-Some-Held c =

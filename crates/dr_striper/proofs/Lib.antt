@@ -1,0 +1,3 @@
+pub mod GainLemmas
+pub mod PassLemmas
+pub mod CutLemmas
