@@ -1,17 +1,22 @@
 -- What is restored, where it has the given columns, are the projections of the records that have them; where it hasn't, no records have them.
-use Rattle.std.proofs.Common.{◌≡◌, ℕ, suc, List, [], ◌∷◌, ◌++◌, map, length, Bool, true, false, ◌&&◌, ◌||◌, Option, Some, None, refl, sym, ap, ap₂, ◌∙◌, subst, true≢false, arith, eq-eqb}
-use Rattle.std.proofs.lemmas.List.{length-map}
-use Rattle.std.specs.Prelude.{◌==◌, Result, Ok, Err, IfOk, IsErrOf}
+use Rattle.std.proofs.Common.{◌≡◌, ℕ, suc, List, [], ◌∷◌, ◌++◌, map, length, Bool, true, false, ◌&&◌, ◌||◌, Option, Some, None, refl, sym, ap, ap₂, ◌∙◌, subst, true≢false, arith, eq-eqb, append_assoc, append-nil, take, get_or, add-one, ◌+◌, ◌<◌}
+use Rattle.std.proofs.lemmas.List.{length-map, map-append}
+use Rattle.std.proofs.Math.Seq.{take-suc}
+use Rattle.std.specs.Prelude.{◌==◌, Result, Ok, Err, IfOk, IsErrOf, replicate}
 use Rattle.std.specs.List.{list_all, list_any}
 use Rattle.dr_meaning.specs.Schema.{Fields}
 use Rattle.dr_meaning.specs.Path.{Step, is_leaf_path, begins_with}
 use Rattle.dr_meaning.specs.Record.{Node, is_record, project}
-use Rattle.dr_meaning.specs.Column.{Triplet, column}
+use Rattle.dr_meaning.specs.Column.{Triplet, record_column, column}
 use Rattle.dr_meaning.specs.ProjectionLaws.{leads}
 use Rattle.dr_meaning.proofs.MeaningLemmas.{column_of_projections}
+use Rattle.dr_nested.specs.Views.{node_view}
+use Rattle.dr_nested.specs.declared.path.Path.{Path}
+use Rattle.dr_nested.specs.declared.record.Node as code
+use Rattle.dr_striper.specs.Striping.{gained}
 use Rattle.dr_assemble.specs.Restoring.{Strip, strip, strips, restored_records}
 use Rattle.dr_assemble.specs.Assembly.{HasColumns}
-use Rattle.dr_assemble.specs.Views.{Restores}
+use Rattle.dr_assemble.specs.Views.{paths_view, nodes_view, columns_at, Restores}
 use Rattle.dr_assemble.specs.declared.fault.AssembleFault.{AssembleFault}
 use Rattle.dr_assemble.proofs.StripLemmas.{strips_of, strips_of_map}
 use Rattle.dr_assemble.proofs.RestoringLemmas.{restored_of_columns}
@@ -117,3 +122,32 @@ one_ok P T (Err e) f p = tt
 pub nothing_restored : {A B : Type 0} (see : A → B) (m : Option B) (e : AssembleFault) → Restores see m (Err e) → IsErrOf {T = A} (Err e) AssembleFault.BadData → m ≡ None
 nothing_restored see m AssembleFault.BadData h q = h
 nothing_restored see m AssembleFault.NoMemory h q = absurd (cc)
+
+-- ---- the columns of nodes, one node after another
+
+column-push : (p : List Step) (R : List Node) (n : Node) → column p R ++ record_column p n ≡ column p (R ++ n ∷ [])
+column-push p [] n = sym (append-nil (record_column p n))
+column-push p (m ∷ R) n = append_assoc (record_column p m) (column p R) (record_column p n) ∙ ap (λ (ts : List Triplet). record_column p m ++ ts) (column-push p R n)
+
+columns-push : (F : List (List Step)) (R : List Node) (n : Node) → gained (λ (p : List Step). record_column p n) F (map (λ (p : List Step). column p R) F) ≡ map (λ (p : List Step). column p (R ++ n ∷ [])) F
+columns-push [] R n = refl
+columns-push (p ∷ F) R n = ap₂ (λ (c : List Triplet) (C : List (List Triplet)). c ∷ C) (column-push p R n) (columns-push F R n)
+
+no_columns : (ps : List Path) → replicate (length ps) [] ≡ columns_at ps []
+no_columns [] = refl
+no_columns (p ∷ ps) = ap (λ (C : List (List Triplet)). [] ∷ C) (no_columns ps)
+
+take_next : {X : Type 0} (xs : List X) (i : ℕ) (x : X) → i < length xs → x ≡ get_or xs i x → take i xs ++ x ∷ [] ≡ take (i + 1) xs
+take_next xs i x h is = ap (λ y. take i xs ++ y ∷ []) is ∙ sym (take-suc xs i x h) ∙ ap (λ n. take n xs) (sym (add-one i))
+
+-- before the first node
+pub columns_begin : (ps : List Path) (C : List (List Triplet)) → C ≡ replicate (length ps) [] → C ≡ columns_at ps []
+columns_begin ps C e = e ∙ no_columns ps
+
+-- one node more
+pub columns_more : (ps : List Path) (ns : List code.Node) (i : ℕ) (n : code.Node) (F : List (List Step)) (C D : List (List Triplet)) → i < length ns → n ≡ get_or ns i n → F ≡ paths_view ps → C ≡ columns_at ps (take i ns)
+    → D ≡ gained (λ (p : List Step). record_column p (node_view n)) F C → D ≡ columns_at ps (take (i + 1) ns)
+columns_more ps ns i n F C D h is f c e =
+    e ∙ ap₂ (λ (G : List (List Step)) (B : List (List Triplet)). gained (λ (p : List Step). record_column p (node_view n)) G B) f c
+    ∙ columns-push (paths_view ps) (nodes_view (take i ns)) (node_view n)
+    ∙ ap (λ (R : List Node). map (λ (p : List Step). column p R) (paths_view ps)) (sym (map-append node_view (take i ns) (n ∷ [])) ∙ ap nodes_view (take_next ns i n h is))

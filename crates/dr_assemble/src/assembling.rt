@@ -19,6 +19,7 @@ use crate::restoring::restore_node;
 use crate::strip::{Strip, count_pieces, cut};
 use dr_levels::Column;
 use dr_nested::{Field, NoMemory, Node, Path, Schema};
+use dr_striper::Striper;
 use std::alloc::{AllocError, Global};
 
 /// Each field's path with its column.
@@ -92,7 +93,11 @@ fn restore_records(
 fn columns_of(alloc: Global, fields: &[Path], nodes: &[Node]) -> Result<Vec<Column>, NoMemory>
     ensures { IfOk result (λ v. columns_view v.items ≡ columns_at fields.now nodes.now) }
 {
-    Err(NoMemory)
+    let mut striper = Striper::new(alloc, fields)?;
+    'nodes: for node in nodes {
+        striper.add(node)?;
+    }
+    Ok(striper.finish())
 }
 
 /// Nodes that have these columns.

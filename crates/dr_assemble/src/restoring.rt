@@ -1,6 +1,6 @@
 //! Restoring nodes of the triplets of their leaves.
 
-ghost use Rattle.std.specs.Prelude.{◌≡◌, ◌≤◌, ◌+◌, [], ◌∷◌, map, nat_lt, pos, option_map, IfOk};
+ghost use Rattle.std.specs.Prelude.{◌≡◌, ◌≤◌, ◌+◌, [], ◌∷◌, map, nat_lt, pos, option_map};
 ghost use Rattle.dr_meaning.specs.Schema.{depth, shape_depth, greatest_depth};
 ghost use Rattle.dr_meaning.specs.Record as record_tree;
 ghost use Rattle.dr_nested.specs.Views.{rep_view, kind_view, shape_view, fields_view, value_view, instance_view, slot_view, node_view};
@@ -11,8 +11,8 @@ ghost use Rattle.dr_assemble.specs.Views.{strips_view, Restores};
 use crate::fault::AssembleFault;
 use crate::strip::{Strip, count_pieces, cut, strips_by_place};
 use dr_levels::Triplet;
-use dr_nested::{Field, Instance, Kind, Node, Rep, Shape, Slot, Value};
-use std::alloc::{AllocError, Global};
+use dr_nested::{Field, Instance, Kind, Node, Rep, Shape, Slot, Value, copy_value};
+use std::alloc::Global;
 
 /// Whether whole numbers of a kind include this one.
 fn is_number_of(kind: Kind, number: i64) -> bool
@@ -43,16 +43,6 @@ fn is_of_kind(kind: Kind, value: &Value) -> bool
         Value::Bool(_) => matches!(kind, Kind::Bool),
         Value::Int(number) => is_number_of(kind, *number),
         Value::Text(text) => is_text_of(kind, text.as_str()),
-    }
-}
-
-fn copy_value(alloc: Global, value: &Value) -> Result<Value, AllocError>
-    ensures { IfOk result (λ v. value_view v ≡ value_view value.now) }
-{
-    match value {
-        Value::Bool(truth) => Ok(Value::Bool(*truth)),
-        Value::Int(number) => Ok(Value::Int(*number)),
-        Value::Text(text) => Ok(Value::Text(String::from_str(alloc, text.as_str())?)),
     }
 }
 
