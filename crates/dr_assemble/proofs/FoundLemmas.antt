@@ -1,6 +1,8 @@
 -- A leaf that was found in a schema has a leaf path of it.
 use Rattle.std.proofs.Common.{◌≡◌, ℕ, zero, suc, ◌+◌, List, [], ◌∷◌, ◌++◌, Bool, true, false, ◌&&◌, Option, Some, None, refl, sym, ap, ap₂, ◌∙◌, subst, arith, append-nil}
 use Rattle.std.specs.Prelude.{if◌then◌else◌, bytes_eq, option_map, option_and_then, Result, Ok, Err}
+use Rattle.std.specs.List.{list_all}
+use Rattle.std.proofs.lemmas.Bool.{and_parts}
 use Rattle.dr_meaning.specs.Schema.{Repetition, required, optional, repeated, Fields, no_fields, field, Shape, leaf, group, fields_of}
 use Rattle.dr_meaning.specs.Path.{Step, Leaf, PathFault, Found, named_field, found_below, resolve, find_path, cut_at_dots, leaf_at, found_leaf, find_leaf, same_repetition, is_leaf_path, is_shape_path}
 use Rattle.dr_meaning.proofs.ProjectionLemmas.{step}
@@ -78,3 +80,10 @@ leaf_is ns fs (Some f) l h e = by_shape f.shape refl e where
 -- the path of a leaf that was found is a leaf path
 pub found_is_leaf : (text : List ℕ) (fs : Fields) (l : Leaf) → find_leaf text fs ≡ Ok l → is_leaf_path fs l.path ≡ true
 found_is_leaf text fs l e = leaf_is (cut_at_dots text) fs (find_path (cut_at_dots text) fs) l refl e
+
+-- one more that passes a test that all pass
+pub all_push : {A : Type 0} (test : A → Bool) (xs : List A) (x : A) → list_all test xs ≡ true → test x ≡ true → list_all test (xs ++ x ∷ []) ≡ true
+all_push test [] x h e = ap (λ b. b && true) e
+all_push test (y ∷ xs) x h e =
+    let k : (test y ≡ true) × (list_all test xs ≡ true) = and_parts _ _ h in
+    ap₂ (λ a b. a && b) k.0 (all_push test xs x k.1 e)
