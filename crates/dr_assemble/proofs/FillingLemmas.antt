@@ -1,6 +1,6 @@
 -- Whatever is restored is the projection of a record: the fields that no strip leads into are filled.
-use Rattle.std.proofs.Common.{◌≡◌, ℕ, zero, suc, ◌+◌, List, [], ◌∷◌, ◌++◌, map, length, Bool, true, false, ◌&&◌, Option, Some, None, refl, sym, ap, ap₂, ◌∙◌, subst, true≢false, arith}
-use Rattle.std.specs.Prelude.{nat_lt, if◌then◌else◌, option_map, option_and_then, ◌==◌, pos}
+use Rattle.std.proofs.Common.{◌≡◌, ℕ, zero, suc, ◌+◌, List, [], ◌∷◌, map, length, Bool, true, false, ◌&&◌, Option, Some, None, refl, sym, ap, ap₂, ◌∙◌, subst}
+use Rattle.std.specs.Prelude.{nat_lt, if◌then◌else◌, option_map, option_and_then, pos}
 use Rattle.std.specs.List.{list_all}
 use Rattle.std.proofs.lemmas.Str.{is_utf8-from_IsUtf8, IsUtf8-nil}
 use Rattle.dr_meaning.specs.Schema.{Repetition, required, optional, repeated, Kind, bool_kind, int32_kind, int64_kind, text_kind, Fields, no_fields, field, Shape, leaf, group, repetition_count, definition_count}
@@ -9,7 +9,7 @@ use Rattle.dr_meaning.specs.Record as record_tree
 use Rattle.dr_meaning.specs.Record.{Value, bool_value, int_value, text_value, Node, no_slots, slot, gap, Instances, no_instances, instance, Instance, atom, inner, is_of_kind, count_instances, fits_repetition, all_instances, is_record, is_instance, slot_for, project, project_all, project_one}
 use Rattle.dr_meaning.specs.Column.{Triplet}
 use Rattle.dr_nested.specs.Views.{instances_of}
-use Rattle.dr_assemble.specs.Restoring.{Strip, strip, here_if, here_strip, strips_here, there_if, there_strip, strips_there, first_piece, later_pieces, count_pieces, first_pieces, other_pieces, before, restored_each, first_definition, first_strip_value, unless_absent, restored_instances, restored_slot, onto_node, slot_before, restored_atom, restored, restored_one, has_rows, restored_records}
+use Rattle.dr_assemble.specs.Restoring.{Strip, here_if, here_strip, strips_here, there_if, there_strip, strips_there, count_pieces, first_pieces, other_pieces, before, restored_each, first_definition, first_strip_value, restored_instances, restored_slot, onto_node, slot_before, restored_atom, restored, restored_one, has_rows, restored_records}
 
 -- ---- the paths of strips
 
@@ -208,12 +208,11 @@ mutual
       let a : Option (Option Instances) = restored_slot r f (l + repetition_count r) d (strips_here S) in
       let g : (o : Option Instances) × (k : Node) × (restored_slot r f (l + repetition_count r) d (strips_here S) ≡ Some o) × (restored fs l d (strips_there S) ≡ Some k) × (onto_node o k ≡ n) = slot_before_some (restored_slot r f (l + repetition_count r) d (strips_here S)) (restored fs l d (strips_there S)) n e in
       let h : SlotFilled r (is_instance s) (rests (strips_here S)) g.0 = filled_slot r s f (l + repetition_count r) d (strips_here S) g.0 (λ (T : List Strip) (x : Instance). filled_one s (l + repetition_count r) (d + definition_count r) T x) g.2 in
-      let t : (k : Node) × (is_record fs k ≡ true) × (project (rests (strips_there S)) k ≡ g.1) = filled_node fs l d (strips_there S) g.1 g.3 in
-      (
+      let t : (k : Node) × (is_record fs k ≡ true) × (project (rests (strips_there S)) k ≡ g.1) = filled_node fs l d (strips_there S) g.1 g.3 in (
         slot h.0 t.0,
         and₃-true (fits_repetition r (count_instances h.0)) (all_instances (is_instance s) h.0) (is_record fs t.0) h.1 h.2 t.1,
         ap₂ (λ (F G : List (List Step)). slot_for F (project_all F h.0) (project G t.0)) (sym (rests-here S)) (sym (rests-there S))
-        ∙ h.3 (project (rests (strips_there S)) t.0) ∙ ap (onto_node g.0) t.2 ∙ g.4,
+            ∙ h.3 (project (rests (strips_there S)) t.0) ∙ ap (onto_node g.0) t.2 ∙ g.4,
       )
 
   filled_one : (s : Shape) (l d : ℕ) (S : List Strip) (x : Instance) → restored_one s l d S ≡ Some x → IsOne (is_instance s) (rests S) x
@@ -234,8 +233,7 @@ filled_nodes fs F zero S P g e = ([], refl, refl, cc)
 filled_nodes fs F (suc n) S P g e =
     let m : (x : Node) × (xs : List Node) × (restored fs 0 0 (first_pieces 0 S) ≡ Some x) × (restored_each (restored fs 0 0) 0 n (other_pieces 0 S) ≡ Some xs) × (x ∷ xs ≡ P) = before_some (restored fs 0 0 (first_pieces 0 S)) (restored_each (restored fs 0 0) 0 n (other_pieces 0 S)) P e in
     let y : (k : Node) × (is_record fs k ≡ true) × (project (rests (first_pieces 0 S)) k ≡ m.0) = filled_node fs 0 0 (first_pieces 0 S) m.0 m.2 in
-    let r : AreRecords fs F n m.1 = filled_nodes fs F n (other_pieces 0 S) m.1 (rests-other 0 S ∙ g) m.3 in
-    (
+    let r : AreRecords fs F n m.1 = filled_nodes fs F n (other_pieces 0 S) m.1 (rests-other 0 S ∙ g) m.3 in (
       y.0 ∷ r.0,
       and-true (is_record fs y.0) (list_all (is_record fs) r.0) y.1 r.1,
       ap (λ (k : ℕ). suc k) r.2,

@@ -1,10 +1,10 @@
 -- A leaf that was found in a schema has a leaf path of it.
-use Rattle.std.proofs.Common.{◌≡◌, ℕ, zero, suc, ◌+◌, List, [], ◌∷◌, ◌++◌, Bool, true, false, ◌&&◌, Option, Some, None, refl, sym, ap, ap₂, ◌∙◌, subst, arith, append-nil}
-use Rattle.std.specs.Prelude.{if◌then◌else◌, bytes_eq, option_map, option_and_then, Result, Ok, Err}
+use Rattle.std.proofs.Common.{◌≡◌, ℕ, suc, ◌+◌, List, [], ◌∷◌, ◌++◌, Bool, true, false, ◌&&◌, Option, Some, None, refl, sym, ap, ap₂, ◌∙◌, arith, append-nil}
+use Rattle.std.specs.Prelude.{if◌then◌else◌, bytes_eq, option_map, option_and_then, Ok}
 use Rattle.std.specs.List.{list_all}
 use Rattle.std.proofs.lemmas.Bool.{and_parts}
 use Rattle.dr_meaning.specs.Schema.{Repetition, required, optional, repeated, Fields, no_fields, field, Shape, leaf, group, fields_of}
-use Rattle.dr_meaning.specs.Path.{Step, Leaf, PathFault, Found, named_field, found_below, resolve, find_path, cut_at_dots, leaf_at, found_leaf, find_leaf, same_repetition, is_leaf_path, is_shape_path}
+use Rattle.dr_meaning.specs.Path.{Step, Leaf, Found, named_field, found_below, resolve, find_path, cut_at_dots, leaf_at, found_leaf, find_leaf, same_repetition, is_leaf_path, is_shape_path}
 use Rattle.dr_meaning.proofs.ProjectionLemmas.{step}
 
 same_repetition-itself : (r : Repetition) → same_repetition r r ≡ true
@@ -19,8 +19,7 @@ IsFound i fs f = (j : ℕ) × (r : Repetition) × (f.path ≡ step (i + j) r ∷
 named_here : (i : ℕ) (m : List ℕ) (r : Repetition) (s : Shape) (fs : Fields) (f : Found) → Some (record { path = step i r ∷ []; shape = s }) ≡ Some f → IsFound i (field m r s fs) f
 named_here i m r s fs f e =
     let g : record { path = step i r ∷ []; shape = s } ≡ f = cc in
-    let k : i ≡ i + 0 = omega arith in
-    (
+    let k : i ≡ i + 0 = omega arith in (
       0,
       r,
       sym (ap (λ (x : Found). x.path) g) ∙ ap (λ (j : ℕ). step j r ∷ []) k,

@@ -1,16 +1,16 @@
 -- What is restored of the columns of records is their projection.
-use Rattle.std.proofs.Common.{◌≡◌, ℕ, zero, suc, ◌+◌, ◌<◌, ◌≤◌, List, [], ◌∷◌, ◌++◌, map, length, Bool, true, false, ◌&&◌, Option, Some, None, refl, sym, ap, ap₂, ◌∙◌, true≢false, arith, append-nil, eq-eqb}
-use Rattle.std.specs.Prelude.{nat_lt, if◌then◌else◌, option_map, ◌==◌}
+use Rattle.std.proofs.Common.{◌≡◌, ℕ, suc, ◌+◌, ◌<◌, ◌≤◌, List, [], ◌∷◌, ◌++◌, map, length, Bool, true, false, Option, Some, None, refl, sym, ap, ap₂, ◌∙◌, true≢false, arith, append-nil, eq-eqb}
+use Rattle.std.specs.Prelude.{nat_lt, if◌then◌else◌, option_map}
 use Rattle.std.specs.List.{list_all}
 use Rattle.std.proofs.lemmas.Bool.{and_parts, eqb-true, leb-true}
 use Rattle.std.proofs.lemmas.Bool.Decides.{nat_tests}
 use Rattle.dr_meaning.specs.Schema.{Repetition, required, optional, repeated, Kind, Fields, no_fields, field, Shape, leaf, group, repetition_count, definition_count}
 use Rattle.dr_meaning.specs.Path.{Step, is_leaf_path, is_shape_path}
-use Rattle.dr_meaning.specs.Record.{Value, Node, no_slots, slot, gap, Instances, no_instances, instance, Instance, atom, inner, is_of_kind, count_instances, fits_repetition, all_instances, is_atom_of, is_record, is_instance, here, there, slot_for, project, project_all, project_one}
+use Rattle.dr_meaning.specs.Record.{Value, Node, no_slots, slot, Instances, no_instances, instance, Instance, atom, inner, is_of_kind, count_instances, fits_repetition, all_instances, is_record, is_instance, here, there, slot_for, project, project_all, project_one}
 use Rattle.dr_meaning.specs.Column.{Triplet, triplet, each_later, spread, instance_column, record_column, column}
 use Rattle.dr_meaning.proofs.Blocks.{BeginsBelow, IsBlock, block_begins, block-instance, and₃_parts}
 use Rattle.dr_nested.specs.Views.{instances_of}
-use Rattle.dr_assemble.specs.Restoring.{Strip, strip, strips_here, strips_there, first_piece, later_pieces, count_below, count_pieces, first_pieces, other_pieces, before, restored_each, first_definition, unless_absent, restored_instances, restored_slot, onto_node, slot_before, restored_atom, restored, restored_one, has_rows, restored_records, strips}
+use Rattle.dr_assemble.specs.Restoring.{Strip, first_piece, later_pieces, count_below, count_pieces, first_pieces, other_pieces, before, restored_each, first_definition, unless_absent, restored_instances, restored_slot, onto_node, slot_before, restored, restored_one, has_rows, restored_records, strips}
 use Rattle.dr_assemble.proofs.StripLemmas.{strips_of, strips_same, strips_of_map, field_column, here-strips, there-strips, here-all, there-all, first_piece-block, later_pieces-block, count_pieces-block, count_below-block, first_definition-block, first_pieces-of, other_pieces-of}
 
 -- ---- a field's instances

@@ -1,13 +1,12 @@
 -- Records of the columns of the worked records, by computation.
-use Rattle.std.specs.Prelude.{◌≡◌, ℕ, List, [], ◌∷◌, map, pos, Option, Some, None, codes, refl}
+use Rattle.std.specs.Prelude.{◌≡◌, List, [], ◌∷◌, map, pos, Some, None, codes, refl}
 use Rattle.std.specs.Str.{is_utf8, chars}
-use Rattle.dr_meaning.specs.Schema.{Fields, no_fields, field, leaf, optional, int64_kind}
 use Rattle.dr_meaning.specs.Path.{Step}
 use Rattle.dr_meaning.specs.Record.{int_value, text_value, Node, no_slots, slot, gap, no_instances, instance, inner, project}
 use Rattle.dr_meaning.specs.Column.{Triplet, triplet, column}
 use Rattle.dr_meaning.proofs.WorkedSchemas.{document}
 use Rattle.dr_meaning.proofs.WorkedRecords.{record_10, record_20, numbers}
-use Rattle.dr_meaning.proofs.WorkedPaths.{path, doc_id, backward, forward, code, country, url}
+use Rattle.dr_meaning.proofs.WorkedPaths.{doc_id, backward, forward, code, country, url}
 use Rattle.dr_assemble.specs.Restoring.{strips, restored_records}
 use Rattle.dr_assemble.specs.Assembly.{HasColumns}
 use Rattle.dr_assemble.proofs.AssemblyLemmas.{none_restored, others_restored}

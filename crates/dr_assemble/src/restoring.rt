@@ -78,11 +78,7 @@ fn atom_of(alloc: Global, kind: Kind, value: &Value) -> Result<Instance, Assembl
 }
 
 /// A leaf's instance.
-fn restore_atom(
-    alloc: Global,
-    kind: Kind,
-    strips: &[Strip],
-) -> Result<Instance, AssembleFault>
+fn restore_atom(alloc: Global, kind: Kind, strips: &[Strip]) -> Result<Instance, AssembleFault>
     ensures { Restores instance_view (restoring.restored_atom (kind_view kind) (strips_view strips.now)) result }
 {
     match first_strip_value(strips) {
@@ -192,7 +188,14 @@ fn restore_instances(
         Rep::Repeated => {
             if is_present(lead, definition) {
                 let count = count_pieces(lead, level + 1);
-                restore_each(alloc, &field.shape, strips, count, level + 1, definition + 1)
+                restore_each(
+                    alloc,
+                    &field.shape,
+                    strips,
+                    count,
+                    level + 1,
+                    definition + 1,
+                )
             } else {
                 Ok(Vec::new(alloc))
             }

@@ -143,7 +143,8 @@ fn assembled(alloc: Global, schema: &[u8], text: &str, rows: u64) -> Result<Opti
     }
 }
 
-const BOTH: &str = "([10][([][20 40 60])][([([en-us][us]) ([en][])][http://A]) ([][http://B]) ([([en-gb][gb])][])])([20][([10 30][80])][([][http://C])])";
+const BOTH: &str =
+    "([10][([][20 40 60])][([([en-us][us]) ([en][])][http://A]) ([][http://B]) ([([en-gb][gb])][])])([20][([10 30][80])][([][http://C])])";
 
 #[test]
 fn columns_of_the_two_documents(rt: HostRuntime) -> Result<(), Fail> {
@@ -168,7 +169,11 @@ fn columns_of_the_two_documents(rt: HostRuntime) -> Result<(), Fail> {
     ];
     for (columns, expected) in rows {
         let found = assembled(rt.alloc(), DOCUMENT, columns, 2)?;
-        assert_eq!(rt; found.as_ref().map(|text| text.as_str()), Some(expected), "of {columns:?}");
+        assert_eq!(rt;
+            found.as_ref().map(|text| text.as_str()),
+            Some(expected),
+            "of {columns:?}"
+        );
     }
     Ok(())
 }
@@ -199,7 +204,11 @@ fn columns_of_other_documents(rt: HostRuntime) -> Result<(), Fail> {
         ("Name.Url 0,1 1,1", 1, Some("(__[(_[]) (_[])])")),
         // instances that two columns tell differently
         ("Name.Language.Code 0,1 1,1|Name.Url 0,1", 1, None),
-        ("Name.Language.Code 0,2=a 2,2=b|Name.Language.Country 0,2 1,2", 1, None),
+        (
+            "Name.Language.Code 0,2=a 2,2=b|Name.Language.Country 0,2 1,2",
+            1,
+            None,
+        ),
         // the same column twice, and once otherwise
         ("DocId 0,0=1|DocId 0,0=1", 1, Some("([1]__)")),
         ("DocId 0,0=1|DocId 0,0=2", 1, None),
@@ -208,7 +217,11 @@ fn columns_of_other_documents(rt: HostRuntime) -> Result<(), Fail> {
     ];
     for (columns, count, expected) in rows {
         let found = assembled(rt.alloc(), DOCUMENT, columns, count)?;
-        assert_eq!(rt; found.as_ref().map(|text| text.as_str()), expected, "of {columns:?}");
+        assert_eq!(rt;
+            found.as_ref().map(|text| text.as_str()),
+            expected,
+            "of {columns:?}"
+        );
     }
     Ok(())
 }
@@ -218,7 +231,10 @@ fn triplets_that_no_record_has(rt: HostRuntime) -> Result<(), Fail> {
     let rows = [
         ("Count 0,0=1|Flag 0,0", Some("([1][]_)")),
         ("Flag 0,1=true|Count 0,0=-5", Some("([-5][true]_)")),
-        ("Part.Size 0,2=1 2,2=2 1,1 1,2=3", Some("(__[(_[1 2]) (_[]) (_[3])])")),
+        (
+            "Part.Size 0,2=1 2,2=2 1,1 1,2=3",
+            Some("(__[(_[1 2]) (_[]) (_[3])])"),
+        ),
         // values of another kind, out of range, missing, or where none may be
         ("Count 0,0=true", None),
         ("Count 0,0=2147483648", None),
@@ -240,7 +256,11 @@ fn triplets_that_no_record_has(rt: HostRuntime) -> Result<(), Fail> {
     ];
     for (columns, expected) in rows {
         let found = assembled(rt.alloc(), SMALL, columns, 1)?;
-        assert_eq!(rt; found.as_ref().map(|text| text.as_str()), expected, "of {columns:?}");
+        assert_eq!(rt;
+            found.as_ref().map(|text| text.as_str()),
+            expected,
+            "of {columns:?}"
+        );
     }
     Ok(())
 }

@@ -1,11 +1,10 @@
 use Rattle.std.proofs.Common.{◌≡◌, List, Some, None, map, Vec, Global, sym, ap, ◌∙◌}
-use Rattle.dr_meaning.specs.Record as record_tree
 use Rattle.dr_meaning.specs.Record.{project}
 use Rattle.dr_nested.specs.declared.record.Node.{Node}
 use Rattle.dr_nested.specs.Views.{fields_view}
 use Rattle.dr_levels.specs.Views.{columns_view}
 use Rattle.dr_assemble.specs.Restoring.{restored_records, strips}
-use Rattle.dr_assemble.specs.Assembly.{HasColumns, AreProjections}
+use Rattle.dr_assemble.specs.Assembly.{AreProjections}
 use Rattle.dr_assemble.specs.Views.{strips_view, paths_view, nodes_view, columns_at}
 use Rattle.dr_assemble.proofs.AssemblyLemmas.{restored_has_columns, columns_restored, none_restored, others_restored, some_same, both_ok, one_ok, nothing_restored}
 use Rattle.dr_assemble.proofs.assembling.assemble.Goals as goal

@@ -1,5 +1,4 @@
 use Rattle.std.proofs.Common.{◌∙◌}
-use Rattle.dr_levels.specs.Views.{columns_view}
 use Rattle.dr_striper.specs.Stripers.{striped, striped_paths}
 use Rattle.dr_assemble.proofs.AssemblyLemmas.{columns_begin, columns_more}
 use Rattle.dr_assemble.proofs.assembling.columns_of.Goals as goal

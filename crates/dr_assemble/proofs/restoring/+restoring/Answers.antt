@@ -1,4 +1,4 @@
-use Rattle.std.proofs.Common.{◌≡◌, ◌≤◌, ◌<◌, ℕ, suc, ◌+◌, ◌-◌, ◌++◌, [], ◌∷◌, List, Option, Some, None, map, length, get_or, drop, Vec, Global, sym, ap, ap₂, ◌∙◌, arith}
+use Rattle.std.proofs.Common.{◌≡◌, ◌≤◌, ◌<◌, suc, ◌+◌, ◌-◌, ◌++◌, [], ◌∷◌, List, Option, Some, None, map, length, get_or, drop, Vec, Global, sym, ap, ap₂, ◌∙◌, arith}
 use Rattle.std.proofs.lemmas.List.{map-append}
 use Rattle.dr_meaning.specs.Record as record_tree
 use Rattle.dr_nested.specs.declared.shape.Field.{Field}
@@ -9,7 +9,7 @@ use Rattle.dr_levels.specs.Views.{triplet_view}
 use Rattle.dr_assemble.specs.Restoring as restoring
 use Rattle.dr_assemble.specs.Restoring.{first_pieces, other_pieces}
 use Rattle.dr_assemble.specs.Places.{at_place}
-use Rattle.dr_assemble.specs.Views.{strips_view, Restores}
+use Rattle.dr_assemble.specs.Views.{strips_view}
 use Rattle.dr_assemble.specs.declared.strip.Strip.{Strip}
 use Rattle.dr_assemble.proofs.LoopLemmas.{behind, shifted, behind_slots, instance_more, instance_fails, slot_more, slot_fails, slots_end, shape_depth-field, fails_from, restores_same, repeated_instances}
 use Rattle.dr_assemble.proofs.restoring.+restoring.Goals as goal

@@ -1,4 +1,4 @@
-use Rattle.std.proofs.Common.{◌≡◌, ◌<◌, ◌++◌, ℕ, [], length, drop, get_or, Vec}
+use Rattle.std.proofs.Common.{◌≡◌, ◌<◌, ◌++◌, ℕ, length, drop, get_or, Vec}
 use Rattle.std.specs.declared.alloc.Global.{Global}
 use Rattle.dr_assemble.specs.Views.{strips_view}
 use Rattle.dr_assemble.specs.Places.{at_place}
