@@ -178,27 +178,11 @@ fn restore_instances(
 {
     match field.rep {
         Rep::Required => restore_single(alloc, &field.shape, strips, level, definition),
-        Rep::Optional => {
-            if is_present(lead, definition) {
-                restore_single(alloc, &field.shape, strips, level, definition + 1)
-            } else {
-                Ok(Vec::new(alloc))
-            }
-        }
+        _ if !is_present(lead, definition) => Ok(Vec::new(alloc)),
+        Rep::Optional => restore_single(alloc, &field.shape, strips, level, definition + 1),
         Rep::Repeated => {
-            if is_present(lead, definition) {
-                let count = count_pieces(lead, level + 1);
-                restore_each(
-                    alloc,
-                    &field.shape,
-                    strips,
-                    count,
-                    level + 1,
-                    definition + 1,
-                )
-            } else {
-                Ok(Vec::new(alloc))
-            }
+            let count = count_pieces(lead, level + 1);
+            restore_each(alloc, &field.shape, strips, count, level + 1, definition + 1)
         }
     }
 }

@@ -1,6 +1,7 @@
-use Rattle.std.proofs.Common.{◌≡◌, ◌≤◌, ◌<◌, suc, ◌+◌, ◌-◌, ◌++◌, [], ◌∷◌, List, Option, Some, None, map, length, get_or, drop, Vec, Global, sym, ap, ap₂, ◌∙◌, arith}
+use Rattle.std.proofs.Common.{rules, ◌≡◌, ◌≤◌, ◌<◌, suc, ◌+◌, ◌-◌, ◌++◌, [], ◌∷◌, List, Option, Some, None, map, length, get_or, drop, Vec, Global, sym, ap, ap₂, ◌∙◌, arith}
 use Rattle.std.proofs.lemmas.List.{map-append}
 use Rattle.dr_meaning.specs.Record as record_tree
+use Rattle.dr_nested.specs.declared.shape.Rep.{Rep}
 use Rattle.dr_nested.specs.declared.shape.Field.{Field}
 use Rattle.dr_nested.specs.declared.record.Instance.{Instance}
 use Rattle.dr_nested.specs.Views.{rep_view, shape_view, fields_view, instance_view, slot_view, node_view}
@@ -41,11 +42,12 @@ restore_each-instances-preserved t c =
     instance_more f l (c.args.count - c.instances.done) (c.args.count - (c.instances.done + 1)) S (map instance_view c.instances.instances.items) m c.instances.invariant left (instance_view x) (sym (ap f piece) ∙ c.in_ok-restore_instance.ensures)
     ∙ ap₂ (λ (ys : List record_tree.Instance) (T : List restoring.Strip). behind ys (restoring.restored_each f l (c.args.count - (c.instances.done + 1)) T)) (sym pushed) (sym others)
 
-pub restore_instances-returns-then-is_present-2 : goal.restore_instances-returns-then-is_present-2
-restore_instances-returns-then-is_present-2 t c =
+pub restore_instances-returns-in-Repeated : goal.restore_instances-returns-in-Repeated
+restore_instances-returns-in-Repeated t c =
     let f = c.args.field.now in
+    let is : f.rep ≡ Rep.Repeated = search rules in
     restores_same (λ (v : Vec Instance Global). map instance_view v.items) _ _ c.restore_each.result
-    (repeated_instances f.rep (shape_view f.shape) c.args.level c.args.definition c.count_pieces-count.result (map triplet_view c.args.lead.now) (strips_view c.args.strips.now) c.in-Repeated.is c.if-is_present-2.ensures c.count_pieces-count.ensures)
+    (repeated_instances f.rep (shape_view f.shape) c.args.level c.args.definition c.count_pieces-count.result (map triplet_view c.args.lead.now) (strips_view c.args.strips.now) is c.if-not-is_present.ensures c.count_pieces-count.ensures)
     c.restore_each.ensures
 
 pub restore_node-restore_slot-requires : goal.restore_node-restore_slot-requires
