@@ -1,4 +1,4 @@
--- Restoring nodes of the triplets of their leaves. Nothing is looked at twice: whether the triplets are the columns of what is restored is left to a comparison.
+-- Restoring nodes of the triplets of their leaves. Whether what is restored has these triplets for its columns is left to a comparison.
 use Rattle.std.specs.Prelude.{ℕ, zero, suc, ◌+◌, List, [], ◌∷◌, map, Bool, true, ◌==◌, nat_lt, if◌then◌else◌, Option, Some, None, option_map, option_and_then}
 use Rattle.dr_meaning.specs.Schema.{Repetition, required, optional, repeated, Kind, Fields, no_fields, field, Shape, leaf, group, repetition_count, definition_count}
 use Rattle.dr_meaning.specs.Path.{Step}
@@ -42,7 +42,7 @@ abbrev pub strips_there : List Strip → List Strip
 strips_there [] = []
 strips_there (g ∷ S) = there_strip g.rest g.triplets (strips_there S)
 
--- ---- the pieces of a strip: each begins at the strip's begin or at a repetition level of at most l
+-- ---- the pieces of a strip: each begins where the strip does or at a repetition level of at most l
 
 -- up to the next repetition level of at most l; and from there
 abbrev pub above : ℕ → List Triplet → List Triplet

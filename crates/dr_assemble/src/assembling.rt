@@ -124,9 +124,10 @@ fn with_columns(
 }
 
 /// The projections to the leaves of the fields of as many records of the schema as there are rows, which have these
-/// columns, one for each field.
+/// columns, one for each field. Nodes are restored of the columns as if they were some records', and their columns are
+/// then compared with those given. The time is linear in the triplets and the rows.
 ///
-/// Errors: `BadData` where no such records have these columns; want of memory.
+/// Errors: `BadData` exactly where no such records have these columns; want of memory.
 pub fn assemble(
     alloc: Global,
     schema: &Schema,

@@ -182,7 +182,14 @@ fn restore_instances(
         Rep::Optional => restore_single(alloc, &field.shape, strips, level, definition + 1),
         Rep::Repeated => {
             let count = count_pieces(lead, level + 1);
-            restore_each(alloc, &field.shape, strips, count, level + 1, definition + 1)
+            restore_each(
+                alloc,
+                &field.shape,
+                strips,
+                count,
+                level + 1,
+                definition + 1,
+            )
         }
     }
 }
