@@ -2,3 +2,5 @@
 pub mod Views
 -- how a column changes
 pub mod Columns
+-- the orders of leaves
+pub mod Orders

@@ -5,6 +5,9 @@ mod chains;
 mod column;
 mod levels;
 mod moves;
+mod order;
+#[cfg(test)]
+mod order_tests;
 #[cfg(test)]
 mod tests;
 
@@ -12,3 +15,4 @@ pub use chains::chain;
 pub use column::{Column, Triplet};
 pub use levels::{common, max_d, max_r};
 pub use moves::{Branch, Kept, Move};
+pub use order::{reading_order, schema_order};

@@ -9,6 +9,7 @@ pub mod WorkedQueries
 pub mod WorkedMeaning
 pub mod WorkedWalk
 pub mod WorkedAsk
+pub mod WorkedStripe
 -- lemmas of the laws of schema text
 pub mod SchemaMachine
 pub mod SchemaAccepted

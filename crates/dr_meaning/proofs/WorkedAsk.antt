@@ -10,7 +10,8 @@ use Rattle.dr_meaning.specs.Lines.{lines_of, records_of, no_record, too_many_rec
 use Rattle.dr_meaning.specs.QueryText.{count_text}
 use Rattle.dr_meaning.specs.Query.{meaning}
 use Rattle.dr_meaning.specs.Print.{result_text}
-use Rattle.dr_meaning.specs.Ask.{ask, count_of, schema_refused, query_refused, line_refused, schema_refusal_text, line_refusal_text}
+use Rattle.dr_meaning.specs.Refusals.{schema_refused, query_refused, line_refused, schema_refusal_text, line_refusal_text}
+use Rattle.dr_meaning.specs.Ask.{ask, count_of}
 use Rattle.dr_meaning.proofs.WorkedSchemas.{document, document_text}
 use Rattle.dr_meaning.proofs.WorkedRecords.{line_10, line_20, line_30}
 

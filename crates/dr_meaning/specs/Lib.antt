@@ -16,10 +16,13 @@ pub mod Print
 pub mod Column
 pub mod Automaton
 pub mod Walk
--- input lines, query text, the first command
+-- input lines, query text; what commands refuse, and the commands
 pub mod Lines
 pub mod QueryText
+pub mod Refusals
 pub mod Ask
+pub mod Stripe
+pub mod Fsm
 -- laws, each proved on a law function of src/
 pub mod SchemaTextLaws
 pub mod ProjectionLaws

@@ -6,7 +6,8 @@ use Rattle.dr_meaning.specs.Path.{Step}
 use Rattle.dr_meaning.specs.Record.{Node}
 use Rattle.dr_meaning.specs.Lines as line
 use Rattle.dr_meaning.specs.SchemaText.{parse_schema, too_long, SchemaFault as SchemaFaultMeant}
-use Rattle.dr_meaning.specs.Ask.{AskRefusal, ask, ask_schema, ask_query, ask_records, count_of, count_query, schema_refused}
+use Rattle.dr_meaning.specs.Refusals.{CommandRefusal, schema_refused}
+use Rattle.dr_meaning.specs.Ask.{ask, ask_schema, ask_query, ask_records, count_of, count_query, most_records}
 use Rattle.dr_meaning.specs.Query.{Query}
 use Rattle.dr_nested.specs.Faults.{problem_view, schema_fault_view}
 use Rattle.dr_nested.specs.declared.fault.SchemaFault.{SchemaFault}
@@ -28,7 +29,7 @@ total_answers (Some bytes) s name p total text h e =
     ap (ask_records s (count_query name p)) h.1
     ∙ ap (λ (t : List ℕ). Ok t) (text_of_count s.fields name p h.0 ∙ ap (count_text name) (sym h.2) ∙ sym e)
 
-pub line_refusal_answers : (input : Option (List ℕ)) (s : Schema) (name : List ℕ) (p : List Step) (r : Refusal) → IsLineRefusal s.fields input r → HasRecordsAnswer input s (count_query name p) (Err (refusal_view r))
+pub line_refusal_answers : (input : Option (List ℕ)) (s : Schema) (name : List ℕ) (p : List Step) (r : Refusal) → IsLineRefusal s.fields most_records input r → HasRecordsAnswer input s (count_query name p) (Err (refusal_view r))
 line_refusal_answers None s name p r h = tt
 line_refusal_answers (Some bytes) s name p r h = ap (ask_records s (count_query name p)) h.1 ∙ ap Err (sym h.2)
 
@@ -67,7 +68,7 @@ query_refusal_answers (Some fs) None path p text query s r e q f n k = tt
 query_refusal_answers (Some fs) (Some bytes) path p text query s r e q f n k =
     (f.0, ap fs (sym e) ∙ f.1, ap (ask_schema query bytes) f.2 ∙ ap (ask_query s bytes) (ap (count_of s) (sym q) ∙ n) ∙ ap (λ (t : Refusal). Err (refusal_view t)) (sym k))
 
-pub records_answers : (files : Option Files) (input : Option (List ℕ)) (path p text query : List ℕ) (s : Schema) (q : Query) (answer : Result (List ℕ) AskRefusal) → path ≡ p → text ≡ query → IsFileSchema files path s → count_of s text ≡ Some q
+pub records_answers : (files : Option Files) (input : Option (List ℕ)) (path p text query : List ℕ) (s : Schema) (q : Query) (answer : Result (List ℕ) CommandRefusal) → path ≡ p → text ≡ query → IsFileSchema files path s → count_of s text ≡ Some q
     → HasRecordsAnswer input s q answer → HasAnswer files input p query answer
 unfolding ask
 records_answers None input path p text query s q answer e t f n h = tt

@@ -1,9 +1,9 @@
 -- What the words of a command line ask for, from clap's answers.
 use Rattle.std.proofs.Common.{◌≡◌, ◌∙◌, Bool, cond, true, false, true≢false, refl, sym, ap, subst, List, [], ◌∷◌, Option, Some, None, is_some, Result, Ok, Err, IfOk}
-use Rattle.std.specs.Prelude.{IsSome, codes, option_and_then, option_map}
+use Rattle.std.specs.Prelude.{IsSome, bytes_eq, codes, option_and_then, option_map, slice_get}
 use Rattle.std.specs.List.{find, list_all}
 use Rattle.std.specs.Option.{option_map_or}
-use Rattle.clap.specs.Words.{App, HasMatchesOf, Kinds, Shape, Text, built, fault_of, first_of, is_simple, is_simple_and_free, kind_of, subcommand_of, subcommand_rows_of, takes}
+use Rattle.clap.specs.Words.{App, HasMatchesOf, Kinds, Row, Shape, Text, all_of, built, fault_of, first_of, is_simple, is_simple_and_free, kind_of, subcommand_of, subcommand_rows_of, takes}
 use Rattle.clap.specs.Walk.{answers_to, finished, nothing_held, rows_after, walk, walk_from}
 use Rattle.clap.specs.Simple.{argument_words, built_leaf, entered, inherited, label_of, marked_built, names_of, on_top, rows_at}
 use Rattle.clap.specs.Takes.{default_passes, entered_passes, is_valid, level_passes, settle_passes, walk_passes}
@@ -12,7 +12,7 @@ use Rattle.clap.specs.declared.Error.{Error}
 use Rattle.clap.specs.declared.error.ErrorKind.TheVariants.{OutOfMemory}
 use Rattle.clap.proofs.OnLiterals.{clap_on_literals}
 use Rattle.clap.proofs.WalkLemmas.{both}
-use Rattle.dr_top.specs.Words.{CommandWords, FaultlessAreTaken, Taken, TakenAsk, ask, ask_app, asked, dremel_app, words_in}
+use Rattle.dr_top.specs.Words.{CommandWords, FaultlessAreTaken, Taken, TakenAsk, ask, ask_app, asked, dremel_app, fsm, fsm_app, stripe, stripe_app, words_in}
 use Rattle.dr_top.specs.WordsViews.{Answers, command_view}
 use Rattle.dr_top.specs.declared.words.Command.{Command}
 use Rattle.dr_top.specs.declared.words.WordsFault.{WordsFault}
@@ -92,6 +92,44 @@ ask_has_values words passes none =
     both_there (Some a) None s q e = cc
     both_there (Some a) (Some b) s q e = cc
 
+abbrev stripe_shape : Shape
+stripe_shape = built_leaf (inherited (on_top marked_built dremel_app).top stripe_app.top)
+
+-- so has `stripe`
+stripe_has_values : (words : List Text) → level_passes stripe_shape [] nothing_held words false ≡ true → words_in (Some (rows_at stripe_shape words)) ≡ None → ⊥
+stripe_has_values words passes none =
+    let needed = taken_has_needed stripe_shape words refl refl passes in
+    both_there (first_of (codes "schema") (rows_after stripe_shape.rules [] words)) (first_of (codes "field") (rows_after stripe_shape.rules [] words)) (needed.0 refl)
+    (needed.1.0 refl) none
+  where
+    both_there : (schema field : Option Text) → Has schema → Has field
+        → option_map stripe (option_and_then (λ a. option_map (λ b. record { schema = a; field = b }) field) schema) ≡ None → ⊥
+    both_there None field s q e = cc
+    both_there (Some a) None s q e = cc
+    both_there (Some a) (Some b) s q e = cc
+
+abbrev fsm_shape : Shape
+fsm_shape = built_leaf (inherited (on_top marked_built dremel_app).top fsm_app.top)
+
+-- what has a first value has values
+first_and_all : (row : Option Row) → Has (option_and_then (λ (r : Row). slice_get r.values 0) row) → option_map (λ (r : Row). r.values) row ≡ None → ⊥
+first_and_all None h e = h
+first_and_all (Some r) h e = cc
+
+-- and `fsm`
+fsm_has_values : (words : List Text) → level_passes fsm_shape [] nothing_held words false ≡ true → words_in (Some (rows_at fsm_shape words)) ≡ None → ⊥
+fsm_has_values words passes none =
+    let needed = taken_has_needed fsm_shape words refl refl passes in
+    let row = find (λ (r : Row). bytes_eq r.id (codes "field")) (rows_after fsm_shape.rules [] words) in
+    both_there (first_of (codes "schema") (rows_after fsm_shape.rules [] words)) (all_of (codes "field") (rows_after fsm_shape.rules [] words)) (needed.0 refl)
+    (first_and_all row (needed.1.0 refl)) none
+  where
+    both_there : (schema : Option Text) (fields : Option (List Text)) → Has schema → (fields ≡ None → ⊥)
+        → option_map fsm (option_and_then (λ a. option_map (λ b. record { schema = a; fields = b }) fields) schema) ≡ None → ⊥
+    both_there None fields s q e = cc
+    both_there (Some a) None s q e = q refl
+    both_there (Some a) (Some b) s q e = cc
+
 -- each of these subcommands has its values where clap takes its words
 abbrev HaveValues : List Shape → Type 0
 HaveValues [] = Unit {0}
@@ -117,7 +155,7 @@ found_has_values (s ∷ rest) name words have passes there none =
 
 -- one part for each subcommand
 all_have_values : HaveValues completed.subs
-all_have_values = (ask_has_values, tt)
+all_have_values = (ask_has_values, (stripe_has_values, (fsm_has_values, tt)))
 
 entered_has_values : (stop : Option (Text × List Text)) → entered_passes completed stop ≡ true → is_some (entered completed stop) ≡ true
     → words_in (entered completed stop) ≡ None → ⊥

@@ -5,7 +5,8 @@ use Rattle.dr_meaning.specs.SchemaText.{SchemaFault, parse_schema}
 use Rattle.dr_meaning.specs.Path.{Step}
 use Rattle.dr_meaning.specs.Lines.{records_of}
 use Rattle.dr_meaning.specs.Query.{Query}
-use Rattle.dr_meaning.specs.Ask.{AskRefusal, schema_refused, ask_records, most_records}
+use Rattle.dr_meaning.specs.Refusals.{CommandRefusal, schema_refused}
+use Rattle.dr_meaning.specs.Ask.{ask_records, most_records}
 use Rattle.dr_outside.specs.Link.{Files}
 use Rattle.dr_top.specs.Asking.{WhereTold}
 use Rattle.dr_top.specs.Stops.{refusal_view}
@@ -20,5 +21,5 @@ abbrev pub IsSchemaRefusal : Option Files → List ℕ → Refusal → Type 0
 IsSchemaRefusal files path r = WhereTold files (λ fs. (bytes : List ℕ) × (e : SchemaFault) × (fs path ≡ Some bytes) × (parse_schema bytes ≡ Err e) × (refusal_view r ≡ schema_refused e))
 
 -- the answer of a query on the records of the input
-abbrev pub HasRecordsAnswer : Option (List ℕ) → Schema → Query → Result (List ℕ) AskRefusal → Type 0
+abbrev pub HasRecordsAnswer : Option (List ℕ) → Schema → Query → Result (List ℕ) CommandRefusal → Type 0
 HasRecordsAnswer input schema query answer = WhereTold input (λ bytes. ask_records schema query (records_of schema.fields most_records bytes) ≡ answer)

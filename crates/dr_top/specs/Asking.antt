@@ -2,7 +2,8 @@
 use Rattle.std.specs.Prelude.{◌≡◌, ◌<◌, ℕ, List, [], ◌++◌, length, ◌⊎◌, Option, Some, None, Result, Ok, Err, ⊤}
 use Rattle.dr_meaning.specs.Schema.{Schema}
 use Rattle.dr_meaning.specs.SchemaText.{parse_schema, longest_schema}
-use Rattle.dr_meaning.specs.Ask.{AskRefusal, ask}
+use Rattle.dr_meaning.specs.Refusals.{CommandRefusal}
+use Rattle.dr_meaning.specs.Ask.{ask}
 use Rattle.dr_outside.specs.Faults.{Rose}
 use Rattle.dr_outside.specs.Link.{Files}
 use Rattle.dr_outside.specs.Sink.{Added, AddedFront}
@@ -13,7 +14,7 @@ WhereTold None P = ⊤
 WhereTold (Some a) P = P a
 
 -- the schema file at this path, the query and the input have this answer, where keeper and source tell what they hold
-abbrev pub HasAnswer : Option Files → Option (List ℕ) → List ℕ → List ℕ → Result (List ℕ) AskRefusal → Type 0
+abbrev pub HasAnswer : Option Files → Option (List ℕ) → List ℕ → List ℕ → Result (List ℕ) CommandRefusal → Type 0
 HasAnswer files input path query answer = WhereTold files (λ fs. WhereTold input (λ bytes. (schema : List ℕ) × (fs path ≡ Some schema) × (ask schema query bytes ≡ answer)))
 
 -- a text stands behind what was written before, or a front of it does and the count rose

@@ -1,42 +1,72 @@
--- Counting over the records of input lines, one at a time.
-use Rattle.std.specs.Prelude.{◌≡◌, ◌≤◌, ◌+◌, ℕ, suc, List, [], ◌∷◌, Option, Some, None, Result, Ok, Err, ⊤}
+-- Reading the records of input lines, one at a time.
+use Rattle.std.specs.Prelude.{◌≡◌, ℕ, suc, List, [], ◌∷◌, map, Option, Some, None, Result, Ok, Err, ⊤}
 use Rattle.dr_meaning.specs.Schema.{Fields}
 use Rattle.dr_meaning.specs.Path.{Step}
-use Rattle.dr_meaning.specs.Record.{Node}
-use Rattle.dr_meaning.specs.JsonRecord.{RecordFault, record_of_line, most_instances}
+use Rattle.dr_meaning.specs.Record as tree
+use Rattle.dr_meaning.specs.Column.{Triplet, column}
+use Rattle.dr_meaning.specs.JsonRecord.{RecordFault, record_of_line}
 use Rattle.dr_meaning.specs.Lines as line
-use Rattle.dr_meaning.specs.Ask.{most_records, line_refused}
+use Rattle.dr_meaning.specs.Refusals.{line_refused}
+use Rattle.dr_meaning.specs.Ask.{most_records}
+use Rattle.dr_meaning.specs.Stripe.{most_striped}
+use Rattle.dr_nested.specs.Views.{node_view}
+use Rattle.dr_nested.specs.declared.record.Node.{Node}
 use Rattle.dr_top.specs.Asking.{WhereTold}
-use Rattle.dr_top.specs.Counting.{value_count, total_count}
-use Rattle.dr_top.specs.Stops.{line_problem_view, refusal_view}
+use Rattle.dr_top.specs.Counting.{total_count}
+use Rattle.dr_top.specs.Stops.{refusal_view}
 use Rattle.dr_top.specs.declared.refusal.Refusal.{Refusal}
 use Rattle.dr_top.specs.declared.refusal.Stop.{Stop}
 
--- a line's record adds its values to the total, or the line is refused by this number
-abbrev pub AddsRecord : Fields → List Step → List ℕ → ℕ → ℕ → Result ℕ Stop → Type 0
-AddsRecord fs p bytes number total (Ok sum) = (n : Node) × (record_of_line fs bytes ≡ Ok n) × (sum ≡ total + value_count p n) × (sum ≤ total + most_instances)
-AddsRecord fs p bytes number total (Err Stop.NoMemory) = ⊤
-AddsRecord fs p bytes number total (Err Stop.Source) = ⊥
-AddsRecord fs p bytes number total (Err Stop.Keeper) = ⊥
-AddsRecord fs p bytes number total (Err (Stop.Refused r)) = (e : RecordFault) × (record_of_line fs bytes ≡ Err e) × (refusal_view r ≡ line_refused (record { line = number; fault = line.no_record e }))
+-- a line's record, or the line is refused by this number
+abbrev pub ReadsLine : Fields → List ℕ → ℕ → Result Node Stop → Type 0
+ReadsLine fs bytes number (Ok n) = record_of_line fs bytes ≡ Ok (node_view n)
+ReadsLine fs bytes number (Err Stop.NoMemory) = ⊤
+ReadsLine fs bytes number (Err Stop.Source) = ⊥
+ReadsLine fs bytes number (Err Stop.Keeper) = ⊥
+ReadsLine fs bytes number (Err (Stop.Refused r)) = (e : RecordFault) × (record_of_line fs bytes ≡ Err e) × (refusal_view r ≡ line_refused (record { line = number; fault = line.no_record e }))
+
+-- this is the first record of what was left, behind so many lines, and the others are those of what is left now; nothing is said of a source that doesn't tell
+abbrev pub TakesRecord : Fields → ℕ → ℕ → Option (List ℕ) → tree.Node → Option (List ℕ) → Type 0
+TakesRecord fs most number None n now = ⊤
+TakesRecord fs most number (Some all) n None = ⊥
+TakesRecord fs most number (Some all) n (Some rest) =
+    line.records_from fs most (suc number) (line.lines_of all) ≡ line.before_records n (line.records_from fs most (suc (suc number)) (line.lines_of rest))
+
+-- the first line of what was left is refused, so
+abbrev pub RefusesNext : Fields → ℕ → ℕ → Option (List ℕ) → Refusal → Type 0
+RefusesNext fs most number left r = WhereTold left (λ all. (e : line.Refusal) × (line.records_from fs most (suc number) (line.lines_of all) ≡ Err e) × (refusal_view r ≡ line_refused e))
 
 -- the records of an input, behind those read before
-abbrev pub behind : List Node → Result (List Node) line.Refusal → Result (List Node) line.Refusal
+abbrev pub behind : List tree.Node → Result (List tree.Node) line.Refusal → Result (List tree.Node) line.Refusal
 behind [] r = r
 behind (n ∷ ns) r = line.before_records n (behind ns r)
 
--- so many lines have been read, their records have this total, and the others are still to be read
-abbrev pub HasRead : Fields → List Step → Option (List ℕ) → Option (List ℕ) → ℕ → ℕ → Type 0
-HasRead fs p None now number total = ⊤
-HasRead fs p (Some all) None number total = ⊥
-HasRead fs p (Some all) (Some rest) number total = (ns : List Node)
-    × (line.records_from fs most_records 1 (line.lines_of all) ≡ behind ns (line.records_from fs most_records (suc number) (line.lines_of rest)))
-    × (total ≡ total_count p ns)
+-- so many lines have been read, P holds of their records, and the others are still to be read
+abbrev pub HasRead : Fields → ℕ → (List tree.Node → Type 0) → Option (List ℕ) → Option (List ℕ) → ℕ → Type 0
+HasRead fs most P None now number = ⊤
+HasRead fs most P (Some all) None number = ⊥
+HasRead fs most P (Some all) (Some rest) number = (ns : List tree.Node)
+    × (line.records_from fs most 1 (line.lines_of all) ≡ behind ns (line.records_from fs most (suc number) (line.lines_of rest)))
+    × P ns
 
--- the input's records have this total
+-- P holds of the input's records, of which there are at most so many
+abbrev pub OfRecords : Fields → ℕ → (List tree.Node → Type 0) → Option (List ℕ) → Type 0
+OfRecords fs most P input = WhereTold input (λ bytes. (ns : List tree.Node) × (line.records_of fs most bytes ≡ Ok ns) × P ns)
+
+-- the records have this total
+abbrev pub IsTotal : List Step → ℕ → List tree.Node → Type 0
+IsTotal p total ns = total ≡ total_count p ns
+
 abbrev pub HasTotal : Fields → List Step → Option (List ℕ) → ℕ → Type 0
-HasTotal fs p input total = WhereTold input (λ bytes. (ns : List Node) × (line.records_of fs most_records bytes ≡ Ok ns) × (total ≡ total_count p ns))
+HasTotal fs p input total = OfRecords fs most_records (IsTotal p total) input
+
+-- the records have these columns
+abbrev pub AreColumns : List (List Step) → List (List Triplet) → List tree.Node → Type 0
+AreColumns F columns ns = columns ≡ map (λ p. column p ns) F
+
+abbrev pub HasColumns : Fields → List (List Step) → Option (List ℕ) → List (List Triplet) → Type 0
+HasColumns fs F input columns = OfRecords fs most_striped (AreColumns F columns) input
 
 -- a line of the input is the first that is refused, so
-abbrev pub IsLineRefusal : Fields → Option (List ℕ) → Refusal → Type 0
-IsLineRefusal fs input r = WhereTold input (λ bytes. (e : line.Refusal) × (line.records_of fs most_records bytes ≡ Err e) × (refusal_view r ≡ line_refused e))
+abbrev pub IsLineRefusal : Fields → ℕ → Option (List ℕ) → Refusal → Type 0
+IsLineRefusal fs most input r = WhereTold input (λ bytes. (e : line.Refusal) × (line.records_of fs most bytes ≡ Err e) × (refusal_view r ≡ line_refused e))

@@ -1,6 +1,6 @@
 -- How a run ends.
 use Rattle.std.specs.Prelude.{◌≡◌, ℕ, List, [], codes, ◌⊎◌, Option, Some, None, Ok, Err, ⊤}
-use Rattle.dr_meaning.specs.Ask.{AskRefusal}
+use Rattle.dr_meaning.specs.Refusals.{CommandRefusal}
 use Rattle.dr_outside.specs.Faults.{Rose}
 use Rattle.dr_outside.specs.Link.{Files}
 use Rattle.dr_outside.specs.Sink.{Added, AddedFront}
@@ -32,7 +32,7 @@ IsCalm seen = HasRisen seen → ⊥
 
 -- neither the schema at this path, nor the query, nor a line of the input is refused
 abbrev pub IsAccepted : Option Files → Option (List ℕ) → AskWords → Type 0
-IsAccepted files input w = (r : AskRefusal) → HasAnswer files input w.schema w.query (Err r) → ⊥
+IsAccepted files input w = (r : CommandRefusal) → HasAnswer files input w.schema w.query (Err r) → ⊥
 
 -- status 0: the whole answer was written, and the input was read to its end
 abbrev pub Prints : Option Files → AskWords → Seen → Seen → Type 0
@@ -40,7 +40,7 @@ Prints files w source out = (text : List ℕ) × HasAnswer files source.before w
 
 -- status 2: the answer is a refusal, which err names; out is as it was
 abbrev pub IsRefused : Option Files → AskWords → Seen → Seen → Seen → Type 0
-IsRefused files w source out err = (r : AskRefusal) × (line : List ℕ) × HasAnswer files source.before w.schema w.query (Err r) × IsRefusalText r line × Says err line × IsSame out
+IsRefused files w source out err = (r : CommandRefusal) × (line : List ℕ) × HasAnswer files source.before w.schema w.query (Err r) × IsRefusalText r line × Says err line × IsSame out
 
 -- status 4: the count of the object that err names rose; out is as it was, or holds a front of the answer where it is out
 abbrev pub IsOutside : Option Files → AskWords → Seen → Seen → Seen → Seen → Type 0

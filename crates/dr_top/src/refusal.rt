@@ -1,13 +1,13 @@
-//! What `ask` is stopped by.
+//! What a command is stopped by.
 
 ghost use Rattle.std.specs.Prelude.{◌≡◌, ◌≤◌, ◌+◌, ◌++◌, length, decimal};
-ghost use Rattle.dr_meaning.specs.Ask.{schema_problem_name, line_fault_name, schema_refusal_text, line_refusal_text};
+ghost use Rattle.dr_meaning.specs.Refusals.{schema_problem_name, path_fault_name, line_fault_name, schema_refusal_text, field_refusal_text, line_refusal_text};
 ghost use Rattle.dr_nested.specs.Faults.{problem_view};
-ghost use Rattle.dr_top.specs.Stops.{IsProblemOf, RefusalText, line_problem_view};
+ghost use Rattle.dr_top.specs.Stops.{IsFieldProblemOf, IsProblemOf, RefusalText, field_problem_view, line_problem_view};
 
 use crate::report::Report;
 use dr_json::RecordFault;
-use dr_nested::SchemaProblem;
+use dr_nested::{PathFault, SchemaProblem};
 use itoa::Buffer;
 
 /// What is wrong with an input line.
@@ -26,6 +26,13 @@ pub enum LineProblem {
     TooLarge,
 }
 
+/// What is wrong with a FIELD.
+#[derive(Clone, Copy, PartialEq, Eq, Debug)]
+pub enum FieldProblem {
+    UnknownField,
+    NotALeaf,
+}
+
 /// What is refused, in the order in which it is looked at.
 #[derive(Clone, Copy, PartialEq, Eq, Debug)]
 pub enum Refusal {
@@ -33,6 +40,11 @@ pub enum Refusal {
     Schema {
         place: usize,
         problem: SchemaProblem,
+    },
+    /// The first FIELD that is refused, counted from 0.
+    Field {
+        number: usize,
+        problem: FieldProblem,
     },
     /// The query.
     Query,
@@ -52,6 +64,17 @@ pub enum Stop {
     /// The keeper failed.
     Keeper,
     Refused(Refusal),
+}
+
+/// The problem of a path's fault; want of memory is none.
+pub fn field_problem_of(fault: PathFault) -> Option<FieldProblem>
+    ensures { IsFieldProblemOf fault result }
+{
+    match fault {
+        PathFault::UnknownField => Some(FieldProblem::UnknownField),
+        PathFault::NotALeaf => Some(FieldProblem::NotALeaf),
+        PathFault::NoMemory => None,
+    }
 }
 
 /// The problem of a fault; want of memory is none.
@@ -84,6 +107,17 @@ fn schema_word(problem: SchemaProblem) -> &'static str
         SchemaProblem::DuplicateName => "DuplicateName",
         SchemaProblem::TooDeep => "TooDeep",
         SchemaProblem::TooManyLeaves => "TooManyLeaves",
+    }
+}
+
+/// The word for a FIELD's problem.
+fn field_word(problem: FieldProblem) -> &'static str
+    ensures word { result.now ≡ path_fault_name (field_problem_view problem) }
+    ensures short { length result.now ≤ 20 }
+{
+    match problem {
+        FieldProblem::UnknownField => "UnknownField",
+        FieldProblem::NotALeaf => "NotALeaf",
     }
 }
 
@@ -128,6 +162,19 @@ fn schema_report(place: usize, problem: SchemaProblem) -> Report
     report
 }
 
+/// `refused field N: WHAT`.
+fn field_report(number: usize, problem: FieldProblem) -> Report
+    ensures { result ≡ field_refusal_text number (field_problem_view problem) }
+{
+    let mut report = Report::new();
+    report.push("refused field ");
+    push_number(&mut report, number as u64);
+    report.push(": ");
+    report.push(field_word(problem));
+    report.push("\n");
+    report
+}
+
 /// `refused line N: WHAT`.
 fn line_report(number: u64, problem: LineProblem) -> Report
     ensures { result ≡ line_refusal_text (record { line = number; fault = line_problem_view problem }) }
@@ -158,6 +205,7 @@ impl Refusal {
     {
         match self {
             Refusal::Schema { place, problem } => schema_report(place, problem),
+            Refusal::Field { number, problem } => field_report(number, problem),
             Refusal::Query => plain_report("refused query at 0: Syntax\n"),
             Refusal::Line { number, problem } => line_report(number, problem),
         }

@@ -1,71 +1,52 @@
-use Rattle.std.proofs.Common.{arith, ◌≡◌, ◌≤◌, ◌<◌, ◌+◌, ap, map, ℕ, suc, sym, ◌∙◌, refl, add-one, Err}
-use Rattle.dr_meaning.specs.JsonRecord.{record_of_line}
-use Rattle.dr_meaning.specs.Lines.{line_too_long, too_many_records, no_record}
+use Rattle.std.proofs.Common.{arith, ◌≡◌, ◌≤◌, ◌+◌, ap, map, ℕ, Err}
+use Rattle.dr_meaning.specs.Record.{instance_count}
+use Rattle.dr_meaning.specs.JsonRecord.{most_instances}
+use Rattle.dr_nested.specs.declared.record.Node.{Node}
 use Rattle.dr_meaning.specs.Ask.{most_records}
-use Rattle.dr_top.specs.declared.refusal.LineProblem.{LineProblem}
-use Rattle.dr_top.specs.declared.refusal.Refusal.{Refusal}
-use Rattle.dr_top.specs.declared.refusal.Stop.{Stop}
 use Rattle.dr_nested.specs.Views.{fields_view, node_view}
 use Rattle.dr_nested.specs.PathView.{step_view}
-use Rattle.dr_lines.specs.Cutting.{rest_of, pending, last_line}
-use Rattle.dr_top.proofs.RecordLemmas.{read_start, read_more, read_all, all_ended, read_refused, read_long, at_late_line, at_good_line, is_line_refusal, refusal_told, adds_refused}
+use Rattle.dr_lines.specs.Cutting.{rest_of, pending}
+use Rattle.dr_top.specs.Records.{IsTotal}
+use Rattle.dr_top.specs.declared.refusal.Stop.{Stop}
+use Rattle.dr_top.proofs.RecordLemmas.{read_start, read_more, read_all, all_ended, read_refused, no_total, more_total, some_of, none_of}
 use Rattle.dr_top.proofs.records.count_records.Goals as goal
 
-pub lines-init : goal.lines-init
-lines-init g c = record {
-  has_read = read_start (fields_view c.args.schema.now.fields.items) (map step_view c.args.steps.now) (g.S.Source.left c.args.source.now) (pending c.in-Ok.lines) c.in-Ok.ensures.pending;
+pub records-init : goal.records-init
+records-init g c = record {
+  has_read = read_start (fields_view c.args.schema.now.fields.items) most_records (IsTotal (map step_view c.args.steps.now) 0) (g.S.Source.left c.args.source.now) (pending c.in-Ok.lines) c.in-Ok.ensures.pending (no_total (map step_view c.args.steps.now));
   not_stopped = c.in-Ok.ensures.fault;
   within = omega arith;
   small = omega arith;
   never_falls = omega arith;
 }
 
-pub returns-in-Ok-false-clause-total : goal.returns-in-Ok-false-clause-total
-returns-in-Ok-false-clause-total g c =
-    read_all (fields_view c.args.schema.now.fields.items) (map step_view c.args.steps.now) (g.S.Source.left c.args.source.now) (rest_of c.lines.lines (g.S.Source.left c.lines.source)) (rest_of c.next.new.self (g.S.Source.left c.next.new.source))
-    c.lines.number c.lines.total c.lines.invariant.has_read (c.in-Ok-false.ensures.end c.in-Ok-false.field-0-test)
-
-pub returns-in-Ok-false-clause-end : goal.returns-in-Ok-false-clause-end
-returns-in-Ok-false-clause-end g c =
-    all_ended (fields_view c.args.schema.now.fields.items) (map step_view c.args.steps.now) (g.S.Source.left c.args.source.now) (rest_of c.lines.lines (g.S.Source.left c.lines.source)) (g.S.Source.left c.next.new.source) (pending c.next.new.self)
-    c.lines.number c.lines.total c.lines.invariant.has_read (c.in-Ok-false.ensures.end c.in-Ok-false.field-0-test)
-
-pub returns-in-Err-TooLong-clause-refused : goal.returns-in-Err-TooLong-clause-refused
-returns-in-Err-TooLong-clause-refused g c = λ r e.
-    let q : Refusal.Line (c.lines.number + 1) LineProblem.TooLong ≡ r = cc (e, c.refused.ensures) in
-    is_line_refusal (fields_view c.args.schema.now.fields.items) (g.S.Source.left c.args.source.now) c.lines.number (c.lines.number + 1) LineProblem.TooLong line_too_long r q refl (add-one c.lines.number)
-    (read_long (fields_view c.args.schema.now.fields.items) (map step_view c.args.steps.now) (g.S.Source.left c.args.source.now) (rest_of c.lines.lines (g.S.Source.left c.lines.source)) c.lines.number c.lines.total
-    c.lines.invariant.has_read (c.in-Err-TooLong.ensures.long c.lines.invariant.not_stopped (cc)))
-
-pub returns-then-number-gt-MOST_RECORDS-clause-refused : goal.returns-then-number-gt-MOST_RECORDS-clause-refused
-returns-then-number-gt-MOST_RECORDS-clause-refused g c = λ r e.
-    let q : Refusal.Line (c.lines.number + 1) LineProblem.TooManyRecords ≡ r = cc (e, c.refused-then-number-gt-MOST_RECORDS.ensures) in
-    let m : most_records < suc c.lines.number = omega (arith, c.if-number-gt-MOST_RECORDS.true) in
-    is_line_refusal (fields_view c.args.schema.now.fields.items) (g.S.Source.left c.args.source.now) c.lines.number (c.lines.number + 1) LineProblem.TooManyRecords too_many_records r q refl (add-one c.lines.number)
-    (read_refused (fields_view c.args.schema.now.fields.items) (map step_view c.args.steps.now) (g.S.Source.left c.args.source.now) (rest_of c.lines.lines (g.S.Source.left c.lines.source)) (rest_of c.next.new.self (g.S.Source.left c.next.new.source)) c.lines.number c.lines.total (last_line c.next.new.self) too_many_records
-    c.lines.invariant.has_read (c.in-Ok-true.ensures.cuts c.in-Ok-true.field-0-test)
-    (at_late_line (fields_view c.args.schema.now.fields.items) (suc c.lines.number) (last_line c.next.new.self) (c.in-Ok-true.ensures.short c.in-Ok-true.field-0-test) m))
-
-pub lines-preserved : goal.lines-preserved
-lines-preserved g c =
-    let p = c.in-Ok-add_record.ensures in
+pub records-preserved : goal.records-preserved
+records-preserved g c =
+    let p = map step_view c.args.steps.now in
+    let sum = c.records.total + c.count_values-total.result in
+    let small = some_of (λ (n : Node). instance_count (node_view n) ≤ most_instances) c.in-Ok-Some.field-0 c.in-Ok-Some.node c.in-Ok-Some.field-0-is c.in-Ok-Some.ensures.small in
     record {
-      has_read = read_more (fields_view c.args.schema.now.fields.items) (map step_view c.args.steps.now) (g.S.Source.left c.args.source.now) (rest_of c.lines.lines (g.S.Source.left c.lines.source)) (rest_of c.next.new.self (g.S.Source.left c.next.new.source)) c.lines.number c.lines.total c.in-Ok-add_record.sum (last_line c.next.new.self) p.0
-          c.lines.invariant.has_read (c.in-Ok-true.ensures.cuts c.in-Ok-true.field-0-test) (c.in-Ok-true.ensures.short c.in-Ok-true.field-0-test) c.if-number-gt-MOST_RECORDS.false
-          (ap (record_of_line (fields_view c.args.schema.now.fields.items)) (sym c.line.ensures) ∙ p.1) p.2;
-      not_stopped = c.in-Ok-true.ensures.goes_on;
-      within = c.if-number-gt-MOST_RECORDS.false;
-      small = omega (arith, p.3, c.lines.invariant.small);
-      never_falls = omega (arith, c.in-Ok-true.ensures.never_falls, c.lines.invariant.never_falls);
+      has_read = read_more (fields_view c.args.schema.now.fields.items) most_records (IsTotal p c.records.total) (IsTotal p sum) (g.S.Source.left c.args.source.now) (rest_of c.records.lines (g.S.Source.left c.records.source)) (rest_of c.next_record.new.lines (g.S.Source.left c.next_record.new.source)) c.records.number (node_view c.in-Ok-Some.node)
+          c.records.invariant.has_read (some_of _ c.in-Ok-Some.field-0 c.in-Ok-Some.node c.in-Ok-Some.field-0-is c.in-Ok-Some.ensures.record)
+          (more_total p c.records.total sum (node_view c.in-Ok-Some.node) (ap (λ (k : ℕ). c.records.total + k) (c.count_values-total.ensures.count (omega (arith, small)))));
+      not_stopped = c.in-Ok-Some.ensures.goes_on;
+      within = some_of (λ (n : Node). c.records.number + 1 ≤ 409600000) c.in-Ok-Some.field-0 c.in-Ok-Some.node c.in-Ok-Some.field-0-is c.in-Ok-Some.ensures.within;
+      small = omega (arith, c.count_values-total.ensures.within, small, c.records.invariant.small);
+      never_falls = omega (arith, c.in-Ok-Some.ensures.never_falls, c.records.invariant.never_falls);
     }
 
-pub returns-in-Err-add_record-clause-refused : goal.returns-in-Err-add_record-clause-refused
-returns-in-Err-add_record-clause-refused g c = λ r e.
-    let q : c.in-Err-add_record.stop ≡ Stop.Refused r = cc (e) in
-    let p = adds_refused (fields_view c.args.schema.now.fields.items) (map step_view c.args.steps.now) c.line.result.now (c.lines.number + 1) c.lines.total c.in-Err-add_record.stop r q c.in-Err-add_record.ensures in
-    let m : suc c.lines.number ≤ most_records = omega (arith, c.if-number-gt-MOST_RECORDS.false) in
-    refusal_told (fields_view c.args.schema.now.fields.items) (g.S.Source.left c.args.source.now) c.lines.number (c.lines.number + 1) (no_record p.0) r (add-one c.lines.number) p.2
-    (read_refused (fields_view c.args.schema.now.fields.items) (map step_view c.args.steps.now) (g.S.Source.left c.args.source.now) (rest_of c.lines.lines (g.S.Source.left c.lines.source)) (rest_of c.next.new.self (g.S.Source.left c.next.new.source)) c.lines.number c.lines.total (last_line c.next.new.self) (no_record p.0)
-    c.lines.invariant.has_read (c.in-Ok-true.ensures.cuts c.in-Ok-true.field-0-test)
-    (at_good_line (fields_view c.args.schema.now.fields.items) (suc c.lines.number) (last_line c.next.new.self) (Err p.0) (c.in-Ok-true.ensures.short c.in-Ok-true.field-0-test) m
-    (ap (record_of_line (fields_view c.args.schema.now.fields.items)) (sym c.line.ensures) ∙ p.1)))
+pub returns-in-Ok-None-clause-total : goal.returns-in-Ok-None-clause-total
+returns-in-Ok-None-clause-total g c =
+    read_all (fields_view c.args.schema.now.fields.items) most_records (IsTotal (map step_view c.args.steps.now) c.records.total) (g.S.Source.left c.args.source.now) (rest_of c.records.lines (g.S.Source.left c.records.source)) (rest_of c.next_record.new.lines (g.S.Source.left c.next_record.new.source)) c.records.number
+    c.records.invariant.has_read (none_of _ c.in-Ok-None.field-0 c.in-Ok-None.field-0-is c.in-Ok-None.ensures.end)
+
+pub returns-in-Ok-None-clause-end : goal.returns-in-Ok-None-clause-end
+returns-in-Ok-None-clause-end g c =
+    all_ended (fields_view c.args.schema.now.fields.items) most_records (IsTotal (map step_view c.args.steps.now) c.records.total) (g.S.Source.left c.args.source.now) (rest_of c.records.lines (g.S.Source.left c.records.source)) (g.S.Source.left c.next_record.new.source) (pending c.next_record.new.lines) c.records.number
+    c.records.invariant.has_read (none_of _ c.in-Ok-None.field-0 c.in-Ok-None.field-0-is c.in-Ok-None.ensures.end)
+
+pub returns-in-Err-next_record-clause-refused : goal.returns-in-Err-next_record-clause-refused
+returns-in-Err-next_record-clause-refused g c = λ r e.
+    let q : c.in-Err-next_record.stop ≡ Stop.Refused r = cc (e) in
+    read_refused (fields_view c.args.schema.now.fields.items) most_records (IsTotal (map step_view c.args.steps.now) c.records.total) (g.S.Source.left c.args.source.now) (rest_of c.records.lines (g.S.Source.left c.records.source)) c.records.number r
+    c.records.invariant.has_read (c.in-Err-next_record.ensures.refused r (ap (λ (s : Stop). Err s) q))

@@ -1,0 +1,54 @@
+-- What a command refuses, and the lines on err that name it.
+use Rattle.std.specs.Prelude.{ℕ, List, [], ◌∷◌, ◌++◌, codes, decimal}
+use Rattle.dr_meaning.specs.SchemaText.{SchemaProblem, too_long, float_kind, empty_group, syntax, bad_name, duplicate_name, too_deep, too_many_leaves, SchemaFault}
+use Rattle.dr_meaning.specs.Path.{PathFault, unknown_field, not_a_leaf}
+use Rattle.dr_meaning.specs.JsonRecord.{RecordFault, not_json, unknown_field as unknown_key, missing_field, wrong_kind, out_of_range, null_element, too_large}
+use Rattle.dr_meaning.specs.Lines.{LineFault, line_too_long, too_many_records, no_record, Refusal}
+
+-- what is refused, in the order in which it is looked at
+pub data CommandRefusal : Type 0 where
+  schema_refused : SchemaFault → CommandRefusal
+  -- a FIELD, counted from 0
+  field_refused : ℕ → PathFault → CommandRefusal
+  query_refused : CommandRefusal
+  line_refused : Refusal → CommandRefusal
+
+-- ---- names of refusals
+
+abbrev pub schema_problem_name : SchemaProblem → List ℕ
+schema_problem_name too_long = codes "TooLong"
+schema_problem_name float_kind = codes "FloatKind"
+schema_problem_name empty_group = codes "EmptyGroup"
+schema_problem_name syntax = codes "Syntax"
+schema_problem_name bad_name = codes "BadName"
+schema_problem_name duplicate_name = codes "DuplicateName"
+schema_problem_name too_deep = codes "TooDeep"
+schema_problem_name too_many_leaves = codes "TooManyLeaves"
+
+abbrev pub record_fault_name : RecordFault → List ℕ
+record_fault_name not_json = codes "NotJson"
+record_fault_name unknown_key = codes "UnknownField"
+record_fault_name missing_field = codes "MissingField"
+record_fault_name wrong_kind = codes "WrongKind"
+record_fault_name out_of_range = codes "OutOfRange"
+record_fault_name null_element = codes "NullElement"
+record_fault_name too_large = codes "TooLarge"
+
+abbrev pub path_fault_name : PathFault → List ℕ
+path_fault_name unknown_field = codes "UnknownField"
+path_fault_name not_a_leaf = codes "NotALeaf"
+
+abbrev pub line_fault_name : LineFault → List ℕ
+line_fault_name line_too_long = codes "LineTooLong"
+line_fault_name too_many_records = codes "TooManyRecords"
+line_fault_name (no_record e) = record_fault_name e
+
+-- `refused schema at B: WHAT`, `refused field N: WHAT`, `refused line N: WHAT`
+abbrev pub schema_refusal_text : SchemaFault → List ℕ
+schema_refusal_text e = codes "refused schema at " ++ (decimal e.place ++ (codes ": " ++ (schema_problem_name e.problem ++ 10 ∷ [])))
+
+abbrev pub field_refusal_text : ℕ → PathFault → List ℕ
+field_refusal_text n e = codes "refused field " ++ (decimal n ++ (codes ": " ++ (path_fault_name e ++ 10 ∷ [])))
+
+abbrev pub line_refusal_text : Refusal → List ℕ
+line_refusal_text e = codes "refused line " ++ (decimal e.line ++ (codes ": " ++ (line_fault_name e.fault ++ 10 ∷ [])))

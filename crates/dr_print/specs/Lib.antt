@@ -1,0 +1,2 @@
+-- the values of triplets
+pub mod Triplets
