@@ -1,0 +1,14 @@
+-- what is restored of the columns of records
+mod StripLemmas
+mod RestoringLemmas
+-- what is restored is the projection of records
+mod FillingLemmas
+mod AssemblyLemmas
+-- what the loops restore
+mod LoopLemmas
+-- columns compared
+mod ComparingLemmas
+-- paths that are found
+pub mod FoundLemmas
+-- worked examples, by computation
+mod WorkedAssembly

@@ -1,0 +1,8 @@
+-- restoring nodes of the triplets of their leaves
+pub mod Restoring
+-- which records have given columns
+pub mod Assembly
+-- what the types and faults of this crate stand for
+pub mod Views
+-- the strips of a group's fields by their places
+pub mod Places

@@ -1,0 +1,151 @@
+//! The records of columns.
+
+ghost use Rattle.std.specs.Prelude.{◌≡◌, ◌≤◌, List, length, map, true, IfOk, IsErrOf};
+ghost use Rattle.dr_assemble.specs.declared.fault.AssembleFault.{AssembleFault};
+ghost use Rattle.std.specs.List.{list_all};
+ghost use Rattle.dr_meaning.specs.Schema.{depth, greatest_depth};
+ghost use Rattle.dr_meaning.specs.Path.{is_leaf_path};
+ghost use Rattle.dr_meaning.specs.Record as record_tree;
+ghost use Rattle.dr_meaning.specs.Record.{project};
+ghost use Rattle.dr_nested.specs.Views.{fields_view};
+ghost use Rattle.dr_levels.specs.Views.{columns_view};
+ghost use Rattle.dr_assemble.specs.Restoring as restoring;
+ghost use Rattle.dr_assemble.specs.Assembly.{HasColumns, AreProjections, NoneHas};
+ghost use Rattle.dr_assemble.specs.Views.{strips_view, paths_view, nodes_view, columns_at, Restores};
+
+use crate::comparing::same_columns;
+use crate::fault::AssembleFault;
+use crate::restoring::restore_node;
+use crate::strip::{Strip, count_pieces, cut};
+use dr_levels::Column;
+use dr_nested::{Field, NoMemory, Node, Path, Schema};
+use dr_striper::Striper;
+use std::alloc::{AllocError, Global};
+
+/// Each field's path with its column.
+fn strips_of<'a>(
+    alloc: Global,
+    fields: &'a [Path],
+    columns: &'a [Column],
+) -> Result<Vec<Strip<'a>>, AllocError>
+    requires { length fields.now ≡ length columns.now }
+    ensures { IfOk result (λ v. strips_view v.items ≡ restoring.strips (paths_view fields.now) (columns_view columns.now)) }
+{
+    let mut strips = Vec::with_capacity(alloc, fields.len())?;
+    'fields: for (place, field) in fields.iter().enumerate() {
+        strips.push(Strip {
+            rest: field.steps.as_slice(),
+            triplets: columns[place].triplets(),
+        })?;
+    }
+    Ok(strips)
+}
+
+/// Whether the first strip has as many pieces as there are rows.
+fn has_rows(strips: &[Strip], rows: u64) -> bool
+    ensures { result ≡ restoring.has_rows rows (strips_view strips.now) }
+{
+    match strips {
+        [first, ..] => count_pieces(first.triplets, 0) as u64 == rows,
+        [] => true,
+    }
+}
+
+/// So many nodes, each of the first pieces of what the earlier ones left.
+fn restore_rows(
+    alloc: Global,
+    fields: &Vec<Field>,
+    strips: &[Strip],
+    rows: u64,
+) -> Result<Vec<Node>, AssembleFault>
+    requires { depth (fields_view (fields.now).items) ≤ greatest_depth }
+    ensures { Restores (λ v. nodes_view v.items) (restoring.restored_each (restoring.restored (fields_view (fields.now).items) 0 0) 0 rows (strips_view strips.now)) result }
+{
+    let mut nodes = Vec::new(alloc);
+    let mut left = Vec::with_capacity(alloc, strips.len())?;
+    left.extend_from_slice(strips)?;
+    'rows: for done in 0..rows {
+        let (first, others) = cut(alloc, &left, 0)?;
+        nodes.push(restore_node(alloc, fields, &first, 0, 0)?)?;
+        left = others;
+    }
+    Ok(nodes)
+}
+
+/// So many nodes of whole columns.
+fn restore_records(
+    alloc: Global,
+    fields: &Vec<Field>,
+    strips: &[Strip],
+    rows: u64,
+) -> Result<Vec<Node>, AssembleFault>
+    requires { depth (fields_view (fields.now).items) ≤ greatest_depth }
+    ensures { Restores (λ v. nodes_view v.items) (restoring.restored_records (fields_view (fields.now).items) rows (strips_view strips.now)) result }
+{
+    if has_rows(strips, rows) {
+        restore_rows(alloc, fields, strips, rows)
+    } else {
+        Err(AssembleFault::BadData)
+    }
+}
+
+/// The columns of nodes.
+fn columns_of(alloc: Global, fields: &[Path], nodes: &[Node]) -> Result<Vec<Column>, NoMemory>
+    ensures { IfOk result (λ v. columns_view v.items ≡ columns_at fields.now nodes.now) }
+{
+    let mut striper = Striper::new(alloc, fields)?;
+    'nodes: for node in nodes {
+        striper.add(node)?;
+    }
+    Ok(striper.finish())
+}
+
+/// Nodes that have these columns.
+fn with_columns(
+    alloc: Global,
+    fields: &[Path],
+    columns: &[Column],
+    nodes: Vec<Node>,
+) -> Result<Vec<Node>, AssembleFault>
+    ensures same { IfOk result (λ v. v.items ≡ nodes.items) }
+    ensures have { IfOk result (λ v. columns_at fields.now nodes.items ≡ columns_view columns.now) }
+    ensures others { IsErrOf result AssembleFault.BadData → columns_at fields.now nodes.items ≡ columns_view columns.now → ⊥ }
+{
+    match columns_of(alloc, fields, &nodes) {
+        Ok(found) => {
+            if same_columns(&found, columns) {
+                Ok(nodes)
+            } else {
+                Err(AssembleFault::BadData)
+            }
+        }
+        Err(_) => Err(AssembleFault::NoMemory),
+    }
+}
+
+/// The projections to the leaves of the fields of as many records of the schema as there are rows, which have these
+/// columns, one for each field. Nodes are restored of the columns as if they were some records', and their columns are
+/// then compared with those given. The time is linear in the triplets and the rows.
+///
+/// Errors: `BadData` exactly where no such records have these columns; want of memory.
+pub fn assemble(
+    alloc: Global,
+    schema: &Schema,
+    fields: &[Path],
+    columns: &[Column],
+    rows: u64,
+) -> Result<Vec<Node>, AssembleFault>
+    requires { list_all (is_leaf_path (fields_view (schema.now).fields.items)) (paths_view fields.now) ≡ true }
+    ensures records { IfOk result (λ v. AreProjections (fields_view (schema.now).fields.items) (paths_view fields.now) (columns_view columns.now) rows (nodes_view v.items)) }
+    ensures each { (R : List record_tree.Node) → HasColumns (fields_view (schema.now).fields.items) (paths_view fields.now) (columns_view columns.now) rows R → IfOk result (λ v. nodes_view v.items ≡ map (project (paths_view fields.now)) R) }
+    ensures refused { IsErrOf result AssembleFault.BadData → NoneHas (fields_view (schema.now).fields.items) (paths_view fields.now) (columns_view columns.now) rows }
+{
+    if fields.len() != columns.len() {
+        return Err(AssembleFault::BadData);
+    }
+    let strips = strips_of(alloc, fields, columns)?;
+    match restore_records(alloc, &schema.fields, &strips, rows) {
+        Ok(nodes) => with_columns(alloc, fields, columns, nodes),
+        Err(fault) => Err(fault),
+    }
+}

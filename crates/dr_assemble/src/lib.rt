@@ -1,0 +1,13 @@
+//! Assembly: the projections of records, of their columns.
+#![tactic(auto)]
+
+mod assembling;
+mod comparing;
+mod fault;
+mod restoring;
+mod strip;
+#[cfg(test)]
+mod tests;
+
+pub use assembling::assemble;
+pub use fault::AssembleFault;

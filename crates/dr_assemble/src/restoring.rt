@@ -1,0 +1,240 @@
+//! Restoring nodes of the triplets of their leaves.
+
+ghost use Rattle.std.specs.Prelude.{◌≡◌, ◌≤◌, ◌+◌, [], ◌∷◌, map, nat_lt, pos, option_map};
+ghost use Rattle.dr_meaning.specs.Schema.{depth, shape_depth, greatest_depth};
+ghost use Rattle.dr_meaning.specs.Record as record_tree;
+ghost use Rattle.dr_nested.specs.Views.{rep_view, kind_view, shape_view, fields_view, value_view, instance_view, slot_view, node_view};
+ghost use Rattle.dr_levels.specs.Views.{triplet_view};
+ghost use Rattle.dr_assemble.specs.Restoring as restoring;
+ghost use Rattle.dr_assemble.specs.Views.{strips_view, Restores};
+
+use crate::fault::AssembleFault;
+use crate::strip::{Strip, count_pieces, cut, strips_by_place};
+use dr_levels::Triplet;
+use dr_nested::{Field, Instance, Kind, Node, Rep, Shape, Slot, Value, copy_value};
+use std::alloc::Global;
+
+/// Whether whole numbers of a kind include this one.
+fn is_number_of(kind: Kind, number: i64) -> bool
+    ensures { result ≡ record_tree.is_of_kind (kind_view kind) (record_tree.int_value number) }
+{
+    match kind {
+        Kind::I32 => i32::try_from(number).is_ok(),
+        Kind::I64 => true,
+        Kind::Bool | Kind::Text => false,
+    }
+}
+
+/// Whether a text is of a kind.
+fn is_text_of(kind: Kind, text: &str) -> bool
+    ensures { result ≡ record_tree.is_of_kind (kind_view kind) (record_tree.text_value text.now) }
+{
+    match kind {
+        Kind::Text => true,
+        Kind::Bool | Kind::I32 | Kind::I64 => false,
+    }
+}
+
+/// Whether a value is of a kind.
+fn is_of_kind(kind: Kind, value: &Value) -> bool
+    ensures { result ≡ record_tree.is_of_kind (kind_view kind) (value_view value.now) }
+{
+    match value {
+        Value::Bool(_) => matches!(kind, Kind::Bool),
+        Value::Int(number) => is_number_of(kind, *number),
+        Value::Text(text) => is_text_of(kind, text.as_str()),
+    }
+}
+
+/// The value of a column's first triplet.
+fn first_value(triplets: &[Triplet]) -> Option<&Value>
+    ensures { option_map (λ v. value_view v.now) result ≡ restoring.first_value (map triplet_view triplets.now) }
+{
+    match triplets {
+        [first, ..] => first.value.as_ref(),
+        [] => None,
+    }
+}
+
+/// The first strip's first value.
+fn first_strip_value<'a>(strips: &[Strip<'a>]) -> Option<&'a Value>
+    ensures { option_map (λ v. value_view v.now) result ≡ restoring.first_strip_value (strips_view strips.now) }
+{
+    match strips {
+        [first, ..] => first_value(first.triplets),
+        [] => None,
+    }
+}
+
+/// A value of a leaf of this kind.
+fn atom_of(alloc: Global, kind: Kind, value: &Value) -> Result<Instance, AssembleFault>
+    ensures { Restores instance_view (restoring.atom_of (kind_view kind) (value_view value.now)) result }
+{
+    if is_of_kind(kind, value) {
+        Ok(Instance::Atom(copy_value(alloc, value)?))
+    } else {
+        Err(AssembleFault::BadData)
+    }
+}
+
+/// A leaf's instance.
+fn restore_atom(alloc: Global, kind: Kind, strips: &[Strip]) -> Result<Instance, AssembleFault>
+    ensures { Restores instance_view (restoring.restored_atom (kind_view kind) (strips_view strips.now)) result }
+{
+    match first_strip_value(strips) {
+        Some(value) => atom_of(alloc, kind, value),
+        None => Err(AssembleFault::BadData),
+    }
+}
+
+/// Whether the first definition level is above that of the group.
+fn is_present(triplets: &[Triplet], definition: u32) -> bool
+    ensures { result ≡ nat_lt definition (restoring.first_definition (map triplet_view triplets.now)) }
+{
+    match triplets {
+        [first, ..] => definition < first.definition,
+        [] => false,
+    }
+}
+
+/// An instance of a leaf or a group, below this many repeated fields, with this definition level.
+#[cycle(restoring)]
+fn restore_instance(
+    alloc: Global,
+    shape: &Shape,
+    strips: &[Strip],
+    level: u32,
+    definition: u32,
+) -> Result<Instance, AssembleFault>
+    requires levels { level + shape_depth (shape_view shape.now) ≤ greatest_depth }
+    requires definitions { definition + shape_depth (shape_view shape.now) ≤ greatest_depth }
+    ensures { Restores instance_view (restoring.restored_one (shape_view shape.now) level definition (strips_view strips.now)) result }
+{
+    match shape {
+        Shape::Leaf(kind) => restore_atom(alloc, *kind, strips),
+        Shape::Group(fields) => match restore_node(alloc, fields, strips, level, definition) {
+            Ok(node) => Ok(Instance::Group(node)),
+            Err(fault) => Err(fault),
+        },
+    }
+}
+
+/// The only instance of a field.
+#[cycle(restoring)]
+fn restore_single(
+    alloc: Global,
+    shape: &Shape,
+    strips: &[Strip],
+    level: u32,
+    definition: u32,
+) -> Result<Vec<Instance>, AssembleFault>
+    requires levels { level + shape_depth (shape_view shape.now) ≤ greatest_depth }
+    requires definitions { definition + shape_depth (shape_view shape.now) ≤ greatest_depth }
+    ensures { Restores (λ v. map instance_view v.items) (option_map (λ x. x ∷ []) (restoring.restored_one (shape_view shape.now) level definition (strips_view strips.now))) result }
+{
+    let mut instances = Vec::with_capacity(alloc, 1)?;
+    instances.push(restore_instance(alloc, shape, strips, level, definition)?)?;
+    Ok(instances)
+}
+
+/// So many instances of a repeated field, each of the first pieces of what the earlier ones left.
+#[cycle(restoring)]
+fn restore_each(
+    alloc: Global,
+    shape: &Shape,
+    strips: &[Strip],
+    count: usize,
+    level: u32,
+    definition: u32,
+) -> Result<Vec<Instance>, AssembleFault>
+    requires levels { level + shape_depth (shape_view shape.now) ≤ greatest_depth }
+    requires definitions { definition + shape_depth (shape_view shape.now) ≤ greatest_depth }
+    ensures { Restores (λ v. map instance_view v.items) (restoring.restored_each (restoring.restored_one (shape_view shape.now) level definition) level count (strips_view strips.now)) result }
+{
+    let mut instances = Vec::with_capacity(alloc, count)?;
+    let mut left = Vec::with_capacity(alloc, strips.len())?;
+    left.extend_from_slice(strips)?;
+    'instances: for done in 0..count {
+        let (first, others) = cut(alloc, &left, level)?;
+        instances.push(restore_instance(alloc, shape, &first, level, definition)?)?;
+        left = others;
+    }
+    Ok(instances)
+}
+
+/// The instances of a field, in a group below this many repeated fields, with this definition level.
+#[cycle(restoring)]
+fn restore_instances(
+    alloc: Global,
+    field: &Field,
+    lead: &[Triplet],
+    strips: &[Strip],
+    level: u32,
+    definition: u32,
+) -> Result<Vec<Instance>, AssembleFault>
+    requires levels { level + 1 + shape_depth (shape_view (field.now).shape) ≤ greatest_depth }
+    requires definitions { definition + 1 + shape_depth (shape_view (field.now).shape) ≤ greatest_depth }
+    ensures { Restores (λ v. map instance_view v.items) (restoring.field_instances (rep_view (field.now).rep) (shape_view (field.now).shape) level definition (map triplet_view lead.now) (strips_view strips.now)) result }
+{
+    match field.rep {
+        Rep::Required => restore_single(alloc, &field.shape, strips, level, definition),
+        _ if !is_present(lead, definition) => Ok(Vec::new(alloc)),
+        Rep::Optional => restore_single(alloc, &field.shape, strips, level, definition + 1),
+        Rep::Repeated => {
+            let count = count_pieces(lead, level + 1);
+            restore_each(
+                alloc,
+                &field.shape,
+                strips,
+                count,
+                level + 1,
+                definition + 1,
+            )
+        }
+    }
+}
+
+/// A field's slot: a gap where no strip leads into the field.
+#[cycle(restoring)]
+fn restore_slot(
+    alloc: Global,
+    field: &Field,
+    strips: &[Strip],
+    level: u32,
+    definition: u32,
+) -> Result<Slot, AssembleFault>
+    requires levels { level + 1 + shape_depth (shape_view (field.now).shape) ≤ greatest_depth }
+    requires definitions { definition + 1 + shape_depth (shape_view (field.now).shape) ≤ greatest_depth }
+    ensures { Restores slot_view (restoring.restored_field (rep_view (field.now).rep) (shape_view (field.now).shape) level definition (strips_view strips.now)) result }
+{
+    match strips {
+        [] => Ok(Slot::Gap),
+        [first, ..] => {
+            match restore_instances(alloc, field, first.triplets, strips, level, definition) {
+                Ok(instances) => Ok(Slot::Held(instances)),
+                Err(fault) => Err(fault),
+            }
+        }
+    }
+}
+
+/// A node of a group, below this many repeated fields, with this definition level.
+#[cycle(restoring)]
+pub fn restore_node(
+    alloc: Global,
+    fields: &Vec<Field>,
+    strips: &[Strip],
+    level: u32,
+    definition: u32,
+) -> Result<Node, AssembleFault>
+    requires levels { level + depth (fields_view (fields.now).items) ≤ greatest_depth }
+    requires definitions { definition + depth (fields_view (fields.now).items) ≤ greatest_depth }
+    ensures { Restores node_view (restoring.restored (fields_view (fields.now).items) level definition (strips_view strips.now)) result }
+{
+    let places = strips_by_place(alloc, strips, fields.len())?;
+    let mut slots = Vec::with_capacity(alloc, fields.len())?;
+    'fields: for (place, field) in fields.iter().enumerate() {
+        slots.push(restore_slot(alloc, field, &places[place], level, definition)?)?;
+    }
+    Ok(Node { slots })
+}
