@@ -1,5 +1,5 @@
-use Rattle.std.proofs.Common.{ap, subst, sym, refl, List, ℕ, Option, Err}
-use Rattle.dr_top.specs.Running.{ForAsked}
+use Rattle.std.proofs.Common.{ap, subst, sym, refl, List, ℕ, Option, None, Err}
+use Rattle.dr_top.specs.Running.{ForAsked, IsOutside}
 use Rattle.dr_top.specs.Words.{CommandWords}
 use Rattle.dr_top.specs.Asking.{HasSaid}
 use Rattle.dr_top.specs.declared.words.WordsFault.{WordsFault}
@@ -13,4 +13,8 @@ returns-in-Err-Usage-clause-usage g c = λ _. (
 )
 
 pub returns-in-Ok-clause-outside : goal.returns-in-Ok-clause-outside
-returns-in-Ok-clause-outside g c = λ e. subst (λ (o : Option CommandWords). ForAsked o _) (sym c.in-Ok.ensures.values) (c.run_command.ensures.outside e)
+returns-in-Ok-clause-outside g c = λ e. subst (λ (o : Option CommandWords). ForAsked o (λ (w : CommandWords). IsOutside (g.K.Link.held c.args.keeper.now) w
+    (record { before = g.S.Source.left c.args.source.now; now = g.S.Source.left c.run_command.new.source; faults_before = g.S.Source.faults c.args.source.now; faults_now = g.S.Source.faults c.run_command.new.source })
+    (record { before = None; now = None; faults_before = g.K.Link.faults c.args.keeper.now; faults_now = g.K.Link.faults c.run_command.new.keeper })
+    (record { before = g.O.Sink.written c.args.out.now; now = g.O.Sink.written c.run_command.new.out; faults_before = g.O.Sink.faults c.args.out.now; faults_now = g.O.Sink.faults c.run_command.new.out })
+    (record { before = g.E.Sink.written c.args.err.now; now = g.E.Sink.written c.run_command.new.err; faults_before = g.E.Sink.faults c.args.err.now; faults_now = g.E.Sink.faults c.run_command.new.err }))) (sym c.in-Ok.ensures.values) (c.run_command.ensures.outside e)
