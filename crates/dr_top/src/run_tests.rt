@@ -199,50 +199,71 @@ const TWO_LEAVES: &str =
 
 #[test]
 fn columns_and_automata_are_printed(rt: HostRuntime) -> Result<(), Fail> {
-    let schema = "--schema=document.txt";
     let rows: [(&[&str], &str, u8, &str, &str); 12] = [
         (
-            &["dremel", "stripe", schema, "Name.Language.Country"],
+            &[
+                "dremel",
+                "stripe",
+                "--schema=document.txt",
+                "Name.Language.Country",
+            ],
             RECORDS,
             0,
             COUNTRIES,
             "",
         ),
         (
-            &["dremel", "stripe", schema, "Links.Backward"],
+            &[
+                "dremel",
+                "stripe",
+                "--schema=document.txt",
+                "Links.Backward",
+            ],
             RECORDS,
             0,
             "NULL 0 1\n10 0 2\n30 1 2\n",
             "",
         ),
         (
-            &["dremel", "stripe", schema, "Links.Forward"],
+            &["dremel", "stripe", "--schema=document.txt", "Links.Forward"],
             RECORDS,
             0,
             "20 0 2\n40 1 2\n60 1 2\n80 0 2\n",
             "",
         ),
-        (&["dremel", "stripe", schema, "DocId"], "", 0, "", ""),
         (
-            &["dremel", "stripe", schema, "Name"],
+            &["dremel", "stripe", "--schema=document.txt", "DocId"],
+            "",
+            0,
+            "",
+            "",
+        ),
+        (
+            &["dremel", "stripe", "--schema=document.txt", "Name"],
             "{}\n",
             2,
             "",
             "refused field 0: NotALeaf\n",
         ),
         (
-            &["dremel", "stripe", schema, "DocId"],
+            &["dremel", "stripe", "--schema=document.txt", "DocId"],
             "{}\n",
             2,
             "",
             "refused line 1: MissingField\n",
         ),
-        (&["dremel", "stripe", schema], RECORDS, 1, "", USAGE),
+        (
+            &["dremel", "stripe", "--schema=document.txt"],
+            RECORDS,
+            1,
+            "",
+            USAGE,
+        ),
         (
             &[
                 "dremel",
                 "fsm",
-                schema,
+                "--schema=document.txt",
                 "Name.Language.Country",
                 "DocId",
                 "DocId",
@@ -253,20 +274,33 @@ fn columns_and_automata_are_printed(rt: HostRuntime) -> Result<(), Fail> {
             "",
         ),
         (
-            &["dremel", "fsm", schema, "Name"],
+            &["dremel", "fsm", "--schema=document.txt", "Name"],
             "",
             2,
             "",
             "refused field 0: NotALeaf\n",
         ),
         (
-            &["dremel", "fsm", schema, "DocId", "Nam", "Name"],
+            &[
+                "dremel",
+                "fsm",
+                "--schema=document.txt",
+                "DocId",
+                "Nam",
+                "Name",
+            ],
             "",
             2,
             "",
             "refused field 1: UnknownField\n",
         ),
-        (&["dremel", "fsm", schema], "", 1, "", USAGE),
+        (
+            &["dremel", "fsm", "--schema=document.txt"],
+            "",
+            1,
+            "",
+            USAGE,
+        ),
         (
             &["dremel", "fsm", "--schema", "other.txt", "DocId"],
             "",
