@@ -1,0 +1,6 @@
+-- worked examples, by computation
+pub mod WorkedCompact
+-- lemmas
+pub mod ReadingLemmas
+pub mod VarintLemmas
+pub mod CompactLemmas

@@ -1,0 +1,26 @@
+-- Lemmas of reading: what one form spells, then another; and what is read depends on what was read alone.
+use Rattle.std.proofs.Common.{◌≡◌, ℕ, zero, suc, ◌+◌, ◌≤◌, ◌<◌, List, [], ◌∷◌, ◌++◌, length, take, drop, Bool, true, false, refl, sym, ap, ◌∙◌, subst, Option, Some, None, append_assoc, arith}
+use Rattle.std.specs.Prelude.{nat_le}
+use Rattle.std.proofs.lemmas.Bool.{le-leb}
+use Rattle.std.proofs.lemmas.List.{length-append}
+use Rattle.std.proofs.Math.Seq.{take-append_seam, drop-append_seam}
+use Rattle.dr_formats.specs.Reading.{Reading, got, refused, Reader, give, goes_on, ◌>>=◌, byte_meaning, byte_as, bytes_of, Spells}
+
+pub spells_give : {E A : Type 0} (a : A) → Spells (give {E = E} a) [] a
+spells_give a rest = refl
+
+pub spells_then : {E A B : Type 0} (first : Reader E A) (next : A → Reader E B) (u v : List ℕ) (a : A) (b : B) → Spells first u a → Spells (next a) v b → Spells (first >>= next) (u ++ v) b
+spells_then first next u v a b h k rest = rw (append_assoc u v rest, h (v ++ rest)) (k rest)
+
+-- the same where nothing more is read
+pub spells_map : {E A B : Type 0} (first : Reader E A) (f : A → B) (u : List ℕ) (a : A) → Spells first u a → Spells (first >>= (λ x. give (f x))) u (f a)
+spells_map first f u a h rest = rw (h rest) refl
+
+pub spells_as : {E A : Type 0} (short bad : E) (f : ℕ → Option A) (b : ℕ) (a : A) → f b ≡ Some a → Spells (byte_as short bad f) (b ∷ []) a
+spells_as short bad f b a h rest = rw h refl
+
+long_enough : (b rest : List ℕ) → nat_le (length b) (length (b ++ rest)) ≡ true
+long_enough b rest = le-leb (length b) (length (b ++ rest)) (omega (arith, length-append b rest))
+
+pub spells_bytes : {E : Type 0} (short : E) (n : ℕ) (b : List ℕ) → length b ≡ n → Spells (bytes_of short n) b b
+spells_bytes short n b e rest = rw (← e, long_enough b rest, take-append_seam b rest, drop-append_seam b rest) refl
