@@ -4,3 +4,5 @@ pub mod WorkedCompact
 pub mod ReadingLemmas
 pub mod VarintLemmas
 pub mod CompactLemmas
+pub mod LocalLemmas
+pub mod CompactLocal

@@ -1,3 +1,5 @@
 //! The definitions of bytes and files, and laws over them. specs/Lib.antt is the table of contents of the definitions;
 //! each function here has an empty body, and its contract is a law.
 #![tactic(auto)]
+
+pub mod compact_laws;
