@@ -1,8 +1,11 @@
 -- worked examples, by computation
 pub mod WorkedCompact
+pub mod WorkedHybrid
 -- lemmas
 pub mod ReadingLemmas
 pub mod VarintLemmas
 pub mod CompactLemmas
 pub mod LocalLemmas
 pub mod CompactLocal
+pub mod LittleEndianLemmas
+pub mod HybridLemmas

@@ -61,3 +61,12 @@ zigzag_back (negsuc n) =
     let e : (2 * n + 1) % 2 ≡ 1 = omega arith in
     let f : (2 * n + 1) / 2 ≡ n = omega arith in
     rw (e, f) refl
+
+-- a varint has a byte at least
+pub varint_has_byte : (k n : ℕ) → 1 ≤ length (varint_bytes_from k n)
+varint_has_byte zero n = omega arith
+varint_has_byte (suc k) n = by (nat_lt n 128)
+    where
+      by : (b : Bool) → 1 ≤ length (if b then n ∷ [] else (128 + n % 128) ∷ varint_bytes_from k (n / 128))
+      by true = omega arith
+      by false = omega arith

@@ -3,3 +3,4 @@
 #![tactic(auto)]
 
 pub mod compact_laws;
+pub mod hybrid_laws;
