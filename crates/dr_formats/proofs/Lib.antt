@@ -1,6 +1,7 @@
 -- worked examples, by computation
 pub mod WorkedCompact
 pub mod WorkedHybrid
+pub mod WorkedPages
 -- lemmas
 pub mod ReadingLemmas
 pub mod VarintLemmas

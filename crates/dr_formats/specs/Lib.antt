@@ -5,3 +5,6 @@ pub mod CompactLaws
 pub mod LittleEndian
 pub mod Hybrid
 pub mod HybridLaws
+pub mod Plain
+pub mod Page
+pub mod Metadata
