@@ -8,3 +8,6 @@ pub mod HybridLaws
 pub mod Plain
 pub mod Page
 pub mod Metadata
+pub mod FileSchema
+pub mod Chunk
+pub mod File
