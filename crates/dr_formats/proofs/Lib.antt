@@ -2,6 +2,7 @@
 pub mod WorkedCompact
 pub mod WorkedHybrid
 pub mod WorkedPages
+pub mod WorkedFiles
 -- lemmas
 pub mod ReadingLemmas
 pub mod VarintLemmas

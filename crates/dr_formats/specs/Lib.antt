@@ -11,3 +11,4 @@ pub mod Metadata
 pub mod FileSchema
 pub mod Chunk
 pub mod File
+pub mod Writing

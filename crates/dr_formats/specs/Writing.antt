@@ -1,0 +1,152 @@
+-- The file that is written for records: pages, chunks, footer (Apache Parquet, "File format").
+use Rattle.std.specs.Prelude.{◌≡◌, ℕ, zero, suc, ◌+◌, ◌^◌, List, [], ◌∷◌, ◌++◌, map, length, Bool, true, false, ◌&&◌, ◌||◌, nat_le, if◌then◌else◌, codes, ℤ, pos, Option, Some, None}
+use Rattle.dr_meaning.specs.Schema.{Repetition, required, optional, repeated, Kind, bool_kind, int32_kind, int64_kind, text_kind, Fields, no_fields, field, Shape, leaf, group, Schema}
+use Rattle.dr_meaning.specs.Path.{Leaf, leaves, max_repetition, max_definition}
+use Rattle.dr_meaning.specs.Record.{Node}
+use Rattle.dr_meaning.specs.Column.{Triplet, record_column}
+use Rattle.dr_formats.specs.LittleEndian.{little_endian_bytes}
+use Rattle.dr_formats.specs.Compact.{struct_bytes}
+use Rattle.dr_formats.specs.Metadata.{SchemaElement, ColumnMeta, ColumnChunk, RowGroup, FileMeta, DataPageHeader, PageHeader, page_tree, file_tree}
+use Rattle.dr_formats.specs.Plain.{plain_bytes}
+use Rattle.dr_formats.specs.Page.{body_bytes, column_values}
+use Rattle.dr_formats.specs.File.{magic}
+
+-- ---- pages
+
+abbrev pub enough_triplets : ℕ
+enough_triplets = 4096
+
+abbrev pub enough_bytes : ℕ
+enough_bytes = 2 ^ 20
+
+-- a page that closes at the next record's end
+abbrev pub is_full : Kind → List Triplet → Bool
+is_full k ts = nat_le enough_triplets (length ts) || nat_le enough_bytes (length (plain_bytes k (column_values ts)))
+
+abbrev pub last_page : List Triplet → List (List Triplet)
+last_page [] = []
+last_page (t ∷ ts) = (t ∷ ts) ∷ []
+
+abbrev pub closed_page : Bool → List Triplet → List (List Triplet)
+closed_page true ts = ts ∷ []
+closed_page false ts = []
+
+abbrev pub open_page : Bool → List Triplet → List Triplet
+open_page true ts = []
+open_page false ts = ts
+
+-- the pages of the columns of records, one after another, where the page that is open has these triplets: a page closes at the first record's end at which it is full, and at the last
+abbrev pub cut_pages : Kind → List Triplet → List (List Triplet) → List (List Triplet)
+cut_pages k page [] = last_page page
+cut_pages k page (c ∷ cs) = closed_page (is_full k (page ++ c)) (page ++ c) ++ cut_pages k (open_page (is_full k (page ++ c)) (page ++ c)) cs
+
+-- DATA_PAGE, both sizes the body's, values PLAIN, levels RLE
+abbrev pub header_of_page : ℕ → ℕ → PageHeader
+header_of_page n size = record { type = pos 0; uncompressed_size = Some (pos size); compressed_size = size; data_page = Some (record { values = n; encoding = pos 0; definition_encoding = pos 3; repetition_encoding = pos 3 }); dictionary_page = None; data_page_v2 = None }
+
+abbrev pub header_and_body : ℕ → List ℕ → List ℕ
+header_and_body n body = struct_bytes (page_tree (header_of_page n (length body))) ++ body
+
+abbrev pub page_bytes : Leaf → List Triplet → List ℕ
+page_bytes l ts = header_and_body (length ts) (body_bytes l.kind (max_repetition l.path) (max_definition l.path) ts)
+
+abbrev pub pages_bytes : Leaf → List (List Triplet) → List ℕ
+pages_bytes l [] = []
+pages_bytes l (p ∷ ps) = page_bytes l p ++ pages_bytes l ps
+
+-- ---- chunks
+
+abbrev pub record_columns : Leaf → List Node → List (List Triplet)
+record_columns l R = map (record_column l.path) R
+
+-- the bytes of a leaf's chunk
+abbrev pub written_chunk : Leaf → List Node → List ℕ
+written_chunk l R = pages_bytes l (cut_pages l.kind [] (record_columns l R))
+
+abbrev pub triplet_count : List (List Triplet) → ℕ
+triplet_count [] = 0
+triplet_count (c ∷ cs) = length c + triplet_count cs
+
+-- BOOLEAN 0, INT32 1, INT64 2, BYTE_ARRAY 6
+abbrev pub type_from : Kind → ℕ
+type_from bool_kind = 0
+type_from int32_kind = 1
+type_from int64_kind = 2
+type_from text_kind = 6
+
+-- its column chunk, of so many bytes at a place
+abbrev pub chunk_at : Leaf → List Node → ℕ → ℕ → ColumnChunk
+chunk_at l R place size = record { file_path = None; file_offset = Some (pos place); meta = record { type = pos (type_from l.kind); encodings = Some (pos 0 ∷ pos 3 ∷ []); path = Some l.names; codec = pos 0; values = triplet_count (record_columns l R); uncompressed_size = Some (pos size); compressed_size = size; data_page_offset = place; dictionary_page_offset = None } }
+
+-- the chunks of leaves, one after another from a place on: their bytes, and their column chunks
+pub record WrittenChunks : Type 0 where
+  pub bytes : List ℕ
+  pub columns : List ColumnChunk
+
+abbrev pub put_chunk : List ℕ → ColumnChunk → WrittenChunks → WrittenChunks
+put_chunk bytes c w = record { bytes = bytes ++ w.bytes; columns = c ∷ w.columns }
+
+abbrev pub chunk_and_rest : Leaf → List Node → ℕ → List ℕ → (ℕ → WrittenChunks) → WrittenChunks
+chunk_and_rest l R place bytes rest = put_chunk bytes (chunk_at l R place (length bytes)) (rest (place + length bytes))
+
+abbrev pub chunks_from : List Node → List Leaf → ℕ → WrittenChunks
+chunks_from R [] place = record { bytes = []; columns = [] }
+chunks_from R (l ∷ ls) place = chunk_and_rest l R place (written_chunk l R) (chunks_from R ls)
+
+-- ---- schema elements
+
+-- REQUIRED 0, OPTIONAL 1, REPEATED 2
+abbrev pub repetition_number : Repetition → ℕ
+repetition_number required = 0
+repetition_number optional = 1
+repetition_number repeated = 2
+
+-- UTF8 0 for texts
+abbrev pub converted_from : Kind → Option ℤ
+converted_from bool_kind = None
+converted_from int32_kind = None
+converted_from int64_kind = None
+converted_from text_kind = Some (pos 0)
+
+abbrev pub count_fields : Fields → ℕ
+count_fields no_fields = 0
+count_fields (field n r s fs) = suc (count_fields fs)
+
+abbrev pub leaf_element : List ℕ → Repetition → Kind → SchemaElement
+leaf_element n r k = record { type = Some (pos (type_from k)); type_length = None; repetition = Some (pos (repetition_number r)); name = n; children = None; converted = converted_from k }
+
+abbrev pub group_element : List ℕ → Option ℤ → Fields → SchemaElement
+group_element n r fs = record { type = None; type_length = None; repetition = r; name = n; children = Some (pos (count_fields fs)); converted = None }
+
+abbrev mutual
+  pub elements : Fields → List SchemaElement
+  elements no_fields = []
+  elements (field n r s fs) = shape_elements n r s ++ elements fs
+
+  pub shape_elements : List ℕ → Repetition → Shape → List SchemaElement
+  shape_elements n r (leaf k) = leaf_element n r k ∷ []
+  shape_elements n r (group fs) = group_element n (Some (pos (repetition_number r))) fs ∷ elements fs
+
+-- the root, which has no repetition, and then the fields depth first
+abbrev pub schema_elements : Schema → List SchemaElement
+schema_elements s = group_element s.name None s.fields ∷ elements s.fields
+
+-- ---- the file
+
+abbrev pub written_groups : ℕ → WrittenChunks → List RowGroup
+written_groups rows w = record { columns = w.columns; total_byte_size = Some (pos (length w.bytes)); rows = rows } ∷ []
+
+abbrev pub file_meta : Schema → ℕ → List RowGroup → FileMeta
+file_meta s rows gs = record { version = Some (pos 1); schema = schema_elements s; rows = rows; groups = gs; created_by = Some (codes "dremel-nested 1") }
+
+-- magic, chunks, footer, the footer's length, magic
+abbrev pub framed : List ℕ → List ℕ → List ℕ
+framed chunks footer = magic ++ (chunks ++ (footer ++ (little_endian_bytes 4 (length footer) ++ magic)))
+
+abbrev pub file_with : Schema → ℕ → WrittenChunks → List ℕ
+file_with s rows w = framed w.bytes (struct_bytes (file_tree (file_meta s rows (written_groups rows w))))
+
+-- without records there is no row group; else there is one, with the leaves in schema order from place 4 on
+unfoldable pub file_bytes : Schema → List Node → List ℕ
+file_bytes s [] = framed [] (struct_bytes (file_tree (file_meta s 0 [])))
+file_bytes s (n ∷ ns) = file_with s (length (n ∷ ns)) (chunks_from (n ∷ ns) (leaves s.fields) 4)
