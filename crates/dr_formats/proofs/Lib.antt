@@ -3,6 +3,7 @@ pub mod WorkedCompact
 pub mod WorkedHybrid
 pub mod WorkedPages
 pub mod WorkedFiles
+pub mod WorkedDamaged
 -- lemmas
 pub mod ReadingLemmas
 pub mod VarintLemmas
@@ -11,3 +12,4 @@ pub mod LocalLemmas
 pub mod CompactLocal
 pub mod LittleEndianLemmas
 pub mod HybridLemmas
+pub mod FileLemmas

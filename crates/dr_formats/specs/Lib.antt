@@ -12,3 +12,4 @@ pub mod FileSchema
 pub mod Chunk
 pub mod File
 pub mod Writing
+pub mod FileLaws

@@ -1,0 +1,18 @@
+-- Laws of files and causes.
+use Rattle.std.specs.Prelude.{◌≡◌, ℕ, List, Option, Some}
+use Rattle.dr_meaning.specs.Schema.{Schema}
+use Rattle.dr_meaning.specs.Path.{Leaf}
+use Rattle.dr_meaning.specs.Record.{Node}
+use Rattle.dr_formats.specs.File.{FileCause, HasCause, IsFileOf, known_cause}
+
+-- the cause that the test knows of bytes holds
+abbrev pub KnownCauseHolds : Type 0
+KnownCauseHolds = (bytes : List ℕ) (s : Schema) (F : List Leaf) (c : FileCause) → known_cause bytes F ≡ Some c → HasCause bytes s F c
+
+-- bytes have at most one cause
+abbrev pub OneCause : Type 0
+OneCause = (bytes : List ℕ) (s : Schema) (F : List Leaf) (c d : FileCause) → HasCause bytes s F c → HasCause bytes s F d → c ≡ d
+
+-- a file of some records has none
+abbrev pub FileHasNoCause : Type 0
+FileHasNoCause = (bytes : List ℕ) (s : Schema) (F : List Leaf) (R : List Node) (c : FileCause) → IsFileOf bytes s F R → HasCause bytes s F c → ⊥
