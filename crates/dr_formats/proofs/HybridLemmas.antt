@@ -1,20 +1,20 @@
 -- Hybrid data that is written is read back.
-use Rattle.std.proofs.Common.{◌≡◌, ℕ, zero, suc, ◌+◌, ◌*◌, ◌/◌, ◌%◌, ◌^◌, ◌≤◌, ◌<◌, List, [], ◌∷◌, ◌++◌, length, take, drop, Bool, true, false, refl, sym, ap, ap₂, ◌∙◌, subst, arith, Option, Some, None, append_assoc}
+use Rattle.std.proofs.Common.{◌≡◌, ℕ, zero, suc, ◌+◌, ◌*◌, ◌/◌, ◌%◌, ◌^◌, ◌≤◌, ◌<◌, List, [], ◌∷◌, ◌++◌, length, take, drop, Bool, true, false, refl, sym, ap, ap₂, ◌∙◌, subst, arith, Option, Some, None, append_assoc, ◌⊎◌, inl, inr}
 use Rattle.std.specs.Prelude.{◌-◌, min, replicate, nat_lt, nat_le, ◌&&◌, ◌||◌, ◌==◌, if◌then◌else◌}
 use Rattle.std.specs.List.{list_all}
-use Rattle.std.proofs.lemmas.Bool.{ltb-true, lt-ltb, and_parts, eqb-true, leb-true, leb-false, or_cases, and_from}
+use Rattle.std.proofs.lemmas.Bool.{ltb-true, ltb-false, lt-ltb, and_parts, eqb-true, leb-true, leb-false, or_cases, and_from}
 use Rattle.std.proofs.lemmas.Nat.{pow-add}
 use Rattle.std.proofs.Math.Nat.{min-eq_left, min-eq_right, mul-le-mul_right}
 use Rattle.std.proofs.lemmas.List.{length-append, length-drop, length-take, length-replicate, take-append-drop, take_all, append-nil}
 use Rattle.std.proofs.Math.Pow.{pow_mono}
 use Rattle.std.proofs.Math.Seq.{drop-nil}
 use Rattle.dr_formats.specs.Reading.{Reading, got, refused, Reader, give, goes_on, ◌>>=◌, bytes_of, Spells}
-use Rattle.dr_formats.specs.Varint.{varint, varint_bytes}
+use Rattle.dr_formats.specs.Varint.{varint, varint_bytes, varint_bytes_from}
 use Rattle.dr_formats.specs.LittleEndian.{little_endian, little_endian_bytes, unpacked, packed, bytes_for}
 use Rattle.dr_formats.specs.Hybrid.{HybridFault, short, repeat_run, packed_run, run, runs, values_read, hybrid, equal_front, WrittenRun, repeat_of, group_of, next_run, runs_behind, hybrid_bytes}
 use Rattle.dr_formats.specs.HybridLaws.{OneListOfValues, WrittenRunsAreRead}
 use Rattle.dr_formats.proofs.ReadingLemmas.{spells_bytes}
-use Rattle.dr_formats.proofs.VarintLemmas.{spells_varint, varint_has_byte}
+use Rattle.dr_formats.proofs.VarintLemmas.{room, spells_varint, varint_has_byte}
 use Rattle.dr_formats.proofs.LittleEndianLemmas.{length_little_endian, little_endian_back, fewer_bytes, are_below, unpacked_bytes}
 
 some_equal : (us vs : List ℕ) → Some us ≡ Some vs → us ≡ vs
@@ -177,3 +177,69 @@ unfolding hybrid hybrid_bytes
 written_runs_are_read w vs rest h l =
     let r = all_back w (length vs) vs (omega arith) h l (length (runs_behind w 0 vs ++ rest)) (omega (arith, length-append (runs_behind w 0 vs) rest)) rest in
     ap values_read r.1
+
+-- ---- how many bytes are written
+
+varint_step : (k j n : ℕ) (b : Bool) → nat_lt n 128 ≡ b → n < room j → ((i : ℕ) → n / 128 < room i → length (varint_bytes_from k (n / 128)) ≤ suc i) → length (if b then n ∷ [] else (128 + n % 128) ∷ varint_bytes_from k (n / 128)) ≤ suc j
+varint_step k j n true e h s = omega arith
+varint_step k zero n false e h s = absurd (omega (arith, ltb-false _ _ e, h))
+varint_step k (suc j) n false e h s = let l : length (varint_bytes_from k (n / 128)) ≤ suc j = s j (omega (arith, h)) in omega (arith, l)
+
+varint_length : (k j n : ℕ) → n < room j → length (varint_bytes_from k n) ≤ suc j
+varint_length zero j n h = omega arith
+varint_length (suc k) j n h = varint_step k j n (nat_lt n 128) refl h (λ i. varint_length k i (n / 128))
+
+-- as many bytes as values, and seven more, unless there are no values
+abbrev spare : List ℕ → ℕ
+spare [] = 0
+spare (x ∷ xs) = suc (length xs) + 7
+
+with_later : (us : List ℕ) (b r t l : ℕ) → b ≤ 7 → r ≤ spare us → length us ≡ l - (t - 1) → (0 < length us → b ≤ t) → b + r ≤ suc l + 7
+with_later [] b r t l h k e f = omega (arith, h, k)
+with_later (x ∷ us) b r t l h k e f =
+    let g : b ≤ t = f (omega arith) in
+    omega (arith, h, k, e, g)
+
+-- the next run, where it isn't the last, has no more bytes than values
+repeat_length : (w m v : ℕ) → w ≤ 6 → m < 2 ^ 31 → length (repeat_of w m v).bytes ≤ 6
+repeat_length w m v h l = omega (arith, length-append (varint_bytes (2 * m)) (little_endian_bytes (bytes_for w) v), varint_length 9 4 (2 * m) (omega (arith, l)), length_little_endian (bytes_for w) v, h)
+
+next_length : (w v : ℕ) (vs : List ℕ) (b : Bool) → (nat_le 8 (suc (equal_front v vs)) || (suc (equal_front v vs) == length (v ∷ vs))) ≡ b → w ≤ 6 → length (v ∷ vs) < 2 ^ 31
+    → (length (run_by b w (suc (equal_front v vs)) v (v ∷ vs)).bytes ≤ 7) × (0 < length (drop ((run_by b w (suc (equal_front v vs)) v (v ∷ vs)).taken - 1) vs) → length (run_by b w (suc (equal_front v vs)) v (v ∷ vs)).bytes ≤ (run_by b w (suc (equal_front v vs)) v (v ∷ vs)).taken)
+next_length w v vs true e h l =
+    let f : FrontEquals v (equal_front v vs) vs = front_equals v vs in
+    let r : length (repeat_of w (suc (equal_front v vs)) v).bytes ≤ 6 = repeat_length w (suc (equal_front v vs)) v h (omega (arith, f.1, l)) in
+    (omega (arith, r), λ k. by_case r k (or_cases _ _ e))
+    where
+      by_case : length (repeat_of w (suc (equal_front v vs)) v).bytes ≤ 6 → 0 < length (drop (suc (equal_front v vs) - 1) vs) → (nat_le 8 (suc (equal_front v vs)) ≡ true) ⊎ ((suc (equal_front v vs) == length (v ∷ vs)) ≡ true) → length (repeat_of w (suc (equal_front v vs)) v).bytes ≤ suc (equal_front v vs)
+      by_case r k (inl g) = omega (arith, r, leb-true _ _ g)
+      by_case r k (inr g) = absurd (omega (arith, k, length-drop (suc (equal_front v vs) - 1) vs, eqb-true _ _ g))
+next_length w v vs false e h l =
+    let r : length (group_of w (v ∷ vs)).bytes ≤ 7 = omega (arith, length_little_endian w (packed w (take 8 (v ∷ vs))), h) in
+    (r, λ k. omega (arith, r))
+
+abbrev Short : ℕ → ℕ → Type 0
+Short w j = (vs : List ℕ) → length vs ≤ j → length vs < 2 ^ 31 → length (runs_behind w 0 vs) ≤ spare vs
+
+later_length : (w j v : ℕ) (vs : List ℕ) (b : Bool) → (nat_le 8 (suc (equal_front v vs)) || (suc (equal_front v vs) == length (v ∷ vs))) ≡ b → w ≤ 6 → Short w j → length vs ≤ j → length (v ∷ vs) < 2 ^ 31 → length ((run_by b w (suc (equal_front v vs)) v (v ∷ vs)).bytes ++ runs_behind w ((run_by b w (suc (equal_front v vs)) v (v ∷ vs)).taken - 1) vs) ≤ suc (length vs) + 7
+later_length w j v vs b e h s l k =
+    let t : ℕ = (run_by b w (suc (equal_front v vs)) v (v ∷ vs)).taken in
+    let c : List ℕ = (run_by b w (suc (equal_front v vs)) v (v ∷ vs)).bytes in
+    let n = next_length w v vs b e h k in
+    let r1 : length (runs_behind w 0 (drop (t - 1) vs)) ≤ spare (drop (t - 1) vs) = s (drop (t - 1) vs) (omega (arith, l, length-drop (t - 1) vs)) (omega (arith, k, length-drop (t - 1) vs)) in
+    let r2 : length (runs_behind w (t - 1) vs) ≤ spare (drop (t - 1) vs) = subst (λ (x : List ℕ). length x ≤ spare (drop (t - 1) vs)) (sym (behind_dropped w (t - 1) vs)) r1 in
+    let q : length c + length (runs_behind w (t - 1) vs) ≤ suc (length vs) + 7 = with_later (drop (t - 1) vs) (length c) (length (runs_behind w (t - 1) vs)) t (length vs) n.0 r2 (length-drop (t - 1) vs) n.1 in
+    omega (arith, q, length-append c (runs_behind w (t - 1) vs))
+
+all_short : (w j : ℕ) → w ≤ 6 → Short w j
+all_short w j h [] l k = omega arith
+all_short w zero h (v ∷ vs) l k = absurd (omega (arith, l))
+all_short w (suc j) h (v ∷ vs) l k = later_length w j v vs (nat_le 8 (suc (equal_front v vs)) || (suc (equal_front v vs) == length (v ∷ vs))) refl h (all_short w j h) (omega (arith, l)) k
+
+spare_fits : (vs : List ℕ) → spare vs ≤ length vs + 7
+spare_fits [] = omega arith
+spare_fits (v ∷ vs) = omega arith
+
+pub hybrid_length : (w : ℕ) (vs : List ℕ) → w ≤ 6 → length vs < 2 ^ 31 → length (hybrid_bytes w vs) < 2 ^ 32
+unfolding hybrid_bytes
+hybrid_length w vs h l = omega (arith, all_short w (length vs) h vs (omega arith) l, spare_fits vs, l)

@@ -4,6 +4,8 @@ pub mod WorkedHybrid
 pub mod WorkedPages
 pub mod WorkedFiles
 pub mod WorkedDamaged
+pub mod WorkedForeign
+pub mod WorkedTables
 -- lemmas
 pub mod ReadingLemmas
 pub mod VarintLemmas
@@ -13,3 +15,4 @@ pub mod CompactLocal
 pub mod LittleEndianLemmas
 pub mod HybridLemmas
 pub mod FileLemmas
+pub mod PlainLemmas

@@ -13,3 +13,6 @@ pub mod Chunk
 pub mod File
 pub mod Writing
 pub mod FileLaws
+pub mod TableFile
+pub mod Tablets
+pub mod PlainLaws

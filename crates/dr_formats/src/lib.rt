@@ -4,3 +4,4 @@
 
 pub mod compact_laws;
 pub mod hybrid_laws;
+pub mod file_laws;

@@ -1,0 +1,18 @@
+//! Laws of files and causes.
+
+ghost use Rattle.dr_formats.specs.FileLaws.{FileHasNoCause, KnownCauseHolds, OneCause};
+
+/// The cause that the test knows of bytes holds.
+pub fn known_cause_holds()
+    ensures { KnownCauseHolds }
+{}
+
+/// Bytes have at most one cause for which they are no file.
+pub fn one_cause()
+    ensures { OneCause }
+{}
+
+/// A file of some records has no such cause.
+pub fn file_has_no_cause()
+    ensures { FileHasNoCause }
+{}
