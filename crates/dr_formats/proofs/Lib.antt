@@ -16,3 +16,4 @@ pub mod LittleEndianLemmas
 pub mod HybridLemmas
 pub mod FileLemmas
 pub mod PlainLemmas
+pub mod PageLemmas

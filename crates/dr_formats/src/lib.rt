@@ -5,3 +5,4 @@
 pub mod compact_laws;
 pub mod hybrid_laws;
 pub mod file_laws;
+pub mod page_laws;
