@@ -43,7 +43,7 @@ small_number set_type = (omega arith, omega arith)
 small_number map_type = (omega arith, omega arith)
 small_number struct_type = (omega arith, omega arith)
 
-some_same : {A : Type 0} (a b : A) → Some a ≡ Some b → a ≡ b
+pub some_same : {A : Type 0} (a b : A) → Some a ≡ Some b → a ≡ b
 some_same a b e = cc
 
 same_number : (t u : ThriftType) → type_number t ≡ type_number u → t ≡ u
@@ -60,7 +60,7 @@ spells_signed z h = subst (Spells signed_varint (signed_bytes z)) (zigzag_back z
 
 -- ---- headers of lists, sets and maps
 
-abbrev header : ℕ → ThriftType → ListHeader
+abbrev pub header : ℕ → ThriftType → ListHeader
 header n t = record { size = n; element = t }
 
 header_byte : (n : ℕ) (t : ThriftType) → list_header_byte (n * 16 + type_number t) ≡ Some (header n t)
@@ -79,7 +79,7 @@ list_header_by n t false e h = spells_then (byte_as malformed malformed list_hea
 spells_list_header : (n : ℕ) (t : ThriftType) → n < 2 ^ 64 → Spells list_header (list_header_bytes n t) (header n t)
 spells_list_header n t h = list_header_by n t (nat_lt n 15) refl h
 
-abbrev both_types : ThriftType → ThriftType → MapTypes
+abbrev pub both_types : ThriftType → ThriftType → MapTypes
 both_types k v = record { key = k; value = v }
 
 map_types_byte : (k v : ThriftType) → map_types (type_number k * 16 + type_number v) ≡ Some (both_types k v)
@@ -95,7 +95,7 @@ spells_id : (z : ℤ) → in_int16 z ≡ true → Spells field_id (signed_bytes 
 spells_id z h = subst (Spells field_id (signed_bytes z)) (zigzag_back z) (spells_map (varint_below (2 ^ 16) malformed malformed) from_zigzag (signed_bytes z) (zigzag z) (spells_below (2 ^ 16) malformed malformed (zigzag z) (omega arith) (id_room z h)))
 
 -- a header is read, and then the value and the rest are
-abbrev HeaderReads : ℤ → ℤ → ThriftType → List ℕ → Type 0
+abbrev pub HeaderReads : ℤ → ℤ → ThriftType → List ℕ → Type 0
 HeaderReads last id t bytes = (value : ThriftType → Reader CompactFault Item) (next : ℤ → Reader CompactFault Struct) (u : List ℕ) (s : Struct) → Spells (field_and_rest value next t id) u s → Spells (byte_as malformed malformed (field_header last) >>= after_header value next) (bytes ++ u) s
 
 header_of_byte : (last : ℤ) (d : ℕ) (t : ThriftType) → field_header last (d * 16 + type_number t) ≡ with_delta last d t
@@ -220,7 +220,7 @@ enough_behind last id t u v k h = omega (arith, length-append (header_bytes last
 no_nesting : (x : Item) (A : Type 0) → false ≡ true → A
 no_nesting x A h = absurd (true≢false (sym h))
 
-abbrev list_reader : ℕ → (ThriftType → Items → Item) → ListHeader → Reader CompactFault Item
+abbrev pub list_reader : ℕ → (ThriftType → Items → Item) → ListHeader → Reader CompactFault Item
 list_reader n make h = items (value_of n h.element) h.size >>= (λ xs. give (make h.element xs))
 
 some_pairs : (n : ℕ) (k v : ThriftType) (xs : Pairs) → 0 < count_pairs xs → Spells (pairs (value_of n k) (value_of n v) (count_pairs xs)) (pairs_bytes xs) xs → Spells (map_of (value_of n) (count_pairs xs)) ((type_number k * 16 + type_number v) ∷ pairs_bytes xs) (map_item k v xs)

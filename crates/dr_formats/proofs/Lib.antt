@@ -12,6 +12,7 @@ pub mod VarintLemmas
 pub mod CompactLemmas
 pub mod LocalLemmas
 pub mod CompactLocal
+pub mod GrammarReads
 pub mod LittleEndianLemmas
 pub mod HybridLemmas
 pub mod FileLemmas

@@ -16,3 +16,4 @@ pub mod FileLaws
 pub mod TableFile
 pub mod Tablets
 pub mod PlainLaws
+pub mod CompactGrammar
