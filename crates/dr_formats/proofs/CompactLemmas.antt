@@ -9,7 +9,7 @@ use Rattle.dr_meaning.specs.Record.{in_int64}
 use Rattle.dr_formats.specs.Reading.{Reading, got, refused, Reader, give, ◌>>=◌, byte_as, bytes_of, Spells}
 use Rattle.dr_formats.specs.Varint.{varint, varint_below, varint_bytes, varint_bytes_from, zigzag, from_zigzag}
 use Rattle.dr_formats.specs.Compact.{CompactFault, malformed, ThriftType, true_type, false_type, byte_type, i16_type, i32_type, i64_type, double_type, binary_type, list_type, set_type, map_type, struct_type, Struct, stop, struct_field, Item, truth_item, byte_item, i16_item, i32_item, i64_item, double_item, binary_item, list_item, set_item, empty_map_item, map_item, struct_item, Items, no_items, item, Pairs, no_pairs, pair, type_number, type_of, signed_varint, truth_byte, plain_byte, binary, ListHeader, list_header_byte, list_size, list_header, MapTypes, map_types, items, pairs, map_of, FieldHeader, stop_header, short_header, long_header, in_int16, with_delta, field_header, field_id, field_value, field_and_rest, after_header, fields, struct_of, value_of, read_struct, item_type, count_items, count_pairs, signed_bytes, list_header_bytes, header_by_delta, header_bytes, in_field, fields_bytes, item_bytes, items_bytes, pairs_bytes, struct_bytes, is_truth, has_type, is_struct, is_item, are_items, are_pairs, is_tree}
-use Rattle.dr_formats.specs.CompactLaws.{WrittenStructIsSpelled}
+use Rattle.dr_formats.specs.CompactLaws.{WrittenStructIsRead}
 use Rattle.dr_formats.proofs.ReadingLemmas.{spells_give, spells_then, spells_map, spells_as, spells_bytes}
 use Rattle.dr_formats.proofs.VarintLemmas.{spells_varint, spells_below, zigzag_back}
 
@@ -286,6 +286,6 @@ mutual
       (spells_then (field_value (value_of n) (item_type x)) (λ y. fields (value_of n) k id >>= (λ r. give (struct_field id y r))) (in_field x (item_bytes x)) (fields_bytes id s) x (struct_field id x s) (field_value_back n x (item_back n x q.1))
       (spells_map (fields (value_of n) k id) (struct_field id x) (fields_bytes id s) s (fields_back n id s k p.1 (enough_behind last id (item_type x) (in_field x (item_bytes x)) (fields_bytes id s) k l))))
 
-pub written_struct_is_spelled : WrittenStructIsSpelled
+pub written_struct_is_read : WrittenStructIsRead
 unfolding read_struct struct_bytes
-written_struct_is_spelled s h = struct_back 31 s (λ k l. fields_back 31 (pos 0) s k h l)
+written_struct_is_read s h = struct_back 31 s (λ k l. fields_back 31 (pos 0) s k h l)

@@ -6,7 +6,7 @@ use Rattle.std.proofs.lemmas.List.{length-append}
 use Rattle.dr_formats.specs.Reading.{Reading, got, refused, Reader, give, ◌>>=◌, byte_as, bytes_of, Spells}
 use Rattle.dr_formats.specs.Varint.{varint_from, varint_below, varint, from_zigzag}
 use Rattle.dr_formats.specs.Compact.{CompactFault, malformed, ThriftType, true_type, false_type, byte_type, i16_type, i32_type, i64_type, double_type, binary_type, list_type, set_type, map_type, struct_type, Struct, stop, struct_field, Item, truth_item, byte_item, i16_item, i32_item, i64_item, double_item, binary_item, list_item, set_item, empty_map_item, map_item, struct_item, Items, no_items, item, Pairs, no_pairs, pair, type_of, signed_varint, truth_byte, plain_byte, binary, list_header_byte, list_size, list_header, map_types, items, pairs, map_of, FieldHeader, stop_header, short_header, long_header, in_int16, with_delta, field_header, field_id, field_value, field_and_rest, after_header, fields, struct_of, value_of, read_struct, item_type, count_items, count_pairs, is_truth}
-use Rattle.dr_formats.specs.CompactGrammar.{is_chain, seven_bits, SpellsVarint, SpellsNumber, SpellsSigned, SpellsHalves, SpellsShortHeader, SpellsLongHeader, SpellsFieldHeader, SpellsListHeader, SpellsMapHeader, IsTruthType, InField, SpellsFields, SpellsItem, SpellsItems, SpellsPairs, IsSpelling}
+use Rattle.dr_formats.specs.CompactGrammar.{is_chain, seven_bits, SpellsVarint, SpellsNumber, SpellsSigned, SpellsHalves, SpellsShortHeader, SpellsLongHeader, SpellsFieldHeader, SpellsListHeader, SpellsMapHeader, IsTruthType, InField, SpellsFields, SpellsItem, SpellsItems, SpellsPairs, SpellsStruct}
 use Rattle.dr_formats.proofs.ReadingLemmas.{spells_give, spells_then, spells_map, spells_as, spells_bytes}
 use Rattle.dr_formats.proofs.CompactLemmas.{header, both_types, HeaderReads, list_reader}
 
@@ -149,6 +149,6 @@ mutual
       (spells_then (field_value (value_of n) h.3) (λ y. fields (value_of n) k id >>= (λ r. give (struct_field id y r))) h.1 h.2 x (struct_field id x s) (field_value_reads n h.1 h.3 x h.6 (item_reads n h.1 h.3 x))
       (spells_map (fields (value_of n) k id) (struct_field id x) h.2 s (fields_read n h.2 id s h.7 k m))))
 
-pub spelling_is_read : (bytes : List ℕ) (s : Struct) → IsSpelling bytes s → Spells read_struct bytes s
+pub spelling_is_read : (bytes : List ℕ) (s : Struct) → SpellsStruct bytes s → Spells read_struct bytes s
 unfolding read_struct
 spelling_is_read bytes s h = struct_reads 31 bytes s (λ k l. fields_read 31 bytes (pos 0) s h k l)

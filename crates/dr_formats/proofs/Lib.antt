@@ -10,9 +10,8 @@ pub mod WorkedTables
 pub mod ReadingLemmas
 pub mod VarintLemmas
 pub mod CompactLemmas
-pub mod LocalLemmas
-pub mod CompactLocal
 pub mod GrammarReads
+pub mod GrammarSound
 pub mod LittleEndianLemmas
 pub mod HybridLemmas
 pub mod FileLemmas

@@ -1,4 +1,4 @@
--- Lemmas of reading: what one form spells, then another; and what is read depends on what was read alone.
+-- Lemmas of reading: what one form spells, then another.
 use Rattle.std.proofs.Common.{◌≡◌, ℕ, zero, suc, ◌+◌, ◌≤◌, ◌<◌, List, [], ◌∷◌, ◌++◌, length, take, drop, Bool, true, false, refl, sym, ap, ◌∙◌, subst, Option, Some, None, append_assoc, arith}
 use Rattle.std.specs.Prelude.{nat_le}
 use Rattle.std.proofs.lemmas.Bool.{le-leb}
@@ -24,3 +24,23 @@ long_enough b rest = le-leb (length b) (length (b ++ rest)) (omega (arith, lengt
 
 pub spells_bytes : {E : Type 0} (short : E) (n : ℕ) (b : List ℕ) → length b ≡ n → Spells (bytes_of short n) b b
 spells_bytes short n b e rest = rw (← e, long_enough b rest, take-append_seam b rest, drop-append_seam b rest) refl
+
+-- ---- what was read is one value and one rest
+
+abbrev is_got : {E A : Type 0} → Reading E A → Type 0
+is_got (got a bs) = Unit {0}
+is_got (refused e bs) = ⊥
+
+abbrev value_or : {E A : Type 0} → A → Reading E A → A
+value_or d (got a bs) = a
+value_or d (refused e bs) = d
+
+abbrev rest_of : {E A : Type 0} → Reading E A → List ℕ
+rest_of (got a bs) = bs
+rest_of (refused e bs) = bs
+
+pub not_refused : {E A : Type 0} (e : E) (bs : List ℕ) (a : A) (rest : List ℕ) → refused e bs ≡ got a rest → ⊥
+not_refused e bs a rest h = subst is_got (sym h) tt
+
+pub same_got : {E A : Type 0} (a b : A) (r q : List ℕ) → Path (Reading E A) (got a r) (got b q) → (a ≡ b) × (r ≡ q)
+same_got {E} a b r q h = (ap (value_or {E = E} a) h, ap (rest_of {E = E}) h)

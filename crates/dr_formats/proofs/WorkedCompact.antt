@@ -1,13 +1,13 @@
 -- Structs of the compact protocol, by computation.
 use Rattle.std.specs.Prelude.{◌≡◌, ℕ, List, [], ◌∷◌, pos, Option, Some, None, refl}
 use Rattle.dr_formats.specs.Reading.{got, refused}
-use Rattle.dr_formats.specs.Compact.{Struct, stop, struct_field, i32_item, read_struct, struct_fault, malformed, too_deep, struct_bytes, SpellsStruct}
+use Rattle.dr_formats.specs.Compact.{Struct, stop, struct_field, i32_item, read_struct, struct_fault, malformed, too_deep, struct_bytes}
 
 -- the struct {1: 1}
 abbrev pub one_field : Struct
 one_field = struct_field (pos 1) (i32_item (pos 1)) stop
 
-pub reads_one_field : SpellsStruct (21 ∷ 2 ∷ 0 ∷ []) one_field
+pub reads_one_field : read_struct (21 ∷ 2 ∷ 0 ∷ []) ≡ got one_field []
 unfolding read_struct
 reads_one_field = refl
 
@@ -25,7 +25,7 @@ unfolding read_struct
 no_bytes = refl
 
 -- the struct without fields
-pub reads_empty : SpellsStruct (0 ∷ []) stop
+pub reads_empty : read_struct (0 ∷ []) ≡ got stop []
 unfolding read_struct
 reads_empty = refl
 

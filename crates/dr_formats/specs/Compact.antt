@@ -283,14 +283,6 @@ fault_in bytes (refused f rest) = Some (record { place = length bytes - length r
 abbrev pub struct_fault : List ℕ → Option PlacedFault
 struct_fault bytes = fault_in bytes (read_struct bytes)
 
--- whether the bytes, all of them, spell the struct
-abbrev pub SpellsStruct : List ℕ → Struct → Type 0
-SpellsStruct bytes s = read_struct bytes ≡ got s []
-
--- whether the bytes begin with the struct and go on with the rest
-abbrev pub BeginsWithStruct : List ℕ → Struct → List ℕ → Type 0
-BeginsWithStruct bytes s rest = read_struct bytes ≡ got s rest
-
 -- ---- the spelling that is written: shortest varints, and the short form of a field's header where it fits
 
 abbrev pub item_type : Item → ThriftType

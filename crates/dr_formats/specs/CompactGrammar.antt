@@ -1,7 +1,7 @@
 -- The grammar of structs in the Thrift compact protocol, as a relation between bytes and trees: every spelling that the protocol allows.
 use Rattle.std.specs.Prelude.{◌≡◌, ◌⊎◌, ◌↔◌, ℕ, zero, suc, ◌+◌, ◌*◌, ◌/◌, ◌%◌, ◌^◌, ◌<◌, ◌≤◌, List, [], ◌∷◌, ◌++◌, length, Bool, true, false, ◌&&◌, ◌==◌, nat_lt, nat_le, ℤ, pos, ◌+ℤ◌, Some}
 use Rattle.dr_formats.specs.Varint.{from_zigzag}
-use Rattle.dr_formats.specs.Compact.{ThriftType, true_type, false_type, byte_type, i16_type, i32_type, i64_type, double_type, binary_type, list_type, set_type, map_type, struct_type, Struct, stop, struct_field, Item, truth_item, byte_item, i16_item, i32_item, i64_item, double_item, binary_item, list_item, set_item, empty_map_item, map_item, struct_item, Items, no_items, item, Pairs, no_pairs, pair, type_of, in_int16, count_items, count_pairs, BeginsWithStruct}
+use Rattle.dr_formats.specs.Compact.{ThriftType, true_type, false_type, byte_type, i16_type, i32_type, i64_type, double_type, binary_type, list_type, set_type, map_type, struct_type, Struct, stop, struct_field, Item, truth_item, byte_item, i16_item, i32_item, i64_item, double_item, binary_item, list_item, set_item, empty_map_item, map_item, struct_item, Items, no_items, item, Pairs, no_pairs, pair, type_of, in_int16, count_items, count_pairs}
 
 -- ---- numbers
 
@@ -93,10 +93,6 @@ abbrev mutual
   SpellsPairs n bytes k v no_pairs = bytes ≡ []
   SpellsPairs n bytes k v (pair x y xs) = (a : List ℕ) × (b : List ℕ) × (c : List ℕ) × (bytes ≡ a ++ (b ++ c)) × SpellsItem n a k x × SpellsItem n b v y × SpellsPairs n c k v xs
 
--- whether the bytes, all of them, are a spelling of the struct, in which nothing stands inside 32 others
-abbrev pub IsSpelling : List ℕ → Struct → Type 0
-IsSpelling bytes s = SpellsFields 31 bytes (pos 0) s
-
--- what is read of the front of bytes is what a front of them is a spelling of
-abbrev pub ReadsSpellings : Type 0
-ReadsSpellings = (bytes rest : List ℕ) (s : Struct) → BeginsWithStruct bytes s rest ↔ ((front : List ℕ) × (bytes ≡ front ++ rest) × IsSpelling front s)
+-- whether the bytes, all of them, spell the struct, in which nothing stands inside 32 others
+abbrev pub SpellsStruct : List ℕ → Struct → Type 0
+SpellsStruct bytes s = SpellsFields 31 bytes (pos 0) s

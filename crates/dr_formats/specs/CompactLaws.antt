@@ -1,11 +1,20 @@
 -- Laws of structs in the compact protocol.
-use Rattle.std.specs.Prelude.{◌≡◌, ℕ, List, ◌++◌, true}
-use Rattle.dr_formats.specs.Reading.{Spells}
-use Rattle.dr_formats.specs.Compact.{Struct, read_struct, struct_bytes, is_tree, SpellsStruct}
+use Rattle.std.specs.Prelude.{◌≡◌, ◌↔◌, ℕ, List, ◌++◌, true}
+use Rattle.dr_formats.specs.Reading.{Spells, got}
+use Rattle.dr_formats.specs.Compact.{Struct, read_struct, struct_bytes, is_tree}
+use Rattle.dr_formats.specs.CompactGrammar.{SpellsStruct}
 
--- what is written for a struct is read as that struct, whatever follows it
+-- a struct and a rest are read exactly where a front of the bytes spells the struct and the rest is what follows
+abbrev pub StructIsReadExactly : Type 0
+StructIsReadExactly = (bytes rest : List ℕ) (s : Struct) → (read_struct bytes ≡ got s rest) ↔ ((front : List ℕ) × (bytes ≡ front ++ rest) × SpellsStruct front s)
+
+-- what is written for a struct spells it
 abbrev pub WrittenStructIsSpelled : Type 0
-WrittenStructIsSpelled = (s : Struct) → is_tree s ≡ true → Spells read_struct (struct_bytes s) s
+WrittenStructIsSpelled = (s : Struct) → is_tree s ≡ true → SpellsStruct (struct_bytes s) s
+
+-- and is read as that struct, whatever follows it
+abbrev pub WrittenStructIsRead : Type 0
+WrittenStructIsRead = (s : Struct) → is_tree s ≡ true → Spells read_struct (struct_bytes s) s
 
 -- of two fronts of the same bytes that spell structs, both are the same front and the same struct
 abbrev pub FrontSpellsOneStruct : Type 0

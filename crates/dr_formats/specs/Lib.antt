@@ -1,6 +1,7 @@
 pub mod Reading
 pub mod Varint
 pub mod Compact
+pub mod CompactGrammar
 pub mod CompactLaws
 pub mod LittleEndian
 pub mod Hybrid
@@ -16,4 +17,3 @@ pub mod FileLaws
 pub mod TableFile
 pub mod Tablets
 pub mod PlainLaws
-pub mod CompactGrammar

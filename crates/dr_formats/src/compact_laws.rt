@@ -1,10 +1,16 @@
 //! Laws of structs in the Thrift compact protocol.
 
-ghost use Rattle.dr_formats.specs.CompactLaws.{FrontSpellsOneStruct, WrittenStructIsSpelled};
+ghost use Rattle.dr_formats.specs.CompactLaws.{FrontSpellsOneStruct, StructIsReadExactly, WrittenStructIsRead, WrittenStructIsSpelled};
 
-/// What is written for a struct is read as that struct, whatever follows it.
-pub fn written_struct_is_spelled()
-    ensures { WrittenStructIsSpelled }
+/// A struct and a rest are read exactly where a front of the bytes spells the struct by the grammar.
+pub fn struct_is_read_exactly()
+    ensures { StructIsReadExactly }
+{}
+
+/// What is written for a struct spells it, and is read as that struct, whatever follows it.
+pub fn written_struct_is_read()
+    ensures spelled { WrittenStructIsSpelled }
+    ensures read { WrittenStructIsRead }
 {}
 
 /// A front of bytes spells at most one struct, at one length.
