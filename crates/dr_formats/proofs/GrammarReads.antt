@@ -4,39 +4,14 @@ use Rattle.std.specs.Prelude.{nat_lt, nat_le, ◌==◌, ◌&&◌, if◌then◌el
 use Rattle.std.proofs.lemmas.Bool.{ltb-true, lt-ltb, le-ltb, leb-true, eqb-true, and_parts, false_from_ne_true}
 use Rattle.std.proofs.lemmas.List.{length-append}
 use Rattle.dr_formats.specs.Reading.{Reading, got, refused, Reader, give, ◌>>=◌, byte_as, bytes_of, Spells}
-use Rattle.dr_formats.specs.Varint.{varint_from, varint_below, varint, from_zigzag}
+use Rattle.dr_formats.specs.Varint.{varint_from, varint_below, varint, from_zigzag, is_chain, seven_bits, SpellsVarint, SpellsNumber, SpellsSigned}
 use Rattle.dr_formats.specs.Compact.{CompactFault, malformed, ThriftType, true_type, false_type, byte_type, i16_type, i32_type, i64_type, double_type, binary_type, list_type, set_type, map_type, struct_type, Struct, stop, struct_field, Item, truth_item, byte_item, i16_item, i32_item, i64_item, double_item, binary_item, list_item, set_item, empty_map_item, map_item, struct_item, Items, no_items, item, Pairs, no_pairs, pair, type_of, signed_varint, truth_byte, plain_byte, binary, list_header_byte, list_size, list_header, map_types, items, pairs, map_of, FieldHeader, stop_header, short_header, long_header, in_int16, with_delta, field_header, field_id, field_value, field_and_rest, after_header, fields, struct_of, value_of, read_struct, item_type, count_items, count_pairs, is_truth}
-use Rattle.dr_formats.specs.CompactGrammar.{is_chain, seven_bits, SpellsVarint, SpellsNumber, SpellsSigned, SpellsHalves, SpellsShortHeader, SpellsLongHeader, SpellsFieldHeader, SpellsListHeader, SpellsMapHeader, IsTruthType, InField, SpellsFields, SpellsItem, SpellsItems, SpellsPairs, SpellsStruct}
+use Rattle.dr_formats.specs.CompactGrammar.{SpellsHalves, SpellsShortHeader, SpellsLongHeader, SpellsFieldHeader, SpellsListHeader, SpellsMapHeader, IsTruthType, InField, SpellsFields, SpellsItem, SpellsItems, SpellsPairs, SpellsStruct}
 use Rattle.dr_formats.proofs.ReadingLemmas.{spells_give, spells_then, spells_map, spells_as, spells_bytes}
+use Rattle.dr_formats.proofs.VarintLemmas.{varint_reads}
 use Rattle.dr_formats.proofs.CompactLemmas.{header, both_types, HeaderReads, list_reader}
 
 -- ---- numbers
-
-abbrev ChainReads : (E : Type 0) → E → E → ℕ → ℕ → ℕ → ℕ → List ℕ → Type 0
-ChainReads E short long bound k sum worth bytes = (rest : List ℕ) → varint_from short long bound k sum worth (bytes ++ rest) ≡ got (sum + seven_bits bytes * worth) rest
-
-chain_reads : {E : Type 0} (short long : E) (bound k : ℕ) (bytes : List ℕ) (sum worth : ℕ) → is_chain bytes ≡ true → length bytes ≤ suc k → sum + seven_bits bytes * worth < bound → ChainReads E short long bound k sum worth bytes
-chain_reads short long bound k [] sum worth c l h rest = absurd (true≢false (sym c))
-chain_reads short long bound zero (b ∷ []) sum worth c l h rest =
-    let e : sum + (b % 128 + 128 * 0) * worth ≡ sum + b % 128 * worth = omega arith in
-    let g : sum + b % 128 * worth < bound = omega (arith, h, e) in
-    rw (e, lt-ltb (sum + b % 128 * worth) bound g, c) refl
-chain_reads short long bound (suc k) (b ∷ []) sum worth c l h rest =
-    let e : sum + (b % 128 + 128 * 0) * worth ≡ sum + b % 128 * worth = omega arith in
-    let g : sum + b % 128 * worth < bound = omega (arith, h, e) in
-    rw (e, lt-ltb (sum + b % 128 * worth) bound g, c) refl
-chain_reads short long bound zero (b ∷ d ∷ bs) sum worth c l h rest = absurd (omega (arith, l))
-chain_reads short long bound (suc k) (b ∷ d ∷ bs) sum worth c l h rest =
-    let p : (nat_le 128 b ≡ true) × (is_chain (d ∷ bs) ≡ true) = and_parts _ _ c in
-    let e : sum + seven_bits (b ∷ d ∷ bs) * worth ≡ sum + b % 128 * worth + seven_bits (d ∷ bs) * (128 * worth) = omega arith in
-    let g : sum + b % 128 * worth < bound = omega (arith, h, e) in
-    let i : sum + b % 128 * worth + seven_bits (d ∷ bs) * (128 * worth) < bound = omega (arith, h, e) in
-    rw (lt-ltb _ _ g, le-ltb b 128 (leb-true 128 b p.0)) (chain_reads short long bound k (d ∷ bs) (sum + b % 128 * worth) (128 * worth) p.1 (omega (arith, l)) i rest ∙ ap (λ x. got x rest) (sym e))
-
-pub varint_reads : {E : Type 0} (bound : ℕ) (short long : E) (bytes : List ℕ) (n : ℕ) → SpellsVarint bound bytes n → Spells (varint_below bound short long) bytes n
-varint_reads bound short long bytes n h rest =
-    let e : 0 + seven_bits bytes * 1 ≡ n = omega (arith, h.2) in
-    chain_reads short long bound 9 bytes 0 1 h.0 h.1 (omega (arith, e, h.3)) rest ∙ ap (λ x. got x rest) e
 
 signed_reads : (bound : ℕ) (bytes : List ℕ) (z : ℤ) → SpellsSigned bound bytes z → Spells (varint_below bound malformed malformed >>= (λ n. give (from_zigzag n))) bytes z
 signed_reads bound bytes z h = subst (Spells (varint_below bound malformed malformed >>= (λ n. give (from_zigzag n))) bytes) h.2 (spells_map (varint_below bound malformed malformed) from_zigzag bytes h.0 (varint_reads bound malformed malformed bytes h.0 h.1))

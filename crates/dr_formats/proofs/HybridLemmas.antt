@@ -14,7 +14,7 @@ use Rattle.dr_formats.specs.LittleEndian.{little_endian, little_endian_bytes, un
 use Rattle.dr_formats.specs.Hybrid.{HybridFault, short, repeat_run, packed_run, run, runs, values_read, hybrid, equal_front, WrittenRun, repeat_of, group_of, next_run, runs_behind, hybrid_bytes}
 use Rattle.dr_formats.specs.HybridLaws.{OneListOfValues, WrittenRunsAreRead}
 use Rattle.dr_formats.proofs.ReadingLemmas.{spells_bytes}
-use Rattle.dr_formats.proofs.VarintLemmas.{room, spells_varint, varint_has_byte}
+use Rattle.dr_formats.proofs.VarintLemmas.{spells_varint, varint_has_byte, varint_length}
 use Rattle.dr_formats.proofs.LittleEndianLemmas.{length_little_endian, little_endian_back, fewer_bytes, are_below, unpacked_bytes}
 
 some_equal : (us vs : List ℕ) → Some us ≡ Some vs → us ≡ vs
@@ -179,15 +179,6 @@ written_runs_are_read w vs rest h l =
     ap values_read r.1
 
 -- ---- how many bytes are written
-
-varint_step : (k j n : ℕ) (b : Bool) → nat_lt n 128 ≡ b → n < room j → ((i : ℕ) → n / 128 < room i → length (varint_bytes_from k (n / 128)) ≤ suc i) → length (if b then n ∷ [] else (128 + n % 128) ∷ varint_bytes_from k (n / 128)) ≤ suc j
-varint_step k j n true e h s = omega arith
-varint_step k zero n false e h s = absurd (omega (arith, ltb-false _ _ e, h))
-varint_step k (suc j) n false e h s = let l : length (varint_bytes_from k (n / 128)) ≤ suc j = s j (omega (arith, h)) in omega (arith, l)
-
-varint_length : (k j n : ℕ) → n < room j → length (varint_bytes_from k n) ≤ suc j
-varint_length zero j n h = omega arith
-varint_length (suc k) j n h = varint_step k j n (nat_lt n 128) refl h (λ i. varint_length k i (n / 128))
 
 -- as many bytes as values, and seven more, unless there are no values
 abbrev spare : List ℕ → ℕ

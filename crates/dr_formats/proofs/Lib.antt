@@ -8,6 +8,7 @@ pub mod WorkedForeign
 pub mod WorkedTables
 -- lemmas
 pub mod ReadingLemmas
+pub mod SoundLemmas
 pub mod VarintLemmas
 pub mod CompactLemmas
 pub mod GrammarReads

@@ -1,31 +1,7 @@
 -- The grammar of structs in the Thrift compact protocol, as a relation between bytes and trees: every spelling that the protocol allows.
 use Rattle.std.specs.Prelude.{◌≡◌, ◌⊎◌, ◌↔◌, ℕ, zero, suc, ◌+◌, ◌*◌, ◌/◌, ◌%◌, ◌^◌, ◌<◌, ◌≤◌, List, [], ◌∷◌, ◌++◌, length, Bool, true, false, ◌&&◌, ◌==◌, nat_lt, nat_le, ℤ, pos, ◌+ℤ◌, Some}
-use Rattle.dr_formats.specs.Varint.{from_zigzag}
+use Rattle.dr_formats.specs.Varint.{SpellsNumber, SpellsSigned}
 use Rattle.dr_formats.specs.Compact.{ThriftType, true_type, false_type, byte_type, i16_type, i32_type, i64_type, double_type, binary_type, list_type, set_type, map_type, struct_type, Struct, stop, struct_field, Item, truth_item, byte_item, i16_item, i32_item, i64_item, double_item, binary_item, list_item, set_item, empty_map_item, map_item, struct_item, Items, no_items, item, Pairs, no_pairs, pair, type_of, in_int16, count_items, count_pairs}
-
--- ---- numbers
-
--- 128 and more where another byte follows, less at the last
-abbrev pub is_chain : List ℕ → Bool
-is_chain [] = false
-is_chain (b ∷ []) = nat_lt b 128
-is_chain (b ∷ c ∷ bs) = nat_le 128 b && is_chain (c ∷ bs)
-
--- seven bits a byte, the low part first
-abbrev pub seven_bits : List ℕ → ℕ
-seven_bits [] = 0
-seven_bits (b ∷ bs) = b % 128 + 128 * seven_bits bs
-
--- a varint of at most 10 bytes of a number below the bound
-abbrev pub SpellsVarint : ℕ → List ℕ → ℕ → Type 0
-SpellsVarint bound bytes n = (is_chain bytes ≡ true) × (length bytes ≤ 10) × (seven_bits bytes ≡ n) × (n < bound)
-
-abbrev pub SpellsNumber : List ℕ → ℕ → Type 0
-SpellsNumber bytes n = SpellsVarint (2 ^ 64) bytes n
-
--- a zigzag varint
-abbrev pub SpellsSigned : ℕ → List ℕ → ℤ → Type 0
-SpellsSigned bound bytes z = (n : ℕ) × SpellsVarint bound bytes n × (from_zigzag n ≡ z)
 
 -- ---- headers
 

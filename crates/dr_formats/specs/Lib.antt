@@ -1,5 +1,6 @@
 pub mod Reading
 pub mod Varint
+pub mod VarintLaws
 pub mod Compact
 pub mod CompactGrammar
 pub mod CompactLaws

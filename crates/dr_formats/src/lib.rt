@@ -3,6 +3,7 @@
 #![tactic(auto)]
 
 pub mod compact_laws;
-pub mod hybrid_laws;
 pub mod file_laws;
+pub mod hybrid_laws;
 pub mod page_laws;
+pub mod varint_laws;
