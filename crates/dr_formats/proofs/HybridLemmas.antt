@@ -12,21 +12,15 @@ use Rattle.dr_formats.specs.Reading.{Reading, got, refused, Reader, give, goes_o
 use Rattle.dr_formats.specs.Varint.{varint, varint_bytes, varint_bytes_from}
 use Rattle.dr_formats.specs.LittleEndian.{little_endian, little_endian_bytes, unpacked, packed, bytes_for}
 use Rattle.dr_formats.specs.Hybrid.{HybridFault, short, repeat_run, packed_run, run, runs, values_read, hybrid, equal_front, WrittenRun, repeat_of, group_of, next_run, runs_behind, hybrid_bytes}
-use Rattle.dr_formats.specs.HybridLaws.{OneListOfValues, WrittenRunsAreRead}
+use Rattle.dr_formats.specs.HybridLaws.{WrittenRunsAreRead}
 use Rattle.dr_formats.proofs.ReadingLemmas.{spells_bytes}
 use Rattle.dr_formats.proofs.VarintLemmas.{spells_varint, varint_has_byte, varint_length}
 use Rattle.dr_formats.proofs.LittleEndianLemmas.{length_little_endian, little_endian_back, fewer_bytes, are_below, unpacked_bytes}
 
-some_equal : (us vs : List ℕ) → Some us ≡ Some vs → us ≡ vs
-some_equal us vs e = cc
-
-pub one_list_of_values : OneListOfValues
-one_list_of_values bytes width n us vs h k = some_equal us vs (sym h ∙ k)
-
 -- ---- one run read
 
 -- a header, a run and the runs behind it
-one_run : (k w n h : ℕ) (us more left b c d : List ℕ) → varint short short b ≡ got h c → run w (suc n) h c ≡ got us d → runs k w (suc n - length us) d ≡ got more left → runs (suc k) w (suc n) b ≡ got (us ++ more) left
+pub one_run : (k w n h : ℕ) (us more left b c d : List ℕ) → varint short short b ≡ got h c → run w (suc n) h c ≡ got us d → runs k w (suc n - length us) d ≡ got more left → runs (suc k) w (suc n) b ≡ got (us ++ more) left
 one_run k w n h us more left b c d e f g = rw (e, f, g) refl
 
 whole_bytes : (w v : ℕ) → v < 2 ^ w → v < 2 ^ (8 * bytes_for w)

@@ -15,6 +15,7 @@ pub mod GrammarReads
 pub mod GrammarSound
 pub mod LittleEndianLemmas
 pub mod HybridLemmas
+pub mod HybridGrammar
 pub mod FileLemmas
 pub mod PlainLemmas
 pub mod PageLemmas

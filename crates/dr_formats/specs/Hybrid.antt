@@ -1,7 +1,7 @@
 -- The RLE / bit-packing hybrid (Apache Parquet, Encodings, "Run Length Encoding / Bit-Packing Hybrid"), without the length before it.
-use Rattle.std.specs.Prelude.{◌≡◌, ℕ, zero, suc, ◌+◌, ◌-◌, ◌*◌, ◌/◌, ◌%◌, min, List, [], ◌∷◌, ◌++◌, length, take, replicate, ◌||◌, ◌==◌, nat_le, if◌then◌else◌, Option, Some, None}
+use Rattle.std.specs.Prelude.{◌≡◌, ◌⊎◌, ◌<◌, ℕ, zero, suc, ◌+◌, ◌-◌, ◌*◌, ◌/◌, ◌%◌, min, List, [], ◌∷◌, ◌++◌, length, take, replicate, ◌||◌, ◌==◌, nat_le, if◌then◌else◌, Option, Some, None}
 use Rattle.dr_formats.specs.Reading.{Reading, got, refused, Reader, give, ◌>>=◌, bytes_of}
-use Rattle.dr_formats.specs.Varint.{varint, varint_bytes}
+use Rattle.dr_formats.specs.Varint.{varint, varint_bytes, SpellsNumber}
 use Rattle.dr_formats.specs.LittleEndian.{little_endian, little_endian_bytes, unpacked, packed, bytes_for}
 
 -- too few bytes for the wanted values
@@ -42,9 +42,24 @@ values_read (refused e rest) = None
 unfoldable pub hybrid : ℕ → ℕ → List ℕ → Option (List ℕ)
 hybrid width n bytes = values_read (runs (length bytes) width n bytes)
 
+-- ---- every spelling, as a relation between bytes and values
+
+-- a repeat with this header and these bytes behind it, of which at most n values are wanted
+abbrev pub SpellsRepeat : ℕ → ℕ → ℕ → List ℕ → List ℕ → Type 0
+SpellsRepeat width n header part vs = (count : ℕ) × (header ≡ 2 * count) × (length part ≡ bytes_for width) × (vs ≡ replicate (min count n) (little_endian part))
+
+-- groups of eight packed values, as many bytes of them as hold wanted values
+abbrev pub SpellsPacked : ℕ → ℕ → ℕ → List ℕ → List ℕ → Type 0
+SpellsPacked width n header part vs = (groups : ℕ) × (header ≡ 2 * groups + 1) × (length vs ≡ min (8 * groups) n) × (length part ≡ bytes_for (length vs * width)) × (vs ≡ unpacked (length vs) width (little_endian part))
+
+-- so many runs, before each of which a value is wanted, whose values are the n wanted ones; what follows doesn't matter
+abbrev pub SpellsRuns : ℕ → ℕ → ℕ → List ℕ → List ℕ → Type 0
+SpellsRuns zero width n bytes vs = (n ≡ 0) × (vs ≡ [])
+SpellsRuns (suc k) width n bytes vs = (0 < n) × (h : List ℕ) × (part : List ℕ) × (behind : List ℕ) × (header : ℕ) × (us : List ℕ) × (ws : List ℕ) × (bytes ≡ h ++ (part ++ behind)) × SpellsNumber h header × (SpellsRepeat width n header part us ⊎ SpellsPacked width n header part us) × SpellsRuns k width (n - length us) behind ws × (vs ≡ us ++ ws)
+
 -- whether the bytes begin with runs whose values begin with these n
 abbrev pub Runs : List ℕ → ℕ → ℕ → List ℕ → Type 0
-Runs bytes width n vs = hybrid width n bytes ≡ Some vs
+Runs bytes width n vs = (k : ℕ) × SpellsRuns k width n bytes vs
 
 -- ---- what is written: where at least eight equal values follow, or nothing but equal values, a repeat of them; else one group of the next eight, padded with 0
 
