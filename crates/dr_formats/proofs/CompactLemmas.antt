@@ -1,16 +1,16 @@
 -- What is written for a struct is read as that struct, whatever follows it.
-use Rattle.std.proofs.Common.{◌≡◌, ℕ, zero, suc, ◌+◌, ◌*◌, ◌/◌, ◌%◌, ◌^◌, ◌≤◌, ◌<◌, List, [], ◌∷◌, ◌++◌, length, Bool, true, false, refl, sym, ap, ap₂, ◌∙◌, subst, arith, ℤ, pos, negsuc, Option, Some, None, append_assoc, true≢false, ◌⊎◌, inl, inr}
-use Rattle.std.specs.Prelude.{nat_lt, nat_le, ◌==◌, ◌&&◌, if◌then◌else◌, ◌+ℤ◌, ◌-ℤ◌, ◌-◌}
-use Rattle.std.proofs.lemmas.Bool.{ltb-true, ltb-false, lt-ltb, le-ltb, eqb-true, ne_eqb, and_parts, leb-true}
+use Rattle.std.proofs.Common.{◌≡◌, ℕ, zero, suc, ◌+◌, ◌*◌, ◌^◌, ◌≤◌, ◌<◌, List, [], ◌∷◌, ◌++◌, length, Bool, true, false, refl, sym, ap, ◌∙◌, subst, arith, ℤ, pos, negsuc, Some, true≢false, ◌⊎◌, inl, inr}
+use Rattle.std.specs.Prelude.{nat_lt, ◌==◌, ◌&&◌, if◌then◌else◌, ◌+ℤ◌, ◌-ℤ◌, ◌-◌}
+use Rattle.std.proofs.lemmas.Bool.{ltb-true, eqb-true, ne_eqb, and_parts, leb-true}
 use Rattle.std.proofs.lemmas.Nat.{div-mul-add, mod-mul-add}
 use Rattle.std.proofs.lemmas.List.{length-append}
 use Rattle.std.proofs.Math.IntN.{+ℤ_comm, -ℤ-+ℤ_cancel}
 use Rattle.dr_meaning.specs.Record.{in_int64}
-use Rattle.dr_formats.specs.Reading.{Reading, got, refused, Reader, give, ◌>>=◌, byte_as, bytes_of, Spells}
-use Rattle.dr_formats.specs.Varint.{varint, varint_below, varint_bytes, varint_bytes_from, zigzag, from_zigzag}
-use Rattle.dr_formats.specs.Compact.{CompactFault, malformed, ThriftType, true_type, false_type, byte_type, i16_type, i32_type, i64_type, double_type, binary_type, list_type, set_type, map_type, struct_type, Struct, stop, struct_field, Item, truth_item, byte_item, i16_item, i32_item, i64_item, double_item, binary_item, list_item, set_item, empty_map_item, map_item, struct_item, Items, no_items, item, Pairs, no_pairs, pair, type_number, type_of, signed_varint, truth_byte, plain_byte, binary, ListHeader, list_header_byte, list_size, list_header, MapTypes, map_types, items, pairs, map_of, FieldHeader, stop_header, short_header, long_header, in_int16, with_delta, field_header, field_id, field_value, field_and_rest, after_header, fields, struct_of, value_of, read_struct, item_type, count_items, count_pairs, signed_bytes, list_header_bytes, header_by_delta, header_bytes, in_field, fields_bytes, item_bytes, items_bytes, pairs_bytes, struct_bytes, is_truth, has_type, is_struct, is_item, are_items, are_pairs, is_tree}
+use Rattle.dr_formats.specs.Reading.{Reader, give, ◌>>=◌, byte_as, bytes_of, Spells}
+use Rattle.dr_formats.specs.Varint.{varint, varint_below, varint_bytes, zigzag, from_zigzag}
+use Rattle.dr_formats.specs.Compact.{CompactFault, malformed, ThriftType, true_type, false_type, byte_type, i16_type, i32_type, i64_type, double_type, binary_type, list_type, set_type, map_type, struct_type, Struct, stop, struct_field, Item, truth_item, byte_item, i16_item, i32_item, i64_item, double_item, binary_item, list_item, set_item, empty_map_item, map_item, struct_item, Items, no_items, item, Pairs, no_pairs, pair, type_number, type_of, signed_varint, binary, ListHeader, list_header_byte, list_size, list_header, MapTypes, map_types, items, pairs, map_of, short_header, long_header, in_int16, with_delta, field_header, field_id, field_value, field_and_rest, after_header, fields, struct_of, value_of, read_struct, item_type, count_items, count_pairs, signed_bytes, list_header_bytes, header_by_delta, header_bytes, in_field, fields_bytes, item_bytes, items_bytes, pairs_bytes, struct_bytes, is_truth, has_type, is_struct, is_item, are_items, are_pairs}
 use Rattle.dr_formats.specs.CompactLaws.{WrittenStructIsRead}
-use Rattle.dr_formats.proofs.ReadingLemmas.{spells_give, spells_then, spells_map, spells_as, spells_bytes}
+use Rattle.dr_formats.proofs.ReadingLemmas.{spells_then, spells_map, spells_as, spells_bytes}
 use Rattle.dr_formats.proofs.VarintLemmas.{spells_varint, spells_below, zigzag_back}
 
 -- ---- types
@@ -117,10 +117,10 @@ long_reads last id t h value next u s k =
 header_by : (last id delta : ℤ) (t : ThriftType) → id -ℤ last ≡ delta → in_int16 id ≡ true → HeaderReads last id t (header_by_delta delta id t)
 header_by last id (pos zero) t e h = long_reads last id t h
 header_by last id (pos (suc d)) t e h = short_or_long (nat_lt d 15)
-    where
-      short_or_long : (b : Bool) → HeaderReads last id t (if b then (suc d * 16 + type_number t) ∷ [] else type_number t ∷ signed_bytes id)
-      short_or_long true = short_reads last id d t e h
-      short_or_long false = long_reads last id t h
+  where
+    short_or_long : (b : Bool) → HeaderReads last id t (if b then (suc d * 16 + type_number t) ∷ [] else type_number t ∷ signed_bytes id)
+    short_or_long true = short_reads last id d t e h
+    short_or_long false = long_reads last id t h
 header_by last id (negsuc d) t e h = long_reads last id t h
 
 header_reads : (last id : ℤ) (t : ThriftType) → in_int16 id ≡ true → HeaderReads last id t (header_bytes last id t)
@@ -208,10 +208,10 @@ element_back n t (struct_item s) h k = other_element n t (struct_item s) refl h 
 header_has_byte : (id delta : ℤ) (t : ThriftType) → 1 ≤ length (header_by_delta delta id t)
 header_has_byte id (pos zero) t = omega arith
 header_has_byte id (pos (suc d)) t = by (nat_lt d 15)
-    where
-      by : (b : Bool) → 1 ≤ length (if b then (suc d * 16 + type_number t) ∷ [] else type_number t ∷ signed_bytes id)
-      by true = omega arith
-      by false = omega arith
+  where
+    by : (b : Bool) → 1 ≤ length (if b then (suc d * 16 + type_number t) ∷ [] else type_number t ∷ signed_bytes id)
+    by true = omega arith
+    by false = omega arith
 header_has_byte id (negsuc d) t = omega arith
 
 enough_behind : (last id : ℤ) (t : ThriftType) (u v : List ℕ) (k : ℕ) → length (header_bytes last id t ++ (u ++ v)) ≤ suc k → length v ≤ k

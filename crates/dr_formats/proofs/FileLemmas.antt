@@ -1,13 +1,13 @@
 -- Causes: what the test knows, and that there is at most one.
-use Rattle.std.proofs.Common.{◌≡◌, ℕ, zero, suc, List, [], ◌∷◌, map, length, Bool, true, false, ◌&&◌, refl, sym, ap, ap₂, ◌∙◌, subst, Option, Some, None, true≢false, arith}
-use Rattle.std.specs.Prelude.{if◌then◌else◌, ◌==◌}
+use Rattle.std.proofs.Common.{◌≡◌, ℕ, List, [], ◌∷◌, map, Bool, true, false, refl, sym, ap, ◌∙◌, subst, Option, Some, None, true≢false}
+use Rattle.std.specs.Prelude.{if◌then◌else◌}
 use Rattle.std.specs.List.{list_all}
-use Rattle.std.proofs.lemmas.Bool.{and_from, and_parts, true≢false}
+use Rattle.std.proofs.lemmas.Bool.{and_from, true≢false}
 use Rattle.dr_meaning.specs.Schema.{Schema}
 use Rattle.dr_meaning.specs.Path.{Leaf}
 use Rattle.dr_meaning.specs.Record.{Node}
 use Rattle.dr_meaning.specs.Column.{Triplet, column}
-use Rattle.dr_formats.specs.File.{Footer, footer_of, has_leaves, are_uncompressed, rows_agree, values_fit, file_column, AreColumns, IsDataOf, IsFileOf, FileCause, bad_footer, bad_schema, bad_codec, bad_records, HasCause, is_decoded, has_columns, footer_cause, known_cause}
+use Rattle.dr_formats.specs.File.{Footer, footer_of, has_leaves, are_uncompressed, file_column, AreColumns, IsDataOf, FileCause, bad_footer, bad_schema, bad_codec, bad_records, HasCause, is_decoded, has_columns, footer_cause}
 use Rattle.dr_formats.specs.FileLaws.{KnownCauseHolds, OneCause, FileHasNoCause}
 
 -- ---- what the test knows
@@ -35,27 +35,27 @@ Told bytes s F f c = footer_of bytes ≡ Some f → HasCause bytes s F c
 
 by_tests : (bytes : List ℕ) (s : Schema) (F : List Leaf) (f : Footer) (a b c : Bool) → has_leaves f F ≡ a → are_uncompressed f F ≡ b → has_columns bytes f F ≡ c → footer_of bytes ≡ Some f → (d : FileCause) → cause_by a b c ≡ Some d → HasCause bytes s F d
 by_tests bytes s F f false b c ha hb hc e d h = subst (HasCause bytes s F) (some_cause bad_schema d h) (f, e, ha)
-    where
-      some_cause : (x y : FileCause) → Some x ≡ Some y → x ≡ y
-      some_cause x y g = cc
+  where
+    some_cause : (x y : FileCause) → Some x ≡ Some y → x ≡ y
+    some_cause x y g = cc
 by_tests bytes s F f true false c ha hb hc e d h = subst (HasCause bytes s F) (some_cause bad_codec d h) (f, e, ha, hb)
-    where
-      some_cause : (x y : FileCause) → Some x ≡ Some y → x ≡ y
-      some_cause x y g = cc
+  where
+    some_cause : (x y : FileCause) → Some x ≡ Some y → x ≡ y
+    some_cause x y g = cc
 by_tests bytes s F f true true false ha hb hc e d h = subst (HasCause bytes s F) (some_cause bad_records d h) (f, e, ha, hb, λ R k. absurd (true≢false (sym (data_has_columns bytes f s F R k) ∙ hc)))
-    where
-      some_cause : (x y : FileCause) → Some x ≡ Some y → x ≡ y
-      some_cause x y g = cc
+  where
+    some_cause : (x y : FileCause) → Some x ≡ Some y → x ≡ y
+    some_cause x y g = cc
 by_tests bytes s F f true true true ha hb hc e d h = absurd (none_some d h)
-    where
-      none_some : (y : FileCause) → None ≡ Some y → ⊥
-      none_some y g = cc
+  where
+    none_some : (y : FileCause) → None ≡ Some y → ⊥
+    none_some y g = cc
 
 by_footer : (bytes : List ℕ) (s : Schema) (F : List Leaf) (o : Option Footer) → footer_of bytes ≡ o → (c : FileCause) → footer_cause bytes F o ≡ Some c → HasCause bytes s F c
 by_footer bytes s F None e c h = subst (HasCause bytes s F) (some_cause bad_footer c h) e
-    where
-      some_cause : (x y : FileCause) → Some x ≡ Some y → x ≡ y
-      some_cause x y g = cc
+  where
+    some_cause : (x y : FileCause) → Some x ≡ Some y → x ≡ y
+    some_cause x y g = cc
 by_footer bytes s F (Some f) e c h = by_tests bytes s F f (has_leaves f F) (are_uncompressed f F) (has_columns bytes f F) refl refl refl e c h
 
 pub known_cause_holds : KnownCauseHolds

@@ -1,13 +1,13 @@
 -- Every spelling of a struct is read as that struct.
-use Rattle.std.proofs.Common.{◌≡◌, ℕ, zero, suc, ◌+◌, ◌*◌, ◌/◌, ◌%◌, ◌^◌, ◌≤◌, ◌<◌, List, [], ◌∷◌, ◌++◌, length, Bool, true, false, refl, sym, ap, ap₂, ◌∙◌, subst, arith, ℤ, pos, negsuc, Option, Some, None, append_assoc, append-nil, true≢false, ◌⊎◌, inl, inr}
-use Rattle.std.specs.Prelude.{nat_lt, nat_le, ◌==◌, ◌&&◌, if◌then◌else◌, ◌+ℤ◌}
-use Rattle.std.proofs.lemmas.Bool.{ltb-true, lt-ltb, le-ltb, leb-true, eqb-true, and_parts, false_from_ne_true}
+use Rattle.std.proofs.Common.{◌≡◌, ℕ, zero, suc, ◌/◌, ◌%◌, ◌^◌, ◌≤◌, ◌<◌, List, [], ◌∷◌, ◌++◌, length, Bool, true, false, refl, sym, ap, ◌∙◌, subst, arith, ℤ, pos, Some, None, append_assoc, inl, inr}
+use Rattle.std.specs.Prelude.{◌==◌}
+use Rattle.std.proofs.lemmas.Bool.{eqb-true, false_from_ne_true}
 use Rattle.std.proofs.lemmas.List.{length-append}
-use Rattle.dr_formats.specs.Reading.{Reading, got, refused, Reader, give, ◌>>=◌, byte_as, bytes_of, Spells}
-use Rattle.dr_formats.specs.Varint.{varint_from, varint_below, varint, from_zigzag, is_chain, seven_bits, SpellsVarint, SpellsNumber, SpellsSigned}
-use Rattle.dr_formats.specs.Compact.{CompactFault, malformed, ThriftType, true_type, false_type, byte_type, i16_type, i32_type, i64_type, double_type, binary_type, list_type, set_type, map_type, struct_type, Struct, stop, struct_field, Item, truth_item, byte_item, i16_item, i32_item, i64_item, double_item, binary_item, list_item, set_item, empty_map_item, map_item, struct_item, Items, no_items, item, Pairs, no_pairs, pair, type_of, signed_varint, truth_byte, plain_byte, binary, list_header_byte, list_size, list_header, map_types, items, pairs, map_of, FieldHeader, stop_header, short_header, long_header, in_int16, with_delta, field_header, field_id, field_value, field_and_rest, after_header, fields, struct_of, value_of, read_struct, item_type, count_items, count_pairs, is_truth}
-use Rattle.dr_formats.specs.CompactGrammar.{SpellsHalves, SpellsShortHeader, SpellsLongHeader, SpellsFieldHeader, SpellsListHeader, SpellsMapHeader, IsTruthType, InField, SpellsFields, SpellsItem, SpellsItems, SpellsPairs, SpellsStruct}
-use Rattle.dr_formats.proofs.ReadingLemmas.{spells_give, spells_then, spells_map, spells_as, spells_bytes}
+use Rattle.dr_formats.specs.Reading.{give, ◌>>=◌, byte_as, bytes_of, Spells}
+use Rattle.dr_formats.specs.Varint.{varint_below, varint, from_zigzag, SpellsSigned}
+use Rattle.dr_formats.specs.Compact.{malformed, ThriftType, byte_type, i16_type, i32_type, i64_type, double_type, binary_type, list_type, set_type, map_type, struct_type, Struct, stop, struct_field, Item, truth_item, byte_item, i16_item, i32_item, i64_item, double_item, binary_item, list_item, set_item, empty_map_item, map_item, struct_item, Items, no_items, item, Pairs, no_pairs, pair, type_of, signed_varint, truth_byte, binary, list_header_byte, list_size, list_header, map_types, items, pairs, map_of, short_header, long_header, with_delta, field_header, field_id, field_value, field_and_rest, after_header, fields, struct_of, value_of, read_struct, count_items, count_pairs}
+use Rattle.dr_formats.specs.CompactGrammar.{SpellsHalves, SpellsFieldHeader, SpellsListHeader, SpellsMapHeader, IsTruthType, InField, SpellsFields, SpellsItem, SpellsItems, SpellsPairs, SpellsStruct}
+use Rattle.dr_formats.proofs.ReadingLemmas.{spells_then, spells_map, spells_as, spells_bytes}
 use Rattle.dr_formats.proofs.VarintLemmas.{varint_reads}
 use Rattle.dr_formats.proofs.CompactLemmas.{header, both_types, HeaderReads, list_reader}
 

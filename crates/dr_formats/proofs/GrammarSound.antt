@@ -1,15 +1,15 @@
 -- Whatever is read as a struct is a spelling of it.
-use Rattle.std.proofs.Common.{◌≡◌, ℕ, zero, suc, ◌+◌, ◌*◌, ◌/◌, ◌%◌, ◌^◌, ◌≤◌, ◌<◌, List, [], ◌∷◌, ◌++◌, length, take, drop, Bool, true, false, refl, sym, ap, ap₂, ◌∙◌, subst, arith, ℤ, pos, negsuc, Option, Some, None, append_assoc, append-nil, true≢false, ◌⊎◌, inl, inr}
-use Rattle.std.specs.Prelude.{nat_lt, nat_le, ◌==◌, ◌&&◌, if◌then◌else◌, ◌+ℤ◌, option_map, option_and_then}
-use Rattle.std.proofs.lemmas.Bool.{ltb-true, ltb-false, le-leb, leb-true, eqb-true, and_parts, and_from}
-use Rattle.std.proofs.lemmas.List.{length-take-le, take-append-drop, append_cancel_right}
-use Rattle.dr_formats.specs.Reading.{Reading, got, refused, Reader, give, goes_on, ◌>>=◌, byte_meaning, byte_as, bytes_of, Spells}
-use Rattle.dr_formats.specs.Varint.{varint_from, varint_below, varint, from_zigzag, is_chain, seven_bits, SpellsVarint, SpellsNumber, SpellsSigned}
+use Rattle.std.proofs.Common.{◌≡◌, ℕ, zero, suc, ◌/◌, ◌%◌, ◌^◌, List, [], ◌∷◌, ◌++◌, length, Bool, true, false, refl, sym, ap, ap₂, ◌∙◌, subst, arith, ℤ, pos, Option, Some, None, append_assoc, append-nil, ◌⊎◌, inl, inr}
+use Rattle.std.specs.Prelude.{◌==◌, if◌then◌else◌, ◌+ℤ◌, option_map, option_and_then}
+use Rattle.std.proofs.lemmas.Bool.{eqb-true}
+use Rattle.std.proofs.lemmas.List.{append_cancel_right}
+use Rattle.dr_formats.specs.Reading.{Reading, got, refused, give, ◌>>=◌, byte_as, bytes_of}
+use Rattle.dr_formats.specs.Varint.{varint_below, varint, from_zigzag, SpellsVarint, SpellsNumber, SpellsSigned}
 use Rattle.dr_formats.specs.Compact.{CompactFault, malformed, too_deep, ThriftType, true_type, false_type, byte_type, i16_type, i32_type, i64_type, double_type, binary_type, list_type, set_type, map_type, struct_type, Struct, stop, struct_field, Item, truth_item, byte_item, i16_item, i32_item, i64_item, double_item, binary_item, list_item, set_item, empty_map_item, map_item, struct_item, Items, no_items, item, Pairs, no_pairs, pair, type_of, signed_varint, truth_byte, plain_byte, binary, ListHeader, list_header_byte, list_size, list_header, MapTypes, map_types, items, pairs, map_of, FieldHeader, stop_header, short_header, long_header, in_int16, with_delta, field_header, field_id, field_value, field_and_rest, after_header, fields, struct_of, value_of, read_struct, count_items, count_pairs, struct_bytes}
-use Rattle.dr_formats.specs.CompactGrammar.{SpellsHalves, SpellsShortHeader, SpellsLongHeader, SpellsFieldHeader, SpellsListHeader, SpellsMapHeader, IsTruthType, InField, SpellsFields, SpellsItem, SpellsItems, SpellsPairs, SpellsStruct}
+use Rattle.dr_formats.specs.CompactGrammar.{SpellsHalves, SpellsListHeader, IsTruthType, InField, SpellsFields, SpellsItem, SpellsItems, SpellsPairs, SpellsStruct}
 use Rattle.dr_formats.specs.CompactLaws.{StructIsReadExactly, WrittenStructIsSpelled, FrontSpellsOneStruct}
 use Rattle.dr_formats.proofs.ReadingLemmas.{not_refused, same_got}
-use Rattle.dr_formats.proofs.SoundLemmas.{HasFront, IsSound, weaker, sound_give, Then, sound_then, sound_map, sound_made, sound_as, sound_bytes, sound_below}
+use Rattle.dr_formats.proofs.SoundLemmas.{IsSound, weaker, sound_give, Then, sound_then, sound_map, sound_made, sound_as, sound_bytes, sound_below}
 use Rattle.dr_formats.proofs.CompactLemmas.{header, both_types, some_same, written_struct_is_read}
 use Rattle.dr_formats.proofs.GrammarReads.{spelling_is_read}
 
@@ -22,9 +22,9 @@ sound_signed bound = weaker (varint_below bound malformed malformed >>= (λ n. g
 
 list_byte_means : (c : ℕ) (h : ListHeader) (o : Option ThriftType) → type_of (c % 16) ≡ o → option_map (λ t. header (c / 16) t) o ≡ Some h → SpellsHalves c h.size h.element
 list_byte_means c h None e g = absurd (nothing h g)
-    where
-      nothing : (y : ListHeader) → None ≡ Some y → ⊥
-      nothing y k = cc
+  where
+    nothing : (y : ListHeader) → None ≡ Some y → ⊥
+    nothing y k = cc
 list_byte_means c h (Some t) e g = subst (λ (y : ListHeader). SpellsHalves c y.size y.element) (some_same (header (c / 16) t) h g) (refl, e)
 
 -- what a list header's size byte goes on with
@@ -39,29 +39,29 @@ list_header_sound : IsSound CompactFault ListHeader list_header (λ w h. SpellsL
 list_header_sound = weaker list_header (Then ListHeader ListHeader (λ w y. (c : ℕ) × (w ≡ c ∷ []) × (list_header_byte c ≡ Some y)) SizeBehind) (λ w h. SpellsListHeader w h.size h.element)
     (sound_then (byte_as malformed malformed list_header_byte) list_size (λ w y. (c : ℕ) × (w ≡ c ∷ []) × (list_header_byte c ≡ Some y)) SizeBehind (sound_as malformed malformed list_header_byte) (λ g. size_sound g (g.size == 15) refl))
     (λ w h p. together w p.0 p.1 p.2 h p.3 p.4 p.5)
-    where
-      together : (w u v : List ℕ) (g h : ListHeader) → w ≡ u ++ v → (c : ℕ) × (u ≡ c ∷ []) × (list_header_byte c ≡ Some g) → SizeBehind g v h → SpellsListHeader w h.size h.element
-      together w u v g h e p (inl q) =
-          let m : SpellsHalves p.0 g.size g.element = list_byte_means p.0 g (type_of (p.0 % 16)) refl p.2 in
-          inl (p.0, e ∙ ap₂ (λ x y. x ++ y) p.1 q.0, subst (λ (y : ListHeader). SpellsHalves p.0 y.size y.element) q.1 m, q.2)
-      together w u v g h e p (inr q) =
-          let m : SpellsHalves p.0 g.size g.element = list_byte_means p.0 g (type_of (p.0 % 16)) refl p.2 in
-          inr (p.0, v, e ∙ ap (λ x. x ++ v) p.1, (m.0 ∙ q.0, m.1 ∙ ap (λ t. Some t) q.1), q.2)
+  where
+    together : (w u v : List ℕ) (g h : ListHeader) → w ≡ u ++ v → (c : ℕ) × (u ≡ c ∷ []) × (list_header_byte c ≡ Some g) → SizeBehind g v h → SpellsListHeader w h.size h.element
+    together w u v g h e p (inl q) =
+        let m : SpellsHalves p.0 g.size g.element = list_byte_means p.0 g (type_of (p.0 % 16)) refl p.2 in
+        inl (p.0, e ∙ ap₂ (λ x y. x ++ y) p.1 q.0, subst (λ (y : ListHeader). SpellsHalves p.0 y.size y.element) q.1 m, q.2)
+    together w u v g h e p (inr q) =
+        let m : SpellsHalves p.0 g.size g.element = list_byte_means p.0 g (type_of (p.0 % 16)) refl p.2 in
+        inr (p.0, v, e ∙ ap (λ x. x ++ v) p.1, (m.0 ∙ q.0, m.1 ∙ ap (λ t. Some t) q.1), q.2)
 
 map_byte_inner : (v k : ThriftType) (o : Option ThriftType) (t : MapTypes) → option_map (λ y. both_types k y) o ≡ Some t → (o ≡ Some t.value) × (k ≡ t.key)
 map_byte_inner v k None t g = absurd (nothing t g)
-    where
-      nothing : (y : MapTypes) → None ≡ Some y → ⊥
-      nothing y h = cc
+  where
+    nothing : (y : MapTypes) → None ≡ Some y → ⊥
+    nothing y h = cc
 map_byte_inner v k (Some y) t g =
     let e : both_types k y ≡ t = some_same (both_types k y) t g in
     (ap (λ (x : MapTypes). Some x.value) e, ap (λ (x : MapTypes). x.key) e)
 
 map_byte_means : (b : ℕ) (t : MapTypes) (o : Option ThriftType) → type_of (b / 16) ≡ o → option_and_then (λ (k : ThriftType). option_map (λ v. both_types k v) (type_of (b % 16))) o ≡ Some t → (type_of (b / 16) ≡ Some t.key) × (type_of (b % 16) ≡ Some t.value)
 map_byte_means b t None e g = absurd (nothing t g)
-    where
-      nothing : (y : MapTypes) → None ≡ Some y → ⊥
-      nothing y h = cc
+  where
+    nothing : (y : MapTypes) → None ≡ Some y → ⊥
+    nothing y h = cc
 map_byte_means b t (Some k) e g = let p = map_byte_inner k k (type_of (b % 16)) t g in (e ∙ ap (λ x. Some x) p.1, p.0)
 
 -- what a byte that begins a field means

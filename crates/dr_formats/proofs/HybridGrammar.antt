@@ -1,15 +1,15 @@
 -- Hybrid data is read exactly where runs spell it.
-use Rattle.std.proofs.Common.{◌≡◌, ℕ, zero, suc, ◌+◌, ◌*◌, ◌/◌, ◌%◌, ◌^◌, ◌≤◌, ◌<◌, List, [], ◌∷◌, ◌++◌, length, Bool, true, false, refl, sym, ap, ap₂, ◌∙◌, subst, arith, Option, Some, None, ◌⊎◌, inl, inr, true≢false}
+use Rattle.std.proofs.Common.{◌≡◌, ℕ, zero, suc, ◌*◌, ◌/◌, ◌%◌, ◌^◌, ◌≤◌, ◌<◌, List, [], ◌∷◌, ◌++◌, length, Bool, true, false, refl, sym, ap, ◌∙◌, arith, Option, Some, None, ◌⊎◌, inl, inr, true≢false}
 use Rattle.std.specs.Prelude.{◌-◌, min, replicate, ◌==◌, if◌then◌else◌}
 use Rattle.std.proofs.lemmas.Bool.{eqb-true}
 use Rattle.std.proofs.lemmas.List.{length-append, length-replicate}
-use Rattle.dr_formats.specs.Reading.{Reading, got, refused, Reader, give, goes_on, ◌>>=◌, bytes_of, Spells}
+use Rattle.dr_formats.specs.Reading.{Reading, got, refused, give, goes_on, ◌>>=◌, bytes_of}
 use Rattle.dr_formats.specs.Varint.{varint, SpellsNumber, is_chain}
 use Rattle.dr_formats.specs.LittleEndian.{little_endian, unpacked, bytes_for}
-use Rattle.dr_formats.specs.Hybrid.{HybridFault, short, repeat_run, packed_run, run, runs, values_read, hybrid, SpellsRepeat, SpellsPacked, SpellsRuns, Runs, hybrid_bytes}
+use Rattle.dr_formats.specs.Hybrid.{HybridFault, short, repeat_run, packed_run, run, runs, values_read, hybrid, SpellsRepeat, SpellsPacked, SpellsRuns, hybrid_bytes}
 use Rattle.dr_formats.specs.HybridLaws.{RunsAreReadExactly, OneListOfValues, WrittenRunsAreSpelled}
 use Rattle.dr_formats.proofs.ReadingLemmas.{spells_bytes, not_refused, same_got}
-use Rattle.dr_formats.proofs.SoundLemmas.{HasFront, IsSound, sound_made, sound_bytes, sound_below}
+use Rattle.dr_formats.proofs.SoundLemmas.{IsSound, sound_made, sound_bytes, sound_below}
 use Rattle.dr_formats.proofs.VarintLemmas.{varint_reads}
 use Rattle.dr_formats.proofs.HybridLemmas.{one_run, written_runs_are_read}
 
@@ -34,22 +34,22 @@ length_unpacked (suc m) w x = ap suc (length_unpacked m w (x / 2 ^ w))
 
 run_sound : (w n h : ℕ) (b : Bool) → (h % 2 == 0) ≡ b → IsSound HybridFault (List ℕ) (if b then repeat_run w (h / 2) n else packed_run w (h / 2) n) (OneRun w n h)
 run_sound w n h true e = sound_made (bytes_of short (bytes_for w)) (λ b. replicate (min (h / 2) n) (little_endian b)) (λ u b. (u ≡ b) × (length b ≡ bytes_for w)) (OneRun w n h) (sound_bytes short (bytes_for w)) (λ u b p. inl (h / 2, even (eqb-true (h % 2) 0 e), ap length p.0 ∙ p.1, ap (λ x. replicate (min (h / 2) n) (little_endian x)) (sym p.0)))
-    where
-      even : h % 2 ≡ 0 → h ≡ 2 * (h / 2)
-      even g = omega (arith, g)
+  where
+    even : h % 2 ≡ 0 → h ≡ 2 * (h / 2)
+    even g = omega (arith, g)
 run_sound w n h false e = sound_made (bytes_of short (bytes_for (m * w))) (λ b. unpacked m w (little_endian b)) (λ u b. (u ≡ b) × (length b ≡ bytes_for (m * w))) (OneRun w n h) (sound_bytes short (bytes_for (m * w))) (λ u b p. packed u b p.0 p.1)
-    where
-      m : ℕ
-      m = min (8 * (h / 2)) n
+  where
+    m : ℕ
+    m = min (8 * (h / 2)) n
 
-      is_odd : (x : ℕ) → (x == 0) ≡ false → x < 2 → x ≡ 1
-      is_odd zero f l = absurd (true≢false f)
-      is_odd (suc x) f l = omega (arith, l)
+    is_odd : (x : ℕ) → (x == 0) ≡ false → x < 2 → x ≡ 1
+    is_odd zero f l = absurd (true≢false f)
+    is_odd (suc x) f l = omega (arith, l)
 
-      packed : (u b : List ℕ) → u ≡ b → length b ≡ bytes_for (min (8 * (h / 2)) n * w) → OneRun w n h u (unpacked (min (8 * (h / 2)) n) w (little_endian b))
-      packed u b f l =
-          let g : length (unpacked (min (8 * (h / 2)) n) w (little_endian b)) ≡ min (8 * (h / 2)) n = length_unpacked (min (8 * (h / 2)) n) w (little_endian b) in
-          inr (h / 2, omega (arith, is_odd (h % 2) e (omega arith)), g, rw g (ap length f ∙ l), rw (g, f) refl)
+    packed : (u b : List ℕ) → u ≡ b → length b ≡ bytes_for (min (8 * (h / 2)) n * w) → OneRun w n h u (unpacked (min (8 * (h / 2)) n) w (little_endian b))
+    packed u b f l =
+        let g : length (unpacked (min (8 * (h / 2)) n) w (little_endian b)) ≡ min (8 * (h / 2)) n = length_unpacked (min (8 * (h / 2)) n) w (little_endian b) in
+        inr (h / 2, omega (arith, is_odd (h % 2) e (omega arith)), g, rw g (ap length f ∙ l), rw (g, f) refl)
 
 -- ---- all runs
 
@@ -104,27 +104,28 @@ Read w n bytes vs = (left : List ℕ) × (runs (length bytes) w n bytes ≡ got 
 
 was_read : (r : Reading HybridFault (List ℕ)) (vs : List ℕ) → values_read r ≡ Some vs → (left : List ℕ) × (r ≡ got vs left)
 was_read (got us left) vs h = (left, ap (λ x. got x left) (same us vs h))
-    where
-      same : (us vs : List ℕ) → Some us ≡ Some vs → us ≡ vs
-      same us vs e = cc
+  where
+    same : (us vs : List ℕ) → Some us ≡ Some vs → us ≡ vs
+    same us vs e = cc
 was_read (refused e left) vs h = absurd (nothing vs h)
-    where
-      nothing : (vs : List ℕ) → None ≡ Some vs → ⊥
-      nothing vs k = cc
+  where
+    nothing : (vs : List ℕ) → None ≡ Some vs → ⊥
+    nothing vs k = cc
 
 pub runs_are_read_exactly : RunsAreReadExactly
 unfolding hybrid
-runs_are_read_exactly bytes w n vs =
-    (λ h. let r = was_read (runs (length bytes) w n bytes) vs h in runs_sound w (length bytes) n bytes vs r.0 r.1,
-    λ p. ap values_read (runs_read p.0 w n bytes vs p.1 (length bytes) (omega arith)).1)
+runs_are_read_exactly bytes w n vs = (
+  λ h. let r = was_read (runs (length bytes) w n bytes) vs h in runs_sound w (length bytes) n bytes vs r.0 r.1,
+  λ p. ap values_read (runs_read p.0 w n bytes vs p.1 (length bytes) (omega arith)).1,
+)
 
 how_many : (k w n : ℕ) (bytes vs : List ℕ) → SpellsRuns k w n bytes vs → length vs ≡ n
 how_many zero w n bytes vs p = ap length p.1 ∙ sym p.0
 how_many (suc k) w n bytes vs p = omega (arith, ap length p.11, length-append p.5 p.6, how_many k w (n - length p.5) p.3 p.6 p.10, at_most p.9)
-    where
-      at_most : OneRun w n p.4 p.2 p.5 → length p.5 ≤ n
-      at_most (inl q) = omega (arith, ap length q.3, length-replicate (min q.0 n) (little_endian p.2))
-      at_most (inr q) = omega (arith, q.2)
+  where
+    at_most : OneRun w n p.4 p.2 p.5 → length p.5 ≤ n
+    at_most (inl q) = omega (arith, ap length q.3, length-replicate (min q.0 n) (little_endian p.2))
+    at_most (inr q) = omega (arith, q.2)
 
 one_value : (o : Option (List ℕ)) (us vs : List ℕ) → o ≡ Some us → o ≡ Some vs → us ≡ vs
 one_value o us vs e f = cc

@@ -1,17 +1,15 @@
 -- Hybrid data that is written is read back.
-use Rattle.std.proofs.Common.{◌≡◌, ℕ, zero, suc, ◌+◌, ◌*◌, ◌/◌, ◌%◌, ◌^◌, ◌≤◌, ◌<◌, List, [], ◌∷◌, ◌++◌, length, take, drop, Bool, true, false, refl, sym, ap, ap₂, ◌∙◌, subst, arith, Option, Some, None, append_assoc, ◌⊎◌, inl, inr}
-use Rattle.std.specs.Prelude.{◌-◌, min, replicate, nat_lt, nat_le, ◌&&◌, ◌||◌, ◌==◌, if◌then◌else◌}
-use Rattle.std.specs.List.{list_all}
-use Rattle.std.proofs.lemmas.Bool.{ltb-true, ltb-false, lt-ltb, and_parts, eqb-true, leb-true, leb-false, or_cases, and_from}
-use Rattle.std.proofs.lemmas.Nat.{pow-add}
+use Rattle.std.proofs.Common.{◌≡◌, ℕ, zero, suc, ◌+◌, ◌*◌, ◌/◌, ◌%◌, ◌^◌, ◌≤◌, ◌<◌, List, [], ◌∷◌, ◌++◌, length, take, drop, Bool, true, false, refl, sym, ap, ap₂, ◌∙◌, subst, arith, append_assoc, ◌⊎◌, inl, inr}
+use Rattle.std.specs.Prelude.{◌-◌, min, replicate, nat_lt, nat_le, ◌||◌, ◌==◌, if◌then◌else◌}
+use Rattle.std.proofs.lemmas.Bool.{ltb-true, and_parts, eqb-true, leb-true, leb-false, or_cases, and_from}
 use Rattle.std.proofs.Math.Nat.{min-eq_left, min-eq_right, mul-le-mul_right}
 use Rattle.std.proofs.lemmas.List.{length-append, length-drop, length-take, length-replicate, take-append-drop, take_all, append-nil}
 use Rattle.std.proofs.Math.Pow.{pow_mono}
 use Rattle.std.proofs.Math.Seq.{drop-nil}
-use Rattle.dr_formats.specs.Reading.{Reading, got, refused, Reader, give, goes_on, ◌>>=◌, bytes_of, Spells}
-use Rattle.dr_formats.specs.Varint.{varint, varint_bytes, varint_bytes_from}
-use Rattle.dr_formats.specs.LittleEndian.{little_endian, little_endian_bytes, unpacked, packed, bytes_for}
-use Rattle.dr_formats.specs.Hybrid.{HybridFault, short, repeat_run, packed_run, run, runs, values_read, hybrid, equal_front, WrittenRun, repeat_of, group_of, next_run, runs_behind, hybrid_bytes}
+use Rattle.dr_formats.specs.Reading.{got}
+use Rattle.dr_formats.specs.Varint.{varint, varint_bytes}
+use Rattle.dr_formats.specs.LittleEndian.{little_endian_bytes, packed, bytes_for}
+use Rattle.dr_formats.specs.Hybrid.{short, packed_run, run, runs, values_read, hybrid, equal_front, WrittenRun, repeat_of, group_of, runs_behind, hybrid_bytes}
 use Rattle.dr_formats.specs.HybridLaws.{WrittenRunsAreRead}
 use Rattle.dr_formats.proofs.ReadingLemmas.{spells_bytes}
 use Rattle.dr_formats.proofs.VarintLemmas.{spells_varint, varint_has_byte, varint_length}
@@ -141,10 +139,10 @@ next_back w k v vs rest true h l r =
     let i : suc (equal_front v vs) - 1 ≡ equal_front v vs = omega arith in
     rw i (repeat_back w k (equal_front v vs) v vs rest (ltb-true _ _ p.0) f (omega (arith, f.1, l)) (rw i at r))
 next_back w k v vs rest false h l r = by (nat_le 7 (length vs)) refl
-    where
-      by : (c : Bool) → nat_le 7 (length vs) ≡ c → ReadBack w (suc k) (v ∷ vs) (((group_of w (v ∷ vs)).bytes ++ runs_behind w 7 vs) ++ rest)
-      by true f = full_group w k v vs rest h (leb-true _ _ f) r
-      by false f = last_group w k v vs rest h (leb-false _ _ f)
+  where
+    by : (c : Bool) → nat_le 7 (length vs) ≡ c → ReadBack w (suc k) (v ∷ vs) (((group_of w (v ∷ vs)).bytes ++ runs_behind w 7 vs) ++ rest)
+    by true f = full_group w k v vs rest h (leb-true _ _ f) r
+    by false f = last_group w k v vs rest h (leb-false _ _ f)
 
 -- each run has a byte
 run_has_byte : (w m v : ℕ) (vs : List ℕ) (b : Bool) → 1 ≤ length (run_by b w m v vs).bytes
@@ -195,10 +193,10 @@ next_length w v vs true e h l =
     let f : FrontEquals v (equal_front v vs) vs = front_equals v vs in
     let r : length (repeat_of w (suc (equal_front v vs)) v).bytes ≤ 6 = repeat_length w (suc (equal_front v vs)) v h (omega (arith, f.1, l)) in
     (omega (arith, r), λ k. by_case r k (or_cases _ _ e))
-    where
-      by_case : length (repeat_of w (suc (equal_front v vs)) v).bytes ≤ 6 → 0 < length (drop (suc (equal_front v vs) - 1) vs) → (nat_le 8 (suc (equal_front v vs)) ≡ true) ⊎ ((suc (equal_front v vs) == length (v ∷ vs)) ≡ true) → length (repeat_of w (suc (equal_front v vs)) v).bytes ≤ suc (equal_front v vs)
-      by_case r k (inl g) = omega (arith, r, leb-true _ _ g)
-      by_case r k (inr g) = absurd (omega (arith, k, length-drop (suc (equal_front v vs) - 1) vs, eqb-true _ _ g))
+  where
+    by_case : length (repeat_of w (suc (equal_front v vs)) v).bytes ≤ 6 → 0 < length (drop (suc (equal_front v vs) - 1) vs) → (nat_le 8 (suc (equal_front v vs)) ≡ true) ⊎ ((suc (equal_front v vs) == length (v ∷ vs)) ≡ true) → length (repeat_of w (suc (equal_front v vs)) v).bytes ≤ suc (equal_front v vs)
+    by_case r k (inl g) = omega (arith, r, leb-true _ _ g)
+    by_case r k (inr g) = absurd (omega (arith, k, length-drop (suc (equal_front v vs) - 1) vs, eqb-true _ _ g))
 next_length w v vs false e h l =
     let r : length (group_of w (v ∷ vs)).bytes ≤ 7 = omega (arith, length_little_endian w (packed w (take 8 (v ∷ vs))), h) in
     (r, λ k. omega (arith, r))

@@ -1,23 +1,22 @@
 -- The body that is written for triplets is read as these triplets.
-use Rattle.std.proofs.Common.{◌≡◌, ℕ, zero, suc, ◌+◌, ◌*◌, ◌/◌, ◌%◌, ◌^◌, ◌≤◌, ◌<◌, List, [], ◌∷◌, ◌++◌, map, length, Bool, true, false, refl, sym, ap, ap₂, ◌∙◌, subst, arith, pos, Option, Some, None, append_assoc, true≢false}
-use Rattle.std.specs.Prelude.{◌-◌, replicate, nat_lt, nat_le, ◌&&◌, ◌==◌, if◌then◌else◌, option_and_then}
+use Rattle.std.proofs.Common.{◌≡◌, ℕ, zero, suc, ◌/◌, ◌^◌, ◌≤◌, ◌<◌, List, [], ◌∷◌, ◌++◌, map, length, Bool, true, false, refl, sym, ap, ap₂, ◌∙◌, subst, arith, pos, Option, Some, None, append_assoc, true≢false}
+use Rattle.std.specs.Prelude.{replicate, nat_le, ◌&&◌, ◌==◌, if◌then◌else◌, option_and_then}
 use Rattle.std.specs.List.{list_all}
 use Rattle.std.proofs.Math.Nat.{pow-suc}
-use Rattle.std.proofs.lemmas.Bool.{ltb-true, lt-ltb, leb-true, eqb-true, eq-eqb, and_parts, and_from}
+use Rattle.std.proofs.lemmas.Bool.{lt-ltb, leb-true, eqb-true, eq-eqb, and_parts, and_from}
 use Rattle.std.proofs.lemmas.List.{append-nil, length-map}
 use Rattle.dr_meaning.specs.Schema.{Kind}
 use Rattle.dr_meaning.specs.Record.{Value}
-use Rattle.dr_meaning.specs.Column.{Triplet, triplet}
-use Rattle.dr_formats.specs.Reading.{Reading, got, refused, Reader, give, goes_on, ◌>>=◌, bytes_of, Spells}
+use Rattle.dr_meaning.specs.Column.{Triplet}
+use Rattle.dr_formats.specs.Reading.{got, ◌>>=◌, bytes_of, Spells}
 use Rattle.dr_formats.specs.LittleEndian.{little_endian, little_endian_bytes}
 use Rattle.dr_formats.specs.Hybrid.{hybrid, hybrid_bytes}
-use Rattle.dr_formats.specs.Plain.{plain, plain_read, plain_values, plain_bytes, is_writable}
-use Rattle.dr_formats.specs.Page.{PageShape, PageFault, bad_data, found, digits_within, level_width, none_above, levels, encoded_values, values, count_equal, first_if, behind_if, join_triplets, page_body, triplets_read, page_triplets, level_bytes, with_value, column_values, body_bytes, has_value, is_value_of, same_truth, is_triplet}
+use Rattle.dr_formats.specs.Plain.{plain_read, plain_values, plain_bytes, is_writable}
+use Rattle.dr_formats.specs.Page.{bad_data, found, digits_within, level_width, none_above, levels, count_equal, first_if, behind_if, join_triplets, page_body, triplets_read, page_triplets, level_bytes, with_value, column_values, body_bytes, has_value, is_value_of, same_truth, is_triplet}
 use Rattle.dr_formats.specs.PlainLaws.{written_shape, WrittenBodyIsRead}
-use Rattle.dr_formats.proofs.ReadingLemmas.{spells_then, spells_map, spells_bytes}
+use Rattle.dr_formats.proofs.ReadingLemmas.{spells_then, spells_bytes}
 use Rattle.dr_formats.proofs.LittleEndianLemmas.{length_little_endian, little_endian_back, are_below}
 use Rattle.dr_formats.proofs.HybridLemmas.{written_runs_are_read, hybrid_length}
-use Rattle.dr_formats.specs.HybridLaws.{WrittenRunsAreRead}
 use Rattle.dr_formats.proofs.PlainLemmas.{written_values_are_read}
 
 -- ---- the width of levels

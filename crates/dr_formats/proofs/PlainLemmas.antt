@@ -1,17 +1,17 @@
 -- PLAIN values that are written are read back.
-use Rattle.std.proofs.Common.{◌≡◌, ℕ, zero, suc, ◌+◌, ◌*◌, ◌/◌, ◌%◌, ◌^◌, ◌≤◌, ◌<◌, List, [], ◌∷◌, ◌++◌, map, length, Bool, true, false, refl, sym, ap, ap₂, ◌∙◌, subst, arith, ℤ, pos, negsuc, true≢false}
-use Rattle.std.specs.Prelude.{◌-◌, nat_lt, ◌&&◌, ◌==◌, if◌then◌else◌}
+use Rattle.std.proofs.Common.{◌≡◌, ℕ, suc, ◌*◌, ◌/◌, ◌^◌, ◌≤◌, ◌<◌, List, [], ◌∷◌, ◌++◌, map, length, Bool, true, false, refl, sym, ap, ap₂, ◌∙◌, subst, arith, ℤ, pos, negsuc, true≢false}
+use Rattle.std.specs.Prelude.{◌-◌, nat_lt}
 use Rattle.std.specs.List.{list_all}
 use Rattle.std.specs.Str.{is_utf8}
 use Rattle.std.proofs.lemmas.Bool.{ltb-true, lt-ltb, le-ltb, leb-true, and_parts, and_from}
 use Rattle.std.proofs.lemmas.List.{length-map}
-use Rattle.dr_meaning.specs.Schema.{Kind, bool_kind, int32_kind, int64_kind, text_kind}
+use Rattle.dr_meaning.specs.Schema.{bool_kind, int32_kind, int64_kind, text_kind}
 use Rattle.dr_meaning.specs.Record.{Value, bool_value, int_value, text_value, in_int32, in_int64}
-use Rattle.dr_formats.specs.Reading.{Reading, got, refused, Reader, give, ◌>>=◌, bytes_of, Spells}
+use Rattle.dr_formats.specs.Reading.{Reader, give, ◌>>=◌, bytes_of, Spells}
 use Rattle.dr_formats.specs.LittleEndian.{little_endian, little_endian_bytes, unpacked, packed, bytes_for}
-use Rattle.dr_formats.specs.Plain.{PlainFault, too_short, from_complement, complement, repeatedly, plain_number, checked_text, plain_text, truth_of_bit, plain_truths, plain, bit_of, plain_number_bytes, plain_text_bytes, joined, plain_bytes, is_writable}
+use Rattle.dr_formats.specs.Plain.{too_short, from_complement, complement, repeatedly, plain_number, checked_text, plain_text, truth_of_bit, plain_truths, bit_of, plain_number_bytes, plain_text_bytes, joined, plain_bytes, is_writable}
 use Rattle.dr_formats.specs.PlainLaws.{WrittenValuesAreRead}
-use Rattle.dr_formats.proofs.ReadingLemmas.{spells_give, spells_then, spells_map, spells_bytes}
+use Rattle.dr_formats.proofs.ReadingLemmas.{spells_then, spells_map, spells_bytes}
 use Rattle.dr_formats.proofs.LittleEndianLemmas.{length_little_endian, little_endian_back, are_below, unpacked_bytes}
 
 -- ---- one value after another

@@ -1,5 +1,5 @@
 -- Forms whose readers are sound for a relation, and varints among them.
-use Rattle.std.proofs.Common.{◌≡◌, ℕ, zero, suc, ◌+◌, ◌*◌, ◌/◌, ◌%◌, ◌^◌, ◌≤◌, ◌<◌, List, [], ◌∷◌, ◌++◌, length, take, drop, Bool, true, false, refl, sym, ap, ap₂, ◌∙◌, subst, arith, Option, Some, None, append_assoc, true≢false}
+use Rattle.std.proofs.Common.{◌≡◌, ℕ, zero, suc, ◌+◌, ◌*◌, ◌%◌, ◌≤◌, ◌<◌, List, [], ◌∷◌, ◌++◌, length, take, drop, Bool, true, false, refl, sym, ap, ◌∙◌, subst, arith, Option, Some, None, append_assoc, true≢false}
 use Rattle.std.specs.Prelude.{nat_lt, nat_le, ◌&&◌, if◌then◌else◌}
 use Rattle.std.proofs.lemmas.Bool.{ltb-true, ltb-false, le-leb, leb-true, and_parts, and_from}
 use Rattle.std.proofs.lemmas.List.{length-take-le, take-append-drop}
@@ -107,15 +107,15 @@ inner_sound short long bound k sum worth b bs true false a rest l e f h =
 
 pub varint_sound : {E : Type 0} (short long : E) (bound k sum worth : ℕ) → VarintSound E short long bound k sum worth
 varint_sound short long bound k sum worth [] a rest h = absurd (not_refused short [] a rest (nothing k h))
-    where
-      nothing : (j : ℕ) → varint_from short long bound j sum worth [] ≡ got a rest → refused short [] ≡ got a rest
-      nothing zero g = g
-      nothing (suc j) g = g
+  where
+    nothing : (j : ℕ) → varint_from short long bound j sum worth [] ≡ got a rest → refused short [] ≡ got a rest
+    nothing zero g = g
+    nothing (suc j) g = g
 varint_sound short long bound zero sum worth (b ∷ bs) a rest h = last_sound short long bound sum worth b bs (nat_lt (sum + b % 128 * worth) bound && nat_lt b 128) a rest refl h
 varint_sound short long bound (suc k) sum worth (b ∷ bs) a rest h = inner_sound short long bound k sum worth b bs (nat_lt (sum + b % 128 * worth) bound) (nat_lt b 128) a rest (varint_sound short long bound k (sum + b % 128 * worth) (128 * worth)) refl refl h
 
 pub sound_below : {E : Type 0} (bound : ℕ) (short long : E) → IsSound E ℕ (varint_below bound short long) (SpellsVarint bound)
 sound_below bound short long = weaker (varint_below bound short long) (Chain bound 9 0 1) (SpellsVarint bound) (varint_sound short long bound 9 0 1) (λ w a p. (p.0, p.1, plain_sum (seven_bits w) a p.2, p.3))
-    where
-      plain_sum : (s a : ℕ) → 0 + s * 1 ≡ a → s ≡ a
-      plain_sum s a e = omega (arith, e)
+  where
+    plain_sum : (s a : ℕ) → 0 + s * 1 ≡ a → s ≡ a
+    plain_sum s a e = omega (arith, e)

@@ -1,9 +1,8 @@
 -- The shortest varint of a number is read as that number, and zigzag is undone.
-use Rattle.std.proofs.Common.{◌≡◌, ℕ, zero, suc, ◌+◌, ◌*◌, ◌/◌, ◌%◌, ◌^◌, ◌≤◌, ◌<◌, List, [], ◌∷◌, ◌++◌, length, Bool, true, false, refl, sym, ap, ◌∙◌, subst, arith, ℤ, pos, negsuc}
-use Rattle.std.specs.Prelude.{nat_le, nat_lt, ◌==◌, ◌&&◌, if◌then◌else◌}
+use Rattle.std.proofs.Common.{◌≡◌, ℕ, zero, suc, ◌+◌, ◌*◌, ◌/◌, ◌%◌, ◌^◌, ◌≤◌, ◌<◌, List, [], ◌∷◌, ◌++◌, length, Bool, true, false, refl, sym, ap, ◌∙◌, arith, ℤ, pos, negsuc}
+use Rattle.std.specs.Prelude.{nat_le, nat_lt, if◌then◌else◌}
 use Rattle.std.proofs.lemmas.Bool.{ltb-true, ltb-false, lt-ltb, le-ltb, leb-true, and_parts, true≢false}
-use Rattle.std.proofs.lemmas.Nat.{div-mul-add, mod-mul-add}
-use Rattle.dr_formats.specs.Reading.{Reading, got, refused, Spells}
+use Rattle.dr_formats.specs.Reading.{got, Spells}
 use Rattle.dr_formats.specs.Varint.{varint_short, varint_too_long, read_varint, varint_from, varint_below, varint, varint_bytes_from, varint_bytes, zigzag, from_zigzag, is_chain, seven_bits, SpellsVarint}
 use Rattle.dr_formats.specs.VarintLaws.{VarintIsReadExactly, WrittenVarintIsRead, WrittenVarintIsShortest, ZigzagIsUndone}
 use Rattle.dr_formats.proofs.SoundLemmas.{sound_below}
@@ -68,10 +67,10 @@ zigzag_back (negsuc n) =
 pub varint_has_byte : (k n : ℕ) → 1 ≤ length (varint_bytes_from k n)
 varint_has_byte zero n = omega arith
 varint_has_byte (suc k) n = by (nat_lt n 128)
-    where
-      by : (b : Bool) → 1 ≤ length (if b then n ∷ [] else (128 + n % 128) ∷ varint_bytes_from k (n / 128))
-      by true = omega arith
-      by false = omega arith
+  where
+    by : (b : Bool) → 1 ≤ length (if b then n ∷ [] else (128 + n % 128) ∷ varint_bytes_from k (n / 128))
+    by true = omega arith
+    by false = omega arith
 
 -- ---- every spelling is read
 

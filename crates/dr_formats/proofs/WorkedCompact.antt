@@ -1,7 +1,7 @@
 -- Structs of the compact protocol, by computation.
-use Rattle.std.specs.Prelude.{◌≡◌, ℕ, List, [], ◌∷◌, ◌++◌, replicate, pos, Option, Some, None, refl}
-use Rattle.dr_formats.specs.Reading.{got, refused}
-use Rattle.dr_formats.specs.Compact.{Struct, stop, struct_field, Item, i32_item, find_field, read_struct, struct_fault, malformed, too_deep, struct_bytes}
+use Rattle.std.specs.Prelude.{◌≡◌, [], ◌∷◌, ◌++◌, replicate, pos, Some, None, refl}
+use Rattle.dr_formats.specs.Reading.{got}
+use Rattle.dr_formats.specs.Compact.{Struct, stop, struct_field, i32_item, find_field, read_struct, struct_fault, malformed, too_deep, struct_bytes}
 
 -- the struct {1: 1}
 abbrev pub one_field : Struct

@@ -4,8 +4,7 @@ use Rattle.dr_meaning.specs.Path.{Leaf, leaves}
 use Rattle.dr_formats.specs.Compact.{read_struct}
 use Rattle.dr_formats.specs.Hybrid.{hybrid}
 use Rattle.dr_formats.specs.Page.{page_triplets}
-use Rattle.dr_formats.specs.Metadata.{FileMeta}
-use Rattle.dr_formats.specs.FileSchema.{FileSchema, no_file_fields}
+use Rattle.dr_formats.specs.FileSchema.{no_file_fields}
 use Rattle.dr_formats.specs.File.{FileCause, bad_footer, bad_schema, bad_codec, bad_records, HasCause, IsFileOf, Footer, footer_of}
 use Rattle.dr_formats.proofs.FileLemmas.{known_cause_holds}
 use Rattle.dr_formats.proofs.WorkedFiles.{one_schema, one_record, one_file}

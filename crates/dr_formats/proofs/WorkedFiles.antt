@@ -1,13 +1,12 @@
 -- A whole file, by computation: one record of one required leaf.
-use Rattle.std.specs.Prelude.{◌≡◌, ℕ, List, [], ◌∷◌, ◌++◌, length, pos, Option, Some, None, codes, refl}
-use Rattle.dr_meaning.specs.Schema.{no_fields, field, leaf, Schema, required, int64_kind, text_kind}
-use Rattle.dr_meaning.specs.Path.{Leaf}
+use Rattle.std.specs.Prelude.{◌≡◌, ℕ, List, [], ◌∷◌, pos, codes, refl}
+use Rattle.dr_meaning.specs.Schema.{no_fields, field, leaf, Schema, required, int64_kind}
 use Rattle.dr_meaning.specs.Record.{int_value, Node, no_slots, slot, no_instances, instance, atom}
-use Rattle.dr_formats.specs.Compact.{struct_bytes, read_struct}
-use Rattle.dr_formats.specs.Hybrid.{hybrid, hybrid_bytes}
+use Rattle.dr_formats.specs.Compact.{struct_bytes}
+use Rattle.dr_formats.specs.Hybrid.{hybrid_bytes}
 use Rattle.dr_formats.specs.Page.{body_bytes}
 use Rattle.dr_formats.specs.Metadata.{page_tree}
-use Rattle.dr_formats.specs.Writing.{header_of_page, page_bytes, file_bytes}
+use Rattle.dr_formats.specs.Writing.{header_of_page, file_bytes}
 
 -- `message T { required int64 a; }` and `{"a":1}`
 abbrev pub one_schema : Schema

@@ -1,14 +1,14 @@
 -- Files that another writer may have made, by computation: a dictionary, a column that is closed, another codec.
-use Rattle.std.specs.Prelude.{◌≡◌, ℕ, ◌+◌, ◌-◌, List, [], ◌∷◌, ◌++◌, map, length, take, pos, Option, Some, None, codes, refl, Ok, Err}
+use Rattle.std.specs.Prelude.{◌≡◌, ℕ, List, [], ◌∷◌, pos, Some, None, codes, refl, Ok}
 use Rattle.dr_meaning.specs.Schema.{Schema, no_fields, field, leaf, required, int64_kind}
-use Rattle.dr_meaning.specs.Path.{Leaf, leaves}
-use Rattle.dr_meaning.specs.Record.{Node, no_slots, slot, gap, no_instances, instance, atom, int_value}
+use Rattle.dr_meaning.specs.Path.{leaves}
+use Rattle.dr_meaning.specs.Record.{Node, no_slots, slot, no_instances, instance, atom, int_value}
 use Rattle.dr_formats.specs.Compact.{read_struct, struct_bytes}
 use Rattle.dr_formats.specs.Hybrid.{hybrid}
 use Rattle.dr_formats.specs.Page.{page_triplets}
-use Rattle.dr_formats.specs.Metadata.{SchemaElement, ColumnMeta, ColumnChunk, RowGroup, FileMeta, file_tree}
+use Rattle.dr_formats.specs.Metadata.{SchemaElement, ColumnChunk, FileMeta, file_tree}
 use Rattle.dr_formats.specs.File.{bad_schema, bad_codec, bad_records, HasCause, IsFileOf, footer_of, schema_of_file}
-use Rattle.dr_formats.specs.Writing.{framed, leaf_element, group_element}
+use Rattle.dr_formats.specs.Writing.{framed, leaf_element}
 use Rattle.dr_formats.proofs.FileLemmas.{known_cause_holds}
 use Rattle.dr_formats.proofs.WorkedFiles.{one_schema, one_file}
 use Rattle.dr_formats.proofs.WorkedDamaged.{footer_or, one_leaf}

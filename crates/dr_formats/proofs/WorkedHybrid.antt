@@ -1,5 +1,5 @@
 -- Hybrid data, by computation.
-use Rattle.std.specs.Prelude.{◌≡◌, ℕ, List, [], ◌∷◌, replicate, Option, Some, None, refl}
+use Rattle.std.specs.Prelude.{◌≡◌, [], ◌∷◌, replicate, Some, None, refl}
 use Rattle.dr_formats.specs.Hybrid.{hybrid, hybrid_bytes}
 
 -- one packed group of width 3

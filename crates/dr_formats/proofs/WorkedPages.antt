@@ -1,12 +1,10 @@
 -- A page body, by computation: the column of Name.Language.Country of the two worked records.
-use Rattle.std.specs.Prelude.{◌≡◌, ℕ, List, [], ◌∷◌, pos, Option, Some, None, codes, refl}
+use Rattle.std.specs.Prelude.{◌≡◌, ℕ, List, [], ◌∷◌, pos, Some, refl}
 use Rattle.std.specs.Str.{is_utf8, chars}
-use Rattle.dr_meaning.specs.Schema.{text_kind, int64_kind}
-use Rattle.dr_meaning.specs.Record.{Value, int_value, text_value}
-use Rattle.dr_meaning.specs.Column.{Triplet, triplet, column}
+use Rattle.dr_meaning.specs.Schema.{text_kind}
+use Rattle.dr_meaning.specs.Column.{column}
 use Rattle.dr_meaning.proofs.WorkedRecords.{record_10, record_20}
 use Rattle.dr_meaning.proofs.WorkedPaths.{country}
-use Rattle.dr_meaning.proofs.WorkedColumns.{country_column}
 use Rattle.dr_formats.specs.Hybrid.{hybrid, hybrid_bytes}
 use Rattle.dr_formats.specs.Page.{PageShape, data_page_v1, page_triplets, body_bytes}
 

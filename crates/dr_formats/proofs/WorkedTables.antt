@@ -4,7 +4,7 @@ use Rattle.std.specs.Fmt.{digits}
 use Rattle.std.specs.Str.{is_utf8, chars}
 use Rattle.dr_meaning.specs.SchemaText.{parse_schema, schema_text, empty_group}
 use Rattle.dr_meaning.proofs.WorkedSchemas.{document_schema, document_text}
-use Rattle.dr_formats.specs.TableFile.{Table, TableFault, table_too_long, bad_head, bad_tablets, bad_copies, bad_leaf, bad_table_schema, parse_table, table_text}
+use Rattle.dr_formats.specs.TableFile.{Table, bad_head, bad_tablets, bad_copies, bad_leaf, bad_table_schema, parse_table, table_text}
 use Rattle.dr_formats.specs.Tablets.{tablets, copy_paths}
 
 abbrev pub two_copies : Table

@@ -1,25 +1,27 @@
 -- Column chunks: pages until the wanted triplets are taken (Apache Parquet, "Column chunks", "Data Pages").
-use Rattle.std.specs.Prelude.{◌≡◌, ℕ, zero, suc, ◌+◌, ◌-◌, List, [], ◌∷◌, ◌++◌, length, take, drop, Bool, true, false, ◌&&◌, ◌||◌, ◌==◌, nat_le, nat_lt, if◌then◌else◌, ℤ, pos, negsuc, Option, Some, None, option_and_then, Result, Ok, Err}
-use Rattle.dr_meaning.specs.Schema.{Kind}
+use Rattle.std.specs.Prelude.{ℕ, zero, suc, ◌+◌, ◌-◌, List, [], ◌++◌, length, take, drop, Bool, true, false, ◌&&◌, ◌||◌, nat_le, nat_lt, if◌then◌else◌, ℤ, pos, Option, Some, None, option_and_then, Result, Ok, Err}
 use Rattle.dr_meaning.specs.Record.{Value}
 use Rattle.dr_meaning.specs.Path.{Leaf, max_repetition, max_definition}
 use Rattle.dr_meaning.specs.Column.{Triplet}
 use Rattle.dr_formats.specs.Reading.{Reading, got, refused, Reader, give, ◌>>=◌, bytes_of}
 use Rattle.dr_formats.specs.Compact.{CompactFault, Struct, read_struct}
 use Rattle.dr_formats.specs.Plain.{plain_values}
-use Rattle.dr_formats.specs.Page.{PageForm, data_page_v1, PageShape, PageFault, bad_data, found, is_number, plain_encoding, plain_dictionary_encoding, page_triplets, triplets_read}
+use Rattle.dr_formats.specs.Page.{data_page_v1, PageShape, PageFault, bad_data, found, is_number, plain_encoding, plain_dictionary_encoding, page_triplets, triplets_read}
 use Rattle.dr_formats.specs.Metadata.{MetaFault, ColumnMeta, DataPageHeader, DictionaryPageHeader, PageHeader, view_page}
 
 -- ---- pages
 
+-- the header of the struct that was read, and the bytes behind it
 abbrev pub header_viewed : List ℕ → Result PageHeader MetaFault → Reading PageFault PageHeader
 header_viewed rest (Ok h) = got h rest
 header_viewed rest (Err e) = refused bad_data rest
 
+-- the header of what was read, where that is a struct with the header's fields
 abbrev pub header_read : Reading CompactFault Struct → Reading PageFault PageHeader
 header_read (got s rest) = header_viewed rest (view_page s)
 header_read (refused e rest) = refused bad_data rest
 
+-- a page header at the front of bytes
 abbrev pub page_header : Reader PageFault PageHeader
 page_header bytes = header_read (read_struct bytes)
 
@@ -28,9 +30,11 @@ pub record PageTaken : Type 0 where
   pub triplets : List Triplet
   pub dictionary : List Value
 
+-- these triplets and this dictionary
 abbrev pub taken : List Triplet → List Value → PageTaken
 taken ts d = record { triplets = ts; dictionary = d }
 
+-- what a page's header and its leaf say of its body
 abbrev pub shape_of_page : Leaf → DataPageHeader → PageShape
 shape_of_page l h = record { form = data_page_v1; triplets = h.values; encoding = h.encoding; definition_encoding = h.definition_encoding; repetition_encoding = h.repetition_encoding; kind = l.kind; max_repetition = max_repetition l.path; max_definition = max_definition l.path }
 
@@ -65,6 +69,7 @@ pages_triplets l wanted bytes = triplets_read (pages l (length bytes) wanted tru
 
 -- ---- chunks
 
+-- the place of the dictionary page, where it counts, else that of the data page
 abbrev pub start_from : ℕ → Option ℤ → ℕ
 start_from d (Some (pos n)) = if nat_lt 0 n && nat_lt n d then n else d
 start_from d z = d

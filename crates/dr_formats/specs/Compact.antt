@@ -1,6 +1,5 @@
 -- Structs in the Thrift compact protocol: their trees, how they are read, the first fault, and the one spelling that is written.
-use Rattle.std.specs.Prelude.{◌≡◌, ℕ, zero, suc, ◌+◌, ◌-◌, ◌*◌, ◌/◌, ◌%◌, ◌^◌, List, [], ◌∷◌, ◌++◌, length, Bool, true, false, ◌&&◌, ◌||◌, ◌==◌, nat_lt, nat_le, if◌then◌else◌, ℤ, pos, negsuc, ◌+ℤ◌, ◌-ℤ◌, neg_ℤ, int_le, int_lt, Option, Some, None, option_map, option_and_then}
-use Rattle.std.specs.List.{list_all}
+use Rattle.std.specs.Prelude.{ℕ, zero, suc, ◌+◌, ◌-◌, ◌*◌, ◌/◌, ◌%◌, ◌^◌, List, [], ◌∷◌, ◌++◌, length, Bool, true, false, ◌&&◌, ◌==◌, nat_lt, if◌then◌else◌, ℤ, pos, negsuc, ◌+ℤ◌, ◌-ℤ◌, neg_ℤ, int_le, int_lt, Option, Some, None, option_map, option_and_then}
 use Rattle.dr_meaning.specs.Record.{in_int64}
 use Rattle.dr_formats.specs.Reading.{Reading, got, refused, Reader, give, ◌>>=◌, byte_as, bytes_of}
 use Rattle.dr_formats.specs.Varint.{varint, varint_below, varint_bytes, zigzag, from_zigzag}
@@ -43,10 +42,12 @@ mutual
     map_item : ThriftType → ThriftType → Pairs → Item
     struct_item : Struct → Item
 
+  -- the values of a list or set
   pub data Items : Type 0 where
     no_items : Items
     item : Item → Items → Items
 
+  -- the pairs of a map, each a key and a value
   pub data Pairs : Type 0 where
     no_pairs : Pairs
     pair : Item → Item → Pairs → Pairs
@@ -56,12 +57,14 @@ abbrev pub or_else : Option Item → Option Item → Option Item
 or_else None other = other
 or_else (Some x) other = Some x
 
+-- the value of the field with this id, if there is one
 abbrev pub find_field : ℤ → Struct → Option Item
 find_field i stop = None
 find_field i (struct_field j x s) = or_else (find_field i s) (if int_le i j && int_le j i then Some x else None)
 
 -- ---- types and their numbers
 
+-- the number of a type
 abbrev pub type_number : ThriftType → ℕ
 type_number true_type = 1
 type_number false_type = 2
@@ -80,6 +83,7 @@ type_number struct_type = 12
 abbrev pub all_types : List ThriftType
 all_types = true_type ∷ false_type ∷ byte_type ∷ i16_type ∷ i32_type ∷ i64_type ∷ double_type ∷ binary_type ∷ list_type ∷ set_type ∷ map_type ∷ struct_type ∷ []
 
+-- the nth of these types, from 1
 abbrev pub nth_type : List ThriftType → ℕ → Option ThriftType
 nth_type [] n = None
 nth_type (t ∷ ts) zero = None
@@ -102,6 +106,7 @@ greatest_nesting = 32
 
 -- ---- reading values
 
+-- a zigzag varint
 abbrev pub signed_varint : Reader CompactFault ℤ
 signed_varint = do
   n ← varint malformed malformed
@@ -111,6 +116,7 @@ signed_varint = do
 abbrev pub truth_byte : ℕ → Option Item
 truth_byte b = Some (truth_item (b == 1))
 
+-- one byte, as it is
 abbrev pub plain_byte : ℕ → Option Item
 plain_byte b = Some (byte_item b)
 
@@ -125,6 +131,7 @@ pub record ListHeader : Type 0 where
   pub size : ℕ
   pub element : ThriftType
 
+-- the size and the type in the first byte of a list or set
 abbrev pub list_header_byte : ℕ → Option ListHeader
 list_header_byte b = option_map (λ t. record { size = b / 16; element = t }) (type_of (b % 16))
 
@@ -132,6 +139,7 @@ list_header_byte b = option_map (λ t. record { size = b / 16; element = t }) (t
 abbrev pub list_size : ListHeader → Reader CompactFault ListHeader
 list_size h = if h.size == 15 then (do n ← varint malformed malformed; give (record { size = n; element = h.element })) else give h
 
+-- the header of a list or set
 abbrev pub list_header : Reader CompactFault ListHeader
 list_header = do
   h ← byte_as malformed malformed list_header_byte
@@ -142,6 +150,7 @@ pub record MapTypes : Type 0 where
   pub key : ThriftType
   pub value : ThriftType
 
+-- the two types in a byte
 abbrev pub map_types : ℕ → Option MapTypes
 map_types b = option_and_then (λ (k : ThriftType). option_map (λ v. record { key = k; value = v }) (type_of (b % 16))) (type_of (b / 16))
 
@@ -178,6 +187,7 @@ pub data FieldHeader : Type 0 where
   short_header : ℤ → ThriftType → FieldHeader
   long_header : ThriftType → FieldHeader
 
+-- at least -2^15, below 2^15
 abbrev pub in_int16 : ℤ → Bool
 in_int16 z = int_le (neg_ℤ (pos (2 ^ 15))) z && int_lt z (pos (2 ^ 15))
 
@@ -209,6 +219,7 @@ field_and_rest value rest t id = do
   s ← rest id
   give (struct_field id x s)
 
+-- what a byte begins, read to the struct's end
 abbrev pub after_header : (ThriftType → Reader CompactFault Item) → (ℤ → Reader CompactFault Struct) → FieldHeader → Reader CompactFault Struct
 after_header value rest stop_header = give stop
 after_header value rest (short_header id t) = field_and_rest value rest t id
@@ -275,6 +286,7 @@ pub record PlacedFault : Type 0 where
   pub place : ℕ
   pub fault : CompactFault
 
+-- the fault of what was read, with its place in these bytes
 abbrev pub fault_in : List ℕ → Reading CompactFault Struct → Option PlacedFault
 fault_in bytes (got s rest) = None
 fault_in bytes (refused f rest) = Some (record { place = length bytes - length rest; fault = f })
@@ -285,6 +297,7 @@ struct_fault bytes = fault_in bytes (read_struct bytes)
 
 -- ---- the spelling that is written: shortest varints, and the short form of a field's header where it fits
 
+-- the type of a value
 abbrev pub item_type : Item → ThriftType
 item_type (truth_item true) = true_type
 item_type (truth_item false) = false_type
@@ -300,17 +313,21 @@ item_type empty_map_item = map_type
 item_type (map_item k v xs) = map_type
 item_type (struct_item s) = struct_type
 
+-- how many values there are
 abbrev pub count_items : Items → ℕ
 count_items no_items = 0
 count_items (item x xs) = suc (count_items xs)
 
+-- how many pairs there are
 abbrev pub count_pairs : Pairs → ℕ
 count_pairs no_pairs = 0
 count_pairs (pair k v xs) = suc (count_pairs xs)
 
+-- the zigzag varint that is written for a number
 abbrev pub signed_bytes : ℤ → List ℕ
 signed_bytes z = varint_bytes (zigzag z)
 
+-- the header that is written for a list or set of so many values
 abbrev pub list_header_bytes : ℕ → ThriftType → List ℕ
 list_header_bytes n t = if nat_lt n 15 then (n * 16 + type_number t) ∷ [] else (240 + type_number t) ∷ varint_bytes n
 
@@ -320,18 +337,22 @@ header_by_delta (pos zero) id t = type_number t ∷ signed_bytes id
 header_by_delta (pos (suc d)) id t = if nat_lt d 15 then (suc d * 16 + type_number t) ∷ [] else type_number t ∷ signed_bytes id
 header_by_delta (negsuc d) id t = type_number t ∷ signed_bytes id
 
+-- the header that is written for a field behind the one with the last id
 abbrev pub header_bytes : ℤ → ℤ → ThriftType → List ℕ
 header_bytes last id t = header_by_delta (id -ℤ last) id t
 
+-- the bytes of a value in a field: none for a truth value
 abbrev pub in_field : Item → List ℕ → List ℕ
 in_field (truth_item b) bytes = []
 in_field x bytes = bytes
 
 abbrev mutual
+  -- the fields behind the one with the last id, and the end
   pub fields_bytes : ℤ → Struct → List ℕ
   fields_bytes last stop = 0 ∷ []
   fields_bytes last (struct_field id x s) = header_bytes last id (item_type x) ++ (in_field x (item_bytes x) ++ fields_bytes id s)
 
+  -- a value, as it stands in a list, set or map
   pub item_bytes : Item → List ℕ
   item_bytes (truth_item true) = 1 ∷ []
   item_bytes (truth_item false) = 0 ∷ []
@@ -347,10 +368,12 @@ abbrev mutual
   item_bytes (map_item k v xs) = varint_bytes (count_pairs xs) ++ ((type_number k * 16 + type_number v) ∷ pairs_bytes xs)
   item_bytes (struct_item s) = fields_bytes (pos 0) s
 
+  -- values, one after another
   pub items_bytes : Items → List ℕ
   items_bytes no_items = []
   items_bytes (item x xs) = item_bytes x ++ items_bytes xs
 
+  -- pairs, one after another
   pub pairs_bytes : Pairs → List ℕ
   pairs_bytes no_pairs = []
   pairs_bytes (pair k v xs) = item_bytes k ++ (item_bytes v ++ pairs_bytes xs)
@@ -361,6 +384,7 @@ struct_bytes s = fields_bytes (pos 0) s
 
 -- ---- the trees that can be spelled
 
+-- whether it is a truth value
 abbrev pub is_truth : Item → Bool
 is_truth (truth_item b) = true
 is_truth x = false
@@ -393,10 +417,12 @@ abbrev mutual
   is_item (suc n) (struct_item s) = is_struct n s
   is_item zero x = false
 
+  -- such values, each of the type
   pub are_items : ℕ → ThriftType → Items → Bool
   are_items n t no_items = true
   are_items n t (item x xs) = has_type t x && is_item n x && are_items n t xs
 
+  -- such pairs, each of the two types
   pub are_pairs : ℕ → ThriftType → ThriftType → Pairs → Bool
   are_pairs n k v no_pairs = true
   are_pairs n k v (pair x y xs) = has_type k x && has_type v y && is_item n x && is_item n y && are_pairs n k v xs

@@ -1,5 +1,5 @@
 -- The grammar of structs in the Thrift compact protocol, as a relation between bytes and trees: every spelling that the protocol allows.
-use Rattle.std.specs.Prelude.{◌≡◌, ◌⊎◌, ◌↔◌, ℕ, zero, suc, ◌+◌, ◌*◌, ◌/◌, ◌%◌, ◌^◌, ◌<◌, ◌≤◌, List, [], ◌∷◌, ◌++◌, length, Bool, true, false, ◌&&◌, ◌==◌, nat_lt, nat_le, ℤ, pos, ◌+ℤ◌, Some}
+use Rattle.std.specs.Prelude.{◌≡◌, ◌⊎◌, ℕ, zero, suc, ◌/◌, ◌%◌, ◌^◌, ◌<◌, List, [], ◌∷◌, ◌++◌, length, true, false, ◌==◌, ℤ, pos, ◌+ℤ◌, Some}
 use Rattle.dr_formats.specs.Varint.{SpellsNumber, SpellsSigned}
 use Rattle.dr_formats.specs.Compact.{ThriftType, true_type, false_type, byte_type, i16_type, i32_type, i64_type, double_type, binary_type, list_type, set_type, map_type, struct_type, Struct, stop, struct_field, Item, truth_item, byte_item, i16_item, i32_item, i64_item, double_item, binary_item, list_item, set_item, empty_map_item, map_item, struct_item, Items, no_items, item, Pairs, no_pairs, pair, type_of, in_int16, count_items, count_pairs}
 
@@ -17,6 +17,7 @@ SpellsShortHeader bytes last id t = (b : ℕ) × (d : ℕ) × (bytes ≡ b ∷ [
 abbrev pub SpellsLongHeader : List ℕ → ℤ → ThriftType → Type 0
 SpellsLongHeader bytes id t = (b : ℕ) × (v : List ℕ) × (bytes ≡ b ∷ v) × SpellsHalves b 0 t × SpellsSigned (2 ^ 16) v id
 
+-- the header of a field, in either form
 abbrev pub SpellsFieldHeader : List ℕ → ℤ → ℤ → ThriftType → Type 0
 SpellsFieldHeader bytes last id t = SpellsShortHeader bytes last id t ⊎ SpellsLongHeader bytes id t
 
@@ -30,6 +31,7 @@ SpellsMapHeader bytes n k v = (s : List ℕ) × (b : ℕ) × (bytes ≡ s ++ b �
 
 -- ---- values and structs, with at most so many structs, lists, sets and maps in one another
 
+-- 1 or 2, which both stand for truth values
 abbrev pub IsTruthType : ThriftType → Type 0
 IsTruthType t = (t ≡ true_type) ⊎ (t ≡ false_type)
 
@@ -61,10 +63,12 @@ abbrev mutual
   SpellsItem (suc n) bytes t (struct_item s) = (t ≡ struct_type) × SpellsFields n bytes (pos 0) s
   SpellsItem zero bytes t x = ⊥
 
+  -- values of a type, one after another
   pub SpellsItems : ℕ → List ℕ → ThriftType → Items → Type 0
   SpellsItems n bytes t no_items = bytes ≡ []
   SpellsItems n bytes t (item x xs) = (u : List ℕ) × (v : List ℕ) × (bytes ≡ u ++ v) × SpellsItem n u t x × SpellsItems n v t xs
 
+  -- pairs of two types, one after another
   pub SpellsPairs : ℕ → List ℕ → ThriftType → ThriftType → Pairs → Type 0
   SpellsPairs n bytes k v no_pairs = bytes ≡ []
   SpellsPairs n bytes k v (pair x y xs) = (a : List ℕ) × (b : List ℕ) × (c : List ℕ) × (bytes ≡ a ++ (b ++ c)) × SpellsItem n a k x × SpellsItem n b v y × SpellsPairs n c k v xs

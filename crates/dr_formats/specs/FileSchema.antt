@@ -1,5 +1,5 @@
 -- The schema of a file: the tree of its schema elements, its leaves, and what of it is open to be read (Apache Parquet, parquet.thrift, SchemaElement).
-use Rattle.std.specs.Prelude.{◌≡◌, ℕ, zero, suc, ◌+◌, ◌-◌, List, [], ◌∷◌, ◌++◌, map, length, Bool, true, false, not, ◌&&◌, ◌||◌, ◌==◌, nat_le, nat_lt, if◌then◌else◌, bytes_eq, codes, ℤ, pos, negsuc, Option, Some, None, option_map, option_and_then}
+use Rattle.std.specs.Prelude.{ℕ, zero, suc, List, [], ◌∷◌, ◌++◌, map, length, Bool, true, false, not, ◌&&◌, ◌||◌, nat_le, if◌then◌else◌, bytes_eq, codes, ℤ, pos, negsuc, Option, Some, None, option_map, option_and_then}
 use Rattle.std.specs.List.{list_any}
 use Rattle.dr_meaning.specs.Schema.{Repetition, required, optional, repeated, Kind, bool_kind, int32_kind, int64_kind, text_kind, Fields, no_fields, field, Shape, leaf, group, Schema, is_short_name, greatest_depth, most_leaves}
 use Rattle.dr_meaning.specs.Path.{Step, Leaf, same_repetition}
@@ -17,6 +17,7 @@ mutual
     file_leaf : ℤ → Option ℤ → FileShape
     file_group : FileFields → FileShape
 
+-- a file's schema: the root's name and its fields
 pub record FileSchema : Type 0 where
   pub name : List ℕ
   pub fields : FileFields
@@ -33,13 +34,16 @@ pub record FieldsRead : Type 0 where
   pub fields : FileFields
   pub behind : List SchemaElement
 
+-- a shape, and the elements behind it
 pub record ShapeRead : Type 0 where
   pub shape : FileShape
   pub behind : List SchemaElement
 
+-- one field more before those read
 abbrev pub with_first : List ℕ → Repetition → FileShape → FieldsRead → FieldsRead
 with_first n r s f = record { fields = file_field n r s f.fields; behind = f.behind }
 
+-- the fields read as a group
 abbrev pub as_group : FieldsRead → ShapeRead
 as_group f = record { shape = file_group f.fields; behind = f.behind }
 
@@ -83,6 +87,7 @@ is_open_conversion (Some z) = not (is_number 5 z || is_number 13 z || is_number 
 abbrev pub kind_from : ℤ → Option Kind
 kind_from t = if is_number 0 t then Some bool_kind else (if is_number 1 t then Some int32_kind else (if is_number 2 t then Some int64_kind else (if is_number 6 t then Some text_kind else None)))
 
+-- the kind of a leaf of this type and converted type, if it is open by these
 abbrev pub open_kind : ℤ → Option ℤ → Option Kind
 open_kind t c = if is_open_conversion c then kind_from t else None
 
@@ -92,15 +97,18 @@ is_open_name earlier n = is_short_name n && not (list_any (bytes_eq n) earlier)
 
 -- ---- the leaves, in order: the names and repetitions on the path, and the kind where the leaf is open
 
+-- a leaf: the names and the repetitions on its path, and its kind where it is open
 pub record FileLeaf : Type 0 where
   pub names : List (List ℕ)
   pub repetitions : List Repetition
   pub kind : Option Kind
 
+-- the kind, if the test passes
 abbrev pub only_if : Bool → Option Kind → Option Kind
 only_if true k = k
 only_if false k = None
 
+-- a leaf of a field's shape, as a leaf of the group that has the field
 abbrev pub leaf_under : List ℕ → Repetition → Bool → FileLeaf → FileLeaf
 leaf_under n r b l = record { names = n ∷ l.names; repetitions = r ∷ l.repetitions; kind = only_if b l.kind }
 
@@ -110,6 +118,7 @@ abbrev mutual
   leaves_under earlier no_file_fields = []
   leaves_under earlier (file_field n r s fs) = map (leaf_under n r (is_open_name earlier n)) (shape_leaves_under s) ++ leaves_under (n ∷ earlier) fs
 
+  -- of a shape
   pub shape_leaves_under : FileShape → List FileLeaf
   shape_leaves_under (file_leaf t c) = record { names = []; repetitions = []; kind = open_kind t c } ∷ []
   shape_leaves_under (file_group fs) = leaves_under [] fs
@@ -118,11 +127,13 @@ abbrev mutual
 abbrev pub within_depth : FileLeaf → FileLeaf
 within_depth l = record l { kind = only_if (nat_le (length l.names) greatest_depth) l.kind }
 
+-- the leaves of a file, in order
 abbrev pub file_leaves : FileFields → List FileLeaf
 file_leaves fs = map within_depth (leaves_under [] fs)
 
 -- ---- which leaf of the file is a leaf of a schema
 
+-- whether two kinds are the same
 abbrev pub same_kind : Kind → Kind → Bool
 same_kind bool_kind bool_kind = true
 same_kind int32_kind int32_kind = true
@@ -130,15 +141,18 @@ same_kind int64_kind int64_kind = true
 same_kind text_kind text_kind = true
 same_kind k l = false
 
+-- whether it is the open kind
 abbrev pub is_kind : Kind → Option Kind → Bool
 is_kind k None = false
 is_kind k (Some l) = same_kind k l
 
+-- whether two paths have the same names
 abbrev pub same_names : List (List ℕ) → List (List ℕ) → Bool
 same_names [] [] = true
 same_names (m ∷ ms) (n ∷ ns) = bytes_eq m n && same_names ms ns
 same_names ms ns = false
 
+-- whether a path has these repetitions
 abbrev pub same_repetitions : List Step → List Repetition → Bool
 same_repetitions [] [] = true
 same_repetitions (s ∷ p) (r ∷ rs) = same_repetition s.repetition r && same_repetitions p rs
@@ -160,29 +174,36 @@ pub record OpenFields : Type 0 where
   pub fields : Fields
   pub left : ℕ
 
+-- the open part of a shape, if there is one, and how many leaves may still come
 pub record OpenShape : Type 0 where
   pub shape : Option Shape
   pub left : ℕ
 
+-- a leaf, if it is open and may still come
 abbrev pub open_leaf : Option Kind → ℕ → OpenShape
 open_leaf None n = record { shape = None; left = n }
 open_leaf (Some k) zero = record { shape = None; left = 0 }
 open_leaf (Some k) (suc n) = record { shape = Some (leaf k); left = n }
 
+-- a group, unless nothing of it is open
 abbrev pub group_unless_empty : Fields → Option Shape
 group_unless_empty no_fields = None
 group_unless_empty (field n r s fs) = Some (group (field n r s fs))
 
+-- the group of these open fields
 abbrev pub open_group : OpenFields → OpenShape
 open_group f = record { shape = group_unless_empty f.fields; left = f.left }
 
+-- nothing open
 abbrev pub closed_shape : ℕ → OpenShape
 closed_shape n = record { shape = None; left = n }
 
+-- a field before the others, if something of it is open
 abbrev pub put_field : List ℕ → Repetition → Option Shape → Fields → Fields
 put_field n r None fs = fs
 put_field n r (Some s) fs = field n r s fs
 
+-- the same, with how many leaves may still come
 abbrev pub put_shape : List ℕ → Repetition → Option Shape → OpenFields → OpenFields
 put_shape n r s f = record { fields = put_field n r s f.fields; left = f.left }
 
@@ -196,14 +217,17 @@ abbrev mutual
   open_fields earlier d no_file_fields n = record { fields = no_fields; left = n }
   open_fields earlier d (file_field name r s fs) n = put_open name r (if is_open_name earlier name then open_below d s n else closed_shape n) (open_fields (name ∷ earlier) d fs)
 
+  -- of the shape of a field with an open name
   pub open_below : ℕ → FileShape → ℕ → OpenShape
   open_below zero s n = closed_shape n
   open_below (suc d) (file_leaf t c) n = open_leaf (open_kind t c) n
   open_below (suc d) (file_group fs) n = open_group (open_fields [] d fs n)
 
+-- the root's name, or `Records` where it isn't of the form
 abbrev pub open_name : List ℕ → List ℕ
 open_name n = if is_short_name n then n else codes "Records"
 
+-- the schema of these open fields, unless there are none
 abbrev pub schema_unless_empty : List ℕ → Fields → Option Schema
 schema_unless_empty n no_fields = None
 schema_unless_empty n (field m r s fs) = Some (record { name = open_name n; fields = field m r s fs })

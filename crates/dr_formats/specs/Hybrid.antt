@@ -34,6 +34,7 @@ runs (suc k) width (suc n) = do
   more ← runs k width (suc n - length vs)
   give (vs ++ more)
 
+-- the values of what was read
 abbrev pub values_read : Reading HybridFault (List ℕ) → Option (List ℕ)
 values_read (got vs rest) = Some vs
 values_read (refused e rest) = None
@@ -73,9 +74,11 @@ pub record WrittenRun : Type 0 where
   pub bytes : List ℕ
   pub taken : ℕ
 
+-- a repeat of so many of a value
 abbrev pub repeat_of : ℕ → ℕ → ℕ → WrittenRun
 repeat_of width m v = record { bytes = varint_bytes (2 * m) ++ little_endian_bytes (bytes_for width) v; taken = m }
 
+-- a group of the next eight values
 abbrev pub group_of : ℕ → List ℕ → WrittenRun
 group_of width vs = record { bytes = 3 ∷ little_endian_bytes width (packed width (take 8 vs)); taken = 8 }
 

@@ -1,5 +1,5 @@
 -- Laws of hybrid data.
-use Rattle.std.specs.Prelude.{◌≡◌, ◌↔◌, ℕ, ◌^◌, ◌<◌, List, ◌++◌, length, true, nat_lt, Option, Some}
+use Rattle.std.specs.Prelude.{◌≡◌, ◌↔◌, ℕ, ◌^◌, ◌<◌, List, ◌++◌, length, true, nat_lt, Some}
 use Rattle.std.specs.List.{list_all}
 use Rattle.dr_formats.specs.Hybrid.{hybrid, Runs, hybrid_bytes}
 

@@ -1,6 +1,7 @@
 -- Numbers in a fixed number of bytes, the lowest first, and values packed into bits, the lowest first.
 use Rattle.std.specs.Prelude.{ℕ, zero, suc, ◌+◌, ◌*◌, ◌/◌, ◌%◌, ◌^◌, List, [], ◌∷◌}
 
+-- the number of bytes, the lowest first
 abbrev pub little_endian : List ℕ → ℕ
 little_endian [] = 0
 little_endian (b ∷ bs) = b + 256 * little_endian bs

@@ -1,6 +1,6 @@
 -- The structs of a file's metadata (Apache Parquet, parquet.thrift): their fields in a tree, and their trees as they are written.
-use Rattle.std.specs.Prelude.{◌≡◌, ℕ, zero, suc, ◌+◌, List, [], ◌∷◌, map, ℤ, pos, negsuc, Option, Some, None, option_map, option_and_then, Result, Ok, Err}
-use Rattle.dr_formats.specs.Compact.{ThriftType, i32_type, binary_type, struct_type, Struct, stop, struct_field, Item, truth_item, byte_item, i16_item, i32_item, i64_item, double_item, binary_item, list_item, set_item, empty_map_item, map_item, struct_item, Items, no_items, item, find_field}
+use Rattle.std.specs.Prelude.{ℕ, List, [], ◌∷◌, ℤ, pos, negsuc, Option, Some, None, option_map, option_and_then, Result, Ok, Err}
+use Rattle.dr_formats.specs.Compact.{i32_type, binary_type, struct_type, Struct, stop, struct_field, Item, i32_item, i64_item, binary_item, list_item, struct_item, Items, no_items, item, find_field}
 
 -- a needed field that isn't there with its type, or whose number is outside its range, by its id
 pub data MetaFault : Type 0 where
@@ -8,25 +8,29 @@ pub data MetaFault : Type 0 where
   out_of_range : ℕ → MetaFault
 
 infixl 15 ◌>>=◌
-
+-- one field and then another that may depend on it, or the first fault
 abbrev pub ◌>>=◌ : {A B : Type 0} → Result A MetaFault → (A → Result B MetaFault) → Result B MetaFault
 ◌>>=◌ (Ok a) next = next a
 ◌>>=◌ (Err e) next = Err e
 
 -- ---- values of a type
 
+-- a number of the type i32
 abbrev pub as_i32 : Item → Option ℤ
 as_i32 (i32_item z) = Some z
 as_i32 x = None
 
+-- a number of the type i64
 abbrev pub as_i64 : Item → Option ℤ
 as_i64 (i64_item z) = Some z
 as_i64 x = None
 
+-- bytes of the type binary
 abbrev pub as_binary : Item → Option (List ℕ)
 as_binary (binary_item b) = Some b
 as_binary x = None
 
+-- a struct
 abbrev pub as_struct : Item → Option Struct
 as_struct (struct_item s) = Some s
 as_struct x = None
@@ -41,10 +45,12 @@ abbrev pub as_structs : Item → Option (List Struct)
 as_structs (list_item struct_type xs) = all_as as_struct xs
 as_structs x = None
 
+-- a list of numbers of the type i32
 abbrev pub as_numbers : Item → Option (List ℤ)
 as_numbers (list_item i32_type xs) = all_as as_i32 xs
 as_numbers x = None
 
+-- a list of bytes of the type binary
 abbrev pub as_names : Item → Option (List (List ℕ))
 as_names (list_item binary_type xs) = all_as as_binary xs
 as_names x = None
@@ -53,6 +59,7 @@ as_names x = None
 abbrev pub optional_field : {A : Type 0} → (Item → Option A) → ℕ → Struct → Option A
 optional_field f i s = option_and_then f (find_field (pos i) s)
 
+-- the value, or that this field is missing
 abbrev pub unless_missing : {A : Type 0} → ℕ → Option A → Result A MetaFault
 unless_missing i None = Err (missing i)
 unless_missing i (Some a) = Ok a
@@ -61,6 +68,7 @@ unless_missing i (Some a) = Ok a
 abbrev pub needed : {A : Type 0} → (Item → Option A) → ℕ → Struct → Result A MetaFault
 needed f i s = unless_missing i (optional_field f i s)
 
+-- the number, or that this field is out of range
 abbrev pub unless_negative : ℕ → ℤ → Result ℕ MetaFault
 unless_negative i (pos n) = Ok n
 unless_negative i (negsuc n) = Err (out_of_range i)
@@ -88,6 +96,7 @@ where_there f (Some s) = do
 
 -- ---- SchemaElement
 
+-- SchemaElement: a leaf or group of the schema
 pub record SchemaElement : Type 0 where
   pub type : Option ℤ
   pub type_length : Option ℤ
@@ -96,6 +105,7 @@ pub record SchemaElement : Type 0 where
   pub children : Option ℤ
   pub converted : Option ℤ
 
+-- the schema element of a struct
 abbrev pub view_element : Struct → Result SchemaElement MetaFault
 view_element s = do
   n ← needed as_binary 4 s
@@ -103,6 +113,7 @@ view_element s = do
 
 -- ---- ColumnMetaData, ColumnChunk, RowGroup, FileMetaData
 
+-- ColumnMetaData: type, encodings, path, codec, number of values, sizes and offsets of a chunk
 pub record ColumnMeta : Type 0 where
   pub type : ℤ
   pub encodings : Option (List ℤ)
@@ -114,6 +125,7 @@ pub record ColumnMeta : Type 0 where
   pub data_page_offset : ℕ
   pub dictionary_page_offset : Option ℤ
 
+-- the column metadata of a struct
 abbrev pub view_column_meta : Struct → Result ColumnMeta MetaFault
 view_column_meta s = do
   t ← needed as_i32 1 s
@@ -123,22 +135,26 @@ view_column_meta s = do
   d ← needed_count as_i64 9 s
   Ok (record { type = t; encodings = optional_field as_numbers 2 s; path = optional_field as_names 3 s; codec = c; values = n; uncompressed_size = optional_field as_i64 6 s; compressed_size = z; data_page_offset = d; dictionary_page_offset = optional_field as_i64 11 s })
 
+-- ColumnChunk: a chunk with its metadata
 pub record ColumnChunk : Type 0 where
   pub file_path : Option (List ℕ)
   pub file_offset : Option ℤ
   pub meta : ColumnMeta
 
+-- the column chunk of a struct
 abbrev pub view_chunk : Struct → Result ColumnChunk MetaFault
 view_chunk s = do
   m ← needed as_struct 3 s
   c ← view_column_meta m
   Ok (record { file_path = optional_field as_binary 1 s; file_offset = optional_field as_i64 2 s; meta = c })
 
+-- RowGroup: a chunk for each leaf, and the number of rows
 pub record RowGroup : Type 0 where
   pub columns : List ColumnChunk
   pub total_byte_size : Option ℤ
   pub rows : ℕ
 
+-- the row group of a struct
 abbrev pub view_group : Struct → Result RowGroup MetaFault
 view_group s = do
   cs ← needed as_structs 1 s
@@ -146,6 +162,7 @@ view_group s = do
   columns ← each view_chunk cs
   Ok (record { columns = columns; total_byte_size = optional_field as_i64 2 s; rows = n })
 
+-- FileMetaData: version, schema elements, rows, row groups, writer
 pub record FileMeta : Type 0 where
   pub version : Option ℤ
   pub schema : List SchemaElement
@@ -165,12 +182,14 @@ view_file s = do
 
 -- ---- PageHeader
 
+-- DataPageHeader: number of triplets and encodings
 pub record DataPageHeader : Type 0 where
   pub values : ℕ
   pub encoding : ℤ
   pub definition_encoding : ℤ
   pub repetition_encoding : ℤ
 
+-- the data page header of a struct
 abbrev pub view_data_header : Struct → Result DataPageHeader MetaFault
 view_data_header s = do
   n ← needed_count as_i32 1 s
@@ -179,22 +198,26 @@ view_data_header s = do
   r ← needed as_i32 4 s
   Ok (record { values = n; encoding = e; definition_encoding = d; repetition_encoding = r })
 
+-- DictionaryPageHeader: number of values and encoding
 pub record DictionaryPageHeader : Type 0 where
   pub values : ℕ
   pub encoding : ℤ
 
+-- the dictionary page header of a struct
 abbrev pub view_dictionary_header : Struct → Result DictionaryPageHeader MetaFault
 view_dictionary_header s = do
   n ← needed_count as_i32 1 s
   e ← needed as_i32 2 s
   Ok (record { values = n; encoding = e })
 
+-- DataPageHeaderV2: number of triplets, encoding, byte lengths of the level parts
 pub record DataPageHeaderV2 : Type 0 where
   pub values : ℕ
   pub encoding : ℤ
   pub definition_bytes : ℕ
   pub repetition_bytes : ℕ
 
+-- the V2 data page header of a struct
 abbrev pub view_data_header_v2 : Struct → Result DataPageHeaderV2 MetaFault
 view_data_header_v2 s = do
   n ← needed_count as_i32 1 s
@@ -203,6 +226,7 @@ view_data_header_v2 s = do
   r ← needed_count as_i32 6 s
   Ok (record { values = n; encoding = e; definition_bytes = d; repetition_bytes = r })
 
+-- PageHeader: type, sizes, and the header struct of the type
 pub record PageHeader : Type 0 where
   pub type : ℤ
   pub uncompressed_size : Option ℤ
@@ -223,6 +247,7 @@ view_page s = do
 
 -- ---- trees as they are written
 
+-- the values of a list, each made so
 abbrev pub items_of : {A : Type 0} → (A → Item) → List A → Items
 items_of f [] = no_items
 items_of f (x ∷ xs) = item (f x) (items_of f xs)
@@ -232,39 +257,51 @@ abbrev pub with_field : {A : Type 0} → ℕ → (A → Item) → Option A → S
 with_field i f None s = s
 with_field i f (Some a) s = struct_field (pos i) (f a) s
 
+-- an i32 field where there is a number
 abbrev pub with_i32 : ℕ → Option ℤ → Struct → Struct
 with_i32 i z s = with_field i i32_item z s
 
+-- an i64 field where there is a number
 abbrev pub with_i64 : ℕ → Option ℤ → Struct → Struct
 with_i64 i z s = with_field i i64_item z s
 
+-- an i32 field of a count
 abbrev pub count_i32 : ℕ → ℕ → Struct → Struct
 count_i32 i n s = struct_field (pos i) (i32_item (pos n)) s
 
+-- an i64 field of a count
 abbrev pub count_i64 : ℕ → ℕ → Struct → Struct
 count_i64 i n s = struct_field (pos i) (i64_item (pos n)) s
 
+-- the struct of a schema element
 abbrev pub element_tree : SchemaElement → Struct
 element_tree e = with_i32 1 e.type (with_i32 2 e.type_length (with_i32 3 e.repetition (struct_field (pos 4) (binary_item e.name) (with_i32 5 e.children (with_i32 6 e.converted stop)))))
 
+-- the struct of column metadata
 abbrev pub column_meta_tree : ColumnMeta → Struct
 column_meta_tree m = struct_field (pos 1) (i32_item m.type) (with_field 2 (λ es. list_item i32_type (items_of i32_item es)) m.encodings (with_field 3 (λ ns. list_item binary_type (items_of binary_item ns)) m.path (struct_field (pos 4) (i32_item m.codec) (count_i64 5 m.values (with_i64 6 m.uncompressed_size (count_i64 7 m.compressed_size (count_i64 9 m.data_page_offset (with_i64 11 m.dictionary_page_offset stop))))))))
 
+-- the struct of a column chunk
 abbrev pub chunk_tree : ColumnChunk → Struct
 chunk_tree c = with_field 1 binary_item c.file_path (with_i64 2 c.file_offset (struct_field (pos 3) (struct_item (column_meta_tree c.meta)) stop))
 
+-- a list of structs, each made so
 abbrev pub structs : {A : Type 0} → (A → Struct) → List A → Item
 structs f xs = list_item struct_type (items_of (λ x. struct_item (f x)) xs)
 
+-- the struct of a row group
 abbrev pub group_tree : RowGroup → Struct
 group_tree g = struct_field (pos 1) (structs chunk_tree g.columns) (with_i64 2 g.total_byte_size (count_i64 3 g.rows stop))
 
+-- the struct of a file's metadata
 abbrev pub file_tree : FileMeta → Struct
 file_tree m = with_i32 1 m.version (struct_field (pos 2) (structs element_tree m.schema) (count_i64 3 m.rows (struct_field (pos 4) (structs group_tree m.groups) (with_field 6 binary_item m.created_by stop))))
 
+-- the struct of a data page header
 abbrev pub data_header_tree : DataPageHeader → Struct
 data_header_tree h = count_i32 1 h.values (struct_field (pos 2) (i32_item h.encoding) (struct_field (pos 3) (i32_item h.definition_encoding) (struct_field (pos 4) (i32_item h.repetition_encoding) stop)))
 
+-- the struct of a dictionary page header
 abbrev pub dictionary_header_tree : DictionaryPageHeader → Struct
 dictionary_header_tree h = count_i32 1 h.values (struct_field (pos 2) (i32_item h.encoding) stop)
 

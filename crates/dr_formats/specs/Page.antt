@@ -1,5 +1,5 @@
 -- Bodies of data pages: repetition levels, definition levels, values (Apache Parquet, "Data Pages"; Dremel 2010, section 4.1).
-use Rattle.std.specs.Prelude.{◌≡◌, ℕ, zero, suc, ◌+◌, ◌/◌, ◌^◌, List, [], ◌∷◌, ◌++◌, map, length, replicate, Bool, true, false, ◌&&◌, ◌||◌, ◌==◌, nat_lt, nat_le, if◌then◌else◌, ℤ, pos, negsuc, Option, Some, None, option_map, option_and_then}
+use Rattle.std.specs.Prelude.{ℕ, zero, suc, ◌/◌, List, [], ◌∷◌, ◌++◌, map, length, replicate, Bool, true, false, ◌&&◌, ◌||◌, ◌==◌, nat_le, if◌then◌else◌, ℤ, pos, negsuc, Option, Some, None, option_and_then}
 use Rattle.std.specs.List.{list_all}
 use Rattle.dr_meaning.specs.Schema.{Kind}
 use Rattle.dr_meaning.specs.Record.{Value}
@@ -28,25 +28,31 @@ pub record PageShape : Type 0 where
 pub data PageFault : Type 0 where
   bad_data : PageFault
 
+-- a value, if there is one
 abbrev pub found : {A : Type 0} → Option A → Reader PageFault A
 found None = refused bad_data
 found (Some a) = give a
 
 -- ---- numbers of the format (parquet.thrift, Encoding)
 
+-- whether a field has this number
 abbrev pub is_number : ℕ → ℤ → Bool
 is_number n (pos m) = m == n
 is_number n (negsuc m) = false
 
+-- PLAIN
 abbrev pub plain_encoding : ℕ
 plain_encoding = 0
 
+-- PLAIN_DICTIONARY
 abbrev pub plain_dictionary_encoding : ℕ
 plain_dictionary_encoding = 2
 
+-- RLE, that of the hybrid
 abbrev pub rle_encoding : ℕ
 rle_encoding = 3
 
+-- RLE_DICTIONARY
 abbrev pub rle_dictionary_encoding : ℕ
 rle_dictionary_encoding = 8
 
@@ -61,6 +67,7 @@ digits_within (suc k) n = if n == 0 then 0 else suc (digits_within k (n / 2))
 abbrev pub level_width : ℕ → ℕ
 level_width greatest = digits_within greatest greatest
 
+-- the levels, if none is above the greatest
 abbrev pub none_above : ℕ → List ℕ → Option (List ℕ)
 none_above greatest ls = if list_all (λ l. nat_le l greatest) ls then Some ls else None
 
@@ -71,6 +78,7 @@ levels (suc g) encoding n = if is_number rle_encoding encoding then (do b ← by
 
 -- ---- values
 
+-- n values of this encoding at the front of bytes; any other encoding has none
 abbrev pub encoded_values : ℤ → Kind → List Value → ℕ → List ℕ → Option (List Value)
 encoded_values encoding k dictionary n bytes = if is_number plain_encoding encoding then plain_values k n bytes else (if is_number plain_dictionary_encoding encoding || is_number rle_dictionary_encoding encoding then dictionary_values dictionary n bytes else None)
 
@@ -83,11 +91,13 @@ abbrev pub count_equal : ℕ → List ℕ → ℕ
 count_equal g [] = 0
 count_equal g (l ∷ ls) = if l == g then suc (count_equal g ls) else count_equal g ls
 
+-- the first value, if one is taken
 abbrev pub first_if : Bool → List Value → Option Value
 first_if false vs = None
 first_if true [] = None
 first_if true (v ∷ vs) = Some v
 
+-- the values behind it
 abbrev pub behind_if : Bool → List Value → List Value
 behind_if false vs = vs
 behind_if true [] = []
@@ -101,6 +111,7 @@ join_triplets g (r ∷ rs) (d ∷ ds) vs = triplet r d (first_if (d == g) vs) �
 
 -- ---- bodies
 
+-- repetition levels, definition levels, and a value for each greatest definition level
 abbrev pub page_body : PageShape → List Value → Reader PageFault (List Triplet)
 page_body s dictionary = do
   rs ← levels s.max_repetition s.repetition_encoding s.triplets
@@ -108,6 +119,7 @@ page_body s dictionary = do
   vs ← values s.encoding s.kind dictionary (count_equal s.max_definition ds)
   give (join_triplets s.max_definition rs ds vs)
 
+-- the triplets of what was read
 abbrev pub triplets_read : Reading PageFault (List Triplet) → Option (List Triplet)
 triplets_read (got ts rest) = Some ts
 triplets_read (refused e rest) = None
@@ -118,10 +130,12 @@ page_triplets s dictionary bytes = triplets_read (page_body s dictionary bytes)
 
 -- ---- what is written: level encodings RLE, values PLAIN
 
+-- levels: nothing where the greatest is 0, else the length in four bytes and hybrid data
 abbrev pub level_bytes : ℕ → List ℕ → List ℕ
 level_bytes zero ls = []
 level_bytes (suc g) ls = little_endian_bytes 4 (length (hybrid_bytes (level_width (suc g)) ls)) ++ hybrid_bytes (level_width (suc g)) ls
 
+-- a value before the others, if there is one
 abbrev pub with_value : Option Value → List Value → List Value
 with_value None vs = vs
 with_value (Some v) vs = v ∷ vs
@@ -131,19 +145,23 @@ abbrev pub column_values : List Triplet → List Value
 column_values [] = []
 column_values (t ∷ ts) = with_value t.value (column_values ts)
 
+-- the body that is written for triplets
 unfoldable pub body_bytes : Kind → ℕ → ℕ → List Triplet → List ℕ
 body_bytes k max_r max_d ts = level_bytes max_r (map (λ (t : Triplet). t.repetition) ts) ++ (level_bytes max_d (map (λ (t : Triplet). t.definition) ts) ++ plain_bytes k (column_values ts))
 
 -- ---- the columns that can be written
 
+-- whether there is a value
 abbrev pub has_value : Option Value → Bool
 has_value None = false
 has_value (Some v) = true
 
+-- whether the value, if there is one, can be written as one of the kind
 abbrev pub is_value_of : Kind → Option Value → Bool
 is_value_of k None = true
 is_value_of k (Some v) = is_writable k v
 
+-- whether two tests agree
 abbrev pub same_truth : Bool → Bool → Bool
 same_truth true b = b
 same_truth false true = false

@@ -1,5 +1,5 @@
 -- Values of a column's leaf in the encodings PLAIN and RLE_DICTIONARY (Apache Parquet, Encodings, "Plain", "Dictionary Encoding").
-use Rattle.std.specs.Prelude.{◌≡◌, ℕ, zero, suc, ◌+◌, ◌-◌, ◌*◌, ◌/◌, ◌^◌, List, [], ◌∷◌, ◌++◌, map, length, Bool, true, false, ◌&&◌, ◌||◌, ◌==◌, nat_lt, nat_le, if◌then◌else◌, ℤ, pos, negsuc, Option, Some, None, option_map, option_and_then}
+use Rattle.std.specs.Prelude.{ℕ, zero, suc, ◌-◌, ◌/◌, ◌^◌, List, [], ◌∷◌, ◌++◌, map, length, Bool, true, ◌&&◌, ◌==◌, nat_lt, nat_le, if◌then◌else◌, ℤ, pos, negsuc, Option, Some, None, option_map, option_and_then}
 use Rattle.std.specs.Str.{is_utf8}
 use Rattle.dr_meaning.specs.Schema.{Kind, bool_kind, int32_kind, int64_kind, text_kind}
 use Rattle.dr_meaning.specs.Record.{Value, bool_value, int_value, text_value, is_of_kind}
@@ -14,9 +14,11 @@ pub data PlainFault : Type 0 where
 
 -- ---- numbers in two's complement
 
+-- the number of so many bits in two's complement
 abbrev pub from_complement : ℕ → ℕ → ℤ
 from_complement bits x = if nat_lt x (2 ^ (bits - 1)) then pos x else negsuc (2 ^ bits - 1 - x)
 
+-- its bits, as a number that isn't negative
 abbrev pub complement : ℕ → ℤ → ℕ
 complement bits (pos n) = n
 complement bits (negsuc n) = 2 ^ bits - 1 - n
@@ -37,6 +39,7 @@ plain_number bits = do
   b ← bytes_of too_short (bits / 8)
   give (int_value (from_complement bits (little_endian b)))
 
+-- a text, if it is UTF-8
 abbrev pub checked_text : List ℕ → Reader PlainFault Value
 checked_text t = if is_utf8 t then give (text_value t) else refused bad_text
 
@@ -51,6 +54,7 @@ plain_text = do
 abbrev pub truth_of_bit : ℕ → Value
 truth_of_bit x = bool_value (x == 1)
 
+-- n truth values
 abbrev pub plain_truths : ℕ → Reader PlainFault (List Value)
 plain_truths n = do
   b ← bytes_of too_short (bytes_for n)
@@ -63,6 +67,7 @@ plain int32_kind n = repeatedly (plain_number 32) n
 plain int64_kind n = repeatedly (plain_number 64) n
 plain text_kind n = repeatedly plain_text n
 
+-- the values of what was read
 abbrev pub plain_read : Reading PlainFault (List Value) → Option (List Value)
 plain_read (got vs rest) = Some vs
 plain_read (refused e rest) = None
@@ -73,6 +78,7 @@ plain_values k n bytes = plain_read (plain k n bytes)
 
 -- ---- dictionaries
 
+-- the value at this index, from 0
 abbrev pub nth_value : List Value → ℕ → Option Value
 nth_value [] i = None
 nth_value (v ∷ vs) zero = Some v
@@ -91,22 +97,27 @@ dictionary_values dictionary (suc n) (width ∷ bytes) = if nat_le width 32 then
 
 -- ---- what is written
 
+-- 1 for true
 abbrev pub bit_of : Value → ℕ
 bit_of (bool_value true) = 1
 bit_of v = 0
 
+-- a number in so many bits
 abbrev pub plain_number_bytes : ℕ → Value → List ℕ
 plain_number_bytes bits (int_value z) = little_endian_bytes (bits / 8) (complement bits z)
 plain_number_bytes bits v = []
 
+-- a text behind its length
 abbrev pub plain_text_bytes : Value → List ℕ
 plain_text_bytes (text_value t) = little_endian_bytes 4 (length t) ++ t
 plain_text_bytes v = []
 
+-- the bytes of each value, one after another
 abbrev pub joined : (Value → List ℕ) → List Value → List ℕ
 joined f [] = []
 joined f (v ∷ vs) = f v ++ joined f vs
 
+-- the bytes that are written for values of a kind
 abbrev pub plain_bytes : Kind → List Value → List ℕ
 plain_bytes bool_kind vs = little_endian_bytes (bytes_for (length vs)) (packed 1 (map bit_of vs))
 plain_bytes int32_kind vs = joined (plain_number_bytes 32) vs
@@ -119,5 +130,6 @@ has_short_text (bool_value b) = true
 has_short_text (int_value z) = true
 has_short_text (text_value t) = nat_lt (length t) (2 ^ 32)
 
+-- a value of the kind that can be written
 abbrev pub is_writable : Kind → Value → Bool
 is_writable k v = is_of_kind k v && has_short_text v

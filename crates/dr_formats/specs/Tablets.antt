@@ -24,6 +24,7 @@ six_digits n = replicate (6 - length (decimal n)) 48 ++ decimal n
 abbrev pub tablet_path : List ℕ → ℕ → List ℕ
 tablet_path directory tablet = directory ++ (codes "/t" ++ (six_digits tablet ++ codes ".parquet"))
 
+-- the directory of a leaf, from 0
 abbrev pub nth_directory : List (List ℕ) → ℕ → List ℕ
 nth_directory [] i = []
 nth_directory (d ∷ ds) zero = d

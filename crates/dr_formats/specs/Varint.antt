@@ -1,6 +1,6 @@
 -- Variable-length numbers (Thrift compact protocol, "Integer encoding": unsigned LEB128 and zigzag).
 use Rattle.std.specs.Prelude.{◌≡◌, ◌<◌, ◌≤◌, length, Bool, true, false, nat_le, ℕ, zero, suc, ◌+◌, ◌*◌, ◌/◌, ◌%◌, ◌^◌, List, [], ◌∷◌, ◌&&◌, ◌==◌, nat_lt, if◌then◌else◌, ℤ, pos, negsuc}
-use Rattle.dr_formats.specs.Reading.{Reading, got, refused, Reader}
+use Rattle.dr_formats.specs.Reading.{got, refused, Reader}
 
 -- ---- reading
 
@@ -35,6 +35,7 @@ abbrev pub varint_bytes_from : ℕ → ℕ → List ℕ
 varint_bytes_from zero n = n ∷ []
 varint_bytes_from (suc k) n = if nat_lt n 128 then n ∷ [] else (128 + n % 128) ∷ varint_bytes_from k (n / 128)
 
+-- of a number below 2^64
 abbrev pub varint_bytes : ℕ → List ℕ
 varint_bytes n = varint_bytes_from 9 n
 
@@ -45,6 +46,7 @@ abbrev pub zigzag : ℤ → ℕ
 zigzag (pos n) = 2 * n
 zigzag (negsuc n) = 2 * n + 1
 
+-- the number of a zigzag
 abbrev pub from_zigzag : ℕ → ℤ
 from_zigzag n = if n % 2 == 0 then pos (n / 2) else negsuc (n / 2)
 
@@ -65,6 +67,7 @@ seven_bits (b ∷ bs) = b % 128 + 128 * seven_bits bs
 abbrev pub SpellsVarint : ℕ → List ℕ → ℕ → Type 0
 SpellsVarint bound bytes n = (is_chain bytes ≡ true) × (length bytes ≤ 10) × (seven_bits bytes ≡ n) × (n < bound)
 
+-- one of a number below 2^64
 abbrev pub SpellsNumber : List ℕ → ℕ → Type 0
 SpellsNumber bytes n = SpellsVarint (2 ^ 64) bytes n
 
