@@ -205,7 +205,7 @@ element_back n t (struct_item s) h k = other_element n t (struct_item s) refl h 
 
 -- ---- trees
 
-header_has_byte : (id delta : ℤ) (t : ThriftType) → 1 ≤ length (header_by_delta delta id t)
+pub header_has_byte : (id delta : ℤ) (t : ThriftType) → 1 ≤ length (header_by_delta delta id t)
 header_has_byte id (pos zero) t = omega arith
 header_has_byte id (pos (suc d)) t = by (nat_lt d 15)
   where

@@ -19,3 +19,4 @@ pub mod HybridGrammar
 pub mod FileLemmas
 pub mod PlainLemmas
 pub mod PageLemmas
+pub mod ChunkLemmas

@@ -26,3 +26,4 @@ pub mod CompactLaws
 pub mod HybridLaws
 pub mod PlainLaws
 pub mod FileLaws
+pub mod WritingLaws
