@@ -20,3 +20,4 @@ pub mod FileLemmas
 pub mod PlainLemmas
 pub mod PageLemmas
 pub mod ChunkLemmas
+pub mod MetadataLemmas

@@ -1,8 +1,9 @@
--- Laws of what is written: pages of a chunk.
-use Rattle.std.specs.Prelude.{◌≡◌, ℕ, ◌+◌, ◌^◌, ◌<◌, ◌≤◌, List, [], ◌∷◌, ◌++◌, length, true, Option, Some}
+-- Laws of what is written: metadata, pages of a chunk.
+use Rattle.std.specs.Prelude.{◌≡◌, ℕ, ◌+◌, ◌^◌, ◌<◌, ◌≤◌, List, [], ◌∷◌, ◌++◌, length, true, Option, Some, Result, Ok}
 use Rattle.std.specs.List.{list_all}
 use Rattle.dr_meaning.specs.Path.{Leaf, max_repetition, max_definition}
 use Rattle.dr_meaning.specs.Column.{Triplet}
+use Rattle.dr_formats.specs.Metadata.{FileMeta, view_file, file_tree}
 use Rattle.dr_formats.specs.Page.{is_triplet, body_bytes}
 use Rattle.dr_formats.specs.Chunk.{pages_triplets}
 use Rattle.dr_formats.specs.Writing.{pages_bytes, triplet_count, cut_pages}
@@ -27,3 +28,7 @@ WrittenPagesAreRead = (l : Leaf) (ps : List (List Triplet)) (rest : List ℕ) �
 -- cutting columns into pages keeps their triplets
 abbrev pub PagesKeepTriplets : Type 0
 PagesKeepTriplets = (l : Leaf) (columns : List (List Triplet)) → all_triplets (cut_pages l.kind [] columns) ≡ all_triplets columns
+
+-- the struct that is written for metadata is viewed as that metadata
+abbrev pub WrittenMetadataIsViewed : Type 0
+WrittenMetadataIsViewed = (m : FileMeta) → view_file (file_tree m) ≡ Ok m
