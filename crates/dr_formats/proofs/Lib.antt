@@ -21,3 +21,4 @@ pub mod PlainLemmas
 pub mod PageLemmas
 pub mod ChunkLemmas
 pub mod MetadataLemmas
+pub mod SchemaBack
