@@ -22,3 +22,4 @@ pub mod PageLemmas
 pub mod ChunkLemmas
 pub mod MetadataLemmas
 pub mod SchemaBack
+pub mod ColumnsFit
