@@ -23,3 +23,5 @@ pub mod ChunkLemmas
 pub mod MetadataLemmas
 pub mod SchemaBack
 pub mod ColumnsFit
+pub mod ColumnRows
+pub mod FooterBack
