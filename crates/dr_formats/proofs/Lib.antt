@@ -25,3 +25,4 @@ pub mod SchemaBack
 pub mod ColumnsFit
 pub mod ColumnRows
 pub mod FooterBack
+pub mod MetaFits

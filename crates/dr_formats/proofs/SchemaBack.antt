@@ -10,6 +10,7 @@ use Rattle.dr_meaning.specs.Path.{Step, Leaf, same_repetition, leaf_below, leave
 use Rattle.dr_meaning.proofs.SchemaReadsBack.{FirstField, first_of_group, other_way}
 use Rattle.dr_formats.specs.Metadata.{SchemaElement}
 use Rattle.dr_formats.specs.FileSchema.{FileFields, no_file_fields, file_field, FileShape, file_leaf, file_group, FileSchema, repetition_from, FieldsRead, ShapeRead, with_first, as_group, shape_read, fields_read, whole_schema, root_read, file_schema, open_kind, is_open_name, FileLeaf, only_if, leaf_under, leaves_under, shape_leaves_under, within_depth, file_leaves, same_kind, same_names, same_repetitions, is_leaf_for, place_of}
+use Rattle.dr_formats.specs.WritingLaws.{nth_leaf}
 use Rattle.dr_formats.specs.Writing.{type_from, repetition_number, converted_from, count_fields, leaf_element, group_element, elements, shape_elements, schema_elements}
 
 -- a schema's fields as a file's
@@ -100,14 +101,14 @@ mutual
 
 -- ---- the depth of leaves
 
-abbrev AllLeaves : (Leaf → Bool) → List Leaf → Type 0
+abbrev pub AllLeaves : (Leaf → Bool) → List Leaf → Type 0
 AllLeaves t ls = list_all t ls ≡ true
 
 all_append : (t : Leaf → Bool) (xs ys : List Leaf) → AllLeaves t xs → AllLeaves t ys → AllLeaves t (xs ++ ys)
 all_append t [] ys h k = k
 all_append t (x ∷ xs) ys h k = let p : (t x ≡ true) × AllLeaves t xs = and_parts _ _ h in and_from _ _ p.0 (all_append t xs ys p.1 k)
 
-abbrev is_within : ℕ → Leaf → Bool
+abbrev pub is_within : ℕ → Leaf → Bool
 is_within d l = nat_le (length l.names) d
 
 below_within : (n : List ℕ) (s : Step) (d e : ℕ) (ls : List Leaf) → suc e ≤ d → AllLeaves (is_within e) ls → AllLeaves (is_within d) (map (leaf_below n s) ls)
@@ -117,7 +118,7 @@ below_within n s d e (x ∷ ls) l h =
     and_from _ _ (le-leb (suc (length x.names)) d (omega (arith, l, leb-true _ _ p.0))) (below_within n s d e ls l p.1)
 
 mutual
-  leaves_within : (fs : Fields) (i d : ℕ) → depth fs ≤ d → AllLeaves (is_within d) (leaves_from fs i)
+  pub leaves_within : (fs : Fields) (i d : ℕ) → depth fs ≤ d → AllLeaves (is_within d) (leaves_from fs i)
   leaves_within no_fields i d l = refl
   leaves_within (field n r s fs) i d l = all_append (is_within d) (map (leaf_below n (record { place = i; repetition = r })) (shape_leaves s)) (leaves_from fs (suc i)) (below_within n (record { place = i; repetition = r }) d (shape_depth s) (shape_leaves s) (omega (arith, l)) (shape_within s (shape_depth s) (omega arith))) (leaves_within fs (suc i) d (omega (arith, l)))
 
@@ -136,12 +137,6 @@ pub file_leaves_back : (fs : Fields) → is_group fs ≡ true → depth fs ≤ 3
 file_leaves_back fs h l = ap (map within_depth) (leaves_back fs 0 [] h (fresh_at_first fs)) ∙ within_kept (leaves fs) (leaves_within fs 0 32 l)
 
 -- ---- the place of a leaf
-
--- the leaf at a place
-abbrev pub nth_leaf : List Leaf → ℕ → Option Leaf
-nth_leaf [] i = None
-nth_leaf (l ∷ ls) zero = Some l
-nth_leaf (l ∷ ls) (suc i) = nth_leaf ls i
 
 abbrev has_other_names : List (List ℕ) → Leaf → Bool
 has_other_names ns l = not (same_names l.names ns)

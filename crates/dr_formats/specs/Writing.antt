@@ -163,11 +163,24 @@ file_meta s rows gs = record { version = Some (pos 1); schema = schema_elements 
 abbrev pub framed : List ℕ → List ℕ → List ℕ
 framed chunks footer = magic ++ (chunks ++ (footer ++ (little_endian_bytes 4 (length footer) ++ magic)))
 
--- the file with these chunks
-abbrev pub file_with : Schema → ℕ → WrittenChunks → List ℕ
-file_with s rows w = framed w.bytes (struct_bytes (file_tree (file_meta s rows (written_groups rows w))))
+-- the chunks of records, with the leaves in schema order from place 4 on; without records there are none
+abbrev pub written_chunks : Schema → List Node → WrittenChunks
+written_chunks s [] = record { bytes = []; columns = [] }
+written_chunks s (n ∷ ns) = chunks_from (n ∷ ns) (leaves s.fields) 4
 
--- without records there is no row group; else there is one, with the leaves in schema order from place 4 on
+-- without records there is no row group, else there is one
+abbrev pub groups_of : Schema → List Node → List RowGroup
+groups_of s [] = []
+groups_of s (n ∷ ns) = written_groups (length (n ∷ ns)) (written_chunks s (n ∷ ns))
+
+-- the metadata of the file of these records
+abbrev pub written_meta : Schema → List Node → FileMeta
+written_meta s R = file_meta s (length R) (groups_of s R)
+
+-- the footer of the file of these records
+abbrev pub written_footer : Schema → List Node → List ℕ
+written_footer s R = struct_bytes (file_tree (written_meta s R))
+
+-- the file that is written for records
 unfoldable pub file_bytes : Schema → List Node → List ℕ
-file_bytes s [] = framed [] (struct_bytes (file_tree (file_meta s 0 [])))
-file_bytes s (n ∷ ns) = file_with s (length (n ∷ ns)) (chunks_from (n ∷ ns) (leaves s.fields) 4)
+file_bytes s R = framed (written_chunks s R).bytes (written_footer s R)

@@ -1,12 +1,15 @@
 -- Laws of what is written: metadata, pages of a chunk.
-use Rattle.std.specs.Prelude.{◌≡◌, ℕ, ◌+◌, ◌^◌, ◌<◌, ◌≤◌, List, [], ◌∷◌, ◌++◌, length, true, Option, Some, Result, Ok}
+use Rattle.std.specs.Prelude.{◌≡◌, ℕ, zero, suc, ◌^◌, ◌<◌, ◌≤◌, List, [], ◌∷◌, ◌++◌, length, true, nat_lt, Option, Some, None, Result, Ok}
 use Rattle.std.specs.List.{list_all}
-use Rattle.dr_meaning.specs.Path.{Leaf, max_repetition, max_definition}
+use Rattle.dr_meaning.specs.Schema.{Schema, is_schema}
+use Rattle.dr_meaning.specs.Path.{Leaf, leaves, max_repetition, max_definition}
+use Rattle.dr_meaning.specs.Record.{Node, is_record, text_bytes}
 use Rattle.dr_meaning.specs.Column.{Triplet}
 use Rattle.dr_formats.specs.Metadata.{FileMeta, view_file, file_tree}
 use Rattle.dr_formats.specs.Page.{is_triplet, body_bytes}
 use Rattle.dr_formats.specs.Chunk.{pages_triplets}
-use Rattle.dr_formats.specs.Writing.{pages_bytes, triplet_count, cut_pages}
+use Rattle.dr_formats.specs.File.{most_rows, most_triplets, IsFileOf}
+use Rattle.dr_formats.specs.Writing.{pages_bytes, triplet_count, cut_pages, record_columns, written_footer, file_bytes}
 
 -- the triplets of lists, one after another
 abbrev pub all_triplets : List (List Triplet) → List Triplet
@@ -32,3 +35,34 @@ PagesKeepTriplets = (l : Leaf) (columns : List (List Triplet)) → all_triplets 
 -- the struct that is written for metadata is viewed as that metadata
 abbrev pub WrittenMetadataIsViewed : Type 0
 WrittenMetadataIsViewed = (m : FileMeta) → view_file (file_tree m) ≡ Ok m
+
+-- ---- files
+
+-- the leaf at a place
+abbrev pub nth_leaf : List Leaf → ℕ → Option Leaf
+nth_leaf [] i = None
+nth_leaf (l ∷ ls) zero = Some l
+nth_leaf (l ∷ ls) (suc i) = nth_leaf ls i
+
+-- leaves that are among these
+abbrev pub AreAmong : List Leaf → List Leaf → Type 0
+AreAmong ls [] = Unit {0}
+AreAmong ls (l ∷ F) = ((i : ℕ) × (nth_leaf ls i ≡ Some l)) × AreAmong ls F
+
+-- pages whose header can hold their sizes
+abbrev pub FitHeaders : Leaf → List (List Triplet) → Type 0
+FitHeaders l [] = Unit {0}
+FitHeaders l (p ∷ ps) = (length p < 2 ^ 31) × (length (body_bytes l.kind (max_repetition l.path) (max_definition l.path) p) < 2 ^ 63) × FitHeaders l ps
+
+-- leaves of which there are not too many triplets, in pages whose header can hold their sizes
+abbrev pub LeavesFit : List Node → List Leaf → Type 0
+LeavesFit R [] = Unit {0}
+LeavesFit R (l ∷ ls) = (triplet_count (record_columns l R) ≤ most_triplets) × FitHeaders l (cut_pages l.kind [] (record_columns l R)) × LeavesFit R ls
+
+-- records of a schema that one file can hold: not too many, with texts of fewer than 2^32 bytes in each, a footer of fewer than 2^32 bytes, a file of fewer than 2^63
+abbrev pub FitsFile : Schema → List Node → Type 0
+FitsFile s R = (is_schema s ≡ true) × (list_all (is_record s.fields) R ≡ true) × (list_all (λ (n : Node). nat_lt (text_bytes n) (2 ^ 32)) R ≡ true) × (length R ≤ most_rows) × LeavesFit R (leaves s.fields) × (length (written_footer s R) < 2 ^ 32) × (length (file_bytes s R) < 2 ^ 63)
+
+-- the file that is written for records is a file of these records, for any of the schema's leaves
+abbrev pub WrittenFileIsFile : Type 0
+WrittenFileIsFile = (s : Schema) (R : List Node) (F : List Leaf) → FitsFile s R → AreAmong (leaves s.fields) F → IsFileOf (file_bytes s R) s F R
