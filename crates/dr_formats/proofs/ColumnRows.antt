@@ -9,22 +9,15 @@ use Rattle.dr_meaning.specs.Record.{Node, is_record, inner}
 use Rattle.dr_meaning.specs.Column.{Triplet, record_column, column}
 use Rattle.dr_meaning.proofs.Blocks.{IsAbove, IsBlock, block-instance}
 use Rattle.dr_formats.specs.File.{starts, begins_record}
+use Rattle.dr_formats.proofs.ColumnsFit.{EachLeaf, each_append}
 
 -- ---- the paths of leaves
-
-abbrev pub EachLeaf : (Leaf → Type 0) → List Leaf → Type 0
-EachLeaf P [] = Unit {0}
-EachLeaf P (l ∷ ls) = P l × EachLeaf P ls
-
-each_append : (P : Leaf → Type 0) (xs ys : List Leaf) → EachLeaf P xs → EachLeaf P ys → EachLeaf P (xs ++ ys)
-each_append P [] ys h k = k
-each_append P (x ∷ xs) ys h k = (h.0, each_append P xs ys h.1 k)
 
 each_weaker : (P Q : Leaf → Type 0) → ((l : Leaf) → P l → Q l) → (ls : List Leaf) → EachLeaf P ls → EachLeaf Q ls
 each_weaker P Q f [] h = tt
 each_weaker P Q f (l ∷ ls) h = (f l h.0, each_weaker P Q f ls h.1)
 
-each_below : (P Q : Leaf → Type 0) (n : List ℕ) (s : Step) → ((l : Leaf) → P l → Q (leaf_below n s l)) → (ls : List Leaf) → EachLeaf P ls → EachLeaf Q (map (leaf_below n s) ls)
+pub each_below : (P Q : Leaf → Type 0) (n : List ℕ) (s : Step) → ((l : Leaf) → P l → Q (leaf_below n s l)) → (ls : List Leaf) → EachLeaf P ls → EachLeaf Q (map (leaf_below n s) ls)
 each_below P Q n s f [] h = tt
 each_below P Q n s f (l ∷ ls) h = (f l h.0, each_below P Q n s f ls h.1)
 

@@ -27,14 +27,14 @@ value_good k R D r v h g = rw (le-leb r R h, le-leb D D (omega arith), eq-eqb D 
 
 -- ---- what a path's column is in an instance
 
-abbrev ColumnGood : Leaf → Instance → Type 0
+abbrev pub ColumnGood : Leaf → Instance → Type 0
 ColumnGood L x = (l d r : ℕ) → r ≤ l → Good L.kind (l + max_repetition L.path) (d + max_definition L.path) (instance_column L.path l d r x)
 
-abbrev EachLeaf : (Leaf → Type 0) → List Leaf → Type 0
+abbrev pub EachLeaf : (Leaf → Type 0) → List Leaf → Type 0
 EachLeaf P [] = Unit {0}
 EachLeaf P (l ∷ ls) = P l × EachLeaf P ls
 
-each_append : (P : Leaf → Type 0) (xs ys : List Leaf) → EachLeaf P xs → EachLeaf P ys → EachLeaf P (xs ++ ys)
+pub each_append : (P : Leaf → Type 0) (xs ys : List Leaf) → EachLeaf P xs → EachLeaf P ys → EachLeaf P (xs ++ ys)
 each_append P [] ys h k = k
 each_append P (x ∷ xs) ys h k = (h.0, each_append P xs ys h.1 k)
 
@@ -87,7 +87,7 @@ writable_of k (bool_value b) h l = and_from _ _ h refl
 writable_of k (int_value z) h l = and_from _ _ h refl
 writable_of k (text_value t) h l = and_from _ _ h (lt-ltb (length t) (2 ^ 32) l)
 
-abbrev SameFrom : Node → ℕ → Node → Type 0
+abbrev pub SameFrom : Node → ℕ → Node → Type 0
 SameFrom m i tail = (j : ℕ) → instances_at (i + j) m ≡ instances_at j tail
 
 next_from : (m : Node) (i : ℕ) (xs : Instances) (n : Node) → SameFrom m i (slot xs n) → SameFrom m (suc i) n
@@ -104,7 +104,7 @@ leaf_good k v l d r g h t =
     rw e (and_from _ _ (value_good k (l + 0) d r v (omega (arith, g)) (writable_of k v h t)) refl)
 
 mutual
-  fields_good : (fs : Fields) (i : ℕ) (m tail : Node) → SameFrom m i tail → is_record fs tail ≡ true → text_bytes tail < 2 ^ 32 → EachLeaf (λ L. ColumnGood L (inner m)) (leaves_from fs i)
+  pub fields_good : (fs : Fields) (i : ℕ) (m tail : Node) → SameFrom m i tail → is_record fs tail ≡ true → text_bytes tail < 2 ^ 32 → EachLeaf (λ L. ColumnGood L (inner m)) (leaves_from fs i)
   fields_good no_fields i m tail h v t = tt
   fields_good (field n q s fs) i m no_slots h v t = absurd (true≢false (sym v))
   fields_good (field n q s fs) i m (gap tail) h v t = absurd (true≢false (sym v))

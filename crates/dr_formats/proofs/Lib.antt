@@ -26,3 +26,4 @@ pub mod ColumnsFit
 pub mod ColumnRows
 pub mod FooterBack
 pub mod MetaFits
+pub mod FileBack
