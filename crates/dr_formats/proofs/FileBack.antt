@@ -208,3 +208,83 @@ footer_there s R h =
     let k : Limits s = limits s h.0 in
     let t : is_tree (file_tree (written_meta s R)) ≡ true = meta_fits s R k.0 k.1 k.2 k.3 (counts_fit R (leaves s.fields) h.4) (omega (arith, h.3)) (omega (arith, h.6, chunks_in_file s R)) in
     footer_back (written_chunks s R).bytes (written_meta s R) (the_schema s) t h.5 (schema_back s) (whole_groups s R k.1 k.2)
+
+-- ---- each leaf
+
+found_at : (s : Schema) (R : List Node) (i : ℕ) (l : Leaf) → Limits s → nth_leaf (leaves s.fields) i ≡ Some l → leaf_place (the_footer s R) l ≡ Some i
+found_at s R i l k e = ap (place_of l) (file_leaves_back s.fields k.1 k.2) ∙ leaf_found s.fields i l k.1 e
+
+-- the metadata of a leaf's chunk, where this many bytes of chunks stand before it
+abbrev the_chunk : Leaf → List Node → ℕ → ColumnMeta
+the_chunk l R before = (chunk_at l R (4 + before) (length (written_chunk l R))).meta
+
+abbrev the_group : Schema → Node → List Node → RowGroup
+the_group s n R = record { columns = (written_chunks s (n ∷ R)).columns; total_byte_size = Some (pos (length (written_chunks s (n ∷ R)).bytes)); rows = length (n ∷ R) }
+
+chunk_of : (s : Schema) (n : Node) (R : List Node) (i before : ℕ) (l : Leaf) → Limits s → nth_leaf (leaves s.fields) i ≡ Some l → nth_chunk (chunks_from (n ∷ R) (leaves s.fields) 4).columns i ≡ Some (chunk_at l (n ∷ R) (4 + before) (length (written_chunk l (n ∷ R)))) → leaf_chunk (the_footer s (n ∷ R)) l (the_group s n R) ≡ Some (the_chunk l (n ∷ R) before)
+chunk_of s n R i before l k e h = rw (found_at s (n ∷ R) i l k e, h) refl
+
+cut_in_file : (chunks before w behind foot : List ℕ) (l : Leaf) (R : List Node) → chunks ≡ before ++ (w ++ behind) → chunk_bytes (framed chunks foot) (4 + length chunks) (chunk_at l R (4 + length before) (length w)).meta ≡ Some w
+cut_in_file chunks before w behind foot l R e = rw e (chunk_cut before w behind foot l R)
+
+rows_of_column : (s : Schema) (R : List Node) (i : ℕ) (l : Leaf) → nth_leaf (leaves s.fields) i ≡ Some l → list_all (is_record s.fields) R ≡ true → of_rows (length R) (column l.path R) ≡ Some (column l.path R)
+rows_of_column s R i l e v =
+    let p : is_leaf_path s.fields l.path ≡ true = each_nth (λ x. is_leaf_path s.fields x.path ≡ true) (leaves s.fields) i l (leaf_paths s.fields) e in
+    let q = column_rows s.fields l.path R p v in
+    let g : (starts (column l.path R) == length R) ≡ true = eq-eqb _ _ q.0 in
+    rw (q.1, g) refl
+
+-- a leaf's triplets are read from its chunk
+triplets_back : (s : Schema) (n : Node) (R : List Node) (i : ℕ) (l : Leaf) → Limits s → nth_leaf (leaves s.fields) i ≡ Some l → FitsFile s (n ∷ R) → group_column (framed (written_chunks s (n ∷ R)).bytes (written_footer s (n ∷ R))) (the_footer s (n ∷ R)) l (the_group s n R) ≡ Some (column l.path (n ∷ R))
+triplets_back s n R i l k e h =
+    let Q : List Node = n ∷ R in
+    let w : List ℕ = written_chunk l Q in
+    let p = chunk_there Q (leaves s.fields) 4 i l e in
+    let a : leaf_chunk (the_footer s Q) l (the_group s n R) ≡ Some (the_chunk l Q (length p.0)) = chunk_of s n R i (length p.0) l k e p.3 in
+    let b : chunk_bytes (framed (written_chunks s Q).bytes (written_footer s Q)) (4 + length (written_chunks s Q).bytes) (the_chunk l Q (length p.0)) ≡ Some w = cut_in_file (written_chunks s Q).bytes p.0 w p.1 (written_footer s Q) l Q p.2 in
+    let f = nth_fits Q (leaves s.fields) i l h.4 e in
+    let m = levels_few s.fields i l k.2 e in
+    let c : pages_triplets l (triplet_count (record_columns l Q)) w ≡ Some (column l.path Q) = pages_back l Q m.0 m.1 (column_good s i l Q e h.1 h.2) f.1 in
+    rw (a, b, c) (rows_of_column s Q i l e h.1)
+
+column_back : (s : Schema) (R : List Node) (i : ℕ) (l : Leaf) → Limits s → nth_leaf (leaves s.fields) i ≡ Some l → FitsFile s R → file_column (framed (written_chunks s R).bytes (written_footer s R)) (the_footer s R) l ≡ Some (column l.path R)
+column_back s [] i l k e h = refl
+column_back s (n ∷ R) i l k e h = rw (triplets_back s n R i l k e h) (ap (λ x. Some x) (append-nil (column l.path (n ∷ R))))
+
+is_plain : (s : Schema) (R : List Node) (i : ℕ) (l : Leaf) → Limits s → nth_leaf (leaves s.fields) i ≡ Some l → list_all (λ g. is_uncompressed (leaf_chunk (the_footer s R) l g)) (groups_of s R) ≡ true
+is_plain s [] i l k e = refl
+is_plain s (n ∷ R) i l k e = let p = chunk_there (n ∷ R) (leaves s.fields) 4 i l e in rw (chunk_of s n R i (length p.0) l k e p.3) refl
+
+fits_bound : (s : Schema) (R : List Node) (i : ℕ) (l : Leaf) → Limits s → nth_leaf (leaves s.fields) i ≡ Some l → LeavesFit R (leaves s.fields) → nat_le (total (λ g. chunk_values (leaf_chunk (the_footer s R) l g)) (groups_of s R)) most_triplets ≡ true
+fits_bound s [] i l k e h = refl
+fits_bound s (n ∷ R) i l k e h =
+    let p = chunk_there (n ∷ R) (leaves s.fields) 4 i l e in
+    rw (chunk_of s n R i (length p.0) l k e p.3) (le-leb (triplet_count (record_columns l (n ∷ R)) + 0) most_triplets (omega (arith, (nth_fits (n ∷ R) (leaves s.fields) i l h e).0)))
+
+-- ---- all leaves asked for
+
+leaves_there : (s : Schema) (R : List Node) (F : List Leaf) → Limits s → AreAmong (leaves s.fields) F → has_leaves (the_footer s R) F ≡ true
+leaves_there s R [] k a = refl
+leaves_there s R (l ∷ F) k a = and_from _ _ (ap is_found (found_at s R a.0.0 l k a.0.1)) (leaves_there s R F k a.1)
+
+leaves_plain : (s : Schema) (R : List Node) (F : List Leaf) → Limits s → AreAmong (leaves s.fields) F → are_uncompressed (the_footer s R) F ≡ true
+leaves_plain s R [] k a = refl
+leaves_plain s R (l ∷ F) k a = and_from _ _ (is_plain s R a.0.0 l k a.0.1) (leaves_plain s R F k a.1)
+
+leaves_bound : (s : Schema) (R : List Node) (F : List Leaf) → Limits s → LeavesFit R (leaves s.fields) → AreAmong (leaves s.fields) F → values_fit (the_footer s R) F ≡ true
+leaves_bound s R [] k h a = refl
+leaves_bound s R (l ∷ F) k h a = and_from _ _ (fits_bound s R a.0.0 l k a.0.1 h) (leaves_bound s R F k h a.1)
+
+columns_back : (s : Schema) (R : List Node) (F : List Leaf) → Limits s → FitsFile s R → AreAmong (leaves s.fields) F → AreColumns (framed (written_chunks s R).bytes (written_footer s R)) (the_footer s R) F R
+columns_back s R [] k h a = refl
+columns_back s R (l ∷ F) k h a = ap₂ (λ x xs. x ∷ xs) (column_back s R a.0.0 l k a.0.1 h) (columns_back s R F k h a.1)
+
+rows_right : (s : Schema) (R : List Node) → length R ≤ most_rows → rows_agree (the_footer s R) ≡ true
+rows_right s [] h = refl
+rows_right s (n ∷ R) h = and_from _ _ (eq-eqb (length (n ∷ R) + 0) (length (n ∷ R)) (omega arith)) (le-leb (length (n ∷ R)) most_rows h)
+
+pub written_file_is_file : WrittenFileIsFile
+unfolding file_bytes
+written_file_is_file s R F h a =
+    let k : Limits s = limits s h.0 in
+    (the_footer s R, footer_there s R h, leaves_there s R F k a, leaves_plain s R F k a, (rows_right s R h.3, leaves_bound s R F k h.4 a, refl, h.1, columns_back s R F k h a))
