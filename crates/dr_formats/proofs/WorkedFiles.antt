@@ -1,4 +1,5 @@
 -- A whole file, by computation: one record of one required leaf.
+use Rattle.std.proofs.Common.{arith}
 use Rattle.std.specs.Prelude.{◌≡◌, ℕ, List, [], ◌∷◌, pos, codes, refl}
 use Rattle.dr_meaning.specs.Schema.{no_fields, field, leaf, Schema, required, int64_kind}
 use Rattle.dr_meaning.specs.Record.{int_value, Node, no_slots, slot, no_instances, instance, atom}
@@ -6,6 +7,7 @@ use Rattle.dr_formats.specs.Compact.{struct_bytes}
 use Rattle.dr_formats.specs.Hybrid.{hybrid_bytes}
 use Rattle.dr_formats.specs.Page.{body_bytes}
 use Rattle.dr_formats.specs.Metadata.{page_tree}
+use Rattle.dr_formats.specs.WritingLaws.{FitsFile}
 use Rattle.dr_formats.specs.Writing.{header_of_page, file_bytes}
 
 -- `message T { required int64 a; }` and `{"a":1}`
@@ -33,3 +35,8 @@ one_file =
 pub one_file_is_written : file_bytes one_schema (one_record ∷ []) ≡ one_file
 unfolding file_bytes struct_bytes body_bytes hybrid_bytes
 one_file_is_written = refl
+
+-- the law of written files holds of it: it fits a file
+pub one_file_fits : FitsFile one_schema (one_record ∷ [])
+unfolding file_bytes struct_bytes body_bytes hybrid_bytes
+one_file_fits = (refl, refl, refl, omega arith, (omega arith, (omega arith, omega arith, tt), tt), omega arith, omega arith)

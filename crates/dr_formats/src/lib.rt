@@ -7,3 +7,4 @@ pub mod file_laws;
 pub mod hybrid_laws;
 pub mod page_laws;
 pub mod varint_laws;
+pub mod writing_laws;
