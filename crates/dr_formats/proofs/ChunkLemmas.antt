@@ -7,10 +7,10 @@ use Rattle.std.proofs.lemmas.List.{length-append}
 use Rattle.dr_meaning.specs.Path.{Leaf, max_repetition, max_definition}
 use Rattle.dr_meaning.specs.Record.{Value, in_int64}
 use Rattle.dr_meaning.specs.Column.{Triplet}
-use Rattle.dr_formats.specs.Reading.{Reading, got, refused, Reader, give, goes_on, ◌>>=◌, bytes_of, Spells}
+use Rattle.dr_formats.specs.Reading.{Reading, got, refused, Reader, give, goes_on, ◌>>=◌, bytes_of, IsReadAs}
 use Rattle.dr_formats.specs.Compact.{Struct, stop, struct_field, is_tree, struct_bytes, read_struct, fields_bytes, header_bytes, item_type, in_field, item_bytes}
 use Rattle.dr_formats.specs.Metadata.{PageHeader, view_page, page_tree}
-use Rattle.dr_formats.specs.Page.{PageFault, bad_data, page_triplets, triplets_read, body_bytes, is_triplet}
+use Rattle.dr_formats.specs.Page.{PageFault, bad_page, page_triplets, triplets_read, body_bytes, is_triplet}
 use Rattle.dr_formats.specs.Chunk.{header_read, page_header, PageTaken, taken, shape_of_page, data_page, page_taken, pages, pages_triplets}
 use Rattle.dr_formats.specs.Writing.{header_of_page, header_and_body, page_bytes, pages_bytes, triplet_count, is_full, last_page, closed_page, open_page, cut_pages}
 use Rattle.dr_formats.specs.WritingLaws.{all_triplets, IsPage, ArePages, WrittenPagesAreRead, PagesKeepTriplets}
@@ -23,7 +23,7 @@ use Rattle.dr_formats.proofs.PageLemmas.{written_body_is_read}
 header_is_tree : (n size : ℕ) → n < 2 ^ 63 → size < 2 ^ 63 → is_tree (page_tree (header_of_page n size)) ≡ true
 header_is_tree n size h k = rw (lt-ltb n (2 ^ 63) h, lt-ltb size (2 ^ 63) k) refl
 
-spells_header : (n size : ℕ) → n < 2 ^ 63 → size < 2 ^ 63 → Spells page_header (struct_bytes (page_tree (header_of_page n size))) (header_of_page n size)
+spells_header : (n size : ℕ) → n < 2 ^ 63 → size < 2 ^ 63 → IsReadAs page_header (struct_bytes (page_tree (header_of_page n size))) (header_of_page n size)
 spells_header n size h k rest = ap header_read (written_struct_is_read (page_tree (header_of_page n size)) (header_is_tree n size h k) rest)
 
 -- ---- pages
@@ -52,7 +52,7 @@ none_left [] e = refl
 none_left ([] ∷ ps) e = none_left ps (omega (arith, e))
 none_left ((t ∷ p) ∷ ps) e = absurd (omega (arith, e))
 
-one_page : (l : Leaf) (k n : ℕ) (first : Bool) (dictionary : List Value) (h : PageHeader) (body : List ℕ) (t : PageTaken) (more : List Triplet) (a b c left : List ℕ) → page_header a ≡ got h b → bytes_of bad_data h.compressed_size b ≡ got body c → page_taken l (suc n) first dictionary h body c ≡ got t c → pages l k (suc n - length t.triplets) false t.dictionary c ≡ got more left → pages l (suc k) (suc n) first dictionary a ≡ got (t.triplets ++ more) left
+one_page : (l : Leaf) (k n : ℕ) (first : Bool) (dictionary : List Value) (h : PageHeader) (body : List ℕ) (t : PageTaken) (more : List Triplet) (a b c left : List ℕ) → page_header a ≡ got h b → bytes_of bad_page h.compressed_size b ≡ got body c → page_taken l (suc n) first dictionary h body c ≡ got t c → pages l k (suc n - length t.triplets) false t.dictionary c ≡ got more left → pages l (suc k) (suc n) first dictionary a ≡ got (t.triplets ++ more) left
 one_page l k n first dictionary h body t more a b c left e f g i = rw (e, f, g, i) refl
 
 pages_back : (l : Leaf) (ps : List (List Triplet)) → max_repetition l.path ≤ 32 → max_definition l.path ≤ 32 → ArePages l ps → PagesBack l ps
@@ -72,7 +72,7 @@ pages_back l (p ∷ ps) a b h (suc k) (suc n) first dictionary rest e c =
     let d : length (pages_bytes l ps) ≤ k = omega (arith, c, length-append (head ++ body) (pages_bytes l ps), length-append head body, struct_has_byte (page_tree (header_of_page (length p) (length body)))) in
     let r = pages_back l ps a b h.1 k (suc n - length p) false dictionary rest m d in
     let o : length p < 2 ^ 63 = omega (arith, h.0.1) in
-    (r.0, ap (pages l (suc k) (suc n) first dictionary) f ∙ one_page l k n first dictionary (header_of_page (length p) (length body)) body (taken p dictionary) (all_triplets ps) (head ++ (body ++ behind)) (body ++ behind) behind r.0 (spells_header (length p) (length body) o h.0.2 (body ++ behind)) (spells_bytes bad_data (length body) body refl behind) (page_back l p (suc n) first dictionary behind a b h.0 w) r.1)
+    (r.0, ap (pages l (suc k) (suc n) first dictionary) f ∙ one_page l k n first dictionary (header_of_page (length p) (length body)) body (taken p dictionary) (all_triplets ps) (head ++ (body ++ behind)) (body ++ behind) behind r.0 (spells_header (length p) (length body) o h.0.2 (body ++ behind)) (spells_bytes bad_page (length body) body refl behind) (page_back l p (suc n) first dictionary behind a b h.0 w) r.1)
 
 pub written_pages_are_read : WrittenPagesAreRead
 written_pages_are_read l ps rest a b h = ap triplets_read (pages_back l ps a b h (length (pages_bytes l ps ++ rest)) (triplet_count ps) true [] rest refl (omega (arith, length-append (pages_bytes l ps) rest))).1

@@ -27,3 +27,4 @@ pub mod ColumnRows
 pub mod FooterBack
 pub mod MetaFits
 pub mod FileBack
+pub mod TabletLemmas

@@ -8,11 +8,11 @@ use Rattle.std.proofs.lemmas.List.{append-nil, length-map}
 use Rattle.dr_meaning.specs.Schema.{Kind}
 use Rattle.dr_meaning.specs.Record.{Value}
 use Rattle.dr_meaning.specs.Column.{Triplet}
-use Rattle.dr_formats.specs.Reading.{got, ◌>>=◌, bytes_of, Spells}
+use Rattle.dr_formats.specs.Reading.{got, ◌>>=◌, bytes_of, IsReadAs}
 use Rattle.dr_formats.specs.LittleEndian.{little_endian, little_endian_bytes}
 use Rattle.dr_formats.specs.Hybrid.{hybrid, hybrid_bytes}
 use Rattle.dr_formats.specs.Plain.{plain_read, plain_values, plain_bytes, is_writable}
-use Rattle.dr_formats.specs.Page.{bad_data, found, digits_within, level_width, none_above, levels, count_equal, first_if, behind_if, join_triplets, page_body, triplets_read, page_triplets, level_bytes, with_value, column_values, body_bytes, has_value, is_value_of, same_truth, is_triplet}
+use Rattle.dr_formats.specs.Page.{bad_page, found, digits_within, level_width, none_above, levels, count_equal, first_if, behind_if, join_triplets, page_body, triplets_read, page_triplets, level_bytes, with_value, column_values, body_bytes, has_value, is_value_of, same_truth, is_triplet}
 use Rattle.dr_formats.specs.PlainLaws.{written_shape, WrittenBodyIsRead}
 use Rattle.dr_formats.proofs.ReadingLemmas.{spells_then, spells_bytes}
 use Rattle.dr_formats.proofs.LittleEndianLemmas.{length_little_endian, little_endian_back, are_below}
@@ -67,7 +67,7 @@ all_zero (l ∷ ls) h =
     let p : (nat_le l 0 ≡ true) × (AreAtMost 0 ls) = and_parts _ _ h in
     ap₂ (λ x xs. x ∷ xs) (omega (arith, leb-true l 0 p.0)) (all_zero ls p.1)
 
-spells_levels : (g : ℕ) (ls : List ℕ) → g ≤ 32 → length ls < 2 ^ 31 → AreAtMost g ls → Spells (levels g (pos 3) (length ls)) (level_bytes g ls) ls
+spells_levels : (g : ℕ) (ls : List ℕ) → g ≤ 32 → length ls < 2 ^ 31 → AreAtMost g ls → IsReadAs (levels g (pos 3) (length ls)) (level_bytes g ls) ls
 spells_levels zero ls b l h = λ rest. ap (λ x. got x rest) (all_zero ls h)
 spells_levels (suc g) ls b l h =
     let w : ℕ = level_width (suc g) in
@@ -76,9 +76,9 @@ spells_levels (suc g) ls b l h =
     let e : little_endian size ≡ length part = little_endian_back 4 (length part) (hybrid_length w ls (width_small (suc g) b) l) in
     let r1 : hybrid w (length ls) (part ++ []) ≡ Some ls = written_runs_are_read w ls [] (levels_below (suc g) w ls (width_holds (suc g)) h) (omega (arith, l)) in
     let r : hybrid w (length ls) part ≡ Some ls = subst (λ (x : List ℕ). hybrid w (length ls) x ≡ Some ls) (append-nil part) r1 in
-    let f : Spells (found (option_and_then (none_above (suc g)) (hybrid w (length ls) part))) [] ls = λ rest. rw (r, h) refl in
-    let q : Spells (bytes_of bad_data (little_endian size) >>= (λ c. found (option_and_then (none_above (suc g)) (hybrid w (length ls) c)))) part ls = λ rest. rw e (rw (spells_bytes bad_data (length part) part refl rest) (f rest)) in
-    spells_then (bytes_of bad_data 4) (λ c. bytes_of bad_data (little_endian c) >>= (λ d. found (option_and_then (none_above (suc g)) (hybrid w (length ls) d)))) size part size ls (spells_bytes bad_data 4 size (length_little_endian 4 (length part))) q
+    let f : IsReadAs (found (option_and_then (none_above (suc g)) (hybrid w (length ls) part))) [] ls = λ rest. rw (r, h) refl in
+    let q : IsReadAs (bytes_of bad_page (little_endian size) >>= (λ c. found (option_and_then (none_above (suc g)) (hybrid w (length ls) c)))) part ls = λ rest. rw e (rw (spells_bytes bad_page (length part) part refl rest) (f rest)) in
+    spells_then (bytes_of bad_page 4) (λ c. bytes_of bad_page (little_endian c) >>= (λ d. found (option_and_then (none_above (suc g)) (hybrid w (length ls) d)))) size part size ls (spells_bytes bad_page 4 size (length_little_endian 4 (length part))) q
 
 -- ---- values
 
@@ -158,8 +158,8 @@ spells_body k max_r max_d ts dictionary rest a b l h =
     let vs : List Value = column_values ts in
     let lr : length rs ≡ length ts = length-map ts (λ (t : Triplet). t.repetition) in
     let ld : length ds ≡ length ts = length-map ts (λ (t : Triplet). t.definition) in
-    let sr : Spells (levels max_r (pos 3) (length ts)) (level_bytes max_r rs) rs = subst (λ (n : ℕ). Spells (levels max_r (pos 3) n) (level_bytes max_r rs) rs) lr (spells_levels max_r rs a (omega (arith, l, lr)) (repetitions_at_most k max_r max_d ts h)) in
-    let sd : Spells (levels max_d (pos 3) (length ts)) (level_bytes max_d ds) ds = subst (λ (n : ℕ). Spells (levels max_d (pos 3) n) (level_bytes max_d ds) ds) ld (spells_levels max_d ds b (omega (arith, l, ld)) (definitions_at_most k max_r max_d ts h)) in
+    let sr : IsReadAs (levels max_r (pos 3) (length ts)) (level_bytes max_r rs) rs = subst (λ (n : ℕ). IsReadAs (levels max_r (pos 3) n) (level_bytes max_r rs) rs) lr (spells_levels max_r rs a (omega (arith, l, lr)) (repetitions_at_most k max_r max_d ts h)) in
+    let sd : IsReadAs (levels max_d (pos 3) (length ts)) (level_bytes max_d ds) ds = subst (λ (n : ℕ). IsReadAs (levels max_d (pos 3) n) (level_bytes max_d ds) ds) ld (spells_levels max_d ds b (omega (arith, l, ld)) (definitions_at_most k max_r max_d ts h)) in
     let e : (level_bytes max_r rs ++ (level_bytes max_d ds ++ plain_bytes k vs)) ++ rest ≡ level_bytes max_r rs ++ (level_bytes max_d ds ++ (plain_bytes k vs ++ rest)) = append_assoc (level_bytes max_r rs) (level_bytes max_d ds ++ plain_bytes k vs) rest ∙ ap (λ x. level_bytes max_r rs ++ x) (append_assoc (level_bytes max_d ds) (plain_bytes k vs) rest) in
     rw (e, sr (level_bytes max_d ds ++ (plain_bytes k vs ++ rest)), sd (plain_bytes k vs ++ rest), count_values k max_r max_d ts h, plain_values_back k vs rest (values_writable k max_r max_d ts h), joined_back k max_r max_d ts h) refl
 

@@ -2,7 +2,7 @@
 use Rattle.std.proofs.Common.{◌≡◌, ℕ, zero, suc, ◌+◌, ◌*◌, ◌/◌, ◌%◌, ◌^◌, ◌≤◌, ◌<◌, List, [], ◌∷◌, ◌++◌, length, Bool, true, false, refl, sym, ap, ◌∙◌, arith, ℤ, pos, negsuc}
 use Rattle.std.specs.Prelude.{nat_le, nat_lt, if◌then◌else◌}
 use Rattle.std.proofs.lemmas.Bool.{ltb-true, ltb-false, lt-ltb, le-ltb, leb-true, and_parts, true≢false}
-use Rattle.dr_formats.specs.Reading.{got, Spells}
+use Rattle.dr_formats.specs.Reading.{got, IsReadAs}
 use Rattle.dr_formats.specs.Varint.{varint_short, varint_too_long, read_varint, varint_from, varint_below, varint, varint_bytes_from, varint_bytes, zigzag, from_zigzag, is_chain, seven_bits, SpellsVarint}
 use Rattle.dr_formats.specs.VarintLaws.{VarintIsReadExactly, WrittenVarintIsRead, WrittenVarintIsShortest, ZigzagIsUndone}
 use Rattle.dr_formats.proofs.SoundLemmas.{sound_below}
@@ -43,14 +43,14 @@ shortest_from short long bound zero sum worth n h b rest =
 shortest_from short long bound (suc k) sum worth n h b rest = shortest_step short long bound k (shortest_from short long bound k) sum worth n (nat_lt n 128) refl h b rest
 
 -- a number below the bound, if that is at most 2^64, is spelled by its shortest varint
-pub spells_below : {E : Type 0} (bound : ℕ) (short long : E) (n : ℕ) → bound ≤ 2 ^ 64 → n < bound → Spells (varint_below bound short long) (varint_bytes n) n
+pub spells_below : {E : Type 0} (bound : ℕ) (short long : E) (n : ℕ) → bound ≤ 2 ^ 64 → n < bound → IsReadAs (varint_below bound short long) (varint_bytes n) n
 spells_below bound short long n c b rest =
     let h : n < room 9 = omega arith in
     let e : 0 + n * 1 ≡ n = omega arith in
     let i : 0 + n * 1 < bound = omega arith in
     rw e at (shortest_from short long bound 9 0 1 n h i rest)
 
-pub spells_varint : {E : Type 0} (short long : E) (n : ℕ) → n < 2 ^ 64 → Spells (varint short long) (varint_bytes n) n
+pub spells_varint : {E : Type 0} (short long : E) (n : ℕ) → n < 2 ^ 64 → IsReadAs (varint short long) (varint_bytes n) n
 spells_varint short long n b = spells_below (2 ^ 64) short long n (omega arith) b
 
 pub zigzag_back : (z : ℤ) → from_zigzag (zigzag z) ≡ z
@@ -95,7 +95,7 @@ chain_reads short long bound (suc k) (b ∷ d ∷ bs) sum worth c l h rest =
     let i : sum + b % 128 * worth + seven_bits (d ∷ bs) * (128 * worth) < bound = omega (arith, h, e) in
     rw (lt-ltb _ _ g, le-ltb b 128 (leb-true 128 b p.0)) (chain_reads short long bound k (d ∷ bs) (sum + b % 128 * worth) (128 * worth) p.1 (omega (arith, l)) i rest ∙ ap (λ x. got x rest) (sym e))
 
-pub varint_reads : {E : Type 0} (bound : ℕ) (short long : E) (bytes : List ℕ) (n : ℕ) → SpellsVarint bound bytes n → Spells (varint_below bound short long) bytes n
+pub varint_reads : {E : Type 0} (bound : ℕ) (short long : E) (bytes : List ℕ) (n : ℕ) → SpellsVarint bound bytes n → IsReadAs (varint_below bound short long) bytes n
 varint_reads bound short long bytes n h rest =
     let e : 0 + seven_bits bytes * 1 ≡ n = omega (arith, h.2) in
     chain_reads short long bound 9 bytes 0 1 h.0 h.1 (omega (arith, e, h.3)) rest ∙ ap (λ x. got x rest) e

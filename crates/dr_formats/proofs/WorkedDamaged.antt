@@ -5,7 +5,7 @@ use Rattle.dr_formats.specs.Compact.{read_struct}
 use Rattle.dr_formats.specs.Hybrid.{hybrid}
 use Rattle.dr_formats.specs.Page.{page_triplets}
 use Rattle.dr_formats.specs.FileSchema.{no_file_fields}
-use Rattle.dr_formats.specs.File.{FileCause, bad_footer, bad_schema, bad_codec, bad_records, HasCause, IsFileOf, Footer, footer_of}
+use Rattle.dr_formats.specs.File.{FileCause, bad_footer, bad_schema, bad_codec, bad_data, HasCause, IsFileOf, Footer, footer_of}
 use Rattle.dr_formats.proofs.FileLemmas.{known_cause_holds}
 use Rattle.dr_formats.proofs.WorkedFiles.{one_schema, one_record, one_file}
 
@@ -157,61 +157,61 @@ other_codec_and_rows = known_cause_holds (changed 48 4 (changed 67 2 one_file)) 
 -- ---- no records
 
 -- two rows of the file, one of its row group
-pub file_rows_disagree : Refused (changed 48 4 one_file) bad_records
+pub file_rows_disagree : Refused (changed 48 4 one_file) bad_data
 unfolding footer_of read_struct page_triplets hybrid
-file_rows_disagree = known_cause_holds (changed 48 4 one_file) one_schema one_leaf bad_records refl
+file_rows_disagree = known_cause_holds (changed 48 4 one_file) one_schema one_leaf bad_data refl
 
 -- one row of the file, two of its row group
-pub group_rows_disagree : Refused (changed 81 4 one_file) bad_records
+pub group_rows_disagree : Refused (changed 81 4 one_file) bad_data
 unfolding footer_of read_struct page_triplets hybrid
-group_rows_disagree = known_cause_holds (changed 81 4 one_file) one_schema one_leaf bad_records refl
+group_rows_disagree = known_cause_holds (changed 81 4 one_file) one_schema one_leaf bad_data refl
 
 -- no values in a chunk of one row
-pub no_values : Refused (changed 69 0 one_file) bad_records
+pub no_values : Refused (changed 69 0 one_file) bad_data
 unfolding footer_of read_struct page_triplets hybrid
-no_values = known_cause_holds (changed 69 0 one_file) one_schema one_leaf bad_records refl
+no_values = known_cause_holds (changed 69 0 one_file) one_schema one_leaf bad_data refl
 
 -- two values in a chunk of one page of one
-pub two_values : Refused (changed 69 4 one_file) bad_records
+pub two_values : Refused (changed 69 4 one_file) bad_data
 unfolding footer_of read_struct page_triplets hybrid
-two_values = known_cause_holds (changed 69 4 one_file) one_schema one_leaf bad_records refl
+two_values = known_cause_holds (changed 69 4 one_file) one_schema one_leaf bad_data refl
 
 -- a chunk that is a byte too short
-pub chunk_too_short : Refused (changed 73 48 one_file) bad_records
+pub chunk_too_short : Refused (changed 73 48 one_file) bad_data
 unfolding footer_of read_struct page_triplets hybrid
-chunk_too_short = known_cause_holds (changed 73 48 one_file) one_schema one_leaf bad_records refl
+chunk_too_short = known_cause_holds (changed 73 48 one_file) one_schema one_leaf bad_data refl
 
 -- a chunk that reaches into the footer
-pub chunk_into_footer : Refused (changed 73 126 one_file) bad_records
+pub chunk_into_footer : Refused (changed 73 126 one_file) bad_data
 unfolding footer_of read_struct page_triplets hybrid
-chunk_into_footer = known_cause_holds (changed 73 126 one_file) one_schema one_leaf bad_records refl
+chunk_into_footer = known_cause_holds (changed 73 126 one_file) one_schema one_leaf bad_data refl
 
 -- a chunk that begins at the magic
-pub chunk_at_magic : Refused (changed 75 0 one_file) bad_records
+pub chunk_at_magic : Refused (changed 75 0 one_file) bad_data
 unfolding footer_of read_struct page_triplets hybrid
-chunk_at_magic = known_cause_holds (changed 75 0 one_file) one_schema one_leaf bad_records refl
+chunk_at_magic = known_cause_holds (changed 75 0 one_file) one_schema one_leaf bad_data refl
 
 -- an index page, and then nothing
-pub index_page_alone : Refused (changed 5 2 one_file) bad_records
+pub index_page_alone : Refused (changed 5 2 one_file) bad_data
 unfolding footer_of read_struct page_triplets hybrid
-index_page_alone = known_cause_holds (changed 5 2 one_file) one_schema one_leaf bad_records refl
+index_page_alone = known_cause_holds (changed 5 2 one_file) one_schema one_leaf bad_data refl
 
 -- the page type 5
-pub unknown_page : Refused (changed 5 10 one_file) bad_records
+pub unknown_page : Refused (changed 5 10 one_file) bad_data
 unfolding footer_of read_struct page_triplets hybrid
-unknown_page = known_cause_holds (changed 5 10 one_file) one_schema one_leaf bad_records refl
+unknown_page = known_cause_holds (changed 5 10 one_file) one_schema one_leaf bad_data refl
 
 -- a page body of seven bytes
-pub body_too_short : Refused (changed 9 14 one_file) bad_records
+pub body_too_short : Refused (changed 9 14 one_file) bad_data
 unfolding footer_of read_struct page_triplets hybrid
-body_too_short = known_cause_holds (changed 9 14 one_file) one_schema one_leaf bad_records refl
+body_too_short = known_cause_holds (changed 9 14 one_file) one_schema one_leaf bad_data refl
 
 -- a page of two values where one is wanted
-pub page_goes_past : Refused (changed 12 4 one_file) bad_records
+pub page_goes_past : Refused (changed 12 4 one_file) bad_data
 unfolding footer_of read_struct page_triplets hybrid
-page_goes_past = known_cause_holds (changed 12 4 one_file) one_schema one_leaf bad_records refl
+page_goes_past = known_cause_holds (changed 12 4 one_file) one_schema one_leaf bad_data refl
 
 -- values of the encoding 3
-pub other_encoding : Refused (changed 14 6 one_file) bad_records
+pub other_encoding : Refused (changed 14 6 one_file) bad_data
 unfolding footer_of read_struct page_triplets hybrid
-other_encoding = known_cause_holds (changed 14 6 one_file) one_schema one_leaf bad_records refl
+other_encoding = known_cause_holds (changed 14 6 one_file) one_schema one_leaf bad_data refl

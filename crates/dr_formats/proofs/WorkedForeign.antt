@@ -7,7 +7,7 @@ use Rattle.dr_formats.specs.Compact.{read_struct, struct_bytes}
 use Rattle.dr_formats.specs.Hybrid.{hybrid}
 use Rattle.dr_formats.specs.Page.{page_triplets}
 use Rattle.dr_formats.specs.Metadata.{SchemaElement, ColumnChunk, FileMeta, file_tree}
-use Rattle.dr_formats.specs.File.{bad_schema, bad_codec, bad_records, HasCause, IsFileOf, footer_of, schema_of_file}
+use Rattle.dr_formats.specs.File.{bad_schema, bad_codec, bad_data, HasCause, IsFileOf, footer_of, schema_of_file}
 use Rattle.dr_formats.specs.Writing.{framed, leaf_element}
 use Rattle.dr_formats.proofs.FileLemmas.{known_cause_holds}
 use Rattle.dr_formats.proofs.WorkedFiles.{one_schema, one_file}
@@ -52,14 +52,14 @@ unfolding footer_of read_struct struct_bytes page_triplets hybrid
 reads_dictionary = (footer_or (footer_of (dictionary_file (1 ∷ 3 ∷ 2 ∷ []))), refl, refl, refl, (refl, refl, refl, refl, refl))
 
 -- an index past the dictionary
-pub index_past_dictionary : HasCause (dictionary_file (2 ∷ 3 ∷ 8 ∷ [])) one_schema one_leaf bad_records
+pub index_past_dictionary : HasCause (dictionary_file (2 ∷ 3 ∷ 8 ∷ [])) one_schema one_leaf bad_data
 unfolding footer_of read_struct struct_bytes page_triplets hybrid
-index_past_dictionary = known_cause_holds (dictionary_file (2 ∷ 3 ∷ 8 ∷ [])) one_schema one_leaf bad_records refl
+index_past_dictionary = known_cause_holds (dictionary_file (2 ∷ 3 ∷ 8 ∷ [])) one_schema one_leaf bad_data refl
 
 -- indices of 33 bits
-pub width_33 : HasCause (dictionary_file (33 ∷ 3 ∷ 2 ∷ [])) one_schema one_leaf bad_records
+pub width_33 : HasCause (dictionary_file (33 ∷ 3 ∷ 2 ∷ [])) one_schema one_leaf bad_data
 unfolding footer_of read_struct struct_bytes page_triplets hybrid
-width_33 = known_cause_holds (dictionary_file (33 ∷ 3 ∷ 2 ∷ [])) one_schema one_leaf bad_records refl
+width_33 = known_cause_holds (dictionary_file (33 ∷ 3 ∷ 2 ∷ [])) one_schema one_leaf bad_data refl
 
 -- a closed column beside it doesn't matter
 pub reads_beside_double : IsFileOf (foreign_file 0) one_schema one_leaf (number 7 ∷ number 9 ∷ number 7 ∷ [])

@@ -6,7 +6,7 @@ use Rattle.dr_meaning.specs.Column.{Triplet}
 use Rattle.dr_formats.specs.Reading.{Reading, got, refused, Reader, give, ◌>>=◌, bytes_of}
 use Rattle.dr_formats.specs.Compact.{CompactFault, Struct, read_struct}
 use Rattle.dr_formats.specs.Plain.{plain_values}
-use Rattle.dr_formats.specs.Page.{data_page_v1, PageShape, PageFault, bad_data, found, is_number, plain_encoding, plain_dictionary_encoding, page_triplets, triplets_read}
+use Rattle.dr_formats.specs.Page.{data_page_v1, PageShape, PageFault, bad_page, found, is_number, plain_encoding, plain_dictionary_encoding, page_triplets, triplets_read}
 use Rattle.dr_formats.specs.Metadata.{MetaFault, ColumnMeta, DataPageHeader, DictionaryPageHeader, PageHeader, view_page}
 
 -- ---- pages
@@ -14,12 +14,12 @@ use Rattle.dr_formats.specs.Metadata.{MetaFault, ColumnMeta, DataPageHeader, Dic
 -- the header of the struct that was read, and the bytes behind it
 abbrev pub header_viewed : List ℕ → Result PageHeader MetaFault → Reading PageFault PageHeader
 header_viewed rest (Ok h) = got h rest
-header_viewed rest (Err e) = refused bad_data rest
+header_viewed rest (Err e) = refused bad_page rest
 
 -- the header of what was read, where that is a struct with the header's fields
 abbrev pub header_read : Reading CompactFault Struct → Reading PageFault PageHeader
 header_read (got s rest) = header_viewed rest (view_page s)
-header_read (refused e rest) = refused bad_data rest
+header_read (refused e rest) = refused bad_page rest
 
 -- a page header at the front of bytes
 abbrev pub page_header : Reader PageFault PageHeader
@@ -40,25 +40,25 @@ shape_of_page l h = record { form = data_page_v1; triplets = h.values; encoding 
 
 -- a data page with at most the wanted triplets
 abbrev pub data_page : Leaf → ℕ → List Value → List ℕ → Option DataPageHeader → Reader PageFault PageTaken
-data_page l wanted dictionary body None = refused bad_data
-data_page l wanted dictionary body (Some h) = if nat_le h.values wanted then (do ts ← found (page_triplets (shape_of_page l h) dictionary body); give (taken ts dictionary)) else refused bad_data
+data_page l wanted dictionary body None = refused bad_page
+data_page l wanted dictionary body (Some h) = if nat_le h.values wanted then (do ts ← found (page_triplets (shape_of_page l h) dictionary body); give (taken ts dictionary)) else refused bad_page
 
 -- a dictionary page: the first page, with PLAIN values
 abbrev pub dictionary_page : Leaf → Bool → List ℕ → Option DictionaryPageHeader → Reader PageFault PageTaken
-dictionary_page l first body None = refused bad_data
-dictionary_page l first body (Some h) = if first && (is_number plain_encoding h.encoding || is_number plain_dictionary_encoding h.encoding) then (do vs ← found (plain_values l.kind h.values body); give (taken [] vs)) else refused bad_data
+dictionary_page l first body None = refused bad_page
+dictionary_page l first body (Some h) = if first && (is_number plain_encoding h.encoding || is_number plain_dictionary_encoding h.encoding) then (do vs ← found (plain_values l.kind h.values body); give (taken [] vs)) else refused bad_page
 
 -- DATA_PAGE 0, INDEX_PAGE 1, DICTIONARY_PAGE 2 (parquet.thrift, PageType); index pages are passed over, any other is refused
 abbrev pub page_taken : Leaf → ℕ → Bool → List Value → PageHeader → List ℕ → Reader PageFault PageTaken
-page_taken l wanted first dictionary h body = if is_number 0 h.type then data_page l wanted dictionary body h.data_page else (if is_number 1 h.type then give (taken [] dictionary) else (if is_number 2 h.type then dictionary_page l first body h.dictionary_page else refused bad_data))
+page_taken l wanted first dictionary h body = if is_number 0 h.type then data_page l wanted dictionary body h.data_page else (if is_number 1 h.type then give (taken [] dictionary) else (if is_number 2 h.type then dictionary_page l first body h.dictionary_page else refused bad_page))
 
 -- at most k pages, until the wanted triplets are taken; each page takes a byte at least, so there are at most as many as bytes
 abbrev pub pages : Leaf → ℕ → ℕ → Bool → List Value → Reader PageFault (List Triplet)
 pages l k zero first dictionary = give []
-pages l zero (suc n) first dictionary = refused bad_data
+pages l zero (suc n) first dictionary = refused bad_page
 pages l (suc k) (suc n) first dictionary = do
   h ← page_header
-  body ← bytes_of bad_data h.compressed_size
+  body ← bytes_of bad_page h.compressed_size
   t ← page_taken l (suc n) first dictionary h body
   more ← pages l k (suc n - length t.triplets) false t.dictionary
   give (t.triplets ++ more)

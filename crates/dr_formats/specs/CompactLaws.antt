@@ -1,6 +1,6 @@
 -- Laws of structs in the compact protocol.
 use Rattle.std.specs.Prelude.{◌≡◌, ◌↔◌, ℕ, List, ◌++◌, true}
-use Rattle.dr_formats.specs.Reading.{Spells, got}
+use Rattle.dr_formats.specs.Reading.{IsReadAs, got}
 use Rattle.dr_formats.specs.Compact.{Struct, read_struct, struct_bytes, is_tree}
 use Rattle.dr_formats.specs.CompactGrammar.{SpellsStruct}
 
@@ -14,7 +14,7 @@ WrittenStructIsSpelled = (s : Struct) → is_tree s ≡ true → SpellsStruct (s
 
 -- and is read as that struct, whatever follows it
 abbrev pub WrittenStructIsRead : Type 0
-WrittenStructIsRead = (s : Struct) → is_tree s ≡ true → Spells read_struct (struct_bytes s) s
+WrittenStructIsRead = (s : Struct) → is_tree s ≡ true → IsReadAs read_struct (struct_bytes s) s
 
 -- of two fronts of the same bytes that spell structs, both are the same front and the same struct
 abbrev pub FrontSpellsOneStruct : Type 0

@@ -177,14 +177,14 @@ pub data FileCause : Type 0 where
   bad_footer : FileCause
   bad_schema : FileCause
   bad_codec : FileCause
-  bad_records : FileCause
+  bad_data : FileCause
 
 -- the cause for which bytes are no file of any records of the schema for these leaves: it holds, and none before it does
 abbrev pub HasCause : List ℕ → Schema → List Leaf → FileCause → Type 0
 HasCause bytes s F bad_footer = footer_of bytes ≡ None
 HasCause bytes s F bad_schema = (f : Footer) × (footer_of bytes ≡ Some f) × (has_leaves f F ≡ false)
 HasCause bytes s F bad_codec = (f : Footer) × (footer_of bytes ≡ Some f) × (has_leaves f F ≡ true) × (are_uncompressed f F ≡ false)
-HasCause bytes s F bad_records = (f : Footer) × (footer_of bytes ≡ Some f) × (has_leaves f F ≡ true) × (are_uncompressed f F ≡ true) × ((R : List Node) → IsDataOf bytes f s F R → ⊥)
+HasCause bytes s F bad_data = (f : Footer) × (footer_of bytes ≡ Some f) × (has_leaves f F ≡ true) × (are_uncompressed f F ≡ true) × ((R : List Node) → IsDataOf bytes f s F R → ⊥)
 
 -- ---- a test for causes: of the last it knows only the reasons that need no records
 
@@ -200,7 +200,7 @@ has_columns bytes f F = rows_agree f && values_fit f F && list_all (λ l. is_dec
 -- the cause by these tests, in their order
 abbrev pub footer_cause : List ℕ → List Leaf → Option Footer → Option FileCause
 footer_cause bytes F None = Some bad_footer
-footer_cause bytes F (Some f) = if has_leaves f F then (if are_uncompressed f F then (if has_columns bytes f F then None else Some bad_records) else Some bad_codec) else Some bad_schema
+footer_cause bytes F (Some f) = if has_leaves f F then (if are_uncompressed f F then (if has_columns bytes f F then None else Some bad_data) else Some bad_codec) else Some bad_schema
 
 -- the cause of bytes, as far as the test knows
 abbrev pub known_cause : List ℕ → List Leaf → Option FileCause

@@ -27,3 +27,4 @@ pub mod HybridLaws
 pub mod PlainLaws
 pub mod FileLaws
 pub mod WritingLaws
+pub mod TabletLaws

@@ -26,11 +26,11 @@ pub record PageShape : Type 0 where
 
 -- the body spells no triplets
 pub data PageFault : Type 0 where
-  bad_data : PageFault
+  bad_page : PageFault
 
 -- a value, if there is one
 abbrev pub found : {A : Type 0} → Option A → Reader PageFault A
-found None = refused bad_data
+found None = refused bad_page
 found (Some a) = give a
 
 -- ---- numbers of the format (parquet.thrift, Encoding)
@@ -74,7 +74,7 @@ none_above greatest ls = if list_all (λ l. nat_le l greatest) ls then Some ls e
 -- n levels: where the greatest is 0 no bytes and any encoding, else a length of four bytes and so many bytes of hybrid data
 abbrev pub levels : ℕ → ℤ → ℕ → Reader PageFault (List ℕ)
 levels zero encoding n = give (replicate n 0)
-levels (suc g) encoding n = if is_number rle_encoding encoding then (do b ← bytes_of bad_data 4; part ← bytes_of bad_data (little_endian b); found (option_and_then (none_above (suc g)) (hybrid (level_width (suc g)) n part))) else refused bad_data
+levels (suc g) encoding n = if is_number rle_encoding encoding then (do b ← bytes_of bad_page 4; part ← bytes_of bad_page (little_endian b); found (option_and_then (none_above (suc g)) (hybrid (level_width (suc g)) n part))) else refused bad_page
 
 -- ---- values
 

@@ -4,13 +4,13 @@ use Rattle.std.specs.List.{list_all}
 use Rattle.dr_meaning.specs.Schema.{Kind}
 use Rattle.dr_meaning.specs.Record.{Value}
 use Rattle.dr_meaning.specs.Column.{Triplet}
-use Rattle.dr_formats.specs.Reading.{Spells}
+use Rattle.dr_formats.specs.Reading.{IsReadAs}
 use Rattle.dr_formats.specs.Plain.{plain, plain_bytes, is_writable}
 use Rattle.dr_formats.specs.Page.{PageShape, data_page_v1, page_triplets, body_bytes, is_triplet}
 
 -- what is written for values of a kind is read as these values, whatever follows it
 abbrev pub WrittenValuesAreRead : Type 0
-WrittenValuesAreRead = (k : Kind) (vs : List Value) → list_all (is_writable k) vs ≡ true → Spells (plain k (length vs)) (plain_bytes k vs) vs
+WrittenValuesAreRead = (k : Kind) (vs : List Value) → list_all (is_writable k) vs ≡ true → IsReadAs (plain k (length vs)) (plain_bytes k vs) vs
 
 -- the shape of a page as it is written
 abbrev pub written_shape : Kind → ℕ → ℕ → ℕ → PageShape

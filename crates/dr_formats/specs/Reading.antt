@@ -39,5 +39,5 @@ abbrev pub bytes_of : {E : Type 0} → E → ℕ → Reader E (List ℕ)
 bytes_of short n bs = if nat_le n (length bs) then got (take n bs) (drop n bs) else refused short []
 
 -- whether these bytes, whatever follows them, are read as this value
-abbrev pub Spells : {E A : Type 0} → Reader E A → List ℕ → A → Type 0
-Spells read bytes a = (rest : List ℕ) → read (bytes ++ rest) ≡ got a rest
+abbrev pub IsReadAs : {E A : Type 0} → Reader E A → List ℕ → A → Type 0
+IsReadAs read bytes a = (rest : List ℕ) → read (bytes ++ rest) ≡ got a rest

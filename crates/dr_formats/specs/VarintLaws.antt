@@ -1,6 +1,6 @@
 -- Laws of variable-length numbers.
 use Rattle.std.specs.Prelude.{◌≡◌, ◌↔◌, ℕ, ◌<◌, ◌≤◌, ◌^◌, List, ◌++◌, length, ℤ}
-use Rattle.dr_formats.specs.Reading.{Spells, got}
+use Rattle.dr_formats.specs.Reading.{IsReadAs, got}
 use Rattle.dr_formats.specs.Varint.{read_varint, varint_bytes, zigzag, from_zigzag, SpellsNumber}
 
 -- a number and a rest are read exactly where a front of the bytes spells the number and the rest is what follows
@@ -9,7 +9,7 @@ VarintIsReadExactly = (bytes rest : List ℕ) (n : ℕ) → (read_varint bytes �
 
 -- what is written for a number is read as that number, whatever follows it
 abbrev pub WrittenVarintIsRead : Type 0
-WrittenVarintIsRead = (n : ℕ) → n < 2 ^ 64 → Spells read_varint (varint_bytes n) n
+WrittenVarintIsRead = (n : ℕ) → n < 2 ^ 64 → IsReadAs read_varint (varint_bytes n) n
 
 -- no spelling of a number is shorter than the one that is written
 abbrev pub WrittenVarintIsShortest : Type 0

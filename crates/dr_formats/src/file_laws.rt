@@ -1,10 +1,12 @@
 //! Laws of files and causes.
 
-ghost use Rattle.dr_formats.specs.FileLaws.{FileHasNoCause, KnownCauseHolds, OneCause};
+ghost use Rattle.dr_formats.specs.FileLaws.{CauseIsKnown, FileHasNoCause, KnownCauseHolds, OneCause};
 
-/// The cause that the test knows of bytes holds.
+/// The cause that the test knows of bytes holds; a cause that holds is the one that it knows, but for causes of data that need records
+/// to be seen.
 pub fn known_cause_holds()
-    ensures { KnownCauseHolds }
+    ensures holds { KnownCauseHolds }
+    ensures known { CauseIsKnown }
 {}
 
 /// Bytes have at most one cause for which they are no file.
