@@ -28,3 +28,4 @@ pub mod FooterBack
 pub mod MetaFits
 pub mod FileBack
 pub mod TabletLemmas
+pub mod TableLemmas

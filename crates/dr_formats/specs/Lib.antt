@@ -28,3 +28,4 @@ pub mod PlainLaws
 pub mod FileLaws
 pub mod WritingLaws
 pub mod TabletLaws
+pub mod TableLaws
