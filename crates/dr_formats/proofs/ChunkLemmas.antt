@@ -1,20 +1,19 @@
 -- The pages that are written are read back.
-use Rattle.std.proofs.Common.{◌≡◌, ℕ, zero, suc, ◌+◌, ◌*◌, ◌^◌, ◌≤◌, ◌<◌, List, [], ◌∷◌, ◌++◌, map, length, Bool, true, false, refl, sym, ap, ap₂, ◌∙◌, subst, arith, ℤ, pos, Option, Some, None, append_assoc, append-nil, Ok}
-use Rattle.std.specs.Prelude.{◌-◌, ◌-ℤ◌, nat_lt, nat_le, ◌&&◌, ◌==◌, if◌then◌else◌}
-use Rattle.std.specs.List.{list_all}
+use Rattle.std.proofs.Common.{◌≡◌, ℕ, zero, suc, ◌^◌, ◌≤◌, ◌<◌, List, [], ◌∷◌, ◌++◌, length, Bool, true, false, refl, sym, ap, ◌∙◌, arith, ℤ, pos, Some, append_assoc, append-nil}
+use Rattle.std.specs.Prelude.{◌-◌, ◌-ℤ◌}
 use Rattle.std.proofs.lemmas.Bool.{lt-ltb, le-leb}
 use Rattle.std.proofs.lemmas.List.{length-append}
 use Rattle.dr_meaning.specs.Path.{Leaf, max_repetition, max_definition}
-use Rattle.dr_meaning.specs.Record.{Value, in_int64}
+use Rattle.dr_meaning.specs.Record.{Value}
 use Rattle.dr_meaning.specs.Column.{Triplet}
-use Rattle.dr_formats.specs.Reading.{Reading, got, refused, Reader, give, goes_on, ◌>>=◌, bytes_of, IsReadAs}
-use Rattle.dr_formats.specs.Compact.{Struct, stop, struct_field, is_tree, struct_bytes, read_struct, fields_bytes, header_bytes, item_type, in_field, item_bytes}
-use Rattle.dr_formats.specs.Metadata.{PageHeader, view_page, page_tree}
-use Rattle.dr_formats.specs.Page.{PageFault, bad_page, page_triplets, triplets_read, body_bytes, is_triplet}
-use Rattle.dr_formats.specs.Chunk.{header_read, page_header, PageTaken, taken, shape_of_page, data_page, page_taken, pages, pages_triplets}
-use Rattle.dr_formats.specs.Writing.{header_of_page, header_and_body, page_bytes, pages_bytes, triplet_count, is_full, last_page, closed_page, open_page, cut_pages}
+use Rattle.dr_formats.specs.Reading.{got, bytes_of, IsReadAs}
+use Rattle.dr_formats.specs.Compact.{Struct, stop, struct_field, is_tree, struct_bytes, fields_bytes, header_bytes, item_type, in_field, item_bytes}
+use Rattle.dr_formats.specs.Metadata.{PageHeader, page_tree}
+use Rattle.dr_formats.specs.Page.{bad_page, page_triplets, triplets_read, body_bytes}
+use Rattle.dr_formats.specs.Chunk.{header_read, page_header, PageTaken, taken, shape_of_page, page_taken, pages}
+use Rattle.dr_formats.specs.Writing.{header_of_page, pages_bytes, triplet_count, is_full, last_page, closed_page, open_page, cut_pages}
 use Rattle.dr_formats.specs.WritingLaws.{all_triplets, IsPage, ArePages, WrittenPagesAreRead, PagesKeepTriplets}
-use Rattle.dr_formats.proofs.ReadingLemmas.{spells_then, spells_bytes}
+use Rattle.dr_formats.proofs.ReadingLemmas.{spells_bytes}
 use Rattle.dr_formats.proofs.CompactLemmas.{written_struct_is_read, header_has_byte}
 use Rattle.dr_formats.proofs.PageLemmas.{written_body_is_read}
 

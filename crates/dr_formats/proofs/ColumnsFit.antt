@@ -1,14 +1,13 @@
 -- The columns of records have levels within the greatest, a value of the kind exactly at the greatest definition level, and one start for each record.
-use Rattle.std.proofs.Common.{◌≡◌, ℕ, zero, suc, ◌+◌, ◌^◌, ◌≤◌, ◌<◌, List, [], ◌∷◌, ◌++◌, map, length, Bool, true, false, ◌&&◌, refl, sym, ap, ap₂, ◌∙◌, subst, arith, Option, Some, None, true≢false}
-use Rattle.std.specs.Prelude.{nat_lt, nat_le, ◌==◌, if◌then◌else◌}
+use Rattle.std.proofs.Common.{◌≡◌, ℕ, suc, ◌+◌, ◌^◌, ◌≤◌, ◌<◌, List, [], ◌∷◌, ◌++◌, map, length, true, refl, sym, ap, ◌∙◌, subst, arith, Some, None, true≢false}
 use Rattle.std.specs.List.{list_all}
-use Rattle.std.proofs.lemmas.Bool.{and_parts, and_from, le-leb, lt-ltb, eq-eqb, ne_eqb, eqb-true}
-use Rattle.dr_meaning.specs.Schema.{Repetition, required, optional, repeated, Kind, bool_kind, int32_kind, int64_kind, text_kind, Fields, no_fields, field, Shape, leaf, group, repetition_count, definition_count}
-use Rattle.dr_meaning.specs.Path.{Step, Leaf, leaf_below, leaves_from, shape_leaves, leaves, max_repetition, max_definition}
-use Rattle.dr_meaning.specs.Record.{Value, bool_value, int_value, text_value, is_of_kind, Node, no_slots, slot, gap, Instances, no_instances, instance, Instance, atom, inner, count_instances, fits_repetition, all_instances, is_record, is_instance, is_atom_of, instances_at, instances_in, text_length, text_bytes, text_bytes_all, text_bytes_one}
-use Rattle.dr_meaning.specs.Column.{Triplet, triplet, value_of, each_later, spread, instance_column, record_column}
-use Rattle.dr_formats.specs.Plain.{has_short_text, is_writable}
-use Rattle.dr_formats.specs.Page.{has_value, is_value_of, same_truth, is_triplet}
+use Rattle.std.proofs.lemmas.Bool.{and_parts, and_from, le-leb, lt-ltb, eq-eqb, ne_eqb}
+use Rattle.dr_meaning.specs.Schema.{Repetition, required, optional, repeated, Kind, Fields, no_fields, field, Shape, leaf, group, repetition_count, definition_count}
+use Rattle.dr_meaning.specs.Path.{Leaf, leaf_below, leaves_from, shape_leaves, max_repetition, max_definition}
+use Rattle.dr_meaning.specs.Record.{Value, bool_value, int_value, text_value, is_of_kind, Node, no_slots, slot, gap, Instances, no_instances, instance, Instance, atom, inner, count_instances, fits_repetition, all_instances, is_record, is_instance, instances_at, text_length, text_bytes, text_bytes_all, text_bytes_one}
+use Rattle.dr_meaning.specs.Column.{Triplet, triplet, each_later, spread, instance_column}
+use Rattle.dr_formats.specs.Plain.{is_writable}
+use Rattle.dr_formats.specs.Page.{is_triplet}
 use Rattle.dr_meaning.proofs.Blocks.{and₃_parts}
 
 abbrev pub Good : Kind → ℕ → ℕ → List Triplet → Type 0
@@ -126,4 +125,3 @@ mutual
   shape_good (leaf k) (inner n) h t = absurd (true≢false (sym h))
   shape_good (group fs) (atom v) h t = absurd (true≢false (sym h))
   shape_good (group fs) (inner n) h t = fields_good fs 0 n n (λ j. ap (λ k. instances_at k n) (zero_more j)) h t
-

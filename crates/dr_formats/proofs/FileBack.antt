@@ -1,23 +1,23 @@
 -- The file that is written for records is a file of these records.
-use Rattle.std.proofs.Common.{◌≡◌, ℕ, zero, suc, ◌+◌, ◌^◌, ◌≤◌, ◌<◌, List, [], ◌∷◌, ◌++◌, map, length, take, drop, Bool, true, false, ◌&&◌, refl, sym, ap, ap₂, ◌∙◌, subst, arith, pos, Option, Some, None, append_assoc, append-nil, true≢false}
-use Rattle.std.specs.Prelude.{◌-◌, nat_lt, nat_le, ◌==◌, if◌then◌else◌, option_map, option_and_then}
+use Rattle.std.proofs.Common.{◌≡◌, ℕ, zero, suc, ◌+◌, ◌^◌, ◌≤◌, ◌<◌, List, [], ◌∷◌, ◌++◌, map, length, take, drop, true, ◌&&◌, refl, sym, ap, ap₂, ◌∙◌, subst, arith, pos, Some, None, append_assoc, append-nil}
+use Rattle.std.specs.Prelude.{nat_lt, nat_le, ◌==◌}
 use Rattle.std.specs.List.{list_all}
 use Rattle.std.proofs.lemmas.Bool.{and_parts, and_from, le-leb, leb-true, ltb-true, eq-eqb}
 use Rattle.std.proofs.lemmas.List.{length-append, length-map}
 use Rattle.std.proofs.Math.Seq.{take-append_seam, drop-append_seam}
 use Rattle.dr_meaning.specs.Schema.{Repetition, required, optional, repeated, repetition_count, definition_count, Kind, Fields, no_fields, field, Shape, leaf, Schema, is_group, is_schema, is_shape, is_short_name, is_nonempty, group, leaf_count, depth, greatest_depth, most_leaves}
-use Rattle.dr_meaning.specs.Path.{Step, Leaf, leaf_below, leaves_from, shape_leaves, leaves, is_leaf_path, max_repetition, max_definition}
+use Rattle.dr_meaning.specs.Path.{Leaf, leaf_below, leaves_from, shape_leaves, leaves, is_leaf_path, max_repetition, max_definition}
 use Rattle.dr_meaning.specs.Record.{Node, is_record, text_bytes, inner, instances_at}
 use Rattle.dr_meaning.specs.Column.{Triplet, record_column, column}
 use Rattle.dr_formats.specs.LittleEndian.{little_endian_bytes}
-use Rattle.dr_formats.specs.Compact.{is_tree, struct_bytes}
-use Rattle.dr_formats.specs.Metadata.{ColumnMeta, ColumnChunk, RowGroup, FileMeta, file_tree}
-use Rattle.dr_formats.specs.FileSchema.{FileSchema, file_schema, file_leaves, place_of}
+use Rattle.dr_formats.specs.Compact.{is_tree}
+use Rattle.dr_formats.specs.Metadata.{ColumnMeta, ColumnChunk, RowGroup, file_tree}
+use Rattle.dr_formats.specs.FileSchema.{FileSchema, file_leaves, place_of}
 use Rattle.dr_formats.specs.Page.{is_triplet}
-use Rattle.dr_formats.specs.Chunk.{pages_triplets, chunk_bytes, chunk_triplets}
-use Rattle.dr_formats.specs.File.{Footer, footer_of, is_found, leaf_place, has_leaves, nth_chunk, leaf_chunk, is_uncompressed, are_uncompressed, total, most_rows, most_triplets, rows_agree, chunk_values, values_fit, starts, begins_record, of_rows, group_column, groups_column, file_column, AreColumns, IsDataOf, IsFileOf, magic, is_whole_group, has_no_path}
-use Rattle.dr_formats.specs.Writing.{cut_pages, pages_bytes, record_columns, written_chunk, triplet_count, chunk_at, WrittenChunks, chunks_from, framed, schema_elements, file_meta, written_chunks, groups_of, written_meta, written_footer, file_bytes}
-use Rattle.dr_formats.specs.WritingLaws.{all_triplets, IsPage, ArePages, nth_leaf, AreAmong, FitHeaders, LeavesFit, FitsFile, WrittenFileIsFile}
+use Rattle.dr_formats.specs.Chunk.{pages_triplets, chunk_bytes}
+use Rattle.dr_formats.specs.File.{Footer, footer_of, is_found, leaf_place, has_leaves, nth_chunk, leaf_chunk, is_uncompressed, are_uncompressed, total, most_rows, most_triplets, rows_agree, chunk_values, values_fit, starts, of_rows, group_column, file_column, AreColumns, magic, is_whole_group, has_no_path}
+use Rattle.dr_formats.specs.Writing.{cut_pages, pages_bytes, record_columns, written_chunk, triplet_count, chunk_at, chunks_from, framed, written_chunks, groups_of, written_meta, written_footer, file_bytes}
+use Rattle.dr_formats.specs.WritingLaws.{all_triplets, ArePages, nth_leaf, AreAmong, FitHeaders, LeavesFit, FitsFile, WrittenFileIsFile}
 use Rattle.dr_formats.proofs.ChunkLemmas.{written_pages_are_read, pages_keep_triplets}
 use Rattle.dr_formats.proofs.SchemaBack.{file_fields_of, schema_back, file_leaf_of, file_leaves_back, leaf_found, AllLeaves, is_within, leaves_within}
 use Rattle.dr_formats.proofs.ColumnsFit.{EachLeaf, each_append, Good, ColumnGood, fields_good}

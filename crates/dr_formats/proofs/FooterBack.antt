@@ -1,6 +1,6 @@
 -- The footer that is written is found again.
-use Rattle.std.proofs.Common.{◌≡◌, ℕ, zero, suc, ◌+◌, ◌^◌, ◌≤◌, ◌<◌, List, [], ◌∷◌, ◌++◌, length, take, drop, Bool, true, false, ◌&&◌, refl, sym, ap, ap₂, ◌∙◌, subst, arith, Option, Some, None, append_assoc, append-nil}
-use Rattle.std.specs.Prelude.{◌-◌, nat_le, bytes_eq}
+use Rattle.std.proofs.Common.{◌≡◌, ℕ, ◌+◌, ◌^◌, ◌<◌, List, [], ◌++◌, length, take, drop, true, refl, sym, ap, ◌∙◌, arith, Some, append_assoc, append-nil}
+use Rattle.std.specs.Prelude.{◌-◌, bytes_eq}
 use Rattle.std.specs.List.{list_all}
 use Rattle.std.proofs.lemmas.Bool.{and_from, le-leb}
 use Rattle.std.proofs.lemmas.List.{length-append}
@@ -9,9 +9,9 @@ use Rattle.std.proofs.Math.Seq.{take-append_seam, drop-append_seam}
 use Rattle.dr_formats.specs.Reading.{got}
 use Rattle.dr_formats.specs.LittleEndian.{little_endian, little_endian_bytes}
 use Rattle.dr_formats.specs.Compact.{is_tree, struct_bytes, read_struct}
-use Rattle.dr_formats.specs.Metadata.{FileMeta, view_file, file_tree}
+use Rattle.dr_formats.specs.Metadata.{FileMeta, file_tree}
 use Rattle.dr_formats.specs.FileSchema.{FileSchema, file_schema, file_leaves}
-use Rattle.dr_formats.specs.File.{magic, footer_length, footer_place, is_framed, Footer, meta_of, meta_read, footer_meta, is_whole_group, with_schema, footer_of}
+use Rattle.dr_formats.specs.File.{magic, footer_length, footer_place, is_framed, meta_of, meta_read, footer_meta, is_whole_group, footer_of}
 use Rattle.dr_formats.specs.Writing.{framed}
 use Rattle.dr_formats.proofs.CompactLemmas.{written_struct_is_read}
 use Rattle.dr_formats.proofs.LittleEndianLemmas.{length_little_endian, little_endian_back}

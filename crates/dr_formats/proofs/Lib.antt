@@ -6,19 +6,22 @@ pub mod WorkedFiles
 pub mod WorkedDamaged
 pub mod WorkedForeign
 pub mod WorkedTables
--- lemmas
+-- lemmas of reading, of varints and of structs
 pub mod ReadingLemmas
 pub mod SoundLemmas
 pub mod VarintLemmas
 pub mod CompactLemmas
 pub mod GrammarReads
 pub mod GrammarSound
+-- lemmas of hybrid data, PLAIN values and page bodies
 pub mod LittleEndianLemmas
 pub mod HybridLemmas
 pub mod HybridGrammar
-pub mod FileLemmas
 pub mod PlainLemmas
 pub mod PageLemmas
+-- causes
+pub mod FileLemmas
+-- the file that is written is a file of its records
 pub mod ChunkLemmas
 pub mod MetadataLemmas
 pub mod SchemaBack
@@ -27,5 +30,6 @@ pub mod ColumnRows
 pub mod FooterBack
 pub mod MetaFits
 pub mod FileBack
-pub mod TabletLemmas
+-- tables and tablets
 pub mod TableLemmas
+pub mod TabletLemmas

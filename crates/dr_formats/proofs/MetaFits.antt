@@ -1,16 +1,16 @@
 -- The metadata that is written is a tree that can be spelled.
-use Rattle.std.proofs.Common.{◌≡◌, ℕ, zero, suc, ◌+◌, ◌*◌, ◌^◌, ◌≤◌, ◌<◌, List, [], ◌∷◌, ◌++◌, map, length, Bool, true, false, ◌&&◌, refl, sym, ap, ap₂, ◌∙◌, subst, arith, ℤ, pos, Option, Some, None, true≢false}
-use Rattle.std.specs.Prelude.{max, nat_lt, nat_le, ◌==◌, codes}
+use Rattle.std.proofs.Common.{◌≡◌, ℕ, zero, suc, ◌+◌, ◌*◌, ◌^◌, ◌≤◌, ◌<◌, List, [], ◌∷◌, ◌++◌, map, length, true, refl, sym, ap, arith, pos, Some, None, true≢false}
+use Rattle.std.specs.Prelude.{nat_lt, nat_le}
 use Rattle.std.specs.List.{list_all}
-use Rattle.std.proofs.lemmas.Bool.{and_parts, and_from, lt-ltb, le-leb, leb-true}
+use Rattle.std.proofs.lemmas.Bool.{and_parts, and_from, lt-ltb, leb-true}
 use Rattle.std.proofs.lemmas.List.{length-append, length-map}
 use Rattle.dr_meaning.specs.Schema.{Repetition, required, optional, repeated, Kind, bool_kind, int32_kind, int64_kind, text_kind, Fields, no_fields, field, Shape, leaf, group, Schema, is_name, is_short_name, longest_name, is_group, is_shape, is_nonempty, leaf_count, shape_leaf_count, depth, shape_depth}
 use Rattle.dr_meaning.specs.Path.{Step, Leaf, leaf_below, leaves_from, shape_leaves, leaves}
 use Rattle.dr_meaning.specs.Record.{Node}
 use Rattle.dr_meaning.proofs.SchemaReadsBack.{FirstField, first_of_group}
-use Rattle.dr_formats.specs.Compact.{ThriftType, binary_type, struct_type, Struct, Item, binary_item, struct_item, Items, count_items, is_tree, is_struct, is_item, are_items}
-use Rattle.dr_formats.specs.Metadata.{SchemaElement, ColumnChunk, RowGroup, FileMeta, items_of, element_tree, column_meta_tree, chunk_tree, group_tree, file_tree}
-use Rattle.dr_formats.specs.Writing.{record_columns, triplet_count, type_from, chunk_at, written_chunk, WrittenChunks, chunks_from, repetition_number, converted_from, count_fields, leaf_element, group_element, elements, shape_elements, schema_elements, written_groups, file_meta, written_chunks, groups_of, written_meta}
+use Rattle.dr_formats.specs.Compact.{binary_type, struct_type, Struct, Item, binary_item, struct_item, count_items, is_tree, is_struct, are_items}
+use Rattle.dr_formats.specs.Metadata.{SchemaElement, RowGroup, items_of, element_tree, chunk_tree, group_tree, file_tree}
+use Rattle.dr_formats.specs.Writing.{record_columns, triplet_count, type_from, chunk_at, written_chunk, WrittenChunks, chunks_from, repetition_number, count_fields, leaf_element, group_element, elements, shape_elements, schema_elements, written_groups, file_meta, written_chunks, groups_of, written_meta}
 use Rattle.dr_formats.proofs.SchemaBack.{leaves_within}
 
 -- ---- lists of items
@@ -107,15 +107,17 @@ mutual
   elements_few (field n r s fs) zero h l = absurd (omega (arith, l))
   elements_few (field n r s fs) (suc d) h l =
       let p : FirstField n s fs = first_of_group n r s fs h in
-      let a : length (shape_elements n r s) ≤ shape_leaf_count s * suc d = shape_few n r s d p.2 (omega (arith, l)) in
+      let m : shape_depth s ≤ d = omega (arith, l) in
+      let a : length (shape_elements n r s) ≤ shape_leaf_count s * suc d = shape_few n r s d p.2 m in
       let b : length (elements fs) ≤ leaf_count fs * suc d = elements_few fs (suc d) p.3 (omega (arith, l)) in
       omega (arith, a, b, length-append (shape_elements n r s) (elements fs))
 
   shape_few : (n : List ℕ) (r : Repetition) (s : Shape) (d : ℕ) → is_shape s ≡ true → shape_depth s ≤ d → length (shape_elements n r s) ≤ shape_leaf_count s * suc d
   shape_few n r (leaf k) d h l = omega arith
   shape_few n r (group fs) d h l =
-      let a : length (elements fs) ≤ leaf_count fs * d = elements_few fs d (and_parts _ _ h).1 l in
-      omega (arith, a, some_leaf_of fs (and_parts _ _ h).0 (and_parts _ _ h).1)
+      let p : (is_nonempty fs ≡ true) × (is_group fs ≡ true) = and_parts _ _ h in
+      let a : length (elements fs) ≤ leaf_count fs * d = elements_few fs d p.1 l in
+      omega (arith, a, some_leaf_of fs p.0 p.1)
 
 pub few_leaves : (fs : Fields) → leaf_count fs ≤ 1024 → length (leaves fs) ≤ 1024
 few_leaves fs l = omega (arith, l, count_leaves fs 0)
@@ -200,11 +202,11 @@ meta_fits s R n g d c k r b =
     let e : length (elements s.fields) ≤ 32768 = few_elements s.fields g d c in
     let f : ElementsFit (schema_elements s) = and_from _ _ (root_element_fits s.name s.fields (short_fits s.name n) (omega (arith, e, count_few s.fields))) (elements_fit s.fields g (omega (arith, e))) in
     file_fits s (length R) (groups_of s R) f (omega (arith, e)) r (groups_fit R k r b) (groups_few R)
-    where
-      groups_few : (Q : List Node) → length (groups_of s Q) < 2 ^ 64
-      groups_few [] = omega arith
-      groups_few (x ∷ Q) = omega arith
+  where
+    groups_few : (Q : List Node) → length (groups_of s Q) < 2 ^ 64
+    groups_few [] = omega arith
+    groups_few (x ∷ Q) = omega arith
 
-      groups_fit : (Q : List Node) → LeafCounts Q (leaves s.fields) → length Q < 2 ^ 63 → 4 + length (written_chunks s Q).bytes < 2 ^ 63 → are_items 30 struct_type (items_of (λ y. struct_item (group_tree y)) (groups_of s Q)) ≡ true
-      groups_fit [] j l h = refl
-      groups_fit (x ∷ Q) j l h = group_fits (written_chunks s (x ∷ Q)) (length (x ∷ Q)) (chunks_fit (x ∷ Q) (leaves s.fields) 4 (names_few (leaves s.fields) (leaves_within s.fields 0 32 d) (leaves_fit s.fields 0 g) (x ∷ Q) j) h) (omega (arith, columns_many (x ∷ Q) (leaves s.fields) 4, few_leaves s.fields c)) (omega (arith, h)) l
+    groups_fit : (Q : List Node) → LeafCounts Q (leaves s.fields) → length Q < 2 ^ 63 → 4 + length (written_chunks s Q).bytes < 2 ^ 63 → are_items 30 struct_type (items_of (λ y. struct_item (group_tree y)) (groups_of s Q)) ≡ true
+    groups_fit [] j l h = refl
+    groups_fit (x ∷ Q) j l h = group_fits (written_chunks s (x ∷ Q)) (length (x ∷ Q)) (chunks_fit (x ∷ Q) (leaves s.fields) 4 (names_few (leaves s.fields) (leaves_within s.fields 0 32 d) (leaves_fit s.fields 0 g) (x ∷ Q) j) h) (omega (arith, columns_many (x ∷ Q) (leaves s.fields) 4, few_leaves s.fields c)) (omega (arith, h)) l

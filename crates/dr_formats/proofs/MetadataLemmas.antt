@@ -1,6 +1,6 @@
 -- The structs that are written for metadata are viewed as that metadata.
-use Rattle.std.proofs.Common.{◌≡◌, ℕ, List, [], ◌∷◌, map, refl, sym, ap, ℤ, pos, Option, Some, None, Result, Ok, Err}
-use Rattle.dr_formats.specs.Compact.{Struct, Item, i32_item, binary_item, struct_item}
+use Rattle.std.proofs.Common.{◌≡◌, ℕ, List, [], ◌∷◌, map, refl, ℤ, Option, Some, None, Result, Ok}
+use Rattle.dr_formats.specs.Compact.{Struct, i32_item, binary_item, struct_item}
 use Rattle.dr_formats.specs.Metadata.{MetaFault, as_i32, as_binary, as_struct, all_as, each, SchemaElement, view_element, ColumnMeta, view_column_meta, ColumnChunk, view_chunk, RowGroup, view_group, FileMeta, view_file, items_of, element_tree, column_meta_tree, chunk_tree, group_tree, file_tree}
 use Rattle.dr_formats.specs.WritingLaws.{WrittenMetadataIsViewed}
 

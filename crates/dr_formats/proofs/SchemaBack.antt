@@ -1,17 +1,17 @@
 -- The schema elements that are written are read as the schema, and its leaves are the file's.
-use Rattle.std.proofs.Common.{◌≡◌, ℕ, zero, suc, ◌+◌, ◌≤◌, ◌<◌, List, [], ◌∷◌, ◌++◌, map, length, Bool, true, false, not, ◌&&◌, refl, sym, ap, ap₂, ◌∙◌, subst, arith, ℤ, pos, Option, Some, None, append_assoc, append-nil, true≢false, ◌⊎◌, inl, inr}
-use Rattle.std.specs.Prelude.{max, nat_le, bytes_eq, ◌||◌, if◌then◌else◌}
+use Rattle.std.proofs.Common.{◌≡◌, ℕ, zero, suc, ◌≤◌, List, [], ◌∷◌, ◌++◌, map, length, Bool, true, false, not, ◌&&◌, refl, sym, ap, ap₂, ◌∙◌, subst, arith, pos, Some, None, append_assoc, append-nil}
+use Rattle.std.specs.Prelude.{nat_le, bytes_eq}
 use Rattle.std.specs.List.{list_any, list_all}
 use Rattle.std.proofs.lemmas.Bool.{and_parts, and_from, leb-true, le-leb, not-true, or_parts, or_from, not_from_false, and_left, and_right}
 use Rattle.std.proofs.lemmas.Slice.Eq.{bytes_eq-Decides}
-use Rattle.std.proofs.lemmas.List.{length-append, length-map, map-append}
-use Rattle.dr_meaning.specs.Schema.{Repetition, required, optional, repeated, Kind, bool_kind, int32_kind, int64_kind, text_kind, Fields, no_fields, field, Shape, leaf, group, Schema, field_names, is_short_name, is_group, is_shape, is_nonempty, depth, shape_depth}
+use Rattle.std.proofs.lemmas.List.{length-append, map-append}
+use Rattle.dr_meaning.specs.Schema.{Repetition, required, optional, repeated, Kind, bool_kind, int32_kind, int64_kind, text_kind, Fields, no_fields, field, Shape, leaf, group, Schema, field_names, is_short_name, is_group, is_shape, depth, shape_depth}
 use Rattle.dr_meaning.specs.Path.{Step, Leaf, same_repetition, leaf_below, leaves_from, shape_leaves, leaves}
 use Rattle.dr_meaning.proofs.SchemaReadsBack.{FirstField, first_of_group, other_way}
 use Rattle.dr_formats.specs.Metadata.{SchemaElement}
-use Rattle.dr_formats.specs.FileSchema.{FileFields, no_file_fields, file_field, FileShape, file_leaf, file_group, FileSchema, repetition_from, FieldsRead, ShapeRead, with_first, as_group, shape_read, fields_read, whole_schema, root_read, file_schema, open_kind, is_open_name, FileLeaf, only_if, leaf_under, leaves_under, shape_leaves_under, within_depth, file_leaves, same_kind, same_names, same_repetitions, is_leaf_for, place_of}
+use Rattle.dr_formats.specs.FileSchema.{FileFields, no_file_fields, file_field, FileShape, file_leaf, file_group, repetition_from, fields_read, file_schema, open_kind, is_open_name, FileLeaf, leaf_under, leaves_under, shape_leaves_under, within_depth, file_leaves, same_kind, same_names, same_repetitions, is_leaf_for, place_of}
 use Rattle.dr_formats.specs.WritingLaws.{nth_leaf}
-use Rattle.dr_formats.specs.Writing.{type_from, repetition_number, converted_from, count_fields, leaf_element, group_element, elements, shape_elements, schema_elements}
+use Rattle.dr_formats.specs.Writing.{type_from, repetition_number, converted_from, count_fields, elements, shape_elements, schema_elements}
 
 -- a schema's fields as a file's
 abbrev mutual
@@ -203,11 +203,11 @@ names_same (n ∷ ns) = and_from _ _ ((bytes_eq-Decides n n).1 refl) (names_same
 repetitions_same : (p : List Step) → same_repetitions p (map (λ (s : Step). s.repetition) p) ≡ true
 repetitions_same [] = refl
 repetitions_same (s ∷ p) = and_from _ _ (repetition_same s.repetition) (repetitions_same p)
-    where
-      repetition_same : (r : Repetition) → same_repetition r r ≡ true
-      repetition_same required = refl
-      repetition_same optional = refl
-      repetition_same repeated = refl
+  where
+    repetition_same : (r : Repetition) → same_repetition r r ≡ true
+    repetition_same required = refl
+    repetition_same optional = refl
+    repetition_same repeated = refl
 
 kind_same : (k : Kind) → same_kind k k ≡ true
 kind_same bool_kind = refl

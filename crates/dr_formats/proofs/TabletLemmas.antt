@@ -1,11 +1,11 @@
 -- Laws of tablets.
-use Rattle.std.proofs.Common.{◌≡◌, ℕ, zero, suc, ◌+◌, ◌*◌, ◌/◌, ◌%◌, ◌≤◌, ◌<◌, List, [], ◌∷◌, ◌++◌, length, refl, sym, ap, ◌∙◌, arith, append_assoc, append-nil}
+use Rattle.std.proofs.Common.{◌≡◌, ℕ, zero, suc, ◌+◌, ◌*◌, ◌/◌, ◌%◌, ◌<◌, List, [], ◌∷◌, ◌++◌, length, refl, sym, ap, ◌∙◌, arith, append_assoc}
 use Rattle.std.specs.Prelude.{◌-◌}
 use Rattle.std.proofs.lemmas.List.{length-append}
 use Rattle.std.proofs.lemmas.Nat.{mod-mul-add}
 use Rattle.std.proofs.Math.Nat.{mod-lt, mod-add-div}
 use Rattle.dr_meaning.specs.Record.{Node}
-use Rattle.dr_formats.specs.Tablets.{tablets_from, tablets, placement}
+use Rattle.dr_formats.specs.Tablets.{tablets_from}
 use Rattle.dr_formats.specs.TabletLaws.{all_records, AreFull, TabletsHoldRecords, TabletsAreFull, PlacementIsLeaf, PlacementsDiffer}
 
 held_records : (n room : ℕ) (held R : List Node) → all_records (tablets_from n room held R) ≡ held ++ R

@@ -1,5 +1,5 @@
 -- Laws of table files.
-use Rattle.std.specs.Prelude.{◌≡◌, ℕ, ◌<◌, ◌≤◌, List, length, Bool, true, not, ◌&&◌, ◌==◌, Result, Ok}
+use Rattle.std.specs.Prelude.{◌≡◌, ℕ, ◌<◌, ◌≤◌, List, length, Bool, true, not, ◌&&◌, ◌==◌, Ok}
 use Rattle.std.specs.List.{list_all}
 use Rattle.std.specs.Str.{is_utf8}
 use Rattle.dr_meaning.specs.Schema.{is_schema}

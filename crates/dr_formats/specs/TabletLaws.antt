@@ -1,5 +1,5 @@
 -- Laws of tablets.
-use Rattle.std.specs.Prelude.{◌≡◌, ℕ, ◌+◌, ◌<◌, ◌≤◌, List, [], ◌∷◌, ◌++◌, length}
+use Rattle.std.specs.Prelude.{◌≡◌, ℕ, ◌<◌, ◌≤◌, List, [], ◌∷◌, ◌++◌, length}
 use Rattle.dr_meaning.specs.Record.{Node}
 use Rattle.dr_formats.specs.Tablets.{tablets, placement}
 

@@ -6,6 +6,7 @@ pub mod compact_laws;
 pub mod file_laws;
 pub mod hybrid_laws;
 pub mod page_laws;
+pub mod table_laws;
 pub mod tablet_laws;
 pub mod varint_laws;
 pub mod writing_laws;
