@@ -38,17 +38,17 @@ taken ts d = record { triplets = ts; dictionary = d }
 abbrev pub shape_of_page : Leaf → DataPageHeader → PageShape
 shape_of_page l h = record { form = data_page_v1; triplets = h.values; encoding = h.encoding; definition_encoding = h.definition_encoding; repetition_encoding = h.repetition_encoding; kind = l.kind; max_repetition = max_repetition l.path; max_definition = max_definition l.path }
 
--- a data page with at most the wanted triplets
+-- a data page, if it has at most the wanted triplets
 abbrev pub data_page : Leaf → ℕ → List Value → List ℕ → Option DataPageHeader → Reader PageFault PageTaken
 data_page l wanted dictionary body None = refused bad_page
 data_page l wanted dictionary body (Some h) = if nat_le h.values wanted then (do ts ← found (page_triplets (shape_of_page l h) dictionary body); give (taken ts dictionary)) else refused bad_page
 
--- a dictionary page: the first page, with PLAIN values
+-- a dictionary page, if it is the first page, with PLAIN values
 abbrev pub dictionary_page : Leaf → Bool → List ℕ → Option DictionaryPageHeader → Reader PageFault PageTaken
 dictionary_page l first body None = refused bad_page
 dictionary_page l first body (Some h) = if first && (is_number plain_encoding h.encoding || is_number plain_dictionary_encoding h.encoding) then (do vs ← found (plain_values l.kind h.values body); give (taken [] vs)) else refused bad_page
 
--- DATA_PAGE 0, INDEX_PAGE 1, DICTIONARY_PAGE 2 (parquet.thrift, PageType); index pages are passed over, any other is refused
+-- a page by its type: DATA_PAGE 0, INDEX_PAGE 1, DICTIONARY_PAGE 2 (parquet.thrift, PageType); index pages are passed over, any other is refused
 abbrev pub page_taken : Leaf → ℕ → Bool → List Value → PageHeader → List ℕ → Reader PageFault PageTaken
 page_taken l wanted first dictionary h body = if is_number 0 h.type then data_page l wanted dictionary body h.data_page else (if is_number 1 h.type then give (taken [] dictionary) else (if is_number 2 h.type then dictionary_page l first body h.dictionary_page else refused bad_page))
 
@@ -74,11 +74,11 @@ abbrev pub start_from : ℕ → Option ℤ → ℕ
 start_from d (Some (pos n)) = if nat_lt 0 n && nat_lt n d then n else d
 start_from d z = d
 
--- a chunk begins at its dictionary page, where that is above 0 and below the data page, else at the data page
+-- where a chunk begins: at its dictionary page, where that is above 0 and below the data page, else at the data page
 abbrev pub chunk_start : ColumnMeta → ℕ
 chunk_start m = start_from m.data_page_offset m.dictionary_page_offset
 
--- its bytes, between the magic and the footer
+-- the bytes of a chunk, if they lie between the magic and the footer
 abbrev pub chunk_bytes : List ℕ → ℕ → ColumnMeta → Option (List ℕ)
 chunk_bytes bytes footer m = if nat_le 4 (chunk_start m) && nat_le (chunk_start m + m.compressed_size) footer then Some (take m.compressed_size (drop (chunk_start m) bytes)) else None
 

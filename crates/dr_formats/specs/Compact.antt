@@ -52,7 +52,7 @@ mutual
     no_pairs : Pairs
     pair : Item → Item → Pairs → Pairs
 
--- of two fields with one id the last one counts
+-- the second of two values, where the first isn't there: of two fields with one id the last one counts
 abbrev pub or_else : Option Item → Option Item → Option Item
 or_else None other = other
 or_else (Some x) other = Some x
@@ -112,7 +112,7 @@ signed_varint = do
   n ← varint malformed malformed
   give (from_zigzag n)
 
--- one byte, 1 for true, any other for false
+-- a truth value in one byte, 1 for true, any other for false
 abbrev pub truth_byte : ℕ → Option Item
 truth_byte b = Some (truth_item (b == 1))
 
@@ -206,7 +206,7 @@ field_id = do
   n ← varint_below (2 ^ 16) malformed malformed
   give (from_zigzag n)
 
--- in a field a truth value is its type alone
+-- a value in a field; a truth value is its type alone there
 abbrev pub field_value : (ThriftType → Reader CompactFault Item) → ThriftType → Reader CompactFault Item
 field_value value true_type = give (truth_item true)
 field_value value false_type = give (truth_item false)
@@ -279,7 +279,7 @@ value_of (suc n) struct_type = do
 
 -- the struct at the front of bytes and the bytes behind it, or the first fault: too_deep at the value's first byte, malformed at the first byte with which no struct goes on, or at the end
 unfoldable pub read_struct : Reader CompactFault Struct
-read_struct = struct_of (value_of 31)
+read_struct = struct_of (value_of (greatest_nesting - 1))
 
 -- a fault and its place, counted in bytes from the front
 pub record PlacedFault : Type 0 where
@@ -347,12 +347,12 @@ in_field (truth_item b) bytes = []
 in_field x bytes = bytes
 
 abbrev mutual
-  -- the fields behind the one with the last id, and the end
+  -- the bytes of the fields behind the one with the last id, and of the end
   pub fields_bytes : ℤ → Struct → List ℕ
   fields_bytes last stop = 0 ∷ []
   fields_bytes last (struct_field id x s) = header_bytes last id (item_type x) ++ (in_field x (item_bytes x) ++ fields_bytes id s)
 
-  -- a value, as it stands in a list, set or map
+  -- the bytes of a value, as it stands in a list, set or map
   pub item_bytes : Item → List ℕ
   item_bytes (truth_item true) = 1 ∷ []
   item_bytes (truth_item false) = 0 ∷ []
@@ -368,12 +368,12 @@ abbrev mutual
   item_bytes (map_item k v xs) = varint_bytes (count_pairs xs) ++ ((type_number k * 16 + type_number v) ∷ pairs_bytes xs)
   item_bytes (struct_item s) = fields_bytes (pos 0) s
 
-  -- values, one after another
+  -- the bytes of values, one after another
   pub items_bytes : Items → List ℕ
   items_bytes no_items = []
   items_bytes (item x xs) = item_bytes x ++ items_bytes xs
 
-  -- pairs, one after another
+  -- the bytes of pairs, one after another
   pub pairs_bytes : Pairs → List ℕ
   pairs_bytes no_pairs = []
   pairs_bytes (pair k v xs) = item_bytes k ++ (item_bytes v ++ pairs_bytes xs)
@@ -396,12 +396,12 @@ has_type false_type x = is_truth x
 has_type t x = type_number t == type_number (item_type x)
 
 abbrev mutual
-  -- ids of 16 bits, and values that nest at most so deep
+  -- whether the fields of a struct can be spelled: ids of 16 bits, and values that nest at most so deep
   pub is_struct : ℕ → Struct → Bool
   is_struct n stop = true
   is_struct n (struct_field id x s) = in_int16 id && is_item n x && is_struct n s
 
-  -- numbers of 64 bits, lengths and sizes below 2^64, what is in a list, set or map of its type, and nesting at most so deep
+  -- whether a value can be spelled: numbers of 64 bits, lengths and sizes below 2^64, what is in a list, set or map of its type, and nesting at most so deep
   pub is_item : ℕ → Item → Bool
   is_item n (truth_item b) = true
   is_item n (byte_item b) = true
@@ -417,16 +417,16 @@ abbrev mutual
   is_item (suc n) (struct_item s) = is_struct n s
   is_item zero x = false
 
-  -- such values, each of the type
+  -- whether values can be spelled, each of the type
   pub are_items : ℕ → ThriftType → Items → Bool
   are_items n t no_items = true
   are_items n t (item x xs) = has_type t x && is_item n x && are_items n t xs
 
-  -- such pairs, each of the two types
+  -- whether pairs can be spelled, each of the two types
   pub are_pairs : ℕ → ThriftType → ThriftType → Pairs → Bool
   are_pairs n k v no_pairs = true
   are_pairs n k v (pair x y xs) = has_type k x && has_type v y && is_item n x && is_item n y && are_pairs n k v xs
 
--- a struct of the form above in which nothing nests deeper than is read
+-- whether a struct can be spelled: nothing nests deeper than is read
 abbrev pub is_tree : Struct → Bool
-is_tree s = is_struct 31 s
+is_tree s = is_struct (greatest_nesting - 1) s

@@ -19,7 +19,7 @@ use Rattle.dr_formats.specs.Chunk.{chunk_triplets}
 abbrev pub magic : List ℕ
 magic = 80 ∷ 65 ∷ 82 ∷ 49 ∷ []
 
--- the four bytes before the last magic
+-- the footer's length, in the four bytes before the last magic
 abbrev pub footer_length : List ℕ → ℕ
 footer_length bytes = little_endian (take 4 (drop (length bytes - 8) bytes))
 
@@ -27,7 +27,7 @@ footer_length bytes = little_endian (take 4 (drop (length bytes - 8) bytes))
 abbrev pub footer_place : List ℕ → ℕ
 footer_place bytes = length bytes - 8 - footer_length bytes
 
--- 12 bytes at least, both magics, and room for the footer between them
+-- whether there are 12 bytes at least, both magics, and room for the footer between them
 abbrev pub is_framed : List ℕ → Bool
 is_framed bytes = nat_le 12 (length bytes) && bytes_eq (take 4 bytes) magic && bytes_eq (drop (length bytes - 4) bytes) magic && nat_le (footer_length bytes) (length bytes - 12)
 
@@ -47,7 +47,7 @@ abbrev pub meta_read : Reading CompactFault Struct → Option FileMeta
 meta_read (got s rest) = meta_of (view_file s)
 meta_read (refused e rest) = None
 
--- the footer's bytes begin with a FileMetaData with its needed fields in range
+-- the metadata with which the footer's bytes begin, if its needed fields are there and in range
 abbrev pub footer_meta : List ℕ → Option FileMeta
 footer_meta bytes = meta_read (read_struct (take (footer_length bytes) (drop (footer_place bytes) bytes)))
 
@@ -56,7 +56,7 @@ abbrev pub has_no_path : Option (List ℕ) → Bool
 has_no_path None = true
 has_no_path (Some p) = false
 
--- as many columns as the file has leaves, none in another file
+-- whether a row group has as many columns as the file has leaves, and none of them in another file
 abbrev pub is_whole_group : ℕ → RowGroup → Bool
 is_whole_group leaves g = (length g.columns == leaves) && list_all (λ (c : ColumnChunk). has_no_path c.file_path) g.columns
 
@@ -79,7 +79,7 @@ abbrev pub is_found : Option ℕ → Bool
 is_found None = false
 is_found (Some i) = true
 
--- each of these leaves is an open leaf of the file
+-- whether each of these leaves is an open leaf of the file
 abbrev pub has_leaves : Footer → List Leaf → Bool
 has_leaves f F = list_all (λ l. is_found (leaf_place f l)) F
 
@@ -89,7 +89,7 @@ nth_chunk [] i = None
 nth_chunk (c ∷ cs) zero = Some c
 nth_chunk (c ∷ cs) (suc i) = nth_chunk cs i
 
--- chunks belong to leaves by position
+-- the chunk of a leaf in a row group; chunks belong to leaves by position
 abbrev pub leaf_chunk : Footer → Leaf → RowGroup → Option ColumnMeta
 leaf_chunk f l g = option_and_then (λ i. option_map (λ (c : ColumnChunk). c.meta) (nth_chunk g.columns i)) (leaf_place f l)
 
@@ -98,7 +98,7 @@ abbrev pub is_uncompressed : Option ColumnMeta → Bool
 is_uncompressed None = true
 is_uncompressed (Some m) = is_number 0 m.codec
 
--- each chunk of these leaves has the codec UNCOMPRESSED 0
+-- whether each chunk of these leaves has the codec UNCOMPRESSED 0
 abbrev pub are_uncompressed : Footer → List Leaf → Bool
 are_uncompressed f F = list_all (λ l. list_all (λ g. is_uncompressed (leaf_chunk f l g)) f.meta.groups) F
 
@@ -109,15 +109,15 @@ abbrev pub total : {A : Type 0} → (A → ℕ) → List A → ℕ
 total f [] = 0
 total f (x ∷ xs) = f x + total f xs
 
--- 1,000,000,000 rows of a file
+-- how many rows a file may have
 abbrev pub most_rows : ℕ
 most_rows = 1000000000
 
--- 2^40 triplets of a leaf
+-- how many triplets of a leaf a file may have
 abbrev pub most_triplets : ℕ
 most_triplets = 2 ^ 40
 
--- the file's rows are those of its row groups, and not too many
+-- whether the file's rows are those of its row groups, and not too many
 abbrev pub rows_agree : Footer → Bool
 rows_agree f = (total (λ (g : RowGroup). g.rows) f.meta.groups == f.meta.rows) && nat_le f.meta.rows most_rows
 
@@ -126,11 +126,11 @@ abbrev pub chunk_values : Option ColumnMeta → ℕ
 chunk_values None = 0
 chunk_values (Some m) = m.values
 
--- of no leaf are there too many triplets
+-- whether of each leaf there are not too many triplets
 abbrev pub values_fit : Footer → List Leaf → Bool
 values_fit f F = list_all (λ l. nat_le (total (λ g. chunk_values (leaf_chunk f l g)) f.meta.groups) most_triplets) F
 
--- the triplets at which a record begins
+-- how many triplets begin a record
 abbrev pub starts : List Triplet → ℕ
 starts ts = total (λ (t : Triplet). if t.repetition == 0 then 1 else 0) ts
 
@@ -139,7 +139,7 @@ abbrev pub begins_record : List Triplet → Bool
 begins_record [] = true
 begins_record (t ∷ ts) = t.repetition == 0
 
--- triplets of so many whole records
+-- the triplets, if they are those of so many whole records
 abbrev pub of_rows : ℕ → List Triplet → Option (List Triplet)
 of_rows rows ts = if begins_record ts && (starts ts == rows) then Some ts else None
 
@@ -158,7 +158,7 @@ file_column bytes f l = groups_column bytes f l f.meta.groups
 
 -- ---- files of records
 
--- the records have these columns
+-- the columns of the records are those of the file, for these leaves
 abbrev pub AreColumns : List ℕ → Footer → List Leaf → List Node → Type 0
 AreColumns bytes f F R = map (file_column bytes f) F ≡ map (λ (l : Leaf). Some (column l.path R)) F
 
@@ -193,7 +193,7 @@ abbrev pub is_decoded : Option (List Triplet) → Bool
 is_decoded None = false
 is_decoded (Some ts) = true
 
--- rows and numbers of triplets agree, and each chunk spells triplets of its rows
+-- whether rows and numbers of triplets agree, and each chunk spells triplets of its rows
 abbrev pub has_columns : List ℕ → Footer → List Leaf → Bool
 has_columns bytes f F = rows_agree f && values_fit f F && list_all (λ l. is_decoded (file_column bytes f l)) F
 

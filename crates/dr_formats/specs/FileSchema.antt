@@ -24,12 +24,12 @@ pub record FileSchema : Type 0 where
 
 -- ---- the tree of the list of elements
 
--- REQUIRED 0, OPTIONAL 1, REPEATED 2 (parquet.thrift, FieldRepetitionType)
+-- the repetition of a number: REQUIRED 0, OPTIONAL 1, REPEATED 2 (parquet.thrift, FieldRepetitionType)
 abbrev pub repetition_from : Option ℤ → Option Repetition
 repetition_from None = None
 repetition_from (Some z) = if is_number 0 z then Some required else (if is_number 1 z then Some optional else (if is_number 2 z then Some repeated else None))
 
--- what is read of the list: fields or a shape, and the elements behind
+-- fields, and the elements behind them
 pub record FieldsRead : Type 0 where
   pub fields : FileFields
   pub behind : List SchemaElement
@@ -61,12 +61,12 @@ fields_read zero (suc n) es = None
 fields_read (suc k) (suc n) [] = None
 fields_read (suc k) (suc n) (e ∷ es) = option_and_then (λ (r : Repetition). option_and_then (λ (s : ShapeRead). option_map (with_first e.name r s.shape) (fields_read k n s.behind)) (shape_read (fields_read k) e e.type e.children es)) (repetition_from e.repetition)
 
--- a tree with nothing left over
+-- the tree, if no element is left over
 abbrev pub whole_schema : List ℕ → FieldsRead → List SchemaElement → Option FileSchema
 whole_schema n f [] = Some (record { name = n; fields = f.fields })
 whole_schema n f (e ∷ es) = None
 
--- the root has no type; its repetition isn't looked at
+-- the tree of the root, which has no type, and the elements behind it; its repetition isn't looked at
 abbrev pub root_read : SchemaElement → Option ℤ → Option ℤ → List SchemaElement → Option FileSchema
 root_read e None (Some (pos n)) es = option_and_then (λ (f : FieldsRead). whole_schema e.name f f.behind) (fields_read (length es) n es)
 root_read e t n es = None
@@ -78,12 +78,12 @@ file_schema (e ∷ es) = root_read e e.type e.children es
 
 -- ---- open leaves
 
--- DECIMAL 5, UINT_32 13, UINT_64 14, BSON 20 and INTERVAL 21 are closed (parquet.thrift, ConvertedType); any other isn't looked at
+-- whether a converted type is open: DECIMAL 5, UINT_32 13, UINT_64 14, BSON 20 and INTERVAL 21 are not (parquet.thrift, ConvertedType)
 abbrev pub is_open_conversion : Option ℤ → Bool
 is_open_conversion None = true
 is_open_conversion (Some z) = not (is_number 5 z || is_number 13 z || is_number 14 z || is_number 20 z || is_number 21 z)
 
--- BOOLEAN 0, INT32 1, INT64 2, BYTE_ARRAY 6 (parquet.thrift, Type)
+-- the kind of a type: BOOLEAN 0, INT32 1, INT64 2, BYTE_ARRAY 6 (parquet.thrift, Type)
 abbrev pub kind_from : ℤ → Option Kind
 kind_from t = if is_number 0 t then Some bool_kind else (if is_number 1 t then Some int32_kind else (if is_number 2 t then Some int64_kind else (if is_number 6 t then Some text_kind else None)))
 
@@ -113,17 +113,17 @@ abbrev pub leaf_under : List ℕ → Repetition → Bool → FileLeaf → FileLe
 leaf_under n r b l = record { names = n ∷ l.names; repetitions = r ∷ l.repetitions; kind = only_if b l.kind }
 
 abbrev mutual
-  -- of a group whose earlier fields have these names
+  -- the leaves of a group's fields, where earlier fields have these names
   pub leaves_under : List (List ℕ) → FileFields → List FileLeaf
   leaves_under earlier no_file_fields = []
   leaves_under earlier (file_field n r s fs) = map (leaf_under n r (is_open_name earlier n)) (shape_leaves_under s) ++ leaves_under (n ∷ earlier) fs
 
-  -- of a shape
+  -- the leaves of a shape
   pub shape_leaves_under : FileShape → List FileLeaf
   shape_leaves_under (file_leaf t c) = record { names = []; repetitions = []; kind = open_kind t c } ∷ []
   shape_leaves_under (file_group fs) = leaves_under [] fs
 
--- a leaf below 32 parts is closed
+-- a leaf, closed where it is below 32 parts
 abbrev pub within_depth : FileLeaf → FileLeaf
 within_depth l = record l { kind = only_if (nat_le (length l.names) greatest_depth) l.kind }
 
@@ -141,7 +141,7 @@ same_kind int64_kind int64_kind = true
 same_kind text_kind text_kind = true
 same_kind k l = false
 
--- whether it is the open kind
+-- whether a leaf is open and of this kind
 abbrev pub is_kind : Kind → Option Kind → Bool
 is_kind k None = false
 is_kind k (Some l) = same_kind k l
@@ -162,14 +162,14 @@ same_repetitions p rs = false
 abbrev pub is_leaf_for : Leaf → FileLeaf → Bool
 is_leaf_for l f = same_names l.names f.names && same_repetitions l.path f.repetitions && is_kind l.kind f.kind
 
--- its place among the leaves, from 0
+-- the place of a schema's leaf among the leaves of a file, from 0
 abbrev pub place_of : Leaf → List FileLeaf → Option ℕ
 place_of l [] = None
 place_of l (f ∷ fs) = if is_leaf_for l f then Some 0 else option_map (λ i. suc i) (place_of l fs)
 
 -- ---- the open part of the schema
 
--- fields or a shape of the open part, and how many leaves may still come
+-- the open part of fields, and how many leaves may still come
 pub record OpenFields : Type 0 where
   pub fields : Fields
   pub left : ℕ
@@ -212,12 +212,12 @@ abbrev pub put_open : List ℕ → Repetition → OpenShape → (ℕ → OpenFie
 put_open n r s rest = put_shape n r s.shape (rest s.left)
 
 abbrev mutual
-  -- at most so many parts on a path, at most so many leaves
+  -- the open part of a group's fields, where earlier fields have these names, with at most so many parts on a path and so many leaves
   pub open_fields : List (List ℕ) → ℕ → FileFields → ℕ → OpenFields
   open_fields earlier d no_file_fields n = record { fields = no_fields; left = n }
   open_fields earlier d (file_field name r s fs) n = put_open name r (if is_open_name earlier name then open_below d s n else closed_shape n) (open_fields (name ∷ earlier) d fs)
 
-  -- of the shape of a field with an open name
+  -- the open part of the shape of a field with an open name
   pub open_below : ℕ → FileShape → ℕ → OpenShape
   open_below zero s n = closed_shape n
   open_below (suc d) (file_leaf t c) n = open_leaf (open_kind t c) n

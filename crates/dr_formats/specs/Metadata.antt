@@ -40,7 +40,7 @@ abbrev pub all_as : {A : Type 0} → (Item → Option A) → Items → Option (L
 all_as f no_items = Some []
 all_as f (item x xs) = option_and_then (λ a. option_map (λ rest. a ∷ rest) (all_as f xs)) (f x)
 
--- a list counts as one of structs only where that is its element type, also where it is empty
+-- a list of structs; it counts as one only where that is its element type, also where it is empty
 abbrev pub as_structs : Item → Option (List Struct)
 as_structs (list_item struct_type xs) = all_as as_struct xs
 as_structs x = None

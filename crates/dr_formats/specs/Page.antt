@@ -40,19 +40,19 @@ abbrev pub is_number : ℕ → ℤ → Bool
 is_number n (pos m) = m == n
 is_number n (negsuc m) = false
 
--- PLAIN
+-- the encoding PLAIN
 abbrev pub plain_encoding : ℕ
 plain_encoding = 0
 
--- PLAIN_DICTIONARY
+-- the encoding PLAIN_DICTIONARY
 abbrev pub plain_dictionary_encoding : ℕ
 plain_dictionary_encoding = 2
 
--- RLE, that of the hybrid
+-- the encoding RLE, that of the hybrid
 abbrev pub rle_encoding : ℕ
 rle_encoding = 3
 
--- RLE_DICTIONARY
+-- the encoding RLE_DICTIONARY
 abbrev pub rle_dictionary_encoding : ℕ
 rle_dictionary_encoding = 8
 
@@ -86,7 +86,7 @@ encoded_values encoding k dictionary n bytes = if is_number plain_encoding encod
 abbrev pub values : ℤ → Kind → List Value → ℕ → Reader PageFault (List Value)
 values encoding k dictionary n bytes = found (encoded_values encoding k dictionary n bytes) []
 
--- how many levels are the greatest
+-- how many levels are this one
 abbrev pub count_equal : ℕ → List ℕ → ℕ
 count_equal g [] = 0
 count_equal g (l ∷ ls) = if l == g then suc (count_equal g ls) else count_equal g ls
@@ -130,7 +130,7 @@ page_triplets s dictionary bytes = triplets_read (page_body s dictionary bytes)
 
 -- ---- what is written: level encodings RLE, values PLAIN
 
--- levels: nothing where the greatest is 0, else the length in four bytes and hybrid data
+-- the bytes that are written for levels: none where the greatest is 0, else the length in four bytes and hybrid data
 abbrev pub level_bytes : ℕ → List ℕ → List ℕ
 level_bytes zero ls = []
 level_bytes (suc g) ls = little_endian_bytes 4 (length (hybrid_bytes (level_width (suc g)) ls)) ++ hybrid_bytes (level_width (suc g)) ls
@@ -167,6 +167,6 @@ same_truth true b = b
 same_truth false true = false
 same_truth false false = true
 
--- levels at most the greatest, and a value of the kind exactly where the definition level is the greatest
+-- whether levels are at most the greatest, with a value of the kind exactly where the definition level is the greatest
 abbrev pub is_triplet : Kind → ℕ → ℕ → Triplet → Bool
 is_triplet k max_r max_d t = nat_le t.repetition max_r && nat_le t.definition max_d && same_truth (t.definition == max_d) (has_value t.value) && is_value_of k t.value

@@ -18,7 +18,7 @@ pub data PlainFault : Type 0 where
 abbrev pub from_complement : ℕ → ℕ → ℤ
 from_complement bits x = if nat_lt x (2 ^ (bits - 1)) then pos x else negsuc (2 ^ bits - 1 - x)
 
--- its bits, as a number that isn't negative
+-- the bits of a number, as a number that isn't negative
 abbrev pub complement : ℕ → ℤ → ℕ
 complement bits (pos n) = n
 complement bits (negsuc n) = 2 ^ bits - 1 - n
@@ -33,7 +33,7 @@ repeatedly read (suc n) = do
   xs ← repeatedly read n
   give (x ∷ xs)
 
--- INT32 and INT64: little-endian
+-- INT32 and INT64: a number of so many bits, little-endian
 abbrev pub plain_number : ℕ → Reader PlainFault Value
 plain_number bits = do
   b ← bytes_of too_short (bits / 8)
@@ -50,11 +50,11 @@ plain_text = do
   t ← bytes_of too_short (little_endian b)
   checked_text t
 
--- BOOLEAN: one bit each, from the lowest on
+-- 1 for true
 abbrev pub truth_of_bit : ℕ → Value
 truth_of_bit x = bool_value (x == 1)
 
--- n truth values
+-- BOOLEAN: n truth values of one bit each, from the lowest on
 abbrev pub plain_truths : ℕ → Reader PlainFault (List Value)
 plain_truths n = do
   b ← bytes_of too_short (bytes_for n)
@@ -124,12 +124,12 @@ plain_bytes int32_kind vs = joined (plain_number_bytes 32) vs
 plain_bytes int64_kind vs = joined (plain_number_bytes 64) vs
 plain_bytes text_kind vs = joined plain_text_bytes vs
 
--- a value of a kind, whose length, if it is a text, fits four bytes
+-- whether the length of a value, if it is a text, fits four bytes
 abbrev pub has_short_text : Value → Bool
 has_short_text (bool_value b) = true
 has_short_text (int_value z) = true
 has_short_text (text_value t) = nat_lt (length t) (2 ^ 32)
 
--- a value of the kind that can be written
+-- whether a value is of the kind and can be written
 abbrev pub is_writable : Kind → Value → Bool
 is_writable k v = is_of_kind k v && has_short_text v

@@ -25,15 +25,15 @@ pub data TableFault : Type 0 where
 
 -- ---- the limits
 
--- 2,097,152 bytes
+-- how many bytes a table file may have
 abbrev pub longest_table : ℕ
 longest_table = 2097152
 
--- 4,096
+-- how many tablets a table may have
 abbrev pub most_tablets : ℕ
 most_tablets = 4096
 
--- 64
+-- how many leaf lines, and so copies, there may be
 abbrev pub most_leaf_lines : ℕ
 most_leaf_lines = 64
 
@@ -63,7 +63,7 @@ behind_word (w ∷ ws) (b ∷ bs) = if w == b then behind_word ws bs else None
 abbrev pub is_digit : ℕ → Bool
 is_digit b = nat_le 48 b && nat_le b 57
 
--- the number of digits behind a number
+-- the number that digits write behind those of a number
 abbrev pub digits_value : ℕ → List ℕ → ℕ
 digits_value n [] = n
 digits_value n (b ∷ bs) = digits_value (10 * n + (b - 48)) bs
@@ -110,7 +110,7 @@ checked_schema leaves copies tablets (Err e) = Err (bad_table_schema e)
 abbrev pub at_schema : ℕ → ℕ → List (List ℕ) → List ℕ → Result Table TableFault
 at_schema tablets copies leaves t = if nat_le copies (length leaves) then checked_schema leaves copies tablets (parse_schema t) else Err bad_copies
 
--- a leaf line, or `schema` after one leaf line at least
+-- the table at a line that is a leaf line, or `schema` where the leaf lines may end
 abbrev pub on_leaf : ℕ → ℕ → List (List ℕ) → List ℕ → Bool → (List (List ℕ) → Result Table TableFault) → Option (List ℕ) → Result Table TableFault
 on_leaf tablets copies leaves behind may_end next (Some d) = next (leaves ++ d ∷ [])
 on_leaf tablets copies leaves behind true next None = at_schema tablets copies leaves behind
@@ -120,33 +120,33 @@ on_leaf tablets copies leaves behind false next None = Err (bad_leaf (length lea
 abbrev pub is_schema_line : List (List ℕ) → List ℕ → Bool
 is_schema_line leaves t = nat_lt 0 (length leaves) && bytes_eq t (codes "schema")
 
--- with room for so many more leaf lines
+-- the table from the nth leaf line on, with room for so many more, where these directories come before
 abbrev pub leaf_lines : ℕ → ℕ → ℕ → List (List ℕ) → Option Line → Result Table TableFault
 leaf_lines room tablets copies leaves None = Err (bad_leaf (length leaves))
 leaf_lines zero tablets copies leaves (Some l) = on_leaf tablets copies leaves l.behind (is_schema_line leaves l.text) (λ ds. Err (bad_leaf (length leaves))) None
 leaf_lines (suc room) tablets copies leaves (Some l) = on_leaf tablets copies leaves l.behind (is_schema_line leaves l.text) (λ ds. leaf_lines room tablets copies ds (first_line l.behind)) (leaf_line l.text)
 
--- behind the third line, with its number
+-- the table from the leaf lines on
 abbrev pub at_leaves : ℕ → List ℕ → Option ℕ → Result Table TableFault
 at_leaves tablets t None = Err bad_copies
 at_leaves tablets t (Some copies) = leaf_lines most_leaf_lines tablets copies [] (first_line t)
 
--- at the third line
+-- the table from the third line on
 abbrev pub on_copies : ℕ → Option Line → Result Table TableFault
 on_copies tablets None = Err bad_copies
 on_copies tablets (Some l) = at_leaves tablets l.behind (number_behind (codes "copies ") most_leaf_lines l.text)
 
--- behind the second line, with its number
+-- the table behind the second line
 abbrev pub at_copies : List ℕ → Option ℕ → Result Table TableFault
 at_copies t None = Err bad_tablets
 at_copies t (Some tablets) = on_copies tablets (first_line t)
 
--- at the second line
+-- the table from the second line on
 abbrev pub on_tablets : Option Line → Result Table TableFault
 on_tablets None = Err bad_tablets
 on_tablets (Some l) = at_copies l.behind (number_behind (codes "tablets ") most_tablets l.text)
 
--- at the first line
+-- the table from the first line on
 abbrev pub on_head : Option Line → Result Table TableFault
 on_head None = Err bad_head
 on_head (Some l) = if bytes_eq l.text (codes "dremel-table 1") then on_tablets (first_line l.behind) else Err bad_head

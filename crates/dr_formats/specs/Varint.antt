@@ -35,7 +35,7 @@ abbrev pub varint_bytes_from : ℕ → ℕ → List ℕ
 varint_bytes_from zero n = n ∷ []
 varint_bytes_from (suc k) n = if nat_lt n 128 then n ∷ [] else (128 + n % 128) ∷ varint_bytes_from k (n / 128)
 
--- of a number below 2^64
+-- the varint that is written for a number below 2^64
 abbrev pub varint_bytes : ℕ → List ℕ
 varint_bytes n = varint_bytes_from 9 n
 
@@ -52,13 +52,13 @@ from_zigzag n = if n % 2 == 0 then pos (n / 2) else negsuc (n / 2)
 
 -- ---- every spelling, as a relation between bytes and numbers
 
--- 128 and more where another byte follows, less at the last
+-- whether a varint ends with the bytes: 128 and more where another byte follows, less at the last
 abbrev pub is_chain : List ℕ → Bool
 is_chain [] = false
 is_chain (b ∷ []) = nat_lt b 128
 is_chain (b ∷ c ∷ bs) = nat_le 128 b && is_chain (c ∷ bs)
 
--- seven bits a byte, the low part first
+-- the number of a varint's bytes: seven bits of each, the low part first
 abbrev pub seven_bits : List ℕ → ℕ
 seven_bits [] = 0
 seven_bits (b ∷ bs) = b % 128 + 128 * seven_bits bs
@@ -67,10 +67,10 @@ seven_bits (b ∷ bs) = b % 128 + 128 * seven_bits bs
 abbrev pub SpellsVarint : ℕ → List ℕ → ℕ → Type 0
 SpellsVarint bound bytes n = (is_chain bytes ≡ true) × (length bytes ≤ 10) × (seven_bits bytes ≡ n) × (n < bound)
 
--- one of a number below 2^64
+-- a varint of at most 10 bytes of a number below 2^64
 abbrev pub SpellsNumber : List ℕ → ℕ → Type 0
 SpellsNumber bytes n = SpellsVarint (2 ^ 64) bytes n
 
--- a zigzag varint
+-- a varint of the zigzag of a signed number
 abbrev pub SpellsSigned : ℕ → List ℕ → ℤ → Type 0
 SpellsSigned bound bytes z = (n : ℕ) × SpellsVarint bound bytes n × (from_zigzag n ≡ z)

@@ -13,15 +13,15 @@ use Rattle.dr_formats.specs.File.{magic}
 
 -- ---- pages
 
--- 4,096
+-- the triplets with which a page is full, 4,096
 abbrev pub enough_triplets : ℕ
 enough_triplets = 4096
 
--- 1,048,576
+-- the bytes of PLAIN values with which a page is full, 1,048,576
 abbrev pub enough_bytes : ℕ
 enough_bytes = 2 ^ 20
 
--- a page that closes at the next record's end
+-- whether a page closes at the end of its last record
 abbrev pub is_full : Kind → List Triplet → Bool
 is_full k ts = nat_le enough_triplets (length ts) || nat_le enough_bytes (length (plain_bytes k (column_values ts)))
 
@@ -35,7 +35,7 @@ abbrev pub closed_page : Bool → List Triplet → List (List Triplet)
 closed_page true ts = ts ∷ []
 closed_page false ts = []
 
--- the page that is open then
+-- the page that is open behind it
 abbrev pub open_page : Bool → List Triplet → List Triplet
 open_page true ts = []
 open_page false ts = ts
@@ -45,7 +45,7 @@ abbrev pub cut_pages : Kind → List Triplet → List (List Triplet) → List (L
 cut_pages k page [] = last_page page
 cut_pages k page (c ∷ cs) = closed_page (is_full k (page ++ c)) (page ++ c) ++ cut_pages k (open_page (is_full k (page ++ c)) (page ++ c)) cs
 
--- DATA_PAGE, both sizes the body's, values PLAIN, levels RLE
+-- the header of a page as it is written: DATA_PAGE, both sizes the body's, values PLAIN, levels RLE
 abbrev pub header_of_page : ℕ → ℕ → PageHeader
 header_of_page n size = record { type = pos 0; uncompressed_size = Some (pos size); compressed_size = size; data_page = Some (record { values = n; encoding = pos 0; definition_encoding = pos 3; repetition_encoding = pos 3 }); dictionary_page = None; data_page_v2 = None }
 
@@ -72,19 +72,19 @@ record_columns l R = map (record_column l.path) R
 abbrev pub written_chunk : Leaf → List Node → List ℕ
 written_chunk l R = pages_bytes l (cut_pages l.kind [] (record_columns l R))
 
--- how many triplets they have together
+-- how many triplets lists have together
 abbrev pub triplet_count : List (List Triplet) → ℕ
 triplet_count [] = 0
 triplet_count (c ∷ cs) = length c + triplet_count cs
 
--- BOOLEAN 0, INT32 1, INT64 2, BYTE_ARRAY 6
+-- the type of a kind: BOOLEAN 0, INT32 1, INT64 2, BYTE_ARRAY 6
 abbrev pub type_from : Kind → ℕ
 type_from bool_kind = 0
 type_from int32_kind = 1
 type_from int64_kind = 2
 type_from text_kind = 6
 
--- its column chunk, of so many bytes at a place
+-- the column chunk of a leaf, for a chunk of so many bytes at a place
 abbrev pub chunk_at : Leaf → List Node → ℕ → ℕ → ColumnChunk
 chunk_at l R place size = record { file_path = None; file_offset = Some (pos place); meta = record { type = pos (type_from l.kind); encodings = Some (pos 0 ∷ pos 3 ∷ []); path = Some l.names; codec = pos 0; values = triplet_count (record_columns l R); uncompressed_size = Some (pos size); compressed_size = size; data_page_offset = place; dictionary_page_offset = None } }
 
@@ -108,13 +108,13 @@ chunks_from R (l ∷ ls) place = chunk_and_rest l R place (written_chunk l R) (c
 
 -- ---- schema elements
 
--- REQUIRED 0, OPTIONAL 1, REPEATED 2
+-- the number of a repetition: REQUIRED 0, OPTIONAL 1, REPEATED 2
 abbrev pub repetition_number : Repetition → ℕ
 repetition_number required = 0
 repetition_number optional = 1
 repetition_number repeated = 2
 
--- UTF8 0 for texts
+-- the converted type of a kind: UTF8 0 for texts
 abbrev pub converted_from : Kind → Option ℤ
 converted_from bool_kind = None
 converted_from int32_kind = None
@@ -135,17 +135,17 @@ abbrev pub group_element : List ℕ → Option ℤ → Fields → SchemaElement
 group_element n r fs = record { type = None; type_length = None; repetition = r; name = n; children = Some (pos (count_fields fs)); converted = None }
 
 abbrev mutual
-  -- of fields, depth first
+  -- the schema elements of fields, depth first
   pub elements : Fields → List SchemaElement
   elements no_fields = []
   elements (field n r s fs) = shape_elements n r s ++ elements fs
 
-  -- of a field's shape
+  -- the schema elements of a field
   pub shape_elements : List ℕ → Repetition → Shape → List SchemaElement
   shape_elements n r (leaf k) = leaf_element n r k ∷ []
   shape_elements n r (group fs) = group_element n (Some (pos (repetition_number r))) fs ∷ elements fs
 
--- the root, which has no repetition, and then the fields depth first
+-- the schema elements of a schema: the root, which has no repetition, and then the fields depth first
 abbrev pub schema_elements : Schema → List SchemaElement
 schema_elements s = group_element s.name None s.fields ∷ elements s.fields
 
@@ -159,7 +159,7 @@ written_groups rows w = record { columns = w.columns; total_byte_size = Some (po
 abbrev pub file_meta : Schema → ℕ → List RowGroup → FileMeta
 file_meta s rows gs = record { version = Some (pos 1); schema = schema_elements s; rows = rows; groups = gs; created_by = Some (codes "dremel-nested 1") }
 
--- magic, chunks, footer, the footer's length, magic
+-- a file: magic, chunks, footer, the footer's length, magic
 abbrev pub framed : List ℕ → List ℕ → List ℕ
 framed chunks footer = magic ++ (chunks ++ (footer ++ (little_endian_bytes 4 (length footer) ++ magic)))
 
@@ -168,7 +168,7 @@ abbrev pub written_chunks : Schema → List Node → WrittenChunks
 written_chunks s [] = record { bytes = []; columns = [] }
 written_chunks s (n ∷ ns) = chunks_from (n ∷ ns) (leaves s.fields) 4
 
--- without records there is no row group, else there is one
+-- the row groups of records: none without records, else one
 abbrev pub groups_of : Schema → List Node → List RowGroup
 groups_of s [] = []
 groups_of s (n ∷ ns) = written_groups (length (n ∷ ns)) (written_chunks s (n ∷ ns))
