@@ -1,5 +1,5 @@
 -- A whole file, by computation: one record of one required leaf.
-use Rattle.std.proofs.Common.{arith}
+use Rattle.std.proofs.Common.{arith, None}
 use Rattle.std.specs.Prelude.{◌≡◌, ℕ, List, [], ◌∷◌, pos, codes, refl}
 use Rattle.dr_meaning.specs.Schema.{no_fields, field, leaf, Schema, required, int64_kind}
 use Rattle.dr_meaning.specs.Record.{int_value, Node, no_slots, slot, no_instances, instance, atom}
@@ -7,6 +7,14 @@ use Rattle.dr_formats.specs.Compact.{struct_bytes}
 use Rattle.dr_formats.specs.Hybrid.{hybrid_bytes}
 use Rattle.dr_formats.specs.Page.{body_bytes}
 use Rattle.dr_formats.specs.Metadata.{page_tree}
+use Rattle.std.specs.Str.{is_utf8, chars}
+use Rattle.dr_meaning.specs.Path.{leaves}
+use Rattle.dr_meaning.proofs.WorkedSchemas.{document, document_schema}
+use Rattle.dr_meaning.proofs.WorkedRecords.{record_10, record_20}
+use Rattle.dr_formats.specs.Compact.{read_struct}
+use Rattle.dr_formats.specs.Hybrid.{hybrid}
+use Rattle.dr_formats.specs.Page.{page_triplets}
+use Rattle.dr_formats.specs.File.{footer_of, known_cause}
 use Rattle.dr_formats.specs.WritingLaws.{FitsFile}
 use Rattle.dr_formats.specs.Writing.{header_of_page, file_bytes}
 
@@ -40,3 +48,12 @@ one_file_is_written = refl
 pub one_file_fits : FitsFile one_schema (one_record ∷ [])
 unfolding file_bytes struct_bytes body_bytes hybrid_bytes
 one_file_fits = (refl, refl, refl, omega arith, (omega arith, (omega arith, omega arith, tt), tt), omega arith, omega arith)
+
+-- ---- a file of nested records: the two worked records with all their leaves
+
+abbrev pub document_file : List ℕ
+document_file = file_bytes document_schema (record_10 ∷ record_20 ∷ [])
+
+pub document_file_has_no_cause : known_cause document_file (leaves document) ≡ None
+unfolding file_bytes struct_bytes body_bytes hybrid_bytes footer_of read_struct page_triplets hybrid is_utf8 chars lib.Utf8.encode
+document_file_has_no_cause = refl
