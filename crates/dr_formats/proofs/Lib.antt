@@ -13,6 +13,9 @@ pub mod VarintLemmas
 pub mod CompactLemmas
 pub mod GrammarReads
 pub mod GrammarSound
+pub mod LocalLemmas
+pub mod CompactLocal
+pub mod FaultLemmas
 -- lemmas of hybrid data, PLAIN values and page bodies
 pub mod LittleEndianLemmas
 pub mod HybridLemmas
