@@ -20,6 +20,7 @@ all_triplets (p ∷ ps) = p ++ all_triplets ps
 abbrev pub IsPage : Leaf → List Triplet → Type 0
 IsPage l p = (list_all (is_triplet l.kind (max_repetition l.path) (max_definition l.path)) p ≡ true) × (length p < 2 ^ 31) × (length (body_bytes l.kind (max_repetition l.path) (max_definition l.path) p) < 2 ^ 63)
 
+-- lists of triplets of which each fits a page
 abbrev pub ArePages : Leaf → List (List Triplet) → Type 0
 ArePages l [] = Unit {0}
 ArePages l (p ∷ ps) = IsPage l p × ArePages l ps
