@@ -14,6 +14,7 @@ use Rattle.dr_nested.specs.Views.{node_view}
 use Rattle.dr_nested.specs.declared.path.Path.{Path}
 use Rattle.dr_nested.specs.declared.record.Node as code
 use Rattle.dr_striper.specs.Striping.{gained}
+use Rattle.dr_striper.proofs.GrowthLemmas.{columns-push}
 use Rattle.dr_assemble.specs.Restoring.{strips, restored_records}
 use Rattle.dr_assemble.specs.Assembly.{HasColumns}
 use Rattle.dr_assemble.specs.Views.{paths_view, nodes_view, columns_at, Restores}
@@ -124,14 +125,6 @@ nothing_restored see m AssembleFault.BadData h q = h
 nothing_restored see m AssembleFault.NoMemory h q = absurd (cc)
 
 -- ---- the columns of nodes, one node after another
-
-column-push : (p : List Step) (R : List Node) (n : Node) → column p R ++ record_column p n ≡ column p (R ++ n ∷ [])
-column-push p [] n = sym (append-nil (record_column p n))
-column-push p (m ∷ R) n = append_assoc (record_column p m) (column p R) (record_column p n) ∙ ap (λ (ts : List Triplet). record_column p m ++ ts) (column-push p R n)
-
-columns-push : (F : List (List Step)) (R : List Node) (n : Node) → gained (λ (p : List Step). record_column p n) F (map (λ (p : List Step). column p R) F) ≡ map (λ (p : List Step). column p (R ++ n ∷ [])) F
-columns-push [] R n = refl
-columns-push (p ∷ F) R n = ap₂ (λ (c : List Triplet) (C : List (List Triplet)). c ∷ C) (column-push p R n) (columns-push F R n)
 
 no_columns : (ps : List Path) → replicate (length ps) [] ≡ columns_at ps []
 no_columns [] = refl

@@ -9,6 +9,6 @@ mod LoopLemmas
 -- columns compared
 mod ComparingLemmas
 -- paths that are found
-pub mod FoundLemmas
+pub mod PushLemmas
 -- worked examples, by computation
 mod WorkedAssembly

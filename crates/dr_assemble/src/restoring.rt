@@ -11,40 +11,8 @@ ghost use Rattle.dr_assemble.specs.Views.{strips_view, Restores};
 use crate::fault::AssembleFault;
 use crate::strip::{Strip, count_pieces, cut, strips_by_place};
 use dr_levels::Triplet;
-use dr_nested::{Field, Instance, Kind, Node, Rep, Shape, Slot, Value, copy_value};
+use dr_nested::{Field, Instance, Kind, Node, Rep, Shape, Slot, Value, copy_value, is_of_kind};
 use std::alloc::Global;
-
-/// Whether whole numbers of a kind include this one.
-fn is_number_of(kind: Kind, number: i64) -> bool
-    ensures { result ≡ record_tree.is_of_kind (kind_view kind) (record_tree.int_value number) }
-{
-    match kind {
-        Kind::I32 => i32::try_from(number).is_ok(),
-        Kind::I64 => true,
-        Kind::Bool | Kind::Text => false,
-    }
-}
-
-/// Whether a text is of a kind.
-fn is_text_of(kind: Kind, text: &str) -> bool
-    ensures { result ≡ record_tree.is_of_kind (kind_view kind) (record_tree.text_value text.now) }
-{
-    match kind {
-        Kind::Text => true,
-        Kind::Bool | Kind::I32 | Kind::I64 => false,
-    }
-}
-
-/// Whether a value is of a kind.
-fn is_of_kind(kind: Kind, value: &Value) -> bool
-    ensures { result ≡ record_tree.is_of_kind (kind_view kind) (value_view value.now) }
-{
-    match value {
-        Value::Bool(_) => matches!(kind, Kind::Bool),
-        Value::Int(number) => is_number_of(kind, *number),
-        Value::Text(text) => is_text_of(kind, text.as_str()),
-    }
-}
 
 /// The value of a column's first triplet.
 fn first_value(triplets: &[Triplet]) -> Option<&Value>

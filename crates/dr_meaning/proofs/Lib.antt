@@ -25,3 +25,4 @@ pub mod Blocks
 pub mod ColumnLemmas
 -- the record of a line is within the limits
 pub mod RecordLimits
+pub mod FoundLemmas

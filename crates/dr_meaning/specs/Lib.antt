@@ -25,6 +25,7 @@ pub mod Stripe
 pub mod Fsm
 -- laws, each proved on a law function of src/
 pub mod SchemaTextLaws
+pub mod PathLaws
 pub mod ProjectionLaws
 pub mod MeaningLaws
 pub mod ColumnLaws

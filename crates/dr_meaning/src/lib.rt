@@ -4,5 +4,6 @@
 
 pub mod column_laws;
 pub mod meaning_laws;
+pub mod path_laws;
 pub mod projection_laws;
 pub mod schema_laws;

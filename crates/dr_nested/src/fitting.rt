@@ -30,8 +30,8 @@ fn is_text_of(kind: Kind, text: &str) -> bool
     }
 }
 
-/// Whether a value is of a kind.
-fn is_of_kind(kind: Kind, value: &Value) -> bool
+/// Whether a value is of a kind, and a whole number in its range.
+pub fn is_of_kind(kind: Kind, value: &Value) -> bool
     ensures { result ≡ record_tree.is_of_kind (kind_view kind) (value_view value.now) }
 {
     match value {

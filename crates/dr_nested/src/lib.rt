@@ -21,7 +21,7 @@ mod writing;
 pub use copying::copy_value;
 pub use fault::{NoMemory, PathFault, SchemaFault, SchemaProblem};
 pub use finding::find;
-pub use fitting::is_record;
+pub use fitting::{is_of_kind, is_record};
 pub use looking::instances_at;
 pub use parsing::{LONGEST_SCHEMA, parse_schema};
 pub use path::{Path, Step};

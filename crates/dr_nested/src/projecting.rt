@@ -6,9 +6,9 @@ ghost use Rattle.dr_nested.specs.Views.{instance_view, instances_view, slot_view
 ghost use Rattle.dr_nested.specs.PathView.{path_view};
 ghost use Rattle.dr_nested.specs.Projecting.{lent_path, at_place, projected};
 
+use crate::copying::copy_value;
 use crate::fault::NoMemory;
 use crate::path::{Path, Step};
-use crate::copying::copy_value;
 use crate::record::{Instance, Node, Slot};
 use std::alloc::{AllocError, Global};
 

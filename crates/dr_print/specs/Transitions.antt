@@ -7,9 +7,11 @@ use Rattle.dr_meaning.specs.Automaton.{leaf_name, target_name}
 use Rattle.dr_nested.specs.PathView.{path_view}
 use Rattle.dr_nested.specs.declared.path.Path.{Path}
 
+-- a leaf that is lent
 abbrev pub lent_leaf : Bor Path → Leaf
 lent_leaf p = path_view p.now
 
+-- leaves that are lent
 abbrev pub lent_leaves : List (Bor Path) → List Leaf
 lent_leaves ps = map lent_leaf ps
 

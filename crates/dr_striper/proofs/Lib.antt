@@ -1,3 +1,4 @@
 pub mod GainLemmas
 pub mod PassLemmas
 pub mod CutLemmas
+pub mod GrowthLemmas

@@ -48,9 +48,12 @@ pub stripe_line_refused : (files : Option Files) (input : Option (List ℕ)) (pa
 unfolding meant_stripe.stripe
 stripe_line_refused None input path p text field s l r e t f g h = tt
 stripe_line_refused (Some fs) None path p text field s l r e t f g h = tt
-stripe_line_refused (Some fs) (Some bytes) path p text field s l r e t f g h =
-    (f.0, ap fs (sym e) ∙ f.1, ap (meant_stripe.stripe_schema field bytes) f.2 ∙ ap (meant_stripe.stripe_field s bytes) (ap (λ x. find_leaf x s.fields) (sym t) ∙ g)
-    ∙ ap (meant_stripe.stripe_records l) h.1 ∙ ap Err (sym h.2))
+stripe_line_refused (Some fs) (Some bytes) path p text field s l r e t f g h = (
+  f.0,
+  ap fs (sym e) ∙ f.1,
+  ap (meant_stripe.stripe_schema field bytes) f.2 ∙ ap (meant_stripe.stripe_field s bytes) (ap (λ x. find_leaf x s.fields) (sym t) ∙ g)
+      ∙ ap (meant_stripe.stripe_records l) h.1 ∙ ap Err (sym h.2),
+)
 
 only : (a b : List Triplet) → a ∷ [] ≡ b ∷ [] → a ≡ b
 only a b e = cc
@@ -60,9 +63,12 @@ pub stripe_answers : (files : Option Files) (input : Option (List ℕ)) (path p 
 unfolding meant_stripe.stripe
 stripe_answers None input path p text field s l column out e t f g h o = tt
 stripe_answers (Some fs) None path p text field s l column out e t f g h o = tt
-stripe_answers (Some fs) (Some bytes) path p text field s l column out e t f g h o =
-    (f.0, ap fs (sym e) ∙ f.1, ap (meant_stripe.stripe_schema field bytes) f.2 ∙ ap (meant_stripe.stripe_field s bytes) (ap (λ x. find_leaf x s.fields) (sym t) ∙ g)
-    ∙ ap (meant_stripe.stripe_records l) h.1 ∙ ap (λ (x : List Triplet). Ok (meant_stripe.column_text x)) (sym (only column _ h.2)) ∙ ap (λ (x : List ℕ). Ok x) (sym o))
+stripe_answers (Some fs) (Some bytes) path p text field s l column out e t f g h o = (
+  f.0,
+  ap fs (sym e) ∙ f.1,
+  ap (meant_stripe.stripe_schema field bytes) f.2 ∙ ap (meant_stripe.stripe_field s bytes) (ap (λ x. find_leaf x s.fields) (sym t) ∙ g)
+      ∙ ap (meant_stripe.stripe_records l) h.1 ∙ ap (λ (x : List Triplet). Ok (meant_stripe.column_text x)) (sym (only column _ h.2)) ∙ ap (λ (x : List ℕ). Ok x) (sym o),
+)
 
 -- ---- fsm
 
@@ -81,14 +87,20 @@ pub fsm_field_refused : (files : Option Files) (input : Option (List ℕ)) (path
     → NamesLeaves (meant_fsm.named_leaves s.fields [] 0 texts) (Err stop) → HasAnswer files input (fsm_of p fields) (Err (refusal_view r))
 unfolding meant_fsm.fsm
 fsm_field_refused None input path p texts fields s stop r e t f q h = tt
-fsm_field_refused (Some fs) input path p texts fields s stop r e t f q h =
-    (f.0, ap fs (sym e) ∙ f.1, ap (meant_fsm.fsm_schema fields) f.2
-    ∙ ap (meant_fsm.fsm_named s.fields) (ap (meant_fsm.named_leaves s.fields [] 0) (sym t) ∙ refused_name (meant_fsm.named_leaves s.fields [] 0 texts) stop r q h))
+fsm_field_refused (Some fs) input path p texts fields s stop r e t f q h = (
+  f.0,
+  ap fs (sym e) ∙ f.1,
+  ap (meant_fsm.fsm_schema fields) f.2
+      ∙ ap (meant_fsm.fsm_named s.fields) (ap (meant_fsm.named_leaves s.fields [] 0) (sym t) ∙ refused_name (meant_fsm.named_leaves s.fields [] 0 texts) stop r q h),
+)
 
 pub fsm_answers : (files : Option Files) (input : Option (List ℕ)) (path p : List ℕ) (texts fields : List (List ℕ)) (s : Schema) (ls : List Leaf) (out : List ℕ) → path ≡ p → texts ≡ fields → IsFileSchema files path s
     → meant_fsm.named_leaves s.fields [] 0 texts ≡ Ok ls → out ≡ meant_fsm.fsm_leaves s.fields ls → HasAnswer files input (fsm_of p fields) (Ok out)
 unfolding meant_fsm.fsm
 fsm_answers None input path p texts fields s ls out e t f g o = tt
-fsm_answers (Some fs) input path p texts fields s ls out e t f g o =
-    (f.0, ap fs (sym e) ∙ f.1, ap (meant_fsm.fsm_schema fields) f.2 ∙ ap (meant_fsm.fsm_named s.fields) (ap (meant_fsm.named_leaves s.fields [] 0) (sym t) ∙ g)
-    ∙ ap (λ (x : List ℕ). Ok x) (sym o))
+fsm_answers (Some fs) input path p texts fields s ls out e t f g o = (
+  f.0,
+  ap fs (sym e) ∙ f.1,
+  ap (meant_fsm.fsm_schema fields) f.2 ∙ ap (meant_fsm.fsm_named s.fields) (ap (meant_fsm.named_leaves s.fields [] 0) (sym t) ∙ g)
+      ∙ ap (λ (x : List ℕ). Ok x) (sym o),
+)

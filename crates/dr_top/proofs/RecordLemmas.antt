@@ -77,10 +77,11 @@ refuses_record fs most number n before now bytes line stop r e h g k c l m =
 -- the next line is too long
 pub refuses_long : (fs : Fields) (most number n : ℕ) (before : Option (List ℕ)) (r : RefusalType) → RefusalType.Line n LineProblem.TooLong ≡ r → n ≡ number + 1 → IsTooLong before → RefusesNext fs most number before r
 refuses_long fs most number n None r e k t = tt
-refuses_long fs most number n (Some all) r e k t =
-    (record { line = suc number; fault = line_too_long },
-    ap (records_from fs most (suc number)) t.2 ∙ ap (λ (x : Result Node LineFault). or_refusal (suc number) x (records_from fs most (suc (suc number)) t.1)) (at_long_line fs most (suc number) t.0 t.3),
-    number_told n (suc number) LineProblem.TooLong line_too_long r e refl (k ∙ add-one number))
+refuses_long fs most number n (Some all) r e k t = (
+  record { line = suc number; fault = line_too_long },
+  ap (records_from fs most (suc number)) t.2 ∙ ap (λ (x : Result Node LineFault). or_refusal (suc number) x (records_from fs most (suc (suc number)) t.1)) (at_long_line fs most (suc number) t.0 t.3),
+  number_told n (suc number) LineProblem.TooLong line_too_long r e refl (k ∙ add-one number),
+)
 
 -- ---- behind the records read before
 
@@ -108,11 +109,12 @@ pub read_more : (fs : Fields) (most : ℕ) (P Q : List Node → Type 0) (all bef
 read_more fs most P Q None before now number n h t f = tt
 read_more fs most P Q (Some all) None now number n h t f = absurd h
 read_more fs most P Q (Some all) (Some rest) None number n h t f = absurd t
-read_more fs most P Q (Some all) (Some rest) (Some others) number n h t f =
-    (h.0 ++ n ∷ [],
-    h.1 ∙ ap (behind h.0) t ∙ behind_more h.0 n (records_from fs most (suc (suc number)) (lines_of others))
+read_more fs most P Q (Some all) (Some rest) (Some others) number n h t f = (
+  h.0 ++ n ∷ [],
+  h.1 ∙ ap (behind h.0) t ∙ behind_more h.0 n (records_from fs most (suc (suc number)) (lines_of others))
       ∙ ap (λ (j : ℕ). behind (h.0 ++ n ∷ []) (records_from fs most (suc j) (lines_of others))) (sym (add-one number)),
-    f h.0 h.2)
+  f h.0 h.2,
+)
 
 pub read_all : (fs : Fields) (most : ℕ) (P : List Node → Type 0) (all before now : Option (List ℕ)) (number : ℕ) → HasRead fs most P all before number → IsEnd before now → OfRecords fs most P all
 unfolding records_of

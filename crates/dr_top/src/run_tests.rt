@@ -191,3 +191,136 @@ fn failures_outside_have_their_status(rt: HostRuntime) -> Result<(), Fail> {
     }
     Ok(())
 }
+
+const COUNTRIES: &str = "\"us\" 0 3\nNULL 2 2\nNULL 1 1\n\"gb\" 1 3\nNULL 0 1\n";
+
+const TWO_LEAVES: &str =
+    "DocId 0 Name.Language.Country\nName.Language.Country 0 end\nName.Language.Country 1 Name.Language.Country\nName.Language.Country 2 Name.Language.Country\n";
+
+#[test]
+fn columns_and_automata_are_printed(rt: HostRuntime) -> Result<(), Fail> {
+    let rows: [(&[&str], &str, u8, &str, &str); 12] = [
+        (
+            &[
+                "dremel",
+                "stripe",
+                "--schema=document.txt",
+                "Name.Language.Country",
+            ],
+            RECORDS,
+            0,
+            COUNTRIES,
+            "",
+        ),
+        (
+            &[
+                "dremel",
+                "stripe",
+                "--schema=document.txt",
+                "Links.Backward",
+            ],
+            RECORDS,
+            0,
+            "NULL 0 1\n10 0 2\n30 1 2\n",
+            "",
+        ),
+        (
+            &["dremel", "stripe", "--schema=document.txt", "Links.Forward"],
+            RECORDS,
+            0,
+            "20 0 2\n40 1 2\n60 1 2\n80 0 2\n",
+            "",
+        ),
+        (
+            &["dremel", "stripe", "--schema=document.txt", "DocId"],
+            "",
+            0,
+            "",
+            "",
+        ),
+        (
+            &["dremel", "stripe", "--schema=document.txt", "Name"],
+            "{}\n",
+            2,
+            "",
+            "refused field 0: NotALeaf\n",
+        ),
+        (
+            &["dremel", "stripe", "--schema=document.txt", "DocId"],
+            "{}\n",
+            2,
+            "",
+            "refused line 1: MissingField\n",
+        ),
+        (
+            &["dremel", "stripe", "--schema=document.txt"],
+            RECORDS,
+            1,
+            "",
+            USAGE,
+        ),
+        (
+            &[
+                "dremel",
+                "fsm",
+                "--schema=document.txt",
+                "Name.Language.Country",
+                "DocId",
+                "DocId",
+            ],
+            "",
+            0,
+            TWO_LEAVES,
+            "",
+        ),
+        (
+            &["dremel", "fsm", "--schema=document.txt", "Name"],
+            "",
+            2,
+            "",
+            "refused field 0: NotALeaf\n",
+        ),
+        (
+            &[
+                "dremel",
+                "fsm",
+                "--schema=document.txt",
+                "DocId",
+                "Nam",
+                "Name",
+            ],
+            "",
+            2,
+            "",
+            "refused field 1: UnknownField\n",
+        ),
+        (
+            &["dremel", "fsm", "--schema=document.txt"],
+            "",
+            1,
+            "",
+            USAGE,
+        ),
+        (
+            &["dremel", "fsm", "--schema", "other.txt", "DocId"],
+            "",
+            4,
+            "",
+            "outside: keeper\n",
+        ),
+    ];
+    for (words, input, status, out, err) in rows {
+        let outside = Outside {
+            schema: DOCUMENT,
+            input,
+            read: 0,
+            write: 0,
+            complaint: 0,
+        };
+        let end = end_of(&rt, rt.alloc(), words, &outside)?;
+        assert_eq!(rt; end.status, status);
+        assert_eq!(rt; end.out.as_str(), out);
+        assert_eq!(rt; end.err.as_str(), err);
+    }
+    Ok(())
+}

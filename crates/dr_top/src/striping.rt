@@ -24,12 +24,7 @@ use std::alloc::Global;
 /// The leaf of a FIELD of this number.
 ///
 /// Errors: the FIELD is refused; want of memory.
-pub fn find_field(
-    alloc: Global,
-    schema: &Schema,
-    text: &str,
-    number: usize,
-) -> Result<Path, Stop>
+pub fn find_field(alloc: Global, schema: &Schema, text: &str, number: usize) -> Result<Path, Stop>
     ensures { FindsField (find_leaf text.now (fields_view (schema.now).fields.items)) number result }
 {
     match find(alloc, schema, text) {

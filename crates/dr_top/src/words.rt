@@ -153,11 +153,7 @@ fn ask_of(alloc: Global, matches: &ArgMatches<'_>) -> Result<Ask, WordsFault>
 }
 
 /// All values of an option or word.
-fn values_of(
-    alloc: Global,
-    matches: &ArgMatches<'_>,
-    name: &str,
-) -> Result<Vec<String>, WordsFault>
+fn values_of(alloc: Global, matches: &ArgMatches<'_>, name: &str) -> Result<Vec<String>, WordsFault>
     ensures { Answers (λ v. map string_bytes v.items) (all_of name.now (rows_of (found_of matches.now))) result }
 {
     match matches.get_strs(name) {

@@ -1,6 +1,6 @@
 use Rattle.dr_nested.specs.Views.{fields_view}
 use Rattle.dr_nested.specs.PathView.{path_view}
-use Rattle.dr_assemble.proofs.FoundLemmas.{found_is_leaf}
+use Rattle.dr_meaning.proofs.FoundLemmas.{found_is_leaf}
 use Rattle.dr_assemble.proofs.tests.field_of.Goals as goal
 
 pub returns-in-Ok : goal.returns-in-Ok

@@ -6,7 +6,7 @@ use Rattle.dr_nested.specs.Views.{fields_view}
 use Rattle.dr_nested.specs.PathView.{path_view}
 use Rattle.dr_nested.specs.declared.path.Path.{Path}
 use Rattle.dr_assemble.specs.Views.{paths_view}
-use Rattle.dr_assemble.proofs.FoundLemmas.{all_push}
+use Rattle.dr_assemble.proofs.PushLemmas.{all_push}
 use Rattle.dr_assemble.proofs.tests.fields_of.Goals as goal
 
 pub names-preserved : goal.names-preserved

@@ -79,10 +79,3 @@ leaf_is ns fs (Some f) l h e = by_shape f.shape refl e where
 -- the path of a leaf that was found is a leaf path
 pub found_is_leaf : (text : List ℕ) (fs : Fields) (l : Leaf) → find_leaf text fs ≡ Ok l → is_leaf_path fs l.path ≡ true
 found_is_leaf text fs l e = leaf_is (cut_at_dots text) fs (find_path (cut_at_dots text) fs) l refl e
-
--- one more that passes a test that all pass
-pub all_push : {A : Type 0} (test : A → Bool) (xs : List A) (x : A) → list_all test xs ≡ true → test x ≡ true → list_all test (xs ++ x ∷ []) ≡ true
-all_push test [] x h e = ap (λ b. b && true) e
-all_push test (y ∷ xs) x h e =
-    let k : (test y ≡ true) × (list_all test xs ≡ true) = and_parts _ _ h in
-    ap₂ (λ a b. a && b) k.0 (all_push test xs x k.1 e)

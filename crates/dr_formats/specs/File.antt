@@ -1,0 +1,220 @@
+-- Files: the footer, which files are files of records for a set of leaves, and the causes for which others are not (Apache Parquet, "File format").
+use Rattle.std.specs.Prelude.{◌≡◌, ℕ, zero, suc, ◌+◌, ◌-◌, ◌^◌, List, [], ◌∷◌, ◌++◌, map, length, take, drop, Bool, true, false, ◌&&◌, ◌==◌, nat_le, if◌then◌else◌, bytes_eq, Option, Some, None, option_map, option_and_then, Result, Ok, Err}
+use Rattle.std.specs.List.{list_all}
+use Rattle.dr_meaning.specs.Schema.{Schema}
+use Rattle.dr_meaning.specs.Path.{Leaf}
+use Rattle.dr_meaning.specs.Record.{Node, is_record}
+use Rattle.dr_meaning.specs.Column.{Triplet, column}
+use Rattle.dr_formats.specs.Reading.{Reading, got, refused}
+use Rattle.dr_formats.specs.LittleEndian.{little_endian}
+use Rattle.dr_formats.specs.Compact.{CompactFault, Struct, read_struct}
+use Rattle.dr_formats.specs.Metadata.{MetaFault, ColumnMeta, ColumnChunk, RowGroup, FileMeta, view_file}
+use Rattle.dr_formats.specs.FileSchema.{FileSchema, file_schema, file_leaves, place_of, open_schema}
+use Rattle.dr_formats.specs.Page.{is_number}
+use Rattle.dr_formats.specs.Chunk.{chunk_triplets}
+
+-- ---- the footer
+
+-- `PAR1`
+abbrev pub magic : List ℕ
+magic = 80 ∷ 65 ∷ 82 ∷ 49 ∷ []
+
+-- the footer's length, in the four bytes before the last magic
+abbrev pub footer_length : List ℕ → ℕ
+footer_length bytes = little_endian (take 4 (drop (length bytes - 8) bytes))
+
+-- where the footer begins
+abbrev pub footer_place : List ℕ → ℕ
+footer_place bytes = length bytes - 8 - footer_length bytes
+
+-- whether there are 12 bytes at least, both magics, and room for the footer between them
+abbrev pub is_framed : List ℕ → Bool
+is_framed bytes = nat_le 12 (length bytes) && bytes_eq (take 4 bytes) magic && bytes_eq (drop (length bytes - 4) bytes) magic && nat_le (footer_length bytes) (length bytes - 12)
+
+-- where the footer begins, its metadata, the tree of its schema elements
+pub record Footer : Type 0 where
+  pub place : ℕ
+  pub meta : FileMeta
+  pub schema : FileSchema
+
+-- the metadata, where none of its fields is missing or out of range
+abbrev pub meta_of : Result FileMeta MetaFault → Option FileMeta
+meta_of (Ok m) = Some m
+meta_of (Err e) = None
+
+-- the metadata of what was read, where that is a struct
+abbrev pub meta_read : Reading CompactFault Struct → Option FileMeta
+meta_read (got s rest) = meta_of (view_file s)
+meta_read (refused e rest) = None
+
+-- the metadata with which the footer's bytes begin, if its needed fields are there and in range
+abbrev pub footer_meta : List ℕ → Option FileMeta
+footer_meta bytes = meta_read (read_struct (take (footer_length bytes) (drop (footer_place bytes) bytes)))
+
+-- whether a chunk lies in this file
+abbrev pub has_no_path : Option (List ℕ) → Bool
+has_no_path None = true
+has_no_path (Some p) = false
+
+-- whether a row group has as many columns as the file has leaves, and none of them in another file
+abbrev pub is_whole_group : ℕ → RowGroup → Bool
+is_whole_group leaves g = (length g.columns == leaves) && list_all (λ (c : ColumnChunk). has_no_path c.file_path) g.columns
+
+-- the footer, where each row group has a chunk for each leaf of this schema
+abbrev pub with_schema : ℕ → FileMeta → FileSchema → Option Footer
+with_schema place m s = if list_all (is_whole_group (length (file_leaves s.fields))) m.groups then Some (record { place = place; meta = m; schema = s }) else None
+
+-- the footer of a file, if it has one
+unfoldable pub footer_of : List ℕ → Option Footer
+footer_of bytes = if is_framed bytes then option_and_then (λ (m : FileMeta). option_and_then (with_schema (footer_place bytes) m) (file_schema m.schema)) (footer_meta bytes) else None
+
+-- ---- the chunks of a leaf
+
+-- the place of a schema's leaf among the leaves of the file
+abbrev pub leaf_place : Footer → Leaf → Option ℕ
+leaf_place f l = place_of l (file_leaves f.schema.fields)
+
+-- whether there is a place
+abbrev pub is_found : Option ℕ → Bool
+is_found None = false
+is_found (Some i) = true
+
+-- whether each of these leaves is an open leaf of the file
+abbrev pub has_leaves : Footer → List Leaf → Bool
+has_leaves f F = list_all (λ l. is_found (leaf_place f l)) F
+
+-- the chunk at this place
+abbrev pub nth_chunk : List ColumnChunk → ℕ → Option ColumnChunk
+nth_chunk [] i = None
+nth_chunk (c ∷ cs) zero = Some c
+nth_chunk (c ∷ cs) (suc i) = nth_chunk cs i
+
+-- the chunk of a leaf in a row group; chunks belong to leaves by position
+abbrev pub leaf_chunk : Footer → Leaf → RowGroup → Option ColumnMeta
+leaf_chunk f l g = option_and_then (λ i. option_map (λ (c : ColumnChunk). c.meta) (nth_chunk g.columns i)) (leaf_place f l)
+
+-- whether a chunk has the codec 0
+abbrev pub is_uncompressed : Option ColumnMeta → Bool
+is_uncompressed None = true
+is_uncompressed (Some m) = is_number 0 m.codec
+
+-- whether each chunk of these leaves has the codec UNCOMPRESSED 0
+abbrev pub are_uncompressed : Footer → List Leaf → Bool
+are_uncompressed f F = list_all (λ l. list_all (λ g. is_uncompressed (leaf_chunk f l g)) f.meta.groups) F
+
+-- ---- rows and columns
+
+-- the sum of a number of each
+abbrev pub total : {A : Type 0} → (A → ℕ) → List A → ℕ
+total f [] = 0
+total f (x ∷ xs) = f x + total f xs
+
+-- how many rows a file may have
+abbrev pub most_rows : ℕ
+most_rows = 1000000000
+
+-- how many triplets of a leaf a file may have
+abbrev pub most_triplets : ℕ
+most_triplets = 2 ^ 40
+
+-- whether the file's rows are those of its row groups, and not too many
+abbrev pub rows_agree : Footer → Bool
+rows_agree f = (total (λ (g : RowGroup). g.rows) f.meta.groups == f.meta.rows) && nat_le f.meta.rows most_rows
+
+-- how many triplets a chunk is said to have
+abbrev pub chunk_values : Option ColumnMeta → ℕ
+chunk_values None = 0
+chunk_values (Some m) = m.values
+
+-- whether of each leaf there are not too many triplets
+abbrev pub values_fit : Footer → List Leaf → Bool
+values_fit f F = list_all (λ l. nat_le (total (λ g. chunk_values (leaf_chunk f l g)) f.meta.groups) most_triplets) F
+
+-- how many triplets begin a record
+abbrev pub starts : List Triplet → ℕ
+starts ts = total (λ (t : Triplet). if t.repetition == 0 then 1 else 0) ts
+
+-- whether the first triplet begins a record
+abbrev pub begins_record : List Triplet → Bool
+begins_record [] = true
+begins_record (t ∷ ts) = t.repetition == 0
+
+-- the triplets, if they are those of so many whole records
+abbrev pub of_rows : ℕ → List Triplet → Option (List Triplet)
+of_rows rows ts = if begins_record ts && (starts ts == rows) then Some ts else None
+
+-- the triplets of a leaf in a row group, where they are of the group's rows
+abbrev pub group_column : List ℕ → Footer → Leaf → RowGroup → Option (List Triplet)
+group_column bytes f l g = option_and_then (λ m. option_and_then (of_rows g.rows) (chunk_triplets bytes f.place l m)) (leaf_chunk f l g)
+
+-- those of row groups, one after another
+abbrev pub groups_column : List ℕ → Footer → Leaf → List RowGroup → Option (List Triplet)
+groups_column bytes f l [] = Some []
+groups_column bytes f l (g ∷ gs) = option_and_then (λ ts. option_map (λ more. ts ++ more) (groups_column bytes f l gs)) (group_column bytes f l g)
+
+-- a leaf's triplets, joined over the row groups, each of whose chunks has those of the group's rows
+abbrev pub file_column : List ℕ → Footer → Leaf → Option (List Triplet)
+file_column bytes f l = groups_column bytes f l f.meta.groups
+
+-- ---- files of records
+
+-- the columns of the records are those of the file, for these leaves
+abbrev pub AreColumns : List ℕ → Footer → List Leaf → List Node → Type 0
+AreColumns bytes f F R = map (file_column bytes f) F ≡ map (λ (l : Leaf). Some (column l.path R)) F
+
+-- a footer's data is that of these records of the schema
+abbrev pub IsDataOf : List ℕ → Footer → Schema → List Leaf → List Node → Type 0
+IsDataOf bytes f s F R = (rows_agree f ≡ true) × (values_fit f F ≡ true) × (length R ≡ f.meta.rows) × (list_all (is_record s.fields) R ≡ true) × AreColumns bytes f F R
+
+-- the bytes are a file of these records of the schema, for these of its leaves
+abbrev pub IsFileOf : List ℕ → Schema → List Leaf → List Node → Type 0
+IsFileOf bytes s F R = (f : Footer) × (footer_of bytes ≡ Some f) × (has_leaves f F ≡ true) × (are_uncompressed f F ≡ true) × IsDataOf bytes f s F R
+
+-- ---- causes
+
+-- no footer; a leaf that isn't an open leaf of the file; a chunk with another codec; no records
+pub data FileCause : Type 0 where
+  bad_footer : FileCause
+  bad_schema : FileCause
+  bad_codec : FileCause
+  bad_data : FileCause
+
+-- the cause for which bytes are no file of any records of the schema for these leaves: it holds, and none before it does
+abbrev pub HasCause : List ℕ → Schema → List Leaf → FileCause → Type 0
+HasCause bytes s F bad_footer = footer_of bytes ≡ None
+HasCause bytes s F bad_schema = (f : Footer) × (footer_of bytes ≡ Some f) × (has_leaves f F ≡ false)
+HasCause bytes s F bad_codec = (f : Footer) × (footer_of bytes ≡ Some f) × (has_leaves f F ≡ true) × (are_uncompressed f F ≡ false)
+HasCause bytes s F bad_data = (f : Footer) × (footer_of bytes ≡ Some f) × (has_leaves f F ≡ true) × (are_uncompressed f F ≡ true) × ((R : List Node) → IsDataOf bytes f s F R → ⊥)
+
+-- ---- a test for causes: of the last it knows only the reasons that need no records
+
+-- whether there are triplets
+abbrev pub is_decoded : Option (List Triplet) → Bool
+is_decoded None = false
+is_decoded (Some ts) = true
+
+-- whether rows and numbers of triplets agree, and each chunk spells triplets of its rows
+abbrev pub has_columns : List ℕ → Footer → List Leaf → Bool
+has_columns bytes f F = rows_agree f && values_fit f F && list_all (λ l. is_decoded (file_column bytes f l)) F
+
+-- the cause by these tests, in their order
+abbrev pub footer_cause : List ℕ → List Leaf → Option Footer → Option FileCause
+footer_cause bytes F None = Some bad_footer
+footer_cause bytes F (Some f) = if has_leaves f F then (if are_uncompressed f F then (if has_columns bytes f F then None else Some bad_data) else Some bad_codec) else Some bad_schema
+
+-- the cause of bytes, as far as the test knows
+abbrev pub known_cause : List ℕ → List Leaf → Option FileCause
+known_cause bytes F = footer_cause bytes F (footer_of bytes)
+
+-- the open part of a file's schema, or the cause for which there is none
+abbrev pub schema_or_cause : Option Footer → Result Schema FileCause
+schema_or_cause None = Err bad_footer
+schema_or_cause (Some f) = by_schema (open_schema f.schema)
+  where
+    by_schema : Option Schema → Result Schema FileCause
+    by_schema None = Err bad_schema
+    by_schema (Some s) = Ok s
+
+-- the open part of the schema of a file, or the cause for which there is none
+abbrev pub schema_of_file : List ℕ → Result Schema FileCause
+schema_of_file bytes = schema_or_cause (footer_of bytes)

@@ -1,0 +1,19 @@
+//! Laws of what is written.
+
+ghost use Rattle.dr_formats.specs.WritingLaws.{PagesKeepTriplets, WrittenFileIsFile, WrittenMetadataIsViewed, WrittenPagesAreRead};
+
+/// The struct that is written for metadata is viewed as that metadata.
+pub fn written_metadata_is_viewed()
+    ensures { WrittenMetadataIsViewed }
+{}
+
+/// Cutting columns into pages keeps their triplets, and the pages that are written are read as these.
+pub fn written_pages_are_read()
+    ensures kept { PagesKeepTriplets }
+    ensures read { WrittenPagesAreRead }
+{}
+
+/// The file that is written for records is a file of these records, for any of the schema's leaves.
+pub fn written_file_is_file()
+    ensures { WrittenFileIsFile }
+{}
