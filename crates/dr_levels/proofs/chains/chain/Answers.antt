@@ -18,7 +18,7 @@ steps-preserved c =
     let k = c.steps.place in
     let rest = onto (seen p (k + 1)) (chain (ahead p (k + 1))) in
     elim c.if-is_repeated.branch [
-      then-is_repeated+in-Ok w ↦ ap (λ v. map lent_path v.items ++ rest) w.repeated-is ∙ ap (λ rs. map lent_path rs ++ rest) w.in-Ok.ensures.items
-        ∙ ap (λ rs. rs ++ rest) (map-append lent_path c.steps.repeated.items _) ∙ one_more p k _ (map lent_path c.steps.repeated.items) c.steps-test.true (sym w.if-is_repeated.ensures) ∙ c.steps.invariant
-    | else-is_repeated w ↦ ap (λ v. map lent_path v.items ++ rest) w.repeated-is ∙ none_more p k _ (map lent_path c.steps.repeated.items) c.steps-test.true (sym w.if-is_repeated.ensures) ∙ c.steps.invariant
+      | then-is_repeated+in-Ok w ↦ ap (λ v. map lent_path v.items ++ rest) w.repeated-is ∙ ap (λ rs. map lent_path rs ++ rest) w.in-Ok.ensures.items
+          ∙ ap (λ rs. rs ++ rest) (map-append lent_path c.steps.repeated.items _) ∙ one_more p k _ (map lent_path c.steps.repeated.items) c.steps-test.true (sym w.if-is_repeated.ensures) ∙ c.steps.invariant
+      | else-is_repeated w ↦ ap (λ v. map lent_path v.items ++ rest) w.repeated-is ∙ none_more p k _ (map lent_path c.steps.repeated.items) c.steps-test.true (sym w.if-is_repeated.ensures) ∙ c.steps.invariant
     ]
