@@ -1,6 +1,5 @@
-use Rattle.std.proofs.Common.{◌≡◌, ◌<◌, ◌+◌, ◌++◌, List, map, get_or, refl, sym, ap, ◌∙◌}
+use Rattle.std.proofs.Common.{◌+◌, ◌++◌, map, sym, ap, ◌∙◌}
 use Rattle.std.proofs.lemmas.List.{map-append}
-use Rattle.dr_meaning.specs.Schema.{is_repeated}
 use Rattle.dr_meaning.specs.Path.{chain}
 use Rattle.dr_nested.specs.Projecting.{lent_path}
 use Rattle.dr_levels.proofs.ChainLemmas.{onto, seen, ahead, at_first, one_more, none_more}
