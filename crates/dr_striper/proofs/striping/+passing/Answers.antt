@@ -1,12 +1,9 @@
-use Rattle.std.proofs.Common.{◌≡◌, ◌++◌, ◌∷◌, ◌+◌, ◌≤◌, List, length, map, take, drop, sym, ap, ◌∙◌, subst, arith, refl}
-use Rattle.std.proofs.lemmas.List.{drop_all, drop_more, map-append}
-use Rattle.dr_meaning.specs.Record.{Instances, Instance, instance}
-use Rattle.dr_nested.specs.declared.record.Instance as code
+use Rattle.std.proofs.Common.{◌≡◌, ◌+◌, length, take, drop, sym, ap, ◌∙◌, subst, arith}
 use Rattle.dr_nested.specs.Views.{instance_view, instances_view}
 use Rattle.dr_nested.specs.PathView.{step_view}
-use Rattle.dr_levels.specs.Views.{column_view, columns_view}
+use Rattle.dr_levels.specs.Views.{columns_view}
 use Rattle.dr_striper.specs.Striping.{Grown, EachGoesOn, Stripes, gained, paths_of, inside_view, path_column, later_columns, field_column}
-use Rattle.dr_striper.proofs.GainLemmas.{gained-nothing, grown-gained, grown-trans, grown-join, grown-refl}
+use Rattle.dr_striper.proofs.GainLemmas.{grown-gained, grown-trans}
 use Rattle.dr_striper.proofs.PassLemmas.{first_passed, later_passed, empty_passed, nothing_left, instances_more, length_paths, length_columns, grown_parts, joined_parts, run_goes_on, run_within, others_all, gained_field}
 use Rattle.dr_striper.proofs.striping.+passing.Goals as goal
 
