@@ -3,7 +3,7 @@ use Rattle.std.specs.Prelude.{◌≡◌, ◌<◌, ◌≤◌, ℕ, ◌+◌, List,
 use Rattle.std.proofs.Common.{refl, sym, ap, ap₂, ◌∙◌, add-one, append_assoc, get_or}
 use Rattle.std.proofs.lemmas.List.{drop_more, drop_all, map-append}
 use Rattle.std.proofs.Math.Seq.{take-suc}
-use Rattle.dr_meaning.specs.Schema.{Repetition, is_repeated}
+use Rattle.dr_meaning.specs.Schema.{is_repeated}
 use Rattle.dr_meaning.specs.Path.{Step, chain}
 use Rattle.dr_nested.specs.PathView.{step_view}
 use Rattle.dr_nested.specs.declared.path.Step as code

@@ -1,5 +1,5 @@
 -- Columns that are cut back, and columns without triplets.
-use Rattle.std.specs.Prelude.{◌≡◌, ◌<◌, ◌≤◌, ℕ, zero, suc, ◌+◌, List, [], ◌∷◌, ◌++◌, length, map, take, drop, get_or, set, replicate}
+use Rattle.std.specs.Prelude.{◌≡◌, ◌<◌, ℕ, zero, suc, ◌+◌, List, [], ◌∷◌, ◌++◌, length, map, take, drop, get_or, set, replicate}
 use Rattle.std.proofs.Common.{refl, sym, ap, ap₂, ◌∙◌, arith, add-one}
 use Rattle.std.proofs.Math.Seq.{take-suc}
 use Rattle.std.proofs.lemmas.List.{map-append, take_more_set, drop-set-lt, length-replicate, length-take-le}
@@ -24,13 +24,14 @@ cut_more now old ns i x y d h l m g a b e =
     let k : i < length old = omega (arith, h, l) in
     let j : i < length ns = omega (arith, h, l, m) in
     let t : columns_view (take (i + 1) old) ≡ columns_view (take i old) ++ column_view x ∷ [] =
-      ap columns_view (ap (λ n. take n old) (add-one i) ∙ take-suc old i x k ∙ ap (λ z. take i old ++ z ∷ []) (sym (same_item now old i x h k b g))) ∙ map-append column_view (take i old) (x ∷ []) in
+    ap columns_view (ap (λ n. take n old) (add-one i) ∙ take-suc old i x k ∙ ap (λ z. take i old ++ z ∷ []) (sym (same_item now old i x h k b g))) ∙ map-append column_view (take i old) (x ∷ []) in
     let u : take (i + 1) ns ≡ take i ns ++ get_or ns i d ∷ [] = ap (λ n. take n ns) (add-one i) ∙ take-suc ns i d j in
     let w : length (take i ns) ≡ length (columns_view (take i old)) =
-      length-take-le i ns (omega (arith, j)) ∙ sym (length-take-le i old (omega (arith, k))) ∙ sym (length_columns (take i old)) in
-    ((ap columns_view (take_more_set now i y h) ∙ map-append column_view (take i now) (y ∷ []) ∙ ap₂ (λ p q. p ++ q ∷ []) a (e ∙ ap (λ z. take (get_or ns i d) (column_view z)) (sym g))
-    ∙ sym (cut_to-join (take i ns) (get_or ns i d) (columns_view (take i old)) (column_view x) w) ∙ ap₂ cut_to (sym u) (sym t)),
-    (drop-set-lt (i + 1) now i y (omega arith) ∙ drop_more_same now old i b))
+    length-take-le i ns (omega (arith, j)) ∙ sym (length-take-le i old (omega (arith, k))) ∙ sym (length_columns (take i old)) in (
+      (ap columns_view (take_more_set now i y h) ∙ map-append column_view (take i now) (y ∷ []) ∙ ap₂ (λ p q. p ++ q ∷ []) a (e ∙ ap (λ z. take (get_or ns i d) (column_view z)) (sym g))
+          ∙ sym (cut_to-join (take i ns) (get_or ns i d) (columns_view (take i old)) (column_view x) w) ∙ ap₂ cut_to (sym u) (sym t)),
+      (drop-set-lt (i + 1) now i y (omega arith) ∙ drop_more_same now old i b),
+    )
 
 take_front : (a b : List Triplet) → take (length a) (a ++ b) ≡ a
 take_front [] b = refl

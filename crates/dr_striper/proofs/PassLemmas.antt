@@ -1,5 +1,5 @@
 -- A pass through a record, path by path.
-use Rattle.std.specs.Prelude.{◌≡◌, ◌<◌, ◌≤◌, ℕ, suc, ◌+◌, ◌-◌, List, [], ◌∷◌, ◌++◌, length, map, take, drop, get_or, set, nat_lt, true, Option, Some, None, Result, Ok, Err}
+use Rattle.std.specs.Prelude.{◌≡◌, ◌<◌, ◌≤◌, ℕ, suc, ◌+◌, ◌-◌, List, [], ◌∷◌, ◌++◌, length, map, take, drop, get_or, set, nat_lt, true, None, Result, Ok, Err}
 use Rattle.std.proofs.Common.{refl, sym, ap, ap₂, ◌∙◌, subst, arith, add-one, length-drop}
 use Rattle.std.proofs.Math.Seq.{take-suc}
 use Rattle.std.proofs.lemmas.List.{drop_more, map-append, take-append-drop, take-set, drop-set, drop-set-lt, take_more_set, drop_all, take_all, length-map, length-take-le}
@@ -47,7 +47,7 @@ pub each_more : (fields : List paths.Path) (d : ℕ) (s : Step) (i : ℕ) (x : p
     → EachGoesOn d s (paths_of (take (i + 1) fields))
 each_more fields d s i x h y g e =
     let k : paths_of (take (i + 1) fields) ≡ paths_of (take i fields) ++ (path_view x).path ∷ [] =
-      ap paths_of (ap (λ n. take n fields) (add-one i) ∙ take-suc fields i x h ∙ ap (λ z. take i fields ++ z ∷ []) (sym y)) ∙ map-append (λ (p : paths.Path). (path_view p).path) (take i fields) (x ∷ []) in
+    ap paths_of (ap (λ n. take n fields) (add-one i) ∙ take-suc fields i x h ∙ ap (λ z. take i fields ++ z ∷ []) (sym y)) ∙ map-append (λ (p : paths.Path). (path_view p).path) (take i fields) (x ∷ []) in
     subst (EachGoesOn d s) (sym k) (each_join d s (paths_of (take i fields)) _ g (e, tt))
 
 -- ---- what an instance gives the paths that go on by a step
@@ -105,10 +105,11 @@ pub appended_more : (t : List Triplet) (now old : List columns.Column) (i : ℕ)
     → columns_view (take i now) ≡ map (λ c. c ++ t) (columns_view (take i old)) → drop i now ≡ drop i old → column_view y ≡ column_view (get_or now i x) ++ t
     → (columns_view (take (i + 1) (set now i y)) ≡ map (λ c. c ++ t) (columns_view (take (i + 1) old))) × (drop (i + 1) (set now i y) ≡ drop (i + 1) old)
 appended_more t now old i x y h l g a b e =
-    let k : i < length old = omega (arith, h, l) in
-    ((ap columns_view (take_more_set now i y h) ∙ map-append column_view (take i now) (y ∷ []) ∙ ap₂ (λ u v. u ++ v ∷ []) a (e ∙ ap (λ z. column_view z ++ t) (sym g))
-    ∙ sym (seen_more (λ c. c ++ t) old i x k (same_item now old i x h k b g))),
-    (drop-set-lt (i + 1) now i y (omega arith) ∙ drop_more_same now old i b))
+    let k : i < length old = omega (arith, h, l) in (
+      (ap columns_view (take_more_set now i y h) ∙ map-append column_view (take i now) (y ∷ []) ∙ ap₂ (λ u v. u ++ v ∷ []) a (e ∙ ap (λ z. column_view z ++ t) (sym g))
+          ∙ sym (seen_more (λ c. c ++ t) old i x k (same_item now old i x h k b g))),
+      (drop-set-lt (i + 1) now i y (omega arith) ∙ drop_more_same now old i b),
+    )
 
 -- a column may have grown where memory was wanting
 pub grown_at : (t : List Triplet) (now old : List columns.Column) (i : ℕ) (x y : columns.Column) → i < length now → length now ≡ length old → x ≡ get_or now i x

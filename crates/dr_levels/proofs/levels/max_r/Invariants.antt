@@ -1,4 +1,4 @@
-use Rattle.std.proofs.Common.{◌≡◌, ◌+◌, ◌≤◌, length, map, drop}
+use Rattle.std.proofs.Common.{◌≡◌, ◌+◌, ◌≤◌, map, drop}
 use Rattle.dr_meaning.specs.Path.{max_repetition}
 use Rattle.dr_nested.specs.PathView.{step_view}
 use Rattle.dr_levels.proofs.levels.max_r.Given as goal

@@ -1,5 +1,4 @@
-use Rattle.std.proofs.Common.{arith, sym, ap, ◌∙◌, take}
-use Rattle.dr_levels.specs.Views.{column_view}
+use Rattle.std.proofs.Common.{arith}
 use Rattle.dr_striper.proofs.CutLemmas.{cut_more}
 use Rattle.dr_striper.proofs.striper.cut_back.Goals as goal
 

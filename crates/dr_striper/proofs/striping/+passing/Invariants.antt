@@ -20,5 +20,5 @@ decreases-stripe_inside l = (40 - l.place.depth) * 2 ^ 66 + length l.fields.now
 abbrev pub invariant-stripe_instances-instances : goal.invariant-stripe_instances-instances
 invariant-stripe_instances-instances l =
     (gained (later_columns l.fn.place (step_view l.fn.step) (instances_view (drop l.instance-index l.later))) (paths_of l.fields) (columns_view l.columns)
-      ≡ gained (field_column l.fn.place (step_view l.fn.step) (instance (instance_view l.fn.first) (instances_view l.fn.later))) (paths_of l.fields) (columns_view l.fn.columns))
+    ≡ gained (field_column l.fn.place (step_view l.fn.step) (instance (instance_view l.fn.first) (instances_view l.fn.later))) (paths_of l.fields) (columns_view l.fn.columns))
     × (Grown (columns_view l.fn.columns) (columns_view l.columns) × (length l.fields ≡ length l.columns))

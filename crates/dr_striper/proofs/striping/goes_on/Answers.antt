@@ -1,4 +1,4 @@
-use Rattle.std.proofs.Common.{◌≡◌, ◌∷◌, ◌+◌, sym, ap, ◌∙◌, subst, true, drop, map, List}
+use Rattle.std.proofs.Common.{◌≡◌, ◌∷◌, ◌+◌, subst, drop, map, List}
 use Rattle.dr_nested.specs.PathView.{step_view}
 use Rattle.dr_nested.specs.declared.path.Step as code
 use Rattle.dr_striper.proofs.PassLemmas.{goes_on_by}

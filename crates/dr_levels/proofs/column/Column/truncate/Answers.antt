@@ -1,4 +1,4 @@
-use Rattle.std.proofs.Common.{◌≡◌, sym, ap, ◌∙◌, map, take}
+use Rattle.std.proofs.Common.{sym, ap, ◌∙◌, map}
 use Rattle.std.proofs.lemmas.List.{take-map}
 use Rattle.dr_levels.specs.Views.{triplet_view}
 use Rattle.dr_levels.proofs.column.Column.truncate.Goals as goal
