@@ -27,4 +27,6 @@ pub use words::{Ask, Command, Fsm, Stripe, USAGE, WordsFault, read_words, taken_
 #[cfg(test)]
 mod counting_tests;
 #[cfg(test)]
+mod round_trip_tests;
+#[cfg(test)]
 mod run_tests;
