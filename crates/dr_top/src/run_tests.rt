@@ -199,7 +199,7 @@ const TWO_LEAVES: &str =
 
 #[test]
 fn columns_and_automata_are_printed(rt: HostRuntime) -> Result<(), Fail> {
-    let rows: [(&[&str], &str, u8, &str, &str); 12] = [
+    let rows: [(&[&str], &str, u8, &str, &str); 14] = [
         (
             &[
                 "dremel",
@@ -229,6 +229,20 @@ fn columns_and_automata_are_printed(rt: HostRuntime) -> Result<(), Fail> {
             RECORDS,
             0,
             "20 0 2\n40 1 2\n60 1 2\n80 0 2\n",
+            "",
+        ),
+        (
+            &["dremel", "stripe", "--schema=document.txt", "DocId"],
+            RECORDS,
+            0,
+            "10 0 0\n20 0 0\n",
+            "",
+        ),
+        (
+            &["dremel", "stripe", "--schema=document.txt", "Name.Url"],
+            RECORDS,
+            0,
+            "\"http://A\" 0 2\n\"http://B\" 1 2\nNULL 1 1\n\"http://C\" 0 2\n",
             "",
         ),
         (
