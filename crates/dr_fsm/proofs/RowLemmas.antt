@@ -74,8 +74,8 @@ filled row d l s other = filled_by (nat_le l d) row d l s other refl
 
 -- ---- the front of a row
 
-pub front_to_next : (order : List (List Step)) (i d : ℕ) (before row : List State) (s : State) → suc i < length order → before ≡ [] → d ≡ common (get_or order i []) (get_or order (suc i) []) → row ≡ before ++ replicate (d + 1 - length before) s
-    → state_view s ≡ Some (suc i) → Answers order i row 0
+pub front_to_next : (order : List (List Step)) (i d : ℕ) (before states : List State) (s : State) → suc i < length order → before ≡ [] → d ≡ common (get_or order i []) (get_or order (suc i) []) → states ≡ before ++ replicate (d + 1 - length before) s
+    → state_view s ≡ Some (suc i) → Answers order i states 0
 front_to_next order i d before row s more none level is to = λ (l : ℕ).
     let f = get_or order i [] in
     let fits : i < length order = omega (arith, more) in
@@ -85,8 +85,8 @@ front_to_next order i d before row s more none level is to = λ (l : ℕ).
     ∙ ap (λ (k : ℕ). if nat_le l k then Some (suc i) else other) level
     ∙ sym (with_next order i l f (get_or order (suc i) []) (slice_get-get_or order i [] fits) (slice_get-get_or order (suc i) [] more))
 
-pub front_to_end : (order : List (List Step)) (i : ℕ) (before row : List State) (s : State) → i < length order → length order ≤ suc i → before ≡ [] → row ≡ before ++ replicate (0 + 1 - length before) s
-    → state_view s ≡ None → Answers order i row 0
+pub front_to_end : (order : List (List Step)) (i : ℕ) (before states : List State) (s : State) → i < length order → length order ≤ suc i → before ≡ [] → states ≡ before ++ replicate (0 + 1 - length before) s
+    → state_view s ≡ None → Answers order i states 0
 front_to_end order i before row s fits last none is to = λ (l : ℕ).
     let f = get_or order i [] in
     let other = first_common 0 f l order in
