@@ -1,14 +1,15 @@
 //! The cutter of lines.
 
-ghost use Rattle.std.specs.Prelude.{◌≡◌, ◌≤◌, ◌<◌, ◌^◌, ◌++◌, ◌∷◌, ℕ, List, [], true, false, length, vec_capacity, IfOk, OnOk, OnErr, IfErr, IfSome, IfNone, Some, None, Ok, Err, take, drop, ◌+◌};
+ghost use Rattle.std.specs.Prelude.{◌≡◌, ◌≢◌, ◌≤◌, ◌<◌, ◌^◌, ◌++◌, ◌∷◌, ℕ, List, [], true, false, length, vec_capacity, IfOk, OnOk, OnErr, IfErr, IfSome, IfNone, Some, None, Ok, Err, take, drop, ◌+◌};
 ghost use Rattle.dr_meaning.specs.Lines.{longest_line};
-ghost use Rattle.dr_outside.specs.Faults.{Rose};
+ghost use Rattle.dr_outside.specs.Faults.{raised};
 ghost use Rattle.dr_lines.specs.Cutting.{pending, last_line, fault_of, rest_of, CutsLine, IsEnd, IsTooLong, Keeps, no_lf};
 
 use crate::cutter::{LineFault, Lines};
+use dr_memory::NoMemory;
 use dr_outside::Source;
 use memchr::memchr;
-use std::alloc::{AllocError, Global};
+use std::alloc::Global;
 
 /// The greatest length of a line, in bytes, without its LF.
 pub const LONGEST_LINE: usize = 1_048_576;
@@ -20,8 +21,9 @@ impl Lines {
     /// A cutter that has read nothing. It reserves the room of the longest line.
     ///
     /// Errors: want of memory alone.
-    pub fn new(alloc: Global) -> Result<Lines, AllocError>
+    pub fn new(alloc: Global) -> Result<Lines, NoMemory>
         ensures pending { IfOk result (λ l. pending l ≡ []) }
+        ensures line { IfOk result (λ l. last_line l ≡ []) }
         ensures fault { IfOk result (λ l. fault_of l ≡ None) }
     {
         let buffer = vec![in alloc; 0u8; BUFFER_SIZE]?;
@@ -47,37 +49,46 @@ impl Lines {
     /// The source is the same at each call. Errors: the line has more than 1,048,576 bytes; the source failed. After an
     /// error it is repeated.
     pub fn next<S: Source>(&mut self, source: &mut S) -> Result<bool, LineFault>
-        ensures cuts { IfOk result (λ more. more ≡ true → CutsLine (rest_of self.old (S.left source.old)) (last_line self.new) (rest_of self.new (S.left source.new))) }
+        ensures cuts { IfOk result (λ more. more ≡ true → CutsLine (rest_of self.old (S.shows source.old).left) (last_line self.new) (rest_of self.new (S.shows source.new).left)) }
         ensures short { IfOk result (λ more. more ≡ true → length (last_line self.new) ≤ longest_line) }
-        ensures end { IfOk result (λ more. more ≡ false → IsEnd (rest_of self.old (S.left source.old)) (rest_of self.new (S.left source.new))) }
-        ensures long { fault_of self.old ≡ None → result ≡ Err LineFault.TooLong → IsTooLong (rest_of self.old (S.left source.old)) }
-        ensures cause { fault_of self.old ≡ None → result ≡ Err LineFault.ReadFault → Rose (S.faults source.old) (S.faults source.new) }
-        ensures never_falls { S.faults source.old ≤ S.faults source.new }
+        ensures end { IfOk result (λ more. more ≡ false → IsEnd (rest_of self.old (S.shows source.old).left) (rest_of self.new (S.shows source.new).left)) }
+        ensures no_line { IfOk result (λ more. more ≡ false → last_line self.new ≡ []) }
+        ensures long { fault_of self.old ≡ None → result ≡ Err LineFault.TooLong → IsTooLong (rest_of self.old (S.shows source.old).left) }
+        ensures cause { fault_of self.old ≡ None → result ≡ Err LineFault.ReadFault → (S.shows source.new).faults ≡ raised (S.shows source.old).faults }
+        ensures calm { result ≢ Err LineFault.ReadFault → (S.shows source.new).faults ≡ (S.shows source.old).faults }
+
+        // Where a whole line is read ahead, the source isn't asked.
+        ensures ahead { no_lf (pending self.old) ≡ false → source.new ≡ source.old }
+        ensures waits { fault_of self.old ≡ None → result ≡ Err LineFault.ReadFault → no_lf (pending self.old) ≡ true }
+
+        // After an error the source isn't asked again.
         ensures stops { IfErr result (λ e. fault_of self.new ≡ Some e) }
         ensures repeats { IfSome (fault_of self.old) (λ e. result ≡ Err e) }
+        ensures rests { IfSome (fault_of self.old) (λ _. source.new ≡ source.old) }
         ensures goes_on { OnOk result (fault_of self.new ≡ None) }
     {
         if let Some(fault) = self.stopped {
             return Err(fault);
         }
         self.line.clear();
-        match self.cut(source) {
-            Ok(more) => Ok(more),
-            Err(fault) => {
-                self.stopped = Some(fault);
-                Err(fault)
-            }
+        let answer = self.cut(source);
+        if let Err(fault) = answer {
+            self.stopped = Some(fault);
         }
+        answer
     }
 
     /// Cuts the next line off, behind what is already in the line.
     fn cut<S: Source>(&mut self, source: &mut S) -> Result<bool, LineFault>
         requires { last_line self.old ≡ [] }
-        ensures cuts { IfOk result (λ more. more ≡ true → CutsLine (rest_of self.old (S.left source.old)) (last_line self.new) (rest_of self.new (S.left source.new))) }
-        ensures end { IfOk result (λ more. more ≡ false → IsEnd (rest_of self.old (S.left source.old)) (rest_of self.new (S.left source.new))) }
-        ensures long { result ≡ Err LineFault.TooLong → IsTooLong (rest_of self.old (S.left source.old)) }
-        ensures cause { result ≡ Err LineFault.ReadFault → Rose (S.faults source.old) (S.faults source.new) }
-        ensures never_falls { S.faults source.old ≤ S.faults source.new }
+        ensures cuts { IfOk result (λ more. more ≡ true → CutsLine (rest_of self.old (S.shows source.old).left) (last_line self.new) (rest_of self.new (S.shows source.new).left)) }
+        ensures end { IfOk result (λ more. more ≡ false → IsEnd (rest_of self.old (S.shows source.old).left) (rest_of self.new (S.shows source.new).left)) }
+        ensures long { result ≡ Err LineFault.TooLong → IsTooLong (rest_of self.old (S.shows source.old).left) }
+        ensures no_line { IfOk result (λ more. more ≡ false → last_line self.new ≡ []) }
+        ensures cause { result ≡ Err LineFault.ReadFault → (S.shows source.new).faults ≡ raised (S.shows source.old).faults }
+        ensures calm { result ≢ Err LineFault.ReadFault → (S.shows source.new).faults ≡ (S.shows source.old).faults }
+        ensures ahead { no_lf (pending self.old) ≡ false → source.new ≡ source.old }
+        ensures waits { result ≡ Err LineFault.ReadFault → no_lf (pending self.old) ≡ true }
         ensures fault { fault_of self.new ≡ fault_of self.old }
     {
         'pieces: loop {
@@ -92,14 +103,17 @@ impl Lines {
 
     /// Sees that something is read ahead; false at the input's end.
     fn look_ahead<S: Source>(&mut self, source: &mut S) -> Result<bool, LineFault>
-        ensures more { IfOk result (λ some. some ≡ true → Keeps (rest_of self.old (S.left source.old)) (rest_of self.new (S.left source.new))) }
+        ensures more { IfOk result (λ some. some ≡ true → Keeps (rest_of self.old (S.shows source.old).left) (rest_of self.new (S.shows source.new).left)) }
         ensures some { IfOk result (λ some. some ≡ true → 0 < length (pending self.new)) }
-        ensures end { IfOk result (λ some. some ≡ false → IsEnd (rest_of self.old (S.left source.old)) (rest_of self.new (S.left source.new))) }
+        ensures end { IfOk result (λ some. some ≡ false → IsEnd (rest_of self.old (S.shows source.old).left) (rest_of self.new (S.shows source.new).left)) }
         ensures line { last_line self.new ≡ last_line self.old }
         ensures fault { fault_of self.new ≡ fault_of self.old }
         ensures read { IfErr result (λ e. e ≡ LineFault.ReadFault) }
-        ensures cause { OnErr result (Rose (S.faults source.old) (S.faults source.new)) }
-        ensures never_falls { S.faults source.old ≤ S.faults source.new }
+        ensures cause { OnErr result ((S.shows source.new).faults ≡ raised (S.shows source.old).faults) }
+        ensures calm { OnOk result ((S.shows source.new).faults ≡ (S.shows source.old).faults) }
+        ensures ahead { 0 < length (pending self.old) → source.new ≡ source.old }
+        ensures waits { OnErr result (pending self.old ≡ []) }
+        ensures reads_ahead { 0 < length (pending self.old) → pending self.new ≡ pending self.old }
     {
         if self.from < self.to {
             Ok(true)
@@ -111,25 +125,19 @@ impl Lines {
     /// Reads ahead, where nothing is; false at the input's end.
     fn fill<S: Source>(&mut self, source: &mut S) -> Result<bool, LineFault>
         requires { pending self.old ≡ [] }
-        ensures more { IfOk result (λ some. some ≡ true → Keeps (S.left source.old) (rest_of self.new (S.left source.new))) }
+        ensures more { IfOk result (λ some. some ≡ true → Keeps (S.shows source.old).left (rest_of self.new (S.shows source.new).left)) }
         ensures some { IfOk result (λ some. some ≡ true → 0 < length (pending self.new)) }
-        ensures end { IfOk result (λ some. some ≡ false → IsEnd (S.left source.old) (S.left source.new) × (pending self.new ≡ [])) }
+        ensures end { IfOk result (λ some. some ≡ false → IsEnd (S.shows source.old).left (S.shows source.new).left × (pending self.new ≡ [])) }
         ensures line { last_line self.new ≡ last_line self.old }
         ensures fault { fault_of self.new ≡ fault_of self.old }
         ensures read { IfErr result (λ e. e ≡ LineFault.ReadFault) }
-        ensures cause { OnErr result (Rose (S.faults source.old) (S.faults source.new)) }
-        ensures calm { OnOk result (S.faults source.new ≡ S.faults source.old) }
-        ensures never_falls { S.faults source.old ≤ S.faults source.new }
+        ensures cause { OnErr result ((S.shows source.new).faults ≡ raised (S.shows source.old).faults) }
+        ensures calm { OnOk result ((S.shows source.new).faults ≡ (S.shows source.old).faults) }
     {
         self.from = 0;
         self.to = 0;
-        match source.read(&mut self.buffer) {
-            Ok(count) => {
-                self.to = count;
-                Ok(count > 0)
-            }
-            Err(_) => Err(LineFault::ReadFault),
-        }
+        self.to = source.read(&mut self.buffer)?;
+        Ok(self.to > 0)
     }
 
     /// Moves bytes read ahead to the line, up to the first LF, which is dropped; false where there is none.

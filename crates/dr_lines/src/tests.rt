@@ -13,11 +13,7 @@ struct Dripping<'a> {
 }
 
 impl Source for Dripping<'_> {
-    ghost left = { λ s. None };
-
-    ghost faults = { λ s. s.source.failing.faults };
-
-    ghost is_steady = { λ s. is_quiet s.source.failing };
+    ghost shows = { λ s. record { left = None; faults = s.source.failing.faults; is_steady = is_quiet s.source.failing } };
 
     fn read(&mut self, buf: &mut [u8]) -> Result<usize, Failed> {
         let most = self.most.min(buf.len());

@@ -1,5 +1,5 @@
--- What a link holds, and the ranges that it gave.
-use Rattle.std.specs.Prelude.{◌≡◌, ◌≢◌, ◌<◌, ◌≤◌, ◌+◌, ℕ, List, [], ◌∷◌, ◌++◌, length, take, drop, None, Some, ⊤, IsSome}
+-- What a link shows: what it holds, and what it was asked for.
+use Rattle.std.specs.Prelude.{◌≡◌, ◌≢◌, ◌<◌, ◌≤◌, ◌+◌, ℕ, Bool, List, [], ◌∷◌, ◌++◌, length, take, drop, None, Some, ⊤, IsSome}
 use Rattle.std.specs.Option.{option_map}
 use Rattle.std.specs.declared.option.Option.{Option}
 
@@ -12,6 +12,24 @@ pub record Range : Type 0 where
   pub path : List ℕ
   pub start : ℕ
   pub len : ℕ
+
+-- what a link is asked for
+pub data Request : Type 0 where
+  -- the number of bytes at a path
+  size_of : List ℕ → Request
+  -- the bytes of a range
+  bytes_of : Range → Request
+
+-- what a link shows at one moment
+pub record LinkShown : Type 0 where
+  -- the bytes at each path that is held, or none where it doesn't tell
+  pub held : Option Files
+  -- what it was asked for, given or refused, in order, or none where it doesn't tell
+  pub asked : Option (List Request)
+  -- how many faults there were, at most 2^64 - 1
+  pub faults : ℕ
+  -- from here on only a path that isn't held, or a range past its end, fails
+  pub is_steady : Bool
 
 -- the bytes at a path reach to this place
 abbrev pub Reaches : Option (List ℕ) → ℕ → Type 0
@@ -58,9 +76,13 @@ abbrev pub HasBytes : Option Files → List ℕ → ℕ → List ℕ → Type 0
 HasBytes None path start bytes = ⊤
 HasBytes (Some files) path start bytes = IsPartAt (files path) start bytes
 
--- the ranges that were given, with one more
-abbrev pub with_range : Option (List Range) → Range → Option (List Range)
-with_range given range = option_map (λ ranges. ranges ++ range ∷ []) given
+-- of a link that doesn't tell what it was asked for
+abbrev pub unknown : Option (List Request)
+unknown = None
+
+-- what was asked for, with one request more
+abbrev pub with_request : Option (List Request) → Request → Option (List Request)
+with_request asked request = option_map (λ requests. requests ++ request ∷ []) asked
 
 -- the path now has these bytes; nothing is said where the keeper didn't tell before
 abbrev pub HasFile : Option Files → Option Files → List ℕ → List ℕ → Type 0

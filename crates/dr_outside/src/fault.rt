@@ -2,15 +2,12 @@
 ghost use Rattle.std.specs.Prelude.{◌≡◌};
 ghost use Rattle.dr_outside.specs.declared.fault.Fault.TheVariants.{Failed as OutsideFailed, NoMemory as MemoryLacked};
 
+use dr_memory::NoMemory;
 use std::alloc::{AllocError, AllocFailed};
 
 /// The outside refused: a read, a write or a look-up failed.
 #[derive(Clone, Copy, Debug, PartialEq, Eq)]
 pub struct Failed;
-
-/// Memory ran out.
-#[derive(Clone, Copy, Debug, PartialEq, Eq)]
-pub struct NoMemory;
 
 /// Why a call on a link or a keeper gave nothing.
 #[derive(Clone, Copy, Debug, PartialEq, Eq)]
@@ -48,17 +45,5 @@ impl<T: Drop> From<AllocFailed<T>> for Fault {
 
     fn from(_: AllocFailed<T>) -> Self {
         Fault::NoMemory
-    }
-}
-
-impl From<AllocError> for NoMemory {
-    fn from(_: AllocError) -> Self {
-        NoMemory
-    }
-}
-
-impl<T: Drop> From<AllocFailed<T>> for NoMemory {
-    fn from(_: AllocFailed<T>) -> Self {
-        NoMemory
     }
 }

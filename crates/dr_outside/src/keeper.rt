@@ -1,5 +1,5 @@
 ghost use Rattle.std.specs.Prelude.{◌≡◌, ◌≢◌, ◌≤◌, IsTrue, OnOk, Err};
-ghost use Rattle.dr_outside.specs.Faults.{Rose};
+ghost use Rattle.dr_outside.specs.Faults.{raised};
 ghost use Rattle.dr_outside.specs.Link.{HasFile, SameElsewhere};
 
 use crate::{Fault, Link};
@@ -8,13 +8,13 @@ use crate::{Fault, Link};
 pub trait Keeper: Link {
     /// Replaces the bytes at a path. After a refusal that path may hold any bytes, or none.
     fn put(&mut self, path: &str, bytes: &[u8]) -> Result<(), Fault>
-        ensures placed { OnOk result (HasFile (Self.held self.old) (Self.held self.new) path.now bytes.now) }
-        ensures others { SameElsewhere (Self.held self.old) (Self.held self.new) path.now }
-        ensures steady { IsTrue (Self.is_steady self.old) → result ≢ Err Fault.Failed }
+        ensures placed { OnOk result (HasFile (Self.shows self.old).held (Self.shows self.new).held path.now bytes.now) }
+        ensures others { SameElsewhere (Self.shows self.old).held (Self.shows self.new).held path.now }
+        ensures steady { IsTrue (Self.shows self.old).is_steady → result ≢ Err Fault.Failed }
 
-        ensures asked { Self.asked self.new ≡ Self.asked self.old }
-        ensures cause { result ≡ Err Fault.Failed → Rose (Self.faults self.old) (Self.faults self.new) }
-        ensures calm { result ≢ Err Fault.Failed → Self.faults self.new ≡ Self.faults self.old }
-        ensures never_falls { Self.faults self.old ≤ Self.faults self.new }
-        ensures stays_steady { IsTrue (Self.is_steady self.old) → IsTrue (Self.is_steady self.new) };
+        ensures asked { (Self.shows self.new).asked ≡ (Self.shows self.old).asked }
+        ensures cause { result ≡ Err Fault.Failed → (Self.shows self.new).faults ≡ raised (Self.shows self.old).faults }
+        ensures calm { result ≢ Err Fault.Failed → (Self.shows self.new).faults ≡ (Self.shows self.old).faults }
+        ensures never_falls { (Self.shows self.old).faults ≤ (Self.shows self.new).faults }
+        ensures stays_steady { IsTrue (Self.shows self.old).is_steady → IsTrue (Self.shows self.new).is_steady };
 }

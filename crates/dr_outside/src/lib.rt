@@ -19,11 +19,11 @@ mod source;
 mod tests;
 
 pub use cause::Cause;
-pub use fault::{Failed, Fault, NoMemory};
+pub use fault::{Failed, Fault};
 pub use gate::{Gate, OpenGate};
 pub use keeper::Keeper;
 pub use link::Link;
-pub use mem_link::{GivenRange, MemLink};
+pub use mem_link::{Asked, MemLink};
 pub use mem_sink::MemSink;
 pub use mem_source::MemSource;
 pub use shelf::Shelf;

@@ -1,52 +1,43 @@
-ghost use Rattle.std.specs.Prelude.{◌≡◌, ◌≢◌, ◌≤◌, ℕ, Bool, List, length, IsTrue, IfOk, OnOk, OnErr, Err};
-ghost use Rattle.std.specs.declared.option.Option.{Option};
-ghost use Rattle.dr_outside.specs.Faults.{Rose};
-ghost use Rattle.dr_outside.specs.Link.{Files, Range, Holds, Lacks, HasRange, LacksRange, HasSize, HasBytes, with_range};
+ghost use Rattle.std.specs.Prelude.{◌≡◌, ◌≢◌, ◌≤◌, length, IsTrue, IfOk, OnOk, Err};
+ghost use Rattle.dr_outside.specs.Faults.{raised};
+ghost use Rattle.dr_outside.specs.Link.{LinkShown, Holds, Lacks, HasRange, LacksRange, HasSize, HasBytes, size_of, bytes_of, with_request};
 
 use crate::Fault;
 
 /// Files that are read by ranges.
 pub trait Link {
-    /// The bytes at each path that is held, or none where the link doesn't tell.
-    ghost held: { Self → Option Files };
-
-    /// The ranges that it was asked for and gave, in order, or none where it doesn't tell.
-    ghost asked: { Self → Option (List Range) };
-
-    /// How many faults there were. It stands still at 2^64 - 1.
-    ghost faults: { Self → ℕ };
-
-    /// From here on only a path that isn't held, or a range past its end, fails.
-    ghost is_steady: { Self → Bool };
+    /// What it shows: the files that it holds and what it was asked for, where it tells them, and its count of faults.
+    ghost shows: { Self → LinkShown };
 
     /// The number of bytes at a path.
     fn size(&mut self, path: &str) -> Result<u64, Fault>
-        ensures bytes { IfOk result (λ n. HasSize (held self.old) path.now n) }
-        ensures absent { Lacks (held self.old) path.now → result ≡ Err Fault.Failed }
-        ensures steady { IsTrue (is_steady self.old) → Holds (held self.old) path.now → result ≢ Err Fault.Failed }
+        ensures bytes { IfOk result (λ n. HasSize (shows self.old).held path.now n) }
+        ensures absent { Lacks (shows self.old).held path.now → result ≢ Err Fault.NoMemory → result ≡ Err Fault.Failed }
+        ensures steady { IsTrue (shows self.old).is_steady → Holds (shows self.old).held path.now → result ≢ Err Fault.Failed }
 
-        ensures same { held self.new ≡ held self.old }
-        ensures asked { asked self.new ≡ asked self.old }
-        ensures cause { result ≡ Err Fault.Failed → Rose (faults self.old) (faults self.new) }
-        ensures calm { result ≢ Err Fault.Failed → faults self.new ≡ faults self.old }
-        ensures never_falls { faults self.old ≤ faults self.new }
-        ensures stays_steady { IsTrue (is_steady self.old) → IsTrue (is_steady self.new) };
+        ensures same { (shows self.new).held ≡ (shows self.old).held }
+        ensures asked { result ≢ Err Fault.NoMemory → (shows self.new).asked ≡ with_request (shows self.old).asked (size_of path.now) }
+        ensures not_asked { result ≡ Err Fault.NoMemory → (shows self.new).asked ≡ (shows self.old).asked }
+        ensures cause { result ≡ Err Fault.Failed → (shows self.new).faults ≡ raised (shows self.old).faults }
+        ensures calm { result ≢ Err Fault.Failed → (shows self.new).faults ≡ (shows self.old).faults }
+        ensures never_falls { (shows self.old).faults ≤ (shows self.new).faults }
+        ensures stays_steady { IsTrue (shows self.old).is_steady → IsTrue (shows self.new).is_steady };
 
     /// Fills `buf` with the bytes of a path from `at` on. After a refusal `buf` may hold anything.
     fn read_at(&mut self, path: &str, at: u64, buf: &mut [u8]) -> Result<(), Fault>
-        ensures bytes { OnOk result (HasBytes (held self.old) path.now at buf.new) }
-        ensures absent { LacksRange (held self.old) (record { path = path.now; start = at; len = length buf.old }) → result ≡ Err Fault.Failed }
-        ensures steady { IsTrue (is_steady self.old) → HasRange (held self.old) (record { path = path.now; start = at; len = length buf.old }) → result ≢ Err Fault.Failed }
+        ensures bytes { OnOk result (HasBytes (shows self.old).held path.now at buf.new) }
+        ensures absent { LacksRange (shows self.old).held (record { path = path.now; start = at; len = length buf.old }) → result ≢ Err Fault.NoMemory → result ≡ Err Fault.Failed }
+        ensures steady { IsTrue (shows self.old).is_steady → HasRange (shows self.old).held (record { path = path.now; start = at; len = length buf.old }) → result ≢ Err Fault.Failed }
 
-        ensures same { held self.new ≡ held self.old }
-        ensures asked { OnOk result (asked self.new ≡ with_range (asked self.old) (record { path = path.now; start = at; len = length buf.old })) }
-        ensures not_asked { OnErr result (asked self.new ≡ asked self.old) }
-        ensures cause { result ≡ Err Fault.Failed → Rose (faults self.old) (faults self.new) }
-        ensures calm { result ≢ Err Fault.Failed → faults self.new ≡ faults self.old }
-        ensures never_falls { faults self.old ≤ faults self.new }
-        ensures stays_steady { IsTrue (is_steady self.old) → IsTrue (is_steady self.new) };
+        ensures same { (shows self.new).held ≡ (shows self.old).held }
+        ensures asked { result ≢ Err Fault.NoMemory → (shows self.new).asked ≡ with_request (shows self.old).asked (bytes_of (record { path = path.now; start = at; len = length buf.old })) }
+        ensures not_asked { result ≡ Err Fault.NoMemory → (shows self.new).asked ≡ (shows self.old).asked }
+        ensures cause { result ≡ Err Fault.Failed → (shows self.new).faults ≡ raised (shows self.old).faults }
+        ensures calm { result ≢ Err Fault.Failed → (shows self.new).faults ≡ (shows self.old).faults }
+        ensures never_falls { (shows self.old).faults ≤ (shows self.new).faults }
+        ensures stays_steady { IsTrue (shows self.old).is_steady → IsTrue (shows self.new).is_steady };
 
     /// The count of faults.
     fn faults(&self) -> u64
-        ensures { result ≡ faults self.now };
+        ensures { result ≡ (shows self.now).faults };
 }

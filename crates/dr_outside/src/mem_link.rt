@@ -3,65 +3,113 @@ ghost use Rattle.dr_outside.specs.Failing.{unused};
 
 use crate::failures::Failures;
 use crate::{Fault, Link, Shelf};
-use std::alloc::Global;
+use std::alloc::{AllocError, Global};
 
-/// A range of bytes that a link gave.
-#[derive(Debug, Drop)]
-pub struct GivenRange {
-    pub path: String,
-    pub start: u64,
-    pub len: usize,
+/// What a link was asked for.
+#[derive(PartialEq, Eq, Debug, Drop)]
+pub enum Asked {
+    /// The number of bytes at a path.
+    Size {
+        path: String,
+    },
+    /// So many bytes at a path, from a byte offset on.
+    Range {
+        path: String,
+        start: u64,
+        len: usize,
+    },
 }
 
-/// A link over a shelf that is lent. It keeps a list of the ranges that it gave.
+/// A link over a shelf that is lent. It keeps a list of what it was asked for, given or refused.
 #[derive(Drop)]
 pub struct MemLink<'a> {
     alloc: Global,
     shelf: &'a Shelf,
-    given: Vec<GivenRange>,
+    requests: Vec<Asked>,
     failing: Failures,
 }
 
 impl<'a> MemLink<'a> {
-    ghost use Rattle.dr_outside.specs.MemLink.{range_of, ranges_of, shelf_of, link_failing};
+    ghost use Rattle.std.specs.Prelude.{◌++◌, ◌∷◌, OnOk, OnErr};
+    ghost use Rattle.dr_outside.specs.Link.{size_of, bytes_of};
+    ghost use Rattle.dr_outside.specs.MemLink.{request_of, requests_of, shelf_of, link_failing};
 
     /// The calls with these numbers fail, counted from 1.
     pub fn new(alloc: Global, shelf: &'a Shelf, failing: Vec<u64>) -> Self
         ensures shelf { shelf_of result ≡ shelf.entry.now }
-        ensures given { ranges_of result ≡ [] }
+        ensures asked { requests_of result ≡ [] }
         ensures failing { link_failing result ≡ unused failing.items }
     {
         MemLink {
             alloc,
             shelf,
-            given: Vec::new(alloc),
+            requests: Vec::new(alloc),
             failing: Failures::new(failing),
         }
     }
 
-    /// The ranges that were given, in order.
-    pub fn given(&self) -> &[GivenRange]
-        ensures { map range_of result.now ≡ ranges_of self.now }
+    /// What it was asked for, in order.
+    pub fn asked(&self) -> &[Asked]
+        ensures { map request_of result.now ≡ requests_of self.now }
     {
-        &self.given
+        &self.requests
+    }
+
+    // Notes that the size of a path was asked for.
+    fn note_size(&mut self, path: &str) -> Result<(), AllocError>
+        ensures noted { OnOk result (requests_of self.new ≡ requests_of self.old ++ size_of path.now ∷ []) }
+        ensures stays { OnErr result (requests_of self.new ≡ requests_of self.old) }
+        ensures shelf { shelf_of self.new ≡ shelf_of self.old }
+        ensures failing { link_failing self.new ≡ link_failing self.old }
+    {
+        let path = String::from_str(self.alloc, path)?;
+        self.requests.push(Asked::Size { path })?;
+        Ok(())
+    }
+
+    // Notes that a range was asked for.
+    fn note_range(&mut self, path: &str, start: u64, len: usize) -> Result<(), AllocError>
+        ensures noted { OnOk result (requests_of self.new ≡ requests_of self.old ++ bytes_of (record { path = path.now; start = start; len = len }) ∷ []) }
+        ensures stays { OnErr result (requests_of self.new ≡ requests_of self.old) }
+        ensures shelf { shelf_of self.new ≡ shelf_of self.old }
+        ensures failing { link_failing self.new ≡ link_failing self.old }
+    {
+        let path = String::from_str(self.alloc, path)?;
+        self.requests.push(Asked::Range { path, start, len })?;
+        Ok(())
     }
 }
 
 impl Link for MemLink<'_> {
-    ghost use Rattle.std.specs.Prelude.{Some};
-    ghost use Rattle.dr_outside.specs.Failing.{is_quiet};
+    ghost use Rattle.std.specs.Prelude.{◌≢◌, ◌≤◌, ℕ, List, Bool, true, false, Some, None, length, IsTrue, IfOk, OnOk, Err};
+    ghost use Rattle.dr_outside.specs.Failing.{is_due, is_quiet};
+    ghost use Rattle.dr_outside.specs.Faults.{raised};
+    ghost use Rattle.dr_outside.specs.Link.{Holds, Lacks, HasRange, LacksRange, HasSize, HasBytes, size_of, bytes_of, with_request};
     ghost use Rattle.dr_outside.specs.Shelf.{files_of};
-    ghost use Rattle.dr_outside.specs.MemLink.{ranges_of, shelf_of, link_failing};
+    ghost use Rattle.dr_outside.specs.MemLink.{requests_of, shelf_of, link_failing};
 
-    ghost held = { λ l. Some (files_of (shelf_of l)) };
+    ghost shows = { λ l. record { held = Some (files_of (shelf_of l)); asked = Some (requests_of l); faults = (link_failing l).faults; is_steady = is_quiet (link_failing l) } };
 
-    ghost asked = { λ l. Some (ranges_of l) };
+    /// Fails exactly at the listed calls and where the path isn't held.
+    fn size(&mut self, path: &str) -> Result<u64, Fault>
+        ensures bytes { IfOk result (λ n. HasSize (Some (files_of (shelf_of self.old))) path.now n) }
+        ensures absent { Lacks (Some (files_of (shelf_of self.old))) path.now → result ≢ Err Fault.NoMemory → result ≡ Err Fault.Failed }
+        ensures steady { IsTrue (is_quiet (link_failing self.old)) → Holds (Some (files_of (shelf_of self.old))) path.now → result ≢ Err Fault.Failed }
+        ensures same { (Some (files_of (shelf_of self.new))) ≡ (Some (files_of (shelf_of self.old))) }
+        ensures asked { result ≢ Err Fault.NoMemory → (Some (requests_of self.new)) ≡ with_request (Some (requests_of self.old)) (size_of path.now) }
+        ensures not_asked { result ≡ Err Fault.NoMemory → (Some (requests_of self.new)) ≡ (Some (requests_of self.old)) }
+        ensures cause { result ≡ Err Fault.Failed → (link_failing self.new).faults ≡ raised (link_failing self.old).faults }
+        ensures calm { result ≢ Err Fault.Failed → (link_failing self.new).faults ≡ (link_failing self.old).faults }
+        ensures never_falls { (link_failing self.old).faults ≤ (link_failing self.new).faults }
+        ensures stays_steady { IsTrue (is_quiet (link_failing self.old)) → IsTrue (is_quiet (link_failing self.new)) }
 
-    ghost faults = { λ l. (link_failing l).faults };
-
-    ghost is_steady = { λ l. is_quiet (link_failing l) };
-
-    fn size(&mut self, path: &str) -> Result<u64, Fault> {
+        // What is said of this link alone.
+        ensures due { is_due (link_failing self.old) ≡ true → result ≢ Err Fault.NoMemory → result ≡ Err Fault.Failed }
+        ensures spared { is_due (link_failing self.old) ≡ false → Holds (Some (files_of (shelf_of self.old))) path.now → result ≢ Err Fault.Failed }
+        ensures called { result ≢ Err Fault.NoMemory → (link_failing self.new).calls ≡ raised (link_failing self.old).calls }
+        ensures listed { (link_failing self.new).listed ≡ (link_failing self.old).listed }
+    {
+        self.note_size(path)?;
         if self.failing.strike() {
             return Err(Fault::Failed);
         }
@@ -74,23 +122,39 @@ impl Link for MemLink<'_> {
         }
     }
 
-    fn read_at(&mut self, path: &str, at: u64, buf: &mut [u8]) -> Result<(), Fault> {
+    /// Fails exactly at the listed calls and where the range isn't held.
+    fn read_at(&mut self, path: &str, at: u64, buf: &mut [u8]) -> Result<(), Fault>
+        ensures bytes { OnOk result (HasBytes (Some (files_of (shelf_of self.old))) path.now at buf.new) }
+        ensures absent { LacksRange (Some (files_of (shelf_of self.old))) (record { path = path.now; start = at; len = length buf.old }) → result ≢ Err Fault.NoMemory → result ≡ Err Fault.Failed }
+        ensures steady { IsTrue (is_quiet (link_failing self.old)) → HasRange (Some (files_of (shelf_of self.old))) (record { path = path.now; start = at; len = length buf.old }) → result ≢ Err Fault.Failed }
+        ensures same { (Some (files_of (shelf_of self.new))) ≡ (Some (files_of (shelf_of self.old))) }
+        ensures asked { result ≢ Err Fault.NoMemory → (Some (requests_of self.new)) ≡ with_request (Some (requests_of self.old)) (bytes_of (record { path = path.now; start = at; len = length buf.old })) }
+        ensures not_asked { result ≡ Err Fault.NoMemory → (Some (requests_of self.new)) ≡ (Some (requests_of self.old)) }
+        ensures cause { result ≡ Err Fault.Failed → (link_failing self.new).faults ≡ raised (link_failing self.old).faults }
+        ensures calm { result ≢ Err Fault.Failed → (link_failing self.new).faults ≡ (link_failing self.old).faults }
+        ensures never_falls { (link_failing self.old).faults ≤ (link_failing self.new).faults }
+        ensures stays_steady { IsTrue (is_quiet (link_failing self.old)) → IsTrue (is_quiet (link_failing self.new)) }
+
+        // What is said of this link alone.
+        ensures due { is_due (link_failing self.old) ≡ true → result ≢ Err Fault.NoMemory → result ≡ Err Fault.Failed }
+        ensures spared { is_due (link_failing self.old) ≡ false → HasRange (Some (files_of (shelf_of self.old))) (record { path = path.now; start = at; len = length buf.old }) → result ≢ Err Fault.Failed }
+        ensures called { result ≢ Err Fault.NoMemory → (link_failing self.new).calls ≡ raised (link_failing self.old).calls }
+        ensures listed { (link_failing self.new).listed ≡ (link_failing self.old).listed }
+    {
+        self.note_range(path, at, buf.len())?;
         if self.failing.strike() {
             return Err(Fault::Failed);
         }
-        let Some(part) = self.shelf.part(path, at, buf.len()) else {
-            self.failing.raise();
-            return Err(Fault::Failed);
-        };
-        let path = String::from_str(self.alloc, path)?;
-        let len = buf.len();
-        self.given.push(GivenRange {
-            path,
-            start: at,
-            len,
-        })?;
-        buf.copy_from_slice(part);
-        Ok(())
+        match self.shelf.part(path, at, buf.len()) {
+            Some(part) => {
+                buf.copy_from_slice(part);
+                Ok(())
+            }
+            None => {
+                self.failing.raise();
+                Err(Fault::Failed)
+            }
+        }
     }
 
     fn faults(&self) -> u64 {

@@ -61,11 +61,30 @@ impl MemSink {
 }
 
 impl Sink for MemSink {
-    ghost written = { λ s. Some s.written };
+    ghost use Rattle.std.specs.Prelude.{◌≤◌, true, min, length, take, IsErr, IfOk, OnOk, OnErr};
+    ghost use Rattle.dr_outside.specs.Failing.{is_due, after_call};
+    ghost use Rattle.dr_outside.specs.Faults.{raised};
+    ghost use Rattle.dr_outside.specs.Sink.{Added};
 
-    ghost faults = { λ s. s.failing.faults };
+    ghost shows = { λ s. record { written = Some s.written; faults = s.failing.faults; calls = s.failing.calls } };
 
-    fn write(&mut self, piece: &[u8]) -> Result<usize, Failed> {
+    /// Fails at the listed calls, and where there is no memory; else takes as many bytes as one write takes.
+    fn write(&mut self, piece: &[u8]) -> Result<usize, Failed>
+        ensures fits { IfOk result (λ n. n ≤ length piece.now) }
+        ensures added { IfOk result (λ n. Added (Some self.old.written) (Some self.new.written) (take n piece.now)) }
+        ensures some { IfOk result (λ n. 0 < length piece.now → 0 < n) }
+        ensures called { self.new.failing.calls ≡ raised self.old.failing.calls }
+        ensures stays { OnErr result (Some self.new.written ≡ Some self.old.written) }
+        ensures cause { OnErr result (self.new.failing.faults ≡ raised self.old.failing.faults) }
+        ensures calm { OnOk result (self.new.failing.faults ≡ self.old.failing.faults) }
+        ensures never_falls { self.old.failing.faults ≤ self.new.failing.faults }
+
+        // What is said of this sink alone.
+        ensures due { is_due self.old.failing ≡ true → IsErr result }
+        ensures takes { IfOk result (λ n. n ≡ min (length piece.now) self.old.most) }
+        ensures counted { OnOk result (self.new.failing ≡ after_call self.old.failing) }
+        ensures narrow { self.new.most ≡ self.old.most }
+    {
         if self.failing.strike() {
             return Err(Failed);
         }

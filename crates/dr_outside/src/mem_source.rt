@@ -1,5 +1,5 @@
 ghost use Rattle.std.specs.Prelude.{◌≡◌, Some};
-ghost use Rattle.dr_outside.specs.Failing.{unused, is_quiet};
+ghost use Rattle.dr_outside.specs.Failing.{unused};
 
 use crate::failures::Failures;
 use crate::{Failed, Source};
@@ -47,13 +47,30 @@ impl<'a> MemSource<'a> {
 }
 
 impl Source for MemSource<'_> {
-    ghost left = { λ s. Some s.left };
+    ghost use Rattle.std.specs.Prelude.{◌≡◌, ◌<◌, ◌≤◌, true, false, min, length, take, IsTrue, IsOk, IsErr, IfOk, OnOk, OnErr, Ok};
+    ghost use Rattle.dr_outside.specs.Failing.{is_due, is_quiet, after_call};
+    ghost use Rattle.dr_outside.specs.Faults.{raised};
+    ghost use Rattle.dr_outside.specs.Source.{Took, EndsExactly};
 
-    ghost faults = { λ s. s.failing.faults };
+    ghost shows = { λ s. record { left = Some s.left; faults = s.failing.faults; is_steady = is_quiet s.failing } };
 
-    ghost is_steady = { λ s. is_quiet s.failing };
+    /// Fails exactly at the listed calls; else gives as many bytes as are left and fit.
+    fn read(&mut self, buf: &mut [u8]) -> Result<usize, Failed>
+        ensures fits { IfOk result (λ n. n ≤ length buf.new) }
+        ensures took { IfOk result (λ n. Took (Some self.old.left) (Some self.new.left) (take n buf.new)) }
+        ensures end { IfOk result (λ n. 0 < length buf.new → EndsExactly (Some self.old.left) n) }
+        ensures stays { OnErr result (Some self.new.left ≡ Some self.old.left) }
+        ensures cause { OnErr result (self.new.failing.faults ≡ raised self.old.failing.faults) }
+        ensures calm { OnOk result (self.new.failing.faults ≡ self.old.failing.faults) }
+        ensures never_falls { self.old.failing.faults ≤ self.new.failing.faults }
+        ensures steady { IsTrue (is_quiet self.old.failing) → IsOk result }
+        ensures stays_steady { IsTrue (is_quiet self.old.failing) → IsTrue (is_quiet self.new.failing) }
 
-    fn read(&mut self, buf: &mut [u8]) -> Result<usize, Failed> {
+        // What is said of this source alone.
+        ensures due { is_due self.old.failing ≡ true → IsErr result }
+        ensures gives { is_due self.old.failing ≡ false → result ≡ Ok (min (length buf.new) (length self.old.left)) }
+        ensures counted { self.new.failing ≡ after_call self.old.failing }
+    {
         if self.failing.strike() {
             return Err(Failed);
         }

@@ -1,6 +1,6 @@
 ghost use Rattle.std.specs.Prelude.{◌≡◌, ◌+◌, length, IfSome, IfNone, None, Some};
 ghost use Rattle.std.specs.Option.{option_map};
-ghost use Rattle.dr_outside.specs.Failing.{unused, is_quiet};
+ghost use Rattle.dr_outside.specs.Failing.{unused};
 ghost use Rattle.dr_outside.specs.Link.{IsPartAt, FallsShort};
 
 use crate::failures::Failures;
@@ -68,19 +68,34 @@ impl Shelf {
 }
 
 impl Link for Shelf {
-    ghost use Rattle.std.specs.Prelude.{None, Some};
-    ghost use Rattle.dr_outside.specs.Failing.{is_quiet};
+    ghost use Rattle.std.specs.Prelude.{◌≢◌, ◌≤◌, ℕ, List, Bool, true, false, Some, None, length, IsTrue, IfOk, OnOk, Err};
+    ghost use Rattle.dr_outside.specs.Failing.{is_due, is_quiet};
+    ghost use Rattle.dr_outside.specs.Faults.{raised};
+    ghost use Rattle.dr_outside.specs.Link.{Holds, Lacks, HasRange, LacksRange, HasSize, HasBytes, size_of, bytes_of, with_request, unknown};
     ghost use Rattle.dr_outside.specs.Shelf.{files_of, shelf_failing};
 
-    ghost held = { λ s. Some (files_of s) };
+    ghost shows = { λ s. record { held = Some (files_of s); asked = unknown; faults = (shelf_failing s).faults; is_steady = is_quiet (shelf_failing s) } };
 
-    ghost asked = { λ _. None };
+    /// Fails exactly at the listed calls and where the path isn't held.
+    fn size(&mut self, path: &str) -> Result<u64, Fault>
+        ensures bytes { IfOk result (λ n. HasSize (Some (files_of self.old)) path.now n) }
+        ensures absent { Lacks (Some (files_of self.old)) path.now → result ≢ Err Fault.NoMemory → result ≡ Err Fault.Failed }
+        ensures steady { IsTrue (is_quiet (shelf_failing self.old)) → Holds (Some (files_of self.old)) path.now → result ≢ Err Fault.Failed }
+        ensures same { (Some (files_of self.new)) ≡ (Some (files_of self.old)) }
+        ensures asked { result ≢ Err Fault.NoMemory → unknown ≡ with_request unknown (size_of path.now) }
+        ensures not_asked { result ≡ Err Fault.NoMemory → unknown ≡ unknown }
+        ensures cause { result ≡ Err Fault.Failed → (shelf_failing self.new).faults ≡ raised (shelf_failing self.old).faults }
+        ensures calm { result ≢ Err Fault.Failed → (shelf_failing self.new).faults ≡ (shelf_failing self.old).faults }
+        ensures never_falls { (shelf_failing self.old).faults ≤ (shelf_failing self.new).faults }
+        ensures stays_steady { IsTrue (is_quiet (shelf_failing self.old)) → IsTrue (is_quiet (shelf_failing self.new)) }
 
-    ghost faults = { λ s. (shelf_failing s).faults };
-
-    ghost is_steady = { λ s. is_quiet (shelf_failing s) };
-
-    fn size(&mut self, path: &str) -> Result<u64, Fault> {
+        // What is said of this shelf alone.
+        ensures due { is_due (shelf_failing self.old) ≡ true → result ≢ Err Fault.NoMemory → result ≡ Err Fault.Failed }
+        ensures spared { is_due (shelf_failing self.old) ≡ false → Holds (Some (files_of self.old)) path.now → result ≢ Err Fault.Failed }
+        ensures called { result ≢ Err Fault.NoMemory → (shelf_failing self.new).calls ≡ raised (shelf_failing self.old).calls }
+        ensures listed { (shelf_failing self.new).listed ≡ (shelf_failing self.old).listed }
+        ensures memory { result ≢ Err Fault.NoMemory }
+    {
         if self.failing.strike() {
             return Err(Fault::Failed);
         }
@@ -93,7 +108,26 @@ impl Link for Shelf {
         }
     }
 
-    fn read_at(&mut self, path: &str, at: u64, buf: &mut [u8]) -> Result<(), Fault> {
+    /// Fails exactly at the listed calls and where the range isn't held.
+    fn read_at(&mut self, path: &str, at: u64, buf: &mut [u8]) -> Result<(), Fault>
+        ensures bytes { OnOk result (HasBytes (Some (files_of self.old)) path.now at buf.new) }
+        ensures absent { LacksRange (Some (files_of self.old)) (record { path = path.now; start = at; len = length buf.old }) → result ≢ Err Fault.NoMemory → result ≡ Err Fault.Failed }
+        ensures steady { IsTrue (is_quiet (shelf_failing self.old)) → HasRange (Some (files_of self.old)) (record { path = path.now; start = at; len = length buf.old }) → result ≢ Err Fault.Failed }
+        ensures same { (Some (files_of self.new)) ≡ (Some (files_of self.old)) }
+        ensures asked { result ≢ Err Fault.NoMemory → unknown ≡ with_request unknown (bytes_of (record { path = path.now; start = at; len = length buf.old })) }
+        ensures not_asked { result ≡ Err Fault.NoMemory → unknown ≡ unknown }
+        ensures cause { result ≡ Err Fault.Failed → (shelf_failing self.new).faults ≡ raised (shelf_failing self.old).faults }
+        ensures calm { result ≢ Err Fault.Failed → (shelf_failing self.new).faults ≡ (shelf_failing self.old).faults }
+        ensures never_falls { (shelf_failing self.old).faults ≤ (shelf_failing self.new).faults }
+        ensures stays_steady { IsTrue (is_quiet (shelf_failing self.old)) → IsTrue (is_quiet (shelf_failing self.new)) }
+
+        // What is said of this shelf alone.
+        ensures due { is_due (shelf_failing self.old) ≡ true → result ≢ Err Fault.NoMemory → result ≡ Err Fault.Failed }
+        ensures spared { is_due (shelf_failing self.old) ≡ false → HasRange (Some (files_of self.old)) (record { path = path.now; start = at; len = length buf.old }) → result ≢ Err Fault.Failed }
+        ensures called { result ≢ Err Fault.NoMemory → (shelf_failing self.new).calls ≡ raised (shelf_failing self.old).calls }
+        ensures listed { (shelf_failing self.new).listed ≡ (shelf_failing self.old).listed }
+        ensures memory { result ≢ Err Fault.NoMemory }
+    {
         if self.failing.strike() {
             return Err(Fault::Failed);
         }
@@ -115,7 +149,27 @@ impl Link for Shelf {
 }
 
 impl Keeper for Shelf {
-    fn put(&mut self, path: &str, bytes: &[u8]) -> Result<(), Fault> {
+    ghost use Rattle.std.specs.Prelude.{◌≢◌, ◌≤◌, true, false, Some, IsTrue, OnOk, Err};
+    ghost use Rattle.dr_outside.specs.Failing.{is_due, is_quiet, after_call};
+    ghost use Rattle.dr_outside.specs.Faults.{raised};
+    ghost use Rattle.dr_outside.specs.Link.{HasFile, SameElsewhere};
+    ghost use Rattle.dr_outside.specs.Shelf.{files_of, shelf_failing};
+
+    /// Fails exactly at the listed calls.
+    fn put(&mut self, path: &str, bytes: &[u8]) -> Result<(), Fault>
+        ensures placed { OnOk result (HasFile (Some (files_of self.old)) (Some (files_of self.new)) path.now bytes.now) }
+        ensures others { SameElsewhere (Some (files_of self.old)) (Some (files_of self.new)) path.now }
+        ensures steady { IsTrue (is_quiet (shelf_failing self.old)) → result ≢ Err Fault.Failed }
+        ensures cause { result ≡ Err Fault.Failed → (shelf_failing self.new).faults ≡ raised (shelf_failing self.old).faults }
+        ensures calm { result ≢ Err Fault.Failed → (shelf_failing self.new).faults ≡ (shelf_failing self.old).faults }
+        ensures never_falls { (shelf_failing self.old).faults ≤ (shelf_failing self.new).faults }
+        ensures stays_steady { IsTrue (is_quiet (shelf_failing self.old)) → IsTrue (is_quiet (shelf_failing self.new)) }
+
+        // What is said of this shelf alone.
+        ensures due { is_due (shelf_failing self.old) ≡ true → result ≡ Err Fault.Failed }
+        ensures spared { is_due (shelf_failing self.old) ≡ false → result ≢ Err Fault.Failed }
+        ensures counted { shelf_failing self.new ≡ after_call (shelf_failing self.old) }
+    {
         if self.failing.strike() {
             return Err(Fault::Failed);
         }

@@ -1,38 +1,35 @@
-ghost use Rattle.std.specs.Prelude.{◌≡◌, ◌<◌, ◌≤◌, ℕ, List, length, take, IfOk, OnOk, OnErr};
-ghost use Rattle.std.specs.declared.option.Option.{Option};
-ghost use Rattle.dr_outside.specs.Faults.{Rose};
-ghost use Rattle.dr_outside.specs.Sink.{Added, AddedFront};
+ghost use Rattle.std.specs.Prelude.{◌≡◌, ◌<◌, ◌≤◌, length, take, IfOk, OnOk, OnErr};
+ghost use Rattle.dr_outside.specs.Faults.{raised};
+ghost use Rattle.dr_outside.specs.Sink.{SinkShown, Added, AddedWhole, AddedFront};
 
 use crate::Failed;
 
 /// What is written from front to end.
 pub trait Sink {
-    /// The bytes that were written, or none where the sink doesn't tell them.
-    ghost written: { Self → Option (List ℕ) };
-
-    /// How many faults there were. It stands still at 2^64 - 1.
-    ghost faults: { Self → ℕ };
+    /// What it shows: the bytes that were written, where it tells them, and its counts of faults and of writes.
+    ghost shows: { Self → SinkShown };
 
     /// Takes bytes from the front of `piece`, and says how many: at least one, unless there is none.
     fn write(&mut self, piece: &[u8]) -> Result<usize, Failed>
         ensures fits { IfOk result (λ n. n ≤ length piece.now) }
-        ensures added { IfOk result (λ n. Added (written self.old) (written self.new) (take n piece.now)) }
+        ensures added { IfOk result (λ n. Added (shows self.old).written (shows self.new).written (take n piece.now)) }
         ensures some { IfOk result (λ n. 0 < length piece.now → 0 < n) }
+        ensures called { (shows self.new).calls ≡ raised (shows self.old).calls }
 
-        // A failed write adds nothing.
-        ensures stays { OnErr result (written self.new ≡ written self.old) }
-        ensures cause { OnErr result (Rose (faults self.old) (faults self.new)) }
-        ensures calm { OnOk result (faults self.new ≡ faults self.old) }
-        ensures never_falls { faults self.old ≤ faults self.new };
+        // A failed write adds nothing, and counts one fault.
+        ensures stays { OnErr result ((shows self.new).written ≡ (shows self.old).written) }
+        ensures cause { OnErr result ((shows self.new).faults ≡ raised (shows self.old).faults) }
+        ensures calm { OnOk result ((shows self.new).faults ≡ (shows self.old).faults) }
+        ensures never_falls { (shows self.old).faults ≤ (shows self.new).faults };
 }
 
-/// Writes the whole piece. After a failure some front of it was written.
+/// Writes the whole piece. After a failure some front of it was written, and nothing is written behind it. No write is
+/// asked for without a byte to write.
 pub fn write_all<O: Sink>(out: &mut O, piece: &[u8]) -> Result<(), Failed>
-    ensures whole { OnOk result (Added (O.written out.old) (O.written out.new) piece.now) }
-    ensures front { OnErr result (AddedFront (O.written out.old) (O.written out.new) piece.now) }
-    ensures cause { OnErr result (Rose (O.faults out.old) (O.faults out.new)) }
-    ensures calm { OnOk result (O.faults out.new ≡ O.faults out.old) }
-    ensures never_falls { O.faults out.old ≤ O.faults out.new }
+    ensures whole { OnOk result (AddedWhole (O.shows out.old) (O.shows out.new) piece.now) }
+    ensures front { OnErr result (AddedFront (O.shows out.old) (O.shows out.new) piece.now) }
+    ensures cause { OnErr result ((O.shows out.new).faults ≡ raised (O.shows out.old).faults) }
+    ensures calm { OnOk result ((O.shows out.new).faults ≡ (O.shows out.old).faults) }
 {
     let mut rest = piece;
     'pieces: while !rest.is_empty() {

@@ -1,9 +1,10 @@
-ghost use Rattle.std.specs.Prelude.{◌≡◌, ◌≢◌, IfOk, Err};
+ghost use Rattle.std.specs.Prelude.{◌≡◌, ◌≢◌, true, IfOk, Err};
 
 use crate::{
-    Cause, Failed, Fault, Gate, Keeper, Link, MemLink, MemSink, MemSource, NoMemory, OpenGate,
-    Shelf, Sink, Source, write_all,
+    Asked, Cause, Failed, Fault, Gate, Keeper, Link, MemLink, MemSink, MemSource, NoMemory,
+    OpenGate, Shelf, Sink, Source, write_all,
 };
+use dr_memory::NoMemory;
 use std::alloc::{AllocError, Global};
 use std::test::Fail;
 
@@ -25,7 +26,9 @@ fn keep<K: Keeper>(keeper: &mut K, path: &str, bytes: &[u8]) -> Result<(), Fault
     keeper.put(path, bytes)
 }
 
-fn pass<G: Gate + Sync>(gate: &G) {
+fn pass<G: Gate + Sync>(gate: &G)
+    requires { G.admits gate.now 1 ≡ true }
+{
     gate.at(1, 0);
 }
 
@@ -116,13 +119,28 @@ fn a_link_gives_ranges_of_the_shelf(rt: HostRuntime) -> Result<(), Fail> {
         assert_eq!(rt; read_two(&mut link, path, at), answer);
     }
     assert_eq!(rt; Link::faults(&link), 4);
-    let given = [("a", 0), ("a", 3), ("b", 4)];
-    assert_eq!(rt; link.given().len(), given.len());
-    for (range, (path, start)) in link.given().iter().zip(given.iter()) {
-        assert_eq!(rt; range.path.as_str(), *path);
-        assert_eq!(rt; range.start, *start);
-        assert_eq!(rt; range.len, 2);
+    // Each request is noted, also the refused ones.
+    let asked = [
+        ("a", 0),
+        ("a", 0),
+        ("a", 3),
+        ("a", 4),
+        ("b", 4),
+        ("c", 0),
+        ("b", u64::MAX),
+    ];
+    let mut expected = Vec::new(alloc);
+    let path = String::from_str(alloc, "b")?;
+    expected.push(Asked::Size { path })?;
+    for (path, start) in asked {
+        let path = String::from_str(alloc, path)?;
+        expected.push(Asked::Range {
+            path,
+            start,
+            len: 2,
+        })?;
     }
+    assert_eq!(rt; link.asked(), expected.as_slice());
     crosses_threads(&link);
     assert_eq!(rt; size_after_put(alloc)?, 5);
     Ok(())
@@ -153,6 +171,5 @@ fn causes_and_faults_have_their_names(rt: HostRuntime) -> Result<(), Fail> {
     assert_eq!(rt; Fault::from(Failed), Fault::Failed);
     assert_eq!(rt; Fault::from(NoMemory), Fault::NoMemory);
     assert_eq!(rt; Fault::from(AllocError), Fault::NoMemory);
-    assert_eq!(rt; NoMemory::from(AllocError), NoMemory);
     Ok(())
 }

@@ -15,16 +15,16 @@ returns-then-not-branch-clause-cuts g c = λ h.
     let v : 0 < vec_len c.look_ahead.new.self.line = longer_than_none (vec_len c.look_ahead.new.self.line) c.is_empty.result c.is_empty.ensures h in
     let l : 0 < length (last_line c.look_ahead.new.self) = omega (arith, v, c.look_ahead.new.self.line.ok.0) in
     let n : no_lf (last_line c.look_ahead.new.self) ≡ true = ap no_lf c.look_ahead.ensures.line ∙ c.pieces.invariant.no_lf_yet in
-    let k = subst (λ (line : List ℕ). Keeps (rest_of c.args.self.now (g.S.Source.left c.args.source.now)) (ahead line (rest_of c.pieces.self (g.S.Source.left c.pieces.source)))) (sym c.look_ahead.ensures.line) c.pieces.invariant.kept in
-    line_ends (rest_of c.args.self.now (g.S.Source.left c.args.source.now)) (rest_of c.pieces.self (g.S.Source.left c.pieces.source)) (rest_of c.look_ahead.new.self (g.S.Source.left c.look_ahead.new.source)) (last_line c.look_ahead.new.self)
+    let k = subst (λ (line : List ℕ). Keeps (rest_of c.args.self.now (g.S.Source.shows c.args.source.now).left) (ahead line (rest_of c.pieces.self (g.S.Source.shows c.pieces.source).left))) (sym c.look_ahead.ensures.line) c.pieces.invariant.kept in
+    line_ends (rest_of c.args.self.now (g.S.Source.shows c.args.source.now).left) (rest_of c.pieces.self (g.S.Source.shows c.pieces.source).left) (rest_of c.look_ahead.new.self (g.S.Source.shows c.look_ahead.new.source).left) (last_line c.look_ahead.new.self)
     l n k (c.in_ok-look_ahead.ensures.end c.if-not-branch.true)
 
 pub returns-in_err-take_piece-clause-long : goal.returns-in_err-take_piece-clause-long
 returns-in_err-take_piece-clause-long g c = λ _.
-    let start = rest_of c.args.self.now (g.S.Source.left c.args.source.now) in
-    let left = g.S.Source.left c.look_ahead.new.source in
+    let start = rest_of c.args.self.now (g.S.Source.shows c.args.source.now).left in
+    let left = (g.S.Source.shows c.look_ahead.new.source).left in
     let p = c.in_err-take_piece.ensures.long in
-    let k = keeps_behind (rest_of c.args.self.now (g.S.Source.left c.args.source.now)) (rest_of c.pieces.self (g.S.Source.left c.pieces.source)) (rest_of c.look_ahead.new.self (g.S.Source.left c.look_ahead.new.source)) (last_line c.pieces.self)
+    let k = keeps_behind (rest_of c.args.self.now (g.S.Source.shows c.args.source.now).left) (rest_of c.pieces.self (g.S.Source.shows c.pieces.source).left) (rest_of c.look_ahead.new.self (g.S.Source.shows c.look_ahead.new.source).left) (last_line c.pieces.self)
     c.pieces.invariant.kept (c.in_ok-look_ahead.ensures.more c.if-not-branch.false) in
     line_is_long start left (last_line c.pieces.self) (pending c.look_ahead.new.self) p.0 p.1 p.2 c.pieces.invariant.no_lf_yet p.3
     (subst (λ (line : List ℕ). longest_line < length (line ++ p.0)) c.look_ahead.ensures.line p.4) k
@@ -32,7 +32,7 @@ returns-in_err-take_piece-clause-long g c = λ _.
 pub returns-then-branch-clause-cuts : goal.returns-then-branch-clause-cuts
 returns-then-branch-clause-cuts g c = λ _.
     let p = c.in_ok-take_piece.ensures.found c.if-branch.true in
-    let k = keeps_behind (rest_of c.args.self.now (g.S.Source.left c.args.source.now)) (rest_of c.pieces.self (g.S.Source.left c.pieces.source)) (rest_of c.look_ahead.new.self (g.S.Source.left c.look_ahead.new.source)) (last_line c.pieces.self)
+    let k = keeps_behind (rest_of c.args.self.now (g.S.Source.shows c.args.source.now).left) (rest_of c.pieces.self (g.S.Source.shows c.pieces.source).left) (rest_of c.look_ahead.new.self (g.S.Source.shows c.look_ahead.new.source).left) (last_line c.pieces.self)
     c.pieces.invariant.kept (c.in_ok-look_ahead.ensures.more c.if-not-branch.false) in
-    line_is_cut (rest_of c.args.self.now (g.S.Source.left c.args.source.now)) (g.S.Source.left c.look_ahead.new.source) (last_line c.pieces.self) (last_line c.take_piece.new.self) p.0 (pending c.look_ahead.new.self) (pending c.take_piece.new.self)
+    line_is_cut (rest_of c.args.self.now (g.S.Source.shows c.args.source.now).left) (g.S.Source.shows c.look_ahead.new.source).left (last_line c.pieces.self) (last_line c.take_piece.new.self) p.0 (pending c.look_ahead.new.self) (pending c.take_piece.new.self)
     p.1 (p.2 ∙ ap (λ (line : List ℕ). line ++ p.0) c.look_ahead.ensures.line) c.pieces.invariant.no_lf_yet p.3 k
