@@ -1,8 +1,8 @@
 ghost use Rattle.std.specs.Prelude.{◌≡◌, ◌≢◌, true, IfOk, Err};
 
 use crate::{
-    Asked, Cause, Failed, Fault, Gate, Keeper, Link, MemLink, MemSink, MemSource, NoMemory,
-    OpenGate, Shelf, Sink, Source, write_all,
+    Asked, Cause, Failed, Fault, Gate, Keeper, Link, MemLink, MemSink, MemSource, OpenGate, Shelf,
+    Sink, Source, write_all,
 };
 use dr_memory::NoMemory;
 use std::alloc::{AllocError, Global};
