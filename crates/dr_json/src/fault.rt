@@ -1,10 +1,13 @@
 //! Why a line is no record.
 
+ghost use Rattle.std.specs.Prelude.{◌≡◌};
+ghost use Rattle.dr_json.specs.declared.fault.RecordFault.TheVariants.{NoMemory};
+
 use std::alloc::{AllocError, AllocFailed};
 
-/// Why a line is no record of a schema: its first fault, or want of memory.
+/// What is wrong with a line that is no record of a schema.
 #[derive(Clone, Copy, PartialEq, Eq, Debug)]
-pub enum RecordFault {
+pub enum RecordProblem {
     /// The line isn't UTF-8, or `serde_json` doesn't read it as a value.
     NotJson,
     /// An object has a key that is no field of its group.
@@ -19,14 +22,16 @@ pub enum RecordFault {
     NullElement,
     /// The record has more than 1,048,575 instances of fields, or more than 2^30 bytes of texts.
     TooLarge,
-    /// Memory ran out. This says nothing of the line.
+}
+
+/// Why a line gives no record: its first problem, or want of memory, which says nothing of the line.
+#[derive(Clone, Copy, PartialEq, Eq, Debug)]
+pub enum RecordFault {
     NoMemory,
+    Refused(RecordProblem),
 }
 
 impl From<AllocError> for RecordFault {
-    ghost use Rattle.std.specs.Prelude.{◌≡◌};
-    ghost use Rattle.dr_json.specs.declared.fault.RecordFault.TheVariants.{NoMemory};
-
     ghost from_gives = { λ _ e. e ≡ NoMemory };
 
     fn from(_refused: AllocError) -> RecordFault {
@@ -35,9 +40,6 @@ impl From<AllocError> for RecordFault {
 }
 
 impl<T: Drop> From<AllocFailed<T>> for RecordFault {
-    ghost use Rattle.std.specs.Prelude.{◌≡◌};
-    ghost use Rattle.dr_json.specs.declared.fault.RecordFault.TheVariants.{NoMemory};
-
     ghost from_gives = { λ _ e. e ≡ NoMemory };
 
     fn from(_refused: AllocFailed<T>) -> RecordFault {

@@ -9,7 +9,7 @@ ghost use Rattle.dr_nested.specs.Views.{kind_view, value_view};
 ghost use Rattle.dr_nested.specs.Faults.{Gives};
 ghost use Rattle.dr_json.specs.Faults.{record_fault_view};
 
-use crate::fault::RecordFault;
+use crate::fault::{RecordFault, RecordProblem};
 use dr_nested::{Kind, Value};
 use serde_json::Value as Json;
 use std::alloc::Global;
@@ -31,7 +31,7 @@ fn bool_of(value: &Json) -> Result<Value, RecordFault>
 {
     match value.as_bool() {
         Some(truth) => Ok(Value::Bool(truth)),
-        None => Err(RecordFault::WrongKind),
+        None => Err(RecordFault::Refused(RecordProblem::WrongKind)),
     }
 }
 
@@ -51,9 +51,9 @@ fn int32_of(value: &Json) -> Result<Value, RecordFault>
     match integer_of(value) {
         Some(integer) => match i32::try_from(integer) {
             Ok(small) => Ok(Value::Int(i64::from(small))),
-            Err(_) => Err(RecordFault::OutOfRange),
+            Err(_) => Err(RecordFault::Refused(RecordProblem::OutOfRange)),
         },
-        None => Err(RecordFault::WrongKind),
+        None => Err(RecordFault::Refused(RecordProblem::WrongKind)),
     }
 }
 
@@ -63,9 +63,9 @@ fn int64_of(value: &Json) -> Result<Value, RecordFault>
     match integer_of(value) {
         Some(integer) => match i64::try_from(integer) {
             Ok(small) => Ok(Value::Int(small)),
-            Err(_) => Err(RecordFault::OutOfRange),
+            Err(_) => Err(RecordFault::Refused(RecordProblem::OutOfRange)),
         },
-        None => Err(RecordFault::WrongKind),
+        None => Err(RecordFault::Refused(RecordProblem::WrongKind)),
     }
 }
 
@@ -73,10 +73,7 @@ fn text_of(alloc: Global, value: &Json) -> Result<Value, RecordFault>
     ensures { Gives value_view record_fault_view (leaf_value text_kind (view value.now)) result }
 {
     match value.as_str() {
-        Some(text) => match String::from_str(alloc, text) {
-            Ok(copy) => Ok(Value::Text(copy)),
-            Err(_) => Err(RecordFault::NoMemory),
-        },
-        None => Err(RecordFault::WrongKind),
+        Some(text) => Ok(Value::Text(String::from_str(alloc, text)?)),
+        None => Err(RecordFault::Refused(RecordProblem::WrongKind)),
     }
 }

@@ -10,5 +10,5 @@ mod size;
 #[cfg(test)]
 mod tests;
 
-pub use fault::RecordFault;
+pub use fault::{RecordFault, RecordProblem};
 pub use line::record_of;

@@ -9,7 +9,7 @@ ghost use Rattle.dr_nested.specs.Views.{fields_view, node_view};
 ghost use Rattle.dr_nested.specs.Faults.{Gives};
 ghost use Rattle.dr_json.specs.Faults.{record_fault_view};
 
-use crate::fault::RecordFault;
+use crate::fault::{RecordFault, RecordProblem};
 use crate::reading::node_of;
 use crate::size::node_size;
 use dr_nested::{Field, Node, Schema};
@@ -31,7 +31,7 @@ pub fn record_of(alloc: Global, schema: &Schema, line: &[u8]) -> Result<Node, Re
     match Json::from_slice(alloc, line) {
         Ok(value) => record_of_value(alloc, &schema.fields, &value),
         Err(error) if error.is_memory() => Err(RecordFault::NoMemory),
-        Err(_) => Err(RecordFault::NotJson),
+        Err(_) => Err(RecordFault::Refused(RecordProblem::NotJson)),
     }
 }
 
@@ -40,11 +40,8 @@ fn record_of_value(alloc: Global, fields: &[Field], value: &Json) -> Result<Node
     ensures { Gives node_view record_fault_view (meant.record_of_value (fields_view fields.now) (view value.now)) result }
 {
     match value.as_object() {
-        Some(object) => match node_of(alloc, fields, object) {
-            Ok(node) => within_limits(node),
-            Err(fault) => Err(fault),
-        },
-        None => Err(RecordFault::WrongKind),
+        Some(object) => within_limits(node_of(alloc, fields, object)?),
+        None => Err(RecordFault::Refused(RecordProblem::WrongKind)),
     }
 }
 
@@ -54,7 +51,7 @@ fn within_limits(node: Node) -> Result<Node, RecordFault>
 {
     let size = node_size(&node);
     if size.instances > MOST_INSTANCES || size.text_bytes > MOST_TEXT_BYTES {
-        Err(RecordFault::TooLarge)
+        Err(RecordFault::Refused(RecordProblem::TooLarge))
     } else {
         Ok(node)
     }

@@ -11,7 +11,7 @@ ghost use Rattle.dr_nested.specs.Faults.{Gives};
 ghost use Rattle.dr_json.specs.Faults.{record_fault_view};
 ghost use Rattle.dr_json.specs.Reading.{members_node};
 
-use crate::fault::RecordFault;
+use crate::fault::{RecordFault, RecordProblem};
 use crate::keys::has_only_known_keys;
 use crate::leaf::leaf_of;
 use dr_nested::{Field, Instance, Node, Rep, Shape, Slot};
@@ -29,12 +29,10 @@ pub fn node_of(
     ensures { Gives node_view record_fault_view (members_node (fields_view fields.now) (members_view object.now.entries)) result }
 {
     if !has_only_known_keys(fields, object) {
-        return Err(RecordFault::UnknownField);
+        return Err(RecordFault::Refused(RecordProblem::UnknownField));
     }
-    match slots_of(alloc, fields, object) {
-        Ok(slots) => Ok(Node { slots }),
-        Err(fault) => Err(fault),
-    }
+    let slots = slots_of(alloc, fields, object)?;
+    Ok(Node { slots })
 }
 
 /// The slots of a group's fields, in schema order.
@@ -84,12 +82,12 @@ fn instances_of(
     ensures { Gives (λ v. instances_view v.items) record_fault_view (field_instances (rep_view (field.now).rep) (line.instance_of (shape_view (field.now).shape)) (option_map (λ v. view v.now) found.entry)) result }
 {
     match (field.rep, found) {
-        (Rep::Required, None) => Err(RecordFault::MissingField),
+        (Rep::Required, None) => Err(RecordFault::Refused(RecordProblem::MissingField)),
         (Rep::Optional | Rep::Repeated, None) => Ok(Vec::new(alloc)),
         (Rep::Required | Rep::Optional, Some(value)) => one_instance(alloc, &field.shape, value),
         (Rep::Repeated, Some(value)) => match value.as_array() {
             Some(items) => elements_of(alloc, &field.shape, items),
-            None => Err(RecordFault::WrongKind),
+            None => Err(RecordFault::Refused(RecordProblem::WrongKind)),
         },
     }
 }
@@ -114,7 +112,7 @@ fn elements_of(alloc: Global, shape: &Shape, items: &[Json]) -> Result<Vec<Insta
     let mut instances = Vec::with_capacity(alloc, items.len())?;
     for item in items {
         if item.is_null() {
-            return Err(RecordFault::NullElement);
+            return Err(RecordFault::Refused(RecordProblem::NullElement));
         }
         instances.push(instance_of(alloc, shape, item)?)?;
     }
@@ -128,16 +126,10 @@ fn instance_of(alloc: Global, shape: &Shape, value: &Json) -> Result<Instance, R
     ensures { Gives instance_view record_fault_view (line.instance_of (shape_view shape.now) (view value.now)) result }
 {
     match shape {
-        Shape::Leaf(kind) => match leaf_of(alloc, *kind, value) {
-            Ok(leaf) => Ok(Instance::Atom(leaf)),
-            Err(fault) => Err(fault),
-        },
+        Shape::Leaf(kind) => Ok(Instance::Atom(leaf_of(alloc, *kind, value)?)),
         Shape::Group(fields) => match value.as_object() {
-            Some(object) => match node_of(alloc, fields, object) {
-                Ok(node) => Ok(Instance::Group(node)),
-                Err(fault) => Err(fault),
-            },
-            None => Err(RecordFault::WrongKind),
+            Some(object) => Ok(Instance::Group(node_of(alloc, fields, object)?)),
+            None => Err(RecordFault::Refused(RecordProblem::WrongKind)),
         },
     }
 }

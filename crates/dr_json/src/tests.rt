@@ -1,6 +1,6 @@
 //! Lines and their records or faults.
 
-use crate::{RecordFault, record_of};
+use crate::{RecordFault, RecordProblem, record_of};
 use dr_nested::{Instance, Slot, Value, parse_schema};
 use std::alloc::Global;
 use std::test::Fail;
@@ -28,7 +28,7 @@ fn many_links(alloc: Global, zeros: usize) -> Result<String, Fail> {
 #[test]
 fn documents(rt: HostRuntime) -> Result<(), Fail> {
     let schema = parse_schema(rt.alloc(), DOCUMENT).ok().ok_or("no schema")?;
-    let lines: [(&[u8], Option<RecordFault>); 18] = [
+    let lines: [(&[u8], Option<RecordProblem>); 18] = [
         (b"{\"DocId\":1}", None),
         (b"{\"DocId\":1,\"Name\":null,\"Links\":null}", None),
         (
@@ -36,32 +36,36 @@ fn documents(rt: HostRuntime) -> Result<(), Fail> {
             None,
         ),
         (b"{\"DocId\":2,\"DocId\":1}", None),
-        (b"", Some(RecordFault::NotJson)),
-        (b"{\"DocId\":1", Some(RecordFault::NotJson)),
-        (b"{\"DocId\":1}\xff", Some(RecordFault::NotJson)),
-        (b"[]", Some(RecordFault::WrongKind)),
-        (b"{\"DocId\":1.5}", Some(RecordFault::WrongKind)),
-        (b"{\"DocId\":\"1\"}", Some(RecordFault::WrongKind)),
-        (b"{\"DocId\":1,\"Name\":{}}", Some(RecordFault::WrongKind)),
-        (b"{\"DocId\":1,\"X\":2}", Some(RecordFault::UnknownField)),
-        (b"{\"X\":2,\"DocId\":true}", Some(RecordFault::UnknownField)),
+        (b"", Some(RecordProblem::NotJson)),
+        (b"{\"DocId\":1", Some(RecordProblem::NotJson)),
+        (b"{\"DocId\":1}\xff", Some(RecordProblem::NotJson)),
+        (b"[]", Some(RecordProblem::WrongKind)),
+        (b"{\"DocId\":1.5}", Some(RecordProblem::WrongKind)),
+        (b"{\"DocId\":\"1\"}", Some(RecordProblem::WrongKind)),
+        (b"{\"DocId\":1,\"Name\":{}}", Some(RecordProblem::WrongKind)),
+        (b"{\"DocId\":1,\"X\":2}", Some(RecordProblem::UnknownField)),
+        (
+            b"{\"X\":2,\"DocId\":true}",
+            Some(RecordProblem::UnknownField),
+        ),
         (
             b"{\"DocId\":1,\"Name\":[{\"url\":\"u\"}]}",
-            Some(RecordFault::UnknownField),
+            Some(RecordProblem::UnknownField),
         ),
-        (b"{}", Some(RecordFault::MissingField)),
-        (b"{\"DocId\":null}", Some(RecordFault::MissingField)),
+        (b"{}", Some(RecordProblem::MissingField)),
+        (b"{\"DocId\":null}", Some(RecordProblem::MissingField)),
         (
             b"{\"DocId\":1,\"Name\":[null]}",
-            Some(RecordFault::NullElement),
+            Some(RecordProblem::NullElement),
         ),
         (
             b"{\"DocId\":1,\"Links\":{\"Forward\":[true,null]}}",
-            Some(RecordFault::WrongKind),
+            Some(RecordProblem::WrongKind),
         ),
     ];
-    for (line, fault) in lines {
+    for (line, problem) in lines {
         let found = record_of(rt.alloc(), &schema, line).err();
+        let fault = problem.map(RecordFault::Refused);
         assert_eq!(rt; found, fault, "at {line:?}");
     }
     Ok(())
@@ -70,27 +74,28 @@ fn documents(rt: HostRuntime) -> Result<(), Fail> {
 #[test]
 fn whole_numbers(rt: HostRuntime) -> Result<(), Fail> {
     let schema = parse_schema(rt.alloc(), DOCUMENT).ok().ok_or("no schema")?;
-    let lines: [(&[u8], Option<RecordFault>); 5] = [
+    let lines: [(&[u8], Option<RecordProblem>); 5] = [
         (
             b"{\"DocId\":9223372036854775808}",
-            Some(RecordFault::OutOfRange),
+            Some(RecordProblem::OutOfRange),
         ),
         (
             b"{\"DocId\":18446744073709551615}",
-            Some(RecordFault::OutOfRange),
+            Some(RecordProblem::OutOfRange),
         ),
         (
             b"{\"DocId\":18446744073709551616}",
-            Some(RecordFault::WrongKind),
+            Some(RecordProblem::WrongKind),
         ),
-        (b"{\"DocId\":-0}", Some(RecordFault::WrongKind)),
+        (b"{\"DocId\":-0}", Some(RecordProblem::WrongKind)),
         (
             b"{\"DocId\":-9223372036854775809}",
-            Some(RecordFault::WrongKind),
+            Some(RecordProblem::WrongKind),
         ),
     ];
-    for (line, fault) in lines {
+    for (line, problem) in lines {
         let found = record_of(rt.alloc(), &schema, line).err();
+        let fault = problem.map(RecordFault::Refused);
         assert_eq!(rt; found, fault, "at {line:?}");
     }
     Ok(())
@@ -99,22 +104,23 @@ fn whole_numbers(rt: HostRuntime) -> Result<(), Fail> {
 #[test]
 fn smaller_kinds(rt: HostRuntime) -> Result<(), Fail> {
     let schema = parse_schema(rt.alloc(), SMALL).ok().ok_or("no schema")?;
-    let lines: [(&[u8], Option<RecordFault>); 6] = [
+    let lines: [(&[u8], Option<RecordProblem>); 6] = [
         (
             b"{\"Count\":2147483647,\"Flag\":true,\"Text\":[\"a\",\"\"]}",
             None,
         ),
         (b"{\"Count\":-2147483648}", None),
-        (b"{\"Count\":2147483648}", Some(RecordFault::OutOfRange)),
-        (b"{\"Count\":-2147483649}", Some(RecordFault::OutOfRange)),
-        (b"{\"Count\":1,\"Flag\":0}", Some(RecordFault::WrongKind)),
+        (b"{\"Count\":2147483648}", Some(RecordProblem::OutOfRange)),
+        (b"{\"Count\":-2147483649}", Some(RecordProblem::OutOfRange)),
+        (b"{\"Count\":1,\"Flag\":0}", Some(RecordProblem::WrongKind)),
         (
             b"{\"Count\":1,\"Text\":[\"a\",1]}",
-            Some(RecordFault::WrongKind),
+            Some(RecordProblem::WrongKind),
         ),
     ];
-    for (line, fault) in lines {
+    for (line, problem) in lines {
         let found = record_of(rt.alloc(), &schema, line).err();
+        let fault = problem.map(RecordFault::Refused);
         assert_eq!(rt; found, fault, "at {line:?}");
     }
     Ok(())
@@ -151,7 +157,7 @@ fn most_instances(rt: HostRuntime) -> Result<(), Fail> {
     let line = many_links(rt.alloc(), 1_048_574)?;
     assert_eq!(rt;
         record_of(rt.alloc(), &schema, line.as_bytes()).err(),
-        Some(RecordFault::TooLarge)
+        Some(RecordFault::Refused(RecordProblem::TooLarge))
     );
     Ok(())
 }

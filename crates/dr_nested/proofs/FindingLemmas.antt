@@ -5,7 +5,7 @@ use Rattle.std.proofs.Common.{refl, sym, ap, ◌∙◌, append_assoc, add-one}
 use Rattle.dr_meaning.specs.Schema as tree
 use Rattle.dr_meaning.specs.Path.{Step, Found, PathFault, unknown_field, not_a_leaf, named_field, found_below, resolve, find_path, found_leaf, cut_at_dots, onto_first}
 use Rattle.dr_nested.specs.Views.{SeenField, field_view, fields_view, shape_view}
-use Rattle.dr_nested.specs.Faults.{path_fault_view}
+use Rattle.dr_nested.specs.Faults.{path_fault_view, path_problem_view}
 use Rattle.dr_nested.specs.Finding.{found_at, behind, Leads}
 use Rattle.dr_nested.specs.declared.shape.Field.{Field}
 use Rattle.dr_nested.specs.declared.shape.Shape as shapes
@@ -96,15 +96,10 @@ goes_on_below text n rest fs before now last s inner (Ok k) c e h l =
     ap (λ (parts : List (List ℕ)). option_map (behind before) (find_path parts fs)) c
     ∙ entered (cut_at_dots rest) (named_field n 0 fs) before now (shape_view s) e ∙ ap (λ (t : tree.Shape). option_map (behind now) (resolve (cut_at_dots rest) t)) v ∙ l
 goes_on_below text n rest fs before now last s inner (Err Refusal.NoMemory) c e h l = tt
-goes_on_below text n rest fs before now last s inner (Err Refusal.UnknownField) c e h l = λ qs p.
+goes_on_below text n rest fs before now last s inner (Err (Refusal.Refused w)) c e h l = λ qs p.
     let v : shape_view s ≡ tree.group (fields_view inner.items) = ap shape_view h ∙ view-group inner in
     ap (λ (parts : List (List ℕ)). found_leaf qs (option_map (behind p) (find_path parts fs))) c
-    ∙ refused (cut_at_dots rest) (named_field n 0 fs) before now (shape_view s) unknown_field e
-    (λ us q. ap (λ (t : tree.Shape). found_leaf us (option_map (behind q) (resolve (cut_at_dots rest) t))) v ∙ l us q) qs p
-goes_on_below text n rest fs before now last s inner (Err Refusal.NotALeaf) c e h l = λ qs p.
-    let v : shape_view s ≡ tree.group (fields_view inner.items) = ap shape_view h ∙ view-group inner in
-    ap (λ (parts : List (List ℕ)). found_leaf qs (option_map (behind p) (find_path parts fs))) c
-    ∙ refused (cut_at_dots rest) (named_field n 0 fs) before now (shape_view s) not_a_leaf e
+    ∙ refused (cut_at_dots rest) (named_field n 0 fs) before now (shape_view s) (path_problem_view w) e
     (λ us q. ap (λ (t : tree.Shape). found_leaf us (option_map (behind q) (resolve (cut_at_dots rest) t))) v ∙ l us q) qs p
 
 -- ---- the whole path
@@ -121,5 +116,4 @@ pub leaf_refused : (e : Refusal) (ns : List (List ℕ)) (m : Option Found)
     → MatchOption (path_fault_view e) ⊤ (λ f. (qs : List (List ℕ)) (p : List Step) → found_leaf qs (option_map (behind p) m) ≡ Err f)
     → MatchOption (path_fault_view e) ⊤ (λ f. found_leaf ns m ≡ Err f)
 leaf_refused Refusal.NoMemory ns m h = tt
-leaf_refused Refusal.UnknownField ns m h = ap (found_leaf ns) (sym (behind_nothing m)) ∙ h ns []
-leaf_refused Refusal.NotALeaf ns m h = ap (found_leaf ns) (sym (behind_nothing m)) ∙ h ns []
+leaf_refused (Refusal.Refused w) ns m h = ap (found_leaf ns) (sym (behind_nothing m)) ∙ h ns []

@@ -1,5 +1,11 @@
 //! Why a schema text or a path is refused.
 
+ghost use Rattle.std.specs.Prelude.{◌≡◌};
+ghost use Rattle.dr_nested.specs.declared.fault.PathFault.TheVariants.{Refused, NoMemory as WantOfMemory};
+
+use dr_memory::NoMemory;
+use std::alloc::{AllocError, AllocFailed};
+
 /// What is wrong with a schema text.
 #[derive(Clone, Copy, PartialEq, Eq, Debug)]
 pub enum SchemaProblem {
@@ -31,14 +37,50 @@ pub enum SchemaFault {
     },
 }
 
-/// Why a path is refused: it leads to no field, or to a group; or want of memory.
+/// What is wrong with the path of a leaf.
 #[derive(Clone, Copy, PartialEq, Eq, Debug)]
-pub enum PathFault {
-    NoMemory,
+pub enum PathProblem {
+    /// It leads to no field.
     UnknownField,
+    /// It leads to a group.
     NotALeaf,
 }
 
-/// Want of memory.
+/// Why a path gives no leaf: its problem, or want of memory.
 #[derive(Clone, Copy, PartialEq, Eq, Debug)]
-pub struct NoMemory;
+pub enum PathFault {
+    NoMemory,
+    Refused(PathProblem),
+}
+
+impl From<PathProblem> for PathFault {
+    ghost from_gives = { λ problem fault. fault ≡ Refused problem };
+
+    fn from(problem: PathProblem) -> PathFault {
+        PathFault::Refused(problem)
+    }
+}
+
+impl From<NoMemory> for PathFault {
+    ghost from_gives = { λ _ fault. fault ≡ WantOfMemory };
+
+    fn from(_: NoMemory) -> PathFault {
+        PathFault::NoMemory
+    }
+}
+
+impl From<AllocError> for PathFault {
+    ghost from_gives = { λ _ fault. fault ≡ WantOfMemory };
+
+    fn from(_: AllocError) -> PathFault {
+        PathFault::NoMemory
+    }
+}
+
+impl<T: Drop> From<AllocFailed<T>> for PathFault {
+    ghost from_gives = { λ _ fault. fault ≡ WantOfMemory };
+
+    fn from(_: AllocFailed<T>) -> PathFault {
+        PathFault::NoMemory
+    }
+}

@@ -8,7 +8,7 @@ ghost use Rattle.dr_nested.specs.Faults.{Gives, path_fault_view};
 ghost use Rattle.dr_nested.specs.PathView.{path_view, step_view};
 ghost use Rattle.dr_nested.specs.Finding.{found_at, Enters, Leads};
 
-use crate::fault::PathFault;
+use crate::fault::{PathFault, PathProblem};
 use crate::path::{Path, Step};
 use crate::schema::Schema;
 use crate::shape::{Field, Kind, Shape};
@@ -57,14 +57,12 @@ fn enter<'a>(
     ensures { Enters (map step_view (steps.old).items) (path_meaning.named_field name.now 0 (fields_view (fields.now).items)) (map step_view (steps.new).items) result }
 {
     match find_field(fields, name) {
-        None => Err(PathFault::UnknownField),
-        Some((place, field)) => match steps.push(Step {
-            place,
-            rep: field.rep,
-        }) {
-            Ok(()) => Ok(&field.shape),
-            Err(_) => Err(PathFault::NoMemory),
-        },
+        None => Err(PathFault::Refused(PathProblem::UnknownField)),
+        Some((place, field)) => {
+            let rep = field.rep;
+            steps.push(Step { place, rep })?;
+            Ok(&field.shape)
+        }
     }
 }
 
@@ -73,16 +71,20 @@ fn walk(fields: &Vec<Field>, text: &str, steps: &mut Vec<Step>) -> Result<Kind, 
     ensures { Leads (map step_view (steps.old).items) (path_meaning.find_path (path_meaning.cut_at_dots text.now) (fields_view (fields.now).items)) (map step_view (steps.new).items) result }
 {
     match cut_once(text) {
-        None => match enter(fields, text, steps) {
-            Ok(Shape::Leaf(kind)) => Ok(*kind),
-            Ok(Shape::Group(_)) => Err(PathFault::NotALeaf),
-            Err(fault) => Err(fault),
-        },
-        Some((name, rest)) => match enter(fields, name, steps) {
-            Ok(Shape::Leaf(_)) => Err(PathFault::UnknownField),
-            Ok(Shape::Group(inner)) => walk(inner, rest, steps),
-            Err(fault) => Err(fault),
-        },
+        None => {
+            let last = enter(fields, text, steps)?;
+            match last {
+                Shape::Leaf(kind) => Ok(*kind),
+                Shape::Group(_) => Err(PathFault::Refused(PathProblem::NotALeaf)),
+            }
+        }
+        Some((name, rest)) => {
+            let next = enter(fields, name, steps)?;
+            match next {
+                Shape::Leaf(_) => Err(PathFault::Refused(PathProblem::UnknownField)),
+                Shape::Group(inner) => walk(inner, rest, steps),
+            }
+        }
     }
 }
 
@@ -93,11 +95,7 @@ pub fn find(alloc: Global, schema: &Schema, text: &str) -> Result<Path, PathFaul
     ensures { Gives path_view path_fault_view (path_meaning.find_leaf text.now (fields_view (schema.now).fields.items)) result }
 {
     let mut steps = Vec::new(alloc);
-    match walk(&schema.fields, text, &mut steps) {
-        Err(fault) => Err(fault),
-        Ok(kind) => match cut_at_dots(alloc, text) {
-            Ok(names) => Ok(Path { names, steps, kind }),
-            Err(_) => Err(PathFault::NoMemory),
-        },
-    }
+    let kind = walk(&schema.fields, text, &mut steps)?;
+    let names = cut_at_dots(alloc, text)?;
+    Ok(Path { names, steps, kind })
 }

@@ -19,7 +19,8 @@ mod tests;
 mod writing;
 
 pub use copying::copy_value;
-pub use fault::{NoMemory, PathFault, SchemaFault, SchemaProblem};
+pub use dr_memory::NoMemory;
+pub use fault::{PathFault, PathProblem, SchemaFault, SchemaProblem};
 pub use finding::find;
 pub use fitting::{is_of_kind, is_record};
 pub use looking::instances_at;

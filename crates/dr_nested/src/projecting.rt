@@ -7,9 +7,9 @@ ghost use Rattle.dr_nested.specs.PathView.{path_view};
 ghost use Rattle.dr_nested.specs.Projecting.{lent_path, at_place, projected};
 
 use crate::copying::copy_value;
-use crate::fault::NoMemory;
 use crate::path::{Path, Step};
 use crate::record::{Instance, Node, Slot};
+use dr_memory::NoMemory;
 use std::alloc::{AllocError, Global};
 
 /// The rests of the paths that begin at a place of a group.

@@ -1,6 +1,6 @@
 use crate::{
-    Field, Instance, Kind, Node, Path, PathFault, Rep, Schema, SchemaFault, SchemaProblem, Shape,
-    Slot, Step, Value, find, is_record, parse_schema, project, schema_text,
+    Field, Instance, Kind, Node, Path, PathFault, PathProblem, Rep, Schema, SchemaFault,
+    SchemaProblem, Shape, Slot, Step, Value, find, is_record, parse_schema, project, schema_text,
 };
 use std::alloc::{AllocError, Global};
 use std::test::Fail;
@@ -198,20 +198,24 @@ fn names_that_lead_to_no_leaf_are_refused(rt: HostRuntime) -> Result<(), Fail> {
     let alloc = rt.alloc();
     let schema = parse_schema(alloc, DOCUMENT.as_bytes()).map_err(|_| "refused")?;
     let rows = [
-        ("Name", PathFault::NotALeaf),
-        ("Name.Language", PathFault::NotALeaf),
-        ("X", PathFault::UnknownField),
-        ("", PathFault::UnknownField),
-        (".", PathFault::UnknownField),
-        ("Name.", PathFault::UnknownField),
-        (".Name", PathFault::UnknownField),
-        ("docid", PathFault::UnknownField),
-        ("DocI", PathFault::UnknownField),
-        ("DocId.", PathFault::UnknownField),
-        ("DocId.x", PathFault::UnknownField),
+        ("Name", PathProblem::NotALeaf),
+        ("Name.Language", PathProblem::NotALeaf),
+        ("X", PathProblem::UnknownField),
+        ("", PathProblem::UnknownField),
+        (".", PathProblem::UnknownField),
+        ("Name.", PathProblem::UnknownField),
+        (".Name", PathProblem::UnknownField),
+        ("docid", PathProblem::UnknownField),
+        ("DocI", PathProblem::UnknownField),
+        ("DocId.", PathProblem::UnknownField),
+        ("DocId.x", PathProblem::UnknownField),
     ];
-    for (text, fault) in rows {
-        assert_eq!(rt; find(alloc, &schema, text), Err(fault), "at {text:?}");
+    for (text, problem) in rows {
+        assert_eq!(rt;
+            find(alloc, &schema, text),
+            Err(PathFault::Refused(problem)),
+            "at {text:?}"
+        );
     }
     Ok(())
 }

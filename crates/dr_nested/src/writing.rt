@@ -6,9 +6,9 @@ ghost use Rattle.dr_meaning.specs.SchemaText as text_meaning;
 ghost use Rattle.dr_nested.specs.SchemaView.{schema_view};
 ghost use Rattle.dr_nested.specs.Views.{rep_view, kind_view, shape_view, fields_view};
 
-use crate::fault::NoMemory;
 use crate::schema::Schema;
 use crate::shape::{Field, Kind, Rep, Shape};
+use dr_memory::NoMemory;
 use std::alloc::{AllocError, Global};
 
 fn rep_word(rep: Rep) -> &'static str

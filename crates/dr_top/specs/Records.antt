@@ -4,26 +4,11 @@ use Rattle.dr_meaning.specs.Schema.{Fields}
 use Rattle.dr_meaning.specs.Path.{Step}
 use Rattle.dr_meaning.specs.Record as tree
 use Rattle.dr_meaning.specs.Column.{Triplet, column}
-use Rattle.dr_meaning.specs.JsonRecord.{RecordFault, record_of_line}
 use Rattle.dr_meaning.specs.Lines as line
-use Rattle.dr_meaning.specs.Refusals.{line_refused}
 use Rattle.dr_meaning.specs.Ask.{most_records}
 use Rattle.dr_meaning.specs.Stripe.{most_striped}
-use Rattle.dr_nested.specs.Views.{node_view}
-use Rattle.dr_nested.specs.declared.record.Node.{Node}
-use Rattle.dr_top.specs.Asking.{WhereTold}
-use Rattle.dr_top.specs.Counting.{total_count}
-use Rattle.dr_top.specs.Stops.{refusal_view}
-use Rattle.dr_top.specs.declared.refusal.Refusal.{Refusal}
-use Rattle.dr_top.specs.declared.refusal.Stop.{Stop}
-
--- a line's record, or the line is refused by this number
-abbrev pub ReadsLine : Fields → List ℕ → ℕ → Result Node Stop → Type 0
-ReadsLine fs bytes number (Ok n) = record_of_line fs bytes ≡ Ok (node_view n)
-ReadsLine fs bytes number (Err Stop.NoMemory) = ⊤
-ReadsLine fs bytes number (Err Stop.Source) = ⊥
-ReadsLine fs bytes number (Err Stop.Keeper) = ⊥
-ReadsLine fs bytes number (Err (Stop.Refused r)) = (e : RecordFault) × (record_of_line fs bytes ≡ Err e) × (refusal_view r ≡ line_refused (record { line = number; fault = line.no_record e }))
+use Rattle.dr_count.specs.Counting.{total_count}
+use Rattle.dr_top.specs.World.{WhereTold}
 
 -- this is the first record of what was left, behind so many lines, and the others are those of what is left now; nothing is said of a source that doesn't tell
 abbrev pub TakesRecord : Fields → ℕ → ℕ → Option (List ℕ) → tree.Node → Option (List ℕ) → Type 0
@@ -33,8 +18,8 @@ TakesRecord fs most number (Some all) n (Some rest) =
     line.records_from fs most (suc number) (line.lines_of all) ≡ line.before_records n (line.records_from fs most (suc (suc number)) (line.lines_of rest))
 
 -- the first line of what was left is refused, so
-abbrev pub RefusesNext : Fields → ℕ → ℕ → Option (List ℕ) → Refusal → Type 0
-RefusesNext fs most number left r = WhereTold left (λ all. (e : line.Refusal) × (line.records_from fs most (suc number) (line.lines_of all) ≡ Err e) × (refusal_view r ≡ line_refused e))
+abbrev pub RefusesNext : Fields → ℕ → ℕ → Option (List ℕ) → line.Refusal → Type 0
+RefusesNext fs most number left e = WhereTold left (λ all. line.records_from fs most (suc number) (line.lines_of all) ≡ Err e)
 
 -- the records of an input, behind those read before
 abbrev pub behind : List tree.Node → Result (List tree.Node) line.Refusal → Result (List tree.Node) line.Refusal
@@ -66,7 +51,3 @@ AreColumns F columns ns = columns ≡ map (λ p. column p ns) F
 
 abbrev pub HasColumns : Fields → List (List Step) → Option (List ℕ) → List (List Triplet) → Type 0
 HasColumns fs F input columns = OfRecords fs most_striped (AreColumns F columns) input
-
--- a line of the input is the first that is refused, so
-abbrev pub IsLineRefusal : Fields → ℕ → Option (List ℕ) → Refusal → Type 0
-IsLineRefusal fs most input r = WhereTold input (λ bytes. (e : line.Refusal) × (line.records_of fs most bytes ≡ Err e) × (refusal_view r ≡ line_refused e))

@@ -1,65 +1,118 @@
--- What stops a command, in the definitions' words, with its line on err and its status.
-use Rattle.std.specs.Prelude.{◌≡◌, ℕ, List, Option, Some, None, option_map, ⊤}
+-- What stops a command, and what each stop says of the keeper and of the input.
+use Rattle.std.specs.Prelude.{◌≡◌, ℕ, Bool, true, false, List, [], ◌∷◌, ◌++◌, Option, Some, None, option_map, Result, Ok, Err, ⊤}
+use Rattle.dr_meaning.specs.Schema.{Fields, Schema}
+use Rattle.dr_meaning.specs.SchemaText.{SchemaFault, parse_schema}
+use Rattle.dr_meaning.specs.Path.{Leaf, PathFault}
 use Rattle.dr_meaning.specs.Lines as line
-use Rattle.dr_meaning.specs.JsonRecord as json_line
-use Rattle.dr_meaning.specs.Path as path
-use Rattle.dr_meaning.specs.Refusals.{CommandRefusal, schema_refused, field_refused, query_refused, line_refused, schema_refusal_text, field_refusal_text, line_refusal_text}
-use Rattle.dr_nested.specs.Faults.{problem_view, path_fault_view}
-use Rattle.dr_nested.specs.declared.fault.PathFault.{PathFault}
-use Rattle.dr_nested.specs.declared.fault.SchemaFault.{SchemaFault}
-use Rattle.dr_json.specs.declared.fault.RecordFault.{RecordFault}
-use Rattle.dr_json.specs.Faults.{record_fault_view}
-use Rattle.dr_outside.specs.declared.fault.Fault.{Fault}
-use Rattle.dr_top.specs.declared.refusal.FieldProblem.{FieldProblem}
+use Rattle.dr_meaning.specs.Refusals.{CommandRefusal, schema_refused, field_refused, query_refused, line_refused}
+use Rattle.dr_nested.specs.Faults.{problem_view, path_problem_view}
+use Rattle.dr_json.specs.Faults.{record_problem_view}
+use Rattle.dr_outside.specs.Faults.{raised}
+use Rattle.dr_outside.specs.Source.{SourceShown}
+use Rattle.dr_outside.specs.Link.{Files, LinkShown, Request, size_of, bytes_of}
+use Rattle.dr_commands.specs.Meaning.{Meaning, refused, IsEarly}
+use Rattle.dr_commands.specs.declared.words_fault.WordsFault.{WordsFault}
+use Rattle.dr_top.specs.World.{WhereTold, HasOutcome, IsOpened}
 use Rattle.dr_top.specs.declared.refusal.LineProblem.{LineProblem}
 use Rattle.dr_top.specs.declared.refusal.Refusal.{Refusal}
-use Rattle.dr_top.specs.declared.refusal.Stop.{Stop}
+use Rattle.dr_top.specs.declared.schema_file.SchemaFileFault.{SchemaFileFault}
+use Rattle.dr_top.specs.declared.field.FieldFault.{FieldFault}
+use Rattle.dr_top.specs.declared.input_records.InputFault.{InputFault}
+use Rattle.dr_top.specs.declared.stop.Stop.{Stop}
 
-abbrev pub field_problem_view : FieldProblem → path.PathFault
-field_problem_view FieldProblem.UnknownField = path.unknown_field
-field_problem_view FieldProblem.NotALeaf = path.not_a_leaf
+-- ---- refusals
 
 abbrev pub line_problem_view : LineProblem → line.LineFault
 line_problem_view LineProblem.TooLong = line.line_too_long
 line_problem_view LineProblem.TooManyRecords = line.too_many_records
-line_problem_view LineProblem.NotJson = line.no_record json_line.not_json
-line_problem_view LineProblem.UnknownField = line.no_record json_line.unknown_field
-line_problem_view LineProblem.MissingField = line.no_record json_line.missing_field
-line_problem_view LineProblem.WrongKind = line.no_record json_line.wrong_kind
-line_problem_view LineProblem.OutOfRange = line.no_record json_line.out_of_range
-line_problem_view LineProblem.NullElement = line.no_record json_line.null_element
-line_problem_view LineProblem.TooLarge = line.no_record json_line.too_large
+line_problem_view (LineProblem.Record w) = line.no_record (record_problem_view w)
 
 abbrev pub refusal_view : Refusal → CommandRefusal
 refusal_view (Refusal.Schema p w) = schema_refused (record { place = p; problem = problem_view w })
-refusal_view (Refusal.Field n w) = field_refused n (field_problem_view w)
+refusal_view (Refusal.Field n w) = field_refused n (path_problem_view w)
 refusal_view Refusal.Query = query_refused
 refusal_view (Refusal.Line n w) = line_refused (record { line = n; fault = line_problem_view w })
 
--- the problem is the fault's; want of memory is no problem of a FIELD
-abbrev pub IsFieldProblemOf : PathFault → Option FieldProblem → Type 0
-IsFieldProblemOf fault problem = path_fault_view fault ≡ option_map field_problem_view problem
+-- ---- the schema's file
 
--- the problem is the fault's; want of memory is no problem of a line
-abbrev pub IsProblemOf : RecordFault → Option LineProblem → Type 0
-IsProblemOf fault problem = option_map line.no_record (record_fault_view fault) ≡ option_map line_problem_view problem
+-- the schema of the file at a path
+abbrev pub IsFileSchema : Option Files → List ℕ → Schema → Type 0
+IsFileSchema files path schema = WhereTold files (λ fs. (bytes : List ℕ) × (fs path ≡ Some bytes) × (parse_schema bytes ≡ Ok schema))
 
--- the line that a refusal has on err; of a refused query's nothing is said yet
-abbrev pub IsRefusalText : CommandRefusal → List ℕ → Type 0
-IsRefusalText (schema_refused e) text = text ≡ schema_refusal_text e
-IsRefusalText (field_refused n e) text = text ≡ field_refusal_text n e
-IsRefusalText query_refused text = ⊤
-IsRefusalText (line_refused e) text = text ≡ line_refusal_text e
+-- the file at a path is refused as a schema, so
+abbrev pub IsRefusedSchema : Option Files → List ℕ → SchemaFault → Type 0
+IsRefusedSchema files path e = WhereTold files (λ fs. (bytes : List ℕ) × (fs path ≡ Some bytes) × (parse_schema bytes ≡ Err e))
 
-abbrev pub RefusalText : Refusal → List ℕ → Type 0
-RefusalText r text = IsRefusalText (refusal_view r) text
+-- the keeper was asked for nothing but the length of a file and then its bytes, each at most once
+abbrev pub AreForFile : List ℕ → List Request → Type 0
+AreForFile path [] = ⊤
+AreForFile path (size_of p ∷ []) = p ≡ path
+AreForFile path (size_of p ∷ bytes_of range ∷ []) = (p ≡ path) × (range.path ≡ path) × (range.start ≡ 0)
+AreForFile path _ = ⊥
 
--- the stop of a keeper's fault
-abbrev pub IsFileStop : Fault → Stop → Type 0
-IsFileStop Fault.Failed stop = stop ≡ Stop.Keeper
-IsFileStop Fault.NoMemory stop = stop ≡ Stop.NoMemory
+abbrev pub with_requests : Option (List Request) → List Request → Option (List Request)
+with_requests asked more = option_map (λ requests. requests ++ more) asked
 
--- the stop of a schema's fault
-abbrev pub SchemaStops : SchemaFault → Stop → Type 0
-SchemaStops SchemaFault.NoMemory stop = stop ≡ Stop.NoMemory
-SchemaStops (SchemaFault.Refused p w) stop = stop ≡ Stop.Refused (Refusal.Schema p w)
+abbrev pub AsksForFile : List ℕ → LinkShown → LinkShown → Type 0
+AsksForFile path before now = (more : List Request) × (now.asked ≡ with_requests before.asked more) × AreForFile path more
+
+-- why a schema's file gives no schema
+abbrev pub SchemaFileStops : List ℕ → LinkShown → LinkShown → SchemaFileFault → Type 0
+SchemaFileStops path before now SchemaFileFault.NoMemory = now.faults ≡ before.faults
+SchemaFileStops path before now SchemaFileFault.Keeper = now.faults ≡ raised before.faults
+SchemaFileStops path before now (SchemaFileFault.Refused p w) = (now.faults ≡ before.faults) × IsRefusedSchema before.held path (record { place = p; problem = problem_view w })
+
+-- ---- a FIELD
+
+-- the leaf that a FIELD of this number names, or why it is refused; want of memory may come in place of either
+abbrev pub FieldStops : {A : Type 0} → Result A CommandRefusal → FieldFault → Type 0
+FieldStops meant FieldFault.NoMemory = ⊤
+FieldStops meant (FieldFault.Refused n w) = meant ≡ Err (field_refused n (path_problem_view w))
+
+-- ---- the records of the input
+
+-- a line of the input is the first that is refused, so
+abbrev pub IsRefusedLine : Fields → ℕ → Option (List ℕ) → line.Refusal → Type 0
+IsRefusedLine fs most input e = WhereTold input (λ bytes. line.records_of fs most bytes ≡ Err e)
+
+-- why an input gives no records
+abbrev pub InputStops : Fields → ℕ → SourceShown → SourceShown → InputFault → Type 0
+InputStops fs most before now InputFault.NoMemory = now.faults ≡ before.faults
+InputStops fs most before now InputFault.Source = now.faults ≡ raised before.faults
+InputStops fs most before now (InputFault.Refused n w) = (now.faults ≡ before.faults) × IsRefusedLine fs most before.left (record { line = n; fault = line_problem_view w })
+
+-- ---- a command
+
+-- what a command of this meaning is stopped by, with what it leaves of the keeper and of the input
+abbrev pub StopsWith : Meaning → LinkShown → LinkShown → SourceShown → SourceShown → Stop → Type 0
+StopsWith m keeper keeper_now input input_now Stop.Usage = ⊥
+StopsWith m keeper keeper_now input input_now Stop.NoMemory = (keeper_now.faults ≡ keeper.faults) × (input_now.faults ≡ input.faults)
+StopsWith m keeper keeper_now input input_now Stop.Keeper = (keeper_now.faults ≡ raised keeper.faults) × (input_now ≡ input)
+StopsWith m keeper keeper_now input input_now Stop.Source = (input_now.faults ≡ raised input.faults) × (keeper_now.faults ≡ keeper.faults) × IsOpened m keeper
+StopsWith m keeper keeper_now input input_now (Stop.Refused r) =
+    (keeper_now.faults ≡ keeper.faults) × (input_now.faults ≡ input.faults) × HasOutcome m keeper input [] (refused (refusal_view r) []) × (IsEarly (refusal_view r) → input_now ≡ input)
+
+-- the input was read to its end, or left alone where it isn't read
+abbrev pub IsReadBy : Bool → SourceShown → SourceShown → Type 0
+IsReadBy true before now = WhereTold before.left (λ _. now.left ≡ Some [])
+IsReadBy false before now = now ≡ before
+
+-- ---- the stops that faults are handed on as
+
+abbrev pub words_stop : WordsFault → Stop
+words_stop WordsFault.Usage = Stop.Usage
+words_stop WordsFault.NoMemory = Stop.NoMemory
+
+abbrev pub schema_file_stop : SchemaFileFault → Stop
+schema_file_stop SchemaFileFault.NoMemory = Stop.NoMemory
+schema_file_stop SchemaFileFault.Keeper = Stop.Keeper
+schema_file_stop (SchemaFileFault.Refused p w) = Stop.Refused (Refusal.Schema p w)
+
+abbrev pub field_stop : FieldFault → Stop
+field_stop FieldFault.NoMemory = Stop.NoMemory
+field_stop (FieldFault.Refused n w) = Stop.Refused (Refusal.Field n w)
+
+abbrev pub input_stop : InputFault → Stop
+input_stop InputFault.NoMemory = Stop.NoMemory
+input_stop InputFault.Source = Stop.Source
+input_stop (InputFault.Refused n w) = Stop.Refused (Refusal.Line n w)

@@ -1,39 +1,66 @@
-//! The answers of the commands.
+//! The commands: what each answers.
 
-ghost use Rattle.std.specs.Prelude.{◌≡◌, ◌≤◌, Ok, Err, IfOk, OnOk, string_bytes};
-ghost use Rattle.dr_outside.specs.Faults.{Rose};
-ghost use Rattle.dr_top.specs.Asking.{HasAnswer, IsReadBy};
-ghost use Rattle.dr_top.specs.Stops.{refusal_view};
-ghost use Rattle.dr_top.specs.WordsViews.{command_view};
+ghost use Rattle.std.specs.Prelude.{◌≡◌, [], false, map, string_bytes, IfOk, IfErr, OnOk};
+ghost use Rattle.dr_commands.specs.Meaning.{done};
+ghost use Rattle.dr_commands.specs.Commands.{meaning_of, meant};
+ghost use Rattle.dr_commands.specs.CommandView.{command_view};
+ghost use Rattle.dr_top.specs.Stops.{StopsWith, IsReadBy, AsksForFile};
+ghost use Rattle.dr_top.specs.World.{HasOutcome};
+ghost use Rattle.dr_top.specs.Answers.{StopsMeant, AsksMeant, LeavesUnread};
+ghost use Rattle.dr_top.specs.Ends.{ForMeant};
 
-use crate::asking::ask_answer;
-use crate::automata::fsm_answer;
-use crate::refusal::{Refusal, Stop};
-use crate::striping::stripe_answer;
-use crate::words::Command;
+mod ask;
+mod fsm;
+mod stripe;
+
+use crate::stop::Stop;
+use dr_commands::{Command, read_words};
 use dr_outside::{Keeper, Source};
 use std::alloc::Global;
 
 /// The text that a command prints.
 ///
-/// Errors: the first refusal; the keeper or the source failed; want of memory.
-pub fn command_answer<S: Source, K: Keeper>(
+/// Errors: its first refusal; the keeper or the source failed; want of memory.
+fn command_answer<S: Source, K: Keeper>(
     alloc: Global,
     command: &Command,
     source: &mut S,
     keeper: &mut K,
 ) -> Result<String, Stop>
-    ensures text { IfOk result (λ t. HasAnswer (K.held keeper.old) (S.left source.old) (command_view command.now) (Ok (string_bytes t))) }
-    ensures end { OnOk result (IsReadBy (command_view command.now) (S.left source.old) (S.left source.new)) }
-    ensures refused { (r : Refusal) → result ≡ Err (Stop.Refused r) → HasAnswer (K.held keeper.old) (S.left source.old) (command_view command.now) (Err (refusal_view r)) }
-    ensures source_fault { result ≡ Err Stop.Source → Rose (S.faults source.old) (S.faults source.new) }
-    ensures keeper_fault { result ≡ Err Stop.Keeper → Rose (K.faults keeper.old) (K.faults keeper.new) }
-    ensures source_never_falls { S.faults source.old ≤ S.faults source.new }
-    ensures keeper_never_falls { K.faults keeper.old ≤ K.faults keeper.new }
+    ensures text { IfOk result (λ t. HasOutcome (meaning_of (command_view command.now)) (K.shows keeper.old) (S.shows source.old) [] (done (string_bytes t) [])) }
+    ensures read { OnOk result (IsReadBy (meaning_of (command_view command.now)).reads_input (S.shows source.old) (S.shows source.new)) }
+    ensures source_calm { OnOk result ((S.shows source.new).faults ≡ (S.shows source.old).faults) }
+    ensures keeper_calm { OnOk result ((K.shows keeper.new).faults ≡ (K.shows keeper.old).faults) }
+    ensures stops { IfErr result (StopsWith (meaning_of (command_view command.now)) (K.shows keeper.old) (K.shows keeper.new) (S.shows source.old) (S.shows source.new)) }
+    ensures kept { (K.shows keeper.new).held ≡ (K.shows keeper.old).held }
+    ensures asks { AsksForFile (meaning_of (command_view command.now)).file (K.shows keeper.old) (K.shows keeper.new) }
+    ensures unread { (meaning_of (command_view command.now)).reads_input ≡ false → S.shows source.new ≡ S.shows source.old }
 {
     match command {
-        Command::Ask(ask) => ask_answer(alloc, ask, source, keeper),
-        Command::Stripe(stripe) => stripe_answer(alloc, stripe, source, keeper),
-        Command::Fsm(fsm) => fsm_answer(alloc, fsm, keeper),
+        Command::Ask(ask) => ask::answer(alloc, ask, source, keeper),
+        Command::Stripe(stripe) => stripe::answer(alloc, stripe, source, keeper),
+        Command::Fsm(fsm) => fsm::answer(alloc, fsm, keeper),
     }
+}
+
+/// The text that the words ask for.
+///
+/// Errors: the words ask for nothing; the command's first refusal; the keeper or the source failed; want of memory.
+pub fn answer<S: Source, K: Keeper>(
+    alloc: Global,
+    words: &[String],
+    source: &mut S,
+    keeper: &mut K,
+) -> Result<String, Stop>
+    ensures text { IfOk result (λ t. ForMeant (meant (map string_bytes words.now)) (λ m. HasOutcome m (K.shows keeper.old) (S.shows source.old) [] (done (string_bytes t) []))) }
+    ensures read { OnOk result (ForMeant (meant (map string_bytes words.now)) (λ m. IsReadBy m.reads_input (S.shows source.old) (S.shows source.new))) }
+    ensures source_calm { OnOk result ((S.shows source.new).faults ≡ (S.shows source.old).faults) }
+    ensures keeper_calm { OnOk result ((K.shows keeper.new).faults ≡ (K.shows keeper.old).faults) }
+    ensures stops { IfErr result (StopsMeant (meant (map string_bytes words.now)) (K.shows keeper.old) (K.shows keeper.new) (S.shows source.old) (S.shows source.new)) }
+    ensures kept { (K.shows keeper.new).held ≡ (K.shows keeper.old).held }
+    ensures asks { AsksMeant (meant (map string_bytes words.now)) (K.shows keeper.old) (K.shows keeper.new) }
+    ensures unread { LeavesUnread (meant (map string_bytes words.now)) (S.shows source.old) (S.shows source.new) }
+{
+    let command = read_words(alloc, words)?;
+    command_answer(alloc, &command, source, keeper)
 }

@@ -1,13 +1,15 @@
-//! What a command is stopped by.
+//! What a command refuses, with its line on standard error.
 
 ghost use Rattle.std.specs.Prelude.{◌≡◌, ◌≤◌, ◌+◌, ◌++◌, length, decimal};
-ghost use Rattle.dr_meaning.specs.Refusals.{schema_problem_name, path_fault_name, line_fault_name, schema_refusal_text, field_refusal_text, line_refusal_text};
-ghost use Rattle.dr_nested.specs.Faults.{problem_view};
-ghost use Rattle.dr_top.specs.Stops.{IsFieldProblemOf, IsProblemOf, RefusalText, field_problem_view, line_problem_view};
+ghost use Rattle.dr_meaning.specs.Refusals.{schema_problem_name, path_fault_name, record_fault_name, line_fault_name, schema_refusal_text, field_refusal_text, line_refusal_text};
+ghost use Rattle.dr_nested.specs.Faults.{problem_view, path_problem_view};
+ghost use Rattle.dr_json.specs.Faults.{record_problem_view};
+ghost use Rattle.dr_commands.specs.Meaning.{refusal_text};
+ghost use Rattle.dr_top.specs.Stops.{line_problem_view, refusal_view};
 
-use crate::report::Report;
-use dr_json::RecordFault;
-use dr_nested::{PathFault, SchemaProblem};
+use crate::report::{LONGEST_REPORT, Report};
+use dr_json::RecordProblem;
+use dr_nested::{PathProblem, SchemaProblem};
 use itoa::Buffer;
 
 /// What is wrong with an input line.
@@ -17,20 +19,8 @@ pub enum LineProblem {
     TooLong,
     /// It is past the greatest number of lines.
     TooManyRecords,
-    NotJson,
-    UnknownField,
-    MissingField,
-    WrongKind,
-    OutOfRange,
-    NullElement,
-    TooLarge,
-}
-
-/// What is wrong with a FIELD.
-#[derive(Clone, Copy, PartialEq, Eq, Debug)]
-pub enum FieldProblem {
-    UnknownField,
-    NotALeaf,
+    /// It is no record of the schema.
+    Record(RecordProblem),
 }
 
 /// What is refused, in the order in which it is looked at.
@@ -44,7 +34,7 @@ pub enum Refusal {
     /// The first FIELD that is refused, counted from 0.
     Field {
         number: usize,
-        problem: FieldProblem,
+        problem: PathProblem,
     },
     /// The query.
     Query,
@@ -53,44 +43,6 @@ pub enum Refusal {
         number: u64,
         problem: LineProblem,
     },
-}
-
-/// Why there is no answer.
-#[derive(Clone, Copy, PartialEq, Eq, Debug)]
-pub enum Stop {
-    NoMemory,
-    /// The source failed.
-    Source,
-    /// The keeper failed.
-    Keeper,
-    Refused(Refusal),
-}
-
-/// The problem of a path's fault; want of memory is none.
-pub fn field_problem_of(fault: PathFault) -> Option<FieldProblem>
-    ensures { IsFieldProblemOf fault result }
-{
-    match fault {
-        PathFault::UnknownField => Some(FieldProblem::UnknownField),
-        PathFault::NotALeaf => Some(FieldProblem::NotALeaf),
-        PathFault::NoMemory => None,
-    }
-}
-
-/// The problem of a fault; want of memory is none.
-pub fn problem_of(fault: RecordFault) -> Option<LineProblem>
-    ensures { IsProblemOf fault result }
-{
-    match fault {
-        RecordFault::NotJson => Some(LineProblem::NotJson),
-        RecordFault::UnknownField => Some(LineProblem::UnknownField),
-        RecordFault::MissingField => Some(LineProblem::MissingField),
-        RecordFault::WrongKind => Some(LineProblem::WrongKind),
-        RecordFault::OutOfRange => Some(LineProblem::OutOfRange),
-        RecordFault::NullElement => Some(LineProblem::NullElement),
-        RecordFault::TooLarge => Some(LineProblem::TooLarge),
-        RecordFault::NoMemory => None,
-    }
 }
 
 /// The word for a schema's problem.
@@ -111,13 +63,29 @@ fn schema_word(problem: SchemaProblem) -> &'static str
 }
 
 /// The word for a FIELD's problem.
-fn field_word(problem: FieldProblem) -> &'static str
-    ensures word { result.now ≡ path_fault_name (field_problem_view problem) }
+fn field_word(problem: PathProblem) -> &'static str
+    ensures word { result.now ≡ path_fault_name (path_problem_view problem) }
     ensures short { length result.now ≤ 20 }
 {
     match problem {
-        FieldProblem::UnknownField => "UnknownField",
-        FieldProblem::NotALeaf => "NotALeaf",
+        PathProblem::UnknownField => "UnknownField",
+        PathProblem::NotALeaf => "NotALeaf",
+    }
+}
+
+/// The word for a record's problem.
+fn record_word(problem: RecordProblem) -> &'static str
+    ensures word { result.now ≡ record_fault_name (record_problem_view problem) }
+    ensures short { length result.now ≤ 20 }
+{
+    match problem {
+        RecordProblem::NotJson => "NotJson",
+        RecordProblem::UnknownField => "UnknownField",
+        RecordProblem::MissingField => "MissingField",
+        RecordProblem::WrongKind => "WrongKind",
+        RecordProblem::OutOfRange => "OutOfRange",
+        RecordProblem::NullElement => "NullElement",
+        RecordProblem::TooLarge => "TooLarge",
     }
 }
 
@@ -129,13 +97,7 @@ fn line_word(problem: LineProblem) -> &'static str
     match problem {
         LineProblem::TooLong => "LineTooLong",
         LineProblem::TooManyRecords => "TooManyRecords",
-        LineProblem::NotJson => "NotJson",
-        LineProblem::UnknownField => "UnknownField",
-        LineProblem::MissingField => "MissingField",
-        LineProblem::WrongKind => "WrongKind",
-        LineProblem::OutOfRange => "OutOfRange",
-        LineProblem::NullElement => "NullElement",
-        LineProblem::TooLarge => "TooLarge",
+        LineProblem::Record(problem) => record_word(problem),
     }
 }
 
@@ -163,8 +125,8 @@ fn schema_report(place: usize, problem: SchemaProblem) -> Report
 }
 
 /// `refused field N: WHAT`.
-fn field_report(number: usize, problem: FieldProblem) -> Report
-    ensures { result ≡ field_refusal_text number (field_problem_view problem) }
+fn field_report(number: usize, problem: PathProblem) -> Report
+    ensures { result ≡ field_refusal_text number (path_problem_view problem) }
 {
     let mut report = Report::new();
     report.push("refused field ");
@@ -190,7 +152,7 @@ fn line_report(number: u64, problem: LineProblem) -> Report
 
 /// A report of one piece.
 fn plain_report(text: &str) -> Report
-    requires { length text.now ≤ 1024 }
+    requires { length text.now ≤ LONGEST_REPORT }
     ensures { result ≡ text.now }
 {
     let mut report = Report::new();
@@ -201,7 +163,7 @@ fn plain_report(text: &str) -> Report
 impl Refusal {
     /// The line on standard error.
     pub fn report(self) -> Report
-        ensures { RefusalText self result }
+        ensures { result ≡ refusal_text (refusal_view self) }
     {
         match self {
             Refusal::Schema { place, problem } => schema_report(place, problem),

@@ -35,7 +35,7 @@ impl Report {
 
     /// Appends a piece.
     pub fn push(&mut self, piece: &str)
-        requires { length self.old + length piece.now ≤ 1024 }
+        requires { length self.old + length piece.now ≤ LONGEST_REPORT }
         ensures bytes { self.new ≡ self.old ++ piece.now }
         ensures len { length self.new ≡ length self.old + length piece.now }
     {

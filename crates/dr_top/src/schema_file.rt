@@ -1,55 +1,96 @@
-//! Reading the schema file.
+//! The schema of a file that the keeper holds.
 
-ghost use Rattle.std.specs.Prelude.{◌≡◌, ◌≢◌, ◌≤◌, IfOk, IfErr, OnOk, Err};
-ghost use Rattle.dr_outside.specs.Faults.{Rose};
-ghost use Rattle.dr_top.specs.Asking.{IsFile, IsLongFile};
-ghost use Rattle.dr_top.specs.Stops.{IsFileStop};
+ghost use Rattle.std.specs.Prelude.{◌≡◌, ◌×◌, IfOk, IfErr, OnOk};
+ghost use Rattle.dr_nested.specs.SchemaView.{schema_view};
+ghost use Rattle.dr_outside.specs.declared.fault.Fault.TheVariants as outside;
+ghost use Rattle.dr_nested.specs.declared.fault.SchemaFault.TheVariants as schema_fault;
+ghost use Rattle.dr_top.specs.declared.schema_file.SchemaFileFault.TheVariants as stops;
+ghost use Rattle.dr_top.specs.SchemaFile.{file_fault, schema_fault_in, IsFile};
+ghost use Rattle.dr_top.specs.Stops.{IsFileSchema, SchemaFileStops, AsksForFile};
 
-use crate::refusal::{Refusal, Stop};
-use dr_nested::{LONGEST_SCHEMA, SchemaProblem};
+use dr_nested::{LONGEST_SCHEMA, Schema, SchemaFault, SchemaProblem, parse_schema};
 use dr_outside::{Fault, Keeper};
-use std::alloc::Global;
+use std::alloc::{AllocError, Global};
 
-/// The stop of a keeper's fault.
-fn keeper_stop(fault: Fault) -> Stop
-    ensures { IsFileStop fault result }
-{
-    match fault {
-        Fault::Failed => Stop::Keeper,
-        Fault::NoMemory => Stop::NoMemory,
+/// Why a schema's file gives no schema.
+#[derive(Clone, Copy, PartialEq, Eq, Debug)]
+pub enum SchemaFileFault {
+    NoMemory,
+    /// The keeper failed.
+    Keeper,
+    /// The file's text is no schema: its first problem, with its byte offset.
+    Refused {
+        place: usize,
+        problem: SchemaProblem,
+    },
+}
+
+impl From<AllocError> for SchemaFileFault {
+    ghost from_gives = { λ _ fault. fault ≡ stops.NoMemory };
+
+    fn from(_: AllocError) -> SchemaFileFault {
+        SchemaFileFault::NoMemory
+    }
+}
+
+impl From<Fault> for SchemaFileFault {
+    ghost from_gives = { λ fault stop. stop ≡ file_fault fault };
+
+    fn from(fault: Fault) -> SchemaFileFault {
+        match fault {
+            Fault::Failed => SchemaFileFault::Keeper,
+            Fault::NoMemory => SchemaFileFault::NoMemory,
+        }
+    }
+}
+
+impl From<SchemaFault> for SchemaFileFault {
+    ghost from_gives = { λ fault stop. stop ≡ schema_fault_in fault };
+
+    fn from(fault: SchemaFault) -> SchemaFileFault {
+        match fault {
+            SchemaFault::NoMemory => SchemaFileFault::NoMemory,
+            SchemaFault::Refused { place, problem } => SchemaFileFault::Refused { place, problem },
+        }
     }
 }
 
 /// The bytes of a file that isn't longer than a schema may be.
 ///
 /// Errors: a longer file is refused as a schema; the keeper failed; want of memory.
-pub fn read_schema_file<K: Keeper>(
+fn read_file<K: Keeper>(alloc: Global, keeper: &mut K, path: &str) -> Result<Vec<u8>, SchemaFileFault>
+    ensures bytes { IfOk result (λ v. IsFile (K.shows keeper.old).held path.now v.items) }
+    ensures calm { OnOk result ((K.shows keeper.new).faults ≡ (K.shows keeper.old).faults) }
+    ensures stops { IfErr result (SchemaFileStops path.now (K.shows keeper.old) (K.shows keeper.new)) }
+    ensures kept { (K.shows keeper.new).held ≡ (K.shows keeper.old).held }
+    ensures asks { AsksForFile path.now (K.shows keeper.old) (K.shows keeper.new) }
+{
+    let size = keeper.size(path)?;
+    if size > LONGEST_SCHEMA as u64 {
+        return Err(SchemaFileFault::Refused {
+            place: LONGEST_SCHEMA,
+            problem: SchemaProblem::TooLong,
+        });
+    }
+    let mut bytes = vec![in alloc; 0u8; size as usize]?;
+    keeper.read_at(path, 0, &mut bytes)?;
+    Ok(bytes)
+}
+
+/// The schema of the file at a path. The keeper is asked for the file's length and then for its bytes, each once.
+///
+/// Errors: the text is no schema; the keeper failed; want of memory.
+pub fn read_schema<K: Keeper>(
     alloc: Global,
     keeper: &mut K,
     path: &str,
-) -> Result<Vec<u8>, Stop>
-    ensures bytes { IfOk result (λ v. IsFile (K.held keeper.old) path.now v.items) }
-    ensures long { (r : Refusal) → result ≡ Err (Stop.Refused r) → (r ≡ Refusal.Schema LONGEST_SCHEMA SchemaProblem.TooLong) × IsLongFile (K.held keeper.old) path.now }
-    ensures cause { result ≡ Err Stop.Keeper → Rose (K.faults keeper.old) (K.faults keeper.new) }
-    ensures no_source { IfErr result (λ e. e ≢ Stop.Source) }
-    ensures never_falls { K.faults keeper.old ≤ K.faults keeper.new }
+) -> Result<Schema, SchemaFileFault>
+    ensures schema { IfOk result (λ s. IsFileSchema (K.shows keeper.old).held path.now (schema_view s)) }
+    ensures calm { OnOk result ((K.shows keeper.new).faults ≡ (K.shows keeper.old).faults) }
+    ensures stops { IfErr result (SchemaFileStops path.now (K.shows keeper.old) (K.shows keeper.new)) }
+    ensures kept { (K.shows keeper.new).held ≡ (K.shows keeper.old).held }
+    ensures asks { AsksForFile path.now (K.shows keeper.old) (K.shows keeper.new) }
 {
-    let size = match keeper.size(path) {
-        Ok(size) => size,
-        Err(fault) => return Err(keeper_stop(fault)),
-    };
-    if size > LONGEST_SCHEMA as u64 {
-        return Err(Stop::Refused(Refusal::Schema {
-            place: LONGEST_SCHEMA,
-            problem: SchemaProblem::TooLong,
-        }));
-    }
-    let mut bytes = match vec![in alloc; 0u8; size as usize] {
-        Ok(bytes) => bytes,
-        Err(_) => return Err(Stop::NoMemory),
-    };
-    match keeper.read_at(path, 0, &mut bytes) {
-        Ok(()) => Ok(bytes),
-        Err(fault) => Err(keeper_stop(fault)),
-    }
+    let text = read_file(alloc, keeper, path)?;
+    Ok(parse_schema(alloc, &text)?)
 }

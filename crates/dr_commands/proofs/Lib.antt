@@ -1,0 +1,11 @@
+-- command lines written out, by computation
+mod WorkedWords
+-- what the words of a command line ask for, from clap's answers
+mod WordsLemmas
+-- where clap takes words, the values that have to be there are
+mod NeededLemmas
+mod AskLemmas
+mod StripeLemmas
+mod FsmLemmas
+-- clap's definitions of faults and of taken words agree
+mod AgreementLemmas

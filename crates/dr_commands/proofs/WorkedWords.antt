@@ -1,0 +1,133 @@
+-- Command lines written out: each holds by computation.
+use Rattle.std.specs.Prelude.{◌≡◌, refl, List, [], ◌∷◌, Some, None, codes}
+use Rattle.clap.specs.Words.{Text, fault_of}
+use Rattle.clap.specs.declared.error.ErrorKind.TheVariants as kind
+use Rattle.clap.proofs.OnLiterals.{clap_on_literals}
+use Rattle.dr_commands.specs.Commands.{Taken, ask, asked, dremel_app}
+
+abbrev query : Text
+query = codes "SELECT COUNT(Name.Url) FROM Document"
+
+abbrev count_words : List Text
+count_words = codes "dremel" ∷ codes "ask" ∷ codes "--schema" ∷ codes "document.txt" ∷ query ∷ []
+
+pub count_is_taken : Taken count_words
+unfolding clap_on_literals
+count_is_taken = refl
+
+pub count_is_asked : asked count_words ≡ Some (ask (record { schema = codes "document.txt"; query = query }))
+unfolding clap_on_literals
+count_is_asked = refl
+
+-- the option may stand after the query, and with `=`
+pub either_order : asked (codes "dremel" ∷ codes "ask" ∷ query ∷ codes "--schema=document.txt" ∷ []) ≡ asked count_words
+unfolding clap_on_literals
+either_order = refl
+
+-- ---- the lines that are refused, with the kind that clap gives each
+
+pub no_words : fault_of dremel_app ([]) ≡ kind.MissingSubcommand ∷ []
+unfolding clap_on_literals
+no_words = refl
+
+pub no_subcommand : fault_of dremel_app (codes "dremel" ∷ []) ≡ kind.MissingSubcommand ∷ []
+unfolding clap_on_literals
+no_subcommand = refl
+
+pub no_schema : fault_of dremel_app (codes "dremel" ∷ codes "ask" ∷ query ∷ []) ≡ kind.MissingRequiredArgument ∷ []
+unfolding clap_on_literals
+no_schema = refl
+
+pub no_query : fault_of dremel_app (codes "dremel" ∷ codes "ask" ∷ codes "--schema" ∷ codes "document.txt" ∷ []) ≡ kind.MissingRequiredArgument ∷ []
+unfolding clap_on_literals
+no_query = refl
+
+pub no_path : fault_of dremel_app (codes "dremel" ∷ codes "ask" ∷ query ∷ codes "--schema" ∷ []) ≡ kind.InvalidValue ∷ []
+unfolding clap_on_literals
+no_path = refl
+
+pub two_queries : fault_of dremel_app (codes "dremel" ∷ codes "ask" ∷ codes "--schema" ∷ codes "document.txt" ∷ query ∷ query ∷ []) ≡ kind.UnknownArgument ∷ []
+unfolding clap_on_literals
+two_queries = refl
+
+pub two_schemas : fault_of dremel_app (codes "dremel" ∷ codes "ask" ∷ codes "--schema" ∷ codes "document.txt" ∷ codes "--schema" ∷ codes "document.txt" ∷ query ∷ []) ≡ kind.ArgumentConflict ∷ []
+unfolding clap_on_literals
+two_schemas = refl
+
+pub unknown_subcommand : fault_of dremel_app (codes "dremel" ∷ codes "nothing" ∷ []) ≡ kind.UnknownArgument ∷ kind.InvalidSubcommand ∷ []
+unfolding clap_on_literals
+unknown_subcommand = refl
+
+pub unknown_option : fault_of dremel_app (codes "dremel" ∷ codes "ask" ∷ codes "--rows" ∷ codes "2" ∷ codes "--schema" ∷ codes "document.txt" ∷ query ∷ []) ≡ kind.UnknownArgument ∷ []
+unfolding clap_on_literals
+unknown_option = refl
+
+pub help_flag : fault_of dremel_app (codes "dremel" ∷ codes "--help" ∷ []) ≡ kind.UnknownArgument ∷ []
+unfolding clap_on_literals
+help_flag = refl
+
+pub help_word : fault_of dremel_app (codes "dremel" ∷ codes "help" ∷ []) ≡ kind.UnknownArgument ∷ kind.InvalidSubcommand ∷ []
+unfolding clap_on_literals
+help_word = refl
+
+pub ask_help : fault_of dremel_app (codes "dremel" ∷ codes "ask" ∷ codes "--help" ∷ []) ≡ kind.UnknownArgument ∷ []
+unfolding clap_on_literals
+ask_help = refl
+
+pub version_flag : fault_of dremel_app (codes "dremel" ∷ codes "--version" ∷ []) ≡ kind.UnknownArgument ∷ []
+unfolding clap_on_literals
+version_flag = refl
+
+-- so they ask for nothing
+
+pub no_words_asked : asked ([]) ≡ None
+unfolding clap_on_literals
+no_words_asked = refl
+
+pub no_subcommand_asked : asked (codes "dremel" ∷ []) ≡ None
+unfolding clap_on_literals
+no_subcommand_asked = refl
+
+pub no_schema_asked : asked (codes "dremel" ∷ codes "ask" ∷ query ∷ []) ≡ None
+unfolding clap_on_literals
+no_schema_asked = refl
+
+pub no_query_asked : asked (codes "dremel" ∷ codes "ask" ∷ codes "--schema" ∷ codes "document.txt" ∷ []) ≡ None
+unfolding clap_on_literals
+no_query_asked = refl
+
+pub no_path_asked : asked (codes "dremel" ∷ codes "ask" ∷ query ∷ codes "--schema" ∷ []) ≡ None
+unfolding clap_on_literals
+no_path_asked = refl
+
+pub two_queries_asked : asked (codes "dremel" ∷ codes "ask" ∷ codes "--schema" ∷ codes "document.txt" ∷ query ∷ query ∷ []) ≡ None
+unfolding clap_on_literals
+two_queries_asked = refl
+
+pub two_schemas_asked : asked (codes "dremel" ∷ codes "ask" ∷ codes "--schema" ∷ codes "document.txt" ∷ codes "--schema" ∷ codes "document.txt" ∷ query ∷ []) ≡ None
+unfolding clap_on_literals
+two_schemas_asked = refl
+
+pub unknown_subcommand_asked : asked (codes "dremel" ∷ codes "nothing" ∷ []) ≡ None
+unfolding clap_on_literals
+unknown_subcommand_asked = refl
+
+pub unknown_option_asked : asked (codes "dremel" ∷ codes "ask" ∷ codes "--rows" ∷ codes "2" ∷ codes "--schema" ∷ codes "document.txt" ∷ query ∷ []) ≡ None
+unfolding clap_on_literals
+unknown_option_asked = refl
+
+pub help_flag_asked : asked (codes "dremel" ∷ codes "--help" ∷ []) ≡ None
+unfolding clap_on_literals
+help_flag_asked = refl
+
+pub help_word_asked : asked (codes "dremel" ∷ codes "help" ∷ []) ≡ None
+unfolding clap_on_literals
+help_word_asked = refl
+
+pub ask_help_asked : asked (codes "dremel" ∷ codes "ask" ∷ codes "--help" ∷ []) ≡ None
+unfolding clap_on_literals
+ask_help_asked = refl
+
+pub version_flag_asked : asked (codes "dremel" ∷ codes "--version" ∷ []) ≡ None
+unfolding clap_on_literals
+version_flag_asked = refl

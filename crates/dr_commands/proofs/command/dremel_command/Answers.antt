@@ -1,0 +1,12 @@
+use Rattle.std.proofs.Common.{rules, ◌≡◌, ◌∙◌, ap, ap₂}
+use Rattle.std.proofs.lemmas.Result.{IfOk-weaker}
+use Rattle.clap.specs.Words.{App, app_of, with_subcommand}
+use Rattle.dr_commands.specs.Commands.{bare_app}
+use Rattle.dr_commands.proofs.command.dremel_command.Goals as goal
+
+pub returns : goal.returns
+returns c =
+    let bare : app_of c.subcommand_required.result ≡ bare_app = search rules in
+    let with_ask = c.in_ok-subcommand.ensures.shape c.in_ok-ask_command.ensures.local ∙ ap₂ with_subcommand bare (ap (λ (a : App). a.top) c.in_ok-ask_command.ensures.app) in
+    let with_stripe = c.in_ok-subcommand-2.ensures.shape c.in_ok-stripe_command.ensures.local ∙ ap₂ with_subcommand with_ask (ap (λ (a : App). a.top) c.in_ok-stripe_command.ensures.app) in
+    IfOk-weaker c.subcommand-3.result _ _ (λ r h. h.shape c.in_ok-fsm_command.ensures.local ∙ ap₂ with_subcommand with_stripe (ap (λ (a : App). a.top) c.in_ok-fsm_command.ensures.app)) c.subcommand-3.ensures

@@ -1,0 +1,65 @@
+-- The words of a command line: the command `dremel` as clap's own data, and what its words ask for by clap's definitions.
+use Rattle.std.specs.Prelude.{◌≡◌, ◌↔◌, IsSome, true, List, [], ◌∷◌, Option, Some, None, fold, codes, option_map, option_and_then, if◌then◌else◌}
+use Rattle.std.specs.Str.{bytes_eq}
+use Rattle.clap.specs.Words.{App, Row, Shape, Text, fault_of, new_app, subcommand_of, takes, with_subcommand}
+use Rattle.dr_commands.specs.Meaning.{Meaning}
+use Rattle.dr_commands.specs.Ask.{AskWords, ask_app, ask_words, ask_meaning}
+use Rattle.dr_commands.specs.Stripe.{StripeWords, stripe_app, stripe_words, stripe_meaning}
+use Rattle.dr_commands.specs.Fsm.{FsmWords, fsm_app, fsm_words, fsm_meaning}
+
+-- each subcommand
+abbrev pub subcommands : List Shape
+subcommands = ask_app.top ∷ stripe_app.top ∷ fsm_app.top ∷ []
+
+-- `dremel`, before its subcommands join: one of them has to be named, and no word asks for help
+abbrev pub bare_app : App
+bare_app = let new = new_app (codes "dremel") in record new {
+  top = record new.top { disable_help_flag = true; disable_help_subcommand = true; subcommand_required = true };
+}
+
+abbrev pub dremel_app : App
+dremel_app = fold with_subcommand bare_app subcommands
+
+-- clap takes the words
+abbrev pub Taken : List Text → Type 0
+Taken words = takes dremel_app words ≡ true
+
+-- ---- what the words ask for
+
+pub data CommandWords : Type 0 where
+  ask : AskWords → CommandWords
+  stripe : StripeWords → CommandWords
+  fsm : FsmWords → CommandWords
+
+abbrev pub words_of : Text → List Row → Option CommandWords
+words_of name rows =
+    if bytes_eq name (codes "ask") then option_map ask (ask_words rows)
+    else (if bytes_eq name (codes "stripe") then option_map stripe (stripe_words rows)
+    else (if bytes_eq name (codes "fsm") then option_map fsm (fsm_words rows) else None))
+
+abbrev pub words_in : Option (Text × List Row) → Option CommandWords
+words_in = option_and_then (λ entered. words_of entered.0 entered.1)
+
+-- the subcommand that the words name, with its values; none where clap refuses the words
+abbrev pub asked : List Text → Option CommandWords
+asked words = if takes dremel_app words then words_in (subcommand_of dremel_app words) else None
+
+-- what each command means
+abbrev pub meaning_of : CommandWords → Meaning
+meaning_of (ask w) = ask_meaning w
+meaning_of (stripe w) = stripe_meaning w
+meaning_of (fsm w) = fsm_meaning w
+
+-- what the words mean; none where clap refuses them
+abbrev pub meant : List Text → Option Meaning
+meant words = option_map meaning_of (asked words)
+
+-- ---- laws
+
+-- where clap takes the words, the subcommand has each value that has to be there
+abbrev pub TakenAsk : Type 0
+TakenAsk = (words : List Text) → Taken words → IsSome (asked words)
+
+-- clap finds no fault exactly where it takes the words
+abbrev pub FaultlessAreTaken : Type 0
+FaultlessAreTaken = (words : List Text) → (fault_of dremel_app words ≡ []) ↔ Taken words

@@ -1,0 +1,47 @@
+//! What a command line asks for.
+
+ghost use Rattle.std.specs.Prelude.{◌≡◌, IfOk};
+ghost use Rattle.clap.specs.Words.{app_of, subcommand_rows_of};
+ghost use Rattle.dr_commands.specs.Rules.{Answers};
+ghost use Rattle.dr_commands.specs.Commands as meant;
+ghost use Rattle.dr_commands.specs.CommandView.{command_view};
+
+use crate::ask::{Ask, ask_command, ask_of};
+use crate::fsm::{Fsm, fsm_command, fsm_of};
+use crate::stripe::{Stripe, stripe_command, stripe_of};
+use crate::words_fault::WordsFault;
+use clap::ArgMatches;
+use std::alloc::{AllocError, Global};
+
+/// What a command line asks for.
+#[derive(PartialEq, Eq, Debug, Drop)]
+pub enum Command {
+    Ask(Ask),
+    Stripe(Stripe),
+    Fsm(Fsm),
+}
+
+/// The whole command. No word asks for help: those that would are refused as unknown.
+pub fn dremel_command<'a>(alloc: Global) -> Result<clap::Command<'a>, AllocError>
+    ensures { IfOk result (λ command. app_of command ≡ meant.dremel_app) }
+{
+    clap::Command::new(alloc, "dremel")
+        .disable_help_flag(true)
+        .disable_help_subcommand(true)
+        .subcommand_required(true)
+        .subcommand(ask_command(alloc)?)?
+        .subcommand(stripe_command(alloc)?)?
+        .subcommand(fsm_command(alloc)?)
+}
+
+/// The subcommand that clap met, with its values.
+pub fn command_of(alloc: Global, matches: &ArgMatches<'_>) -> Result<Command, WordsFault>
+    ensures { Answers command_view (meant.words_in (subcommand_rows_of matches.now)) result }
+{
+    match matches.subcommand() {
+        Some(("ask", values)) => Ok(Command::Ask(ask_of(alloc, values)?)),
+        Some(("stripe", values)) => Ok(Command::Stripe(stripe_of(alloc, values)?)),
+        Some(("fsm", values)) => Ok(Command::Fsm(fsm_of(alloc, values)?)),
+        _ => Err(WordsFault::Usage),
+    }
+}

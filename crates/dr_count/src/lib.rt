@@ -1,0 +1,13 @@
+//! The query of one COUNT: its text, its count in a record, and the line that tells a total.
+#![tactic(auto)]
+
+mod counting;
+mod pieces;
+mod query;
+mod reading;
+
+pub use counting::{count_line, count_values};
+pub use query::{CountQuery, LONGEST_QUERY, count_query};
+
+#[cfg(test)]
+mod counting_tests;
