@@ -1,4 +1,6 @@
-//! Why a schema text or a path is refused.
+//! Why a schema text or a path is refused, and want of memory.
+
+use std::alloc::{AllocError, AllocFailed};
 
 /// What is wrong with a schema text.
 #[derive(Clone, Copy, PartialEq, Eq, Debug)]
@@ -42,3 +44,15 @@ pub enum PathFault {
 /// Want of memory.
 #[derive(Clone, Copy, PartialEq, Eq, Debug)]
 pub struct NoMemory;
+
+impl From<AllocError> for NoMemory {
+    fn from(_: AllocError) -> Self {
+        NoMemory
+    }
+}
+
+impl<T: Drop> From<AllocFailed<T>> for NoMemory {
+    fn from(_: AllocFailed<T>) -> Self {
+        NoMemory
+    }
+}

@@ -1,19 +1,19 @@
 //! One pass through a record for the columns of all leaves.
 
-ghost use Rattle.std.specs.Prelude.{◌≡◌, ◌≤◌, ◌+◌, ◌-◌, ◌∷◌, true, length, take, drop, IfOk, option_map};
+ghost use Rattle.std.specs.Prelude.{◌≡◌, ◌≤◌, ◌+◌, ◌-◌, ◌∷◌, [], true, length, take, drop, option_map};
+ghost use Rattle.std.specs.List.{list_all};
 ghost use Rattle.dr_meaning.specs.Column.{value_of, triplet};
 ghost use Rattle.dr_meaning.specs.Record as record_tree;
 ghost use Rattle.dr_meaning.specs.Schema.{greatest_depth};
-ghost use Rattle.dr_nested.specs.Views.{rep_view, value_view, instance_view, instances_view};
+ghost use Rattle.dr_nested.specs.Views.{rep_view, instance_view, instances_view};
 ghost use Rattle.dr_nested.specs.PathView.{path_view, step_view};
-ghost use Rattle.dr_levels.specs.Views.{column_view, columns_view};
-ghost use Rattle.dr_levels.specs.Columns.{Pushes};
+ghost use Rattle.dr_levels.specs.Views.{column_view, columns_view, column_form, forms_view};
+ghost use Rattle.dr_levels.specs.Columns.{Adds, takes};
 ghost use Rattle.dr_striper.specs.Places.{IsWithin, below};
-ghost use Rattle.dr_striper.specs.Striping.{Appends, Stripes, EachGoesOn, inside_view, lent_value, paths_of, path_column, field_column};
+ghost use Rattle.dr_striper.specs.Striping.{Appends, Stripes, Takes, EachGoesOn, inside_view, lent_value, paths_of, path_column, field_column};
 
-use dr_levels::{Column, Triplet};
-use dr_nested::{Instance, NoMemory, Node, Path, Rep, Step, Value, copy_value, instances_at};
-use std::alloc::Global;
+use dr_levels::{Column, Triplet, ValueRef};
+use dr_nested::{Instance, NoMemory, Node, Path, Rep, Step, Value, instances_at};
 
 /// What an instance has inside: a leaf's value, or a group's node.
 #[derive(Clone, Copy)]
@@ -27,9 +27,9 @@ pub enum Inside<'a> {
 #[derive(Clone, Copy)]
 pub struct Place {
     pub depth: usize,
-    pub level: u32,
-    pub definition: u32,
-    pub begin: u32,
+    pub level: u8,
+    pub definition: u8,
+    pub begin: u8,
 }
 
 impl Place {
@@ -85,18 +85,6 @@ fn value_in<'a>(inside: Inside<'a>) -> Option<&'a Value>
     }
 }
 
-fn copy_of(alloc: Global, value: Option<&Value>) -> Result<Option<Value>, NoMemory>
-    ensures { IfOk result (λ v. option_map value_view v ≡ option_map lent_value value.entry) }
-{
-    match value {
-        None => Ok(None),
-        Some(value) => match copy_value(alloc, value) {
-            Ok(copy) => Ok(Some(copy)),
-            Err(_) => Err(NoMemory),
-        },
-    }
-}
-
 fn is_same(one: Rep, other: Rep) -> bool
     ensures { result ≡ true → rep_view one ≡ rep_view other }
 {
@@ -131,38 +119,30 @@ fn run_length(fields: &[Path], depth: usize, step: Step) -> usize
 }
 
 /// Appends a triplet of a place to a column.
-fn push_one(
-    alloc: Global,
-    column: &mut Column,
-    place: Place,
-    value: Option<&Value>,
-) -> Result<(), NoMemory>
-    ensures { Pushes (column_view column.old) (column_view column.new) (triplet place.begin place.definition (option_map lent_value value.entry)) result }
+fn push_one(column: &mut Column, place: Place, value: Option<&Value>) -> Result<(), NoMemory>
+    requires { takes (column_form column.old) (triplet place.begin place.definition (option_map lent_value value)) ≡ true }
+    ensures triplet { Adds (column_view column.old) (column_view column.new) (triplet place.begin place.definition (option_map lent_value value.entry) ∷ []) result }
+    ensures form { column_form column.new ≡ column_form column.old }
 {
-    match copy_of(alloc, value) {
-        Ok(value) => column.push(Triplet {
-            repetition: place.begin,
-            definition: place.definition,
-            value,
-        }),
-        Err(fault) => Err(fault),
-    }
+    let value = match value {
+        Some(value) => Some(ValueRef::of(value)),
+        None => None,
+    };
+    column.push(Triplet {
+        repetition: place.begin,
+        definition: place.definition,
+        value,
+    })
 }
 
 /// Appends a triplet of a place to each column.
-fn push_all(
-    alloc: Global,
-    columns: &mut [Column],
-    place: Place,
-    value: Option<&Value>,
-) -> Result<(), NoMemory>
-    ensures { Appends (triplet place.begin place.definition (option_map lent_value value.entry)) (columns_view columns.old) (columns_view columns.new) result }
+fn push_all(columns: &mut [Column], place: Place, value: Option<&Value>) -> Result<(), NoMemory>
+    requires { list_all (λ f. takes f (triplet place.begin place.definition (option_map lent_value value))) (forms_view columns.old) ≡ true }
+    ensures columns { Appends (triplet place.begin place.definition (option_map lent_value value.entry)) (columns_view columns.old) (columns_view columns.new) result }
+    ensures forms { forms_view columns.new ≡ forms_view columns.old }
 {
     'columns: for column in columns.iter_mut() {
-        match push_one(alloc, column, place, value) {
-            Ok(()) => {}
-            Err(fault) => return Err(fault),
-        }
+        push_one(column, place, value)?;
     }
     Ok(())
 }
@@ -170,7 +150,6 @@ fn push_all(
 /// What the instances of a field that has some give the columns of the paths that go on by its step.
 #[cycle(passing)]
 fn stripe_instances(
-    alloc: Global,
     fields: &[Path],
     columns: &mut [Column],
     step: Step,
@@ -180,22 +159,18 @@ fn stripe_instances(
 ) -> Result<(), NoMemory>
     requires as_many { length fields.now ≡ length columns.old }
     requires within { IsWithin place (greatest_depth - 1) }
-    ensures { Stripes (field_column place (step_view step) (record_tree.instance (instance_view first.now) (instances_view later.now))) (paths_of fields.now) (columns_view columns.old) (columns_view columns.new) result }
+    requires takes { Takes (field_column place (step_view step) (record_tree.instance (instance_view first.now) (instances_view later.now))) (paths_of fields.now) (forms_view columns.old) }
+    ensures columns { Stripes (field_column place (step_view step) (record_tree.instance (instance_view first.now) (instances_view later.now))) (paths_of fields.now) (columns_view columns.old) (columns_view columns.new) result }
+    ensures forms { forms_view columns.new ≡ forms_view columns.old }
 {
     let below = place.below(step);
     let begun = Place {
         begin: place.begin,
         ..below
     };
-    match stripe_inside(alloc, fields, columns, look_inside(first), begun) {
-        Ok(()) => {}
-        Err(fault) => return Err(fault),
-    }
+    stripe_inside(fields, columns, look_inside(first), begun)?;
     'instances: for instance in later {
-        match stripe_inside(alloc, fields, columns, look_inside(instance), below) {
-            Ok(()) => {}
-            Err(fault) => return Err(fault),
-        }
+        stripe_inside(fields, columns, look_inside(instance), below)?;
     }
     Ok(())
 }
@@ -203,7 +178,6 @@ fn stripe_instances(
 /// What the instances of a field give the columns of the paths that go on by its step.
 #[cycle(passing)]
 fn stripe_field(
-    alloc: Global,
     fields: &[Path],
     columns: &mut [Column],
     step: Step,
@@ -212,20 +186,19 @@ fn stripe_field(
 ) -> Result<(), NoMemory>
     requires as_many { length fields.now ≡ length columns.old }
     requires within { IsWithin place (greatest_depth - 1) }
-    ensures { Stripes (field_column place (step_view step) (instances_view instances.now)) (paths_of fields.now) (columns_view columns.old) (columns_view columns.new) result }
+    requires takes { Takes (field_column place (step_view step) (instances_view instances.now)) (paths_of fields.now) (forms_view columns.old) }
+    ensures columns { Stripes (field_column place (step_view step) (instances_view instances.now)) (paths_of fields.now) (columns_view columns.old) (columns_view columns.new) result }
+    ensures forms { forms_view columns.new ≡ forms_view columns.old }
 {
     match instances {
-        [] => push_all(alloc, columns, place, None),
-        [first, later @ ..] => {
-            stripe_instances(alloc, fields, columns, step, first, later, place)
-        }
+        [] => push_all(columns, place, None),
+        [first, later @ ..] => stripe_instances(fields, columns, step, first, later, place),
     }
 }
 
 /// What an instance gives the columns of the paths that lead to it.
 #[cycle(passing)]
 pub fn stripe_inside(
-    alloc: Global,
     fields: &[Path],
     columns: &mut [Column],
     inside: Inside<'_>,
@@ -233,7 +206,9 @@ pub fn stripe_inside(
 ) -> Result<(), NoMemory>
     requires as_many { length fields.now ≡ length columns.old }
     requires within { IsWithin place greatest_depth }
-    ensures { Stripes (path_column place (inside_view inside.entry)) (paths_of fields.now) (columns_view columns.old) (columns_view columns.new) result }
+    requires takes { Takes (path_column place (inside_view inside)) (paths_of fields.now) (forms_view columns.old) }
+    ensures columns { Stripes (path_column place (inside_view inside.entry)) (paths_of fields.now) (columns_view columns.old) (columns_view columns.new) result }
+    ensures forms { forms_view columns.new ≡ forms_view columns.old }
 {
     let [head, others @ ..] = fields else {
         return Ok(());
@@ -241,19 +216,15 @@ pub fn stripe_inside(
     match head.steps.get(place.depth) {
         None => {
             let (near, far) = columns.split_at_mut(1);
-            match push_all(alloc, near, place, value_in(inside)) {
-                Ok(()) => stripe_inside(alloc, others, far, inside, place),
-                Err(fault) => Err(fault),
-            }
+            push_all(near, place, value_in(inside))?;
+            stripe_inside(others, far, inside, place)
         }
         Some(step) => {
             let run = 1 + run_length(others, place.depth, *step);
             let (near, far) = columns.split_at_mut(run);
             let instances = instances_in(inside, step.place);
-            match stripe_field(alloc, &fields[..run], near, *step, instances, place) {
-                Ok(()) => stripe_inside(alloc, &fields[run..], far, inside, place),
-                Err(fault) => Err(fault),
-            }
+            stripe_field(&fields[..run], near, *step, instances, place)?;
+            stripe_inside(&fields[run..], far, inside, place)
         }
     }
 }

@@ -1,6 +1,6 @@
-use crate::{Column, Triplet, chain, common, max_d, max_r};
-use dr_nested::{Path, Value, find, parse_schema};
-use std::alloc::{AllocError, Global};
+use crate::{chain, common, max_d, max_r};
+use dr_nested::{Path, find, parse_schema};
+use std::alloc::Global;
 use std::test::Fail;
 
 const DOCUMENT: &str =
@@ -62,46 +62,6 @@ fn two_paths_have_a_common_level(rt: HostRuntime) -> Result<(), Fail> {
     for (one, other, level) in rows {
         let level_found = common(&leaf(alloc, one)?, &leaf(alloc, other)?);
         assert_eq!(rt; level_found, level, "at {one} and {other}");
-    }
-    Ok(())
-}
-
-fn triplet(repetition: u32, value: Option<Value>) -> Triplet {
-    Triplet {
-        repetition,
-        definition: 1,
-        value,
-    }
-}
-
-fn texts(alloc: Global) -> Result<Column, Fail> {
-    let mut column = Column::new(alloc);
-    let text = Value::Text(String::from_str(alloc, "en")?);
-    column
-        .push(triplet(0, Some(text)))
-        .map_err(|_| "no memory")?;
-    column.push(triplet(1, None)).map_err(|_| "no memory")?;
-    column
-        .push(triplet(0, Some(Value::Int(7))))
-        .map_err(|_| "no memory")?;
-    Ok(column)
-}
-
-#[test]
-fn a_column_keeps_its_first_triplets(rt: HostRuntime) -> Result<(), Fail> {
-    let alloc = rt.alloc();
-    let text = Value::Text(String::from_str(alloc, "en")?);
-    let all = [
-        triplet(0, Some(text)),
-        triplet(1, None),
-        triplet(0, Some(Value::Int(7))),
-    ];
-    assert_eq!(rt; Column::new(alloc).triplets().len(), 0);
-    assert_eq!(rt; texts(alloc)?.triplets(), all.as_slice());
-    for (length, left) in [(4, &all[..]), (3, &all[..]), (2, &all[..2]), (0, &all[..0])] {
-        let mut column = texts(alloc)?;
-        column.truncate(length);
-        assert_eq!(rt; column.triplets(), left, "at {length}");
     }
     Ok(())
 }
