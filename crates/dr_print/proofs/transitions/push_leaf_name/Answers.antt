@@ -1,7 +1,7 @@
 use Rattle.std.proofs.Common.{ap, ◌∙◌, ◌++◌, string_bytes}
 use Rattle.std.proofs.lemmas.Result.{on_ok_weaker}
 use Rattle.dr_print.proofs.AutomatonLemmas.{name_joined}
-use Rattle.dr_print.proofs.automata.push_leaf_name.Goals as goal
+use Rattle.dr_print.proofs.transitions.push_leaf_name.Goals as goal
 
 pub returns-in_ok-push_str-in-len1-up : goal.returns-in_ok-push_str-in-len1-up
 returns-in_ok-push_str-in-len1-up c =

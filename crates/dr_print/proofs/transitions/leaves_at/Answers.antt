@@ -1,6 +1,6 @@
 use Rattle.std.proofs.Common.{refl}
 use Rattle.dr_print.proofs.AutomatonLemmas.{one_taken}
-use Rattle.dr_print.proofs.automata.leaves_at.Goals as goal
+use Rattle.dr_print.proofs.transitions.leaves_at.Goals as goal
 
 pub places-preserved : goal.places-preserved
 places-preserved c =

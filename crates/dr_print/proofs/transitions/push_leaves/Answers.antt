@@ -1,6 +1,6 @@
 use Rattle.std.proofs.Common.{string_bytes}
 use Rattle.dr_print.proofs.AutomatonLemmas.{no_leaves, one_leaf}
-use Rattle.dr_print.proofs.automata.push_leaves.Goals as goal
+use Rattle.dr_print.proofs.transitions.push_leaves.Goals as goal
 
 pub leaves-init : goal.leaves-init
 leaves-init c = no_leaves c.args.leaves.now (string_bytes c.args.text.now)

@@ -5,7 +5,7 @@ use Rattle.dr_fsm.specs.Tables.{state_view}
 use Rattle.dr_fsm.specs.declared.state.State.{State}
 use Rattle.dr_print.specs.Transitions.{lent_leaves}
 use Rattle.dr_print.proofs.AutomatonLemmas.{target_at, target_past}
-use Rattle.dr_print.proofs.automata.push_target.Goals as goal
+use Rattle.dr_print.proofs.transitions.push_target.Goals as goal
 
 pub returns-in-Some : goal.returns-in-Some
 returns-in-Some c =

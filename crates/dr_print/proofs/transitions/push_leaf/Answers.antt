@@ -4,7 +4,7 @@ use Rattle.dr_nested.specs.PathView.{path_view}
 use Rattle.dr_fsm.specs.Tables.{state_view}
 use Rattle.dr_print.specs.Transitions.{lent_leaves}
 use Rattle.dr_print.proofs.AutomatonLemmas.{one_level, all_levels}
-use Rattle.dr_print.proofs.automata.push_leaf.Goals as goal
+use Rattle.dr_print.proofs.transitions.push_leaf.Goals as goal
 
 pub levels-preserved : goal.levels-preserved
 levels-preserved c =

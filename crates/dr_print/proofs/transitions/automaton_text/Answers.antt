@@ -5,7 +5,7 @@ use Rattle.dr_nested.specs.PathView.{path_view}
 use Rattle.dr_fsm.specs.Automata.{leaves_of}
 use Rattle.dr_print.specs.Transitions.{lent_leaf, lent_leaves}
 use Rattle.dr_print.proofs.AutomatonLemmas.{automaton_of_leaves, as_many}
-use Rattle.dr_print.proofs.automata.automaton_text.Goals as goal
+use Rattle.dr_print.proofs.transitions.automaton_text.Goals as goal
 
 pub lines_of-requires-clause-next : goal.lines_of-requires-clause-next
 lines_of-requires-clause-next c =

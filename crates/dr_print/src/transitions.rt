@@ -8,7 +8,7 @@ ghost use Rattle.dr_fsm.specs.Tables.{paths_at, state_view};
 ghost use Rattle.dr_fsm.specs.Automata.{leaves_of, IsAutomatonOf};
 ghost use Rattle.dr_print.specs.Transitions.{lent_leaves, paths_of, dotted, line_to};
 
-use crate::printing::push_level;
+use crate::triplet_lines::push_level;
 use dr_fsm::{Automaton, State};
 use dr_levels::max_r;
 use dr_nested::{NoMemory, Path};
