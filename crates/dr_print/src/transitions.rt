@@ -132,10 +132,8 @@ pub fn automaton_text(
     if places.len() > u32::MAX as usize {
         return Err(NoMemory);
     }
-    match leaves_at(alloc, fields, places) {
-        Ok(leaves) => lines_of(alloc, &leaves, automaton),
-        Err(_) => Err(NoMemory),
-    }
+    let leaves = leaves_at(alloc, fields, places)?;
+    lines_of(alloc, &leaves, automaton)
 }
 
 /// The lines of all the automaton's leaves.
@@ -145,8 +143,6 @@ fn lines_of(alloc: Global, leaves: &[&Path], automaton: &Automaton) -> Result<St
     ensures { IfOk result (λ s. string_bytes s ≡ meant.automaton_text (lent_leaves leaves.now)) }
 {
     let mut text = String::new(alloc);
-    match push_leaves(&mut text, leaves, automaton) {
-        Ok(()) => Ok(text),
-        Err(_) => Err(NoMemory),
-    }
+    push_leaves(&mut text, leaves, automaton)?;
+    Ok(text)
 }

@@ -82,10 +82,12 @@ fn push_triplets(alloc: Global, text: &mut String, rest: Triplets<'_>) -> Result
     ensures { OnOk result (string_bytes text.new ≡ string_bytes text.old ++ stripe.column_text (triplets_view rest.entry)) }
 {
     let mut rest = rest;
-    'triplets: while let Some(triplet) = rest.next() {
-        push_triplet(alloc, text, triplet)?;
+    'triplets: loop {
+        match rest.next() {
+            Some(triplet) => push_triplet(alloc, text, triplet)?,
+            None => return Ok(()),
+        }
     }
-    Ok(())
 }
 
 /// The lines of a column's triplets.

@@ -18,7 +18,7 @@ use Rattle.dr_nested.specs.PathView.{path_view}
 use Rattle.dr_nested.specs.declared.record.Instance as code_record
 use Rattle.dr_nested.specs.declared.path.Path as paths
 use Rattle.dr_striper.specs.Places.{below}
-use Rattle.dr_striper.specs.declared.striping.Place.{Place}
+use Rattle.dr_striper.specs.declared.dissection.Place.{Place}
 use Rattle.std.specs.Prelude.{Result, Ok, Err, IsErr}
 use Rattle.dr_nested.specs.declared.fault.NoMemory.{NoMemory}
 use Rattle.dr_striper.specs.Striping.{EachGoesOn, Takes, Grown, Stripes, Appends, paths_of, leaves_of, leaf_form, forms_of, path_column, later_columns, field_column}

@@ -10,8 +10,8 @@ use Rattle.dr_nested.specs.PathView.{path_view}
 use Rattle.dr_nested.specs.declared.record.Value.{Value}
 use Rattle.dr_nested.specs.declared.path.Path.{Path}
 use Rattle.dr_nested.specs.declared.fault.NoMemory.{NoMemory}
-use Rattle.dr_striper.specs.declared.striping.Inside.{Inside}
-use Rattle.dr_striper.specs.declared.striping.Place.{Place}
+use Rattle.dr_striper.specs.declared.dissection.Inside.{Inside}
+use Rattle.dr_striper.specs.declared.dissection.Place.{Place}
 use Rattle.dr_levels.specs.Views.{LeafForm, form}
 use Rattle.dr_levels.specs.Columns.{takes}
 use denote.Ref.{Bor}

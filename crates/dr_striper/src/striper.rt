@@ -10,7 +10,7 @@ ghost use Rattle.dr_striper.specs.Striping.{paths_of, leaves_of, leaf_form, form
 ghost use Rattle.dr_striper.specs.Stripers.{AddsRecord, cut_to, fits_leaf, striped, striped_leaves, striped_paths};
 
 use crate::making::Striper;
-use crate::striping::{Inside, Place, stripe_inside};
+use crate::dissection::{Inside, Place, stripe_inside};
 use dr_levels::{Column, max_d};
 use dr_nested::{NoMemory, Node, Path};
 use std::alloc::Global;

@@ -7,7 +7,7 @@ use Rattle.dr_levels.specs.Columns.{takes}
 use Rattle.dr_striper.specs.Striping.{lent_value}
 use Rattle.dr_striper.proofs.PassLemmas.{appended_more, grown_at}
 use Rattle.dr_striper.proofs.TakeLemmas.{takes_there, forms_set, failed_each}
-use Rattle.dr_striper.proofs.striping.push_all.Goals as goal
+use Rattle.dr_striper.proofs.dissection.push_all.Goals as goal
 
 pub push_one-requires : goal.push_one-requires
 push_one-requires c =

@@ -8,7 +8,7 @@ use Rattle.dr_striper.specs.Striping.{Grown, Takes, EachGoesOn, Stripes, gained,
 use Rattle.dr_striper.proofs.GainLemmas.{grown-gained, grown-trans}
 use Rattle.dr_striper.proofs.PassLemmas.{first_passed, later_passed, empty_passed, nothing_left, instances_more, length_paths, length_columns, grown_parts, joined_parts, run_goes_on, run_within, others_all, gained_field}
 use Rattle.dr_striper.proofs.TakeLemmas.{takes_near, takes_far, takes_field, takes_instance, takes_later, takes_next, takes_rest, takes_none, failed}
-use Rattle.dr_striper.proofs.striping.+passing.Goals as goal
+use Rattle.dr_striper.proofs.dissection.+passing.Goals as goal
 
 pub stripe_field-push_all-requires : goal.stripe_field-push_all-requires
 stripe_field-push_all-requires t c =

@@ -2,7 +2,7 @@ use Rattle.std.proofs.Common.{◌≡◌, ◌++◌, ◌∷◌, [], map, take, dro
 use Rattle.dr_meaning.specs.Column.{triplet}
 use Rattle.dr_levels.specs.Views.{columns_view, forms_view}
 use Rattle.dr_striper.specs.Striping.{lent_value}
-use Rattle.dr_striper.proofs.striping.push_all.Given as goal
+use Rattle.dr_striper.proofs.dissection.push_all.Given as goal
 
 -- the columns before this one gained the triplet, the others did not
 abbrev pub invariant-columns : goal.invariant-columns

@@ -2,7 +2,7 @@ use Rattle.std.proofs.Common.{◌≡◌, ◌∷◌, ◌+◌, subst, drop, map, L
 use Rattle.dr_nested.specs.PathView.{step_view}
 use Rattle.dr_nested.specs.declared.path.Step as code
 use Rattle.dr_striper.proofs.PassLemmas.{goes_on_by}
-use Rattle.dr_striper.proofs.striping.goes_on.Goals as goal
+use Rattle.dr_striper.proofs.dissection.goes_on.Goals as goal
 
 pub returns-then-next-step : goal.returns-then-next-step
 returns-then-next-step c = λ same.

@@ -4,7 +4,7 @@ use Rattle.dr_nested.specs.Views.{instance_view, instances_view}
 use Rattle.dr_nested.specs.PathView.{step_view}
 use Rattle.dr_levels.specs.Views.{columns_view, forms_view}
 use Rattle.dr_striper.specs.Striping.{Grown, Takes, gained, paths_of, later_columns, field_column}
-use Rattle.dr_striper.proofs.striping.+passing.Given as goal
+use Rattle.dr_striper.proofs.dissection.+passing.Given as goal
 
 -- a field's instances lie one deeper; the paths that are left grow fewer
 abbrev pub decreases-stripe_instances : goal.decreases-stripe_instances

@@ -1,6 +1,6 @@
 use Rattle.dr_nested.specs.PathView.{step_view}
 use Rattle.dr_striper.proofs.PassLemmas.{each_more}
-use Rattle.dr_striper.proofs.striping.run_length.Goals as goal
+use Rattle.dr_striper.proofs.dissection.run_length.Goals as goal
 
 pub fields-preserved : goal.fields-preserved
 fields-preserved c =
