@@ -1,9 +1,32 @@
--- How a column changes.
-use Rattle.std.specs.Prelude.{◌≡◌, List, [], ◌∷◌, ◌++◌, Result, Ok, Err}
-use Rattle.dr_nested.specs.declared.fault.NoMemory.{NoMemory}
+-- What a column takes, and how it changes.
+use Rattle.std.specs.Prelude.{◌≡◌, ℕ, List, [], ◌∷◌, ◌++◌, Bool, true, false, ◌==◌, Option, Some, None, Result, Ok, Err}
+use Rattle.dr_memory.specs.declared.NoMemory.{NoMemory}
+use Rattle.dr_meaning.specs.Schema as tree
+use Rattle.dr_meaning.specs.Record.{Value, is_of_kind}
 use Rattle.dr_meaning.specs.Column.{Triplet}
+use Rattle.dr_levels.specs.Views.{LeafForm}
 
--- a triplet joined at the end, or nothing did
-abbrev pub Pushes : List Triplet → List Triplet → Triplet → Result (Unit {0}) NoMemory → Type 0
-Pushes before after t (Ok done) = after ≡ before ++ t ∷ []
-Pushes before after t (Err e) = after ≡ before
+abbrev pub has_value : tree.Kind → Bool → Option Value → Bool
+has_value k true (Some v) = is_of_kind k v
+has_value k true None = false
+has_value k false (Some v) = false
+has_value k false None = true
+
+-- whether a triplet is one of a leaf: a value of its kind exactly where the definition level is the greatest
+abbrev pub takes : LeafForm → Triplet → Bool
+takes f t = has_value f.kind (t.definition == f.greatest) t.value
+
+-- these joined at the end, or nothing did
+abbrev pub Adds : {A : Type 0} → List A → List A → List A → Result (Unit {0}) NoMemory → Type 0
+Adds before after more (Ok done) = after ≡ before ++ more
+Adds before after more (Err e) = after ≡ before
+
+-- the first triplet that was left is given
+abbrev pub Gives : {A : Type 0} → (A → Triplet) → List Triplet → List Triplet → Option A → Type 0
+Gives see before after (Some t) = before ≡ see t ∷ after
+Gives see before after None = before ≡ []
+
+-- the levels of the first triplet
+abbrev pub next_levels : List Triplet → Option (ℕ × ℕ)
+next_levels [] = None
+next_levels (t ∷ ts) = Some (t.repetition, t.definition)

@@ -40,7 +40,8 @@ pub fn max_r(path: &Path) -> u32
 
 /// A path's greatest definition level: the number of its fields that may be absent.
 pub fn max_d(path: &Path) -> u32
-    ensures { result ≡ path_meaning.max_definition (path_view path.now).path }
+    ensures level { result ≡ path_meaning.max_definition (path_view path.now).path }
+    ensures within { result ≤ tree.greatest_depth }
 {
     let mut level = 0;
     'steps: for step in path.steps.iter() {

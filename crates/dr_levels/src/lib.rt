@@ -3,16 +3,29 @@
 
 mod chains;
 mod column;
+mod joining;
+mod kept;
 mod levels;
 mod moves;
 mod order;
+mod text_place;
+mod texts;
+mod triplet;
+mod triplets;
+mod values;
+#[cfg(test)]
+mod column_tests;
+#[cfg(test)]
+mod levels_tests;
 #[cfg(test)]
 mod order_tests;
-#[cfg(test)]
-mod tests;
 
 pub use chains::chain;
-pub use column::{Column, Triplet};
+pub use column::Column;
+pub use kept::{Branch, Kept};
 pub use levels::{common, max_d, max_r};
-pub use moves::{Branch, Kept, Move};
+pub use moves::Move;
+pub use text_place::TextPlace;
+pub use triplet::{Levels, Triplet, ValueRef};
+pub use triplets::Triplets;
 pub use order::{reading_order, schema_order};

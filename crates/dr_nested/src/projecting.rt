@@ -106,11 +106,6 @@ fn steps_of<'a>(alloc: Global, fields: &'a [Path]) -> Result<Vec<&'a [Step]>, Al
 pub fn project(alloc: Global, fields: &[Path], node: &Node) -> Result<Node, NoMemory>
     ensures { IfOk result (λ n. node_view n ≡ record_tree.project (map (λ (p : Path). (path_view p).path) fields.now) (node_view node.now)) }
 {
-    match steps_of(alloc, fields) {
-        Ok(paths) => match project_node(alloc, node, &paths) {
-            Ok(kept) => Ok(kept),
-            Err(_) => Err(NoMemory),
-        },
-        Err(_) => Err(NoMemory),
-    }
+    let paths = steps_of(alloc, fields)?;
+    Ok(project_node(alloc, node, &paths)?)
 }

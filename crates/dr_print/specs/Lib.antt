@@ -1,4 +1,2 @@
--- the values of triplets
-pub mod Triplets
 -- the leaves of an automaton, lent, and the lines of its transitions
 pub mod Transitions

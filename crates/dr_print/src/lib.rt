@@ -1,10 +1,10 @@
 //! Printed texts.
 #![tactic(auto)]
 
-mod automata;
-mod printing;
 #[cfg(test)]
 mod tests;
+mod transitions;
+mod triplet_lines;
 
-pub use automata::automaton_text;
-pub use printing::{column_text, triplet_text};
+pub use transitions::automaton_text;
+pub use triplet_lines::{column_text, triplet_text};

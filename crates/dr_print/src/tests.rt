@@ -1,69 +1,49 @@
 use crate::{automaton_text, column_text, triplet_text};
 use dr_fsm::{Automaton, Order};
-use dr_levels::{Column, Triplet};
-use dr_nested::{Value, find, parse_schema};
-use std::alloc::{AllocError, Global};
+use dr_levels::{Column, Levels, Triplet, ValueRef};
+use dr_nested::{Kind, find, parse_schema};
 use std::test::Fail;
 
-fn text(alloc: Global, value: &str) -> Result<Option<Value>, AllocError> {
-    Ok(Some(Value::Text(String::from_str(alloc, value)?)))
+fn triplet(value: Option<ValueRef<'_>>, repetition: u8, definition: u8) -> Triplet<'_> {
+    Triplet {
+        repetition,
+        definition,
+        value,
+    }
 }
 
 #[test]
 fn a_line_has_value_and_levels(rt: HostRuntime) -> Result<(), Fail> {
     let alloc = rt.alloc();
     let lines = [
+        (triplet(Some(ValueRef::Text("us")), 0, 3), "\"us\" 0 3\n"),
+        (triplet(None, 2, 2), "NULL 2 2\n"),
+        (triplet(Some(ValueRef::Int(-7)), 0, 1), "-7 0 1\n"),
+        (triplet(Some(ValueRef::Bool(true)), 1, 1), "true 1 1\n"),
         (
-            Triplet {
-                repetition: 0,
-                definition: 3,
-                value: text(alloc, "us")?,
-            },
-            "\"us\" 0 3\n",
-        ),
-        (
-            Triplet {
-                repetition: 2,
-                definition: 2,
-                value: None,
-            },
-            "NULL 2 2\n",
-        ),
-        (
-            Triplet {
-                repetition: 0,
-                definition: 1,
-                value: Some(Value::Int(-7)),
-            },
-            "-7 0 1\n",
-        ),
-        (
-            Triplet {
-                repetition: 1,
-                definition: 1,
-                value: Some(Value::Bool(true)),
-            },
-            "true 1 1\n",
-        ),
-        (
-            Triplet {
-                repetition: 0,
-                definition: 0,
-                value: text(alloc, "a\"b\n")?,
-            },
+            triplet(Some(ValueRef::Text("a\"b\n")), 0, 0),
             "\"a\\\"b\\n\" 0 0\n",
         ),
     ];
-    let mut column = Column::new(alloc);
     for (triplet, line) in lines {
-        assert_eq!(rt; triplet_text(alloc, &triplet)?.as_str(), line);
-        column.push(triplet)?;
+        assert_eq!(rt; triplet_text(alloc, triplet)?.as_str(), line);
     }
-    let all = column_text(alloc, &column)?;
-    assert_eq!(rt;
-        all.as_str(),
-        "\"us\" 0 3\nNULL 2 2\n-7 0 1\ntrue 1 1\n\"a\\\"b\\n\" 0 0\n"
-    );
+    Ok(())
+}
+
+#[test]
+fn a_column_has_a_line_for_each_triplet(rt: HostRuntime) -> Result<(), Fail> {
+    let alloc = rt.alloc();
+    let mut column = Column::new(alloc, Kind::I64, 1);
+    column.push_nulls(
+        Levels {
+            repetition: 0,
+            definition: 0,
+        },
+        2,
+    )?;
+    let text = column_text(alloc, &column)?;
+    assert_eq!(rt; text.as_str(), "NULL 0 0\nNULL 0 0\n");
     Ok(())
 }
 

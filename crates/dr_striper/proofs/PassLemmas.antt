@@ -20,8 +20,8 @@ use Rattle.dr_nested.specs.declared.path.Step as code
 use Rattle.dr_nested.specs.declared.path.Path as paths
 use Rattle.dr_striper.specs.Places.{below}
 use Rattle.dr_striper.specs.Striping.{EachGoesOn, Stripes, Appends, paths_of, path_column, later_columns, field_column, gained, Grown}
-use Rattle.dr_striper.specs.declared.striping.Place.{Place}
-use Rattle.dr_nested.specs.declared.fault.NoMemory.{NoMemory}
+use Rattle.dr_striper.specs.declared.dissection.Place.{Place}
+use Rattle.dr_memory.specs.declared.NoMemory.{NoMemory}
 
 -- ---- going on by a step
 

@@ -4,3 +4,5 @@ pub mod Places
 pub mod Striping
 -- what a striper holds
 pub mod Stripers
+-- the leaves of a schema with their kinds
+pub mod Leaves

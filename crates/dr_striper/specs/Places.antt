@@ -1,7 +1,7 @@
 -- Where a pass through a record stands.
 use Rattle.std.specs.Prelude.{◌≤◌, ℕ, ◌+◌}
 use Rattle.dr_meaning.specs.Schema.{Repetition, repetition_count, definition_count}
-use Rattle.dr_striper.specs.declared.striping.Place.{Place}
+use Rattle.dr_striper.specs.declared.dissection.Place.{Place}
 
 -- at most so many fields lie on the way, and no more of them than that are counted in its levels
 abbrev pub IsWithin : Place → ℕ → Type 0

@@ -1,25 +1,35 @@
 -- What a striper holds, and how it changes.
-use Rattle.std.specs.Prelude.{◌≡◌, ℕ, List, [], ◌∷◌, take, Result, Ok, Err}
-use Rattle.dr_meaning.specs.Path.{Step}
+use Rattle.std.specs.Prelude.{◌≡◌, ℕ, List, [], ◌∷◌, take, Result, Ok, Err, Bool}
+use Rattle.std.specs.List.{list_all}
+use Rattle.dr_meaning.specs.Path.{Step, Leaf}
 use Rattle.dr_meaning.specs.Record.{Node}
 use Rattle.dr_meaning.specs.Column.{Triplet, record_column}
-use Rattle.dr_nested.specs.declared.fault.NoMemory.{NoMemory}
+use Rattle.dr_memory.specs.declared.NoMemory.{NoMemory}
 use Rattle.dr_levels.specs.Views.{columns_view}
-use Rattle.dr_striper.specs.Striping.{gained, paths_of}
+use Rattle.dr_levels.specs.Columns.{takes}
+use Rattle.dr_striper.specs.Striping.{gained, paths_of, leaves_of, leaf_form}
 use Rattle.dr_striper.specs.declared.making.Striper.{Striper}
 
 -- the columns so far
 abbrev pub striped : Striper → List (List Triplet)
 striped s = columns_view s.columns.items
 
+-- its leaves
+abbrev pub striped_leaves : Striper → List Leaf
+striped_leaves s = leaves_of s.fields.now
+
+-- a leaf takes what a record gives it
+abbrev pub fits_leaf : Node → Leaf → Bool
+fits_leaf n l = list_all (takes (leaf_form l)) (record_column l.path n)
+
 -- the paths of its leaves
 abbrev pub striped_paths : Striper → List (List Step)
 striped_paths s = paths_of s.fields.now
 
 -- each column gained the record's; where memory was wanting, none did
-abbrev pub Adds : Node → List (List Step) → List (List Triplet) → List (List Triplet) → Result (Unit {0}) NoMemory → Type 0
-Adds n F before after (Ok done) = after ≡ gained (λ p. record_column p n) F before
-Adds n F before after (Err e) = after ≡ before
+abbrev pub AddsRecord : Node → List (List Step) → List (List Triplet) → List (List Triplet) → Result (Unit {0}) NoMemory → Type 0
+AddsRecord n F before after (Ok done) = after ≡ gained (λ p. record_column p n) F before
+AddsRecord n F before after (Err e) = after ≡ before
 
 -- the fronts of columns
 abbrev pub cut_to : List ℕ → List (List Triplet) → List (List Triplet)

@@ -1,16 +1,19 @@
 -- What a pass through a record appends to columns.
-use Rattle.std.specs.Prelude.{◌≡◌, ℕ, ◌+◌, List, [], ◌∷◌, ◌++◌, map, drop, Result, Ok, Err, ⊤}
+use Rattle.std.specs.Prelude.{◌≡◌, ℕ, ◌+◌, List, [], ◌∷◌, ◌++◌, map, drop, Result, Ok, Err, ⊤, true}
+use Rattle.std.specs.List.{list_all}
 use Rattle.dr_meaning.specs.Schema.{repetition_count, definition_count}
-use Rattle.dr_meaning.specs.Path.{Step}
+use Rattle.dr_meaning.specs.Path.{Step, Leaf, max_definition}
 use Rattle.dr_meaning.specs.Record as tree
 use Rattle.dr_meaning.specs.Column.{Triplet, instance_column, spread, each_later}
 use Rattle.dr_nested.specs.Views.{value_view, node_view}
 use Rattle.dr_nested.specs.PathView.{path_view}
 use Rattle.dr_nested.specs.declared.record.Value.{Value}
 use Rattle.dr_nested.specs.declared.path.Path.{Path}
-use Rattle.dr_nested.specs.declared.fault.NoMemory.{NoMemory}
-use Rattle.dr_striper.specs.declared.striping.Inside.{Inside}
-use Rattle.dr_striper.specs.declared.striping.Place.{Place}
+use Rattle.dr_memory.specs.declared.NoMemory.{NoMemory}
+use Rattle.dr_striper.specs.declared.dissection.Inside.{Inside}
+use Rattle.dr_striper.specs.declared.dissection.Place.{Place}
+use Rattle.dr_levels.specs.Views.{LeafForm, form}
+use Rattle.dr_levels.specs.Columns.{takes}
 use denote.Ref.{Bor}
 
 abbrev pub inside_view : Inside → tree.Instance
@@ -22,6 +25,16 @@ lent_value v = value_view v.now
 
 abbrev pub paths_of : List Path → List (List Step)
 paths_of ps = map (λ (p : Path). (path_view p).path) ps
+
+-- the leaf that a column at a path is made for
+abbrev pub leaf_form : Leaf → LeafForm
+leaf_form l = form l.kind (max_definition l.path)
+
+abbrev pub leaves_of : List Path → List Leaf
+leaves_of ps = map path_view ps
+
+abbrev pub forms_of : List Leaf → List LeafForm
+forms_of ls = map leaf_form ls
 
 -- each column with what its path gives behind it
 abbrev pub gained : (List Step → List Triplet) → List (List Step) → List (List Triplet) → List (List Triplet)
@@ -44,6 +57,12 @@ Stripes f ps before after (Err e) = Grown before after
 abbrev pub Appends : Triplet → List (List Triplet) → List (List Triplet) → Result (Unit {0}) NoMemory → Type 0
 Appends t before after (Ok done) = after ≡ map (λ c. c ++ t ∷ []) before
 Appends t before after (Err e) = Grown before after
+
+-- the leaf of each path takes the triplets that the path gives
+abbrev pub Takes : (List Step → List Triplet) → List (List Step) → List LeafForm → Type 0
+Takes f [] ks = ⊤
+Takes f (p ∷ ps) [] = ⊤
+Takes f (p ∷ ps) (k ∷ ks) = (list_all (takes k) (f p) ≡ true) × Takes f ps ks
 
 -- each path goes on by a step behind so many
 abbrev pub EachGoesOn : ℕ → Step → List (List Step) → Type 0

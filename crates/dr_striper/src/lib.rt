@@ -1,10 +1,12 @@
 //! Striping records into columns (Dremel 2010, section 4.1).
 #![tactic(auto)]
 
+mod dissection;
+mod leaf_laws;
 mod making;
 mod striper;
-mod striping;
 #[cfg(test)]
 mod tests;
 
+pub use leaf_laws::{found_leaves_have_kinds, records_fit_leaves};
 pub use making::Striper;

@@ -2,13 +2,16 @@
 
 ghost use Rattle.std.specs.Prelude.{◌≡◌, length, map, replicate, [], IfOk};
 ghost use Rattle.dr_nested.specs.Views.{node_view};
-ghost use Rattle.dr_levels.specs.Views.{columns_view};
-ghost use Rattle.dr_striper.specs.Striping.{paths_of};
-ghost use Rattle.dr_striper.specs.Stripers.{Adds, cut_to, striped, striped_paths};
+ghost use Rattle.std.specs.Prelude.{true};
+ghost use Rattle.std.specs.List.{list_all};
+ghost use Rattle.dr_nested.specs.PathView.{path_view};
+ghost use Rattle.dr_levels.specs.Views.{column_view, columns_view, column_form, forms_view};
+ghost use Rattle.dr_striper.specs.Striping.{paths_of, leaves_of, leaf_form, forms_of};
+ghost use Rattle.dr_striper.specs.Stripers.{AddsRecord, cut_to, fits_leaf, striped, striped_leaves, striped_paths};
 
 use crate::making::Striper;
-use crate::striping::{Inside, Place, stripe_inside};
-use dr_levels::Column;
+use crate::dissection::{Inside, Place, stripe_inside};
+use dr_levels::{Column, max_d};
 use dr_nested::{NoMemory, Node, Path};
 use std::alloc::Global;
 
@@ -18,14 +21,15 @@ fn note_lengths(lengths: &mut [usize], columns: &[Column])
     ensures { lengths.new ≡ map length (columns_view columns.now) }
 {
     'columns: for place in 0..columns.len() {
-        lengths[place] = columns[place].triplets().len();
+        lengths[place] = columns[place].len();
     }
 }
 
 /// Cuts columns back to lengths.
 fn cut_back(columns: &mut [Column], lengths: &[usize])
     requires { length lengths.now ≡ length columns.old }
-    ensures { columns_view columns.new ≡ cut_to lengths.now (columns_view columns.old) }
+    ensures columns { columns_view columns.new ≡ cut_to lengths.now (columns_view columns.old) }
+    ensures forms { forms_view columns.new ≡ forms_view columns.old }
 {
     'columns: for (place, column) in columns.iter_mut().enumerate() {
         column.truncate(lengths[place]);
@@ -34,15 +38,16 @@ fn cut_back(columns: &mut [Column], lengths: &[usize])
 
 /// Appends what a record gives to each column, of these lengths; after a refusal they are cut back.
 fn stripe_record(
-    alloc: Global,
     fields: &[Path],
     columns: &mut [Column],
     lengths: &[usize],
     node: &Node,
 ) -> Result<(), NoMemory>
-    requires as_many { length fields.now ≡ length columns.old }
+    requires fitted { forms_view columns.old ≡ forms_of (leaves_of fields.now) }
     requires noted { lengths.now ≡ map length (columns_view columns.old) }
-    ensures { Adds (node_view node.now) (paths_of fields.now) (columns_view columns.old) (columns_view columns.new) result }
+    requires fits { list_all (fits_leaf (node_view node.now)) (leaves_of fields.now) ≡ true }
+    ensures columns { AddsRecord (node_view node.now) (paths_of fields.now) (columns_view columns.old) (columns_view columns.new) result }
+    ensures forms { forms_view columns.new ≡ forms_view columns.old }
 {
     let root = Place {
         depth: 0,
@@ -50,25 +55,31 @@ fn stripe_record(
         definition: 0,
         begin: 0,
     };
-    match stripe_inside(alloc, fields, columns, Inside::Group(node), root) {
+    match stripe_inside(fields, columns, Inside::Group(node), root) {
         Ok(()) => Ok(()),
-        Err(fault) => {
+        Err(NoMemory) => {
             cut_back(columns, lengths);
-            Err(fault)
+            Err(NoMemory)
         }
     }
 }
 
-/// As many columns without triplets.
-fn new_columns(alloc: Global, count: usize) -> Result<Vec<Column>, NoMemory>
-    ensures { IfOk result (λ v. columns_view v.items ≡ replicate count []) }
+/// A column for a leaf, without triplets.
+fn new_column(alloc: Global, field: &Path) -> Column
+    ensures empty { column_view result ≡ [] }
+    ensures form { column_form result ≡ leaf_form (path_view field.now) }
 {
-    let mut columns = Vec::new(alloc);
-    'columns: for _ in 0..count {
-        match columns.push(Column::new(alloc)) {
-            Ok(()) => {}
-            Err(_) => return Err(NoMemory),
-        }
+    Column::new(alloc, field.kind, max_d(field) as u8)
+}
+
+/// A column for each leaf, without triplets.
+fn new_columns(alloc: Global, fields: &[Path]) -> Result<Vec<Column>, NoMemory>
+    ensures empty { IfOk result (λ v. columns_view v.items ≡ replicate (length fields.now) []) }
+    ensures forms { IfOk result (λ v. forms_view v.items ≡ forms_of (leaves_of fields.now)) }
+{
+    let mut columns = Vec::with_capacity(alloc, fields.len())?;
+    'fields: for field in fields {
+        columns.push(new_column(alloc, field))?;
     }
     Ok(columns)
 }
@@ -79,49 +90,36 @@ impl<'a> Striper<'a> {
     /// Errors: want of memory alone.
     pub fn new(alloc: Global, fields: &'a [Path]) -> Result<Striper<'a>, NoMemory>
         ensures columns { IfOk result (λ s. striped s ≡ replicate (length fields.now) []) }
-        ensures paths { IfOk result (λ s. striped_paths s ≡ paths_of fields.now) }
+        ensures leaves { IfOk result (λ s. striped_leaves s ≡ leaves_of fields.now) }
     {
-        let columns = match new_columns(alloc, fields.len()) {
-            Ok(columns) => columns,
-            Err(fault) => return Err(fault),
-        };
-        match vec![in alloc; 0usize; fields.len()] {
-            Ok(lengths) => Ok(Striper {
-                alloc,
-                fields,
-                columns,
-                lengths,
-            }),
-            Err(_) => Err(NoMemory),
-        }
+        let columns = new_columns(alloc, fields)?;
+        let lengths = vec![in alloc; 0usize; fields.len()]?;
+        Ok(Striper {
+            fields,
+            columns,
+            lengths,
+        })
     }
 
-    /// Appends what a record gives to each leaf's column, in one pass through the record.
+    /// Appends what a record gives to each leaf's column, in one pass through the record. Each leaf takes what the record
+    /// gives it: a value of its kind exactly where nothing on its path is absent. A record of a schema does so at the
+    /// schema's leaves.
     ///
-    /// Errors: want of memory alone; the columns are then as they were.
+    /// Errors: want of memory, or of room for texts; the columns are then as they were.
     pub fn add(&mut self, node: &Node) -> Result<(), NoMemory>
-        ensures columns { Adds (node_view node.now) (striped_paths self.old) (striped self.old) (striped self.new) result }
-        ensures paths { striped_paths self.new ≡ striped_paths self.old }
+        requires fits { list_all (fits_leaf (node_view node.now)) (striped_leaves self.old) ≡ true }
+        ensures columns { AddsRecord (node_view node.now) (striped_paths self.old) (striped self.old) (striped self.new) result }
+        ensures leaves { striped_leaves self.new ≡ striped_leaves self.old }
     {
-        match stripe_record(
-            self.alloc,
-            self.fields,
-            &mut self.columns,
-            &self.lengths,
-            node,
-        ) {
-            Ok(()) => {
-                note_lengths(&mut self.lengths, &self.columns);
-                Ok(())
-            }
-            Err(fault) => Err(fault),
-        }
+        stripe_record(self.fields, &mut self.columns, &self.lengths, node)?;
+        note_lengths(&mut self.lengths, &self.columns);
+        Ok(())
     }
 
     /// The columns, one for each leaf, in the order in which the leaves were given.
     pub fn finish(self) -> Vec<Column>
         ensures columns { columns_view result.items ≡ striped self.entry }
-        ensures one_each { length result.items ≡ length (striped_paths self.entry) }
+        ensures forms { forms_view result.items ≡ forms_of (striped_leaves self.entry) }
     {
         self.columns
     }

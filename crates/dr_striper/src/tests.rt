@@ -1,6 +1,15 @@
+//! The columns of documents, each shown as its triplets `(value repetition definition)`.
+
+ghost use Rattle.std.specs.Prelude.{◌≡◌, true, IfOk};
+ghost use Rattle.std.specs.List.{list_all};
+ghost use Rattle.dr_nested.specs.Views.{fields_view};
+ghost use Rattle.dr_nested.specs.PathView.{path_view};
+ghost use Rattle.dr_striper.specs.Striping.{leaves_of};
+ghost use Rattle.dr_striper.specs.Leaves.{is_leaf};
+
 use crate::Striper;
-use dr_levels::{Column, Triplet};
-use dr_nested::{Instance, Node, Path, Slot, Value, find, parse_schema};
+use dr_levels::{Column, Triplet, ValueRef};
+use dr_nested::{Instance, Node, Path, Schema, Slot, Value, find, is_record, parse_schema};
 use std::alloc::{AllocError, Global};
 use std::test::Fail;
 
@@ -88,49 +97,72 @@ fn bare_document(alloc: Global) -> Result<Node, AllocError> {
     document(alloc, 30, Slot::Held(Vec::new(alloc)), Vec::new(alloc))
 }
 
-fn selection(alloc: Global, leaves: &[(&str, &str)]) -> Result<Vec<Path>, &'static str> {
-    let schema = parse_schema(alloc, DOCUMENT.as_bytes()).map_err(|_| "no schema")?;
-    let mut fields = Vec::new(alloc);
-    for (name, _) in leaves {
-        let field = find(alloc, &schema, name).map_err(|_| "no leaf")?;
-        fields.push(field).map_err(|_| "no memory")?;
+fn leaf_of(alloc: Global, schema: &Schema, name: &str) -> Result<Path, Fail>
+    ensures { IfOk result (λ p. is_leaf (fields_view (schema.now).fields.items) (path_view p) ≡ true) }
+{
+    match find(alloc, schema, name) {
+        Ok(field) => Ok(field),
+        Err(_) => Err("no leaf".into()),
     }
-    Ok(fields)
 }
 
-fn striped(
+fn find_leaves(alloc: Global, schema: &Schema, names: &[(&str, &str)]) -> Result<Vec<Path>, Fail>
+    ensures { IfOk result (λ v. list_all (is_leaf (fields_view (schema.now).fields.items)) (leaves_of v.items) ≡ true) }
+{
+    let mut leaves = Vec::new(alloc);
+    'names: for (name, _) in names {
+        leaves.push(leaf_of(alloc, schema, *name)?)?;
+    }
+    Ok(leaves)
+}
+
+fn stripe_all(
     alloc: Global,
-    leaves: &[(&str, &str)],
+    schema: &Schema,
+    leaves: &[Path],
     records: &[Node],
-) -> Result<Vec<Column>, &'static str> {
-    let fields = selection(alloc, leaves)?;
-    let mut striper = Striper::new(alloc, &fields).map_err(|_| "no memory")?;
-    for record in records {
-        striper.add(record).map_err(|_| "no memory")?;
+) -> Result<Vec<Column>, Fail>
+    requires { list_all (is_leaf (fields_view (schema.now).fields.items)) (leaves_of leaves.now) ≡ true }
+{
+    let mut striper = Striper::new(alloc, leaves)?;
+    'records: for record in records {
+        if !is_record(schema, record) {
+            return Err("no record".into());
+        }
+        striper.add(record)?;
     }
     Ok(striper.finish())
 }
 
-fn value_text(alloc: Global, value: &Option<Value>) -> Result<String, AllocError> {
+fn striped(alloc: Global, names: &[(&str, &str)], records: &[Node]) -> Result<Vec<Column>, Fail> {
+    let schema = parse_schema(alloc, DOCUMENT.as_bytes()).map_err(|_| "no schema")?;
+    let leaves = find_leaves(alloc, &schema, names)?;
+    stripe_all(alloc, &schema, &leaves, records)
+}
+
+fn value_text(alloc: Global, value: Option<ValueRef<'_>>) -> Result<String, AllocError> {
     match value {
         None => String::from_str(alloc, "NULL"),
-        Some(Value::Bool(truth)) => format!(in alloc; "{truth}"),
-        Some(Value::Int(number)) => format!(in alloc; "{number}"),
-        Some(Value::Text(text)) => format!(in alloc; "'{text}'"),
+        Some(ValueRef::Bool(truth)) => format!(in alloc; "{truth}"),
+        Some(ValueRef::Int(number)) => format!(in alloc; "{number}"),
+        Some(ValueRef::Text(text)) => format!(in alloc; "'{text}'"),
     }
 }
 
 // Each value with its repetition level and its definition level.
 fn column_text(alloc: Global, column: &Column) -> Result<String, AllocError> {
     let mut text = String::new(alloc);
-    for Triplet {
-        repetition,
-        definition,
-        value,
-    } in column.triplets() {
-        let value = value_text(alloc, value)?;
-        let triplet = format!(in alloc; "({value} {repetition} {definition})")?;
-        text.push_str(triplet.as_str())?;
+    let mut rest = column.triplets();
+    for _ in 0..column.len() {
+        if let Some(Triplet {
+            repetition,
+            definition,
+            value,
+        }) = rest.next() {
+            let value = value_text(alloc, value)?;
+            let triplet = format!(in alloc; "({value} {repetition} {definition})")?;
+            text.push_str(triplet.as_str())?;
+        }
     }
     Ok(text)
 }
@@ -188,7 +220,7 @@ fn no_records_give_empty_columns(rt: HostRuntime) -> Result<(), Fail> {
     let columns = striped(rt.alloc(), &[DOC_ID, BACKWARD, URL], &[])?;
     assert_eq!(rt; columns.len(), 3);
     for column in columns.iter() {
-        assert_eq!(rt; column.triplets().len(), 0);
+        assert_eq!(rt; column.len(), 0);
     }
     Ok(())
 }

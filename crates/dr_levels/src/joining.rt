@@ -1,0 +1,52 @@
+//! Levels that join others.
+
+ghost use Rattle.std.specs.Prelude.{◌≡◌, ◌≤◌, ◌+◌, ◌++◌, ◌∷◌, [], length, replicate};
+ghost use Rattle.std.specs.Vec.{vec_len, vec_capacity};
+ghost use Rattle.dr_levels.specs.Dense.{present};
+ghost use Rattle.dr_levels.specs.Columns.{Adds};
+
+use crate::triplet::Levels;
+use dr_nested::NoMemory;
+
+/// Appends levels for which there is room.
+pub fn join_levels(levels: &mut Vec<Levels>, more: &[Levels])
+    requires { vec_len levels.old + length more.now ≤ vec_capacity levels.old }
+    ensures { levels.new.items ≡ levels.old.items ++ more.now }
+{
+    match levels.extend_from_slice(more) {
+        Ok(()) => {}
+        Err(_) => unreachable!(),
+    }
+}
+
+/// Appends the same levels so many times.
+///
+/// Errors: want of memory alone. Nothing has changed then.
+pub fn repeat_levels(levels: &mut Vec<Levels>, same: Levels, count: usize) -> Result<(), NoMemory>
+    ensures { Adds levels.old.items levels.new.items (replicate count same) result }
+{
+    match levels.len().checked_add(count) {
+        Some(length) => levels.resize(length, same)?,
+        None => return Err(NoMemory),
+    }
+    Ok(())
+}
+
+/// How many values a place has: one, or none.
+fn count_value(greatest: u8, place: &Levels) -> usize
+    ensures count { result ≡ present greatest (place.now ∷ []) }
+    ensures at_most_one { result ≤ 1 }
+{
+    if place.definition == greatest { 1 } else { 0 }
+}
+
+/// How many places have a value, where this is the leaf's greatest definition level.
+pub fn count_present(greatest: u8, levels: &[Levels]) -> usize
+    ensures { result ≡ present greatest levels.now }
+{
+    let mut count = 0;
+    'levels: for place in levels {
+        count += count_value(greatest, place);
+    }
+    count
+}

@@ -1,0 +1,79 @@
+//! Going through a column's triplets.
+
+ghost use Rattle.std.specs.Prelude.{◌≡◌, ◌≤◌, ◌+◌, length};
+ghost use Rattle.dr_levels.specs.Dense.{values_view, present};
+
+use crate::column::Column;
+use crate::joining::count_present;
+use crate::triplet::{Levels, Triplet};
+
+/// A stretch of a column's triplets, from the next one on.
+#[derive(Clone, Copy)]
+pub struct Triplets<'a> {
+    pub(crate) column: &'a Column,
+    pub(crate) levels: &'a [Levels],
+    /// The number of the column's values that lie before them.
+    pub(crate) value: usize,
+    pub ghost there: { value + present (column.now).greatest levels.now ≤ length (values_view (column.now).values) },
+}
+
+impl<'a> Triplets<'a> {
+    ghost use Rattle.std.specs.Prelude.{take, drop, option_map};
+    ghost use Rattle.dr_levels.specs.Views.{levels_pair, triplet_view, triplets_view};
+    ghost use Rattle.dr_levels.specs.Columns.{Gives, next_levels};
+
+    /// How many triplets are left.
+    #[tactic(auto, using(crate::proofs::DenseLemmas::joined_length))]
+    pub fn len(self) -> usize
+        ensures { result ≡ length (triplets_view self.entry) }
+    {
+        self.levels.len()
+    }
+
+    /// The levels of the next triplet; none at the end.
+    pub fn levels(self) -> Option<Levels>
+        ensures { option_map levels_pair result ≡ next_levels (triplets_view self.entry) }
+    {
+        self.levels.first().copied()
+    }
+
+    /// The next triplet, which is passed; none at the end.
+    pub fn next(&mut self) -> Option<Triplet<'a>>
+        ensures { Gives triplet_view (triplets_view self.old) (triplets_view self.new) result }
+    {
+        let (first, rest) = self.levels.split_first()?;
+        let mut value = None;
+        if first.definition == self.column.greatest {
+            value = Some(self.column.values.get(self.value));
+            self.value += 1;
+        }
+        self.levels = rest;
+        Some(Triplet {
+            repetition: first.repetition,
+            definition: first.definition,
+            value,
+        })
+    }
+
+    /// The first so many of them, and the others.
+    pub fn split_at(self, count: usize) -> (Triplets<'a>, Triplets<'a>)
+        requires { count ≤ length (triplets_view self) }
+        ensures front { triplets_view result.0 ≡ take count (triplets_view self.entry) }
+        ensures back { triplets_view result.1 ≡ drop count (triplets_view self.entry) }
+    {
+        let (front, back) = self.levels.split_at(count);
+        let passed = count_present(self.column.greatest, front);
+        (
+            Triplets {
+                column: self.column,
+                levels: front,
+                value: self.value,
+            },
+            Triplets {
+                column: self.column,
+                levels: back,
+                value: self.value + passed,
+            },
+        )
+    }
+}

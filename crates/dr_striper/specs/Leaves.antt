@@ -1,0 +1,36 @@
+-- The leaves of a schema with their kinds, and what records give them.
+use Rattle.std.specs.Prelude.{◌≡◌, List, [], ◌∷◌, Bool, true, false, ◌&&◌, Ok, ℕ}
+use Rattle.dr_meaning.specs.Schema.{Kind, bool_kind, int32_kind, int64_kind, text_kind, Fields, no_fields, field, Shape, leaf, group}
+use Rattle.dr_meaning.specs.Path.{Step, Leaf, same_repetition, through, is_empty_path, find_leaf}
+use Rattle.dr_meaning.specs.Record.{Node, is_record}
+use Rattle.dr_striper.specs.Stripers.{fits_leaf}
+
+abbrev pub same_kind : Kind → Kind → Bool
+same_kind bool_kind bool_kind = true
+same_kind int32_kind int32_kind = true
+same_kind int64_kind int64_kind = true
+same_kind text_kind text_kind = true
+same_kind j k = false
+
+-- whether the path is that of a leaf of this kind
+abbrev mutual
+  pub is_leaf_of : Fields → Kind → List Step → Bool
+  is_leaf_of no_fields k p = false
+  is_leaf_of (field n r s fs) k [] = false
+  is_leaf_of (field n r s fs) k (t ∷ p) = through t.place (same_repetition t.repetition r && is_shape_leaf s k p) (λ i. is_leaf_of fs k (record { place = i; repetition = t.repetition } ∷ p))
+
+  pub is_shape_leaf : Shape → Kind → List Step → Bool
+  is_shape_leaf (leaf j) k p = same_kind j k && is_empty_path p
+  is_shape_leaf (group fs) k p = is_leaf_of fs k p
+
+-- whether this is a leaf of the schema, of its kind
+abbrev pub is_leaf : Fields → Leaf → Bool
+is_leaf fs l = is_leaf_of fs l.kind l.path
+
+-- a leaf of a schema takes what a record of the schema gives it
+abbrev pub RecordsFitLeaves : Type 0
+RecordsFitLeaves = (fs : Fields) (l : Leaf) (n : Node) → is_leaf fs l ≡ true → is_record fs n ≡ true → fits_leaf n l ≡ true
+
+-- the leaf that a text names is a leaf of the schema, of its kind
+abbrev pub FoundLeavesHaveKinds : Type 0
+FoundLeavesHaveKinds = (text : List ℕ) (fs : Fields) (l : Leaf) → find_leaf text fs ≡ Ok l → is_leaf fs l ≡ true

@@ -1,0 +1,230 @@
+//! One pass through a record for the columns of all leaves.
+
+ghost use Rattle.std.specs.Prelude.{◌≡◌, ◌≤◌, ◌+◌, ◌-◌, ◌∷◌, [], true, length, take, drop, option_map};
+ghost use Rattle.std.specs.List.{list_all};
+ghost use Rattle.dr_meaning.specs.Column.{value_of, triplet};
+ghost use Rattle.dr_meaning.specs.Record as record_tree;
+ghost use Rattle.dr_meaning.specs.Schema.{greatest_depth};
+ghost use Rattle.dr_nested.specs.Views.{rep_view, instance_view, instances_view};
+ghost use Rattle.dr_nested.specs.PathView.{path_view, step_view};
+ghost use Rattle.dr_levels.specs.Views.{column_view, columns_view, column_form, forms_view};
+ghost use Rattle.dr_levels.specs.Columns.{Adds, takes};
+ghost use Rattle.dr_striper.specs.Places.{IsWithin, below};
+ghost use Rattle.dr_striper.specs.Striping.{Appends, Stripes, Takes, EachGoesOn, inside_view, lent_value, paths_of, path_column, field_column};
+
+use dr_levels::{Column, Triplet, ValueRef};
+use dr_nested::{Instance, NoMemory, Node, Path, Rep, Step, Value, instances_at};
+
+/// What an instance has inside: a leaf's value, or a group's node.
+#[derive(Clone, Copy)]
+pub enum Inside<'a> {
+    Atom(&'a Value),
+    Group(&'a Node),
+}
+
+/// Where a pass through a record stands: how many fields lie on the way, how many of them are repeated, how many need
+/// not be there, and the repetition level at which the next triplets begin.
+#[derive(Clone, Copy)]
+pub struct Place {
+    pub depth: usize,
+    pub level: u8,
+    pub definition: u8,
+    pub begin: u8,
+}
+
+impl Place {
+    /// In an instance of the field of a step, where the triplets of a later instance begin.
+    fn below(self, step: Step) -> Place
+        requires { IsWithin self (greatest_depth - 1) }
+        ensures place { result ≡ below self (step_view step).repetition }
+        ensures within { IsWithin result greatest_depth }
+    {
+        let level = match step.rep {
+            Rep::Repeated => self.level + 1,
+            Rep::Required | Rep::Optional => self.level,
+        };
+        let definition = match step.rep {
+            Rep::Required => self.definition,
+            Rep::Optional | Rep::Repeated => self.definition + 1,
+        };
+        Place {
+            depth: self.depth + 1,
+            level,
+            definition,
+            begin: level,
+        }
+    }
+}
+
+fn look_inside(instance: &Instance) -> Inside<'_>
+    ensures { inside_view result ≡ instance_view instance.now }
+{
+    match instance {
+        Instance::Atom(value) => Inside::Atom(value),
+        Instance::Group(node) => Inside::Group(node),
+    }
+}
+
+/// The instances of the field at a place; a value has none.
+fn instances_in<'a>(inside: Inside<'a>, place: usize) -> &'a [Instance]
+    ensures { instances_view result.now ≡ record_tree.instances_in place (inside_view inside.entry) }
+{
+    match inside {
+        Inside::Atom(_) => &[],
+        Inside::Group(node) => instances_at(node, place),
+    }
+}
+
+/// The value at a path's end: none in a group.
+fn value_in<'a>(inside: Inside<'a>) -> Option<&'a Value>
+    ensures { option_map lent_value result ≡ value_of (inside_view inside.entry) }
+{
+    match inside {
+        Inside::Atom(value) => Some(value),
+        Inside::Group(_) => None,
+    }
+}
+
+fn is_same(one: Rep, other: Rep) -> bool
+    ensures { result ≡ true → rep_view one ≡ rep_view other }
+{
+    match one {
+        Rep::Required => matches!(other, Rep::Required),
+        Rep::Optional => matches!(other, Rep::Optional),
+        Rep::Repeated => matches!(other, Rep::Repeated),
+    }
+}
+
+/// Whether a path goes on by a step behind so many.
+fn goes_on(field: &Path, depth: usize, step: Step) -> bool
+    ensures { result ≡ true → drop depth (path_view field.now).path ≡ step_view step ∷ drop (depth + 1) (path_view field.now).path }
+{
+    match field.steps.get(depth) {
+        Some(next) => next.place == step.place && is_same(next.rep, step.rep),
+        None => false,
+    }
+}
+
+/// How many of the first paths go on by a step.
+fn run_length(fields: &[Path], depth: usize, step: Step) -> usize
+    ensures within { result ≤ length fields.now }
+    ensures same { EachGoesOn depth (step_view step) (paths_of (take result fields.now)) }
+{
+    'fields: for (run, field) in fields.iter().enumerate() {
+        if !goes_on(field, depth, step) {
+            return run;
+        }
+    }
+    fields.len()
+}
+
+/// Appends a triplet of a place to a column.
+fn push_one(column: &mut Column, place: Place, value: Option<&Value>) -> Result<(), NoMemory>
+    requires { takes (column_form column.old) (triplet place.begin place.definition (option_map lent_value value)) ≡ true }
+    ensures triplet { Adds (column_view column.old) (column_view column.new) (triplet place.begin place.definition (option_map lent_value value.entry) ∷ []) result }
+    ensures form { column_form column.new ≡ column_form column.old }
+{
+    let value = match value {
+        Some(value) => Some(ValueRef::of(value)),
+        None => None,
+    };
+    column.push(Triplet {
+        repetition: place.begin,
+        definition: place.definition,
+        value,
+    })
+}
+
+/// Appends a triplet of a place to each column.
+fn push_all(columns: &mut [Column], place: Place, value: Option<&Value>) -> Result<(), NoMemory>
+    requires { list_all (λ f. takes f (triplet place.begin place.definition (option_map lent_value value))) (forms_view columns.old) ≡ true }
+    ensures columns { Appends (triplet place.begin place.definition (option_map lent_value value.entry)) (columns_view columns.old) (columns_view columns.new) result }
+    ensures forms { forms_view columns.new ≡ forms_view columns.old }
+{
+    'columns: for column in columns.iter_mut() {
+        push_one(column, place, value)?;
+    }
+    Ok(())
+}
+
+/// What the instances of a field that has some give the columns of the paths that go on by its step.
+#[cycle(passing)]
+fn stripe_instances(
+    fields: &[Path],
+    columns: &mut [Column],
+    step: Step,
+    first: &Instance,
+    later: &[Instance],
+    place: Place,
+) -> Result<(), NoMemory>
+    requires as_many { length fields.now ≡ length columns.old }
+    requires within { IsWithin place (greatest_depth - 1) }
+    requires takes { Takes (field_column place (step_view step) (record_tree.instance (instance_view first.now) (instances_view later.now))) (paths_of fields.now) (forms_view columns.old) }
+    ensures columns { Stripes (field_column place (step_view step) (record_tree.instance (instance_view first.now) (instances_view later.now))) (paths_of fields.now) (columns_view columns.old) (columns_view columns.new) result }
+    ensures forms { forms_view columns.new ≡ forms_view columns.old }
+{
+    let below = place.below(step);
+    let begun = Place {
+        begin: place.begin,
+        ..below
+    };
+    stripe_inside(fields, columns, look_inside(first), begun)?;
+    'instances: for instance in later {
+        stripe_inside(fields, columns, look_inside(instance), below)?;
+    }
+    Ok(())
+}
+
+/// What the instances of a field give the columns of the paths that go on by its step.
+#[cycle(passing)]
+fn stripe_field(
+    fields: &[Path],
+    columns: &mut [Column],
+    step: Step,
+    instances: &[Instance],
+    place: Place,
+) -> Result<(), NoMemory>
+    requires as_many { length fields.now ≡ length columns.old }
+    requires within { IsWithin place (greatest_depth - 1) }
+    requires takes { Takes (field_column place (step_view step) (instances_view instances.now)) (paths_of fields.now) (forms_view columns.old) }
+    ensures columns { Stripes (field_column place (step_view step) (instances_view instances.now)) (paths_of fields.now) (columns_view columns.old) (columns_view columns.new) result }
+    ensures forms { forms_view columns.new ≡ forms_view columns.old }
+{
+    match instances {
+        [] => push_all(columns, place, None),
+        [first, later @ ..] => stripe_instances(fields, columns, step, first, later, place),
+    }
+}
+
+/// What an instance gives the columns of the paths that lead to it.
+#[cycle(passing)]
+pub fn stripe_inside(
+    fields: &[Path],
+    columns: &mut [Column],
+    inside: Inside<'_>,
+    place: Place,
+) -> Result<(), NoMemory>
+    requires as_many { length fields.now ≡ length columns.old }
+    requires within { IsWithin place greatest_depth }
+    requires takes { Takes (path_column place (inside_view inside)) (paths_of fields.now) (forms_view columns.old) }
+    ensures columns { Stripes (path_column place (inside_view inside.entry)) (paths_of fields.now) (columns_view columns.old) (columns_view columns.new) result }
+    ensures forms { forms_view columns.new ≡ forms_view columns.old }
+{
+    let [head, others @ ..] = fields else {
+        return Ok(());
+    };
+    match head.steps.get(place.depth) {
+        None => {
+            let (near, far) = columns.split_at_mut(1);
+            push_all(near, place, value_in(inside))?;
+            stripe_inside(others, far, inside, place)
+        }
+        Some(step) => {
+            let run = 1 + run_length(others, place.depth, *step);
+            let (near, far) = columns.split_at_mut(run);
+            let instances = instances_in(inside, step.place);
+            stripe_field(&fields[..run], near, *step, instances, place)?;
+            stripe_inside(&fields[run..], far, inside, place)
+        }
+    }
+}

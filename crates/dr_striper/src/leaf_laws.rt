@@ -1,0 +1,16 @@
+//! Laws of leaves and what records give them.
+
+ghost use Rattle.dr_striper.specs.Leaves.{RecordsFitLeaves, FoundLeavesHaveKinds};
+
+/// Each leaf of a schema takes what a record of the schema gives it: a value of its kind exactly where nothing on its path
+/// is absent.
+pub fn records_fit_leaves()
+    ensures { RecordsFitLeaves }
+{
+}
+
+/// A leaf that is found by its names is a leaf of the schema, of its kind.
+pub fn found_leaves_have_kinds()
+    ensures { FoundLeavesHaveKinds }
+{
+}
