@@ -12,7 +12,3 @@ mod stop;
 
 pub use running::run;
 
-#[cfg(test)]
-mod round_trip_tests;
-#[cfg(test)]
-mod run_tests;

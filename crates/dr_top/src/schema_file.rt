@@ -1,6 +1,6 @@
 //! The schema of a file that the keeper holds.
 
-ghost use Rattle.std.specs.Prelude.{◌≡◌, ◌×◌, IfOk, IfErr, OnOk};
+ghost use Rattle.std.specs.Prelude.{◌≡◌, IfOk, IfErr, OnOk};
 ghost use Rattle.dr_nested.specs.SchemaView.{schema_view};
 ghost use Rattle.dr_outside.specs.declared.fault.Fault.TheVariants as outside;
 ghost use Rattle.dr_nested.specs.declared.fault.SchemaFault.TheVariants as schema_fault;
