@@ -20,3 +20,5 @@ pub mod AnswerLemmas
 pub mod ColumnLemmas
 pub mod CommandLemmas
 pub mod AutomatonLemmas
+-- the record of a line has the form of its schema's records
+pub mod FormLemmas

@@ -1,12 +1,13 @@
 //! The column of a leaf over the records of the input.
 
-ghost use Rattle.std.specs.Prelude.{◌≡◌, ◌≢◌, ◌≤◌, ◌∷◌, [], length, Some, IfOk, IfErr, OnOk, Err};
+ghost use Rattle.std.specs.Prelude.{◌≡◌, ◌≢◌, ◌≤◌, ◌∷◌, [], length, Some, IfOk, IfErr, OnOk, Err, true};
 ghost use Rattle.dr_outside.specs.Faults.{Rose};
 ghost use Rattle.dr_meaning.specs.Stripe.{most_striped};
 ghost use Rattle.dr_nested.specs.Views.{fields_view};
 ghost use Rattle.dr_nested.specs.PathView.{path_view};
 ghost use Rattle.dr_levels.specs.Views.{column_view};
-ghost use Rattle.dr_striper.specs.Stripers.{striped, striped_paths};
+ghost use Rattle.dr_striper.specs.Leaves.{is_leaf};
+ghost use Rattle.dr_striper.specs.Stripers.{striped, striped_leaves};
 ghost use Rattle.dr_top.specs.Asking.{WhereTold};
 ghost use Rattle.dr_top.specs.Records.{HasColumns, IsLineRefusal};
 
@@ -25,7 +26,7 @@ pub const MOST_STRIPED: u64 = 4_096_000_000;
 
 /// The only column of a striper of one leaf.
 fn only_column(striper: Striper<'_>) -> Column
-    requires { length (striped_paths striper) ≡ 1 }
+    requires { length (striped_leaves striper) ≡ 1 }
     ensures { striped striper.entry ≡ column_view result ∷ [] }
 {
     match striper.finish().pop() {
@@ -43,6 +44,7 @@ pub fn stripe_records<S: Source>(
     field: &Path,
     source: &mut S,
 ) -> Result<Column, Stop>
+    requires { is_leaf (fields_view (schema.now).fields.items) (path_view field.now) ≡ true }
     ensures columns { IfOk result (λ c. HasColumns (fields_view (schema.now).fields.items) ((path_view field.now).path ∷ []) (S.left source.old) (column_view c ∷ [])) }
     ensures end { OnOk result (WhereTold (S.left source.old) (λ _. S.left source.new ≡ Some [])) }
     ensures refused { (r : Refusal) → result ≡ Err (Stop.Refused r) → IsLineRefusal (fields_view (schema.now).fields.items) most_striped (S.left source.old) r }

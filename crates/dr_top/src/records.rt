@@ -1,6 +1,6 @@
 //! Reading the records of the input, one at a time.
 
-ghost use Rattle.std.specs.Prelude.{◌≡◌, ◌≢◌, ◌≤◌, ◌<◌, ◌+◌, ◌^◌, map, Some, None, [], IfOk, IfErr, IfSome, IfNone, OnOk, Err};
+ghost use Rattle.std.specs.Prelude.{◌≡◌, ◌≢◌, ◌≤◌, ◌<◌, ◌+◌, ◌^◌, map, Some, None, [], IfOk, IfErr, IfSome, IfNone, OnOk, Err, true};
 ghost use Rattle.dr_outside.specs.Faults.{Rose};
 ghost use Rattle.dr_meaning.specs.Record.{instance_count};
 ghost use Rattle.dr_meaning.specs.JsonRecord.{most_instances};
@@ -8,6 +8,7 @@ ghost use Rattle.dr_meaning.specs.Ask.{most_records};
 ghost use Rattle.dr_nested.specs.Views.{fields_view, node_view};
 ghost use Rattle.dr_nested.specs.PathView.{step_view};
 ghost use Rattle.dr_lines.specs.Cutting.{rest_of, fault_of, IsEnd};
+ghost use Rattle.dr_striper.specs.Leaves.{has_fields};
 ghost use Rattle.dr_top.specs.Asking.{WhereTold};
 ghost use Rattle.dr_top.specs.Records.{ReadsLine, TakesRecord, RefusesNext, HasTotal, IsLineRefusal};
 
@@ -56,6 +57,7 @@ pub fn next_record<S: Source>(
     requires going { fault_of lines.old ≡ None }
     requires few { number < 2 ^ 63 }
     ensures record { IfOk result (λ o. IfSome o (λ n. TakesRecord (fields_view (schema.now).fields.items) most number (rest_of lines.old (S.left source.old)) (node_view n) (rest_of lines.new (S.left source.new)))) }
+    ensures form { IfOk result (λ o. IfSome o (λ n. has_fields (fields_view (schema.now).fields.items) (node_view n) ≡ true)) }
     ensures within { IfOk result (λ o. IfSome o (λ n. number + 1 ≤ most)) }
     ensures small { IfOk result (λ o. IfSome o (λ n. instance_count (node_view n) ≤ most_instances)) }
     ensures end { IfOk result (λ o. IfNone o (IsEnd (rest_of lines.old (S.left source.old)) (rest_of lines.new (S.left source.new)))) }

@@ -3,11 +3,15 @@ ghost use Rattle.std.specs.List.{list_all};
 ghost use Rattle.dr_meaning.specs.Path.{is_leaf_path};
 ghost use Rattle.dr_nested.specs.Views.{fields_view};
 ghost use Rattle.dr_nested.specs.PathView.{path_view};
+ghost use Rattle.dr_striper.specs.Striping.{leaves_of};
+ghost use Rattle.dr_striper.specs.Leaves.{is_leaf};
 ghost use Rattle.dr_assemble.specs.Views.{paths_view};
 
 use dr_assemble::assemble;
 use dr_levels::Column;
-use dr_nested::{Instance, Node, Path, Schema, Slot, Value, find, parse_schema};
+use dr_nested::{
+    Instance, Node, Path, Schema, Slot, Value, find, is_record, parse_schema, project,
+};
 use dr_striper::Striper;
 use std::alloc::{AllocError, Global};
 use std::test::Fail;
@@ -18,7 +22,8 @@ const DOCUMENT: &str =
 const RECORDS: u64 = 3000;
 
 fn field_of(alloc: Global, schema: &Schema, name: &str) -> Result<Path, Fail>
-    ensures { IfOk result (λ p. is_leaf_path (fields_view (schema.now).fields.items) (path_view p).path ≡ true) }
+    ensures path { IfOk result (λ p. is_leaf_path (fields_view (schema.now).fields.items) (path_view p).path ≡ true) }
+    ensures leaf { IfOk result (λ p. is_leaf (fields_view (schema.now).fields.items) (path_view p) ≡ true) }
 {
     match find(alloc, schema, name) {
         Ok(field) => Ok(field),
@@ -27,7 +32,8 @@ fn field_of(alloc: Global, schema: &Schema, name: &str) -> Result<Path, Fail>
 }
 
 fn fields_of(alloc: Global, schema: &Schema, names: &[&str]) -> Result<Vec<Path>, Fail>
-    ensures { IfOk result (λ v. list_all (is_leaf_path (fields_view (schema.now).fields.items)) (paths_view v.items) ≡ true) }
+    ensures paths { IfOk result (λ v. list_all (is_leaf_path (fields_view (schema.now).fields.items)) (paths_view v.items) ≡ true) }
+    ensures leaves { IfOk result (λ v. list_all (is_leaf (fields_view (schema.now).fields.items)) (leaves_of v.items) ≡ true) }
 {
     let mut fields = Vec::new(alloc);
     'names: for name in names {
@@ -125,15 +131,25 @@ fn record(alloc: Global, random: &mut Random) -> Result<Node, AllocError> {
     })
 }
 
-fn columns_of(alloc: Global, fields: &[Path], nodes: &[Node]) -> Result<Vec<Column>, Fail> {
+fn columns_of(
+    alloc: Global,
+    schema: &Schema,
+    fields: &[Path],
+    nodes: &[Node],
+) -> Result<Vec<Column>, Fail>
+    requires { list_all (is_leaf (fields_view (schema.now).fields.items)) (leaves_of fields.now) ≡ true }
+{
     let mut striper = Striper::new(alloc, fields).map_err(|_| "no memory")?;
-    for node in nodes {
+    'nodes: for node in nodes {
+        if !is_record(schema, node) {
+            return Err("no record".into());
+        }
         striper.add(node).map_err(|_| "no memory")?;
     }
     Ok(striper.finish())
 }
 
-/// Whether striping what is assembled of the columns of generated records gives these columns.
+/// Whether what is assembled of the columns of generated records are the records' projections.
 fn comes_back(alloc: Global, leaves: &[&str], seed: u64) -> Result<bool, Fail> {
     let schema = parse_schema(alloc, DOCUMENT.as_bytes()).map_err(|_| "no schema")?;
     let fields = fields_of(alloc, &schema, leaves)?;
@@ -142,14 +158,21 @@ fn comes_back(alloc: Global, leaves: &[&str], seed: u64) -> Result<bool, Fail> {
     for _ in 0..RECORDS {
         records.push(record(alloc, &mut random)?)?;
     }
-    let columns = columns_of(alloc, &fields, &records)?;
+    let columns = columns_of(alloc, &schema, &fields, &records)?;
     let nodes = assemble(alloc, &schema, &fields, &columns, RECORDS).map_err(|_| "bad data")?;
-    let again = columns_of(alloc, &fields, &nodes)?;
-    Ok(nodes.len() as u64 == RECORDS && columns == again)
+    for (node, record) in nodes.iter().zip(&records) {
+        let kept = project(alloc, &fields, record).map_err(|_| "no memory")?;
+        let one = format!(in alloc; "{node:?}")?;
+        let other = format!(in alloc; "{kept:?}")?;
+        if one.as_str() != other.as_str() {
+            return Ok(false);
+        }
+    }
+    Ok(nodes.len() as u64 == RECORDS)
 }
 
 #[test]
-fn assembled_records_have_the_columns_they_came_from(rt: HostRuntime) -> Result<(), Fail> {
+fn assembled_records_are_the_projections(rt: HostRuntime) -> Result<(), Fail> {
     let all = [
         "DocId",
         "Links.Backward",

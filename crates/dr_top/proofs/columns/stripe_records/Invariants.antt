@@ -3,14 +3,14 @@ use Rattle.dr_meaning.specs.Stripe.{most_striped}
 use Rattle.dr_nested.specs.Views.{fields_view}
 use Rattle.dr_nested.specs.PathView.{path_view}
 use Rattle.dr_lines.specs.Cutting.{rest_of, fault_of}
-use Rattle.dr_striper.specs.Stripers.{striped, striped_paths}
+use Rattle.dr_striper.specs.Stripers.{striped, striped_leaves}
 use Rattle.dr_top.specs.Records.{HasRead, AreColumns}
 use Rattle.dr_top.proofs.columns.stripe_records.Given as goal
 
 abbrev pub invariant-records : goal.invariant-records
 invariant-records g l = record {
   has_read : HasRead (fields_view l.schema.fields.items) most_striped (AreColumns ((path_view l.field).path ∷ []) (striped l.striper)) (g.S.Source.left l.fn.source) (rest_of l.lines (g.S.Source.left l.source)) l.number;
-  paths : striped_paths l.striper ≡ (path_view l.field).path ∷ [];
+  leaves : striped_leaves l.striper ≡ path_view l.field ∷ [];
   not_stopped : fault_of l.lines ≡ None;
   within : l.number ≤ 4096000000;
   never_falls : g.S.Source.faults l.fn.source ≤ g.S.Source.faults l.source;

@@ -2,6 +2,7 @@ use Rattle.std.proofs.Common.{◌≡◌, ◌+◌, refl, ap, Err}
 use Rattle.dr_nested.specs.Views.{fields_view, node_view}
 use Rattle.dr_lines.specs.Cutting.{rest_of, last_line}
 use Rattle.dr_meaning.proofs.RecordLimits.{record_is_within}
+use Rattle.dr_top.proofs.FormLemmas.{line_form}
 use Rattle.dr_top.specs.declared.refusal.LineProblem.{LineProblem}
 use Rattle.dr_top.specs.declared.refusal.Refusal.{Refusal}
 use Rattle.dr_top.specs.declared.refusal.Stop.{Stop}
@@ -16,6 +17,9 @@ returns-then-number-most-clause-refused g c = λ r e.
 
 pub returns-in-Ok-clause-small : goal.returns-in-Ok-clause-small
 returns-in-Ok-clause-small g c = record_is_within (fields_view c.args.schema.now.fields.items) c.line.result.now (node_view c.in-Ok.node) c.in-Ok.ensures
+
+pub returns-in-Ok-clause-form : goal.returns-in-Ok-clause-form
+returns-in-Ok-clause-form g c = line_form (fields_view c.args.schema.now.fields.items) c.line.result.now (node_view c.in-Ok.node) c.in-Ok.ensures
 
 pub returns-in-Err-TooLong-clause-refused : goal.returns-in-Err-TooLong-clause-refused
 returns-in-Err-TooLong-clause-refused g c = λ r e.
