@@ -13,8 +13,6 @@ use Rattle.dr_meaning.proofs.MeaningLemmas.{column_of_projections}
 use Rattle.dr_nested.specs.Views.{node_view}
 use Rattle.dr_nested.specs.declared.path.Path.{Path}
 use Rattle.dr_nested.specs.declared.record.Node as code
-use Rattle.dr_striper.specs.Striping.{gained}
-use Rattle.dr_striper.proofs.GrowthLemmas.{columns-push}
 use Rattle.dr_assemble.specs.Restoring.{strips, restored_records}
 use Rattle.dr_assemble.specs.Assembly.{HasColumns}
 use Rattle.dr_assemble.specs.Views.{paths_view, nodes_view, columns_at, Restores}
@@ -125,22 +123,3 @@ nothing_restored see m AssembleFault.BadData h q = h
 nothing_restored see m AssembleFault.NoMemory h q = absurd (cc)
 
 -- ---- the columns of nodes, one node after another
-
-no_columns : (ps : List Path) → replicate (length ps) [] ≡ columns_at ps []
-no_columns [] = refl
-no_columns (p ∷ ps) = ap (λ (C : List (List Triplet)). [] ∷ C) (no_columns ps)
-
-take_next : {X : Type 0} (xs : List X) (i : ℕ) (x : X) → i < length xs → x ≡ get_or xs i x → take i xs ++ x ∷ [] ≡ take (i + 1) xs
-take_next xs i x h is = ap (λ y. take i xs ++ y ∷ []) is ∙ sym (take-suc xs i x h) ∙ ap (λ n. take n xs) (sym (add-one i))
-
--- before the first node
-pub columns_begin : (ps : List Path) (C : List (List Triplet)) → C ≡ replicate (length ps) [] → C ≡ columns_at ps []
-columns_begin ps C e = e ∙ no_columns ps
-
--- one node more
-pub columns_more : (ps : List Path) (ns : List code.Node) (i : ℕ) (n : code.Node) (F : List (List Step)) (C D : List (List Triplet)) → i < length ns → n ≡ get_or ns i n → F ≡ paths_view ps → C ≡ columns_at ps (take i ns)
-    → D ≡ gained (λ (p : List Step). record_column p (node_view n)) F C → D ≡ columns_at ps (take (i + 1) ns)
-columns_more ps ns i n F C D h is f c e =
-    e ∙ ap₂ (λ (G : List (List Step)) (B : List (List Triplet)). gained (λ (p : List Step). record_column p (node_view n)) G B) f c
-    ∙ columns-push (paths_view ps) (nodes_view (take i ns)) (node_view n)
-    ∙ ap (λ (R : List Node). map (λ (p : List Step). column p R) (paths_view ps)) (sym (map-append node_view (take i ns) (n ∷ [])) ∙ ap nodes_view (take_next ns i n h is))

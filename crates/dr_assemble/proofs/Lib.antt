@@ -12,3 +12,5 @@ mod ComparingLemmas
 pub mod PushLemmas
 -- worked examples, by computation
 mod WorkedAssembly
+-- pieces by their repetition levels
+pub mod PieceLemmas

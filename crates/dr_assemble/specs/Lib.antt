@@ -6,3 +6,7 @@ pub mod Assembly
 pub mod Views
 -- the strips of a group's fields by their places
 pub mod Places
+-- the pieces of a column, by its repetition levels
+pub mod Pieces
+-- passing triplets that come next
+pub mod Comparing

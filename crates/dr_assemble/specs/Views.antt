@@ -7,13 +7,13 @@ use Rattle.dr_nested.specs.PathView.{step_view, path_view}
 use Rattle.dr_nested.specs.Views.{node_view}
 use Rattle.dr_nested.specs.declared.path.Path.{Path}
 use Rattle.dr_nested.specs.declared.record.Node.{Node}
-use Rattle.dr_levels.specs.Views.{triplet_view}
+use Rattle.dr_levels.specs.Views.{triplets_view}
 use Rattle.dr_assemble.specs.Restoring as restoring
 use Rattle.dr_assemble.specs.declared.strip.Strip.{Strip}
 use Rattle.dr_assemble.specs.declared.fault.AssembleFault.{AssembleFault}
 
 abbrev pub strip_view : Strip → restoring.Strip
-strip_view s = record { rest = map step_view s.rest.now; triplets = map triplet_view s.triplets.now }
+strip_view s = record { rest = map step_view s.rest.now; triplets = triplets_view s.triplets }
 
 abbrev pub strips_view : List Strip → List restoring.Strip
 strips_view ss = map strip_view ss

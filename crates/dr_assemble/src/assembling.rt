@@ -13,13 +13,12 @@ ghost use Rattle.dr_assemble.specs.Restoring as restoring;
 ghost use Rattle.dr_assemble.specs.Assembly.{HasColumns, AreProjections, NoneHas};
 ghost use Rattle.dr_assemble.specs.Views.{strips_view, paths_view, nodes_view, columns_at, Restores};
 
-use crate::comparing::same_columns;
+use crate::comparing::have_columns;
 use crate::fault::AssembleFault;
 use crate::restoring::restore_node;
 use crate::strip::{Strip, count_pieces, cut};
 use dr_levels::Column;
-use dr_nested::{Field, NoMemory, Node, Path, Schema};
-use dr_striper::Striper;
+use dr_nested::{Field, Node, Path, Schema};
 use std::alloc::{AllocError, Global};
 
 /// Each field's path with its column.
@@ -89,43 +88,27 @@ fn restore_records(
     }
 }
 
-/// The columns of nodes.
-fn columns_of(alloc: Global, fields: &[Path], nodes: &[Node]) -> Result<Vec<Column>, NoMemory>
-    ensures { IfOk result (λ v. columns_view v.items ≡ columns_at fields.now nodes.now) }
-{
-    let mut striper = Striper::new(alloc, fields)?;
-    'nodes: for node in nodes {
-        striper.add(node)?;
-    }
-    Ok(striper.finish())
-}
-
-/// Nodes that have these columns.
+/// Nodes that have these columns, one for each field.
 fn with_columns(
-    alloc: Global,
     fields: &[Path],
     columns: &[Column],
     nodes: Vec<Node>,
 ) -> Result<Vec<Node>, AssembleFault>
+    requires { length fields.now ≡ length columns.now }
     ensures same { IfOk result (λ v. v.items ≡ nodes.items) }
     ensures have { IfOk result (λ v. columns_at fields.now nodes.items ≡ columns_view columns.now) }
     ensures others { IsErrOf result AssembleFault.BadData → columns_at fields.now nodes.items ≡ columns_view columns.now → ⊥ }
 {
-    match columns_of(alloc, fields, &nodes) {
-        Ok(found) => {
-            if same_columns(&found, columns) {
-                Ok(nodes)
-            } else {
-                Err(AssembleFault::BadData)
-            }
-        }
-        Err(_) => Err(AssembleFault::NoMemory),
+    if have_columns(fields, columns, &nodes) {
+        Ok(nodes)
+    } else {
+        Err(AssembleFault::BadData)
     }
 }
 
 /// The projections to the leaves of the fields of as many records of the schema as there are rows, which have these
-/// columns, one for each field. Nodes are restored of the columns as if they were some records', and their columns are
-/// then compared with those given. The time is linear in the triplets and the rows.
+/// columns, one for each field. Nodes are restored of the columns as if they were some records', and what they give
+/// each column is then compared with it, triplet by triplet. The time is linear in the triplets and the rows.
 ///
 /// Errors: `BadData` exactly where no such records have these columns; want of memory.
 pub fn assemble(
@@ -145,7 +128,7 @@ pub fn assemble(
     }
     let strips = strips_of(alloc, fields, columns)?;
     match restore_records(alloc, &schema.fields, &strips, rows) {
-        Ok(nodes) => with_columns(alloc, fields, columns, nodes),
+        Ok(nodes) => with_columns(fields, columns, nodes),
         Err(fault) => Err(fault),
     }
 }

@@ -1,5 +1,6 @@
 //! Why columns give no records.
 
+use dr_nested::NoMemory as MemoryLacked;
 use std::alloc::{AllocError, AllocFailed};
 
 /// Why columns give no records: no records of the schema have them; or want of memory.
@@ -29,6 +30,17 @@ impl<T: Drop> From<AllocFailed<T>> for AssembleFault {
     ghost from_gives = { λ _ e. e ≡ NoMemory };
 
     fn from(_refused: AllocFailed<T>) -> AssembleFault {
+        AssembleFault::NoMemory
+    }
+}
+
+impl From<MemoryLacked> for AssembleFault {
+    ghost use Rattle.std.specs.Prelude.{◌≡◌};
+    ghost use Rattle.dr_assemble.specs.declared.fault.AssembleFault.TheVariants.{NoMemory};
+
+    ghost from_gives = { λ _ e. e ≡ NoMemory };
+
+    fn from(_refused: MemoryLacked) -> AssembleFault {
         AssembleFault::NoMemory
     }
 }

@@ -4,29 +4,30 @@ ghost use Rattle.std.specs.Prelude.{◌≡◌, ◌≤◌, ◌+◌, [], ◌∷◌
 ghost use Rattle.dr_meaning.specs.Schema.{depth, shape_depth, greatest_depth};
 ghost use Rattle.dr_meaning.specs.Record as record_tree;
 ghost use Rattle.dr_nested.specs.Views.{rep_view, kind_view, shape_view, fields_view, value_view, instance_view, slot_view, node_view};
-ghost use Rattle.dr_levels.specs.Views.{triplet_view};
+ghost use Rattle.dr_levels.specs.Views.{lent_value, triplets_view};
 ghost use Rattle.dr_assemble.specs.Restoring as restoring;
 ghost use Rattle.dr_assemble.specs.Views.{strips_view, Restores};
 
 use crate::fault::AssembleFault;
 use crate::strip::{Strip, count_pieces, cut, strips_by_place};
-use dr_levels::Triplet;
-use dr_nested::{Field, Instance, Kind, Node, Rep, Shape, Slot, Value, copy_value, is_of_kind};
+use dr_levels::{Triplets, ValueRef};
+use dr_nested::{Field, Instance, Kind, Node, Rep, Shape, Slot, Value, is_of_kind};
 use std::alloc::Global;
 
-/// The value of a column's first triplet.
-fn first_value(triplets: &[Triplet]) -> Option<&Value>
-    ensures { option_map (λ v. value_view v.now) result ≡ restoring.first_value (map triplet_view triplets.now) }
+/// The value of the first triplet.
+fn first_value<'a>(triplets: Triplets<'a>) -> Option<ValueRef<'a>>
+    ensures { option_map lent_value result ≡ restoring.first_value (triplets_view triplets.entry) }
 {
-    match triplets {
-        [first, ..] => first.value.as_ref(),
-        [] => None,
+    let mut rest = triplets;
+    match rest.next() {
+        Some(first) => first.value,
+        None => None,
     }
 }
 
 /// The first strip's first value.
-fn first_strip_value<'a>(strips: &[Strip<'a>]) -> Option<&'a Value>
-    ensures { option_map (λ v. value_view v.now) result ≡ restoring.first_strip_value (strips_view strips.now) }
+fn first_strip_value<'a>(strips: &[Strip<'a>]) -> Option<ValueRef<'a>>
+    ensures { option_map lent_value result ≡ restoring.first_strip_value (strips_view strips.now) }
 {
     match strips {
         [first, ..] => first_value(first.triplets),
@@ -34,15 +35,23 @@ fn first_strip_value<'a>(strips: &[Strip<'a>]) -> Option<&'a Value>
     }
 }
 
-/// A value of a leaf of this kind.
-fn atom_of(alloc: Global, kind: Kind, value: &Value) -> Result<Instance, AssembleFault>
-    ensures { Restores instance_view (restoring.atom_of (kind_view kind) (value_view value.now)) result }
+/// A leaf's instance, where the value is of its kind.
+fn instance_of_kind(kind: Kind, value: Value) -> Result<Instance, AssembleFault>
+    ensures { Restores instance_view (restoring.atom_of (kind_view kind) (value_view value)) result }
 {
-    if is_of_kind(kind, value) {
-        Ok(Instance::Atom(copy_value(alloc, value)?))
+    if is_of_kind(kind, &value) {
+        Ok(Instance::Atom(value))
     } else {
         Err(AssembleFault::BadData)
     }
+}
+
+/// A value of a leaf of this kind.
+fn atom_of(alloc: Global, kind: Kind, value: ValueRef<'_>) -> Result<Instance, AssembleFault>
+    ensures { Restores instance_view (restoring.atom_of (kind_view kind) (lent_value value.entry)) result }
+{
+    let value = value.to_value(alloc)?;
+    instance_of_kind(kind, value)
 }
 
 /// A leaf's instance.
@@ -56,11 +65,11 @@ fn restore_atom(alloc: Global, kind: Kind, strips: &[Strip]) -> Result<Instance,
 }
 
 /// Whether the first definition level is above that of the group.
-fn is_present(triplets: &[Triplet], definition: u32) -> bool
-    ensures { result ≡ nat_lt definition (restoring.first_definition (map triplet_view triplets.now)) }
+fn is_present(triplets: Triplets<'_>, definition: u32) -> bool
+    ensures { result ≡ nat_lt definition (restoring.first_definition (triplets_view triplets.entry)) }
 {
-    match triplets {
-        [first, ..] => definition < first.definition,
+    match triplets.levels() {
+        [first, ..] => definition < u32::from(first.definition),
         [] => false,
     }
 }
@@ -135,14 +144,14 @@ fn restore_each(
 fn restore_instances(
     alloc: Global,
     field: &Field,
-    lead: &[Triplet],
+    lead: Triplets<'_>,
     strips: &[Strip],
     level: u32,
     definition: u32,
 ) -> Result<Vec<Instance>, AssembleFault>
     requires levels { level + 1 + shape_depth (shape_view (field.now).shape) ≤ greatest_depth }
     requires definitions { definition + 1 + shape_depth (shape_view (field.now).shape) ≤ greatest_depth }
-    ensures { Restores (λ v. map instance_view v.items) (restoring.field_instances (rep_view (field.now).rep) (shape_view (field.now).shape) level definition (map triplet_view lead.now) (strips_view strips.now)) result }
+    ensures { Restores (λ v. map instance_view v.items) (restoring.field_instances (rep_view (field.now).rep) (shape_view (field.now).shape) level definition (triplets_view lead.entry) (strips_view strips.now)) result }
 {
     match field.rep {
         Rep::Required => restore_single(alloc, &field.shape, strips, level, definition),

@@ -1,14 +1,16 @@
 //! Strips: the triplets of a leaf in an instance of a group.
 
-ghost use Rattle.std.specs.Prelude.{◌≡◌, ◌≤◌, ◌<◌, ℕ, [], length, map, take, drop, IfOk, Vec, slice_index_or};
+ghost use Rattle.std.specs.Prelude.{◌≡◌, ◌≤◌, ◌<◌, ℕ, [], ◌∷◌, ◌++◌, length, map, take, drop, IfOk, OnOk, Vec, slice_index_or};
 ghost use Rattle.std.specs.declared.alloc.Global.{Global};
-ghost use Rattle.dr_levels.specs.Views.{triplet_view};
+ghost use Rattle.dr_levels.specs.Views.{triplets_view};
+ghost use Rattle.dr_assemble.specs.Pieces as pieces;
+ghost use Rattle.dr_assemble.specs.Pieces.{repetition_of};
 ghost use Rattle.dr_assemble.specs.Restoring as restoring;
-ghost use Rattle.dr_assemble.specs.Views.{strips_view};
+ghost use Rattle.dr_assemble.specs.Views.{strip_view, strips_view};
 ghost use Rattle.dr_assemble.specs.Places.{at_place};
 ghost use Rattle.dr_assemble.specs.declared.strip.Strip as seen;
 
-use dr_levels::Triplet;
+use dr_levels::{Levels, Triplets};
 use dr_nested::Step;
 use std::alloc::{AllocError, Global};
 
@@ -16,44 +18,43 @@ use std::alloc::{AllocError, Global};
 #[derive(Clone, Copy)]
 pub struct Strip<'a> {
     pub rest: &'a [Step],
-    pub triplets: &'a [Triplet],
+    pub triplets: Triplets<'a>,
 }
 
-/// How many triplets there are up to the next one with a repetition level of at most this.
-fn above_length(triplets: &[Triplet], level: u32) -> usize
-    ensures within { result ≤ length triplets.now }
-    ensures first { map triplet_view (take result triplets.now) ≡ restoring.above level (map triplet_view triplets.now) }
-    ensures later { map triplet_view (drop result triplets.now) ≡ restoring.from_below level (map triplet_view triplets.now) }
+/// How many places there are up to the next one with a repetition level of at most this.
+fn above_length(places: &[Levels], level: u32) -> usize
+    ensures within { result ≤ length places.now }
+    ensures count { result ≡ pieces.above_length level (map repetition_of places.now) }
 {
-    'triplets: for (count, triplet) in triplets.iter().enumerate() {
-        if triplet.repetition <= level {
+    'places: for (count, place) in places.iter().enumerate() {
+        if u32::from(place.repetition) <= level {
             return count;
         }
     }
-    triplets.len()
+    places.len()
 }
 
 /// How many triplets the first piece has: the first triplet, and those behind it with greater repetition levels than
 /// this.
-fn first_length(triplets: &[Triplet], level: u32) -> usize
-    ensures within { result ≤ length triplets.now }
-    ensures first { map triplet_view (take result triplets.now) ≡ restoring.first_piece level (map triplet_view triplets.now) }
-    ensures later { map triplet_view (drop result triplets.now) ≡ restoring.later_pieces level (map triplet_view triplets.now) }
+fn first_length(triplets: Triplets<'_>, level: u32) -> usize
+    ensures within { result ≤ length (triplets_view triplets.entry) }
+    ensures first { take result (triplets_view triplets.entry) ≡ restoring.first_piece level (triplets_view triplets.entry) }
+    ensures later { drop result (triplets_view triplets.entry) ≡ restoring.later_pieces level (triplets_view triplets.entry) }
 {
-    match triplets {
+    match triplets.levels() {
         [] => 0,
         [_, rest @ ..] => 1 + above_length(rest, level),
     }
 }
 
-/// How many triplets have a repetition level of at most this.
-fn count_below(triplets: &[Triplet], level: u32) -> usize
-    ensures within { result ≤ length triplets.now }
-    ensures count { result ≡ restoring.count_below level (map triplet_view triplets.now) }
+/// How many places have a repetition level of at most this.
+fn count_below(places: &[Levels], level: u32) -> usize
+    ensures within { result ≤ length places.now }
+    ensures count { result ≡ pieces.below_count level (map repetition_of places.now) }
 {
     let mut count = 0;
-    'triplets: for triplet in triplets {
-        if triplet.repetition <= level {
+    'places: for place in places {
+        if u32::from(place.repetition) <= level {
             count += 1;
         }
     }
@@ -61,10 +62,10 @@ fn count_below(triplets: &[Triplet], level: u32) -> usize
 }
 
 /// How many pieces there are, each begun by the first triplet or by a repetition level of at most this.
-pub fn count_pieces(triplets: &[Triplet], level: u32) -> usize
-    ensures { result ≡ restoring.count_pieces level (map triplet_view triplets.now) }
+pub fn count_pieces(triplets: Triplets<'_>, level: u32) -> usize
+    ensures { result ≡ restoring.count_pieces level (triplets_view triplets.entry) }
 {
-    match triplets {
+    match triplets.levels() {
         [] => 0,
         [_, rest @ ..] => 1 + count_below(rest, level),
     }
@@ -107,6 +108,23 @@ fn places<'a>(alloc: Global, width: usize) -> Result<Vec<Vec<Strip<'a>>>, AllocE
     Ok(places)
 }
 
+/// Puts a strip to the place at which it begins, without that step, where there is such a place.
+fn put_strip<'a>(found: &mut Vec<Vec<Strip<'a>>>, strip: &Strip<'a>) -> Result<(), AllocError>
+    ensures width { length found.new.items ≡ length found.old.items }
+    ensures there { OnOk result ((k : ℕ) (d : Vec seen.Strip Global) → k < length found.old.items → strips_view (slice_index_or found.new.items k d).items ≡ strips_view (slice_index_or found.old.items k d).items ++ at_place k (strip_view strip.now ∷ [])) }
+{
+    let [first, rest @ ..] = strip.rest else {
+        return Ok(());
+    };
+    if first.place < found.len() {
+        found[first.place].push(Strip {
+            rest,
+            triplets: strip.triplets,
+        })?;
+    }
+    Ok(())
+}
+
 /// The strips of the leaves in each of a group's fields.
 pub fn strips_by_place<'a>(
     alloc: Global,
@@ -118,14 +136,7 @@ pub fn strips_by_place<'a>(
 {
     let mut found = places(alloc, width)?;
     'strips: for strip in strips {
-        if let [first, rest @ ..] = strip.rest
-            && first.place < width
-        {
-            found[first.place].push(Strip {
-                rest,
-                triplets: strip.triplets,
-            })?;
-        }
+        put_strip(&mut found, strip)?;
     }
     Ok(found)
 }

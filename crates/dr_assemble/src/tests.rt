@@ -8,8 +8,10 @@ ghost use Rattle.dr_nested.specs.PathView.{path_view};
 ghost use Rattle.dr_assemble.specs.Views.{paths_view};
 
 use crate::{AssembleFault, assemble};
-use dr_levels::{Column, Triplet};
-use dr_nested::{Instance, Node, Path, Schema, Slot, Value, find, parse_schema};
+use dr_levels::{Column, Levels, Triplet, ValueRef};
+use dr_nested::{
+    Instance, Kind, Node, Path, Schema, Slot, Value, find, is_of_kind, parse_schema,
+};
 use std::alloc::{AllocError, Global};
 use std::test::Fail;
 
@@ -35,25 +37,73 @@ fn value_of(alloc: Global, text: &str) -> Result<Value, AllocError> {
     }
 }
 
-fn triplet_of(alloc: Global, text: &str) -> Result<Triplet, Fail> {
+/// Appends a triplet, where it is one of the column's leaf.
+fn push_triplet(
+    column: &mut Column,
+    repetition: u8,
+    definition: u8,
+    value: Option<&Value>,
+) -> Result<(), Fail> {
+    match value {
+        Some(value) => {
+            if definition != column.greatest_definition() || !is_of_kind(column.kind(), value) {
+                return Err("no triplet of the column".into());
+            }
+            column.push(Triplet {
+                repetition,
+                definition,
+                value: Some(ValueRef::of(value)),
+            })?;
+        }
+        None => {
+            if definition == column.greatest_definition() {
+                return Err("no triplet of the column".into());
+            }
+            column.push_nulls(
+                Levels {
+                    repetition,
+                    definition,
+                },
+                1,
+            )?;
+        }
+    }
+    Ok(())
+}
+
+fn triplet_of(alloc: Global, text: &str) -> Result<(u8, u8, Option<Value>), Fail> {
     let (levels, value) = match text.split_once('=') {
         Some((levels, value)) => (levels, Some(value_of(alloc, value)?)),
         None => (text, None),
     };
     let (repetition, definition) = levels.split_once(',').ok_or("no levels")?;
-    Ok(Triplet {
-        repetition: repetition.parse::<u32>().map_err(|_| "no level")?,
-        definition: definition.parse::<u32>().map_err(|_| "no level")?,
+    Ok((
+        repetition.parse::<u8>().map_err(|_| "no level")?,
+        definition.parse::<u8>().map_err(|_| "no level")?,
         value,
-    })
+    ))
+}
+
+/// An empty column of the kind and the definition level of the first value; where there is none, of a level above all.
+fn empty_column(alloc: Global, text: &str) -> Result<Column, Fail> {
+    let mut greatest = 0;
+    for word in text.split_ascii_whitespace() {
+        let (_, definition, value) = triplet_of(alloc, word)?;
+        match value {
+            Some(Value::Bool(_)) => return Ok(Column::new(alloc, Kind::Bool, definition)),
+            Some(Value::Int(_)) => return Ok(Column::new(alloc, Kind::I64, definition)),
+            Some(Value::Text(_)) => return Ok(Column::new(alloc, Kind::Text, definition)),
+            None => greatest = definition.saturating_add(1).max(greatest),
+        }
+    }
+    Ok(Column::new(alloc, Kind::I64, greatest))
 }
 
 fn column_of(alloc: Global, text: &str) -> Result<Column, Fail> {
-    let mut column = Column::new(alloc);
+    let mut column = empty_column(alloc, text)?;
     for word in text.split_ascii_whitespace() {
-        column
-            .push(triplet_of(alloc, word)?)
-            .map_err(|_| "no memory")?;
+        let (repetition, definition, value) = triplet_of(alloc, word)?;
+        push_triplet(&mut column, repetition, definition, value.as_ref())?;
     }
     Ok(column)
 }

@@ -18,7 +18,7 @@ use Rattle.dr_levels.specs.declared.text_place.TextPlace.{TextPlace}
 use Rattle.dr_levels.specs.declared.values.Values.{Values}
 use Rattle.dr_levels.specs.Texts.{bytes_at}
 use Rattle.dr_levels.specs.Dense.{present, value_list, first_of, joined, values_view}
-use Rattle.dr_levels.specs.Views.{LeafForm, form}
+use Rattle.dr_levels.specs.Views.{LeafForm, form, levels_pair, triplet_levels}
 use Rattle.dr_levels.specs.Columns.{Adds, has_value, takes}
 
 -- one place more, whichever it is
@@ -46,6 +46,14 @@ length_by false l g ls vs ih = ap suc (ih vs)
 pub joined_length : (g : ℕ) (ls : List Levels) (vs : List Value) → length (joined g ls vs) ≡ length ls
 joined_length g [] vs = refl
 joined_length g (l ∷ ls) vs = length_by (l.definition == g) l g ls vs (joined_length g ls)
+
+levels_by : (b : Bool) (l : Levels) (g : ℕ) (ls : List Levels) (vs : List Value) → ((us : List Value) → map levels_pair ls ≡ map triplet_levels (joined g ls us)) → levels_pair l ∷ map levels_pair ls ≡ map triplet_levels (placed b l g ls vs)
+levels_by true l g ls vs ih = ap (λ ns. levels_pair l ∷ ns) (ih (drop 1 vs))
+levels_by false l g ls vs ih = ap (λ ns. levels_pair l ∷ ns) (ih vs)
+
+pub joined_levels : (g : ℕ) (ls : List Levels) (vs : List Value) → map levels_pair ls ≡ map triplet_levels (joined g ls vs)
+joined_levels g [] vs = refl
+joined_levels g (l ∷ ls) vs = levels_by (l.definition == g) l g ls vs (joined_levels g ls)
 
 more_by : (b : Bool) (l : Levels) (g : ℕ) (ls : List Levels) (vs ws : List Value) → ((us : List Value) → present g ls ≤ length us → joined g ls (us ++ ws) ≡ joined g ls us) → counted b (present g ls) ≤ length vs
     → placed b l g ls (vs ++ ws) ≡ placed b l g ls vs

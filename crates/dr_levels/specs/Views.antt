@@ -21,6 +21,9 @@ lent_value (ValueRef.Text t) = record_tree.text_value t.now
 abbrev pub levels_pair : Levels → ℕ × ℕ
 levels_pair l = (l.repetition, l.definition)
 
+abbrev pub triplet_levels : meant.Triplet → ℕ × ℕ
+triplet_levels t = (t.repetition, t.definition)
+
 abbrev pub triplet_view : Triplet → meant.Triplet
 triplet_view t = record { repetition = t.repetition; definition = t.definition; value = option_map lent_value t.value }
 

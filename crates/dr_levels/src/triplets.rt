@@ -18,9 +18,9 @@ pub struct Triplets<'a> {
 }
 
 impl<'a> Triplets<'a> {
-    ghost use Rattle.std.specs.Prelude.{take, drop, option_map};
-    ghost use Rattle.dr_levels.specs.Views.{levels_pair, triplet_view, triplets_view};
-    ghost use Rattle.dr_levels.specs.Columns.{Gives, next_levels};
+    ghost use Rattle.std.specs.Prelude.{map, take, drop};
+    ghost use Rattle.dr_levels.specs.Views.{levels_pair, triplet_levels, triplet_view, triplets_view};
+    ghost use Rattle.dr_levels.specs.Columns.{Gives};
 
     /// How many triplets are left.
     #[tactic(auto, using(crate::proofs::DenseLemmas::joined_length))]
@@ -30,11 +30,12 @@ impl<'a> Triplets<'a> {
         self.levels.len()
     }
 
-    /// The levels of the next triplet; none at the end.
-    pub fn levels(self) -> Option<Levels>
-        ensures { option_map levels_pair result ≡ next_levels (triplets_view self.entry) }
+    /// The levels of the triplets that are left.
+    #[tactic(auto, using(crate::proofs::DenseLemmas::joined_levels))]
+    pub fn levels(self) -> &'a [Levels]
+        ensures { map levels_pair result.now ≡ map triplet_levels (triplets_view self.entry) }
     {
-        self.levels.first().copied()
+        self.levels
     }
 
     /// The next triplet, which is passed; none at the end.

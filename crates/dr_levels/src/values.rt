@@ -1,14 +1,14 @@
 //! The values of a column, in one vector of their kind.
 
 ghost use Rattle.std.specs.Prelude.{◌≡◌, ◌<◌, ◌+◌, ◌++◌, ◌∷◌, [], length, take, drop, map, true, option_map, IfSome};
-ghost use Rattle.dr_meaning.specs.Record.{is_of_kind, bool_value, int_value};
+ghost use Rattle.dr_meaning.specs.Record.{bool_value, int_value};
 ghost use Rattle.dr_meaning.specs.Schema as tree;
 ghost use Rattle.dr_nested.specs.Views.{kind_view};
 ghost use Rattle.std.specs.List.{list_all};
 ghost use Rattle.dr_levels.specs.Texts.{is_text};
 ghost use Rattle.dr_levels.specs.Dense.{values_view, value_list, text_values, holds_kind};
 ghost use Rattle.dr_levels.specs.Views.{lent_value};
-ghost use Rattle.dr_levels.specs.Columns.{Adds};
+ghost use Rattle.dr_levels.specs.Columns.{Adds, is_held};
 
 use crate::text_place::TextPlace;
 use crate::texts::Texts;
@@ -68,7 +68,7 @@ impl Values {
     /// Errors: want of memory, or of room for texts; nothing has changed then.
     pub fn push(&mut self, kind: Kind, value: Option<ValueRef<'_>>) -> Result<(), NoMemory>
         requires kinds { holds_kind (kind_view kind) self.old ≡ true }
-        requires fits { IfSome value (λ v. is_of_kind (kind_view kind) (lent_value v) ≡ true) }
+        requires fits { IfSome value (λ v. is_held (kind_view kind) (lent_value v) ≡ true) }
         ensures values { Adds (values_view self.old) (values_view self.new) (value_list (option_map lent_value value.entry)) result }
         ensures kinds { (k : tree.Kind) → holds_kind k self.old ≡ true → holds_kind k self.new ≡ true }
     {

@@ -2,7 +2,8 @@
 use Rattle.std.specs.Prelude.{◌≡◌, List, [], ◌∷◌, Bool, true, false, ◌&&◌, Ok, ℕ}
 use Rattle.dr_meaning.specs.Schema.{Kind, bool_kind, int32_kind, int64_kind, text_kind, Fields, no_fields, field, Shape, leaf, group}
 use Rattle.dr_meaning.specs.Path.{Step, Leaf, same_repetition, through, is_empty_path, find_leaf}
-use Rattle.dr_meaning.specs.Record.{Node, is_record}
+use Rattle.dr_meaning.specs.Record.{Node, Instance, atom, inner, is_record, is_end, is_slot_that, is_inner_that}
+use Rattle.dr_levels.specs.Columns.{is_held}
 use Rattle.dr_striper.specs.Stripers.{fits_leaf}
 
 abbrev pub same_kind : Kind → Kind → Bool
@@ -27,9 +28,27 @@ abbrev mutual
 abbrev pub is_leaf : Fields → Leaf → Bool
 is_leaf fs l = is_leaf_of fs l.kind l.path
 
+-- whether a node has the form of a record: as many instances as each field may have, and values of the leaves' kinds
+abbrev pub is_held_atom : Kind → Instance → Bool
+is_held_atom k (atom v) = is_held k v
+is_held_atom k (inner n) = false
+
+abbrev mutual
+  pub has_fields : Fields → Node → Bool
+  has_fields no_fields = is_end
+  has_fields (field n r s fs) = is_slot_that r (has_shape s) (has_fields fs)
+
+  pub has_shape : Shape → Instance → Bool
+  has_shape (leaf k) = is_held_atom k
+  has_shape (group fs) = is_inner_that (has_fields fs)
+
 -- a leaf of a schema takes what a record of the schema gives it
 abbrev pub RecordsFitLeaves : Type 0
 RecordsFitLeaves = (fs : Fields) (l : Leaf) (n : Node) → is_leaf fs l ≡ true → is_record fs n ≡ true → fits_leaf n l ≡ true
+
+-- it takes what any node of the form of a record gives it
+abbrev pub FormsFitLeaves : Type 0
+FormsFitLeaves = (fs : Fields) (l : Leaf) (n : Node) → is_leaf fs l ≡ true → has_fields fs n ≡ true → fits_leaf n l ≡ true
 
 -- the leaf that a text names is a leaf of the schema, of its kind
 abbrev pub FoundLeavesHaveKinds : Type 0

@@ -1,11 +1,17 @@
 //! Laws of leaves and what records give them.
 
-ghost use Rattle.dr_striper.specs.Leaves.{RecordsFitLeaves, FoundLeavesHaveKinds};
+ghost use Rattle.dr_striper.specs.Leaves.{RecordsFitLeaves, FormsFitLeaves, FoundLeavesHaveKinds};
 
 /// Each leaf of a schema takes what a record of the schema gives it: a value of its kind exactly where nothing on its path
 /// is absent.
 pub fn records_fit_leaves()
     ensures { RecordsFitLeaves }
+{
+}
+
+/// So does any node of the form of a record: its whole numbers may be out of their kind's range.
+pub fn forms_fit_leaves()
+    ensures { FormsFitLeaves }
 {
 }
 

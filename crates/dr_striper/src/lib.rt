@@ -8,5 +8,5 @@ mod striper;
 #[cfg(test)]
 mod tests;
 
-pub use leaf_laws::{found_leaves_have_kinds, records_fit_leaves};
+pub use leaf_laws::{forms_fit_leaves, found_leaves_have_kinds, records_fit_leaves};
 pub use making::Striper;

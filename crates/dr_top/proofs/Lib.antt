@@ -7,3 +7,5 @@ pub mod OutcomeLemmas
 -- the steps of single commands
 pub mod FsmLemmas
 pub mod StripeLemmas
+-- the record of a line has the form of its schema's records
+pub mod FormLemmas

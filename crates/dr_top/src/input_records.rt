@@ -1,9 +1,10 @@
 //! The records of the input, one at a time.
 
-ghost use Rattle.std.specs.Prelude.{◌≡◌, ◌≤◌, ◌<◌, ◌+◌, ◌^◌, None, IfOk, IfErr, IfSome, IfNone, OnOk};
+ghost use Rattle.std.specs.Prelude.{◌≡◌, ◌≤◌, ◌<◌, ◌+◌, ◌^◌, None, true, IfOk, IfErr, IfSome, IfNone, OnOk};
 ghost use Rattle.dr_meaning.specs.Record.{instance_count};
 ghost use Rattle.dr_meaning.specs.JsonRecord.{most_instances, record_of_line};
 ghost use Rattle.dr_nested.specs.Views.{fields_view, node_view};
+ghost use Rattle.dr_striper.specs.Leaves.{has_fields};
 ghost use Rattle.dr_lines.specs.Cutting.{rest_of, fault_of, IsEnd};
 ghost use Rattle.dr_top.specs.declared.input_records.InputFault.TheVariants as stops;
 ghost use Rattle.dr_top.specs.Records.{TakesRecord};
@@ -78,6 +79,7 @@ pub fn next_record<S: Source>(
     ensures record { IfOk result (λ o. IfSome o (λ n. TakesRecord (fields_view (schema.now).fields.items) most number (rest_of lines.old (S.shows source.old).left) (node_view n) (rest_of lines.new (S.shows source.new).left))) }
     ensures within { IfOk result (λ o. IfSome o (λ n. number + 1 ≤ most)) }
     ensures small { IfOk result (λ o. IfSome o (λ n. instance_count (node_view n) ≤ most_instances)) }
+    ensures form { IfOk result (λ o. IfSome o (λ n. has_fields (fields_view (schema.now).fields.items) (node_view n) ≡ true)) }
     ensures end { IfOk result (λ o. IfNone o (IsEnd (rest_of lines.old (S.shows source.old).left) (rest_of lines.new (S.shows source.new).left))) }
     ensures goes_on { OnOk result (fault_of lines.new ≡ None) }
     ensures calm { OnOk result ((S.shows source.new).faults ≡ (S.shows source.old).faults) }

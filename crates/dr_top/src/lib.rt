@@ -12,3 +12,7 @@ mod stop;
 
 pub use running::run;
 
+#[cfg(test)]
+mod round_trip_tests;
+#[cfg(test)]
+mod run_tests;

@@ -5,7 +5,8 @@ ghost use Rattle.dr_meaning.specs.Stripe.{most_striped};
 ghost use Rattle.dr_nested.specs.Views.{fields_view};
 ghost use Rattle.dr_nested.specs.PathView.{path_view};
 ghost use Rattle.dr_levels.specs.Views.{column_view};
-ghost use Rattle.dr_striper.specs.Stripers.{striped, striped_paths};
+ghost use Rattle.dr_striper.specs.Stripers.{striped, striped_leaves};
+ghost use Rattle.dr_striper.specs.Leaves.{is_leaf};
 ghost use Rattle.dr_commands.specs.Meaning.{done};
 ghost use Rattle.dr_commands.specs.Stripe.{stripe_meaning, stripe_view};
 ghost use Rattle.dr_top.specs.World.{HasOutcome, WhereTold};
@@ -31,7 +32,7 @@ const MOST_STRIPED: u64 = 4_096_000_000;
 
 /// The only column of a striper of one leaf.
 fn only_column(striper: Striper<'_>) -> Column
-    requires { length (striped_paths striper) ≡ 1 }
+    requires { length (striped_leaves striper) ≡ 1 }
     ensures { striped striper.entry ≡ column_view result ∷ [] }
 {
     match striper.finish().pop() {
@@ -49,6 +50,7 @@ fn stripe_records<S: Source>(
     field: &Path,
     source: &mut S,
 ) -> Result<Column, InputFault>
+    requires { is_leaf (fields_view (schema.now).fields.items) (path_view field.now) ≡ true }
     ensures columns { IfOk result (λ c. HasColumns (fields_view (schema.now).fields.items) ((path_view field.now).path ∷ []) (S.shows source.old).left (column_view c ∷ [])) }
     ensures end { OnOk result (WhereTold (S.shows source.old).left (λ _. (S.shows source.new).left ≡ Some [])) }
     ensures calm { OnOk result ((S.shows source.new).faults ≡ (S.shows source.old).faults) }

@@ -6,7 +6,7 @@ use Rattle.dr_nested.specs.declared.shape.Field.{Field}
 use Rattle.dr_nested.specs.declared.record.Instance.{Instance}
 use Rattle.dr_nested.specs.Views.{rep_view, shape_view, fields_view, instance_view, slot_view, node_view}
 use Rattle.dr_nested.proofs.ViewLemmas.{view-node}
-use Rattle.dr_levels.specs.Views.{triplet_view}
+use Rattle.dr_levels.specs.Views.{triplets_view}
 use Rattle.dr_assemble.specs.Restoring as restoring
 use Rattle.dr_assemble.specs.Restoring.{first_pieces, other_pieces}
 use Rattle.dr_assemble.specs.Places.{at_place}
@@ -47,7 +47,7 @@ restore_instances-returns-in-Repeated t c =
     let f = c.args.field.now in
     let is : f.rep ≡ Rep.Repeated = search rules in
     restores_same (λ (v : Vec Instance Global). map instance_view v.items) _ _ c.restore_each.result
-    (repeated_instances f.rep (shape_view f.shape) c.args.level c.args.definition c.count_pieces-count.result (map triplet_view c.args.lead.now) (strips_view c.args.strips.now) is c.if-not-is_present.ensures c.count_pieces-count.ensures)
+    (repeated_instances f.rep (shape_view f.shape) c.args.level c.args.definition c.count_pieces-count.result (triplets_view c.args.lead) (strips_view c.args.strips.now) is c.if-not-is_present.ensures c.count_pieces-count.ensures)
     c.restore_each.ensures
 
 pub restore_node-restore_slot-requires : goal.restore_node-restore_slot-requires

@@ -1,11 +1,7 @@
-use Rattle.std.proofs.Common.{◌≡◌, ◌++◌, map, take, drop}
-use Rattle.dr_levels.specs.Views.{triplet_view}
-use Rattle.dr_assemble.specs.Restoring as restoring
+use Rattle.std.proofs.Common.{◌≡◌, ◌+◌, map, drop}
+use Rattle.dr_assemble.specs.Pieces.{repetition_of, above_length}
 use Rattle.dr_assemble.proofs.strip.above_length.Given as goal
 
--- the triplets before this one are above, and those from it on decide
-abbrev pub invariant-triplets : goal.invariant-triplets
-invariant-triplets l = record {
-  first : restoring.above l.level (map triplet_view l.triplets) ≡ map triplet_view (take l.count l.triplets) ++ restoring.above l.level (map triplet_view (drop l.count l.triplets));
-  later : restoring.from_below l.level (map triplet_view l.triplets) ≡ restoring.from_below l.level (map triplet_view (drop l.count l.triplets));
-}
+-- the places before this one are above
+abbrev pub invariant-places : goal.invariant-places
+invariant-places l = above_length l.level (map repetition_of l.places) ≡ l.count + above_length l.level (map repetition_of (drop l.count l.places))

@@ -1,5 +1,4 @@
-use Rattle.std.proofs.Common.{ap, ◌∙◌, Some}
-use Rattle.std.proofs.lemmas.Str.{is_utf8-from_IsUtf8}
+use Rattle.std.proofs.Common.{ap, Some}
 use Rattle.dr_meaning.specs.Record.{text_value}
 use Rattle.dr_meaning.specs.Column.{triplet}
 use Rattle.dr_levels.specs.Views.{LeafForm}
@@ -7,4 +6,4 @@ use Rattle.dr_levels.specs.Columns.{takes}
 use Rattle.dr_levels.proofs.column_tests.push_text.Goals as goal
 
 pub push-requires : goal.push-requires
-push-requires c = ap (λ (f : LeafForm). takes f (triplet 0 1 (Some (text_value c.args.text.now)))) c.requires ∙ is_utf8-from_IsUtf8 c.args.text.now c.utf8.text
+push-requires c = ap (λ (f : LeafForm). takes f (triplet 0 1 (Some (text_value c.args.text.now)))) c.requires

@@ -3,7 +3,7 @@ use Rattle.std.specs.List.{list_any}
 use Rattle.dr_meaning.specs.Walk.{same_path}
 use Rattle.dr_nested.specs.PathView.{path_view}
 use Rattle.dr_nested.specs.declared.path.Path.{Path}
-use Rattle.dr_top.proofs.FsmLemmas.{named_again, named_first, pushed}
+use Rattle.dr_top.proofs.FsmLemmas.{named_again, named_first}
 use Rattle.dr_top.proofs.commands.fsm.add_leaf.Goals as goal
 
 pub returns-then-is_among : goal.returns-then-is_among
@@ -13,4 +13,4 @@ returns-then-is_among c =
 pub returns : goal.returns
 returns c =
     named_first c.args.leaves.now.items c.push.new.self.items c.args.leaf (c.if-is_among.ensures ∙ ap (list_any (λ (m : Path). same_path (path_view c.args.leaf).path (path_view m).path)) c.deref.ensures.value)
-    (pushed c.push.result _ _ _ c.if-is_err.ensures.value c.push.ensures.items)
+    c.in_ok-push.ensures.items

@@ -3,7 +3,6 @@ use Rattle.dr_meaning.specs.Stripe.{most_striped}
 use Rattle.dr_nested.specs.Views.{fields_view}
 use Rattle.dr_nested.specs.PathView.{path_view}
 use Rattle.dr_lines.specs.Cutting.{rest_of, fault_of}
-use Rattle.dr_striper.specs.Striping.{leaves_of}
 use Rattle.dr_striper.specs.Stripers.{striped, striped_leaves}
 use Rattle.dr_top.specs.Records.{HasRead, AreColumns}
 use Rattle.dr_top.proofs.commands.stripe.stripe_records.Given as goal

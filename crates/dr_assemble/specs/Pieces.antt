@@ -1,0 +1,16 @@
+-- The pieces of a column, by its repetition levels.
+use Rattle.std.specs.Prelude.{ℕ, suc, List, [], ◌∷◌, nat_lt, if◌then◌else◌}
+use Rattle.dr_levels.specs.declared.triplet.Levels.{Levels}
+
+abbrev pub repetition_of : Levels → ℕ
+repetition_of l = l.repetition
+
+-- how many come before the next of at most l
+abbrev pub above_length : ℕ → List ℕ → ℕ
+above_length l [] = 0
+above_length l (r ∷ rs) = if nat_lt l r then suc (above_length l rs) else 0
+
+-- how many are at most l
+abbrev pub below_count : ℕ → List ℕ → ℕ
+below_count l [] = 0
+below_count l (r ∷ rs) = if nat_lt l r then below_count l rs else suc (below_count l rs)
