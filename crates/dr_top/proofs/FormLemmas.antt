@@ -101,7 +101,7 @@ mutual
       let k = after_ok (λ xs. then_give (slot xs) (slots_of fs ms)) (field_instances r (instance_of s) (given (get_member m ms))) n e in
       let l = give_ok (slot k.0) (slots_of fs ms) n k.2 in
       let w = field_fits r (has_shape s) (instance_of s) (λ d x h. shape_form s d x h) (given (get_member m ms)) k.0 k.1 in
-      ap (has_fields (field m r s fs)) (sym l.2) ∙ ap₂ (λ a b. a && b) w.0 (ap₂ (λ a b. a && b) w.1 (slots_form fs ms l.0 l.1))
+      ap (has_fields (field m r s fs)) (sym l.2) ∙ ap₂ (λ a b. a && b) (ap₂ (λ a b. a && b) w.0 w.1) (slots_form fs ms l.0 l.1)
 
   shape_form : (s : Shape) (d : Data) (x : Instance) → instance_of s d ≡ Ok x → has_shape s x ≡ true
   shape_form (leaf k) d x e = let g = give_ok atom (leaf_value k d) x e in ap (has_shape (leaf k)) (sym g.2) ∙ leaf_held k d g.0 g.1
