@@ -83,7 +83,7 @@ field_passes p s l d b il id (y ∷ xs) x before mid after r e f h g k n =
     ap₂ (λ u v. instance_column p u v b (instance_view y) ++ each_later (instance_column p u v) u (instances_view xs)) e f in
     subst (λ ts. Passes ts before after r) whole
     (then_passes (instance_column p il id b (instance_view y)) (each_later (instance_column p il id) il (instances_view xs)) before mid after r (k ∙ ap (λ z. instance_column p il id b (instance_view z) ++ mid) g)
-      (subst (λ zs. Passes (each_later (instance_column p il id) il (instances_view zs)) mid after r) (behind_first y xs) n))
+    (subst (λ zs. Passes (each_later (instance_column p il id) il (instances_view zs)) mid after r) (behind_first y xs) n))
 
 behind_step : (y : code_path.Step) (ss : List code_path.Step) → take (length (y ∷ ss) - 1) ss ≡ ss
 behind_step y ss = let e : length (y ∷ ss) - 1 ≡ length ss = omega arith in take_all (length (y ∷ ss) - 1) ss (omega (arith, e))
@@ -128,7 +128,7 @@ pub column_never : (p : List Step) (ns : List nodes.Node) (i : ℕ) (n : nodes.N
 column_never p ns i n before mid after h g e m k =
     m (column p (nodes_view (drop (i + 1) ns)))
     (same_behind (column p (nodes_view (take i ns))) mid (record_column p (node_view n) ++ column p (nodes_view (drop (i + 1) ns)))
-      (sym e ∙ sym k ∙ column_parts p ns i ∙ ap (λ ts. column p (nodes_view (take i ns)) ++ ts) (ap (λ ms. column p (nodes_view ms)) (drop_more ns i n h ∙ ap (λ z. z ∷ drop (i + 1) ns) (sym g)))))
+    (sym e ∙ sym k ∙ column_parts p ns i ∙ ap (λ ts. column p (nodes_view (take i ns)) ++ ts) (ap (λ ms. column p (nodes_view ms)) (drop_more ns i n h ∙ ap (λ z. z ∷ drop (i + 1) ns) (sym g)))))
 
 -- their elements are seen as equal
 pub same_at : {A B C : Type 0} (f : A → C) (g : B → C) (xs : List A) (ys : List B) (i : ℕ) (a : A) (b : B) → i < length xs → i < length ys → a ≡ get_or xs i a → b ≡ get_or ys i b → map f xs ≡ map g ys → f a ≡ g b

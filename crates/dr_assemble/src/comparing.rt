@@ -43,12 +43,7 @@ impl Place {
 }
 
 /// Passes a triplet, where it is the next.
-fn pass_triplet(
-    rest: &mut Triplets<'_>,
-    begin: u8,
-    definition: u8,
-    value: Option<&Value>,
-) -> bool
+fn pass_triplet(rest: &mut Triplets<'_>, begin: u8, definition: u8, value: Option<&Value>) -> bool
     ensures { Passes (meant.triplet begin definition (option_map lent_value value.entry) ∷ []) (triplets_view rest.old) (triplets_view rest.new) result }
 {
     let value = match value {
@@ -127,20 +122,14 @@ fn pass_field(
     match instances {
         [] => pass_triplet(rest, begin, place.definition, None),
         [first, later @ ..] => {
-            pass_instance(rest, below, inner, begin, first)
-                && pass_later(rest, below, inner, later)
+            pass_instance(rest, below, inner, begin, first) && pass_later(rest, below, inner, later)
         }
     }
 }
 
 /// Passes what the later instances of a field give the rest of a path.
 #[cycle(passing)]
-fn pass_later(
-    rest: &mut Triplets<'_>,
-    steps: &[Step],
-    place: Place,
-    later: &[Instance],
-) -> bool
+fn pass_later(rest: &mut Triplets<'_>, steps: &[Step], place: Place, later: &[Instance]) -> bool
     requires level { place.level + length steps.now ≤ greatest_depth }
     requires definition { place.definition + length steps.now ≤ greatest_depth }
     ensures { Passes (meant.each_later (meant.instance_column (map step_view steps.now) place.level place.definition) place.level (instances_view later.now)) (triplets_view rest.old) (triplets_view rest.new) result }

@@ -9,9 +9,7 @@ ghost use Rattle.dr_assemble.specs.Views.{paths_view};
 
 use crate::{AssembleFault, assemble};
 use dr_levels::{Column, Levels, Triplet, ValueRef};
-use dr_nested::{
-    Instance, Kind, Node, Path, Schema, Slot, Value, find, is_of_kind, parse_schema,
-};
+use dr_nested::{Instance, Kind, Node, Path, Schema, Slot, Value, find, is_of_kind, parse_schema};
 use std::alloc::{AllocError, Global};
 use std::test::Fail;
 

@@ -176,7 +176,8 @@ impl Column {
         ensures form { column_form self.new ≡ column_form self.old }
     {
         self.levels.truncate(length);
-        self.values.truncate(count_present(self.greatest, &self.levels));
+        self.values
+            .truncate(count_present(self.greatest, &self.levels));
     }
 
     /// Drops all triplets, and keeps the room.

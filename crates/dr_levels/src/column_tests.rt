@@ -24,11 +24,14 @@ fn shown(alloc: Global, column: &Column) -> Result<String, AllocError> {
     let mut text = String::new(alloc);
     let mut rest = column.triplets();
     for _ in 0..column.len() {
-        if let Some(Triplet {
-            repetition,
-            definition,
-            value,
-        }) = rest.next() {
+        if let Some(
+            Triplet {
+                repetition,
+                definition,
+                value,
+            },
+        ) = rest.next()
+        {
             text.push_str("(")?;
             match value {
                 Some(value) => push_value(alloc, &mut text, value)?,
@@ -165,9 +168,15 @@ fn triplets_are_split(rt: HostRuntime) -> Result<(), Fail> {
     assert_eq!(rt; column.triplets().len(), 4);
     let (mut front, mut back) = column.triplets().split_at(3);
     assert_eq!(rt; front.len(), 3);
-    assert_eq!(rt; front.next().and_then(|t| t.value), Some(ValueRef::Text("xy")));
+    assert_eq!(rt;
+        front.next().and_then(|t| t.value),
+        Some(ValueRef::Text("xy"))
+    );
     assert_eq!(rt; back.levels(), &PLACES[2..]);
-    assert_eq!(rt; back.next().and_then(|t| t.value), Some(ValueRef::Text("cd")));
+    assert_eq!(rt;
+        back.next().and_then(|t| t.value),
+        Some(ValueRef::Text("cd"))
+    );
     assert_eq!(rt; back.levels().len(), 0);
     Ok(())
 }

@@ -3,29 +3,29 @@
 
 mod chains;
 mod column;
+#[cfg(test)]
+mod column_tests;
 mod joining;
 mod kept;
 mod levels;
+#[cfg(test)]
+mod levels_tests;
 mod moves;
 mod order;
+#[cfg(test)]
+mod order_tests;
 mod text_place;
 mod texts;
 mod triplet;
 mod triplets;
 mod values;
-#[cfg(test)]
-mod column_tests;
-#[cfg(test)]
-mod levels_tests;
-#[cfg(test)]
-mod order_tests;
 
 pub use chains::chain;
 pub use column::Column;
 pub use kept::{Branch, Kept};
 pub use levels::{common, max_d, max_r};
 pub use moves::Move;
+pub use order::{reading_order, schema_order};
 pub use text_place::TextPlace;
 pub use triplet::{Levels, Triplet, ValueRef};
 pub use triplets::Triplets;
-pub use order::{reading_order, schema_order};

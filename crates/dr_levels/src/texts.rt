@@ -54,10 +54,8 @@ impl Texts {
     pub fn push(&mut self, text: &str) -> Result<(), NoMemory>
         ensures { Adds (texts_view self.old) (texts_view self.new) (text_value text.now ∷ []) result }
     {
-        let (Ok(start), Ok(length)) = (
-            u32::try_from(self.bytes.len()),
-            u32::try_from(text.len()),
-        ) else {
+        let (Ok(start), Ok(length)) = (u32::try_from(self.bytes.len()), u32::try_from(text.len()))
+        else {
             return Err(NoMemory);
         };
         self.places.reserve(1)?;

@@ -78,12 +78,12 @@ mutual
       let b : (same_repetition o r ≡ true) × (is_shape_leaf s k p ≡ true) = and_parts _ _ e in
       let m : d + definition_count o + max_definition p ≡ g = omega arith in
       spread_fit (takes (form k g)) (instance_column p (l + repetition_count o) (d + definition_count o)) (has_shape s) (l + repetition_count o) d q
-        (λ (u : ℕ) (x : Instance) (y : has_shape s x ≡ true). subst (λ (c : ℕ). list_all (takes (form k c)) (instance_column p (l + repetition_count o) (d + definition_count o) u x) ≡ true) m (shape_fit s k p x (l + repetition_count o) (d + definition_count o) u b.1 y))
-        xs
-        (λ (z : count_instances xs ≡ 0).
-        let one : definition_count o ≡ 1 = may_be_absent o (subst (λ (c : ℕ). fits_repetition o c ≡ true) z (subst (λ (c : Repetition). fits_repetition c (count_instances xs) ≡ true) (sym (same_repetition-true o r b.0)) w.0)) in
-        null_taken k g q d (omega (arith, one)))
-        w.1)
+      (λ (u : ℕ) (x : Instance) (y : has_shape s x ≡ true). subst (λ (c : ℕ). list_all (takes (form k c)) (instance_column p (l + repetition_count o) (d + definition_count o) u x) ≡ true) m (shape_fit s k p x (l + repetition_count o) (d + definition_count o) u b.1 y))
+      xs
+      (λ (z : count_instances xs ≡ 0).
+      let one : definition_count o ≡ 1 = may_be_absent o (subst (λ (c : ℕ). fits_repetition o c ≡ true) z (subst (λ (c : Repetition). fits_repetition c (count_instances xs) ≡ true) (sym (same_repetition-true o r b.0)) w.0)) in
+      null_taken k g q d (omega (arith, one)))
+      w.1)
       (λ (j : ℕ) (e : is_leaf_of fs k (step j o ∷ p) ≡ true). fields_fit fs k (step j o ∷ p) n l d q e w.2)
       h
 

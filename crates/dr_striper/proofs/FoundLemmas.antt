@@ -6,7 +6,6 @@ use Rattle.std.proofs.lemmas.Bool.{and_parts}
 use Rattle.dr_meaning.specs.Schema.{Kind, bool_kind, int32_kind, int64_kind, text_kind, Repetition, required, optional, repeated, Fields, no_fields, field, Shape, leaf, group, fields_of}
 use Rattle.dr_meaning.specs.Path.{Step, Leaf, Found, named_field, found_below, resolve, find_path, cut_at_dots, leaf_at, found_leaf, find_leaf, same_repetition}
 use Rattle.dr_meaning.proofs.ProjectionLemmas.{step}
-
 use Rattle.dr_striper.specs.Leaves.{same_kind, is_leaf_of, is_shape_leaf}
 
 abbrev leaf_of : Kind → Fields → List Step → Bool

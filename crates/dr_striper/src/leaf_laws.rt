@@ -6,17 +6,14 @@ ghost use Rattle.dr_striper.specs.Leaves.{RecordsFitLeaves, FormsFitLeaves, Foun
 /// is absent.
 pub fn records_fit_leaves()
     ensures { RecordsFitLeaves }
-{
-}
+{}
 
 /// So does any node of the form of a record: its whole numbers may be out of their kind's range.
 pub fn forms_fit_leaves()
     ensures { FormsFitLeaves }
-{
-}
+{}
 
 /// A leaf that is found by its names is a leaf of the schema, of its kind.
 pub fn found_leaves_have_kinds()
     ensures { FoundLeavesHaveKinds }
-{
-}
+{}

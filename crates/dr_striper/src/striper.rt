@@ -9,8 +9,8 @@ ghost use Rattle.dr_levels.specs.Views.{column_view, columns_view, column_form, 
 ghost use Rattle.dr_striper.specs.Striping.{paths_of, leaves_of, leaf_form, forms_of};
 ghost use Rattle.dr_striper.specs.Stripers.{AddsRecord, cut_to, fits_leaf, striped, striped_leaves, striped_paths};
 
-use crate::making::Striper;
 use crate::dissection::{Inside, Place, stripe_inside};
+use crate::making::Striper;
 use dr_levels::{Column, max_d};
 use dr_nested::{NoMemory, Node, Path};
 use std::alloc::Global;

@@ -154,11 +154,14 @@ fn column_text(alloc: Global, column: &Column) -> Result<String, AllocError> {
     let mut text = String::new(alloc);
     let mut rest = column.triplets();
     for _ in 0..column.len() {
-        if let Some(Triplet {
-            repetition,
-            definition,
-            value,
-        }) = rest.next() {
+        if let Some(
+            Triplet {
+                repetition,
+                definition,
+                value,
+            },
+        ) = rest.next()
+        {
             let value = value_text(alloc, value)?;
             let triplet = format!(in alloc; "({value} {repetition} {definition})")?;
             text.push_str(triplet.as_str())?;

@@ -53,7 +53,6 @@ one_fits ok f g d xs e =
     let k = give_ok (λ x. instance x no_instances) (f d) xs e in
     (k.0, k.2, g d k.0 k.1)
 
-elements_fit : (ok : Instance → Bool) (f : Data → Result Instance RecordFault) → ((d : Data) (x : Instance) → f d ≡ Ok x → ok x ≡ true) → (ds : Items) (xs : Instances) → each_element f ds ≡ Ok xs → all_instances ok xs ≡ true
 element_fits : (ok : Instance → Bool) (f : Data → Result Instance RecordFault) (b : Bool) (d : Data) (rest : Result Instances RecordFault) (xs : Instances) → ((x : Instance) → f d ≡ Ok x → ok x ≡ true) → ((ys : Instances) → rest ≡ Ok ys → all_instances ok ys ≡ true)
     → (if b then Err null_element else after (λ x. then_give (instance x) rest) (f d)) ≡ Ok xs → all_instances ok xs ≡ true
 element_fits ok f true d rest xs g h e = absurd (cc)
@@ -61,6 +60,8 @@ element_fits ok f false d rest xs g h e =
     let k = after_ok (λ x. then_give (instance x) rest) (f d) xs e in
     let m = give_ok (instance k.0) rest xs k.2 in
     ap (all_instances ok) (sym m.2) ∙ ap₂ (λ a b. a && b) (g k.0 k.1) (h m.0 m.1)
+
+elements_fit : (ok : Instance → Bool) (f : Data → Result Instance RecordFault) → ((d : Data) (x : Instance) → f d ≡ Ok x → ok x ≡ true) → (ds : Items) (xs : Instances) → each_element f ds ≡ Ok xs → all_instances ok xs ≡ true
 elements_fit ok f g no_items xs e = let k : no_instances ≡ xs = cc in ap (all_instances ok) (sym k)
 elements_fit ok f g (item d ds) xs e = element_fits ok f (is_null d) d (each_element f ds) xs (g d) (λ ys h. elements_fit ok f g ds ys h) e
 

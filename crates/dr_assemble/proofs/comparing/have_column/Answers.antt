@@ -11,11 +11,12 @@ use Rattle.dr_assemble.proofs.PieceLemmas.{all_passed}
 use Rattle.dr_assemble.proofs.comparing.have_column.Goals as goal
 
 pub returns-then-not-pass_record : goal.returns-then-not-pass_record
-returns-then-not-pass_record c =
-    (λ h. absurd (true≢false (sym h)),
-      λ (e : column (path_view c.args.field.now).path (nodes_view c.args.nodes.now) ≡ column_view c.args.column.now).
+returns-then-not-pass_record c = (
+  λ h. absurd (true≢false (sym h)),
+  λ (e : column (path_view c.args.field.now).path (nodes_view c.args.nodes.now) ≡ column_view c.args.column.now).
       absurd (column_never (path_view c.args.field.now).path c.args.nodes.now c.nodes.node-index c.node-item.result (column_view c.args.column.now) (triplets_view c.nodes.rest) (triplets_view c.pass_record.new.rest)
-        c.nodes-test.true c.node-item.is c.nodes.invariant c.if-not-pass_record.ensures e))
+      c.nodes-test.true c.node-item.is c.nodes.invariant c.if-not-pass_record.ensures e),
+)
 
 pub nodes-preserved : goal.nodes-preserved
 nodes-preserved c =

@@ -13,5 +13,5 @@ returns-then-not-have_column c =
       λ h. absurd (true≢false (sym h)),
       λ (e : columns_at c.args.fields.now c.args.nodes.now ≡ columns_view c.args.columns.now).
           c.if-not-have_column.ensures.1 (same_at (λ (p : Path). column (path_view p).path (nodes_view c.args.nodes.now)) column_view c.args.fields.now c.args.columns.now c.fields.place c.index-fields-place.result c.index-columns-place.result
-            c.fields-test.true there c.index-fields-place.is c.index-columns-place.is (sym (columns_by_path c.args.fields.now c.args.nodes.now) ∙ e)),
+          c.fields-test.true there c.index-fields-place.is c.index-columns-place.is (sym (columns_by_path c.args.fields.now c.args.nodes.now) ∙ e)),
     )

@@ -70,9 +70,17 @@ stripe_inside-returns-in_ok-stripe_field-in-Some-clause-columns t c =
     (subst (λ ps. Stripes (path_column c.args.place x) (paths_of ps) (columns_view c.split_at_mut-near-in-Some.result.1.now) (columns_view c.stripe_inside-in-Some.new.columns) c.stripe_inside-in-Some.result) (others_all n fields) c.stripe_inside-in-Some.ensures.columns)
 
 pub stripe_instances-stripe_inside-requires : goal.stripe_instances-stripe_inside-requires
-stripe_instances-stripe_inside-requires t c =
-    (search rules, (search rules, (search rules, takes_instance c.args.place c.below-below.result (step_view c.args.step) (instance_view c.args.first.now) (inside_view c.look_inside.result) (instances_view c.args.later.now) (paths_of c.args.fields.now) (forms_view c.args.columns.now)
-      c.below-below.ensures.place c.look_inside.ensures c.requires.takes)))
+stripe_instances-stripe_inside-requires t c = (
+  search rules,
+  (
+    search rules,
+    (
+      search rules,
+      takes_instance c.args.place c.below-below.result (step_view c.args.step) (instance_view c.args.first.now) (inside_view c.look_inside.result) (instances_view c.args.later.now) (paths_of c.args.fields.now) (forms_view c.args.columns.now)
+          c.below-below.ensures.place c.look_inside.ensures c.requires.takes,
+    ),
+  ),
+)
 
 pub stripe_instances-instances-init : goal.stripe_instances-instances-init
 stripe_instances-instances-init t c =
@@ -90,11 +98,18 @@ stripe_instances-stripe_inside-requires-in-instances t c =
     let F = paths_of c.args.fields.now in
     let s = step_view c.args.step in
     let left : Takes (later_columns c.args.place s (instance (instance_view c.instance-item.result) (instances_view (drop (k + 1) c.args.later.now)))) F (forms_view c.args.columns.now) =
-    subst (λ ys. Takes (later_columns c.args.place s ys) F (forms_view c.args.columns.now)) (instances_more c.args.later.now k c.instance-item.result c.instances-test.true c.instance-item.is) c.instances.invariant.2.0 in
-    (search rules, (search rules, (search rules,
-      subst (λ ks. Takes (path_column c.below-below.result (inside_view c.look_inside-in-instances.result)) F ks) (sym c.instances.invariant.2.1)
-      (takes_next c.args.place c.below-below.result s (instance_view c.instance-item.result) (inside_view c.look_inside-in-instances.result) (instances_view (drop (k + 1) c.args.later.now)) F (forms_view c.args.columns.now)
-        c.below-below.ensures.place c.look_inside-in-instances.ensures left))))
+    subst (λ ys. Takes (later_columns c.args.place s ys) F (forms_view c.args.columns.now)) (instances_more c.args.later.now k c.instance-item.result c.instances-test.true c.instance-item.is) c.instances.invariant.2.0 in (
+      search rules,
+      (
+        search rules,
+        (
+          search rules,
+          subst (λ ks. Takes (path_column c.below-below.result (inside_view c.look_inside-in-instances.result)) F ks) (sym c.instances.invariant.2.1)
+              (takes_next c.args.place c.below-below.result s (instance_view c.instance-item.result) (inside_view c.look_inside-in-instances.result) (instances_view (drop (k + 1) c.args.later.now)) F (forms_view c.args.columns.now)
+              c.below-below.ensures.place c.look_inside-in-instances.ensures left),
+        ),
+      ),
+    )
 
 pub stripe_instances-returns-in_err-stripe_inside-2-clause-columns : goal.stripe_instances-returns-in_err-stripe_inside-2-clause-columns
 stripe_instances-returns-in_err-stripe_inside-2-clause-columns t c =
@@ -112,8 +127,11 @@ stripe_instances-instances-preserved t c =
           c.below-below.ensures.place c.look_inside-in-instances.ensures c.in_ok-stripe_inside-2.ensures.columns
           (ap (λ ys. gained (later_columns c.args.place s ys) F (columns_view c.instances.columns)) (sym more) ∙ c.instances.invariant.0),
       (grown-trans _ (columns_view c.instances.columns) _ c.instances.invariant.1.0 (subst (Grown (columns_view c.instances.columns)) (sym c.in_ok-stripe_inside-2.ensures.columns) (grown-gained _ F (columns_view c.instances.columns) l)), c.instances.invariant.1.1 ∙ sym c.stripe_inside-in-instances.auto.columns),
-      (takes_rest c.args.place s x (instances_view (drop (k + 1) c.args.later.now)) F (forms_view c.args.columns.now)
-        (subst (λ ys. Takes (later_columns c.args.place s ys) F (forms_view c.args.columns.now)) more c.instances.invariant.2.0), c.stripe_inside-in-instances.ensures.forms ∙ c.instances.invariant.2.1),
+      (
+        takes_rest c.args.place s x (instances_view (drop (k + 1) c.args.later.now)) F (forms_view c.args.columns.now)
+            (subst (λ ys. Takes (later_columns c.args.place s ys) F (forms_view c.args.columns.now)) more c.instances.invariant.2.0),
+        c.stripe_inside-in-instances.ensures.forms ∙ c.instances.invariant.2.1,
+      ),
     )
 
 pub stripe_instances-returns-clause-columns : goal.stripe_instances-returns-clause-columns

@@ -20,7 +20,7 @@ returns-in_err-push_one-clause-columns c =
     let t = triplet c.args.place.begin c.args.place.definition (option_map lent_value c.args.value) ∷ [] in
     failed_each _ _ _ c.from_residual.result (search rules)
     (grown_at t c.columns.columns c.args.columns.now c.columns.column-index c.column-item.result c.push_one.new.column
-      (omega (arith, c.columns-test.true, c.columns.auto.columns)) c.columns.auto.columns c.column-item.is c.columns.invariant.0 c.columns.invariant.1.0 c.in_err-push_one.ensures.triplet)
+    (omega (arith, c.columns-test.true, c.columns.auto.columns)) c.columns.auto.columns c.column-item.is c.columns.invariant.0 c.columns.invariant.1.0 c.in_err-push_one.ensures.triplet)
 
 pub returns-in_err-push_one-clause-forms : goal.returns-in_err-push_one-clause-forms
 returns-in_err-push_one-clause-forms c =

@@ -17,7 +17,7 @@ invariant_of-self-2 c =
     record {
       kinds = c.in_ok-extend_bools.ensures.kinds (kind_view s.kind) s.kinds;
       dense = ap (present s.greatest) joins ∙ still_dense s.greatest s.levels.items c.args.levels.now (values_view s.values) (map bool_value c.args.values.now) s.dense (c.requires.as_many ∙ sym (length-map c.args.values.now bool_value))
-          ∙ ap length (sym c.in_ok-extend_bools.ensures.values)
+          ∙ ap length (sym c.in_ok-extend_bools.ensures.values);
     }
 
 pub returns-clause-triplets : goal.returns-clause-triplets

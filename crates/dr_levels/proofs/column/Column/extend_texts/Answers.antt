@@ -17,7 +17,7 @@ invariant_of-self-2 c =
     record {
       kinds = c.in_ok-extend_texts.ensures.kinds (kind_view s.kind) s.kinds;
       dense = ap (present s.greatest) joins ∙ still_dense s.greatest s.levels.items c.args.levels.now (values_view s.values) (text_values c.args.bytes.now c.args.places.now) s.dense (c.requires.as_many ∙ sym (length-map c.args.places.now (λ (p : TextPlace). text_value (bytes_at c.args.bytes.now p))))
-          ∙ ap length (sym c.in_ok-extend_texts.ensures.values)
+          ∙ ap length (sym c.in_ok-extend_texts.ensures.values);
     }
 
 pub returns-clause-triplets : goal.returns-clause-triplets

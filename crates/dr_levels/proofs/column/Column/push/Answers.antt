@@ -17,7 +17,7 @@ invariant_of-self-2 c =
     record {
       kinds = c.in_ok-push.ensures.kinds (kind_view s.kind) s.kinds;
       dense = ap (present s.greatest) joins ∙ still_dense s.greatest s.levels.items (record { repetition = c.args.triplet.repetition; definition = c.args.triplet.definition } ∷ []) (values_view s.values) (value_list (option_map lent_value c.args.triplet.value)) s.dense (taken_counted (column_form s) c.args.triplet.repetition c.args.triplet.definition (option_map lent_value c.args.triplet.value) c.requires)
-          ∙ ap length (sym c.in_ok-push.ensures.values)
+          ∙ ap length (sym c.in_ok-push.ensures.values);
     }
 
 pub returns-clause-triplet : goal.returns-clause-triplet

@@ -13,7 +13,7 @@ invariant_of-self c =
     record {
       kinds = c.truncate-2.ensures.kinds (kind_view s.kind) s.kinds;
       dense = ap (present g) c.truncate.ensures.items ∙ truncated_count g c.args.length s.levels.items (values_view s.values) s.dense
-          ∙ ap (λ k. length (take k (values_view s.values))) (sym n) ∙ ap length (sym c.truncate-2.ensures.values)
+          ∙ ap (λ k. length (take k (values_view s.values))) (sym n) ∙ ap length (sym c.truncate-2.ensures.values);
     }
 
 pub returns-clause-triplets : goal.returns-clause-triplets

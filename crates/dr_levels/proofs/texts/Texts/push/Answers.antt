@@ -9,7 +9,7 @@ invariant_of-self-2 c =
     let s = c.args.self.now in
     record {
       texts = put_or_not c.push.result s.bytes.items c.args.text.now c.extend_from_slice.new.self.items s.places.items c.push.new.self.items (record { start = c.in-Ok-Ok.start; length = c.in-Ok-Ok.length })
-          (search rules) (search rules) (search rules) (search rules) c.utf8.text s.texts
+          (search rules) (search rules) (search rules) (search rules) c.utf8.text s.texts;
     }
 
 pub returns : goal.returns

@@ -6,5 +6,5 @@ pub invariant_of-result : goal.invariant_of-result
 invariant_of-result c =
     record {
       fitted = c.in_ok-columns.ensures.forms;
-      noted = c.in_ok-lengths.ensures.items_if_clones_equal (λ y h. h) ∙ empty_lengths (length c.args.fields.now) c.in_ok-columns.columns.items c.in_ok-columns.ensures.empty
+      noted = c.in_ok-lengths.ensures.items_if_clones_equal (λ y h. h) ∙ empty_lengths (length c.args.fields.now) c.in_ok-columns.columns.items c.in_ok-columns.ensures.empty;
     }
