@@ -5,7 +5,9 @@ pub mod WorkedFaults
 pub mod WorkedPaths
 pub mod WorkedColumns
 pub mod WorkedAutomaton
+pub mod WorkedExpressions
 pub mod WorkedQueries
+pub mod WorkedAggregates
 pub mod WorkedMeaning
 pub mod WorkedWalk
 pub mod WorkedAsk

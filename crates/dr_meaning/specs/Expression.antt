@@ -179,7 +179,8 @@ paths_of (negation e) = paths_of e
 paths_of (conjunction a b) = paths_of a ++ paths_of b
 paths_of (disjunction a b) = paths_of a ++ paths_of b
 
--- the longest chain among paths, as the path of its last repeated field
+-- the longest chain among paths, as the path of its last repeated field: that with the most fields. In a query that is accepted the chains
+-- begin with one another, so that is the longest chain; of chains that are not related it would be only one of them
 abbrev pub longest_level : List (List Step) → List Step
 longest_level [] = []
 longest_level (p ∷ ps) = longer (level p) (longest_level ps)

@@ -1,8 +1,7 @@
 -- Kept branches: what WHERE leaves of a record (Dremel 2010, section 5).
 use Rattle.std.specs.Prelude.{List, [], ◌∷◌, Bool, if◌then◌else◌, Option, Some, None, option_map}
 use Rattle.dr_meaning.specs.Path.{Step}
-use Rattle.dr_meaning.specs.Record.{Node, Instances, no_instances, instance, Instance, atom, inner, instances_at, put_at}
-use Rattle.dr_meaning.specs.Rows.{single}
+use Rattle.dr_meaning.specs.Record.{Node, Instances, no_instances, instance, Instance, atom, inner, single, instances_at, put_at}
 use Rattle.dr_meaning.specs.Expression.{Expression, evaluate, expression_level, is_true}
 
 abbrev pub with_kept : Option Instance → Instances → Instances

@@ -102,13 +102,17 @@ begins_with [] q = true
 begins_with (s ∷ p) [] = false
 begins_with (s ∷ p) (t ∷ q) = (s.place == t.place) && begins_with p q
 
+abbrev pub same_path : List Step → List Step → Bool
+same_path p q = begins_with p q && begins_with q p
+
 -- whether the first path has fewer fields
 abbrev pub is_shorter : List Step → List Step → Bool
 is_shorter p [] = false
 is_shorter [] (t ∷ q) = true
 is_shorter (s ∷ p) (t ∷ q) = is_shorter p q
 
--- the longer of two paths, the first where they are as long
+-- the path with more fields, the first where they have as many. All fields are counted, not only the repeated ones: it is used on paths
+-- of repeated fields of one query, whose chains begin with one another, and there the longer path has the longer chain
 abbrev pub longer : List Step → List Step → List Step
 longer p q = if is_shorter p q then q else p
 

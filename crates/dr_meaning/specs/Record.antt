@@ -46,6 +46,10 @@ abbrev pub count_instances : Instances → ℕ
 count_instances no_instances = 0
 count_instances (instance x xs) = suc (count_instances xs)
 
+-- one instance alone
+abbrev pub single : Instance → Instances
+single x = instance x no_instances
+
 -- exactly one, at most one, any number
 abbrev pub fits_repetition : Repetition → ℕ → Bool
 fits_repetition required n = n == 1

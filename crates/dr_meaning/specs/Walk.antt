@@ -2,7 +2,8 @@
 use Rattle.std.specs.Prelude.{ℕ, zero, suc, ◌+◌, List, [], ◌∷◌, ◌++◌, map, Bool, true, false, ◌&&◌, Option, Some, None, reverse}
 use Rattle.std.specs.List.{flat_map, slice_get}
 use Rattle.dr_meaning.specs.Schema.{Repetition, required, optional, repeated, Fields, no_fields, field, Shape, leaf, group, repetition_count, definition_count, shape_repeated_fields}
-use Rattle.dr_meaning.specs.Path.{Step, Leaf, begins_with, chain}
+use Rattle.dr_meaning.specs.Path.{Step, Leaf, chain}
+pub use Rattle.dr_meaning.specs.Path.{same_path}
 use Rattle.dr_meaning.specs.Record.{Value, Node, no_slots, slot, gap, Instances, no_instances, instance, Instance, atom, inner, is_of_kind}
 use Rattle.dr_meaning.specs.Column.{Triplet, triplet, value_of}
 use Rattle.dr_meaning.specs.Automaton.{Pick, picks, behind, beside, indexes}
@@ -159,9 +160,6 @@ repeated_paths fs = repeated_paths_from fs 0
 pub data Open : Type 0 where
   no_record : Open
   in_record : List (List Step) → Open
-
-abbrev pub same_path : List Step → List Step → Bool
-same_path p q = begins_with p q && begins_with q p
 
 abbrev pub is_chain_front : List (List Step) → List (List Step) → Bool
 is_chain_front [] ds = true
