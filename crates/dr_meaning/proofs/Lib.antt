@@ -1,5 +1,6 @@
 -- worked examples, by computation
 pub mod WorkedSchemas
+pub mod WorkedSchemaFaults
 pub mod WorkedRecords
 pub mod WorkedFaults
 pub mod WorkedPaths
