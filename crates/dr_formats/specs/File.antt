@@ -5,6 +5,7 @@ use Rattle.dr_meaning.specs.Schema.{Schema}
 use Rattle.dr_meaning.specs.Path.{Leaf}
 use Rattle.dr_meaning.specs.Record.{Node, is_record}
 use Rattle.dr_meaning.specs.Column.{Triplet, column}
+pub use Rattle.dr_meaning.specs.OneColumn.{starts, begins_record}
 use Rattle.dr_formats.specs.Reading.{Reading, got, refused}
 use Rattle.dr_formats.specs.LittleEndian.{little_endian}
 use Rattle.dr_formats.specs.Compact.{CompactFault, Struct, read_struct}
@@ -129,15 +130,6 @@ chunk_values (Some m) = m.values
 -- whether of each leaf there are not too many triplets
 abbrev pub values_fit : Footer → List Leaf → Bool
 values_fit f F = list_all (λ l. nat_le (total (λ g. chunk_values (leaf_chunk f l g)) f.meta.groups) most_triplets) F
-
--- how many triplets begin a record
-abbrev pub starts : List Triplet → ℕ
-starts ts = total (λ (t : Triplet). if t.repetition == 0 then 1 else 0) ts
-
--- whether the first triplet begins a record
-abbrev pub begins_record : List Triplet → Bool
-begins_record [] = true
-begins_record (t ∷ ts) = t.repetition == 0
 
 -- the triplets, if they are those of so many whole records
 abbrev pub of_rows : ℕ → List Triplet → Option (List Triplet)

@@ -27,6 +27,8 @@ pub mod ProjectionLemmas
 pub mod MeaningLemmas
 pub mod Blocks
 pub mod ColumnLemmas
+pub mod ColumnStarts
+pub mod OneColumnLemmas
 -- the record of a line is within the limits
 pub mod RecordLimits
 pub mod FoundLemmas

@@ -29,3 +29,4 @@ pub mod PathLaws
 pub mod ProjectionLaws
 pub mod MeaningLaws
 pub mod ColumnLaws
+pub mod OneColumn
