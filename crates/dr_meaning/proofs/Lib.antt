@@ -11,6 +11,7 @@ pub mod WorkedQueries
 pub mod WorkedAggregates
 pub mod WorkedMeaning
 pub mod WorkedWalk
+pub mod WorkedLimits
 pub mod WorkedTokens
 pub mod WorkedAsk
 pub mod WorkedStripe
