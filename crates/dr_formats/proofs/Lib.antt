@@ -1,4 +1,5 @@
 -- worked examples, by computation
+pub mod Hexadecimal
 pub mod WorkedCompact
 pub mod WorkedHybrid
 pub mod WorkedPages

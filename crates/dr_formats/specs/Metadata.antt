@@ -1,6 +1,6 @@
 -- The structs of a file's metadata (Apache Parquet, parquet.thrift): their fields in a tree, and their trees as they are written.
-use Rattle.std.specs.Prelude.{ℕ, List, [], ◌∷◌, ℤ, pos, negsuc, Option, Some, None, option_map, option_and_then, Result, Ok, Err}
-use Rattle.dr_formats.specs.Compact.{i32_type, binary_type, struct_type, Struct, stop, struct_field, Item, i32_item, i64_item, binary_item, list_item, struct_item, Items, no_items, item, find_field}
+use Rattle.std.specs.Prelude.{ℕ, Bool, List, [], ◌∷◌, ℤ, pos, negsuc, Option, Some, None, option_map, option_and_then, Result, Ok, Err}
+use Rattle.dr_formats.specs.Compact.{i32_type, binary_type, struct_type, Struct, stop, struct_field, Item, truth_item, i32_item, i64_item, binary_item, list_item, struct_item, Items, no_items, item, find_field}
 
 -- a needed field that isn't there with its type, or whose number is outside its range, by its id
 pub data MetaFault : Type 0 where
@@ -24,6 +24,11 @@ as_i32 x = None
 abbrev pub as_i64 : Item → Option ℤ
 as_i64 (i64_item z) = Some z
 as_i64 x = None
+
+-- a truth value
+abbrev pub as_truth : Item → Option Bool
+as_truth (truth_item b) = Some b
+as_truth x = None
 
 -- bytes of the type binary
 abbrev pub as_binary : Item → Option (List ℕ)
@@ -210,12 +215,15 @@ view_dictionary_header s = do
   e ← needed as_i32 2 s
   Ok (record { values = n; encoding = e })
 
--- DataPageHeaderV2: number of triplets, encoding, byte lengths of the level parts
+-- DataPageHeaderV2: number of triplets, of NULLs and of rows, encoding, byte lengths of the level parts, whether the values are compressed
 pub record DataPageHeaderV2 : Type 0 where
   pub values : ℕ
+  pub nulls : Option ℤ
+  pub rows : Option ℤ
   pub encoding : ℤ
   pub definition_bytes : ℕ
   pub repetition_bytes : ℕ
+  pub compressed : Option Bool
 
 -- the V2 data page header of a struct
 abbrev pub view_data_header_v2 : Struct → Result DataPageHeaderV2 MetaFault
@@ -224,7 +232,7 @@ view_data_header_v2 s = do
   e ← needed as_i32 4 s
   d ← needed_count as_i32 5 s
   r ← needed_count as_i32 6 s
-  Ok (record { values = n; encoding = e; definition_bytes = d; repetition_bytes = r })
+  Ok (record { values = n; nulls = optional_field as_i32 2 s; rows = optional_field as_i32 3 s; encoding = e; definition_bytes = d; repetition_bytes = r; compressed = optional_field as_truth 7 s })
 
 -- PageHeader: type, sizes, and the header struct of the type
 pub record PageHeader : Type 0 where
