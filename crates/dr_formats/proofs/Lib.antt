@@ -1,6 +1,8 @@
 -- worked examples, by computation
 pub mod Hexadecimal
 pub mod WorkedCompact
+pub mod WorkedBytes
+pub mod WorkedMetadata
 pub mod WorkedHybrid
 pub mod WorkedPages
 pub mod WorkedFiles
