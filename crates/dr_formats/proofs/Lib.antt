@@ -8,6 +8,8 @@ pub mod WorkedPages
 pub mod WorkedFiles
 pub mod WorkedDamaged
 pub mod WorkedForeign
+pub mod WorkedWritten
+pub mod WorkedForms
 pub mod WorkedTables
 -- lemmas of reading, of varints and of structs
 pub mod ReadingLemmas
