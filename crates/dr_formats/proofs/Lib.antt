@@ -10,6 +10,7 @@ pub mod WorkedDamaged
 pub mod WorkedForeign
 pub mod WorkedWritten
 pub mod WorkedForms
+pub mod WorkedOpenLeaves
 pub mod WorkedTables
 -- lemmas of reading, of varints and of structs
 pub mod ReadingLemmas
