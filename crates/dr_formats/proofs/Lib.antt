@@ -30,6 +30,7 @@ pub mod PlainLemmas
 pub mod PageLemmas
 -- causes
 pub mod FileLemmas
+pub mod OpeningLemmas
 -- the file that is written is a file of its records
 pub mod ChunkLemmas
 pub mod MetadataLemmas

@@ -189,10 +189,14 @@ is_decoded (Some ts) = true
 abbrev pub has_columns : List ℕ → Footer → List Leaf → Bool
 has_columns bytes f F = rows_agree f && values_fit f F && list_all (λ l. is_decoded (file_column bytes f l)) F
 
--- the cause by these tests, in their order
+-- the cause by the tests of a footer, in their order, where this test tells whether the data is good
+abbrev pub cause_by : (Footer → Bool) → List Leaf → Option Footer → Option FileCause
+cause_by is_good F None = Some bad_footer
+cause_by is_good F (Some f) =
+    if has_leaves f F then (if are_uncompressed f F then (if is_good f then None else Some bad_data) else Some bad_codec) else Some bad_schema
+
 abbrev pub footer_cause : List ℕ → List Leaf → Option Footer → Option FileCause
-footer_cause bytes F None = Some bad_footer
-footer_cause bytes F (Some f) = if has_leaves f F then (if are_uncompressed f F then (if has_columns bytes f F then None else Some bad_data) else Some bad_codec) else Some bad_schema
+footer_cause bytes F o = cause_by (λ f. has_columns bytes f F) F o
 
 -- the cause of bytes, as far as the test knows
 abbrev pub known_cause : List ℕ → List Leaf → Option FileCause

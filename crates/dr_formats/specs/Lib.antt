@@ -16,6 +16,7 @@ pub mod Metadata
 pub mod FileSchema
 pub mod Chunk
 pub mod File
+pub mod Opening
 pub mod Writing
 -- tables: the table file; tablets and their places
 pub mod TableFile
