@@ -12,6 +12,7 @@ pub mod WorkedWritten
 pub mod WorkedForms
 pub mod WorkedOpenLeaves
 pub mod WorkedTables
+pub mod WorkedOpening
 -- lemmas of reading, of varints and of structs
 pub mod ReadingLemmas
 pub mod SoundLemmas

@@ -21,6 +21,9 @@ pub mod Writing
 -- tables: the table file; tablets and their places
 pub mod TableFile
 pub mod Tablets
+-- the command `load`; lines of commands over tables and files
+pub mod Loading
+pub mod Reports
 -- laws, each proved on a law function of src/
 pub mod VarintLaws
 pub mod CompactLaws

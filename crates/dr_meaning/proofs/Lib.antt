@@ -32,4 +32,5 @@ pub mod ColumnStarts
 pub mod OneColumnLemmas
 -- the record of a line is within the limits
 pub mod RecordLimits
+pub mod LineLemmas
 pub mod FoundLemmas

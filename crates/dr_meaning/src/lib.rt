@@ -3,6 +3,7 @@
 #![tactic(auto)]
 
 pub mod column_laws;
+pub mod line_laws;
 pub mod meaning_laws;
 pub mod path_laws;
 pub mod projection_laws;
