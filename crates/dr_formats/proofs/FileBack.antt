@@ -1,6 +1,6 @@
 -- The file that is written for records is a file of these records.
 use Rattle.std.proofs.Common.{◌≡◌, ℕ, zero, suc, ◌+◌, ◌^◌, ◌≤◌, ◌<◌, List, [], ◌∷◌, ◌++◌, map, length, take, drop, true, ◌&&◌, refl, sym, ap, ap₂, ◌∙◌, subst, arith, pos, Some, None, append_assoc, append-nil}
-use Rattle.std.specs.Prelude.{nat_lt, nat_le, ◌==◌}
+use Rattle.std.specs.Prelude.{nat_lt, nat_le, ◌==◌, Ok}
 use Rattle.std.specs.List.{list_all}
 use Rattle.std.proofs.lemmas.Bool.{and_parts, and_from, le-leb, leb-true, ltb-true, eq-eqb}
 use Rattle.std.proofs.lemmas.List.{length-append, length-map}
@@ -12,12 +12,14 @@ use Rattle.dr_meaning.specs.Column.{Triplet, record_column, column}
 use Rattle.dr_formats.specs.LittleEndian.{little_endian_bytes}
 use Rattle.dr_formats.specs.Compact.{is_tree}
 use Rattle.dr_formats.specs.Metadata.{ColumnMeta, ColumnChunk, RowGroup, file_tree}
-use Rattle.dr_formats.specs.FileSchema.{FileSchema, file_leaves, place_of}
+use Rattle.dr_formats.specs.FileSchema.{open_schema, FileSchema, file_leaves, place_of}
 use Rattle.dr_formats.specs.Page.{is_triplet}
 use Rattle.dr_formats.specs.Chunk.{pages_triplets, chunk_bytes}
-use Rattle.dr_formats.specs.File.{Footer, footer_of, is_found, leaf_place, has_leaves, nth_chunk, leaf_chunk, is_uncompressed, are_uncompressed, total, most_rows, most_triplets, rows_agree, chunk_values, values_fit, starts, of_rows, group_column, file_column, AreColumns, magic, is_whole_group, has_no_path}
+use Rattle.dr_formats.specs.File.{schema_or_cause, Footer, footer_of, is_found, leaf_place, has_leaves, nth_chunk, leaf_chunk, is_uncompressed, are_uncompressed, total, most_rows, most_triplets, rows_agree, chunk_values, values_fit, starts, of_rows, group_column, file_column, AreColumns, magic, is_whole_group, has_no_path}
 use Rattle.dr_formats.specs.Writing.{cut_pages, pages_bytes, record_columns, written_chunk, triplet_count, chunk_at, chunks_from, framed, written_chunks, groups_of, written_meta, written_footer, file_bytes}
 use Rattle.dr_formats.specs.WritingLaws.{all_triplets, ArePages, nth_leaf, AreAmong, FitHeaders, LeavesFit, FitsFile, WrittenFileIsFile}
+use Rattle.dr_formats.specs.OpenSchemaLaws.{WrittenSchemaIsRead}
+use Rattle.dr_formats.proofs.OpenSchemaLemmas.{written_opened}
 use Rattle.dr_formats.proofs.ChunkLemmas.{written_pages_are_read, pages_keep_triplets}
 use Rattle.dr_formats.proofs.SchemaBack.{file_fields_of, schema_back, file_leaf_of, file_leaves_back, leaf_found, AllLeaves, is_within, leaves_within}
 use Rattle.dr_formats.proofs.ColumnsFit.{EachLeaf, each_append, Good, ColumnGood, fields_good}
@@ -183,14 +185,14 @@ whole_groups s (n ∷ R) g d =
     let c : length (chunks_from (n ∷ R) (leaves s.fields) 4).columns ≡ length (file_leaves (file_fields_of s.fields)) = columns_many (n ∷ R) (leaves s.fields) 4 ∙ sym e in
     and_from _ _ (and_from _ _ (eq-eqb _ _ c) (no_paths (n ∷ R) (leaves s.fields) 4)) refl
 
-abbrev the_footer : Schema → List Node → Footer
+abbrev pub the_footer : Schema → List Node → Footer
 the_footer s R = record { place = 4 + length (written_chunks s R).bytes; meta = written_meta s R; schema = the_schema s }
 
 -- what a schema within the limits is
-abbrev Limits : Schema → Type 0
+abbrev pub Limits : Schema → Type 0
 Limits s = (is_short_name s.name ≡ true) × (is_group s.fields ≡ true) × (depth s.fields ≤ 32) × (leaf_count s.fields ≤ 1024)
 
-limits : (s : Schema) → is_schema s ≡ true → Limits s
+pub limits : (s : Schema) → is_schema s ≡ true → Limits s
 limits s h =
     let a : ((is_short_name s.name && is_shape (group s.fields) && nat_le (depth s.fields) greatest_depth) ≡ true) × (nat_le (leaf_count s.fields) most_leaves ≡ true) = and_parts _ _ h in
     let b : ((is_short_name s.name && is_shape (group s.fields)) ≡ true) × (nat_le (depth s.fields) greatest_depth ≡ true) = and_parts _ _ a.0 in
@@ -202,7 +204,7 @@ chunks_in_file : (s : Schema) (R : List Node) → 4 + length (written_chunks s R
 unfolding file_bytes
 chunks_in_file s R = omega (arith, length-append (written_chunks s R).bytes (written_footer s R ++ (little_endian_bytes 4 (length (written_footer s R)) ++ magic)))
 
-footer_there : (s : Schema) (R : List Node) → FitsFile s R → footer_of (file_bytes s R) ≡ Some (the_footer s R)
+pub footer_there : (s : Schema) (R : List Node) → FitsFile s R → footer_of (file_bytes s R) ≡ Some (the_footer s R)
 unfolding file_bytes
 footer_there s R h =
     let k : Limits s = limits s h.0 in
@@ -288,3 +290,9 @@ unfolding file_bytes
 written_file_is_file s R F h a =
     let k : Limits s = limits s h.0 in
     (the_footer s R, footer_there s R h, leaves_there s R F k a, leaves_plain s R F k a, (rows_right s R h.3, leaves_bound s R F k h.4 a, refl, h.1, columns_back s R F k h a))
+
+-- ---- its schema
+
+pub written_schema_is_read : WrittenSchemaIsRead
+unfolding file_bytes
+written_schema_is_read s R h = ap schema_or_cause (footer_there s R h) ∙ rw (written_opened s h.0) refl

@@ -36,6 +36,7 @@ pub mod OpeningLemmas
 pub mod ChunkLemmas
 pub mod MetadataLemmas
 pub mod SchemaBack
+pub mod OpenSchemaLemmas
 pub mod ColumnsFit
 pub mod ColumnRows
 pub mod FooterBack

@@ -31,5 +31,6 @@ pub mod HybridLaws
 pub mod PlainLaws
 pub mod FileLaws
 pub mod WritingLaws
+pub mod OpenSchemaLaws
 pub mod TabletLaws
 pub mod TableLaws

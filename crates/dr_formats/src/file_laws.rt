@@ -1,6 +1,7 @@
 //! Laws of files and causes.
 
 ghost use Rattle.dr_formats.specs.FileLaws.{CauseIsKnown, FileHasNoCause, KnownCauseHolds, OneCause};
+ghost use Rattle.dr_formats.specs.OpenSchemaLaws.{OpenPartIsSchema, WrittenSchemaIsRead};
 ghost use Rattle.dr_formats.specs.Opening.{LeafCauseIsExact, NoFileHasCause, NoLeafCauseIsFile, OpeningCauseHolds, RangesAreInFile};
 
 /// The cause that the test knows of bytes holds; a cause that holds is the one that it knows, but for causes of data that need records
@@ -40,4 +41,10 @@ pub fn leaf_cause_is_exact()
 /// All ranges that a reader may look into lie in the file.
 pub fn ranges_are_in_file()
     ensures { RangesAreInFile }
+{}
+
+/// The open part of a file's schema is a schema, and that of a written file is the schema of its records.
+pub fn open_part_is_schema()
+    ensures rules { OpenPartIsSchema }
+    ensures written { WrittenSchemaIsRead }
 {}
