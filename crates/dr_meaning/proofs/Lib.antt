@@ -29,6 +29,7 @@ pub mod MeaningLemmas
 pub mod Blocks
 pub mod ColumnLemmas
 pub mod ColumnStarts
+pub mod ColumnSize
 pub mod OneColumnLemmas
 -- the record of a line is within the limits
 pub mod RecordLimits
