@@ -154,7 +154,7 @@ nth_within [] i l h e = absurd (no_leaf l e)
 nth_within (m ∷ ls) zero l h e = let p : (is_within 32 m ≡ true) × AllLeaves (is_within 32) ls = and_parts _ _ h in subst (λ (x : Leaf). length x.names ≤ 32) (same_leaf m l e) (leb-true _ _ p.0)
 nth_within (m ∷ ls) (suc i) l h e = let p : (is_within 32 m ≡ true) × AllLeaves (is_within 32) ls = and_parts _ _ h in nth_within ls i l p.1 e
 
-levels_few : (fs : Fields) (i : ℕ) (l : Leaf) → depth fs ≤ 32 → nth_leaf (leaves fs) i ≡ Some l → (max_repetition l.path ≤ 32) × (max_definition l.path ≤ 32)
+pub levels_few : (fs : Fields) (i : ℕ) (l : Leaf) → depth fs ≤ 32 → nth_leaf (leaves fs) i ≡ Some l → (max_repetition l.path ≤ 32) × (max_definition l.path ≤ 32)
 levels_few fs i l d e =
     let a : FewLevels l = each_nth FewLevels (leaves fs) i l (fields_levels fs 0) e in
     let b : length l.names ≤ 32 = nth_within (leaves fs) i l (leaves_within fs 0 32 d) e in

@@ -42,6 +42,7 @@ pub mod ColumnRows
 pub mod FooterBack
 pub mod MetaFits
 pub mod FileBack
+pub mod LoadFits
 -- tables and tablets
 pub mod TableLemmas
 pub mod TabletLemmas

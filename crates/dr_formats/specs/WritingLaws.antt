@@ -1,14 +1,16 @@
 -- Laws of what is written: metadata, pages of a chunk.
-use Rattle.std.specs.Prelude.{◌≡◌, ℕ, zero, suc, ◌^◌, ◌<◌, ◌≤◌, List, [], ◌∷◌, ◌++◌, length, true, nat_lt, Option, Some, None, Ok}
+use Rattle.std.specs.Prelude.{◌≡◌, ℕ, zero, suc, ◌^◌, ◌<◌, ◌≤◌, List, [], ◌∷◌, ◌++◌, length, Bool, true, ◌&&◌, nat_le, nat_lt, Option, Some, None, Ok}
 use Rattle.std.specs.List.{list_all}
 use Rattle.dr_meaning.specs.Schema.{Schema, is_schema}
 use Rattle.dr_meaning.specs.Path.{Leaf, leaves, max_repetition, max_definition}
-use Rattle.dr_meaning.specs.Record.{Node, is_record, text_bytes}
+use Rattle.dr_meaning.specs.Record.{Node, is_record, instance_count, text_bytes}
+use Rattle.dr_meaning.specs.JsonRecord.{most_instances, most_text_bytes}
 use Rattle.dr_meaning.specs.Column.{Triplet}
 use Rattle.dr_formats.specs.Metadata.{FileMeta, view_file, file_tree}
 use Rattle.dr_formats.specs.Page.{is_triplet, body_bytes}
 use Rattle.dr_formats.specs.Chunk.{pages_triplets}
 use Rattle.dr_formats.specs.File.{most_rows, most_triplets, IsFileOf}
+use Rattle.dr_formats.specs.Loading.{most_tablet_rows}
 use Rattle.dr_formats.specs.Writing.{pages_bytes, triplet_count, cut_pages, record_columns, written_footer, file_bytes}
 
 -- the triplets of lists, one after another
@@ -67,3 +69,13 @@ FitsFile s R = (is_schema s ≡ true) × (list_all (is_record s.fields) R ≡ tr
 -- the file that is written for records is a file of these records, for any of the schema's leaves
 abbrev pub WrittenFileIsFile : Type 0
 WrittenFileIsFile = (s : Schema) (R : List Node) (F : List Leaf) → FitsFile s R → AreAmong (leaves s.fields) F → IsFileOf (file_bytes s R) s F R
+
+-- ---- the limits under which files are written
+
+-- whether a record is within the limits of an input line
+abbrev pub is_limited : Node → Bool
+is_limited n = nat_le (instance_count n) most_instances && nat_le (text_bytes n) most_text_bytes
+
+-- records of a schema, each within the limits of a line, and not more than a tablet may have, fit one file
+abbrev pub LimitedRecordsFit : Type 0
+LimitedRecordsFit = (s : Schema) (R : List Node) → is_schema s ≡ true → list_all (is_record s.fields) R ≡ true → list_all is_limited R ≡ true → length R ≤ most_tablet_rows → FitsFile s R
