@@ -34,4 +34,5 @@ pub mod OneColumnLemmas
 -- the record of a line is within the limits
 pub mod RecordLimits
 pub mod LineLemmas
+pub mod WalkLemmas
 pub mod FoundLemmas

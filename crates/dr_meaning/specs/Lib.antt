@@ -30,3 +30,4 @@ pub mod ProjectionLaws
 pub mod MeaningLaws
 pub mod ColumnLaws
 pub mod OneColumn
+pub mod WalkLaws

@@ -8,3 +8,4 @@ pub mod meaning_laws;
 pub mod path_laws;
 pub mod projection_laws;
 pub mod schema_laws;
+pub mod walk_laws;
