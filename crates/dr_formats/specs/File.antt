@@ -1,5 +1,6 @@
 -- Files: the footer, which files are files of records for a set of leaves, and the causes for which others are not (Apache Parquet, "File format").
-use Rattle.std.specs.Prelude.{◌≡◌, ℕ, zero, suc, ◌+◌, ◌-◌, ◌^◌, List, [], ◌∷◌, ◌++◌, map, length, take, drop, Bool, true, false, ◌&&◌, ◌==◌, nat_le, if◌then◌else◌, bytes_eq, Option, Some, None, option_map, option_and_then, Result, Ok, Err}
+use Rattle.std.specs.Prelude.{◌≡◌, ℕ, zero, suc, ◌+◌, ◌-◌, ◌^◌, List, [], ◌∷◌, ◌++◌, map, length, take, drop, Bool, true, false, ◌&&◌, ◌==◌, nat_le,
+    if◌then◌else◌, bytes_eq, Option, Some, None, option_map, option_and_then, Result, Ok, Err}
 use Rattle.std.specs.List.{list_all}
 use Rattle.dr_meaning.specs.Schema.{Schema}
 use Rattle.dr_meaning.specs.Path.{Leaf}
@@ -30,7 +31,8 @@ footer_place bytes = length bytes - 8 - footer_length bytes
 
 -- whether there are 12 bytes at least, both magics, and room for the footer between them
 abbrev pub is_framed : List ℕ → Bool
-is_framed bytes = nat_le 12 (length bytes) && bytes_eq (take 4 bytes) magic && bytes_eq (drop (length bytes - 4) bytes) magic && nat_le (footer_length bytes) (length bytes - 12)
+is_framed bytes = nat_le 12 (length bytes) && bytes_eq (take 4 bytes) magic && bytes_eq (drop (length bytes - 4) bytes) magic
+    && nat_le (footer_length bytes) (length bytes - 12)
 
 -- where the footer begins, its metadata, the tree of its schema elements
 pub record Footer : Type 0 where
@@ -63,11 +65,15 @@ is_whole_group leaves g = (length g.columns == leaves) && list_all (λ (c : Colu
 
 -- the footer, where each row group has a chunk for each leaf of this schema
 abbrev pub with_schema : ℕ → FileMeta → FileSchema → Option Footer
-with_schema place m s = if list_all (is_whole_group (length (file_leaves s.fields))) m.groups then Some (record { place = place; meta = m; schema = s }) else None
+with_schema place m s =
+    if list_all (is_whole_group (length (file_leaves s.fields))) m.groups then Some (record { place = place; meta = m; schema = s })
+    else None
 
 -- the footer of a file, if it has one
 unfoldable pub footer_of : List ℕ → Option Footer
-footer_of bytes = if is_framed bytes then option_and_then (λ (m : FileMeta). option_and_then (with_schema (footer_place bytes) m) (file_schema m.schema)) (footer_meta bytes) else None
+footer_of bytes =
+    if is_framed bytes then option_and_then (λ (m : FileMeta). option_and_then (with_schema (footer_place bytes) m) (file_schema m.schema)) (footer_meta bytes)
+    else None
 
 -- ---- the chunks of a leaf
 
@@ -156,7 +162,8 @@ AreColumns bytes f F R = map (file_column bytes f) F ≡ map (λ (l : Leaf). Som
 
 -- a footer's data is that of these records of the schema
 abbrev pub IsDataOf : List ℕ → Footer → Schema → List Leaf → List Node → Type 0
-IsDataOf bytes f s F R = (rows_agree f ≡ true) × (values_fit f F ≡ true) × (length R ≡ f.meta.rows) × (list_all (is_record s.fields) R ≡ true) × AreColumns bytes f F R
+IsDataOf bytes f s F R = (rows_agree f ≡ true) × (values_fit f F ≡ true) × (length R ≡ f.meta.rows) × (list_all (is_record s.fields) R ≡ true)
+    × AreColumns bytes f F R
 
 -- the bytes are a file of these records of the schema, for these of its leaves
 abbrev pub IsFileOf : List ℕ → Schema → List Leaf → List Node → Type 0
@@ -176,7 +183,8 @@ abbrev pub HasCause : List ℕ → Schema → List Leaf → FileCause → Type 0
 HasCause bytes s F bad_footer = footer_of bytes ≡ None
 HasCause bytes s F bad_schema = (f : Footer) × (footer_of bytes ≡ Some f) × (has_leaves f F ≡ false)
 HasCause bytes s F bad_codec = (f : Footer) × (footer_of bytes ≡ Some f) × (has_leaves f F ≡ true) × (are_uncompressed f F ≡ false)
-HasCause bytes s F bad_data = (f : Footer) × (footer_of bytes ≡ Some f) × (has_leaves f F ≡ true) × (are_uncompressed f F ≡ true) × ((R : List Node) → IsDataOf bytes f s F R → ⊥)
+HasCause bytes s F bad_data = (f : Footer) × (footer_of bytes ≡ Some f) × (has_leaves f F ≡ true) × (are_uncompressed f F ≡ true)
+    × ((R : List Node) → IsDataOf bytes f s F R → ⊥)
 
 -- ---- a test for causes: of the last it knows only the reasons that need no records
 

@@ -8,7 +8,8 @@ use Rattle.dr_meaning.specs.Column.{Triplet}
 use Rattle.dr_meaning.specs.OneColumn.{is_column}
 use Rattle.dr_formats.specs.Metadata.{ColumnMeta, RowGroup}
 use Rattle.dr_formats.specs.Chunk.{chunk_start}
-use Rattle.dr_formats.specs.File.{Footer, footer_of, footer_length, footer_place, is_framed, leaf_chunk, rows_agree, values_fit, file_column, FileCause, HasCause, IsFileOf, cause_by}
+use Rattle.dr_formats.specs.File.{Footer, footer_of, footer_length, footer_place, is_framed, leaf_chunk, rows_agree, values_fit, file_column,
+    FileCause, HasCause, IsFileOf, cause_by}
 
 -- ---- causes
 
@@ -54,7 +55,9 @@ footer_ranges bytes = if is_framed bytes then range (footer_place bytes) (footer
 -- a chunk, where it lies between the magic and the footer
 abbrev pub chunk_range : ℕ → Option ColumnMeta → List Range
 chunk_range footer None = []
-chunk_range footer (Some m) = if nat_le 4 (chunk_start m) && nat_le (chunk_start m + m.compressed_size) footer then range (chunk_start m) m.compressed_size ∷ [] else []
+chunk_range footer (Some m) =
+    if nat_le 4 (chunk_start m) && nat_le (chunk_start m + m.compressed_size) footer then range (chunk_start m) m.compressed_size ∷ []
+    else []
 
 -- the chunks of a leaf
 abbrev pub leaf_ranges : Footer → Leaf → List Range
@@ -85,11 +88,13 @@ OpeningCauseHolds = (bytes : List ℕ) (s : Schema) (F : List Leaf) (c : FileCau
 
 -- bytes have the cause of one leaf of a schema exactly if the test of that leaf tells it
 abbrev pub LeafCauseIsExact : Type 0
-LeafCauseIsExact = (bytes : List ℕ) (s : Schema) (i : ℕ) (l : Leaf) (c : FileCause) → slice_get (leaves s.fields) i ≡ Some l → (leaf_cause bytes l ≡ Some c) ↔ HasCause bytes s (l ∷ []) c
+LeafCauseIsExact = (bytes : List ℕ) (s : Schema) (i : ℕ) (l : Leaf) (c : FileCause) → slice_get (leaves s.fields) i ≡ Some l
+    → (leaf_cause bytes l ≡ Some c) ↔ HasCause bytes s (l ∷ []) c
 
 -- and where the test tells none, they are a file of some records for this leaf
 abbrev pub NoLeafCauseIsFile : Type 0
-NoLeafCauseIsFile = (bytes : List ℕ) (s : Schema) (i : ℕ) (l : Leaf) → slice_get (leaves s.fields) i ≡ Some l → (leaf_cause bytes l ≡ None) ↔ ((R : List Node) × IsFileOf bytes s (l ∷ []) R)
+NoLeafCauseIsFile = (bytes : List ℕ) (s : Schema) (i : ℕ) (l : Leaf) → slice_get (leaves s.fields) i ≡ Some l
+    → (leaf_cause bytes l ≡ None) ↔ ((R : List Node) × IsFileOf bytes s (l ∷ []) R)
 
 -- bytes that are a file of no records have a cause
 abbrev pub NoFileHasCause : Type 0

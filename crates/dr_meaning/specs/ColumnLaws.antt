@@ -8,7 +8,9 @@ use Rattle.dr_meaning.specs.Column.{record_column, column}
 
 -- records of a schema, as many, with equal columns at these leaves, have equal projections to them
 abbrev pub ColumnsDetermineProjection : Type 0
-ColumnsDetermineProjection = (fs : Fields) (F : List (List Step)) → list_all (is_leaf_path fs) F ≡ true → (R S : List Node) → list_all (is_record fs) R ≡ true → list_all (is_record fs) S ≡ true → length R ≡ length S → map (λ (p : List Step). column p R) F ≡ map (λ (p : List Step). column p S) F → map (project F) R ≡ map (project F) S
+ColumnsDetermineProjection = (fs : Fields) (F : List (List Step)) → list_all (is_leaf_path fs) F ≡ true → (R S : List Node)
+    → list_all (is_record fs) R ≡ true → list_all (is_record fs) S ≡ true → length R ≡ length S
+    → map (λ (p : List Step). column p R) F ≡ map (λ (p : List Step). column p S) F → map (project F) R ≡ map (project F) S
 
 -- the column of a record has at most as many triplets as the record has instances, or one
 abbrev pub ColumnIsShort : Type 0

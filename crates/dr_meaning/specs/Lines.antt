@@ -38,7 +38,10 @@ line_record (Err e) = Err (no_record e)
 
 -- the record of the line of this number, where at most so many are taken
 abbrev pub record_at : Fields → ℕ → ℕ → List ℕ → Result Node LineFault
-record_at fs most number line = if nat_lt longest_line (length line) then Err line_too_long else (if nat_lt most number then Err too_many_records else line_record (record_of_line fs line))
+record_at fs most number line =
+    if nat_lt longest_line (length line) then Err line_too_long
+    else (if nat_lt most number then Err too_many_records
+    else line_record (record_of_line fs line))
 
 abbrev pub before_records : Node → Result (List Node) Refusal → Result (List Node) Refusal
 before_records n (Ok ns) = Ok (n ∷ ns)
@@ -82,4 +85,5 @@ result_of R (Some e) = Err e
 
 -- the records taken and the refusal are those of the input's lines
 abbrev pub TakenAreRecords : Type 0
-TakenAreRecords = (fs : Fields) (most number : ℕ) (ls : List (List ℕ)) → result_of (taken_from fs most number ls).records (taken_from fs most number ls).refusal ≡ records_from fs most number ls
+TakenAreRecords = (fs : Fields) (most number : ℕ) (ls : List (List ℕ))
+    → result_of (taken_from fs most number ls).records (taken_from fs most number ls).refusal ≡ records_from fs most number ls

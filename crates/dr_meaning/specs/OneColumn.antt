@@ -73,4 +73,5 @@ HaveColumn fs l rows ts = (R : List Node) × (list_all (is_record fs) R ≡ true
 
 -- triplets pass the test exactly if there are records that have them as the column of this leaf
 abbrev pub ColumnsAreRecognized : Type 0
-ColumnsAreRecognized = (fs : Fields) (i : ℕ) (l : Leaf) (rows : ℕ) (ts : List Triplet) → slice_get (leaves fs) i ≡ Some l → (is_column l rows ts ≡ true) ↔ HaveColumn fs l rows ts
+ColumnsAreRecognized = (fs : Fields) (i : ℕ) (l : Leaf) (rows : ℕ) (ts : List Triplet) → slice_get (leaves fs) i ≡ Some l
+    → (is_column l rows ts ≡ true) ↔ HaveColumn fs l rows ts

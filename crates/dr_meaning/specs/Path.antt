@@ -1,6 +1,8 @@
 -- Paths of a schema, resolved to the places of their fields, with their levels (Dremel 2010, section 4.1).
-use Rattle.std.specs.Prelude.{ℕ, zero, suc, ◌+◌, List, [], ◌∷◌, ◌++◌, map, Bool, true, false, ◌&&◌, ◌==◌, if◌then◌else◌, bytes_eq, Option, Some, None, option_map, option_and_then, Result, Ok, Err}
-use Rattle.dr_meaning.specs.Schema.{Repetition, required, optional, repeated, Kind, Fields, no_fields, field, Shape, leaf, group, fields_of, repetition_count, definition_count, is_repeated}
+use Rattle.std.specs.Prelude.{ℕ, zero, suc, ◌+◌, List, [], ◌∷◌, ◌++◌, map, Bool, true, false, ◌&&◌, ◌==◌, if◌then◌else◌, bytes_eq, Option, Some, None,
+    option_map, option_and_then, Result, Ok, Err}
+use Rattle.dr_meaning.specs.Schema.{Repetition, required, optional, repeated, Kind, Fields, no_fields, field, Shape, leaf, group, fields_of,
+    repetition_count, definition_count, is_repeated}
 
 -- one field on a path: its place in its group, counted from 0, and its repetition
 pub record Step : Type 0 where
@@ -23,7 +25,8 @@ pub record Found : Type 0 where
 -- the field of this name in a group, whose first field has the place i
 abbrev pub named_field : List ℕ → ℕ → Fields → Option Found
 named_field n i no_fields = None
-named_field n i (field m r s fs) = if bytes_eq n m then Some (record { path = record { place = i; repetition = r } ∷ []; shape = s }) else named_field n (suc i) fs
+named_field n i (field m r s fs) = if bytes_eq n m then Some (record { path = record { place = i; repetition = r } ∷ []; shape = s })
+    else named_field n (suc i) fs
 
 abbrev pub found_below : Found → Found → Found
 found_below f g = record { path = f.path ++ g.path; shape = g.shape }
@@ -138,7 +141,8 @@ abbrev mutual
   pub is_leaf_path : Fields → List Step → Bool
   is_leaf_path no_fields p = false
   is_leaf_path (field n r s fs) [] = false
-  is_leaf_path (field n r s fs) (t ∷ p) = through t.place (same_repetition t.repetition r && is_shape_path s p) (λ i. is_leaf_path fs (record { place = i; repetition = t.repetition } ∷ p))
+  is_leaf_path (field n r s fs) (t ∷ p) = through t.place (same_repetition t.repetition r && is_shape_path s p)
+      (λ i. is_leaf_path fs (record { place = i; repetition = t.repetition } ∷ p))
 
   pub is_shape_path : Shape → List Step → Bool
   is_shape_path (leaf k) p = is_empty_path p

@@ -177,7 +177,8 @@ term_value (within a e node) row = over_rows a e (rows (expression_level e) row)
 -- the items of a level, in SELECT order, before the rest of the object
 abbrev pub with_cells : List RecordItem → List Step → Node → Object → Object
 with_cells [] p row rest = rest
-with_cells (i ∷ is) p row rest = if same_path p (term_level i.term) then cell i.name (term_value i.term row) (with_cells is p row rest) else with_cells is p row rest
+with_cells (i ∷ is) p row rest = if same_path p (term_level i.term) then cell i.name (term_value i.term row) (with_cells is p row rest)
+    else with_cells is p row rest
 
 -- whether the level at a path leads to items
 abbrev pub leads_to_items : List RecordItem → List Step → Bool

@@ -1,7 +1,9 @@
 -- Schema text: its tokens, the productions of its grammar, its canonical form, and the schema or the first fault of a text.
-use Rattle.std.specs.Prelude.{◌≡◌, ℕ, suc, ◌-◌, List, [], ◌∷◌, ◌++◌, map, length, Bool, true, ◌||◌, ◌==◌, nat_lt, nat_le, if◌then◌else◌, bytes_eq, codes, ◌⊎◌, Result, Ok, Err, Option, Some, None}
+use Rattle.std.specs.Prelude.{◌≡◌, ℕ, suc, ◌-◌, List, [], ◌∷◌, ◌++◌, map, length, Bool, true, ◌||◌, ◌==◌, nat_lt, nat_le, if◌then◌else◌, bytes_eq,
+    codes, ◌⊎◌, Result, Ok, Err, Option, Some, None}
 use Rattle.std.specs.List.{list_any}
-use Rattle.dr_meaning.specs.Schema.{Repetition, required, optional, repeated, Kind, bool_kind, int32_kind, int64_kind, text_kind, Fields, no_fields, field, Shape, leaf, group, Schema, field_names, begins_name, continues_name, is_nonempty, longest_name, greatest_depth, most_leaves}
+use Rattle.dr_meaning.specs.Schema.{Repetition, required, optional, repeated, Kind, bool_kind, int32_kind, int64_kind, text_kind, Fields, no_fields,
+    field, Shape, leaf, group, Schema, field_names, begins_name, continues_name, is_nonempty, longest_name, greatest_depth, most_leaves}
 
 -- ---- tokens: names, braces, semicolons; blanks are space, tab, CR and LF
 
@@ -79,11 +81,13 @@ abbrev mutual
   -- kind name ";", or "group" name "{" field { field } "}" [ ";" ]
   pub SpellsShape : Shape → List ℕ → List Token → Type 0
   SpellsShape (leaf k) n ts = ts ≡ name (kind_word k) ∷ name n ∷ semicolon ∷ []
-  SpellsShape (group fs) n ts = (a : List Token) × (b : List Token) × (ts ≡ name (codes "group") ∷ name n ∷ open_brace ∷ (a ++ close_brace ∷ b)) × SpellsFields fs a × (is_nonempty fs ≡ true) × IsOptionalSemicolon b
+  SpellsShape (group fs) n ts = (a : List Token) × (b : List Token) × (ts ≡ name (codes "group") ∷ name n ∷ open_brace ∷ (a ++ close_brace ∷ b))
+      × SpellsFields fs a × (is_nonempty fs ≡ true) × IsOptionalSemicolon b
 
 -- "message" name "{" field { field } "}"
 abbrev pub SpellsSchema : Schema → List Token → Type 0
-SpellsSchema s ts = (a : List Token) × (ts ≡ name (codes "message") ∷ name s.name ∷ open_brace ∷ (a ++ close_brace ∷ [])) × SpellsFields s.fields a × (is_nonempty s.fields ≡ true)
+SpellsSchema s ts = (a : List Token) × (ts ≡ name (codes "message") ∷ name s.name ∷ open_brace ∷ (a ++ close_brace ∷ [])) × SpellsFields s.fields a
+    × (is_nonempty s.fields ≡ true)
 
 -- ---- the canonical text: tokens separated by one space, but none before `;`; no `;` after a group; ended by LF
 
@@ -202,7 +206,8 @@ begin_group r n m = Ok (record m { expected = first_field; fields = no_fields; g
 -- the innermost group ends, and joins the one that holds it; where none is open, the message ends
 abbrev pub end_group : Reading → List OpenGroup → Result Reading SchemaProblem
 end_group m [] = Ok (record m { expected = text_end })
-end_group m (g ∷ gs) = Ok (record m { expected = after_group; fields = append_fields g.before (field g.name g.repetition (group m.fields) no_fields); groups = gs })
+end_group m (g ∷ gs) = Ok (record m { expected = after_group; fields = append_fields g.before (field g.name g.repetition (group m.fields) no_fields);
+    groups = gs })
 
 -- which of these has this word
 abbrev pub with_word_of : {A : Type 0} → (A → List ℕ) → List A → List ℕ → Option A

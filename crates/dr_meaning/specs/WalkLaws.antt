@@ -16,4 +16,5 @@ triplets_of i (leave k ∷ ms) = triplets_of i ms
 
 -- the walk of records gives of each selected leaf its column, in order
 abbrev pub WalkGivesColumns : Type 0
-WalkGivesColumns = (fs : Fields) (F : List (List Step)) (i : ℕ) (p : List Step) (R : List Node) → slice_get F i ≡ Some p → is_leaf_path fs p ≡ true → list_all (is_record fs) R ≡ true → triplets_of i (walk fs F R) ≡ column p R
+WalkGivesColumns = (fs : Fields) (F : List (List Step)) (i : ℕ) (p : List Step) (R : List Node) → slice_get F i ≡ Some p → is_leaf_path fs p ≡ true
+    → list_all (is_record fs) R ≡ true → triplets_of i (walk fs F R) ≡ column p R
