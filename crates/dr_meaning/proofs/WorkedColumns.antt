@@ -3,7 +3,7 @@ use Rattle.std.specs.Prelude.{◌≡◌, ℕ, List, [], ◌∷◌, map, Bool, tr
 use Rattle.std.specs.Str.{is_utf8, chars}
 use Rattle.dr_meaning.specs.Schema.{int64_kind, text_kind}
 use Rattle.dr_meaning.specs.Path.{Leaf}
-use Rattle.dr_meaning.specs.OneColumn.{is_column, level_inside}
+use Rattle.dr_meaning.specs.OneColumn.{starts, begins_record, is_column, level_inside}
 use Rattle.dr_meaning.specs.Record.{Value, int_value, text_value}
 use Rattle.dr_meaning.specs.Column.{triplet, column, record_column}
 use Rattle.dr_meaning.proofs.WorkedRecords.{record_10, record_20, record_30}
@@ -89,3 +89,7 @@ lists = (refl, refl, refl, refl)
 -- the definition level in an instance of each repeated field of a path
 pub levels_inside : (map (level_inside country) (0 ∷ 1 ∷ []) ≡ 1 ∷ 2 ∷ []) × (level_inside backward 0 ≡ 2)
 levels_inside = (refl, refl)
+
+-- how many triplets begin a record, and whether the first does
+pub record_starts : (starts (triplet 0 1 None ∷ triplet 1 2 (number 5) ∷ triplet 0 1 None ∷ []) ≡ 2) × (map begins_record ([] ∷ (triplet 0 1 None ∷ []) ∷ (triplet 1 1 None ∷ triplet 0 1 None ∷ []) ∷ []) ≡ true ∷ true ∷ false ∷ [])
+record_starts = (refl, refl)

@@ -2,6 +2,8 @@
 use Rattle.std.specs.Prelude.{◌≡◌, ℕ, ◌+◌, ◌-◌, ◌^◌, List, [], ◌∷◌, ◌++◌, map, length, Bool, true, false, ℤ, pos, neg_ℤ, Result, Ok, Err, codes, refl}
 use Rattle.std.specs.Str.{is_utf8, chars}
 use Rattle.std.specs.Fmt.{digits}
+use Rattle.json.specs.Print.{escape_byte}
+use Rattle.dr_meaning.specs.Print.{value_text, record_text}
 use Rattle.serde_json.proofs.OnLiterals.{serde_json_on_literals}
 use Rattle.dr_meaning.specs.Schema.{Kind, bool_kind, int32_kind, int64_kind, text_kind, Fields, no_fields, field, Shape, leaf, group, required, optional, repeated, longest_name, greatest_depth, most_leaves, leaf_count, depth, repeated_fields}
 use Rattle.dr_meaning.specs.SchemaText.{too_long, float_kind, empty_group, syntax, bad_name, duplicate_name, too_deep, too_many_leaves, longest_schema}
@@ -132,3 +134,23 @@ pub refusal_lines : (schema_refusal_text (record { place = 1048576; problem = to
     × (line_refusal_text (record { line = 12; fault = line_too_long }) ≡ codes "refused line 12: LineTooLong\n")
 unfolding digits
 refusal_lines = (refl, refl, refl)
+
+-- ---- truth values
+
+-- as they are printed, in a record and by themselves; they are no text
+abbrev truths : Node
+truths = row (single (atom (bool_value true))) (single (atom (int_value (pos 0)))) no_instances no_instances (single (inner (slot (single (atom (int_value (below 1)))) no_slots)))
+
+pub truths_as_text : (map value_text (bool_value true ∷ bool_value false ∷ int_value (below 5) ∷ text_value (codes "a\"b") ∷ []) ≡ codes "true" ∷ codes "false" ∷ codes "-5" ∷ codes "\"a\\\"b\"" ∷ [])
+    × (record_text each_kind truths ≡ codes "{\"b\":true,\"i\":0,\"g\":[{\"x\":-1}]}\n") × (text_bytes truths ≡ 0) × (instance_count truths ≡ 4)
+unfolding record_text escape_byte digits
+truths_as_text = (refl, refl, refl, refl)
+
+-- a node in the place of a value; a gap, and a slot, behind the last field; an empty group has no depth
+pub other_nodes : map (is_record each_kind) (row (single (inner no_slots)) no_instances no_instances no_instances no_instances ∷ slot no_instances (slot no_instances (slot no_instances (slot no_instances (slot no_instances (gap no_slots)))))
+    ∷ slot no_instances (slot no_instances (slot no_instances (slot no_instances (slot no_instances (slot no_instances no_slots))))) ∷ truths ∷ [])
+    ≡ false ∷ false ∷ false ∷ true ∷ []
+other_nodes = refl
+
+pub no_fields_size : (depth no_fields ≡ 0) × (leaf_count no_fields ≡ 0) × (repeated_fields no_fields ≡ 0)
+no_fields_size = (refl, refl, refl)

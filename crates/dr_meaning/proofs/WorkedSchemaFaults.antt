@@ -2,7 +2,7 @@
 use Rattle.std.specs.Prelude.{◌≡◌, ℕ, zero, suc, List, [], ◌∷◌, ◌++◌, map, length, replicate, Bool, true, false, Result, Ok, Err, codes, refl}
 use Rattle.std.specs.List.{flat_map}
 use Rattle.dr_meaning.specs.Schema.{Fields, no_fields, field, leaf, group, Schema, required, optional, repeated, bool_kind, int32_kind, int64_kind, text_kind, begins_name, continues_name, is_name, is_short_name, is_schema}
-use Rattle.dr_meaning.specs.SchemaText.{SchemaProblem, SchemaFault, parse_schema, schema_text, too_long, syntax, float_kind, empty_group, bad_name, duplicate_name, too_deep, too_many_leaves}
+use Rattle.dr_meaning.specs.SchemaText.{SchemaProblem, SchemaFault, parse_schema, read_tokens, tokens_of, reading_start, schema_text, too_long, syntax, float_kind, empty_group, bad_name, duplicate_name, too_deep, too_many_leaves}
 
 abbrev fault : ℕ → SchemaProblem → Result Schema SchemaFault
 fault i p = Err (record { place = i; problem = p })
@@ -166,6 +166,16 @@ one_leaf_more = refl
 pub too_long_first : (text : List ℕ) → length text ≡ 1048577 → parse_schema text ≡ fault 1048576 too_long
 unfolding parse_schema
 too_long_first text e = rw e refl
+
+-- 1,048,576 bytes are read
+pub longest_text : (text : List ℕ) → length text ≡ 1048576 → parse_schema text ≡ read_tokens 1048576 (tokens_of text) reading_start
+unfolding parse_schema
+longest_text text e = rw e refl
+
+-- a byte that is no brace doesn't stand for one
+pub no_braces : map parse_schema (codes "message T ! required int64 a; }" ∷ codes "message T { required int64 a: }" ∷ codes "message T { required int64 a; |" ∷ codes "message T z required int64 a; }" ∷ []) ≡ fault 10 syntax ∷ fault 28 syntax ∷ fault 30 syntax ∷ fault 10 syntax ∷ []
+unfolding parse_schema
+no_braces = refl
 
 -- ---- what is accepted
 

@@ -56,8 +56,8 @@ pub longest_signs : map tokens (codes "<>=" ∷ codes "<" ∷ codes ">" ∷ code
 longest_signs = refl
 
 -- what begins no token is bad, a byte each
-pub strange_bytes : tokens (codes "!#" ++ 195 ∷ 169 ∷ []) ≡ bad ∷ bad ∷ bad ∷ bad ∷ []
-strange_bytes = refl
+pub strange_bytes : (tokens (codes "!#" ++ 195 ∷ 169 ∷ []) ≡ bad ∷ bad ∷ bad ∷ bad ∷ []) × (tokens (codes "/:@[`{") ≡ bad ∷ bad ∷ bad ∷ bad ∷ bad ∷ bad ∷ []) × (tokens (codes "1/2:3") ≡ number 1 ∷ bad ∷ number 2 ∷ bad ∷ number 3 ∷ [])
+strange_bytes = (refl, refl, refl)
 
 -- ---- places
 

@@ -1,13 +1,14 @@
 -- The walk of records and the moves that nest, by computation.
 use Rattle.std.specs.Prelude.{◌≡◌, ℕ, List, [], ◌∷◌, map, pos, Option, Some, None, codes, refl}
 use Rattle.std.specs.Str.{is_utf8, chars}
+use Rattle.dr_meaning.specs.Schema.{no_fields, field, leaf, group, required, optional, repeated, int64_kind, text_kind}
 use Rattle.dr_meaning.specs.Path.{Leaf, leaves}
 use Rattle.dr_meaning.specs.Record.{Value, int_value, text_value, Node, no_slots, slot, no_instances}
 use Rattle.dr_meaning.specs.Column.{triplet}
 use Rattle.dr_meaning.specs.Walk.{Move, enter, value, leave, walk, Open, no_record, in_record, open_after, repeated_paths}
 use Rattle.dr_meaning.proofs.WorkedSchemas.{document}
 use Rattle.dr_meaning.proofs.WorkedRecords.{record_10, record_20, record_30, numbers, language_node, name_node, document_node}
-use Rattle.dr_meaning.proofs.WorkedPaths.{doc_id, backward, forward, name, language_level, code, url, country}
+use Rattle.dr_meaning.proofs.WorkedPaths.{step, doc_id, backward, forward, name, language_level, code, url, country}
 use Rattle.dr_meaning.proofs.WorkedAutomaton.{chosen}
 
 abbrev word : List ℕ → Option Value
@@ -139,3 +140,10 @@ leaves_nest = (refl, refl, refl)
 pub other_kinds : after (in_record []) (value 0 (triplet 0 0 (word (codes "x"))) ∷ value 3 (triplet 0 2 (number 1)) ∷ value 3 (triplet 0 2 (word (codes "x"))) ∷ []) ≡ None ∷ None ∷ Some (in_record []) ∷ []
 unfolding is_utf8 chars lib.Utf8.encode
 other_kinds = refl
+
+-- ---- numbers of repeated fields
+
+-- depth first, through groups of each repetition
+pub through_groups : repeated_paths (field (codes "a") required (group (field (codes "b") repeated (leaf int64_kind) no_fields)) (field (codes "c") repeated (group (field (codes "d") optional (group (field (codes "e") repeated (leaf text_kind) no_fields)) no_fields)) no_fields)) ≡
+    (step 0 required ∷ step 0 repeated ∷ []) ∷ (step 1 repeated ∷ []) ∷ (step 1 repeated ∷ step 0 optional ∷ step 0 repeated ∷ []) ∷ []
+through_groups = refl
