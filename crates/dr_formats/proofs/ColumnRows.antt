@@ -1,15 +1,9 @@
 -- The paths of a schema's leaves are leaf paths, and a column of records has one start for each record.
 pub use Rattle.dr_meaning.proofs.ColumnStarts.{starts_append, column_rows}
-use Rattle.std.proofs.Common.{◌≡◌, ℕ, suc, ◌+◌, List, [], ◌∷◌, ◌++◌, map, length, true, false, refl, sym, ap, ◌∙◌, subst, arith}
-use Rattle.std.specs.Prelude.{◌==◌}
-use Rattle.std.specs.List.{list_all}
-use Rattle.std.proofs.lemmas.Bool.{and_parts, and_from, eq-eqb, ne_eqb}
+use Rattle.std.proofs.Common.{◌≡◌, ℕ, suc, ◌+◌, List, [], ◌∷◌, map, true, refl, sym, ap, ◌∙◌, subst, arith}
+use Rattle.std.proofs.lemmas.Bool.{and_from}
 use Rattle.dr_meaning.specs.Schema.{Repetition, required, optional, repeated, Fields, no_fields, field, Shape, leaf, group}
 use Rattle.dr_meaning.specs.Path.{Step, Leaf, leaf_below, leaves_from, shape_leaves, leaves, is_leaf_path, is_shape_path, same_repetition}
-use Rattle.dr_meaning.specs.Record.{Node, is_record, inner}
-use Rattle.dr_meaning.specs.Column.{Triplet, record_column, column}
-use Rattle.dr_meaning.proofs.Blocks.{IsAbove, IsBlock, block-instance}
-use Rattle.dr_formats.specs.File.{starts, begins_record}
 use Rattle.dr_formats.proofs.ColumnsFit.{EachLeaf, each_append}
 
 -- ---- the paths of leaves

@@ -1,6 +1,6 @@
 -- The file that is written for records is a file of these records.
 use Rattle.std.proofs.Common.{◌≡◌, ℕ, zero, suc, ◌+◌, ◌^◌, ◌≤◌, ◌<◌, List, [], ◌∷◌, ◌++◌, map, length, take, drop, true, ◌&&◌, refl, sym, ap, ap₂, ◌∙◌, subst, arith, pos, Some, None, append_assoc, append-nil}
-use Rattle.std.specs.Prelude.{nat_lt, nat_le, ◌==◌, Ok}
+use Rattle.std.specs.Prelude.{nat_lt, nat_le, ◌==◌}
 use Rattle.std.specs.List.{list_all}
 use Rattle.std.proofs.lemmas.Bool.{and_parts, and_from, le-leb, leb-true, ltb-true, eq-eqb}
 use Rattle.std.proofs.lemmas.List.{length-append, length-map}
@@ -12,7 +12,7 @@ use Rattle.dr_meaning.specs.Column.{Triplet, record_column, column}
 use Rattle.dr_formats.specs.LittleEndian.{little_endian_bytes}
 use Rattle.dr_formats.specs.Compact.{is_tree}
 use Rattle.dr_formats.specs.Metadata.{ColumnMeta, ColumnChunk, RowGroup, file_tree}
-use Rattle.dr_formats.specs.FileSchema.{open_schema, FileSchema, file_leaves, place_of}
+use Rattle.dr_formats.specs.FileSchema.{FileSchema, file_leaves, place_of}
 use Rattle.dr_formats.specs.Page.{is_triplet}
 use Rattle.dr_formats.specs.Chunk.{pages_triplets, chunk_bytes}
 use Rattle.dr_formats.specs.File.{schema_or_cause, Footer, footer_of, is_found, leaf_place, has_leaves, nth_chunk, leaf_chunk, is_uncompressed, are_uncompressed, total, most_rows, most_triplets, rows_agree, chunk_values, values_fit, starts, of_rows, group_column, file_column, AreColumns, magic, is_whole_group, has_no_path}

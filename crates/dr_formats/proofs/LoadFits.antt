@@ -1,12 +1,12 @@
 -- Records within the limits of a line, and not more than a tablet may have, fit one file: how many bytes each part of the file takes at most.
-use Rattle.std.proofs.Common.{◌≡◌, ◌≤◌, ◌<◌, ℕ, zero, suc, ◌+◌, ◌*◌, ◌/◌, ◌%◌, ◌^◌, max, List, [], ◌∷◌, ◌++◌, map, length, Bool, true, false, ◌&&◌, ◌||◌, Option, Some, None, ℤ, pos, negsuc, refl, sym, ap, ◌∙◌, subst, true≢false, arith}
+use Rattle.std.proofs.Common.{◌≡◌, ◌≤◌, ◌<◌, ℕ, zero, suc, ◌+◌, ◌*◌, ◌/◌, ◌%◌, ◌^◌, List, [], ◌∷◌, ◌++◌, map, length, Bool, true, false, Option, Some, None, ℤ, pos, negsuc, refl, sym, ap, ◌∙◌, arith}
 use Rattle.std.specs.Prelude.{nat_le, nat_lt, if◌then◌else◌, ◌-ℤ◌}
 use Rattle.std.specs.List.{list_all}
 use Rattle.std.proofs.lemmas.Bool.{and_parts, and_from, leb-true, leb-false, le-leb, lt-ltb, or_parts}
-use Rattle.std.proofs.lemmas.List.{length-append, length-map}
-use Rattle.dr_meaning.specs.Schema.{Repetition, required, optional, repeated, Kind, bool_kind, int32_kind, int64_kind, text_kind, Fields, no_fields, field, Shape, leaf, group, Schema, is_name, is_short_name, longest_name, is_group, is_shape, is_nonempty, is_schema}
+use Rattle.std.proofs.lemmas.List.{length-append}
+use Rattle.dr_meaning.specs.Schema.{Repetition, Kind, bool_kind, int32_kind, int64_kind, text_kind, Fields, no_fields, field, Shape, leaf, group, Schema, is_name, is_short_name, longest_name, is_group, is_shape, is_nonempty}
 use Rattle.dr_meaning.specs.Path.{Step, Leaf, leaf_below, leaves_from, shape_leaves, leaves, max_repetition, max_definition}
-use Rattle.dr_meaning.specs.Record.{Value, bool_value, int_value, text_value, text_length, Node, is_record, instance_count, text_bytes}
+use Rattle.dr_meaning.specs.Record.{Value, bool_value, int_value, text_value, text_length, Node, instance_count, text_bytes}
 use Rattle.dr_meaning.specs.Column.{Triplet, record_column}
 use Rattle.dr_meaning.proofs.SchemaReadsBack.{FirstField, first_of_group}
 use Rattle.dr_meaning.proofs.ColumnSize.{column_is_short, text_of, texts_of, texts_append, record_texts}
@@ -16,10 +16,10 @@ use Rattle.dr_formats.specs.Compact.{ThriftType, Struct, stop, struct_field, Ite
 use Rattle.dr_formats.specs.Hybrid.{hybrid_bytes}
 use Rattle.dr_formats.specs.Plain.{complement, bit_of, plain_number_bytes, plain_text_bytes, joined, plain_bytes}
 use Rattle.dr_formats.specs.Page.{level_width, level_bytes, with_value, column_values, body_bytes}
-use Rattle.dr_formats.specs.Metadata.{SchemaElement, ColumnChunk, RowGroup, FileMeta, items_of, element_tree, chunk_tree, group_tree, file_tree, page_tree}
+use Rattle.dr_formats.specs.Metadata.{SchemaElement, items_of, element_tree, chunk_tree, group_tree, file_tree, page_tree}
 use Rattle.dr_formats.specs.Writing.{is_full, last_page, closed_page, open_page, cut_pages, header_of_page, page_bytes, pages_bytes, record_columns, written_chunk, triplet_count, chunk_at, chunks_from, repetition_number, leaf_element, group_element, elements, shape_elements, schema_elements, groups_of, written_chunks, written_meta, written_footer, framed, file_bytes}
 use Rattle.dr_formats.specs.File.{magic}
-use Rattle.dr_formats.specs.WritingLaws.{all_triplets, nth_leaf, FitHeaders, LeavesFit, FitsFile, is_limited, LimitedRecordsFit}
+use Rattle.dr_formats.specs.WritingLaws.{all_triplets, nth_leaf, FitHeaders, LeavesFit, is_limited, LimitedRecordsFit}
 use Rattle.dr_formats.proofs.LittleEndianLemmas.{length_little_endian}
 use Rattle.dr_formats.proofs.HybridLemmas.{hybrid_short}
 use Rattle.dr_formats.proofs.PageLemmas.{width_small}

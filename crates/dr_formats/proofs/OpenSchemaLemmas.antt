@@ -1,12 +1,12 @@
 -- The open part of a file's schema is a schema, and of a schema that was written it is the schema itself.
-use Rattle.std.proofs.Common.{◌≡◌, ◌≤◌, ℕ, zero, suc, ◌+◌, ◌-◌, max, List, [], ◌∷◌, map, Bool, true, false, not, ◌&&◌, Some, None, refl, sym, ap, ap₂, ◌∙◌, subst, true≢false, arith}
-use Rattle.std.specs.Prelude.{if◌then◌else◌, bytes_eq, nat_le, Option, ℤ, codes}
+use Rattle.std.proofs.Common.{◌≡◌, ◌≤◌, ℕ, zero, suc, ◌+◌, ◌-◌, List, [], ◌∷◌, Bool, true, false, not, ◌&&◌, Some, None, refl, sym, ap, ◌∙◌, subst, true≢false, arith}
+use Rattle.std.specs.Prelude.{if◌then◌else◌, bytes_eq, nat_le, Option, codes}
 use Rattle.std.specs.List.{list_any}
 use Rattle.std.proofs.lemmas.Bool.{and_parts, and_from, leb-true, le-leb, not-true, not_from_false, or_parts, or_from}
 use Rattle.dr_meaning.specs.Schema.{Repetition, Kind, Fields, no_fields, field, Shape, leaf, group, Schema, field_names, is_short_name, is_group, is_shape, is_nonempty, is_schema, depth, shape_depth, leaf_count, shape_leaf_count, greatest_depth, most_leaves}
 use Rattle.dr_meaning.proofs.SchemaReadsBack.{FirstField, first_of_group, other_way}
 use Rattle.dr_meaning.proofs.Blocks.{and₃_parts}
-use Rattle.dr_formats.specs.FileSchema.{FileFields, no_file_fields, file_field, FileShape, file_leaf, file_group, FileSchema, open_kind, is_open_name, OpenFields, OpenShape, open_leaf, group_unless_empty, open_group, closed_shape, put_field, put_shape, put_open, open_fields, open_below, open_name, schema_unless_empty, open_schema}
+use Rattle.dr_formats.specs.FileSchema.{FileFields, no_file_fields, file_field, FileShape, file_leaf, file_group, open_kind, is_open_name, OpenFields, OpenShape, open_leaf, group_unless_empty, closed_shape, put_shape, put_open, open_fields, open_below, open_name, schema_unless_empty, open_schema}
 use Rattle.dr_formats.specs.OpenSchemaLaws.{OpenPartIsSchema}
 use Rattle.dr_formats.proofs.SchemaBack.{file_fields_of, file_shape_of, Fresh, fresh_more, fresh_at_first, open_if, kind_back}
 
@@ -32,10 +32,10 @@ not_again m earlier (field n r s fs) h = or_from _ _ (other_way n m (or_parts _ 
 put_good : (earlier : List (List ℕ)) (d n left : ℕ) (m : List ℕ) (r : Repetition) (o : Option Shape) (f : OpenFields) → (is_short_name m ≡ true) × (list_any (bytes_eq m) earlier ≡ false) → ShapeGood d n o left → FieldsGood (m ∷ earlier) d left f → FieldsGood earlier d n (put_shape m r o f)
 put_good earlier d n left m r None f k h g = (g.0, fresh_less m earlier f.fields g.1, g.2, omega (arith, g.3, h))
 put_good earlier d n left m r (Some s) f k h g = (
-    and_from _ _ (and_from _ _ (and_from _ _ k.0 (not_from_false _ (not_again m earlier f.fields g.1))) h.0) g.0,
-    (k.1, fresh_less m earlier f.fields g.1),
-    omega (arith, h.1, g.2),
-    omega (arith, h.2, g.3),
+  and_from _ _ (and_from _ _ (and_from _ _ k.0 (not_from_false _ (not_again m earlier f.fields g.1))) h.0) g.0,
+  (k.1, fresh_less m earlier f.fields g.1),
+  omega (arith, h.1, g.2),
+  omega (arith, h.2, g.3),
 )
 
 closed_good : (earlier : List (List ℕ)) (d n : ℕ) (m : List ℕ) (r : Repetition) (f : OpenFields) → FieldsGood (m ∷ earlier) d n f → FieldsGood earlier d n (put_shape m r None f)

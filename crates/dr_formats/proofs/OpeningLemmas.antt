@@ -1,19 +1,19 @@
 -- Causes at opening and of one leaf alone; ranges that lie in the file.
-use Rattle.std.proofs.Common.{◌≡◌, ◌⊎◌, inl, inr, ◌≤◌, ℕ, ◌+◌, ◌-◌, List, [], ◌∷◌, ◌++◌, map, length, take, drop, Bool, true, false, ◌&&◌, refl, sym, ap, ◌∙◌, subst, Option, Some, None, true≢false, arith}
-use Rattle.std.specs.Prelude.{if◌then◌else◌, ◌↔◌, nat_le, bytes_eq, option_and_then}
+use Rattle.std.proofs.Common.{◌≡◌, ◌≤◌, ℕ, ◌+◌, ◌-◌, List, [], ◌∷◌, ◌++◌, length, take, drop, Bool, true, false, ◌&&◌, refl, sym, ap, ◌∙◌, subst, Option, Some, None, true≢false, arith}
+use Rattle.std.specs.Prelude.{if◌then◌else◌, nat_le, bytes_eq, option_and_then}
 use Rattle.std.specs.List.{list_all, flat_map, slice_get}
 use Rattle.std.proofs.lemmas.Bool.{and_parts, and_from, leb-true, le-leb}
 use Rattle.dr_meaning.specs.Schema.{Schema}
 use Rattle.dr_meaning.specs.Path.{Leaf, leaves}
-use Rattle.dr_meaning.specs.Record.{Node, is_record}
+use Rattle.dr_meaning.specs.Record.{Node}
 use Rattle.dr_meaning.specs.Column.{Triplet, column}
 use Rattle.dr_meaning.specs.OneColumn.{is_column, HaveColumn}
 use Rattle.dr_meaning.proofs.OneColumnLemmas.{columns_recognized}
 use Rattle.dr_formats.specs.Metadata.{ColumnMeta, RowGroup, FileMeta}
 use Rattle.dr_formats.specs.FileSchema.{FileSchema, file_schema, file_leaves}
 use Rattle.dr_formats.specs.Chunk.{chunk_start}
-use Rattle.dr_formats.specs.File.{magic, Footer, footer_of, footer_length, footer_place, is_framed, footer_meta, with_schema, is_whole_group, leaf_chunk, has_leaves, are_uncompressed, rows_agree, values_fit, file_column, AreColumns, IsDataOf, IsFileOf, FileCause, bad_footer, bad_schema, bad_codec, bad_data, HasCause, cause_by}
-use Rattle.dr_formats.specs.Opening.{has_numbers, opening_cause, has_column, has_leaf_column, leaf_cause, Range, range, end_ranges, footer_ranges, chunk_range, leaf_ranges, chunk_ranges, reader_ranges, is_in_file, OpeningCauseHolds, LeafCauseIsExact, NoLeafCauseIsFile, NoFileHasCause, RangesAreInFile}
+use Rattle.dr_formats.specs.File.{magic, Footer, footer_of, footer_length, footer_place, is_framed, footer_meta, with_schema, is_whole_group, leaf_chunk, has_leaves, are_uncompressed, rows_agree, values_fit, file_column, IsDataOf, IsFileOf, FileCause, bad_footer, bad_schema, bad_codec, bad_data, HasCause, cause_by}
+use Rattle.dr_formats.specs.Opening.{has_numbers, has_column, has_leaf_column, leaf_cause, Range, range, end_ranges, footer_ranges, chunk_range, leaf_ranges, chunk_ranges, is_in_file, OpeningCauseHolds, LeafCauseIsExact, NoLeafCauseIsFile, NoFileHasCause, RangesAreInFile}
 
 -- ---- causes by a test of data
 

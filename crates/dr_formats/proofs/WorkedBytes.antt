@@ -1,15 +1,14 @@
 -- Numbers, structs, hybrid data and values as bytes, by computation: vectors of the public standards, byte for byte.
-use Rattle.std.specs.Prelude.{◌≡◌, ℕ, ◌+◌, ◌-◌, ◌*◌, ◌^◌, List, [], ◌∷◌, ◌++◌, map, replicate, Bool, true, false, ℤ, pos, neg_ℤ, Option, Some, None, codes, refl}
+use Rattle.std.specs.Prelude.{◌≡◌, ℕ, ◌-◌, ◌^◌, List, [], ◌∷◌, ◌++◌, map, replicate, Bool, true, false, ℤ, pos, neg_ℤ, Some, None, codes, refl}
 use Rattle.std.specs.Str.{is_utf8, chars}
 use Rattle.dr_meaning.specs.Schema.{bool_kind, int32_kind, int64_kind, text_kind}
 use Rattle.dr_meaning.specs.Record.{Value, bool_value, int_value, text_value}
 use Rattle.dr_formats.specs.Reading.{Reading, got, refused}
 use Rattle.dr_formats.specs.Varint.{VarintFault, varint_short, varint_too_long, read_varint, varint_bytes, zigzag, from_zigzag}
-use Rattle.dr_formats.specs.Compact.{ThriftType, true_type, false_type, byte_type, i16_type, i32_type, i64_type, double_type, binary_type, list_type, set_type, map_type, struct_type, type_number, type_of, Struct, stop, struct_field, Item, truth_item, byte_item, i16_item, i32_item, i64_item, double_item, binary_item, list_item, set_item, empty_map_item, map_item, struct_item, Items, no_items, item, Pairs, no_pairs, pair, read_struct, struct_bytes, struct_fault, malformed, too_deep, is_tree}
-use Rattle.dr_formats.specs.LittleEndian.{little_endian, little_endian_bytes, bytes_for}
+use Rattle.dr_formats.specs.Compact.{true_type, false_type, byte_type, i16_type, i32_type, i64_type, double_type, binary_type, list_type, set_type, map_type, struct_type, type_number, type_of, Struct, stop, struct_field, truth_item, byte_item, i16_item, i32_item, i64_item, double_item, binary_item, list_item, set_item, empty_map_item, map_item, struct_item, no_items, item, no_pairs, pair, read_struct, struct_bytes, struct_fault, malformed}
 use Rattle.dr_formats.specs.Hybrid.{hybrid, hybrid_bytes}
-use Rattle.dr_formats.specs.Plain.{from_complement, complement, plain, plain_values, plain_bytes, dictionary_values, too_short, bad_text, is_writable}
-use Rattle.dr_formats.specs.Page.{level_width, levels, bad_page}
+use Rattle.dr_formats.specs.Plain.{from_complement, complement, plain, plain_values, plain_bytes, dictionary_values, too_short, bad_text}
+use Rattle.dr_formats.specs.Page.{level_width, levels}
 use Rattle.dr_formats.proofs.Hexadecimal.{hex}
 
 abbrev z : ℕ → ℤ

@@ -5,7 +5,7 @@ use Rattle.dr_meaning.specs.Record.{Node, no_slots, slot, single, atom, int_valu
 use Rattle.dr_formats.specs.Compact.{read_struct}
 use Rattle.dr_formats.specs.Hybrid.{hybrid}
 use Rattle.dr_formats.specs.Page.{page_triplets}
-use Rattle.dr_formats.specs.File.{FileCause, bad_footer, bad_schema, bad_data, HasCause, IsFileOf, footer_of}
+use Rattle.dr_formats.specs.File.{bad_footer, bad_schema, bad_data, IsFileOf, footer_of}
 use Rattle.dr_formats.proofs.FileLemmas.{known_cause_holds}
 use Rattle.dr_formats.proofs.Hexadecimal.{hex}
 use Rattle.dr_formats.proofs.WorkedFiles.{one_schema}

@@ -1,8 +1,8 @@
 -- The structs of the metadata, by computation: each with a number of its own in each field; each needed field away, and out of range.
 use Rattle.std.specs.Prelude.{◌≡◌, ℕ, List, [], ◌∷◌, map, Bool, true, false, ℤ, pos, neg_ℤ, int_le, ◌&&◌, if◌then◌else◌, Option, Some, None, Result, Ok, Err, codes, refl}
 use Rattle.dr_formats.specs.Reading.{Reading, got, refused}
-use Rattle.dr_formats.specs.Compact.{CompactFault, Struct, stop, struct_field, Item, i32_item, i64_item, binary_item, list_item, struct_item, truth_item, i32_type, i64_type, binary_type, struct_type, no_items, item, read_struct}
-use Rattle.dr_formats.specs.Metadata.{MetaFault, missing, out_of_range, SchemaElement, view_element, ColumnMeta, view_column_meta, ColumnChunk, view_chunk, RowGroup, view_group, FileMeta, view_file, DataPageHeader, view_data_header, DictionaryPageHeader, view_dictionary_header, DataPageHeaderV2, view_data_header_v2, PageHeader, view_page}
+use Rattle.dr_formats.specs.Compact.{CompactFault, Struct, stop, struct_field, Item, i32_item, i64_item, binary_item, list_item, struct_item, truth_item, i64_type, struct_type, no_items, item, read_struct}
+use Rattle.dr_formats.specs.Metadata.{MetaFault, missing, out_of_range, view_element, view_column_meta, view_chunk, view_group, view_file, view_data_header, view_dictionary_header, view_data_header_v2, view_page}
 use Rattle.dr_formats.proofs.Hexadecimal.{hex}
 
 -- what the struct in these bytes is viewed as
@@ -36,21 +36,55 @@ unfolding read_struct
 schema_element = refl
 
 -- ColumnChunk 1 to 3 and in it ColumnMetaData 1 to 7, 9, 11; those that aren't needed may be negative
-pub column_chunk : viewed view_chunk (hex (codes "18017016031C1502192504031928016101621507160A160B160E190C1612161416151C00001608150A00")) ≡ Some (Ok (record { file_path = Some (codes "p"); file_offset = Some (z 2); meta = record {
-  type = pos 1; encodings = Some (pos 2 ∷ z 2 ∷ []); path = Some (codes "a" ∷ codes "b" ∷ []); codec = z 4; values = 5; uncompressed_size = Some (z 6); compressed_size = 7; data_page_offset = 9; dictionary_page_offset = Some (z 11) } }))
+pub column_chunk : viewed view_chunk (hex (codes "18017016031C1502192504031928016101621507160A160B160E190C1612161416151C00001608150A00")) ≡ Some (Ok (record {
+  file_path = Some (codes "p");
+  file_offset = Some (z 2);
+  meta = record {
+    type = pos 1;
+    encodings = Some (pos 2 ∷ z 2 ∷ []);
+    path = Some (codes "a" ∷ codes "b" ∷ []);
+    codec = z 4;
+    values = 5;
+    uncompressed_size = Some (z 6);
+    compressed_size = 7;
+    data_page_offset = 9;
+    dictionary_page_offset = Some (z 11);
+  };
+}))
 unfolding read_struct
 column_chunk = refl
 
 -- RowGroup 1 to 3
-pub row_group : viewed view_group (hex (codes "191C3C15023508160A260E2612000016031606190C160A00")) ≡ Some (Ok (record { columns = record { file_path = None; file_offset = None; meta = record {
-  type = pos 1; encodings = None; path = None; codec = pos 4; values = 5; uncompressed_size = None; compressed_size = 7; data_page_offset = 9; dictionary_page_offset = None } } ∷ []; total_byte_size = Some (z 2); rows = 3 }))
+pub row_group : viewed view_group (hex (codes "191C3C15023508160A260E2612000016031606190C160A00")) ≡ Some (Ok (record {
+  columns = record {
+    file_path = None;
+    file_offset = None;
+    meta = record {
+      type = pos 1;
+      encodings = None;
+      path = None;
+      codec = pos 4;
+      values = 5;
+      uncompressed_size = None;
+      compressed_size = 7;
+      data_page_offset = 9;
+      dictionary_page_offset = None;
+    };
+  } ∷ [];
+  total_byte_size = Some (z 2);
+  rows = 3;
+}))
 unfolding read_struct
 row_group = refl
 
 -- FileMetaData 1 to 4 and 6
 pub file_metadata : viewed view_file (hex (codes "1502191C4801721500001606191C190C260600190C180177190C00")) ≡ Some (Ok (record {
-  version = Some (pos 1); schema = record { type = None; type_length = None; repetition = None; name = codes "r"; children = Some (pos 0); converted = None } ∷ []; rows = 3;
-  groups = record { columns = []; total_byte_size = None; rows = 3 } ∷ []; created_by = Some (codes "w") }))
+  version = Some (pos 1);
+  schema = record { type = None; type_length = None; repetition = None; name = codes "r"; children = Some (pos 0); converted = None } ∷ [];
+  rows = 3;
+  groups = record { columns = []; total_byte_size = None; rows = 3 } ∷ [];
+  created_by = Some (codes "w");
+}))
 unfolding read_struct
 file_metadata = refl
 

@@ -1,9 +1,9 @@
 -- Which leaves of a file are open, and the schema of these, by computation.
 use Rattle.std.specs.Prelude.{◌≡◌, ℕ, zero, suc, List, [], ◌∷◌, map, replicate, ℤ, pos, neg_ℤ, Option, Some, None, codes, refl}
 use Rattle.dr_meaning.specs.Schema.{Repetition, required, optional, repeated, Kind, bool_kind, int32_kind, int64_kind, text_kind, Fields, no_fields, field, leaf, group, Schema, most_leaves, greatest_depth}
-use Rattle.dr_meaning.specs.Path.{Step, Leaf, leaves}
+use Rattle.dr_meaning.specs.Path.{Step, Leaf}
 use Rattle.dr_formats.specs.Metadata.{SchemaElement}
-use Rattle.dr_formats.specs.FileSchema.{FileFields, no_file_fields, file_field, FileShape, file_leaf, file_group, FileSchema, repetition_from, file_schema, is_open_conversion, kind_from, open_kind, FileLeaf, file_leaves, place_of, open_fields, open_schema}
+use Rattle.dr_formats.specs.FileSchema.{FileFields, no_file_fields, file_field, file_leaf, file_group, repetition_from, file_schema, kind_from, open_kind, FileLeaf, file_leaves, place_of, open_fields, open_schema}
 
 -- ---- numbers
 
@@ -39,8 +39,11 @@ element t r n c = record { type = number t; type_length = None; repetition = num
 -- depth first: a root of two fields, of which the first is a group of two, and that a group of one
 pub depth_first : file_schema (element None None (codes "R") (Some 2) ∷ element None (Some 2) (codes "g") (Some 2) ∷ element None (Some 1) (codes "h") (Some 1) ∷ element (Some 2) (Some 0) (codes "x") None
     ∷ element (Some 6) (Some 2) (codes "y") (Some 7) ∷ element (Some 1) (Some 1) (codes "z") None ∷ []) ≡
-    Some (record { name = codes "R"; fields = file_field (codes "g") repeated (file_group (file_field (codes "h") optional (file_group (file_field (codes "x") required (file_leaf (pos 2) None) no_file_fields))
-    (file_field (codes "y") repeated (file_leaf (pos 6) None) no_file_fields))) (file_field (codes "z") optional (file_leaf (pos 1) None) no_file_fields) })
+    Some (record {
+      name = codes "R";
+      fields = file_field (codes "g") repeated (file_group (file_field (codes "h") optional (file_group (file_field (codes "x") required (file_leaf (pos 2) None) no_file_fields))
+          (file_field (codes "y") repeated (file_leaf (pos 6) None) no_file_fields))) (file_field (codes "z") optional (file_leaf (pos 1) None) no_file_fields);
+    })
 depth_first = refl
 
 -- a root without fields; a group without fields

@@ -1,25 +1,24 @@
 -- Causes at opening and of one leaf, ranges, loading and the lines of commands, by computation.
-use Rattle.std.specs.Prelude.{◌≡◌, ℕ, List, [], ◌∷◌, ◌++◌, map, true, false, pos, Option, Some, None, codes, refl}
+use Rattle.std.specs.Prelude.{◌≡◌, ℕ, List, [], ◌∷◌, ◌++◌, map, true, false, pos, Some, None, codes, refl}
 use Rattle.std.specs.Fmt.{digits}
 use Rattle.dr_meaning.specs.Schema.{Schema, no_fields, field, leaf, group, required, optional, repeated, int64_kind}
-use Rattle.dr_meaning.specs.SchemaText.{schema_text, empty_group}
-use Rattle.dr_meaning.specs.Path.{Step, Leaf, leaves}
+use Rattle.dr_meaning.specs.SchemaText.{empty_group}
+use Rattle.dr_meaning.specs.Path.{Leaf, leaves}
 use Rattle.dr_meaning.specs.Record.{Node, no_slots, slot, single, atom, int_value}
 use Rattle.dr_meaning.specs.JsonRecord.{missing_field}
 use Rattle.dr_meaning.specs.Lines.{Refusal, no_record}
-use Rattle.dr_formats.specs.Compact.{read_struct, struct_bytes}
-use Rattle.dr_formats.specs.Hybrid.{hybrid, hybrid_bytes}
-use Rattle.dr_formats.specs.Page.{page_triplets, body_bytes}
+use Rattle.dr_formats.specs.Compact.{read_struct}
+use Rattle.dr_formats.specs.Hybrid.{hybrid}
+use Rattle.dr_formats.specs.Page.{page_triplets}
 use Rattle.dr_formats.specs.File.{bad_footer, bad_schema, bad_codec, bad_data, footer_of, known_cause}
-use Rattle.dr_formats.specs.Opening.{opening_cause, leaf_cause, Range, range, reader_ranges, is_inside}
+use Rattle.dr_formats.specs.Opening.{opening_cause, leaf_cause, range, reader_ranges, is_inside}
 use Rattle.dr_formats.specs.Writing.{file_bytes}
-use Rattle.dr_formats.specs.Tablets.{tablets}
 use Rattle.dr_formats.specs.TableFile.{table_text, table_too_long, bad_head, bad_tablets, bad_copies, bad_leaf, bad_table_schema}
 use Rattle.dr_formats.specs.Loading.{Put, Plan, puts_of, load, words_refusal, leaf_refused, copies_refused, most_loaded, most_tablet_rows}
 use Rattle.dr_formats.specs.Reports.{loaded_text, table_refusal_text, words_refusal_text, read_failed, bad_file, left_tablet_text, left_file_text}
 use Rattle.dr_formats.proofs.Hexadecimal.{hex}
-use Rattle.dr_formats.proofs.WorkedFiles.{one_schema, one_record, one_file}
-use Rattle.dr_formats.proofs.WorkedDamaged.{one_leaf, changed}
+use Rattle.dr_formats.proofs.WorkedFiles.{one_schema, one_file}
+use Rattle.dr_formats.proofs.WorkedDamaged.{changed}
 
 -- ---- causes
 

@@ -1,10 +1,10 @@
 -- Files as they are written, by computation, byte for byte as the public standard has them.
-use Rattle.std.specs.Prelude.{◌≡◌, ℕ, ◌+◌, ◌-◌, ◌^◌, ◌≤◌, List, [], ◌∷◌, ◌++◌, map, length, replicate, Bool, true, false, pos, neg_ℤ, Option, Some, None, codes, refl}
+use Rattle.std.specs.Prelude.{◌≡◌, ℕ, List, [], ◌∷◌, ◌++◌, length, replicate, Bool, true, false, pos, neg_ℤ, Some, None, codes, refl}
 use Rattle.std.proofs.Common.{arith, length-append, ◌∙◌}
 use Rattle.std.specs.Str.{is_utf8, chars}
-use Rattle.dr_meaning.specs.Schema.{Schema, Fields, no_fields, field, leaf, group, required, optional, repeated, bool_kind, int32_kind, int64_kind, text_kind}
+use Rattle.dr_meaning.specs.Schema.{Schema, no_fields, field, leaf, group, required, optional, repeated, bool_kind, int32_kind, int64_kind, text_kind}
 use Rattle.dr_meaning.specs.Path.{leaves}
-use Rattle.dr_meaning.specs.Record.{Value, bool_value, int_value, text_value, Node, no_slots, slot, Instances, no_instances, instance, Instance, atom, inner, single}
+use Rattle.dr_meaning.specs.Record.{bool_value, int_value, text_value, Node, no_slots, slot, Instances, no_instances, instance, Instance, atom, inner, single}
 use Rattle.dr_meaning.specs.Column.{Triplet, triplet}
 use Rattle.dr_formats.specs.Compact.{read_struct, struct_bytes}
 use Rattle.dr_formats.specs.Hybrid.{hybrid, hybrid_bytes}
@@ -18,8 +18,11 @@ use Rattle.dr_formats.proofs.WorkedDamaged.{footer_or}
 
 -- message T { required boolean b; optional int32 i; repeated string s; optional group g { repeated int64 n; required string t; } }
 abbrev each_schema : Schema
-each_schema = record { name = codes "T"; fields = field (codes "b") required (leaf bool_kind) (field (codes "i") optional (leaf int32_kind) (field (codes "s") repeated (leaf text_kind)
-    (field (codes "g") optional (group (field (codes "n") repeated (leaf int64_kind) (field (codes "t") required (leaf text_kind) no_fields))) no_fields))) }
+each_schema = record {
+  name = codes "T";
+  fields = field (codes "b") required (leaf bool_kind) (field (codes "i") optional (leaf int32_kind) (field (codes "s") repeated (leaf text_kind)
+      (field (codes "g") optional (group (field (codes "n") repeated (leaf int64_kind) (field (codes "t") required (leaf text_kind) no_fields))) no_fields)));
+}
 
 abbrev number : ℕ → Instance
 number n = atom (int_value (pos n))

@@ -1,14 +1,14 @@
 -- Column chunks: pages until the wanted triplets are taken (Apache Parquet, "Column chunks", "Data Pages").
-use Rattle.std.specs.Prelude.{ℕ, zero, suc, ◌+◌, ◌-◌, List, [], ◌++◌, length, take, drop, Bool, true, false, ◌&&◌, ◌||◌, nat_le, nat_lt,
-    if◌then◌else◌, ℤ, pos, Option, Some, None, option_and_then, Result, Ok, Err}
+use Rattle.std.specs.Prelude.{ℕ, zero, suc, ◌+◌, ◌-◌, List, [], ◌++◌, length, take, drop, Bool, true, false, ◌&&◌, ◌||◌, nat_le, nat_lt}
+use Rattle.std.specs.Prelude.{if◌then◌else◌, ℤ, pos, Option, Some, None, option_and_then, Result, Ok, Err}
 use Rattle.dr_meaning.specs.Record.{Value}
 use Rattle.dr_meaning.specs.Path.{Leaf, max_repetition, max_definition}
 use Rattle.dr_meaning.specs.Column.{Triplet}
 use Rattle.dr_formats.specs.Reading.{Reading, got, refused, Reader, give, ◌>>=◌, bytes_of}
 use Rattle.dr_formats.specs.Compact.{CompactFault, Struct, read_struct}
 use Rattle.dr_formats.specs.Plain.{plain_values}
-use Rattle.dr_formats.specs.Page.{data_page_v1, PageShape, PageFault, bad_page, found, is_number, plain_encoding, plain_dictionary_encoding,
-    page_triplets, triplets_read}
+use Rattle.dr_formats.specs.Page.{data_page_v1, PageShape, PageFault, bad_page, found, is_number, plain_encoding, plain_dictionary_encoding}
+use Rattle.dr_formats.specs.Page.{page_triplets, triplets_read}
 use Rattle.dr_formats.specs.Metadata.{MetaFault, ColumnMeta, DataPageHeader, DictionaryPageHeader, PageHeader, view_page}
 
 -- ---- pages
@@ -38,8 +38,16 @@ taken ts d = record { triplets = ts; dictionary = d }
 
 -- what a page's header and its leaf say of its body
 abbrev pub shape_of_page : Leaf → DataPageHeader → PageShape
-shape_of_page l h = record { form = data_page_v1; triplets = h.values; encoding = h.encoding; definition_encoding = h.definition_encoding;
-    repetition_encoding = h.repetition_encoding; kind = l.kind; max_repetition = max_repetition l.path; max_definition = max_definition l.path }
+shape_of_page l h = record {
+  form = data_page_v1;
+  triplets = h.values;
+  encoding = h.encoding;
+  definition_encoding = h.definition_encoding;
+  repetition_encoding = h.repetition_encoding;
+  kind = l.kind;
+  max_repetition = max_repetition l.path;
+  max_definition = max_definition l.path;
+}
 
 -- a data page, if it has at most the wanted triplets
 abbrev pub data_page : Leaf → ℕ → List Value → List ℕ → Option DataPageHeader → Reader PageFault PageTaken

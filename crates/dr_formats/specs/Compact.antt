@@ -1,6 +1,6 @@
 -- Structs in the Thrift compact protocol: their trees, how they are read, the first fault, and the one spelling that is written.
-use Rattle.std.specs.Prelude.{ℕ, zero, suc, ◌+◌, ◌-◌, ◌*◌, ◌/◌, ◌%◌, ◌^◌, List, [], ◌∷◌, ◌++◌, length, Bool, true, false, ◌&&◌, ◌==◌, nat_lt,
-    if◌then◌else◌, ℤ, pos, negsuc, ◌+ℤ◌, ◌-ℤ◌, neg_ℤ, int_le, int_lt, Option, Some, None, option_map, option_and_then}
+use Rattle.std.specs.Prelude.{ℕ, zero, suc, ◌+◌, ◌-◌, ◌*◌, ◌/◌, ◌%◌, ◌^◌, List, [], ◌∷◌, ◌++◌, length, Bool, true, false, ◌&&◌, ◌==◌, nat_lt}
+use Rattle.std.specs.Prelude.{if◌then◌else◌, ℤ, pos, negsuc, ◌+ℤ◌, ◌-ℤ◌, neg_ℤ, int_le, int_lt, Option, Some, None, option_map, option_and_then}
 use Rattle.dr_meaning.specs.Record.{in_int64}
 use Rattle.dr_formats.specs.Reading.{Reading, got, refused, Reader, give, ◌>>=◌, byte_as, bytes_of}
 use Rattle.dr_formats.specs.Varint.{varint, varint_below, varint_bytes, zigzag, from_zigzag}

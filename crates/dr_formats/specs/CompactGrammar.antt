@@ -1,10 +1,10 @@
 -- The grammar of structs in the Thrift compact protocol, as a relation between bytes and trees: every spelling that the protocol allows.
 use Rattle.std.specs.Prelude.{◌-◌, ◌≡◌, ◌⊎◌, ℕ, zero, suc, ◌/◌, ◌%◌, ◌^◌, ◌<◌, List, [], ◌∷◌, ◌++◌, length, true, false, ◌==◌, ℤ, pos, ◌+ℤ◌, Some}
 use Rattle.dr_formats.specs.Varint.{SpellsNumber, SpellsSigned}
-use Rattle.dr_formats.specs.Compact.{greatest_nesting, ThriftType, true_type, false_type, byte_type, i16_type, i32_type, i64_type, double_type,
-    binary_type, list_type, set_type, map_type, struct_type, Struct, stop, struct_field, Item, truth_item, byte_item, i16_item, i32_item, i64_item,
-    double_item, binary_item, list_item, set_item, empty_map_item, map_item, struct_item, Items, no_items, item, Pairs, no_pairs, pair, type_of,
-    in_int16, count_items, count_pairs}
+use Rattle.dr_formats.specs.Compact.{greatest_nesting, ThriftType, true_type, false_type, byte_type, i16_type, i32_type, i64_type, double_type}
+use Rattle.dr_formats.specs.Compact.{binary_type, list_type, set_type, map_type, struct_type, Struct, stop, struct_field, Item, truth_item, byte_item}
+use Rattle.dr_formats.specs.Compact.{i16_item, i32_item, i64_item, double_item, binary_item, list_item, set_item, empty_map_item, map_item}
+use Rattle.dr_formats.specs.Compact.{struct_item, Items, no_items, item, Pairs, no_pairs, pair, type_of, in_int16, count_items, count_pairs}
 
 -- ---- headers
 

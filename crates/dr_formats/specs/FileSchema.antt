@@ -1,9 +1,9 @@
 -- The schema of a file: the tree of its schema elements, its leaves, and what of it is open to be read (Apache Parquet, parquet.thrift, SchemaElement).
-use Rattle.std.specs.Prelude.{ℕ, zero, suc, List, [], ◌∷◌, ◌++◌, map, length, Bool, true, false, not, ◌&&◌, ◌||◌, nat_le, if◌then◌else◌, bytes_eq,
-    codes, ℤ, pos, negsuc, Option, Some, None, option_map, option_and_then}
+use Rattle.std.specs.Prelude.{ℕ, zero, suc, List, [], ◌∷◌, ◌++◌, map, length, Bool, true, false, not, ◌&&◌, ◌||◌, nat_le, if◌then◌else◌, bytes_eq}
+use Rattle.std.specs.Prelude.{codes, ℤ, pos, negsuc, Option, Some, None, option_map, option_and_then}
 use Rattle.std.specs.List.{list_any}
-use Rattle.dr_meaning.specs.Schema.{Repetition, required, optional, repeated, Kind, bool_kind, int32_kind, int64_kind, text_kind, Fields, no_fields,
-    field, Shape, leaf, group, Schema, is_short_name, greatest_depth, most_leaves}
+use Rattle.dr_meaning.specs.Schema.{Repetition, required, optional, repeated, Kind, bool_kind, int32_kind, int64_kind, text_kind, Fields, no_fields}
+use Rattle.dr_meaning.specs.Schema.{field, Shape, leaf, group, Schema, is_short_name, greatest_depth, most_leaves}
 use Rattle.dr_meaning.specs.Path.{Step, Leaf, same_repetition}
 use Rattle.dr_formats.specs.Metadata.{SchemaElement}
 use Rattle.dr_formats.specs.Page.{is_number}

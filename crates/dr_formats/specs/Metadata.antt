@@ -1,7 +1,7 @@
 -- The structs of a file's metadata (Apache Parquet, parquet.thrift): their fields in a tree, and their trees as they are written.
 use Rattle.std.specs.Prelude.{ℕ, Bool, List, [], ◌∷◌, ℤ, pos, negsuc, Option, Some, None, option_map, option_and_then, Result, Ok, Err}
-use Rattle.dr_formats.specs.Compact.{i32_type, binary_type, struct_type, Struct, stop, struct_field, Item, truth_item, i32_item, i64_item,
-    binary_item, list_item, struct_item, Items, no_items, item, find_field}
+use Rattle.dr_formats.specs.Compact.{i32_type, binary_type, struct_type, Struct, stop, struct_field, Item, truth_item, i32_item, i64_item}
+use Rattle.dr_formats.specs.Compact.{binary_item, list_item, struct_item, Items, no_items, item, find_field}
 
 -- a needed field that isn't there with its type, or whose number is outside its range, by its id
 pub data MetaFault : Type 0 where
@@ -115,8 +115,14 @@ pub record SchemaElement : Type 0 where
 abbrev pub view_element : Struct → Result SchemaElement MetaFault
 view_element s = do
   n ← needed as_binary 4 s
-  Ok (record { type = optional_field as_i32 1 s; type_length = optional_field as_i32 2 s; repetition = optional_field as_i32 3 s; name = n;
-      children = optional_field as_i32 5 s; converted = optional_field as_i32 6 s })
+  Ok (record {
+    type = optional_field as_i32 1 s;
+    type_length = optional_field as_i32 2 s;
+    repetition = optional_field as_i32 3 s;
+    name = n;
+    children = optional_field as_i32 5 s;
+    converted = optional_field as_i32 6 s;
+  })
 
 -- ---- ColumnMetaData, ColumnChunk, RowGroup, FileMetaData
 
@@ -140,8 +146,17 @@ view_column_meta s = do
   n ← needed_count as_i64 5 s
   z ← needed_count as_i64 7 s
   d ← needed_count as_i64 9 s
-  Ok (record { type = t; encodings = optional_field as_numbers 2 s; path = optional_field as_names 3 s; codec = c; values = n;
-      uncompressed_size = optional_field as_i64 6 s; compressed_size = z; data_page_offset = d; dictionary_page_offset = optional_field as_i64 11 s })
+  Ok (record {
+    type = t;
+    encodings = optional_field as_numbers 2 s;
+    path = optional_field as_names 3 s;
+    codec = c;
+    values = n;
+    uncompressed_size = optional_field as_i64 6 s;
+    compressed_size = z;
+    data_page_offset = d;
+    dictionary_page_offset = optional_field as_i64 11 s;
+  })
 
 -- ColumnChunk: a chunk with its metadata
 pub record ColumnChunk : Type 0 where
@@ -235,8 +250,15 @@ view_data_header_v2 s = do
   e ← needed as_i32 4 s
   d ← needed_count as_i32 5 s
   r ← needed_count as_i32 6 s
-  Ok (record { values = n; nulls = optional_field as_i32 2 s; rows = optional_field as_i32 3 s; encoding = e; definition_bytes = d;
-      repetition_bytes = r; compressed = optional_field as_truth 7 s })
+  Ok (record {
+    values = n;
+    nulls = optional_field as_i32 2 s;
+    rows = optional_field as_i32 3 s;
+    encoding = e;
+    definition_bytes = d;
+    repetition_bytes = r;
+    compressed = optional_field as_truth 7 s;
+  })
 
 -- PageHeader: type, sizes, and the header struct of the type
 pub record PageHeader : Type 0 where

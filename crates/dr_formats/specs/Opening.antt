@@ -1,5 +1,5 @@
 -- What a reader of a file learns in turn: the cause at opening, for a set of leaves; the cause of one leaf alone; and the ranges of bytes that it may ask for.
-use Rattle.std.specs.Prelude.{◌≡◌, ◌≤◌, ◌↔◌, ℕ, ◌+◌, ◌-◌, List, [], ◌∷◌, ◌++◌, length, Bool, true, false, ◌&&◌, nat_le, if◌then◌else◌, Option, Some, None}
+use Rattle.std.specs.Prelude.{◌≡◌, ◌↔◌, ℕ, ◌+◌, ◌-◌, List, [], ◌∷◌, ◌++◌, length, Bool, true, false, ◌&&◌, nat_le, if◌then◌else◌, Option, Some, None}
 use Rattle.std.specs.List.{list_all, flat_map, slice_get}
 use Rattle.dr_meaning.specs.Schema.{Schema}
 use Rattle.dr_meaning.specs.Path.{Leaf, leaves}
@@ -8,8 +8,8 @@ use Rattle.dr_meaning.specs.Column.{Triplet}
 use Rattle.dr_meaning.specs.OneColumn.{is_column}
 use Rattle.dr_formats.specs.Metadata.{ColumnMeta, RowGroup}
 use Rattle.dr_formats.specs.Chunk.{chunk_start}
-use Rattle.dr_formats.specs.File.{Footer, footer_of, footer_length, footer_place, is_framed, leaf_chunk, rows_agree, values_fit, file_column,
-    FileCause, HasCause, IsFileOf, cause_by}
+use Rattle.dr_formats.specs.File.{Footer, footer_of, footer_length, footer_place, is_framed, leaf_chunk, rows_agree, values_fit, file_column}
+use Rattle.dr_formats.specs.File.{FileCause, HasCause, IsFileOf, cause_by}
 
 -- ---- causes
 

@@ -1,6 +1,6 @@
 -- Bodies of data pages: repetition levels, definition levels, values (Apache Parquet, "Data Pages"; Dremel 2010, section 4.1).
-use Rattle.std.specs.Prelude.{ℕ, zero, suc, ◌/◌, List, [], ◌∷◌, ◌++◌, map, length, replicate, Bool, true, false, ◌&&◌, ◌||◌, ◌==◌, nat_le,
-    if◌then◌else◌, ℤ, pos, negsuc, Option, Some, None, option_and_then}
+use Rattle.std.specs.Prelude.{ℕ, zero, suc, ◌/◌, List, [], ◌∷◌, ◌++◌, map, length, replicate, Bool, true, false, ◌&&◌, ◌||◌, ◌==◌, nat_le}
+use Rattle.std.specs.Prelude.{if◌then◌else◌, ℤ, pos, negsuc, Option, Some, None, option_and_then}
 use Rattle.std.specs.List.{list_all}
 use Rattle.dr_meaning.specs.Schema.{Kind}
 use Rattle.dr_meaning.specs.Record.{Value}

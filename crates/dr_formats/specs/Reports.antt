@@ -1,7 +1,5 @@
 -- The lines that commands over tables and files write: what was loaded, what is refused, what is left.
-use Rattle.std.specs.Prelude.{ℕ, zero, suc, List, [], ◌∷◌, ◌++◌, map, codes, decimal}
-use Rattle.std.specs.List.{flat_map}
-use Rattle.dr_meaning.specs.SchemaText.{SchemaFault}
+use Rattle.std.specs.Prelude.{ℕ, List, [], ◌∷◌, ◌++◌, codes, decimal}
 use Rattle.dr_meaning.specs.Refusals.{schema_problem_name}
 use Rattle.dr_formats.specs.File.{FileCause, bad_footer, bad_schema, bad_codec, bad_data}
 use Rattle.dr_formats.specs.TableFile.{TableFault, table_too_long, bad_head, bad_tablets, bad_copies, bad_leaf, bad_table_schema}

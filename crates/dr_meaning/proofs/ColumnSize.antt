@@ -1,10 +1,10 @@
 -- How long the column of a record is, and how much text is in it.
-use Rattle.std.proofs.Common.{◌≡◌, ◌≤◌, ℕ, zero, suc, ◌+◌, max, List, [], ◌∷◌, ◌++◌, length, Option, Some, None, refl, arith}
+use Rattle.std.proofs.Common.{◌≡◌, ◌≤◌, ℕ, zero, suc, ◌+◌, max, List, [], ◌∷◌, ◌++◌, length, Option, Some, None, arith}
 use Rattle.std.proofs.lemmas.List.{length-append}
 use Rattle.dr_meaning.specs.Schema.{repetition_count, definition_count}
 use Rattle.dr_meaning.specs.Path.{Step}
 use Rattle.dr_meaning.specs.Record.{Value, text_length, Node, no_slots, slot, gap, Instances, no_instances, instance, Instance, atom, inner, instances_at, instances_in, instance_count, instance_count_all, instance_count_one, text_bytes, text_bytes_all, text_bytes_one}
-use Rattle.dr_meaning.specs.Column.{Triplet, triplet, value_of, each_later, spread, instance_column, record_column}
+use Rattle.dr_meaning.specs.Column.{Triplet, each_later, spread, instance_column, record_column}
 use Rattle.dr_meaning.specs.ColumnLaws.{ColumnIsShort}
 
 -- ---- what is at a place is in the node

@@ -1,9 +1,8 @@
 -- The records taken before a refusal are those of the lines.
 use Rattle.std.proofs.Common.{◌≡◌, ℕ, suc, List, [], ◌∷◌, Option, Some, None, refl, ap, ◌∙◌}
 use Rattle.std.specs.Prelude.{Result, Ok, Err}
-use Rattle.dr_meaning.specs.Schema.{Fields}
 use Rattle.dr_meaning.specs.Record.{Node}
-use Rattle.dr_meaning.specs.Lines.{LineFault, Refusal, record_at, before_records, or_refusal, records_from, Taken, or_stop, taken_from, result_of, TakenAreRecords}
+use Rattle.dr_meaning.specs.Lines.{LineFault, Refusal, record_at, before_records, or_refusal, Taken, or_stop, taken_from, result_of, TakenAreRecords}
 
 before_result : (n : Node) (R : List Node) (o : Option Refusal) → result_of (n ∷ R) o ≡ before_records n (result_of R o)
 before_result n R None = refl

@@ -1,15 +1,15 @@
 -- Triplets that pass the test of one column are the column of records of the schema; and columns pass it.
-use Rattle.std.proofs.Common.{◌≡◌, ℕ, zero, suc, ◌+◌, ◌<◌, ◌≤◌, List, [], ◌∷◌, ◌++◌, map, length, Bool, true, false, ◌&&◌, Option, Some, None, option_map, refl, sym, ap, ap₂, ◌∙◌, subst, true≢false, arith, append-nil, append_assoc}
-use Rattle.std.specs.Prelude.{◌↔◌, ◌⊎◌, ◌==◌, nat_le, pos, if◌then◌else◌}
+use Rattle.std.proofs.Common.{◌≡◌, ℕ, zero, suc, ◌+◌, ◌<◌, ◌≤◌, List, [], ◌∷◌, ◌++◌, map, length, Bool, true, false, ◌&&◌, Option, Some, None, refl, sym, ap, ap₂, ◌∙◌, subst, true≢false, arith, append-nil}
+use Rattle.std.specs.Prelude.{◌⊎◌, ◌==◌, nat_le, pos}
 use Rattle.std.proofs.Common.{inl, inr}
 use Rattle.std.specs.List.{list_all, slice_get}
 use Rattle.std.specs.Str.{is_utf8, chars}
-use Rattle.std.proofs.lemmas.Bool.{and_parts, and_from, eqb-true, eqb-false, leb-true, le-leb, eq-eqb, ne_eqb, cases_lt}
+use Rattle.std.proofs.lemmas.Bool.{and_parts, and_from, eqb-true, leb-true, le-leb, eq-eqb, ne_eqb, cases_lt}
 use Rattle.dr_meaning.specs.Schema.{Repetition, required, optional, repeated, Kind, bool_kind, int32_kind, int64_kind, text_kind, Fields, no_fields, field, Shape, leaf, group, repetition_count, definition_count}
-use Rattle.dr_meaning.specs.Path.{Step, Leaf, leaf_below, leaves_from, shape_leaves, leaves, max_repetition, max_definition, is_leaf_path, is_shape_path, is_empty_path, same_repetition, through}
-use Rattle.dr_meaning.specs.Record.{Value, bool_value, int_value, text_value, is_of_kind, Node, no_slots, slot, gap, Instances, no_instances, instance, Instance, atom, inner, single, count_instances, fits_repetition, all_instances, is_atom_of, is_record, is_instance, instances_at, instances_in}
-use Rattle.dr_meaning.specs.Column.{Triplet, triplet, value_of, each_later, spread, instance_column, record_column, column}
-use Rattle.dr_meaning.specs.OneColumn.{starts, begins_record, fits_value, fits_levels, past_field, level_inside, may_follow, all_follow, is_in_order, is_column, HaveColumn, ColumnsAreRecognized}
+use Rattle.dr_meaning.specs.Path.{Step, Leaf, leaf_below, leaves_from, shape_leaves, leaves, max_repetition, max_definition, is_leaf_path, is_shape_path, same_repetition, through}
+use Rattle.dr_meaning.specs.Record.{Value, bool_value, int_value, text_value, is_of_kind, Node, no_slots, slot, gap, Instances, no_instances, instance, Instance, atom, inner, single, count_instances, fits_repetition, all_instances, is_record, is_instance, instances_at}
+use Rattle.dr_meaning.specs.Column.{Triplet, triplet, each_later, spread, instance_column, record_column, column}
+use Rattle.dr_meaning.specs.OneColumn.{starts, begins_record, fits_value, fits_levels, level_inside, may_follow, all_follow, is_in_order, is_column, HaveColumn, ColumnsAreRecognized}
 use Rattle.dr_meaning.proofs.Blocks.{same_repetition-true, and₃_parts}
 use Rattle.dr_meaning.proofs.ColumnStarts.{column_rows}
 
@@ -280,7 +280,7 @@ build_field k R D p make fs i repeated h l d eR eD t us g a c =
         finish fs i repeated p k l d t us f (instance x.0 x.1) refl (and_from _ _ x.2 x.3) x.4
 
 at_leaf : (j k : Kind) (R D l d : ℕ) → Some j ≡ Some k → R ≡ l + 0 → D ≡ d + 0 → Make k R D [] (leaf j) l d
-at_leaf j k R D l d h eR eD t (u ∷ us) g a c = 
+at_leaf j k R D l d h eR eD t (u ∷ us) g a c =
     let b : (fits_levels k R D t ≡ true) × AllFit k R D (u ∷ us) = and_parts _ _ a in
     let f : (fits_levels k R D u ≡ true) × AllFit k R D us = and_parts _ _ b.1 in
     absurd (omega (arith, eR, c.0.1, (fit_parts k R D u f.0).0))
@@ -317,8 +317,8 @@ module _ (k : Kind) (R D : ℕ) (p : List Step) (s : Shape) (l d : ℕ) (within 
 
   later_shown : (ts vs : List Triplet) → Shown k R D p l d l ts → Later vs → Later (ts ++ vs)
   later_shown ts vs h g = subst Later (ap (λ y. y ++ vs) (sym h.2)) (
-      (λ t. (inl (h.3, h.4), chain_append p l d h.0 h.1 vs h.6 g.0)),
-      fit_append k R D (h.0 ∷ h.1) vs h.5 g.1,
+    (λ t. (inl (h.3, h.4), chain_append p l d h.0 h.1 vs h.6 g.0)),
+    fit_append k R D (h.0 ∷ h.1) vs h.5 g.1,
   )
 
   all_later : (xs : Instances) → all_instances (is_instance s) xs ≡ true → Later (each_later (instance_column p l d) l xs)
@@ -364,10 +364,15 @@ show_spread k R D p show i repeated s h l d r eR eD g (instance x xs) f a =
     first_of : Shown k R D p (l + 1) (d + 1) r (instance_column p (l + 1) (d + 1) r x)
         → ((t : Triplet) → Chain p (l + 1) (d + 1) t (each_later (instance_column p (l + 1) (d + 1)) (l + 1) xs)) × AllFit k R D (each_later (instance_column p (l + 1) (d + 1)) (l + 1) xs)
         → Shown k R D (step i repeated ∷ p) l d r (instance_column p (l + 1) (d + 1) r x ++ each_later (instance_column p (l + 1) (d + 1)) (l + 1) xs)
-    first_of v c =
-        (v.0, v.1 ++ each_later (instance_column p (l + 1) (d + 1)) (l + 1) xs, ap (λ y. y ++ each_later (instance_column p (l + 1) (d + 1)) (l + 1) xs) v.2, v.3, omega (arith, v.4),
-        fit_append k R D (v.0 ∷ v.1) (each_later (instance_column p (l + 1) (d + 1)) (l + 1) xs) v.5 c.1,
-        chain_to_rest i p l d v.0 (v.1 ++ each_later (instance_column p (l + 1) (d + 1)) (l + 1) xs) v.4 (chain_append p (l + 1) (d + 1) v.0 v.1 (each_later (instance_column p (l + 1) (d + 1)) (l + 1) xs) v.6 c.0))
+    first_of v c = (
+      v.0,
+      v.1 ++ each_later (instance_column p (l + 1) (d + 1)) (l + 1) xs,
+      ap (λ y. y ++ each_later (instance_column p (l + 1) (d + 1)) (l + 1) xs) v.2,
+      v.3,
+      omega (arith, v.4),
+      fit_append k R D (v.0 ∷ v.1) (each_later (instance_column p (l + 1) (d + 1)) (l + 1) xs) v.5 c.1,
+      chain_to_rest i p l d v.0 (v.1 ++ each_later (instance_column p (l + 1) (d + 1)) (l + 1) xs) v.4 (chain_append p (l + 1) (d + 1) v.0 v.1 (each_later (instance_column p (l + 1) (d + 1)) (l + 1) xs) v.6 c.0),
+    )
 
 show_leaf : (j k : Kind) (R D l d : ℕ) → Some j ≡ Some k → D ≡ d + 0 → Show k R D [] (leaf j) l d
 show_leaf j k R D l d h eD (inner n) v r g = absurd (true≢false (sym v))

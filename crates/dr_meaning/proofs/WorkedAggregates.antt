@@ -1,13 +1,12 @@
 -- Aggregates, groups, lists and levels, by computation.
 use Rattle.std.specs.Prelude.{◌≡◌, ℕ, List, [], ◌∷◌, ◌++◌, map, Bool, true, false, pos, neg_ℤ, Option, Some, None, codes, refl}
-use Rattle.std.specs.declared.cmp.Ordering.{Ordering}
 use Rattle.std.specs.declared.cmp.Ordering.TheVariants.{Less, Equal, Greater}
 use Rattle.std.specs.Fmt.{digits}
 use Rattle.json.specs.Print.{escape_byte}
 use Rattle.dr_meaning.specs.Path.{Step}
 use Rattle.dr_meaning.specs.Record.{Value, bool_value, int_value, text_value, Node}
-use Rattle.dr_meaning.specs.Expression.{Expression, constant, path_value, arithmetic, plus, comparison, less, greater, is_null, negation}
-use Rattle.dr_meaning.specs.Query.{Aggregate, count, sum, least, greatest, RecordItem, expression, within, GroupItem, GroupTerm, key, count_rows, aggregate, Query, objects, groups, meaning, aggregated, cell_order, tuple_order, Levels, no_levels, deeper, levels_of}
+use Rattle.dr_meaning.specs.Expression.{Expression, constant, path_value, comparison, less, greater, is_null, negation}
+use Rattle.dr_meaning.specs.Query.{count, sum, least, greatest, RecordItem, expression, within, GroupItem, GroupTerm, key, count_rows, aggregate, Query, objects, groups, meaning, aggregated, cell_order, tuple_order, no_levels, deeper, levels_of}
 use Rattle.dr_meaning.specs.Print.{result_text}
 use Rattle.dr_meaning.proofs.WorkedSchemas.{document}
 use Rattle.dr_meaning.proofs.WorkedRecords.{record_10, record_20, record_30}

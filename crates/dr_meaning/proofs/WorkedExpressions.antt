@@ -1,7 +1,7 @@
 -- Expressions, by computation: arithmetic at the limits, comparisons, LIKE and CONTAINS, three-valued logic; rows and their values; paths and levels.
-use Rattle.std.specs.Prelude.{◌≡◌, ℕ, ◌-◌, ◌^◌, List, [], ◌∷◌, map, Bool, true, false, ℤ, pos, neg_ℤ, Option, Some, None, codes, refl}
+use Rattle.std.specs.Prelude.{◌≡◌, ℕ, ◌-◌, ◌^◌, List, [], ◌∷◌, map, true, false, ℤ, pos, neg_ℤ, Option, Some, None, codes, refl}
 use Rattle.std.specs.Str.{chars}
-use Rattle.dr_meaning.specs.Path.{Step, level, longer}
+use Rattle.dr_meaning.specs.Path.{level, longer}
 use Rattle.dr_meaning.specs.Record.{Value, bool_value, int_value, text_value, no_slots}
 use Rattle.dr_meaning.specs.Rows.{rows, value_at, is_present}
 use Rattle.dr_meaning.specs.Expression.{Expression, constant, path_value, negative, arithmetic, comparison, like, contains, is_null, negation, conjunction, disjunction, Comparison, plus, minus, times, equal, unequal, less, at_most, greater, at_least, matches, evaluate, is_true, paths_of, longest_level, expression_level}

@@ -1,22 +1,22 @@
 -- The limits of numbers, records, lines and commands, the kinds of values, and the names of refusals, by computation.
-use Rattle.std.specs.Prelude.{◌≡◌, ℕ, ◌+◌, ◌-◌, ◌^◌, List, [], ◌∷◌, ◌++◌, map, length, Bool, true, false, ℤ, pos, neg_ℤ, Result, Ok, Err, codes, refl}
+use Rattle.std.specs.Prelude.{◌≡◌, ℕ, ◌+◌, ◌-◌, ◌^◌, List, [], ◌∷◌, map, length, Bool, true, false, ℤ, pos, neg_ℤ, Result, Ok, Err, codes, refl}
 use Rattle.std.specs.Str.{is_utf8, chars}
 use Rattle.std.specs.Fmt.{digits}
 use Rattle.json.specs.Print.{escape_byte}
 use Rattle.dr_meaning.specs.Print.{value_text, record_text}
 use Rattle.serde_json.proofs.OnLiterals.{serde_json_on_literals}
-use Rattle.dr_meaning.specs.Schema.{Kind, bool_kind, int32_kind, int64_kind, text_kind, Fields, no_fields, field, Shape, leaf, group, required, optional, repeated, longest_name, greatest_depth, most_leaves, leaf_count, depth, repeated_fields}
+use Rattle.dr_meaning.specs.Schema.{Kind, bool_kind, int32_kind, int64_kind, text_kind, Fields, no_fields, field, leaf, group, required, optional, repeated, longest_name, greatest_depth, most_leaves, leaf_count, depth, repeated_fields}
 use Rattle.dr_meaning.specs.SchemaText.{too_long, float_kind, empty_group, syntax, bad_name, duplicate_name, too_deep, too_many_leaves, longest_schema}
-use Rattle.dr_meaning.specs.Path.{PathFault, unknown_field, not_a_leaf}
-use Rattle.dr_meaning.specs.Record.{Value, bool_value, int_value, text_value, in_int32, in_int64, is_of_kind, fits_repetition, Node, no_slots, slot, gap, Instances, no_instances, instance, Instance, atom, inner, single, is_record, instance_count, text_bytes}
+use Rattle.dr_meaning.specs.Path.{not_a_leaf}
+use Rattle.dr_meaning.specs.Record.{bool_value, int_value, text_value, in_int32, in_int64, is_of_kind, fits_repetition, Node, no_slots, slot, gap, Instances, no_instances, atom, inner, single, is_record, instance_count, text_bytes}
 use Rattle.dr_meaning.specs.JsonRecord.{RecordFault, record_of_line, node_within_limits, most_instances, most_text_bytes, not_json, unknown_field as unknown_key, missing_field, wrong_kind, out_of_range, null_element, too_large}
-use Rattle.dr_meaning.specs.Lines.{LineFault, line_too_long, too_many_records, no_record, record_at, records_of, line_record, longest_line}
+use Rattle.dr_meaning.specs.Lines.{line_too_long, too_many_records, no_record, record_at, line_record, longest_line}
 use Rattle.dr_meaning.specs.QueryText.{longest_query}
-use Rattle.dr_meaning.specs.Refusals.{schema_refusal_text, field_refusal_text, line_refusal_text, schema_problem_name, record_fault_name, path_fault_name, line_fault_name}
+use Rattle.dr_meaning.specs.Refusals.{schema_refusal_text, field_refusal_text, line_refusal_text, schema_problem_name, line_fault_name}
 use Rattle.dr_meaning.specs.Ask.{most_records}
 use Rattle.dr_meaning.specs.Stripe.{most_striped}
 use Rattle.dr_meaning.proofs.WorkedSchemas.{document}
-use Rattle.dr_meaning.proofs.WorkedRecords.{record_10, record_30, numbers, texts, nodes, language_node, name_node, document_node}
+use Rattle.dr_meaning.proofs.WorkedRecords.{record_10, record_30, numbers, texts, document_node}
 
 -- ---- numbers and kinds
 

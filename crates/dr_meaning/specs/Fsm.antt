@@ -1,5 +1,5 @@
 -- The command `fsm`: the automaton of leaves in schema order, or the first refusal.
-use Rattle.std.specs.Prelude.{ℕ, suc, List, [], ◌∷◌, ◌++◌, map, if◌then◌else◌, Option, Some, None, Result, Ok, Err}
+use Rattle.std.specs.Prelude.{ℕ, suc, List, [], ◌∷◌, ◌++◌, map, if◌then◌else◌, Result, Ok, Err}
 use Rattle.std.specs.List.{list_any, filter_map, slice_get}
 use Rattle.dr_meaning.specs.Schema.{Schema, Fields}
 use Rattle.dr_meaning.specs.SchemaText.{SchemaFault, parse_schema}

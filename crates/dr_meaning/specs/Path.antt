@@ -1,8 +1,8 @@
 -- Paths of a schema, resolved to the places of their fields, with their levels (Dremel 2010, section 4.1).
-use Rattle.std.specs.Prelude.{ℕ, zero, suc, ◌+◌, List, [], ◌∷◌, ◌++◌, map, Bool, true, false, ◌&&◌, ◌==◌, if◌then◌else◌, bytes_eq, Option, Some, None,
-    option_map, option_and_then, Result, Ok, Err}
-use Rattle.dr_meaning.specs.Schema.{Repetition, required, optional, repeated, Kind, Fields, no_fields, field, Shape, leaf, group, fields_of,
-    repetition_count, definition_count, is_repeated}
+use Rattle.std.specs.Prelude.{ℕ, zero, suc, ◌+◌, List, [], ◌∷◌, ◌++◌, map, Bool, true, false, ◌&&◌, ◌==◌, if◌then◌else◌, bytes_eq, Option, Some, None}
+use Rattle.std.specs.Prelude.{option_map, option_and_then, Result, Ok, Err}
+use Rattle.dr_meaning.specs.Schema.{Repetition, required, optional, repeated, Kind, Fields, no_fields, field, Shape, leaf, group, fields_of}
+use Rattle.dr_meaning.specs.Schema.{repetition_count, definition_count, is_repeated}
 
 -- one field on a path: its place in its group, counted from 0, and its repetition
 pub record Step : Type 0 where

@@ -1,9 +1,10 @@
 -- Schema text: its tokens, the productions of its grammar, its canonical form, and the schema or the first fault of a text.
-use Rattle.std.specs.Prelude.{◌≡◌, ℕ, suc, ◌-◌, List, [], ◌∷◌, ◌++◌, map, length, Bool, true, ◌||◌, ◌==◌, nat_lt, nat_le, if◌then◌else◌, bytes_eq,
-    codes, ◌⊎◌, Result, Ok, Err, Option, Some, None}
+use Rattle.std.specs.Prelude.{◌≡◌, ℕ, suc, ◌-◌, List, [], ◌∷◌, ◌++◌, map, length, Bool, true, ◌||◌, ◌==◌, nat_lt, nat_le, if◌then◌else◌, bytes_eq}
+use Rattle.std.specs.Prelude.{codes, ◌⊎◌, Result, Ok, Err, Option, Some, None}
 use Rattle.std.specs.List.{list_any}
-use Rattle.dr_meaning.specs.Schema.{Repetition, required, optional, repeated, Kind, bool_kind, int32_kind, int64_kind, text_kind, Fields, no_fields,
-    field, Shape, leaf, group, Schema, field_names, begins_name, continues_name, is_nonempty, longest_name, greatest_depth, most_leaves}
+use Rattle.dr_meaning.specs.Schema.{Repetition, required, optional, repeated, Kind, bool_kind, int32_kind, int64_kind, text_kind, Fields, no_fields}
+use Rattle.dr_meaning.specs.Schema.{field, Shape, leaf, group, Schema, field_names, begins_name, continues_name, is_nonempty, longest_name}
+use Rattle.dr_meaning.specs.Schema.{greatest_depth, most_leaves}
 
 -- ---- tokens: names, braces, semicolons; blanks are space, tab, CR and LF
 
@@ -206,8 +207,11 @@ begin_group r n m = Ok (record m { expected = first_field; fields = no_fields; g
 -- the innermost group ends, and joins the one that holds it; where none is open, the message ends
 abbrev pub end_group : Reading → List OpenGroup → Result Reading SchemaProblem
 end_group m [] = Ok (record m { expected = text_end })
-end_group m (g ∷ gs) = Ok (record m { expected = after_group; fields = append_fields g.before (field g.name g.repetition (group m.fields) no_fields);
-    groups = gs })
+end_group m (g ∷ gs) = Ok (record m {
+  expected = after_group;
+  fields = append_fields g.before (field g.name g.repetition (group m.fields) no_fields);
+  groups = gs;
+})
 
 -- which of these has this word
 abbrev pub with_word_of : {A : Type 0} → (A → List ℕ) → List A → List ℕ → Option A

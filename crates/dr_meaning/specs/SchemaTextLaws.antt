@@ -1,8 +1,8 @@
 -- Laws of schema text: which texts are accepted, where the fault of the others stands, and that the canonical text reads back.
 use Rattle.std.specs.Prelude.{◌≡◌, ℕ, ◌≤◌, List, [], ◌∷◌, ◌++◌, length, true, ◌≢◌, ◌⊎◌, ◌↔◌, Ok, Err}
 use Rattle.dr_meaning.specs.Schema.{Schema, is_schema}
-use Rattle.dr_meaning.specs.SchemaText.{Token, Placed, tokens_of, bare, SpellsSchema, schema_text, longest_schema, parse_schema, SchemaProblem,
-    too_long, syntax, float_kind, empty_group}
+use Rattle.dr_meaning.specs.SchemaText.{Token, Placed, tokens_of, bare, SpellsSchema, schema_text, longest_schema, parse_schema, SchemaProblem}
+use Rattle.dr_meaning.specs.SchemaText.{too_long, syntax, float_kind, empty_group}
 
 -- ---- accepted texts
 

@@ -1,8 +1,8 @@
 -- The walk of records: their moves in reading order, and when a move nests on the fields that are open.
 use Rattle.std.specs.Prelude.{ℕ, zero, suc, ◌+◌, List, [], ◌∷◌, ◌++◌, map, Bool, true, false, ◌&&◌, Option, Some, None, reverse}
 use Rattle.std.specs.List.{flat_map, slice_get}
-use Rattle.dr_meaning.specs.Schema.{Repetition, required, optional, repeated, Fields, no_fields, field, Shape, leaf, group, repetition_count,
-    definition_count, shape_repeated_fields}
+use Rattle.dr_meaning.specs.Schema.{Repetition, required, optional, repeated, Fields, no_fields, field, Shape, leaf, group, repetition_count}
+use Rattle.dr_meaning.specs.Schema.{definition_count, shape_repeated_fields}
 use Rattle.dr_meaning.specs.Path.{Step, Leaf, chain}
 pub use Rattle.dr_meaning.specs.Path.{same_path}
 use Rattle.dr_meaning.specs.Record.{Value, Node, no_slots, slot, gap, Instances, no_instances, instance, Instance, atom, inner, is_of_kind}

@@ -1,5 +1,5 @@
 -- What the walk of records says of their columns.
-use Rattle.std.specs.Prelude.{◌≡◌, ℕ, List, [], ◌∷◌, Bool, true, ◌==◌, if◌then◌else◌, Some}
+use Rattle.std.specs.Prelude.{◌≡◌, ℕ, List, [], ◌∷◌, true, ◌==◌, if◌then◌else◌, Some}
 use Rattle.std.specs.List.{list_all, slice_get}
 use Rattle.dr_meaning.specs.Schema.{Fields}
 use Rattle.dr_meaning.specs.Path.{Step, is_leaf_path}
