@@ -36,3 +36,4 @@ pub mod RecordLimits
 pub mod LineLemmas
 pub mod WalkLemmas
 pub mod FoundLemmas
+pub mod FindingLemmas
