@@ -1,14 +1,15 @@
 -- Numbers, structs, hybrid data and values as bytes, by computation: vectors of the public standards, byte for byte.
-use Rattle.std.specs.Prelude.{◌≡◌, ℕ, ◌-◌, ◌^◌, List, [], ◌∷◌, ◌++◌, map, replicate, Bool, true, false, ℤ, pos, neg_ℤ, Some, None, codes, refl}
+use Rattle.std.specs.Prelude.{◌≡◌, ℕ, zero, suc, ◌-◌, ◌^◌, List, [], ◌∷◌, ◌++◌, map, replicate, Bool, true, false, ℤ, pos, neg_ℤ, Some, None, codes, refl}
 use Rattle.std.specs.Str.{is_utf8, chars}
 use Rattle.dr_meaning.specs.Schema.{bool_kind, int32_kind, int64_kind, text_kind}
 use Rattle.dr_meaning.specs.Record.{Value, bool_value, int_value, text_value}
 use Rattle.dr_formats.specs.Reading.{Reading, got, refused}
 use Rattle.dr_formats.specs.Varint.{VarintFault, varint_short, varint_too_long, read_varint, varint_bytes, zigzag, from_zigzag}
-use Rattle.dr_formats.specs.Compact.{true_type, false_type, byte_type, i16_type, i32_type, i64_type, double_type, binary_type, list_type, set_type, map_type, struct_type, type_number, type_of, Struct, stop, struct_field, truth_item, byte_item, i16_item, i32_item, i64_item, double_item, binary_item, list_item, set_item, empty_map_item, map_item, struct_item, no_items, item, no_pairs, pair, read_struct, struct_bytes, struct_fault, malformed}
+use Rattle.dr_formats.specs.Compact.{Item, is_tree, true_type, false_type, byte_type, i16_type, i32_type, i64_type, double_type, binary_type, list_type, set_type, map_type, struct_type, type_number, type_of, Struct, stop, struct_field, truth_item, byte_item, i16_item, i32_item, i64_item, double_item, binary_item, list_item, set_item, empty_map_item, map_item, struct_item, no_items, item, no_pairs, pair, read_struct, struct_bytes, struct_fault, malformed}
 use Rattle.dr_formats.specs.Hybrid.{hybrid, hybrid_bytes}
-use Rattle.dr_formats.specs.Plain.{from_complement, complement, plain, plain_values, plain_bytes, dictionary_values, too_short, bad_text}
-use Rattle.dr_formats.specs.Page.{level_width, levels}
+use Rattle.dr_formats.specs.Plain.{is_writable, from_complement, complement, plain, plain_values, plain_bytes, dictionary_values, too_short, bad_text}
+use Rattle.dr_meaning.specs.Column.{triplet}
+use Rattle.dr_formats.specs.Page.{is_triplet, level_width, levels}
 use Rattle.dr_formats.proofs.Hexadecimal.{hex}
 
 abbrev z : ℕ → ℤ
@@ -84,6 +85,24 @@ two_maps = (refl, refl)
 pub truths : read_struct (hex (codes "19 31 01 00 02 19 12 01 00")) ≡ got (struct_field (pos 1) (list_item true_type (item (truth_item true) (item (truth_item false) (item (truth_item false) no_items)))) (struct_field (pos 2) (list_item false_type (item (truth_item true) no_items)) stop)) []
 unfolding read_struct
 truths = refl
+
+-- which trees can be spelled: ids of 16 bits, numbers of 64, doubles of eight bytes, what is in a list, set or map of its type, a map with pairs, and no more than 32 in one another
+abbrev alone : Item → Struct
+alone x = struct_field (pos 1) x stop
+
+abbrev around : ℕ → Struct
+around zero = stop
+around (suc n) = alone (struct_item (around n))
+
+pub trees : map is_tree (each_type ∷ lists ∷ maps ∷ stop ∷ struct_field (z 32768) (byte_item 7) stop ∷ around 31 ∷ alone (list_item true_type (item (truth_item true) (item (truth_item false) no_items)))
+    ∷ alone (map_item i32_type binary_type (pair (i32_item (pos 1)) (binary_item []) (pair (i32_item (pos 2)) (binary_item []) no_pairs))) ∷ [])
+    ≡ true ∷ true ∷ true ∷ true ∷ true ∷ true ∷ true ∷ true ∷ []
+trees = refl
+
+pub no_trees : map is_tree (struct_field (pos 32768) (byte_item 7) stop ∷ alone (i64_item (pos (2 ^ 63))) ∷ alone (i32_item (pos (2 ^ 63))) ∷ alone (double_item (1 ∷ [])) ∷ alone (list_item i32_type (item (i32_item (pos 1)) (item (i64_item (pos 1)) no_items)))
+    ∷ alone (set_item byte_type (item (truth_item true) no_items)) ∷ alone (map_item byte_type byte_type no_pairs) ∷ alone (map_item i32_type binary_type (pair (binary_item []) (i32_item (pos 1)) no_pairs)) ∷ around 32 ∷ [])
+    ≡ false ∷ false ∷ false ∷ false ∷ false ∷ false ∷ false ∷ false ∷ false ∷ []
+no_trees = refl
 
 -- ids: negative and falling ones in the long form; the greatest of 16 bits, and one more by a delta
 pub ids : (struct_bytes (struct_field (z 1) (truth_item true) (struct_field (z 2) (truth_item false) stop)) ≡ hex (codes "01 01 02 03 00")) × (read_struct (hex (codes "01 01 02 03 00")) ≡ got (struct_field (z 1) (truth_item true) (struct_field (z 2) (truth_item false) stop)) [])
@@ -177,3 +196,15 @@ pub no_level_parts : map is_refused (levels 2 (pos 3) 1 (hex (codes "02000000 02
     ≡ true ∷ true ∷ true ∷ true ∷ true ∷ false ∷ []
 unfolding hybrid
 no_level_parts = refl
+
+-- ---- what can be written
+
+-- a value of the kind, and a text only where its length fits four bytes
+pub writable : (map (is_writable int32_kind) (I (pos 5) ∷ I (pos (2 ^ 31)) ∷ text_value [] ∷ []) ≡ true ∷ false ∷ false ∷ []) × (is_writable text_kind (text_value (255 ∷ [])) ≡ false) × (is_writable text_kind (text_value (codes "a")) ≡ true)
+unfolding is_utf8 chars lib.Utf8.encode
+writable = (refl, refl, refl)
+
+-- levels at most the greatest, and a value of the kind exactly at the greatest definition level
+pub triplets : map (is_triplet int32_kind 1 2) (triplet 1 2 (Some (I (pos 5))) ∷ triplet 0 1 None ∷ triplet 2 1 None ∷ triplet 0 3 None ∷ triplet 0 2 None ∷ triplet 0 1 (Some (I (pos 5))) ∷ triplet 0 2 (Some (text_value [])) ∷ [])
+    ≡ true ∷ true ∷ false ∷ false ∷ false ∷ false ∷ false ∷ []
+triplets = refl

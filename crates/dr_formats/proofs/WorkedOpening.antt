@@ -10,7 +10,7 @@ use Rattle.dr_meaning.specs.Lines.{Refusal, no_record}
 use Rattle.dr_formats.specs.Compact.{read_struct}
 use Rattle.dr_formats.specs.Hybrid.{hybrid}
 use Rattle.dr_formats.specs.Page.{page_triplets}
-use Rattle.dr_formats.specs.File.{bad_footer, bad_schema, bad_codec, bad_data, footer_of, known_cause}
+use Rattle.dr_formats.specs.File.{Footer, rows_agree, values_fit, bad_footer, bad_schema, bad_codec, bad_data, footer_of, known_cause}
 use Rattle.dr_formats.specs.Opening.{opening_cause, leaf_cause, range, reader_ranges, is_inside}
 use Rattle.dr_formats.specs.Writing.{file_bytes}
 use Rattle.dr_formats.specs.TableFile.{table_text, table_too_long, bad_head, bad_tablets, bad_copies, bad_leaf, bad_table_schema}
@@ -18,7 +18,7 @@ use Rattle.dr_formats.specs.Loading.{Put, Plan, puts_of, load, words_refusal, le
 use Rattle.dr_formats.specs.Reports.{loaded_text, table_refusal_text, words_refusal_text, read_failed, bad_file, left_tablet_text, left_file_text}
 use Rattle.dr_formats.proofs.Hexadecimal.{hex}
 use Rattle.dr_formats.proofs.WorkedFiles.{one_schema, one_file}
-use Rattle.dr_formats.proofs.WorkedDamaged.{changed}
+use Rattle.dr_formats.proofs.WorkedDamaged.{footer_or, changed}
 
 -- ---- causes
 
@@ -59,6 +59,16 @@ pub one_leaf_causes : (map (λ bytes. leaf_cause bytes a) (one_file ∷ [] ∷ c
 unfolding footer_of read_struct page_triplets hybrid
 one_leaf_causes = (refl, refl, refl)
 
+-- the greatest numbers of rows and of triplets of a leaf, and one more: the worked footer with other numbers
+abbrev with_numbers : ℕ → ℕ → ℕ → Footer
+with_numbers rows group_rows values = record (footer_or (footer_of one_file)) { meta = record { version = None; schema = []; rows = rows; groups = record { columns = record { file_path = None; file_offset = None;
+    meta = record { type = pos 2; encodings = None; path = None; codec = pos 0; values = values; uncompressed_size = None; compressed_size = 0; data_page_offset = 4; dictionary_page_offset = None } } ∷ []; total_byte_size = None; rows = group_rows } ∷ []; created_by = None } }
+
+pub greatest_numbers : (rows_agree (with_numbers 1000000000 1000000000 0) ≡ true) × (rows_agree (with_numbers 1000000001 1000000001 0) ≡ false) × (rows_agree (with_numbers 5 6 0) ≡ false)
+    × (values_fit (with_numbers 1 1 1099511627776) (a ∷ []) ≡ true) × (values_fit (with_numbers 1 1 1099511627777) (a ∷ []) ≡ false) × (values_fit (with_numbers 1 1 1099511627777) [] ≡ true)
+unfolding footer_of read_struct
+greatest_numbers = (refl, refl, refl, refl, refl, refl)
+
 -- ---- ranges
 
 -- the worked file of 109 bytes: both ends, the footer of 72 bytes at 29, the chunk of 25 at 4, where its leaf is asked for
@@ -95,6 +105,12 @@ pub three_records : puts_of (plan 2) (map number (1 ∷ 2 ∷ 3 ∷ [])) None �
     ∷ put (codes "T") (table_text (record { schema = one_schema; leaves = codes "x" ∷ codes "y" ∷ []; copies = 2; tablets = 2 })) ∷ []
 unfolding digits
 three_records = refl
+
+-- copies and tablets in the table file, each in its place
+pub two_of_one : puts_of (record { schema = one_schema; directories = codes "x" ∷ codes "y" ∷ []; copies = 1; rows = 1; table = Some (codes "T") }) (map number (1 ∷ 2 ∷ [])) None ≡
+    put (codes "x/t000000.parquet") (file (1 ∷ [])) ∷ put (codes "y/t000001.parquet") (file (2 ∷ [])) ∷ put (codes "T") (table_text (record { schema = one_schema; leaves = codes "x" ∷ codes "y" ∷ []; copies = 1; tablets = 2 })) ∷ []
+unfolding digits
+two_of_one = refl
 
 -- no records: one tablet without rows, and the table; where none is asked for, no table
 pub no_records : (puts_of (record { schema = one_schema; directories = codes "x" ∷ []; copies = 1; rows = 5; table = None }) [] None ≡ put (codes "x/t000000.parquet") (file []) ∷ [])
