@@ -61,8 +61,23 @@ one_leaf_causes = (refl, refl, refl)
 
 -- the greatest numbers of rows and of triplets of a leaf, and one more: the worked footer with other numbers
 abbrev with_numbers : ℕ → ℕ → ℕ → Footer
-with_numbers rows group_rows values = record (footer_or (footer_of one_file)) { meta = record { version = None; schema = []; rows = rows; groups = record { columns = record { file_path = None; file_offset = None;
-    meta = record { type = pos 2; encodings = None; path = None; codec = pos 0; values = values; uncompressed_size = None; compressed_size = 0; data_page_offset = 4; dictionary_page_offset = None } } ∷ []; total_byte_size = None; rows = group_rows } ∷ []; created_by = None } }
+with_numbers rows group_rows values = record (footer_or (footer_of one_file)) {
+  meta = record {
+    version = None;
+    schema = [];
+    rows = rows;
+    groups = record {
+      columns = record {
+        file_path = None;
+        file_offset = None;
+        meta = record { type = pos 2; encodings = None; path = None; codec = pos 0; values = values; uncompressed_size = None; compressed_size = 0; data_page_offset = 4; dictionary_page_offset = None };
+      } ∷ [];
+      total_byte_size = None;
+      rows = group_rows;
+    } ∷ [];
+    created_by = None;
+  };
+}
 
 pub greatest_numbers : (rows_agree (with_numbers 1000000000 1000000000 0) ≡ true) × (rows_agree (with_numbers 1000000001 1000000001 0) ≡ false) × (rows_agree (with_numbers 5 6 0) ≡ false)
     × (values_fit (with_numbers 1 1 1099511627776) (a ∷ []) ≡ true) × (values_fit (with_numbers 1 1 1099511627777) (a ∷ []) ≡ false) × (values_fit (with_numbers 1 1 1099511627777) [] ≡ true)

@@ -35,5 +35,6 @@ pub mod OneColumnLemmas
 pub mod RecordLimits
 pub mod LineLemmas
 pub mod WalkLemmas
+pub mod OrderLemmas
 pub mod FoundLemmas
 pub mod FindingLemmas

@@ -12,7 +12,7 @@ use Rattle.dr_meaning.specs.Walk.{Move, enter, value, leave, Depth, inside, begu
 use Rattle.dr_meaning.specs.WalkLaws.{triplets_of, WalkGivesColumns}
 use Rattle.dr_meaning.proofs.Blocks.{same_repetition-true, and₃_parts}
 
-abbrev step : ℕ → Repetition → Step
+abbrev pub step : ℕ → Repetition → Step
 step j r = record { place = j; repetition = r }
 
 -- ---- triplets of moves
@@ -33,11 +33,11 @@ of_enclosed i k ms = of_append i ms (leave k ∷ []) ∙ append-nil (triplets_of
 -- ---- picks of one index
 
 -- none of these picks has this index; one of them has, with this rest of its path
-abbrev Without : ℕ → List Pick → Type 0
+abbrev pub Without : ℕ → List Pick → Type 0
 Without i [] = Unit {0}
 Without i (g ∷ G) = ((g.index == i) ≡ false) × Without i G
 
-abbrev Only : ℕ → List Step → List Pick → Type 0
+abbrev pub Only : ℕ → List Step → List Pick → Type 0
 Only i p [] = ⊥
 Only i p (g ∷ G) = (((g.index == i) ≡ true) × (g.rest ≡ p) × Without i G) ⊎ (((g.index == i) ≡ false) × Only i p G)
 
@@ -58,11 +58,11 @@ add_beside i (s ∷ p) j B e h = by_place s.place
     by_place zero = h
     by_place (suc k) = (e, h)
 
-without_behind : (i : ℕ) (G : List Pick) → Without i G → Without i (behind G)
+pub without_behind : (i : ℕ) (G : List Pick) → Without i G → Without i (behind G)
 without_behind i [] h = tt
 without_behind i (g ∷ G) h = add_behind i g.rest g.index (behind G) h.0 (without_behind i G h.1)
 
-without_beside : (i : ℕ) (G : List Pick) → Without i G → Without i (beside G)
+pub without_beside : (i : ℕ) (G : List Pick) → Without i G → Without i (beside G)
 without_beside i [] h = tt
 without_beside i (g ∷ G) h = add_beside i g.rest g.index (beside G) h.0 (without_beside i G h.1)
 
@@ -83,23 +83,23 @@ keep_beside i q (s ∷ p) j B e h = by_place s.place
     by_place (suc k) = inr (e, h)
 
 -- the pick goes through the first field
-only_behind : (i : ℕ) (r : Repetition) (p : List Step) (G : List Pick) → Only i (step 0 r ∷ p) G → Only i p (behind G)
+pub only_behind : (i : ℕ) (r : Repetition) (p : List Step) (G : List Pick) → Only i (step 0 r ∷ p) G → Only i p (behind G)
 only_behind i r p [] h = absurd h
 only_behind i r p (g ∷ G) (inl h) = subst (λ (x : List Step). Only i p (behind_pick x g.index (behind G))) (sym h.1) (inl (h.0, refl, without_behind i G h.2))
 only_behind i r p (g ∷ G) (inr h) = keep_behind i p g.rest g.index (behind G) h.0 (only_behind i r p G h.1)
 
-beside_first : (i : ℕ) (r : Repetition) (p : List Step) (G : List Pick) → Only i (step 0 r ∷ p) G → Without i (beside G)
+pub beside_first : (i : ℕ) (r : Repetition) (p : List Step) (G : List Pick) → Only i (step 0 r ∷ p) G → Without i (beside G)
 beside_first i r p [] h = absurd h
 beside_first i r p (g ∷ G) (inl h) = subst (λ (x : List Step). Without i (beside_pick x g.index (beside G))) (sym h.1) (without_beside i G h.2)
 beside_first i r p (g ∷ G) (inr h) = add_beside i g.rest g.index (beside G) h.0 (beside_first i r p G h.1)
 
 -- or through a later one
-only_beside : (i j : ℕ) (r : Repetition) (p : List Step) (G : List Pick) → Only i (step (suc j) r ∷ p) G → Only i (step j r ∷ p) (beside G)
+pub only_beside : (i j : ℕ) (r : Repetition) (p : List Step) (G : List Pick) → Only i (step (suc j) r ∷ p) G → Only i (step j r ∷ p) (beside G)
 only_beside i j r p [] h = absurd h
 only_beside i j r p (g ∷ G) (inl h) = subst (λ (x : List Step). Only i (step j r ∷ p) (beside_pick x g.index (beside G))) (sym h.1) (inl (h.0, refl, without_beside i G h.2))
 only_beside i j r p (g ∷ G) (inr h) = keep_beside i (step j r ∷ p) g.rest g.index (beside G) h.0 (only_beside i j r p G h.1)
 
-behind_later : (i j : ℕ) (r : Repetition) (p : List Step) (G : List Pick) → Only i (step (suc j) r ∷ p) G → Without i (behind G)
+pub behind_later : (i j : ℕ) (r : Repetition) (p : List Step) (G : List Pick) → Only i (step (suc j) r ∷ p) G → Without i (behind G)
 behind_later i j r p [] h = absurd h
 behind_later i j r p (g ∷ G) (inl h) = subst (λ (x : List Step). Without i (behind_pick x g.index (behind G))) (sym h.1) (without_behind i G h.2)
 behind_later i j r p (g ∷ G) (inr h) = add_behind i g.rest g.index (behind G) h.0 (behind_later i j r p G h.1)
@@ -117,7 +117,7 @@ picks_without : (i k : ℕ) (F : List (List Step)) → i < k → Without i (pick
 picks_without i k [] h = tt
 picks_without i k (p ∷ F) h = (ne_eqb k i (omega (arith, h)), picks_without i (suc k) F (omega (arith, h)))
 
-picks_only : (i k : ℕ) (p : List Step) (F : List (List Step)) → slice_get F i ≡ Some p → Only (k + i) p (picks_from k F)
+pub picks_only : (i k : ℕ) (p : List Step) (F : List (List Step)) → slice_get F i ≡ Some p → Only (k + i) p (picks_from k F)
 picks_only i k p [] h = absurd (cc)
 picks_only zero k p (q ∷ F) h = inl (eq-eqb k (k + 0) (omega arith), same q h, picks_without (k + 0) (suc k) F (omega arith))
   where

@@ -31,3 +31,4 @@ pub mod MeaningLaws
 pub mod ColumnLaws
 pub mod OneColumn
 pub mod WalkLaws
+pub mod OrderLaws
