@@ -1,5 +1,5 @@
 -- Numbers, structs, hybrid data and values as bytes, by computation: vectors of the public standards, byte for byte.
-use Rattle.std.specs.Prelude.{◌≡◌, ℕ, zero, suc, ◌-◌, ◌^◌, List, [], ◌∷◌, ◌++◌, map, replicate, Bool, true, false, ℤ, pos, neg_ℤ, Some, None, codes, refl}
+use Rattle.std.specs.Prelude.{◌≡◌, ℕ, length, zero, suc, ◌-◌, ◌^◌, List, [], ◌∷◌, ◌++◌, map, replicate, Bool, true, false, ℤ, pos, neg_ℤ, Some, None, codes, refl}
 use Rattle.std.specs.Str.{is_utf8, chars}
 use Rattle.dr_meaning.specs.Schema.{bool_kind, int32_kind, int64_kind, text_kind}
 use Rattle.dr_meaning.specs.Record.{Value, bool_value, int_value, text_value}
@@ -7,7 +7,7 @@ use Rattle.dr_formats.specs.Reading.{Reading, got, refused}
 use Rattle.dr_formats.specs.Varint.{VarintFault, varint_short, varint_too_long, read_varint, varint_bytes, zigzag, from_zigzag}
 use Rattle.dr_formats.specs.Compact.{Item, is_tree, true_type, false_type, byte_type, i16_type, i32_type, i64_type, double_type, binary_type, list_type, set_type, map_type, struct_type, type_number, type_of, Struct, stop, struct_field, truth_item, byte_item, i16_item, i32_item, i64_item, double_item, binary_item, list_item, set_item, empty_map_item, map_item, struct_item, no_items, item, no_pairs, pair, read_struct, struct_bytes, struct_fault, malformed}
 use Rattle.dr_formats.specs.Hybrid.{hybrid, hybrid_bytes}
-use Rattle.dr_formats.specs.Plain.{is_writable, from_complement, complement, plain, plain_values, plain_bytes, dictionary_values, too_short, bad_text}
+use Rattle.dr_formats.specs.Plain.{has_short_text, is_writable, from_complement, complement, plain, plain_values, plain_bytes, dictionary_values, too_short, bad_text}
 use Rattle.dr_meaning.specs.Column.{triplet}
 use Rattle.dr_formats.specs.Page.{is_triplet, level_width, levels}
 use Rattle.dr_formats.proofs.Hexadecimal.{hex}
@@ -208,3 +208,10 @@ writable = (refl, refl, refl)
 pub triplets : map (is_triplet int32_kind 1 2) (triplet 1 2 (Some (I (pos 5))) ∷ triplet 0 1 None ∷ triplet 2 1 None ∷ triplet 0 3 None ∷ triplet 0 2 None ∷ triplet 0 1 (Some (I (pos 5))) ∷ triplet 0 2 (Some (text_value [])) ∷ [])
     ≡ true ∷ true ∷ false ∷ false ∷ false ∷ false ∷ false ∷ []
 triplets = refl
+
+-- a text of 4,294,967,295 bytes can be written, one more byte can't
+pub longest_text : (t : List ℕ) → length t ≡ 4294967295 → has_short_text (text_value t) ≡ true
+longest_text t e = rw e refl
+
+pub longer_text : (t : List ℕ) → length t ≡ 4294967296 → has_short_text (text_value t) ≡ false
+longer_text t e = rw e refl

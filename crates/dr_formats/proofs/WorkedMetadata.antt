@@ -1,8 +1,8 @@
 -- The structs of the metadata, by computation: each with a number of its own in each field; each needed field away, and out of range.
 use Rattle.std.specs.Prelude.{◌≡◌, ℕ, List, [], ◌∷◌, map, Bool, true, false, ℤ, pos, neg_ℤ, int_le, ◌&&◌, if◌then◌else◌, Option, Some, None, Result, Ok, Err, codes, refl}
 use Rattle.dr_formats.specs.Reading.{Reading, got, refused}
-use Rattle.dr_formats.specs.Compact.{CompactFault, Struct, stop, struct_field, Item, i32_item, i64_item, binary_item, list_item, struct_item, truth_item, i64_type, struct_type, no_items, item, read_struct}
-use Rattle.dr_formats.specs.Metadata.{MetaFault, missing, out_of_range, view_element, view_column_meta, view_chunk, view_group, view_file, view_data_header, view_dictionary_header, view_data_header_v2, view_page}
+use Rattle.dr_formats.specs.Compact.{struct_bytes, CompactFault, Struct, stop, struct_field, Item, i32_item, i64_item, binary_item, list_item, struct_item, truth_item, i64_type, struct_type, no_items, item, read_struct}
+use Rattle.dr_formats.specs.Metadata.{page_tree, MetaFault, missing, out_of_range, view_element, view_column_meta, view_chunk, view_group, view_file, view_data_header, view_dictionary_header, view_data_header_v2, view_page}
 use Rattle.dr_formats.proofs.Hexadecimal.{hex}
 
 -- what the struct in these bytes is viewed as
@@ -197,3 +197,8 @@ pub first_faults : (fault (view_data_header (without 3 (with_value 1 (i32_item (
     × (fault (view_file (with_value 4 (list_item struct_type (item (struct_item stop) no_items)) (with_value 2 (list_item struct_type (item (struct_item stop) no_items)) file))) ≡ M 4)
     × (fault (view_group (without 3 (with_value 1 (list_item struct_type (item (struct_item stop) no_items)) group))) ≡ M 3) × (fault (view_page (with_value 7 (struct_item stop) (with_value 5 (struct_item (without 3 data_header)) page))) ≡ M 3)
 first_faults = (refl, refl, refl, refl, refl)
+
+-- the header of a dictionary page is written with its header struct as field 7, without V1 or V2 header
+pub dictionary_header_bytes : struct_bytes (page_tree (record { type = pos 2; uncompressed_size = Some (pos 16); compressed_size = 16; data_page = None; dictionary_page = Some (record { values = 2; encoding = pos 0 }); data_page_v2 = None })) ≡ hex (codes "1504 1520 1520 4C 1504 1500 00 00")
+unfolding struct_bytes
+dictionary_header_bytes = refl
