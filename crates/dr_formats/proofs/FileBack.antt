@@ -15,9 +15,11 @@ use Rattle.dr_formats.specs.Metadata.{ColumnMeta, ColumnChunk, RowGroup, file_tr
 use Rattle.dr_formats.specs.FileSchema.{FileSchema, file_leaves, place_of}
 use Rattle.dr_formats.specs.Page.{is_triplet}
 use Rattle.dr_formats.specs.Chunk.{pages_triplets, chunk_bytes}
-use Rattle.dr_formats.specs.File.{Footer, footer_of, is_found, leaf_place, has_leaves, nth_chunk, leaf_chunk, is_uncompressed, are_uncompressed, total, most_rows, most_triplets, rows_agree, chunk_values, values_fit, starts, of_rows, group_column, file_column, AreColumns, magic, is_whole_group, has_no_path}
+use Rattle.dr_formats.specs.File.{schema_or_cause, Footer, footer_of, is_found, leaf_place, has_leaves, nth_chunk, leaf_chunk, is_uncompressed, are_uncompressed, total, most_rows, most_triplets, rows_agree, chunk_values, values_fit, starts, of_rows, group_column, file_column, AreColumns, magic, is_whole_group, has_no_path}
 use Rattle.dr_formats.specs.Writing.{cut_pages, pages_bytes, record_columns, written_chunk, triplet_count, chunk_at, chunks_from, framed, written_chunks, groups_of, written_meta, written_footer, file_bytes}
 use Rattle.dr_formats.specs.WritingLaws.{all_triplets, ArePages, nth_leaf, AreAmong, FitHeaders, LeavesFit, FitsFile, WrittenFileIsFile}
+use Rattle.dr_formats.specs.OpenSchemaLaws.{WrittenSchemaIsRead}
+use Rattle.dr_formats.proofs.OpenSchemaLemmas.{written_opened}
 use Rattle.dr_formats.proofs.ChunkLemmas.{written_pages_are_read, pages_keep_triplets}
 use Rattle.dr_formats.proofs.SchemaBack.{file_fields_of, schema_back, file_leaf_of, file_leaves_back, leaf_found, AllLeaves, is_within, leaves_within}
 use Rattle.dr_formats.proofs.ColumnsFit.{EachLeaf, each_append, Good, ColumnGood, fields_good}
@@ -152,7 +154,7 @@ nth_within [] i l h e = absurd (no_leaf l e)
 nth_within (m ∷ ls) zero l h e = let p : (is_within 32 m ≡ true) × AllLeaves (is_within 32) ls = and_parts _ _ h in subst (λ (x : Leaf). length x.names ≤ 32) (same_leaf m l e) (leb-true _ _ p.0)
 nth_within (m ∷ ls) (suc i) l h e = let p : (is_within 32 m ≡ true) × AllLeaves (is_within 32) ls = and_parts _ _ h in nth_within ls i l p.1 e
 
-levels_few : (fs : Fields) (i : ℕ) (l : Leaf) → depth fs ≤ 32 → nth_leaf (leaves fs) i ≡ Some l → (max_repetition l.path ≤ 32) × (max_definition l.path ≤ 32)
+pub levels_few : (fs : Fields) (i : ℕ) (l : Leaf) → depth fs ≤ 32 → nth_leaf (leaves fs) i ≡ Some l → (max_repetition l.path ≤ 32) × (max_definition l.path ≤ 32)
 levels_few fs i l d e =
     let a : FewLevels l = each_nth FewLevels (leaves fs) i l (fields_levels fs 0) e in
     let b : length l.names ≤ 32 = nth_within (leaves fs) i l (leaves_within fs 0 32 d) e in
@@ -183,14 +185,14 @@ whole_groups s (n ∷ R) g d =
     let c : length (chunks_from (n ∷ R) (leaves s.fields) 4).columns ≡ length (file_leaves (file_fields_of s.fields)) = columns_many (n ∷ R) (leaves s.fields) 4 ∙ sym e in
     and_from _ _ (and_from _ _ (eq-eqb _ _ c) (no_paths (n ∷ R) (leaves s.fields) 4)) refl
 
-abbrev the_footer : Schema → List Node → Footer
+abbrev pub the_footer : Schema → List Node → Footer
 the_footer s R = record { place = 4 + length (written_chunks s R).bytes; meta = written_meta s R; schema = the_schema s }
 
 -- what a schema within the limits is
-abbrev Limits : Schema → Type 0
+abbrev pub Limits : Schema → Type 0
 Limits s = (is_short_name s.name ≡ true) × (is_group s.fields ≡ true) × (depth s.fields ≤ 32) × (leaf_count s.fields ≤ 1024)
 
-limits : (s : Schema) → is_schema s ≡ true → Limits s
+pub limits : (s : Schema) → is_schema s ≡ true → Limits s
 limits s h =
     let a : ((is_short_name s.name && is_shape (group s.fields) && nat_le (depth s.fields) greatest_depth) ≡ true) × (nat_le (leaf_count s.fields) most_leaves ≡ true) = and_parts _ _ h in
     let b : ((is_short_name s.name && is_shape (group s.fields)) ≡ true) × (nat_le (depth s.fields) greatest_depth ≡ true) = and_parts _ _ a.0 in
@@ -202,7 +204,7 @@ chunks_in_file : (s : Schema) (R : List Node) → 4 + length (written_chunks s R
 unfolding file_bytes
 chunks_in_file s R = omega (arith, length-append (written_chunks s R).bytes (written_footer s R ++ (little_endian_bytes 4 (length (written_footer s R)) ++ magic)))
 
-footer_there : (s : Schema) (R : List Node) → FitsFile s R → footer_of (file_bytes s R) ≡ Some (the_footer s R)
+pub footer_there : (s : Schema) (R : List Node) → FitsFile s R → footer_of (file_bytes s R) ≡ Some (the_footer s R)
 unfolding file_bytes
 footer_there s R h =
     let k : Limits s = limits s h.0 in
@@ -288,3 +290,9 @@ unfolding file_bytes
 written_file_is_file s R F h a =
     let k : Limits s = limits s h.0 in
     (the_footer s R, footer_there s R h, leaves_there s R F k a, leaves_plain s R F k a, (rows_right s R h.3, leaves_bound s R F k h.4 a, refl, h.1, columns_back s R F k h a))
+
+-- ---- its schema
+
+pub written_schema_is_read : WrittenSchemaIsRead
+unfolding file_bytes
+written_schema_is_read s R h = ap schema_or_cause (footer_there s R h) ∙ rw (written_opened s h.0) refl

@@ -226,3 +226,7 @@ spare_fits (v ∷ vs) = omega arith
 pub hybrid_length : (w : ℕ) (vs : List ℕ) → w ≤ 6 → length vs < 2 ^ 31 → length (hybrid_bytes w vs) < 2 ^ 32
 unfolding hybrid_bytes
 hybrid_length w vs h l = omega (arith, all_short w (length vs) h vs (omega arith) l, spare_fits vs, l)
+
+pub hybrid_short : (w : ℕ) (vs : List ℕ) → w ≤ 6 → length vs < 2 ^ 31 → length (hybrid_bytes w vs) ≤ length vs + 7
+unfolding hybrid_bytes
+hybrid_short w vs h l = omega (arith, all_short w (length vs) h vs (omega arith) l, spare_fits vs)

@@ -1,11 +1,18 @@
 -- worked examples, by computation
+pub mod Hexadecimal
 pub mod WorkedCompact
+pub mod WorkedBytes
+pub mod WorkedMetadata
 pub mod WorkedHybrid
 pub mod WorkedPages
 pub mod WorkedFiles
 pub mod WorkedDamaged
 pub mod WorkedForeign
+pub mod WorkedWritten
+pub mod WorkedForms
+pub mod WorkedOpenLeaves
 pub mod WorkedTables
+pub mod WorkedOpening
 -- lemmas of reading, of varints and of structs
 pub mod ReadingLemmas
 pub mod SoundLemmas
@@ -24,15 +31,18 @@ pub mod PlainLemmas
 pub mod PageLemmas
 -- causes
 pub mod FileLemmas
+pub mod OpeningLemmas
 -- the file that is written is a file of its records
 pub mod ChunkLemmas
 pub mod MetadataLemmas
 pub mod SchemaBack
+pub mod OpenSchemaLemmas
 pub mod ColumnsFit
 pub mod ColumnRows
 pub mod FooterBack
 pub mod MetaFits
 pub mod FileBack
+pub mod LoadFits
 -- tables and tablets
 pub mod TableLemmas
 pub mod TabletLemmas

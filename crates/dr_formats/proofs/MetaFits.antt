@@ -122,7 +122,7 @@ mutual
 pub few_leaves : (fs : Fields) → leaf_count fs ≤ 1024 → length (leaves fs) ≤ 1024
 few_leaves fs l = omega (arith, l, count_leaves fs 0)
 
-few_elements : (fs : Fields) → is_group fs ≡ true → depth fs ≤ 32 → leaf_count fs ≤ 1024 → length (elements fs) ≤ 32768
+pub few_elements : (fs : Fields) → is_group fs ≡ true → depth fs ≤ 32 → leaf_count fs ≤ 1024 → length (elements fs) ≤ 32768
 few_elements fs h d l = omega (arith, l, elements_few fs 32 h d)
 
 -- ---- names of leaves

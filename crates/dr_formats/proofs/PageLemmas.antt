@@ -47,7 +47,7 @@ below_power (suc n) = omega (arith, below_power n, pow-suc 2 n)
 width_holds : (g : ℕ) → g < 2 ^ level_width g
 width_holds g = digits_hold g g (below_power g)
 
-width_small : (g : ℕ) → g ≤ 32 → level_width g ≤ 6
+pub width_small : (g : ℕ) → g ≤ 32 → level_width g ≤ 6
 width_small g h = few_digits g 6 g (omega (arith, h))
 
 -- ---- levels

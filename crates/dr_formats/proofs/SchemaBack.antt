@@ -57,28 +57,28 @@ schema_back s =
 abbrev pub file_leaf_of : Leaf → FileLeaf
 file_leaf_of l = record { names = l.names; repetitions = map (λ (s : Step). s.repetition) l.path; kind = Some l.kind }
 
-kind_back : (k : Kind) → open_kind (pos (type_from k)) (converted_from k) ≡ Some k
+pub kind_back : (k : Kind) → open_kind (pos (type_from k)) (converted_from k) ≡ Some k
 kind_back bool_kind = refl
 kind_back int32_kind = refl
 kind_back int64_kind = refl
 kind_back text_kind = refl
 
 -- no field of these has an earlier name
-abbrev Fresh : List (List ℕ) → Fields → Type 0
+abbrev pub Fresh : List (List ℕ) → Fields → Type 0
 Fresh earlier no_fields = Unit {0}
 Fresh earlier (field n r s fs) = (list_any (bytes_eq n) earlier ≡ false) × Fresh earlier fs
 
-fresh_more : (n : List ℕ) (earlier : List (List ℕ)) (fs : Fields) → list_any (bytes_eq n) (field_names fs) ≡ false → Fresh earlier fs → Fresh (n ∷ earlier) fs
+pub fresh_more : (n : List ℕ) (earlier : List (List ℕ)) (fs : Fields) → list_any (bytes_eq n) (field_names fs) ≡ false → Fresh earlier fs → Fresh (n ∷ earlier) fs
 fresh_more n earlier no_fields h f = tt
 fresh_more n earlier (field m r s fs) h f =
     let p : (bytes_eq n m ≡ false) × (list_any (bytes_eq n) (field_names fs) ≡ false) = or_parts _ _ h in
     (or_from _ _ (other_way n m p.0) f.0, fresh_more n earlier fs p.1 f.1)
 
-fresh_at_first : (fs : Fields) → Fresh [] fs
+pub fresh_at_first : (fs : Fields) → Fresh [] fs
 fresh_at_first no_fields = tt
 fresh_at_first (field n r s fs) = (refl, fresh_at_first fs)
 
-open_if : (earlier : List (List ℕ)) (n : List ℕ) → is_short_name n ≡ true → list_any (bytes_eq n) earlier ≡ false → is_open_name earlier n ≡ true
+pub open_if : (earlier : List (List ℕ)) (n : List ℕ) → is_short_name n ≡ true → list_any (bytes_eq n) earlier ≡ false → is_open_name earlier n ≡ true
 open_if earlier n h f = and_from _ _ h (not_from_false _ f)
 
 map_under : (n : List ℕ) (i : ℕ) (r : Repetition) (ls : List Leaf) → map (leaf_under n r true) (map file_leaf_of ls) ≡ map file_leaf_of (map (leaf_below n (record { place = i; repetition = r })) ls)

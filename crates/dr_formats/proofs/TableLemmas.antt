@@ -44,7 +44,7 @@ digits_are (d ∷ ds) h =
     let q = digits_are ds h.1 in
     (and_from _ _ (and_from _ _ (le-leb 48 d (omega (arith, r))) (le-leb d 57 (omega (arith, r)))) q.0, and_from _ _ (not_from_false _ (ne_eqb d 10 (omega (arith, r)))) q.1)
 
-same_value : (n : ℕ) (ds : List ℕ) → AllDigits 10 ds → digits_value n ds ≡ digits_value_after 10 n ds
+pub same_value : (n : ℕ) (ds : List ℕ) → AllDigits 10 ds → digits_value n ds ≡ digits_value_after 10 n ds
 same_value n [] h = refl
 same_value n (d ∷ ds) h =
     let r = digit_from_value d h.0 in

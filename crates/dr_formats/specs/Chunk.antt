@@ -1,12 +1,14 @@
 -- Column chunks: pages until the wanted triplets are taken (Apache Parquet, "Column chunks", "Data Pages").
-use Rattle.std.specs.Prelude.{ℕ, zero, suc, ◌+◌, ◌-◌, List, [], ◌++◌, length, take, drop, Bool, true, false, ◌&&◌, ◌||◌, nat_le, nat_lt, if◌then◌else◌, ℤ, pos, Option, Some, None, option_and_then, Result, Ok, Err}
+use Rattle.std.specs.Prelude.{ℕ, zero, suc, ◌+◌, ◌-◌, List, [], ◌++◌, length, take, drop, Bool, true, false, ◌&&◌, ◌||◌, nat_le, nat_lt}
+use Rattle.std.specs.Prelude.{if◌then◌else◌, ℤ, pos, Option, Some, None, option_and_then, Result, Ok, Err}
 use Rattle.dr_meaning.specs.Record.{Value}
 use Rattle.dr_meaning.specs.Path.{Leaf, max_repetition, max_definition}
 use Rattle.dr_meaning.specs.Column.{Triplet}
 use Rattle.dr_formats.specs.Reading.{Reading, got, refused, Reader, give, ◌>>=◌, bytes_of}
 use Rattle.dr_formats.specs.Compact.{CompactFault, Struct, read_struct}
 use Rattle.dr_formats.specs.Plain.{plain_values}
-use Rattle.dr_formats.specs.Page.{data_page_v1, PageShape, PageFault, bad_page, found, is_number, plain_encoding, plain_dictionary_encoding, page_triplets, triplets_read}
+use Rattle.dr_formats.specs.Page.{data_page_v1, PageShape, PageFault, bad_page, found, is_number, plain_encoding, plain_dictionary_encoding}
+use Rattle.dr_formats.specs.Page.{page_triplets, triplets_read}
 use Rattle.dr_formats.specs.Metadata.{MetaFault, ColumnMeta, DataPageHeader, DictionaryPageHeader, PageHeader, view_page}
 
 -- ---- pages
@@ -36,21 +38,39 @@ taken ts d = record { triplets = ts; dictionary = d }
 
 -- what a page's header and its leaf say of its body
 abbrev pub shape_of_page : Leaf → DataPageHeader → PageShape
-shape_of_page l h = record { form = data_page_v1; triplets = h.values; encoding = h.encoding; definition_encoding = h.definition_encoding; repetition_encoding = h.repetition_encoding; kind = l.kind; max_repetition = max_repetition l.path; max_definition = max_definition l.path }
+shape_of_page l h = record {
+  form = data_page_v1;
+  triplets = h.values;
+  encoding = h.encoding;
+  definition_encoding = h.definition_encoding;
+  repetition_encoding = h.repetition_encoding;
+  kind = l.kind;
+  max_repetition = max_repetition l.path;
+  max_definition = max_definition l.path;
+}
 
 -- a data page, if it has at most the wanted triplets
 abbrev pub data_page : Leaf → ℕ → List Value → List ℕ → Option DataPageHeader → Reader PageFault PageTaken
 data_page l wanted dictionary body None = refused bad_page
-data_page l wanted dictionary body (Some h) = if nat_le h.values wanted then (do ts ← found (page_triplets (shape_of_page l h) dictionary body); give (taken ts dictionary)) else refused bad_page
+data_page l wanted dictionary body (Some h) =
+    if nat_le h.values wanted then (do ts ← found (page_triplets (shape_of_page l h) dictionary body); give (taken ts dictionary))
+    else refused bad_page
 
 -- a dictionary page, if it is the first page, with PLAIN values
 abbrev pub dictionary_page : Leaf → Bool → List ℕ → Option DictionaryPageHeader → Reader PageFault PageTaken
 dictionary_page l first body None = refused bad_page
-dictionary_page l first body (Some h) = if first && (is_number plain_encoding h.encoding || is_number plain_dictionary_encoding h.encoding) then (do vs ← found (plain_values l.kind h.values body); give (taken [] vs)) else refused bad_page
+dictionary_page l first body (Some h) =
+    if first && (is_number plain_encoding h.encoding || is_number plain_dictionary_encoding h.encoding)
+    then (do vs ← found (plain_values l.kind h.values body); give (taken [] vs))
+    else refused bad_page
 
 -- a page by its type: DATA_PAGE 0, INDEX_PAGE 1, DICTIONARY_PAGE 2 (parquet.thrift, PageType); index pages are passed over, any other is refused
 abbrev pub page_taken : Leaf → ℕ → Bool → List Value → PageHeader → List ℕ → Reader PageFault PageTaken
-page_taken l wanted first dictionary h body = if is_number 0 h.type then data_page l wanted dictionary body h.data_page else (if is_number 1 h.type then give (taken [] dictionary) else (if is_number 2 h.type then dictionary_page l first body h.dictionary_page else refused bad_page))
+page_taken l wanted first dictionary h body =
+    if is_number 0 h.type then data_page l wanted dictionary body h.data_page
+    else (if is_number 1 h.type then give (taken [] dictionary)
+    else (if is_number 2 h.type then dictionary_page l first body h.dictionary_page
+    else refused bad_page))
 
 -- at most k pages, until the wanted triplets are taken; each page takes a byte at least, so there are at most as many as bytes
 abbrev pub pages : Leaf → ℕ → ℕ → Bool → List Value → Reader PageFault (List Triplet)
@@ -80,7 +100,9 @@ chunk_start m = start_from m.data_page_offset m.dictionary_page_offset
 
 -- the bytes of a chunk, if they lie between the magic and the footer
 abbrev pub chunk_bytes : List ℕ → ℕ → ColumnMeta → Option (List ℕ)
-chunk_bytes bytes footer m = if nat_le 4 (chunk_start m) && nat_le (chunk_start m + m.compressed_size) footer then Some (take m.compressed_size (drop (chunk_start m) bytes)) else None
+chunk_bytes bytes footer m =
+    if nat_le 4 (chunk_start m) && nat_le (chunk_start m + m.compressed_size) footer then Some (take m.compressed_size (drop (chunk_start m) bytes))
+    else None
 
 -- the triplets of a leaf's chunk in a file whose footer begins at this place
 abbrev pub chunk_triplets : List ℕ → ℕ → Leaf → ColumnMeta → Option (List Triplet)

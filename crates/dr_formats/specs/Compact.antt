@@ -1,5 +1,6 @@
 -- Structs in the Thrift compact protocol: their trees, how they are read, the first fault, and the one spelling that is written.
-use Rattle.std.specs.Prelude.{ℕ, zero, suc, ◌+◌, ◌-◌, ◌*◌, ◌/◌, ◌%◌, ◌^◌, List, [], ◌∷◌, ◌++◌, length, Bool, true, false, ◌&&◌, ◌==◌, nat_lt, if◌then◌else◌, ℤ, pos, negsuc, ◌+ℤ◌, ◌-ℤ◌, neg_ℤ, int_le, int_lt, Option, Some, None, option_map, option_and_then}
+use Rattle.std.specs.Prelude.{ℕ, zero, suc, ◌+◌, ◌-◌, ◌*◌, ◌/◌, ◌%◌, ◌^◌, List, [], ◌∷◌, ◌++◌, length, Bool, true, false, ◌&&◌, ◌==◌, nat_lt}
+use Rattle.std.specs.Prelude.{if◌then◌else◌, ℤ, pos, negsuc, ◌+ℤ◌, ◌-ℤ◌, neg_ℤ, int_le, int_lt, Option, Some, None, option_map, option_and_then}
 use Rattle.dr_meaning.specs.Record.{in_int64}
 use Rattle.dr_formats.specs.Reading.{Reading, got, refused, Reader, give, ◌>>=◌, byte_as, bytes_of}
 use Rattle.dr_formats.specs.Varint.{varint, varint_below, varint_bytes, zigzag, from_zigzag}
@@ -27,7 +28,8 @@ mutual
     stop : Struct
     struct_field : ℤ → Item → Struct → Struct
 
-  -- a value; a double keeps its eight bytes; lists, sets and maps keep the types of what is in them, of which 1 and 2 both stand for truth values; a map without pairs keeps none
+  -- a value; a double keeps its eight bytes; lists, sets and maps keep the types of what is in them, of which 1 and 2 both stand for truth values; a
+  -- map without pairs keeps none
   pub data Item : Type 0 where
     truth_item : Bool → Item
     byte_item : ℕ → Item
@@ -277,7 +279,8 @@ value_of (suc n) struct_type = do
   s ← struct_of (value_of n)
   give (struct_item s)
 
--- the struct at the front of bytes and the bytes behind it, or the first fault: too_deep at the value's first byte, malformed at the first byte with which no struct goes on, or at the end
+-- the struct at the front of bytes and the bytes behind it, or the first fault: too_deep at the value's first byte, malformed at the first byte with
+-- which no struct goes on, or at the end
 unfoldable pub read_struct : Reader CompactFault Struct
 read_struct = struct_of (value_of (greatest_nesting - 1))
 

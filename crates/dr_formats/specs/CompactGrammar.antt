@@ -1,7 +1,10 @@
 -- The grammar of structs in the Thrift compact protocol, as a relation between bytes and trees: every spelling that the protocol allows.
 use Rattle.std.specs.Prelude.{◌-◌, ◌≡◌, ◌⊎◌, ℕ, zero, suc, ◌/◌, ◌%◌, ◌^◌, ◌<◌, List, [], ◌∷◌, ◌++◌, length, true, false, ◌==◌, ℤ, pos, ◌+ℤ◌, Some}
 use Rattle.dr_formats.specs.Varint.{SpellsNumber, SpellsSigned}
-use Rattle.dr_formats.specs.Compact.{greatest_nesting, ThriftType, true_type, false_type, byte_type, i16_type, i32_type, i64_type, double_type, binary_type, list_type, set_type, map_type, struct_type, Struct, stop, struct_field, Item, truth_item, byte_item, i16_item, i32_item, i64_item, double_item, binary_item, list_item, set_item, empty_map_item, map_item, struct_item, Items, no_items, item, Pairs, no_pairs, pair, type_of, in_int16, count_items, count_pairs}
+use Rattle.dr_formats.specs.Compact.{greatest_nesting, ThriftType, true_type, false_type, byte_type, i16_type, i32_type, i64_type, double_type}
+use Rattle.dr_formats.specs.Compact.{binary_type, list_type, set_type, map_type, struct_type, Struct, stop, struct_field, Item, truth_item, byte_item}
+use Rattle.dr_formats.specs.Compact.{i16_item, i32_item, i64_item, double_item, binary_item, list_item, set_item, empty_map_item, map_item}
+use Rattle.dr_formats.specs.Compact.{struct_item, Items, no_items, item, Pairs, no_pairs, pair, type_of, in_int16, count_items, count_pairs}
 
 -- ---- headers
 
@@ -23,11 +26,13 @@ SpellsFieldHeader bytes last id t = SpellsShortHeader bytes last id t ⊎ Spells
 
 -- `size << 4 | type`, where the size 15 means that the size follows
 abbrev pub SpellsListHeader : List ℕ → ℕ → ThriftType → Type 0
-SpellsListHeader bytes n t = ((b : ℕ) × (bytes ≡ b ∷ []) × SpellsHalves b n t × ((n == 15) ≡ false)) ⊎ ((b : ℕ) × (v : List ℕ) × (bytes ≡ b ∷ v) × SpellsHalves b 15 t × SpellsNumber v n)
+SpellsListHeader bytes n t = ((b : ℕ) × (bytes ≡ b ∷ []) × SpellsHalves b n t × ((n == 15) ≡ false))
+    ⊎ ((b : ℕ) × (v : List ℕ) × (bytes ≡ b ∷ v) × SpellsHalves b 15 t × SpellsNumber v n)
 
 -- a map's size, which is not 0, and `key type << 4 | value type`
 abbrev pub SpellsMapHeader : List ℕ → ℕ → ThriftType → ThriftType → Type 0
-SpellsMapHeader bytes n k v = (s : List ℕ) × (b : ℕ) × (bytes ≡ s ++ b ∷ []) × SpellsNumber s n × (0 < n) × (type_of (b / 16) ≡ Some k) × (type_of (b % 16) ≡ Some v)
+SpellsMapHeader bytes n k v = (s : List ℕ) × (b : ℕ) × (bytes ≡ s ++ b ∷ []) × SpellsNumber s n × (0 < n) × (type_of (b / 16) ≡ Some k)
+    × (type_of (b % 16) ≡ Some v)
 
 -- ---- values and structs, with at most so many structs, lists, sets and maps in one another
 
@@ -45,7 +50,8 @@ abbrev mutual
   -- fields behind the one with the last id: each a header, a value and the other fields; 0 at the end
   pub SpellsFields : ℕ → List ℕ → ℤ → Struct → Type 0
   SpellsFields n bytes last stop = bytes ≡ 0 ∷ []
-  SpellsFields n bytes last (struct_field id x s) = (h : List ℕ) × (u : List ℕ) × (v : List ℕ) × (t : ThriftType) × (bytes ≡ h ++ (u ++ v)) × SpellsFieldHeader h last id t × InField x u t (SpellsItem n u t x) × SpellsFields n v id s
+  SpellsFields n bytes last (struct_field id x s) = (h : List ℕ) × (u : List ℕ) × (v : List ℕ) × (t : ThriftType) × (bytes ≡ h ++ (u ++ v))
+      × SpellsFieldHeader h last id t × InField x u t (SpellsItem n u t x) × SpellsFields n v id s
 
   -- a value of a type, as it stands in a list, set or map
   pub SpellsItem : ℕ → List ℕ → ThriftType → Item → Type 0
@@ -56,10 +62,13 @@ abbrev mutual
   SpellsItem n bytes t (i64_item z) = (t ≡ i64_type) × SpellsSigned (2 ^ 64) bytes z
   SpellsItem n bytes t (double_item b) = (t ≡ double_type) × (bytes ≡ b) × (length b ≡ 8)
   SpellsItem n bytes t (binary_item b) = (t ≡ binary_type) × (v : List ℕ) × (bytes ≡ v ++ b) × SpellsNumber v (length b)
-  SpellsItem (suc n) bytes t (list_item e xs) = (t ≡ list_type) × (h : List ℕ) × (u : List ℕ) × (bytes ≡ h ++ u) × SpellsListHeader h (count_items xs) e × SpellsItems n u e xs
-  SpellsItem (suc n) bytes t (set_item e xs) = (t ≡ set_type) × (h : List ℕ) × (u : List ℕ) × (bytes ≡ h ++ u) × SpellsListHeader h (count_items xs) e × SpellsItems n u e xs
+  SpellsItem (suc n) bytes t (list_item e xs) = (t ≡ list_type) × (h : List ℕ) × (u : List ℕ) × (bytes ≡ h ++ u)
+      × SpellsListHeader h (count_items xs) e × SpellsItems n u e xs
+  SpellsItem (suc n) bytes t (set_item e xs) = (t ≡ set_type) × (h : List ℕ) × (u : List ℕ) × (bytes ≡ h ++ u)
+      × SpellsListHeader h (count_items xs) e × SpellsItems n u e xs
   SpellsItem (suc n) bytes t empty_map_item = (t ≡ map_type) × SpellsNumber bytes 0
-  SpellsItem (suc n) bytes t (map_item k v xs) = (t ≡ map_type) × (h : List ℕ) × (u : List ℕ) × (bytes ≡ h ++ u) × SpellsMapHeader h (count_pairs xs) k v × SpellsPairs n u k v xs
+  SpellsItem (suc n) bytes t (map_item k v xs) = (t ≡ map_type) × (h : List ℕ) × (u : List ℕ) × (bytes ≡ h ++ u)
+      × SpellsMapHeader h (count_pairs xs) k v × SpellsPairs n u k v xs
   SpellsItem (suc n) bytes t (struct_item s) = (t ≡ struct_type) × SpellsFields n bytes (pos 0) s
   SpellsItem zero bytes t x = ⊥
 
@@ -71,7 +80,8 @@ abbrev mutual
   -- pairs of two types, one after another
   pub SpellsPairs : ℕ → List ℕ → ThriftType → ThriftType → Pairs → Type 0
   SpellsPairs n bytes k v no_pairs = bytes ≡ []
-  SpellsPairs n bytes k v (pair x y xs) = (a : List ℕ) × (b : List ℕ) × (c : List ℕ) × (bytes ≡ a ++ (b ++ c)) × SpellsItem n a k x × SpellsItem n b v y × SpellsPairs n c k v xs
+  SpellsPairs n bytes k v (pair x y xs) = (a : List ℕ) × (b : List ℕ) × (c : List ℕ) × (bytes ≡ a ++ (b ++ c)) × SpellsItem n a k x
+      × SpellsItem n b v y × SpellsPairs n c k v xs
 
 -- whether the bytes, all of them, spell the struct, in which nothing stands inside 32 others
 abbrev pub SpellsStruct : List ℕ → Struct → Type 0

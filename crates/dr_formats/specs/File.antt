@@ -1,10 +1,12 @@
 -- Files: the footer, which files are files of records for a set of leaves, and the causes for which others are not (Apache Parquet, "File format").
-use Rattle.std.specs.Prelude.{◌≡◌, ℕ, zero, suc, ◌+◌, ◌-◌, ◌^◌, List, [], ◌∷◌, ◌++◌, map, length, take, drop, Bool, true, false, ◌&&◌, ◌==◌, nat_le, if◌then◌else◌, bytes_eq, Option, Some, None, option_map, option_and_then, Result, Ok, Err}
+use Rattle.std.specs.Prelude.{◌≡◌, ℕ, zero, suc, ◌+◌, ◌-◌, ◌^◌, List, [], ◌∷◌, ◌++◌, map, length, take, drop, Bool, true, false, ◌&&◌, ◌==◌, nat_le}
+use Rattle.std.specs.Prelude.{if◌then◌else◌, bytes_eq, Option, Some, None, option_map, option_and_then, Result, Ok, Err}
 use Rattle.std.specs.List.{list_all}
 use Rattle.dr_meaning.specs.Schema.{Schema}
 use Rattle.dr_meaning.specs.Path.{Leaf}
 use Rattle.dr_meaning.specs.Record.{Node, is_record}
 use Rattle.dr_meaning.specs.Column.{Triplet, column}
+pub use Rattle.dr_meaning.specs.OneColumn.{starts, begins_record}
 use Rattle.dr_formats.specs.Reading.{Reading, got, refused}
 use Rattle.dr_formats.specs.LittleEndian.{little_endian}
 use Rattle.dr_formats.specs.Compact.{CompactFault, Struct, read_struct}
@@ -29,7 +31,8 @@ footer_place bytes = length bytes - 8 - footer_length bytes
 
 -- whether there are 12 bytes at least, both magics, and room for the footer between them
 abbrev pub is_framed : List ℕ → Bool
-is_framed bytes = nat_le 12 (length bytes) && bytes_eq (take 4 bytes) magic && bytes_eq (drop (length bytes - 4) bytes) magic && nat_le (footer_length bytes) (length bytes - 12)
+is_framed bytes = nat_le 12 (length bytes) && bytes_eq (take 4 bytes) magic && bytes_eq (drop (length bytes - 4) bytes) magic
+    && nat_le (footer_length bytes) (length bytes - 12)
 
 -- where the footer begins, its metadata, the tree of its schema elements
 pub record Footer : Type 0 where
@@ -62,11 +65,15 @@ is_whole_group leaves g = (length g.columns == leaves) && list_all (λ (c : Colu
 
 -- the footer, where each row group has a chunk for each leaf of this schema
 abbrev pub with_schema : ℕ → FileMeta → FileSchema → Option Footer
-with_schema place m s = if list_all (is_whole_group (length (file_leaves s.fields))) m.groups then Some (record { place = place; meta = m; schema = s }) else None
+with_schema place m s =
+    if list_all (is_whole_group (length (file_leaves s.fields))) m.groups then Some (record { place = place; meta = m; schema = s })
+    else None
 
 -- the footer of a file, if it has one
 unfoldable pub footer_of : List ℕ → Option Footer
-footer_of bytes = if is_framed bytes then option_and_then (λ (m : FileMeta). option_and_then (with_schema (footer_place bytes) m) (file_schema m.schema)) (footer_meta bytes) else None
+footer_of bytes =
+    if is_framed bytes then option_and_then (λ (m : FileMeta). option_and_then (with_schema (footer_place bytes) m) (file_schema m.schema)) (footer_meta bytes)
+    else None
 
 -- ---- the chunks of a leaf
 
@@ -130,15 +137,6 @@ chunk_values (Some m) = m.values
 abbrev pub values_fit : Footer → List Leaf → Bool
 values_fit f F = list_all (λ l. nat_le (total (λ g. chunk_values (leaf_chunk f l g)) f.meta.groups) most_triplets) F
 
--- how many triplets begin a record
-abbrev pub starts : List Triplet → ℕ
-starts ts = total (λ (t : Triplet). if t.repetition == 0 then 1 else 0) ts
-
--- whether the first triplet begins a record
-abbrev pub begins_record : List Triplet → Bool
-begins_record [] = true
-begins_record (t ∷ ts) = t.repetition == 0
-
 -- the triplets, if they are those of so many whole records
 abbrev pub of_rows : ℕ → List Triplet → Option (List Triplet)
 of_rows rows ts = if begins_record ts && (starts ts == rows) then Some ts else None
@@ -164,7 +162,8 @@ AreColumns bytes f F R = map (file_column bytes f) F ≡ map (λ (l : Leaf). Som
 
 -- a footer's data is that of these records of the schema
 abbrev pub IsDataOf : List ℕ → Footer → Schema → List Leaf → List Node → Type 0
-IsDataOf bytes f s F R = (rows_agree f ≡ true) × (values_fit f F ≡ true) × (length R ≡ f.meta.rows) × (list_all (is_record s.fields) R ≡ true) × AreColumns bytes f F R
+IsDataOf bytes f s F R = (rows_agree f ≡ true) × (values_fit f F ≡ true) × (length R ≡ f.meta.rows) × (list_all (is_record s.fields) R ≡ true)
+    × AreColumns bytes f F R
 
 -- the bytes are a file of these records of the schema, for these of its leaves
 abbrev pub IsFileOf : List ℕ → Schema → List Leaf → List Node → Type 0
@@ -184,7 +183,8 @@ abbrev pub HasCause : List ℕ → Schema → List Leaf → FileCause → Type 0
 HasCause bytes s F bad_footer = footer_of bytes ≡ None
 HasCause bytes s F bad_schema = (f : Footer) × (footer_of bytes ≡ Some f) × (has_leaves f F ≡ false)
 HasCause bytes s F bad_codec = (f : Footer) × (footer_of bytes ≡ Some f) × (has_leaves f F ≡ true) × (are_uncompressed f F ≡ false)
-HasCause bytes s F bad_data = (f : Footer) × (footer_of bytes ≡ Some f) × (has_leaves f F ≡ true) × (are_uncompressed f F ≡ true) × ((R : List Node) → IsDataOf bytes f s F R → ⊥)
+HasCause bytes s F bad_data = (f : Footer) × (footer_of bytes ≡ Some f) × (has_leaves f F ≡ true) × (are_uncompressed f F ≡ true)
+    × ((R : List Node) → IsDataOf bytes f s F R → ⊥)
 
 -- ---- a test for causes: of the last it knows only the reasons that need no records
 
@@ -197,10 +197,14 @@ is_decoded (Some ts) = true
 abbrev pub has_columns : List ℕ → Footer → List Leaf → Bool
 has_columns bytes f F = rows_agree f && values_fit f F && list_all (λ l. is_decoded (file_column bytes f l)) F
 
--- the cause by these tests, in their order
+-- the cause by the tests of a footer, in their order, where this test tells whether the data is good
+abbrev pub cause_by : (Footer → Bool) → List Leaf → Option Footer → Option FileCause
+cause_by is_good F None = Some bad_footer
+cause_by is_good F (Some f) =
+    if has_leaves f F then (if are_uncompressed f F then (if is_good f then None else Some bad_data) else Some bad_codec) else Some bad_schema
+
 abbrev pub footer_cause : List ℕ → List Leaf → Option Footer → Option FileCause
-footer_cause bytes F None = Some bad_footer
-footer_cause bytes F (Some f) = if has_leaves f F then (if are_uncompressed f F then (if has_columns bytes f F then None else Some bad_data) else Some bad_codec) else Some bad_schema
+footer_cause bytes F o = cause_by (λ f. has_columns bytes f F) F o
 
 -- the cause of bytes, as far as the test knows
 abbrev pub known_cause : List ℕ → List Leaf → Option FileCause

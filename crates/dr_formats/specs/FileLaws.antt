@@ -19,4 +19,5 @@ FileHasNoCause = (bytes : List ℕ) (s : Schema) (F : List Leaf) (R : List Node)
 
 -- a cause that holds is the one that the test knows, but for causes of data that need records to be seen
 abbrev pub CauseIsKnown : Type 0
-CauseIsKnown = (bytes : List ℕ) (s : Schema) (F : List Leaf) (c : FileCause) → HasCause bytes s F c → (known_cause bytes F ≡ Some c) ⊎ ((c ≡ bad_data) × (known_cause bytes F ≡ None))
+CauseIsKnown = (bytes : List ℕ) (s : Schema) (F : List Leaf) (c : FileCause) → HasCause bytes s F c → (known_cause bytes F ≡ Some c)
+    ⊎ ((c ≡ bad_data) × (known_cause bytes F ≡ None))

@@ -1,7 +1,9 @@
 -- The schema of a file: the tree of its schema elements, its leaves, and what of it is open to be read (Apache Parquet, parquet.thrift, SchemaElement).
-use Rattle.std.specs.Prelude.{ℕ, zero, suc, List, [], ◌∷◌, ◌++◌, map, length, Bool, true, false, not, ◌&&◌, ◌||◌, nat_le, if◌then◌else◌, bytes_eq, codes, ℤ, pos, negsuc, Option, Some, None, option_map, option_and_then}
+use Rattle.std.specs.Prelude.{ℕ, zero, suc, List, [], ◌∷◌, ◌++◌, map, length, Bool, true, false, not, ◌&&◌, ◌||◌, nat_le, if◌then◌else◌, bytes_eq}
+use Rattle.std.specs.Prelude.{codes, ℤ, pos, negsuc, Option, Some, None, option_map, option_and_then}
 use Rattle.std.specs.List.{list_any}
-use Rattle.dr_meaning.specs.Schema.{Repetition, required, optional, repeated, Kind, bool_kind, int32_kind, int64_kind, text_kind, Fields, no_fields, field, Shape, leaf, group, Schema, is_short_name, greatest_depth, most_leaves}
+use Rattle.dr_meaning.specs.Schema.{Repetition, required, optional, repeated, Kind, bool_kind, int32_kind, int64_kind, text_kind, Fields, no_fields}
+use Rattle.dr_meaning.specs.Schema.{field, Shape, leaf, group, Schema, is_short_name, greatest_depth, most_leaves}
 use Rattle.dr_meaning.specs.Path.{Step, Leaf, same_repetition}
 use Rattle.dr_formats.specs.Metadata.{SchemaElement}
 use Rattle.dr_formats.specs.Page.{is_number}
@@ -27,7 +29,11 @@ pub record FileSchema : Type 0 where
 -- the repetition of a number: REQUIRED 0, OPTIONAL 1, REPEATED 2 (parquet.thrift, FieldRepetitionType)
 abbrev pub repetition_from : Option ℤ → Option Repetition
 repetition_from None = None
-repetition_from (Some z) = if is_number 0 z then Some required else (if is_number 1 z then Some optional else (if is_number 2 z then Some repeated else None))
+repetition_from (Some z) =
+    if is_number 0 z then Some required
+    else (if is_number 1 z then Some optional
+    else (if is_number 2 z then Some repeated
+    else None))
 
 -- fields, and the elements behind them
 pub record FieldsRead : Type 0 where
@@ -59,7 +65,11 @@ abbrev pub fields_read : ℕ → ℕ → List SchemaElement → Option FieldsRea
 fields_read k zero es = Some (record { fields = no_file_fields; behind = es })
 fields_read zero (suc n) es = None
 fields_read (suc k) (suc n) [] = None
-fields_read (suc k) (suc n) (e ∷ es) = option_and_then (λ (r : Repetition). option_and_then (λ (s : ShapeRead). option_map (with_first e.name r s.shape) (fields_read k n s.behind)) (shape_read (fields_read k) e e.type e.children es)) (repetition_from e.repetition)
+fields_read (suc k) (suc n) (e ∷ es) =
+    option_and_then (λ (r : Repetition).
+    option_and_then (λ (s : ShapeRead). option_map (with_first e.name r s.shape) (fields_read k n s.behind))
+    (shape_read (fields_read k) e e.type e.children es))
+    (repetition_from e.repetition)
 
 -- the tree, if no element is left over
 abbrev pub whole_schema : List ℕ → FieldsRead → List SchemaElement → Option FileSchema
@@ -85,7 +95,12 @@ is_open_conversion (Some z) = not (is_number 5 z || is_number 13 z || is_number 
 
 -- the kind of a type: BOOLEAN 0, INT32 1, INT64 2, BYTE_ARRAY 6 (parquet.thrift, Type)
 abbrev pub kind_from : ℤ → Option Kind
-kind_from t = if is_number 0 t then Some bool_kind else (if is_number 1 t then Some int32_kind else (if is_number 2 t then Some int64_kind else (if is_number 6 t then Some text_kind else None)))
+kind_from t =
+    if is_number 0 t then Some bool_kind
+    else (if is_number 1 t then Some int32_kind
+    else (if is_number 2 t then Some int64_kind
+    else (if is_number 6 t then Some text_kind
+    else None)))
 
 -- the kind of a leaf of this type and converted type, if it is open by these
 abbrev pub open_kind : ℤ → Option ℤ → Option Kind
@@ -215,7 +230,8 @@ abbrev mutual
   -- the open part of a group's fields, where earlier fields have these names, with at most so many parts on a path and so many leaves
   pub open_fields : List (List ℕ) → ℕ → FileFields → ℕ → OpenFields
   open_fields earlier d no_file_fields n = record { fields = no_fields; left = n }
-  open_fields earlier d (file_field name r s fs) n = put_open name r (if is_open_name earlier name then open_below d s n else closed_shape n) (open_fields (name ∷ earlier) d fs)
+  open_fields earlier d (file_field name r s fs) n =
+      put_open name r (if is_open_name earlier name then open_below d s n else closed_shape n) (open_fields (name ∷ earlier) d fs)
 
   -- the open part of the shape of a field with an open name
   pub open_below : ℕ → FileShape → ℕ → OpenShape

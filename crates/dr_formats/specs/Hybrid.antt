@@ -1,5 +1,6 @@
 -- The RLE / bit-packing hybrid (Apache Parquet, Encodings, "Run Length Encoding / Bit-Packing Hybrid"), without the length before it.
-use Rattle.std.specs.Prelude.{◌≡◌, ◌⊎◌, ◌<◌, ℕ, zero, suc, ◌+◌, ◌-◌, ◌*◌, ◌/◌, ◌%◌, min, List, [], ◌∷◌, ◌++◌, length, take, replicate, ◌||◌, ◌==◌, nat_le, if◌then◌else◌, Option, Some, None}
+use Rattle.std.specs.Prelude.{◌≡◌, ◌⊎◌, ◌<◌, ℕ, zero, suc, ◌+◌, ◌-◌, ◌*◌, ◌/◌, ◌%◌, min, List, [], ◌∷◌, ◌++◌, length, take, replicate, ◌||◌, ◌==◌}
+use Rattle.std.specs.Prelude.{nat_le, if◌then◌else◌, Option, Some, None}
 use Rattle.dr_formats.specs.Reading.{Reading, got, refused, Reader, give, ◌>>=◌, bytes_of}
 use Rattle.dr_formats.specs.Varint.{varint, varint_bytes, SpellsNumber}
 use Rattle.dr_formats.specs.LittleEndian.{little_endian, little_endian_bytes, unpacked, packed, bytes_for}
@@ -51,18 +52,22 @@ SpellsRepeat width n header part vs = (count : ℕ) × (header ≡ 2 * count) ×
 
 -- groups of eight packed values, as many bytes of them as hold wanted values
 abbrev pub SpellsPacked : ℕ → ℕ → ℕ → List ℕ → List ℕ → Type 0
-SpellsPacked width n header part vs = (groups : ℕ) × (header ≡ 2 * groups + 1) × (length vs ≡ min (8 * groups) n) × (length part ≡ bytes_for (length vs * width)) × (vs ≡ unpacked (length vs) width (little_endian part))
+SpellsPacked width n header part vs = (groups : ℕ) × (header ≡ 2 * groups + 1) × (length vs ≡ min (8 * groups) n)
+    × (length part ≡ bytes_for (length vs * width)) × (vs ≡ unpacked (length vs) width (little_endian part))
 
 -- so many runs, before each of which a value is wanted, whose values are the n wanted ones; what follows doesn't matter
 abbrev pub SpellsRuns : ℕ → ℕ → ℕ → List ℕ → List ℕ → Type 0
 SpellsRuns zero width n bytes vs = (n ≡ 0) × (vs ≡ [])
-SpellsRuns (suc k) width n bytes vs = (0 < n) × (h : List ℕ) × (part : List ℕ) × (behind : List ℕ) × (header : ℕ) × (us : List ℕ) × (ws : List ℕ) × (bytes ≡ h ++ (part ++ behind)) × SpellsNumber h header × (SpellsRepeat width n header part us ⊎ SpellsPacked width n header part us) × SpellsRuns k width (n - length us) behind ws × (vs ≡ us ++ ws)
+SpellsRuns (suc k) width n bytes vs = (0 < n) × (h : List ℕ) × (part : List ℕ) × (behind : List ℕ) × (header : ℕ) × (us : List ℕ) × (ws : List ℕ)
+    × (bytes ≡ h ++ (part ++ behind)) × SpellsNumber h header × (SpellsRepeat width n header part us ⊎ SpellsPacked width n header part us)
+    × SpellsRuns k width (n - length us) behind ws × (vs ≡ us ++ ws)
 
 -- whether the bytes begin with runs whose values begin with these n
 abbrev pub Runs : List ℕ → ℕ → ℕ → List ℕ → Type 0
 Runs bytes width n vs = (k : ℕ) × SpellsRuns k width n bytes vs
 
--- ---- what is written: where at least eight equal values follow, or nothing but equal values, a repeat of them; else one group of the next eight, padded with 0
+-- ---- what is written: where at least eight equal values follow, or nothing but equal values, a repeat of them; else one group of the next eight,
+-- padded with 0
 
 -- how many values at the front equal this one
 abbrev pub equal_front : ℕ → List ℕ → ℕ
@@ -90,7 +95,8 @@ next_run width m v vs = if nat_le 8 m || (m == length vs) then repeat_of width m
 abbrev pub runs_behind : ℕ → ℕ → List ℕ → List ℕ
 runs_behind width k [] = []
 runs_behind width (suc k) (v ∷ vs) = runs_behind width k vs
-runs_behind width zero (v ∷ vs) = (next_run width (suc (equal_front v vs)) v (v ∷ vs)).bytes ++ runs_behind width ((next_run width (suc (equal_front v vs)) v (v ∷ vs)).taken - 1) vs
+runs_behind width zero (v ∷ vs) = (next_run width (suc (equal_front v vs)) v (v ∷ vs)).bytes
+    ++ runs_behind width ((next_run width (suc (equal_front v vs)) v (v ∷ vs)).taken - 1) vs
 
 -- the bytes that are written for values of this width
 unfoldable pub hybrid_bytes : ℕ → List ℕ → List ℕ

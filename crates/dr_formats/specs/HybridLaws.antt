@@ -13,8 +13,10 @@ OneListOfValues = (bytes : List ℕ) (width n : ℕ) (us vs : List ℕ) → Runs
 
 -- what is written for values of a width is read as these values, whatever follows it
 abbrev pub WrittenRunsAreRead : Type 0
-WrittenRunsAreRead = (width : ℕ) (vs rest : List ℕ) → list_all (λ v. nat_lt v (2 ^ width)) vs ≡ true → length vs < 2 ^ 63 → hybrid width (length vs) (hybrid_bytes width vs ++ rest) ≡ Some vs
+WrittenRunsAreRead = (width : ℕ) (vs rest : List ℕ) → list_all (λ v. nat_lt v (2 ^ width)) vs ≡ true → length vs < 2 ^ 63
+    → hybrid width (length vs) (hybrid_bytes width vs ++ rest) ≡ Some vs
 
 -- and spells them
 abbrev pub WrittenRunsAreSpelled : Type 0
-WrittenRunsAreSpelled = (width : ℕ) (vs rest : List ℕ) → list_all (λ v. nat_lt v (2 ^ width)) vs ≡ true → length vs < 2 ^ 63 → Runs (hybrid_bytes width vs ++ rest) width (length vs) vs
+WrittenRunsAreSpelled = (width : ℕ) (vs rest : List ℕ) → list_all (λ v. nat_lt v (2 ^ width)) vs ≡ true → length vs < 2 ^ 63
+    → Runs (hybrid_bytes width vs ++ rest) width (length vs) vs

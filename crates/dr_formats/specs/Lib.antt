@@ -16,10 +16,14 @@ pub mod Metadata
 pub mod FileSchema
 pub mod Chunk
 pub mod File
+pub mod Opening
 pub mod Writing
 -- tables: the table file; tablets and their places
 pub mod TableFile
 pub mod Tablets
+-- the command `load`; lines of commands over tables and files
+pub mod Loading
+pub mod Reports
 -- laws, each proved on a law function of src/
 pub mod VarintLaws
 pub mod CompactLaws
@@ -27,5 +31,6 @@ pub mod HybridLaws
 pub mod PlainLaws
 pub mod FileLaws
 pub mod WritingLaws
+pub mod OpenSchemaLaws
 pub mod TabletLaws
 pub mod TableLaws

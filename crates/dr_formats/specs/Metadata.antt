@@ -1,6 +1,7 @@
 -- The structs of a file's metadata (Apache Parquet, parquet.thrift): their fields in a tree, and their trees as they are written.
-use Rattle.std.specs.Prelude.{ℕ, List, [], ◌∷◌, ℤ, pos, negsuc, Option, Some, None, option_map, option_and_then, Result, Ok, Err}
-use Rattle.dr_formats.specs.Compact.{i32_type, binary_type, struct_type, Struct, stop, struct_field, Item, i32_item, i64_item, binary_item, list_item, struct_item, Items, no_items, item, find_field}
+use Rattle.std.specs.Prelude.{ℕ, Bool, List, [], ◌∷◌, ℤ, pos, negsuc, Option, Some, None, option_map, option_and_then, Result, Ok, Err}
+use Rattle.dr_formats.specs.Compact.{i32_type, binary_type, struct_type, Struct, stop, struct_field, Item, truth_item, i32_item, i64_item}
+use Rattle.dr_formats.specs.Compact.{binary_item, list_item, struct_item, Items, no_items, item, find_field}
 
 -- a needed field that isn't there with its type, or whose number is outside its range, by its id
 pub data MetaFault : Type 0 where
@@ -24,6 +25,11 @@ as_i32 x = None
 abbrev pub as_i64 : Item → Option ℤ
 as_i64 (i64_item z) = Some z
 as_i64 x = None
+
+-- a truth value
+abbrev pub as_truth : Item → Option Bool
+as_truth (truth_item b) = Some b
+as_truth x = None
 
 -- bytes of the type binary
 abbrev pub as_binary : Item → Option (List ℕ)
@@ -109,7 +115,14 @@ pub record SchemaElement : Type 0 where
 abbrev pub view_element : Struct → Result SchemaElement MetaFault
 view_element s = do
   n ← needed as_binary 4 s
-  Ok (record { type = optional_field as_i32 1 s; type_length = optional_field as_i32 2 s; repetition = optional_field as_i32 3 s; name = n; children = optional_field as_i32 5 s; converted = optional_field as_i32 6 s })
+  Ok (record {
+    type = optional_field as_i32 1 s;
+    type_length = optional_field as_i32 2 s;
+    repetition = optional_field as_i32 3 s;
+    name = n;
+    children = optional_field as_i32 5 s;
+    converted = optional_field as_i32 6 s;
+  })
 
 -- ---- ColumnMetaData, ColumnChunk, RowGroup, FileMetaData
 
@@ -133,7 +146,17 @@ view_column_meta s = do
   n ← needed_count as_i64 5 s
   z ← needed_count as_i64 7 s
   d ← needed_count as_i64 9 s
-  Ok (record { type = t; encodings = optional_field as_numbers 2 s; path = optional_field as_names 3 s; codec = c; values = n; uncompressed_size = optional_field as_i64 6 s; compressed_size = z; data_page_offset = d; dictionary_page_offset = optional_field as_i64 11 s })
+  Ok (record {
+    type = t;
+    encodings = optional_field as_numbers 2 s;
+    path = optional_field as_names 3 s;
+    codec = c;
+    values = n;
+    uncompressed_size = optional_field as_i64 6 s;
+    compressed_size = z;
+    data_page_offset = d;
+    dictionary_page_offset = optional_field as_i64 11 s;
+  })
 
 -- ColumnChunk: a chunk with its metadata
 pub record ColumnChunk : Type 0 where
@@ -210,12 +233,15 @@ view_dictionary_header s = do
   e ← needed as_i32 2 s
   Ok (record { values = n; encoding = e })
 
--- DataPageHeaderV2: number of triplets, encoding, byte lengths of the level parts
+-- DataPageHeaderV2: number of triplets, of NULLs and of rows, encoding, byte lengths of the level parts, whether the values are compressed
 pub record DataPageHeaderV2 : Type 0 where
   pub values : ℕ
+  pub nulls : Option ℤ
+  pub rows : Option ℤ
   pub encoding : ℤ
   pub definition_bytes : ℕ
   pub repetition_bytes : ℕ
+  pub compressed : Option Bool
 
 -- the V2 data page header of a struct
 abbrev pub view_data_header_v2 : Struct → Result DataPageHeaderV2 MetaFault
@@ -224,7 +250,15 @@ view_data_header_v2 s = do
   e ← needed as_i32 4 s
   d ← needed_count as_i32 5 s
   r ← needed_count as_i32 6 s
-  Ok (record { values = n; encoding = e; definition_bytes = d; repetition_bytes = r })
+  Ok (record {
+    values = n;
+    nulls = optional_field as_i32 2 s;
+    rows = optional_field as_i32 3 s;
+    encoding = e;
+    definition_bytes = d;
+    repetition_bytes = r;
+    compressed = optional_field as_truth 7 s;
+  })
 
 -- PageHeader: type, sizes, and the header struct of the type
 pub record PageHeader : Type 0 where
@@ -275,11 +309,15 @@ count_i64 i n s = struct_field (pos i) (i64_item (pos n)) s
 
 -- the struct of a schema element
 abbrev pub element_tree : SchemaElement → Struct
-element_tree e = with_i32 1 e.type (with_i32 2 e.type_length (with_i32 3 e.repetition (struct_field (pos 4) (binary_item e.name) (with_i32 5 e.children (with_i32 6 e.converted stop)))))
+element_tree e = with_i32 1 e.type (with_i32 2 e.type_length
+    (with_i32 3 e.repetition (struct_field (pos 4) (binary_item e.name) (with_i32 5 e.children (with_i32 6 e.converted stop)))))
 
 -- the struct of column metadata
 abbrev pub column_meta_tree : ColumnMeta → Struct
-column_meta_tree m = struct_field (pos 1) (i32_item m.type) (with_field 2 (λ es. list_item i32_type (items_of i32_item es)) m.encodings (with_field 3 (λ ns. list_item binary_type (items_of binary_item ns)) m.path (struct_field (pos 4) (i32_item m.codec) (count_i64 5 m.values (with_i64 6 m.uncompressed_size (count_i64 7 m.compressed_size (count_i64 9 m.data_page_offset (with_i64 11 m.dictionary_page_offset stop))))))))
+column_meta_tree m = struct_field (pos 1) (i32_item m.type) (with_field 2 (λ es. list_item i32_type (items_of i32_item es)) m.encodings
+    (with_field 3 (λ ns. list_item binary_type (items_of binary_item ns)) m.path
+    (struct_field (pos 4) (i32_item m.codec) (count_i64 5 m.values
+    (with_i64 6 m.uncompressed_size (count_i64 7 m.compressed_size (count_i64 9 m.data_page_offset (with_i64 11 m.dictionary_page_offset stop))))))))
 
 -- the struct of a column chunk
 abbrev pub chunk_tree : ColumnChunk → Struct
@@ -295,11 +333,13 @@ group_tree g = struct_field (pos 1) (structs chunk_tree g.columns) (with_i64 2 g
 
 -- the struct of a file's metadata
 abbrev pub file_tree : FileMeta → Struct
-file_tree m = with_i32 1 m.version (struct_field (pos 2) (structs element_tree m.schema) (count_i64 3 m.rows (struct_field (pos 4) (structs group_tree m.groups) (with_field 6 binary_item m.created_by stop))))
+file_tree m = with_i32 1 m.version (struct_field (pos 2) (structs element_tree m.schema)
+    (count_i64 3 m.rows (struct_field (pos 4) (structs group_tree m.groups) (with_field 6 binary_item m.created_by stop))))
 
 -- the struct of a data page header
 abbrev pub data_header_tree : DataPageHeader → Struct
-data_header_tree h = count_i32 1 h.values (struct_field (pos 2) (i32_item h.encoding) (struct_field (pos 3) (i32_item h.definition_encoding) (struct_field (pos 4) (i32_item h.repetition_encoding) stop)))
+data_header_tree h = count_i32 1 h.values (struct_field (pos 2) (i32_item h.encoding)
+    (struct_field (pos 3) (i32_item h.definition_encoding) (struct_field (pos 4) (i32_item h.repetition_encoding) stop)))
 
 -- the struct of a dictionary page header
 abbrev pub dictionary_header_tree : DictionaryPageHeader → Struct
@@ -307,4 +347,6 @@ dictionary_header_tree h = count_i32 1 h.values (struct_field (pos 2) (i32_item 
 
 -- the header of a V1 or dictionary page; a V2 header isn't written yet
 abbrev pub page_tree : PageHeader → Struct
-page_tree h = struct_field (pos 1) (i32_item h.type) (with_i32 2 h.uncompressed_size (count_i32 3 h.compressed_size (with_field 5 (λ d. struct_item (data_header_tree d)) h.data_page (with_field 7 (λ d. struct_item (dictionary_header_tree d)) h.dictionary_page stop))))
+page_tree h = struct_field (pos 1) (i32_item h.type) (with_i32 2 h.uncompressed_size
+    (count_i32 3 h.compressed_size (with_field 5 (λ d. struct_item (data_header_tree d)) h.data_page
+    (with_field 7 (λ d. struct_item (dictionary_header_tree d)) h.dictionary_page stop))))

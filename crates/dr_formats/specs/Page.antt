@@ -1,5 +1,6 @@
 -- Bodies of data pages: repetition levels, definition levels, values (Apache Parquet, "Data Pages"; Dremel 2010, section 4.1).
-use Rattle.std.specs.Prelude.{ℕ, zero, suc, ◌/◌, List, [], ◌∷◌, ◌++◌, map, length, replicate, Bool, true, false, ◌&&◌, ◌||◌, ◌==◌, nat_le, if◌then◌else◌, ℤ, pos, negsuc, Option, Some, None, option_and_then}
+use Rattle.std.specs.Prelude.{ℕ, zero, suc, ◌/◌, List, [], ◌∷◌, ◌++◌, map, length, replicate, Bool, true, false, ◌&&◌, ◌||◌, ◌==◌, nat_le}
+use Rattle.std.specs.Prelude.{if◌then◌else◌, ℤ, pos, negsuc, Option, Some, None, option_and_then}
 use Rattle.std.specs.List.{list_all}
 use Rattle.dr_meaning.specs.Schema.{Kind}
 use Rattle.dr_meaning.specs.Record.{Value}
@@ -71,16 +72,26 @@ level_width greatest = digits_within greatest greatest
 abbrev pub none_above : ℕ → List ℕ → Option (List ℕ)
 none_above greatest ls = if list_all (λ l. nat_le l greatest) ls then Some ls else None
 
+-- a length of four bytes and so many bytes of hybrid data, of which the first n levels are taken; none of them is above the greatest
+abbrev pub level_part : ℕ → ℕ → Reader PageFault (List ℕ)
+level_part greatest n = do
+  b ← bytes_of bad_page 4
+  part ← bytes_of bad_page (little_endian b)
+  found (option_and_then (none_above greatest) (hybrid (level_width greatest) n part))
+
 -- n levels: where the greatest is 0 no bytes and any encoding, else a length of four bytes and so many bytes of hybrid data
 abbrev pub levels : ℕ → ℤ → ℕ → Reader PageFault (List ℕ)
 levels zero encoding n = give (replicate n 0)
-levels (suc g) encoding n = if is_number rle_encoding encoding then (do b ← bytes_of bad_page 4; part ← bytes_of bad_page (little_endian b); found (option_and_then (none_above (suc g)) (hybrid (level_width (suc g)) n part))) else refused bad_page
+levels (suc g) encoding n = if is_number rle_encoding encoding then level_part (suc g) n else refused bad_page
 
 -- ---- values
 
 -- n values of this encoding at the front of bytes; any other encoding has none
 abbrev pub encoded_values : ℤ → Kind → List Value → ℕ → List ℕ → Option (List Value)
-encoded_values encoding k dictionary n bytes = if is_number plain_encoding encoding then plain_values k n bytes else (if is_number plain_dictionary_encoding encoding || is_number rle_dictionary_encoding encoding then dictionary_values dictionary n bytes else None)
+encoded_values encoding k dictionary n bytes =
+    if is_number plain_encoding encoding then plain_values k n bytes
+    else (if is_number plain_dictionary_encoding encoding || is_number rle_dictionary_encoding encoding then dictionary_values dictionary n bytes
+    else None)
 
 -- the values that the rest of the body begins with; bytes after them are ignored
 abbrev pub values : ℤ → Kind → List Value → ℕ → Reader PageFault (List Value)
@@ -147,7 +158,8 @@ column_values (t ∷ ts) = with_value t.value (column_values ts)
 
 -- the body that is written for triplets
 unfoldable pub body_bytes : Kind → ℕ → ℕ → List Triplet → List ℕ
-body_bytes k max_r max_d ts = level_bytes max_r (map (λ (t : Triplet). t.repetition) ts) ++ (level_bytes max_d (map (λ (t : Triplet). t.definition) ts) ++ plain_bytes k (column_values ts))
+body_bytes k max_r max_d ts = level_bytes max_r (map (λ (t : Triplet). t.repetition) ts)
+    ++ (level_bytes max_d (map (λ (t : Triplet). t.definition) ts) ++ plain_bytes k (column_values ts))
 
 -- ---- the columns that can be written
 
@@ -169,4 +181,5 @@ same_truth false false = true
 
 -- whether levels are at most the greatest, with a value of the kind exactly where the definition level is the greatest
 abbrev pub is_triplet : Kind → ℕ → ℕ → Triplet → Bool
-is_triplet k max_r max_d t = nat_le t.repetition max_r && nat_le t.definition max_d && same_truth (t.definition == max_d) (has_value t.value) && is_value_of k t.value
+is_triplet k max_r max_d t =
+    nat_le t.repetition max_r && nat_le t.definition max_d && same_truth (t.definition == max_d) (has_value t.value) && is_value_of k t.value

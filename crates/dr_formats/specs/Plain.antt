@@ -1,5 +1,6 @@
 -- Values of a column's leaf in the encodings PLAIN and RLE_DICTIONARY (Apache Parquet, Encodings, "Plain", "Dictionary Encoding").
-use Rattle.std.specs.Prelude.{ℕ, zero, suc, ◌-◌, ◌/◌, ◌^◌, List, [], ◌∷◌, ◌++◌, map, length, Bool, true, ◌&&◌, ◌==◌, nat_lt, nat_le, if◌then◌else◌, ℤ, pos, negsuc, Option, Some, None, option_map, option_and_then}
+use Rattle.std.specs.Prelude.{ℕ, zero, suc, ◌-◌, ◌/◌, ◌^◌, List, [], ◌∷◌, ◌++◌, map, length, Bool, true, ◌&&◌, ◌==◌, nat_lt, nat_le, if◌then◌else◌, ℤ}
+use Rattle.std.specs.Prelude.{pos, negsuc, Option, Some, None, option_map, option_and_then}
 use Rattle.std.specs.Str.{is_utf8}
 use Rattle.dr_meaning.specs.Schema.{Kind, bool_kind, int32_kind, int64_kind, text_kind}
 use Rattle.dr_meaning.specs.Record.{Value, bool_value, int_value, text_value, is_of_kind}

@@ -14,8 +14,19 @@ WrittenValuesAreRead = (k : Kind) (vs : List Value) → list_all (is_writable k)
 
 -- the shape of a page as it is written
 abbrev pub written_shape : Kind → ℕ → ℕ → ℕ → PageShape
-written_shape k max_r max_d n = record { form = data_page_v1; triplets = n; encoding = pos 0; definition_encoding = pos 3; repetition_encoding = pos 3; kind = k; max_repetition = max_r; max_definition = max_d }
+written_shape k max_r max_d n = record {
+  form = data_page_v1;
+  triplets = n;
+  encoding = pos 0;
+  definition_encoding = pos 3;
+  repetition_encoding = pos 3;
+  kind = k;
+  max_repetition = max_r;
+  max_definition = max_d;
+}
 
 -- the body that is written for triplets is read as these triplets, whatever follows it
 abbrev pub WrittenBodyIsRead : Type 0
-WrittenBodyIsRead = (k : Kind) (max_r max_d : ℕ) (ts : List Triplet) (dictionary : List Value) (rest : List ℕ) → max_r ≤ 32 → max_d ≤ 32 → length ts < 2 ^ 31 → list_all (is_triplet k max_r max_d) ts ≡ true → page_triplets (written_shape k max_r max_d (length ts)) dictionary (body_bytes k max_r max_d ts ++ rest) ≡ Some ts
+WrittenBodyIsRead = (k : Kind) (max_r max_d : ℕ) (ts : List Triplet) (dictionary : List Value) (rest : List ℕ) → max_r ≤ 32 → max_d ≤ 32
+    → length ts < 2 ^ 31 → list_all (is_triplet k max_r max_d) ts ≡ true
+    → page_triplets (written_shape k max_r max_d (length ts)) dictionary (body_bytes k max_r max_d ts ++ rest) ≡ Some ts

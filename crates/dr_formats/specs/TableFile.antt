@@ -1,5 +1,6 @@
 -- Table files: how many tablets a table has, how many copies of each, on which leaves they lie, and the schema.
-use Rattle.std.specs.Prelude.{ℕ, zero, suc, ◌+◌, ◌*◌, ◌-◌, List, [], ◌∷◌, ◌++◌, length, Bool, true, false, not, ◌&&◌, ◌==◌, nat_le, nat_lt, if◌then◌else◌, bytes_eq, codes, Option, Some, None, option_map, option_and_then, Result, Ok, Err}
+use Rattle.std.specs.Prelude.{ℕ, zero, suc, ◌+◌, ◌*◌, ◌-◌, List, [], ◌∷◌, ◌++◌, length, Bool, true, false, not, ◌&&◌, ◌==◌, nat_le, nat_lt}
+use Rattle.std.specs.Prelude.{if◌then◌else◌, bytes_eq, codes, Option, Some, None, option_map, option_and_then, Result, Ok, Err}
 use Rattle.std.specs.List.{list_all}
 use Rattle.std.specs.Str.{is_utf8}
 use Rattle.std.specs.Fmt.{decimal}
@@ -123,8 +124,10 @@ is_schema_line leaves t = nat_lt 0 (length leaves) && bytes_eq t (codes "schema"
 -- the table from the nth leaf line on, with room for so many more, where these directories come before
 abbrev pub leaf_lines : ℕ → ℕ → ℕ → List (List ℕ) → Option Line → Result Table TableFault
 leaf_lines room tablets copies leaves None = Err (bad_leaf (length leaves))
-leaf_lines zero tablets copies leaves (Some l) = on_leaf tablets copies leaves l.behind (is_schema_line leaves l.text) (λ ds. Err (bad_leaf (length leaves))) None
-leaf_lines (suc room) tablets copies leaves (Some l) = on_leaf tablets copies leaves l.behind (is_schema_line leaves l.text) (λ ds. leaf_lines room tablets copies ds (first_line l.behind)) (leaf_line l.text)
+leaf_lines zero tablets copies leaves (Some l) = on_leaf tablets copies leaves l.behind (is_schema_line leaves l.text)
+    (λ ds. Err (bad_leaf (length leaves))) None
+leaf_lines (suc room) tablets copies leaves (Some l) = on_leaf tablets copies leaves l.behind (is_schema_line leaves l.text)
+    (λ ds. leaf_lines room tablets copies ds (first_line l.behind)) (leaf_line l.text)
 
 -- the table from the leaf lines on
 abbrev pub at_leaves : ℕ → List ℕ → Option ℕ → Result Table TableFault
@@ -164,4 +167,5 @@ leaf_texts (d ∷ ds) behind = codes "leaf " ++ (d ++ (10 ∷ leaf_texts ds behi
 
 -- the text of a table
 unfoldable pub table_text : Table → List ℕ
-table_text t = codes "dremel-table 1" ++ (10 ∷ (codes "tablets " ++ (decimal t.tablets ++ (10 ∷ (codes "copies " ++ (decimal t.copies ++ (10 ∷ leaf_texts t.leaves (codes "schema" ++ (10 ∷ schema_text t.schema)))))))))
+table_text t = codes "dremel-table 1" ++ (10 ∷ (codes "tablets "
+    ++ (decimal t.tablets ++ (10 ∷ (codes "copies " ++ (decimal t.copies ++ (10 ∷ leaf_texts t.leaves (codes "schema" ++ (10 ∷ schema_text t.schema)))))))))

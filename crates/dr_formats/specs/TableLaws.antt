@@ -12,8 +12,10 @@ is_directory d = not (is_empty d) && list_all (λ b. not (b == 10)) d && is_utf8
 
 -- a table within the limits
 abbrev pub IsTable : Table → Type 0
-IsTable t = (is_schema t.schema ≡ true) × (0 < length t.leaves) × (length t.leaves ≤ most_leaf_lines) × (list_all is_directory t.leaves ≡ true) × (0 < t.copies) × (t.copies ≤ length t.leaves) × (0 < t.tablets) × (t.tablets ≤ most_tablets)
+IsTable t = (is_schema t.schema ≡ true) × (0 < length t.leaves) × (length t.leaves ≤ most_leaf_lines) × (list_all is_directory t.leaves ≡ true)
+    × (0 < t.copies) × (t.copies ≤ length t.leaves) × (0 < t.tablets) × (t.tablets ≤ most_tablets)
 
 -- the text of a table is read as that table, where it isn't too long
 abbrev pub TableReadsBack : Type 0
-TableReadsBack = (t : Table) → IsTable t → length (schema_text t.schema) ≤ longest_schema → length (table_text t) ≤ longest_table → parse_table (table_text t) ≡ Ok t
+TableReadsBack = (t : Table) → IsTable t → length (schema_text t.schema) ≤ longest_schema → length (table_text t) ≤ longest_table
+    → parse_table (table_text t) ≡ Ok t

@@ -33,7 +33,8 @@ nth_directory (d ∷ ds) (suc i) = nth_directory ds i
 -- the paths of so many copies of a tablet, from the jth on
 abbrev pub copy_paths_from : List (List ℕ) → ℕ → ℕ → ℕ → List (List ℕ)
 copy_paths_from directories tablet j zero = []
-copy_paths_from directories tablet j (suc k) = tablet_path (nth_directory directories (placement (length directories) tablet j)) tablet ∷ copy_paths_from directories tablet (suc j) k
+copy_paths_from directories tablet j (suc k) = tablet_path (nth_directory directories (placement (length directories) tablet j)) tablet
+    ∷ copy_paths_from directories tablet (suc j) k
 
 -- the paths of a tablet's copies, in order
 abbrev pub copy_paths : List (List ℕ) → ℕ → ℕ → List (List ℕ)

@@ -1,15 +1,22 @@
 -- Variable-length numbers (Thrift compact protocol, "Integer encoding": unsigned LEB128 and zigzag).
-use Rattle.std.specs.Prelude.{◌≡◌, ◌<◌, ◌≤◌, length, Bool, true, false, nat_le, ℕ, zero, suc, ◌+◌, ◌*◌, ◌/◌, ◌%◌, ◌^◌, List, [], ◌∷◌, ◌&&◌, ◌==◌, nat_lt, if◌then◌else◌, ℤ, pos, negsuc}
+use Rattle.std.specs.Prelude.{◌≡◌, ◌<◌, ◌≤◌, length, Bool, true, false, nat_le, ℕ, zero, suc, ◌+◌, ◌*◌, ◌/◌, ◌%◌, ◌^◌, List, [], ◌∷◌, ◌&&◌, ◌==◌}
+use Rattle.std.specs.Prelude.{nat_lt, if◌then◌else◌, ℤ, pos, negsuc}
 use Rattle.dr_formats.specs.Reading.{got, refused, Reader}
 
 -- ---- reading
 
 -- a number below the bound in at most one byte more than the given number of bytes: seven bits a byte, the low part first, 128 more where another byte follows.
--- Given are the number so far and what a 1 in the next byte is worth. At the end of the bytes it is short; at the first byte with which there is no such number, long.
+-- Given are the number so far and what a 1 in the next byte is worth. At the end of the bytes it is short; at the first byte with which there is no
+-- such number, long.
 abbrev pub varint_from : {E : Type 0} → E → E → ℕ → ℕ → ℕ → ℕ → Reader E ℕ
 varint_from short long bound k sum worth [] = refused short []
-varint_from short long bound zero sum worth (b ∷ bs) = if nat_lt (sum + b % 128 * worth) bound && nat_lt b 128 then got (sum + b % 128 * worth) bs else refused long (b ∷ bs)
-varint_from short long bound (suc k) sum worth (b ∷ bs) = if nat_lt (sum + b % 128 * worth) bound then (if nat_lt b 128 then got (sum + b % 128 * worth) bs else varint_from short long bound k (sum + b % 128 * worth) (128 * worth) bs) else refused long (b ∷ bs)
+varint_from short long bound zero sum worth (b ∷ bs) =
+    if nat_lt (sum + b % 128 * worth) bound && nat_lt b 128 then got (sum + b % 128 * worth) bs
+    else refused long (b ∷ bs)
+varint_from short long bound (suc k) sum worth (b ∷ bs) =
+    if nat_lt (sum + b % 128 * worth) bound
+    then (if nat_lt b 128 then got (sum + b % 128 * worth) bs else varint_from short long bound k (sum + b % 128 * worth) (128 * worth) bs)
+    else refused long (b ∷ bs)
 
 -- a number below the bound, in at most 10 bytes
 abbrev pub varint_below : {E : Type 0} → ℕ → E → E → Reader E ℕ

@@ -1,6 +1,7 @@
 -- The file that is written for records: pages, chunks, footer (Apache Parquet, "File format").
 use Rattle.std.specs.Prelude.{ℕ, suc, ◌+◌, ◌^◌, List, [], ◌∷◌, ◌++◌, map, length, Bool, true, false, ◌||◌, nat_le, codes, ℤ, pos, Option, Some, None}
-use Rattle.dr_meaning.specs.Schema.{Repetition, required, optional, repeated, Kind, bool_kind, int32_kind, int64_kind, text_kind, Fields, no_fields, field, Shape, leaf, group, Schema}
+use Rattle.dr_meaning.specs.Schema.{Repetition, required, optional, repeated, Kind, bool_kind, int32_kind, int64_kind, text_kind, Fields, no_fields}
+use Rattle.dr_meaning.specs.Schema.{field, Shape, leaf, group, Schema}
 use Rattle.dr_meaning.specs.Path.{Leaf, leaves, max_repetition, max_definition}
 use Rattle.dr_meaning.specs.Record.{Node}
 use Rattle.dr_meaning.specs.Column.{Triplet, record_column}
@@ -40,14 +41,22 @@ abbrev pub open_page : Bool → List Triplet → List Triplet
 open_page true ts = []
 open_page false ts = ts
 
--- the pages of the columns of records, one after another, where the page that is open has these triplets: a page closes at the first record's end at which it is full, and at the last
+-- the pages of the columns of records, one after another, where the page that is open has these triplets: a page closes at the first record's end at
+-- which it is full, and at the last
 abbrev pub cut_pages : Kind → List Triplet → List (List Triplet) → List (List Triplet)
 cut_pages k page [] = last_page page
 cut_pages k page (c ∷ cs) = closed_page (is_full k (page ++ c)) (page ++ c) ++ cut_pages k (open_page (is_full k (page ++ c)) (page ++ c)) cs
 
 -- the header of a page as it is written: DATA_PAGE, both sizes the body's, values PLAIN, levels RLE
 abbrev pub header_of_page : ℕ → ℕ → PageHeader
-header_of_page n size = record { type = pos 0; uncompressed_size = Some (pos size); compressed_size = size; data_page = Some (record { values = n; encoding = pos 0; definition_encoding = pos 3; repetition_encoding = pos 3 }); dictionary_page = None; data_page_v2 = None }
+header_of_page n size = record {
+  type = pos 0;
+  uncompressed_size = Some (pos size);
+  compressed_size = size;
+  data_page = Some (record { values = n; encoding = pos 0; definition_encoding = pos 3; repetition_encoding = pos 3 });
+  dictionary_page = None;
+  data_page_v2 = None;
+}
 
 -- a page of so many triplets with this body
 abbrev pub header_and_body : ℕ → List ℕ → List ℕ
@@ -86,7 +95,21 @@ type_from text_kind = 6
 
 -- the column chunk of a leaf, for a chunk of so many bytes at a place
 abbrev pub chunk_at : Leaf → List Node → ℕ → ℕ → ColumnChunk
-chunk_at l R place size = record { file_path = None; file_offset = Some (pos place); meta = record { type = pos (type_from l.kind); encodings = Some (pos 0 ∷ pos 3 ∷ []); path = Some l.names; codec = pos 0; values = triplet_count (record_columns l R); uncompressed_size = Some (pos size); compressed_size = size; data_page_offset = place; dictionary_page_offset = None } }
+chunk_at l R place size = record {
+  file_path = None;
+  file_offset = Some (pos place);
+  meta = record {
+    type = pos (type_from l.kind);
+    encodings = Some (pos 0 ∷ pos 3 ∷ []);
+    path = Some l.names;
+    codec = pos 0;
+    values = triplet_count (record_columns l R);
+    uncompressed_size = Some (pos size);
+    compressed_size = size;
+    data_page_offset = place;
+    dictionary_page_offset = None;
+  };
+}
 
 -- the chunks of leaves, one after another from a place on: their bytes, and their column chunks
 pub record WrittenChunks : Type 0 where
@@ -128,7 +151,14 @@ count_fields (field n r s fs) = suc (count_fields fs)
 
 -- the schema element of a leaf
 abbrev pub leaf_element : List ℕ → Repetition → Kind → SchemaElement
-leaf_element n r k = record { type = Some (pos (type_from k)); type_length = None; repetition = Some (pos (repetition_number r)); name = n; children = None; converted = converted_from k }
+leaf_element n r k = record {
+  type = Some (pos (type_from k));
+  type_length = None;
+  repetition = Some (pos (repetition_number r));
+  name = n;
+  children = None;
+  converted = converted_from k;
+}
 
 -- the schema element of a group
 abbrev pub group_element : List ℕ → Option ℤ → Fields → SchemaElement

@@ -1,6 +1,8 @@
 //! Laws of files and causes.
 
 ghost use Rattle.dr_formats.specs.FileLaws.{CauseIsKnown, FileHasNoCause, KnownCauseHolds, OneCause};
+ghost use Rattle.dr_formats.specs.OpenSchemaLaws.{OpenPartIsSchema, WrittenSchemaIsRead};
+ghost use Rattle.dr_formats.specs.Opening.{LeafCauseIsExact, NoFileHasCause, NoLeafCauseIsFile, OpeningCauseHolds, RangesAreInFile};
 
 /// The cause that the test knows of bytes holds; a cause that holds is the one that it knows, but for causes of data that need records
 /// to be seen.
@@ -17,4 +19,32 @@ pub fn one_cause()
 /// A file of some records has no such cause.
 pub fn file_has_no_cause()
     ensures { FileHasNoCause }
+{}
+
+/// Bytes that are a file of no records have a cause.
+pub fn no_file_has_cause()
+    ensures { NoFileHasCause }
+{}
+
+/// The cause that the footer alone shows at opening holds.
+pub fn opening_cause_holds()
+    ensures { OpeningCauseHolds }
+{}
+
+/// Of one leaf alone the cause is a test of the bytes: it tells the cause that holds, and none exactly where the bytes are a file of some
+/// records for this leaf.
+pub fn leaf_cause_is_exact()
+    ensures cause { LeafCauseIsExact }
+    ensures file { NoLeafCauseIsFile }
+{}
+
+/// All ranges that a reader may look into lie in the file.
+pub fn ranges_are_in_file()
+    ensures { RangesAreInFile }
+{}
+
+/// The open part of a file's schema is a schema, and that of a written file is the schema of its records.
+pub fn open_part_is_schema()
+    ensures rules { OpenPartIsSchema }
+    ensures written { WrittenSchemaIsRead }
 {}

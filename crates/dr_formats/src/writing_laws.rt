@@ -1,6 +1,6 @@
 //! Laws of what is written.
 
-ghost use Rattle.dr_formats.specs.WritingLaws.{PagesKeepTriplets, WrittenFileIsFile, WrittenMetadataIsViewed, WrittenPagesAreRead};
+ghost use Rattle.dr_formats.specs.WritingLaws.{LimitedRecordsFit, PagesKeepTriplets, WrittenFileIsFile, WrittenMetadataIsViewed, WrittenPagesAreRead};
 
 /// The struct that is written for metadata is viewed as that metadata.
 pub fn written_metadata_is_viewed()
@@ -16,4 +16,9 @@ pub fn written_pages_are_read()
 /// The file that is written for records is a file of these records, for any of the schema's leaves.
 pub fn written_file_is_file()
     ensures { WrittenFileIsFile }
+{}
+
+/// Records within the limits of an input line, and not more than a tablet may have, fit one file.
+pub fn limited_records_fit()
+    ensures { LimitedRecordsFit }
 {}

@@ -5,6 +5,7 @@ ghost use Rattle.serde_json.specs.Find.{get_member};
 ghost use Rattle.serde_json.specs.View.{view, items_view, members_view};
 ghost use Rattle.dr_meaning.specs.JsonRecord as line;
 ghost use Rattle.dr_meaning.specs.JsonRecord.{given, each_element, field_instances};
+ghost use Rattle.dr_meaning.specs.Record.{single};
 ghost use Rattle.dr_meaning.specs.Schema.{is_group, is_shape};
 ghost use Rattle.dr_nested.specs.Views.{fields_view, shape_view, rep_view, node_view, slots_view, instance_view, instances_view};
 ghost use Rattle.dr_nested.specs.Faults.{Gives};
@@ -96,7 +97,7 @@ fn instances_of(
 #[cycle(reading)]
 fn one_instance(alloc: Global, shape: &Shape, value: &Json) -> Result<Vec<Instance>, RecordFault>
     requires { is_shape (shape_view shape.now) ≡ true }
-    ensures { Gives (λ v. instances_view v.items) record_fault_view (line.then_give line.one_instance (line.instance_of (shape_view shape.now) (view value.now))) result }
+    ensures { Gives (λ v. instances_view v.items) record_fault_view (line.then_give single (line.instance_of (shape_view shape.now) (view value.now))) result }
 {
     let mut instances = Vec::with_capacity(alloc, 1)?;
     instances.push(instance_of(alloc, shape, value)?)?;

@@ -1,13 +1,18 @@
 -- worked examples, by computation
 pub mod WorkedSchemas
+pub mod WorkedSchemaFaults
 pub mod WorkedRecords
 pub mod WorkedFaults
 pub mod WorkedPaths
 pub mod WorkedColumns
 pub mod WorkedAutomaton
+pub mod WorkedExpressions
 pub mod WorkedQueries
+pub mod WorkedAggregates
 pub mod WorkedMeaning
 pub mod WorkedWalk
+pub mod WorkedLimits
+pub mod WorkedTokens
 pub mod WorkedAsk
 pub mod WorkedStripe
 -- lemmas of the laws of schema text
@@ -23,6 +28,13 @@ pub mod ProjectionLemmas
 pub mod MeaningLemmas
 pub mod Blocks
 pub mod ColumnLemmas
+pub mod ColumnStarts
+pub mod ColumnSize
+pub mod OneColumnLemmas
 -- the record of a line is within the limits
 pub mod RecordLimits
+pub mod LineLemmas
+pub mod WalkLemmas
+pub mod OrderLemmas
 pub mod FoundLemmas
+pub mod FindingLemmas

@@ -10,12 +10,12 @@ use Rattle.std.proofs.lemmas.List.{map-append, length-map}
 use Rattle.std.proofs.lemmas.List.Folds.{list_all-append}
 use Rattle.std.proofs.lemmas.Simd.{map-map}
 use Rattle.dr_meaning.specs.Schema.{repetition_count, definition_count, is_repeated}
-use Rattle.dr_meaning.specs.Path.{Step, begins_with, level, up_to, longer, is_shorter}
+use Rattle.dr_meaning.specs.Path.{same_path, Step, begins_with, level, up_to, longer, is_shorter}
 use Rattle.dr_meaning.specs.Record.{Value, Node, Instances, no_instances, instance, Instance, atom, inner, instances_at, put_at, project, project_all, project_one}
 use Rattle.dr_meaning.specs.Rows.{single, rows, is_present}
 use Rattle.dr_meaning.specs.Expression.{Expression, constant, path_value, negative, arithmetic, comparison, like, contains, is_null, negation, conjunction, disjunction, combine, compared, on_both, not_value, and_values, or_values, null_test, evaluate, is_true, paths_of, longest_level, expression_level}
 use Rattle.dr_meaning.specs.Kept.{with_kept, keep_each, if_some_kept, keep_below, keep_instance, kept_along, kept}
-use Rattle.dr_meaning.specs.Query.{Aggregate, RecordTerm, expression, within, GroupTerm, key, count_rows, aggregate, RecordItem, GroupItem, Selection, objects, groups, Object, cell, Objects, present_values, aggregated, count_value, over_rows, Levels, no_levels, deeper, levels_of, term_level, term_value, same_level, with_cells, leads_to_items, with_list, objects_of, instances_of, object_lists, record_object, key_tuple, tuple_order, distinct_tuples, group_tuples, group_rows, group_value, group_cells, selected, meaning}
+use Rattle.dr_meaning.specs.Query.{Aggregate, RecordTerm, expression, within, GroupTerm, key, count_rows, aggregate, RecordItem, GroupItem, Selection, objects, groups, Object, cell, Objects, present_values, aggregated, count_value, over_rows, Levels, no_levels, deeper, levels_of, term_level, term_value, with_cells, leads_to_items, with_list, objects_of, instances_of, object_lists, record_object, key_tuple, tuple_order, distinct_tuples, group_tuples, group_rows, group_value, group_cells, selected, meaning}
 use Rattle.dr_meaning.specs.Column.{Triplet, each_later, spread, instance_column, column}
 use Rattle.dr_meaning.specs.ProjectionLaws.{leads}
 use Rattle.dr_meaning.specs.MeaningLaws.{condition_paths, record_term_paths, group_term_paths, selection_paths, all_lead, MeaningOfProjection, ColumnsOfProjection}
@@ -205,7 +205,7 @@ with_cells-project : (F : List (List Step)) (items : List RecordItem) (p : List 
 with_cells-project F [] p n rest h = refl
 with_cells-project F (i ∷ is) p n rest h =
     let k = both_lead (record_term_paths i.term) (item_paths is) F h in
-    ap₂ (λ v o. if same_level p (term_level i.term) then cell i.name v o else o) (term_value-project F i.term n k.0) (with_cells-project F is p n rest k.1)
+    ap₂ (λ v o. if same_path p (term_level i.term) then cell i.name v o else o) (term_value-project F i.term n k.0) (with_cells-project F is p n rest k.1)
 
 -- a level that leads to items leads on
 items_level-leads : (F : List (List Step)) (items : List RecordItem) (p : List Step) → all_lead F (item_paths items) ≡ true → leads_to_items items p ≡ true → leads p F ≡ true

@@ -1,19 +1,21 @@
 -- Input lines and the first command, by computation.
-use Rattle.std.specs.Prelude.{◌≡◌, ℕ, List, [], ◌∷◌, ◌++◌, Ok, Err, codes, refl}
+use Rattle.std.specs.Prelude.{◌≡◌, ℕ, List, [], ◌∷◌, ◌++◌, Some, None, Ok, Err, codes, refl}
 use Rattle.std.specs.Str.{is_utf8, chars}
 use Rattle.std.specs.Fmt.{digits}
 use Rattle.json.specs.Print.{escape_byte}
 use Rattle.serde_json.proofs.OnLiterals.{serde_json_on_literals}
 use Rattle.dr_meaning.specs.SchemaText.{parse_schema, empty_group}
+use Rattle.dr_meaning.specs.Schema.{Fields, no_fields, field, leaf, required, int64_kind}
+use Rattle.dr_meaning.specs.Record.{Node, no_slots, slot}
 use Rattle.dr_meaning.specs.JsonRecord.{record_of_line, missing_field, not_json}
-use Rattle.dr_meaning.specs.Lines.{lines_of, records_of, no_record, too_many_records}
+use Rattle.dr_meaning.specs.Lines.{lines_of, records_of, taken_from, no_record, too_many_records}
 use Rattle.dr_meaning.specs.QueryText.{count_text}
 use Rattle.dr_meaning.specs.Query.{meaning}
 use Rattle.dr_meaning.specs.Print.{result_text}
 use Rattle.dr_meaning.specs.Refusals.{schema_refused, query_refused, line_refused, schema_refusal_text, line_refusal_text}
 use Rattle.dr_meaning.specs.Ask.{ask, count_of}
 use Rattle.dr_meaning.proofs.WorkedSchemas.{document, document_text}
-use Rattle.dr_meaning.proofs.WorkedRecords.{line_10, line_20, line_30}
+use Rattle.dr_meaning.proofs.WorkedRecords.{line_10, line_20, line_30, numbers}
 
 abbrev input : List ℕ
 input = line_10 ++ 10 ∷ (line_20 ++ 10 ∷ [])
@@ -75,3 +77,18 @@ a_line_is_refused = refl
 pub refusal_texts : (schema_refusal_text (record { place = 12; problem = empty_group }) ≡ codes "refused schema at 12: EmptyGroup\n") × (line_refusal_text (record { line = 1; fault = no_record missing_field }) ≡ codes "refused line 1: MissingField\n")
 unfolding digits
 refusal_texts = (refl, refl)
+
+-- ---- the records before a refusal
+
+abbrev one : Fields
+one = field (codes "a") required (leaf int64_kind) no_fields
+
+abbrev number : ℕ → Node
+number n = slot (numbers (n ∷ [])) no_slots
+
+-- the records before the first refused line, and that line; lines behind it aren't looked at
+pub taken : (taken_from one 9 1 (codes "{\"a\":1}" ∷ codes "{\"a\":2}" ∷ codes "{}" ∷ codes "x" ∷ []) ≡ record { records = number 1 ∷ number 2 ∷ []; refusal = Some (record { line = 3; fault = no_record missing_field }) })
+    × (taken_from one 1 1 (codes "{\"a\":1}" ∷ codes "x" ∷ []) ≡ record { records = number 1 ∷ []; refusal = Some (record { line = 2; fault = too_many_records }) })
+    × (taken_from one 9 1 (codes "{\"a\":1}" ∷ []) ≡ record { records = number 1 ∷ []; refusal = None })
+unfolding record_of_line is_utf8 chars serde_json_on_literals
+taken = (refl, refl, refl)

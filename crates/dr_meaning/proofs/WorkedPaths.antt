@@ -1,11 +1,11 @@
 -- Paths, chains, levels and projections of the worked schema, by computation.
-use Rattle.std.specs.Prelude.{◌≡◌, ℕ, List, [], ◌∷◌, map, true, Option, Some, None, Ok, Err, codes, refl}
+use Rattle.std.specs.Prelude.{◌≡◌, ℕ, List, [], ◌∷◌, map, true, false, Option, Some, None, Ok, Err, codes, refl}
 use Rattle.std.specs.Fmt.{digits}
 use Rattle.json.specs.Print.{escape_byte}
 use Rattle.std.specs.List.{list_all}
 use Rattle.std.specs.Str.{is_utf8, chars}
-use Rattle.dr_meaning.specs.Schema.{text_kind, optional, repeated, is_schema}
-use Rattle.dr_meaning.specs.Path.{Step, Leaf, Found, find_path, find_leaf, unknown_field, not_a_leaf, cut_at_dots, chain, level, common, max_repetition, max_definition, leaves}
+use Rattle.dr_meaning.specs.Schema.{Repetition, text_kind, required, optional, repeated, is_schema}
+use Rattle.dr_meaning.specs.Path.{Step, Leaf, Found, find_path, find_leaf, unknown_field, not_a_leaf, cut_at_dots, chain, level, common, max_repetition, max_definition, is_leaf_path, leaves}
 use Rattle.dr_meaning.specs.Record.{is_record, project}
 use Rattle.dr_meaning.specs.Print.{record_text}
 use Rattle.dr_meaning.proofs.WorkedSchemas.{document, document_schema}
@@ -95,3 +95,25 @@ projected_to_none = refl
 pub text_30 : record_text document record_30 ≡ codes "{\"DocId\":30,\"Name\":[]}\n"
 unfolding record_text escape_byte digits
 text_30 = refl
+
+-- ---- which paths are those of leaves
+
+abbrev pub step : ℕ → Repetition → Step
+step i r = record { place = i; repetition = r }
+
+-- the six leaves; not a group, nor a path that goes on behind a leaf, nor one to a place that isn't there, nor the empty one
+pub leaf_paths : (map (is_leaf_path document) (doc_id ∷ backward ∷ forward ∷ code ∷ country ∷ url ∷ []) ≡ true ∷ true ∷ true ∷ true ∷ true ∷ true ∷ [])
+    × (map (is_leaf_path document) (name ∷ language_level ∷ (step 0 required ∷ step 0 required ∷ []) ∷ (step 3 required ∷ []) ∷ [] ∷ []) ≡ false ∷ false ∷ false ∷ false ∷ false ∷ [])
+leaf_paths = (refl, refl)
+
+-- nor one of another repetition, at each step
+pub other_repetitions : map (λ r. is_leaf_path document (step 0 r ∷ [])) (required ∷ optional ∷ repeated ∷ []) ≡ true ∷ false ∷ false ∷ []
+other_repetitions = refl
+
+pub repetitions_on_path : (map (λ r. is_leaf_path document (step 1 r ∷ step 0 repeated ∷ [])) (required ∷ optional ∷ repeated ∷ []) ≡ false ∷ true ∷ false ∷ [])
+    × (map (λ r. is_leaf_path document (step 1 optional ∷ step 0 r ∷ [])) (required ∷ optional ∷ repeated ∷ []) ≡ false ∷ false ∷ true ∷ [])
+repetitions_on_path = (refl, refl)
+
+-- the common level of a path and its own front, either way; of the empty path
+pub fronts : (common country name ≡ 1) × (common name country ≡ 1) × (common [] country ≡ 0) × (common country [] ≡ 0) × (common code url ≡ 1) × (common backward forward ≡ 0)
+fronts = (refl, refl, refl, refl, refl, refl)

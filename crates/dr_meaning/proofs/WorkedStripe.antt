@@ -4,12 +4,12 @@ use Rattle.std.specs.Str.{is_utf8, chars}
 use Rattle.std.specs.Fmt.{digits}
 use Rattle.json.specs.Print.{escape_byte}
 use Rattle.serde_json.proofs.OnLiterals.{serde_json_on_literals}
-use Rattle.dr_meaning.specs.SchemaText.{parse_schema}
+use Rattle.dr_meaning.specs.SchemaText.{parse_schema, empty_group}
 use Rattle.dr_meaning.specs.Path.{unknown_field, not_a_leaf}
 use Rattle.dr_meaning.specs.JsonRecord.{record_of_line, missing_field}
 use Rattle.dr_meaning.specs.Lines.{records_of, no_record}
 use Rattle.dr_meaning.specs.Automaton.{automaton_text}
-use Rattle.dr_meaning.specs.Refusals.{field_refused, line_refused, field_refusal_text}
+use Rattle.dr_meaning.specs.Refusals.{schema_refused, field_refused, line_refused, field_refusal_text}
 use Rattle.dr_meaning.specs.Stripe.{stripe, column_text}
 use Rattle.dr_meaning.specs.Fsm.{fsm}
 use Rattle.dr_meaning.proofs.WorkedSchemas.{document_text}
@@ -51,3 +51,20 @@ two_leaves = refl
 pub second_refused : (fsm document_text (codes "DocId" ∷ codes "Nam" ∷ codes "Name" ∷ []) ≡ Err (field_refused 1 unknown_field)) × (field_refusal_text 1 unknown_field ≡ codes "refused field 1: UnknownField\n")
 unfolding fsm parse_schema digits
 second_refused = (refl, refl)
+
+-- a FIELD that names a group, and an unknown one, are refused at their numbers; the schema comes before both
+pub group_of_fsm : (fsm document_text (codes "DocId" ∷ codes "Name.Language" ∷ []) ≡ Err (field_refused 1 not_a_leaf)) × (fsm document_text (codes "Links" ∷ codes "x" ∷ []) ≡ Err (field_refused 0 not_a_leaf))
+    × (fsm (codes "message T { }") (codes "Links" ∷ []) ≡ Err (schema_refused (record { place = 12; problem = empty_group })))
+unfolding fsm parse_schema
+group_of_fsm = (refl, refl, refl)
+
+-- words in another order, and one twice: the leaves in schema order, each once
+pub in_schema_order : fsm document_text (codes "Name.Url" ∷ codes "Links.Forward" ∷ codes "Name.Url" ∷ codes "DocId" ∷ []) ≡
+    Ok (codes "DocId 0 Links.Forward\nLinks.Forward 0 Name.Url\nLinks.Forward 1 Links.Forward\nName.Url 0 end\nName.Url 1 Name.Url\n")
+unfolding fsm parse_schema automaton_text digits
+in_schema_order = refl
+
+-- no words: no leaves and no lines
+pub of_no_words : fsm document_text [] ≡ Ok []
+unfolding fsm parse_schema automaton_text digits
+of_no_words = refl

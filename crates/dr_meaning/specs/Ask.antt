@@ -28,7 +28,8 @@ count_of_shape n p (group fs) = None
 
 -- the FROM name must be the message's
 abbrev pub count_of_text : Schema → CountText → Option Query
-count_of_text s c = if bytes_eq c.table s.name then option_and_then (λ (f : Found). count_of_shape (item_name c.item) f.path f.shape) (find_path c.path s.fields) else None
+count_of_text s c = if bytes_eq c.table s.name then option_and_then (λ (f : Found). count_of_shape (item_name c.item) f.path f.shape)
+    (find_path c.path s.fields) else None
 
 -- the query of a text; none where it is refused
 unfoldable pub count_of : Schema → List ℕ → Option Query

@@ -30,7 +30,8 @@ spread column_of later d r (instance x xs) = column_of r x ++ each_later column_
 -- the column of the rest of a path in an instance, below this many repeated fields, with this definition level, begun at the repetition level r
 abbrev pub instance_column : List Step → ℕ → ℕ → ℕ → Instance → List Triplet
 instance_column [] level d r x = triplet r d (value_of x) ∷ []
-instance_column (s ∷ p) level d r x = spread (instance_column p (level + repetition_count s.repetition) (d + definition_count s.repetition)) (level + repetition_count s.repetition) d r (instances_in s.place x)
+instance_column (s ∷ p) level d r x = spread (instance_column p (level + repetition_count s.repetition) (d + definition_count s.repetition))
+    (level + repetition_count s.repetition) d r (instances_in s.place x)
 
 -- the column of a record
 abbrev pub record_column : List Step → Node → List Triplet

@@ -1,5 +1,6 @@
 -- Expressions: their values in a row, with NULL, three-valued logic and exact whole numbers of 64 bits.
-use Rattle.std.specs.Prelude.{ℕ, List, [], ◌∷◌, ◌++◌, Bool, true, false, not, ◌&&◌, ◌||◌, ◌==◌, if◌then◌else◌, ℤ, pos, ◌+ℤ◌, ◌-ℤ◌, ◌*ℤ◌, Option, Some, None, option_map, chars}
+use Rattle.std.specs.Prelude.{ℕ, List, [], ◌∷◌, ◌++◌, Bool, true, false, not, ◌&&◌, ◌||◌, ◌==◌, if◌then◌else◌, ℤ, pos, ◌+ℤ◌, ◌-ℤ◌, ◌*ℤ◌, Option, Some}
+use Rattle.std.specs.Prelude.{None, option_map, chars}
 use Rattle.std.specs.Ordering.{is_eq, is_lt, is_le, is_gt, is_ge, is_ne, nat_cmp, int_cmp, bool_cmp}
 use Rattle.std.specs.declared.cmp.Ordering.{Ordering}
 use Rattle.std.specs.Cmp.Lexicographic.{slice_cmp}
@@ -179,7 +180,8 @@ paths_of (negation e) = paths_of e
 paths_of (conjunction a b) = paths_of a ++ paths_of b
 paths_of (disjunction a b) = paths_of a ++ paths_of b
 
--- the longest chain among paths, as the path of its last repeated field
+-- the longest chain among paths, as the path of its last repeated field: that with the most fields. In a query that is accepted the chains
+-- begin with one another, so that is the longest chain; of chains that are not related it would be only one of them
 abbrev pub longest_level : List (List Step) → List Step
 longest_level [] = []
 longest_level (p ∷ ps) = longer (level p) (longest_level ps)

@@ -1,11 +1,10 @@
 -- The command `fsm`: the automaton of leaves in schema order, or the first refusal.
-use Rattle.std.specs.Prelude.{ℕ, suc, List, [], ◌∷◌, ◌++◌, map, if◌then◌else◌, Option, Some, None, Result, Ok, Err}
+use Rattle.std.specs.Prelude.{ℕ, suc, List, [], ◌∷◌, ◌++◌, map, if◌then◌else◌, Result, Ok, Err}
 use Rattle.std.specs.List.{list_any, filter_map, slice_get}
 use Rattle.dr_meaning.specs.Schema.{Schema, Fields}
 use Rattle.dr_meaning.specs.SchemaText.{SchemaFault, parse_schema}
-use Rattle.dr_meaning.specs.Path.{Leaf, PathFault, find_leaf}
+use Rattle.dr_meaning.specs.Path.{Leaf, PathFault, find_leaf, same_path}
 use Rattle.dr_meaning.specs.Automaton.{schema_order, automaton_text}
-use Rattle.dr_meaning.specs.Walk.{same_path}
 use Rattle.dr_meaning.specs.Refusals.{CommandRefusal, schema_refused, field_refused}
 
 -- leaves with one more behind them, but one that is among them isn't counted again

@@ -1,12 +1,15 @@
 -- The record of a JSON line, or its first fault, over `serde_json`'s own data and its own words for reading.
-use Rattle.std.specs.Prelude.{ℕ, ◌^◌, List, Bool, true, false, ◌&&◌, ◌||◌, nat_lt, if◌then◌else◌, ℤ, Option, Some, None, option_and_then, Result, Ok, Err, bytes_eq}
+use Rattle.std.specs.Prelude.{ℕ, ◌^◌, List, Bool, true, false, ◌&&◌, ◌||◌, nat_lt, if◌then◌else◌, ℤ, Option, Some, None, option_and_then, Result, Ok}
+use Rattle.std.specs.Prelude.{Err, bytes_eq}
 use Rattle.std.specs.List.{list_any}
 use Rattle.std.specs.Str.{is_utf8}
 use Rattle.serde_json.specs.Data.{Data, null, boolean, number, string, array, object, Items, no_items, item, Members, no_members, member}
 use Rattle.serde_json.specs.Find.{get_member, as_bool, as_str, as_number, as_integer, as_array, as_object}
 use Rattle.serde_json.specs.Read.{read}
-use Rattle.dr_meaning.specs.Schema.{Repetition, required, optional, repeated, Kind, bool_kind, int32_kind, int64_kind, text_kind, Fields, no_fields, field, Shape, leaf, group, field_names}
-use Rattle.dr_meaning.specs.Record.{Value, bool_value, int_value, text_value, Node, no_slots, slot, Instances, no_instances, instance, Instance, atom, inner, in_int32, in_int64, instance_count, text_bytes}
+use Rattle.dr_meaning.specs.Schema.{Repetition, required, optional, repeated, Kind, bool_kind, int32_kind, int64_kind, text_kind, Fields, no_fields}
+use Rattle.dr_meaning.specs.Schema.{field, Shape, leaf, group, field_names}
+use Rattle.dr_meaning.specs.Record.{Value, bool_value, int_value, text_value, Node, no_slots, slot, Instances, no_instances, instance, Instance, atom}
+use Rattle.dr_meaning.specs.Record.{inner, single, in_int32, in_int64, instance_count, text_bytes}
 
 -- why a line is no record
 pub data RecordFault : Type 0 where
@@ -79,9 +82,6 @@ abbrev pub are_known : List (List ℕ) → Members → Bool
 are_known names no_members = true
 are_known names (member k d ms) = list_any (bytes_eq k) names && are_known names ms
 
-abbrev pub one_instance : Instance → Instances
-one_instance x = instance x no_instances
-
 -- the elements of a list in order
 abbrev pub each_element : (Data → Result Instance RecordFault) → Items → Result Instances RecordFault
 each_element f no_items = Ok no_instances
@@ -94,9 +94,9 @@ list_elements f (Some ds) = each_element f ds
 -- required: one instance; optional: at most one; repeated: a list's elements, none where nothing is given
 abbrev pub field_instances : Repetition → (Data → Result Instance RecordFault) → Option Data → Result Instances RecordFault
 field_instances required f None = Err missing_field
-field_instances required f (Some d) = then_give one_instance (f d)
+field_instances required f (Some d) = then_give single (f d)
 field_instances optional f None = Ok no_instances
-field_instances optional f (Some d) = then_give one_instance (f d)
+field_instances optional f (Some d) = then_give single (f d)
 field_instances repeated f None = Ok no_instances
 field_instances repeated f (Some d) = list_elements f (as_array d)
 

@@ -1,8 +1,7 @@
 -- Kept branches: what WHERE leaves of a record (Dremel 2010, section 5).
 use Rattle.std.specs.Prelude.{List, [], ◌∷◌, Bool, if◌then◌else◌, Option, Some, None, option_map}
 use Rattle.dr_meaning.specs.Path.{Step}
-use Rattle.dr_meaning.specs.Record.{Node, Instances, no_instances, instance, Instance, atom, inner, instances_at, put_at}
-use Rattle.dr_meaning.specs.Rows.{single}
+use Rattle.dr_meaning.specs.Record.{Node, Instances, no_instances, instance, Instance, atom, inner, single, instances_at, put_at}
 use Rattle.dr_meaning.specs.Expression.{Expression, evaluate, expression_level, is_true}
 
 abbrev pub with_kept : Option Instance → Instances → Instances
@@ -31,7 +30,8 @@ keep_instance below row test (inner n) = option_map inner (below (λ m. test (ro
 -- what is left of a node along the rest of a chain, by a test of the whole row
 abbrev pub kept_along : List Step → (Node → Bool) → Node → Option Node
 kept_along [] test n = if test n then Some n else None
-kept_along (s ∷ p) test n = keep_below test (λ xs. put_at s.place xs n) (keep_instance (kept_along p) (λ x. put_at s.place (single x) n) test) n (instances_at s.place n)
+kept_along (s ∷ p) test n = keep_below test (λ xs. put_at s.place xs n) (keep_instance (kept_along p) (λ x. put_at s.place (single x) n) test) n
+    (instances_at s.place n)
 
 -- what a condition leaves of a record: none, or the record with its kept branches along the condition's longest chain
 abbrev pub kept : Option Expression → Node → Option Node

@@ -29,3 +29,6 @@ pub mod PathLaws
 pub mod ProjectionLaws
 pub mod MeaningLaws
 pub mod ColumnLaws
+pub mod OneColumn
+pub mod WalkLaws
+pub mod OrderLaws

@@ -1,5 +1,5 @@
 -- Input lines: how an input is cut into lines, and the records of its lines or the first refusal.
-use Rattle.std.specs.Prelude.{ℕ, suc, List, [], ◌∷◌, length, ◌==◌, nat_lt, if◌then◌else◌, Result, Ok, Err}
+use Rattle.std.specs.Prelude.{◌≡◌, ℕ, suc, List, [], ◌∷◌, length, ◌==◌, nat_lt, if◌then◌else◌, Option, Some, None, Result, Ok, Err}
 use Rattle.dr_meaning.specs.Schema.{Fields}
 use Rattle.dr_meaning.specs.Record.{Node}
 use Rattle.dr_meaning.specs.JsonRecord.{RecordFault, record_of_line}
@@ -38,7 +38,10 @@ line_record (Err e) = Err (no_record e)
 
 -- the record of the line of this number, where at most so many are taken
 abbrev pub record_at : Fields → ℕ → ℕ → List ℕ → Result Node LineFault
-record_at fs most number line = if nat_lt longest_line (length line) then Err line_too_long else (if nat_lt most number then Err too_many_records else line_record (record_of_line fs line))
+record_at fs most number line =
+    if nat_lt longest_line (length line) then Err line_too_long
+    else (if nat_lt most number then Err too_many_records
+    else line_record (record_of_line fs line))
 
 abbrev pub before_records : Node → Result (List Node) Refusal → Result (List Node) Refusal
 before_records n (Ok ns) = Ok (n ∷ ns)
@@ -56,3 +59,31 @@ records_from fs most number (l ∷ ls) = or_refusal number (record_at fs most nu
 -- the records of an input of at most so many lines, or the first refusal
 unfoldable pub records_of : Fields → ℕ → List ℕ → Result (List Node) Refusal
 records_of fs most input = records_from fs most 1 (lines_of input)
+
+-- ---- the records before a refusal
+
+-- the records of the lines before the first that is refused, and that refusal
+pub record Taken : Type 0 where
+  pub records : List Node
+  pub refusal : Option Refusal
+
+-- a line before the lines behind it
+abbrev pub or_stop : ℕ → Result Node LineFault → Taken → Taken
+or_stop number (Ok n) rest = record { records = n ∷ rest.records; refusal = rest.refusal }
+or_stop number (Err e) rest = record { records = []; refusal = Some (record { line = number; fault = e }) }
+
+-- of lines, the first of which has this number, where at most so many are taken
+abbrev pub taken_from : Fields → ℕ → ℕ → List (List ℕ) → Taken
+taken_from fs most number [] = record { records = []; refusal = None }
+taken_from fs most number (l ∷ ls) = or_stop number (record_at fs most number l) (taken_from fs most (suc number) ls)
+
+-- ---- laws
+
+abbrev pub result_of : List Node → Option Refusal → Result (List Node) Refusal
+result_of R None = Ok R
+result_of R (Some e) = Err e
+
+-- the records taken and the refusal are those of the input's lines
+abbrev pub TakenAreRecords : Type 0
+TakenAreRecords = (fs : Fields) (most number : ℕ) (ls : List (List ℕ))
+    → result_of (taken_from fs most number ls).records (taken_from fs most number ls).refusal ≡ records_from fs most number ls

@@ -5,7 +5,8 @@ use Rattle.dr_meaning.specs.Schema.{Fields}
 use Rattle.dr_meaning.specs.Path.{Step, level}
 use Rattle.dr_meaning.specs.Record.{Node, project}
 use Rattle.dr_meaning.specs.Expression.{Expression, paths_of}
-use Rattle.dr_meaning.specs.Query.{RecordTerm, expression, within, GroupTerm, key, count_rows, aggregate, RecordItem, GroupItem, Selection, objects, groups, Query, meaning}
+use Rattle.dr_meaning.specs.Query.{RecordTerm, expression, within, GroupTerm, key, count_rows, aggregate, RecordItem, GroupItem, Selection, objects}
+use Rattle.dr_meaning.specs.Query.{groups, Query, meaning}
 use Rattle.dr_meaning.specs.Column.{record_column}
 use Rattle.dr_meaning.specs.ProjectionLaws.{leads}
 

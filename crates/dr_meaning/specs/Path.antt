@@ -1,6 +1,8 @@
 -- Paths of a schema, resolved to the places of their fields, with their levels (Dremel 2010, section 4.1).
-use Rattle.std.specs.Prelude.{ℕ, zero, suc, ◌+◌, List, [], ◌∷◌, ◌++◌, map, Bool, true, false, ◌&&◌, ◌==◌, if◌then◌else◌, bytes_eq, Option, Some, None, option_map, option_and_then, Result, Ok, Err}
-use Rattle.dr_meaning.specs.Schema.{Repetition, required, optional, repeated, Kind, Fields, no_fields, field, Shape, leaf, group, fields_of, repetition_count, definition_count, is_repeated}
+use Rattle.std.specs.Prelude.{ℕ, zero, suc, ◌+◌, List, [], ◌∷◌, ◌++◌, map, Bool, true, false, ◌&&◌, ◌==◌, if◌then◌else◌, bytes_eq, Option, Some, None}
+use Rattle.std.specs.Prelude.{option_map, option_and_then, Result, Ok, Err}
+use Rattle.dr_meaning.specs.Schema.{Repetition, required, optional, repeated, Kind, Fields, no_fields, field, Shape, leaf, group, fields_of}
+use Rattle.dr_meaning.specs.Schema.{repetition_count, definition_count, is_repeated}
 
 -- one field on a path: its place in its group, counted from 0, and its repetition
 pub record Step : Type 0 where
@@ -23,7 +25,8 @@ pub record Found : Type 0 where
 -- the field of this name in a group, whose first field has the place i
 abbrev pub named_field : List ℕ → ℕ → Fields → Option Found
 named_field n i no_fields = None
-named_field n i (field m r s fs) = if bytes_eq n m then Some (record { path = record { place = i; repetition = r } ∷ []; shape = s }) else named_field n (suc i) fs
+named_field n i (field m r s fs) = if bytes_eq n m then Some (record { path = record { place = i; repetition = r } ∷ []; shape = s })
+    else named_field n (suc i) fs
 
 abbrev pub found_below : Found → Found → Found
 found_below f g = record { path = f.path ++ g.path; shape = g.shape }
@@ -102,13 +105,17 @@ begins_with [] q = true
 begins_with (s ∷ p) [] = false
 begins_with (s ∷ p) (t ∷ q) = (s.place == t.place) && begins_with p q
 
+abbrev pub same_path : List Step → List Step → Bool
+same_path p q = begins_with p q && begins_with q p
+
 -- whether the first path has fewer fields
 abbrev pub is_shorter : List Step → List Step → Bool
 is_shorter p [] = false
 is_shorter [] (t ∷ q) = true
 is_shorter (s ∷ p) (t ∷ q) = is_shorter p q
 
--- the longer of two paths, the first where they are as long
+-- the path with more fields, the first where they have as many. All fields are counted, not only the repeated ones: it is used on paths
+-- of repeated fields of one query, whose chains begin with one another, and there the longer path has the longer chain
 abbrev pub longer : List Step → List Step → List Step
 longer p q = if is_shorter p q then q else p
 
@@ -134,7 +141,8 @@ abbrev mutual
   pub is_leaf_path : Fields → List Step → Bool
   is_leaf_path no_fields p = false
   is_leaf_path (field n r s fs) [] = false
-  is_leaf_path (field n r s fs) (t ∷ p) = through t.place (same_repetition t.repetition r && is_shape_path s p) (λ i. is_leaf_path fs (record { place = i; repetition = t.repetition } ∷ p))
+  is_leaf_path (field n r s fs) (t ∷ p) = through t.place (same_repetition t.repetition r && is_shape_path s p)
+      (λ i. is_leaf_path fs (record { place = i; repetition = t.repetition } ∷ p))
 
   pub is_shape_path : Shape → List Step → Bool
   is_shape_path (leaf k) p = is_empty_path p

@@ -4,7 +4,8 @@ use Rattle.std.specs.Fmt.{signed_decimal}
 use Rattle.std.specs.List.{join_with_byte, flat_map}
 use Rattle.json.specs.Print.{quoted}
 use Rattle.dr_meaning.specs.Schema.{Repetition, required, optional, repeated, Fields, no_fields, field, Shape, leaf, group}
-use Rattle.dr_meaning.specs.Record.{Value, bool_value, int_value, text_value, Node, no_slots, slot, gap, Instances, no_instances, instance, Instance, atom, inner}
+use Rattle.dr_meaning.specs.Record.{Value, bool_value, int_value, text_value, Node, no_slots, slot, gap, Instances, no_instances, instance, Instance}
+use Rattle.dr_meaning.specs.Record.{atom, inner}
 use Rattle.dr_meaning.specs.Query.{Object, no_entries, cell, list, Objects, no_objects, object}
 
 abbrev pub value_text : Value → List ℕ

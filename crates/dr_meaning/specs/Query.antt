@@ -6,7 +6,7 @@ use Rattle.std.specs.declared.cmp.Ordering.{Ordering}
 use Rattle.std.specs.declared.cmp.Ordering.TheVariants.{Less, Equal, Greater}
 use Rattle.std.specs.Cmp.Lexicographic.{slice_cmp}
 use Rattle.dr_meaning.specs.Schema.{Repetition, required, optional, repeated, Fields, no_fields, field, Shape, leaf, group}
-use Rattle.dr_meaning.specs.Path.{Step, begins_with, level, longer}
+use Rattle.dr_meaning.specs.Path.{Step, begins_with, same_path, level, longer}
 use Rattle.dr_meaning.specs.Record.{Value, bool_value, int_value, text_value, Node}
 use Rattle.dr_meaning.specs.Rows.{rows, value_at, is_present}
 use Rattle.dr_meaning.specs.Expression.{Expression, evaluate, expression_level, longest_level}
@@ -174,13 +174,11 @@ abbrev pub term_value : RecordTerm → Node → Option Value
 term_value (expression e) row = evaluate e row
 term_value (within a e node) row = over_rows a e (rows (expression_level e) row)
 
-abbrev pub same_level : List Step → List Step → Bool
-same_level p q = if begins_with p q then begins_with q p else false
-
 -- the items of a level, in SELECT order, before the rest of the object
 abbrev pub with_cells : List RecordItem → List Step → Node → Object → Object
 with_cells [] p row rest = rest
-with_cells (i ∷ is) p row rest = if same_level p (term_level i.term) then cell i.name (term_value i.term row) (with_cells is p row rest) else with_cells is p row rest
+with_cells (i ∷ is) p row rest = if same_path p (term_level i.term) then cell i.name (term_value i.term row) (with_cells is p row rest)
+    else with_cells is p row rest
 
 -- whether the level at a path leads to items
 abbrev pub leads_to_items : List RecordItem → List Step → Bool

@@ -1,5 +1,6 @@
 -- Query text: the tokens of the query language, and the small grammar of one COUNT.
-use Rattle.std.specs.Prelude.{ℕ, suc, ◌+◌, ◌*◌, ◌-◌, ◌^◌, List, [], ◌∷◌, ◌++◌, map, length, Bool, ◌&&◌, ◌==◌, nat_lt, nat_le, if◌then◌else◌, bytes_eq, codes, Option, Some, None}
+use Rattle.std.specs.Prelude.{ℕ, suc, ◌+◌, ◌*◌, ◌-◌, ◌^◌, List, [], ◌∷◌, ◌++◌, map, length, Bool, ◌&&◌, ◌==◌, nat_lt, nat_le, if◌then◌else◌, bytes_eq}
+use Rattle.std.specs.Prelude.{codes, Option, Some, None}
 use Rattle.std.specs.Str.{str_to_ascii_uppercase}
 use Rattle.dr_meaning.specs.Schema.{is_name, begins_name, continues_name}
 use Rattle.dr_meaning.specs.SchemaText.{is_blank}
@@ -163,7 +164,8 @@ next_byte i b (in_number s n) = if is_digit b then begins (in_number s (n * 10 +
 next_byte i b (in_quotes s w) = if b == 34 then whole s (quoted_token w) else begins (in_quotes s (w ++ b ∷ []))
 next_byte i b (in_text s t) = if b == 39 then begins (after_quote s t) else begins (in_text s (t ++ b ∷ []))
 next_byte i b (after_quote s t) = if b == 39 then begins (in_text s (t ++ b ∷ [])) else after_token s (text t) (first_byte i b)
-next_byte i b (after_less s) = if b == 61 then whole s (sign less_or_equal) else (if b == 62 then whole s (sign differs) else after_token s (sign less_than) (first_byte i b))
+next_byte i b (after_less s) = if b == 61 then whole s (sign less_or_equal)
+    else (if b == 62 then whole s (sign differs) else after_token s (sign less_than) (first_byte i b))
 next_byte i b (after_greater s) = if b == 61 then whole s (sign greater_or_equal) else after_token s (sign greater_than) (first_byte i b)
 
 -- the token that the text's end ends

@@ -2,7 +2,8 @@
 use Rattle.std.specs.Prelude.{ℕ, zero, suc, ◌+◌, ◌^◌, List, [], ◌∷◌, length, Bool, true, false, ◌&&◌, ◌==◌, nat_le, ℤ, pos, neg_ℤ, int_le, int_lt}
 use Rattle.std.specs.Str.{is_utf8}
 use Rattle.dr_meaning.specs.Path.{Step}
-use Rattle.dr_meaning.specs.Schema.{Repetition, required, optional, repeated, Kind, bool_kind, int32_kind, int64_kind, text_kind, Fields, no_fields, field, Shape, leaf, group}
+use Rattle.dr_meaning.specs.Schema.{Repetition, required, optional, repeated, Kind, bool_kind, int32_kind, int64_kind, text_kind, Fields, no_fields}
+use Rattle.dr_meaning.specs.Schema.{field, Shape, leaf, group}
 
 -- a value: a truth value, a whole number, the UTF-8 bytes of a text
 pub data Value : Type 0 where
@@ -45,6 +46,10 @@ is_of_kind k v = false
 abbrev pub count_instances : Instances → ℕ
 count_instances no_instances = 0
 count_instances (instance x xs) = suc (count_instances xs)
+
+-- one instance alone
+abbrev pub single : Instance → Instances
+single x = instance x no_instances
 
 -- exactly one, at most one, any number
 abbrev pub fits_repetition : Repetition → ℕ → Bool

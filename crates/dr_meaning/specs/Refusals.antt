@@ -1,6 +1,7 @@
 -- What a command refuses, and the lines on err that name it.
 use Rattle.std.specs.Prelude.{ℕ, List, [], ◌∷◌, ◌++◌, codes, decimal}
-use Rattle.dr_meaning.specs.SchemaText.{SchemaProblem, too_long, float_kind, empty_group, syntax, bad_name, duplicate_name, too_deep, too_many_leaves, SchemaFault}
+use Rattle.dr_meaning.specs.SchemaText.{SchemaProblem, too_long, float_kind, empty_group, syntax, bad_name, duplicate_name, too_deep, too_many_leaves}
+use Rattle.dr_meaning.specs.SchemaText.{SchemaFault}
 use Rattle.dr_meaning.specs.Path.{PathFault, unknown_field, not_a_leaf}
 use Rattle.dr_meaning.specs.JsonRecord.{RecordFault, not_json, unknown_field as unknown_key, missing_field, wrong_kind, out_of_range, null_element, too_large}
 use Rattle.dr_meaning.specs.Lines.{LineFault, line_too_long, too_many_records, no_record, Refusal}

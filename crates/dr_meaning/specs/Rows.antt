@@ -1,10 +1,8 @@
 -- Rows: a record cut to at most one instance of each field on a path, and the value of a path in it.
 use Rattle.std.specs.Prelude.{List, [], ◌∷◌, ◌++◌, map, Bool, true, false, Option, Some, None}
 use Rattle.dr_meaning.specs.Path.{Step}
+pub use Rattle.dr_meaning.specs.Record.{single}
 use Rattle.dr_meaning.specs.Record.{Value, Node, Instances, no_instances, instance, Instance, atom, inner, instances_at, instances_in, put_at}
-
-abbrev pub single : Instance → Instances
-single x = instance x no_instances
 
 -- the rows of one instance, given those of a node
 abbrev pub instance_rows : (Node → List Node) → Instance → List Instances

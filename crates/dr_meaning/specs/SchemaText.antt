@@ -1,7 +1,10 @@
 -- Schema text: its tokens, the productions of its grammar, its canonical form, and the schema or the first fault of a text.
-use Rattle.std.specs.Prelude.{◌≡◌, ℕ, suc, ◌-◌, List, [], ◌∷◌, ◌++◌, map, length, Bool, true, ◌||◌, ◌==◌, nat_lt, nat_le, if◌then◌else◌, bytes_eq, codes, ◌⊎◌, Result, Ok, Err, Option, Some, None}
+use Rattle.std.specs.Prelude.{◌≡◌, ℕ, suc, ◌-◌, List, [], ◌∷◌, ◌++◌, map, length, Bool, true, ◌||◌, ◌==◌, nat_lt, nat_le, if◌then◌else◌, bytes_eq}
+use Rattle.std.specs.Prelude.{codes, ◌⊎◌, Result, Ok, Err, Option, Some, None}
 use Rattle.std.specs.List.{list_any}
-use Rattle.dr_meaning.specs.Schema.{Repetition, required, optional, repeated, Kind, bool_kind, int32_kind, int64_kind, text_kind, Fields, no_fields, field, Shape, leaf, group, Schema, field_names, begins_name, continues_name, is_nonempty, longest_name, greatest_depth, most_leaves}
+use Rattle.dr_meaning.specs.Schema.{Repetition, required, optional, repeated, Kind, bool_kind, int32_kind, int64_kind, text_kind, Fields, no_fields}
+use Rattle.dr_meaning.specs.Schema.{field, Shape, leaf, group, Schema, field_names, begins_name, continues_name, is_nonempty, longest_name}
+use Rattle.dr_meaning.specs.Schema.{greatest_depth, most_leaves}
 
 -- ---- tokens: names, braces, semicolons; blanks are space, tab, CR and LF
 
@@ -22,7 +25,11 @@ abbrev pub is_blank : ℕ → Bool
 is_blank b = (b == 32) || (b == 9) || (b == 13) || (b == 10)
 
 abbrev pub byte_token : ℕ → Token
-byte_token b = if b == 123 then open_brace else (if b == 125 then close_brace else (if b == 59 then semicolon else bad))
+byte_token b =
+    if b == 123 then open_brace
+    else (if b == 125 then close_brace
+    else (if b == 59 then semicolon
+    else bad))
 
 -- the byte at place i, which goes on with no name, before the tokens behind it
 abbrev pub with_byte : ℕ → ℕ → List Placed → List Placed
@@ -75,11 +82,13 @@ abbrev mutual
   -- kind name ";", or "group" name "{" field { field } "}" [ ";" ]
   pub SpellsShape : Shape → List ℕ → List Token → Type 0
   SpellsShape (leaf k) n ts = ts ≡ name (kind_word k) ∷ name n ∷ semicolon ∷ []
-  SpellsShape (group fs) n ts = (a : List Token) × (b : List Token) × (ts ≡ name (codes "group") ∷ name n ∷ open_brace ∷ (a ++ close_brace ∷ b)) × SpellsFields fs a × (is_nonempty fs ≡ true) × IsOptionalSemicolon b
+  SpellsShape (group fs) n ts = (a : List Token) × (b : List Token) × (ts ≡ name (codes "group") ∷ name n ∷ open_brace ∷ (a ++ close_brace ∷ b))
+      × SpellsFields fs a × (is_nonempty fs ≡ true) × IsOptionalSemicolon b
 
 -- "message" name "{" field { field } "}"
 abbrev pub SpellsSchema : Schema → List Token → Type 0
-SpellsSchema s ts = (a : List Token) × (ts ≡ name (codes "message") ∷ name s.name ∷ open_brace ∷ (a ++ close_brace ∷ [])) × SpellsFields s.fields a × (is_nonempty s.fields ≡ true)
+SpellsSchema s ts = (a : List Token) × (ts ≡ name (codes "message") ∷ name s.name ∷ open_brace ∷ (a ++ close_brace ∷ [])) × SpellsFields s.fields a
+    × (is_nonempty s.fields ≡ true)
 
 -- ---- the canonical text: tokens separated by one space, but none before `;`; no `;` after a group; ended by LF
 
@@ -198,13 +207,22 @@ begin_group r n m = Ok (record m { expected = first_field; fields = no_fields; g
 -- the innermost group ends, and joins the one that holds it; where none is open, the message ends
 abbrev pub end_group : Reading → List OpenGroup → Result Reading SchemaProblem
 end_group m [] = Ok (record m { expected = text_end })
-end_group m (g ∷ gs) = Ok (record m { expected = after_group; fields = append_fields g.before (field g.name g.repetition (group m.fields) no_fields); groups = gs })
+end_group m (g ∷ gs) = Ok (record m {
+  expected = after_group;
+  fields = append_fields g.before (field g.name g.repetition (group m.fields) no_fields);
+  groups = gs;
+})
+
+-- which of these has this word
+abbrev pub with_word_of : {A : Type 0} → (A → List ℕ) → List A → List ℕ → Option A
+with_word_of word [] w = None
+with_word_of word (a ∷ rest) w = if bytes_eq w (word a) then Some a else with_word_of word rest w
 
 abbrev pub repetition_of : List ℕ → Option Repetition
-repetition_of w = if bytes_eq w (codes "required") then Some required else (if bytes_eq w (codes "optional") then Some optional else (if bytes_eq w (codes "repeated") then Some repeated else None))
+repetition_of w = with_word_of repetition_word (required ∷ optional ∷ repeated ∷ []) w
 
 abbrev pub kind_of : List ℕ → Option Kind
-kind_of w = if bytes_eq w (codes "boolean") then Some bool_kind else (if bytes_eq w (codes "int32") then Some int32_kind else (if bytes_eq w (codes "int64") then Some int64_kind else (if bytes_eq w (codes "string") then Some text_kind else None)))
+kind_of w = with_word_of kind_word (bool_kind ∷ int32_kind ∷ int64_kind ∷ text_kind ∷ []) w
 
 abbrev pub is_float_word : List ℕ → Bool
 is_float_word w = bytes_eq w (codes "float") || bytes_eq w (codes "double")
@@ -215,11 +233,30 @@ on_repetition m (Some r) = expecting (kind_or_group r) m
 
 abbrev pub on_kind : Reading → Repetition → List ℕ → Option Kind → Result Reading SchemaProblem
 on_kind m r w (Some k) = expecting (leaf_name r k) m
-on_kind m r w None = if bytes_eq w (codes "group") then expecting (group_name r) m else (if is_float_word w then Err float_kind else Err syntax)
+on_kind m r w None =
+    if bytes_eq w (codes "group") then expecting (group_name r) m
+    else (if is_float_word w then Err float_kind
+    else Err syntax)
 
--- the first fault of a field's name, if it has one
+-- a rule: whether it is broken, and the problem then
+pub record Rule : Type 0 where
+  pub broken : Bool
+  pub problem : SchemaProblem
+
+abbrev pub rule : Bool → SchemaProblem → Rule
+rule b p = record { broken = b; problem = p }
+
+-- the problem of the first of these rules that is broken
+abbrev pub first_broken : List Rule → Option SchemaProblem
+first_broken [] = None
+first_broken (r ∷ rs) = if r.broken then Some r.problem else first_broken rs
+
+-- the first fault of a field's name, if it has one: it is too long, an earlier field of the group has it, its path has 33 parts
 abbrev pub name_problem : Reading → List ℕ → Option SchemaProblem
-name_problem m n = if nat_lt longest_name (length n) then Some bad_name else (if list_any (bytes_eq n) (field_names m.fields) then Some duplicate_name else (if nat_le greatest_depth (length m.groups) then Some too_deep else None))
+name_problem m n = first_broken
+    (rule (nat_lt longest_name (length n)) bad_name
+    ∷ rule (list_any (bytes_eq n) (field_names m.fields)) duplicate_name
+    ∷ rule (nat_le greatest_depth (length m.groups)) too_deep ∷ [])
 
 abbrev pub leaf_problem : Reading → Option SchemaProblem → Option SchemaProblem
 leaf_problem m (Some p) = Some p
@@ -287,4 +324,6 @@ longest_schema = 1048576
 
 -- the schema of a text, or its first fault
 unfoldable pub parse_schema : List ℕ → Result Schema SchemaFault
-parse_schema text = if nat_lt longest_schema (length text) then Err (record { place = longest_schema; problem = too_long }) else read_tokens (length text) (tokens_of text) reading_start
+parse_schema text =
+    if nat_lt longest_schema (length text) then Err (record { place = longest_schema; problem = too_long })
+    else read_tokens (length text) (tokens_of text) reading_start

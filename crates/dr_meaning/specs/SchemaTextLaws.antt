@@ -1,7 +1,8 @@
 -- Laws of schema text: which texts are accepted, where the fault of the others stands, and that the canonical text reads back.
 use Rattle.std.specs.Prelude.{◌≡◌, ℕ, ◌≤◌, List, [], ◌∷◌, ◌++◌, length, true, ◌≢◌, ◌⊎◌, ◌↔◌, Ok, Err}
 use Rattle.dr_meaning.specs.Schema.{Schema, is_schema}
-use Rattle.dr_meaning.specs.SchemaText.{Token, Placed, tokens_of, bare, SpellsSchema, schema_text, longest_schema, parse_schema, SchemaProblem, too_long, syntax, float_kind, empty_group}
+use Rattle.dr_meaning.specs.SchemaText.{Token, Placed, tokens_of, bare, SpellsSchema, schema_text, longest_schema, parse_schema, SchemaProblem}
+use Rattle.dr_meaning.specs.SchemaText.{too_long, syntax, float_kind, empty_group}
 
 -- ---- accepted texts
 
@@ -9,9 +10,11 @@ use Rattle.dr_meaning.specs.SchemaText.{Token, Placed, tokens_of, bare, SpellsSc
 abbrev pub AcceptedIsSpelled : Type 0
 AcceptedIsSpelled = (text : List ℕ) (s : Schema) → parse_schema text ≡ Ok s → SpellsSchema s (bare (tokens_of text))
 
--- a text is accepted as a schema exactly if it is not too long, is spelled by the grammar as that schema, and the schema keeps the rules of names and the limits
+-- a text is accepted as a schema exactly if it is not too long, is spelled by the grammar as that schema, and the schema keeps the rules of names and
+-- the limits
 abbrev pub AcceptedExactly : Type 0
-AcceptedExactly = (text : List ℕ) (s : Schema) → (parse_schema text ≡ Ok s) ↔ ((length text ≤ longest_schema) × SpellsSchema s (bare (tokens_of text)) × (is_schema s ≡ true))
+AcceptedExactly = (text : List ℕ) (s : Schema) → (parse_schema text ≡ Ok s) ↔ ((length text ≤ longest_schema)
+    × SpellsSchema s (bare (tokens_of text)) × (is_schema s ≡ true))
 
 -- the canonical text of a schema, if it is not too long, reads back as that schema
 abbrev pub CanonicalReadsBack : Type 0
@@ -43,7 +46,8 @@ EndsEarly text place =
 
 -- the fault `syntax` stands at the first token with which no schema goes on, or at the end of a text that ends too early
 abbrev pub SyntaxIsDeadEnd : Type 0
-SyntaxIsDeadEnd = (text : List ℕ) (place : ℕ) → parse_schema text ≡ Err (record { place = place; problem = syntax }) → IsFirstDeadEnd text place ⊎ EndsEarly text place
+SyntaxIsDeadEnd = (text : List ℕ) (place : ℕ) → parse_schema text ≡ Err (record { place = place; problem = syntax }) → IsFirstDeadEnd text place
+    ⊎ EndsEarly text place
 
 -- the fault `float_kind` stands at the first token with which no schema goes on
 abbrev pub FloatIsDeadEnd : Type 0
@@ -61,4 +65,5 @@ GoesOnBefore text place =
 
 -- whatever the fault is, but for a text that is too long, the tokens before it begin a schema's
 abbrev pub BeforeFaultGoesOn : Type 0
-BeforeFaultGoesOn = (text : List ℕ) (place : ℕ) (p : SchemaProblem) → p ≢ too_long → parse_schema text ≡ Err (record { place = place; problem = p }) → GoesOnBefore text place
+BeforeFaultGoesOn = (text : List ℕ) (place : ℕ) (p : SchemaProblem) → p ≢ too_long → parse_schema text ≡ Err (record { place = place; problem = p })
+    → GoesOnBefore text place

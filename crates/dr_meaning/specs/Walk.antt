@@ -1,8 +1,10 @@
 -- The walk of records: their moves in reading order, and when a move nests on the fields that are open.
 use Rattle.std.specs.Prelude.{ℕ, zero, suc, ◌+◌, List, [], ◌∷◌, ◌++◌, map, Bool, true, false, ◌&&◌, Option, Some, None, reverse}
 use Rattle.std.specs.List.{flat_map, slice_get}
-use Rattle.dr_meaning.specs.Schema.{Repetition, required, optional, repeated, Fields, no_fields, field, Shape, leaf, group, repetition_count, definition_count, shape_repeated_fields}
-use Rattle.dr_meaning.specs.Path.{Step, Leaf, begins_with, chain}
+use Rattle.dr_meaning.specs.Schema.{Repetition, required, optional, repeated, Fields, no_fields, field, Shape, leaf, group, repetition_count}
+use Rattle.dr_meaning.specs.Schema.{definition_count, shape_repeated_fields}
+use Rattle.dr_meaning.specs.Path.{Step, Leaf, chain}
+pub use Rattle.dr_meaning.specs.Path.{same_path}
 use Rattle.dr_meaning.specs.Record.{Value, Node, no_slots, slot, gap, Instances, no_instances, instance, Instance, atom, inner, is_of_kind}
 use Rattle.dr_meaning.specs.Column.{Triplet, triplet, value_of}
 use Rattle.dr_meaning.specs.Automaton.{Pick, picks, behind, beside, indexes}
@@ -55,55 +57,80 @@ unless_repeated repeated ms = []
 abbrev pub enclosed : ℕ → List Move → List Move
 enclosed k ms = enter k ∷ (ms ++ leave k ∷ [])
 
-abbrev pub later_moves : (ℕ → Option Instance → List Move) → ℕ → ℕ → Instances → List Move
-later_moves f k later no_instances = []
-later_moves f k later (instance x xs) = enclosed k (f later (Some x)) ++ later_moves f k later xs
-
--- the instances of the repeated field k, the first begun at r, later ones at their field's level; an absent one isn't entered
-abbrev pub repeated_moves : (ℕ → Option Instance → List Move) → ℕ → ℕ → ℕ → Instances → List Move
-repeated_moves f k later r no_instances = f r None
-repeated_moves f k later r (instance x xs) = enclosed k (f r (Some x)) ++ later_moves f k later xs
-
--- a repeated field's instances are entered and left; in any other field the walk goes on
-abbrev pub far_field : Repetition → ℕ → ℕ → ℕ → (ℕ → Option Instance → List Move) → (Option Instance → List Move) → Instances → List Move
-far_field required k level r inside passed xs = passed (first_of xs)
-far_field optional k level r inside passed xs = passed (first_of xs)
-far_field repeated k level r inside passed xs = repeated_moves inside k (suc level) r xs
-
 -- nothing where no selected leaf is
 abbrev pub where_selected : List Pick → List Move → List Move
 where_selected [] ms = []
 where_selected (f ∷ F) ms = ms
 
+-- where the walk is: how many repeated fields are round it, the repetition level with which it begins, and the definition level
+pub record Depth : Type 0 where
+  pub level : ℕ
+  pub repetition : ℕ
+  pub definition : ℕ
+
+-- the same in an instance of a field, or where the field is absent
+abbrev pub inside : Repetition → Depth → Option Instance → Depth
+inside r at x = record { level = at.level + repetition_count r; repetition = at.repetition; definition = definition_in r at.definition x }
+
+-- the same for a later instance of a repeated field: it begins with the level of its field
+abbrev pub begun_later : Depth → Depth
+begun_later at = record at { repetition = suc at.level }
+
+-- the moves of the instances behind the first, of the repeated field k
+abbrev pub later_moves : ℕ → (Option Instance → List Move) → Instances → List Move
+later_moves k moves no_instances = []
+later_moves k moves (instance x xs) = enclosed k (moves (Some x)) ++ later_moves k moves xs
+
+-- the moves of the instances of the repeated field k, given those of the first or of none, and those of a later one; what is absent isn't entered
+abbrev pub repeated_moves : ℕ → (Option Instance → List Move) → (Option Instance → List Move) → Instances → List Move
+repeated_moves k first later no_instances = first None
+repeated_moves k first later (instance x xs) = enclosed k (first (Some x)) ++ later_moves k later xs
+
+-- a repeated field's instances are entered and left; in any other field the walk goes on
+abbrev pub by_repetition : Repetition → (Instances → List Move) → (Option Instance → List Move) → Instances → List Move
+by_repetition required each only xs = only (first_of xs)
+by_repetition optional each only xs = only (first_of xs)
+by_repetition repeated each only xs = each xs
+
+-- the moves in an instance of a repeated field, which may be absent: its own leaves, then its next repeated fields
+abbrev pub moves_in : (Depth → Option Instance → List Move) → (Depth → Option Instance → List Move) → Depth → Option Instance → List Move
+moves_in near far at x = near at x ++ far at x
+
 abbrev mutual
   -- the moves of a level's own leaves
-  pub near_moves : Fields → List Pick → ℕ → ℕ → Node → List Move
-  near_moves no_fields F r d n = []
-  near_moves (field m rep s fs) F r d n =
-      unless_repeated rep (shape_near_moves s (behind F) r (definition_in rep d (first_of (first_slot n))) (first_of (first_slot n)))
-      ++ near_moves fs (beside F) r d (other_slots n)
+  pub near_moves : Fields → List Pick → Depth → Node → List Move
+  near_moves no_fields F at n = []
+  near_moves (field m r s fs) F at n =
+      unless_repeated r (shape_near_moves s (behind F) (inside r at (first_of (first_slot n))) (first_of (first_slot n)))
+      ++ near_moves fs (beside F) at (other_slots n)
 
-  -- the moves of its next repeated fields, the first of which has the number k, below this many repeated fields
-  pub far_moves : Fields → List Pick → ℕ → ℕ → ℕ → ℕ → Node → List Move
-  far_moves no_fields F k level r d n = []
-  far_moves (field m rep s fs) F k level r d n =
-      where_selected (behind F) (far_field rep k level r
-      (λ e x. shape_near_moves s (behind F) e (definition_in rep d x) x ++ shape_far_moves s (behind F) (suc k) (suc level) e (definition_in rep d x) x)
-      (λ x. shape_far_moves s (behind F) k level r (definition_in rep d x) x)
+  -- the moves of its next repeated fields, the first of which has the number k
+  pub far_moves : Fields → List Pick → ℕ → Depth → Node → List Move
+  far_moves no_fields F k at n = []
+  far_moves (field m r s fs) F k at n =
+      where_selected (behind F) (by_repetition r
+      (repeated_moves k
+      (λ x. moves_in (shape_near_moves s (behind F)) (shape_far_moves s (behind F) (suc k)) (inside r at x) x)
+      (λ x. moves_in (shape_near_moves s (behind F)) (shape_far_moves s (behind F) (suc k)) (inside r (begun_later at) x) x))
+      (λ x. shape_far_moves s (behind F) k (inside r at x) x)
       (first_slot n))
-      ++ far_moves fs (beside F) (k + (repetition_count rep + shape_repeated_fields s)) level r d (other_slots n)
+      ++ far_moves fs (beside F) (k + (repetition_count r + shape_repeated_fields s)) at (other_slots n)
 
-  pub shape_near_moves : Shape → List Pick → ℕ → ℕ → Option Instance → List Move
-  shape_near_moves (leaf k) F r d x = triplet_moves (indexes F) (triplet r d (value_there x))
-  shape_near_moves (group fs) F r d x = near_moves fs F r d (node_of x)
+  pub shape_near_moves : Shape → List Pick → Depth → Option Instance → List Move
+  shape_near_moves (leaf k) F at x = triplet_moves (indexes F) (triplet at.repetition at.definition (value_there x))
+  shape_near_moves (group fs) F at x = near_moves fs F at (node_of x)
 
-  pub shape_far_moves : Shape → List Pick → ℕ → ℕ → ℕ → ℕ → Option Instance → List Move
-  shape_far_moves (leaf k) F j level r d x = []
-  shape_far_moves (group fs) F j level r d x = far_moves fs F j level r d (node_of x)
+  pub shape_far_moves : Shape → List Pick → ℕ → Depth → Option Instance → List Move
+  shape_far_moves (leaf j) F k at x = []
+  shape_far_moves (group fs) F k at x = far_moves fs F k at (node_of x)
+
+-- where a record begins
+abbrev pub top : Depth
+top = record { level = 0; repetition = 0; definition = 0 }
 
 -- a record: its own leaves, then its repeated fields, the first of which has the number 1
 abbrev pub record_moves : Fields → List (List Step) → Node → List Move
-record_moves fs F n = enclosed 0 (near_moves fs (picks F) 0 0 n ++ far_moves fs (picks F) 1 0 0 0 n)
+record_moves fs F n = enclosed 0 (near_moves fs (picks F) top n ++ far_moves fs (picks F) 1 top n)
 
 -- the moves of the records for the selected leaves, in reading order
 unfoldable pub walk : Fields → List (List Step) → List Node → List Move
@@ -134,9 +161,6 @@ repeated_paths fs = repeated_paths_from fs 0
 pub data Open : Type 0 where
   no_record : Open
   in_record : List (List Step) → Open
-
-abbrev pub same_path : List Step → List Step → Bool
-same_path p q = begins_with p q && begins_with q p
 
 abbrev pub is_chain_front : List (List Step) → List (List Step) → Bool
 is_chain_front [] ds = true

@@ -3,7 +3,9 @@
 #![tactic(auto)]
 
 pub mod column_laws;
+pub mod line_laws;
 pub mod meaning_laws;
 pub mod path_laws;
 pub mod projection_laws;
 pub mod schema_laws;
+pub mod walk_laws;
