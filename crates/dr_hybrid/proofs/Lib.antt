@@ -1,0 +1,6 @@
+-- numbers in bytes, and values in their bits
+pub mod UnpackLemmas
+-- runs, one after another
+pub mod RunLemmas
+-- what runs and answers of theirs hold
+pub mod RunFacts

@@ -1,0 +1,2 @@
+-- what runs stand for, and the next of them
+pub mod Views
