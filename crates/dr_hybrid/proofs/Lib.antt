@@ -4,3 +4,5 @@ pub mod UnpackLemmas
 pub mod RunLemmas
 -- what runs and answers of theirs hold
 pub mod RunFacts
+-- values into bits, and runs that are written
+pub mod PackLemmas

@@ -3,11 +3,16 @@
 #![tactic(auto)]
 
 mod decoding;
+mod encoding;
+mod level_encoding;
 mod levels;
 mod reading;
 mod runs;
 mod unpacking;
 mod words;
+mod writing;
 
 pub use decoding::{decode, decode_levels};
+pub use encoding::encode;
+pub use level_encoding::encode_levels;
 pub use runs::{GREATEST_WIDTH, Packed, Run, Runs, Short};
