@@ -8,6 +8,8 @@ mod level_encoding;
 mod levels;
 mod reading;
 mod runs;
+#[cfg(test)]
+mod tests;
 mod unpacking;
 mod words;
 mod writing;

@@ -15,11 +15,12 @@ returns-in_err-append_repeat-clause-begins c = begins_on c.args.out.now.items c.
 
 pub runs-preserved-then-equal-rest : goal.runs-preserved-then-equal-rest
 runs-preserved-then-equal-rest c =
-    let v : ℕ = get_or c.args.values.now c.runs.done 0 in
+    let v : ℕ = c.from.result in
+    let e : v ≡ get_or c.args.values.now c.runs.done 0 = c.from.ensures in
     let equal : ℕ = 1 + c.equal_count-equal.result in
     let rest : List ℕ = take (length c.args.values.now - c.runs.done) (drop c.runs.done c.args.values.now) in
     let l : length (drop c.runs.done c.args.values.now) ≡ length c.args.values.now - c.runs.done = length-drop c.runs.done c.args.values.now in
-    repeat_written c.args.width c.args.values.now c.args.out.now.items c.runs.out.items c.append_repeat.new.out.items c.runs.done v equal c.runs.invariant c.runs-test.true refl (counted c.args.values.now c.runs.done c.equal_count-equal.result c.equal_count-equal.ensures.count) (subst (λ (n : ℕ). (8 ≤ equal) ⊎ (equal ≡ n)) l (either_ends equal rest (drop c.runs.done c.args.values.now) (take_rest c.args.values.now c.runs.done) c.if-equal-rest.either)) (omega arith) c.in_ok-append_repeat.ensures.written
+    repeat_written c.args.width c.args.values.now c.args.out.now.items c.runs.out.items c.append_repeat.new.out.items c.runs.done v equal c.runs.invariant c.runs-test.true e (counted c.args.values.now c.runs.done c.equal_count-equal.result c.equal_count-equal.ensures.count ∙ ap (λ x. suc (equal_front x (drop (c.runs.done + 1) c.args.values.now))) (sym e)) (subst (λ (n : ℕ). (8 ≤ equal) ⊎ (equal ≡ n)) l (either_ends equal rest (drop c.runs.done c.args.values.now) (take_rest c.args.values.now c.runs.done) c.if-equal-rest.either)) (omega arith) c.in_ok-append_repeat.ensures.written
 
 pub append_group-requires-clause-below : goal.append_group-requires-clause-below
 append_group-requires-clause-below c = subst (AreBelow c.args.width) (sym (take_rest c.args.values.now c.runs.done)) (below_dropped c.args.width c.runs.done c.args.values.now c.requires.below)
