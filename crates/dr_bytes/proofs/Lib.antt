@@ -2,3 +2,7 @@
 pub mod VarintSteps
 -- a number is read alike, whatever the faults are
 pub mod FaultLemmas
+-- numbers in bytes, and values in their bits
+pub mod BitLemmas
+-- where a cut stands
+pub mod CutLemmas

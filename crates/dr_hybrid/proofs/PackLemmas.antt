@@ -10,52 +10,8 @@ use Rattle.std.proofs.Math.Seq.{drop-nil}
 use Rattle.dr_formats.specs.Varint.{varint_bytes}
 use Rattle.dr_formats.specs.LittleEndian.{little_endian_bytes, packed, bytes_for}
 use Rattle.dr_formats.specs.Hybrid.{equal_front, WrittenRun, repeat_of, group_of, next_run, runs_behind}
-use Rattle.dr_formats.proofs.LittleEndianLemmas.{fewer_bytes, length_little_endian}
+use Rattle.dr_bytes.proofs.BitLemmas.{bytes_more, bytes_below, four_bytes_of, eight_bytes_of, front_bytes}
 use Rattle.dr_hybrid.specs.Writing.{AreBelow, BeginsWith}
-
--- ---- bytes of numbers
-
-eight_more : (k : ℕ) → 2 ^ (8 * suc k) ≡ 256 * 2 ^ (8 * k)
-eight_more k =
-    let e : 8 * suc k ≡ 8 + 8 * k = omega arith in
-    ap (λ x. 2 ^ x) e ∙ pow-add 2 8 (8 * k)
-
-pub bytes_more : (e c x : ℕ) → little_endian_bytes (e + c) x ≡ little_endian_bytes e x ++ little_endian_bytes c (x / 2 ^ (8 * e))
-bytes_more zero c x =
-    let e : 0 + c ≡ c = omega arith in
-    let f : x / 2 ^ (8 * 0) ≡ x = omega arith in
-    rw (e, f) refl
-bytes_more (suc e) c x =
-    let f : suc e + c ≡ suc (e + c) = omega arith in
-    let g : 8 + 8 * e ≡ 8 * suc e = omega arith in
-    rw f (ap (λ bs. (x % 256) ∷ bs) (bytes_more e c (x / 256) ∙ ap (λ y. little_endian_bytes e (x / 256) ++ little_endian_bytes c y) (shr-shr x 8 (8 * e) ∙ ap (λ k. x / 2 ^ k) g)))
-
--- what stands above the bytes doesn't matter
-pub bytes_below : (c a b : ℕ) → little_endian_bytes c (a + 2 ^ (8 * c) * b) ≡ little_endian_bytes c a
-bytes_below zero a b = refl
-bytes_below (suc c) a b =
-    let p : 2 ^ (8 * suc c) * b ≡ 256 * 2 ^ (8 * c) * b = ap (λ x. x * b) (eight_more c) in
-    let e : (a + 2 ^ (8 * suc c) * b) % 256 ≡ a % 256 = omega (arith, p) in
-    let f : (a + 2 ^ (8 * suc c) * b) / 256 ≡ a / 256 + 2 ^ (8 * c) * b = omega (arith, p) in
-    rw (e, f) (ap (λ bs. (a % 256) ∷ bs) (bytes_below c (a / 256) b))
-
-pub four_bytes_of : (x : ℕ) → to_le_bytes w32 x ≡ little_endian_bytes 4 x
-four_bytes_of x = ap₂ (λ a b. (x % 256) ∷ (x / 256 % 256) ∷ a ∷ b ∷ []) (omega arith) (omega arith)
-
-pub eight_bytes_of : (x : ℕ) → to_le_bytes w64 x ≡ little_endian_bytes 8 x
-eight_bytes_of x =
-    let e2 : x / 65536 % 256 ≡ x / 256 / 256 % 256 = omega arith in
-    let e3 : x / 16777216 % 256 ≡ x / 256 / 256 / 256 % 256 = omega arith in
-    let e4 : x / 4294967296 % 256 ≡ x / 256 / 256 / 256 / 256 % 256 = omega arith in
-    let e5 : x / 1099511627776 % 256 ≡ x / 256 / 256 / 256 / 256 / 256 % 256 = omega arith in
-    let e6 : x / 281474976710656 % 256 ≡ x / 256 / 256 / 256 / 256 / 256 / 256 % 256 = omega arith in
-    let e7 : x / 72057594037927936 % 256 ≡ x / 256 / 256 / 256 / 256 / 256 / 256 / 256 % 256 = omega arith in
-    rw (e2, e3, e4, e5, e6, e7) refl
-
-pub front_bytes : (k n x : ℕ) → k ≤ n → take k (little_endian_bytes n x) ≡ little_endian_bytes k x
-front_bytes zero n x h = refl
-front_bytes (suc k) zero x h = absurd (omega (arith, h))
-front_bytes (suc k) (suc n) x h = ap (λ bs. (x % 256) ∷ bs) (front_bytes k n (x / 256) (omega (arith, h)))
 
 -- ---- values into bits
 

@@ -4,7 +4,7 @@ use Rattle.dr_formats.specs.LittleEndian.{bytes_for}
 use Rattle.dr_hybrid.specs.declared.runs.Packed.{Packed}
 use Rattle.dr_hybrid.specs.declared.runs.Run.{Run}
 use Rattle.dr_hybrid.specs.Views.{values_of, packed_values}
-use Rattle.dr_hybrid.proofs.UnpackLemmas.{length_unpacked}
+use Rattle.dr_bytes.proofs.BitLemmas.{length_unpacked}
 
 pub packed_count : (r : Run) (p : Packed) → r ≡ Run.Packed p → p.count ≡ length (values_of r)
 packed_count r p e = rw e (sym (length_unpacked p.count p.width _))

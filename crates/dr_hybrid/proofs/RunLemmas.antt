@@ -12,7 +12,8 @@ use Rattle.dr_formats.specs.Hybrid.{HybridFault, short, repeat_run, packed_run, 
 use Rattle.dr_formats.proofs.SoundLemmas.{sound_below}
 use Rattle.dr_formats.proofs.ReadingLemmas.{not_refused, same_got}
 use Rattle.dr_hybrid.specs.Views.{repeated, packed_ahead, run_ahead}
-use Rattle.dr_hybrid.proofs.UnpackLemmas.{length_unpacked, length-put_mid}
+use Rattle.dr_hybrid.proofs.UnpackLemmas.{length-put_mid}
+use Rattle.dr_bytes.proofs.BitLemmas.{length_unpacked}
 
 -- ---- the next run, by its header
 

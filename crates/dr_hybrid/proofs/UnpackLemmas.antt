@@ -1,4 +1,4 @@
--- Numbers in bytes, and values in their bits.
+-- Unpacking: eight values of a word, one value of a word, and the loops over them.
 use Rattle.std.proofs.Common.{◌≡◌, ℕ, zero, suc, ◌+◌, ◌-◌, ◌*◌, ◌/◌, ◌%◌, ◌^◌, ◌≤◌, ◌<◌, List, [], ◌∷◌, ◌++◌, length, take, drop, get_or, replicate, set, refl, sym, ap, ap₂, ◌∙◌, subst, arith, append_assoc, pow_mono, Option, Some, None}
 use Rattle.std.proofs.lemmas.List.{take-append-drop, length-append, length-take, length-drop, length-replicate, length-set, take_all, drop-replicate, take_more_set}
 use Rattle.std.proofs.lemmas.Slice.{take-put_mid}
@@ -8,94 +8,7 @@ use Rattle.std.specs.Int.{w64, from_le_bytes}
 use Rattle.std.proofs.lemmas.Nat.{pow-add, shr-shr, pow_pos, one_shl, and_mask}
 use Rattle.std.proofs.Math.Nat.{add-mul-mod_self_left, add-mul-div_left, mul-le-mul_right}
 use Rattle.dr_formats.specs.LittleEndian.{little_endian, unpacked, bytes_for}
-use Rattle.dr_formats.proofs.LittleEndianLemmas.{unpacked_below}
-
-abbrev pub AreBytes : List ℕ → Type 0
-AreBytes bytes = (i : ℕ) → get_or bytes i 0 < 256
-
-tail_bytes : (b : ℕ) (bs : List ℕ) → AreBytes (b ∷ bs) → AreBytes bs
-tail_bytes b bs h i = h (suc i)
-
--- ---- numbers in bytes
-
-eight_more : (k : ℕ) → 2 ^ (8 * suc k) ≡ 256 * 2 ^ (8 * k)
-eight_more k =
-    let e : 8 * suc k ≡ 8 + 8 * k = omega arith in
-    ap (λ x. 2 ^ x) e ∙ pow-add 2 8 (8 * k)
-
--- the number above the first bytes is that of the others
-pub number_behind : (o : ℕ) (bs : List ℕ) → AreBytes bs → little_endian bs / 2 ^ (8 * o) ≡ little_endian (drop o bs)
-number_behind zero bs h = omega arith
-number_behind (suc o) [] h = let p : 0 < 2 ^ (8 * suc o) = pow_pos (8 * suc o) in omega (arith, p)
-number_behind (suc o) (b ∷ bs) h =
-    let e : 8 * suc o ≡ 8 + 8 * o = omega arith in
-    let f : (b + 256 * little_endian bs) / 2 ^ 8 ≡ little_endian bs = omega (arith, h 0) in
-    ap (λ x. (b + 256 * little_endian bs) / 2 ^ x) e ∙ (sym (shr-shr (b + 256 * little_endian bs) 8 (8 * o)) ∙ (ap (λ x. x / 2 ^ (8 * o)) f ∙ number_behind o bs (tail_bytes b bs h)))
-
--- a number is that of its first bytes, and that of the others above them
-pub number_split : (c : ℕ) (bs : List ℕ) → little_endian bs ≡ little_endian (take c bs) + 2 ^ (8 * c) * little_endian (drop c bs)
-number_split zero bs = omega arith
-number_split (suc c) [] = omega arith
-number_split (suc c) (b ∷ bs) =
-    let e : little_endian bs ≡ little_endian (take c bs) + 2 ^ (8 * c) * little_endian (drop c bs) = number_split c bs in
-    let f : 2 ^ (8 * suc c) * little_endian (drop c bs) ≡ 256 * 2 ^ (8 * c) * little_endian (drop c bs) = ap (λ x. x * little_endian (drop c bs)) (eight_more c) in
-    omega (arith, e, f)
-
--- noughts above a number
-pub number_padded : (bs : List ℕ) (k : ℕ) → little_endian (bs ++ replicate k 0) ≡ little_endian bs
-number_padded [] zero = refl
-number_padded [] (suc k) = omega (arith, number_padded [] k)
-number_padded (b ∷ bs) k = omega (arith, number_padded bs k)
-
-pub number_below : (bs : List ℕ) → AreBytes bs → little_endian bs < 2 ^ (8 * length bs)
-number_below [] h = omega arith
-number_below (b ∷ bs) h = omega (arith, h 0, number_below bs (tail_bytes b bs h), eight_more (length bs))
-
--- ---- values in bits
-
-pub length_unpacked : (n w x : ℕ) → length (unpacked n w x) ≡ n
-length_unpacked zero w x = refl
-length_unpacked (suc n) w x = ap suc (length_unpacked n w (x / 2 ^ w))
-
-pub unpacked_more : (a n w x : ℕ) → unpacked (a + n) w x ≡ unpacked a w x ++ unpacked n w (x / 2 ^ (a * w))
-unpacked_more zero n w x =
-    let e : 0 + n ≡ n = omega arith in
-    let g : 0 * w ≡ 0 = omega arith in
-    let f : x / 2 ^ 0 ≡ x = omega arith in
-    rw (e, g, f) refl
-unpacked_more (suc a) n w x =
-    let e : suc a + n ≡ suc (a + n) = omega arith in
-    let f : w + a * w ≡ suc a * w = omega arith in
-    rw e (ap (λ vs. (x % 2 ^ w) ∷ vs) (unpacked_more a n w (x / 2 ^ w) ∙ ap (λ y. unpacked a w (x / 2 ^ w) ++ unpacked n w y) (shr-shr x w (a * w) ∙ ap (λ k. x / 2 ^ k) f)))
-
-pub unpacked_front : (a n w x : ℕ) → a ≤ n → take a (unpacked n w x) ≡ unpacked a w x
-unpacked_front zero n w x h = refl
-unpacked_front (suc a) zero w x h = absurd (omega (arith, h))
-unpacked_front (suc a) (suc n) w x h = ap (λ vs. (x % 2 ^ w) ∷ vs) (unpacked_front a n w (x / 2 ^ w) (omega (arith, h)))
-
--- values that begin with a byte are in the word at that byte, where it has room for them
-pub in_word : (bs : List ℕ) (w n a place : ℕ) → AreBytes bs → n * w ≤ 64 → a * w ≡ 8 * place → unpacked n w (little_endian bs / 2 ^ (a * w)) ≡ unpacked n w (little_endian (take 8 (drop place bs)))
-in_word bs w n a place h l e =
-    let z : ℕ = little_endian (drop 8 (drop place bs)) in
-    let f : little_endian bs / 2 ^ (a * w) ≡ little_endian (drop place bs) = ap (λ k. little_endian bs / 2 ^ k) e ∙ number_behind place bs h in
-    let g : 64 ≡ w * n + (64 - n * w) = omega (arith, l) in
-    let p : 2 ^ 64 ≡ 2 ^ (w * n) * 2 ^ (64 - n * w) = ap (λ k. 2 ^ k) g ∙ pow-add 2 (w * n) (64 - n * w) in
-    let q : 2 ^ 64 * z ≡ 2 ^ (w * n) * 2 ^ (64 - n * w) * z = ap (λ k. k * z) p in
-    let s : little_endian (drop place bs) ≡ little_endian (take 8 (drop place bs)) + 2 ^ (w * n) * (2 ^ (64 - n * w) * z) = omega (arith, number_split 8 (drop place bs), q) in
-    rw (f, s) (unpacked_below n w (little_endian (take 8 (drop place bs))) (2 ^ (64 - n * w) * z))
-
--- the value behind the first so many is in the word at the byte where it begins
-pub one_in_word : (bs : List ℕ) (w a place shift : ℕ) → AreBytes bs → shift + w ≤ 64 → a * w ≡ 8 * place + shift → little_endian bs / 2 ^ (a * w) % 2 ^ w ≡ little_endian (take 8 (drop place bs)) / 2 ^ shift % 2 ^ w
-one_in_word bs w a place shift h l e =
-    let y : ℕ = little_endian (take 8 (drop place bs)) in
-    let z : ℕ = little_endian (drop 8 (drop place bs)) in
-    let r : ℕ = 64 - (shift + w) in
-    let f : little_endian bs / 2 ^ (a * w) ≡ little_endian (drop place bs) / 2 ^ shift = ap (λ k. little_endian bs / 2 ^ k) e ∙ (sym (shr-shr (little_endian bs) (8 * place) shift) ∙ ap (λ k. k / 2 ^ shift) (number_behind place bs h)) in
-    let g : 64 ≡ shift + (w + r) = omega (arith, l) in
-    let p : 2 ^ 64 ≡ 2 ^ shift * (2 ^ w * 2 ^ r) = ap (λ k. 2 ^ k) g ∙ (pow-add 2 shift (w + r) ∙ ap (λ k. 2 ^ shift * k) (pow-add 2 w r)) in
-    let q : 2 ^ 64 * z ≡ 2 ^ shift * (2 ^ w * 2 ^ r) * z = ap (λ k. k * z) p in
-    let s : little_endian (drop place bs) ≡ y + 2 ^ shift * (2 ^ w * (2 ^ r * z)) = omega (arith, number_split 8 (drop place bs), q) in
-    rw (f, s, add-mul-div_left y (2 ^ w * (2 ^ r * z)) {y = 2 ^ shift} (pow_pos shift)) (add-mul-mod_self_left (y / 2 ^ shift) (2 ^ w) (2 ^ r * z))
+use Rattle.dr_bytes.proofs.BitLemmas.{AreBytes, number_behind, number_split, number_padded, number_below, length_unpacked, unpacked_more, unpacked_front, in_word, one_in_word, word_of}
 
 -- ---- eight values of a word, by a mask
 
@@ -139,10 +52,6 @@ bytes_split n w =
     let d : n ≡ n / 8 * 8 + n % 8 = omega arith in
     let e : n * w ≡ (n / 8 * 8 + n % 8) * w = ap (λ k. k * w) d in
     omega (arith, e)
-
-word_of : (bs : List ℕ) → length bs ≡ 8 → from_le_bytes w64 bs ≡ little_endian bs
-word_of (a ∷ b ∷ c ∷ d ∷ e ∷ f ∷ g ∷ h ∷ []) l = omega arith
-word_of bs l = absurd (omega (arith, l))
 
 pub word_padded : (bs : List ℕ) → length bs < 8 → from_le_bytes w64 (bs ++ replicate (8 - length bs) 0) ≡ little_endian bs
 word_padded bs l = word_of (bs ++ replicate (8 - length bs) 0) (omega (arith, l, length-append bs (replicate (8 - length bs) 0), length-replicate {A = ℕ} (8 - length bs) 0)) ∙ number_padded bs (8 - length bs)

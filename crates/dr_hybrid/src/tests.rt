@@ -1,3 +1,6 @@
+ghost use Rattle.std.specs.Prelude.{◌≡◌, ◌^◌, nat_lt, map};
+ghost use Rattle.std.specs.List.{list_all};
+
 use crate::{Short, decode, decode_levels, encode, encode_levels};
 use std::alloc::{AllocError, Global};
 use std::test::Fail;
@@ -63,6 +66,20 @@ fn bytes_with_too_few_values_are_short(rt: HostRuntime) -> Result<(), Fail> {
     Ok(())
 }
 
+/// Whether each value is of a width.
+fn are_below(values: &[u32], width: u32) -> bool
+    ensures { result ≡ list_all (λ v. nat_lt v (2 ^ width)) values.now }
+{
+    values.iter().all(|value| width >= 32 || *value < 1 << width)
+}
+
+/// Whether each level is of a width.
+fn levels_are_below(levels: &[u8], width: u32) -> bool
+    ensures { result ≡ list_all (λ v. nat_lt v (2 ^ width)) levels.now }
+{
+    levels.iter().all(|level| width >= 8 || *level < 1 << width)
+}
+
 #[test]
 fn a_few_values_are_written_as_the_rule_says(rt: HostRuntime) -> Result<(), Fail> {
     let alloc = rt.alloc();
@@ -78,6 +95,7 @@ fn a_few_values_are_written_as_the_rule_says(rt: HostRuntime) -> Result<(), Fail
     ];
     for (width, levels, bytes) in cases {
         let mut out = [9].to_vec(alloc)?;
+        assert!(rt; levels_are_below(levels, width) && levels.len() < 1 << 32 && width <= 8);
         encode_levels(levels, width, &mut out).or(Err("memory"))?;
         assert_eq!(rt; out.get(..1), Some([9].as_slice()));
         assert_eq!(rt; out.get(1..), Some(bytes), "{levels:?}");
@@ -106,14 +124,12 @@ fn written_values_are_read_back_at_each_width(rt: HostRuntime) -> Result<(), Fai
     for width in 0..33 {
         for count in [0, 1, 7, 8, 9, 16, 100] {
             let values = values_of(alloc, width, count)?;
-            let bound = (1u64 << width) - 1;
-            if values.iter().all(|value| u64::from(*value) <= bound) {
-                let mut bytes = Vec::new(alloc);
-                encode(&values, width, &mut bytes).or(Err("memory"))?;
-                let mut back = vec![in alloc; 77; values.len()]?;
-                assert_eq!(rt; decode(&bytes, width, &mut back), Ok(()), "{width}");
-                assert_eq!(rt; back.as_slice(), values.as_slice(), "{width}");
-            }
+            assert!(rt; are_below(&values, width) && values.len() < 1 << 32);
+            let mut bytes = Vec::new(alloc);
+            encode(&values, width, &mut bytes).or(Err("memory"))?;
+            let mut back = vec![in alloc; 77; values.len()]?;
+            assert_eq!(rt; decode(&bytes, width, &mut back), Ok(()), "{width}");
+            assert_eq!(rt; back.as_slice(), values.as_slice(), "{width}");
         }
     }
     Ok(())

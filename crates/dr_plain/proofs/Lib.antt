@@ -1,0 +1,2 @@
+-- values read one after another: numbers, truth values, texts
+pub mod ReadSteps
