@@ -1,0 +1,7 @@
+use Rattle.std.proofs.Common.{length, take}
+use Rattle.std.specs.Prelude.{min}
+use Rattle.dr_plain.proofs.WriteSteps.{Byte}
+use Rattle.dr_plain.proofs.writing.byte_of.Given as goal
+
+abbrev pub invariant-loop-value : goal.invariant-loop-value
+invariant-loop-value l = Byte l.value-items l.value-index l.byte l.worth
