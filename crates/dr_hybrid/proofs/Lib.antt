@@ -6,3 +6,5 @@ pub mod RunLemmas
 pub mod RunFacts
 -- values into bits, and runs that are written
 pub mod PackLemmas
+-- whether values are of a width
+pub mod FittingLemmas

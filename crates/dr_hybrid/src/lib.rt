@@ -4,6 +4,7 @@
 
 mod decoding;
 mod encoding;
+mod fitting;
 mod level_encoding;
 mod levels;
 mod reading;
@@ -16,5 +17,6 @@ mod writing;
 
 pub use decoding::{decode, decode_levels};
 pub use encoding::encode;
+pub use fitting::{are_of_width, levels_are_of_width};
 pub use level_encoding::encode_levels;
 pub use runs::{GREATEST_WIDTH, Packed, Run, Runs, Short};

@@ -1,7 +1,6 @@
-ghost use Rattle.std.specs.Prelude.{◌≡◌, ◌^◌, nat_lt, map};
-ghost use Rattle.std.specs.List.{list_all};
-
-use crate::{Short, decode, decode_levels, encode, encode_levels};
+use crate::{
+    Run, Runs, Short, are_of_width, decode, decode_levels, encode, encode_levels, levels_are_of_width,
+};
 use std::alloc::{AllocError, Global};
 use std::test::Fail;
 
@@ -38,6 +37,27 @@ fn runs_are_decoded(rt: HostRuntime) -> Result<(), Fail> {
 }
 
 #[test]
+fn runs_come_one_by_one(rt: HostRuntime) -> Result<(), Fail> {
+    let huge = [0x80, 0x80, 0x80, 0x80, 0x80, 0x80, 0x80, 0x80, 0x80, 1, 7];
+    let mut runs = Runs::new(&huge, 3);
+    let Ok(Run::Repeat { value, count }) = runs.next(1 << 40) else {
+        return Err(Fail::from("no repeat"));
+    };
+    assert_eq!(rt; (value, count), (7, 1 << 40));
+    assert_eq!(rt; runs.next(1).map(|run| run.count()), Err(Short));
+    let mut runs = Runs::new(&[5, 0xff, 1, 2, 6], 1);
+    let mut levels = [9; 9];
+    let Ok(run) = runs.next(9) else {
+        return Err(Fail::from("no run"));
+    };
+    assert_eq!(rt; run.count(), 9);
+    run.write_levels(&mut levels);
+    assert_eq!(rt; levels, [1; 9]);
+    assert_eq!(rt; runs.next(5).map(|run| run.count()), Ok(1));
+    Ok(())
+}
+
+#[test]
 fn bytes_with_too_few_values_are_short(rt: HostRuntime) -> Result<(), Fail> {
     let alloc = rt.alloc();
     let cases: [(&[u8], u32, usize); 13] = [
@@ -66,20 +86,6 @@ fn bytes_with_too_few_values_are_short(rt: HostRuntime) -> Result<(), Fail> {
     Ok(())
 }
 
-/// Whether each value is of a width.
-fn are_below(values: &[u32], width: u32) -> bool
-    ensures { result ≡ list_all (λ v. nat_lt v (2 ^ width)) values.now }
-{
-    values.iter().all(|value| width >= 32 || *value < 1 << width)
-}
-
-/// Whether each level is of a width.
-fn levels_are_below(levels: &[u8], width: u32) -> bool
-    ensures { result ≡ list_all (λ v. nat_lt v (2 ^ width)) levels.now }
-{
-    levels.iter().all(|level| width >= 8 || *level < 1 << width)
-}
-
 #[test]
 fn a_few_values_are_written_as_the_rule_says(rt: HostRuntime) -> Result<(), Fail> {
     let alloc = rt.alloc();
@@ -95,7 +101,8 @@ fn a_few_values_are_written_as_the_rule_says(rt: HostRuntime) -> Result<(), Fail
     ];
     for (width, levels, bytes) in cases {
         let mut out = [9].to_vec(alloc)?;
-        assert!(rt; levels_are_below(levels, width) && levels.len() < 1 << 32 && width <= 8);
+        assert!(rt; width <= 8 && levels.len() < 1 << 32);
+        assert!(rt; levels_are_of_width(levels, width), "{levels:?}");
         encode_levels(levels, width, &mut out).or(Err("memory"))?;
         assert_eq!(rt; out.get(..1), Some([9].as_slice()));
         assert_eq!(rt; out.get(1..), Some(bytes), "{levels:?}");
@@ -124,7 +131,8 @@ fn written_values_are_read_back_at_each_width(rt: HostRuntime) -> Result<(), Fai
     for width in 0..33 {
         for count in [0, 1, 7, 8, 9, 16, 100] {
             let values = values_of(alloc, width, count)?;
-            assert!(rt; are_below(&values, width) && values.len() < 1 << 32);
+            assert!(rt; values.len() < 1 << 32);
+            assert!(rt; are_of_width(&values, width), "{width}");
             let mut bytes = Vec::new(alloc);
             encode(&values, width, &mut bytes).or(Err("memory"))?;
             let mut back = vec![in alloc; 77; values.len()]?;

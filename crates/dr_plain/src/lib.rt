@@ -5,6 +5,8 @@
 mod picking;
 mod plain;
 mod reading;
+#[cfg(test)]
+mod tests;
 mod texts;
 mod values;
 mod writing;
