@@ -3,7 +3,7 @@ use Rattle.std.proofs.Common.{◌≡◌, ℕ, zero, suc, ◌+◌, ◌-◌, ◌*�
 use Rattle.std.specs.Int.{w32, w64, from_le_bytes, to_le_bytes}
 use Rattle.std.proofs.lemmas.Nat.{pow-add, shr-shr, pow_pos}
 use Rattle.std.proofs.Math.Nat.{add-mul-mod_self_left, add-mul-div_left}
-use Rattle.dr_formats.specs.LittleEndian.{little_endian, little_endian_bytes, unpacked, bytes_for}
+use Rattle.dr_formats.specs.LittleEndian.{little_endian, little_endian_bytes, unpacked}
 use Rattle.dr_formats.proofs.LittleEndianLemmas.{unpacked_below}
 
 -- each is below 256
@@ -142,4 +142,3 @@ word_of bs l = absurd (omega (arith, l))
 pub word_of_four : (bs : List ℕ) → length bs ≡ 4 → from_le_bytes w32 bs ≡ little_endian bs
 word_of_four (a ∷ b ∷ c ∷ d ∷ []) l = omega arith
 word_of_four bs l = absurd (omega (arith, l))
-

@@ -1,14 +1,13 @@
 -- Values into bits, and runs that are written.
-use Rattle.std.proofs.Common.{◌≡◌, ℕ, zero, suc, ◌+◌, ◌-◌, ◌*◌, ◌/◌, ◌%◌, ◌^◌, ◌≤◌, ◌<◌, List, [], ◌∷◌, ◌++◌, length, take, drop, get_or, Bool, true, false, refl, sym, ap, ap₂, ◌∙◌, subst, arith, append_assoc, pow_mono, ◌⊎◌, inl, inr, Result, Ok, Err, OnErr, OnOk}
-use Rattle.std.specs.Prelude.{◌==◌, nat_lt, nat_le, ◌||◌, min, if◌then◌else◌}
+use Rattle.std.proofs.Common.{◌≡◌, ℕ, zero, suc, ◌+◌, ◌-◌, ◌*◌, ◌/◌, ◌%◌, ◌^◌, ◌≤◌, ◌<◌, List, [], ◌∷◌, ◌++◌, length, take, drop, get_or, true, refl, sym, ap, ap₂, ◌∙◌, subst, arith, append_assoc, pow_mono, ◌⊎◌, inl, inr, Result, Ok, Err, OnErr, OnOk}
+use Rattle.std.specs.Prelude.{◌==◌, nat_lt, nat_le, min, if◌then◌else◌}
 use Rattle.std.specs.Int.{w32, w64, to_le_bytes}
-use Rattle.std.proofs.lemmas.Bool.{ltb-true, and_parts, and_from, eqb-true, eq-eqb, ne_eqb, le-leb, lt-leb, or_left, or_right, or_from, cases_lt}
+use Rattle.std.proofs.lemmas.Bool.{ltb-true, and_parts, and_from, eq-eqb, ne_eqb, le-leb, lt-leb, or_left, or_right, or_from, cases_lt}
 use Rattle.std.proofs.lemmas.List.{drop_more, drop_all, drop-drop, length-drop, append-nil, get_or-take, length-take}
 use Rattle.std.proofs.lemmas.Nat.{pow-add, shr-shr, pow_pos, div_below}
-use Rattle.std.proofs.Math.Nat.{add-mul-div_left, mul-le-mul_right, mul-le-mul_left}
+use Rattle.std.proofs.Math.Nat.{add-mul-div_left, mul-le-mul_right}
 use Rattle.std.proofs.Math.Seq.{drop-nil}
-use Rattle.dr_formats.specs.Varint.{varint_bytes}
-use Rattle.dr_formats.specs.LittleEndian.{little_endian_bytes, packed, bytes_for}
+use Rattle.dr_formats.specs.LittleEndian.{little_endian_bytes, packed}
 use Rattle.dr_formats.specs.Hybrid.{equal_front, WrittenRun, repeat_of, group_of, next_run, runs_behind}
 use Rattle.dr_bytes.proofs.BitLemmas.{bytes_more, bytes_below, four_bytes_of, eight_bytes_of, front_bytes}
 use Rattle.dr_hybrid.specs.Writing.{AreBelow, BeginsWith}
@@ -42,13 +41,13 @@ pub record Packing (w : ℕ) (group old out : List ℕ) (i word bits : ℕ) : Ty
 
 pub packing_none : (w : ℕ) (group old : List ℕ) → Packing w group old old 0 0 0
 packing_none w group old = record {
-      count = 0;
-      few = omega arith;
-      places = omega arith;
-      small = omega arith;
-      left = omega arith;
-      written = sym (append-nil old);
-    }
+  count = 0;
+  few = omega arith;
+  places = omega arith;
+  small = omega arith;
+  left = omega arith;
+  written = sym (append-nil old);
+}
 
 -- a word of a value joined above the bits
 pub joined_below : (w word bits v : ℕ) → word < 2 ^ bits → v < 2 ^ w → word + v * 2 ^ bits < 2 ^ (bits + w)
@@ -174,10 +173,10 @@ dropped_on values done taken next h (inr e) = drop-drop (taken - 1) (done + 1) v
 
 run_written : (w : ℕ) (values old out new : List ℕ) (done next : ℕ) (r : WrittenRun) → Written w values old out done → done < length values → next_run w (suc (equal_front (get_or values done 0) (drop (done + 1) values))) (get_or values done 0) (get_or values done 0 ∷ drop (done + 1) values) ≡ r → new ≡ out ++ r.bytes → 1 ≤ r.taken → next ≤ length values → (next ≡ done + r.taken) ⊎ ((next ≡ length values) × (length values ≤ done + r.taken)) → Written w values old new next
 run_written w values old out new done next r h l e f t m d = record {
-      within = m;
-      bytes = h.bytes ∙ (ap (λ xs. out ++ runs_behind w 0 xs) (drop_more values done 0 l) ∙ (ap (λ bs. out ++ bs) (first_written w (get_or values done 0) (drop (done + 1) values) r e) ∙ (sym (append_assoc out r.bytes (runs_behind w 0 (drop (r.taken - 1) (drop (done + 1) values)))) ∙ ap₂ (λ xs ys. xs ++ runs_behind w 0 ys) (sym f) (dropped_on values done r.taken next t d))));
-      begins = begins_on old out new h.begins (begins_with out new r.bytes f);
-    }
+  within = m;
+  bytes = h.bytes ∙ (ap (λ xs. out ++ runs_behind w 0 xs) (drop_more values done 0 l) ∙ (ap (λ bs. out ++ bs) (first_written w (get_or values done 0) (drop (done + 1) values) r e) ∙ (sym (append_assoc out r.bytes (runs_behind w 0 (drop (r.taken - 1) (drop (done + 1) values)))) ∙ ap₂ (λ xs ys. xs ++ runs_behind w 0 ys) (sym f) (dropped_on values done r.taken next t d))));
+  begins = begins_on old out new h.begins (begins_with out new r.bytes f);
+}
 
 -- the value at the place, how many equal ones there are, and what is left
 pub repeat_written : (w : ℕ) (values old out new : List ℕ) (done v equal : ℕ) → Written w values old out done → done < length values → v ≡ get_or values done 0 → equal ≡ suc (equal_front v (drop (done + 1) values)) → (8 ≤ equal) ⊎ (equal ≡ length values - done) → done + equal ≤ length values → new ≡ out ++ (repeat_of w equal v).bytes → Written w values old new (done + equal)

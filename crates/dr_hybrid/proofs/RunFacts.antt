@@ -1,6 +1,5 @@
 -- What runs hold, and what follows of an answer.
-use Rattle.std.proofs.Common.{◌≡◌, ℕ, ◌*◌, List, length, refl, sym, ap, ◌∙◌, subst, arith, Result, Ok, Err, OnErr}
-use Rattle.dr_formats.specs.LittleEndian.{bytes_for}
+use Rattle.std.proofs.Common.{◌≡◌, length, sym, ap, Result, Ok, Err, OnErr}
 use Rattle.dr_hybrid.specs.declared.runs.Packed.{Packed}
 use Rattle.dr_hybrid.specs.declared.runs.Run.{Run}
 use Rattle.dr_hybrid.specs.Views.{values_of, packed_values}

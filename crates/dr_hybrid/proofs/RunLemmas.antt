@@ -1,12 +1,12 @@
 -- Runs, one after another.
-use Rattle.std.proofs.Common.{◌≡◌, ℕ, zero, suc, ◌+◌, ◌-◌, ◌*◌, ◌/◌, ◌%◌, ◌^◌, ◌≤◌, ◌<◌, List, [], ◌∷◌, ◌++◌, length, take, drop, Bool, true, false, refl, sym, ap, ap₂, ◌∙◌, subst, arith, append_assoc, Option, Some, None, true≢false}
+use Rattle.std.proofs.Common.{◌≡◌, ℕ, zero, suc, ◌+◌, ◌-◌, ◌*◌, ◌/◌, ◌%◌, ◌^◌, ◌≤◌, ◌<◌, List, [], ◌∷◌, ◌++◌, length, take, drop, Bool, true, false, refl, sym, ap, ap₂, ◌∙◌, arith, append_assoc, Option, Some, None, true≢false}
 use Rattle.std.specs.Prelude.{min, replicate, option_map, ◌==◌, nat_le, if◌then◌else◌}
-use Rattle.std.proofs.lemmas.Bool.{eqb-true, eq-eqb, ne_eqb}
+use Rattle.std.proofs.lemmas.Bool.{ne_eqb}
 use Rattle.std.proofs.lemmas.List.{length-append, length-drop, length-replicate, append-nil, take_all}
 use Rattle.std.proofs.lemmas.Slice.{take-put_mid}
 use borrow.Rule.Slice.PartMut.{put_mid}
 use Rattle.dr_formats.specs.Reading.{Reading, got, refused, Reader, give, goes_on, ◌>>=◌, bytes_of}
-use Rattle.dr_formats.specs.Varint.{varint, is_chain, SpellsNumber}
+use Rattle.dr_formats.specs.Varint.{varint, is_chain}
 use Rattle.dr_formats.specs.LittleEndian.{little_endian, unpacked, bytes_for}
 use Rattle.dr_formats.specs.Hybrid.{HybridFault, short, repeat_run, packed_run, run, runs, values_read, hybrid}
 use Rattle.dr_formats.proofs.SoundLemmas.{sound_below}
@@ -164,10 +164,10 @@ map_same (Some vs) = refl
 
 pub decoded_none : (w n : ℕ) (bs out : List ℕ) → length out ≡ n → Decoded w n bs out 0 bs
 decoded_none w n bs out l = record {
-      size = l;
-      within = omega arith;
-      rest = let e : n - 0 ≡ n = omega arith in rw e (map_same (hybrid w n bs));
-    }
+  size = l;
+  within = omega arith;
+  rest = let e : n - 0 ≡ n = omega arith in rw e (map_same (hybrid w n bs));
+}
 
 map_map : (front vs : List ℕ) (o : Option (List ℕ)) → option_map (λ more. front ++ more) (option_map (λ more. vs ++ more) o) ≡ option_map (λ more. (front ++ vs) ++ more) o
 map_map front vs None = refl

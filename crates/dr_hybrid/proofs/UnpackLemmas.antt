@@ -1,14 +1,14 @@
 -- Unpacking: eight values of a word, one value of a word, and the loops over them.
-use Rattle.std.proofs.Common.{◌≡◌, ℕ, zero, suc, ◌+◌, ◌-◌, ◌*◌, ◌/◌, ◌%◌, ◌^◌, ◌≤◌, ◌<◌, List, [], ◌∷◌, ◌++◌, length, take, drop, get_or, replicate, set, refl, sym, ap, ap₂, ◌∙◌, subst, arith, append_assoc, pow_mono, Option, Some, None}
-use Rattle.std.proofs.lemmas.List.{take-append-drop, length-append, length-take, length-drop, length-replicate, length-set, take_all, drop-replicate, take_more_set}
+use Rattle.std.proofs.Common.{◌≡◌, ℕ, zero, suc, ◌+◌, ◌-◌, ◌*◌, ◌/◌, ◌%◌, ◌^◌, ◌≤◌, ◌<◌, List, [], ◌∷◌, ◌++◌, length, take, drop, replicate, set, refl, sym, ap, ap₂, ◌∙◌, arith, pow_mono, Option, Some, None}
+use Rattle.std.proofs.lemmas.List.{length-append, length-take, length-drop, length-replicate, length-set, take_all, drop-replicate, take_more_set}
 use Rattle.std.proofs.lemmas.Slice.{take-put_mid}
 use borrow.Rule.Slice.PartMut.{put_mid}
 use Rattle.std.specs.Prelude.{bit_and, IfSome, IfNone, SomeIff}
 use Rattle.std.specs.Int.{w64, from_le_bytes}
-use Rattle.std.proofs.lemmas.Nat.{pow-add, shr-shr, pow_pos, one_shl, and_mask}
-use Rattle.std.proofs.Math.Nat.{add-mul-mod_self_left, add-mul-div_left, mul-le-mul_right}
+use Rattle.std.proofs.lemmas.Nat.{one_shl, and_mask}
+use Rattle.std.proofs.Math.Nat.{mul-le-mul_right}
 use Rattle.dr_formats.specs.LittleEndian.{little_endian, unpacked, bytes_for}
-use Rattle.dr_bytes.proofs.BitLemmas.{AreBytes, number_behind, number_split, number_padded, number_below, length_unpacked, unpacked_more, unpacked_front, in_word, one_in_word, word_of}
+use Rattle.dr_bytes.proofs.BitLemmas.{AreBytes, number_padded, number_below, length_unpacked, unpacked_more, unpacked_front, in_word, one_in_word, word_of}
 
 -- ---- eight values of a word, by a mask
 
@@ -94,7 +94,7 @@ last_unpacked bs w out done place count group h l u m c e =
 
 pub value_unpacked : (bs : List ℕ) (w : ℕ) (out : List ℕ) (done place shift value : ℕ) → AreBytes bs → w ≤ 32 → shift < 8 → Unpacked bs w out done (8 * place + shift) → done < length out → value ≡ little_endian (take 8 (drop place bs)) / 2 ^ shift % 2 ^ w → Unpacked bs w (set out done value) (done + 1) (8 * (place + (shift + w) / 8) + (shift + w) % 8)
 value_unpacked bs w out done place shift value h l s u m e = record {
-      within = omega (arith, m, length-set out done value);
-      bits = omega (arith, u.bits);
-      front = take_more_set out done value m ∙ (ap₂ (λ xs x. xs ++ x ∷ []) u.front e ∙ sym (wide_more bs w done place shift h l s u.bits));
-    }
+  within = omega (arith, m, length-set out done value);
+  bits = omega (arith, u.bits);
+  front = take_more_set out done value m ∙ (ap₂ (λ xs x. xs ++ x ∷ []) u.front e ∙ sym (wide_more bs w done place shift h l s u.bits));
+}

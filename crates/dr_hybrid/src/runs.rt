@@ -6,9 +6,9 @@ ghost use Rattle.dr_formats.specs.LittleEndian.{bytes_for};
 ghost use Rattle.dr_formats.specs.Hybrid.{short};
 ghost use Rattle.dr_bytes.specs.Numbers.{IsFault};
 
+use crate::levels::unpack_levels;
 use crate::reading::next_run;
 use crate::unpacking::{NARROW, unpack_narrow, unpack_wide};
-use crate::levels::unpack_levels;
 use dr_bytes::Cut;
 
 /// The greatest width of a value, in bits.
@@ -130,4 +130,3 @@ impl<'a> Runs<'a> {
         Ok(run)
     }
 }
-

@@ -1,5 +1,6 @@
 use crate::{
-    Run, Runs, Short, are_of_width, decode, decode_levels, encode, encode_levels, levels_are_of_width,
+    Run, Runs, Short, are_of_width, decode, decode_levels, encode, encode_levels,
+    levels_are_of_width,
 };
 use std::alloc::{AllocError, Global};
 use std::test::Fail;
@@ -16,16 +17,32 @@ fn runs_are_decoded(rt: HostRuntime) -> Result<(), Fail> {
         (&[3, 0x88], 3, &[0, 1]),
         (&[16, 5], 3, &[5, 5, 5, 5, 5, 5, 5, 5]),
         (&[16, 0xfd], 3, &[0xfd, 0xfd]),
-        (&[0x80, 0x80, 0x80, 0x80, 0x80, 0x80, 0x80, 0x80, 0x80, 1, 7], 3, &[7, 7, 7]),
+        (
+            &[0x80, 0x80, 0x80, 0x80, 0x80, 0x80, 0x80, 0x80, 0x80, 1, 7],
+            3,
+            &[7, 7, 7],
+        ),
         (&[0, 9, 4, 6], 3, &[6, 6]),
         (&[16], 0, &[0, 0, 0]),
         (&[5, 0xff, 1], 1, &[1, 1, 1, 1, 1, 1, 1, 1, 1]),
-        (&[0xff, 0xff, 0xff, 0xff, 0xff, 0xff, 0xff, 0xff, 0xff, 1, 2], 1, &[0, 1, 0]),
+        (
+            &[0xff, 0xff, 0xff, 0xff, 0xff, 0xff, 0xff, 0xff, 0xff, 1, 2],
+            1,
+            &[0, 1, 0],
+        ),
         (&[3, 1, 2, 3, 4, 5, 6, 7, 8], 8, &[1, 2, 3, 4, 5, 6, 7, 8]),
-        (&[6, 0xff, 1, 3, 1, 0, 2, 0, 3, 0, 4, 0], 9, &[0x1ff, 0x1ff, 0x1ff, 1, 0x100, 0, 0x60, 0]),
+        (
+            &[6, 0xff, 1, 3, 1, 0, 2, 0, 3, 0, 4, 0],
+            9,
+            &[0x1ff, 0x1ff, 0x1ff, 1, 0x100, 0, 0x60, 0],
+        ),
         (&[3, 1, 2, 0, 4], 16, &[0x201, 0x400]),
         (&[3, 1, 0, 0, 0, 0xff, 0xff, 0xff, 0xff], 32, &[1, u32::MAX]),
-        (&[2, 1, 2, 3, 4, 3, 1, 0, 0, 0x80], 32, &[0x0403_0201, 0x8000_0001]),
+        (
+            &[2, 1, 2, 3, 4, 3, 1, 0, 0, 0x80],
+            32,
+            &[0x0403_0201, 0x8000_0001],
+        ),
         (&[], 32, &[]),
     ];
     for (bytes, width, values) in cases {
@@ -72,7 +89,11 @@ fn bytes_with_too_few_values_are_short(rt: HostRuntime) -> Result<(), Fail> {
         (&[0, 9], 3, 1),
         (&[0x80], 0, 1),
         (&[0x80; 10], 0, 1),
-        (&[0xff, 0xff, 0xff, 0xff, 0xff, 0xff, 0xff, 0xff, 0xff, 1, 2], 32, 1),
+        (
+            &[0xff, 0xff, 0xff, 0xff, 0xff, 0xff, 0xff, 0xff, 0xff, 1, 2],
+            32,
+            1,
+        ),
         (&[16, 1], 1, 9),
     ];
     for (bytes, width, count) in cases {
@@ -80,7 +101,11 @@ fn bytes_with_too_few_values_are_short(rt: HostRuntime) -> Result<(), Fail> {
         assert_eq!(rt; decode(bytes, width, &mut out), Err(Short), "{bytes:?}");
         if width <= 8 {
             let mut levels = vec![in alloc; 77; count]?;
-            assert_eq!(rt; decode_levels(bytes, width, &mut levels), Err(Short), "{bytes:?}");
+            assert_eq!(rt;
+                decode_levels(bytes, width, &mut levels),
+                Err(Short),
+                "{bytes:?}"
+            );
         }
     }
     Ok(())
@@ -95,7 +120,11 @@ fn a_few_values_are_written_as_the_rule_says(rt: HostRuntime) -> Result<(), Fail
         (3, &[5; 8], &[16, 5]),
         (3, &[5; 9], &[18, 5]),
         (1, &[0, 1, 0, 1, 0, 1, 0, 1, 0], &[3, 0xaa, 2, 0]),
-        (3, &[0, 1, 2, 3, 4, 5, 6, 7, 7], &[3, 0x88, 0xc6, 0xfa, 2, 7]),
+        (
+            3,
+            &[0, 1, 2, 3, 4, 5, 6, 7, 7],
+            &[3, 0x88, 0xc6, 0xfa, 2, 7],
+        ),
         (2, &[3, 2, 1, 3, 1], &[3, 0xdb, 1]),
         (0, &[0; 300], &[0xd8, 4]),
     ];
@@ -118,7 +147,11 @@ fn values_of(alloc: Global, width: u32, count: u32) -> Result<Vec<u32>, AllocErr
     for index in 0..count {
         state = state.wrapping_mul(1_664_525).wrapping_add(1_013_904_223);
         if index % 32 < 16 || state % 32 == 0 {
-            value = if width == 0 { 0 } else { state >> (32 - width.min(32)) };
+            value = if width == 0 {
+                0
+            } else {
+                state >> (32 - width.min(32))
+            };
         }
         values.push(value)?;
     }

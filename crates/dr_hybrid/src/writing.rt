@@ -22,7 +22,12 @@ pub(crate) fn append(out: &mut Vec<u8>, bytes: &[u8]) -> Result<(), NoMemory>
 }
 
 /// Appends a repeat of so many of a value.
-pub(crate) fn append_repeat(value: u32, count: usize, width: u32, out: &mut Vec<u8>) -> Result<(), NoMemory>
+pub(crate) fn append_repeat(
+    value: u32,
+    count: usize,
+    width: u32,
+    out: &mut Vec<u8>,
+) -> Result<(), NoMemory>
     requires narrow { width ≤ 32 }
     requires few { count < 2 ^ 63 }
     ensures written { OnOk result ((out.new).items ≡ (out.old).items ++ (repeat_of width count value).bytes) }

@@ -1,20 +1,19 @@
 -- Values read one after another.
-use Rattle.std.proofs.Common.{◌≡◌, ℕ, zero, suc, ◌+◌, ◌-◌, ◌*◌, ◌/◌, ◌%◌, ◌^◌, ◌≤◌, ◌<◌, List, [], ◌∷◌, ◌++◌, map, length, take, drop, get_or, Bool, true, false, refl, sym, ap, ap₂, ◌∙◌, subst, arith, append_assoc, Option, Some, None, ◌⊎◌, inl, inr, ℤ, pos, negsuc, Result, Ok, Err, OnOk, OnErr}
-use Rattle.std.specs.Prelude.{◌==◌, nat_lt, nat_le, if◌then◌else◌, IfSome, is_ok, is_err}
+use Rattle.std.proofs.Common.{◌≡◌, ℕ, zero, suc, ◌+◌, ◌-◌, ◌*◌, ◌/◌, ◌%◌, ◌^◌, ◌≤◌, ◌<◌, List, [], ◌∷◌, ◌++◌, map, length, take, drop, get_or, Bool, true, false, refl, sym, ap, ap₂, ◌∙◌, subst, arith, append_assoc, Option, Some, None, ◌⊎◌, inl, inr, ℤ, pos, negsuc, Result, Ok, Err}
+use Rattle.std.specs.Prelude.{◌==◌, nat_lt, if◌then◌else◌, IfSome, is_ok, is_err}
 use Rattle.std.specs.Int.{w32, w64, from_le_bytes, cast_signed}
 use Rattle.std.specs.Simd.{first_chunks}
 use Rattle.std.specs.Str.{IsUtf8, is_utf8, IsCharBoundary}
-use Rattle.std.specs.List.{All}
 use Rattle.std.proofs.lemmas.Bool.{le-leb, lt-leb, cases_lt, false≢true}
-use Rattle.std.proofs.lemmas.List.{length-drop, length-take, length-take-le, take-take, drop-take, drop_more, take_all, append-nil, map_push, map_more, map-append}
+use Rattle.std.proofs.lemmas.List.{length-drop, length-take-le, take-take, drop-take, drop_more, take_all, append-nil, map_push, map_more, map-append}
 use Rattle.std.proofs.lemmas.List.Elements.{All-push}
 use Rattle.std.proofs.lemmas.Str.{is_utf8-from_IsUtf8, IsUtf8-from_is_utf8, IsUtf8-between}
 use Rattle.std.proofs.lemmas.Nat.{pow-add, shr-shr, pow_pos}
 use Rattle.std.proofs.Math.Nat.{add-mul-div_left, add-mul-mod_self_left}
 use Rattle.dr_meaning.specs.Record.{Value, bool_value, int_value, text_value}
-use Rattle.dr_formats.specs.Reading.{Reading, got, refused, Reader, give, goes_on, ◌>>=◌, bytes_of}
+use Rattle.dr_formats.specs.Reading.{Reading, got, refused, Reader, give, goes_on, ◌>>=◌}
 use Rattle.dr_formats.specs.LittleEndian.{little_endian, unpacked, bytes_for}
-use Rattle.dr_formats.specs.Plain.{PlainFault, too_short, bad_text, from_complement, repeatedly, plain_number, checked_text, plain_text, truth_of_bit, plain_truths, plain_read}
+use Rattle.dr_formats.specs.Plain.{PlainFault, too_short, bad_text, from_complement, repeatedly, plain_number, plain_text, truth_of_bit, plain_truths, plain_read}
 use Rattle.dr_bytes.specs.Numbers.{IsFault}
 use Rattle.dr_bytes.proofs.BitLemmas.{AreBytes, number_behind, unpacked_more, word_of, word_of_four}
 use Rattle.dr_plain.specs.declared.values.TextPlace.{TextPlace}
@@ -196,13 +195,13 @@ pub record TextsRead (bytes : List ℕ) (n : ℕ) (old out : List TextPlace) (i 
 
 pub no_texts_read : (bytes : List ℕ) (n : ℕ) (old : List TextPlace) → TextsRead bytes n old old 0 bytes
 no_texts_read bytes n old = record {
-      within = omega arith;
-      read = [];
-      rest = let e : n - 0 ≡ n = omega arith in rw e (none_front (repeatedly plain_text n bytes));
-      values = sym (append-nil (text_values bytes old));
-      begins = ([], sym (append-nil old));
-      texts = λ h. h;
-    }
+  within = omega arith;
+  read = [];
+  rest = let e : n - 0 ≡ n = omega arith in rw e (none_front (repeatedly plain_text n bytes));
+  values = sym (append-nil (text_values bytes old));
+  begins = ([], sym (append-nil old));
+  texts = λ h. h;
+}
 
 pub text_more : (bytes : List ℕ) (n : ℕ) (old out new : List TextPlace) (i : ℕ) (left rest : List ℕ) (p : TextPlace) → TextsRead bytes n old out i left → i < n → plain_text left ≡ got (text_value (text_at bytes p)) rest → IsText bytes p → new ≡ out ++ p ∷ [] → TextsRead bytes n old new (i + 1) rest
 text_more bytes n old out new i left rest p t h e u f =

@@ -1,17 +1,16 @@
 -- Values that are written.
-use Rattle.std.proofs.Common.{◌≡◌, ℕ, zero, suc, ◌+◌, ◌-◌, ◌*◌, ◌/◌, ◌%◌, ◌^◌, ◌≤◌, ◌<◌, List, [], ◌∷◌, ◌++◌, map, length, take, drop, get_or, Bool, true, false, refl, sym, ap, ap₂, ◌∙◌, subst, arith, append_assoc, pow_mono, ℤ, pos, negsuc, Result, Ok, Err, OnOk, OnErr, ◌⊎◌, inl, inr}
-use Rattle.std.specs.Prelude.{nat_lt, min, is_ok, is_err, if◌then◌else◌, ◌&&◌}
+use Rattle.std.proofs.Common.{◌≡◌, ℕ, zero, suc, ◌+◌, ◌-◌, ◌*◌, ◌/◌, ◌%◌, ◌^◌, ◌≤◌, ◌<◌, List, [], ◌∷◌, ◌++◌, map, length, take, drop, get_or, Bool, true, false, refl, sym, ap, ap₂, ◌∙◌, subst, arith, append_assoc, pow_mono, ℤ, pos, negsuc, Result, Ok, Err, OnOk, ◌⊎◌, inl, inr}
+use Rattle.std.specs.Prelude.{min, is_ok, is_err, if◌then◌else◌}
 use Rattle.std.specs.Int.{w32, w64, to_le_bytes, cast_signed, cast_unsigned, from_bool}
 use mir.Val.{SFits}
 use Rattle.std.specs.List.{list_all}
 use Rattle.std.proofs.lemmas.Bool.{and_parts, ltb-true, leb-true, lt-ltb, le-ltb, false≢true, cases_lt}
-use Rattle.std.proofs.lemmas.List.{append-nil, take_more, take_all, map_push, map-append, drop-drop, drop_all, drop-map, length-drop, length-map, take-map, take_at, length-take}
+use Rattle.std.proofs.lemmas.List.{append-nil, take_more, take_all, map_push, drop-drop, drop_all, drop-map, length-map, take-map, take_at, length-take}
 use Rattle.std.proofs.lemmas.Nat.{pow-add}
-use Rattle.std.proofs.Math.Seq.{drop-nil}
 use Rattle.dr_meaning.specs.Schema.{Kind, int32_kind, text_kind}
-use Rattle.dr_meaning.specs.Record.{Value, bool_value, int_value, text_value, is_of_kind, in_int32}
+use Rattle.dr_meaning.specs.Record.{Value, bool_value, int_value, text_value, in_int32}
 use Rattle.dr_formats.specs.LittleEndian.{little_endian_bytes, packed, bytes_for}
-use Rattle.dr_formats.specs.Plain.{complement, bit_of, plain_number_bytes, plain_text_bytes, joined, has_short_text, is_writable}
+use Rattle.dr_formats.specs.Plain.{complement, bit_of, plain_number_bytes, joined, is_writable}
 use Rattle.dr_bytes.proofs.BitLemmas.{four_bytes_of, eight_bytes_of}
 
 -- ---- one value after another
@@ -160,9 +159,9 @@ pub record Bools (values : List Bool) (old out : List ℕ) (done : ℕ) : Type 0
 
 pub bools_none : (values : List Bool) (old : List ℕ) → Bools values old old 0
 bools_none values old = record {
-      within = omega arith;
-      bytes = let e : length values - 0 ≡ length values = omega arith in rw e refl;
-    }
+  within = omega arith;
+  bytes = let e : length values - 0 ≡ length values = omega arith in rw e refl;
+}
 
 split_byte : (x a z : ℕ) → x ≡ a + 2 ^ 8 * z → a < 2 ^ 8 → (x % 256 ≡ a) × (x / 256 ≡ z)
 split_byte x a z e h = (omega (arith, e, h), omega (arith, e, h))

@@ -24,7 +24,11 @@ pub fn pick(alloc: Global, dictionary: &Values, indices: &[u32]) -> Result<Value
 }
 
 /// The items at these indices.
-fn items_at<T: Copy + Drop>(alloc: Global, items: &[T], indices: &[u32]) -> Result<Vec<T>, PickFault>
+fn items_at<T: Copy + Drop>(
+    alloc: Global,
+    items: &[T],
+    indices: &[u32],
+) -> Result<Vec<T>, PickFault>
     ensures picked { IfOk result (λ v. picked items.now indices.now ≡ Some v.items) }
     ensures bad { result ≡ Err PickFault.BadIndex → picked items.now indices.now ≡ None }
 {

@@ -16,7 +16,12 @@ use std::alloc::Global;
 /// The values of a kind with which bytes begin in the encoding PLAIN, as many as are asked for.
 ///
 /// Errors: the bytes end before, or a text is not UTF-8, whichever comes first; want of memory.
-pub fn read_plain(alloc: Global, kind: Kind, count: usize, bytes: &[u8]) -> Result<Values, PlainFault>
+pub fn read_plain(
+    alloc: Global,
+    kind: Kind,
+    count: usize,
+    bytes: &[u8],
+) -> Result<Values, PlainFault>
     ensures read { IfOk result (λ v. plain_values (kind_view kind) count bytes.now ≡ Some (values_view bytes.now v)) }
     ensures texts { IfOk result (λ v. HasTexts bytes.now v) }
     ensures kind { IfOk result (λ v. IsOfKind kind v) }
@@ -49,7 +54,12 @@ pub fn read_plain(alloc: Global, kind: Kind, count: usize, bytes: &[u8]) -> Resu
 /// Appends the bytes that are written for values of a kind in the encoding PLAIN; texts stand in `bytes`.
 ///
 /// Errors: want of memory alone; `out` is then as it was.
-pub fn write_plain(kind: Kind, values: &Values, bytes: &[u8], out: &mut Vec<u8>) -> Result<(), NoMemory>
+pub fn write_plain(
+    kind: Kind,
+    values: &Values,
+    bytes: &[u8],
+    out: &mut Vec<u8>,
+) -> Result<(), NoMemory>
     requires kind { IsOfKind kind values.now }
     requires texts { HasTexts bytes.now values.now }
     requires writable { list_all (is_writable (kind_view kind)) (values_view bytes.now values.now) ≡ true }

@@ -1,6 +1,6 @@
 use crate::{
-    PickFault, PlainFault, TextPlace, Values, pick, read_plain, write_bools, write_int32s, write_int64s,
-    write_plain, write_text, write_texts,
+    PickFault, PlainFault, TextPlace, Values, pick, read_plain, write_bools, write_int32s,
+    write_int64s, write_plain, write_text, write_texts,
 };
 use dr_nested::Kind;
 use std::alloc::{AllocError, Global};
@@ -35,18 +35,57 @@ fn values_are_read(rt: HostRuntime) -> Result<(), Fail> {
         (Kind::Bool, &[13], 1, bools(alloc, &truths[..1])?),
         (Kind::Bool, &[13], 8, bools(alloc, &truths[..8])?),
         (Kind::Bool, &[13, 0xff], 9, bools(alloc, &truths)?),
-        (Kind::I32, &[7, 0, 0, 0, 0xff, 0xff, 0xff, 0xff], 2, integers(alloc, &[7, -1])?),
-        (Kind::I32, &[0, 0, 0, 0x80, 9], 1, integers(alloc, &[-0x8000_0000])?),
-        (Kind::I64, &[2, 1, 0, 0, 0, 0, 0, 0], 1, integers(alloc, &[258])?),
-        (Kind::I64, &[0, 0, 0, 0, 0, 0, 0, 0x80], 1, integers(alloc, &[i64::MIN])?),
+        (
+            Kind::I32,
+            &[7, 0, 0, 0, 0xff, 0xff, 0xff, 0xff],
+            2,
+            integers(alloc, &[7, -1])?,
+        ),
+        (
+            Kind::I32,
+            &[0, 0, 0, 0x80, 9],
+            1,
+            integers(alloc, &[-0x8000_0000])?,
+        ),
+        (
+            Kind::I64,
+            &[2, 1, 0, 0, 0, 0, 0, 0],
+            1,
+            integers(alloc, &[258])?,
+        ),
+        (
+            Kind::I64,
+            &[0, 0, 0, 0, 0, 0, 0, 0x80],
+            1,
+            integers(alloc, &[i64::MIN])?,
+        ),
         (Kind::I64, &[9], 0, integers(alloc, &[])?),
-        (Kind::Text, &[0, 0, 0, 0, 1, 0, 0, 0, b'a'], 2, texts(alloc, &[(4, 0), (8, 1)])?),
-        (Kind::Text, &[1, 0, 0, 0, b'a', 0xff], 1, texts(alloc, &[(4, 1)])?),
-        (Kind::Text, &[2, 0, 0, 0, 0xc3, 0xa9, 0, 0, 0, 0], 2, texts(alloc, &[(4, 2), (10, 0)])?),
+        (
+            Kind::Text,
+            &[0, 0, 0, 0, 1, 0, 0, 0, b'a'],
+            2,
+            texts(alloc, &[(4, 0), (8, 1)])?,
+        ),
+        (
+            Kind::Text,
+            &[1, 0, 0, 0, b'a', 0xff],
+            1,
+            texts(alloc, &[(4, 1)])?,
+        ),
+        (
+            Kind::Text,
+            &[2, 0, 0, 0, 0xc3, 0xa9, 0, 0, 0, 0],
+            2,
+            texts(alloc, &[(4, 2), (10, 0)])?,
+        ),
         (Kind::Text, two, 0, texts(alloc, &[])?),
     ];
     for (kind, bytes, count, values) in cases {
-        assert_eq!(rt; read_plain(alloc, kind, count, bytes), Ok(values), "{bytes:?}");
+        assert_eq!(rt;
+            read_plain(alloc, kind, count, bytes),
+            Ok(values),
+            "{bytes:?}"
+        );
     }
     Ok(())
 }
@@ -72,7 +111,11 @@ fn the_first_fault_is_told(rt: HostRuntime) -> Result<(), Fail> {
         (Kind::Text, &[1, 0, 0, 0, b'a', 1, 0, 0, 0, 0x80], 2, bad),
     ];
     for (kind, bytes, count, fault) in cases {
-        assert_eq!(rt; read_plain(alloc, kind, count, bytes), Err(fault), "{bytes:?}");
+        assert_eq!(rt;
+            read_plain(alloc, kind, count, bytes),
+            Err(fault),
+            "{bytes:?}"
+        );
     }
     Ok(())
 }
@@ -102,7 +145,10 @@ fn a_dictionary_gives_values_at_indices(rt: HostRuntime) -> Result<(), Fail> {
     let picked = pick(alloc, &dictionary, &[1, 0, 1]);
     assert_eq!(rt; picked, Ok(integers(alloc, &[20, 10, 20])?));
     assert_eq!(rt; pick(alloc, &dictionary, &[1, 2]), Err(PickFault::BadIndex));
-    assert_eq!(rt; pick(alloc, &dictionary, &[u32::MAX]), Err(PickFault::BadIndex));
+    assert_eq!(rt;
+        pick(alloc, &dictionary, &[u32::MAX]),
+        Err(PickFault::BadIndex)
+    );
     assert_eq!(rt; pick(alloc, &dictionary, &[]), Ok(integers(alloc, &[])?));
     let truths = bools(alloc, &[true, false])?;
     assert_eq!(rt; pick(alloc, &truths, &[1]), Ok(bools(alloc, &[false])?));
@@ -121,7 +167,10 @@ fn values_are_written(rt: HostRuntime) -> Result<(), Fail> {
     write_bools(&truths, &mut out).or(Err("memory"))?;
     assert_eq!(rt; out.as_slice(), [9, 13, 1].as_slice());
     write_int32s(&[7, -1], &mut out).or(Err("memory"))?;
-    assert_eq!(rt; out.get(3..), Some([7, 0, 0, 0, 0xff, 0xff, 0xff, 0xff].as_slice()));
+    assert_eq!(rt;
+        out.get(3..),
+        Some([7, 0, 0, 0, 0xff, 0xff, 0xff, 0xff].as_slice())
+    );
     out.clear();
     write_int64s(&[i64::MIN], &mut out).or(Err("memory"))?;
     assert_eq!(rt; out.as_slice(), [0, 0, 0, 0, 0, 0, 0, 0x80].as_slice());

@@ -1,4 +1,4 @@
-use Rattle.std.proofs.Common.{◌≡◌, ◌∙◌, ◌+◌, ◌-◌, length, arith, refl, None}
+use Rattle.std.proofs.Common.{◌≡◌, ◌∙◌, ◌+◌, ◌-◌, length, arith, None}
 use Rattle.dr_formats.specs.Reading.{got, refused}
 use Rattle.dr_formats.specs.Hybrid.{short, hybrid}
 use Rattle.dr_bytes.proofs.FaultLemmas.{was_fault}

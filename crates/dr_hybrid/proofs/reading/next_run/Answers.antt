@@ -1,7 +1,5 @@
-use Rattle.std.proofs.Common.{◌≡◌}
-use Rattle.dr_formats.specs.Reading.{got}
-use Rattle.dr_formats.specs.Varint.{VarintFault, varint}
-use Rattle.dr_formats.specs.Hybrid.{HybridFault, short, run}
+use Rattle.dr_formats.specs.Varint.{VarintFault}
+use Rattle.dr_formats.specs.Hybrid.{HybridFault, short}
 use Rattle.dr_bytes.specs.Cutting.{left}
 use Rattle.dr_bytes.specs.Numbers.{varint_fault_view}
 use Rattle.dr_bytes.proofs.FaultLemmas.{varint_got, varint_refused, is_fault}

@@ -1,4 +1,4 @@
-use Rattle.std.proofs.Common.{◌≡◌, ◌+◌, ◌*◌, ◌/◌, ◌%◌, arith, sym}
+use Rattle.std.proofs.Common.{◌≡◌, ◌+◌, ◌*◌, ◌/◌, ◌%◌, arith}
 use Rattle.dr_formats.specs.LittleEndian.{bytes_for}
 use Rattle.dr_hybrid.proofs.UnpackLemmas.{bytes_split, told}
 use Rattle.dr_hybrid.proofs.words.packed_length.Goals as goal

@@ -1,6 +1,6 @@
 use Rattle.std.proofs.Common.{◌≡◌, ◌*◌, ◌∙◌, ◌++◌, ◌∷◌, [], get_or, length, ap, arith, rules}
 use Rattle.std.proofs.lemmas.Int.{to_z-of_z}
-use mir.Syntax.{w32, w64}
+use mir.Syntax.{w64}
 use mir.Val.{SFits}
 use Rattle.std.specs.Simd.{first_chunks}
 use Rattle.dr_formats.specs.Plain.{too_short, repeatedly, plain_number}

@@ -1,10 +1,10 @@
-use Rattle.std.proofs.Common.{◌≡◌, ◌∙◌, arith, sym, subst, ap}
+use Rattle.std.proofs.Common.{sym, subst}
 use Rattle.std.proofs.lemmas.Result.{err_from_is_err_and}
 use Rattle.dr_formats.specs.Plain.{repeatedly, plain_text}
 use Rattle.dr_bytes.specs.Numbers.{IsFault}
-use Rattle.dr_bytes.specs.Cutting.{whole, left}
+use Rattle.dr_bytes.specs.Cutting.{left}
 use Rattle.dr_plain.specs.Views.{plain_fault_view}
-use Rattle.dr_plain.proofs.ReadSteps.{TextsRead, no_texts_read, text_more, texts_all, texts_fault, if_some_weaker, pushed_on}
+use Rattle.dr_plain.proofs.ReadSteps.{TextsRead, no_texts_read, text_more, texts_fault, if_some_weaker, pushed_on}
 use Rattle.dr_plain.proofs.texts.push_texts.Goals as goal
 
 pub texts-init : goal.texts-init

@@ -1,5 +1,3 @@
-use Rattle.std.proofs.Common.{length, take}
-use Rattle.std.specs.Prelude.{min}
 use Rattle.dr_plain.proofs.WriteSteps.{Byte}
 use Rattle.dr_plain.proofs.writing.byte_of.Given as goal
 

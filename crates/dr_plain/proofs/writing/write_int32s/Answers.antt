@@ -1,8 +1,8 @@
-use Rattle.std.proofs.Common.{◌≡◌, ◌∙◌, ℤ, pos, get_or, true}
+use Rattle.std.proofs.Common.{◌≡◌, ◌∙◌, ℤ, pos, get_or}
 use Rattle.std.specs.Int.{w32, to_le_bytes, cast_unsigned}
 use Rattle.dr_meaning.specs.Schema.{int32_kind}
 use Rattle.dr_meaning.specs.Record.{int_value}
-use Rattle.dr_formats.specs.Plain.{is_writable, plain_number_bytes}
+use Rattle.dr_formats.specs.Plain.{plain_number_bytes}
 use Rattle.dr_plain.proofs.WriteSteps.{joined_more, writable_at, narrow, number_bytes_32, extended}
 use Rattle.dr_plain.proofs.writing.write_int32s.Goals as goal
 

@@ -1,4 +1,4 @@
-use Rattle.std.proofs.Common.{◌≡◌, ◌<◌, ◌+◌, ◌-◌, ◌^◌, ◌∙◌, ◌++◌, ap, subst, sym, take, drop, length, get_or, arith, ℕ, List}
+use Rattle.std.proofs.Common.{◌≡◌, ◌<◌, ◌+◌, ◌-◌, ◌^◌, ◌++◌, ap, subst, sym, take, drop, length, get_or, arith, ℕ, List}
 use Rattle.dr_meaning.specs.Schema.{text_kind}
 use Rattle.dr_meaning.specs.Record.{Value, text_value}
 use Rattle.dr_formats.specs.Plain.{plain_text_bytes}
