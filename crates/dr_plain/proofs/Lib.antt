@@ -1,0 +1,6 @@
+-- values read one after another: numbers, truth values, texts
+pub mod ReadSteps
+-- items at indices
+pub mod PickSteps
+-- values that are written
+pub mod WriteSteps

@@ -1,0 +1,73 @@
+//! Values of a fixed size, read in bulk.
+
+ghost use Rattle.std.specs.Prelude.{◌≡◌, map, OnOk, OnErr, IfErr};
+ghost use Rattle.dr_meaning.specs.Schema.{bool_kind, int32_kind, int64_kind};
+ghost use Rattle.dr_meaning.specs.Record.{bool_value, int_value};
+ghost use Rattle.dr_formats.specs.Plain.{plain, plain_values};
+ghost use Rattle.dr_plain.specs.Views.{Appends, IsFaultOf};
+
+use crate::values::PlainFault;
+
+/// Appends the truth values with which bytes begin, one bit each, the lowest first.
+///
+/// Errors: the bytes end before; want of memory. The values are then as they were.
+pub fn append_bools(bytes: &[u8], count: usize, out: &mut Vec<bool>) -> Result<(), PlainFault>
+    ensures read { OnOk result (Appends (plain_values bool_kind count bytes.now) (map bool_value (out.old).items) (map bool_value (out.new).items)) }
+    ensures fault { IfErr result (λ e. IsFaultOf e (plain bool_kind count bytes.now)) }
+    ensures stays { OnErr result ((out.new).items ≡ (out.old).items) }
+{
+    let length = count / 8 + usize::from(count % 8 > 0);
+    if bytes.len() < length {
+        return Err(PlainFault::Short);
+    }
+    if out.reserve(count).is_err() {
+        return Err(PlainFault::NoMemory);
+    }
+    let packed = &bytes[..length];
+    'bits: for index in 0..count {
+        out.push_reserved((packed[index / 8] >> (index % 8)) % 2 == 1);
+    }
+    Ok(())
+}
+
+/// Appends the 32-bit numbers with which bytes begin, little-endian two's complement.
+///
+/// Errors: the bytes end before; want of memory. The values are then as they were.
+pub fn append_int32s(bytes: &[u8], count: usize, out: &mut Vec<i64>) -> Result<(), PlainFault>
+    ensures read { OnOk result (Appends (plain_values int32_kind count bytes.now) (map int_value (out.old).items) (map int_value (out.new).items)) }
+    ensures fault { IfErr result (λ e. IsFaultOf e (plain int32_kind count bytes.now)) }
+    ensures stays { OnErr result ((out.new).items ≡ (out.old).items) }
+{
+    if bytes.len() / 4 < count {
+        return Err(PlainFault::Short);
+    }
+    if out.reserve(count).is_err() {
+        return Err(PlainFault::NoMemory);
+    }
+    let (numbers, _) = bytes[..4 * count].as_chunks::<4>();
+    'numbers: for number in numbers {
+        out.push_reserved(i64::from(i32::from_le_bytes(*number)));
+    }
+    Ok(())
+}
+
+/// Appends the 64-bit numbers with which bytes begin, little-endian two's complement.
+///
+/// Errors: the bytes end before; want of memory. The values are then as they were.
+pub fn append_int64s(bytes: &[u8], count: usize, out: &mut Vec<i64>) -> Result<(), PlainFault>
+    ensures read { OnOk result (Appends (plain_values int64_kind count bytes.now) (map int_value (out.old).items) (map int_value (out.new).items)) }
+    ensures fault { IfErr result (λ e. IsFaultOf e (plain int64_kind count bytes.now)) }
+    ensures stays { OnErr result ((out.new).items ≡ (out.old).items) }
+{
+    if bytes.len() / 8 < count {
+        return Err(PlainFault::Short);
+    }
+    if out.reserve(count).is_err() {
+        return Err(PlainFault::NoMemory);
+    }
+    let (numbers, _) = bytes[..8 * count].as_chunks::<8>();
+    'numbers: for number in numbers {
+        out.push_reserved(i64::from_le_bytes(*number));
+    }
+    Ok(())
+}

@@ -1,0 +1,187 @@
+use crate::{
+    PickFault, PlainFault, TextPlace, Values, pick, read_plain, write_bools, write_int32s,
+    write_int64s, write_plain, write_text, write_texts,
+};
+use dr_nested::Kind;
+use std::alloc::{AllocError, Global};
+use std::test::Fail;
+
+fn bools(alloc: Global, values: &[bool]) -> Result<Values, AllocError> {
+    Ok(Values::Bools(values.to_vec(alloc)?))
+}
+
+fn integers(alloc: Global, values: &[i64]) -> Result<Values, AllocError> {
+    Ok(Values::Integers(values.to_vec(alloc)?))
+}
+
+fn texts(alloc: Global, places: &[(usize, usize)]) -> Result<Values, AllocError> {
+    let mut texts = Vec::new(alloc);
+    for (start, length) in places {
+        texts.push(TextPlace {
+            start: *start,
+            length: *length,
+        })?;
+    }
+    Ok(Values::Texts(texts))
+}
+
+#[test]
+fn values_are_read(rt: HostRuntime) -> Result<(), Fail> {
+    let alloc = rt.alloc();
+    let truths = [true, false, true, true, false, false, false, false, true];
+    let two = "h\u{e9}".as_bytes();
+    let cases: [(Kind, &[u8], usize, Values); 13] = [
+        (Kind::Bool, &[], 0, bools(alloc, &[])?),
+        (Kind::Bool, &[13], 1, bools(alloc, &truths[..1])?),
+        (Kind::Bool, &[13], 8, bools(alloc, &truths[..8])?),
+        (Kind::Bool, &[13, 0xff], 9, bools(alloc, &truths)?),
+        (
+            Kind::I32,
+            &[7, 0, 0, 0, 0xff, 0xff, 0xff, 0xff],
+            2,
+            integers(alloc, &[7, -1])?,
+        ),
+        (
+            Kind::I32,
+            &[0, 0, 0, 0x80, 9],
+            1,
+            integers(alloc, &[-0x8000_0000])?,
+        ),
+        (
+            Kind::I64,
+            &[2, 1, 0, 0, 0, 0, 0, 0],
+            1,
+            integers(alloc, &[258])?,
+        ),
+        (
+            Kind::I64,
+            &[0, 0, 0, 0, 0, 0, 0, 0x80],
+            1,
+            integers(alloc, &[i64::MIN])?,
+        ),
+        (Kind::I64, &[9], 0, integers(alloc, &[])?),
+        (
+            Kind::Text,
+            &[0, 0, 0, 0, 1, 0, 0, 0, b'a'],
+            2,
+            texts(alloc, &[(4, 0), (8, 1)])?,
+        ),
+        (
+            Kind::Text,
+            &[1, 0, 0, 0, b'a', 0xff],
+            1,
+            texts(alloc, &[(4, 1)])?,
+        ),
+        (
+            Kind::Text,
+            &[2, 0, 0, 0, 0xc3, 0xa9, 0, 0, 0, 0],
+            2,
+            texts(alloc, &[(4, 2), (10, 0)])?,
+        ),
+        (Kind::Text, two, 0, texts(alloc, &[])?),
+    ];
+    for (kind, bytes, count, values) in cases {
+        assert_eq!(rt;
+            read_plain(alloc, kind, count, bytes),
+            Ok(values),
+            "{bytes:?}"
+        );
+    }
+    Ok(())
+}
+
+#[test]
+fn the_first_fault_is_told(rt: HostRuntime) -> Result<(), Fail> {
+    let alloc = rt.alloc();
+    let short = PlainFault::Short;
+    let bad = PlainFault::BadText;
+    let cases: [(Kind, &[u8], usize, PlainFault); 13] = [
+        (Kind::Bool, &[1], 9, short),
+        (Kind::Bool, &[1], usize::MAX, short),
+        (Kind::I32, &[0; 7], 2, short),
+        (Kind::I64, &[0; 8], 2, short),
+        (Kind::I64, &[0; 8], usize::MAX, short),
+        (Kind::Text, &[], 1, short),
+        (Kind::Text, &[1, 0, 0], 1, short),
+        (Kind::Text, &[1, 0, 0, 0], 1, short),
+        (Kind::Text, &[0xff, 0xff, 0xff, 0xff, b'a'], 1, short),
+        (Kind::Text, &[1, 0, 0, 0, 0xc3, 1, 0, 0, 0, 0xa9], 2, bad),
+        (Kind::Text, &[1, 0, 0, 0, 0xc3, 9, 0, 0, 0], 2, bad),
+        (Kind::Text, &[9, 0, 0, 0, 0xc3, 1, 0, 0, 0], 2, short),
+        (Kind::Text, &[1, 0, 0, 0, b'a', 1, 0, 0, 0, 0x80], 2, bad),
+    ];
+    for (kind, bytes, count, fault) in cases {
+        assert_eq!(rt;
+            read_plain(alloc, kind, count, bytes),
+            Err(fault),
+            "{bytes:?}"
+        );
+    }
+    Ok(())
+}
+
+#[test]
+fn a_long_text_is_checked_by_itself(rt: HostRuntime) -> Result<(), Fail> {
+    let alloc = rt.alloc();
+    for (last, fault) in [(b'a', None), (0x80, Some(PlainFault::BadText))] {
+        let mut bytes = [200, 0, 0, 0].to_vec(alloc)?;
+        bytes.resize(203, b'a')?;
+        bytes.push(last)?;
+        match read_plain(alloc, Kind::Text, 1, &bytes) {
+            Ok(values) => {
+                assert_eq!(rt; fault, None);
+                assert_eq!(rt; values, texts(alloc, &[(4, 200)])?);
+            }
+            Err(told) => assert_eq!(rt; fault, Some(told)),
+        }
+    }
+    Ok(())
+}
+
+#[test]
+fn a_dictionary_gives_values_at_indices(rt: HostRuntime) -> Result<(), Fail> {
+    let alloc = rt.alloc();
+    let dictionary = integers(alloc, &[10, 20])?;
+    let picked = pick(alloc, &dictionary, &[1, 0, 1]);
+    assert_eq!(rt; picked, Ok(integers(alloc, &[20, 10, 20])?));
+    assert_eq!(rt; pick(alloc, &dictionary, &[1, 2]), Err(PickFault::BadIndex));
+    assert_eq!(rt;
+        pick(alloc, &dictionary, &[u32::MAX]),
+        Err(PickFault::BadIndex)
+    );
+    assert_eq!(rt; pick(alloc, &dictionary, &[]), Ok(integers(alloc, &[])?));
+    let truths = bools(alloc, &[true, false])?;
+    assert_eq!(rt; pick(alloc, &truths, &[1]), Ok(bools(alloc, &[false])?));
+    let places = texts(alloc, &[(4, 1), (9, 0)])?;
+    assert_eq!(rt; pick(alloc, &places, &[1]), Ok(texts(alloc, &[(9, 0)])?));
+    Ok(())
+}
+
+#[test]
+fn values_are_written(rt: HostRuntime) -> Result<(), Fail> {
+    let alloc = rt.alloc();
+    let truths = [true, false, true, true, false, false, false, false, true];
+    let mut out = [9].to_vec(alloc)?;
+    write_bools(&[], &mut out).or(Err("memory"))?;
+    assert_eq!(rt; out.as_slice(), [9].as_slice());
+    write_bools(&truths, &mut out).or(Err("memory"))?;
+    assert_eq!(rt; out.as_slice(), [9, 13, 1].as_slice());
+    write_int32s(&[7, -1], &mut out).or(Err("memory"))?;
+    assert_eq!(rt;
+        out.get(3..),
+        Some([7, 0, 0, 0, 0xff, 0xff, 0xff, 0xff].as_slice())
+    );
+    out.clear();
+    write_int64s(&[i64::MIN], &mut out).or(Err("memory"))?;
+    assert_eq!(rt; out.as_slice(), [0, 0, 0, 0, 0, 0, 0, 0x80].as_slice());
+    out.clear();
+    write_text(b"ab", &mut out).or(Err("memory"))?;
+    assert_eq!(rt; out.as_slice(), [2, 0, 0, 0, b'a', b'b'].as_slice());
+    out.clear();
+    write_texts(&[], b"ab", &mut out).or(Err("memory"))?;
+    assert_eq!(rt; out.as_slice(), [].as_slice());
+    let values = Values::Integers([258].to_vec(alloc)?);
+    write_plain(Kind::I64, &values, &[], &mut out).or(Err("memory"))?;
+    assert_eq!(rt; out.as_slice(), [2, 1, 0, 0, 0, 0, 0, 0].as_slice());
+    Ok(())
+}
