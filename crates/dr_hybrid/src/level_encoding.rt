@@ -6,7 +6,7 @@ ghost use Rattle.dr_formats.specs.Hybrid.{hybrid_bytes, runs_behind, equal_front
 ghost use Rattle.dr_hybrid.specs.Writing.{AreBelow, BeginsWith};
 
 use crate::writing::{GROUP, append, append_repeat};
-use dr_nested::NoMemory;
+use dr_memory::NoMemory;
 
 /// Appends the hybrid data that is written for levels of a width of at most eight bits.
 ///

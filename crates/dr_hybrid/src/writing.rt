@@ -5,7 +5,7 @@ ghost use Rattle.dr_formats.specs.Hybrid.{repeat_of};
 ghost use Rattle.dr_hybrid.specs.Writing.{BeginsWith};
 
 use dr_bytes::Varint;
-use dr_nested::NoMemory;
+use dr_memory::NoMemory;
 
 /// The header of one packed group of eight.
 pub(crate) const GROUP: u8 = 3;
