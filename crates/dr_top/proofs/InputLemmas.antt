@@ -80,7 +80,7 @@ refuses_long fs most number (Some all) t =
 pub no_line_stops : (fs : Fields) (most number : ℕ) (left : Option (List ℕ)) (before now : SourceShown) (fault : CutFault)
     → (fault ≡ cutter.TooLong → IsTooLong left) → (fault ≡ cutter.ReadFault → now.faults ≡ raised before.faults) → ((fault ≡ cutter.ReadFault → ⊥) → now.faults ≡ before.faults)
     → NextStops fs most number left before now (line_fault_in fault (number + 1))
-no_line_stops fs most number left before now cutter.TooLong long cause calm = (calm cc, refuses_long fs most number left (long refl))
+no_line_stops fs most number left before now cutter.TooLong long cause calm = (calm (λ e. cc), refuses_long fs most number left (long refl))
 no_line_stops fs most number left before now cutter.ReadFault long cause calm = cause refl
 
 pub record_stops : (fs : Fields) (most number : ℕ) (left rest : Option (List ℕ)) (bytes line : List ℕ) (before now : SourceShown) (fault : InputFault) → ReadsLine (record_of_line fs line) (number + 1) (Err fault)
@@ -180,3 +180,8 @@ some_of P (Some b) a e h = let k : b ≡ a = cc in subst P k h
 pub none_of : {A : Type 0} (Q : Type 0) (o : Option A) → o ≡ None → IfNone o Q → Q
 none_of Q None e h = h
 none_of Q (Some b) e h = cc
+
+-- an option that is no value is none
+pub none_there : {A : Type 0} (Q : Type 0) (o : Option A) → ((a : A) → o ≡ Some a → ⊥) → IfNone o Q → Q
+none_there Q None n h = h
+none_there Q (Some b) n h = absurd (n b refl)

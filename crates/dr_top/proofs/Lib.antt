@@ -2,10 +2,15 @@
 pub mod SchemaFileLemmas
 -- reading the records of the input
 pub mod InputLemmas
--- outcomes of commands
-pub mod OutcomeLemmas
--- the steps of single commands
-pub mod FsmLemmas
-pub mod StripeLemmas
 -- the record of a line has the form of its schema's records
 pub mod FormLemmas
+-- outcomes of commands
+pub mod OutcomeLemmas
+-- single commands: their steps, and their answers
+pub mod AskLemmas
+pub mod StripeLemmas
+pub mod StripeEnds
+pub mod FsmLemmas
+pub mod FsmEnds
+-- the ends of a run
+pub mod RunLemmas

@@ -8,7 +8,7 @@ use Rattle.dr_nested.specs.Faults.{problem_view, path_problem_view}
 use Rattle.dr_outside.specs.Source.{SourceShown}
 use Rattle.dr_outside.specs.Link.{Files, LinkShown}
 use Rattle.dr_commands.specs.Meaning.{Look, Meaning, Outcome, refused, IsEarly}
-use Rattle.dr_top.specs.World.{WhereTold, WhereUsed, HasOutcome, IsOpened, files_of}
+use Rattle.dr_top.specs.World.{WhereTold, WhereUsed, EndsAlone, IsOpened, files_of}
 use Rattle.dr_top.specs.Stops.{SchemaFileStops, FieldStops, StopsWith, IsRefusedSchema, schema_file_stop, field_stop, refusal_view}
 use Rattle.dr_top.specs.declared.refusal.Refusal.{Refusal}
 use Rattle.dr_top.specs.declared.schema_file.SchemaFileFault.{SchemaFileFault}
@@ -32,13 +32,13 @@ ends_in m None left links o h = tt
 ends_in m (Some fs) left links o h =
     used_of_all m.reads_input [] left _ (λ bytes. used_of_all m.reads_links [] links _ (λ ls. (h.0, h.1, h.2 (record { file = h.0; input = bytes; links = ls }) refl)))
 
-pub always_ends : (m : Meaning) (keeper : LinkShown) (input : SourceShown) (links : List LinkShown) (o : Outcome) → AlwaysEnds m keeper o → HasOutcome m keeper input links o
-always_ends m keeper input links o h = ends_in m keeper.held input.left (files_of links) o h
+pub always_ends : (m : Meaning) (keeper : LinkShown) (input : SourceShown) (o : Outcome) → AlwaysEnds m keeper o → EndsAlone m keeper input o
+always_ends m keeper input o h = λ links. ends_in m keeper.held input.left (files_of links) o h
 
 -- an early refusal is a stop, of an input that stays
 pub early_stop : (m : Meaning) (keeper keeper_now : LinkShown) (input : SourceShown) (r : Refusal) → keeper_now.faults ≡ keeper.faults → AlwaysEnds m keeper (refused (refusal_view r) [])
     → StopsWith m keeper keeper_now input input (Stop.Refused r)
-early_stop m keeper keeper_now input r calm h = (calm, refl, always_ends m keeper input [] (refused (refusal_view r) []) h, λ _. refl)
+early_stop m keeper keeper_now input r calm h = (calm, refl, always_ends m keeper input (refused (refusal_view r) []) h, λ _. refl)
 
 -- ---- the schema's file
 

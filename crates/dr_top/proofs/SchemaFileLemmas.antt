@@ -31,17 +31,17 @@ asks_bytes path len before middle now e f =
     (size_of path ∷ r ∷ [], f ∙ ap (λ (o : Option (List Request)). with_request o r) e ∙ two_more before.asked (size_of path) r, (refl, refl, refl))
 
 -- whatever the first call answered
-pub asks_after_length : {A : Type 0} (path : List ℕ) (before now : LinkShown) (fault : Fault) → (Err {A = A} fault ≢ Err Fault.NoMemory → now.asked ≡ with_request before.asked (size_of path))
-    → (Err {A = A} fault ≡ Err Fault.NoMemory → now.asked ≡ before.asked) → AsksForFile path before now
-asks_after_length path before now Fault.Failed some none = asks_length path before now (some (λ e. cc))
-asks_after_length path before now Fault.NoMemory some none = asks_nothing path before now (none refl)
+pub asks_after_length : {A : Type 0} (path : List ℕ) (before now : LinkShown) (r : Result A Fault) (fault : Fault) → r ≡ Err fault → (r ≢ Err Fault.NoMemory → now.asked ≡ with_request before.asked (size_of path))
+    → (r ≡ Err Fault.NoMemory → now.asked ≡ before.asked) → AsksForFile path before now
+asks_after_length path before now r Fault.Failed e some none = asks_length path before now (some (λ k. cc))
+asks_after_length path before now r Fault.NoMemory e some none = asks_nothing path before now (none e)
 
 -- whatever the second did
-pub asks_after_bytes : {A : Type 0} (path : List ℕ) (len : ℕ) (before middle now : LinkShown) (fault : Fault) → middle.asked ≡ with_request before.asked (size_of path)
-    → (Err {A = A} fault ≢ Err Fault.NoMemory → now.asked ≡ with_request middle.asked (bytes_of (record { path = path; start = 0; len = len })))
-    → (Err {A = A} fault ≡ Err Fault.NoMemory → now.asked ≡ middle.asked) → AsksForFile path before now
-asks_after_bytes path len before middle now Fault.Failed e some none = asks_bytes path len before middle now e (some (λ e. cc))
-asks_after_bytes path len before middle now Fault.NoMemory e some none = asks_length path before now (none refl ∙ e)
+pub asks_after_bytes : {A : Type 0} (path : List ℕ) (len : ℕ) (before middle now : LinkShown) (r : Result A Fault) (fault : Fault) → r ≡ Err fault → middle.asked ≡ with_request before.asked (size_of path)
+    → (r ≢ Err Fault.NoMemory → now.asked ≡ with_request middle.asked (bytes_of (record { path = path; start = 0; len = len })))
+    → (r ≡ Err Fault.NoMemory → now.asked ≡ middle.asked) → AsksForFile path before now
+asks_after_bytes path len before middle now r Fault.Failed k e some none = asks_bytes path len before middle now e (some (λ j. cc))
+asks_after_bytes path len before middle now r Fault.NoMemory k e some none = asks_length path before now (none k ∙ e)
 
 -- a file that is longer than a schema may be is refused
 pub long_file : (held : Option Files) (path : List ℕ) (n : ℕ) → HasSize held path n → 1048576 < n → IsRefusedSchema held path (record { place = 1048576; problem = too_long })

@@ -10,6 +10,7 @@ use Rattle.dr_top.specs.declared.stop.Stop.{Stop}
 abbrev pub StopsMeant : Option Meaning → LinkShown → LinkShown → SourceShown → SourceShown → Stop → Type 0
 StopsMeant (Some m) keeper keeper_now input input_now stop = StopsWith m keeper keeper_now input input_now stop
 StopsMeant None keeper keeper_now input input_now Stop.Usage = (keeper_now ≡ keeper) × (input_now ≡ input)
+StopsMeant None keeper keeper_now input input_now Stop.NoMemory = (keeper_now ≡ keeper) × (input_now ≡ input)
 StopsMeant None keeper keeper_now input input_now stop = ⊥
 
 -- the keeper is asked for the file that a meaning names, or for nothing

@@ -6,7 +6,8 @@ use Rattle.dr_outside.specs.Sink.{SinkShown, AddedWhole, AddedFront}
 use Rattle.dr_outside.specs.Link.{Files}
 use Rattle.dr_commands.specs.Meaning.{Meaning, Put, Outcome, done, refused, refusal_text, IsEarly}
 use Rattle.dr_top.specs.World.{World, HasOutcome, IsOpened}
-use Rattle.dr_top.specs.Stops.{AsksForFile, IsReadBy}
+use Rattle.dr_top.specs.Stops.{IsReadBy}
+use Rattle.dr_top.specs.Answers.{LeavesUnread, AsksMeant}
 
 -- ---- words of the clauses
 
@@ -117,18 +118,20 @@ IsAccepted before m = (r : CommandRefusal) (puts : List Put) → HasOutcome m be
 
 -- an input that isn't read stays
 abbrev pub LeavesInput : Option Meaning → World → World → Type 0
-LeavesInput None before after = after.input ≡ before.input
-LeavesInput (Some m) before after = m.reads_input ≡ false → after.input ≡ before.input
+LeavesInput meant before after = LeavesUnread meant before.input after.input
+
+-- the keeper is asked for the length of the file that the words name, then for its bytes, each at most once, and for nothing else
+abbrev pub AsksKeeper : Option Meaning → World → World → Type 0
+AsksKeeper meant before after = AsksMeant meant before.keeper after.keeper
+
+-- whether the links are read
+abbrev pub ReadsNoLink : Option Meaning → Type 0
+ReadsNoLink None = ⊤
+ReadsNoLink (Some m) = m.reads_links ≡ false
 
 -- links that aren't read stay, and are asked for nothing
 abbrev pub LeavesLinks : Option Meaning → World → World → Type 0
-LeavesLinks None before after = after.links ≡ before.links
-LeavesLinks (Some m) before after = m.reads_links ≡ false → after.links ≡ before.links
-
--- the keeper is asked for the length of the file that the command names, then for its bytes, each at most once, and for nothing else
-abbrev pub AsksKeeper : Option Meaning → World → World → Type 0
-AsksKeeper None before after = after.keeper ≡ before.keeper
-AsksKeeper (Some m) before after = AsksForFile m.file before.keeper after.keeper
+LeavesLinks meant before after = ReadsNoLink meant → after.links ≡ before.links
 
 -- where the words mean something of which nothing is refused, and no count rises, the status is 0 or 5
 abbrev pub IsComplete : Option Meaning → ℕ → World → World → Type 0

@@ -12,7 +12,7 @@ use Rattle.dr_outside.specs.Source.{SourceShown}
 use Rattle.dr_outside.specs.Link.{Files, LinkShown, Request, size_of, bytes_of}
 use Rattle.dr_commands.specs.Meaning.{Meaning, refused, IsEarly}
 use Rattle.dr_commands.specs.declared.words_fault.WordsFault.{WordsFault}
-use Rattle.dr_top.specs.World.{WhereTold, HasOutcome, IsOpened}
+use Rattle.dr_top.specs.World.{WhereTold, EndsAlone, IsOpened}
 use Rattle.dr_top.specs.declared.refusal.LineProblem.{LineProblem}
 use Rattle.dr_top.specs.declared.refusal.Refusal.{Refusal}
 use Rattle.dr_top.specs.declared.schema_file.SchemaFileFault.{SchemaFileFault}
@@ -90,7 +90,7 @@ StopsWith m keeper keeper_now input input_now Stop.NoMemory = (keeper_now.faults
 StopsWith m keeper keeper_now input input_now Stop.Keeper = (keeper_now.faults ≡ raised keeper.faults) × (input_now ≡ input)
 StopsWith m keeper keeper_now input input_now Stop.Source = (input_now.faults ≡ raised input.faults) × (keeper_now.faults ≡ keeper.faults) × IsOpened m keeper
 StopsWith m keeper keeper_now input input_now (Stop.Refused r) =
-    (keeper_now.faults ≡ keeper.faults) × (input_now.faults ≡ input.faults) × HasOutcome m keeper input [] (refused (refusal_view r) []) × (IsEarly (refusal_view r) → input_now ≡ input)
+    (keeper_now.faults ≡ keeper.faults) × (input_now.faults ≡ input.faults) × EndsAlone m keeper input (refused (refusal_view r) []) × (IsEarly (refusal_view r) → input_now ≡ input)
 
 -- the input was read to its end, or left alone where it isn't read
 abbrev pub IsReadBy : Bool → SourceShown → SourceShown → Type 0

@@ -39,6 +39,10 @@ HasOutcome m keeper input links o = WhereTold keeper.held (λ fs.
     WhereUsed m.reads_links [] (files_of links) (λ held.
     (file : List ℕ) × (fs m.file ≡ Some file) × (m.outcome (record { file = file; input = bytes; links = held }) ≡ o))))
 
+-- it has this outcome whatever the links hold
+abbrev pub EndsAlone : Meaning → LinkShown → SourceShown → Outcome → Type 0
+EndsAlone m keeper input o = (links : List LinkShown) → HasOutcome m keeper input links o
+
 -- whatever the input, nothing that comes before it is refused
 abbrev pub IsOpened : Meaning → LinkShown → Type 0
 IsOpened m keeper = WhereTold keeper.held (λ fs.

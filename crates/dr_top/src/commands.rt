@@ -1,11 +1,11 @@
 //! The commands: what each answers.
 
-ghost use Rattle.std.specs.Prelude.{◌≡◌, [], false, map, string_bytes, IfOk, IfErr, OnOk};
+ghost use Rattle.std.specs.Prelude.{◌≡◌, ◌≢◌, [], Err, false, map, string_bytes, IfOk, IfErr, OnOk};
 ghost use Rattle.dr_commands.specs.Meaning.{done};
-ghost use Rattle.dr_commands.specs.Commands.{meaning_of, meant};
+ghost use Rattle.dr_commands.specs.Commands.{Taken, meaning_of, meant};
 ghost use Rattle.dr_commands.specs.CommandView.{command_view};
 ghost use Rattle.dr_top.specs.Stops.{StopsWith, IsReadBy, AsksForFile};
-ghost use Rattle.dr_top.specs.World.{HasOutcome};
+ghost use Rattle.dr_top.specs.World.{EndsAlone};
 ghost use Rattle.dr_top.specs.Answers.{StopsMeant, AsksMeant, LeavesUnread};
 ghost use Rattle.dr_top.specs.Ends.{ForMeant};
 
@@ -27,7 +27,7 @@ fn command_answer<S: Source, K: Keeper>(
     source: &mut S,
     keeper: &mut K,
 ) -> Result<String, Stop>
-    ensures text { IfOk result (λ t. HasOutcome (meaning_of (command_view command.now)) (K.shows keeper.old) (S.shows source.old) [] (done (string_bytes t) [])) }
+    ensures text { IfOk result (λ t. EndsAlone (meaning_of (command_view command.now)) (K.shows keeper.old) (S.shows source.old) (done (string_bytes t) [])) }
     ensures read { OnOk result (IsReadBy (meaning_of (command_view command.now)).reads_input (S.shows source.old) (S.shows source.new)) }
     ensures source_calm { OnOk result ((S.shows source.new).faults ≡ (S.shows source.old).faults) }
     ensures keeper_calm { OnOk result ((K.shows keeper.new).faults ≡ (K.shows keeper.old).faults) }
@@ -52,13 +52,14 @@ pub fn answer<S: Source, K: Keeper>(
     source: &mut S,
     keeper: &mut K,
 ) -> Result<String, Stop>
-    ensures text { IfOk result (λ t. ForMeant (meant (map string_bytes words.now)) (λ m. HasOutcome m (K.shows keeper.old) (S.shows source.old) [] (done (string_bytes t) []))) }
+    ensures text { IfOk result (λ t. ForMeant (meant (map string_bytes words.now)) (λ m. EndsAlone m (K.shows keeper.old) (S.shows source.old) (done (string_bytes t) []))) }
     ensures read { OnOk result (ForMeant (meant (map string_bytes words.now)) (λ m. IsReadBy m.reads_input (S.shows source.old) (S.shows source.new))) }
     ensures source_calm { OnOk result ((S.shows source.new).faults ≡ (S.shows source.old).faults) }
     ensures keeper_calm { OnOk result ((K.shows keeper.new).faults ≡ (K.shows keeper.old).faults) }
     ensures stops { IfErr result (StopsMeant (meant (map string_bytes words.now)) (K.shows keeper.old) (K.shows keeper.new) (S.shows source.old) (S.shows source.new)) }
     ensures kept { (K.shows keeper.new).held ≡ (K.shows keeper.old).held }
     ensures asks { AsksMeant (meant (map string_bytes words.now)) (K.shows keeper.old) (K.shows keeper.new) }
+    ensures taken { Taken (map string_bytes words.now) → result ≢ Err Stop.Usage }
     ensures unread { LeavesUnread (meant (map string_bytes words.now)) (S.shows source.old) (S.shows source.new) }
 {
     let command = read_words(alloc, words)?;

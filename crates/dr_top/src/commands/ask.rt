@@ -8,7 +8,7 @@ ghost use Rattle.dr_nested.specs.SchemaView.{schema_view};
 ghost use Rattle.dr_nested.specs.PathView.{step_view};
 ghost use Rattle.dr_commands.specs.Meaning.{done};
 ghost use Rattle.dr_commands.specs.Ask.{ask_meaning, ask_view};
-ghost use Rattle.dr_top.specs.World.{HasOutcome, WhereTold};
+ghost use Rattle.dr_top.specs.World.{EndsAlone, WhereTold};
 ghost use Rattle.dr_top.specs.Stops.{StopsWith, InputStops, IsReadBy, AsksForFile};
 ghost use Rattle.dr_top.specs.Records.{HasTotal};
 ghost use Rattle.dr_top.specs.Queries.{HasQuery, QueryStops};
@@ -76,7 +76,7 @@ pub fn answer<S: Source, K: Keeper>(
     source: &mut S,
     keeper: &mut K,
 ) -> Result<String, Stop>
-    ensures text { IfOk result (λ t. HasOutcome (ask_meaning (ask_view ask.now)) (K.shows keeper.old) (S.shows source.old) [] (done (string_bytes t) [])) }
+    ensures text { IfOk result (λ t. EndsAlone (ask_meaning (ask_view ask.now)) (K.shows keeper.old) (S.shows source.old) (done (string_bytes t) [])) }
     ensures read { OnOk result (IsReadBy true (S.shows source.old) (S.shows source.new)) }
     ensures source_calm { OnOk result ((S.shows source.new).faults ≡ (S.shows source.old).faults) }
     ensures keeper_calm { OnOk result ((K.shows keeper.new).faults ≡ (K.shows keeper.old).faults) }
@@ -87,5 +87,6 @@ pub fn answer<S: Source, K: Keeper>(
     let schema = read_schema(alloc, keeper, ask.schema.as_str())?;
     let query = read_query(alloc, &schema, ask.query.as_str())?;
     let total = count_records(alloc, &schema, &query.path.steps, source)?;
-    Ok(count_line(alloc, query.name.as_str(), total)?)
+    let line = count_line(alloc, query.name.as_str(), total)?;
+    Ok(line)
 }

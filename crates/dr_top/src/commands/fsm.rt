@@ -11,7 +11,7 @@ ghost use Rattle.dr_nested.specs.declared.path.Path.{Path};
 ghost use Rattle.dr_outside.specs.Source.{SourceShown};
 ghost use Rattle.dr_commands.specs.Meaning.{done};
 ghost use Rattle.dr_commands.specs.Fsm.{fsm_meaning, fsm_view};
-ghost use Rattle.dr_top.specs.World.{HasOutcome};
+ghost use Rattle.dr_top.specs.World.{EndsAlone};
 ghost use Rattle.dr_top.specs.Stops.{StopsWith, FieldStops, AsksForFile};
 
 use crate::field::{FieldFault, find_field};
@@ -89,7 +89,7 @@ fn leaves_text(alloc: Global, schema: &Schema, leaves: &[Path]) -> Result<String
 ///
 /// Errors: the first refusal: the schema, then the FIELD words in order; the keeper failed; want of memory.
 pub fn answer<K: Keeper>(alloc: Global, fsm: &Fsm, keeper: &mut K) -> Result<String, Stop>
-    ensures text { (input : SourceShown) → IfOk result (λ t. HasOutcome (fsm_meaning (fsm_view fsm.now)) (K.shows keeper.old) input [] (done (string_bytes t) [])) }
+    ensures text { (input : SourceShown) → IfOk result (λ t. EndsAlone (fsm_meaning (fsm_view fsm.now)) (K.shows keeper.old) input (done (string_bytes t) [])) }
     ensures keeper_calm { OnOk result ((K.shows keeper.new).faults ≡ (K.shows keeper.old).faults) }
     ensures stops { (input : SourceShown) → IfErr result (StopsWith (fsm_meaning (fsm_view fsm.now)) (K.shows keeper.old) (K.shows keeper.new) input input) }
     ensures kept { (K.shows keeper.new).held ≡ (K.shows keeper.old).held }
@@ -97,5 +97,6 @@ pub fn answer<K: Keeper>(alloc: Global, fsm: &Fsm, keeper: &mut K) -> Result<Str
 {
     let schema = read_schema(alloc, keeper, fsm.schema.as_str())?;
     let leaves = find_fields(alloc, &schema, &fsm.fields)?;
-    Ok(leaves_text(alloc, &schema, &leaves)?)
+    let text = leaves_text(alloc, &schema, &leaves)?;
+    Ok(text)
 }

@@ -9,7 +9,7 @@ ghost use Rattle.dr_striper.specs.Stripers.{striped, striped_leaves};
 ghost use Rattle.dr_striper.specs.Leaves.{is_leaf};
 ghost use Rattle.dr_commands.specs.Meaning.{done};
 ghost use Rattle.dr_commands.specs.Stripe.{stripe_meaning, stripe_view};
-ghost use Rattle.dr_top.specs.World.{HasOutcome, WhereTold};
+ghost use Rattle.dr_top.specs.World.{EndsAlone, WhereTold};
 ghost use Rattle.dr_top.specs.Stops.{StopsWith, InputStops, IsReadBy, AsksForFile};
 ghost use Rattle.dr_top.specs.Records.{HasColumns};
 
@@ -78,7 +78,7 @@ pub fn answer<S: Source, K: Keeper>(
     source: &mut S,
     keeper: &mut K,
 ) -> Result<String, Stop>
-    ensures text { IfOk result (λ t. HasOutcome (stripe_meaning (stripe_view stripe.now)) (K.shows keeper.old) (S.shows source.old) [] (done (string_bytes t) [])) }
+    ensures text { IfOk result (λ t. EndsAlone (stripe_meaning (stripe_view stripe.now)) (K.shows keeper.old) (S.shows source.old) (done (string_bytes t) [])) }
     ensures read { OnOk result (IsReadBy true (S.shows source.old) (S.shows source.new)) }
     ensures source_calm { OnOk result ((S.shows source.new).faults ≡ (S.shows source.old).faults) }
     ensures keeper_calm { OnOk result ((K.shows keeper.new).faults ≡ (K.shows keeper.old).faults) }
@@ -89,5 +89,6 @@ pub fn answer<S: Source, K: Keeper>(
     let schema = read_schema(alloc, keeper, stripe.schema.as_str())?;
     let field = find_field(alloc, &schema, stripe.field.as_str(), 0)?;
     let column = stripe_records(alloc, &schema, &field, source)?;
-    Ok(column_text(alloc, &column)?)
+    let text = column_text(alloc, &column)?;
+    Ok(text)
 }

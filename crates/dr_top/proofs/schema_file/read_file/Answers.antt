@@ -4,7 +4,7 @@ use Rattle.dr_top.proofs.schema_file.read_file.Goals as goal
 
 pub returns-in_err-size-clause-asks : goal.returns-in_err-size-clause-asks
 returns-in_err-size-clause-asks g c =
-    asks_after_length c.args.path.now (g.K.Link.shows c.args.keeper.now) (g.K.Link.shows c.size.new.self) c.in_err-size.field-0.0 c.in_err-size.ensures.asked c.in_err-size.ensures.not_asked
+    asks_after_length c.args.path.now (g.K.Link.shows c.args.keeper.now) (g.K.Link.shows c.size.new.self) c.size.result c.in_err-size.field-0.0 c.in_err-size.was c.size.ensures.asked c.size.ensures.not_asked
 
 pub returns-then-size-clause-stops : goal.returns-then-size-clause-stops
 returns-then-size-clause-stops g c =
@@ -20,8 +20,8 @@ returns-in_err-bytes-clause-asks g c =
 
 pub returns-in_err-read_at-clause-asks : goal.returns-in_err-read_at-clause-asks
 returns-in_err-read_at-clause-asks g c =
-    asks_after_bytes c.args.path.now (length c.deref_mut.result.now) (g.K.Link.shows c.args.keeper.now) (g.K.Link.shows c.size.new.self) (g.K.Link.shows c.read_at.new.self) c.in_err-read_at.field-0.0
-    (c.in_ok-size.ensures.asked (λ e. cc)) c.in_err-read_at.ensures.asked c.in_err-read_at.ensures.not_asked
+    asks_after_bytes c.args.path.now (length c.deref_mut.result.now) (g.K.Link.shows c.args.keeper.now) (g.K.Link.shows c.size.new.self) (g.K.Link.shows c.read_at.new.self) c.read_at.result c.in_err-read_at.field-0.0 c.in_err-read_at.was
+    (c.in_ok-size.ensures.asked (λ e. cc)) c.read_at.ensures.asked c.read_at.ensures.not_asked
 
 pub returns-clause-asks : goal.returns-clause-asks
 returns-clause-asks g c =
