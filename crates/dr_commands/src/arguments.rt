@@ -44,7 +44,11 @@ pub fn value_of(alloc: Global, matches: &ArgMatches<'_>, name: &str) -> Result<S
 }
 
 /// All values of an option or word.
-pub fn values_of(alloc: Global, matches: &ArgMatches<'_>, name: &str) -> Result<Vec<String>, WordsFault>
+pub fn values_of(
+    alloc: Global,
+    matches: &ArgMatches<'_>,
+    name: &str,
+) -> Result<Vec<String>, WordsFault>
     ensures { Answers (λ v. map string_bytes v.items) (all_of name.now (rows_of (found_of matches.now))) result }
 {
     match matches.get_strs(name) {

@@ -10,8 +10,8 @@ ghost use Rattle.dr_count.specs.CountQueries.{Resolves, HasItemName, IsQueryOf};
 
 use crate::pieces::next_piece;
 use crate::reading::Reading;
-use dr_nested::{Path, PathFault, Schema, find};
 use dr_memory::NoMemory;
+use dr_nested::{Path, PathFault, Schema, find};
 use std::alloc::{AllocError, Global};
 
 /// The greatest length of a query's text, in bytes.

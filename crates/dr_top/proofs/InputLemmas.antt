@@ -92,7 +92,7 @@ record_stops fs most number left rest bytes line before now (InputFault.Refused 
 record_stops fs most number left rest bytes line before now (InputFault.Refused n (LineProblem.Record w)) h g c l m calm = (
   calm,
   subst (λ (j : ℕ). RefusesNext fs most number left (record { line = j; fault = no_record (record_problem_view w) })) (sym h.0)
-  (refuses_record fs most number left rest bytes line (record_problem_view w) g h.1 c l m),
+      (refuses_record fs most number left rest bytes line (record_problem_view w) g h.1 c l m),
 )
 
 -- ---- behind the records read before

@@ -16,10 +16,7 @@ use std::alloc::{AllocFailed, Global};
 pub enum FieldFault {
     NoMemory,
     /// The FIELD of this number, counted from 0, is refused.
-    Refused {
-        number: usize,
-        problem: PathProblem,
-    },
+    Refused { number: usize, problem: PathProblem },
 }
 
 impl From<NoMemory> for FieldFault {

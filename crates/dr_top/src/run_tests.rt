@@ -1,4 +1,5 @@
-use crate::{USAGE, run};
+use crate::run;
+use dr_commands::USAGE;
 use dr_outside::{Keeper, MemSink, MemSource, OpenGate, Shelf};
 use std::alloc::{AllocError, Global};
 use std::test::Fail;

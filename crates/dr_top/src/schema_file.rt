@@ -58,7 +58,11 @@ impl From<SchemaFault> for SchemaFileFault {
 /// The bytes of a file that isn't longer than a schema may be.
 ///
 /// Errors: a longer file is refused as a schema; the keeper failed; want of memory.
-fn read_file<K: Keeper>(alloc: Global, keeper: &mut K, path: &str) -> Result<Vec<u8>, SchemaFileFault>
+fn read_file<K: Keeper>(
+    alloc: Global,
+    keeper: &mut K,
+    path: &str,
+) -> Result<Vec<u8>, SchemaFileFault>
     ensures bytes { IfOk result (λ v. IsFile (K.shows keeper.old).held path.now v.items) }
     ensures calm { OnOk result ((K.shows keeper.new).faults ≡ (K.shows keeper.old).faults) }
     ensures stops { IfErr result (SchemaFileStops path.now (K.shows keeper.old) (K.shows keeper.new)) }

@@ -1,6 +1,6 @@
 // Files on disk as a link and as a keeper. Neither tells what it holds.
 ghost use Rattle.std.specs.Prelude.{◌≡◌, ◌≢◌, ◌≤◌, Err, false, None};
-ghost use Rattle.dr_outside.specs.Faults.{Rose};
+ghost use Rattle.dr_outside.specs.Faults.{raised};
 
 use dr_outside::{Fault, Keeper, Link};
 use std::alloc::Global;
@@ -27,7 +27,7 @@ struct Opened<F> {
 
 // Counts a fault, unless memory ran out.
 fn counted<T>(faults: &mut u64, answer: io::Result<T>) -> Result<T, Fault>
-    ensures rose { result ≡ Err Fault.Failed → Rose faults.old faults.new }
+    ensures rose { result ≡ Err Fault.Failed → faults.new ≡ raised faults.old }
     ensures calm { result ≢ Err Fault.Failed → faults.new ≡ faults.old }
     ensures never_falls { faults.old ≤ faults.new }
 {
@@ -46,7 +46,7 @@ where
     R::File: FileExt,
 {
     pub fn new(alloc: Global, files: R) -> Self
-        ensures { ⟦<DirLink<R> as Link>⟧.faults result ≡ 0 }
+        ensures { (⟦<DirLink<R> as Link>⟧.shows result).faults ≡ 0 }
     {
         DirLink {
             alloc,
@@ -93,13 +93,7 @@ impl<R: Files> Link for DirLink<R>
 where
     R::File: FileExt,
 {
-    ghost held = { λ _. None };
-
-    ghost asked = { λ _. None };
-
-    ghost faults = { λ s. s.faults };
-
-    ghost is_steady = { λ _. false };
+    ghost shows = { λ s. record { held = None; asked = None; faults = s.faults; is_steady = false } };
 
     fn size(&mut self, path: &str) -> Result<u64, Fault> {
         let answer = self.file_size(path);
@@ -127,7 +121,7 @@ where
     R::File: FileExt,
 {
     pub fn new(alloc: Global, files: R) -> Self
-        ensures { ⟦<DirKeeper<R> as Link>⟧.faults result ≡ 0 }
+        ensures { (⟦<DirKeeper<R> as Link>⟧.shows result).faults ≡ 0 }
     {
         DirKeeper {
             link: DirLink::new(alloc, files),
@@ -139,13 +133,7 @@ impl<R: Files> Link for DirKeeper<R>
 where
     R::File: FileExt,
 {
-    ghost held = { λ _. None };
-
-    ghost asked = { λ _. None };
-
-    ghost faults = { λ s. s.link.faults };
-
-    ghost is_steady = { λ _. false };
+    ghost shows = { λ s. record { held = None; asked = None; faults = s.link.faults; is_steady = false } };
 
     fn size(&mut self, path: &str) -> Result<u64, Fault> {
         self.link.size(path)

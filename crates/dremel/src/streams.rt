@@ -13,18 +13,14 @@ pub struct Incoming<R> {
 
 impl<R: Read> Incoming<R> {
     pub fn new(reader: R) -> Self
-        ensures { ⟦<Incoming<R> as Source>⟧.faults result ≡ 0 }
+        ensures { (⟦<Incoming<R> as Source>⟧.shows result).faults ≡ 0 }
     {
         Incoming { reader, faults: 0 }
     }
 }
 
 impl<R: Read> Source for Incoming<R> {
-    ghost left = { λ _. None };
-
-    ghost faults = { λ s. s.faults };
-
-    ghost is_steady = { λ _. false };
+    ghost shows = { λ s. record { left = None; faults = s.faults; is_steady = false } };
 
     fn read(&mut self, buf: &mut [u8]) -> Result<usize, Failed> {
         match self.reader.read(buf) {
@@ -42,22 +38,26 @@ impl<R: Read> Source for Incoming<R> {
 pub struct Outgoing<W> {
     writer: W,
     faults: u64,
+    calls: u64,
 }
 
 impl<W: Write> Outgoing<W> {
     pub fn new(writer: W) -> Self
-        ensures { ⟦<Outgoing<W> as Sink>⟧.faults result ≡ 0 }
+        ensures { (⟦<Outgoing<W> as Sink>⟧.shows result).faults ≡ 0 }
     {
-        Outgoing { writer, faults: 0 }
+        Outgoing {
+            writer,
+            faults: 0,
+            calls: 0,
+        }
     }
 }
 
 impl<W: Write> Sink for Outgoing<W> {
-    ghost written = { λ _. None };
-
-    ghost faults = { λ s. s.faults };
+    ghost shows = { λ s. record { written = None; faults = s.faults; calls = s.calls } };
 
     fn write(&mut self, piece: &[u8]) -> Result<usize, Failed> {
+        self.calls = self.calls.saturating_add(1);
         match self.writer.write(piece) {
             Ok(count) if count > 0 || piece.is_empty() => Ok(count),
             _ => {

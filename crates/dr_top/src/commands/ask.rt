@@ -57,9 +57,14 @@ fn count_records<S: Source>(
     let mut lines = Lines::new(alloc)?;
     let mut number = 0;
     let mut total = 0;
-    'records: while let Some(node) =
-        next_record(alloc, schema, &mut lines, number, MOST_RECORDS, source)?
-    {
+    'records: while let Some(node) = next_record(
+        alloc,
+        schema,
+        &mut lines,
+        number,
+        MOST_RECORDS,
+        source,
+    )? {
         number += 1;
         total += count_values(steps, &node);
     }

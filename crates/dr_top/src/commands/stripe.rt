@@ -59,9 +59,14 @@ fn stripe_records<S: Source>(
     let mut striper = Striper::new(alloc, slice::from_ref(field))?;
     let mut lines = Lines::new(alloc)?;
     let mut number = 0;
-    'records: while let Some(node) =
-        next_record(alloc, schema, &mut lines, number, MOST_STRIPED, source)?
-    {
+    'records: while let Some(node) = next_record(
+        alloc,
+        schema,
+        &mut lines,
+        number,
+        MOST_STRIPED,
+        source,
+    )? {
         number += 1;
         striper.add(&node)?;
     }
