@@ -9,7 +9,7 @@ use Rattle.dr_meaning.specs.Ask.{count_of, count_of_text}
 use Rattle.dr_count.specs.declared.query.CountQuery.{CountQuery}
 use Rattle.dr_count.specs.QueryReading.{tokens}
 use Rattle.dr_count.specs.QueryState.{ReadsQuery, named_by}
-use Rattle.dr_count.specs.declared.reading.Reading.{Reading}
+use Rattle.dr_count.specs.declared.query_state.Reading.{Reading}
 use Rattle.dr_count.specs.CountQueries.{Resolves, IsQueryOf}
 
 pub text_too_long : (s : Schema) (bs : List ℕ) → 65536 < length bs → count_of s bs ≡ None

@@ -10,8 +10,8 @@ use Rattle.dr_meaning.specs.Path.{cut_at_dots, onto_first}
 use Rattle.dr_meaning.specs.QueryText.{Word, select_word, from_word, as_word, count_word, Sign, open_parenthesis, close_parenthesis, dot, semicolon, QueryToken, reserved, identifier, number, text, sign, bad, CountText, count_path}
 use Rattle.dr_count.specs.declared.pieces.Mark.{Mark}
 use Rattle.dr_count.specs.declared.pieces.Piece.{Piece}
-use Rattle.dr_count.specs.declared.reading.Expected.{Expected}
-use Rattle.dr_count.specs.declared.reading.Reading.{Reading}
+use Rattle.dr_count.specs.declared.query_state.Expected.{Expected}
+use Rattle.dr_count.specs.declared.query_state.Reading.{Reading}
 use Rattle.dr_count.specs.QueryReading.{tokens, mark_view, is_other_word, is_other_sign, starts_foreign, Reads}
 use Rattle.dr_count.specs.ItemNames.{fits_item}
 use Rattle.dr_count.specs.ExpectedMarks.{expected_after}

@@ -1,7 +1,7 @@
 -- What may stand behind the marks of a count query.
 use Rattle.std.specs.Prelude.{Option, Some, None}
 use Rattle.dr_count.specs.declared.pieces.Mark.{Mark}
-use Rattle.dr_count.specs.declared.reading.Expected.{Expected}
+use Rattle.dr_count.specs.declared.query_state.Expected.{Expected}
 
 -- what is expected behind a mark
 abbrev pub expected_after : Expected → Mark → Option Expected

@@ -2,7 +2,7 @@
 use Rattle.std.specs.Prelude.{Bool, true, false, Option, Some, None, string_bytes, String}
 use Rattle.std.specs.declared.alloc.Global.{Global}
 use Rattle.dr_meaning.specs.Schema.{is_name}
-use Rattle.dr_count.specs.declared.reading.Expected.{Expected}
+use Rattle.dr_count.specs.declared.query_state.Expected.{Expected}
 
 -- of the right form, if there is one
 abbrev pub has_name : Option (String Global) → Bool

@@ -4,8 +4,8 @@ use Rattle.dr_meaning.specs.Path.{cut_at_dots}
 use Rattle.dr_meaning.specs.QueryText.{select_word, from_word, as_word, count_word, open_parenthesis, dot, semicolon, QueryToken, reserved, identifier, sign, CountText, count_end, count_from, count_as, count_path, count_tokens}
 use Rattle.dr_count.specs.declared.pieces.Piece.{Piece}
 use Rattle.dr_count.specs.QueryReading.{tokens, mark_view}
-use Rattle.dr_count.specs.declared.reading.Expected.{Expected}
-use Rattle.dr_count.specs.declared.reading.Reading.{Reading}
+use Rattle.dr_count.specs.declared.query_state.Expected.{Expected}
+use Rattle.dr_count.specs.declared.query_state.Reading.{Reading}
 
 -- what the tokens that are left make of what has been read
 abbrev pub left_in : Expected → List (List ℕ) → Option (List ℕ) → List ℕ → List QueryToken → Option CountText

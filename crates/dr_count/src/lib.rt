@@ -4,7 +4,7 @@
 mod counting;
 mod pieces;
 mod query;
-mod reading;
+mod query_state;
 
 pub use counting::{count_line, count_values};
 pub use query::{CountQuery, LONGEST_QUERY, count_query};

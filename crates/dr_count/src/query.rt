@@ -9,7 +9,7 @@ ghost use Rattle.dr_count.specs.QueryState.{ReadsQuery, named_by};
 ghost use Rattle.dr_count.specs.CountQueries.{Resolves, HasItemName, IsQueryOf};
 
 use crate::pieces::next_piece;
-use crate::reading::Reading;
+use crate::query_state::Reading;
 use dr_memory::NoMemory;
 use dr_nested::{Path, PathFault, Schema, find};
 use std::alloc::{AllocError, Global};

@@ -5,7 +5,7 @@ mod fault;
 mod keys;
 mod leaf;
 mod line;
-mod reading;
+mod nodes;
 mod size;
 #[cfg(test)]
 mod tests;

@@ -10,7 +10,7 @@ ghost use Rattle.dr_nested.specs.Faults.{Gives};
 ghost use Rattle.dr_json.specs.Faults.{record_fault_view};
 
 use crate::fault::{RecordFault, RecordProblem};
-use crate::reading::node_of;
+use crate::nodes::node_of;
 use crate::size::node_size;
 use dr_nested::{Field, Node, Schema};
 use serde_json::Value as Json;

@@ -27,12 +27,12 @@ pub enum SchemaProblem {
     TooManyLeaves,
 }
 
-/// Why a schema text gives no schema: its first problem, with its byte place, or want of memory.
+/// Why a schema text gives no schema: its first problem, with its byte offset, or want of memory.
 #[derive(Clone, Copy, PartialEq, Eq, Debug)]
 pub enum SchemaFault {
     NoMemory,
     Refused {
-        place: usize,
+        offset: usize,
         problem: SchemaProblem,
     },
 }

@@ -9,7 +9,7 @@ mod looking;
 mod parsing;
 mod path;
 mod projecting;
-mod reading;
+mod schema_tokens;
 mod record;
 mod schema;
 mod shape;

@@ -29,17 +29,17 @@ fn goes_on(word: &[u8], byte: u8) -> bool
     }
 }
 
-/// The fault of a stop at a place.
-fn fault_at(stop: Stop, place: usize) -> SchemaFault
-    ensures { schema_fault_view result ≡ option_map (λ p. record { place = place; problem = p }) (stop_view stop) }
+/// The fault of a stop at a byte offset.
+fn fault_at(stop: Stop, offset: usize) -> SchemaFault
+    ensures { schema_fault_view result ≡ option_map (λ p. record { place = offset; problem = p }) (stop_view stop) }
 {
     match stop {
         Stop::NoMemory => SchemaFault::NoMemory,
-        Stop::Problem(problem) => SchemaFault::Refused { place, problem },
+        Stop::Problem(problem) => SchemaFault::Refused { offset, problem },
     }
 }
 
-/// Reads the word that ends before a place; no bytes are no word.
+/// Reads the word that ends before a byte offset; no bytes are no word.
 fn read_word(
     alloc: Global,
     reading: &mut Reading,
@@ -67,9 +67,9 @@ fn read_byte(
     alloc: Global,
     reading: &mut Reading,
     byte: u8,
-    place: usize,
+    offset: usize,
 ) -> Result<(), SchemaFault>
-    ensures { ReadsPiece (text_meaning.with_byte place byte) (reading_view reading.old) (reading_view reading.new) result }
+    ensures { ReadsPiece (text_meaning.with_byte offset byte) (reading_view reading.old) (reading_view reading.new) result }
 {
     let outcome = match byte {
         b' ' | b'\t' | b'\r' | b'\n' => return Ok(()),
@@ -80,7 +80,7 @@ fn read_byte(
     };
     match outcome {
         Ok(()) => Ok(()),
-        Err(stop) => Err(fault_at(stop, place)),
+        Err(stop) => Err(fault_at(stop, offset)),
     }
 }
 
@@ -90,14 +90,14 @@ fn read_piece(
     reading: &mut Reading,
     word: &[u8],
     byte: u8,
-    place: usize,
+    offset: usize,
 ) -> Result<(), SchemaFault>
     requires name { list_all tree.continues_name word.now ≡ true }
-    requires within { length word.now ≤ place }
-    ensures { ReadsPiece (λ ts. text_meaning.with_word place word.now (text_meaning.with_byte place byte ts)) (reading_view reading.old) (reading_view reading.new) result }
+    requires within { length word.now ≤ offset }
+    ensures { ReadsPiece (λ ts. text_meaning.with_word offset word.now (text_meaning.with_byte offset byte ts)) (reading_view reading.old) (reading_view reading.new) result }
 {
-    match read_word(alloc, reading, word, place) {
-        Ok(()) => read_byte(alloc, reading, byte, place),
+    match read_word(alloc, reading, word, offset) {
+        Ok(()) => read_byte(alloc, reading, byte, offset),
         Err(fault) => Err(fault),
     }
 }
@@ -108,11 +108,11 @@ fn read_text(alloc: Global, text: &[u8]) -> Result<Reading, SchemaFault>
 {
     let mut reading = Reading::start(alloc);
     let mut begun = 0;
-    'bytes: for place in 0..text.len() {
-        let word = &text[begun..place];
-        if !goes_on(word, text[place]) {
-            match read_piece(alloc, &mut reading, word, text[place], place) {
-                Ok(()) => begun = place + 1,
+    'bytes: for offset in 0..text.len() {
+        let word = &text[begun..offset];
+        if !goes_on(word, text[offset]) {
+            match read_piece(alloc, &mut reading, word, text[offset], offset) {
+                Ok(()) => begun = offset + 1,
                 Err(fault) => return Err(fault),
             }
         }
@@ -126,13 +126,13 @@ fn read_text(alloc: Global, text: &[u8]) -> Result<Reading, SchemaFault>
 /// The schema of a text: `message NAME { fields }`, where a field is `REPETITION KIND NAME ;` or
 /// `REPETITION group NAME { fields } [;]`.
 ///
-/// Errors: the text's first problem, at its byte place; want of memory.
+/// Errors: the text's first problem, at its byte offset; want of memory.
 pub fn parse_schema(alloc: Global, text: &[u8]) -> Result<Schema, SchemaFault>
     ensures { Gives schema_view schema_fault_view (text_meaning.parse_schema text.now) result }
 {
     if text.len() > LONGEST_SCHEMA {
         return Err(SchemaFault::Refused {
-            place: LONGEST_SCHEMA,
+            offset: LONGEST_SCHEMA,
             problem: SchemaProblem::TooLong,
         });
     }
@@ -153,7 +153,7 @@ pub fn parse_schema(alloc: Global, text: &[u8]) -> Result<Schema, SchemaFault>
                 fields,
             }),
             _ => Err(SchemaFault::Refused {
-                place: text.len(),
+                offset: text.len(),
                 problem: SchemaProblem::Syntax,
             }),
         },

@@ -17,8 +17,8 @@ fn fault_of(alloc: Global, text: &[u8]) -> Option<SchemaFault> {
     }
 }
 
-fn refused(place: usize, problem: SchemaProblem) -> Option<SchemaFault> {
-    Some(SchemaFault::Refused { place, problem })
+fn refused(offset: usize, problem: SchemaProblem) -> Option<SchemaFault> {
+    Some(SchemaFault::Refused { offset, problem })
 }
 
 #[test]
@@ -36,8 +36,8 @@ fn a_token_with_which_no_schema_goes_on_is_refused(rt: HostRuntime) {
         ("message T { required int64 x; } x", 32),
         ("message T { required int64 x; } ;", 32),
     ];
-    for (text, place) in rows {
-        let fault = refused(place, SchemaProblem::Syntax);
+    for (text, offset) in rows {
+        let fault = refused(offset, SchemaProblem::Syntax);
         assert_eq!(rt; fault_of(rt.alloc(), text.as_bytes()), fault, "at {text:?}");
     }
     let fault = refused(12, SchemaProblem::Syntax);
@@ -63,8 +63,8 @@ fn a_field_against_the_rules_is_refused(rt: HostRuntime) {
             DuplicateName,
         ),
     ];
-    for (text, place, problem) in rows {
-        let fault = refused(place, problem);
+    for (text, offset, problem) in rows {
+        let fault = refused(offset, problem);
         assert_eq!(rt; fault_of(rt.alloc(), text.as_bytes()), fault, "at {text:?}");
     }
 }

@@ -26,9 +26,9 @@ pub enum LineProblem {
 /// What is refused, in the order in which it is looked at.
 #[derive(Clone, Copy, PartialEq, Eq, Debug)]
 pub enum Refusal {
-    /// The schema's first problem, at its byte place.
+    /// The schema's first problem, at its byte offset.
     Schema {
-        place: usize,
+        offset: usize,
         problem: SchemaProblem,
     },
     /// The first FIELD that is refused, counted from 0.
@@ -112,12 +112,12 @@ fn push_number(report: &mut Report, number: u64)
 }
 
 /// `refused schema at B: WHAT`.
-fn schema_report(place: usize, problem: SchemaProblem) -> Report
-    ensures { result ≡ schema_refusal_text (record { place = place; problem = problem_view problem }) }
+fn schema_report(offset: usize, problem: SchemaProblem) -> Report
+    ensures { result ≡ schema_refusal_text (record { place = offset; problem = problem_view problem }) }
 {
     let mut report = Report::new();
     report.push("refused schema at ");
-    push_number(&mut report, place as u64);
+    push_number(&mut report, offset as u64);
     report.push(": ");
     report.push(schema_word(problem));
     report.push("\n");
@@ -166,7 +166,7 @@ impl Refusal {
         ensures { result ≡ refusal_text (refusal_view self) }
     {
         match self {
-            Refusal::Schema { place, problem } => schema_report(place, problem),
+            Refusal::Schema { offset, problem } => schema_report(offset, problem),
             Refusal::Field { number, problem } => field_report(number, problem),
             Refusal::Query => plain_report("refused query at 0: Syntax\n"),
             Refusal::Line { number, problem } => line_report(number, problem),

@@ -20,7 +20,7 @@ pub enum SchemaFileFault {
     Keeper,
     /// The file's text is no schema: its first problem, with its byte offset.
     Refused {
-        place: usize,
+        offset: usize,
         problem: SchemaProblem,
     },
 }
@@ -50,7 +50,7 @@ impl From<SchemaFault> for SchemaFileFault {
     fn from(fault: SchemaFault) -> SchemaFileFault {
         match fault {
             SchemaFault::NoMemory => SchemaFileFault::NoMemory,
-            SchemaFault::Refused { place, problem } => SchemaFileFault::Refused { place, problem },
+            SchemaFault::Refused { offset, problem } => SchemaFileFault::Refused { offset, problem },
         }
     }
 }
@@ -72,7 +72,7 @@ fn read_file<K: Keeper>(
     let size = keeper.size(path)?;
     if size > LONGEST_SCHEMA as u64 {
         return Err(SchemaFileFault::Refused {
-            place: LONGEST_SCHEMA,
+            offset: LONGEST_SCHEMA,
             problem: SchemaProblem::TooLong,
         });
     }

@@ -51,8 +51,8 @@ impl From<SchemaFileFault> for Stop {
         match fault {
             SchemaFileFault::NoMemory => Stop::NoMemory,
             SchemaFileFault::Keeper => Stop::Keeper,
-            SchemaFileFault::Refused { place, problem } => {
-                Stop::Refused(Refusal::Schema { place, problem })
+            SchemaFileFault::Refused { offset, problem } => {
+                Stop::Refused(Refusal::Schema { offset, problem })
             }
         }
     }

@@ -10,8 +10,8 @@ use Rattle.dr_nested.proofs.parsing.read_text.Goals.{then-not-goes_on+in-Ok, els
 pub bytes-preserved : goal.bytes-preserved
 bytes-preserved c =
     let text = c.args.text.now in
-    let i = c.bytes.place in
-    let more : c.bytes.place < length c.args.text.now = omega arith in
+    let i = c.bytes.offset in
+    let more : c.bytes.offset < length c.args.text.now = omega arith in
     elim c.if-not-goes_on.branch [
       | then-not-goes_on+in-Ok w ↦ record {
         within = omega arith;
@@ -33,5 +33,5 @@ bytes-preserved c =
 
 pub returns-in-Ok-read_word : goal.returns-in-Ok-read_word
 returns-in-Ok-read_word c =
-    rest_ends c.args.text.now c.bytes.begun c.bytes.place (reading_view c.bytes.reading) (reading_view c.read_word.new.reading)
+    rest_ends c.args.text.now c.bytes.begun c.bytes.offset (reading_view c.bytes.reading) (reading_view c.read_word.new.reading)
     (read_tokens (length c.args.text.now) (tokens_of c.args.text.now) reading_start) (omega arith) c.in-Ok-read_word.ensures c.bytes.invariant.rest

@@ -1,7 +1,7 @@
 use Rattle.std.proofs.Common.{sym, string_bytes}
 use Rattle.dr_meaning.specs.Path.{cut_at_dots}
 use Rattle.dr_count.proofs.StateLemmas.{mark_moves}
-use Rattle.dr_count.proofs.reading.Reading.on_mark.Goals as goal
+use Rattle.dr_count.proofs.query_state.Reading.on_mark.Goals as goal
 
 pub returns-in-Some : goal.returns-in-Some
 returns-in-Some c =

@@ -2,7 +2,7 @@ use Rattle.std.proofs.Common.{ap, ◌∙◌, string_bytes, ◌++◌, List, ℕ}
 use Rattle.std.specs.Prelude.{option_map}
 use Rattle.dr_meaning.specs.Path.{cut_at_dots}
 use Rattle.dr_count.proofs.StateLemmas.{first_part, next_part}
-use Rattle.dr_count.proofs.reading.Reading.on_name.Goals as goal
+use Rattle.dr_count.proofs.query_state.Reading.on_name.Goals as goal
 
 pub returns-in_ok-self-in-FirstName : goal.returns-in_ok-self-in-FirstName
 returns-in_ok-self-in-FirstName c =

@@ -6,7 +6,7 @@ use Rattle.dr_meaning.specs.JsonRecord as line
 use Rattle.dr_nested.specs.Views.{fields_view, shape_view, instances_view, instance_view, slots_view}
 use Rattle.dr_nested.specs.declared.record.Slot.{Slot}
 use Rattle.dr_json.proofs.ReadingLemmas.{element_read, instances_pushed, slots_pushed, shape_valid, rest_valid, field_fault, field_read, elements_end, fields_end, fault_passes, read_field, read_found, gives_from, shape_depth-field}
-use Rattle.dr_json.proofs.reading.+reading.Goals as goal
+use Rattle.dr_json.proofs.nodes.+reading.Goals as goal
 
 pub elements_of-loop-item-preserved : goal.elements_of-loop-item-preserved
 elements_of-loop-item-preserved t c =

@@ -4,7 +4,7 @@ use Rattle.dr_meaning.specs.JsonRecord as line
 use Rattle.dr_meaning.specs.Schema.{is_group, depth, shape_depth}
 use Rattle.dr_nested.specs.Views.{fields_view, shape_view, slots_view, instances_view}
 use Rattle.dr_json.proofs.ReadingLemmas.{behind_instances, behind_slots}
-use Rattle.dr_json.proofs.reading.+reading.Given as goal
+use Rattle.dr_json.proofs.nodes.+reading.Given as goal
 
 -- ---- how deep the schema still goes, and then which function calls which at one depth
 
