@@ -1,4 +1,4 @@
-use Rattle.std.proofs.Common.{◌≡◌, ℕ, zero, suc, ◌<◌, List, [], ◌∷◌, get_or, refl, sym, subst, ap, ◌∙◌, true, arith}
+use Rattle.std.proofs.Common.{◌≡◌, ℕ, zero, suc, List, [], ◌∷◌, refl, sym, subst, ap, ◌∙◌, true, arith}
 use Rattle.std.specs.List.{list_all}
 use lib.Utf8.{encode}
 use Rattle.std.specs.Str.{is_utf8, chars}
@@ -6,7 +6,7 @@ use Rattle.std.proofs.lemmas.Str.{IsUtf8-from_is_utf8}
 use Rattle.dr_meaning.specs.Schema.{text_kind}
 use Rattle.dr_formats.specs.Plain.{is_writable}
 use Rattle.dr_plain.specs.declared.values.TextPlace.{TextPlace}
-use Rattle.dr_plain.specs.Views.{IsText, AreTexts, text_values}
+use Rattle.dr_plain.specs.Views.{AreTexts, text_values}
 use Rattle.dr_plain.proofs.tests.texts_are_written_behind_their_lengths.Goals as goal
 
 abbrev places : List TextPlace
