@@ -54,6 +54,36 @@ fn runs_are_decoded(rt: HostRuntime) -> Result<(), Fail> {
 }
 
 #[test]
+fn a_packed_group_may_be_cut_behind_what_is_wanted(rt: HostRuntime) -> Result<(), Fail> {
+    let alloc = rt.alloc();
+    let cuts: [(&[u8], usize); 5] = [
+        (&[], 0),
+        (&[3], 0),
+        (&[3, 0x88], 2),
+        (&[3, 0x88, 0xc6], 5),
+        (PACKED, 8),
+    ];
+    for (bytes, most) in cuts {
+        for count in 0..9 {
+            let mut out = vec![in alloc; 77; count]?;
+            let mut levels = vec![in alloc; 77; count]?;
+            if count <= most {
+                assert_eq!(rt; decode(bytes, 3, &mut out), Ok(()), "{bytes:?} {count}");
+                assert_eq!(rt; decode_levels(bytes, 3, &mut levels), Ok(()));
+                let values = [0u32, 1, 2, 3, 4, 5, 6, 7];
+                assert_eq!(rt; Some(out.as_slice()), values.get(..count));
+                let values = [0u8, 1, 2, 3, 4, 5, 6, 7];
+                assert_eq!(rt; Some(levels.as_slice()), values.get(..count));
+            } else {
+                assert_eq!(rt; decode(bytes, 3, &mut out), Err(Short), "{bytes:?} {count}");
+                assert_eq!(rt; decode_levels(bytes, 3, &mut levels), Err(Short));
+            }
+        }
+    }
+    Ok(())
+}
+
+#[test]
 fn runs_come_one_by_one(rt: HostRuntime) -> Result<(), Fail> {
     let huge = [0x80, 0x80, 0x80, 0x80, 0x80, 0x80, 0x80, 0x80, 0x80, 1, 7];
     let mut runs = Runs::new(&huge, 3);

@@ -15,10 +15,7 @@ pub(crate) fn append(out: &mut Vec<u8>, bytes: &[u8]) -> Result<(), NoMemory>
     ensures written { OnOk result ((out.new).items ≡ (out.old).items ++ bytes.now) }
     ensures stays { OnErr result ((out.new).items ≡ (out.old).items) }
 {
-    match out.extend_from_slice(bytes) {
-        Ok(()) => Ok(()),
-        Err(_) => Err(NoMemory),
-    }
+    Ok(out.extend_from_slice(bytes)?)
 }
 
 /// Appends a repeat of so many of a value.

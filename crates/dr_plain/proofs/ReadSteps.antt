@@ -1,11 +1,11 @@
 -- Values read one after another.
-use Rattle.std.proofs.Common.{◌≡◌, ℕ, zero, suc, ◌+◌, ◌-◌, ◌*◌, ◌/◌, ◌%◌, ◌^◌, ◌≤◌, ◌<◌, List, [], ◌∷◌, ◌++◌, map, length, take, drop, get_or, Bool, true, false, refl, sym, ap, ap₂, ◌∙◌, subst, arith, append_assoc, Option, Some, None, ◌⊎◌, inl, inr, ℤ, pos, negsuc, Result, Ok, Err}
+use Rattle.std.proofs.Common.{◌≡◌, ℕ, zero, suc, ◌+◌, ◌-◌, ◌*◌, ◌/◌, ◌%◌, ◌^◌, ◌≤◌, ◌<◌, List, [], ◌∷◌, ◌++◌, map, length, take, drop, set, replicate, get_or, Bool, true, false, refl, sym, ap, ap₂, ◌∙◌, subst, arith, append_assoc, Option, Some, None, ◌⊎◌, inl, inr, ℤ, pos, negsuc, Result, Ok, Err}
 use Rattle.std.specs.Prelude.{◌==◌, nat_lt, if◌then◌else◌, IfSome, is_ok, is_err}
 use Rattle.std.specs.Int.{w32, w64, from_le_bytes, cast_signed}
 use Rattle.std.specs.Simd.{first_chunks}
 use Rattle.std.specs.Str.{IsUtf8, is_utf8, IsCharBoundary}
 use Rattle.std.proofs.lemmas.Bool.{le-leb, lt-leb, cases_lt, false≢true}
-use Rattle.std.proofs.lemmas.List.{length-drop, length-take-le, take-take, drop-take, drop_more, take_all, append-nil, map_push, map_more, map-append}
+use Rattle.std.proofs.lemmas.List.{length-drop, length-take-le, take-take, drop-take, drop_more, take_all, append-nil, map_push, map_more, map-append, take_more_set, take_at, length-append}
 use Rattle.std.proofs.lemmas.List.Elements.{All-push}
 use Rattle.std.proofs.lemmas.Str.{is_utf8-from_IsUtf8, IsUtf8-from_is_utf8, IsUtf8-between}
 use Rattle.std.proofs.lemmas.Nat.{pow-add, shr-shr, pow_pos}
@@ -17,7 +17,7 @@ use Rattle.dr_formats.specs.Plain.{PlainFault, too_short, bad_text, from_complem
 use Rattle.dr_bytes.specs.Numbers.{IsFault}
 use Rattle.dr_bytes.proofs.BitLemmas.{AreBytes, number_behind, unpacked_more, word_of, word_of_four}
 use Rattle.dr_plain.specs.declared.values.TextPlace.{TextPlace}
-use Rattle.dr_plain.specs.Views.{Appends, BeginsWith, text_at, text_values, AreTexts, IsText}
+use Rattle.dr_plain.specs.Views.{Appends, BeginsWith, int64_of, text_at, text_values, AreTexts, IsText}
 
 -- ---- one value, and then the others
 
@@ -125,6 +125,29 @@ pub numbers_all : (bits n : ℕ) (bs : List ℕ) (chunks : List (List ℕ)) (old
 numbers_all bits n bs chunks old out i e l h s =
     let r = numbers_read bits n bs l in
     appends (repeatedly (plain_number bits) n bs) (map (number_at bits) (first_chunks (bits / 8) n bs)) (map int_value old) (map int_value out) r.0 r.1 (s ∙ ap (λ xs. map int_value old ++ map (number_at bits) xs) (take_all i chunks h ∙ e))
+
+-- numbers of eight bytes that are put behind others all at once
+filled_are : (n : ℕ) (bs : List ℕ) → n * 8 ≤ length bs → map int_value (map int64_of (first_chunks 8 n bs)) ≡ map (number_at 64) (first_chunks 8 n bs)
+filled_are zero bs h = refl
+filled_are (suc n) bs h = ap₂ (λ v vs. v ∷ vs) (ap int_value (eight_is (take 8 bs) (length-take-le 8 bs (omega (arith, h))))) (filled_are n (drop 8 bs) (omega (arith, h, length-drop 8 bs)))
+
+pub numbers_filled : (n : ℕ) (bs : List ℕ) (chunks : List (List ℕ)) (old out : List ℤ) → chunks ≡ first_chunks 8 n bs → n * 8 ≤ length bs → out ≡ old ++ map int64_of chunks → Appends (plain_read (repeatedly (plain_number 64) n bs)) (map int_value old) (map int_value out)
+numbers_filled n bs chunks old out e l g =
+    let r = numbers_read 64 n bs l in
+    appends (repeatedly (plain_number 64) n bs) (map (number_at 64) (first_chunks 8 n bs)) (map int_value old) (map int_value out) r.0 r.1 (ap (map int_value) g ∙ (map-append int_value old (map int64_of chunks) ∙ ap (λ xs. map int_value old ++ xs) (ap (λ cs. map int_value (map int64_of cs)) e ∙ filled_are n bs l)))
+
+pub fill_more : (chunks : List (List ℕ)) (out : List ℤ) (i : ℕ) (z : ℤ) → i < length chunks → i < length out → z ≡ int64_of (get_or chunks i []) → take i out ≡ map int64_of (take i chunks) → take (i + 1) (set out i z) ≡ map int64_of (take (i + 1) chunks)
+fill_more chunks out i z h l e s = take_more_set out i z l ∙ (ap₂ (λ xs x. xs ++ x ∷ []) s e ∙ sym (map_more int64_of chunks i [] h))
+
+-- what was put into the room behind the others
+pub put_behind : (old D R F P Q : List ℤ) (z : ℤ) (l k start count : ℕ) → D ≡ R → R ≡ take (start + count) old ++ replicate k z → start ≡ length old → l ≡ start + count → length F ≡ count → take l ((take start D ++ (F ++ P)) ++ Q) ≡ old ++ F
+put_behind old D R F P Q z l k start count d r s m f =
+    let a : take start D ≡ old = ap (take start) (d ∙ (r ∙ ap (λ xs. xs ++ replicate k z) (take_all (start + count) old (omega (arith, s))))) ∙ take_at old (replicate k z) start (sym s) in
+    ap (λ xs. take l ((xs ++ (F ++ P)) ++ Q)) a ∙ (ap (λ xs. take l (xs ++ Q)) (sym (append_assoc old F P)) ∙ (ap (take l) (append_assoc (old ++ F) P Q) ∙ take_at (old ++ F) (P ++ Q) l (length-append old F ∙ omega (arith, s, m, f))))
+
+pub where_no_error : {X T E : Type 0} (r : Result T E) (new some old : X) → false ≡ is_err r → new ≡ (if is_ok r then some else old) → new ≡ some
+where_no_error (Ok t) new some old h e = e
+where_no_error (Err t) new some old h e = absurd (false≢true h)
 
 -- ---- truth values
 

@@ -1,6 +1,7 @@
 -- What values and faults stand for.
-use Rattle.std.specs.Prelude.{◌≡◌, ◌≤◌, ◌+◌, ℕ, List, map, take, drop, length, ◌++◌, Option, Some, None, IfSome, ⊤}
+use Rattle.std.specs.Prelude.{◌≡◌, ◌≤◌, ◌+◌, ℕ, ℤ, List, map, take, drop, length, ◌++◌, Option, Some, None, IfSome, ⊤}
 use Rattle.std.specs.Str.{IsUtf8}
+use Rattle.std.specs.Int.{w64, from_le_bytes, cast_signed}
 use Rattle.std.specs.List.{All}
 use Rattle.dr_meaning.specs.Record.{Value, bool_value, int_value, text_value}
 use Rattle.dr_formats.specs.Reading.{Reading}
@@ -51,6 +52,10 @@ IsFaultOf e r = IfSome (plain_fault_view e) (λ f. IsFault f r)
 abbrev pub Appends : Option (List Value) → List Value → List Value → Type 0
 Appends None before after = ⊥
 Appends (Some vs) before after = after ≡ before ++ vs
+
+-- the signed number of eight bytes
+abbrev pub int64_of : List ℕ → ℤ
+int64_of bytes = cast_signed w64 (from_le_bytes w64 bytes)
 
 -- the values so far are still there, with others behind them
 abbrev pub BeginsWith : {A : Type 0} → List A → List A → Type 0

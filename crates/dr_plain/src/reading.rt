@@ -1,10 +1,10 @@
 //! Values of a fixed size, read in bulk.
 
-ghost use Rattle.std.specs.Prelude.{◌≡◌, map, OnOk, OnErr, IfErr};
+ghost use Rattle.std.specs.Prelude.{◌≡◌, length, map, OnOk, OnErr, IfErr};
 ghost use Rattle.dr_meaning.specs.Schema.{bool_kind, int32_kind, int64_kind};
 ghost use Rattle.dr_meaning.specs.Record.{bool_value, int_value};
 ghost use Rattle.dr_formats.specs.Plain.{plain, plain_values};
-ghost use Rattle.dr_plain.specs.Views.{Appends, IsFaultOf};
+ghost use Rattle.dr_plain.specs.Views.{Appends, IsFaultOf, int64_of};
 
 use crate::values::PlainFault;
 
@@ -62,12 +62,21 @@ pub fn append_int64s(bytes: &[u8], count: usize, out: &mut Vec<i64>) -> Result<(
     if bytes.len() / 8 < count {
         return Err(PlainFault::Short);
     }
-    if out.reserve(count).is_err() {
+    let start = out.len();
+    if out.resize(start + count, 0).is_err() {
         return Err(PlainFault::NoMemory);
     }
     let (numbers, _) = bytes[..8 * count].as_chunks::<8>();
-    'numbers: for number in numbers {
-        out.push_reserved(i64::from_le_bytes(*number));
-    }
+    fill_int64s(numbers, &mut out[start..]);
     Ok(())
+}
+
+/// Puts 64-bit numbers into the place of others, as many.
+fn fill_int64s(numbers: &[[u8; 8]], out: &mut [i64])
+    requires { length out.old ≡ length numbers.now }
+    ensures { out.new ≡ map int64_of numbers.now }
+{
+    'numbers: for index in 0..out.len() {
+        out[index] = i64::from_le_bytes(numbers[index]);
+    }
 }

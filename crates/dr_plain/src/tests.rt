@@ -185,3 +185,26 @@ fn values_are_written(rt: HostRuntime) -> Result<(), Fail> {
     assert_eq!(rt; out.as_slice(), [2, 1, 0, 0, 0, 0, 0, 0].as_slice());
     Ok(())
 }
+
+#[test]
+fn texts_are_written_behind_their_lengths(rt: HostRuntime) -> Result<(), Fail> {
+    let places = [
+        TextPlace {
+            start: 1,
+            length: 2,
+        },
+        TextPlace {
+            start: 3,
+            length: 0,
+        },
+    ];
+    let written = [2, 0, 0, 0, b'b', b'c', 0, 0, 0, 0];
+    let mut out = Vec::new(rt.alloc());
+    write_texts(&places, b"abc", &mut out).or(Err("memory"))?;
+    assert_eq!(rt; out.as_slice(), written.as_slice());
+    out.clear();
+    let values = Values::Texts(Vec::from_array(rt.alloc(), places)?);
+    write_plain(Kind::Text, &values, b"abc", &mut out).or(Err("memory"))?;
+    assert_eq!(rt; out.as_slice(), written.as_slice());
+    Ok(())
+}

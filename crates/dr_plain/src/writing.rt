@@ -19,9 +19,7 @@ pub fn write_bools(values: &[bool], out: &mut Vec<u8>) -> Result<(), NoMemory>
     ensures stays { OnErr result ((out.new).items ≡ (out.old).items) }
 {
     let length = values.len() / 8 + usize::from(values.len() % 8 > 0);
-    if out.reserve(length).is_err() {
-        return Err(NoMemory);
-    }
+    out.reserve(length)?;
     let mut done = 0;
     'bytes: while done < values.len() {
         out.push_reserved(byte_of(&values[done..]));
@@ -88,9 +86,7 @@ pub fn write_text(text: &[u8], out: &mut Vec<u8>) -> Result<(), NoMemory>
     ensures stays { OnErr result ((out.new).items ≡ (out.old).items) }
 {
     let head = (text.len() as u32).to_le_bytes();
-    if text.len() > usize::MAX - 4 || out.reserve(4 + text.len()).is_err() {
-        return Err(NoMemory);
-    }
+    out.reserve(4 + text.len())?;
     out.extend_from_slice(&head).unwrap();
     out.extend_from_slice(text).unwrap();
     Ok(())
