@@ -9,9 +9,9 @@ mod looking;
 mod parsing;
 mod path;
 mod projecting;
-mod schema_tokens;
 mod record;
 mod schema;
+mod schema_tokens;
 mod shape;
 mod state;
 #[cfg(test)]

@@ -50,7 +50,10 @@ impl From<SchemaFault> for SchemaFileFault {
     fn from(fault: SchemaFault) -> SchemaFileFault {
         match fault {
             SchemaFault::NoMemory => SchemaFileFault::NoMemory,
-            SchemaFault::Refused { offset, problem } => SchemaFileFault::Refused { offset, problem },
+            SchemaFault::Refused { offset, problem } => SchemaFileFault::Refused {
+                offset,
+                problem,
+            },
         }
     }
 }
