@@ -13,7 +13,8 @@ use Rattle.dr_meaning.proofs.MeaningLemmas.{column_of_projections}
 use Rattle.dr_nested.specs.Views.{node_view}
 use Rattle.dr_nested.specs.declared.path.Path.{Path}
 use Rattle.dr_nested.specs.declared.record.Node as code
-use Rattle.dr_assemble.specs.Restoring.{strips, restored_records}
+use Rattle.dr_assemble.specs.Restoring.{strips}
+use Rattle.dr_assemble.proofs.ByPaths.{restored_records}
 use Rattle.dr_assemble.specs.Assembly.{HasColumns}
 use Rattle.dr_assemble.specs.Views.{paths_view, nodes_view, columns_at, Restores}
 use Rattle.dr_assemble.specs.declared.fault.AssembleFault.{AssembleFault}
@@ -34,11 +35,11 @@ or-right : (a b : Bool) → b ≡ true → (a || b) ≡ true
 or-right true b h = refl
 or-right false b h = h
 
-leads_first : (p : List Step) (F : List (List Step)) → leads p (p ∷ F) ≡ true
+pub leads_first : (p : List Step) (F : List (List Step)) → leads p (p ∷ F) ≡ true
 leads_first [] F = refl
 leads_first (s ∷ p) F = ap (λ b. b || list_any (begins_with (s ∷ p)) F) (begins_with-itself (s ∷ p))
 
-leads_later : (q p : List Step) (F : List (List Step)) → leads q F ≡ true → leads q (p ∷ F) ≡ true
+pub leads_later : (q p : List Step) (F : List (List Step)) → leads q F ≡ true → leads q (p ∷ F) ≡ true
 leads_later [] p F h = refl
 leads_later (s ∷ q) p F h = or-right (begins_with (s ∷ q) p) (list_any (begins_with (s ∷ q)) F) h
 
@@ -55,12 +56,12 @@ all_lead : (F : List (List Step)) → AllLead F F
 all_lead [] = tt
 all_lead (p ∷ F) = (leads_first p F, all_lead_later F F p (all_lead F))
 
-columns-of_projections : (F G : List (List Step)) (R : List Node) → AllLead G F → map (λ (p : List Step). column p (map (project F) R)) G ≡ map (λ (p : List Step). column p R) G
+pub columns-of_projections : (F G : List (List Step)) (R : List Node) → AllLead G F → map (λ (p : List Step). column p (map (project F) R)) G ≡ map (λ (p : List Step). column p R) G
 columns-of_projections F [] R h = refl
 columns-of_projections F (p ∷ G) R h = ap₂ (λ (c : List Triplet) (C : List (List Triplet)). c ∷ C) (column_of_projections F p R h.0) (columns-of_projections F G R h.1)
 
 -- the projections of records have their columns
-columns_kept : (F : List (List Step)) (R : List Node) → map (λ (p : List Step). column p (map (project F) R)) F ≡ map (λ (p : List Step). column p R) F
+pub columns_kept : (F : List (List Step)) (R : List Node) → map (λ (p : List Step). column p (map (project F) R)) F ≡ map (λ (p : List Step). column p R) F
 columns_kept F R = columns-of_projections F F R (all_lead F)
 
 -- ---- both directions

@@ -9,7 +9,8 @@ use Rattle.dr_meaning.specs.Record as record_tree
 use Rattle.dr_meaning.specs.Record.{Value, bool_value, int_value, text_value, Node, no_slots, slot, gap, Instances, no_instances, instance, Instance, atom, inner, is_of_kind, count_instances, fits_repetition, all_instances, is_record, is_instance, slot_for, project, project_all, project_one}
 use Rattle.dr_meaning.specs.Column.{Triplet}
 use Rattle.dr_nested.specs.Views.{instances_of}
-use Rattle.dr_assemble.specs.Restoring.{Strip, here_if, here_strip, strips_here, there_if, there_strip, strips_there, count_pieces, first_pieces, other_pieces, before, restored_each, first_definition, first_strip_value, restored_instances, restored_slot, onto_node, slot_before, restored_atom, restored, restored_one, has_rows, restored_records}
+use Rattle.dr_assemble.specs.Restoring.{Strip, count_pieces, first_pieces, other_pieces, before, restored_each, first_definition, first_strip_value, restored_instances, restored_slot, onto_node, slot_before, restored_atom, has_rows}
+use Rattle.dr_assemble.proofs.ByPaths.{here_if, here_strip, strips_here, there_if, there_strip, strips_there, restored, restored_one, restored_records}
 
 -- ---- the paths of strips
 
@@ -24,7 +25,7 @@ rests-here_strip : (p : List Step) (ts : List Triplet) (S : List Strip) (F : Lis
 rests-here_strip [] ts S F e = e
 rests-here_strip (s ∷ p) ts S F e = rests-here_if s.place p ts S (record_tree.here F) e
 
-rests-here : (S : List Strip) → rests (strips_here S) ≡ record_tree.here (rests S)
+pub rests-here : (S : List Strip) → rests (strips_here S) ≡ record_tree.here (rests S)
 rests-here [] = refl
 rests-here (g ∷ S) = rests-here_strip g.rest g.triplets (strips_here S) (rests S) (rests-here S)
 
@@ -36,15 +37,15 @@ rests-there_strip : (p : List Step) (ts : List Triplet) (S : List Strip) (F : Li
 rests-there_strip [] ts S F e = e
 rests-there_strip (s ∷ p) ts S F e = rests-there_if s.place s p ts S (record_tree.there F) e
 
-rests-there : (S : List Strip) → rests (strips_there S) ≡ record_tree.there (rests S)
+pub rests-there : (S : List Strip) → rests (strips_there S) ≡ record_tree.there (rests S)
 rests-there [] = refl
 rests-there (g ∷ S) = rests-there_strip g.rest g.triplets (strips_there S) (rests S) (rests-there S)
 
-rests-first : (l : ℕ) (S : List Strip) → rests (first_pieces l S) ≡ rests S
+pub rests-first : (l : ℕ) (S : List Strip) → rests (first_pieces l S) ≡ rests S
 rests-first l [] = refl
 rests-first l (g ∷ S) = ap (λ (G : List (List Step)). g.rest ∷ G) (rests-first l S)
 
-rests-other : (l : ℕ) (S : List Strip) → rests (other_pieces l S) ≡ rests S
+pub rests-other : (l : ℕ) (S : List Strip) → rests (other_pieces l S) ≡ rests S
 rests-other l [] = refl
 rests-other l (g ∷ S) = ap (λ (G : List (List Step)). g.rest ∷ G) (rests-other l S)
 

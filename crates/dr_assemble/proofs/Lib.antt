@@ -14,3 +14,10 @@ pub mod PushLemmas
 mod WorkedAssembly
 -- pieces by their repetition levels
 pub mod PieceLemmas
+pub mod ByPaths
+pub mod PlaceLemmas
+pub mod FrontLemmas
+pub mod CuttingLemmas
+pub mod OrderedLemmas
+pub mod SelectionOrder
+pub mod OrderedAssembly

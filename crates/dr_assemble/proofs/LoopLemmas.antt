@@ -1,8 +1,8 @@
 -- What the loops restore, one after another.
-use Rattle.std.proofs.Common.{◌≡◌, ℕ, zero, suc, ◌+◌, ◌<◌, ◌≤◌, List, [], ◌∷◌, ◌++◌, length, get_or, drop, true, false, Option, Some, None, refl, sym, ap, ap₂, ◌∙◌, subst, arith, add-one, append_assoc, append-nil, string_bytes}
+use Rattle.std.proofs.Common.{◌≡◌, ℕ, zero, suc, ◌+◌, ◌<◌, ◌≤◌, List, [], ◌∷◌, ◌++◌, length, get_or, take, drop, true, false, Option, Some, None, refl, sym, ap, ap₂, ◌∙◌, subst, arith, add-one, append_assoc, append-nil, string_bytes}
 use Rattle.std.specs.Prelude.{option_map, ◌==◌, if◌then◌else◌, nat_lt, Result, Ok, Err}
 use Rattle.std.specs.Result.{IsErrAnd}
-use Rattle.std.proofs.lemmas.List.{drop_more, drop_all}
+use Rattle.std.proofs.lemmas.List.{drop_more, drop_all, take_all}
 use Rattle.std.proofs.lemmas.Bool.Decides.{nat_tests}
 use Rattle.dr_meaning.specs.Schema as tree
 use Rattle.dr_meaning.specs.Path.{Step}
@@ -12,8 +12,7 @@ use Rattle.dr_nested.specs.declared.shape.Field.{Field}
 use Rattle.dr_nested.specs.declared.shape.Rep.{Rep}
 use Rattle.dr_nested.specs.Views.{fields_view, shape_view, rep_view, slots_of}
 use Rattle.dr_nested.proofs.ViewLemmas.{view-field}
-use Rattle.dr_assemble.specs.Restoring.{Strip, strip, here_if, strips_here, there_if, strips_there, first_pieces, other_pieces, before, restored_each, first_definition, count_pieces, onto_node, slot_before, restored, restored_one, restored_field, field_instances}
-use Rattle.dr_assemble.specs.Places.{at_if, at_place}
+use Rattle.dr_assemble.specs.Restoring.{Strip, front_at, after_front, first_pieces, other_pieces, before, restored_each, first_definition, count_pieces, onto_node, slot_before, assembled, assembled_one, assembled_field, field_instances}
 use Rattle.dr_assemble.specs.Views.{Restores}
 use Rattle.dr_assemble.specs.declared.fault.AssembleFault.{AssembleFault}
 
@@ -40,52 +39,12 @@ module _ {A : Type 0} (f : List Strip → Option A) (l n k : ℕ) (S : List Stri
 pub instances_end : {A : Type 0} (f : List Strip → Option A) (l n : ℕ) (S : List Strip) (xs : List A) (m : Option (List A)) → m ≡ behind xs (restored_each f l n S) → n ≡ 0 → m ≡ Some xs
 instances_end f l n S xs m so_far e = so_far ∙ ap (λ (i : ℕ). behind xs (restored_each f l i S)) e ∙ ap Some (append-nil xs)
 
--- ---- the strips in the field at a place
+-- ---- a vector whose elements were all written
 
--- the strips as the fields from a place on count them
-abbrev pub shifted : ℕ → List Strip → List Strip
-shifted zero S = S
-shifted (suc k) S = strips_there (shifted k S)
-
-zero_is_no_suc : (k : ℕ) → (zero == suc k) ≡ false
-zero_is_no_suc k = grind (arith, nat_tests)
-
-suc_is_not_zero : (k : ℕ) → (suc k == zero) ≡ false
-suc_is_not_zero k = grind (arith, nat_tests)
-
-same_test : (i k : ℕ) → (suc i == suc k) ≡ (i == k)
-same_test i k = grind (arith, nat_tests)
-
-here_if-is : (i : ℕ) (p : List Step) (ts : List Triplet) (S : List Strip) → here_if i p ts S ≡ (if i == zero then strip p ts ∷ S else S)
-here_if-is zero p ts S = refl
-here_if-is (suc i) p ts S = rw (suc_is_not_zero i) refl
-
-here-strip : (p : List Step) (ts : List Triplet) (S T : List Strip) → strips_here S ≡ T → strips_here (strip p ts ∷ S) ≡ at_if zero p ts T
-here-strip [] ts S T e = e
-here-strip (s ∷ p) ts S T e = here_if-is s.place p ts (strips_here S) ∙ ap (λ (U : List Strip). if s.place == zero then strip p ts ∷ U else U) e
-
-here-is : (S : List Strip) → strips_here S ≡ at_place zero S
-here-is [] = refl
-here-is (g ∷ S) = here-strip g.rest g.triplets S (at_place zero S) (here-is S)
-
-there_if-is : (k i : ℕ) (s : Step) (p : List Step) (ts : List Triplet) (S : List Strip) → at_place k (there_if i s p ts S) ≡ (if i == suc k then strip p ts ∷ at_place k S else at_place k S)
-there_if-is k zero s p ts S = rw (zero_is_no_suc k) refl
-there_if-is k (suc i) s p ts S = rw (same_test i k) refl
-
-there-strip : (k : ℕ) (p : List Step) (ts : List Triplet) (S T : List Strip) → at_place k (strips_there S) ≡ T → at_place k (strips_there (strip p ts ∷ S)) ≡ at_if (suc k) p ts T
-there-strip k [] ts S T e = e
-there-strip k (s ∷ p) ts S T e = there_if-is k s.place s p ts (strips_there S) ∙ ap (λ (U : List Strip). if s.place == suc k then strip p ts ∷ U else U) e
-
-there-is : (k : ℕ) (S : List Strip) → at_place k (strips_there S) ≡ at_place (suc k) S
-there-is k [] = refl
-there-is k (g ∷ S) = there-strip k g.rest g.triplets S (at_place (suc k) S) (there-is k S)
-
-shifted-is : (j k : ℕ) (S : List Strip) → at_place j (shifted k S) ≡ at_place (k + j) S
-shifted-is j zero S = let e : j ≡ 0 + j = omega arith in ap (λ (i : ℕ). at_place i S) e
-shifted-is j (suc k) S = let e : k + suc j ≡ suc k + j = omega arith in there-is j (shifted k S) ∙ shifted-is (suc j) k S ∙ ap (λ (i : ℕ). at_place i S) e
-
-here_shifted : (k : ℕ) (S : List Strip) → strips_here (shifted k S) ≡ at_place k S
-here_shifted k S = let e : k + 0 ≡ k = omega arith in here-is (shifted k S) ∙ shifted-is zero k S ∙ ap (λ (i : ℕ). at_place i S) e
+pub written_back : {X : Type 0} (w v : List X) (n : ℕ) → length w ≡ length v → n ≡ length v → take n (w ++ drop (length w) v) ≡ w
+written_back {X = X} w v n h g =
+    let none : drop (length w) v ≡ [] = drop_all (length w) v (omega arith) in
+    ap (λ (x : List X). take n (w ++ x)) none ∙ ap (take n) (append-nil w) ∙ take_all n w (omega arith)
 
 -- ---- one slot after another
 
@@ -121,23 +80,23 @@ next_in : {X : Type 0} (xs : List X) (i : ℕ) (x : X) → i < length xs → x �
 next_in xs i x h is = drop_more xs i x h ∙ ap (λ y. y ∷ drop (i + 1) xs) (sym is)
 
 module _ (all : List Field) (k : ℕ) (f : Field) (h : k < length all) (is : f ≡ get_or all k f) (l d : ℕ) (S : List Strip) (os : List (Option Instances)) (m : Option Node)
-    (so_far : m ≡ behind_slots os (restored (fields_view (drop k all)) l d (shifted k S))) where
-  at_field : m ≡ behind_slots os (slot_before (restored_field (rep_view f.rep) (shape_view f.shape) l d (at_place k S)) (restored (fields_view (drop (k + 1) all)) l d (shifted (k + 1) S)))
+    (so_far : m ≡ behind_slots os (assembled (fields_view (drop k all)) k l d S)) where
+  at_field : m ≡ behind_slots os (slot_before (assembled_field (rep_view f.rep) (shape_view f.shape) l d (front_at k S)) (assembled (fields_view (drop (k + 1) all)) (k + 1) l d (after_front k S)))
   at_field =
       so_far
-      ∙ ap (λ (fs : tree.Fields). behind_slots os (restored fs l d (shifted k S))) (ap fields_view (next_in all k f h is) ∙ field_first f (drop (k + 1) all))
-      ∙ ap₂ (λ (T : List Strip) (i : ℕ). behind_slots os (slot_before (restored_field (rep_view f.rep) (shape_view f.shape) l d T) (restored (fields_view (drop (k + 1) all)) l d (shifted i S)))) (here_shifted k S) (sym (add-one k))
+      ∙ ap (λ (fs : tree.Fields). behind_slots os (assembled fs k l d S)) (ap fields_view (next_in all k f h is) ∙ field_first f (drop (k + 1) all))
+      ∙ ap (λ (i : ℕ). behind_slots os (slot_before (assembled_field (rep_view f.rep) (shape_view f.shape) l d (front_at k S)) (assembled (fields_view (drop (k + 1) all)) i l d (after_front k S)))) (sym (add-one k))
 
-  pub slot_more : (o : Option Instances) → restored_field (rep_view f.rep) (shape_view f.shape) l d (at_place k S) ≡ Some o → m ≡ behind_slots (os ++ o ∷ []) (restored (fields_view (drop (k + 1) all)) l d (shifted (k + 1) S))
+  pub slot_more : (o : Option Instances) → assembled_field (rep_view f.rep) (shape_view f.shape) l d (front_at k S) ≡ Some o → m ≡ behind_slots (os ++ o ∷ []) (assembled (fields_view (drop (k + 1) all)) (k + 1) l d (after_front k S))
   slot_more o e =
-      at_field ∙ ap (λ (p : Option (Option Instances)). behind_slots os (slot_before p (restored (fields_view (drop (k + 1) all)) l d (shifted (k + 1) S)))) e
-      ∙ behind_one_slot os o (restored (fields_view (drop (k + 1) all)) l d (shifted (k + 1) S))
+      at_field ∙ ap (λ (p : Option (Option Instances)). behind_slots os (slot_before p (assembled (fields_view (drop (k + 1) all)) (k + 1) l d (after_front k S)))) e
+      ∙ behind_one_slot os o (assembled (fields_view (drop (k + 1) all)) (k + 1) l d (after_front k S))
 
-  pub slot_fails : restored_field (rep_view f.rep) (shape_view f.shape) l d (at_place k S) ≡ None → m ≡ None
-  slot_fails e = at_field ∙ ap (λ (p : Option (Option Instances)). behind_slots os (slot_before p (restored (fields_view (drop (k + 1) all)) l d (shifted (k + 1) S)))) e
+  pub slot_fails : assembled_field (rep_view f.rep) (shape_view f.shape) l d (front_at k S) ≡ None → m ≡ None
+  slot_fails e = at_field ∙ ap (λ (p : Option (Option Instances)). behind_slots os (slot_before p (assembled (fields_view (drop (k + 1) all)) (k + 1) l d (after_front k S)))) e
 
-pub slots_end : (all : List Field) (k l d : ℕ) (S : List Strip) (os : List (Option Instances)) (m : Option Node) → length all ≤ k → m ≡ behind_slots os (restored (fields_view (drop k all)) l d (shifted k S)) → m ≡ Some (slots_of os)
-slots_end all k l d S os m h so_far = so_far ∙ ap (λ (fs : List Field). behind_slots os (restored (fields_view fs) l d (shifted k S))) (drop_all k all h) ∙ ap Some (onto_end os)
+pub slots_end : (all : List Field) (k l d : ℕ) (S : List Strip) (os : List (Option Instances)) (m : Option Node) → length all ≤ k → m ≡ behind_slots os (assembled (fields_view (drop k all)) k l d S) → m ≡ Some (slots_of os)
+slots_end all k l d S os m h so_far = so_far ∙ ap (λ (fs : List Field). behind_slots os (assembled (fields_view fs) k l d S)) (drop_all k all h) ∙ ap Some (onto_end os)
 
 -- a field's shape is less deep than its group
 pub shape_depth-field : (all : List Field) (i : ℕ) (f : Field) → i < length all → f ≡ get_or all i f → tree.shape_depth (shape_view f.shape) + 1 ≤ tree.depth (fields_view all)
@@ -162,5 +121,5 @@ restores_same see m k r e h = subst (λ o. Restores see o r) (sym e) h
 
 -- a repeated field whose first definition level is above its group's
 pub repeated_instances : (rep : Rep) (s : tree.Shape) (l d n : ℕ) (ts : List Triplet) (S : List Strip) → rep ≡ Rep.Repeated → true ≡ nat_lt d (first_definition ts) → n ≡ count_pieces (l + 1) ts
-    → field_instances (rep_view rep) s l d ts S ≡ restored_each (restored_one s (l + 1) (d + 1)) (l + 1) n S
+    → field_instances (rep_view rep) s l d ts S ≡ restored_each (assembled_one s (l + 1) (d + 1)) (l + 1) n S
 repeated_instances rep s l d n ts S e h c = rw (e, ← h, c) refl

@@ -10,7 +10,8 @@ use Rattle.dr_meaning.specs.Record.{Value, Node, no_slots, slot, Instances, no_i
 use Rattle.dr_meaning.specs.Column.{Triplet, triplet, each_later, spread, instance_column, record_column, column}
 use Rattle.dr_meaning.proofs.Blocks.{BeginsBelow, IsBlock, block_begins, block-instance, and₃_parts}
 use Rattle.dr_nested.specs.Views.{instances_of}
-use Rattle.dr_assemble.specs.Restoring.{Strip, first_piece, later_pieces, count_below, count_pieces, first_pieces, other_pieces, before, restored_each, first_definition, unless_absent, restored_instances, restored_slot, onto_node, slot_before, restored, restored_one, has_rows, restored_records, strips}
+use Rattle.dr_assemble.specs.Restoring.{Strip, first_piece, later_pieces, count_below, count_pieces, first_pieces, other_pieces, before, restored_each, first_definition, unless_absent, restored_instances, restored_slot, onto_node, slot_before, has_rows, strips}
+use Rattle.dr_assemble.proofs.ByPaths.{restored, restored_one, restored_records}
 use Rattle.dr_assemble.proofs.StripLemmas.{strips_of, strips_same, strips_of_map, field_column, here-strips, there-strips, here-all, there-all, first_piece-block, later_pieces-block, count_pieces-block, count_below-block, first_definition-block, first_pieces-of, other_pieces-of}
 
 -- ---- a field's instances

@@ -11,7 +11,8 @@ use Rattle.dr_meaning.specs.Record.{Node, slot, Instances, inner}
 use Rattle.dr_meaning.specs.Column.{Triplet, spread, instance_column}
 use Rattle.dr_meaning.proofs.ProjectionLemmas.{step}
 use Rattle.dr_meaning.proofs.Blocks.{IsAbove, BeginsBelow, IsBlock, same_repetition-true}
-use Rattle.dr_assemble.specs.Restoring.{Strip, strip, here_if, strips_here, there_if, strips_there, above, from_below, first_piece, later_pieces, count_below, count_pieces, first_pieces, other_pieces, first_definition, strips}
+use Rattle.dr_assemble.specs.Restoring.{Strip, strip, above, from_below, first_piece, later_pieces, count_below, count_pieces, first_pieces, other_pieces, first_definition, strips}
+use Rattle.dr_assemble.proofs.ByPaths.{here_if, strips_here, there_if, strips_there}
 
 -- ---- the strips of some paths, given the triplets of each
 

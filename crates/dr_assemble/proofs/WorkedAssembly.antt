@@ -7,7 +7,8 @@ use Rattle.dr_meaning.specs.Column.{Triplet, triplet, column}
 use Rattle.dr_meaning.proofs.WorkedSchemas.{document}
 use Rattle.dr_meaning.proofs.WorkedRecords.{record_10, record_20, numbers}
 use Rattle.dr_meaning.proofs.WorkedPaths.{doc_id, backward, forward, code, country, url}
-use Rattle.dr_assemble.specs.Restoring.{strips, restored_records}
+use Rattle.dr_assemble.specs.Restoring.{strips}
+use Rattle.dr_assemble.proofs.ByPaths.{restored_records}
 use Rattle.dr_assemble.specs.Assembly.{HasColumns}
 use Rattle.dr_assemble.proofs.AssemblyLemmas.{none_restored, others_restored}
 

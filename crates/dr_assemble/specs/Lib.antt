@@ -4,8 +4,6 @@ pub mod Restoring
 pub mod Assembly
 -- what the types and faults of this crate stand for
 pub mod Views
--- the strips of a group's fields by their places
-pub mod Places
 -- the pieces of a column, by its repetition levels
 pub mod Pieces
 -- passing triplets that come next

@@ -1,5 +1,5 @@
 -- Restoring nodes of the triplets of their leaves. Whether what is restored has these triplets for its columns is left to a comparison.
-use Rattle.std.specs.Prelude.{ℕ, zero, suc, ◌+◌, List, [], ◌∷◌, map, Bool, true, ◌==◌, nat_lt, if◌then◌else◌, Option, Some, None, option_map, option_and_then}
+use Rattle.std.specs.Prelude.{ℕ, zero, suc, ◌+◌, List, [], ◌∷◌, map, Bool, true, ◌==◌, nat_lt, if◌then◌else◌, get_or, Option, Some, None, option_map, option_and_then}
 use Rattle.dr_meaning.specs.Schema.{Repetition, required, optional, repeated, Kind, Fields, no_fields, field, Shape, leaf, group, repetition_count, definition_count}
 use Rattle.dr_meaning.specs.Path.{Step}
 use Rattle.dr_meaning.specs.Record.{Value, Node, no_slots, slot, gap, Instances, Instance, atom, inner, is_of_kind}
@@ -14,33 +14,33 @@ pub record Strip : Type 0 where
 abbrev pub strip : List Step → List Triplet → Strip
 strip p ts = record { rest = p; triplets = ts }
 
--- ---- the strips of a group's fields
+-- ---- the strips of a group's fields, which come field after field
 
--- the strips of the leaves in the first field of a group
-abbrev pub here_if : ℕ → List Step → List Triplet → List Strip → List Strip
-here_if zero p ts S = strip p ts ∷ S
-here_if (suc i) p ts S = S
+-- without the step into the field
+abbrev pub behind_step : List Step → List Step
+behind_step [] = []
+behind_step (s ∷ p) = p
 
-abbrev pub here_strip : List Step → List Triplet → List Strip → List Strip
-here_strip [] ts S = S
-here_strip (s ∷ p) ts S = here_if s.place p ts S
+abbrev pub without_step : Strip → Strip
+without_step g = strip (behind_step g.rest) g.triplets
 
-abbrev pub strips_here : List Strip → List Strip
-strips_here [] = []
-strips_here (g ∷ S) = here_strip g.rest g.triplets (strips_here S)
+-- the strips at the front that lead into the field at a place, without that step
+abbrev pub front_if : ℕ → List Step → List Triplet → List Strip → List Strip
+front_if k [] ts T = []
+front_if k (s ∷ p) ts T = if s.place == k then strip p ts ∷ T else []
 
--- the strips of the leaves in later fields, as the rest of the group counts its fields
-abbrev pub there_if : ℕ → Step → List Step → List Triplet → List Strip → List Strip
-there_if zero s p ts S = S
-there_if (suc i) s p ts S = strip (record { place = i; repetition = s.repetition } ∷ p) ts ∷ S
+abbrev pub front_at : ℕ → List Strip → List Strip
+front_at k [] = []
+front_at k (g ∷ S) = front_if k g.rest g.triplets (front_at k S)
 
-abbrev pub there_strip : List Step → List Triplet → List Strip → List Strip
-there_strip [] ts S = S
-there_strip (s ∷ p) ts S = there_if s.place s p ts S
+-- and those behind them
+abbrev pub after_if : ℕ → List Step → List Strip → List Strip → List Strip
+after_if k [] T S = S
+after_if k (s ∷ p) T S = if s.place == k then T else S
 
-abbrev pub strips_there : List Strip → List Strip
-strips_there [] = []
-strips_there (g ∷ S) = there_strip g.rest g.triplets (strips_there S)
+abbrev pub after_front : ℕ → List Strip → List Strip
+after_front k [] = []
+after_front k (g ∷ S) = after_if k g.rest (after_front k S) (g ∷ S)
 
 -- ---- the pieces of a strip: each begins where the strip does or at a repetition level of at most l
 
@@ -136,24 +136,24 @@ abbrev pub restored_atom : Kind → List Strip → Option Instance
 restored_atom k S = option_and_then (atom_of k) (first_strip_value S)
 
 abbrev mutual
-  -- a node of a group, below this many repeated fields, with this definition level; none where a leaf's value is missing or of another kind
-  pub restored : Fields → ℕ → ℕ → List Strip → Option Node
-  restored no_fields l d S = Some no_slots
-  restored (field m r s fs) l d S =
-      slot_before (restored_slot r (restored_one s (l + repetition_count r) (d + definition_count r)) (l + repetition_count r) d (strips_here S))
-      (restored fs l d (strips_there S))
+  -- a node of a group, from the field at place i on, below l repeated fields, with definition level d; none where a leaf's value is missing or of another kind
+  pub assembled : Fields → ℕ → ℕ → ℕ → List Strip → Option Node
+  assembled no_fields i l d S = Some no_slots
+  assembled (field m r s fs) i l d S =
+      slot_before (restored_slot r (assembled_one s (l + repetition_count r) (d + definition_count r)) (l + repetition_count r) d (front_at i S))
+      (assembled fs (suc i) l d (after_front i S))
 
-  pub restored_one : Shape → ℕ → ℕ → List Strip → Option Instance
-  restored_one (leaf k) l d S = restored_atom k S
-  restored_one (group fs) l d S = option_map inner (restored fs l d S)
+  pub assembled_one : Shape → ℕ → ℕ → List Strip → Option Instance
+  assembled_one (leaf k) l d S = restored_atom k S
+  assembled_one (group fs) l d S = option_map inner (assembled fs 0 l d S)
 
 -- a field's instances, in a group below l repeated fields with the definition level d; ts are the first strip's triplets
 abbrev pub field_instances : Repetition → Shape → ℕ → ℕ → List Triplet → List Strip → Option (List Instance)
-field_instances r s l d ts S = restored_instances r (restored_one s (l + repetition_count r) (d + definition_count r)) (l + repetition_count r) d ts S
+field_instances r s l d ts S = restored_instances r (assembled_one s (l + repetition_count r) (d + definition_count r)) (l + repetition_count r) d ts S
 
 -- a field's place in a node, in a group below l repeated fields with the definition level d
-abbrev pub restored_field : Repetition → Shape → ℕ → ℕ → List Strip → Option (Option Instances)
-restored_field r s l d S = restored_slot r (restored_one s (l + repetition_count r) (d + definition_count r)) (l + repetition_count r) d S
+abbrev pub assembled_field : Repetition → Shape → ℕ → ℕ → List Strip → Option (Option Instances)
+assembled_field r s l d S = restored_slot r (assembled_one s (l + repetition_count r) (d + definition_count r)) (l + repetition_count r) d S
 
 -- the first strip has as many pieces as there are rows
 abbrev pub has_rows : ℕ → List Strip → Bool
@@ -161,8 +161,8 @@ has_rows rows [] = true
 has_rows rows (g ∷ S) = count_pieces 0 g.triplets == rows
 
 -- so many nodes of whole columns
-abbrev pub restored_records : Fields → ℕ → List Strip → Option (List Node)
-restored_records fs rows S = if has_rows rows S then restored_each (restored fs 0 0) 0 rows S else None
+abbrev pub assembled_records : Fields → ℕ → List Strip → Option (List Node)
+assembled_records fs rows S = if has_rows rows S then restored_each (assembled fs 0 0 0) 0 rows S else None
 
 -- ---- whole columns
 
@@ -171,3 +171,7 @@ abbrev pub strips : List (List Step) → List (List Triplet) → List Strip
 strips [] C = []
 strips (p ∷ F) [] = []
 strips (p ∷ F) (ts ∷ C) = strip p ts ∷ strips F C
+
+-- of the leaves at these places
+abbrev pub strips_at : List ℕ → List (List Step) → List (List Triplet) → List Strip
+strips_at is F C = map (λ i. strip (get_or F i []) (get_or C i [])) is

@@ -1,6 +1,6 @@
 //! The records of columns.
 
-ghost use Rattle.std.specs.Prelude.{◌≡◌, ◌≤◌, List, length, map, true, IfOk, IsErrOf};
+ghost use Rattle.std.specs.Prelude.{◌≡◌, ◌≤◌, ◌<◌, All, List, length, map, true, IfOk, IsErrOf};
 ghost use Rattle.dr_assemble.specs.declared.fault.AssembleFault.{AssembleFault};
 ghost use Rattle.std.specs.List.{list_all};
 ghost use Rattle.dr_meaning.specs.Schema.{depth, greatest_depth};
@@ -16,25 +16,27 @@ ghost use Rattle.dr_assemble.specs.Views.{strips_view, paths_view, nodes_view, c
 use crate::comparing::have_columns;
 use crate::fault::AssembleFault;
 use crate::restoring::restore_node;
-use crate::strip::{Strip, count_pieces, cut};
-use dr_levels::Column;
+use crate::strip::{Strip, copied, count_pieces, cut};
+use dr_levels::{Column, schema_order};
 use dr_nested::{Field, Node, Path, Schema};
 use std::alloc::{AllocError, Global};
 
-/// Each field's path with its column.
+/// The fields' paths with their columns, in this order.
 fn strips_of<'a>(
     alloc: Global,
     fields: &'a [Path],
     columns: &'a [Column],
+    order: &[usize],
 ) -> Result<Vec<Strip<'a>>, AllocError>
-    requires { length fields.now ≡ length columns.now }
-    ensures { IfOk result (λ v. strips_view v.items ≡ restoring.strips (paths_view fields.now) (columns_view columns.now)) }
+    requires lengths { length fields.now ≡ length columns.now }
+    requires within { All (λ i. i < length fields.now) order.now }
+    ensures { IfOk result (λ v. strips_view v.items ≡ restoring.strips_at order.now (paths_view fields.now) (columns_view columns.now)) }
 {
-    let mut strips = Vec::with_capacity(alloc, fields.len())?;
-    'fields: for (place, field) in fields.iter().enumerate() {
+    let mut strips = Vec::with_capacity(alloc, order.len())?;
+    'order: for place in order {
         strips.push(Strip {
-            rest: field.steps.as_slice(),
-            triplets: columns[place].triplets(),
+            rest: fields[*place].steps.as_slice(),
+            triplets: columns[*place].triplets(),
         })?;
     }
     Ok(strips)
@@ -58,15 +60,14 @@ fn restore_rows(
     rows: u64,
 ) -> Result<Vec<Node>, AssembleFault>
     requires { depth (fields_view (fields.now).items) ≤ greatest_depth }
-    ensures { Restores (λ v. nodes_view v.items) (restoring.restored_each (restoring.restored (fields_view (fields.now).items) 0 0) 0 rows (strips_view strips.now)) result }
+    ensures { Restores (λ v. nodes_view v.items) (restoring.restored_each (restoring.assembled (fields_view (fields.now).items) 0 0 0) 0 rows (strips_view strips.now)) result }
 {
     let mut nodes = Vec::new(alloc);
-    let mut left = Vec::with_capacity(alloc, strips.len())?;
-    left.extend_from_slice(strips)?;
+    let mut left = copied(alloc, strips)?;
+    let mut first = copied(alloc, strips)?;
     'rows: for done in 0..rows {
-        let (first, others) = cut(alloc, &left, 0)?;
+        cut(&mut left, &mut first, 0);
         nodes.push(restore_node(alloc, fields, &first, 0, 0)?)?;
-        left = others;
     }
     Ok(nodes)
 }
@@ -79,7 +80,7 @@ fn restore_records(
     rows: u64,
 ) -> Result<Vec<Node>, AssembleFault>
     requires { depth (fields_view (fields.now).items) ≤ greatest_depth }
-    ensures { Restores (λ v. nodes_view v.items) (restoring.restored_records (fields_view (fields.now).items) rows (strips_view strips.now)) result }
+    ensures { Restores (λ v. nodes_view v.items) (restoring.assembled_records (fields_view (fields.now).items) rows (strips_view strips.now)) result }
 {
     if has_rows(strips, rows) {
         restore_rows(alloc, fields, strips, rows)
@@ -107,8 +108,9 @@ fn with_columns(
 }
 
 /// The projections to the leaves of the fields of as many records of the schema as there are rows, which have these
-/// columns, one for each field. Nodes are restored of the columns as if they were some records', and what they give
-/// each column is then compared with it, triplet by triplet. The time is linear in the triplets and the rows.
+/// columns, one for each field. Nodes are restored of the columns as if they were some records', the fields in schema
+/// order, and what they give each column is then compared with it, triplet by triplet. The time is linear in the triplets
+/// and in the nodes' slots.
 ///
 /// Errors: `BadData` exactly where no such records have these columns; want of memory.
 pub fn assemble(
@@ -126,7 +128,8 @@ pub fn assemble(
     if fields.len() != columns.len() {
         return Err(AssembleFault::BadData);
     }
-    let strips = strips_of(alloc, fields, columns)?;
+    let order = schema_order(alloc, schema, fields)?;
+    let strips = strips_of(alloc, fields, columns, &order)?;
     match restore_records(alloc, &schema.fields, &strips, rows) {
         Ok(nodes) => with_columns(fields, columns, nodes),
         Err(fault) => Err(fault),

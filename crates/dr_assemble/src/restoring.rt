@@ -9,7 +9,7 @@ ghost use Rattle.dr_assemble.specs.Restoring as restoring;
 ghost use Rattle.dr_assemble.specs.Views.{strips_view, Restores};
 
 use crate::fault::AssembleFault;
-use crate::strip::{Strip, count_pieces, cut, strips_by_place};
+use crate::strip::{Strip, copied, count_pieces, cut, front_length, without_steps};
 use dr_levels::{Triplets, ValueRef};
 use dr_nested::{Field, Instance, Kind, Node, Rep, Shape, Slot, Value, is_of_kind};
 use std::alloc::Global;
@@ -85,7 +85,7 @@ fn restore_instance(
 ) -> Result<Instance, AssembleFault>
     requires levels { level + shape_depth (shape_view shape.now) ≤ greatest_depth }
     requires definitions { definition + shape_depth (shape_view shape.now) ≤ greatest_depth }
-    ensures { Restores instance_view (restoring.restored_one (shape_view shape.now) level definition (strips_view strips.now)) result }
+    ensures { Restores instance_view (restoring.assembled_one (shape_view shape.now) level definition (strips_view strips.now)) result }
 {
     match shape {
         Shape::Leaf(kind) => restore_atom(alloc, *kind, strips),
@@ -107,7 +107,7 @@ fn restore_single(
 ) -> Result<Vec<Instance>, AssembleFault>
     requires levels { level + shape_depth (shape_view shape.now) ≤ greatest_depth }
     requires definitions { definition + shape_depth (shape_view shape.now) ≤ greatest_depth }
-    ensures { Restores (λ v. map instance_view v.items) (option_map (λ x. x ∷ []) (restoring.restored_one (shape_view shape.now) level definition (strips_view strips.now))) result }
+    ensures { Restores (λ v. map instance_view v.items) (option_map (λ x. x ∷ []) (restoring.assembled_one (shape_view shape.now) level definition (strips_view strips.now))) result }
 {
     let mut instances = Vec::with_capacity(alloc, 1)?;
     instances.push(restore_instance(alloc, shape, strips, level, definition)?)?;
@@ -126,15 +126,14 @@ fn restore_each(
 ) -> Result<Vec<Instance>, AssembleFault>
     requires levels { level + shape_depth (shape_view shape.now) ≤ greatest_depth }
     requires definitions { definition + shape_depth (shape_view shape.now) ≤ greatest_depth }
-    ensures { Restores (λ v. map instance_view v.items) (restoring.restored_each (restoring.restored_one (shape_view shape.now) level definition) level count (strips_view strips.now)) result }
+    ensures { Restores (λ v. map instance_view v.items) (restoring.restored_each (restoring.assembled_one (shape_view shape.now) level definition) level count (strips_view strips.now)) result }
 {
     let mut instances = Vec::with_capacity(alloc, count)?;
-    let mut left = Vec::with_capacity(alloc, strips.len())?;
-    left.extend_from_slice(strips)?;
+    let mut left = copied(alloc, strips)?;
+    let mut first = copied(alloc, strips)?;
     'instances: for done in 0..count {
-        let (first, others) = cut(alloc, &left, level)?;
+        cut(&mut left, &mut first, level);
         instances.push(restore_instance(alloc, shape, &first, level, definition)?)?;
-        left = others;
     }
     Ok(instances)
 }
@@ -182,7 +181,7 @@ fn restore_slot(
 ) -> Result<Slot, AssembleFault>
     requires levels { level + 1 + shape_depth (shape_view (field.now).shape) ≤ greatest_depth }
     requires definitions { definition + 1 + shape_depth (shape_view (field.now).shape) ≤ greatest_depth }
-    ensures { Restores slot_view (restoring.restored_field (rep_view (field.now).rep) (shape_view (field.now).shape) level definition (strips_view strips.now)) result }
+    ensures { Restores slot_view (restoring.assembled_field (rep_view (field.now).rep) (shape_view (field.now).shape) level definition (strips_view strips.now)) result }
 {
     match strips {
         [] => Ok(Slot::Gap),
@@ -195,7 +194,7 @@ fn restore_slot(
     }
 }
 
-/// A node of a group, below this many repeated fields, with this definition level.
+/// A node of a group, below this many repeated fields, with this definition level. The strips come field after field.
 #[cycle(restoring)]
 pub fn restore_node(
     alloc: Global,
@@ -206,12 +205,15 @@ pub fn restore_node(
 ) -> Result<Node, AssembleFault>
     requires levels { level + depth (fields_view (fields.now).items) ≤ greatest_depth }
     requires definitions { definition + depth (fields_view (fields.now).items) ≤ greatest_depth }
-    ensures { Restores node_view (restoring.restored (fields_view (fields.now).items) level definition (strips_view strips.now)) result }
+    ensures { Restores node_view (restoring.assembled (fields_view (fields.now).items) 0 level definition (strips_view strips.now)) result }
 {
-    let places = strips_by_place(alloc, strips, fields.len())?;
+    let rests = without_steps(alloc, strips)?;
     let mut slots = Vec::with_capacity(alloc, fields.len())?;
+    let mut from = 0;
     'fields: for (place, field) in fields.iter().enumerate() {
-        slots.push(restore_slot(alloc, field, &places[place], level, definition)?)?;
+        let to = from + front_length(&strips[from..], place);
+        slots.push(restore_slot(alloc, field, &rests[from..to], level, definition)?)?;
+        from = to;
     }
     Ok(Node { slots })
 }

@@ -7,7 +7,6 @@ ghost use Rattle.dr_assemble.specs.Pieces as pieces;
 ghost use Rattle.dr_assemble.specs.Pieces.{repetition_of};
 ghost use Rattle.dr_assemble.specs.Restoring as restoring;
 ghost use Rattle.dr_assemble.specs.Views.{strip_view, strips_view};
-ghost use Rattle.dr_assemble.specs.Places.{at_place};
 ghost use Rattle.dr_assemble.specs.declared.strip.Strip as seen;
 
 use dr_levels::{Levels, Triplets};
@@ -71,72 +70,81 @@ pub fn count_pieces(triplets: Triplets<'_>, level: u32) -> usize
     }
 }
 
-/// Of each strip the first piece, and what is behind it.
-pub fn cut<'a>(
-    alloc: Global,
-    strips: &[Strip<'a>],
-    level: u32,
-) -> Result<(Vec<Strip<'a>>, Vec<Strip<'a>>), AllocError>
-    ensures first { IfOk result (λ (p : Vec seen.Strip Global × Vec seen.Strip Global). strips_view p.0.items ≡ restoring.first_pieces level (strips_view strips.now)) }
-    ensures others { IfOk result (λ (p : Vec seen.Strip Global × Vec seen.Strip Global). strips_view p.1.items ≡ restoring.other_pieces level (strips_view strips.now)) }
+/// The strips, to be cut.
+pub fn copied<'a>(alloc: Global, strips: &[Strip<'a>]) -> Result<Vec<Strip<'a>>, AllocError>
+    ensures { IfOk result (λ v. v.items ≡ strips.now) }
 {
-    let mut first = Vec::with_capacity(alloc, strips.len())?;
-    let mut others = Vec::with_capacity(alloc, strips.len())?;
-    'strips: for strip in strips {
+    let mut copied = Vec::with_capacity(alloc, strips.len())?;
+    copied.extend_from_slice(strips)?;
+    Ok(copied)
+}
+
+/// Takes the first piece of each strip, and leaves what is behind it.
+pub fn cut<'a>(left: &mut [Strip<'a>], first: &mut [Strip<'a>], level: u32)
+    requires { length first.old ≡ length left.old }
+    ensures first { strips_view first.new ≡ restoring.first_pieces level (strips_view left.old) }
+    ensures others { strips_view left.new ≡ restoring.other_pieces level (strips_view left.old) }
+{
+    'strips: for place in 0..left.len() {
+        let strip = left[place];
         let (piece, behind) = strip.triplets.split_at(first_length(strip.triplets, level));
-        first.push(Strip {
+        first[place] = Strip {
             rest: strip.rest,
             triplets: piece,
-        })?;
-        others.push(Strip {
+        };
+        left[place] = Strip {
             rest: strip.rest,
             triplets: behind,
-        })?;
+        };
     }
-    Ok((first, others))
 }
 
-/// An empty list for each of so many places.
-fn places<'a>(alloc: Global, width: usize) -> Result<Vec<Vec<Strip<'a>>>, AllocError>
-    ensures width { IfOk result (λ v. length v.items ≡ width) }
-    ensures empty { IfOk result (λ v. (k : ℕ) (d : Vec seen.Strip Global) → k < width → strips_view (slice_index_or v.items k d).items ≡ []) }
-{
-    let mut places = Vec::with_capacity(alloc, width)?;
-    'places: for place in 0..width {
-        places.push(Vec::new(alloc))?;
+impl<'a> Strip<'a> {
+    /// Whether it leads into the field at a place of its group.
+    fn leads_into(&self, place: usize) -> bool
+        ensures { result ≡ pieces.begins_at place (strip_view self.now).rest }
+    {
+        match self.rest {
+            [] => false,
+            [first, ..] => first.place == place,
+        }
     }
-    Ok(places)
+
+    /// Without the step into the field.
+    fn without_step(&self) -> Strip<'a>
+        ensures { strip_view result ≡ restoring.without_step (strip_view self.now) }
+    {
+        match self.rest {
+            [] => *self,
+            [_, rest @ ..] => Strip {
+                rest,
+                triplets: self.triplets,
+            },
+        }
+    }
 }
 
-/// Puts a strip to the place at which it begins, without that step, where there is such a place.
-fn put_strip<'a>(found: &mut Vec<Vec<Strip<'a>>>, strip: &Strip<'a>) -> Result<(), AllocError>
-    ensures width { length found.new.items ≡ length found.old.items }
-    ensures there { OnOk result ((k : ℕ) (d : Vec seen.Strip Global) → k < length found.old.items → strips_view (slice_index_or found.new.items k d).items ≡ strips_view (slice_index_or found.old.items k d).items ++ at_place k (strip_view strip.now ∷ [])) }
+/// How many strips at the front lead into the field at a place.
+pub fn front_length(strips: &[Strip], place: usize) -> usize
+    ensures within { result ≤ length strips.now }
+    ensures front { map restoring.without_step (take result (strips_view strips.now)) ≡ restoring.front_at place (strips_view strips.now) }
+    ensures behind { drop result (strips_view strips.now) ≡ restoring.after_front place (strips_view strips.now) }
 {
-    let [first, rest @ ..] = strip.rest else {
-        return Ok(());
-    };
-    if first.place < found.len() {
-        found[first.place].push(Strip {
-            rest,
-            triplets: strip.triplets,
-        })?;
+    'strips: for (count, strip) in strips.iter().enumerate() {
+        if !strip.leads_into(place) {
+            return count;
+        }
     }
-    Ok(())
+    strips.len()
 }
 
-/// The strips of the leaves in each of a group's fields.
-pub fn strips_by_place<'a>(
-    alloc: Global,
-    strips: &[Strip<'a>],
-    width: usize,
-) -> Result<Vec<Vec<Strip<'a>>>, AllocError>
-    ensures width { IfOk result (λ v. length v.items ≡ width) }
-    ensures there { IfOk result (λ v. (k : ℕ) (d : Vec seen.Strip Global) → k < width → strips_view (slice_index_or v.items k d).items ≡ at_place k (strips_view strips.now)) }
+/// The strips without their first steps.
+pub fn without_steps<'a>(alloc: Global, strips: &[Strip<'a>]) -> Result<Vec<Strip<'a>>, AllocError>
+    ensures { IfOk result (λ v. strips_view v.items ≡ map restoring.without_step (strips_view strips.now)) }
 {
-    let mut found = places(alloc, width)?;
+    let mut rests = Vec::with_capacity(alloc, strips.len())?;
     'strips: for strip in strips {
-        put_strip(&mut found, strip)?;
+        rests.push(strip.without_step())?;
     }
-    Ok(found)
+    Ok(rests)
 }

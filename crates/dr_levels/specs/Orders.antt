@@ -2,7 +2,7 @@
 use Rattle.std.specs.Prelude.{ℕ, List, [], ◌∷◌, ◌==◌, if◌then◌else◌}
 use Rattle.dr_meaning.specs.Path as path
 use Rattle.dr_meaning.specs.Automaton as automaton
-use Rattle.dr_nested.specs.Projecting.{lent_path}
+use Rattle.dr_nested.specs.PathView.{lent_path}
 use Rattle.dr_levels.specs.declared.order.Pick.{Pick}
 
 -- the rest of a selected leaf's path, and its place in the selection

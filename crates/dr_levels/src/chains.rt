@@ -3,8 +3,7 @@
 ghost use Rattle.std.specs.Prelude.{◌≡◌, map, IfOk};
 ghost use Rattle.dr_meaning.specs.Path as path_meaning;
 ghost use Rattle.dr_meaning.specs.Schema as tree;
-ghost use Rattle.dr_nested.specs.PathView.{path_view, step_view};
-ghost use Rattle.dr_nested.specs.Projecting.{lent_path};
+ghost use Rattle.dr_nested.specs.PathView.{path_view, step_view, lent_path};
 
 use dr_nested::{NoMemory, Path, Rep, Step};
 use std::alloc::Global;

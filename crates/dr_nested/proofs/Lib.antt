@@ -9,4 +9,5 @@ pub mod DepthLemmas
 pub mod FindingLemmas
 pub mod FittingLemmas
 pub mod ProjectingLemmas
+pub mod SelectionLemmas
 pub mod LookingLemmas

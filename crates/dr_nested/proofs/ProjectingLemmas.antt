@@ -1,53 +1,11 @@
--- Projecting a node slot by slot: which paths go on from a field at its place.
-use Rattle.std.specs.Prelude.{◌≡◌, ℕ, zero, suc, ◌+◌, List, [], ◌∷◌, ◌++◌, map, ◌==◌, false, if◌then◌else◌, Option, Some, None}
-use Rattle.std.proofs.Common.{refl, sym, ap, ◌∙◌, arith, add-one}
-use Rattle.std.proofs.lemmas.Bool.Decides.{nat_tests}
+-- Projecting a node slot by slot, by what is selected at each place.
+use Rattle.std.specs.Prelude.{◌≡◌, ℕ, zero, suc, ◌+◌, List, [], ◌∷◌, ◌++◌, map, Option, Some, None}
+use Rattle.std.proofs.Common.{refl, sym, ap, ap₂, ◌∙◌, arith, add-one}
 use Rattle.dr_meaning.specs.Path.{Step}
-use Rattle.dr_meaning.specs.Record.{Node, no_slots, slot, gap, Instances, instance, project, project_all, project_one, slot_for, here, here_if, there, there_if}
+use Rattle.dr_meaning.specs.Record.{Node, no_slots, slot, gap, Instances, no_instances, instance, Instance, atom, inner, project, project_all, project_one, slot_for, here, there}
 use Rattle.dr_nested.specs.declared.record.Instance as instances
 use Rattle.dr_nested.specs.Views.{slots_of, instances_of, instance_view, instances_view}
-use Rattle.dr_nested.specs.Projecting.{at_place, projected}
-
--- ---- the paths that go on from the field at a place
-
--- the paths as the fields from a place on count them
-abbrev pub shifted : ℕ → List (List Step) → List (List Step)
-shifted zero F = F
-shifted (suc k) F = there (shifted k F)
-
-zero_is_no_suc : (k : ℕ) → (zero == suc k) ≡ false
-zero_is_no_suc k = grind (arith, nat_tests)
-
-suc_is_not_zero : (k : ℕ) → (suc k == zero) ≡ false
-suc_is_not_zero k = grind (arith, nat_tests)
-
-same_test : (i k : ℕ) → (suc i == suc k) ≡ (i == k)
-same_test i k = grind (arith, nat_tests)
-
-here_if-is : (i : ℕ) (p : List Step) (F : List (List Step)) → here_if i p F ≡ (if i == zero then p ∷ F else F)
-here_if-is zero p F = refl
-here_if-is (suc i) p F = rw (suc_is_not_zero i) refl
-
-here-is : (F : List (List Step)) → here F ≡ at_place zero F
-here-is [] = refl
-here-is ([] ∷ F) = here-is F
-here-is ((s ∷ p) ∷ F) = here_if-is s.place p (here F) ∙ ap (λ (G : List (List Step)). if s.place == zero then p ∷ G else G) (here-is F)
-
-there_if-is : (k i : ℕ) (s : Step) (p : List Step) (F : List (List Step)) → at_place k (there_if i s p F) ≡ (if i == suc k then p ∷ at_place k F else at_place k F)
-there_if-is k zero s p F = rw (zero_is_no_suc k) refl
-there_if-is k (suc i) s p F = rw (same_test i k) refl
-
-there-is : (k : ℕ) (F : List (List Step)) → at_place k (there F) ≡ at_place (suc k) F
-there-is k [] = refl
-there-is k ([] ∷ F) = there-is k F
-there-is k ((s ∷ p) ∷ F) = there_if-is k s.place s p (there F) ∙ ap (λ (G : List (List Step)). if s.place == suc k then p ∷ G else G) (there-is k F)
-
-shifted-is : (j k : ℕ) (F : List (List Step)) → at_place j (shifted k F) ≡ at_place (k + j) F
-shifted-is j zero F = let e : j ≡ 0 + j = omega arith in ap (λ (i : ℕ). at_place i F) e
-shifted-is j (suc k) F = let e : k + suc j ≡ suc k + j = omega arith in there-is j (shifted k F) ∙ shifted-is (suc j) k F ∙ ap (λ (i : ℕ). at_place i F) e
-
-here_shifted : (k : ℕ) (F : List (List Step)) → here (shifted k F) ≡ at_place k F
-here_shifted k F = let e : k + 0 ≡ k = omega arith in here-is (shifted k F) ∙ shifted-is zero k F ∙ ap (λ (i : ℕ). at_place i F) e
+use Rattle.dr_nested.specs.Selected.{Selected, none_selected, skipped, chosen, first_selected, later_selected, selected_at, AllEnd, IsSome, Selects, SelectsFirst, kept_or_gap, kept, kept_all, kept_one, kept_slot}
 
 -- ---- slots one after another
 
@@ -72,25 +30,90 @@ pub onto_end : (os : List (Option Instances)) → onto os no_slots ≡ slots_of 
 onto_end [] = refl
 onto_end (o ∷ os) = ap (slot_onto o) (onto_end os) ∙ sym (slots_onto o os)
 
-slot_for-is : (G : List (List Step)) (xs : Instances) (n : Node) → slot_for G (project_all G xs) n ≡ slot_onto (projected G (Some xs)) n
-slot_for-is [] xs n = refl
-slot_for-is (p ∷ G) xs n = refl
+-- ---- what is selected from a place on
 
-project_first : (F : List (List Step)) (o : Option Instances) (os : List (Option Instances)) → project F (slots_of (o ∷ os)) ≡ slot_onto (projected (here F) o) (project (there F) (slots_of os))
-project_first F None os = refl
-project_first F (Some xs) os = slot_for-is (here F) xs (project (there F) (slots_of os))
+abbrev pub selected_behind : ℕ → Selected → Selected
+selected_behind zero s = s
+selected_behind (suc k) s = later_selected (selected_behind k s)
+
+behind_later : (k : ℕ) (s : Selected) → selected_behind k (later_selected s) ≡ later_selected (selected_behind k s)
+behind_later zero s = refl
+behind_later (suc k) s = ap later_selected (behind_later k s)
+
+first_behind : (k : ℕ) (s : Selected) → first_selected (selected_behind k s) ≡ selected_at k s
+first_behind zero s = refl
+first_behind (suc k) s = ap first_selected (sym (behind_later k s)) ∙ first_behind k (later_selected s)
+
+kept_or_gap-is : (c : Option Selected) (xs : Instances) (n : Node) → kept_or_gap c (λ b. kept_all b xs) n ≡ slot_onto (kept_slot c (Some xs)) n
+kept_or_gap-is None xs n = refl
+kept_or_gap-is (Some b) xs n = refl
+
+kept_first : (s : Selected) (o : Option Instances) (os : List (Option Instances)) → kept s (slots_of (o ∷ os)) ≡ slot_onto (kept_slot (first_selected s) o) (kept (later_selected s) (slots_of os))
+kept_first s None os = refl
+kept_first s (Some xs) os = kept_or_gap-is (first_selected s) xs (kept (later_selected s) (slots_of os))
 
 -- one slot more
-pub projected_more : (F : List (List Step)) (k : ℕ) (done : List (Option Instances)) (o p : Option Instances) (os : List (Option Instances)) → p ≡ projected (at_place k F) o
-    → onto (done ++ p ∷ []) (project (shifted (k + 1) F) (slots_of os)) ≡ onto done (project (shifted k F) (slots_of (o ∷ os)))
-projected_more F k done o p os e =
-    onto_push done p (project (shifted (k + 1) F) (slots_of os))
-    ∙ ap (λ (j : ℕ). onto done (slot_onto p (project (shifted j F) (slots_of os)))) (add-one k)
-    ∙ ap (λ (q : Option Instances). onto done (slot_onto q (project (there (shifted k F)) (slots_of os)))) (e ∙ ap (λ (G : List (List Step)). projected G o) (sym (here_shifted k F)))
-    ∙ ap (onto done) (sym (project_first (shifted k F) o os))
+pub kept_more : (s : Selected) (k : ℕ) (done : List (Option Instances)) (o p : Option Instances) (os : List (Option Instances)) → p ≡ kept_slot (selected_at k s) o
+    → onto (done ++ p ∷ []) (kept (selected_behind (k + 1) s) (slots_of os)) ≡ onto done (kept (selected_behind k s) (slots_of (o ∷ os)))
+kept_more s k done o p os e =
+    onto_push done p (kept (selected_behind (k + 1) s) (slots_of os))
+    ∙ ap (λ (j : ℕ). onto done (slot_onto p (kept (selected_behind j s) (slots_of os)))) (add-one k)
+    ∙ ap (λ (q : Option Instances). onto done (slot_onto q (kept (later_selected (selected_behind k s)) (slots_of os)))) (e ∙ ap (λ (c : Option Selected). kept_slot c o) (sym (first_behind k s)))
+    ∙ ap (onto done) (sym (kept_first (selected_behind k s) o os))
 
 -- ---- instances
 
-pub instances_projected : (F : List (List Step)) (xs : List instances.Instance) → instances_of (map (λ (x : instances.Instance). project_one F (instance_view x)) xs) ≡ project_all F (instances_view xs)
-instances_projected F [] = refl
-instances_projected F (x ∷ xs) = ap (instance (project_one F (instance_view x))) (instances_projected F xs)
+pub instances_kept : (s : Selected) (xs : List instances.Instance) → instances_of (map (λ (x : instances.Instance). kept_one s (instance_view x)) xs) ≡ kept_all s (instances_view xs)
+instances_kept s [] = refl
+instances_kept s (x ∷ xs) = ap (instance (kept_one s (instance_view x))) (instances_kept s xs)
+
+-- ---- what is kept is the projection to the paths on which it is selected
+
+pub all_end-here : (F : List (List Step)) → AllEnd F → here F ≡ []
+all_end-here [] h = refl
+all_end-here ([] ∷ F) h = all_end-here F h
+all_end-here ((s ∷ p) ∷ F) h = absurd h
+
+pub all_end-there : (F : List (List Step)) → AllEnd F → AllEnd (there F)
+all_end-there [] h = tt
+all_end-there ([] ∷ F) h = all_end-there F h
+all_end-there ((s ∷ p) ∷ F) h = absurd h
+
+pub selects-first : (s : Selected) (F : List (List Step)) → Selects s F → SelectsFirst (first_selected s) (here F)
+selects-first none_selected F h = all_end-here F h
+selects-first (skipped s) F h = h.0
+selects-first (chosen b s) F h = (h.0, h.1)
+
+pub selects-later : (s : Selected) (F : List (List Step)) → Selects s F → Selects (later_selected s) (there F)
+selects-later none_selected F h = all_end-there F h
+selects-later (skipped s) F h = h.1
+selects-later (chosen b s) F h = h.2
+
+slot_of_some : (F : List (List Step)) (xs : Instances) (n : Node) → IsSome F → slot_for F xs n ≡ slot xs n
+slot_of_some [] xs n h = absurd h
+slot_of_some (p ∷ F) xs n h = refl
+
+slot_of_none : (F : List (List Step)) (f : Instances) (n : Node) → F ≡ [] → slot_for F f n ≡ gap n
+slot_of_none [] f n h = refl
+slot_of_none (p ∷ F) f n h = cc
+
+kept_or_gap-projects : (c : Option Selected) (F : List (List Step)) (xs : Instances) (n : Node) → SelectsFirst c F → ((b : Selected) → Selects b F → kept_all b xs ≡ project_all F xs)
+    → kept_or_gap c (λ b. kept_all b xs) n ≡ slot_for F (project_all F xs) n
+kept_or_gap-projects None F xs n h all = sym (slot_of_none F (project_all F xs) n h)
+kept_or_gap-projects (Some b) F xs n h all = ap (λ (ys : Instances). slot ys n) (all b h.1) ∙ sym (slot_of_some F (project_all F xs) n h.0)
+
+mutual
+  pub kept_projects : (n : Node) (s : Selected) (F : List (List Step)) → Selects s F → kept s n ≡ project F n
+  kept_projects no_slots s F h = refl
+  kept_projects (slot xs n) s F h =
+      ap (kept_or_gap (first_selected s) (λ b. kept_all b xs)) (kept_projects n (later_selected s) (there F) (selects-later s F h))
+      ∙ kept_or_gap-projects (first_selected s) (here F) xs (project (there F) n) (selects-first s F h) (λ (b : Selected) (g : Selects b (here F)). all_kept_project xs b (here F) g)
+  kept_projects (gap n) s F h = ap gap (kept_projects n (later_selected s) (there F) (selects-later s F h))
+
+  all_kept_project : (xs : Instances) (s : Selected) (F : List (List Step)) → Selects s F → kept_all s xs ≡ project_all F xs
+  all_kept_project no_instances s F h = refl
+  all_kept_project (instance x xs) s F h = ap₂ instance (one_kept_projects x s F h) (all_kept_project xs s F h)
+
+  one_kept_projects : (x : Instance) (s : Selected) (F : List (List Step)) → Selects s F → kept_one s x ≡ project_one F x
+  one_kept_projects (atom v) s F h = refl
+  one_kept_projects (inner n) s F h = ap inner (kept_projects n s F h)

@@ -7,4 +7,5 @@ pub mod Scanning
 pub mod PathView
 pub mod Finding
 pub mod Fitting
-pub mod Projecting
+pub mod Selected
+pub mod SelectionView

@@ -5,6 +5,7 @@ mod copying;
 mod fault;
 mod finding;
 mod fitting;
+mod limits;
 mod looking;
 mod parsing;
 mod path;
@@ -12,6 +13,7 @@ mod projecting;
 mod record;
 mod schema;
 mod schema_tokens;
+mod selection;
 mod shape;
 mod state;
 #[cfg(test)]
@@ -23,8 +25,11 @@ pub use dr_memory::NoMemory;
 pub use fault::{PathFault, PathProblem, SchemaFault, SchemaProblem};
 pub use finding::find;
 pub use fitting::{is_of_kind, is_record};
+pub use limits::{
+    GREATEST_DEPTH, LONGEST_NAME, LONGEST_SCHEMA, MOST_LEAVES, schema_limits_are_as_defined,
+};
 pub use looking::instances_at;
-pub use parsing::{LONGEST_SCHEMA, parse_schema};
+pub use parsing::parse_schema;
 pub use path::{Path, Step};
 pub use projecting::project;
 pub use record::{Instance, Node, Slot, Value};

@@ -10,12 +10,10 @@ ghost use Rattle.dr_nested.specs.Reading.{reading_view, stop_view};
 ghost use Rattle.dr_nested.specs.Scanning.{ReadsPiece, ReadsText};
 
 use crate::fault::{SchemaFault, SchemaProblem};
+use crate::limits::LONGEST_SCHEMA;
 use crate::schema::Schema;
 use crate::state::{Expected, Reading, Stop};
 use std::alloc::Global;
-
-/// The greatest length of a schema text, in bytes.
-pub const LONGEST_SCHEMA: usize = 1_048_576;
 
 /// Whether a byte goes on with the word that has begun, or begins one.
 fn goes_on(word: &[u8], byte: u8) -> bool

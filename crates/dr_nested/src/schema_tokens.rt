@@ -10,19 +10,11 @@ ghost use Rattle.dr_nested.specs.Faults.{problem_view};
 ghost use Rattle.dr_nested.specs.Reading.{reading_view, Steps};
 
 use crate::fault::SchemaProblem;
+use crate::limits::{GREATEST_DEPTH, LONGEST_NAME, MOST_LEAVES};
 use crate::shape::{Field, Kind, Rep, Shape};
 use crate::state::{Expected, OpenGroup, Reading, Stop};
 use std::alloc::Global;
 use std::mem;
-
-/// The greatest length of a name, in bytes.
-pub const LONGEST_NAME: usize = 64;
-
-/// The greatest number of parts of a path.
-pub const GREATEST_DEPTH: usize = 32;
-
-/// The greatest number of leaves of a schema.
-pub const MOST_LEAVES: usize = 1024;
 
 impl Reading {
     /// Before the first token.

@@ -115,34 +115,39 @@ fn wide(alloc: Global, leaves: usize) -> Result<String, AllocError> {
 #[test]
 fn a_schema_within_its_limits_is_accepted(rt: HostRuntime) -> Result<(), Fail> {
     let alloc = rt.alloc();
-    let rows = [
-        (field_named(alloc, &LONG_NAME[1..])?, None),
-        (
-            field_named(alloc, LONG_NAME)?,
-            refused(27, SchemaProblem::BadName),
-        ),
-        (nested(alloc, 31)?, None),
-        (nested(alloc, 32)?, refused(635, SchemaProblem::TooDeep)),
-        (nested(alloc, 33)?, refused(635, SchemaProblem::TooDeep)),
-        (wide(alloc, 1024)?, None),
-        (
-            wide(alloc, 1025)?,
-            refused(21445, SchemaProblem::TooManyLeaves),
-        ),
+    let names = [
+        (&LONG_NAME[1..], None),
+        (LONG_NAME, refused(27, SchemaProblem::BadName)),
     ];
-    for (text, fault) in rows {
-        assert_eq!(rt; fault_of(alloc, text.as_bytes()), fault, "at {text}");
+    for (name, fault) in names {
+        let text = field_named(alloc, name)?;
+        assert_eq!(rt; fault_of(alloc, text.as_bytes()), fault);
     }
-    let blank = vec![in alloc; b' '; 1_048_577]?;
-    assert_eq!(rt; blank.len(), 1_048_577);
-    assert_eq!(rt;
-        fault_of(alloc, &blank),
-        refused(1_048_576, SchemaProblem::TooLong)
-    );
-    assert_eq!(rt;
-        fault_of(alloc, &blank[1..]),
-        refused(1_048_576, SchemaProblem::Syntax)
-    );
+    let depths = [
+        (31, None),
+        (32, refused(635, SchemaProblem::TooDeep)),
+        (33, refused(635, SchemaProblem::TooDeep)),
+    ];
+    for (groups, fault) in depths {
+        let text = nested(alloc, groups)?;
+        assert_eq!(rt; fault_of(alloc, text.as_bytes()), fault);
+    }
+    let widths = [
+        (1024, None),
+        (1025, refused(21445, SchemaProblem::TooManyLeaves)),
+    ];
+    for (leaves, fault) in widths {
+        let text = wide(alloc, leaves)?;
+        assert_eq!(rt; fault_of(alloc, text.as_bytes()), fault);
+    }
+    let lengths = [
+        (1_048_577, refused(1_048_576, SchemaProblem::TooLong)),
+        (1_048_576, refused(1_048_576, SchemaProblem::Syntax)),
+    ];
+    for (length, fault) in lengths {
+        let blank = vec![in alloc; b' '; length]?;
+        assert_eq!(rt; fault_of(alloc, &blank), fault);
+    }
     Ok(())
 }
 
@@ -220,24 +225,56 @@ fn names_that_lead_to_no_leaf_are_refused(rt: HostRuntime) -> Result<(), Fail> {
     Ok(())
 }
 
-fn held(alloc: Global, instances: &[i64]) -> Result<Slot, AllocError> {
-    let mut held = Vec::new(alloc);
-    for number in instances {
-        held.push(Instance::Atom(Value::Int(*number)))?;
-    }
-    Ok(Slot::Held(held))
+// What a field of a record is given.
+#[derive(Clone, Copy)]
+enum Given<'a> {
+    Gap,
+    Numbers(&'a [i64]),
+    // One group, whose only field has these texts.
+    Texts(&'a [&'a str]),
 }
 
-// A group whose only field holds these texts.
-fn group_of(alloc: Global, texts: &[&str]) -> Result<Slot, AllocError> {
-    let mut words = Vec::new(alloc);
-    for text in texts {
-        words.push(Instance::Atom(Value::Text(String::from_str(alloc, *text)?)))?;
+fn numbers_of(alloc: Global, numbers: &[i64]) -> Result<Vec<Instance>, AllocError> {
+    let mut held = Vec::new(alloc);
+    for number in numbers {
+        held.push(Instance::Atom(Value::Int(*number)))?;
     }
-    let node = Node {
-        slots: vec![in alloc; Slot::Held(words)]?,
-    };
-    Ok(Slot::Held(vec![in alloc; Instance::Group(node)]?))
+    Ok(held)
+}
+
+fn texts_of(alloc: Global, texts: &[&str]) -> Result<Vec<Instance>, AllocError> {
+    let mut held = Vec::new(alloc);
+    for text in texts {
+        let text = String::from_str(alloc, *text)?;
+        held.push(Instance::Atom(Value::Text(text)))?;
+    }
+    Ok(held)
+}
+
+fn group_of(alloc: Global, texts: &[&str]) -> Result<Instance, AllocError> {
+    let mut slots = Vec::new(alloc);
+    slots.push(Slot::Held(texts_of(alloc, texts)?))?;
+    Ok(Instance::Group(Node { slots }))
+}
+
+fn slot_of(alloc: Global, given: Given<'_>) -> Result<Slot, AllocError> {
+    match given {
+        Given::Gap => Ok(Slot::Gap),
+        Given::Numbers(numbers) => Ok(Slot::Held(numbers_of(alloc, numbers)?)),
+        Given::Texts(texts) => {
+            let mut held = Vec::new(alloc);
+            held.push(group_of(alloc, texts)?)?;
+            Ok(Slot::Held(held))
+        }
+    }
+}
+
+fn node_of(alloc: Global, given: &[Given<'_>]) -> Result<Node, AllocError> {
+    let mut slots = Vec::new(alloc);
+    for one in given {
+        slots.push(slot_of(alloc, *one)?)?;
+    }
+    Ok(Node { slots })
 }
 
 fn small_schema(alloc: Global) -> Result<Schema, SchemaFault> {
@@ -252,26 +289,26 @@ fn a_record_fits_its_schema(rt: HostRuntime) -> Result<(), Fail> {
     let alloc = rt.alloc();
     let schema = small_schema(alloc).map_err(|_| "refused")?;
     let rows = [
-        (held(alloc, &[5])?, group_of(alloc, &["x", "y"])?, true),
-        (held(alloc, &[-2_147_483_648])?, group_of(alloc, &[])?, true),
-        (held(alloc, &[2_147_483_647])?, held(alloc, &[])?, true),
-        (held(alloc, &[2_147_483_648])?, held(alloc, &[])?, false),
-        (held(alloc, &[-2_147_483_649])?, held(alloc, &[])?, false),
-        (held(alloc, &[])?, held(alloc, &[])?, false),
-        (held(alloc, &[1, 2])?, held(alloc, &[])?, false),
-        (held(alloc, &[1])?, held(alloc, &[1])?, false),
-        (held(alloc, &[1])?, Slot::Gap, false),
-        (group_of(alloc, &[])?, held(alloc, &[])?, false),
+        (Given::Numbers(&[5]), Given::Texts(&["x", "y"]), true),
+        (Given::Numbers(&[-2_147_483_648]), Given::Texts(&[]), true),
+        (Given::Numbers(&[2_147_483_647]), Given::Numbers(&[]), true),
+        (Given::Numbers(&[2_147_483_648]), Given::Numbers(&[]), false),
+        (
+            Given::Numbers(&[-2_147_483_649]),
+            Given::Numbers(&[]),
+            false,
+        ),
+        (Given::Numbers(&[]), Given::Numbers(&[]), false),
+        (Given::Numbers(&[1, 2]), Given::Numbers(&[]), false),
+        (Given::Numbers(&[1]), Given::Numbers(&[1]), false),
+        (Given::Numbers(&[1]), Given::Gap, false),
+        (Given::Texts(&[]), Given::Numbers(&[]), false),
     ];
     for (first, second, fits) in rows {
-        let node = Node {
-            slots: vec![in alloc; first, second]?,
-        };
-        assert_eq!(rt; is_record(&schema, &node), fits, "at {node:?}");
+        let node = node_of(alloc, &[first, second])?;
+        assert_eq!(rt; is_record(&schema, &node), fits);
     }
-    let short = Node {
-        slots: vec![in alloc; held(alloc, &[5])?]?,
-    };
+    let short = node_of(alloc, &[Given::Numbers(&[5])])?;
     assert!(rt; !is_record(&schema, &short));
     Ok(())
 }
@@ -282,23 +319,24 @@ fn a_projection_keeps_what_lies_on_its_paths(rt: HostRuntime) -> Result<(), Fail
     let schema = small_schema(alloc).map_err(|_| "refused")?;
     let number = find(alloc, &schema, "a").map_err(|_| "refused")?;
     let text = find(alloc, &schema, "g.s").map_err(|_| "refused")?;
-    let node = Node {
-        slots: vec![in alloc; held(alloc, &[5])?, group_of(alloc, &["x"])?]?,
-    };
-    let kept = project(alloc, &[text], &node).map_err(|_| "no memory")?;
-    assert_eq!(rt;
-        format!(in alloc; "{kept:?}")?.as_str(),
-        "Node { slots: [Gap, Held([Group(Node { slots: [Held([Atom(Text(\"x\"))])] })])] }"
-    );
-    let kept = project(alloc, &[number], &node).map_err(|_| "no memory")?;
-    assert_eq!(rt;
-        format!(in alloc; "{kept:?}")?.as_str(),
-        "Node { slots: [Held([Atom(Int(5))]), Gap] }"
-    );
-    let kept = project(alloc, &[], &node).map_err(|_| "no memory")?;
-    assert_eq!(rt;
-        format!(in alloc; "{kept:?}")?.as_str(),
-        "Node { slots: [Gap, Gap] }"
-    );
+    let node = node_of(alloc, &[Given::Numbers(&[5]), Given::Texts(&["x"])])?;
+    let paths = [text, number];
+    let rows: [(&[Path], &str); 4] = [
+        (
+            &paths[..1],
+            "Node { slots: [Gap, Held([Group(Node { slots: [Held([Atom(Text(\"x\"))])] })])] }",
+        ),
+        (&paths[1..], "Node { slots: [Held([Atom(Int(5))]), Gap] }"),
+        (&paths[..0], "Node { slots: [Gap, Gap] }"),
+        (
+            &paths[..],
+            "Node { slots: [Held([Atom(Int(5))]), Held([Group(Node { slots: [Held([Atom(Text(\"x\"))])] })])] }",
+        ),
+    ];
+    for (selected, expected) in rows {
+        let kept = project(alloc, selected, &node).map_err(|_| "no memory")?;
+        let kept = format!(in alloc; "{kept:?}")?;
+        assert_eq!(rt; kept.as_str(), expected);
+    }
     Ok(())
 }

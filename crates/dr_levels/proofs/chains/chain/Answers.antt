@@ -1,7 +1,7 @@
 use Rattle.std.proofs.Common.{◌+◌, ◌++◌, map, sym, ap, ◌∙◌}
 use Rattle.std.proofs.lemmas.List.{map-append}
 use Rattle.dr_meaning.specs.Path.{chain}
-use Rattle.dr_nested.specs.Projecting.{lent_path}
+use Rattle.dr_nested.specs.PathView.{lent_path}
 use Rattle.dr_levels.proofs.ChainLemmas.{onto, seen, ahead, at_first, one_more, none_more}
 use Rattle.dr_levels.proofs.chains.chain.Goals as goal
 use Rattle.dr_levels.proofs.chains.chain.Goals.{then-is_repeated+in-Ok, else-is_repeated}

@@ -1,7 +1,7 @@
 use Rattle.std.proofs.Common.{◌≡◌, ◌++◌, map}
 use Rattle.dr_meaning.specs.Path.{chain}
 use Rattle.dr_nested.specs.PathView.{step_view}
-use Rattle.dr_nested.specs.Projecting.{lent_path}
+use Rattle.dr_nested.specs.PathView.{lent_path}
 use Rattle.dr_levels.proofs.ChainLemmas.{onto, seen, ahead}
 use Rattle.dr_levels.proofs.chains.chain.Given as goal
 
