@@ -21,6 +21,8 @@ pub mod SchemaAccepted
 pub mod SchemaGoesOn
 pub mod SchemaDeadEnds
 pub mod SchemaLexing
+pub mod TokenLemmas
+pub mod QueryTokenLemmas
 pub mod SchemaReadsBack
 pub mod SchemaValid
 -- lemmas of the laws of projections and columns

@@ -8,6 +8,7 @@ use Rattle.dr_meaning.specs.SchemaText.{Token, name, open_brace, close_brace, se
 use Rattle.dr_meaning.specs.SchemaTextLaws.{AcceptedExactly}
 use Rattle.dr_meaning.proofs.SchemaMachine.{run, Gives, gives_then, read_ok}
 use Rattle.dr_meaning.proofs.SchemaAccepted.{Anything, either_way, nonempty_append, same_schema, accepted_is_spelled}
+use Rattle.dr_meaning.proofs.TokenLemmas.{IsBegun, begun_more}
 use Rattle.dr_meaning.proofs.SchemaReadsBack.{spelled_is_accepted, first_of_group, other_way, NewField}
 
 -- ---- the names in a text have the form of names
@@ -19,23 +20,6 @@ IsNamed (open_brace ∷ ts) = IsNamed ts
 IsNamed (close_brace ∷ ts) = IsNamed ts
 IsNamed (semicolon ∷ ts) = IsNamed ts
 IsNamed (bad ∷ ts) = IsNamed ts
-
--- a word that has begun, if one has
-abbrev IsBegun : List ℕ → Type 0
-IsBegun [] = Unit {0}
-IsBegun (c ∷ w) = is_name (c ∷ w) ≡ true
-
-list_all_push : (w : List ℕ) (b : ℕ) → list_all continues_name w ≡ true → continues_name b ≡ true → list_all continues_name (w ++ b ∷ []) ≡ true
-list_all_push [] b h k = rw k refl
-list_all_push (c ∷ w) b h k =
-    let p = and_parts (continues_name c) (list_all continues_name w) h in
-    and_from (continues_name c) (list_all continues_name (w ++ b ∷ [])) p.0 (list_all_push w b p.1 k)
-
-begun_more : (w : List ℕ) (b : ℕ) → IsBegun w → goes_on w b ≡ true → IsBegun (w ++ b ∷ [])
-begun_more [] b h k = rw k refl
-begun_more (c ∷ w) b h k =
-    let p = and_parts (begins_name c) (list_all continues_name w) h in
-    and_from (begins_name c) (list_all continues_name (w ++ b ∷ [])) p.0 (list_all_push w b p.1 k)
 
 named_word : (i : ℕ) (w : List ℕ) (ts : List Placed) → IsBegun w → IsNamed (bare ts) → IsNamed (bare (with_word i w ts))
 named_word i [] ts h k = k

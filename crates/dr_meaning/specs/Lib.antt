@@ -25,6 +25,7 @@ pub mod Stripe
 pub mod Fsm
 -- laws, each proved on a law function of src/
 pub mod SchemaTextLaws
+pub mod TokenLaws
 pub mod PathLaws
 pub mod ProjectionLaws
 pub mod MeaningLaws
@@ -32,3 +33,4 @@ pub mod ColumnLaws
 pub mod OneColumn
 pub mod WalkLaws
 pub mod OrderLaws
+pub mod AutomatonLaws
