@@ -25,6 +25,7 @@ pub mod TokenLemmas
 pub mod QueryTokenLemmas
 pub mod SchemaReadsBack
 pub mod SchemaValid
+pub mod NameFaultLemmas
 -- lemmas of the laws of projections and columns
 pub mod ProjectionLemmas
 pub mod MeaningLemmas
