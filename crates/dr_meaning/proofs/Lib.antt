@@ -38,6 +38,7 @@ pub mod OneColumnLemmas
 pub mod RecordLimits
 pub mod LineLemmas
 pub mod WalkLemmas
+pub mod NestingLemmas
 pub mod OrderLemmas
 pub mod FoundLemmas
 pub mod FindingLemmas

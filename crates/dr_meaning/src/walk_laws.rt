@@ -1,7 +1,7 @@
 // Laws of the walk of records and of the orders of leaves.
 
 ghost use Rattle.dr_meaning.specs.OrderLaws.{OrdersHaveEachOnce};
-ghost use Rattle.dr_meaning.specs.WalkLaws.{WalkGivesColumns};
+ghost use Rattle.dr_meaning.specs.WalkLaws.{WalkGivesColumns, WalkNests};
 
 /// The walk of records gives of each selected leaf its column, in order.
 pub fn walk_gives_columns()
@@ -11,4 +11,9 @@ pub fn walk_gives_columns()
 /// Schema order and reading order have each selected leaf once.
 pub fn orders_have_each_once()
     ensures { OrdersHaveEachOnce }
+{}
+
+/// Each move of the walk of records nests on what is open there, and in the end no record is open.
+pub fn walk_nests()
+    ensures { WalkNests }
 {}
