@@ -40,5 +40,6 @@ pub mod LineLemmas
 pub mod WalkLemmas
 pub mod NestingLemmas
 pub mod OrderLemmas
+pub mod VisitLemmas
 pub mod FoundLemmas
 pub mod FindingLemmas

@@ -76,7 +76,7 @@ abbrev mutual
   ShapeKindAt (group fs) p k = KindAt fs p k
 
 -- a path of the rest of a group that begins with place i
-abbrev shifted : ℕ → List Step → List Step
+abbrev pub shifted : ℕ → List Step → List Step
 shifted i [] = []
 shifted i (t ∷ p) = step (i + t.place) t.repetition ∷ p
 
@@ -122,7 +122,7 @@ later_leaf n r s fs i l (t ∷ p, e, k) =
 plus_none : (i : ℕ) → 0 + i ≡ i
 plus_none i = omega arith
 
-no_shift : (p : List Step) → shifted 0 p ≡ p
+pub no_shift : (p : List Step) → shifted 0 p ≡ p
 no_shift [] = refl
 no_shift (t ∷ p) = ap (λ x. step x t.repetition ∷ p) (plus_none t.place)
 
