@@ -37,6 +37,7 @@ pub mod ChunkLemmas
 pub mod MetadataLemmas
 pub mod SchemaBack
 pub mod OpenSchemaLemmas
+pub mod OpenLeavesLemmas
 pub mod ColumnsFit
 pub mod ColumnRows
 pub mod FooterBack

@@ -13,8 +13,8 @@ abbrev pub OpenPartIsSchema : Type 0
 OpenPartIsSchema = (f : FileSchema) (s : Schema) → open_schema f ≡ Some s → is_schema s ≡ true
 
 -- a schema's leaf as an open leaf of a file
-abbrev pub as_open_leaf : Leaf → FileLeaf
-as_open_leaf l = record { names = l.names; repetitions = map (λ (s : Step). s.repetition) l.path; kind = Some l.kind }
+abbrev pub file_leaf_of : Leaf → FileLeaf
+file_leaf_of l = record { names = l.names; repetitions = map (λ (s : Step). s.repetition) l.path; kind = Some l.kind }
 
 abbrev pub has_kind : Option Kind → Bool
 has_kind None = false
@@ -27,7 +27,7 @@ open_ones ls = filter (λ (l : FileLeaf). has_kind l.kind) ls
 -- the leaves of the open part, where there is one
 abbrev pub leaves_of_part : Option Schema → List FileLeaf
 leaves_of_part None = []
-leaves_of_part (Some s) = map as_open_leaf (leaves s.fields)
+leaves_of_part (Some s) = map file_leaf_of (leaves s.fields)
 
 -- the leaves of the open part are the first 1,024 open leaves of the file, in order, and there is no open part where no leaf is open
 abbrev pub OpenPartHasOpenLeaves : Type 0

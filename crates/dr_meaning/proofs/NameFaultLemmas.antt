@@ -4,12 +4,12 @@ use Rattle.std.specs.Prelude.{nat_lt, nat_le, bytes_eq, codes, if◌then◌else�
 use Rattle.std.specs.List.{list_any}
 use Rattle.std.proofs.lemmas.Bool.{ltb-true, ltb-false, leb-true, leb-false, cond_both}
 use Rattle.dr_meaning.specs.Schema.{Repetition, Kind, Fields, field_names, is_group, leaf_count, longest_name, greatest_depth, most_leaves}
-use Rattle.dr_meaning.specs.SchemaText.{Token, name, open_brace, close_brace, semicolon, bad, Placed, bare, tokens_of, Reading, SchemaProblem, SchemaFault, too_long, syntax, bad_name, duplicate_name, too_deep, too_many_leaves, float_kind, empty_group, on_token, on_name, on_open, on_close, on_semicolon, on_repetition, on_kind, is_float_word, repetition_of, kind_of, repetition_word, kind_word, at_text_end, unless, expecting, end_group, name_problem, leaf_problem, OpenGroup, Expected, message_word, message_name, message_brace, first_field, next_field, after_group, kind_or_group, leaf_name, leaf_end, group_name, group_brace, text_end, reading_start, parse_schema, longest_schema, read_tokens}
-use Rattle.dr_meaning.specs.SchemaFaultLaws.{IsBeforeName, IsLong, is_taken, leaves_before, BreaksFirst, KeepRules, is_of_name, IsBroken, NameFaultIsBroken}
-use Rattle.dr_meaning.proofs.SchemaMachine.{run, Gives, fault_at, err_same, read_fault, Stopped, Ended}
+use Rattle.dr_meaning.specs.SchemaText.{Token, name, open_brace, close_brace, semicolon, bad, Placed, bare, tokens_of, Reading, SchemaProblem, SchemaFault, too_long, syntax, bad_name, duplicate_name, too_deep, too_many_leaves, float_kind, on_token, on_name, on_open, on_close, on_semicolon, on_repetition, on_kind, is_float_word, repetition_of, kind_of, repetition_word, kind_word, unless, expecting, end_group, name_problem, leaf_problem, OpenGroup, Expected, message_word, message_name, message_brace, first_field, next_field, after_group, kind_or_group, leaf_name, leaf_end, group_name, group_brace, text_end, reading_start, parse_schema, longest_schema, read_tokens}
+use Rattle.dr_meaning.specs.SchemaFaultLaws.{IsBeforeName, leaves_before, BreaksFirst, KeepRules, is_of_name, IsBroken, NameFaultIsBroken}
+use Rattle.dr_meaning.proofs.SchemaMachine.{fault_at, err_same, read_fault, Stopped, Ended}
 use Rattle.dr_meaning.proofs.SchemaAccepted.{Behind, IsRead, reads_to}
 use Rattle.dr_meaning.proofs.SchemaDeadEnds.{end_fault}
-use Rattle.dr_meaning.proofs.SchemaValid.{IsNamed, IsNew, IsOpen, IsWithin, ValidAt, Valid, named_from, keeps_run}
+use Rattle.dr_meaning.proofs.SchemaValid.{IsNamed, IsOpen, ValidAt, Valid, named_from, keeps_run}
 
 -- a problem of names, if there is one, is told so
 abbrev Tells : (SchemaProblem → Type 0) → Result Reading SchemaProblem → Type 0
@@ -54,6 +54,7 @@ leaf_breaks m j w l =
   where
     R : SchemaProblem → Type 0
     R p = BreaksFirst p m.groups m.fields (Some j) w
+
     Q : Option SchemaProblem → Type 0
     Q o = TellsOf R (leaf_problem m o)
 

@@ -6,11 +6,11 @@ use Rattle.std.proofs.lemmas.Bool.{and_parts, and_from, eq-eqb}
 use Rattle.std.proofs.lemmas.List.{map-append, reverse-append}
 use Rattle.dr_meaning.specs.Schema.{Repetition, required, optional, repeated, is_repeated, Kind, Fields, no_fields, field, Shape, leaf, group, repetition_count, repeated_fields, shape_repeated_fields}
 use Rattle.dr_meaning.specs.Path.{Step, Leaf, begins_with, same_path, chain, leaf_below, leaves_from, shape_leaves, leaves}
-use Rattle.dr_meaning.specs.Record.{Value, Node, no_slots, slot, gap, Instances, no_instances, instance, Instance, atom, inner, is_of_kind, all_instances, is_record, is_instance}
-use Rattle.dr_meaning.specs.Column.{Triplet, triplet, value_of}
+use Rattle.dr_meaning.specs.Record.{Node, no_slots, slot, gap, Instances, no_instances, instance, Instance, atom, inner, is_of_kind, all_instances, is_record, is_instance}
+use Rattle.dr_meaning.specs.Column.{triplet}
 use Rattle.dr_meaning.specs.Automaton.{Pick, picks_from, picks, behind_if, behind_pick, behind, beside_if, beside_pick, beside, indexes}
-use Rattle.dr_meaning.specs.Walk.{Move, enter, value, leave, Depth, inside, begun_later, first_of, first_slot, other_slots, node_of, value_there, triplet_moves, unless_repeated, enclosed, later_moves, repeated_moves, by_repetition, where_selected, moves_in, near_moves, far_moves, shape_near_moves, shape_far_moves, top, record_moves, walk, own_path, repeated_paths_from, shape_repeated_paths, repeated_paths, Open, no_record, in_record, is_chain_front, is_same_chain, where_true, entered, left, is_of_leaf, passed_leaf, in_record_after, open_after}
-use Rattle.dr_meaning.specs.WalkLaws.{open_after_moves, AreLeavesOf, WalkNests}
+use Rattle.dr_meaning.specs.Walk.{Move, enter, leave, Depth, inside, begun_later, first_of, first_slot, other_slots, node_of, value_there, triplet_moves, unless_repeated, enclosed, later_moves, repeated_moves, by_repetition, where_selected, moves_in, near_moves, far_moves, shape_near_moves, shape_far_moves, top, record_moves, walk, own_path, repeated_paths_from, shape_repeated_paths, repeated_paths, Open, no_record, in_record, is_chain_front, is_same_chain, is_of_leaf, open_after}
+use Rattle.dr_meaning.specs.WalkLaws.{open_after_moves, WalkNests}
 use Rattle.dr_meaning.proofs.Blocks.{and₃_parts}
 use Rattle.dr_meaning.proofs.WalkLemmas.{step}
 

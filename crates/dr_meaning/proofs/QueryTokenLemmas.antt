@@ -1,13 +1,13 @@
 -- The tokens of a query text and the blanks between them are the text.
-use Rattle.std.proofs.Common.{◌≡◌, ℕ, suc, ◌+◌, ◌*◌, ◌-◌, ◌<◌, List, [], ◌∷◌, ◌++◌, length, Bool, true, false, not, ◌||◌, inl, inr, refl, sym, ap, ◌∙◌, subst, arith, append_assoc, append-nil, length-append, true≢false}
+use Rattle.std.proofs.Common.{◌≡◌, ℕ, suc, ◌+◌, ◌*◌, ◌-◌, ◌<◌, List, [], ◌∷◌, ◌++◌, length, Bool, true, false, not, inl, inr, refl, sym, ap, ◌∙◌, subst, arith, append_assoc, append-nil, length-append, true≢false}
 use Rattle.std.specs.Prelude.{◌==◌, if◌then◌else◌, nat_le, codes, bytes_eq}
-use Rattle.std.specs.List.{list_all, list_any}
+use Rattle.std.specs.List.{list_all}
 use Rattle.std.specs.Str.{str_to_ascii_uppercase}
 use Rattle.std.proofs.lemmas.Bool.{and_parts, and_from, or_from, not_from_false, eqb-true, leb-true, leb-false, cond_both}
 use Rattle.dr_meaning.specs.Schema.{is_name, begins_name, continues_name}
 use Rattle.dr_meaning.specs.SchemaText.{is_blank}
-use Rattle.dr_meaning.specs.QueryText.{Word, select_word, from_word, where_word, group_word, by_word, as_word, within_word, record_word, and_word, or_word, not_word, like_word, contains_word, is_word, null_word, true_word, false_word, count_word, sum_word, min_word, max_word, Sign, comma, open_parenthesis, close_parenthesis, dot, star, plus_sign, minus_sign, equals, differs, less_than, less_or_equal, greater_than, greater_or_equal, semicolon, QueryToken, reserved, identifier, number, text, sign, bad, PlacedToken, word_or, word_of, name_token, greatest_number, number_token, quoted_token, is_digit, sign_token, Begun, none, in_name, in_number, in_quotes, in_text, after_quote, after_less, after_greater, Lexed, placed, begins, whole, after_token, first_byte, next_byte, last_tokens, query_tokens, query_tokens_from}
-use Rattle.dr_meaning.specs.TokenLaws.{begins_so, IsWholeWord, digits_value, AreDigitsOf, doubled, has_no_quote, IsStray, IsSign, IsQueryToken, AreQueryTokens, QueryTokensAreText}
+use Rattle.dr_meaning.specs.QueryText.{Word, select_word, from_word, where_word, group_word, by_word, as_word, within_word, record_word, and_word, or_word, not_word, like_word, contains_word, is_word, null_word, true_word, false_word, count_word, sum_word, min_word, max_word, comma, open_parenthesis, close_parenthesis, dot, star, plus_sign, minus_sign, equals, differs, less_than, less_or_equal, greater_than, greater_or_equal, semicolon, QueryToken, reserved, identifier, number, text, sign, bad, PlacedToken, word_or, word_of, name_token, greatest_number, number_token, quoted_token, is_digit, sign_token, Begun, none, in_name, in_number, in_quotes, in_text, after_quote, after_less, after_greater, Lexed, placed, begins, whole, after_token, first_byte, next_byte, last_tokens, query_tokens_from}
+use Rattle.dr_meaning.specs.TokenLaws.{IsWholeWord, digits_value, AreDigitsOf, doubled, has_no_quote, IsQueryToken, AreQueryTokens, QueryTokensAreText}
 
 -- a blank before tokens
 blank_before : (i b : ℕ) (query : List ℕ) (ts : List PlacedToken) → is_blank b ≡ true → AreQueryTokens (suc i) query ts → AreQueryTokens i (b ∷ query) ts
@@ -76,8 +76,12 @@ sign_is b behind k1 k2 k3 k4 k5 k6 k7 =
     cond_both (b == 41) (sign close_parenthesis) _ P (byte_is b 41) (λ h3. cond_both (b == 46) (sign dot) _ P (byte_is b 46) (λ h4.
     cond_both (b == 42) (sign star) _ P (byte_is b 42) (λ h5. cond_both (b == 43) (sign plus_sign) _ P (byte_is b 43) (λ h6.
     cond_both (b == 45) (sign minus_sign) _ P (byte_is b 45) (λ h7. cond_both (b == 61) (sign equals) _ P (byte_is b 61) (λ h8.
-    cond_both (b == 59) (sign semicolon) bad P (byte_is b 59) (λ h9. inl (b, refl, or_from _ _ (or_from _ _ (or_from _ _ (or_from _ _ k1 k2) k3) k4)
-    (or_from _ _ k5 (or_from _ _ k6 (or_from _ _ k7 (or_from _ _ h1 (or_from _ _ h2 (or_from _ _ h3 (or_from _ _ h4 (or_from _ _ h5 (or_from _ _ h6 (or_from _ _ h7 (or_from _ _ h8 (or_from _ _ h9 refl))))))))))))))))))))))
+    cond_both (b == 59) (sign semicolon) bad P (byte_is b 59) (λ h9. inl (
+      b,
+      refl,
+      or_from _ _ (or_from _ _ (or_from _ _ (or_from _ _ k1 k2) k3) k4)
+          (or_from _ _ k5 (or_from _ _ k6 (or_from _ _ k7 (or_from _ _ h1 (or_from _ _ h2 (or_from _ _ h3 (or_from _ _ h4 (or_from _ _ h5 (or_from _ _ h6 (or_from _ _ h7 (or_from _ _ h8 (or_from _ _ h9 refl)))))))))))),
+    ))))))))))
   where
     P : QueryToken → Type 0
     P t = IsQueryToken t (b ∷ []) behind
@@ -169,6 +173,7 @@ first_on i b query each =
   where
     P : Lexed → Type 0
     P l = After i [] (b ∷ query) (suc i) query l
+
     on : (st : Begun) → Holds i st (b ∷ []) → P (begins st)
     on st h = begun_on i i [] b query st each (omega arith) h
 

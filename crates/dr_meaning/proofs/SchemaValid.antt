@@ -1,9 +1,9 @@
 -- What is accepted keeps the rules of names and the limits.
 use Rattle.std.proofs.Common.{◌≡◌, ℕ, suc, ◌+◌, ◌-◌, ◌≤◌, ◌<◌, List, [], ◌∷◌, ◌++◌, length, Bool, true, false, not, refl, subst, Ok, Err, Some, None, Option, Result, arith}
 use Rattle.std.specs.Prelude.{◌==◌, codes, nat_lt, nat_le, bytes_eq, if◌then◌else◌, ◌&&◌}
-use Rattle.std.specs.List.{list_any, list_all}
-use Rattle.std.proofs.lemmas.Bool.{and_parts, and_from, or_parts, or_from, not_from_false, ltb-false, leb-false, le-leb, cond_both}
-use Rattle.dr_meaning.specs.Schema.{Schema, Repetition, Kind, Fields, no_fields, field, Shape, leaf, group, is_nonempty, longest_name, greatest_depth, most_leaves, field_names, is_name, is_short_name, is_group, is_shape, is_schema, leaf_count, shape_leaf_count, depth, shape_depth, begins_name, continues_name}
+use Rattle.std.specs.List.{list_any}
+use Rattle.std.proofs.lemmas.Bool.{and_from, or_parts, or_from, not_from_false, ltb-false, leb-false, le-leb, cond_both}
+use Rattle.dr_meaning.specs.Schema.{Schema, Repetition, Kind, Fields, no_fields, field, Shape, leaf, group, is_nonempty, longest_name, greatest_depth, most_leaves, field_names, is_name, is_short_name, is_group, is_shape, is_schema, leaf_count, shape_leaf_count, depth, shape_depth}
 use Rattle.dr_meaning.specs.SchemaText.{Token, name, open_brace, close_brace, semicolon, bad, Placed, bare, tokens_of, tokens_from, with_word, with_byte, byte_token, is_blank, goes_on, Reading, SchemaProblem, too_long, syntax, float_kind, bad_name, duplicate_name, too_deep, too_many_leaves, on_token, on_name, on_open, on_close, on_semicolon, on_repetition, on_kind, unless, expecting, end_group, name_problem, leaf_problem, repetition_of, kind_of, is_float_word, at_text_end, append_fields, OpenGroup, Expected, message_word, message_name, message_brace, first_field, next_field, after_group, kind_or_group, leaf_name, leaf_end, group_name, group_brace, text_end, reading_start, parse_schema, longest_schema, read_tokens}
 use Rattle.dr_meaning.specs.SchemaTextLaws.{AcceptedExactly}
 use Rattle.dr_meaning.specs.SchemaFaultLaws.{leaves_before}

@@ -1,11 +1,11 @@
 -- The tokens of a schema text and the blanks between them are the text.
-use Rattle.std.proofs.Common.{◌≡◌, ℕ, suc, ◌+◌, ◌-◌, List, [], ◌∷◌, ◌++◌, length, Bool, true, false, ◌||◌, refl, sym, ap, ◌∙◌, subst, arith, append_assoc, append-nil, length-append}
-use Rattle.std.specs.Prelude.{◌==◌, if◌then◌else◌}
+use Rattle.std.proofs.Common.{◌≡◌, ℕ, suc, ◌+◌, ◌-◌, List, [], ◌∷◌, ◌++◌, length, true, false, ◌||◌, refl, sym, ap, subst, arith, append_assoc, length-append}
+use Rattle.std.specs.Prelude.{◌==◌}
 use Rattle.std.specs.List.{list_all}
 use Rattle.std.proofs.lemmas.Bool.{and_parts, and_from, or_parts, or_from, eqb-true, cond_both}
 use Rattle.dr_meaning.specs.Schema.{is_name, begins_name, continues_name}
-use Rattle.dr_meaning.specs.SchemaText.{Token, name, open_brace, close_brace, semicolon, bad, Placed, tokens_of, tokens_from, with_word, with_byte, byte_token, is_blank, goes_on}
-use Rattle.dr_meaning.specs.TokenLaws.{begins_so, IsWholeWord, IsStrayByte, IsToken, AreTokens, TokensAreText}
+use Rattle.dr_meaning.specs.SchemaText.{Token, name, open_brace, close_brace, semicolon, bad, Placed, tokens_from, with_word, with_byte, byte_token, is_blank, goes_on}
+use Rattle.dr_meaning.specs.TokenLaws.{begins_so, IsStrayByte, IsToken, AreTokens, TokensAreText}
 
 -- a blank before tokens
 blank_before : (i b : ℕ) (text : List ℕ) (ts : List Placed) → is_blank b ≡ true → AreTokens (suc i) text ts → AreTokens i (b ∷ text) ts

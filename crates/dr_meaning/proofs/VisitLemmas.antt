@@ -1,15 +1,15 @@
 -- The automaton of leaves in reading order visits the leaves as the walk of a record does.
-use Rattle.std.proofs.Common.{◌≡◌, ◌⊎◌, inl, inr, ℕ, zero, suc, ◌+◌, ◌<◌, ◌≤◌, List, [], ◌∷◌, ◌++◌, map, length, Bool, true, false, ◌&&◌, ◌==◌, Option, Some, None, refl, sym, ap, ap₂, ◌∙◌, subst, true≢false, arith, append_assoc, append-nil, length-append}
-use Rattle.std.specs.Prelude.{if◌then◌else◌, nat_le}
+use Rattle.std.proofs.Common.{◌≡◌, ◌⊎◌, inl, inr, ℕ, zero, suc, ◌+◌, ◌<◌, ◌≤◌, List, [], ◌∷◌, ◌++◌, length, Bool, true, false, ◌==◌, Option, Some, None, refl, sym, ap, ap₂, ◌∙◌, subst, true≢false, arith, append_assoc, append-nil, length-append}
+use Rattle.std.specs.Prelude.{if◌then◌else◌}
 use Rattle.std.specs.List.{slice_get}
 use Rattle.std.proofs.lemmas.Option.{slice_get_past}
-use Rattle.std.proofs.lemmas.Bool.{and_parts, eq-eqb, ne_eqb, eqb-true, leb-true, leb-false, le-leb, lt-leb, cond_both, cases_lt}
-use Rattle.dr_meaning.specs.Schema.{Repetition, required, optional, repeated, Kind, Fields, no_fields, field, Shape, leaf, group, repetition_count, shape_repeated_fields}
-use Rattle.dr_meaning.specs.Path.{Step, common, max_repetition, is_leaf_path, is_shape_path, same_repetition, through}
+use Rattle.std.proofs.lemmas.Bool.{and_parts, eq-eqb, ne_eqb, eqb-true, le-leb, lt-leb, cond_both, cases_lt}
+use Rattle.dr_meaning.specs.Schema.{Repetition, required, optional, repeated, Fields, no_fields, field, Shape, leaf, group, repetition_count, shape_repeated_fields}
+use Rattle.dr_meaning.specs.Path.{Step, common, max_repetition, is_leaf_path, is_shape_path, same_repetition}
 use Rattle.dr_meaning.specs.Record.{Value, Node, Instances, no_instances, instance, Instance}
 use Rattle.dr_meaning.specs.Column.{Triplet, triplet}
-use Rattle.dr_meaning.specs.Automaton.{Pick, picks, behind, beside, indexes, unless_repeated, where_repeated, near_order, far_order, shape_near_order, shape_far_order, reading_order, first_common, transition, transition_by, transition_from, counting}
-use Rattle.dr_meaning.specs.Walk.{Move, enter, value, leave, unless_repeated as moves_unless_repeated, Depth, inside, begun_later, first_of, first_slot, other_slots, node_of, value_there, triplet_moves, enclosed, later_moves, repeated_moves, by_repetition, where_selected, moves_in, near_moves, far_moves, shape_near_moves, shape_far_moves, top, record_moves}
+use Rattle.dr_meaning.specs.Automaton.{Pick, picks, behind, beside, indexes, unless_repeated, where_repeated, near_order, far_order, shape_near_order, shape_far_order, first_common, transition, transition_by, counting}
+use Rattle.dr_meaning.specs.Walk.{Move, value, leave, unless_repeated as moves_unless_repeated, Depth, inside, begun_later, first_of, first_slot, other_slots, node_of, value_there, triplet_moves, enclosed, later_moves, repeated_moves, by_repetition, where_selected, moves_in, near_moves, far_moves, shape_near_moves, shape_far_moves, top, record_moves}
 use Rattle.dr_meaning.specs.OrderLaws.{times}
 use Rattle.dr_meaning.specs.AutomatonLaws.{next_level, next_leaf, LeadsOn, AreInReadingOrder, first_leaf, AutomatonVisitsWalk}
 use Rattle.dr_meaning.proofs.Blocks.{same_repetition-true}
@@ -244,8 +244,11 @@ module _ (F : List (List Step)) where
           let w : (same_repetition t r ≡ true) × (is_shape_path s x ≡ true) = and_parts _ _ l in
           let n : i + 0 ≡ i = omega arith in
           inl (x, only_behind j t x G o, c ∙ ap₂ (λ y z. q ++ step y z ∷ x) n (same_repetition-true t r w.0) ∙ sym (append_assoc q (step i r ∷ []) x), w.1)
-      by_place (suc k) t x o c l = inr (behind_later j k t x G o, λ y. let z : common ((q ++ step i r ∷ []) ++ y) p ≡ max_repetition q + 0 = ap (common ((q ++ step i r ∷ []) ++ y)) c ∙ ap (λ w. common w (q ++ shifted i (step (suc k) t ∷ x))) (append_assoc q (step i r ∷ []) y)
-          ∙ common_front q (step i r ∷ y) (shifted i (step (suc k) t ∷ x)) ∙ ap (λ w. max_repetition q + w) (common_apart (step i r) (step (i + suc k) t) y x (ne_eqb i (i + suc k) (omega arith))) in omega (arith, z))
+      by_place (suc k) t x o c l = inr (
+        behind_later j k t x G o,
+        λ y. let z : common ((q ++ step i r ∷ []) ++ y) p ≡ max_repetition q + 0 = ap (common ((q ++ step i r ∷ []) ++ y)) c ∙ ap (λ w. common w (q ++ shifted i (step (suc k) t ∷ x))) (append_assoc q (step i r ∷ []) y)
+            ∙ common_front q (step i r ∷ y) (shifted i (step (suc k) t ∷ x)) ∙ ap (λ w. max_repetition q + w) (common_apart (step i r) (step (i + suc k) t) y x (ne_eqb i (i + suc k) (omega arith))) in omega (arith, z),
+      )
 
       by_part : InFields q i (field m r s fs) G j p ⊎ NotInFields q i G j p → InShape (q ++ step i r ∷ []) s (behind G) j p ⊎ (Without j (behind G) × ((x : List Step) → common ((q ++ step i r ∷ []) ++ x) p ≤ max_repetition q))
       by_part (inl ([], o, c, l)) = absurd (true≢false (sym l))
