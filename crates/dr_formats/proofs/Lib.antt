@@ -46,4 +46,5 @@ pub mod FileBack
 pub mod LoadFits
 -- tables and tablets
 pub mod TableLemmas
+pub mod TableTextLemmas
 pub mod TabletLemmas
