@@ -22,7 +22,9 @@ pub mod SchemaGoesOn
 pub mod SchemaDeadEnds
 pub mod SchemaLexing
 pub mod TokenLemmas
+pub mod OneTokenLemmas
 pub mod QueryTokenLemmas
+pub mod OneQueryTokenLemmas
 pub mod SchemaReadsBack
 pub mod SchemaValid
 pub mod NameFaultLemmas

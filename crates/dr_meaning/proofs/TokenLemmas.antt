@@ -75,7 +75,7 @@ word_before i j (c ∷ w) text ts e h g a =
     ends (b ∷ bs) g = g
 
 -- what goes on with no word begins no name
-no_name : (w : List ℕ) (b : ℕ) → goes_on w b ≡ false → begins_name b ≡ false
+pub no_name : (w : List ℕ) (b : ℕ) → goes_on w b ≡ false → begins_name b ≡ false
 no_name [] b h = h
 no_name (c ∷ w) b h = (or_parts (begins_name b) _ h).0
 

@@ -41,6 +41,10 @@ AreTokens i text (t ∷ ts) = (blanks : List ℕ) × (bs : List ℕ) × (behind 
 abbrev pub TokensAreText : Type 0
 TokensAreText = (text : List ℕ) → AreTokens 0 text (tokens_of text)
 
+-- and of no other tokens
+abbrev pub OneListOfTokens : Type 0
+OneListOfTokens = (text : List ℕ) (ts : List Placed) → AreTokens 0 text ts → tokens_of text ≡ ts
+
 -- ---- query text
 
 -- the number that digits write behind those of n
@@ -109,3 +113,7 @@ AreQueryTokens i text (t ∷ ts) = (blanks : List ℕ) × (bs : List ℕ) × (be
 -- a query text is its tokens and blanks
 abbrev pub QueryTokensAreText : Type 0
 QueryTokensAreText = (query : List ℕ) → AreQueryTokens 0 query (query_tokens query)
+
+-- and of no other tokens
+abbrev pub OneListOfQueryTokens : Type 0
+OneListOfQueryTokens = (query : List ℕ) (ts : List PlacedToken) → AreQueryTokens 0 query ts → query_tokens query ≡ ts
