@@ -3,9 +3,9 @@ use Rattle.std.proofs.Common.{◌≡◌, ◌⊎◌, inl, inr, ℕ, ◌+◌, ◌<
 use Rattle.std.specs.Prelude.{nat_lt, nat_le, bytes_eq, codes, if◌then◌else◌}
 use Rattle.std.specs.List.{list_any}
 use Rattle.std.proofs.lemmas.Bool.{ltb-true, ltb-false, leb-true, leb-false, cond_both}
-use Rattle.dr_meaning.specs.Schema.{Repetition, Kind, Fields, field_names, is_group, leaf_count, longest_name, greatest_depth, most_leaves}
+use Rattle.dr_meaning.specs.Schema.{Repetition, Kind, Fields, field_names, is_group, depth, leaf_count, longest_name, greatest_depth, most_leaves}
 use Rattle.dr_meaning.specs.SchemaText.{Token, name, open_brace, close_brace, semicolon, bad, Placed, bare, tokens_of, Reading, SchemaProblem, SchemaFault, too_long, syntax, bad_name, duplicate_name, too_deep, too_many_leaves, float_kind, on_token, on_name, on_open, on_close, on_semicolon, on_repetition, on_kind, is_float_word, repetition_of, kind_of, repetition_word, kind_word, unless, expecting, end_group, name_problem, leaf_problem, OpenGroup, Expected, message_word, message_name, message_brace, first_field, next_field, after_group, kind_or_group, leaf_name, leaf_end, group_name, group_brace, text_end, reading_start, parse_schema, longest_schema, read_tokens}
-use Rattle.dr_meaning.specs.SchemaFaultLaws.{IsBeforeName, leaves_before, BreaksFirst, KeepRules, is_of_name, IsBroken, NameFaultIsBroken}
+use Rattle.dr_meaning.specs.SchemaFaultLaws.{IsBeforeName, leaves_before, BreaksFirst, AllKeepRules, is_of_name, IsBroken, NameFaultIsBroken}
 use Rattle.dr_meaning.proofs.SchemaMachine.{fault_at, err_same, read_fault, Stopped, Ended}
 use Rattle.dr_meaning.proofs.SchemaAccepted.{Behind, IsRead, reads_to}
 use Rattle.dr_meaning.proofs.SchemaDeadEnds.{end_fault}
@@ -60,9 +60,9 @@ leaf_breaks m j w l =
 
 -- ---- the states of the machine
 
-keep_from : (gs : List OpenGroup) (fs : Fields) → is_group fs ≡ true → IsOpen gs → KeepRules gs fs
-keep_from [] fs g o = g
-keep_from (x ∷ gs) fs g o = (g, o.0.0, o.0.1, keep_from gs x.before o.1 o.3)
+keep_from : (gs : List OpenGroup) (fs : Fields) → is_group fs ≡ true → length gs + depth fs ≤ 32 → IsOpen gs → AllKeepRules gs fs
+keep_from [] fs g d o = (g, omega (arith, d))
+keep_from (x ∷ gs) fs g d o = ((g, omega (arith, d)), o.0.0, o.0.1, keep_from gs x.before o.1 o.2 o.3)
 
 -- the name w at a state that the tokens u brought
 abbrev Broken : List Token → List ℕ → SchemaProblem → Type 0
@@ -95,10 +95,10 @@ at_name next_field m u w h v = at_repetition (Broken u w) m (repetition_of w)
 at_name after_group m u w h v = at_repetition (Broken u w) m (repetition_of w)
 at_name (kind_or_group r) m u w h v = at_kind (Broken u w) m r w (kind_of w)
 at_name (leaf_name r k) m u w h v = tells_unless (Broken u w) (leaf_problem m (name_problem m w)) (record m { expected = leaf_end r k w })
-    (weaker (λ p. BreaksFirst p m.groups m.fields (Some k) w) (Broken u w) (λ p b. inr (m.groups, m.fields, Some k, before_kind r k m u h, keep_from m.groups m.fields v.2 v.1, b)) (leaf_problem m (name_problem m w)) (leaf_breaks m k w (omega (arith, v.4))))
+    (weaker (λ p. BreaksFirst p m.groups m.fields (Some k) w) (Broken u w) (λ p b. inr (m.groups, m.fields, Some k, before_kind r k m u h, keep_from m.groups m.fields v.2 v.3 v.1, omega (arith, v.4, v.5), b)) (leaf_problem m (name_problem m w)) (leaf_breaks m k w (omega (arith, v.4))))
 at_name (leaf_end r k n) m u w h v = no_name
 at_name (group_name r) m u w h v = tells_unless (Broken u w) (name_problem m w) (record m { expected = group_brace r w })
-    (weaker (λ p. BreaksFirst p m.groups m.fields None w) (Broken u w) (λ p b. inr (m.groups, m.fields, None, before_group r m u h, keep_from m.groups m.fields v.2 v.1, b)) (name_problem m w) (name_breaks m None w))
+    (weaker (λ p. BreaksFirst p m.groups m.fields None w) (Broken u w) (λ p b. inr (m.groups, m.fields, None, before_group r m u h, keep_from m.groups m.fields v.2 v.3 v.1, omega (arith, v.4, v.5), b)) (name_problem m w) (name_breaks m None w))
 at_name (group_brace r n) m u w h v = no_name
 at_name text_end m u w h v = no_name
 

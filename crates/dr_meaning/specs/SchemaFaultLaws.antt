@@ -1,7 +1,8 @@
--- Laws of the faults of names in schema text: at each its rule is broken, no rule before it at that name, and none at the names before.
+-- The law of the faults of names in schema text: at each its rule is broken, no rule before it at that name, and none at the names before.
 use Rattle.std.specs.Prelude.{◌≡◌, ℕ, ◌+◌, ◌<◌, ◌≤◌, List, [], ◌∷◌, ◌++◌, length, Bool, true, false, bytes_eq, codes, ◌⊎◌, Option, Some, None, Err}
 use Rattle.std.specs.List.{list_any}
-use Rattle.dr_meaning.specs.Schema.{Repetition, Kind, Fields, field_names, is_group, is_short_name, leaf_count, longest_name, greatest_depth, most_leaves}
+use Rattle.dr_meaning.specs.Schema.{Repetition, Kind, Fields, field_names, is_group, is_short_name, depth, leaf_count, longest_name}
+use Rattle.dr_meaning.specs.Schema.{greatest_depth, most_leaves}
 use Rattle.dr_meaning.specs.SchemaText.{Token, name, open_brace, Placed, tokens_of, bare, repetition_word, kind_word, SpellsFields, OpenGroup, parse_schema}
 use Rattle.dr_meaning.specs.SchemaText.{SchemaProblem, too_long, float_kind, empty_group, syntax, bad_name, duplicate_name, too_deep, too_many_leaves}
 
@@ -53,10 +54,14 @@ BreaksFirst too_many_leaves gs fs k w = ¬ IsLong w × (is_taken fs w ≡ false)
     × ((j : Kind) × (k ≡ Some j)) × (most_leaves < leaves_before gs + leaf_count fs + 1)
 BreaksFirst p gs fs k w = ⊥
 
--- the fields before keep the rules of names, and so do the open groups
-abbrev pub KeepRules : List OpenGroup → Fields → Type 0
-KeepRules [] fs = is_group fs ≡ true
-KeepRules (g ∷ gs) fs = (is_group fs ≡ true) × (is_short_name g.name ≡ true) × (is_taken g.before g.name ≡ false) × KeepRules gs g.before
+-- fields in this many open groups keep the rules of names and of depth
+abbrev pub KeepRules : ℕ → Fields → Type 0
+KeepRules n fs = (is_group fs ≡ true) × (n + depth fs ≤ greatest_depth)
+
+-- the fields before keep these rules, and so do the open groups with the fields before them
+abbrev pub AllKeepRules : List OpenGroup → Fields → Type 0
+AllKeepRules [] fs = KeepRules 0 fs
+AllKeepRules (g ∷ gs) fs = KeepRules (length gs + 1) fs × (is_short_name g.name ≡ true) × (is_taken g.before g.name ≡ false) × AllKeepRules gs g.before
 
 -- ---- the law
 
@@ -74,9 +79,10 @@ is_of_name too_many_leaves = true
 -- the name of a message that is too long, or a field's name that breaks a rule
 abbrev pub IsBroken : SchemaProblem → List Token → List ℕ → Type 0
 IsBroken p before w = ((p ≡ bad_name) × (before ≡ name (codes "message") ∷ []) × IsLong w)
-    ⊎ ((gs : List OpenGroup) × (fs : Fields) × (k : Option Kind) × IsBeforeName gs fs k before × KeepRules gs fs × BreaksFirst p gs fs k w)
+    ⊎ ((gs : List OpenGroup) × (fs : Fields) × (k : Option Kind) × IsBeforeName gs fs k before × AllKeepRules gs fs
+    × (leaves_before gs + leaf_count fs ≤ most_leaves) × BreaksFirst p gs fs k w)
 
--- at a fault of a name stands a name that breaks its rule and none before it, and the names before keep the rules
+-- at a fault of a name stands a name that breaks its rule and none before it, and what stands before keeps all rules
 abbrev pub NameFaultIsBroken : Type 0
 NameFaultIsBroken = (text : List ℕ) (place : ℕ) (p : SchemaProblem) → is_of_name p ≡ true → parse_schema text ≡ Err (record { place = place; problem = p })
     → (before : List Placed) × (w : List ℕ) × (after : List Placed)
