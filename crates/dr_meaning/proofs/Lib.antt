@@ -35,6 +35,7 @@ pub mod Blocks
 pub mod ColumnLemmas
 pub mod ColumnStarts
 pub mod ColumnSize
+pub mod LeafKinds
 pub mod OneColumnLemmas
 -- the record of a line is within the limits
 pub mod RecordLimits

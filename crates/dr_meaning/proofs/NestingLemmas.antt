@@ -5,14 +5,14 @@ use Rattle.std.specs.List.{list_all, slice_get, flat_map}
 use Rattle.std.proofs.lemmas.Bool.{and_parts, and_from, eq-eqb}
 use Rattle.std.proofs.lemmas.List.{map-append, reverse-append}
 use Rattle.dr_meaning.specs.Schema.{Repetition, required, optional, repeated, is_repeated, Kind, Fields, no_fields, field, Shape, leaf, group, repetition_count, repeated_fields, shape_repeated_fields}
-use Rattle.dr_meaning.specs.Path.{Step, Leaf, begins_with, same_path, chain, leaf_below, leaves_from, shape_leaves, leaves}
+use Rattle.dr_meaning.specs.Path.{Step, Leaf, same_repetition, begins_with, same_path, chain, leaf_below, leaves_from, shape_leaves, leaves}
 use Rattle.dr_meaning.specs.Record.{Node, no_slots, slot, gap, Instances, no_instances, instance, Instance, atom, inner, is_of_kind, all_instances, is_record, is_instance}
 use Rattle.dr_meaning.specs.Column.{triplet}
 use Rattle.dr_meaning.specs.Automaton.{Pick, picks_from, picks, behind_if, behind_pick, behind, beside_if, beside_pick, beside, indexes}
 use Rattle.dr_meaning.specs.Walk.{Move, enter, leave, Depth, inside, begun_later, first_of, first_slot, other_slots, node_of, value_there, triplet_moves, unless_repeated, enclosed, later_moves, repeated_moves, by_repetition, where_selected, moves_in, near_moves, far_moves, shape_near_moves, shape_far_moves, top, record_moves, walk, own_path, repeated_paths_from, shape_repeated_paths, repeated_paths, Open, no_record, in_record, is_chain_front, is_same_chain, is_of_leaf, open_after}
 use Rattle.dr_meaning.specs.WalkLaws.{open_after_moves, WalkNests}
-use Rattle.dr_meaning.proofs.Blocks.{and₃_parts}
-use Rattle.dr_meaning.proofs.WalkLemmas.{step}
+use Rattle.dr_meaning.proofs.Blocks.{same_repetition-true, and₃_parts}
+use Rattle.dr_meaning.proofs.LeafKinds.{step, through_kind, kind_if, leaf_kind, shape_kind, kind_if_some, kind_of_leaf, no_shift as no_place}
 
 -- ---- chains
 
@@ -59,85 +59,16 @@ chain_more (t ∷ q) s =
     by_test true e = ap (λ y. (t ∷ []) ∷ y) e
     by_test false e = e
 
--- ---- the kind of the leaf at a path
-
-abbrev AtPlace : ℕ → Type 0 → (ℕ → Type 0) → Type 0
-AtPlace zero first later = first
-AtPlace (suc i) first later = later i
-
-abbrev mutual
-  KindAt : Fields → List Step → Kind → Type 0
-  KindAt no_fields p k = ⊥
-  KindAt (field n r s fs) [] k = ⊥
-  KindAt (field n r s fs) (t ∷ p) k = AtPlace t.place ((t.repetition ≡ r) × ShapeKindAt s p k) (λ i. KindAt fs (step i t.repetition ∷ p) k)
-
-  ShapeKindAt : Shape → List Step → Kind → Type 0
-  ShapeKindAt (leaf j) p k = (p ≡ []) × (j ≡ k)
-  ShapeKindAt (group fs) p k = KindAt fs p k
+-- ---- paths of the rest of a group
 
 -- a path of the rest of a group that begins with place i
 abbrev pub shifted : ℕ → List Step → List Step
 shifted i [] = []
 shifted i (t ∷ p) = step (i + t.place) t.repetition ∷ p
 
--- a leaf of the fields from place i on
-abbrev IsLeafFrom : ℕ → Fields → Leaf → Type 0
-IsLeafFrom i fs l = (p : List Step) × (l.path ≡ shifted i p) × KindAt fs p l.kind
-
--- all leaves of a list
-abbrev EachLeaf : (Leaf → Type 0) → List Leaf → Type 0
-EachLeaf P [] = Unit {0}
-EachLeaf P (l ∷ ls) = P l × EachLeaf P ls
-
-each_append : (P : Leaf → Type 0) (ls ms : List Leaf) → EachLeaf P ls → EachLeaf P ms → EachLeaf P (ls ++ ms)
-each_append P [] ms h g = g
-each_append P (l ∷ ls) ms h g = (h.0, each_append P ls ms h.1 g)
-
-each_below : (P Q : Leaf → Type 0) (f : Leaf → Leaf) → ((l : Leaf) → P l → Q (f l)) → (ls : List Leaf) → EachLeaf P ls → EachLeaf Q (map f ls)
-each_below P Q f g [] h = tt
-each_below P Q f g (l ∷ ls) h = (g l h.0, each_below P Q f g ls h.1)
-
-each_weaker : (P Q : Leaf → Type 0) → ((l : Leaf) → P l → Q l) → (ls : List Leaf) → EachLeaf P ls → EachLeaf Q ls
-each_weaker P Q g [] h = tt
-each_weaker P Q g (l ∷ ls) h = (g l h.0, each_weaker P Q g ls h.1)
-
-each_at : (P : Leaf → Type 0) (ls : List Leaf) (i : ℕ) (l : Leaf) → EachLeaf P ls → slice_get ls i ≡ Some l → P l
-each_at P [] i l h e = absurd (cc)
-each_at P (m ∷ ls) zero l h e = subst P (same m e) h.0
-  where
-    same : (m : Leaf) → Some m ≡ Some l → m ≡ l
-    same m e = cc
-each_at P (m ∷ ls) (suc i) l h e = each_at P ls i l h.1 e
-
-later_leaf : (n : List ℕ) (r : Repetition) (s : Shape) (fs : Fields) (i : ℕ) (l : Leaf) → IsLeafFrom (suc i) fs l → IsLeafFrom i (field n r s fs) l
-later_leaf n r s fs i l ([], e, k) = absurd (none fs k)
-  where
-    none : (gs : Fields) → KindAt gs [] l.kind → ⊥
-    none no_fields h = h
-    none (field m q t gs) h = h
-later_leaf n r s fs i l (t ∷ p, e, k) =
-    let q : suc i + t.place ≡ i + suc t.place = omega arith in
-    (step (suc t.place) t.repetition ∷ p, e ∙ ap (λ x. step x t.repetition ∷ p) q, k)
-
-plus_none : (i : ℕ) → 0 + i ≡ i
-plus_none i = omega arith
-
 pub no_shift : (p : List Step) → shifted 0 p ≡ p
 no_shift [] = refl
-no_shift (t ∷ p) = ap (λ x. step x t.repetition ∷ p) (plus_none t.place)
-
-mutual
-  leaves_kind : (fs : Fields) (i : ℕ) → EachLeaf (IsLeafFrom i fs) (leaves_from fs i)
-  leaves_kind no_fields i = tt
-  leaves_kind (field n r s fs) i =
-      let q : i ≡ i + 0 = omega arith in
-      each_append (IsLeafFrom i (field n r s fs)) (map (leaf_below n (step i r)) (shape_leaves s)) (leaves_from fs (suc i))
-      (each_below (λ l. ShapeKindAt s l.path l.kind) (IsLeafFrom i (field n r s fs)) (leaf_below n (step i r)) (λ l k. (step 0 r ∷ l.path, ap (λ x. step x r ∷ l.path) q, (refl, k))) (shape_leaves s) (shape_kind s))
-      (each_weaker (IsLeafFrom (suc i) fs) (IsLeafFrom i (field n r s fs)) (later_leaf n r s fs i) (leaves_from fs (suc i)) (leaves_kind fs (suc i)))
-
-  shape_kind : (s : Shape) → EachLeaf (λ l. ShapeKindAt s l.path l.kind) (shape_leaves s)
-  shape_kind (leaf k) = ((refl, refl), tt)
-  shape_kind (group fs) = each_weaker (IsLeafFrom 0 fs) (λ l. KindAt fs l.path l.kind) (λ l h. subst (λ x. KindAt fs x l.kind) (sym (h.1 ∙ no_shift h.0)) h.2) (leaves_from fs 0) (leaves_kind fs 0)
+no_shift (t ∷ p) = ap (λ x. step x t.repetition ∷ p) (no_place t.place)
 
 -- ---- places in lists
 
@@ -204,15 +135,15 @@ node_valid fs (Some (inner n)) h = inl h
 
 module _ (whole : Fields) (F : List Leaf) where
   -- a pick is a leaf of the selection whose path is that of the walk and its rest
-  abbrev GoodPick : List Step → (List Step → Kind → Type 0) → List Step → ℕ → Type 0
-  GoodPick q At rest i = (l : Leaf) × (slice_get F i ≡ Some l) × (l.path ≡ q ++ rest) × At rest l.kind
+  abbrev GoodPick : List Step → Shape → List Step → ℕ → Type 0
+  GoodPick q s rest i = (l : Leaf) × (slice_get F i ≡ Some l) × (l.path ≡ q ++ rest) × (shape_kind s rest ≡ Some l.kind)
 
   abbrev ShapePicks : List Step → Shape → List Pick → Type 0
   ShapePicks q s [] = Unit {0}
-  ShapePicks q s (g ∷ G) = GoodPick q (ShapeKindAt s) g.rest g.index × ShapePicks q s G
+  ShapePicks q s (g ∷ G) = GoodPick q s g.rest g.index × ShapePicks q s G
 
   abbrev FieldPick : List Step → ℕ → Fields → Pick → Type 0
-  FieldPick q i fs g = (l : Leaf) × (slice_get F g.index ≡ Some l) × (l.path ≡ q ++ shifted i g.rest) × KindAt fs g.rest l.kind
+  FieldPick q i fs g = (l : Leaf) × (slice_get F g.index ≡ Some l) × (l.path ≡ q ++ shifted i g.rest) × (leaf_kind fs g.rest ≡ Some l.kind)
 
   abbrev FieldPicks : List Step → ℕ → Fields → List Pick → Type 0
   FieldPicks q i fs [] = Unit {0}
@@ -226,13 +157,14 @@ module _ (whole : Fields) (F : List Leaf) where
   add_behind q i m r s fs [] j B h b = b
   add_behind q i m r s fs (t ∷ p) j B h b = by_place t.place refl
     where
-      here : t.place ≡ zero → (t.repetition ≡ r) × ShapeKindAt s p h.0.kind → GoodPick (q ++ step i r ∷ []) (ShapeKindAt s) p j
+      here : t.place ≡ zero → kind_if (same_repetition t.repetition r) (shape_kind s p) ≡ Some h.0.kind → GoodPick (q ++ step i r ∷ []) s p j
       here e k =
           let n : i + t.place ≡ i = omega (arith, e) in
-          (h.0, h.1, h.2 ∙ ap₂ (λ x y. q ++ step x y ∷ p) n k.0 ∙ sym (append_assoc q (step i r ∷ []) p), k.1)
+          let w : (same_repetition t.repetition r ≡ true) × (shape_kind s p ≡ Some h.0.kind) = kind_if_some _ _ _ k in
+          (h.0, h.1, h.2 ∙ ap₂ (λ x y. q ++ step x y ∷ p) n (same_repetition-true t.repetition r w.0) ∙ sym (append_assoc q (step i r ∷ []) p), w.1)
 
       by_place : (k : ℕ) → t.place ≡ k → ShapePicks (q ++ step i r ∷ []) s (behind_if k p j B)
-      by_place zero e = (here e (subst (λ (x : ℕ). AtPlace x ((t.repetition ≡ r) × ShapeKindAt s p h.0.kind) (λ y. KindAt fs (step y t.repetition ∷ p) h.0.kind)) e h.3), b)
+      by_place zero e = (here e (subst (λ (x : ℕ). through_kind x (kind_if (same_repetition t.repetition r) (shape_kind s p)) (λ y. leaf_kind fs (step y t.repetition ∷ p)) ≡ Some h.0.kind) e h.3), b)
       by_place (suc k) e = b
 
   picks_behind : (q : List Step) (i : ℕ) (m : List ℕ) (r : Repetition) (s : Shape) (fs : Fields) (G : List Pick) → FieldPicks q i (field m r s fs) G → ShapePicks (q ++ step i r ∷ []) s (behind G)
@@ -243,14 +175,14 @@ module _ (whole : Fields) (F : List Leaf) where
   add_beside q i m r s fs [] j B h b = b
   add_beside q i m r s fs (t ∷ p) j B h b = by_place t.place refl
     where
-      there : (k : ℕ) → t.place ≡ suc k → KindAt fs (step k t.repetition ∷ p) h.0.kind → FieldPick q (suc i) fs (record { rest = step k t.repetition ∷ p; index = j })
+      there : (k : ℕ) → t.place ≡ suc k → leaf_kind fs (step k t.repetition ∷ p) ≡ Some h.0.kind → FieldPick q (suc i) fs (record { rest = step k t.repetition ∷ p; index = j })
       there k e a =
           let n : i + t.place ≡ suc i + k = omega (arith, e) in
           (h.0, h.1, h.2 ∙ ap (λ x. q ++ step x t.repetition ∷ p) n, a)
 
       by_place : (k : ℕ) → t.place ≡ k → FieldPicks q (suc i) fs (beside_if k t p j B)
       by_place zero e = b
-      by_place (suc k) e = (there k e (subst (λ (x : ℕ). AtPlace x ((t.repetition ≡ r) × ShapeKindAt s p h.0.kind) (λ y. KindAt fs (step y t.repetition ∷ p) h.0.kind)) e h.3), b)
+      by_place (suc k) e = (there k e (subst (λ (x : ℕ). through_kind x (kind_if (same_repetition t.repetition r) (shape_kind s p)) (λ y. leaf_kind fs (step y t.repetition ∷ p)) ≡ Some h.0.kind) e h.3), b)
 
   picks_beside : (q : List Step) (i : ℕ) (m : List ℕ) (r : Repetition) (s : Shape) (fs : Fields) (G : List Pick) → FieldPicks q i (field m r s fs) G → FieldPicks q (suc i) fs (beside G)
   picks_beside q i m r s fs [] h = tt
@@ -314,13 +246,18 @@ module _ (whole : Fields) (F : List Leaf) where
   value_fits k l (Some (atom v)) e h = subst (λ j. is_of_kind j v ≡ true) e h
   value_fits k l (Some (inner n)) e h = absurd (true≢false (sym h))
 
+  at_leaf : (k : Kind) (p : List Step) (j : Kind) → shape_kind (leaf k) p ≡ Some j → (p ≡ []) × (k ≡ j)
+  at_leaf k [] j h = (refl, cc)
+  at_leaf k (t ∷ p) j h = absurd (cc)
+
   nests_leaf : (c : List (List Step)) (q : List Step) (k : Kind) (G : List Pick) (r d : ℕ) (x : Option Instance) → ShapePicks q (leaf k) G → ValidOne (leaf k) x → IsOpenFront c q → Nests c (triplet_moves (indexes G) (triplet r d (value_there x)))
   nests_leaf c q k [] r d x h v o = refl
   nests_leaf c q k (g ∷ G) r d x h v o =
       let l : Leaf = h.0.0 in
-      let e : l.path ≡ q = h.0.2 ∙ ap (λ y. q ++ y) h.0.3.0 ∙ append-nil q in
+      let z : (g.rest ≡ []) × (k ≡ l.kind) = at_leaf k g.rest l.kind h.0.3 in
+      let e : l.path ≡ q = h.0.2 ∙ ap (λ y. q ++ y) z.0 ∙ append-nil q in
       let f : is_chain_front (reverse c) (chain l.path) ≡ true = ap (λ y. is_chain_front (reverse c) (chain y)) e ∙ ap (is_chain_front (reverse c)) o.1 ∙ front_itself (reverse c) o.0 in
-      let a : (is_chain_front (reverse c) (chain l.path) && is_of_leaf l (value_there x)) ≡ true = and_from _ _ f (value_fits k l x h.0.3.1 v) in
+      let a : (is_chain_front (reverse c) (chain l.path) && is_of_leaf l (value_there x)) ≡ true = and_from _ _ f (value_fits k l x z.1 v) in
       rw h.0.1 (rw a (nests_leaf c q k G r d x h.1 v o))
 
   -- ---- the walk
@@ -460,13 +397,12 @@ module _ (whole : Fields) (F : List Leaf) where
       open_append (record_moves whole (map (λ (l : Leaf). l.path) F) n) (flat_map (record_moves whole (map (λ (l : Leaf). l.path) F)) R) no_record no_record (record_nests n h w.0) ∙ records_nest R h w.1
 
   -- each pick of the selection is a leaf
-  picked : (k : ℕ) (ls : List Leaf) → ((i : ℕ) (l : Leaf) → slice_get ls i ≡ Some l → (slice_get F (k + i) ≡ Some l) × IsLeafFrom 0 whole l) → FieldPicks [] 0 whole (picks_from k (map (λ (l : Leaf). l.path) ls))
+  picked : (k : ℕ) (ls : List Leaf) → ((i : ℕ) (l : Leaf) → slice_get ls i ≡ Some l → (slice_get F (k + i) ≡ Some l) × (leaf_kind whole l.path ≡ Some l.kind)) → FieldPicks [] 0 whole (picks_from k (map (λ (l : Leaf). l.path) ls))
   picked k [] h = tt
   picked k (l ∷ ls) h =
-      let a : (slice_get F (k + 0) ≡ Some l) × IsLeafFrom 0 whole l = h 0 l refl in
+      let a : (slice_get F (k + 0) ≡ Some l) × (leaf_kind whole l.path ≡ Some l.kind) = h 0 l refl in
       let e : k + 0 ≡ k = omega arith in
-      let p : l.path ≡ a.1.0 = a.1.1 ∙ no_shift a.1.0 in
-      ((l, ap (slice_get F) (sym e) ∙ a.0, sym (no_shift l.path), subst (λ x. KindAt whole x l.kind) (sym p) a.1.2), picked (suc k) ls (λ i m g. let b = h (suc i) m g in let q : k + suc i ≡ suc k + i = omega arith in (ap (slice_get F) (sym q) ∙ b.0, b.1)))
+      ((l, ap (slice_get F) (sym e) ∙ a.0, sym (no_shift l.path), a.1), picked (suc k) ls (λ i m g. let b = h (suc i) m g in let q : k + suc i ≡ suc k + i = omega arith in (ap (slice_get F) (sym q) ∙ b.0, b.1)))
 
 pub walk_nests : WalkNests
-walk_nests fs F R h v = records_nest fs F R (picked fs F 0 F (λ i l e. let k : (j : ℕ) × (slice_get (leaves fs) j ≡ Some l) = h i l e in (ap (slice_get F) (plus_none i) ∙ e, each_at (IsLeafFrom 0 fs) (leaves fs) k.0 l (leaves_kind fs 0) k.1))) v
+walk_nests fs F R h v = records_nest fs F R (picked fs F 0 F (λ i l e. let k : (j : ℕ) × (slice_get (leaves fs) j ≡ Some l) = h i l e in (ap (slice_get F) (no_place i) ∙ e, kind_of_leaf fs k.0 l k.1))) v

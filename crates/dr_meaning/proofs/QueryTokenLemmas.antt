@@ -8,6 +8,7 @@ use Rattle.dr_meaning.specs.Schema.{is_name, begins_name, continues_name}
 use Rattle.dr_meaning.specs.SchemaText.{is_blank}
 use Rattle.dr_meaning.specs.QueryText.{Word, select_word, from_word, where_word, group_word, by_word, as_word, within_word, record_word, and_word, or_word, not_word, like_word, contains_word, is_word, null_word, true_word, false_word, count_word, sum_word, min_word, max_word, comma, open_parenthesis, close_parenthesis, dot, star, plus_sign, minus_sign, equals, differs, less_than, less_or_equal, greater_than, greater_or_equal, semicolon, QueryToken, reserved, identifier, number, text, sign, bad, PlacedToken, word_or, word_of, name_token, greatest_number, number_token, quoted_token, is_digit, sign_token, Begun, none, in_name, in_number, in_quotes, in_text, after_quote, after_less, after_greater, Lexed, placed, begins, whole, after_token, first_byte, next_byte, last_tokens, query_tokens_from}
 use Rattle.dr_meaning.specs.TokenLaws.{IsWholeWord, digits_value, AreDigitsOf, doubled, has_no_quote, IsQueryToken, AreQueryTokens, QueryTokensAreText}
+use Rattle.dr_meaning.proofs.TokenLemmas.{all_push, begun_more}
 
 -- a blank before tokens
 blank_before : (i b : ℕ) (query : List ℕ) (ts : List PlacedToken) → is_blank b ≡ true → AreQueryTokens (suc i) query ts → AreQueryTokens i (b ∷ query) ts
@@ -117,12 +118,6 @@ Holds j (after_quote s t) u = (s ≡ j) × (u ≡ 39 ∷ (doubled t ++ 39 ∷ []
 Holds j (after_less s) u = (s ≡ j) × (u ≡ 60 ∷ [])
 Holds j (after_greater s) u = (s ≡ j) × (u ≡ 62 ∷ [])
 
-all_push : (p : ℕ → Bool) (w : List ℕ) (b : ℕ) → list_all p w ≡ true → p b ≡ true → list_all p (w ++ b ∷ []) ≡ true
-all_push p [] b h k = rw k refl
-all_push p (c ∷ w) b h k =
-    let q = and_parts (p c) (list_all p w) h in
-    and_from (p c) (list_all p (w ++ b ∷ [])) q.0 (all_push p w b q.1 k)
-
 digits_push : (m : ℕ) (w : List ℕ) (b : ℕ) → digits_value m (w ++ b ∷ []) ≡ digits_value m w * 10 + (b - 48)
 digits_push m [] b = refl
 digits_push m (c ∷ w) b = digits_push (m * 10 + (c - 48)) w b
@@ -182,9 +177,7 @@ after_on i j u b query t each e h = token_before j t u (b ∷ query) ((first_byt
 
 name_more : (w : List ℕ) (b : ℕ) → is_name w ≡ true → continues_name b ≡ true → is_name (w ++ b ∷ []) ≡ true
 name_more [] b h g = absurd (true≢false (sym h))
-name_more (c ∷ w) b h g =
-    let q = and_parts (begins_name c) (list_all continues_name w) h in
-    and_from (begins_name c) (list_all continues_name (w ++ b ∷ [])) q.0 (all_push continues_name w b q.1 g)
+name_more (c ∷ w) b h g = begun_more (c ∷ w) b h g
 
 two_quotes : (t : List ℕ) (b : ℕ) → b ≡ 39 → ◌≡◌ {A = List ℕ} (39 ∷ ((doubled t ++ 39 ∷ []) ++ b ∷ [])) (39 ∷ doubled (t ++ b ∷ []))
 two_quotes t b e = rw e (ap (λ x. 39 ∷ x) (append_assoc (doubled t) (39 ∷ []) (39 ∷ []) ∙ sym (doubled_quote t)))

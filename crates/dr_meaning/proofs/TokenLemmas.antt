@@ -50,17 +50,17 @@ abbrev pub IsBegun : List ℕ → Type 0
 IsBegun [] = Unit {0}
 IsBegun (c ∷ w) = is_name (c ∷ w) ≡ true
 
-list_all_push : (w : List ℕ) (b : ℕ) → list_all continues_name w ≡ true → continues_name b ≡ true → list_all continues_name (w ++ b ∷ []) ≡ true
-list_all_push [] b h k = rw k refl
-list_all_push (c ∷ w) b h k =
-    let p = and_parts (continues_name c) (list_all continues_name w) h in
-    and_from (continues_name c) (list_all continues_name (w ++ b ∷ [])) p.0 (list_all_push w b p.1 k)
+pub all_push : (p : ℕ → Bool) (w : List ℕ) (b : ℕ) → list_all p w ≡ true → p b ≡ true → list_all p (w ++ b ∷ []) ≡ true
+all_push p [] b h k = rw k refl
+all_push p (c ∷ w) b h k =
+    let q = and_parts (p c) (list_all p w) h in
+    and_from (p c) (list_all p (w ++ b ∷ [])) q.0 (all_push p w b q.1 k)
 
 pub begun_more : (w : List ℕ) (b : ℕ) → IsBegun w → goes_on w b ≡ true → IsBegun (w ++ b ∷ [])
 begun_more [] b h k = rw k refl
 begun_more (c ∷ w) b h k =
     let p = and_parts (begins_name c) (list_all continues_name w) h in
-    and_from (begins_name c) (list_all continues_name (w ++ b ∷ [])) p.0 (list_all_push w b p.1 k)
+    and_from (begins_name c) (list_all continues_name (w ++ b ∷ [])) p.0 (all_push continues_name w b p.1 k)
 
 -- the word ends before these bytes
 word_before : (i j : ℕ) (w text : List ℕ) (ts : List Placed) → i ≡ j + length w → IsBegun w → begins_so (goes_on w) text ≡ false → AreTokens i text ts → AreTokens j (w ++ text) (with_word i w ts)
