@@ -21,7 +21,8 @@ use Rattle.dr_formats.specs.WritingLaws.{all_triplets, ArePages, nth_leaf, AreAm
 use Rattle.dr_formats.specs.OpenSchemaLaws.{WrittenSchemaIsRead}
 use Rattle.dr_formats.proofs.OpenSchemaLemmas.{written_opened}
 use Rattle.dr_formats.proofs.ChunkLemmas.{written_pages_are_read, pages_keep_triplets}
-use Rattle.dr_formats.proofs.SchemaBack.{file_fields_of, schema_back, file_leaf_of, file_leaves_back, leaf_found, AllLeaves, is_within, leaves_within}
+use Rattle.dr_formats.specs.OpenSchemaLaws.{file_leaf_of}
+use Rattle.dr_formats.proofs.SchemaBack.{file_fields_of, schema_back, file_leaves_back, leaf_found, AllLeaves, is_within, leaves_within}
 use Rattle.dr_formats.proofs.ColumnsFit.{EachLeaf, each_append, Good, ColumnGood, fields_good}
 use Rattle.dr_formats.proofs.ColumnRows.{each_below, leaf_paths, column_rows}
 use Rattle.dr_formats.proofs.FooterBack.{footer_back}

@@ -37,6 +37,7 @@ pub mod ChunkLemmas
 pub mod MetadataLemmas
 pub mod SchemaBack
 pub mod OpenSchemaLemmas
+pub mod OpenLeavesLemmas
 pub mod ColumnsFit
 pub mod ColumnRows
 pub mod FooterBack
@@ -45,4 +46,5 @@ pub mod FileBack
 pub mod LoadFits
 -- tables and tablets
 pub mod TableLemmas
+pub mod TableTextLemmas
 pub mod TabletLemmas

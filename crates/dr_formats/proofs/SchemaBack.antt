@@ -9,7 +9,8 @@ use Rattle.dr_meaning.specs.Schema.{Repetition, required, optional, repeated, Ki
 use Rattle.dr_meaning.specs.Path.{Step, Leaf, same_repetition, leaf_below, leaves_from, shape_leaves, leaves}
 use Rattle.dr_meaning.proofs.SchemaReadsBack.{FirstField, first_of_group, other_way}
 use Rattle.dr_formats.specs.Metadata.{SchemaElement}
-use Rattle.dr_formats.specs.FileSchema.{FileFields, no_file_fields, file_field, FileShape, file_leaf, file_group, repetition_from, fields_read, file_schema, open_kind, is_open_name, FileLeaf, leaf_under, leaves_under, shape_leaves_under, within_depth, file_leaves, same_kind, same_names, same_repetitions, is_leaf_for, place_of}
+use Rattle.dr_formats.specs.FileSchema.{FileFields, no_file_fields, file_field, FileShape, file_leaf, file_group, repetition_from, fields_read, file_schema, open_kind, is_open_name, leaf_under, leaves_under, shape_leaves_under, within_depth, file_leaves, same_kind, same_names, same_repetitions, is_leaf_for, place_of}
+use Rattle.dr_formats.specs.OpenSchemaLaws.{file_leaf_of}
 use Rattle.dr_formats.specs.WritingLaws.{nth_leaf}
 use Rattle.dr_formats.specs.Writing.{type_from, repetition_number, converted_from, count_fields, elements, shape_elements, schema_elements}
 
@@ -52,10 +53,6 @@ schema_back s =
     rw g refl
 
 -- ---- leaves
-
--- a schema's leaf as a file's
-abbrev pub file_leaf_of : Leaf → FileLeaf
-file_leaf_of l = record { names = l.names; repetitions = map (λ (s : Step). s.repetition) l.path; kind = Some l.kind }
 
 pub kind_back : (k : Kind) → open_kind (pos (type_from k)) (converted_from k) ≡ Some k
 kind_back bool_kind = refl

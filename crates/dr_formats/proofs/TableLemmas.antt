@@ -14,11 +14,11 @@ use Rattle.dr_meaning.specs.Schema.{Repetition, required, optional, repeated, Ki
 use Rattle.dr_meaning.specs.SchemaText.{Token, name, open_brace, close_brace, semicolon, bad, repetition_word, kind_word, field_tokens, shape_tokens, token_text, before_token, separated, parse_schema, schema_text}
 use Rattle.dr_meaning.proofs.SchemaReadsBack.{FirstField, first_of_group, name_of_short, canonical_reads_back}
 use Rattle.dr_formats.specs.TableFile.{Table, first_line, behind_word, is_digit, digits_value, is_empty, number_text, number_behind, nonempty, leaf_lines, at_leaves, on_copies, at_copies, on_tablets, on_head, parse_table, leaf_texts, table_text, most_tablets, most_leaf_lines, longest_table}
-use Rattle.dr_formats.specs.TableLaws.{is_directory, IsTable, TableReadsBack}
+use Rattle.dr_formats.specs.TableLaws.{is_line_text, is_directory, IsTable, TableReadsBack, IsWithinLimits}
 
 -- ---- lines
 
-abbrev NoEnd : List ℕ → Type 0
+abbrev pub NoEnd : List ℕ → Type 0
 NoEnd t = list_all (λ b. not (b == 10)) t ≡ true
 
 line_back : (t rest : List ℕ) → NoEnd t → first_line (t ++ 10 ∷ rest) ≡ Some (record { text = t; behind = rest })
@@ -37,7 +37,7 @@ word_back (b ∷ w) t = rw (eq-eqb b b refl) (word_back w t)
 
 -- ---- numbers
 
-digits_are : (ds : List ℕ) → AllDigits 10 ds → (list_all is_digit ds ≡ true) × NoEnd ds
+pub digits_are : (ds : List ℕ) → AllDigits 10 ds → (list_all is_digit ds ≡ true) × NoEnd ds
 digits_are [] h = (refl, refl)
 digits_are (d ∷ ds) h =
     let r = digit_from_value d h.0 in
@@ -67,31 +67,25 @@ number_line word greatest n h k l = rw (word_back word (decimal n), (number_back
 
 -- ---- leaf lines
 
-abbrev AreDirectories : List (List ℕ) → Type 0
-AreDirectories ds = list_all is_directory ds ≡ true
+abbrev AreLines : List (List ℕ) → Type 0
+AreLines ds = list_all is_line_text ds ≡ true
 
-abbrev Directory : List ℕ → Type 0
-Directory d = (nonempty d ≡ Some d) × NoEnd d × (is_utf8 d ≡ true)
-
-directory : (d : List ℕ) → is_directory d ≡ true → Directory d
-directory [] h = absurd (true≢false (sym h))
-directory (b ∷ d) h =
-    let a : ((not (is_empty (b ∷ d)) && list_all (λ c. not (c == 10)) (b ∷ d)) ≡ true) × (is_utf8 (b ∷ d) ≡ true) = and_parts _ _ h in
-    let c : (not (is_empty (b ∷ d)) ≡ true) × NoEnd (b ∷ d) = and_parts _ _ a.0 in
-    (refl, c.1, a.1)
+line_text : (d : List ℕ) → is_line_text d ≡ true → (nonempty d ≡ Some d) × NoEnd d
+line_text [] h = absurd (true≢false (sym h))
+line_text (b ∷ d) h = (refl, (and_parts (not (is_empty (b ∷ d))) _ h).1)
 
 schema_there : (tablets copies room : ℕ) (ds : List (List ℕ)) (s : Schema) (text : List ℕ) → parse_schema text ≡ Ok s → 0 < length ds → copies ≤ length ds → leaf_lines room tablets copies ds (first_line (codes "schema" ++ (10 ∷ text))) ≡ Ok (record { schema = s; leaves = ds; copies = copies; tablets = tablets })
 schema_there tablets copies zero ds s text e h k = rw (lt-ltb 0 (length ds) h, le-leb copies (length ds) k, e) refl
 schema_there tablets copies (suc room) ds s text e h k = rw (lt-ltb 0 (length ds) h, le-leb copies (length ds) k, e) refl
 
-leaves_back : (tablets copies room : ℕ) (ds before : List (List ℕ)) (s : Schema) (text : List ℕ) → AreDirectories ds → parse_schema text ≡ Ok s → length ds ≤ room → 0 < length (before ++ ds) → copies ≤ length (before ++ ds) → leaf_lines room tablets copies before (first_line (leaf_texts ds (codes "schema" ++ (10 ∷ text)))) ≡ Ok (record { schema = s; leaves = before ++ ds; copies = copies; tablets = tablets })
+leaves_back : (tablets copies room : ℕ) (ds before : List (List ℕ)) (s : Schema) (text : List ℕ) → AreLines ds → parse_schema text ≡ Ok s → length ds ≤ room → 0 < length (before ++ ds) → copies ≤ length (before ++ ds) → leaf_lines room tablets copies before (first_line (leaf_texts ds (codes "schema" ++ (10 ∷ text)))) ≡ Ok (record { schema = s; leaves = before ++ ds; copies = copies; tablets = tablets })
 leaves_back tablets copies room [] before s text a e r h k =
     let n : before ++ [] ≡ before = append-nil before in
     rw n (schema_there tablets copies room before s text e (omega (arith, h, ap length n)) (omega (arith, k, ap length n)))
 leaves_back tablets copies zero (d ∷ ds) before s text a e r h k = absurd (omega (arith, r))
 leaves_back tablets copies (suc room) (d ∷ ds) before s text a e r h k =
-    let p : (is_directory d ≡ true) × AreDirectories ds = and_parts _ _ a in
-    let q : Directory d = directory d p.0 in
+    let p : (is_line_text d ≡ true) × AreLines ds = and_parts _ _ a in
+    let q : (nonempty d ≡ Some d) × NoEnd d = line_text d p.0 in
     let more : List ℕ = leaf_texts ds (codes "schema" ++ (10 ∷ text)) in
     let f : first_line (codes "leaf " ++ (d ++ (10 ∷ more))) ≡ Some (record { text = codes "leaf " ++ d; behind = more }) = line_back (codes "leaf " ++ d) more (no_end_append (codes "leaf ") d refl q.1) in
     let g : (before ++ d ∷ []) ++ ds ≡ before ++ d ∷ ds = append_assoc before (d ∷ []) ds in
@@ -100,21 +94,30 @@ leaves_back tablets copies (suc room) (d ∷ ds) before s text a e r h k =
 
 -- ---- all lines
 
-lines_back : (t : Table) → IsTable t → parse_schema (schema_text t.schema) ≡ Ok t.schema → on_head (first_line (table_text t)) ≡ Ok t
-unfolding table_text
-lines_back t h e =
-    let tn = number_back t.tablets h.6 (omega (arith, h.7)) in
-    let cn = number_back t.copies h.4 (omega (arith, h.5, h.2)) in
-    let l3 : List ℕ = leaf_texts t.leaves (codes "schema" ++ (10 ∷ schema_text t.schema)) in
+pub lines_back : (t : Table) (behind : List ℕ) → IsWithinLimits t → parse_schema behind ≡ Ok t.schema → on_head (first_line (codes "dremel-table 1" ++ (10 ∷ (codes "tablets " ++ (decimal t.tablets ++ (10 ∷ (codes "copies "
+    ++ (decimal t.copies ++ (10 ∷ leaf_texts t.leaves (codes "schema" ++ (10 ∷ behind))))))))))) ≡ Ok t
+lines_back t behind h e =
+    let tn = number_back t.tablets h.5 (omega (arith, h.6)) in
+    let cn = number_back t.copies h.3 (omega (arith, h.4, h.1)) in
+    let l3 : List ℕ = leaf_texts t.leaves (codes "schema" ++ (10 ∷ behind)) in
     let l2 : List ℕ = codes "copies " ++ (decimal t.copies ++ (10 ∷ l3)) in
     let f1 : first_line (codes "tablets " ++ (decimal t.tablets ++ (10 ∷ l2))) ≡ Some (record { text = codes "tablets " ++ decimal t.tablets; behind = l2 }) = line_back (codes "tablets " ++ decimal t.tablets) l2 (no_end_append (codes "tablets ") (decimal t.tablets) refl tn.1) in
     let f2 : first_line l2 ≡ Some (record { text = codes "copies " ++ decimal t.copies; behind = l3 }) = line_back (codes "copies " ++ decimal t.copies) l3 (no_end_append (codes "copies ") (decimal t.copies) refl cn.1) in
-    let g1 : number_behind (codes "tablets ") most_tablets (codes "tablets " ++ decimal t.tablets) ≡ Some t.tablets = number_line (codes "tablets ") most_tablets t.tablets h.6 h.7 (omega (arith, h.7)) in
-    let g2 : number_behind (codes "copies ") most_leaf_lines (codes "copies " ++ decimal t.copies) ≡ Some t.copies = number_line (codes "copies ") most_leaf_lines t.copies h.4 (omega (arith, h.5, h.2)) (omega (arith, h.5, h.2)) in
-    let i : leaf_lines most_leaf_lines t.tablets t.copies [] (first_line l3) ≡ Ok t = leaves_back t.tablets t.copies most_leaf_lines t.leaves [] t.schema (schema_text t.schema) h.3 e h.2 h.1 h.5 in
+    let g1 : number_behind (codes "tablets ") most_tablets (codes "tablets " ++ decimal t.tablets) ≡ Some t.tablets = number_line (codes "tablets ") most_tablets t.tablets h.5 h.6 (omega (arith, h.6)) in
+    let g2 : number_behind (codes "copies ") most_leaf_lines (codes "copies " ++ decimal t.copies) ≡ Some t.copies = number_line (codes "copies ") most_leaf_lines t.copies h.3 (omega (arith, h.4, h.1)) (omega (arith, h.4, h.1)) in
+    let i : leaf_lines most_leaf_lines t.tablets t.copies [] (first_line l3) ≡ Ok t = leaves_back t.tablets t.copies most_leaf_lines t.leaves [] t.schema behind h.2 e h.1 h.0 h.4 in
     ap (λ x. on_tablets x) f1 ∙ (ap (λ x. at_copies l2 x) g1 ∙ (ap (λ x. on_copies t.tablets x) f2 ∙ (ap (λ x. at_leaves t.tablets l3 x) g2 ∙ i)))
 
 -- ---- the text is UTF-8
+
+abbrev AreDirectories : List (List ℕ) → Type 0
+AreDirectories ds = list_all is_directory ds ≡ true
+
+directories_are_lines : (ds : List (List ℕ)) → AreDirectories ds → AreLines ds
+directories_are_lines [] h = refl
+directories_are_lines (d ∷ ds) h =
+    let p : (is_directory d ≡ true) × AreDirectories ds = and_parts _ _ h in
+    and_from _ _ (and_parts _ _ p.0).0 (directories_are_lines ds p.1)
 
 ascii_one : (b : ℕ) → b < 128 → IsAscii (b ∷ [])
 ascii_one b h zero = h
@@ -213,8 +216,8 @@ leaf_texts_utf8 : (ds : List (List ℕ)) (behind : List ℕ) → AreDirectories 
 leaf_texts_utf8 [] behind a h = h
 leaf_texts_utf8 (d ∷ ds) behind a h =
     let p : (is_directory d ≡ true) × AreDirectories ds = and_parts _ _ a in
-    let q : Directory d = directory d p.0 in
-    IsUtf8-append (codes "leaf ") (d ++ (10 ∷ leaf_texts ds behind)) (utf8_of_ascii (codes "leaf ") refl) (IsUtf8-append d (10 ∷ leaf_texts ds behind) (IsUtf8-from_is_utf8 d q.2) (IsUtf8-append (10 ∷ []) (leaf_texts ds behind) (utf8_of_ascii (10 ∷ []) refl) (leaf_texts_utf8 ds behind p.1 h)))
+    let q : (is_line_text d ≡ true) × (is_utf8 d ≡ true) = and_parts _ _ p.0 in
+    IsUtf8-append (codes "leaf ") (d ++ (10 ∷ leaf_texts ds behind)) (utf8_of_ascii (codes "leaf ") refl) (IsUtf8-append d (10 ∷ leaf_texts ds behind) (IsUtf8-from_is_utf8 d q.1) (IsUtf8-append (10 ∷ []) (leaf_texts ds behind) (utf8_of_ascii (10 ∷ []) refl) (leaf_texts_utf8 ds behind p.1 h)))
 
 line_utf8 : (t rest : List ℕ) → IsUtf8 t → IsUtf8 rest → IsUtf8 (t ++ (10 ∷ rest))
 line_utf8 t rest h k = IsUtf8-append t (10 ∷ rest) h (IsUtf8-append (10 ∷ []) rest (utf8_of_ascii (10 ∷ []) refl) k)
@@ -238,5 +241,5 @@ text_utf8 t h =
     (line_utf8 (codes "schema") l4 (utf8_of_ascii (codes "schema") refl) (utf8_of_ascii l4 (schema_ascii t.schema h.0))))))))
 
 pub table_reads_back : TableReadsBack
-unfolding parse_table
-table_reads_back t h k l = rw (le-ltb longest_table (length (table_text t)) l, is_utf8-from_IsUtf8 (table_text t) (text_utf8 t h)) (lines_back t h (canonical_reads_back t.schema h.0 k))
+unfolding parse_table table_text
+table_reads_back t h k l = rw (le-ltb longest_table (length (table_text t)) l, is_utf8-from_IsUtf8 (table_text t) (text_utf8 t h)) (lines_back t (schema_text t.schema) (h.1, h.2, directories_are_lines t.leaves h.3, h.4, h.5, h.6, h.7) (canonical_reads_back t.schema h.0 k))

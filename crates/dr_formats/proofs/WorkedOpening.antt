@@ -14,7 +14,7 @@ use Rattle.dr_formats.specs.File.{Footer, rows_agree, values_fit, bad_footer, ba
 use Rattle.dr_formats.specs.Opening.{opening_cause, leaf_cause, range, reader_ranges, is_inside}
 use Rattle.dr_formats.specs.Writing.{file_bytes}
 use Rattle.dr_formats.specs.TableFile.{table_text, table_too_long, bad_head, bad_tablets, bad_copies, bad_leaf, bad_table_schema}
-use Rattle.dr_formats.specs.Loading.{Put, Plan, puts_of, load, words_refusal, leaf_refused, copies_refused, most_loaded, most_tablet_rows}
+use Rattle.dr_formats.specs.Loading.{Put, Plan, puts_of, load_taken, load, words_refusal, leaf_refused, copies_refused, most_loaded, most_tablet_rows}
 use Rattle.dr_formats.specs.Reports.{loaded_text, table_refusal_text, words_refusal_text, read_failed, bad_file, left_tablet_text, left_file_text}
 use Rattle.dr_formats.proofs.Hexadecimal.{hex}
 use Rattle.dr_formats.proofs.WorkedFiles.{one_schema, one_file}
@@ -143,6 +143,10 @@ pub refused_lines : (paths (puts_of (plan 2) (map number (1 ∷ 2 ∷ 3 ∷ []))
     × (puts_of (plan 4) (map number (1 ∷ 2 ∷ 3 ∷ [])) (Some refusal) ≡ []) × (puts_of (plan 4) [] (Some refusal) ≡ [])
 unfolding digits
 refused_lines = (refl, refl, refl, refl)
+
+-- a load whose first line is refused puts nothing
+pub first_line_is_refused : load_taken (plan 1) (record { records = []; refusal = Some refusal }) ≡ record { puts = []; records = 0; tablets = 1; refusal = Some refusal }
+first_line_is_refused = refl
 
 -- an empty input: no record in one tablet
 pub loads : load (plan 1) [] ≡ record { puts = puts_of (plan 1) [] None; records = 0; tablets = 1; refusal = None }

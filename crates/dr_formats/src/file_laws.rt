@@ -1,7 +1,7 @@
 //! Laws of files and causes.
 
 ghost use Rattle.dr_formats.specs.FileLaws.{CauseIsKnown, FileHasNoCause, KnownCauseHolds, OneCause};
-ghost use Rattle.dr_formats.specs.OpenSchemaLaws.{OpenPartIsSchema, WrittenSchemaIsRead};
+ghost use Rattle.dr_formats.specs.OpenSchemaLaws.{OpenPartHasOpenLeaves, OpenPartIsSchema, WrittenSchemaIsRead};
 ghost use Rattle.dr_formats.specs.Opening.{LeafCauseIsExact, NoFileHasCause, NoLeafCauseIsFile, OpeningCauseHolds, RangesAreInFile};
 
 /// The cause that the test knows of bytes holds; a cause that holds is the one that it knows, but for causes of data that need records
@@ -47,4 +47,9 @@ pub fn ranges_are_in_file()
 pub fn open_part_is_schema()
     ensures rules { OpenPartIsSchema }
     ensures written { WrittenSchemaIsRead }
+{}
+
+/// The leaves of the open part of a file's schema are the first open leaves of the file, and there is no open part where no leaf is open.
+pub fn open_part_has_open_leaves()
+    ensures { OpenPartHasOpenLeaves }
 {}

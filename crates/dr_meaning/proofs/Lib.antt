@@ -21,8 +21,13 @@ pub mod SchemaAccepted
 pub mod SchemaGoesOn
 pub mod SchemaDeadEnds
 pub mod SchemaLexing
+pub mod TokenLemmas
+pub mod OneTokenLemmas
+pub mod QueryTokenLemmas
+pub mod OneQueryTokenLemmas
 pub mod SchemaReadsBack
 pub mod SchemaValid
+pub mod NameFaultLemmas
 -- lemmas of the laws of projections and columns
 pub mod ProjectionLemmas
 pub mod MeaningLemmas
@@ -30,11 +35,14 @@ pub mod Blocks
 pub mod ColumnLemmas
 pub mod ColumnStarts
 pub mod ColumnSize
+pub mod LeafKinds
 pub mod OneColumnLemmas
 -- the record of a line is within the limits
 pub mod RecordLimits
 pub mod LineLemmas
 pub mod WalkLemmas
+pub mod NestingLemmas
 pub mod OrderLemmas
+pub mod VisitLemmas
 pub mod FoundLemmas
 pub mod FindingLemmas

@@ -12,6 +12,7 @@ use Rattle.dr_meaning.specs.Column.{Triplet, triplet, each_later, spread, instan
 use Rattle.dr_meaning.specs.OneColumn.{starts, begins_record, fits_value, fits_levels, level_inside, may_follow, all_follow, is_in_order, is_column, HaveColumn, ColumnsAreRecognized}
 use Rattle.dr_meaning.proofs.Blocks.{same_repetition-true, and₃_parts}
 use Rattle.dr_meaning.proofs.ColumnStarts.{column_rows}
+use Rattle.dr_meaning.proofs.LeafKinds.{step, through_kind, kind_if, leaf_kind, shape_kind, kind_if_some, kind_of_leaf}
 
 -- ---- records with nothing in them but what must be there
 
@@ -61,33 +62,7 @@ mutual
   default_is_instance (leaf k) = default_is_of_kind k
   default_is_instance (group fs) = default_is_record fs
 
--- ---- the kind of the leaf to which a path leads
-
-abbrev step : ℕ → Repetition → Step
-step i r = record { place = i; repetition = r }
-
-abbrev through_kind : ℕ → Option Kind → (ℕ → Option Kind) → Option Kind
-through_kind zero first later = first
-through_kind (suc i) first later = later i
-
-abbrev kind_if : Bool → Option Kind → Option Kind
-kind_if true k = k
-kind_if false k = None
-
-abbrev mutual
-  leaf_kind : Fields → List Step → Option Kind
-  leaf_kind no_fields p = None
-  leaf_kind (field n r s fs) [] = None
-  leaf_kind (field n r s fs) (t ∷ p) = through_kind t.place (kind_if (same_repetition t.repetition r) (shape_kind s p)) (λ i. leaf_kind fs (step i t.repetition ∷ p))
-
-  shape_kind : Shape → List Step → Option Kind
-  shape_kind (leaf k) [] = Some k
-  shape_kind (leaf k) (t ∷ p) = None
-  shape_kind (group fs) p = leaf_kind fs p
-
-kind_if_some : (b : Bool) (o : Option Kind) (k : Kind) → kind_if b o ≡ Some k → (b ≡ true) × (o ≡ Some k)
-kind_if_some true o k h = (refl, h)
-kind_if_some false o k h = absurd (cc)
+-- ---- the field at a place
 
 abbrev FieldAt : Fields → ℕ → Repetition → List Step → Kind → Type 0
 FieldAt fs i r p k = (s : Shape) × (shape_kind s p ≡ Some k)
@@ -485,68 +460,8 @@ passes fs l rows ts h v =
     (in_order l.path ts (ap begins_record (sym v.3) ∙ s.1) (subst (λ (us : List Triplet). (t : Triplet) → Chain l.path 0 0 t us) e c.0)))
     (eq-eqb _ _ (ap starts (sym v.3) ∙ s.0 ∙ v.2))
 
--- ---- the leaves of a schema
-
-abbrev EachLeaf : (Leaf → Type 0) → List Leaf → Type 0
-EachLeaf P [] = Unit {0}
-EachLeaf P (l ∷ ls) = P l × EachLeaf P ls
-
-each_append : (P : Leaf → Type 0) (xs ys : List Leaf) → EachLeaf P xs → EachLeaf P ys → EachLeaf P (xs ++ ys)
-each_append P [] ys h k = k
-each_append P (x ∷ xs) ys h k = (h.0, each_append P xs ys h.1 k)
-
-each_leaf_weaker : (P Q : Leaf → Type 0) → ((l : Leaf) → P l → Q l) → (ls : List Leaf) → EachLeaf P ls → EachLeaf Q ls
-each_leaf_weaker P Q f [] h = tt
-each_leaf_weaker P Q f (l ∷ ls) h = (f l h.0, each_leaf_weaker P Q f ls h.1)
-
-each_below : (P Q : Leaf → Type 0) (n : List ℕ) (s : Step) → ((l : Leaf) → P l → Q (leaf_below n s l)) → (ls : List Leaf) → EachLeaf P ls → EachLeaf Q (map (leaf_below n s) ls)
-each_below P Q n s f [] h = tt
-each_below P Q n s f (l ∷ ls) h = (f l h.0, each_below P Q n s f ls h.1)
-
-each_get : (P : Leaf → Type 0) (ls : List Leaf) (i : ℕ) (l : Leaf) → EachLeaf P ls → slice_get ls i ≡ Some l → P l
-each_get P [] i l h e = absurd (cc)
-each_get P (m ∷ ls) zero l h e = let q : m ≡ l = cc in subst P q h.0
-each_get P (m ∷ ls) (suc i) l h e = each_get P ls i l h.1 e
-
--- a leaf of a group whose first field has the place i
-abbrev KindFrom : ℕ → Fields → Leaf → Type 0
-KindFrom i fs l = (j : ℕ) × (r : Repetition) × (q : List Step) × (l.path ≡ step (i + j) r ∷ q) × (leaf_kind fs (step j r ∷ q) ≡ Some l.kind)
-
-same_itself : (r : Repetition) → same_repetition r r ≡ true
-same_itself required = refl
-same_itself optional = refl
-same_itself repeated = refl
-
-first_kind : (n : List ℕ) (i : ℕ) (r : Repetition) (s : Shape) (fs : Fields) (l : Leaf) → shape_kind s l.path ≡ Some l.kind → KindFrom i (field n r s fs) (leaf_below n (step i r) l)
-first_kind n i r s fs l h =
-    let e : i ≡ i + 0 = omega arith in
-    (0, r, l.path, ap (λ (j : ℕ). step j r ∷ l.path) e, ap (λ b. kind_if b (shape_kind s l.path)) (same_itself r) ∙ h)
-
-later_kind : (n : List ℕ) (i : ℕ) (r : Repetition) (s : Shape) (fs : Fields) (l : Leaf) → KindFrom (suc i) fs l → KindFrom i (field n r s fs) l
-later_kind n i r s fs l h =
-    let e : suc i + h.0 ≡ i + suc h.0 = omega arith in
-    (suc h.0, h.1, h.2, h.3 ∙ ap (λ (j : ℕ). step j h.1 ∷ h.2) e, h.4)
-
-no_shift : (j : ℕ) → 0 + j ≡ j
-no_shift j = omega arith
-
-kind_at_first : (fs : Fields) (l : Leaf) → KindFrom 0 fs l → leaf_kind fs l.path ≡ Some l.kind
-kind_at_first fs l h = subst (λ (p : List Step). leaf_kind fs p ≡ Some l.kind) (sym (h.3 ∙ ap (λ (j : ℕ). step j h.1 ∷ h.2) (no_shift h.0))) h.4
-
-mutual
-  fields_kinds : (fs : Fields) (i : ℕ) → EachLeaf (KindFrom i fs) (leaves_from fs i)
-  fields_kinds no_fields i = tt
-  fields_kinds (field n r s fs) i =
-      each_append (KindFrom i (field n r s fs)) (map (leaf_below n (step i r)) (shape_leaves s)) (leaves_from fs (suc i))
-      (each_below (λ l. shape_kind s l.path ≡ Some l.kind) (KindFrom i (field n r s fs)) n (step i r) (first_kind n i r s fs) (shape_leaves s) (shape_kinds s))
-      (each_leaf_weaker (KindFrom (suc i) fs) (KindFrom i (field n r s fs)) (later_kind n i r s fs) (leaves_from fs (suc i)) (fields_kinds fs (suc i)))
-
-  shape_kinds : (s : Shape) → EachLeaf (λ l. shape_kind s l.path ≡ Some l.kind) (shape_leaves s)
-  shape_kinds (leaf k) = (refl, tt)
-  shape_kinds (group fs) = each_leaf_weaker (KindFrom 0 fs) (λ l. leaf_kind fs l.path ≡ Some l.kind) (kind_at_first fs) (leaves_from fs 0) (fields_kinds fs 0)
-
 -- triplets that pass the test of a leaf are those of records, and the column of records passes it
 pub columns_recognized : ColumnsAreRecognized
 columns_recognized fs i l rows ts h =
-    let k : leaf_kind fs l.path ≡ Some l.kind = each_get (λ (m : Leaf). leaf_kind fs m.path ≡ Some m.kind) (leaves fs) i l (shape_kinds (group fs)) h in
+    let k : leaf_kind fs l.path ≡ Some l.kind = kind_of_leaf fs i l h in
     (recognized fs l rows ts k, passes fs l rows ts k)

@@ -7,7 +7,7 @@ use Rattle.dr_meaning.specs.Automaton.{Pick, picks, behind, beside, indexes, sch
 use Rattle.dr_meaning.specs.OrderLaws.{times, OrdersHaveEachOnce}
 use Rattle.dr_meaning.proofs.WalkLemmas.{step, Without, Only, without_behind, without_beside, only_behind, beside_first, only_beside, behind_later, picks_only}
 
-times_append : (i : ℕ) (xs ys : List ℕ) → times i (xs ++ ys) ≡ times i xs + times i ys
+pub times_append : (i : ℕ) (xs ys : List ℕ) → times i (xs ++ ys) ≡ times i xs + times i ys
 times_append i [] ys = omega arith
 times_append i (x ∷ xs) ys = omega (arith, times_append i xs ys)
 
@@ -61,10 +61,10 @@ split_near i required xs = omega arith
 split_near i optional xs = omega arith
 split_near i repeated xs = omega arith
 
-abbrev both_in : ℕ → Fields → List Pick → ℕ
+abbrev pub both_in : ℕ → Fields → List Pick → ℕ
 both_in i fs G = times i (near_order fs G) + times i (far_order fs G)
 
-abbrev both_of : ℕ → Shape → List Pick → ℕ
+abbrev pub both_of : ℕ → Shape → List Pick → ℕ
 both_of i s G = times i (shape_near_order s G) + times i (shape_far_order s G)
 
 both_step : (i : ℕ) (m : List ℕ) (r : Repetition) (s : Shape) (fs : Fields) (G : List Pick) → both_in i (field m r s fs) G ≡ both_of i s (behind G) + both_in i fs (beside G)
@@ -81,11 +81,11 @@ both_step i m r s fs G =
     )
 
 mutual
-  none_in_both : (i : ℕ) (fs : Fields) (G : List Pick) → Without i G → both_in i fs G ≡ 0
+  pub none_in_both : (i : ℕ) (fs : Fields) (G : List Pick) → Without i G → both_in i fs G ≡ 0
   none_in_both i no_fields G h = omega arith
   none_in_both i (field m r s fs) G h = omega (arith, both_step i m r s fs G, none_of_both i s (behind G) (without_behind i G h), none_in_both i fs (beside G) (without_beside i G h))
 
-  none_of_both : (i : ℕ) (s : Shape) (G : List Pick) → Without i G → both_of i s G ≡ 0
+  pub none_of_both : (i : ℕ) (s : Shape) (G : List Pick) → Without i G → both_of i s G ≡ 0
   none_of_both i (leaf k) G h = omega (arith, none_of_leaf i G h)
   none_of_both i (group fs) G h = none_in_both i fs G h
 
@@ -96,7 +96,7 @@ mutual
       through_once i s fs r q p (both_of i s) (both_in i fs) (both_in i (field m r s fs)) (both_step i m r s fs) (λ H w. none_of_both i s H w) (λ H w. none_in_both i fs H w)
       (λ H o h. once_of_both i s p H o h) (λ j H o h. once_in_both i fs q p j H o h) j G o h
 
-  once_of_both : (i : ℕ) (s : Shape) (p : List Step) (G : List Pick) → Only i p G → is_shape_path s p ≡ true → both_of i s G ≡ 1
+  pub once_of_both : (i : ℕ) (s : Shape) (p : List Step) (G : List Pick) → Only i p G → is_shape_path s p ≡ true → both_of i s G ≡ 1
   once_of_both i (leaf k) p G o h = omega (arith, one_of_leaf i p G o)
   once_of_both i (group no_fields) [] G o h = absurd (true≢false (sym h))
   once_of_both i (group (field m r s fs)) [] G o h = absurd (true≢false (sym h))

@@ -5,21 +5,9 @@ use Rattle.dr_meaning.specs.Schema.{Schema, Repetition, Kind, Fields, no_fields,
 use Rattle.dr_meaning.specs.SchemaText.{Token, name, open_brace, close_brace, semicolon, bad, Placed, bare, tokens_of, Reading, SchemaProblem, SchemaFault, too_long, syntax, bad_name, float_kind, on_token, on_name, on_open, on_close, on_semicolon, on_repetition, on_kind, unless, expecting, end_group, name_problem, leaf_problem, repetition_of, kind_of, repetition_word, kind_word, is_float_word, at_text_end, append_fields, SpellsFields, SpellsSchema, IsOptionalSemicolon, OpenGroup, Expected, message_word, message_name, message_brace, first_field, next_field, after_group, kind_or_group, leaf_name, leaf_end, group_name, group_brace, text_end, reading_start, parse_schema, longest_schema, read_tokens}
 use Rattle.dr_meaning.proofs.SchemaMachine.{run, Gives, gives_then, on_word, read_ok}
 use Rattle.dr_meaning.specs.SchemaTextLaws.{AcceptedIsSpelled}
+use Rattle.dr_meaning.specs.SchemaFaultLaws.{message_head, group_head, SpellsOpen}
 
 -- ---- what the tokens so far spell
-
--- "message" name "{"
-abbrev pub message_head : List ℕ → List Token
-message_head n = name (codes "message") ∷ name n ∷ open_brace ∷ []
-
--- repetition "group" name "{"
-abbrev pub group_head : Repetition → List ℕ → List Token
-group_head r n = name (repetition_word r) ∷ name (codes "group") ∷ name n ∷ open_brace ∷ []
-
--- the open groups, each behind the fields before it
-abbrev pub SpellsOpen : List OpenGroup → List Token → Type 0
-SpellsOpen [] ts = ts ≡ []
-SpellsOpen (g ∷ gs) ts = (a : List Token) × (b : List Token) × (ts ≡ a ++ (b ++ group_head g.repetition g.name)) × SpellsOpen gs a × SpellsFields g.before b
 
 -- the message's head, the open groups, the fields of the innermost, and then the tokens p of a field that has begun
 abbrev pub Behind : List Token → Reading → List Token → Type 0

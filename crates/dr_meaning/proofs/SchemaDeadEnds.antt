@@ -180,7 +180,7 @@ stopped : (text : List ℕ) (place : ℕ) (p : SchemaProblem) → is_dead_end p 
 stopped text place p d h = (h.0, h.1, h.2, h.4, h.5, goes_on (bare h.0) h.3 h.6, dead_end (bare h.0) h.1.token h.3 p h.6 h.7 d)
 
 -- the fault at the end of the text
-end_fault : (e : Expected) (m : Reading) (size place : ℕ) (p : SchemaProblem) → at_text_end e m size ≡ Err (fault_at place p) → (fault_at size syntax ≡ fault_at place p) × (e ≡ text_end → ⊥)
+pub end_fault : (e : Expected) (m : Reading) (size place : ℕ) (p : SchemaProblem) → at_text_end e m size ≡ Err (fault_at place p) → (fault_at size syntax ≡ fault_at place p) × (e ≡ text_end → ⊥)
 end_fault text_end m size place p h = absurd (cc)
 end_fault _ m size place p h = (err_same (fault_at size syntax) (fault_at place p) h, λ q. cc)
 

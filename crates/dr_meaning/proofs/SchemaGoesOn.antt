@@ -5,7 +5,8 @@ use Rattle.dr_meaning.specs.Schema.{Repetition, required, bool_kind, Fields, no_
 use Rattle.dr_meaning.specs.SchemaText.{Token, name, open_brace, close_brace, semicolon, Reading, repetition_word, kind_word, append_fields, SpellsFields, OpenGroup, Expected, message_word, message_name, message_brace, first_field, next_field, after_group, kind_or_group, leaf_name, leaf_end, group_name, group_brace, text_end, reading_start}
 use Rattle.dr_meaning.specs.SchemaTextLaws.{GoesOn}
 use Rattle.dr_meaning.proofs.SchemaMachine.{run}
-use Rattle.dr_meaning.proofs.SchemaAccepted.{SpellsOpen, Behind, IsRead, message_head, group_head, spells_append, one_leaf, one_group, nonempty_append, group_ends, reads_to}
+use Rattle.dr_meaning.specs.SchemaFaultLaws.{message_head, group_head, SpellsOpen}
+use Rattle.dr_meaning.proofs.SchemaAccepted.{Behind, IsRead, spells_append, one_leaf, one_group, nonempty_append, group_ends, reads_to}
 
 goes_on_back : (u v : List Token) → GoesOn (u ++ v) → GoesOn u
 goes_on_back u v h = (h.0, v ++ h.1, rw append_assoc at h.2)

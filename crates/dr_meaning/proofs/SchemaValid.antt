@@ -1,41 +1,26 @@
 -- What is accepted keeps the rules of names and the limits.
 use Rattle.std.proofs.Common.{◌≡◌, ℕ, suc, ◌+◌, ◌-◌, ◌≤◌, ◌<◌, List, [], ◌∷◌, ◌++◌, length, Bool, true, false, not, refl, subst, Ok, Err, Some, None, Option, Result, arith}
 use Rattle.std.specs.Prelude.{◌==◌, codes, nat_lt, nat_le, bytes_eq, if◌then◌else◌, ◌&&◌}
-use Rattle.std.specs.List.{list_any, list_all}
-use Rattle.std.proofs.lemmas.Bool.{and_parts, and_from, or_parts, or_from, not_from_false, ltb-false, leb-false, le-leb, cond_both}
-use Rattle.dr_meaning.specs.Schema.{Schema, Repetition, Kind, Fields, no_fields, field, Shape, leaf, group, is_nonempty, longest_name, greatest_depth, most_leaves, field_names, is_name, is_short_name, is_group, is_shape, is_schema, leaf_count, shape_leaf_count, depth, shape_depth, begins_name, continues_name}
+use Rattle.std.specs.List.{list_any}
+use Rattle.std.proofs.lemmas.Bool.{and_from, or_parts, or_from, not_from_false, ltb-false, leb-false, le-leb, cond_both}
+use Rattle.dr_meaning.specs.Schema.{Schema, Repetition, Kind, Fields, no_fields, field, Shape, leaf, group, is_nonempty, longest_name, greatest_depth, most_leaves, field_names, is_name, is_short_name, is_group, is_shape, is_schema, leaf_count, shape_leaf_count, depth, shape_depth}
 use Rattle.dr_meaning.specs.SchemaText.{Token, name, open_brace, close_brace, semicolon, bad, Placed, bare, tokens_of, tokens_from, with_word, with_byte, byte_token, is_blank, goes_on, Reading, SchemaProblem, too_long, syntax, float_kind, bad_name, duplicate_name, too_deep, too_many_leaves, on_token, on_name, on_open, on_close, on_semicolon, on_repetition, on_kind, unless, expecting, end_group, name_problem, leaf_problem, repetition_of, kind_of, is_float_word, at_text_end, append_fields, OpenGroup, Expected, message_word, message_name, message_brace, first_field, next_field, after_group, kind_or_group, leaf_name, leaf_end, group_name, group_brace, text_end, reading_start, parse_schema, longest_schema, read_tokens}
 use Rattle.dr_meaning.specs.SchemaTextLaws.{AcceptedExactly}
+use Rattle.dr_meaning.specs.SchemaFaultLaws.{leaves_before}
 use Rattle.dr_meaning.proofs.SchemaMachine.{run, Gives, gives_then, read_ok}
 use Rattle.dr_meaning.proofs.SchemaAccepted.{Anything, either_way, nonempty_append, same_schema, accepted_is_spelled}
+use Rattle.dr_meaning.proofs.TokenLemmas.{IsBegun, begun_more}
 use Rattle.dr_meaning.proofs.SchemaReadsBack.{spelled_is_accepted, first_of_group, other_way, NewField}
 
 -- ---- the names in a text have the form of names
 
-abbrev IsNamed : List Token → Type 0
+abbrev pub IsNamed : List Token → Type 0
 IsNamed [] = Unit {0}
 IsNamed (name n ∷ ts) = (is_name n ≡ true) × IsNamed ts
 IsNamed (open_brace ∷ ts) = IsNamed ts
 IsNamed (close_brace ∷ ts) = IsNamed ts
 IsNamed (semicolon ∷ ts) = IsNamed ts
 IsNamed (bad ∷ ts) = IsNamed ts
-
--- a word that has begun, if one has
-abbrev IsBegun : List ℕ → Type 0
-IsBegun [] = Unit {0}
-IsBegun (c ∷ w) = is_name (c ∷ w) ≡ true
-
-list_all_push : (w : List ℕ) (b : ℕ) → list_all continues_name w ≡ true → continues_name b ≡ true → list_all continues_name (w ++ b ∷ []) ≡ true
-list_all_push [] b h k = rw k refl
-list_all_push (c ∷ w) b h k =
-    let p = and_parts (continues_name c) (list_all continues_name w) h in
-    and_from (continues_name c) (list_all continues_name (w ++ b ∷ [])) p.0 (list_all_push w b p.1 k)
-
-begun_more : (w : List ℕ) (b : ℕ) → IsBegun w → goes_on w b ≡ true → IsBegun (w ++ b ∷ [])
-begun_more [] b h k = rw k refl
-begun_more (c ∷ w) b h k =
-    let p = and_parts (begins_name c) (list_all continues_name w) h in
-    and_from (begins_name c) (list_all continues_name (w ++ b ∷ [])) p.0 (list_all_push w b p.1 k)
 
 named_word : (i : ℕ) (w : List ℕ) (ts : List Placed) → IsBegun w → IsNamed (bare ts) → IsNamed (bare (with_word i w ts))
 named_word i [] ts h k = k
@@ -51,7 +36,7 @@ named_token bad ts h k = k
 named_byte : (i b : ℕ) (ts : List Placed) → IsNamed (bare ts) → IsNamed (bare (with_byte i b ts))
 named_byte i b ts h = either_way (λ (xs : List Placed). IsNamed (bare xs)) (is_blank b) ts (record { place = i; token = byte_token b } ∷ ts) h (named_token (byte_token b) (bare ts) (either_way (λ (t : Token). IsNamed (t ∷ [])) (b == 123) open_brace _ tt (either_way (λ (t : Token). IsNamed (t ∷ [])) (b == 125) close_brace _ tt (either_way (λ (t : Token). IsNamed (t ∷ [])) (b == 59) semicolon bad tt tt))) h)
 
-named_from : (bs : List ℕ) (i : ℕ) (w : List ℕ) → IsBegun w → IsNamed (bare (tokens_from i w bs))
+pub named_from : (bs : List ℕ) (i : ℕ) (w : List ℕ) → IsBegun w → IsNamed (bare (tokens_from i w bs))
 named_from [] i w h = named_word i w [] h tt
 named_from (b ∷ bs) i w h = cond_both (goes_on w b) (tokens_from (suc i) (w ++ b ∷ []) bs) (with_word i w (with_byte i b (tokens_from (suc i) [] bs))) (λ (xs : List Placed). IsNamed (bare xs)) (λ e. named_from bs (suc i) (w ++ b ∷ []) (begun_more w b h e)) (λ e. named_word i w (with_byte i b (tokens_from (suc i) [] bs)) h (named_byte i b (tokens_from (suc i) [] bs) (named_from bs (suc i) [] tt)))
 
@@ -89,24 +74,20 @@ leaves_append (field n' r' s' gs) n r s =
 -- ---- the states of the machine
 
 -- a name that may stand here
-abbrev IsNew : List ℕ → Fields → List OpenGroup → Type 0
+abbrev pub IsNew : List ℕ → Fields → List OpenGroup → Type 0
 IsNew n fs gs = (is_short_name n ≡ true) × (list_any (bytes_eq n) (field_names fs) ≡ false) × (length gs < 32)
 
-abbrev IsOpen : List OpenGroup → Type 0
+abbrev pub IsOpen : List OpenGroup → Type 0
 IsOpen [] = Unit {0}
 IsOpen (g ∷ gs) = IsNew g.name g.before gs × (is_group g.before ≡ true) × (length gs + depth g.before ≤ 32) × IsOpen gs
 
-abbrev open_leaves : List OpenGroup → ℕ
-open_leaves [] = 0
-open_leaves (g ∷ gs) = leaf_count g.before + open_leaves gs
+abbrev pub IsWithin : Reading → Type 0
+IsWithin m = (is_short_name m.message ≡ true) × IsOpen m.groups × (is_group m.fields ≡ true) × (length m.groups + depth m.fields ≤ 32) × (m.leaves ≡ leaf_count m.fields + leaves_before m.groups) × (m.leaves ≤ 1024)
 
-abbrev IsWithin : Reading → Type 0
-IsWithin m = (is_short_name m.message ≡ true) × IsOpen m.groups × (is_group m.fields ≡ true) × (length m.groups + depth m.fields ≤ 32) × (m.leaves ≡ leaf_count m.fields + open_leaves m.groups) × (m.leaves ≤ 1024)
-
-abbrev IsEmpty : Reading → Type 0
+abbrev pub IsEmpty : Reading → Type 0
 IsEmpty m = (m.groups ≡ []) × (m.fields ≡ no_fields) × (m.leaves ≡ 0)
 
-abbrev ValidAt : Expected → Reading → Type 0
+abbrev pub ValidAt : Expected → Reading → Type 0
 ValidAt message_word m = IsEmpty m
 ValidAt message_name m = IsEmpty m
 ValidAt message_brace m = (is_short_name m.message ≡ true) × IsEmpty m
@@ -120,10 +101,10 @@ ValidAt (group_name r) m = IsWithin m
 ValidAt (group_brace r n) m = IsWithin m × IsNew n m.fields m.groups
 ValidAt text_end m = is_schema (record { name = m.message; fields = m.fields }) ≡ true
 
-abbrev Valid : Reading → Type 0
+abbrev pub Valid : Reading → Type 0
 Valid m = ValidAt m.expected m
 
-abbrev Keeps : Result Reading SchemaProblem → Type 0
+abbrev pub Keeps : Result Reading SchemaProblem → Type 0
 Keeps r = Gives Valid Anything r
 
 -- ---- names
@@ -175,7 +156,7 @@ keeps_open : (e : Expected) (m : Reading) → ValidAt e m → Keeps (on_open e m
 keeps_open message_brace m h = (h.0, rw h.1.0 tt, rw h.1.1 refl, rw (h.1.0, h.1.1) (omega arith), rw (h.1.0, h.1.1, h.1.2) refl, rw h.1.2 (omega arith))
 keeps_open (group_brace r n) m h =
     let d : suc (length m.groups) + 0 ≤ 32 = omega (arith, h.1.2) in
-    let l : m.leaves ≡ 0 + (leaf_count m.fields + open_leaves m.groups) = omega (arith, h.0.4) in
+    let l : m.leaves ≡ 0 + (leaf_count m.fields + leaves_before m.groups) = omega (arith, h.0.4) in
     (h.0.0, (h.1, h.0.2, h.0.3, h.0.1), refl, d, l, h.0.5)
 keeps_open _ m h = tt
 
@@ -183,13 +164,13 @@ is_schema_from : (n : List ℕ) (fs : Fields) → is_short_name n ≡ true → i
 is_schema_from n fs a b c d e = and_from (is_short_name n && is_shape (group fs) && nat_le (depth fs) greatest_depth) (nat_le (leaf_count fs) most_leaves) (and_from (is_short_name n && is_shape (group fs)) (nat_le (depth fs) greatest_depth) (and_from (is_short_name n) (is_shape (group fs)) a (and_from (is_nonempty fs) (is_group fs) b c)) (le-leb (depth fs) greatest_depth d)) (le-leb (leaf_count fs) most_leaves e)
 
 -- a field that joins those before it within the limits
-within_append : (fs : Fields) (gs : List OpenGroup) (n : List ℕ) (r : Repetition) (s : Shape) (message : List ℕ) (e : Expected) (l : ℕ) → is_short_name message ≡ true → IsOpen gs → is_group fs ≡ true → length gs + depth fs ≤ 32 → NewField fs n s → length gs + (1 + shape_depth s) ≤ 32 → l ≡ leaf_count fs + shape_leaf_count s + open_leaves gs → l ≤ 1024 → IsWithin (record { expected = e; message = message; fields = append_fields fs (field n r s no_fields); groups = gs; leaves = l })
+within_append : (fs : Fields) (gs : List OpenGroup) (n : List ℕ) (r : Repetition) (s : Shape) (message : List ℕ) (e : Expected) (l : ℕ) → is_short_name message ≡ true → IsOpen gs → is_group fs ≡ true → length gs + depth fs ≤ 32 → NewField fs n s → length gs + (1 + shape_depth s) ≤ 32 → l ≡ leaf_count fs + shape_leaf_count s + leaves_before gs → l ≤ 1024 → IsWithin (record { expected = e; message = message; fields = append_fields fs (field n r s no_fields); groups = gs; leaves = l })
 within_append fs gs n r s message e l a o g d w d' q b =
     let d1 : depth fs ≤ 32 - length gs = omega arith in
     let d2 : 1 + shape_depth s ≤ 32 - length gs = omega arith in
     let d3 : depth (append_fields fs (field n r s no_fields)) ≤ 32 - length gs = depth_append fs n r s (32 - length gs) d1 d2 in
     let d4 : length gs + depth (append_fields fs (field n r s no_fields)) ≤ 32 = omega arith in
-    let q' : l ≡ leaf_count (append_fields fs (field n r s no_fields)) + open_leaves gs = omega (arith, leaves_append fs n r s) in
+    let q' : l ≡ leaf_count (append_fields fs (field n r s no_fields)) + leaves_before gs = omega (arith, leaves_append fs n r s) in
     (a, o, group_append fs n r s g w, d4, q', b)
 
 keeps_close : (m : Reading) (gs : List OpenGroup) → m.groups ≡ gs → IsWithin m → is_nonempty m.fields ≡ true → Keeps (end_group m gs)
@@ -200,9 +181,9 @@ keeps_close m [] e h k =
 keeps_close m (g ∷ gs) e h k =
     let o : IsOpen (g ∷ gs) = rw e at h.1 in
     let d : suc (length gs) + depth m.fields ≤ 32 = rw e at h.3 in
-    let l : m.leaves ≡ leaf_count m.fields + (leaf_count g.before + open_leaves gs) = rw e at h.4 in
+    let l : m.leaves ≡ leaf_count m.fields + (leaf_count g.before + leaves_before gs) = rw e at h.4 in
     let d' : length gs + (1 + depth m.fields) ≤ 32 = omega arith in
-    let l' : m.leaves ≡ leaf_count g.before + leaf_count m.fields + open_leaves gs = omega arith in
+    let l' : m.leaves ≡ leaf_count g.before + leaf_count m.fields + leaves_before gs = omega arith in
     (within_append g.before gs g.name g.repetition (group m.fields) m.message after_group m.leaves h.0 o.3 o.1 o.2 (o.0.0, o.0.1, and_from (is_nonempty m.fields) (is_group m.fields) k h.2) d' l' h.5, nonempty_append g.before g.name g.repetition (group m.fields))
 
 keeps_end : (e : Expected) (m : Reading) → ValidAt e m → Keeps (on_close e m)
@@ -213,14 +194,14 @@ keeps_end _ m h = tt
 keeps_semicolon : (e : Expected) (m : Reading) → ValidAt e m → Keeps (on_semicolon e m)
 keeps_semicolon (leaf_end r k n) m h =
     let d : length m.groups + (1 + 0) ≤ 32 = omega (arith, h.1.2) in
-    let l : suc m.leaves ≡ leaf_count m.fields + 1 + open_leaves m.groups = omega (arith, h.0.4) in
+    let l : suc m.leaves ≡ leaf_count m.fields + 1 + leaves_before m.groups = omega (arith, h.0.4) in
     (within_append m.fields m.groups n r (leaf k) m.message next_field (suc m.leaves) h.0.0 h.0.1 h.0.2 h.0.3 (h.1.0, h.1.1, refl) d l h.2, nonempty_append m.fields n r (leaf k))
 keeps_semicolon after_group m h = h
 keeps_semicolon _ m h = tt
 
 -- ---- all tokens
 
-keeps_run : (ts : List Token) (m : Reading) → IsNamed ts → Valid m → Keeps (run ts m)
+pub keeps_run : (ts : List Token) (m : Reading) → IsNamed ts → Valid m → Keeps (run ts m)
 keeps_run [] m n h = h
 keeps_run (name w ∷ ts) m n h = gives_then Valid Valid Anything (run ts) (on_token m (name w)) (keeps_name m.expected m w h n.0) (λ (m1 : Reading) (k : Valid m1). keeps_run ts m1 n.1 k)
 keeps_run (open_brace ∷ ts) m n h = gives_then Valid Valid Anything (run ts) (on_token m open_brace) (keeps_open m.expected m h) (λ (m1 : Reading) (k : Valid m1). keeps_run ts m1 n k)

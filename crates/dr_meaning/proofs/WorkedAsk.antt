@@ -86,9 +86,10 @@ one = field (codes "a") required (leaf int64_kind) no_fields
 abbrev number : ℕ → Node
 number n = slot (numbers (n ∷ [])) no_slots
 
--- the records before the first refused line, and that line; lines behind it aren't looked at
+-- the records before the first refused line, and that line; lines behind it aren't looked at; none where that is the first line
 pub taken : (taken_from one 9 1 (codes "{\"a\":1}" ∷ codes "{\"a\":2}" ∷ codes "{}" ∷ codes "x" ∷ []) ≡ record { records = number 1 ∷ number 2 ∷ []; refusal = Some (record { line = 3; fault = no_record missing_field }) })
     × (taken_from one 1 1 (codes "{\"a\":1}" ∷ codes "x" ∷ []) ≡ record { records = number 1 ∷ []; refusal = Some (record { line = 2; fault = too_many_records }) })
     × (taken_from one 9 1 (codes "{\"a\":1}" ∷ []) ≡ record { records = number 1 ∷ []; refusal = None })
+    × (taken_from one 9 1 (codes "x" ∷ codes "{\"a\":1}" ∷ []) ≡ record { records = []; refusal = Some (record { line = 1; fault = no_record not_json }) })
 unfolding record_of_line is_utf8 chars serde_json_on_literals
-taken = (refl, refl, refl)
+taken = (refl, refl, refl, refl)

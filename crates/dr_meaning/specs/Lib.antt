@@ -25,6 +25,8 @@ pub mod Stripe
 pub mod Fsm
 -- laws, each proved on a law function of src/
 pub mod SchemaTextLaws
+pub mod TokenLaws
+pub mod SchemaFaultLaws
 pub mod PathLaws
 pub mod ProjectionLaws
 pub mod MeaningLaws
@@ -32,3 +34,4 @@ pub mod ColumnLaws
 pub mod OneColumn
 pub mod WalkLaws
 pub mod OrderLaws
+pub mod AutomatonLaws

@@ -1,5 +1,6 @@
 //! Laws of schema text, each a function that does nothing and whose contract is the law.
 
+ghost use Rattle.dr_meaning.specs.SchemaFaultLaws.{NameFaultIsBroken};
 ghost use Rattle.dr_meaning.specs.SchemaTextLaws.{AcceptedExactly, AcceptedIsSpelled, BeforeFaultGoesOn, CanonicalReadsBack, EmptyGroupIsDeadEnd, FloatIsDeadEnd, SyntaxIsDeadEnd};
 
 /// Every accepted schema text is spelled by the grammar.
@@ -28,4 +29,9 @@ pub fn canonical_schema_text_reads_back()
 /// Exactly the texts are accepted as a schema that are not too long and spell a schema that keeps the rules of names and the limits.
 pub fn schema_texts_are_accepted_exactly()
     ensures { AcceptedExactly }
+{}
+
+/// At the fault of a name its rule is broken, none before it at that name, and none at the names before.
+pub fn name_fault_is_broken()
+    ensures { NameFaultIsBroken }
 {}
