@@ -313,6 +313,12 @@ fn a_record_fits_its_schema(rt: HostRuntime) -> Result<(), Fail> {
     Ok(())
 }
 
+// The projection to some leaves, as text.
+fn projected(alloc: Global, fields: &[Path], node: &Node) -> Result<String, Fail> {
+    let kept = project(alloc, fields, node).map_err(|_| "no memory")?;
+    Ok(format!(in alloc; "{kept:?}")?)
+}
+
 #[test]
 fn a_projection_keeps_what_lies_on_its_paths(rt: HostRuntime) -> Result<(), Fail> {
     let alloc = rt.alloc();
@@ -321,22 +327,22 @@ fn a_projection_keeps_what_lies_on_its_paths(rt: HostRuntime) -> Result<(), Fail
     let text = find(alloc, &schema, "g.s").map_err(|_| "refused")?;
     let node = node_of(alloc, &[Given::Numbers(&[5]), Given::Texts(&["x"])])?;
     let paths = [text, number];
-    let rows: [(&[Path], &str); 4] = [
-        (
-            &paths[..1],
-            "Node { slots: [Gap, Held([Group(Node { slots: [Held([Atom(Text(\"x\"))])] })])] }",
-        ),
-        (&paths[1..], "Node { slots: [Held([Atom(Int(5))]), Gap] }"),
-        (&paths[..0], "Node { slots: [Gap, Gap] }"),
-        (
-            &paths[..],
-            "Node { slots: [Held([Atom(Int(5))]), Held([Group(Node { slots: [Held([Atom(Text(\"x\"))])] })])] }",
-        ),
-    ];
-    for (selected, expected) in rows {
-        let kept = project(alloc, selected, &node).map_err(|_| "no memory")?;
-        let kept = format!(in alloc; "{kept:?}")?;
-        assert_eq!(rt; kept.as_str(), expected);
-    }
+    let text_alone = projected(alloc, &paths[..1], &node)?;
+    assert_eq!(rt;
+        text_alone.as_str(),
+        "Node { slots: [Gap, Held([Group(Node { slots: [Held([Atom(Text(\"x\"))])] })])] }"
+    );
+    let number_alone = projected(alloc, &paths[1..], &node)?;
+    assert_eq!(rt;
+        number_alone.as_str(),
+        "Node { slots: [Held([Atom(Int(5))]), Gap] }"
+    );
+    let neither = projected(alloc, &[], &node)?;
+    assert_eq!(rt; neither.as_str(), "Node { slots: [Gap, Gap] }");
+    let both = projected(alloc, &paths, &node)?;
+    assert_eq!(rt;
+        both.as_str(),
+        "Node { slots: [Held([Atom(Int(5))]), Held([Group(Node { slots: [Held([Atom(Text(\"x\"))])] })])] }"
+    );
     Ok(())
 }
