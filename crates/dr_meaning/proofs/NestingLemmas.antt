@@ -5,7 +5,7 @@ use Rattle.std.specs.List.{list_all, slice_get, flat_map}
 use Rattle.std.proofs.lemmas.Bool.{and_parts, and_from, eq-eqb}
 use Rattle.std.proofs.lemmas.List.{map-append, reverse-append}
 use Rattle.dr_meaning.specs.Schema.{Repetition, required, optional, repeated, is_repeated, Kind, Fields, no_fields, field, Shape, leaf, group, repetition_count, repeated_fields, shape_repeated_fields}
-use Rattle.dr_meaning.specs.Path.{Step, Leaf, same_repetition, begins_with, same_path, chain, leaf_below, leaves_from, shape_leaves, leaves}
+use Rattle.dr_meaning.specs.Path.{Step, Leaf, same_repetition, begins_with, same_path, chain, leaves}
 use Rattle.dr_meaning.specs.Record.{Node, no_slots, slot, gap, Instances, no_instances, instance, Instance, atom, inner, is_of_kind, all_instances, is_record, is_instance}
 use Rattle.dr_meaning.specs.Column.{triplet}
 use Rattle.dr_meaning.specs.Automaton.{Pick, picks_from, picks, behind_if, behind_pick, behind, beside_if, beside_pick, beside, indexes}

@@ -1,12 +1,12 @@
 -- Triplets that pass the test of one column are the column of records of the schema; and columns pass it.
-use Rattle.std.proofs.Common.{◌≡◌, ℕ, zero, suc, ◌+◌, ◌<◌, ◌≤◌, List, [], ◌∷◌, ◌++◌, map, length, Bool, true, false, ◌&&◌, Option, Some, None, refl, sym, ap, ap₂, ◌∙◌, subst, true≢false, arith, append-nil}
+use Rattle.std.proofs.Common.{◌≡◌, ℕ, zero, suc, ◌+◌, ◌<◌, ◌≤◌, List, [], ◌∷◌, ◌++◌, length, Bool, true, false, ◌&&◌, Option, Some, None, refl, sym, ap, ap₂, ◌∙◌, subst, true≢false, arith, append-nil}
 use Rattle.std.specs.Prelude.{◌⊎◌, ◌==◌, nat_le, pos}
 use Rattle.std.proofs.Common.{inl, inr}
-use Rattle.std.specs.List.{list_all, slice_get}
+use Rattle.std.specs.List.{list_all}
 use Rattle.std.specs.Str.{is_utf8, chars}
 use Rattle.std.proofs.lemmas.Bool.{and_parts, and_from, eqb-true, leb-true, le-leb, eq-eqb, ne_eqb, cases_lt}
 use Rattle.dr_meaning.specs.Schema.{Repetition, required, optional, repeated, Kind, bool_kind, int32_kind, int64_kind, text_kind, Fields, no_fields, field, Shape, leaf, group, repetition_count, definition_count}
-use Rattle.dr_meaning.specs.Path.{Step, Leaf, leaf_below, leaves_from, shape_leaves, leaves, max_repetition, max_definition, is_leaf_path, is_shape_path, same_repetition, through}
+use Rattle.dr_meaning.specs.Path.{Step, Leaf, max_repetition, max_definition, is_leaf_path, is_shape_path, same_repetition, through}
 use Rattle.dr_meaning.specs.Record.{Value, bool_value, int_value, text_value, is_of_kind, Node, no_slots, slot, gap, Instances, no_instances, instance, Instance, atom, inner, single, count_instances, fits_repetition, all_instances, is_record, is_instance, instances_at}
 use Rattle.dr_meaning.specs.Column.{Triplet, triplet, each_later, spread, instance_column, record_column, column}
 use Rattle.dr_meaning.specs.OneColumn.{starts, begins_record, fits_value, fits_levels, level_inside, may_follow, all_follow, is_in_order, is_column, HaveColumn, ColumnsAreRecognized}
