@@ -3,6 +3,7 @@
 ghost use Rattle.std.specs.Prelude.{◌≡◌, true, Some, None, string_bytes, option_map, IfOk, IfSome};
 ghost use Rattle.dr_meaning.specs.Schema.{is_name};
 ghost use Rattle.dr_meaning.specs.Ask as ask;
+ghost use Rattle.dr_meaning.specs.QueryText.{longest_query};
 ghost use Rattle.dr_nested.specs.SchemaView.{schema_view};
 ghost use Rattle.dr_count.specs.ItemNames.{has_name};
 ghost use Rattle.dr_count.specs.QueryState.{ReadsQuery, named_by};
@@ -16,6 +17,11 @@ use std::alloc::{AllocError, Global};
 
 /// The greatest length of a query's text, in bytes.
 pub const LONGEST_QUERY: usize = 65_536;
+
+/// A law: this is the limit of the definitions.
+pub fn query_limit_is_as_defined()
+    ensures { LONGEST_QUERY ≡ longest_query }
+{}
 
 /// What is counted: the name of the result's item, and the path of a leaf.
 #[derive(Debug, Drop)]

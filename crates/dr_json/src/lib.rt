@@ -11,4 +11,4 @@ mod size;
 mod tests;
 
 pub use fault::{RecordFault, RecordProblem};
-pub use line::record_of;
+pub use line::{MOST_INSTANCES, MOST_TEXT_BYTES, record_limits_are_as_defined, record_of};

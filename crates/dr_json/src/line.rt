@@ -4,7 +4,7 @@ ghost use Rattle.std.specs.Prelude.{◌≡◌, true};
 ghost use Rattle.serde_json.specs.View.{view};
 ghost use Rattle.dr_meaning.specs.Schema.{is_group};
 ghost use Rattle.dr_meaning.specs.JsonRecord as meant;
-ghost use Rattle.dr_meaning.specs.JsonRecord.{record_of_line, node_within_limits};
+ghost use Rattle.dr_meaning.specs.JsonRecord.{record_of_line, node_within_limits, most_instances, most_text_bytes};
 ghost use Rattle.dr_nested.specs.Views.{fields_view, node_view};
 ghost use Rattle.dr_nested.specs.Faults.{Gives};
 ghost use Rattle.dr_json.specs.Faults.{record_fault_view};
@@ -21,6 +21,12 @@ pub const MOST_INSTANCES: u64 = 1_048_575;
 
 /// The greatest number of bytes of all the texts of a record.
 pub const MOST_TEXT_BYTES: u64 = 1 << 30;
+
+/// A law: these are the limits of the definitions.
+pub fn record_limits_are_as_defined()
+    ensures instances { MOST_INSTANCES ≡ most_instances }
+    ensures texts { MOST_TEXT_BYTES ≡ most_text_bytes }
+{}
 
 /// The record that a line reads as under a schema, or its first fault. An object's unknown key comes before the faults of
 /// its fields, these come in schema order, and a record that is too large comes last. A number that `serde_json` holds as

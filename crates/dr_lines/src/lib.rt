@@ -5,7 +5,7 @@ mod cutter;
 mod lines;
 
 pub use cutter::{LineFault, Lines};
-pub use lines::LONGEST_LINE;
+pub use lines::{LONGEST_LINE, line_limit_is_as_defined};
 
 #[cfg(test)]
 mod tests;

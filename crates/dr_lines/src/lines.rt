@@ -17,6 +17,11 @@ pub const LONGEST_LINE: usize = 1_048_576;
 /// How many bytes are asked of a source at once.
 const BUFFER_SIZE: usize = 65_536;
 
+/// A law: this is the limit of the definitions.
+pub fn line_limit_is_as_defined()
+    ensures { LONGEST_LINE ≡ longest_line }
+{}
+
 impl Lines {
     /// A cutter that has read nothing. It reserves the room of the longest line.
     ///

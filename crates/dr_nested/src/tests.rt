@@ -313,9 +313,13 @@ fn a_record_fits_its_schema(rt: HostRuntime) -> Result<(), Fail> {
     Ok(())
 }
 
-// The projection to some leaves, as text.
-fn projected(alloc: Global, fields: &[Path], node: &Node) -> Result<String, Fail> {
-    let kept = project(alloc, fields, node).map_err(|_| "no memory")?;
+// The projection of a record to the leaves of these names, as text.
+fn projected(alloc: Global, schema: &Schema, names: &[&str], node: &Node) -> Result<String, Fail> {
+    let mut fields = Vec::new(alloc);
+    for name in names {
+        fields.push(find(alloc, schema, name).map_err(|_| "refused")?)?;
+    }
+    let kept = project(alloc, &fields, node).map_err(|_| "no memory")?;
     Ok(format!(in alloc; "{kept:?}")?)
 }
 
@@ -323,23 +327,20 @@ fn projected(alloc: Global, fields: &[Path], node: &Node) -> Result<String, Fail
 fn a_projection_keeps_what_lies_on_its_paths(rt: HostRuntime) -> Result<(), Fail> {
     let alloc = rt.alloc();
     let schema = small_schema(alloc).map_err(|_| "refused")?;
-    let number = find(alloc, &schema, "a").map_err(|_| "refused")?;
-    let text = find(alloc, &schema, "g.s").map_err(|_| "refused")?;
     let node = node_of(alloc, &[Given::Numbers(&[5]), Given::Texts(&["x"])])?;
-    let paths = [text, number];
-    let text_alone = projected(alloc, &paths[..1], &node)?;
+    let text = projected(alloc, &schema, &["g.s"], &node)?;
     assert_eq!(rt;
-        text_alone.as_str(),
+        text.as_str(),
         "Node { slots: [Gap, Held([Group(Node { slots: [Held([Atom(Text(\"x\"))])] })])] }"
     );
-    let number_alone = projected(alloc, &paths[1..], &node)?;
+    let number = projected(alloc, &schema, &["a"], &node)?;
     assert_eq!(rt;
-        number_alone.as_str(),
+        number.as_str(),
         "Node { slots: [Held([Atom(Int(5))]), Gap] }"
     );
-    let neither = projected(alloc, &[], &node)?;
+    let neither = projected(alloc, &schema, &[], &node)?;
     assert_eq!(rt; neither.as_str(), "Node { slots: [Gap, Gap] }");
-    let both = projected(alloc, &paths, &node)?;
+    let both = projected(alloc, &schema, &["g.s", "a"], &node)?;
     assert_eq!(rt;
         both.as_str(),
         "Node { slots: [Held([Atom(Int(5))]), Held([Group(Node { slots: [Held([Atom(Text(\"x\"))])] })])] }"

@@ -17,15 +17,12 @@ use crate::input_records::{InputFault, next_record};
 use crate::refusal::Refusal;
 use crate::schema_file::read_schema;
 use crate::stop::Stop;
-use dr_commands::Ask;
+use dr_commands::{Ask, MOST_RECORDS};
 use dr_count::{CountQuery, count_line, count_query, count_values};
 use dr_lines::Lines;
 use dr_nested::{Schema, Step};
 use dr_outside::{Keeper, Source};
 use std::alloc::Global;
-
-/// The greatest number of lines of `ask`: 4,096 tablets of 100,000 records.
-const MOST_RECORDS: u64 = 409_600_000;
 
 /// The query of a text.
 ///

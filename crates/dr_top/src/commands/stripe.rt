@@ -17,7 +17,7 @@ use crate::field::find_field;
 use crate::input_records::{InputFault, next_record};
 use crate::schema_file::read_schema;
 use crate::stop::Stop;
-use dr_commands::Stripe;
+use dr_commands::{MOST_STRIPED, Stripe};
 use dr_levels::Column;
 use dr_lines::Lines;
 use dr_nested::{Path, Schema};
@@ -26,9 +26,6 @@ use dr_print::column_text;
 use dr_striper::Striper;
 use std::alloc::Global;
 use std::slice;
-
-/// The greatest number of lines of `stripe`: 4,096 times 1,000,000.
-const MOST_STRIPED: u64 = 4_096_000_000;
 
 /// The only column of a striper of one leaf.
 fn only_column(striper: Striper<'_>) -> Column
