@@ -29,9 +29,11 @@ fn texts(alloc: Global, values: &[&str]) -> Result<Slot, AllocError> {
     Ok(Slot::Held(instances))
 }
 
-// A group with no slot for the languages' instances, and these URLs.
+// A group without languages, and with these URLs.
 fn name(alloc: Global, urls: &[&str]) -> Result<Instance, AllocError> {
-    let slots = vec![in alloc; Slot::Held(Vec::new(alloc)), texts(alloc, urls)?]?;
+    let mut slots = Vec::new(alloc);
+    slots.push(Slot::Held(Vec::new(alloc)))?;
+    slots.push(texts(alloc, urls)?)?;
     Ok(Instance::Group(Node { slots }))
 }
 
@@ -44,15 +46,29 @@ fn names(alloc: Global, urls: &[&[&str]]) -> Result<Slot, AllocError> {
 }
 
 fn links(alloc: Global, backward: &[i64], forward: &[i64]) -> Result<Slot, AllocError> {
-    let slots = vec![in alloc; numbers(alloc, backward)?, numbers(alloc, forward)?]?;
-    let instances = vec![in alloc; Instance::Group(Node { slots })]?;
+    let mut slots = Vec::new(alloc);
+    slots.push(numbers(alloc, backward)?)?;
+    slots.push(numbers(alloc, forward)?)?;
+    let mut instances = Vec::new(alloc);
+    instances.push(Instance::Group(Node { slots }))?;
     Ok(Slot::Held(instances))
 }
 
-fn record(alloc: Global, id: i64, links: Slot, names: Slot) -> Result<Node, AllocError> {
-    Ok(Node {
-        slots: vec![in alloc; numbers(alloc, &[id])?, links, names]?,
-    })
+// A record of an id, of links where there are any, and of names by their URLs.
+fn record(
+    alloc: Global,
+    id: i64,
+    pair: Option<(&[i64], &[i64])>,
+    urls: &[&[&str]],
+) -> Result<Node, AllocError> {
+    let mut slots = Vec::new(alloc);
+    slots.push(numbers(alloc, &[id])?)?;
+    slots.push(match pair {
+        Some((backward, forward)) => links(alloc, backward, forward)?,
+        None => Slot::Gap,
+    })?;
+    slots.push(names(alloc, urls)?)?;
+    Ok(Node { slots })
 }
 
 fn count_of(alloc: Global, path: &str, node: &Node) -> Result<u64, &'static str> {
@@ -62,41 +78,41 @@ fn count_of(alloc: Global, path: &str, node: &Node) -> Result<u64, &'static str>
     }
 }
 
+const PATHS: [&str; 5] = [
+    "DocId",
+    "Links.Backward",
+    "Links.Forward",
+    "Name.Url",
+    "Name.Language.Code",
+];
+
+// Whether the paths have these numbers of values in a record.
+fn has_counts(alloc: Global, node: &Node, counts: [u64; 5]) -> Result<bool, &'static str> {
+    for (path, count) in PATHS.iter().zip(counts) {
+        if count_of(alloc, path, node)? != count {
+            return Ok(false);
+        }
+    }
+    Ok(true)
+}
+
 #[test]
 fn values_are_counted_by_their_paths(rt: HostRuntime) -> Result<(), Fail> {
     let alloc = rt.alloc();
     let first = record(
         alloc,
         10,
-        links(alloc, &[], &[20, 40, 60])?,
-        names(alloc, &[&["http://A"], &["http://B"], &[]])?,
+        Some((&[], &[20, 40, 60])),
+        &[&["http://A"], &["http://B"], &[]],
     )?;
-    let second = record(
-        alloc,
-        20,
-        links(alloc, &[10, 30], &[80])?,
-        names(alloc, &[&["http://C"]])?,
-    )?;
-    let third = record(alloc, 30, Slot::Held(Vec::new(alloc)), Slot::Gap)?;
-    let odd = record(
-        alloc,
-        40,
-        Slot::Gap,
-        names(alloc, &[&["http://D", "http://E"]])?,
-    )?;
-    let rows = [
-        ("DocId", 1, 1, 1),
-        ("Links.Backward", 0, 2, 0),
-        ("Links.Forward", 3, 1, 0),
-        ("Name.Url", 2, 1, 0),
-        ("Name.Language.Code", 0, 0, 0),
-    ];
-    for (path, one, two, none) in rows {
-        assert_eq!(rt; count_of(alloc, path, &first)?, one, "at {path}");
-        assert_eq!(rt; count_of(alloc, path, &second)?, two, "at {path}");
-        assert_eq!(rt; count_of(alloc, path, &third)?, none, "at {path}");
-    }
-    assert_eq!(rt; count_of(alloc, "Name.Url", &odd)?, 1);
+    assert!(rt; has_counts(alloc, &first, [1, 0, 3, 2, 0])?);
+    let second = record(alloc, 20, Some((&[10, 30], &[80])), &[&["http://C"]])?;
+    assert!(rt; has_counts(alloc, &second, [1, 2, 1, 1, 0])?);
+    let third = record(alloc, 30, None, &[])?;
+    assert!(rt; has_counts(alloc, &third, [1, 0, 0, 0, 0])?);
+    // A second URL where one is allowed isn't looked at.
+    let odd = record(alloc, 40, None, &[&["http://D", "http://E"]])?;
+    assert!(rt; has_counts(alloc, &odd, [1, 0, 0, 1, 0])?);
     Ok(())
 }
 

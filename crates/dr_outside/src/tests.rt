@@ -43,6 +43,23 @@ fn size_after_put(alloc: Global) -> Result<u64, Fault>
     link.size("a")
 }
 
+// Requests of sizes, and of two bytes from a place on.
+fn requests(alloc: Global, noted: &[(&str, Option<u64>)]) -> Result<Vec<Asked>, AllocError> {
+    let mut requests = Vec::new(alloc);
+    for (path, start) in noted {
+        let path = String::from_str(alloc, path)?;
+        requests.push(match *start {
+            Some(start) => Asked::Range {
+                path,
+                start,
+                len: 2,
+            },
+            None => Asked::Size { path },
+        })?;
+    }
+    Ok(requests)
+}
+
 fn crosses_threads<T: Send>(_: &T) {}
 
 #[test]
@@ -120,26 +137,17 @@ fn a_link_gives_ranges_of_the_shelf(rt: HostRuntime) -> Result<(), Fail> {
     }
     assert_eq!(rt; Link::faults(&link), 4);
     // Each request is noted, also the refused ones.
-    let asked = [
-        ("a", 0),
-        ("a", 0),
-        ("a", 3),
-        ("a", 4),
-        ("b", 4),
-        ("c", 0),
-        ("b", u64::MAX),
+    let noted = [
+        ("b", None),
+        ("a", Some(0)),
+        ("a", Some(0)),
+        ("a", Some(3)),
+        ("a", Some(4)),
+        ("b", Some(4)),
+        ("c", Some(0)),
+        ("b", Some(u64::MAX)),
     ];
-    let mut expected = Vec::new(alloc);
-    let path = String::from_str(alloc, "b")?;
-    expected.push(Asked::Size { path })?;
-    for (path, start) in asked {
-        let path = String::from_str(alloc, path)?;
-        expected.push(Asked::Range {
-            path,
-            start,
-            len: 2,
-        })?;
-    }
+    let expected = requests(alloc, &noted)?;
     assert_eq!(rt; link.asked(), expected.as_slice());
     crosses_threads(&link);
     assert_eq!(rt; size_after_put(alloc)?, 5);

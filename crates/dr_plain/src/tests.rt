@@ -6,15 +6,16 @@ use dr_nested::Kind;
 use std::alloc::{AllocError, Global};
 use std::test::Fail;
 
-fn bools(alloc: Global, values: &[bool]) -> Result<Values, AllocError> {
-    Ok(Values::Bools(values.to_vec(alloc)?))
+// Values of a kind, as a row of a table holds them.
+#[derive(Clone, Copy)]
+enum Given<'a> {
+    Bools(&'a [bool]),
+    Integers(&'a [i64]),
+    // Where each text begins, and how long it is.
+    Texts(&'a [(usize, usize)]),
 }
 
-fn integers(alloc: Global, values: &[i64]) -> Result<Values, AllocError> {
-    Ok(Values::Integers(values.to_vec(alloc)?))
-}
-
-fn texts(alloc: Global, places: &[(usize, usize)]) -> Result<Values, AllocError> {
+fn texts(alloc: Global, places: &[(usize, usize)]) -> Result<Vec<TextPlace>, AllocError> {
     let mut texts = Vec::new(alloc);
     for (start, length) in places {
         texts.push(TextPlace {
@@ -22,7 +23,15 @@ fn texts(alloc: Global, places: &[(usize, usize)]) -> Result<Values, AllocError>
             length: *length,
         })?;
     }
-    Ok(Values::Texts(texts))
+    Ok(texts)
+}
+
+fn values_of(alloc: Global, given: Given<'_>) -> Result<Values, AllocError> {
+    match given {
+        Given::Bools(values) => Ok(Values::Bools(values.to_vec(alloc)?)),
+        Given::Integers(values) => Ok(Values::Integers(values.to_vec(alloc)?)),
+        Given::Texts(places) => Ok(Values::Texts(texts(alloc, places)?)),
+    }
 }
 
 #[test]
@@ -30,62 +39,64 @@ fn values_are_read(rt: HostRuntime) -> Result<(), Fail> {
     let alloc = rt.alloc();
     let truths = [true, false, true, true, false, false, false, false, true];
     let two = "h\u{e9}".as_bytes();
-    let cases: [(Kind, &[u8], usize, Values); 13] = [
-        (Kind::Bool, &[], 0, bools(alloc, &[])?),
-        (Kind::Bool, &[13], 1, bools(alloc, &truths[..1])?),
-        (Kind::Bool, &[13], 8, bools(alloc, &truths[..8])?),
-        (Kind::Bool, &[13, 0xff], 9, bools(alloc, &truths)?),
+    let cases: [(Kind, &[u8], usize, Given); 13] = [
+        (Kind::Bool, &[], 0, Given::Bools(&[])),
+        (Kind::Bool, &[13], 1, Given::Bools(&[true])),
+        (
+            Kind::Bool,
+            &[13],
+            8,
+            Given::Bools(&[true, false, true, true, false, false, false, false]),
+        ),
+        (Kind::Bool, &[13, 0xff], 9, Given::Bools(&truths)),
         (
             Kind::I32,
             &[7, 0, 0, 0, 0xff, 0xff, 0xff, 0xff],
             2,
-            integers(alloc, &[7, -1])?,
+            Given::Integers(&[7, -1]),
         ),
         (
             Kind::I32,
             &[0, 0, 0, 0x80, 9],
             1,
-            integers(alloc, &[-0x8000_0000])?,
+            Given::Integers(&[-0x8000_0000]),
         ),
         (
             Kind::I64,
             &[2, 1, 0, 0, 0, 0, 0, 0],
             1,
-            integers(alloc, &[258])?,
+            Given::Integers(&[258]),
         ),
         (
             Kind::I64,
             &[0, 0, 0, 0, 0, 0, 0, 0x80],
             1,
-            integers(alloc, &[i64::MIN])?,
+            Given::Integers(&[i64::MIN]),
         ),
-        (Kind::I64, &[9], 0, integers(alloc, &[])?),
+        (Kind::I64, &[9], 0, Given::Integers(&[])),
         (
             Kind::Text,
             &[0, 0, 0, 0, 1, 0, 0, 0, b'a'],
             2,
-            texts(alloc, &[(4, 0), (8, 1)])?,
+            Given::Texts(&[(4, 0), (8, 1)]),
         ),
         (
             Kind::Text,
             &[1, 0, 0, 0, b'a', 0xff],
             1,
-            texts(alloc, &[(4, 1)])?,
+            Given::Texts(&[(4, 1)]),
         ),
         (
             Kind::Text,
             &[2, 0, 0, 0, 0xc3, 0xa9, 0, 0, 0, 0],
             2,
-            texts(alloc, &[(4, 2), (10, 0)])?,
+            Given::Texts(&[(4, 2), (10, 0)]),
         ),
-        (Kind::Text, two, 0, texts(alloc, &[])?),
+        (Kind::Text, two, 0, Given::Texts(&[])),
     ];
-    for (kind, bytes, count, values) in cases {
-        assert_eq!(rt;
-            read_plain(alloc, kind, count, bytes),
-            Ok(values),
-            "{bytes:?}"
-        );
+    for (kind, bytes, count, given) in cases {
+        let values = values_of(alloc, given)?;
+        assert_eq!(rt; read_plain(alloc, kind, count, bytes), Ok(values));
     }
     Ok(())
 }
@@ -111,11 +122,7 @@ fn the_first_fault_is_told(rt: HostRuntime) -> Result<(), Fail> {
         (Kind::Text, &[1, 0, 0, 0, b'a', 1, 0, 0, 0, 0x80], 2, bad),
     ];
     for (kind, bytes, count, fault) in cases {
-        assert_eq!(rt;
-            read_plain(alloc, kind, count, bytes),
-            Err(fault),
-            "{bytes:?}"
-        );
+        assert_eq!(rt; read_plain(alloc, kind, count, bytes), Err(fault));
     }
     Ok(())
 }
@@ -123,37 +130,45 @@ fn the_first_fault_is_told(rt: HostRuntime) -> Result<(), Fail> {
 #[test]
 fn a_long_text_is_checked_by_itself(rt: HostRuntime) -> Result<(), Fail> {
     let alloc = rt.alloc();
-    for (last, fault) in [(b'a', None), (0x80, Some(PlainFault::BadText))] {
-        let mut bytes = [200, 0, 0, 0].to_vec(alloc)?;
-        bytes.resize(203, b'a')?;
-        bytes.push(last)?;
-        match read_plain(alloc, Kind::Text, 1, &bytes) {
-            Ok(values) => {
-                assert_eq!(rt; fault, None);
-                assert_eq!(rt; values, texts(alloc, &[(4, 200)])?);
-            }
-            Err(told) => assert_eq!(rt; fault, Some(told)),
-        }
-    }
+    let mut bytes = [200, 0, 0, 0].to_vec(alloc)?;
+    bytes.resize(204, b'a')?;
+    let values = values_of(alloc, Given::Texts(&[(4, 200)]))?;
+    assert_eq!(rt; read_plain(alloc, Kind::Text, 1, &bytes), Ok(values));
+    bytes.pop();
+    bytes.push(0x80)?;
+    assert_eq!(rt;
+        read_plain(alloc, Kind::Text, 1, &bytes),
+        Err(PlainFault::BadText)
+    );
     Ok(())
 }
 
 #[test]
 fn a_dictionary_gives_values_at_indices(rt: HostRuntime) -> Result<(), Fail> {
     let alloc = rt.alloc();
-    let dictionary = integers(alloc, &[10, 20])?;
-    let picked = pick(alloc, &dictionary, &[1, 0, 1]);
-    assert_eq!(rt; picked, Ok(integers(alloc, &[20, 10, 20])?));
-    assert_eq!(rt; pick(alloc, &dictionary, &[1, 2]), Err(PickFault::BadIndex));
-    assert_eq!(rt;
-        pick(alloc, &dictionary, &[u32::MAX]),
-        Err(PickFault::BadIndex)
-    );
-    assert_eq!(rt; pick(alloc, &dictionary, &[]), Ok(integers(alloc, &[])?));
-    let truths = bools(alloc, &[true, false])?;
-    assert_eq!(rt; pick(alloc, &truths, &[1]), Ok(bools(alloc, &[false])?));
-    let places = texts(alloc, &[(4, 1), (9, 0)])?;
-    assert_eq!(rt; pick(alloc, &places, &[1]), Ok(texts(alloc, &[(9, 0)])?));
+    let numbers = Given::Integers(&[10, 20]);
+    let cases: [(Given, &[u32], Given); 4] = [
+        (numbers, &[1, 0, 1], Given::Integers(&[20, 10, 20])),
+        (numbers, &[], Given::Integers(&[])),
+        (Given::Bools(&[true, false]), &[1], Given::Bools(&[false])),
+        (
+            Given::Texts(&[(4, 1), (9, 0)]),
+            &[1],
+            Given::Texts(&[(9, 0)]),
+        ),
+    ];
+    for (dictionary, indices, picked) in cases {
+        let dictionary = values_of(alloc, dictionary)?;
+        let picked = values_of(alloc, picked)?;
+        assert_eq!(rt; pick(alloc, &dictionary, indices), Ok(picked));
+    }
+    let dictionary = values_of(alloc, numbers)?;
+    for index in [2, u32::MAX] {
+        assert_eq!(rt;
+            pick(alloc, &dictionary, &[1, index]),
+            Err(PickFault::BadIndex)
+        );
+    }
     Ok(())
 }
 

@@ -1,7 +1,7 @@
 use crate::run;
 use dr_commands::USAGE;
 use dr_outside::{Keeper, MemSink, MemSource, OpenGate, Shelf};
-use std::alloc::{AllocError, Global};
+use std::alloc::Global;
 use std::test::Fail;
 
 const DOCUMENT: &str =
@@ -12,44 +12,36 @@ const RECORDS: &str =
 
 const URLS: &str = "SELECT COUNT(Name.Url) FROM Document";
 
-/// What a run meets: the schema's file, the input, and the numbers of the calls that fail, of which 0 is none.
-#[derive(Drop)]
-struct Outside<'a> {
+/// A run: its words, the schema's file, the input, the numbers of the read, the write and the complaint that fail, of which
+/// 0 is none; and how it ends: its status, what it printed, and what it said on standard error.
+#[derive(Clone, Copy)]
+struct Row<'a> {
+    words: &'a [&'a str],
     schema: &'a str,
     input: &'a str,
-    read: u64,
-    write: u64,
-    complaint: u64,
-}
-
-/// A run's status, what it printed, and what it said on standard error.
-#[derive(Drop)]
-struct End {
+    fails: [u64; 3],
     status: u8,
-    out: String,
-    err: String,
+    out: &'a str,
+    err: &'a str,
 }
 
-fn text_of(alloc: Global, sink: &MemSink) -> Result<String, Fail> {
-    let bytes = sink.written().to_vec(alloc)?;
-    Ok(String::from_utf8(bytes)?)
-}
-
-fn end_of<R>(rt: &R, alloc: Global, words: &[&str], outside: &Outside) -> Result<End, Fail> {
-    let mut strings = Vec::new(alloc);
-    for word in words {
-        strings.push(String::from_str(alloc, word)?)?;
+/// Whether a run ends as its row says.
+fn ends_so<R>(rt: &R, alloc: Global, row: Row<'_>) -> Result<bool, Fail> {
+    let mut words = Vec::new(alloc);
+    for word in row.words {
+        words.push(String::from_str(alloc, word)?)?;
     }
+    let [read, write, complaint] = row.fails;
     let mut shelf = Shelf::new(alloc, Vec::new(alloc));
-    shelf.put("document.txt", outside.schema.as_bytes())?;
-    let mut source = MemSource::new(outside.input.as_bytes(), [outside.read].to_vec(alloc)?);
-    let mut out = MemSink::narrow(alloc, 4, [outside.write].to_vec(alloc)?);
-    let mut err = MemSink::new(alloc, [outside.complaint].to_vec(alloc)?);
+    shelf.put("document.txt", row.schema.as_bytes())?;
+    let mut source = MemSource::new(row.input.as_bytes(), [read].to_vec(alloc)?);
+    let mut out = MemSink::narrow(alloc, 4, [write].to_vec(alloc)?);
+    let mut err = MemSink::new(alloc, [complaint].to_vec(alloc)?);
     let mut links: Vec<Shelf> = Vec::new(alloc);
     let status = run(
         rt,
         alloc,
-        &strings,
+        &words,
         &mut source,
         &mut out,
         &mut err,
@@ -57,139 +49,181 @@ fn end_of<R>(rt: &R, alloc: Global, words: &[&str], outside: &Outside) -> Result
         &mut links,
         &OpenGate,
     );
-    Ok(End {
+    Ok(
+        status == row.status
+            && out.written() == row.out.as_bytes()
+            && err.written() == row.err.as_bytes(),
+    )
+}
+
+/// The first of the rows that ends in another way.
+fn first_other<R>(rt: &R, alloc: Global, rows: &[Row]) -> Result<Option<usize>, Fail> {
+    for (number, row) in rows.iter().enumerate() {
+        if !ends_so(rt, alloc, *row)? {
+            return Ok(Some(number));
+        }
+    }
+    Ok(None)
+}
+
+/// A run over the worked schema in which nothing fails.
+fn plain_row<'a>(
+    words: &'a [&'a str],
+    input: &'a str,
+    status: u8,
+    out: &'a str,
+    err: &'a str,
+) -> Row<'a> {
+    Row {
+        words,
+        schema: DOCUMENT,
+        input,
+        fails: [0; 3],
         status,
-        out: text_of(alloc, &out)?,
-        err: text_of(alloc, &err)?,
-    })
+        out,
+        err,
+    }
 }
 
 #[test]
 fn words_are_taken_or_refused(rt: HostRuntime) -> Result<(), Fail> {
-    let outside = Outside {
-        schema: DOCUMENT,
-        input: RECORDS,
-        read: 0,
-        write: 0,
-        complaint: 0,
-    };
-    let rows: [(&[&str], u8, &str, &str); 6] = [
-        (
+    let rows = [
+        plain_row(
             &["dremel", "ask", "--schema", "document.txt", URLS],
+            RECORDS,
             0,
             "{\"f0_\":3}\n",
             "",
         ),
-        (
+        plain_row(
             &["dremel", "ask", "--schema", "other.txt", URLS],
+            RECORDS,
             4,
             "",
             "outside: keeper\n",
         ),
-        (&["dremel"], 1, "", USAGE),
-        (&["dremel", "ask", URLS], 1, "", USAGE),
-        (&["dremel", "--help"], 1, "", USAGE),
-        (&["dremel", "ask", "--help"], 1, "", USAGE),
+        plain_row(&["dremel"], RECORDS, 1, "", USAGE),
+        plain_row(&["dremel", "ask", URLS], RECORDS, 1, "", USAGE),
+        plain_row(&["dremel", "--help"], RECORDS, 1, "", USAGE),
+        plain_row(&["dremel", "ask", "--help"], RECORDS, 1, "", USAGE),
     ];
-    for (words, status, out, err) in rows {
-        let end = end_of(&rt, rt.alloc(), words, &outside)?;
-        assert_eq!(rt; end.status, status);
-        assert_eq!(rt; end.out.as_str(), out);
-        assert_eq!(rt; end.err.as_str(), err);
-    }
+    assert_eq!(rt; first_other(&rt, rt.alloc(), &rows)?, None);
     Ok(())
 }
+
+/// A run of `ask`.
+fn asking<'a>(
+    words: &'a [&'a str; 5],
+    schema: &'a str,
+    input: &'a str,
+    status: u8,
+    out: &'a str,
+    err: &'a str,
+) -> Row<'a> {
+    Row {
+        words,
+        schema,
+        input,
+        fails: [0; 3],
+        status,
+        out,
+        err,
+    }
+}
+
+const URL_WORDS: [&str; 5] = ["dremel", "ask", "--schema", "document.txt", URLS];
 
 #[test]
 fn an_input_is_counted_or_its_first_fault_is_named(rt: HostRuntime) -> Result<(), Fail> {
     let long = "{\"DocId\":1}\n{\"DocId\":\"x\"}\n{\"Lost\":1}\n";
-    let rows: [(&str, &str, &str, u8, &str, &str); 8] = [
-        (DOCUMENT, URLS, "", 0, "{\"f0_\":0}\n", ""),
-        (DOCUMENT, URLS, RECORDS, 0, "{\"f0_\":3}\n", ""),
-        (
+    let countries = [
+        "dremel",
+        "ask",
+        "--schema",
+        "document.txt",
+        "SELECT COUNT(Name.Language.Country) AS c FROM Document;",
+    ];
+    let ids = [
+        "dremel",
+        "ask",
+        "--schema",
+        "document.txt",
+        "SELECT COUNT(DocId) FROM Document",
+    ];
+    let other = [
+        "dremel",
+        "ask",
+        "--schema",
+        "document.txt",
+        "SELECT COUNT(Name.Url) FROM Other",
+    ];
+    let rows = [
+        asking(&URL_WORDS, DOCUMENT, "", 0, "{\"f0_\":0}\n", ""),
+        asking(&URL_WORDS, DOCUMENT, RECORDS, 0, "{\"f0_\":3}\n", ""),
+        asking(&countries, DOCUMENT, RECORDS, 0, "{\"c\":2}\n", ""),
+        asking(&ids, DOCUMENT, "{\"DocId\":1}", 0, "{\"f0_\":1}\n", ""),
+        asking(
+            &URL_WORDS,
             DOCUMENT,
-            "SELECT COUNT(Name.Language.Country) AS c FROM Document;",
-            RECORDS,
-            0,
-            "{\"c\":2}\n",
+            long,
+            2,
             "",
+            "refused line 2: WrongKind\n",
         ),
-        (
+        asking(
+            &other,
             DOCUMENT,
-            "SELECT COUNT(DocId) FROM Document",
-            "{\"DocId\":1}",
-            0,
-            "{\"f0_\":1}\n",
-            "",
-        ),
-        (DOCUMENT, URLS, long, 2, "", "refused line 2: WrongKind\n"),
-        (
-            DOCUMENT,
-            "SELECT COUNT(Name.Url) FROM Other",
             RECORDS,
             2,
             "",
             "refused query at 0: Syntax\n",
         ),
-        (
+        asking(
+            &URL_WORDS,
             "message Document { required int64 }",
-            URLS,
             RECORDS,
             2,
             "",
             "refused schema at 34: Syntax\n",
         ),
-        (
+        asking(
+            &other,
             "message Document { required float DocId; }",
-            "SELECT",
             long,
             2,
             "",
             "refused schema at 28: FloatKind\n",
         ),
     ];
-    for (schema, query, input, status, out, err) in rows {
-        let outside = Outside {
-            schema,
-            input,
-            read: 0,
-            write: 0,
-            complaint: 0,
-        };
-        let words = ["dremel", "ask", "--schema", "document.txt", query];
-        let end = end_of(&rt, rt.alloc(), &words, &outside)?;
-        assert_eq!(rt; end.status, status);
-        assert_eq!(rt; end.out.as_str(), out);
-        assert_eq!(rt; end.err.as_str(), err);
-    }
+    assert_eq!(rt; first_other(&rt, rt.alloc(), &rows)?, None);
     Ok(())
+}
+
+/// A run of `ask` in which a read, a write or a complaint fails.
+fn failing<'a>(input: &'a str, fails: [u64; 3], status: u8, out: &'a str, err: &'a str) -> Row<'a> {
+    Row {
+        words: &URL_WORDS,
+        schema: DOCUMENT,
+        input,
+        fails,
+        status,
+        out,
+        err,
+    }
 }
 
 #[test]
 fn failures_outside_have_their_status(rt: HostRuntime) -> Result<(), Fail> {
-    let rows: [(&str, u64, u64, u64, u8, &str, &str); 7] = [
-        (RECORDS, 2, 0, 0, 4, "", "outside: source\n"),
-        (RECORDS, 0, 1, 0, 4, "", "outside: out\n"),
-        (RECORDS, 0, 2, 0, 4, "{\"f0", "outside: out\n"),
-        (RECORDS, 1, 1, 1, 4, "", ""),
-        ("{}\n", 0, 0, 0, 2, "", "refused line 1: MissingField\n"),
-        ("{}\n", 2, 0, 0, 2, "", "refused line 1: MissingField\n"),
-        ("{}\n", 0, 0, 1, 2, "", ""),
+    let rows = [
+        failing(RECORDS, [2, 0, 0], 4, "", "outside: source\n"),
+        failing(RECORDS, [0, 1, 0], 4, "", "outside: out\n"),
+        failing(RECORDS, [0, 2, 0], 4, "{\"f0", "outside: out\n"),
+        failing(RECORDS, [1, 1, 1], 4, "", ""),
+        failing("{}\n", [0, 0, 0], 2, "", "refused line 1: MissingField\n"),
+        failing("{}\n", [2, 0, 0], 2, "", "refused line 1: MissingField\n"),
+        failing("{}\n", [0, 0, 1], 2, "", ""),
     ];
-    for (input, read, write, complaint, status, out, err) in rows {
-        let outside = Outside {
-            schema: DOCUMENT,
-            input,
-            read,
-            write,
-            complaint,
-        };
-        let words = ["dremel", "ask", "--schema", "document.txt", URLS];
-        let end = end_of(&rt, rt.alloc(), &words, &outside)?;
-        assert_eq!(rt; end.status, status);
-        assert_eq!(rt; end.out.as_str(), out);
-        assert_eq!(rt; end.err.as_str(), err);
-    }
+    assert_eq!(rt; first_other(&rt, rt.alloc(), &rows)?, None);
     Ok(())
 }
 
@@ -200,8 +234,8 @@ const TWO_LEAVES: &str =
 
 #[test]
 fn columns_and_automata_are_printed(rt: HostRuntime) -> Result<(), Fail> {
-    let rows: [(&[&str], &str, u8, &str, &str); 14] = [
-        (
+    let rows = [
+        plain_row(
             &[
                 "dremel",
                 "stripe",
@@ -213,7 +247,7 @@ fn columns_and_automata_are_printed(rt: HostRuntime) -> Result<(), Fail> {
             COUNTRIES,
             "",
         ),
-        (
+        plain_row(
             &[
                 "dremel",
                 "stripe",
@@ -225,56 +259,56 @@ fn columns_and_automata_are_printed(rt: HostRuntime) -> Result<(), Fail> {
             "NULL 0 1\n10 0 2\n30 1 2\n",
             "",
         ),
-        (
+        plain_row(
             &["dremel", "stripe", "--schema=document.txt", "Links.Forward"],
             RECORDS,
             0,
             "20 0 2\n40 1 2\n60 1 2\n80 0 2\n",
             "",
         ),
-        (
+        plain_row(
             &["dremel", "stripe", "--schema=document.txt", "DocId"],
             RECORDS,
             0,
             "10 0 0\n20 0 0\n",
             "",
         ),
-        (
+        plain_row(
             &["dremel", "stripe", "--schema=document.txt", "Name.Url"],
             RECORDS,
             0,
             "\"http://A\" 0 2\n\"http://B\" 1 2\nNULL 1 1\n\"http://C\" 0 2\n",
             "",
         ),
-        (
+        plain_row(
             &["dremel", "stripe", "--schema=document.txt", "DocId"],
             "",
             0,
             "",
             "",
         ),
-        (
+        plain_row(
             &["dremel", "stripe", "--schema=document.txt", "Name"],
             "{}\n",
             2,
             "",
             "refused field 0: NotALeaf\n",
         ),
-        (
+        plain_row(
             &["dremel", "stripe", "--schema=document.txt", "DocId"],
             "{}\n",
             2,
             "",
             "refused line 1: MissingField\n",
         ),
-        (
+        plain_row(
             &["dremel", "stripe", "--schema=document.txt"],
             RECORDS,
             1,
             "",
             USAGE,
         ),
-        (
+        plain_row(
             &[
                 "dremel",
                 "fsm",
@@ -288,14 +322,14 @@ fn columns_and_automata_are_printed(rt: HostRuntime) -> Result<(), Fail> {
             TWO_LEAVES,
             "",
         ),
-        (
+        plain_row(
             &["dremel", "fsm", "--schema=document.txt", "Name"],
             "",
             2,
             "",
             "refused field 0: NotALeaf\n",
         ),
-        (
+        plain_row(
             &[
                 "dremel",
                 "fsm",
@@ -309,14 +343,14 @@ fn columns_and_automata_are_printed(rt: HostRuntime) -> Result<(), Fail> {
             "",
             "refused field 1: UnknownField\n",
         ),
-        (
+        plain_row(
             &["dremel", "fsm", "--schema=document.txt"],
             "",
             1,
             "",
             USAGE,
         ),
-        (
+        plain_row(
             &["dremel", "fsm", "--schema", "other.txt", "DocId"],
             "",
             4,
@@ -324,18 +358,6 @@ fn columns_and_automata_are_printed(rt: HostRuntime) -> Result<(), Fail> {
             "outside: keeper\n",
         ),
     ];
-    for (words, input, status, out, err) in rows {
-        let outside = Outside {
-            schema: DOCUMENT,
-            input,
-            read: 0,
-            write: 0,
-            complaint: 0,
-        };
-        let end = end_of(&rt, rt.alloc(), words, &outside)?;
-        assert_eq!(rt; end.status, status);
-        assert_eq!(rt; end.out.as_str(), out);
-        assert_eq!(rt; end.err.as_str(), err);
-    }
+    assert_eq!(rt; first_other(&rt, rt.alloc(), &rows)?, None);
     Ok(())
 }
