@@ -5,6 +5,7 @@ pub mod WorkedBytes
 pub mod WorkedMetadata
 pub mod WorkedHybrid
 pub mod WorkedPages
+pub mod WorkedChunks
 pub mod WorkedFiles
 pub mod WorkedDamaged
 pub mod WorkedForeign

@@ -3,6 +3,7 @@ use Rattle.std.specs.Prelude.{◌≡◌, ℕ, zero, suc, List, [], ◌∷◌, ma
 use Rattle.dr_meaning.specs.Schema.{Repetition, required, optional, repeated, Kind, bool_kind, int32_kind, int64_kind, text_kind, Fields, no_fields, field, leaf, group, Schema, most_leaves, greatest_depth}
 use Rattle.dr_meaning.specs.Path.{Step, Leaf}
 use Rattle.dr_formats.specs.Metadata.{SchemaElement}
+use Rattle.dr_formats.specs.OpenSchemaLaws.{open_ones, leaves_of_part}
 use Rattle.dr_formats.specs.FileSchema.{FileFields, no_file_fields, file_field, file_leaf, file_group, repetition_from, file_schema, kind_from, open_kind, FileLeaf, file_leaves, place_of, open_fields, open_schema}
 
 -- ---- numbers
@@ -82,6 +83,11 @@ pub leaves_of_mixed : file_leaves mixed ≡
     ∷ file_leaf_of (codes "h" ∷ codes "x" ∷ []) (repeated ∷ required ∷ []) None ∷ file_leaf_of (codes "h" ∷ codes "y" ∷ []) (repeated ∷ optional ∷ []) (Some text_kind)
     ∷ file_leaf_of (codes "9" ∷ []) (required ∷ []) None ∷ file_leaf_of (codes "h" ∷ codes "z" ∷ []) (repeated ∷ required ∷ []) None ∷ []
 leaves_of_mixed = refl
+
+-- the open ones of these are the leaves of the open part
+pub open_leaves_of_mixed : (open_ones (file_leaves mixed) ≡ file_leaf_of (codes "a" ∷ []) (required ∷ []) (Some int64_kind) ∷ file_leaf_of (codes "h" ∷ codes "y" ∷ []) (repeated ∷ optional ∷ []) (Some text_kind) ∷ [])
+    × (leaves_of_part (of_root (codes "R") mixed) ≡ open_ones (file_leaves mixed)) × (leaves_of_part None ≡ [])
+open_leaves_of_mixed = (refl, refl, refl)
 
 -- a closed leaf's name is taken all the same
 pub closed_takes_name : of_root (codes "R") (double (codes "a") (number (codes "a") (number (codes "b") no_file_fields))) ≡ Some (record { name = codes "R"; fields = field (codes "b") required (leaf int64_kind) no_fields })

@@ -5,6 +5,7 @@ use Rattle.std.specs.Str.{is_utf8, chars}
 use Rattle.dr_meaning.specs.SchemaText.{parse_schema, schema_text, empty_group, syntax}
 use Rattle.dr_meaning.proofs.WorkedSchemas.{document_schema, document_text}
 use Rattle.dr_formats.specs.TableFile.{Table, TableFault, table_too_long, longest_table, most_tablets, most_leaf_lines, bad_head, bad_tablets, bad_copies, bad_leaf, bad_table_schema, parse_table, table_text}
+use Rattle.dr_formats.specs.TableLaws.{SpellsTable}
 use Rattle.dr_formats.specs.Tablets.{tablets, placement, tablet_path, copy_paths}
 
 abbrev pub two_copies : Table
@@ -24,6 +25,11 @@ two_copies_prints = refl
 pub two_copies_reads : parse_table two_copies_text ≡ Ok two_copies
 unfolding parse_table parse_schema is_utf8 chars lib.Utf8.encode
 two_copies_reads = refl
+
+-- the lines, then any text of the schema
+pub spells : SpellsTable two_copies two_copies_text
+unfolding parse_schema digits
+spells = (line document_text [], refl, refl)
 
 -- another first line
 pub other_head : parse_table (line (codes "dremel-table 2") (line (codes "tablets 2") [])) ≡ Err bad_head

@@ -3,9 +3,7 @@ use Rattle.std.proofs.Common.{◌≡◌, ℕ, zero, suc, ◌+◌, List, [], ◌�
 use Rattle.std.specs.List.{slice_get}
 use Rattle.dr_meaning.specs.Schema.{Repetition, required, optional, repeated, Kind, Fields, no_fields, field, Shape, leaf, group}
 use Rattle.dr_meaning.specs.Path.{Step, Leaf, leaf_below, leaves_from, shape_leaves, leaves, same_repetition}
-
-abbrev pub step : ℕ → Repetition → Step
-step i r = record { place = i; repetition = r }
+use Rattle.dr_meaning.proofs.ProjectionLemmas.{step}
 
 abbrev pub through_kind : ℕ → Option Kind → (ℕ → Option Kind) → Option Kind
 through_kind zero first later = first

@@ -13,6 +13,7 @@ pub mod WorkedMeaning
 pub mod WorkedWalk
 pub mod WorkedLimits
 pub mod WorkedTokens
+pub mod WorkedTexts
 pub mod WorkedAsk
 pub mod WorkedStripe
 -- lemmas of the laws of schema text

@@ -11,8 +11,9 @@ use Rattle.dr_meaning.specs.Column.{triplet}
 use Rattle.dr_meaning.specs.Automaton.{Pick, picks_from, picks, behind_if, behind_pick, behind, beside_if, beside_pick, beside, indexes}
 use Rattle.dr_meaning.specs.Walk.{Move, enter, leave, Depth, inside, begun_later, first_of, first_slot, other_slots, node_of, value_there, triplet_moves, unless_repeated, enclosed, later_moves, repeated_moves, by_repetition, where_selected, moves_in, near_moves, far_moves, shape_near_moves, shape_far_moves, top, record_moves, walk, own_path, repeated_paths_from, shape_repeated_paths, repeated_paths, Open, no_record, in_record, is_chain_front, is_same_chain, is_of_leaf, open_after}
 use Rattle.dr_meaning.specs.WalkLaws.{open_after_moves, WalkNests}
+use Rattle.dr_meaning.proofs.ProjectionLemmas.{step}
 use Rattle.dr_meaning.proofs.Blocks.{same_repetition-true, and₃_parts}
-use Rattle.dr_meaning.proofs.LeafKinds.{step, through_kind, kind_if, leaf_kind, shape_kind, kind_if_some, kind_of_leaf, no_shift as no_place}
+use Rattle.dr_meaning.proofs.LeafKinds.{through_kind, kind_if, leaf_kind, shape_kind, kind_if_some, kind_of_leaf, no_shift as no_place}
 
 -- ---- chains
 

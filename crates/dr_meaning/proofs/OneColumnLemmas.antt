@@ -10,9 +10,10 @@ use Rattle.dr_meaning.specs.Path.{Step, Leaf, max_repetition, max_definition, is
 use Rattle.dr_meaning.specs.Record.{Value, bool_value, int_value, text_value, is_of_kind, Node, no_slots, slot, gap, Instances, no_instances, instance, Instance, atom, inner, single, count_instances, fits_repetition, all_instances, is_record, is_instance, instances_at}
 use Rattle.dr_meaning.specs.Column.{Triplet, triplet, each_later, spread, instance_column, record_column, column}
 use Rattle.dr_meaning.specs.OneColumn.{starts, begins_record, fits_value, fits_levels, level_inside, may_follow, all_follow, is_in_order, is_column, HaveColumn, ColumnsAreRecognized}
+use Rattle.dr_meaning.proofs.ProjectionLemmas.{step}
 use Rattle.dr_meaning.proofs.Blocks.{same_repetition-true, and₃_parts}
 use Rattle.dr_meaning.proofs.ColumnStarts.{column_rows}
-use Rattle.dr_meaning.proofs.LeafKinds.{step, through_kind, kind_if, leaf_kind, shape_kind, kind_if_some, kind_of_leaf}
+use Rattle.dr_meaning.proofs.LeafKinds.{through_kind, kind_if, leaf_kind, shape_kind, kind_if_some, kind_of_leaf}
 
 -- ---- records with nothing in them but what must be there
 

@@ -5,7 +5,8 @@ use Rattle.dr_meaning.specs.Schema.{Repetition, required, optional, repeated, Fi
 use Rattle.dr_meaning.specs.Path.{Step, is_leaf_path, is_shape_path, same_repetition, through}
 use Rattle.dr_meaning.specs.Automaton.{Pick, picks, behind, beside, indexes, schema_order_in, shape_schema_order, unless_repeated, where_repeated, near_order, far_order, shape_near_order, shape_far_order}
 use Rattle.dr_meaning.specs.OrderLaws.{times, OrdersHaveEachOnce}
-use Rattle.dr_meaning.proofs.WalkLemmas.{step, Without, Only, without_behind, without_beside, only_behind, beside_first, only_beside, behind_later, picks_only}
+use Rattle.dr_meaning.proofs.ProjectionLemmas.{step}
+use Rattle.dr_meaning.proofs.WalkLemmas.{Without, Only, without_behind, without_beside, only_behind, beside_first, only_beside, behind_later, picks_only}
 
 pub times_append : (i : ℕ) (xs ys : List ℕ) → times i (xs ++ ys) ≡ times i xs + times i ys
 times_append i [] ys = omega arith

@@ -12,8 +12,9 @@ use Rattle.dr_meaning.specs.Automaton.{Pick, picks, behind, beside, indexes, unl
 use Rattle.dr_meaning.specs.Walk.{Move, value, leave, unless_repeated as moves_unless_repeated, Depth, inside, begun_later, first_of, first_slot, other_slots, node_of, value_there, triplet_moves, enclosed, later_moves, repeated_moves, by_repetition, where_selected, moves_in, near_moves, far_moves, shape_near_moves, shape_far_moves, top, record_moves}
 use Rattle.dr_meaning.specs.OrderLaws.{times}
 use Rattle.dr_meaning.specs.AutomatonLaws.{next_level, next_leaf, LeadsOn, AreInReadingOrder, first_leaf, AutomatonVisitsWalk}
+use Rattle.dr_meaning.proofs.ProjectionLemmas.{step}
 use Rattle.dr_meaning.proofs.Blocks.{same_repetition-true}
-use Rattle.dr_meaning.proofs.WalkLemmas.{step, Without, Only, without_behind, without_beside, only_behind, beside_first, only_beside, behind_later, picks_only}
+use Rattle.dr_meaning.proofs.WalkLemmas.{Without, Only, without_behind, without_beside, only_behind, beside_first, only_beside, behind_later, picks_only}
 use Rattle.dr_meaning.proofs.OrderLemmas.{times_append, both_in, both_of, none_in_both, none_of_both, once_of_both}
 use Rattle.dr_meaning.proofs.NestingLemmas.{shifted, no_shift}
 

@@ -11,9 +11,7 @@ use Rattle.dr_meaning.specs.Automaton.{Pick, picks_from, picks, behind_if, behin
 use Rattle.dr_meaning.specs.Walk.{Move, enter, value, leave, Depth, inside, begun_later, definition_in, first_of, first_slot, other_slots, node_of, value_there, triplet_moves, unless_repeated, enclosed, later_moves, repeated_moves, by_repetition, where_selected, moves_in, near_moves, far_moves, shape_near_moves, shape_far_moves, top, record_moves, walk}
 use Rattle.dr_meaning.specs.WalkLaws.{triplets_of, WalkGivesColumns}
 use Rattle.dr_meaning.proofs.Blocks.{same_repetition-true, and₃_parts}
-
-abbrev pub step : ℕ → Repetition → Step
-step j r = record { place = j; repetition = r }
+use Rattle.dr_meaning.proofs.ProjectionLemmas.{step}
 
 -- ---- triplets of moves
 
