@@ -1,10 +1,9 @@
 -- What a board keeps: each event that is recorded has room, and leaves one piece for each answered tablet.
-use Rattle.std.proofs.Common.{◌≡◌, ℕ, ◌+◌, ◌*◌, ◌<◌, List, [], ◌∷◌, ◌++◌, map, length, true, refl, sym, ap, ap₂, ◌∙◌, arith, append-nil, length-append, subst, false, ◌&&◌, not}
-use Rattle.std.specs.Prelude.{All}
+use Rattle.std.proofs.Common.{◌≡◌, ℕ, ◌+◌, ◌*◌, ◌<◌, List, [], ◌∷◌, ◌++◌, length, true, sym, ap, ap₂, ◌∙◌, arith, append-nil, length-append, subst, false, ◌&&◌, not}
 use Rattle.std.proofs.lemmas.List.{map_push, length-map}
 use Rattle.std.proofs.lemmas.List.Elements.{All-push}
 use Rattle.dr_dispatch.specs.Job.{Job, pairs}
-use Rattle.dr_dispatch.specs.History.{is_recorded, is_history, answered, has_give, has_answer}
+use Rattle.dr_dispatch.specs.History.{is_recorded, answered, has_give, has_answer}
 use Rattle.dr_dispatch.specs.Pieces.{KeepsPieces}
 use Rattle.dr_dispatch.specs.declared.event.Hand.{Hand}
 use Rattle.dr_dispatch.specs.declared.event.Event.{Event}

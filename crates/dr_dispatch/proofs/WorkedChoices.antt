@@ -52,6 +52,9 @@ lag_passed = refl
 pub last_hand_out_counts : since_give (Give (hand 0 0) ∷ Give (hand 1 1) ∷ Answer (hand 1 1) ∷ Give (hand 0 1) ∷ Fault (hand 0 0) BadData ∷ []) 0 ≡ 1
 last_hand_out_counts = refl
 
+pub never_handed_out : since_give (Give (hand 1 1) ∷ Answer (hand 1 1) ∷ []) 0 ≡ 2
+never_handed_out = refl
+
 pub no_leaf_left : choice two_tablets (Give (hand 0 0) ∷ Give (hand 1 1) ∷ Answer (hand 1 1) ∷ Give (hand 0 1) ∷ Fault (hand 0 0) BadData ∷ []) ≡ None
 no_leaf_left = refl
 

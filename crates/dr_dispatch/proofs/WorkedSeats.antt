@@ -1,7 +1,10 @@
 -- Calls of two passes, seat by seat, by computation.
-use Rattle.std.specs.Prelude.{◌≡◌, true, false, List, [], ◌∷◌, refl}
+use Rattle.std.specs.Prelude.{◌≡◌, ℕ, zero, suc, true, false, List, [], ◌∷◌, refl}
+use Rattle.std.specs.List.{list_any}
+use Rattle.std.proofs.Common.{arith, true≢false}
+use Rattle.std.proofs.lemmas.Bool.Decides.{nat_tests}
 use Rattle.dr_dispatch.specs.Job.{hand}
-use Rattle.dr_dispatch.specs.Seen.{has_place, adds, looks}
+use Rattle.dr_dispatch.specs.Seen.{has_place, adds, looks, Ascends, AreOfHistory}
 use Rattle.dr_dispatch.specs.Seats.{keeper_at, pass_at, spent, shown, handed, gathered, passed, keeper_of, newcomer_of, looked, added}
 use Rattle.dr_dispatch.specs.declared.event.Event.{Event}
 use Rattle.dr_dispatch.specs.declared.event.Event.TheVariants.{Give, Answer}
@@ -62,3 +65,41 @@ place_is_there = refl
 
 pub place_is_not_there : has_place 5 (1 ∷ 4 ∷ 6 ∷ []) ≡ false
 place_is_not_there = refl
+
+-- own places ascend, and stand in the history
+pub no_places_of_none : Ascends 0 [] 0
+no_places_of_none = omega arith
+
+pub places_ascend : Ascends 0 (0 ∷ 2 ∷ 3 ∷ []) 4
+places_ascend = (omega arith, (omega arith, (omega arith, omega arith)))
+
+pub place_past_the_end : Ascends 0 (0 ∷ 2 ∷ []) 2 → ⊥
+place_past_the_end a = omega (arith, a.1.1)
+
+pub place_twice : Ascends 0 (2 ∷ 2 ∷ []) 9 → ⊥
+place_twice a = omega (arith, a.1.0)
+
+pub place_below_the_least : Ascends 3 (2 ∷ []) 9 → ⊥
+place_below_the_least a = omega (arith, a.0)
+
+-- two passes of one history
+abbrev first : PassShown
+first = record { seen = Give (hand 0 0) ∷ []; own = 0 ∷ [] }
+
+abbrev second : PassShown
+second = record { seen = Give (hand 0 0) ∷ Answer (hand 0 0) ∷ []; own = 1 ∷ [] }
+
+pub passes_of_one_history : AreOfHistory (Give (hand 0 0) ∷ Answer (hand 0 0) ∷ []) (first ∷ second ∷ [])
+passes_of_one_history = ((Answer (hand 0 0) ∷ [], refl), (λ p own. apart p own), (([], refl), (λ p own. refl), tt))
+  where
+    apart : (p : ℕ) → has_place p (0 ∷ []) ≡ true → list_any (λ (other : PassShown). has_place p other.own) (second ∷ []) ≡ false
+    apart zero own = refl
+    apart (suc p) own = grind (arith, nat_tests)
+
+-- an own place of both
+pub place_of_both : (history : List Event) → AreOfHistory history (first ∷ record { seen = []; own = 1 ∷ 0 ∷ [] } ∷ []) → ⊥
+place_of_both history of = true≢false (of.1 0 refl)
+
+-- no pass has seen what isn't in the history
+pub seen_past_the_history : AreOfHistory [] (first ∷ []) → ⊥
+seen_past_the_history of = cc (of.0.1)

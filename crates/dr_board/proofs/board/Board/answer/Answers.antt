@@ -1,5 +1,5 @@
 use Rattle.std.proofs.Common.{rules, arith, ◌≡◌, true, ap, ◌∙◌}
-use Rattle.dr_dispatch.specs.History.{has_give, is_recorded}
+use Rattle.dr_dispatch.specs.History.{has_give}
 use Rattle.dr_dispatch.specs.declared.event.Event.TheVariants.{Answer}
 use Rattle.dr_dispatch.proofs.HistoryLemmas.{one_more}
 use Rattle.dr_board.proofs.BoardLemmas.{answer_is_recorded, event_room, piece_room, keeps_answer}
