@@ -1,4 +1,4 @@
-ghost use Rattle.std.specs.Prelude.{◌≡◌, ◌<◌, ◌≤◌, ◌^◌, ◌++◌, [], ◌∷◌, length, true, false, None, Some, IfOk, if◌then◌else◌};
+ghost use Rattle.std.specs.Prelude.{◌≡◌, ◌<◌, ◌≤◌, ◌^◌, ◌++◌, [], ◌∷◌, length, true, false, IfOk, IfSome, if◌then◌else◌};
 ghost use Rattle.dr_dispatch.specs.History.{has_give, has_answer, is_recorded, after_event, is_history};
 ghost use Rattle.dr_dispatch.specs.Choice.{choice, after_take};
 ghost use Rattle.dr_dispatch.specs.Pieces.{KeepsPieces};
@@ -97,6 +97,7 @@ impl<P: Piece + Drop, N: Naming<P>> Board<P, N> {
 
         // What follows from that.
         ensures recorded { is_history N.job self.new.history ≡ true }
+        ensures given { IfSome result (λ h. has_give self.new.history h ≡ true) }
     {
         let Some(hand) = choose(&self.job, self.history.as_slice()) else {
             return None;

@@ -68,9 +68,12 @@ impl<P: Piece + Drop, N: Naming<P>, B: Room> Desk<P, N, B> {
     pub fn take<R: Wait>(&self, rt: &R, pass: &mut Pass<B>) -> Option<Hand>
         ensures earlier { IsPrefix pass.old.seen pass.new.seen }
         ensures recorded { is_history N.job pass.new.seen ≡ true }
-        ensures given { IfSome result (λ h. Takes N.job h pass.old pass.new) }
+        ensures taken { IfSome result (λ h. Takes N.job h pass.old pass.new) }
         ensures none { IfNone result (choice N.job pass.new.seen ≡ None) }
         ensures own { IfNone result (pass.new.own ≡ pass.old.own) }
+
+        // What follows from that.
+        ensures given { IfSome result (λ h. has_give pass.new.seen h ≡ true) }
     {
         self.lock.lock(rt).take(&self.table.shared, pass)
     }

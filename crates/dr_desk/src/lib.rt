@@ -9,6 +9,8 @@ mod pass;
 mod room;
 mod rule;
 mod steps;
+#[cfg(test)]
+mod tests;
 
 pub use desk::Desk;
 pub use dr_board::{Board, Closing, Event, Hand, Job, Naming, NoMemory, Piece, Told};

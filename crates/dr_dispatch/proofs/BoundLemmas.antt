@@ -11,7 +11,7 @@ use Rattle.dr_dispatch.specs.HistoryLaws.{HistoryIsBounded, AnsweredAreTablets}
 use Rattle.dr_dispatch.specs.declared.event.Hand.{Hand}
 use Rattle.dr_dispatch.specs.declared.event.Event.{Event}
 use Rattle.dr_dispatch.specs.declared.event.Event.TheVariants.{Give, Answer, Fault}
-use Rattle.dr_dispatch.proofs.HistoryLemmas.{by_events, answered-append}
+use Rattle.dr_dispatch.proofs.HistoryLemmas.{same_self, by_events, answered-append}
 
 abbrev bit : Bool → ℕ
 bit true = 1
@@ -86,9 +86,6 @@ abbrev hand_of : Event → Hand
 hand_of (Give h) = h
 hand_of (Answer h) = h
 hand_of (Fault h cause) = h
-
-same_self : (h : Hand) → same_hand h h ≡ true
-same_self h = rw (eq-eqb h.tablet h.tablet refl, eq-eqb h.leaf h.leaf refl) refl
 
 not_false : (b : Bool) → not b ≡ true → b ≡ false
 not_false true e = absurd (true≢false (sym e))

@@ -1,14 +1,17 @@
 -- Histories go on one event at a time.
-use Rattle.std.proofs.Common.{◌≡◌, ℕ, List, [], ◌∷◌, ◌++◌, Bool, true, false, ◌&&◌, ◌||◌, not, refl, sym, ap, ap₂, ◌∙◌, subst, append_assoc, append-nil, true≢false, arith}
+use Rattle.std.proofs.Common.{◌≡◌, ℕ, List, [], ◌∷◌, ◌++◌, Bool, true, false, ◌&&◌, ◌||◌, not, refl, sym, ap, ap₂, ◌∙◌, subst, append_assoc, append-nil, true≢false, arith, eq-eqb}
 use Rattle.std.specs.Prelude.{nat_eq, ◌==◌, if◌then◌else◌}
 use Rattle.std.specs.List.{list_any, IsDistinct}
 use Rattle.std.proofs.lemmas.Bool.{and_parts}
 use Rattle.std.proofs.lemmas.Bool.Decides.{nat_tests}
+use Rattle.std.proofs.lemmas.List.Folds.{list_any-append}
+use mathlib.Core.List.{IsPrefix}
 use Rattle.std.proofs.lemmas.Cmp.{nat_eq_equiv}
 use Rattle.std.proofs.lemmas.Map.Keys.{IsDistinct-push}
 use Rattle.dr_dispatch.specs.Job.{Job}
-use Rattle.dr_dispatch.specs.History.{is_recorded, after_event, after_events, goes_on, is_history, answered}
+use Rattle.dr_dispatch.specs.History.{same_hand, gives, has_give, is_recorded, after_event, after_events, replayed, goes_on, is_history, has_answer, answers, answered}
 use Rattle.dr_dispatch.specs.HistoryLaws.{ReplayIsHistory, HistoryReplaysToItself, FrontIsHistory, HistoryGoesOn, AnsweredHaveAnswers, AnsweredAreDistinct}
+use Rattle.dr_dispatch.specs.declared.event.Hand.{Hand}
 use Rattle.dr_dispatch.specs.declared.event.Event.{Event}
 use Rattle.dr_dispatch.specs.declared.event.Event.TheVariants.{Give, Answer, Fault}
 
@@ -111,3 +114,22 @@ none_answered = tt
 
 pub answered_are_distinct : AnsweredAreDistinct
 answered_are_distinct j history h = by_events j (λ es. IsDistinct nat_eq (answered es)) (distinct_step j) none_answered history h
+
+-- ---- what was given stays given
+
+pub same_self : (h : Hand) → same_hand h h ≡ true
+same_self h = ap₂ (λ a b. a && b) (eq-eqb h.tablet h.tablet refl) (eq-eqb h.leaf h.leaf refl)
+
+or_true : (a : Bool) → (a || true) ≡ true
+or_true true = refl
+or_true false = refl
+
+-- a hand that was just given
+pub has_give-push : (history : List Event) (h : Hand) → has_give (history ++ Give h ∷ []) h ≡ true
+has_give-push history h =
+    list_any-append (gives h) history (Give h ∷ []) ∙ (ap (λ b. has_give history h || (b || false)) (same_self h) ∙ or_true (has_give history h))
+
+-- a hand that was given in a history is given in each that begins with it
+pub has_give-longer : (history longer : List Event) (h : Hand) → IsPrefix history longer → has_give history h ≡ true → has_give longer h ≡ true
+has_give-longer history longer h p given =
+    subst (λ (es : List Event). has_give es h ≡ true) p.1 (list_any-append (gives h) history p.0 ∙ ap (λ b. b || has_give p.0 h) given)
