@@ -1,0 +1,6 @@
+use Rattle.std.proofs.Common.{◌≡◌, drop}
+use Rattle.dr_dispatch.specs.History.{replayed, after_events}
+use Rattle.dr_board.proofs.replaying.replay.Given as goal
+
+abbrev pub invariant-events : goal.invariant-events
+invariant-events l = replayed l.job l.events ≡ after_events l.job l.history.items (drop l.event-index l.events)

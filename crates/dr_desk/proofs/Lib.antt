@@ -1,0 +1,2 @@
+-- each step is allowed by the rule
+pub mod Allowed

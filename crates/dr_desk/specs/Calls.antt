@@ -1,0 +1,36 @@
+-- What the calls of a desk tell a pass.
+use Rattle.std.specs.Prelude.{◌≡◌, ℕ, true, false, List, [], Some}
+use mathlib.Core.List.{IsPrefix}
+use Rattle.dr_dispatch.specs.Job.{Job}
+use Rattle.dr_dispatch.specs.History.{has_answer, is_recorded}
+use Rattle.dr_dispatch.specs.Choice.{choice}
+use Rattle.dr_dispatch.specs.Seen.{adds}
+use Rattle.dr_dispatch.specs.declared.event.Hand.{Hand}
+use Rattle.dr_dispatch.specs.declared.event.Event.{Event}
+use Rattle.dr_dispatch.specs.declared.event.Event.TheVariants.{Give, Answer}
+use Rattle.dr_board.specs.declared.board.Told.{Told}
+use Rattle.dr_board.specs.declared.board.Told.TheVariants.{Kept, Spare}
+use Rattle.dr_dispatch.specs.declared.seen.PassShown.{PassShown}
+
+-- the event was recorded behind a history that begins with what the pass had seen, and it is the pass's own
+pub record Adds (j : Job) (e : Event) (before after : PassShown) : Type 0 where
+  pub history : List Event
+  pub earlier : IsPrefix before.seen history
+  pub recorded : is_recorded j history e ≡ true
+  pub added : after ≡ adds history e before
+
+-- the same, where the event hands out what was the choice
+pub record Takes (j : Job) (h : Hand) (before after : PassShown) : Type 0 where
+  pub history : List Event
+  pub earlier : IsPrefix before.seen history
+  pub chosen : choice j history ≡ Some h
+  pub added : after ≡ adds history (Give h) before
+
+-- an answer: its piece was kept and the event is the pass's own, or the tablet was answered before and the piece came back
+abbrev pub IsTold : {P : Type 0} → Job → Hand → P → PassShown → PassShown → Told P → Type 0
+IsTold j h piece before after Kept = Adds j (Answer h) before after
+IsTold j h piece before after (Spare back) = (back ≡ piece) × (has_answer after.seen h.tablet ≡ true) × (after.own ≡ before.own)
+
+-- a pass that has seen nothing
+abbrev pub new_pass : PassShown
+new_pass = record { seen = []; own = [] }

@@ -1,0 +1,4 @@
+-- the rule of the table beside the lock, and what its seats are; what the calls of a desk tell a pass
+pub mod Rule
+pub mod Locked
+pub mod Calls

@@ -1,0 +1,10 @@
+-- worked examples, by computation
+pub mod WorkedHistories
+pub mod WorkedChoices
+pub mod WorkedSeats
+-- laws
+pub mod HistoryLemmas
+pub mod BoundLemmas
+pub mod ChoiceLemmas
+pub mod Prefixes
+pub mod SeatLemmas
