@@ -1,0 +1,14 @@
+//! Structs in the Thrift compact protocol, as Apache Parquet has its metadata: their trees, read and written.
+#![tactic(auto)]
+
+mod fault;
+mod headers;
+mod numbers;
+mod reading;
+mod thrift_type;
+mod tree;
+mod values;
+
+pub use fault::CompactFault;
+pub use reading::{GREATEST_NESTING, read_struct};
+pub use tree::{Field, Item, Map, Tree, TruthType, Values};
