@@ -5,3 +5,5 @@ pub mod NumberLemmas
 pub mod StepLemmas
 pub mod ElementLemmas
 pub mod LoopLemmas
+-- writing, step by step
+pub mod WriteLemmas

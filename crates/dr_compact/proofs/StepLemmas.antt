@@ -176,10 +176,10 @@ pair_by value size k bytes now mid next count ks ls vs ws x y e f g h p = record
   key_count = ap (λ (u : SeenValues). length u.values) e ∙ (length-append ks.values (x ∷ []) ∙ ap (λ n. n + 1) p.key_count);
   value_count = ap (λ (u : SeenValues). length u.values) f ∙ (length-append vs.values (y ∷ []) ∙ ap (λ n. n + 1) p.value_count);
   all =
-    ap₂ (λ (u w : SeenValues). pairs_before u.values w.values (pairs (value ks.element) (value vs.element) k next)) e f
-    ∙ (sym (before_pair ks.values vs.values x y (pairs (value ks.element) (value vs.element) k next) (p.key_count ∙ sym p.value_count))
-    ∙ (ap (pairs_before ks.values vs.values) (sym (ap (λ (r : Reading CompactFault Item). goes_on r (λ a. value vs.element >>= (λ b. pairs (value ks.element) (value vs.element) k >>= (λ rest. give (compact.pair a b rest))))) g ∙ ap (λ (r : Reading CompactFault Item). goes_on r (λ b. pairs (value ks.element) (value vs.element) k >>= (λ rest. give (compact.pair x b rest)))) h))
-    ∙ p.all));
+      ap₂ (λ (u w : SeenValues). pairs_before u.values w.values (pairs (value ks.element) (value vs.element) k next)) e f
+      ∙ (sym (before_pair ks.values vs.values x y (pairs (value ks.element) (value vs.element) k next) (p.key_count ∙ sym p.value_count))
+      ∙ (ap (pairs_before ks.values vs.values) (sym (ap (λ (r : Reading CompactFault Item). goes_on r (λ a. value vs.element >>= (λ b. pairs (value ks.element) (value vs.element) k >>= (λ rest. give (compact.pair a b rest))))) g ∙ ap (λ (r : Reading CompactFault Item). goes_on r (λ b. pairs (value ks.element) (value vs.element) k >>= (λ rest. give (compact.pair x b rest)))) h))
+      ∙ p.all));
 }
 
 pub pair_read : (value : ThriftType → Reader CompactFault Item) (size k : ℕ) (bytes now mid next : List ℕ) (count : ℕ) (t u : ThriftType) (ks ls vs ws : SeenValues) → PairsRead value size bytes (suc k) count t u ks vs now → joined ks (value ks.element now) ≡ got ls mid → joined vs (value vs.element mid) ≡ got ws next → PairsRead value size bytes k (count + 1) t u ls ws next
@@ -303,9 +303,9 @@ no_fields_read value size bytes = no_fields_by (fields value size (pos 0) bytes)
 pub field_read : (value : ThriftType → Reader CompactFault Item) (size k : ℕ) (bytes now mid next : List ℕ) (fs : List SeenField) (last id : ℤ) (t : ThriftType) (x : Item) → FieldsRead value size bytes (suc k) fs last now → field_start last now ≡ got (Some (start_of id t)) mid → field_value value t mid ≡ got x next → FieldsRead value size bytes k (fs ++ seen_field id x ∷ []) id next
 field_read value size k bytes now mid next fs last id t x p s v =
     let here : fields value (suc k) last now ≡ goes_on (fields value k id next) (λ (y : Struct). give (compact.struct_field id x y)) =
-        fields_by_start value k last now
-        ∙ (ap (λ (r : Reading CompactFault (Option FieldStart)). goes_on r (after_start value (fields value k))) s
-        ∙ ap (λ (r : Reading CompactFault Item). goes_on r (λ y. fields value k id >>= (λ z. give (compact.struct_field id y z)))) v) in
+    fields_by_start value k last now
+    ∙ (ap (λ (r : Reading CompactFault (Option FieldStart)). goes_on r (after_start value (fields value k))) s
+    ∙ ap (λ (r : Reading CompactFault Item). goes_on r (λ y. fields value k id >>= (λ z. give (compact.struct_field id y z)))) v) in
     sym (before_field fs id x (fields value k id next)) ∙ (ap (struct_before fs) (sym here) ∙ p)
 
 pub end_read : (value : ThriftType → Reader CompactFault Item) (size k : ℕ) (bytes now next : List ℕ) (fs : List SeenField) (last : ℤ) → FieldsRead value size bytes (suc k) fs last now → field_start last now ≡ got None next → fields value size (pos 0) bytes ≡ got (struct_from fs) next

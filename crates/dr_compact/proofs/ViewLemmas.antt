@@ -112,4 +112,3 @@ view-tree t = search (rules, trees.the_lemmas)
 
 pub view-tree_of : (fs : Vec fields.Field Global) → tree_view (trees.roll-Tree (record { fields = fs })) ≡ fields_view fs.items
 view-tree_of fs = search (rules, trees.the_lemmas)
-

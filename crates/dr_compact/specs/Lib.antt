@@ -4,3 +4,5 @@ pub mod Types
 -- what came of reading
 pub mod Reads
 pub mod Steps
+-- what came of writing
+pub mod Writes
