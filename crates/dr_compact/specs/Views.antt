@@ -1,5 +1,6 @@
 -- What trees stand for, in the definitions' words.
 use Rattle.std.specs.Prelude.{ℕ, ℤ, List, [], ◌∷◌, map}
+use denote.Ref.{Bor}
 use Rattle.dr_formats.specs.Compact as compact
 use Rattle.dr_compact.specs.declared.tree.TruthType.{TruthType}
 use Rattle.dr_compact.specs.declared.tree.Item.{Item, fold-Item}
@@ -110,3 +111,7 @@ fields_view fs = struct_from (map field_view fs)
 -- a list or a set without its type
 abbrev pub elements_view : Values → Elements
 elements_view v = record { element = (values_view v).element; items = items_from (values_view v).values }
+
+-- lent bytes
+abbrev pub lent_bytes : Bor (List ℕ) → List ℕ
+lent_bytes b = b.now

@@ -4,8 +4,11 @@
 mod appending;
 mod fault;
 mod headers;
+mod looking;
 mod numbers;
 mod reading;
+#[cfg(test)]
+mod tests;
 mod thrift_type;
 mod tree;
 mod values;
