@@ -7,3 +7,5 @@ pub mod ElementLemmas
 pub mod LoopLemmas
 -- writing, step by step
 pub mod WriteLemmas
+-- looking into trees
+pub mod LookLemmas

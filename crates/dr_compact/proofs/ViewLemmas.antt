@@ -15,6 +15,18 @@ use Rattle.dr_compact.specs.Views.{item_view, values_view, field_view, map_view,
 pub view-truth : (b : Bool) → item_view (items.Truth b) ≡ compact.truth_item b
 view-truth b = search (rules, items.the_lemmas)
 
+pub view-byte : (b : ℕ) → item_view (items.Byte b) ≡ compact.byte_item b
+view-byte b = search (rules, items.the_lemmas)
+
+pub view-i16 : (z : ℤ) → item_view (items.I16 z) ≡ compact.i16_item z
+view-i16 z = search (rules, items.the_lemmas)
+
+pub view-i64 : (z : ℤ) → item_view (items.I64 z) ≡ compact.i64_item z
+view-i64 z = search (rules, items.the_lemmas)
+
+pub view-double : (b : List ℕ) → item_view (items.Double b) ≡ compact.double_item b
+view-double b = search (rules, items.the_lemmas)
+
 pub view-i32 : (z : ℤ) → item_view (items.I32 z) ≡ compact.i32_item z
 view-i32 z = search (rules, items.the_lemmas)
 
