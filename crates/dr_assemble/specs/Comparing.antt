@@ -18,4 +18,6 @@ Passes ts before after false = (us : List Triplet) → before ≡ ts ++ us → �
 
 -- what the instances of a field give a path that goes on by its step
 abbrev pub field_column : List Step → Step → ℕ → ℕ → ℕ → tree.Instances → List Triplet
-field_column p s level d r xs = spread (instance_column p (level + repetition_count s.repetition) (d + definition_count s.repetition)) (level + repetition_count s.repetition) d r xs
+field_column p s level d r xs =
+    spread (instance_column p (level + repetition_count s.repetition) (d + definition_count s.repetition))
+    (level + repetition_count s.repetition) d r xs

@@ -1,6 +1,8 @@
 -- Restoring nodes of the triplets of their leaves. Whether what is restored has these triplets for its columns is left to a comparison.
-use Rattle.std.specs.Prelude.{ℕ, zero, suc, ◌+◌, List, [], ◌∷◌, map, Bool, true, ◌==◌, nat_lt, if◌then◌else◌, get_or, Option, Some, None, option_map, option_and_then}
-use Rattle.dr_meaning.specs.Schema.{Repetition, required, optional, repeated, Kind, Fields, no_fields, field, Shape, leaf, group, repetition_count, definition_count}
+use Rattle.std.specs.Prelude.{ℕ, zero, suc, ◌+◌, List, [], ◌∷◌, map, Bool, true, ◌==◌}
+use Rattle.std.specs.Prelude.{nat_lt, if◌then◌else◌, get_or, Option, Some, None, option_map, option_and_then}
+use Rattle.dr_meaning.specs.Schema.{Repetition, required, optional, repeated, Kind, Fields, no_fields}
+use Rattle.dr_meaning.specs.Schema.{field, Shape, leaf, group, repetition_count, definition_count}
 use Rattle.dr_meaning.specs.Path.{Step}
 use Rattle.dr_meaning.specs.Record.{Value, Node, no_slots, slot, gap, Instances, Instance, atom, inner, is_of_kind}
 use Rattle.dr_meaning.specs.Column.{Triplet}

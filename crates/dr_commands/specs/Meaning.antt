@@ -1,6 +1,7 @@
 -- What a command means: from what it may look at to its outcome.
 use Rattle.std.specs.Prelude.{◌≡◌, ℕ, Bool, List, [], ◌∷◌, codes, Option, Result, Ok, Err, ⊤}
-use Rattle.dr_meaning.specs.Refusals.{CommandRefusal, schema_refused, field_refused, query_refused, line_refused, schema_refusal_text, field_refusal_text, line_refusal_text}
+use Rattle.dr_meaning.specs.Refusals.{CommandRefusal, schema_refused, field_refused, query_refused}
+use Rattle.dr_meaning.specs.Refusals.{line_refused, schema_refusal_text, field_refusal_text, line_refusal_text}
 use Rattle.dr_outside.specs.Link.{Files}
 use Rattle.dr_outside.specs.declared.cause.Cause.{Cause}
 

@@ -2,7 +2,8 @@
 use Rattle.std.specs.Prelude.{◌≡◌, ℕ, List, [], ◌∷◌, Bool, true, false, if◌then◌else◌, ◌==◌, codes, Option, Some, None, Result, Ok, Err, ⊤}
 use denote.Ref.{Bor}
 use Rattle.dr_meaning.specs.Schema.{is_name, begins_name}
-use Rattle.dr_meaning.specs.QueryText.{Word, select_word, from_word, as_word, count_word, Sign, open_parenthesis, close_parenthesis, dot, semicolon, QueryToken, reserved, identifier, number, text, sign, bad, none, query_tokens_from, bare_tokens}
+use Rattle.dr_meaning.specs.QueryText.{Word, select_word, from_word, as_word, count_word, Sign, open_parenthesis, close_parenthesis, dot, semicolon}
+use Rattle.dr_meaning.specs.QueryText.{QueryToken, reserved, identifier, number, text, sign, bad, none, query_tokens_from, bare_tokens}
 use Rattle.dr_count.specs.declared.pieces.Mark.{Mark}
 use Rattle.dr_count.specs.declared.pieces.Piece.{Piece}
 
@@ -40,7 +41,8 @@ starts_foreign (t ∷ ts) = is_foreign t
 
 abbrev pub other_words : List (List ℕ)
 other_words =
-    codes "WHERE" ∷ codes "GROUP" ∷ codes "BY" ∷ codes "WITHIN" ∷ codes "RECORD" ∷ codes "AND" ∷ codes "OR" ∷ codes "NOT" ∷ codes "LIKE" ∷ codes "CONTAINS" ∷ codes "IS"
+    codes "WHERE" ∷ codes "GROUP" ∷ codes "BY" ∷ codes "WITHIN" ∷ codes "RECORD" ∷ codes "AND" ∷ codes "OR" ∷ codes "NOT"
+    ∷ codes "LIKE" ∷ codes "CONTAINS" ∷ codes "IS"
     ∷ codes "NULL" ∷ codes "TRUE" ∷ codes "FALSE" ∷ codes "SUM" ∷ codes "MIN" ∷ codes "MAX" ∷ []
 
 -- ---- pieces

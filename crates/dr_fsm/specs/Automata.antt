@@ -26,4 +26,6 @@ IsAutomatonOf a order = (i l : ℕ) → follow a i l ≡ transition order i l
 
 -- at each level that a leaf has it leads to a leaf, but for the last leaf's level 0, which leads to the end
 abbrev pub EndsBehindLast : Automaton → List (List Step) → Type 0
-EndsBehindLast a order = (i l : ℕ) → i < length order → l ≤ max_repetition (slice_index_or order i []) → (follow a i l ≡ None) ↔ ((suc i ≡ length order) × (l ≡ 0))
+EndsBehindLast a order =
+    (i l : ℕ) → i < length order → l ≤ max_repetition (slice_index_or order i [])
+    → (follow a i l ≡ None) ↔ ((suc i ≡ length order) × (l ≡ 0))

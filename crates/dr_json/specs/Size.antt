@@ -1,6 +1,7 @@
 -- Sizes as far as the machine's numbers go.
 use Rattle.std.specs.Prelude.{ℕ, ◌-◌, ◌^◌, min, Option, Some, None}
-use Rattle.dr_meaning.specs.Record.{Node, Instances, Instance, instance_count, instance_count_all, instance_count_one, text_bytes, text_bytes_all, text_bytes_one}
+use Rattle.dr_meaning.specs.Record.{Node, Instances, Instance, instance_count, instance_count_all}
+use Rattle.dr_meaning.specs.Record.{instance_count_one, text_bytes, text_bytes_all, text_bytes_one}
 use Rattle.dr_json.specs.declared.size.Size.{Size}
 
 -- the number, or the greatest of 64 bits

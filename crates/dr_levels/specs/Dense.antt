@@ -53,4 +53,5 @@ first_of (v ∷ vs) = Some v
 abbrev pub joined : ℕ → List Levels → List Value → List Triplet
 joined g [] vs = []
 joined g (l ∷ ls) vs =
-    if l.definition == g then triplet l.repetition l.definition (first_of vs) ∷ joined g ls (drop 1 vs) else triplet l.repetition l.definition None ∷ joined g ls vs
+    if l.definition == g then triplet l.repetition l.definition (first_of vs) ∷ joined g ls (drop 1 vs)
+    else triplet l.repetition l.definition None ∷ joined g ls vs

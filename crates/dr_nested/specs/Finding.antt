@@ -25,4 +25,5 @@ Enters before meant now (Err e) = MatchOption (path_fault_view e) ⊤ (λ f. (f 
 -- how going along names below a group ended: at a leaf, whose steps joined those before; or at a fault
 abbrev pub Leads : List path.Step → Option path.Found → List path.Step → Result Kind PathFault → Type 0
 Leads before meant now (Ok k) = option_map (behind before) meant ≡ Some (record { path = now; shape = tree.leaf (kind_view k) })
-Leads before meant now (Err e) = MatchOption (path_fault_view e) ⊤ (λ f. (ns : List (List ℕ)) (p : List path.Step) → path.found_leaf ns (option_map (behind p) meant) ≡ Err f)
+Leads before meant now (Err e) =
+    MatchOption (path_fault_view e) ⊤ (λ f. (ns : List (List ℕ)) (p : List path.Step) → path.found_leaf ns (option_map (behind p) meant) ≡ Err f)

@@ -18,7 +18,9 @@ abbrev mutual
   pub is_leaf_of : Fields → Kind → List Step → Bool
   is_leaf_of no_fields k p = false
   is_leaf_of (field n r s fs) k [] = false
-  is_leaf_of (field n r s fs) k (t ∷ p) = through t.place (same_repetition t.repetition r && is_shape_leaf s k p) (λ i. is_leaf_of fs k (record { place = i; repetition = t.repetition } ∷ p))
+  is_leaf_of (field n r s fs) k (t ∷ p) =
+      through t.place (same_repetition t.repetition r && is_shape_leaf s k p)
+      (λ i. is_leaf_of fs k (record { place = i; repetition = t.repetition } ∷ p))
 
   pub is_shape_leaf : Shape → Kind → List Step → Bool
   is_shape_leaf (leaf j) k p = same_kind j k && is_empty_path p

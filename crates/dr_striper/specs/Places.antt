@@ -9,4 +9,9 @@ IsWithin p most = (p.depth ≤ most) × (p.level ≤ p.depth) × (p.definition �
 
 -- in an instance of a field, where the triplets of a later one begin
 abbrev pub below : Place → Repetition → Place
-below p r = record { depth = p.depth + 1; level = p.level + repetition_count r; definition = p.definition + definition_count r; begin = p.level + repetition_count r }
+below p r = record {
+  depth = p.depth + 1;
+  level = p.level + repetition_count r;
+  definition = p.definition + definition_count r;
+  begin = p.level + repetition_count r
+}

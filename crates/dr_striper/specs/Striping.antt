@@ -76,9 +76,13 @@ path_column at x p = instance_column (drop at.depth p) at.level at.definition at
 -- what the later instances of a field at a place give a path that goes on by its step
 abbrev pub later_columns : Place → Step → tree.Instances → List Step → List Triplet
 later_columns at s xs p =
-    each_later (instance_column (drop (at.depth + 1) p) (at.level + repetition_count s.repetition) (at.definition + definition_count s.repetition)) (at.level + repetition_count s.repetition) xs
+    each_later
+    (instance_column (drop (at.depth + 1) p) (at.level + repetition_count s.repetition) (at.definition + definition_count s.repetition))
+    (at.level + repetition_count s.repetition) xs
 
 -- what all its instances give
 abbrev pub field_column : Place → Step → tree.Instances → List Step → List Triplet
 field_column at s xs p =
-    spread (instance_column (drop (at.depth + 1) p) (at.level + repetition_count s.repetition) (at.definition + definition_count s.repetition)) (at.level + repetition_count s.repetition) at.definition at.begin xs
+    spread
+    (instance_column (drop (at.depth + 1) p) (at.level + repetition_count s.repetition) (at.definition + definition_count s.repetition))
+    (at.level + repetition_count s.repetition) at.definition at.begin xs

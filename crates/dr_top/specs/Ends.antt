@@ -23,7 +23,8 @@ ForMeant (Some m) P = P m
 
 -- err gained the line, or a front of it and its count rose by one
 abbrev pub Says : SinkShown → SinkShown → List ℕ → Type 0
-Says before after text = (AddedWhole before after text × (after.faults ≡ before.faults)) ⊎ (AddedFront before after text × (after.faults ≡ raised before.faults))
+Says before after text =
+    (AddedWhole before after text × (after.faults ≡ before.faults)) ⊎ (AddedFront before after text × (after.faults ≡ raised before.faults))
 
 -- files with these put, one after the other
 abbrev pub with_puts : Files → List Put → Files

@@ -31,4 +31,5 @@ line_fault_in LineFault.TooLong number = InputFault.Refused number LineProblem.T
 abbrev pub NextStops : Fields → ℕ → ℕ → Option (List ℕ) → SourceShown → SourceShown → InputFault → Type 0
 NextStops fs most number left before now InputFault.NoMemory = now.faults ≡ before.faults
 NextStops fs most number left before now InputFault.Source = now.faults ≡ raised before.faults
-NextStops fs most number left before now (InputFault.Refused n w) = (now.faults ≡ before.faults) × RefusesNext fs most number left (record { line = n; fault = line_problem_view w })
+NextStops fs most number left before now (InputFault.Refused n w) =
+    (now.faults ≡ before.faults) × RefusesNext fs most number left (record { line = n; fault = line_problem_view w })

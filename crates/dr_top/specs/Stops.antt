@@ -60,7 +60,8 @@ AsksForFile path before now = (more : List Request) × (now.asked ≡ with_reque
 abbrev pub SchemaFileStops : List ℕ → LinkShown → LinkShown → SchemaFileFault → Type 0
 SchemaFileStops path before now SchemaFileFault.NoMemory = now.faults ≡ before.faults
 SchemaFileStops path before now SchemaFileFault.Keeper = now.faults ≡ raised before.faults
-SchemaFileStops path before now (SchemaFileFault.Refused p w) = (now.faults ≡ before.faults) × IsRefusedSchema before.held path (record { place = p; problem = problem_view w })
+SchemaFileStops path before now (SchemaFileFault.Refused p w) =
+    (now.faults ≡ before.faults) × IsRefusedSchema before.held path (record { place = p; problem = problem_view w })
 
 -- ---- a FIELD
 
@@ -79,7 +80,8 @@ IsRefusedLine fs most input e = WhereTold input (λ bytes. line.records_of fs mo
 abbrev pub InputStops : Fields → ℕ → SourceShown → SourceShown → InputFault → Type 0
 InputStops fs most before now InputFault.NoMemory = now.faults ≡ before.faults
 InputStops fs most before now InputFault.Source = now.faults ≡ raised before.faults
-InputStops fs most before now (InputFault.Refused n w) = (now.faults ≡ before.faults) × IsRefusedLine fs most before.left (record { line = n; fault = line_problem_view w })
+InputStops fs most before now (InputFault.Refused n w) =
+    (now.faults ≡ before.faults) × IsRefusedLine fs most before.left (record { line = n; fault = line_problem_view w })
 
 -- ---- a command
 
@@ -90,7 +92,8 @@ StopsWith m keeper keeper_now input input_now Stop.NoMemory = (keeper_now.faults
 StopsWith m keeper keeper_now input input_now Stop.Keeper = (keeper_now.faults ≡ raised keeper.faults) × (input_now ≡ input)
 StopsWith m keeper keeper_now input input_now Stop.Source = (input_now.faults ≡ raised input.faults) × (keeper_now.faults ≡ keeper.faults) × IsOpened m keeper
 StopsWith m keeper keeper_now input input_now (Stop.Refused r) =
-    (keeper_now.faults ≡ keeper.faults) × (input_now.faults ≡ input.faults) × EndsAlone m keeper input (refused (refusal_view r) []) × (IsEarly (refusal_view r) → input_now ≡ input)
+    (keeper_now.faults ≡ keeper.faults) × (input_now.faults ≡ input.faults) × EndsAlone m keeper input (refused (refusal_view r) [])
+    × (IsEarly (refusal_view r) → input_now ≡ input)
 
 -- the input was read to its end, or left alone where it isn't read
 abbrev pub IsReadBy : Bool → SourceShown → SourceShown → Type 0
