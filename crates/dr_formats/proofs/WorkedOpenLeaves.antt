@@ -1,10 +1,10 @@
 -- Which leaves of a file are open, and the schema of these, by computation.
-use Rattle.std.specs.Prelude.{◌≡◌, ℕ, zero, suc, List, [], ◌∷◌, map, replicate, ℤ, pos, neg_ℤ, Option, Some, None, codes, refl}
+use Rattle.std.specs.Prelude.{◌≡◌, ℕ, zero, suc, List, [], ◌∷◌, map, replicate, false, ℤ, pos, neg_ℤ, Option, Some, None, codes, refl}
 use Rattle.dr_meaning.specs.Schema.{Repetition, required, optional, repeated, Kind, bool_kind, int32_kind, int64_kind, text_kind, Fields, no_fields, field, leaf, group, Schema, most_leaves, greatest_depth}
 use Rattle.dr_meaning.specs.Path.{Step, Leaf}
 use Rattle.dr_formats.specs.Metadata.{SchemaElement}
 use Rattle.dr_formats.specs.OpenSchemaLaws.{open_ones, leaves_of_part}
-use Rattle.dr_formats.specs.FileSchema.{FileFields, no_file_fields, file_field, file_leaf, file_group, repetition_from, file_schema, kind_from, open_kind, FileLeaf, file_leaves, place_of, open_fields, open_schema}
+use Rattle.dr_formats.specs.FileSchema.{FileFields, no_file_fields, file_field, file_leaf, file_group, repetition_from, file_schema, kind_from, open_kind, FileLeaf, file_leaves, same_names, same_repetitions, place_of, open_fields, open_schema}
 
 -- ---- numbers
 
@@ -141,3 +141,8 @@ pub places : map (λ l. place_of l (file_leaves mixed)) (leaf_named (codes "a" �
     ∷ leaf_named (codes "h" ∷ []) (step repeated ∷ []) text_kind ∷ leaf_named (codes "h" ∷ codes "y" ∷ []) (step optional ∷ step optional ∷ []) text_kind ∷ leaf_named (codes "h" ∷ codes "z" ∷ []) (step repeated ∷ step required ∷ []) int64_kind ∷ [])
     ≡ Some 0 ∷ Some 4 ∷ None ∷ None ∷ None ∷ None ∷ None ∷ None ∷ []
 places = refl
+
+-- a path isn't that of another number of parts, by its names alone or by its repetitions alone
+pub lengths : (same_names (codes "a" ∷ []) [] ≡ false) × (same_names [] (codes "a" ∷ []) ≡ false) × (same_names (codes "a" ∷ codes "b" ∷ []) (codes "a" ∷ []) ≡ false)
+    × (same_repetitions (step required ∷ []) [] ≡ false) × (same_repetitions [] (required ∷ []) ≡ false) × (same_repetitions (step required ∷ []) (required ∷ required ∷ []) ≡ false)
+lengths = (refl, refl, refl, refl, refl, refl)
