@@ -4,7 +4,7 @@ ghost use mathlib.Core.List.{IsPrefix};
 ghost use Rattle.dr_dispatch.specs.History.{has_give, has_answer, is_recorded, after_event, is_history};
 ghost use Rattle.dr_dispatch.specs.Choice.{choice, after_take};
 ghost use Rattle.dr_dispatch.specs.Seen.{adds, looks};
-ghost use Rattle.dr_board.specs.BoardShown.{pieces_after};
+ghost use Rattle.dr_board.specs.Shown.{pieces_after};
 
 use crate::pass::Pass;
 use crate::room::Room;
@@ -23,7 +23,7 @@ pub(crate) struct Locked<P: Piece + Drop, N: Naming<P>, B: Room> {
 }
 
 impl<P: Piece + Drop, N: Naming<P>, B: Room> Model for Locked<P, N, B> {
-    ghost use Rattle.dr_board.specs.BoardShown.{BoardShown};
+    ghost use Rattle.dr_board.specs.Shown.{BoardShown};
     ghost use Rattle.dr_desk.specs.Locked.{HasKeeper};
 
     ghost Value = { BoardShown P };
