@@ -1,9 +1,9 @@
 -- What a board keeps: each event that is recorded has room, and leaves one piece for each answered tablet.
-use Rattle.std.proofs.Common.{◌≡◌, ℕ, ◌+◌, ◌*◌, ◌<◌, List, [], ◌∷◌, ◌++◌, length, true, sym, ap, ap₂, ◌∙◌, arith, append-nil, length-append, subst, Bool, false, Option, None, Some, refl, if◌then◌else◌}
+use Rattle.std.proofs.Common.{◌≡◌, ℕ, ◌+◌, ◌<◌, List, [], ◌∷◌, ◌++◌, length, true, sym, ap, ap₂, ◌∙◌, arith, append-nil, length-append, subst, Bool, false, Option, None, Some, refl, if◌then◌else◌}
 use Rattle.std.proofs.lemmas.List.{map_push, length-map}
 use Rattle.std.proofs.lemmas.List.Elements.{All-push}
 use Rattle.dr_dispatch.specs.Job.{Job}
-use Rattle.dr_dispatch.specs.History.{is_recorded, after_event, is_history, answered}
+use Rattle.dr_dispatch.specs.History.{is_recorded, after_event, answered}
 use Rattle.dr_dispatch.specs.Choice.{choice, after_give, after_take}
 use Rattle.dr_dispatch.specs.Pieces.{KeepsPieces}
 use Rattle.dr_dispatch.specs.declared.event.Hand.{Hand}

@@ -1,11 +1,10 @@
 -- A state takes just the events that its history records, and stays a state.
-use Rattle.std.proofs.Common.{◌≡◌, ℕ, zero, suc, ◌+◌, ◌*◌, ◌^◌, ◌<◌, ◌≤◌, List, [], ◌∷◌, ◌++◌, map, length, get_or, set, Bool, true, false, ◌&&◌, ◌||◌, not, refl, sym, ap, ap₂, ◌∙◌, subst, length-append, true≢false, arith, zero-add, eq-eqb, ⊎_elim, Option, Some, None}
+use Rattle.std.proofs.Common.{◌≡◌, ℕ, zero, suc, ◌+◌, ◌*◌, ◌^◌, ◌<◌, ◌≤◌, List, [], ◌∷◌, ◌++◌, map, length, get_or, set, Bool, true, false, ◌&&◌, ◌||◌, not, refl, sym, ap, ap₂, ◌∙◌, subst, length-append, true≢false, arith, zero-add, ⊎_elim, Option, Some, None}
 use Rattle.std.specs.Prelude.{◌==◌, IfSome}
 use Rattle.std.specs.List.{list_any}
 use Rattle.std.proofs.lemmas.Bool.{eqb-true, cases_lt}
 use Rattle.std.proofs.lemmas.List.{length-map}
-use Rattle.std.proofs.Math.Bool.{or-false}
-use Rattle.dr_dispatch.specs.Job.{Job, hand, leaves_at, pairs_of, pairs}
+use Rattle.dr_dispatch.specs.Job.{Job, hand, leaves_at, pairs_of}
 use Rattle.dr_dispatch.specs.History.{has_give, has_answer, has_fault, is_recorded, is_history}
 use Rattle.dr_dispatch.specs.Choice.{choice}
 use Rattle.dr_dispatch.specs.declared.event.Hand.{Hand}
@@ -14,10 +13,9 @@ use Rattle.dr_dispatch.specs.declared.event.Event.TheVariants.{Give, Answer, Fau
 use Rattle.dr_dispatch.proofs.HistoryLemmas.{one_more}
 use Rattle.dr_dispatch.proofs.ChoiceLemmas.{choice_is_recorded}
 use Rattle.dr_dispatch.proofs.BoundLemmas.{history_is_bounded, given_is_of_job, is_tablet}
-use Rattle.dr_board.specs.Tablets.{TabletShown, leaf_at, tablet_at, tablets_from, new_tablet, leaves_of, job_of, hand_of, is_given_on, has_failed_on, takes_event, tablet_after, chosen_hand}
+use Rattle.dr_board.specs.Tablets.{TabletShown, leaf_at, tablet_at, tablets_from, new_tablet, leaves_of, job_of, hand_of, is_on, is_given_on, has_failed_on, takes_event, tablet_after, chosen_hand}
 use Rattle.dr_board.specs.Shown.{StateShown, first_state, KeepsState}
-use Rattle.dr_board.specs.declared.tablet.LeafState.{LeafState}
-use Rattle.dr_board.proofs.TabletLemmas.{tablets-push, length-tablets, get_or-tablets, tablets-none, leaves_of-tablets, chosen-choice}
+use Rattle.dr_board.proofs.TabletLemmas.{tablets-push, get_or-tablets, tablets-none, leaves_of-tablets, chosen-choice}
 
 -- ---- which events are taken
 
@@ -32,7 +30,7 @@ module _ (flag : ℕ → Bool) (k : ℕ) where
       absorbs false false = refl
   flag_at l rest ls e false is = e
 
-has_leaf-map : (es : List Event) (t k : ℕ) (ls : List ℕ) → list_any (λ (l : LeafState). l.leaf == k) (map (leaf_at es t) ls) ≡ list_any (λ l. l == k) ls
+has_leaf-map : (es : List Event) (t k : ℕ) (ls : List ℕ) → list_any (is_on k) (map (leaf_at es t) ls) ≡ list_any (λ l. l == k) ls
 has_leaf-map es t k [] = refl
 has_leaf-map es t k (l ∷ ls) = ap (λ b. (l == k) || b) (has_leaf-map es t k ls)
 

@@ -1,36 +1,26 @@
 -- What is kept of each tablet is what the history says of it, and goes on with each event.
-use Rattle.std.proofs.Common.{◌≡◌, ◌≢◌, ℕ, zero, suc, ◌+◌, ◌<◌, ◌≤◌, List, [], ◌∷◌, ◌++◌, map, length, get_or, set, Bool, true, false, ◌&&◌, ◌||◌, not, Option, Some, None, refl, sym, ap, ap₂, ◌∙◌, subst, append-nil, length-append, add-one, true≢false, arith, eq-eqb, ne_eqb, add-zero, zero-add}
+use Rattle.std.proofs.Common.{◌≡◌, ℕ, zero, suc, ◌+◌, ◌<◌, ◌≤◌, List, [], ◌∷◌, ◌++◌, map, length, get_or, set, Bool, true, false, ◌&&◌, ◌||◌, not, Option, Some, None, refl, sym, ap, ap₂, ◌∙◌, length-append, arith, eq-eqb, ne_eqb}
 use Rattle.std.specs.Prelude.{◌==◌, ◌-◌, nat_le, if◌then◌else◌}
 use Rattle.std.specs.List.{list_any, list_all}
-use Rattle.std.proofs.lemmas.Bool.{eqb-true}
-use Rattle.std.proofs.lemmas.List.Folds.{list_any-append}
+use Rattle.std.proofs.Math.Bool.{or-false, or-true}
+use Rattle.std.proofs.lemmas.Simd.{map-map}
+use Rattle.dr_dispatch.proofs.HistoryLemmas.{any_push}
 use Rattle.dr_outside.specs.declared.cause.Cause.{Cause}
 use Rattle.dr_dispatch.specs.Job.{Job, hand, leaves_at}
-use Rattle.dr_dispatch.specs.History.{gives, answers, faults, has_give, has_answer, has_fault, is_recorded, is_history}
+use Rattle.dr_dispatch.specs.History.{gives, answers, faults, has_give, has_answer, has_fault}
 use Rattle.dr_dispatch.specs.Choice.{first_open, all_failed, gives_tablet, since_from, since_give, urgent, late, or_else, lowest, choice}
 use Rattle.dr_dispatch.specs.declared.event.Hand.{Hand}
 use Rattle.dr_dispatch.specs.declared.event.Event.{Event}
 use Rattle.dr_dispatch.specs.declared.event.Event.TheVariants.{Give, Answer, Fault}
-use Rattle.dr_board.specs.Tablets.{TabletShown, leaf_at, tablet_at, tablets_from, new_tablet, new_leaf, leaves_of, open_hand, urgent_hand, late_hand, lowest_hand, chosen_hand, hand_of, is_given_on, has_failed_on, takes_event, leaf_after, tablet_after}
+use Rattle.dr_board.specs.Tablets.{TabletShown, leaf_at, tablet_at, tablets_from, new_tablet, leaves_of, open_hand, urgent_hand, late_hand, lowest_hand, chosen_hand, hand_of, leaf_after, tablet_after}
 use Rattle.dr_board.specs.declared.tablet.LeafState.{LeafState}
 
-or_false : (b : Bool) → (b || false) ≡ b
-or_false true = refl
-or_false false = refl
-
-any_push : (p : Event → Bool) (es : List Event) (e : Event) → list_any p (es ++ e ∷ []) ≡ (list_any p es || p e)
-any_push p es e = list_any-append p es (e ∷ []) ∙ ap (λ b. list_any p es || b) (or_false (p e))
-
 none_pushed : (p : Event → Bool) (es : List Event) (e : Event) → p e ≡ false → list_any p (es ++ e ∷ []) ≡ list_any p es
-none_pushed p es e is = any_push p es e ∙ (ap (λ b. list_any p es || b) is ∙ or_false (list_any p es))
+none_pushed p es e is = any_push p es e ∙ (ap (λ b. list_any p es || b) is ∙ or-false (list_any p es))
 
 same_maps : {A B : Type 0} (f g : A → B) (xs : List A) → ((x : A) → f x ≡ g x) → map f xs ≡ map g xs
 same_maps f g [] same = refl
 same_maps f g (x ∷ xs) same = ap₂ (λ y ys. y ∷ ys) (same x) (same_maps f g xs same)
-
-map_twice : {A B C : Type 0} (g : B → C) (f : A → B) (xs : List A) → map g (map f xs) ≡ map (λ x. g (f x)) xs
-map_twice g f [] = refl
-map_twice g f (x ∷ xs) = ap (λ ys. g (f x) ∷ ys) (map_twice g f xs)
 
 -- ---- the events behind the last hand-out
 
@@ -112,27 +102,23 @@ failed_at es g cause l true is =
     λ i. record { leaf = l; given = given i; failed = failed i }
 failed_at es g cause l false is = leaf_same g.tablet es (Fault g cause) l refl (ap₂ (λ a b. a && b) (same_number g.tablet) is)
 
-or_true : (b : Bool) → (b || true) ≡ true
-or_true true = refl
-or_true false = refl
-
 -- to its own tablet
 own_tablet : (es : List Event) (e : Event) (leaves : List ℕ) → tablet_at (es ++ e ∷ []) (hand_of e).tablet leaves ≡ tablet_after (length es + 1) (tablet_at es (hand_of e).tablet leaves) e
 own_tablet es (Give g) leaves =
     let kept = same_maps (leaf_at (es ++ Give g ∷ []) g.tablet) (λ l. leaf_after false g.leaf (leaf_at es g.tablet l)) leaves (λ l. given_at es g l (g.leaf == l) refl)
-    ∙ sym (map_twice (leaf_after false g.leaf) (leaf_at es g.tablet) leaves) in
+    ∙ sym (map-map (leaf_after false g.leaf) (leaf_at es g.tablet) leaves) in
     let answer = none_pushed (answers g.tablet) es (Give g) refl in
     let since : since_give (es ++ Give g ∷ []) g.tablet ≡ 0 = since_push g.tablet 0 es (Give g) ∙ ap (λ b. if b then 0 else suc (since_give es g.tablet)) (same_number g.tablet) in
     let last : length (es ++ Give g ∷ []) - since_give (es ++ Give g ∷ []) g.tablet ≡ length es + 1 = omega (arith, since, length-append es (Give g ∷ [])) in
     λ i. record { leaves = kept i; answered = answer i; last = last i }
 own_tablet es (Answer g) leaves =
     let kept = same_maps (leaf_at (es ++ Answer g ∷ []) g.tablet) (leaf_at es g.tablet) leaves (λ l. leaf_same g.tablet es (Answer g) l refl refl) in
-    let answer = any_push (answers g.tablet) es (Answer g) ∙ (ap (λ b. has_answer es g.tablet || b) (same_number g.tablet) ∙ or_true (has_answer es g.tablet)) in
+    let answer = any_push (answers g.tablet) es (Answer g) ∙ (ap (λ b. has_answer es g.tablet || b) (same_number g.tablet) ∙ or-true (has_answer es g.tablet)) in
     let stays = last_stays es (Answer g) g.tablet refl in
     λ i. record { leaves = kept i; answered = answer i; last = stays i }
 own_tablet es (Fault g cause) leaves =
     let kept = same_maps (leaf_at (es ++ Fault g cause ∷ []) g.tablet) (λ l. leaf_after true g.leaf (leaf_at es g.tablet l)) leaves (λ l. failed_at es g cause l (g.leaf == l) refl)
-    ∙ sym (map_twice (leaf_after true g.leaf) (leaf_at es g.tablet) leaves) in
+    ∙ sym (map-map (leaf_after true g.leaf) (leaf_at es g.tablet) leaves) in
     let answer = none_pushed (answers g.tablet) es (Fault g cause) refl in
     let stays = last_stays es (Fault g cause) g.tablet refl in
     λ i. record { leaves = kept i; answered = answer i; last = stays i }

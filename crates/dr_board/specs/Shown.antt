@@ -2,6 +2,7 @@
 use Rattle.std.specs.Prelude.{◌≡◌, ℕ, ◌*◌, ◌^◌, ◌<◌, ◌≤◌, true, List, [], ◌∷◌, ◌++◌, length, if◌then◌else◌}
 use Rattle.dr_dispatch.specs.Job.{Job, pairs}
 use Rattle.dr_dispatch.specs.History.{is_history, has_answer}
+use Rattle.dr_dispatch.specs.Pieces.{KeepsPieces}
 use Rattle.dr_dispatch.specs.declared.event.Event.{Event}
 use Rattle.dr_board.specs.Tablets.{TabletShown, tablets_from}
 
@@ -34,3 +35,9 @@ empty_board = record { history = []; pieces = [] }
 -- the pieces after one came for a tablet
 abbrev pub pieces_after : {P : Type 0} → BoardShown P → ℕ → P → List P
 pieces_after board t piece = if has_answer board.history t then board.pieces else board.pieces ++ piece ∷ []
+
+-- of a board for the named job: its state is of that job, its pieces are those that the history asks for, and there is room for one a tablet
+pub record KeepsBoard {P : Type 0} (named : Job) (tablet_of : P → ℕ) (is_true : ℕ → P → Type 0) (state : StateShown) (pieces : List P) (capacity : ℕ) : Type 0 where
+  pub kept : KeepsPieces named tablet_of is_true state.history pieces
+  pub job : state.job ≡ named
+  pub room : length named.leaves ≤ capacity

@@ -1,5 +1,5 @@
 -- What a state keeps of each tablet, so that it needs no look at its history.
-use Rattle.std.specs.Prelude.{ℕ, suc, ◌+◌, ◌-◌, ◌==◌, Bool, true, false, ◌&&◌, ◌||◌, not, nat_le, List, [], ◌∷◌, map, length, None, Some, if◌then◌else◌}
+use Rattle.std.specs.Prelude.{ℕ, suc, ◌-◌, ◌==◌, Bool, true, false, ◌&&◌, ◌||◌, not, nat_le, List, [], ◌∷◌, map, length, None, Some, if◌then◌else◌}
 use Rattle.std.specs.declared.option.Option.{Option}
 use Rattle.std.specs.List.{list_all, list_any}
 use Rattle.dr_dispatch.specs.Job.{Job, hand}
@@ -69,6 +69,9 @@ hand_of (Give h) = h
 hand_of (Answer h) = h
 hand_of (Fault h cause) = h
 
+abbrev pub is_on : ℕ → LeafState → Bool
+is_on leaf l = l.leaf == leaf
+
 abbrev pub is_given_on : ℕ → LeafState → Bool
 is_given_on leaf l = (l.leaf == leaf) && l.given
 
@@ -77,7 +80,7 @@ has_failed_on leaf l = (l.leaf == leaf) && l.failed
 
 -- the event is recorded
 abbrev pub takes_event : TabletShown → Event → Bool
-takes_event tablet (Give h) = list_any (λ (l : LeafState). l.leaf == h.leaf) tablet.leaves && not tablet.answered && not (list_any (is_given_on h.leaf) tablet.leaves)
+takes_event tablet (Give h) = list_any (is_on h.leaf) tablet.leaves && not tablet.answered && not (list_any (is_given_on h.leaf) tablet.leaves)
 takes_event tablet (Answer h) = list_any (is_given_on h.leaf) tablet.leaves && not tablet.answered
 takes_event tablet (Fault h cause) = list_any (is_given_on h.leaf) tablet.leaves && not (list_any (has_failed_on h.leaf) tablet.leaves) && not tablet.answered
 

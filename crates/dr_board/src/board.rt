@@ -22,15 +22,14 @@ pub struct Board<P: Piece + Drop, N: Naming<P>> {
 }
 
 impl<P: Piece + Drop, N: Naming<P>> Model for Board<P, N> {
-    ghost use Rattle.std.specs.Prelude.{◌≡◌, ◌≤◌, length, vec_capacity};
-    ghost use Rattle.dr_dispatch.specs.Pieces.{KeepsPieces};
-    ghost use Rattle.dr_board.specs.Shown.{BoardShown};
+    ghost use Rattle.std.specs.Prelude.{vec_capacity};
+    ghost use Rattle.dr_board.specs.Shown.{BoardShown, KeepsBoard};
 
     ghost Value = { BoardShown P };
 
     ghost view = { λ b. record { history = b.state.history; pieces = b.pieces.items } };
 
-    ghost invariant = { λ b. KeepsPieces N.job P.tablet_of N.is_true b.state.history b.pieces.items × (b.state.job ≡ N.job) × (length N.job.leaves ≤ vec_capacity b.pieces) };
+    ghost invariant = { λ b. KeepsBoard N.job P.tablet_of N.is_true b.state b.pieces.items (vec_capacity b.pieces) };
 }
 
 /// What became of an answer.

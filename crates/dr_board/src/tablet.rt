@@ -1,7 +1,7 @@
 // What is kept of a tablet.
 ghost use Rattle.std.specs.Prelude.{◌≡◌, ◌&&◌, ◌||◌, ◌==◌, not, map, IfOk};
 ghost use Rattle.std.specs.List.{list_any, list_all};
-ghost use Rattle.dr_board.specs.Tablets.{new_leaf, open_hand, is_given_on, has_failed_on, marked_leaf, leaf_after, hand_of};
+ghost use Rattle.dr_board.specs.Tablets.{new_leaf, open_hand, is_on, is_given_on, has_failed_on, marked_leaf, leaf_after, hand_of};
 
 use dr_dispatch::{Event, Hand};
 use dr_memory::NoMemory;
@@ -65,7 +65,7 @@ fn is_not_at_work(leaves: &[LeafState]) -> bool
 }
 
 fn has_leaf(leaves: &[LeafState], leaf: u32) -> bool
-    ensures { result ≡ list_any (λ (l : LeafState). l.leaf == leaf) leaves.now }
+    ensures { result ≡ list_any (is_on leaf) leaves.now }
 {
     leaves.iter().any(|state| state.leaf == leaf)
 }

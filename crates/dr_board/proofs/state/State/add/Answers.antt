@@ -1,4 +1,4 @@
-use Rattle.std.proofs.Common.{arith, ◌≡◌, ◌<◌, true, sym, ap, ◌∙◌, length}
+use Rattle.std.proofs.Common.{arith, ◌≡◌, true, sym, ap, ◌∙◌, length}
 use Rattle.dr_dispatch.specs.History.{is_recorded}
 use Rattle.dr_board.specs.Shown.{StateShown}
 use Rattle.dr_board.specs.Tablets.{job_of}

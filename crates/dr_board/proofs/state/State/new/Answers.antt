@@ -1,5 +1,5 @@
-use Rattle.std.proofs.Common.{rules, arith, ◌≡◌, ◌*◌, ◌≤◌, ℕ, List, length, map, Vec, Global, sym, ap, ◌∙◌}
-use Rattle.dr_dispatch.specs.Job.{Job, pairs, pairs_of}
+use Rattle.std.proofs.Common.{rules, arith, ◌≡◌, ◌≤◌, ℕ, List, length, map, Vec, Global, sym, ap, ◌∙◌}
+use Rattle.dr_dispatch.specs.Job.{pairs, pairs_of}
 use Rattle.dr_board.specs.Shown.{first_state}
 use Rattle.dr_board.specs.Tablets.{new_tablet}
 use Rattle.dr_board.proofs.StateLemmas.{first_state_keeps, first_state_is}
