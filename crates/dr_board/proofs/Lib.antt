@@ -1,2 +1,4 @@
+pub mod MarkLemmas
+pub mod TabletLemmas
+pub mod StateLemmas
 pub mod BoardLemmas
-pub mod JobLemmas

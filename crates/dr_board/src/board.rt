@@ -1,13 +1,12 @@
-ghost use Rattle.std.specs.Prelude.{◌≡◌, ◌<◌, ◌≤◌, ◌^◌, ◌++◌, [], ◌∷◌, length, true, false, IfOk, IfSome, if◌then◌else◌};
+ghost use Rattle.std.specs.Prelude.{◌≡◌, ◌<◌, ◌≤◌, ◌^◌, length, true, IfOk, IfSome, if◌then◌else◌};
 ghost use Rattle.dr_dispatch.specs.History.{has_give, has_answer, is_recorded, after_event, is_history};
 ghost use Rattle.dr_dispatch.specs.Choice.{choice, after_take};
 ghost use Rattle.dr_dispatch.specs.Pieces.{KeepsPieces};
-ghost use Rattle.dr_board.specs.BoardShown.{empty_board, pieces_after};
+ghost use Rattle.dr_board.specs.Shown.{empty_board, pieces_after};
 
-use crate::choosing::choose;
-use crate::job::{Job, count_pairs};
+use crate::job::Job;
 use crate::piece::{Naming, Piece};
-use crate::recorded::{may_fail, was_answered, was_given};
+use crate::state::State;
 use dr_dispatch::{Event, Hand};
 use dr_memory::NoMemory;
 use dr_outside::Cause;
@@ -17,23 +16,20 @@ use std::marker::{Model, PhantomData};
 /// The history of a job so far, and a piece for each tablet that was answered. After it is made, no call takes memory.
 #[derive(Drop)]
 pub struct Board<P: Piece + Drop, N: Naming<P>> {
-    job: Job,
-    history: Vec<Event>,
+    state: State,
     pieces: Vec<P>,
     of: PhantomData<N>,
 }
 
 impl<P: Piece + Drop, N: Naming<P>> Model for Board<P, N> {
-    ghost use Rattle.std.specs.Prelude.{◌≡◌, ◌*◌, ◌^◌, ◌<◌, ◌≤◌, length, vec_capacity};
-    ghost use Rattle.dr_dispatch.specs.Job.{pairs};
-    ghost use Rattle.dr_dispatch.specs.Pieces.{KeepsPieces};
-    ghost use Rattle.dr_board.specs.BoardShown.{BoardShown};
+    ghost use Rattle.std.specs.Prelude.{vec_capacity};
+    ghost use Rattle.dr_board.specs.Shown.{BoardShown, KeepsBoard};
 
     ghost Value = { BoardShown P };
 
-    ghost view = { λ b. record { history = b.history.items; pieces = b.pieces.items } };
+    ghost view = { λ b. record { history = b.state.history; pieces = b.pieces.items } };
 
-    ghost invariant = { λ b. KeepsPieces N.job P.tablet_of N.is_true b.history.items b.pieces.items × (b.job ≡ N.job) × (length N.job.leaves ≤ 2 ^ 32) × (3 * pairs N.job ≤ vec_capacity b.history) × (3 * pairs N.job < 2 ^ 63) × (length N.job.leaves ≤ vec_capacity b.pieces) };
+    ghost invariant = { λ b. KeepsBoard N.job P.tablet_of N.is_true b.state b.pieces.items (vec_capacity b.pieces) };
 }
 
 /// What became of an answer.
@@ -58,17 +54,15 @@ impl<P: Piece + Drop, N: Naming<P>> Board<P, N> {
     /// for a piece a tablet.
     ///
     /// Errors: want of memory alone.
-    pub fn new(alloc: Global, job: Job) -> Result<Self, NoMemory>
-        requires job { job ≡ N.job }
-        requires tablets { length job.leaves ≤ 2 ^ 32 }
+    pub fn new(alloc: Global, job: &Job) -> Result<Self, NoMemory>
+        requires job { job.now ≡ N.job }
+        requires tablets { length job.now.leaves ≤ 2 ^ 32 }
         ensures { IfOk result (λ b. b ≡ empty_board) }
     {
-        let most_events = 3 * count_pairs(&job)?;
-        let history = Vec::with_capacity(alloc, most_events)?;
+        let state = State::new(alloc, job)?;
         let pieces = Vec::with_capacity(alloc, job.leaves.len())?;
         Ok(Board {
-            job,
-            history,
+            state,
             pieces,
             of: PhantomData,
         })
@@ -79,14 +73,14 @@ impl<P: Piece + Drop, N: Naming<P>> Board<P, N> {
         ensures count { result ≡ length self.now.history }
         ensures bound { result < 2 ^ 63 }
     {
-        self.history.len() as u64
+        self.state.len()
     }
 
     /// Whether the hand was given.
     pub fn was_given(&self, hand: Hand) -> bool
         ensures { result ≡ has_give self.now.history hand }
     {
-        was_given(self.history.as_slice(), hand)
+        self.state.was_given(hand)
     }
 
     /// Hands out the choice of the dispatch machine, if it has one.
@@ -99,11 +93,7 @@ impl<P: Piece + Drop, N: Naming<P>> Board<P, N> {
         ensures recorded { is_history N.job self.new.history ≡ true }
         ensures given { IfSome result (λ h. has_give self.new.history h ≡ true) }
     {
-        let Some(hand) = choose(&self.job, self.history.as_slice()) else {
-            return None;
-        };
-        self.history.push_reserved(Event::Give(hand));
-        Some(hand)
+        self.state.take()
     }
 
     /// Keeps the piece for the hand's tablet, unless the tablet was answered before: then the piece comes back.
@@ -118,10 +108,9 @@ impl<P: Piece + Drop, N: Naming<P>> Board<P, N> {
         // What follows from that.
         ensures recorded { is_history N.job self.new.history ≡ true }
     {
-        if was_answered(self.history.as_slice(), hand.tablet) {
+        if !self.state.record(Event::Answer(hand)) {
             return Told::Spare(piece);
         }
-        self.history.push_reserved(Event::Answer(hand));
         self.pieces.push_reserved(piece);
         Told::Kept
     }
@@ -135,11 +124,7 @@ impl<P: Piece + Drop, N: Naming<P>> Board<P, N> {
         // What follows from that.
         ensures recorded { is_history N.job self.new.history ≡ true }
     {
-        let fails = may_fail(self.history.as_slice(), hand);
-        if fails {
-            self.history.push_reserved(Event::Fault(hand, cause));
-        }
-        fails
+        self.state.record(Event::Fault(hand, cause))
     }
 
     /// The history and the pieces.
@@ -151,11 +136,13 @@ impl<P: Piece + Drop, N: Naming<P>> Board<P, N> {
         ensures kept { KeepsPieces N.job P.tablet_of N.is_true result.history.items result.pieces.items }
     {
         let Board {
-            job: _,
-            history,
+            state,
             pieces,
             of: _,
         } = self;
-        Closing { history, pieces }
+        Closing {
+            history: state.into_history(),
+            pieces,
+        }
     }
 }

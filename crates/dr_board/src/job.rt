@@ -1,8 +1,6 @@
-ghost use Rattle.std.specs.Prelude.{◌≡◌, ◌==◌, ◌*◌, ◌^◌, ◌<◌, map, IfOk};
-ghost use Rattle.std.specs.List.{list_any};
-ghost use Rattle.dr_dispatch.specs.Job.{leaves_at, pairs};
+ghost use Rattle.std.specs.Prelude.{◌≡◌, ◌*◌, ◌^◌, ◌<◌, IfOk};
+ghost use Rattle.dr_dispatch.specs.Job.{pairs};
 
-use dr_dispatch::Hand;
 use dr_memory::NoMemory;
 use std::marker::Model;
 
@@ -24,22 +22,6 @@ impl Model for Job {
     ghost Value = { JobShown };
 
     ghost view = { λ j. record { leaves = map (λ v. v.items) j.leaves.items; lag = j.lag } };
-}
-
-fn has_leaf(leaves: &[u32], leaf: u32) -> bool
-    ensures { result ≡ list_any (λ l. l == leaf) leaves.now }
-{
-    leaves.iter().any(|l| *l == leaf)
-}
-
-// Whether the hand's tablet can be read on its leaf.
-pub(crate) fn has_hand(leaves: &[Vec<u32>], hand: Hand) -> bool
-    ensures { result ≡ list_any (λ l. l == hand.leaf) (leaves_at (map (λ v. v.items) leaves.now) hand.tablet) }
-{
-    match leaves.get(hand.tablet as usize) {
-        Some(leaves) => has_leaf(leaves.as_slice(), hand.leaf),
-        None => false,
-    }
 }
 
 // The number of pairs of a tablet and a leaf of it. Where three times that are no number of events, there is no room for them.

@@ -6,8 +6,9 @@ mod board;
 mod choosing;
 mod job;
 mod piece;
-mod recorded;
 mod replaying;
+mod state;
+mod tablet;
 #[cfg(test)]
 mod tests;
 
@@ -17,3 +18,4 @@ pub use dr_memory::NoMemory;
 pub use job::Job;
 pub use piece::{Naming, Piece};
 pub use replaying::replay;
+pub use state::State;

@@ -1,37 +1,23 @@
-ghost use Rattle.std.specs.Prelude.{◌≡◌, IfOk};
-ghost use Rattle.dr_dispatch.specs.History.{is_recorded, replayed};
+ghost use Rattle.std.specs.Prelude.{◌≡◌, ◌≤◌, ◌^◌, length, IfOk};
+ghost use Rattle.dr_dispatch.specs.History.{replayed};
 
-use crate::job::{Job, has_hand};
-use crate::recorded::{may_fail, was_answered, was_given};
-use dr_dispatch::{Event, Hand};
+use crate::job::Job;
+use crate::state::State;
+use dr_dispatch::Event;
 use dr_memory::NoMemory;
 use std::alloc::Global;
 
-fn may_be_recorded(job: &Job, history: &[Event], event: &Event) -> bool
-    ensures { result ≡ is_recorded job.now history.now event.now }
-{
-    match *event {
-        Event::Give(hand) => {
-            has_hand(job.leaves.as_slice(), hand)
-                && !was_answered(history, hand.tablet)
-                && !was_given(history, hand)
-        }
-        Event::Answer(hand) => was_given(history, hand) && !was_answered(history, hand.tablet),
-        Event::Fault(hand, _) => may_fail(history, hand),
-    }
-}
-
-/// The history that a list of events records: the list without the events that aren't recorded at their place.
+/// The state after a list of events, of which those that aren't recorded at their place change nothing.
 ///
 /// Errors: want of memory alone.
-pub fn replay(alloc: Global, job: &Job, events: &[Event]) -> Result<Vec<Event>, NoMemory>
-    ensures { IfOk result (λ history. history.items ≡ replayed job.now events.now) }
+pub fn replay(alloc: Global, job: &Job, events: &[Event]) -> Result<State, NoMemory>
+    requires { length job.now.leaves ≤ 2 ^ 32 }
+    ensures job { IfOk result (λ state. state.job ≡ job.now) }
+    ensures history { IfOk result (λ state. state.history ≡ replayed job.now events.now) }
 {
-    let mut history = Vec::new(alloc);
+    let mut state = State::new(alloc, job)?;
     'events: for event in events {
-        if may_be_recorded(job, history.as_slice(), event) {
-            history.push(*event)?;
-        }
+        let _ = state.record(*event);
     }
-    Ok(history)
+    Ok(state)
 }

@@ -67,11 +67,11 @@ fn answer<N: Naming<Read>>(rt: &impl Abort, board: &mut Board<Read, N>, hand: Ha
 fn run<N: Naming<Read>>(
     rt: &impl Abort,
     alloc: Global,
-    job: Job,
+    job: &Job,
     calls: &[Call],
 ) -> Result<Closing<Read>, NoMemory>
-    requires job { job ≡ N.job }
-    requires tablets { length job.leaves ≤ 2 ^ 32 }
+    requires job { job.now ≡ N.job }
+    requires tablets { length job.now.leaves ≤ 2 ^ 32 }
     requires truth { (t : ℕ) (r : Read) → N.is_true t r }
 {
     let mut board: Board<Read, N> = Board::new(alloc, job)?;
@@ -85,10 +85,10 @@ fn run<N: Naming<Read>>(
 fn follow(
     rt: &impl Abort,
     alloc: Global,
-    job: Job,
+    job: &Job,
     calls: &[Call],
 ) -> Result<Closing<Read>, NoMemory>
-    requires { length job.leaves ≤ 2 ^ 32 }
+    requires { length job.now.leaves ≤ 2 ^ 32 }
 {
     run::<Brand>(rt, alloc, job, calls)
 }
@@ -125,7 +125,7 @@ fn a_failed_tablet_is_handed_out_on_its_second_leaf(rt: HostRuntime) -> Result<(
         Call::FaultIs(hand(0, 1), false),
         Call::TakeGivesNone,
     ];
-    let closing = follow(&rt, alloc, job_of_one(alloc, &[0, 1], 1)?, &calls)?;
+    let closing = follow(&rt, alloc, &job_of_one(alloc, &[0, 1], 1)?, &calls)?;
     let history = [
         Event::Give(hand(0, 0)),
         Event::Fault(hand(0, 0), CAUSE),
@@ -155,7 +155,7 @@ fn a_late_tablet_is_handed_out_again_when_the_lag_is_reached(rt: HostRuntime) ->
         Call::AnswerIsSpare(hand(0, 1)),
         Call::TakeGivesNone,
     ];
-    let closing = follow(&rt, alloc, job_of_two(alloc, &[0, 1], &[1, 0], 2)?, &calls)?;
+    let closing = follow(&rt, alloc, &job_of_two(alloc, &[0, 1], &[1, 0], 2)?, &calls)?;
     let pieces = [Read { from: hand(1, 1) }, Read { from: hand(0, 0) }];
     assert_eq!(rt; closing.history.len(), 5);
     assert_eq!(rt; closing.pieces.as_slice(), pieces.as_slice());
@@ -164,7 +164,7 @@ fn a_late_tablet_is_handed_out_again_when_the_lag_is_reached(rt: HostRuntime) ->
         Call::AnswerIsKept(hand(0, 7)),
         Call::TakeGivesNone,
     ];
-    let closing = follow(&rt, alloc, job_of_one(alloc, &[7], 9)?, &single)?;
+    let closing = follow(&rt, alloc, &job_of_one(alloc, &[7], 9)?, &single)?;
     assert_eq!(rt; closing.pieces.len(), 1);
     Ok(())
 }
@@ -183,9 +183,13 @@ fn a_list_of_events_is_replayed(rt: HostRuntime) -> Result<(), Fail> {
         Event::Fault(hand(0, 0), CAUSE),
     ];
     let history = [Event::Give(hand(0, 0)), Event::Answer(hand(0, 0))];
-    assert_eq!(rt;
-        replay(alloc, &job, &events)?.as_slice(),
-        history.as_slice()
-    );
+    let mut state = replay(alloc, &job, &events)?;
+    assert_eq!(rt; state.history(), history.as_slice());
+    assert_eq!(rt; state.len(), 2);
+    assert!(rt; state.was_given(hand(0, 0)));
+    assert!(rt; !state.was_given(hand(0, 1)));
+    assert_eq!(rt; state.take(), None);
+    assert!(rt; !state.record(Event::Give(hand(0, 1))));
+    assert_eq!(rt; state.into_history().as_slice(), history.as_slice());
     Ok(())
 }

@@ -1,5 +1,5 @@
 -- What the calls of a desk tell a pass.
-use Rattle.std.specs.Prelude.{◌≡◌, ℕ, true, false, List, [], Some}
+use Rattle.std.specs.Prelude.{◌≡◌, Bool, true, false, List, [], Some}
 use mathlib.Core.List.{IsPrefix}
 use Rattle.dr_dispatch.specs.Job.{Job}
 use Rattle.dr_dispatch.specs.History.{has_answer, is_recorded}
@@ -7,7 +7,8 @@ use Rattle.dr_dispatch.specs.Choice.{choice}
 use Rattle.dr_dispatch.specs.Seen.{adds}
 use Rattle.dr_dispatch.specs.declared.event.Hand.{Hand}
 use Rattle.dr_dispatch.specs.declared.event.Event.{Event}
-use Rattle.dr_dispatch.specs.declared.event.Event.TheVariants.{Give, Answer}
+use Rattle.dr_dispatch.specs.declared.event.Event.TheVariants.{Give, Answer, Fault}
+use Rattle.dr_outside.specs.declared.cause.Cause.{Cause}
 use Rattle.dr_board.specs.declared.board.Told.{Told}
 use Rattle.dr_board.specs.declared.board.Told.TheVariants.{Kept, Spare}
 use Rattle.dr_dispatch.specs.declared.seen.PassShown.{PassShown}
@@ -27,9 +28,14 @@ pub record Takes (j : Job) (h : Hand) (before after : PassShown) : Type 0 where
   pub added : after ≡ adds history (Give h) before
 
 -- an answer: its piece was kept and the event is the pass's own, or the tablet was answered before and the piece came back
-abbrev pub IsTold : {P : Type 0} → Job → Hand → P → PassShown → PassShown → Told P → Type 0
-IsTold j h piece before after Kept = Adds j (Answer h) before after
-IsTold j h piece before after (Spare back) = (back ≡ piece) × (has_answer after.seen h.tablet ≡ true) × (after.own ≡ before.own)
+abbrev pub IsAnswerTold : {P : Type 0} → Job → Hand → P → PassShown → PassShown → Told P → Type 0
+IsAnswerTold j h piece before after Kept = Adds j (Answer h) before after
+IsAnswerTold j h piece before after (Spare back) = (back ≡ piece) × (has_answer after.seen h.tablet ≡ true) × (after.own ≡ before.own)
+
+-- a fault: it was recorded and the event is the pass's own, or it isn't recorded and the pass has no more of its own
+abbrev pub IsFaultTold : Job → Hand → Cause → PassShown → PassShown → Bool → Type 0
+IsFaultTold j h cause before after true = Adds j (Fault h cause) before after
+IsFaultTold j h cause before after false = (is_recorded j after.seen (Fault h cause) ≡ false) × (after.own ≡ before.own)
 
 -- a pass that has seen nothing
 abbrev pub new_pass : PassShown

@@ -1,6 +1,5 @@
 -- The rule of the table beside the lock.
-use Rattle.std.specs.Prelude.{◌≡◌, ℕ, List, [], ◌∷◌, length, None, Some}
-use Rattle.std.specs.declared.option.Option.{Option}
+use Rattle.std.specs.Prelude.{◌≡◌, ℕ, List, [], ◌∷◌, length}
 use mathlib.Core.Option.{some}
 use Rattle.atomic_table.specs.Table.{State, Step, Me}
 use Rattle.atomic_table.specs.Seated.{TableId}

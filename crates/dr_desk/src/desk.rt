@@ -4,7 +4,7 @@ ghost use Rattle.dr_dispatch.specs.History.{has_give, has_answer, has_fault, is_
 ghost use Rattle.dr_dispatch.specs.Choice.{choice};
 ghost use Rattle.dr_dispatch.specs.Pieces.{KeepsPieces};
 ghost use Rattle.dr_dispatch.specs.Seen.{AreOfHistory};
-ghost use Rattle.dr_desk.specs.Calls.{new_pass, Adds, Takes, IsTold};
+ghost use Rattle.dr_desk.specs.Calls.{new_pass, Takes, IsAnswerTold, IsFaultTold};
 
 use crate::ground::Ground;
 use crate::locked::Locked;
@@ -85,7 +85,7 @@ impl<P: Piece + Drop, N: Naming<P>, B: Room> Desk<P, N, B> {
         requires truth { N.is_true hand.tablet piece }
         ensures earlier { IsPrefix pass.old.seen pass.new.seen }
         ensures recorded { is_history N.job pass.new.seen ≡ true }
-        ensures told { IsTold N.job hand piece pass.old pass.new result }
+        ensures told { IsAnswerTold N.job hand piece pass.old pass.new result }
     {
         self.lock
             .lock(rt)
@@ -96,8 +96,7 @@ impl<P: Piece + Drop, N: Naming<P>, B: Room> Desk<P, N, B> {
     pub fn fault<R: Wait>(&self, rt: &R, pass: &mut Pass<B>, hand: Hand, cause: Cause) -> bool
         ensures earlier { IsPrefix pass.old.seen pass.new.seen }
         ensures recorded { is_history N.job pass.new.seen ≡ true }
-        ensures told { MatchBool result (Adds N.job (Event.Fault hand cause) pass.old pass.new) (is_recorded N.job pass.new.seen (Event.Fault hand cause) ≡ false) }
-        ensures own { result ≡ false → pass.new.own ≡ pass.old.own }
+        ensures told { IsFaultTold N.job hand cause pass.old pass.new result }
 
         // What follows from that.
         ensures settled { has_give pass.old.seen hand ≡ true → (has_fault pass.new.seen hand || has_answer pass.new.seen hand.tablet) ≡ true }

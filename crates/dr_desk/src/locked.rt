@@ -1,10 +1,10 @@
 // What lies under the lock: the board, and the seat that keeps its history.
-ghost use Rattle.std.specs.Prelude.{◌≡◌, ◌<◌, true, IfSome, IfNone, if◌then◌else◌};
+ghost use Rattle.std.specs.Prelude.{◌≡◌, ◌<◌, true, false, IfSome, IfNone, if◌then◌else◌};
 ghost use mathlib.Core.List.{IsPrefix};
 ghost use Rattle.dr_dispatch.specs.History.{has_give, has_answer, is_recorded, after_event, is_history};
 ghost use Rattle.dr_dispatch.specs.Choice.{choice, after_take};
 ghost use Rattle.dr_dispatch.specs.Seen.{adds, looks};
-ghost use Rattle.dr_board.specs.BoardShown.{pieces_after};
+ghost use Rattle.dr_board.specs.Shown.{pieces_after};
 
 use crate::pass::Pass;
 use crate::room::Room;
@@ -23,7 +23,7 @@ pub(crate) struct Locked<P: Piece + Drop, N: Naming<P>, B: Room> {
 }
 
 impl<P: Piece + Drop, N: Naming<P>, B: Room> Model for Locked<P, N, B> {
-    ghost use Rattle.dr_board.specs.BoardShown.{BoardShown};
+    ghost use Rattle.dr_board.specs.Shown.{BoardShown};
     ghost use Rattle.dr_desk.specs.Locked.{HasKeeper};
 
     ghost Value = { BoardShown P };
@@ -73,7 +73,8 @@ impl<P: Piece + Drop, N: Naming<P>, B: Room> Locked<P, N, B> {
         ensures pieces { self.new.pieces ≡ pieces_after self.old hand.tablet piece }
         ensures recorded { is_history N.job self.new.history ≡ true }
         ensures earlier { IsPrefix pass.old.seen self.old.history }
-        ensures pass { pass.new ≡ (if has_answer self.old.history hand.tablet then looks self.old.history pass.old else adds self.old.history (Event.Answer hand) pass.old) }
+        ensures kept { has_answer self.old.history hand.tablet ≡ false → pass.new ≡ adds self.old.history (Event.Answer hand) pass.old }
+        ensures spare { has_answer self.old.history hand.tablet ≡ true → pass.new ≡ looks self.old.history pass.old }
     {
         let Some(keeper) = self.keeper.take() else {
             unreachable!();

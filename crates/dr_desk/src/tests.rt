@@ -174,7 +174,7 @@ fn run<N: Naming<Read> + Send + Sync, B: Room + Send + Sync, R: Threads + Wait +
     requires tablets { length job.leaves ≤ 2 ^ 32 }
     requires truth { (t : ℕ) (r : Read) → N.is_true t r }
 {
-    let board: Board<Read, N> = Board::new(alloc, job)?;
+    let board: Board<Read, N> = Board::new(alloc, &job)?;
     let (desk, mut passes) = Desk::<Read, N, B>::new(alloc, ground, board, 2)?;
     if course == Course::TwoThreads {
         work_in_two_threads(rt, &desk, passes.as_mut_slice());

@@ -1,17 +1,16 @@
 -- A history has at most three events for each pair of a tablet and a leaf of it, and answers no more tablets than there are: each event
 -- raises a score of the pairs that is at most three each, and each answer raises the number of answered tablets.
-use Rattle.std.proofs.Common.{◌≡◌, ℕ, zero, suc, ◌+◌, ◌*◌, ◌<◌, ◌≤◌, List, [], ◌∷◌, ◌++◌, length, Bool, true, false, ◌||◌, not, refl, sym, ap, ◌∙◌, subst, append-nil, length-append, true≢false, arith, zero-add, eq-eqb, ⊎_elim}
+use Rattle.std.proofs.Common.{◌≡◌, ℕ, zero, suc, ◌+◌, ◌*◌, ◌<◌, ◌≤◌, List, [], ◌∷◌, ◌++◌, length, Bool, true, false, ◌||◌, refl, sym, ap, ◌∙◌, subst, append-nil, length-append, true≢false, arith, zero-add, eq-eqb, ⊎_elim}
 use Rattle.std.specs.Prelude.{◌==◌}
 use Rattle.std.specs.List.{list_any}
-use Rattle.std.proofs.lemmas.Bool.{and_parts, or_cases, eqb-true}
-use Rattle.std.proofs.lemmas.List.Folds.{list_any-append}
+use Rattle.std.proofs.lemmas.Bool.{and_parts, or_cases, eqb-true, not-true}
 use Rattle.dr_dispatch.specs.Job.{Job, leaves_at, hand, pairs_of}
 use Rattle.dr_dispatch.specs.History.{same_hand, gives, answers, faults, has_give, has_answer, has_fault, is_recorded, is_history, answered}
 use Rattle.dr_dispatch.specs.HistoryLaws.{HistoryIsBounded, AnsweredAreTablets}
 use Rattle.dr_dispatch.specs.declared.event.Hand.{Hand}
 use Rattle.dr_dispatch.specs.declared.event.Event.{Event}
 use Rattle.dr_dispatch.specs.declared.event.Event.TheVariants.{Give, Answer, Fault}
-use Rattle.dr_dispatch.proofs.HistoryLemmas.{same_self, by_events, answered-append}
+use Rattle.dr_dispatch.proofs.HistoryLemmas.{same_self, any_push, by_events, answered-append}
 
 abbrev bit : Bool → ℕ
 bit true = 1
@@ -70,14 +69,11 @@ module _ (f g : ℕ → ℕ) (le : (l : ℕ) → f l ≤ g l) where
 abbrev score : List Event → Hand → ℕ
 score es h = bit (has_give es h) + bit (has_fault es h) + bit (has_answer es h.tablet)
 
-any_push : (p : Event → Bool) (es : List Event) (e : Event) → list_any p (es ++ e ∷ []) ≡ (list_any p es || (p e || false))
-any_push p es e = list_any-append p es (e ∷ [])
-
 bits_grow : (p : Event → Bool) (es : List Event) (e : Event) → bit (list_any p es) ≤ bit (list_any p (es ++ e ∷ []))
-bits_grow p es e = rw (any_push p es e) (bit_grows (list_any p es) (p e || false))
+bits_grow p es e = rw (any_push p es e) (bit_grows (list_any p es) (p e))
 
 bits_rise : (p : Event → Bool) (es : List Event) (e : Event) → list_any p es ≡ false → p e ≡ true → bit (list_any p es) < bit (list_any p (es ++ e ∷ []))
-bits_rise p es e none is = rw (any_push p es e) (bit_rises (list_any p es) (p e || false) none (ap (λ b. b || false) is))
+bits_rise p es e none is = rw (any_push p es e) (bit_rises (list_any p es) (p e) none is)
 
 score_grows : (es : List Event) (e : Event) (h : Hand) → score es h ≤ score (es ++ e ∷ []) h
 score_grows es e h = omega (arith, bits_grow (gives h) es e, bits_grow (faults h) es e, bits_grow (answers h.tablet) es e)
@@ -87,19 +83,15 @@ hand_of (Give h) = h
 hand_of (Answer h) = h
 hand_of (Fault h cause) = h
 
-not_false : (b : Bool) → not b ≡ true → b ≡ false
-not_false true e = absurd (true≢false (sym e))
-not_false false e = refl
-
 score_rises : (j : Job) (es : List Event) (e : Event) → is_recorded j es e ≡ true → score es (hand_of e) < score (es ++ e ∷ []) (hand_of e)
 score_rises j es (Give h) r =
-    let rise = bits_rise (gives h) es (Give h) (not_false _ (and_parts _ _ r).1) (same_self h) in
+    let rise = bits_rise (gives h) es (Give h) (not-true _ (and_parts _ _ r).1) (same_self h) in
     omega (arith, rise, bits_grow (faults h) es (Give h), bits_grow (answers h.tablet) es (Give h))
 score_rises j es (Answer h) r =
-    let rise = bits_rise (answers h.tablet) es (Answer h) (not_false _ (and_parts _ _ r).1) (eq-eqb h.tablet h.tablet refl) in
+    let rise = bits_rise (answers h.tablet) es (Answer h) (not-true _ (and_parts _ _ r).1) (eq-eqb h.tablet h.tablet refl) in
     omega (arith, rise, bits_grow (faults h) es (Answer h), bits_grow (gives h) es (Answer h))
 score_rises j es (Fault h cause) r =
-    let rise = bits_rise (faults h) es (Fault h cause) (not_false _ (and_parts _ _ (and_parts _ _ r).0).1) (same_self h) in
+    let rise = bits_rise (faults h) es (Fault h cause) (not-true _ (and_parts _ _ (and_parts _ _ r).0).1) (same_self h) in
     omega (arith, rise, bits_grow (gives h) es (Fault h cause), bits_grow (answers h.tablet) es (Fault h cause))
 
 -- ---- the hands of a history are of the job
@@ -113,18 +105,14 @@ OfJob j es = (h : Hand) → has_give es h ≡ true → is_of_job j h ≡ true
 pub same_is : (g h : Hand) → same_hand g h ≡ true → g ≡ h
 same_is g h e = let p = and_parts _ _ e in λ i. record { tablet = eqb-true g.tablet h.tablet p.0 i; leaf = eqb-true g.leaf h.leaf p.1 i }
 
-or_false : (b : Bool) → (b || false) ≡ true → b ≡ true
-or_false true e = refl
-or_false false e = e
-
 is_given : (j : Job) (h : Hand) (e : Event) → (g : Hand) → e ≡ Give g → is_of_job j g ≡ true → gives h e ≡ true → is_of_job j h ≡ true
 is_given j h e g is of given = subst (λ (x : Hand). is_of_job j x ≡ true) (same_is g h (subst (λ (x : Event). gives h x ≡ true) is given)) of
 
 module _ (j : Job) (es : List Event) (of : OfJob j es) where
   others_of_job : (e : Event) → ((h : Hand) → gives h e ≡ true → is_of_job j h ≡ true) → OfJob j (es ++ e ∷ [])
   others_of_job e new h given =
-      ⊎_elim (of h) (λ (g : (gives h e || false) ≡ true). new h (or_false (gives h e) g))
-      (or_cases (has_give es h) (gives h e || false) (sym (any_push (gives h) es e) ∙ given))
+      ⊎_elim (of h) (new h)
+      (or_cases (has_give es h) (gives h e) (sym (any_push (gives h) es e) ∙ given))
 
   step_of_job : (e : Event) → is_recorded j es e ≡ true → OfJob j (es ++ e ∷ [])
   step_of_job (Give g) r = others_of_job (Give g) (λ h same. is_given j h (Give g) g refl (and_parts _ _ (and_parts _ _ r).0).0 same)
@@ -159,7 +147,7 @@ step_answers : (j : Job) (es : List Event) (e : Event) → Counted j es → is_r
 step_answers j es (Answer h) c r =
     let in_job = is_tablet j.leaves h.tablet h.leaf (hand_of_job j es c.of_job (Answer h) r) in
     let rise = total_rises (row_answer es) (row_answer (es ++ Answer h ∷ [])) (λ t leaves. bits_grow (answers t) es (Answer h)) 0 h.tablet h.tablet j.leaves in_job (zero-add h.tablet)
-    (bits_rise (answers h.tablet) es (Answer h) (not_false _ (and_parts _ _ r).1) (eq-eqb h.tablet h.tablet refl)) in
+    (bits_rise (answers h.tablet) es (Answer h) (not-true _ (and_parts _ _ r).1) (eq-eqb h.tablet h.tablet refl)) in
     omega (arith, rise, c.answers, ap (λ (ts : List ℕ). length ts) (answered-append es (Answer h ∷ [])), length-append (answered es) (h.tablet ∷ []))
 step_answers j es (Give h) c r =
     omega (

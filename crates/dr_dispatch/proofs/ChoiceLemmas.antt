@@ -2,7 +2,8 @@
 use Rattle.std.proofs.Common.{◌≡◌, ℕ, zero, suc, ◌+◌, ◌<◌, List, [], ◌∷◌, length, Bool, true, false, ◌&&◌, ◌||◌, not, Option, Some, None, refl, sym, ap, ap₂, ◌∙◌, subst, true≢false, arith, add-zero, zero-add, eq-eqb, ⊎_elim, ◌⊎◌, inl, inr}
 use Rattle.std.specs.Prelude.{◌==◌, nat_le, nat_lt, if◌then◌else◌, IsSome}
 use Rattle.std.specs.List.{list_any, list_all}
-use Rattle.std.proofs.lemmas.Bool.{and_parts}
+use Rattle.std.proofs.lemmas.Bool.{and_parts, not-true}
+use Rattle.std.proofs.Math.Bool.{or-false}
 use Rattle.std.proofs.lemmas.Bool.Decides.{nat_tests}
 use Rattle.dr_dispatch.specs.Job.{Job, hand, leaves_at}
 use Rattle.dr_dispatch.specs.History.{has_give, has_answer, has_fault}
@@ -102,10 +103,6 @@ pub record IsOpenTablet (j : Job) (es : List Event) (h : Hand) : Type 0 where
   pub unanswered : has_answer es h.tablet ≡ false
   pub unused : has_give es h ≡ false
 
-not_false : (b : Bool) → not b ≡ true → b ≡ false
-not_false true e = absurd (true≢false (sym e))
-not_false false e = refl
-
 opened : (j : Job) (es : List Event) (h : Hand) (test : ℕ → List ℕ → Bool)
     → Picks (λ t leaves. if not (has_answer es t) && test t leaves then first_open es t leaves else None) j.leaves 0 h → IsOpenTablet j es h
 opened j es h test p =
@@ -114,7 +111,7 @@ opened j es h test p =
     let same : p.place ≡ h.tablet = sym (zero-add p.place) ∙ (p.number ∙ sym is.tablet) in
     record {
       leaf = subst (λ (t : ℕ). list_any (λ l. l == h.leaf) (leaves_at j.leaves t) ≡ true) same is.leaf;
-      unanswered = subst (λ (t : ℕ). has_answer es t ≡ false) (sym is.tablet) (not_false _ (and_parts _ _ both.0).0);
+      unanswered = subst (λ (t : ℕ). has_answer es t ≡ false) (sym is.tablet) (not-true _ (and_parts _ _ both.0).0);
       unused = is.unused;
     }
 
@@ -198,19 +195,11 @@ failed_tablet_is_chosen j es t w unanswered open_leaf failed =
 
 -- ---- where no leaf is at work
 
-or_true : (a : Bool) → (a || true) ≡ true
-or_true true = refl
-or_true false = refl
-
 settled_fails : (es : List Event) (h : Hand) → IsSettled es → has_answer es h.tablet ≡ false → (not (has_give es h) || has_fault es h) ≡ true
 settled_fails es h settled unanswered = at (has_give es h) refl
   where
-    or_none : (a : Bool) → (a || false) ≡ a
-    or_none true = refl
-    or_none false = refl
-
     at : (b : Bool) → has_give es h ≡ b → (not b || has_fault es h) ≡ true
-    at true is = sym (or_none (has_fault es h)) ∙ (ap (λ b. has_fault es h || b) (sym unanswered) ∙ settled h is)
+    at true is = sym (or-false (has_fault es h)) ∙ (ap (λ b. has_fault es h || b) (sym unanswered) ∙ settled h is)
     at false is = refl
 
 all_settled : (es : List Event) (t : ℕ) (leaves : List ℕ) → IsSettled es → has_answer es t ≡ false → all_failed es t leaves ≡ true

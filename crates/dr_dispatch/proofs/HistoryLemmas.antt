@@ -3,13 +3,14 @@ use Rattle.std.proofs.Common.{◌≡◌, ℕ, List, [], ◌∷◌, ◌++◌, Boo
 use Rattle.std.specs.Prelude.{nat_eq, ◌==◌, if◌then◌else◌}
 use Rattle.std.specs.List.{list_any, IsDistinct}
 use Rattle.std.proofs.lemmas.Bool.{and_parts}
+use Rattle.std.proofs.Math.Bool.{and-true, or-true, or-false}
 use Rattle.std.proofs.lemmas.Bool.Decides.{nat_tests}
 use Rattle.std.proofs.lemmas.List.Folds.{list_any-append}
 use mathlib.Core.List.{IsPrefix}
 use Rattle.std.proofs.lemmas.Cmp.{nat_eq_equiv}
 use Rattle.std.proofs.lemmas.Map.Keys.{IsDistinct-push}
 use Rattle.dr_dispatch.specs.Job.{Job}
-use Rattle.dr_dispatch.specs.History.{same_hand, gives, has_give, is_recorded, after_event, after_events, replayed, goes_on, is_history, has_answer, answers, answered}
+use Rattle.dr_dispatch.specs.History.{same_hand, gives, has_give, is_recorded, after_event, after_events, goes_on, is_history, answered}
 use Rattle.dr_dispatch.specs.HistoryLaws.{ReplayIsHistory, HistoryReplaysToItself, FrontIsHistory, HistoryGoesOn, AnsweredHaveAnswers, AnsweredAreDistinct}
 use Rattle.dr_dispatch.specs.declared.event.Hand.{Hand}
 use Rattle.dr_dispatch.specs.declared.event.Event.{Event}
@@ -18,10 +19,6 @@ use Rattle.dr_dispatch.specs.declared.event.Event.TheVariants.{Give, Answer, Fau
 and_assoc : (a b c : Bool) → (a && (b && c)) ≡ ((a && b) && c)
 and_assoc true b c = refl
 and_assoc false b c = refl
-
-true_right : (a : Bool) → (a && true) ≡ a
-true_right true = refl
-true_right false = refl
 
 goes_on-append : (j : Job) (history xs ys : List Event) → goes_on j history (xs ++ ys) ≡ (goes_on j history xs && goes_on j (history ++ xs) ys)
 goes_on-append j history [] ys = ap (λ (es : List Event). goes_on j es ys) (sym (append-nil history))
@@ -36,7 +33,7 @@ front_is_history j front rest h = (and_parts (is_history j front) (goes_on j fro
 pub history_goes_on : HistoryGoesOn
 history_goes_on j history e h =
     goes_on-append j [] history (e ∷ [])
-    ∙ (ap (λ b. b && (is_recorded j history e && true)) h ∙ true_right (is_recorded j history e))
+    ∙ (ap (λ b. b && (is_recorded j history e && true)) h ∙ and-true (is_recorded j history e))
 
 -- a history with an event that is recorded behind it
 pub one_more : (j : Job) (history : List Event) (e : Event) → is_history j history ≡ true → is_recorded j history e ≡ true → is_history j (history ++ e ∷ []) ≡ true
@@ -115,19 +112,18 @@ none_answered = tt
 pub answered_are_distinct : AnsweredAreDistinct
 answered_are_distinct j history h = by_events j (λ es. IsDistinct nat_eq (answered es)) (distinct_step j) none_answered history h
 
--- ---- what was given stays given
+-- ---- an event more, and what was given stays given
+
+-- a test of some event, with one event more
+pub any_push : (p : Event → Bool) (es : List Event) (e : Event) → list_any p (es ++ e ∷ []) ≡ (list_any p es || p e)
+any_push p es e = list_any-append p es (e ∷ []) ∙ ap (λ b. list_any p es || b) (or-false (p e))
 
 pub same_self : (h : Hand) → same_hand h h ≡ true
 same_self h = ap₂ (λ a b. a && b) (eq-eqb h.tablet h.tablet refl) (eq-eqb h.leaf h.leaf refl)
 
-or_true : (a : Bool) → (a || true) ≡ true
-or_true true = refl
-or_true false = refl
-
 -- a hand that was just given
 pub has_give-push : (history : List Event) (h : Hand) → has_give (history ++ Give h ∷ []) h ≡ true
-has_give-push history h =
-    list_any-append (gives h) history (Give h ∷ []) ∙ (ap (λ b. has_give history h || (b || false)) (same_self h) ∙ or_true (has_give history h))
+has_give-push history h = any_push (gives h) history (Give h) ∙ (ap (λ b. has_give history h || b) (same_self h) ∙ or-true (has_give history h))
 
 -- a hand that was given in a history is given in each that begins with it
 pub has_give-longer : (history longer : List Event) (h : Hand) → IsPrefix history longer → has_give history h ≡ true → has_give longer h ≡ true

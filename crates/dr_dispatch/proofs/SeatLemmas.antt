@@ -3,6 +3,7 @@ use Rattle.std.proofs.Common.{◌≡◌, ◌≢◌, ◌⊎◌, ℕ, zero, suc, �
 use Rattle.std.specs.Prelude.{◌==◌, if◌then◌else◌}
 use Rattle.std.specs.List.{list_any}
 use Rattle.std.proofs.lemmas.Bool.{or_cases}
+use Rattle.std.proofs.Math.Bool.{or-true}
 use Rattle.std.proofs.lemmas.List.Folds.{list_any-append}
 use mathlib.Core.List.{IsPrefix}
 use mathlib.Core.Option.{some, some-injective, some-ne-none}
@@ -28,11 +29,7 @@ place_left : (p : ℕ) (xs ys : List ℕ) → has_place p xs ≡ true → has_pl
 place_left p xs ys h = place-append p xs ys ∙ ap (λ b. b || has_place p ys) h
 
 place_right : (p : ℕ) (xs ys : List ℕ) → has_place p ys ≡ true → has_place p (xs ++ ys) ≡ true
-place_right p xs ys h = place-append p xs ys ∙ (ap (λ b. has_place p xs || b) h ∙ or_true (has_place p xs))
-  where
-    or_true : (b : Bool) → (b || true) ≡ true
-    or_true true = refl
-    or_true false = refl
+place_right p xs ys h = place-append p xs ys ∙ (ap (λ b. has_place p xs || b) h ∙ or-true (has_place p xs))
 
 place_cases : (p : ℕ) (xs ys : List ℕ) → has_place p (xs ++ ys) ≡ true → (has_place p xs ≡ true) ⊎ (has_place p ys ≡ true)
 place_cases p xs ys h = or_cases (has_place p xs) (has_place p ys) (sym (place-append p xs ys) ∙ h)

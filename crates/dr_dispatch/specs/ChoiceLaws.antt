@@ -33,7 +33,8 @@ NoChoiceExactly = (j : Job) (history : List Event) → (choice j history ≡ Non
 
 -- where a tablet without an answer has a leaf that it wasn't handed out on, and each of its hand-outs failed, there is a choice
 abbrev pub FailedTabletIsChosen : Type 0
-FailedTabletIsChosen = (j : Job) (history : List Event) (t : ℕ) → t < length j.leaves → has_answer history t ≡ false → all_given history t (leaves_at j.leaves t) ≡ false
+FailedTabletIsChosen = (j : Job) (history : List Event) (t : ℕ) → t < length j.leaves → has_answer history t ≡ false
+    → all_given history t (leaves_at j.leaves t) ≡ false
     → all_failed history t (leaves_at j.leaves t) ≡ true → IsSome (choice j history)
 
 -- each hand that was given failed, or its tablet was answered: no leaf is at work

@@ -19,7 +19,8 @@ FirstKeeps = IsKept (keeper_at [] ∷ []) 0
 
 -- the keeper knows how long the history is, and how what it met fits to it
 abbrev pub KeeperKnows : Type 0
-KeeperKnows = (views : List SeatView) (count k : ℕ) (v : SeatView) → IsKept views count → IsKeeperAt views k v → (length v.seen ≡ count) × MetFits v.seen v.own v.met
+KeeperKnows = (views : List SeatView) (count k : ℕ) (v : SeatView) → IsKept views count → IsKeeperAt views k v
+    → (length v.seen ≡ count) × MetFits v.seen v.own v.met
 
 -- a look of the keeper
 abbrev pub LookKeeps : Type 0
@@ -27,25 +28,30 @@ LookKeeps = (views : List SeatView) (count k : ℕ) (v : SeatView) → IsKept vi
 
 -- the keeper adds an event, and the count is one more
 abbrev pub AddKeeps : Type 0
-AddKeeps = (views : List SeatView) (count k : ℕ) (v : SeatView) (e : Event) → IsKept views count → IsKeeperAt views k v → IsKept (slice_set views k (added count e v)) (count + 1)
+AddKeeps = (views : List SeatView) (count k : ℕ) (v : SeatView) (e : Event) → IsKept views count → IsKeeperAt views k v
+    → IsKept (slice_set views k (added count e v)) (count + 1)
 
 -- the keeper's seat joins a pass's
 abbrev pub HandKeeps : Type 0
-HandKeeps = (views : List SeatView) (count k : ℕ) (v : SeatView) (other : ℕ) (w : SeatView) → IsKept views count → get_elem? views k ≡ some v → other ≢ k → IsKeeperAt views other w
+HandKeeps = (views : List SeatView) (count k : ℕ) (v : SeatView) (other : ℕ) (w : SeatView) → IsKept views count → get_elem? views k ≡ some v
+    → other ≢ k → IsKeeperAt views other w
     → IsKept (slice_set (slice_set views k (handed v w)) other spent) count
 
 -- a pass's seat joins the keeper's
 abbrev pub GatherKeeps : Type 0
-GatherKeeps = (views : List SeatView) (count k : ℕ) (v : SeatView) (other : ℕ) (w : SeatView) → IsKept views count → IsKeeperAt views k v → other ≢ k → get_elem? views other ≡ some w
+GatherKeeps = (views : List SeatView) (count k : ℕ) (v : SeatView) (other : ℕ) (w : SeatView) → IsKept views count → IsKeeperAt views k v → other ≢ k
+    → get_elem? views other ≡ some w
     → IsKept (slice_set (slice_set views k (gathered v w)) other spent) count
 
 -- the keeper's seat is split from a pass's
 abbrev pub PassKeeps : Type 0
-PassKeeps = (views : List SeatView) (count k : ℕ) (v : SeatView) → IsKept views count → IsKeeperAt views k v → IsKept (slice_set views k (passed v) ++ keeper_of v ∷ []) count
+PassKeeps = (views : List SeatView) (count k : ℕ) (v : SeatView) → IsKept views count → IsKeeperAt views k v
+    → IsKept (slice_set views k (passed v) ++ keeper_of v ∷ []) count
 
 -- a new pass's seat is split from any
 abbrev pub NewcomerKeeps : Type 0
-NewcomerKeeps = (views : List SeatView) (count k : ℕ) (v : SeatView) → IsKept views count → get_elem? views k ≡ some v → IsKept (slice_set views k v ++ newcomer_of v ∷ []) count
+NewcomerKeeps = (views : List SeatView) (count k : ℕ) (v : SeatView) → IsKept views count → get_elem? views k ≡ some v
+    → IsKept (slice_set views k v ++ newcomer_of v ∷ []) count
 
 -- passes that the keeper met are of its history
 abbrev pub MetAreOfHistory : Type 0

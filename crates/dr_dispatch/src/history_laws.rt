@@ -1,6 +1,7 @@
 //! Laws of histories.
 
-ghost use Rattle.dr_dispatch.specs.HistoryLaws.{ReplayIsHistory, HistoryReplaysToItself, FrontIsHistory, HistoryGoesOn, HistoryIsBounded, AnsweredHaveAnswers, AnsweredAreDistinct, AnsweredAreTablets};
+ghost use Rattle.dr_dispatch.specs.HistoryLaws.{ReplayIsHistory, HistoryReplaysToItself, FrontIsHistory, HistoryGoesOn, HistoryIsBounded};
+ghost use Rattle.dr_dispatch.specs.HistoryLaws.{AnsweredHaveAnswers, AnsweredAreDistinct, AnsweredAreTablets};
 
 /// What a list of events records is a history, and a history records itself.
 pub fn replay_is_exact()

@@ -1,6 +1,6 @@
-use Rattle.std.proofs.Common.{◌≡◌, map, drop}
-use Rattle.dr_dispatch.specs.Choice.{lowest, late}
+use Rattle.std.proofs.Common.{◌≡◌, drop}
+use Rattle.dr_board.specs.Tablets.{lowest_hand, late_hand}
 use Rattle.dr_board.proofs.choosing.lowest_late.Given as goal
 
 abbrev pub invariant-tablets : goal.invariant-tablets
-invariant-tablets l = lowest (late l.lag l.history) 0 (map (λ v. v.items) l.leaves) ≡ lowest (late l.lag l.history) l.place (map (λ v. v.items) (drop l.place l.leaves))
+invariant-tablets l = lowest_hand (late_hand l.lag l.count) 0 l.tablets ≡ lowest_hand (late_hand l.lag l.count) l.place (drop l.place l.tablets)

@@ -1,4 +1,4 @@
-use Rattle.std.proofs.Common.{rules, ◌≡◌, sym, subst, length, ℕ, List}
+use Rattle.std.proofs.Common.{rules, ◌≡◌, sym, subst, length}
 use mathlib.Core.List.{IsPrefix}
 use Rattle.atomic_table.specs.Table.{Me}
 use Rattle.dr_dispatch.specs.Seen.{Ascends}
