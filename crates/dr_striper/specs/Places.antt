@@ -13,5 +13,5 @@ below p r = record {
   depth = p.depth + 1;
   level = p.level + repetition_count r;
   definition = p.definition + definition_count r;
-  begin = p.level + repetition_count r
+  begin = p.level + repetition_count r;
 }
