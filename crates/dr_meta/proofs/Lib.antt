@@ -1,0 +1,2 @@
+-- the same of each of a list
+pub mod EachLemmas

@@ -1,0 +1,3 @@
+-- what metadata and faults stand for
+pub mod Views
+pub mod Faults
