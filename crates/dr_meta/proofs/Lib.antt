@@ -1,2 +1,6 @@
 -- the same of each of a list
 pub mod EachLemmas
+-- fields put behind one another
+pub mod BuildLemmas
+-- trees of page headers
+pub mod PageLemmas

@@ -1,3 +1,6 @@
 -- what metadata and faults stand for
 pub mod Views
 pub mod Faults
+-- trees of page headers, and laws of them
+pub mod Trees
+pub mod TreeLaws

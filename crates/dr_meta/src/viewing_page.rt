@@ -8,9 +8,7 @@ ghost use Rattle.dr_meta.specs.Views.{data_page_view, dictionary_page_view, data
 ghost use Rattle.dr_meta.specs.Faults.{Gives};
 
 use crate::fault::MetaFault;
-use crate::fields::{
-    needed_count32, needed_i32, optional_i32, optional_struct, optional_truth,
-};
+use crate::fields::{needed_count32, needed_i32, optional_i32, optional_struct, optional_truth};
 use crate::ids::{data_page, data_page_v2, dictionary_page, page_header};
 use crate::page::{DataPage, DataPageV2, DictionaryPage, PageHead};
 use dr_compact::Tree;
