@@ -10,6 +10,8 @@ mod file_trees;
 mod ids;
 mod page;
 mod page_trees;
+#[cfg(test)]
+mod tests;
 mod viewing_file;
 mod viewing_page;
 
