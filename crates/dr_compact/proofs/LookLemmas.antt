@@ -1,7 +1,7 @@
 -- Looking into trees.
 use Rattle.std.proofs.Common.{◌≡◌, ℕ, ℤ, ◌+◌, ◌<◌, ◌≤◌, Bool, true, false, List, [], ◌∷◌, map, length, drop, get_or, refl, sym, ap, ◌∙◌, arith, true≢false}
 use Rattle.std.proofs.lemmas.Bool.{le-leb, leb-true, and_parts}
-use Rattle.std.specs.Prelude.{Option, Some, None, option_map, Vec, int_le, ◌&&◌, if◌then◌else◌, nat_le, pos, negsuc}
+use Rattle.std.specs.Prelude.{Option, Some, None, Vec, int_le, ◌&&◌, if◌then◌else◌, nat_le, pos, negsuc}
 use Rattle.std.specs.declared.alloc.Global.{Global}
 use denote.Ref.{Bor}
 use Rattle.std.proofs.lemmas.List.{drop_more, drop_all}
@@ -12,7 +12,7 @@ use Rattle.dr_compact.specs.declared.tree.Values.{Values}
 use Rattle.dr_compact.specs.declared.tree.Values.TheVariants as lists
 use Rattle.dr_compact.specs.declared.tree.Tree.{Tree}
 use Rattle.dr_compact.specs.declared.tree.Field.{Field}
-use Rattle.dr_compact.specs.Views.{SeenField, SeenValues, item_view, values_view, tree_view, field_view, fields_view, items_from, lent_bytes}
+use Rattle.dr_compact.specs.Views.{SeenField, SeenValues, item_view, values_view, tree_view, fields_view, items_from, lent_bytes}
 use Rattle.dr_compact.proofs.ViewLemmas.{view-field, as_struct, lent_binary, seen, view-structs, view-i32s, view-binaries}
 
 -- ---- lists of a type

@@ -1,5 +1,5 @@
 -- Values and structs, step by step.
-use Rattle.std.proofs.Common.{◌≡◌, ℕ, zero, suc, ◌+◌, ◌-◌, ◌<◌, List, [], ◌∷◌, ◌++◌, length, map, refl, sym, ap, ap₂, subst, ◌∙◌, arith, ℤ, ◌/◌, ◌%◌, true, false}
+use Rattle.std.proofs.Common.{◌≡◌, ℕ, zero, suc, ◌+◌, ◌<◌, List, [], ◌∷◌, ◌++◌, length, refl, sym, ap, ap₂, subst, ◌∙◌, arith, ℤ, ◌/◌, ◌%◌, true, false}
 use Rattle.std.proofs.lemmas.Bool.{ne_eqb}
 use Rattle.std.specs.Prelude.{Option, Some, None, pos, ◌+ℤ◌, ◌==◌}
 use Rattle.dr_formats.specs.Reading.{Reading, got, refused, Reader, give, goes_on, ◌>>=◌, byte_as}
@@ -11,7 +11,7 @@ use Rattle.dr_compact.specs.Steps.{FieldStart, start_of, start_behind, field_sta
 use Rattle.dr_formats.proofs.ReadingLemmas.{not_refused, same_got}
 use Rattle.dr_bytes.specs.Numbers.{IsFault}
 use Rattle.std.proofs.lemmas.List.{length-append}
-use Rattle.dr_compact.specs.Reads.{fault_view, IsFaultOf}
+use Rattle.dr_compact.specs.Reads.{IsFaultOf}
 use Rattle.dr_compact.specs.declared.fault.CompactFault.{CompactFault as Fault}
 use Rattle.dr_compact.specs.declared.fault.CompactFault.TheVariants as faults
 use Rattle.dr_compact.proofs.NumberLemmas.{fault_then, no_fault}

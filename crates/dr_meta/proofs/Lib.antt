@@ -4,3 +4,5 @@ pub mod EachLemmas
 pub mod BuildLemmas
 -- trees of page headers
 pub mod PageLemmas
+-- the list of schema elements as one tree
+pub mod OneTreeLemmas

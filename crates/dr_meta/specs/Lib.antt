@@ -4,3 +4,5 @@ pub mod Faults
 -- trees of page headers, and laws of them
 pub mod Trees
 pub mod TreeLaws
+-- the list of schema elements as one tree
+pub mod OneTree

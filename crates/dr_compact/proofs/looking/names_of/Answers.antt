@@ -1,6 +1,6 @@
 use Rattle.std.proofs.Common.{ap, ◌∙◌, map}
 use Rattle.std.specs.Prelude.{Some}
-use Rattle.dr_compact.specs.Views.{tree_view, lent_bytes}
+use Rattle.dr_compact.specs.Views.{lent_bytes}
 use Rattle.dr_compact.proofs.LookLemmas.{names_there}
 use Rattle.dr_compact.proofs.looking.names_of.Goals as goal
 

@@ -1,6 +1,5 @@
-use Rattle.std.proofs.Common.{ap, ◌∙◌, map}
+use Rattle.std.proofs.Common.{ap, ◌∙◌}
 use Rattle.std.specs.Prelude.{Some}
-use Rattle.dr_compact.specs.Views.{tree_view, lent_bytes}
 use Rattle.dr_compact.proofs.LookLemmas.{numbers_there}
 use Rattle.dr_compact.proofs.looking.numbers_of.Goals as goal
 
