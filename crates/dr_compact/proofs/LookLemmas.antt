@@ -1,19 +1,24 @@
 -- Looking into trees.
-use Rattle.std.proofs.Common.{◌≡◌, ℕ, ℤ, ◌+◌, ◌<◌, ◌≤◌, Bool, true, false, List, [], ◌∷◌, map, length, drop, get_or, refl, sym, ap, ◌∙◌, arith, true≢false}
+use Rattle.std.proofs.Common.{◌≡◌, ℕ, ℤ, ◌+◌, ◌<◌, ◌≤◌, Bool, true, false, List, [], ◌∷◌, map, length, drop, get_or, refl, sym, ap, ◌∙◌, arith, true≢false, rules}
 use Rattle.std.proofs.lemmas.Bool.{le-leb, leb-true, and_parts}
-use Rattle.std.specs.Prelude.{Option, Some, None, option_map, Vec, int_le, ◌&&◌, if◌then◌else◌, nat_le, pos, negsuc}
+use Rattle.std.specs.Prelude.{Option, Some, None, Vec, int_le, ◌&&◌, if◌then◌else◌, nat_le, pos, negsuc}
 use Rattle.std.specs.declared.alloc.Global.{Global}
 use denote.Ref.{Bor}
 use Rattle.std.proofs.lemmas.List.{drop_more, drop_all}
 use Rattle.dr_formats.specs.Metadata as metadata
 use Rattle.dr_formats.specs.Compact as compact
 use Rattle.dr_formats.specs.Compact.{Struct, or_else, find_field}
+use Rattle.dr_compact.specs.declared.tree.Item as items
+use Rattle.dr_compact.specs.declared.tree.Item.TheOpen.{Item-F, Values-F}
+use Rattle.dr_compact.specs.declared.tree.TruthType.{TruthType}
+use Rattle.dr_compact.specs.declared.tree.Values as values
+use Rattle.dr_compact.specs.declared.tree.Item.TheVariants as variants
 use Rattle.dr_compact.specs.declared.tree.Values.{Values}
 use Rattle.dr_compact.specs.declared.tree.Values.TheVariants as lists
 use Rattle.dr_compact.specs.declared.tree.Tree.{Tree}
 use Rattle.dr_compact.specs.declared.tree.Field.{Field}
-use Rattle.dr_compact.specs.Views.{SeenField, SeenValues, item_view, values_view, tree_view, field_view, fields_view, items_from, lent_bytes}
-use Rattle.dr_compact.proofs.ViewLemmas.{view-field, as_struct, lent_binary, seen, view-structs, view-i32s, view-binaries}
+use Rattle.dr_compact.specs.Views.{SeenField, SeenValues, item_view, values_view, tree_view, fields_view, items_from, lent_bytes, truth_type_view}
+use Rattle.dr_compact.proofs.ViewLemmas.{view-field, as_struct, lent_binary, seen, view-structs, view-i32s, view-binaries, view-truths}
 
 -- ---- lists of a type
 
@@ -101,3 +106,103 @@ other_found id fs k f found l h e p =
 
 pub all_found : (id : ℤ) (fs : List Field) (k : ℕ) (found : Option compact.Item) → length fs ≤ k → Finds id fs k found → found ≡ find_field id (fields_view fs)
 all_found id fs k found l p = sym (ap (λ xs. or_else (find_field id (fields_view xs)) found) (drop_all k fs l)) ∙ p
+
+-- ---- values of other types
+
+pub no_truth : (x : items.Item) → ((a : Bool) → x ≡ variants.Truth a → ⊥) → None ≡ metadata.as_truth (item_view x)
+no_truth x h = by (items.out-Item x) refl
+  where
+    by : (y : _) → items.out-Item x ≡ y → None ≡ metadata.as_truth (item_view x)
+    by (Item-F.Truth a) e = absurd (h a (sym (items.roll-out-Item x) ∙ (ap items.roll-Item e ∙ variants.rolls-Truth a)))
+    by y e = search (rules, items.the_lemmas)
+
+pub no_i32 : (x : items.Item) → ((a : ℤ) → x ≡ variants.I32 a → ⊥) → None ≡ metadata.as_i32 (item_view x)
+no_i32 x h = by (items.out-Item x) refl
+  where
+    by : (y : _) → items.out-Item x ≡ y → None ≡ metadata.as_i32 (item_view x)
+    by (Item-F.I32 a) e = absurd (h a (sym (items.roll-out-Item x) ∙ (ap items.roll-Item e ∙ variants.rolls-I32 a)))
+    by y e = search (rules, items.the_lemmas)
+
+pub no_i64 : (x : items.Item) → ((a : ℤ) → x ≡ variants.I64 a → ⊥) → None ≡ metadata.as_i64 (item_view x)
+no_i64 x h = by (items.out-Item x) refl
+  where
+    by : (y : _) → items.out-Item x ≡ y → None ≡ metadata.as_i64 (item_view x)
+    by (Item-F.I64 a) e = absurd (h a (sym (items.roll-out-Item x) ∙ (ap items.roll-Item e ∙ variants.rolls-I64 a)))
+    by y e = search (rules, items.the_lemmas)
+
+pub no_binary : (x : items.Item) → ((a : Bor (List ℕ)) → x ≡ variants.Binary a → ⊥) → None ≡ metadata.as_binary (item_view x)
+no_binary x h = by (items.out-Item x) refl
+  where
+    by : (y : _) → items.out-Item x ≡ y → None ≡ metadata.as_binary (item_view x)
+    by (Item-F.Binary a) e = absurd (h a (sym (items.roll-out-Item x) ∙ (ap items.roll-Item e ∙ variants.rolls-Binary a)))
+    by y e = search (rules, items.the_lemmas)
+
+pub no_struct : (x : items.Item) → ((a : Tree) → x ≡ variants.Struct a → ⊥) → None ≡ metadata.as_struct (item_view x)
+no_struct x h = by (items.out-Item x) refl
+  where
+    by : (y : _) → items.out-Item x ≡ y → None ≡ metadata.as_struct (item_view x)
+    by (Item-F.Struct a) e = absurd (h a (sym (items.roll-out-Item x) ∙ (ap items.roll-Item e ∙ variants.rolls-Struct a)))
+    by y e = search (rules, items.the_lemmas)
+
+pub no_list_of_structs : (x : items.Item) → ((a : Values) → x ≡ variants.List a → ⊥) → None ≡ metadata.as_structs (item_view x)
+no_list_of_structs x h = by (items.out-Item x) refl
+  where
+    by : (y : _) → items.out-Item x ≡ y → None ≡ metadata.as_structs (item_view x)
+    by (Item-F.List a) e = absurd (h a (sym (items.roll-out-Item x) ∙ (ap items.roll-Item e ∙ variants.rolls-List a)))
+    by y e = search (rules, items.the_lemmas)
+
+pub no_list_of_numbers : (x : items.Item) → ((a : Values) → x ≡ variants.List a → ⊥) → None ≡ metadata.as_numbers (item_view x)
+no_list_of_numbers x h = by (items.out-Item x) refl
+  where
+    by : (y : _) → items.out-Item x ≡ y → None ≡ metadata.as_numbers (item_view x)
+    by (Item-F.List a) e = absurd (h a (sym (items.roll-out-Item x) ∙ (ap items.roll-Item e ∙ variants.rolls-List a)))
+    by y e = search (rules, items.the_lemmas)
+
+pub no_list_of_names : (x : items.Item) → ((a : Values) → x ≡ variants.List a → ⊥) → None ≡ metadata.as_names (item_view x)
+no_list_of_names x h = by (items.out-Item x) refl
+  where
+    by : (y : _) → items.out-Item x ≡ y → None ≡ metadata.as_names (item_view x)
+    by (Item-F.List a) e = absurd (h a (sym (items.roll-out-Item x) ∙ (ap items.roll-Item e ∙ variants.rolls-List a)))
+    by y e = search (rules, items.the_lemmas)
+
+no_structs_truths : (t : TruthType) (xs : compact.Items) → None ≡ metadata.as_structs (compact.list_item (truth_type_view t) xs)
+no_structs_truths TruthType.True xs = refl
+no_structs_truths TruthType.False xs = refl
+
+pub no_structs : (v : Values) → ((a : Vec Tree Global) → v ≡ lists.Structs a → ⊥) → None ≡ metadata.as_structs (listed v)
+no_structs v h = by (values.out-Values v) refl
+  where
+    by : (y : _) → values.out-Values v ≡ y → None ≡ metadata.as_structs (listed v)
+    by (Values-F.Structs a) e = absurd (h a (sym (values.roll-out-Values v) ∙ (ap values.roll-Values e ∙ lists.rolls-Structs a)))
+    by (Values-F.Truths t a) e =
+        let here : v ≡ lists.Truths t a = sym (values.roll-out-Values v) ∙ (ap values.roll-Values e ∙ lists.rolls-Truths t a) in
+        no_structs_truths t (items_from (map compact.truth_item a.items)) ∙ sym (ap metadata.as_structs (list_is v (seen (truth_type_view t) (map compact.truth_item a.items)) (ap values_view here ∙ view-truths t a)))
+    by y e = search (rules, values.the_lemmas)
+
+no_numbers_truths : (t : TruthType) (xs : compact.Items) → None ≡ metadata.as_numbers (compact.list_item (truth_type_view t) xs)
+no_numbers_truths TruthType.True xs = refl
+no_numbers_truths TruthType.False xs = refl
+
+pub no_numbers : (v : Values) → ((a : Vec ℤ Global) → v ≡ lists.I32s a → ⊥) → None ≡ metadata.as_numbers (listed v)
+no_numbers v h = by (values.out-Values v) refl
+  where
+    by : (y : _) → values.out-Values v ≡ y → None ≡ metadata.as_numbers (listed v)
+    by (Values-F.I32s a) e = absurd (h a (sym (values.roll-out-Values v) ∙ (ap values.roll-Values e ∙ lists.rolls-I32s a)))
+    by (Values-F.Truths t a) e =
+        let here : v ≡ lists.Truths t a = sym (values.roll-out-Values v) ∙ (ap values.roll-Values e ∙ lists.rolls-Truths t a) in
+        no_numbers_truths t (items_from (map compact.truth_item a.items)) ∙ sym (ap metadata.as_numbers (list_is v (seen (truth_type_view t) (map compact.truth_item a.items)) (ap values_view here ∙ view-truths t a)))
+    by y e = search (rules, values.the_lemmas)
+
+no_names_truths : (t : TruthType) (xs : compact.Items) → None ≡ metadata.as_names (compact.list_item (truth_type_view t) xs)
+no_names_truths TruthType.True xs = refl
+no_names_truths TruthType.False xs = refl
+
+pub no_names : (v : Values) → ((a : Vec (Bor (List ℕ)) Global) → v ≡ lists.Binaries a → ⊥) → None ≡ metadata.as_names (listed v)
+no_names v h = by (values.out-Values v) refl
+  where
+    by : (y : _) → values.out-Values v ≡ y → None ≡ metadata.as_names (listed v)
+    by (Values-F.Binaries a) e = absurd (h a (sym (values.roll-out-Values v) ∙ (ap values.roll-Values e ∙ lists.rolls-Binaries a)))
+    by (Values-F.Truths t a) e =
+        let here : v ≡ lists.Truths t a = sym (values.roll-out-Values v) ∙ (ap values.roll-Values e ∙ lists.rolls-Truths t a) in
+        no_names_truths t (items_from (map compact.truth_item a.items)) ∙ sym (ap metadata.as_names (list_is v (seen (truth_type_view t) (map compact.truth_item a.items)) (ap values_view here ∙ view-truths t a)))
+    by y e = search (rules, values.the_lemmas)

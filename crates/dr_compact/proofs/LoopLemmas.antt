@@ -1,21 +1,18 @@
 -- The loops of reading: one step more, the end, and the faults.
-use Rattle.std.proofs.Common.{◌≡◌, ℕ, zero, suc, ◌+◌, ◌-◌, ◌<◌, ◌≤◌, List, [], ◌∷◌, ◌++◌, length, map, refl, sym, ap, ap₂, subst, ◌∙◌, arith, ℤ, drop}
-use Rattle.std.specs.Prelude.{Option, Some, None, pos, Vec}
-use Rattle.std.specs.declared.alloc.Global.{Global}
-use Rattle.std.proofs.lemmas.List.{length-append, map-append, append-nil}
+use Rattle.std.proofs.Common.{◌≡◌, ℕ, suc, ◌+◌, ◌-◌, ◌<◌, ◌≤◌, List, [], ◌∷◌, ◌++◌, length, map, refl, sym, ap, ap₂, subst, ◌∙◌, arith, ℤ, drop}
+use Rattle.std.specs.Prelude.{Some, None, pos}
+use Rattle.std.proofs.lemmas.List.{length-append, map-append}
 use Rattle.std.proofs.Math.Seq.{drop-append_seam}
-use Rattle.dr_formats.specs.Reading.{Reading, got, refused, Reader, give, goes_on, ◌>>=◌, byte_as}
+use Rattle.dr_formats.specs.Reading.{Reading, got, give, goes_on, ◌>>=◌, byte_as}
 use Rattle.dr_formats.specs.Varint.{varint}
-use Rattle.dr_formats.specs.Compact as compact
-use Rattle.dr_formats.specs.Compact.{CompactFault, malformed, ThriftType, Struct, Item, Items, ListHeader, list_header, items, fields, value_of, field_value, map_of, map_types, struct_of, read_struct}
+use Rattle.dr_formats.specs.Compact.{CompactFault, malformed, ThriftType, Struct, Items, ListHeader, list_header, items, fields, value_of, field_value, map_of, map_types, read_struct}
 use Rattle.dr_formats.proofs.CompactLocal.{local_struct, local_value}
 use Rattle.dr_bytes.specs.Numbers.{IsFault}
 use Rattle.dr_compact.specs.Reads.{IsFaultOf}
 use Rattle.dr_compact.specs.declared.fault.CompactFault.{CompactFault as Fault}
-use Rattle.dr_compact.specs.declared.fault.CompactFault.TheVariants as faults
 use Rattle.dr_compact.specs.declared.tree.Field.{Field}
-use Rattle.dr_compact.specs.Views.{SeenField, SeenValues, Elements, struct_from, items_from, map_from, field_view, fields_view, item_view}
-use Rattle.dr_compact.specs.Steps.{FieldStart, start_of, field_start, elements, map_inside, struct_inside, joined}
+use Rattle.dr_compact.specs.Views.{SeenField, SeenValues, items_from, map_from, field_view, fields_view, item_view}
+use Rattle.dr_compact.specs.Steps.{start_of, field_start, elements, map_inside, struct_inside, joined}
 use Rattle.dr_compact.proofs.NumberLemmas.{fault_then}
 use Rattle.dr_compact.proofs.ViewLemmas.{view-field}
 use Rattle.dr_compact.proofs.StepLemmas.{ItemsRead, item_read, item_fault, all_items_read, PairsRead, pair_read, key_fault, value_fault, all_pairs_read, all_pairs_fault, types_of}

@@ -1,15 +1,14 @@
 -- Numbers and ids, and how faults go on.
-use Rattle.std.proofs.Common.{◌≡◌, ℕ, ◌+◌, ◌^◌, ◌<◌, ◌≤◌, List, [], ◌∷◌, ◌++◌, length, refl, sym, ap, subst, ◌∙◌, arith, ℤ}
-use Rattle.std.specs.Prelude.{Option, Some, None, IfSome}
-use Rattle.dr_formats.specs.Reading.{Reading, got, refused, Reader, give, goes_on, ◌>>=◌}
+use Rattle.std.proofs.Common.{◌≡◌, ℕ, ◌^◌, ◌<◌, ◌≤◌, List, refl, sym, ap, subst, ◌∙◌, arith}
+use Rattle.dr_formats.specs.Reading.{Reading, got, refused, Reader, give, goes_on}
 use Rattle.dr_formats.specs.Varint.{VarintFault, varint, varint_below, from_zigzag, read_varint, varint_short, varint_too_long, varint_from, SpellsVarint}
 use Rattle.dr_formats.specs.Compact.{CompactFault, malformed, field_id}
 use Rattle.dr_formats.proofs.SoundLemmas.{sound_below}
 use Rattle.dr_formats.proofs.VarintLemmas.{varint_reads}
-use Rattle.dr_formats.proofs.ReadingLemmas.{not_refused, same_got}
+use Rattle.dr_formats.proofs.ReadingLemmas.{same_got}
 use Rattle.dr_bytes.specs.Numbers.{IsFault}
 use Rattle.dr_bytes.proofs.FaultLemmas.{varint_got, varint_refused, is_fault, with_faults, same_varint_from}
-use Rattle.dr_compact.specs.Reads.{fault_view, IsFaultOf}
+use Rattle.dr_compact.specs.Reads.{IsFaultOf}
 use Rattle.dr_compact.specs.declared.fault.CompactFault.{CompactFault as Fault}
 use Rattle.dr_compact.specs.declared.fault.CompactFault.TheVariants as faults
 

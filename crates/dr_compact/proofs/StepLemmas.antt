@@ -1,17 +1,17 @@
 -- Values and structs, step by step.
-use Rattle.std.proofs.Common.{◌≡◌, ℕ, zero, suc, ◌+◌, ◌-◌, ◌<◌, List, [], ◌∷◌, ◌++◌, length, map, refl, sym, ap, ap₂, subst, ◌∙◌, arith, ℤ, ◌/◌, ◌%◌, true, false}
+use Rattle.std.proofs.Common.{◌≡◌, ℕ, zero, suc, ◌+◌, ◌<◌, List, [], ◌∷◌, ◌++◌, length, refl, sym, ap, ap₂, subst, ◌∙◌, arith, ℤ, ◌/◌, ◌%◌, true, false}
 use Rattle.std.proofs.lemmas.Bool.{ne_eqb}
 use Rattle.std.specs.Prelude.{Option, Some, None, pos, ◌+ℤ◌, ◌==◌}
 use Rattle.dr_formats.specs.Reading.{Reading, got, refused, Reader, give, goes_on, ◌>>=◌, byte_as}
 use Rattle.dr_formats.specs.Compact as compact
 use Rattle.dr_formats.specs.Compact.{CompactFault, malformed, Struct, Item, Items, Pairs, items, pairs, fields, value_of, field_value, field_header, after_header, field_and_rest}
 use Rattle.dr_formats.specs.Compact.{FieldHeader, stop_header, short_header, long_header, field_id, ThriftType, ListHeader, list_header, MapTypes, map_types, map_of}
-use Rattle.dr_compact.specs.Views.{SeenField, SeenValues, Elements, struct_from, items_from, pairs_from, map_of_pairs, map_from}
+use Rattle.dr_compact.specs.Views.{SeenField, SeenValues, Elements, struct_from, items_from, pairs_from, map_of_pairs, map_from, struct_onto}
 use Rattle.dr_compact.specs.Steps.{FieldStart, start_of, start_behind, field_start, elements, map_inside, struct_inside, one_more, joined}
 use Rattle.dr_formats.proofs.ReadingLemmas.{not_refused, same_got}
 use Rattle.dr_bytes.specs.Numbers.{IsFault}
 use Rattle.std.proofs.lemmas.List.{length-append}
-use Rattle.dr_compact.specs.Reads.{fault_view, IsFaultOf}
+use Rattle.dr_compact.specs.Reads.{IsFaultOf}
 use Rattle.dr_compact.specs.declared.fault.CompactFault.{CompactFault as Fault}
 use Rattle.dr_compact.specs.declared.fault.CompactFault.TheVariants as faults
 use Rattle.dr_compact.proofs.NumberLemmas.{fault_then, no_fault}
@@ -241,11 +241,6 @@ all_pairs_fault value (suc n) now bytes t u f z h p =
 
 -- ---- fields, one after another
 
--- fields before others
-abbrev pub struct_onto : List SeenField → Struct → Struct
-struct_onto [] s = s
-struct_onto (f ∷ fs) s = compact.struct_field f.id f.value (struct_onto fs s)
-
 abbrev pub struct_before : List SeenField → Reading CompactFault Struct → Reading CompactFault Struct
 struct_before fs (got s rest) = got (struct_onto fs s) rest
 struct_before fs (refused e rest) = refused e rest
@@ -253,11 +248,11 @@ struct_before fs (refused e rest) = refused e rest
 abbrev pub seen_field : ℤ → Item → SeenField
 seen_field id x = record { id = id; value = x }
 
-onto_field : (fs : List SeenField) (id : ℤ) (x : Item) (s : Struct) → struct_onto fs (compact.struct_field id x s) ≡ struct_onto (fs ++ seen_field id x ∷ []) s
+pub onto_field : (fs : List SeenField) (id : ℤ) (x : Item) (s : Struct) → struct_onto fs (compact.struct_field id x s) ≡ struct_onto (fs ++ seen_field id x ∷ []) s
 onto_field [] id x s = refl
 onto_field (f ∷ fs) id x s = ap (compact.struct_field f.id f.value) (onto_field fs id x s)
 
-onto_stop : (fs : List SeenField) → struct_onto fs compact.stop ≡ struct_from fs
+pub onto_stop : (fs : List SeenField) → struct_onto fs compact.stop ≡ struct_from fs
 onto_stop [] = refl
 onto_stop (f ∷ fs) = ap (compact.struct_field f.id f.value) (onto_stop fs)
 

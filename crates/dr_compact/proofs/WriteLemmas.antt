@@ -1,18 +1,18 @@
 -- Writing, step by step.
-use Rattle.std.proofs.Common.{◌≡◌, ℕ, zero, suc, ◌+◌, ◌-◌, ◌*◌, ◌<◌, ◌≤◌, List, [], ◌∷◌, ◌++◌, length, map, drop, refl, sym, ap, ap₂, subst, ◌∙◌, arith, ℤ, Bool, true, false, append_assoc, suc-add, true≢false, get_or}
-use Rattle.std.specs.Prelude.{Vec, Result, Ok, Err, min, nat_lt, if◌then◌else◌, pos, negsuc, Option, Some, None}
+use Rattle.std.proofs.Common.{◌≡◌, ℕ, zero, suc, ◌+◌, ◌*◌, ◌<◌, ◌≤◌, List, [], ◌∷◌, ◌++◌, length, map, drop, refl, sym, ap, ap₂, subst, ◌∙◌, arith, ℤ, Bool, true, false, append_assoc, suc-add, get_or}
+use Rattle.std.specs.Prelude.{Vec, Result, Ok, Err, min, nat_lt, if◌then◌else◌, pos, negsuc, Some, None}
 use mir.Val.{bool_byte}
 use Rattle.dr_formats.specs.Varint.{varint_bytes}
 use Rattle.std.specs.declared.alloc.Global.{Global}
-use Rattle.std.proofs.lemmas.List.{length-append, append-nil, map-append, drop_more, drop_all, length-map}
+use Rattle.std.proofs.lemmas.List.{append-nil, drop_more, drop_all, length-map}
 use Rattle.dr_formats.specs.Compact as compact
 use Rattle.dr_formats.specs.Compact.{ThriftType, Item, Items, Pairs, Struct, struct_bytes, fields_bytes, item_bytes, items_bytes, pairs_bytes, in_field, item_type, header_bytes, count_pairs, count_items}
 use Rattle.dr_memory.specs.declared.NoMemory.{NoMemory}
 use Rattle.dr_compact.specs.declared.tree.Values.{Values}
 use Rattle.dr_compact.specs.declared.tree.Field.{Field}
-use Rattle.dr_compact.specs.Views.{SeenField, SeenValues, struct_from, items_from, pairs_from, map_of_pairs, map_from, values_view, item_view, field_view, fields_view}
+use Rattle.dr_compact.specs.Views.{SeenField, SeenValues, items_from, pairs_from, map_of_pairs, map_from, values_view, item_view, fields_view}
 use Rattle.dr_compact.specs.Writes.{BeginsWith, Writes, first_bytes, values_bytes, short_delta}
-use Rattle.dr_compact.proofs.ViewLemmas.{seen, view-field}
+use Rattle.dr_compact.proofs.ViewLemmas.{view-field}
 use Rattle.dr_compact.proofs.ElementLemmas.{IsSeenAs}
 
 -- of all bytes, those before the rest have been joined

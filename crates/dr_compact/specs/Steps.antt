@@ -1,8 +1,8 @@
 -- The steps of reading, in the definitions' words.
-use Rattle.std.specs.Prelude.{ℕ, zero, suc, ◌==◌, List, [], ◌∷◌, ◌++◌, ℤ, Option, Some, None}
+use Rattle.std.specs.Prelude.{ℕ, zero, suc, [], ◌∷◌, ◌++◌, ℤ, Option, Some, None}
 use Rattle.dr_formats.specs.Reading.{Reading, got, refused, Reader, give, ◌>>=◌, byte_as}
 use Rattle.dr_formats.specs.Varint.{varint}
-use Rattle.dr_formats.specs.Compact.{CompactFault, malformed, too_deep, ThriftType, Item, Items, ListHeader, MapTypes, list_header, items, value_of, map_of}
+use Rattle.dr_formats.specs.Compact.{CompactFault, malformed, too_deep, ThriftType, Item, ListHeader, MapTypes, list_header, items, value_of, map_of}
 use Rattle.dr_formats.specs.Compact.{FieldHeader, stop_header, short_header, long_header, field_header, field_id, Struct, struct_of}
 use Rattle.dr_compact.specs.declared.thrift_type.ThriftType as types
 use Rattle.dr_compact.specs.Types.{type_view}

@@ -29,6 +29,11 @@ abbrev pub struct_from : List SeenField → compact.Struct
 struct_from [] = compact.stop
 struct_from (f ∷ fs) = compact.struct_field f.id f.value (struct_from fs)
 
+-- fields before those of a struct
+abbrev pub struct_onto : List SeenField → compact.Struct → compact.Struct
+struct_onto [] s = s
+struct_onto (f ∷ fs) s = compact.struct_field f.id f.value (struct_onto fs s)
+
 abbrev pub items_from : List compact.Item → compact.Items
 items_from [] = compact.no_items
 items_from (x ∷ xs) = compact.item x (items_from xs)

@@ -29,16 +29,7 @@ impl<'a> Item<'a> {
     {
         match self {
             Item::Truth(truth) => Some(*truth),
-            Item::Byte(_)
-            | Item::I16(_)
-            | Item::I32(_)
-            | Item::I64(_)
-            | Item::Double(_)
-            | Item::Binary(_)
-            | Item::List(_)
-            | Item::Set(_)
-            | Item::Map(_)
-            | Item::Struct(_) => None,
+            _ => None,
         }
     }
 
@@ -48,16 +39,7 @@ impl<'a> Item<'a> {
     {
         match self {
             Item::I32(number) => Some(*number),
-            Item::Truth(_)
-            | Item::Byte(_)
-            | Item::I16(_)
-            | Item::I64(_)
-            | Item::Double(_)
-            | Item::Binary(_)
-            | Item::List(_)
-            | Item::Set(_)
-            | Item::Map(_)
-            | Item::Struct(_) => None,
+            _ => None,
         }
     }
 
@@ -67,16 +49,7 @@ impl<'a> Item<'a> {
     {
         match self {
             Item::I64(number) => Some(*number),
-            Item::Truth(_)
-            | Item::Byte(_)
-            | Item::I16(_)
-            | Item::I32(_)
-            | Item::Double(_)
-            | Item::Binary(_)
-            | Item::List(_)
-            | Item::Set(_)
-            | Item::Map(_)
-            | Item::Struct(_) => None,
+            _ => None,
         }
     }
 
@@ -86,16 +59,7 @@ impl<'a> Item<'a> {
     {
         match self {
             Item::Binary(bytes) => Some(*bytes),
-            Item::Truth(_)
-            | Item::Byte(_)
-            | Item::I16(_)
-            | Item::I32(_)
-            | Item::I64(_)
-            | Item::Double(_)
-            | Item::List(_)
-            | Item::Set(_)
-            | Item::Map(_)
-            | Item::Struct(_) => None,
+            _ => None,
         }
     }
 
@@ -105,16 +69,7 @@ impl<'a> Item<'a> {
     {
         match self {
             Item::Struct(tree) => Some(tree),
-            Item::Truth(_)
-            | Item::Byte(_)
-            | Item::I16(_)
-            | Item::I32(_)
-            | Item::I64(_)
-            | Item::Double(_)
-            | Item::Binary(_)
-            | Item::List(_)
-            | Item::Set(_)
-            | Item::Map(_) => None,
+            _ => None,
         }
     }
 
@@ -124,16 +79,7 @@ impl<'a> Item<'a> {
     {
         match self {
             Item::List(values) => structs_of(values),
-            Item::Truth(_)
-            | Item::Byte(_)
-            | Item::I16(_)
-            | Item::I32(_)
-            | Item::I64(_)
-            | Item::Double(_)
-            | Item::Binary(_)
-            | Item::Set(_)
-            | Item::Map(_)
-            | Item::Struct(_) => None,
+            _ => None,
         }
     }
 
@@ -143,16 +89,7 @@ impl<'a> Item<'a> {
     {
         match self {
             Item::List(values) => numbers_of(values),
-            Item::Truth(_)
-            | Item::Byte(_)
-            | Item::I16(_)
-            | Item::I32(_)
-            | Item::I64(_)
-            | Item::Double(_)
-            | Item::Binary(_)
-            | Item::Set(_)
-            | Item::Map(_)
-            | Item::Struct(_) => None,
+            _ => None,
         }
     }
 
@@ -162,16 +99,7 @@ impl<'a> Item<'a> {
     {
         match self {
             Item::List(values) => names_of(values),
-            Item::Truth(_)
-            | Item::Byte(_)
-            | Item::I16(_)
-            | Item::I32(_)
-            | Item::I64(_)
-            | Item::Double(_)
-            | Item::Binary(_)
-            | Item::Set(_)
-            | Item::Map(_)
-            | Item::Struct(_) => None,
+            _ => None,
         }
     }
 }
@@ -182,16 +110,7 @@ fn structs_of<'t, 'a>(values: &'t Values<'a>) -> Option<&'t [Tree<'a>]>
 {
     match values {
         Values::Structs(structs) => Some(structs.as_slice()),
-        Values::Truths(_, _)
-        | Values::Bytes(_)
-        | Values::I16s(_)
-        | Values::I32s(_)
-        | Values::I64s(_)
-        | Values::Doubles(_)
-        | Values::Binaries(_)
-        | Values::Lists(_)
-        | Values::Sets(_)
-        | Values::Maps(_) => None,
+        _ => None,
     }
 }
 
@@ -201,16 +120,7 @@ fn numbers_of<'t, 'a>(values: &'t Values<'a>) -> Option<&'t [i64]>
 {
     match values {
         Values::I32s(numbers) => Some(numbers.as_slice()),
-        Values::Truths(_, _)
-        | Values::Bytes(_)
-        | Values::I16s(_)
-        | Values::I64s(_)
-        | Values::Doubles(_)
-        | Values::Binaries(_)
-        | Values::Lists(_)
-        | Values::Sets(_)
-        | Values::Maps(_)
-        | Values::Structs(_) => None,
+        _ => None,
     }
 }
 
@@ -220,15 +130,6 @@ fn names_of<'t, 'a>(values: &'t Values<'a>) -> Option<&'t [&'a [u8]]>
 {
     match values {
         Values::Binaries(names) => Some(names.as_slice()),
-        Values::Truths(_, _)
-        | Values::Bytes(_)
-        | Values::I16s(_)
-        | Values::I32s(_)
-        | Values::I64s(_)
-        | Values::Doubles(_)
-        | Values::Lists(_)
-        | Values::Sets(_)
-        | Values::Maps(_)
-        | Values::Structs(_) => None,
+        _ => None,
     }
 }

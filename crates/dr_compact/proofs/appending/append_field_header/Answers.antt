@@ -1,6 +1,6 @@
-use Rattle.std.proofs.Common.{◌≡◌, ◌∙◌, ◌++◌, ◌∷◌, [], ap, ap₂, sym, arith, to_z, of_z, ℤ}
+use Rattle.std.proofs.Common.{◌≡◌, ◌∙◌, ◌++◌, ◌∷◌, [], ap, ap₂, sym, arith, to_z, of_z}
 use mir.Syntax.{w16, w64}
-use Rattle.std.specs.Prelude.{◌-ℤ◌, None, Option}
+use Rattle.std.specs.Prelude.{◌-ℤ◌, None}
 use Rattle.std.proofs.lemmas.Int.{to_z-of_z}
 use Rattle.dr_formats.specs.Compact.{signed_bytes, type_number, header_bytes}
 use Rattle.dr_compact.specs.Types.{type_view}

@@ -1,4 +1,4 @@
-use Rattle.std.proofs.Common.{◌≡◌, ◌/◌, ◌+ℤ◌, ℤ, pos, subst, true, arith, to_z, of_z}
+use Rattle.std.proofs.Common.{◌≡◌, ◌/◌, ◌+ℤ◌, pos, subst, true, arith, to_z, of_z}
 use mir.Syntax.{w16}
 use Rattle.dr_formats.specs.Compact.{in_int16}
 use Rattle.std.proofs.lemmas.Int.{to_z-of_z}

@@ -1,8 +1,7 @@
 use Rattle.std.proofs.Common.{◌≡◌, ◌≤◌, ◌<◌, ◌-◌, ◌+◌, sym, subst, map, to_z, of_z, ◌∙◌, length, refl, ap, arith, List, [], ◌∷◌, ◌++◌, ℕ, ℤ}
 use Rattle.std.proofs.lemmas.Int.{to_z-of_z}
-use Rattle.std.specs.Prelude.{Vec, ◌==◌, option_map}
+use Rattle.std.specs.Prelude.{◌==◌, option_map}
 use Rattle.std.proofs.lemmas.Result.{err_from_is_err_and}
-use denote.Ref.{Bor}
 use Rattle.dr_formats.specs.Reading.{Reading, got, give, goes_on}
 use Rattle.dr_formats.specs.Compact as compact
 use Rattle.dr_formats.specs.Compact.{CompactFault, value_of}
@@ -14,7 +13,7 @@ use Rattle.dr_compact.specs.declared.tree.Values.TheVariants as lists
 use Rattle.dr_compact.proofs.ViewLemmas.{view-truths, view-bytes, view-i16s, view-i32s, view-i64s, view-doubles, view-binaries, view-lists, view-sets, view-maps, view-structs, view-list, view-set, view-map, view-struct, view-pair, view-tree_of, lent_binary, as_list, as_set, as_struct}
 use Rattle.dr_compact.proofs.ElementLemmas.{one_joined, none_joined, truth_got, byte_got, list_got, set_got, struct_got, list_refused, set_refused, map_refused, struct_refused}
 use Rattle.dr_compact.proofs.StepLemmas.{map_is_inside, FieldsRead}
-use Rattle.dr_compact.proofs.LoopLemmas.{value_read, elements_got, elements_fault, map_got, two_read, no_key, no_value, struct_ended, one_field_read, no_start, no_item, never_ends}
+use Rattle.dr_compact.proofs.LoopLemmas.{value_read, elements_got, elements_fault, map_got, two_read, no_key, no_value, struct_ended, one_field_read, no_start, no_item}
 use Rattle.dr_compact.proofs.reading.+reading.Goals as goal
 
 -- ---- one more value

@@ -1,4 +1,4 @@
-use Rattle.std.proofs.Common.{◌≡◌, ◌∙◌, ap, ap₂, sym, subst, arith, length, drop, ◌-◌}
+use Rattle.std.proofs.Common.{◌∙◌, ap, sym, subst, arith, length, drop, ◌-◌}
 use Rattle.std.proofs.lemmas.Result.{err_from_is_err_and}
 use Rattle.dr_formats.specs.Reading.{got}
 use Rattle.dr_bytes.specs.Cutting.{left}

@@ -1,4 +1,4 @@
-use Rattle.std.proofs.Common.{◌≡◌, ◌∷◌, ap₂, ◌<◌, ◌≤◌, ◌+◌, ◌∙◌, ◌++◌, [], length, drop, ap, sym, subst, refl, arith, to_z, of_z, ℤ}
+use Rattle.std.proofs.Common.{◌≡◌, ◌∷◌, ap₂, ◌<◌, ◌≤◌, ◌∙◌, ◌++◌, [], length, ap, sym, subst, refl, arith, to_z, of_z}
 use Rattle.std.specs.Prelude.{min, pos}
 use mir.Syntax.{w16, w64}
 use Rattle.std.proofs.lemmas.Int.{to_z-of_z}
@@ -6,8 +6,8 @@ use Rattle.std.proofs.lemmas.Result.{err_from_is_err_and}
 use Rattle.dr_formats.specs.Compact as compact
 use Rattle.dr_formats.specs.Compact.{Item, in_field, item_bytes, signed_bytes, struct_bytes, pairs_bytes, header_bytes}
 use Rattle.dr_formats.specs.Varint.{varint_bytes}
-use Rattle.dr_compact.specs.Views.{SeenValues, values_view, map_view, tree_view, item_view, truth_type_view, fields_view, pairs_from}
-use Rattle.dr_compact.specs.Writes.{Writes, first_bytes, values_bytes}
+use Rattle.dr_compact.specs.Views.{values_view, map_view, tree_view, item_view, truth_type_view, fields_view, pairs_from}
+use Rattle.dr_compact.specs.Writes.{values_bytes}
 use Rattle.dr_compact.specs.declared.tree.Values.TheVariants as lists
 use Rattle.dr_compact.proofs.ViewLemmas.{view-truths, view-bytes, view-i16s, view-i32s, view-i64s, view-doubles, view-binaries, view-lists, view-sets, view-maps, view-structs, view-list, view-set, view-struct, view-pair, view-tree, lent_binary, as_list, as_set, as_struct}
 use Rattle.dr_compact.proofs.WriteLemmas.{Partly, begun, none_written, more_written, all_written, stopped, last_written, other_bytes, element_at, truth_bytes, list_bytes, set_bytes, struct_is, next_value, no_value_left, empty_map_bytes, map_begun, key_written, no_pair_left, field_header_written, no_field_left}

@@ -1,0 +1,22 @@
+use Rattle.std.proofs.Common.{◌≡◌, ◌∙◌, sym, ap, ap₂, map, pos, arith, to_z, of_z}
+use mir.Syntax.{w64}
+use Rattle.std.proofs.lemmas.Int.{to_z-of_z}
+use Rattle.dr_meta.proofs.PageLemmas.{dictionary_parts}
+use Rattle.std.specs.Prelude.{Some}
+use Rattle.dr_formats.specs.Compact.{Struct, stop, struct_field, struct_item, list_item, Item}
+use Rattle.dr_formats.specs.Metadata as metadata
+use Rattle.dr_formats.specs.Metadata.{with_field, with_i32, with_i64, count_i32, count_i64, structs}
+use Rattle.dr_compact.specs.Views.{field_view, tree_view, item_view, struct_onto}
+use Rattle.dr_compact.specs.declared.tree.Item.TheVariants as items
+use Rattle.dr_compact.proofs.StepLemmas.{onto_stop}
+use Rattle.dr_compact.proofs.ViewLemmas.{view-tree_of, view-binary, view-struct}
+use Rattle.dr_meta.specs.Views as views
+use Rattle.dr_meta.specs.Views.{lent}
+use Rattle.dr_meta.proofs.BuildLemmas.{onto_nothing}
+use Rattle.dr_meta.proofs.page_trees.tree_of_dictionary_page.Goals as goal
+
+pub returns : goal.returns
+returns c =
+    let p = c.in-Some.page in
+    let encoding : to_z w64 (of_z w64 p.encoding) ≡ p.encoding = grind (arith, to_z-of_z) in
+    rw c.in-Some.is (ap Some (view-tree_of c.put_i32.new.fields ∙ (sym (onto_stop (map field_view c.put_i32.new.fields.items)) ∙ (c.in_ok-put_i32.ensures stop ∙ (c.in_ok-put_count32.ensures _ ∙ ((onto_nothing _ _ c.new-fields.ensures.items ∙ dictionary_parts p _ encoding)))))))
