@@ -10,7 +10,7 @@ top=$(cd "$(dirname "${BASH_SOURCE[0]}")/.." && pwd)
 work=$(mktemp -d)
 trap 'rm -rf "$work"' EXIT
 mkdir "$work/copy"
-tar -C "$top" -cf - crates crates.txt HANDLES | tar -C "$work/copy" -xf -
+tar -C "$top" --exclude=out -cf - crates crates.txt HANDLES | tar -C "$work/copy" -xf -
 crate=$work/copy/crates/bench_footer
 mkdir -p "$crate/src"
 cp "$top/bench/footer/program.txt" "$crate/src/main.rt"

@@ -30,25 +30,25 @@ pub(crate) fn optional_i64(tree: &Tree<'_>, id: u8) -> Option<i64>
     tree.find(i16::from(id))?.as_i64()
 }
 
-pub(crate) fn optional_binary<'a>(tree: &'a Tree<'a>, id: u8) -> Option<&'a [u8]>
+pub(crate) fn optional_binary<'a>(tree: &Tree<'a>, id: u8) -> Option<&'a [u8]>
     ensures { option_map lent result ≡ optional_field as_binary id (tree_view tree.now) }
 {
     tree.find(i16::from(id))?.as_binary()
 }
 
-pub(crate) fn optional_struct<'a>(tree: &'a Tree<'a>, id: u8) -> Option<&'a Tree<'a>>
+pub(crate) fn optional_struct<'t, 'a>(tree: &'t Tree<'a>, id: u8) -> Option<&'t Tree<'a>>
     ensures { option_map (λ t. tree_view t.now) result ≡ optional_field as_struct id (tree_view tree.now) }
 {
     tree.find(i16::from(id))?.as_struct()
 }
 
-pub(crate) fn optional_numbers<'a>(tree: &'a Tree<'a>, id: u8) -> Option<&'a [i64]>
+pub(crate) fn optional_numbers<'t>(tree: &'t Tree<'_>, id: u8) -> Option<&'t [i64]>
     ensures { option_map lent result ≡ optional_field as_numbers id (tree_view tree.now) }
 {
     tree.find(i16::from(id))?.as_numbers()
 }
 
-pub(crate) fn optional_names<'a>(tree: &'a Tree<'a>, id: u8) -> Option<&'a [&'a [u8]]>
+pub(crate) fn optional_names<'t, 'a>(tree: &'t Tree<'a>, id: u8) -> Option<&'t [&'a [u8]]>
     ensures { option_map lent_names result ≡ optional_field as_names id (tree_view tree.now) }
 {
     tree.find(i16::from(id))?.as_names()
@@ -68,19 +68,22 @@ pub(crate) fn needed_i64(tree: &Tree<'_>, id: u8) -> Result<i64, MetaFault>
     optional_i64(tree, id).ok_or(MetaFault::Missing(id))
 }
 
-pub(crate) fn needed_binary<'a>(tree: &'a Tree<'a>, id: u8) -> Result<&'a [u8], MetaFault>
+pub(crate) fn needed_binary<'a>(tree: &Tree<'a>, id: u8) -> Result<&'a [u8], MetaFault>
     ensures { Gives lent (needed as_binary id (tree_view tree.now)) result }
 {
     optional_binary(tree, id).ok_or(MetaFault::Missing(id))
 }
 
-pub(crate) fn needed_struct<'a>(tree: &'a Tree<'a>, id: u8) -> Result<&'a Tree<'a>, MetaFault>
+pub(crate) fn needed_struct<'t, 'a>(tree: &'t Tree<'a>, id: u8) -> Result<&'t Tree<'a>, MetaFault>
     ensures { Gives (λ t. tree_view t.now) (needed as_struct id (tree_view tree.now)) result }
 {
     optional_struct(tree, id).ok_or(MetaFault::Missing(id))
 }
 
-pub(crate) fn needed_structs<'a>(tree: &'a Tree<'a>, id: u8) -> Result<&'a [Tree<'a>], MetaFault>
+pub(crate) fn needed_structs<'t, 'a>(
+    tree: &'t Tree<'a>,
+    id: u8,
+) -> Result<&'t [Tree<'a>], MetaFault>
     ensures { Gives lent_structs (needed as_structs id (tree_view tree.now)) result }
 {
     let structs = match tree.find(i16::from(id)) {

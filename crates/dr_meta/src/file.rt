@@ -1,4 +1,5 @@
-//! The metadata of a file. Numbers of 32 bits are kept in 64, as they are read; names and lists are lent.
+//! The metadata of a file. Numbers of 32 bits are kept in 64, as they are read; lists are lent from the tree (`'t`), names from
+//! the bytes that it was read from (`'a`).
 
 use crate::count::Count;
 
@@ -16,10 +17,10 @@ pub struct SchemaItem<'a> {
 
 /// The metadata of a column chunk.
 #[derive(Clone, Copy, Debug)]
-pub struct ColumnMeta<'a> {
+pub struct ColumnMeta<'t, 'a> {
     pub kind: i64,
-    pub encodings: Option<&'a [i64]>,
-    pub path: Option<&'a [&'a [u8]]>,
+    pub encodings: Option<&'t [i64]>,
+    pub path: Option<&'t [&'a [u8]]>,
     pub codec: i64,
     /// How many values it has, NULLs among them.
     pub values: Count,
@@ -31,28 +32,28 @@ pub struct ColumnMeta<'a> {
 
 /// A column chunk.
 #[derive(Clone, Copy, Debug)]
-pub struct ChunkMeta<'a> {
+pub struct ChunkMeta<'t, 'a> {
     /// The file that it lies in, where that is another one.
     pub file_path: Option<&'a [u8]>,
     pub file_offset: Option<i64>,
-    pub meta: ColumnMeta<'a>,
+    pub meta: ColumnMeta<'t, 'a>,
 }
 
 /// A row group: a chunk for each leaf.
-#[derive(Debug, Drop)]
-pub struct GroupMeta<'a> {
-    pub columns: Vec<ChunkMeta<'a>>,
+#[derive(Drop)]
+pub struct GroupMeta<'t, 'a> {
+    pub columns: Vec<ChunkMeta<'t, 'a>>,
     pub total_byte_size: Option<i64>,
     pub rows: Count,
 }
 
 /// The metadata of a file.
-#[derive(Debug, Drop)]
-pub struct FileMeta<'a> {
+#[derive(Drop)]
+pub struct FileMeta<'t, 'a> {
     pub version: Option<i64>,
     pub schema: Vec<SchemaItem<'a>>,
     pub rows: Count,
-    pub groups: Vec<GroupMeta<'a>>,
+    pub groups: Vec<GroupMeta<'t, 'a>>,
     /// The program that wrote it.
     pub created_by: Option<&'a [u8]>,
 }

@@ -18,7 +18,7 @@ use std::alloc::Global;
 /// The struct of a file's metadata: its fields in order of their ids.
 ///
 /// Errors: want of memory alone.
-pub fn tree_of_file<'a>(alloc: Global, meta: &FileMeta<'a>) -> Result<Tree<'a>, NoMemory>
+pub fn tree_of_file<'a>(alloc: Global, meta: &FileMeta<'_, 'a>) -> Result<Tree<'a>, NoMemory>
     ensures { IfOk result (λ t. tree_view t ≡ file_tree (file_view meta.now)) }
 {
     let elements = trees_of_items(alloc, &meta.schema)?;
@@ -55,7 +55,10 @@ fn tree_of_item<'a>(alloc: Global, item: &SchemaItem<'a>) -> Result<Tree<'a>, No
     Ok(Tree { fields })
 }
 
-fn trees_of_groups<'a>(alloc: Global, groups: &[GroupMeta<'a>]) -> Result<Vec<Tree<'a>>, NoMemory>
+fn trees_of_groups<'a>(
+    alloc: Global,
+    groups: &[GroupMeta<'_, 'a>],
+) -> Result<Vec<Tree<'a>>, NoMemory>
     ensures { IfOk result (λ v. map tree_view v.items ≡ map (λ g. group_tree (group_view g)) groups.now) }
 {
     let mut trees = Vec::with_capacity(alloc, groups.len())?;
@@ -65,7 +68,7 @@ fn trees_of_groups<'a>(alloc: Global, groups: &[GroupMeta<'a>]) -> Result<Vec<Tr
     Ok(trees)
 }
 
-fn tree_of_group<'a>(alloc: Global, group: &GroupMeta<'a>) -> Result<Tree<'a>, NoMemory>
+fn tree_of_group<'a>(alloc: Global, group: &GroupMeta<'_, 'a>) -> Result<Tree<'a>, NoMemory>
     ensures { IfOk result (λ t. tree_view t ≡ group_tree (group_view group.now)) }
 {
     let chunks = trees_of_chunks(alloc, &group.columns)?;
@@ -80,7 +83,10 @@ fn tree_of_group<'a>(alloc: Global, group: &GroupMeta<'a>) -> Result<Tree<'a>, N
     Ok(Tree { fields })
 }
 
-fn trees_of_chunks<'a>(alloc: Global, chunks: &[ChunkMeta<'a>]) -> Result<Vec<Tree<'a>>, NoMemory>
+fn trees_of_chunks<'a>(
+    alloc: Global,
+    chunks: &[ChunkMeta<'_, 'a>],
+) -> Result<Vec<Tree<'a>>, NoMemory>
     ensures { IfOk result (λ v. map tree_view v.items ≡ map (λ c. chunk_tree (chunk_view c)) chunks.now) }
 {
     let mut trees = Vec::with_capacity(alloc, chunks.len())?;
@@ -90,7 +96,7 @@ fn trees_of_chunks<'a>(alloc: Global, chunks: &[ChunkMeta<'a>]) -> Result<Vec<Tr
     Ok(trees)
 }
 
-fn tree_of_chunk<'a>(alloc: Global, chunk: &ChunkMeta<'a>) -> Result<Tree<'a>, NoMemory>
+fn tree_of_chunk<'a>(alloc: Global, chunk: &ChunkMeta<'_, 'a>) -> Result<Tree<'a>, NoMemory>
     ensures { IfOk result (λ t. tree_view t ≡ chunk_tree (chunk_view chunk.now)) }
 {
     let meta = tree_of_column(alloc, &chunk.meta)?;
@@ -101,7 +107,7 @@ fn tree_of_chunk<'a>(alloc: Global, chunk: &ChunkMeta<'a>) -> Result<Tree<'a>, N
     Ok(Tree { fields })
 }
 
-fn tree_of_column<'a>(alloc: Global, meta: &ColumnMeta<'a>) -> Result<Tree<'a>, NoMemory>
+fn tree_of_column<'a>(alloc: Global, meta: &ColumnMeta<'_, 'a>) -> Result<Tree<'a>, NoMemory>
     ensures { IfOk result (λ t. tree_view t ≡ column_meta_tree (column_view meta.now)) }
 {
     let mut fields = Vec::new(alloc);

@@ -22,7 +22,7 @@ use std::alloc::Global;
 ///
 /// Errors: the first needed field that is missing or out of range, a struct's own before those of the structs inside
 /// it; want of memory.
-pub fn view_file<'a>(alloc: Global, tree: &'a Tree<'a>) -> Result<FileMeta<'a>, MetaFault>
+pub fn view_file<'t, 'a>(alloc: Global, tree: &'t Tree<'a>) -> Result<FileMeta<'t, 'a>, MetaFault>
     ensures { Gives file_view (metadata.view_file (tree_view tree.now)) result }
 {
     let elements = needed_structs(tree, file_meta::SCHEMA)?;
@@ -37,7 +37,7 @@ pub fn view_file<'a>(alloc: Global, tree: &'a Tree<'a>) -> Result<FileMeta<'a>, 
     })
 }
 
-fn view_items<'a>(alloc: Global, trees: &'a [Tree<'a>]) -> Result<Vec<SchemaItem<'a>>, MetaFault>
+fn view_items<'a>(alloc: Global, trees: &[Tree<'a>]) -> Result<Vec<SchemaItem<'a>>, MetaFault>
     ensures { Gives items_view (each view_element (map tree_view trees.now)) result }
 {
     let mut items = Vec::with_capacity(alloc, trees.len())?;
@@ -47,7 +47,7 @@ fn view_items<'a>(alloc: Global, trees: &'a [Tree<'a>]) -> Result<Vec<SchemaItem
     Ok(items)
 }
 
-fn view_item<'a>(tree: &'a Tree<'a>) -> Result<SchemaItem<'a>, MetaFault>
+fn view_item<'a>(tree: &Tree<'a>) -> Result<SchemaItem<'a>, MetaFault>
     ensures { Gives item_view (view_element (tree_view tree.now)) result }
 {
     let name = needed_binary(tree, schema_element::NAME)?;
@@ -61,7 +61,10 @@ fn view_item<'a>(tree: &'a Tree<'a>) -> Result<SchemaItem<'a>, MetaFault>
     })
 }
 
-fn view_groups<'a>(alloc: Global, trees: &'a [Tree<'a>]) -> Result<Vec<GroupMeta<'a>>, MetaFault>
+fn view_groups<'t, 'a>(
+    alloc: Global,
+    trees: &'t [Tree<'a>],
+) -> Result<Vec<GroupMeta<'t, 'a>>, MetaFault>
     ensures { Gives groups_view (each metadata.view_group (map tree_view trees.now)) result }
 {
     let mut groups = Vec::with_capacity(alloc, trees.len())?;
@@ -71,7 +74,7 @@ fn view_groups<'a>(alloc: Global, trees: &'a [Tree<'a>]) -> Result<Vec<GroupMeta
     Ok(groups)
 }
 
-fn view_group<'a>(alloc: Global, tree: &'a Tree<'a>) -> Result<GroupMeta<'a>, MetaFault>
+fn view_group<'t, 'a>(alloc: Global, tree: &'t Tree<'a>) -> Result<GroupMeta<'t, 'a>, MetaFault>
     ensures { Gives group_view (metadata.view_group (tree_view tree.now)) result }
 {
     let chunks = needed_structs(tree, row_group::COLUMNS)?;
@@ -83,7 +86,10 @@ fn view_group<'a>(alloc: Global, tree: &'a Tree<'a>) -> Result<GroupMeta<'a>, Me
     })
 }
 
-fn view_chunks<'a>(alloc: Global, trees: &'a [Tree<'a>]) -> Result<Vec<ChunkMeta<'a>>, MetaFault>
+fn view_chunks<'t, 'a>(
+    alloc: Global,
+    trees: &'t [Tree<'a>],
+) -> Result<Vec<ChunkMeta<'t, 'a>>, MetaFault>
     ensures { Gives chunks_view (each metadata.view_chunk (map tree_view trees.now)) result }
 {
     let mut chunks = Vec::with_capacity(alloc, trees.len())?;
@@ -93,7 +99,7 @@ fn view_chunks<'a>(alloc: Global, trees: &'a [Tree<'a>]) -> Result<Vec<ChunkMeta
     Ok(chunks)
 }
 
-fn view_chunk<'a>(tree: &'a Tree<'a>) -> Result<ChunkMeta<'a>, MetaFault>
+fn view_chunk<'t, 'a>(tree: &'t Tree<'a>) -> Result<ChunkMeta<'t, 'a>, MetaFault>
     ensures { Gives chunk_view (metadata.view_chunk (tree_view tree.now)) result }
 {
     let meta = view_column(needed_struct(tree, column_chunk::META)?)?;
@@ -104,7 +110,7 @@ fn view_chunk<'a>(tree: &'a Tree<'a>) -> Result<ChunkMeta<'a>, MetaFault>
     })
 }
 
-fn view_column<'a>(tree: &'a Tree<'a>) -> Result<ColumnMeta<'a>, MetaFault>
+fn view_column<'t, 'a>(tree: &'t Tree<'a>) -> Result<ColumnMeta<'t, 'a>, MetaFault>
     ensures { Gives column_view (view_column_meta (tree_view tree.now)) result }
 {
     let kind = needed_i32(tree, column_meta::KIND)?;
