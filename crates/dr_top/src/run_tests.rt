@@ -133,45 +133,49 @@ fn asking<'a>(
 
 const URL_WORDS: [&str; 5] = ["dremel", "ask", "--schema", "document.txt", URLS];
 
+const COUNTRY_WORDS: [&str; 5] = [
+    "dremel",
+    "ask",
+    "--schema",
+    "document.txt",
+    "SELECT COUNT(Name.Language.Country) AS c FROM Document;",
+];
+
+const ID_WORDS: [&str; 5] = [
+    "dremel",
+    "ask",
+    "--schema",
+    "document.txt",
+    "SELECT COUNT(DocId) FROM Document",
+];
+
+const OTHER_WORDS: [&str; 5] = [
+    "dremel",
+    "ask",
+    "--schema",
+    "document.txt",
+    "SELECT COUNT(Name.Url) FROM Other",
+];
+
+const LONG: &str = "{\"DocId\":1}\n{\"DocId\":\"x\"}\n{\"Lost\":1}\n";
+
 #[test]
 fn an_input_is_counted_or_its_first_fault_is_named(rt: HostRuntime) -> Result<(), Fail> {
-    let long = "{\"DocId\":1}\n{\"DocId\":\"x\"}\n{\"Lost\":1}\n";
-    let countries = [
-        "dremel",
-        "ask",
-        "--schema",
-        "document.txt",
-        "SELECT COUNT(Name.Language.Country) AS c FROM Document;",
-    ];
-    let ids = [
-        "dremel",
-        "ask",
-        "--schema",
-        "document.txt",
-        "SELECT COUNT(DocId) FROM Document",
-    ];
-    let other = [
-        "dremel",
-        "ask",
-        "--schema",
-        "document.txt",
-        "SELECT COUNT(Name.Url) FROM Other",
-    ];
     let rows = [
         asking(&URL_WORDS, DOCUMENT, "", 0, "{\"f0_\":0}\n", ""),
         asking(&URL_WORDS, DOCUMENT, RECORDS, 0, "{\"f0_\":3}\n", ""),
-        asking(&countries, DOCUMENT, RECORDS, 0, "{\"c\":2}\n", ""),
-        asking(&ids, DOCUMENT, "{\"DocId\":1}", 0, "{\"f0_\":1}\n", ""),
+        asking(&COUNTRY_WORDS, DOCUMENT, RECORDS, 0, "{\"c\":2}\n", ""),
+        asking(&ID_WORDS, DOCUMENT, "{\"DocId\":1}", 0, "{\"f0_\":1}\n", ""),
         asking(
             &URL_WORDS,
             DOCUMENT,
-            long,
+            LONG,
             2,
             "",
             "refused line 2: WrongKind\n",
         ),
         asking(
-            &other,
+            &OTHER_WORDS,
             DOCUMENT,
             RECORDS,
             2,
@@ -187,9 +191,9 @@ fn an_input_is_counted_or_its_first_fault_is_named(rt: HostRuntime) -> Result<()
             "refused schema at 34: Syntax\n",
         ),
         asking(
-            &other,
+            &OTHER_WORDS,
             "message Document { required float DocId; }",
-            long,
+            LONG,
             2,
             "",
             "refused schema at 28: FloatKind\n",
