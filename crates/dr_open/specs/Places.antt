@@ -16,6 +16,10 @@ next_fields n es = fields_read (length es) n es
 abbrev pub shape_from : SchemaElement → List SchemaElement → Option ShapeRead
 shape_from e es = shape_read (fields_read (length es)) e e.type e.children es
 
+-- the elements behind that shape
+abbrev pub behind_shape : SchemaElement → List SchemaElement → Option (List SchemaElement)
+behind_shape e es = option_map (λ (s : ShapeRead). s.behind) (shape_from e es)
+
 -- fields that were passed: how many leaves they have, and the elements behind them
 pub record Passed : Type 0 where
   pub leaves : ℕ

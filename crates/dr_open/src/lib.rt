@@ -4,7 +4,9 @@
 
 mod element;
 mod names;
+mod opening;
 mod place;
 mod skipping;
 
+pub use opening::open_schema;
 pub use place::leaf_place;

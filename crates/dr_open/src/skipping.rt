@@ -1,9 +1,9 @@
 //! Fields passed in the list of schema elements, with all that is below them.
 
-ghost use Rattle.std.specs.Prelude.{◌≡◌, ◌<◌, ◌≤◌, ◌+◌, ◌∷◌, List, ℕ, map, length, Some, None, IsSome, IfSome, IfNone};
+ghost use Rattle.std.specs.Prelude.{◌≡◌, ◌<◌, ◌≤◌, ◌+◌, ◌∷◌, List, ℕ, map, drop, length, Some, None, IsSome, IfSome, IfNone};
 ghost use Rattle.dr_meaning.specs.Path.{Leaf};
 ghost use Rattle.dr_meta.specs.Views.{item_view};
-ghost use Rattle.dr_open.specs.Places.{Passed, passed, place_among, place_in_field, behind_leaves, shape_from};
+ghost use Rattle.dr_open.specs.Places.{Passed, passed, place_among, place_in_field, behind_leaves, shape_from, behind_shape};
 ghost use Rattle.dr_open.specs.Skips.{skip_view};
 
 use dr_meta::{SchemaItem, group_size};
@@ -43,6 +43,18 @@ pub(crate) fn skip_fields(fields: u64, items: &[SchemaItem<'_>]) -> Skipped
     }
     let elements = items.len();
     Skipped { leaves, elements }
+}
+
+/// How many elements are below an element: those of its fields, where it is a group.
+pub(crate) fn elements_below(item: &SchemaItem<'_>, behind: &[SchemaItem<'_>]) -> usize
+    requires { IsSome (shape_from (item_view item.now) (map item_view behind.now)) }
+    ensures behind { behind_shape (item_view item.now) (map item_view behind.now) ≡ Some (map item_view (drop result behind.now)) }
+    ensures within { result ≤ length behind.now }
+{
+    match group_size(item) {
+        Some(fields) => skip_fields(fields, behind).elements,
+        None => 0,
+    }
 }
 
 /// The first field of a name among the next so many fields of a group.
