@@ -1,5 +1,5 @@
 -- The open part of the schema that a list of elements is.
-use Rattle.std.proofs.Common.{◌≡◌, ℕ, List, [], ◌∷◌, ◌∙◌, ap, subst, map}
+use Rattle.std.proofs.Common.{◌≡◌, ℕ, List, ◌∷◌, ◌∙◌, ap, subst, map}
 use Rattle.std.specs.Prelude.{IsSome, option_and_then, Some, vec_len}
 use Rattle.dr_formats.specs.FileSchema.{file_schema, open_schema, open_name}
 use Rattle.dr_meta.specs.declared.file.SchemaItem.{SchemaItem}

@@ -1,9 +1,9 @@
 -- The open part of fields, field by field, in the list of elements.
-use Rattle.std.proofs.Common.{◌≡◌, ℕ, zero, suc, ◌+◌, ◌-◌, ◌<◌, ◌≤◌, List, [], ◌∷◌, ◌++◌, length, map, take, drop, Bool, refl, sym, ap, ◌∙◌, subst, true, false, true≢false, arith}
+use Rattle.std.proofs.Common.{◌≡◌, ℕ, suc, ◌+◌, ◌-◌, ◌≤◌, List, [], ◌∷◌, ◌++◌, length, map, take, drop, Bool, refl, sym, ap, ◌∙◌, subst, true, true≢false, arith}
 use Rattle.std.specs.Prelude.{Option, Some, None, option_map, option_and_then, if◌then◌else◌, IsSome, ℤ, pos, negsuc, codes, Vec, vec_len, IfSome, unwrap_or}
 use Rattle.std.specs.Option.{is_some, option_to_list}
 use Rattle.std.specs.declared.alloc.Global.{Global}
-use Rattle.std.specs.BTreeSet.{BTreeSet, contains}
+use Rattle.std.specs.BTreeSet.{BTreeSet}
 use Rattle.std.specs.List.{list_any}
 use Rattle.std.proofs.lemmas.Option.{none-some, same_Some}
 use Rattle.std.specs.Ordering.{is_eq}
@@ -11,16 +11,16 @@ use Rattle.std.proofs.lemmas.List.{drop-drop, length-map}
 use denote.Ref.{Bor}
 use Rattle.dr_meaning.specs.Schema.{Repetition, Fields, no_fields, field, Shape, group, Schema, is_short_name, is_nonempty, is_schema, greatest_depth, most_leaves}
 use Rattle.dr_formats.specs.Metadata.{SchemaElement}
-use Rattle.dr_formats.specs.FileSchema.{FileFields, file_field, FieldsRead, ShapeRead, FileSchema, with_first, as_group, shape_read, fields_read, repetition_from, root_read, whole_schema, file_schema, is_open_name, OpenFields, OpenShape, closed_shape, group_unless_empty, put_shape, put_open, open_fields, open_below, open_name, schema_unless_empty, open_schema}
+use Rattle.dr_formats.specs.FileSchema.{FieldsRead, ShapeRead, FileSchema, as_group, fields_read, repetition_from, root_read, whole_schema, file_schema, is_open_name, OpenFields, OpenShape, closed_shape, group_unless_empty, put_shape, put_open, open_fields, open_below, open_name, schema_unless_empty, open_schema}
 use Rattle.dr_formats.proofs.OpenSchemaLemmas.{open_part_is_schema}
 use Rattle.dr_nested.specs.declared.shape.Field.{Field}
 use Rattle.dr_nested.specs.declared.shape.Shape as shapes
-use Rattle.dr_nested.specs.Views.{SeenField, fields_of, fields_view, field_view, shape_view}
+use Rattle.dr_nested.specs.Views.{SeenField, fields_of, fields_view, shape_view}
 use Rattle.dr_nested.proofs.ViewLemmas.{view-group}
 use Rattle.dr_meta.specs.declared.file.SchemaItem.{SchemaItem}
 use Rattle.dr_meta.specs.Views.{item_view, lent}
 use Rattle.dr_meta.specs.OneTree.{size_of_group}
-use Rattle.dr_open.specs.Places.{next_fields, shape_from, passed, passed_from}
+use Rattle.dr_open.specs.Places.{next_fields, passed, passed_from}
 use Rattle.dr_open.specs.Opens.{FieldsPart, part_of_fields, fields_part, ShapePart, part_of_shape, shape_part, FieldPart, named_shape, part_of_field, closed_field, field_part}
 use Rattle.dr_open.specs.OpenViews.{HoldsNames, text_order}
 use Rattle.dr_open.proofs.PassingLemmas.{enough, rest_from, from_place, is_there, First, first_next, rest_next, read_of, passes, shape_of_group}

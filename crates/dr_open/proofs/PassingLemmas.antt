@@ -1,14 +1,14 @@
 -- Fields read from the list of elements: the first of them and those behind it, and what passing them counts.
-use Rattle.std.proofs.Common.{◌≡◌, ℕ, zero, suc, ◌+◌, ◌-◌, ◌<◌, ◌≤◌, List, [], ◌∷◌, length, map, take, drop, get_or, length-drop, refl, sym, ap, ◌∙◌, subst, true, false, true≢false, arith}
+use Rattle.std.proofs.Common.{◌≡◌, ℕ, zero, suc, ◌+◌, ◌-◌, ◌<◌, ◌≤◌, List, [], ◌∷◌, length, map, take, drop, get_or, length-drop, refl, sym, ap, ◌∙◌, subst, true≢false, arith}
 use Rattle.std.specs.Prelude.{Option, Some, None, option_map, option_and_then, ℤ, pos, negsuc, IsSome}
 use Rattle.std.specs.Option.{is_some}
 use Rattle.std.proofs.lemmas.Option.{none-some, same_Some}
 use Rattle.std.proofs.lemmas.List.{take_all, drop_more, length-map}
 use Rattle.dr_meaning.specs.Schema.{Repetition}
 use Rattle.dr_formats.specs.Metadata.{SchemaElement}
-use Rattle.dr_formats.specs.FileSchema.{FileFields, no_file_fields, file_field, FileShape, file_leaf, file_group, FieldsRead, ShapeRead, with_first, as_group, shape_read, fields_read, repetition_from}
+use Rattle.dr_formats.specs.FileSchema.{FileFields, no_file_fields, file_field, file_leaf, FieldsRead, ShapeRead, with_first, as_group, shape_read, fields_read, repetition_from}
 use Rattle.dr_meta.specs.OneTree.{leaves_of_fields, leaves_of_shape, size_of_group}
-use Rattle.dr_meta.proofs.OneTreeLemmas.{same, shorter}
+use Rattle.dr_meta.proofs.OneTreeLemmas.{same}
 use Rattle.dr_meta.specs.declared.file.SchemaItem.{SchemaItem}
 use Rattle.dr_meta.specs.Views.{item_view}
 use Rattle.dr_open.specs.Places.{next_fields, shape_from, Passed, passed_from, passed}

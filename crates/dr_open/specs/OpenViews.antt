@@ -1,5 +1,5 @@
 -- What the open parts stand for, and the names of fields that were seen.
-use Rattle.std.specs.Prelude.{◌≡◌, ℕ, List, map, drop, true, Option, option_map}
+use Rattle.std.specs.Prelude.{◌≡◌, ℕ, List, map, drop, true, option_map}
 use Rattle.std.specs.List.{list_any}
 use Rattle.std.specs.Str.{bytes_eq}
 use Rattle.std.specs.Ordering.{nat_cmp}

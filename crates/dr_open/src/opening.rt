@@ -16,7 +16,7 @@ use crate::skipping::elements_below;
 use dr_memory::NoMemory;
 use dr_meta::{SchemaItem, group_size};
 use dr_nested::{Field, GREATEST_DEPTH, MOST_LEAVES, Rep, Schema, Shape};
-use std::alloc::Global;
+use std::alloc::{AllocError, Global};
 use std::collections::BTreeSet;
 
 /// The name of a schema whose root has none of the right form.
@@ -109,22 +109,21 @@ fn as_group(fields: OpenedFields) -> OpenedShape
     }
 }
 
-/// A shape, if there is one, as that of a field.
-fn named(name: String, rep: Rep, shape: OpenedShape) -> OpenedField
-    ensures field { option_map field_view result.field ≡ named_shape (string_bytes name) (rep_view rep) (option_map shape_view shape.shape) }
-    ensures elements { result.elements ≡ shape.elements }
-    ensures left { result.left ≡ shape.left }
+/// A shape, if there is one, as that of a field of this name.
+fn named(
+    alloc: Global,
+    name: &str,
+    rep: Rep,
+    shape: Option<Shape>,
+) -> Result<Option<Field>, AllocError>
+    ensures { IfOk result (λ f. option_map field_view f ≡ named_shape name.now (rep_view rep) (option_map shape_view shape)) }
 {
-    let OpenedShape {
-        shape,
-        elements,
-        left,
-    } = shape;
-    let field = shape.map(|shape| Field { name, rep, shape });
-    OpenedField {
-        field,
-        elements,
-        left,
+    match shape {
+        Some(shape) => {
+            let name = String::from_str(alloc, name)?;
+            Ok(Some(Field { name, rep, shape }))
+        }
+        None => Ok(None),
     }
 }
 
@@ -180,11 +179,19 @@ fn open_field(
     ensures within { IfOk result (λ o. o.elements ≤ length behind.now) }
 {
     match name {
-        Some(name) => Ok(named(
-            String::from_str(alloc, name)?,
-            rep,
-            open_shape(alloc, item, behind, depth, room)?,
-        )),
+        Some(name) => {
+            let OpenedShape {
+                shape,
+                elements,
+                left,
+            } = open_shape(alloc, item, behind, depth, room)?;
+            let field = named(alloc, name, rep, shape)?;
+            Ok(OpenedField {
+                field,
+                elements,
+                left,
+            })
+        }
         None => Ok(OpenedField {
             field: None,
             elements: elements_below(item, behind),

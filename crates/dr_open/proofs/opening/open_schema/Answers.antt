@@ -1,7 +1,7 @@
-use Rattle.std.proofs.Common.{◌≡◌, List, ◌∷◌, ◌∙◌, sym, ap, subst, map, refl}
-use Rattle.std.specs.Prelude.{IsSome, option_and_then, string_bytes, Some}
+use Rattle.std.proofs.Common.{List, ◌∙◌, sym, ap, subst, map, refl}
+use Rattle.std.specs.Prelude.{IsSome, option_and_then, string_bytes}
 use Rattle.std.proofs.lemmas.Bool.{eqb-true, eqb-false}
-use Rattle.dr_formats.specs.FileSchema.{file_schema, open_schema, open_name}
+use Rattle.dr_formats.specs.FileSchema.{file_schema, open_schema}
 use Rattle.dr_meta.specs.declared.file.SchemaItem.{SchemaItem}
 use Rattle.dr_meta.specs.Views.{item_view}
 use Rattle.dr_nested.specs.Views.{fields_view}
