@@ -221,9 +221,11 @@ group_passed left n c m e es q w h g =
     let r : next_fields n s.0.behind ≡ Some x.rest = ap (next_fields n) t ∙ rest_next n e es f.0 x in
     let z : m ≡ c + n = omega (arith, w) in
     let v : next_fields m es ≡ Some (both s.0 x.rest) = read_both (length es) (length s.0.behind) c n m es s.0 x.rest (omega arith) (omega arith) z s.1 r in
-    let y : leaves_of_shape x.shape.shape + leaves_of_fields x.rest.fields ≡ leaves_of_fields (both s.0 x.rest).fields = omega (arith, u, leaves-join s.0.fields x.rest.fields) in (
+    let y : leaves_of_shape x.shape.shape + leaves_of_fields x.rest.fields ≡ leaves_of_fields (both s.0 x.rest).fields = omega (arith, u, leaves-join s.0.fields x.rest.fields) in
+    let first : passed (suc n) (e ∷ es) ≡ Some (passed_from (both s.0 x.rest)) =
+    passes (suc n) (e ∷ es) f.0 f.1 ∙ (ap (λ (y : FieldsRead). Some (passed_from y)) (sym x.is_whole) ∙ ap (λ (j : ℕ). Some (record { leaves = j; behind = x.rest.behind })) y) in (
       is_there (passed m es) (passed_from (both s.0 x.rest)) (passes m es (both s.0 x.rest) v),
-      rw q (passes (suc n) (e ∷ es) f.0 f.1 ∙ (ap (λ (y : FieldsRead). Some (passed_from y)) (sym x.is_whole) ∙ (ap (λ (j : ℕ). Some (record { leaves = j; behind = x.rest.behind })) y ∙ sym (passes m es (both s.0 x.rest) v)))),
+      ap (λ (j : ℕ). passed j (e ∷ es)) q ∙ (first ∙ sym (passes m es (both s.0 x.rest) v)),
     )
 
 -- ---- lists of elements

@@ -87,6 +87,7 @@ fn open_leaf(item: &SchemaItem<'_>, room: usize) -> OpenedShape
 }
 
 /// Fields as a group, unless there are none.
+#[tactic(auto, using(crate::proofs::OpeningLemmas::no_group, crate::proofs::OpeningLemmas::group_of_fields))]
 fn as_group(fields: OpenedFields) -> OpenedShape
     ensures shape { option_map shape_view result.shape ≡ file.group_unless_empty (fields_view fields.fields.items) }
     ensures elements { result.elements ≡ fields.elements }
@@ -175,7 +176,8 @@ fn open_field(
     room: usize,
 ) -> Result<OpenedField, NoMemory>
     requires { IsSome (shape_from (item_view item.now) (map item_view behind.now)) }
-    ensures part { IfOk result (λ o. field_part (option_map lent name.entry) (rep_view rep) depth room (item_view item.now) (map item_view behind.now) ≡ Some (field_part_view o behind.now)) }
+    ensures part { IfOk result (λ o. field_part (option_map lent name.entry) (rep_view rep) depth room
+        (item_view item.now) (map item_view behind.now) ≡ Some (field_part_view o behind.now)) }
     ensures within { IfOk result (λ o. o.elements ≤ length behind.now) }
 {
     match name {
