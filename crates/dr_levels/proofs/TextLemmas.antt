@@ -29,6 +29,11 @@ all_taken p zero xs e = refl
 all_taken p (suc n) [] e = refl
 all_taken p (suc n) (x ∷ xs) e = ap₂ (λ a b. a && b) (and_parts _ _ e).0 (all_taken p n xs (and_parts _ _ e).1)
 
+pub all_dropped : {A : Type 0} (p : A → Bool) (n : ℕ) (xs : List A) → list_all p xs ≡ true → list_all p (drop n xs) ≡ true
+all_dropped p zero xs h = h
+all_dropped p (suc n) [] h = refl
+all_dropped p (suc n) (x ∷ xs) h = all_dropped p n xs (and_parts _ _ h).1
+
 pub text_parts : (bytes : List ℕ) (p : TextPlace) → is_text bytes p ≡ true → (p.start + p.length ≤ length bytes) × IsUtf8 (bytes_at bytes p)
 text_parts bytes p e = (leb-true _ _ (and_parts _ _ e).0, IsUtf8-from_is_utf8 _ (and_parts _ _ e).1)
 

@@ -5,6 +5,7 @@ ghost use Rattle.std.specs.List.{list_all};
 ghost use Rattle.dr_levels.specs.Texts.{is_text};
 
 use crate::text_place::{TextPlace, push_moved};
+use crate::values_ref::ValuesRef;
 use dr_nested::NoMemory;
 use std::alloc::Global;
 
@@ -21,6 +22,8 @@ impl Texts {
     ghost use Rattle.dr_meaning.specs.Record.{text_value};
     ghost use Rattle.dr_levels.specs.Dense.{texts_view, text_values};
     ghost use Rattle.dr_levels.specs.Columns.{Adds};
+    ghost use Rattle.dr_levels.specs.Lent.{lent_values, lends_kind};
+    ghost use Rattle.dr_meaning.specs.Schema.{text_kind};
 
     pub fn new(alloc: Global) -> Texts
         ensures { texts_view result ≡ [] }
@@ -46,6 +49,18 @@ impl Texts {
         let TextPlace { start, length } = self.places[number];
         let from = start as usize;
         unsafe { str::from_utf8_unchecked(&self.bytes[from..from + length as usize]) }
+    }
+
+    /// So many texts from a number on.
+    pub fn range(&self, from: usize, count: usize) -> ValuesRef<'_>
+        requires { from + count ≤ length (texts_view self.now) }
+        ensures values { lent_values result ≡ take count (drop from (texts_view self.now)) }
+        ensures texts { lends_kind text_kind result ≡ true }
+    {
+        ValuesRef::Texts {
+            bytes: &self.bytes,
+            places: &self.places[from..from + count],
+        }
     }
 
     /// Appends a text.
