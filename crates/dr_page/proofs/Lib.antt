@@ -8,3 +8,7 @@ pub mod PairLemmas
 pub mod ValueLemmas
 -- level parts
 pub mod LevelLemmas
+-- how many values there are
+pub mod CountLemmas
+-- bodies, part by part
+pub mod BodyLemmas
