@@ -12,3 +12,5 @@ pub mod LevelLemmas
 pub mod CountLemmas
 -- bodies, part by part
 pub mod BodyLemmas
+-- what is written
+pub mod WriteLemmas

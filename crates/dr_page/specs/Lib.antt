@@ -14,5 +14,7 @@ pub mod Levels
 pub mod Indices
 -- what is left of a body behind its levels
 pub mod Bodies
+-- what comes of writing
+pub mod Writes
 -- places of texts
 pub mod Places

@@ -13,6 +13,9 @@ use crate::fault::PageFault;
 use crate::level_runs::read_runs;
 use dr_bytes::Cut;
 
+/// The bytes of the length before a part.
+pub(crate) const LENGTH_BYTES: usize = 4;
+
 /// Puts the levels with which a body goes on into the place of others, and answers the bytes behind them. Where the greatest level is 0
 /// there are no bytes of them, and they are left out: all would be 0.
 pub(crate) fn read_levels<'a>(

@@ -3,6 +3,7 @@
 #![tactic(auto)]
 
 mod body_reader;
+mod body_writer;
 mod dictionary;
 mod encoding;
 mod fault;
@@ -10,14 +11,20 @@ mod index_runs;
 mod level_part;
 mod level_reader;
 mod level_runs;
+mod level_writer;
 mod levels;
 mod picking;
+
 mod run_appending;
 mod shape;
 mod text_places;
 mod value_reader;
+mod value_size;
+mod value_writer;
 
 pub use body_reader::BodyReader;
+pub use body_writer::BodyWriter;
 pub use dictionary::Dictionary;
 pub use fault::PageFault;
+pub use value_size::plain_size;
 pub use shape::{GREATEST_LEVEL, Shape};
