@@ -28,7 +28,7 @@ definitions ls = map (λ (l : Levels). l.definition) ls
 
 one_joined : (b : Bool) (g : ℕ) (l : Levels) (ls : List Levels) (vs : List Value) → ((us : List Value) → join_triplets g (repetitions ls) (definitions ls) us ≡ joined g ls us)
     → triplet l.repetition l.definition (first_if b vs) ∷ join_triplets g (repetitions ls) (definitions ls) (behind_if b vs)
-      ≡ (if b then triplet l.repetition l.definition (first_of vs) ∷ joined g ls (drop 1 vs) else triplet l.repetition l.definition None ∷ joined g ls vs)
+    ≡ (if b then triplet l.repetition l.definition (first_of vs) ∷ joined g ls (drop 1 vs) else triplet l.repetition l.definition None ∷ joined g ls vs)
 one_joined true g l ls [] h = ap (λ ts. triplet l.repetition l.definition None ∷ ts) (h [])
 one_joined true g l ls (v ∷ vs) h = ap (λ ts. triplet l.repetition l.definition (Some v) ∷ ts) (h vs)
 one_joined false g l ls vs h = ap (λ ts. triplet l.repetition l.definition None ∷ ts) (h vs)

@@ -2,7 +2,6 @@
 
 ghost use Rattle.std.specs.Prelude.{◌≡◌};
 ghost use Rattle.dr_page.specs.declared.fault.PageFault.TheVariants.{BadData as IsBadData, NoMemory as WantOfMemory};
-
 ghost use Rattle.dr_page.specs.Faults.{page_fault};
 
 use dr_memory::NoMemory;

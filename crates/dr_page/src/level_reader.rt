@@ -36,11 +36,7 @@ impl LevelReader {
     }
 
     /// Reads the levels with which a body begins, and answers the bytes behind them.
-    pub(crate) fn read<'a>(
-        &mut self,
-        shape: &Shape,
-        bytes: &'a [u8],
-    ) -> Result<&'a [u8], PageFault>
+    pub(crate) fn read<'a>(&mut self, shape: &Shape, bytes: &'a [u8]) -> Result<&'a [u8], PageFault>
         ensures read { IfOk result (λ rest. level_parts (shape_view shape.now) bytes.now ≡ got (levels_view shape.now self.new) rest.now) }
         ensures bad { IfErr result (λ e. WhereBad e (level_parts (shape_view shape.now) bytes.now)) }
         ensures repetitions { OnOk result (length (levels_view shape.now self.new).0 ≡ (shape.now).triplets) }

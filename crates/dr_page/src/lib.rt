@@ -14,9 +14,10 @@ mod level_runs;
 mod level_writer;
 mod levels;
 mod picking;
-
 mod run_appending;
 mod shape;
+#[cfg(test)]
+mod tests;
 mod text_places;
 mod value_reader;
 mod value_size;
@@ -26,5 +27,5 @@ pub use body_reader::BodyReader;
 pub use body_writer::BodyWriter;
 pub use dictionary::Dictionary;
 pub use fault::PageFault;
-pub use value_size::plain_size;
 pub use shape::{GREATEST_LEVEL, Shape};
+pub use value_size::plain_size;

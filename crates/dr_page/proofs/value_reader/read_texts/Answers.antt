@@ -60,4 +60,4 @@ returns-in_ok-read_picked-in-Some-Dictionary-clause-texts c =
     let d = c.args.dictionary.now in
     ap (λ bs. list_all (is_text bs) c.read_picked.new.out.items) c.deref-in-Some-Dictionary-2.ensures.value
     ∙ picked_pass (is_text d.bytes.items) d.places.items c.read_picked.new.out.items c.args.count c.args.bytes.now d.texts
-        (ap (λ (items : List TextPlace). option_and_then (picked items) (indices_ahead c.args.count c.args.bytes.now)) (sym c.deref-in-Some-Dictionary.ensures.value) ∙ c.in_ok-read_picked-in-Some-Dictionary.ensures)
+    (ap (λ (items : List TextPlace). option_and_then (picked items) (indices_ahead c.args.count c.args.bytes.now)) (sym c.deref-in-Some-Dictionary.ensures.value) ∙ c.in_ok-read_picked-in-Some-Dictionary.ensures)
