@@ -151,7 +151,7 @@ impl Column {
     }
 
     /// Appends triplets of these levels, with the texts at these places of a buffer at the places that have a value. The
-    /// buffer is copied in one piece.
+    /// buffer is copied in one piece, or where it is longer than the texts with a length before each, text by text.
     ///
     /// Errors: want of memory, or of room: a column's texts have less than 4 GiB together. Nothing has changed then.
     pub fn extend_texts(

@@ -152,7 +152,7 @@ impl Values {
         Ok(())
     }
 
-    /// Appends texts that lie at places of a buffer, which is copied in one piece.
+    /// Appends texts that lie at places of a buffer.
     ///
     /// Errors: want of memory, or of room for texts; nothing has changed then.
     pub fn extend_texts(&mut self, bytes: &[u8], places: &[TextPlace]) -> Result<(), NoMemory>
