@@ -191,7 +191,7 @@ const TWO_WORDS: [u8; 12] = [1, 0, 0, 0, b'a', 2, 0, 0, 0, b'b', b'c', 7];
 #[test]
 fn values_of_a_dictionary_are_read(rt: HostRuntime) -> Result<(), Fail> {
     let alloc = rt.alloc();
-    let rows: [(Kind, &[u8], i64, u64, &[u8], Option<&str>); 14] = [
+    let rows: [(Kind, &[u8], i64, u64, &[u8], Option<&str>); 15] = [
         (
             Kind::I64,
             &NUMBERS,
@@ -247,6 +247,7 @@ fn values_of_a_dictionary_are_read(rt: HostRuntime) -> Result<(), Fail> {
             &[1, 3, 1],
             Some("(true 0 0)(false 0 0)"),
         ),
+        (Kind::Text, &TWO_WORDS, 8, 1, &[1, 3, 1], Some("(bc 0 0)")),
         (Kind::Text, &TWO_WORDS, 0, 1, &TWO_WORDS, Some("(a 0 0)")),
     ];
     let mut reader = BodyReader::new(alloc);
