@@ -1,16 +1,15 @@
 -- Levels and values side by side: joined ends, fronts and rests.
 use Rattle.std.specs.Prelude.{◌≡◌, ◌<◌, ◌≤◌, ℕ, zero, suc, ◌+◌, ◌-◌, List, [], ◌∷◌, ◌++◌, length, map, take, drop, Bool, true, false, ◌==◌, if◌then◌else◌, Option, Some, None}
-use Rattle.std.proofs.Common.{refl, sym, ap, ap₂, ◌∙◌, arith, length-append, append-nil, add-one}
-use Rattle.std.proofs.lemmas.List.{drop-drop, take-append-drop, length-take-le, take-map, drop-map}
+use Rattle.std.proofs.Common.{refl, sym, ap, ap₂, ◌∙◌, arith, length-append, add-one}
+use Rattle.std.proofs.lemmas.List.{take-append-drop, length-take-le, take-map, drop-map}
 use Rattle.dr_meaning.specs.Record.{Value}
 use Rattle.dr_meaning.specs.Column.{Triplet, triplet}
 use Rattle.dr_levels.specs.declared.triplet.Levels.{Levels}
-use Rattle.std.specs.Prelude.{get_or, replicate, ◌≢◌, IfSome, Result, Ok, Err}
+use Rattle.std.specs.Prelude.{get_or, replicate, ◌≢◌, Result, Ok, Err}
 use Rattle.std.proofs.Math.Seq.{take-suc}
 use Rattle.std.proofs.lemmas.Bool.Decides.{nat_tests}
 use Rattle.dr_memory.specs.declared.NoMemory.{NoMemory}
 use Rattle.dr_meaning.specs.Schema as tree
-use Rattle.dr_meaning.specs.Record.{is_of_kind}
 use Rattle.std.specs.Prelude.{◌^◌}
 use Rattle.std.proofs.lemmas.List.{length-map}
 use Rattle.dr_meaning.specs.Record.{bool_value, int_value, text_value}
@@ -18,7 +17,7 @@ use Rattle.dr_levels.specs.declared.text_place.TextPlace.{TextPlace}
 use Rattle.dr_levels.specs.declared.values.Values.{Values}
 use Rattle.dr_levels.specs.Texts.{bytes_at}
 use Rattle.dr_levels.specs.Dense.{present, value_list, first_of, joined, values_view}
-use Rattle.dr_levels.specs.Views.{LeafForm, form, levels_pair, triplet_levels}
+use Rattle.dr_levels.specs.Views.{LeafForm, levels_pair, triplet_levels}
 use Rattle.dr_levels.specs.Columns.{Adds, has_value, takes}
 use Rattle.dr_levels.specs.Lent.{present_values}
 

@@ -1,5 +1,5 @@
 -- Values that are lent, and the values that triplets have.
-use Rattle.std.specs.Prelude.{ℕ, List, [], ◌∷◌, ◌++◌, map, Bool, true, false}
+use Rattle.std.specs.Prelude.{List, [], ◌∷◌, ◌++◌, map, Bool, true, false}
 use Rattle.std.specs.List.{list_all}
 use Rattle.dr_meaning.specs.Record.{Value, bool_value, int_value}
 use Rattle.dr_meaning.specs.Schema as tree

@@ -1,4 +1,4 @@
-use Rattle.std.proofs.Common.{◌≡◌, ◌+◌, ap, ◌∙◌, sym, length, arith, rules, subst, map, List}
+use Rattle.std.proofs.Common.{◌≡◌, length, rules, map}
 use Rattle.dr_levels.specs.Texts.{moved}
 use Rattle.dr_levels.specs.Columns.{Adds}
 use Rattle.dr_levels.proofs.TextLemmas.{all_after, values_after}

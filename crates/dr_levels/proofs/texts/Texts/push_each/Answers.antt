@@ -1,4 +1,4 @@
-use Rattle.std.proofs.Common.{◌≡◌, ◌∙◌, ◌+◌, ◌-◌, sym, subst, take, drop, get_or}
+use Rattle.std.proofs.Common.{◌∙◌, sym, subst, take, get_or}
 use Rattle.std.proofs.lemmas.Result.{err_from_is_err_and}
 use Rattle.std.specs.Str.{IsUtf8}
 use Rattle.dr_levels.specs.declared.text_place.TextPlace.{TextPlace}

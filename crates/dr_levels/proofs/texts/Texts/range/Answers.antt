@@ -1,4 +1,4 @@
-use Rattle.std.proofs.Common.{◌≡◌, ◌+◌, ◌-◌, ◌∙◌, ap, ap₂, refl, sym, subst, true, take, drop, List, ℕ}
+use Rattle.std.proofs.Common.{◌≡◌, ◌+◌, ◌-◌, ◌∙◌, ap, ap₂, refl, true, take, drop, List}
 use Rattle.std.specs.List.{list_all}
 use Rattle.dr_meaning.specs.Record.{text_value}
 use Rattle.dr_levels.specs.declared.text_place.TextPlace.{TextPlace}

@@ -1,8 +1,8 @@
-use Rattle.std.proofs.Common.{◌≡◌, ◌≤◌, ◌<◌, ◌+◌, ◌++◌, ap, ap₂, ◌∙◌, sym, arith, take, drop, length, rules, List, take-add}
+use Rattle.std.proofs.Common.{◌≡◌, ◌+◌, ap, ap₂, ◌∙◌, sym, arith, take, drop, List}
 use Rattle.std.proofs.lemmas.List.{drop-drop}
 use Rattle.dr_levels.specs.declared.triplet.Levels.{Levels}
 use Rattle.dr_levels.specs.Dense.{present, joined, values_view}
-use Rattle.dr_levels.proofs.DenseLemmas.{joined_length, joined-taken, joined-dropped, present-taken, present-append, present-parts, values_small}
+use Rattle.dr_levels.proofs.DenseLemmas.{joined_length, joined-taken, joined-dropped, present-taken, present-parts, values_small}
 use Rattle.dr_levels.proofs.triplets.Triplets.split_at.Goals as goal
 
 pub split_at-requires : goal.split_at-requires
