@@ -1,5 +1,5 @@
 -- What is known of the open branches of a walk.
-use Rattle.std.specs.Prelude.{ℕ, zero, suc, List, [], ◌∷◌, Bool, ◌==◌, if◌then◌else◌}
+use Rattle.std.specs.Prelude.{ℕ, zero, suc, List, [], ◌∷◌, ◌==◌, if◌then◌else◌}
 use Rattle.std.specs.Int.{bit_at}
 use Rattle.dr_levels.specs.declared.kept.Branch.{Branch}
 use Rattle.dr_levels.specs.declared.kept.Kept.{Kept}

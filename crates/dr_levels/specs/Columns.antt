@@ -1,5 +1,5 @@
 -- What a column takes, and how it changes.
-use Rattle.std.specs.Prelude.{◌≡◌, ℕ, List, [], ◌∷◌, ◌++◌, Bool, true, false, ◌==◌, Option, Some, None, Result, Ok, Err}
+use Rattle.std.specs.Prelude.{◌≡◌, List, [], ◌∷◌, ◌++◌, Bool, true, false, ◌==◌, Option, Some, None, Result, Ok, Err}
 use Rattle.dr_memory.specs.declared.NoMemory.{NoMemory}
 use Rattle.dr_meaning.specs.Schema as tree
 use Rattle.dr_meaning.specs.Record.{Value, bool_value, int_value, text_value}
@@ -28,6 +28,11 @@ takes f t = has_value f.kind (t.definition == f.greatest) t.value
 abbrev pub Adds : {A : Type 0} → List A → List A → List A → Result (Unit {0}) NoMemory → Type 0
 Adds before after more (Ok done) = after ≡ before ++ more
 Adds before after more (Err e) = after ≡ before
+
+-- these joined at the end; or some of them did
+abbrev pub AddsSome : {A : Type 0} → List A → List A → List A → Result (Unit {0}) NoMemory → Type 0
+AddsSome before after more (Ok done) = after ≡ before ++ more
+AddsSome {A = A} before after more (Err e) = (some : List A) × (after ≡ before ++ some)
 
 -- the first triplet that was left is given
 abbrev pub Gives : {A : Type 0} → (A → Triplet) → List Triplet → List Triplet → Option A → Type 0

@@ -1,6 +1,6 @@
 -- Columns as levels and values side by side.
-use Rattle.std.specs.Prelude.{ℕ, suc, List, [], ◌∷◌, length, map, drop, Bool, true, false, ◌==◌, ◌&&◌, if◌then◌else◌, Option, Some, None}
-use Rattle.dr_meaning.specs.Record.{Value, bool_value, int_value, text_value, is_of_kind}
+use Rattle.std.specs.Prelude.{ℕ, suc, List, [], ◌∷◌, map, drop, Bool, true, false, ◌==◌, if◌then◌else◌, Option, Some, None}
+use Rattle.dr_meaning.specs.Record.{Value, bool_value, int_value, text_value}
 use Rattle.dr_meaning.specs.Schema as tree
 use Rattle.dr_meaning.specs.Column.{Triplet, triplet}
 use Rattle.dr_levels.specs.declared.triplet.Levels.{Levels}

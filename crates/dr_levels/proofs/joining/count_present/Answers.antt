@@ -1,4 +1,4 @@
-use Rattle.std.proofs.Common.{◌≡◌, ◌≤◌, ◌+◌, ap₂, ◌∙◌, sym, arith}
+use Rattle.std.proofs.Common.{◌+◌, ap₂, ◌∙◌, sym, arith}
 use Rattle.dr_levels.proofs.DenseLemmas.{counted_more}
 use Rattle.dr_levels.proofs.joining.count_present.Goals as goal
 

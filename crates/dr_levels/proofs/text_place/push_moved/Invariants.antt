@@ -1,4 +1,4 @@
-use Rattle.std.proofs.Common.{◌≡◌, ◌++◌, map, take, length}
+use Rattle.std.proofs.Common.{◌≡◌, ◌++◌, map, take}
 use Rattle.dr_levels.specs.Texts.{moved}
 use Rattle.dr_levels.proofs.text_place.push_moved.Given as goal
 

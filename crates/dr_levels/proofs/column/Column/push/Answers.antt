@@ -1,11 +1,7 @@
-use Rattle.std.proofs.Common.{◌≡◌, ◌++◌, ◌∷◌, [], List, ap, ap₂, ◌∙◌, sym, length, map, option_map}
-use Rattle.std.proofs.lemmas.List.{length-map}
-use Rattle.dr_meaning.specs.Record.{bool_value, int_value, text_value}
+use Rattle.std.proofs.Common.{◌≡◌, ◌++◌, ◌∷◌, [], List, ap, ap₂, ◌∙◌, sym, length, option_map}
 use Rattle.dr_nested.specs.Views.{kind_view}
-use Rattle.dr_levels.specs.declared.text_place.TextPlace.{TextPlace}
 use Rattle.dr_levels.specs.declared.triplet.Levels.{Levels}
-use Rattle.dr_levels.specs.Texts.{bytes_at}
-use Rattle.dr_levels.specs.Dense.{present, joined, values_view, text_values, value_list}
+use Rattle.dr_levels.specs.Dense.{present, joined, values_view, value_list}
 use Rattle.dr_levels.specs.Views.{lent_value, column_view, column_form}
 use Rattle.dr_levels.proofs.DenseLemmas.{still_dense, joined-extended, taken_joined, taken_counted}
 use Rattle.dr_levels.proofs.column.Column.push.Goals as goal

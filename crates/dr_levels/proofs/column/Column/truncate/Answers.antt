@@ -1,6 +1,5 @@
-use Rattle.std.proofs.Common.{◌≡◌, ap, ap₂, ◌∙◌, sym, take, length, List}
+use Rattle.std.proofs.Common.{◌≡◌, ap, ap₂, ◌∙◌, sym, take, length}
 use Rattle.dr_nested.specs.Views.{kind_view}
-use Rattle.dr_levels.specs.declared.triplet.Levels.{Levels}
 use Rattle.dr_levels.specs.Dense.{present, joined, values_view}
 use Rattle.dr_levels.proofs.DenseLemmas.{truncated, truncated_count}
 use Rattle.dr_levels.proofs.column.Column.truncate.Goals as goal

@@ -1,4 +1,4 @@
-use Rattle.std.proofs.Common.{◌≡◌, ap, ◌∙◌, subst, sym, length, arith, take, drop, ◌+◌, ◌-◌, ◌≤◌, ◌<◌, ◌∷◌, List}
+use Rattle.std.proofs.Common.{◌≡◌, ap, ◌∙◌, subst, sym, length, arith, take, drop, ◌+◌, ◌-◌, ◌<◌, ◌∷◌}
 use Rattle.std.proofs.lemmas.List.{length-map}
 use Rattle.std.specs.Str.{IsUtf8}
 use Rattle.dr_meaning.specs.Record.{text_value}

@@ -1,7 +1,6 @@
-use Rattle.std.proofs.Common.{◌≡◌, ◌++◌, ◌∷◌, [], ap₂, ◌∙◌, sym, length, arith, rules}
-use Rattle.dr_levels.specs.Texts.{is_text}
+use Rattle.std.proofs.Common.{ap₂, ◌∙◌, rules}
 use Rattle.dr_levels.specs.Dense.{text_values}
-use Rattle.dr_levels.proofs.TextLemmas.{put_or_not, put_values, still_values}
+use Rattle.dr_levels.proofs.TextLemmas.{put_or_not, put_values}
 use Rattle.dr_levels.proofs.texts.Texts.push.Goals as goal
 
 pub invariant_of-self-2 : goal.invariant_of-self-2

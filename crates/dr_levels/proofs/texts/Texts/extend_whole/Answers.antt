@@ -1,8 +1,8 @@
-use Rattle.std.proofs.Common.{◌≡◌, ◌+◌, ap, ◌∙◌, sym, length, arith, rules, subst, map, List}
+use Rattle.std.proofs.Common.{◌≡◌, length, rules, map}
 use Rattle.dr_levels.specs.Texts.{moved}
 use Rattle.dr_levels.specs.Columns.{Adds}
 use Rattle.dr_levels.proofs.TextLemmas.{all_after, values_after}
-use Rattle.dr_levels.proofs.texts.Texts.extend.Goals as goal
+use Rattle.dr_levels.proofs.texts.Texts.extend_whole.Goals as goal
 
 pub invariant_of-self-2 : goal.invariant_of-self-2
 invariant_of-self-2 c =
