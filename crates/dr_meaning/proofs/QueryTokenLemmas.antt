@@ -6,7 +6,7 @@ use Rattle.std.specs.Str.{str_to_ascii_uppercase}
 use Rattle.std.proofs.lemmas.Bool.{and_from, or_from, not_from_false, eqb-true, leb-true, leb-false, cond_both}
 use Rattle.dr_meaning.specs.Schema.{is_name, begins_name, continues_name}
 use Rattle.dr_meaning.specs.SchemaText.{is_blank}
-use Rattle.dr_meaning.specs.QueryText.{Word, select_word, from_word, where_word, group_word, by_word, as_word, within_word, record_word, and_word, or_word, not_word, like_word, contains_word, is_word, null_word, true_word, false_word, count_word, sum_word, min_word, max_word, comma, open_parenthesis, close_parenthesis, dot, star, plus_sign, minus_sign, equals, differs, less_than, less_or_equal, greater_than, greater_or_equal, semicolon, QueryToken, reserved, identifier, number, text, sign, bad, PlacedToken, word_or, word_of, name_token, greatest_number, number_token, quoted_token, is_digit, sign_token, Begun, none, in_name, in_number, in_quotes, in_text, after_quote, after_less, after_greater, Lexed, placed, begins, whole, after_token, first_byte, next_byte, last_tokens, query_tokens_from}
+use Rattle.dr_meaning.specs.Tokens.{Word, select_word, from_word, where_word, group_word, by_word, as_word, within_word, record_word, and_word, or_word, not_word, like_word, contains_word, is_word, null_word, true_word, false_word, count_word, sum_word, min_word, max_word, comma, open_parenthesis, close_parenthesis, dot, star, plus_sign, minus_sign, equals, differs, less_than, less_or_equal, greater_than, greater_or_equal, semicolon, QueryToken, reserved, identifier, number, text, sign, bad, PlacedToken, word_or, word_of, name_token, greatest_number, number_token, quoted_token, is_digit, sign_token, Begun, none, in_name, in_number, in_quotes, in_text, after_quote, after_less, after_greater, Lexed, placed, begins, whole, after_token, first_byte, next_byte, last_tokens, query_tokens_from}
 use Rattle.dr_meaning.specs.TokenLaws.{IsWholeWord, digits_value, AreDigitsOf, doubled, has_no_quote, IsQueryToken, AreQueryTokens, QueryTokensAreText}
 use Rattle.dr_meaning.proofs.TokenLemmas.{all_push, begun_more}
 

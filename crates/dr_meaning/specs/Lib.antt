@@ -16,7 +16,11 @@ pub mod Print
 pub mod Column
 pub mod Automaton
 pub mod Walk
--- input lines, query text; what commands refuse, and the commands
+-- query text: its tokens, the syntax tree and the first fault
+pub mod Tokens
+pub mod Syntax
+pub mod Parse
+-- input lines, the query of one COUNT; what commands refuse, and the commands
 pub mod Lines
 pub mod QueryText
 pub mod Refusals
