@@ -13,6 +13,8 @@ pub mod WorkedMeaning
 pub mod WorkedWalk
 pub mod WorkedLimits
 pub mod WorkedTokens
+pub mod WorkedSyntax
+pub mod WorkedSyntaxFaults
 pub mod WorkedTexts
 pub mod WorkedAsk
 pub mod WorkedStripe
