@@ -286,7 +286,7 @@ begins_key t = is_some (name_in t)
 abbrev pub further_names : ℕ → List (List ℕ) → Production (List (List ℕ))
 further_names zero ns = give ns
 further_names (suc k) ns = if_next (is_the_sign dot) (do
-    _ ← mark dot
+    _ ← any_token
     n ← name
     further_names k (ns ++ n ∷ [])) (give ns)
 
@@ -368,42 +368,44 @@ plain i e = e
 -- LIKE text, of an expression
 abbrev pub like_test : (ℕ → ExpressionSyntax → ExpressionSyntax) → ExpressionSyntax → Production ExpressionSyntax
 like_test shaped e = do
-  i ← word like_word
+  i ← any_token
   t ← quoted_text
   give (shaped i (like i e t))
 
 -- CONTAINS text
 abbrev pub contains_test : (ℕ → ExpressionSyntax → ExpressionSyntax) → ExpressionSyntax → Production ExpressionSyntax
 contains_test shaped e = do
-  i ← word contains_word
+  i ← any_token
   t ← quoted_text
   give (shaped i (contains i e t))
 
--- LIKE text | CONTAINS text
-abbrev pub text_test : (ℕ → ExpressionSyntax → ExpressionSyntax) → ExpressionSyntax → Production ExpressionSyntax
-text_test shaped e = if_next (is_the_word like_word) (like_test shaped e) (contains_test shaped e)
+-- LIKE text | CONTAINS text, or else another production
+abbrev pub text_test : (ℕ → ExpressionSyntax → ExpressionSyntax) → ExpressionSyntax → Production ExpressionSyntax → Production ExpressionSyntax
+text_test shaped e other = if_next (is_the_word like_word) (like_test shaped e) (if_next (is_the_word contains_word) (contains_test shaped e) other)
 
 -- NOT LIKE text | NOT CONTAINS text
 abbrev pub denied_test : ExpressionSyntax → Production ExpressionSyntax
 denied_test e = do
-  _ ← word not_word
-  text_test negation e
+  _ ← any_token
+  text_test negation e (problem_here syntax)
 
--- IS [NOT] NULL
+-- IS NOT NULL
 abbrev pub denied_null : ℕ → ExpressionSyntax → Production ExpressionSyntax
 denied_null i e = do
-  _ ← word not_word
+  _ ← any_token
   _ ← word null_word
   give (negation i (is_null i e))
 
+-- IS NULL
 abbrev pub plain_null : ℕ → ExpressionSyntax → Production ExpressionSyntax
 plain_null i e = do
   _ ← word null_word
   give (is_null i e)
 
+-- IS [NOT] NULL
 abbrev pub null_test : ExpressionSyntax → Production ExpressionSyntax
 null_test e = do
-  i ← word is_word
+  i ← any_token
   if_next (is_the_word not_word) (denied_null i e) (plain_null i e)
 
 -- a comparison sign and a sum
@@ -418,9 +420,7 @@ abbrev pub tested : Inner → ExpressionSyntax → Production ExpressionSyntax
 tested inner e = by_next comparison_in (comparison_test inner e)
     (if_next (is_the_word not_word) (denied_test e)
     (if_next (is_the_word is_word) (null_test e)
-    (if_next (is_the_word like_word) (like_test plain e)
-    (if_next (is_the_word contains_word) (contains_test plain e)
-    (give e)))))
+    (text_test plain e (give e))))
 
 abbrev pub test_of : Inner → Production ExpressionSyntax
 test_of inner = do
@@ -444,12 +444,12 @@ expression_of inner = operands or_in (and_of inner)
 abbrev pub nested : ℕ → Inner
 nested zero opened = problem_here too_deep
 nested (suc n) parenthesized = do
-  _ ← mark open_parenthesis
+  _ ← any_token
   e ← expression_of (nested n)
   _ ← mark close_parenthesis
   give e
 nested (suc n) negated = do
-  i ← word not_word
+  i ← any_token
   e ← not_of (nested n)
   give (negation i e)
 nested (suc n) signed = do
@@ -466,23 +466,24 @@ too_many_of begins = if_next begins (problem_here too_many) (problem_here syntax
 -- further elements behind these, of which so many may come
 abbrev pub further_elements : {A : Type 0} → (QueryToken → Bool) → Production A → ℕ → List A → Production (List A)
 further_elements begins element zero xs = if_next (is_the_sign comma) (do
-    _ ← mark comma
+    _ ← any_token
     too_many_of begins) (give xs)
 further_elements begins element (suc n) xs = if_next (is_the_sign comma) (do
-    _ ← mark comma
+    _ ← any_token
     x ← element
     further_elements begins element n (xs ++ x ∷ [])) (give xs)
 
-abbrev pub elements : {A : Type 0} → (QueryToken → Bool) → Production A → Production (List A)
-elements begins element = do
+-- an element, and so many more
+abbrev pub elements : {A : Type 0} → (QueryToken → Bool) → Production A → ℕ → Production (List A)
+elements begins element n = do
   x ← element
-  further_elements begins element (most_items - 1) (x ∷ [])
+  further_elements begins element n (x ∷ [])
 
 -- ---- agg = ( COUNT "(" ("*" | expr) ")" | (SUM|MIN|MAX) "(" expr ")" ) [WITHIN (RECORD | path)]
 
 abbrev pub within_record : ℕ → Production (Option WithinSyntax)
 within_record i = do
-  _ ← word record_word
+  _ ← any_token
   give (Some (record { place = i; node = whole_record }))
 
 abbrev pub within_path : ℕ → Production (Option WithinSyntax)
@@ -493,7 +494,7 @@ within_path i = do
 -- [WITHIN (RECORD | path)]
 abbrev pub within_part : Production (Option WithinSyntax)
 within_part = if_next (is_the_word within_word) (do
-    i ← word within_word
+    i ← any_token
     if_next (is_the_word record_word) (within_record i) (within_path i)) (give None)
 
 -- whether a token is the star of COUNT(*)
@@ -509,10 +510,14 @@ rows_argument = do
   w ← within_part
   give (count_rows w)
 
--- expr ")"; the aggregate's own parenthesis is a nesting
+-- expr in the parenthesis of an aggregate, which is a nesting
+unfoldable pub argument : Production ExpressionSyntax
+argument = expression_of (nested (greatest_nesting - 1))
+
+-- expr ")"
 abbrev pub expression_argument : Aggregate → Production TermSyntax
 expression_argument a = do
-  e ← expression_of (nested (greatest_nesting - 1))
+  e ← argument
   _ ← mark close_parenthesis
   w ← within_part
   give (aggregate a e w)
@@ -525,7 +530,8 @@ aggregate_term a = do
 
 -- ---- item = ( agg | expr ) [AS name]
 
-abbrev pub whole_expression : Production ExpressionSyntax
+-- expr, where no nesting is open
+unfoldable pub whole_expression : Production ExpressionSyntax
 whole_expression = expression_of (nested greatest_nesting)
 
 abbrev pub expression_term : Production TermSyntax
@@ -538,7 +544,7 @@ item_term = by_next aggregate_in aggregate_term expression_term
 
 abbrev pub as_part : Production (Option (List ℕ))
 as_part = if_next (is_the_word as_word) (do
-    _ ← word as_word
+    _ ← any_token
     n ← name
     give (Some n)) (give None)
 
@@ -548,6 +554,10 @@ item = do
   t ← item_term
   n ← as_part
   give (record { place = i; term = t; name = n })
+
+-- item {"," item}
+unfoldable pub items : Production (List ItemSyntax)
+items = elements begins_item item (most_items - 1)
 
 -- ---- query = SELECT item {"," item} FROM name [WHERE expr] [GROUP BY path {"," path}] [";"]
 
@@ -560,17 +570,21 @@ table_name = do
 -- [WHERE expr]
 abbrev pub where_part : Production (Option ConditionSyntax)
 where_part = if_next (is_the_word where_word) (do
-    _ ← word where_word
+    _ ← any_token
     i ← here
     e ← whole_expression
     give (Some (record { place = i; expression = e }))) (give None)
 
+-- path {"," path}
+unfoldable pub keys : Production (List PathSyntax)
+keys = elements begins_key path_names (most_items - 1)
+
 -- [GROUP BY path {"," path}]
 abbrev pub group_part : Production (List PathSyntax)
 group_part = if_next (is_the_word group_word) (do
-    _ ← word group_word
+    _ ← any_token
     _ ← word by_word
-    elements begins_key path_names) (give [])
+    keys) (give [])
 
 -- the end of the text, for its place; Syntax at a token
 abbrev pub text_end : Production ℕ
@@ -579,13 +593,13 @@ text_end u = either (is_some (first_token u.tokens)) (problem_here syntax) here 
 -- [";"] and the end
 abbrev pub end_part : Production ℕ
 end_part = if_next (is_the_sign semicolon) (do
-    _ ← mark semicolon
+    _ ← any_token
     text_end) text_end
 
 abbrev pub query : Production QuerySyntax
 query = do
   _ ← word select_word
-  xs ← elements begins_item item
+  xs ← items
   _ ← word from_word
   t ← table_name
   c ← where_part
