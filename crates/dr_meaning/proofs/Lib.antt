@@ -15,6 +15,7 @@ pub mod WorkedLimits
 pub mod WorkedTokens
 pub mod WorkedSyntax
 pub mod WorkedSyntaxFaults
+pub mod WorkedBindingFaults
 pub mod WorkedTexts
 pub mod WorkedAsk
 pub mod WorkedStripe

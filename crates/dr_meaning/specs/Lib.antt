@@ -20,6 +20,9 @@ pub mod Walk
 pub mod Tokens
 pub mod Syntax
 pub mod Parse
+-- binding a query's names by a schema, with the type of each expression; or the first fault
+pub mod BoundExpression
+pub mod Binding
 -- input lines, the query of one COUNT; what commands refuse, and the commands
 pub mod Lines
 pub mod QueryText
