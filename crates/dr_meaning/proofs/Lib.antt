@@ -15,6 +15,7 @@ pub mod WorkedLimits
 pub mod WorkedTokens
 pub mod WorkedSyntax
 pub mod WorkedSyntaxFaults
+pub mod WorkedBinding
 pub mod WorkedBindingFaults
 pub mod WorkedTexts
 pub mod WorkedAsk
@@ -50,3 +51,9 @@ pub mod OrderLemmas
 pub mod VisitLemmas
 pub mod FoundLemmas
 pub mod FindingLemmas
+-- lemmas of the laws of binding
+pub mod BindingFaultLemmas
+pub mod HasShapesLemmas
+pub mod BindingLemmas
+pub mod BoundPartsLemmas
+pub mod QueryLeavesLemmas

@@ -11,7 +11,7 @@ use Rattle.dr_meaning.specs.Syntax.{NameSyntax, PathSyntax, path, NodeSyntax, wh
 use Rattle.dr_meaning.specs.Syntax.{expression as expression_syntax, count_rows as count_rows_syntax, aggregate as aggregate_syntax, ItemSyntax}
 use Rattle.dr_meaning.specs.Syntax.{QuerySyntax}
 use Rattle.dr_meaning.specs.BoundExpression.{BindProblem, unknown_table, unknown_field, not_a_leaf, type_mismatch, unrelated, bad_within, not_grouped}
-use Rattle.dr_meaning.specs.BoundExpression.{duplicate_name, BindFault, fault_at, Checked, passes, fails, checked_map, then_check, together, truth_type}
+use Rattle.dr_meaning.specs.BoundExpression.{duplicate_name, BindFault, fault_at, Checked, passes, fails, fails_at, checked_map, then_check, together, truth_type}
 use Rattle.dr_meaning.specs.BoundExpression.{number_type, BoundPath, BoundExpression, bind_path, bind_expression, of_type, unrelated_among}
 
 -- ---- the condition
@@ -37,7 +37,7 @@ abbrev pub is_repeated_group : Found → Bool
 is_repeated_group f = is_group_shape f.shape && same_path (level f.path) f.path
 
 abbrev pub found_node : ℕ → ℕ → Option Found → Checked (Option BoundWithin)
-found_node i j None = fails (fault_at j unknown_field)
+found_node i j None = fails_at j unknown_field
 found_node i j (Some f) = passes (Some (record { place = i; node = f.path; is_whole = is_repeated_group f }))
 
 abbrev pub bind_node : Fields → ℕ → NodeSyntax → Checked (Option BoundWithin)
@@ -119,11 +119,11 @@ bind_parts fs q = record {
 -- the faults of a part
 abbrev pub faults_in : {A : Type 0} → Checked A → List BindFault
 faults_in (passes a) = []
-faults_in (fails p) = p
+faults_in (fails e es) = e ∷ es
 
 abbrev pub if_passed : {A : Type 0} → Checked A → Option A
 if_passed (passes a) = Some a
-if_passed (fails p) = None
+if_passed (fails e es) = None
 
 -- those that pass
 abbrev pub passing : {A : Type 0} → List (Checked A) → List A
@@ -132,7 +132,7 @@ passing cs = filter_map if_passed cs
 -- the faults of a rule that is tested only where a part passes
 abbrev pub where_passed : {A : Type 0} → (A → List BindFault) → Checked A → List BindFault
 where_passed rule (passes a) = rule a
-where_passed rule (fails p) = []
+where_passed rule (fails e es) = []
 
 -- all of them, where each passes
 abbrev pub all_passed : {A : Type 0} → List (Checked A) → Checked (List A)
@@ -216,16 +216,19 @@ list_name p (deeper names q below others) = if begins_with q p then Some (join_w
 abbrev pub entry_name : Levels → List Step → List ℕ → List Step → Option (List ℕ)
 entry_name ls p name q = if same_path p q then Some name else list_name q (next_levels p ls)
 
-abbrev pub is_name : List ℕ → Option (List ℕ) → Bool
-is_name name None = false
-is_name name (Some other) = bytes_eq name other
+abbrev pub is_named : List ℕ → Option (List ℕ) → Bool
+is_named name None = false
+is_named name (Some other) = bytes_eq name other
 
--- an item whose name is that of what an earlier one puts into its object
+-- whether the item has the name of what an earlier one puts into its object
+abbrev pub clashes_with : Levels → Bool → BoundItem → BoundItem → Bool
+clashes_with ls b i earlier = is_named i.name (entry_name ls (object_of b i) earlier.name (object_of b earlier))
+
+-- the items that clash with one before them
 abbrev pub duplicate_faults : Levels → Bool → List BoundItem → List BoundItem → List BindFault
 duplicate_faults ls b earlier [] = []
 duplicate_faults ls b earlier (i ∷ is) =
-    (if list_any (λ (j : BoundItem). is_name i.name (entry_name ls (object_of b i) j.name (object_of b j))) earlier then fault_at i.place duplicate_name else [])
-    ++ duplicate_faults ls b (i ∷ earlier) is
+    (if list_any (clashes_with ls b i) earlier then fault_at i.place duplicate_name else []) ++ duplicate_faults ls b (i ∷ earlier) is
 
 -- ---- all faults, and the first
 
@@ -294,7 +297,7 @@ selection_of b = if b.is_record_query then objects (filter_map record_item (pass
 
 abbrev pub condition_of : Checked (Option BoundExpression) → Option Expression
 condition_of (passes c) = option_map (λ (e : BoundExpression). e.expression) c
-condition_of (fails p) = None
+condition_of (fails e es) = None
 
 abbrev pub query_of : BoundParts → Query
 query_of b = record { condition = condition_of b.condition; selection = selection_of b }

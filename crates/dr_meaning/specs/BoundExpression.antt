@@ -4,7 +4,7 @@ use Rattle.std.specs.List.{list_all}
 use Rattle.dr_meaning.specs.Schema.{Kind, bool_kind, int32_kind, int64_kind, text_kind, Fields}
 use Rattle.dr_meaning.specs.Path.{Step, Leaf, PathFault, unknown_field as no_field, not_a_leaf as no_leaf, find_path, found_leaf, level, begins_with}
 use Rattle.dr_meaning.specs.Record.{bool_value, int_value, text_value}
-use Rattle.dr_meaning.specs.Expression.{Arithmetic, plus, minus, times, Expression, constant, path_value, negative as negative_expression}
+use Rattle.dr_meaning.specs.Expression.{Arithmetic, plus, Expression, constant, path_value, negative as negative_expression}
 use Rattle.dr_meaning.specs.Expression.{arithmetic as arithmetic_expression, comparison as comparison_expression, like as like_expression}
 use Rattle.dr_meaning.specs.Expression.{contains as contains_expression, is_null as is_null_expression, negation as negation_expression}
 use Rattle.dr_meaning.specs.Expression.{conjunction as conjunction_expression, disjunction as disjunction_expression}
@@ -41,26 +41,30 @@ fault_at i p = record { place = i; problem = p } ∷ []
 
 -- ---- what comes of binding a part of a query
 
--- the part, bound, where all its paths and operators pass; else the faults of those that don't
+-- the part, bound, where all its paths and operators pass; else the faults of those that don't, of which there is one at least
 pub data Checked (A : Type 0) : Type 0 where
   passes : A → Checked A
-  fails : List BindFault → Checked A
+  fails : BindFault → List BindFault → Checked A
+
+-- a part that fails with one fault
+abbrev pub fails_at : {A : Type 0} → ℕ → BindProblem → Checked A
+fails_at i p = fails (record { place = i; problem = p }) []
 
 abbrev pub checked_map : {A B : Type 0} → (A → B) → Checked A → Checked B
 checked_map f (passes a) = passes (f a)
-checked_map f (fails p) = fails p
+checked_map f (fails e es) = fails e es
 
 -- a further rule, tested only where the part passes
 abbrev pub then_check : {A B : Type 0} → (A → Checked B) → Checked A → Checked B
 then_check rule (passes a) = rule a
-then_check rule (fails p) = fails p
+then_check rule (fails e es) = fails e es
 
 -- two parts; the faults of both
 abbrev pub together : {A B C : Type 0} → (A → B → C) → Checked A → Checked B → Checked C
 together f (passes a) (passes b) = passes (f a b)
-together f (passes a) (fails q) = fails q
-together f (fails p) (passes b) = fails p
-together f (fails p) (fails q) = fails (p ++ q)
+together f (passes a) (fails g gs) = fails g gs
+together f (fails e es) (passes b) = fails e es
+together f (fails e es) (fails g gs) = fails e (es ++ g ∷ gs)
 
 -- a rule of two parts, tested only where both pass
 abbrev pub then_check_both : {A B C : Type 0} → (A → B → Checked C) → Checked A → Checked B → Checked C
@@ -129,7 +133,7 @@ path_problem no_leaf = not_a_leaf
 
 abbrev pub at_place : ℕ → Result Leaf PathFault → Checked BoundPath
 at_place i (Ok l) = passes (record { place = i; leaf = l })
-at_place i (Err e) = fails (fault_at i (path_problem e))
+at_place i (Err e) = fails_at i (path_problem e)
 
 -- a path that is to lead to a leaf
 abbrev pub bind_path : Fields → PathSyntax → Checked BoundPath
@@ -140,7 +144,7 @@ path_expression p = record { expression = path_value p.leaf.path; gives = kind_t
 
 -- an operator's expression, where its operands' types give it one
 abbrev pub operator : ℕ → Option ValueType → Expression → List BoundPath → Checked BoundExpression
-operator i None e ps = fails (fault_at i type_mismatch)
+operator i None e ps = fails_at i type_mismatch
 operator i (Some t) e ps = passes (record { expression = e; gives = t; paths = ps })
 
 -- an operator of one operand: its place, the rule of its type, and the expression that it makes
@@ -170,7 +174,7 @@ bind_expression fs (disjunction i a b) = two_operands i logic_type disjunction_e
 
 -- the expression, where it is of the wanted type; else a fault at a place above it
 abbrev pub of_type : ValueType → ℕ → BoundExpression → Checked BoundExpression
-of_type wanted i e = if same_type e.gives wanted then passes e else fails (fault_at i type_mismatch)
+of_type wanted i e = if same_type e.gives wanted then passes e else fails_at i type_mismatch
 
 -- ---- related paths
 

@@ -41,4 +41,6 @@ pub mod ColumnLaws
 pub mod OneColumn
 pub mod WalkLaws
 pub mod OrderLaws
+pub mod QueryLeaves
+pub mod BindingLaws
 pub mod AutomatonLaws

@@ -1,0 +1,5 @@
+use Rattle.dr_meaning.proofs.BoundPartsLemmas.{used_paths_are_leaves}
+use Rattle.dr_meaning.proofs.binding_laws.used_paths_are_leaves.Goals as goal
+
+pub returns : goal.returns
+returns c = used_paths_are_leaves
