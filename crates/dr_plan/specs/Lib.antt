@@ -1,0 +1,4 @@
+pub mod Conjuncts
+pub mod Views
+pub mod Fitting
+pub mod Planned

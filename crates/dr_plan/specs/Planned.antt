@@ -1,0 +1,53 @@
+-- What a plan stands for, and which plan is that of a query.
+use Rattle.std.specs.Prelude.{◌≡◌, List, [], ◌∷◌, map, Ok}
+use Rattle.dr_meaning.specs.Schema.{Schema, Fields}
+use Rattle.dr_meaning.specs.Path.{Step, Leaf, is_leaf_path}
+use Rattle.dr_meaning.specs.Record.{Node, project}
+use Rattle.dr_meaning.specs.Expression.{Expression}
+use Rattle.dr_meaning.specs.Query.{Selection, Query, meaning}
+use Rattle.dr_meaning.specs.QueryLeaves.{query_leaves}
+use Rattle.dr_meaning.specs.Syntax.{QuerySyntax}
+use Rattle.dr_meaning.specs.Binding.{bind}
+use Rattle.dr_nested.specs.PathView.{path_view}
+use Rattle.dr_plan.specs.Conjuncts.{condition_conjuncts, all_of}
+use Rattle.dr_plan.specs.Views.{truth_view, selection_view}
+use Rattle.dr_plan.specs.declared.plan.Plan.{Plan}
+
+-- the leaves, the condition's conjuncts and what is selected
+pub record Planned : Type 0 where
+  pub leaves : List Leaf
+  pub conjuncts : List Expression
+  pub selection : Selection
+
+abbrev pub plan_leaves : Plan → List Leaf
+plan_leaves p = map path_view p.leaves.items
+
+abbrev pub plan_view : Plan → Planned
+plan_view p = record {
+  leaves = plan_leaves p;
+  conjuncts = map (truth_view (plan_leaves p)) p.test.items;
+  selection = selection_view (plan_leaves p) p.selection;
+}
+
+-- the plan of a query over a schema: its leaves in reading order, its condition cut at its top
+abbrev pub planned : Fields → Query → Planned
+planned fs q = record { leaves = query_leaves fs q; conjuncts = condition_conjuncts q.condition; selection = q.selection }
+
+-- the query that a plan runs
+abbrev pub planned_query : Planned → Query
+planned_query p = record { condition = all_of p.conjuncts; selection = p.selection }
+
+-- the plan is that of some query that is bound to the schema
+abbrev pub IsOfSchema : Schema → Plan → Type 0
+IsOfSchema s p = (q : QuerySyntax) × (b : Query) × (bind s q ≡ Ok b) × (plan_view p ≡ planned s.fields b)
+
+abbrev pub paths_of_leaves : List Leaf → List (List Step)
+paths_of_leaves ls = map (λ (l : Leaf). l.path) ls
+
+-- ---- the law
+
+-- what a plan runs, on records or on their projections to its leaves, is what the bound query means
+abbrev pub PlanMeansQuery : Type 0
+PlanMeansQuery = (s : Schema) (q : QuerySyntax) (b : Query) (R : List Node) → bind s q ≡ Ok b
+    → (meaning s.fields (planned_query (planned s.fields b)) R ≡ meaning s.fields b R)
+    × (meaning s.fields (planned_query (planned s.fields b)) (map (project (paths_of_leaves (planned s.fields b).leaves)) R) ≡ meaning s.fields b R)
