@@ -1,1 +1,2 @@
 pub mod ConjunctLemmas
+pub mod ObjectLemmas

@@ -99,7 +99,7 @@ are_numbered i (j ∷ js) zero = false
 are_numbered i (j ∷ js) (suc n) = nat_lt i (suc j) && nat_lt j (suc i) && are_numbered (suc i) js n
 
 abbrev pub selection_fits : List Leaf → Selection → Bool
-selection_fits ls (Selection.Objects items) = list_all (λ (i : RecordItem). record_term_fits ls i.term) items.items
+selection_fits ls (Selection.Objects items o) = list_all (λ (i : RecordItem). record_term_fits ls i.term) items.items
 selection_fits ls (Selection.Groups keys aggregates items) = list_all (λ k. nat_lt k (length ls)) keys.items && list_all (aggregate_fits ls) aggregates.items
     && list_all (λ (i : GroupItem). has_key (length keys.items) i.term) items.items
     && are_numbered 0 (filter_map (λ (i : GroupItem). aggregate_number i.term) items.items) (length aggregates.items)

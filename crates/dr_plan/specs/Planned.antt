@@ -1,23 +1,34 @@
 -- What a plan stands for, and which plan is that of a query.
-use Rattle.std.specs.Prelude.{◌≡◌, List, [], ◌∷◌, map, Ok}
+use Rattle.std.specs.Prelude.{◌≡◌, List, [], ◌∷◌, map, Option, Some, None, Ok}
 use Rattle.dr_meaning.specs.Schema.{Schema, Fields}
 use Rattle.dr_meaning.specs.Path.{Step, Leaf, is_leaf_path}
 use Rattle.dr_meaning.specs.Record.{Node, project}
 use Rattle.dr_meaning.specs.Expression.{Expression}
-use Rattle.dr_meaning.specs.Query.{Selection, Query, meaning}
+use Rattle.dr_meaning.specs.Query.{Selection, objects, groups, Query, meaning}
 use Rattle.dr_meaning.specs.QueryLeaves.{query_leaves}
 use Rattle.dr_meaning.specs.Syntax.{QuerySyntax}
 use Rattle.dr_meaning.specs.Binding.{bind}
 use Rattle.dr_nested.specs.PathView.{path_view}
 use Rattle.dr_plan.specs.Conjuncts.{condition_conjuncts, all_of}
+use Rattle.dr_plan.specs.Objects.{ObjectTree, object_tree_of, object_view}
 use Rattle.dr_plan.specs.Views.{truth_view, selection_view}
 use Rattle.dr_plan.specs.declared.plan.Plan.{Plan}
+use Rattle.dr_plan.specs.declared.plan.Selection.{Selection as Selected}
 
--- the leaves, the condition's conjuncts and what is selected
+-- the leaves, the condition's conjuncts, what is selected, and of a record query the tree of its objects
 pub record Planned : Type 0 where
   pub leaves : List Leaf
   pub conjuncts : List Expression
   pub selection : Selection
+  pub objects : Option ObjectTree
+
+abbrev pub objects_of_plan : Selected → Option ObjectTree
+objects_of_plan (Selected.Objects items o) = Some (object_view o)
+objects_of_plan (Selected.Groups keys aggregates items) = None
+
+abbrev pub objects_of_query : Fields → Selection → Option ObjectTree
+objects_of_query fs (objects items) = Some (object_tree_of fs items)
+objects_of_query fs (groups keys items) = None
 
 abbrev pub plan_leaves : Plan → List Leaf
 plan_leaves p = map path_view p.leaves.items
@@ -27,11 +38,17 @@ plan_view p = record {
   leaves = plan_leaves p;
   conjuncts = map (truth_view (plan_leaves p)) p.test.items;
   selection = selection_view (plan_leaves p) p.selection;
+  objects = objects_of_plan p.selection;
 }
 
--- the plan of a query over a schema: its leaves in reading order, its condition cut at its top
+-- the plan of a query over a schema: its leaves in reading order, its condition cut at its top, the tree of its objects
 abbrev pub planned : Fields → Query → Planned
-planned fs q = record { leaves = query_leaves fs q; conjuncts = condition_conjuncts q.condition; selection = q.selection }
+planned fs q = record {
+  leaves = query_leaves fs q;
+  conjuncts = condition_conjuncts q.condition;
+  selection = q.selection;
+  objects = objects_of_query fs q.selection;
+}
 
 -- the query that a plan runs
 abbrev pub planned_query : Planned → Query

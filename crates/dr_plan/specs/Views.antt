@@ -115,6 +115,6 @@ abbrev pub group_item_view : List query.GroupTerm → GroupItem → query.GroupI
 group_item_view ts i = record { name = string_bytes i.name; term = group_term_view ts i.term }
 
 abbrev pub selection_view : List Leaf → Selection → query.Selection
-selection_view ls (Selection.Objects items) = query.objects (map (record_item_view ls) items.items)
+selection_view ls (Selection.Objects items o) = query.objects (map (record_item_view ls) items.items)
 selection_view ls (Selection.Groups keys aggregates items) =
     query.groups (map (λ k. path_of (slice_get ls k)) keys.items) (map (group_item_view (map (aggregate_view ls) aggregates.items)) items.items)

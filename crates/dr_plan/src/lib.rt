@@ -5,10 +5,12 @@ pub mod laws;
 
 mod aggregate;
 mod expression;
+mod objects;
 mod pattern;
 mod plan;
 
 pub use aggregate::{Aggregate, Fold, Within};
 pub use expression::{Comparison, Expr, Number, TextOf, Truth};
+pub use objects::{ListPlan, ObjectPlan};
 pub use pattern::Pattern;
 pub use plan::{GroupItem, GroupTerm, Plan, RecordItem, RecordTerm, Selection};

@@ -7,6 +7,7 @@ ghost use Rattle.dr_plan.specs.Fitting.{selection_fits, truth_fits};
 
 use crate::aggregate::{Aggregate, Within};
 use crate::expression::{Expr, Truth};
+use crate::objects::ObjectPlan;
 use dr_nested::Path;
 
 /// What an item of a record query gives.
@@ -40,8 +41,8 @@ pub struct GroupItem {
 /// What a plan selects.
 #[derive(Debug, Drop)]
 pub enum Selection {
-    /// Objects of each record: the items in SELECT order.
-    Objects(Vec<RecordItem>),
+    /// Objects of each record: the items in SELECT order, and which object has which of them.
+    Objects(Vec<RecordItem>, ObjectPlan),
     /// Groups: keys by the numbers of their leaves in GROUP BY order, aggregates and items in SELECT order.
     Groups(Vec<u32>, Vec<Aggregate>, Vec<GroupItem>),
 }
