@@ -6,11 +6,11 @@ use Rattle.dr_meaning.specs.Path.{Step}
 use Rattle.dr_meaning.specs.Record.{int_value}
 use Rattle.dr_meaning.specs.Expression.{Expression, constant, path_value, comparison, equal}
 use Rattle.dr_meaning.specs.Query.{RecordItem, expression, Query, objects}
-use Rattle.dr_meaning.specs.Syntax.{QuerySyntax}
+use Rattle.dr_meaning.specs.Syntax.{path, expression as expression_syntax, QuerySyntax}
 use Rattle.dr_meaning.specs.Parse.{parse_query, items, keys, whole_expression, argument, QueryFault}
 use Rattle.dr_meaning.specs.BoundExpression.{BindProblem, unknown_table, unknown_field, not_a_leaf, type_mismatch, unrelated, bad_within}
 use Rattle.dr_meaning.specs.BoundExpression.{not_grouped, duplicate_name, BindFault}
-use Rattle.dr_meaning.specs.Binding.{bind}
+use Rattle.dr_meaning.specs.Binding.{first_fault, bind}
 use Rattle.dr_meaning.proofs.WorkedSchemas.{document_schema}
 
 -- what binding makes of a text that is a query
@@ -302,3 +302,37 @@ pub duplicates_first : (asked (codes "SELECT DocId, DocId + 'x' AS DocId FROM Do
     × (asked (codes "SELECT DocId, COUNT(*) WITHIN x AS DocId FROM Document") ≡ refused_at 30 unknown_field)
 unfolding bind parse_query items keys whole_expression argument digits
 duplicates_first = (refl, refl, refl, refl)
+
+-- a list of two names, from a tree that no text has: AS gives no name with a dot
+abbrev links_then : List ℕ → QuerySyntax
+links_then n = record {
+  items = record { place = 1; term = expression_syntax (path (record { place = 1; names = codes "Links" ∷ codes "Forward" ∷ [] })); name = None }
+      ∷ record { place = 2; term = expression_syntax (path (record { place = 2; names = codes "DocId" ∷ [] })); name = Some n } ∷ [];
+  table = record { place = 3; name = codes "Document" };
+  condition = None;
+  keys = [];
+}
+
+pub list_of_two_names : (bind document_schema (links_then (codes "Links.Forward")) ≡ Err (record { place = 2; problem = duplicate_name }))
+    × (is_bound_query (Some (bind document_schema (links_then (codes "Links-Forward")))) ≡ true) × (is_bound_query (Some (bind document_schema (links_then (codes "Forward")))) ≡ true)
+unfolding bind digits
+list_of_two_names = (refl, refl, refl)
+
+-- ---- which fault is the first
+
+abbrev at : ℕ → BindProblem → BindFault
+at i p = record { place = i; problem = p }
+
+-- at one place, in this order
+abbrev first_at_one_place : BindProblem → BindProblem → Option BindFault
+first_at_one_place p q = first_fault (at 5 q ∷ at 5 p ∷ [])
+
+pub problems_in_order : (first_at_one_place unknown_table unknown_field ≡ Some (at 5 unknown_table)) × (first_at_one_place unknown_field not_a_leaf ≡ Some (at 5 unknown_field))
+    × (first_at_one_place not_a_leaf type_mismatch ≡ Some (at 5 not_a_leaf)) × (first_at_one_place type_mismatch unrelated ≡ Some (at 5 type_mismatch))
+    × (first_at_one_place unrelated bad_within ≡ Some (at 5 unrelated)) × (first_at_one_place bad_within not_grouped ≡ Some (at 5 bad_within))
+    × (first_at_one_place not_grouped duplicate_name ≡ Some (at 5 not_grouped))
+problems_in_order = (refl, refl, refl, refl, refl, refl, refl)
+
+-- the lowest place, whatever the problems; none of none
+pub lowest_place : (first_fault (at 7 unknown_table ∷ at 5 duplicate_name ∷ at 6 unknown_field ∷ []) ≡ Some (at 5 duplicate_name)) × (first_fault [] ≡ None)
+lowest_place = (refl, refl)
