@@ -1,15 +1,13 @@
 -- A condition is true exactly where each of its conjuncts is, and joined again they mean the same.
-use Rattle.std.proofs.Common.{◌≡◌, List, [], ◌∷◌, ◌++◌, map, Bool, true, false, ◌&&◌, Option, Some, None, refl, sym, ap, ap₂, ◌∙◌, append-nil, append_assoc}
-use Rattle.std.specs.Prelude.{Ok}
+use Rattle.std.proofs.Common.{◌≡◌, List, [], ◌∷◌, ◌++◌, Bool, true, false, ◌&&◌, Option, Some, None, refl, sym, ap, ap₂, ◌∙◌, append-nil, append_assoc}
 use Rattle.std.specs.List.{list_all, flat_map, filter_map}
 use Rattle.std.proofs.Math.Path.{fun_ext}
 use Rattle.std.proofs.lemmas.List.Folds.{list_all-append}
-use Rattle.dr_meaning.specs.Schema.{Fields}
 use Rattle.dr_meaning.specs.Path.{Step}
 use Rattle.dr_meaning.specs.Record.{Value, bool_value, int_value, text_value, Node}
 use Rattle.dr_meaning.specs.Expression.{Expression, constant, path_value, negative, arithmetic, comparison, like, contains, is_null, negation, conjunction, disjunction, and_values, evaluate, is_true, paths_of, longest_level}
 use Rattle.dr_meaning.specs.Kept.{kept_along, kept}
-use Rattle.dr_meaning.specs.Query.{Query, levels_of, selected, meaning}
+use Rattle.dr_meaning.specs.Query.{levels_of, selected, meaning}
 use Rattle.dr_plan.specs.Conjuncts.{conjuncts, condition_conjuncts, joined, all_of, TrueWhereEachIs, ConjunctsHavePaths, RejoinedMeansSame}
 
 and_true : (b : Bool) → b ≡ (b && true)

@@ -1,13 +1,12 @@
 -- The tree of a record query's objects makes the object of each record.
-use Rattle.std.proofs.Common.{◌≡◌, ℕ, suc, ◌+◌, List, [], ◌∷◌, ◌++◌, map, Bool, true, false, Option, Some, None, refl, sym, ap, ap₂, ◌∙◌, arith}
+use Rattle.std.proofs.Common.{◌≡◌, ℕ, suc, ◌+◌, List, [], ◌∷◌, map, Bool, true, false, Some, refl, sym, ap, ap₂, ◌∙◌, arith}
 use Rattle.std.specs.Prelude.{if◌then◌else◌}
 use Rattle.std.specs.List.{slice_get, join_with_byte}
 use Rattle.std.proofs.Math.Path.{fun_ext}
-use Rattle.dr_meaning.specs.Schema.{Fields}
 use Rattle.dr_meaning.specs.Path.{Step, same_path}
 use Rattle.dr_meaning.specs.Record.{Node}
-use Rattle.dr_meaning.specs.Query.{RecordItem, Object, no_entries, cell, list, Objects, objects_of, Levels, no_levels, deeper, levels_of, term_level, term_value, with_cells, with_list, leads_to_items, instances_of, object_lists, record_object}
-use Rattle.dr_plan.specs.Objects.{ObjectTree, ListTrees, object_tree, no_lists, list_tree, places_at, with_list_tree, list_trees, object_tree_of, cell_of, tree_cells, tree_object, tree_lists, TreeMakesObject}
+use Rattle.dr_meaning.specs.Query.{RecordItem, Object, cell, list, objects_of, Levels, no_levels, deeper, levels_of, term_level, term_value, with_cells, with_list, leads_to_items, instances_of, object_lists}
+use Rattle.dr_plan.specs.Objects.{ObjectTree, ListTrees, object_tree, places_at, with_list_tree, list_trees, cell_of, tree_cells, tree_object, tree_lists, TreeMakesObject}
 
 -- items from the place n on are those at their places among all
 abbrev From : List RecordItem → ℕ → List RecordItem → Type 0
@@ -25,6 +24,7 @@ cells_at items n (i ∷ is) p row rest h = by_level (same_path p (term_level i.t
   where
     here : slice_get items n ≡ Some i
     here = ap (slice_get items) (sym (at_zero n)) ∙ h 0 i refl
+
     by_level : (b : Bool) → tree_cells items (places_at (suc n) is p) row rest ≡ with_cells is p row rest
         → tree_cells items (if b then n ∷ places_at (suc n) is p else places_at (suc n) is p) row rest ≡ (if b then cell i.name (term_value i.term row) (with_cells is p row rest) else with_cells is p row rest)
     by_level true e = ap (λ o. cell_of o row (tree_cells items (places_at (suc n) is p) row rest)) here ∙ ap (cell i.name (term_value i.term row)) e

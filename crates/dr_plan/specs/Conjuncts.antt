@@ -1,10 +1,10 @@
 -- A condition as expressions all of which must be true.
-use Rattle.std.specs.Prelude.{◌≡◌, List, [], ◌∷◌, ◌++◌, Bool, true, Option, Some, None}
+use Rattle.std.specs.Prelude.{◌≡◌, List, [], ◌∷◌, ◌++◌, Option, Some, None}
 use Rattle.std.specs.List.{list_all, flat_map}
 use Rattle.dr_meaning.specs.Schema.{Fields}
 use Rattle.dr_meaning.specs.Record.{Node}
-use Rattle.dr_meaning.specs.Expression.{Expression, constant, path_value, negative, arithmetic, comparison, like, contains, is_null, negation, conjunction}
-use Rattle.dr_meaning.specs.Expression.{disjunction, evaluate, is_true, paths_of}
+use Rattle.dr_meaning.specs.Expression.{Expression, conjunction}
+use Rattle.dr_meaning.specs.Expression.{evaluate, is_true, paths_of}
 use Rattle.dr_meaning.specs.Query.{Query, meaning}
 
 -- the parts of an expression between the ANDs at its top, in order

@@ -1,7 +1,7 @@
 -- What a plan stands for, and which plan is that of a query.
-use Rattle.std.specs.Prelude.{◌≡◌, List, [], ◌∷◌, map, Option, Some, None, Ok}
+use Rattle.std.specs.Prelude.{◌≡◌, List, map, Option, Some, None, Ok}
 use Rattle.dr_meaning.specs.Schema.{Schema, Fields}
-use Rattle.dr_meaning.specs.Path.{Step, Leaf, is_leaf_path}
+use Rattle.dr_meaning.specs.Path.{Step, Leaf}
 use Rattle.dr_meaning.specs.Record.{Node, project}
 use Rattle.dr_meaning.specs.Expression.{Expression}
 use Rattle.dr_meaning.specs.Query.{Selection, objects, groups, Query, meaning}

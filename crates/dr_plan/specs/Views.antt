@@ -1,11 +1,11 @@
 -- What the parts of a plan stand for, in the definitions' words.
-use Rattle.std.specs.Prelude.{ℕ, List, [], ◌∷◌, map, filter, string_bytes, Option, Some, None, option_map}
-use Rattle.std.specs.List.{slice_get, filter_map}
+use Rattle.std.specs.Prelude.{ℕ, List, [], map, string_bytes, Option, Some, None}
+use Rattle.std.specs.List.{slice_get}
 use Rattle.dr_meaning.specs.Path.{Step as MeantStep, Leaf}
 use Rattle.dr_meaning.specs.Record.{bool_value, int_value, text_value}
 use Rattle.dr_meaning.specs.Expression as meant
 use Rattle.dr_meaning.specs.Query as query
-use Rattle.dr_nested.specs.PathView.{step_view, path_view}
+use Rattle.dr_nested.specs.PathView.{step_view}
 use Rattle.dr_plan.specs.declared.expression.Comparison.{Comparison}
 use Rattle.dr_plan.specs.declared.expression.Number.{Number, fold-Number}
 use Rattle.dr_plan.specs.declared.expression.Number.TheOpen.{Number-F}
@@ -16,7 +16,6 @@ use Rattle.dr_plan.specs.declared.expression.Truth.TheOpen.{Truth-F}
 use Rattle.dr_plan.specs.declared.expression.Expr.{Expr}
 use Rattle.dr_plan.specs.declared.aggregate.Fold.{Fold}
 use Rattle.dr_plan.specs.declared.aggregate.Aggregate.{Aggregate}
-use Rattle.dr_plan.specs.declared.aggregate.Within.{Within}
 use Rattle.dr_plan.specs.declared.plan.RecordTerm.{RecordTerm}
 use Rattle.dr_plan.specs.declared.plan.RecordItem.{RecordItem}
 use Rattle.dr_plan.specs.declared.plan.GroupTerm.{GroupTerm}

@@ -1,10 +1,9 @@
 //! Plans: queries whose names have become leaves of a schema, in the form in which they are run (Dremel 2010, section 5).
 #![tactic(auto)]
 
-pub mod laws;
-
 mod aggregate;
 mod expression;
+pub mod laws;
 mod objects;
 mod pattern;
 mod plan;

@@ -1,6 +1,6 @@
 use Rattle.std.proofs.Common.{◌∙◌}
 use Rattle.dr_meaning.proofs.QueryLeavesLemmas.{leaves_are_enough}
-use Rattle.dr_plan.specs.Planned.{PlanMeansQuery, planned, paths_of_leaves}
+use Rattle.dr_plan.specs.Planned.{PlanMeansQuery}
 use Rattle.dr_plan.proofs.ConjunctLemmas.{rejoined_means_same}
 use Rattle.dr_plan.proofs.laws.plan_means_query.Goals as goal
 
