@@ -1,0 +1,5 @@
+pub mod TokenViews
+pub mod Views
+pub mod Faults
+pub mod Reads
+pub mod Shapes
