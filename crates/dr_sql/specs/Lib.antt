@@ -3,3 +3,4 @@ pub mod Views
 pub mod Faults
 pub mod Reads
 pub mod Shapes
+pub mod Lexing

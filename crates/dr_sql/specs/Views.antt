@@ -76,13 +76,25 @@ node_view (Node.Path p) = syntax.node (path_view p)
 abbrev pub within_view : Within → syntax.WithinSyntax
 within_view w = record { place = w.place; node = node_view w.node }
 
+abbrev pub maybe_within : Option Within → Option syntax.WithinSyntax
+maybe_within w = option_map within_view w
+
+abbrev pub maybe_lent : Option (Bor (List ℕ)) → Option (List ℕ)
+maybe_lent n = option_map lent n
+
 abbrev pub term_view : Term → syntax.TermSyntax
 term_view (Term.Expression e) = syntax.expression (expression_view e)
-term_view (Term.CountRows w) = syntax.count_rows (option_map within_view w)
-term_view (Term.Aggregate a e w) = syntax.aggregate (aggregate_view a) (expression_view e) (option_map within_view w)
+term_view (Term.CountRows w) = syntax.count_rows (maybe_within w)
+term_view (Term.Aggregate a e w) = syntax.aggregate (aggregate_view a) (expression_view e) (maybe_within w)
 
 abbrev pub item_view : Item → syntax.ItemSyntax
-item_view i = record { place = i.place; term = term_view i.term; name = option_map lent i.name }
+item_view i = record { place = i.place; term = term_view i.term; name = maybe_lent i.name }
+
+abbrev pub items_view : Vec Item Global → List syntax.ItemSyntax
+items_view xs = map item_view xs.items
+
+abbrev pub keys_view : Vec Path Global → List syntax.PathSyntax
+keys_view ks = map path_view ks.items
 
 abbrev pub table_view : Table → syntax.NameSyntax
 table_view t = record { place = t.place; name = t.name.now }
@@ -90,10 +102,13 @@ table_view t = record { place = t.place; name = t.name.now }
 abbrev pub condition_view : Condition → syntax.ConditionSyntax
 condition_view c = record { place = c.place; expression = expression_view c.expression }
 
+abbrev pub maybe_condition : Option Condition → Option syntax.ConditionSyntax
+maybe_condition c = option_map condition_view c
+
 abbrev pub query_view : Query → syntax.QuerySyntax
 query_view q = record {
-  items = map item_view q.items.items;
+  items = items_view q.items;
   table = table_view q.table;
-  condition = option_map condition_view q.condition;
-  keys = map path_view q.keys.items;
+  condition = maybe_condition q.condition;
+  keys = keys_view q.keys;
 }

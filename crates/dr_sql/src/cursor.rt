@@ -1,6 +1,6 @@
 //! A cursor over the tokens of a query's text.
 
-ghost use Rattle.std.specs.Prelude.{◌≡◌, ◌≤◌, option_map, length};
+ghost use Rattle.std.specs.Prelude.{◌≡◌, ◌≤◌, if◌then◌else◌, option_map, length};
 ghost use Rattle.dr_meaning.specs.Parse as parse;
 ghost use Rattle.dr_sql.specs.TokenViews.{token_view, word_view, sign_view, placed_views};
 ghost use Rattle.dr_sql.specs.Faults.{problem_view};
@@ -59,6 +59,17 @@ impl<'a> Cursor<'_, 'a> {
         QueryFault::Refused {
             place: self.place(),
             problem,
+        }
+    }
+
+    /// The fault of an item or key too many, where the next token begins one, or else that it begins none.
+    pub fn one_too_many(&self, begins: bool) -> QueryFault
+        ensures { result ≡ QueryFault.Refused (parse.place_of (unread self.now)) (if begins then QueryProblem.TooMany else QueryProblem.Syntax) }
+    {
+        if begins {
+            self.fault(QueryProblem::TooMany)
+        } else {
+            self.fault(QueryProblem::Syntax)
         }
     }
 
