@@ -1,3 +1,6 @@
 pub mod CursorLemmas
 pub mod LoopLemmas
+pub mod WordLemmas
+pub mod FrontLemmas
+pub mod LexLemmas
 pub mod ListLemmas
