@@ -3,4 +3,5 @@ pub mod LoopLemmas
 pub mod WordLemmas
 pub mod FrontLemmas
 pub mod LexLemmas
+pub mod ParseLemmas
 pub mod ListLemmas
