@@ -20,6 +20,7 @@ pub mod Walk
 pub mod Tokens
 pub mod Syntax
 pub mod Parse
+pub mod QueryGrammar
 -- input lines, the query of one COUNT; what commands refuse, and the commands
 pub mod Lines
 pub mod QueryText
