@@ -21,6 +21,8 @@ pub mod WorkedTexts
 pub mod WorkedAsk
 pub mod WorkedStripe
 -- lemmas of the laws of schema text
+-- lemmas of the laws of query syntax
+pub mod SyntaxReading
 pub mod SchemaMachine
 pub mod SchemaAccepted
 pub mod SchemaGoesOn

@@ -20,6 +20,7 @@ pub mod Walk
 pub mod Tokens
 pub mod Syntax
 pub mod Parse
+pub mod QueryGrammar
 -- binding a query's names by a schema, with the type of each expression; or the first fault
 pub mod BoundExpression
 pub mod Binding

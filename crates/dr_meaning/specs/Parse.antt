@@ -290,11 +290,15 @@ further_names (suc k) ns = if_next (is_the_sign dot) (do
     n ← name
     further_names k (ns ++ n ∷ [])) (give ns)
 
+abbrev pub names : Production (List (List ℕ))
+names = do
+  n ← name
+  λ u. further_names (length u.tokens) (n ∷ []) u
+
 abbrev pub path_names : Production PathSyntax
 path_names = do
   i ← here
-  n ← name
-  ns ← λ u. further_names (length u.tokens) (n ∷ []) u
+  ns ← names
   give (record { place = i; names = ns })
 
 -- ---- prim = number | text | TRUE | FALSE | path | "(" expr ")"
@@ -415,12 +419,13 @@ comparison_test inner e c = do
   b ← sum_of inner
   give (comparison i c e b)
 
+-- [NOT] LIKE text | [NOT] CONTAINS text | IS [NOT] NULL, or nothing more
+abbrev pub word_test : ExpressionSyntax → Production ExpressionSyntax
+word_test e = if_next (is_the_word not_word) (denied_test e) (if_next (is_the_word is_word) (null_test e) (text_test plain e (give e)))
+
 -- what may stand behind a sum
 abbrev pub tested : Inner → ExpressionSyntax → Production ExpressionSyntax
-tested inner e = by_next comparison_in (comparison_test inner e)
-    (if_next (is_the_word not_word) (denied_test e)
-    (if_next (is_the_word is_word) (null_test e)
-    (text_test plain e (give e))))
+tested inner e = by_next comparison_in (comparison_test inner e) (word_test e)
 
 abbrev pub test_of : Inner → Production ExpressionSyntax
 test_of inner = do
