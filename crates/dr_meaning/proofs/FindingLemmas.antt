@@ -48,7 +48,7 @@ in_at l [] h = absurd h
 in_at l (m ∷ ls) (inl h) = (0, ap Some h)
 in_at l (m ∷ ls) (inr h) = let q : (i : ℕ) × (slice_get ls i ≡ Some l) = in_at l ls h in (suc q.0, q.1)
 
-at_in : (l : Leaf) (ls : List Leaf) (i : ℕ) → slice_get ls i ≡ Some l → In l ls
+pub at_in : (l : Leaf) (ls : List Leaf) (i : ℕ) → slice_get ls i ≡ Some l → In l ls
 at_in l [] i h = absurd (cc)
 at_in l (m ∷ ls) zero h = inl (same m h)
   where

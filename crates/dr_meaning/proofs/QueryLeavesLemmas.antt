@@ -1,12 +1,12 @@
 -- The leaves of a bound query are enough for it: each of its paths leads on to one of them.
 use Rattle.std.proofs.Common.{◌≡◌, inl, inr, ℕ, zero, suc, ◌+◌, List, [], ◌∷◌, ◌++◌, map, Bool, true, false, ◌&&◌, ◌||◌, Option, Some, None, cond, refl, sym, ap, ap₂, ◌∙◌, subst, true≢false, arith}
 use Rattle.std.specs.Prelude.{◌==◌, if◌then◌else◌, option_map, filter, Ok}
-use Rattle.std.specs.List.{list_any, slice_get, filter_map, flat_map, cons_option}
+use Rattle.std.specs.List.{list_all, list_any, slice_get, filter_map, flat_map, cons_option}
 use Rattle.std.proofs.lemmas.Bool.{and_parts, eqb-true}
 use Rattle.std.proofs.lemmas.Bool.Decides.{nat_tests}
 use Rattle.std.proofs.lemmas.List.Folds.{list_all-append}
-use Rattle.dr_meaning.specs.Schema.{Schema, Fields}
-use Rattle.dr_meaning.specs.Path.{Step, Leaf, level, begins_with, same_path, is_leaf_path, leaves}
+use Rattle.dr_meaning.specs.Schema.{Schema, Repetition, Kind, Fields, no_fields, field, Shape, leaf, group}
+use Rattle.dr_meaning.specs.Path.{Step, Leaf, level, begins_with, same_path, same_repetition, is_leaf_path, is_shape_path, leaves}
 use Rattle.dr_meaning.specs.Expression.{Expression, paths_of, expression_level}
 use Rattle.dr_meaning.specs.Query.{RecordTerm, RecordItem, Selection, objects, groups, Query}
 use Rattle.dr_meaning.specs.MeaningLaws.{condition_paths, record_term_paths, selection_paths, query_paths, all_lead}
@@ -17,8 +17,10 @@ use Rattle.dr_meaning.specs.Syntax.{QuerySyntax}
 use Rattle.dr_meaning.specs.BoundExpression.{bad_within, fault_at, BoundPath, bind_path}
 use Rattle.dr_meaning.specs.Binding.{BoundWithin, BoundTerm, plain, rows_counted, aggregated, BoundItem, bind_items, is_record_syntax, bind_parts, passing, within_faults, holds_rows, record_term, record_item, group_item, query_of, bind}
 use Rattle.dr_meaning.specs.QueryLeaves.{value_paths, selection_values, used_paths, in_reading_order, query_leaves}
-use Rattle.dr_meaning.specs.BindingLaws.{LeavesAreEnough}
-use Rattle.dr_meaning.proofs.FindingLemmas.{In, in_at}
+use Rattle.dr_meaning.specs.BindingLaws.{LeavesAreEnough, QueryLeavesAreLeaves}
+use Rattle.dr_meaning.proofs.FindingLemmas.{In, in_at, at_in}
+use Rattle.dr_meaning.proofs.LeafKinds.{kind_if_some, leaf_kind, shape_kind, kind_of_leaf}
+use Rattle.dr_meaning.proofs.ProjectionLemmas.{step}
 use Rattle.dr_meaning.proofs.MeaningLemmas.{front-leads, level-front, longest_level-leads, both_lead, meaning_of_projection}
 use Rattle.dr_meaning.proofs.OrderLemmas.{orders_have_each_once}
 use Rattle.dr_meaning.proofs.BindingFaultLemmas.{bound_is}
@@ -168,3 +170,49 @@ unfolding query_leaves
 leaves_are_enough s q b R h =
     let F = steps_of (in_reading_order s.fields (filter (λ (l : Leaf). list_any (same_path l.path) (used_paths b)) (leaves s.fields))) in
     meaning_of_projection s.fields b F R (paths-lead F s q b h (used_lead s.fields (used_paths b) (used_paths b) (used_leaf_paths s q b h) (λ p e. e)))
+
+-- ---- the leaves of a query are leaves
+
+mutual
+  field_path : (fs : Fields) (i : ℕ) (r : Repetition) (p : List Step) (k : Kind) → leaf_kind fs (step i r ∷ p) ≡ Some k → is_leaf_path fs (step i r ∷ p) ≡ true
+  field_path no_fields i r p k h = absurd (cc)
+  field_path (field n q s fs) zero r p k h =
+      let g : (same_repetition r q ≡ true) × (shape_kind s p ≡ Some k) = kind_if_some (same_repetition r q) (shape_kind s p) k h in
+      ap₂ (λ a b. a && b) g.0 (shape_path s p k g.1)
+  field_path (field n q s fs) (suc i) r p k h = field_path fs i r p k h
+
+  shape_path : (s : Shape) (p : List Step) (k : Kind) → shape_kind s p ≡ Some k → is_shape_path s p ≡ true
+  shape_path (leaf j) [] k h = refl
+  shape_path (leaf j) (t ∷ p) k h = absurd (cc)
+  shape_path (group no_fields) [] k h = absurd (cc)
+  shape_path (group (field n q s fs)) [] k h = absurd (cc)
+  shape_path (group fs) (t ∷ p) k h = field_path fs t.place t.repetition p k h
+
+in_leaves-path : (fs : Fields) (l : Leaf) → In l (leaves fs) → is_leaf_path fs l.path ≡ true
+in_leaves-path fs l h =
+    let a : (i : ℕ) × (slice_get (leaves fs) i ≡ Some l) = in_at l (leaves fs) h in
+    shape_path (group fs) l.path l.kind (kind_of_leaf fs a.0 l a.1)
+
+filter_in : (f : Leaf → Bool) (l : Leaf) (ls : List Leaf) → In l (filter f ls) → In l ls
+filter_in f l [] h = h
+filter_in f l (m ∷ ls) h = by_test (f m) h (filter_in f l ls)
+  where
+    by_test : (b : Bool) → In l (cond b (m ∷ filter f ls) (filter f ls)) → (In l (filter f ls) → In l ls) → In l (m ∷ ls)
+    by_test true (inl e) r = inl e
+    by_test true (inr g) r = inr (r g)
+    by_test false g r = inr (r g)
+
+picked_paths : (fs : Fields) (ls : List Leaf) (js : List ℕ) → ((l : Leaf) → In l ls → is_leaf_path fs l.path ≡ true) → list_all (λ (l : Leaf). is_leaf_path fs l.path) (filter_map (slice_get ls) js) ≡ true
+picked_paths fs ls [] h = refl
+picked_paths fs ls (j ∷ js) h = by_item (slice_get ls j) refl (picked_paths fs ls js h)
+  where
+    by_item : (o : Option Leaf) → slice_get ls j ≡ o → list_all (λ (l : Leaf). is_leaf_path fs l.path) (filter_map (slice_get ls) js) ≡ true
+        → list_all (λ (l : Leaf). is_leaf_path fs l.path) (cons_option o (filter_map (slice_get ls) js)) ≡ true
+    by_item None e g = g
+    by_item (Some l) e g = ap₂ (λ a b. a && b) (h l (at_in l ls j e)) g
+
+pub query_leaves_are_leaves : QueryLeavesAreLeaves
+unfolding query_leaves
+query_leaves_are_leaves fs q =
+    let f : Leaf → Bool = λ (l : Leaf). list_any (same_path l.path) (used_paths q) in
+    picked_paths fs (filter f (leaves fs)) (reading_order fs (steps_of (filter f (leaves fs)))) (λ (l : Leaf) (h : In l (filter f (leaves fs))). in_leaves-path fs l (filter_in f l (leaves fs) h))

@@ -98,3 +98,7 @@ UsedPathsAreLeaves = (s : Schema) (q : QuerySyntax) (b : Query) → bind s q ≡
 abbrev pub LeavesAreEnough : Type 0
 LeavesAreEnough = (s : Schema) (q : QuerySyntax) (b : Query) (R : List Node) → bind s q ≡ Ok b
     → meaning s.fields b (map (project (map (λ (l : Leaf). l.path) (query_leaves s.fields b))) R) ≡ meaning s.fields b R
+
+-- the leaves of any query are leaves of the schema
+abbrev pub QueryLeavesAreLeaves : Type 0
+QueryLeavesAreLeaves = (fs : Fields) (q : Query) → list_all (λ (l : Leaf). is_leaf_path fs l.path) (query_leaves fs q) ≡ true

@@ -1,7 +1,7 @@
 // Laws of binding.
 
 ghost use Rattle.dr_meaning.specs.BindingLaws.{BoundWithoutFault, ConditionIsKept, FirstFaultIsTold, ItemsAreKept, KeptHaveShapes, LeavesAreEnough};
-ghost use Rattle.dr_meaning.specs.BindingLaws.{RecordsHaveShapes, RowsHaveShapes, UsedPathsAreLeaves, ValuesHaveTypes};
+ghost use Rattle.dr_meaning.specs.BindingLaws.{QueryLeavesAreLeaves, RecordsHaveShapes, RowsHaveShapes, UsedPathsAreLeaves, ValuesHaveTypes};
 
 /// A query is bound exactly if no rule has a fault; else the fault told is one of theirs, and none comes before it.
 pub fn first_fault_is_told()
@@ -25,7 +25,8 @@ pub fn values_have_types()
 
 /// A bound query uses only leaves of the schema.
 pub fn used_paths_are_leaves()
-    ensures { UsedPathsAreLeaves }
+    ensures used { UsedPathsAreLeaves }
+    ensures leaves { QueryLeavesAreLeaves }
 {}
 
 /// A bound query means on the projections of records to its leaves what it means on the records.
