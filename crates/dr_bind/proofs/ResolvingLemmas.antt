@@ -1,14 +1,13 @@
 -- Going along names from what was found so far.
-use Rattle.std.proofs.Common.{◌≡◌, ℕ, ◌+◌, ◌<◌, List, [], ◌∷◌, ◌++◌, map, drop, length, Option, Some, None, option_map, refl, sym, ap, ap₂, ◌∙◌}
-use Rattle.std.specs.Prelude.{get_or, option_and_then}
+use Rattle.std.proofs.Common.{◌≡◌, ℕ, ◌+◌, ◌<◌, List, [], ◌∷◌, ◌++◌, map, drop, length, Option, Some, None, option_map, sym, ap, ap₂, ◌∙◌}
+use Rattle.std.specs.Prelude.{get_or}
 use Rattle.std.proofs.lemmas.List.{drop_more, map-append}
 use denote.Ref.{Bor}
 use Rattle.dr_meaning.specs.Schema as tree
-use Rattle.dr_meaning.specs.Path.{Step, Found, named_field, resolve, find_path}
-use Rattle.dr_nested.specs.Views.{SeenField, field_view, fields_view}
+use Rattle.dr_meaning.specs.Path.{Step, Found, named_field, resolve}
+use Rattle.dr_nested.specs.Views.{SeenField}
 use Rattle.dr_nested.specs.PathView.{step_view}
 use Rattle.dr_nested.specs.Finding.{found_at, behind}
-use Rattle.dr_nested.specs.declared.shape.Field.{Field}
 use Rattle.dr_nested.specs.declared.path.Step.{Step as CodeStep}
 use Rattle.dr_nested.proofs.FindingLemmas.{entered}
 use Rattle.dr_bind.specs.Resolved.{lent}
@@ -21,7 +20,7 @@ one_name_on names i d before now fs place f s t whole l h p e g w =
     let rest : List (List ℕ) = map lent (drop (i + 1) names) in
     let n : List ℕ = (get_or names i d).now in
     let k : option_map (behind before) (named_field n 0 fs) ≡ Some (record { path = now; shape = t }) =
-        ap (option_map (behind before)) h ∙ ap₂ (λ (q : List Step) (x : tree.Shape). Some (record { path = q; shape = x })) (sym p) (sym g) in
+    ap (option_map (behind before)) h ∙ ap₂ (λ (q : List Step) (x : tree.Shape). Some (record { path = q; shape = x })) (sym p) (sym g) in
     sym (entered rest (named_field n 0 fs) before now t k)
     ∙ ap (λ (x : tree.Shape). option_map (behind before) (resolve (n ∷ rest) x)) (sym e)
     ∙ ap (λ (ns : List (Bor (List ℕ))). option_map (behind before) (resolve (map lent ns) s)) (sym (drop_more names i d l)) ∙ w

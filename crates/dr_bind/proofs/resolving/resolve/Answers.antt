@@ -1,4 +1,4 @@
-use Rattle.std.proofs.Common.{◌≡◌, ◌∙◌, ◌∷◌, [], ◌++◌, sym, ap, map}
+use Rattle.std.proofs.Common.{◌∙◌, ◌∷◌, [], ◌++◌, sym, ap, map}
 use Rattle.dr_nested.specs.Views.{SeenField, field_view, fields_view, kind_view}
 use Rattle.dr_nested.specs.PathView.{step_view}
 use Rattle.dr_meaning.specs.Path.{find_path}
