@@ -9,7 +9,7 @@ use Rattle.std.proofs.lemmas.List.{take_all, length-drop}
 use Rattle.std.proofs.lemmas.List.Sums.{prefix_len-le-length}
 use Rattle.dr_meaning.specs.Schema.{is_name, begins_name, continues_name}
 use Rattle.dr_meaning.specs.SchemaText.{is_blank}
-use Rattle.dr_meaning.specs.QueryText.{Sign, comma, open_parenthesis, close_parenthesis, dot, star, plus_sign, minus_sign, equals, differs, less_than, less_or_equal, greater_than, greater_or_equal, semicolon, QueryToken, identifier, number, text, sign, bad, name_token, number_token, quoted_token, Begun, none, in_name, in_number, in_quotes, in_text, after_quote, after_less, after_greater, Lexed, begins, whole, after_token, is_digit, sign_or, sign_token, first_byte, query_tokens_from, bare_tokens}
+use Rattle.dr_meaning.specs.Tokens.{Sign, comma, open_parenthesis, close_parenthesis, dot, star, plus_sign, minus_sign, equals, differs, less_than, less_or_equal, greater_than, greater_or_equal, semicolon, QueryToken, identifier, number, text, sign, bad, name_token, number_token, quoted_token, Begun, none, in_name, in_number, in_quotes, in_text, after_quote, after_less, after_greater, Lexed, begins, whole, after_token, is_digit, sign_or, sign_token, first_byte, query_tokens_from, bare_tokens}
 use Rattle.dr_count.specs.QueryReading.{tokens, is_other_sign, is_foreign, starts_foreign, sign_of, starts_name, IsPiece, SameName, Reads}
 use Rattle.dr_count.specs.declared.pieces.Piece.{Piece}
 

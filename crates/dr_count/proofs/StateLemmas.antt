@@ -7,7 +7,8 @@ use Rattle.std.proofs.lemmas.Bool.{and_parts}
 use Rattle.std.proofs.lemmas.Bool.Decides.{nat_tests}
 use Rattle.dr_meaning.specs.Schema.{is_name, continues_name}
 use Rattle.dr_meaning.specs.Path.{cut_at_dots, onto_first}
-use Rattle.dr_meaning.specs.QueryText.{Word, select_word, from_word, as_word, count_word, Sign, open_parenthesis, close_parenthesis, dot, semicolon, QueryToken, reserved, identifier, number, text, sign, bad, CountText, count_path}
+use Rattle.dr_meaning.specs.Tokens.{Word, select_word, from_word, as_word, count_word, Sign, open_parenthesis, close_parenthesis, dot, semicolon, QueryToken, reserved, identifier, number, text, sign, bad}
+use Rattle.dr_meaning.specs.QueryText.{CountText, count_path}
 use Rattle.dr_count.specs.declared.pieces.Mark.{Mark}
 use Rattle.dr_count.specs.declared.pieces.Piece.{Piece}
 use Rattle.dr_count.specs.declared.query_state.Expected.{Expected}

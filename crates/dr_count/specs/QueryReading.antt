@@ -2,8 +2,8 @@
 use Rattle.std.specs.Prelude.{◌≡◌, ℕ, List, [], ◌∷◌, Bool, true, false, if◌then◌else◌, ◌==◌, codes, Option, Some, None, Result, Ok, Err, ⊤}
 use denote.Ref.{Bor}
 use Rattle.dr_meaning.specs.Schema.{is_name, begins_name}
-use Rattle.dr_meaning.specs.QueryText.{Word, select_word, from_word, as_word, count_word, Sign, open_parenthesis, close_parenthesis, dot, semicolon}
-use Rattle.dr_meaning.specs.QueryText.{QueryToken, reserved, identifier, number, text, sign, bad, none, query_tokens_from, bare_tokens}
+use Rattle.dr_meaning.specs.Tokens.{Word, select_word, from_word, as_word, count_word, Sign, open_parenthesis, close_parenthesis, dot, semicolon}
+use Rattle.dr_meaning.specs.Tokens.{QueryToken, reserved, identifier, number, text, sign, bad, none, query_tokens_from, bare_tokens}
 use Rattle.dr_count.specs.declared.pieces.Mark.{Mark}
 use Rattle.dr_count.specs.declared.pieces.Piece.{Piece}
 

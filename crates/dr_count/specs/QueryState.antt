@@ -1,8 +1,9 @@
 -- The state of reading the text of a count query: what the tokens that are left mean in it.
 use Rattle.std.specs.Prelude.{◌≡◌, ℕ, List, [], ◌∷◌, ◌++◌, Bool, true, false, Option, Some, None, Result, Ok, Err, option_map, string_bytes, ⊤}
 use Rattle.dr_meaning.specs.Path.{cut_at_dots}
-use Rattle.dr_meaning.specs.QueryText.{select_word, from_word, as_word, count_word, open_parenthesis, dot, semicolon, QueryToken}
-use Rattle.dr_meaning.specs.QueryText.{reserved, identifier, sign, CountText, count_end, count_from, count_as, count_path, count_tokens}
+use Rattle.dr_meaning.specs.Tokens.{select_word, from_word, as_word, count_word, open_parenthesis, dot, semicolon, QueryToken}
+use Rattle.dr_meaning.specs.Tokens.{reserved, identifier, sign}
+use Rattle.dr_meaning.specs.QueryText.{CountText, count_end, count_from, count_as, count_path, count_tokens}
 use Rattle.dr_count.specs.declared.pieces.Piece.{Piece}
 use Rattle.dr_count.specs.QueryReading.{tokens, mark_view}
 use Rattle.dr_count.specs.declared.query_state.Expected.{Expected}

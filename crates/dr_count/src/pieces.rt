@@ -5,7 +5,7 @@ ghost use Rattle.std.specs.List.{list_all, list_any, position, position_or_len};
 ghost use Rattle.std.specs.Str.{str_to_ascii_uppercase};
 ghost use Rattle.dr_meaning.specs.Schema as tree;
 ghost use Rattle.dr_meaning.specs.SchemaText as blanks;
-ghost use Rattle.dr_meaning.specs.QueryText as language;
+ghost use Rattle.dr_meaning.specs.Tokens as language;
 ghost use Rattle.dr_count.specs.QueryReading.{mark_view, sign_of, Known, SameName, other_words, starts_name, Reads, ReadsFrom};
 
 use std::alloc::{AllocError, Global};

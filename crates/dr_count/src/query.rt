@@ -3,7 +3,7 @@
 ghost use Rattle.std.specs.Prelude.{◌≡◌, true, Some, None, string_bytes, option_map, IfOk, IfSome};
 ghost use Rattle.dr_meaning.specs.Schema.{is_name};
 ghost use Rattle.dr_meaning.specs.Ask as ask;
-ghost use Rattle.dr_meaning.specs.QueryText.{longest_query};
+ghost use Rattle.dr_meaning.specs.Tokens.{longest_query};
 ghost use Rattle.dr_nested.specs.SchemaView.{schema_view};
 ghost use Rattle.dr_count.specs.ItemNames.{has_name};
 ghost use Rattle.dr_count.specs.QueryState.{ReadsQuery, named_by};

@@ -11,7 +11,7 @@ use Rattle.dr_meaning.proofs.SchemaReadsBack.{FirstField, first_of_group, other_
 
 -- ---- among leaves
 
-abbrev In : Leaf → List Leaf → Type 0
+abbrev pub In : Leaf → List Leaf → Type 0
 In l [] = ⊥
 In l (m ∷ ls) = (m ≡ l) ⊎ In l ls
 
@@ -43,12 +43,12 @@ of_map f l [] h = absurd h
 of_map f l (m ∷ ls) (inl h) = (m, inl refl, h)
 of_map f l (m ∷ ls) (inr h) = let q : (n : Leaf) × In n ls × (f n ≡ l) = of_map f l ls h in (q.0, inr q.1, q.2)
 
-in_at : (l : Leaf) (ls : List Leaf) → In l ls → (i : ℕ) × (slice_get ls i ≡ Some l)
+pub in_at : (l : Leaf) (ls : List Leaf) → In l ls → (i : ℕ) × (slice_get ls i ≡ Some l)
 in_at l [] h = absurd h
 in_at l (m ∷ ls) (inl h) = (0, ap Some h)
 in_at l (m ∷ ls) (inr h) = let q : (i : ℕ) × (slice_get ls i ≡ Some l) = in_at l ls h in (suc q.0, q.1)
 
-at_in : (l : Leaf) (ls : List Leaf) (i : ℕ) → slice_get ls i ≡ Some l → In l ls
+pub at_in : (l : Leaf) (ls : List Leaf) (i : ℕ) → slice_get ls i ≡ Some l → In l ls
 at_in l [] i h = absurd (cc)
 at_in l (m ∷ ls) zero h = inl (same m h)
   where
@@ -241,7 +241,7 @@ of_shape : (ns : List (List ℕ)) (p : List Step) (s : Shape) (l : Leaf) → lea
 of_shape ns p (leaf k) l h = (k, refl, same_leaf (leaf_of ns p k) l h)
 of_shape ns p (group fs) l h = absurd (cc)
 
-of_found : (ns : List (List ℕ)) (fs : Fields) (o : Option Found) (l : Leaf) → find_path ns fs ≡ o → found_leaf ns o ≡ Ok l → In l (leaves fs) × (l.names ≡ ns)
+pub of_found : (ns : List (List ℕ)) (fs : Fields) (o : Option Found) (l : Leaf) → find_path ns fs ≡ o → found_leaf ns o ≡ Ok l → In l (leaves fs) × (l.names ≡ ns)
 of_found ns fs None l e h = absurd (cc)
 of_found ns fs (Some f) l e h =
     let q : (k : Kind) × (f.shape ≡ leaf k) × (leaf_of ns f.path k ≡ l) = of_shape ns f.path f.shape l h in

@@ -65,7 +65,7 @@ resolved_is : (ns : List (List ℕ)) (s : Shape) → LeadsOn ns s
 resolved_is [] s f e q t = let k : record { path = []; shape = s } ≡ f = cc in ap (λ (x : Found). is_shape_path s (x.path ++ q)) (sym k) ∙ ap (λ (x : Found). is_shape_path x.shape q) k ∙ t
 resolved_is (n ∷ ns) s f e q t = by_field n ns s f q (resolved_is ns) (named_field n 0 (fields_of s)) refl e t
 
-leaf_is : (ns : List (List ℕ)) (fs : Fields) (o : Option Found) (l : Leaf) → find_path ns fs ≡ o → found_leaf ns o ≡ Ok l → is_leaf_path fs l.path ≡ true
+pub leaf_is : (ns : List (List ℕ)) (fs : Fields) (o : Option Found) (l : Leaf) → find_path ns fs ≡ o → found_leaf ns o ≡ Ok l → is_leaf_path fs l.path ≡ true
 leaf_is ns fs None l h e = absurd (cc)
 leaf_is ns fs (Some f) l h e = by_shape f.shape refl e where
   by_shape : (s : Shape) → f.shape ≡ s → leaf_at ns f.path s ≡ Ok l → is_leaf_path fs l.path ≡ true

@@ -13,10 +13,16 @@ pub mod WorkedMeaning
 pub mod WorkedWalk
 pub mod WorkedLimits
 pub mod WorkedTokens
+pub mod WorkedSyntax
+pub mod WorkedSyntaxFaults
+pub mod WorkedBinding
+pub mod WorkedBindingFaults
 pub mod WorkedTexts
 pub mod WorkedAsk
 pub mod WorkedStripe
 -- lemmas of the laws of schema text
+-- lemmas of the laws of query syntax
+pub mod SyntaxReading
 pub mod SchemaMachine
 pub mod SchemaAccepted
 pub mod SchemaGoesOn
@@ -47,3 +53,9 @@ pub mod OrderLemmas
 pub mod VisitLemmas
 pub mod FoundLemmas
 pub mod FindingLemmas
+-- lemmas of the laws of binding
+pub mod BindingFaultLemmas
+pub mod HasShapesLemmas
+pub mod BindingLemmas
+pub mod BoundPartsLemmas
+pub mod QueryLeavesLemmas

@@ -5,7 +5,7 @@ use Rattle.std.specs.List.{list_all, list_any}
 use Rattle.std.proofs.lemmas.Bool.{and_parts, and_from, or_parts, eqb-true, leb-true, le-leb, lt-leb, not-true, ne_eqb}
 use Rattle.dr_meaning.specs.Schema.{begins_name, continues_name}
 use Rattle.dr_meaning.specs.SchemaText.{is_blank}
-use Rattle.dr_meaning.specs.QueryText.{Sign, comma, open_parenthesis, close_parenthesis, dot, star, plus_sign, minus_sign, equals, differs, less_than, less_or_equal, greater_than, greater_or_equal, semicolon, QueryToken, reserved, identifier, number, text, sign, bad, PlacedToken, name_token, greatest_number, number_token, quoted_token, is_digit, none, in_name, in_number, in_quotes, in_text, placed, query_tokens_from}
+use Rattle.dr_meaning.specs.Tokens.{Sign, comma, open_parenthesis, close_parenthesis, dot, star, plus_sign, minus_sign, equals, differs, less_than, less_or_equal, greater_than, greater_or_equal, semicolon, QueryToken, reserved, identifier, number, text, sign, bad, PlacedToken, name_token, greatest_number, number_token, quoted_token, is_digit, none, in_name, in_number, in_quotes, in_text, placed, query_tokens_from}
 use Rattle.dr_meaning.specs.TokenLaws.{begins_so, IsWholeWord, digits_value, AreDigitsOf, doubled, has_no_quote, IsStray, IsSign, IsQueryToken, AreQueryTokens, OneListOfQueryTokens}
 use Rattle.dr_meaning.proofs.OneTokenLemmas.{blank_begins}
 

@@ -6,17 +6,17 @@ use Rattle.std.specs.Str.{str_to_ascii_uppercase}
 use Rattle.std.proofs.lemmas.Bool.{and_from, or_from, not_from_false, eqb-true, leb-true, leb-false, cond_both}
 use Rattle.dr_meaning.specs.Schema.{is_name, begins_name, continues_name}
 use Rattle.dr_meaning.specs.SchemaText.{is_blank}
-use Rattle.dr_meaning.specs.QueryText.{Word, select_word, from_word, where_word, group_word, by_word, as_word, within_word, record_word, and_word, or_word, not_word, like_word, contains_word, is_word, null_word, true_word, false_word, count_word, sum_word, min_word, max_word, comma, open_parenthesis, close_parenthesis, dot, star, plus_sign, minus_sign, equals, differs, less_than, less_or_equal, greater_than, greater_or_equal, semicolon, QueryToken, reserved, identifier, number, text, sign, bad, PlacedToken, word_or, word_of, name_token, greatest_number, number_token, quoted_token, is_digit, sign_token, Begun, none, in_name, in_number, in_quotes, in_text, after_quote, after_less, after_greater, Lexed, placed, begins, whole, after_token, first_byte, next_byte, last_tokens, query_tokens_from}
+use Rattle.dr_meaning.specs.Tokens.{Word, select_word, from_word, where_word, group_word, by_word, as_word, within_word, record_word, and_word, or_word, not_word, like_word, contains_word, is_word, null_word, true_word, false_word, count_word, sum_word, min_word, max_word, comma, open_parenthesis, close_parenthesis, dot, star, plus_sign, minus_sign, equals, differs, less_than, less_or_equal, greater_than, greater_or_equal, semicolon, QueryToken, reserved, identifier, number, text, sign, bad, PlacedToken, word_or, word_of, name_token, greatest_number, number_token, quoted_token, is_digit, sign_token, Begun, none, in_name, in_number, in_quotes, in_text, after_quote, after_less, after_greater, Lexed, placed, begins, whole, after_token, first_byte, next_byte, last_tokens, query_tokens_from}
 use Rattle.dr_meaning.specs.TokenLaws.{IsWholeWord, digits_value, AreDigitsOf, doubled, has_no_quote, IsQueryToken, AreQueryTokens, QueryTokensAreText}
 use Rattle.dr_meaning.proofs.TokenLemmas.{all_push, begun_more}
 
 -- a blank before tokens
-blank_before : (i b : ℕ) (query : List ℕ) (ts : List PlacedToken) → is_blank b ≡ true → AreQueryTokens (suc i) query ts → AreQueryTokens i (b ∷ query) ts
+pub blank_before : (i b : ℕ) (query : List ℕ) (ts : List PlacedToken) → is_blank b ≡ true → AreQueryTokens (suc i) query ts → AreQueryTokens i (b ∷ query) ts
 blank_before i b query [] h a = and_from (is_blank b) (list_all is_blank query) h a
 blank_before i b query (t ∷ ts) h a = (b ∷ a.0, a.1, a.2, ap (λ x. b ∷ x) a.3, and_from (is_blank b) (list_all is_blank a.0) h a.4, omega (arith, a.5), a.6, a.7)
 
 -- a token before tokens
-token_before : (i : ℕ) (t : QueryToken) (bs behind : List ℕ) (ts : List PlacedToken) → IsQueryToken t bs behind → AreQueryTokens (i + length bs) behind ts → AreQueryTokens i (bs ++ behind) (placed i t ∷ ts)
+pub token_before : (i : ℕ) (t : QueryToken) (bs behind : List ℕ) (ts : List PlacedToken) → IsQueryToken t bs behind → AreQueryTokens (i + length bs) behind ts → AreQueryTokens i (bs ++ behind) (placed i t ∷ ts)
 token_before i t bs behind ts h a = ([], bs, behind, refl, refl, omega arith, h, a)
 
 -- ---- the tokens of words, numbers, quotes and signs
@@ -58,20 +58,20 @@ word_token : (t : QueryToken) (w behind : List ℕ) → IsWordOf w t → name_to
 word_token t w behind is_reserved e h = (h, e)
 word_token t w behind is_itself e h = inl (refl, h, e)
 
-word_ends : (w behind : List ℕ) → IsWholeWord w behind → IsQueryToken (name_token w) w behind
+pub word_ends : (w behind : List ℕ) → IsWholeWord w behind → IsQueryToken (name_token w) w behind
 word_ends w behind h = word_token (name_token w) w behind (word_is (str_to_ascii_uppercase w) w) refl h
 
-number_ends : (n : ℕ) (u behind : List ℕ) → AreDigitsOf n u behind → IsQueryToken (number_token n) u behind
+pub number_ends : (n : ℕ) (u behind : List ℕ) → AreDigitsOf n u behind → IsQueryToken (number_token n) u behind
 number_ends n u behind h = cond_both (nat_le n greatest_number) (number n) bad (λ t. IsQueryToken t u behind)
     (λ e. (h, leb-true n greatest_number e)) (λ e. inr (inr (inr (n, h, leb-false n greatest_number e))))
 
-quotes_end : (w behind : List ℕ) → has_no_quote w ≡ true → IsQueryToken (quoted_token w) (34 ∷ (w ++ 34 ∷ [])) behind
+pub quotes_end : (w behind : List ℕ) → has_no_quote w ≡ true → IsQueryToken (quoted_token w) (34 ∷ (w ++ 34 ∷ [])) behind
 quotes_end w behind h = cond_both (is_name w) (identifier w) bad (λ t. IsQueryToken t (34 ∷ (w ++ 34 ∷ [])) behind) (λ e. inr (refl, e)) (λ e. inr (inl (w, refl, h, e)))
 
 byte_is : (b c : ℕ) → (b == c) ≡ true → ◌≡◌ {A = List ℕ} (b ∷ []) (c ∷ [])
 byte_is b c e = ap (λ x. x ∷ []) (eqb-true b c e)
 
-sign_is : (b : ℕ) (behind : List ℕ) → is_blank b ≡ false → begins_name b ≡ false → is_digit b ≡ false → (b == 34) ≡ false → (b == 39) ≡ false → (b == 60) ≡ false → (b == 62) ≡ false → IsQueryToken (sign_token b) (b ∷ []) behind
+pub sign_is : (b : ℕ) (behind : List ℕ) → is_blank b ≡ false → begins_name b ≡ false → is_digit b ≡ false → (b == 34) ≡ false → (b == 39) ≡ false → (b == 60) ≡ false → (b == 62) ≡ false → IsQueryToken (sign_token b) (b ∷ []) behind
 sign_is b behind k1 k2 k3 k4 k5 k6 k7 =
     cond_both (b == 44) (sign comma) _ P (byte_is b 44) (λ h1. cond_both (b == 40) (sign open_parenthesis) _ P (byte_is b 40) (λ h2.
     cond_both (b == 41) (sign close_parenthesis) _ P (byte_is b 41) (λ h3. cond_both (b == 46) (sign dot) _ P (byte_is b 46) (λ h4.
@@ -89,7 +89,7 @@ sign_is b behind k1 k2 k3 k4 k5 k6 k7 =
 
 -- ---- texts with doubled quotes
 
-doubled_quote : (t : List ℕ) → doubled (t ++ 39 ∷ []) ≡ doubled t ++ 39 ∷ 39 ∷ []
+pub doubled_quote : (t : List ℕ) → doubled (t ++ 39 ∷ []) ≡ doubled t ++ 39 ∷ 39 ∷ []
 doubled_quote [] = refl
 doubled_quote (c ∷ t) = by_test (c == 39) (doubled_quote t)
   where
@@ -97,7 +97,7 @@ doubled_quote (c ∷ t) = by_test (c == 39) (doubled_quote t)
     by_test true e = ap (λ x. 39 ∷ 39 ∷ x) e
     by_test false e = ap (λ x. c ∷ x) e
 
-doubled_other : (t : List ℕ) (d : ℕ) → (d == 39) ≡ false → doubled (t ++ d ∷ []) ≡ doubled t ++ d ∷ []
+pub doubled_other : (t : List ℕ) (d : ℕ) → (d == 39) ≡ false → doubled (t ++ d ∷ []) ≡ doubled t ++ d ∷ []
 doubled_other [] d h = rw h refl
 doubled_other (c ∷ t) d h = by_test (c == 39) (doubled_other t d h)
   where

@@ -11,7 +11,7 @@ use Rattle.dr_meaning.specs.Path.{not_a_leaf}
 use Rattle.dr_meaning.specs.Record.{bool_value, int_value, text_value, in_int32, in_int64, is_of_kind, fits_repetition, Node, no_slots, slot, gap, Instances, no_instances, atom, inner, single, is_record, instance_count, text_bytes}
 use Rattle.dr_meaning.specs.JsonRecord.{RecordFault, record_of_line, node_within_limits, most_instances, most_text_bytes, not_json, unknown_field as unknown_key, missing_field, wrong_kind, out_of_range, null_element, too_large}
 use Rattle.dr_meaning.specs.Lines.{line_too_long, too_many_records, no_record, record_at, line_record, longest_line}
-use Rattle.dr_meaning.specs.QueryText.{longest_query}
+use Rattle.dr_meaning.specs.Tokens.{longest_query}
 use Rattle.dr_meaning.specs.Refusals.{schema_refusal_text, field_refusal_text, line_refusal_text, schema_problem_name, line_fault_name}
 use Rattle.dr_meaning.specs.Ask.{most_records}
 use Rattle.dr_meaning.specs.Stripe.{most_striped}

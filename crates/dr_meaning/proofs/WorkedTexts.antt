@@ -3,7 +3,7 @@ use Rattle.std.specs.Prelude.{ℕ, List, [], ◌∷◌, ◌++◌, length, replic
 use Rattle.std.proofs.Common.{arith, ap, inr}
 use Rattle.dr_meaning.specs.Schema.{Fields, no_fields, field, leaf, required, optional, repeated, int64_kind}
 use Rattle.dr_meaning.specs.SchemaText.{Token, name, open_brace, semicolon, bad, Placed, OpenGroup, duplicate_name, bad_name, too_deep, syntax}
-use Rattle.dr_meaning.specs.QueryText.{reserved, identifier, number, text, sign, placed, count_word, less_or_equal}
+use Rattle.dr_meaning.specs.Tokens.{reserved, identifier, number, text, sign, placed, count_word, less_or_equal}
 use Rattle.dr_meaning.specs.TokenLaws.{AreTokens, AreQueryTokens}
 use Rattle.dr_meaning.specs.SchemaFaultLaws.{IsBeforeName, AllKeepRules, BreaksFirst}
 use Rattle.dr_meaning.proofs.OneTokenLemmas.{one_list_of_tokens}

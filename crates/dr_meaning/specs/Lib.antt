@@ -16,7 +16,15 @@ pub mod Print
 pub mod Column
 pub mod Automaton
 pub mod Walk
--- input lines, query text; what commands refuse, and the commands
+-- query text: its tokens, the syntax tree and the first fault
+pub mod Tokens
+pub mod Syntax
+pub mod Parse
+pub mod QueryGrammar
+-- binding a query's names by a schema, with the type of each expression; or the first fault
+pub mod BoundExpression
+pub mod Binding
+-- input lines, the query of one COUNT; what commands refuse, and the commands
 pub mod Lines
 pub mod QueryText
 pub mod Refusals
@@ -34,4 +42,6 @@ pub mod ColumnLaws
 pub mod OneColumn
 pub mod WalkLaws
 pub mod OrderLaws
+pub mod QueryLeaves
+pub mod BindingLaws
 pub mod AutomatonLaws

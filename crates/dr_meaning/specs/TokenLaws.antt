@@ -4,9 +4,9 @@ use Rattle.std.specs.Prelude.{if◌then◌else◌}
 use Rattle.std.specs.List.{list_all, list_any}
 use Rattle.dr_meaning.specs.Schema.{is_name, begins_name, continues_name}
 use Rattle.dr_meaning.specs.SchemaText.{Token, name, open_brace, close_brace, semicolon, bad, Placed, is_blank, tokens_of}
-use Rattle.dr_meaning.specs.QueryText.{Sign, comma, open_parenthesis, close_parenthesis, dot, star, plus_sign, minus_sign, equals, differs}
-use Rattle.dr_meaning.specs.QueryText.{less_than, less_or_equal, greater_than, greater_or_equal, semicolon as end_sign, QueryToken, reserved, identifier}
-use Rattle.dr_meaning.specs.QueryText.{number, text as text_token, sign, bad as bad_token, PlacedToken, name_token, greatest_number, is_digit, query_tokens}
+use Rattle.dr_meaning.specs.Tokens.{Sign, comma, open_parenthesis, close_parenthesis, dot, star, plus_sign, minus_sign, equals, differs}
+use Rattle.dr_meaning.specs.Tokens.{less_than, less_or_equal, greater_than, greater_or_equal, semicolon as end_sign, QueryToken, reserved, identifier}
+use Rattle.dr_meaning.specs.Tokens.{number, text as text_token, sign, bad as bad_token, PlacedToken, name_token, greatest_number, is_digit, query_tokens}
 
 -- whether these bytes begin with one that passes
 abbrev pub begins_so : (ℕ → Bool) → List ℕ → Bool

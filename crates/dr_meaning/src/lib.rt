@@ -2,6 +2,7 @@
 //! definitions; each function here has an empty body, and its contract is a law.
 #![tactic(auto)]
 
+pub mod binding_laws;
 pub mod column_laws;
 pub mod line_laws;
 pub mod meaning_laws;

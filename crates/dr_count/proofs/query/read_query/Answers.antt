@@ -1,6 +1,7 @@
 use Rattle.std.proofs.Common.{sym, ap, List, Option}
 use Rattle.std.specs.declared.alloc.AllocError.{AllocError}
-use Rattle.dr_meaning.specs.QueryText.{QueryToken, CountText, count_tokens}
+use Rattle.dr_meaning.specs.Tokens.{QueryToken}
+use Rattle.dr_meaning.specs.QueryText.{CountText, count_tokens}
 use Rattle.dr_count.specs.QueryReading.{tokens}
 use Rattle.dr_count.proofs.StateLemmas.{moved_if, stopped_if}
 use Rattle.dr_count.proofs.query.read_query.Goals as goal

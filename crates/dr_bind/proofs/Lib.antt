@@ -1,0 +1,2 @@
+-- lemmas of going along names
+pub mod ResolvingLemmas

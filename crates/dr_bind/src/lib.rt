@@ -1,0 +1,10 @@
+//! Binding a query to a schema: names become leaves, and the query a plan, or its first fault is told.
+#![tactic(auto)]
+
+mod fault;
+mod resolving;
+#[cfg(test)]
+mod tests;
+
+pub use fault::{BindFault, BindProblem, Fault, FirstFault};
+pub use resolving::{End, Found, resolve};

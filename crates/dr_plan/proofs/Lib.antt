@@ -1,0 +1,5 @@
+-- worked examples, by computation
+pub mod WorkedPlans
+-- lemmas of the laws
+pub mod ConjunctLemmas
+pub mod ObjectLemmas

@@ -1,0 +1,5 @@
+pub mod Conjuncts
+pub mod Views
+pub mod Fitting
+pub mod Objects
+pub mod Planned

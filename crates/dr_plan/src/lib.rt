@@ -1,0 +1,15 @@
+//! Plans: queries whose names have become leaves of a schema, in the form in which they are run (Dremel 2010, section 5).
+#![tactic(auto)]
+
+mod aggregate;
+mod expression;
+pub mod laws;
+mod objects;
+mod pattern;
+mod plan;
+
+pub use aggregate::{Aggregate, Fold, Within};
+pub use expression::{Comparison, Expr, Number, TextOf, Truth};
+pub use objects::{ListPlan, ObjectPlan};
+pub use pattern::Pattern;
+pub use plan::{GroupItem, GroupTerm, Plan, RecordItem, RecordTerm, Selection};

@@ -1,0 +1,7 @@
+pub mod CursorLemmas
+pub mod LoopLemmas
+pub mod WordLemmas
+pub mod FrontLemmas
+pub mod LexLemmas
+pub mod ParseLemmas
+pub mod ListLemmas

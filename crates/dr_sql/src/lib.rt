@@ -1,0 +1,32 @@
+//! The text of a query as a syntax tree, or its first fault.
+#![tactic(auto)]
+
+mod building;
+mod clauses;
+mod cursor;
+mod expression;
+mod fault;
+mod items;
+mod lexing;
+mod limits;
+mod operands;
+mod operators;
+mod parsing;
+mod paths;
+mod query;
+#[cfg(test)]
+mod tests;
+mod token;
+mod word;
+mod word_tests;
+mod words;
+
+pub use expression::{Arithmetic, Comparison, Expression, Path};
+pub use fault::{QueryFault, QueryProblem};
+pub use limits::{
+    GREATEST_NESTING, LONGEST_QUERY, MOST_ITEMS, MOST_OPERATORS, query_limits_are_as_defined,
+};
+pub use parsing::parse;
+pub use query::{Aggregate, Condition, Item, Node, Query, Table, Term, Within};
+pub use token::{PlacedToken, Token};
+pub use word::{Sign, Word};

@@ -1,0 +1,65 @@
+//! Queries as their text has them, before names are looked up. Places are byte places in the text; names are lent from it.
+
+use crate::expression::{Expression, Path};
+
+/// COUNT, SUM, MIN, MAX.
+#[derive(Clone, Copy, PartialEq, Eq, Debug)]
+pub enum Aggregate {
+    Count,
+    Sum,
+    Min,
+    Max,
+}
+
+/// Within what an aggregate runs: RECORD, or the node of a path.
+#[derive(Debug, Drop)]
+pub enum Node<'a> {
+    Record,
+    Path(Path<'a>),
+}
+
+/// WITHIN and its node, with the place of the word.
+#[derive(Debug, Drop)]
+pub struct Within<'a> {
+    pub place: usize,
+    pub node: Node<'a>,
+}
+
+/// What an item gives: an expression; `COUNT(*)`; an aggregate of an expression.
+#[derive(Debug, Drop)]
+pub enum Term<'a> {
+    Expression(Expression<'a>),
+    CountRows(Option<Within<'a>>),
+    Aggregate(Aggregate, Expression<'a>, Option<Within<'a>>),
+}
+
+/// An item, the name that AS gives it, and the place of its first token: of an aggregate, its word.
+#[derive(Debug, Drop)]
+pub struct Item<'a> {
+    pub place: usize,
+    pub term: Term<'a>,
+    pub name: Option<&'a str>,
+}
+
+/// The name behind FROM, and its place.
+#[derive(Clone, Copy, Debug)]
+pub struct Table<'a> {
+    pub place: usize,
+    pub name: &'a str,
+}
+
+/// The condition, and the place of its first token.
+#[derive(Debug, Drop)]
+pub struct Condition<'a> {
+    pub place: usize,
+    pub expression: Expression<'a>,
+}
+
+/// SELECT items FROM table [WHERE condition] [GROUP BY keys]; without GROUP BY there are no keys.
+#[derive(Debug, Drop)]
+pub struct Query<'a> {
+    pub items: Vec<Item<'a>>,
+    pub table: Table<'a>,
+    pub condition: Option<Condition<'a>>,
+    pub keys: Vec<Path<'a>>,
+}

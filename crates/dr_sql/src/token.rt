@@ -1,0 +1,24 @@
+//! Tokens of a query's text.
+
+use crate::word::{Sign, Word};
+
+/// A token. Names and texts are lent from the query's text.
+#[derive(Clone, Copy, Debug)]
+pub enum Token<'a> {
+    Word(Word),
+    /// A name, bare or in double quotes, without these.
+    Name(&'a str),
+    Number(u64),
+    /// What stands between single quotes, with `''` for a quote.
+    Text(&'a str),
+    Sign(Sign),
+    /// What begins no token, an unclosed quote, a number past 9223372036854775807.
+    Bad,
+}
+
+/// A token and the byte place at which it begins.
+#[derive(Clone, Copy, Debug)]
+pub struct PlacedToken<'a> {
+    pub place: usize,
+    pub token: Token<'a>,
+}

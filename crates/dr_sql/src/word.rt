@@ -1,0 +1,46 @@
+//! Reserved words and signs.
+
+/// The reserved words, read without regard to case.
+#[derive(Clone, Copy, PartialEq, Eq, Debug)]
+pub enum Word {
+    Select,
+    From,
+    Where,
+    Group,
+    By,
+    As,
+    Within,
+    Record,
+    And,
+    Or,
+    Not,
+    Like,
+    Contains,
+    Is,
+    Null,
+    True,
+    False,
+    Count,
+    Sum,
+    Min,
+    Max,
+}
+
+/// The signs `, ( ) . * + - = <> < <= > >= ;`.
+#[derive(Clone, Copy, PartialEq, Eq, Debug)]
+pub enum Sign {
+    Comma,
+    Open,
+    Close,
+    Dot,
+    Star,
+    Plus,
+    Minus,
+    Equal,
+    Differ,
+    Less,
+    LessOrEqual,
+    Greater,
+    GreaterOrEqual,
+    Semicolon,
+}
