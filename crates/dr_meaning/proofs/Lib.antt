@@ -22,6 +22,7 @@ pub mod WorkedStripe
 -- lemmas of the laws of query syntax
 pub mod SyntaxReading
 pub mod SyntaxSound
+pub mod SyntaxAccepted
 pub mod SchemaMachine
 pub mod SchemaAccepted
 pub mod SchemaGoesOn

@@ -26,7 +26,7 @@ use Rattle.dr_meaning.proofs.SyntaxReading.{word_next, sign_next, name_next, tex
 abbrev Relation : Type 0 → Type 1
 Relation A = List PlacedToken → A → Type 0
 
-behind : (us vs ws ts rest : List PlacedToken) → us ≡ ts ++ vs → vs ≡ ws ++ rest → us ≡ (ts ++ ws) ++ rest
+pub behind : (us vs ws ts rest : List PlacedToken) → us ≡ ts ++ vs → vs ≡ ws ++ rest → us ≡ (ts ++ ws) ++ rest
 behind us vs ws ts rest e f = e ∙ (ap (λ xs. ts ++ xs) f ∙ sym (append_assoc ts ws rest))
 
 -- ---- paths
