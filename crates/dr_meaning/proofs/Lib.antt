@@ -23,6 +23,8 @@ pub mod WorkedStripe
 -- lemmas of the laws of schema text
 -- lemmas of the laws of query syntax
 pub mod SyntaxReading
+pub mod SyntaxSound
+pub mod SyntaxAccepted
 pub mod SchemaMachine
 pub mod SchemaAccepted
 pub mod SchemaGoesOn
