@@ -4,5 +4,7 @@ pub mod Telling
 pub mod Stretches
 -- page headers as they are read
 pub mod Headers
+-- a chunk's pages, one at a time
+pub mod Steps
 -- faults
 pub mod Faults
