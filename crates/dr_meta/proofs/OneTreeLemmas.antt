@@ -11,7 +11,7 @@ use Rattle.dr_meta.specs.OneTree.{count_leaves, leaves_of_fields, leaves_of_shap
 -- ---- leaves
 
 mutual
-  under_count : (earlier : List (List ℕ)) (fs : FileFields) → length (leaves_under earlier fs) ≡ leaves_of_fields fs
+  pub under_count : (earlier : List (List ℕ)) (fs : FileFields) → length (leaves_under earlier fs) ≡ leaves_of_fields fs
   under_count earlier no_file_fields = refl
   under_count earlier (file_field n r s fs) =
       let a = length-append (map (leaf_under n r (is_open_name earlier n)) (shape_leaves_under s)) (leaves_under (n ∷ earlier) fs) in
@@ -20,7 +20,7 @@ mutual
       let d = under_count (n ∷ earlier) fs in
       omega (arith, a, b, c, d)
 
-  shape_count : (s : FileShape) → length (shape_leaves_under s) ≡ leaves_of_shape s
+  pub shape_count : (s : FileShape) → length (shape_leaves_under s) ≡ leaves_of_shape s
   shape_count (file_leaf t c) = refl
   shape_count (file_group fs) = under_count [] fs
 
@@ -29,7 +29,8 @@ all_count fs = length-map (leaves_under [] fs) within_depth ∙ under_count [] f
 
 -- ---- fields take elements, and more room changes nothing
 
-abbrev Shorter : ℕ → Type 0
+-- so many elements at most are behind fields
+abbrev pub Shorter : ℕ → Type 0
 Shorter k = (n : ℕ) (es : List SchemaElement) (f : FieldsRead) → fields_read k n es ≡ Some f → length f.behind ≤ length es
 
 same_some : {A : Type 0} (a b : A) → Some a ≡ Some b → a ≡ b
@@ -57,13 +58,13 @@ step_shorter k n h e es (Some r) (Some s) f g p = by (fields_read k n s.behind) 
     by None q w = absurd (no_some f w)
     by (Some x) q w = let z = ap (λ (y : FieldsRead). length y.behind) (same_some (with_first e.name r s.shape x) f w) in omega (arith, z, h n s.behind x q, g s refl)
 
-shorter : (k : ℕ) → Shorter k
+pub shorter : (k : ℕ) → Shorter k
 shorter k zero es f g = let q = ap (λ (x : FieldsRead). length x.behind) (same_some _ f g) in omega (arith, q)
 shorter zero (suc n) es f g = absurd (no_some f g)
 shorter (suc k) (suc n) [] f g = absurd (no_some f g)
 shorter (suc k) (suc n) (e ∷ es) f g = step_shorter k n (shorter k) e es (repetition_from e.repetition) (shape_read (fields_read k) e e.type e.children es) f (λ s q. shape_shorter k (shorter k) e e.type e.children es s q) g
 
-abbrev Same : ℕ → ℕ → Type 0
+abbrev pub Same : ℕ → ℕ → Type 0
 Same j k = (n : ℕ) (es : List SchemaElement) → length es ≤ j → length es ≤ k → fields_read j n es ≡ fields_read k n es
 
 shape_same : (j k : ℕ) → Same j k → (e : SchemaElement) (t n : Option ℤ) (es : List SchemaElement) → length es ≤ j → length es ≤ k → shape_read (fields_read j) e t n es ≡ shape_read (fields_read k) e t n es
@@ -77,7 +78,7 @@ rest_same j k n h e es l m None o g = refl
 rest_same j k n h e es l m (Some r) None g = refl
 rest_same j k n h e es l m (Some r) (Some s) g = ap (option_map (with_first e.name r s.shape)) (h n s.behind (omega (arith, l, g s refl)) (omega (arith, m, g s refl)))
 
-same : (j k : ℕ) → Same j k
+pub same : (j k : ℕ) → Same j k
 same j k zero es l m = refl
 same zero zero (suc n) es l m = refl
 same zero (suc k) (suc n) [] l m = refl

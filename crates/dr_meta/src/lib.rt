@@ -20,7 +20,7 @@ pub use count::Count;
 pub use fault::MetaFault;
 pub use file::{ChunkMeta, ColumnMeta, FileMeta, GroupMeta, SchemaItem};
 pub use file_trees::tree_of_file;
-pub use one_tree::count_leaves;
+pub use one_tree::{count_leaves, group_size};
 pub use page::{DataPage, DataPageV2, DictionaryPage, PageHead};
 pub use page_trees::{head_is_viewed, tree_of_page};
 pub use viewing_file::view_file;

@@ -39,16 +39,16 @@ fn leaves_below(
     let Some(fields) = group_size(root) else {
         return Ok(None);
     };
-    let mut open = Vec::new(alloc);
-    open_group(&mut open, fields)?;
+    let mut groups = Vec::new(alloc);
+    open_group(&mut groups, fields)?;
     let mut leaves = 0;
     'items: for item in rest {
-        match enter(&mut open, item)? {
+        match enter(&mut groups, item)? {
             Some(more) => leaves += more,
             None => return Ok(None),
         }
     }
-    if open.is_empty() {
+    if groups.is_empty() {
         Ok(Some(leaves))
     } else {
         Ok(None)
@@ -56,7 +56,7 @@ fn leaves_below(
 }
 
 /// How many fields a group has; none where the element is a leaf or says no number.
-fn group_size(item: &SchemaItem<'_>) -> Option<u64>
+pub fn group_size(item: &SchemaItem<'_>) -> Option<u64>
     ensures { result ≡ size_of_group item.now.kind item.now.children }
 {
     match (item.kind, item.children) {
@@ -78,24 +78,24 @@ fn is_repetition(repetition: Option<i64>) -> bool
 
 /// Opens a group of so many fields; one without fields is closed at once. Of each open group is kept how many fields it
 /// has besides the next.
-fn open_group(open: &mut Vec<u64>, fields: u64) -> Result<(), NoMemory>
-    ensures { OnOk result ((es : List SchemaElement) → leaves_left (still_open (open.new).items) es ≡ leaves_left (fields ∷ still_open (open.old).items) es) }
+fn open_group(groups: &mut Vec<u64>, fields: u64) -> Result<(), NoMemory>
+    ensures { OnOk result ((es : List SchemaElement) → leaves_left (still_open groups.new.items) es ≡ leaves_left (fields ∷ still_open groups.old.items) es) }
 {
     if fields > 0 {
-        open.push(fields - 1)?;
+        groups.push(fields - 1)?;
     }
     Ok(())
 }
 
 /// Takes the next element: how many leaves it is, one or none; or nothing, where no tree goes on with it.
-fn enter(open: &mut Vec<u64>, item: &SchemaItem<'_>) -> Result<Option<usize>, NoMemory>
-    ensures step { IfOk result (λ o. (es : List SchemaElement) → leaves_left (still_open (open.old).items) (item_view item.now ∷ es) ≡ and_leaves o (leaves_left (still_open (open.new).items) es)) }
+fn enter(groups: &mut Vec<u64>, item: &SchemaItem<'_>) -> Result<Option<usize>, NoMemory>
+    ensures step { IfOk result (λ o. (es : List SchemaElement) → leaves_left (still_open groups.old.items) (item_view item.now ∷ es) ≡ and_leaves o (leaves_left (still_open groups.new.items) es)) }
     ensures one { IfOk result (λ o. IfSome o (λ k. k ≤ 1)) }
 {
-    let Some(left) = open.pop() else {
+    let Some(left) = groups.pop() else {
         return Ok(None);
     };
-    open_group(open, left)?;
+    open_group(groups, left)?;
     if !is_repetition(item.repetition) {
         return Ok(None);
     }
@@ -104,7 +104,7 @@ fn enter(open: &mut Vec<u64>, item: &SchemaItem<'_>) -> Result<Option<usize>, No
     }
     match group_size(item) {
         Some(fields) => {
-            open_group(open, fields)?;
+            open_group(groups, fields)?;
             Ok(Some(0))
         }
         None => Ok(None),

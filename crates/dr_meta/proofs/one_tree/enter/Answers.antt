@@ -4,7 +4,7 @@ use Rattle.dr_meta.proofs.one_tree.enter.Goals as goal
 use Rattle.std.proofs.Common.{refl, sym, ◌∙◌}
 
 pub returns-then-is_some-clause-step : goal.returns-then-is_some-clause-step
-returns-then-is_some-clause-step c = leaf_entered (item_view c.args.item.now) c.args.open.now.items c.pop.new.self.items c.open_group.new.open.items c.in-Some.left c.in-Some.ensures.items (c.is_repetition.ensures.some c.if-not-is_repetition.false) c.if-is_some.ensures c.in_ok-open_group.ensures
+returns-then-is_some-clause-step c = leaf_entered (item_view c.args.item.now) c.args.groups.now.items c.pop.new.self.items c.open_group.new.groups.items c.in-Some.left c.in-Some.ensures.items (c.is_repetition.ensures.some c.if-not-is_repetition.false) c.if-is_some.ensures c.in_ok-open_group.ensures
 
 pub returns-in_ok-open_group-in-Some-group_size-clause-step : goal.returns-in_ok-open_group-in-Some-group_size-clause-step
-returns-in_ok-open_group-in-Some-group_size-clause-step c = group_entered (item_view c.args.item.now) c.args.open.now.items c.pop.new.self.items c.open_group.new.open.items c.open_group-in-Some-group_size.new.open.items c.in-Some.left c.in-Some-group_size.fields c.in-Some.ensures.items (c.is_repetition.ensures.some c.if-not-is_repetition.false) (sym c.in-Some-group_size.ensures) c.in_ok-open_group.ensures c.in_ok-open_group-in-Some-group_size.ensures
+returns-in_ok-open_group-in-Some-group_size-clause-step c = group_entered (item_view c.args.item.now) c.args.groups.now.items c.pop.new.self.items c.open_group.new.groups.items c.open_group-in-Some-group_size.new.groups.items c.in-Some.left c.in-Some-group_size.fields c.in-Some.ensures.items (c.is_repetition.ensures.some c.if-not-is_repetition.false) (sym c.in-Some-group_size.ensures) c.in_ok-open_group.ensures c.in_ok-open_group-in-Some-group_size.ensures

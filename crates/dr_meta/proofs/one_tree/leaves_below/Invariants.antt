@@ -9,4 +9,4 @@ use Rattle.dr_meta.proofs.one_tree.leaves_below.Given as goal
 abbrev pub invariant-items : goal.invariant-items
 invariant-items l =
     (l.leaves ≤ l.item-index)
-    × (and_leaves (Some l.leaves) (leaves_left (still_open l.open.items) (map item_view (drop l.item-index l.rest))) ≡ option_map count_leaves (file_schema (item_view l.fn.root ∷ map item_view l.rest)))
+    × (and_leaves (Some l.leaves) (leaves_left (still_open l.groups.items) (map item_view (drop l.item-index l.rest))) ≡ option_map count_leaves (file_schema (item_view l.fn.root ∷ map item_view l.rest)))

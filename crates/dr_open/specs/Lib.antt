@@ -1,0 +1,3 @@
+-- fields in the list of a file's schema elements, and which leaf of the file a schema's leaf is
+pub mod Places
+pub mod Skips
