@@ -1,0 +1,4 @@
+-- what a link is asked for
+pub mod Asking
+-- ends of files, and footers
+pub mod Frames

@@ -1,0 +1,5 @@
+//! Files of Apache Parquet: opened for some leaves of a schema, and read column by column.
+#![tactic(auto)]
+
+mod footer;
+mod frame;
