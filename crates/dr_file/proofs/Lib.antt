@@ -1,4 +1,6 @@
 -- what a link is asked for
 pub mod AskLemmas
+-- row groups
+pub mod GroupLemmas
 -- the ends of a file
 pub mod FrameLemmas

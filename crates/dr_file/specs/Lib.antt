@@ -2,3 +2,7 @@
 pub mod Asking
 -- ends of files, and footers
 pub mod Frames
+-- row groups
+pub mod Groups
+-- faults
+pub mod Faults
