@@ -4,5 +4,7 @@ pub mod Asking
 pub mod Frames
 -- row groups
 pub mod Groups
+-- what of a footer is kept
+pub mod Openings
 -- faults
 pub mod Faults

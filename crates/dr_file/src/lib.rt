@@ -1,8 +1,11 @@
 //! Files of Apache Parquet: opened for some leaves of a schema, and read column by column.
 #![tactic(auto)]
 
+mod chunk_place;
 mod fault;
 mod footer;
 mod frame;
 mod groups;
 mod opened_leaf;
+mod opening;
+mod places;
