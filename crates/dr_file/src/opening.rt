@@ -1,13 +1,15 @@
 //! Opening a file, by its footer.
 
-ghost use Rattle.std.specs.Prelude.{◌≡◌, ◌≤◌, ℕ, map, OnOk, IfOk, IfErr};
+ghost use Rattle.std.specs.Prelude.{◌≡◌, ◌≤◌, ℕ, length, map, true, is_some, OnOk, IfOk, IfErr};
+ghost use Rattle.std.specs.List.{list_all};
 ghost use Rattle.dr_formats.specs.File.{most_rows, meta_of, meta_read};
 ghost use Rattle.dr_formats.specs.Metadata.{view_file as file_viewed};
 ghost use Rattle.dr_formats.specs.Compact.{read_struct as struct_read};
 ghost use Rattle.dr_compact.specs.Views.{tree_view};
-ghost use Rattle.dr_meta.specs.Views.{file_view};
+ghost use Rattle.dr_meta.specs.Views.{file_view, group_view};
 ghost use Rattle.dr_nested.specs.PathView.{path_view};
-ghost use Rattle.dr_file.specs.Openings.{opened_leaf_view, footer_with, footer_in, footer_cause, IsOpenedAs, IsOpenFault};
+ghost use Rattle.dr_file.specs.Groups.{chunk_of, are_uncompressed_at, are_numbers_at};
+ghost use Rattle.dr_file.specs.Openings.{opened_leaf_view, shown_at_each, IsPlacesFault, footer_with, footer_in, footer_cause, IsOpenedAs, IsOpenFault};
 
 use crate::fault::OpenFault;
 use crate::footer::FooterBytes;
@@ -15,7 +17,7 @@ use crate::groups::{are_whole, rows_agree};
 use crate::opened_leaf::{OpenedLeaf, open_leaves};
 use crate::places::{all_triplets_fit, all_uncompressed, find_places};
 use dr_compact::{Tree, read_struct};
-use dr_meta::{FileMeta, count_leaves, view_file};
+use dr_meta::{FileMeta, GroupMeta, count_leaves, view_file};
 use dr_nested::Path;
 use std::alloc::Global;
 
@@ -37,16 +39,38 @@ fn open_meta(
     if !are_whole(&meta.groups, leaves) {
         return Err(OpenFault::BadFooter);
     }
-    let Some(places) = find_places(alloc, &meta.schema, fields)? else {
-        return Err(OpenFault::BadSchema);
-    };
-    if !all_uncompressed(&meta.groups, &places) {
+    match find_places(alloc, &meta.schema, fields)? {
+        Some(places) => open_places(alloc, &meta.groups, meta.rows.get(), fields, &places),
+        None => Err(OpenFault::BadSchema),
+    }
+}
+
+/// Leaves whose chunks stand at these places of the row groups of a file of so many rows.
+///
+/// Errors: a chunk is compressed; else the numbers of rows or of triplets disagree, or are too great; want of memory.
+fn open_places(
+    alloc: Global,
+    groups: &[GroupMeta<'_, '_>],
+    rows: u64,
+    fields: &[Path],
+    places: &[usize],
+) -> Result<Vec<OpenedLeaf>, OpenFault>
+    requires as_many { length fields.now ≡ length places.now }
+    requires there { list_all (λ i. list_all (λ g. is_some (chunk_of i g)) (map group_view groups.now)) places.now ≡ true }
+    ensures shown { IfOk result (λ v. map opened_leaf_view v.items ≡ shown_at_each (map group_view groups.now) (map path_view fields.now) places.now) }
+    ensures good { OnOk result ((are_uncompressed_at (map group_view groups.now) places.now ≡ true) × (are_numbers_at (map group_view groups.now) rows places.now ≡ true)) }
+    ensures fault { IfErr result (λ e. IsPlacesFault e (are_uncompressed_at (map group_view groups.now) places.now) (are_numbers_at (map group_view groups.now) rows places.now)) }
+{
+    if !all_uncompressed(groups, places) {
         return Err(OpenFault::BadCodec);
     }
-    if !rows_agree(&meta.groups, meta.rows.get()) || !all_triplets_fit(&meta.groups, &places) {
+    if !rows_agree(groups, rows) {
         return Err(OpenFault::BadData);
     }
-    Ok(open_leaves(alloc, &meta.groups, fields, &places)?)
+    if !all_triplets_fit(groups, places) {
+        return Err(OpenFault::BadData);
+    }
+    Ok(open_leaves(alloc, groups, fields, places)?)
 }
 
 /// How many rows a file has, and these leaves of it, by the struct of its metadata.
