@@ -2,6 +2,8 @@
 pub mod AskLemmas
 -- what a footer says of leaves
 pub mod OpeningLemmas
+-- opening a file
+pub mod StartLemmas
 -- row groups
 pub mod GroupLemmas
 -- the ends of a file

@@ -6,5 +6,7 @@ pub mod Frames
 pub mod Groups
 -- what of a footer is kept
 pub mod Openings
+-- opened files
+pub mod OpenedFiles
 -- faults
 pub mod Faults
