@@ -1,17 +1,17 @@
 -- The field of a name among those of a group, and the place of a leaf below it.
-use Rattle.std.proofs.Common.{◌≡◌, ℕ, zero, suc, ◌+◌, ◌-◌, ◌<◌, ◌≤◌, List, [], ◌∷◌, length, length-drop, map, take, drop, Bool, refl, sym, ap, ◌∙◌, subst, true, false, true≢false, arith, ◌⊎◌, inl, inr}
+use Rattle.std.proofs.Common.{◌≡◌, ℕ, suc, ◌+◌, ◌-◌, ◌≤◌, List, [], ◌∷◌, length, length-drop, map, take, drop, refl, sym, ap, ◌∙◌, subst, true, false, true≢false, arith, ◌⊎◌, inl, inr}
 use Rattle.std.specs.Prelude.{Option, Some, None, option_map, option_and_then, ◌&&◌, bytes_eq, IsSome, ℤ, pos, negsuc}
 use Rattle.std.proofs.lemmas.Bool.{and_parts, and_cases, and_from, and_left, and_right}
 use Rattle.std.proofs.lemmas.Slice.Eq.{bytes_eq-Decides}
-use Rattle.std.proofs.lemmas.Option.{none-some, same_Some}
+use Rattle.std.proofs.lemmas.Option.{same_Some}
 use Rattle.std.proofs.lemmas.List.{drop-drop, length-map}
 use Rattle.dr_meaning.specs.Schema.{Repetition, Kind, is_short_name, greatest_depth}
-use Rattle.dr_meaning.specs.Path.{Step, Leaf, same_repetition}
+use Rattle.dr_meaning.specs.Path.{Step, Leaf}
 use Rattle.dr_formats.specs.Metadata.{SchemaElement}
-use Rattle.dr_formats.specs.FileSchema.{FieldsRead, ShapeRead, with_first, as_group, shape_read, fields_read, repetition_from, leaves_under, shape_leaves_under, leaf_under, is_open_name, is_leaf_for, place_of, file_schema, root_read, whole_schema}
+use Rattle.dr_formats.specs.FileSchema.{FieldsRead, ShapeRead, as_group, shape_read, fields_read, repetition_from, leaves_under, shape_leaves_under, leaf_under, is_open_name, is_leaf_for, place_of, file_schema, root_read, whole_schema}
 use Rattle.dr_meta.specs.declared.file.SchemaItem.{SchemaItem}
 use Rattle.dr_meta.specs.Views.{item_view}
-use Rattle.dr_meta.specs.OneTree.{leaves_of_fields, leaves_of_shape}
+use Rattle.dr_meta.specs.OneTree.{leaves_of_shape}
 use Rattle.dr_open.specs.Places.{next_fields, shape_from, Passed, passed_from, passed, behind_leaves, place_among, place_in_field, place_in_shape, place_in_file, is_repetition, leaf_of_element}
 use Rattle.dr_open.proofs.PassingLemmas.{is_there, First, first_next, rest_next, from_first, read_of, passes, shape_within, rest_from, from_place, first_from}
 use Rattle.dr_open.proofs.PlaceLemmas.{leaf_at, field_passed, field_found, closed, other_repetition, on_the_way, no_names, no_steps, place_in_leaves}

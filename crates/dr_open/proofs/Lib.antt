@@ -1,3 +1,6 @@
 mod PassingLemmas
 mod PlaceLemmas
 mod FieldLemmas
+mod NameLemmas
+mod OpeningLemmas
+mod OpenedLemmas

@@ -1,14 +1,14 @@
 -- Fields read from the list of elements: the first of them and those behind it, and what passing them counts.
-use Rattle.std.proofs.Common.{◌≡◌, ℕ, zero, suc, ◌+◌, ◌-◌, ◌<◌, ◌≤◌, List, [], ◌∷◌, length, map, take, drop, get_or, length-drop, refl, sym, ap, ◌∙◌, subst, true, false, true≢false, arith}
+use Rattle.std.proofs.Common.{◌≡◌, ℕ, zero, suc, ◌+◌, ◌-◌, ◌<◌, ◌≤◌, List, [], ◌∷◌, length, map, take, drop, get_or, length-drop, refl, sym, ap, ◌∙◌, subst, true≢false, arith}
 use Rattle.std.specs.Prelude.{Option, Some, None, option_map, option_and_then, ℤ, pos, negsuc, IsSome}
 use Rattle.std.specs.Option.{is_some}
 use Rattle.std.proofs.lemmas.Option.{none-some, same_Some}
 use Rattle.std.proofs.lemmas.List.{take_all, drop_more, length-map}
 use Rattle.dr_meaning.specs.Schema.{Repetition}
 use Rattle.dr_formats.specs.Metadata.{SchemaElement}
-use Rattle.dr_formats.specs.FileSchema.{FileFields, no_file_fields, file_field, FileShape, file_leaf, file_group, FieldsRead, ShapeRead, with_first, as_group, shape_read, fields_read, repetition_from}
+use Rattle.dr_formats.specs.FileSchema.{FileFields, no_file_fields, file_field, file_leaf, FieldsRead, ShapeRead, with_first, as_group, shape_read, fields_read, repetition_from}
 use Rattle.dr_meta.specs.OneTree.{leaves_of_fields, leaves_of_shape, size_of_group}
-use Rattle.dr_meta.proofs.OneTreeLemmas.{same, shorter}
+use Rattle.dr_meta.proofs.OneTreeLemmas.{same}
 use Rattle.dr_meta.specs.declared.file.SchemaItem.{SchemaItem}
 use Rattle.dr_meta.specs.Views.{item_view}
 use Rattle.dr_open.specs.Places.{next_fields, shape_from, Passed, passed_from, passed}
@@ -221,9 +221,11 @@ group_passed left n c m e es q w h g =
     let r : next_fields n s.0.behind ≡ Some x.rest = ap (next_fields n) t ∙ rest_next n e es f.0 x in
     let z : m ≡ c + n = omega (arith, w) in
     let v : next_fields m es ≡ Some (both s.0 x.rest) = read_both (length es) (length s.0.behind) c n m es s.0 x.rest (omega arith) (omega arith) z s.1 r in
-    let y : leaves_of_shape x.shape.shape + leaves_of_fields x.rest.fields ≡ leaves_of_fields (both s.0 x.rest).fields = omega (arith, u, leaves-join s.0.fields x.rest.fields) in (
+    let y : leaves_of_shape x.shape.shape + leaves_of_fields x.rest.fields ≡ leaves_of_fields (both s.0 x.rest).fields = omega (arith, u, leaves-join s.0.fields x.rest.fields) in
+    let first : passed (suc n) (e ∷ es) ≡ Some (passed_from (both s.0 x.rest)) =
+    passes (suc n) (e ∷ es) f.0 f.1 ∙ (ap (λ (y : FieldsRead). Some (passed_from y)) (sym x.is_whole) ∙ ap (λ (j : ℕ). Some (record { leaves = j; behind = x.rest.behind })) y) in (
       is_there (passed m es) (passed_from (both s.0 x.rest)) (passes m es (both s.0 x.rest) v),
-      rw q (passes (suc n) (e ∷ es) f.0 f.1 ∙ (ap (λ (y : FieldsRead). Some (passed_from y)) (sym x.is_whole) ∙ (ap (λ (j : ℕ). Some (record { leaves = j; behind = x.rest.behind })) y ∙ sym (passes m es (both s.0 x.rest) v)))),
+      ap (λ (j : ℕ). passed j (e ∷ es)) q ∙ (first ∙ sym (passes m es (both s.0 x.rest) v)),
     )
 
 -- ---- lists of elements

@@ -1,15 +1,15 @@
 -- The place of a leaf among the leaves of fields, of which only the first of a name is open.
-use Rattle.std.proofs.Common.{◌≡◌, ℕ, zero, suc, ◌+◌, ◌≤◌, List, [], ◌∷◌, ◌++◌, length, map, Bool, refl, sym, ap, ◌∙◌, subst, true, false, true≢false, arith}
-use Rattle.std.specs.Prelude.{Option, Some, None, option_map, option_and_then, ◌&&◌, ◌||◌, not, if◌then◌else◌, bytes_eq, nat_le, IsSome}
+use Rattle.std.proofs.Common.{◌≡◌, ℕ, suc, ◌+◌, ◌≤◌, List, [], ◌∷◌, ◌++◌, length, map, Bool, refl, sym, ap, ◌∙◌, subst, true, false, true≢false, arith}
+use Rattle.std.specs.Prelude.{Option, Some, None, option_map, ◌&&◌, not, if◌then◌else◌, bytes_eq}
 use Rattle.std.specs.List.{list_any}
-use Rattle.std.proofs.lemmas.Bool.{and_left, and_right, and_parts, or_right, or_left, or_from, not_from_true, not_from_false, le-leb}
+use Rattle.std.proofs.lemmas.Bool.{and_left, and_right, and_parts, or_right, or_left, or_from, not_from_true, le-leb}
 use Rattle.std.proofs.lemmas.List.{length-map}
-use Rattle.std.proofs.lemmas.Option.{none-some, same_Some}
+use Rattle.std.proofs.lemmas.Option.{none-some}
 use Rattle.std.proofs.lemmas.Slice.Eq.{bytes_eq-Decides}
-use Rattle.dr_meaning.specs.Schema.{Repetition, required, optional, repeated, Kind, is_short_name, greatest_depth}
+use Rattle.dr_meaning.specs.Schema.{Repetition, Kind, is_short_name, greatest_depth}
 use Rattle.dr_meaning.specs.Path.{Step, Leaf, same_repetition}
-use Rattle.dr_formats.specs.FileSchema.{FileFields, no_file_fields, file_field, FileShape, file_leaf, file_group, FileLeaf, leaf_under, leaves_under, shape_leaves_under, within_depth, is_open_name, open_kind, is_kind, only_if, same_names, same_repetitions, is_leaf_for, place_of}
-use Rattle.dr_meta.specs.OneTree.{leaves_of_fields, leaves_of_shape}
+use Rattle.dr_formats.specs.FileSchema.{FileFields, no_file_fields, file_field, FileShape, file_leaf, file_group, FileLeaf, leaf_under, leaves_under, shape_leaves_under, within_depth, is_open_name, is_kind, only_if, same_names, same_repetitions, is_leaf_for, place_of}
+use Rattle.dr_meta.specs.OneTree.{leaves_of_shape}
 use Rattle.dr_meta.proofs.OneTreeLemmas.{shape_count}
 use Rattle.dr_open.specs.Places.{behind_leaves}
 

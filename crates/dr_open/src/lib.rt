@@ -4,7 +4,11 @@
 
 mod element;
 mod names;
+mod opening;
 mod place;
 mod skipping;
+#[cfg(test)]
+mod tests;
 
+pub use opening::open_schema;
 pub use place::leaf_place;

@@ -1,6 +1,7 @@
 //! Names of fields.
 
-ghost use Rattle.std.specs.Prelude.{◌≡◌};
+ghost use Rattle.std.specs.Prelude.{◌≡◌, IfSome};
+ghost use Rattle.std.specs.Option.{is_some};
 ghost use Rattle.std.specs.List.{list_all};
 ghost use Rattle.dr_meaning.specs.Schema as tree;
 
@@ -39,4 +40,16 @@ pub(crate) fn is_short_name(bytes: &[u8]) -> bool
     ensures { result ≡ tree.is_short_name bytes.now }
 {
     is_name(bytes) && bytes.len() <= LONGEST_NAME
+}
+
+/// A name of at most 64 bytes, as a text.
+pub(crate) fn short_name(bytes: &[u8]) -> Option<&str>
+    ensures variant { is_some result ≡ tree.is_short_name bytes.now }
+    ensures text { IfSome result (λ name. name.now ≡ bytes.now) }
+{
+    if is_short_name(bytes) {
+        str::from_utf8(bytes).ok()
+    } else {
+        None
+    }
 }

@@ -1,11 +1,12 @@
 //! Which leaf of a file a leaf of a schema is.
 
-ghost use Rattle.std.specs.Prelude.{◌≡◌, ◌&&◌, ◌<◌, ◌≤◌, map, length, string_bytes, IsSome, IfSome};
+ghost use Rattle.std.specs.Prelude.{◌≡◌, ◌&&◌, ◌<◌, ◌≤◌, map, length, IsSome, IfSome};
 ghost use Rattle.dr_meaning.specs.Schema as tree;
 ghost use Rattle.dr_formats.specs.FileSchema.{file_schema, is_leaf_for, repetition_from};
 ghost use Rattle.dr_meta.specs.Views.{item_view};
-ghost use Rattle.dr_nested.specs.Views.{kind_view, rep_view};
-ghost use Rattle.dr_nested.specs.PathView.{path_view, step_view};
+ghost use Rattle.dr_nested.specs.Views.{rep_view};
+ghost use Rattle.dr_nested.specs.PathView.{path_view};
+ghost use Rattle.dr_open.specs.LeafView.{leaf_view};
 ghost use Rattle.dr_open.specs.Places.{passed, place_in_file, place_in_shape, place_among, shape_from, leaf_of_element, is_repetition};
 
 use crate::element::{has_repetition, is_open_as};
@@ -16,7 +17,7 @@ use dr_nested::{Kind, Path, Rep, Step};
 
 /// Whether a path has ended at an element that is an open leaf of this kind.
 fn is_here(item: &SchemaItem<'_>, names: &[String], steps: &[Step], kind: Kind) -> bool
-    ensures { result ≡ is_leaf_for (record { names = map string_bytes names.now; path = map step_view steps.now; kind = kind_view kind }) (leaf_of_element (item_view item.now)) }
+    ensures { result ≡ is_leaf_for (leaf_view names.now steps.now kind) (leaf_of_element (item_view item.now)) }
 {
     names.is_empty() && steps.is_empty() && is_open_as(item, kind)
 }
@@ -38,7 +39,7 @@ fn place_below(
     kind: Kind,
 ) -> Option<usize>
     requires { IsSome (shape_from (item_view item.now) (map item_view behind.now)) }
-    ensures place { result ≡ place_in_shape (record { names = map string_bytes names.now; path = map step_view steps.now; kind = kind_view kind }) (item_view item.now) (map item_view behind.now) }
+    ensures place { result ≡ place_in_shape (leaf_view names.now steps.now kind) (item_view item.now) (map item_view behind.now) }
     ensures within { IfSome result (λ i. i ≤ length behind.now) }
 {
     match group_size(item) {
@@ -58,7 +59,7 @@ fn place_in_group(
     kind: Kind,
 ) -> Option<usize>
     requires { IsSome (passed fields (map item_view items.now)) }
-    ensures place { result ≡ place_among (record { names = map string_bytes names.now; path = map step_view steps.now; kind = kind_view kind }) fields (map item_view items.now) }
+    ensures place { result ≡ place_among (leaf_view names.now steps.now kind) fields (map item_view items.now) }
     ensures within { IfSome result (λ i. i < length items.now) }
 {
     let (name, names) = names.split_first()?;

@@ -1,9 +1,8 @@
 //! Fields passed in the list of schema elements, with all that is below them.
 
-ghost use Rattle.std.specs.Prelude.{◌≡◌, ◌<◌, ◌≤◌, ◌+◌, ◌∷◌, List, ℕ, map, length, Some, None, IsSome, IfSome, IfNone};
-ghost use Rattle.dr_meaning.specs.Path.{Leaf};
+ghost use Rattle.std.specs.Prelude.{◌≡◌, ◌<◌, ◌≤◌, ◌+◌, map, drop, length, Some, None, IsSome, IfSome, IfNone};
 ghost use Rattle.dr_meta.specs.Views.{item_view};
-ghost use Rattle.dr_open.specs.Places.{Passed, passed, place_among, place_in_field, behind_leaves, shape_from};
+ghost use Rattle.dr_open.specs.Places.{Passed, passed, HasNoLeaf, HasLeavesIn, shape_from, behind_shape};
 ghost use Rattle.dr_open.specs.Skips.{skip_view};
 
 use dr_meta::{SchemaItem, group_size};
@@ -45,6 +44,18 @@ pub(crate) fn skip_fields(fields: u64, items: &[SchemaItem<'_>]) -> Skipped
     Skipped { leaves, elements }
 }
 
+/// How many elements are below an element: those of its fields, where it is a group.
+pub(crate) fn elements_below(item: &SchemaItem<'_>, behind: &[SchemaItem<'_>]) -> usize
+    requires { IsSome (shape_from (item_view item.now) (map item_view behind.now)) }
+    ensures behind { behind_shape (item_view item.now) (map item_view behind.now) ≡ Some (map item_view (drop result behind.now)) }
+    ensures within { result ≤ length behind.now }
+{
+    match group_size(item) {
+        Some(fields) => skip_fields(fields, behind).elements,
+        None => 0,
+    }
+}
+
 /// The first field of a name among the next so many fields of a group.
 pub(crate) fn field_named<'t, 'a>(
     fields: u64,
@@ -53,10 +64,8 @@ pub(crate) fn field_named<'t, 'a>(
 ) -> Option<Found<'t, 'a>>
     requires { IsSome (passed fields (map item_view items.now)) }
 
-    // Of all leaves whose first name this is.
-    ensures none { IfNone result ((l : Leaf) (ns : List (List ℕ)) → l.names ≡ name.now ∷ ns → place_among l fields (map item_view items.now) ≡ None) }
-    ensures some { IfSome result (λ f. (l : Leaf) (ns : List (List ℕ)) → l.names ≡ name.now ∷ ns → place_among l fields (map item_view items.now) ≡ behind_leaves f.before (place_in_field l (item_view f.item.now) (map item_view f.behind.now))) }
-
+    ensures none { IfNone result (HasNoLeaf name.now fields (map item_view items.now)) }
+    ensures some { IfSome result (λ f. HasLeavesIn name.now fields (map item_view items.now) f.before (item_view f.item.now) (map item_view f.behind.now)) }
     ensures name { IfSome result (λ f. f.item.now.name.now ≡ name.now) }
     ensures shape { IfSome result (λ f. IsSome (shape_from (item_view f.item.now) (map item_view f.behind.now))) }
     ensures within { IfSome result (λ f. f.before + length f.behind.now < length items.now) }

@@ -1,4 +1,4 @@
-use Rattle.std.proofs.Common.{◌≡◌, ◌+◌, ◌-◌, ◌∙◌, sym, arith}
+use Rattle.std.proofs.Common.{◌+◌, ◌-◌, ◌∙◌, sym, arith}
 use Rattle.dr_open.proofs.PassingLemmas.{leaf_at_place, group_at_place, fields_within}
 use Rattle.dr_open.proofs.skipping.skip_fields.Goals as goal
 use Rattle.dr_open.proofs.skipping.skip_fields.Goals.{in-Some, in-None}
