@@ -1,7 +1,7 @@
 -- Levels and values side by side: joined ends, fronts and rests.
 use Rattle.std.specs.Prelude.{◌≡◌, ◌<◌, ◌≤◌, ℕ, zero, suc, ◌+◌, ◌-◌, List, [], ◌∷◌, ◌++◌, length, map, take, drop, Bool, true, false, ◌==◌, if◌then◌else◌, Option, Some, None}
 use Rattle.std.proofs.Common.{refl, sym, ap, ap₂, ◌∙◌, arith, length-append, append-nil, add-one}
-use Rattle.std.proofs.lemmas.List.{drop-drop, take-append-drop, length-take-le}
+use Rattle.std.proofs.lemmas.List.{drop-drop, take-append-drop, length-take-le, take-map, drop-map}
 use Rattle.dr_meaning.specs.Record.{Value}
 use Rattle.dr_meaning.specs.Column.{Triplet, triplet}
 use Rattle.dr_levels.specs.declared.triplet.Levels.{Levels}
@@ -20,6 +20,7 @@ use Rattle.dr_levels.specs.Texts.{bytes_at}
 use Rattle.dr_levels.specs.Dense.{present, value_list, first_of, joined, values_view}
 use Rattle.dr_levels.specs.Views.{LeafForm, form, levels_pair, triplet_levels}
 use Rattle.dr_levels.specs.Columns.{Adds, has_value, takes}
+use Rattle.dr_levels.specs.Lent.{present_values}
 
 -- one place more, whichever it is
 abbrev pub placed : Bool → Levels → ℕ → List Levels → List Value → List Triplet
@@ -204,3 +205,23 @@ pub values_small : (v : Values) → length (values_view v) < 2 ^ 63
 values_small (Values.Bools v) = omega (arith, v.ok.0, v.ok.1, v.small, length-map v.items bool_value)
 values_small (Values.Integers v) = omega (arith, v.ok.0, v.ok.1, v.small, length-map v.items int_value)
 values_small (Values.Texts ts) = omega (arith, ts.places.ok.0, ts.places.ok.1, ts.places.small, length-map ts.places.items (λ (p : TextPlace). text_value (bytes_at ts.bytes.items p)))
+
+-- ---- the values of a stretch
+
+held_by : (b : Bool) (l : Levels) (g : ℕ) (ls : List Levels) (vs : List Value) → ((us : List Value) → present g ls ≤ length us → present_values (joined g ls us) ≡ take (present g ls) us) → counted b (present g ls) ≤ length vs
+    → present_values (placed b l g ls vs) ≡ take (counted b (present g ls)) vs
+held_by true l g ls [] ih h = absurd (omega (arith, h))
+held_by true l g ls (v ∷ vs) ih h = ap (λ us. v ∷ us) (ih vs (omega (arith, h)))
+held_by false l g ls vs ih h = ih vs h
+
+-- the values that triplets have are the first so many
+pub present-joined : (g : ℕ) (ls : List Levels) (vs : List Value) → present g ls ≤ length vs → present_values (joined g ls vs) ≡ take (present g ls) vs
+present-joined g [] vs h = refl
+present-joined g (l ∷ ls) vs h = held_by (l.definition == g) l g ls vs (λ us k. present-joined g ls us k) h
+
+-- a stretch of items, seen
+pub stretch_seen : {A : Type 0} (f : A → Value) (items whole : List A) (seen : List Value) (from count : ℕ) → whole ≡ items → seen ≡ map f items
+    → map f (take (from + count - from) (drop from whole)) ≡ take count (drop from seen)
+stretch_seen f items whole seen from count w h =
+    let n : from + count - from ≡ count = omega arith in
+    ap₂ (λ k xs. map f (take k (drop from xs))) n w ∙ sym (take-map f count (drop from items)) ∙ ap (take count) (sym (drop-map f from items) ∙ ap (drop from) (sym h))

@@ -1,11 +1,11 @@
 -- Texts in a buffer: looked up, kept when the buffer grows, and put behind it.
 use Rattle.std.specs.Prelude.{if◌then◌else◌, is_ok, Result, Ok, Err, ◌≡◌, ◌<◌, ◌≤◌, ℕ, zero, suc, ◌+◌, ◌-◌, List, [], ◌∷◌, ◌++◌, length, map, take, drop, get_or, Bool, true, ◌&&◌, nat_le}
-use Rattle.std.proofs.Common.{refl, sym, ap, ap₂, ◌∙◌, arith, length-append, append-nil}
+use Rattle.std.proofs.Common.{refl, sym, ap, ap₂, ◌∙◌, arith, length-append, append-nil, append_assoc}
 use Rattle.std.specs.List.{list_all}
 use Rattle.std.specs.Str.{IsUtf8, is_utf8}
 use Rattle.std.proofs.lemmas.Str.{IsUtf8-from_is_utf8, is_utf8-from_IsUtf8}
 use Rattle.std.proofs.lemmas.Bool.{and_parts, leb-true, le-leb}
-use Rattle.std.proofs.lemmas.List.{drop-map, drop_more, take-append-le, take_all, drop-append-le, length-drop}
+use Rattle.std.proofs.lemmas.List.{drop-map, drop_more, take-append-le, take_all, take_more, map_push, drop-append-le, length-drop}
 use Rattle.std.proofs.Math.Seq.{drop-append_seam, drop-append-add}
 use Rattle.std.proofs.lemmas.List.Folds.{list_all-append}
 use Rattle.dr_meaning.specs.Record.{Value, text_value}
@@ -28,6 +28,11 @@ pub all_taken : {A : Type 0} (p : A → Bool) (n : ℕ) (xs : List A) → list_a
 all_taken p zero xs e = refl
 all_taken p (suc n) [] e = refl
 all_taken p (suc n) (x ∷ xs) e = ap₂ (λ a b. a && b) (and_parts _ _ e).0 (all_taken p n xs (and_parts _ _ e).1)
+
+pub all_dropped : {A : Type 0} (p : A → Bool) (n : ℕ) (xs : List A) → list_all p xs ≡ true → list_all p (drop n xs) ≡ true
+all_dropped p zero xs h = h
+all_dropped p (suc n) [] h = refl
+all_dropped p (suc n) (x ∷ xs) h = all_dropped p n xs (and_parts _ _ h).1
 
 pub text_parts : (bytes : List ℕ) (p : TextPlace) → is_text bytes p ≡ true → (p.start + p.length ≤ length bytes) × IsUtf8 (bytes_at bytes p)
 text_parts bytes p e = (leb-true _ _ (and_parts _ _ e).0, IsUtf8-from_is_utf8 _ (and_parts _ _ e).1)
@@ -114,3 +119,21 @@ pub values_after : (r : Result (Unit {0}) NoMemory) (bytes more grown : List ℕ
     → list_all (is_text bytes) ps ≡ true → Adds (text_values bytes ps) (text_values grown now) (text_values more qs) r
 values_after (Ok done) bytes more grown ps qs now a b e = ap₂ text_values b a ∙ moved_values bytes more ps qs e
 values_after (Err g) bytes more grown ps qs now a b e = ap₂ text_values b a ∙ still_values bytes more ps e
+
+-- ---- texts that are pushed one by one
+
+pub passes_at : {A : Type 0} (p : A → Bool) (xs : List A) (k : ℕ) (d : A) → k < length xs → list_all p xs ≡ true → p (get_or xs k d) ≡ true
+passes_at p [] k d h e = absurd (omega (arith, h))
+passes_at p (x ∷ xs) zero d h e = (and_parts _ _ e).0
+passes_at p (x ∷ xs) (suc k) d h e = passes_at p xs k d (omega (arith, h)) (and_parts _ _ e).1
+
+-- a text as it is sliced
+pub sliced : (bytes : List ℕ) (p : TextPlace) → take (p.start + p.length - p.start) (drop p.start bytes) ≡ bytes_at bytes p
+sliced bytes p = let e : p.start + p.length - p.start ≡ p.length = omega arith in ap (λ n. take n (drop p.start bytes)) e
+
+pub one_pushed : (bytes : List ℕ) (ps : List TextPlace) (k : ℕ) (d : TextPlace) (old so_far now : List Value) (text : List ℕ) → k < length ps → text ≡ bytes_at bytes (get_or ps k d) → now ≡ so_far ++ text_value text ∷ []
+    → so_far ≡ old ++ text_values bytes (take k ps) → now ≡ old ++ text_values bytes (take (k + 1) ps)
+one_pushed bytes ps k d old so_far now text h e g s =
+    let see : TextPlace → Value = λ p. text_value (bytes_at bytes p) in
+    g ∙ ap₂ (λ (vs : List Value) (t : List ℕ). vs ++ text_value t ∷ []) s e ∙ append_assoc old (text_values bytes (take k ps)) (see (get_or ps k d) ∷ [])
+    ∙ ap (λ vs. old ++ vs) (sym (ap (map see) (take_more ps k d h) ∙ map_push see (take k ps) (get_or ps k d)))

@@ -29,6 +29,11 @@ abbrev pub Adds : {A : Type 0} → List A → List A → List A → Result (Unit
 Adds before after more (Ok done) = after ≡ before ++ more
 Adds before after more (Err e) = after ≡ before
 
+-- these joined at the end; or some of them did
+abbrev pub AddsSome : {A : Type 0} → List A → List A → List A → Result (Unit {0}) NoMemory → Type 0
+AddsSome before after more (Ok done) = after ≡ before ++ more
+AddsSome {A = A} before after more (Err e) = (some : List A) × (after ≡ before ++ some)
+
 -- the first triplet that was left is given
 abbrev pub Gives : {A : Type 0} → (A → Triplet) → List Triplet → List Triplet → Option A → Type 0
 Gives see before after (Some t) = before ≡ see t ∷ after

@@ -4,6 +4,8 @@ pub mod Texts
 pub mod Dense
 -- what triplets, columns and moves stand for
 pub mod Views
+-- values that are lent
+pub mod Lent
 -- what a column takes, and how it changes
 pub mod Columns
 -- the orders of leaves

@@ -49,6 +49,10 @@ form k g = record { kind = k; greatest = g }
 abbrev pub column_form : Column → LeafForm
 column_form c = form (kind_view c.kind) c.greatest
 
+-- the leaf of the column that they are of
+abbrev pub triplets_form : Triplets → LeafForm
+triplets_form t = column_form t.column.now
+
 abbrev pub forms_view : List Column → List LeafForm
 forms_view cs = map column_form cs
 

@@ -32,7 +32,7 @@ impl Column {
     ghost use Rattle.dr_meaning.specs.Column.{triplet};
     ghost use Rattle.dr_levels.specs.Texts.{is_text};
     ghost use Rattle.dr_levels.specs.Dense.{is_integer_kind, joined, text_values};
-    ghost use Rattle.dr_levels.specs.Views.{triplet_view, column_view, column_form, form, triplets_view};
+    ghost use Rattle.dr_levels.specs.Views.{triplet_view, column_view, column_form, form, triplets_view, triplets_form};
     ghost use Rattle.dr_levels.specs.Columns.{Adds, takes};
 
     /// A column without triplets, for a leaf of a kind with this greatest definition level.
@@ -80,12 +80,14 @@ impl Column {
 
     /// A cursor before its first triplet.
     pub fn triplets(&self) -> Triplets<'_>
-        ensures { triplets_view result ≡ column_view self.now }
+        ensures triplets { triplets_view result ≡ column_view self.now }
+        ensures form { triplets_form result ≡ column_form self.now }
     {
         Triplets {
             column: self,
             levels: self.levels.as_slice(),
             value: 0,
+            count: self.values.len(),
         }
     }
 
@@ -149,7 +151,7 @@ impl Column {
     }
 
     /// Appends triplets of these levels, with the texts at these places of a buffer at the places that have a value. The
-    /// buffer is copied in one piece.
+    /// buffer is copied in one piece, or where it is longer than the texts with a length before each, text by text.
     ///
     /// Errors: want of memory, or of room: a column's texts have less than 4 GiB together. Nothing has changed then.
     pub fn extend_texts(

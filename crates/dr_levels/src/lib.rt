@@ -19,6 +19,7 @@ mod texts;
 mod triplet;
 mod triplets;
 mod values;
+mod values_ref;
 
 pub use chains::chain;
 pub use column::Column;
@@ -29,3 +30,4 @@ pub use order::{reading_order, schema_order};
 pub use text_place::TextPlace;
 pub use triplet::{Levels, Triplet, ValueRef};
 pub use triplets::Triplets;
+pub use values_ref::ValuesRef;

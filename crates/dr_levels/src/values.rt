@@ -1,6 +1,6 @@
 //! The values of a column, in one vector of their kind.
 
-ghost use Rattle.std.specs.Prelude.{◌≡◌, ◌<◌, ◌+◌, ◌++◌, ◌∷◌, [], length, take, drop, map, true, option_map, IfSome};
+ghost use Rattle.std.specs.Prelude.{◌≡◌, ◌<◌, ◌≤◌, ◌+◌, ◌++◌, ◌∷◌, [], length, take, drop, map, true, option_map, IfSome};
 ghost use Rattle.dr_meaning.specs.Record.{bool_value, int_value};
 ghost use Rattle.dr_meaning.specs.Schema as tree;
 ghost use Rattle.dr_nested.specs.Views.{kind_view};
@@ -8,11 +8,13 @@ ghost use Rattle.std.specs.List.{list_all};
 ghost use Rattle.dr_levels.specs.Texts.{is_text};
 ghost use Rattle.dr_levels.specs.Dense.{values_view, value_list, text_values, holds_kind};
 ghost use Rattle.dr_levels.specs.Views.{lent_value};
+ghost use Rattle.dr_levels.specs.Lent.{lent_values, lends_kind};
 ghost use Rattle.dr_levels.specs.Columns.{Adds, is_held};
 
 use crate::text_place::TextPlace;
 use crate::texts::Texts;
 use crate::triplet::ValueRef;
+use crate::values_ref::ValuesRef;
 use dr_nested::{Kind, NoMemory};
 use std::alloc::Global;
 
@@ -60,6 +62,20 @@ impl Values {
                 ValueRef::Int(value)
             }
             Values::Texts(texts) => ValueRef::Text(texts.get(number)),
+        }
+    }
+
+    /// So many values from a number on.
+    pub fn range(&self, from: usize, count: usize) -> ValuesRef<'_>
+        requires { from + count ≤ length (values_view self.now) }
+        ensures values { lent_values result ≡ take count (drop from (values_view self.now)) }
+        ensures kinds { (k : tree.Kind) → holds_kind k self.now ≡ true → lends_kind k result ≡ true }
+    {
+        let end = from + count;
+        match self {
+            Values::Bools(truths) => ValuesRef::Bools(&truths[from..end]),
+            Values::Integers(numbers) => ValuesRef::Integers(&numbers[from..end]),
+            Values::Texts(texts) => texts.range(from, count),
         }
     }
 
@@ -136,7 +152,7 @@ impl Values {
         Ok(())
     }
 
-    /// Appends texts that lie at places of a buffer, which is copied in one piece.
+    /// Appends texts that lie at places of a buffer.
     ///
     /// Errors: want of memory, or of room for texts; nothing has changed then.
     pub fn extend_texts(&mut self, bytes: &[u8], places: &[TextPlace]) -> Result<(), NoMemory>

@@ -21,7 +21,10 @@ pub invariant_of-result : goal.invariant_of-result
 invariant_of-result c =
     let s = c.args.self in
     let e : present s.column.now.greatest c.split_at.result.0.now ≡ present s.column.now.greatest (take c.args.count s.levels.now) = ap (present s.column.now.greatest) c.split_at.ensures.front in
-    record { there = omega (arith, s.there, e, present-taken s.column.now.greatest c.args.count s.levels.now) }
+    record {
+      counted = c.count_present-passed.ensures;
+      there = omega (arith, s.there, e, present-taken s.column.now.greatest c.args.count s.levels.now);
+    }
 
 pub invariant_of-result-2 : goal.invariant_of-result-2
 invariant_of-result-2 c =
@@ -29,7 +32,17 @@ invariant_of-result-2 c =
     let g = s.column.now.greatest in
     let e : c.count_present-passed.result ≡ present g (take c.args.count s.levels.now) = c.count_present-passed.ensures ∙ ap (present g) c.split_at.ensures.front in
     let f : present g c.split_at.result.1.now ≡ present g (drop c.args.count s.levels.now) = ap (present g) c.split_at.ensures.back in
-    record { there = omega (arith, s.there, e, f, present-parts g c.args.count s.levels.now) }
+    record {
+      counted = omega (arith, s.counted, e, f, present-parts g c.args.count s.levels.now);
+      there = omega (arith, s.there, e, f, present-parts g c.args.count s.levels.now);
+    }
+
+pub overflow_sub-result : goal.overflow_sub-result
+overflow_sub-result c =
+    let s = c.args.self in
+    let g = s.column.now.greatest in
+    let e : c.count_present-passed.result ≡ present g (take c.args.count s.levels.now) = c.count_present-passed.ensures ∙ ap (present g) c.split_at.ensures.front in
+    omega (arith, s.counted, e, present-taken g c.args.count s.levels.now)
 
 pub returns-clause-front : goal.returns-clause-front
 returns-clause-front c =

@@ -2,7 +2,7 @@ use Rattle.std.proofs.Common.{◌≡◌, ◌+◌, ap, ◌∙◌, sym, length, ar
 use Rattle.dr_levels.specs.Texts.{moved}
 use Rattle.dr_levels.specs.Columns.{Adds}
 use Rattle.dr_levels.proofs.TextLemmas.{all_after, values_after}
-use Rattle.dr_levels.proofs.texts.Texts.extend.Goals as goal
+use Rattle.dr_levels.proofs.texts.Texts.extend_whole.Goals as goal
 
 pub invariant_of-self-2 : goal.invariant_of-self-2
 invariant_of-self-2 c =

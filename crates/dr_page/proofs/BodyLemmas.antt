@@ -1,0 +1,104 @@
+-- Bodies, part by part.
+use Rattle.std.proofs.Common.{◌≡◌, ℕ, zero, suc, List, [], ◌∷◌, ◌++◌, length, map, drop, Bool, true, false, refl, sym, ap, ap₂, ◌∙◌, subst, ℤ, Option, Some, None}
+use Rattle.std.specs.Prelude.{◌==◌, if◌then◌else◌, option_map}
+use Rattle.std.proofs.lemmas.List.{length-map}
+use Rattle.dr_meaning.specs.Schema as tree
+use Rattle.dr_meaning.specs.Record.{Value}
+use Rattle.dr_meaning.specs.Column.{Triplet, triplet}
+use Rattle.dr_formats.specs.Reading.{Reading, got, refused, Reader, give, goes_on}
+use Rattle.dr_formats.specs.Page as page
+use Rattle.dr_formats.specs.Page.{PageShape, bad_page, found, levels, values, encoded_values, count_equal, first_if, behind_if, join_triplets, page_body, triplets_read, page_triplets}
+use Rattle.dr_levels.specs.declared.triplet.Levels.{Levels}
+use Rattle.dr_levels.specs.Dense.{present, first_of, joined}
+use Rattle.dr_bytes.specs.Numbers.{IsFault}
+use Rattle.dr_bytes.proofs.FaultLemmas.{was_fault}
+use Rattle.dr_page.specs.declared.fault.PageFault.{PageFault}
+use Rattle.dr_page.specs.Reads.{WhereNone, WhereBad, Joins}
+use Rattle.dr_page.specs.Parts.{PairsOf, level_parts}
+use Rattle.dr_page.specs.Bodies.{triplets_behind}
+use Rattle.dr_page.proofs.CountLemmas.{values_count}
+
+-- ---- pairs of levels
+
+abbrev repetitions : List Levels → List ℕ
+repetitions ls = map (λ (l : Levels). l.repetition) ls
+
+abbrev definitions : List Levels → List ℕ
+definitions ls = map (λ (l : Levels). l.definition) ls
+
+one_joined : (b : Bool) (g : ℕ) (l : Levels) (ls : List Levels) (vs : List Value) → ((us : List Value) → join_triplets g (repetitions ls) (definitions ls) us ≡ joined g ls us)
+    → triplet l.repetition l.definition (first_if b vs) ∷ join_triplets g (repetitions ls) (definitions ls) (behind_if b vs)
+    ≡ (if b then triplet l.repetition l.definition (first_of vs) ∷ joined g ls (drop 1 vs) else triplet l.repetition l.definition None ∷ joined g ls vs)
+one_joined true g l ls [] h = ap (λ ts. triplet l.repetition l.definition None ∷ ts) (h [])
+one_joined true g l ls (v ∷ vs) h = ap (λ ts. triplet l.repetition l.definition (Some v) ∷ ts) (h vs)
+one_joined false g l ls vs h = ap (λ ts. triplet l.repetition l.definition None ∷ ts) (h vs)
+
+same_joined : (g : ℕ) (ls : List Levels) (vs : List Value) → join_triplets g (repetitions ls) (definitions ls) vs ≡ joined g ls vs
+same_joined g [] vs = refl
+same_joined g (l ∷ ls) vs = one_joined (l.definition == g) g l ls vs (same_joined g ls)
+
+same_present : (g : ℕ) (ls : List Levels) → present g ls ≡ count_equal g (definitions ls)
+same_present g [] = refl
+same_present g (l ∷ ls) = ap (λ n. if l.definition == g then suc n else n) (same_present g ls)
+
+pub pairs_joined : (g : ℕ) (rs ds : List ℕ) (ls : List Levels) (vs : List Value) → PairsOf rs ds ls → join_triplets g rs ds vs ≡ joined g ls vs
+pairs_joined g rs ds ls vs p = ap₂ (λ a b. join_triplets g a b vs) (sym p.0) (sym p.1) ∙ same_joined g ls vs
+
+pub pairs_present : (g : ℕ) (rs ds : List ℕ) (ls : List Levels) → PairsOf rs ds ls → present g ls ≡ count_equal g ds
+pairs_present g rs ds ls p = same_present g ls ∙ ap (count_equal g) p.1
+
+-- ---- what is behind the levels
+
+-- as many values as places for them
+pub as_many : {A : Type 0} (f : A → Value) (z : ℤ) (k : tree.Kind) (d : List Value) (n g h : ℕ) (bs rs ds : List ℕ) (vs slice : List A) (ls pairs : List Levels) → encoded_values z k d n bs ≡ Some (map f vs)
+    → n ≡ count_equal g ds → PairsOf rs ds ls → pairs ≡ ls → slice ≡ vs → h ≡ g → present h pairs ≡ length slice
+as_many f z k d n g h bs rs ds vs slice ls pairs e c p a b q =
+    ap₂ present q a ∙ (pairs_present g rs ds ls p ∙ (sym c ∙ (sym (values_count z k d n bs (map f vs) e) ∙ (length-map vs f ∙ sym (ap length b)))))
+
+behind_is : (s : PageShape) (d vs : List Value) (rs ds : List ℕ) (bs : List ℕ) → encoded_values s.encoding s.kind d (count_equal s.max_definition ds) bs ≡ Some vs → triplets_behind s d (rs, ds) bs ≡ Some (join_triplets s.max_definition rs ds vs)
+behind_is s d vs rs ds bs e = ap (option_map (join_triplets s.max_definition rs ds)) e
+
+pub behind_read : {A : Type 0} (f : A → Value) (s : PageShape) (z : ℤ) (d e : List Value) (n h : ℕ) (bs rs ds : List ℕ) (vs slice : List A) (ls pairs : List Levels) (before after : List Triplet)
+    → z ≡ s.encoding → e ≡ d → encoded_values z s.kind e n bs ≡ Some (map f vs) → n ≡ count_equal s.max_definition ds → PairsOf rs ds ls → pairs ≡ ls → slice ≡ vs → h ≡ s.max_definition
+    → after ≡ before ++ joined h pairs (map f slice) → Joins (triplets_behind s d (rs, ds) bs) before after
+behind_read f s z d e n h bs rs ds vs slice ls pairs before after y t x c p a b q w =
+    let r : encoded_values s.encoding s.kind d (count_equal s.max_definition ds) bs ≡ Some (map f vs) = ap₂ (λ i j. encoded_values i s.kind j (count_equal s.max_definition ds) bs) (sym y) (sym t) ∙ (ap (λ m. encoded_values z s.kind e m bs) (sym c) ∙ x) in
+    let j : joined h pairs (map f slice) ≡ join_triplets s.max_definition rs ds (map f vs) = ap₂ (λ m xs. joined m xs (map f slice)) q a ∙ (ap (λ xs. joined s.max_definition ls (map f xs)) b ∙ sym (pairs_joined s.max_definition rs ds ls (map f vs) p)) in
+    subst (λ (o : Option (List Triplet)). Joins o before after) (sym (behind_is s d (map f vs) rs ds bs r)) (w ∙ ap (λ ts. before ++ ts) j)
+
+-- ---- whole bodies
+
+regroup : {A B C : Type 0} (r : Reading page.PageFault A) (second : Reader page.PageFault B) (next : A → B → Reader page.PageFault C)
+    → goes_on r (λ a bs. goes_on (second bs) (next a)) ≡ goes_on (goes_on r (λ a bs. goes_on (second bs) (λ b. give (a, b)))) (λ (p : A × B). next p.0 p.1)
+regroup (refused e bs) second next = refl
+regroup (got a bs) second next = inner a (second bs) next
+  where
+    inner : {A B C : Type 0} (a : A) (r : Reading page.PageFault B) (next : A → B → Reader page.PageFault C) → goes_on r (next a) ≡ goes_on (goes_on r (λ b. give (a, b))) (λ (p : A × B). next p.0 p.1)
+    inner a (refused e bs) next = refl
+    inner a (got b bs) next = refl
+
+found_triplets : (o : Option (List Value)) (f : List Value → List Triplet) (bs : List ℕ) → triplets_read (goes_on (found o bs) (λ vs. give (f vs))) ≡ option_map f o
+found_triplets None f bs = refl
+found_triplets (Some vs) f bs = refl
+
+-- the values and triplets behind these levels
+abbrev behind : PageShape → List Value → List ℕ → List ℕ → Reader page.PageFault (List Triplet)
+behind s d rs ds bs = goes_on (values s.encoding s.kind d (count_equal s.max_definition ds) bs) (λ vs. give (join_triplets s.max_definition rs ds vs))
+
+by_parts : (s : PageShape) (d : List Value) (bs : List ℕ) → page_body s d bs ≡ goes_on (level_parts s bs) (λ (p : List ℕ × List ℕ). behind s d p.0 p.1)
+by_parts s d bs = regroup (levels s.max_repetition s.repetition_encoding s.triplets bs) (levels s.max_definition s.definition_encoding s.triplets) (behind s d)
+
+-- the triplets of a body are those of its levels, with the values behind them
+pub body_is_behind : (s : PageShape) (d : List Value) (bs rest : List ℕ) (p : List ℕ × List ℕ) → level_parts s bs ≡ got p rest → page_triplets s d bs ≡ triplets_behind s d p rest
+unfolding page_triplets
+body_is_behind s d bs rest p e =
+    ap triplets_read (by_parts s d bs ∙ ap (λ r. goes_on r (λ (q : List ℕ × List ℕ). behind s d q.0 q.1)) e)
+    ∙ found_triplets (encoded_values s.encoding s.kind d (count_equal s.max_definition p.1) rest) (join_triplets s.max_definition p.0 p.1) []
+
+-- there are none where levels are refused
+pub no_levels : (s : PageShape) (d : List Value) (bs : List ℕ) (e : PageFault) → WhereBad e (level_parts s bs) → WhereNone e (page_triplets s d bs)
+unfolding page_triplets
+no_levels s d bs PageFault.NoMemory h = tt
+no_levels s d bs PageFault.BadData h =
+    let w = was_fault bad_page (level_parts s bs) h in
+    ap triplets_read (by_parts s d bs ∙ ap (λ r. goes_on r (λ (q : List ℕ × List ℕ). behind s d q.0 q.1)) w.1)

@@ -1,0 +1,16 @@
+-- runs that are read one after another
+pub mod GrowingLemmas
+-- the width of levels
+pub mod WidthLemmas
+-- levels side by side
+pub mod PairLemmas
+-- values by their encoding, dictionaries, texts
+pub mod ValueLemmas
+-- level parts
+pub mod LevelLemmas
+-- how many values there are
+pub mod CountLemmas
+-- bodies, part by part
+pub mod BodyLemmas
+-- what is written
+pub mod WriteLemmas

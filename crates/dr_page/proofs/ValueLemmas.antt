@@ -1,0 +1,127 @@
+-- Values by their encoding; values of dictionaries; places of texts.
+use Rattle.std.proofs.Common.{◌≡◌, ℕ, zero, suc, ◌+◌, ◌≤◌, List, [], ◌∷◌, ◌++◌, length, map, Bool, true, false, refl, sym, ap, ap₂, ◌∙◌, subst, arith, ℤ, Option, Some, None, Result, Ok, Err}
+use Rattle.std.specs.Prelude.{◌&&◌, ◌||◌, nat_le, if◌then◌else◌, option_and_then}
+use Rattle.std.specs.List.{list_all, All}
+use Rattle.std.proofs.lemmas.Bool.{and_parts, and_from, le-leb}
+use Rattle.std.proofs.lemmas.List.Elements.{All-nil, All-cons, All-head, All-tail}
+use Rattle.std.proofs.lemmas.Str.{is_utf8-from_IsUtf8}
+use Rattle.dr_meaning.specs.Record.{Value, text_value}
+use Rattle.dr_meaning.specs.Schema as tree
+use Rattle.dr_formats.specs.Hybrid.{hybrid}
+use Rattle.dr_formats.specs.Plain as plain
+use Rattle.dr_formats.specs.Plain.{plain_values, dictionary_values}
+use Rattle.dr_formats.specs.Page.{is_number, encoded_values}
+use Rattle.dr_levels.specs.declared.text_place.TextPlace.{TextPlace}
+use Rattle.dr_levels.specs.Texts.{is_text, bytes_at}
+use Rattle.dr_levels.specs.Dense.{text_values}
+use Rattle.dr_plain.specs.declared.values.TextPlace as dense
+use Rattle.dr_plain.specs.Views as dense_views
+use Rattle.dr_plain.specs.Picking.{picked}
+use Rattle.dr_plain.proofs.PickSteps.{picked_seen, not_picked_seen, picked_hold}
+use Rattle.dr_page.specs.declared.encoding.ValueEncoding.{ValueEncoding}
+use Rattle.dr_page.specs.declared.fault.PageFault.{PageFault}
+use Rattle.dr_page.specs.Encodings.{encoding_of}
+use Rattle.dr_page.specs.Indices.{indices_ahead}
+use Rattle.dr_page.specs.Places.{column_place}
+use Rattle.dr_page.specs.Reads.{Reads}
+
+-- ---- encodings
+
+abbrev encoded : Bool → Bool → Option ValueEncoding
+encoded a b = if a then Some ValueEncoding.Plain else (if b then Some ValueEncoding.Dictionary else None)
+
+by_first : (a b : Bool) (p q : Option (List Value)) → encoded a b ≡ Some ValueEncoding.Plain → (if a then p else (if b then q else None)) ≡ p
+by_first true b p q e = refl
+by_first false true p q e = absurd (cc)
+by_first false false p q e = absurd (cc)
+
+by_second : (a b : Bool) (p q : Option (List Value)) → encoded a b ≡ Some ValueEncoding.Dictionary → (if a then p else (if b then q else None)) ≡ q
+by_second true b p q e = absurd (cc)
+by_second false true p q e = refl
+by_second false false p q e = absurd (cc)
+
+by_none : (a b : Bool) (p q : Option (List Value)) → encoded a b ≡ None → (if a then p else (if b then q else None)) ≡ None
+by_none true b p q e = absurd (cc)
+by_none false true p q e = absurd (cc)
+by_none false false p q e = refl
+
+pub by_plain : (z : ℤ) (k : tree.Kind) (d : List Value) (n : ℕ) (bs : List ℕ) → encoding_of z ≡ Some ValueEncoding.Plain → encoded_values z k d n bs ≡ plain_values k n bs
+by_plain z k d n bs e = by_first (is_number 0 z) (is_number 2 z || is_number 8 z) (plain_values k n bs) (dictionary_values d n bs) e
+
+pub by_dictionary : (z : ℤ) (k : tree.Kind) (d : List Value) (n : ℕ) (bs : List ℕ) → encoding_of z ≡ Some ValueEncoding.Dictionary → encoded_values z k d n bs ≡ dictionary_values d n bs
+by_dictionary z k d n bs e = by_second (is_number 0 z) (is_number 2 z || is_number 8 z) (plain_values k n bs) (dictionary_values d n bs) e
+
+pub by_no_encoding : (z : ℤ) (k : tree.Kind) (d : List Value) (n : ℕ) (bs : List ℕ) → encoding_of z ≡ None → encoded_values z k d n bs ≡ None
+by_no_encoding z k d n bs e = by_none (is_number 0 z) (is_number 2 z || is_number 8 z) (plain_values k n bs) (dictionary_values d n bs) e
+
+-- ---- dictionaries
+
+narrow_enough : (b : Bool) (d : List Value) (o : Option (List ℕ)) → (if b then option_and_then (plain.pick d) o else None) ≡ option_and_then (plain.pick d) (if b then o else None)
+narrow_enough true d o = refl
+narrow_enough false d o = refl
+
+-- values of a dictionary are those at the indices
+pub by_indices : (d : List Value) (n : ℕ) (bs : List ℕ) → dictionary_values d n bs ≡ option_and_then (plain.pick d) (indices_ahead n bs)
+by_indices d zero bs = refl
+by_indices d (suc n) [] = refl
+by_indices d (suc n) (w ∷ bs) = narrow_enough (nat_le w 32) d (hybrid w (suc n) bs)
+
+found_by : {A : Type 0} (f : A → Value) (items found : List A) (o : Option (List ℕ)) → option_and_then (picked items) o ≡ Some found → option_and_then (plain.pick (map f items)) o ≡ Some (map f found)
+found_by f items found None e = absurd (cc)
+found_by f items found (Some is) e = picked_seen f items found is e
+
+none_by : {A : Type 0} (f : A → Value) (items : List A) (o : Option (List ℕ)) → option_and_then (picked items) o ≡ None → option_and_then (plain.pick (map f items)) o ≡ None
+none_by f items None e = refl
+none_by f items (Some is) e = not_picked_seen f items is e
+
+-- items that are picked, as values
+pub picked_reads : {A B : Type 0} (f : A → Value) (items found : List A) (n : ℕ) (bs : List ℕ) (r : Result B PageFault) → Reads (option_and_then (picked items) (indices_ahead n bs)) found r → Reads (dictionary_values (map f items) n bs) (map f found) r
+picked_reads f items found n bs (Ok b) h = by_indices (map f items) n bs ∙ found_by f items found (indices_ahead n bs) h
+picked_reads f items found n bs (Err PageFault.NoMemory) h = tt
+picked_reads f items found n bs (Err PageFault.BadData) h = by_indices (map f items) n bs ∙ none_by f items (indices_ahead n bs) h
+
+pub dictionary_reads : {A B : Type 0} (f : A → Value) (z : ℤ) (k : tree.Kind) (items found : List A) (n : ℕ) (bs : List ℕ) (r : Result B PageFault) → encoding_of z ≡ Some ValueEncoding.Dictionary
+    → Reads (option_and_then (picked items) (indices_ahead n bs)) found r → Reads (encoded_values z k (map f items) n bs) (map f found) r
+dictionary_reads {B = B} f z k items found n bs r e h =
+    let P : Option (List Value) → Type 0 = λ o. Reads o (map f found) r in
+    subst P (sym (by_dictionary z k (map f items) n bs e)) (picked_reads f items found n bs r h)
+
+-- ---- texts
+
+pub same_texts : (bytes : List ℕ) (ps : List dense.TextPlace) → text_values bytes (map column_place ps) ≡ dense_views.text_values bytes ps
+same_texts bytes [] = refl
+same_texts bytes (p ∷ ps) = ap (λ vs. text_value (bytes_at bytes (column_place p)) ∷ vs) (same_texts bytes ps)
+
+pub still_texts : (bytes : List ℕ) (ps : List dense.TextPlace) → dense_views.AreTexts bytes ps → list_all (is_text bytes) (map column_place ps) ≡ true
+still_texts bytes [] h = refl
+still_texts bytes (p ∷ ps) h =
+    let t : dense_views.IsText bytes p = All-head (dense_views.IsText bytes) p ps h in
+    and_from _ _ (and_from _ _ (le-leb (p.start + p.length) (length bytes) t.0) (is_utf8-from_IsUtf8 _ t.1)) (still_texts bytes ps (All-tail (dense_views.IsText bytes) p ps h))
+
+all_pass : {A : Type 0} (p : A → Bool) (xs : List A) → list_all p xs ≡ true → All (λ x. p x ≡ true) xs
+all_pass p [] h = All-nil (λ x. p x ≡ true)
+all_pass p (x ∷ xs) h = All-cons (λ y. p y ≡ true) x xs (and_parts _ _ h).0 (all_pass p xs (and_parts _ _ h).1)
+
+pass_all : {A : Type 0} (p : A → Bool) (xs : List A) → All (λ x. p x ≡ true) xs → list_all p xs ≡ true
+pass_all p [] h = refl
+pass_all p (x ∷ xs) h = and_from _ _ (All-head (λ y. p y ≡ true) x xs h) (pass_all p xs (All-tail (λ y. p y ≡ true) x xs h))
+
+picked_by : {A : Type 0} (p : A → Bool) (items found : List A) (o : Option (List ℕ)) → list_all p items ≡ true → option_and_then (picked items) o ≡ Some found → list_all p found ≡ true
+picked_by p items found None h e = absurd (cc)
+picked_by p items found (Some is) h e = pass_all p found (picked_hold (λ x. p x ≡ true) items is found (all_pass p items h) e)
+
+-- what passes for all items passes for those that are picked
+pub picked_pass : {A : Type 0} (p : A → Bool) (items found : List A) (n : ℕ) (bs : List ℕ) → list_all p items ≡ true → option_and_then (picked items) (indices_ahead n bs) ≡ Some found → list_all p found ≡ true
+picked_pass p items found n bs h e = picked_by p items found (indices_ahead n bs) h e
+
+-- values that joined none
+pub joined_none : (o : Option (List Value)) (before after : List Value) → before ≡ [] → dense_views.Appends o before after → o ≡ Some after
+joined_none None before after e h = absurd h
+joined_none (Some vs) before after e h = ap Some (sym (h ∙ ap (λ us. us ++ vs) e))
+
+-- texts that stand in a buffer
+pub text_places : (bytes : List ℕ) (ps : List dense.TextPlace) (items : List dense.TextPlace) (out : List TextPlace) → items ≡ ps → out ≡ map column_place items → dense_views.text_values bytes ps ≡ text_values bytes out
+text_places bytes ps items out e f = sym (ap (text_values bytes) (f ∙ ap (map column_place) e) ∙ same_texts bytes ps)
+
+pub text_places_hold : (bytes : List ℕ) (ps : List dense.TextPlace) (items : List dense.TextPlace) (out : List TextPlace) → items ≡ ps → out ≡ map column_place items → dense_views.AreTexts bytes ps → list_all (is_text bytes) out ≡ true
+text_places_hold bytes ps items out e f h = ap (list_all (is_text bytes)) (f ∙ ap (map column_place) e) ∙ still_texts bytes ps h

@@ -1,0 +1,20 @@
+-- what pages, dictionaries and readers stand for
+pub mod Views
+-- what comes of reading
+pub mod Reads
+-- encodings by their numbers
+pub mod Encodings
+-- faults of values
+pub mod Faults
+-- level parts, and levels side by side
+pub mod Parts
+-- the levels that a reader holds
+pub mod Levels
+-- indices of a dictionary
+pub mod Indices
+-- what is left of a body behind its levels
+pub mod Bodies
+-- what comes of writing
+pub mod Writes
+-- places of texts
+pub mod Places

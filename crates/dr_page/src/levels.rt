@@ -1,0 +1,48 @@
+//! Levels side by side.
+
+ghost use Rattle.std.specs.Prelude.{◌≡◌, length, map, OnOk};
+ghost use Rattle.dr_formats.specs.Page.{count_equal};
+ghost use Rattle.dr_page.specs.Parts.{PairsOf};
+
+use dr_levels::Levels;
+use dr_memory::NoMemory;
+
+/// How many levels are this one.
+pub(crate) fn count_equal(level: u8, levels: &[u8]) -> usize
+    ensures { result ≡ count_equal level levels.now }
+{
+    levels.iter().filter(|other| **other == level).count()
+}
+
+/// Puts pairs of levels into the place of others.
+pub(crate) fn pair_levels(
+    repetitions: &[u8],
+    definitions: &[u8],
+    out: &mut Vec<Levels>,
+) -> Result<(), NoMemory>
+    requires { length repetitions.now ≡ length definitions.now }
+    ensures { OnOk result (PairsOf repetitions.now definitions.now (out.new).items) }
+{
+    let none = Levels {
+        repetition: 0,
+        definition: 0,
+    };
+    out.clear();
+    out.resize(repetitions.len(), none)?;
+    fill_pairs(repetitions, definitions, out);
+    Ok(())
+}
+
+/// Puts pairs of levels into the place of others, as many.
+fn fill_pairs(repetitions: &[u8], definitions: &[u8], out: &mut [Levels])
+    requires repetitions { length out.old ≡ length repetitions.now }
+    requires definitions { length out.old ≡ length definitions.now }
+    ensures { PairsOf repetitions.now definitions.now out.new }
+{
+    'pairs: for index in 0..out.len() {
+        out[index] = Levels {
+            repetition: repetitions[index],
+            definition: definitions[index],
+        };
+    }
+}

@@ -1,0 +1,31 @@
+//! Bodies of data pages of Apache Parquet ("Data Pages"): repetition levels, definition levels and values, read into columns and
+//! written from them in bulk.
+#![tactic(auto)]
+
+mod body_reader;
+mod body_writer;
+mod dictionary;
+mod encoding;
+mod fault;
+mod index_runs;
+mod level_part;
+mod level_reader;
+mod level_runs;
+mod level_writer;
+mod levels;
+mod picking;
+mod run_appending;
+mod shape;
+#[cfg(test)]
+mod tests;
+mod text_places;
+mod value_reader;
+mod value_size;
+mod value_writer;
+
+pub use body_reader::BodyReader;
+pub use body_writer::BodyWriter;
+pub use dictionary::Dictionary;
+pub use fault::PageFault;
+pub use shape::{GREATEST_LEVEL, Shape};
+pub use value_size::plain_size;
