@@ -2,6 +2,9 @@
 pub mod StretchLemmas
 -- a chunk's pages, one at a time
 pub mod StepLemmas
+-- how many triplets a page has, and what taking it does
+pub mod LengthLemmas
+pub mod TakeLemmas
 -- what a link was asked for
 pub mod AskLemmas
 -- page headers

@@ -8,3 +8,7 @@ pub mod Headers
 pub mod Steps
 -- faults
 pub mod Faults
+-- what is known between pages
+pub mod Takers
+-- shapes of data pages
+pub mod Shapes

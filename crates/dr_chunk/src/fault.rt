@@ -2,9 +2,10 @@
 
 ghost use Rattle.std.specs.Prelude.{◌≡◌};
 ghost use Rattle.dr_chunk.specs.declared.fault.ChunkFault.TheVariants.{NoMemory as WantOfMemory};
-ghost use Rattle.dr_chunk.specs.Faults.{outside_fault};
+ghost use Rattle.dr_chunk.specs.Faults.{outside_fault, page_fault};
 
 use dr_outside::Fault;
+use dr_page::PageFault;
 use std::alloc::AllocError;
 
 /// Why a chunk gives no triplets.
@@ -32,6 +33,17 @@ impl From<Fault> for ChunkFault {
         match fault {
             Fault::Failed => ChunkFault::Failed,
             Fault::NoMemory => ChunkFault::NoMemory,
+        }
+    }
+}
+
+impl From<PageFault> for ChunkFault {
+    ghost from_gives = { λ page fault. fault ≡ page_fault page };
+
+    fn from(fault: PageFault) -> ChunkFault {
+        match fault {
+            PageFault::NoMemory => ChunkFault::NoMemory,
+            PageFault::BadData => ChunkFault::BadData,
         }
     }
 }

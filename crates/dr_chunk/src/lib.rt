@@ -4,7 +4,10 @@
 mod byte_range;
 mod fault;
 mod header;
+mod leaf_shape;
+mod page_taker;
 mod stretch;
 
 pub use byte_range::ByteRange;
 pub use fault::ChunkFault;
+pub use leaf_shape::LeafShape;
