@@ -1,0 +1,14 @@
+-- What a link was asked for, one call after another.
+use Rattle.std.proofs.Common.{◌≡◌, List, ◌++◌, Bool, true, ap, ap₂, subst, ◌∙◌, append_assoc}
+use Rattle.std.specs.Prelude.{Option, Some, None, ◌&&◌}
+use Rattle.std.specs.List.{list_all}
+use Rattle.std.proofs.lemmas.List.Folds.{list_all-append}
+use Rattle.dr_outside.specs.Link.{Request}
+use Rattle.dr_chunk.specs.Telling.{AsksOnly}
+
+pub asks_then : (test : Request → Bool) (a b c : Option (List Request)) → AsksOnly test a b → AsksOnly test b c → AsksOnly test a c
+asks_then test None b c p q = tt
+asks_then test (Some before) b c p q =
+    let P : Option (List Request) → Type 0 = λ o. AsksOnly test o c in
+    let r : AsksOnly test (Some (before ++ p.0)) c = subst P p.1 q in
+    (p.0 ++ r.0, r.1 ∙ ap (λ rs. Some rs) (append_assoc before p.0 r.0), list_all-append test p.0 r.0 ∙ ap₂ (λ x y. x && y) p.2 r.2)

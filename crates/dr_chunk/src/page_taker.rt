@@ -1,0 +1,165 @@
+//! Taking the pages of a chunk, one after another.
+
+ghost use Rattle.std.specs.Prelude.{◌≡◌, true};
+ghost use Rattle.dr_nested.specs.Views.{kind_view};
+ghost use Rattle.dr_page.specs.Views.{is_dictionary_of, shape_view};
+ghost use Rattle.dr_meta.specs.Views.{data_page_view};
+ghost use Rattle.dr_chunk.specs.Shapes.{shape_with};
+
+use crate::fault::ChunkFault;
+use crate::leaf_shape::LeafShape;
+use dr_levels::Column;
+use dr_meta::{DataPage, DictionaryPage, PageHead};
+use dr_page::{BodyReader, Dictionary, Shape};
+use std::alloc::Global;
+
+/// The numbers of page types (parquet.thrift, PageType).
+const DATA_PAGE: i64 = 0;
+const INDEX_PAGE: i64 = 1;
+const DICTIONARY_PAGE: i64 = 2;
+
+/// The number of the encoding PLAIN.
+const PLAIN: i64 = 0;
+/// The number of the encoding PLAIN_DICTIONARY, as older writers name PLAIN on a dictionary page.
+const PLAIN_DICTIONARY: i64 = 2;
+
+/// What is known of a data page of a leaf before its body.
+fn shape_of(leaf: LeafShape, page: DataPage) -> Shape
+    ensures shape { shape_view result ≡ shape_with (data_page_view page) (kind_view leaf.kind) leaf.max_repetition leaf.max_definition }
+    ensures kind { result.kind ≡ leaf.kind }
+    ensures definition { result.max_definition ≡ leaf.max_definition }
+{
+    Shape {
+        triplets: page.values.get(),
+        encoding: page.encoding,
+        definition_encoding: page.definition_encoding,
+        repetition_encoding: page.repetition_encoding,
+        kind: leaf.kind,
+        max_repetition: leaf.max_repetition,
+        max_definition: leaf.max_definition,
+    }
+}
+
+/// What is known between the pages of a chunk: how many of its triplets are still wanted, whether a page came before, and the dictionary.
+#[derive(Drop)]
+pub(crate) struct PageTaker {
+    leaf: LeafShape,
+    wanted: u64,
+    is_first: bool,
+    dictionary: Dictionary,
+    bodies: BodyReader,
+    ghost kind: { is_dictionary_of (kind_view leaf.kind) dictionary ≡ true },
+}
+
+impl PageTaker {
+    ghost use Rattle.std.specs.Prelude.{[], false, OnOk, OnErr, IfErr, option_map};
+    ghost use Rattle.dr_meaning.specs.Path.{Leaf};
+    ghost use Rattle.dr_formats.specs.Chunk.{data_page, dictionary_page, page_taken};
+    ghost use Rattle.dr_levels.specs.Views.{column_view, column_form};
+    ghost use Rattle.dr_meta.specs.Views.{page_view, dictionary_page_view};
+    ghost use Rattle.dr_chunk.specs.Takers.{leaf_of, wanted_of, is_first_of, dictionary_of, leaf_form, IsLeafOf, Takes, IsChunkFault};
+
+    /// Before the first page of a chunk of which so many triplets are wanted.
+    pub(crate) fn new(alloc: Global, leaf: LeafShape, wanted: u64) -> PageTaker
+        ensures leaf { leaf_of result ≡ leaf }
+        ensures wanted { wanted_of result ≡ wanted }
+        ensures first { is_first_of result ≡ true }
+        ensures dictionary { dictionary_of result ≡ [] }
+    {
+        PageTaker {
+            leaf,
+            wanted,
+            is_first: true,
+            dictionary: Dictionary::none(alloc, leaf.kind),
+            bodies: BodyReader::new(alloc),
+        }
+    }
+
+    /// How many triplets are still wanted.
+    pub(crate) fn wanted(&self) -> u64
+        ensures { result ≡ wanted_of self.now }
+    {
+        self.wanted
+    }
+
+    /// Takes a page: its triplets join the column, or its values are the dictionary from here on.
+    ///
+    /// Errors: there is no such page at this place of a chunk; want of memory.
+    pub(crate) fn take_page(
+        &mut self,
+        alloc: Global,
+        head: &PageHead,
+        body: &[u8],
+        out: &mut Column,
+    ) -> Result<(), ChunkFault>
+        requires { column_form out.old ≡ leaf_form (leaf_of self.old) }
+        ensures taken { (l : Leaf) → IsLeafOf l (leaf_of self.old) → OnOk result (Takes (page_taken l (wanted_of self.old) (is_first_of self.old) (dictionary_of self.old) (page_view head.now) body.now []) (column_view out.old) (column_view out.new) (wanted_of self.old) (wanted_of self.new) (dictionary_of self.new)) }
+        ensures bad { (l : Leaf) → IsLeafOf l (leaf_of self.old) → IfErr result (λ e. IsChunkFault e (page_taken l (wanted_of self.old) (is_first_of self.old) (dictionary_of self.old) (page_view head.now) body.now [])) }
+        ensures first { OnOk result (is_first_of self.new ≡ false) }
+        ensures leaf { leaf_of self.new ≡ leaf_of self.old }
+        ensures form { column_form out.new ≡ column_form out.old }
+    {
+        match head.kind {
+            DATA_PAGE => self.take_data(head.data_page, body, out)?,
+            INDEX_PAGE => {}
+            DICTIONARY_PAGE => self.take_dictionary(alloc, head.dictionary_page, body)?,
+            _ => return Err(ChunkFault::BadData),
+        }
+        self.is_first = false;
+        Ok(())
+    }
+
+    /// Takes a data page.
+    ///
+    /// Errors: it has no header of its own, or more triplets than are wanted, or spells none; want of memory.
+    fn take_data(
+        &mut self,
+        page: Option<DataPage>,
+        body: &[u8],
+        out: &mut Column,
+    ) -> Result<(), ChunkFault>
+        requires { column_form out.old ≡ leaf_form (leaf_of self.old) }
+        ensures taken { (l : Leaf) → IsLeafOf l (leaf_of self.old) → OnOk result (Takes (data_page l (wanted_of self.old) (dictionary_of self.old) body.now (option_map data_page_view page) []) (column_view out.old) (column_view out.new) (wanted_of self.old) (wanted_of self.new) (dictionary_of self.new)) }
+        ensures bad { (l : Leaf) → IsLeafOf l (leaf_of self.old) → IfErr result (λ e. IsChunkFault e (data_page l (wanted_of self.old) (dictionary_of self.old) body.now (option_map data_page_view page) [])) }
+        ensures leaf { leaf_of self.new ≡ leaf_of self.old }
+        ensures first { is_first_of self.new ≡ is_first_of self.old }
+        ensures form { column_form out.new ≡ column_form out.old }
+    {
+        let Some(page) = page else {
+            return Err(ChunkFault::BadData);
+        };
+        let triplets = page.values.get();
+        if triplets > self.wanted {
+            return Err(ChunkFault::BadData);
+        }
+        let shape = shape_of(self.leaf, page);
+        self.bodies.read(&shape, &self.dictionary, body, out)?;
+        self.wanted -= triplets;
+        Ok(())
+    }
+
+    /// Takes a dictionary page.
+    ///
+    /// Errors: it has no header of its own, or isn't the first page, or its encoding isn't PLAIN, or it spells no values; want of memory.
+    fn take_dictionary(
+        &mut self,
+        alloc: Global,
+        page: Option<DictionaryPage>,
+        body: &[u8],
+    ) -> Result<(), ChunkFault>
+        ensures taken { (l : Leaf) → IsLeafOf l (leaf_of self.old) → OnOk result (Takes (dictionary_page l (is_first_of self.old) body.now (option_map dictionary_page_view page) []) [] [] (wanted_of self.old) (wanted_of self.new) (dictionary_of self.new)) }
+        ensures bad { (l : Leaf) → IsLeafOf l (leaf_of self.old) → IfErr result (λ e. IsChunkFault e (dictionary_page l (is_first_of self.old) body.now (option_map dictionary_page_view page) [])) }
+        ensures leaf { leaf_of self.new ≡ leaf_of self.old }
+        ensures first { is_first_of self.new ≡ is_first_of self.old }
+    {
+        let Some(page) = page else {
+            return Err(ChunkFault::BadData);
+        };
+        if !self.is_first || (page.encoding != PLAIN && page.encoding != PLAIN_DICTIONARY) {
+            return Err(ChunkFault::BadData);
+        }
+        let bytes = Vec::from_slice(alloc, body)?;
+        self.dictionary = Dictionary::read(alloc, self.leaf.kind, page.values.get(), bytes)?;
+        Ok(())
+    }
+}

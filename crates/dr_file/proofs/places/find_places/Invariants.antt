@@ -1,0 +1,16 @@
+use Rattle.std.proofs.Common.{◌≡◌, ◌++◌, map, drop, take, vec_len, Bool, true}
+use Rattle.std.specs.Prelude.{Option, Some}
+use Rattle.std.specs.List.{list_all}
+use Rattle.dr_formats.specs.FileSchema.{file_schema}
+use Rattle.dr_formats.specs.File.{is_found}
+use Rattle.dr_meta.specs.Views.{item_view}
+use Rattle.dr_nested.specs.PathView.{path_view}
+use Rattle.dr_open.specs.Places.{place_in_file}
+use Rattle.dr_file.proofs.places.find_places.Given as goal
+
+-- the places so far are those of the leaves so far
+abbrev pub invariant-fields : goal.invariant-fields
+invariant-fields l = record {
+  found : map (λ k. place_in_file k (file_schema (map item_view l.items))) (map path_view (take l.field-index l.fields)) ≡ map (λ i. Some i) l.places.items;
+  all : list_all (λ k. is_found (place_in_file k (file_schema (map item_view l.items)))) (map path_view (drop l.field-index l.fields)) ≡ list_all (λ k. is_found (place_in_file k (file_schema (map item_view l.items)))) (map path_view l.fields);
+}

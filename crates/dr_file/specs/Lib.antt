@@ -1,0 +1,12 @@
+-- what a link is asked for
+pub mod Asking
+-- ends of files, and footers
+pub mod Frames
+-- row groups
+pub mod Groups
+-- what of a footer is kept
+pub mod Openings
+-- opened files
+pub mod OpenedFiles
+-- faults
+pub mod Faults

@@ -1,0 +1,54 @@
+-- Opened files, and the faults of files.
+use Rattle.std.specs.Prelude.{◌≡◌, ℕ, List, map, Bool, true, false, Option, Some, None, Result, Ok, Err, string_bytes, ⊤}
+use Rattle.dr_meaning.specs.Path.{Leaf}
+use Rattle.dr_formats.specs.File.{FileCause, bad_footer, bad_schema, bad_codec, bad_data, footer_of, footer_place}
+use Rattle.dr_outside.specs.Faults.{raised}
+use Rattle.dr_outside.specs.declared.cause.Cause.{Cause}
+use Rattle.dr_file.specs.Openings.{opened_leaf_view, IsOpenedAs}
+use Rattle.dr_file.specs.declared.opened.Opened.{Opened}
+use Rattle.dr_file.specs.declared.fault.OpenFault.{OpenFault}
+use Rattle.dr_file.specs.declared.file_fault.FileFault.{FileFault}
+
+abbrev pub rows_of : Opened → ℕ
+rows_of o = o.rows
+
+abbrev pub path_of : Opened → List ℕ
+path_of o = string_bytes o.path
+
+-- a file of these bytes was opened for these leaves: its footer is there and shows no cause, and what it says of them is kept
+abbrev pub IsOpened : List ℕ → List Leaf → Opened → Type 0
+IsOpened bytes F o = (o.footer ≡ footer_place bytes) × IsOpenedAs (footer_of bytes) F o.rows (map opened_leaf_view o.leaves.items)
+
+-- a fault that bytes show is this cause of theirs; want of memory and a link's failure may come in place of anything
+abbrev pub IsCauseOf : FileFault → Option FileCause → Type 0
+IsCauseOf FileFault.NoMemory cause = ⊤
+IsCauseOf (FileFault.Why (Cause.ReadFailed before after)) cause = ⊤
+IsCauseOf (FileFault.Why Cause.BadFooter) cause = cause ≡ Some bad_footer
+IsCauseOf (FileFault.Why Cause.BadSchema) cause = cause ≡ Some bad_schema
+IsCauseOf (FileFault.Why Cause.BadCodec) cause = cause ≡ Some bad_codec
+IsCauseOf (FileFault.Why Cause.BadData) cause = cause ≡ Some bad_data
+
+-- whether the link failed
+abbrev pub is_link_fault : FileFault → Bool
+is_link_fault FileFault.NoMemory = false
+is_link_fault (FileFault.Why (Cause.ReadFailed before after)) = true
+is_link_fault (FileFault.Why c) = false
+
+abbrev pub is_read_fault : {A : Type 0} → Result A FileFault → Bool
+is_read_fault (Ok a) = false
+is_read_fault (Err e) = is_link_fault e
+
+-- a link's failure has its counts of faults before and after, of which the latter is one more
+abbrev pub HasCounts : ℕ → ℕ → FileFault → Type 0
+HasCounts old new FileFault.NoMemory = ⊤
+HasCounts old new (FileFault.Why (Cause.ReadFailed before after)) = (before ≡ old) × (after ≡ new) × (new ≡ raised old)
+HasCounts old new (FileFault.Why c) = ⊤
+
+-- a fault of opening, as it is told with the link's counts before and after
+abbrev pub told_fault : OpenFault → ℕ → ℕ → FileFault
+told_fault OpenFault.NoMemory before after = FileFault.NoMemory
+told_fault OpenFault.Failed before after = FileFault.Why (Cause.ReadFailed before after)
+told_fault OpenFault.BadFooter before after = FileFault.Why Cause.BadFooter
+told_fault OpenFault.BadSchema before after = FileFault.Why Cause.BadSchema
+told_fault OpenFault.BadCodec before after = FileFault.Why Cause.BadCodec
+told_fault OpenFault.BadData before after = FileFault.Why Cause.BadData

@@ -1,0 +1,93 @@
+-- What of a footer an opened file keeps.
+use Rattle.std.specs.Prelude.{◌≡◌, ℕ, List, [], ◌∷◌, map, Bool, true, false, Option, Some, option_map, option_and_then, ⊤}
+use Rattle.dr_meaning.specs.Schema.{Kind}
+use Rattle.dr_meaning.specs.Path.{Step, Leaf}
+use Rattle.dr_formats.specs.Metadata.{ColumnMeta, RowGroup, FileMeta}
+use Rattle.dr_formats.specs.FileSchema.{file_schema}
+use Rattle.dr_formats.specs.Chunk.{chunk_start}
+use Rattle.dr_formats.specs.File.{Footer, leaf_chunk, with_schema, has_leaves, are_uncompressed, FileCause, bad_footer, bad_schema, bad_codec, bad_data, cause_by}
+use Rattle.dr_formats.specs.Opening.{has_numbers}
+use Rattle.dr_nested.specs.Views.{kind_view}
+use Rattle.dr_nested.specs.PathView.{step_view}
+use Rattle.dr_file.specs.Groups.{chunk_of}
+use Rattle.dr_file.specs.declared.chunk_place.ChunkPlace.{ChunkPlace}
+use Rattle.dr_file.specs.declared.fault.OpenFault.{OpenFault}
+use Rattle.dr_file.specs.declared.opened_leaf.OpenedLeaf.{OpenedLeaf}
+
+-- a chunk: the rows of its row group, where it lies, how many triplets it has
+pub record ShownChunk : Type 0 where
+  pub rows : ℕ
+  pub start : ℕ
+  pub size : ℕ
+  pub values : ℕ
+
+-- a leaf with its chunk in each row group
+pub record ShownLeaf : Type 0 where
+  pub path : List Step
+  pub kind : Kind
+  pub chunks : List (Option ShownChunk)
+
+abbrev pub chunk_place_view : ChunkPlace → ShownChunk
+chunk_place_view c = record { rows = c.rows; start = c.start; size = c.size; values = c.values }
+
+abbrev pub opened_leaf_view : OpenedLeaf → ShownLeaf
+opened_leaf_view o = record { path = map step_view o.steps.items; kind = kind_view o.kind; chunks = map (λ c. Some (chunk_place_view c)) o.chunks.items }
+
+-- the chunk of this metadata in a row group of so many rows
+abbrev pub shown_chunk : ℕ → ColumnMeta → ShownChunk
+shown_chunk rows m = record { rows = rows; start = chunk_start m; size = m.compressed_size; values = m.values }
+
+-- the chunks at a place of row groups
+abbrev pub shown_chunks : ℕ → List RowGroup → List (Option ShownChunk)
+shown_chunks i gs = map (λ (g : RowGroup). option_map (shown_chunk g.rows) (chunk_of i g)) gs
+
+-- a leaf whose chunks stand at a place of the row groups
+abbrev pub shown_at : List RowGroup → Leaf → ℕ → ShownLeaf
+shown_at gs l i = record { path = l.path; kind = l.kind; chunks = shown_chunks i gs }
+
+-- leaves whose chunks stand at these places
+abbrev pub shown_at_each : List RowGroup → List Leaf → List ℕ → List ShownLeaf
+shown_at_each gs [] is = []
+shown_at_each gs (l ∷ ls) [] = []
+shown_at_each gs (l ∷ ls) (i ∷ is) = shown_at gs l i ∷ shown_at_each gs ls is
+
+-- a leaf as a footer tells it
+abbrev pub shown_leaf : Footer → Leaf → ShownLeaf
+shown_leaf f l = record { path = l.path; kind = l.kind; chunks = map (λ (g : RowGroup). option_map (shown_chunk g.rows) (leaf_chunk f l g)) f.meta.groups }
+
+-- ---- footers from metadata
+
+-- the footer at a place with this metadata, if it has a schema and whole row groups
+abbrev pub footer_with : ℕ → FileMeta → Option Footer
+footer_with place m = option_and_then (with_schema place m) (file_schema m.schema)
+
+-- the same, where there is metadata
+abbrev pub footer_in : ℕ → Option FileMeta → Option Footer
+footer_in place o = option_and_then (footer_with place) o
+
+-- the cause that a footer shows
+abbrev pub footer_cause : List Leaf → Option Footer → Option FileCause
+footer_cause F o = cause_by (has_numbers F) F o
+
+-- a footer is there and shows no cause, and these are its number of rows and its leaves
+abbrev pub IsOpenedAs : Option Footer → List Leaf → ℕ → List ShownLeaf → Type 0
+IsOpenedAs o F rows ls = (f : Footer) × (o ≡ Some f) × (has_leaves f F ≡ true) × (are_uncompressed f F ≡ true) × (has_numbers F f ≡ true)
+    × (f.meta.rows ≡ rows) × (map (shown_leaf f) F ≡ ls)
+
+-- a fault of opening is the cause that the footer shows
+abbrev pub IsOpenFault : OpenFault → Option FileCause → Type 0
+IsOpenFault OpenFault.NoMemory cause = ⊤
+IsOpenFault OpenFault.Failed cause = ⊥
+IsOpenFault OpenFault.BadFooter cause = cause ≡ Some bad_footer
+IsOpenFault OpenFault.BadSchema cause = cause ≡ Some bad_schema
+IsOpenFault OpenFault.BadCodec cause = cause ≡ Some bad_codec
+IsOpenFault OpenFault.BadData cause = cause ≡ Some bad_data
+
+-- a fault of leaves at places, of which some tell whether no chunk is compressed and whether the numbers are good
+abbrev pub IsPlacesFault : OpenFault → Bool → Bool → Type 0
+IsPlacesFault OpenFault.NoMemory uncompressed numbers = ⊤
+IsPlacesFault OpenFault.Failed uncompressed numbers = ⊥
+IsPlacesFault OpenFault.BadFooter uncompressed numbers = ⊥
+IsPlacesFault OpenFault.BadSchema uncompressed numbers = ⊥
+IsPlacesFault OpenFault.BadCodec uncompressed numbers = uncompressed ≡ false
+IsPlacesFault OpenFault.BadData uncompressed numbers = (uncompressed ≡ true) × (numbers ≡ false)

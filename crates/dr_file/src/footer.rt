@@ -1,0 +1,45 @@
+//! A file's footer.
+
+ghost use Rattle.std.specs.Prelude.{◌≡◌, ◌≢◌, ◌++◌, ℕ, List, take, drop, true, false, IfOk, Err};
+ghost use Rattle.dr_formats.specs.File.{is_framed, footer_place, footer_length};
+ghost use Rattle.dr_formats.specs.Opening.{end_ranges, footer_ranges};
+ghost use Rattle.dr_outside.specs.Faults.{raised};
+ghost use Rattle.dr_chunk.specs.Telling.{Tells, AsksOnly};
+ghost use Rattle.dr_file.specs.Asking.{is_request_for};
+ghost use Rattle.dr_file.specs.Frames.{IsFooter};
+
+use crate::frame::{FooterFault, read_frame};
+use dr_outside::Link;
+use std::alloc::Global;
+
+/// The bytes of a file's footer.
+#[derive(Debug, Drop)]
+pub(crate) struct FooterBytes {
+    /// The byte offset of the first.
+    pub(crate) place: u64,
+    pub(crate) bytes: Vec<u8>,
+}
+
+/// The footer of the file at a path, as its ends say where it lies.
+///
+/// Errors: the file's ends are no ends of a file with a footer; the link failed; want of memory.
+pub(crate) fn read_footer<L: Link>(
+    alloc: Global,
+    link: &mut L,
+    path: &str,
+) -> Result<FooterBytes, FooterFault>
+    ensures footer { (bytes : List ℕ) → Tells (L.shows link.old) path.now bytes → IfOk result (λ f. IsFooter bytes f.place f.bytes.items) }
+    ensures bad { (bytes : List ℕ) → Tells (L.shows link.old) path.now bytes → result ≡ Err FooterFault.BadFooter → is_framed bytes ≡ false }
+    ensures asked { (bytes : List ℕ) → Tells (L.shows link.old) path.now bytes → AsksOnly (is_request_for path.now (end_ranges bytes ++ footer_ranges bytes)) (L.shows link.old).asked (L.shows link.new).asked }
+    ensures same { (L.shows link.new).held ≡ (L.shows link.old).held }
+    ensures cause { result ≡ Err FooterFault.Failed → (L.shows link.new).faults ≡ raised (L.shows link.old).faults }
+    ensures calm { result ≢ Err FooterFault.Failed → (L.shows link.new).faults ≡ (L.shows link.old).faults }
+{
+    let frame = read_frame(link, path)?;
+    let mut bytes = vec![in alloc; 0u8; frame.length]?;
+    link.read_at(path, frame.place, &mut bytes)?;
+    Ok(FooterBytes {
+        place: frame.place,
+        bytes,
+    })
+}

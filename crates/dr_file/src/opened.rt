@@ -1,0 +1,16 @@
+//! Opened files.
+
+ghost use Rattle.std.specs.Prelude.{◌≤◌};
+
+use crate::opened_leaf::OpenedLeaf;
+
+/// A file that was opened for some leaves of a schema: what its footer says of them.
+#[derive(Debug, Drop)]
+pub struct Opened {
+    pub(crate) path: String,
+    /// The byte offset of its footer.
+    pub(crate) footer: u64,
+    pub(crate) rows: u64,
+    pub(crate) leaves: Vec<OpenedLeaf>,
+    pub ghost few: { rows ≤ 1000000000 },
+}
