@@ -21,7 +21,7 @@ struct_goes_on : (bytes more : List ℕ) (n : ℕ) (s : Struct) → n ≤ length
 struct_goes_on bytes more n s w h =
     let f = (struct_is_read_exactly bytes (drop n bytes) s).0 h in
     let e : bytes ++ more ≡ f.0 ++ drop n (bytes ++ more) =
-        ap (λ bs. bs ++ more) f.1 ∙ (append_assoc f.0 (drop n bytes) more ∙ ap (λ bs. f.0 ++ bs) (sym (drop-append-le n bytes more w))) in
+    ap (λ bs. bs ++ more) f.1 ∙ (append_assoc f.0 (drop n bytes) more ∙ ap (λ bs. f.0 ++ bs) (sym (drop-append-le n bytes more w))) in
     (struct_is_read_exactly (bytes ++ more) (drop n (bytes ++ more)) s).1 (f.0, e, f.2)
 
 -- and so is a page header

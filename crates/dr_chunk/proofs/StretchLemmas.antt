@@ -33,5 +33,5 @@ rest_stays held path bytes old part from at n end t h m f e =
     let k : ℕ = end - (at + n) in
     let s : end - at ≡ n + k = omega arith in
     let r : take (end - at) (drop at bytes) ≡ part ++ take k (drop (at + n) bytes) =
-        ap (λ j. take j (drop at bytes)) s ∙ (take-add n k (drop at bytes) ∙ ap₂ (λ xs ys. xs ++ take k ys) (sym q) (drop-drop n at bytes)) in
+    ap (λ j. take j (drop at bytes)) s ∙ (take-add n k (drop at bytes) ∙ ap₂ (λ xs ys. xs ++ take k ys) (sym q) (drop-drop n at bytes)) in
     ap (λ xs. xs ++ take k (drop (at + n) bytes)) (drop-append-le from old part f) ∙ (append_assoc (drop from old) part (take k (drop (at + n) bytes)) ∙ ap (λ xs. drop from old ++ xs) (sym r))

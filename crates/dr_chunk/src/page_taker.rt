@@ -15,7 +15,9 @@ use std::alloc::Global;
 
 /// The numbers of page types (parquet.thrift, PageType).
 const DATA_PAGE: i64 = 0;
+
 const INDEX_PAGE: i64 = 1;
+
 const DICTIONARY_PAGE: i64 = 2;
 
 /// The number of the encoding PLAIN.

@@ -102,5 +102,5 @@ footer_is_asked path bytes place size f p s =
     let t = is_inside (range (footer_place bytes) (footer_length bytes)) in
     ap₂ (λ a b. is_request_for path (end_ranges bytes ++ footer_ranges bytes) (bytes_of (record { path = path; start = a; len = b }))) p s
     ∙ range_is_asked path (end_ranges bytes ++ footer_ranges bytes) (footer_place bytes) (footer_length bytes)
-        (list_any-append t (end_ranges bytes) (footer_ranges bytes) ∙ or_later (list_any t (end_ranges bytes)) (list_any t (footer_ranges bytes))
-        (ap (list_any t) (footer_there bytes f) ∙ or_first (t (range (footer_place bytes) (footer_length bytes))) (within_itself (footer_place bytes) (footer_length bytes))))
+    (list_any-append t (end_ranges bytes) (footer_ranges bytes) ∙ or_later (list_any t (end_ranges bytes)) (list_any t (footer_ranges bytes))
+    (ap (list_any t) (footer_there bytes f) ∙ or_first (t (range (footer_place bytes) (footer_length bytes))) (within_itself (footer_place bytes) (footer_length bytes))))

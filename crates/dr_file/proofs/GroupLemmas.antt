@@ -38,7 +38,7 @@ next_leaf gs view os new o see ps p is k n l e h v m =
     let j : k < length is = omega (arith, n) in
     let i : ℕ = get_or is k 0 in
     let tp : map see (take (k + 1) ps) ≡ map see (take k ps) ++ see p ∷ [] =
-        ap (map see) (take_more ps k p l) ∙ (map_push see (take k ps) (get_or ps k p) ∙ ap (λ q. map see (take k ps) ++ see q ∷ []) (sym h)) in
+    ap (map see) (take_more ps k p l) ∙ (map_push see (take k ps) (get_or ps k p) ∙ ap (λ q. map see (take k ps) ++ see q ∷ []) (sym h)) in
     let ti : take (k + 1) is ≡ take k is ++ i ∷ [] = take_more is k 0 j in
     let s : length (map see (take k ps)) ≡ length (take k is) = length-map (take k ps) see ∙ (length-take-le k ps (omega arith) ∙ sym (length-take-le k is (omega arith))) in
     ap (map view) e ∙ (map_push view os o ∙ (ap₂ (λ xs x. xs ++ x ∷ []) m v

@@ -67,7 +67,7 @@ shown_by_places f (l ∷ F) (i ∷ is) h =
     let e : leaf_place f l ≡ Some i = cc in
     let t : map (leaf_place f) F ≡ map (λ j. Some j) is = cc in
     let s : shown_leaf f l ≡ shown_at f.meta.groups l i =
-        ap (λ (o : Option ℕ). record { path = l.path; kind = l.kind; chunks = map (λ (g : RowGroup). option_map (shown_chunk g.rows) (option_and_then (λ j. option_map (λ (c : ColumnChunk). c.meta) (nth_chunk g.columns j)) o)) f.meta.groups }) e in
+    ap (λ (o : Option ℕ). record { path = l.path; kind = l.kind; chunks = map (λ (g : RowGroup). option_map (shown_chunk g.rows) (option_and_then (λ j. option_map (λ (c : ColumnChunk). c.meta) (nth_chunk g.columns j)) o)) f.meta.groups }) e in
     ap₂ (λ x xs. x ∷ xs) s (shown_by_places f F is t)
 
 -- ---- each place has a chunk

@@ -67,7 +67,10 @@ fn frame_of(size: u64, front: &[u8], end: &[u8]) -> Option<Frame>
 {
     let mut cut = Cut::new(end);
     let length = u64::from(cut.le32().ok()?);
-    if front == MAGIC.as_slice() && cut.rest() == MAGIC.as_slice() && length <= size - SHORTEST_FILE {
+    if front == MAGIC.as_slice()
+        && cut.rest() == MAGIC.as_slice()
+        && length <= size - SHORTEST_FILE
+    {
         Some(Frame {
             place: size - 8 - length,
             length: length as usize,

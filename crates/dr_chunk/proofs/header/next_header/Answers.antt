@@ -16,8 +16,8 @@ returns-in_err-head-clause-bad g c = λ bytes told e.
     let p = err_from_is_err_and c.from_residual-in_err-head.result c.from_residual-in_err-head.ensures.1 in
     let more = take (s.range.start + s.range.size - s.at) (drop s.at bytes) in
     let none = λ (all : nat_eq c.tries.ahead c.left-left.result ≡ true). ap (λ k. take k (drop s.at bytes))
-        (none_behind c.in_ok-look_ahead.field-0 c.tries.ahead (length (pending s)) (s.range.start + s.range.size - s.at) c.left-left.result
-        c.in_ok-look_ahead.ensures.enough (λ f. omega (arith, c.in_ok-look_ahead.ensures.short f, inv.left)) (c.in_ok-look_ahead.ensures.left ∙ inv.left) (eqb-true _ _ all)) in
+    (none_behind c.in_ok-look_ahead.field-0 c.tries.ahead (length (pending s)) (s.range.start + s.range.size - s.at) c.left-left.result
+    c.in_ok-look_ahead.ensures.enough (λ f. omega (arith, c.in_ok-look_ahead.ensures.short f, inv.left)) (c.in_ok-look_ahead.ensures.left ∙ inv.left) (eqb-true _ _ all)) in
     let b = c.in_err-head.ensures.bad (cc (p.1, p.2, e)) more none in
     let P : List ℕ → Type 0 = λ rest. IsRefused (page_header rest) in
     subst P (ap (λ ps. ps ++ more) c.pending.ensures ∙ r) b

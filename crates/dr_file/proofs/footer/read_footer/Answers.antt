@@ -22,7 +22,7 @@ returns-in_err-read_at-clause-asked g c = λ bytes told.
     let test = is_request_for path (end_ranges bytes ++ footer_ranges bytes) in
     let f = c.in_ok-frame.ensures.frame bytes told in
     asks_then test _ _ _ (asks_with_more path (end_ranges bytes) (footer_ranges bytes) _ _ (c.in_ok-frame.ensures.asked bytes told))
-        (asks_one_at_most test _ _ _ c.read_at.result c.in_err-read_at.field-0.0 (footer_is_asked path bytes _ _ f.0 f.1 (c.deref_mut.ensures.len ∙ (c.in_ok-bytes.ensures.len ∙ f.2))) c.in_err-read_at.was c.read_at.ensures.asked c.read_at.ensures.not_asked)
+    (asks_one_at_most test _ _ _ c.read_at.result c.in_err-read_at.field-0.0 (footer_is_asked path bytes _ _ f.0 f.1 (c.deref_mut.ensures.len ∙ (c.in_ok-bytes.ensures.len ∙ f.2))) c.in_err-read_at.was c.read_at.ensures.asked c.read_at.ensures.not_asked)
 
 pub returns-in_err-read_at-clause-bad : goal.returns-in_err-read_at-clause-bad
 returns-in_err-read_at-clause-bad g c = λ bytes told h.
@@ -35,7 +35,7 @@ returns-clause-asked g c = λ bytes told.
     let test = is_request_for path (end_ranges bytes ++ footer_ranges bytes) in
     let f = c.in_ok-frame.ensures.frame bytes told in
     asks_then test _ _ _ (asks_with_more path (end_ranges bytes) (footer_ranges bytes) _ _ (c.in_ok-frame.ensures.asked bytes told))
-        (asks_one test _ _ _ (footer_is_asked path bytes _ _ f.0 f.1 (c.deref_mut.ensures.len ∙ (c.in_ok-bytes.ensures.len ∙ f.2))) (c.in_ok-read_at.ensures.asked (λ h. cc)))
+    (asks_one test _ _ _ (footer_is_asked path bytes _ _ f.0 f.1 (c.deref_mut.ensures.len ∙ (c.in_ok-bytes.ensures.len ∙ f.2))) (c.in_ok-read_at.ensures.asked (λ h. cc)))
 
 pub returns-clause-footer : goal.returns-clause-footer
 returns-clause-footer g c = λ bytes told.

@@ -18,7 +18,7 @@ returns-in-None-clause-fault c = λ place.
     let F = map path_view c.args.fields.now in
     let t = tree_there (file_schema m.schema) c.in-Some.leaves (sym c.in-Some.is ∙ (c.in_ok-leaves.ensures ∙ ap (λ xs. option_map count_leaves (file_schema (map item_view xs))) c.deref.ensures.value)) in
     let w : list_all (is_whole_group c.in-Some.leaves) m.groups ≡ true =
-        ap (λ gs. list_all (is_whole_group c.in-Some.leaves) (map group_view gs)) (sym c.deref-2.ensures.value) ∙ (sym c.are_whole.ensures ∙ c.if-not-are_whole.false) in
+    ap (λ gs. list_all (is_whole_group c.in-Some.leaves) (map group_view gs)) (sym c.deref-2.ensures.value) ∙ (sym c.are_whole.ensures ∙ c.if-not-are_whole.false) in
     let n = rw c.in-None.is at c.in_ok-places.ensures.none in
     schema_cause place m t.0 c.in-Some.leaves F t.1 t.2 w (ap (λ xs. list_all (λ l. is_found (place_in_file l (file_schema (map item_view xs)))) F) (sym c.deref-3.ensures.value) ∙ n)
 
@@ -29,15 +29,15 @@ returns-in-Some-2-clause-opened c = λ place.
     let is = c.in-Some-2.places.items in
     let t = tree_there (file_schema m.schema) c.in-Some.leaves (sym c.in-Some.is ∙ (c.in_ok-leaves.ensures ∙ ap (λ xs. option_map count_leaves (file_schema (map item_view xs))) c.deref.ensures.value)) in
     let w : list_all (is_whole_group c.in-Some.leaves) m.groups ≡ true =
-        ap (λ gs. list_all (is_whole_group c.in-Some.leaves) (map group_view gs)) (sym c.deref-2.ensures.value) ∙ (sym c.are_whole.ensures ∙ c.if-not-are_whole.false) in
+    ap (λ gs. list_all (is_whole_group c.in-Some.leaves) (map group_view gs)) (sym c.deref-2.ensures.value) ∙ (sym c.are_whole.ensures ∙ c.if-not-are_whole.false) in
     let n = rw c.in-Some-2.is at c.in_ok-places.ensures.found in
     let h = ap (λ xs. map (λ l. place_in_file l (file_schema (map item_view xs))) F) (sym c.deref-3.ensures.value) ∙ n in
     let e = ap₂ (λ xs ys. shown_at_each (map group_view xs) F ys) c.deref-in-Some-2.ensures.value c.deref-in-Some-2-2.ensures.value in
     ok_both c.open_places.result (λ v. map opened_leaf_view v.items) _ (shown_at_each m.groups F is) _ (λ v. IsOpenedAs (footer_with place m) F m.rows (map opened_leaf_view v.items)) e c.open_places.ensures.shown c.open_places.ensures.good
-        (λ v s b. opened_by_places place m t.0 c.in-Some.leaves F is (map opened_leaf_view v.items) t.1 t.2 w h
-            (ap₂ (λ xs ys. are_uncompressed_at (map group_view xs) ys) (sym c.deref-in-Some-2.ensures.value) (sym c.deref-in-Some-2-2.ensures.value) ∙ b.0)
-            (ap₂ (λ xs ys. are_numbers_at (map group_view xs) m.rows ys) (sym c.deref-in-Some-2.ensures.value) (sym c.deref-in-Some-2-2.ensures.value)
-                ∙ (ap (λ r. are_numbers_at (map group_view c.deref-in-Some-2.result.now) r c.deref-in-Some-2-2.result.now) (sym c.get.ensures) ∙ b.1)) s)
+    (λ v s b. opened_by_places place m t.0 c.in-Some.leaves F is (map opened_leaf_view v.items) t.1 t.2 w h
+    (ap₂ (λ xs ys. are_uncompressed_at (map group_view xs) ys) (sym c.deref-in-Some-2.ensures.value) (sym c.deref-in-Some-2-2.ensures.value) ∙ b.0)
+    (ap₂ (λ xs ys. are_numbers_at (map group_view xs) m.rows ys) (sym c.deref-in-Some-2.ensures.value) (sym c.deref-in-Some-2-2.ensures.value)
+    ∙ (ap (λ r. are_numbers_at (map group_view c.deref-in-Some-2.result.now) r c.deref-in-Some-2-2.result.now) (sym c.get.ensures) ∙ b.1)) s)
 
 pub returns-in-Some-2-clause-fault : goal.returns-in-Some-2-clause-fault
 returns-in-Some-2-clause-fault c = λ place.
@@ -46,19 +46,19 @@ returns-in-Some-2-clause-fault c = λ place.
     let is = c.in-Some-2.places.items in
     let t = tree_there (file_schema m.schema) c.in-Some.leaves (sym c.in-Some.is ∙ (c.in_ok-leaves.ensures ∙ ap (λ xs. option_map count_leaves (file_schema (map item_view xs))) c.deref.ensures.value)) in
     let w : list_all (is_whole_group c.in-Some.leaves) m.groups ≡ true =
-        ap (λ gs. list_all (is_whole_group c.in-Some.leaves) (map group_view gs)) (sym c.deref-2.ensures.value) ∙ (sym c.are_whole.ensures ∙ c.if-not-are_whole.false) in
+    ap (λ gs. list_all (is_whole_group c.in-Some.leaves) (map group_view gs)) (sym c.deref-2.ensures.value) ∙ (sym c.are_whole.ensures ∙ c.if-not-are_whole.false) in
     let n = rw c.in-Some-2.is at c.in_ok-places.ensures.found in
     let h = ap (λ xs. map (λ l. place_in_file l (file_schema (map item_view xs))) F) (sym c.deref-3.ensures.value) ∙ n in
     let gs = map group_view c.deref-in-Some-2.result.now in
     let js = c.deref-in-Some-2-2.result.now in
     let u : are_uncompressed_at gs js ≡ are_uncompressed_at m.groups is = ap₂ (λ xs ys. are_uncompressed_at (map group_view xs) ys) c.deref-in-Some-2.ensures.value c.deref-in-Some-2-2.ensures.value in
     let v : are_numbers_at gs c.get.result js ≡ are_numbers_at m.groups m.rows is =
-        ap (λ r. are_numbers_at gs r js) c.get.ensures ∙ ap₂ (λ xs ys. are_numbers_at (map group_view xs) m.rows ys) c.deref-in-Some-2.ensures.value c.deref-in-Some-2-2.ensures.value in
+    ap (λ r. are_numbers_at gs r js) c.get.ensures ∙ ap₂ (λ xs ys. are_numbers_at (map group_view xs) m.rows ys) c.deref-in-Some-2.ensures.value c.deref-in-Some-2-2.ensures.value in
     err_by c.open_places.result (λ e. IsPlacesFault e (are_uncompressed_at gs js) (are_numbers_at gs c.get.result js)) (λ e. IsOpenFault e (footer_cause F (footer_with place m))) c.open_places.ensures.fault
-        (λ e a.
-            let P : Bool → Type 0 = λ b. IsPlacesFault e b (are_numbers_at gs c.get.result js) in
-            let Q : Bool → Type 0 = λ b. IsPlacesFault e (are_uncompressed_at m.groups is) b in
-            fault_by_places e place m t.0 c.in-Some.leaves F is t.1 t.2 w h (subst Q v (subst P u a)))
+    (λ e a.
+    let P : Bool → Type 0 = λ b. IsPlacesFault e b (are_numbers_at gs c.get.result js) in
+    let Q : Bool → Type 0 = λ b. IsPlacesFault e (are_uncompressed_at m.groups is) b in
+    fault_by_places e place m t.0 c.in-Some.leaves F is t.1 t.2 w h (subst Q v (subst P u a)))
 
 pub open_places-requires-clause-there : goal.open_places-requires-clause-there
 open_places-requires-clause-there c =
@@ -67,8 +67,8 @@ open_places-requires-clause-there c =
     let is = c.in-Some-2.places.items in
     let t = tree_there (file_schema m.schema) c.in-Some.leaves (sym c.in-Some.is ∙ (c.in_ok-leaves.ensures ∙ ap (λ xs. option_map count_leaves (file_schema (map item_view xs))) c.deref.ensures.value)) in
     let w : list_all (is_whole_group c.in-Some.leaves) m.groups ≡ true =
-        ap (λ gs. list_all (is_whole_group c.in-Some.leaves) (map group_view gs)) (sym c.deref-2.ensures.value) ∙ (sym c.are_whole.ensures ∙ c.if-not-are_whole.false) in
+    ap (λ gs. list_all (is_whole_group c.in-Some.leaves) (map group_view gs)) (sym c.deref-2.ensures.value) ∙ (sym c.are_whole.ensures ∙ c.if-not-are_whole.false) in
     let n = rw c.in-Some-2.is at c.in_ok-places.ensures.found in
     let h = ap (λ xs. map (λ l. place_in_file l (file_schema (map item_view xs))) F) (sym c.deref-3.ensures.value) ∙ n in
     ap₂ (λ xs ys. list_all (λ i. list_all (λ g. is_some (chunk_of i g)) (map group_view xs)) ys) c.deref-in-Some-2.ensures.value c.deref-in-Some-2-2.ensures.value
-        ∙ chunks_there m.groups (file_leaves (t.0).fields) c.in-Some.leaves F is t.2 w (places_there (file_schema m.schema) t.0 F is t.1 h)
+    ∙ chunks_there m.groups (file_leaves (t.0).fields) c.in-Some.leaves F is t.2 w (places_there (file_schema m.schema) t.0 F is t.1 h)
