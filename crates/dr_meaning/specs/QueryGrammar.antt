@@ -178,7 +178,7 @@ pub data SpellsQuery : List PlacedToken → QuerySyntax → Type 0 where
   a_query : (h i j : ℕ) (n : List ℕ) (ts us vs ws : List PlacedToken) (xs : List ItemSyntax) (c : Option ConditionSyntax) (ks : List PathSyntax)
       → Separated ItemSyntax SpellsItem ts xs → SpellsWhere us c → SpellsGroup vs ks → SpellsEnd ws
       → SpellsQuery (word_at h select_word ∷ (ts ++ word_at i from_word ∷ name_at j n ∷ (us ++ (vs ++ ws))))
-        (record { items = xs; table = record { place = j; name = n }; condition = c; keys = ks })
+      (record { items = xs; table = record { place = j; name = n }; condition = c; keys = ks })
 
 -- the tokens begin a query
 abbrev pub BeginsQuery : List PlacedToken → Type 0

@@ -1,7 +1,6 @@
 //! Expressions as a query's text has them, before names are looked up. Places are byte places in the text; names and
 //! texts are lent from it.
 
-
 use dr_memory::NoMemory;
 use std::alloc::Global;
 
