@@ -1,5 +1,5 @@
 -- Bodies, part by part.
-use Rattle.std.proofs.Common.{◌≡◌, ℕ, zero, suc, List, [], ◌∷◌, ◌++◌, length, map, drop, Bool, true, false, refl, sym, ap, ap₂, ◌∙◌, subst, ℤ, Option, Some, None}
+use Rattle.std.proofs.Common.{◌≡◌, ℕ, suc, List, [], ◌∷◌, ◌++◌, length, map, drop, Bool, true, false, refl, sym, ap, ap₂, ◌∙◌, subst, ℤ, Option, Some, None}
 use Rattle.std.specs.Prelude.{◌==◌, if◌then◌else◌, option_map}
 use Rattle.std.proofs.lemmas.List.{length-map}
 use Rattle.dr_meaning.specs.Schema as tree
@@ -10,7 +10,6 @@ use Rattle.dr_formats.specs.Page as page
 use Rattle.dr_formats.specs.Page.{PageShape, bad_page, found, levels, values, encoded_values, count_equal, first_if, behind_if, join_triplets, page_body, triplets_read, page_triplets}
 use Rattle.dr_levels.specs.declared.triplet.Levels.{Levels}
 use Rattle.dr_levels.specs.Dense.{present, first_of, joined}
-use Rattle.dr_bytes.specs.Numbers.{IsFault}
 use Rattle.dr_bytes.proofs.FaultLemmas.{was_fault}
 use Rattle.dr_page.specs.declared.fault.PageFault.{PageFault}
 use Rattle.dr_page.specs.Reads.{WhereNone, WhereBad, Joins}

@@ -1,5 +1,5 @@
 -- How many values are read: as many as are wanted.
-use Rattle.std.proofs.Common.{◌≡◌, ℕ, zero, suc, ◌/◌, List, [], ◌∷◌, length, map, take, drop, Bool, true, false, refl, sym, ap, ◌∙◌, ℤ, Option, Some, None}
+use Rattle.std.proofs.Common.{◌≡◌, ℕ, zero, suc, List, [], ◌∷◌, length, map, Bool, true, false, refl, sym, ap, ◌∙◌, ℤ, Option, Some, None}
 use Rattle.std.specs.Prelude.{◌||◌, nat_le, if◌then◌else◌, option_map, option_and_then, replicate}
 use Rattle.std.proofs.lemmas.List.{length-map}
 use Rattle.dr_meaning.specs.Schema as tree
@@ -7,7 +7,7 @@ use Rattle.dr_meaning.specs.Record.{Value}
 use Rattle.dr_formats.specs.Reading.{Reading, got, refused, Reader, give, goes_on, ◌>>=◌, bytes_of}
 use Rattle.dr_formats.specs.LittleEndian.{little_endian, unpacked, bytes_for}
 use Rattle.dr_formats.specs.Hybrid.{hybrid}
-use Rattle.dr_formats.specs.Plain.{PlainFault, too_short, repeatedly, plain_number, plain_text, truth_of_bit, plain_truths, plain, plain_read, plain_values, nth_value, pick, dictionary_values}
+use Rattle.dr_formats.specs.Plain.{PlainFault, too_short, repeatedly, plain_number, plain_text, truth_of_bit, plain, plain_read, plain_values, nth_value, pick, dictionary_values}
 use Rattle.dr_formats.specs.Page.{is_number, encoded_values, count_equal}
 use Rattle.dr_formats.proofs.ReadingLemmas.{not_refused, same_got}
 use Rattle.dr_formats.proofs.HybridGrammar.{runs_are_read_exactly, one_list_of_values}

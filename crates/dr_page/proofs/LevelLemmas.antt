@@ -1,5 +1,5 @@
 -- Level parts.
-use Rattle.std.proofs.Common.{◌≡◌, ℕ, zero, suc, List, Bool, true, false, refl, sym, ap, ap₂, ◌∙◌, subst, ℤ, Option, Some, None}
+use Rattle.std.proofs.Common.{◌≡◌, ℕ, zero, suc, List, Bool, true, false, refl, sym, ap, ◌∙◌, subst, ℤ, Some, None}
 use Rattle.std.specs.Prelude.{nat_le, if◌then◌else◌, option_and_then}
 use Rattle.std.specs.List.{list_all}
 use Rattle.dr_formats.specs.Reading.{Reading, got, refused, Reader, goes_on, bytes_of}

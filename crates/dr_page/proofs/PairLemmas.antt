@@ -1,7 +1,7 @@
 -- Levels side by side.
 use Rattle.std.proofs.Common.{◌≡◌, ℕ, ◌+◌, ◌<◌, List, [], ◌∷◌, ◌++◌, length, map, take, set, get_or, refl, sym, ap, ap₂, ◌∙◌, arith, suc, Bool, true, false, cond}
 use Rattle.std.specs.Prelude.{◌==◌, if◌then◌else◌, count_by}
-use Rattle.std.proofs.lemmas.List.{map_more, map_push, take_more_set, take_more}
+use Rattle.std.proofs.lemmas.List.{map_push, take_more_set, take_more}
 use Rattle.std.proofs.lemmas.List.Recursion.{is_count_by}
 use Rattle.dr_formats.specs.Page.{count_equal}
 use Rattle.dr_levels.specs.declared.triplet.Levels.{Levels}

@@ -1,10 +1,10 @@
 -- What is written: levels at most the greatest, and values that are there.
-use Rattle.std.proofs.Common.{◌≡◌, ℕ, zero, suc, ◌+◌, ◌-◌, ◌*◌, ◌/◌, ◌^◌, ◌≤◌, ◌<◌, List, [], ◌∷◌, ◌++◌, map, length, take, drop, get_or, Bool, true, false, refl, sym, ap, ap₂, ◌∙◌, subst, arith, Option, Some, None, append_assoc, true≢false, ℤ, Result, Ok, Err}
-use Rattle.std.specs.Prelude.{min, nat_le, nat_lt, ◌&&◌, ◌==◌, if◌then◌else◌}
+use Rattle.std.proofs.Common.{◌≡◌, ℕ, zero, suc, ◌+◌, ◌-◌, ◌*◌, ◌/◌, ◌^◌, ◌≤◌, ◌<◌, List, [], ◌∷◌, ◌++◌, map, length, drop, Bool, true, false, refl, sym, ap, ap₂, ◌∙◌, subst, arith, Option, Some, None, append_assoc, ℤ, Result, Ok, Err}
+use Rattle.std.specs.Prelude.{nat_le, nat_lt, ◌&&◌, ◌==◌, if◌then◌else◌}
 use Rattle.std.specs.List.{list_all, sum_by}
 use Rattle.std.proofs.Math.Nat.{pow-suc}
 use Rattle.std.proofs.lemmas.Bool.{lt-ltb, leb-true, eqb-true, and_parts, and_from}
-use Rattle.std.proofs.lemmas.List.{append-nil, length-map, length-append, length-drop, length-take-le}
+use Rattle.std.proofs.lemmas.List.{length-map, length-append, length-drop, length-take-le}
 use Rattle.std.proofs.lemmas.List.Sums.{sum_by-cons}
 use Rattle.dr_memory.specs.declared.NoMemory.{NoMemory}
 use Rattle.dr_meaning.specs.Schema.{Kind}

@@ -1,5 +1,5 @@
 -- What pages and dictionaries stand for.
-use Rattle.std.specs.Prelude.{ℕ, List, map, Bool, true, false}
+use Rattle.std.specs.Prelude.{List, map, Bool, true, false}
 use Rattle.dr_meaning.specs.Schema as tree
 use Rattle.dr_meaning.specs.Record.{Value, bool_value, int_value}
 use Rattle.dr_nested.specs.Views.{kind_view}

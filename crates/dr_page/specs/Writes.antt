@@ -1,8 +1,7 @@
 -- What comes of writing, against what the definitions say.
-use Rattle.std.specs.Prelude.{◌≡◌, ℕ, List, [], ◌∷◌, ◌++◌, map, true, Result, Ok, Err}
+use Rattle.std.specs.Prelude.{◌≡◌, ℕ, List, ◌++◌, true, Result, Ok, Err}
 use Rattle.std.specs.List.{list_all}
 use Rattle.dr_memory.specs.declared.NoMemory.{NoMemory}
-use Rattle.dr_meaning.specs.Column.{Triplet}
 use Rattle.dr_formats.specs.Page.{is_triplet}
 use Rattle.dr_levels.specs.declared.triplets.Triplets.{Triplets}
 use Rattle.dr_levels.specs.Views.{triplets_view, triplets_form}

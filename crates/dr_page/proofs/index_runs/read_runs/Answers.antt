@@ -1,4 +1,4 @@
-use Rattle.std.proofs.Common.{◌≡◌, ◌∙◌, ◌-◌, length, arith, sym}
+use Rattle.std.proofs.Common.{◌∙◌, ◌-◌, length, arith}
 use Rattle.std.proofs.lemmas.Result.{err_from_is_err_and}
 use Rattle.dr_formats.specs.Hybrid.{short}
 use Rattle.dr_bytes.proofs.FaultLemmas.{was_fault}

@@ -1,5 +1,4 @@
-use Rattle.std.proofs.Common.{arith, Fits, w32, ◌≤◌}
-use Rattle.dr_formats.specs.Page.{level_width}
+use Rattle.std.proofs.Common.{arith}
 use Rattle.dr_formats.proofs.PageLemmas.{width_small}
 use Rattle.dr_page.proofs.WidthLemmas.{digits_within_width}
 use Rattle.dr_page.proofs.level_part.level_width.Goals as goal

@@ -1,9 +1,8 @@
-use Rattle.std.proofs.Common.{◌≡◌, ◌∙◌, sym, ap, Some}
+use Rattle.std.proofs.Common.{◌∙◌, sym, ap, Some}
 use Rattle.std.proofs.lemmas.Int.{to_z-of_z}
 use mir.Syntax.{w64}
 use Rattle.dr_meaning.specs.Record.{bool_value}
 use Rattle.dr_meaning.specs.Schema as tree
-use Rattle.dr_nested.specs.Views.{kind_view}
 use Rattle.dr_page.specs.Encodings.{encoding_of}
 use Rattle.dr_page.proofs.ValueLemmas.{dictionary_reads}
 use Rattle.dr_page.proofs.value_reader.read_bools.Goals as goal

@@ -1,11 +1,11 @@
-use Rattle.std.proofs.Common.{◌≡◌, ◌∙◌, sym, ap, ap₂, subst, Some, true, map, List, [], Ok, Err, Result, ℕ}
+use Rattle.std.proofs.Common.{◌∙◌, sym, ap, subst, Some, List, [], Ok, Err, Result}
 use Rattle.std.specs.Prelude.{option_and_then}
 use Rattle.std.specs.List.{list_all}
 use Rattle.std.proofs.lemmas.Int.{to_z-of_z}
 use Rattle.std.proofs.lemmas.List.Elements.{All-nil}
 use Rattle.std.proofs.lemmas.Result.{err_from_is_err_and}
 use mir.Syntax.{w64}
-use Rattle.dr_meaning.specs.Record.{Value, text_value}
+use Rattle.dr_meaning.specs.Record.{text_value}
 use Rattle.dr_meaning.specs.Schema.{text_kind}
 use Rattle.dr_levels.specs.declared.text_place.TextPlace.{TextPlace}
 use Rattle.dr_levels.specs.Texts.{bytes_at, is_text}

@@ -1,10 +1,7 @@
-use Rattle.std.proofs.Common.{◌≡◌, ap, sym, subst, map, Some, rules, to_z, of_z}
+use Rattle.std.proofs.Common.{◌≡◌, ap, map, rules, to_z, of_z}
 use mir.Syntax.{w64}
-use Rattle.dr_meaning.specs.Schema as tree
 use Rattle.dr_meaning.specs.Record.{int_value}
 use Rattle.dr_nested.specs.Views.{kind_view}
-use Rattle.dr_formats.specs.Page.{encoded_values}
-use Rattle.dr_levels.specs.Dense.{text_values}
 use Rattle.dr_levels.specs.Views.{LeafForm, column_view}
 use Rattle.dr_page.specs.Views.{shape_view, dictionary_view}
 use Rattle.dr_page.specs.Bodies.{reader_levels}

@@ -1,10 +1,9 @@
-use Rattle.std.proofs.Common.{◌≡◌, ap, sym, subst, map, Some, rules, to_z, of_z}
+use Rattle.std.proofs.Common.{◌≡◌, ap, sym, subst, Some, rules, to_z, of_z}
 use mir.Syntax.{w64}
 use Rattle.dr_meaning.specs.Schema as tree
 use Rattle.dr_meaning.specs.Record.{text_value}
 use Rattle.dr_levels.specs.declared.text_place.TextPlace.{TextPlace}
 use Rattle.dr_levels.specs.Texts.{bytes_at}
-use Rattle.dr_nested.specs.Views.{kind_view}
 use Rattle.dr_formats.specs.Page.{encoded_values}
 use Rattle.dr_levels.specs.Dense.{text_values}
 use Rattle.dr_levels.specs.Views.{LeafForm, column_view}

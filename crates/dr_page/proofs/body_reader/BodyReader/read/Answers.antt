@@ -1,4 +1,4 @@
-use Rattle.std.proofs.Common.{◌≡◌, ap, sym, subst, ◌∙◌, List, Option}
+use Rattle.std.proofs.Common.{sym, subst, List, Option}
 use Rattle.std.specs.Prelude.{OnOk, IfErr}
 use Rattle.std.proofs.lemmas.Result.{err_from_is_err_and}
 use Rattle.dr_meaning.specs.Column.{Triplet}
@@ -6,7 +6,6 @@ use Rattle.dr_levels.specs.Views.{column_view}
 use Rattle.dr_page.specs.Views.{shape_view, dictionary_view}
 use Rattle.dr_page.specs.Reads.{Joins, WhereNone}
 use Rattle.dr_page.specs.Levels.{levels_view}
-use Rattle.dr_page.specs.Bodies.{reader_levels}
 use Rattle.dr_page.proofs.BodyLemmas.{body_is_behind, no_levels}
 use Rattle.dr_page.proofs.body_reader.BodyReader.read.Goals as goal
 

@@ -1,4 +1,4 @@
-use Rattle.std.proofs.Common.{◌≡◌, ◌∙◌, sym, ap, subst, Some, true, map, List}
+use Rattle.std.proofs.Common.{◌≡◌, ◌∙◌, sym, ap, subst, Some}
 use Rattle.dr_plain.specs.Views as dense
 use Rattle.dr_nested.specs.Views.{kind_view}
 use Rattle.dr_formats.specs.Plain.{plain_values}

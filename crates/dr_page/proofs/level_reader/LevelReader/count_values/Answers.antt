@@ -1,5 +1,4 @@
-use Rattle.std.proofs.Common.{◌≡◌, ◌∙◌, ap, sym, arith, ◌-◌}
-use Rattle.std.specs.Prelude.{replicate}
+use Rattle.std.proofs.Common.{◌∙◌, ap, sym}
 use Rattle.dr_formats.specs.Page.{count_equal}
 use Rattle.dr_page.specs.Parts.{expanded}
 use Rattle.dr_page.proofs.CountLemmas.{count_zeros}
