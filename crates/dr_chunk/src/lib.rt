@@ -2,6 +2,7 @@
 #![tactic(auto)]
 
 mod byte_range;
+mod chunk;
 mod fault;
 mod header;
 mod leaf_shape;
