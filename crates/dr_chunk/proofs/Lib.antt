@@ -6,6 +6,7 @@ pub mod StepLemmas
 pub mod LengthLemmas
 pub mod TakeLemmas
 pub mod PageStepLemmas
+pub mod ChunkLemmas
 -- what a link was asked for
 pub mod AskLemmas
 -- page headers

@@ -1,4 +1,4 @@
-//! Column chunks.
+//! Column chunks, read page by page.
 
 ghost use Rattle.std.specs.Prelude.{◌≡◌, ◌≢◌, ◌≤◌, ◌+◌, ◌∷◌, [], ℕ, List, length, take, drop, false, None, OnOk, Err};
 ghost use Rattle.dr_meaning.specs.Path.{Leaf};
@@ -55,5 +55,40 @@ fn next_page<L: Link>(
     let body = &stretch.pending()[..size];
     taker.take_page(alloc, &head, body, out)?;
     stretch.take(size);
+    Ok(())
+}
+
+/// Appends the first `wanted` triplets of a column chunk of a leaf to a column: of the file at this path, the chunk is this range of bytes. What lies behind the last page that is needed isn't read.
+///
+/// Errors: the bytes aren't a chunk of so many triplets, an unimplemented encoding included; the link failed; want of memory. After an error the column holds triplets of nobody.
+pub fn read_chunk<L: Link>(
+    alloc: Global,
+    link: &mut L,
+    path: &str,
+    range: ByteRange,
+    leaf: LeafShape,
+    wanted: u64,
+    out: &mut Column,
+) -> Result<(), ChunkFault>
+    requires { column_form out.old ≡ leaf_form leaf }
+    ensures read { (bytes : List ℕ) (l : Leaf) → IsLeafOf l leaf → Tells (L.shows link.old) path.now bytes → range.start + range.size ≤ length bytes → OnOk result (Joins (pages_triplets l wanted (take range.size (drop range.start bytes))) (column_view out.old) (column_view out.new)) }
+    ensures bad { (bytes : List ℕ) (l : Leaf) → IsLeafOf l leaf → Tells (L.shows link.old) path.now bytes → range.start + range.size ≤ length bytes → result ≡ Err ChunkFault.BadData → pages_triplets l wanted (take range.size (drop range.start bytes)) ≡ None }
+    ensures count { OnOk result (length (column_view out.new) ≡ length (column_view out.old) + wanted) }
+    ensures form { column_form out.new ≡ column_form out.old }
+    ensures same { (L.shows link.new).held ≡ (L.shows link.old).held }
+    ensures asked { AsksOnly (is_read_inside path.now (inside range ∷ [])) (L.shows link.old).asked (L.shows link.new).asked }
+    ensures cause { result ≡ Err ChunkFault.Failed → (L.shows link.new).faults ≡ raised (L.shows link.old).faults }
+    ensures calm { result ≢ Err ChunkFault.Failed → (L.shows link.new).faults ≡ (L.shows link.old).faults }
+{
+    let mut stretch = Stretch::new(alloc, path, range);
+    let mut taker = PageTaker::new(alloc, leaf, wanted);
+    let mut pages = range.size;
+    'pages: while taker.wanted() > 0 {
+        if pages == 0 {
+            return Err(ChunkFault::BadData);
+        }
+        pages -= 1;
+        next_page(alloc, link, &mut stretch, &mut taker, out)?;
+    }
     Ok(())
 }
