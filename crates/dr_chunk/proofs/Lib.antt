@@ -5,6 +5,8 @@ pub mod StepLemmas
 -- how many triplets a page has, and what taking it does
 pub mod LengthLemmas
 pub mod TakeLemmas
+pub mod PageStepLemmas
+pub mod ChunkLemmas
 -- what a link was asked for
 pub mod AskLemmas
 -- page headers

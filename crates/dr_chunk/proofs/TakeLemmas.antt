@@ -1,15 +1,16 @@
 -- What taking a data page does.
-use Rattle.std.proofs.Common.{◌≡◌, ℕ, ◌+◌, ◌≤◌, List, [], length, Bool, true, false, refl, sym, ap, subst, ◌∙◌}
+use Rattle.std.proofs.Common.{◌≡◌, ℕ, ◌+◌, ◌≤◌, List, ◌++◌, [], length, Bool, true, false, refl, sym, ap, subst, ◌∙◌}
 use Rattle.std.specs.Prelude.{Option, Some, None, nat_le, if◌then◌else◌}
 use Rattle.std.proofs.lemmas.Bool.{le-leb}
+use Rattle.std.proofs.lemmas.List.{length-append}
 use Rattle.dr_meaning.specs.Schema.{Kind}
 use Rattle.dr_meaning.specs.Record.{Value}
 use Rattle.dr_meaning.specs.Path.{Leaf, max_repetition, max_definition}
 use Rattle.dr_meaning.specs.Column.{Triplet}
-use Rattle.dr_formats.specs.Reading.{Reading, got, refused, Reader, give, goes_on, ◌>>=◌}
+use Rattle.dr_formats.specs.Reading.{refused, give, goes_on, ◌>>=◌}
 use Rattle.dr_formats.specs.Metadata.{DataPageHeader}
 use Rattle.dr_formats.specs.Page.{PageShape, bad_page, found, page_triplets}
-use Rattle.dr_formats.specs.Chunk.{PageTaken, taken, shape_of_page, data_page}
+use Rattle.dr_formats.specs.Chunk.{taken, shape_of_page, data_page}
 use Rattle.dr_page.specs.Reads.{Joins}
 use Rattle.dr_chunk.specs.Shapes.{shape_with}
 use Rattle.dr_chunk.specs.Takers.{Takes}
@@ -35,4 +36,12 @@ data_taken l h k r m d body before after w left a b c v e j =
     let s : shape_of_page l h ≡ shape_with h k r m = shape_same l h k r m a b c in
     let P : PageShape → Type 0 = λ x. Joins (page_triplets x d body) before after in
     within (nat_le h.values w) (page_triplets (shape_of_page l h) d body) d before after w left (le-leb h.values w v)
-    (taken_at (page_triplets (shape_of_page l h) d body) d before after w left h.values (subst P (sym s) j) (λ ts f. page_count (shape_of_page l h) d body ts f) e)
+        (taken_at (page_triplets (shape_of_page l h) d body) d before after w left h.values (subst P (sym s) j) (λ ts f. page_count (shape_of_page l h) d body ts f) e)
+
+joined_count : (o : Option (List Triplet)) (before after : List Triplet) (n : ℕ) → Joins o before after → ((ts : List Triplet) → o ≡ Some ts → length ts ≡ n) → length after ≡ length before + n
+joined_count None before after n j c = elim j [ ]
+joined_count (Some ts) before after n j c = ap length j ∙ (length-append before ts ∙ ap (λ m. length before + m) (c ts refl))
+
+-- a page's triplets are as many as its header says
+pub page_joined : (s : PageShape) (d : List Value) (body : List ℕ) (before after : List Triplet) → Joins (page_triplets s d body) before after → length after ≡ length before + s.triplets
+page_joined s d body before after j = joined_count (page_triplets s d body) before after s.triplets j (λ ts f. page_count s d body ts f)

@@ -12,3 +12,5 @@ pub mod Faults
 pub mod Takers
 -- shapes of data pages
 pub mod Shapes
+-- a chunk's pages, taken
+pub mod Pages

@@ -2,6 +2,7 @@
 #![tactic(auto)]
 
 mod byte_range;
+mod chunk;
 mod fault;
 mod header;
 mod leaf_shape;
@@ -9,5 +10,6 @@ mod page_taker;
 mod stretch;
 
 pub use byte_range::ByteRange;
+pub use chunk::read_chunk;
 pub use fault::ChunkFault;
 pub use leaf_shape::LeafShape;

@@ -1,6 +1,6 @@
 //! Taking the pages of a chunk, one after another.
 
-ghost use Rattle.std.specs.Prelude.{◌≡◌, true};
+ghost use Rattle.std.specs.Prelude.{◌≡◌, ◌≢◌, true};
 ghost use Rattle.dr_nested.specs.Views.{kind_view};
 ghost use Rattle.dr_page.specs.Views.{is_dictionary_of, shape_view};
 ghost use Rattle.dr_meta.specs.Views.{data_page_view};
@@ -54,7 +54,7 @@ pub(crate) struct PageTaker {
 }
 
 impl PageTaker {
-    ghost use Rattle.std.specs.Prelude.{[], false, OnOk, OnErr, IfErr, option_map};
+    ghost use Rattle.std.specs.Prelude.{◌+◌, [], false, length, OnOk, IfErr, option_map};
     ghost use Rattle.dr_meaning.specs.Path.{Leaf};
     ghost use Rattle.dr_formats.specs.Chunk.{data_page, dictionary_page, page_taken};
     ghost use Rattle.dr_levels.specs.Views.{column_view, column_form};
@@ -97,9 +97,11 @@ impl PageTaker {
         requires { column_form out.old ≡ leaf_form (leaf_of self.old) }
         ensures taken { (l : Leaf) → IsLeafOf l (leaf_of self.old) → OnOk result (Takes (page_taken l (wanted_of self.old) (is_first_of self.old) (dictionary_of self.old) (page_view head.now) body.now []) (column_view out.old) (column_view out.new) (wanted_of self.old) (wanted_of self.new) (dictionary_of self.new)) }
         ensures bad { (l : Leaf) → IsLeafOf l (leaf_of self.old) → IfErr result (λ e. IsChunkFault e (page_taken l (wanted_of self.old) (is_first_of self.old) (dictionary_of self.old) (page_view head.now) body.now [])) }
+        ensures count { OnOk result (length (column_view out.new) + wanted_of self.new ≡ length (column_view out.old) + wanted_of self.old) }
         ensures first { OnOk result (is_first_of self.new ≡ false) }
         ensures leaf { leaf_of self.new ≡ leaf_of self.old }
         ensures form { column_form out.new ≡ column_form out.old }
+        ensures calm { result ≢ Err ChunkFault.Failed }
     {
         match head.kind {
             DATA_PAGE => self.take_data(head.data_page, body, out)?,
@@ -123,9 +125,11 @@ impl PageTaker {
         requires { column_form out.old ≡ leaf_form (leaf_of self.old) }
         ensures taken { (l : Leaf) → IsLeafOf l (leaf_of self.old) → OnOk result (Takes (data_page l (wanted_of self.old) (dictionary_of self.old) body.now (option_map data_page_view page) []) (column_view out.old) (column_view out.new) (wanted_of self.old) (wanted_of self.new) (dictionary_of self.new)) }
         ensures bad { (l : Leaf) → IsLeafOf l (leaf_of self.old) → IfErr result (λ e. IsChunkFault e (data_page l (wanted_of self.old) (dictionary_of self.old) body.now (option_map data_page_view page) [])) }
+        ensures count { OnOk result (length (column_view out.new) + wanted_of self.new ≡ length (column_view out.old) + wanted_of self.old) }
         ensures leaf { leaf_of self.new ≡ leaf_of self.old }
         ensures first { is_first_of self.new ≡ is_first_of self.old }
         ensures form { column_form out.new ≡ column_form out.old }
+        ensures calm { result ≢ Err ChunkFault.Failed }
     {
         let Some(page) = page else {
             return Err(ChunkFault::BadData);
@@ -151,8 +155,10 @@ impl PageTaker {
     ) -> Result<(), ChunkFault>
         ensures taken { (l : Leaf) → IsLeafOf l (leaf_of self.old) → OnOk result (Takes (dictionary_page l (is_first_of self.old) body.now (option_map dictionary_page_view page) []) [] [] (wanted_of self.old) (wanted_of self.new) (dictionary_of self.new)) }
         ensures bad { (l : Leaf) → IsLeafOf l (leaf_of self.old) → IfErr result (λ e. IsChunkFault e (dictionary_page l (is_first_of self.old) body.now (option_map dictionary_page_view page) [])) }
+        ensures wanted { OnOk result (wanted_of self.new ≡ wanted_of self.old) }
         ensures leaf { leaf_of self.new ≡ leaf_of self.old }
         ensures first { is_first_of self.new ≡ is_first_of self.old }
+        ensures calm { result ≢ Err ChunkFault.Failed }
     {
         let Some(page) = page else {
             return Err(ChunkFault::BadData);
