@@ -1,9 +1,9 @@
 -- A page header is read alike, whatever follows it.
 use Rattle.std.proofs.Common.{◌≡◌, ℕ, ◌+◌, ◌≤◌, ◌<◌, List, ◌++◌, length, drop, Bool, true, false, refl, sym, ap, subst, ◌∙◌, arith, append_assoc}
-use Rattle.std.specs.Prelude.{Option, Result, Ok, Err, MatchOption, ⊤}
+use Rattle.std.specs.Prelude.{Option, Ok, Err, MatchOption, ⊤}
 use Rattle.std.proofs.lemmas.List.{drop-append-le}
-use Rattle.dr_formats.specs.Reading.{Reading, got, refused}
-use Rattle.dr_formats.specs.Compact.{CompactFault, Struct, read_struct}
+use Rattle.dr_formats.specs.Reading.{got, refused}
+use Rattle.dr_formats.specs.Compact.{Struct, read_struct}
 use Rattle.dr_formats.specs.Metadata as metadata
 use Rattle.dr_formats.specs.Metadata.{PageHeader, view_page}
 use Rattle.dr_formats.specs.Page.{bad_page}

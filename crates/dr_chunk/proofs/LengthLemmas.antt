@@ -5,10 +5,10 @@ use Rattle.std.specs.List.{list_all}
 use Rattle.std.proofs.lemmas.List.{length-replicate}
 use Rattle.dr_meaning.specs.Record.{Value}
 use Rattle.dr_meaning.specs.Column.{Triplet}
-use Rattle.dr_formats.specs.Reading.{Reading, got, refused, Reader, give, goes_on, ◌>>=◌, bytes_of}
+use Rattle.dr_formats.specs.Reading.{Reading, got, refused, give, goes_on, ◌>>=◌, bytes_of}
 use Rattle.dr_formats.specs.LittleEndian.{little_endian}
 use Rattle.dr_formats.specs.Hybrid.{hybrid}
-use Rattle.dr_formats.specs.Page.{PageShape, PageFault, bad_page, found, is_number, rle_encoding, level_width, none_above, level_part, levels, values, count_equal, join_triplets, page_body, triplets_read, page_triplets}
+use Rattle.dr_formats.specs.Page.{PageShape, PageFault, bad_page, found, is_number, rle_encoding, level_width, none_above, level_part, levels, values, count_equal, join_triplets, triplets_read, page_triplets}
 use Rattle.dr_formats.proofs.ReadingLemmas.{not_refused, same_got}
 use Rattle.dr_formats.proofs.HybridGrammar.{runs_are_read_exactly, one_list_of_values}
 

@@ -40,7 +40,7 @@ dictionary_moves : (l : Leaf) (first : Bool) (body : List ℕ) (o : Option Dicti
 dictionary_moves l first body None rest = refl
 dictionary_moves l first body (Some h) rest =
     if_moves (first && (is_number plain_encoding h.encoding || is_number plain_dictionary_encoding h.encoding)) (found (plain_values l.kind h.values body) >>= (λ vs. give (taken [] vs))) rest
-        (found_moves (plain_values l.kind h.values body) (λ vs. taken [] vs) rest)
+    (found_moves (plain_values l.kind h.values body) (λ vs. taken [] vs) rest)
 
 kinds_move : (a b c : Bool) (p q r : Reader PageFault PageTaken) (rest : List ℕ) → p rest ≡ moved rest (p []) → q rest ≡ moved rest (q []) → r rest ≡ moved rest (r [])
     → (if a then p else (if b then q else (if c then r else refused bad_page))) rest ≡ moved rest ((if a then p else (if b then q else (if c then r else refused bad_page))) [])
@@ -52,7 +52,7 @@ kinds_move false false false p q r rest e f g = refl
 page_moves : (l : Leaf) (w : ℕ) (first : Bool) (d : List Value) (h : PageHeader) (body rest : List ℕ) → page_taken l w first d h body rest ≡ moved rest (page_taken l w first d h body [])
 page_moves l w first d h body rest =
     kinds_move (is_number 0 h.type) (is_number 1 h.type) (is_number 2 h.type) (data_page l w d body h.data_page) (give (taken [] d)) (dictionary_page l first body h.dictionary_page) rest
-        (data_moves l w d body h.data_page rest) refl (dictionary_moves l first body h.dictionary_page rest)
+    (data_moves l w d body h.data_page rest) refl (dictionary_moves l first body h.dictionary_page rest)
 
 -- ---- a page by its parts
 

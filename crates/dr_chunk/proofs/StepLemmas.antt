@@ -1,13 +1,13 @@
 -- A chunk's pages are its next page and those behind it.
-use Rattle.std.proofs.Common.{◌≡◌, ℕ, zero, suc, ◌+◌, ◌-◌, List, [], ◌∷◌, ◌++◌, length, Bool, true, false, refl, sym, ap, ◌∙◌, append_assoc}
-use Rattle.std.specs.Prelude.{Option, Some, None}
+use Rattle.std.proofs.Common.{◌≡◌, ℕ, suc, ◌-◌, List, ◌++◌, length, Bool, false, refl, sym, ap, ◌∙◌, append_assoc}
+use Rattle.std.specs.Prelude.{None}
 use Rattle.dr_meaning.specs.Record.{Value}
 use Rattle.dr_meaning.specs.Path.{Leaf}
 use Rattle.dr_meaning.specs.Column.{Triplet}
 use Rattle.dr_formats.specs.Reading.{Reading, got, refused, Reader, give, goes_on, ◌>>=◌, bytes_of}
 use Rattle.dr_formats.specs.Metadata.{PageHeader}
 use Rattle.dr_formats.specs.Page.{PageFault, bad_page, triplets_read}
-use Rattle.dr_formats.specs.Chunk.{PageTaken, page_header, page_taken, pages, pages_triplets}
+use Rattle.dr_formats.specs.Chunk.{PageTaken, page_header, page_taken, pages}
 use Rattle.dr_chunk.specs.Headers.{IsRefused}
 use Rattle.dr_chunk.specs.Steps.{page_step, behind}
 

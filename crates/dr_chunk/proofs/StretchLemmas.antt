@@ -1,11 +1,11 @@
 -- What is read behind what is read ahead.
 use Rattle.std.proofs.Common.{◌≡◌, ℕ, ◌+◌, ◌-◌, ◌≤◌, List, ◌++◌, length, take, drop, replicate, sym, ap, ap₂, subst, ◌∙◌, arith, append_assoc}
-use Rattle.std.specs.Prelude.{Option, Some, None, Result, Ok, Err, is_ok, is_err, true, false, if◌then◌else◌}
+use Rattle.std.specs.Prelude.{Option, Some, None, Result, Ok, Err, is_ok, is_err, false, if◌then◌else◌}
 use Rattle.std.proofs.lemmas.Bool.{false≢true}
 use Rattle.std.proofs.lemmas.List.{take_all, take_at, drop-drop, drop-append-le, length-append}
 use Rattle.std.proofs.Math.Seq.{take-add}
-use Rattle.dr_outside.specs.Link.{Files, LinkShown, HasBytes, IsPartAt}
-use Rattle.dr_chunk.specs.Telling.{Tells, TellsFile}
+use Rattle.dr_outside.specs.Link.{Files, HasBytes, IsPartAt}
+use Rattle.dr_chunk.specs.Telling.{TellsFile}
 
 -- what was put into the room behind the others
 pub put_behind : {A : Type 0} (old D R F P Q : List A) (z : A) (l k m start count : ℕ) → D ≡ R → R ≡ take m old ++ replicate k z → length old ≤ m → start ≡ length old → l ≡ start + count → length F ≡ count → take l ((take start D ++ (F ++ P)) ++ Q) ≡ old ++ F

@@ -1,5 +1,5 @@
 -- What taking a data page does.
-use Rattle.std.proofs.Common.{◌≡◌, ℕ, ◌+◌, ◌≤◌, List, ◌++◌, [], length, Bool, true, false, refl, sym, ap, subst, ◌∙◌}
+use Rattle.std.proofs.Common.{◌≡◌, ℕ, ◌+◌, ◌≤◌, List, [], length, Bool, true, false, refl, sym, ap, subst, ◌∙◌}
 use Rattle.std.specs.Prelude.{Option, Some, None, nat_le, if◌then◌else◌}
 use Rattle.std.proofs.lemmas.Bool.{le-leb}
 use Rattle.std.proofs.lemmas.List.{length-append}
@@ -36,7 +36,7 @@ data_taken l h k r m d body before after w left a b c v e j =
     let s : shape_of_page l h ≡ shape_with h k r m = shape_same l h k r m a b c in
     let P : PageShape → Type 0 = λ x. Joins (page_triplets x d body) before after in
     within (nat_le h.values w) (page_triplets (shape_of_page l h) d body) d before after w left (le-leb h.values w v)
-        (taken_at (page_triplets (shape_of_page l h) d body) d before after w left h.values (subst P (sym s) j) (λ ts f. page_count (shape_of_page l h) d body ts f) e)
+    (taken_at (page_triplets (shape_of_page l h) d body) d before after w left h.values (subst P (sym s) j) (λ ts f. page_count (shape_of_page l h) d body ts f) e)
 
 joined_count : (o : Option (List Triplet)) (before after : List Triplet) (n : ℕ) → Joins o before after → ((ts : List Triplet) → o ≡ Some ts → length ts ≡ n) → length after ≡ length before + n
 joined_count None before after n j c = elim j [ ]

@@ -2,7 +2,7 @@
 use Rattle.std.specs.Prelude.{◌≡◌, ℕ, List}
 use Rattle.dr_meaning.specs.Record.{Value}
 use Rattle.dr_meaning.specs.Column.{Triplet}
-use Rattle.dr_formats.specs.Reading.{Reading, got, refused, Reader}
+use Rattle.dr_formats.specs.Reading.{Reading, got, refused}
 use Rattle.dr_formats.specs.Page.{PageFault}
 use Rattle.dr_formats.specs.Chunk.{PageTaken}
 use Rattle.dr_chunk.specs.Takers.{Takes}

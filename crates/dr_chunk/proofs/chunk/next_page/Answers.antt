@@ -1,13 +1,12 @@
-use Rattle.std.proofs.Common.{◌≡◌, ◌≤◌, ◌+◌, ◌-◌, ◌∙◌, ℕ, List, length, take, drop, refl, sym, ap, subst, arith}
+use Rattle.std.proofs.Common.{◌≡◌, ◌≤◌, length, take, ap}
 use Rattle.std.proofs.lemmas.Result.{err_from_is_err_and}
 use Rattle.dr_formats.specs.Reading.{got}
 use Rattle.dr_formats.specs.Chunk.{page_header}
 use Rattle.dr_meta.specs.Views.{page_view}
-use Rattle.dr_chunk.specs.declared.fault.ChunkFault.{ChunkFault}
 use Rattle.dr_chunk.specs.Stretches.{rest_in, pending}
 use Rattle.dr_chunk.proofs.AskLemmas.{asks_again}
 use Rattle.dr_chunk.proofs.HeaderLemmas.{tells_same}
-use Rattle.dr_chunk.proofs.PageStepLemmas.{no_header_no_page, no_body_no_page, bad_page_ahead, page_ahead_done, rest_within}
+use Rattle.dr_chunk.proofs.PageStepLemmas.{no_header_no_page, bad_page_ahead, page_ahead_done}
 use Rattle.dr_chunk.proofs.chunk.next_page.Goals as goal
 
 pub returns-in_err-head-clause-bad : goal.returns-in_err-head-clause-bad
@@ -38,7 +37,7 @@ returns-in_err-take_page-clause-bad g c = λ bytes l leaf told e.
     let w : c.get-size.result ≤ length (pending s) = c.in_ok-look_ahead.ensures.enough (cc c.if-not-branch.false) in
     let p = err_from_is_err_and c.from_residual-in_err-take_page.result c.from_residual-in_err-take_page.ensures.1 in
     bad_page_ahead c.in_err-take_page.field-0.0 l _ _ _ (rest_in bytes c.args.stretch.now) rest (pending s) _ _ c.get-size.result (page_view head) (cc (p.1, p.2, e)) k same c.get-size.ensures w
-        (ap (take c.get-size.result) c.pending.ensures) (c.in_err-take_page.ensures.bad l leaf)
+    (ap (take c.get-size.result) c.pending.ensures) (c.in_err-take_page.ensures.bad l leaf)
 
 pub returns-clause-taken : goal.returns-clause-taken
 returns-clause-taken g c = λ bytes l leaf told.
@@ -50,4 +49,4 @@ returns-clause-taken g c = λ bytes l leaf told.
     let same : rest_in bytes s ≡ rest = c.in_ok-look_ahead.ensures.rest bytes told′ in
     let w : c.get-size.result ≤ length (pending s) = c.in_ok-look_ahead.ensures.enough (cc c.if-not-branch.false) in
     page_ahead_done l _ _ _ (rest_in bytes c.args.stretch.now) rest (pending s) _ _ _ c.get-size.result (page_view head) _ _ _ _ k same c.get-size.ensures w (ap (take c.get-size.result) c.pending.ensures)
-        (c.take.ensures.rest bytes) (c.in_ok-take_page.ensures.taken l leaf)
+    (c.take.ensures.rest bytes) (c.in_ok-take_page.ensures.taken l leaf)

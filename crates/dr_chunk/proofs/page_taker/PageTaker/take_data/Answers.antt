@@ -14,12 +14,12 @@ returns-clause-taken c = λ l is.
     let t = c.args.self.now in
     let P : PageShape → Type 0 = λ s. Joins (page_triplets s (dictionary_view t.dictionary) c.args.body.now) (column_view c.args.out.now) (column_view c.read.new.out) in
     rw c.in-Some.is (data_taken l (data_page_view c.in-Some.page) (kind_view t.leaf.kind) t.leaf.max_repetition t.leaf.max_definition (dictionary_view t.dictionary) c.args.body.now
-        (column_view c.args.out.now) (column_view c.read.new.out) t.wanted _ is.0 is.1 is.2 (omega arith) (omega arith) (subst P c.shape_of-shape.ensures.shape c.in_ok-read.ensures.read))
+    (column_view c.args.out.now) (column_view c.read.new.out) t.wanted _ is.0 is.1 is.2 (omega arith) (omega arith) (subst P c.shape_of-shape.ensures.shape c.in_ok-read.ensures.read))
 
 pub returns-clause-count : goal.returns-clause-count
 returns-clause-count c =
     let t = c.args.self.now in
     let P : PageShape → Type 0 = λ s. Joins (page_triplets s (dictionary_view t.dictionary) c.args.body.now) (column_view c.args.out.now) (column_view c.read.new.out) in
     let n = page_joined (shape_with (data_page_view c.in-Some.page) (kind_view t.leaf.kind) t.leaf.max_repetition t.leaf.max_definition) (dictionary_view t.dictionary) c.args.body.now (column_view c.args.out.now) (column_view c.read.new.out)
-        (subst P c.shape_of-shape.ensures.shape c.in_ok-read.ensures.read) in
+    (subst P c.shape_of-shape.ensures.shape c.in_ok-read.ensures.read) in
     omega (arith, n)
