@@ -1,4 +1,4 @@
-//! Files of Apache Parquet: opened for some leaves of a schema, and read column by column.
+//! Files of Apache Parquet, opened for some leaves of a schema by their footers.
 #![tactic(auto)]
 
 mod chunk_place;
@@ -12,6 +12,8 @@ mod opened_leaf;
 mod opening;
 mod places;
 mod start;
+#[cfg(test)]
+mod tests;
 
 pub use file_fault::FileFault;
 pub use opened::Opened;
