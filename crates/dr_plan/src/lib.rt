@@ -2,6 +2,7 @@
 #![tactic(auto)]
 
 mod aggregate;
+mod building;
 mod expression;
 pub mod laws;
 mod objects;
