@@ -110,7 +110,12 @@ impl Truth {
     /// A comparison of two truth values: false before true.
     ///
     /// Errors: want of memory alone.
-    pub fn comparison(alloc: Global, operator: Comparison, left: Truth, right: Truth) -> Result<Truth, NoMemory>
+    pub fn comparison(
+        alloc: Global,
+        operator: Comparison,
+        left: Truth,
+        right: Truth,
+    ) -> Result<Truth, NoMemory>
         ensures view { IfOk result (λ e. (ls : List Leaf) → truth_view ls e ≡ meant.comparison (comparison_view operator) (truth_view ls left) (truth_view ls right)) }
         ensures fits { IfOk result (λ e. (ls : List Leaf) → truth_fits ls e ≡ (truth_fits ls left && truth_fits ls right)) }
     {
