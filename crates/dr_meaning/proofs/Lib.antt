@@ -23,6 +23,10 @@ pub mod WorkedStripe
 -- lemmas of the laws of schema text
 -- lemmas of the laws of query syntax
 pub mod SyntaxReading
+pub mod SyntaxSound
+pub mod SyntaxComplete
+pub mod SyntaxSpelled
+pub mod SyntaxAccepted
 pub mod SchemaMachine
 pub mod SchemaAccepted
 pub mod SchemaGoesOn

@@ -224,3 +224,38 @@ name_next n u v h = let r = meaning_read name_in n u v h in (r.place, r.tokens �
 
 pub text_next : (x : List ℕ) (u v : Unread) → quoted_text u ≡ got x v → (i : ℕ) × (u.tokens ≡ text_at i x ∷ v.tokens)
 text_next x u v h = let r = meaning_read text_in x u v h in (r.place, r.tokens ∙ ap (λ (t : QueryToken). placed r.place t ∷ v.tokens) (text_is_by x r.token r.means))
+
+-- ---- tokens that are read for what they stand for
+
+any_left : (i : ℕ) (u v : Unread) → any_token u ≡ got i v → LeftBehind i u v
+any_left i u v h = let p = got_parts (place_of u) i (behind_token u) v h in (p.0, ap (λ (w : Unread). w.tokens) p.1)
+
+operator_left : (i : ℕ) (u v : Unread) → operator u ≡ got i v → LeftBehind i u v
+operator_left i u v h = by_count (nat_lt u.operators most_operators) h
+  where
+    by_count : (b : Bool) → either b counted (problem_here too_many) u ≡ got i v → LeftBehind i u v
+    by_count true g = let p = got_parts (place_of u) i (behind_operator u) v g in (p.0, ap (λ (w : Unread). w.tokens) p.1)
+    by_count false g = absurd (cc g)
+
+means_by : {A : Type 0} (f : QueryToken → Option A) (a : A) (i : ℕ) (u v : Unread) → NextMeaning A f a u → LeftBehind i u v
+    → (t : QueryToken) × (u.tokens ≡ placed i t ∷ v.tokens) × (f t ≡ Some a)
+means_by f a i u v n h =
+    let place : n.first.place ≡ i = sym (ap (first_place u.size) n.tokens) ∙ h.0 in
+    let rest : n.rest ≡ v.tokens = sym (ap without_first n.tokens) ∙ h.1 in
+    (n.first.token, n.tokens ∙ ap₂ (λ (p : ℕ) (ts : List PlacedToken). placed p n.first.token ∷ ts) place rest, n.means)
+
+pub any_means : {A : Type 0} (f : QueryToken → Option A) (a : A) (i : ℕ) (u v : Unread) → NextMeaning A f a u → any_token u ≡ got i v
+    → (t : QueryToken) × (u.tokens ≡ placed i t ∷ v.tokens) × (f t ≡ Some a)
+any_means f a i u v n h = means_by f a i u v n (any_left i u v h)
+
+pub operator_means : {A : Type 0} (f : QueryToken → Option A) (a : A) (i : ℕ) (u v : Unread) → NextMeaning A f a u → operator u ≡ got i v
+    → (t : QueryToken) × (u.tokens ≡ placed i t ∷ v.tokens) × (f t ≡ Some a)
+operator_means f a i u v n h = means_by f a i u v n (operator_left i u v h)
+
+first_by : (t : QueryToken) (i : ℕ) (ts : List PlacedToken) (size count : ℕ) (v : Unread) → first_token ts ≡ Some t → LeftBehind i (record { tokens = ts; size = size; operators = count }) v
+    → ts ≡ placed i t ∷ v.tokens
+first_by t i [] size count v f h = absurd (cc f)
+first_by t i (s ∷ ts) size count v f h = let e : s.token ≡ t = cc in ap₂ (λ (p : ℕ) (x : QueryToken). placed p x ∷ ts) h.0 e ∙ ap (λ (xs : List PlacedToken). placed i t ∷ xs) h.1
+
+pub first_read : (t : QueryToken) (i : ℕ) (u v : Unread) → first_token u.tokens ≡ Some t → any_token u ≡ got i v → u.tokens ≡ placed i t ∷ v.tokens
+first_read t i u v f h = first_by t i u.tokens u.size u.operators v f (any_left i u v h)

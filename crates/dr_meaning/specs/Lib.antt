@@ -34,6 +34,7 @@ pub mod Fsm
 -- laws, each proved on a law function of src/
 pub mod SchemaTextLaws
 pub mod TokenLaws
+pub mod SyntaxLaws
 pub mod SchemaFaultLaws
 pub mod PathLaws
 pub mod ProjectionLaws

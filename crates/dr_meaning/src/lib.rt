@@ -9,5 +9,6 @@ pub mod meaning_laws;
 pub mod path_laws;
 pub mod projection_laws;
 pub mod schema_laws;
+pub mod syntax_laws;
 pub mod token_laws;
 pub mod walk_laws;

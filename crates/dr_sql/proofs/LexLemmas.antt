@@ -93,7 +93,7 @@ two_quotes_more bs n h q r =
     let rest : drop (n + 1) bs ≡ 39 ∷ drop (n + 2) bs = quote_split bs (n + 1) r ∙ ap (λ k. 39 ∷ drop k bs) next in
     let both : drop n bs ≡ 39 ∷ 39 ∷ drop (n + 2) bs = quote_split bs n q ∙ ap (λ xs. 39 ∷ xs) rest in
     let split : bs ≡ doubled (w ++ 39 ∷ []) ++ drop (n + 2) bs =
-        h.2 ∙ (ap (λ xs. doubled w ++ xs) both ∙ (sym (append_assoc (doubled w) (39 ∷ 39 ∷ []) (drop (n + 2) bs)) ∙ ap (λ xs. xs ++ drop (n + 2) bs) (sym more))) in
+    h.2 ∙ (ap (λ xs. doubled w ++ xs) both ∙ (sym (append_assoc (doubled w) (39 ∷ 39 ∷ []) (drop (n + 2) bs)) ∙ ap (λ xs. xs ++ drop (n + 2) bs) (sym more))) in
     (w ++ 39 ∷ [], size, split)
 
 pub text_ends : (bs : List ℕ) (n : ℕ) → WritesText bs n → quote_first (drop n bs) ≡ true → quote_first (drop (n + 1) bs) ≡ false → EndsText bs n

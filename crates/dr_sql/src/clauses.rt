@@ -66,10 +66,7 @@ fn keys<'a>(alloc: Global, cursor: &mut Cursor<'_, 'a>) -> Result<Vec<Path<'a>>,
 }
 
 /// [GROUP BY path {"," path}]
-fn grouping<'a>(
-    alloc: Global,
-    cursor: &mut Cursor<'_, 'a>,
-) -> Result<Vec<Path<'a>>, QueryFault>
+fn grouping<'a>(alloc: Global, cursor: &mut Cursor<'_, 'a>) -> Result<Vec<Path<'a>>, QueryFault>
     ensures { Reads keys_view (parse.group_part (unread cursor.old)) (unread cursor.new) result }
 {
     if !cursor.next_is_word(Word::Group) {

@@ -55,20 +55,14 @@ pub fn whole_expression<'a>(
 }
 
 /// expr in the parenthesis of an aggregate, which is a nesting
-fn argument<'a>(
-    alloc: Global,
-    cursor: &mut Cursor<'_, 'a>,
-) -> Result<Expression<'a>, QueryFault>
+fn argument<'a>(alloc: Global, cursor: &mut Cursor<'_, 'a>) -> Result<Expression<'a>, QueryFault>
     ensures { Reads expression_view (parse.argument (unread cursor.old)) (unread cursor.new) result }
 {
     expression(alloc, cursor, GREATEST_NESTING - 1)
 }
 
 /// [WITHIN (RECORD | path)]
-fn within<'a>(
-    alloc: Global,
-    cursor: &mut Cursor<'_, 'a>,
-) -> Result<Option<Within<'a>>, QueryFault>
+fn within<'a>(alloc: Global, cursor: &mut Cursor<'_, 'a>) -> Result<Option<Within<'a>>, QueryFault>
     ensures { Reads maybe_within (parse.within_part (unread cursor.old)) (unread cursor.new) result }
 {
     if !cursor.next_is_word(Word::Within) {
@@ -86,10 +80,7 @@ fn within<'a>(
 }
 
 /// "*" ")", behind COUNT "(", and what is within
-fn rows_argument<'a>(
-    alloc: Global,
-    cursor: &mut Cursor<'_, 'a>,
-) -> Result<Term<'a>, QueryFault>
+fn rows_argument<'a>(alloc: Global, cursor: &mut Cursor<'_, 'a>) -> Result<Term<'a>, QueryFault>
     ensures { Reads term_view (parse.rows_argument (unread cursor.old)) (unread cursor.new) result }
 {
     cursor.operator()?;
@@ -161,10 +152,7 @@ fn item<'a>(alloc: Global, cursor: &mut Cursor<'_, 'a>) -> Result<Item<'a>, Quer
 }
 
 /// item {"," item}
-pub fn items<'a>(
-    alloc: Global,
-    cursor: &mut Cursor<'_, 'a>,
-) -> Result<Vec<Item<'a>>, QueryFault>
+pub fn items<'a>(alloc: Global, cursor: &mut Cursor<'_, 'a>) -> Result<Vec<Item<'a>>, QueryFault>
     ensures { Reads items_view (parse.items (unread cursor.old)) (unread cursor.new) result }
 {
     let mut items = Vec::new(alloc);

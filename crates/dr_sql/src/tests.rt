@@ -148,7 +148,14 @@ fn show_item(alloc: Global, out: &mut String, item: &Item<'_>) -> Result<(), Fai
             show_within(out, within)?;
         }
         Term::Aggregate(aggregate, expression, within) => {
-            show_one(alloc, out, aggregate_name(*aggregate), expression, "", DEEPEST)?;
+            show_one(
+                alloc,
+                out,
+                aggregate_name(*aggregate),
+                expression,
+                "",
+                DEEPEST,
+            )?;
             show_within(out, within)?;
         }
     }
@@ -198,12 +205,24 @@ fn queries_are_parsed(rt: HostRuntime) -> Result<(), Fail> {
         ("select A,b As c from t ;", "A; b as c; t"),
         ("\tSELECT\r\na.b . c FROM \"from\"", "a.b.c; from"),
         ("SELECT \"select\" AS \"as\" FROM T", "select as as; T"),
-        ("SELECT 1, 'x', '', 'it''s', TRUE, false FROM T", "1; 'x'; ''; 'it''s'; true; false; T"),
-        ("SELECT 9223372036854775807 FROM T", "9223372036854775807; T"),
+        (
+            "SELECT 1, 'x', '', 'it''s', TRUE, false FROM T",
+            "1; 'x'; ''; 'it''s'; true; false; T",
+        ),
+        (
+            "SELECT 9223372036854775807 FROM T",
+            "9223372036854775807; T",
+        ),
         // aggregates
         ("SELECT COUNT(*) FROM T", "rows; T"),
-        ("SELECT COUNT(a), SUM(a + 1), MIN(-a), MAX((a)) FROM T", "(count a); (sum (+ a 1)); (min (neg a)); (max a); T"),
-        ("SELECT COUNT(*) WITHIN RECORD AS n FROM T", "rows within record as n; T"),
+        (
+            "SELECT COUNT(a), SUM(a + 1), MIN(-a), MAX((a)) FROM T",
+            "(count a); (sum (+ a 1)); (min (neg a)); (max a); T",
+        ),
+        (
+            "SELECT COUNT(*) WITHIN RECORD AS n FROM T",
+            "rows within record as n; T",
+        ),
         ("SELECT SUM(a.b) WITHIN a FROM T", "(sum a.b) within a; T"),
         // which operator binds closer
         ("SELECT a OR b AND c FROM T", "(or a (and b c)); T"),
@@ -220,21 +239,36 @@ fn queries_are_parsed(rt: HostRuntime) -> Result<(), Fail> {
         ("SELECT a - (b - c) FROM T", "(- a (- b c)); T"),
         ("SELECT a OR b OR c FROM T", "(or (or a b) c); T"),
         ("SELECT a AND (b OR c) FROM T", "(and a (or b c)); T"),
-        ("SELECT (a = b) = (c <> d) FROM T", "(= (= a b) (<> c d)); T"),
+        (
+            "SELECT (a = b) = (c <> d) FROM T",
+            "(= (= a b) (<> c d)); T",
+        ),
         ("SELECT ((a)) FROM T", "a; T"),
         // tests
-        ("SELECT a<b, a<=b, a>b, a>=b FROM T", "(< a b); (<= a b); (> a b); (>= a b); T"),
+        (
+            "SELECT a<b, a<=b, a>b, a>=b FROM T",
+            "(< a b); (<= a b); (> a b); (>= a b); T",
+        ),
         ("SELECT a LIKE 'x%' FROM T", "(like a )x%; T"),
         ("SELECT a NOT LIKE 'x' FROM T", "(not (like a )x); T"),
         ("SELECT a || b FROM T", "Syntax 9"),
-        ("SELECT a CONTAINS 'x' AND b FROM T", "(and (contains a )x b); T"),
-        ("SELECT a NOT CONTAINS 'x' FROM T", "(not (contains a )x); T"),
+        (
+            "SELECT a CONTAINS 'x' AND b FROM T",
+            "(and (contains a )x b); T",
+        ),
+        (
+            "SELECT a NOT CONTAINS 'x' FROM T",
+            "(not (contains a )x); T",
+        ),
         ("SELECT a IS NULL FROM T", "(null a); T"),
         ("SELECT a IS NOT NULL FROM T", "(not (null a)); T"),
         // the clauses
         ("SELECT a FROM T WHERE b = 1", "a; T if (= b 1)"),
         ("SELECT a FROM T GROUP BY a, b.c", "a; T by a by b.c"),
-        ("SELECT a FROM T WHERE NOT b GROUP BY a;", "a; T if (not b) by a"),
+        (
+            "SELECT a FROM T WHERE NOT b GROUP BY a;",
+            "a; T if (not b) by a",
+        ),
         // faults
         ("", "Syntax 0"),
         (" ", "Syntax 1"),
@@ -321,12 +355,26 @@ fn limits_are_kept(rt: HostRuntime) -> Result<(), Fail> {
         ("a+", 513, "a FROM T", Some((1032, many))),
         ("a+", 512, "+a FROM T", Some((1031, syntax))),
         ("a+", 512, "a, COUNT(*) FROM T", Some((1040, many))),
-        ("a+", 480, "---------------------------------a", Some((999, deep))),
+        (
+            "a+",
+            480,
+            "---------------------------------a",
+            Some((999, deep)),
+        ),
         (" ", LONGEST_QUERY - 7, "", Some((65_536, syntax))),
-        (" ", LONGEST_QUERY - 6, "", Some((65_536, QueryProblem::TooLong))),
+        (
+            " ",
+            LONGEST_QUERY - 6,
+            "",
+            Some((65_536, QueryProblem::TooLong)),
+        ),
     ];
     for (part, count, behind, wanted) in rows {
-        assert_eq!(rt; fault(rt.alloc(), part, count, behind)?, wanted, "at {part}");
+        assert_eq!(rt;
+            fault(rt.alloc(), part, count, behind)?,
+            wanted,
+            "at {part}"
+        );
     }
     Ok(())
 }

@@ -20,9 +20,11 @@ bytes-preserved c =
     let P : List _ → Type 0 = λ b. BeginsWith (drop i b) x.token x.length in
     let begins : BeginsWith (drop i bs) x.token x.length = subst P (sym c.as_bytes-bytes.ensures.value) c.token_at-length.ensures in
     let Q : List PlacedToken → Type 0 = λ ts. AreQueryTokens 0 bs ts in
-    let within : i + x.length ≤ length bs = omega (arith, begins.1, length-drop i bs, c.bytes-test.true) in
-    (λ ts h. subst Q (token_pushed us c.push.new.self.items (record { place = i; token = x.token }) ts c.in_ok-push.ensures.items)
-        (c.bytes.invariant.0 (placed_view (record { place = i; token = x.token }) ∷ ts) (token_step bs i x.length x.token ts begins h)), within)
+    let within : i + x.length ≤ length bs = omega (arith, begins.1, length-drop i bs, c.bytes-test.true) in (
+      λ ts h. subst Q (token_pushed us c.push.new.self.items (record { place = i; token = x.token }) ts c.in_ok-push.ensures.items)
+          (c.bytes.invariant.0 (placed_view (record { place = i; token = x.token }) ∷ ts) (token_step bs i x.length x.token ts begins h)),
+      within,
+    )
 
 pub returns : goal.returns
 returns c =

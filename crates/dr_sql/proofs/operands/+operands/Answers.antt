@@ -38,7 +38,7 @@ expression-returns t c =
     let u = unread c.or.cursor in
     let e = expression_view c.or.left in
     elim c.or-test.branch [
-      expression-else-or-test w ↦ c.or.invariant ∙ none_left or_in (and_of (nested c.args.depth)) c.left-end.result c.or.counter e u w.or-test.false
+      | expression-else-or-test w ↦ c.or.invariant ∙ none_left or_in (and_of (nested c.args.depth)) c.left-end.result c.or.counter e u w.or-test.false
       | expression-then-or-test+then-not-next_is_word w ↦ c.or.invariant ∙ no_more or_in (and_of (nested c.args.depth)) _ e u (joined_by_or u false (sym w.if-not-next_is_word.ensures))
     ]
 
@@ -61,7 +61,7 @@ conjunction-returns t c =
     let u = unread c.and.cursor in
     let e = expression_view c.and.left in
     elim c.and-test.branch [
-      conjunction-else-and-test w ↦ c.and.invariant ∙ none_left and_in (not_of (nested c.args.depth)) c.left-end.result c.and.counter e u w.and-test.false
+      | conjunction-else-and-test w ↦ c.and.invariant ∙ none_left and_in (not_of (nested c.args.depth)) c.left-end.result c.and.counter e u w.and-test.false
       | conjunction-then-and-test+then-not-next_is_word w ↦ c.and.invariant ∙ no_more and_in (not_of (nested c.args.depth)) _ e u (joined_by_and u false (sym w.if-not-next_is_word.ensures))
     ]
 
@@ -80,6 +80,6 @@ product-returns t c =
     let u = unread c.products.cursor in
     let e = expression_view c.products.left in
     elim c.products-test.branch [
-      product-else-products-test w ↦ c.products.invariant ∙ none_left product_in (unary (nested c.args.depth)) c.left-end.result c.products.counter e u w.products-test.false
+      | product-else-products-test w ↦ c.products.invariant ∙ none_left product_in (unary (nested c.args.depth)) c.left-end.result c.products.counter e u w.products-test.false
       | product-then-products-test+then-not-next_is_sign w ↦ c.products.invariant ∙ no_more product_in (unary (nested c.args.depth)) _ e u (joined_by_star u false (sym w.if-not-next_is_sign.ensures))
     ]
