@@ -24,6 +24,8 @@ pub mod WorkedStripe
 -- lemmas of the laws of query syntax
 pub mod SyntaxReading
 pub mod SyntaxSound
+pub mod SyntaxComplete
+pub mod SyntaxSpelled
 pub mod SyntaxAccepted
 pub mod SchemaMachine
 pub mod SchemaAccepted

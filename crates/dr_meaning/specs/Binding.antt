@@ -16,6 +16,7 @@ use Rattle.dr_meaning.specs.BoundExpression.{number_type, BoundPath, BoundExpres
 
 -- ---- the condition
 
+-- the condition, whose value is to be a truth value: told at its first token where it isn't
 abbrev pub bind_condition : Fields → Option ConditionSyntax → Checked (Option BoundExpression)
 bind_condition fs None = passes None
 bind_condition fs (Some c) = checked_map (λ e. Some e) (then_check (of_type truth_type c.place) (bind_expression fs c.expression))
@@ -36,6 +37,7 @@ is_group_shape (group fs) = true
 abbrev pub is_repeated_group : Found → Bool
 is_repeated_group f = is_group_shape f.shape && same_path (level f.path) f.path
 
+-- the node of a WITHIN at place i, by a path at place j
 abbrev pub found_node : ℕ → ℕ → Option Found → Checked (Option BoundWithin)
 found_node i j None = fails_at j unknown_field
 found_node i j (Some f) = passes (Some (record { place = i; node = f.path; is_whole = is_repeated_group f }))
@@ -70,10 +72,12 @@ abbrev pub own_name : ℕ → TermSyntax → List ℕ
 own_name n (expression_syntax (path p)) = join_with_byte 46 p.names
 own_name n t = codes "f" ++ decimal n ++ codes "_"
 
+-- the name that AS gives, or the item's own
 abbrev pub item_name : ℕ → TermSyntax → Option (List ℕ) → List ℕ
 item_name n t None = own_name n t
 item_name n t (Some name) = name
 
+-- an item: the place of its first token, its name and its term
 pub record BoundItem : Type 0 where
   pub place : ℕ
   pub name : List ℕ
@@ -96,6 +100,7 @@ pub record BoundParts : Type 0 where
   pub items : List (Checked BoundItem)
   pub keys : List (Checked BoundPath)
 
+-- whether a term may stand in a record query: it is no aggregate, or has WITHIN
 abbrev pub is_of_record : TermSyntax → Bool
 is_of_record (expression_syntax e) = true
 is_of_record (count_rows_syntax w) = is_some w
@@ -155,6 +160,7 @@ unrelated_in_term keys (aggregated a e w) = where_passed (λ ks. unrelated_among
 abbrev pub holds_rows : Expression → BoundWithin → Bool
 holds_rows e w = w.is_whole && begins_with w.node (expression_level e)
 
+-- an aggregate WITHIN a node that doesn't hold its rows, and COUNT(*) WITHIN any
 abbrev pub within_faults : BoundTerm → List BindFault
 within_faults (plain e) = []
 within_faults (rows_counted None) = []
@@ -167,6 +173,7 @@ abbrev pub place_among : List BoundPath → List Step → Option ℕ
 place_among [] p = None
 place_among (k ∷ ks) p = if same_path k.leaf.path p then Some 0 else option_map (λ i. suc i) (place_among ks p)
 
+-- the key that an expression is: it has to be a path
 abbrev pub key_of : List BoundPath → Expression → Option ℕ
 key_of keys (path_value p) = place_among keys p
 key_of keys e = None
@@ -179,6 +186,7 @@ group_term keys (rows_counted (Some w)) = None
 group_term keys (aggregated a e None) = Some (aggregate a e.expression)
 group_term keys (aggregated a e (Some w)) = None
 
+-- an item of an aggregate query that has no term there
 abbrev pub grouping_faults : List BoundPath → BoundItem → List BindFault
 grouping_faults keys i = if is_some (group_term keys i.term) then [] else fault_at i.place not_grouped
 
@@ -232,6 +240,7 @@ duplicate_faults ls b earlier (i ∷ is) =
 
 -- ---- all faults, and the first
 
+-- the name behind FROM is to be the message's
 abbrev pub table_faults : List ℕ → NameSyntax → List BindFault
 table_faults name t = if bytes_eq t.name name then [] else fault_at t.place unknown_table
 
@@ -250,6 +259,7 @@ abbrev pub item_faults : BoundParts → List BindFault
 item_faults b = flat_map (λ (i : BoundItem). within_faults i.term) (passing b.items)
     ++ (if b.is_record_query then [] else flat_map (grouping_faults (passing b.keys)) (passing b.items))
 
+-- the faults of all rules
 abbrev pub query_faults : Schema → QuerySyntax → BoundParts → List BindFault
 query_faults s q b = table_faults s.name q.table ++ part_faults b ++ unrelated_faults b ++ item_faults b
     ++ duplicate_faults (levels_of s.fields) b.is_record_query [] (passing b.items)
@@ -265,9 +275,11 @@ rank bad_within = 5
 rank not_grouped = 6
 rank duplicate_name = 7
 
+-- whether a fault comes before another: by place, and at one place by rank
 abbrev pub is_before : BindFault → BindFault → Bool
 is_before f g = nat_lt f.place g.place || ((f.place == g.place) && nat_lt (rank f.problem) (rank g.problem))
 
+-- a fault or the first of those behind it
 abbrev pub first_of : BindFault → Option BindFault → BindFault
 first_of f None = f
 first_of f (Some g) = if is_before g f then g else f
@@ -295,6 +307,7 @@ abbrev pub selection_of : BoundParts → Selection
 selection_of b = if b.is_record_query then objects (filter_map record_item (passing b.items))
     else groups (map (λ (k : BoundPath). k.leaf.path) (passing b.keys)) (filter_map (group_item (passing b.keys)) (passing b.items))
 
+-- the condition and what is selected, of parts that pass
 abbrev pub condition_of : Checked (Option BoundExpression) → Option Expression
 condition_of (passes c) = option_map (λ (e : BoundExpression). e.expression) c
 condition_of (fails e es) = None

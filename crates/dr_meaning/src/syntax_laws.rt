@@ -1,8 +1,15 @@
 // Laws of the syntax of queries.
 
-ghost use Rattle.dr_meaning.specs.SyntaxLaws.{AcceptedIsSpelled};
+ghost use Rattle.dr_meaning.specs.SyntaxLaws.{AcceptedIsSpelled, OneTree, SpelledIsAccepted};
 
-/// The tokens of a query text that is accepted spell its syntax tree by the productions of the grammar.
+/// The tokens of a query text that is accepted spell its syntax tree by the productions of the grammar, and no other tree.
 pub fn accepted_query_text_is_spelled()
-    ensures { AcceptedIsSpelled }
+    ensures tree { AcceptedIsSpelled }
+    ensures no_other { OneTree }
+{}
+
+/// A query text whose tokens spell a tree is accepted with it, or refused for a limit: of its length, its nestings, its items or keys,
+/// its operators. So a text with a fault of syntax is spelled by no tree.
+pub fn spelled_query_text_is_accepted()
+    ensures { SpelledIsAccepted }
 {}

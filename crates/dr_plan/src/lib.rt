@@ -2,11 +2,14 @@
 #![tactic(auto)]
 
 mod aggregate;
+mod building;
 mod expression;
 pub mod laws;
 mod objects;
 mod pattern;
 mod plan;
+#[cfg(test)]
+mod tests;
 
 pub use aggregate::{Aggregate, Fold, Within};
 pub use expression::{Comparison, Expr, Number, TextOf, Truth};

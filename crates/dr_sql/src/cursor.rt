@@ -11,7 +11,7 @@ use crate::token::{PlacedToken, Token};
 use crate::word::{Sign, Word};
 
 /// The tokens of a text with how many of them were read, the text's length, and how many of `+ - *` AND OR were read.
-#[derive(Clone, Copy)]
+#[derive(Drop)]
 pub struct Cursor<'t, 'a> {
     pub tokens: &'t [PlacedToken<'a>],
     pub read: usize,

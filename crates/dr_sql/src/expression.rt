@@ -30,20 +30,23 @@ pub enum Comparison {
     AtLeast,
 }
 
-/// An expression. The place of an operator is that of its sign or word. A text keeps `''` for each quote in it.
-/// `e NOT LIKE p` is the negation of `e LIKE p`, both at the place of LIKE, and `e NOT CONTAINS p` and `e IS NOT NULL`
-/// are alike. Parentheses leave nothing but the tree's shape.
+/// An expression. Each operator begins with its place, that of its sign or word. A text keeps `''` for each quote in it.
+/// Parentheses leave nothing but the tree's shape.
 #[derive(Debug, Drop)]
 pub enum Expression<'a> {
     Number(u64),
     Text(&'a str),
     Truth(bool),
     Path(Path<'a>),
+    /// `-e`
     Negative(usize, Box<Expression<'a>>),
     Arithmetic(usize, Arithmetic, Box<Expression<'a>>, Box<Expression<'a>>),
     Comparison(usize, Comparison, Box<Expression<'a>>, Box<Expression<'a>>),
+    /// `e LIKE pattern`; `e NOT LIKE pattern` is its negation, at the same place.
     Like(usize, Box<Expression<'a>>, &'a str),
+    /// `e CONTAINS part`; `e NOT CONTAINS part` is its negation, at the same place.
     Contains(usize, Box<Expression<'a>>, &'a str),
+    /// `e IS NULL`; `e IS NOT NULL` is its negation, at the same place.
     IsNull(usize, Box<Expression<'a>>),
     Not(usize, Box<Expression<'a>>),
     And(usize, Box<Expression<'a>>, Box<Expression<'a>>),

@@ -28,5 +28,3 @@ pub use limits::{
 };
 pub use parsing::parse;
 pub use query::{Aggregate, Condition, Item, Node, Query, Table, Term, Within};
-pub use token::{PlacedToken, Token};
-pub use word::{Sign, Word};
