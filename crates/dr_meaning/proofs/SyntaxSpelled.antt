@@ -327,7 +327,7 @@ end_complete _ (a_semicolon i) u q =
 -- ---- queries
 
 -- the tree, or a refusal for a limit
-data Accepts (q : QuerySyntax) : Parsed QuerySyntax → Type 0 where
+pub data Accepts (q : QuerySyntax) : Parsed QuerySyntax → Type 0 where
   accepted : (v : Unread) → Accepts q (got q v)
   out_of_bounds : (f : QueryFault) → IsLimit f.problem → Accepts q (refused f)
 
@@ -362,7 +362,7 @@ tail_complete xs t c ks us vs ws s g e u q =
 abbrev behind_items : List ItemSyntax → Production QuerySyntax
 behind_items xs = word from_word >>= (λ _. table_name >>= behind_table xs)
 
-query_complete : (ts : List PlacedToken) (q : QuerySyntax) → SpellsQuery ts q → (u : Unread) → u.tokens ≡ ts → Accepts q (query u)
+pub query_complete : (ts : List PlacedToken) (q : QuerySyntax) → SpellsQuery ts q → (u : Unread) → u.tokens ≡ ts → Accepts q (query u)
 query_complete _ _ (a_query h i j n ts us vs ws xs c ks s w g e) u q =
     let t : NameSyntax = record { place = j; name = n } in
     let tail = us ++ (vs ++ ws) in
