@@ -1,16 +1,16 @@
 -- What parse_query accepts is spelled by the grammar: items, clauses and whole queries.
-use Rattle.std.specs.Prelude.{◌≡◌, ℕ, zero, suc, List, [], ◌∷◌, ◌++◌, length, Bool, true, false, nat_lt, is_some, Option, Some, None, Result, Ok, Err, ◌⊎◌, if◌then◌else◌, ◌-◌}
+use Rattle.std.specs.Prelude.{◌≡◌, ℕ, zero, suc, List, [], ◌∷◌, ◌++◌, length, Bool, true, false, nat_lt, Option, Some, None, Ok, Err, ◌⊎◌, if◌then◌else◌, ◌-◌}
 use Rattle.std.proofs.Common.{refl, sym, ap, ap₂, subst, ◌∙◌, inl, inr, append_assoc, append-nil}
 use Rattle.dr_meaning.specs.Tokens.{select_word, from_word, where_word, group_word, by_word, as_word, within_word, record_word, count_word, sum_word, min_word, max_word}
 use Rattle.dr_meaning.specs.Tokens.{comma, open_parenthesis, close_parenthesis, star, semicolon, Word, QueryToken, reserved, PlacedToken, placed, query_tokens, longest_query}
 use Rattle.dr_meaning.specs.Query.{Aggregate, count, sum, least, greatest}
 use Rattle.dr_meaning.specs.Syntax.{NameSyntax, PathSyntax, ExpressionSyntax, WithinSyntax, TermSyntax, expression, count_rows, aggregate, whole_record, node, ItemSyntax}
 use Rattle.dr_meaning.specs.Syntax.{ConditionSyntax, QuerySyntax}
-use Rattle.dr_meaning.specs.Parse.{Unread, Parsed, got, refused, Production, give, goes_on, ◌>>=◌, first_token, first_place, place_of, here, problem_here, syntax, too_many, too_long, either, if_next}
-use Rattle.dr_meaning.specs.Parse.{any_token, operator, word, mark, name, is_the_word, is_the_sign, aggregate_in, path_names, nested, expression_of, too_many_of, further_elements}
+use Rattle.dr_meaning.specs.Parse.{Unread, Parsed, got, refused, Production, give, ◌>>=◌, first_place, place_of, here, problem_here, syntax, too_many, too_long, if_next}
+use Rattle.dr_meaning.specs.Parse.{any_token, operator, word, mark, name, is_the_word, is_the_sign, aggregate_in, path_names, too_many_of, further_elements}
 use Rattle.dr_meaning.specs.Parse.{elements, within_record, within_path, within_part, counts_rows, rows_argument, argument, expression_argument, aggregate_term, whole_expression}
 use Rattle.dr_meaning.specs.Parse.{expression_term, item_term, as_part, item, items, table_name, where_part, keys, group_part, text_end, end_part, query, begins_item, begins_key}
-use Rattle.dr_meaning.specs.Parse.{result_of, unread_text, parse_query, QueryFault, greatest_nesting, most_items}
+use Rattle.dr_meaning.specs.Parse.{result_of, unread_text, parse_query, greatest_nesting, most_items}
 use Rattle.dr_meaning.specs.QueryGrammar.{word_at, sign_at, name_at, BeginsAt, SpellsPath, SpellsExpression, one_and, or_and, SpellsAnd, one_not, and_not, SpellsNot, not_not, one_test}
 use Rattle.dr_meaning.specs.QueryGrammar.{SpellsTest, one_sum, compared_sums, like_text, not_like_text, contains_text, not_contains_text, is_null_word, is_not_null, SpellsSum}
 use Rattle.dr_meaning.specs.QueryGrammar.{one_product, plus_product, minus_product, SpellsProduct, one_unary, times_unary, SpellsUnary, minus_unary, one_primary, SpellsPrimary}
@@ -18,7 +18,7 @@ use Rattle.dr_meaning.specs.QueryGrammar.{a_number, a_text, a_true, a_false, a_p
 use Rattle.dr_meaning.specs.QueryGrammar.{is_sum, is_least, is_greatest, SpellsTerm, counted_rows, aggregated, an_expression, SpellsAs, no_as, as_name, SpellsItem, Separated, alone}
 use Rattle.dr_meaning.specs.QueryGrammar.{and_one, SpellsWhere, no_where, where_expression, SpellsGroup, no_group, group_by, SpellsEnd, no_semicolon, a_semicolon, SpellsQuery, a_query}
 use Rattle.dr_meaning.specs.SyntaxLaws.{AcceptedIsSpelled}
-use Rattle.dr_meaning.proofs.SyntaxReading.{Front, Sound, bind_parts, given, NextToken, if_parts, by_parts, NextMeaning, any_read, token_read, operator_read, operator_means, any_means}
+use Rattle.dr_meaning.proofs.SyntaxReading.{Front, Sound, bind_parts, given, NextToken, if_parts, by_parts, NextMeaning, any_read, token_read, operator_read, any_means}
 use Rattle.dr_meaning.proofs.SyntaxReading.{word_next, sign_next, name_next}
 use Rattle.dr_meaning.proofs.SyntaxSound.{behind, path_sound, nested_expression_sound}
 
@@ -102,6 +102,7 @@ within_sound u v x h = by_part (if_parts (is_the_word within_word) (any_token >>
         let y = path_sound w d.1 d.0 d.2 in
         let ts = word_at i within_word ∷ y.0 in
         (ts, e ∙ ap (λ (xs : List PlacedToken). word_at i within_word ∷ xs) (y.1 ∙ ap (λ (z : Unread). y.0 ++ z.tokens) g.1), subst (SpellsWithin ts) g.0 (within_a_path i y.0 d.0 y.2))
+
     by_part : (NextToken (is_the_word within_word) u × ((any_token >>= (λ i. if_next (is_the_word record_word) (within_record i) (within_path i))) u ≡ got x v)) ⊎ (give None u ≡ got x v) → Front SpellsWithin u x v
     by_part (inl p) =
         let d = bind_parts (any_token u) (λ i. if_next (is_the_word record_word) (within_record i) (within_path i)) x v p.1 in
@@ -127,7 +128,7 @@ aggregate_is t a h = absurd (cc h)
 -- behind the parenthesis of an aggregate
 expression_behind : (a : Aggregate) (u v : Unread) (x : TermSyntax) → expression_argument a u ≡ got x v
     → (ts : List PlacedToken) × (us : List PlacedToken) × (j : ℕ) × (e : ExpressionSyntax) × (w : Option WithinSyntax)
-        × (u.tokens ≡ (ts ++ sign_at j close_parenthesis ∷ us) ++ v.tokens) × SpellsExpression ts e × SpellsWithin us w × (aggregate a e w ≡ x)
+    × (u.tokens ≡ (ts ++ sign_at j close_parenthesis ∷ us) ++ v.tokens) × SpellsExpression ts e × SpellsWithin us w × (aggregate a e w ≡ x)
 expression_behind a u v x h =
     let d = bind_parts (argument u) (λ e. mark close_parenthesis >>= (λ _. within_part >>= (λ w. give (aggregate a e w)))) x v h in
     let m = bind_parts (mark close_parenthesis d.1) (λ _. within_part >>= (λ w. give (aggregate a d.0 w))) x v d.3 in
@@ -169,7 +170,7 @@ aggregate_sound a u v x n h =
     let w = aggregate_is r.0 a r.2 in
     let o = sign_next open_parenthesis m.0 d.1 m.1 (token_read (is_the_sign open_parenthesis) m.0 d.1 m.1 m.2) in
     let two : u.tokens ≡ word_at d.0 w.0 ∷ sign_at m.0 open_parenthesis ∷ m.1.tokens =
-        r.1 ∙ (ap (λ (t : QueryToken). placed d.0 t ∷ d.1.tokens) w.1 ∙ ap (λ (xs : List PlacedToken). word_at d.0 w.0 ∷ xs) o) in
+    r.1 ∙ (ap (λ (t : QueryToken). placed d.0 t ∷ d.1.tokens) w.1 ∙ ap (λ (xs : List PlacedToken). word_at d.0 w.0 ∷ xs) o) in
     by_part d.0 m.0 w.0 m.1 two w.2 (if_parts (counts_rows a) rows_argument (expression_argument a) m.1 v x m.3)
   where
     by_part : (i j : ℕ) (w : Word) (z : Unread) → u.tokens ≡ word_at i w ∷ sign_at j open_parenthesis ∷ z.tokens → IsAggregate w a
@@ -178,9 +179,11 @@ aggregate_sound a u v x n h =
         let s = star_of_count a z p.0 in
         let y = rows_behind z v x s.1 p.1 in
         let c : w ≡ count_word = count_only w (subst (IsAggregate w) s.0 k) in
-        let ts = word_at i count_word ∷ sign_at j open_parenthesis ∷ sign_at y.0 star ∷ sign_at y.1 close_parenthesis ∷ y.2 in
-        (ts, e ∙ (ap (λ (q : Word). word_at i q ∷ sign_at j open_parenthesis ∷ z.tokens) c ∙ ap (λ (xs : List PlacedToken). word_at i count_word ∷ sign_at j open_parenthesis ∷ xs) y.4),
-          subst (SpellsTerm ts) y.6 (counted_rows i j y.0 y.1 y.2 y.3 y.5))
+        let ts = word_at i count_word ∷ sign_at j open_parenthesis ∷ sign_at y.0 star ∷ sign_at y.1 close_parenthesis ∷ y.2 in (
+          ts,
+          e ∙ (ap (λ (q : Word). word_at i q ∷ sign_at j open_parenthesis ∷ z.tokens) c ∙ ap (λ (xs : List PlacedToken). word_at i count_word ∷ sign_at j open_parenthesis ∷ xs) y.4),
+          subst (SpellsTerm ts) y.6 (counted_rows i j y.0 y.1 y.2 y.3 y.5),
+        )
     by_part i j w z e k (inr q) =
         let y = expression_behind a z v x q in
         let ts = word_at i w ∷ sign_at j open_parenthesis ∷ (y.0 ++ sign_at y.2 close_parenthesis ∷ y.1) in
@@ -314,9 +317,11 @@ group_sound u v ks h = by_part (if_parts (is_the_word group_word) (any_token >>=
         let m = bind_parts (word by_word d.1) (λ _. keys) ks v d.3 in
         let r = word_next group_word d.0 u d.1 (any_read (is_the_word group_word) d.0 u d.1 p.0 d.2) in
         let b = word_next by_word m.0 d.1 m.1 (token_read (is_the_word by_word) m.0 d.1 m.1 m.2) in
-        let k = keys_sound m.1 v ks m.3 in
-        (word_at d.0 group_word ∷ word_at m.0 by_word ∷ k.0,
-          r ∙ ap (λ (xs : List PlacedToken). word_at d.0 group_word ∷ xs) (b ∙ ap (λ (xs : List PlacedToken). word_at m.0 by_word ∷ xs) k.1), group_by d.0 m.0 k.0 ks k.2)
+        let k = keys_sound m.1 v ks m.3 in (
+          word_at d.0 group_word ∷ word_at m.0 by_word ∷ k.0,
+          r ∙ ap (λ (xs : List PlacedToken). word_at d.0 group_word ∷ xs) (b ∙ ap (λ (xs : List PlacedToken). word_at m.0 by_word ∷ xs) k.1),
+          group_by d.0 m.0 k.0 ks k.2,
+        )
     by_part (inr g) = let p = given [] ks u v g in ([], ap (λ (z : Unread). z.tokens) p.1, subst (SpellsGroup []) p.0 no_group)
 
 -- the text's end: no token is left
@@ -406,8 +411,8 @@ query_sound u v q h =
     let i = t.0.place in
     let ts = word_at s.0 select_word ∷ (xs.0 ++ word_at f.0 from_word ∷ name_at i t.0.name ∷ (r.condition_tokens ++ (r.key_tokens ++ r.end_tokens))) in
     let tokens : u.tokens ≡ ts =
-        select ∙ ap (λ (zs : List PlacedToken). word_at s.0 select_word ∷ zs) (xs.1 ∙ ap (λ (zs : List PlacedToken). xs.0 ++ zs)
-            (from ∙ ap (λ (zs : List PlacedToken). word_at f.0 from_word ∷ zs) (n ∙ ap (λ (zs : List PlacedToken). name_at i t.0.name ∷ zs) r.tokens))) in
+    select ∙ ap (λ (zs : List PlacedToken). word_at s.0 select_word ∷ zs) (xs.1 ∙ ap (λ (zs : List PlacedToken). xs.0 ++ zs)
+    (from ∙ ap (λ (zs : List PlacedToken). word_at f.0 from_word ∷ zs) (n ∙ ap (λ (zs : List PlacedToken). name_at i t.0.name ∷ zs) r.tokens))) in
     let whole = a_query s.0 f.0 i t.0.name xs.0 r.condition_tokens r.key_tokens r.end_tokens x.0 r.condition r.keys_read xs.2 r.spells_where r.spells_group r.spells_end in
     subst (λ zs. SpellsQuery zs q) (sym tokens) (subst (SpellsQuery ts) r.tree whole)
 
@@ -418,6 +423,7 @@ accepted_is_spelled bytes q h = by_length (nat_lt longest_query (length bytes)) 
     by_outcome : (p : Parsed QuerySyntax) → query (unread_text bytes) ≡ p → result_of p ≡ Ok q → SpellsQuery (query_tokens bytes) q
     by_outcome (got x v) e g = let k : x ≡ q = cc in query_sound (unread_text bytes) v q (e ∙ ap (λ (y : QuerySyntax). got y v) k)
     by_outcome (refused f) e g = absurd (cc g)
+
     by_length : (b : Bool) → (if b then Err (record { place = longest_query; problem = too_long }) else result_of (query (unread_text bytes))) ≡ Ok q → SpellsQuery (query_tokens bytes) q
     by_length true g = absurd (cc g)
     by_length false g = by_outcome (query (unread_text bytes)) refl g

@@ -1,17 +1,17 @@
 -- A fault of syntax is a dead end: no query's tokens begin with those up to it and with it.
-use Rattle.std.specs.Prelude.{◌≡◌, ℕ, ◌+◌, ◌<◌, ◌≤◌, List, [], ◌∷◌, ◌++◌, length, Bool, true, false, nat_lt, if◌then◌else◌, Result, Ok, Err, ◌⊎◌}
+use Rattle.std.specs.Prelude.{◌≡◌, ℕ, ◌+◌, ◌<◌, ◌≤◌, List, [], ◌∷◌, ◌++◌, length, Bool, true, false, nat_lt, if◌then◌else◌, Ok, Err, ◌⊎◌}
 use Rattle.std.proofs.Common.{refl, sym, ap, ap₂, subst, ◌∙◌, inl, inr, append_assoc, arith, length-append, true≢false}
 use Rattle.dr_meaning.specs.Schema.{is_name}
-use Rattle.dr_meaning.specs.Tokens.{QueryToken, reserved, identifier, number, text, sign, bad, PlacedToken, query_tokens, longest_query, Sign, comma, open_parenthesis, close_parenthesis, dot, star}
+use Rattle.dr_meaning.specs.Tokens.{QueryToken, reserved, identifier, number, text, sign, bad, PlacedToken, longest_query, Sign, comma, open_parenthesis, close_parenthesis, dot, star}
 use Rattle.dr_meaning.specs.Tokens.{plus_sign, minus_sign, equals, differs, less_than, less_or_equal, greater_than, greater_or_equal, semicolon}
 use Rattle.dr_meaning.specs.TokenLaws.{IsQueryToken, IsSign, AreQueryTokens, has_no_quote, doubled}
 use Rattle.dr_meaning.specs.Syntax.{QuerySyntax}
 use Rattle.dr_meaning.specs.Parse.{QueryFault, syntax, too_long, Unread, Parsed, got, refused, first_place, place_of, query, result_of, unread_text, parse_query}
-use Rattle.dr_meaning.specs.QueryGrammar.{SpellsQuery, BeginsQuery}
+use Rattle.dr_meaning.specs.QueryGrammar.{SpellsQuery}
 use Rattle.dr_meaning.specs.SyntaxLaws.{IsLimit, SyntaxFaultIsDeadEnd, SyntaxFaultIsNoQuery}
 use Rattle.dr_meaning.proofs.QueryTokenLemmas.{query_tokens_are_text}
 use Rattle.dr_meaning.proofs.SyntaxSpelled.{Accepts, accepted, out_of_bounds, query_complete, spelled_is_accepted}
-use Rattle.dr_meaning.proofs.SyntaxStable.{Twins, agree, Past, IsLate, Alike, same_value, same_fault, value_past, fault_past}
+use Rattle.dr_meaning.proofs.SyntaxStable.{Twins, agree, Alike, same_value, same_fault, value_past, fault_past}
 use Rattle.dr_meaning.proofs.SyntaxProductions.{query_steady}
 
 -- ---- tokens stand one behind another
@@ -118,6 +118,7 @@ fault_read bytes i h = by_length (nat_lt longest_query (length bytes)) h
     by_outcome : (p : Parsed QuerySyntax) → result_of p ≡ Err (record { place = i; problem = syntax }) → p ≡ refused (record { place = i; problem = syntax })
     by_outcome (got a v) g = absurd (cc g)
     by_outcome (refused f) g = let k : f ≡ record { place = i; problem = syntax } = cc in ap refused k
+
     by_length : (b : Bool) → (if b then Err (record { place = longest_query; problem = too_long }) else result_of (query (unread_text bytes))) ≡ Err (record { place = i; problem = syntax })
         → query (unread_text bytes) ≡ refused (record { place = i; problem = syntax })
     by_length true g = absurd (let k : record { place = longest_query; problem = too_long } ≡ record { place = i; problem = syntax } = cc in let l : too_long ≡ syntax = ap (λ (f : QueryFault). f.problem) k in cc l)
@@ -133,7 +134,7 @@ fault_is_dead_end bytes before rest t e h b =
     let alike = (query_steady (length bytes) t rest more).together (length u.tokens) (length v.tokens) u v twins in
     let f = from_token 0 bytes before t rest (subst (AreQueryTokens 0 bytes) e (query_tokens_are_text bytes)) in
     let behind : (gone later : List PlacedToken) → rest ≡ gone ++ later → t.place < first_place (length bytes) later =
-        λ gone later k. let size : f.start + length f.bytes ≡ length bytes = omega (arith, f.ends) in subst (λ n. t.place < first_place n later) size (later_is_behind f.start f.bytes t rest gone later f.tokens k) in
+    λ gone later k. let size : f.start + length f.bytes ≡ length bytes = omega (arith, f.ends) in subst (λ n. t.place < first_place n later) size (later_is_behind f.start f.bytes t rest gone later f.tokens k) in
     outcome (length bytes) t rest more (length u.tokens) (length v.tokens) b.1 (query u) (query v) alike (fault_read bytes t.place h) (query_complete (before ++ t ∷ more) b.1 spelled v refl) behind
 
 pub fault_is_no_query : SyntaxFaultIsNoQuery

@@ -1,24 +1,22 @@
 -- Each production reads two texts alike that agree up to a token.
-use Rattle.std.specs.Prelude.{◌≡◌, ℕ, zero, suc, ◌-◌, List, [], ◌∷◌, ◌++◌, length, Bool, true, false, is_some, Option, Some, None}
-use Rattle.std.proofs.Common.{refl, sym, ap, subst, arith}
-use Rattle.dr_meaning.specs.Tokens.{QueryToken, PlacedToken, reserved, identifier, number, text, sign, bad, true_word, false_word, open_parenthesis, dot, comma, semicolon, star, close_parenthesis}
+use Rattle.std.specs.Prelude.{ℕ, zero, suc, ◌-◌, List, [], ◌∷◌, ◌++◌, Bool, true, false, Option, Some, None}
+use Rattle.dr_meaning.specs.Tokens.{QueryToken, PlacedToken, reserved, identifier, number, text, sign, bad, true_word, false_word, open_parenthesis, comma, semicolon, close_parenthesis}
 use Rattle.dr_meaning.specs.Tokens.{select_word, from_word, where_word, group_word, by_word, as_word, within_word, record_word, not_word, like_word, contains_word, is_word, null_word, minus_sign}
 use Rattle.dr_meaning.specs.Expression.{Comparison}
 use Rattle.dr_meaning.specs.Query.{Aggregate}
 use Rattle.dr_meaning.specs.Syntax.{NameSyntax, PathSyntax, ExpressionSyntax, number_literal, text_literal, truth_literal, path, negative, comparison, like, contains, is_null, negation}
 use Rattle.dr_meaning.specs.Syntax.{WithinSyntax, whole_record, node, TermSyntax, expression, count_rows, aggregate, ItemSyntax, ConditionSyntax, QuerySyntax}
-use Rattle.dr_meaning.specs.Parse.{Unread, Parsed, got, refused, Production, give, goes_on, ◌>>=◌, first_token, place_of, behind_token, here, problem_here, syntax, too_deep, too_many, either}
-use Rattle.dr_meaning.specs.Parse.{if_next, next_is, passes, any_token, operator, is_the_word, is_the_sign, word, mark, name, name_in, quoted_text, text_in, comparison_in, aggregate_in}
-use Rattle.dr_meaning.specs.Parse.{or_in, and_in, sum_in, product_in, begins_item, begins_key, further_names, names, path_names, Nesting, parenthesized, negated, signed, Inner, literal}
-use Rattle.dr_meaning.specs.Parse.{path_operand, primary_at, primary, unary, operands, product_of, sum_of, plain, like_test, contains_test, text_test, denied_test, denied_null, plain_null}
+use Rattle.dr_meaning.specs.Parse.{Production, give, ◌>>=◌, here, problem_here, syntax, too_deep, too_many}
+use Rattle.dr_meaning.specs.Parse.{if_next, any_token, operator, is_the_word, is_the_sign, word, mark, name, name_in, quoted_text, text_in, comparison_in, aggregate_in}
+use Rattle.dr_meaning.specs.Parse.{or_in, and_in, sum_in, product_in, begins_item, begins_key, names, path_names, Nesting, parenthesized, negated, signed, Inner, literal}
+use Rattle.dr_meaning.specs.Parse.{path_operand, primary_at, primary, unary, product_of, sum_of, plain, like_test, contains_test, text_test, denied_test, denied_null, plain_null}
 use Rattle.dr_meaning.specs.Parse.{null_test, comparison_test, word_test, tested, test_of, not_of, and_of, expression_of, nested, too_many_of, further_elements, elements, within_record}
 use Rattle.dr_meaning.specs.Parse.{within_path, within_part, counts_rows, rows_argument, argument, expression_argument, aggregate_term, whole_expression, expression_term, item_term, as_part}
 use Rattle.dr_meaning.specs.Parse.{item, items, table_name, where_part, keys, group_part, text_end, end_part, query, greatest_nesting, most_items}
-use Rattle.dr_meaning.proofs.SyntaxStable.{Twins, Past, Alike, Behind, Stable, stable_give, stable_problem, stable_here, stable_bind, stable_if, stable_by, stable_any, stable_operator}
+use Rattle.dr_meaning.proofs.SyntaxStable.{Stable, stable_give, stable_problem, stable_here, stable_bind, stable_if, stable_by, stable_any, stable_operator}
 use Rattle.dr_meaning.proofs.SyntaxStable.{stable_where, stable_as, stable_operands, stable_names, stable_token, stable_end}
 
 module _ (size : ℕ) (t : PlacedToken) (rest more : List PlacedToken) where
-
   abbrev Steady : (A : Type 0) → Production A → Type 0
   Steady A p = Stable size t rest more A p
 
@@ -142,7 +140,7 @@ module _ (size : ℕ) (t : PlacedToken) (rest more : List PlacedToken) where
   nested_steady zero o = stable_problem size t rest more E too_deep
   nested_steady (suc n) parenthesized = then_read ℕ E any_token (λ _. expression_of (nested n) >>= (λ e. mark close_parenthesis >>= (λ _. give e))) one
       (λ _. then_read E E (expression_of (nested n)) (λ e. mark close_parenthesis >>= (λ _. give e)) (expression_steady (nested n) (nested_steady n))
-          (λ e. then_read ℕ E (mark close_parenthesis) (λ _. give e) (mark_steady close_parenthesis) (λ _. given E e)))
+      (λ e. then_read ℕ E (mark close_parenthesis) (λ _. give e) (mark_steady close_parenthesis) (λ _. given E e)))
   nested_steady (suc n) negated = then_read ℕ E any_token (λ i. not_of (nested n) >>= (λ e. give (negation i e))) one
       (λ i. then_read E E (not_of (nested n)) (λ e. give (negation i e)) (not_steady (nested n) (nested_steady n)) (λ e. given E (negation i e)))
   nested_steady (suc n) signed = then_read ℕ E operator (λ i. unary (nested n) >>= (λ e. give (negative i e))) (stable_operator size t rest more)
@@ -164,7 +162,7 @@ module _ (size : ℕ) (t : PlacedToken) (rest more : List PlacedToken) where
       (given (List A) xs)
   list_steady A begins element s (suc k) xs = when (List A) (is_the_sign comma) (any_token >>= (λ _. element >>= (λ x. further_elements begins element k (xs ++ x ∷ [])))) (give xs)
       (then_read ℕ (List A) any_token (λ _. element >>= (λ x. further_elements begins element k (xs ++ x ∷ []))) one
-          (λ _. then_read A (List A) element (λ x. further_elements begins element k (xs ++ x ∷ [])) s (λ x. list_steady A begins element s k (xs ++ x ∷ []))))
+      (λ _. then_read A (List A) element (λ x. further_elements begins element k (xs ++ x ∷ [])) s (λ x. list_steady A begins element s k (xs ++ x ∷ []))))
       (given (List A) xs)
 
   elements_steady : (A : Type 0) (begins : QueryToken → Bool) (element : Production A) → Steady A element → (n : ℕ) → Steady (List A) (elements begins element n)
@@ -176,25 +174,25 @@ module _ (size : ℕ) (t : PlacedToken) (rest more : List PlacedToken) where
   within_steady : Steady W within_part
   within_steady = when W (is_the_word within_word) (any_token >>= (λ i. if_next (is_the_word record_word) (within_record i) (within_path i))) (give None)
       (then_read ℕ W any_token (λ i. if_next (is_the_word record_word) (within_record i) (within_path i)) one
-          (λ i. when W (is_the_word record_word) (within_record i) (within_path i)
-              (then_read ℕ W any_token (λ _. give (Some (record { place = i; node = whole_record }))) one (λ _. given W (Some (record { place = i; node = whole_record }))))
-              (then_read PathSyntax W path_names (λ p. give (Some (record { place = i; node = node p }))) path_steady (λ p. given W (Some (record { place = i; node = node p }))))))
+      (λ i. when W (is_the_word record_word) (within_record i) (within_path i)
+      (then_read ℕ W any_token (λ _. give (Some (record { place = i; node = whole_record }))) one (λ _. given W (Some (record { place = i; node = whole_record }))))
+      (then_read PathSyntax W path_names (λ p. give (Some (record { place = i; node = node p }))) path_steady (λ p. given W (Some (record { place = i; node = node p }))))))
       (given W None)
 
   rows_steady : Steady TermSyntax rows_argument
   rows_steady = then_read ℕ TermSyntax operator (λ _. mark close_parenthesis >>= (λ _. within_part >>= (λ w. give (count_rows w)))) (stable_operator size t rest more)
       (λ _. then_read ℕ TermSyntax (mark close_parenthesis) (λ _. within_part >>= (λ w. give (count_rows w))) (mark_steady close_parenthesis)
-          (λ _. then_read W TermSyntax within_part (λ w. give (count_rows w)) within_steady (λ w. given TermSyntax (count_rows w))))
+      (λ _. then_read W TermSyntax within_part (λ w. give (count_rows w)) within_steady (λ w. given TermSyntax (count_rows w))))
 
   expression_argument_steady : (a : Aggregate) → Steady TermSyntax (expression_argument a)
   expression_argument_steady a = then_read E TermSyntax argument (λ e. mark close_parenthesis >>= (λ _. within_part >>= (λ w. give (aggregate a e w)))) argument_steady
       (λ e. then_read ℕ TermSyntax (mark close_parenthesis) (λ _. within_part >>= (λ w. give (aggregate a e w))) (mark_steady close_parenthesis)
-          (λ _. then_read W TermSyntax within_part (λ w. give (aggregate a e w)) within_steady (λ w. given TermSyntax (aggregate a e w))))
+      (λ _. then_read W TermSyntax within_part (λ w. give (aggregate a e w)) within_steady (λ w. given TermSyntax (aggregate a e w))))
 
   aggregate_steady : (a : Aggregate) → Steady TermSyntax (aggregate_term a)
   aggregate_steady a = then_read ℕ TermSyntax any_token (λ _. mark open_parenthesis >>= (λ _. if_next (counts_rows a) rows_argument (expression_argument a))) one
       (λ _. then_read ℕ TermSyntax (mark open_parenthesis) (λ _. if_next (counts_rows a) rows_argument (expression_argument a)) (mark_steady open_parenthesis)
-          (λ _. when TermSyntax (counts_rows a) rows_argument (expression_argument a) rows_steady (expression_argument_steady a)))
+      (λ _. when TermSyntax (counts_rows a) rows_argument (expression_argument a) rows_steady (expression_argument_steady a)))
 
   term_steady : Steady TermSyntax item_term
   term_steady = stable_by size t rest more Aggregate TermSyntax aggregate_in aggregate_term expression_term aggregate_steady
@@ -208,7 +206,7 @@ module _ (size : ℕ) (t : PlacedToken) (rest more : List PlacedToken) where
   item_steady : Steady ItemSyntax item
   item_steady = then_read ℕ ItemSyntax here (λ i. item_term >>= (λ x. as_part >>= (λ n. give (record { place = i; term = x; name = n })))) (stable_here size t rest more)
       (λ i. then_read TermSyntax ItemSyntax item_term (λ x. as_part >>= (λ n. give (record { place = i; term = x; name = n }))) term_steady
-          (λ x. then_read (Option (List ℕ)) ItemSyntax as_part (λ n. give (record { place = i; term = x; name = n })) as_steady (λ n. given ItemSyntax (record { place = i; term = x; name = n }))))
+      (λ x. then_read (Option (List ℕ)) ItemSyntax as_part (λ n. give (record { place = i; term = x; name = n })) as_steady (λ n. given ItemSyntax (record { place = i; term = x; name = n }))))
 
   items_steady : Steady (List ItemSyntax) items
   unfolding items
@@ -228,8 +226,8 @@ module _ (size : ℕ) (t : PlacedToken) (rest more : List PlacedToken) where
   where_steady : Steady C where_part
   where_steady = when C (is_the_word where_word) (any_token >>= (λ _. here >>= (λ i. whole_expression >>= (λ e. give (Some (record { place = i; expression = e })))))) (give None)
       (then_read ℕ C any_token (λ _. here >>= (λ i. whole_expression >>= (λ e. give (Some (record { place = i; expression = e }))))) one
-          (λ _. then_read ℕ C here (λ i. whole_expression >>= (λ e. give (Some (record { place = i; expression = e })))) (stable_here size t rest more)
-              (λ i. then_read E C whole_expression (λ e. give (Some (record { place = i; expression = e }))) whole_steady (λ e. given C (Some (record { place = i; expression = e }))))))
+      (λ _. then_read ℕ C here (λ i. whole_expression >>= (λ e. give (Some (record { place = i; expression = e })))) (stable_here size t rest more)
+      (λ i. then_read E C whole_expression (λ e. give (Some (record { place = i; expression = e }))) whole_steady (λ e. given C (Some (record { place = i; expression = e }))))))
       (given C None)
 
   group_steady : Steady (List PathSyntax) group_part
@@ -252,10 +250,10 @@ module _ (size : ℕ) (t : PlacedToken) (rest more : List PlacedToken) where
   behind_table_steady : (xs : List ItemSyntax) (x : NameSyntax) → Steady Q (behind_table xs x)
   behind_table_steady xs x = then_read C Q where_part (λ c. group_part >>= (λ ks. end_part >>= (λ _. give (tree_of xs x c ks)))) where_steady
       (λ c. then_read (List PathSyntax) Q group_part (λ ks. end_part >>= (λ _. give (tree_of xs x c ks))) group_steady
-          (λ ks. then_read ℕ Q end_part (λ _. give (tree_of xs x c ks)) end_steady (λ _. given Q (tree_of xs x c ks))))
+      (λ ks. then_read ℕ Q end_part (λ _. give (tree_of xs x c ks)) end_steady (λ _. given Q (tree_of xs x c ks))))
 
   pub query_steady : Steady Q query
   query_steady = then_read ℕ Q (word select_word) (λ _. items >>= (λ xs. word from_word >>= (λ _. table_name >>= behind_table xs))) (word_steady select_word)
       (λ _. then_read (List ItemSyntax) Q items (λ xs. word from_word >>= (λ _. table_name >>= behind_table xs)) items_steady
-          (λ xs. then_read ℕ Q (word from_word) (λ _. table_name >>= behind_table xs) (word_steady from_word)
-              (λ _. then_read NameSyntax Q table_name (behind_table xs) table_steady (behind_table_steady xs))))
+      (λ xs. then_read ℕ Q (word from_word) (λ _. table_name >>= behind_table xs) (word_steady from_word)
+      (λ _. then_read NameSyntax Q table_name (behind_table xs) table_steady (behind_table_steady xs))))

@@ -1,23 +1,23 @@
 -- What parse_query accepts is spelled by the grammar, production by production.
 use Rattle.std.specs.Prelude.{◌≡◌, ℕ, zero, suc, List, [], ◌∷◌, ◌++◌, length, Bool, true, false, Option, Some, None, ◌⊎◌}
-use Rattle.std.proofs.Common.{refl, sym, ap, ap₂, subst, ◌∙◌, inl, inr, append_assoc, append-nil}
+use Rattle.std.proofs.Common.{refl, sym, ap, subst, ◌∙◌, inl, inr, append_assoc, append-nil}
 use Rattle.dr_meaning.specs.Tokens.{or_word, and_word, not_word, dot, star, plus_sign, minus_sign, close_parenthesis, open_parenthesis, QueryToken, reserved}
-use Rattle.dr_meaning.specs.Tokens.{identifier, number, text, sign, bad, true_word, false_word, Word, Sign, PlacedToken, placed}
+use Rattle.dr_meaning.specs.Tokens.{identifier, number, text, sign, bad, true_word, false_word, Sign, PlacedToken, placed}
 use Rattle.dr_meaning.specs.Tokens.{equals, differs, less_than, less_or_equal, greater_than, greater_or_equal, like_word, contains_word, is_word, null_word}
 use Rattle.dr_meaning.specs.Expression.{plus, minus, times, Comparison, equal, unequal, less, at_most, greater, at_least}
-use Rattle.dr_meaning.specs.Syntax.{PathSyntax, ExpressionSyntax, number_literal, text_literal, truth_literal, path, negative, arithmetic}
+use Rattle.dr_meaning.specs.Syntax.{ExpressionSyntax, number_literal, text_literal, truth_literal, path, negative, arithmetic}
 use Rattle.dr_meaning.specs.Syntax.{comparison, like, contains, is_null, negation, conjunction, disjunction}
-use Rattle.dr_meaning.specs.Parse.{Unread, Parsed, got, refused, Production, give, goes_on, ◌>>=◌, first_token, first_place, passes, place_of, here, problem_here, syntax, too_deep, if_next, by_next}
+use Rattle.dr_meaning.specs.Parse.{Unread, got, Production, give, ◌>>=◌, first_token, first_place, passes, place_of, problem_here, syntax, if_next}
 use Rattle.dr_meaning.specs.Parse.{any_token, operator, word, mark, name, quoted_text, is_the_word, is_the_sign, comparison_in, Joining, or_in, and_in, sum_in, product_in}
 use Rattle.dr_meaning.specs.Parse.{further_names, names, path_names, Nesting, parenthesized, negated, signed, Inner, literal, path_operand, primary_at, primary, unary}
 use Rattle.dr_meaning.specs.Parse.{further_operands, operands, product_of, sum_of, plain, like_test, contains_test, text_test, denied_test, denied_null, plain_null, null_test}
 use Rattle.dr_meaning.specs.Parse.{comparison_test, word_test, tested, test_of, not_of, and_of, expression_of, nested}
-use Rattle.dr_meaning.specs.QueryGrammar.{word_at, sign_at, name_at, text_at, BeginsAt, SpellsNames, first_name, further_name, SpellsPath, IsComparison, is_equal, is_unequal}
+use Rattle.dr_meaning.specs.QueryGrammar.{word_at, sign_at, name_at, text_at, SpellsNames, first_name, further_name, SpellsPath, IsComparison, is_equal, is_unequal}
 use Rattle.dr_meaning.specs.QueryGrammar.{is_less, is_at_most, is_greater, is_at_least, SpellsExpression, one_and, or_and, SpellsAnd, one_not, and_not, SpellsNot, not_not, one_test}
 use Rattle.dr_meaning.specs.QueryGrammar.{SpellsTest, one_sum, compared_sums, like_text, not_like_text, contains_text, not_contains_text, is_null_word, is_not_null, SpellsSum}
 use Rattle.dr_meaning.specs.QueryGrammar.{one_product, plus_product, minus_product, SpellsProduct, one_unary, times_unary, SpellsUnary, minus_unary, one_primary, SpellsPrimary}
 use Rattle.dr_meaning.specs.QueryGrammar.{a_number, a_text, a_true, a_false, a_path, in_parentheses}
-use Rattle.dr_meaning.proofs.SyntaxReading.{Front, Sound, bind_parts, given, NextToken, if_parts, by_parts, NextMeaning, TokenRead, any_read, token_read, operator_read, next_token, first_read, operator_means, any_means}
+use Rattle.dr_meaning.proofs.SyntaxReading.{Front, Sound, bind_parts, given, NextToken, if_parts, by_parts, NextMeaning, any_read, token_read, operator_read, next_token, first_read, operator_means, any_means}
 use Rattle.dr_meaning.proofs.SyntaxReading.{word_next, sign_next, name_next, text_next}
 
 -- ---- fronts one behind another
@@ -279,6 +279,7 @@ plain_on us a b u v s h = by_like (if_parts (is_the_word like_word) (like_test p
         let ts = word_at x.place contains_word ∷ text_at x.text_place x.content ∷ [] in
         (ts, x.tokens, subst (SpellsTest (us ++ ts)) x.tree (contains_text x.place x.text_place us a x.content s))
     by_contains (inr g) = let p = given a b u v g in ([], ap (λ (w : Unread). w.tokens) p.1, subst (SpellsTest (us ++ [])) p.0 (subst (λ xs. SpellsTest xs a) (sym (append-nil us)) (one_sum us a s)))
+
     by_like : (NextToken (is_the_word like_word) u × (like_test plain a u ≡ got b v)) ⊎ (if_next (is_the_word contains_word) (contains_test plain a) (give a) u ≡ got b v) → Tested us u b v
     by_like (inl p) =
         let x = like_read plain a b u v p.0 p.1 in
@@ -298,6 +299,7 @@ denied_on us a b u v s n h =
         let ts = word_at k not_word ∷ word_at x.place contains_word ∷ text_at x.text_place x.content ∷ [] in
         (ts, e ∙ ap (λ (xs : List PlacedToken). word_at k not_word ∷ xs) x.tokens, subst (SpellsTest (us ++ ts)) x.tree (not_contains_text k x.place x.text_place us a x.content s))
     by_contains k w e (inr g) = absurd (cc g)
+
     by_like : (k : ℕ) (w : Unread) → u.tokens ≡ word_at k not_word ∷ w.tokens
         → (NextToken (is_the_word like_word) w × (like_test negation a w ≡ got b v)) ⊎ (if_next (is_the_word contains_word) (contains_test negation a) (problem_here syntax) w ≡ got b v) → Tested us u b v
     by_like k w e (inl p) =
@@ -319,9 +321,11 @@ null_on us a b u v s n h =
         let g = given (negation i (is_null i a)) b m.1 v m.3 in
         let deny = word_next not_word d.0 w d.1 (any_read (is_the_word not_word) d.0 w d.1 p.0 d.2) in
         let nulls = word_next null_word m.0 d.1 m.1 (token_read (is_the_word null_word) m.0 d.1 m.1 m.2) in
-        let ts = word_at i is_word ∷ word_at d.0 not_word ∷ word_at m.0 null_word ∷ [] in
-        (ts, e ∙ ap (λ (xs : List PlacedToken). word_at i is_word ∷ xs) (deny ∙ ap (λ (xs : List PlacedToken). word_at d.0 not_word ∷ xs) (nulls ∙ ap (λ (z : Unread). word_at m.0 null_word ∷ z.tokens) g.1)),
-          subst (SpellsTest (us ++ ts)) g.0 (is_not_null i d.0 m.0 us a s))
+        let ts = word_at i is_word ∷ word_at d.0 not_word ∷ word_at m.0 null_word ∷ [] in (
+          ts,
+          e ∙ ap (λ (xs : List PlacedToken). word_at i is_word ∷ xs) (deny ∙ ap (λ (xs : List PlacedToken). word_at d.0 not_word ∷ xs) (nulls ∙ ap (λ (z : Unread). word_at m.0 null_word ∷ z.tokens) g.1)),
+          subst (SpellsTest (us ++ ts)) g.0 (is_not_null i d.0 m.0 us a s),
+        )
     by_not i w e (inr q) =
         let m = bind_parts (word null_word w) (λ _. give (is_null i a)) b v q in
         let g = given (is_null i a) b m.1 v m.3 in
@@ -335,6 +339,7 @@ word_on us a b u v s h = by_not (if_parts (is_the_word not_word) (denied_test a)
     by_is : (NextToken (is_the_word is_word) u × (null_test a u ≡ got b v)) ⊎ (text_test plain a (give a) u ≡ got b v) → Tested us u b v
     by_is (inl p) = null_on us a b u v s p.0 p.1
     by_is (inr g) = plain_on us a b u v s g
+
     by_not : (NextToken (is_the_word not_word) u × (denied_test a u ≡ got b v)) ⊎ (if_next (is_the_word is_word) (null_test a) (text_test plain a (give a)) u ≡ got b v) → Tested us u b v
     by_not (inl p) = denied_on us a b u v s p.0 p.1
     by_not (inr g) = by_is (if_parts (is_the_word is_word) (null_test a) (text_test plain a (give a)) u v b g)
@@ -353,7 +358,7 @@ tested_on inner sound us a b u v s h = by_comparison (by_parts comparison_in (co
         let right = sum_sound inner sound d.1 m.1 m.0 m.2 in
         let ts = sign_at d.0 is.0 ∷ right.0 in
         let tokens : u.tokens ≡ ts ++ v.tokens =
-            sign_read.1 ∙ (ap (λ (t : QueryToken). placed d.0 t ∷ d.1.tokens) is.1 ∙ ap (λ (xs : List PlacedToken). sign_at d.0 is.0 ∷ xs) (right.1 ∙ ap (λ (w : Unread). right.0 ++ w.tokens) g.1)) in
+        sign_read.1 ∙ (ap (λ (t : QueryToken). placed d.0 t ∷ d.1.tokens) is.1 ∙ ap (λ (xs : List PlacedToken). sign_at d.0 is.0 ∷ xs) (right.1 ∙ ap (λ (w : Unread). right.0 ++ w.tokens) g.1)) in
         (ts, tokens, subst (SpellsTest (us ++ ts)) g.0 (compared_sums d.0 is.0 c us right.0 a m.0 is.2 s right.2))
     by_comparison (inr g) = word_on us a b u v s g
 
@@ -391,7 +396,7 @@ nested_sound (suc k) parenthesized u v e n h =
     let close_read = sign_next close_parenthesis c.0 m.1 c.1 (token_read (is_the_sign close_parenthesis) c.0 m.1 c.1 c.2) in
     let ts = sign_at d.0 open_parenthesis ∷ (x.0 ++ sign_at c.0 close_parenthesis ∷ []) in
     let inside : d.1.tokens ≡ (x.0 ++ sign_at c.0 close_parenthesis ∷ []) ++ v.tokens =
-        behind d.1.tokens m.1.tokens (sign_at c.0 close_parenthesis ∷ []) x.0 v.tokens x.1 (close_read ∙ ap (λ (w : Unread). sign_at c.0 close_parenthesis ∷ w.tokens) g.1) in
+    behind d.1.tokens m.1.tokens (sign_at c.0 close_parenthesis ∷ []) x.0 v.tokens x.1 (close_read ∙ ap (λ (w : Unread). sign_at c.0 close_parenthesis ∷ w.tokens) g.1) in
     (ts, open_read ∙ ap (λ (xs : List PlacedToken). sign_at d.0 open_parenthesis ∷ xs) inside, subst (SpellsPrimary ts) g.0 (in_parentheses d.0 c.0 x.0 m.0 x.2))
 nested_sound (suc k) negated u v e n h =
     let d = bind_parts (any_token u) (λ i. not_of (nested k) >>= (λ a. give (negation i a))) e v h in

@@ -1,6 +1,6 @@
 -- Two texts that agree up to a token are read alike up to it: whatever stands behind the token, what is read before it is the same, and so is a fault at it.
-use Rattle.std.specs.Prelude.{◌≡◌, ℕ, zero, suc, ◌-◌, ◌<◌, ◌≤◌, List, [], ◌∷◌, ◌++◌, length, Bool, true, false, nat_lt, is_some, Option, Some, None, option_and_then}
-use Rattle.std.proofs.Common.{refl, sym, ap, ap₂, subst, ◌∙◌, append_assoc, arith, length-append}
+use Rattle.std.specs.Prelude.{◌≡◌, ℕ, zero, suc, ◌<◌, ◌≤◌, List, [], ◌∷◌, ◌++◌, length, Bool, true, false, nat_lt, is_some, Option, Some, None, option_and_then}
+use Rattle.std.proofs.Common.{refl, sym, ap, subst, ◌∙◌, append_assoc, arith, length-append}
 use Rattle.dr_meaning.specs.Tokens.{QueryToken, PlacedToken, dot}
 use Rattle.dr_meaning.specs.Syntax.{ExpressionSyntax}
 use Rattle.dr_meaning.specs.Parse.{QueryProblem, QueryFault, Unread, Parsed, got, refused, Production, give, goes_on, ◌>>=◌, first_token, first_place, place_of, without_first, behind_token}
@@ -37,7 +37,6 @@ pub data Behind (size : ℕ) (rest : List PlacedToken) (A : Type 0) : Parsed A �
   fault_behind : (f : QueryFault) → IsLate size rest f → Behind size rest A (refused f)
 
 module _ (size : ℕ) (t : PlacedToken) (rest more : List PlacedToken) where
-
   -- a production that reads alike in two texts that agree up to the token, and goes on behind it
   pub record Stable (A : Type 0) (p : Production A) : Type 0 where
     pub together : (m n : ℕ) (u v : Unread) → Twins size t rest more m n u v → Alike size t rest more m n A (p u) (p v)
@@ -247,10 +246,12 @@ module _ (size : ℕ) (t : PlacedToken) (rest more : List PlacedToken) where
           → Behind size rest ExpressionSyntax p → Behind size rest ExpressionSyntax (goes_on p (λ b. further_operands joining operand k (join b)))
       after_operand join _ again (value_behind b v y) = again (join b) v y
       after_operand join _ again (fault_behind f y) = fault_behind f y
+
       after_operator : (join : Joining) (p : Parsed ℕ) → ((e : ExpressionSyntax) (u : Unread) → Past size rest u → Behind size rest ExpressionSyntax (further_operands joining operand k e u))
           → Behind size rest ℕ p → Behind size rest ExpressionSyntax (goes_on p (λ i. operand >>= (λ b. further_operands joining operand k (join i e b))))
       after_operator join _ again (value_behind i v y) = after_operand (join i e) (operand v) again (s.later v y)
       after_operator join _ again (fault_behind f y) = fault_behind f y
+
       by_joint : (o : Option Joining) → ((e : ExpressionSyntax) (u : Unread) → Past size rest u → Behind size rest ExpressionSyntax (further_operands joining operand k e u))
           → Behind size rest ExpressionSyntax (for_some o (λ join. operator >>= (λ i. operand >>= (λ b. further_operands joining operand k (join i e b)))) (give e) u)
       by_joint None again = value_behind e u z
@@ -286,7 +287,7 @@ module _ (size : ℕ) (t : PlacedToken) (rest more : List PlacedToken) where
   round_by : (joining : QueryToken → Option Joining) (operand : Production ExpressionSyntax) → Stable ExpressionSyntax operand → (k j : ℕ) → LoopsAlike joining operand k j → (o : Option Joining) (e : ExpressionSyntax) (u v : Unread)
       → Twins size t rest more (suc k) (suc j) u v
       → Alike size t rest more (suc k) (suc j) ExpressionSyntax (for_some o (λ join. operator >>= (λ i. operand >>= (λ b. further_operands joining operand k (join i e b)))) (give e) u)
-          (for_some o (λ join. operator >>= (λ i. operand >>= (λ b. further_operands joining operand j (join i e b)))) (give e) v)
+      (for_some o (λ join. operator >>= (λ i. operand >>= (λ b. further_operands joining operand j (join i e b)))) (give e) v)
   round_by joining operand s k j again None e u v w = same_value e u v w
   round_by joining operand s k j again (Some join) e u v w =
       raise_alike ExpressionSyntax k j (suc k) (suc j) _ _ (omega arith) (omega arith) (round_operator joining operand s k j again join e (operator u) (operator v) (operator_less k j u v w))
@@ -296,7 +297,7 @@ module _ (size : ℕ) (t : PlacedToken) (rest more : List PlacedToken) where
   loops_alike joining operand s (suc k) zero e u v w = absurd (let b = within_bounds (suc k) zero u v w in let c = b.3 in omega (arith, c))
   loops_alike joining operand s (suc k) (suc j) e u v w =
       let P : Option Joining → Type 0 = λ o. Alike size t rest more (suc k) (suc j) ExpressionSyntax (further_operands joining operand (suc k) e u)
-          (for_some o (λ join. operator >>= (λ i. operand >>= (λ b. further_operands joining operand j (join i e b)))) (give e) v) in
+      (for_some o (λ join. operator >>= (λ i. operand >>= (λ b. further_operands joining operand j (join i e b)))) (give e) v) in
       subst P (ap (option_and_then joining) (token_same (suc k) (suc j) u v w)) (round_by joining operand s k j (loops_alike joining operand s k j) (option_and_then joining (first_token u.tokens)) e u v w)
 
   start_loop : (joining : QueryToken → Option Joining) (operand : Production ExpressionSyntax) → Stable ExpressionSyntax operand → (m n : ℕ) (p q : Parsed ExpressionSyntax) → Alike size t rest more m n ExpressionSyntax p q
@@ -335,6 +336,7 @@ module _ (size : ℕ) (t : PlacedToken) (rest more : List PlacedToken) where
           → Behind size rest (List (List ℕ)) (goes_on p (λ n. further_names k (ns ++ n ∷ [])))
       after_name _ again (value_behind n v y) = again (ns ++ n ∷ []) v y
       after_name _ again (fault_behind f y) = fault_behind f y
+
       by_dot : (b : Bool) → ((ns : List (List ℕ)) (u : Unread) → Past size rest u → Behind size rest (List (List ℕ)) (further_names k ns u))
           → Behind size rest (List (List ℕ)) (either b (any_token >>= (λ _. name >>= (λ n. further_names k (ns ++ n ∷ [])))) (give ns) u)
       by_dot true again = after_name (name (behind_token u)) again (name_here.later (behind_token u) (past_next u u.operators z))
@@ -360,7 +362,7 @@ module _ (size : ℕ) (t : PlacedToken) (rest more : List PlacedToken) where
 
   round_names : (k j : ℕ) → NamesAlike k j → (b : Bool) (ns : List (List ℕ)) (u v : Unread) → Twins size t rest more (suc k) (suc j) u v
       → Alike size t rest more (suc k) (suc j) (List (List ℕ)) (either b (any_token >>= (λ _. name >>= (λ n. further_names k (ns ++ n ∷ [])))) (give ns) u)
-          (either b (any_token >>= (λ _. name >>= (λ n. further_names j (ns ++ n ∷ [])))) (give ns) v)
+      (either b (any_token >>= (λ _. name >>= (λ n. further_names j (ns ++ n ∷ [])))) (give ns) v)
   round_names k j again true ns u v w = raise_alike (List (List ℕ)) k j (suc k) (suc j) _ _ (omega arith) (omega arith) (round_dot k j again ns (any_token u) (any_token v) (any_less k j u v w))
   round_names k j again false ns u v w = same_value ns u v w
 
@@ -369,7 +371,7 @@ module _ (size : ℕ) (t : PlacedToken) (rest more : List PlacedToken) where
   names_alike (suc k) zero ns u v w = absurd (let b = within_bounds (suc k) zero u v w in let c = b.3 in omega (arith, c))
   names_alike (suc k) (suc j) ns u v w =
       let P : Bool → Type 0 = λ b. Alike size t rest more (suc k) (suc j) (List (List ℕ)) (further_names (suc k) ns u)
-          (either b (any_token >>= (λ _. name >>= (λ n. further_names j (ns ++ n ∷ [])))) (give ns) v) in
+      (either b (any_token >>= (λ _. name >>= (λ n. further_names j (ns ++ n ∷ [])))) (give ns) v) in
       subst P (ap (passes (is_the_sign dot)) (token_same (suc k) (suc j) u v w)) (round_names k j (names_alike k j) (next_is (is_the_sign dot) u) ns u v w)
 
   start_names : (m n : ℕ) (p q : Parsed (List ℕ)) → Alike size t rest more m n (List ℕ) p q

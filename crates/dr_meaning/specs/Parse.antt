@@ -4,12 +4,12 @@ use Rattle.std.specs.Prelude.{Option, Some, None, option_and_then, is_some, Resu
 use Rattle.dr_meaning.specs.Tokens.{Word, select_word, from_word, where_word, group_word, by_word, as_word, within_word, record_word, and_word, or_word}
 use Rattle.dr_meaning.specs.Tokens.{not_word, like_word, contains_word, is_word, null_word, true_word, false_word, count_word, sum_word, min_word, max_word}
 use Rattle.dr_meaning.specs.Tokens.{Sign, comma, open_parenthesis, close_parenthesis, dot, star, plus_sign, minus_sign, equals, differs, less_than}
-use Rattle.dr_meaning.specs.Tokens.{less_or_equal, greater_than, greater_or_equal, semicolon, QueryToken, reserved, identifier, number, text, sign, bad}
+use Rattle.dr_meaning.specs.Tokens.{less_or_equal, greater_than, greater_or_equal, semicolon, QueryToken, reserved, identifier, number, text, sign}
 use Rattle.dr_meaning.specs.Tokens.{PlacedToken, query_tokens, longest_query}
-use Rattle.dr_meaning.specs.Expression.{Arithmetic, plus, minus, times, Comparison, equal, unequal, less, at_most, greater, at_least}
+use Rattle.dr_meaning.specs.Expression.{plus, minus, times, Comparison, equal, unequal, less, at_most, greater, at_least}
 use Rattle.dr_meaning.specs.Query.{Aggregate, count, sum, least, greatest}
 use Rattle.dr_meaning.specs.Syntax.{NameSyntax, PathSyntax, ExpressionSyntax, number_literal, text_literal, truth_literal, path, negative, arithmetic}
-use Rattle.dr_meaning.specs.Syntax.{comparison, like, contains, is_null, negation, conjunction, disjunction, NodeSyntax, whole_record, node, WithinSyntax}
+use Rattle.dr_meaning.specs.Syntax.{comparison, like, contains, is_null, negation, conjunction, disjunction, whole_record, node, WithinSyntax}
 use Rattle.dr_meaning.specs.Syntax.{TermSyntax, expression, count_rows, aggregate, ItemSyntax, ConditionSyntax, QuerySyntax}
 
 -- ---- limits and faults
@@ -286,9 +286,9 @@ begins_key t = is_some (name_in t)
 abbrev pub further_names : ℕ → List (List ℕ) → Production (List (List ℕ))
 further_names zero ns = give ns
 further_names (suc k) ns = if_next (is_the_sign dot) (do
-    _ ← any_token
-    n ← name
-    further_names k (ns ++ n ∷ [])) (give ns)
+  _ ← any_token
+  n ← name
+  further_names k (ns ++ n ∷ [])) (give ns)
 
 abbrev pub names : Production (List (List ℕ))
 names = do
@@ -346,9 +346,9 @@ unary inner = if_next (is_the_sign minus_sign) (inner signed) (primary inner)
 abbrev pub further_operands : (QueryToken → Option Joining) → Production ExpressionSyntax → ℕ → ExpressionSyntax → Production ExpressionSyntax
 further_operands joining operand zero e = give e
 further_operands joining operand (suc k) e = by_next joining (λ join. do
-    i ← operator
-    b ← operand
-    further_operands joining operand k (join i e b)) (give e)
+  i ← operator
+  b ← operand
+  further_operands joining operand k (join i e b)) (give e)
 
 abbrev pub operands : (QueryToken → Option Joining) → Production ExpressionSyntax → Production ExpressionSyntax
 operands joining operand = do
@@ -471,12 +471,12 @@ too_many_of begins = if_next begins (problem_here too_many) (problem_here syntax
 -- further elements behind these, of which so many may come
 abbrev pub further_elements : {A : Type 0} → (QueryToken → Bool) → Production A → ℕ → List A → Production (List A)
 further_elements begins element zero xs = if_next (is_the_sign comma) (do
-    _ ← any_token
-    too_many_of begins) (give xs)
+  _ ← any_token
+  too_many_of begins) (give xs)
 further_elements begins element (suc n) xs = if_next (is_the_sign comma) (do
-    _ ← any_token
-    x ← element
-    further_elements begins element n (xs ++ x ∷ [])) (give xs)
+  _ ← any_token
+  x ← element
+  further_elements begins element n (xs ++ x ∷ [])) (give xs)
 
 -- an element, and so many more
 abbrev pub elements : {A : Type 0} → (QueryToken → Bool) → Production A → ℕ → Production (List A)
@@ -499,8 +499,8 @@ within_path i = do
 -- [WITHIN (RECORD | path)]
 abbrev pub within_part : Production (Option WithinSyntax)
 within_part = if_next (is_the_word within_word) (do
-    i ← any_token
-    if_next (is_the_word record_word) (within_record i) (within_path i)) (give None)
+  i ← any_token
+  if_next (is_the_word record_word) (within_record i) (within_path i)) (give None)
 
 -- whether a token is the star of COUNT(*)
 abbrev pub counts_rows : Aggregate → QueryToken → Bool
@@ -549,9 +549,9 @@ item_term = by_next aggregate_in aggregate_term expression_term
 
 abbrev pub as_part : Production (Option (List ℕ))
 as_part = if_next (is_the_word as_word) (do
-    _ ← any_token
-    n ← name
-    give (Some n)) (give None)
+  _ ← any_token
+  n ← name
+  give (Some n)) (give None)
 
 abbrev pub item : Production ItemSyntax
 item = do
@@ -575,10 +575,10 @@ table_name = do
 -- [WHERE expr]
 abbrev pub where_part : Production (Option ConditionSyntax)
 where_part = if_next (is_the_word where_word) (do
-    _ ← any_token
-    i ← here
-    e ← whole_expression
-    give (Some (record { place = i; expression = e }))) (give None)
+  _ ← any_token
+  i ← here
+  e ← whole_expression
+  give (Some (record { place = i; expression = e }))) (give None)
 
 -- path {"," path}
 unfoldable pub keys : Production (List PathSyntax)
@@ -587,9 +587,9 @@ keys = elements begins_key path_names (most_items - 1)
 -- [GROUP BY path {"," path}]
 abbrev pub group_part : Production (List PathSyntax)
 group_part = if_next (is_the_word group_word) (do
-    _ ← any_token
-    _ ← word by_word
-    keys) (give [])
+  _ ← any_token
+  _ ← word by_word
+  keys) (give [])
 
 -- the end of the text, for its place; Syntax at a token
 abbrev pub text_end : Production ℕ
@@ -598,8 +598,8 @@ text_end u = either (is_some (first_token u.tokens)) (problem_here syntax) here 
 -- [";"] and the end
 abbrev pub end_part : Production ℕ
 end_part = if_next (is_the_sign semicolon) (do
-    _ ← any_token
-    text_end) text_end
+  _ ← any_token
+  text_end) text_end
 
 abbrev pub query : Production QuerySyntax
 query = do
