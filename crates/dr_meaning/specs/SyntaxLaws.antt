@@ -27,7 +27,8 @@ SpelledIsAccepted = (bytes : List ℕ) (q : QuerySyntax) → SpellsQuery (query_
 
 -- a text with a fault of syntax is spelled by no tree
 abbrev pub SyntaxFaultIsNoQuery : Type 0
-SyntaxFaultIsNoQuery = (bytes : List ℕ) (i : ℕ) (q : QuerySyntax) → parse_query bytes ≡ Err (record { place = i; problem = syntax }) → SpellsQuery (query_tokens bytes) q → ⊥
+SyntaxFaultIsNoQuery = (bytes : List ℕ) (i : ℕ) (q : QuerySyntax) → parse_query bytes ≡ Err (record { place = i; problem = syntax })
+    → SpellsQuery (query_tokens bytes) q → ⊥
 
 -- no query's tokens begin with those before a token that is a fault of syntax and with it
 abbrev pub SyntaxFaultIsDeadEnd : Type 0
