@@ -26,6 +26,9 @@ pub mod SyntaxReading
 pub mod SyntaxSound
 pub mod SyntaxComplete
 pub mod SyntaxSpelled
+pub mod SyntaxStable
+pub mod SyntaxProductions
+pub mod SyntaxDeadEnds
 pub mod SyntaxAccepted
 pub mod SchemaMachine
 pub mod SchemaAccepted

@@ -1,16 +1,16 @@
 -- What parse_query accepts is spelled by the grammar: items, clauses and whole queries.
-use Rattle.std.specs.Prelude.{◌≡◌, ℕ, zero, suc, List, [], ◌∷◌, ◌++◌, length, Bool, true, false, nat_lt, is_some, Option, Some, None, Result, Ok, Err, ◌⊎◌, if◌then◌else◌, ◌-◌}
+use Rattle.std.specs.Prelude.{◌≡◌, ℕ, zero, suc, List, [], ◌∷◌, ◌++◌, length, Bool, true, false, nat_lt, Option, Some, None, Ok, Err, ◌⊎◌, if◌then◌else◌, ◌-◌}
 use Rattle.std.proofs.Common.{refl, sym, ap, ap₂, subst, ◌∙◌, inl, inr, append_assoc, append-nil}
 use Rattle.dr_meaning.specs.Tokens.{select_word, from_word, where_word, group_word, by_word, as_word, within_word, record_word, count_word, sum_word, min_word, max_word}
 use Rattle.dr_meaning.specs.Tokens.{comma, open_parenthesis, close_parenthesis, star, semicolon, Word, QueryToken, reserved, PlacedToken, placed, query_tokens, longest_query}
 use Rattle.dr_meaning.specs.Query.{Aggregate, count, sum, least, greatest}
 use Rattle.dr_meaning.specs.Syntax.{NameSyntax, PathSyntax, ExpressionSyntax, WithinSyntax, TermSyntax, expression, count_rows, aggregate, whole_record, node, ItemSyntax}
 use Rattle.dr_meaning.specs.Syntax.{ConditionSyntax, QuerySyntax}
-use Rattle.dr_meaning.specs.Parse.{Unread, Parsed, got, refused, Production, give, goes_on, ◌>>=◌, first_token, first_place, place_of, here, problem_here, syntax, too_many, too_long, either, if_next}
-use Rattle.dr_meaning.specs.Parse.{any_token, operator, word, mark, name, is_the_word, is_the_sign, aggregate_in, path_names, nested, expression_of, too_many_of, further_elements}
+use Rattle.dr_meaning.specs.Parse.{Unread, Parsed, got, refused, Production, give, ◌>>=◌, first_place, place_of, here, problem_here, syntax, too_many, too_long, if_next}
+use Rattle.dr_meaning.specs.Parse.{any_token, operator, word, mark, name, is_the_word, is_the_sign, aggregate_in, path_names, too_many_of, further_elements}
 use Rattle.dr_meaning.specs.Parse.{elements, within_record, within_path, within_part, counts_rows, rows_argument, argument, expression_argument, aggregate_term, whole_expression}
 use Rattle.dr_meaning.specs.Parse.{expression_term, item_term, as_part, item, items, table_name, where_part, keys, group_part, text_end, end_part, query, begins_item, begins_key}
-use Rattle.dr_meaning.specs.Parse.{result_of, unread_text, parse_query, QueryFault, greatest_nesting, most_items}
+use Rattle.dr_meaning.specs.Parse.{result_of, unread_text, parse_query, greatest_nesting, most_items}
 use Rattle.dr_meaning.specs.QueryGrammar.{word_at, sign_at, name_at, BeginsAt, SpellsPath, SpellsExpression, one_and, or_and, SpellsAnd, one_not, and_not, SpellsNot, not_not, one_test}
 use Rattle.dr_meaning.specs.QueryGrammar.{SpellsTest, one_sum, compared_sums, like_text, not_like_text, contains_text, not_contains_text, is_null_word, is_not_null, SpellsSum}
 use Rattle.dr_meaning.specs.QueryGrammar.{one_product, plus_product, minus_product, SpellsProduct, one_unary, times_unary, SpellsUnary, minus_unary, one_primary, SpellsPrimary}
@@ -18,7 +18,7 @@ use Rattle.dr_meaning.specs.QueryGrammar.{a_number, a_text, a_true, a_false, a_p
 use Rattle.dr_meaning.specs.QueryGrammar.{is_sum, is_least, is_greatest, SpellsTerm, counted_rows, aggregated, an_expression, SpellsAs, no_as, as_name, SpellsItem, Separated, alone}
 use Rattle.dr_meaning.specs.QueryGrammar.{and_one, SpellsWhere, no_where, where_expression, SpellsGroup, no_group, group_by, SpellsEnd, no_semicolon, a_semicolon, SpellsQuery, a_query}
 use Rattle.dr_meaning.specs.SyntaxLaws.{AcceptedIsSpelled}
-use Rattle.dr_meaning.proofs.SyntaxReading.{Front, Sound, bind_parts, given, NextToken, if_parts, by_parts, NextMeaning, any_read, token_read, operator_read, operator_means, any_means}
+use Rattle.dr_meaning.proofs.SyntaxReading.{Front, Sound, bind_parts, given, NextToken, if_parts, by_parts, NextMeaning, any_read, token_read, operator_read, any_means}
 use Rattle.dr_meaning.proofs.SyntaxReading.{word_next, sign_next, name_next}
 use Rattle.dr_meaning.proofs.SyntaxSound.{behind, path_sound, nested_expression_sound}
 

@@ -1,22 +1,22 @@
 -- What the grammar spells, parse_query accepts with the same tree, or refuses for a limit: expressions.
-use Rattle.std.specs.Prelude.{◌≡◌, ℕ, zero, suc, ◌+◌, ◌<◌, ◌≤◌, List, [], ◌∷◌, ◌++◌, length, Bool, true, false, nat_lt, Option, Some, None, option_and_then, ◌||◌}
-use Rattle.std.proofs.Common.{refl, sym, ap, ap₂, subst, ◌∙◌, inl, inr, append_assoc, append-nil, arith, length-append, lit<}
-use Rattle.dr_meaning.specs.Tokens.{Word, select_word, from_word, where_word, group_word, by_word, as_word, within_word, record_word, and_word, or_word}
-use Rattle.dr_meaning.specs.Tokens.{not_word, like_word, contains_word, is_word, null_word, true_word, false_word, count_word, sum_word, min_word, max_word}
-use Rattle.dr_meaning.specs.Tokens.{Sign, comma, open_parenthesis, close_parenthesis, dot, star, plus_sign, minus_sign, equals, differs, less_than}
-use Rattle.dr_meaning.specs.Tokens.{less_or_equal, greater_than, greater_or_equal, semicolon, QueryToken, reserved, identifier, number, text, sign, bad}
+use Rattle.std.specs.Prelude.{◌≡◌, ℕ, zero, suc, ◌<◌, ◌≤◌, List, [], ◌∷◌, ◌++◌, length, Bool, true, false, nat_lt, Option, Some, None, option_and_then, ◌||◌}
+use Rattle.std.proofs.Common.{refl, sym, ap, subst, ◌∙◌, append_assoc, arith, length-append, lit<}
+use Rattle.dr_meaning.specs.Tokens.{Word, and_word, or_word}
+use Rattle.dr_meaning.specs.Tokens.{not_word, like_word, contains_word, is_word, null_word, true_word, false_word}
+use Rattle.dr_meaning.specs.Tokens.{Sign, open_parenthesis, close_parenthesis, dot, star, plus_sign, minus_sign, equals, differs, less_than}
+use Rattle.dr_meaning.specs.Tokens.{less_or_equal, greater_than, greater_or_equal, QueryToken, reserved, identifier, number, sign}
 use Rattle.dr_meaning.specs.Tokens.{PlacedToken, placed}
 use Rattle.dr_meaning.specs.Expression.{plus, minus, times, Comparison}
 use Rattle.dr_meaning.specs.Syntax.{PathSyntax, ExpressionSyntax, number_literal, text_literal, truth_literal, path, negative, arithmetic}
 use Rattle.dr_meaning.specs.Syntax.{comparison, like, contains, is_null, negation, conjunction, disjunction}
-use Rattle.dr_meaning.specs.Parse.{QueryProblem, too_long, too_deep, too_many, syntax, QueryFault, Unread, Parsed, got, refused, Production, give, goes_on, ◌>>=◌, first_token}
-use Rattle.dr_meaning.specs.Parse.{first_place, place_of, without_first, behind_token, behind_operator, passes, next_is, either, if_next, for_some, by_next, problem_here, any_token}
-use Rattle.dr_meaning.specs.Parse.{token_where, operator, counted, most_operators, is_the_word, is_the_sign, word, mark, name, quoted_text, comparison_in, Joining, or_in, and_in, sum_in}
-use Rattle.dr_meaning.specs.Parse.{product_in, further_names, names, path_names, Nesting, parenthesized, negated, signed, Inner, literal, path_operand, primary_at, primary, unary}
-use Rattle.dr_meaning.specs.Parse.{begins_primary, name_in, text_in, further_operands, operands, product_of, sum_of, plain, like_test, contains_test, text_test, denied_test, denied_null, plain_null, null_test}
+use Rattle.dr_meaning.specs.Parse.{too_deep, too_many, syntax, QueryFault, Unread, Parsed, got, refused, Production, give, goes_on, ◌>>=◌, first_token}
+use Rattle.dr_meaning.specs.Parse.{first_place, place_of, without_first, behind_token, behind_operator, passes, either, if_next, for_some, by_next, problem_here, any_token}
+use Rattle.dr_meaning.specs.Parse.{operator, counted, most_operators, is_the_word, is_the_sign, word, mark, name, quoted_text, comparison_in, Joining, or_in, and_in, sum_in}
+use Rattle.dr_meaning.specs.Parse.{product_in, further_names, names, path_names, negated, signed, Inner, literal, path_operand, primary_at, primary, unary}
+use Rattle.dr_meaning.specs.Parse.{begins_primary, name_in, text_in, further_operands, product_of, sum_of, plain, like_test, contains_test, text_test, denied_test, denied_null, plain_null, null_test}
 use Rattle.dr_meaning.specs.Parse.{comparison_test, word_test, tested, test_of, not_of, and_of, expression_of, nested}
 use Rattle.dr_meaning.specs.SyntaxLaws.{IsLimit}
-use Rattle.dr_meaning.specs.QueryGrammar.{word_at, sign_at, name_at, text_at, BeginsAt, SpellsNames, first_name, further_name, SpellsPath, IsComparison, is_equal, is_unequal}
+use Rattle.dr_meaning.specs.QueryGrammar.{word_at, sign_at, name_at, text_at, SpellsNames, first_name, further_name, SpellsPath, IsComparison, is_equal, is_unequal}
 use Rattle.dr_meaning.specs.QueryGrammar.{is_less, is_at_most, is_greater, is_at_least, SpellsExpression, one_and, or_and, SpellsAnd, one_not, and_not, SpellsNot, not_not, one_test}
 use Rattle.dr_meaning.specs.QueryGrammar.{SpellsTest, one_sum, compared_sums, like_text, not_like_text, contains_text, not_contains_text, is_null_word, is_not_null, SpellsSum}
 use Rattle.dr_meaning.specs.QueryGrammar.{one_product, plus_product, minus_product, SpellsProduct, one_unary, times_unary, SpellsUnary, minus_unary, one_primary, SpellsPrimary}
@@ -183,18 +183,22 @@ tests_end (t ∷ ts) h = record { no_comparison = by_comparison t.token h; no_no
     by_comparison (sign greater_or_equal) g = absurd (omega (arith, g))
     by_comparison (sign s) g = refl
     by_comparison q g = refl
+
     by_not : (q : QueryToken) → 4 < rank q → is_the_word not_word q ≡ false
     by_not (reserved not_word) g = absurd (omega (arith, g))
     by_not (reserved w) g = refl
     by_not q g = refl
+
     by_is : (q : QueryToken) → 4 < rank q → is_the_word is_word q ≡ false
     by_is (reserved is_word) g = absurd (omega (arith, g))
     by_is (reserved w) g = refl
     by_is q g = refl
+
     by_like : (q : QueryToken) → 4 < rank q → is_the_word like_word q ≡ false
     by_like (reserved like_word) g = absurd (omega (arith, g))
     by_like (reserved w) g = refl
     by_like q g = refl
+
     by_contains : (q : QueryToken) → 4 < rank q → is_the_word contains_word q ≡ false
     by_contains (reserved contains_word) g = absurd (omega (arith, g))
     by_contains (reserved w) g = refl
@@ -345,7 +349,7 @@ path_complete ts p s u rest h e =
     let read : names u ≡ got p.names r.left = r.is ∙ names_stop r.fuel p.names r.left stops in
     let place : place_of u ≡ p.place = ap (first_place u.size) (e ∙ ap (λ xs. xs ++ rest) s.0.2) ∙ s.0.3 in
     let path_read : path_names u ≡ got p r.left =
-        ap (λ (q : Parsed (List (List ℕ))). goes_on q (λ ns. give (record { place = place_of u; names = ns }))) read ∙ ap (λ (i : ℕ). got (record { place = i; names = p.names }) r.left) place in
+    ap (λ (q : Parsed (List (List ℕ))). goes_on q (λ ns. give (record { place = place_of u; names = ns }))) read ∙ ap (λ (i : ℕ). got (record { place = i; names = p.names }) r.left) place in
     subst (Reads PathSyntax p rest) (sym path_read) (read_all r.left r.tokens)
 
 -- ---- operands joined by operators
@@ -381,8 +385,8 @@ reach_more joining operand a b t us rest join _ j (reached k v e l) g =
     let enough : length rest ≤ f.0 = let m = f.2 in omega (arith, m, behind_all) in
     let meaning : meaning_in joining v.tokens ≡ Some join = ap (meaning_in joining) e ∙ j in
     let next : further_operands joining operand k a v ≡ goes_on (operator v) (λ i. operand >>= (λ c. further_operands joining operand f.0 (join i a c))) =
-        ap (λ n. further_operands joining operand n a v) f.1
-        ∙ ap (λ (o : Option Joining). for_some o (λ join. operator >>= (λ i. operand >>= (λ c. further_operands joining operand f.0 (join i a c)))) (give a) v) meaning in
+    ap (λ n. further_operands joining operand n a v) f.1
+    ∙ ap (λ (o : Option Joining). for_some o (λ join. operator >>= (λ i. operand >>= (λ c. further_operands joining operand f.0 (join i a c)))) (give a) v) meaning in
     subst (Reaches joining operand (join t.place a b) rest) (sym next)
     (reach_operator joining operand f.0 t.place a b us rest join (operator v) enough (operator_complete t (us ++ rest) v e) g)
 
@@ -428,7 +432,7 @@ like_reads : (shaped : ℕ → ExpressionSyntax → ExpressionSyntax) (a : Expre
 like_reads shaped a other i j t rest v e =
     if_yes (is_the_word like_word) (like_test shaped a) (if_next (is_the_word contains_word) (contains_test shaped a) other) (shaped i (like i a t)) rest v (word_at i like_word ∷ text_at j t ∷ rest) e refl
     (reads_on ℕ ExpressionSyntax i (shaped i (like i a t)) (text_at j t ∷ rest) rest (any_token v) (λ i. quoted_text >>= (λ t. give (shaped i (like i a t)))) (any_complete (word_at i like_word) (text_at j t ∷ rest) v e)
-        (λ w x. reads_on (List ℕ) ExpressionSyntax t (shaped i (like i a t)) rest rest (quoted_text w) (λ t. give (shaped i (like i a t))) (text_complete t j rest w x) (λ z y. read_all z y)))
+    (λ w x. reads_on (List ℕ) ExpressionSyntax t (shaped i (like i a t)) rest rest (quoted_text w) (λ t. give (shaped i (like i a t))) (text_complete t j rest w x) (λ z y. read_all z y)))
 
 contains_reads : (shaped : ℕ → ExpressionSyntax → ExpressionSyntax) (a : ExpressionSyntax) (other : Production ExpressionSyntax) (i j : ℕ) (t : List ℕ) (rest : List PlacedToken) (v : Unread)
     → v.tokens ≡ word_at i contains_word ∷ text_at j t ∷ rest → Reads ExpressionSyntax (shaped i (contains i a t)) rest (text_test shaped a other v)
@@ -436,7 +440,7 @@ contains_reads shaped a other i j t rest v e =
     if_no (is_the_word like_word) (like_test shaped a) (if_next (is_the_word contains_word) (contains_test shaped a) other) (shaped i (contains i a t)) rest v (word_at i contains_word ∷ text_at j t ∷ rest) e refl
     (if_yes (is_the_word contains_word) (contains_test shaped a) other (shaped i (contains i a t)) rest v (word_at i contains_word ∷ text_at j t ∷ rest) e refl
     (reads_on ℕ ExpressionSyntax i (shaped i (contains i a t)) (text_at j t ∷ rest) rest (any_token v) (λ i. quoted_text >>= (λ t. give (shaped i (contains i a t)))) (any_complete (word_at i contains_word) (text_at j t ∷ rest) v e)
-        (λ w x. reads_on (List ℕ) ExpressionSyntax t (shaped i (contains i a t)) rest rest (quoted_text w) (λ t. give (shaped i (contains i a t))) (text_complete t j rest w x) (λ z y. read_all z y))))
+    (λ w x. reads_on (List ℕ) ExpressionSyntax t (shaped i (contains i a t)) rest rest (quoted_text w) (λ t. give (shaped i (contains i a t))) (text_complete t j rest w x) (λ z y. read_all z y))))
 
 -- a word that is no comparison and not NOT, then IS or not
 by_words : (inner : Inner) (a b : ExpressionSyntax) (w : Word) (i : ℕ) (behind rest : List PlacedToken) (v : Unread) → v.tokens ≡ word_at i w ∷ behind → is_the_word not_word (reserved w) ≡ false
@@ -480,7 +484,7 @@ not_null_reads : (a : ExpressionSyntax) (i j k : ℕ) (rest : List PlacedToken) 
 not_null_reads a i j k rest w e =
     if_yes (is_the_word not_word) (denied_null i a) (plain_null i a) (negation i (is_null i a)) rest w (word_at j not_word ∷ word_at k null_word ∷ rest) e refl
     (reads_on ℕ ExpressionSyntax j (negation i (is_null i a)) (word_at k null_word ∷ rest) rest (any_token w) (λ _. word null_word >>= (λ _. give (negation i (is_null i a)))) (any_complete (word_at j not_word) (word_at k null_word ∷ rest) w e)
-        (λ v x. reads_on ℕ ExpressionSyntax k (negation i (is_null i a)) rest rest (word null_word v) (λ _. give (negation i (is_null i a))) (word_complete null_word k rest v refl x) (λ z y. read_all z y)))
+    (λ v x. reads_on ℕ ExpressionSyntax k (negation i (is_null i a)) rest rest (word null_word v) (λ _. give (negation i (is_null i a))) (word_complete null_word k rest v refl x) (λ z y. read_all z y)))
 
 -- ---- literals and paths
 
@@ -539,7 +543,7 @@ mutual
   not_reads _ _ (not_not i ts e s) (suc k) u rest h q =
       if_yes (is_the_word not_word) (nested (suc k) negated) (test_of (nested (suc k))) (negation i e) rest u (word_at i not_word ∷ (ts ++ rest)) q refl
       (reads_on ℕ ExpressionSyntax i (negation i e) (ts ++ rest) rest (any_token u) (λ i. not_of (nested k) >>= (λ e. give (negation i e))) (any_complete (word_at i not_word) (ts ++ rest) u q)
-          (λ v x. reads_on ExpressionSyntax ExpressionSyntax e (negation i e) rest rest (not_of (nested k) v) (λ e. give (negation i e)) (not_reads ts e s k v rest h x) (λ w y. read_all w y)))
+      (λ v x. reads_on ExpressionSyntax ExpressionSyntax e (negation i e) rest rest (not_of (nested k) v) (λ e. give (negation i e)) (not_reads ts e s k v rest h x) (λ w y. read_all w y)))
   not_reads _ _ (one_test ts e s) n u rest h q =
       if_no (is_the_word not_word) (nested n negated) (test_of (nested n)) e rest u (ts ++ rest) q (other_first begins_unary (is_the_word not_word) ts rest unary_is_no_not (first_test ts e s))
       (test_reads ts e s n u rest h q)
@@ -551,8 +555,8 @@ mutual
       let ranks = comparison_ranks g c k in
       summed n a (comparison i c a b) u (sign_at i g ∷ (us ++ rest)) rest (sum_reach ts a r n u (sign_at i g ∷ (us ++ rest)) (omega (arith, ranks)) (q ∙ append_assoc ts (sign_at i g ∷ us) rest)) ranks
       (λ v x. by_some comparison_in (comparison_test (nested n) a) (word_test a) c (comparison i c a b) rest v (sign_at i g ∷ (us ++ rest)) x (comparison_means g c k)
-          (reads_on ℕ ExpressionSyntax i (comparison i c a b) (us ++ rest) rest (any_token v) (λ i. sum_of (nested n) >>= (λ e. give (comparison i c a e))) (any_complete (sign_at i g) (us ++ rest) v x)
-              (λ w y. summed_by n b (comparison i c a b) w rest rest (λ e. give (comparison i c a e)) (sum_reach us b s n w rest (omega (arith, h)) y) (omega (arith, h)) (λ z t. read_all z t))))
+      (reads_on ℕ ExpressionSyntax i (comparison i c a b) (us ++ rest) rest (any_token v) (λ i. sum_of (nested n) >>= (λ e. give (comparison i c a e))) (any_complete (sign_at i g) (us ++ rest) v x)
+      (λ w y. summed_by n b (comparison i c a b) w rest rest (λ e. give (comparison i c a e)) (sum_reach us b s n w rest (omega (arith, h)) y) (omega (arith, h)) (λ z t. read_all z t))))
   test_reads _ _ (like_text i j ts e t s) n u rest h q =
       summed n e (like i e t) u (word_at i like_word ∷ text_at j t ∷ rest) rest (sum_reach ts e s n u (word_at i like_word ∷ text_at j t ∷ rest) (lit< tt) (q ∙ append_assoc ts _ rest)) (lit< tt)
       (λ v x. tested_like (nested n) e i j t rest v x)
@@ -604,7 +608,7 @@ mutual
   unary_reads _ _ (minus_unary i ts e s) (suc k) u rest h q =
       if_yes (is_the_sign minus_sign) (nested (suc k) signed) (primary (nested (suc k))) (negative i e) rest u (sign_at i minus_sign ∷ (ts ++ rest)) q refl
       (reads_on ℕ ExpressionSyntax i (negative i e) (ts ++ rest) rest (operator u) (λ i. unary (nested k) >>= (λ e. give (negative i e))) (operator_complete (sign_at i minus_sign) (ts ++ rest) u q)
-          (λ v x. reads_on ExpressionSyntax ExpressionSyntax e (negative i e) rest rest (unary (nested k) v) (λ e. give (negative i e)) (unary_reads ts e s k v rest h x) (λ w y. read_all w y)))
+      (λ v x. reads_on ExpressionSyntax ExpressionSyntax e (negative i e) rest rest (unary (nested k) v) (λ e. give (negative i e)) (unary_reads ts e s k v rest h x) (λ w y. read_all w y)))
   unary_reads _ _ (one_primary ts e s) n u rest h q =
       if_no (is_the_sign minus_sign) (nested n signed) (primary (nested n)) e rest u (ts ++ rest) q (other_first begins_primary (is_the_sign minus_sign) ts rest primary_is_no_minus (first_primary ts e s))
       (primary_reads ts e s n u rest h q)
@@ -623,9 +627,9 @@ mutual
       let tokens : u.tokens ≡ sign_at i open_parenthesis ∷ middle = q ∙ ap (λ (xs : List PlacedToken). sign_at i open_parenthesis ∷ xs) (append_assoc ts (sign_at j close_parenthesis ∷ []) rest) in
       subst (λ (xs : List PlacedToken). Reads ExpressionSyntax e rest (primary_at (nested (suc k)) (first_token xs) u)) (sym tokens)
       (reads_on ℕ ExpressionSyntax i e middle rest (any_token u) (λ _. expression_of (nested k) >>= (λ e. mark close_parenthesis >>= (λ _. give e))) (any_complete (sign_at i open_parenthesis) middle u tokens)
-          (λ v x. reads_on ExpressionSyntax ExpressionSyntax e e (sign_at j close_parenthesis ∷ rest) rest (expression_of (nested k) v) (λ e. mark close_parenthesis >>= (λ _. give e))
-              (reach_end or_in (and_of (nested k)) e (sign_at j close_parenthesis ∷ rest) (expression_of (nested k) v) (expression_reach ts e s k v (sign_at j close_parenthesis ∷ rest) (lit< tt) x) (no_or (sign_at j close_parenthesis ∷ rest) (lit< tt)))
-              (λ w y. reads_on ℕ ExpressionSyntax j e rest rest (mark close_parenthesis w) (λ _. give e) (sign_complete close_parenthesis j rest w refl y) (λ z t. read_all z t))))
+      (λ v x. reads_on ExpressionSyntax ExpressionSyntax e e (sign_at j close_parenthesis ∷ rest) rest (expression_of (nested k) v) (λ e. mark close_parenthesis >>= (λ _. give e))
+      (reach_end or_in (and_of (nested k)) e (sign_at j close_parenthesis ∷ rest) (expression_of (nested k) v) (expression_reach ts e s k v (sign_at j close_parenthesis ∷ rest) (lit< tt) x) (no_or (sign_at j close_parenthesis ∷ rest) (lit< tt)))
+      (λ w y. reads_on ℕ ExpressionSyntax j e rest rest (mark close_parenthesis w) (λ _. give e) (sign_complete close_parenthesis j rest w refl y) (λ z t. read_all z t))))
 
 -- an expression, where nothing that goes on with one stands behind it
 pub expression_complete : (ts : List PlacedToken) (e : ExpressionSyntax) → SpellsExpression ts e → (n : ℕ) (u : Unread) (rest : List PlacedToken) → 6 < rank_of rest → u.tokens ≡ ts ++ rest

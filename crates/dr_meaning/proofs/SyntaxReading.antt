@@ -1,15 +1,15 @@
 -- What is read from the front of tokens: the lemmas by which a production that is read is one that is spelled.
-use Rattle.std.specs.Prelude.{◌≡◌, ℕ, zero, suc, List, [], ◌∷◌, ◌++◌, length, Bool, true, false, nat_lt, bytes_eq, if◌then◌else◌, ◌⊎◌, Option, Some, None, option_and_then}
-use Rattle.std.proofs.Common.{refl, sym, ap, ap₂, subst, ◌∙◌, inl, inr, append_assoc, append-nil, true≢false}
+use Rattle.std.specs.Prelude.{◌≡◌, ℕ, List, [], ◌∷◌, ◌++◌, Bool, true, false, nat_lt, bytes_eq, if◌then◌else◌, ◌⊎◌, Option, Some, None, option_and_then}
+use Rattle.std.proofs.Common.{refl, sym, ap, ap₂, subst, ◌∙◌, inl, inr, true≢false}
 use Rattle.std.proofs.lemmas.Slice.Eq.{bytes_eq-Decides}
 use Rattle.dr_meaning.specs.Tokens.{Word, select_word, from_word, where_word, group_word, by_word, as_word, within_word, record_word, and_word, or_word}
 use Rattle.dr_meaning.specs.Tokens.{not_word, like_word, contains_word, is_word, null_word, true_word, false_word, count_word, sum_word, min_word, max_word}
 use Rattle.dr_meaning.specs.Tokens.{Sign, comma, open_parenthesis, close_parenthesis, dot, star, plus_sign, minus_sign, equals, differs, less_than}
-use Rattle.dr_meaning.specs.Tokens.{less_or_equal, greater_than, greater_or_equal, semicolon, QueryToken, reserved, identifier, number, text, sign, bad}
+use Rattle.dr_meaning.specs.Tokens.{less_or_equal, greater_than, greater_or_equal, semicolon, QueryToken, reserved, identifier, text, sign}
 use Rattle.dr_meaning.specs.Tokens.{PlacedToken, placed, name_token}
-use Rattle.dr_meaning.specs.Parse.{Unread, Parsed, got, refused, Production, give, goes_on, ◌>>=◌, first_token, first_place, place_of, without_first, behind_token, behind_operator, problem_here, syntax, too_many, passes, next_is, either}
+use Rattle.dr_meaning.specs.Parse.{Unread, Parsed, got, refused, Production, give, goes_on, first_token, first_place, place_of, without_first, behind_token, behind_operator, problem_here, syntax, too_many, passes, next_is, either}
 use Rattle.dr_meaning.specs.Parse.{if_next, for_some, by_next, any_token, token_where, token_as, operator, counted, capitals, sign_bytes, is_the_word, is_the_sign}
-use Rattle.dr_meaning.specs.Parse.{word, mark, name, name_in, quoted_text, text_in, most_operators}
+use Rattle.dr_meaning.specs.Parse.{name, name_in, quoted_text, text_in, most_operators}
 use Rattle.dr_meaning.specs.QueryGrammar.{word_at, sign_at, name_at, text_at}
 
 -- what was read, from the tokens that were left before and behind it

@@ -1,23 +1,23 @@
 -- What parse_query accepts is spelled by the grammar, production by production.
 use Rattle.std.specs.Prelude.{◌≡◌, ℕ, zero, suc, List, [], ◌∷◌, ◌++◌, length, Bool, true, false, Option, Some, None, ◌⊎◌}
-use Rattle.std.proofs.Common.{refl, sym, ap, ap₂, subst, ◌∙◌, inl, inr, append_assoc, append-nil}
+use Rattle.std.proofs.Common.{refl, sym, ap, subst, ◌∙◌, inl, inr, append_assoc, append-nil}
 use Rattle.dr_meaning.specs.Tokens.{or_word, and_word, not_word, dot, star, plus_sign, minus_sign, close_parenthesis, open_parenthesis, QueryToken, reserved}
-use Rattle.dr_meaning.specs.Tokens.{identifier, number, text, sign, bad, true_word, false_word, Word, Sign, PlacedToken, placed}
+use Rattle.dr_meaning.specs.Tokens.{identifier, number, text, sign, bad, true_word, false_word, Sign, PlacedToken, placed}
 use Rattle.dr_meaning.specs.Tokens.{equals, differs, less_than, less_or_equal, greater_than, greater_or_equal, like_word, contains_word, is_word, null_word}
 use Rattle.dr_meaning.specs.Expression.{plus, minus, times, Comparison, equal, unequal, less, at_most, greater, at_least}
-use Rattle.dr_meaning.specs.Syntax.{PathSyntax, ExpressionSyntax, number_literal, text_literal, truth_literal, path, negative, arithmetic}
+use Rattle.dr_meaning.specs.Syntax.{ExpressionSyntax, number_literal, text_literal, truth_literal, path, negative, arithmetic}
 use Rattle.dr_meaning.specs.Syntax.{comparison, like, contains, is_null, negation, conjunction, disjunction}
-use Rattle.dr_meaning.specs.Parse.{Unread, Parsed, got, refused, Production, give, goes_on, ◌>>=◌, first_token, first_place, passes, place_of, here, problem_here, syntax, too_deep, if_next, by_next}
+use Rattle.dr_meaning.specs.Parse.{Unread, got, Production, give, ◌>>=◌, first_token, first_place, passes, place_of, problem_here, syntax, if_next}
 use Rattle.dr_meaning.specs.Parse.{any_token, operator, word, mark, name, quoted_text, is_the_word, is_the_sign, comparison_in, Joining, or_in, and_in, sum_in, product_in}
 use Rattle.dr_meaning.specs.Parse.{further_names, names, path_names, Nesting, parenthesized, negated, signed, Inner, literal, path_operand, primary_at, primary, unary}
 use Rattle.dr_meaning.specs.Parse.{further_operands, operands, product_of, sum_of, plain, like_test, contains_test, text_test, denied_test, denied_null, plain_null, null_test}
 use Rattle.dr_meaning.specs.Parse.{comparison_test, word_test, tested, test_of, not_of, and_of, expression_of, nested}
-use Rattle.dr_meaning.specs.QueryGrammar.{word_at, sign_at, name_at, text_at, BeginsAt, SpellsNames, first_name, further_name, SpellsPath, IsComparison, is_equal, is_unequal}
+use Rattle.dr_meaning.specs.QueryGrammar.{word_at, sign_at, name_at, text_at, SpellsNames, first_name, further_name, SpellsPath, IsComparison, is_equal, is_unequal}
 use Rattle.dr_meaning.specs.QueryGrammar.{is_less, is_at_most, is_greater, is_at_least, SpellsExpression, one_and, or_and, SpellsAnd, one_not, and_not, SpellsNot, not_not, one_test}
 use Rattle.dr_meaning.specs.QueryGrammar.{SpellsTest, one_sum, compared_sums, like_text, not_like_text, contains_text, not_contains_text, is_null_word, is_not_null, SpellsSum}
 use Rattle.dr_meaning.specs.QueryGrammar.{one_product, plus_product, minus_product, SpellsProduct, one_unary, times_unary, SpellsUnary, minus_unary, one_primary, SpellsPrimary}
 use Rattle.dr_meaning.specs.QueryGrammar.{a_number, a_text, a_true, a_false, a_path, in_parentheses}
-use Rattle.dr_meaning.proofs.SyntaxReading.{Front, Sound, bind_parts, given, NextToken, if_parts, by_parts, NextMeaning, TokenRead, any_read, token_read, operator_read, next_token, first_read, operator_means, any_means}
+use Rattle.dr_meaning.proofs.SyntaxReading.{Front, Sound, bind_parts, given, NextToken, if_parts, by_parts, NextMeaning, any_read, token_read, operator_read, next_token, first_read, operator_means, any_means}
 use Rattle.dr_meaning.proofs.SyntaxReading.{word_next, sign_next, name_next, text_next}
 
 -- ---- fronts one behind another

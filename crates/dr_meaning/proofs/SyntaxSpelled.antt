@@ -1,24 +1,24 @@
 -- What the grammar spells, parse_query accepts with the same tree, or refuses for a limit: items, clauses and whole queries.
-use Rattle.std.specs.Prelude.{◌≡◌, ℕ, zero, suc, ◌-◌, ◌<◌, List, [], ◌∷◌, ◌++◌, length, Bool, true, false, ◌||◌, nat_lt, is_some, if◌then◌else◌, Option, Some, None, Result, Ok, Err, ◌⊎◌}
-use Rattle.std.proofs.Common.{refl, sym, ap, ap₂, subst, ◌∙◌, inl, inr, append_assoc, arith, lit<}
-use Rattle.dr_meaning.specs.Tokens.{select_word, from_word, where_word, group_word, by_word, as_word, within_word, record_word, not_word, count_word, sum_word, min_word, max_word, Word}
-use Rattle.dr_meaning.specs.Tokens.{true_word, false_word, comma, open_parenthesis, close_parenthesis, star, minus_sign, semicolon, QueryToken, reserved, identifier, number, text, sign}
-use Rattle.dr_meaning.specs.Tokens.{PlacedToken, placed, query_tokens, longest_query}
+use Rattle.std.specs.Prelude.{◌≡◌, ℕ, zero, suc, ◌-◌, ◌<◌, List, [], ◌∷◌, ◌++◌, length, Bool, true, false, nat_lt, is_some, if◌then◌else◌, Option, Some, None, Ok, Err, ◌⊎◌}
+use Rattle.std.proofs.Common.{refl, sym, ap, subst, ◌∙◌, inl, inr, append_assoc, arith, lit<}
+use Rattle.dr_meaning.specs.Tokens.{select_word, from_word, where_word, group_word, by_word, as_word, within_word, record_word, not_word, count_word, Word}
+use Rattle.dr_meaning.specs.Tokens.{true_word, false_word, comma, open_parenthesis, close_parenthesis, star, minus_sign, semicolon, QueryToken, reserved, identifier, sign}
+use Rattle.dr_meaning.specs.Tokens.{PlacedToken, query_tokens, longest_query}
 use Rattle.dr_meaning.specs.Query.{Aggregate, count, sum, least, greatest}
 use Rattle.dr_meaning.specs.Syntax.{NameSyntax, PathSyntax, ExpressionSyntax, WithinSyntax, TermSyntax, expression, count_rows, aggregate, whole_record, node, ItemSyntax}
 use Rattle.dr_meaning.specs.Syntax.{ConditionSyntax, QuerySyntax}
 use Rattle.dr_meaning.specs.Parse.{Unread, Parsed, got, refused, Production, give, goes_on, ◌>>=◌, first_token, first_place, place_of, here, problem_here, syntax, too_many, too_long}
-use Rattle.dr_meaning.specs.Parse.{QueryFault, either, if_next, any_token, operator, word, mark, name, is_the_word, is_the_sign, aggregate_in, begins_primary, path_names, nested}
-use Rattle.dr_meaning.specs.Parse.{expression_of, too_many_of, further_elements, elements, within_record, within_path, within_part, counts_rows, rows_argument, argument}
+use Rattle.dr_meaning.specs.Parse.{QueryFault, either, if_next, any_token, operator, word, mark, name, is_the_word, is_the_sign, aggregate_in, path_names}
+use Rattle.dr_meaning.specs.Parse.{too_many_of, further_elements, elements, within_record, within_path, within_part, counts_rows, rows_argument, argument}
 use Rattle.dr_meaning.specs.Parse.{expression_argument, aggregate_term, whole_expression, expression_term, item_term, as_part, item, items, table_name, where_part, keys, group_part}
 use Rattle.dr_meaning.specs.Parse.{text_end, end_part, query, begins_item, begins_key, result_of, unread_text, parse_query, greatest_nesting, most_items, behind_token, without_first}
-use Rattle.dr_meaning.specs.QueryGrammar.{word_at, sign_at, name_at, BeginsAt, SpellsPath, SpellsExpression, SpellsWithin, no_within, within_the_record, within_a_path, IsAggregate}
+use Rattle.dr_meaning.specs.QueryGrammar.{word_at, sign_at, name_at, SpellsPath, SpellsExpression, SpellsWithin, no_within, within_the_record, within_a_path, IsAggregate}
 use Rattle.dr_meaning.specs.QueryGrammar.{is_count, is_sum, is_least, is_greatest, SpellsTerm, counted_rows, aggregated, an_expression, SpellsAs, no_as, as_name, SpellsItem, Separated}
 use Rattle.dr_meaning.specs.QueryGrammar.{alone, and_one, SpellsWhere, no_where, where_expression, SpellsGroup, no_group, group_by, SpellsEnd, no_semicolon, a_semicolon, SpellsQuery}
 use Rattle.dr_meaning.specs.QueryGrammar.{a_query}
 use Rattle.dr_meaning.specs.SyntaxLaws.{IsLimit, SpelledIsAccepted, OneTree}
 use Rattle.dr_meaning.proofs.SyntaxComplete.{Reads, read_all, limited, reads_on, any_complete, operator_complete, starts, if_yes, if_no, meaning_in, by_some, by_none, word_complete}
-use Rattle.dr_meaning.proofs.SyntaxComplete.{sign_complete, name_complete, rank, rank_of, First, begins_unary, begins_expression, first_expression, first_name_is, is_name, other_first}
+use Rattle.dr_meaning.proofs.SyntaxComplete.{sign_complete, name_complete, rank, rank_of, First, begins_expression, first_expression, first_name_is, is_name, other_first}
 use Rattle.dr_meaning.proofs.SyntaxComplete.{path_complete, expression_complete, first_before, first_as, either_one}
 
 -- ---- what may stand behind
@@ -78,16 +78,16 @@ within_complete _ _ (within_the_record i j) u rest h q =
     let x : Option WithinSyntax = Some (record { place = i; node = whole_record }) in
     if_yes (is_the_word within_word) (any_token >>= (λ i. if_next (is_the_word record_word) (within_record i) (within_path i))) (give None) x rest u (word_at i within_word ∷ word_at j record_word ∷ rest) q refl
     (reads_on ℕ (Option WithinSyntax) i x (word_at j record_word ∷ rest) rest (any_token u) (λ i. if_next (is_the_word record_word) (within_record i) (within_path i)) (any_complete (word_at i within_word) (word_at j record_word ∷ rest) u q)
-        (λ v y. if_yes (is_the_word record_word) (within_record i) (within_path i) x rest v (word_at j record_word ∷ rest) y refl
-            (reads_on ℕ (Option WithinSyntax) j x rest rest (any_token v) (λ _. give x) (any_complete (word_at j record_word) rest v y) (λ z t. read_all z t))))
+    (λ v y. if_yes (is_the_word record_word) (within_record i) (within_path i) x rest v (word_at j record_word ∷ rest) y refl
+    (reads_on ℕ (Option WithinSyntax) j x rest rest (any_token v) (λ _. give x) (any_complete (word_at j record_word) rest v y) (λ z t. read_all z t))))
 within_complete _ _ (within_a_path i ts p s) u rest h q =
     let x : Option WithinSyntax = Some (record { place = i; node = node p }) in
     let far = (term_ends rest h).0 in
     let no_record : starts (is_the_word record_word) (ts ++ rest) ≡ false = other_first is_name (is_the_word record_word) ts rest name_is_no_record (first_name_is ts p.names s.1) in
     if_yes (is_the_word within_word) (any_token >>= (λ i. if_next (is_the_word record_word) (within_record i) (within_path i))) (give None) x rest u (word_at i within_word ∷ (ts ++ rest)) q refl
     (reads_on ℕ (Option WithinSyntax) i x (ts ++ rest) rest (any_token u) (λ i. if_next (is_the_word record_word) (within_record i) (within_path i)) (any_complete (word_at i within_word) (ts ++ rest) u q)
-        (λ v y. if_no (is_the_word record_word) (within_record i) (within_path i) x rest v (ts ++ rest) y no_record
-            (reads_on PathSyntax (Option WithinSyntax) p x rest rest (path_names v) (λ p. give (Some (record { place = i; node = node p }))) (path_complete ts p s v rest (omega (arith, far)) y) (λ z t. read_all z t))))
+    (λ v y. if_no (is_the_word record_word) (within_record i) (within_path i) x rest v (ts ++ rest) y no_record
+    (reads_on PathSyntax (Option WithinSyntax) p x rest rest (path_names v) (λ p. give (Some (record { place = i; node = node p }))) (path_complete ts p s v rest (omega (arith, far)) y) (λ z t. read_all z t))))
   where
     name_is_no_record : (t : QueryToken) → is_name t ≡ true → is_the_word record_word t ≡ false
     name_is_no_record (identifier n) g = refl
@@ -134,25 +134,25 @@ called : (a : Aggregate) (w : Word) (h i : ℕ) (x : TermSyntax) (middle rest : 
 called a w h i x middle rest u k q f =
     by_some aggregate_in aggregate_term expression_term a x rest u (word_at h w ∷ sign_at i open_parenthesis ∷ middle) q (aggregate_means w a k)
     (reads_on ℕ TermSyntax h x (sign_at i open_parenthesis ∷ middle) rest (any_token u) (λ _. mark open_parenthesis >>= (λ _. if_next (counts_rows a) rows_argument (expression_argument a))) (any_complete (word_at h w) (sign_at i open_parenthesis ∷ middle) u q)
-        (λ v y. reads_on ℕ TermSyntax i x middle rest (mark open_parenthesis v) (λ _. if_next (counts_rows a) rows_argument (expression_argument a)) (sign_complete open_parenthesis i middle v refl y) f))
+    (λ v y. reads_on ℕ TermSyntax i x middle rest (mark open_parenthesis v) (λ _. if_next (counts_rows a) rows_argument (expression_argument a)) (sign_complete open_parenthesis i middle v refl y) f))
 
 term_complete : (ts : List PlacedToken) (x : TermSyntax) → SpellsTerm ts x → (u : Unread) (rest : List PlacedToken) → starts ends_term rest ≡ true → u.tokens ≡ ts ++ rest → Reads TermSyntax x rest (item_term u)
 term_complete _ _ (counted_rows h i j k ts w s) u rest g q =
     called count count_word h i (count_rows w) (sign_at j star ∷ sign_at k close_parenthesis ∷ (ts ++ rest)) rest u is_count q
     (λ v y. if_yes (counts_rows count) rows_argument (expression_argument count) (count_rows w) rest v (sign_at j star ∷ sign_at k close_parenthesis ∷ (ts ++ rest)) y refl
-        (reads_on ℕ TermSyntax j (count_rows w) (sign_at k close_parenthesis ∷ (ts ++ rest)) rest (operator v) (λ _. mark close_parenthesis >>= (λ _. within_part >>= (λ w. give (count_rows w))))
-            (operator_complete (sign_at j star) (sign_at k close_parenthesis ∷ (ts ++ rest)) v y)
-            (λ z t. reads_on ℕ TermSyntax k (count_rows w) (ts ++ rest) rest (mark close_parenthesis z) (λ _. within_part >>= (λ w. give (count_rows w))) (sign_complete close_parenthesis k (ts ++ rest) z refl t)
-                (λ m n. reads_on (Option WithinSyntax) TermSyntax w (count_rows w) rest rest (within_part m) (λ w. give (count_rows w)) (within_complete ts w s m rest g n) (λ o p. read_all o p)))))
+    (reads_on ℕ TermSyntax j (count_rows w) (sign_at k close_parenthesis ∷ (ts ++ rest)) rest (operator v) (λ _. mark close_parenthesis >>= (λ _. within_part >>= (λ w. give (count_rows w))))
+    (operator_complete (sign_at j star) (sign_at k close_parenthesis ∷ (ts ++ rest)) v y)
+    (λ z t. reads_on ℕ TermSyntax k (count_rows w) (ts ++ rest) rest (mark close_parenthesis z) (λ _. within_part >>= (λ w. give (count_rows w))) (sign_complete close_parenthesis k (ts ++ rest) z refl t)
+    (λ m n. reads_on (Option WithinSyntax) TermSyntax w (count_rows w) rest rest (within_part m) (λ w. give (count_rows w)) (within_complete ts w s m rest g n) (λ o p. read_all o p)))))
 term_complete _ _ (aggregated h i j v a ts us e w k r s) u rest g q =
     let middle = ts ++ sign_at j close_parenthesis ∷ (us ++ rest) in
     let x = aggregate a e w in
     called a v h i x middle rest u k (q ∙ ap (λ (xs : List PlacedToken). word_at h v ∷ sign_at i open_parenthesis ∷ xs) (append_assoc ts (sign_at j close_parenthesis ∷ us) rest))
     (λ z y. if_no (counts_rows a) rows_argument (expression_argument a) x rest z middle y (other_first begins_expression (counts_rows a) ts (sign_at j close_parenthesis ∷ (us ++ rest)) (expression_is_no_star a) (first_expression ts e r))
-        (reads_on ExpressionSyntax TermSyntax e x (sign_at j close_parenthesis ∷ (us ++ rest)) rest (argument z) (λ e. mark close_parenthesis >>= (λ _. within_part >>= (λ w. give (aggregate a e w))))
-            (argument_complete ts e r z (sign_at j close_parenthesis ∷ (us ++ rest)) (lit< tt) y)
-            (λ m n. reads_on ℕ TermSyntax j x (us ++ rest) rest (mark close_parenthesis m) (λ _. within_part >>= (λ w. give (aggregate a e w))) (sign_complete close_parenthesis j (us ++ rest) m refl n)
-                (λ o p. reads_on (Option WithinSyntax) TermSyntax w x rest rest (within_part o) (λ w. give (aggregate a e w)) (within_complete us w s o rest g p) (λ c d. read_all c d)))))
+    (reads_on ExpressionSyntax TermSyntax e x (sign_at j close_parenthesis ∷ (us ++ rest)) rest (argument z) (λ e. mark close_parenthesis >>= (λ _. within_part >>= (λ w. give (aggregate a e w))))
+    (argument_complete ts e r z (sign_at j close_parenthesis ∷ (us ++ rest)) (lit< tt) y)
+    (λ m n. reads_on ℕ TermSyntax j x (us ++ rest) rest (mark close_parenthesis m) (λ _. within_part >>= (λ w. give (aggregate a e w))) (sign_complete close_parenthesis j (us ++ rest) m refl n)
+    (λ o p. reads_on (Option WithinSyntax) TermSyntax w x rest rest (within_part o) (λ w. give (aggregate a e w)) (within_complete us w s o rest g p) (λ c d. read_all c d)))))
 term_complete _ _ (an_expression ts e s) u rest g q =
     by_none aggregate_in aggregate_term expression_term (expression e) rest u (ts ++ rest) q (no_aggregate ts rest (first_expression ts e s))
     (reads_on ExpressionSyntax TermSyntax e (expression e) rest rest (whole_expression u) (λ e. give (expression e)) (whole_complete ts e s u rest (term_ends rest g).0 q) (λ v y. read_all v y))
@@ -162,7 +162,7 @@ as_complete _ _ no_as u rest h q = if_no (is_the_word as_word) (any_token >>= (�
 as_complete _ _ (as_name i j n) u rest h q =
     if_yes (is_the_word as_word) (any_token >>= (λ _. name >>= (λ n. give (Some n)))) (give None) (Some n) rest u (word_at i as_word ∷ name_at j n ∷ rest) q refl
     (reads_on ℕ (Option (List ℕ)) i (Some n) (name_at j n ∷ rest) rest (any_token u) (λ _. name >>= (λ n. give (Some n))) (any_complete (word_at i as_word) (name_at j n ∷ rest) u q)
-        (λ v y. reads_on (List ℕ) (Option (List ℕ)) n (Some n) rest rest (name v) (λ n. give (Some n)) (name_complete n j rest v y) (λ z t. read_all z t)))
+    (λ v y. reads_on (List ℕ) (Option (List ℕ)) n (Some n) rest rest (name v) (λ n. give (Some n)) (name_complete n j rest v y) (λ z t. read_all z t)))
 
 as_behind_term : (ts : List PlacedToken) (n : Option (List ℕ)) (rest : List PlacedToken) → SpellsAs ts n → starts ends_item rest ≡ true → starts ends_term (ts ++ rest) ≡ true
 as_behind_term _ _ rest no_as h = item_ends_term rest h
@@ -178,9 +178,9 @@ item_complete ts x s u rest h q =
     let P : ℕ → Type 0 = λ i. Reads ItemSyntax (record { place = i; term = x.term; name = x.name }) rest (item u) in
     subst P place
     (reads_on TermSyntax ItemSyntax x.term (record { place = place_of u; term = x.term; name = x.name }) (vs ++ rest) rest (item_term u) (λ t. as_part >>= (λ n. give (record { place = place_of u; term = t; name = n })))
-        (term_complete us x.term s.4 u (vs ++ rest) (as_behind_term vs x.name rest s.5 h) tokens)
-        (λ v y. reads_on (Option (List ℕ)) ItemSyntax x.name (record { place = place_of u; term = x.term; name = x.name }) rest rest (as_part v) (λ n. give (record { place = place_of u; term = x.term; name = n }))
-            (as_complete vs x.name s.5 v rest h y) (λ z t. read_all z t)))
+    (term_complete us x.term s.4 u (vs ++ rest) (as_behind_term vs x.name rest s.5 h) tokens)
+    (λ v y. reads_on (Option (List ℕ)) ItemSyntax x.name (record { place = place_of u; term = x.term; name = x.name }) rest rest (as_part v) (λ n. give (record { place = place_of u; term = x.term; name = n }))
+    (as_complete vs x.name s.5 v rest h y) (λ z t. read_all z t)))
 
 -- ---- lists
 
@@ -211,11 +211,11 @@ list_more A begins element x xs i us rest _ f (list_cut g l) r = list_cut g l
 list_more A begins element x xs i us rest _ f (list_so_far zero v e) r =
     let many = too_many_reads A (List A) begins xs rest (behind_token v) us rest (ap without_first e) f in
     let next : further_elements begins element zero xs v ≡ refused many.0 =
-        ap (λ (b : Bool). either b (any_token >>= (λ _. too_many_of begins)) (give xs) v) (ap (starts (is_the_sign comma)) e) ∙ many.1 in
+    ap (λ (b : Bool). either b (any_token >>= (λ _. too_many_of begins)) (give xs) v) (ap (starts (is_the_sign comma)) e) ∙ many.1 in
     subst (ListReached A begins element (xs ++ x ∷ []) rest) (sym next) (list_cut many.0 many.2)
 list_more A begins element x xs i us rest _ f (list_so_far (suc k) v e) r =
     let next : further_elements begins element (suc k) xs v ≡ goes_on (element (behind_token v)) (λ y. further_elements begins element k (xs ++ y ∷ [])) =
-        ap (λ (b : Bool). either b (any_token >>= (λ _. element >>= (λ y. further_elements begins element k (xs ++ y ∷ [])))) (give xs) v) (ap (starts (is_the_sign comma)) e) in
+    ap (λ (b : Bool). either b (any_token >>= (λ _. element >>= (λ y. further_elements begins element k (xs ++ y ∷ [])))) (give xs) v) (ap (starts (is_the_sign comma)) e) in
     subst (ListReached A begins element (xs ++ x ∷ []) rest) (sym next) (list_next A begins element k x xs rest (element (behind_token v)) (r (behind_token v) (ap without_first e)))
 
 list_stop : (A : Type 0) (begins : QueryToken → Bool) (element : Production A) (k : ℕ) (xs : List A) (v : Unread) → starts (is_the_sign comma) v.tokens ≡ false → further_elements begins element k xs v ≡ got xs v
@@ -297,14 +297,14 @@ where_complete _ _ (where_expression i j ts e b s) u rest h g q =
     if_yes (is_the_word where_word) (any_token >>= (λ _. here >>= (λ i. whole_expression >>= (λ e. give (Some (record { place = i; expression = e })))))) (give None) (Some (record { place = j; expression = e })) rest u
     (word_at i where_word ∷ (ts ++ rest)) q refl
     (reads_on ℕ (Option ConditionSyntax) i (Some (record { place = j; expression = e })) (ts ++ rest) rest (any_token u) (λ _. here >>= (λ i. whole_expression >>= (λ e. give (Some (record { place = i; expression = e })))))
-        (any_complete (word_at i where_word) (ts ++ rest) u q) (λ v y. behind_word v y))
+    (any_complete (word_at i where_word) (ts ++ rest) u q) (λ v y. behind_word v y))
   where
     behind_word : (v : Unread) → v.tokens ≡ ts ++ rest → Reads (Option ConditionSyntax) (Some (record { place = j; expression = e })) rest ((here >>= (λ i. whole_expression >>= (λ e. give (Some (record { place = i; expression = e }))))) v)
     behind_word v y =
         let place : place_of v ≡ j = ap (first_place v.size) (y ∙ ap (λ xs. xs ++ rest) b.2) ∙ b.3 in
         let P : ℕ → Type 0 = λ k. Reads (Option ConditionSyntax) (Some (record { place = k; expression = e })) rest ((here >>= (λ i. whole_expression >>= (λ e. give (Some (record { place = i; expression = e }))))) v) in
         subst P place (reads_on ExpressionSyntax (Option ConditionSyntax) e (Some (record { place = place_of v; expression = e })) rest rest (whole_expression v) (λ e. give (Some (record { place = place_of v; expression = e })))
-            (whole_complete ts e s v rest h y) (λ z t. read_all z t))
+        (whole_complete ts e s v rest h y) (λ z t. read_all z t))
 
 group_complete : (ts : List PlacedToken) (ks : List PathSyntax) → SpellsGroup ts ks → (u : Unread) (rest : List PlacedToken) → EndsThere rest → u.tokens ≡ ts ++ rest → Reads (List PathSyntax) ks rest (group_part u)
 group_complete _ _ no_group u rest e q = if_no (is_the_word group_word) (any_token >>= (λ _. word by_word >>= (λ _. keys))) (give []) [] rest u rest q e.no_group_word (read_all u q)
@@ -312,7 +312,7 @@ group_complete _ _ (group_by i j ts ks s) u rest e q =
     let far = e.far in
     if_yes (is_the_word group_word) (any_token >>= (λ _. word by_word >>= (λ _. keys))) (give []) ks rest u (word_at i group_word ∷ word_at j by_word ∷ (ts ++ rest)) q refl
     (reads_on ℕ (List PathSyntax) i ks (word_at j by_word ∷ (ts ++ rest)) rest (any_token u) (λ _. word by_word >>= (λ _. keys)) (any_complete (word_at i group_word) (word_at j by_word ∷ (ts ++ rest)) u q)
-        (λ v y. reads_on ℕ (List PathSyntax) j ks (ts ++ rest) rest (word by_word v) (λ _. keys) (word_complete by_word j (ts ++ rest) v refl y) (λ z t. keys_complete ts ks s z rest (omega (arith, far)) e.no_comma t)))
+    (λ v y. reads_on ℕ (List PathSyntax) j ks (ts ++ rest) rest (word by_word v) (λ _. keys) (word_complete by_word j (ts ++ rest) v refl y) (λ z t. keys_complete ts ks s z rest (omega (arith, far)) e.no_comma t)))
 
 ends_here : (u : Unread) → u.tokens ≡ [] → text_end u ≡ got (place_of u) u
 ends_here u q = ap (λ (ts : List PlacedToken). either (is_some (first_token ts)) (problem_here syntax) here u) q
@@ -327,7 +327,7 @@ end_complete _ (a_semicolon i) u q =
 -- ---- queries
 
 -- the tree, or a refusal for a limit
-data Accepts (q : QuerySyntax) : Parsed QuerySyntax → Type 0 where
+pub data Accepts (q : QuerySyntax) : Parsed QuerySyntax → Type 0 where
   accepted : (v : Unread) → Accepts q (got q v)
   out_of_bounds : (f : QueryFault) → IsLimit f.problem → Accepts q (refused f)
 
@@ -357,21 +357,21 @@ tail_complete xs t c ks us vs ws s g e u q =
     let b = behind_where vs ws ks g e in
     accepts_on (Option ConditionSyntax) c (tree_of xs t c ks) (vs ++ ws) (where_part u) (λ c. group_part >>= (λ ks. end_part >>= (λ _. give (tree_of xs t c ks)))) (where_complete us c s u (vs ++ ws) b.0 b.1 q)
     (λ v y. accepts_on (List PathSyntax) ks (tree_of xs t c ks) ws (group_part v) (λ ks. end_part >>= (λ _. give (tree_of xs t c ks))) (group_complete vs ks g v ws (end_is ws e) y)
-        (λ z p. let x = end_complete ws e z p in accepts_end (tree_of xs t c ks) (tree_of xs t c ks) x.0 x.1 (end_part z) x.2))
+    (λ z p. let x = end_complete ws e z p in accepts_end (tree_of xs t c ks) (tree_of xs t c ks) x.0 x.1 (end_part z) x.2))
 
 abbrev behind_items : List ItemSyntax → Production QuerySyntax
 behind_items xs = word from_word >>= (λ _. table_name >>= behind_table xs)
 
-query_complete : (ts : List PlacedToken) (q : QuerySyntax) → SpellsQuery ts q → (u : Unread) → u.tokens ≡ ts → Accepts q (query u)
+pub query_complete : (ts : List PlacedToken) (q : QuerySyntax) → SpellsQuery ts q → (u : Unread) → u.tokens ≡ ts → Accepts q (query u)
 query_complete _ _ (a_query h i j n ts us vs ws xs c ks s w g e) u q =
     let t : NameSyntax = record { place = j; name = n } in
     let tail = us ++ (vs ++ ws) in
     let from = word_at i from_word ∷ name_at j n ∷ tail in
     accepts_on ℕ h (tree_of xs t c ks) (ts ++ from) (word select_word u) (λ _. items >>= behind_items) (word_complete select_word h (ts ++ from) u refl q)
     (λ v y. accepts_on (List ItemSyntax) xs (tree_of xs t c ks) from (items v) behind_items (items_complete ts xs s v from refl refl y)
-        (λ z p. accepts_on ℕ i (tree_of xs t c ks) (name_at j n ∷ tail) (word from_word z) (λ _. table_name >>= behind_table xs) (word_complete from_word i (name_at j n ∷ tail) z refl p)
-            (λ a b. accepts_on NameSyntax t (tree_of xs t c ks) tail (table_name a) (behind_table xs) (table_complete t tail a b)
-                (λ k l. tail_complete xs t c ks us vs ws w g e k l))))
+    (λ z p. accepts_on ℕ i (tree_of xs t c ks) (name_at j n ∷ tail) (word from_word z) (λ _. table_name >>= behind_table xs) (word_complete from_word i (name_at j n ∷ tail) z refl p)
+    (λ a b. accepts_on NameSyntax t (tree_of xs t c ks) tail (table_name a) (behind_table xs) (table_complete t tail a b)
+    (λ k l. tail_complete xs t c ks us vs ws w g e k l))))
 
 outcome_of : (q : QuerySyntax) (p : Parsed QuerySyntax) → Accepts q p → (result_of p ≡ Ok q) ⊎ ((f : QueryFault) × (result_of p ≡ Err f) × IsLimit f.problem)
 outcome_of q _ (accepted v) = inl refl

@@ -1,5 +1,5 @@
 -- The syntax trees of queries, by computation.
-use Rattle.std.specs.Prelude.{◌≡◌, ℕ, List, [], ◌∷◌, ◌++◌, map, Bool, true, false, Option, Some, None, Result, Ok, Err, codes, refl}
+use Rattle.std.specs.Prelude.{◌≡◌, ℕ, List, [], ◌∷◌, ◌++◌, map, true, false, Option, Some, None, Result, Ok, Err, codes, refl}
 use Rattle.dr_meaning.specs.Expression.{plus, minus, times, equal, unequal, less, at_most, greater, at_least}
 use Rattle.dr_meaning.specs.Query.{count, sum, least, greatest}
 use Rattle.dr_meaning.specs.Syntax.{ExpressionSyntax, number_literal, text_literal, truth_literal, path, negative, arithmetic, comparison, like, contains}

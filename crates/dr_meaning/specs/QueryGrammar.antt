@@ -3,11 +3,11 @@ use Rattle.std.specs.Prelude.{◌≡◌, ℕ, List, [], ◌∷◌, ◌++◌, tru
 use Rattle.dr_meaning.specs.Tokens.{Word, select_word, from_word, where_word, group_word, by_word, as_word, within_word, record_word, and_word, or_word}
 use Rattle.dr_meaning.specs.Tokens.{not_word, like_word, contains_word, is_word, null_word, true_word, false_word, count_word, sum_word, min_word, max_word}
 use Rattle.dr_meaning.specs.Tokens.{Sign, comma, open_parenthesis, close_parenthesis, dot, star, plus_sign, minus_sign, equals, differs, less_than}
-use Rattle.dr_meaning.specs.Tokens.{less_or_equal, greater_than, greater_or_equal, semicolon, QueryToken, reserved, identifier, number, text, sign}
+use Rattle.dr_meaning.specs.Tokens.{less_or_equal, greater_than, greater_or_equal, semicolon, reserved, identifier, number, text, sign}
 use Rattle.dr_meaning.specs.Tokens.{PlacedToken, placed}
 use Rattle.dr_meaning.specs.Expression.{plus, minus, times, Comparison, equal, unequal, less, at_most, greater, at_least}
 use Rattle.dr_meaning.specs.Query.{Aggregate, count, sum, least, greatest}
-use Rattle.dr_meaning.specs.Syntax.{NameSyntax, PathSyntax, ExpressionSyntax, number_literal, text_literal, truth_literal, path, negative, arithmetic}
+use Rattle.dr_meaning.specs.Syntax.{PathSyntax, ExpressionSyntax, number_literal, text_literal, truth_literal, path, negative, arithmetic}
 use Rattle.dr_meaning.specs.Syntax.{comparison, like, contains, is_null, negation, conjunction, disjunction, whole_record, node, WithinSyntax}
 use Rattle.dr_meaning.specs.Syntax.{TermSyntax, expression, count_rows, aggregate, ItemSyntax, ConditionSyntax, QuerySyntax}
 

@@ -1,6 +1,6 @@
 -- What a cursor has left behind its next token.
 use Rattle.std.specs.Prelude.{◌≡◌, ℕ, zero, suc, ◌+◌, List, [], ◌∷◌, drop}
-use Rattle.std.proofs.Common.{refl, sym, ap, ap₂, ◌∙◌, add-one, arith}
+use Rattle.std.proofs.Common.{refl, sym, ap₂, add-one}
 use Rattle.dr_meaning.specs.Parse as parse
 use Rattle.dr_sql.specs.TokenViews.{placed_views}
 use Rattle.dr_sql.specs.declared.token.PlacedToken.{PlacedToken}

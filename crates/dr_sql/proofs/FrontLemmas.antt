@@ -1,5 +1,5 @@
 -- Tokens at the front of bytes.
-use Rattle.std.specs.Prelude.{◌≡◌, ℕ, zero, suc, ◌+◌, ◌-◌, ◌*◌, ◌^◌, ◌<◌, ◌≤◌, ◌&&◌, ◌==◌, nat_lt, nat_le, not, List, [], ◌∷◌, ◌++◌, length, take, drop, Bool, true, false, cond, if◌then◌else◌, Option, Some, None}
+use Rattle.std.specs.Prelude.{◌≡◌, ℕ, suc, ◌+◌, ◌-◌, ◌<◌, ◌≤◌, ◌&&◌, ◌==◌, nat_lt, not, List, [], ◌∷◌, ◌++◌, length, take, drop, Bool, true, false, cond, if◌then◌else◌, Some, None}
 use Rattle.std.specs.List.{list_all, position, position_or_len}
 use denote.Ref.{Bor}
 use Rattle.std.specs.Str.{IsUtf8, IsCharBoundary}
@@ -14,11 +14,11 @@ use Rattle.std.proofs.lemmas.List.Folds.{length-prefix_len}
 use Rattle.std.proofs.lemmas.Str.{IsCharBoundary-after_ascii}
 use Rattle.dr_meaning.specs.Schema.{is_name, begins_name, continues_name}
 use Rattle.dr_meaning.specs.SchemaText.{is_blank}
-use Rattle.dr_meaning.specs.Tokens.{QueryToken, bad, text, sign, sign_token, name_token, number_token, quoted_token, is_digit, greatest_number}
-use Rattle.dr_meaning.specs.TokenLaws.{begins_so, IsWholeWord, AreDigitsOf, digits_value, has_no_quote, doubled, IsQueryToken}
-use Rattle.dr_meaning.proofs.QueryTokenLemmas.{word_ends, number_ends, quotes_end, sign_is, doubled_quote, doubled_other}
-use Rattle.dr_sql.specs.TokenViews.{token_view, undoubled, undoubled_from}
-use Rattle.dr_sql.specs.Lexing.{BeginsWith, EndsText, NeverEnds, bounded}
+use Rattle.dr_meaning.specs.Tokens.{bad, text, sign_token, name_token, number_token, quoted_token, is_digit}
+use Rattle.dr_meaning.specs.TokenLaws.{begins_so, digits_value, has_no_quote, doubled, IsQueryToken}
+use Rattle.dr_meaning.proofs.QueryTokenLemmas.{word_ends, number_ends, quotes_end, sign_is}
+use Rattle.dr_sql.specs.TokenViews.{token_view, undoubled}
+use Rattle.dr_sql.specs.Lexing.{BeginsWith, EndsText, NeverEnds}
 use Rattle.dr_sql.specs.declared.token.Token.{Token}
 
 -- ---- the first place that passes

@@ -1,17 +1,17 @@
 -- One more round of the loops that read tokens.
-use Rattle.std.specs.Prelude.{◌≡◌, ℕ, zero, suc, ◌+◌, ◌-◌, ◌*◌, ◌<◌, ◌≤◌, ◌==◌, nat_le, List, [], ◌∷◌, ◌++◌, length, take, drop, Bool, true, false, if◌then◌else◌, Option, Some, None}
+use Rattle.std.specs.Prelude.{◌≡◌, ℕ, zero, suc, ◌+◌, ◌-◌, ◌*◌, ◌<◌, ◌≤◌, ◌==◌, nat_le, List, [], ◌∷◌, ◌++◌, length, take, drop, Bool, true, false, if◌then◌else◌, Some, None}
 use Rattle.std.specs.List.{list_all, slice_range}
-use Rattle.std.proofs.Common.{refl, sym, ap, ap₂, subst, ◌∙◌, arith, append_assoc, append-nil, true≢false, length-append, length-drop, length-take, get_or}
+use Rattle.std.proofs.Common.{refl, sym, ap, subst, ◌∙◌, arith, append_assoc, append-nil, true≢false, length-append, length-take, get_or}
 use Rattle.std.proofs.lemmas.Bool.{eqb-true}
 use Rattle.std.proofs.lemmas.Bool.Decides.{nat_tests}
 use Rattle.std.proofs.lemmas.List.{take-append-drop, drop_more, drop_all, drop-drop, map-append}
 use Rattle.dr_meaning.specs.SchemaText.{is_blank}
-use Rattle.dr_meaning.specs.Tokens.{QueryToken, PlacedToken, placed, greatest_number, query_tokens}
-use Rattle.dr_meaning.specs.TokenLaws.{begins_so, digits_value, doubled, IsQueryToken, AreQueryTokens}
+use Rattle.dr_meaning.specs.Tokens.{PlacedToken, placed, greatest_number, query_tokens}
+use Rattle.dr_meaning.specs.TokenLaws.{begins_so, digits_value, doubled, AreQueryTokens}
 use Rattle.dr_meaning.proofs.QueryTokenLemmas.{doubled_quote, doubled_other, blank_before, token_before}
 use Rattle.dr_meaning.proofs.OneQueryTokenLemmas.{one_list_of_query_tokens}
 use Rattle.dr_sql.specs.TokenViews.{token_view, placed_view, placed_views}
-use Rattle.dr_sql.specs.Lexing.{BeginsWith, EndsText, NeverEnds, bounded}
+use Rattle.dr_sql.specs.Lexing.{BeginsWith, EndsText, bounded}
 use Rattle.dr_sql.specs.declared.token.Token.{Token}
 use Rattle.dr_sql.specs.declared.token.PlacedToken as code
 

@@ -1,8 +1,7 @@
 -- Lists of items and keys that are read in a loop, in the definitions' words.
 use Rattle.std.specs.Prelude.{◌≡◌, ℕ, suc, ◌+◌, ◌-◌, ◌<◌, List, [], ◌∷◌, ◌++◌, Bool, true}
-use Rattle.std.proofs.Common.{refl, sym, ap, ap₂, ◌∙◌, subst, arith}
+use Rattle.std.proofs.Common.{refl, sym, ap, ap₂, ◌∙◌, subst}
 use Rattle.dr_meaning.specs.Tokens.{QueryToken, comma}
-use Rattle.dr_meaning.specs.Syntax.{ItemSyntax, PathSyntax, ExpressionSyntax}
 use Rattle.dr_meaning.specs.Parse.{Unread, Parsed, got, Production, give, goes_on, ◌>>=◌, next_is, either, is_the_sign, any_token, further_elements, elements}
 use Rattle.dr_meaning.specs.Parse.{begins_item, item, items, begins_key, path_names, keys, nested, expression_of, whole_expression, argument}
 use Rattle.dr_sql.specs.Reads.{IsFaultOf}

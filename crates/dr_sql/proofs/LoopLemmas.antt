@@ -1,10 +1,10 @@
 -- One more round of what is read in a loop, in the definitions' words.
-use Rattle.std.specs.Prelude.{◌≡◌, ℕ, zero, suc, ◌+◌, ◌-◌, ◌<◌, ◌≤◌, List, [], ◌∷◌, ◌++◌, Bool, true, false, if◌then◌else◌, Option, Some, None, option_and_then}
+use Rattle.std.specs.Prelude.{◌≡◌, ℕ, zero, suc, ◌+◌, ◌-◌, ◌<◌, ◌≤◌, List, [], ◌∷◌, ◌++◌, Bool, true, if◌then◌else◌, Option, Some, None, option_and_then}
 use Rattle.std.proofs.Common.{refl, sym, ap, ◌∙◌, subst, arith}
 use Rattle.dr_meaning.specs.Tokens.{QueryToken, reserved, sign, or_word, and_word, star, dot}
 use Rattle.dr_meaning.specs.Expression.{times}
 use Rattle.dr_meaning.specs.Syntax.{ExpressionSyntax, disjunction, conjunction, arithmetic}
-use Rattle.dr_meaning.specs.Parse.{Unread, Parsed, got, refused, Production, give, goes_on, ◌>>=◌, first_token, passes, next_is, for_some, is_the_word, is_the_sign}
+use Rattle.dr_meaning.specs.Parse.{Unread, Parsed, got, Production, give, goes_on, ◌>>=◌, first_token, passes, next_is, for_some, is_the_word, is_the_sign}
 use Rattle.dr_meaning.specs.Parse.{any_token, operator, name, Joining, or_in, and_in, product_in, further_names, further_operands}
 use Rattle.dr_sql.specs.Reads.{IsFaultOf}
 use Rattle.dr_sql.specs.declared.fault.QueryFault.{QueryFault}

@@ -1,8 +1,8 @@
 -- Tokens at the front of bytes.
-use Rattle.std.specs.Prelude.{◌≡◌, ℕ, ◌+◌, ◌*◌, ◌-◌, ◌<◌, ◌≤◌, List, [], ◌∷◌, ◌++◌, Bool, true, false, ◌&&◌, ◌==◌, nat_le, if◌then◌else◌, Option, Some, None, length, take}
+use Rattle.std.specs.Prelude.{◌≡◌, ℕ, ◌<◌, ◌≤◌, List, ◌∷◌, ◌++◌, Bool, false, ◌&&◌, ◌==◌, nat_le, if◌then◌else◌, Option, Some, None, length, take}
 use Rattle.std.specs.Prelude.{drop}
 use Rattle.dr_meaning.specs.Tokens.{greatest_number}
-use Rattle.dr_meaning.specs.TokenLaws.{IsQueryToken, begins_so, doubled, digits_value}
+use Rattle.dr_meaning.specs.TokenLaws.{IsQueryToken, begins_so, doubled}
 use Rattle.dr_sql.specs.TokenViews.{token_view}
 use Rattle.dr_sql.specs.declared.token.Token.{Token}
 

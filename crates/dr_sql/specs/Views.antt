@@ -1,5 +1,5 @@
 -- What syntax trees stand for, in the definitions' words.
-use Rattle.std.specs.Prelude.{ℕ, List, [], ◌∷◌, map, Option, option_map, Vec}
+use Rattle.std.specs.Prelude.{ℕ, List, map, Option, option_map, Vec}
 use denote.Ref.{Bor}
 use Rattle.std.specs.declared.alloc.Global.{Global}
 use Rattle.dr_meaning.specs.Expression as meant

@@ -1,4 +1,4 @@
-use Rattle.std.proofs.Common.{sym, subst, ap, map, ◌∙◌, ◌++◌, ◌∷◌, [], ◌≡◌, ◌+◌, ◌<◌, ◌≤◌, arith, length, length-append}
+use Rattle.std.proofs.Common.{sym, subst, ap, map, ◌∙◌, ◌++◌, ◌∷◌, [], ◌≡◌, ◌+◌, ◌<◌, arith, length, length-append}
 use Rattle.std.proofs.lemmas.Result.{err_from_is_err_and}
 use Rattle.std.proofs.lemmas.List.{map-append}
 use Rattle.dr_meaning.specs.Parse.{begins_key, path_names}

@@ -1,4 +1,4 @@
-use Rattle.std.proofs.Common.{◌≡◌, ◌-◌, ◌≤◌, vec_len, length}
+use Rattle.std.proofs.Common.{◌≡◌, ◌-◌, ◌≤◌, length}
 use Rattle.dr_meaning.specs.Parse as parse
 use Rattle.dr_sql.specs.Reads.{unread}
 use Rattle.dr_sql.specs.Views.{keys_view}

@@ -1,4 +1,4 @@
-use Rattle.std.proofs.Common.{sym, ap, ◌∙◌, ℕ, take}
+use Rattle.std.proofs.Common.{ap, ◌∙◌, ℕ, take}
 use Rattle.std.specs.List.{list_all}
 use Rattle.dr_meaning.specs.Tokens.{is_digit}
 use Rattle.dr_sql.proofs.FrontLemmas.{front_all, number_begins}

@@ -1,7 +1,6 @@
-use Rattle.std.proofs.Common.{sym, ap, ap₂, ◌∙◌, subst, ◌≡◌, ℕ, List, lit<, ◌∷◌, ◌+◌, length, drop, take}
+use Rattle.std.proofs.Common.{sym, ap, ◌∙◌, subst, ◌≡◌, ℕ, List, lit<, ◌∷◌, ◌+◌, length, take}
 use Rattle.dr_meaning.specs.Tokens as language
 use Rattle.dr_sql.specs.Lexing.{BeginsWith}
-use Rattle.dr_sql.specs.TokenViews.{token_view}
 use Rattle.dr_sql.specs.declared.token.Token.{Token}
 use Rattle.dr_sql.proofs.FrontLemmas.{quote_found, boundary_before, quoted_begins, unclosed_begins, bad_is}
 use Rattle.dr_sql.proofs.LexLemmas.{range_is}

@@ -1,6 +1,6 @@
-use Rattle.std.proofs.Common.{sym, ap, ◌∙◌, subst, ◌≡◌, refl, ℕ, List, lit<, ◌∷◌, ◌+◌, length, drop, take}
+use Rattle.std.proofs.Common.{sym, ap, ◌∙◌, subst, ◌≡◌, ℕ, List, lit<, ◌∷◌, ◌+◌, length, take}
 use Rattle.dr_meaning.specs.TokenLaws.{doubled}
-use Rattle.dr_sql.specs.Lexing.{BeginsWith, EndsText, NeverEnds}
+use Rattle.dr_sql.specs.Lexing.{BeginsWith, EndsText}
 use Rattle.dr_sql.specs.declared.token.Token.{Token}
 use Rattle.dr_sql.proofs.FrontLemmas.{boundary_before, text_begins, text_never_ends, bad_is, text_is}
 use Rattle.dr_sql.proofs.LexLemmas.{range_is}

@@ -1,7 +1,7 @@
-use Rattle.std.proofs.Common.{sym, arith, ap, subst, ◌∙◌, ◌≡◌, ◌+◌, ◌≤◌, ◌++◌, ◌∷◌, List, drop, length, length-drop}
+use Rattle.std.proofs.Common.{sym, arith, ap, subst, ◌∙◌, ◌+◌, ◌≤◌, ◌∷◌, List, drop, length, length-drop}
 use Rattle.dr_meaning.specs.Tokens.{PlacedToken, query_tokens}
 use Rattle.dr_meaning.specs.TokenLaws.{AreQueryTokens}
-use Rattle.dr_sql.specs.TokenViews.{placed_views, placed_view}
+use Rattle.dr_sql.specs.TokenViews.{placed_view}
 use Rattle.dr_sql.specs.Lexing.{BeginsWith}
 use Rattle.dr_sql.proofs.LexLemmas.{blank_step, token_step, token_pushed, all_read}
 use Rattle.dr_sql.proofs.lexing.tokens_of.Goals as goal

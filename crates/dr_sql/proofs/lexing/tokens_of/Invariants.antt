@@ -1,4 +1,4 @@
-use Rattle.std.proofs.Common.{◌≡◌, ◌≤◌, ◌-◌, ◌++◌, drop, List, ℕ, length}
+use Rattle.std.proofs.Common.{◌≤◌, ◌-◌, ◌++◌, drop, List, length}
 use Rattle.dr_meaning.specs.Tokens.{PlacedToken}
 use Rattle.dr_meaning.specs.TokenLaws.{AreQueryTokens}
 use Rattle.dr_sql.specs.TokenViews.{placed_views}

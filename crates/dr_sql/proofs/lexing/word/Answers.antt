@@ -1,4 +1,4 @@
-use Rattle.std.proofs.Common.{sym, ap, ◌∙◌, subst, ◌≡◌, ℕ, List, drop, take}
+use Rattle.std.proofs.Common.{ap, ◌∙◌, ◌≡◌, drop, take}
 use Rattle.std.specs.Prelude.{not}
 use Rattle.std.specs.List.{position_or_len}
 use Rattle.dr_meaning.specs.Schema.{continues_name}
