@@ -6,8 +6,6 @@ mod comparing;
 mod fault;
 mod restoring;
 mod strip;
-#[cfg(test)]
-mod tests;
 
 pub use assembling::assemble;
 pub use fault::AssembleFault;

@@ -9,8 +9,6 @@ mod piece;
 mod replaying;
 mod state;
 mod tablet;
-#[cfg(test)]
-mod tests;
 
 pub use board::{Board, Closing, Told};
 pub use dr_dispatch::{Event, Hand};

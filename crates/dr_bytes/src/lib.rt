@@ -7,8 +7,6 @@ mod fault;
 mod reading;
 mod signed;
 mod spelling;
-#[cfg(test)]
-mod tests;
 
 pub use cut::Cut;
 pub use fault::{Short, VarintFault};

@@ -8,8 +8,6 @@ mod header;
 mod leaf_shape;
 mod page_taker;
 mod stretch;
-#[cfg(test)]
-mod tests;
 
 pub use byte_range::ByteRange;
 pub use chunk::read_chunk;

@@ -17,6 +17,3 @@ pub use limits::{MOST_RECORDS, MOST_STRIPED, command_limits_are_as_defined};
 pub use read::{USAGE, read_words, taken_words_ask};
 pub use stripe::Stripe;
 pub use words_fault::WordsFault;
-
-#[cfg(test)]
-mod tests;

@@ -7,8 +7,6 @@ mod headers;
 mod looking;
 mod numbers;
 mod reading;
-#[cfg(test)]
-mod tests;
 mod thrift_type;
 mod tree;
 mod values;

@@ -8,6 +8,3 @@ mod query_state;
 
 pub use counting::{count_line, count_values};
 pub use query::{CountQuery, LONGEST_QUERY, count_query, query_limit_is_as_defined};
-
-#[cfg(test)]
-mod counting_tests;

@@ -9,8 +9,6 @@ mod pass;
 mod room;
 mod rule;
 mod steps;
-#[cfg(test)]
-mod tests;
 
 pub use desk::Desk;
 pub use dr_board::{Board, Closing, Event, Hand, Job, Naming, NoMemory, Piece, Told};

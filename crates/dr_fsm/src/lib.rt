@@ -5,8 +5,6 @@
 mod automaton;
 mod state;
 mod table;
-#[cfg(test)]
-mod tests;
 
 pub use automaton::{Automaton, Order};
 pub use state::State;

@@ -9,8 +9,6 @@ mod level_encoding;
 mod levels;
 mod reading;
 mod runs;
-#[cfg(test)]
-mod tests;
 mod unpacking;
 mod words;
 mod writing;

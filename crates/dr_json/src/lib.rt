@@ -7,8 +7,6 @@ mod leaf;
 mod line;
 mod nodes;
 mod size;
-#[cfg(test)]
-mod tests;
 
 pub use fault::{RecordFault, RecordProblem};
 pub use line::{MOST_INSTANCES, MOST_TEXT_BYTES, record_limits_are_as_defined, record_of};

@@ -3,17 +3,11 @@
 
 mod chains;
 mod column;
-#[cfg(test)]
-mod column_tests;
 mod joining;
 mod kept;
 mod levels;
-#[cfg(test)]
-mod levels_tests;
 mod moves;
 mod order;
-#[cfg(test)]
-mod order_tests;
 mod text_place;
 mod texts;
 mod triplet;

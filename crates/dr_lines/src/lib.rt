@@ -6,6 +6,3 @@ mod lines;
 
 pub use cutter::{LineFault, Lines};
 pub use lines::{LONGEST_LINE, line_limit_is_as_defined};
-
-#[cfg(test)]
-mod tests;

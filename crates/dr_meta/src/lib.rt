@@ -11,8 +11,6 @@ mod ids;
 mod one_tree;
 mod page;
 mod page_trees;
-#[cfg(test)]
-mod tests;
 mod viewing_file;
 mod viewing_page;
 

@@ -16,8 +16,6 @@ mod schema_tokens;
 mod selection;
 mod shape;
 mod state;
-#[cfg(test)]
-mod tests;
 mod writing;
 
 pub use copying::copy_value;

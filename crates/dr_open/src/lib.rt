@@ -7,8 +7,6 @@ mod names;
 mod opening;
 mod place;
 mod skipping;
-#[cfg(test)]
-mod tests;
 
 pub use opening::open_schema;
 pub use place::leaf_place;

@@ -15,8 +15,6 @@ mod mem_source;
 mod shelf;
 mod sink;
 mod source;
-#[cfg(test)]
-mod tests;
 
 pub use cause::Cause;
 pub use fault::{Failed, Fault};

@@ -16,8 +16,6 @@ mod levels;
 mod picking;
 mod run_appending;
 mod shape;
-#[cfg(test)]
-mod tests;
 mod text_places;
 mod value_reader;
 mod value_size;

@@ -5,8 +5,6 @@
 mod picking;
 mod plain;
 mod reading;
-#[cfg(test)]
-mod tests;
 mod texts;
 mod values;
 mod writing;

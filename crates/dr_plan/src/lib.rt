@@ -8,8 +8,6 @@ pub mod laws;
 mod objects;
 mod pattern;
 mod plan;
-#[cfg(test)]
-mod tests;
 
 pub use aggregate::{Aggregate, Fold, Within};
 pub use expression::{Comparison, Expr, Number, TextOf, Truth};

@@ -1,8 +1,6 @@
 //! Printed texts.
 #![tactic(auto)]
 
-#[cfg(test)]
-mod tests;
 mod transitions;
 mod triplet_lines;
 

@@ -14,8 +14,6 @@ mod operators;
 mod parsing;
 mod paths;
 mod query;
-#[cfg(test)]
-mod tests;
 mod token;
 mod word;
 mod word_tests;

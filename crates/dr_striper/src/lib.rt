@@ -5,8 +5,6 @@ mod dissection;
 mod leaf_laws;
 mod making;
 mod striper;
-#[cfg(test)]
-mod tests;
 
 pub use leaf_laws::{forms_fit_leaves, found_leaves_have_kinds, records_fit_leaves};
 pub use making::Striper;

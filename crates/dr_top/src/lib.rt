@@ -11,8 +11,3 @@ mod schema_file;
 mod stop;
 
 pub use running::run;
-
-#[cfg(test)]
-mod round_trip_tests;
-#[cfg(test)]
-mod run_tests;

@@ -1,0 +1,329 @@
+//! Columns, each written as its leaf's names and its triplets `r,d` or `r,d=value`, and the records that have them.
+
+ghost use Rattle.std.specs.Prelude.{◌≡◌, true, IfOk};
+ghost use Rattle.std.specs.List.{list_all};
+ghost use Rattle.dr_meaning.specs.Path.{is_leaf_path};
+ghost use Rattle.dr_nested.specs.Views.{fields_view};
+ghost use Rattle.dr_nested.specs.PathView.{path_view};
+ghost use Rattle.dr_assemble.specs.Views.{paths_view};
+
+use dr_assemble::{AssembleFault, assemble};
+use dr_levels::{Column, Levels, Triplet, ValueRef};
+use dr_nested::{Instance, Kind, Node, Path, Schema, Slot, Value, find, is_of_kind, parse_schema};
+use std::alloc::{AllocError, Global};
+use std::test::Fail;
+
+const DOCUMENT: &[u8] = b"message Document {
+  required int64 DocId;
+  optional group Links { repeated int64 Backward; repeated int64 Forward; }
+  repeated group Name {
+    repeated group Language { required string Code; optional string Country; }
+    optional string Url; } }";
+
+const SMALL: &[u8] =
+    b"message Small { required int32 Count; optional boolean Flag; repeated group Part { optional string Text; repeated int64 Size; } }";
+
+/// A truth value, a number or any other text.
+fn value_of(alloc: Global, text: &str) -> Result<Value, AllocError> {
+    match text {
+        "true" => Ok(Value::Bool(true)),
+        "false" => Ok(Value::Bool(false)),
+        _ => match text.parse::<i64>() {
+            Ok(number) => Ok(Value::Int(number)),
+            Err(_) => Ok(Value::Text(String::from_str(alloc, text)?)),
+        },
+    }
+}
+
+/// Appends a triplet, where it is one of the column's leaf.
+fn push_triplet(
+    column: &mut Column,
+    repetition: u8,
+    definition: u8,
+    value: Option<&Value>,
+) -> Result<(), Fail> {
+    match value {
+        Some(value) => {
+            if definition != column.greatest_definition() || !is_of_kind(column.kind(), value) {
+                return Err("no triplet of the column".into());
+            }
+            column.push(Triplet {
+                repetition,
+                definition,
+                value: Some(ValueRef::of(value)),
+            })?;
+        }
+        None => {
+            if definition == column.greatest_definition() {
+                return Err("no triplet of the column".into());
+            }
+            column.push_nulls(
+                Levels {
+                    repetition,
+                    definition,
+                },
+                1,
+            )?;
+        }
+    }
+    Ok(())
+}
+
+fn triplet_of(alloc: Global, text: &str) -> Result<(u8, u8, Option<Value>), Fail> {
+    let (levels, value) = match text.split_once('=') {
+        Some((levels, value)) => (levels, Some(value_of(alloc, value)?)),
+        None => (text, None),
+    };
+    let (repetition, definition) = levels.split_once(',').ok_or("no levels")?;
+    Ok((
+        repetition.parse::<u8>().map_err(|_| "no level")?,
+        definition.parse::<u8>().map_err(|_| "no level")?,
+        value,
+    ))
+}
+
+/// An empty column of the kind and the definition level of the first value; where there is none, of a level above all.
+fn empty_column(alloc: Global, text: &str) -> Result<Column, Fail> {
+    let mut greatest = 0;
+    for word in text.split_ascii_whitespace() {
+        let (_, definition, value) = triplet_of(alloc, word)?;
+        match value {
+            Some(Value::Bool(_)) => return Ok(Column::new(alloc, Kind::Bool, definition)),
+            Some(Value::Int(_)) => return Ok(Column::new(alloc, Kind::I64, definition)),
+            Some(Value::Text(_)) => return Ok(Column::new(alloc, Kind::Text, definition)),
+            None => greatest = definition.saturating_add(1).max(greatest),
+        }
+    }
+    Ok(Column::new(alloc, Kind::I64, greatest))
+}
+
+fn column_of(alloc: Global, text: &str) -> Result<Column, Fail> {
+    let mut column = empty_column(alloc, text)?;
+    for word in text.split_ascii_whitespace() {
+        let (repetition, definition, value) = triplet_of(alloc, word)?;
+        push_triplet(&mut column, repetition, definition, value.as_ref())?;
+    }
+    Ok(column)
+}
+
+fn field_of(alloc: Global, schema: &Schema, name: &str) -> Result<Path, Fail>
+    ensures { IfOk result (λ p. is_leaf_path (fields_view (schema.now).fields.items) (path_view p).path ≡ true) }
+{
+    match find(alloc, schema, name) {
+        Ok(field) => Ok(field),
+        Err(_) => Err("no leaf".into()),
+    }
+}
+
+fn fields_of(alloc: Global, schema: &Schema, names: &[&str]) -> Result<Vec<Path>, Fail>
+    ensures { IfOk result (λ v. list_all (is_leaf_path (fields_view (schema.now).fields.items)) (paths_view v.items) ≡ true) }
+{
+    let mut fields = Vec::new(alloc);
+    'names: for name in names {
+        fields.push(field_of(alloc, schema, *name)?)?;
+    }
+    Ok(fields)
+}
+
+/// Writes a value as it is, a node in parentheses, a field's instances in brackets, and a gap as `_`.
+#[cycle(showing)]
+fn show_instance(alloc: Global, instance: &Instance, text: &mut String) -> Result<(), AllocError> {
+    match instance {
+        Instance::Atom(Value::Bool(truth)) => text.push_str(if *truth { "true" } else { "false" }),
+        Instance::Atom(Value::Int(number)) => {
+            let digits = number.to_string(alloc)?;
+            text.push_str(digits.as_str())
+        }
+        Instance::Atom(Value::Text(word)) => text.push_str(word.as_str()),
+        Instance::Group(node) => show_node(alloc, node, text),
+    }
+}
+
+#[cycle(showing)]
+fn show_slot(alloc: Global, slot: &Slot, text: &mut String) -> Result<(), AllocError> {
+    match slot {
+        Slot::Gap => text.push_str("_"),
+        Slot::Held(instances) => {
+            text.push_str("[")?;
+            for (place, instance) in instances.iter().enumerate() {
+                text.push_str(if place == 0 { "" } else { " " })?;
+                show_instance(alloc, instance, text)?;
+            }
+            text.push_str("]")
+        }
+    }
+}
+
+#[cycle(showing)]
+fn show_node(alloc: Global, node: &Node, text: &mut String) -> Result<(), AllocError> {
+    text.push_str("(")?;
+    for slot in node.slots.iter() {
+        show_slot(alloc, slot, text)?;
+    }
+    text.push_str(")")
+}
+
+fn shown(alloc: Global, nodes: &[Node]) -> Result<String, AllocError> {
+    let mut text = String::new(alloc);
+    for node in nodes {
+        show_node(alloc, node, &mut text)?;
+    }
+    Ok(text)
+}
+
+/// What is assembled of columns with a `|` between them, or none where they are bad data.
+fn assembled(alloc: Global, schema: &[u8], text: &str, rows: u64) -> Result<Option<String>, Fail> {
+    let schema = parse_schema(alloc, schema).map_err(|_| "no schema")?;
+    let mut names = Vec::new(alloc);
+    let mut columns = Vec::new(alloc);
+    for part in text.split('|') {
+        let (name, column) = part.split_once(' ').unwrap_or((part, ""));
+        if !name.is_empty() {
+            names.push(name)?;
+            columns.push(column_of(alloc, column)?)?;
+        }
+    }
+    let fields = fields_of(alloc, &schema, &names)?;
+    match assemble(alloc, &schema, &fields, &columns, rows) {
+        Ok(nodes) => Ok(Some(shown(alloc, &nodes)?)),
+        Err(AssembleFault::BadData) => Ok(None),
+        Err(AssembleFault::NoMemory) => Err("no memory".into()),
+    }
+}
+
+const BOTH: &str =
+    "([10][([][20 40 60])][([([en-us][us]) ([en][])][http://A]) ([][http://B]) ([([en-gb][gb])][])])([20][([10 30][80])][([][http://C])])";
+
+#[test]
+fn columns_of_the_two_documents(rt: HostRuntime) -> Result<(), Fail> {
+    let rows = [
+        (
+            "DocId 0,0=10 0,0=20|Links.Backward 0,1 0,2=10 1,2=30|Links.Forward 0,2=20 1,2=40 1,2=60 0,2=80|Name.Language.Code 0,2=en-us 2,2=en 1,1 1,2=en-gb 0,1|Name.Language.Country 0,3=us 2,2 1,1 1,3=gb 0,1|Name.Url 0,2=http://A 1,2=http://B 1,1 0,2=http://C",
+            BOTH,
+        ),
+        (
+            "Name.Url 0,2=http://A 1,2=http://B 1,1 0,2=http://C|Name.Language.Country 0,3=us 2,2 1,1 1,3=gb 0,1|Name.Language.Code 0,2=en-us 2,2=en 1,1 1,2=en-gb 0,1|Links.Forward 0,2=20 1,2=40 1,2=60 0,2=80|Links.Backward 0,1 0,2=10 1,2=30|DocId 0,0=10 0,0=20",
+            BOTH,
+        ),
+        (
+            "DocId 0,0=10 0,0=20|Name.Language.Country 0,3=us 2,2 1,1 1,3=gb 0,1",
+            "([10]_[([(_[us]) (_[])]_) ([]_) ([(_[gb])]_)])([20]_[([]_)])",
+        ),
+        (
+            "Links.Forward 0,2=20 1,2=40 1,2=60 0,2=80",
+            "(_[(_[20 40 60])]_)(_[(_[80])]_)",
+        ),
+        ("", "(___)(___)"),
+    ];
+    for (columns, expected) in rows {
+        let found = assembled(rt.alloc(), DOCUMENT, columns, 2)?;
+        assert_eq!(rt;
+            found.as_ref().map(|text| text.as_str()),
+            Some(expected),
+            "of {columns:?}"
+        );
+    }
+    Ok(())
+}
+
+#[test]
+fn columns_of_other_documents(rt: HostRuntime) -> Result<(), Fail> {
+    let rows = [
+        // no names
+        ("DocId 0,0=10|Name.Url 0,0", 1, Some("([10]_[])")),
+        // a null more, a null less
+        ("DocId 0,0=10|Name.Url 0,0 0,0", 1, None),
+        ("DocId 0,0=10|Name.Url", 1, None),
+        // a row more, a row less
+        ("DocId 0,0=10|Name.Url 0,0", 2, None),
+        ("DocId 0,0=10 0,0=20|Name.Url 0,0 0,0", 1, None),
+        // no rows, with columns or without
+        ("", 0, Some("")),
+        ("DocId|Name.Url", 0, Some("")),
+        ("DocId 0,0=10", 0, None),
+        ("", 3, Some("(___)(___)(___)")),
+        // an absent and an empty group; columns that tell it differently
+        ("Links.Backward 0,0 0,1", 2, Some("(_[]_)(_[([]_)]_)")),
+        ("Links.Backward 0,0|Links.Forward 0,0", 1, Some("(_[]_)")),
+        ("Links.Backward 0,0|Links.Forward 0,1", 1, None),
+        ("Links.Backward 0,1|Links.Forward 0,0", 1, None),
+        // a name in each of two records, and two names of one
+        ("Name.Url 0,1 0,1", 2, Some("(__[(_[])])(__[(_[])])")),
+        ("Name.Url 0,1 1,1", 1, Some("(__[(_[]) (_[])])")),
+        // instances that two columns tell differently
+        ("Name.Language.Code 0,1 1,1|Name.Url 0,1", 1, None),
+        (
+            "Name.Language.Code 0,2=a 2,2=b|Name.Language.Country 0,2 1,2",
+            1,
+            None,
+        ),
+        // the same column twice, and once otherwise
+        ("DocId 0,0=1|DocId 0,0=1", 1, Some("([1]__)")),
+        ("DocId 0,0=1|DocId 0,0=2", 1, None),
+        // a first repetition level that isn't 0
+        ("Name.Url 1,1", 1, None),
+    ];
+    for (columns, count, expected) in rows {
+        let found = assembled(rt.alloc(), DOCUMENT, columns, count)?;
+        assert_eq!(rt;
+            found.as_ref().map(|text| text.as_str()),
+            expected,
+            "of {columns:?}"
+        );
+    }
+    Ok(())
+}
+
+#[test]
+fn triplets_that_no_record_has(rt: HostRuntime) -> Result<(), Fail> {
+    let rows = [
+        ("Count 0,0=1|Flag 0,0", Some("([1][]_)")),
+        ("Flag 0,1=true|Count 0,0=-5", Some("([-5][true]_)")),
+        (
+            "Part.Size 0,2=1 2,2=2 1,1 1,2=3",
+            Some("(__[(_[1 2]) (_[]) (_[3])])"),
+        ),
+        // values of another kind, out of range, missing, or where none may be
+        ("Count 0,0=true", None),
+        ("Count 0,0=2147483648", None),
+        ("Count 0,0=2147483647", Some("([2147483647]__)")),
+        ("Count 0,0", None),
+        ("Flag 0,1", None),
+        ("Flag 0,0=true", None),
+        ("Part.Text 0,1=a", None),
+        // definition levels above the leaf's, or that jump
+        ("Count 0,1=1", None),
+        ("Flag 0,2=true", None),
+        ("Part.Text 0,2=a 1,0", None),
+        // repetition levels above what a place allows
+        ("Count 0,0=1 1,0=2", None),
+        ("Part.Text 0,2=a 2,2=b", None),
+        ("Part.Size 0,2=1 3,2=2", None),
+        ("Part.Size 0,1 2,2=2", None),
+        ("Part.Size 0,0 1,2=2", None),
+    ];
+    for (columns, expected) in rows {
+        let found = assembled(rt.alloc(), SMALL, columns, 1)?;
+        assert_eq!(rt;
+            found.as_ref().map(|text| text.as_str()),
+            expected,
+            "of {columns:?}"
+        );
+    }
+    Ok(())
+}
+
+#[test]
+fn a_column_for_each_field(rt: HostRuntime) -> Result<(), Fail> {
+    let alloc = rt.alloc();
+    let schema = parse_schema(alloc, DOCUMENT).map_err(|_| "no schema")?;
+    let fields = fields_of(alloc, &schema, &["DocId"])?;
+    let one = [column_of(alloc, "0,0=1")?];
+    assert!(rt; assemble(alloc, &schema, &fields, &one, 1).is_ok());
+    let refused = Some(AssembleFault::BadData);
+    assert_eq!(rt; assemble(alloc, &schema, &fields, &[], 1).err(), refused);
+    assert_eq!(rt; assemble(alloc, &schema, &fields, &[], 0).err(), refused);
+    let two = [column_of(alloc, "0,0=1")?, column_of(alloc, "0,0=1")?];
+    assert_eq!(rt; assemble(alloc, &schema, &fields, &two, 1).err(), refused);
+    Ok(())
+}

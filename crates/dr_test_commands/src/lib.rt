@@ -1,0 +1,13 @@
+//! Tests of the commands, and what they alone use. What they show of each public call beside its contract: that it answers with ample memory.
+#![tactic(auto)]
+
+#[cfg(test)]
+mod commands_tests;
+#[cfg(test)]
+mod count_tests;
+#[cfg(test)]
+mod json_tests;
+#[cfg(test)]
+mod print_tests;
+#[cfg(test)]
+mod run_tests;

@@ -1,0 +1,77 @@
+use dr_fsm::{Automaton, Order};
+use dr_levels::{Column, Levels, Triplet, ValueRef};
+use dr_nested::{Kind, find, parse_schema};
+use dr_print::{automaton_text, column_text, triplet_text};
+use std::test::Fail;
+
+fn triplet(value: Option<ValueRef<'_>>, repetition: u8, definition: u8) -> Triplet<'_> {
+    Triplet {
+        repetition,
+        definition,
+        value,
+    }
+}
+
+#[test]
+fn a_line_has_value_and_levels(rt: HostRuntime) -> Result<(), Fail> {
+    let alloc = rt.alloc();
+    let lines = [
+        (triplet(Some(ValueRef::Text("us")), 0, 3), "\"us\" 0 3\n"),
+        (triplet(None, 2, 2), "NULL 2 2\n"),
+        (triplet(Some(ValueRef::Int(-7)), 0, 1), "-7 0 1\n"),
+        (triplet(Some(ValueRef::Bool(true)), 1, 1), "true 1 1\n"),
+        (
+            triplet(Some(ValueRef::Text("a\"b\n")), 0, 0),
+            "\"a\\\"b\\n\" 0 0\n",
+        ),
+    ];
+    for (triplet, line) in lines {
+        assert_eq!(rt; triplet_text(alloc, triplet)?.as_str(), line);
+    }
+    Ok(())
+}
+
+#[test]
+fn a_column_has_a_line_for_each_triplet(rt: HostRuntime) -> Result<(), Fail> {
+    let alloc = rt.alloc();
+    let mut column = Column::new(alloc, Kind::I64, 1);
+    column.push_nulls(
+        Levels {
+            repetition: 0,
+            definition: 0,
+        },
+        2,
+    )?;
+    let text = column_text(alloc, &column)?;
+    assert_eq!(rt; text.as_str(), "NULL 0 0\nNULL 0 0\n");
+    Ok(())
+}
+
+const DOCUMENT: &str =
+    "message Document { required int64 DocId; optional group Links { repeated int64 Backward; repeated int64 Forward; } repeated group Name { repeated group Language { required string Code; optional string Country; } optional string Url; } }";
+
+// The leaves in another order than the schema's.
+const LEAVES: [&str; 6] = [
+    "Name.Url",
+    "Name.Language.Country",
+    "Name.Language.Code",
+    "DocId",
+    "Links.Forward",
+    "Links.Backward",
+];
+
+#[test]
+fn an_automaton_has_a_line_for_each_level_of_a_leaf(rt: HostRuntime) -> Result<(), Fail> {
+    let alloc = rt.alloc();
+    let schema = parse_schema(alloc, DOCUMENT.as_bytes())?;
+    let mut fields = Vec::new(alloc);
+    for name in LEAVES {
+        fields.push(find(alloc, &schema, name)?)?;
+    }
+    let automaton = Automaton::build(alloc, &schema, &fields, Order::BySchema)?;
+    let text = automaton_text(alloc, &fields, &automaton)?;
+    let expected =
+        "DocId 0 Links.Backward\nLinks.Backward 0 Links.Forward\nLinks.Backward 1 Links.Backward\nLinks.Forward 0 Name.Language.Code\nLinks.Forward 1 Links.Forward\nName.Language.Code 0 Name.Language.Country\nName.Language.Code 1 Name.Language.Country\nName.Language.Code 2 Name.Language.Country\nName.Language.Country 0 Name.Url\nName.Language.Country 1 Name.Url\nName.Language.Country 2 Name.Language.Code\nName.Url 0 end\nName.Url 1 Name.Language.Code\n";
+    assert_eq!(rt; text.as_str(), expected);
+    Ok(())
+}

@@ -1,0 +1,7 @@
+//! Tests of queries: their text, and plans. What they show of each public call beside its contract: that it answers with ample memory.
+#![tactic(auto)]
+
+#[cfg(test)]
+mod plan_tests;
+#[cfg(test)]
+mod sql_tests;
