@@ -1,0 +1,4 @@
+//! Laws of the query language that no other crate rests on. Each function has an empty body, and its contract is a law.
+#![tactic(auto)]
+
+pub mod fault_laws;
