@@ -197,116 +197,101 @@ fn told(alloc: Global, text: &str) -> Result<String, Fail> {
     Ok(out)
 }
 
+// Texts and their trees or faults, one row a line; lines that begin with `#` say what is shown.
+const ROWS: &str = "\
+# items, names, the table, the end
+SELECT a FROM T => a; T
+select A,b As c from t ; => A; b as c; t
+SELECT \"select\" AS \"as\" FROM T => select as as; T
+SELECT 1, 'x', '', 'it''s', TRUE, false FROM T => 1; 'x'; ''; 'it''s'; true; false; T
+SELECT 9223372036854775807 FROM T => 9223372036854775807; T
+# aggregates
+SELECT COUNT(*) FROM T => rows; T
+SELECT COUNT(a), SUM(a + 1), MIN(-a), MAX((a)) FROM T => (count a); (sum (+ a 1)); (min (neg a)); (max a); T
+SELECT COUNT(*) WITHIN RECORD AS n FROM T => rows within record as n; T
+SELECT SUM(a.b) WITHIN a FROM T => (sum a.b) within a; T
+# which operator binds closer
+SELECT a OR b AND c FROM T => (or a (and b c)); T
+SELECT a AND b OR c FROM T => (or (and a b) c); T
+SELECT NOT a AND b FROM T => (and (not a) b); T
+SELECT NOT a = b FROM T => (not (= a b)); T
+SELECT a + b = c - d FROM T => (= (+ a b) (- c d)); T
+SELECT a + b * c FROM T => (+ a (* b c)); T
+SELECT a * b + c FROM T => (+ (* a b) c); T
+SELECT -a * b FROM T => (* (neg a) b); T
+SELECT a - -b FROM T => (- a (neg b)); T
+# chains associate to the left; parentheses
+SELECT a - b - c FROM T => (- (- a b) c); T
+SELECT a - (b - c) FROM T => (- a (- b c)); T
+SELECT a OR b OR c FROM T => (or (or a b) c); T
+SELECT a AND (b OR c) FROM T => (and a (or b c)); T
+SELECT (a = b) = (c <> d) FROM T => (= (= a b) (<> c d)); T
+SELECT ((a)) FROM T => a; T
+# tests
+SELECT a<b, a<=b, a>b, a>=b FROM T => (< a b); (<= a b); (> a b); (>= a b); T
+SELECT a LIKE 'x%' FROM T => (like a )x%; T
+SELECT a NOT LIKE 'x' FROM T => (not (like a )x); T
+SELECT a || b FROM T => Syntax 9
+SELECT a CONTAINS 'x' AND b FROM T => (and (contains a )x b); T
+SELECT a NOT CONTAINS 'x' FROM T => (not (contains a )x); T
+SELECT a IS NULL FROM T => (null a); T
+SELECT a IS NOT NULL FROM T => (not (null a)); T
+# the clauses
+SELECT a FROM T WHERE b = 1 => a; T if (= b 1)
+SELECT a FROM T GROUP BY a, b.c => a; T by a by b.c
+SELECT a FROM T WHERE NOT b GROUP BY a; => a; T if (not b) by a
+# faults
+SELECT FROM Document => Syntax 7
+SELECT a => Syntax 8
+SELECT a FROM => Syntax 13
+SELECT a FROM T;; => Syntax 16
+SELECT a, FROM T => Syntax 10
+SELECT a b FROM T => Syntax 9
+SELECT a AS FROM FROM T => Syntax 12
+SELECT a.count FROM T => Syntax 9
+SELECT SUM(*) FROM T => Syntax 11
+SELECT 1 + COUNT(a) FROM T => Syntax 11
+SELECT COUNT(a) + 1 FROM T => Syntax 16
+SELECT a WITHIN RECORD FROM T => Syntax 9
+SELECT a = b = c FROM T => Syntax 13
+SELECT a LIKE b FROM T => Syntax 14
+SELECT a NOT b FROM T => Syntax 13
+SELECT a IS 1 FROM T => Syntax 12
+SELECT (a FROM T => Syntax 10
+SELECT a) FROM T => Syntax 8
+SELECT (a.b).c FROM T => Syntax 12
+SELECT a FROM T WHERE => Syntax 21
+SELECT a FROM T GROUP a => Syntax 22
+SELECT a FROM T GROUP BY (a) => Syntax 25
+SELECT a FROM T GROUP BY a WHERE b => Syntax 27
+SELECT 'abc FROM T => Syntax 7
+SELECT 'abc'' => Syntax 7
+SELECT \"a FROM T => Syntax 7
+SELECT \"a b\" FROM T => Syntax 7
+SELECT 9223372036854775808 FROM T => Syntax 7
+SELECT a ! b FROM T => Syntax 9
+SELECT a é FROM T => Syntax 9
+SELECT 'é' FROM T => 'é'; T
+";
+
 #[test]
 fn queries_are_parsed(rt: HostRuntime) -> Result<(), Fail> {
-    let rows = [
-        // items, names, the table, the end
-        ("SELECT a FROM T", "a; T"),
-        ("select A,b As c from t ;", "A; b as c; t"),
-        ("\tSELECT\r\na.b . c FROM \"from\"", "a.b.c; from"),
-        ("SELECT \"select\" AS \"as\" FROM T", "select as as; T"),
-        (
-            "SELECT 1, 'x', '', 'it''s', TRUE, false FROM T",
-            "1; 'x'; ''; 'it''s'; true; false; T",
-        ),
-        (
-            "SELECT 9223372036854775807 FROM T",
-            "9223372036854775807; T",
-        ),
-        // aggregates
-        ("SELECT COUNT(*) FROM T", "rows; T"),
-        (
-            "SELECT COUNT(a), SUM(a + 1), MIN(-a), MAX((a)) FROM T",
-            "(count a); (sum (+ a 1)); (min (neg a)); (max a); T",
-        ),
-        (
-            "SELECT COUNT(*) WITHIN RECORD AS n FROM T",
-            "rows within record as n; T",
-        ),
-        ("SELECT SUM(a.b) WITHIN a FROM T", "(sum a.b) within a; T"),
-        // which operator binds closer
-        ("SELECT a OR b AND c FROM T", "(or a (and b c)); T"),
-        ("SELECT a AND b OR c FROM T", "(or (and a b) c); T"),
-        ("SELECT NOT a AND b FROM T", "(and (not a) b); T"),
-        ("SELECT NOT a = b FROM T", "(not (= a b)); T"),
-        ("SELECT a + b = c - d FROM T", "(= (+ a b) (- c d)); T"),
-        ("SELECT a + b * c FROM T", "(+ a (* b c)); T"),
-        ("SELECT a * b + c FROM T", "(+ (* a b) c); T"),
-        ("SELECT -a * b FROM T", "(* (neg a) b); T"),
-        ("SELECT a - -b FROM T", "(- a (neg b)); T"),
-        // chains associate to the left; parentheses
-        ("SELECT a - b - c FROM T", "(- (- a b) c); T"),
-        ("SELECT a - (b - c) FROM T", "(- a (- b c)); T"),
-        ("SELECT a OR b OR c FROM T", "(or (or a b) c); T"),
-        ("SELECT a AND (b OR c) FROM T", "(and a (or b c)); T"),
-        (
-            "SELECT (a = b) = (c <> d) FROM T",
-            "(= (= a b) (<> c d)); T",
-        ),
-        ("SELECT ((a)) FROM T", "a; T"),
-        // tests
-        (
-            "SELECT a<b, a<=b, a>b, a>=b FROM T",
-            "(< a b); (<= a b); (> a b); (>= a b); T",
-        ),
-        ("SELECT a LIKE 'x%' FROM T", "(like a )x%; T"),
-        ("SELECT a NOT LIKE 'x' FROM T", "(not (like a )x); T"),
-        ("SELECT a || b FROM T", "Syntax 9"),
-        (
-            "SELECT a CONTAINS 'x' AND b FROM T",
-            "(and (contains a )x b); T",
-        ),
-        (
-            "SELECT a NOT CONTAINS 'x' FROM T",
-            "(not (contains a )x); T",
-        ),
-        ("SELECT a IS NULL FROM T", "(null a); T"),
-        ("SELECT a IS NOT NULL FROM T", "(not (null a)); T"),
-        // the clauses
-        ("SELECT a FROM T WHERE b = 1", "a; T if (= b 1)"),
-        ("SELECT a FROM T GROUP BY a, b.c", "a; T by a by b.c"),
-        (
-            "SELECT a FROM T WHERE NOT b GROUP BY a;",
-            "a; T if (not b) by a",
-        ),
-        // faults
-        ("", "Syntax 0"),
-        (" ", "Syntax 1"),
-        ("SELECT FROM Document", "Syntax 7"),
-        ("SELECT a", "Syntax 8"),
-        ("SELECT a FROM", "Syntax 13"),
-        ("SELECT a FROM T;;", "Syntax 16"),
-        ("SELECT a, FROM T", "Syntax 10"),
-        ("SELECT a b FROM T", "Syntax 9"),
-        ("SELECT a AS FROM FROM T", "Syntax 12"),
-        ("SELECT a.count FROM T", "Syntax 9"),
-        ("SELECT SUM(*) FROM T", "Syntax 11"),
-        ("SELECT 1 + COUNT(a) FROM T", "Syntax 11"),
-        ("SELECT COUNT(a) + 1 FROM T", "Syntax 16"),
-        ("SELECT a WITHIN RECORD FROM T", "Syntax 9"),
-        ("SELECT a = b = c FROM T", "Syntax 13"),
-        ("SELECT a LIKE b FROM T", "Syntax 14"),
-        ("SELECT a NOT b FROM T", "Syntax 13"),
-        ("SELECT a IS 1 FROM T", "Syntax 12"),
-        ("SELECT (a FROM T", "Syntax 10"),
-        ("SELECT a) FROM T", "Syntax 8"),
-        ("SELECT (a.b).c FROM T", "Syntax 12"),
-        ("SELECT a FROM T WHERE", "Syntax 21"),
-        ("SELECT a FROM T GROUP a", "Syntax 22"),
-        ("SELECT a FROM T GROUP BY (a)", "Syntax 25"),
-        ("SELECT a FROM T GROUP BY a WHERE b", "Syntax 27"),
-        ("SELECT 'abc FROM T", "Syntax 7"),
-        ("SELECT 'abc''", "Syntax 7"),
-        ("SELECT \"a FROM T", "Syntax 7"),
-        ("SELECT \"a b\" FROM T", "Syntax 7"),
-        ("SELECT 9223372036854775808 FROM T", "Syntax 7"),
-        ("SELECT a ! b FROM T", "Syntax 9"),
-        ("SELECT a é FROM T", "Syntax 9"),
-        ("SELECT 'é' FROM T", "'é'; T"),
-    ];
-    for (text, tree) in rows {
+    for row in ROWS.lines() {
+        if row.starts_with("# ") {
+            continue;
+        }
+        let (text, tree) = row.split_once(" => ").ok_or("no row")?;
         assert_eq!(rt; told(rt.alloc(), text)?.as_str(), tree, "at {text}");
     }
+    Ok(())
+}
+
+#[test]
+fn blanks_are_free(rt: HostRuntime) -> Result<(), Fail> {
+    let text = "\tSELECT\r\na.b . c FROM \"from\"";
+    assert_eq!(rt; told(rt.alloc(), text)?.as_str(), "a.b.c; from");
+    assert_eq!(rt; told(rt.alloc(), "")?.as_str(), "Syntax 0");
+    assert_eq!(rt; told(rt.alloc(), " ")?.as_str(), "Syntax 1");
     Ok(())
 }
 
