@@ -1,0 +1,2 @@
+-- where pages are cut
+pub mod CuttingLemmas
