@@ -7,3 +7,5 @@ pub mod LeafLemmas
 pub mod ChunkLemmas
 -- what is written depends on the columns alone
 pub mod RecordLemmas
+-- columns of records can be written
+pub mod FitLemmas

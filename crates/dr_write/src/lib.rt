@@ -2,6 +2,7 @@
 #![tactic(auto)]
 
 mod chunks;
+mod column_laws;
 mod counting;
 mod cutting;
 mod elements;
@@ -11,4 +12,5 @@ mod leaf;
 mod leaves;
 mod pages;
 
+pub use column_laws::record_columns_fit;
 pub use file::write_file;
