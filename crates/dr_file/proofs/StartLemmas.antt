@@ -1,16 +1,16 @@
 -- The footer of a file, by its bytes.
-use Rattle.std.proofs.Common.{◌≡◌, ◌≢◌, ℕ, List, take, drop, Bool, true, false, refl, sym, ap, ap₂, subst, ◌∙◌}
-use Rattle.std.specs.Prelude.{Option, Some, None, if◌then◌else◌, option_and_then}
+use Rattle.std.proofs.Common.{◌≡◌, ◌≢◌, ℕ, List, true, false, refl, sym, ap, ap₂, ◌∙◌}
+use Rattle.std.specs.Prelude.{Option, None}
 use Rattle.dr_meaning.specs.Path.{Leaf}
 use Rattle.dr_formats.specs.Compact.{read_struct}
-use Rattle.dr_formats.specs.File.{Footer, footer_of, is_framed, footer_length, footer_place, footer_meta, meta_read, FileCause, bad_footer}
+use Rattle.dr_formats.specs.File.{footer_of, is_framed, footer_place, footer_meta, meta_read, FileCause}
 use Rattle.dr_formats.specs.Opening.{opening_cause}
 use Rattle.dr_outside.specs.Faults.{raised}
 use Rattle.dr_file.specs.declared.frame.FooterFault.{FooterFault}
 use Rattle.dr_file.specs.declared.fault.OpenFault.{OpenFault}
 use Rattle.dr_file.specs.Faults.{footer_fault}
 use Rattle.dr_file.specs.Frames.{IsFooter}
-use Rattle.dr_file.specs.Openings.{footer_with, footer_in, footer_cause, IsOpenFault}
+use Rattle.dr_file.specs.Openings.{footer_in, footer_cause, IsOpenFault}
 use Rattle.dr_file.specs.OpenedFiles.{IsCauseOf, told_fault, is_link_fault, HasCounts}
 
 -- where the ends are no ends of a file with a footer, there is none

@@ -2,11 +2,15 @@
 #![tactic(auto)]
 
 mod chunk_place;
+mod column;
 mod fault;
 mod file_fault;
+mod floors;
 mod footer;
 mod frame;
 mod groups;
+mod leaf_opening;
+mod leaf_reader;
 mod opened;
 mod opened_leaf;
 mod opening;
