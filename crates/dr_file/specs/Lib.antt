@@ -16,3 +16,5 @@ pub mod Faults
 pub mod Floors
 -- columns of leaves, chunk by chunk
 pub mod LeafColumns
+-- schemas of files
+pub mod Schemas

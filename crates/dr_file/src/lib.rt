@@ -15,9 +15,11 @@ mod opened;
 mod opened_leaf;
 mod opening;
 mod places;
+mod schema;
 mod start;
 #[cfg(test)]
 mod tests;
 
 pub use file_fault::FileFault;
 pub use opened::Opened;
+pub use schema::schema_of;
