@@ -1,16 +1,16 @@
 -- What a link is asked for, call by call.
-use Rattle.std.proofs.Common.{◌≡◌, ◌≢◌, ℕ, ◌+◌, ◌-◌, ◌≤◌, List, [], ◌∷◌, ◌++◌, length, Bool, true, false, refl, sym, ap, ap₂, subst, ◌∙◌, arith, append_assoc}
-use Rattle.std.specs.Prelude.{Option, Some, None, Result, Ok, Err, ◌&&◌, ◌||◌, nat_le, bytes_eq, if◌then◌else◌}
+use Rattle.std.proofs.Common.{◌≡◌, ◌≢◌, ℕ, ◌+◌, ◌-◌, ◌≤◌, List, [], ◌∷◌, ◌++◌, length, Bool, true, false, refl, sym, ap, ap₂, ◌∙◌, arith}
+use Rattle.std.specs.Prelude.{Option, Some, None, Result, Err, ◌&&◌, ◌||◌, bytes_eq, if◌then◌else◌}
 use Rattle.std.specs.List.{list_any, list_all}
 use Rattle.std.proofs.lemmas.List.{append-nil}
 use Rattle.std.proofs.lemmas.Bool.{le-leb, and_parts}
 use Rattle.std.proofs.lemmas.List.Folds.{list_any-append}
 use Rattle.std.proofs.lemmas.Slice.Eq.{bytes_eq-Decides}
-use Rattle.dr_outside.specs.Link.{Files, LinkShown, Request, size_of, bytes_of, with_request, HasSize}
+use Rattle.dr_outside.specs.Link.{Request, size_of, bytes_of, with_request}
 use Rattle.dr_outside.specs.declared.fault.Fault.{Fault}
 use Rattle.dr_formats.specs.Opening.{Range, range, is_inside, end_ranges, footer_ranges}
 use Rattle.dr_formats.specs.File.{is_framed, footer_place, footer_length}
-use Rattle.dr_chunk.specs.Telling.{AsksOnly, Tells, TellsFile}
+use Rattle.dr_chunk.specs.Telling.{AsksOnly}
 use Rattle.dr_file.specs.Asking.{is_request_for}
 
 -- nothing was asked

@@ -1,12 +1,11 @@
 -- The ends of a file, as they are read.
-use Rattle.std.proofs.Common.{◌≡◌, ℕ, ◌+◌, ◌-◌, ◌≤◌, List, [], ◌∷◌, ◌++◌, length, take, drop, Bool, true, false, refl, sym, ap, ap₂, subst, ◌∙◌, arith}
+use Rattle.std.proofs.Common.{◌≡◌, ℕ, ◌+◌, ◌-◌, ◌≤◌, List, length, take, drop, true, sym, ap, ap₂, subst, ◌∙◌, arith}
 use Rattle.std.specs.Prelude.{Option, Some, None, option_map, ◌&&◌, nat_le, bytes_eq}
 use Rattle.std.proofs.lemmas.List.{take_all, drop-drop, length-drop}
 use Rattle.std.proofs.lemmas.Bool.{le-leb}
-use Rattle.dr_outside.specs.Link.{Files, LinkShown, bytes_of, size_of, HasSize, HasBytes, IsPartAt}
+use Rattle.dr_outside.specs.Link.{Files, HasSize, HasBytes, IsPartAt}
 use Rattle.dr_formats.specs.LittleEndian.{little_endian}
-use Rattle.dr_formats.specs.Opening.{Range, range, is_inside, end_ranges}
-use Rattle.dr_formats.specs.File.{magic, is_framed, footer_length, footer_place}
+use Rattle.dr_formats.specs.File.{magic, is_framed, footer_length}
 use Rattle.dr_chunk.specs.Telling.{TellsFile}
 use Rattle.dr_outside.specs.declared.fault.Fault.{Fault}
 use Rattle.dr_file.specs.declared.frame.FooterFault.{FooterFault}

@@ -5,9 +5,12 @@ use Rattle.std.specs.List.{list_all}
 use Rattle.std.proofs.lemmas.Bool.{and_parts}
 use Rattle.std.proofs.lemmas.List.{drop_more, take_more, map_push, length-map, length-take-le}
 use Rattle.dr_meaning.specs.Path.{Leaf}
-use Rattle.dr_formats.specs.Metadata.{ColumnChunk, RowGroup}
-use Rattle.dr_formats.specs.File.{nth_chunk}
-use Rattle.dr_file.specs.Openings.{ShownLeaf, shown_at, shown_at_each}
+use Rattle.dr_formats.specs.Metadata.{ColumnMeta, ColumnChunk, RowGroup}
+use Rattle.dr_formats.specs.File.{nth_chunk, total, chunk_values}
+use Rattle.dr_file.specs.declared.chunk_place.ChunkPlace.{ChunkPlace}
+use Rattle.dr_file.specs.ChunkPlaces.{all_values}
+use Rattle.dr_file.specs.Groups.{chunk_of}
+use Rattle.dr_file.specs.Openings.{ShownChunk, chunk_place_view, shown_chunk, shown_chunks, ShownLeaf, shown_at, shown_at_each}
 
 pub nth_there : {A : Type 0} (see : A → ColumnChunk) (xs : List A) (i : ℕ) (d : A) → i < length xs → nth_chunk (map see xs) i ≡ Some (see (get_or xs i d))
 nth_there see [] i d h = absurd (omega arith)
@@ -43,3 +46,17 @@ next_leaf gs view os new o see ps p is k n l e h v m =
     let s : length (map see (take k ps)) ≡ length (take k is) = length-map (take k ps) see ∙ (length-take-le k ps (omega arith) ∙ sym (length-take-le k is (omega arith))) in
     ap (map view) e ∙ (map_push view os o ∙ (ap₂ (λ xs x. xs ++ x ∷ []) m v
     ∙ (sym (shown_more gs (map see (take k ps)) (take k is) (see p) i s) ∙ ap₂ (shown_at_each gs) (sym tp) (sym ti))))
+
+-- chunks as they are shown have so many triplets together
+one_shown : (g : RowGroup) (c : ChunkPlace) (o : Option ColumnMeta) → Some (chunk_place_view c) ≡ option_map (shown_chunk g.rows) o → c.values ≡ chunk_values o
+one_shown g c None e = absurd (cc)
+one_shown g c (Some m) e = let q : chunk_place_view c ≡ shown_chunk g.rows m = cc in ap (λ (x : ShownChunk). x.values) q
+
+pub values_shown : (i : ℕ) (gs : List RowGroup) (cs : List ChunkPlace) → map (λ c. Some (chunk_place_view c)) cs ≡ shown_chunks i gs → all_values cs ≡ total (λ g. chunk_values (chunk_of i g)) gs
+values_shown i [] [] h = refl
+values_shown i [] (c ∷ cs) h = absurd (cc)
+values_shown i (g ∷ gs) [] h = absurd (cc)
+values_shown i (g ∷ gs) (c ∷ cs) h =
+    let e : Some (chunk_place_view c) ≡ option_map (shown_chunk g.rows) (chunk_of i g) = cc in
+    let t : map (λ x. Some (chunk_place_view x)) cs ≡ shown_chunks i gs = cc in
+    omega (arith, one_shown g c (chunk_of i g) e, values_shown i gs cs t)

@@ -8,3 +8,10 @@ pub mod StartLemmas
 pub mod GroupLemmas
 -- the ends of a file
 pub mod FrameLemmas
+-- what a chunk spells fits its leaf
+mod FitLemmas
+-- which levels may follow one another
+mod FloorLemmas
+-- columns of leaves, chunk by chunk
+mod ColumnLemmas
+mod ReaderLemmas

@@ -1,13 +1,13 @@
 -- What a footer says of leaves, by their places.
-use Rattle.std.proofs.Common.{◌≡◌, ℕ, zero, suc, ◌+◌, ◌≤◌, ◌<◌, List, [], ◌∷◌, map, length, Bool, true, false, refl, sym, ap, ap₂, ◌∙◌, arith}
+use Rattle.std.proofs.Common.{◌≡◌, ℕ, zero, suc, ◌<◌, List, [], ◌∷◌, map, length, Bool, true, false, refl, sym, ap, ap₂, ◌∙◌, arith}
 use Rattle.std.specs.Prelude.{Option, Some, None, option_map, option_and_then, is_some, ◌&&◌, nat_le, if◌then◌else◌, Result, Ok, Err, IfOk, OnOk, IfErr}
 use Rattle.std.specs.List.{list_all}
-use Rattle.std.proofs.lemmas.Bool.{and_parts, eqb-true, true≢false}
+use Rattle.std.proofs.lemmas.Bool.{and_parts, eqb-true}
 use Rattle.dr_meaning.specs.Path.{Leaf}
 use Rattle.dr_formats.specs.Metadata.{ColumnChunk, RowGroup, FileMeta}
 use Rattle.dr_formats.specs.FileSchema.{FileSchema, file_schema, FileLeaf, file_leaves, is_leaf_for, place_of}
-use Rattle.dr_formats.specs.File.{Footer, footer_of, with_schema, is_whole_group, has_no_path, is_found, leaf_place, has_leaves, nth_chunk, leaf_chunk, is_uncompressed, are_uncompressed}
-use Rattle.dr_formats.specs.File.{total, most_triplets, chunk_values, values_fit, rows_agree, bad_schema, bad_codec, bad_data, bad_footer, cause_by}
+use Rattle.dr_formats.specs.File.{Footer, with_schema, is_whole_group, has_no_path, is_found, leaf_place, has_leaves, nth_chunk, is_uncompressed, are_uncompressed}
+use Rattle.dr_formats.specs.File.{total, most_triplets, chunk_values, rows_agree, bad_schema}
 use Rattle.dr_formats.specs.Opening.{has_numbers}
 use Rattle.dr_meta.specs.OneTree.{count_leaves}
 use Rattle.dr_open.specs.Places.{place_in_file}

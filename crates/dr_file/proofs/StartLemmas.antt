@@ -1,16 +1,17 @@
 -- The footer of a file, by its bytes.
-use Rattle.std.proofs.Common.{◌≡◌, ◌≢◌, ℕ, List, take, drop, Bool, true, false, refl, sym, ap, ap₂, subst, ◌∙◌}
-use Rattle.std.specs.Prelude.{Option, Some, None, if◌then◌else◌, option_and_then}
+use Rattle.std.proofs.Common.{◌≡◌, ◌≢◌, ℕ, List, true, false, refl, sym, ap, ap₂, ◌∙◌}
+use Rattle.std.specs.Prelude.{Option, None}
 use Rattle.dr_meaning.specs.Path.{Leaf}
 use Rattle.dr_formats.specs.Compact.{read_struct}
-use Rattle.dr_formats.specs.File.{Footer, footer_of, is_framed, footer_length, footer_place, footer_meta, meta_read, FileCause, bad_footer}
+use Rattle.dr_formats.specs.File.{schema_or_cause, schema_of_file, footer_of, is_framed, footer_place, footer_meta, meta_read, FileCause}
 use Rattle.dr_formats.specs.Opening.{opening_cause}
 use Rattle.dr_outside.specs.Faults.{raised}
 use Rattle.dr_file.specs.declared.frame.FooterFault.{FooterFault}
 use Rattle.dr_file.specs.declared.fault.OpenFault.{OpenFault}
 use Rattle.dr_file.specs.Faults.{footer_fault}
 use Rattle.dr_file.specs.Frames.{IsFooter}
-use Rattle.dr_file.specs.Openings.{footer_with, footer_in, footer_cause, IsOpenFault}
+use Rattle.dr_file.specs.Openings.{footer_in, footer_cause, IsOpenFault}
+use Rattle.dr_file.specs.Schemas.{cause_in}
 use Rattle.dr_file.specs.OpenedFiles.{IsCauseOf, told_fault, is_link_fault, HasCounts}
 
 -- where the ends are no ends of a file with a footer, there is none
@@ -31,6 +32,12 @@ pub footer_fault_told : (e : FooterFault) (bytes : List ℕ) (F : List Leaf) →
 footer_fault_told FooterFault.NoMemory bytes F b n = tt
 footer_fault_told FooterFault.Failed bytes F b n = n refl
 footer_fault_told FooterFault.BadFooter bytes F b n = ap (footer_cause F) (no_footer bytes (b refl))
+
+-- the same, where the schema is wanted
+pub schema_fault_told : (e : FooterFault) (bytes : List ℕ) → (e ≡ FooterFault.BadFooter → is_framed bytes ≡ false) → footer_fault e ≢ OpenFault.Failed → IsOpenFault (footer_fault e) (cause_in (schema_of_file bytes))
+schema_fault_told FooterFault.NoMemory bytes b n = tt
+schema_fault_told FooterFault.Failed bytes b n = n refl
+schema_fault_told FooterFault.BadFooter bytes b n = ap (λ o. cause_in (schema_or_cause o)) (no_footer bytes (b refl))
 
 -- ---- faults as they are told
 

@@ -1,3 +1,5 @@
+-- chunks together
+pub mod ChunkPlaces
 -- what a link is asked for
 pub mod Asking
 -- ends of files, and footers
@@ -10,3 +12,9 @@ pub mod Openings
 pub mod OpenedFiles
 -- faults
 pub mod Faults
+-- which levels may follow one another
+pub mod Floors
+-- columns of leaves, chunk by chunk
+pub mod LeafColumns
+-- schemas of files
+pub mod Schemas

@@ -1,7 +1,10 @@
 -- Opened files, and the faults of files.
-use Rattle.std.specs.Prelude.{◌≡◌, ℕ, List, map, Bool, true, false, Option, Some, None, Result, Ok, Err, string_bytes, ⊤}
+use Rattle.std.specs.Prelude.{◌≡◌, ℕ, List, map, length, Bool, true, false, Option, Some, None, Result, Ok, Err, string_bytes, ⊤}
 use Rattle.dr_meaning.specs.Path.{Leaf}
-use Rattle.dr_formats.specs.File.{FileCause, bad_footer, bad_schema, bad_codec, bad_data, footer_of, footer_place}
+use Rattle.dr_meaning.specs.Column.{Triplet}
+use Rattle.dr_formats.specs.File.{FileCause, bad_footer, bad_schema, bad_codec, bad_data, Footer, footer_of, footer_place, file_column}
+use Rattle.dr_formats.specs.Opening.{leaf_cause}
+use Rattle.dr_chunk.specs.declared.fault.ChunkFault.{ChunkFault}
 use Rattle.dr_outside.specs.Faults.{raised}
 use Rattle.dr_outside.specs.declared.cause.Cause.{Cause}
 use Rattle.dr_file.specs.Openings.{opened_leaf_view, IsOpenedAs}
@@ -11,6 +14,10 @@ use Rattle.dr_file.specs.declared.file_fault.FileFault.{FileFault}
 
 abbrev pub rows_of : Opened → ℕ
 rows_of o = o.rows
+
+-- for how many leaves it was opened
+abbrev pub leaf_count : Opened → ℕ
+leaf_count o = length o.leaves.items
 
 abbrev pub path_of : Opened → List ℕ
 path_of o = string_bytes o.path
@@ -52,3 +59,22 @@ told_fault OpenFault.BadFooter before after = FileFault.Why Cause.BadFooter
 told_fault OpenFault.BadSchema before after = FileFault.Why Cause.BadSchema
 told_fault OpenFault.BadCodec before after = FileFault.Why Cause.BadCodec
 told_fault OpenFault.BadData before after = FileFault.Why Cause.BadData
+
+-- ---- columns
+
+-- bytes have no cause for the leaf alone, and these are its triplets
+abbrev pub IsColumnOf : List ℕ → Leaf → List Triplet → Type 0
+IsColumnOf bytes l ts = (leaf_cause bytes l ≡ None) × (f : Footer) × (footer_of bytes ≡ Some f) × (file_column bytes f l ≡ Some ts)
+
+-- the one cause that is left to a leaf of an opened file; want of memory and a link's failure may come in place of anything
+abbrev pub IsColumnFault : FileFault → Option FileCause → Type 0
+IsColumnFault FileFault.NoMemory cause = ⊤
+IsColumnFault (FileFault.Why (Cause.ReadFailed before after)) cause = ⊤
+IsColumnFault (FileFault.Why Cause.BadData) cause = cause ≡ Some bad_data
+IsColumnFault (FileFault.Why c) cause = ⊥
+
+-- a fault of chunks, as it is told with the link's counts before and after
+abbrev pub told_chunk_fault : ChunkFault → ℕ → ℕ → FileFault
+told_chunk_fault ChunkFault.NoMemory before after = FileFault.NoMemory
+told_chunk_fault ChunkFault.Failed before after = FileFault.Why (Cause.ReadFailed before after)
+told_chunk_fault ChunkFault.BadData before after = FileFault.Why Cause.BadData

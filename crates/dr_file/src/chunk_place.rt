@@ -2,6 +2,8 @@
 
 ghost use Rattle.std.specs.Prelude.{◌<◌, ◌^◌};
 
+use dr_chunk::ByteRange;
+
 /// The chunk of a leaf in a row group, as the footer tells it.
 #[derive(Clone, Copy, Debug)]
 pub(crate) struct ChunkPlace {
@@ -15,4 +17,27 @@ pub(crate) struct ChunkPlace {
     pub(crate) values: u64,
     ghost start_within: { start < 2 ^ 63 },
     ghost size_within: { size < 2 ^ 63 },
+}
+
+impl ChunkPlace {
+    ghost use Rattle.std.specs.Prelude.{◌≡◌, true, false, IfSome, IfNone};
+    ghost use Rattle.dr_chunk.specs.Telling.{inside};
+    ghost use Rattle.dr_formats.specs.Opening.{range};
+    ghost use Rattle.dr_file.specs.Openings.{chunk_place_view};
+    ghost use Rattle.dr_file.specs.LeafColumns.{lies_before};
+
+    /// Its bytes, if they lie between the magic and the footer, which begins at this byte offset.
+    pub(crate) fn range_before(self, footer: u64) -> Option<ByteRange>
+        ensures some { IfSome result (λ r. (lies_before footer (chunk_place_view self) ≡ true) × (inside r ≡ range self.start self.size)) }
+        ensures none { IfNone result (lies_before footer (chunk_place_view self) ≡ false) }
+    {
+        if self.start >= 4 && self.start + self.size <= footer {
+            Some(ByteRange {
+                start: self.start,
+                size: self.size,
+            })
+        } else {
+            None
+        }
+    }
 }

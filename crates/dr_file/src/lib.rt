@@ -2,18 +2,24 @@
 #![tactic(auto)]
 
 mod chunk_place;
+mod column;
 mod fault;
 mod file_fault;
+mod floors;
 mod footer;
 mod frame;
 mod groups;
+mod leaf_opening;
+mod leaf_reader;
 mod opened;
 mod opened_leaf;
 mod opening;
 mod places;
+mod schema;
 mod start;
 #[cfg(test)]
 mod tests;
 
 pub use file_fault::FileFault;
 pub use opened::Opened;
+pub use schema::schema_of;

@@ -14,7 +14,8 @@ ghost use Rattle.dr_file.specs.Openings.{opened_leaf_view, shown_at_each, IsPlac
 use crate::fault::OpenFault;
 use crate::footer::FooterBytes;
 use crate::groups::{are_whole, rows_agree};
-use crate::opened_leaf::{OpenedLeaf, open_leaves};
+use crate::leaf_opening::open_leaves;
+use crate::opened_leaf::OpenedLeaf;
 use crate::places::{all_triplets_fit, all_uncompressed, find_places};
 use dr_compact::{Tree, read_struct};
 use dr_meta::{FileMeta, GroupMeta, count_leaves, view_file};

@@ -20,7 +20,7 @@ use dr_outside::{Cause, Link};
 use std::alloc::Global;
 
 /// A fault of opening as that of a file, where the link's count of faults was so great before and after.
-fn file_fault(fault: OpenFault, before: u64, after: u64) -> FileFault
+pub(crate) fn file_fault(fault: OpenFault, before: u64, after: u64) -> FileFault
     ensures { result ≡ told_fault fault before after }
 {
     match fault {

@@ -1,5 +1,4 @@
-use Rattle.std.proofs.Common.{◌≡◌, ◌-◌, ◌≤◌, ◌∙◌, ℕ, List, length, sym, ap, arith}
-use Rattle.dr_formats.specs.File.{is_framed, footer_place, footer_length}
+use Rattle.std.proofs.Common.{◌≡◌, ◌∙◌, length, arith}
 use Rattle.dr_formats.specs.Opening.{end_ranges}
 use Rattle.dr_chunk.proofs.AskLemmas.{asks_then}
 use Rattle.dr_file.specs.Asking.{is_request_for}

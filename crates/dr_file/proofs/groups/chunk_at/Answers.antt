@@ -2,7 +2,7 @@ use Rattle.std.proofs.Common.{◌≡◌, ◌<◌, ◌≤◌, ◌∙◌, length, 
 use Rattle.std.specs.Prelude.{option_map}
 use Rattle.std.proofs.lemmas.Bool.{ltb-true, ltb-false}
 use Rattle.dr_formats.specs.Metadata.{ColumnChunk}
-use Rattle.dr_meta.specs.Views.{chunk_view, column_view}
+use Rattle.dr_meta.specs.Views.{chunk_view}
 use Rattle.dr_file.specs.Groups.{lent_meta}
 use Rattle.dr_file.proofs.GroupLemmas.{nth_there, nth_missing}
 use Rattle.dr_file.proofs.groups.chunk_at.Goals as goal

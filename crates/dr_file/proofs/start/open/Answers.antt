@@ -1,10 +1,8 @@
-use Rattle.std.proofs.Common.{◌≡◌, ◌≢◌, ◌∙◌, map, sym, ap, subst}
-use Rattle.std.specs.Prelude.{Option, Result, Err, IfErr}
+use Rattle.std.proofs.Common.{map, sym, subst}
+use Rattle.std.specs.Prelude.{Option}
 use Rattle.std.proofs.lemmas.Result.{err_from_is_err_and}
-use Rattle.dr_formats.specs.File.{Footer, footer_of}
-use Rattle.dr_formats.specs.Opening.{opening_cause}
+use Rattle.dr_formats.specs.File.{Footer}
 use Rattle.dr_nested.specs.PathView.{path_view}
-use Rattle.dr_file.specs.Faults.{footer_fault}
 use Rattle.dr_file.specs.Openings.{opened_leaf_view, footer_cause, IsOpenedAs, IsOpenFault}
 use Rattle.dr_file.proofs.StartLemmas.{footer_is, footer_fault_told}
 use Rattle.dr_file.proofs.start.open.Goals as goal

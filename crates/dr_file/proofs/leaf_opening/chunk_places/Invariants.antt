@@ -4,7 +4,7 @@ use Rattle.std.specs.List.{list_all}
 use Rattle.dr_meta.specs.Views.{group_view}
 use Rattle.dr_file.specs.Groups.{chunk_of}
 use Rattle.dr_file.specs.Openings.{chunk_place_view, shown_chunks}
-use Rattle.dr_file.proofs.opened_leaf.chunk_places.Given as goal
+use Rattle.dr_file.proofs.leaf_opening.chunk_places.Given as goal
 
 -- the chunks of the row groups so far; those that are left have one, too
 abbrev pub invariant-groups : goal.invariant-groups

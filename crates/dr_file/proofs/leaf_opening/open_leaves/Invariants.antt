@@ -3,13 +3,14 @@ use Rattle.std.specs.Prelude.{is_some}
 use Rattle.std.specs.List.{list_all}
 use Rattle.dr_meta.specs.Views.{group_view}
 use Rattle.dr_nested.specs.PathView.{path_view}
-use Rattle.dr_file.specs.Groups.{chunk_of}
+use Rattle.dr_file.specs.Groups.{chunk_of, are_triplets}
 use Rattle.dr_file.specs.Openings.{opened_leaf_view, shown_at_each}
-use Rattle.dr_file.proofs.opened_leaf.open_leaves.Given as goal
+use Rattle.dr_file.proofs.leaf_opening.open_leaves.Given as goal
 
--- the leaves so far; those that are left have their chunks, too
+-- the leaves so far; those that are left have their chunks, not too many triplets
 abbrev pub invariant-leaves : goal.invariant-leaves
 invariant-leaves l = record {
   shown : map opened_leaf_view l.leaves.items ≡ shown_at_each (map group_view l.groups) (map path_view (take l.index l.paths)) (take l.index l.places);
   there : list_all (λ i. list_all (λ g. is_some (chunk_of i g)) (map group_view l.groups)) (drop l.index l.places) ≡ true;
+  triplets : list_all (λ i. are_triplets (map group_view l.groups) i) (drop l.index l.places) ≡ true;
 }

@@ -1,0 +1,27 @@
+-- The definition levels that the instances of a path's repeated fields have at least.
+use Rattle.std.specs.Prelude.{◌≡◌, ℕ, ◌+◌, List, [], ◌∷◌}
+use Rattle.dr_meaning.specs.Schema.{Repetition, required, optional, repeated, definition_count}
+use Rattle.dr_meaning.specs.Path.{Step, max_definition}
+use Rattle.dr_meaning.specs.Column.{Triplet, triplet}
+use Rattle.std.specs.Prelude.{None}
+use Rattle.dr_levels.specs.declared.triplet.Levels.{Levels}
+use Rattle.dr_file.specs.declared.floors.Floors.{Floors}
+
+-- a field at this level has a floor where it is repeated
+abbrev pub with_floor : Repetition → ℕ → List ℕ → List ℕ
+with_floor required n ls = ls
+with_floor optional n ls = ls
+with_floor repeated n ls = n ∷ ls
+
+-- the floors of the repeated fields on a path, outermost first, where the fields above it give this level
+abbrev pub floors_of : ℕ → List Step → List ℕ
+floors_of n [] = []
+floors_of n (s ∷ p) = with_floor s.repetition (n + definition_count s.repetition) (floors_of (n + definition_count s.repetition) p)
+
+-- these are the floors of the path, and its greatest definition level
+abbrev pub AreFloorsOf : List Step → Floors → Type 0
+AreFloorsOf p f = (f.levels.items ≡ floors_of 0 p) × (f.greatest ≡ max_definition p)
+
+-- a triplet of these levels without its value
+abbrev pub bare : Levels → Triplet
+bare l = triplet l.repetition l.definition None
