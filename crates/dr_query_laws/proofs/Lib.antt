@@ -1,3 +1,4 @@
 pub mod Outcomes
 pub mod ExpressionsGoOn
 pub mod QueriesGoOn
+pub mod LeavesOnce
