@@ -1,5 +1,5 @@
 -- The pages and chunks of columns, one after another.
-use Rattle.std.proofs.Common.{◌≡◌, ◌∙◌, ℕ, zero, suc, ◌+◌, ◌<◌, ◌≤◌, List, [], ◌∷◌, ◌++◌, length, map, take, drop, Bool, true, refl, sym, ap, ap₂, append_assoc, length-append, subst, arith, get_or}
+use Rattle.std.proofs.Common.{◌≡◌, ◌∙◌, ℕ, zero, suc, ◌+◌, ◌<◌, List, [], ◌∷◌, ◌++◌, length, take, drop, Bool, true, refl, sym, ap, ap₂, append_assoc, length-append, subst, arith, get_or}
 use Rattle.std.proofs.lemmas.List.{drop_more}
 use Rattle.dr_write.specs.declared.leaf.Leaf.{Leaf}
 use Rattle.dr_write.specs.Leaves.{leaf_view, leaves_view}
@@ -77,10 +77,11 @@ leaf_joins l rest now c behind here o q bytes us vs chunks u n place size en eh 
     let j : q ≡ o ++ leaf_chunk (leaf_view l) (column_view c) = chunk_joined (leaf_view l) c o q k.0.0 eq in
     let z : size ≡ length (leaf_chunk (leaf_view l) (column_view c)) = omega (arith, e2, e3, chunk_length (leaf_view l) (column_view c) o q j) in
     let d : u ≡ column_chunk (leaf_view l) (length (column_view c)) (length o) (length (leaf_chunk (leaf_view l) (column_view c))) = eu ∙ (ap₂ (λ (x y : ℕ). column_chunk (leaf_view l) x y size) e1 e2 ∙ ap (column_chunk (leaf_view l) (length (column_view c)) (length o)) z) in
-    let f : vs ≡ us ++ (column_chunk (leaf_view l) (length (column_view c)) (length o) (length (leaf_chunk (leaf_view l) (column_view c))) ∷ []) = ev ∙ ap (λ (x : ColumnChunk). us ++ (x ∷ [])) d in
-    (k.0.1,
-        bytes_join (leaf_view l) (leaves_view rest) (column_view c) (columns_view behind) o q bytes j k.1,
-        columns_join (leaf_view l) (leaves_view rest) (column_view c) (columns_view behind) o q us vs chunks j f k.2)
+    let f : vs ≡ us ++ (column_chunk (leaf_view l) (length (column_view c)) (length o) (length (leaf_chunk (leaf_view l) (column_view c))) ∷ []) = ev ∙ ap (λ (x : ColumnChunk). us ++ (x ∷ [])) d in (
+      k.0.1,
+      bytes_join (leaf_view l) (leaves_view rest) (column_view c) (columns_view behind) o q bytes j k.1,
+      columns_join (leaf_view l) (leaves_view rest) (column_view c) (columns_view behind) o q us vs chunks j f k.2,
+    )
 
 -- as many leaves as columns
 pub are_many : (ls : List WrittenLeaf) (cs : List Column) → AreFor ls cs → length ls ≡ length cs

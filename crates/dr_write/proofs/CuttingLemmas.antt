@@ -1,19 +1,18 @@
 -- Where the pages of a column are cut.
-use Rattle.std.proofs.Common.{◌≡◌, ℕ, zero, suc, ◌+◌, ◌-◌, ◌*◌, ◌/◌, ◌<◌, ◌≤◌, ◌^◌, List, [], ◌∷◌, ◌++◌, length, map, take, drop, Bool, true, false, refl, sym, ap, ap₂, ◌∙◌, subst, arith, append_assoc, length-append, length-drop, true≢false, take-add, get_or, Option, Some, None, ◌⊎◌, inl, inr, add-one}
-use Rattle.std.specs.Prelude.{◌==◌, nat_le, if◌then◌else◌, ◌||◌}
-use Rattle.std.proofs.lemmas.List.{append-nil, length-map, drop-map, drop-drop, length-take-le}
+use Rattle.std.proofs.Common.{◌≡◌, ℕ, zero, suc, ◌+◌, ◌-◌, ◌*◌, ◌/◌, ◌<◌, ◌≤◌, ◌^◌, List, [], ◌∷◌, ◌++◌, length, map, take, drop, Bool, true, false, refl, sym, ap, ap₂, ◌∙◌, subst, arith, append_assoc, length-append, length-drop, true≢false, take-add, get_or, Option, Some, None, ◌⊎◌, inl, inr}
+use Rattle.std.specs.Prelude.{◌==◌, nat_le, if◌then◌else◌}
+use Rattle.std.proofs.lemmas.List.{length-map, drop-map, drop-drop, length-take-le}
 use Rattle.std.proofs.lemmas.Bool.{le-leb, lt-leb, leb-true, leb-false, eqb-true, eq-eqb, ne_eqb}
 use Rattle.std.proofs.Math.Bool.{or-true}
 use Rattle.dr_meaning.specs.Schema.{Kind, bool_kind, int32_kind, int64_kind, text_kind}
 use Rattle.dr_meaning.specs.Record.{Value, bool_value, int_value, text_value}
 use Rattle.dr_meaning.specs.Column.{Triplet}
-use Rattle.dr_meaning.specs.OneColumn.{begins_record}
 use Rattle.dr_formats.specs.Page.{column_values, with_value}
 use Rattle.dr_formats.specs.Plain.{plain_bytes, plain_number_bytes, plain_text_bytes, complement, bit_of}
 use Rattle.dr_formats.specs.LittleEndian.{packed, bytes_for}
 use Rattle.dr_formats.proofs.LittleEndianLemmas.{length_little_endian}
 use Rattle.dr_formats.specs.Plain as plain
-use Rattle.dr_formats.specs.Writing.{enough_triplets, enough_bytes, is_full, last_page, closed_page, open_page, cut_pages}
+use Rattle.dr_formats.specs.Writing.{is_full, last_page, closed_page, open_page, cut_pages}
 use Rattle.std.proofs.Math.ListN.{get_or-map}
 use Rattle.dr_levels.specs.declared.triplet.Levels.{Levels}
 use Rattle.dr_levels.specs.Views.{levels_pair, triplet_levels}

@@ -1,18 +1,18 @@
 -- The columns of records can be written.
-use Rattle.std.proofs.Common.{◌≡◌, ◌∙◌, ℕ, suc, ◌+◌, ◌<◌, ◌≤◌, ◌^◌, List, [], ◌∷◌, ◌++◌, map, Bool, true, refl, sym, ap, ap₂, subst, arith}
+use Rattle.std.proofs.Common.{◌≡◌, ◌∙◌, ℕ, ◌+◌, ◌^◌, List, [], ◌∷◌, ◌++◌, map, Bool, true, refl, ap, subst, arith}
 use Rattle.std.specs.Prelude.{nat_lt}
 use Rattle.std.specs.List.{list_all}
 use Rattle.std.proofs.lemmas.Bool.{and_parts, and_from, ltb-true}
-use Rattle.dr_meaning.specs.Schema.{Kind, Fields, Schema}
+use Rattle.dr_meaning.specs.Schema.{Fields}
 use Rattle.dr_meaning.specs.Path.{Leaf, leaves, max_repetition, max_definition}
 use Rattle.dr_meaning.specs.Record.{Node, is_record, inner, instances_at, text_bytes}
 use Rattle.dr_meaning.specs.Column.{Triplet, record_column, column}
 use Rattle.dr_formats.specs.Page.{is_triplet}
 use Rattle.dr_formats.proofs.ColumnsFit.{Good, ColumnGood, EachLeaf, fields_good}
 use Rattle.dr_levels.specs.declared.column.Column as columns
-use Rattle.dr_levels.specs.Views.{LeafForm, form, column_view, columns_view, column_form}
+use Rattle.dr_levels.specs.Views.{form, column_view, columns_view, column_form}
 use Rattle.dr_write.specs.Chunks.{written_leaf, AreFor}
-use Rattle.dr_write.specs.Files.{HaveColumns, RecordColumnsFit}
+use Rattle.dr_write.specs.Files.{RecordColumnsFit}
 
 abbrev GoodAt : List Node → Leaf → Type 0
 GoodAt R l = Good l.kind (max_repetition l.path) (max_definition l.path) (column l.path R)

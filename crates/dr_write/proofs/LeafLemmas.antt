@@ -1,34 +1,11 @@
--- The leaves of a schema, field by field.
-use Rattle.std.proofs.Common.{◌≡◌, ◌∙◌, ℕ, suc, ◌+◌, ◌≤◌, List, [], ◌∷◌, ◌++◌, map, length, refl, sym, ap, ap₂, append_assoc, string_bytes, arith}
+-- The leaves of the root are those of the schema.
+use Rattle.std.proofs.Common.{◌≡◌, ◌∙◌, ℕ, suc, ◌+◌, List, [], ◌∷◌, ◌++◌, map, refl, sym, ap₂, append_assoc, arith}
 use Rattle.std.proofs.lemmas.List.{append-nil, map-append}
-use Rattle.dr_meaning.specs.Schema as tree
-use Rattle.dr_meaning.specs.Schema.{Repetition, repetition_count, definition_count, Fields, no_fields, field, Shape, leaf, group, depth, shape_depth}
+use Rattle.dr_meaning.specs.Schema.{Repetition, repetition_count, definition_count, Fields, no_fields, field, Shape, leaf, group}
 use Rattle.dr_meaning.specs.Path as path
 use Rattle.dr_meaning.specs.Path.{Leaf, leaf_below, leaves_from, max_repetition, max_definition}
-use Rattle.dr_nested.specs.declared.shape.Field.{Field}
-use Rattle.dr_nested.specs.Views.{SeenField, rep_view, shape_view, field_view, fields_view}
-use Rattle.dr_nested.proofs.ViewLemmas.{view-field}
 use Rattle.dr_write.specs.Chunks.{WrittenLeaf, written_leaf}
 use Rattle.dr_write.specs.Leaves.{Passed, passed_below, at_root, fields_leaves, shape_leaves}
-
--- the leaves of one field more
-pub one_more : (o q : List WrittenLeaf) (w : Passed) (f : Field) (rest : List Field) → q ≡ o ++ shape_leaves (passed_below w (string_bytes f.name) (rep_view f.rep)) (shape_view f.shape)
-    → q ++ fields_leaves w (fields_view rest) ≡ o ++ fields_leaves w (fields_view (f ∷ rest))
-one_more o q w f rest e =
-    ap (λ (x : List WrittenLeaf). x ++ fields_leaves w (fields_view rest)) e
-    ∙ (append_assoc o (shape_leaves (passed_below w (string_bytes f.name) (rep_view f.rep)) (shape_view f.shape)) (fields_leaves w (fields_view rest))
-    ∙ ap (λ (g : SeenField). o ++ (shape_leaves (passed_below w g.name g.repetition) g.shape ++ fields_leaves w (fields_view rest))) (sym (view-field f)))
-
--- the depth of one field more
-pub first_depth : (f : Field) (rest : List Field) → 1 + shape_depth (shape_view f.shape) ≤ depth (fields_view (f ∷ rest))
-first_depth f rest =
-    let e : shape_depth (field_view f).shape ≡ shape_depth (shape_view f.shape) = ap (λ (g : SeenField). shape_depth g.shape) (view-field f) in
-    omega (arith, e)
-
-pub rest_depth : (f : Field) (rest : List Field) → depth (fields_view rest) ≤ depth (fields_view (f ∷ rest))
-rest_depth f rest = omega arith
-
--- ---- they are those of the schema
 
 -- a leaf behind a way
 abbrev leaf_behind : Passed → Leaf → WrittenLeaf

@@ -1,17 +1,16 @@
 -- The bytes that are written for records depend on their columns alone.
-use Rattle.std.proofs.Common.{◌≡◌, ◌∙◌, ℕ, suc, ◌+◌, ◌<◌, List, [], ◌∷◌, ◌++◌, length, map, Bool, true, false, refl, sym, ap, ap₂, append_assoc, length-append, subst, arith}
+use Rattle.std.proofs.Common.{◌≡◌, ◌∙◌, ℕ, ◌+◌, List, [], ◌∷◌, ◌++◌, length, map, Bool, true, false, refl, sym, ap, ap₂, append_assoc, length-append, arith}
 use Rattle.std.specs.Prelude.{◌==◌}
 use Rattle.std.specs.List.{list_all}
 use Rattle.std.proofs.lemmas.Bool.{and_parts, ne_eqb}
-use Rattle.dr_meaning.specs.Schema.{Kind, Fields, group, Schema}
+use Rattle.dr_meaning.specs.Schema.{Fields, group, Schema}
 use Rattle.dr_meaning.specs.Path.{Step, Leaf, leaves, is_leaf_path, max_repetition, max_definition}
 use Rattle.dr_meaning.specs.Record.{Node, is_record, inner}
 use Rattle.dr_meaning.specs.Column.{Triplet, record_column, column}
 use Rattle.dr_meaning.specs.OneColumn.{begins_record}
 use Rattle.dr_meaning.proofs.Blocks.{IsAbove, IsBlock, block-instance}
-use Rattle.dr_formats.specs.LittleEndian.{little_endian_bytes}
 use Rattle.dr_formats.specs.File.{magic}
-use Rattle.dr_formats.specs.Metadata.{ColumnChunk, RowGroup}
+use Rattle.dr_formats.specs.Metadata.{RowGroup}
 use Rattle.dr_formats.specs.Writing.{cut_pages, pages_bytes, record_columns, written_chunk, triplet_count, chunk_at, WrittenChunks, put_chunk, chunks_from, written_chunks, groups_of, written_footer, file_bytes}
 use Rattle.dr_formats.proofs.ColumnsFit.{EachLeaf}
 use Rattle.dr_formats.proofs.ColumnRows.{leaf_paths, column_rows}

@@ -90,10 +90,7 @@ pub(crate) fn schema_items<'a>(
 
 /// Appends the elements of the fields of a group.
 #[cycle(elements)]
-fn push_fields<'a>(
-    fields: &'a Vec<Field>,
-    items: &mut Vec<SchemaItem<'a>>,
-) -> Result<(), NoMemory>
+fn push_fields<'a>(fields: &'a Vec<Field>, items: &mut Vec<SchemaItem<'a>>) -> Result<(), NoMemory>
     ensures { OnOk result (items_view items.new ≡ items_view items.old ++ elements (fields_view (fields.now).items)) }
 {
     'fields: for field in fields {

@@ -1,6 +1,4 @@
-use Rattle.std.proofs.Common.{rules, ◌≡◌, ◌<◌, ◌≤◌, ◌+◌, ◌∷◌, length, take, drop, arith, ℕ, sym, ap, ◌∙◌, subst}
-use Rattle.std.proofs.lemmas.List.{length-drop}
-use Rattle.dr_meaning.specs.Column.{Triplet}
+use Rattle.std.proofs.Common.{◌≡◌, ◌∷◌, drop, arith, sym, ◌∙◌}
 use Rattle.dr_meaning.specs.Schema.{text_kind}
 use Rattle.dr_levels.specs.Views.{triplets_view, triplet_view}
 use Rattle.dr_write.proofs.CuttingLemmas.{enough_bytes_at, enough_triplets_at, IsShort, size_more, rest_more, short_more, short_all}

@@ -1,4 +1,4 @@
-use Rattle.std.proofs.Common.{◌≡◌, ◌<◌, ◌≤◌, ℕ, drop, take, length}
+use Rattle.std.proofs.Common.{◌≡◌, ◌<◌, ℕ, drop, take, length}
 use Rattle.dr_meaning.specs.Schema.{text_kind}
 use Rattle.dr_formats.specs.Page.{column_values}
 use Rattle.dr_formats.specs.Plain.{plain_bytes}

@@ -1,4 +1,4 @@
-use Rattle.std.proofs.Common.{rules, ◌≡◌, ◌<◌, ◌≤◌, ◌+◌, length, map, sym, ◌∙◌, arith}
+use Rattle.std.proofs.Common.{sym, ◌∙◌, arith}
 use Rattle.dr_write.proofs.CuttingLemmas.{end_passed_at, end_here_at, end_behind_all}
 use Rattle.dr_write.proofs.cutting.record_end.Goals as goal
 

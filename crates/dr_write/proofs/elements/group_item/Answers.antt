@@ -1,8 +1,6 @@
 use Rattle.std.proofs.Common.{◌≡◌, ◌∙◌, ap, sym, arith, pos, to_z}
 use mir.Syntax.{w64}
 use Rattle.std.proofs.lemmas.Int.{to_z_pos}
-use Rattle.std.specs.Prelude.{ℤ, Some, None}
-use Rattle.dr_formats.specs.Metadata.{SchemaElement}
 use Rattle.dr_formats.specs.Writing.{count_fields}
 use Rattle.dr_nested.specs.Views.{fields_view}
 use Rattle.dr_write.proofs.ElementLemmas.{count_view, element_of_group}

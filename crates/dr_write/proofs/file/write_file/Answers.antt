@@ -1,4 +1,4 @@
-use Rattle.std.proofs.Common.{◌≡◌, ◌∙◌, ap, ◌++◌, List}
+use Rattle.std.proofs.Common.{◌∙◌, ap, ◌++◌}
 use Rattle.dr_formats.specs.File.{magic}
 use Rattle.dr_nested.specs.SchemaView.{schema_view}
 use Rattle.dr_levels.specs.Views.{columns_view}

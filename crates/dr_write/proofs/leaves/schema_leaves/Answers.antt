@@ -1,6 +1,5 @@
-use Rattle.std.proofs.Common.{◌≡◌, ◌∙◌, ◌++◌, ap, sym, List}
+use Rattle.std.proofs.Common.{◌∙◌, ◌++◌, ap}
 use Rattle.dr_nested.specs.Views.{fields_view}
-use Rattle.dr_write.specs.Chunks.{WrittenLeaf}
 use Rattle.dr_write.specs.Leaves.{leaves_view, fields_leaves, way_view, Passed}
 use Rattle.dr_write.proofs.LeafLemmas.{leaves_of_root}
 use Rattle.dr_write.proofs.leaves.schema_leaves.Goals as goal

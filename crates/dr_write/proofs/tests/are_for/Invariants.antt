@@ -1,4 +1,4 @@
-use Rattle.std.proofs.Common.{◌≡◌, drop}
+use Rattle.std.proofs.Common.{drop}
 use Rattle.dr_write.specs.Chunks.{AreFor}
 use Rattle.dr_write.specs.Leaves.{leaves_view}
 use Rattle.dr_write.proofs.tests.are_for.Given as goal
