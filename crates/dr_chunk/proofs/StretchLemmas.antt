@@ -2,9 +2,11 @@
 use Rattle.std.proofs.Common.{◌≡◌, ℕ, ◌+◌, ◌-◌, ◌≤◌, List, ◌++◌, length, take, drop, replicate, sym, ap, ap₂, subst, ◌∙◌, arith, append_assoc}
 use Rattle.std.specs.Prelude.{Option, Some, None, Result, Ok, Err, is_ok, is_err, false, if◌then◌else◌}
 use Rattle.std.proofs.lemmas.Bool.{false≢true}
-use Rattle.std.proofs.lemmas.List.{take_all, take_at, drop-drop, drop-append-le, length-append}
+use Rattle.std.proofs.lemmas.List.{take_all, take_at, drop-drop, drop-append-le, length-append, length-take}
 use Rattle.std.proofs.Math.Seq.{take-add}
 use Rattle.dr_outside.specs.Link.{Files, HasBytes, IsPartAt}
+use Rattle.dr_chunk.specs.declared.stretch.Stretch.{Stretch}
+use Rattle.dr_chunk.specs.Stretches.{pending, left_count, rest_in}
 use Rattle.dr_chunk.specs.Telling.{TellsFile}
 
 -- what was put into the room behind the others
@@ -35,3 +37,9 @@ rest_stays held path bytes old part from at n end t h m f e =
     let r : take (end - at) (drop at bytes) ≡ part ++ take k (drop (at + n) bytes) =
     ap (λ j. take j (drop at bytes)) s ∙ (take-add n k (drop at bytes) ∙ ap₂ (λ xs ys. xs ++ take k ys) (sym q) (drop-drop n at bytes)) in
     ap (λ xs. xs ++ take k (drop (at + n) bytes)) (drop-append-le from old part f) ∙ (append_assoc (drop from old) part (take k (drop (at + n) bytes)) ∙ ap (λ xs. drop from old ++ xs) (sym r))
+
+-- no more bytes are left than are counted
+pub rest_few : (bytes : List ℕ) (s : Stretch) → length (rest_in bytes s) ≤ left_count s
+rest_few bytes s =
+    let k : ℕ = s.range.start + s.range.size - s.at in
+    omega (arith, length-append (pending s) (take k (drop s.at bytes)), length-take k (drop s.at bytes))

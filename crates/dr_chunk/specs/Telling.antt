@@ -1,5 +1,5 @@
 -- What a link tells of the file at a path, and what it is asked for.
-use Rattle.std.specs.Prelude.{◌≡◌, ℕ, List, ◌++◌, Bool, true, false, ◌&&◌, bytes_eq, ⊤, Some, None}
+use Rattle.std.specs.Prelude.{◌≡◌, ℕ, List, ◌++◌, Bool, true, false, ◌&&◌, bytes_eq, ⊤, IsTrue, Some, None}
 use Rattle.std.specs.List.{list_all, list_any}
 use Rattle.std.specs.declared.option.Option.{Option}
 use Rattle.dr_outside.specs.Link.{Files, LinkShown, Request, size_of, bytes_of}
@@ -14,6 +14,10 @@ TellsFile (Some files) path bytes = files path ≡ Some bytes
 -- the link tells that it holds these bytes at the path
 abbrev pub Tells : LinkShown → List ℕ → List ℕ → Type 0
 Tells s path bytes = TellsFile s.held path bytes
+
+-- the link is steady, and tells that it holds these bytes at the path
+abbrev pub Serves : LinkShown → List ℕ → List ℕ → Type 0
+Serves s path bytes = IsTrue s.is_steady × Tells s path bytes
 
 -- a range of bytes in the definitions' words
 abbrev pub inside : ByteRange → Range

@@ -1,6 +1,6 @@
 //! Column chunks, read page by page.
 
-ghost use Rattle.std.specs.Prelude.{◌≡◌, ◌≢◌, ◌≤◌, ◌+◌, ◌∷◌, [], ℕ, List, length, take, drop, false, None, OnOk, Err};
+ghost use Rattle.std.specs.Prelude.{◌≡◌, ◌≢◌, ◌≤◌, ◌+◌, ◌∷◌, [], ℕ, List, length, take, drop, false, None, OnOk, Err, IsTrue};
 ghost use Rattle.dr_meaning.specs.Path.{Leaf};
 ghost use Rattle.dr_formats.specs.Chunk.{pages_triplets};
 ghost use Rattle.dr_levels.specs.Views.{column_view, column_form};
@@ -11,7 +11,7 @@ ghost use Rattle.dr_chunk.specs.Steps.{page_step};
 ghost use Rattle.dr_chunk.specs.Stretches.{rest_in, path_of, range_of};
 ghost use Rattle.dr_chunk.specs.Takers.{leaf_of, wanted_of, is_first_of, dictionary_of, leaf_form, IsLeafOf};
 ghost use Rattle.dr_chunk.specs.Pages.{TakesStep};
-ghost use Rattle.dr_chunk.specs.Telling.{Tells, AsksOnly, is_read_inside, inside};
+ghost use Rattle.dr_chunk.specs.Telling.{Tells, Serves, AsksOnly, is_read_inside, inside};
 
 use crate::byte_range::ByteRange;
 use crate::fault::ChunkFault;
@@ -46,6 +46,8 @@ fn next_page<L: Link>(
     ensures asked { AsksOnly (is_read_inside (path_of stretch.old) (inside (range_of stretch.old) ∷ [])) (L.shows link.old).asked (L.shows link.new).asked }
     ensures cause { result ≡ Err ChunkFault.Failed → (L.shows link.new).faults ≡ raised (L.shows link.old).faults }
     ensures calm { result ≢ Err ChunkFault.Failed → (L.shows link.new).faults ≡ (L.shows link.old).faults }
+    ensures steady { (bytes : List ℕ) → Serves (L.shows link.old) (path_of stretch.old) bytes → (range_of stretch.old).start + (range_of stretch.old).size ≤ length bytes → result ≢ Err ChunkFault.Failed }
+    ensures stays_steady { IsTrue (L.shows link.old).is_steady → IsTrue (L.shows link.new).is_steady }
 {
     let head = next_header(alloc, stretch, link)?;
     let size = head.compressed_size.get() as usize;
@@ -79,6 +81,8 @@ pub fn read_chunk<L: Link>(
     ensures asked { AsksOnly (is_read_inside path.now (inside range ∷ [])) (L.shows link.old).asked (L.shows link.new).asked }
     ensures cause { result ≡ Err ChunkFault.Failed → (L.shows link.new).faults ≡ raised (L.shows link.old).faults }
     ensures calm { result ≢ Err ChunkFault.Failed → (L.shows link.new).faults ≡ (L.shows link.old).faults }
+    ensures steady { (bytes : List ℕ) → Serves (L.shows link.old) path.now bytes → range.start + range.size ≤ length bytes → result ≢ Err ChunkFault.Failed }
+    ensures stays_steady { IsTrue (L.shows link.old).is_steady → IsTrue (L.shows link.new).is_steady }
 {
     let mut stretch = Stretch::new(alloc, path, range);
     let mut taker = PageTaker::new(alloc, leaf, wanted);

@@ -1,12 +1,12 @@
 //! Headers of pages.
 
-ghost use Rattle.std.specs.Prelude.{◌≡◌, ◌≢◌, ◌≤◌, ◌++◌, ◌∷◌, [], ℕ, List, length, drop, true, false, IfOk, IfErr, Err, IfSome, IfNone};
+ghost use Rattle.std.specs.Prelude.{◌≡◌, ◌≢◌, ◌≤◌, ◌++◌, ◌∷◌, [], ℕ, List, length, drop, true, false, IfOk, IfErr, Err, IfSome, IfNone, IsTrue, ◌+◌};
 ghost use Rattle.dr_formats.specs.Reading.{got};
 ghost use Rattle.dr_formats.specs.Chunk.{page_header};
 ghost use Rattle.dr_meta.specs.Views.{page_view};
 ghost use Rattle.dr_chunk.specs.Headers.{IsRefused, IsHeaderFault};
 ghost use Rattle.dr_chunk.specs.Stretches.{rest_in, path_of, range_of};
-ghost use Rattle.dr_chunk.specs.Telling.{Tells, AsksOnly, is_read_inside, inside};
+ghost use Rattle.dr_chunk.specs.Telling.{Tells, Serves, AsksOnly, is_read_inside, inside};
 ghost use Rattle.dr_outside.specs.Faults.{raised};
 ghost use Rattle.dr_chunk.specs.Faults.{compact_fault, meta_fault};
 
@@ -103,6 +103,8 @@ pub(crate) fn next_header<L: Link>(
     ensures asked { AsksOnly (is_read_inside (path_of stretch.old) (inside (range_of stretch.old) ∷ [])) (L.shows link.old).asked (L.shows link.new).asked }
     ensures cause { result ≡ Err ChunkFault.Failed → (L.shows link.new).faults ≡ raised (L.shows link.old).faults }
     ensures calm { result ≢ Err ChunkFault.Failed → (L.shows link.new).faults ≡ (L.shows link.old).faults }
+    ensures steady { (bytes : List ℕ) → Serves (L.shows link.old) (path_of stretch.old) bytes → (range_of stretch.old).start + (range_of stretch.old).size ≤ length bytes → result ≢ Err ChunkFault.Failed }
+    ensures stays_steady { IsTrue (L.shows link.old).is_steady → IsTrue (L.shows link.new).is_steady }
 {
     let left = stretch.left();
     let mut ahead = left.min(HEADER_AHEAD);

@@ -1,8 +1,8 @@
 //! A stretch of a file, read ahead through a buffer that is used again.
 
-ghost use Rattle.std.specs.Prelude.{◌≡◌, ◌≢◌, ◌≤◌, ◌<◌, ◌+◌, ◌-◌, ◌∷◌, [], ℕ, List, length, take, drop, true, false, IfOk, OnOk, Err};
+ghost use Rattle.std.specs.Prelude.{◌≡◌, ◌≢◌, ◌≤◌, ◌<◌, ◌+◌, ◌-◌, ◌∷◌, [], ℕ, List, length, take, drop, true, false, IfOk, OnOk, Err, IsTrue};
 ghost use Rattle.dr_outside.specs.Faults.{raised};
-ghost use Rattle.dr_chunk.specs.Telling.{Tells, AsksOnly, is_read_inside, inside};
+ghost use Rattle.dr_chunk.specs.Telling.{Tells, Serves, AsksOnly, is_read_inside, inside};
 
 use crate::byte_range::ByteRange;
 use dr_outside::{Fault, Link};
@@ -81,6 +81,8 @@ impl<'p> Stretch<'p> {
         ensures asked { AsksOnly (is_read_inside (path_of self.old) (inside (range_of self.old) ∷ [])) (L.shows link.old).asked (L.shows link.new).asked }
         ensures cause { result ≡ Err Fault.Failed → (L.shows link.new).faults ≡ raised (L.shows link.old).faults }
         ensures calm { result ≢ Err Fault.Failed → (L.shows link.new).faults ≡ (L.shows link.old).faults }
+        ensures steady { (bytes : List ℕ) → Serves (L.shows link.old) (path_of self.old) bytes → (range_of self.old).start + (range_of self.old).size ≤ length bytes → result ≢ Err Fault.Failed }
+        ensures stays_steady { IsTrue (L.shows link.old).is_steady → IsTrue (L.shows link.new).is_steady }
     {
         let have = self.buffer.len() - self.from;
         if have >= count {
@@ -124,6 +126,8 @@ impl<'p> Stretch<'p> {
         ensures asked { AsksOnly (is_read_inside (path_of self.old) (inside (range_of self.old) ∷ [])) (L.shows link.old).asked (L.shows link.new).asked }
         ensures cause { result ≡ Err Fault.Failed → (L.shows link.new).faults ≡ raised (L.shows link.old).faults }
         ensures calm { result ≢ Err Fault.Failed → (L.shows link.new).faults ≡ (L.shows link.old).faults }
+        ensures steady { (bytes : List ℕ) → Serves (L.shows link.old) (path_of self.old) bytes → (range_of self.old).start + (range_of self.old).size ≤ length bytes → result ≢ Err Fault.Failed }
+        ensures stays_steady { IsTrue (L.shows link.old).is_steady → IsTrue (L.shows link.new).is_steady }
     {
         let have = self.buffer.len();
         let Some(length) = have.checked_add(count) else {

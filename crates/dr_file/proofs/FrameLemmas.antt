@@ -1,11 +1,11 @@
 -- The ends of a file, as they are read.
-use Rattle.std.proofs.Common.{◌≡◌, ℕ, ◌+◌, ◌-◌, ◌≤◌, List, length, take, drop, true, sym, ap, ap₂, subst, ◌∙◌, arith}
+use Rattle.std.proofs.Common.{◌≡◌, ℕ, ◌+◌, ◌-◌, ◌≤◌, List, length, take, drop, Bool, true, false, refl, sym, ap, ap₂, subst, ◌∙◌, arith}
 use Rattle.std.specs.Prelude.{Option, Some, None, option_map, ◌&&◌, nat_le, bytes_eq}
 use Rattle.std.proofs.lemmas.List.{take_all, drop-drop, length-drop}
-use Rattle.std.proofs.lemmas.Bool.{le-leb}
-use Rattle.dr_outside.specs.Link.{Files, HasSize, HasBytes, IsPartAt}
+use Rattle.std.proofs.lemmas.Bool.{le-leb, leb-true}
+use Rattle.dr_outside.specs.Link.{Files, HasSize, HasBytes, HasRange, Reaches, IsPartAt}
 use Rattle.dr_formats.specs.LittleEndian.{little_endian}
-use Rattle.dr_formats.specs.File.{magic, is_framed, footer_length}
+use Rattle.dr_formats.specs.File.{magic, is_framed, footer_length, footer_place}
 use Rattle.dr_chunk.specs.Telling.{TellsFile}
 use Rattle.dr_outside.specs.declared.fault.Fault.{Fault}
 use Rattle.dr_file.specs.declared.frame.FooterFault.{FooterFault}
@@ -55,3 +55,33 @@ ends_told h0 h1 h2 path bytes front end size e1 e2 t s w b1 b2 l1 l2 =
 pub not_bad : (e : Fault) → outside_fault e ≡ FooterFault.BadFooter → ⊥
 not_bad Fault.Failed h = cc
 not_bad Fault.NoMemory h = cc
+
+-- ---- what a steady link gives
+
+last_of : (a b c d : Bool) → (a && b && c && d) ≡ true → d ≡ true
+last_of true true true d h = h
+last_of true true false d h = absurd (cc)
+last_of true false c d h = absurd (cc)
+last_of false b c d h = absurd (cc)
+
+-- the footer lies in the file
+pub footer_within : (bytes : List ℕ) → is_framed bytes ≡ true → footer_place bytes + footer_length bytes ≤ length bytes
+footer_within bytes h =
+    let d = last_of (nat_le 12 (length bytes)) (bytes_eq (take 4 bytes) magic) (bytes_eq (drop (length bytes - 4) bytes) magic) (nat_le (footer_length bytes) (length bytes - 12)) h in
+    omega (arith, leb-true (footer_length bytes) (length bytes - 12) d, first)
+  where
+    first : 12 ≤ length bytes
+    first = leb-true 12 (length bytes) (first_of (nat_le 12 (length bytes)) (bytes_eq (take 4 bytes) magic) (bytes_eq (drop (length bytes - 4) bytes) magic) (nat_le (footer_length bytes) (length bytes - 12)) h)
+      where
+        first_of : (a b c d : Bool) → (a && b && c && d) ≡ true → a ≡ true
+        first_of true b c d k = refl
+        first_of false b c d k = absurd (cc)
+
+-- a range of the file that the link tells
+pub range_had : (held : Option Files) (path bytes : List ℕ) (start len : ℕ) → TellsFile held path bytes → start + len ≤ length bytes → HasRange held (record { path = path; start = start; len = len })
+range_had None path bytes start len t h = elim t [ ]
+range_had (Some files) path bytes start len t h = let P : Option (List ℕ) → Type 0 = λ o. Reaches o (start + len) in subst P (sym t) h
+
+pub failed_only : (e : Fault) → outside_fault e ≡ FooterFault.Failed → e ≡ Fault.Failed
+failed_only Fault.Failed h = refl
+failed_only Fault.NoMemory h = cc

@@ -23,13 +23,13 @@ fn file_fault(fault: ChunkFault, before: u64, after: u64) -> FileFault
 }
 
 impl Opened {
-    ghost use Rattle.std.specs.Prelude.{◌≤◌, ◌<◌, ℕ, List, length, false, Some, IfOk, IfErr};
+    ghost use Rattle.std.specs.Prelude.{◌≤◌, ◌<◌, ℕ, List, length, false, Some, IsTrue, IfOk, IfErr};
     ghost use Rattle.std.specs.List.{slice_get};
     ghost use Rattle.dr_meaning.specs.Path.{Leaf, max_definition};
     ghost use Rattle.dr_formats.specs.File.{Footer, footer_of, most_triplets};
     ghost use Rattle.dr_formats.specs.Opening.{leaf_cause, leaf_ranges};
     ghost use Rattle.dr_levels.specs.Views.{column_view, column_form, form};
-    ghost use Rattle.dr_chunk.specs.Telling.{Tells, AsksOnly, is_read_inside};
+    ghost use Rattle.dr_chunk.specs.Telling.{Tells, Serves, AsksOnly, is_read_inside};
     ghost use Rattle.dr_file.specs.OpenedFiles.{IsOpened, IsColumnOf, IsColumnFault, HasCounts, is_read_fault, leaf_count, path_of};
 
     /// The column of the leaf at an index of those that the file was opened for. The link is asked for bytes of the leaf's own chunks.
@@ -51,6 +51,8 @@ impl Opened {
         ensures same { (L.shows link.new).held ≡ (L.shows link.old).held }
         ensures counts { IfErr result (HasCounts (L.shows link.old).faults (L.shows link.new).faults) }
         ensures calm { is_read_fault result ≡ false → (L.shows link.new).faults ≡ (L.shows link.old).faults }
+        ensures steady { (bytes : List ℕ) (F : List Leaf) → IsOpened bytes F self.now → Serves (L.shows link.old) (path_of self.now) bytes → is_read_fault result ≡ false }
+        ensures stays_steady { IsTrue (L.shows link.old).is_steady → IsTrue (L.shows link.new).is_steady }
     {
         let before = link.faults();
         match read_leaf(alloc, link, &self.path, self.footer, &self.leaves[index]) {

@@ -1,12 +1,13 @@
 //! A file's footer.
 
-ghost use Rattle.std.specs.Prelude.{◌≡◌, ◌≢◌, ◌++◌, ℕ, List, take, drop, true, false, IfOk, Err};
+ghost use Rattle.std.specs.Prelude.{◌≡◌, ◌≢◌, ◌++◌, ℕ, List, take, drop, true, false, IfOk, Err, IsTrue};
 ghost use Rattle.dr_formats.specs.File.{is_framed, footer_place, footer_length};
 ghost use Rattle.dr_formats.specs.Opening.{end_ranges, footer_ranges};
 ghost use Rattle.dr_outside.specs.Faults.{raised};
-ghost use Rattle.dr_chunk.specs.Telling.{Tells, AsksOnly};
+ghost use Rattle.dr_chunk.specs.Telling.{Tells, AsksOnly, Serves};
 ghost use Rattle.dr_file.specs.Asking.{is_request_for};
 ghost use Rattle.dr_file.specs.Frames.{IsFooter};
+ghost use Rattle.dr_outside.specs.Link.{Lacks};
 
 use crate::frame::{FooterFault, read_frame};
 use dr_outside::Link;
@@ -34,6 +35,9 @@ pub(crate) fn read_footer<L: Link>(
     ensures same { (L.shows link.new).held ≡ (L.shows link.old).held }
     ensures cause { result ≡ Err FooterFault.Failed → (L.shows link.new).faults ≡ raised (L.shows link.old).faults }
     ensures calm { result ≢ Err FooterFault.Failed → (L.shows link.new).faults ≡ (L.shows link.old).faults }
+    ensures steady { (bytes : List ℕ) → Serves (L.shows link.old) path.now bytes → result ≢ Err FooterFault.Failed }
+    ensures absent { Lacks (L.shows link.old).held path.now → result ≢ Err FooterFault.NoMemory → result ≡ Err FooterFault.Failed }
+    ensures stays_steady { IsTrue (L.shows link.old).is_steady → IsTrue (L.shows link.new).is_steady }
 {
     let frame = read_frame(link, path)?;
     let mut bytes = vec![in alloc; 0u8; frame.length]?;

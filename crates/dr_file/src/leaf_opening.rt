@@ -94,7 +94,8 @@ pub(crate) fn open_leaves(
     requires as_many { length paths.now ≡ length places.now }
     requires there { list_all (λ i. list_all (λ g. is_some (chunk_of i g)) (map group_view groups.now)) places.now ≡ true }
     requires triplets { list_all (λ i. are_triplets (map group_view groups.now) i) places.now ≡ true }
-    ensures { IfOk result (λ v. map opened_leaf_view v.items ≡ shown_at_each (map group_view groups.now) (map path_view paths.now) places.now) }
+    ensures shown { IfOk result (λ v. map opened_leaf_view v.items ≡ shown_at_each (map group_view groups.now) (map path_view paths.now) places.now) }
+    ensures count { IfOk result (λ v. length v.items ≡ length paths.now) }
 {
     let mut leaves = Vec::with_capacity(alloc, paths.len())?;
     'leaves: for index in 0..paths.len() {

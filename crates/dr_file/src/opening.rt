@@ -33,6 +33,7 @@ fn open_meta(
     ensures opened { (place : ℕ) → IfOk result (λ v. IsOpenedAs (footer_with place (file_view meta.now)) (map path_view fields.now) (file_view meta.now).rows (map opened_leaf_view v.items)) }
     ensures fault { (place : ℕ) → IfErr result (λ e. IsOpenFault e (footer_cause (map path_view fields.now) (footer_with place (file_view meta.now)))) }
     ensures rows { OnOk result ((file_view meta.now).rows ≤ most_rows) }
+    ensures count { IfOk result (λ v. length v.items ≡ length fields.now) }
 {
     let Some(leaves) = count_leaves(alloc, &meta.schema)? else {
         return Err(OpenFault::BadFooter);
@@ -61,6 +62,7 @@ fn open_places(
     ensures shown { IfOk result (λ v. map opened_leaf_view v.items ≡ shown_at_each (map group_view groups.now) (map path_view fields.now) places.now) }
     ensures good { OnOk result ((are_uncompressed_at (map group_view groups.now) places.now ≡ true) × (are_numbers_at (map group_view groups.now) rows places.now ≡ true)) }
     ensures fault { IfErr result (λ e. IsPlacesFault e (are_uncompressed_at (map group_view groups.now) places.now) (are_numbers_at (map group_view groups.now) rows places.now)) }
+    ensures count { IfOk result (λ v. length v.items ≡ length fields.now) }
 {
     if !all_uncompressed(groups, places) {
         return Err(OpenFault::BadCodec);
@@ -85,6 +87,7 @@ fn open_tree(
     ensures opened { (place : ℕ) → IfOk result (λ r. IsOpenedAs (footer_in place (meta_of (file_viewed (tree_view tree.now)))) (map path_view fields.now) r.0 (map opened_leaf_view (r.1).items)) }
     ensures fault { (place : ℕ) → IfErr result (λ e. IsOpenFault e (footer_cause (map path_view fields.now) (footer_in place (meta_of (file_viewed (tree_view tree.now)))))) }
     ensures rows { IfOk result (λ r. r.0 ≤ most_rows) }
+    ensures count { IfOk result (λ r. length (r.1).items ≡ length fields.now) }
 {
     let meta = view_file(alloc, tree)?;
     let leaves = open_meta(alloc, &meta, fields)?;
@@ -102,6 +105,7 @@ pub(crate) fn open_footer(
     ensures opened { IfOk result (λ r. IsOpenedAs (footer_in footer.now.place (meta_read (struct_read footer.now.bytes.items))) (map path_view fields.now) r.0 (map opened_leaf_view (r.1).items)) }
     ensures fault { IfErr result (λ e. IsOpenFault e (footer_cause (map path_view fields.now) (footer_in footer.now.place (meta_read (struct_read footer.now.bytes.items))))) }
     ensures rows { IfOk result (λ r. r.0 ≤ most_rows) }
+    ensures count { IfOk result (λ r. length (r.1).items ≡ length fields.now) }
 {
     let (tree, _) = read_struct(alloc, &footer.bytes)?;
     open_tree(alloc, &tree, fields)

@@ -1,12 +1,13 @@
-use Rattle.std.proofs.Common.{◌≡◌, ◌≤◌, length, take, ap}
+use Rattle.std.proofs.Common.{◌≡◌, ◌≤◌, ◌<◌, length, take, ap, arith}
 use Rattle.std.proofs.lemmas.Result.{err_from_is_err_and}
 use Rattle.dr_formats.specs.Reading.{got}
 use Rattle.dr_formats.specs.Chunk.{page_header}
 use Rattle.dr_meta.specs.Views.{page_view}
-use Rattle.dr_chunk.specs.Stretches.{rest_in, pending}
+use Rattle.dr_chunk.specs.Stretches.{rest_in, pending, left_count}
 use Rattle.dr_chunk.proofs.AskLemmas.{asks_again}
 use Rattle.dr_chunk.proofs.HeaderLemmas.{tells_same}
-use Rattle.dr_chunk.proofs.PageStepLemmas.{no_header_no_page, bad_page_ahead, page_ahead_done}
+use Rattle.dr_chunk.proofs.PageStepLemmas.{no_body_no_page, no_header_no_page, bad_page_ahead, page_ahead_done}
+use Rattle.dr_chunk.proofs.StretchLemmas.{rest_few}
 use Rattle.dr_chunk.proofs.chunk.next_page.Goals as goal
 
 pub returns-in_err-head-clause-bad : goal.returns-in_err-head-clause-bad
@@ -50,3 +51,10 @@ returns-clause-taken g c = λ bytes l leaf told.
     let w : c.get-size.result ≤ length (pending s) = c.in_ok-look_ahead.ensures.enough (cc c.if-not-branch.false) in
     page_ahead_done l _ _ _ (rest_in bytes c.args.stretch.now) rest (pending s) _ _ _ c.get-size.result (page_view head) _ _ _ _ k same c.get-size.ensures w (ap (take c.get-size.result) c.pending.ensures)
     (c.take.ensures.rest bytes) (c.in_ok-take_page.ensures.taken l leaf)
+
+pub returns-then-not-branch-clause-bad : goal.returns-then-not-branch-clause-bad
+returns-then-not-branch-clause-bad g c = λ bytes l leaf told e.
+    let s = c.next_header.new.stretch in
+    let few : left_count s < c.get-size.result = c.in_ok-look_ahead.ensures.short (cc c.if-not-branch.true) in
+    no_body_no_page l _ _ _ (rest_in bytes c.args.stretch.now) (rest_in bytes s) (page_view c.in_ok-head.head) (c.in_ok-head.ensures.header bytes told)
+    (omega (arith, few, c.get-size.ensures, rest_few bytes s))

@@ -37,6 +37,7 @@ pages-preserved g c =
       same = page.same ∙ inv.same;
       asked = asks_again _ _ _ _ _ _ _ inv.path inv.range inv.asked page.asked;
       calm = page.calm (λ e. absurd (cc)) ∙ inv.calm;
+      steady = λ h. page.stays_steady (inv.steady h);
     }
 
 pub returns-in_err-next_page-clause-bad : goal.returns-in_err-next_page-clause-bad

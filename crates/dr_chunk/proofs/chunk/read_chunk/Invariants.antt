@@ -1,3 +1,4 @@
+use Rattle.std.specs.Prelude.{IsTrue}
 use Rattle.std.proofs.Common.{◌≡◌, ◌+◌, ◌∷◌, [], ℕ, List, length}
 use Rattle.dr_meaning.specs.Path.{Leaf}
 use Rattle.dr_formats.specs.Chunk.{pages}
@@ -21,6 +22,7 @@ invariant-pages g l = let shows = g.L.Link.shows in record {
   same : (shows l.link).held ≡ (shows l.initial.link).held;
   asked : AsksOnly (is_read_inside (path_of l.initial.stretch) (inside (range_of l.initial.stretch) ∷ [])) (shows l.initial.link).asked (shows l.link).asked;
   calm : (shows l.link).faults ≡ (shows l.initial.link).faults;
+  steady : IsTrue (shows l.initial.link).is_steady → IsTrue (shows l.link).is_steady;
 }
 
 abbrev pub decreases-pages : goal.decreases-pages

@@ -4,6 +4,7 @@ use Rattle.std.proofs.lemmas.Bool.{eqb-true}
 use Rattle.dr_formats.specs.Chunk.{page_header}
 use Rattle.dr_chunk.specs.Headers.{IsRefused}
 use Rattle.dr_chunk.specs.Stretches.{rest_in, pending}
+use Rattle.dr_chunk.proofs.AskLemmas.{asks_again}
 use Rattle.dr_chunk.proofs.HeaderLemmas.{tells_same, none_behind}
 use Rattle.dr_chunk.proofs.header.next_header.Goals as goal
 
@@ -21,3 +22,29 @@ returns-in_err-head-clause-bad g c = λ bytes told e.
     let b = c.in_err-head.ensures.bad (cc (p.1, p.2, e)) more none in
     let P : List ℕ → Type 0 = λ rest. IsRefused (page_header rest) in
     subst P (ap (λ ps. ps ++ more) c.pending.ensures ∙ r) b
+
+pub returns-in_err-look_ahead-clause-asked : goal.returns-in_err-look_ahead-clause-asked
+returns-in_err-look_ahead-clause-asked g c = asks_again _ _ _ _ _ _ _ c.tries.invariant.path c.tries.invariant.range c.tries.invariant.asked c.look_ahead.ensures.asked
+
+pub returns-in_err-head-clause-asked : goal.returns-in_err-head-clause-asked
+returns-in_err-head-clause-asked g c = asks_again _ _ _ _ _ _ _ c.tries.invariant.path c.tries.invariant.range c.tries.invariant.asked c.look_ahead.ensures.asked
+
+pub returns-in-Some-clause-asked : goal.returns-in-Some-clause-asked
+returns-in-Some-clause-asked g c = asks_again _ _ _ _ _ _ _ c.tries.invariant.path c.tries.invariant.range c.tries.invariant.asked c.look_ahead.ensures.asked
+
+pub tries-preserved : goal.tries-preserved
+tries-preserved g c =
+    let inv = c.tries.invariant in
+    let look = c.in_ok-look_ahead.ensures in
+    record {
+      rest = λ bytes told. look.rest bytes (tells_same (g.L.Link.shows c.args.link.now) (g.L.Link.shows c.tries.link) _ _ bytes inv.same inv.path told) ∙ inv.rest bytes told;
+      path = look.path ∙ inv.path;
+      range = look.range ∙ inv.range;
+      left = look.left ∙ inv.left;
+      within = omega (arith, c.min-ahead-in-None.ensures);
+      some = λ h. omega (arith, h, inv.some h, c.min-ahead-in-None.ensures, c.saturating_mul.ensures);
+      same = look.same ∙ inv.same;
+      asked = asks_again _ _ _ _ _ _ _ inv.path inv.range inv.asked look.asked;
+      calm = look.calm (λ e. absurd (cc)) ∙ inv.calm;
+      steady = λ h. look.stays_steady (inv.steady h);
+    }

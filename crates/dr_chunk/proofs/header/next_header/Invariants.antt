@@ -1,3 +1,4 @@
+use Rattle.std.specs.Prelude.{IsTrue}
 use Rattle.std.proofs.Common.{◌≡◌, ◌≤◌, ◌<◌, ◌-◌, ◌∷◌, [], ℕ, List}
 use Rattle.dr_chunk.specs.Stretches.{rest_in, path_of, range_of, left_count}
 use Rattle.dr_chunk.specs.Telling.{Tells, AsksOnly, is_read_inside, inside}
@@ -14,6 +15,7 @@ invariant-tries g l = let shows = g.L.Link.shows in record {
   same : (shows l.link).held ≡ (shows l.initial.link).held;
   asked : AsksOnly (is_read_inside (path_of l.initial.stretch) (inside (range_of l.initial.stretch) ∷ [])) (shows l.initial.link).asked (shows l.link).asked;
   calm : (shows l.link).faults ≡ (shows l.initial.link).faults;
+  steady : IsTrue (shows l.initial.link).is_steady → IsTrue (shows l.link).is_steady;
 }
 
 abbrev pub decreases-tries : goal.decreases-tries

@@ -1,4 +1,5 @@
-use Rattle.std.proofs.Common.{map, arith}
+use Rattle.std.proofs.Common.{◌∷◌, [], map, length, ap, arith}
+use Rattle.std.proofs.lemmas.List.{length-append}
 use Rattle.std.specs.Prelude.{is_some}
 use Rattle.std.specs.List.{list_all}
 use Rattle.dr_meta.specs.Views.{group_view}
@@ -16,4 +17,5 @@ leaves-preserved c =
           c.requires.as_many c.leaves-test.true c.in_ok-push.ensures.items c.index-paths-index.is c.in_ok-open_leaf.ensures c.leaves.invariant.shown;
       there = (passes_on (λ i. list_all (λ g. is_some (chunk_of i g)) gs) c.args.places.now c.leaves.index 0 (omega (arith, c.requires.as_many)) c.leaves.invariant.there).1;
       triplets = (passes_on (λ i. are_triplets gs i) c.args.places.now c.leaves.index 0 (omega (arith, c.requires.as_many)) c.leaves.invariant.triplets).1;
+      count = omega (arith, ap length c.in_ok-push.ensures.items, length-append c.leaves.leaves.items (c.in_ok-open_leaf.field-0 ∷ []), c.leaves.invariant.count);
     }

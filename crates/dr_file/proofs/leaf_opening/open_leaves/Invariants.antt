@@ -1,4 +1,4 @@
-use Rattle.std.proofs.Common.{◌≡◌, map, drop, take, true}
+use Rattle.std.proofs.Common.{◌≡◌, map, length, drop, take, true}
 use Rattle.std.specs.Prelude.{is_some}
 use Rattle.std.specs.List.{list_all}
 use Rattle.dr_meta.specs.Views.{group_view}
@@ -13,4 +13,5 @@ invariant-leaves l = record {
   shown : map opened_leaf_view l.leaves.items ≡ shown_at_each (map group_view l.groups) (map path_view (take l.index l.paths)) (take l.index l.places);
   there : list_all (λ i. list_all (λ g. is_some (chunk_of i g)) (map group_view l.groups)) (drop l.index l.places) ≡ true;
   triplets : list_all (λ i. are_triplets (map group_view l.groups) i) (drop l.index l.places) ≡ true;
+  count : length l.leaves.items ≡ l.index;
 }

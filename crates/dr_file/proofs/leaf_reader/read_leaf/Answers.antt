@@ -60,4 +60,5 @@ chunks-preserved g c =
       same = group.same ∙ inv.same;
       asked = asks_then _ _ _ _ inv.asked (asks_chunk _ _ _ _ cs c.chunks.chunk-index item item _ _ w f.0 f.1 at group.asked);
       calm = group.calm (λ e. absurd (cc)) ∙ inv.calm;
+      steady = λ h. group.stays_steady (inv.steady h);
     }

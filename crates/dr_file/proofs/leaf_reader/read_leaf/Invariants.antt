@@ -1,3 +1,4 @@
+use Rattle.std.specs.Prelude.{IsTrue}
 use Rattle.std.proofs.Common.{◌≡◌, ◌+◌, ◌++◌, ◌≤◌, ℕ, List, map, length, drop}
 use Rattle.std.specs.List.{list_all, flat_map}
 use Rattle.dr_meaning.specs.Path.{Leaf}
@@ -20,4 +21,5 @@ invariant-chunks g l = let shows = g.L.Link.shows in let cs = l.leaf.chunks.item
   same : (shows l.link).held ≡ (shows l.initial.link).held;
   asked : AsksOnly (is_read_inside l.path (flat_map (shown_range l.footer) (map chunk_place_view cs))) (shows l.initial.link).asked (shows l.link).asked;
   calm : (shows l.link).faults ≡ (shows l.initial.link).faults;
+  steady : IsTrue (shows l.initial.link).is_steady → IsTrue (shows l.link).is_steady;
 }
