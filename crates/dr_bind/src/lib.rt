@@ -3,8 +3,6 @@
 
 mod fault;
 mod resolving;
-#[cfg(test)]
-mod tests;
 
 pub use fault::{BindFault, BindProblem, Fault, FirstFault};
 pub use resolving::{End, Found, resolve};

@@ -17,8 +17,6 @@ mod opening;
 mod places;
 mod schema;
 mod start;
-#[cfg(test)]
-mod tests;
 
 pub use file_fault::FileFault;
 pub use opened::Opened;

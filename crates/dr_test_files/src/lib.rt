@@ -4,6 +4,8 @@
 #[cfg(test)]
 mod chunk_tests;
 #[cfg(test)]
+mod file_tests;
+#[cfg(test)]
 mod meta_tests;
 #[cfg(test)]
 mod open_tests;

@@ -2,6 +2,8 @@
 #![tactic(auto)]
 
 #[cfg(test)]
+mod bind_tests;
+#[cfg(test)]
 mod plan_tests;
 #[cfg(test)]
 mod sql_tests;

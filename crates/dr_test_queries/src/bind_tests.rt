@@ -1,4 +1,4 @@
-use crate::{BindProblem, End, Fault, FirstFault, resolve};
+use dr_bind::{BindProblem, End, Fault, FirstFault, resolve};
 use dr_nested::{Kind, Schema, parse_schema};
 use std::alloc::{AllocError, Global};
 

@@ -1,6 +1,6 @@
 //! Small files, opened and read.
 
-use crate::{FileFault, Opened, schema_of};
+use dr_file::{FileFault, Opened, schema_of};
 use dr_levels::{Column, ValuesRef};
 use dr_nested::{Path, find, parse_schema};
 use dr_outside::{Cause, Keeper, Link, MemLink, Shelf};
