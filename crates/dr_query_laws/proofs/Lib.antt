@@ -1,3 +1,5 @@
 pub mod Outcomes
 pub mod ExpressionsGoOn
 pub mod QueriesGoOn
+pub mod OperatorsCounted
+pub mod OperatorsOfQueries

@@ -2,3 +2,4 @@
 #![tactic(auto)]
 
 pub mod fault_laws;
+pub mod limit_laws;
