@@ -3,3 +3,4 @@ pub mod ExpressionsGoOn
 pub mod QueriesGoOn
 pub mod OperatorsCounted
 pub mod OperatorsOfQueries
+pub mod WorkedLimits

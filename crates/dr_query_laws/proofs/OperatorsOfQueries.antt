@@ -283,8 +283,14 @@ comma_behind {A} all begins starts u n c = by_test (next_is begins v) refl
         let m = next_token begins v e in
         let last : n.first ≡ sign_at n.first.place comma = ap (placed n.first.place) (sign_is_this comma n.first.token n.passes_it) in
         stopped (record { place = first_place v.size v.tokens; problem = too_many })
-        (λ _. (d.before, m.first, m.rest, d.tokens ∙ ap (λ xs. d.before ++ xs) m.tokens, sym (ap (first_place v.size) m.tokens),
-        inr ((c.before, n.first.place, ap (λ x. c.before ++ x ∷ []) last), starts m.first.token m.passes_it)))
+        (λ _. (
+          d.before,
+          m.first,
+          m.rest,
+          d.tokens ∙ ap (λ xs. d.before ++ xs) m.tokens,
+          sym (ap (first_place v.size) m.tokens),
+          inr ((c.before, n.first.place, ap (λ x. c.before ++ x ∷ []) last), starts m.first.token m.passes_it),
+        ))
     by_test false e = no_limit all syntax not_syntax v d
 
 more_elements : {A : Type 0} (all : List PlacedToken) (begins : QueryToken → Bool) (element : Production A) → ((t : QueryToken) → begins t ≡ true → begins_item t ≡ true)
