@@ -2,3 +2,6 @@ pub mod Outcomes
 pub mod ExpressionsGoOn
 pub mod QueriesGoOn
 pub mod LeavesOnce
+pub mod OperatorsCounted
+pub mod OperatorsOfQueries
+pub mod WorkedLimits

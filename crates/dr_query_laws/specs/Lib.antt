@@ -1,2 +1,3 @@
 pub mod FaultLaws
 pub mod LeavesLaws
+pub mod LimitLaws

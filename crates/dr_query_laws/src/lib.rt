@@ -3,3 +3,4 @@
 
 pub mod fault_laws;
 pub mod leaf_laws;
+pub mod limit_laws;
