@@ -1,8 +1,8 @@
 -- What is read of a text keeps the count of its operators, production by production.
-use Rattle.std.specs.Prelude.{◌≡◌, ℕ, zero, suc, List, [], ◌∷◌, ◌++◌, Bool, true, false, nat_le, nat_lt, if◌then◌else◌, Option, Some, None, option_and_then, ◌⊎◌}
-use Rattle.std.proofs.Common.{arith, refl, sym, ap, subst, ◌∙◌, append_assoc, inl, inr}
+use Rattle.std.specs.Prelude.{◌≡◌, ℕ, suc, List, [], ◌∷◌, ◌++◌, Bool, true, false, nat_le, nat_lt, if◌then◌else◌, Option, Some, None, option_and_then}
+use Rattle.std.proofs.Common.{arith, refl, sym, ap, ◌∙◌, append_assoc, inl}
 use Rattle.std.proofs.lemmas.Bool.Decides.{nat_tests}
-use Rattle.dr_meaning.specs.Tokens.{Word, Sign, QueryToken, reserved, identifier, text, sign, PlacedToken, placed}
+use Rattle.dr_meaning.specs.Tokens.{Word, Sign, QueryToken, reserved, identifier, text, sign, PlacedToken}
 use Rattle.dr_meaning.specs.Parse.{Unread, Parsed, got, refused, QueryFault, QueryProblem, Production, give, goes_on, ◌>>=◌, place_of, first_place, first_token, problem_here}
 use Rattle.dr_meaning.specs.Parse.{syntax, too_many, too_deep, next_is, either, if_next, for_some, by_next, any_token, operator, counted, most_operators, behind_token, without_first}
 use Rattle.dr_meaning.specs.Parse.{word, mark, name, quoted_text, is_the_word, is_the_sign, name_in, text_in, here}

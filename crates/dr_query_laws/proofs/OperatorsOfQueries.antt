@@ -1,28 +1,28 @@
 -- Each production of a query keeps the count of the operators; so does the whole query, and its fault is where it is told to be.
-use Rattle.std.specs.Prelude.{◌≡◌, ℕ, zero, suc, ◌-◌, List, [], ◌∷◌, ◌++◌, length, Bool, true, false, ◌||◌, nat_le, nat_lt, if◌then◌else◌, Option, Some, None, is_some}
-use Rattle.std.specs.Prelude.{Result, Ok, Err, ◌⊎◌}
-use Rattle.std.proofs.Common.{refl, sym, ap, subst, ◌∙◌, append-nil, inl, inr}
+use Rattle.std.specs.Prelude.{◌≡◌, ℕ, zero, suc, ◌-◌, List, [], ◌∷◌, ◌++◌, length, Bool, true, false, nat_le, nat_lt, if◌then◌else◌, Option, Some, None}
+use Rattle.std.specs.Prelude.{Result, Ok, Err}
+use Rattle.std.proofs.Common.{refl, sym, ap, subst, ◌∙◌, append-nil, inr}
 use Rattle.dr_meaning.specs.Tokens.{or_word, and_word, not_word, dot, star, plus_sign, minus_sign, close_parenthesis, open_parenthesis, comma, semicolon, QueryToken, reserved}
-use Rattle.dr_meaning.specs.Tokens.{identifier, number, text, sign, bad, true_word, false_word, Sign, PlacedToken, placed, select_word, from_word, where_word, group_word, by_word, as_word}
+use Rattle.dr_meaning.specs.Tokens.{identifier, number, text, sign, bad, true_word, false_word, PlacedToken, placed, select_word, from_word, where_word, group_word, by_word, as_word}
 use Rattle.dr_meaning.specs.Tokens.{equals, differs, less_than, less_or_equal, greater_than, greater_or_equal, like_word, contains_word, is_word, null_word, within_word, record_word}
 use Rattle.dr_meaning.specs.Tokens.{count_word, sum_word, min_word, max_word, query_tokens, longest_query}
 use Rattle.dr_meaning.specs.Expression.{Comparison}
-use Rattle.dr_meaning.specs.Query.{Aggregate, count, sum, least, greatest}
+use Rattle.dr_meaning.specs.Query.{Aggregate, count}
 use Rattle.dr_meaning.specs.Syntax.{NameSyntax, PathSyntax, ExpressionSyntax, number_literal, text_literal, truth_literal, path, negative}
 use Rattle.dr_meaning.specs.Syntax.{comparison, like, contains, is_null, negation, whole_record, node, WithinSyntax, TermSyntax, expression, count_rows, aggregate, ItemSyntax}
 use Rattle.dr_meaning.specs.Syntax.{ConditionSyntax, QuerySyntax}
-use Rattle.dr_meaning.specs.Parse.{Unread, Parsed, got, refused, QueryFault, QueryProblem, Production, give, ◌>>=◌, here, first_place, first_token, place_of, problem_here, syntax, too_deep, too_many, too_long}
-use Rattle.dr_meaning.specs.Parse.{goes_on, passes, without_first, if_next, by_next, next_is, either, any_token, operator, word, mark, name, quoted_text, is_the_word, is_the_sign, name_in, comparison_in, aggregate_in}
+use Rattle.dr_meaning.specs.Parse.{Unread, Parsed, QueryFault, QueryProblem, Production, give, ◌>>=◌, here, first_place, first_token, place_of, problem_here, syntax, too_deep, too_many, too_long}
+use Rattle.dr_meaning.specs.Parse.{goes_on, passes, without_first, if_next, next_is, either, any_token, operator, word, mark, name, quoted_text, is_the_word, is_the_sign, comparison_in, aggregate_in}
 use Rattle.dr_meaning.specs.Parse.{Joining, or_in, and_in, sum_in, product_in, begins_item, begins_key, further_names, names, path_names, Nesting, parenthesized, negated, signed, Inner}
-use Rattle.dr_meaning.specs.Parse.{literal, path_operand, primary_at, primary, unary, further_operands, operands, product_of, sum_of, plain, like_test, contains_test, text_test, denied_test}
-use Rattle.dr_meaning.specs.Parse.{denied_null, plain_null, null_test, comparison_test, word_test, tested, test_of, not_of, and_of, expression_of, nested, further_elements, elements, too_many_of}
+use Rattle.dr_meaning.specs.Parse.{literal, path_operand, primary_at, primary, unary, further_operands, operands, sum_of, plain, like_test, contains_test, text_test, denied_test}
+use Rattle.dr_meaning.specs.Parse.{denied_null, plain_null, null_test, comparison_test, word_test, tested, test_of, not_of, expression_of, nested, further_elements, elements, too_many_of}
 use Rattle.dr_meaning.specs.Parse.{within_record, within_path, within_part, counts_rows, rows_argument, argument, expression_argument, aggregate_term, whole_expression, expression_term, item_term}
 use Rattle.dr_meaning.specs.Parse.{as_part, item, items, table_name, where_part, keys, group_part, text_end, end_part, query, result_of, unread_text, parse_query, greatest_nesting, most_items}
 use Rattle.dr_meaning.specs.QueryGrammar.{sign_at}
-use Rattle.dr_meaning.proofs.SyntaxReading.{NextToken, next_token, NextMeaning, sign_is_this}
-use Rattle.dr_query_laws.specs.LimitLaws.{is_operator, operators_in, EndsInComma, IsOneTooMany, TooManyStandsAt, TooManyStandsAtItsToken, AcceptedHasFewOperators}
-use Rattle.dr_query_laws.proofs.OperatorsCounted.{Counted, Told, Reads, went, stopped, Keeps, bind, one_by_one, gives_counted, here_counted, no_limit, not_syntax, not_deep, if_counted, by_counted}
-use Rattle.dr_query_laws.proofs.OperatorsCounted.{behind_counted, skip, skip_word, skip_sign, word_counted, mark_counted, name_counted, text_counted, operator_counted}
+use Rattle.dr_meaning.proofs.SyntaxReading.{NextToken, next_token, sign_is_this}
+use Rattle.dr_query_laws.specs.LimitLaws.{is_operator, operators_in, TooManyStandsAt, TooManyStandsAtItsToken, AcceptedHasFewOperators}
+use Rattle.dr_query_laws.proofs.OperatorsCounted.{Counted, Reads, went, stopped, Keeps, bind, one_by_one, gives_counted, here_counted, no_limit, not_syntax, not_deep, if_counted, by_counted}
+use Rattle.dr_query_laws.proofs.OperatorsCounted.{behind_counted, skip_word, skip_sign, word_counted, mark_counted, name_counted, text_counted, operator_counted}
 
 -- a token is skipped, and a production keeps the count behind it
 then_skipped : {A B : Type 0} (all : List PlacedToken) (next : A → Production B) (u : Unread) (p : Parsed A) → Reads A (Counted all) all p → ((a : A) → Keeps all B (next a))

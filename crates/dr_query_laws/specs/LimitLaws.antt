@@ -24,14 +24,14 @@ abbrev pub EndsInComma : List PlacedToken → Type 0
 EndsInComma ts = (front : List PlacedToken) × (i : ℕ) × (ts ≡ front ++ sign_at i comma ∷ [])
 
 -- a token behind these is the 513th operator, or begins an item or a key behind a comma
-abbrev pub IsOneTooMany : List PlacedToken → PlacedToken → Type 0
-IsOneTooMany before t = ((is_operator t.token ≡ true) × (operators_in before ≡ 512)) ⊎ (EndsInComma before × (begins_item t.token ≡ true))
+abbrev pub IsExtraOperatorOrBehindComma : List PlacedToken → PlacedToken → Type 0
+IsExtraOperatorOrBehindComma before t = ((is_operator t.token ≡ true) × (operators_in before ≡ 512)) ⊎ (EndsInComma before × (begins_item t.token ≡ true))
 
--- at place i of a text stands a token that is one too many
+-- such a token stands at place i of a text; that 256 elements stand before the comma is not said here
 abbrev pub TooManyStandsAt : List PlacedToken → ℕ → Type 0
-TooManyStandsAt all i = (before : List PlacedToken) × (t : PlacedToken) × (rest : List PlacedToken) × (all ≡ before ++ t ∷ rest) × (t.place ≡ i) × IsOneTooMany before t
+TooManyStandsAt all i = (before : List PlacedToken) × (t : PlacedToken) × (rest : List PlacedToken) × (all ≡ before ++ t ∷ rest) × (t.place ≡ i) × IsExtraOperatorOrBehindComma before t
 
--- TooMany stands at a token that is one too many
+-- TooMany stands at such a token
 abbrev pub TooManyStandsAtItsToken : Type 0
 TooManyStandsAtItsToken = (bytes : List ℕ) (i : ℕ) → parse_query bytes ≡ Err (record { place = i; problem = too_many }) → TooManyStandsAt (query_tokens bytes) i
 
