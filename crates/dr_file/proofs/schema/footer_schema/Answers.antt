@@ -1,5 +1,5 @@
 use Rattle.std.proofs.Common.{◌≡◌, ◌∙◌, sym, ap, subst, Option}
-use Rattle.std.specs.Prelude.{Result, Ok}
+use Rattle.std.specs.Prelude.{Ok}
 use Rattle.std.proofs.lemmas.Result.{IfOk-weaker}
 use Rattle.dr_compact.specs.Views.{tree_view}
 use Rattle.dr_formats.specs.Compact.{read_struct}
