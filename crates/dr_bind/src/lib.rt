@@ -1,7 +1,9 @@
 //! Binding a query to a schema: names become leaves, and the query a plan, or its first fault is told.
 #![tactic(auto)]
 
+mod bound;
 mod fault;
+mod operators;
 mod resolving;
 
 pub use fault::{BindFault, BindProblem, Fault, FirstFault};

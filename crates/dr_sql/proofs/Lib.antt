@@ -5,3 +5,5 @@ pub mod FrontLemmas
 pub mod LexLemmas
 pub mod ParseLemmas
 pub mod ListLemmas
+-- a text cut at a single quote
+pub mod QuoteLemmas

@@ -1,5 +1,5 @@
 -- What tokens stand for, in the definitions' words.
-use Rattle.std.specs.Prelude.{ℕ, List, [], ◌∷◌, ◌==◌, Bool, true, false, map}
+use Rattle.std.specs.Prelude.{ℕ, List, [], ◌∷◌, ◌==◌, Bool, true, false, if◌then◌else◌, map}
 use Rattle.dr_meaning.specs.Tokens as language
 use Rattle.dr_sql.specs.declared.word.Word.{Word}
 use Rattle.dr_sql.specs.declared.word.Sign.{Sign}
@@ -45,11 +45,11 @@ sign_view Sign.Greater = language.greater_than
 sign_view Sign.GreaterOrEqual = language.greater_or_equal
 sign_view Sign.Semicolon = language.semicolon
 
--- bytes without each byte that stands behind a quote that was kept
+-- bytes without each quote that stands behind a quote that was kept
 abbrev pub undoubled_from : Bool → List ℕ → List ℕ
 undoubled_from skips [] = []
 undoubled_from false (b ∷ bs) = b ∷ undoubled_from (b == 39) bs
-undoubled_from true (b ∷ bs) = undoubled_from false bs
+undoubled_from true (b ∷ bs) = if b == 39 then undoubled_from false bs else b ∷ undoubled_from false bs
 
 -- what stands between single quotes, with one quote for each two
 abbrev pub undoubled : List ℕ → List ℕ
@@ -58,7 +58,7 @@ undoubled bs = undoubled_from false bs
 abbrev pub token_view : Token → language.QueryToken
 token_view (Token.Word w) = language.reserved (word_view w)
 token_view (Token.Name n) = language.identifier n.now
-token_view (Token.Number n) = language.number n
+token_view (Token.Number n) = language.number n.value
 token_view (Token.Text t) = language.text (undoubled t.now)
 token_view (Token.Sign s) = language.sign (sign_view s)
 token_view Token.Bad = language.bad

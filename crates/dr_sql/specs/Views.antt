@@ -52,7 +52,7 @@ aggregate_view Aggregate.Max = meant_query.greatest
 
 -- an expression whose operands have been seen
 abbrev pub expression_step : Expression-F syntax.ExpressionSyntax → syntax.ExpressionSyntax
-expression_step (Expression-F.Number n) = syntax.number_literal n
+expression_step (Expression-F.Number n) = syntax.number_literal n.value
 expression_step (Expression-F.Text t) = syntax.text_literal (undoubled t.now)
 expression_step (Expression-F.Truth b) = syntax.truth_literal b
 expression_step (Expression-F.Path p) = syntax.path (path_view p)

@@ -1,8 +1,7 @@
 //! Expressions as a query's text has them, before names are looked up. Places are byte places in the text; names and
 //! texts are lent from it.
 
-use dr_memory::NoMemory;
-use std::alloc::Global;
+use crate::numeral::Numeral;
 
 /// The names of a path, joined by dots in the text, and the place of the first.
 #[derive(Debug, Drop)]
@@ -34,7 +33,7 @@ pub enum Comparison {
 /// Parentheses leave nothing but the tree's shape.
 #[derive(Debug, Drop)]
 pub enum Expression<'a> {
-    Number(u64),
+    Number(Numeral),
     Text(&'a str),
     Truth(bool),
     Path(Path<'a>),

@@ -1,6 +1,6 @@
 //! The tokens of a query's text.
 
-ghost use Rattle.std.specs.Prelude.{◌≡◌, ◌==◌, ◌≤◌, ◌<◌, ◌+◌, ◌-◌, ◌*◌, ◌∷◌, MatchOption, IfOk, drop, length, not, true, false};
+ghost use Rattle.std.specs.Prelude.{◌≡◌, ◌==◌, ◌≤◌, ◌<◌, ◌+◌, ◌-◌, ◌*◌, ◌∷◌, MatchOption, IfOk, IfSome, ◌^◌, drop, length, not, true, false};
 ghost use Rattle.std.specs.List.{list_all, position, position_or_len};
 ghost use Rattle.dr_meaning.specs.Schema as tree;
 ghost use Rattle.dr_meaning.specs.SchemaText as blanks;
@@ -10,6 +10,7 @@ ghost use Rattle.std.specs.Str.{IsCharBoundary};
 ghost use Rattle.dr_sql.specs.TokenViews.{placed_views, token_view};
 ghost use Rattle.dr_sql.specs.Lexing.{bounded, BeginsWith, EndsText, NeverEnds};
 
+use crate::numeral::Numeral;
 use crate::token::{PlacedToken, Token};
 use crate::word::Sign;
 use crate::words::word_of;
@@ -133,7 +134,8 @@ fn with_digit(number: u64, digit: u8) -> Option<u64>
 /// The number that digits write, where it isn't past the greatest.
 fn number_of(digits: &[u8]) -> Option<u64>
     requires { list_all language.is_digit digits.now ≡ true }
-    ensures { result ≡ bounded (digits_value 0 digits.now) }
+    ensures value { result ≡ bounded (digits_value 0 digits.now) }
+    ensures small { IfSome result (λ n. n < 2 ^ 63) }
 {
     let mut number = 0;
     'digits: for digit in digits {
@@ -196,7 +198,7 @@ fn digits_token<'a>(digits: &'a [u8]) -> Token<'a>
     ensures { token_view result ≡ language.number_token (digits_value 0 digits.now) }
 {
     match number_of(digits) {
-        Some(number) => Token::Number(number),
+        Some(value) => Token::Number(Numeral { value }),
         None => Token::Bad,
     }
 }

@@ -9,12 +9,14 @@ mod fault;
 mod items;
 mod lexing;
 mod limits;
+mod numeral;
 mod operands;
 mod operators;
 mod parsing;
 mod paths;
 mod query;
 mod token;
+mod unquoting;
 mod word;
 mod word_tests;
 mod words;
@@ -24,5 +26,7 @@ pub use fault::{QueryFault, QueryProblem};
 pub use limits::{
     GREATEST_NESTING, LONGEST_QUERY, MOST_ITEMS, MOST_OPERATORS, query_limits_are_as_defined,
 };
+pub use numeral::Numeral;
 pub use parsing::parse;
 pub use query::{Aggregate, Condition, Item, Node, Query, Table, Term, Within};
+pub use unquoting::unquoted;

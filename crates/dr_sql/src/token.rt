@@ -1,5 +1,6 @@
 //! Tokens of a query's text.
 
+use crate::numeral::Numeral;
 use crate::word::{Sign, Word};
 
 /// A token. Names and texts are lent from the query's text.
@@ -8,7 +9,7 @@ pub enum Token<'a> {
     Word(Word),
     /// A name, bare or in double quotes, without these.
     Name(&'a str),
-    Number(u64),
+    Number(Numeral),
     /// What stands between single quotes, with `''` for a quote.
     Text(&'a str),
     Sign(Sign),
