@@ -1,0 +1,6 @@
+//! Which objects a record query's result has: the levels of a schema, the names in each object, and the plan that nests the objects.
+#![tactic(auto)]
+
+mod paths;
+
+pub use paths::{begins_with, same_path};
