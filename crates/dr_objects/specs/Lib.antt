@@ -1,0 +1,2 @@
+-- levels with joined names, and the view of the code's levels
+pub mod NamedLevels
