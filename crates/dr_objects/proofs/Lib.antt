@@ -1,2 +1,4 @@
 -- the view of levels, and the levels of a schema
 pub mod LevelLemmas
+-- what items put into objects
+pub mod EntryLemmas

@@ -1,2 +1,4 @@
 -- levels with joined names, and the view of the code's levels
 pub mod NamedLevels
+-- what items put into objects
+pub mod Entries

@@ -3,8 +3,10 @@
 
 mod level;
 mod levels;
+mod names;
 mod paths;
 
 pub use level::Level;
 pub use levels::levels_of;
+pub use names::puts_name;
 pub use paths::{begins_with, same_path};
