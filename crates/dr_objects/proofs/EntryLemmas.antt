@@ -58,7 +58,5 @@ entry_name-named ns ls o name p e = ap (λ (m : NamedLevels). named_entry m o na
 
 -- levels from one on
 pub levels_from : (ls : List levels.Level) (k : ℕ) (l : levels.Level) → k < length ls → l ≡ get_or ls k l
-    → levels_view (drop k ls) ≡ named (string_bytes (levels.out-Level l).name) (map step_view (levels.out-Level l).path.items) (levels_view (levels.out-Level l).below.items) (levels_view (drop (k + 1) ls))
-levels_from ls k l h at =
-    let next : drop k ls ≡ l ∷ drop (k + 1) ls = drop_more ls k l h ∙ ap (λ (x : levels.Level). x ∷ drop (k + 1) ls) (sym at) in
-    ap levels_view next ∙ ap (λ (s : SeenLevel). named s.name s.path s.below (levels_view (drop (k + 1) ls))) (view-level l)
+    → levels_view (drop k ls) ≡ named (level_view l).name (level_view l).path (level_view l).below (levels_view (drop (k + 1) ls))
+levels_from ls k l h at = ap levels_view (drop_more ls k l h ∙ ap (λ (x : levels.Level). x ∷ drop (k + 1) ls) (sym at))

@@ -32,9 +32,12 @@ pub levels_view-append : (ks ls : List levels.Level) → levels_view (ks ++ ls) 
 levels_view-append [] ls = refl
 levels_view-append (k ∷ ks) ls = ap (named (level_view k).name (level_view k).path (level_view k).below) (levels_view-append ks ls)
 
--- one level by its parts
-pub levels_view-one : (l : levels.Level) → levels_view (l ∷ []) ≡ named (string_bytes (levels.out-Level l).name) (map step_view (levels.out-Level l).path.items) (levels_view (levels.out-Level l).below.items) no_named
-levels_view-one l = ap (λ (s : SeenLevel). named s.name s.path s.below no_named) (view-level l)
+-- the parts of a level
+pub path-level : (l : levels.Level) → map step_view (levels.out-Level l).path.items ≡ (level_view l).path
+path-level l = sym (ap (λ (s : SeenLevel). s.path) (view-level l))
+
+pub below-level : (l : levels.Level) → levels_view (levels.out-Level l).below.items ≡ (level_view l).below
+below-level l = sym (ap (λ (s : SeenLevel). s.below) (view-level l))
 
 -- one level made of its parts
 pub levels_view-made : (n : String Global) (p : Vec steps.Step Global) (b : Vec levels.Level Global)

@@ -2,3 +2,5 @@
 pub mod LevelLemmas
 -- what items put into objects
 pub mod EntryLemmas
+-- the trees of objects
+pub mod ObjectLemmas

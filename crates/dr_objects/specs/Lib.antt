@@ -2,3 +2,5 @@
 pub mod NamedLevels
 -- what items put into objects
 pub mod Entries
+-- the trees of objects
+pub mod Trees

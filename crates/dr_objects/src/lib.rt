@@ -4,9 +4,11 @@
 mod level;
 mod levels;
 mod names;
+mod objects;
 mod paths;
 
 pub use level::Level;
 pub use levels::levels_of;
 pub use names::puts_name;
+pub use objects::object_plan;
 pub use paths::{begins_with, same_path};
