@@ -1,19 +1,18 @@
 -- Levels with joined names: their view, and those of a schema.
-use Rattle.std.specs.Prelude.{◌≡◌, ◌<◌, ℕ, zero, suc, ◌+◌, List, [], ◌∷◌, ◌++◌, map, string_bytes, length, get_or, drop, Vec, String}
+use Rattle.std.specs.Prelude.{◌≡◌, ◌<◌, ℕ, suc, ◌+◌, List, [], ◌∷◌, ◌++◌, map, string_bytes, length, get_or, drop, Vec, String}
 use Rattle.std.specs.declared.alloc.Global.{Global}
 use Rattle.dr_nested.specs.declared.path.Step as steps
 use Rattle.std.specs.List.{join_with_byte}
 use Rattle.std.proofs.Common.{refl, sym, ap, ap₂, ◌∙◌, rules, append_assoc, add-one}
-use Rattle.std.proofs.lemmas.List.{drop_more, drop_all}
+use Rattle.std.proofs.lemmas.List.{drop_more}
 use Rattle.dr_meaning.specs.Schema.{Repetition, required, optional, repeated, Fields, no_fields, field, Shape, leaf, group}
 use Rattle.dr_meaning.specs.Path as path
-use Rattle.dr_meaning.specs.Query as meant
 use Rattle.dr_meaning.specs.Query.{Levels, no_levels, deeper, append_levels, as_level, levels_in, shape_levels}
 use Rattle.dr_nested.specs.PathView.{step_view}
 use Rattle.dr_nested.specs.Views.{fields_view, shape_view, rep_view}
 use Rattle.dr_nested.specs.declared.shape.Field as fields
 use Rattle.dr_nested.proofs.ViewLemmas.{view-field}
-use Rattle.dr_objects.specs.NamedLevels.{NamedLevels, no_named, named, joined, append_named, SeenLevel, named_of, level_view, levels_view, as_named, fields_named, field_named, shape_named}
+use Rattle.dr_objects.specs.NamedLevels.{NamedLevels, no_named, named, joined, append_named, SeenLevel, level_view, levels_view, as_named, fields_named, field_named, shape_named}
 use Rattle.dr_objects.specs.declared.level.Level as levels
 
 pub view-level : (l : levels.Level) → level_view l ≡ record { name = string_bytes (levels.out-Level l).name; path = map step_view (levels.out-Level l).path.items; below = levels_view (levels.out-Level l).below.items }

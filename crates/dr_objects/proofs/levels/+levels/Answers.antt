@@ -1,4 +1,4 @@
-use Rattle.std.proofs.Common.{◌≡◌, ◌∙◌, sym, ap, ◌++◌, ◌∷◌, ◌<◌, ◌≤◌, ◌+◌, [], List, get_or, length, map, drop, arith}
+use Rattle.std.proofs.Common.{◌≡◌, ◌∙◌, sym, ap, ◌++◌, ◌<◌, ◌≤◌, [], List, get_or, length, map, arith}
 use Rattle.std.proofs.lemmas.List.{drop_all, map-append}
 use Rattle.dr_nested.specs.PathView.{step_view}
 use Rattle.dr_nested.specs.Views.{fields_view, rep_view, shape_view}

@@ -1,4 +1,4 @@
-use Rattle.std.proofs.Common.{◌≡◌, ◌∙◌, ◌≤◌, sym, ap, ap₂, List, [], Bool, length, map, drop, arith}
+use Rattle.std.proofs.Common.{◌≡◌, ◌∙◌, sym, ap, ap₂, List, map, arith}
 use Rattle.std.proofs.lemmas.List.{drop_all}
 use Rattle.dr_nested.specs.PathView.{lent_path, step_view}
 use Rattle.dr_meaning.specs.Path.{Step as MeantStep}
