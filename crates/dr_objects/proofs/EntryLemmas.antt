@@ -1,5 +1,5 @@
 -- What items put into objects, over levels with joined names.
-use Rattle.std.specs.Prelude.{◌≡◌, ◌<◌, ℕ, suc, ◌+◌, List, [], ◌∷◌, map, length, get_or, drop, Bool, true, false, if◌then◌else◌, Option, Some, None, string_bytes}
+use Rattle.std.specs.Prelude.{◌≡◌, ◌<◌, ℕ, ◌+◌, List, [], ◌∷◌, length, get_or, drop, Bool, true, false, if◌then◌else◌, Option, Some}
 use Rattle.std.specs.Option.{option_or}
 use Rattle.std.specs.List.{join_with_byte}
 use Rattle.std.proofs.Common.{refl, sym, ap, ap₂, ◌∙◌}
@@ -7,11 +7,9 @@ use Rattle.std.proofs.lemmas.List.{drop_more}
 use Rattle.dr_meaning.specs.Path.{Step, begins_with, same_path}
 use Rattle.dr_meaning.specs.Query.{Levels, no_levels, deeper, append_levels}
 use Rattle.dr_meaning.specs.Binding.{levels_inside, next_levels, list_name, entry_name}
-use Rattle.dr_nested.specs.PathView.{step_view}
-use Rattle.dr_objects.specs.NamedLevels.{NamedLevels, named, joined, levels_view, level_view, SeenLevel}
+use Rattle.dr_objects.specs.NamedLevels.{NamedLevels, named, joined, levels_view, level_view}
 use Rattle.dr_objects.specs.Entries.{named_list, list_inside, next_list, named_entry}
 use Rattle.dr_objects.specs.declared.level.Level as levels
-use Rattle.dr_objects.proofs.LevelLemmas.{view-level}
 
 -- ---- in the words of the definition
 

@@ -1,19 +1,19 @@
 -- Levels with joined names: their view, and those of a schema.
-use Rattle.std.specs.Prelude.{◌≡◌, ◌<◌, ℕ, zero, suc, ◌+◌, List, [], ◌∷◌, ◌++◌, map, string_bytes, length, get_or, drop, Vec, String}
+use Rattle.std.specs.Prelude.{◌≡◌, ◌<◌, ℕ, suc, ◌+◌, List, [], ◌∷◌, ◌++◌, map, string_bytes, length, get_or, drop, Vec, String}
 use Rattle.std.specs.declared.alloc.Global.{Global}
 use Rattle.dr_nested.specs.declared.path.Step as steps
 use Rattle.std.specs.List.{join_with_byte}
 use Rattle.std.proofs.Common.{refl, sym, ap, ap₂, ◌∙◌, rules, append_assoc, add-one}
-use Rattle.std.proofs.lemmas.List.{drop_more, drop_all}
+use Rattle.std.proofs.lemmas.List.{drop_more}
 use Rattle.dr_meaning.specs.Schema.{Repetition, required, optional, repeated, Fields, no_fields, field, Shape, leaf, group}
 use Rattle.dr_meaning.specs.Path as path
-use Rattle.dr_meaning.specs.Query as meant
 use Rattle.dr_meaning.specs.Query.{Levels, no_levels, deeper, append_levels, as_level, levels_in, shape_levels}
 use Rattle.dr_nested.specs.PathView.{step_view}
 use Rattle.dr_nested.specs.Views.{fields_view, shape_view, rep_view}
 use Rattle.dr_nested.specs.declared.shape.Field as fields
+use Rattle.dr_nested.specs.declared.shape.Rep.{Rep}
 use Rattle.dr_nested.proofs.ViewLemmas.{view-field}
-use Rattle.dr_objects.specs.NamedLevels.{NamedLevels, no_named, named, joined, append_named, SeenLevel, named_of, level_view, levels_view, as_named, fields_named, field_named, shape_named}
+use Rattle.dr_objects.specs.NamedLevels.{NamedLevels, no_named, named, joined, append_named, SeenLevel, level_view, levels_view, as_named, fields_named, field_named, shape_named}
 use Rattle.dr_objects.specs.declared.level.Level as levels
 
 pub view-level : (l : levels.Level) → level_view l ≡ record { name = string_bytes (levels.out-Level l).name; path = map step_view (levels.out-Level l).path.items; below = levels_view (levels.out-Level l).below.items }
@@ -40,7 +40,7 @@ pub below-level : (l : levels.Level) → levels_view (levels.out-Level l).below.
 below-level l = sym (ap (λ (s : SeenLevel). s.below) (view-level l))
 
 -- one level made of its parts
-pub levels_view-made : (n : String Global) (p : Vec steps.Step Global) (b : Vec levels.Level Global)
+levels_view-made : (n : String Global) (p : Vec steps.Step Global) (b : Vec levels.Level Global)
     → levels_view (levels.roll-Level (record { name = n; path = p; below = b }) ∷ []) ≡ named (string_bytes n) (map step_view p.items) (levels_view b.items) no_named
 levels_view-made n p b = search (rules, levels.the_lemmas)
 
@@ -101,3 +101,13 @@ fields_more fs k f t p q name before after h at n e pushed =
     (ap (λ (i : ℕ). fields_named (fields_view (drop (k + 1) fs)) i t p) (add-one k))
     ∙ append_named-assoc before own rest
     ∙ ap (append_named before) (ap (λ (gs : Fields). fields_named gs k t p) (sym here))
+
+-- a level of its own behind those before it
+pub level_more : (before after : List levels.Level) (n : String Global) (p : Vec steps.Step Global) (b : Vec levels.Level Global) (r : Rep) (s : Shape)
+    → r ≡ Rep.Repeated → after ≡ before ++ levels.roll-Level (record { name = n; path = p; below = b }) ∷ [] → levels_view b.items ≡ shape_named s [] (map step_view p.items)
+    → levels_view after ≡ append_named (levels_view before) (field_named (rep_view r) s (string_bytes n) (map step_view p.items))
+level_more before after n p b r s is made inside =
+    let q : List path.Step = map step_view p.items in
+    ap levels_view made ∙ levels_view-append before (levels.roll-Level (record { name = n; path = p; below = b }) ∷ [])
+    ∙ ap (append_named (levels_view before)) (levels_view-made n p b ∙ ap (λ (ls : NamedLevels). named (string_bytes n) q ls no_named) inside
+    ∙ ap (λ (x : Rep). field_named (rep_view x) s (string_bytes n) q) (sym is))

@@ -82,12 +82,12 @@ pub no_list_more : (qs : List (List Step)) (l : levels.Level) (before : ListTree
 no_list_more qs l before h = sym (ap (λ (b : Bool). append_lists before (list_if qs l b no_lists)) h ∙ append_lists-none before)
 
 -- a level that leads to items
-pub list_more : (qs : List (List Step)) (l : levels.Level) (before : List lists.ListPlan) (made : lists.ListPlan) (o : ObjectTree)
-    → leads_to qs (level_view l).path ≡ true → list_view made ≡ record { name = (level_view l).name; level = (level_view l).path; object = o }
+pub list_more : (qs : List (List Step)) (l : levels.Level) (before after : List lists.ListPlan) (made : lists.ListPlan) (o : ObjectTree)
+    → after ≡ before ++ made ∷ [] → leads_to qs (level_view l).path ≡ true → list_view made ≡ record { name = (level_view l).name; level = (level_view l).path; object = o }
     → o ≡ object_tree (numbers_at 0 qs (level_view l).path) (named_trees qs (level_view l).below)
-    → lists_view (before ++ made ∷ []) ≡ append_lists (lists_view before) (named_trees qs (levels_view (l ∷ [])))
-list_more qs l before made o h e f =
-    lists_view-append before (made ∷ [])
+    → lists_view after ≡ append_lists (lists_view before) (named_trees qs (levels_view (l ∷ [])))
+list_more qs l before after made o pushed h e f =
+    ap lists_view pushed ∙ lists_view-append before (made ∷ [])
     ∙ ap (append_lists (lists_view before)) (ap (λ (s : SeenList). list_tree s.name s.level s.object no_lists) e
     ∙ ap (λ (t : ObjectTree). list_tree (level_view l).name (level_view l).path t no_lists) f
     ∙ sym (ap (λ (b : Bool). list_if qs l b no_lists) h))

@@ -90,11 +90,7 @@ fn leads_to(items: &[&[Step]], level: &[Step]) -> bool
 }
 
 /// The numbers of the items that belong to a level.
-fn numbers_of(
-    alloc: Global,
-    items: &[&[Step]],
-    level: &[Step],
-) -> Result<Vec<u32>, NoMemory>
+fn numbers_of(alloc: Global, items: &[&[Step]], level: &[Step]) -> Result<Vec<u32>, NoMemory>
     requires { length items.now < 2 ^ 32 }
     ensures { IfOk result (λ v. v.items ≡ numbers_at 0 (map lent_path items.now) (map step_view level.now)) }
 {

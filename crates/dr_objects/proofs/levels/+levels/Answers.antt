@@ -1,16 +1,13 @@
-use Rattle.std.proofs.Common.{◌≡◌, ◌∙◌, sym, ap, ◌++◌, ◌∷◌, ◌<◌, ◌≤◌, ◌+◌, [], List, get_or, length, map, drop, arith}
+use Rattle.std.proofs.Common.{◌≡◌, ◌∙◌, sym, ap, ◌++◌, ◌<◌, ◌≤◌, [], List, get_or, length, map, arith}
 use Rattle.std.proofs.lemmas.List.{drop_all, map-append}
 use Rattle.dr_nested.specs.PathView.{step_view}
-use Rattle.dr_nested.specs.Views.{fields_view, rep_view, shape_view}
+use Rattle.dr_nested.specs.Views.{fields_view, shape_view}
 use Rattle.dr_meaning.specs.Schema.{Shape}
 use Rattle.dr_nested.specs.declared.shape.Field.{Field}
-use Rattle.dr_nested.specs.declared.shape.Rep.{Rep}
 use Rattle.dr_nested.specs.declared.path.Step.{Step}
-use Rattle.dr_meaning.specs.Path.{Step as MeantStep}
-use Rattle.std.specs.Prelude.{string_bytes}
-use Rattle.dr_objects.specs.NamedLevels.{NamedLevels, append_named, named, no_named, levels_view, field_named, fields_named, shape_named}
+use Rattle.dr_objects.specs.NamedLevels.{append_named, levels_view, fields_named, shape_named}
 use Rattle.dr_objects.specs.declared.level.Level.{Level}
-use Rattle.dr_objects.proofs.LevelLemmas.{append_named-none, levels_view-append, levels_view-made, fields_more}
+use Rattle.dr_objects.proofs.LevelLemmas.{append_named-none, fields_more, level_more}
 use Rattle.dr_nested.proofs.ViewLemmas.{view-leaf}
 use Rattle.dr_objects.proofs.levels.+levels.Goals as goal
 
@@ -38,18 +35,11 @@ push_fields-returns t c =
 
 pub push_field-returns-in_ok-push-in-Repeated : goal.push_field-returns-in_ok-push-in-Repeated
 push_field-returns-in_ok-push-in-Repeated t c =
-    let before = c.args.levels.now.items in
     let s = shape_view c.args.shape.now in
-    let q : List MeantStep = map step_view c.args.path.items in
-    let below : levels_view c.push_shape-in-Repeated.new.levels.items ≡ shape_named s [] q =
-    c.in_ok-push_shape-in-Repeated.ensures
+    level_more c.args.levels.now.items c.push.new.self.items c.args.name c.args.path c.push_shape-in-Repeated.new.levels c.args.rep s c.in-Repeated.is c.in_ok-push-in-Repeated.ensures.items
+    (c.in_ok-push_shape-in-Repeated.ensures
     ∙ ap (λ (ls : List Level). append_named (levels_view ls) (shape_named s [] (map step_view c.deref-in-Repeated.result.now))) c.new-below.ensures.items
-    ∙ ap (λ (p : List Step). shape_named s [] (map step_view p)) c.deref-in-Repeated.ensures.value in
-    let as_repeated : named (string_bytes c.args.name) q (shape_named s [] q) no_named ≡ field_named (rep_view c.args.rep) s (string_bytes c.args.name) q =
-    ap (λ (r : Rep). field_named (rep_view r) s (string_bytes c.args.name) q) (sym c.in-Repeated.is) in
-    ap levels_view c.in_ok-push-in-Repeated.ensures.items ∙ levels_view-append before _
-    ∙ ap (append_named (levels_view before)) (levels_view-made c.args.name c.args.path c.push_shape-in-Repeated.new.levels
-    ∙ ap (λ (ls : NamedLevels). named (string_bytes c.args.name) q ls no_named) below ∙ as_repeated)
+    ∙ ap (λ (p : List Step). shape_named s [] (map step_view p)) c.deref-in-Repeated.ensures.value)
 
 pub push_shape-returns-in-Leaf : goal.push_shape-returns-in-Leaf
 push_shape-returns-in-Leaf t c = sym (ap (λ (s : Shape). append_named (levels_view c.args.levels.now.items) (shape_named s c.args.names.now (map step_view c.args.path.now))) (ap shape_view c.in-Leaf.is ∙ view-leaf _) ∙ append_named-none (levels_view c.args.levels.now.items))

@@ -1,4 +1,4 @@
-use Rattle.std.proofs.Common.{◌≡◌, ◌∙◌, ◌≤◌, sym, ap, ap₂, List, [], Bool, length, map, drop, arith}
+use Rattle.std.proofs.Common.{◌≡◌, ◌∙◌, sym, ap, ap₂, List, map, arith}
 use Rattle.std.proofs.lemmas.List.{drop_all}
 use Rattle.dr_nested.specs.PathView.{lent_path, step_view}
 use Rattle.dr_meaning.specs.Path.{Step as MeantStep}
@@ -39,8 +39,7 @@ push_list-returns t c =
     let p : map step_view c.deref.result.now ≡ (level_view l).path = ap (map step_view) c.deref.ensures.value ∙ path-level l in
     let q : map step_view c.deref-3.result.now ≡ (level_view l).path = ap (map step_view) c.deref-3.ensures.value ∙ path-level l in
     let b : levels_view c.deref-2.result.now ≡ (level_view l).below = ap levels_view c.deref-2.ensures.value ∙ below-level l in
-    ap lists_view c.in_ok-push.ensures.items
-    ∙ list_more qs l c.args.lists.now.items _ (object_view c.in_ok-object.object)
+    list_more qs l c.args.lists.now.items c.push.new.self.items c.in_ok-list_of.field-0 (object_view c.in_ok-object.object) c.in_ok-push.ensures.items
     (sym (c.if-not-leads_to.ensures ∙ leads_to-lent c.args.items.now _ ∙ ap (leads_to qs) p))
     c.in_ok-list_of.ensures
     (c.in_ok-object.ensures ∙ ap₂ (λ (r : List MeantStep) (ls : NamedLevels). object_tree (numbers_at 0 qs r) (named_trees qs ls)) q b)
