@@ -1,2 +1,6 @@
 -- lemmas of going along names
 pub mod ResolvingLemmas
+-- the first of several faults
+pub mod FaultLemmas
+-- operators over bound operands
+pub mod ExpressionLemmas

@@ -1,5 +1,6 @@
 -- What comes of binding a part of a query, against what the definitions make of it.
-use Rattle.std.specs.Prelude.{◌≡◌, ◌<◌, ◌^◌, ℕ, suc, List, [], ◌∷◌, map, true, if◌then◌else◌, Option, Some, None, option_map}
+use Rattle.std.specs.Prelude.{◌≡◌, ◌<◌, ◌^◌, ℕ, suc, List, [], ◌∷◌, map, true, if◌then◌else◌, Option, Some, None, option_map, Vec}
+use Rattle.std.specs.declared.alloc.Global.{Global}
 use Rattle.std.specs.List.{slice_get}
 use Rattle.dr_meaning.specs.Schema.{Fields}
 use Rattle.dr_meaning.specs.Path.{Step, Leaf, same_path, leaves}
@@ -8,12 +9,22 @@ use Rattle.dr_meaning.specs.BoundExpression as meant
 use Rattle.dr_meaning.specs.BoundExpression.{Checked, passes, fails, ValueType, truth_type, number_type, text_type}
 use Rattle.dr_meaning.specs.Binding.{first_fault}
 use Rattle.dr_nested.specs.PathView.{path_view}
+use Rattle.dr_nested.specs.Views.{fields_view}
 use Rattle.dr_plan.specs.Views.{expr_view}
 use Rattle.dr_plan.specs.Fitting.{expr_fits}
 use Rattle.dr_plan.specs.declared.expression.Expr.{Expr}
 use Rattle.dr_bind.specs.Faults.{earlier}
+use Rattle.dr_bind.specs.declared.bound.Binder.{Binder}
 use Rattle.dr_bind.specs.declared.bound.BoundPath.{BoundPath}
 use Rattle.dr_bind.specs.declared.bound.BoundExpression.{BoundExpression}
+
+-- ---- what names are bound to
+
+abbrev pub fields_in : Binder → Fields
+fields_in b = fields_view (b.schema.now).fields.items
+
+abbrev pub leaves_in : Binder → List Leaf
+leaves_in b = map path_view b.leaves.now
 
 -- ---- outcomes
 
@@ -75,3 +86,8 @@ pub record IsExpression (fs : Fields) (ls : List Leaf) (b : meant.BoundExpressio
   pub own : paths_of b.expression ≡ paths_at b.paths
   pub real : AreReal fs b.paths
   pub means : Covers ls b.paths → Means ls b x.expression
+
+-- what an operator at a place made of its operands, whose paths these are: an expression; or nothing, where they are of wrong types, which is noted
+abbrev pub MadeAt : ℕ → Option Expr → Vec BoundPath Global → Option meant.BindFault → Option meant.BindFault → Option BoundExpression → Type 0
+MadeAt i made paths before now None = (made ≡ None) × (now ≡ earlier before (Some (record { place = i; problem = meant.type_mismatch })))
+MadeAt i made paths before now (Some x) = (made ≡ Some x.expression) × (x.paths ≡ paths) × (now ≡ before)

@@ -1,7 +1,17 @@
 //! Parts of a query whose names have become leaves of a schema.
 
-use dr_nested::Path;
+use dr_nested::{Path, Schema};
 use dr_plan::Expr;
+use std::alloc::Global;
+
+/// What names are bound to: a schema, and the leaves of a plan, whose numbers stand for them in expressions. An expression over a leaf that
+/// isn't among them has no meaning, but its faults, its type and its paths are told all the same.
+#[derive(Clone, Copy)]
+pub(crate) struct Binder<'s> {
+    pub(crate) alloc: Global,
+    pub(crate) schema: &'s Schema,
+    pub(crate) leaves: &'s [Path],
+}
 
 /// A path of a query, at its byte place, and the leaf to which it leads.
 #[derive(Drop)]

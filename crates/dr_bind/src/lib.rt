@@ -2,8 +2,10 @@
 #![tactic(auto)]
 
 mod bound;
+mod expressions;
 mod fault;
 mod operators;
+mod paths;
 mod resolving;
 
 pub use fault::{BindFault, BindProblem, Fault, FirstFault};

@@ -230,7 +230,9 @@ fn comparison(
     let operator = comparison_of(operator);
     match left {
         Expr::Truth(left) => match right {
-            Expr::Truth(right) => Ok(Some(Expr::Truth(Truth::comparison(alloc, operator, left, right)?))),
+            Expr::Truth(right) => Ok(Some(Expr::Truth(Truth::comparison(
+                alloc, operator, left, right,
+            )?))),
             Expr::Number(_) | Expr::Text(_) => Ok(None),
         },
         Expr::Number(left) => match right {
