@@ -13,7 +13,7 @@ use Rattle.dr_plan.specs.Views.{expr_view}
 use Rattle.dr_plan.specs.Fitting.{expr_fits}
 use Rattle.dr_plan.specs.declared.expression.Expr.{Expr}
 use Rattle.dr_bind.specs.Faults.{earlier}
-use Rattle.dr_bind.specs.Bound.{Came, Covers, AreReal, paths_at, bound_path_view, type_of, Means, IsExpression, MadeAt}
+use Rattle.dr_bind.specs.Bound.{Came, Covers, AreReal, is_path_value, paths_at, bound_path_view, type_of, Means, IsExpression, MadeAt}
 use Rattle.dr_bind.specs.Operators.{unary_type, unary_of, binary_type, binary_of}
 use Rattle.dr_bind.specs.declared.bound.BoundPath.{BoundPath}
 use Rattle.dr_bind.specs.declared.bound.BoundExpression.{BoundExpression}
@@ -44,6 +44,17 @@ unary_keeps (Unary.Contains t) e = refl
 unary_keeps Unary.IsNull e = refl
 unary_keeps Unary.Not e = refl
 
+-- what is made of an expression is no path
+abbrev IsNoPath : (Expression → Expression) → Type 0
+IsNoPath make = (e : Expression) → is_path_value (make e) ≡ false
+
+pub unary_is_no_path : (o : Unary) → IsNoPath (unary_of o)
+unary_is_no_path Unary.Negative e = refl
+unary_is_no_path (Unary.Like t) e = refl
+unary_is_no_path (Unary.Contains t) e = refl
+unary_is_no_path Unary.IsNull e = refl
+unary_is_no_path Unary.Not e = refl
+
 -- an operand that couldn't be bound
 pub no_operand : (fs : Fields) (ls : List Leaf) (i : ℕ) (type : ValueType → Option ValueType) (make : Expression → Expression) (c : Checked meant.BoundExpression) (before now : Option BindFault)
     → Came (IsExpression fs ls) before now c None → Came (IsExpression fs ls) before now (one_operand i type make c) None
@@ -57,16 +68,16 @@ abbrev FitsAs : Expr → Option Expr → Type 0
 FitsAs a made = IfSome made (λ e. (ls : List Leaf) → expr_fits ls e ≡ expr_fits ls a)
 
 pub one_made : (fs : Fields) (ls : List Leaf) (i : ℕ) (type : ValueType → Option ValueType) (make : Expression → Expression) (c : Checked meant.BoundExpression)
-    (before between now : Option BindFault) (x : BoundExpression) (made : Option Expr) (o : Option BoundExpression) → KeepsPaths make
+    (before between now : Option BindFault) (x : BoundExpression) (made : Option Expr) (o : Option BoundExpression) → KeepsPaths make → IsNoPath make
     → option_map type_of made ≡ type (type_of x.expression) → ViewIs make x.expression made → FitsAs x.expression made → MadeAt i made x.paths between now o
     → Came (IsExpression fs ls) before between c (Some x) → Came (IsExpression fs ls) before now (one_operand i type make c) o
-one_made fs ls i type make (fails e es) before between now x made o k t v f m h = absurd h
-one_made fs ls i type make (passes b) before between now x None None k t v f m h =
+one_made fs ls i type make (fails e es) before between now x made o k np t v f m h = absurd h
+one_made fs ls i type make (passes b) before between now x None None k np t v f m h =
     let none : type b.gives ≡ None = ap type (sym h.1.gives) ∙ sym t in
     rw none (m.1 ∙ ap (λ y. earlier y (Some (record { place = i; problem = meant.type_mismatch }))) h.0)
-one_made fs ls i type make (passes b) before between now x (Some e) None k t v f m h = absurd (cc)
-one_made fs ls i type make (passes b) before between now x None (Some y) k t v f m h = absurd (cc)
-one_made fs ls i type make (passes b) before between now x (Some e) (Some y) k t v f m h =
+one_made fs ls i type make (passes b) before between now x (Some e) None k np t v f m h = absurd (cc)
+one_made fs ls i type make (passes b) before between now x None (Some y) k np t v f m h = absurd (cc)
+one_made fs ls i type make (passes b) before between now x (Some e) (Some y) k np t v f m h =
     let some : type b.gives ≡ Some (type_of e) = ap type (sym h.1.gives) ∙ sym t in
     let same : e ≡ y.expression = cc in
     let means : Covers ls b.paths → Means ls (record { expression = make b.expression; gives = type_of e; paths = b.paths }) y.expression =
@@ -77,6 +88,7 @@ one_made fs ls i type make (passes b) before between now x (Some e) (Some y) k t
         gives = ap type_of (sym same);
         paths = ap (λ (ps : Vec BoundPath Global). map bound_path_view ps.items) m.1 ∙ h.1.paths;
         own = k b.expression ∙ h.1.own;
+        alone = m.3 ∙ sym (np b.expression);
         real = h.1.real;
         means = means;
       },
@@ -92,6 +104,15 @@ binary_joins (Binary.Arithmetic o) a b = refl
 binary_joins (Binary.Comparison o) a b = refl
 binary_joins Binary.And a b = refl
 binary_joins Binary.Or a b = refl
+
+abbrev AreNoPath : (Expression → Expression → Expression) → Type 0
+AreNoPath make = (a b : Expression) → is_path_value (make a b) ≡ false
+
+pub binary_is_no_path : (o : Binary) → AreNoPath (binary_of o)
+binary_is_no_path (Binary.Arithmetic o) a b = refl
+binary_is_no_path (Binary.Comparison o) a b = refl
+binary_is_no_path Binary.And a b = refl
+binary_is_no_path Binary.Or a b = refl
 
 -- one of the operands couldn't be bound
 pub no_left : (fs : Fields) (ls : List Leaf) (i : ℕ) (type : ValueType → ValueType → Option ValueType) (make : Expression → Expression → Expression) (c d : Checked meant.BoundExpression)
@@ -117,18 +138,18 @@ abbrev FitsBoth : Expr → Expr → Option Expr → Type 0
 FitsBoth a b made = IfSome made (λ e. (ls : List Leaf) → expr_fits ls e ≡ (expr_fits ls a && expr_fits ls b))
 
 pub two_made : (fs : Fields) (ls : List Leaf) (i : ℕ) (type : ValueType → ValueType → Option ValueType) (make : Expression → Expression → Expression) (c d : Checked meant.BoundExpression)
-    (before between next now : Option BindFault) (x y : BoundExpression) (made : Option Expr) (ps : Vec BoundPath Global) (o : Option BoundExpression) → JoinsPaths make
+    (before between next now : Option BindFault) (x y : BoundExpression) (made : Option Expr) (ps : Vec BoundPath Global) (o : Option BoundExpression) → JoinsPaths make → AreNoPath make
     → option_map type_of made ≡ type (type_of x.expression) (type_of y.expression) → ViewJoins make x.expression y.expression made → FitsBoth x.expression y.expression made
     → ps.items ≡ x.paths.items ++ y.paths.items → MadeAt i made ps next now o
     → Came (IsExpression fs ls) before between c (Some x) → Came (IsExpression fs ls) between next d (Some y) → Came (IsExpression fs ls) before now (two_operands i type make c d) o
-two_made fs ls i type make (fails e es) d before between next now x y made ps o k t v f p m h g = absurd h
-two_made fs ls i type make (passes a) (fails e es) before between next now x y made ps o k t v f p m h g = absurd g
-two_made fs ls i type make (passes a) (passes b) before between next now x y None None k t v f p m h g =
+two_made fs ls i type make (fails e es) d before between next now x y made ps o k np t v f p m h g = absurd h
+two_made fs ls i type make (passes a) (fails e es) before between next now x y made ps o k np t v f p m h g = absurd g
+two_made fs ls i type make (passes a) (passes b) before between next now x y None ps None k np t v f p m h g =
     let none : type a.gives b.gives ≡ None = ap₂ type (sym h.1.gives) (sym g.1.gives) ∙ sym t in
     rw none (m.1 ∙ ap (λ z. earlier z (Some (record { place = i; problem = meant.type_mismatch }))) (g.0 ∙ h.0))
-two_made fs ls i type make (passes a) (passes b) before between next now x y (Some e) None k t v f p m h g = absurd (cc)
-two_made fs ls i type make (passes a) (passes b) before between next now x y None (Some z) k t v f p m h g = absurd (cc)
-two_made fs ls i type make (passes a) (passes b) before between next now x y (Some e) (Some z) k t v f p m h g =
+two_made fs ls i type make (passes a) (passes b) before between next now x y (Some e) ps None k np t v f p m h g = absurd (cc)
+two_made fs ls i type make (passes a) (passes b) before between next now x y None ps (Some z) k np t v f p m h g = absurd (cc)
+two_made fs ls i type make (passes a) (passes b) before between next now x y (Some e) ps (Some z) k np t v f p m h g =
     let some : type a.gives b.gives ≡ Some (type_of e) = ap₂ type (sym h.1.gives) (sym g.1.gives) ∙ sym t in
     let same : e ≡ z.expression = cc in
     let means : Covers ls (a.paths ++ b.paths) → Means ls (record { expression = make a.expression b.expression; gives = type_of e; paths = a.paths ++ b.paths }) z.expression =
@@ -142,6 +163,7 @@ two_made fs ls i type make (passes a) (passes b) before between next now x y (So
         gives = ap type_of (sym same);
         paths = ap (λ (qs : Vec BoundPath Global). map bound_path_view qs.items) m.1 ∙ ap (map bound_path_view) p ∙ map-append bound_path_view x.paths.items y.paths.items ∙ ap₂ (λ r s. r ++ s) h.1.paths g.1.paths;
         own = k a.expression b.expression ∙ ap₂ (λ r s. r ++ s) h.1.own g.1.own ∙ sym (map-append (λ (q : meant.BoundPath). q.leaf.path) a.paths b.paths);
+        alone = m.3 ∙ sym (np a.expression b.expression);
         real = real_joined fs a.paths b.paths h.1.real g.1.real;
         means = means;
       },

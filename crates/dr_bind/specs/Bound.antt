@@ -1,10 +1,10 @@
 -- What comes of binding a part of a query, against what the definitions make of it.
-use Rattle.std.specs.Prelude.{◌≡◌, ◌<◌, ◌^◌, ℕ, suc, List, [], ◌∷◌, map, true, if◌then◌else◌, Option, Some, None, option_map, Vec}
+use Rattle.std.specs.Prelude.{◌≡◌, ◌<◌, ◌^◌, ℕ, suc, List, [], ◌∷◌, map, Bool, true, false, if◌then◌else◌, Option, Some, None, option_map, Vec}
 use Rattle.std.specs.declared.alloc.Global.{Global}
 use Rattle.std.specs.List.{slice_get}
 use Rattle.dr_meaning.specs.Schema.{Fields}
 use Rattle.dr_meaning.specs.Path.{Step, Leaf, same_path, leaves}
-use Rattle.dr_meaning.specs.Expression.{paths_of}
+use Rattle.dr_meaning.specs.Expression.{Expression, path_value, paths_of}
 use Rattle.dr_meaning.specs.BoundExpression as meant
 use Rattle.dr_meaning.specs.BoundExpression.{Checked, passes, fails, ValueType, truth_type, number_type, text_type}
 use Rattle.dr_meaning.specs.Binding.{first_fault}
@@ -15,7 +15,8 @@ use Rattle.dr_plan.specs.Fitting.{expr_fits}
 use Rattle.dr_plan.specs.declared.expression.Expr.{Expr}
 use Rattle.dr_bind.specs.Faults.{earlier}
 use Rattle.dr_bind.specs.declared.bound.Binder.{Binder}
-use Rattle.dr_bind.specs.declared.bound.BoundPath.{BoundPath}
+use Rattle.dr_chains.specs.declared.bound_path.BoundPath.{BoundPath}
+use Rattle.dr_chains.specs.Views.{bound_path_view, paths_at}
 use Rattle.dr_bind.specs.declared.bound.BoundExpression.{BoundExpression}
 
 -- ---- what names are bound to
@@ -36,9 +37,6 @@ Came Is before now (fails e es) (Some a) = ⊥
 Came Is before now (fails e es) None = now ≡ earlier before (first_fault (e ∷ es))
 
 -- ---- paths
-
-abbrev pub bound_path_view : BoundPath → meant.BoundPath
-bound_path_view p = record { place = p.place; leaf = path_view p.leaf }
 
 abbrev pub IsPath : meant.BoundPath → BoundPath → Type 0
 IsPath b p = bound_path_view p ≡ b
@@ -64,15 +62,17 @@ abbrev pub AreReal : Fields → List meant.BoundPath → Type 0
 AreReal fs [] = Unit {0}
 AreReal fs (p ∷ ps) = ((i : ℕ) × (slice_get (leaves fs) i ≡ Some p.leaf)) × AreReal fs ps
 
-abbrev pub paths_at : List meant.BoundPath → List (List Step)
-paths_at ps = map (λ (p : meant.BoundPath). p.leaf.path) ps
-
 -- ---- expressions
 
 abbrev pub type_of : Expr → ValueType
 type_of (Expr.Truth a) = truth_type
 type_of (Expr.Number a) = number_type
 type_of (Expr.Text a) = text_type
+
+-- whether an expression is a path alone
+abbrev pub is_path_value : Expression → Bool
+is_path_value (path_value p) = true
+is_path_value e = false
 
 -- the expression of a plan over leaves that cover its paths
 pub record Means (ls : List Leaf) (b : meant.BoundExpression) (e : Expr) : Type 0 where
@@ -84,10 +84,11 @@ pub record IsExpression (fs : Fields) (ls : List Leaf) (b : meant.BoundExpressio
   pub gives : type_of x.expression ≡ b.gives
   pub paths : map bound_path_view x.paths.items ≡ b.paths
   pub own : paths_of b.expression ≡ paths_at b.paths
+  pub alone : x.is_path ≡ is_path_value b.expression
   pub real : AreReal fs b.paths
   pub means : Covers ls b.paths → Means ls b x.expression
 
 -- what an operator at a place made of its operands, whose paths these are: an expression; or nothing, where they are of wrong types, which is noted
 abbrev pub MadeAt : ℕ → Option Expr → Vec BoundPath Global → Option meant.BindFault → Option meant.BindFault → Option BoundExpression → Type 0
 MadeAt i made paths before now None = (made ≡ None) × (now ≡ earlier before (Some (record { place = i; problem = meant.type_mismatch })))
-MadeAt i made paths before now (Some x) = (made ≡ Some x.expression) × (x.paths ≡ paths) × (now ≡ before)
+MadeAt i made paths before now (Some x) = (made ≡ Some x.expression) × (x.paths ≡ paths) × (now ≡ before) × (x.is_path ≡ false)

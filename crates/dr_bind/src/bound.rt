@@ -1,5 +1,6 @@
 //! Parts of a query whose names have become leaves of a schema.
 
+use dr_chains::BoundPath;
 use dr_nested::{Path, Schema};
 use dr_plan::Expr;
 use std::alloc::Global;
@@ -13,16 +14,10 @@ pub(crate) struct Binder<'s> {
     pub(crate) leaves: &'s [Path],
 }
 
-/// A path of a query, at its byte place, and the leaf to which it leads.
-#[derive(Drop)]
-pub(crate) struct BoundPath {
-    pub(crate) place: usize,
-    pub(crate) leaf: Path,
-}
-
-/// An expression, with its paths in the order of the text.
+/// An expression, with its paths in the order of the text, and whether it is a path alone.
 #[derive(Drop)]
 pub(crate) struct BoundExpression {
     pub(crate) expression: Expr,
     pub(crate) paths: Vec<BoundPath>,
+    pub(crate) is_path: bool,
 }

@@ -1,6 +1,6 @@
 //! Binding expressions: each part has a type, and its paths become leaves of the schema.
 
-ghost use Rattle.std.specs.Prelude.{◌≡◌, ◌++◌, [], List, IfOk, Option};
+ghost use Rattle.std.specs.Prelude.{◌≡◌, ◌++◌, [], false, List, IfOk, Option};
 ghost use Rattle.dr_meaning.specs.Schema.{Fields};
 ghost use Rattle.dr_meaning.specs.Path.{Leaf};
 ghost use Rattle.dr_meaning.specs.BoundExpression as meant;
@@ -9,9 +9,10 @@ ghost use Rattle.dr_bind.specs.Faults.{first_view};
 ghost use Rattle.dr_bind.specs.Bound.{Came, IsExpression, MadeAt, fields_in, leaves_in};
 ghost use Rattle.dr_bind.specs.Operators.{unary_type, unary_of, binary_type, binary_of};
 
-use crate::bound::{Binder, BoundExpression, BoundPath};
+use crate::bound::{Binder, BoundExpression};
 use crate::fault::{BindProblem, FirstFault};
 use crate::operators::{Binary, Unary};
+use dr_chains::BoundPath;
 use dr_memory::NoMemory;
 use dr_plan::{Expr, Number, TextOf, Truth};
 use dr_sql::{Expression, unquoted};
@@ -21,9 +22,13 @@ use std::alloc::Global;
 fn literal(alloc: Global, expression: Expr) -> BoundExpression
     ensures expression { result.expression ≡ expression }
     ensures paths { result.paths.items ≡ [] }
+    ensures alone { result.is_path ≡ false }
 {
-    let paths = Vec::new(alloc);
-    BoundExpression { expression, paths }
+    BoundExpression {
+        expression,
+        paths: Vec::new(alloc),
+        is_path: false,
+    }
 }
 
 /// What an operator at a place has made of its operands, whose paths these are. Where they are of wrong types, that is noted.
@@ -36,7 +41,11 @@ fn made_at(
     ensures { MadeAt place made paths (first_view first.old) (first_view first.new) result }
 {
     match made {
-        Some(expression) => Some(BoundExpression { expression, paths }),
+        Some(expression) => Some(BoundExpression {
+            expression,
+            paths,
+            is_path: false,
+        }),
         None => {
             first.note(place, BindProblem::TypeMismatch);
             None
@@ -68,11 +77,13 @@ fn unary(
         → Came (IsExpression fs ls) before (first_view first.old) c operand
         → Came (IsExpression fs ls) before (first_view first.new) (meant.one_operand place (unary_type operator.entry) (unary_of operator.entry) c) o) }
 {
-    let Some(operand) = operand else {
-        return Ok(None);
-    };
-    let made = operator.apply(alloc, operand.expression)?;
-    Ok(made_at(place, made, operand.paths, first))
+    match operand {
+        None => Ok(None),
+        Some(operand) => {
+            let made = operator.apply(alloc, operand.expression)?;
+            Ok(made_at(place, made, operand.paths, first))
+        }
+    }
 }
 
 /// An operator at a place, of two operands that have been bound, if they could be.
@@ -90,15 +101,17 @@ fn binary(
         → Came (IsExpression fs ls) before between c left → Came (IsExpression fs ls) between (first_view first.old) d right
         → Came (IsExpression fs ls) before (first_view first.new) (meant.two_operands place (binary_type operator) (binary_of operator) c d) o) }
 {
-    let Some(left) = left else {
-        return Ok(None);
-    };
-    let Some(right) = right else {
-        return Ok(None);
-    };
-    let made = operator.apply(alloc, left.expression, right.expression)?;
-    let paths = joined_paths(left.paths, right.paths)?;
-    Ok(made_at(place, made, paths, first))
+    match left {
+        None => Ok(None),
+        Some(left) => match right {
+            None => Ok(None),
+            Some(right) => {
+                let made = operator.apply(alloc, left.expression, right.expression)?;
+                let paths = joined_paths(left.paths, right.paths)?;
+                Ok(made_at(place, made, paths, first))
+            }
+        },
+    }
 }
 
 impl Binder<'_> {

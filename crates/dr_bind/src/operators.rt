@@ -136,7 +136,9 @@ impl Binary {
         ensures fits { IfOk result (λ o. IfSome o (λ e. (ls : List Leaf) → expr_fits ls e ≡ (expr_fits ls left && expr_fits ls right))) }
     {
         match self {
-            Binary::Arithmetic(operator) => arithmetic(alloc, operator, left, right),
+            Binary::Arithmetic(dr_sql::Arithmetic::Plus) => sum(alloc, left, right),
+            Binary::Arithmetic(dr_sql::Arithmetic::Minus) => difference(alloc, left, right),
+            Binary::Arithmetic(dr_sql::Arithmetic::Times) => product(alloc, left, right),
             Binary::Comparison(operator) => comparison(alloc, operator, left, right),
             Binary::And => conjunction(alloc, left, right),
             Binary::Or => disjunction(alloc, left, right),
@@ -144,61 +146,52 @@ impl Binary {
     }
 }
 
-/// `a + b`, `a - b` or `a * b`
-fn arithmetic(
-    alloc: Global,
-    operator: dr_sql::Arithmetic,
-    left: Expr,
-    right: Expr,
-) -> Result<Option<Expr>, NoMemory>
-    ensures typed { IfOk result (λ o. option_map type_of o ≡ arithmetic_type (arithmetic_view operator) (type_of left) (type_of right)) }
-    ensures view { IfOk result (λ o. IfSome o (λ e. (ls : List Leaf) → expr_view ls e ≡ meant.arithmetic (arithmetic_view operator) (expr_view ls left) (expr_view ls right))) }
+/// `a + b`
+fn sum(alloc: Global, left: Expr, right: Expr) -> Result<Option<Expr>, NoMemory>
+    ensures typed { IfOk result (λ o. option_map type_of o ≡ arithmetic_type meant.plus (type_of left) (type_of right)) }
+    ensures view { IfOk result (λ o. IfSome o (λ e. (ls : List Leaf) → expr_view ls e ≡ meant.arithmetic meant.plus (expr_view ls left) (expr_view ls right))) }
     ensures fits { IfOk result (λ o. IfSome o (λ e. (ls : List Leaf) → expr_fits ls e ≡ (expr_fits ls left && expr_fits ls right))) }
 {
     match left {
         Expr::Number(left) => match right {
-            Expr::Number(right) => Ok(Some(Expr::Number(numbers(alloc, operator, left, right)?))),
+            Expr::Number(right) => Ok(Some(Expr::Number(Number::add(alloc, left, right)?))),
             Expr::Truth(_) | Expr::Text(_) => Ok(None),
         },
         Expr::Text(left) => match right {
-            Expr::Text(right) => texts(alloc, operator, left, right),
+            Expr::Text(right) => Ok(Some(Expr::Text(TextOf::join(alloc, left, right)?))),
             Expr::Truth(_) | Expr::Number(_) => Ok(None),
         },
         Expr::Truth(_) => Ok(None),
     }
 }
 
-/// The same of two numbers.
-fn numbers(
-    alloc: Global,
-    operator: dr_sql::Arithmetic,
-    left: Number,
-    right: Number,
-) -> Result<Number, NoMemory>
-    ensures view { IfOk result (λ e. (ls : List Leaf) → expr_view ls (Expr.Number e) ≡ meant.arithmetic (arithmetic_view operator) (expr_view ls (Expr.Number left)) (expr_view ls (Expr.Number right))) }
-    ensures fits { IfOk result (λ e. (ls : List Leaf) → expr_fits ls (Expr.Number e) ≡ (expr_fits ls (Expr.Number left) && expr_fits ls (Expr.Number right))) }
+/// `a - b`
+fn difference(alloc: Global, left: Expr, right: Expr) -> Result<Option<Expr>, NoMemory>
+    ensures typed { IfOk result (λ o. option_map type_of o ≡ arithmetic_type meant.minus (type_of left) (type_of right)) }
+    ensures view { IfOk result (λ o. IfSome o (λ e. (ls : List Leaf) → expr_view ls e ≡ meant.arithmetic meant.minus (expr_view ls left) (expr_view ls right))) }
+    ensures fits { IfOk result (λ o. IfSome o (λ e. (ls : List Leaf) → expr_fits ls e ≡ (expr_fits ls left && expr_fits ls right))) }
 {
-    match operator {
-        dr_sql::Arithmetic::Plus => Number::add(alloc, left, right),
-        dr_sql::Arithmetic::Minus => Number::subtract(alloc, left, right),
-        dr_sql::Arithmetic::Times => Number::multiply(alloc, left, right),
+    match left {
+        Expr::Number(left) => match right {
+            Expr::Number(right) => Ok(Some(Expr::Number(Number::subtract(alloc, left, right)?))),
+            Expr::Truth(_) | Expr::Text(_) => Ok(None),
+        },
+        Expr::Truth(_) | Expr::Text(_) => Ok(None),
     }
 }
 
-/// The same of two texts, which only `+` joins.
-fn texts(
-    alloc: Global,
-    operator: dr_sql::Arithmetic,
-    left: TextOf,
-    right: TextOf,
-) -> Result<Option<Expr>, NoMemory>
-    ensures typed { IfOk result (λ o. option_map type_of o ≡ arithmetic_type (arithmetic_view operator) text_type text_type) }
-    ensures view { IfOk result (λ o. IfSome o (λ e. (ls : List Leaf) → expr_view ls e ≡ meant.arithmetic (arithmetic_view operator) (expr_view ls (Expr.Text left)) (expr_view ls (Expr.Text right)))) }
-    ensures fits { IfOk result (λ o. IfSome o (λ e. (ls : List Leaf) → expr_fits ls e ≡ (expr_fits ls (Expr.Text left) && expr_fits ls (Expr.Text right)))) }
+/// `a * b`
+fn product(alloc: Global, left: Expr, right: Expr) -> Result<Option<Expr>, NoMemory>
+    ensures typed { IfOk result (λ o. option_map type_of o ≡ arithmetic_type meant.times (type_of left) (type_of right)) }
+    ensures view { IfOk result (λ o. IfSome o (λ e. (ls : List Leaf) → expr_view ls e ≡ meant.arithmetic meant.times (expr_view ls left) (expr_view ls right))) }
+    ensures fits { IfOk result (λ o. IfSome o (λ e. (ls : List Leaf) → expr_fits ls e ≡ (expr_fits ls left && expr_fits ls right))) }
 {
-    match operator {
-        dr_sql::Arithmetic::Plus => Ok(Some(Expr::Text(TextOf::join(alloc, left, right)?))),
-        dr_sql::Arithmetic::Minus | dr_sql::Arithmetic::Times => Ok(None),
+    match left {
+        Expr::Number(left) => match right {
+            Expr::Number(right) => Ok(Some(Expr::Number(Number::multiply(alloc, left, right)?))),
+            Expr::Truth(_) | Expr::Text(_) => Ok(None),
+        },
+        Expr::Truth(_) | Expr::Text(_) => Ok(None),
     }
 }
 

@@ -14,9 +14,10 @@ ghost use Rattle.dr_bind.specs.Faults.{first_view};
 ghost use Rattle.dr_bind.specs.Resolved.{lent};
 ghost use Rattle.dr_bind.specs.Bound.{Came, IsPath, IsAmong, bound_path_view, number_among, type_of, fields_in, leaves_in};
 
-use crate::bound::{Binder, BoundExpression, BoundPath};
+use crate::bound::{Binder, BoundExpression};
 use crate::fault::{BindProblem, FirstFault};
 use crate::resolving::{End, resolve};
+use dr_chains::BoundPath;
 use dr_memory::NoMemory;
 use dr_nested::{Kind, Path, Step};
 use dr_objects::same_path;
@@ -94,6 +95,7 @@ impl Binder<'_> {
     /// Errors: want of memory alone.
     pub(crate) fn value_at(self, path: BoundPath) -> Result<BoundExpression, NoMemory>
         ensures gives { IfOk result (λ x. type_of x.expression ≡ meant.kind_type (path_view path.leaf).kind) }
+        ensures alone { IfOk result (λ x. x.is_path ≡ true) }
         ensures paths { IfOk result (λ x. map bound_path_view x.paths.items ≡ bound_path_view path ∷ []) }
         ensures view { IfOk result (λ x. IsAmong (leaves_in self.entry) (path_view path.leaf) → expr_view (leaves_in self.entry) x.expression ≡ path_value (path_view path.leaf).path) }
         ensures fits { IfOk result (λ x. IsAmong (leaves_in self.entry) (path_view path.leaf) → expr_fits (leaves_in self.entry) x.expression ≡ true) }
@@ -102,6 +104,10 @@ impl Binder<'_> {
         let expression = value_of_leaf(path.leaf.kind, number);
         let mut paths = Vec::new(self.alloc);
         paths.push(path)?;
-        Ok(BoundExpression { expression, paths })
+        Ok(BoundExpression {
+            expression,
+            paths,
+            is_path: true,
+        })
     }
 }
