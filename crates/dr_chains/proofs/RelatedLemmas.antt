@@ -6,7 +6,7 @@ use Rattle.std.proofs.Math.Bool.{and_comm}
 use Rattle.std.proofs.lemmas.Bool.{eqb-true, eq-eqb, and_parts, or_right, false≢true}
 use Rattle.std.proofs.lemmas.List.{drop_more}
 use Rattle.dr_meaning.specs.Path.{Step, level, begins_with}
-use Rattle.dr_meaning.specs.BoundExpression.{BoundPath, BindFault, BindProblem, unrelated, fault_at, are_related, unrelated_after}
+use Rattle.dr_meaning.specs.BoundExpression.{BoundPath, BindFault, unrelated, fault_at, are_related, unrelated_after}
 use Rattle.dr_chains.specs.Views.{bound_path_view}
 use Rattle.dr_chains.specs.declared.bound.BoundPath as code
 use Rattle.dr_chains.specs.Related.{Spans, levels_related, joined_before}
@@ -43,8 +43,8 @@ fronts_related (s ∷ a) (t ∷ b) (u ∷ c) h k =
 related_to_front : (x a l : List Step) → begins_with a l ≡ true → levels_related x l ≡ true → levels_related x a ≡ true
 related_to_front x a l h k =
     elim (begins_with x l) as (λ b. begins_with x l ≡ b → (b || begins_with l x) ≡ true → levels_related x a ≡ true) [
-      true ↦ λ e _. fronts_related x a l e h
-    | false ↦ λ _ e. or_right (begins_with x a) (begins_with a x) (begins_with-through a l x h e)
+      | true ↦ λ e _. fronts_related x a l e h
+      | false ↦ λ _ e. or_right (begins_with x a) (begins_with a x) (begins_with-through a l x h e)
     ] refl k
 
 true_with : (b c : Bool) → (c ≡ true → b ≡ true) → (b && c) ≡ c
@@ -67,8 +67,10 @@ spans_kept earlier l p s h = record { alike = λ q. ap (λ (b : Bool). are_relat
 
 -- a further path whose level begins with the longest one
 pub spans_longer : (earlier : List (List Step)) (l p : List Step) → Spans earlier l → begins_with l (level p) ≡ true → Spans (p ∷ earlier) (level p)
-spans_longer earlier l p s h = record { alike = λ q. ap (λ (b : Bool). are_related q p && b) (s.alike q)
-    ∙ and_comm (are_related q p) (levels_related (level q) l) ∙ front_with (level q) l (level p) h }
+spans_longer earlier l p s h = record {
+  alike = λ q. ap (λ (b : Bool). are_related q p && b) (s.alike q)
+      ∙ and_comm (are_related q p) (levels_related (level q) l) ∙ front_with (level q) l (level p) h;
+}
 
 -- ---- paths behind others
 
@@ -78,8 +80,8 @@ unrelated_behind earlier (p ∷ ps) qs h =
     let e : List (List Step) = p.leaf.path ∷ earlier in
     elim (list_all (are_related p.leaf.path) earlier) as (λ b. (if b then unrelated_after e ps else fault_at p.place unrelated) ≡ []
     → (if b then unrelated_after e (ps ++ qs) else fault_at p.place unrelated) ≡ unrelated_after (joined_before e ps) qs) [
-      true ↦ λ k. unrelated_behind e ps qs k
-    | false ↦ λ k. cc
+      | true ↦ λ k. unrelated_behind e ps qs k
+      | false ↦ λ k. cc
     ] h
 
 pub unrelated_front : (earlier : List (List Step)) (ps qs : List BoundPath) (i : ℕ) → unrelated_after earlier ps ≡ fault_at i unrelated → unrelated_after earlier (ps ++ qs) ≡ fault_at i unrelated
@@ -88,8 +90,8 @@ unrelated_front earlier (p ∷ ps) qs i h =
     let e : List (List Step) = p.leaf.path ∷ earlier in
     elim (list_all (are_related p.leaf.path) earlier) as (λ b. (if b then unrelated_after e ps else fault_at p.place unrelated) ≡ fault_at i unrelated
     → (if b then unrelated_after e (ps ++ qs) else fault_at p.place unrelated) ≡ fault_at i unrelated) [
-      true ↦ λ k. unrelated_front e ps qs i k
-    | false ↦ λ k. k
+      | true ↦ λ k. unrelated_front e ps qs i k
+      | false ↦ λ k. k
     ] h
 
 -- ---- one path after another
@@ -123,12 +125,12 @@ judged_meant l (p ∷ ps) earlier s =
     let fs : List BindFault = unrelated_after earlier (p ∷ ps) in
     let js : List (List Step) = joined_before earlier (p ∷ ps) in
     elim (begins_with l (level q)) as (λ b. begins_with l (level q) ≡ b → Meets fs js (if b then judged (level q) ps else (if begins_with (level q) l then judged l ps else Err p.place))) [
-      true ↦ λ h. Meets-more earlier p ps (judged (level q) ps) (s.alike q ∙ or_right (begins_with (level q) l) (begins_with l (level q)) h)
-        (judged_meant (level q) ps (q ∷ earlier) (spans_longer earlier l q s h))
-    | false ↦ λ h. elim (begins_with (level q) l) as (λ b. begins_with (level q) l ≡ b → Meets fs js (if b then judged l ps else Err p.place)) [
-        true ↦ λ k. Meets-more earlier p ps (judged l ps) (s.alike q ∙ ap (λ (b : Bool). b || begins_with l (level q)) k)
-          (judged_meant l ps (q ∷ earlier) (spans_kept earlier l q s k))
-      | false ↦ λ k. sym (unrelated_step false earlier p ps (s.alike q ∙ none_related (begins_with (level q) l) (begins_with l (level q)) k h))
+      | true ↦ λ h. Meets-more earlier p ps (judged (level q) ps) (s.alike q ∙ or_right (begins_with (level q) l) (begins_with l (level q)) h)
+          (judged_meant (level q) ps (q ∷ earlier) (spans_longer earlier l q s h))
+      | false ↦ λ h. elim (begins_with (level q) l) as (λ b. begins_with (level q) l ≡ b → Meets fs js (if b then judged l ps else Err p.place)) [
+        | true ↦ λ k. Meets-more earlier p ps (judged l ps) (s.alike q ∙ ap (λ (b : Bool). b || begins_with l (level q)) k)
+            (judged_meant l ps (q ∷ earlier) (spans_kept earlier l q s k))
+        | false ↦ λ k. sym (unrelated_step false earlier p ps (s.alike q ∙ none_related (begins_with (level q) l) (begins_with l (level q)) k h))
       ] refl
     ] refl
 

@@ -8,5 +8,5 @@ returns-in-Repeated c = level_here c.args.steps.now c.steps.rest _ _ (omega arit
 pub steps-preserved : goal.steps-preserved
 steps-preserved c = record {
   within = omega arith;
-  same = level_before c.args.steps.now c.steps.rest _ _ (omega arith) (omega arith) c.in_default.not-Repeated ∙ c.steps.invariant.same
+  same = level_before c.args.steps.now c.steps.rest _ _ (omega arith) (omega arith) c.in_default.not-Repeated ∙ c.steps.invariant.same;
 }

@@ -7,7 +7,7 @@ use Rattle.dr_chains.proofs.levels.level.Given as goal
 abbrev pub invariant-steps : goal.invariant-steps
 invariant-steps l = record {
   within : l.rest ≤ length l.steps;
-  same : path_meaning.level (map step_view (take l.rest l.steps)) ≡ path_meaning.level (map step_view l.steps)
+  same : path_meaning.level (map step_view (take l.rest l.steps)) ≡ path_meaning.level (map step_view l.steps);
 }
 
 abbrev pub decreases-steps : goal.decreases-steps

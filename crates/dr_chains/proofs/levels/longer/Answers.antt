@@ -1,4 +1,4 @@
-use Rattle.std.proofs.Common.{◌<◌, ◌≤◌, length, map, sym, arith}
+use Rattle.std.proofs.Common.{map, sym, arith}
 use Rattle.std.proofs.lemmas.List.{length-map}
 use Rattle.dr_nested.specs.PathView.{step_view}
 use Rattle.dr_chains.proofs.LevelLemmas.{longer-first, longer-second}

@@ -8,7 +8,7 @@ use Rattle.dr_chains.proofs.levels.longest_level.Given as goal
 abbrev pub invariant-paths : goal.invariant-paths
 invariant-paths l = record {
   within : l.rest ≤ length l.paths;
-  longest : map step_view l.longest ≡ expression_meaning.longest_level (paths_at (map bound_path_view (drop l.rest l.paths)))
+  longest : map step_view l.longest ≡ expression_meaning.longest_level (paths_at (map bound_path_view (drop l.rest l.paths)));
 }
 
 abbrev pub decreases-paths : goal.decreases-paths

@@ -16,8 +16,8 @@ returns-then-not-begins_with-clause-unrelated c = λ earlier s.
     let known = map step_view c.paths.known.now in
     let own : map step_view c.level-own.result.now ≡ level (map step_view p.leaf.steps.items) = c.level-own.ensures ∙ ap (λ (steps : List _). level (map step_view steps)) c.deref.ensures.value in
     let refused : judged known (bound_path_view p ∷ map bound_path_view (drop (c.paths.path-index + 1) all)) ≡ Err p.place =
-      judged_refused known (bound_path_view p) _ (sym (c.if-begins_with.ensures ∙ ap (begins_with known) own))
-      (sym (c.if-not-begins_with.ensures ∙ ap (λ (q : List Step). begins_with q known) own)) in
+    judged_refused known (bound_path_view p) _ (sym (c.if-begins_with.ensures ∙ ap (begins_with known) own))
+    (sym (c.if-not-begins_with.ensures ∙ ap (λ (q : List Step). begins_with q known) own)) in
     subst (Meets (meant.unrelated_after earlier ps) (joined_before earlier ps))
     (c.paths.invariant ∙ ap (judged known) (paths_cut all c.paths.path-index p (omega arith) c.path-item.is) ∙ refused)
     (judged_meant (map step_view c.args.longest.now) ps earlier s)
