@@ -1,0 +1,4 @@
+-- levels of paths
+pub mod LevelLemmas
+-- a level that stands for earlier paths
+pub mod RelatedLemmas

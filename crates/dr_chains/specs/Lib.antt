@@ -1,0 +1,4 @@
+-- what bound paths stand for
+pub mod Views
+-- what stands for all the paths before one
+pub mod Related
