@@ -13,9 +13,10 @@ use Rattle.dr_plan.specs.Views.{expr_view}
 use Rattle.dr_plan.specs.Fitting.{expr_fits}
 use Rattle.dr_plan.specs.declared.expression.Expr.{Expr}
 use Rattle.dr_bind.specs.Faults.{earlier}
-use Rattle.dr_bind.specs.Bound.{Came, Covers, AreReal, is_path_value, paths_at, bound_path_view, type_of, Means, IsExpression, MadeAt}
+use Rattle.dr_bind.specs.Bound.{Came, Covers, AreReal, is_path_value, type_of, Means, IsExpression, MadeAt}
 use Rattle.dr_bind.specs.Operators.{unary_type, unary_of, binary_type, binary_of}
-use Rattle.dr_bind.specs.declared.bound.BoundPath.{BoundPath}
+use Rattle.dr_chains.specs.declared.bound.BoundPath.{BoundPath}
+use Rattle.dr_chains.specs.Views.{bound_path_view, paths_at}
 use Rattle.dr_bind.specs.declared.bound.BoundExpression.{BoundExpression}
 use Rattle.dr_bind.specs.declared.operators.Unary.{Unary}
 use Rattle.dr_bind.specs.declared.operators.Binary.{Binary}

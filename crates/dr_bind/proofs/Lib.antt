@@ -4,3 +4,5 @@ pub mod ResolvingLemmas
 pub mod FaultLemmas
 -- operators over bound operands
 pub mod ExpressionLemmas
+-- the condition and what items give
+pub mod TermLemmas

@@ -12,9 +12,12 @@ use Rattle.dr_meaning.specs.Query.{Aggregate}
 use Rattle.dr_plan.specs.declared.expression.Truth.{Truth}
 use Rattle.dr_plan.specs.declared.expression.Expr.{Expr}
 use Rattle.dr_plan.specs.declared.aggregate.Fold.{Fold}
-use Rattle.dr_plan.specs.Views.{fold_view}
+use Rattle.dr_plan.specs.Views.{fold_view, expr_view}
+use Rattle.dr_plan.specs.Fitting.{expr_fits}
 use Rattle.dr_bind.specs.Faults.{earlier}
-use Rattle.dr_bind.specs.Bound.{Came, type_of, IsExpression, bound_path_view}
+use Rattle.dr_bind.specs.Bound.{Came, type_of, IsExpression}
+use Rattle.dr_chains.specs.declared.bound.BoundPath.{BoundPath}
+use Rattle.dr_chains.specs.Views.{bound_path_view}
 use Rattle.dr_bind.specs.Items.{IsTruth, IsWithin, IsTerm}
 use Rattle.dr_bind.specs.declared.bound.BoundExpression.{BoundExpression}
 use Rattle.dr_bind.specs.declared.terms.BoundCondition.{BoundCondition}
@@ -60,11 +63,11 @@ of_truth fs ls i (passes b) before now x t y e' t' p h =
     let s : same_type b.gives truth_type ≡ true = ap (λ z. same_type z truth_type) (sym h.1.gives ∙ ap type_of e') in
     let same : Expr.Truth y.truth ≡ x.expression = ap Expr.Truth t' ∙ sym e' in
     rw s (h.0, record {
-      paths = ap (λ (ps : Vec _ Global). map bound_path_view ps.items) p ∙ h.1.paths;
+      paths = ap (λ (ps : Vec BoundPath Global). map bound_path_view ps.items) p ∙ h.1.paths;
       own = h.1.own;
       real = h.1.real;
-      view = λ z. ap (Rattle.dr_plan.specs.Views.expr_view ls) same ∙ (h.1.means z).view;
-      fits = λ z. ap (Rattle.dr_plan.specs.Fitting.expr_fits ls) same ∙ (h.1.means z).fits;
+      view = λ z. ap (expr_view ls) same ∙ (h.1.means z).view;
+      fits = λ z. ap (expr_fits ls) same ∙ (h.1.means z).fits;
     })
 
 -- ---- aggregates

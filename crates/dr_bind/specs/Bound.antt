@@ -15,7 +15,7 @@ use Rattle.dr_plan.specs.Fitting.{expr_fits}
 use Rattle.dr_plan.specs.declared.expression.Expr.{Expr}
 use Rattle.dr_bind.specs.Faults.{earlier}
 use Rattle.dr_bind.specs.declared.bound.Binder.{Binder}
-use Rattle.dr_chains.specs.declared.bound_path.BoundPath.{BoundPath}
+use Rattle.dr_chains.specs.declared.bound.BoundPath.{BoundPath}
 use Rattle.dr_chains.specs.Views.{bound_path_view, paths_at}
 use Rattle.dr_bind.specs.declared.bound.BoundExpression.{BoundExpression}
 

@@ -9,7 +9,8 @@ use Rattle.dr_meaning.specs.Query as query
 use Rattle.dr_nested.specs.PathView.{step_view}
 use Rattle.dr_plan.specs.Views.{truth_view, fold_view}
 use Rattle.dr_plan.specs.Fitting.{truth_fits}
-use Rattle.dr_bind.specs.Bound.{bound_path_view, paths_at, AreReal, Covers, IsExpression}
+use Rattle.dr_chains.specs.Views.{bound_path_view, paths_at}
+use Rattle.dr_bind.specs.Bound.{AreReal, Covers, IsExpression}
 use Rattle.dr_bind.specs.declared.terms.BoundCondition.{BoundCondition}
 use Rattle.dr_bind.specs.declared.terms.BoundWithin.{BoundWithin}
 use Rattle.dr_bind.specs.declared.terms.BoundTerm.{BoundTerm}

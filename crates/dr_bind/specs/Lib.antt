@@ -1,6 +1,10 @@
 pub mod Faults
 pub mod Resolved
--- what comes of binding
+-- what comes of binding expressions
 pub mod Bound
 -- operators
 pub mod Operators
+-- the condition and items
+pub mod Items
+-- the parts of a query
+pub mod Parts

@@ -152,22 +152,26 @@ impl Binder<'_> {
             ),
             Expression::IsNull(place, e) => self.one(*place, Unary::IsNull, e, first),
             Expression::Not(place, e) => self.one(*place, Unary::Not, e, first),
-            Expression::Arithmetic(place, o, a, b) => self.two(
-                *place,
-                Binary::Arithmetic(*o),
-                a,
-                b,
-                first,
-            ),
-            Expression::Comparison(place, o, a, b) => self.two(
-                *place,
-                Binary::Comparison(*o),
-                a,
-                b,
-                first,
-            ),
-            Expression::And(place, a, b) => self.two(*place, Binary::And, a, b, first),
-            Expression::Or(place, a, b) => self.two(*place, Binary::Or, a, b, first),
+            Expression::Arithmetic(place, operator, left, right) => {
+                let left = self.expression(left, first)?;
+                let right = self.expression(right, first)?;
+                binary(self.alloc, *place, Binary::Arithmetic(*operator), left, right, first)
+            }
+            Expression::Comparison(place, operator, left, right) => {
+                let left = self.expression(left, first)?;
+                let right = self.expression(right, first)?;
+                binary(self.alloc, *place, Binary::Comparison(*operator), left, right, first)
+            }
+            Expression::And(place, left, right) => {
+                let left = self.expression(left, first)?;
+                let right = self.expression(right, first)?;
+                binary(self.alloc, *place, Binary::And, left, right, first)
+            }
+            Expression::Or(place, left, right) => {
+                let left = self.expression(left, first)?;
+                let right = self.expression(right, first)?;
+                binary(self.alloc, *place, Binary::Or, left, right, first)
+            }
         }
     }
 
@@ -184,22 +188,5 @@ impl Binder<'_> {
     {
         let operand = self.expression(operand, first)?;
         unary(self.alloc, place, operator, operand, first)
-    }
-
-    /// An operator of two operands. The faults of both are noted.
-    #[cycle(expressions)]
-    fn two(
-        self,
-        place: usize,
-        operator: Binary,
-        left: &Expression<'_>,
-        right: &Expression<'_>,
-        first: &mut FirstFault,
-    ) -> Result<Option<BoundExpression>, NoMemory>
-        ensures { IfOk result (λ o. Came (IsExpression (fields_in self.entry) (leaves_in self.entry)) (first_view first.old) (first_view first.new) (meant.two_operands place (binary_type operator) (binary_of operator) (meant.bind_expression (fields_in self.entry) (syntax.expression_view left.now)) (meant.bind_expression (fields_in self.entry) (syntax.expression_view right.now))) o) }
-    {
-        let left = self.expression(left, first)?;
-        let right = self.expression(right, first)?;
-        binary(self.alloc, place, operator, left, right, first)
     }
 }

@@ -7,7 +7,8 @@ ghost use Rattle.dr_meaning.specs.Binding as binding;
 ghost use Rattle.dr_sql.specs.Views as syntax;
 ghost use Rattle.dr_bind.specs.Faults.{earlier, first_view};
 ghost use Rattle.dr_bind.specs.Resolved.{lent};
-ghost use Rattle.dr_bind.specs.Bound.{Came, bound_path_view, fields_in, leaves_in};
+ghost use Rattle.dr_bind.specs.Bound.{Came, fields_in, leaves_in};
+ghost use Rattle.dr_chains.specs.Views.{bound_path_view};
 ghost use Rattle.dr_bind.specs.Items.{AreItems, IsItem};
 
 use crate::bound::Binder;

@@ -4,9 +4,12 @@
 mod bound;
 mod expressions;
 mod fault;
+mod items;
 mod operators;
+mod parts;
 mod paths;
 mod resolving;
+mod terms;
 
 pub use fault::{BindFault, BindProblem, Fault, FirstFault};
 pub use resolving::{End, Found, resolve};
