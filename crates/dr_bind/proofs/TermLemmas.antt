@@ -62,13 +62,16 @@ of_truth fs ls i (fails e es) before now x t y e' t' p h = absurd h
 of_truth fs ls i (passes b) before now x t y e' t' p h =
     let s : same_type b.gives truth_type ≡ true = ap (λ z. same_type z truth_type) (sym h.1.gives ∙ ap type_of e') in
     let same : Expr.Truth y.truth ≡ x.expression = ap Expr.Truth t' ∙ sym e' in
-    rw s (h.0, record {
-      paths = ap (λ (ps : Vec BoundPath Global). map bound_path_view ps.items) p ∙ h.1.paths;
-      own = h.1.own;
-      real = h.1.real;
-      view = λ z. ap (expr_view ls) same ∙ (h.1.means z).view;
-      fits = λ z. ap (expr_fits ls) same ∙ (h.1.means z).fits;
-    })
+    rw s (
+      h.0,
+      record {
+        paths = ap (λ (ps : Vec BoundPath Global). map bound_path_view ps.items) p ∙ h.1.paths;
+        own = h.1.own;
+        real = h.1.real;
+        view = λ z. ap (expr_view ls) same ∙ (h.1.means z).view;
+        fits = λ z. ap (expr_fits ls) same ∙ (h.1.means z).fits;
+      },
+    )
 
 -- ---- aggregates
 

@@ -13,6 +13,7 @@ use Rattle.dr_nested.specs.Views.{fields_view}
 use Rattle.dr_plan.specs.Views.{expr_view}
 use Rattle.dr_plan.specs.Fitting.{expr_fits}
 use Rattle.dr_plan.specs.declared.expression.Expr.{Expr}
+use Rattle.dr_used.specs.Numbers.{number_among}
 use Rattle.dr_bind.specs.Faults.{earlier}
 use Rattle.dr_bind.specs.declared.bound.Binder.{Binder}
 use Rattle.dr_chains.specs.declared.bound.BoundPath.{BoundPath}
@@ -42,11 +43,6 @@ abbrev pub IsPath : meant.BoundPath → BoundPath → Type 0
 IsPath b p = bound_path_view p ≡ b
 
 -- ---- leaves of a plan
-
--- the number of the first of these leaves that has a path
-abbrev pub number_among : List Leaf → List Step → Option ℕ
-number_among [] p = None
-number_among (l ∷ ls) p = if same_path l.path p then Some 0 else option_map (λ i. suc i) (number_among ls p)
 
 -- a leaf of this path and kind is among these, by a number of 32 bits
 abbrev pub IsAmong : List Leaf → Leaf → Type 0

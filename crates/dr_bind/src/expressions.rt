@@ -155,12 +155,26 @@ impl Binder<'_> {
             Expression::Arithmetic(place, operator, left, right) => {
                 let left = self.expression(left, first)?;
                 let right = self.expression(right, first)?;
-                binary(self.alloc, *place, Binary::Arithmetic(*operator), left, right, first)
+                binary(
+                    self.alloc,
+                    *place,
+                    Binary::Arithmetic(*operator),
+                    left,
+                    right,
+                    first,
+                )
             }
             Expression::Comparison(place, operator, left, right) => {
                 let left = self.expression(left, first)?;
                 let right = self.expression(right, first)?;
-                binary(self.alloc, *place, Binary::Comparison(*operator), left, right, first)
+                binary(
+                    self.alloc,
+                    *place,
+                    Binary::Comparison(*operator),
+                    left,
+                    right,
+                    first,
+                )
             }
             Expression::And(place, left, right) => {
                 let left = self.expression(left, first)?;

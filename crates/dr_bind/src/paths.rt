@@ -11,9 +11,10 @@ ghost use Rattle.dr_plan.specs.Views.{expr_view, leaf_value};
 ghost use Rattle.dr_plan.specs.Fitting.{expr_fits, leaf_has_type};
 ghost use Rattle.dr_sql.specs.Views as syntax;
 ghost use Rattle.dr_chains.specs.Views.{bound_path_view};
+ghost use Rattle.dr_used.specs.Numbers.{number_among};
 ghost use Rattle.dr_bind.specs.Faults.{first_view};
 ghost use Rattle.dr_bind.specs.Resolved.{lent};
-ghost use Rattle.dr_bind.specs.Bound.{Came, IsPath, IsAmong, number_among, type_of, fields_in, leaves_in};
+ghost use Rattle.dr_bind.specs.Bound.{Came, IsPath, IsAmong, type_of, fields_in, leaves_in};
 
 use crate::bound::{Binder, BoundExpression};
 use crate::fault::{BindProblem, FirstFault};

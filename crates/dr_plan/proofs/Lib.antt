@@ -3,3 +3,4 @@ pub mod WorkedPlans
 -- lemmas of the laws
 pub mod ConjunctLemmas
 pub mod ObjectLemmas
+pub mod CuttingLemmas

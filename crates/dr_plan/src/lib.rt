@@ -3,6 +3,7 @@
 
 mod aggregate;
 mod building;
+mod condition;
 mod expression;
 pub mod laws;
 mod objects;
@@ -10,6 +11,7 @@ mod pattern;
 mod plan;
 
 pub use aggregate::{Aggregate, Fold, Within};
+pub use condition::conjuncts;
 pub use expression::{Comparison, Expr, Number, TextOf, Truth};
 pub use objects::{ListPlan, ObjectPlan};
 pub use pattern::Pattern;

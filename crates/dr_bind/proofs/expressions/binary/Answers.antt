@@ -14,4 +14,3 @@ pub returns-in-None-right : goal.returns-in-None-right
 returns-in-None-right c = λ fs ls d e before between h k. no_right fs ls c.args.place (binary_type c.args.operator) (binary_of c.args.operator) d e before between (first_view c.args.first.now) c.in-Some.left
     (subst (λ (o : Option BoundExpression). Came (IsExpression fs ls) before between d o) c.in-Some.is h)
     (subst (λ (o : Option BoundExpression). Came (IsExpression fs ls) between (first_view c.args.first.now) e o) c.in-None-right.is k)
-

@@ -9,4 +9,3 @@ use Rattle.dr_bind.proofs.expressions.unary.Goals as goal
 pub returns-in-None : goal.returns-in-None
 returns-in-None c = λ fs ls d before h. no_operand fs ls c.args.place (unary_type c.args.operator) (unary_of c.args.operator) d before (first_view c.args.first.now)
     (subst (λ (o : Option BoundExpression). Came (IsExpression fs ls) before (first_view c.args.first.now) d o) c.in-None.is h)
-

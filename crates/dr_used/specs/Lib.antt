@@ -1,0 +1,2 @@
+-- the numbers of leaves among others
+pub mod Numbers
