@@ -14,7 +14,7 @@ leaf_of u fs p = is_leaf_of fs u p
 abbrev shape_of : Kind → Shape → List Step → Bool
 shape_of u s p = is_shape_leaf s u p
 
-same_repetition-itself : (r : Repetition) → same_repetition r r ≡ true
+pub same_repetition-itself : (r : Repetition) → same_repetition r r ≡ true
 same_repetition-itself required = refl
 same_repetition-itself optional = refl
 same_repetition-itself repeated = refl
@@ -74,7 +74,7 @@ resolved_is : (u : Kind) → (ns : List (List ℕ)) (s : Shape) → LeadsOn u ns
 resolved_is u [] s f e q t = let k : record { path = []; shape = s } ≡ f = cc in ap (λ (x : Found). shape_of u s (x.path ++ q)) (sym k) ∙ ap (λ (x : Found). shape_of u x.shape q) k ∙ t
 resolved_is u (n ∷ ns) s f e q t = by_field u n ns s f q (resolved_is u ns) (named_field n 0 (fields_of s)) refl e t
 
-same_kind-itself : (k : Kind) → same_kind k k ≡ true
+pub same_kind-itself : (k : Kind) → same_kind k k ≡ true
 same_kind-itself bool_kind = refl
 same_kind-itself int32_kind = refl
 same_kind-itself int64_kind = refl

@@ -7,3 +7,4 @@ pub mod TakeLemmas
 -- records of a schema fit its leaves
 pub mod FitLemmas
 pub mod FoundLemmas
+pub mod SchemaLeafLemmas

@@ -1,7 +1,8 @@
 -- The leaves of a schema with their kinds, and what records give them.
 use Rattle.std.specs.Prelude.{◌≡◌, List, [], ◌∷◌, Bool, true, false, ◌&&◌, Ok, ℕ}
+use Rattle.std.specs.List.{list_all}
 use Rattle.dr_meaning.specs.Schema.{Kind, bool_kind, int32_kind, int64_kind, text_kind, Fields, no_fields, field, Shape, leaf, group}
-use Rattle.dr_meaning.specs.Path.{Step, Leaf, same_repetition, through, is_empty_path, find_leaf}
+use Rattle.dr_meaning.specs.Path.{Step, Leaf, same_repetition, through, is_empty_path, find_leaf, leaves}
 use Rattle.dr_meaning.specs.Record.{Node, Instance, atom, inner, is_record, is_end, is_slot_that, is_inner_that}
 use Rattle.dr_levels.specs.Columns.{is_held}
 use Rattle.dr_striper.specs.Stripers.{fits_leaf}
@@ -55,3 +56,7 @@ FormsFitLeaves = (fs : Fields) (l : Leaf) (n : Node) → is_leaf fs l ≡ true �
 -- the leaf that a text names is a leaf of the schema, of its kind
 abbrev pub FoundLeavesHaveKinds : Type 0
 FoundLeavesHaveKinds = (text : List ℕ) (fs : Fields) (l : Leaf) → find_leaf text fs ≡ Ok l → is_leaf fs l ≡ true
+
+-- the leaves of a schema are leaves of it, of their kinds
+abbrev pub SchemaLeavesHaveKinds : Type 0
+SchemaLeavesHaveKinds = (fs : Fields) → list_all (is_leaf fs) (leaves fs) ≡ true

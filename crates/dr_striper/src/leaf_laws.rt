@@ -1,6 +1,6 @@
 //! Laws of leaves and what records give them.
 
-ghost use Rattle.dr_striper.specs.Leaves.{RecordsFitLeaves, FormsFitLeaves, FoundLeavesHaveKinds};
+ghost use Rattle.dr_striper.specs.Leaves.{RecordsFitLeaves, FormsFitLeaves, FoundLeavesHaveKinds, SchemaLeavesHaveKinds};
 
 /// Each leaf of a schema takes what a record of the schema gives it: a value of its kind exactly where nothing on its path
 /// is absent.
@@ -16,4 +16,9 @@ pub fn forms_fit_leaves()
 /// A leaf that is found by its names is a leaf of the schema, of its kind.
 pub fn found_leaves_have_kinds()
     ensures { FoundLeavesHaveKinds }
+{}
+
+/// So is each leaf of the schema.
+pub fn schema_leaves_have_kinds()
+    ensures { SchemaLeavesHaveKinds }
 {}

@@ -6,5 +6,7 @@ mod leaf_laws;
 mod making;
 mod striper;
 
-pub use leaf_laws::{forms_fit_leaves, found_leaves_have_kinds, records_fit_leaves};
+pub use leaf_laws::{
+    forms_fit_leaves, found_leaves_have_kinds, records_fit_leaves, schema_leaves_have_kinds,
+};
 pub use making::Striper;

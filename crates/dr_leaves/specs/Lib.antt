@@ -1,0 +1,2 @@
+-- the leaves below a way
+pub mod Ways
