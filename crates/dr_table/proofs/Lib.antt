@@ -1,0 +1,5 @@
+mod HeadLemmas
+mod LineLemmas
+mod LeafLemmas
+mod PathLemmas
+mod TextLemmas
