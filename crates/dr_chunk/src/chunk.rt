@@ -13,6 +13,7 @@ ghost use Rattle.dr_chunk.specs.Takers.{leaf_of, wanted_of, is_first_of, diction
 ghost use Rattle.dr_chunk.specs.Pages.{TakesStep};
 ghost use Rattle.dr_chunk.specs.Telling.{Tells, Serves, AsksOnly, is_read_inside, inside};
 
+use crate::buffers::ChunkBuffers;
 use crate::byte_range::ByteRange;
 use crate::fault::ChunkFault;
 use crate::header::next_header;
@@ -21,7 +22,9 @@ use crate::page_taker::PageTaker;
 use crate::stretch::Stretch;
 use dr_levels::Column;
 use dr_outside::Link;
+use dr_page::BodyReader;
 use std::alloc::Global;
+use std::mem;
 
 /// Takes the next page of a chunk: its header, then its body.
 ///
@@ -31,6 +34,7 @@ fn next_page<L: Link>(
     link: &mut L,
     stretch: &mut Stretch<'_>,
     taker: &mut PageTaker,
+    bodies: &mut BodyReader,
     out: &mut Column,
 ) -> Result<(), ChunkFault>
     requires { column_form out.old ≡ leaf_form (leaf_of taker.old) }
@@ -55,16 +59,18 @@ fn next_page<L: Link>(
         return Err(ChunkFault::BadData);
     }
     let body = &stretch.pending()[..size];
-    taker.take_page(alloc, &head, body, out)?;
+    taker.take_page(alloc, bodies, &head, body, out)?;
     stretch.take(size);
     Ok(())
 }
 
-/// Appends the first `wanted` triplets of a column chunk of a leaf to a column: of the file at this path, the chunk is this range of bytes. What lies behind the last page that is needed isn't read.
+/// Appends the first `wanted` triplets of a column chunk of a leaf to a column: of the file at this path, the chunk is this range of bytes. What lies behind the last page that is needed isn't read. What the buffers held before
+/// doesn't matter.
 ///
 /// Errors: the bytes aren't a chunk of so many triplets, an unimplemented encoding included; the link failed; want of memory. After an error the column holds triplets of nobody.
 pub fn read_chunk<L: Link>(
     alloc: Global,
+    buffers: &mut ChunkBuffers,
     link: &mut L,
     path: &str,
     range: ByteRange,
@@ -84,7 +90,8 @@ pub fn read_chunk<L: Link>(
     ensures steady { (bytes : List ℕ) → Serves (L.shows link.old) path.now bytes → range.start + range.size ≤ length bytes → result ≢ Err ChunkFault.Failed }
     ensures stays_steady { IsTrue (L.shows link.old).is_steady → IsTrue (L.shows link.new).is_steady }
 {
-    let mut stretch = Stretch::new(alloc, path, range);
+    let ahead = mem::replace(&mut buffers.ahead, Vec::new(alloc));
+    let mut stretch = Stretch::new(ahead, path, range);
     let mut taker = PageTaker::new(alloc, leaf, wanted);
     let mut pages = range.size;
     'pages: while taker.wanted() > 0 {
@@ -92,7 +99,15 @@ pub fn read_chunk<L: Link>(
             return Err(ChunkFault::BadData);
         }
         pages -= 1;
-        next_page(alloc, link, &mut stretch, &mut taker, out)?;
+        next_page(
+            alloc,
+            link,
+            &mut stretch,
+            &mut taker,
+            &mut buffers.bodies,
+            out,
+        )?;
     }
+    buffers.ahead = stretch.into_buffer();
     Ok(())
 }

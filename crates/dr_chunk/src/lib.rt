@@ -1,6 +1,7 @@
 //! The triplets of a column chunk of an Apache Parquet file (Apache Parquet, "Column chunks"), read page by page over a link.
 #![tactic(auto)]
 
+mod buffers;
 mod byte_range;
 mod chunk;
 mod fault;
@@ -9,6 +10,7 @@ mod leaf_shape;
 mod page_taker;
 mod stretch;
 
+pub use buffers::ChunkBuffers;
 pub use byte_range::ByteRange;
 pub use chunk::read_chunk;
 pub use fault::ChunkFault;

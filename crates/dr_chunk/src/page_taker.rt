@@ -49,7 +49,6 @@ pub(crate) struct PageTaker {
     wanted: u64,
     is_first: bool,
     dictionary: Dictionary,
-    bodies: BodyReader,
     ghost kind: { is_dictionary_of (kind_view leaf.kind) dictionary ≡ true },
 }
 
@@ -73,7 +72,6 @@ impl PageTaker {
             wanted,
             is_first: true,
             dictionary: Dictionary::none(alloc, leaf.kind),
-            bodies: BodyReader::new(alloc),
         }
     }
 
@@ -90,6 +88,7 @@ impl PageTaker {
     pub(crate) fn take_page(
         &mut self,
         alloc: Global,
+        bodies: &mut BodyReader,
         head: &PageHead,
         body: &[u8],
         out: &mut Column,
@@ -104,7 +103,7 @@ impl PageTaker {
         ensures calm { result ≢ Err ChunkFault.Failed }
     {
         match head.kind {
-            DATA_PAGE => self.take_data(head.data_page, body, out)?,
+            DATA_PAGE => self.take_data(bodies, head.data_page, body, out)?,
             INDEX_PAGE => {}
             DICTIONARY_PAGE => self.take_dictionary(alloc, head.dictionary_page, body)?,
             _ => return Err(ChunkFault::BadData),
@@ -118,6 +117,7 @@ impl PageTaker {
     /// Errors: it has no header of its own, or more triplets than are wanted, or spells none; want of memory.
     fn take_data(
         &mut self,
+        bodies: &mut BodyReader,
         page: Option<DataPage>,
         body: &[u8],
         out: &mut Column,
@@ -139,7 +139,7 @@ impl PageTaker {
             return Err(ChunkFault::BadData);
         }
         let shape = shape_of(self.leaf, page);
-        self.bodies.read(&shape, &self.dictionary, body, out)?;
+        bodies.read(&shape, &self.dictionary, body, out)?;
         self.wanted -= triplets;
         Ok(())
     }

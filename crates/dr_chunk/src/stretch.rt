@@ -6,7 +6,6 @@ ghost use Rattle.dr_chunk.specs.Telling.{Tells, Serves, AsksOnly, is_read_inside
 
 use crate::byte_range::ByteRange;
 use dr_outside::{Fault, Link};
-use std::alloc::Global;
 
 /// The bytes of a range of the file at a path, in order. Those read ahead, from `from` on in the buffer, are still to be taken;
 /// those from `at` on are still to be read.
@@ -26,20 +25,26 @@ pub(crate) struct Stretch<'p> {
 impl<'p> Stretch<'p> {
     ghost use Rattle.dr_chunk.specs.Stretches.{pending, left_count, rest_in, path_of, range_of};
 
-    /// All bytes of a range.
-    pub(crate) fn new(alloc: Global, path: &'p str, range: ByteRange) -> Stretch<'p>
+    /// All bytes of a range, read ahead into a buffer that may hold anything.
+    pub(crate) fn new(mut buffer: Vec<u8>, path: &'p str, range: ByteRange) -> Stretch<'p>
         ensures rest { (bytes : List ℕ) → rest_in bytes result ≡ take range.size (drop range.start bytes) }
         ensures left { left_count result ≡ range.size }
         ensures path { path_of result ≡ path.now }
         ensures range { range_of result ≡ range }
     {
+        buffer.clear();
         Stretch {
             path,
             range,
             at: range.start,
-            buffer: Vec::new(alloc),
+            buffer,
             from: 0,
         }
+    }
+
+    /// The buffer, to be used again.
+    pub(crate) fn into_buffer(self) -> Vec<u8> {
+        self.buffer
     }
 
     /// The bytes read ahead.

@@ -7,18 +7,19 @@ use Rattle.dr_meaning.specs.Path.{Leaf}
 use Rattle.dr_formats.specs.Metadata.{ColumnChunk, RowGroup, FileMeta}
 use Rattle.dr_formats.specs.FileSchema.{FileSchema, file_schema, FileLeaf, file_leaves, is_leaf_for, place_of}
 use Rattle.dr_formats.specs.File.{Footer, with_schema, is_whole_group, has_no_path, is_found, leaf_place, has_leaves, nth_chunk, is_uncompressed, are_uncompressed}
-use Rattle.dr_formats.specs.File.{total, most_triplets, chunk_values, rows_agree, bad_schema}
+use Rattle.dr_formats.specs.File.{total, most_triplets, chunk_values, rows_agree, bad_schema, schema_or_cause}
 use Rattle.dr_formats.specs.Opening.{has_numbers}
 use Rattle.dr_meta.specs.OneTree.{count_leaves}
 use Rattle.dr_open.specs.Places.{place_in_file}
 use Rattle.dr_file.specs.declared.fault.OpenFault.{OpenFault}
 use Rattle.dr_file.specs.Groups.{chunk_of, are_uncompressed_at, are_numbers_at}
-use Rattle.dr_file.specs.Openings.{ShownLeaf, shown_chunk, shown_at, shown_at_each, shown_leaf, footer_with, footer_cause, IsOpenedAs, IsOpenFault, IsPlacesFault}
+use Rattle.dr_file.specs.Openings.{ShownLeaf, shown_chunk, shown_at, shown_at_each, shown_leaf, footer_with, footer_cause, IsOpenedAs, IsOpenFault, IsNoFooter, IsPlacesFault}
+use Rattle.dr_file.specs.Schemas.{cause_in}
 
 -- ---- the footer
 
 -- leaves were counted, so there is a tree
-pub tree_there : (o : Option FileSchema) (n : ℕ) → Some n ≡ option_map count_leaves o → (s : FileSchema) × (o ≡ Some s) × (n ≡ length (file_leaves s.fields))
+pub tree_there : (o : Option FileSchema) (n : ℕ) → option_map count_leaves o ≡ Some n → (s : FileSchema) × (o ≡ Some s) × (n ≡ length (file_leaves s.fields))
 tree_there None n h = cc
 tree_there (Some s) n h = let e : n ≡ length (file_leaves s.fields) = cc in (s, refl, e)
 
@@ -30,6 +31,23 @@ pub footer_there : (place : ℕ) (m : FileMeta) (s : FileSchema) (n : ℕ) → f
 footer_there place m s n e l w =
     ap (option_and_then (with_schema place m)) e
     ∙ ap (λ b. if b then Some (the_footer place m s) else None) (ap (λ k. list_all (is_whole_group k) m.groups) (sym l) ∙ w)
+
+-- metadata gives no footer
+pub no_footer : (e : OpenFault) (F : List Leaf) (o : Option Footer) → IsNoFooter e o → IsOpenFault e (footer_cause F o)
+no_footer OpenFault.NoMemory F o h = tt
+no_footer OpenFault.Failed F o h = h
+no_footer OpenFault.BadFooter F o h = ap (footer_cause F) h
+no_footer OpenFault.BadSchema F o h = absurd h
+no_footer OpenFault.BadCodec F o h = absurd h
+no_footer OpenFault.BadData F o h = absurd h
+
+pub no_schema : (e : OpenFault) (o : Option Footer) → IsNoFooter e o → IsOpenFault e (cause_in (schema_or_cause o))
+no_schema OpenFault.NoMemory o h = tt
+no_schema OpenFault.Failed o h = h
+no_schema OpenFault.BadFooter o h = ap (λ (x : Option Footer). cause_in (schema_or_cause x)) h
+no_schema OpenFault.BadSchema o h = absurd h
+no_schema OpenFault.BadCodec o h = absurd h
+no_schema OpenFault.BadData o h = absurd h
 
 -- ---- leaves by their places
 

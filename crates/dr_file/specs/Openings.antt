@@ -1,5 +1,5 @@
 -- What of a footer an opened file keeps.
-use Rattle.std.specs.Prelude.{◌≡◌, ℕ, List, [], ◌∷◌, map, Bool, true, false, Option, Some, option_map, option_and_then, ⊤}
+use Rattle.std.specs.Prelude.{◌≡◌, ℕ, List, [], ◌∷◌, map, Bool, true, false, Option, Some, None, option_map, option_and_then, ⊤}
 use Rattle.dr_meaning.specs.Schema.{Kind}
 use Rattle.dr_meaning.specs.Path.{Step, Leaf}
 use Rattle.dr_formats.specs.Metadata.{ColumnMeta, RowGroup, FileMeta}
@@ -82,6 +82,15 @@ IsOpenFault OpenFault.BadFooter cause = cause ≡ Some bad_footer
 IsOpenFault OpenFault.BadSchema cause = cause ≡ Some bad_schema
 IsOpenFault OpenFault.BadCodec cause = cause ≡ Some bad_codec
 IsOpenFault OpenFault.BadData cause = cause ≡ Some bad_data
+
+-- a fault of metadata that gives no footer
+abbrev pub IsNoFooter : OpenFault → Option Footer → Type 0
+IsNoFooter OpenFault.NoMemory o = ⊤
+IsNoFooter OpenFault.Failed o = ⊥
+IsNoFooter OpenFault.BadFooter o = o ≡ None
+IsNoFooter OpenFault.BadSchema o = ⊥
+IsNoFooter OpenFault.BadCodec o = ⊥
+IsNoFooter OpenFault.BadData o = ⊥
 
 -- a fault of leaves at places, of which some tell whether no chunk is compressed and whether the numbers are good
 abbrev pub IsPlacesFault : OpenFault → Bool → Bool → Type 0

@@ -1,12 +1,17 @@
 //! What the row groups of a footer say of leaves.
 
-ghost use Rattle.std.specs.Prelude.{◌≡◌, ◌<◌, ◌^◌, map, option_map};
+ghost use Rattle.std.specs.Prelude.{◌≡◌, ◌<◌, ◌^◌, ℕ, map, option_map, true, IfOk, IfErr};
 ghost use Rattle.std.specs.List.{list_all};
 ghost use Rattle.dr_formats.specs.File.{is_whole_group, chunk_values};
-ghost use Rattle.dr_meta.specs.Views.{group_view, groups_view};
+ghost use Rattle.dr_formats.specs.FileSchema.{file_schema};
+ghost use Rattle.dr_meta.specs.OneTree.{count_leaves};
+ghost use Rattle.dr_meta.specs.Views.{file_view, group_view, groups_view};
 ghost use Rattle.dr_file.specs.Groups.{lent_meta, chunk_of, are_rows, are_triplets, is_uncompressed_at};
+ghost use Rattle.dr_file.specs.Openings.{footer_with, IsNoFooter};
 
-use dr_meta::{ColumnMeta, GroupMeta};
+use crate::fault::OpenFault;
+use dr_meta::{ColumnMeta, FileMeta, GroupMeta, count_leaves};
+use std::alloc::Global;
 
 /// How many rows a file may have.
 const MOST_ROWS: u64 = 1_000_000_000;
@@ -33,7 +38,7 @@ fn is_whole(group: &GroupMeta<'_, '_>, leaves: usize) -> bool
 }
 
 /// Whether each row group has so many columns, none of them in another file.
-pub(crate) fn are_whole(groups: &[GroupMeta<'_, '_>], leaves: usize) -> bool
+fn are_whole(groups: &[GroupMeta<'_, '_>], leaves: usize) -> bool
     ensures { result ≡ list_all (is_whole_group leaves) (map group_view groups.now) }
 {
     'groups: for group in groups {
@@ -42,6 +47,24 @@ pub(crate) fn are_whole(groups: &[GroupMeta<'_, '_>], leaves: usize) -> bool
         }
     }
     true
+}
+
+/// How many leaves a file of this metadata has: its elements are one tree, and each row group has a column for each of them, none in another
+/// file.
+///
+/// Errors: the metadata is that of no footer; want of memory.
+pub(crate) fn whole_leaves(alloc: Global, meta: &FileMeta<'_, '_>) -> Result<usize, OpenFault>
+    ensures leaves { IfOk result (λ n. option_map count_leaves (file_schema (file_view meta.now).schema) ≡ Some n) }
+    ensures whole { IfOk result (λ n. list_all (is_whole_group n) (file_view meta.now).groups ≡ true) }
+    ensures fault { (place : ℕ) → IfErr result (λ e. IsNoFooter e (footer_with place (file_view meta.now))) }
+{
+    let Some(leaves) = count_leaves(alloc, &meta.schema)? else {
+        return Err(OpenFault::BadFooter);
+    };
+    if !are_whole(&meta.groups, leaves) {
+        return Err(OpenFault::BadFooter);
+    }
+    Ok(leaves)
 }
 
 /// The chunk at a place of a row group.

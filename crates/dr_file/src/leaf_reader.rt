@@ -13,7 +13,7 @@ ghost use Rattle.dr_file.specs.LeafColumns.{is_good_chunk, chunks_triplets, show
 use crate::chunk_place::ChunkPlace;
 use crate::floors::Floors;
 use crate::opened_leaf::OpenedLeaf;
-use dr_chunk::{ChunkFault, LeafShape, read_chunk};
+use dr_chunk::{ChunkBuffers, ChunkFault, LeafShape, read_chunk};
 use dr_levels::Column;
 use dr_outside::Link;
 use std::alloc::Global;
@@ -67,6 +67,7 @@ impl<'p> LeafReader<'p> {
     fn read_group<L: Link>(
         &self,
         alloc: Global,
+        buffers: &mut ChunkBuffers,
         link: &mut L,
         chunk: ChunkPlace,
         column: &mut Column,
@@ -90,6 +91,7 @@ impl<'p> LeafReader<'p> {
         let before = column.len();
         read_chunk(
             alloc,
+            buffers,
             link,
             self.path,
             range,
@@ -132,8 +134,9 @@ pub(crate) fn read_leaf<L: Link>(
 {
     let reader = LeafReader::new(alloc, path, footer, leaf)?;
     let mut column = Column::new(alloc, reader.shape.kind, reader.shape.max_definition);
+    let mut buffers = ChunkBuffers::new(alloc);
     'chunks: for chunk in &leaf.chunks {
-        reader.read_group(alloc, link, *chunk, &mut column)?;
+        reader.read_group(alloc, &mut buffers, link, *chunk, &mut column)?;
     }
     Ok(column)
 }

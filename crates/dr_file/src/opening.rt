@@ -13,12 +13,12 @@ ghost use Rattle.dr_file.specs.Openings.{opened_leaf_view, shown_at_each, IsPlac
 
 use crate::fault::OpenFault;
 use crate::footer::FooterBytes;
-use crate::groups::{are_whole, rows_agree};
+use crate::groups::{rows_agree, whole_leaves};
 use crate::leaf_opening::open_leaves;
 use crate::opened_leaf::OpenedLeaf;
 use crate::places::{all_triplets_fit, all_uncompressed, find_places};
 use dr_compact::{Tree, read_struct};
-use dr_meta::{FileMeta, GroupMeta, count_leaves, view_file};
+use dr_meta::{FileMeta, GroupMeta, view_file};
 use dr_nested::Path;
 use std::alloc::Global;
 
@@ -35,12 +35,7 @@ fn open_meta(
     ensures rows { OnOk result ((file_view meta.now).rows ≤ most_rows) }
     ensures count { IfOk result (λ v. length v.items ≡ length fields.now) }
 {
-    let Some(leaves) = count_leaves(alloc, &meta.schema)? else {
-        return Err(OpenFault::BadFooter);
-    };
-    if !are_whole(&meta.groups, leaves) {
-        return Err(OpenFault::BadFooter);
-    }
+    whole_leaves(alloc, meta)?;
     match find_places(alloc, &meta.schema, fields)? {
         Some(places) => open_places(alloc, &meta.groups, meta.rows.get(), fields, &places),
         None => Err(OpenFault::BadSchema),

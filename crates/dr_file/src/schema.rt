@@ -19,10 +19,10 @@ ghost use Rattle.dr_outside.specs.Link.{Lacks};
 use crate::fault::OpenFault;
 use crate::file_fault::FileFault;
 use crate::footer::{FooterBytes, read_footer};
-use crate::groups::are_whole;
+use crate::groups::whole_leaves;
 use crate::start::file_fault;
 use dr_compact::{Tree, read_struct};
-use dr_meta::{FileMeta, count_leaves, view_file};
+use dr_meta::{FileMeta, view_file};
 use dr_nested::Schema;
 use dr_open::open_schema;
 use dr_outside::Link;
@@ -35,12 +35,7 @@ fn meta_schema(alloc: Global, meta: &FileMeta<'_, '_>) -> Result<Schema, OpenFau
     ensures schema { (place : ℕ) → IfOk result (λ s. schema_or_cause (footer_with place (file_view meta.now)) ≡ Ok (schema_view s)) }
     ensures fault { (place : ℕ) → IfErr result (λ e. IsOpenFault e (cause_in (schema_or_cause (footer_with place (file_view meta.now))))) }
 {
-    let Some(leaves) = count_leaves(alloc, &meta.schema)? else {
-        return Err(OpenFault::BadFooter);
-    };
-    if !are_whole(&meta.groups, leaves) {
-        return Err(OpenFault::BadFooter);
-    }
+    whole_leaves(alloc, meta)?;
     match open_schema(alloc, &meta.schema)? {
         Some(schema) => Ok(schema),
         None => Err(OpenFault::BadSchema),

@@ -68,8 +68,19 @@ told None a b h e = (tt, omega (arith, not_below a h, e))
     not_below a h = omega (arith, h)
 told (Some x) a b h e = (h.1 ∙ e, tt)
 
-pub word_filled : (new bs : List ℕ) → new ≡ bs → length bs < 8 → from_le_bytes w64 (new ++ drop (length bs) (replicate 8 0)) ≡ little_endian bs
-word_filled new bs e l = ap₂ (λ xs ys. from_le_bytes w64 (xs ++ ys)) e (drop-replicate (length bs) 8 0) ∙ word_padded bs l
+drop_bytes : (k : ℕ) (bs : List ℕ) → AreBytes bs → AreBytes (drop k bs)
+drop_bytes zero bs h = h
+drop_bytes (suc k) [] h = h
+drop_bytes (suc k) (b ∷ bs) h = drop_bytes k bs (λ i. h (suc i))
+
+-- the number in at most six bytes at the end
+pub last_below : (bs : List ℕ) (done word : ℕ) → AreBytes bs → done < length bs → length bs < 8 → word ≡ little_endian (drop (length bs - done) bs) → word < 2 ^ 48
+last_below bs done word h d l e =
+    let n : length (drop (length bs - done) bs) ≤ 6 = omega (arith, d, l, length-drop (length bs - done) bs) in
+    let b : little_endian (drop (length bs - done) bs) < 2 ^ (8 * length (drop (length bs - done) bs)) = number_below _ (drop_bytes (length bs - done) bs h) in
+    let k : 8 * length (drop (length bs - done) bs) ≤ 48 = omega (arith, n) in
+    let m : 2 ^ (8 * length (drop (length bs - done) bs)) ≤ 2 ^ 48 = pow_mono k in
+    omega (arith, e, b, m)
 
 -- ---- the step of each loop
 pub length-put_mid : (a k : ℕ) (xs ys : List ℕ) → length ys ≡ k → a + k ≤ length xs → length (put_mid a k xs ys) ≡ length xs

@@ -44,7 +44,10 @@ pub(crate) fn unpack_levels(bytes: &[u8], width: u32, out: &mut [u8])
         place += width as usize;
         done += 8;
     }
-    let group = group_of(front_word(&bytes[place..]), width);
     let left = out.len() - done;
+    if left == 0 {
+        return;
+    }
+    let group = group_of(front_word(&bytes[place..]), width);
     out[done..].copy_from_slice(&group[..left]);
 }

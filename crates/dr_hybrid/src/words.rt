@@ -18,9 +18,11 @@ fn short_word(bytes: &[u8]) -> u64
     requires { length bytes.now < 8 }
     ensures { result ≡ little_endian bytes.now }
 {
-    let mut word = [0; 8];
-    word[..bytes.len()].copy_from_slice(bytes);
-    u64::from_le_bytes(word)
+    let mut word = 0;
+    'bytes: for done in 0..bytes.len() {
+        word = word * 256 + u64::from(bytes[bytes.len() - 1 - done]);
+    }
+    word
 }
 
 /// The number in at most four bytes.

@@ -72,9 +72,13 @@ pub(crate) fn level_width(greatest: u8) -> u32
     width
 }
 
-/// Whether no level is above the greatest.
+/// Whether no level is above the greatest. All are looked at, many at once.
 fn none_above(greatest: u8, levels: &[u8]) -> bool
     ensures { result ≡ list_all (λ l. nat_le l greatest) levels.now }
 {
-    levels.iter().all(|level| *level <= greatest)
+    let mut most = 0u8;
+    'levels: for level in levels {
+        most = most.max(*level);
+    }
+    most <= greatest
 }

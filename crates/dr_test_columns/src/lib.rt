@@ -1,4 +1,4 @@
-//! Tests of columns: levels, striping, automata, assembly, and the way there and back. What they show of each public call beside its contract: that it answers with ample memory.
+//! Tests of columns: leaves, levels, striping, automata, assembly, and the way there and back. What they show of each public call beside its contract: that it answers with ample memory.
 #![tactic(auto)]
 
 #[cfg(test)]
@@ -7,6 +7,8 @@ mod assemble_tests;
 mod column_tests;
 #[cfg(test)]
 mod fsm_tests;
+#[cfg(test)]
+mod leaves_tests;
 #[cfg(test)]
 mod levels_tests;
 #[cfg(test)]

@@ -2,7 +2,7 @@
 
 ghost use Rattle.std.specs.Prelude.{◌≡◌};
 
-use dr_chunk::{ByteRange, ChunkFault, LeafShape, read_chunk};
+use dr_chunk::{ByteRange, ChunkBuffers, ChunkFault, LeafShape, read_chunk};
 use dr_levels::{Column, ValuesRef};
 use dr_nested::Kind;
 use dr_outside::{Keeper, MemLink, Shelf};
@@ -57,6 +57,7 @@ fn chunk_of(alloc: Global, pages: &str) -> Result<Vec<u8>, AllocError> {
 // What is read of a file that is one chunk, with the column it is read to.
 fn read_pages(
     alloc: Global,
+    buffers: &mut ChunkBuffers,
     pages: &str,
     wanted: u64,
 ) -> Result<(Result<(), ChunkFault>, Column), Fail> {
@@ -70,6 +71,7 @@ fn read_pages(
     let mut column = Column::new(alloc, Kind::I64, 0);
     let read = read_chunk(
         alloc,
+        buffers,
         &mut shelf,
         PATH,
         range,
@@ -99,8 +101,9 @@ fn chunks_are_read(rt: HostRuntime) -> Result<(), Fail> {
         ("PDC", 5, None),
         ("IDC", 3, None),
     ];
+    let mut buffers = ChunkBuffers::new(alloc);
     for (pages, wanted, expected) in rows {
-        let (read, column) = read_pages(alloc, pages, wanted)?;
+        let (read, column) = read_pages(alloc, &mut buffers, pages, wanted)?;
         match expected {
             Some(numbers) => {
                 assert_eq!(rt; read, Ok(()), "{pages}");
@@ -124,8 +127,18 @@ fn a_link_that_fails_is_the_cause(rt: HostRuntime) -> Result<(), Fail> {
     let mut link = MemLink::new(alloc, &shelf, [1].to_vec(alloc)?);
     let range = ByteRange { start: 0, size: 33 };
     assert_eq!(rt; range.end(), 33);
+    let mut buffers = ChunkBuffers::new(alloc);
     let mut column = Column::new(alloc, Kind::I64, 0);
-    let read = read_chunk(alloc, &mut link, PATH, range, REQUIRED, 2, &mut column);
+    let read = read_chunk(
+        alloc,
+        &mut buffers,
+        &mut link,
+        PATH,
+        range,
+        REQUIRED,
+        2,
+        &mut column,
+    );
     assert_eq!(rt; read, Err(ChunkFault::Failed));
     Ok(())
 }

@@ -1,11 +1,13 @@
-use Rattle.std.proofs.Common.{◌≡◌, ◌+◌, ◌<◌, ◌∙◌, ◌++◌, length, get_or, sym, ap, ap₂, arith}
+use Rattle.std.proofs.Common.{◌≡◌, ◌+◌, ◌<◌, ◌∙◌, ◌++◌, [], map, drop, length, get_or, sym, ap, ap₂, append-nil, arith}
+use Rattle.std.specs.List.{list_all}
+use Rattle.std.proofs.lemmas.List.{drop_all}
 use Rattle.std.proofs.lemmas.Result.{err_from_is_err_and}
 use Rattle.dr_levels.specs.Views.{column_view}
 use Rattle.dr_file.specs.declared.chunk_place.ChunkPlace.{ChunkPlace}
 use Rattle.dr_chunk.proofs.AskLemmas.{asks_then}
 use Rattle.dr_chunk.proofs.HeaderLemmas.{tells_same}
 use Rattle.dr_file.specs.Openings.{chunk_place_view}
-use Rattle.dr_file.specs.LeafColumns.{is_good_chunk, shown_triplets, triplets_given}
+use Rattle.dr_file.specs.LeafColumns.{is_good_chunk, shown_triplets, triplets_given, chunks_triplets}
 use Rattle.dr_file.proofs.ReaderLemmas.{good_more, good_none, read_more, values_more, asks_chunk}
 use Rattle.dr_file.proofs.leaf_reader.read_leaf.Goals as goal
 
@@ -62,3 +64,15 @@ chunks-preserved g c =
       calm = group.calm (λ e. absurd (cc)) ∙ inv.calm;
       steady = λ h. group.stays_steady (inv.steady h);
     }
+
+pub returns-clause-good : goal.returns-clause-good
+returns-clause-good g c = λ bytes l shown told le.
+    let cs = c.args.leaf.now.chunks.items in
+    let none : drop c.chunks.chunk-index cs ≡ [] = drop_all c.chunks.chunk-index cs (omega (arith, c.chunks-test.false, ap length c.deref-chunk-items.ensures.value)) in
+    sym (c.chunks.invariant.good bytes l shown told le) ∙ ap (λ xs. list_all (is_good_chunk bytes c.args.footer l) (map chunk_place_view xs)) none
+
+pub returns-clause-read : goal.returns-clause-read
+returns-clause-read g c = λ bytes l shown told le.
+    let cs = c.args.leaf.now.chunks.items in
+    let none : drop c.chunks.chunk-index cs ≡ [] = drop_all c.chunks.chunk-index cs (omega (arith, c.chunks-test.false, ap length c.deref-chunk-items.ensures.value)) in
+    sym (append-nil (column_view c.chunks.column)) ∙ (ap (λ xs. column_view c.chunks.column ++ chunks_triplets bytes c.args.footer l (map chunk_place_view xs)) (sym none) ∙ c.chunks.invariant.read bytes l shown told le)

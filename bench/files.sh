@@ -1,0 +1,40 @@
+#!/usr/bin/env bash
+# Measures files on N generated records (150,000 where no N is given): reading the records from JSON, striping them into all columns of
+# their schema, writing the file of these columns, opening the file and reading all columns, and opening it for one leaf and reading its
+# column, leaf by leaf. Each row has the milliseconds, and how many times less that is than reading the records from JSON.
+# usage: bench/files.sh [N] [ROUNDS]
+#
+# It builds a small program over the repository's crates in a copy of it, which takes some minutes. Let nothing else run.
+set -euo pipefail
+count=${1:-150000}
+rounds=${2:-3}
+top=$(cd "$(dirname "${BASH_SOURCE[0]}")/.." && pwd)
+work=$(mktemp -d)
+trap 'rm -rf "$work"' EXIT
+mkdir "$work/copy"
+tar -C "$top" -cf - crates crates.txt HANDLES | tar -C "$work/copy" -xf -
+crate=$work/copy/crates/bench_files
+mkdir -p "$crate/src" "$crate/specs" "$crate/proofs"
+cp "$top/bench/files/program.txt" "$crate/src/main.rt"
+echo 'pub mod Records' >"$crate/specs/Lib.antt"
+cp "$top/bench/files/records_specs.txt" "$crate/specs/Records.antt"
+echo 'pub mod RecordLemmas' >"$crate/proofs/Lib.antt"
+cp "$top/bench/files/record_lemmas.txt" "$crate/proofs/RecordLemmas.antt"
+for file in "$top"/bench/files/*_answers.txt "$top"/bench/files/*_invariants.txt; do
+  name=$(basename "$file" .txt)
+  part=${name##*_}
+  mkdir -p "$crate/proofs/${name%_*}"
+  cp "$file" "$crate/proofs/${name%_*}/${part^}.antt"
+done
+echo 'bench_files: dr_file dr_json dr_leaves dr_levels dr_lines dr_meaning dr_nested dr_outside dr_striper dr_write serde_json' >>"$work/copy/crates.txt"
+git init -q "$work/copy"
+python3 "$top/bench/generate.py" "$count" >"$work/records.jsonl"
+echo "building" >&2
+(cd "$crate" && rt run </dev/null) >"$work/log" 2>&1 || { cat "$work/log" >&2; exit 1; }
+echo "$count records, $(wc -c <"$work/records.jsonl") bytes of JSON, $(nproc) processors, load $(cut -d' ' -f1 /proc/loadavg)"
+for _ in $(seq "$rounds"); do
+  "$crate/out/bench_files" "$work/records.jsonl" | awk '
+    $2 == "bytes" { print $1 " bytes of Parquet"; next }
+    !base { base = $1 }
+    { name = $0; sub(/^[0-9]+ /, "", name); printf "%-32s %9.2f ms   1/%.1f\n", name, $1 / 1000, base / $1 }'
+done
