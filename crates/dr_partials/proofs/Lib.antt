@@ -1,0 +1,7 @@
+-- worked examples, by computation
+pub mod WorkedAccumulators
+pub mod WorkedPartials
+pub mod WorkedTrees
+-- lemmas of accumulators
+pub mod ValueOrders
+pub mod AccumulatorLemmas

@@ -1,0 +1,10 @@
+-- The definitions of partial answers, in the order in which they build on one another.
+-- what an aggregate gathers of values
+pub mod Accumulators
+-- what a query gives on some of the records, merged with what it gives on others; which partials are those of a query
+pub mod Partials
+pub mod PartialTypes
+-- serving trees
+pub mod Trees
+-- laws, each proved on a law function of src/
+pub mod AccumulatorLaws
