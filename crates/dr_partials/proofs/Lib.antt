@@ -5,3 +5,5 @@ pub mod WorkedTrees
 -- lemmas of accumulators
 pub mod ValueOrders
 pub mod AccumulatorLemmas
+-- lemmas of groups
+pub mod GroupLemmas
