@@ -7,3 +7,4 @@ pub mod ValueOrders
 pub mod AccumulatorLemmas
 -- lemmas of groups
 pub mod GroupLemmas
+pub mod RowLemmas
