@@ -8,3 +8,7 @@ pub mod AccumulatorLemmas
 -- lemmas of groups
 pub mod GroupLemmas
 pub mod RowLemmas
+pub mod RelatedLemmas
+pub mod PartialLemmas
+pub mod PartialTypeLemmas
+pub mod BoundLemmas

@@ -8,3 +8,4 @@ pub mod PartialTypes
 pub mod Trees
 -- laws, each proved on a law function of src/
 pub mod AccumulatorLaws
+pub mod PartialLaws

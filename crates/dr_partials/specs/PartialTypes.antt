@@ -47,8 +47,9 @@ expression_type fs (disjunction a b) = Some truth_type
 
 -- a value of this type, or NULL
 abbrev pub has_type : Option ValueType → Option Value → Bool
-has_type None v = false
-has_type (Some t) v = is_of_type t v
+has_type t None = true
+has_type None (Some v) = false
+has_type (Some t) (Some v) = is_of_type t (Some v)
 
 -- ---- groups
 

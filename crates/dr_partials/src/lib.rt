@@ -3,5 +3,6 @@
 #![tactic(auto)]
 
 pub mod accumulator_laws;
+pub mod partial_laws;
 
 

@@ -1,0 +1,31 @@
+// Laws of partials.
+
+ghost use Rattle.dr_partials.specs.PartialLaws.{BoundIsMergeable, FinishedPartialIsMeaning, EmptyStandsForNone, MergedStands, MergeIsAssociative};
+ghost use Rattle.dr_partials.specs.PartialLaws.{MergeIsCommutative, EmptyMergesToSame, EmptyIsPartial, MergedIsPartial};
+
+/// The partial of records, finished, is what the query means on them.
+pub fn finished_partial_is_meaning()
+    ensures { FinishedPartialIsMeaning }
+{}
+
+/// A partial that stands for records, merged with one that stands for others, stands for both, one behind another. The empty partial
+/// stands for none.
+pub fn merged_partials_stand()
+    ensures merged { MergedStands }
+    ensures empty { EmptyStandsForNone }
+{}
+
+/// Partials of one query are merged in any grouping, groups also in any order; the empty one adds nothing, and what is merged is a partial
+/// of the query.
+pub fn partials_of_one_query_merge()
+    ensures associative { MergeIsAssociative }
+    ensures commutative { MergeIsCommutative }
+    ensures neutral { EmptyMergesToSame }
+    ensures empty { EmptyIsPartial }
+    ensures merged { MergedIsPartial }
+{}
+
+/// The partials of each query that is bound can be merged.
+pub fn bound_queries_are_mergeable()
+    ensures { BoundIsMergeable }
+{}
