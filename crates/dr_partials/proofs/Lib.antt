@@ -12,3 +12,5 @@ pub mod RelatedLemmas
 pub mod PartialLemmas
 pub mod PartialTypeLemmas
 pub mod BoundLemmas
+-- lemmas of trees
+pub mod TreeLemmas

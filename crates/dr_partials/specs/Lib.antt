@@ -9,3 +9,4 @@ pub mod Trees
 -- laws, each proved on a law function of src/
 pub mod AccumulatorLaws
 pub mod PartialLaws
+pub mod TreeLaws

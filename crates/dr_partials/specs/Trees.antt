@@ -1,5 +1,5 @@
 -- Serving trees: leaf servers, each with a tablet, below intermediate servers (Dremel 2010, section 6).
-use Rattle.std.specs.Prelude.{ℕ, zero, suc, ◌-◌, List, [], ◌∷◌, ◌++◌, map}
+use Rattle.std.specs.Prelude.{ℕ, zero, suc, ◌-◌, List, [], ◌∷◌, ◌++◌, map, Bool, true, ◌&&◌, nat_le}
 use Rattle.std.specs.List.{range_with_len}
 use Rattle.dr_partials.specs.Partials.{Partial, merge}
 
@@ -22,6 +22,20 @@ abbrev mutual
   pub tablets_of_all : Trees → List ℕ
   tablets_of_all no_trees = []
   tablets_of_all (next_tree t ts) = tablets_of t ++ tablets_of_all ts
+
+-- whether each intermediate server has at most so many children
+abbrev pub count_trees : Trees → ℕ
+count_trees no_trees = 0
+count_trees (next_tree t ts) = suc (count_trees ts)
+
+abbrev mutual
+  pub children_at_most : ℕ → Tree → Bool
+  children_at_most n (leaf_server t) = true
+  children_at_most n (intermediate_server t ts) = nat_le (suc (count_trees ts)) n && children_at_most n t && all_at_most n ts
+
+  pub all_at_most : ℕ → Trees → Bool
+  all_at_most n no_trees = true
+  all_at_most n (next_tree t ts) = children_at_most n t && all_at_most n ts
 
 -- what a tree gathers of the partials of its tablets: an intermediate server merges those of its children, in their order
 abbrev mutual

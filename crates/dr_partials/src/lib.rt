@@ -4,5 +4,6 @@
 
 pub mod accumulator_laws;
 pub mod partial_laws;
+pub mod tree_laws;
 
 
