@@ -2,6 +2,7 @@
 pub mod WorkedAccumulators
 pub mod WorkedPartials
 pub mod WorkedTrees
+pub mod WorkedRewriting
 -- lemmas of accumulators
 pub mod ValueOrders
 pub mod AccumulatorLemmas

@@ -4,9 +4,11 @@ pub mod Accumulators
 -- what a query gives on some of the records, merged with what it gives on others; which partials are those of a query
 pub mod Partials
 pub mod PartialTypes
--- serving trees
+-- serving trees, and the queries of their servers
 pub mod Trees
+pub mod Rewriting
 -- laws, each proved on a law function of src/
 pub mod AccumulatorLaws
 pub mod PartialLaws
 pub mod TreeLaws
+pub mod RewritingLaws

@@ -1,0 +1,20 @@
+-- Laws of rewriting.
+use Rattle.std.specs.Prelude.{◌≡◌, ℕ, true, List}
+use Rattle.std.specs.List.{list_all}
+use Rattle.dr_meaning.specs.Schema.{Fields}
+use Rattle.dr_meaning.specs.Record.{Node, is_record}
+use Rattle.dr_meaning.specs.Query.{Query, meaning}
+use Rattle.dr_partials.specs.Partials.{partial_of}
+use Rattle.dr_partials.specs.PartialLaws.{is_mergeable}
+use Rattle.dr_partials.specs.Trees.{Tree, tablets_of}
+use Rattle.dr_partials.specs.TreeLaws.{records_of}
+use Rattle.dr_partials.specs.Rewriting.{leaf_query, root_answer}
+
+-- the leaf query has the partials of the query
+abbrev pub LeafHasPartials : Type 0
+LeafHasPartials = (fs : Fields) (q : Query) (R : List Node) → partial_of fs (leaf_query q) R ≡ partial_of fs q R
+
+-- whatever the tree, the root query over the inner queries over the leaf query gives what the query means on the records of all tablets
+abbrev pub RootMeansQuery : Type 0
+RootMeansQuery = (fs : Fields) (q : Query) (R : ℕ → List Node) (tree : Tree) → is_mergeable fs q ≡ true
+    → list_all (is_record fs) (records_of R (tablets_of tree)) ≡ true → root_answer fs q R tree ≡ meaning fs q (records_of R (tablets_of tree))
