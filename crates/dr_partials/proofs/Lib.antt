@@ -15,3 +15,4 @@ pub mod PartialTypeLemmas
 pub mod BoundLemmas
 -- lemmas of trees
 pub mod TreeLemmas
+pub mod RewritingLemmas
