@@ -16,3 +16,4 @@ pub mod BoundLemmas
 -- lemmas of trees
 pub mod TreeLemmas
 pub mod RewritingLemmas
+pub mod RootLemmas

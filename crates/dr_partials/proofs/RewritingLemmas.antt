@@ -38,12 +38,12 @@ use Rattle.dr_partials.proofs.PartialLemmas.{accumulators_at, finished_partial_i
 
 -- ---- the aggregates of items
 
-abbrev IsAggregate : GroupTerm → Type 0
+abbrev pub IsAggregate : GroupTerm → Type 0
 IsAggregate (key i) = ⊥
 IsAggregate count_rows = Unit {0}
 IsAggregate (aggregate a e) = Unit {0}
 
-abbrev AreAggregates : List GroupTerm → Type 0
+abbrev pub AreAggregates : List GroupTerm → Type 0
 AreAggregates ts = Each IsAggregate ts
 
 pub among_are : (items : List GroupItem) → AreAggregates (aggregates_among items)
@@ -60,11 +60,11 @@ with_it (key i) ts h = absurd h
 with_it count_rows ts h = refl
 with_it (aggregate a e) ts h = refl
 
-of_aggregate_items : (n : ℕ) (ts : List GroupTerm) → AreAggregates ts → aggregates_among (aggregate_items n ts) ≡ ts
+pub of_aggregate_items : (n : ℕ) (ts : List GroupTerm) → AreAggregates ts → aggregates_among (aggregate_items n ts) ≡ ts
 of_aggregate_items n [] h = refl
 of_aggregate_items n (t ∷ ts) h = ap (with_aggregate t) (of_aggregate_items (suc n) ts h.1) ∙ with_it t ts h.0
 
-of_key_items : (n : ℕ) (ks : List (List Step)) (items : List GroupItem) → aggregates_among (key_items n ks ++ items) ≡ aggregates_among items
+pub of_key_items : (n : ℕ) (ks : List (List Step)) (items : List GroupItem) → aggregates_among (key_items n ks ++ items) ≡ aggregates_among items
 of_key_items n [] items = refl
 of_key_items n (k ∷ ks) items = of_key_items (suc n) ks items
 
@@ -73,11 +73,11 @@ merging_is i (key j) h = h
 merging_is i count_rows h = tt
 merging_is i (aggregate a e) h = tt
 
-merging_are : (i : ℕ) (ts : List GroupTerm) → AreAggregates ts → AreAggregates (merging_terms i ts)
+pub merging_are : (i : ℕ) (ts : List GroupTerm) → AreAggregates ts → AreAggregates (merging_terms i ts)
 merging_are i [] h = tt
 merging_are i (t ∷ ts) h = (merging_is i t h.0, merging_are (suc i) ts h.1)
 
-of_root_items : (i : ℕ) (items : List GroupItem) → aggregates_among (root_items i items) ≡ merging_terms i (aggregates_among items)
+pub of_root_items : (i : ℕ) (items : List GroupItem) → aggregates_among (root_items i items) ≡ merging_terms i (aggregates_among items)
 of_root_items i [] = refl
 of_root_items i (item ∷ items) = by_term item.term (of_root_items (column_behind i item.term) items)
   where
@@ -89,7 +89,7 @@ of_root_items i (item ∷ items) = by_term item.term (of_root_items (column_behi
 
 -- ---- what is gathered depends on the aggregates alone
 
-abbrev terms_at : List (List Step) → Tuple → List Node → List GroupTerm → List Accumulator
+abbrev pub terms_at : List (List Step) → Tuple → List Node → List GroupTerm → List Accumulator
 terms_at keys t ns ts = filter_map (term_accumulator keys t ns) ts
 
 items_terms : (keys : List (List Step)) (items : List GroupItem) (ns : List Node) (t : Tuple) → accumulators_at keys items ns t ≡ terms_at keys t ns (aggregates_among items)
@@ -108,7 +108,7 @@ same_groups keys items others ls ms ns h =
     ap (λ f. grouped (groups_at f (group_tuples keys ns)))
     (fun_ext (λ (t : Tuple). items_terms keys items ns t ∙ (ap (terms_at keys t ns) h ∙ sym (items_terms keys others ns t))))
 
-leaf_items : List (List Step) → List GroupItem → List GroupItem
+abbrev leaf_items : List (List Step) → List GroupItem → List GroupItem
 leaf_items keys items = key_items 0 keys ++ aggregate_items 0 (aggregates_among items)
 
 leaf_aggregates : (keys : List (List Step)) (items : List GroupItem) → aggregates_among (key_items 0 keys ++ aggregate_items 0 (aggregates_among items)) ≡ aggregates_among items
@@ -124,7 +124,7 @@ leaf_has_partials fs q R = leaf_selected q.selection (levels_of fs) (filter_map 
 
 -- ---- which aggregates are gathered, and how many keys there are
 
-abbrev term_aggregate : GroupTerm → Aggregate
+abbrev pub term_aggregate : GroupTerm → Aggregate
 term_aggregate (key i) = count
 term_aggregate count_rows = count
 term_aggregate (aggregate a e) = a
@@ -144,7 +144,7 @@ key_tuple_length : (keys : List (List Step)) (n : Node) → length (key_tuple ke
 key_tuple_length [] n = refl
 key_tuple_length (k ∷ ks) n = ap suc (key_tuple_length ks n)
 
-abbrev OfLength : List (List Step) → Tuple → Type 0
+abbrev pub OfLength : List (List Step) → Tuple → Type 0
 OfLength keys t = length t ≡ length keys
 
 inserted_length : (keys : List (List Step)) (t : Tuple) (us : List Tuple) → OfLength keys t → Each (OfLength keys) us → Each (OfLength keys) (insert_tuple t us)
@@ -164,10 +164,10 @@ tuples_length : (keys : List (List Step)) (ns : List Node) → Each (OfLength ke
 tuples_length [] ns = (refl, tt)
 tuples_length (k ∷ ks) ns = distinct_length (k ∷ ks) (flat_map (rows (longest_level (k ∷ ks))) ns)
 
-abbrev groups_in : List (List Step) → List GroupItem → List Node → List Group
+abbrev pub groups_in : List (List Step) → List GroupItem → List Node → List Group
 groups_in keys items ns = groups_at (accumulators_at keys items ns) (group_tuples keys ns)
 
-groups_fit : (keys : List (List Step)) (items : List GroupItem) (ns : List Node) → Each (FitsTerms keys (aggregates_among items)) (groups_in keys items ns)
+pub groups_fit : (keys : List (List Step)) (items : List GroupItem) (ns : List Node) → Each (FitsTerms keys (aggregates_among items)) (groups_in keys items ns)
 groups_fit keys items ns = each_map (OfLength keys) (FitsTerms keys (aggregates_among items)) (λ (u : Tuple). let r : Group = record { keys = u; accumulators = accumulators_at keys items ns u } in r)
     (λ (u : Tuple) (h : OfLength keys u). (h, ap (map aggregate_of) (items_terms keys items ns u) ∙ terms_kinds keys u ns (aggregates_among items) (among_are items)))
     (group_tuples keys ns) (tuples_length keys ns)
@@ -177,13 +177,13 @@ abbrev pub OneOrAscending : List (List Step) → List Group → Type 0
 OneOrAscending [] gs = length gs ≡ 1
 OneOrAscending (k ∷ ks) gs = Ascending gs
 
-groups_one : (keys : List (List Step)) (items : List GroupItem) (ns : List Node) → OneOrAscending keys (groups_in keys items ns)
+pub groups_one : (keys : List (List Step)) (items : List GroupItem) (ns : List Node) → OneOrAscending keys (groups_in keys items ns)
 groups_one [] items ns = refl
 groups_one (k ∷ ks) items ns = distinct_ascends (accumulators_at (k ∷ ks) items ns) (map (key_tuple (k ∷ ks)) (flat_map (rows (longest_level (k ∷ ks))) ns))
 
 -- ---- rows as records
 
-abbrev columns_record : Tuple → Node
+abbrev pub columns_record : Tuple → Node
 columns_record [] = no_slots
 columns_record (v ∷ vs) = slot (cell_instances v) (columns_record vs)
 
@@ -194,10 +194,10 @@ column_value (None ∷ vs) zero = refl
 column_value (Some v ∷ vs) zero = refl
 column_value (v ∷ vs) (suc i) = column_value vs i
 
-abbrev group_columns : Group → Tuple
+abbrev pub group_columns : Group → Tuple
 group_columns g = g.keys ++ map result_of g.accumulators
 
-abbrev group_record : Group → Node
+abbrev pub group_record : Group → Node
 group_record g = columns_record (group_columns g)
 
 aggregates_columns : (m : ℕ) (ts : List GroupTerm) (t : Tuple) (xs : List Accumulator) → AreAggregates ts → map aggregate_of xs ≡ map term_aggregate ts → row_record (group_row (aggregate_items m ts) t xs) ≡ columns_record (map result_of xs)
@@ -215,7 +215,7 @@ aggregates_columns m (aggregate a e ∷ ts) t (x ∷ xs) h k = ap (slot (cell_in
     rest_of a b ks ls e = cc
 
 -- the tuple `all` has from place n on the cells of t
-abbrev HasFrom : Tuple → ℕ → Tuple → Type 0
+abbrev pub HasFrom : Tuple → ℕ → Tuple → Type 0
 HasFrom all n t = (i j : ℕ) → n + i ≡ j → nth_value all j ≡ nth_value t i
 
 has_later : (all : Tuple) (n : ℕ) (v : Option Value) (t : Tuple) → HasFrom all n (v ∷ t) → HasFrom all (suc n) t
@@ -235,7 +235,7 @@ whole t i j e = let q : i ≡ j = omega (arith, e) in ap (nth_value t) (sym q)
 row_columns : (keys : List (List Step)) (ts : List GroupTerm) → AreAggregates ts → (g : Group) → FitsTerms keys ts g → row_record (group_row (key_items 0 keys ++ aggregate_items 0 ts) g.keys g.accumulators) ≡ group_record g
 row_columns keys ts h g f = keys_columns 0 keys ts g.keys g.keys g.accumulators (whole g.keys) f.0 h f.1
 
-rows_columns : (keys : List (List Step)) (ts : List GroupTerm) → AreAggregates ts → (gs : List Group) → Each (FitsTerms keys ts) gs
+pub rows_columns : (keys : List (List Step)) (ts : List GroupTerm) → AreAggregates ts → (gs : List Group) → Each (FitsTerms keys ts) gs
     → map row_record (map (λ (g : Group). group_row (key_items 0 keys ++ aggregate_items 0 ts) g.keys g.accumulators) gs) ≡ map group_record gs
 rows_columns keys ts h [] f = refl
 rows_columns keys ts h (g ∷ gs) f = ap₂ (λ n ns. n ∷ ns) (row_columns keys ts h g f.0) (rows_columns keys ts h gs f.1)
@@ -258,7 +258,7 @@ beside_columns : (is js : List ℕ) → all_related (map column is ++ map column
 beside_columns is js = ap all_related (sym (map-append column is js)) ∙ all_columns (is ++ js)
 
 -- the paths of an item: none, or one column
-abbrev OverColumns : GroupTerm → Type 0
+abbrev pub OverColumns : GroupTerm → Type 0
 OverColumns t = (js : List ℕ) × (group_term_paths t ≡ map column js)
 
 merging_over : (i : ℕ) (t : GroupTerm) → OverColumns (merging_term i t)
@@ -266,18 +266,18 @@ merging_over i (key j) = ([], refl)
 merging_over i count_rows = (i ∷ [], refl)
 merging_over i (aggregate a e) = (i ∷ [], refl)
 
-abbrev ItemsOver : List GroupItem → Type 0
+abbrev pub ItemsOver : List GroupItem → Type 0
 ItemsOver items = Each (λ (i : GroupItem). OverColumns i.term) items
 
-keys_over : (n : ℕ) (ks : List (List Step)) → ItemsOver (key_items n ks)
+pub keys_over : (n : ℕ) (ks : List (List Step)) → ItemsOver (key_items n ks)
 keys_over n [] = tt
 keys_over n (k ∷ ks) = (([], refl), keys_over (suc n) ks)
 
-merged_over : (n i : ℕ) (ts : List GroupTerm) → ItemsOver (aggregate_items n (merging_terms i ts))
+pub merged_over : (n i : ℕ) (ts : List GroupTerm) → ItemsOver (aggregate_items n (merging_terms i ts))
 merged_over n i [] = tt
 merged_over n i (t ∷ ts) = (merging_over i t, merged_over (suc n) (suc i) ts)
 
-root_over : (i : ℕ) (items : List GroupItem) → ItemsOver (root_items i items)
+pub root_over : (i : ℕ) (items : List GroupItem) → ItemsOver (root_items i items)
 root_over i [] = tt
 root_over i (item ∷ items) = (merging_over i item.term, root_over (column_behind i item.term) items)
 
@@ -285,7 +285,7 @@ over_related : (is : List ℕ) (items : List GroupItem) → ItemsOver items → 
 over_related is [] h = refl
 over_related is (i ∷ items) h = ap₂ (λ a b. a && b) (ap (λ ps. all_related (map column is ++ ps)) h.0.1 ∙ beside_columns is h.0.0) (over_related is items h.1)
 
-columns_related : (keys : List (List Step)) (items : List GroupItem) → ItemsOver items → AreRelated (groups (key_columns keys) items)
+pub columns_related : (keys : List (List Step)) (items : List GroupItem) → ItemsOver items → AreRelated (groups (key_columns keys) items)
 columns_related keys items h = (all_columns (range_with_len 0 (length keys)), over_related (range_with_len 0 (length keys)) items h)
 
 one_cell : (vs : Tuple) (i : ℕ) → SingleIn (column i) (inner (columns_record vs))
@@ -299,20 +299,20 @@ cells_single : (is : List ℕ) (vs : Tuple) → SingleAll (map column is) (colum
 cells_single [] vs = tt
 cells_single (i ∷ is) vs = (one_cell vs i, cells_single is vs)
 
-records_cells : (keys : List (List Step)) (gs : List Group) → Each (SingleAll (key_columns keys)) (map group_record gs)
+pub records_cells : (keys : List (List Step)) (gs : List Group) → Each (SingleAll (key_columns keys)) (map group_record gs)
 records_cells keys [] = tt
 records_cells keys (g ∷ gs) = (cells_single (range_with_len 0 (length keys)) (group_columns g), records_cells keys gs)
 
 -- ---- what merging gathers of a row
 
 -- a count, gathered as a sum
-abbrev as_merged : Accumulator → Accumulator
+abbrev pub as_merged : Accumulator → Accumulator
 as_merged (counted n) = summed (Some (pos n))
 as_merged (summed s) = summed s
 as_merged (least_of v) = least_of v
 as_merged (greatest_of v) = greatest_of v
 
-abbrev merged_group : Group → Group
+abbrev pub merged_group : Group → Group
 merged_group g = record { keys = g.keys; accumulators = map as_merged g.accumulators }
 
 cell_merged : (t : GroupTerm) (x : Accumulator) → IsAggregate t → aggregate_of x ≡ term_aggregate t → accumulator_of_cell (merging_aggregate t) (result_of x) ≡ as_merged x
@@ -509,12 +509,12 @@ inner_aggregates n i (count_rows ∷ ts) t (x ∷ xs) h = ap₂ (cell (codes "a"
 inner_aggregates n i (aggregate a e ∷ ts) t [] h = ap (cell (codes "a" ++ decimal n) None) (inner_aggregates (suc n) (suc i) ts t [] h.1)
 inner_aggregates n i (aggregate a e ∷ ts) t (x ∷ xs) h = ap₂ (cell (codes "a" ++ decimal n)) (result_merged x) (inner_aggregates (suc n) (suc i) ts t xs h.1)
 
-inner_row : (n : ℕ) (ks : List (List Step)) (i : ℕ) (ts : List GroupTerm) (t : Tuple) (xs : List Accumulator) → AreAggregates ts
+pub inner_row : (n : ℕ) (ks : List (List Step)) (i : ℕ) (ts : List GroupTerm) (t : Tuple) (xs : List Accumulator) → AreAggregates ts
     → group_row (key_items n ks ++ aggregate_items 0 (merging_terms i ts)) t (map as_merged xs) ≡ group_row (key_items n ks ++ aggregate_items 0 ts) t xs
 inner_row n [] i ts t xs h = inner_aggregates 0 i ts t xs h
 inner_row n (k ∷ ks) i ts t xs h = ap (cell (codes "k" ++ decimal n) (nth_value t n)) (inner_row (suc n) ks i ts t xs h)
 
-root_row : (i : ℕ) (items : List GroupItem) (t : Tuple) (xs : List Accumulator) → group_row (root_items i items) t (map as_merged xs) ≡ group_row items t xs
+pub root_row : (i : ℕ) (items : List GroupItem) (t : Tuple) (xs : List Accumulator) → group_row (root_items i items) t (map as_merged xs) ≡ group_row items t xs
 root_row i [] t xs = refl
 root_row i (item ∷ items) t xs = by_term item.term xs (root_row (column_behind i item.term) items t)
   where

@@ -4,6 +4,7 @@
 
 pub mod accumulator_laws;
 pub mod partial_laws;
+pub mod rewriting_laws;
 pub mod tree_laws;
 
 
