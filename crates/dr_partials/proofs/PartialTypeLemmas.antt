@@ -11,13 +11,13 @@ use Rattle.dr_meaning.specs.Schema.{Fields}
 use Rattle.dr_meaning.specs.Path.{Step}
 use Rattle.dr_meaning.specs.Record.{Value}
 use Rattle.dr_meaning.specs.Expression.{Expression}
-use Rattle.dr_meaning.specs.Query.{Aggregate, count, sum, least, greatest, GroupTerm, key, count_rows, aggregate, GroupItem, Selection, objects, groups, Query, Object, levels_of, value_order, smaller, larger, tuple_order}
+use Rattle.dr_meaning.specs.Query.{Aggregate, count, sum, least, greatest, GroupTerm, key, count_rows, aggregate, GroupItem, Selection, objects, groups, Query, Object, levels_of, value_order, smaller, larger, tuple_order, count_value}
 use Rattle.dr_meaning.specs.BoundExpression.{ValueType, truth_type, number_type, text_type}
 use Rattle.dr_meaning.specs.BindingLaws.{is_of_type}
-use Rattle.dr_partials.specs.Accumulators.{Accumulator, counted, summed, least_of, greatest_of, aggregate_of, empty_accumulator, join_options, join}
+use Rattle.dr_partials.specs.Accumulators.{Accumulator, counted, summed, least_of, greatest_of, aggregate_of, empty_accumulator, join_options, join, result_of}
 use Rattle.dr_partials.specs.Partials.{Group, Partial, lines, grouped, join_all, join_groups, insert_group, merge_groups, merge, empty_term, empty_groups, empty_selected, empty_partial}
 use Rattle.dr_partials.specs.PartialTypes.{expression_type, has_type, are_keys, is_accumulator, with_aggregate, aggregates_among, are_accumulators, is_group, ascends, is_one_without_keys, has_cells, has_lists, is_of_selection, is_partial}
-use Rattle.dr_partials.specs.PartialLaws.{MergeIsAssociative, MergeIsCommutative, EmptyMergesToSame, EmptyIsPartial, MergedIsPartial}
+use Rattle.dr_partials.specs.PartialLaws.{MergeIsAssociative, MergeIsCommutative, EmptyMergesToSame, EmptyIsPartial, MergedIsPartial, OneGroupWithoutKeys, CountIsNumber}
 use Rattle.dr_partials.proofs.AccumulatorLemmas.{OfOne, counts, sums, leasts, greatests, of_one, empty_left, empty_right}
 use Rattle.dr_partials.proofs.GroupLemmas.{Tuple, Ascending, ascending_groups, ascending_ascends, merged_ascends, OfKinds, AllOfKinds, merge_groups_assoc, merge_groups_comm, merge_groups_none}
 
@@ -316,3 +316,33 @@ merged_of fs (groups keys items) (grouped gs) (grouped hs) h k =
 pub merged_is_partial : MergedIsPartial
 unfolding is_partial
 merged_is_partial fs q p r h k = merged_of fs q.selection p r h k
+
+-- ---- without GROUP BY
+
+one_group : (fs : Fields) (items : List GroupItem) (p : Partial) → is_of_selection fs (groups [] items) p ≡ true → (g : Group) × (p ≡ grouped (g ∷ [])) × (g.keys ≡ [])
+one_group fs items (lines os) h = absurd (true≢false (sym h))
+one_group fs items (grouped []) h = absurd (true≢false (sym h))
+one_group fs items (grouped (g ∷ [])) h =
+    let a = are_groups fs [] items (g ∷ []) h in
+    let k = and_parts (is_group fs [] items g) true a.each in
+    let l = and_parts (are_keys fs [] g.keys) (are_accumulators fs (aggregates_among items) g.accumulators) k.0 in
+    (g, refl, no_keys fs g.keys l.0)
+one_group fs items (grouped (g ∷ i ∷ gs)) h = let a = are_groups fs [] items (g ∷ i ∷ gs) h in absurd (true≢false (sym a.one))
+
+pub one_group_without_keys : OneGroupWithoutKeys
+unfolding is_partial
+one_group_without_keys fs c items p h = one_group fs items p h
+
+counted_result : (x : Accumulator) → aggregate_of x ≡ count → (n : ℕ) × (result_of x ≡ count_value n)
+counted_result (counted n) h = (n, refl)
+counted_result (summed s) h = absurd (cc)
+counted_result (least_of v) h = absurd (cc)
+counted_result (greatest_of v) h = absurd (cc)
+
+pub count_is_number : CountIsNumber
+count_is_number fs (key i) h = absurd (true≢false (sym h))
+count_is_number fs count_rows h = (refl, λ x k. counted_result x (accumulator_kind fs count_rows x k))
+count_is_number fs (aggregate count e) h = (refl, λ x k. counted_result x (accumulator_kind fs (aggregate count e) x k))
+count_is_number fs (aggregate sum e) h = absurd (true≢false (sym h))
+count_is_number fs (aggregate least e) h = absurd (true≢false (sym h))
+count_is_number fs (aggregate greatest e) h = absurd (true≢false (sym h))

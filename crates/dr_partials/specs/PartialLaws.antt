@@ -1,16 +1,18 @@
 -- Laws of partials.
-use Rattle.std.specs.Prelude.{◌≡◌, List, [], ◌∷◌, ◌++◌, Bool, true, ◌&&◌, Ok}
+use Rattle.std.specs.Prelude.{◌≡◌, ℕ, List, [], ◌∷◌, ◌++◌, Bool, true, false, ◌&&◌, Option, Some, Ok}
 use Rattle.std.specs.List.{list_all}
 use Rattle.dr_meaning.specs.Schema.{Schema, Fields}
 use Rattle.dr_meaning.specs.Path.{Step, is_leaf_path}
 use Rattle.dr_meaning.specs.Record.{Node, is_record}
-use Rattle.dr_meaning.specs.Query.{GroupItem, Selection, objects, groups, Query, meaning}
+use Rattle.dr_meaning.specs.Expression.{Expression}
+use Rattle.dr_meaning.specs.Query.{count, GroupTerm, key, count_rows, aggregate, GroupItem, Selection, objects, groups, Query, count_value, meaning}
 use Rattle.dr_meaning.specs.MeaningLaws.{group_term_paths}
 use Rattle.dr_meaning.specs.Syntax.{QuerySyntax}
 use Rattle.dr_meaning.specs.BoundExpression.{are_related}
 use Rattle.dr_meaning.specs.Binding.{bind}
-use Rattle.dr_partials.specs.Partials.{Group, Partial, grouped, partial_of, Stands, merge, empty_partial, finished}
-use Rattle.dr_partials.specs.PartialTypes.{is_partial}
+use Rattle.dr_partials.specs.Accumulators.{Accumulator, counted, result_of}
+use Rattle.dr_partials.specs.Partials.{Group, Partial, grouped, partial_of, Stands, merge, empty_term, empty_partial, finished}
+use Rattle.dr_partials.specs.PartialTypes.{is_accumulator, is_partial}
 
 -- ---- of which queries partials can be merged: the repeated fields on their keys, and on an argument beside them, are nested in one another
 
@@ -46,6 +48,24 @@ EmptyStandsForNone = (fs : Fields) (q : Query) → Stands fs q [] (empty_partial
 abbrev pub MergedStands : Type 0
 MergedStands = (fs : Fields) (q : Query) (R S : List Node) (p r : Partial) → is_mergeable fs q ≡ true → list_all (is_record fs) R ≡ true
     → list_all (is_record fs) S ≡ true → Stands fs q R p → Stands fs q S r → Stands fs q (R ++ S) (merge p r)
+
+-- ---- without GROUP BY
+
+-- a partial of a query without GROUP BY is exactly one group, without keys
+abbrev pub OneGroupWithoutKeys : Type 0
+OneGroupWithoutKeys = (fs : Fields) (c : Option Expression) (items : List GroupItem) (p : Partial)
+    → is_partial fs (record { condition = c; selection = groups [] items }) p ≡ true → (g : Group) × (p ≡ grouped (g ∷ [])) × (g.keys ≡ [])
+
+abbrev pub is_count : GroupTerm → Bool
+is_count (key i) = false
+is_count count_rows = true
+is_count (aggregate count e) = true
+is_count (aggregate a e) = false
+
+-- a COUNT has gathered 0 of nothing, and a whole number in any partial: it is never NULL
+abbrev pub CountIsNumber : Type 0
+CountIsNumber = (fs : Fields) (t : GroupTerm) → is_count t ≡ true
+    → (empty_term t ≡ Some (counted 0)) × ((x : Accumulator) → is_accumulator fs t x ≡ true → (n : ℕ) × (result_of x ≡ count_value n))
 
 -- ---- merging partials of one query
 

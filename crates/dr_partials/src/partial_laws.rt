@@ -1,7 +1,7 @@
 // Laws of partials.
 
 ghost use Rattle.dr_partials.specs.PartialLaws.{BoundIsMergeable, FinishedPartialIsMeaning, EmptyStandsForNone, MergedStands, MergeIsAssociative};
-ghost use Rattle.dr_partials.specs.PartialLaws.{MergeIsCommutative, EmptyMergesToSame, EmptyIsPartial, MergedIsPartial};
+ghost use Rattle.dr_partials.specs.PartialLaws.{OneGroupWithoutKeys, CountIsNumber, MergeIsCommutative, EmptyMergesToSame, EmptyIsPartial, MergedIsPartial};
 
 /// The partial of records, finished, is what the query means on them.
 pub fn finished_partial_is_meaning()
@@ -28,4 +28,10 @@ pub fn partials_of_one_query_merge()
 /// The partials of each query that is bound can be merged.
 pub fn bound_queries_are_mergeable()
     ensures { BoundIsMergeable }
+{}
+
+/// Without GROUP BY there is exactly one group, and what a COUNT has gathered is a whole number: 0 of nothing, and never NULL.
+pub fn count_is_never_null()
+    ensures group { OneGroupWithoutKeys }
+    ensures number { CountIsNumber }
 {}
