@@ -1,8 +1,8 @@
 -- Partials of queries on the worked records, merged and finished, by computation.
 use Rattle.std.specs.Prelude.{◌≡◌, ℕ, List, [], ◌∷◌, ◌++◌, map, Bool, true, false, pos, Option, Some, None, codes, refl}
 use Rattle.dr_meaning.specs.Path.{Step}
-use Rattle.dr_meaning.specs.Record.{Value, int_value, text_value, Node}
-use Rattle.dr_meaning.specs.Expression.{Expression, constant, path_value, comparison, greater}
+use Rattle.dr_meaning.specs.Record.{Value, bool_value, int_value, text_value, Node}
+use Rattle.dr_meaning.specs.Expression.{Expression, constant, path_value, negative, arithmetic, plus, minus, times, comparison, less, greater, like, contains, is_null, negation, conjunction, disjunction}
 use Rattle.dr_meaning.specs.Query.{Aggregate, count, sum, least, greatest, RecordItem, expression, within, GroupItem, GroupTerm, key, count_rows, aggregate, Query, objects, groups, Object, no_entries, cell, list, no_objects, object, meaning}
 use Rattle.dr_meaning.proofs.WorkedSchemas.{document}
 use Rattle.dr_meaning.proofs.WorkedRecords.{record_10, record_20, record_30}
@@ -188,3 +188,74 @@ not_of_type = (refl, refl, refl, refl, refl, refl, refl, refl)
 pub not_ascending : (is_partial document by_country (grouped (us ∷ gb ∷ [])) ≡ false) × (is_partial document by_country (grouped (gb ∷ gb ∷ [])) ≡ false) × (is_partial document by_country (grouped (gb ∷ us ∷ [])) ≡ true)
 unfolding is_partial
 not_ascending = (refl, refl, refl)
+
+-- lines: each cell and each list stands at its place, under its name, and nothing behind; the objects of a list too
+abbrev cell_d : Object → Object
+cell_d o = cell (codes "d") (Some (whole 10)) o
+
+abbrev cell_u : Object → Object
+cell_u o = cell (codes "u") (Some (whole 2)) o
+
+abbrev of_lines : Object → Bool
+of_lines o = is_partial document of_each (lines (o ∷ []))
+
+pub forms_of_lines : (of_lines line_10 ≡ true) × (of_lines line_20 ≡ true) × (of_lines no_entries ≡ false) × (of_lines (cell_u (cell_d (list (codes "Links.Backward") no_objects no_entries))) ≡ false)
+    × (of_lines (cell_d (cell_u no_entries)) ≡ false) × (of_lines (cell_d (cell_u (cell (codes "Links.Backward") None no_entries))) ≡ false)
+    × (of_lines (list (codes "d") no_objects (cell_u (list (codes "Links.Backward") no_objects no_entries))) ≡ false)
+    × (of_lines (cell_d (cell_u (list (codes "Links.Forward") no_objects no_entries))) ≡ false)
+    × (of_lines (cell_d (cell_u (list (codes "Links.Backward") no_objects (cell_d no_entries)))) ≡ false)
+    × (of_lines (cell_d (cell_u (list (codes "Links.Backward") (object (cell (codes "b") None no_entries) no_objects) no_entries))) ≡ true)
+    × (of_lines (cell_d (cell_u (list (codes "Links.Backward") (object (cell (codes "b") None no_entries) (object no_entries no_objects)) no_entries))) ≡ false)
+    × (is_partial document of_each (lines (line_10 ∷ no_entries ∷ [])) ≡ false)
+unfolding is_partial
+forms_of_lines = (refl, refl, refl, refl, refl, refl, refl, refl, refl, refl, refl, refl)
+
+-- MIN of one expression, and whether this may be its least value
+abbrev least_fits : Expression → Value → Bool
+least_fits e v = is_partial document (record { condition = None; selection = groups [] (item (codes "m") (aggregate least e) ∷ []) }) (grouped (group [] (least_of (Some v) ∷ []) ∷ []))
+
+abbrev truth : Value
+truth = bool_value true
+
+abbrev a_text : Value
+a_text = text_value (codes "a")
+
+abbrev fits_which : Expression → List Bool
+fits_which e = least_fits e truth ∷ least_fits e (whole 1) ∷ least_fits e a_text ∷ []
+
+-- the least value of an expression is of its type: a truth value, a number, a text
+abbrev a_truth : List Bool
+a_truth = true ∷ false ∷ false ∷ []
+
+abbrev a_number : List Bool
+a_number = false ∷ true ∷ false ∷ []
+
+abbrev is_text : List Bool
+is_text = false ∷ false ∷ true ∷ []
+
+pub types_of_literals : (fits_which (constant truth) ≡ a_truth) × (fits_which (constant (whole 1)) ≡ a_number) × (fits_which (constant a_text) ≡ is_text)
+unfolding is_partial
+types_of_literals = (refl, refl, refl)
+
+pub types_of_paths : (fits_which (path_value doc_id) ≡ a_number) × (fits_which (path_value url) ≡ is_text) × (fits_which (path_value name) ≡ false ∷ false ∷ false ∷ [])
+unfolding is_partial
+types_of_paths = (refl, refl, refl)
+
+-- `+` joins texts; all other signs give numbers
+pub types_of_operators : (fits_which (arithmetic plus (path_value url) (path_value url)) ≡ is_text) × (fits_which (arithmetic plus (path_value doc_id) (constant (whole 1))) ≡ a_number)
+    × (fits_which (arithmetic minus (path_value doc_id) (constant (whole 1))) ≡ a_number) × (fits_which (arithmetic times (path_value doc_id) (constant (whole 1))) ≡ a_number)
+    × (fits_which (negative (path_value doc_id)) ≡ a_number)
+unfolding is_partial
+types_of_operators = (refl, refl, refl, refl, refl)
+
+pub types_of_tests : (fits_which (comparison less (path_value doc_id) (constant (whole 1))) ≡ a_truth) × (fits_which (like (path_value url) (codes "%")) ≡ a_truth) × (fits_which (contains (path_value url) []) ≡ a_truth)
+    × (fits_which (is_null (path_value url)) ≡ a_truth) × (fits_which (negation (constant truth)) ≡ a_truth) × (fits_which (conjunction (constant truth) (constant truth)) ≡ a_truth)
+    × (fits_which (disjunction (constant truth) (constant truth)) ≡ a_truth)
+unfolding is_partial
+types_of_tests = (refl, refl, refl, refl, refl, refl, refl)
+
+-- a key of a path that is no leaf's is NULL alone
+pub keys_of_no_leaf : (is_partial document (record { condition = None; selection = groups (name ∷ []) [] }) (grouped (group (None ∷ []) [] ∷ [])) ≡ true)
+    × (is_partial document (record { condition = None; selection = groups (name ∷ []) [] }) (grouped (group (Some (whole 1) ∷ []) [] ∷ [])) ≡ false)
+unfolding is_partial
+keys_of_no_leaf = (refl, refl)
