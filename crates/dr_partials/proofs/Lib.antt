@@ -11,6 +11,7 @@ pub mod GroupLemmas
 pub mod RowLemmas
 pub mod RelatedLemmas
 pub mod PartialLemmas
+pub mod ProjectedLemmas
 pub mod PartialTypeLemmas
 pub mod BoundLemmas
 -- lemmas of trees

@@ -1,12 +1,12 @@
 -- Laws of partials.
-use Rattle.std.specs.Prelude.{◌≡◌, ℕ, List, [], ◌∷◌, ◌++◌, Bool, true, false, ◌&&◌, Option, Some, Ok}
+use Rattle.std.specs.Prelude.{◌≡◌, ℕ, List, [], ◌∷◌, ◌++◌, map, Bool, true, false, ◌&&◌, Option, Some, Ok}
 use Rattle.std.specs.List.{list_all}
 use Rattle.dr_meaning.specs.Schema.{Schema, Fields}
 use Rattle.dr_meaning.specs.Path.{Step, is_leaf_path}
-use Rattle.dr_meaning.specs.Record.{Node, is_record}
+use Rattle.dr_meaning.specs.Record.{Node, is_record, project}
 use Rattle.dr_meaning.specs.Expression.{Expression}
 use Rattle.dr_meaning.specs.Query.{count, GroupTerm, key, count_rows, aggregate, GroupItem, Selection, objects, groups, Query, count_value, meaning}
-use Rattle.dr_meaning.specs.MeaningLaws.{group_term_paths}
+use Rattle.dr_meaning.specs.MeaningLaws.{group_term_paths, covers}
 use Rattle.dr_meaning.specs.Syntax.{QuerySyntax}
 use Rattle.dr_meaning.specs.BoundExpression.{are_related}
 use Rattle.dr_meaning.specs.Binding.{bind}
@@ -48,6 +48,11 @@ EmptyStandsForNone = (fs : Fields) (q : Query) → Stands fs q [] (empty_partial
 abbrev pub MergedStands : Type 0
 MergedStands = (fs : Fields) (q : Query) (R S : List Node) (p r : Partial) → is_mergeable fs q ≡ true → list_all (is_record fs) R ≡ true
     → list_all (is_record fs) S ≡ true → Stands fs q R p → Stands fs q S r → Stands fs q (R ++ S) (merge p r)
+
+-- of the projections of records to leaves that are enough for it a query has the partial that it has of the records
+abbrev pub PartialOfProjection : Type 0
+PartialOfProjection = (fs : Fields) (q : Query) (F : List (List Step)) (R : List Node) → covers F q ≡ true
+    → partial_of fs q (map (project F) R) ≡ partial_of fs q R
 
 -- ---- without GROUP BY
 

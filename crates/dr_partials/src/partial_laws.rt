@@ -1,11 +1,16 @@
 // Laws of partials.
 
-ghost use Rattle.dr_partials.specs.PartialLaws.{BoundIsMergeable, FinishedPartialIsMeaning, EmptyStandsForNone, MergedStands, MergeIsAssociative};
+ghost use Rattle.dr_partials.specs.PartialLaws.{BoundIsMergeable, FinishedPartialIsMeaning, PartialOfProjection, EmptyStandsForNone, MergedStands, MergeIsAssociative};
 ghost use Rattle.dr_partials.specs.PartialLaws.{OneGroupWithoutKeys, CountIsNumber, MergeIsCommutative, EmptyMergesToSame, EmptyIsPartial, MergedIsPartial};
 
 /// The partial of records, finished, is what the query means on them.
 pub fn finished_partial_is_meaning()
     ensures { FinishedPartialIsMeaning }
+{}
+
+/// Of projections to leaves that are enough for it a query has the partial of the records.
+pub fn projection_keeps_partial()
+    ensures { PartialOfProjection }
 {}
 
 /// A partial that stands for records, merged with one that stands for others, stands for both, one behind another. The empty partial
