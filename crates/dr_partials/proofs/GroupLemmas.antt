@@ -92,7 +92,7 @@ abbrev pub find : Tuple → List Group → Option (List Accumulator)
 find t [] = None
 find t (g ∷ gs) = if same_tuple t g.keys then Some g.accumulators else find t gs
 
-find_above : (t : Tuple) (gs : List Group) → AllAbove t gs → find t gs ≡ None
+pub find_above : (t : Tuple) (gs : List Group) → AllAbove t gs → find t gs ≡ None
 find_above t [] h = refl
 find_above t (g ∷ gs) h = ap (λ o. if is_eq o then Some g.accumulators else find t gs) h.0 ∙ find_above t gs h.1
 

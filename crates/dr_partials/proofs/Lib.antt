@@ -13,6 +13,7 @@ pub mod RelatedLemmas
 pub mod PartialLemmas
 pub mod ProjectedLemmas
 pub mod PartialTypeLemmas
+pub mod BoundsLemmas
 pub mod BoundLemmas
 -- lemmas of trees
 pub mod TreeLemmas

@@ -1,8 +1,11 @@
 -- What is gathered of values, joined, and given, by computation.
-use Rattle.std.specs.Prelude.{◌≡◌, ℕ, List, [], ◌∷◌, map, Bool, true, false, pos, neg_ℤ, Option, Some, None, codes, refl}
+use Rattle.std.proofs.Common.{arith, lit≤}
+use Rattle.std.specs.Prelude.{◌≡◌, ℕ, ◌+◌, ◌^◌, List, [], ◌∷◌, map, Bool, true, false, pos, neg_ℤ, Option, Some, None, codes, refl}
 use Rattle.dr_meaning.specs.Record.{Value, bool_value, int_value, text_value}
-use Rattle.dr_meaning.specs.Query.{Aggregate, count, sum, least, greatest}
+use Rattle.dr_meaning.specs.Query.{Aggregate, count, sum, least, greatest, no_entries}
 use Rattle.dr_partials.specs.Accumulators.{Accumulator, counted, summed, least_of, greatest_of, aggregate_of, empty_accumulator, join, take_value, take_row, accumulated, result_of}
+use Rattle.dr_partials.specs.Partials.{lines, grouped}
+use Rattle.dr_partials.specs.PartialBounds.{CanBeOf, PartialCanBeOf}
 
 abbrev all : List Aggregate
 all = count ∷ sum ∷ least ∷ greatest ∷ []
@@ -78,3 +81,19 @@ of_truths = refl
 
 pub kinds : map (λ a. aggregate_of (empty_accumulator a)) all ≡ all
 kinds = refl
+
+-- ---- of how many values
+
+-- a count is of as many at least, and a sum of 2^63 or less is of one
+pub of_two : CanBeOf 2 (counted 2) × CanBeOf 2 (summed (Some (pos (2 ^ 64)))) × CanBeOf 2 (summed (Some (neg_ℤ (pos (2 ^ 64))))) × CanBeOf 0 (summed None) × CanBeOf 0 (least_of (Some (whole 1)))
+of_two = (lit≤ tt, lit≤ tt, lit≤ tt, tt, tt)
+
+pub not_of_two : (CanBeOf 2 (counted 3) → ⊥) × (CanBeOf 2 (summed (Some (pos (2 ^ 64 + 1)))) → ⊥) × (CanBeOf 2 (summed (Some (neg_ℤ (pos (2 ^ 64 + 1))))) → ⊥)
+not_of_two = (λ h. omega (arith, h), λ h. omega (arith, h), λ h. omega (arith, h))
+
+-- of groups each accumulator, of lines nothing
+pub partial_of_one : PartialCanBeOf 1 (grouped (record { keys = []; accumulators = counted 1 ∷ counted 0 ∷ [] } ∷ record { keys = None ∷ []; accumulators = counted 1 ∷ [] } ∷ [])) × PartialCanBeOf 0 (lines (no_entries ∷ []))
+partial_of_one = (((lit≤ tt, (lit≤ tt, tt)), ((lit≤ tt, tt), tt)), tt)
+
+pub not_of_one : (PartialCanBeOf 1 (grouped (record { keys = []; accumulators = counted 1 ∷ counted 2 ∷ [] } ∷ [])) → ⊥) × (PartialCanBeOf 1 (grouped (record { keys = []; accumulators = [] } ∷ record { keys = None ∷ []; accumulators = counted 2 ∷ [] } ∷ [])) → ⊥)
+not_of_one = (λ h. let k = h.0.1.0 in omega (arith, k), λ h. let k = h.1.0.0 in omega (arith, k))

@@ -4,6 +4,7 @@ pub mod Accumulators
 -- what a query gives on some of the records, merged with what it gives on others; which partials are those of a query
 pub mod Partials
 pub mod PartialTypes
+pub mod PartialBounds
 -- serving trees, and the queries of their servers
 pub mod Trees
 pub mod Rewriting

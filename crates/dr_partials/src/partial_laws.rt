@@ -1,6 +1,7 @@
 // Laws of partials.
 
 ghost use Rattle.dr_partials.specs.PartialLaws.{BoundIsMergeable, FinishedPartialIsMeaning, PartialOfProjection, EmptyStandsForNone, MergedStands, MergeIsAssociative};
+ghost use Rattle.dr_partials.specs.PartialBounds.{BoundsAddUp};
 ghost use Rattle.dr_partials.specs.PartialLaws.{OneGroupWithoutKeys, CountIsNumber, MergeIsCommutative, EmptyMergesToSame, EmptyIsPartial, MergedIsPartial};
 
 /// The partial of records, finished, is what the query means on them.
@@ -39,4 +40,9 @@ pub fn bound_queries_are_mergeable()
 pub fn count_is_never_null()
     ensures group { OneGroupWithoutKeys }
     ensures number { CountIsNumber }
+{}
+
+/// What is merged of a partial of m values and one of n can be of m + n.
+pub fn bounds_add_up()
+    ensures { BoundsAddUp }
 {}
