@@ -1,0 +1,34 @@
+-- What has to hold so that serving means the query on the table's records.
+use Rattle.std.specs.Prelude.{◌≡◌, ℕ, suc, ⊤, List, [], ◌∷◌, Option, Some, None, ◌⊎◌}
+use Rattle.dr_meaning.specs.Schema.{Schema}
+use Rattle.dr_meaning.specs.Path.{Leaf}
+use Rattle.dr_meaning.specs.Record.{Node}
+use Rattle.dr_formats.specs.File.{IsFileOf}
+use Rattle.dr_outside.specs.Link.{Files}
+use Rattle.dr_serving.specs.Held.{Held, untold, absent, present, held_file}
+
+-- the link tells what it holds: at each path what these files have
+abbrev pub TellsFiles : Files → Option Files → Type 0
+TellsFiles files None = ⊥
+TellsFiles files (Some told) = (path : List ℕ) → told path ≡ files path
+
+-- all links tell what they hold, and one path holds the same for all
+abbrev pub AllTell : Files → List (Option Files) → Type 0
+AllTell files [] = ⊤
+AllTell files (link ∷ links) = TellsFiles files link × AllTell files links
+
+-- what is held is a file of these records for these leaves, or bytes that are no such file of any records, or nothing
+abbrev pub HoldsRecords : Schema → List Leaf → List Node → Held → Type 0
+HoldsRecords s F R untold = ⊥
+HoldsRecords s F R absent = ⊤
+HoldsRecords s F R (present bytes) = IsFileOf bytes s F R ⊎ ((S : List Node) → IsFileOf bytes s F S → ⊥)
+
+-- at each of these paths
+abbrev pub PathsHold : Schema → List Leaf → List Node → Files → List (List ℕ) → Type 0
+PathsHold s F R files [] = ⊤
+PathsHold s F R files (path ∷ paths) = HoldsRecords s F R (held_file (files path)) × PathsHold s F R files paths
+
+-- for each of these tablets, the first of which is the tth: each of its leaves holds so its records
+abbrev pub TabletsHold : Schema → List Leaf → (ℕ → List Node) → Files → ℕ → List (List (List ℕ)) → Type 0
+TabletsHold s F R files t [] = ⊤
+TabletsHold s F R files t (paths ∷ rest) = PathsHold s F (R t) files paths × TabletsHold s F R files (suc t) rest

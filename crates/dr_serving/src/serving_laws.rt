@@ -1,0 +1,14 @@
+// Laws of serving.
+
+ghost use Rattle.dr_serving.specs.ServingLaws.{TrueOfTabletStands, FinishedMeansQuery};
+
+/// Where all links tell what they hold, and each leaf of a tablet holds a file of its records, or none of any, a piece that is true of the
+/// tablet stands for the leaf query on its records.
+pub fn true_piece_stands_for_records()
+    ensures { TrueOfTabletStands }
+{}
+
+/// Then what serving is finished with is, finished, what the query means on the records of all tablets.
+pub fn finished_serving_means_query()
+    ensures { FinishedMeansQuery }
+{}
