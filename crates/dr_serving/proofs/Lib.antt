@@ -1,2 +1,4 @@
+-- worked examples
+pub mod WorkedServing
 -- lemmas of the laws
 pub mod ServingLemmas

@@ -29,8 +29,8 @@ use Rattle.dr_partials.proofs.TreeLemmas.{gathered_stands}
 use Rattle.dr_serving.specs.Held.{Held, untold, absent, present, held_file, held_at, held_on, held_by_all, IsHeld, IsUntold}
 use Rattle.dr_serving.specs.Truth.{TabletTruth, leaves_of, StandsForFile, IsTrueOf}
 use Rattle.dr_serving.specs.Outcome.{Service, service_leaves, truth_of, AreTrueFrom, IsFinished}
-use Rattle.dr_serving.specs.Premises.{TellsFiles, AllTell, HoldsRecords, PathsHold, TabletsHold}
-use Rattle.dr_serving.specs.ServingLaws.{paths_of_leaves, HasEnoughLeaves, EachHolds, TrueOfTabletStands, ServesRecords, all_records, FinishedMeansQuery}
+use Rattle.dr_serving.specs.Premises.{TellsFiles, AllTell, HoldsRecords, PathsHold, TabletsHold, paths_of_leaves, ServesRecords, all_records}
+use Rattle.dr_serving.specs.ServingLaws.{HasEnoughLeaves, EachHolds, TrueOfTabletStands, FinishedMeansQuery}
 
 -- ---- records of which the same bytes are a file have the same projections
 

@@ -1,11 +1,17 @@
 -- What has to hold so that serving means the query on the table's records.
-use Rattle.std.specs.Prelude.{◌≡◌, ℕ, suc, ⊤, List, [], ◌∷◌, Option, Some, None, ◌⊎◌}
+use Rattle.std.specs.Prelude.{◌≡◌, ℕ, suc, ⊤, true, List, [], ◌∷◌, map, length, Option, Some, None, ◌⊎◌}
+use Rattle.std.specs.List.{range_with_len}
 use Rattle.dr_meaning.specs.Schema.{Schema}
-use Rattle.dr_meaning.specs.Path.{Leaf}
+use Rattle.dr_meaning.specs.Path.{Step, Leaf}
 use Rattle.dr_meaning.specs.Record.{Node}
+use Rattle.dr_meaning.specs.MeaningLaws.{covers}
 use Rattle.dr_formats.specs.File.{IsFileOf}
 use Rattle.dr_outside.specs.Link.{Files}
+use Rattle.dr_partials.specs.PartialLaws.{is_mergeable}
+use Rattle.dr_partials.specs.TreeLaws.{records_of}
+use Rattle.dr_partials.specs.Rewriting.{leaf_query}
 use Rattle.dr_serving.specs.Held.{Held, untold, absent, present, held_file}
+use Rattle.dr_serving.specs.Outcome.{Service, service_leaves}
 
 -- the link tells what it holds: at each path what these files have
 abbrev pub TellsFiles : Files → Option Files → Type 0
@@ -32,3 +38,19 @@ PathsHold s F R files (path ∷ paths) = HoldsRecords s F R (held_file (files pa
 abbrev pub TabletsHold : Schema → List Leaf → (ℕ → List Node) → Files → ℕ → List (List (List ℕ)) → Type 0
 TabletsHold s F R files t [] = ⊤
 TabletsHold s F R files t (paths ∷ rest) = PathsHold s F (R t) files paths × TabletsHold s F R files (suc t) rest
+
+abbrev pub paths_of_leaves : List Leaf → List (List Step)
+paths_of_leaves F = map (λ (l : Leaf). l.path) F
+
+-- the premises of serving: all links tell what they hold, one path holds the same for all, and each leaf of a tablet holds its records, if
+-- any; the leaves that the leaf query uses are enough for it, and the query's partials can be merged
+pub record ServesRecords (s : Service) (R : ℕ → List Node) : Type 0 where
+  pub files : Files
+  pub told : AllTell files (s.first_link ∷ s.other_links)
+  pub held : TabletsHold s.schema (service_leaves s) R files 0 s.tablets
+  pub enough : covers (paths_of_leaves (service_leaves s)) (leaf_query s.query) ≡ true
+  pub mergeable : is_mergeable s.schema.fields s.query ≡ true
+
+-- the records of all tablets, in order
+abbrev pub all_records : Service → (ℕ → List Node) → List Node
+all_records s R = records_of R (range_with_len 0 (length s.tablets))

@@ -13,11 +13,8 @@ use Rattle.dr_partials.specs.TreeLaws.{records_of}
 use Rattle.dr_partials.specs.Rewriting.{leaf_query}
 use Rattle.dr_serving.specs.Held.{Held}
 use Rattle.dr_serving.specs.Truth.{TabletTruth, leaves_of, IsTrueOf}
-use Rattle.dr_serving.specs.Outcome.{Service, service_leaves, IsFinished}
-use Rattle.dr_serving.specs.Premises.{AllTell, HoldsRecords, TabletsHold}
-
-abbrev pub paths_of_leaves : List Leaf → List (List Step)
-paths_of_leaves F = map (λ (l : Leaf). l.path) F
+use Rattle.dr_serving.specs.Outcome.{Service, IsFinished}
+use Rattle.dr_serving.specs.Premises.{paths_of_leaves, HoldsRecords, ServesRecords, all_records}
 
 -- the leaves that a query uses are enough for it
 abbrev pub HasEnoughLeaves : TabletTruth → Type 0
@@ -33,20 +30,8 @@ abbrev pub TrueOfTabletStands : Type 0
 TrueOfTabletStands = (truth : TabletTruth) (R : List Node) (p : Partial) → HasEnoughLeaves truth → EachHolds truth R truth.held → IsTrueOf truth p
     → Stands truth.schema.fields truth.query R p
 
--- the premises of serving: all links tell what they hold, one path holds the same for all, and each leaf of a tablet holds its records, so
--- far as it holds a file; the leaf query has enough leaves, and the query's partials can be merged
-pub record ServesRecords (s : Service) (R : ℕ → List Node) : Type 0 where
-  pub files : Files
-  pub told : AllTell files (s.first_link ∷ s.other_links)
-  pub held : TabletsHold s.schema (service_leaves s) R files 0 s.tablets
-  pub enough : covers (paths_of_leaves (service_leaves s)) (leaf_query s.query) ≡ true
-  pub mergeable : is_mergeable s.schema.fields s.query ≡ true
-
--- the records of all tablets, in order
-abbrev pub all_records : Service → (ℕ → List Node) → List Node
-all_records s R = records_of R (range_with_len 0 (length s.tablets))
-
--- then what serving is finished with stands for the query on all records, each tablet's once, and finished it is what the query means on them
+-- under the premises what serving is finished with stands for the query on all records, each tablet's once; and, finished, it is what the
+-- query means on them
 abbrev pub FinishedMeansQuery : Type 0
 FinishedMeansQuery = (s : Service) (R : ℕ → List Node) (tree : Tree) (p : Partial) → ServesRecords s R → IsFinished s tree p
     → Stands s.schema.fields s.query (all_records s R) p × (finished s.query p ≡ meaning s.schema.fields s.query (all_records s R))
