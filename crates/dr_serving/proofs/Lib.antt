@@ -2,3 +2,4 @@
 pub mod WorkedServing
 -- lemmas of the laws
 pub mod ServingLemmas
+pub mod PieceLemmas

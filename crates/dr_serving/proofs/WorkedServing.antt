@@ -24,6 +24,7 @@ use Rattle.dr_serving.specs.Held.{Held, untold, absent, present, held_at, held_o
 use Rattle.dr_serving.specs.Truth.{TabletTruth, leaves_of, StandsForFile, IsTrueOf}
 use Rattle.dr_serving.specs.Causes.{HeldHasCause, IsJustified, AreJustified, RisesApart}
 use Rattle.dr_serving.specs.Outcome.{Service, service_leaves, truth_of, LeftTablet, LeavesJust, no_tablets, has_piece, is_left, AreTrueFrom, IsFinished, IsUnfinished}
+use Rattle.dr_serving.specs.Pieces.{TabletPiece, paths_at, IsTrueAt, kept_partial}
 use Rattle.dr_serving.specs.Premises.{AllTell, HoldsRecords, ServesRecords}
 use Rattle.dr_serving.specs.ServingLaws.{HasEnoughLeaves}
 use Rattle.dr_serving.proofs.ServingLemmas.{true_of_tablet_stands, finished_means_query}
@@ -223,6 +224,21 @@ of_two = piece_of (counted 2 ∷ summed (Some (pos 2)) ∷ [])
 pub two_are_finished : IsFinished (service both_held) (of_fan 2 2) of_two
 unfolding of_fan merge
 two_are_finished = (λ t. one_piece, refl, (true_piece (held_by_all (Some files ∷ Some files ∷ []) (path_b ∷ path_a ∷ [])) (inr (inl refl)), (true_piece (held_by_all (Some files ∷ Some files ∷ []) (path_a ∷ [])) (inl refl), tt)), refl)
+
+-- ---- kept pieces
+
+abbrev kept : List TabletPiece
+kept = record { tablet = 4; partial = one_piece } ∷ record { tablet = 2; partial = of_two } ∷ []
+
+pub kept_of_tablets : (kept_partial kept 2 ≡ of_two) × (kept_partial kept 4 ≡ one_piece) × (kept_partial kept 0 ≡ lines [])
+kept_of_tablets = (refl, refl, refl)
+
+pub paths_of_tablets : (paths_at two_tablets 1 ≡ path_b ∷ path_c ∷ []) × (paths_at two_tablets 0 ≡ path_b ∷ path_a ∷ []) × (paths_at two_tablets 2 ≡ [])
+paths_of_tablets = (refl, refl, refl)
+
+-- the piece of one record is true of the first of the two tablets
+pub true_at_first : IsTrueAt (service two_tablets) 0 (record { tablet = 0; partial = one_piece })
+true_at_first = true_piece (held_by_all (Some files ∷ Some files ∷ []) (path_b ∷ path_a ∷ [])) (inr (inl refl))
 
 -- ---- premises
 

@@ -6,6 +6,7 @@ pub mod Truth
 pub mod Causes
 -- what serving ends with
 pub mod Outcome
+pub mod Pieces
 -- what has to hold of links and tablets
 pub mod Premises
 -- laws, each proved on a law function of src/

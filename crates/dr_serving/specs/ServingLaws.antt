@@ -1,19 +1,24 @@
 -- Laws of serving.
-use Rattle.std.specs.Prelude.{◌≡◌, ℕ, ◌+◌, ⊤, true, List, [], ◌∷◌, map, length}
-use Rattle.std.specs.List.{range_with_len}
-use Rattle.dr_meaning.specs.Path.{Step, Leaf}
+use Rattle.std.specs.Prelude.{◌≡◌, ℕ, ◌<◌, ⊤, Bool, true, false, List, [], ◌∷◌, length}
+use Rattle.dr_meaning.specs.Schema.{Schema}
+use Rattle.dr_meaning.specs.Path.{Leaf}
 use Rattle.dr_meaning.specs.Record.{Node}
 use Rattle.dr_meaning.specs.Query.{Query, meaning}
 use Rattle.dr_meaning.specs.MeaningLaws.{covers}
-use Rattle.dr_outside.specs.Link.{Files}
+use Rattle.dr_formats.specs.File.{IsFileOf}
+use Rattle.dr_outside.specs.declared.cause.Cause.{Cause}
+use Rattle.dr_outside.specs.declared.cause.Cause.TheVariants.{ReadFailed, BadFooter, BadSchema, BadCodec, BadData}
+use Rattle.dr_dispatch.specs.Job.{Job}
+use Rattle.dr_dispatch.specs.History.{has_answer}
+use Rattle.dr_dispatch.specs.Pieces.{KeepsPieces}
+use Rattle.dr_dispatch.specs.declared.event.Event.{Event}
 use Rattle.dr_partials.specs.Partials.{Partial, Stands, finished}
-use Rattle.dr_partials.specs.PartialLaws.{is_mergeable}
 use Rattle.dr_partials.specs.Trees.{Tree}
-use Rattle.dr_partials.specs.TreeLaws.{records_of}
-use Rattle.dr_partials.specs.Rewriting.{leaf_query}
-use Rattle.dr_serving.specs.Held.{Held}
+use Rattle.dr_serving.specs.Held.{Held, present}
 use Rattle.dr_serving.specs.Truth.{TabletTruth, leaves_of, IsTrueOf}
-use Rattle.dr_serving.specs.Outcome.{Service, IsFinished}
+use Rattle.dr_serving.specs.Causes.{IsJustified}
+use Rattle.dr_serving.specs.Outcome.{Service, AreTrueFrom, IsFinished}
+use Rattle.dr_serving.specs.Pieces.{TabletPiece, IsTrueAt, kept_partial}
 use Rattle.dr_serving.specs.Premises.{paths_of_leaves, HoldsRecords, ServesRecords, all_records}
 
 -- the leaves that a query uses are enough for it
@@ -35,3 +40,22 @@ TrueOfTabletStands = (truth : TabletTruth) (R : List Node) (p : Partial) → Has
 abbrev pub FinishedMeansQuery : Type 0
 FinishedMeansQuery = (s : Service) (R : ℕ → List Node) (tree : Tree) (p : Partial) → ServesRecords s R → IsFinished s tree p
     → Stands s.schema.fields s.query (all_records s R) p × (finished s.query p ≡ meaning s.schema.fields s.query (all_records s R))
+
+-- where the kept pieces of a history are true and each tablet has an answer, the piece that is kept of each is true of it
+abbrev pub KeptPiecesAreTrue : Type 0
+KeptPiecesAreTrue = (s : Service) (j : Job) (history : List Event) (pieces : List TabletPiece)
+    → KeepsPieces j (λ (p : TabletPiece). p.tablet) (IsTrueAt s) history pieces
+    → ((t : ℕ) → t < length s.tablets → has_answer history t ≡ true) → AreTrueFrom s (kept_partial pieces) 0 s.tablets
+
+-- whether a cause is a failed read
+abbrev pub is_read : Cause → Bool
+is_read (ReadFailed before after) = true
+is_read BadFooter = false
+is_read BadSchema = false
+is_read BadCodec = false
+is_read BadData = false
+
+-- a leaf whose cause isn't a failed read holds no file of any records
+abbrev pub OtherCausesHoldNoFile : Type 0
+OtherCausesHoldNoFile = (s : Schema) (F : List Leaf) (bytes : List ℕ) (c : Cause) (R : List Node) → is_read c ≡ false
+    → IsJustified s F (present bytes) c → IsFileOf bytes s F R → ⊥
