@@ -14,6 +14,7 @@ pub mod PartialLemmas
 pub mod ProjectedLemmas
 pub mod PartialTypeLemmas
 pub mod BoundsLemmas
+pub mod TypedLemmas
 pub mod BoundLemmas
 -- lemmas of trees
 pub mod TreeLemmas

@@ -244,7 +244,7 @@ greatest_typed : (fs : Fields) (t : GroupTerm) (v w : Option Value) → is_accum
 greatest_typed fs (aggregate greatest e) v w h k = better_typed larger larger_is (expression_type fs e) v w h k
 greatest_typed fs _ v w h k = h
 
-joined_of : (fs : Fields) (t : GroupTerm) (x y : Accumulator) → OfOne x y → is_accumulator fs t x ≡ true → is_accumulator fs t y ≡ true → is_accumulator fs t (join x y) ≡ true
+pub joined_of : (fs : Fields) (t : GroupTerm) (x y : Accumulator) → OfOne x y → is_accumulator fs t x ≡ true → is_accumulator fs t y ≡ true → is_accumulator fs t (join x y) ≡ true
 joined_of fs t _ _ (counts m n) h k = count_typed fs t m (m + n) h
 joined_of fs t _ _ (sums r s) h k = sum_typed fs t r (join_options (λ x y. x +ℤ y) r s) h
 joined_of fs t _ _ (leasts v w) h k = least_typed fs t v w h k

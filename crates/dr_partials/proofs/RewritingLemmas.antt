@@ -2,7 +2,7 @@
 use Rattle.std.proofs.Common.{◌≡◌, ◌≤◌, ℕ, zero, suc, ◌+◌, List, [], ◌∷◌, ◌++◌, map, length, Bool, true, false, ◌&&◌, ◌||◌, Option, Some, None, cond, refl, sym, ap, ap₂, ◌∙◌, subst, true≢false, append_assoc, append-nil, arith}
 use Rattle.std.specs.Prelude.{if◌then◌else◌, ℤ, pos, ◌+ℤ◌, filter, codes}
 use Rattle.std.specs.Fmt.{decimal}
-use Rattle.std.specs.List.{filter_map, flat_map, cons_option, list_all, range_with_len}
+use Rattle.std.specs.List.{filter_map, flat_map, cons_option, list_all, list_any, range_with_len}
 use Rattle.std.specs.Ordering.{is_eq, match_ordering}
 use Rattle.std.specs.declared.cmp.Ordering.{Ordering}
 use Rattle.std.specs.declared.cmp.Ordering.TheVariants.{Less, Equal, Greater}
@@ -15,22 +15,23 @@ use Rattle.std.proofs.lemmas.List.Elements.{filter_map-append}
 use Rattle.std.proofs.lemmas.List.Folds.{list_all-append}
 use Rattle.std.proofs.lemmas.Simd.{map-map}
 use Rattle.dr_meaning.specs.Schema.{Fields, no_fields, optional}
-use Rattle.dr_meaning.specs.Path.{Step, longer, level, begins_with}
+use Rattle.dr_meaning.specs.Path.{Step, Leaf, same_path, leaves, longer, level, begins_with}
 use Rattle.dr_meaning.specs.Record.{Value, int_value, Node, no_slots, slot, Instances, no_instances, instances_at, is_record, inner}
 use Rattle.dr_meaning.specs.Rows.{rows, first_value, value_in, value_at}
 use Rattle.dr_meaning.specs.Expression.{Expression, path_value, evaluate, expression_level, longest_level}
 use Rattle.dr_meaning.specs.Kept.{kept}
 use Rattle.dr_meaning.specs.Query.{Aggregate, count, sum, least, greatest, integer_sum, GroupTerm, key, count_rows, aggregate, RecordItem, GroupItem, Selection, objects, groups, Query, Object, cell, nth_value, Levels, levels_of, record_object, key_tuple, tuple_order, insert_tuple, distinct_tuples, group_tuples, group_rows, selected, meaning}
-use Rattle.dr_meaning.specs.MeaningLaws.{group_term_paths}
+use Rattle.dr_meaning.specs.MeaningLaws.{condition_paths, group_term_paths}
+use Rattle.dr_meaning.specs.QueryLeaves.{selection_values, in_reading_order, query_leaves}
 use Rattle.dr_meaning.specs.BoundExpression.{are_related}
 use Rattle.dr_partials.specs.Accumulators.{Accumulator, counted, summed, least_of, greatest_of, aggregate_of, empty_accumulator, accumulator_of_cell, join_options, join, accumulated, result_of}
 use Rattle.dr_partials.specs.Partials.{Group, Partial, lines, grouped, term_accumulator, group_of, selected_partial, partial_of, join_all, join_groups, insert_group, merge_groups, merge, item_value, behind_item, group_row, finished_selection, finished}
-use Rattle.dr_partials.specs.PartialTypes.{with_aggregate, aggregates_among}
+use Rattle.dr_partials.specs.PartialTypes.{with_aggregate, aggregates_among, are_keys, are_accumulators, ascends, is_one_without_keys, is_of_selection, is_partial}
 use Rattle.dr_partials.specs.PartialLaws.{all_related, is_mergeable_selection, is_mergeable}
 use Rattle.dr_partials.specs.Trees.{Tree, leaf_server, intermediate_server, Trees, no_trees, next_tree, tablets_of, tablets_of_all}
 use Rattle.dr_partials.specs.TreeLaws.{records_of}
 use Rattle.dr_partials.specs.Rewriting.{key_items, aggregate_items, leaf_selection, leaf_query, Merging, by_query, column, key_columns, merging_aggregate, merging_term, merging_terms, inner_selection, inner_query, column_behind, root_items, root_selection, root_query, cell_instances, row_record, merged_results, tree_answer, trees_answer, root_answer}
-use Rattle.dr_partials.specs.RewritingLaws.{LeafHasPartials, RootMeansQuery}
+use Rattle.dr_partials.specs.RewritingLaws.{LeafHasPartials, LeafHasSamePartials, LeafUsesSameLeaves}
 use Rattle.dr_partials.proofs.AccumulatorLemmas.{OfOne, counts, sums, leasts, greatests, of_one, empty_right, cell_aggregate, accumulated_aggregate}
 use Rattle.dr_partials.proofs.GroupLemmas.{Tuple, same_tuple, same_itself, AllAbove, Ascending, OfKinds, AllOfKinds, groups_at, distinct_ascends}
 use Rattle.dr_partials.proofs.RowLemmas.{Each, each_append, each_map, SingleIn, SingleAll, records_single, single_kept}
@@ -121,6 +122,41 @@ leaf_selected (groups keys items) ls ns = same_groups keys (key_items 0 keys ++ 
 pub leaf_has_partials : LeafHasPartials
 unfolding leaf_query partial_of
 leaf_has_partials fs q R = leaf_selected q.selection (levels_of fs) (filter_map (kept q.condition) R)
+
+same_partials : (fs : Fields) (s : Selection) (p : Partial) → is_of_selection fs (leaf_selection s) p ≡ is_of_selection fs s p
+same_partials fs (objects items) p = refl
+same_partials fs (groups keys items) (lines os) = refl
+same_partials fs (groups keys items) (grouped gs) =
+    ap (λ ts. list_all (λ (g : Group). are_keys fs keys g.keys && are_accumulators fs ts g.accumulators) gs && ascends (map (λ (g : Group). g.keys) gs) && is_one_without_keys keys gs) (leaf_aggregates keys items)
+
+pub leaf_has_same_partials : LeafHasSamePartials
+unfolding leaf_query is_partial
+leaf_has_same_partials fs q p = same_partials fs q.selection p
+
+abbrev items_values : List GroupItem → List (List Step)
+items_values items = flat_map (λ (i : GroupItem). group_term_paths i.term) items
+
+keys_have_no_paths : (n : ℕ) (ks : List (List Step)) (items : List GroupItem) → items_values (key_items n ks ++ items) ≡ items_values items
+keys_have_no_paths n [] items = refl
+keys_have_no_paths n (k ∷ ks) items = keys_have_no_paths (suc n) ks items
+
+aggregates_paths : (items : List GroupItem) (n : ℕ) → items_values (aggregate_items n (aggregates_among items)) ≡ items_values items
+aggregates_paths [] n = refl
+aggregates_paths (i ∷ items) n = by_term i.term (aggregates_paths items)
+  where
+    by_term : (t : GroupTerm) → ((m : ℕ) → items_values (aggregate_items m (aggregates_among items)) ≡ items_values items) → items_values (aggregate_items n (with_aggregate t (aggregates_among items))) ≡ group_term_paths t ++ items_values items
+    by_term (key j) r = r n
+    by_term count_rows r = r (suc n)
+    by_term (aggregate a e) r = ap (λ ps. group_term_paths (aggregate a e) ++ ps) (r (suc n))
+
+pub leaf_values : (s : Selection) → selection_values (leaf_selection s) ≡ selection_values s
+leaf_values (objects items) = refl
+leaf_values (groups keys items) = ap (λ ps. keys ++ ps) (keys_have_no_paths 0 keys (aggregate_items 0 (aggregates_among items)) ∙ aggregates_paths items 0)
+
+pub leaf_uses_same_leaves : LeafUsesSameLeaves
+unfolding leaf_query query_leaves
+leaf_uses_same_leaves fs q =
+    ap (λ ps. in_reading_order fs (filter (λ (l : Leaf). list_any (same_path l.path) (condition_paths q.condition ++ ps)) (leaves fs))) (leaf_values q.selection)
 
 -- ---- which aggregates are gathered, and how many keys there are
 

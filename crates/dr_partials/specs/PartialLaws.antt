@@ -40,6 +40,11 @@ BoundIsMergeable = (s : Schema) (q : QuerySyntax) (b : Query) → bind s q ≡ O
 abbrev pub FinishedPartialIsMeaning : Type 0
 FinishedPartialIsMeaning = (fs : Fields) (q : Query) (R : List Node) → finished q (partial_of fs q R) ≡ meaning fs q R
 
+-- the partial of records of the schema is a partial of a query that is bound
+abbrev pub RecordsHavePartials : Type 0
+RecordsHavePartials = (s : Schema) (q : QuerySyntax) (b : Query) (R : List Node) → bind s q ≡ Ok b → list_all (is_record s.fields) R ≡ true
+    → is_partial s.fields b (partial_of s.fields b R) ≡ true
+
 -- the empty partial stands for no records
 abbrev pub EmptyStandsForNone : Type 0
 EmptyStandsForNone = (fs : Fields) (q : Query) → Stands fs q [] (empty_partial q)

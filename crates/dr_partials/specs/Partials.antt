@@ -34,9 +34,11 @@ term_accumulator keys t ns count_rows = Some (counted (length (group_rows keys t
 term_accumulator keys t ns (aggregate a e) =
     Some (accumulated a (map (evaluate e) (group_rows keys t (longer (longest_level keys) (expression_level e)) ns)))
 
+-- the group of a key tuple
 abbrev pub group_of : List (List Step) → List GroupItem → List Node → List (Option Value) → Group
 group_of keys items ns t = record { keys = t; accumulators = filter_map (λ (i : GroupItem). term_accumulator keys t ns i.term) items }
 
+-- of the records that a condition leaves: their objects, or their groups
 abbrev pub selected_partial : Selection → Levels → List Node → Partial
 selected_partial (objects items) ls ns = lines (map (record_object items ls) ns)
 selected_partial (groups keys items) ls ns = grouped (map (group_of keys items ns) (group_tuples keys ns))
@@ -51,12 +53,13 @@ Stands fs q ns p = p ≡ partial_of fs q ns
 
 -- ---- merging
 
--- the accumulators of two groups of one key tuple, one with one
+-- the accumulators of two groups, one with one
 abbrev pub join_all : List Accumulator → List Accumulator → List Accumulator
 join_all [] ys = []
 join_all (x ∷ xs) [] = []
 join_all (x ∷ xs) (y ∷ ys) = join x y ∷ join_all xs ys
 
+-- two groups of one key tuple
 abbrev pub join_groups : Group → Group → Group
 join_groups g h = record { keys = g.keys; accumulators = join_all g.accumulators h.accumulators }
 

@@ -4,7 +4,9 @@ use Rattle.std.specs.List.{list_all}
 use Rattle.dr_meaning.specs.Schema.{Fields}
 use Rattle.dr_meaning.specs.Record.{Node, is_record}
 use Rattle.dr_meaning.specs.Query.{Query, meaning}
-use Rattle.dr_partials.specs.Partials.{partial_of}
+use Rattle.dr_meaning.specs.QueryLeaves.{query_leaves}
+use Rattle.dr_partials.specs.Partials.{Partial, partial_of}
+use Rattle.dr_partials.specs.PartialTypes.{is_partial}
 use Rattle.dr_partials.specs.PartialLaws.{is_mergeable}
 use Rattle.dr_partials.specs.Trees.{Tree, tablets_of}
 use Rattle.dr_partials.specs.TreeLaws.{records_of}
@@ -13,6 +15,13 @@ use Rattle.dr_partials.specs.Rewriting.{leaf_query, root_answer}
 -- the leaf query has the partials of the query
 abbrev pub LeafHasPartials : Type 0
 LeafHasPartials = (fs : Fields) (q : Query) (R : List Node) → partial_of fs (leaf_query q) R ≡ partial_of fs q R
+
+-- and the same partials are partials of both; it uses the same leaves
+abbrev pub LeafHasSamePartials : Type 0
+LeafHasSamePartials = (fs : Fields) (q : Query) (p : Partial) → is_partial fs (leaf_query q) p ≡ is_partial fs q p
+
+abbrev pub LeafUsesSameLeaves : Type 0
+LeafUsesSameLeaves = (fs : Fields) (q : Query) → query_leaves fs (leaf_query q) ≡ query_leaves fs q
 
 -- whatever the tree, the root query over the inner queries over the leaf query gives what the query means on the records of all tablets
 abbrev pub RootMeansQuery : Type 0

@@ -1,6 +1,6 @@
 // Laws of partials.
 
-ghost use Rattle.dr_partials.specs.PartialLaws.{BoundIsMergeable, FinishedPartialIsMeaning, PartialOfProjection, EmptyStandsForNone, MergedStands, MergeIsAssociative};
+ghost use Rattle.dr_partials.specs.PartialLaws.{BoundIsMergeable, FinishedPartialIsMeaning, PartialOfProjection, RecordsHavePartials, EmptyStandsForNone, MergedStands, MergeIsAssociative};
 ghost use Rattle.dr_partials.specs.PartialBounds.{BoundsAddUp};
 ghost use Rattle.dr_partials.specs.PartialLaws.{OneGroupWithoutKeys, CountIsNumber, MergeIsCommutative, EmptyMergesToSame, EmptyIsPartial, MergedIsPartial};
 
@@ -12,6 +12,11 @@ pub fn finished_partial_is_meaning()
 /// Of projections to leaves that are enough for it a query has the partial of the records.
 pub fn projection_keeps_partial()
     ensures { PartialOfProjection }
+{}
+
+/// The partial of records of a schema is a partial of the query, where that is bound.
+pub fn records_have_partials()
+    ensures { RecordsHavePartials }
 {}
 
 /// A partial that stands for records, merged with one that stands for others, stands for both, one behind another. The empty partial
