@@ -8,7 +8,9 @@ use Rattle.dr_meaning.specs.Record.{int_value, Node}
 use Rattle.dr_meaning.specs.Expression.{path_value}
 use Rattle.dr_meaning.specs.Query.{sum, count_rows, aggregate, GroupItem, GroupTerm, Query, groups, cell, no_entries, meaning}
 use Rattle.dr_meaning.specs.QueryLeaves.{query_leaves}
-use Rattle.dr_formats.specs.File.{Footer, IsFileOf, footer_of}
+use Rattle.dr_formats.specs.File.{Footer, IsFileOf, footer_of, FileCause, bad_footer, bad_schema, bad_codec, bad_data, HasCause}
+use Rattle.dr_formats.proofs.FileLemmas.{one_cause}
+use Rattle.dr_formats.proofs.WorkedDamaged.{changed, double_type, other_codec, file_rows_disagree}
 use Rattle.dr_formats.specs.Writing.{file_bytes}
 use Rattle.dr_formats.proofs.WorkedFiles.{one_schema, one_record, one_file, one_file_is_written, one_file_fits}
 use Rattle.dr_formats.proofs.FileBack.{written_file_is_file}
@@ -161,6 +163,10 @@ pub no_partial : IsTrueOf (truth_with (untold ∷ [])) (lines []) → ⊥
 unfolding is_partial leaf_query
 no_partial t = true≢false (sym t.partial)
 
+pub most_that_fit : IsTrueOf (truth_with (untold ∷ [])) (piece_of (counted (2 ^ 40) ∷ summed None ∷ []))
+unfolding is_partial leaf_query
+most_that_fit = record { partial = refl; bounded = ((lit≤ tt, (tt, tt)), tt); file = inr (inl refl) }
+
 pub too_many_values : IsTrueOf (truth_with (untold ∷ [])) (piece_of (counted (2 ^ 40 + 1) ∷ summed None ∷ [])) → ⊥
 too_many_values t = let n = t.bounded.0.0 in omega (arith, n)
 
@@ -180,6 +186,32 @@ footers = (no_footer, λ h. h, tt, λ h. let e = sym no_footer ∙ h.1 in cc)
 -- one cause of bytes isn't another
 pub nor_others : (justified (present []) BadCodec → ⊥) × (justified (present []) BadData → ⊥)
 nor_others = (λ h. let e = sym no_footer ∙ h.1 in cc, λ h. let e = sym no_footer ∙ h.1 in cc)
+
+-- a column of another type, another codec, other numbers of rows: each has its own cause, and no other
+other_cause : (bytes : List ℕ) (c d : FileCause) → HasCause bytes one_schema (the_leaf ∷ []) c → (c ≡ d → ⊥) → HasCause bytes one_schema (the_leaf ∷ []) d → ⊥
+other_cause bytes c d h n k = n (one_cause bytes one_schema (the_leaf ∷ []) c d h k)
+
+abbrev of_other_type : List ℕ
+of_other_type = changed 40 10 one_file
+
+abbrev of_other_codec : List ℕ
+of_other_codec = changed 67 2 one_file
+
+abbrev of_other_rows : List ℕ
+of_other_rows = changed 48 4 one_file
+
+pub type_cause : justified (present of_other_type) BadSchema × (justified (present of_other_type) BadFooter → ⊥) × (justified (present of_other_type) BadCodec → ⊥) × (justified (present of_other_type) BadData → ⊥)
+type_cause = (double_type, other_cause of_other_type bad_schema bad_footer double_type (λ h. cc), other_cause of_other_type bad_schema bad_codec double_type (λ h. cc), other_cause of_other_type bad_schema bad_data double_type (λ h. cc))
+
+pub codec_cause : justified (present of_other_codec) BadCodec × (justified (present of_other_codec) BadFooter → ⊥) × (justified (present of_other_codec) BadSchema → ⊥) × (justified (present of_other_codec) BadData → ⊥)
+codec_cause = (other_codec, other_cause of_other_codec bad_codec bad_footer other_codec (λ h. cc), other_cause of_other_codec bad_codec bad_schema other_codec (λ h. cc), other_cause of_other_codec bad_codec bad_data other_codec (λ h. cc))
+
+pub data_cause : justified (present of_other_rows) BadData × (justified (present of_other_rows) BadFooter → ⊥) × (justified (present of_other_rows) BadSchema → ⊥) × (justified (present of_other_rows) BadCodec → ⊥)
+data_cause = (file_rows_disagree, other_cause of_other_rows bad_data bad_footer file_rows_disagree (λ h. cc), other_cause of_other_rows bad_data bad_schema file_rows_disagree (λ h. cc), other_cause of_other_rows bad_data bad_codec file_rows_disagree (λ h. cc))
+
+-- nothing is known where the link doesn't tell, and nothing that is absent has a cause
+pub untold_causes : justified untold BadSchema × justified untold BadCodec × justified untold BadData × (justified absent BadSchema → ⊥) × (justified absent BadCodec → ⊥) × (justified absent BadData → ⊥)
+untold_causes = (tt, tt, tt, λ h. h, λ h. h, λ h. h)
 
 -- a failed read raised the count, or the count stands at its last value
 pub reads : justified absent (ReadFailed 3 4) × justified (present one_file) (ReadFailed 3 4) × (justified absent (ReadFailed 3 3) → ⊥) × justified absent (ReadFailed (2 ^ 64 - 1) (2 ^ 64 - 1))
