@@ -1,12 +1,12 @@
 -- The partials of a bound query can be merged: what binding asks of its paths is what merging needs.
 use Rattle.std.proofs.Common.{◌≡◌, ℕ, suc, List, [], ◌∷◌, ◌++◌, map, Bool, true, false, ◌&&◌, ◌||◌, Option, Some, None, refl, sym, ap, ap₂, ◌∙◌, subst, true≢false, append-nil}
-use Rattle.std.specs.Prelude.{if◌then◌else◌, option_map, Ok}
-use Rattle.std.specs.List.{list_all, filter_map, flat_map, cons_option}
+use Rattle.std.specs.Prelude.{if◌then◌else◌, option_map, filter, Ok}
+use Rattle.std.specs.List.{list_all, list_any, filter_map, flat_map, cons_option}
 use Rattle.std.proofs.lemmas.Bool.{and_parts}
 use Rattle.std.proofs.lemmas.List.{map-append}
 use Rattle.std.proofs.lemmas.List.Folds.{list_all-append}
 use Rattle.dr_meaning.specs.Schema.{Schema, Fields}
-use Rattle.dr_meaning.specs.Path.{Step, is_leaf_path, level, begins_with}
+use Rattle.dr_meaning.specs.Path.{Step, Leaf, same_path, leaves, is_leaf_path, level, begins_with}
 use Rattle.dr_meaning.specs.Expression.{Expression, paths_of, negative as negative_expression, is_null as is_null_expression, negation as negation_expression}
 use Rattle.dr_meaning.specs.Expression.{like as like_expression, contains as contains_expression, arithmetic as arithmetic_expression, comparison as comparison_expression}
 use Rattle.dr_meaning.specs.Expression.{conjunction as conjunction_expression, disjunction as disjunction_expression}
@@ -16,11 +16,12 @@ use Rattle.dr_meaning.specs.Syntax.{PathSyntax, ExpressionSyntax, number_literal
 use Rattle.dr_meaning.specs.Syntax.{TermSyntax, expression, count_rows, aggregate, ItemSyntax, QuerySyntax}
 use Rattle.dr_meaning.specs.BoundExpression.{BindFault, fault_at, unrelated, type_mismatch, Checked, passes, fails, checked_map, then_check, together, ValueType, same_type, truth_type, number_type, text_type, type_from, null_test_type, logic_type, comparison_type, arithmetic_type, BoundPath, BoundExpression, bind_path, path_expression, operator, one_operand, two_operands, bind_expression, of_type, are_related, unrelated_after, unrelated_among}
 use Rattle.dr_meaning.specs.Binding.{BoundWithin, bind_within, BoundTerm, plain, rows_counted, aggregated, argument_of, bind_term, item_name, BoundItem, bind_items, is_record_syntax, bind_parts, faults_in, if_passed, passing, where_passed, all_passed, unrelated_in_term, unrelated_faults, record_item, key_of, group_term, group_item, query_of, bind}
-use Rattle.dr_meaning.specs.QueryLeaves.{used_paths, selection_values}
+use Rattle.dr_meaning.specs.QueryLeaves.{used_paths, selection_values, in_reading_order, query_leaves}
 use Rattle.dr_meaning.specs.BindingLaws.{faults_of}
 use Rattle.dr_meaning.proofs.BindingFaultLemmas.{bound_is}
-use Rattle.dr_meaning.proofs.BoundPartsLemmas.{both_empty, no_part_faults, no_faults_in, used_paths_are_leaves}
-use Rattle.dr_partials.specs.PartialLaws.{all_related, is_mergeable_selection, is_mergeable, BoundIsMergeable}
+use Rattle.dr_meaning.proofs.BoundPartsLemmas.{both_empty, no_part_faults, no_faults_in, used_leaf_paths, used_paths_are_leaves}
+use Rattle.dr_meaning.proofs.QueryLeavesLemmas.{steps_of, used_lead, paths-lead}
+use Rattle.dr_partials.specs.PartialLaws.{all_related, is_mergeable_selection, is_mergeable, BoundIsMergeable, BoundLeavesAreEnough}
 use Rattle.dr_partials.proofs.RowLemmas.{Each}
 
 abbrev paths : List BoundPath → List (List Step)
@@ -230,3 +231,11 @@ bound_is_mergeable s q b h =
     subst (λ (y : Query). is_mergeable s.fields y ≡ true) e.1
     (of_kind s.fields (is_record_syntax q) keys vs w.1 (related_among keys (ap (λ d. where_passed unrelated_among d) (sym p) ∙ a.1)) (each_term s.fields 0 q.items)
     (ap (λ d. flat_map (λ (i : BoundItem). unrelated_in_term d i.term) vs) (sym p) ∙ c.1))
+
+-- ---- leaves
+
+pub bound_leaves_are_enough : BoundLeavesAreEnough
+unfolding query_leaves
+bound_leaves_are_enough s q b h =
+    let F = steps_of (in_reading_order s.fields (filter (λ (l : Leaf). list_any (same_path l.path) (used_paths b)) (leaves s.fields))) in
+    paths-lead F s q b h (used_lead s.fields (used_paths b) (used_paths b) (used_leaf_paths s q b h) (λ p e. e))

@@ -21,7 +21,7 @@ use Rattle.dr_meaning.specs.Rows.{rows, first_value, value_in, value_at}
 use Rattle.dr_meaning.specs.Expression.{Expression, path_value, evaluate, expression_level, longest_level}
 use Rattle.dr_meaning.specs.Kept.{kept}
 use Rattle.dr_meaning.specs.Query.{Aggregate, count, sum, least, greatest, integer_sum, GroupTerm, key, count_rows, aggregate, RecordItem, GroupItem, Selection, objects, groups, Query, Object, cell, nth_value, Levels, levels_of, record_object, key_tuple, tuple_order, insert_tuple, distinct_tuples, group_tuples, group_rows, selected, meaning}
-use Rattle.dr_meaning.specs.MeaningLaws.{condition_paths, group_term_paths}
+use Rattle.dr_meaning.specs.MeaningLaws.{condition_paths, group_term_paths, selection_paths, all_lead}
 use Rattle.dr_meaning.specs.QueryLeaves.{selection_values, in_reading_order, query_leaves}
 use Rattle.dr_meaning.specs.BoundExpression.{are_related}
 use Rattle.dr_partials.specs.Accumulators.{Accumulator, counted, summed, least_of, greatest_of, aggregate_of, empty_accumulator, accumulator_of_cell, join_options, join, accumulated, result_of}
@@ -31,7 +31,7 @@ use Rattle.dr_partials.specs.PartialLaws.{all_related, is_mergeable_selection, i
 use Rattle.dr_partials.specs.Trees.{Tree, leaf_server, intermediate_server, Trees, no_trees, next_tree, tablets_of, tablets_of_all}
 use Rattle.dr_partials.specs.TreeLaws.{records_of}
 use Rattle.dr_partials.specs.Rewriting.{key_items, aggregate_items, leaf_selection, leaf_query, Merging, by_query, column, key_columns, merging_aggregate, merging_term, merging_terms, inner_selection, inner_query, column_behind, root_items, root_selection, root_query, cell_instances, row_record, merged_results, tree_answer, trees_answer, root_answer}
-use Rattle.dr_partials.specs.RewritingLaws.{LeafHasPartials, LeafHasSamePartials, LeafUsesSameLeaves}
+use Rattle.dr_partials.specs.RewritingLaws.{LeafHasPartials, LeafHasSamePartials, LeafUsesSameLeaves, LeafCoveredAlike}
 use Rattle.dr_partials.proofs.AccumulatorLemmas.{OfOne, counts, sums, leasts, greatests, of_one, empty_right, cell_aggregate, accumulated_aggregate}
 use Rattle.dr_partials.proofs.GroupLemmas.{Tuple, same_tuple, same_itself, AllAbove, Ascending, OfKinds, AllOfKinds, groups_at, distinct_ascends}
 use Rattle.dr_partials.proofs.RowLemmas.{Each, each_append, each_map, SingleIn, SingleAll, records_single, single_kept}
@@ -157,6 +157,14 @@ pub leaf_uses_same_leaves : LeafUsesSameLeaves
 unfolding leaf_query query_leaves
 leaf_uses_same_leaves fs q =
     ap (λ ps. in_reading_order fs (filter (λ (l : Leaf). list_any (same_path l.path) (condition_paths q.condition ++ ps)) (leaves fs))) (leaf_values q.selection)
+
+leaf_paths : (s : Selection) → selection_paths (leaf_selection s) ≡ selection_paths s
+leaf_paths (objects items) = refl
+leaf_paths (groups keys items) = ap (λ ps. keys ++ ps) (keys_have_no_paths 0 keys (aggregate_items 0 (aggregates_among items)) ∙ aggregates_paths items 0)
+
+pub leaf_covered_alike : LeafCoveredAlike
+unfolding leaf_query
+leaf_covered_alike F q = ap (λ ps. all_lead F (condition_paths q.condition ++ ps)) (leaf_paths q.selection)
 
 -- ---- which aggregates are gathered, and how many keys there are
 

@@ -2,11 +2,12 @@
 use Rattle.std.specs.Prelude.{◌≡◌, ℕ, List, [], ◌∷◌, ◌++◌, map, Bool, true, false, ◌&&◌, Option, Some, Ok}
 use Rattle.std.specs.List.{list_all}
 use Rattle.dr_meaning.specs.Schema.{Schema, Fields}
-use Rattle.dr_meaning.specs.Path.{Step, is_leaf_path}
+use Rattle.dr_meaning.specs.Path.{Step, Leaf, is_leaf_path}
 use Rattle.dr_meaning.specs.Record.{Node, is_record, project}
 use Rattle.dr_meaning.specs.Expression.{Expression}
 use Rattle.dr_meaning.specs.Query.{count, GroupTerm, key, count_rows, aggregate, GroupItem, Selection, objects, groups, Query, count_value, meaning}
 use Rattle.dr_meaning.specs.MeaningLaws.{group_term_paths, covers}
+use Rattle.dr_meaning.specs.QueryLeaves.{query_leaves}
 use Rattle.dr_meaning.specs.Syntax.{QuerySyntax}
 use Rattle.dr_meaning.specs.BoundExpression.{are_related}
 use Rattle.dr_meaning.specs.Binding.{bind}
@@ -33,6 +34,11 @@ is_mergeable fs q = is_mergeable_selection fs q.selection
 -- each query that is bound is one
 abbrev pub BoundIsMergeable : Type 0
 BoundIsMergeable = (s : Schema) (q : QuerySyntax) (b : Query) → bind s q ≡ Ok b → is_mergeable s.fields b ≡ true
+
+-- and the leaves that it uses are enough for it
+abbrev pub BoundLeavesAreEnough : Type 0
+BoundLeavesAreEnough = (s : Schema) (q : QuerySyntax) (b : Query) → bind s q ≡ Ok b
+    → covers (map (λ (l : Leaf). l.path) (query_leaves s.fields b)) b ≡ true
 
 -- ---- what partials mean
 

@@ -2,8 +2,10 @@
 use Rattle.std.specs.Prelude.{◌≡◌, ℕ, true, List}
 use Rattle.std.specs.List.{list_all}
 use Rattle.dr_meaning.specs.Schema.{Fields}
+use Rattle.dr_meaning.specs.Path.{Step}
 use Rattle.dr_meaning.specs.Record.{Node, is_record}
 use Rattle.dr_meaning.specs.Query.{Query, meaning}
+use Rattle.dr_meaning.specs.MeaningLaws.{covers}
 use Rattle.dr_meaning.specs.QueryLeaves.{query_leaves}
 use Rattle.dr_partials.specs.Partials.{Partial, partial_of}
 use Rattle.dr_partials.specs.PartialTypes.{is_partial}
@@ -16,9 +18,12 @@ use Rattle.dr_partials.specs.Rewriting.{leaf_query, root_answer}
 abbrev pub LeafHasPartials : Type 0
 LeafHasPartials = (fs : Fields) (q : Query) (R : List Node) → partial_of fs (leaf_query q) R ≡ partial_of fs q R
 
--- and the same partials are partials of both; it uses the same leaves
+-- and the same partials are partials of both; it uses the same leaves, and the same are enough for it
 abbrev pub LeafHasSamePartials : Type 0
 LeafHasSamePartials = (fs : Fields) (q : Query) (p : Partial) → is_partial fs (leaf_query q) p ≡ is_partial fs q p
+
+abbrev pub LeafCoveredAlike : Type 0
+LeafCoveredAlike = (F : List (List Step)) (q : Query) → covers F (leaf_query q) ≡ covers F q
 
 abbrev pub LeafUsesSameLeaves : Type 0
 LeafUsesSameLeaves = (fs : Fields) (q : Query) → query_leaves fs (leaf_query q) ≡ query_leaves fs q

@@ -1,6 +1,6 @@
 // Laws of partials.
 
-ghost use Rattle.dr_partials.specs.PartialLaws.{BoundIsMergeable, FinishedPartialIsMeaning, PartialOfProjection, RecordsHavePartials, EmptyStandsForNone, MergedStands, MergeIsAssociative};
+ghost use Rattle.dr_partials.specs.PartialLaws.{BoundIsMergeable, BoundLeavesAreEnough, FinishedPartialIsMeaning, PartialOfProjection, RecordsHavePartials, EmptyStandsForNone, MergedStands, MergeIsAssociative};
 ghost use Rattle.dr_partials.specs.PartialBounds.{BoundsAddUp};
 ghost use Rattle.dr_partials.specs.PartialLaws.{OneGroupWithoutKeys, CountIsNumber, MergeIsCommutative, EmptyMergesToSame, EmptyIsPartial, MergedIsPartial};
 
@@ -36,9 +36,10 @@ pub fn partials_of_one_query_merge()
     ensures merged { MergedIsPartial }
 {}
 
-/// The partials of each query that is bound can be merged.
+/// The partials of each query that is bound can be merged, and the leaves that it uses are enough for it.
 pub fn bound_queries_are_mergeable()
-    ensures { BoundIsMergeable }
+    ensures mergeable { BoundIsMergeable }
+    ensures leaves { BoundLeavesAreEnough }
 {}
 
 /// Without GROUP BY there is exactly one group, and what a COUNT has gathered is a whole number: 0 of nothing, and never NULL.

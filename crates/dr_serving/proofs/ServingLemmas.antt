@@ -24,13 +24,14 @@ use Rattle.dr_partials.specs.TreeLaws.{records_of, StandsForEach}
 use Rattle.dr_partials.specs.Rewriting.{key_items, aggregate_items, leaf_selection, leaf_query}
 use Rattle.dr_partials.proofs.PartialLemmas.{finished_partial_is_meaning}
 use Rattle.dr_partials.proofs.ProjectedLemmas.{partial_of_projection}
-use Rattle.dr_partials.proofs.RewritingLemmas.{leaf_has_partials}
+use Rattle.dr_partials.proofs.RewritingLemmas.{leaf_has_partials, leaf_uses_same_leaves, leaf_covered_alike}
+use Rattle.dr_partials.proofs.BoundLemmas.{bound_is_mergeable, bound_leaves_are_enough}
 use Rattle.dr_partials.proofs.TreeLemmas.{gathered_stands}
 use Rattle.dr_serving.specs.Held.{Held, untold, absent, present, held_file, held_at, held_on, held_by_all, IsHeld, IsUntold}
 use Rattle.dr_serving.specs.Truth.{TabletTruth, leaves_of, StandsForFile, IsTrueOf}
 use Rattle.dr_serving.specs.Outcome.{Service, service_leaves, truth_of, AreTrueFrom, IsFinished}
-use Rattle.dr_serving.specs.Premises.{TellsFiles, AllTell, HoldsRecords, PathsHold, TabletsHold, paths_of_leaves, ServesRecords, all_records}
-use Rattle.dr_serving.specs.ServingLaws.{HasEnoughLeaves, EachHolds, TrueOfTabletStands, FinishedMeansQuery}
+use Rattle.dr_serving.specs.Premises.{TellsFiles, AllTell, HoldsRecords, PathsHold, TabletsHold, paths_of_leaves, ServesRecords, IsServable, all_records}
+use Rattle.dr_serving.specs.ServingLaws.{HasEnoughLeaves, EachHolds, TrueOfTabletStands, FinishedMeansQuery, BoundIsServable}
 
 -- ---- records of which the same bytes are a file have the same projections
 
@@ -114,13 +115,13 @@ all_hold truth R files (link ∷ links) paths t h = both_hold truth R (held_on l
 next_number : (t : ℕ) → t + 1 ≡ suc t
 next_number t = omega arith
 
-each_stands : (s : Service) (R : ℕ → List Node) (w : ServesRecords s R) (piece : ℕ → Partial) (t : ℕ) (tablets : List (List (List ℕ))) → TabletsHold s.schema (service_leaves s) R w.files t tablets → AreTrueFrom s piece t tablets
+each_stands : (s : Service) (R : ℕ → List Node) (v : IsServable s) (w : ServesRecords s R) (piece : ℕ → Partial) (t : ℕ) (tablets : List (List (List ℕ))) → TabletsHold s.schema (service_leaves s) R w.files t tablets → AreTrueFrom s piece t tablets
     → StandsForEach s.schema.fields (leaf_query s.query) R piece (range_with_len t (length tablets))
-each_stands s R w piece t [] h a = tt
-each_stands s R w piece t (paths ∷ rest) h a =
+each_stands s R v w piece t [] h a = tt
+each_stands s R v w piece t (paths ∷ rest) h a =
     let truth : TabletTruth = truth_of s paths in
-    let o : IsOfRecords truth (R t) (piece t) = by_file truth (R t) (piece t) w.enough (all_hold truth (R t) w.files (s.first_link ∷ s.other_links) paths w.told h.0) a.0.file in
-    (o.0, o.1, subst (λ u. StandsForEach s.schema.fields (leaf_query s.query) R piece (range_with_len u (length rest))) (sym (next_number t)) (each_stands s R w piece (suc t) rest h.1 a.1))
+    let o : IsOfRecords truth (R t) (piece t) = by_file truth (R t) (piece t) v.enough (all_hold truth (R t) w.files (s.first_link ∷ s.other_links) paths w.told h.0) a.0.file in
+    (o.0, o.1, subst (λ u. StandsForEach s.schema.fields (leaf_query s.query) R piece (range_with_len u (length rest))) (sym (next_number t)) (each_stands s R v w piece (suc t) rest h.1 a.1))
 
 -- ---- the leaf query can be merged where the query can
 
@@ -161,10 +162,21 @@ unfolding Stands
 of_query fs q R p h = let e = h ∙ leaf_has_partials fs q R in (e, ap (finished q) e ∙ finished_partial_is_meaning fs q R)
 
 pub finished_means_query : FinishedMeansQuery
-finished_means_query s R tree p w f =
+finished_means_query s R tree p v w f =
     let fs : Fields = s.schema.fields in
     let q : Query = leaf_query s.query in
-    let each = each_stands s R w f.0 0 s.tablets w.held f.2 in
+    let each = each_stands s R v w f.0 0 s.tablets w.held f.2 in
     let g : Stands fs q (records_of R (tablets_of tree)) (gathered f.0 tree) =
-    gathered_stands fs q R f.0 tree (leaf_query_mergeable fs s.query w.mergeable) (subst (StandsForEach fs q R f.0) (sym f.1) each) in
+    gathered_stands fs q R f.0 tree (leaf_query_mergeable fs s.query v.mergeable) (subst (StandsForEach fs q R f.0) (sym f.1) each) in
     of_query fs s.query (all_records s R) p (subst (λ ts. Stands fs q (records_of R ts) p) f.1 (subst (λ (r : Partial). Stands fs q (records_of R (tablets_of tree)) r) (sym f.3) g))
+
+-- ---- a bound query
+
+pub bound_is_servable : BoundIsServable
+bound_is_servable s q h =
+    let fs : Fields = s.schema.fields in
+    record {
+      enough = ap (λ F. covers (paths_of_leaves F) (leaf_query s.query)) (leaf_uses_same_leaves fs s.query)
+        ∙ (leaf_covered_alike (paths_of_leaves (query_leaves fs s.query)) s.query ∙ bound_leaves_are_enough s.schema q s.query h);
+      mergeable = bound_is_mergeable s.schema q s.query h;
+    }

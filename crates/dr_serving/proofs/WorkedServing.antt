@@ -27,7 +27,7 @@ use Rattle.dr_serving.specs.Truth.{TabletTruth, leaves_of, StandsForFile, IsTrue
 use Rattle.dr_serving.specs.Causes.{HeldHasCause, IsJustified, AreJustified, RisesApart}
 use Rattle.dr_serving.specs.Outcome.{Service, service_leaves, truth_of, LeftTablet, LeavesJust, no_tablets, has_piece, is_left, AreTrueFrom, IsFinished, IsUnfinished}
 use Rattle.dr_serving.specs.Pieces.{TabletPiece, paths_at, IsTrueAt, kept_partial}
-use Rattle.dr_serving.specs.Premises.{AllTell, HoldsRecords, ServesRecords}
+use Rattle.dr_serving.specs.Premises.{AllTell, HoldsRecords, ServesRecords, IsServable}
 use Rattle.dr_serving.specs.ServingLaws.{HasEnoughLeaves}
 use Rattle.dr_serving.proofs.ServingLemmas.{true_of_tablet_stands, finished_means_query}
 
@@ -293,18 +293,19 @@ pub links_tell : AllTell files (Some files ∷ Some files ∷ []) × (AllTell fi
 links_tell = ((λ path. refl, (λ path. refl, tt)), λ h. h.0, λ h. let e = h.0 path_a in cc)
 
 serves : ServesRecords (service both_held) (λ t. one)
-unfolding query_leaves leaf_query
 serves = record {
   files = files;
   told = (λ path. refl, (λ path. refl, tt));
   held = ((inr no_file, (inl one_is_file, tt)), ((inl one_is_file, tt), tt));
-  enough = refl;
-  mergeable = refl;
 }
+
+pub servable : IsServable (service both_held)
+unfolding query_leaves leaf_query
+servable = record { enough = refl; mergeable = refl }
 
 -- so the finished piece, finished, is what the query means on both tablets' records
 pub two_mean_query : finished totals of_two ≡ meaning one_schema.fields totals (one_record ∷ one_record ∷ [])
-two_mean_query = (finished_means_query (service both_held) (λ t. one) (of_fan 2 2) of_two serves two_are_finished).1
+two_mean_query = (finished_means_query (service both_held) (λ t. one) (of_fan 2 2) of_two servable serves two_are_finished).1
 
 pub two_as_rows : finished totals of_two ≡ cell (codes "n") (Some (int_value (pos 2))) (cell (codes "s") (Some (int_value (pos 2))) no_entries) ∷ []
 unfolding finished

@@ -42,12 +42,14 @@ TabletsHold s F R files t (paths ∷ rest) = PathsHold s F (R t) files paths × 
 abbrev pub paths_of_leaves : List Leaf → List (List Step)
 paths_of_leaves F = map (λ (l : Leaf). l.path) F
 
--- the premises of serving: all links tell what they hold, one path holds the same for all, and each leaf of a tablet holds its records, if
--- any; the leaves that the leaf query uses are enough for it, and the query's partials can be merged
+-- the premises of serving: all links tell what they hold, one path holds the same for all, and each leaf of a tablet holds its records, if any
 pub record ServesRecords (s : Service) (R : ℕ → List Node) : Type 0 where
   pub files : Files
   pub told : AllTell files (s.first_link ∷ s.other_links)
   pub held : TabletsHold s.schema (service_leaves s) R files 0 s.tablets
+
+-- the leaves that the query uses are enough for it, and its partials can be merged; each query that is bound is one
+pub record IsServable (s : Service) : Type 0 where
   pub enough : covers (paths_of_leaves (service_leaves s)) (leaf_query s.query) ≡ true
   pub mergeable : is_mergeable s.schema.fields s.query ≡ true
 

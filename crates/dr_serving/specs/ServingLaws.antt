@@ -1,10 +1,12 @@
 -- Laws of serving.
-use Rattle.std.specs.Prelude.{◌≡◌, ℕ, ◌<◌, ⊤, Bool, true, false, List, [], ◌∷◌, length}
+use Rattle.std.specs.Prelude.{◌≡◌, ℕ, ◌<◌, ⊤, Bool, true, false, List, [], ◌∷◌, length, Ok}
 use Rattle.dr_meaning.specs.Schema.{Schema}
 use Rattle.dr_meaning.specs.Path.{Leaf}
 use Rattle.dr_meaning.specs.Record.{Node}
 use Rattle.dr_meaning.specs.Query.{Query, meaning}
 use Rattle.dr_meaning.specs.MeaningLaws.{covers}
+use Rattle.dr_meaning.specs.Syntax.{QuerySyntax}
+use Rattle.dr_meaning.specs.Binding.{bind}
 use Rattle.dr_formats.specs.File.{IsFileOf}
 use Rattle.dr_outside.specs.declared.cause.Cause.{Cause}
 use Rattle.dr_outside.specs.declared.cause.Cause.TheVariants.{ReadFailed, BadFooter, BadSchema, BadCodec, BadData}
@@ -19,7 +21,7 @@ use Rattle.dr_serving.specs.Truth.{TabletTruth, leaves_of, IsTrueOf}
 use Rattle.dr_serving.specs.Causes.{IsJustified}
 use Rattle.dr_serving.specs.Outcome.{Service, AreTrueFrom, IsFinished}
 use Rattle.dr_serving.specs.Pieces.{TabletPiece, IsTrueAt, kept_partial}
-use Rattle.dr_serving.specs.Premises.{paths_of_leaves, HoldsRecords, ServesRecords, all_records}
+use Rattle.dr_serving.specs.Premises.{paths_of_leaves, HoldsRecords, ServesRecords, IsServable, all_records}
 
 -- the leaves that a query uses are enough for it
 abbrev pub HasEnoughLeaves : TabletTruth → Type 0
@@ -38,7 +40,7 @@ TrueOfTabletStands = (truth : TabletTruth) (R : List Node) (p : Partial) → Has
 -- under the premises what serving is finished with stands for the query on all records, each tablet's once; and, finished, it is what the
 -- query means on them
 abbrev pub FinishedMeansQuery : Type 0
-FinishedMeansQuery = (s : Service) (R : ℕ → List Node) (tree : Tree) (p : Partial) → ServesRecords s R → IsFinished s tree p
+FinishedMeansQuery = (s : Service) (R : ℕ → List Node) (tree : Tree) (p : Partial) → IsServable s → ServesRecords s R → IsFinished s tree p
     → Stands s.schema.fields s.query (all_records s R) p × (finished s.query p ≡ meaning s.schema.fields s.query (all_records s R))
 
 -- where the kept pieces of a history are true and each tablet has an answer, the piece that is kept of each is true of it
@@ -59,3 +61,7 @@ is_read BadData = false
 abbrev pub OtherCausesHoldNoFile : Type 0
 OtherCausesHoldNoFile = (s : Schema) (F : List Leaf) (bytes : List ℕ) (c : Cause) (R : List Node) → is_read c ≡ false
     → IsJustified s F (present bytes) c → IsFileOf bytes s F R → ⊥
+
+-- a query that is bound can be served
+abbrev pub BoundIsServable : Type 0
+BoundIsServable = (s : Service) (q : QuerySyntax) → bind s.schema q ≡ Ok s.query → IsServable s

@@ -1,6 +1,6 @@
 // Laws of serving.
 
-ghost use Rattle.dr_serving.specs.ServingLaws.{TrueOfTabletStands, FinishedMeansQuery, KeptPiecesAreTrue, OtherCausesHoldNoFile};
+ghost use Rattle.dr_serving.specs.ServingLaws.{TrueOfTabletStands, FinishedMeansQuery, KeptPiecesAreTrue, OtherCausesHoldNoFile, BoundIsServable};
 
 /// Where all links tell what they hold, and each leaf of a tablet holds a file of its records, or none of any, a piece that is true of the
 /// tablet stands for the leaf query on its records.
@@ -21,4 +21,9 @@ pub fn kept_pieces_are_true()
 /// A leaf whose cause isn't a failed read holds no file of any records.
 pub fn other_causes_hold_no_file()
     ensures { OtherCausesHoldNoFile }
+{}
+
+/// A query that is bound can be served.
+pub fn bound_query_is_servable()
+    ensures { BoundIsServable }
 {}
