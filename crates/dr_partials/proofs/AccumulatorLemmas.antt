@@ -1,7 +1,6 @@
 -- The laws of accumulators.
-use Rattle.std.proofs.Common.{◌≡◌, ℕ, suc, ◌+◌, List, [], ◌∷◌, ◌++◌, length, Bool, true, false, Option, Some, None, cond, refl, sym, ap, ap₂, ◌∙◌, true≢false, arith}
+use Rattle.std.proofs.Common.{◌≡◌, ℕ, List, [], ◌∷◌, length, Bool, true, false, Option, Some, None, refl, sym, ap, ◌∙◌, true≢false, arith}
 use Rattle.std.specs.Prelude.{ℤ, pos, ◌+ℤ◌, if◌then◌else◌, option_map}
-use Rattle.std.specs.List.{filter_map, cons_option}
 use Rattle.std.specs.Cmp.{IsTotalOrder}
 use Rattle.std.specs.Ordering.{is_lt, is_gt, ordering_reverse, flip_args}
 use Rattle.std.specs.declared.cmp.Ordering.{Ordering}
@@ -10,8 +9,8 @@ use Rattle.std.proofs.Math.IntN.{+ℤ_assoc, +ℤ_comm, +ℤ_idl}
 use Rattle.std.proofs.lemmas.Cmp.{upto, back_total}
 use Rattle.std.proofs.lemmas.Map.Lookups.{CmpEqualImpliesEq}
 use Rattle.dr_meaning.specs.Record.{Value, bool_value, int_value, text_value}
-use Rattle.dr_meaning.specs.Query.{Aggregate, count, sum, least, greatest, integer_sum, smaller, larger, value_order, best_with, best_by, sum_of_some, count_value, aggregated, present_values}
-use Rattle.dr_partials.specs.Accumulators.{Accumulator, counted, summed, least_of, greatest_of, aggregate_of, empty_accumulator, accumulator_of_one, accumulator_of_cell, join_options, join, take_value, accumulated, result_of}
+use Rattle.dr_meaning.specs.Query.{Aggregate, count, sum, least, greatest, integer_sum, smaller, larger, value_order, best_with, best_by, sum_of_some, present_values}
+use Rattle.dr_partials.specs.Accumulators.{Accumulator, counted, summed, least_of, greatest_of, aggregate_of, empty_accumulator, accumulator_of_cell, join_options, join, accumulated, result_of}
 use Rattle.dr_partials.specs.AccumulatorLaws.{JoinOfBoth, TakesNextValue, GivesAggregate, JoinIsAssociative, JoinIsCommutative, EmptyIsNeutral}
 use Rattle.dr_partials.proofs.ValueOrders.{value_order_total, value_order_exact}
 

@@ -1,6 +1,6 @@
 -- The partials of a bound query can be merged: what binding asks of its paths is what merging needs.
-use Rattle.std.proofs.Common.{◌≡◌, ℕ, suc, List, [], ◌∷◌, ◌++◌, map, Bool, true, false, ◌&&◌, ◌||◌, Option, Some, None, refl, sym, ap, ap₂, ◌∙◌, subst, true≢false, append-nil}
-use Rattle.std.specs.Prelude.{if◌then◌else◌, option_map, filter, Ok}
+use Rattle.std.proofs.Common.{◌≡◌, ℕ, suc, List, [], ◌∷◌, ◌++◌, map, Bool, true, false, ◌&&◌, ◌||◌, Option, Some, None, refl, sym, ap, ap₂, ◌∙◌, subst, append-nil}
+use Rattle.std.specs.Prelude.{if◌then◌else◌, option_map, filter}
 use Rattle.std.specs.List.{list_all, list_any, filter_map, flat_map, cons_option}
 use Rattle.std.proofs.lemmas.Bool.{and_parts}
 use Rattle.std.proofs.lemmas.List.{map-append}
@@ -12,10 +12,10 @@ use Rattle.dr_meaning.specs.Expression.{like as like_expression, contains as con
 use Rattle.dr_meaning.specs.Expression.{conjunction as conjunction_expression, disjunction as disjunction_expression}
 use Rattle.dr_meaning.specs.Query.{Aggregate, count, sum, least, greatest, GroupTerm, key, GroupItem, Selection, objects, groups, Query}
 use Rattle.dr_meaning.specs.MeaningLaws.{condition_paths, group_term_paths}
-use Rattle.dr_meaning.specs.Syntax.{PathSyntax, ExpressionSyntax, number_literal, text_literal, truth_literal, path, negative, arithmetic, comparison, like, contains, is_null, negation, conjunction, disjunction}
+use Rattle.dr_meaning.specs.Syntax.{ExpressionSyntax, number_literal, text_literal, truth_literal, path, negative, arithmetic, comparison, like, contains, is_null, negation, conjunction, disjunction}
 use Rattle.dr_meaning.specs.Syntax.{TermSyntax, expression, count_rows, aggregate, ItemSyntax, QuerySyntax}
-use Rattle.dr_meaning.specs.BoundExpression.{BindFault, fault_at, unrelated, type_mismatch, Checked, passes, fails, checked_map, then_check, together, ValueType, same_type, truth_type, number_type, text_type, type_from, null_test_type, logic_type, comparison_type, arithmetic_type, BoundPath, BoundExpression, bind_path, path_expression, operator, one_operand, two_operands, bind_expression, of_type, are_related, unrelated_after, unrelated_among}
-use Rattle.dr_meaning.specs.Binding.{BoundWithin, bind_within, BoundTerm, plain, rows_counted, aggregated, argument_of, bind_term, item_name, BoundItem, bind_items, is_record_syntax, bind_parts, faults_in, if_passed, passing, where_passed, all_passed, unrelated_in_term, unrelated_faults, record_item, key_of, group_term, group_item, query_of, bind}
+use Rattle.dr_meaning.specs.BoundExpression.{fault_at, unrelated, type_mismatch, Checked, passes, fails, checked_map, then_check, together, ValueType, same_type, truth_type, number_type, text_type, type_from, null_test_type, logic_type, comparison_type, arithmetic_type, BoundPath, BoundExpression, bind_path, path_expression, operator, one_operand, two_operands, bind_expression, of_type, are_related, unrelated_after, unrelated_among}
+use Rattle.dr_meaning.specs.Binding.{BoundWithin, bind_within, BoundTerm, plain, rows_counted, aggregated, argument_of, bind_term, item_name, BoundItem, bind_items, is_record_syntax, bind_parts, faults_in, if_passed, passing, where_passed, all_passed, unrelated_in_term, unrelated_faults, record_item, key_of, group_term, group_item, query_of}
 use Rattle.dr_meaning.specs.QueryLeaves.{used_paths, selection_values, in_reading_order, query_leaves}
 use Rattle.dr_meaning.specs.BindingLaws.{faults_of}
 use Rattle.dr_meaning.proofs.BindingFaultLemmas.{bound_is}
@@ -227,7 +227,7 @@ bound_is_mergeable s q b h =
     let u = used_paths_are_leaves s q b h in
     let v : list_all (is_leaf_path s.fields) (used_paths x) ≡ true = subst (λ (y : Query). list_all (is_leaf_path s.fields) (used_paths y) ≡ true) (sym e.1) u in
     let w = and_parts (list_all (is_leaf_path s.fields) (condition_paths x.condition)) (list_all (is_leaf_path s.fields) (selection_values x.selection))
-        (sym (list_all-append (is_leaf_path s.fields) (condition_paths x.condition) (selection_values x.selection)) ∙ v) in
+    (sym (list_all-append (is_leaf_path s.fields) (condition_paths x.condition) (selection_values x.selection)) ∙ v) in
     subst (λ (y : Query). is_mergeable s.fields y ≡ true) e.1
     (of_kind s.fields (is_record_syntax q) keys vs w.1 (related_among keys (ap (λ d. where_passed unrelated_among d) (sym p) ∙ a.1)) (each_term s.fields 0 q.items)
     (ap (λ d. flat_map (λ (i : BoundItem). unrelated_in_term d i.term) vs) (sym p) ∙ c.1))

@@ -1,8 +1,7 @@
 -- Ascending groups are what is found at each key tuple; merged groups have at each key tuple what both have, joined.
-use Rattle.std.proofs.Common.{◌≡◌, List, [], ◌∷◌, ◌++◌, map, Bool, true, false, ◌&&◌, ◌||◌, Option, Some, None, refl, sym, ap, ap₂, ◌∙◌, subst, true≢false}
+use Rattle.std.proofs.Common.{◌≡◌, List, [], ◌∷◌, map, Bool, true, false, ◌&&◌, ◌||◌, Option, Some, None, refl, sym, ap, ap₂, ◌∙◌, subst, true≢false}
 use Rattle.std.specs.Prelude.{if◌then◌else◌}
 use Rattle.std.specs.List.{list_any}
-use Rattle.std.specs.Cmp.{IsTotalOrder}
 use Rattle.std.specs.Ordering.{is_lt, is_eq, match_ordering, ordering_reverse}
 use Rattle.std.specs.declared.cmp.Ordering.{Ordering}
 use Rattle.std.specs.declared.cmp.Ordering.TheVariants.{Less, Equal, Greater}
@@ -10,7 +9,7 @@ use Rattle.std.proofs.lemmas.Bool.{and_parts}
 use Rattle.std.proofs.lemmas.Cmp.{tied_itself}
 use Rattle.dr_meaning.specs.Record.{Value}
 use Rattle.dr_meaning.specs.Query.{Aggregate, tuple_order, insert_tuple, distinct_tuples}
-use Rattle.dr_partials.specs.Accumulators.{Accumulator, aggregate_of, join_options, join}
+use Rattle.dr_partials.specs.Accumulators.{Accumulator, aggregate_of, join_options}
 use Rattle.dr_partials.specs.Partials.{Group, join_all, join_groups, insert_group, merge_groups}
 use Rattle.dr_partials.specs.PartialTypes.{ascends}
 use Rattle.dr_partials.proofs.ValueOrders.{tuple_order_total, tuple_order_exact}

@@ -1,7 +1,7 @@
 -- The partial of records is finished to the query's meaning; the partials of records, merged, are the partial of the records joined.
-use Rattle.std.proofs.Common.{◌≡◌, ◌+◌, List, [], ◌∷◌, ◌++◌, map, length, Bool, true, false, ◌&&◌, ◌||◌, Option, Some, None, refl, sym, ap, ap₂, ◌∙◌, subst, length-append}
+use Rattle.std.proofs.Common.{◌≡◌, List, [], ◌∷◌, ◌++◌, map, length, Bool, true, false, ◌&&◌, ◌||◌, Some, None, refl, sym, ap, ap₂, ◌∙◌, length-append}
 use Rattle.std.specs.Prelude.{if◌then◌else◌, filter}
-use Rattle.std.specs.List.{filter_map, flat_map, cons_option, list_all, list_any}
+use Rattle.std.specs.List.{filter_map, flat_map, cons_option, list_all}
 use Rattle.std.specs.Ordering.{is_eq}
 use Rattle.std.proofs.Math.Path.{fun_ext}
 use Rattle.std.proofs.lemmas.Bool.{and_parts}
@@ -11,18 +11,18 @@ use Rattle.std.proofs.lemmas.List.Elements.{filter-append, filter_map-append}
 use Rattle.std.proofs.lemmas.List.Folds.{list_any-append}
 use Rattle.std.proofs.lemmas.Simd.{map-map}
 use Rattle.dr_meaning.specs.Schema.{Fields}
-use Rattle.dr_meaning.specs.Path.{Step, longer, is_leaf_path, begins_with, level}
-use Rattle.dr_meaning.specs.Record.{Value, Node, is_record}
+use Rattle.dr_meaning.specs.Path.{Step, longer, is_leaf_path}
+use Rattle.dr_meaning.specs.Record.{Node}
 use Rattle.dr_meaning.specs.Rows.{rows}
-use Rattle.dr_meaning.specs.Expression.{Expression, paths_of, evaluate, expression_level, longest_level}
+use Rattle.dr_meaning.specs.Expression.{paths_of, evaluate, expression_level, longest_level}
 use Rattle.dr_meaning.specs.Kept.{kept}
-use Rattle.dr_meaning.specs.Query.{Aggregate, GroupTerm, key, count_rows, aggregate, GroupItem, Selection, objects, groups, Query, Object, cell, nth_value, count_value, over_rows, Levels, levels_of, record_object, key_tuple, tuple_order, distinct_tuples, group_tuples, group_rows, group_value, group_cells, group_objects, selected, meaning}
+use Rattle.dr_meaning.specs.Query.{Aggregate, GroupTerm, key, count_rows, aggregate, GroupItem, Selection, objects, groups, Query, cell, nth_value, count_value, Levels, levels_of, record_object, key_tuple, tuple_order, distinct_tuples, group_tuples, group_rows, group_value, group_cells, selected, meaning}
 use Rattle.dr_meaning.specs.MeaningLaws.{group_term_paths}
-use Rattle.dr_partials.specs.Accumulators.{Accumulator, counted, empty_accumulator, join_options, join, accumulated, result_of}
-use Rattle.dr_partials.specs.Partials.{Group, Partial, lines, grouped, term_accumulator, group_of, selected_partial, partial_of, Stands, join_all, join_groups, merge_groups, merge, empty_term, empty_groups, empty_selected, empty_partial, item_value, behind_item, group_row, finished_selection, finished}
-use Rattle.dr_partials.specs.PartialLaws.{all_related, is_mergeable_selection, is_mergeable, FinishedPartialIsMeaning, EmptyStandsForNone, MergedStands}
+use Rattle.dr_partials.specs.Accumulators.{Accumulator, counted, empty_accumulator, join_options, accumulated}
+use Rattle.dr_partials.specs.Partials.{Group, Partial, lines, grouped, term_accumulator, group_of, selected_partial, partial_of, Stands, join_all, merge_groups, merge, empty_term, empty_selected, empty_partial, item_value, behind_item, group_row, finished_selection, finished}
+use Rattle.dr_partials.specs.PartialLaws.{all_related, is_mergeable_selection, FinishedPartialIsMeaning, EmptyStandsForNone, MergedStands}
 use Rattle.dr_partials.proofs.AccumulatorLemmas.{gives_aggregate, join_of_both, accumulated_aggregate, empty_left, empty_right}
-use Rattle.dr_partials.proofs.GroupLemmas.{Tuple, same_tuple, same_itself, Ascending, find, found_alike, merged_ascends, find_merged, among, groups_at, find_at, among_distinct, distinct_ascends}
+use Rattle.dr_partials.proofs.GroupLemmas.{Tuple, same_tuple, find, found_alike, merged_ascends, find_merged, among, groups_at, find_at, among_distinct, distinct_ascends}
 use Rattle.dr_partials.proofs.RowLemmas.{Each, SingleAll, tuples_of, no_rows_elsewhere, single_kept, records_single}
 use Rattle.dr_partials.proofs.RelatedLemmas.{chains_begin, longest_begins, longest_itself}
 

@@ -1,5 +1,5 @@
 -- Partials of one query: they can be merged in any grouping, groups in any order, and give a partial of the query.
-use Rattle.std.proofs.Common.{◌≡◌, ℕ, ◌+◌, List, [], ◌∷◌, ◌++◌, map, length, Bool, true, false, ◌&&◌, Option, Some, None, refl, sym, ap, ap₂, ◌∙◌, subst, true≢false, append_assoc, append-nil}
+use Rattle.std.proofs.Common.{◌≡◌, ℕ, ◌+◌, List, [], ◌∷◌, map, Bool, true, false, ◌&&◌, Option, Some, None, refl, sym, ap, ap₂, ◌∙◌, true≢false, append_assoc, append-nil}
 use Rattle.std.specs.Prelude.{if◌then◌else◌, ℤ, ◌+ℤ◌}
 use Rattle.std.specs.List.{filter_map, cons_option, list_all}
 use Rattle.std.specs.Ordering.{is_lt, match_ordering}
@@ -10,16 +10,14 @@ use Rattle.std.proofs.lemmas.List.Folds.{list_all-append}
 use Rattle.dr_meaning.specs.Schema.{Fields}
 use Rattle.dr_meaning.specs.Path.{Step}
 use Rattle.dr_meaning.specs.Record.{Value}
-use Rattle.dr_meaning.specs.Expression.{Expression}
-use Rattle.dr_meaning.specs.Query.{Aggregate, count, sum, least, greatest, GroupTerm, key, count_rows, aggregate, GroupItem, Selection, objects, groups, Query, Object, levels_of, value_order, smaller, larger, tuple_order, count_value}
-use Rattle.dr_meaning.specs.BoundExpression.{ValueType, truth_type, number_type, text_type}
-use Rattle.dr_meaning.specs.BindingLaws.{is_of_type}
+use Rattle.dr_meaning.specs.Query.{Aggregate, count, sum, least, greatest, GroupTerm, key, count_rows, aggregate, GroupItem, Selection, objects, groups, levels_of, value_order, smaller, larger, tuple_order, count_value}
+use Rattle.dr_meaning.specs.BoundExpression.{ValueType}
 use Rattle.dr_partials.specs.Accumulators.{Accumulator, counted, summed, least_of, greatest_of, aggregate_of, empty_accumulator, join_options, join, result_of}
-use Rattle.dr_partials.specs.Partials.{Group, Partial, lines, grouped, join_all, join_groups, insert_group, merge_groups, merge, empty_term, empty_groups, empty_selected, empty_partial}
+use Rattle.dr_partials.specs.Partials.{Group, Partial, lines, grouped, join_all, join_groups, insert_group, merge_groups, merge, empty_term, empty_selected, empty_partial}
 use Rattle.dr_partials.specs.PartialTypes.{expression_type, has_type, are_keys, is_accumulator, with_aggregate, aggregates_among, are_accumulators, is_group, ascends, is_one_without_keys, has_cells, has_lists, is_of_selection, is_partial}
 use Rattle.dr_partials.specs.PartialLaws.{MergeIsAssociative, MergeIsCommutative, EmptyMergesToSame, EmptyIsPartial, MergedIsPartial, OneGroupWithoutKeys, CountIsNumber}
 use Rattle.dr_partials.proofs.AccumulatorLemmas.{OfOne, counts, sums, leasts, greatests, of_one, empty_left, empty_right}
-use Rattle.dr_partials.proofs.GroupLemmas.{Tuple, Ascending, ascending_groups, ascending_ascends, merged_ascends, OfKinds, AllOfKinds, merge_groups_assoc, merge_groups_comm, merge_groups_none}
+use Rattle.dr_partials.proofs.GroupLemmas.{Tuple, Ascending, ascending_groups, ascending_ascends, merged_ascends, AllOfKinds, merge_groups_assoc, merge_groups_comm, merge_groups_none}
 
 -- ---- which aggregates
 

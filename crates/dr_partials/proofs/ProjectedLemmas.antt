@@ -1,5 +1,5 @@
 -- A query has of projections to leaves that are enough for it the partial that it has of the records.
-use Rattle.std.proofs.Common.{◌≡◌, List, [], ◌∷◌, ◌++◌, map, length, Bool, true, false, ◌&&◌, Option, Some, None, cond, refl, sym, ap, ap₂, ◌∙◌}
+use Rattle.std.proofs.Common.{◌≡◌, List, [], ◌∷◌, ◌++◌, map, length, Bool, true, false, Option, Some, None, cond, refl, sym, ap, ap₂, ◌∙◌}
 use Rattle.std.specs.Prelude.{option_map, filter}
 use Rattle.std.specs.List.{filter_map, flat_map, cons_option}
 use Rattle.std.specs.Ordering.{is_eq}
@@ -13,13 +13,13 @@ use Rattle.dr_meaning.specs.Record.{Node, project}
 use Rattle.dr_meaning.specs.Rows.{rows}
 use Rattle.dr_meaning.specs.Expression.{Expression, paths_of, evaluate, expression_level, longest_level}
 use Rattle.dr_meaning.specs.Kept.{kept}
-use Rattle.dr_meaning.specs.Query.{GroupTerm, key, count_rows, aggregate, RecordItem, GroupItem, Selection, objects, groups, Query, Levels, levels_of, key_tuple, tuple_order, distinct_tuples, group_tuples, group_rows, meaning}
+use Rattle.dr_meaning.specs.Query.{GroupTerm, key, count_rows, aggregate, GroupItem, Selection, objects, groups, key_tuple, tuple_order, distinct_tuples, group_tuples, group_rows, meaning}
 use Rattle.dr_meaning.specs.ProjectionLaws.{leads}
-use Rattle.dr_meaning.specs.MeaningLaws.{condition_paths, group_term_paths, selection_paths, all_lead, covers}
+use Rattle.dr_meaning.specs.MeaningLaws.{condition_paths, group_term_paths, all_lead, covers}
 use Rattle.dr_meaning.proofs.ProjectionLemmas.{rows_of_projection, values_of_projection}
 use Rattle.dr_meaning.proofs.MeaningLemmas.{evaluate-project, kept-project, longest_level-leads, longer-leads, both_lead, meaning_of_projection}
 use Rattle.dr_partials.specs.Accumulators.{counted, accumulated}
-use Rattle.dr_partials.specs.Partials.{Partial, lines, grouped, term_accumulator, selected_partial, partial_of}
+use Rattle.dr_partials.specs.Partials.{lines, grouped, term_accumulator, partial_of}
 use Rattle.dr_partials.specs.PartialLaws.{PartialOfProjection}
 use Rattle.dr_partials.proofs.GroupLemmas.{Tuple, groups_at}
 use Rattle.dr_partials.proofs.PartialLemmas.{accumulators_at}

@@ -1,41 +1,34 @@
 -- The root query over the inner queries over the leaf query means the query: results are partials told as rows, and merging rows merges partials.
-use Rattle.std.proofs.Common.{◌≡◌, ◌≤◌, ℕ, zero, suc, ◌+◌, List, [], ◌∷◌, ◌++◌, map, length, Bool, true, false, ◌&&◌, ◌||◌, Option, Some, None, cond, refl, sym, ap, ap₂, ◌∙◌, subst, true≢false, append_assoc, append-nil, arith}
-use Rattle.std.specs.Prelude.{if◌then◌else◌, ℤ, pos, ◌+ℤ◌, filter, codes}
+use Rattle.std.proofs.Common.{◌≡◌, ℕ, zero, suc, ◌+◌, List, [], ◌∷◌, ◌++◌, map, length, true, ◌&&◌, Option, Some, None, cond, refl, sym, ap, ap₂, ◌∙◌, subst, arith}
+use Rattle.std.specs.Prelude.{pos, filter, codes}
 use Rattle.std.specs.Fmt.{decimal}
 use Rattle.std.specs.List.{filter_map, flat_map, cons_option, list_all, list_any, range_with_len}
-use Rattle.std.specs.Ordering.{is_eq, match_ordering}
+use Rattle.std.specs.Ordering.{match_ordering}
 use Rattle.std.specs.declared.cmp.Ordering.{Ordering}
 use Rattle.std.specs.declared.cmp.Ordering.TheVariants.{Less, Equal, Greater}
 use Rattle.std.proofs.Math.IntN.{+ℤ_idr}
 use Rattle.std.proofs.Math.Path.{fun_ext}
-use Rattle.std.proofs.lemmas.Bool.{and_parts}
-use Rattle.std.proofs.lemmas.Grind.{flat_map-append}
 use Rattle.std.proofs.lemmas.List.{map-append}
-use Rattle.std.proofs.lemmas.List.Elements.{filter_map-append}
-use Rattle.std.proofs.lemmas.List.Folds.{list_all-append}
-use Rattle.std.proofs.lemmas.Simd.{map-map}
-use Rattle.dr_meaning.specs.Schema.{Fields, no_fields, optional}
-use Rattle.dr_meaning.specs.Path.{Step, Leaf, same_path, leaves, longer, level, begins_with}
-use Rattle.dr_meaning.specs.Record.{Value, int_value, Node, no_slots, slot, Instances, no_instances, instances_at, is_record, inner}
-use Rattle.dr_meaning.specs.Rows.{rows, first_value, value_in, value_at}
-use Rattle.dr_meaning.specs.Expression.{Expression, path_value, evaluate, expression_level, longest_level}
+use Rattle.dr_meaning.specs.Schema.{Fields}
+use Rattle.dr_meaning.specs.Path.{Step, Leaf, same_path, leaves, longer}
+use Rattle.dr_meaning.specs.Record.{Value, Node, no_slots, slot, inner}
+use Rattle.dr_meaning.specs.Rows.{rows, value_at}
+use Rattle.dr_meaning.specs.Expression.{path_value, evaluate, expression_level, longest_level}
 use Rattle.dr_meaning.specs.Kept.{kept}
-use Rattle.dr_meaning.specs.Query.{Aggregate, count, sum, least, greatest, integer_sum, GroupTerm, key, count_rows, aggregate, RecordItem, GroupItem, Selection, objects, groups, Query, Object, cell, nth_value, Levels, levels_of, record_object, key_tuple, tuple_order, insert_tuple, distinct_tuples, group_tuples, group_rows, selected, meaning}
+use Rattle.dr_meaning.specs.Query.{Aggregate, count, sum, least, greatest, GroupTerm, key, count_rows, aggregate, GroupItem, Selection, objects, groups, cell, nth_value, Levels, levels_of, key_tuple, tuple_order, insert_tuple, distinct_tuples, group_tuples, group_rows}
 use Rattle.dr_meaning.specs.MeaningLaws.{condition_paths, group_term_paths, selection_paths, all_lead}
 use Rattle.dr_meaning.specs.QueryLeaves.{selection_values, in_reading_order, query_leaves}
 use Rattle.dr_meaning.specs.BoundExpression.{are_related}
-use Rattle.dr_partials.specs.Accumulators.{Accumulator, counted, summed, least_of, greatest_of, aggregate_of, empty_accumulator, accumulator_of_cell, join_options, join, accumulated, result_of}
-use Rattle.dr_partials.specs.Partials.{Group, Partial, lines, grouped, term_accumulator, group_of, selected_partial, partial_of, join_all, join_groups, insert_group, merge_groups, merge, item_value, behind_item, group_row, finished_selection, finished}
+use Rattle.dr_partials.specs.Accumulators.{Accumulator, counted, summed, least_of, greatest_of, aggregate_of, accumulator_of_cell, join, accumulated, result_of}
+use Rattle.dr_partials.specs.Partials.{Group, Partial, lines, grouped, term_accumulator, selected_partial, partial_of, join_all, join_groups, insert_group, merge_groups, merge, item_value, behind_item, group_row}
 use Rattle.dr_partials.specs.PartialTypes.{with_aggregate, aggregates_among, are_keys, are_accumulators, ascends, is_one_without_keys, is_of_selection, is_partial}
-use Rattle.dr_partials.specs.PartialLaws.{all_related, is_mergeable_selection, is_mergeable}
-use Rattle.dr_partials.specs.Trees.{Tree, leaf_server, intermediate_server, Trees, no_trees, next_tree, tablets_of, tablets_of_all}
-use Rattle.dr_partials.specs.TreeLaws.{records_of}
-use Rattle.dr_partials.specs.Rewriting.{key_items, aggregate_items, leaf_selection, leaf_query, Merging, by_query, column, key_columns, merging_aggregate, merging_term, merging_terms, inner_selection, inner_query, column_behind, root_items, root_selection, root_query, cell_instances, row_record, merged_results, tree_answer, trees_answer, root_answer}
+use Rattle.dr_partials.specs.PartialLaws.{all_related}
+use Rattle.dr_partials.specs.Rewriting.{key_items, aggregate_items, leaf_selection, leaf_query, column, key_columns, merging_aggregate, merging_term, merging_terms, column_behind, root_items, cell_instances, row_record}
 use Rattle.dr_partials.specs.RewritingLaws.{LeafHasPartials, LeafHasSamePartials, LeafUsesSameLeaves, LeafCoveredAlike}
 use Rattle.dr_partials.proofs.AccumulatorLemmas.{OfOne, counts, sums, leasts, greatests, of_one, empty_right, cell_aggregate, accumulated_aggregate}
 use Rattle.dr_partials.proofs.GroupLemmas.{Tuple, same_tuple, same_itself, AllAbove, Ascending, OfKinds, AllOfKinds, groups_at, distinct_ascends}
-use Rattle.dr_partials.proofs.RowLemmas.{Each, each_append, each_map, SingleIn, SingleAll, records_single, single_kept}
-use Rattle.dr_partials.proofs.PartialLemmas.{accumulators_at, finished_partial_is_meaning, key_paths, AreRelated, selected_append, mergeable_related}
+use Rattle.dr_partials.proofs.RowLemmas.{Each, each_map, SingleIn, SingleAll}
+use Rattle.dr_partials.proofs.PartialLemmas.{accumulators_at, AreRelated, selected_append}
 
 -- ---- the aggregates of items
 

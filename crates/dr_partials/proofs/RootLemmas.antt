@@ -1,6 +1,6 @@
 -- What a tree answers to the leaf query, and what the root makes of it.
-use Rattle.std.proofs.Common.{◌≡◌, ℕ, List, [], ◌∷◌, ◌++◌, map, length, Bool, true, false, ◌&&◌, Option, Some, None, refl, sym, ap, ap₂, ◌∙◌, subst, append_assoc, append-nil}
-use Rattle.std.specs.List.{filter_map, flat_map, cons_option, list_all, range_with_len}
+use Rattle.std.proofs.Common.{◌≡◌, ℕ, List, [], ◌∷◌, ◌++◌, map, length, true, ◌&&◌, Option, None, refl, sym, ap, ap₂, ◌∙◌, subst, append_assoc, append-nil}
+use Rattle.std.specs.List.{filter_map, list_all}
 use Rattle.std.proofs.Math.Path.{fun_ext}
 use Rattle.std.proofs.lemmas.Bool.{and_parts}
 use Rattle.std.proofs.lemmas.Grind.{flat_map-append}
@@ -13,19 +13,18 @@ use Rattle.dr_meaning.specs.Path.{Step}
 use Rattle.dr_meaning.specs.Record.{Node, is_record}
 use Rattle.dr_meaning.specs.Expression.{Expression}
 use Rattle.dr_meaning.specs.Kept.{kept}
-use Rattle.dr_meaning.specs.Query.{GroupTerm, RecordItem, GroupItem, Selection, objects, groups, Query, Object, Levels, no_levels, levels_of, record_object, group_tuples, meaning}
-use Rattle.dr_partials.specs.Accumulators.{Accumulator}
-use Rattle.dr_partials.specs.Partials.{Group, Partial, lines, grouped, selected_partial, partial_of, merge_groups, merge, group_row, finished_selection, finished}
+use Rattle.dr_meaning.specs.Query.{GroupTerm, RecordItem, GroupItem, Selection, objects, groups, Query, Object, no_levels, levels_of, record_object, meaning}
+use Rattle.dr_partials.specs.Partials.{Group, grouped, selected_partial, partial_of, merge_groups, merge, group_row, finished_selection, finished}
 use Rattle.dr_partials.specs.PartialTypes.{aggregates_among}
-use Rattle.dr_partials.specs.PartialLaws.{is_mergeable_selection, is_mergeable}
+use Rattle.dr_partials.specs.PartialLaws.{is_mergeable_selection}
 use Rattle.dr_partials.specs.Trees.{Tree, leaf_server, intermediate_server, Trees, no_trees, next_tree, tablets_of, tablets_of_all}
 use Rattle.dr_partials.specs.TreeLaws.{records_of}
 use Rattle.dr_partials.specs.Rewriting.{key_items, aggregate_items, leaf_query, key_columns, merging_terms, inner_query, root_items, root_query, row_record, merged_results, tree_answer, trees_answer, root_answer}
 use Rattle.dr_partials.specs.RewritingLaws.{RootMeansQuery}
-use Rattle.dr_partials.proofs.GroupLemmas.{Tuple, AllOfKinds}
+use Rattle.dr_partials.proofs.GroupLemmas.{AllOfKinds}
 use Rattle.dr_partials.proofs.RowLemmas.{Each, each_append, SingleAll, records_single, single_kept}
-use Rattle.dr_partials.proofs.PartialLemmas.{accumulators_at, finished_partial_is_meaning, key_paths, AreRelated, selected_append, mergeable_related}
-use Rattle.dr_partials.proofs.RewritingLemmas.{among_are, leaf_has_partials, same_groups, of_key_items, of_aggregate_items, merging_are, of_root_items, term_aggregate, FitsTerms, groups_in, groups_fit, groups_one, group_record, rows_columns, keys_over, merged_over, columns_related, records_cells, merged_group, as_merged, rows_partial, groups_merged, inner_row, root_row}
+use Rattle.dr_partials.proofs.PartialLemmas.{finished_partial_is_meaning, selected_append, mergeable_related}
+use Rattle.dr_partials.proofs.RewritingLemmas.{among_are, leaf_has_partials, same_groups, of_key_items, of_aggregate_items, merging_are, of_root_items, term_aggregate, FitsTerms, groups_in, groups_fit, groups_one, rows_columns, keys_over, merged_over, columns_related, records_cells, merged_group, rows_partial, groups_merged, inner_row, root_row}
 
 -- ---- an aggregate query
 
@@ -68,9 +67,9 @@ rows_told c keys items ns =
     record {
       single = subst (λ ms. Each (SingleAll (key_columns keys)) ms) (sym e) (records_cells keys gs);
       partial = ap (selected_partial (groups (key_columns keys) (inner_item_list keys items)) no_levels) e
-        ∙ rows_partial keys (aggregates_among items) (inner_item_list keys items) (among_are items) (inner_aggregates_are keys items)
-        (each_append _ (key_items 0 keys) (aggregate_items 0 (merging_terms (length keys) (aggregates_among items))) (keys_over 0 keys) (merged_over 0 (length keys) (aggregates_among items)))
-        no_levels gs f (groups_one keys items (filter_map (kept c) ns));
+          ∙ rows_partial keys (aggregates_among items) (inner_item_list keys items) (among_are items) (inner_aggregates_are keys items)
+          (each_append _ (key_items 0 keys) (aggregate_items 0 (merging_terms (length keys) (aggregates_among items))) (keys_over 0 keys) (merged_over 0 (length keys) (aggregates_among items)))
+          no_levels gs f (groups_one keys items (filter_map (kept c) ns));
     }
 
 inside : (gs hs : List Group) → grouped gs ≡ grouped hs → gs ≡ hs
@@ -98,12 +97,12 @@ both_told fs c keys items h os ps ns ms a b o p =
     record {
       single = subst (λ ms. Each (SingleAll (key_columns keys)) ms) (sym e) (each_append _ (map row_record os) (map row_record ps) o.single p.single);
       partial = ap (selected_partial (groups (key_columns keys) (inner_item_list keys items)) no_levels) e
-        ∙ (selected_append (groups (key_columns keys) (inner_item_list keys items)) no_levels (columns_related keys (inner_item_list keys items) over) (map row_record os) (map row_record ps) o.single p.single
-        ∙ (ap₂ merge o.partial p.partial
-        ∙ ap grouped (sym (groups_merged kinds (kept_groups c keys items ns) (kept_groups c keys items ms)
-        (fit_kinds keys (aggregates_among items) (kept_groups c keys items ns) (groups_fit keys items (filter_map (kept c) ns)))
-        (fit_kinds keys (aggregates_among items) (kept_groups c keys items ms) (groups_fit keys items (filter_map (kept c) ms))))
-        ∙ ap (map merged_group) (sym (both_groups fs c keys items h ns ms a b)))));
+          ∙ (selected_append (groups (key_columns keys) (inner_item_list keys items)) no_levels (columns_related keys (inner_item_list keys items) over) (map row_record os) (map row_record ps) o.single p.single
+          ∙ (ap₂ merge o.partial p.partial
+          ∙ ap grouped (sym (groups_merged kinds (kept_groups c keys items ns) (kept_groups c keys items ms)
+          (fit_kinds keys (aggregates_among items) (kept_groups c keys items ns) (groups_fit keys items (filter_map (kept c) ns)))
+          (fit_kinds keys (aggregates_among items) (kept_groups c keys items ms) (groups_fit keys items (filter_map (kept c) ms))))
+          ∙ ap (map merged_group) (sym (both_groups fs c keys items h ns ms a b)))));
     }
 
 all_kept : (ns : List Node) → filter_map (kept None) ns ≡ ns

@@ -1,7 +1,7 @@
 -- The partial of records of a schema is a partial of a bound query: its lines have the form of the query's objects, its keys and values their types.
 use Rattle.std.proofs.Common.{◌≡◌, inl, inr, ℕ, zero, suc, List, [], ◌∷◌, ◌++◌, map, Bool, true, false, ◌&&◌, Option, Some, None, cond, refl, sym, ap, ap₂, ◌∙◌, subst, true≢false, arith}
 use Rattle.std.specs.Prelude.{if◌then◌else◌, ◌==◌, option_map, filter, bytes_eq, nat_eq, Ok}
-use Rattle.std.specs.List.{list_all, filter_map, flat_map, cons_option, slice_get, join_with_byte}
+use Rattle.std.specs.List.{list_all, filter_map, flat_map, cons_option, join_with_byte}
 use Rattle.std.specs.Ordering.{is_eq, match_ordering}
 use Rattle.std.specs.declared.cmp.Ordering.{Ordering}
 use Rattle.std.specs.declared.cmp.Ordering.TheVariants.{Less, Equal, Greater}
@@ -9,12 +9,12 @@ use Rattle.std.proofs.lemmas.Bool.{and_parts, eqb-true}
 use Rattle.std.proofs.lemmas.Bool.Decides.{nat_tests}
 use Rattle.dr_meaning.specs.Schema.{Schema, Repetition, Kind, Fields, no_fields, field, Shape, leaf, group}
 use Rattle.dr_meaning.specs.Path.{Step, Leaf, longer, same_path, begins_with, same_repetition, leaves}
-use Rattle.dr_meaning.specs.Record.{Value, bool_value, int_value, text_value, Node, Instances, no_instances, instance, Instance, is_record, instances_in, instances_at, inner}
+use Rattle.dr_meaning.specs.Record.{Value, Node, Instances, no_instances, instance, Instance, is_record, instances_in, inner}
 use Rattle.dr_meaning.specs.Rows.{rows, first_value, value_in, value_at}
 use Rattle.dr_meaning.specs.Expression.{Arithmetic, plus, minus, times, Expression, evaluate, expression_level, longest_level, negative as negative_expression, is_null as is_null_expression, negation as negation_expression}
 use Rattle.dr_meaning.specs.Expression.{like as like_expression, contains as contains_expression, arithmetic as arithmetic_expression, comparison as comparison_expression, conjunction as conjunction_expression, disjunction as disjunction_expression}
 use Rattle.dr_meaning.specs.Kept.{kept}
-use Rattle.dr_meaning.specs.Query.{Aggregate, count, sum, least, greatest, GroupTerm, key, count_rows, aggregate, RecordItem, GroupItem, Selection, objects, groups, Query, Object, cell, list, Objects, Levels, no_levels, deeper, levels_of, term_level, term_value, with_cells, leads_to_items, with_list, objects_of, instances_of, object_lists, record_object, key_tuple, tuple_order, insert_tuple, distinct_tuples, group_tuples, group_rows}
+use Rattle.dr_meaning.specs.Query.{Aggregate, count, sum, least, greatest, GroupTerm, key, count_rows, aggregate, RecordItem, GroupItem, Selection, objects, groups, Query, Object, cell, Levels, no_levels, deeper, levels_of, term_level, term_value, with_cells, leads_to_items, with_list, objects_of, instances_of, object_lists, record_object, key_tuple, tuple_order, insert_tuple, distinct_tuples, group_tuples, group_rows}
 use Rattle.dr_meaning.specs.MeaningLaws.{condition_paths, group_term_paths}
 use Rattle.dr_meaning.specs.Syntax.{PathSyntax, ExpressionSyntax, number_literal, text_literal, truth_literal, path, negative, arithmetic, comparison, like, contains, is_null, negation, conjunction, disjunction}
 use Rattle.dr_meaning.specs.Syntax.{TermSyntax, expression, count_rows as count_rows_syntax, aggregate as aggregate_syntax, ItemSyntax, QuerySyntax}
@@ -29,13 +29,13 @@ use Rattle.dr_meaning.proofs.FindingLemmas.{In, in_at}
 use Rattle.dr_meaning.proofs.HasShapesLemmas.{records_have_shapes, rows_have_shapes, kept_have_shapes, leaf_typed}
 use Rattle.dr_meaning.proofs.LeafKinds.{kind_if_some, leaf_kind, shape_kind, kind_of_leaf}
 use Rattle.dr_meaning.proofs.ProjectionLemmas.{step}
-use Rattle.dr_partials.specs.Accumulators.{Accumulator, counted, empty_accumulator, accumulator_of_cell, accumulated, aggregate_of}
-use Rattle.dr_partials.specs.Partials.{Group, Partial, lines, grouped, term_accumulator, selected_partial, partial_of}
-use Rattle.dr_partials.specs.PartialTypes.{type_among, path_type, expression_type, has_type, are_keys, is_accumulator, with_aggregate, aggregates_among, are_accumulators, is_group, ascends, is_one_without_keys, begins_with_cell, all_objects, begins_with_list, has_cells, has_lists, is_of_selection, is_partial}
+use Rattle.dr_partials.specs.Accumulators.{accumulator_of_cell, accumulated}
+use Rattle.dr_partials.specs.Partials.{term_accumulator, selected_partial, partial_of}
+use Rattle.dr_partials.specs.PartialTypes.{type_among, path_type, expression_type, has_type, are_keys, is_accumulator, with_aggregate, aggregates_among, are_accumulators, is_group, begins_with_cell, all_objects, begins_with_list, has_cells, has_lists, is_of_selection, is_partial}
 use Rattle.dr_partials.specs.PartialLaws.{RecordsHavePartials}
 use Rattle.dr_partials.proofs.AccumulatorLemmas.{of_one, cell_aggregate, accumulated_aggregate}
 use Rattle.dr_partials.proofs.GroupLemmas.{Tuple, groups_at, ascending_ascends, distinct_ascends}
-use Rattle.dr_partials.proofs.RowLemmas.{Each, each_append, each_weaker, each_map}
+use Rattle.dr_partials.proofs.RowLemmas.{Each, each_append, each_map}
 use Rattle.dr_partials.proofs.PartialLemmas.{accumulators_at}
 use Rattle.dr_partials.proofs.PartialTypeLemmas.{joined_of}
 

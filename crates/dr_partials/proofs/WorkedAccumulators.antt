@@ -1,9 +1,9 @@
 -- What is gathered of values, joined, and given, by computation.
 use Rattle.std.proofs.Common.{arith, lit≤}
-use Rattle.std.specs.Prelude.{◌≡◌, ℕ, ◌+◌, ◌^◌, List, [], ◌∷◌, map, Bool, true, false, pos, neg_ℤ, Option, Some, None, codes, refl}
+use Rattle.std.specs.Prelude.{◌≡◌, ℕ, ◌+◌, ◌^◌, List, [], ◌∷◌, map, true, false, pos, neg_ℤ, Option, Some, None, codes, refl}
 use Rattle.dr_meaning.specs.Record.{Value, bool_value, int_value, text_value}
 use Rattle.dr_meaning.specs.Query.{Aggregate, count, sum, least, greatest, no_entries}
-use Rattle.dr_partials.specs.Accumulators.{Accumulator, counted, summed, least_of, greatest_of, aggregate_of, empty_accumulator, join, take_value, take_row, accumulated, result_of}
+use Rattle.dr_partials.specs.Accumulators.{counted, summed, least_of, greatest_of, aggregate_of, empty_accumulator, join, take_value, take_row, accumulated, result_of}
 use Rattle.dr_partials.specs.Partials.{lines, grouped}
 use Rattle.dr_partials.specs.PartialBounds.{CanBeOf, PartialCanBeOf}
 

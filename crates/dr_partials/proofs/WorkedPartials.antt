@@ -1,9 +1,8 @@
 -- Partials of queries on the worked records, merged and finished, by computation.
-use Rattle.std.specs.Prelude.{◌≡◌, ℕ, List, [], ◌∷◌, ◌++◌, map, Bool, true, false, pos, Option, Some, None, codes, refl}
-use Rattle.dr_meaning.specs.Path.{Step}
+use Rattle.std.specs.Prelude.{◌≡◌, ℕ, List, [], ◌∷◌, Bool, true, false, pos, Option, Some, None, codes, refl}
 use Rattle.dr_meaning.specs.Record.{Value, bool_value, int_value, text_value, Node}
 use Rattle.dr_meaning.specs.Expression.{Expression, constant, path_value, negative, arithmetic, plus, minus, times, comparison, less, greater, like, contains, is_null, negation, conjunction, disjunction}
-use Rattle.dr_meaning.specs.Query.{Aggregate, count, sum, least, greatest, RecordItem, expression, within, GroupItem, GroupTerm, key, count_rows, aggregate, Query, objects, groups, Object, no_entries, cell, list, no_objects, object, meaning}
+use Rattle.dr_meaning.specs.Query.{count, sum, least, greatest, expression, within, GroupItem, GroupTerm, key, count_rows, aggregate, Query, objects, groups, Object, no_entries, cell, list, no_objects, object}
 use Rattle.dr_meaning.proofs.WorkedSchemas.{document}
 use Rattle.dr_meaning.proofs.WorkedRecords.{record_10, record_20, record_30}
 use Rattle.dr_meaning.proofs.WorkedPaths.{doc_id, backward, forward, name, code, country, url}
@@ -76,7 +75,7 @@ abbrev pub by_country : Query
 by_country = record {
   condition = None;
   selection = groups (country ∷ []) (item (codes "n") count_rows ∷ item (codes "c") (key 0) ∷ item (codes "l") (aggregate least (path_value code))
-    ∷ item (codes "g") (aggregate greatest (path_value code)) ∷ item (codes "d") (aggregate count (path_value doc_id)) ∷ []);
+      ∷ item (codes "g") (aggregate greatest (path_value code)) ∷ item (codes "d") (aggregate count (path_value doc_id)) ∷ []);
 }
 
 abbrev gb : Group
@@ -138,7 +137,7 @@ abbrev pub of_each : Query
 of_each = record {
   condition = None;
   selection = objects (record { name = codes "d"; term = expression (path_value doc_id) } ∷ record { name = codes "u"; term = within count (path_value url) [] }
-    ∷ record { name = codes "b"; term = expression (path_value backward) } ∷ []);
+      ∷ record { name = codes "b"; term = expression (path_value backward) } ∷ []);
 }
 
 abbrev line_10 : Object

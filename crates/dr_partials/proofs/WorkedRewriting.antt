@@ -1,16 +1,16 @@
 -- The queries of leaf servers, intermediate servers and the root, by computation.
-use Rattle.std.specs.Prelude.{◌≡◌, ℕ, zero, suc, List, [], ◌∷◌, ◌++◌, pos, Some, None, codes, refl}
+use Rattle.std.specs.Prelude.{◌≡◌, ℕ, zero, suc, List, [], ◌∷◌, pos, Some, None, codes, refl}
 use Rattle.std.specs.Fmt.{digits}
 use Rattle.dr_meaning.specs.Schema.{optional}
 use Rattle.dr_meaning.specs.Path.{Step}
 use Rattle.dr_meaning.specs.Record.{Node, int_value, text_value}
 use Rattle.dr_meaning.specs.Expression.{path_value}
-use Rattle.dr_meaning.specs.Query.{count, sum, least, greatest, GroupTerm, key, count_rows, aggregate, GroupItem, Query, groups, Object, no_entries, cell, meaning}
+use Rattle.dr_meaning.specs.Query.{count, sum, least, greatest, GroupTerm, key, count_rows, aggregate, GroupItem, Query, groups, no_entries, cell, meaning}
 use Rattle.dr_meaning.proofs.WorkedSchemas.{document}
 use Rattle.dr_meaning.proofs.WorkedRecords.{record_10, record_20, record_30}
 use Rattle.dr_meaning.proofs.WorkedPaths.{doc_id, code, country, url}
-use Rattle.dr_partials.specs.Trees.{Tree, leaf_server, intermediate_server, no_trees, next_tree, of_fan}
-use Rattle.dr_partials.specs.Rewriting.{leaf_query, Merging, concatenated, by_query, inner_query, root_query, merged_results, tree_answer, root_answer}
+use Rattle.dr_partials.specs.Trees.{Tree, leaf_server, intermediate_server, no_trees, next_tree}
+use Rattle.dr_partials.specs.Rewriting.{leaf_query, concatenated, by_query, inner_query, root_query, tree_answer, root_answer}
 use Rattle.dr_partials.proofs.WorkedPartials.{totals, by_country, of_each}
 
 abbrev item : List ℕ → GroupTerm → GroupItem
@@ -21,7 +21,7 @@ item n t = record { name = n; term = t }
 pub leaf_by_country : leaf_query by_country ≡ record {
   condition = None;
   selection = groups (country ∷ []) (item (codes "k0") (key 0) ∷ item (codes "a0") count_rows ∷ item (codes "a1") (aggregate least (path_value code))
-    ∷ item (codes "a2") (aggregate greatest (path_value code)) ∷ item (codes "a3") (aggregate count (path_value doc_id)) ∷ []);
+      ∷ item (codes "a2") (aggregate greatest (path_value code)) ∷ item (codes "a3") (aggregate count (path_value doc_id)) ∷ []);
 }
 unfolding leaf_query digits
 leaf_by_country = refl
@@ -33,7 +33,7 @@ col i = record { place = i; repetition = optional } ∷ []
 pub inner_by_country : inner_query by_country ≡ by_query (record {
   condition = None;
   selection = groups (col 0 ∷ []) (item (codes "k0") (key 0) ∷ item (codes "a0") (aggregate sum (path_value (col 1))) ∷ item (codes "a1") (aggregate least (path_value (col 2)))
-    ∷ item (codes "a2") (aggregate greatest (path_value (col 3))) ∷ item (codes "a3") (aggregate sum (path_value (col 4))) ∷ []);
+      ∷ item (codes "a2") (aggregate greatest (path_value (col 3))) ∷ item (codes "a3") (aggregate sum (path_value (col 4))) ∷ []);
 })
 unfolding inner_query digits
 inner_by_country = refl
@@ -42,7 +42,7 @@ inner_by_country = refl
 pub root_by_country : root_query by_country ≡ by_query (record {
   condition = None;
   selection = groups (col 0 ∷ []) (item (codes "n") (aggregate sum (path_value (col 1))) ∷ item (codes "c") (key 0) ∷ item (codes "l") (aggregate least (path_value (col 2)))
-    ∷ item (codes "g") (aggregate greatest (path_value (col 3))) ∷ item (codes "d") (aggregate sum (path_value (col 4))) ∷ []);
+      ∷ item (codes "g") (aggregate greatest (path_value (col 3))) ∷ item (codes "d") (aggregate sum (path_value (col 4))) ∷ []);
 })
 unfolding root_query
 root_by_country = refl

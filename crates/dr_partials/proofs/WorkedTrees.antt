@@ -1,8 +1,8 @@
 -- Trees of a fan, and what trees gather, by computation.
-use Rattle.std.specs.Prelude.{◌≡◌, ℕ, List, [], ◌∷◌, None, refl}
+use Rattle.std.specs.Prelude.{◌≡◌, ℕ, [], ◌∷◌, None, refl}
 use Rattle.dr_meaning.specs.Query.{cell, no_entries, Object}
 use Rattle.dr_partials.specs.Partials.{Partial, lines, merge}
-use Rattle.dr_partials.specs.Trees.{Tree, leaf_server, intermediate_server, Trees, no_trees, next_tree, tablets_of, gathered, trees_of, of_fan}
+use Rattle.dr_partials.specs.Trees.{Tree, leaf_server, intermediate_server, no_trees, next_tree, tablets_of, gathered, trees_of, of_fan}
 
 abbrev pair : Tree → Tree → Tree
 pair t u = intermediate_server t (next_tree u no_trees)

@@ -1,11 +1,11 @@
 -- Which partials are partials of a query: the forms of lines, the types of keys and of accumulators.
-use Rattle.std.specs.Prelude.{ℕ, List, [], ◌∷◌, map, Bool, true, false, ◌&&◌, if◌then◌else◌, Option, Some, None, option_map, bytes_eq}
+use Rattle.std.specs.Prelude.{ℕ, List, [], ◌∷◌, map, Bool, true, false, ◌&&◌, if◌then◌else◌, Option, Some, None, bytes_eq}
 use Rattle.std.specs.List.{list_all, join_with_byte}
 use Rattle.std.specs.Ordering.{is_lt}
 use Rattle.dr_meaning.specs.Schema.{Fields}
 use Rattle.dr_meaning.specs.Path.{Step, Leaf, same_path, leaves}
 use Rattle.dr_meaning.specs.Record.{Value, bool_value, int_value, text_value}
-use Rattle.dr_meaning.specs.Expression.{Arithmetic, plus, Expression, constant, path_value, negative, arithmetic, comparison, like, contains, is_null}
+use Rattle.dr_meaning.specs.Expression.{plus, Expression, constant, path_value, negative, arithmetic, comparison, like, contains, is_null}
 use Rattle.dr_meaning.specs.Expression.{negation, conjunction, disjunction}
 use Rattle.dr_meaning.specs.Query.{count, sum, least, greatest, GroupTerm, key, count_rows, aggregate, RecordItem, GroupItem, Selection, objects, groups}
 use Rattle.dr_meaning.specs.Query.{Query, Object, no_entries, cell, list, Objects, no_objects, object, Levels, no_levels, deeper, levels_of, term_level}

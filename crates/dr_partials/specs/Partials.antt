@@ -1,19 +1,16 @@
 -- Partials: what a query gives on some of the records, held so that it can be merged with what it gives on others (Dremel 2010, section 6).
-use Rattle.std.specs.Prelude.{◌≡◌, List, [], ◌∷◌, ◌++◌, map, length, Bool, true, false, ◌&&◌, if◌then◌else◌, Option, Some, None, option_map, bytes_eq}
-use Rattle.std.specs.List.{filter_map, list_all, join_with_byte}
-use Rattle.std.specs.Ordering.{is_lt, match_ordering}
+use Rattle.std.specs.Prelude.{◌≡◌, List, [], ◌∷◌, ◌++◌, map, length, Option, Some, None}
+use Rattle.std.specs.List.{filter_map}
+use Rattle.std.specs.Ordering.{match_ordering}
 use Rattle.dr_meaning.specs.Schema.{Fields}
-use Rattle.dr_meaning.specs.Path.{Step, Leaf, same_path, longer, leaves}
-use Rattle.dr_meaning.specs.Record.{Value, bool_value, int_value, text_value, Node}
-use Rattle.dr_meaning.specs.Expression.{Arithmetic, plus, Expression, constant, path_value, negative, arithmetic, comparison, like, contains, is_null}
-use Rattle.dr_meaning.specs.Expression.{negation, conjunction, disjunction, evaluate, expression_level, longest_level}
+use Rattle.dr_meaning.specs.Path.{Step, longer}
+use Rattle.dr_meaning.specs.Record.{Value, Node}
+use Rattle.dr_meaning.specs.Expression.{evaluate, expression_level, longest_level}
 use Rattle.dr_meaning.specs.Kept.{kept}
-use Rattle.dr_meaning.specs.Query.{count, sum, least, greatest, GroupTerm, key, count_rows, aggregate, RecordItem, GroupItem, Selection, objects, groups}
-use Rattle.dr_meaning.specs.Query.{Query, Object, no_entries, cell, list, Objects, no_objects, object, Levels, no_levels, deeper, levels_of, term_level}
-use Rattle.dr_meaning.specs.Query.{leads_to_items, record_object, tuple_order, group_tuples, group_rows, nth_value}
-use Rattle.dr_meaning.specs.BoundExpression.{ValueType, truth_type, number_type, text_type, kind_type}
-use Rattle.dr_meaning.specs.BindingLaws.{is_of_type}
-use Rattle.dr_partials.specs.Accumulators.{Accumulator, counted, summed, least_of, greatest_of, empty_accumulator, join, accumulated, result_of}
+use Rattle.dr_meaning.specs.Query.{GroupTerm, key, count_rows, aggregate, GroupItem, Selection, objects, groups}
+use Rattle.dr_meaning.specs.Query.{Query, Object, no_entries, cell, Levels, levels_of}
+use Rattle.dr_meaning.specs.Query.{record_object, tuple_order, group_tuples, group_rows, nth_value}
+use Rattle.dr_partials.specs.Accumulators.{Accumulator, counted, empty_accumulator, join, accumulated, result_of}
 
 -- a group of an aggregate query: its key tuple, and what each aggregate among the items has gathered, in the order of the items
 pub record Group : Type 0 where

@@ -1,7 +1,7 @@
 -- Rewriting: a query over a table as a query over each tablet, a query that merges the results of children, and one that ends at the root
 -- (Dremel 2010, section 6).
 use Rattle.std.specs.Prelude.{ℕ, suc, List, [], ◌∷◌, ◌++◌, map, length, Option, Some, None, codes}
-use Rattle.std.specs.List.{range_with_len, flat_map}
+use Rattle.std.specs.List.{range_with_len}
 use Rattle.std.specs.Fmt.{decimal}
 use Rattle.dr_meaning.specs.Schema.{optional, Fields, no_fields}
 use Rattle.dr_meaning.specs.Path.{Step}

@@ -6,5 +6,3 @@ pub mod accumulator_laws;
 pub mod partial_laws;
 pub mod rewriting_laws;
 pub mod tree_laws;
-
-
