@@ -1,19 +1,11 @@
 -- The kept pieces of a history in which each tablet has an answer; the causes that aren't failed reads.
-use Rattle.std.proofs.Common.{◌≡◌, ◌<◌, ◌≤◌, ℕ, zero, suc, ◌+◌, List, [], ◌∷◌, map, length, Bool, true, false, ◌||◌, refl, sym, ap, ◌∙◌, subst, true≢false, arith}
+use Rattle.std.proofs.Common.{◌≡◌, ◌<◌, ℕ, suc, ◌+◌, List, [], ◌∷◌, map, length, Bool, true, false, ◌||◌, refl, sym, ap, ◌∙◌, subst, true≢false, arith}
 use Rattle.std.specs.Prelude.{◌==◌, if◌then◌else◌}
 use Rattle.std.specs.List.{All, list_any}
 use Rattle.std.proofs.lemmas.Bool.{eqb-true}
-use Rattle.dr_meaning.specs.Schema.{Schema}
-use Rattle.dr_meaning.specs.Path.{Leaf}
-use Rattle.dr_meaning.specs.Record.{Node}
-use Rattle.dr_formats.specs.File.{FileCause, bad_footer, bad_schema, bad_codec, bad_data, IsFileOf}
+use Rattle.dr_formats.specs.File.{bad_footer, bad_schema, bad_codec, bad_data}
 use Rattle.dr_formats.proofs.FileLemmas.{file_has_no_cause}
-use Rattle.dr_outside.specs.declared.cause.Cause.{Cause}
 use Rattle.dr_outside.specs.declared.cause.Cause.TheVariants.{ReadFailed, BadFooter, BadSchema, BadCodec, BadData}
-use Rattle.dr_dispatch.specs.Job.{Job}
-use Rattle.dr_dispatch.specs.History.{has_answer, answered}
-use Rattle.dr_dispatch.specs.Pieces.{KeepsPieces}
-use Rattle.dr_dispatch.specs.declared.event.Event.{Event}
 use Rattle.dr_dispatch.proofs.HistoryLemmas.{answered_have_answers}
 use Rattle.dr_partials.specs.Partials.{Partial}
 use Rattle.dr_serving.specs.Truth.{IsTrueOf}

@@ -1,10 +1,9 @@
 -- Pieces that are true of tablets of records stand for the leaf query on these; gathered, they mean the query.
-use Rattle.std.proofs.Common.{◌≡◌, inl, inr, ℕ, zero, suc, ◌+◌, List, [], ◌∷◌, ◌++◌, map, length, Bool, true, false, ◌&&◌, Option, Some, None, refl, sym, ap, ap₂, ◌∙◌, subst, append-nil, arith}
+use Rattle.std.proofs.Common.{◌≡◌, inl, inr, ℕ, suc, ◌+◌, List, [], ◌∷◌, ◌++◌, map, length, Bool, true, ◌&&◌, Option, Some, None, refl, sym, ap, ap₂, ◌∙◌, subst, append-nil, arith}
 use Rattle.std.specs.Prelude.{◌⊎◌}
 use Rattle.std.specs.List.{list_all, range_with_len}
 use Rattle.std.proofs.lemmas.Bool.{and_parts}
 use Rattle.std.proofs.lemmas.List.Folds.{list_all-append}
-use Rattle.std.proofs.lemmas.Simd.{map-map}
 use Rattle.dr_meaning.specs.Schema.{Schema, Fields}
 use Rattle.dr_meaning.specs.Path.{Step, Leaf, is_leaf_path}
 use Rattle.dr_meaning.specs.Record.{Node, is_record, project}
@@ -14,12 +13,12 @@ use Rattle.dr_meaning.specs.Column.{Triplet, column}
 use Rattle.dr_meaning.specs.QueryLeaves.{query_leaves}
 use Rattle.dr_meaning.proofs.ColumnLemmas.{columns_determine}
 use Rattle.dr_meaning.proofs.QueryLeavesLemmas.{query_leaves_are_leaves}
-use Rattle.dr_formats.specs.File.{Footer, footer_of, file_column, AreColumns, IsDataOf, IsFileOf}
+use Rattle.dr_formats.specs.File.{Footer, footer_of, IsDataOf, IsFileOf}
 use Rattle.dr_outside.specs.Link.{Files}
 use Rattle.dr_partials.specs.Partials.{Partial, partial_of, Stands, finished}
 use Rattle.dr_partials.specs.PartialTypes.{with_aggregate, aggregates_among}
 use Rattle.dr_partials.specs.PartialLaws.{all_related, is_mergeable_selection, is_mergeable}
-use Rattle.dr_partials.specs.Trees.{Tree, tablets_of, gathered}
+use Rattle.dr_partials.specs.Trees.{tablets_of, gathered}
 use Rattle.dr_partials.specs.TreeLaws.{records_of, StandsForEach}
 use Rattle.dr_partials.specs.Rewriting.{key_items, aggregate_items, leaf_selection, leaf_query}
 use Rattle.dr_partials.proofs.PartialLemmas.{finished_partial_is_meaning}
@@ -27,9 +26,9 @@ use Rattle.dr_partials.proofs.ProjectedLemmas.{partial_of_projection}
 use Rattle.dr_partials.proofs.RewritingLemmas.{leaf_has_partials, leaf_uses_same_leaves, leaf_covered_alike}
 use Rattle.dr_partials.proofs.BoundLemmas.{bound_is_mergeable, bound_leaves_are_enough}
 use Rattle.dr_partials.proofs.TreeLemmas.{gathered_stands}
-use Rattle.dr_serving.specs.Held.{Held, untold, absent, present, held_file, held_at, held_on, held_by_all, IsHeld, IsUntold}
-use Rattle.dr_serving.specs.Truth.{TabletTruth, leaves_of, StandsForFile, IsTrueOf}
-use Rattle.dr_serving.specs.Outcome.{Service, service_leaves, truth_of, AreTrueFrom, IsFinished}
+use Rattle.dr_serving.specs.Held.{Held, present, held_file, held_on, held_by_all, IsHeld, IsUntold}
+use Rattle.dr_serving.specs.Truth.{TabletTruth, leaves_of, StandsForFile}
+use Rattle.dr_serving.specs.Outcome.{Service, service_leaves, truth_of, AreTrueFrom}
 use Rattle.dr_serving.specs.Premises.{TellsFiles, AllTell, HoldsRecords, PathsHold, TabletsHold, paths_of_leaves, ServesRecords, IsServable, all_records}
 use Rattle.dr_serving.specs.ServingLaws.{HasEnoughLeaves, EachHolds, TrueOfTabletStands, FinishedMeansQuery, BoundIsServable}
 
@@ -177,6 +176,6 @@ bound_is_servable s q h =
     let fs : Fields = s.schema.fields in
     record {
       enough = ap (λ F. covers (paths_of_leaves F) (leaf_query s.query)) (leaf_uses_same_leaves fs s.query)
-        ∙ (leaf_covered_alike (paths_of_leaves (query_leaves fs s.query)) s.query ∙ bound_leaves_are_enough s.schema q s.query h);
+          ∙ (leaf_covered_alike (paths_of_leaves (query_leaves fs s.query)) s.query ∙ bound_leaves_are_enough s.schema q s.query h);
       mergeable = bound_is_mergeable s.schema q s.query h;
     }

@@ -1,6 +1,6 @@
 -- Pieces, causes, outcomes and premises, by example: a table of one column, of which one file is held.
 use Rattle.std.proofs.Common.{arith, lit≤}
-use Rattle.std.specs.Prelude.{◌≡◌, ◌≢◌, ℕ, ◌+◌, ◌-◌, ◌^◌, List, [], ◌∷◌, length, true, false, pos, Some, None, codes, refl, bytes_eq, if◌then◌else◌}
+use Rattle.std.specs.Prelude.{◌≡◌, ℕ, ◌+◌, ◌-◌, ◌^◌, List, [], ◌∷◌, length, true, pos, Some, None, codes, refl, bytes_eq, if◌then◌else◌}
 use Rattle.std.proofs.Common.{inl, inr, sym, ap, subst, ◌∙◌, true≢false}
 use Rattle.dr_meaning.specs.Path.{Step, Leaf}
 use Rattle.dr_meaning.specs.Schema.{required, int64_kind}
@@ -22,10 +22,10 @@ use Rattle.dr_partials.specs.Partials.{Partial, lines, grouped, partial_of, Stan
 use Rattle.dr_partials.specs.PartialTypes.{is_partial}
 use Rattle.dr_partials.specs.Trees.{of_fan}
 use Rattle.dr_partials.specs.Rewriting.{leaf_query}
-use Rattle.dr_serving.specs.Held.{Held, untold, absent, present, held_at, held_on, held_by_all, IsHeld, IsUntold}
-use Rattle.dr_serving.specs.Truth.{TabletTruth, leaves_of, StandsForFile, IsTrueOf}
-use Rattle.dr_serving.specs.Causes.{HeldHasCause, IsJustified, AreJustified, RisesApart}
-use Rattle.dr_serving.specs.Outcome.{Service, service_leaves, truth_of, LeftTablet, LeavesJust, no_tablets, has_piece, is_left, AreTrueFrom, IsFinished, IsUnfinished}
+use Rattle.dr_serving.specs.Held.{Held, untold, absent, present, held_at, held_by_all, IsHeld, IsUntold}
+use Rattle.dr_serving.specs.Truth.{TabletTruth, IsTrueOf}
+use Rattle.dr_serving.specs.Causes.{IsJustified, AreJustified, RisesApart}
+use Rattle.dr_serving.specs.Outcome.{Service, LeftTablet, no_tablets, has_piece, is_left, IsFinished, IsUnfinished}
 use Rattle.dr_serving.specs.Pieces.{TabletPiece, paths_at, IsTrueAt, kept_partial}
 use Rattle.dr_serving.specs.Premises.{AllTell, HoldsRecords, ServesRecords, IsServable}
 use Rattle.dr_serving.specs.ServingLaws.{HasEnoughLeaves}
@@ -149,7 +149,7 @@ same_count m n xs ys h = ap count_in h
 pub wrong_piece : IsTrueOf (truth_with (absent ∷ present one_file ∷ [])) (piece_of (counted 2 ∷ summed (Some (pos 1)) ∷ [])) → ⊥
 wrong_piece t =
     let e = standing_is one (piece_of (counted 2 ∷ summed (Some (pos 1)) ∷ []))
-        (true_of_tablet_stands (truth_with (absent ∷ present one_file ∷ [])) one (piece_of (counted 2 ∷ summed (Some (pos 1)) ∷ [])) (enough_leaves (absent ∷ present one_file ∷ [])) (tt, (inl one_is_file, tt)) t) ∙ one_partial in
+    (true_of_tablet_stands (truth_with (absent ∷ present one_file ∷ [])) one (piece_of (counted 2 ∷ summed (Some (pos 1)) ∷ [])) (enough_leaves (absent ∷ present one_file ∷ [])) (tt, (inl one_is_file, tt)) t) ∙ one_partial in
     let n = same_count 2 1 (summed (Some (pos 1)) ∷ []) (summed (Some (pos 1)) ∷ []) e in
     omega (arith, n)
 
@@ -225,8 +225,15 @@ for_each_leaf = ((no_footer, (lit≤ tt, tt)), λ h. h.1, λ h. h.1)
 -- two failed reads have two rises
 pub rises : RisesApart 3 (ReadFailed 3 4 ∷ BadFooter ∷ ReadFailed 4 6 ∷ []) 6 × (RisesApart 3 (ReadFailed 3 4 ∷ ReadFailed 3 4 ∷ []) 9 → ⊥) × (RisesApart 3 (ReadFailed 2 4 ∷ []) 9 → ⊥) × (RisesApart 3 (ReadFailed 3 4 ∷ []) 3 → ⊥)
     × RisesApart 3 (BadSchema ∷ BadCodec ∷ BadData ∷ []) 3 × (RisesApart 3 [] 2 → ⊥) × (RisesApart 3 (ReadFailed 3 3 ∷ []) 9 → ⊥)
-rises = ((lit≤ tt, lit≤ tt, (lit≤ tt, lit≤ tt, lit≤ tt)), λ h. let k = h.2.0 in omega (arith, k), λ h. let k = h.0 in omega (arith, k), λ h. let k = h.2 in omega (arith, k), lit≤ tt, λ h. omega (arith, h),
-    λ h. let k = h.1 in omega (arith, k))
+rises = (
+  (lit≤ tt, lit≤ tt, (lit≤ tt, lit≤ tt, lit≤ tt)),
+  λ h. let k = h.2.0 in omega (arith, k),
+  λ h. let k = h.0 in omega (arith, k),
+  λ h. let k = h.2 in omega (arith, k),
+  lit≤ tt,
+  λ h. omega (arith, h),
+  λ h. let k = h.1 in omega (arith, k),
+)
 
 -- ---- outcomes
 
@@ -241,10 +248,12 @@ abbrev second : LeftTablet
 second = record { tablet = 1; causes = BadFooter ∷ ReadFailed 5 6 ∷ [] }
 
 pub second_is_left : IsUnfinished (service two_tablets) 5 6 (second ∷ [])
-second_is_left = (λ h. cc,
-    has_piece 0 (path_b ∷ path_a ∷ []) ((path_b ∷ path_c ∷ []) ∷ []) (second ∷ []) one_piece (true_piece (held_by_all (Some files ∷ Some files ∷ []) (path_b ∷ path_a ∷ [])) (inr (inl refl)))
-    (is_left 1 (path_b ∷ path_c ∷ []) [] [] (BadFooter ∷ ReadFailed 5 6 ∷ []) (no_footer, (lit≤ tt, tt)) (no_tablets 2)),
-    (lit≤ tt, lit≤ tt, lit≤ tt))
+second_is_left = (
+  λ h. cc,
+  has_piece 0 (path_b ∷ path_a ∷ []) ((path_b ∷ path_c ∷ []) ∷ []) (second ∷ []) one_piece (true_piece (held_by_all (Some files ∷ Some files ∷ []) (path_b ∷ path_a ∷ [])) (inr (inl refl)))
+      (is_left 1 (path_b ∷ path_c ∷ []) [] [] (BadFooter ∷ ReadFailed 5 6 ∷ []) (no_footer, (lit≤ tt, tt)) (no_tablets 2)),
+  (lit≤ tt, lit≤ tt, lit≤ tt),
+)
 
 -- finished: a piece of each of two tablets of one record, gathered
 abbrev both_held : List (List (List ℕ))

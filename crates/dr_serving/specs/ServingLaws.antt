@@ -3,7 +3,7 @@ use Rattle.std.specs.Prelude.{◌≡◌, ℕ, ◌<◌, ⊤, Bool, true, false, L
 use Rattle.dr_meaning.specs.Schema.{Schema}
 use Rattle.dr_meaning.specs.Path.{Leaf}
 use Rattle.dr_meaning.specs.Record.{Node}
-use Rattle.dr_meaning.specs.Query.{Query, meaning}
+use Rattle.dr_meaning.specs.Query.{meaning}
 use Rattle.dr_meaning.specs.MeaningLaws.{covers}
 use Rattle.dr_meaning.specs.Syntax.{QuerySyntax}
 use Rattle.dr_meaning.specs.Binding.{bind}
