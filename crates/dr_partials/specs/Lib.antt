@@ -1,7 +1,7 @@
 -- The definitions of partial answers, in the order in which they build on one another.
 -- what an aggregate gathers of values
 pub mod Accumulators
--- what a query gives on some of the records, merged with what it gives on others; which partials are those of a query
+-- what a query gives on some of the records, merged with what it gives on others; which partials are those of a query, and of how many values
 pub mod Partials
 pub mod PartialTypes
 pub mod PartialBounds
