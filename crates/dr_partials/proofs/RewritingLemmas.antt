@@ -352,7 +352,12 @@ as_merged (greatest_of v) = greatest_of v
 abbrev pub merged_group : Group → Group
 merged_group g = record { keys = g.keys; accumulators = map as_merged g.accumulators }
 
-cell_merged : (t : GroupTerm) (x : Accumulator) → IsAggregate t → aggregate_of x ≡ term_aggregate t → accumulator_of_cell (merging_aggregate t) (result_of x) ≡ as_merged x
+abbrev merging_of : GroupTerm → Aggregate
+merging_of (key i) = count
+merging_of count_rows = sum
+merging_of (aggregate a e) = merging_aggregate a
+
+cell_merged : (t : GroupTerm) (x : Accumulator) → IsAggregate t → aggregate_of x ≡ term_aggregate t → accumulator_of_cell (merging_of t) (result_of x) ≡ as_merged x
 cell_merged (key i) x h k = absurd h
 cell_merged count_rows (counted n) h k = ap (λ z. summed (Some z)) (+ℤ_idr (pos n))
 cell_merged (aggregate count e) (counted n) h k = ap (λ z. summed (Some z)) (+ℤ_idr (pos n))
@@ -384,7 +389,7 @@ one_row keys t n h p e =
     ap (λ q. group_rows keys t q (n ∷ [])) e
     ∙ ap (λ b. cond b (n ∷ []) []) (ap (λ u. same_tuple u t) h ∙ same_itself t)
 
-merging_gives : (i : ℕ) (t : GroupTerm) → IsAggregate t → merging_term i t ≡ aggregate (merging_aggregate t) (path_value (column i))
+merging_gives : (i : ℕ) (t : GroupTerm) → IsAggregate t → merging_term i t ≡ aggregate (merging_of t) (path_value (column i))
 merging_gives i (key j) h = absurd h
 merging_gives i count_rows h = refl
 merging_gives i (aggregate a e) h = refl
@@ -401,7 +406,7 @@ one_accumulators is u n all en ek i [] [] f h k = refl
 one_accumulators is u n all en ek i [] (x ∷ xs) f h k = absurd (cc)
 one_accumulators is u n all en ek i (t ∷ ts) [] f h k = absurd (cc)
 one_accumulators is u n all en ek i (t ∷ ts) (x ∷ xs) f h k =
-    let a : Aggregate = merging_aggregate t in
+    let a : Aggregate = merging_of t in
     let e : longer (longest_level (map column is)) [] ≡ [] = ap (λ p. longer p []) (columns_level is) in
     let r = one_row (map column is) u n ek (longer (longest_level (map column is)) []) e in
     let v : value_at (column i) n ≡ result_of x = ap (value_at (column i)) en ∙ (column_value all i ∙ f 0 i (omega arith)) in

@@ -47,17 +47,16 @@ column i = record { place = i; repetition = optional } ∷ []
 abbrev pub key_columns : List (List Step) → List (List Step)
 key_columns keys = map column (range_with_len 0 (length keys))
 
--- counts are merged by SUM, all else by itself; a key isn't merged
-abbrev pub merging_aggregate : GroupTerm → Aggregate
-merging_aggregate (key i) = count
-merging_aggregate count_rows = sum
-merging_aggregate (aggregate count e) = sum
-merging_aggregate (aggregate a e) = a
+-- counts are merged by SUM, all else by itself
+abbrev pub merging_aggregate : Aggregate → Aggregate
+merging_aggregate count = sum
+merging_aggregate a = a
 
--- an aggregate of the column i
+-- of an aggregate, that which merges the column i; a key stays
 abbrev pub merging_term : ℕ → GroupTerm → GroupTerm
 merging_term i (key j) = key j
-merging_term i t = aggregate (merging_aggregate t) (path_value (column i))
+merging_term i count_rows = aggregate sum (path_value (column i))
+merging_term i (aggregate a e) = aggregate (merging_aggregate a) (path_value (column i))
 
 -- aggregates of the columns from the ith on
 abbrev pub merging_terms : ℕ → List GroupTerm → List GroupTerm

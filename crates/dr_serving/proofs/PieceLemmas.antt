@@ -9,7 +9,7 @@ use Rattle.dr_outside.specs.declared.cause.Cause.TheVariants.{ReadFailed, BadFoo
 use Rattle.dr_dispatch.proofs.HistoryLemmas.{answered_have_answers}
 use Rattle.dr_partials.specs.Partials.{Partial}
 use Rattle.dr_serving.specs.Truth.{IsTrueOf}
-use Rattle.dr_serving.specs.Outcome.{Service, truth_of, AreTrueFrom}
+use Rattle.dr_serving.specs.Outcome.{Serving, truth_of, AreTrueFrom}
 use Rattle.dr_serving.specs.Pieces.{TabletPiece, paths_at, IsTrueAt, kept_partial}
 use Rattle.dr_serving.specs.ServingLaws.{KeptPiecesAreTrue, OtherCausesHoldNoFile}
 
@@ -23,7 +23,7 @@ each_of : (P : TabletPiece → Type 0) (ps : List TabletPiece) → All P ps → 
 each_of P [] h = tt
 each_of P (p ∷ ps) h = (h 0 p (omega arith), each_of P ps (λ k d e. h (suc k) d (omega (arith, e))))
 
-kept_is_true : (s : Service) (t : ℕ) (ps : List TabletPiece) → Each (λ (p : TabletPiece). IsTrueAt s p.tablet p) ps → list_any (λ u. u == t) (map (λ (p : TabletPiece). p.tablet) ps) ≡ true
+kept_is_true : (s : Serving) (t : ℕ) (ps : List TabletPiece) → Each (λ (p : TabletPiece). IsTrueAt s p.tablet p) ps → list_any (λ u. u == t) (map (λ (p : TabletPiece). p.tablet) ps) ≡ true
     → IsTrueOf (truth_of s (paths_at s.tablets t)) (kept_partial ps t)
 kept_is_true s t [] h e = absurd (true≢false (sym e))
 kept_is_true s t (p ∷ ps) h e = by_test (p.tablet == t) refl e (kept_is_true s t ps h.1)
@@ -34,7 +34,7 @@ kept_is_true s t (p ∷ ps) h e = by_test (p.tablet == t) refl e (kept_is_true s
     by_test true k g r = subst (λ u. IsTrueOf (truth_of s (paths_at s.tablets u)) p.partial) (eqb-true p.tablet t k) h.0
     by_test false k g r = r g
 
-true_from : (s : Service) (piece : ℕ → Partial) (t : ℕ) (rest : List (List (List ℕ))) → ((i j : ℕ) → i < length rest → t + i ≡ j → IsTrueOf (truth_of s (paths_at rest i)) (piece j)) → AreTrueFrom s piece t rest
+true_from : (s : Serving) (piece : ℕ → Partial) (t : ℕ) (rest : List (List (List ℕ))) → ((i j : ℕ) → i < length rest → t + i ≡ j → IsTrueOf (truth_of s (paths_at rest i)) (piece j)) → AreTrueFrom s piece t rest
 true_from s piece t [] h = tt
 true_from s piece t (paths ∷ rest) h =
     (h 0 t (omega arith) (omega arith), true_from s piece (suc t) rest (λ i j l e. h (suc i) j (omega (arith, l)) (omega (arith, e))))

@@ -28,7 +28,7 @@ use Rattle.dr_partials.proofs.BoundLemmas.{bound_is_mergeable, bound_leaves_are_
 use Rattle.dr_partials.proofs.TreeLemmas.{gathered_stands}
 use Rattle.dr_serving.specs.Held.{Held, present, held_file, held_on, held_by_all, IsHeld, IsUntold}
 use Rattle.dr_serving.specs.Truth.{TabletTruth, leaves_of, StandsForFile}
-use Rattle.dr_serving.specs.Outcome.{Service, service_leaves, truth_of, AreTrueFrom}
+use Rattle.dr_serving.specs.Outcome.{Serving, serving_leaves, truth_of, AreTrueFrom}
 use Rattle.dr_serving.specs.Premises.{TellsFiles, AllTell, HoldsRecords, PathsHold, TabletsHold, paths_of_leaves, ServesRecords, IsServable, all_records}
 use Rattle.dr_serving.specs.ServingLaws.{HasEnoughLeaves, EachHolds, TrueOfTabletStands, FinishedMeansQuery, BoundIsServable}
 
@@ -114,7 +114,7 @@ all_hold truth R files (link ∷ links) paths t h = both_hold truth R (held_on l
 next_number : (t : ℕ) → t + 1 ≡ suc t
 next_number t = omega arith
 
-each_stands : (s : Service) (R : ℕ → List Node) (v : IsServable s) (w : ServesRecords s R) (piece : ℕ → Partial) (t : ℕ) (tablets : List (List (List ℕ))) → TabletsHold s.schema (service_leaves s) R w.files t tablets → AreTrueFrom s piece t tablets
+each_stands : (s : Serving) (R : ℕ → List Node) (v : IsServable s) (w : ServesRecords s R) (piece : ℕ → Partial) (t : ℕ) (tablets : List (List (List ℕ))) → TabletsHold s.schema (serving_leaves s) R w.files t tablets → AreTrueFrom s piece t tablets
     → StandsForEach s.schema.fields (leaf_query s.query) R piece (range_with_len t (length tablets))
 each_stands s R v w piece t [] h a = tt
 each_stands s R v w piece t (paths ∷ rest) h a =

@@ -25,7 +25,7 @@ use Rattle.dr_partials.specs.Rewriting.{leaf_query}
 use Rattle.dr_serving.specs.Held.{Held, untold, absent, present, held_at, held_by_all, IsHeld, IsUntold}
 use Rattle.dr_serving.specs.Truth.{TabletTruth, IsTrueOf}
 use Rattle.dr_serving.specs.Causes.{IsJustified, AreJustified, RisesApart}
-use Rattle.dr_serving.specs.Outcome.{Service, LeftTablet, no_tablets, has_piece, is_left, IsFinished, IsUnfinished}
+use Rattle.dr_serving.specs.Outcome.{Serving, LeftTablet, no_tablets, has_piece, is_left, IsFinished, IsUnfinished}
 use Rattle.dr_serving.specs.Pieces.{TabletPiece, paths_at, IsTrueAt, kept_partial}
 use Rattle.dr_serving.specs.Premises.{AllTell, HoldsRecords, ServesRecords, IsServable}
 use Rattle.dr_serving.specs.ServingLaws.{HasEnoughLeaves}
@@ -237,8 +237,8 @@ rises = (
 
 -- ---- outcomes
 
-abbrev service : List (List (List ℕ)) → Service
-service tablets = record { schema = one_schema; query = totals; first_link = Some files; other_links = Some files ∷ []; tablets = tablets }
+abbrev serving : List (List (List ℕ)) → Serving
+serving tablets = record { schema = one_schema; query = totals; first_link = Some files; other_links = Some files ∷ []; tablets = tablets }
 
 -- tablet 0 at b and at a, tablet 1 at b and at c: the first has a piece, the second is left, where no byte and nothing are held
 abbrev two_tablets : List (List (List ℕ))
@@ -247,7 +247,7 @@ two_tablets = (path_b ∷ path_a ∷ []) ∷ (path_b ∷ path_c ∷ []) ∷ []
 abbrev second : LeftTablet
 second = record { tablet = 1; causes = BadFooter ∷ ReadFailed 5 6 ∷ [] }
 
-pub second_is_left : IsUnfinished (service two_tablets) 5 6 (second ∷ [])
+pub second_is_left : IsUnfinished (serving two_tablets) 5 6 (second ∷ [])
 second_is_left = (
   λ h. cc,
   has_piece 0 (path_b ∷ path_a ∷ []) ((path_b ∷ path_c ∷ []) ∷ []) (second ∷ []) one_piece (true_piece (held_by_all (Some files ∷ Some files ∷ []) (path_b ∷ path_a ∷ [])) (inr (inl refl)))
@@ -262,7 +262,7 @@ both_held = (path_b ∷ path_a ∷ []) ∷ (path_a ∷ []) ∷ []
 abbrev of_two : Partial
 of_two = piece_of (counted 2 ∷ summed (Some (pos 2)) ∷ [])
 
-pub two_are_finished : IsFinished (service both_held) (of_fan 2 2) of_two
+pub two_are_finished : IsFinished (serving both_held) (of_fan 2 2) of_two
 unfolding of_fan merge
 two_are_finished = (λ t. one_piece, refl, (true_piece (held_by_all (Some files ∷ Some files ∷ []) (path_b ∷ path_a ∷ [])) (inr (inl refl)), (true_piece (held_by_all (Some files ∷ Some files ∷ []) (path_a ∷ [])) (inl refl), tt)), refl)
 
@@ -278,7 +278,7 @@ pub paths_of_tablets : (paths_at two_tablets 1 ≡ path_b ∷ path_c ∷ []) × 
 paths_of_tablets = (refl, refl, refl)
 
 -- the piece of one record is true of the first of the two tablets
-pub true_at_first : IsTrueAt (service two_tablets) 0 (record { tablet = 0; partial = one_piece })
+pub true_at_first : IsTrueAt (serving two_tablets) 0 (record { tablet = 0; partial = one_piece })
 true_at_first = true_piece (held_by_all (Some files ∷ Some files ∷ []) (path_b ∷ path_a ∷ [])) (inr (inl refl))
 
 -- ---- premises
@@ -301,20 +301,20 @@ of_others (inr h) = h one one_is_file
 pub links_tell : AllTell files (Some files ∷ Some files ∷ []) × (AllTell files (None ∷ []) → ⊥) × (AllTell files (Some (λ path. None) ∷ []) → ⊥)
 links_tell = ((λ path. refl, (λ path. refl, tt)), λ h. h.0, λ h. let e = h.0 path_a in cc)
 
-serves : ServesRecords (service both_held) (λ t. one)
+serves : ServesRecords (serving both_held) (λ t. one)
 serves = record {
   files = files;
   told = (λ path. refl, (λ path. refl, tt));
   held = ((inr no_file, (inl one_is_file, tt)), ((inl one_is_file, tt), tt));
 }
 
-pub servable : IsServable (service both_held)
+pub servable : IsServable (serving both_held)
 unfolding query_leaves leaf_query
 servable = record { enough = refl; mergeable = refl }
 
 -- so the finished piece, finished, is what the query means on both tablets' records
 pub two_mean_query : finished totals of_two ≡ meaning one_schema.fields totals (one_record ∷ one_record ∷ [])
-two_mean_query = (finished_means_query (service both_held) (λ t. one) (of_fan 2 2) of_two servable serves two_are_finished).1
+two_mean_query = (finished_means_query (serving both_held) (λ t. one) (of_fan 2 2) of_two servable serves two_are_finished).1
 
 pub two_as_rows : finished totals of_two ≡ cell (codes "n") (Some (int_value (pos 2))) (cell (codes "s") (Some (int_value (pos 2))) no_entries) ∷ []
 unfolding finished

@@ -1,8 +1,8 @@
--- The pieces of a service: which is kept for each tablet.
+-- The pieces of a query that is served: which one is kept of each tablet.
 use Rattle.std.specs.Prelude.{ℕ, zero, suc, ◌==◌, List, [], ◌∷◌, if◌then◌else◌}
 use Rattle.dr_partials.specs.Partials.{Partial, lines}
 use Rattle.dr_serving.specs.Truth.{IsTrueOf}
-use Rattle.dr_serving.specs.Outcome.{Service, truth_of}
+use Rattle.dr_serving.specs.Outcome.{Serving, truth_of}
 
 -- the partial of a tablet
 pub record TabletPiece : Type 0 where
@@ -15,8 +15,8 @@ paths_at [] t = []
 paths_at (paths ∷ rest) zero = paths
 paths_at (paths ∷ rest) (suc t) = paths_at rest t
 
--- a piece is true of the tablet t of a service
-abbrev pub IsTrueAt : Service → ℕ → TabletPiece → Type 0
+-- a piece is true of the tablet t
+abbrev pub IsTrueAt : Serving → ℕ → TabletPiece → Type 0
 IsTrueAt s t p = IsTrueOf (truth_of s (paths_at s.tablets t)) p.partial
 
 -- the partial that is kept of a tablet; of one without a piece no lines

@@ -11,7 +11,7 @@ use Rattle.dr_partials.specs.PartialLaws.{is_mergeable}
 use Rattle.dr_partials.specs.TreeLaws.{records_of}
 use Rattle.dr_partials.specs.Rewriting.{leaf_query}
 use Rattle.dr_serving.specs.Held.{Held, untold, absent, present, held_file}
-use Rattle.dr_serving.specs.Outcome.{Service, service_leaves}
+use Rattle.dr_serving.specs.Outcome.{Serving, serving_leaves}
 
 -- the link tells what it holds: at each path what these files have
 abbrev pub TellsFiles : Files → Option Files → Type 0
@@ -43,16 +43,16 @@ abbrev pub paths_of_leaves : List Leaf → List (List Step)
 paths_of_leaves F = map (λ (l : Leaf). l.path) F
 
 -- the premises of serving: all links tell what they hold, one path holds the same for all, and each leaf of a tablet holds its records, if any
-pub record ServesRecords (s : Service) (R : ℕ → List Node) : Type 0 where
+pub record ServesRecords (s : Serving) (R : ℕ → List Node) : Type 0 where
   pub files : Files
   pub told : AllTell files (s.first_link ∷ s.other_links)
-  pub held : TabletsHold s.schema (service_leaves s) R files 0 s.tablets
+  pub held : TabletsHold s.schema (serving_leaves s) R files 0 s.tablets
 
 -- the leaves that the query uses are enough for it, and its partials can be merged; each query that is bound is one
-pub record IsServable (s : Service) : Type 0 where
-  pub enough : covers (paths_of_leaves (service_leaves s)) (leaf_query s.query) ≡ true
+pub record IsServable (s : Serving) : Type 0 where
+  pub enough : covers (paths_of_leaves (serving_leaves s)) (leaf_query s.query) ≡ true
   pub mergeable : is_mergeable s.schema.fields s.query ≡ true
 
 -- the records of all tablets, in order
-abbrev pub all_records : Service → (ℕ → List Node) → List Node
+abbrev pub all_records : Serving → (ℕ → List Node) → List Node
 all_records s R = records_of R (range_with_len 0 (length s.tablets))

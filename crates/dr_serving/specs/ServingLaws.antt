@@ -19,7 +19,7 @@ use Rattle.dr_partials.specs.Trees.{Tree}
 use Rattle.dr_serving.specs.Held.{Held, present}
 use Rattle.dr_serving.specs.Truth.{TabletTruth, leaves_of, IsTrueOf}
 use Rattle.dr_serving.specs.Causes.{IsJustified}
-use Rattle.dr_serving.specs.Outcome.{Service, AreTrueFrom, IsFinished}
+use Rattle.dr_serving.specs.Outcome.{Serving, AreTrueFrom, IsFinished}
 use Rattle.dr_serving.specs.Pieces.{TabletPiece, IsTrueAt, kept_partial}
 use Rattle.dr_serving.specs.Premises.{paths_of_leaves, HoldsRecords, ServesRecords, IsServable, all_records}
 
@@ -40,12 +40,12 @@ TrueOfTabletStands = (truth : TabletTruth) (R : List Node) (p : Partial) → Has
 -- under the premises what serving is finished with stands for the query on all records, each tablet's once; and, finished, it is what the
 -- query means on them
 abbrev pub FinishedMeansQuery : Type 0
-FinishedMeansQuery = (s : Service) (R : ℕ → List Node) (tree : Tree) (p : Partial) → IsServable s → ServesRecords s R → IsFinished s tree p
+FinishedMeansQuery = (s : Serving) (R : ℕ → List Node) (tree : Tree) (p : Partial) → IsServable s → ServesRecords s R → IsFinished s tree p
     → Stands s.schema.fields s.query (all_records s R) p × (finished s.query p ≡ meaning s.schema.fields s.query (all_records s R))
 
 -- where the kept pieces of a history are true and each tablet has an answer, the piece that is kept of each is true of it
 abbrev pub KeptPiecesAreTrue : Type 0
-KeptPiecesAreTrue = (s : Service) (j : Job) (history : List Event) (pieces : List TabletPiece)
+KeptPiecesAreTrue = (s : Serving) (j : Job) (history : List Event) (pieces : List TabletPiece)
     → KeepsPieces j (λ (p : TabletPiece). p.tablet) (IsTrueAt s) history pieces
     → ((t : ℕ) → t < length s.tablets → has_answer history t ≡ true) → AreTrueFrom s (kept_partial pieces) 0 s.tablets
 
@@ -64,4 +64,4 @@ OtherCausesHoldNoFile = (s : Schema) (F : List Leaf) (bytes : List ℕ) (c : Cau
 
 -- a query that is bound can be served
 abbrev pub BoundIsServable : Type 0
-BoundIsServable = (s : Service) (q : QuerySyntax) → bind s.schema q ≡ Ok s.query → IsServable s
+BoundIsServable = (s : Serving) (q : QuerySyntax) → bind s.schema q ≡ Ok s.query → IsServable s
