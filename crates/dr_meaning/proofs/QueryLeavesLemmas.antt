@@ -27,7 +27,7 @@ use Rattle.dr_meaning.proofs.BindingFaultLemmas.{bound_is}
 use Rattle.dr_meaning.proofs.BindingLemmas.{LeafPaths}
 use Rattle.dr_meaning.proofs.BoundPartsLemmas.{both_empty, no_part_faults, used_leaf_paths}
 
-abbrev steps_of : List Leaf → List (List Step)
+abbrev pub steps_of : List Leaf → List (List Step)
 steps_of ls = map (λ (l : Leaf). l.path) ls
 
 -- ---- a used leaf is among the leaves in reading order
@@ -96,10 +96,10 @@ leads_if_any [] F h = refl
 leads_if_any (s ∷ p) F h = h
 
 -- each of some paths of leaves, that are among the used ones, leads on to the used leaves
-abbrev Used : List (List Step) → List (List Step) → Type 0
+abbrev pub Used : List (List Step) → List (List Step) → Type 0
 Used all ps = (p : List Step) → list_any (same_path p) ps ≡ true → list_any (same_path p) all ≡ true
 
-used_lead : (fs : Fields) (all ps : List (List Step)) → LeafPaths fs ps → Used all ps
+pub used_lead : (fs : Fields) (all ps : List (List Step)) → LeafPaths fs ps → Used all ps
     → all_lead (steps_of (in_reading_order fs (filter (λ (l : Leaf). list_any (same_path l.path) all) (leaves fs)))) ps ≡ true
 used_lead fs all [] h u = refl
 used_lead fs all (p ∷ ps) h u =
@@ -155,7 +155,7 @@ selection-leads F true keys vs w h = record_paths-lead F vs w h
 selection-leads F false keys vs w h = h
 
 -- where the used paths of what is bound without a fault lead on, all of its paths do
-paths-lead : (F : List (List Step)) (s : Schema) (q : QuerySyntax) (b : Query) → bind s q ≡ Ok b → all_lead F (used_paths b) ≡ true → all_lead F (query_paths b) ≡ true
+pub paths-lead : (F : List (List Step)) (s : Schema) (q : QuerySyntax) (b : Query) → bind s q ≡ Ok b → all_lead F (used_paths b) ≡ true → all_lead F (query_paths b) ≡ true
 paths-lead F s q b h k =
     let e = bound_is s q b h in
     let parts = bind_parts s.fields q in

@@ -1,0 +1,195 @@
+-- Trees gather what stands for all records; the tree of a fan.
+use Rattle.std.proofs.Common.{◌≡◌, ℕ, zero, suc, ◌-◌, ◌≤◌, List, [], ◌∷◌, ◌++◌, map, length, true, ◌&&◌, refl, sym, ap, ap₂, ◌∙◌, subst, append_assoc, append-nil, arith}
+use Rattle.std.specs.Prelude.{nat_le}
+use Rattle.std.specs.List.{list_all, flat_map, range_with_len}
+use Rattle.std.proofs.lemmas.Bool.{and_parts}
+use Rattle.std.proofs.lemmas.Bool.Decides.{nat_tests}
+use Rattle.std.proofs.lemmas.Grind.{flat_map-append}
+use Rattle.std.proofs.lemmas.List.FromFn.{length-map-range_with_len}
+use Rattle.std.proofs.lemmas.List.Folds.{list_all-append}
+use Rattle.dr_meaning.specs.Schema.{Fields}
+use Rattle.dr_meaning.specs.Record.{Node, is_record}
+use Rattle.dr_meaning.specs.Query.{Query, meaning}
+use Rattle.dr_partials.specs.Partials.{Partial, Stands, merge, empty_partial, finished}
+use Rattle.dr_partials.specs.PartialTypes.{is_partial}
+use Rattle.dr_partials.specs.PartialLaws.{is_mergeable}
+use Rattle.dr_partials.specs.Trees.{Tree, leaf_server, intermediate_server, Trees, no_trees, next_tree, tablets_of, tablets_of_all, count_trees, children_at_most, all_at_most, gathered, gathered_behind, Packed, pack, trees_of, grow, of_fan}
+use Rattle.dr_partials.specs.TreeLaws.{records_of, StandsForEach, GatheredStands, GatheredMeansQuery, AreAllPartials, GatheredIsPartial, TreesGatherAlike, FanHasAllTablets, FanIsKept}
+use Rattle.dr_partials.proofs.PartialLemmas.{merged_stands, finished_partial_is_meaning}
+use Rattle.dr_partials.proofs.PartialTypeLemmas.{merge_is_associative, empty_merges_to_same, merged_is_partial, empty_is_partial}
+
+-- ---- what is gathered stands for all records
+
+-- records, and what stands for them
+abbrev StandsFor : Fields → Query → List Node → Partial → Type 0
+StandsFor fs q ns p = (list_all (is_record fs) ns ≡ true) × Stands fs q ns p
+
+both_stand : (fs : Fields) (q : Query) → is_mergeable fs q ≡ true → (ns ms : List Node) (p r : Partial) → StandsFor fs q ns p → StandsFor fs q ms r → StandsFor fs q (ns ++ ms) (merge p r)
+both_stand fs q h ns ms p r a b = (list_all-append (is_record fs) ns ms ∙ ap₂ (λ x y. x && y) a.0 b.0, merged_stands fs q ns ms p r h a.0 b.0 a.1 b.1)
+
+each_split : (fs : Fields) (q : Query) (R : ℕ → List Node) (piece : ℕ → Partial) (ts us : List ℕ) → StandsForEach fs q R piece (ts ++ us) → StandsForEach fs q R piece ts × StandsForEach fs q R piece us
+each_split fs q R piece [] us h = (tt, h)
+each_split fs q R piece (t ∷ ts) us h = let k = each_split fs q R piece ts us h.2 in ((h.0, h.1, k.0), k.1)
+
+mutual
+  tree_stands : (fs : Fields) (q : Query) → is_mergeable fs q ≡ true → (R : ℕ → List Node) (piece : ℕ → Partial) (tree : Tree) → StandsForEach fs q R piece (tablets_of tree) → StandsFor fs q (records_of R (tablets_of tree)) (gathered piece tree)
+  tree_stands fs q m R piece (leaf_server t) h = subst (λ (ns : List Node). StandsFor fs q ns (piece t)) (sym (append-nil (R t))) (h.0, h.1)
+  tree_stands fs q m R piece (intermediate_server t ts) h =
+      let k = each_split fs q R piece (tablets_of t) (tablets_of_all ts) h in
+      subst (λ (ns : List Node). StandsFor fs q ns (gathered_behind piece (gathered piece t) ts)) (sym (flat_map-append R (tablets_of t) (tablets_of_all ts)))
+      (trees_stand fs q m R piece ts (records_of R (tablets_of t)) (gathered piece t) (tree_stands fs q m R piece t k.0) k.1)
+
+  trees_stand : (fs : Fields) (q : Query) → is_mergeable fs q ≡ true → (R : ℕ → List Node) (piece : ℕ → Partial) (trees : Trees) (ns : List Node) (p : Partial) → StandsFor fs q ns p → StandsForEach fs q R piece (tablets_of_all trees)
+      → StandsFor fs q (ns ++ records_of R (tablets_of_all trees)) (gathered_behind piece p trees)
+  trees_stand fs q m R piece no_trees ns p h k = subst (λ (ms : List Node). StandsFor fs q ms p) (sym (append-nil ns)) h
+  trees_stand fs q m R piece (next_tree t ts) ns p h k =
+      let l = each_split fs q R piece (tablets_of t) (tablets_of_all ts) k in
+      let N : List Node = records_of R (tablets_of t) in
+      let M : List Node = records_of R (tablets_of_all ts) in
+      subst (λ (ms : List Node). StandsFor fs q ms (gathered_behind piece (merge p (gathered piece t)) ts)) (append_assoc ns N M ∙ ap (λ ms. ns ++ ms) (sym (flat_map-append R (tablets_of t) (tablets_of_all ts))))
+      (trees_stand fs q m R piece ts (ns ++ N) (merge p (gathered piece t)) (both_stand fs q m ns N p (gathered piece t) h (tree_stands fs q m R piece t l.0)) l.1)
+
+pub gathered_stands : GatheredStands
+gathered_stands fs q R piece tree m h = (tree_stands fs q m R piece tree h).1
+
+finished_standing : (fs : Fields) (q : Query) (ns : List Node) (p : Partial) → Stands fs q ns p → finished q p ≡ meaning fs q ns
+unfolding Stands
+finished_standing fs q ns p h = ap (finished q) h ∙ finished_partial_is_meaning fs q ns
+
+pub gathered_means_query : GatheredMeansQuery
+gathered_means_query fs q R piece tree m h = finished_standing fs q (records_of R (tablets_of tree)) (gathered piece tree) (gathered_stands fs q R piece tree m h)
+
+-- ---- trees with the same tablets
+
+all_split : (fs : Fields) (q : Query) (piece : ℕ → Partial) (ts us : List ℕ) → AreAllPartials fs q piece (ts ++ us) → AreAllPartials fs q piece ts × AreAllPartials fs q piece us
+all_split fs q piece [] us h = (tt, h)
+all_split fs q piece (t ∷ ts) us h = let k = all_split fs q piece ts us h.1 in ((h.0, k.0), k.1)
+
+-- the pieces, one behind another
+abbrev merged_pieces : Query → (ℕ → Partial) → List ℕ → Partial
+merged_pieces q piece [] = empty_partial q
+merged_pieces q piece (t ∷ ts) = merge (piece t) (merged_pieces q piece ts)
+
+pieces_are : (fs : Fields) (q : Query) (piece : ℕ → Partial) (ts : List ℕ) → AreAllPartials fs q piece ts → is_partial fs q (merged_pieces q piece ts) ≡ true
+pieces_are fs q piece [] h = empty_is_partial fs q
+pieces_are fs q piece (t ∷ ts) h = merged_is_partial fs q (piece t) (merged_pieces q piece ts) h.0 (pieces_are fs q piece ts h.1)
+
+pieces_append : (fs : Fields) (q : Query) (piece : ℕ → Partial) (ts us : List ℕ) → AreAllPartials fs q piece ts → AreAllPartials fs q piece us → merged_pieces q piece (ts ++ us) ≡ merge (merged_pieces q piece ts) (merged_pieces q piece us)
+pieces_append fs q piece [] us h k = sym (empty_merges_to_same fs q (merged_pieces q piece us) (pieces_are fs q piece us k)).0
+pieces_append fs q piece (t ∷ ts) us h k = ap (merge (piece t)) (pieces_append fs q piece ts us h.1 k)
+    ∙ sym (merge_is_associative fs q (piece t) (merged_pieces q piece ts) (merged_pieces q piece us) h.0 (pieces_are fs q piece ts h.1) (pieces_are fs q piece us k))
+
+mutual
+  tree_pieces : (fs : Fields) (q : Query) (piece : ℕ → Partial) (tree : Tree) → AreAllPartials fs q piece (tablets_of tree) → gathered piece tree ≡ merged_pieces q piece (tablets_of tree)
+  tree_pieces fs q piece (leaf_server t) h = sym (empty_merges_to_same fs q (piece t) h.0).1
+  tree_pieces fs q piece (intermediate_server t ts) h =
+      let k = all_split fs q piece (tablets_of t) (tablets_of_all ts) h in
+      trees_pieces fs q piece ts (gathered piece t) (subst (λ (p : Partial). is_partial fs q p ≡ true) (sym (tree_pieces fs q piece t k.0)) (pieces_are fs q piece (tablets_of t) k.0)) k.1
+      ∙ (ap (λ p. merge p (merged_pieces q piece (tablets_of_all ts))) (tree_pieces fs q piece t k.0) ∙ sym (pieces_append fs q piece (tablets_of t) (tablets_of_all ts) k.0 k.1))
+
+  trees_pieces : (fs : Fields) (q : Query) (piece : ℕ → Partial) (trees : Trees) (p : Partial) → is_partial fs q p ≡ true → AreAllPartials fs q piece (tablets_of_all trees)
+      → gathered_behind piece p trees ≡ merge p (merged_pieces q piece (tablets_of_all trees))
+  trees_pieces fs q piece no_trees p a h = sym (empty_merges_to_same fs q p a).1
+  trees_pieces fs q piece (next_tree t ts) p a h =
+      let k = all_split fs q piece (tablets_of t) (tablets_of_all ts) h in
+      let e = tree_pieces fs q piece t k.0 in
+      let b : is_partial fs q (gathered piece t) ≡ true = subst (λ (p : Partial). is_partial fs q p ≡ true) (sym e) (pieces_are fs q piece (tablets_of t) k.0) in
+      let c = pieces_are fs q piece (tablets_of_all ts) k.1 in
+      trees_pieces fs q piece ts (merge p (gathered piece t)) (merged_is_partial fs q p (gathered piece t) a b) k.1
+      ∙ (merge_is_associative fs q p (gathered piece t) (merged_pieces q piece (tablets_of_all ts)) a b c
+      ∙ ap (merge p) (ap (λ r. merge r (merged_pieces q piece (tablets_of_all ts))) e ∙ sym (pieces_append fs q piece (tablets_of t) (tablets_of_all ts) k.0 k.1)))
+
+pub gathered_is_partial : GatheredIsPartial
+gathered_is_partial fs q piece tree h = subst (λ (p : Partial). is_partial fs q p ≡ true) (sym (tree_pieces fs q piece tree h)) (pieces_are fs q piece (tablets_of tree) h)
+
+pub trees_gather_alike : TreesGatherAlike
+trees_gather_alike fs q piece a b h e =
+    tree_pieces fs q piece a h ∙ (ap (merged_pieces q piece) e ∙ sym (tree_pieces fs q piece b (subst (AreAllPartials fs q piece) e h)))
+
+-- ---- the tree of a fan: its tablets
+
+abbrev tablets_in : List Tree → List ℕ
+tablets_in ts = flat_map tablets_of ts
+
+packed_tablets : (more room : ℕ) (ts : List Tree) → tablets_of_all (pack more room ts).here ++ tablets_in (pack more room ts).behind ≡ tablets_in ts
+packed_tablets more room [] = refl
+packed_tablets more zero (t ∷ ts) =
+    append_assoc (tablets_of t) (tablets_of_all (pack more more ts).here) (tablets_in (pack more more ts).behind) ∙ ap (λ us. tablets_of t ++ us) (packed_tablets more more ts)
+packed_tablets more (suc room) (t ∷ ts) =
+    append_assoc (tablets_of t) (tablets_of_all (pack more room ts).here) (tablets_in (pack more room ts).behind) ∙ ap (λ us. tablets_of t ++ us) (packed_tablets more room ts)
+
+trees_tablets : (ts : List Tree) → tablets_of_all (trees_of ts) ≡ tablets_in ts
+trees_tablets [] = refl
+trees_tablets (t ∷ ts) = ap (λ us. tablets_of t ++ us) (trees_tablets ts)
+
+grown_tablets : (levels more : ℕ) (t : Tree) (ts : List Tree) → tablets_of (grow levels more t ts) ≡ tablets_of t ++ tablets_in ts
+grown_tablets levels more t [] = sym (append-nil (tablets_of t))
+grown_tablets zero more t (u ∷ us) = ap (λ vs. tablets_of t ++ vs) (trees_tablets (u ∷ us))
+grown_tablets (suc levels) more t (u ∷ us) =
+    let p : Packed = pack more more (u ∷ us) in
+    grown_tablets levels more (intermediate_server t p.here) p.behind
+    ∙ (append_assoc (tablets_of t) (tablets_of_all p.here) (tablets_in p.behind) ∙ ap (λ vs. tablets_of t ++ vs) (packed_tablets more more (u ∷ us)))
+
+leaf_tablets : (ts : List ℕ) → tablets_in (map leaf_server ts) ≡ ts
+leaf_tablets [] = refl
+leaf_tablets (t ∷ ts) = ap (λ us. t ∷ us) (leaf_tablets ts)
+
+pub fan_has_all_tablets : FanHasAllTablets
+unfolding of_fan
+fan_has_all_tablets zero fan h = absurd (omega (arith, h))
+fan_has_all_tablets (suc n) fan h =
+    let e : suc n - 1 ≡ n = omega arith in
+    grown_tablets (suc n) (fan - 1) (leaf_server 0) (map leaf_server (range_with_len 1 (suc n - 1)))
+    ∙ ap (λ ts. 0 ∷ ts) (leaf_tablets (range_with_len 1 (suc n - 1)) ∙ ap (range_with_len 1) e)
+
+-- ---- its fan
+
+le_tested : (a b : ℕ) → a ≤ b → nat_le a b ≡ true
+le_tested a b h = grind (arith, nat_tests)
+
+-- of what is packed: the children that are taken, and the servers behind
+record IsPacked (fan room n : ℕ) (p : Packed) : Type 0 where
+  few : count_trees p.here ≤ room
+  here_kept : all_at_most fan p.here ≡ true
+  behind_kept : list_all (children_at_most fan) p.behind ≡ true
+  short : length p.behind ≤ n
+
+packed : (fan more room : ℕ) (ts : List Tree) → suc more ≤ fan → list_all (children_at_most fan) ts ≡ true → IsPacked fan room (length ts) (pack more room ts)
+packed fan more room [] h k = record { few = omega arith; here_kept = refl; behind_kept = refl; short = omega arith }
+packed fan more zero (t ∷ ts) h k =
+    let a = and_parts (children_at_most fan t) (list_all (children_at_most fan) ts) k in
+    let r = packed fan more more ts h a.1 in
+    record {
+      few = omega arith;
+      here_kept = refl;
+      behind_kept = ap₂ (λ x y. x && y) (ap₂ (λ x y. x && y) (ap₂ (λ x y. x && y) (le_tested (suc (count_trees (pack more more ts).here)) fan (omega (arith, r.few, h))) a.0) r.here_kept) r.behind_kept;
+      short = omega (arith, r.short);
+    }
+packed fan more (suc room) (t ∷ ts) h k =
+    let a = and_parts (children_at_most fan t) (list_all (children_at_most fan) ts) k in
+    let r = packed fan more room ts h a.1 in
+    record { few = omega (arith, r.few); here_kept = ap₂ (λ x y. x && y) a.0 r.here_kept; behind_kept = r.behind_kept; short = omega (arith, r.short) }
+
+grown_kept : (fan levels more : ℕ) (t : Tree) (ts : List Tree) → suc (suc more) ≤ fan → length ts ≤ levels → children_at_most fan t ≡ true → list_all (children_at_most fan) ts ≡ true → children_at_most fan (grow levels (suc more) t ts) ≡ true
+grown_kept fan levels more t [] h l a b = a
+grown_kept fan zero more t (u ∷ us) h l a b = absurd (omega (arith, l))
+grown_kept fan (suc levels) more t (u ∷ us) h l a b =
+    let c = and_parts (children_at_most fan u) (list_all (children_at_most fan) us) b in
+    let r = packed fan (suc more) more us h c.1 in
+    let p : Packed = pack (suc more) more us in
+    grown_kept fan levels more (intermediate_server t (next_tree u p.here)) p.behind h (omega (arith, r.short, l))
+    (ap₂ (λ x y. x && y) (ap₂ (λ x y. x && y) (le_tested (suc (suc (count_trees p.here))) fan (omega (arith, r.few, h))) a) (ap₂ (λ x y. x && y) c.0 r.here_kept)) r.behind_kept
+
+leaves_kept : (fan : ℕ) (ts : List ℕ) → list_all (children_at_most fan) (map leaf_server ts) ≡ true
+leaves_kept fan [] = refl
+leaves_kept fan (t ∷ ts) = leaves_kept fan ts
+
+pub fan_is_kept : FanIsKept
+unfolding of_fan
+fan_is_kept n zero h k = absurd (omega (arith, k))
+fan_is_kept n (suc zero) h k = absurd (omega (arith, k))
+fan_is_kept n (suc (suc more)) h k =
+    let e : suc (suc more) - 1 ≡ suc more = omega arith in
+    let l = length-map-range_with_len leaf_server 1 (n - 1) in
+    ap (λ m. children_at_most (suc (suc more)) (grow n m (leaf_server 0) (map leaf_server (range_with_len 1 (n - 1))))) e
+    ∙ grown_kept (suc (suc more)) n more (leaf_server 0) (map leaf_server (range_with_len 1 (n - 1))) (omega arith) (omega (arith, l)) refl (leaves_kept (suc (suc more)) (range_with_len 1 (n - 1)))
