@@ -4,6 +4,8 @@
 #[cfg(test)]
 mod bind_tests;
 #[cfg(test)]
+mod chains_tests;
+#[cfg(test)]
 mod objects_tests;
 #[cfg(test)]
 mod plan_tests;
