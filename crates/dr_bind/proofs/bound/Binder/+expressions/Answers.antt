@@ -1,0 +1,17 @@
+use Rattle.std.proofs.Common.{sym, ap, ◌∙◌, subst, Option, Some}
+use Rattle.dr_meaning.specs.BoundExpression.{bind_path}
+use Rattle.dr_sql.specs.Views as syntax
+use Rattle.dr_chains.specs.declared.bound.BoundPath.{BoundPath}
+use Rattle.dr_bind.specs.Faults.{first_view}
+use Rattle.dr_bind.specs.Bound.{Came, IsPath, fields_in, leaves_in}
+use Rattle.dr_bind.proofs.SyntaxLemmas.{view-path}
+use Rattle.dr_bind.proofs.PathLemmas.{value_bound}
+use Rattle.dr_bind.proofs.bound.Binder.+expressions.Goals as goal
+
+pub expression-returns-in_ok-value_at-in-Some : goal.expression-returns-in_ok-value_at-in-Some
+expression-returns-in_ok-value_at-in-Some t c =
+    let b = c.args.self in
+    let v = c.in_ok-value_at-in-Some.ensures in
+    let p = syntax.path_view c.in-Path.path in
+    rw (c.in-Path.is, view-path) (value_bound (fields_in b) (leaves_in b) p (first_view c.args.first.now) (first_view c.path.new.first) c.in-Some.path c.in_ok-value_at-in-Some.field-0 v.gives v.alone v.paths v.view v.fits
+    (subst (λ (o : Option BoundPath). Came IsPath (first_view c.args.first.now) (first_view c.path.new.first) (bind_path (fields_in b) p) o) c.in-Some.is c.in_ok-path-in-Path.ensures))
