@@ -16,6 +16,7 @@ use Rattle.dr_meaning.specs.Binding as binding
 use Rattle.dr_meaning.specs.Binding.{first_fault, passing, all_passed, where_passed, duplicate_faults}
 use Rattle.dr_nested.specs.PathView.{step_view}
 use Rattle.dr_nested.specs.declared.path.Step.{Step}
+use Rattle.dr_plan.specs.declared.aggregate.Fold.{Fold}
 use Rattle.dr_chains.specs.Related.{Spans, joined_before}
 use Rattle.dr_chains.specs.Views.{bound_path_view, paths_at}
 use Rattle.dr_chains.specs.declared.bound.BoundPath.{BoundPath}
@@ -198,3 +199,30 @@ unrelated_rows fs ls ks (binding.plain e) w before h = absurd h
 unrelated_rows fs ls ks (binding.rows_counted v) w before h = sym (earlier_none before)
 unrelated_rows fs ls ks (binding.aggregated a e v) w before h = absurd h
 
+-- ---- a fault that a test decides
+
+pub unless_told : (g : Bool) (fs : List BindFault) (before now : Option BindFault) → g ≡ false → now ≡ earlier before (first_fault fs) → now ≡ earlier before (first_fault (if g then [] else fs))
+unless_told g fs before now e n = n ∙ ap (λ (b : Bool). earlier before (first_fault (if b then [] else fs))) (sym e)
+
+pub unless_untold : (g : Bool) (fs : List BindFault) (before : Option BindFault) → g ≡ true → before ≡ earlier before (first_fault (if g then [] else fs))
+unless_untold g fs before e = sym (earlier_none before) ∙ ap (λ (b : Bool). earlier before (first_fault (if b then [] else fs))) (sym e)
+
+pub when_told : (g : Bool) (fs : List BindFault) (before now : Option BindFault) → g ≡ true → now ≡ earlier before (first_fault fs) → now ≡ earlier before (first_fault (if g then fs else []))
+when_told g fs before now e n = n ∙ ap (λ (b : Bool). earlier before (first_fault (if b then fs else []))) (sym e)
+
+pub when_untold : (g : Bool) (fs : List BindFault) (before : Option BindFault) → g ≡ false → before ≡ earlier before (first_fault (if g then fs else []))
+when_untold g fs before e = sym (earlier_none before) ∙ ap (λ (b : Bool). earlier before (first_fault (if b then fs else []))) (sym e)
+
+-- ---- WITHIN
+
+-- an aggregate of this argument within this node
+pub within_aggregate : (fs : Fields) (ls : List Leaf) (t : binding.BoundTerm) (term : BoundTerm) (f : Fold) (x : BoundExpression) (o : Option BoundWithin) (w : BoundWithin) (holds : Bool)
+    (P : List BindFault → Type 0) → ((e : meant.BoundExpression) → IsExpression fs ls e x → holds ≡ binding.holds_rows e.expression (within_view w)) → term ≡ BoundTerm.Aggregated f x o → o ≡ Some w
+    → P (if holds then [] else fault_at w.place bad_within) → IsTerm fs ls t term → P (binding.within_faults t)
+within_aggregate fs ls (binding.plain e) term f x o w holds P r is some p h = absurd (subst (IsTerm fs ls (binding.plain e)) is h)
+within_aggregate fs ls (binding.rows_counted v) term f x o w holds P r is some p h = absurd (subst (IsTerm fs ls (binding.rows_counted v)) is h)
+within_aggregate fs ls (binding.aggregated a e v) term f x o w holds P r is some p h =
+    let k = subst (IsTerm fs ls (binding.aggregated a e v)) is h in
+    let same : Some (within_view w) ≡ v = ap (option_map within_view) (sym some) ∙ k.2 in
+    subst (λ (u : Option binding.BoundWithin). P (binding.within_faults (binding.aggregated a e u))) same
+    (subst (λ (b : Bool). P (if b then [] else fault_at w.place bad_within)) (r e k.1) p)

@@ -1,6 +1,6 @@
 //! The rules of a query above its paths and operators.
 
-ghost use Rattle.std.specs.Prelude.{◌≡◌, ◌++◌, [], List, map, is_some, option_map};
+ghost use Rattle.std.specs.Prelude.{◌≡◌, ◌++◌, [], List, Option, map, is_some, option_map};
 ghost use Rattle.std.specs.List.{flat_map, list_any};
 ghost use Rattle.dr_meaning.specs.Schema.{Fields};
 ghost use Rattle.dr_meaning.specs.Path as path_meaning;
