@@ -1,5 +1,5 @@
 -- The rules above paths and operators.
-use Rattle.std.proofs.Common.{◌≡◌, ◌<◌, ◌≤◌, ◌+◌, ℕ, suc, zero, List, [], ◌∷◌, ◌++◌, map, length, get_or, take, drop, Bool, true, false, Option, Some, None, refl, sym, ap, ap₂, ◌∙◌, subst, arith}
+use Rattle.std.proofs.Common.{◌≡◌, ◌<◌, ◌≤◌, ◌+◌, ℕ, suc, zero, List, [], ◌∷◌, ◌++◌, map, length, get_or, take, drop, Bool, true, false, Option, Some, None, refl, sym, ap, ap₂, ◌∙◌, subst, add-one, arith}
 use Rattle.std.specs.Prelude.{◌||◌, ◌&&◌, ◌==◌, if◌then◌else◌, option_map, is_some, is_none, string_bytes}
 use Rattle.std.specs.List.{flat_map, list_any}
 use denote.Ref.{Bor}
@@ -9,7 +9,7 @@ use Rattle.dr_meaning.specs.Schema.{Fields}
 use Rattle.dr_meaning.specs.Path as path_meaning
 use Rattle.dr_meaning.specs.Path.{Leaf, begins_with}
 use Rattle.dr_meaning.specs.Expression.{Expression, path_value, longest_level, expression_level, paths_of}
-use Rattle.dr_meaning.specs.Query.{Levels}
+use Rattle.dr_meaning.specs.Query.{Levels, key}
 use Rattle.dr_meaning.specs.BoundExpression as meant
 use Rattle.dr_meaning.specs.BoundExpression.{BindFault, Checked, passes, fails, together, unrelated, duplicate_name, not_grouped, bad_within, fault_at, unrelated_after, unrelated_among}
 use Rattle.dr_meaning.specs.Binding as binding
@@ -226,3 +226,101 @@ within_aggregate fs ls (binding.aggregated a e v) term f x o w holds P r is some
     let same : Some (within_view w) ≡ v = ap (option_map within_view) (sym some) ∙ k.2 in
     subst (λ (u : Option binding.BoundWithin). P (binding.within_faults (binding.aggregated a e u))) same
     (subst (λ (b : Bool). P (if b then [] else fault_at w.place bad_within)) (r e k.1) p)
+
+-- ---- keys
+
+is_some_mapped : {A B : Type 0} (f : A → B) (o : Option A) → is_some (option_map f o) ≡ is_some o
+is_some_mapped f None = refl
+is_some_mapped f (Some a) = refl
+
+pub grouped_value : (fs : Fields) (ls : List Leaf) (ks : List meant.BoundPath) (t : binding.BoundTerm) (term : BoundTerm) (x : BoundExpression) (place : Option ℕ)
+    → ((e : meant.BoundExpression) → IsExpression fs ls e x → place ≡ binding.key_of ks e.expression) → term ≡ BoundTerm.Value x → IsTerm fs ls t term → is_some place ≡ is_some (binding.group_term ks t)
+grouped_value fs ls ks (binding.plain e) term x place p is h = ap is_some (p e (subst (IsTerm fs ls (binding.plain e)) is h)) ∙ sym (is_some_mapped key (binding.key_of ks e.expression))
+grouped_value fs ls ks (binding.rows_counted w) term x place p is h = absurd (subst (IsTerm fs ls (binding.rows_counted w)) is h)
+grouped_value fs ls ks (binding.aggregated a e w) term x place p is h = absurd (subst (IsTerm fs ls (binding.aggregated a e w)) is h)
+
+-- ---- names of one object
+
+-- the items before the one at a place, the last one first, behind some others
+abbrev pub items_before : List binding.BoundItem → List binding.BoundItem → ℕ → List binding.BoundItem
+items_before front bs zero = front
+items_before front [] (suc k) = front
+items_before front (b ∷ bs) (suc k) = items_before (b ∷ front) bs k
+
+items_before-more : (front bs : List binding.BoundItem) (k : ℕ) (b : binding.BoundItem) (rest : List binding.BoundItem) → drop k bs ≡ b ∷ rest → items_before front bs (suc k) ≡ b ∷ items_before front bs k
+items_before-more front [] zero b rest h = absurd (cc)
+items_before-more front (x ∷ bs) zero b rest h = cc
+items_before-more front [] (suc k) b rest h = absurd (cc)
+items_before-more front (x ∷ bs) (suc k) b rest h = items_before-more (x ∷ front) bs k b rest h
+
+or_moved : (a b c : Bool) → (a || (b || c)) ≡ ((b || a) || c)
+or_moved true true c = refl
+or_moved true false c = refl
+or_moved false true c = refl
+or_moved false false c = refl
+
+any_before : (f : binding.BoundItem → Bool) (front bs : List binding.BoundItem) (k : ℕ) → list_any f (items_before front bs k) ≡ (list_any f (take k bs) || list_any f front)
+any_before f front bs zero = refl
+any_before f front [] (suc k) = refl
+any_before f front (b ∷ bs) (suc k) = any_before f (b ∷ front) bs k ∙ or_moved (list_any f (take k bs)) (f b) (list_any f front)
+
+or_none : (a : Bool) → (a || false) ≡ a
+or_none true = refl
+or_none false = refl
+
+-- the order of the items before one doesn't matter
+pub any_taken : (f : binding.BoundItem → Bool) (bs : List binding.BoundItem) (k : ℕ) → list_any f (take k bs) ≡ list_any f (items_before [] bs k)
+any_taken f bs k = sym (or_none (list_any f (take k bs))) ∙ sym (any_before f [] bs k)
+
+-- the fault of an item that clashes is noted
+pub noted_clash : (fs : Fields) (ls : List Leaf) (tree : Levels) (q : Bool) (bs : List binding.BoundItem) (xs : List BoundItem) (k : ℕ) (x : BoundItem) (ys : List BoundItem)
+    (between now whole : Option BindFault) → AreItems fs ls bs xs → k < length xs → x ≡ get_or xs k x → ys ≡ take k xs
+    → ((b : binding.BoundItem) (ds : List binding.BoundItem) → IsItem fs ls b x → AreItems fs ls ds ys → now ≡ earlier between (first_fault (clash_faults tree q b ds)))
+    → earlier between (first_fault (duplicate_faults tree q (items_before [] bs k) (drop k bs))) ≡ whole
+    → earlier now (first_fault (duplicate_faults tree q (items_before [] bs (k + 1)) (drop (k + 1) bs))) ≡ whole
+noted_clash fs ls tree q bs xs k x ys between now whole h lt at cut step inv =
+    let a = item_at fs ls bs xs k x h lt in
+    let i = a.0 in
+    let rest : List BindFault = duplicate_faults tree q (items_before [] bs (k + 1)) (drop (k + 1) bs) in
+    let own : List BindFault = clash_faults tree q i (items_before [] bs k) in
+    let more : items_before [] bs (k + 1) ≡ i ∷ items_before [] bs k = ap (items_before [] bs) add-one ∙ items_before-more [] bs k i (drop (k + 1) bs) a.2 in
+    let told : now ≡ earlier between (first_fault own) = step i (take k bs) (subst (IsItem fs ls i) (sym at) a.1) (subst (AreItems fs ls (take k bs)) (sym cut) (items_taken fs ls bs xs k h))
+    ∙ ap (λ (b : Bool). earlier between (first_fault (if b then fault_at i.place duplicate_name else []))) (any_taken (binding.clashes_with tree q i) bs k) in
+    ap (λ y. earlier y (first_fault rest)) told
+    ∙ earlier_assoc between (first_fault own) (first_fault rest)
+    ∙ ap (earlier between) (sym (first_fault-append own rest))
+    ∙ ap (λ (front : List binding.BoundItem). earlier between (first_fault (own ++ duplicate_faults tree q front (drop (k + 1) bs)))) more
+    ∙ ap (λ (l : List binding.BoundItem). earlier between (first_fault (duplicate_faults tree q (items_before [] bs k) l))) (sym a.2)
+    ∙ inv
+
+pub noted_clashes : (fs : Fields) (ls : List Leaf) (tree : Levels) (q : Bool) (bs : List binding.BoundItem) (xs : List BoundItem) (k : ℕ) (now whole : Option BindFault) → AreItems fs ls bs xs → length xs ≤ k
+    → earlier now (first_fault (duplicate_faults tree q (items_before [] bs k) (drop k bs))) ≡ whole → now ≡ whole
+noted_clashes fs ls tree q bs xs k now whole h le inv =
+    let n = items_length fs ls bs xs h in
+    sym (earlier_none now) ∙ ap (λ (l : List binding.BoundItem). earlier now (first_fault (duplicate_faults tree q (items_before [] bs k) l))) (sym (drop_all k bs (omega arith))) ∙ inv
+
+-- ---- one of some items
+
+any_at : (f : binding.BoundItem → Bool) (bs : List binding.BoundItem) (k : ℕ) (b : binding.BoundItem) → drop k bs ≡ b ∷ drop (k + 1) bs → list_any f (drop k bs) ≡ (f b || list_any f (drop (k + 1) bs))
+any_at f bs k b h = ap (list_any f) h
+
+-- one that clashes is found
+pub clash_found : (fs : Fields) (ls : List Leaf) (f : binding.BoundItem → Bool) (ds : List binding.BoundItem) (ys : List BoundItem) (k : ℕ) (y : BoundItem) (r : Bool) → AreItems fs ls ds ys → k < length ys → y ≡ get_or ys k y
+    → ((d : binding.BoundItem) → IsItem fs ls d y → r ≡ f d) → r ≡ true → list_any f ds ≡ list_any f (drop k ds) → true ≡ list_any f ds
+clash_found fs ls f ds ys k y r h lt at step e inv =
+    let a = item_at fs ls ds ys k y h lt in
+    let one : f a.0 ≡ true = sym (step a.0 (subst (IsItem fs ls a.0) (sym at) a.1)) ∙ e in
+    sym (inv ∙ any_at f ds k a.0 a.2 ∙ ap (λ (b : Bool). b || list_any f (drop (k + 1) ds)) one)
+
+pub clash_sought : (fs : Fields) (ls : List Leaf) (f : binding.BoundItem → Bool) (ds : List binding.BoundItem) (ys : List BoundItem) (k : ℕ) (y : BoundItem) (r : Bool) → AreItems fs ls ds ys → k < length ys → y ≡ get_or ys k y
+    → ((d : binding.BoundItem) → IsItem fs ls d y → r ≡ f d) → r ≡ false → list_any f ds ≡ list_any f (drop k ds) → list_any f ds ≡ list_any f (drop (k + 1) ds)
+clash_sought fs ls f ds ys k y r h lt at step e inv =
+    let a = item_at fs ls ds ys k y h lt in
+    let one : f a.0 ≡ false = sym (step a.0 (subst (IsItem fs ls a.0) (sym at) a.1)) ∙ e in
+    inv ∙ any_at f ds k a.0 a.2 ∙ ap (λ (b : Bool). b || list_any f (drop (k + 1) ds)) one
+
+pub no_clash : (fs : Fields) (ls : List Leaf) (f : binding.BoundItem → Bool) (ds : List binding.BoundItem) (ys : List BoundItem) (k : ℕ) → AreItems fs ls ds ys → length ys ≤ k
+    → list_any f ds ≡ list_any f (drop k ds) → false ≡ list_any f ds
+no_clash fs ls f ds ys k h le inv =
+    let n = items_length fs ls ds ys h in
+    sym (inv ∙ ap (list_any f) (drop_all k ds (omega arith)))
