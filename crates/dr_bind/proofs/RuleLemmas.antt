@@ -273,18 +273,18 @@ pub any_taken : (f : binding.BoundItem → Bool) (bs : List binding.BoundItem) (
 any_taken f bs k = sym (or_none (list_any f (take k bs))) ∙ sym (any_before f [] bs k)
 
 -- the fault of an item that clashes is noted
-pub noted_clash : (fs : Fields) (ls : List Leaf) (tree : Levels) (q : Bool) (bs : List binding.BoundItem) (xs : List BoundItem) (k : ℕ) (x : BoundItem) (ys : List BoundItem)
-    (between now whole : Option BindFault) → AreItems fs ls bs xs → k < length xs → x ≡ get_or xs k x → ys ≡ take k xs
-    → ((b : binding.BoundItem) (ds : List binding.BoundItem) → IsItem fs ls b x → AreItems fs ls ds ys → now ≡ earlier between (first_fault (clash_faults tree q b ds)))
+pub noted_clash : (fs : Fields) (ls : List Leaf) (tree : Levels) (q : Bool) (bs : List binding.BoundItem) (xs : List BoundItem) (k : ℕ) (x : BoundItem)
+    (between now whole : Option BindFault) → AreItems fs ls bs xs → k < length xs → x ≡ get_or xs k x
+    → ((b : binding.BoundItem) (ds : List binding.BoundItem) → IsItem fs ls b x → AreItems fs ls ds (take k xs) → now ≡ earlier between (first_fault (clash_faults tree q b ds)))
     → earlier between (first_fault (duplicate_faults tree q (items_before [] bs k) (drop k bs))) ≡ whole
     → earlier now (first_fault (duplicate_faults tree q (items_before [] bs (k + 1)) (drop (k + 1) bs))) ≡ whole
-noted_clash fs ls tree q bs xs k x ys between now whole h lt at cut step inv =
+noted_clash fs ls tree q bs xs k x between now whole h lt at step inv =
     let a = item_at fs ls bs xs k x h lt in
     let i = a.0 in
     let rest : List BindFault = duplicate_faults tree q (items_before [] bs (k + 1)) (drop (k + 1) bs) in
     let own : List BindFault = clash_faults tree q i (items_before [] bs k) in
-    let more : items_before [] bs (k + 1) ≡ i ∷ items_before [] bs k = ap (items_before [] bs) add-one ∙ items_before-more [] bs k i (drop (k + 1) bs) a.2 in
-    let told : now ≡ earlier between (first_fault own) = step i (take k bs) (subst (IsItem fs ls i) (sym at) a.1) (subst (AreItems fs ls (take k bs)) (sym cut) (items_taken fs ls bs xs k h))
+    let more : items_before [] bs (k + 1) ≡ i ∷ items_before [] bs k = ap (items_before [] bs) (add-one k) ∙ items_before-more [] bs k i (drop (k + 1) bs) a.2 in
+    let told : now ≡ earlier between (first_fault own) = step i (take k bs) (subst (IsItem fs ls i) (sym at) a.1) (items_taken fs ls bs xs k h)
     ∙ ap (λ (b : Bool). earlier between (first_fault (if b then fault_at i.place duplicate_name else []))) (any_taken (binding.clashes_with tree q i) bs k) in
     ap (λ y. earlier y (first_fault rest)) told
     ∙ earlier_assoc between (first_fault own) (first_fault rest)
