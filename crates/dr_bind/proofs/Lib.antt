@@ -14,3 +14,5 @@ pub mod PathLemmas
 pub mod ItemLemmas
 -- the parts of a query
 pub mod PartLemmas
+-- the rules above paths and operators
+pub mod RuleLemmas

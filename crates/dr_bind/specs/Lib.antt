@@ -8,3 +8,5 @@ pub mod Operators
 pub mod Items
 -- the parts of a query
 pub mod Parts
+-- the rules above paths and operators
+pub mod Rules

@@ -9,6 +9,7 @@ mod operators;
 mod parts;
 mod paths;
 mod resolving;
+mod rules;
 mod terms;
 
 pub use fault::{BindFault, BindProblem, Fault, FirstFault};

@@ -9,3 +9,5 @@ mod objects_tests;
 mod plan_tests;
 #[cfg(test)]
 mod sql_tests;
+#[cfg(test)]
+mod used_tests;

@@ -1,5 +1,5 @@
 -- A leaf that a query uses is among the leaves of the query, by its path.
-use Rattle.std.proofs.Common.{◌≡◌, ◌⊎◌, inl, inr, ℕ, zero, suc, ◌≤◌, ◌+◌, List, [], ◌∷◌, map, Bool, true, false, ◌&&◌, Option, Some, None, cond, refl, sym, ap, ap₂, ◌∙◌, subst, true≢false, arith}
+use Rattle.std.proofs.Common.{◌≡◌, inl, inr, ℕ, zero, suc, ◌≤◌, ◌+◌, List, [], ◌∷◌, map, Bool, true, false, ◌&&◌, Option, Some, None, cond, refl, sym, ap, ap₂, ◌∙◌, subst, true≢false, arith}
 use Rattle.std.specs.Prelude.{◌==◌, if◌then◌else◌, option_map, filter}
 use Rattle.std.specs.List.{list_any, slice_get, filter_map, cons_option}
 use Rattle.std.proofs.lemmas.Bool.{and_parts, eqb-true}
@@ -7,7 +7,7 @@ use Rattle.dr_meaning.specs.Schema.{Repetition, required, optional, repeated, Ki
 use Rattle.dr_meaning.specs.Path.{Step, Leaf, begins_with, same_path, same_repetition, leaves}
 use Rattle.dr_meaning.specs.Automaton.{reading_order}
 use Rattle.dr_meaning.specs.Query.{Query}
-use Rattle.dr_meaning.specs.QueryLeaves.{used_paths, query_leaves}
+use Rattle.dr_meaning.specs.QueryLeaves.{used_paths, in_reading_order, query_leaves}
 use Rattle.dr_meaning.proofs.ProjectionLemmas.{step}
 use Rattle.dr_meaning.proofs.LeafKinds.{kind_if_some, leaf_kind, shape_kind, kind_of_leaf}
 use Rattle.dr_meaning.proofs.FindingLemmas.{In, in_at, at_in}
@@ -121,3 +121,8 @@ number_of_used fs q i l h u =
     let s = and_parts (begins_with r.1.path l.path) (begins_with l.path r.1.path) r.4 in
     let e : r.1.path ≡ l.path = one_path (group fs) r.1.path l.path r.1.kind l.kind x k s.0 s.1 in
     (r.0, r.1, r.2, r.3, e, kind_along fs l r.1 k x e)
+
+-- the leaves on which the used paths of a query end are the leaves of the query
+pub leaves_of_used : (fs : Fields) (q : Query) (ps : List (List Step)) → ps ≡ used_paths q → in_reading_order fs (filter (λ (l : Leaf). list_any (same_path l.path) ps) (leaves fs)) ≡ query_leaves fs q
+unfolding query_leaves
+leaves_of_used fs q ps e = ap (λ (qs : List (List Step)). in_reading_order fs (filter (λ (l : Leaf). list_any (same_path l.path) qs) (leaves fs))) e
