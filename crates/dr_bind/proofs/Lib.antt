@@ -6,3 +6,5 @@ pub mod FaultLemmas
 pub mod ExpressionLemmas
 -- the condition and what items give
 pub mod TermLemmas
+-- the plan of parts
+pub mod PlanLemmas

@@ -8,3 +8,5 @@ pub mod Operators
 pub mod Items
 -- the parts of a query
 pub mod Parts
+-- what parts stand for in a plan
+pub mod Planning

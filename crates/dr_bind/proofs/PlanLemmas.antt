@@ -1,0 +1,2 @@
+-- The plan of parts of a query.
+
