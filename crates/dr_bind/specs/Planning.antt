@@ -1,5 +1,5 @@
 -- What the bound parts of a query stand for in a plan over leaves, and which parts a plan can be made of.
-use Rattle.std.specs.Prelude.{◌≡◌, ◌<◌, ◌^◌, ℕ, suc, List, [], ◌∷◌, ◌++◌, map, length, Bool, true, nat_lt, if◌then◌else◌, Option, Some, None, option_map, String}
+use Rattle.std.specs.Prelude.{◌≡◌, ℕ, suc, List, [], ◌∷◌, ◌++◌, map, length, Bool, true, false, nat_lt, if◌then◌else◌, Option, Some, None, option_map, String}
 use Rattle.std.specs.List.{list_all, flat_map, filter_map, slice_get}
 use Rattle.std.specs.declared.alloc.Global.{Global}
 use Rattle.dr_meaning.specs.Schema.{Fields}
@@ -163,6 +163,11 @@ SelectsGroups ls keys xs (Selection.Objects items o) = ⊥
 SelectsGroups ls keys xs (Selection.Groups numbers aggregates items) = AreNumbers ls (map bound_path_view keys) numbers.items
     × (aggregates.items ≡ aggregates_of keys xs) × (items.items ≡ group_items_of keys 0 xs)
 
+-- what parts select: objects where it is a record query, groups where it isn't
+abbrev pub Selects : Bool → NamedLevels → List Leaf → List BoundPath → List BoundItem → Selection → Type 0
+Selects true levels ls keys xs s = SelectsObjects levels xs s
+Selects false levels ls keys xs s = SelectsGroups ls keys xs s
+
 -- ---- which parts a plan can be made of
 
 -- SUM is of numbers
@@ -178,3 +183,14 @@ pub record CanBePlanned (ls : List Leaf) (p : BoundParts) : Type 0 where
   pub parts : AreParts fields ls bound p
   pub covered : Covers ls (map bound_path_view (parts_paths p))
   pub summed : list_all (λ (x : BoundItem). sums_numbers x.term) p.items.items ≡ true
+
+-- ---- what the definitions say of SUM
+
+-- SUM is of numbers
+abbrev pub SumsNumbers : binding.BoundTerm → Type 0
+SumsNumbers (binding.aggregated query.sum e w) = e.gives ≡ meant.number_type
+SumsNumbers t = Unit {0}
+
+abbrev pub AllSumNumbers : List binding.BoundItem → Type 0
+AllSumNumbers [] = Unit {0}
+AllSumNumbers (b ∷ bs) = SumsNumbers b.term × AllSumNumbers bs

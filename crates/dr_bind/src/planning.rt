@@ -384,8 +384,7 @@ fn selected(
     keys: &[BoundPath],
     items: Vec<BoundItem>,
 ) -> Result<Selection, NoMemory>
-    ensures objects { IsTrue is_record_query → IfOk result (λ s. plan.SelectsObjects (levels_view levels.now) items.items s) }
-    ensures groups { is_record_query ≡ false → IfOk result (λ s. plan.SelectsGroups (map path_view leaves.now) keys.now items.items s) }
+    ensures { IfOk result (λ s. plan.Selects is_record_query (levels_view levels.now) (map path_view leaves.now) keys.now items.items s) }
 {
     if is_record_query {
         selected_objects(alloc, levels, items)
