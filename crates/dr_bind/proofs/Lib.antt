@@ -16,3 +16,5 @@ pub mod ItemLemmas
 pub mod PartLemmas
 -- the rules above paths and operators
 pub mod RuleLemmas
+-- the plan of parts
+pub mod PlanLemmas

@@ -10,3 +10,5 @@ pub mod Items
 pub mod Parts
 -- the rules above paths and operators
 pub mod Rules
+-- what parts stand for in a plan
+pub mod Planning

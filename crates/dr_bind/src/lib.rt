@@ -8,6 +8,7 @@ mod items;
 mod operators;
 mod parts;
 mod paths;
+mod planning;
 mod resolving;
 mod rules;
 mod terms;
