@@ -12,3 +12,5 @@ pub mod Parts
 pub mod Rules
 -- what parts stand for in a plan
 pub mod Planning
+-- what binding answers
+pub mod Binds
