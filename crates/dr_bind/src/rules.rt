@@ -307,12 +307,7 @@ fn clashes_with(
 }
 
 /// Whether an item has the name of what one of some others puts into its object.
-fn clashes(
-    levels: &[Level],
-    is_record_query: bool,
-    item: &BoundItem,
-    others: &[BoundItem],
-) -> bool
+fn clashes(levels: &[Level], is_record_query: bool, item: &BoundItem, others: &[BoundItem]) -> bool
     ensures { (fs : Fields) (ls : List Leaf) (tree : query.Levels) (b : binding.BoundItem) (ds : List binding.BoundItem) → levels_view levels.now ≡ joined tree → IsItem fs ls b item.now
         → AreItems fs ls ds others.now → result ≡ list_any (binding.clashes_with tree is_record_query b) ds }
 {
