@@ -1,6 +1,6 @@
 -- The rules above paths and operators.
-use Rattle.std.proofs.Common.{◌≡◌, ◌<◌, ◌≤◌, ◌+◌, ℕ, suc, zero, List, [], ◌∷◌, ◌++◌, map, length, get_or, take, drop, Bool, true, false, Option, Some, None, refl, sym, ap, ap₂, ◌∙◌, subst, add-one, arith}
-use Rattle.std.specs.Prelude.{◌||◌, ◌&&◌, ◌==◌, if◌then◌else◌, option_map, is_some, is_none, string_bytes}
+use Rattle.std.proofs.Common.{◌≡◌, ◌<◌, ◌≤◌, ◌+◌, ℕ, suc, zero, List, [], ◌∷◌, ◌++◌, map, length, get_or, take, drop, Bool, true, false, Option, Some, None, refl, sym, ap, ◌∙◌, subst, add-one, arith}
+use Rattle.std.specs.Prelude.{◌||◌, if◌then◌else◌, option_map, is_some}
 use Rattle.std.specs.List.{flat_map, list_any}
 use denote.Ref.{Bor}
 use Rattle.std.proofs.lemmas.Bool.{eqb-true, eq-eqb, false≢true}
@@ -8,7 +8,6 @@ use Rattle.std.proofs.lemmas.List.{drop_all}
 use Rattle.dr_meaning.specs.Schema.{Fields}
 use Rattle.dr_meaning.specs.Path as path_meaning
 use Rattle.dr_meaning.specs.Path.{Leaf, begins_with}
-use Rattle.dr_meaning.specs.Expression.{Expression, path_value, longest_level, expression_level, paths_of}
 use Rattle.dr_meaning.specs.Query.{Levels, key}
 use Rattle.dr_meaning.specs.BoundExpression as meant
 use Rattle.dr_meaning.specs.BoundExpression.{BindFault, Checked, passes, fails, together, unrelated, duplicate_name, not_grouped, bad_within, fault_at, unrelated_after, unrelated_among}
@@ -18,16 +17,14 @@ use Rattle.dr_nested.specs.PathView.{step_view}
 use Rattle.dr_nested.specs.declared.path.Step.{Step}
 use Rattle.dr_plan.specs.declared.aggregate.Fold.{Fold}
 use Rattle.dr_chains.specs.Related.{Spans, joined_before}
-use Rattle.dr_chains.specs.Views.{bound_path_view, paths_at}
-use Rattle.dr_chains.specs.declared.bound.BoundPath.{BoundPath}
-use Rattle.dr_chains.proofs.RelatedLemmas.{spans_none, unrelated_behind, unrelated_front}
+use Rattle.dr_chains.specs.Views.{bound_path_view}
+use Rattle.dr_chains.proofs.RelatedLemmas.{unrelated_behind, unrelated_front}
 use Rattle.dr_bind.specs.Faults.{earlier}
-use Rattle.dr_bind.specs.Bound.{IsExpression, is_path_value}
-use Rattle.dr_bind.specs.Items.{AreItems, IsItem, IsTerm, IsCondition, IsWithin, within_view}
-use Rattle.dr_bind.specs.Parts.{AreParts, IsCheckedCondition}
+use Rattle.dr_bind.specs.Bound.{IsExpression}
+use Rattle.dr_bind.specs.Items.{AreItems, IsItem, IsTerm, within_view}
+use Rattle.dr_bind.specs.Parts.{AreParts}
 use Rattle.dr_bind.specs.Rules.{IsChain, clash_faults}
 use Rattle.dr_bind.specs.declared.bound.BoundExpression.{BoundExpression}
-use Rattle.dr_bind.specs.declared.terms.BoundCondition.{BoundCondition}
 use Rattle.dr_bind.specs.declared.terms.BoundWithin.{BoundWithin}
 use Rattle.dr_bind.specs.declared.terms.BoundTerm.{BoundTerm}
 use Rattle.dr_bind.specs.declared.items.BoundItem.{BoundItem}
@@ -130,22 +127,6 @@ chain_unrelated fs ls b p i t r h = subst (λ c. IsChain c (KeyChain.Unrelated i
 
 -- ---- paths behind the keys
 
--- no fault is noted of keys that couldn't be bound
-pub none_unbound : (rule : List meant.BoundPath → List BindFault) (ks : Checked (List meant.BoundPath)) (chain : KeyChain) (before : Option BindFault) → chain ≡ KeyChain.Unbound → IsChain ks chain
-    → before ≡ earlier before (first_fault (where_passed rule ks))
-none_unbound rule (passes ks) chain before is h = absurd (subst (IsChain (passes ks)) is h)
-none_unbound rule (fails e es) chain before is h = sym (earlier_none before)
-
-pub none_related : (ks : Checked (List meant.BoundPath)) (chain : KeyChain) (l : Bor (List Step)) (before : Option BindFault) → chain ≡ KeyChain.Related l → IsChain ks chain
-    → before ≡ earlier before (first_fault (where_passed unrelated_among ks))
-none_related (passes ks) chain l before is h = let k = subst (IsChain (passes ks)) is h in sym (earlier_none before) ∙ ap (λ fs. earlier before (first_fault fs)) (sym k.0)
-none_related (fails e es) chain l before is h = absurd (subst (IsChain (fails e es)) is h)
-
-pub keys_unrelated : (ks : Checked (List meant.BoundPath)) (chain : KeyChain) (i : ℕ) (before now : Option BindFault) → chain ≡ KeyChain.Unrelated i
-    → now ≡ earlier before (Some (record { place = i; problem = unrelated })) → IsChain ks chain → now ≡ earlier before (first_fault (where_passed unrelated_among ks))
-keys_unrelated (passes ks) chain i before now is n h = let k = subst (IsChain (passes ks)) is h in n ∙ ap (λ fs. earlier before (first_fault fs)) (sym k)
-keys_unrelated (fails e es) chain i before now is n h = absurd (subst (IsChain (fails e es)) is h)
-
 -- the first of some paths behind others is noted
 abbrev NotesPaths : Option BindFault → Option BindFault → List path_meaning.Step → List meant.BoundPath → Type 0
 NotesPaths before now l qs = (front : List (List path_meaning.Step)) → Spans front l → now ≡ earlier before (first_fault (unrelated_after front qs))
@@ -165,40 +146,6 @@ behind_unrelated (passes ks) chain i qs before now is n h =
     n ∙ ap (λ fs. earlier before (first_fault fs)) (sym (unrelated_front [] ks qs i k))
 behind_unrelated (fails e es) chain i qs before now is n h = absurd (subst (IsChain (fails e es)) is h)
 
--- ---- the paths of the condition and of items
-
-pub no_condition : (fs : Fields) (ls : List Leaf) (rule : Option meant.BoundExpression → List BindFault) (c : Checked (Option meant.BoundExpression)) (before : Option BindFault)
-    → IsCheckedCondition fs ls c None → before ≡ earlier before (first_fault (where_passed rule c))
-no_condition fs ls rule (passes b) before h = absurd h
-no_condition fs ls rule (fails e es) before h = sym (earlier_none before)
-
-abbrev condition_faults : Checked (Option meant.BoundExpression) → List BindFault
-condition_faults c = where_passed (λ (o : Option meant.BoundExpression). unrelated_among (binding.paths_of_condition o)) c
-
-pub empty_condition : (fs : Fields) (ls : List Leaf) (c : Checked (Option meant.BoundExpression)) (before : Option BindFault)
-    → IsCheckedCondition fs ls c (Some None) → before ≡ earlier before (first_fault (condition_faults c))
-empty_condition fs ls (passes None) before h = sym (earlier_none before)
-empty_condition fs ls (passes (Some b)) before h = absurd h
-empty_condition fs ls (fails e es) before h = absurd h
-
-pub some_condition : (fs : Fields) (ls : List Leaf) (c : Checked (Option meant.BoundExpression)) (x : BoundCondition) (before now : Option BindFault)
-    → NotesPaths before now [] (map bound_path_view x.paths.items) → IsCheckedCondition fs ls c (Some (Some x)) → now ≡ earlier before (first_fault (condition_faults c))
-some_condition fs ls (passes None) x before now n h = absurd h
-some_condition fs ls (passes (Some b)) x before now n h = n [] spans_none ∙ ap (λ ps. earlier before (first_fault (unrelated_among ps))) h.paths
-some_condition fs ls (fails e es) x before now n h = absurd h
-
-pub unrelated_value : (fs : Fields) (ls : List Leaf) (ks : Checked (List meant.BoundPath)) (t : binding.BoundTerm) (x : BoundExpression) (before now : Option BindFault)
-    → NotesPaths before now [] (map bound_path_view x.paths.items) → IsTerm fs ls t (BoundTerm.Value x) → now ≡ earlier before (first_fault (binding.unrelated_in_term ks t))
-unrelated_value fs ls ks (binding.plain e) x before now n h = n [] spans_none ∙ ap (λ ps. earlier before (first_fault (unrelated_among ps))) h.paths
-unrelated_value fs ls ks (binding.rows_counted w) x before now n h = absurd h
-unrelated_value fs ls ks (binding.aggregated a e w) x before now n h = absurd h
-
-pub unrelated_rows : (fs : Fields) (ls : List Leaf) (ks : Checked (List meant.BoundPath)) (t : binding.BoundTerm) (w : Option BoundWithin) (before : Option BindFault)
-    → IsTerm fs ls t (BoundTerm.Rows w) → before ≡ earlier before (first_fault (binding.unrelated_in_term ks t))
-unrelated_rows fs ls ks (binding.plain e) w before h = absurd h
-unrelated_rows fs ls ks (binding.rows_counted v) w before h = sym (earlier_none before)
-unrelated_rows fs ls ks (binding.aggregated a e v) w before h = absurd h
-
 -- ---- a fault that a test decides
 
 pub unless_told : (g : Bool) (fs : List BindFault) (before now : Option BindFault) → g ≡ false → now ≡ earlier before (first_fault fs) → now ≡ earlier before (first_fault (if g then [] else fs))
@@ -206,12 +153,6 @@ unless_told g fs before now e n = n ∙ ap (λ (b : Bool). earlier before (first
 
 pub unless_untold : (g : Bool) (fs : List BindFault) (before : Option BindFault) → g ≡ true → before ≡ earlier before (first_fault (if g then [] else fs))
 unless_untold g fs before e = sym (earlier_none before) ∙ ap (λ (b : Bool). earlier before (first_fault (if b then [] else fs))) (sym e)
-
-pub when_told : (g : Bool) (fs : List BindFault) (before now : Option BindFault) → g ≡ true → now ≡ earlier before (first_fault fs) → now ≡ earlier before (first_fault (if g then fs else []))
-when_told g fs before now e n = n ∙ ap (λ (b : Bool). earlier before (first_fault (if b then fs else []))) (sym e)
-
-pub when_untold : (g : Bool) (fs : List BindFault) (before : Option BindFault) → g ≡ false → before ≡ earlier before (first_fault (if g then fs else []))
-when_untold g fs before e = sym (earlier_none before) ∙ ap (λ (b : Bool). earlier before (first_fault (if b then fs else []))) (sym e)
 
 -- ---- WITHIN
 
@@ -227,7 +168,7 @@ within_aggregate fs ls (binding.aggregated a e v) term f x o w holds P r is some
     subst (λ (u : Option binding.BoundWithin). P (binding.within_faults (binding.aggregated a e u))) same
     (subst (λ (b : Bool). P (if b then [] else fault_at w.place bad_within)) (r e k.1) p)
 
--- ---- keys
+-- ---- the key that an item is
 
 is_some_mapped : {A B : Type 0} (f : A → B) (o : Option A) → is_some (option_map f o) ≡ is_some o
 is_some_mapped f None = refl
@@ -301,23 +242,20 @@ noted_clashes fs ls tree q bs xs k now whole h le inv =
 
 -- ---- one of some items
 
-any_at : (f : binding.BoundItem → Bool) (bs : List binding.BoundItem) (k : ℕ) (b : binding.BoundItem) → drop k bs ≡ b ∷ drop (k + 1) bs → list_any f (drop k bs) ≡ (f b || list_any f (drop (k + 1) bs))
-any_at f bs k b h = ap (list_any f) h
-
 -- one that clashes is found
 pub clash_found : (fs : Fields) (ls : List Leaf) (f : binding.BoundItem → Bool) (ds : List binding.BoundItem) (ys : List BoundItem) (k : ℕ) (y : BoundItem) (r : Bool) → AreItems fs ls ds ys → k < length ys → y ≡ get_or ys k y
     → ((d : binding.BoundItem) → IsItem fs ls d y → r ≡ f d) → r ≡ true → list_any f ds ≡ list_any f (drop k ds) → true ≡ list_any f ds
 clash_found fs ls f ds ys k y r h lt at step e inv =
     let a = item_at fs ls ds ys k y h lt in
     let one : f a.0 ≡ true = sym (step a.0 (subst (IsItem fs ls a.0) (sym at) a.1)) ∙ e in
-    sym (inv ∙ any_at f ds k a.0 a.2 ∙ ap (λ (b : Bool). b || list_any f (drop (k + 1) ds)) one)
+    sym (inv ∙ ap (list_any f) a.2 ∙ ap (λ (b : Bool). b || list_any f (drop (k + 1) ds)) one)
 
 pub clash_sought : (fs : Fields) (ls : List Leaf) (f : binding.BoundItem → Bool) (ds : List binding.BoundItem) (ys : List BoundItem) (k : ℕ) (y : BoundItem) (r : Bool) → AreItems fs ls ds ys → k < length ys → y ≡ get_or ys k y
     → ((d : binding.BoundItem) → IsItem fs ls d y → r ≡ f d) → r ≡ false → list_any f ds ≡ list_any f (drop k ds) → list_any f ds ≡ list_any f (drop (k + 1) ds)
 clash_sought fs ls f ds ys k y r h lt at step e inv =
     let a = item_at fs ls ds ys k y h lt in
     let one : f a.0 ≡ false = sym (step a.0 (subst (IsItem fs ls a.0) (sym at) a.1)) ∙ e in
-    inv ∙ any_at f ds k a.0 a.2 ∙ ap (λ (b : Bool). b || list_any f (drop (k + 1) ds)) one
+    inv ∙ ap (list_any f) a.2 ∙ ap (λ (b : Bool). b || list_any f (drop (k + 1) ds)) one
 
 pub no_clash : (fs : Fields) (ls : List Leaf) (f : binding.BoundItem → Bool) (ds : List binding.BoundItem) (ys : List BoundItem) (k : ℕ) → AreItems fs ls ds ys → length ys ≤ k
     → list_any f ds ≡ list_any f (drop k ds) → false ≡ list_any f ds

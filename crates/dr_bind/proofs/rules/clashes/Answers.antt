@@ -1,4 +1,4 @@
-use Rattle.std.proofs.Common.{sym, arith}
+use Rattle.std.proofs.Common.{arith}
 use Rattle.dr_meaning.specs.Binding as binding
 use Rattle.dr_bind.proofs.RuleLemmas.{clash_found, clash_sought, no_clash}
 use Rattle.dr_bind.proofs.rules.clashes.Goals as goal

@@ -1,7 +1,4 @@
-use Rattle.std.proofs.Common.{◌∙◌, subst, List, rules}
-use Rattle.dr_meaning.specs.BoundExpression as meant
-use Rattle.dr_meaning.specs.Binding as binding
-use Rattle.dr_chains.specs.Views.{bound_path_view}
+use Rattle.std.proofs.Common.{◌∙◌}
 use Rattle.dr_bind.proofs.RuleLemmas.{grouped_value}
 use Rattle.dr_bind.proofs.rules.is_grouped.Goals as goal
 

@@ -1,4 +1,4 @@
-use Rattle.std.proofs.Common.{◌≡◌, List, [], map, subst, rules}
+use Rattle.std.proofs.Common.{◌≡◌, List, [], map, subst}
 use Rattle.dr_meaning.specs.BoundExpression.{unrelated, fault_at, unrelated_among}
 use Rattle.dr_nested.specs.PathView.{step_view}
 use Rattle.dr_chains.specs.Related.{Spans, joined_before}

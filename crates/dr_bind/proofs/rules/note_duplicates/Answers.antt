@@ -1,10 +1,7 @@
-use Rattle.std.proofs.Common.{◌≡◌, ◌-◌, List, [], take, drop, arith}
-use Rattle.std.proofs.lemmas.Grind.{common_steps}
-use Rattle.dr_meaning.specs.Query.{Levels}
+use Rattle.std.proofs.Common.{[], arith}
 use Rattle.dr_meaning.specs.Binding as binding
 use Rattle.dr_bind.specs.Faults.{earlier, first_view}
-use Rattle.dr_bind.specs.declared.items.BoundItem.{BoundItem}
-use Rattle.dr_bind.proofs.RuleLemmas.{items_before, noted_clash, noted_clashes}
+use Rattle.dr_bind.proofs.RuleLemmas.{noted_clash, noted_clashes}
 use Rattle.dr_bind.proofs.rules.note_duplicates.Goals as goal
 
 pub items-preserved : goal.items-preserved

@@ -4,7 +4,7 @@ use Rattle.std.specs.List.{flat_map}
 use Rattle.dr_meaning.specs.BoundExpression.{BindFault}
 use Rattle.dr_meaning.specs.Binding as binding
 use Rattle.dr_chains.specs.Views.{bound_path_view}
-use Rattle.dr_bind.specs.Faults.{earlier, first_view}
+use Rattle.dr_bind.specs.Faults.{first_view}
 use Rattle.dr_bind.specs.Items.{AreItems}
 use Rattle.dr_bind.proofs.FaultLemmas.{noted_behind}
 use Rattle.dr_bind.proofs.RuleLemmas.{unless_told}

@@ -1,4 +1,4 @@
-use Rattle.std.proofs.Common.{◌≡◌, ◌∙◌, ◌++◌, Bool, List, [], ap, sym, subst}
+use Rattle.std.proofs.Common.{◌∙◌, ◌++◌, Bool, List, [], ap, sym, subst}
 use Rattle.dr_meaning.specs.BoundExpression.{BindFault}
 use Rattle.dr_meaning.specs.Query as query
 use Rattle.dr_meaning.specs.Binding as binding

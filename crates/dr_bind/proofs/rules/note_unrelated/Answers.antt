@@ -3,9 +3,8 @@ use Rattle.std.specs.List.{flat_map}
 use Rattle.dr_meaning.specs.BoundExpression as meant
 use Rattle.dr_meaning.specs.BoundExpression.{BindFault}
 use Rattle.dr_meaning.specs.Binding as binding
-use Rattle.dr_bind.specs.Faults.{earlier, first_view}
+use Rattle.dr_bind.specs.Faults.{first_view}
 use Rattle.dr_bind.specs.Items.{AreItems}
-use Rattle.dr_bind.specs.declared.items.BoundItem.{BoundItem}
 use Rattle.dr_bind.proofs.FaultLemmas.{noted_behind}
 use Rattle.dr_bind.proofs.rules.note_unrelated.Goals as goal
 

@@ -1,4 +1,4 @@
-use Rattle.std.proofs.Common.{List, arith}
+use Rattle.std.proofs.Common.{arith}
 use Rattle.std.specs.List.{flat_map}
 use Rattle.dr_meaning.specs.Binding as binding
 use Rattle.dr_bind.specs.Faults.{earlier, first_view}

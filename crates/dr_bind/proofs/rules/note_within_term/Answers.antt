@@ -1,4 +1,4 @@
-use Rattle.std.proofs.Common.{◌≡◌, List, rules}
+use Rattle.std.proofs.Common.{◌≡◌, List}
 use Rattle.dr_meaning.specs.BoundExpression.{BindFault, bad_within, fault_at}
 use Rattle.dr_meaning.specs.Binding.{first_fault}
 use Rattle.dr_bind.specs.Faults.{earlier, first_view}
