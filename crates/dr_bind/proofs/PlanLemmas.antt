@@ -1,13 +1,13 @@
 -- The plan of parts of a query.
 use Rattle.std.proofs.Common.{◌≡◌, ℕ, suc, ◌+◌, ◌<◌, ◌^◌, List, [], ◌∷◌, ◌++◌, map, length, get_or, take, drop, Bool, true, false, ◌&&◌, ◌||◌, nat_lt, Option, Some, None, refl, sym, ap, ap₂, ◌∙◌, subst, append_assoc, append-nil, add-zero, arith}
-use Rattle.std.specs.Prelude.{option_map, option_to_list, string_bytes, String, if◌then◌else◌}
+use Rattle.std.specs.Prelude.{◌==◌, option_map, option_to_list, string_bytes, String, if◌then◌else◌}
 use Rattle.std.specs.declared.alloc.Global.{Global}
 use Rattle.std.specs.List.{list_all, list_any, flat_map, filter_map, cons_option, slice_get}
 use Rattle.std.proofs.lemmas.List.{map-append, map_push, take_more, length-map, length_push}
 use Rattle.std.proofs.lemmas.List.Elements.{filter_map-append}
 use Rattle.std.proofs.lemmas.List.Folds.{list_all-append, list_any-append}
 use Rattle.std.proofs.lemmas.Option.{slice_get_within}
-use Rattle.std.proofs.lemmas.Bool.{lt-ltb, and_parts}
+use Rattle.std.proofs.lemmas.Bool.{lt-ltb, eq-eqb, and_parts}
 use denote.Ref.{Bor}
 use Rattle.dr_meaning.specs.Schema.{Fields}
 use Rattle.dr_meaning.specs.Path.{Step as MeantStep, Leaf, begins_with, same_path, level, leaves}
@@ -54,7 +54,7 @@ use Rattle.dr_bind.specs.Parts.{IsCheckedCondition, AreParts}
 use Rattle.dr_bind.specs.Planning.{condition_paths, record_paths, group_paths, record_item_paths, group_item_paths, selection_paths, parts_paths, steps_at}
 use Rattle.dr_bind.specs.Planning.{condition_conjuncts, condition_fits, record_term_of, record_item_of, record_level, record_levels, AreObjects, SelectsObjects}
 use Rattle.dr_bind.specs.Planning.{place_of_first, key_number, grouped_of, with_aggregate, aggregates_of, with_group_item, group_items_of, AreNumbers, SelectsGroups, Selects}
-use Rattle.dr_bind.specs.Planning.{sums_numbers, CanBePlanned}
+use Rattle.dr_bind.specs.Planning.{sums_numbers, CanBePlanned, SumsNumbers, AllSumNumbers}
 use Rattle.dr_bind.proofs.ExpressionLemmas.{covers_parts, real_joined}
 
 -- ---- lists of paths
@@ -592,3 +592,124 @@ plan_seen fs levels ls b p tests s h k e l t w =
     objects_seen fs levels ls p.is_record_query p.keys.items (passing b.items) p.items.items s h.items e w ∙ ap (objects_of_query fs) same in
     ap₂ (λ (v : List Leaf) (x : List Expression). plan_parts v x (selection_view ls s) (objects_of_plan s)) l tested
     ∙ ap₂ (λ (y : query.Selection) (z : Option ObjectTree). plan_parts (query_leaves fs (query_of b)) (cut.condition_conjuncts (binding.condition_of b.condition)) y z) selected shown
+
+-- ---- leaves of a query cover the paths that it uses
+
+same_itself : (p : List MeantStep) → same_path p p ≡ true
+same_itself p = both (begins_with p p) (begins_with p p) (begins p) (begins p)
+  where
+    begins : (q : List MeantStep) → begins_with q q ≡ true
+    begins [] = refl
+    begins (s ∷ q) = both (s.place == s.place) (begins_with q q) (eq-eqb s.place s.place refl) (begins q)
+
+any_middle : (f : List MeantStep → Bool) (before : List (List MeantStep)) (x : List MeantStep) (behind : List (List MeantStep)) → f x ≡ true → list_any f (before ++ x ∷ behind) ≡ true
+any_middle f [] x behind h = ap (λ (b : Bool). b || list_any f behind) h
+any_middle f (y ∷ before) x behind h = ap (λ (b : Bool). f y || b) (any_middle f before x behind h) ∙ either (f y)
+  where
+    either : (b : Bool) → (b || true) ≡ true
+    either true = refl
+    either false = refl
+
+-- real leaves of paths that a query uses are among its leaves
+covers_used : (fs : Fields) (q : query.Query) → length (query_leaves fs q) < 2 ^ 32 → (before : List (List MeantStep)) (ps : List meant.BoundPath) → used_paths q ≡ before ++ paths_at ps → AreReal fs ps
+    → Covers (query_leaves fs q) ps
+covers_used fs q short before [] u r = tt
+covers_used fs q short before (p ∷ ps) u r =
+    let used : list_any (same_path p.leaf.path) (used_paths q) ≡ true =
+    ap (list_any (same_path p.leaf.path)) u ∙ any_middle (same_path p.leaf.path) before p.leaf.path (paths_at ps) (same_itself p.leaf.path) in
+    let n = number_of_used fs q r.0.0 p.leaf r.0.1 used in
+    let below : n.0 < length (query_leaves fs q) = slice_get_within (query_leaves fs q) n.0 n.1 n.3 in
+    let fits : n.0 < 2 ^ 32 = omega (arith, below, short) in
+    let next : used_paths q ≡ (before ++ p.leaf.path ∷ []) ++ paths_at ps = u ∙ sym (append_assoc before (p.leaf.path ∷ []) (paths_at ps)) in
+    ((n.0, n.1, n.2, fits, n.3, n.4, n.5), covers_used fs q short (before ++ p.leaf.path ∷ []) ps next r.1)
+
+-- ---- the paths of parts are real
+
+real_parts : (fs : Fields) (ps qs : List BoundPath) → AreReal fs (map bound_path_view ps) → AreReal fs (map bound_path_view qs) → AreReal fs (map bound_path_view (ps ++ qs))
+real_parts fs ps qs h k = subst (λ (rs : List meant.BoundPath). AreReal fs rs) (sym (map-append bound_path_view ps qs)) (real_joined fs (map bound_path_view ps) (map bound_path_view qs) h k)
+
+expression_real : (fs : Fields) (ls : List Leaf) (e : meant.BoundExpression) (x : BoundExpression) → IsExpression fs ls e x → AreReal fs (map bound_path_view x.paths.items)
+expression_real fs ls e x h = subst (λ (ps : List meant.BoundPath). AreReal fs ps) (sym h.paths) h.real
+
+condition_real : (fs : Fields) (ls : List Leaf) (b : Checked (Option meant.BoundExpression)) (c : Option (Option BoundCondition)) → IsCheckedCondition fs ls b c → AreReal fs (map bound_path_view (condition_paths c))
+condition_real fs ls (passes b) None h = absurd h
+condition_real fs ls (passes None) (Some None) h = tt
+condition_real fs ls (passes None) (Some (Some c)) h = absurd h
+condition_real fs ls (passes (Some b)) (Some None) h = absurd h
+condition_real fs ls (passes (Some b)) (Some (Some c)) h = subst (λ (ps : List meant.BoundPath). AreReal fs ps) (sym h.paths) h.real
+condition_real fs ls (fails e es) None h = tt
+condition_real fs ls (fails e es) (Some c) h = absurd h
+
+record_term_real : (fs : Fields) (ls : List Leaf) (t : binding.BoundTerm) (u : BoundTerm) → IsTerm fs ls t u → AreReal fs (map bound_path_view (record_paths u))
+record_term_real fs ls =
+    let P : binding.BoundTerm → BoundTerm → Type 0 = λ t u. AreReal fs (map bound_path_view (record_paths u)) in
+    term_cases fs ls P (λ e x h. expression_real fs ls e x h) tt (λ v. tt) (λ f e x h. tt) (λ f e x v h. expression_real fs ls e x h)
+
+record_items_real : (fs : Fields) (ls : List Leaf) (bs : List binding.BoundItem) (xs : List BoundItem) → AreItems fs ls bs xs → AreReal fs (map bound_path_view (record_item_paths xs))
+record_items_real fs ls [] [] h = tt
+record_items_real fs ls [] (x ∷ xs) h = absurd h
+record_items_real fs ls (b ∷ bs) [] h = absurd h
+record_items_real fs ls (b ∷ bs) (x ∷ xs) h = real_parts fs (record_paths x.term) (record_item_paths xs) (record_term_real fs ls b.term x.term h.0.term) (record_items_real fs ls bs xs h.1)
+
+group_term_real : (fs : Fields) (ls : List Leaf) (t : binding.BoundTerm) (u : BoundTerm) → IsTerm fs ls t u → AreReal fs (map bound_path_view (group_paths u))
+group_term_real fs ls =
+    let P : binding.BoundTerm → BoundTerm → Type 0 = λ t u. AreReal fs (map bound_path_view (group_paths u)) in
+    term_cases fs ls P (λ e x h. tt) tt (λ v. tt) (λ f e x h. expression_real fs ls e x h) (λ f e x v h. tt)
+
+group_items_real : (fs : Fields) (ls : List Leaf) (bs : List binding.BoundItem) (xs : List BoundItem) → AreItems fs ls bs xs → AreReal fs (map bound_path_view (group_item_paths xs))
+group_items_real fs ls [] [] h = tt
+group_items_real fs ls [] (x ∷ xs) h = absurd h
+group_items_real fs ls (b ∷ bs) [] h = absurd h
+group_items_real fs ls (b ∷ bs) (x ∷ xs) h = real_parts fs (group_paths x.term) (group_item_paths xs) (group_term_real fs ls b.term x.term h.0.term) (group_items_real fs ls bs xs h.1)
+
+selection_real : (fs : Fields) (ls : List Leaf) (r : Bool) (keys : List BoundPath) (bs : List binding.BoundItem) (xs : List BoundItem) → AreItems fs ls bs xs → AreReal fs (map bound_path_view keys)
+    → AreReal fs (map bound_path_view (selection_paths r keys xs))
+selection_real fs ls true keys bs xs h k = record_items_real fs ls bs xs h
+selection_real fs ls false keys bs xs h k = real_parts fs keys (group_item_paths xs) k (group_items_real fs ls bs xs h)
+
+-- ---- SUM is of numbers
+
+sum_of : (y : Expr) (g : ValueType) → type_of y ≡ g → g ≡ number_type → is_summed Fold.Sum y ≡ true
+sum_of (Expr.Truth a) g h k = absurd (cc)
+sum_of (Expr.Number a) g h k = refl
+sum_of (Expr.Text a) g h k = absurd (cc)
+
+sums_of : (f : Fold) (e : meant.BoundExpression) (w : Option binding.BoundWithin) (y : Expr) → type_of y ≡ e.gives → SumsNumbers (aggregated (fold_view f) e w) → is_summed f y ≡ true
+sums_of Fold.Count e w y h s = refl
+sums_of Fold.Sum e w y h s = sum_of y e.gives h s
+sums_of Fold.Least e w y h s = refl
+sums_of Fold.Greatest e w y h s = refl
+
+term_summed : (fs : Fields) (ls : List Leaf) (t : binding.BoundTerm) (u : BoundTerm) → IsTerm fs ls t u → SumsNumbers t → sums_numbers u ≡ true
+term_summed fs ls =
+    let P : binding.BoundTerm → BoundTerm → Type 0 = λ t u. SumsNumbers t → sums_numbers u ≡ true in
+    term_cases fs ls P
+    (λ e x h s. refl)
+    (λ s. refl)
+    (λ v s. refl)
+    (λ f e x h s. sums_of f e None x.expression h.gives s)
+    (λ f e x v h s. sums_of f e (Some (within_view v)) x.expression h.gives s)
+
+items_summed : (fs : Fields) (ls : List Leaf) (bs : List binding.BoundItem) (xs : List BoundItem) → AreItems fs ls bs xs → AllSumNumbers bs → all_summed xs ≡ true
+items_summed fs ls [] [] h s = refl
+items_summed fs ls [] (x ∷ xs) h s = absurd h
+items_summed fs ls (b ∷ bs) [] h s = absurd h
+items_summed fs ls (b ∷ bs) (x ∷ xs) h s = both (sums_numbers x.term) (all_summed xs) (term_summed fs ls b.term x.term h.0.term s.0) (items_summed fs ls bs xs h.1 s.1)
+
+-- parts can be planned over the leaves of their query
+pub can_be_planned : (fs : Fields) (ls : List Leaf) (b : binding.BoundParts) (p : BoundParts) → AreParts fs ls b p → ls ≡ query_leaves fs (query_of b) → length ls < 2 ^ 32
+    → AreReal fs (passing b.keys) → AllSumNumbers (passing b.items) → CanBePlanned ls p
+can_be_planned fs ls b p h l short keys sums =
+    let q = query_of b in
+    let real : AreReal fs (map bound_path_view (parts_paths p)) =
+    real_parts fs (condition_paths p.condition) (selection_paths p.is_record_query p.keys.items p.items.items) (condition_real fs ls b.condition p.condition h.condition)
+    (selection_real fs ls p.is_record_query p.keys.items (passing b.items) p.items.items h.items (subst (λ (ps : List meant.BoundPath). AreReal fs ps) (sym h.keys) keys)) in
+    let few : length (query_leaves fs q) < 2 ^ 32 = subst (λ (ms : List Leaf). length ms < 2 ^ 32) l short in
+    let covers : Covers (query_leaves fs q) (map bound_path_view (parts_paths p)) = covers_used fs q few [] (map bound_path_view (parts_paths p)) (sym (parts_used fs ls b p h)) real in
+    record {
+      fields = fs;
+      bound = b;
+      parts = h;
+      covered = subst (λ (ms : List Leaf). Covers ms (map bound_path_view (parts_paths p))) (sym l) covers;
+      summed = items_summed fs ls (passing b.items) p.items.items h.items sums;
+    }
