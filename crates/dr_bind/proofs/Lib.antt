@@ -6,3 +6,15 @@ pub mod FaultLemmas
 pub mod ExpressionLemmas
 -- the condition and what items give
 pub mod TermLemmas
+-- views at constructors
+pub mod SyntaxLemmas
+-- paths that lead to leaves
+pub mod PathLemmas
+-- items and keys, one after another
+pub mod ItemLemmas
+-- the parts of a query
+pub mod PartLemmas
+-- the rules above paths and operators
+pub mod RuleLemmas
+-- the plan of parts
+pub mod PlanLemmas

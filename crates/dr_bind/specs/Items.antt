@@ -63,3 +63,8 @@ AreItems fs ls [] [] = Unit {0}
 AreItems fs ls [] (x ∷ xs) = ⊥
 AreItems fs ls (b ∷ bs) [] = ⊥
 AreItems fs ls (b ∷ bs) (x ∷ xs) = IsItem fs ls b x × AreItems fs ls bs xs
+
+-- a part, if it could be bound
+abbrev pub present : {A : Type 0} → Option A → List A
+present None = []
+present (Some a) = a ∷ []

@@ -8,3 +8,9 @@ pub mod Operators
 pub mod Items
 -- the parts of a query
 pub mod Parts
+-- the rules above paths and operators
+pub mod Rules
+-- what parts stand for in a plan
+pub mod Planning
+-- what binding answers
+pub mod Binds

@@ -97,7 +97,7 @@ impl Fault {
 
 /// The first of the faults so far, if there is one.
 #[derive(Clone, Copy, Debug)]
-pub struct FirstFault {
+pub(crate) struct FirstFault {
     pub fault: Option<Fault>,
 }
 

@@ -1,6 +1,6 @@
 //! Binding items and keys.
 
-ghost use Rattle.std.specs.Prelude.{◌≡◌, ◌∷◌, ◌++◌, map, codes, decimal, string_bytes, IfOk};
+ghost use Rattle.std.specs.Prelude.{◌≡◌, ◌∷◌, ◌++◌, map, codes, decimal, string_bytes, IfOk, OnOk};
 ghost use Rattle.std.specs.List.{flat_map, join_with_byte};
 ghost use Rattle.dr_meaning.specs.BoundExpression as meant;
 ghost use Rattle.dr_meaning.specs.Binding as binding;
@@ -9,7 +9,7 @@ ghost use Rattle.dr_bind.specs.Faults.{earlier, first_view};
 ghost use Rattle.dr_bind.specs.Resolved.{lent};
 ghost use Rattle.dr_bind.specs.Bound.{Came, fields_in, leaves_in};
 ghost use Rattle.dr_chains.specs.Views.{bound_path_view};
-ghost use Rattle.dr_bind.specs.Items.{AreItems, IsItem};
+ghost use Rattle.dr_bind.specs.Items.{AreItems, IsItem, present};
 
 use crate::bound::Binder;
 use crate::fault::FirstFault;
@@ -51,7 +51,17 @@ fn own_name(alloc: Global, number: usize, term: &Term<'_>) -> Result<String, NoM
     match term {
         Term::Expression(expression) => match expression {
             Expression::Path(path) => dotted(alloc, &path.names),
-            _ => numbered(alloc, number),
+            Expression::Number(_) | Expression::Text(_) | Expression::Truth(_) => {
+                numbered(alloc, number)
+            }
+            Expression::Negative(_, _) | Expression::IsNull(_, _) | Expression::Not(_, _) => {
+                numbered(alloc, number)
+            }
+            Expression::Like(_, _, _) | Expression::Contains(_, _, _) => numbered(alloc, number),
+            Expression::Arithmetic(_, _, _, _) | Expression::Comparison(_, _, _, _) => {
+                numbered(alloc, number)
+            }
+            Expression::And(_, _, _) | Expression::Or(_, _, _) => numbered(alloc, number),
         },
         Term::CountRows(_) => numbered(alloc, number),
         Term::Aggregate(_, _, _) => numbered(alloc, number),
@@ -65,6 +75,19 @@ fn item_name(alloc: Global, number: usize, item: &Item<'_>) -> Result<String, No
     match item.name {
         Some(name) => Ok(String::from_str(alloc, name)?),
         None => own_name(alloc, number, &item.term),
+    }
+}
+
+/// Appends a part that could be bound.
+fn push_bound<T: Drop>(bound: &mut Vec<T>, part: Option<T>) -> Result<(), NoMemory>
+    ensures { OnOk result ((bound.new).items ≡ (bound.old).items ++ present part) }
+{
+    match part {
+        Some(part) => {
+            bound.push(part)?;
+            Ok(())
+        }
+        None => Ok(()),
     }
 }
 
@@ -103,9 +126,8 @@ impl Binder<'_> {
     {
         let mut bound = Vec::new(self.alloc);
         'items: for (number, item) in items.iter().enumerate() {
-            if let Some(item) = self.item(number, item, first)? {
-                bound.push(item)?;
-            }
+            let item = self.item(number, item, first)?;
+            push_bound(&mut bound, item)?;
         }
         Ok(bound)
     }
@@ -123,9 +145,8 @@ impl Binder<'_> {
     {
         let mut bound = Vec::new(self.alloc);
         'keys: for key in keys {
-            if let Some(key) = self.path(key, first)? {
-                bound.push(key)?;
-            }
+            let key = self.path(key, first)?;
+            push_bound(&mut bound, key)?;
         }
         Ok(bound)
     }

@@ -1,6 +1,7 @@
 //! Binding the parts of a query, each by itself.
 
-ghost use Rattle.std.specs.Prelude.{◌≡◌, IfOk};
+ghost use Rattle.std.specs.Prelude.{◌≡◌, map, IfOk};
+ghost use Rattle.dr_meaning.specs.Syntax.{ItemSyntax};
 ghost use Rattle.std.specs.List.{list_all};
 ghost use Rattle.dr_meaning.specs.Binding as binding;
 ghost use Rattle.dr_sql.specs.Views as syntax;
@@ -14,7 +15,7 @@ use crate::items::BoundItem;
 use crate::terms::BoundCondition;
 use dr_chains::BoundPath;
 use dr_memory::NoMemory;
-use dr_sql::{Query, Term};
+use dr_sql::{Item, Query, Term};
 
 /// The parts of a query: whether it is a record query; the condition, if it could be bound; the items and keys that could be bound, and whether
 /// each key could be.
@@ -38,11 +39,23 @@ fn is_of_record(term: &Term<'_>) -> bool
     }
 }
 
+/// Whether the terms of all items may stand in a record query.
+fn are_of_record(items: &[Item<'_>]) -> bool
+    ensures { result ≡ list_all (λ (i : ItemSyntax). binding.is_of_record i.term) (map syntax.item_view items.now) }
+{
+    'items: for item in items {
+        if !is_of_record(&item.term) {
+            return false;
+        }
+    }
+    true
+}
+
 /// Whether a query is a record query: it has no keys, and each aggregate has WITHIN.
 fn is_record_query(query: &Query<'_>) -> bool
     ensures { result ≡ binding.is_record_syntax (syntax.query_view query.now) }
 {
-    query.keys.is_empty() && query.items.iter().all(|item| is_of_record(&item.term))
+    query.keys.is_empty() && are_of_record(&query.items)
 }
 
 impl Binder<'_> {

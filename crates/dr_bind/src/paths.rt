@@ -38,7 +38,7 @@ fn kept_names(alloc: Global, names: &[&str]) -> Result<Vec<String>, NoMemory>
 }
 
 /// The number of a path's leaf among some.
-fn leaf_number(leaves: &[Path], steps: &[Step]) -> u32
+pub(crate) fn leaf_number(leaves: &[Path], steps: &[Step]) -> u32
     ensures { (i : ℕ) → number_among (map path_view leaves.now) (map step_view steps.now) ≡ Some i → i < 2 ^ 32 → result ≡ i }
 {
     'leaves: for (number, leaf) in leaves.iter().enumerate() {

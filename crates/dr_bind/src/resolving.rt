@@ -11,14 +11,14 @@ use std::alloc::{AllocError, Global};
 
 /// What stands at a path's end: a group's fields, or a leaf of a kind.
 #[derive(Clone, Copy)]
-pub enum End<'a> {
+pub(crate) enum End<'a> {
     Group(&'a Vec<Field>),
     Leaf(Kind),
 }
 
 /// The steps to a field, and what it is.
 #[derive(Drop)]
-pub struct Found<'a> {
+pub(crate) struct Found<'a> {
     pub steps: Vec<Step>,
     pub end: End<'a>,
 }
@@ -46,7 +46,7 @@ fn end_of(field: &Field) -> End<'_>
 }
 
 /// The field of a message to which names lead, if there is one.
-pub fn resolve<'a>(
+pub(crate) fn resolve<'a>(
     alloc: Global,
     fields: &'a Vec<Field>,
     names: &[&str],

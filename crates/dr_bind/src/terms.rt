@@ -85,20 +85,24 @@ fn truth_at(
 {
     match value {
         None => None,
-        Some(value) => match value.expression {
-            Expr::Truth(truth) => Some(BoundCondition {
-                truth,
-                paths: value.paths,
-            }),
-            Expr::Number(_) => {
-                first.note(place, BindProblem::TypeMismatch);
-                None
+        Some(value) => {
+            let BoundExpression {
+                expression,
+                paths,
+                is_path: _,
+            } = value;
+            match expression {
+                Expr::Truth(truth) => Some(BoundCondition { truth, paths }),
+                Expr::Number(_) => {
+                    first.note(place, BindProblem::TypeMismatch);
+                    None
+                }
+                Expr::Text(_) => {
+                    first.note(place, BindProblem::TypeMismatch);
+                    None
+                }
             }
-            Expr::Text(_) => {
-                first.note(place, BindProblem::TypeMismatch);
-                None
-            }
-        },
+        }
     }
 }
 

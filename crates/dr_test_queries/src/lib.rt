@@ -11,3 +11,5 @@ mod objects_tests;
 mod plan_tests;
 #[cfg(test)]
 mod sql_tests;
+#[cfg(test)]
+mod used_tests;

@@ -1,5 +1,5 @@
 use dr_memory::NoMemory;
-use dr_plan::{Comparison, Number, Pattern, TextOf, Truth};
+use dr_plan::{Comparison, Number, Pattern, TextOf, Truth, conjuncts};
 use std::alloc::Global;
 use std::string::String;
 
@@ -27,6 +27,18 @@ fn condition(alloc: Global) -> Result<Truth, NoMemory> {
 fn expressions_are_put_together(rt: HostRuntime) {
     let made = condition(rt.alloc());
     assert!(rt; matches!(made, Ok(Truth::And(_, _))));
+}
+
+#[test]
+fn conditions_are_cut_at_their_top(rt: HostRuntime) {
+    let alloc = rt.alloc();
+    let Ok(made) = condition(alloc) else {
+        return assert!(rt; false);
+    };
+    let Ok(parts) = conjuncts(alloc, made) else {
+        return assert!(rt; false);
+    };
+    assert!(rt; matches!(parts.as_slice(), [Truth::Not(_), Truth::TruthIsNull(_)]));
 }
 
 #[test]
