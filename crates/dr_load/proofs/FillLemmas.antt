@@ -1,5 +1,5 @@
 -- The columns of a tablet, record by record.
-use Rattle.std.specs.Prelude.{◌≡◌, ℕ, zero, suc, ◌+◌, ◌^◌, ◌<◌, ◌≤◌, List, [], ◌∷◌, ◌++◌, map, length, replicate, Bool, true, false, ◌&&◌, nat_lt, Option, Some, None, IfSome, MatchOption, ⊤}
+use Rattle.std.specs.Prelude.{◌≡◌, ℕ, suc, ◌+◌, ◌^◌, ◌<◌, List, [], ◌∷◌, ◌++◌, map, length, replicate, Bool, true, nat_lt, Option, Some, None, IfSome, MatchOption, ⊤}
 use Rattle.std.specs.List.{list_all}
 use Rattle.std.proofs.Common.{arith, refl, sym, ap, ap₂, ◌∙◌, subst, append_assoc, add-zero}
 use Rattle.std.proofs.lemmas.List.{length-append}
@@ -11,7 +11,7 @@ use Rattle.dr_meaning.specs.Column.{Triplet, record_column, column}
 use Rattle.dr_meaning.specs.Lines.{Refusal, Taken, lines_of, taken_from}
 use Rattle.dr_nested.specs.PathView.{path_view}
 use Rattle.dr_nested.specs.declared.path.Path.{Path}
-use Rattle.dr_lines.specs.Cutting.{ahead, IsEnd}
+use Rattle.dr_lines.specs.Cutting.{IsEnd}
 use Rattle.dr_striper.specs.Striping.{gained, paths_of, leaves_of}
 use Rattle.dr_striper.specs.Stripers.{fits_leaf}
 use Rattle.dr_striper.proofs.GrowthLemmas.{columns-push}

@@ -1,10 +1,10 @@
 -- Tablets that are loaded one after another.
-use Rattle.std.specs.Prelude.{◌≡◌, ℕ, zero, suc, ◌+◌, ◌*◌, ◌<◌, ◌≤◌, List, [], ◌∷◌, ◌++◌, map, length, Bool, true, false, nat_le, Option, Some, None, MatchOption, ⊤, ◌⊎◌}
+use Rattle.std.specs.Prelude.{◌≡◌, ℕ, suc, ◌+◌, ◌*◌, ◌<◌, ◌≤◌, List, [], ◌∷◌, ◌++◌, length, Bool, true, false, nat_le, Option, Some, None, MatchOption, ⊤}
 use Rattle.std.proofs.Common.{arith, refl, sym, ap, ap₂, ◌∙◌, subst, append_assoc, append-nil, add-zero, inl, inr}
 use Rattle.std.proofs.lemmas.List.{length-append}
 use Rattle.std.proofs.lemmas.Bool.{leb-true, leb-false}
 use Rattle.std.proofs.Math.Nat.{mul-le-mul_left}
-use Rattle.dr_meaning.specs.Schema.{Fields, Schema}
+use Rattle.dr_meaning.specs.Schema.{Schema}
 use Rattle.dr_meaning.specs.Path.{leaves}
 use Rattle.dr_meaning.specs.Record.{Node}
 use Rattle.dr_meaning.specs.Column.{Triplet}
@@ -25,7 +25,7 @@ use Rattle.dr_load.specs.Faults.{refusal_of}
 use Rattle.dr_load.specs.Records.{WhereTold, behind, HasTaken, RefusesWithin}
 use Rattle.dr_load.specs.Filled.{HasColumnsOf}
 use Rattle.dr_load.specs.Puts.{HasPut, HasPutElsewhere, HasPutSome, BreaksOff}
-use Rattle.dr_load.specs.Loads.{StopsPutting, last_tablets, taken_of, tablets_put, tablet_part, LeavesPuts, AllHave, HasLoaded}
+use Rattle.dr_load.specs.Loads.{StopsPutting, last_tablets, taken_of, tablets_put, tablet_part, LeavesPuts, HasLoaded}
 use Rattle.dr_load.proofs.FillLemmas.{nothing_taken, taken_more}
 use Rattle.dr_load.proofs.PutLemmas.{nothing_put, put_more, put_more_elsewhere, breaks_behind}
 use Rattle.dr_load.proofs.TabletLemmas.{tablets_are, full_are, full_come_first, all_have_more, all_records_more, count_of}

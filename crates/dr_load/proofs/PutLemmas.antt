@@ -1,6 +1,6 @@
 -- What a keeper holds after puts.
-use Rattle.std.specs.Prelude.{◌≡◌, ◌≢◌, ℕ, zero, suc, ◌+◌, ◌-◌, ◌<◌, List, [], ◌∷◌, ◌++◌, map, length, bytes_eq, Bool, true, false, if◌then◌else◌, Option, Some, None, ⊤, String}
-use Rattle.std.proofs.Common.{arith, refl, sym, ap, ap₂, ◌∙◌, subst, true≢false, append-nil, append_assoc, add-zero, string_bytes, get_or, Global}
+use Rattle.std.specs.Prelude.{◌≡◌, ℕ, zero, suc, ◌+◌, ◌-◌, ◌<◌, List, [], ◌∷◌, ◌++◌, map, length, bytes_eq, Bool, true, false, if◌then◌else◌, Option, Some, None, String}
+use Rattle.std.proofs.Common.{arith, refl, sym, ap, ◌∙◌, subst, true≢false, append-nil, append_assoc, add-zero, string_bytes, get_or, Global}
 use Rattle.std.proofs.lemmas.List.{map-append, length-map}
 use Rattle.std.proofs.lemmas.Slice.Eq.{bytes_eq-Decides}
 use Rattle.dr_formats.specs.Loading.{Put}

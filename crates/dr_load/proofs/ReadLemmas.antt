@@ -1,12 +1,12 @@
 -- Reading records line by line.
-use Rattle.std.specs.Prelude.{◌≡◌, ℕ, zero, suc, ◌+◌, ◌^◌, ◌<◌, ◌≤◌, List, [], ◌∷◌, ◌++◌, length, Bool, true, false, nat_lt, Option, Some, None, IfSome, IfNone, MatchOption, Result, Ok, Err, ⊤}
+use Rattle.std.specs.Prelude.{◌≡◌, ℕ, suc, ◌+◌, ◌^◌, ◌<◌, ◌≤◌, List, [], ◌∷◌, length, true, false, nat_lt, Option, Some, None, MatchOption, Result, Ok, Err, ⊤}
 use Rattle.std.proofs.Common.{arith, refl, sym, ap, ◌∙◌, add-one, subst}
 use Rattle.std.proofs.lemmas.Bool.{lt-ltb}
 use Rattle.std.proofs.lemmas.Bool.Decides.{nat_tests}
 use Rattle.dr_meaning.specs.Schema.{Fields}
 use Rattle.dr_meaning.specs.Record.{Node, is_record, text_bytes}
 use Rattle.dr_meaning.specs.JsonRecord.{RecordFault, record_of_line}
-use Rattle.dr_meaning.specs.Lines.{lines_of, longest_line, Refusal, LineFault, line_too_long, too_many_records, no_record, line_record, record_at, Taken, or_stop, taken_from}
+use Rattle.dr_meaning.specs.Lines.{lines_of, longest_line, LineFault, line_too_long, too_many_records, no_record, line_record, record_at, or_stop, taken_from}
 use Rattle.dr_nested.specs.Views.{node_view}
 use Rattle.dr_nested.specs.declared.record.Node.{Node as CodeNode}
 use Rattle.dr_json.specs.Faults.{record_problem_view}

@@ -1,12 +1,11 @@
 -- A record that is held as a node has UTF-8 texts: what is read as one is a record of its schema.
-use Rattle.std.specs.Prelude.{◌≡◌, ℕ, List, [], ◌∷◌, map, Bool, true, false, ◌&&◌, Option, Some, None, ◌⊎◌, string_bytes, Vec}
-use Rattle.std.specs.declared.alloc.Global.{Global}
-use Rattle.std.proofs.Common.{refl, sym, ap, ap₂, ◌∙◌, subst, inl, inr, true≢false}
+use Rattle.std.specs.Prelude.{◌≡◌, List, [], ◌∷◌, map, Bool, true, ◌&&◌, Option, Some, None, ◌⊎◌, string_bytes}
+use Rattle.std.proofs.Common.{refl, sym, subst, inl, inr, true≢false}
 use Rattle.std.proofs.lemmas.Bool.{and_parts, and_from}
 use Rattle.std.proofs.lemmas.Str.{IsUtf8-string_bytes, is_utf8-from_IsUtf8}
 use Rattle.dr_meaning.specs.Schema.{Repetition, Kind, bool_kind, int32_kind, int64_kind, text_kind, Fields, no_fields, field, Shape, leaf, group}
 use Rattle.dr_meaning.specs.Record as tree
-use Rattle.dr_nested.specs.Views.{value_view, instance_view, slot_view, node_view, slots_view, instances_view, slots_of, instances_of, instance_step, slot_step, node_step}
+use Rattle.dr_nested.specs.Views.{value_view, instance_view, slot_view, node_view, slots_view, instances_view, slots_of, instance_step, slot_step, node_step}
 use Rattle.dr_nested.specs.declared.record.Value.{Value}
 use Rattle.dr_nested.specs.declared.record.Instance as instances
 use Rattle.dr_nested.specs.declared.record.Instance.{Instance-F}
@@ -14,7 +13,7 @@ use Rattle.dr_nested.specs.declared.record.Slot as slots
 use Rattle.dr_nested.specs.declared.record.Slot.{Slot-F}
 use Rattle.dr_nested.specs.declared.record.Node as nodes
 use Rattle.dr_nested.proofs.ViewLemmas.{view-node}
-use Rattle.dr_load.proofs.ReadForm.{reads_value, reads_atom, is_read, is_read_shape}
+use Rattle.dr_load.proofs.ReadForm.{reads_value, is_read, is_read_shape}
 
 -- ---- what instances and slots are
 

@@ -12,12 +12,7 @@ use dr_table::{placement_among, tablet_path};
 use std::alloc::Global;
 
 /// Where one copy of a tablet goes.
-fn copy_path(
-    alloc: Global,
-    leaves: &[String],
-    tablet: u32,
-    copy: u32,
-) -> Result<String, NoMemory>
+fn copy_path(alloc: Global, leaves: &[String], tablet: u32, copy: u32) -> Result<String, NoMemory>
     requires has_leaf { 0 < length leaves.now }
     requires few_leaves { length leaves.now ≤ 64 }
     ensures { IfOk result (λ s. string_bytes s ≡ copy_path (map string_bytes leaves.now) tablet copy) }

@@ -6,6 +6,7 @@ use dr_nested::Schema;
 
 /// Where to load: the schema, the directories of the leaves, how many copies of each tablet, how many records to a
 /// tablet, and the path of the table file, if it is to be put.
+#[derive(Clone, Copy, Debug)]
 pub struct Plan<'a> {
     pub schema: &'a Schema,
     pub leaves: &'a [String],

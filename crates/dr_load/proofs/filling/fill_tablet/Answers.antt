@@ -1,4 +1,4 @@
-use Rattle.std.proofs.Common.{◌≡◌, ◌≤◌, ◌+◌, ◌^◌, ◌∷◌, [], true, nat_lt, ℕ, ap, subst, ◌∙◌, arith, rules}
+use Rattle.std.proofs.Common.{◌≡◌, ◌≤◌, ◌+◌, ◌^◌, ◌∷◌, [], true, nat_lt, ℕ, subst, ◌∙◌, arith, rules}
 use Rattle.dr_meaning.specs.Record.{is_record, text_bytes}
 use Rattle.dr_nested.specs.Views.{fields_view, node_view}
 use Rattle.dr_nested.specs.declared.record.Node.{Node}

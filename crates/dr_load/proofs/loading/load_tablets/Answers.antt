@@ -1,11 +1,11 @@
-use Rattle.std.proofs.Common.{◌≡◌, ◌≢◌, ◌≤◌, ◌+◌, ◌*◌, [], ℕ, List, Some, None, Err, MatchOption, subst, ap, sym, refl, ◌∙◌, arith, rules, length}
+use Rattle.std.proofs.Common.{◌+◌, ◌*◌, ℕ, Err, MatchOption, subst, ap, sym, refl, ◌∙◌, arith}
 use Rattle.std.specs.Prelude.{⊤}
 use Rattle.dr_nested.specs.Views.{fields_view}
 use Rattle.dr_levels.specs.Views.{columns_view}
 use Rattle.dr_lines.specs.Cutting.{rest_of, pending}
 use Rattle.dr_load.specs.Faults.{refusal_of}
 use Rattle.dr_load.specs.Plans.{plan_view}
-use Rattle.dr_load.specs.Records.{WhereTold, RefusesWithin}
+use Rattle.dr_load.specs.Records.{RefusesWithin}
 use Rattle.dr_load.specs.Filled.{HasColumnsOf}
 use Rattle.dr_load.specs.Loads.{HasLoaded}
 use Rattle.dr_load.proofs.FillLemmas.{fills_same}
