@@ -28,7 +28,7 @@ use std::alloc::Global;
 /// the keeper failed; want of memory.
 pub fn load<S: Source, K: Keeper>(
     alloc: Global,
-    plan: &Plan<'_>,
+    plan: &Plan<'_, '_, '_>,
     source: &mut S,
     keeper: &mut K,
 ) -> Result<Loaded, LoadFault>
@@ -62,7 +62,7 @@ pub fn load<S: Source, K: Keeper>(
 /// Puts the table file of so many tablets.
 fn put_table<K: Keeper>(
     alloc: Global,
-    plan: &Plan<'_>,
+    plan: &Plan<'_, '_, '_>,
     keeper: &mut K,
     tablets: u32,
     path: &str,
@@ -87,7 +87,7 @@ fn put_table<K: Keeper>(
 /// Loads the tablets of an input, which is read to its end.
 fn load_tablets<S: Source, K: Keeper>(
     alloc: Global,
-    plan: &Plan<'_>,
+    plan: &Plan<'_, '_, '_>,
     source: &mut S,
     keeper: &mut K,
 ) -> Result<Loaded, LoadFault>

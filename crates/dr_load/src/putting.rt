@@ -23,7 +23,7 @@ use std::alloc::Global;
 /// Puts a tablet on the leaf of each copy, in order.
 pub(crate) fn put_tablet<K: Keeper>(
     alloc: Global,
-    plan: &Plan<'_>,
+    plan: &Plan<'_, '_, '_>,
     keeper: &mut K,
     tablet: u32,
     filled: &Filled,
@@ -51,7 +51,7 @@ pub(crate) fn put_tablet<K: Keeper>(
 /// Puts what is left where the input ends behind so many tablets: the last tablet, if it has records or is the only one.
 pub(crate) fn put_last<K: Keeper>(
     alloc: Global,
-    plan: &Plan<'_>,
+    plan: &Plan<'_, '_, '_>,
     keeper: &mut K,
     loaded: Loaded,
     filled: &Filled,
