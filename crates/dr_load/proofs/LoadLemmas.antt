@@ -25,7 +25,7 @@ use Rattle.dr_load.specs.Faults.{refusal_of}
 use Rattle.dr_load.specs.Records.{WhereTold, behind, HasTaken, RefusesWithin}
 use Rattle.dr_load.specs.Filled.{HasColumnsOf}
 use Rattle.dr_load.specs.Puts.{HasPut, HasPutElsewhere, HasPutSome, BreaksOff}
-use Rattle.dr_load.specs.Loads.{StopsPutting, last_tablets, taken_of, tablets_put, tablet_part, LeavesPuts, HasLoaded}
+use Rattle.dr_load.specs.Loads.{StopsPutting, last_tablets, taken_of, tablets_put, tablet_part, HasPutTablets, LeavesPuts, HasLoaded}
 use Rattle.dr_load.proofs.FillLemmas.{nothing_taken, taken_more}
 use Rattle.dr_load.proofs.PutLemmas.{nothing_put, put_more, put_more_elsewhere, breaks_behind}
 use Rattle.dr_load.proofs.TabletLemmas.{tablets_are, full_are, full_come_first, all_have_more, all_records_more, count_of}
@@ -166,17 +166,17 @@ taken_is p m R input rest e h =
     let z : 0 + length R ≡ m = omega (arith, e) in
     h ∙ ap (λ (j : ℕ). behind R (taken_from p.schema.fields (most_loaded p.rows) (suc j) (lines_of rest))) z
 
-front_left : (p : Plan) (k m : ℕ) (input a : Option (List ℕ)) (before held : Option Files) → 0 < p.rows → HasLoaded p k m input a before held → WhereTold input (λ bytes. HasPutSome (tablet_part p bytes) before held)
-front_left p k m None a before held r l = tt
-front_left p k m (Some bytes) None before held r l = absurd l.taken
-front_left p k m (Some bytes) (Some rest) before held r l =
+tablets_left : (p : Plan) (k m : ℕ) (input a : Option (List ℕ)) (before held : Option Files) → 0 < p.rows → HasLoaded p k m input a before held → WhereTold input (λ bytes. HasPutTablets p bytes before held)
+tablets_left p k m None a before held r l = tt
+tablets_left p k m (Some bytes) None before held r l = absurd l.taken
+tablets_left p k m (Some bytes) (Some rest) before held r l =
     let t : Taken = taken_from p.schema.fields (most_loaded p.rows) (suc m) (lines_of rest) in
-    let u = full_come_first p l.full t.records t.refusal l.are_full r in (
-      puts_from p 0 l.full,
-      puts_from p k u.0,
-      ap (part_of p) (taken_is p m (all_records l.full) bytes rest l.records_of l.taken) ∙ ap (puts_from p 0) u.1 ∙ puts_behind p k l.full u.0 l.tablets_of,
-      l.put,
-    )
+    let u = full_come_first p l.full t.records t.refusal l.are_full r in
+    (l.full, u.0, ap (λ (x : Taken). tablets_put p x.records x.refusal) (taken_is p m (all_records l.full) bytes rest l.records_of l.taken) ∙ u.1, l.put)
+
+-- whole tablets are some of the puts
+puts_left : (p : Plan) (input : List ℕ) (before held : Option Files) → HasPutTablets p input before held → HasPutSome (tablet_part p input) before held
+puts_left p input before held h = (puts_from p 0 h.0, puts_from p (length h.0) h.1, ap (puts_from p 0) h.2 ∙ puts_behind p (length h.0) h.0 h.1 refl, h.3)
 
 refused_taken : (p : Plan) (m : ℕ) (R : List Node) (bytes rest : List ℕ) (e : Refusal) → length R ≡ m → HasTaken p.schema.fields (most_loaded p.rows) 0 R (Some bytes) (Some rest) → (h : RefusesWithin p.schema.fields (most_loaded p.rows) m p.rows (Some rest) e)
     → taken_of p bytes ≡ record { records = R ++ h.0; refusal = Some e }
@@ -203,8 +203,8 @@ refused_puts p k m (Some bytes) (Some rest) before held e r l h =
 pub stands_reading : (p : Plan) (k m : ℕ) (input a : Option (List ℕ)) (before held : Option Files) (e : LoadFault) → 0 < p.rows → HasLoaded p k m input a before held
     → MatchOption (refusal_of e) ⊤ (RefusesWithin p.schema.fields (most_loaded p.rows) m p.rows a) → (e ≡ LoadFault.KeepFault → ⊥) → WhereTold input (λ bytes. LeavesPuts p bytes before held e)
 stands_reading p k m None a before held e r l h n = tt
-stands_reading p k m (Some bytes) a before held LoadFault.NoMemory r l h n = inl (front_left p k m (Some bytes) a before held r l)
-stands_reading p k m (Some bytes) a before held LoadFault.ReadFault r l h n = front_left p k m (Some bytes) a before held r l
+stands_reading p k m (Some bytes) a before held LoadFault.NoMemory r l h n = inl (puts_left p bytes before held (tablets_left p k m (Some bytes) a before held r l))
+stands_reading p k m (Some bytes) a before held LoadFault.ReadFault r l h n = tablets_left p k m (Some bytes) a before held r l
 stands_reading p k m (Some bytes) a before held LoadFault.KeepFault r l h n = absurd (n refl)
 stands_reading p k m (Some bytes) a before held (LoadFault.BadLine j w) r l h n = refused_puts p k m (Some bytes) a before held _ r l h
 stands_reading p k m (Some bytes) a before held (LoadFault.LineTooLong j) r l h n = refused_puts p k m (Some bytes) a before held _ r l h

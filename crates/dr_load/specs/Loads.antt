@@ -1,5 +1,5 @@
 -- What a load puts, counts and leaves.
-use Rattle.std.specs.Prelude.{◌≡◌, ℕ, ◌==◌, if◌then◌else◌, List, [], ◌∷◌, length, Option, Some, None, ⊤, ◌⊎◌}
+use Rattle.std.specs.Prelude.{◌≡◌, ℕ, ◌==◌, if◌then◌else◌, List, [], ◌∷◌, ◌++◌, length, Option, Some, None, ⊤, ◌⊎◌}
 use Rattle.dr_meaning.specs.Record.{Node}
 use Rattle.dr_meaning.specs.Lines.{Refusal, Taken, lines_of, taken_from}
 use Rattle.dr_formats.specs.Tablets.{tablets}
@@ -37,11 +37,16 @@ tablets_put p R (Some e) = full_tablets p.rows (tablets p.rows R)
 abbrev pub tablet_part : Plan → List ℕ → List Put
 tablet_part p input = puts_from p 0 (tablets_put p (taken_of p input).records (taken_of p input).refusal)
 
--- what a load that stopped leaves of the keeper: where a line is refused, all that comes before; where the source failed, some tablets from the front on, and
--- the table file wasn't put; where the keeper failed, one of the puts is broken off; where memory was wanting, one of these two
+-- some of the tablets that are to be put, from the front on, were put whole, and nothing else
+abbrev pub HasPutTablets : Plan → List ℕ → Option Files → Option Files → Type 0
+HasPutTablets p input before now = (ts : List (List Node)) × (us : List (List Node)) × (tablets_put p (taken_of p input).records (taken_of p input).refusal ≡ ts ++ us)
+    × HasPut (puts_from p 0 ts) before now
+
+-- what a load that stopped leaves of the keeper: where a line is refused, all that comes before; where the source failed, whole tablets from the front on; where
+-- the keeper failed, one of the puts is broken off; where memory was wanting, some of the tablets' puts, or one is broken off. In none is the put of the table file done
 abbrev pub LeavesPuts : Plan → List ℕ → Option Files → Option Files → LoadFault → Type 0
 LeavesPuts p input before now LoadFault.NoMemory = HasPutSome (tablet_part p input) before now ⊎ BreaksOff (load p input).puts before now
-LeavesPuts p input before now LoadFault.ReadFault = HasPutSome (tablet_part p input) before now
+LeavesPuts p input before now LoadFault.ReadFault = HasPutTablets p input before now
 LeavesPuts p input before now LoadFault.KeepFault = BreaksOff (load p input).puts before now
 LeavesPuts p input before now (LoadFault.BadLine n w) = HasPut (load p input).puts before now
 LeavesPuts p input before now (LoadFault.LineTooLong n) = HasPut (load p input).puts before now
