@@ -1,5 +1,5 @@
 mod HeadLemmas
 mod LineLemmas
 mod LeafLemmas
-mod PathLemmas
+pub mod PathLemmas
 mod TextLemmas

@@ -6,8 +6,12 @@ mod chunk_tests;
 #[cfg(test)]
 mod file_tests;
 #[cfg(test)]
+mod load_tests;
+#[cfg(test)]
 mod meta_tests;
 #[cfg(test)]
 mod open_tests;
 #[cfg(test)]
 mod page_tests;
+#[cfg(test)]
+mod table_tests;

@@ -1,0 +1,24 @@
+use Rattle.std.proofs.Common.{◌≡◌, ◌≤◌, ◌+◌, ◌-◌, ◌*◌, None}
+use Rattle.dr_meaning.specs.Path.{leaves}
+use Rattle.dr_nested.specs.Views.{fields_view}
+use Rattle.dr_lines.specs.Cutting.{rest_of, fault_of}
+use Rattle.dr_striper.specs.Striping.{leaves_of}
+use Rattle.dr_load.specs.Plans.{plan_view}
+use Rattle.dr_load.specs.Loads.{HasLoaded}
+use Rattle.dr_load.proofs.loading.load_tablets.Given as goal
+
+-- the full tablets so far are put
+abbrev pub invariant-tablets : goal.invariant-tablets
+invariant-tablets g l = record {
+  loaded : HasLoaded (plan_view l.plan) l.loaded.tablets l.loaded.records (g.S.Source.shows l.fn.source).left (rest_of l.lines (g.S.Source.shows l.source).left) (g.K.Link.shows l.fn.keeper).held (g.K.Link.shows l.keeper).held;
+  leaves_are : leaves_of l.fields.items ≡ leaves (fields_view l.plan.schema.now.fields.items);
+  most_is : l.most ≡ 4096 * l.plan.rows;
+  going : fault_of l.lines ≡ None;
+  within : l.loaded.records ≤ l.most;
+  source_calm : (g.S.Source.shows l.source).faults ≡ (g.S.Source.shows l.fn.source).faults;
+  keeper_calm : (g.K.Link.shows l.keeper).faults ≡ (g.K.Link.shows l.fn.keeper).faults;
+  asked : (g.K.Link.shows l.keeper).asked ≡ (g.K.Link.shows l.fn.keeper).asked;
+}
+
+abbrev pub decreases-tablets : goal.decreases-tablets
+decreases-tablets g l = l.most + 1 - l.loaded.records

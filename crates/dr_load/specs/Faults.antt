@@ -1,0 +1,20 @@
+-- What the faults of this crate stand for.
+use Rattle.std.specs.Prelude.{Option, Some, None}
+use Rattle.dr_meaning.specs.Lines.{Refusal, line_too_long, too_many_records, no_record}
+use Rattle.dr_json.specs.Faults.{record_problem_view}
+use Rattle.dr_outside.specs.declared.fault.Fault.{Fault}
+use Rattle.dr_load.specs.declared.fault.LoadFault.{LoadFault}
+
+-- the refusal of a line; want of memory and what failed outside stand for none
+abbrev pub refusal_of : LoadFault → Option Refusal
+refusal_of LoadFault.NoMemory = None
+refusal_of (LoadFault.BadLine n w) = Some (record { line = n; fault = no_record (record_problem_view w) })
+refusal_of (LoadFault.LineTooLong n) = Some (record { line = n; fault = line_too_long })
+refusal_of (LoadFault.TooManyRecords n) = Some (record { line = n; fault = too_many_records })
+refusal_of LoadFault.ReadFault = None
+refusal_of LoadFault.KeepFault = None
+
+-- the fault of a keeper's call
+abbrev pub of_outside : Fault → LoadFault
+of_outside Fault.Failed = LoadFault.KeepFault
+of_outside Fault.NoMemory = LoadFault.NoMemory

@@ -1,0 +1,146 @@
+//! Loading a table.
+
+ghost use Rattle.std.specs.Prelude.{◌≡◌, ◌≢◌, ◌∷◌, [], ◌≤◌, Some, None, Err, MatchOption, ⊤, IfOk, IfErr, OnOk, OnErr};
+ghost use Rattle.dr_formats.specs.TableFile.{table_text};
+ghost use Rattle.dr_formats.specs.Loading as meant;
+ghost use Rattle.dr_outside.specs.Faults.{raised};
+ghost use Rattle.dr_load.specs.Faults.{refusal_of};
+ghost use Rattle.dr_load.specs.Plans.{plan_view};
+ghost use Rattle.dr_load.specs.Records.{WhereTold};
+ghost use Rattle.dr_load.specs.Puts.{HasPut, HasPutElsewhere};
+ghost use Rattle.dr_load.specs.Loads.{LeavesPuts, tablet_part};
+
+use crate::fault::LoadFault;
+use crate::filling::fill_tablet;
+use crate::loaded::Loaded;
+use crate::plan::Plan;
+use crate::putting::{put_last, put_tablet};
+use dr_leaves::leaf_paths;
+use dr_lines::Lines;
+use dr_outside::{Keeper, Source};
+use dr_table::{MOST_TABLETS, table_text_of};
+use std::alloc::Global;
+
+/// Loads the records of an input, which is read to its end: each tablet is put on the leaf of each of its copies in order,
+/// a full one before the next line is read, and the table file last.
+///
+/// Errors: the first line that is refused, and then the full tablets before it are put, and no table file; the source or
+/// the keeper failed; want of memory.
+pub fn load<S: Source, K: Keeper>(
+    alloc: Global,
+    plan: &Plan<'_, '_, '_>,
+    source: &mut S,
+    keeper: &mut K,
+) -> Result<Loaded, LoadFault>
+    ensures accepted { OnOk result (WhereTold (S.shows source.old).left (λ input. (meant.load (plan_view plan.now) input).refusal ≡ None)) }
+    ensures tablets { IfOk result (λ l. WhereTold (S.shows source.old).left (λ input. l.tablets ≡ (meant.load (plan_view plan.now) input).tablets)) }
+    ensures records { IfOk result (λ l. WhereTold (S.shows source.old).left (λ input. l.records ≡ (meant.load (plan_view plan.now) input).records)) }
+    ensures puts { OnOk result (WhereTold (S.shows source.old).left (λ input. HasPut (meant.load (plan_view plan.now) input).puts (K.shows keeper.old).held (K.shows keeper.new).held)) }
+    ensures end { OnOk result (WhereTold (S.shows source.old).left (λ _. (S.shows source.new).left ≡ Some [])) }
+
+    ensures refused { IfErr result (λ e. MatchOption (refusal_of e) ⊤ (λ r. WhereTold (S.shows source.old).left (λ input. (meant.load (plan_view plan.now) input).refusal ≡ Some r))) }
+    ensures stands { IfErr result (λ e. WhereTold (S.shows source.old).left (λ input. LeavesPuts (plan_view plan.now) input (K.shows keeper.old).held (K.shows keeper.new).held e)) }
+
+    ensures source_cause { result ≡ Err LoadFault.ReadFault → (S.shows source.new).faults ≡ raised (S.shows source.old).faults }
+    ensures source_calm { result ≢ Err LoadFault.ReadFault → (S.shows source.new).faults ≡ (S.shows source.old).faults }
+    ensures keeper_cause { result ≡ Err LoadFault.KeepFault → (K.shows keeper.new).faults ≡ raised (K.shows keeper.old).faults }
+    ensures keeper_calm { result ≢ Err LoadFault.KeepFault → (K.shows keeper.new).faults ≡ (K.shows keeper.old).faults }
+    ensures asked { (K.shows keeper.new).asked ≡ (K.shows keeper.old).asked }
+{
+    match load_tablets(alloc, plan, source, keeper) {
+        Err(fault) => Err(fault),
+        Ok(loaded) => match plan.table {
+            None => Ok(loaded),
+            Some(path) => match put_table(alloc, plan, keeper, loaded.tablets, path) {
+                Ok(()) => Ok(loaded),
+                Err(fault) => Err(fault),
+            },
+        },
+    }
+}
+
+/// Puts the table file of so many tablets.
+fn put_table<K: Keeper>(
+    alloc: Global,
+    plan: &Plan<'_, '_, '_>,
+    keeper: &mut K,
+    tablets: u32,
+    path: &str,
+) -> Result<(), LoadFault>
+    ensures put { OnOk result (HasPut (record { path = path.now; bytes = table_text (meant.table_of (plan_view plan.now) tablets) } ∷ []) (K.shows keeper.old).held (K.shows keeper.new).held) }
+    ensures broken { OnErr result (HasPutElsewhere [] path.now (K.shows keeper.old).held (K.shows keeper.new).held) }
+    ensures cause { result ≡ Err LoadFault.KeepFault → (K.shows keeper.new).faults ≡ raised (K.shows keeper.old).faults }
+    ensures calm { result ≢ Err LoadFault.KeepFault → (K.shows keeper.new).faults ≡ (K.shows keeper.old).faults }
+    ensures read { result ≢ Err LoadFault.ReadFault }
+    ensures line { IfErr result (λ e. refusal_of e ≡ None) }
+    ensures asked { (K.shows keeper.new).asked ≡ (K.shows keeper.old).asked }
+{
+    match table_text_of(alloc, plan.schema, plan.leaves, plan.copies, tablets) {
+        Err(_) => Err(LoadFault::NoMemory),
+        Ok(text) => match keeper.put(path, text.as_bytes()) {
+            Ok(()) => Ok(()),
+            Err(fault) => Err(fault.into()),
+        },
+    }
+}
+
+/// Loads the tablets of an input, which is read to its end.
+fn load_tablets<S: Source, K: Keeper>(
+    alloc: Global,
+    plan: &Plan<'_, '_, '_>,
+    source: &mut S,
+    keeper: &mut K,
+) -> Result<Loaded, LoadFault>
+    ensures accepted { OnOk result (WhereTold (S.shows source.old).left (λ input. (meant.load (plan_view plan.now) input).refusal ≡ None)) }
+    ensures tablets { IfOk result (λ l. WhereTold (S.shows source.old).left (λ input. l.tablets ≡ (meant.load (plan_view plan.now) input).tablets)) }
+    ensures records { IfOk result (λ l. WhereTold (S.shows source.old).left (λ input. l.records ≡ (meant.load (plan_view plan.now) input).records)) }
+    ensures puts { OnOk result (WhereTold (S.shows source.old).left (λ input. HasPut (tablet_part (plan_view plan.now) input) (K.shows keeper.old).held (K.shows keeper.new).held)) }
+    ensures end { OnOk result (WhereTold (S.shows source.old).left (λ _. (S.shows source.new).left ≡ Some [])) }
+    ensures refused { IfErr result (λ e. MatchOption (refusal_of e) ⊤ (λ r. WhereTold (S.shows source.old).left (λ input. (meant.load (plan_view plan.now) input).refusal ≡ Some r))) }
+    ensures stands { IfErr result (λ e. WhereTold (S.shows source.old).left (λ input. LeavesPuts (plan_view plan.now) input (K.shows keeper.old).held (K.shows keeper.new).held e)) }
+    ensures source_cause { result ≡ Err LoadFault.ReadFault → (S.shows source.new).faults ≡ raised (S.shows source.old).faults }
+    ensures source_calm { result ≢ Err LoadFault.ReadFault → (S.shows source.new).faults ≡ (S.shows source.old).faults }
+    ensures keeper_cause { result ≡ Err LoadFault.KeepFault → (K.shows keeper.new).faults ≡ raised (K.shows keeper.old).faults }
+    ensures keeper_calm { result ≢ Err LoadFault.KeepFault → (K.shows keeper.new).faults ≡ (K.shows keeper.old).faults }
+    ensures asked { (K.shows keeper.new).asked ≡ (K.shows keeper.old).asked }
+{
+    let most = u64::from(MOST_TABLETS) * u64::from(plan.rows);
+    let fields = match leaf_paths(alloc, plan.schema) {
+        Ok(fields) => fields,
+        Err(_) => return Err(LoadFault::NoMemory),
+    };
+    let mut lines = match Lines::new(alloc) {
+        Ok(lines) => lines,
+        Err(_) => return Err(LoadFault::NoMemory),
+    };
+    let mut loaded = Loaded {
+        tablets: 0,
+        records: 0,
+    };
+    'tablets: loop {
+        match fill_tablet(
+            alloc,
+            plan.schema,
+            &fields,
+            &mut lines,
+            loaded.records,
+            most,
+            plan.rows,
+            source,
+        ) {
+            Err(fault) => return Err(fault),
+            Ok(filled) if filled.ended => match put_last(alloc, plan, keeper, loaded, &filled) {
+                Ok(loaded) => return Ok(loaded),
+                Err(fault) => return Err(fault),
+            },
+            Ok(filled) => match put_tablet(alloc, plan, keeper, loaded.tablets, &filled) {
+                Ok(()) => {}
+                Err(fault) => return Err(fault),
+            },
+        }
+        loaded = Loaded {
+            tablets: loaded.tablets + 1,
+            records: loaded.records + u64::from(plan.rows),
+        };
+    }
+}

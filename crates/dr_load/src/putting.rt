@@ -1,0 +1,82 @@
+//! Putting tablets.
+
+ghost use Rattle.std.specs.Prelude.{◌≡◌, ◌≢◌, ◌+◌, ◌≤◌, List, length, IfOk, IfErr, OnOk, Err, None};
+ghost use Rattle.dr_meaning.specs.Record.{Node};
+ghost use Rattle.dr_formats.specs.Loading.{tablet_puts, puts_from};
+ghost use Rattle.dr_levels.specs.Views.{columns_view};
+ghost use Rattle.dr_write.specs.Files.{AreColumnsFor, HaveColumns};
+ghost use Rattle.dr_outside.specs.Faults.{raised};
+ghost use Rattle.dr_load.specs.Faults.{refusal_of};
+ghost use Rattle.dr_load.specs.Plans.{plan_view};
+ghost use Rattle.dr_load.specs.Puts.{HasPut};
+ghost use Rattle.dr_load.specs.Loads.{StopsPutting, last_tablets};
+
+use crate::copies::put_copies;
+use crate::fault::LoadFault;
+use crate::filled::Filled;
+use crate::loaded::Loaded;
+use crate::plan::Plan;
+use dr_outside::Keeper;
+use dr_write::write_file;
+use std::alloc::Global;
+
+/// Puts a tablet on the leaf of each copy, in order.
+pub(crate) fn put_tablet<K: Keeper>(
+    alloc: Global,
+    plan: &Plan<'_, '_, '_>,
+    keeper: &mut K,
+    tablet: u32,
+    filled: &Filled,
+) -> Result<(), LoadFault>
+    requires { AreColumnsFor (plan_view plan.now).schema (filled.now).columns.items }
+    ensures put { (R : List Node) → HaveColumns (plan_view plan.now).schema R (columns_view (filled.now).columns.items) → length R ≡ (filled.now).records → OnOk result (HasPut (tablet_puts (plan_view plan.now) tablet R) (K.shows keeper.old).held (K.shows keeper.new).held) }
+    ensures stops { (R : List Node) → HaveColumns (plan_view plan.now).schema R (columns_view (filled.now).columns.items) → length R ≡ (filled.now).records → IfErr result (StopsPutting (tablet_puts (plan_view plan.now) tablet R) (K.shows keeper.old).held (K.shows keeper.new).held) }
+    ensures cause { result ≡ Err LoadFault.KeepFault → (K.shows keeper.new).faults ≡ raised (K.shows keeper.old).faults }
+    ensures calm { result ≢ Err LoadFault.KeepFault → (K.shows keeper.new).faults ≡ (K.shows keeper.old).faults }
+    ensures read { result ≢ Err LoadFault.ReadFault }
+    ensures line { IfErr result (λ e. refusal_of e ≡ None) }
+    ensures asked { (K.shows keeper.new).asked ≡ (K.shows keeper.old).asked }
+{
+    match write_file(
+        alloc,
+        plan.schema,
+        &filled.columns,
+        u64::from(filled.records),
+    ) {
+        Err(_) => Err(LoadFault::NoMemory),
+        Ok(file) => put_copies(alloc, keeper, plan.leaves, plan.copies, tablet, &file),
+    }
+}
+
+/// Puts what is left where the input ends behind so many tablets: the last tablet, if it has records or is the only one.
+pub(crate) fn put_last<K: Keeper>(
+    alloc: Global,
+    plan: &Plan<'_, '_, '_>,
+    keeper: &mut K,
+    loaded: Loaded,
+    filled: &Filled,
+) -> Result<Loaded, LoadFault>
+    requires columns { AreColumnsFor (plan_view plan.now).schema (filled.now).columns.items }
+    requires few_tablets { loaded.tablets ≤ 4096 }
+    requires few_records { loaded.records ≤ 4096000000 }
+    ensures put { (R : List Node) → HaveColumns (plan_view plan.now).schema R (columns_view (filled.now).columns.items) → length R ≡ (filled.now).records → OnOk result (HasPut (puts_from (plan_view plan.now) loaded.tablets (last_tablets loaded.tablets R)) (K.shows keeper.old).held (K.shows keeper.new).held) }
+    ensures stops { (R : List Node) → HaveColumns (plan_view plan.now).schema R (columns_view (filled.now).columns.items) → length R ≡ (filled.now).records → IfErr result (StopsPutting (puts_from (plan_view plan.now) loaded.tablets (last_tablets loaded.tablets R)) (K.shows keeper.old).held (K.shows keeper.new).held) }
+    ensures tablets { (R : List Node) → length R ≡ (filled.now).records → IfOk result (λ l. l.tablets ≡ loaded.tablets + length (last_tablets loaded.tablets R)) }
+    ensures records { IfOk result (λ l. l.records ≡ loaded.records + (filled.now).records) }
+    ensures cause { result ≡ Err LoadFault.KeepFault → (K.shows keeper.new).faults ≡ raised (K.shows keeper.old).faults }
+    ensures calm { result ≢ Err LoadFault.KeepFault → (K.shows keeper.new).faults ≡ (K.shows keeper.old).faults }
+    ensures read { result ≢ Err LoadFault.ReadFault }
+    ensures line { IfErr result (λ e. refusal_of e ≡ None) }
+    ensures asked { (K.shows keeper.new).asked ≡ (K.shows keeper.old).asked }
+{
+    if filled.records == 0 && loaded.tablets > 0 {
+        return Ok(loaded);
+    }
+    match put_tablet(alloc, plan, keeper, loaded.tablets, filled) {
+        Ok(()) => Ok(Loaded {
+            tablets: loaded.tablets + 1,
+            records: loaded.records + u64::from(filled.records),
+        }),
+        Err(fault) => Err(fault),
+    }
+}
