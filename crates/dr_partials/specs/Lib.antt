@@ -5,6 +5,7 @@ pub mod Accumulators
 pub mod Partials
 pub mod PartialTypes
 pub mod PartialBounds
+pub mod Putting
 -- serving trees, and the queries of their servers
 pub mod Trees
 pub mod Rewriting
