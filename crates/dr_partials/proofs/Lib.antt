@@ -20,3 +20,5 @@ pub mod BoundLemmas
 pub mod TreeLemmas
 pub mod RewritingLemmas
 pub mod RootLemmas
+-- lemmas of putting
+pub mod PutLemmas

@@ -5,12 +5,12 @@ pub mod Accumulators
 pub mod Partials
 pub mod PartialTypes
 pub mod PartialBounds
-pub mod Putting
 -- serving trees, and the queries of their servers
 pub mod Trees
 pub mod Rewriting
 -- laws, each proved on a law function of src/
 pub mod AccumulatorLaws
 pub mod PartialLaws
+pub mod Putting
 pub mod TreeLaws
 pub mod RewritingLaws
