@@ -1,7 +1,7 @@
 -- What is put of records into groups is what is merged with the partial of the records; puts commute.
-use Rattle.std.proofs.Common.{◌≡◌, ℕ, zero, suc, ◌+◌, List, [], ◌∷◌, ◌++◌, map, length, Bool, true, false, ◌&&◌, ◌||◌, Option, Some, None, cond, refl, sym, ap, ap₂, ◌∙◌, subst, true≢false, append_assoc, append-nil, length-append, arith}
+use Rattle.std.proofs.Common.{◌≡◌, ℕ, zero, suc, ◌+◌, List, [], ◌∷◌, ◌++◌, map, length, Bool, true, false, ◌||◌, Option, Some, None, cond, refl, sym, ap, ap₂, ◌∙◌, subst, true≢false, append_assoc, length-append, arith}
 use Rattle.std.specs.Prelude.{if◌then◌else◌, filter}
-use Rattle.std.specs.List.{list_all, list_any, filter_map, flat_map, cons_option}
+use Rattle.std.specs.List.{list_all, filter_map, flat_map, cons_option}
 use Rattle.std.proofs.lemmas.Bool.{and_parts}
 use Rattle.std.proofs.lemmas.List.{length-map}
 use Rattle.std.specs.Ordering.{is_eq, match_ordering}
@@ -13,19 +13,19 @@ use Rattle.dr_meaning.specs.Record.{Value, Node, is_record}
 use Rattle.dr_meaning.specs.Rows.{rows}
 use Rattle.dr_meaning.specs.Expression.{Expression, evaluate, expression_level, longest_level}
 use Rattle.dr_meaning.specs.Kept.{kept}
-use Rattle.dr_meaning.specs.Query.{Aggregate, count, GroupTerm, key, count_rows, aggregate, GroupItem, Selection, objects, groups, Query, levels_of, key_tuple, tuple_order, distinct_tuples, group_rows}
-use Rattle.dr_partials.specs.Accumulators.{Accumulator, counted, summed, least_of, greatest_of, aggregate_of, empty_accumulator, accumulator_of_cell, join_options, join, take_value, take_row, accumulated}
-use Rattle.dr_partials.specs.Partials.{Group, Partial, grouped, term_accumulator, selected_partial, partial_of, join_all, merge_groups, merge, empty_term}
+use Rattle.dr_meaning.specs.Query.{Aggregate, count, GroupTerm, key, count_rows, aggregate, GroupItem, Selection, objects, groups, Query, key_tuple, tuple_order, distinct_tuples, group_rows}
+use Rattle.dr_partials.specs.Accumulators.{Accumulator, counted, summed, least_of, greatest_of, aggregate_of, accumulator_of_cell, join_options, join, take_value, take_row, accumulated}
+use Rattle.dr_partials.specs.Partials.{Group, grouped, partial_of, join_all, merge_groups, merge, empty_term}
 use Rattle.dr_partials.specs.PartialTypes.{with_aggregate, aggregates_among, is_of_selection, is_partial}
-use Rattle.dr_partials.specs.PartialLaws.{is_mergeable_selection, is_mergeable}
+use Rattle.dr_partials.specs.PartialLaws.{is_mergeable_selection}
 use Rattle.dr_partials.specs.Putting.{Taken, Put, take_one, take_at, taken_into, empty_accumulators, put_into, put_group, put_selected, put, put_all, puts_of_rows, puts_of_terms, puts_of_selection, puts_of, PutsAreMerged, PutsCommute}
 use Rattle.dr_partials.proofs.ValueOrders.{tuple_order_exact}
 use Rattle.dr_partials.proofs.AccumulatorLemmas.{join_is_associative, join_is_commutative, cell_aggregate, accumulated_aggregate, empty_right}
-use Rattle.dr_partials.proofs.GroupLemmas.{Tuple, same_tuple, same_itself, same_is, same_back, AllAbove, Ascending, above_greater, less_back, find, find_above, find_later, found_alike, merged_ascends, find_merged, OfKinds, AllOfKinds, FoundOfKinds, found_kinds, first_of, rest_of, among, groups_at, find_at, among_distinct, distinct_ascends}
-use Rattle.dr_partials.proofs.RowLemmas.{Each, SingleAll, tuples_of, records_single, single_kept}
-use Rattle.dr_partials.proofs.PartialLemmas.{accumulators_at, NoRows, no_rows, elsewhere, empties_left, mergeable_related, key_paths, AreRelated}
-use Rattle.dr_partials.proofs.PartialTypeLemmas.{term_aggregate, kinds_of, AreGroups, are_groups, kinds_are, empties, empties_neutral, no_keys}
-use Rattle.dr_partials.proofs.RewritingLemmas.{IsAggregate, AreAggregates, among_are, terms_at, items_terms}
+use Rattle.dr_partials.proofs.GroupLemmas.{Tuple, same_tuple, same_is, same_back, AllAbove, Ascending, above_greater, less_back, find, find_above, find_later, found_alike, merged_ascends, find_merged, OfKinds, AllOfKinds, FoundOfKinds, found_kinds, first_of, rest_of, among, groups_at, find_at, among_distinct, distinct_ascends}
+use Rattle.dr_partials.proofs.RowLemmas.{Each, tuples_of, records_single, single_kept}
+use Rattle.dr_partials.proofs.PartialLemmas.{accumulators_at, NoRows, no_rows, elsewhere, empties_left, mergeable_related}
+use Rattle.dr_partials.proofs.PartialTypeLemmas.{term_aggregate, kinds_of, are_groups, kinds_are, empties_neutral, no_keys}
+use Rattle.dr_partials.proofs.RewritingLemmas.{AreAggregates, among_are, terms_at, items_terms}
 
 -- ---- what is found after a put
 
