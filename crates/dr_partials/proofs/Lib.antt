@@ -3,6 +3,7 @@ pub mod WorkedAccumulators
 pub mod WorkedPartials
 pub mod WorkedTrees
 pub mod WorkedRewriting
+pub mod WorkedRewritingText
 -- lemmas of accumulators
 pub mod ValueOrders
 pub mod AccumulatorLemmas

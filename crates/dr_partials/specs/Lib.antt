@@ -8,6 +8,7 @@ pub mod PartialBounds
 -- serving trees, and the queries of their servers
 pub mod Trees
 pub mod Rewriting
+pub mod RewritingText
 -- laws, each proved on a law function of src/
 pub mod AccumulatorLaws
 pub mod PartialLaws
