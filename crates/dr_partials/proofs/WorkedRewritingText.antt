@@ -1,12 +1,12 @@
 -- The lines that tell a query's rewriting, by computation; and that the leaf line is a query's text, of the leaf query.
-use Rattle.std.specs.Prelude.{◌≡◌, ℕ, List, [], ◌∷◌, ◌++◌, map, true, false, pos, neg_ℤ, Option, Some, None, codes, refl, Ok, Err, Result}
+use Rattle.std.specs.Prelude.{◌≡◌, ℕ, List, [], ◌∷◌, ◌++◌, true, false, pos, Option, Some, None, codes, refl, Ok, Err, Result}
 use Rattle.std.specs.Fmt.{digits}
 use Rattle.std.specs.Str.{is_utf8, chars}
 use Rattle.dr_meaning.specs.Schema.{Fields, no_fields, field, leaf, group, Schema, required, repeated, optional, int64_kind, text_kind}
 use Rattle.dr_meaning.specs.Path.{Step}
-use Rattle.dr_meaning.specs.Record.{Value, bool_value, int_value, text_value}
+use Rattle.dr_meaning.specs.Record.{bool_value, int_value, text_value}
 use Rattle.dr_meaning.specs.Expression.{Expression, constant, path_value, negative, arithmetic, plus, minus, times, comparison, equal, unequal, less, at_most, greater, at_least, like, contains, is_null, negation, conjunction, disjunction}
-use Rattle.dr_meaning.specs.Query.{count, sum, least as least_value, greatest as greatest_value, RecordItem, expression, within, GroupItem, GroupTerm, key, count_rows, aggregate, Query, objects, groups}
+use Rattle.dr_meaning.specs.Query.{count, sum, least as least_value, greatest as greatest_value, expression, within, GroupItem, GroupTerm, key, count_rows, aggregate, Query, objects, groups}
 use Rattle.dr_meaning.specs.Syntax.{QuerySyntax}
 use Rattle.dr_meaning.specs.Parse.{parse_query, QueryFault, items, whole_expression, argument, keys}
 use Rattle.dr_meaning.specs.BoundExpression.{BindFault}
@@ -14,7 +14,7 @@ use Rattle.dr_meaning.specs.Binding.{bind}
 use Rattle.dr_meaning.proofs.WorkedSchemas.{document}
 use Rattle.dr_meaning.proofs.WorkedPaths.{doc_id, forward, name, code, country, url}
 use Rattle.dr_partials.specs.Rewriting.{leaf_query}
-use Rattle.dr_partials.specs.RewritingText.{name_text, path_text, text_literal, expression_text, leaf_text, inner_text, root_text, rewriting_text}
+use Rattle.dr_partials.specs.RewritingText.{name_text, path_text, text_literal, expression_text, leaf_text, rewriting_text}
 
 abbrev item : List ℕ → GroupTerm → GroupItem
 item n t = record { name = n; term = t }
@@ -38,7 +38,7 @@ abbrev by_two : Query
 by_two = record {
   condition = Some (comparison at_most (path_value doc_id) (constant (int_value (pos 20))));
   selection = groups (url ∷ doc_id ∷ []) (item (codes "m") (aggregate greatest_value (path_value doc_id)) ∷ item (codes "u") (key 0) ∷ item (codes "r") count_rows
-    ∷ item (codes "l") (aggregate least_value (path_value doc_id)) ∷ item (codes "d") (key 1) ∷ item (codes "s") (aggregate sum (path_value doc_id)) ∷ []);
+      ∷ item (codes "l") (aggregate least_value (path_value doc_id)) ∷ item (codes "d") (key 1) ∷ item (codes "s") (aggregate sum (path_value doc_id)) ∷ []);
 }
 
 pub lines_of_two_keys : rewriting_text document by_two ≡
@@ -59,7 +59,7 @@ abbrev of_each : Query
 of_each = record {
   condition = Some (like (path_value url) (codes "http%"));
   selection = objects (record { name = codes "DocId"; term = expression (path_value doc_id) } ∷ record { name = codes "c"; term = within count (path_value code) name }
-    ∷ record { name = codes "s"; term = within sum (path_value forward) [] } ∷ []);
+      ∷ record { name = codes "s"; term = within sum (path_value forward) [] } ∷ []);
 }
 
 pub lines_of_records : rewriting_text document of_each ≡

@@ -11,7 +11,7 @@ use Rattle.dr_meaning.specs.Query.{Aggregate, count, sum, least as least_value, 
 use Rattle.dr_meaning.specs.Query.{key, count_rows, aggregate, RecordItem, GroupItem, Selection, objects, groups, Query}
 use Rattle.dr_meaning.specs.Tokens.{QueryToken, reserved, name_token}
 use Rattle.dr_partials.specs.PartialTypes.{aggregates_among}
-use Rattle.dr_partials.specs.Rewriting.{key_items, aggregate_items, key_columns, merging_terms, root_items}
+use Rattle.dr_partials.specs.Rewriting.{key_items, aggregate_items, merging_terms, root_items}
 
 -- ---- names and paths
 
