@@ -1,15 +1,19 @@
 -- What is merged of partials of m and of n values can be of m + n.
-use Rattle.std.proofs.Common.{◌≡◌, ◌≤◌, ℕ, suc, ◌+◌, List, [], ◌∷◌, Bool, true, false, Option, Some, None, refl, sym, ap, subst, true≢false, arith}
+use Rattle.std.proofs.Common.{◌≡◌, ◌<◌, ◌≤◌, ℕ, suc, ◌+◌, ◌-◌, ◌*◌, ◌^◌, List, [], ◌∷◌, length, Bool, true, false, Option, Some, None, refl, sym, ap, subst, true≢false, arith}
 use Rattle.std.specs.Prelude.{ℤ, pos, negsuc, ◌+ℤ◌, ⊤, if◌then◌else◌}
 use Rattle.std.specs.Int.RustNames.{unsigned_abs}
 use lib.IntN.{sub_ℕ}
 use Rattle.std.proofs.lemmas.Bool.Decides.{nat_tests}
 use Rattle.dr_meaning.specs.Schema.{Fields}
-use Rattle.dr_meaning.specs.Query.{Selection, objects, groups}
-use Rattle.dr_partials.specs.Accumulators.{Accumulator, counted, summed, least_of, greatest_of, join_options, join}
+use Rattle.dr_meaning.specs.Record.{Value, bool_value, int_value, text_value, in_int64}
+use Rattle.dr_meaning.specs.Query.{Aggregate, count, sum, least, greatest, Selection, objects, groups}
+use Rattle.std.specs.List.{list_all}
+use Rattle.std.proofs.lemmas.Bool.{and_parts, leb-true, ltb-true}
+use Rattle.std.proofs.Math.IntN.{+ℤ_idr}
+use Rattle.dr_partials.specs.Accumulators.{Accumulator, counted, summed, least_of, greatest_of, empty_accumulator, accumulator_of_cell, join_options, join, accumulated}
 use Rattle.dr_partials.specs.Partials.{Group, Partial, lines, grouped, join_all, merge_groups, merge}
 use Rattle.dr_partials.specs.PartialTypes.{is_of_selection, is_partial}
-use Rattle.dr_partials.specs.PartialBounds.{CanBeOf, AllCanBeOf, GroupsCanBeOf, PartialCanBeOf, BoundsAddUp}
+use Rattle.dr_partials.specs.PartialBounds.{CanBeOf, AllCanBeOf, GroupsCanBeOf, PartialCanBeOf, is_of_64_bits, GatheredCanBeOf, BoundsAddUp}
 use Rattle.dr_partials.proofs.GroupLemmas.{Tuple, same_tuple, same_itself, same_is, AllAbove, Ascending, find, find_above, merged_ascends, find_merged}
 use Rattle.dr_partials.proofs.PartialTypeLemmas.{are_groups}
 
@@ -96,3 +100,34 @@ bounds_of fs (groups keys items) m n (grouped gs) (grouped hs) h k a b =
 pub bounds_add_up : BoundsAddUp
 unfolding is_partial
 bounds_add_up fs q m n p r h k a b = bounds_of fs q.selection m n p r h k a b
+
+-- ---- of values
+
+size_of_number : (z : ℤ) → in_int64 z ≡ true → unsigned_abs z ≤ 2 ^ 63
+size_of_number (pos n) h = let l : n < 2 ^ 63 = ltb-true _ _ h in omega arith
+size_of_number (negsuc n) h = let l : n ≤ 2 ^ 63 - 1 = leb-true _ _ (and_parts _ _ h).0 in omega arith
+
+cell_can_be_of : (a : Aggregate) (v : Option Value) → is_of_64_bits v ≡ true → CanBeOf 1 (accumulator_of_cell a v)
+cell_can_be_of count None h = omega arith
+cell_can_be_of count (Some v) h = omega arith
+cell_can_be_of sum None h = tt
+cell_can_be_of sum (Some (bool_value b)) h = omega arith
+cell_can_be_of sum (Some (int_value z)) h = let k = size_of_number z h in let e : z +ℤ pos 0 ≡ z = +ℤ_idr z in subst (λ y. unsigned_abs y ≤ 1 * 2 ^ 63) (sym e) (omega (arith, k))
+cell_can_be_of sum (Some (text_value t)) h = omega arith
+cell_can_be_of least None h = tt
+cell_can_be_of least (Some v) h = tt
+cell_can_be_of greatest None h = tt
+cell_can_be_of greatest (Some v) h = tt
+
+none_can_be_of : (a : Aggregate) → CanBeOf 0 (empty_accumulator a)
+none_can_be_of count = omega arith
+none_can_be_of sum = tt
+none_can_be_of least = tt
+none_can_be_of greatest = tt
+
+pub gathered_can_be_of : GatheredCanBeOf
+gathered_can_be_of a [] h = none_can_be_of a
+gathered_can_be_of a (v ∷ vs) h =
+    let k = and_parts (is_of_64_bits v) (list_all is_of_64_bits vs) h in
+    let e : 1 + length vs ≡ suc (length vs) = omega arith in
+    subst (λ n. CanBeOf n (accumulated a (v ∷ vs))) e (joined 1 (length vs) (accumulator_of_cell a v) (accumulated a vs) (cell_can_be_of a v k.0) (gathered_can_be_of a vs k.1))

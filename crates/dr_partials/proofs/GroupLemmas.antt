@@ -42,7 +42,7 @@ is_less Greater h = absurd (true≢false (sym h))
 pub same_is : (t u : Tuple) → same_tuple t u ≡ true → t ≡ u
 same_is t u h = tuple_order_exact t u (is_equal (tuple_order t u) h)
 
-less_back : (t u : Tuple) → tuple_order t u ≡ Greater → tuple_order u t ≡ Less
+pub less_back : (t u : Tuple) → tuple_order t u ≡ Greater → tuple_order u t ≡ Less
 less_back t u h = tuple_order_total.antisymm u t ∙ ap ordering_reverse h
 
 greater_back : (t u : Tuple) → tuple_order t u ≡ Less → tuple_order u t ≡ Greater
@@ -67,7 +67,7 @@ abbrev pub Ascending : List Group → Type 0
 Ascending [] = Unit {0}
 Ascending (g ∷ gs) = AllAbove g.keys gs × Ascending gs
 
-above_greater : (s t : Tuple) (gs : List Group) → tuple_order s t ≡ Less → AllAbove t gs → AllAbove s gs
+pub above_greater : (s t : Tuple) (gs : List Group) → tuple_order s t ≡ Less → AllAbove t gs → AllAbove s gs
 above_greater s t [] h a = tt
 above_greater s t (g ∷ gs) h a = (tuple_order_total.trans s t g.keys h a.0, above_greater s t gs h a.1)
 
@@ -98,7 +98,7 @@ find_above t (g ∷ gs) h = ap (λ o. if is_eq o then Some g.accumulators else f
 find_first : (g : Group) (gs : List Group) → find g.keys (g ∷ gs) ≡ Some g.accumulators
 find_first g gs = ap (λ b. if b then Some g.accumulators else find g.keys gs) (same_itself g.keys)
 
-find_later : (t : Tuple) (g : Group) (gs : List Group) → same_tuple t g.keys ≡ false → find t (g ∷ gs) ≡ find t gs
+pub find_later : (t : Tuple) (g : Group) (gs : List Group) → same_tuple t g.keys ≡ false → find t (g ∷ gs) ≡ find t gs
 find_later t g gs h = ap (λ b. if b then Some g.accumulators else find t gs) h
 
 same_accumulators : (xs ys : List Accumulator) → Some xs ≡ Some ys → xs ≡ ys
@@ -222,7 +222,7 @@ abbrev pub AllOfKinds : List Aggregate → List Group → Type 0
 AllOfKinds kinds [] = Unit {0}
 AllOfKinds kinds (g ∷ gs) = OfKinds kinds g.accumulators × AllOfKinds kinds gs
 
-abbrev FoundOfKinds : List Aggregate → Option (List Accumulator) → Type 0
+abbrev pub FoundOfKinds : List Aggregate → Option (List Accumulator) → Type 0
 FoundOfKinds kinds None = Unit {0}
 FoundOfKinds kinds (Some xs) = OfKinds kinds xs
 
@@ -234,10 +234,10 @@ found_kinds kinds t (g ∷ gs) h = by_test (same_tuple t g.keys) (found_kinds ki
     by_test true r = h.0
     by_test false r = r
 
-first_of : (a b : Aggregate) (kinds bs : List Aggregate) → a ∷ kinds ≡ b ∷ bs → a ≡ b
+pub first_of : (a b : Aggregate) (kinds bs : List Aggregate) → a ∷ kinds ≡ b ∷ bs → a ≡ b
 first_of a b kinds bs h = cc
 
-rest_of : (a b : Aggregate) (kinds bs : List Aggregate) → a ∷ kinds ≡ b ∷ bs → kinds ≡ bs
+pub rest_of : (a b : Aggregate) (kinds bs : List Aggregate) → a ∷ kinds ≡ b ∷ bs → kinds ≡ bs
 rest_of a b kinds bs h = cc
 
 join_all_assoc : (xs ys zs : List Accumulator) → map aggregate_of xs ≡ map aggregate_of ys → map aggregate_of ys ≡ map aggregate_of zs → join_all (join_all xs ys) zs ≡ join_all xs (join_all ys zs)

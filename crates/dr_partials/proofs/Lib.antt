@@ -3,6 +3,7 @@ pub mod WorkedAccumulators
 pub mod WorkedPartials
 pub mod WorkedTrees
 pub mod WorkedRewriting
+pub mod WorkedRewritingText
 -- lemmas of accumulators
 pub mod ValueOrders
 pub mod AccumulatorLemmas
@@ -20,3 +21,5 @@ pub mod BoundLemmas
 pub mod TreeLemmas
 pub mod RewritingLemmas
 pub mod RootLemmas
+-- lemmas of putting
+pub mod PutLemmas

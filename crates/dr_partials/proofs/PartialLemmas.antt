@@ -98,15 +98,15 @@ accumulators_append keys (i ∷ items) N M t = by_term i.term (accumulators_appe
 
 -- ---- no rows with a key tuple
 
-abbrev NoRows : List (List Step) → Tuple → List Node → GroupTerm → Type 0
+abbrev pub NoRows : List (List Step) → Tuple → List Node → GroupTerm → Type 0
 NoRows keys t ns (key j) = Unit {0}
 NoRows keys t ns count_rows = group_rows keys t (longest_level keys) ns ≡ []
 NoRows keys t ns (aggregate a e) = group_rows keys t (longer (longest_level keys) (expression_level e)) ns ≡ []
 
-abbrev empties : List GroupItem → List Accumulator
+abbrev pub empties : List GroupItem → List Accumulator
 empties items = filter_map (λ (i : GroupItem). empty_term i.term) items
 
-no_rows : (keys : List (List Step)) (items : List GroupItem) (ns : List Node) (t : Tuple) → Each (λ (i : GroupItem). NoRows keys t ns i.term) items → accumulators_at keys items ns t ≡ empties items
+pub no_rows : (keys : List (List Step)) (items : List GroupItem) (ns : List Node) (t : Tuple) → Each (λ (i : GroupItem). NoRows keys t ns i.term) items → accumulators_at keys items ns t ≡ empties items
 no_rows keys [] ns t h = refl
 no_rows keys (i ∷ items) ns t h = by_term i.term h.0 (no_rows keys items ns t h.1)
   where
@@ -116,7 +116,7 @@ no_rows keys (i ∷ items) ns t h = by_term i.term h.0 (no_rows keys items ns t 
     by_term count_rows e r = ap₂ (λ (rs : List Node) xs. counted (length rs) ∷ xs) e r
     by_term (aggregate a f) e r = ap₂ (λ (rs : List Node) xs. accumulated a (map (evaluate f) rs) ∷ xs) e r
 
-empties_right : (keys : List (List Step)) (items : List GroupItem) (ns : List Node) (t : Tuple) → join_all (accumulators_at keys items ns t) (empties items) ≡ accumulators_at keys items ns t
+pub empties_right : (keys : List (List Step)) (items : List GroupItem) (ns : List Node) (t : Tuple) → join_all (accumulators_at keys items ns t) (empties items) ≡ accumulators_at keys items ns t
 empties_right keys [] ns t = refl
 empties_right keys (i ∷ items) ns t = by_term i.term (empties_right keys items ns t)
   where
@@ -128,7 +128,7 @@ empties_right keys (i ∷ items) ns t = by_term i.term (empties_right keys items
         let vs = map (evaluate e) (group_rows keys t (longer (longest_level keys) (expression_level e)) ns) in
         ap₂ (λ x xs. x ∷ xs) (empty_right a (accumulated a vs) (accumulated_aggregate a vs)) r
 
-empties_left : (keys : List (List Step)) (items : List GroupItem) (ns : List Node) (t : Tuple) → join_all (empties items) (accumulators_at keys items ns t) ≡ accumulators_at keys items ns t
+pub empties_left : (keys : List (List Step)) (items : List GroupItem) (ns : List Node) (t : Tuple) → join_all (empties items) (accumulators_at keys items ns t) ≡ accumulators_at keys items ns t
 empties_left keys [] ns t = refl
 empties_left keys (i ∷ items) ns t = by_term i.term (empties_left keys items ns t)
   where
@@ -141,7 +141,7 @@ empties_left keys (i ∷ items) ns t = by_term i.term (empties_left keys items n
         ap₂ (λ x xs. x ∷ xs) (empty_left a (accumulated a vs) (accumulated_aggregate a vs)) r
 
 -- the items over whose rows the keys stand
-elsewhere : (keys : List (List Step)) (items : List GroupItem) → all_related keys ≡ true → list_all (λ (i : GroupItem). all_related (keys ++ group_term_paths i.term)) items ≡ true
+pub elsewhere : (keys : List (List Step)) (items : List GroupItem) → all_related keys ≡ true → list_all (λ (i : GroupItem). all_related (keys ++ group_term_paths i.term)) items ≡ true
     → (ns : List Node) → Each (SingleAll keys) ns → (t : Tuple) → among t (tuples_of keys (longest_level keys) ns) ≡ false → Each (λ (i : GroupItem). NoRows keys t ns i.term) items
 elsewhere keys [] h g ns s t a = tt
 elsewhere keys (i ∷ items) h g ns s t a =

@@ -21,12 +21,12 @@ use Rattle.dr_partials.proofs.GroupLemmas.{Tuple, Ascending, ascending_groups, a
 
 -- ---- which aggregates
 
-abbrev term_aggregate : GroupTerm → Aggregate
+abbrev pub term_aggregate : GroupTerm → Aggregate
 term_aggregate (key i) = count
 term_aggregate count_rows = count
 term_aggregate (aggregate a e) = a
 
-abbrev kinds_of : List GroupItem → List Aggregate
+abbrev pub kinds_of : List GroupItem → List Aggregate
 kinds_of items = map term_aggregate (aggregates_among items)
 
 accumulator_kind : (fs : Fields) (t : GroupTerm) (x : Accumulator) → is_accumulator fs t x ≡ true → aggregate_of x ≡ term_aggregate t
@@ -79,7 +79,7 @@ are_groups fs keys items gs h =
     let l = and_parts (list_all (is_group fs keys items) gs) (ascends (map (λ (g : Group). g.keys) gs)) k.0 in
     record { each = l.0; ascending = ascending_groups gs l.1; one = k.1 }
 
-kinds_are : (fs : Fields) (keys : List (List Step)) (items : List GroupItem) (gs : List Group) → AreGroups fs keys items gs → AllOfKinds (kinds_of items) gs
+pub kinds_are : (fs : Fields) (keys : List (List Step)) (items : List GroupItem) (gs : List Group) → AreGroups fs keys items gs → AllOfKinds (kinds_of items) gs
 kinds_are fs keys items gs h = group_kinds fs keys items gs h.each
 
 -- ---- associative, commutative
@@ -117,10 +117,10 @@ merge_is_commutative fs q gs hs h k = comm_of fs q.selection gs hs h k
 
 -- ---- the empty partial
 
-abbrev empties : List GroupItem → List Accumulator
+abbrev pub empties : List GroupItem → List Accumulator
 empties items = filter_map (λ (i : GroupItem). empty_term i.term) items
 
-empties_neutral : (items : List GroupItem) (xs : List Accumulator) → map aggregate_of xs ≡ kinds_of items → (join_all (empties items) xs ≡ xs) × (join_all xs (empties items) ≡ xs)
+pub empties_neutral : (items : List GroupItem) (xs : List Accumulator) → map aggregate_of xs ≡ kinds_of items → (join_all (empties items) xs ≡ xs) × (join_all xs (empties items) ≡ xs)
 empties_neutral [] [] h = (refl, refl)
 empties_neutral [] (x ∷ xs) h = absurd (cc)
 empties_neutral (i ∷ items) xs h = by_term i.term xs h (empties_neutral items)
@@ -144,7 +144,7 @@ empties_neutral (i ∷ items) xs h = by_term i.term xs h (empties_neutral items)
     by_term (aggregate a f) [] e r = absurd (cc)
     by_term (aggregate a f) (x ∷ xs) e r = both a x xs (first_of _ _ _ _ e) (r xs (rest_of _ _ _ _ e))
 
-no_keys : (fs : Fields) (t : Tuple) → are_keys fs [] t ≡ true → t ≡ []
+pub no_keys : (fs : Fields) (t : Tuple) → are_keys fs [] t ≡ true → t ≡ []
 no_keys fs [] h = refl
 no_keys fs (v ∷ vs) h = absurd (true≢false (sym h))
 

@@ -86,7 +86,7 @@ of_root_items i (item ∷ items) = by_term item.term (of_root_items (column_behi
 abbrev pub terms_at : List (List Step) → Tuple → List Node → List GroupTerm → List Accumulator
 terms_at keys t ns ts = filter_map (term_accumulator keys t ns) ts
 
-items_terms : (keys : List (List Step)) (items : List GroupItem) (ns : List Node) (t : Tuple) → accumulators_at keys items ns t ≡ terms_at keys t ns (aggregates_among items)
+pub items_terms : (keys : List (List Step)) (items : List GroupItem) (ns : List Node) (t : Tuple) → accumulators_at keys items ns t ≡ terms_at keys t ns (aggregates_among items)
 items_terms keys [] ns t = refl
 items_terms keys (i ∷ items) ns t = by_term i.term (items_terms keys items ns t)
   where

@@ -1,5 +1,5 @@
 -- Trees gather what stands for all records; the tree of a fan.
-use Rattle.std.proofs.Common.{◌≡◌, ℕ, zero, suc, ◌-◌, ◌≤◌, List, [], ◌∷◌, ◌++◌, map, length, true, ◌&&◌, refl, sym, ap, ap₂, ◌∙◌, subst, append_assoc, append-nil, arith}
+use Rattle.std.proofs.Common.{◌≡◌, ℕ, zero, suc, ◌+◌, ◌-◌, ◌*◌, ◌≤◌, List, [], ◌∷◌, ◌++◌, map, length, true, ◌&&◌, refl, sym, ap, ap₂, ◌∙◌, subst, append_assoc, append-nil, arith, length-append}
 use Rattle.std.specs.Prelude.{nat_le}
 use Rattle.std.specs.List.{list_all, flat_map, range_with_len}
 use Rattle.std.proofs.lemmas.Bool.{and_parts}
@@ -13,8 +13,10 @@ use Rattle.dr_meaning.specs.Query.{Query, meaning}
 use Rattle.dr_partials.specs.Partials.{Partial, Stands, merge, empty_partial, finished}
 use Rattle.dr_partials.specs.PartialTypes.{is_partial}
 use Rattle.dr_partials.specs.PartialLaws.{is_mergeable}
+use Rattle.dr_partials.specs.PartialBounds.{PartialCanBeOf}
+use Rattle.dr_partials.proofs.BoundsLemmas.{bounds_add_up}
 use Rattle.dr_partials.specs.Trees.{Tree, leaf_server, intermediate_server, Trees, no_trees, next_tree, tablets_of, tablets_of_all, count_trees, children_at_most, all_at_most, gathered, gathered_behind, Packed, pack, trees_of, grow, of_fan}
-use Rattle.dr_partials.specs.TreeLaws.{records_of, StandsForEach, GatheredStands, GatheredMeansQuery, AreAllPartials, GatheredIsPartial, TreesGatherAlike, FanHasAllTablets, FanIsKept}
+use Rattle.dr_partials.specs.TreeLaws.{records_of, StandsForEach, GatheredStands, GatheredMeansQuery, AreAllPartials, GatheredIsPartial, CanAllBeOf, GatheredIsBounded, TreesGatherAlike, FanHasAllTablets, FanIsKept}
 use Rattle.dr_partials.proofs.PartialLemmas.{merged_stands, finished_partial_is_meaning}
 use Rattle.dr_partials.proofs.PartialTypeLemmas.{merge_is_associative, empty_merges_to_same, merged_is_partial, empty_is_partial}
 
@@ -101,6 +103,40 @@ mutual
 
 pub gathered_is_partial : GatheredIsPartial
 gathered_is_partial fs q piece tree h = subst (λ (p : Partial). is_partial fs q p ≡ true) (sym (tree_pieces fs q piece tree h)) (pieces_are fs q piece (tablets_of tree) h)
+
+both_bounded : (m : ℕ) (piece : ℕ → Partial) (ts us : List ℕ) → CanAllBeOf m piece (ts ++ us) → CanAllBeOf m piece ts × CanAllBeOf m piece us
+both_bounded m piece [] us h = (tt, h)
+both_bounded m piece (t ∷ ts) us h = let k = both_bounded m piece ts us h.1 in ((h.0, k.0), k.1)
+
+-- so many for each of both
+for_both : (m : ℕ) (ts us : List ℕ) → length ts * m + length us * m ≡ length (ts ++ us) * m
+for_both m ts us = let e = length-append ts us in sym (ap (λ n. n * m) e ∙ omega arith)
+
+for_three : (m k : ℕ) (ts us : List ℕ) → (k + length ts * m) + length us * m ≡ k + length (ts ++ us) * m
+for_three m k ts us = omega (arith, for_both m ts us)
+
+mutual
+  tree_bounded : (fs : Fields) (q : Query) (m : ℕ) (piece : ℕ → Partial) (tree : Tree) → AreAllPartials fs q piece (tablets_of tree) → CanAllBeOf m piece (tablets_of tree) → PartialCanBeOf (length (tablets_of tree) * m) (gathered piece tree)
+  tree_bounded fs q m piece (leaf_server t) h b = let e : m ≡ 1 * m = omega arith in subst (λ n. PartialCanBeOf n (piece t)) e b.0
+  tree_bounded fs q m piece (intermediate_server t ts) h b =
+      let k = all_split fs q piece (tablets_of t) (tablets_of_all ts) h in
+      let c = both_bounded m piece (tablets_of t) (tablets_of_all ts) b in
+      subst (λ n. PartialCanBeOf n (gathered_behind piece (gathered piece t) ts)) (for_both m (tablets_of t) (tablets_of_all ts))
+      (trees_bounded fs q m piece ts (length (tablets_of t) * m) (gathered piece t) (gathered_is_partial fs q piece t k.0) (tree_bounded fs q m piece t k.0 c.0) k.1 c.1)
+
+  trees_bounded : (fs : Fields) (q : Query) (m : ℕ) (piece : ℕ → Partial) (trees : Trees) (k : ℕ) (p : Partial) → is_partial fs q p ≡ true → PartialCanBeOf k p → AreAllPartials fs q piece (tablets_of_all trees) → CanAllBeOf m piece (tablets_of_all trees)
+      → PartialCanBeOf (k + length (tablets_of_all trees) * m) (gathered_behind piece p trees)
+  trees_bounded fs q m piece no_trees k p a o h b = let e : k ≡ k + 0 * m = omega arith in subst (λ n. PartialCanBeOf n p) e o
+  trees_bounded fs q m piece (next_tree t ts) k p a o h b =
+      let l = all_split fs q piece (tablets_of t) (tablets_of_all ts) h in
+      let c = both_bounded m piece (tablets_of t) (tablets_of_all ts) b in
+      let g = gathered_is_partial fs q piece t l.0 in
+      let r = trees_bounded fs q m piece ts (k + length (tablets_of t) * m) (merge p (gathered piece t)) (merged_is_partial fs q p (gathered piece t) a g)
+      (bounds_add_up fs q k (length (tablets_of t) * m) p (gathered piece t) a g o (tree_bounded fs q m piece t l.0 c.0)) l.1 c.1 in
+      subst (λ n. PartialCanBeOf n (gathered_behind piece (merge p (gathered piece t)) ts)) (for_three m k (tablets_of t) (tablets_of_all ts)) r
+
+pub gathered_is_bounded : GatheredIsBounded
+gathered_is_bounded fs q m piece tree h b = tree_bounded fs q m piece tree h b
 
 pub trees_gather_alike : TreesGatherAlike
 trees_gather_alike fs q piece a b h e =

@@ -1,11 +1,11 @@
 -- What is gathered of values, joined, and given, by computation.
 use Rattle.std.proofs.Common.{arith, lit≤}
-use Rattle.std.specs.Prelude.{◌≡◌, ℕ, ◌+◌, ◌^◌, List, [], ◌∷◌, map, true, false, pos, neg_ℤ, Option, Some, None, codes, refl}
+use Rattle.std.specs.Prelude.{◌≡◌, ℕ, ◌+◌, ◌-◌, ◌^◌, List, [], ◌∷◌, map, true, false, pos, neg_ℤ, Option, Some, None, codes, refl}
 use Rattle.dr_meaning.specs.Record.{Value, bool_value, int_value, text_value}
 use Rattle.dr_meaning.specs.Query.{Aggregate, count, sum, least, greatest, no_entries}
 use Rattle.dr_partials.specs.Accumulators.{counted, summed, least_of, greatest_of, aggregate_of, empty_accumulator, join, take_value, take_row, accumulated, result_of}
 use Rattle.dr_partials.specs.Partials.{lines, grouped}
-use Rattle.dr_partials.specs.PartialBounds.{CanBeOf, PartialCanBeOf}
+use Rattle.dr_partials.specs.PartialBounds.{CanBeOf, PartialCanBeOf, is_of_64_bits}
 
 abbrev all : List Aggregate
 all = count ∷ sum ∷ least ∷ greatest ∷ []
@@ -97,3 +97,8 @@ partial_of_one = (((lit≤ tt, (lit≤ tt, tt)), ((lit≤ tt, tt), tt)), tt)
 
 pub not_of_one : (PartialCanBeOf 1 (grouped (record { keys = []; accumulators = counted 1 ∷ counted 2 ∷ [] } ∷ [])) → ⊥) × (PartialCanBeOf 1 (grouped (record { keys = []; accumulators = [] } ∷ record { keys = None ∷ []; accumulators = counted 2 ∷ [] } ∷ [])) → ⊥)
 not_of_one = (λ h. let k = h.0.1.0 in omega (arith, k), λ h. let k = h.1.0.0 in omega (arith, k))
+
+-- whole numbers of 64 bits
+pub numbers_of_64_bits : map is_of_64_bits (Some (whole (2 ^ 63 - 1)) ∷ Some (int_value (neg_ℤ (pos (2 ^ 63)))) ∷ Some (whole (2 ^ 63)) ∷ Some (int_value (neg_ℤ (pos (2 ^ 63 + 1)))) ∷ None ∷ Some (bool_value true) ∷ Some (text_value []) ∷ [])
+    ≡ true ∷ true ∷ false ∷ false ∷ true ∷ true ∷ true ∷ []
+numbers_of_64_bits = refl

@@ -9,6 +9,7 @@ use Rattle.dr_meaning.proofs.WorkedPaths.{doc_id, backward, forward, name, code,
 use Rattle.dr_partials.specs.Accumulators.{Accumulator, counted, summed, least_of, greatest_of}
 use Rattle.dr_partials.specs.Partials.{Group, Partial, lines, grouped, partial_of, merge, empty_partial, finished}
 use Rattle.dr_partials.specs.PartialTypes.{is_partial}
+use Rattle.dr_partials.specs.Putting.{Taken, Put, put, put_all}
 
 abbrev whole : ℕ → Value
 whole n = int_value (pos n)
@@ -258,3 +259,49 @@ pub keys_of_no_leaf : (is_partial document (record { condition = None; selection
     × (is_partial document (record { condition = None; selection = groups (name ∷ []) [] }) (grouped (group (Some (whole 1) ∷ []) [] ∷ [])) ≡ false)
 unfolding is_partial
 keys_of_no_leaf = (refl, refl)
+
+-- ---- put one by one
+
+abbrev put_to : List (Option Value) → Option Taken → Put
+put_to t x = record { keys = t; taken = x }
+
+abbrev taken_at : ℕ → Option Value → Option Taken
+taken_at i v = Some (record { aggregate = i; value = v })
+
+abbrev null_group : Accumulator → Accumulator → Accumulator → Accumulator → Group
+null_group a b c d = group (None ∷ []) (a ∷ b ∷ c ∷ d ∷ [])
+
+-- a group is made where it isn't there, before the greater ones and behind the less; its one accumulator takes the value, NULL too for COUNT(*)
+pub put_before : put by_country (put_to (None ∷ []) (taken_at 0 None)) (grouped (gb ∷ us ∷ [])) ≡ grouped (null_group (counted 1) (least_of None) (greatest_of None) (counted 0) ∷ gb ∷ us ∷ [])
+unfolding put
+put_before = refl
+
+pub put_behind : put by_country (put_to (text (codes "z") ∷ []) None) (grouped (gb ∷ [])) ≡ grouped (gb ∷ group (text (codes "z") ∷ []) (counted 0 ∷ least_of None ∷ greatest_of None ∷ counted 0 ∷ []) ∷ [])
+unfolding put
+put_behind = refl
+
+pub put_in : put by_country (put_to (text (codes "gb") ∷ []) (taken_at 2 (text (codes "fr")))) (grouped (gb ∷ us ∷ []))
+    ≡ grouped (group (text (codes "gb") ∷ []) (counted 1 ∷ least_of (text (codes "en-gb")) ∷ greatest_of (text (codes "fr")) ∷ counted 1 ∷ []) ∷ us ∷ [])
+unfolding put
+put_in = refl
+
+-- MIN takes another, COUNT doesn't take NULL, and there is no fifth aggregate
+pub put_others : (put by_country (put_to (text (codes "gb") ∷ []) (taken_at 1 (text (codes "de")))) (grouped (gb ∷ []))
+    ≡ grouped (group (text (codes "gb") ∷ []) (counted 1 ∷ least_of (text (codes "de")) ∷ greatest_of (text (codes "en-gb")) ∷ counted 1 ∷ []) ∷ []))
+    × (put by_country (put_to (text (codes "gb") ∷ []) (taken_at 3 None)) (grouped (gb ∷ [])) ≡ grouped (gb ∷ []))
+    × (put by_country (put_to (text (codes "gb") ∷ []) (taken_at 4 (Some (whole 1)))) (grouped (gb ∷ [])) ≡ grouped (gb ∷ []))
+unfolding put
+put_others = (refl, refl, refl)
+
+-- lines stay
+pub put_lines : put of_each (put_to [] None) (lines []) ≡ lines []
+unfolding put
+put_lines = refl
+
+-- the rows of the record with the id 20, put in one order and in another, give its partial
+abbrev puts_of_20 : List Put
+puts_of_20 = put_to (None ∷ []) (taken_at 0 None) ∷ put_to (None ∷ []) (taken_at 1 None) ∷ put_to (None ∷ []) (taken_at 2 None) ∷ put_to (None ∷ []) (taken_at 3 (Some (whole 20))) ∷ []
+
+pub put_20 : put_all by_country puts_of_20 (empty_partial by_country) ≡ of_records by_country (record_20 ∷ [])
+unfolding put partial_of empty_partial
+put_20 = refl

@@ -8,8 +8,10 @@ pub mod PartialBounds
 -- serving trees, and the queries of their servers
 pub mod Trees
 pub mod Rewriting
+pub mod RewritingText
 -- laws, each proved on a law function of src/
 pub mod AccumulatorLaws
 pub mod PartialLaws
+pub mod Putting
 pub mod TreeLaws
 pub mod RewritingLaws

@@ -1,11 +1,12 @@
 -- Laws of serving trees.
-use Rattle.std.specs.Prelude.{◌≡◌, ℕ, ◌≤◌, true, List, [], ◌∷◌}
+use Rattle.std.specs.Prelude.{◌≡◌, ℕ, ◌*◌, ◌≤◌, true, List, [], ◌∷◌, length}
 use Rattle.std.specs.List.{list_all, flat_map, range_with_len}
 use Rattle.dr_meaning.specs.Schema.{Fields}
 use Rattle.dr_meaning.specs.Record.{Node, is_record}
 use Rattle.dr_meaning.specs.Query.{Query, meaning}
 use Rattle.dr_partials.specs.Partials.{Partial, Stands, finished}
 use Rattle.dr_partials.specs.PartialTypes.{is_partial}
+use Rattle.dr_partials.specs.PartialBounds.{PartialCanBeOf}
 use Rattle.dr_partials.specs.PartialLaws.{is_mergeable}
 use Rattle.dr_partials.specs.Trees.{Tree, tablets_of, gathered, of_fan, children_at_most}
 
@@ -36,6 +37,15 @@ AreAllPartials fs q piece (t ∷ ts) = (is_partial fs q (piece t) ≡ true) × A
 abbrev pub GatheredIsPartial : Type 0
 GatheredIsPartial = (fs : Fields) (q : Query) (piece : ℕ → Partial) (tree : Tree) → AreAllPartials fs q piece (tablets_of tree)
     → is_partial fs q (gathered piece tree) ≡ true
+
+-- of pieces each of which can be of m values it gathers what can be of m for each tablet
+abbrev pub CanAllBeOf : ℕ → (ℕ → Partial) → List ℕ → Type 0
+CanAllBeOf m piece [] = Unit {0}
+CanAllBeOf m piece (t ∷ ts) = PartialCanBeOf m (piece t) × CanAllBeOf m piece ts
+
+abbrev pub GatheredIsBounded : Type 0
+GatheredIsBounded = (fs : Fields) (q : Query) (m : ℕ) (piece : ℕ → Partial) (tree : Tree) → AreAllPartials fs q piece (tablets_of tree)
+    → CanAllBeOf m piece (tablets_of tree) → PartialCanBeOf (length (tablets_of tree) * m) (gathered piece tree)
 
 -- and two trees with the same tablets, in one order, gather the same
 abbrev pub TreesGatherAlike : Type 0

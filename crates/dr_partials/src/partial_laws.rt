@@ -1,7 +1,8 @@
 // Laws of partials.
 
 ghost use Rattle.dr_partials.specs.PartialLaws.{BoundIsMergeable, BoundLeavesAreEnough, FinishedPartialIsMeaning, PartialOfProjection, RecordsHavePartials, EmptyStandsForNone, MergedStands, MergeIsAssociative};
-ghost use Rattle.dr_partials.specs.PartialBounds.{BoundsAddUp};
+ghost use Rattle.dr_partials.specs.PartialBounds.{GatheredCanBeOf, BoundsAddUp};
+ghost use Rattle.dr_partials.specs.Putting.{PutsAreMerged, PutsCommute};
 ghost use Rattle.dr_partials.specs.PartialLaws.{OneGroupWithoutKeys, CountIsNumber, MergeIsCommutative, EmptyMergesToSame, EmptyIsPartial, MergedIsPartial};
 
 /// The partial of records, finished, is what the query means on them.
@@ -48,7 +49,14 @@ pub fn count_is_never_null()
     ensures number { CountIsNumber }
 {}
 
-/// What is merged of a partial of m values and one of n can be of m + n.
+/// What is gathered of n values can be of n; what is merged of a partial of m values and one of n can be of m + n.
 pub fn bounds_add_up()
-    ensures { BoundsAddUp }
+    ensures gathered { GatheredCanBeOf }
+    ensures merged { BoundsAddUp }
+{}
+
+/// What is put of records into groups, value by value, is what is merged with the partial of the records; puts commute.
+pub fn puts_are_merged()
+    ensures merged { PutsAreMerged }
+    ensures commute { PutsCommute }
 {}

@@ -36,7 +36,8 @@ pub record LeftTablet : Type 0 where
   pub tablet : ℕ
   pub causes : List Cause
 
--- each of these tablets, the first of which is the tth, has a piece that is true of it, or is left with a justified cause for each of its leaves
+-- just these tablets are left: of each tablet, the first of which is the tth, there is a piece that is true of it, or it is left with a
+-- justified cause for each of its leaves
 pub data LeavesJust (s : Serving) : ℕ → List (List (List ℕ)) → List LeftTablet → Type 0 where
   no_tablets : (t : ℕ) → LeavesJust s t [] []
   has_piece : (t : ℕ) (paths : List (List ℕ)) (rest : List (List (List ℕ))) (left : List LeftTablet) (p : Partial)
@@ -55,7 +56,7 @@ abbrev pub IsFinished : Serving → Tree → Partial → Type 0
 IsFinished s tree p = (piece : ℕ → Partial) × (tablets_of tree ≡ range_with_len 0 (length s.tablets)) × AreTrueFrom s piece 0 s.tablets
     × (p ≡ gathered piece tree)
 
--- unfinished: some tablets are left, just those without a piece, and each failed read among their causes has a rise of the first link's count
--- of its own, between what that was before and what it is now
+-- unfinished: some tablets are left, of each other one there is a piece that is true of it, and each failed read among the causes has a rise
+-- of the first link's count of its own, between what that was before and what it is now
 abbrev pub IsUnfinished : Serving → ℕ → ℕ → List LeftTablet → Type 0
 IsUnfinished s before now left = (left ≢ []) × LeavesJust s 0 s.tablets left × RisesApart before (flat_map (λ (l : LeftTablet). l.causes) left) now
