@@ -83,7 +83,8 @@ fn show(
     };
     match expression {
         Expression::Number(number) => {
-            let digits = format!(in alloc; "{number}")?;
+            let value = number.value;
+            let digits = format!(in alloc; "{value}")?;
             out.push_str(digits.as_str())?;
             Ok(())
         }
