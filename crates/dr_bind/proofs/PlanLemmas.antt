@@ -1,32 +1,33 @@
 -- The plan of parts of a query.
-use Rattle.std.proofs.Common.{◌≡◌, ℕ, suc, ◌+◌, ◌<◌, ◌^◌, List, [], ◌∷◌, ◌++◌, map, length, get_or, take, drop, Bool, true, false, ◌&&◌, ◌||◌, nat_lt, Option, Some, None, refl, sym, ap, ap₂, ◌∙◌, subst, append_assoc, append-nil, add-zero, arith}
-use Rattle.std.specs.Prelude.{◌==◌, option_map, option_to_list, string_bytes, String, if◌then◌else◌}
+use Rattle.std.proofs.Common.{◌≡◌, ℕ, suc, ◌+◌, ◌<◌, ◌^◌, List, [], ◌∷◌, ◌++◌, map, length, get_or, take, Bool, true, false, ◌&&◌, ◌||◌, nat_lt, Option, Some, None, refl, sym, ap, ap₂, ◌∙◌, subst, append_assoc, append-nil, add-zero, arith}
+use Rattle.std.specs.Prelude.{◌==◌, Result, Ok, Err, option_map, string_bytes, String, if◌then◌else◌}
 use Rattle.std.specs.declared.alloc.Global.{Global}
 use Rattle.std.specs.List.{list_all, list_any, flat_map, filter_map, cons_option, slice_get}
 use Rattle.std.proofs.lemmas.List.{map-append, map_push, take_more, length-map, length_push}
 use Rattle.std.proofs.lemmas.List.Elements.{filter_map-append}
-use Rattle.std.proofs.lemmas.List.Folds.{list_all-append, list_any-append}
+use Rattle.std.proofs.lemmas.List.Folds.{list_all-append}
 use Rattle.std.proofs.lemmas.Option.{slice_get_within}
 use Rattle.std.proofs.lemmas.Bool.{lt-ltb, eq-eqb, and_parts}
-use denote.Ref.{Bor}
 use Rattle.dr_meaning.specs.Schema.{Fields}
-use Rattle.dr_meaning.specs.Path.{Step as MeantStep, Leaf, begins_with, same_path, level, leaves}
-use Rattle.dr_meaning.specs.Expression.{Expression, path_value, paths_of, expression_level, longest_level}
+use Rattle.dr_meaning.specs.Path.{Step as MeantStep, Leaf, begins_with, same_path, level, leaves, PathFault, find_path, found_leaf}
+use Rattle.dr_meaning.specs.Expression.{Expression, path_value, paths_of, longest_level}
 use Rattle.dr_meaning.specs.BoundExpression as meant
-use Rattle.dr_meaning.specs.BoundExpression.{Checked, passes, fails, number_type, ValueType, truth_type, text_type}
+use Rattle.dr_meaning.specs.BoundExpression.{Checked, passes, fails, number_type, truth_type, text_type, ValueType}
 use Rattle.dr_meaning.specs.Binding as binding
 use Rattle.dr_meaning.specs.Binding.{plain, rows_counted, aggregated, passing, query_of}
 use Rattle.dr_meaning.specs.Query as query
+use Rattle.dr_meaning.specs.Syntax.{PathSyntax, TermSyntax, ItemSyntax, QuerySyntax}
+use Rattle.dr_meaning.specs.Syntax.{expression as expression_syntax, count_rows as count_rows_syntax, aggregate as aggregate_syntax}
 use Rattle.dr_meaning.specs.MeaningLaws.{group_term_paths}
 use Rattle.dr_meaning.specs.MeaningLaws as laws
 use Rattle.dr_meaning.specs.QueryLeaves.{value_paths, selection_values, used_paths, query_leaves}
-use Rattle.dr_nested.specs.PathView.{path_view, step_view, lent_path}
-use Rattle.dr_nested.specs.declared.path.Step.{Step}
+use Rattle.dr_meaning.proofs.FindingLemmas.{in_at, of_found}
+use Rattle.dr_nested.specs.PathView.{step_view}
 use Rattle.dr_plan.specs.Conjuncts as cut
-use Rattle.dr_plan.specs.Objects.{ObjectTree, object_view}
-use Rattle.dr_plan.specs.Views.{truth_view, expr_view, fold_view, path_of, record_item_view, aggregate_view, found_term, group_item_view, selection_view}
-use Rattle.dr_plan.specs.Fitting.{truth_fits, expr_fits, is_summed, record_term_fits, aggregate_fits, has_key, aggregate_number, are_numbered, selection_fits}
-use Rattle.dr_plan.specs.Planned.{Planned, plan_view, planned, objects_of_plan, objects_of_query}
+use Rattle.dr_plan.specs.Objects.{ObjectTree}
+use Rattle.dr_plan.specs.Views.{fold_view, path_of, record_item_view, aggregate_view, found_term, group_item_view, selection_view}
+use Rattle.dr_plan.specs.Fitting.{expr_fits, is_summed, record_term_fits, aggregate_fits, has_key, aggregate_number, are_numbered, selection_fits}
+use Rattle.dr_plan.specs.Planned.{Planned, planned, objects_of_plan, objects_of_query}
 use Rattle.dr_plan.specs.declared.expression.Expr.{Expr}
 use Rattle.dr_plan.specs.declared.aggregate.Fold.{Fold}
 use Rattle.dr_plan.specs.declared.aggregate.Aggregate.{Aggregate}
@@ -35,7 +36,6 @@ use Rattle.dr_plan.specs.declared.plan.RecordItem.{RecordItem}
 use Rattle.dr_plan.specs.declared.plan.GroupTerm.{GroupTerm}
 use Rattle.dr_plan.specs.declared.plan.GroupItem.{GroupItem}
 use Rattle.dr_plan.specs.declared.plan.Selection.{Selection}
-use Rattle.dr_plan.specs.declared.plan.Plan.{Plan}
 use Rattle.dr_objects.specs.NamedLevels.{NamedLevels, joined}
 use Rattle.dr_chains.specs.declared.bound.BoundPath.{BoundPath}
 use Rattle.dr_chains.specs.Views.{bound_path_view, paths_at}
@@ -49,11 +49,11 @@ use Rattle.dr_bind.specs.declared.items.BoundItem.{BoundItem}
 use Rattle.dr_bind.specs.declared.parts.BoundParts.{BoundParts}
 use Rattle.dr_bind.specs.declared.planning.Grouped.{Grouped}
 use Rattle.dr_bind.specs.Bound.{IsAmong, Covers, AreReal, is_path_value, type_of, Means, IsExpression}
-use Rattle.dr_bind.specs.Items.{IsTruth, IsCondition, within_view, IsWithin, IsTerm, IsItem, AreItems}
+use Rattle.dr_bind.specs.Items.{IsTruth, within_view, IsTerm, AreItems}
 use Rattle.dr_bind.specs.Parts.{IsCheckedCondition, AreParts}
 use Rattle.dr_bind.specs.Planning.{condition_paths, record_paths, group_paths, record_item_paths, group_item_paths, selection_paths, parts_paths, steps_at}
-use Rattle.dr_bind.specs.Planning.{condition_conjuncts, condition_fits, record_term_of, record_item_of, record_level, record_levels, AreObjects, SelectsObjects}
-use Rattle.dr_bind.specs.Planning.{place_of_first, key_number, grouped_of, with_aggregate, aggregates_of, with_group_item, group_items_of, AreNumbers, SelectsGroups, Selects}
+use Rattle.dr_bind.specs.Planning.{condition_conjuncts, condition_fits, record_term_of, record_item_of, record_level, record_levels}
+use Rattle.dr_bind.specs.Planning.{place_of_first, key_number, grouped_of, with_aggregate, aggregates_of, with_group_item, group_items_of, AreNumbers, Selects}
 use Rattle.dr_bind.specs.Planning.{sums_numbers, CanBePlanned, SumsNumbers, AllSumNumbers}
 use Rattle.dr_bind.proofs.ExpressionLemmas.{covers_parts, real_joined}
 
@@ -714,3 +714,80 @@ can_be_planned fs ls b p h l short keys sums =
       covered = subst (λ (ms : List Leaf). Covers ms (map bound_path_view (parts_paths p))) (sym l) covers;
       summed = items_summed fs ls (passing b.items) p.items.items h.items sums;
     }
+
+-- ---- parts that come of a syntax tree
+
+path_real : (fs : Fields) (p : PathSyntax) (b : meant.BoundPath) → meant.bind_path fs p ≡ passes b → (i : ℕ) × (slice_get (leaves fs) i ≡ Some b.leaf)
+path_real fs p b h = by_leaf (found_leaf p.names (find_path p.names fs)) refl h
+  where
+    by_leaf : (r : Result Leaf PathFault) → found_leaf p.names (find_path p.names fs) ≡ r → meant.at_place p.place r ≡ passes b → (i : ℕ) × (slice_get (leaves fs) i ≡ Some b.leaf)
+    by_leaf (Err e) f g = absurd (cc)
+    by_leaf (Ok l) f g =
+        let whole : meant.BoundPath = record { place = p.place; leaf = l } in
+        let same : whole ≡ b = cc in
+        let n = in_at l (leaves fs) (of_found p.names fs (find_path p.names fs) l refl f).0 in
+        (n.0, n.1 ∙ ap (λ (x : meant.BoundPath). Some x.leaf) same)
+
+keys_real : (fs : Fields) (ks : List PathSyntax) → AreReal fs (passing (map (meant.bind_path fs) ks))
+keys_real fs [] = tt
+keys_real fs (k ∷ ks) = by_check (meant.bind_path fs k) refl (keys_real fs ks)
+  where
+    by_check : (c : Checked meant.BoundPath) → meant.bind_path fs k ≡ c → AreReal fs (passing (map (meant.bind_path fs) ks)) → AreReal fs (passing (c ∷ map (meant.bind_path fs) ks))
+    by_check (passes b) h later = (path_real fs k b h, later)
+    by_check (fails e es) h later = later
+
+abbrev IfPassed : Checked binding.BoundTerm → Type 0
+IfPassed (passes t) = SumsNumbers t
+IfPassed (fails e es) = Unit {0}
+
+sum_checked : (i : ℕ) (x : meant.BoundExpression) (d : Checked (Option binding.BoundWithin)) → IfPassed (meant.together (aggregated query.sum) (meant.of_type number_type i x) d)
+sum_checked i x d = by_type x.gives refl d
+  where
+    by_type : (g : ValueType) → x.gives ≡ g → (w : Checked (Option binding.BoundWithin)) → IfPassed (meant.together (aggregated query.sum) (if meant.same_type g number_type then passes x else meant.fails_at i meant.type_mismatch) w)
+    by_type number_type h (passes w) = h
+    by_type number_type h (fails e es) = tt
+    by_type truth_type h (passes w) = tt
+    by_type truth_type h (fails e es) = tt
+    by_type text_type h (passes w) = tt
+    by_type text_type h (fails e es) = tt
+
+aggregate_checked : (a : query.Aggregate) (i : ℕ) (c : Checked meant.BoundExpression) (d : Checked (Option binding.BoundWithin)) → IfPassed (meant.together (aggregated a) (meant.then_check (binding.argument_of a i) c) d)
+aggregate_checked query.sum i (passes x) d = sum_checked i x d
+aggregate_checked query.count i (passes x) (passes w) = tt
+aggregate_checked query.count i (passes x) (fails e es) = tt
+aggregate_checked query.least i (passes x) (passes w) = tt
+aggregate_checked query.least i (passes x) (fails e es) = tt
+aggregate_checked query.greatest i (passes x) (passes w) = tt
+aggregate_checked query.greatest i (passes x) (fails e es) = tt
+aggregate_checked a i (fails g gs) (passes w) = tt
+aggregate_checked a i (fails g gs) (fails e es) = tt
+
+term_checked : (fs : Fields) (i : ℕ) (t : TermSyntax) → IfPassed (binding.bind_term fs i t)
+term_checked fs i (expression_syntax e) = by_check (meant.bind_expression fs e)
+  where
+    by_check : (c : Checked meant.BoundExpression) → IfPassed (meant.checked_map plain c)
+    by_check (passes x) = tt
+    by_check (fails g gs) = tt
+term_checked fs i (count_rows_syntax w) = by_check (binding.bind_within fs w)
+  where
+    by_check : (c : Checked (Option binding.BoundWithin)) → IfPassed (meant.checked_map rows_counted c)
+    by_check (passes x) = tt
+    by_check (fails g gs) = tt
+term_checked fs i (aggregate_syntax a e w) = aggregate_checked a i (meant.bind_expression fs e) (binding.bind_within fs w)
+
+abbrev named_item : ℕ → List ℕ → binding.BoundTerm → binding.BoundItem
+named_item i name t = record { place = i; name = name; term = t }
+
+items_checked : (fs : Fields) (n : ℕ) (is : List ItemSyntax) → AllSumNumbers (passing (binding.bind_items fs n is))
+items_checked fs n [] = tt
+items_checked fs n (i ∷ is) = by_check (binding.bind_term fs i.place i.term) (term_checked fs i.place i.term) (items_checked fs (suc n) is)
+  where
+    by_check : (c : Checked binding.BoundTerm) → IfPassed c → AllSumNumbers (passing (binding.bind_items fs (suc n) is))
+        → AllSumNumbers (passing (meant.checked_map (λ (t : binding.BoundTerm). named_item i.place (binding.item_name n i.term i.name) t) c ∷ binding.bind_items fs (suc n) is))
+    by_check (passes t) h later = (h, later)
+    by_check (fails e es) h later = later
+
+-- the parts of a syntax tree can be planned over the leaves of its query
+pub parts_can_be_planned : (fs : Fields) (ls : List Leaf) (q : QuerySyntax) (p : BoundParts) → AreParts fs ls (binding.bind_parts fs q) p → ls ≡ query_leaves fs (query_of (binding.bind_parts fs q)) → length ls < 2 ^ 32
+    → CanBePlanned ls p
+parts_can_be_planned fs ls q p h l short = can_be_planned fs ls (binding.bind_parts fs q) p h l short (keys_real fs q.keys) (items_checked fs 0 q.items)
