@@ -6,5 +6,11 @@ pub mod FaultLemmas
 pub mod ExpressionLemmas
 -- the condition and what items give
 pub mod TermLemmas
+-- the paths that parts use
+pub mod PlanPathLemmas
+-- one more item of a plan
+pub mod PlanStepLemmas
+-- what parts select
+pub mod PlanSelectionLemmas
 -- the plan of parts
 pub mod PlanLemmas
