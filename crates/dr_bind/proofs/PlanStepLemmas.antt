@@ -72,10 +72,10 @@ pub grouped_more : (keys : List BoundPath) (xs : List BoundItem) (x : BoundItem)
     → (ags ≡ aggregates_of keys xs) × (is ≡ group_items_of keys 0 xs) → bs ≡ ags ++ with_aggregate o [] → js ≡ is ++ with_group_item (length ags) x.name o (λ _. [])
     → (bs ≡ aggregates_of keys (xs ++ x ∷ [])) × (js ≡ group_items_of keys 0 (xs ++ x ∷ []))
 grouped_more keys xs x ags bs is js o e h f g = (
-      f ∙ (ap₂ (λ (cs : List Aggregate) (q : Option Grouped). cs ++ with_aggregate q []) h.0 e ∙ sym (aggregates-push keys xs x)),
-      g ∙ (ap₂ (λ (ks : List GroupItem) (q : Option Grouped). ks ++ with_group_item (length ags) x.name q (λ _. [])) h.1 e
+  f ∙ (ap₂ (λ (cs : List Aggregate) (q : Option Grouped). cs ++ with_aggregate q []) h.0 e ∙ sym (aggregates-push keys xs x)),
+  g ∙ (ap₂ (λ (ks : List GroupItem) (q : Option Grouped). ks ++ with_group_item (length ags) x.name q (λ _. [])) h.1 e
       ∙ (ap (λ (m : ℕ). group_items_of keys 0 xs ++ last_item keys x m) number ∙ sym (group_items-push keys xs x 0))),
-    )
+)
   where
     number : length ags ≡ 0 + length (aggregates_of keys xs)
     number = ap length h.0 ∙ omega arith
@@ -95,11 +95,10 @@ numbers_more ls ps p ns n f h = λ z.
     let r : IsAmong ls p.leaf = u.1.0 in
     let k = h u.0 in
     let place : (slice_get ls n ≡ Some r.1) = ap (slice_get ls) (f r.0 r.2 r.3) ∙ r.4 in
-    let path : path_of (slice_get ls n) ≡ p.leaf.path = ap path_of place ∙ r.5 in
-    (
+    let path : path_of (slice_get ls n) ≡ p.leaf.path = ap path_of place ∙ r.5 in (
       map_push (λ (j : ℕ). path_of (slice_get ls j)) ns n ∙ (ap₂ (λ (qs : List (List MeantStep)) (q : List MeantStep). qs ++ q ∷ []) k.0 path ∙ sym (map_push (λ (q : meant.BoundPath). q.leaf.path) ps p)),
       list_all-append (λ (j : ℕ). nat_lt j (length ls)) ns (n ∷ [])
-      ∙ both (list_all (λ (j : ℕ). nat_lt j (length ls)) ns) (nat_lt n (length ls) && true) k.1 (both (nat_lt n (length ls)) true (lt-ltb n (length ls) (slice_get_within ls n r.1 place)) refl),
+          ∙ both (list_all (λ (j : ℕ). nat_lt j (length ls)) ns) (nat_lt n (length ls) && true) k.1 (both (nat_lt n (length ls)) true (lt-ltb n (length ls) (slice_get_within ls n r.1 place)) refl),
     )
 
 -- one more key

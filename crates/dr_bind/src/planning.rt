@@ -26,8 +26,8 @@ use dr_memory::NoMemory;
 use dr_nested::{Path, Step};
 use dr_objects::{Level, object_plan, same_path};
 use dr_plan::{
-    Aggregate, GroupItem, GroupTerm, ObjectPlan, Plan, RecordItem, RecordTerm, Selection, Truth, Within,
-    conjuncts,
+    Aggregate, GroupItem, GroupTerm, ObjectPlan, Plan, RecordItem, RecordTerm, Selection, Truth,
+    Within, conjuncts,
 };
 use std::alloc::Global;
 
@@ -92,10 +92,7 @@ fn push_paths<'p>(paths: &'p [BoundPath], used: &mut Vec<&'p [Step]>) -> Result<
 }
 
 /// Appends the paths of the items of a record query.
-fn push_record_paths<'p>(
-    items: &'p [BoundItem],
-    used: &mut Vec<&'p [Step]>,
-) -> Result<(), NoMemory>
+fn push_record_paths<'p>(items: &'p [BoundItem], used: &mut Vec<&'p [Step]>) -> Result<(), NoMemory>
     ensures { OnOk result (map lent_path (used.new).items ≡ map lent_path (used.old).items ++ plan.steps_at (plan.record_item_paths items.now)) }
 {
     'items: for item in items {
@@ -234,11 +231,7 @@ fn record_levels(alloc: Global, items: &[BoundItem]) -> Result<Vec<&[Step]>, NoM
 }
 
 /// The plan of the objects in which the items of a record query stand.
-fn objects_of(
-    alloc: Global,
-    levels: &[Level],
-    items: &[BoundItem],
-) -> Result<ObjectPlan, NoMemory>
+fn objects_of(alloc: Global, levels: &[Level], items: &[BoundItem]) -> Result<ObjectPlan, NoMemory>
     ensures { IfOk result (λ o. plan.AreObjects (levels_view levels.now) (plan.record_levels items.now) o) }
 {
     let own = record_levels(alloc, items)?;
@@ -305,10 +298,7 @@ fn group_term(keys: &[BoundPath], term: BoundTerm) -> Result<Option<Grouped>, No
             Some(_) => Ok(None),
         },
         BoundTerm::Aggregated(fold, argument, within) => match within {
-            None => Ok(Some(Grouped::Aggregate(Aggregate::Of(
-                fold,
-                argument.expression,
-            )))),
+            None => Ok(Some(Grouped::Aggregate(Aggregate::Of(fold, argument.expression)))),
             Some(_) => Ok(None),
         },
     }
