@@ -24,3 +24,5 @@ pub mod PlanStepLemmas
 pub mod PlanSelectionLemmas
 -- the plan of parts
 pub mod PlanLemmas
+-- all faults, and none
+pub mod BindLemmas
