@@ -16,5 +16,13 @@ pub mod ItemLemmas
 pub mod PartLemmas
 -- the rules above paths and operators
 pub mod RuleLemmas
+-- the paths that parts use
+pub mod PlanPathLemmas
+-- one more item of a plan
+pub mod PlanStepLemmas
+-- what parts select
+pub mod PlanSelectionLemmas
 -- the plan of parts
 pub mod PlanLemmas
+-- all faults, and none
+pub mod BindLemmas

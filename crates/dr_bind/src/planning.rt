@@ -1,6 +1,6 @@
 //! The plan of parts that are bound, and the paths whose values they use.
 
-ghost use Rattle.std.specs.Prelude.{◌≡◌, ◌++◌, ◌<◌, ◌^◌, [], true, IsTrue, List, map, length, IfOk, OnOk, option_map, false};
+ghost use Rattle.std.specs.Prelude.{◌≡◌, ◌++◌, [], true, List, map, length, IfOk, OnOk, option_map};
 ghost use Rattle.std.specs.List.{filter_map, list_all};
 ghost use Rattle.dr_meaning.specs.Schema.{Fields};
 ghost use Rattle.dr_meaning.specs.Path as path_meaning;

@@ -2,7 +2,7 @@ use Rattle.std.proofs.Common.{map, ap, ◌∙◌, List}
 use Rattle.dr_nested.specs.PathView.{path_view, step_view}
 use Rattle.dr_nested.specs.declared.path.Step.{Step}
 use Rattle.dr_used.specs.Numbers.{number_among}
-use Rattle.dr_bind.proofs.PlanLemmas.{key_more}
+use Rattle.dr_bind.proofs.PlanStepLemmas.{key_more}
 use Rattle.dr_bind.proofs.planning.key_leaves.Goals as goal
 
 pub keys-preserved : goal.keys-preserved

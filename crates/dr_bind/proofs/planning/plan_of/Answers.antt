@@ -6,7 +6,8 @@ use Rattle.dr_objects.specs.NamedLevels.{levels_view}
 use Rattle.dr_chains.specs.declared.bound.BoundPath.{BoundPath}
 use Rattle.dr_meaning.specs.Binding.{passing}
 use Rattle.dr_bind.specs.Planning.{Selects}
-use Rattle.dr_bind.proofs.PlanLemmas.{both_covered, condition_right, selection_right, plan_seen}
+use Rattle.dr_bind.proofs.PlanSelectionLemmas.{condition_right, selection_right}
+use Rattle.dr_bind.proofs.PlanLemmas.{both_covered, plan_seen}
 use Rattle.dr_bind.proofs.planning.plan_of.Goals as goal
 
 pub invariant_of-result : goal.invariant_of-result

@@ -1,5 +1,5 @@
 use Rattle.std.proofs.Common.{◌∙◌}
-use Rattle.dr_bind.proofs.PlanLemmas.{made_more, made_past}
+use Rattle.dr_bind.proofs.PlanStepLemmas.{made_more, made_past}
 use Rattle.dr_bind.proofs.planning.record_items.Goals as goal
 
 pub items-preserved-in-None-record_item : goal.items-preserved-in-None-record_item

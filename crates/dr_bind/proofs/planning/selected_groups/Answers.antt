@@ -1,4 +1,4 @@
-use Rattle.dr_bind.proofs.PlanLemmas.{grouped_more}
+use Rattle.dr_bind.proofs.PlanStepLemmas.{grouped_more}
 use Rattle.dr_bind.proofs.planning.selected_groups.Goals as goal
 
 pub items-preserved : goal.items-preserved

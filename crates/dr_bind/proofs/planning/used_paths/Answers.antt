@@ -5,7 +5,7 @@ use Rattle.dr_nested.specs.PathView.{lent_path}
 use Rattle.dr_nested.specs.declared.path.Step.{Step}
 use Rattle.dr_chains.specs.declared.bound.BoundPath.{BoundPath}
 use Rattle.dr_bind.specs.Planning.{condition_paths, selection_paths, steps_at}
-use Rattle.dr_bind.proofs.PlanLemmas.{steps-append, parts_used}
+use Rattle.dr_bind.proofs.PlanPathLemmas.{steps-append, parts_used}
 use Rattle.dr_bind.proofs.planning.used_paths.Goals as goal
 
 pub returns : goal.returns
