@@ -1,5 +1,5 @@
 -- Operators over operands that have been bound.
-use Rattle.std.proofs.Common.{◌≡◌, ◌<◌, ℕ, List, [], ◌∷◌, ◌++◌, map, Bool, true, false, ◌&&◌, Option, Some, None, refl, sym, ap, ap₂, ◌∙◌, subst}
+use Rattle.std.proofs.Common.{◌≡◌, ℕ, List, [], ◌∷◌, ◌++◌, map, false, ◌&&◌, Option, Some, None, refl, sym, ap, ap₂, ◌∙◌}
 use Rattle.std.specs.Prelude.{option_map, IfSome, Vec}
 use Rattle.std.specs.declared.alloc.Global.{Global}
 use Rattle.std.proofs.lemmas.List.{map-append}
@@ -14,9 +14,9 @@ use Rattle.dr_plan.specs.Fitting.{expr_fits}
 use Rattle.dr_plan.specs.declared.expression.Expr.{Expr}
 use Rattle.dr_bind.specs.Faults.{earlier}
 use Rattle.dr_bind.specs.Bound.{Came, Covers, AreReal, is_path_value, type_of, Means, IsExpression, MadeAt}
-use Rattle.dr_bind.specs.Operators.{unary_type, unary_of, binary_type, binary_of}
+use Rattle.dr_bind.specs.Operators.{unary_of, binary_of}
 use Rattle.dr_chains.specs.declared.bound.BoundPath.{BoundPath}
-use Rattle.dr_chains.specs.Views.{bound_path_view, paths_at}
+use Rattle.dr_chains.specs.Views.{bound_path_view}
 use Rattle.dr_bind.specs.declared.bound.BoundExpression.{BoundExpression}
 use Rattle.dr_bind.specs.declared.operators.Unary.{Unary}
 use Rattle.dr_bind.specs.declared.operators.Binary.{Binary}

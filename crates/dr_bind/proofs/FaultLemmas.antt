@@ -3,7 +3,7 @@ use Rattle.std.proofs.Common.{◌≡◌, ℕ, List, [], ◌∷◌, ◌++◌, Boo
 use Rattle.std.specs.Prelude.{◌==◌, ◌||◌, ◌&&◌, nat_lt, if◌then◌else◌}
 use Rattle.std.proofs.lemmas.Bool.Decides.{nat_tests}
 use Rattle.dr_meaning.specs.BoundExpression.{BindFault}
-use Rattle.dr_meaning.specs.Binding.{rank, is_before, first_of, first_fault}
+use Rattle.dr_meaning.specs.Binding.{rank, is_before, first_fault}
 use Rattle.dr_bind.specs.Faults.{earlier}
 
 abbrev before : ℕ → ℕ → ℕ → ℕ → Bool

@@ -1,10 +1,9 @@
 -- Paths that lead to leaves.
-use Rattle.std.proofs.Common.{◌≡◌, ◌≤◌, ℕ, List, [], ◌∷◌, ◌++◌, map, length, true, Option, Some, None, refl, sym, ap, ◌∙◌, subst}
-use Rattle.std.specs.Prelude.{option_map, Vec}
-use Rattle.std.specs.List.{slice_get}
+use Rattle.std.proofs.Common.{◌≡◌, ◌≤◌, ℕ, List, [], ◌∷◌, map, length, true, Option, Some, None, refl, sym, ap, ◌∙◌, subst}
+use Rattle.std.specs.Prelude.{option_map}
 use Rattle.dr_meaning.specs.Schema as tree
 use Rattle.dr_meaning.specs.Schema.{Fields}
-use Rattle.dr_meaning.specs.Path.{Leaf, Found, leaves, find_path}
+use Rattle.dr_meaning.specs.Path.{Leaf, leaves, find_path}
 use Rattle.dr_meaning.specs.Expression.{path_value}
 use Rattle.dr_meaning.specs.Syntax.{PathSyntax}
 use Rattle.dr_meaning.specs.BoundExpression as meant

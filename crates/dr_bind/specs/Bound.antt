@@ -1,9 +1,9 @@
 -- What comes of binding a part of a query, against what the definitions make of it.
-use Rattle.std.specs.Prelude.{◌≡◌, ◌<◌, ◌^◌, ℕ, suc, List, [], ◌∷◌, map, Bool, true, false, if◌then◌else◌, Option, Some, None, option_map, Vec}
+use Rattle.std.specs.Prelude.{◌≡◌, ◌<◌, ◌^◌, ℕ, List, [], ◌∷◌, map, Bool, true, false, Option, Some, None, Vec}
 use Rattle.std.specs.declared.alloc.Global.{Global}
 use Rattle.std.specs.List.{slice_get}
 use Rattle.dr_meaning.specs.Schema.{Fields}
-use Rattle.dr_meaning.specs.Path.{Step, Leaf, same_path, leaves}
+use Rattle.dr_meaning.specs.Path.{Leaf, leaves}
 use Rattle.dr_meaning.specs.Expression.{Expression, path_value, paths_of}
 use Rattle.dr_meaning.specs.BoundExpression as meant
 use Rattle.dr_meaning.specs.BoundExpression.{Checked, passes, fails, ValueType, truth_type, number_type, text_type}

@@ -5,7 +5,6 @@ use Rattle.dr_meaning.specs.Path.{Leaf}
 use Rattle.dr_meaning.specs.Expression.{paths_of}
 use Rattle.dr_meaning.specs.BoundExpression as meant
 use Rattle.dr_meaning.specs.Binding as binding
-use Rattle.dr_meaning.specs.Query as query
 use Rattle.dr_nested.specs.PathView.{step_view}
 use Rattle.dr_plan.specs.Views.{truth_view, fold_view}
 use Rattle.dr_plan.specs.Fitting.{truth_fits}

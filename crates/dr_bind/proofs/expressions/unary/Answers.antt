@@ -1,9 +1,9 @@
-use Rattle.std.proofs.Common.{ap, subst, None, Some, Option}
+use Rattle.std.proofs.Common.{subst, Option}
 use Rattle.dr_bind.specs.Faults.{first_view}
 use Rattle.dr_bind.specs.Bound.{Came, IsExpression}
 use Rattle.dr_bind.specs.Operators.{unary_type, unary_of}
 use Rattle.dr_bind.specs.declared.bound.BoundExpression.{BoundExpression}
-use Rattle.dr_bind.proofs.ExpressionLemmas.{no_operand, one_made, unary_keeps, unary_is_no_path}
+use Rattle.dr_bind.proofs.ExpressionLemmas.{no_operand}
 use Rattle.dr_bind.proofs.expressions.unary.Goals as goal
 
 pub returns-in-None : goal.returns-in-None

@@ -1,4 +1,4 @@
-use Rattle.std.proofs.Common.{sym, ap, ◌∙◌, subst, Option, Some}
+use Rattle.std.proofs.Common.{subst, Option}
 use Rattle.std.proofs.lemmas.Result.{IfOk-weaker}
 use Rattle.dr_meaning.specs.BoundExpression.{bind_path, bind_expression}
 use Rattle.dr_sql.specs.declared.expression.Expression.{Expression}

@@ -1,4 +1,4 @@
-use Rattle.std.proofs.Common.{sym, ap, ◌∙◌, map, Some}
+use Rattle.std.proofs.Common.{sym, ap, ◌∙◌, map}
 use Rattle.std.specs.Prelude.{option_map}
 use Rattle.dr_nested.specs.SchemaView.{schema_view}
 use Rattle.dr_bind.specs.Resolved.{lent, found_view, end_view}
