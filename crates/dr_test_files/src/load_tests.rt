@@ -35,7 +35,10 @@ fn load_lines(
     shelf: &mut Shelf,
 ) -> Result<Result<Loaded, LoadFault>, Fail> {
     let schema = parse_schema(alloc, SCHEMA.as_bytes()).or(Err("no schema"))?;
-    let leaves = vec![in alloc; String::from_str(alloc, "x")?, String::from_str(alloc, "y")?]?;
+    let leaves = vec![in alloc;
+        String::from_str(alloc, "x")?,
+        String::from_str(alloc, "y")?,
+    ]?;
     if leaves.len() != 2 {
         return Err("no leaves".into());
     }
