@@ -29,8 +29,7 @@ fn show_selection(alloc: Global, out: &mut String, selection: &Selection) -> Res
             let keys = keys.len();
             let aggregates = aggregates.len();
             let items = items.len();
-            let text =
-                format!(in alloc; "; {keys} keys, {aggregates} aggregates, {items} items")?;
+            let text = format!(in alloc; "; {keys} keys, {aggregates} aggregates, {items} items")?;
             out.push_str(text.as_str())?;
         }
     }
