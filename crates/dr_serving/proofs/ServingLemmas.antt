@@ -51,7 +51,7 @@ leaf_paths : (fs : Fields) (F : List Leaf) → list_all (λ (l : Leaf). is_leaf_
 leaf_paths fs [] h = refl
 leaf_paths fs (l ∷ F) h = let k = and_parts (is_leaf_path fs l.path) (list_all (λ (l : Leaf). is_leaf_path fs l.path) F) h in ap₂ (λ a b. a && b) k.0 (leaf_paths fs F k.1)
 
-same_projections : (bytes : List ℕ) (s : Schema) (F : List Leaf) (R S : List Node) → list_all (λ (l : Leaf). is_leaf_path s.fields l.path) F ≡ true → IsFileOf bytes s F R → IsFileOf bytes s F S
+pub same_projections : (bytes : List ℕ) (s : Schema) (F : List Leaf) (R S : List Node) → list_all (λ (l : Leaf). is_leaf_path s.fields l.path) F ≡ true → IsFileOf bytes s F R → IsFileOf bytes s F S
     → map (project (paths_of_leaves F)) R ≡ map (project (paths_of_leaves F)) S
 same_projections bytes s F R S l a b =
     let e : a.0 ≡ b.0 = same_footer a.0 b.0 (footer_of bytes) a.1 b.1 in

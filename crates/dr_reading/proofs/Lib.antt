@@ -1,0 +1,2 @@
+-- lemmas of the laws
+pub mod ReadingLemmas

@@ -1,0 +1,31 @@
+-- Laws of reading.
+use Rattle.std.specs.Prelude.{◌≡◌, ℕ, true, false, List, map, Option, Some}
+use Rattle.std.specs.List.{list_all}
+use Rattle.dr_meaning.specs.Schema.{Schema}
+use Rattle.dr_meaning.specs.Path.{Leaf, is_leaf_path}
+use Rattle.dr_meaning.specs.Record.{Node, project}
+use Rattle.dr_formats.specs.File.{IsFileOf}
+use Rattle.dr_outside.specs.Link.{Files, LinkShown}
+use Rattle.dr_outside.specs.declared.cause.Cause.{Cause}
+use Rattle.dr_serving.specs.Premises.{TellsFiles, paths_of_leaves}
+use Rattle.dr_serving.specs.ServingLaws.{is_read}
+use Rattle.dr_reading.specs.Scan.{Copy, Scan, joined}
+use Rattle.dr_reading.specs.Given.{AreGiven}
+use Rattle.dr_reading.specs.Left.{IsCauseAt}
+use Rattle.dr_reading.specs.Held.{TabletsHold, HoldsTable, SeesLeavesAlone}
+
+-- the records that are given have the projections of the tablets' records
+abbrev pub GivenAreProjected : Type 0
+GivenAreProjected = (s : Schema) (F : List Leaf) (files : Files) (held : Option Files) (ts : List (List Copy)) (Rs Ss : List (List Node))
+    → list_all (λ (l : Leaf). is_leaf_path s.fields l.path) F ≡ true → TellsFiles files held → TabletsHold s F files ts Rs → AreGiven s F held ts Ss
+    → map (project (paths_of_leaves F)) (joined Ss) ≡ map (project (paths_of_leaves F)) (joined Rs)
+
+-- what is printed of records that are given is what is to be printed of the tablets' records
+abbrev pub ReadTextIsMeant : Type 0
+ReadTextIsMeant = (s : Scan) (held : Option Files) (Rs Ss : List (List Node)) → list_all (λ (l : Leaf). is_leaf_path s.schema.fields l.path) s.leaves ≡ true
+    → SeesLeavesAlone s → HoldsTable s held Rs → AreGiven s.schema s.leaves held s.tablets Ss → s.text (joined Ss) ≡ s.text (joined Rs)
+
+-- a copy whose cause isn't a failed read holds no file of any records
+abbrev pub LeftHoldsNoFile : Type 0
+LeftHoldsNoFile = (s : Schema) (F : List Leaf) (link : LinkShown) (files : Files) (path bytes : List ℕ) (c : Cause) (R : List Node) → link.held ≡ Some files
+    → files path ≡ Some bytes → IsCauseAt s F link path c → is_read c ≡ false → IsFileOf bytes s F R → ⊥
