@@ -4,8 +4,13 @@ mod WorkedWords
 mod WordsLemmas
 -- where clap takes words, the values that have to be there are
 mod NeededLemmas
+mod LoadLemmas
 mod AskLemmas
+mod DumpLemmas
 mod StripeLemmas
 mod FsmLemmas
+mod ShowSchemaLemmas
+-- numbers that options have
+mod NumberLemmas
 -- clap's definitions of faults and of taken words agree
 mod AgreementLemmas

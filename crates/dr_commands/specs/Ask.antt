@@ -1,5 +1,5 @@
 -- `ask --schema F QUERY`: a query over the records of the input.
-use Rattle.std.specs.Prelude.{true, false, List, [], ◌∷◌, Option, map, codes, option_map, option_and_then, string_bytes}
+use Rattle.std.specs.Prelude.{true, false, List, [], ◌∷◌, Option, Some, map, codes, option_map, option_and_then, string_bytes}
 use Rattle.clap.specs.Words.{App, Row, Text, first_of, new_rule}
 use Rattle.dr_meaning.specs.Ask as meant
 use Rattle.dr_commands.specs.Meaning.{Meaning, plain}
@@ -25,4 +25,4 @@ ask_view a = record { schema = string_bytes a.schema; query = string_bytes a.que
 
 -- what it means
 abbrev pub ask_meaning : AskWords → Meaning
-ask_meaning w = record { file = w.schema; reads_input = true; reads_links = false; outcome = λ look. plain (meant.ask look.file w.query look.input) }
+ask_meaning w = record { file = Some w.schema; reads_input = true; puts_files = false; asks_link = false; outcome = λ look. plain (meant.ask look.file w.query look.input) }

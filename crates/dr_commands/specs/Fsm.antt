@@ -1,5 +1,5 @@
 -- `fsm --schema F FIELD..`: the automaton of leaves in schema order. It reads no input.
-use Rattle.std.specs.Prelude.{true, false, List, [], ◌∷◌, Option, map, codes, option_map, option_and_then, string_bytes}
+use Rattle.std.specs.Prelude.{true, false, List, [], ◌∷◌, Option, Some, map, codes, option_map, option_and_then, string_bytes}
 use Rattle.clap.specs.Words.{App, Row, Text, all_of, first_of, new_rule}
 use Rattle.dr_meaning.specs.Fsm as meant
 use Rattle.dr_commands.specs.Meaning.{Meaning, plain}
@@ -25,4 +25,4 @@ fsm_view f = record { schema = string_bytes f.schema; fields = map string_bytes 
 
 -- what it means
 abbrev pub fsm_meaning : FsmWords → Meaning
-fsm_meaning w = record { file = w.schema; reads_input = false; reads_links = false; outcome = λ look. plain (meant.fsm look.file w.fields) }
+fsm_meaning w = record { file = Some w.schema; reads_input = false; puts_files = false; asks_link = false; outcome = λ look. plain (meant.fsm look.file w.fields) }

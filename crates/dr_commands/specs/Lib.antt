@@ -1,11 +1,16 @@
 -- the parts of a command line's definition
 pub mod Rules
+pub mod Numbers
 -- what a command means
+pub mod Refusals
 pub mod Meaning
 -- each command: its values, its part of the command line, its meaning
+pub mod Load
 pub mod Ask
+pub mod Dump
 pub mod Stripe
 pub mod Fsm
+pub mod ShowSchema
 -- what the words of a command line ask for
 pub mod Commands
 pub mod CommandView

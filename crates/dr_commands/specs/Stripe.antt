@@ -1,5 +1,5 @@
 -- `stripe --schema F FIELD`: the column of a leaf over the records of the input.
-use Rattle.std.specs.Prelude.{true, false, List, [], ◌∷◌, Option, map, codes, option_map, option_and_then, string_bytes}
+use Rattle.std.specs.Prelude.{true, false, List, [], ◌∷◌, Option, Some, map, codes, option_map, option_and_then, string_bytes}
 use Rattle.clap.specs.Words.{App, Row, Text, first_of, new_rule}
 use Rattle.dr_meaning.specs.Stripe as meant
 use Rattle.dr_commands.specs.Meaning.{Meaning, plain}
@@ -25,4 +25,4 @@ stripe_view s = record { schema = string_bytes s.schema; field = string_bytes s.
 
 -- what it means
 abbrev pub stripe_meaning : StripeWords → Meaning
-stripe_meaning w = record { file = w.schema; reads_input = true; reads_links = false; outcome = λ look. plain (meant.stripe look.file w.field look.input) }
+stripe_meaning w = record { file = Some w.schema; reads_input = true; puts_files = false; asks_link = false; outcome = λ look. plain (meant.stripe look.file w.field look.input) }

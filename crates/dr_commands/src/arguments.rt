@@ -1,11 +1,13 @@
 //! Options and words of a command line, and their values.
 
-ghost use Rattle.std.specs.Prelude.{◌≡◌, IfOk, map, false, string_bytes};
+ghost use Rattle.std.specs.Prelude.{◌≡◌, ◌<◌, IfOk, map, false, string_bytes};
 ghost use Rattle.clap.specs.Words.{all_of, first_of, found_of, new_rule, rows_of, rule_of};
 ghost use Rattle.dr_commands.specs.Rules as meant;
 ghost use Rattle.dr_commands.specs.Rules.{Answers};
+ghost use Rattle.dr_commands.specs.Numbers.{number_rule, number_in};
 
 use crate::words_fault::WordsFault;
+use clap::builder::ValueParser;
 use clap::{Arg, ArgMatches};
 use std::alloc::{AllocError, Global};
 
@@ -31,6 +33,51 @@ pub fn needed_words<'a>(alloc: Global, name: &'a str) -> Arg<'a>
     ensures local { result.global ≡ false }
 {
     Arg::new(alloc, name).required(true).num_args(1..)
+}
+
+/// One word or more that have to be given, up to so many.
+pub fn needed_words_up_to<'a>(alloc: Global, name: &'a str, most: usize) -> Arg<'a>
+    requires { 0 < most }
+    ensures rule { rule_of result ≡ meant.up_to most (meant.needed (new_rule name.entry.now)) }
+    ensures local { result.global ≡ false }
+{
+    Arg::new(alloc, name).required(true).num_args(1..=most)
+}
+
+/// An option `--NAME NUMBER`, at most once, whose number lies between these bounds.
+pub fn number_option<'a>(alloc: Global, name: &'a str, low: u32, high: u32) -> Arg<'a>
+    ensures rule { rule_of result ≡ number_rule name.entry.now low high }
+    ensures local { result.global ≡ false }
+{
+    Arg::new(alloc, name)
+        .long(name)
+        .value_parser(ValueParser::unsigned(u64::from(low), u64::from(high)))
+}
+
+/// The number that a text writes between these bounds, or the other.
+fn number_or(text: &str, low: u32, high: u32, other: u32) -> u32
+    ensures { result ≡ number_in low high other (Some text.now) }
+{
+    match text.parse::<u32>() {
+        Ok(number) if low <= number && number <= high => number,
+        _ => other,
+    }
+}
+
+/// The number of an option between these bounds, or the other where it isn't given. clap takes no number out of the bounds.
+pub fn number_of(
+    matches: &ArgMatches<'_>,
+    name: &str,
+    low: u32,
+    high: u32,
+    other: u32,
+) -> u32
+    ensures { result ≡ number_in low high other (first_of name.now (rows_of (found_of matches.now))) }
+{
+    match matches.get_str(name) {
+        Some(text) => number_or(text, low, high, other),
+        None => other,
+    }
 }
 
 /// The first value of an option or word.

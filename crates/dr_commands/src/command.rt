@@ -7,7 +7,10 @@ ghost use Rattle.dr_commands.specs.Commands as meant;
 ghost use Rattle.dr_commands.specs.CommandView.{command_view};
 
 use crate::ask::{Ask, ask_command, ask_of};
+use crate::dump::{Dump, dump_command, dump_of};
 use crate::fsm::{Fsm, fsm_command, fsm_of};
+use crate::load::{Load, load_command, load_of};
+use crate::show_schema::{ShowSchema, show_schema_command, show_schema_of};
 use crate::stripe::{Stripe, stripe_command, stripe_of};
 use crate::words_fault::WordsFault;
 use clap::ArgMatches;
@@ -16,9 +19,12 @@ use std::alloc::{AllocError, Global};
 /// What a command line asks for.
 #[derive(PartialEq, Eq, Debug, Drop)]
 pub enum Command {
+    Load(Load),
     Ask(Ask),
+    Dump(Dump),
     Stripe(Stripe),
     Fsm(Fsm),
+    ShowSchema(ShowSchema),
 }
 
 /// The whole command. No word asks for help: those that would are refused as unknown.
@@ -29,9 +35,12 @@ pub fn dremel_command<'a>(alloc: Global) -> Result<clap::Command<'a>, AllocError
         .disable_help_flag(true)
         .disable_help_subcommand(true)
         .subcommand_required(true)
+        .subcommand(load_command(alloc)?)?
         .subcommand(ask_command(alloc)?)?
+        .subcommand(dump_command(alloc)?)?
         .subcommand(stripe_command(alloc)?)?
-        .subcommand(fsm_command(alloc)?)
+        .subcommand(fsm_command(alloc)?)?
+        .subcommand(show_schema_command(alloc)?)
 }
 
 /// The subcommand that clap met, with its values.
@@ -39,9 +48,12 @@ pub fn command_of(alloc: Global, matches: &ArgMatches<'_>) -> Result<Command, Wo
     ensures { Answers command_view (meant.words_in (subcommand_rows_of matches.now)) result }
 {
     match matches.subcommand() {
+        Some(("load", values)) => Ok(Command::Load(load_of(alloc, values)?)),
         Some(("ask", values)) => Ok(Command::Ask(ask_of(alloc, values)?)),
+        Some(("dump", values)) => Ok(Command::Dump(dump_of(alloc, values)?)),
         Some(("stripe", values)) => Ok(Command::Stripe(stripe_of(alloc, values)?)),
         Some(("fsm", values)) => Ok(Command::Fsm(fsm_of(alloc, values)?)),
+        Some(("schema", values)) => Ok(Command::ShowSchema(show_schema_of(alloc, values)?)),
         _ => Err(WordsFault::Usage),
     }
 }

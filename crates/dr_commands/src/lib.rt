@@ -4,16 +4,25 @@
 mod arguments;
 mod ask;
 mod command;
+mod dump;
 mod fsm;
 mod limits;
+mod load;
 mod read;
+mod show_schema;
 mod stripe;
 mod words_fault;
 
 pub use ask::Ask;
 pub use command::Command;
+pub use dump::Dump;
 pub use fsm::Fsm;
-pub use limits::{MOST_RECORDS, MOST_STRIPED, command_limits_are_as_defined};
+pub use limits::{
+    DEFAULT_ROWS, MOST_COPIES, MOST_DIRECTORIES, MOST_RECORDS, MOST_ROWS, MOST_STRIPED,
+    command_limits_are_as_defined,
+};
+pub use load::Load;
 pub use read::{USAGE, read_words, taken_words_ask};
+pub use show_schema::ShowSchema;
 pub use stripe::Stripe;
 pub use words_fault::WordsFault;

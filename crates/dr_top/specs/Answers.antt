@@ -1,24 +1,49 @@
 -- What the words of a command line are answered with.
-use Rattle.std.specs.Prelude.{◌≡◌, false, Option, Some, None}
+use Rattle.std.specs.Prelude.{◌≡◌, false, true, List, ℕ, Option, Some, None}
 use Rattle.dr_outside.specs.Source.{SourceShown}
 use Rattle.dr_outside.specs.Link.{LinkShown}
-use Rattle.dr_commands.specs.Meaning.{Meaning}
+use Rattle.dr_load.specs.Puts.{HasPut}
+use Rattle.dr_commands.specs.Meaning.{Meaning, Outcome, puts_in}
+use Rattle.dr_top.specs.World.{WithOutcome}
+use Rattle.dr_top.specs.Reading.{HasText, SameOthers}
 use Rattle.dr_top.specs.Stops.{StopsWith, AsksForFile}
 use Rattle.dr_top.specs.declared.stop.Stop.{Stop}
 
--- what words of this meaning are stopped by; those that mean nothing leave all as it was
-abbrev pub StopsMeant : Option Meaning → LinkShown → LinkShown → SourceShown → SourceShown → Stop → Type 0
-StopsMeant (Some m) keeper keeper_now input input_now stop = StopsWith m keeper keeper_now input input_now stop
-StopsMeant None keeper keeper_now input input_now Stop.Usage = (keeper_now ≡ keeper) × (input_now ≡ input)
-StopsMeant None keeper keeper_now input input_now Stop.NoMemory = (keeper_now ≡ keeper) × (input_now ≡ input)
-StopsMeant None keeper keeper_now input input_now stop = ⊥
+-- an outcome has this text, and its files are put
+abbrev pub Gives : LinkShown → LinkShown → List LinkShown → List ℕ → Outcome → Type 0
+Gives keeper keeper_now links text o = HasText o links text × HasPut (puts_in o) keeper.held keeper_now.held
 
--- the keeper is asked for the file that a meaning names, or for nothing
+-- what a command of this meaning gives
+abbrev pub Finishes : Meaning → LinkShown → LinkShown → SourceShown → List LinkShown → List ℕ → Type 0
+Finishes m keeper keeper_now input links text = WithOutcome m keeper input (Gives keeper keeper_now links text)
+
+-- what words of this meaning are stopped by; those that mean nothing leave all as it was
+abbrev pub StopsMeant : Option Meaning → LinkShown → LinkShown → SourceShown → SourceShown → List LinkShown → List LinkShown → Stop → Type 0
+StopsMeant (Some m) keeper keeper_now input input_now links links_now stop = StopsWith m keeper keeper_now input input_now links links_now stop
+StopsMeant None keeper keeper_now input input_now links links_now Stop.Usage = (keeper_now ≡ keeper) × (input_now ≡ input) × (links_now ≡ links)
+StopsMeant None keeper keeper_now input input_now links links_now Stop.NoMemory = (keeper_now ≡ keeper) × (input_now ≡ input) × (links_now ≡ links)
+StopsMeant None keeper keeper_now input input_now links links_now stop = ⊥
+
+-- the keeper is asked for the file that a meaning names, if any, and for nothing else
+abbrev pub AsksFor : Option (List ℕ) → LinkShown → LinkShown → Type 0
+AsksFor None keeper keeper_now = keeper_now.asked ≡ keeper.asked
+AsksFor (Some path) keeper keeper_now = AsksForFile path keeper keeper_now
+
 abbrev pub AsksMeant : Option Meaning → LinkShown → LinkShown → Type 0
-AsksMeant (Some m) keeper keeper_now = AsksForFile m.file keeper keeper_now
+AsksMeant (Some m) keeper keeper_now = AsksFor m.file keeper keeper_now
 AsksMeant None keeper keeper_now = keeper_now ≡ keeper
 
 -- an input that isn't read stays
 abbrev pub LeavesUnread : Option Meaning → SourceShown → SourceShown → Type 0
 LeavesUnread (Some m) input input_now = m.reads_input ≡ false → input_now ≡ input
 LeavesUnread None input input_now = input_now ≡ input
+
+-- a keeper to which nothing is put holds what it held
+abbrev pub LeavesUnput : Option Meaning → LinkShown → LinkShown → Type 0
+LeavesUnput (Some m) keeper keeper_now = m.puts_files ≡ false → keeper_now.held ≡ keeper.held
+LeavesUnput None keeper keeper_now = keeper_now ≡ keeper
+
+-- links that aren't asked stay; of those of which the first is asked, it holds what it held, and the others stay
+abbrev pub LeavesUnasked : Option Meaning → List LinkShown → List LinkShown → Type 0
+LeavesUnasked (Some m) links links_now = (m.asks_link ≡ false → links_now ≡ links) × SameOthers links links_now
+LeavesUnasked None links links_now = links_now ≡ links

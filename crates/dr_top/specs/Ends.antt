@@ -1,13 +1,18 @@
 -- How a run ends, in the world before and after it. What isn't said to change stays as it was.
-use Rattle.std.specs.Prelude.{◌≡◌, ℕ, Bool, true, false, List, [], ◌∷◌, codes, bytes_eq, ◌⊎◌, if◌then◌else◌, Option, Some, None, ⊤}
-use Rattle.dr_meaning.specs.Refusals.{CommandRefusal}
+use Rattle.std.specs.Prelude.{◌≡◌, ℕ, true, List, [], codes, ◌⊎◌, Option, Some, None}
+use Rattle.dr_formats.specs.Loading.{Put}
+use Rattle.dr_formats.specs.Reports.{left_file_text}
 use Rattle.dr_outside.specs.Faults.{raised}
 use Rattle.dr_outside.specs.Sink.{SinkShown, AddedWhole, AddedFront}
-use Rattle.dr_outside.specs.Link.{Files}
-use Rattle.dr_commands.specs.Meaning.{Meaning, Put, Outcome, done, refused, refusal_text, IsEarly}
-use Rattle.dr_top.specs.World.{World, HasOutcome, IsOpened}
-use Rattle.dr_top.specs.Stops.{IsReadBy}
-use Rattle.dr_top.specs.Answers.{LeavesUnread, AsksMeant}
+use Rattle.dr_outside.specs.declared.cause.Cause.{Cause}
+use Rattle.dr_reading.specs.Left.{LeftTablet}
+use Rattle.dr_reading.specs.LeftText.{told_cause, left_text}
+use Rattle.dr_commands.specs.Refusals.{Refusal, refusal_text}
+use Rattle.dr_commands.specs.Meaning.{Meaning, refused, IsEarly}
+use Rattle.dr_top.specs.World.{World, WithOutcome, IsOpened}
+use Rattle.dr_top.specs.Reading.{IsLeftWith, IsFileLeft}
+use Rattle.dr_top.specs.Stops.{IsReadBy, IsRefusedSo, PutsSome, PutsBreak}
+use Rattle.dr_top.specs.Answers.{Finishes, AsksMeant, LeavesUnread, LeavesUnput, LeavesUnasked}
 
 -- ---- words of the clauses
 
@@ -25,18 +30,6 @@ ForMeant (Some m) P = P m
 abbrev pub Says : SinkShown → SinkShown → List ℕ → Type 0
 Says before after text =
     (AddedWhole before after text × (after.faults ≡ before.faults)) ⊎ (AddedFront before after text × (after.faults ≡ raised before.faults))
-
--- files with these put, one after the other
-abbrev pub with_puts : Files → List Put → Files
-with_puts fs [] = fs
-with_puts fs (p ∷ ps) = with_puts (λ path. if bytes_eq path p.path then Some p.bytes else fs path) ps
-
--- the keeper holds what it held, and these files; where there are some, nothing is said of a keeper that doesn't tell
-abbrev pub HasPut : Option Files → Option Files → List Put → Type 0
-HasPut before after [] = after ≡ before
-HasPut None after (p ∷ ps) = ⊤
-HasPut (Some fs) None (p ∷ ps) = ⊥
-HasPut (Some fs) (Some gs) (p ∷ ps) = (path : List ℕ) → gs path ≡ with_puts fs (p ∷ ps) path
 
 -- a count rose by one, or stands at its last value
 abbrev pub HasRisen : ℕ → ℕ → Type 0
@@ -58,10 +51,8 @@ pub record IsCalm (before after : World) : Type 0 where
 
 -- 0: the whole text was written, the input read to its end or left alone, and the files put; nothing was said
 abbrev pub Prints : Meaning → World → World → Type 0
-Prints m before after = (text : List ℕ) × (puts : List Put)
-    × HasOutcome m before.keeper before.input before.links (done text puts)
-    × AddedWhole before.out after.out text
-    × HasPut before.keeper.held after.keeper.held puts
+Prints m before after = (text : List ℕ) × AddedWhole before.out after.out text
+    × Finishes m before.keeper after.keeper before.input before.links text
     × IsReadBy m.reads_input before.input after.input
     × (after.err ≡ before.err)
 
@@ -69,71 +60,88 @@ Prints m before after = (text : List ℕ) × (puts : List Put)
 abbrev pub IsUsage : Option Meaning → World → World → Type 0
 IsUsage meant before after = (meant ≡ None)
     × Says before.err after.err (codes "usage: dremel load|query|ask|dump|stripe|fsm|schema|explain|gen|trial ..\n")
-    × (after.input ≡ before.input) × (after.out ≡ before.out) × (after.keeper ≡ before.keeper)
+    × (after.input ≡ before.input) × (after.out ≡ before.out) × (after.keeper ≡ before.keeper) × (after.links ≡ before.links)
 
--- 2: the first refusal, which err names; out stays, and so does the input where it isn't one of its lines that is refused
+-- 2: the first refusal, which err names; out and the links stay, and so does the input where it isn't one of its lines that is refused
 abbrev pub IsRefused : Meaning → World → World → Type 0
-IsRefused m before after = (r : CommandRefusal) × (puts : List Put)
-    × HasOutcome m before.keeper before.input before.links (refused r puts)
-    × Says before.err after.err (refusal_text r)
-    × HasPut before.keeper.held after.keeper.held puts
-    × (after.out ≡ before.out)
+IsRefused m before after = (r : Refusal) × Says before.err after.err (refusal_text r)
+    × WithOutcome m before.keeper before.input (IsRefusedSo r before.keeper.held after.keeper.held)
+    × (after.out ≡ before.out) × (after.links ≡ before.links)
     × (IsEarly r → after.input ≡ before.input)
 
--- 4, the input: nothing before it is refused
+-- 3, tablets: just these are left, each with a cause for each of its copies, which err tells; all else stays
+abbrev pub TabletsLeft : Meaning → World → World → Type 0
+TabletsLeft m before after = (left : List LeftTablet) × Says before.err after.err (left_text left)
+    × WithOutcome m before.keeper before.input (λ o. IsLeftWith o before.links after.links left)
+    × (after.out ≡ before.out) × (after.input ≡ before.input) × (after.keeper.held ≡ before.keeper.held)
+
+-- 3, a file: its cause, which err tells; all else stays
+abbrev pub FileLeft : Meaning → World → World → Type 0
+FileLeft m before after = (c : Cause) × Says before.err after.err (left_file_text (told_cause c))
+    × WithOutcome m before.keeper before.input (λ o. IsFileLeft o before.links after.links c)
+    × (after.out ≡ before.out) × (after.input ≡ before.input) × (after.keeper.held ≡ before.keeper.held)
+
+abbrev pub IsLeft : Meaning → World → World → Type 0
+IsLeft m before after = TabletsLeft m before after ⊎ FileLeft m before after
+
+-- 4, the input: nothing before it is refused, and of the files that are to be put those from the front on were put
 abbrev pub SourceFailed : Meaning → World → World → Type 0
 SourceFailed m before after = Says before.err after.err (codes "outside: source\n")
     × HasRisen before.input.faults after.input.faults
-    × IsOpened m before.keeper
-    × (after.keeper.faults ≡ before.keeper.faults) × (after.keeper.held ≡ before.keeper.held) × (after.out ≡ before.out)
+    × IsOpened m before.keeper × PutsSome m before.keeper after.keeper before.input
+    × (after.keeper.faults ≡ before.keeper.faults) × (after.out ≡ before.out) × (after.links ≡ before.links)
 
--- 4, the keeper: the input stays
-abbrev pub KeeperFailed : World → World → Type 0
-KeeperFailed before after = Says before.err after.err (codes "outside: keeper\n")
+-- 4, the keeper: it failed as the file was read, and the input and what it holds stay, or at one of the files that are to be put
+abbrev pub KeeperFailed : Meaning → World → World → Type 0
+KeeperFailed m before after = Says before.err after.err (codes "outside: keeper\n")
     × HasRisen before.keeper.faults after.keeper.faults
-    × (after.input ≡ before.input) × (after.keeper.held ≡ before.keeper.held) × (after.out ≡ before.out)
+    × (((after.input ≡ before.input) × (after.keeper.held ≡ before.keeper.held)) ⊎ PutsBreak m before.keeper after.keeper before.input)
+    × (after.input.faults ≡ before.input.faults) × (after.out ≡ before.out) × (after.links ≡ before.links)
 
 -- 4, out: it holds a front of the text, and no more was asked of it than it took to find that
 abbrev pub OutFailed : Meaning → World → World → Type 0
-OutFailed m before after = (text : List ℕ) × (puts : List Put)
-    × HasOutcome m before.keeper before.input before.links (done text puts)
-    × Says before.err after.err (codes "outside: out\n")
+OutFailed m before after = (text : List ℕ) × Says before.err after.err (codes "outside: out\n")
+    × Finishes m before.keeper after.keeper before.input before.links text
     × HasRisen before.out.faults after.out.faults
     × AddedFront before.out after.out text
-    × HasPut before.keeper.held after.keeper.held puts
     × IsReadBy m.reads_input before.input after.input
     × (after.keeper.faults ≡ before.keeper.faults) × (after.input.faults ≡ before.input.faults)
 
 abbrev pub IsOutside : Meaning → World → World → Type 0
-IsOutside m before after = SourceFailed m before after ⊎ (KeeperFailed before after ⊎ OutFailed m before after)
+IsOutside m before after = SourceFailed m before after ⊎ (KeeperFailed m before after ⊎ OutFailed m before after)
 
--- 5: want of memory; nothing was printed or put
-abbrev pub IsMemory : World → World → Type 0
-IsMemory before after = Says before.err after.err (codes "no memory\n") × (after.out ≡ before.out) × (after.keeper.held ≡ before.keeper.held)
+-- the files that words of this meaning put, where memory ran out: some from the front on, or one that may be broken off
+abbrev pub PutsMeant : Option Meaning → World → World → Type 0
+PutsMeant None before after = after.keeper ≡ before.keeper
+PutsMeant (Some m) before after = PutsSome m before.keeper after.keeper before.input ⊎ PutsBreak m before.keeper after.keeper before.input
+
+-- 5: want of memory; nothing was printed
+abbrev pub IsMemory : Option Meaning → World → World → Type 0
+IsMemory meant before after = Says before.err after.err (codes "no memory\n") × (after.out ≡ before.out) × PutsMeant meant before after
 
 -- ---- at every status
 
--- nothing that the command looks at is refused: its schema, its FIELDs or its query, the input's lines
+-- nothing that the command looks at is refused: its schema or table, its FIELDs, its directories, its query, the input's lines
 abbrev pub IsAccepted : World → Meaning → Type 0
-IsAccepted before m = (r : CommandRefusal) (puts : List Put) → HasOutcome m before.keeper before.input before.links (refused r puts) → ⊥
+IsAccepted before m = (r : Refusal) → WithOutcome m before.keeper before.input (λ o. (puts : List Put) × (o ≡ refused r puts)) → ⊥
 
 -- an input that isn't read stays
 abbrev pub LeavesInput : Option Meaning → World → World → Type 0
 LeavesInput meant before after = LeavesUnread meant before.input after.input
 
+-- a keeper to which nothing is put holds what it held
+abbrev pub LeavesFiles : Option Meaning → World → World → Type 0
+LeavesFiles meant before after = LeavesUnput meant before.keeper after.keeper
+
 -- the keeper is asked for the length of the file that the words name, then for its bytes, each at most once, and for nothing else
 abbrev pub AsksKeeper : Option Meaning → World → World → Type 0
 AsksKeeper meant before after = AsksMeant meant before.keeper after.keeper
 
--- whether the links are read
-abbrev pub ReadsNoLink : Option Meaning → Type 0
-ReadsNoLink None = ⊤
-ReadsNoLink (Some m) = m.reads_links ≡ false
-
--- links that aren't read stay, and are asked for nothing
+-- links that aren't asked stay; no command asks another than the first, which holds what it held
 abbrev pub LeavesLinks : Option Meaning → World → World → Type 0
-LeavesLinks meant before after = ReadsNoLink meant → after.links ≡ before.links
+LeavesLinks meant before after = LeavesUnasked meant before.links after.links
 
--- where the words mean something of which nothing is refused, and no count rises, the status is 0 or 5
+-- where the words mean something of which nothing is refused, and no count rises, the status is 0 or 5, or 3 where the first link is asked
 abbrev pub IsComplete : Option Meaning → ℕ → World → World → Type 0
-IsComplete meant status before after = ForMeant meant (IsAccepted before) → IsCalm before after → (status ≡ 0) ⊎ (status ≡ 5)
+IsComplete meant status before after = ForMeant meant (IsAccepted before) → IsCalm before after
+    → (status ≡ 0) ⊎ ((status ≡ 5) ⊎ ((status ≡ 3) × ForMeant meant (λ m. m.asks_link ≡ true)))

@@ -1,19 +1,28 @@
 -- What stops a command, and what each stop says of the keeper and of the input.
-use Rattle.std.specs.Prelude.{◌≡◌, ℕ, Bool, true, false, List, [], ◌∷◌, ◌++◌, Option, Some, None, option_map, Result, Ok, Err, ⊤}
+use Rattle.std.specs.Prelude.{◌≡◌, ℕ, Bool, true, false, List, [], ◌∷◌, ◌++◌, Option, Some, None, option_map, Result, Ok, Err, ⊤, ◌⊎◌}
 use Rattle.dr_meaning.specs.Schema.{Fields, Schema}
 use Rattle.dr_meaning.specs.SchemaText.{SchemaFault, parse_schema}
 use Rattle.dr_meaning.specs.Path.{Leaf, PathFault}
 use Rattle.dr_meaning.specs.Lines as line
-use Rattle.dr_meaning.specs.Refusals.{CommandRefusal, schema_refused, field_refused, query_refused, line_refused}
+use Rattle.dr_meaning.specs.Refusals as plain
+use Rattle.dr_formats.specs.Loading.{Put}
+use Rattle.dr_formats.specs.Loading as words
+use Rattle.dr_formats.specs.TableFile.{Table, TableFault, parse_table}
+use Rattle.dr_table.specs.Faults.{table_problem_view}
+use Rattle.dr_load.specs.Puts.{HasPut, HasPutSome, BreaksOff}
 use Rattle.dr_nested.specs.Faults.{problem_view, path_problem_view}
 use Rattle.dr_json.specs.Faults.{record_problem_view}
 use Rattle.dr_outside.specs.Faults.{raised}
 use Rattle.dr_outside.specs.Source.{SourceShown}
 use Rattle.dr_outside.specs.Link.{Files, LinkShown, Request, size_of, bytes_of}
-use Rattle.dr_commands.specs.Meaning.{Meaning, refused, IsEarly}
+use Rattle.dr_commands.specs.Refusals.{Refusal as Refused, schema_refused, table_refused, field_refused, words_refused, query_refused, line_refused}
+use Rattle.dr_commands.specs.Meaning.{Meaning, Outcome, refused, puts_in, IsEarly}
 use Rattle.dr_commands.specs.declared.words_fault.WordsFault.{WordsFault}
-use Rattle.dr_top.specs.World.{WhereTold, EndsAlone, IsOpened}
+use Rattle.dr_top.specs.World.{WhereTold, WithOutcome, ForOutcome, HasOutcome, IsOpened}
+use Rattle.dr_top.specs.Reading.{IsLeftWith, IsFileLeft}
+use Rattle.dr_tablets.specs.Views.{all_left_view}
 use Rattle.dr_top.specs.declared.refusal.LineProblem.{LineProblem}
+use Rattle.dr_top.specs.declared.refusal.WordsProblem.{WordsProblem}
 use Rattle.dr_top.specs.declared.refusal.Refusal.{Refusal}
 use Rattle.dr_top.specs.declared.schema_file.SchemaFileFault.{SchemaFileFault}
 use Rattle.dr_top.specs.declared.field.FieldFault.{FieldFault}
@@ -27,9 +36,15 @@ line_problem_view LineProblem.TooLong = line.line_too_long
 line_problem_view LineProblem.TooManyRecords = line.too_many_records
 line_problem_view (LineProblem.Record w) = line.no_record (record_problem_view w)
 
-abbrev pub refusal_view : Refusal → CommandRefusal
+abbrev pub words_problem_view : WordsProblem → words.WordsRefusal
+words_problem_view (WordsProblem.Leaf n) = words.leaf_refused n
+words_problem_view WordsProblem.Copies = words.copies_refused
+
+abbrev pub refusal_view : Refusal → Refused
 refusal_view (Refusal.Schema p w) = schema_refused (record { place = p; problem = problem_view w })
 refusal_view (Refusal.Field n w) = field_refused n (path_problem_view w)
+refusal_view (Refusal.Table w) = table_refused (table_problem_view w)
+refusal_view (Refusal.Words w) = words_refused (words_problem_view w)
 refusal_view Refusal.Query = query_refused
 refusal_view (Refusal.Line n w) = line_refused (record { line = n; fault = line_problem_view w })
 
@@ -66,9 +81,9 @@ SchemaFileStops path before now (SchemaFileFault.Refused p w) =
 -- ---- a FIELD
 
 -- the leaf that a FIELD of this number names, or why it is refused; want of memory may come in place of either
-abbrev pub FieldStops : {A : Type 0} → Result A CommandRefusal → FieldFault → Type 0
+abbrev pub FieldStops : {A : Type 0} → Result A plain.CommandRefusal → FieldFault → Type 0
 FieldStops meant FieldFault.NoMemory = ⊤
-FieldStops meant (FieldFault.Refused n w) = meant ≡ Err (field_refused n (path_problem_view w))
+FieldStops meant (FieldFault.Refused n w) = meant ≡ Err (plain.field_refused n (path_problem_view w))
 
 -- ---- the records of the input
 
@@ -85,15 +100,49 @@ InputStops fs most before now (InputFault.Refused n w) =
 
 -- ---- a command
 
--- what a command of this meaning is stopped by, with what it leaves of the keeper and of the input
-abbrev pub StopsWith : Meaning → LinkShown → LinkShown → SourceShown → SourceShown → Stop → Type 0
-StopsWith m keeper keeper_now input input_now Stop.Usage = ⊥
-StopsWith m keeper keeper_now input input_now Stop.NoMemory = (keeper_now.faults ≡ keeper.faults) × (input_now.faults ≡ input.faults)
-StopsWith m keeper keeper_now input input_now Stop.Keeper = (keeper_now.faults ≡ raised keeper.faults) × (input_now ≡ input)
-StopsWith m keeper keeper_now input input_now Stop.Source = (input_now.faults ≡ raised input.faults) × (keeper_now.faults ≡ keeper.faults) × IsOpened m keeper
-StopsWith m keeper keeper_now input input_now (Stop.Refused r) =
-    (keeper_now.faults ≡ keeper.faults) × (input_now.faults ≡ input.faults) × EndsAlone m keeper input (refused (refusal_view r) [])
+-- what a command that puts nothing and asks no link is stopped by, with what it leaves of the keeper and of the input
+abbrev pub StopsPlain : Meaning → LinkShown → LinkShown → SourceShown → SourceShown → Stop → Type 0
+StopsPlain m keeper keeper_now input input_now Stop.Usage = ⊥
+StopsPlain m keeper keeper_now input input_now Stop.NoMemory = (keeper_now.faults ≡ keeper.faults) × (input_now.faults ≡ input.faults)
+StopsPlain m keeper keeper_now input input_now Stop.Keeper = (keeper_now.faults ≡ raised keeper.faults) × (input_now ≡ input)
+StopsPlain m keeper keeper_now input input_now Stop.Source = (input_now.faults ≡ raised input.faults) × (keeper_now.faults ≡ keeper.faults) × IsOpened m keeper
+StopsPlain m keeper keeper_now input input_now (Stop.Refused r) =
+    (keeper_now.faults ≡ keeper.faults) × (input_now.faults ≡ input.faults) × HasOutcome m keeper input (refused (refusal_view r) [])
     × (IsEarly (refusal_view r) → input_now ≡ input)
+StopsPlain m keeper keeper_now input input_now (Stop.Left left) = ⊥
+StopsPlain m keeper keeper_now input input_now (Stop.LeftFile cause) = ⊥
+
+-- a front of its puts was done, and no other
+abbrev pub PutsSome : Meaning → LinkShown → LinkShown → SourceShown → Type 0
+PutsSome m keeper keeper_now input = ForOutcome m keeper input (λ o. HasPutSome (puts_in o) keeper.held keeper_now.held)
+
+-- one of its puts failed
+abbrev pub PutsBreak : Meaning → LinkShown → LinkShown → SourceShown → Type 0
+PutsBreak m keeper keeper_now input = ForOutcome m keeper input (λ o. BreaksOff (puts_in o) keeper.held keeper_now.held)
+
+-- its first refusal, before which it has put these files
+abbrev pub IsRefusedSo : Refused → Option Files → Option Files → Outcome → Type 0
+IsRefusedSo r held now o = (puts : List Put) × (o ≡ refused r puts) × HasPut puts held now
+
+-- what a command is stopped by, with what it leaves of the keeper, of the input and of the links
+abbrev pub StopsWith : Meaning → LinkShown → LinkShown → SourceShown → SourceShown → List LinkShown → List LinkShown → Stop → Type 0
+StopsWith m keeper keeper_now input input_now links links_now Stop.Usage = ⊥
+StopsWith m keeper keeper_now input input_now links links_now Stop.NoMemory =
+    (keeper_now.faults ≡ keeper.faults) × (input_now.faults ≡ input.faults) × (PutsSome m keeper keeper_now input ⊎ PutsBreak m keeper keeper_now input)
+StopsWith m keeper keeper_now input input_now links links_now Stop.Keeper =
+    (keeper_now.faults ≡ raised keeper.faults) × (input_now.faults ≡ input.faults) × (links_now ≡ links)
+    × (((input_now ≡ input) × (keeper_now.held ≡ keeper.held)) ⊎ PutsBreak m keeper keeper_now input)
+StopsWith m keeper keeper_now input input_now links links_now Stop.Source =
+    (input_now.faults ≡ raised input.faults) × (keeper_now.faults ≡ keeper.faults) × (links_now ≡ links) × IsOpened m keeper × PutsSome m keeper keeper_now input
+StopsWith m keeper keeper_now input input_now links links_now (Stop.Refused r) =
+    (keeper_now.faults ≡ keeper.faults) × (input_now.faults ≡ input.faults) × (links_now ≡ links)
+    × WithOutcome m keeper input (IsRefusedSo (refusal_view r) keeper.held keeper_now.held) × (IsEarly (refusal_view r) → input_now ≡ input)
+StopsWith m keeper keeper_now input input_now links links_now (Stop.Left left) =
+    (keeper_now.faults ≡ keeper.faults) × (input_now ≡ input) × (keeper_now.held ≡ keeper.held)
+    × WithOutcome m keeper input (λ o. IsLeftWith o links links_now (all_left_view left.items))
+StopsWith m keeper keeper_now input input_now links links_now (Stop.LeftFile cause) =
+    (keeper_now.faults ≡ keeper.faults) × (input_now ≡ input) × (keeper_now.held ≡ keeper.held)
+    × WithOutcome m keeper input (λ o. IsFileLeft o links links_now cause)
 
 -- the input was read to its end, or left alone where it isn't read
 abbrev pub IsReadBy : Bool → SourceShown → SourceShown → Type 0

@@ -1,10 +1,11 @@
 -- What the program meets outside, at one moment, and what a command means on it.
-use Rattle.std.specs.Prelude.{◌≡◌, ℕ, Bool, true, false, List, [], ◌∷◌, Option, Some, None, option_map, option_and_then, ⊤}
+use Rattle.std.specs.Prelude.{◌≡◌, ℕ, Bool, true, false, List, [], ◌∷◌, Option, Some, None, ⊤}
 use Rattle.dr_outside.specs.Source.{SourceShown}
 use Rattle.dr_outside.specs.Sink.{SinkShown}
 use Rattle.dr_outside.specs.Link.{LinkShown, Files}
+use Rattle.dr_formats.specs.Loading.{Put}
+use Rattle.dr_commands.specs.Refusals.{Refusal}
 use Rattle.dr_commands.specs.Meaning.{Look, Meaning, Outcome, refused, IsEarly}
-use Rattle.dr_meaning.specs.Refusals.{CommandRefusal}
 
 -- what each thing outside shows at one moment
 pub record World : Type 0 where
@@ -17,6 +18,8 @@ pub record World : Type 0 where
 abbrev pub world : SourceShown → SinkShown → SinkShown → LinkShown → List LinkShown → World
 world input out err keeper links = record { input = input; out = out; err = err; keeper = keeper; links = links }
 
+-- ---- what is told
+
 -- P holds of what is told; nothing is said where it isn't
 abbrev pub WhereTold : {A : Type 0} → Option A → (A → Type 0) → Type 0
 WhereTold None P = ⊤
@@ -27,23 +30,38 @@ abbrev pub WhereUsed : {A : Type 0} → Bool → A → Option A → (A → Type 
 WhereUsed false unused told P = P unused
 WhereUsed true unused told P = WhereTold told P
 
--- the files of each link, where each tells
-abbrev pub files_of : List LinkShown → Option (List Files)
-files_of [] = Some []
-files_of (l ∷ ls) = option_and_then (λ files. option_map (λ rest. files ∷ rest) (files_of ls)) l.held
+-- P holds of which bytes the file has, where the keeper tells; where no file is read, of none
+abbrev pub WhereFile : Option (List ℕ) → Option Files → ((List ℕ → Type 0) → Type 0) → Type 0
+WhereFile None held P = P (λ file. file ≡ [])
+WhereFile (Some path) held P = WhereTold held (λ files. P (λ file. files path ≡ Some file))
 
--- the command has this outcome on the file that it names and on what it reads, where the things outside tell these
-abbrev pub HasOutcome : Meaning → LinkShown → SourceShown → List LinkShown → Outcome → Type 0
-HasOutcome m keeper input links o = WhereTold keeper.held (λ fs.
-    WhereUsed m.reads_input [] input.left (λ bytes.
-    WhereUsed m.reads_links [] (files_of links) (λ held.
-    (file : List ℕ) × (fs m.file ≡ Some file) × (m.outcome (record { file = file; input = bytes; links = held }) ≡ o))))
+-- the file that the command names is there, and P holds of the command's outcome on it and on the input, where these are told
+abbrev pub WithOutcome : Meaning → LinkShown → SourceShown → (Outcome → Type 0) → Type 0
+WithOutcome m keeper input P = WhereFile m.file keeper.held (λ IsIt. WhereUsed m.reads_input [] input.left (λ bytes.
+    (file : List ℕ) × IsIt file × P (m.outcome (record { file = file; input = bytes }))))
 
--- it has this outcome whatever the links hold
-abbrev pub EndsAlone : Meaning → LinkShown → SourceShown → Outcome → Type 0
-EndsAlone m keeper input o = (links : List LinkShown) → HasOutcome m keeper input links o
+-- P holds of it where the file is there
+abbrev pub ForOutcome : Meaning → LinkShown → SourceShown → (Outcome → Type 0) → Type 0
+ForOutcome m keeper input P = WhereFile m.file keeper.held (λ IsIt. WhereUsed m.reads_input [] input.left (λ bytes.
+    (file : List ℕ) → IsIt file → P (m.outcome (record { file = file; input = bytes }))))
+
+-- the command has this outcome
+abbrev pub HasOutcome : Meaning → LinkShown → SourceShown → Outcome → Type 0
+HasOutcome m keeper input o = WithOutcome m keeper input (λ x. x ≡ o)
 
 -- whatever the input, nothing that comes before it is refused
 abbrev pub IsOpened : Meaning → LinkShown → Type 0
-IsOpened m keeper = WhereTold keeper.held (λ fs.
-    (file : List ℕ) × (fs m.file ≡ Some file) × ((look : Look) (r : CommandRefusal) → look.file ≡ file → IsEarly r → m.outcome look ≡ refused r [] → ⊥))
+IsOpened m keeper = WhereFile m.file keeper.held (λ IsIt. (file : List ℕ) × IsIt file
+    × ((look : Look) (r : Refusal) (puts : List Put) → look.file ≡ file → IsEarly r → m.outcome look ≡ refused r puts → ⊥))
+
+-- P holds of the first link
+abbrev pub WithFirst : List LinkShown → (LinkShown → Type 0) → Type 0
+WithFirst [] P = ⊤
+WithFirst (l ∷ ls) P = P l
+
+-- P holds of the first link, before and after
+abbrev pub WithFirsts : List LinkShown → List LinkShown → (LinkShown → LinkShown → Type 0) → Type 0
+WithFirsts [] [] P = ⊤
+WithFirsts [] (l ∷ ls) P = ⊥
+WithFirsts (l ∷ ls) [] P = ⊥
+WithFirsts (l ∷ ls) (k ∷ ks) P = P l k

@@ -1,0 +1,4 @@
+-- columns of leaves
+pub mod ColumnsLemmas
+-- records of columns
+pub mod RecordsLemmas

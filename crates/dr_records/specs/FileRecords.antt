@@ -1,0 +1,62 @@
+-- What is read of a file for some leaves of a schema: the projections of its records, or why there are none.
+use Rattle.std.specs.Prelude.{◌≡◌, ℕ, List, [], ◌∷◌, map, true, Some, None, ⊤}
+use Rattle.std.specs.List.{slice_get, list_all}
+use Rattle.dr_meaning.specs.Schema.{Schema, Fields}
+use Rattle.dr_meaning.specs.Path.{Step, Leaf, leaves}
+use Rattle.dr_meaning.specs.Record.{Node, is_record, project}
+use Rattle.dr_meaning.specs.Column.{Triplet}
+use Rattle.dr_formats.specs.File.{FileCause, bad_footer, bad_schema, bad_codec, bad_data, IsFileOf, HasCause}
+use Rattle.dr_formats.specs.Opening.{leaf_cause}
+use Rattle.dr_outside.specs.declared.cause.Cause.{Cause}
+use Rattle.dr_assemble.specs.declared.fault.AssembleFault.{AssembleFault}
+use Rattle.dr_file.specs.OpenedFiles.{IsColumnOf}
+use Rattle.dr_file.specs.declared.file_fault.FileFault.{FileFault}
+
+-- each of these is a leaf of the fields
+abbrev pub AreLeavesOf : Fields → List Leaf → Type 0
+AreLeavesOf fs [] = ⊤
+AreLeavesOf fs (l ∷ F) = ((i : ℕ) × (slice_get (leaves fs) i ≡ Some l)) × AreLeavesOf fs F
+
+abbrev pub paths_of_leaves : List Leaf → List (List Step)
+paths_of_leaves F = map (λ (l : Leaf). l.path) F
+
+-- these are the projections to the leaves of records of which the bytes are a file for these leaves
+abbrev pub AreOfFile : List ℕ → Schema → List Leaf → List Node → Type 0
+AreOfFile bytes s F P = (R : List Node) × IsFileOf bytes s F R × (P ≡ map (project (paths_of_leaves F)) R)
+
+-- these are the projections to the leaves of records of the schema
+abbrev pub AreProjected : Schema → List Leaf → List Node → Type 0
+AreProjected s F P = (R : List Node) × (list_all (is_record s.fields) R ≡ true) × (P ≡ map (project (paths_of_leaves F)) R)
+
+-- a fault is the cause for which the bytes are no file of any records for these leaves; want of memory and a link's failure may come in place of anything
+abbrev pub IsFaultOf : List ℕ → Schema → List Leaf → FileFault → Type 0
+IsFaultOf bytes s F FileFault.NoMemory = ⊤
+IsFaultOf bytes s F (FileFault.Why (Cause.ReadFailed before after)) = ⊤
+IsFaultOf bytes s F (FileFault.Why Cause.BadFooter) = HasCause bytes s F bad_footer
+IsFaultOf bytes s F (FileFault.Why Cause.BadSchema) = HasCause bytes s F bad_schema
+IsFaultOf bytes s F (FileFault.Why Cause.BadCodec) = HasCause bytes s F bad_codec
+IsFaultOf bytes s F (FileFault.Why Cause.BadData) = HasCause bytes s F bad_data
+
+-- ---- columns
+
+-- for each leaf its column in the file
+abbrev pub AreColumnsOf : List ℕ → List Leaf → List (List Triplet) → Type 0
+AreColumnsOf bytes [] [] = ⊤
+AreColumnsOf bytes (l ∷ F) (c ∷ cs) = IsColumnOf bytes l c × AreColumnsOf bytes F cs
+AreColumnsOf bytes F cs = ⊥
+
+-- one of the leaves has bad data
+abbrev pub SomeIsBad : List ℕ → List Leaf → Type 0
+SomeIsBad bytes F = (i : ℕ) × (l : Leaf) × (slice_get F i ≡ Some l) × (leaf_cause bytes l ≡ Some bad_data)
+
+-- the one fault that is left to the columns of an opened file; want of memory and a link's failure may come in place of anything
+abbrev pub IsColumnsFault : List ℕ → List Leaf → FileFault → Type 0
+IsColumnsFault bytes F FileFault.NoMemory = ⊤
+IsColumnsFault bytes F (FileFault.Why (Cause.ReadFailed before after)) = ⊤
+IsColumnsFault bytes F (FileFault.Why Cause.BadData) = SomeIsBad bytes F
+IsColumnsFault bytes F (FileFault.Why c) = ⊥
+
+-- a fault of putting records together, as that of a file
+abbrev pub assemble_fault : AssembleFault → FileFault
+assemble_fault AssembleFault.NoMemory = FileFault.NoMemory
+assemble_fault AssembleFault.BadData = FileFault.Why Cause.BadData

@@ -1,0 +1,2 @@
+-- what is read of a file
+pub mod FileRecords

@@ -1,0 +1,158 @@
+-- The copies of one tablet, tried one after another.
+use Rattle.std.proofs.Common.{◌≡◌, ◌<◌, ◌≤◌, ℕ, zero, suc, ◌+◌, ◌^◌, List, [], ◌∷◌, ◌++◌, length, map, Bool, true, false, Option, Some, None, refl, sym, ap, ◌∙◌, subst, inl, inr, add-one, true≢false, arith}
+use Rattle.std.specs.Prelude.{◌⊎◌, IsTrue, IsSome, min, ⊤}
+use Rattle.std.specs.List.{list_all}
+use Rattle.dr_meaning.specs.Schema.{Schema}
+use Rattle.dr_meaning.specs.Path.{Leaf}
+use Rattle.dr_meaning.specs.Record.{Node, is_record}
+use Rattle.dr_formats.specs.File.{IsFileOf}
+use Rattle.dr_formats.specs.Tablets.{placement, tablet_path, nth_directory}
+use Rattle.dr_outside.specs.Faults.{raised, Rose}
+use Rattle.dr_outside.specs.Link.{Files, LinkShown, Holds, Lacks}
+use Rattle.dr_outside.specs.declared.cause.Cause.{Cause}
+use Rattle.dr_chunk.specs.Telling.{TellsFile}
+use Rattle.dr_file.specs.OpenedFiles.{HasCounts, is_link_fault}
+use Rattle.dr_file.specs.declared.file_fault.FileFault.{FileFault}
+use Rattle.dr_records.specs.FileRecords.{AreOfFile, AreProjected, IsFaultOf}
+use Rattle.dr_serving.specs.Held.{held_at, held_file}
+use Rattle.dr_serving.specs.Causes.{IsJustified, RisesApart}
+use Rattle.dr_serving.specs.ServingLaws.{is_read}
+use Rattle.dr_reading.specs.Scan.{Copy, copy_in, copies_from}
+use Rattle.dr_reading.specs.Given.{IsFileThere, SomeIsFile, IsGiven}
+use Rattle.dr_reading.specs.Left.{Tried, IsCauseAt, AreTried}
+use Rattle.dr_tablets.specs.Tablets.{AreGivenBy}
+
+-- ---- the copies
+
+-- one copy more
+copies_more : (ds : List (List ℕ)) (t j k m : ℕ) → j + k ≡ m → copies_from ds t j (suc k) ≡ copies_from ds t j k ++ copy_in ds t (placement (length ds) t m) ∷ []
+copies_more ds t j zero m e = ap (λ i. copy_in ds t (placement (length ds) t i) ∷ []) (let h : j ≡ m = omega (arith, e) in h)
+copies_more ds t j (suc k) m e = ap (λ cs. copy_in ds t (placement (length ds) t j) ∷ cs) (copies_more ds t (suc j) k m (omega (arith, e)))
+
+pub copies_next : (ds : List (List ℕ)) (t k : ℕ) → copies_from ds t 0 (k + 1) ≡ copies_from ds t 0 k ++ copy_in ds t (placement (length ds) t k) ∷ []
+copies_next ds t k = ap (copies_from ds t 0) (add-one k) ∙ copies_more ds t 0 k k (omega arith)
+
+-- a copy that is among them
+copy_among : (s : Schema) (F : List Leaf) (files : Files) (R : List Node) (ds : List (List ℕ)) (t j k i m : ℕ) → i < k → j + i ≡ m → IsFileThere s F R (files (copy_in ds t (placement (length ds) t m)).path)
+    → SomeIsFile s F files (copies_from ds t j k) R
+copy_among s F files R ds t j zero i m l e h = absurd (omega arith)
+copy_among s F files R ds t j (suc k) zero m l e h = inl (subst (λ n. IsFileThere s F R (files (copy_in ds t (placement (length ds) t n)).path)) (let q : m ≡ j = omega (arith, e) in q) h)
+copy_among s F files R ds t j (suc k) (suc i) m l e h = inr (copy_among s F files R ds t (suc j) k i m (omega (arith, l)) (omega (arith, e)) h)
+
+-- ---- what a copy gives
+
+there : (s : Schema) (F : List Leaf) (files : Files) (path : List ℕ) (P : List Node) (o : Option (List ℕ)) → files path ≡ o → ((bytes : List ℕ) → files path ≡ Some bytes → AreOfFile bytes s F P) → (files path ≡ None → ⊥)
+    → (R : List Node) × IsFileThere s F R o × (P ≡ map (Rattle.dr_meaning.specs.Record.project (Rattle.dr_records.specs.FileRecords.paths_of_leaves F)) R)
+there s F files path P None e h none = absurd (none e)
+there s F files path P (Some bytes) e h none = h bytes e
+
+pub copy_gives : (s : Schema) (F : List Leaf) (held : Option Files) (ds : List (List ℕ)) (t k i : ℕ) (path : List ℕ) (P : List Node) → i < k → path ≡ (copy_in ds t (placement (length ds) t i)).path
+    → AreProjected s F P → ((bytes : List ℕ) → TellsFile held path bytes → AreOfFile bytes s F P) → (Lacks held path → ⊥) → AreGivenBy s F held (copies_from ds t 0 k) P
+copy_gives s F None ds t k i path P l p a h none = (a.0, a.1, a.2)
+copy_gives s F (Some files) ds t k i path P l p a h none =
+    let g = there s F files path P (files path) refl h none in
+    (g.0, copy_among s F files g.0 ds t 0 k i i l (omega arith) (subst (λ (q : List ℕ). IsFileThere s F g.0 (files q)) p g.1), g.2)
+
+-- ---- why a copy gives nothing
+
+rose : (old new before after : ℕ) → (before ≡ old) × (after ≡ new) × (new ≡ raised old) → Rose before after
+rose old new before after h = subst (λ (n : ℕ). Rose before n) (sym h.1) (subst (λ (n : ℕ). Rose n new) (sym h.0) (subst (λ (n : ℕ). Rose old n) (sym h.2) (omega arith)))
+
+by_bytes : (s : Schema) (F : List Leaf) (bytes : List ℕ) (c : Cause) (old new : ℕ) → HasCounts old new (FileFault.Why c) → IsFaultOf bytes s F (FileFault.Why c) → IsJustified s F (held_file (Some bytes)) c
+by_bytes s F bytes (Cause.ReadFailed before after) old new n h = rose old new before after n
+by_bytes s F bytes Cause.BadFooter old new n h = h
+by_bytes s F bytes Cause.BadSchema old new n h = h
+by_bytes s F bytes Cause.BadCodec old new n h = h
+by_bytes s F bytes Cause.BadData old new n h = h
+
+by_absence : (s : Schema) (F : List Leaf) (c : Cause) (old new : ℕ) → HasCounts old new (FileFault.Why c) → is_link_fault (FileFault.Why c) ≡ true → IsJustified s F (held_file None) c
+by_absence s F (Cause.ReadFailed before after) old new n h = rose old new before after n
+by_absence s F Cause.BadFooter old new n h = absurd (true≢false (sym h))
+by_absence s F Cause.BadSchema old new n h = absurd (true≢false (sym h))
+by_absence s F Cause.BadCodec old new n h = absurd (true≢false (sym h))
+by_absence s F Cause.BadData old new n h = absurd (true≢false (sym h))
+
+untold_cause : (s : Schema) (F : List Leaf) (path : List ℕ) (c : Cause) (old new : ℕ) → HasCounts old new (FileFault.Why c) → IsJustified s F (held_at None path) c
+untold_cause s F path (Cause.ReadFailed before after) old new n = rose old new before after n
+untold_cause s F path Cause.BadFooter old new n = tt
+untold_cause s F path Cause.BadSchema old new n = tt
+untold_cause s F path Cause.BadCodec old new n = tt
+untold_cause s F path Cause.BadData old new n = tt
+
+justified : (s : Schema) (F : List Leaf) (held : Option Files) (path : List ℕ) (c : Cause) (old new : ℕ) → HasCounts old new (FileFault.Why c) → ((bytes : List ℕ) → TellsFile held path bytes → IsFaultOf bytes s F (FileFault.Why c))
+    → (Lacks held path → is_link_fault (FileFault.Why c) ≡ true) → IsJustified s F (held_at held path) c
+justified s F None path c old new n h none = untold_cause s F path c old new n
+justified s F (Some files) path c old new n h none = go (files path) refl
+  where
+    go : (o : Option (List ℕ)) → files path ≡ o → IsJustified s F (held_file o) c
+    go None e = by_absence s F c old new n (none e)
+    go (Some bytes) e = by_bytes s F bytes c old new n (h bytes e)
+
+not_read : (c : Cause) → is_link_fault (FileFault.Why c) ≡ false → is_read c ≡ false
+not_read (Cause.ReadFailed before after) h = absurd (true≢false h)
+not_read Cause.BadFooter h = refl
+not_read Cause.BadSchema h = refl
+not_read Cause.BadCodec h = refl
+not_read Cause.BadData h = refl
+
+held_bytes : (held : Option Files) (path : List ℕ) → Holds held path → (bytes : List ℕ) × TellsFile held path bytes
+held_bytes None path h = absurd h
+held_bytes (Some files) path h = go (files path) refl h
+  where
+    go : (o : Option (List ℕ)) → files path ≡ o → IsSome o → (bytes : List ℕ) × (files path ≡ Some bytes)
+    go None e i = absurd (true≢false (sym i))
+    go (Some bytes) e i = (bytes, e)
+
+pub copy_cause : (s : Schema) (F : List Leaf) (link : LinkShown) (path : List ℕ) (c : Cause) (old new : ℕ) → HasCounts old new (FileFault.Why c) → ((bytes : List ℕ) → TellsFile link.held path bytes → IsFaultOf bytes s F (FileFault.Why c))
+    → (Lacks link.held path → is_link_fault (FileFault.Why c) ≡ true) → ((bytes : List ℕ) → IsTrue link.is_steady → TellsFile link.held path bytes → is_link_fault (FileFault.Why c) ≡ false) → IsCauseAt s F link path c
+copy_cause s F link path c old new n h none steady =
+    (justified s F link.held path c old new n h none, λ is holds. let b = held_bytes link.held path holds in not_read c (steady b.0 is b.1))
+
+-- ---- one copy after another
+
+pub tried_more : (s : Schema) (F : List Leaf) (link : LinkShown) (cs : List Copy) (ts us : List Tried) (c : Copy) (t : Tried) → AreTried s F link cs ts → t.directory ≡ c.directory → IsCauseAt s F link c.path t.cause → us ≡ ts ++ t ∷ []
+    → AreTried s F link (cs ++ c ∷ []) us
+tried_more s F link cs ts us c t h d k e = subst (AreTried s F link (cs ++ c ∷ [])) (sym e) (go cs ts h)
+  where
+    go : (cs : List Copy) (ts : List Tried) → AreTried s F link cs ts → AreTried s F link (cs ++ c ∷ []) (ts ++ t ∷ [])
+    go [] [] h = (d, k, tt)
+    go [] (u ∷ us) h = absurd h
+    go (x ∷ xs) [] h = absurd h
+    go (x ∷ xs) (u ∷ us) h = (h.0, h.1, go xs us h.2)
+
+last_rise : (start old new : ℕ) (c : Cause) → start ≤ old → HasCounts old new (FileFault.Why c) → (is_link_fault (FileFault.Why c) ≡ false → new ≡ old) → RisesApart start (c ∷ []) new
+last_rise start old new (Cause.ReadFailed before after) l h calm = (omega (arith, l, h.0), rose old new before after h, omega (arith, h.1))
+last_rise start old new Cause.BadFooter l h calm = omega (arith, l, calm refl)
+last_rise start old new Cause.BadSchema l h calm = omega (arith, l, calm refl)
+last_rise start old new Cause.BadCodec l h calm = omega (arith, l, calm refl)
+last_rise start old new Cause.BadData l h calm = omega (arith, l, calm refl)
+
+pub rises_join : (start middle end : ℕ) (cs ds : List Cause) → RisesApart start cs middle → RisesApart middle ds end → ((a : ℕ) → a ≤ middle → RisesApart a ds end) → RisesApart start (cs ++ ds) end
+rises_join start middle end [] ds h k w = w start h
+rises_join start middle end (Cause.ReadFailed before after ∷ cs) ds h k w = (h.0, h.1, rises_join after middle end cs ds h.2 k w)
+rises_join start middle end (Cause.BadFooter ∷ cs) ds h k w = rises_join start middle end cs ds h k w
+rises_join start middle end (Cause.BadSchema ∷ cs) ds h k w = rises_join start middle end cs ds h k w
+rises_join start middle end (Cause.BadCodec ∷ cs) ds h k w = rises_join start middle end cs ds h k w
+rises_join start middle end (Cause.BadData ∷ cs) ds h k w = rises_join start middle end cs ds h k w
+
+-- an earlier start
+pub rises_from : (a start end : ℕ) (cs : List Cause) → a ≤ start → RisesApart start cs end → RisesApart a cs end
+rises_from a start end [] l h = omega (arith, l, h)
+rises_from a start end (Cause.ReadFailed before after ∷ cs) l h = (omega (arith, l, h.0), h.1, h.2)
+rises_from a start end (Cause.BadFooter ∷ cs) l h = rises_from a start end cs l h
+rises_from a start end (Cause.BadSchema ∷ cs) l h = rises_from a start end cs l h
+rises_from a start end (Cause.BadCodec ∷ cs) l h = rises_from a start end cs l h
+rises_from a start end (Cause.BadData ∷ cs) l h = rises_from a start end cs l h
+
+pub rises_more : (start old new : ℕ) (cs ds : List Cause) (c : Cause) → RisesApart start cs old → HasCounts old new (FileFault.Why c) → (is_link_fault (FileFault.Why c) ≡ false → new ≡ old) → ds ≡ cs ++ c ∷ [] → RisesApart start ds new
+rises_more start old new cs ds c h n calm e =
+    subst (λ (x : List Cause). RisesApart start x new) (sym e) (rises_join start old new cs (c ∷ []) h (last_rise old old new c (omega arith) n calm) (λ a l. last_rise a old new c l n calm))
+
+-- the count doesn't fall along rises
+pub rises_ends : (start end : ℕ) (cs : List Cause) → RisesApart start cs end → start ≤ end
+rises_ends start end [] h = h
+rises_ends start end (Cause.ReadFailed before after ∷ cs) h = let k = rises_ends after end cs h.2 in omega (arith, h.0, h.1, k)
+rises_ends start end (Cause.BadFooter ∷ cs) h = rises_ends start end cs h
+rises_ends start end (Cause.BadSchema ∷ cs) h = rises_ends start end cs h
+rises_ends start end (Cause.BadCodec ∷ cs) h = rises_ends start end cs h
+rises_ends start end (Cause.BadData ∷ cs) h = rises_ends start end cs h

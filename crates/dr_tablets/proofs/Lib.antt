@@ -1,0 +1,4 @@
+-- the copies of one tablet
+pub mod CopyLemmas
+-- the tablets of a table
+pub mod TableLemmas

@@ -1,0 +1,114 @@
+-- The tablets of a table, read one after another.
+use Rattle.std.proofs.Common.{◌≡◌, ◌≤◌, ℕ, zero, suc, ◌+◌, List, [], ◌∷◌, ◌++◌, length, map, Option, Some, None, refl, sym, ap, ap₂, ◌∙◌, subst, add-one, append_assoc, append-nil, arith}
+use Rattle.std.specs.Prelude.{IsTrue}
+use Rattle.std.specs.List.{flat_map}
+use Rattle.std.proofs.lemmas.List.{map-append}
+use Rattle.dr_meaning.specs.Schema.{Schema}
+use Rattle.dr_meaning.specs.Path.{Leaf}
+use Rattle.dr_meaning.specs.Record.{Node, project}
+use Rattle.dr_outside.specs.Link.{Files, LinkShown, Holds}
+use Rattle.dr_outside.specs.declared.cause.Cause.{Cause}
+use Rattle.dr_records.specs.FileRecords.{paths_of_leaves}
+use Rattle.dr_serving.specs.Held.{held_at}
+use Rattle.dr_serving.specs.Causes.{IsJustified, RisesApart}
+use Rattle.dr_serving.specs.ServingLaws.{is_read}
+use Rattle.dr_reading.specs.Scan.{Copy, copies_from, tablets_from, joined}
+use Rattle.dr_reading.specs.Given.{IsGiven, AreGiven}
+use Rattle.dr_reading.specs.Left.{Tried, LeftTablet, IsCauseAt, AreTried, LeavesJust, no_tablets, is_given, is_left, causes_of, causes_met}
+use Rattle.dr_tablets.specs.Tablets.{AreGivenBy, TakesGiven}
+use Rattle.dr_tablets.proofs.CopyLemmas.{rises_join, rises_from, rises_ends}
+
+-- ---- the tablets
+
+tablets_more : (ds : List (List ℕ)) (k t n m : ℕ) → t + n ≡ m → tablets_from ds k t (suc n) ≡ tablets_from ds k t n ++ copies_from ds m 0 k ∷ []
+tablets_more ds k t zero m e = ap (λ i. copies_from ds i 0 k ∷ []) (let h : t ≡ m = omega (arith, e) in h)
+tablets_more ds k t (suc n) m e = ap (λ ts. copies_from ds t 0 k ∷ ts) (tablets_more ds k (suc t) n m (omega (arith, e)))
+
+pub tablets_next : (ds : List (List ℕ)) (k n : ℕ) → tablets_from ds k 0 (n + 1) ≡ tablets_from ds k 0 n ++ copies_from ds n 0 k ∷ []
+tablets_next ds k n = ap (tablets_from ds k 0) (add-one n) ∙ tablets_more ds k 0 n n (omega arith)
+
+tablets_length : (ds : List (List ℕ)) (k t n : ℕ) → length (tablets_from ds k t n) ≡ n
+tablets_length ds k t zero = refl
+tablets_length ds k t (suc n) = ap suc (tablets_length ds k (suc t) n)
+
+-- ---- a link that was steady
+
+tried_at : (s : Schema) (F : List Leaf) (l now : LinkShown) (cs : List Copy) (ts : List Tried) → now.held ≡ l.held → (IsTrue l.is_steady → IsTrue now.is_steady) → AreTried s F now cs ts → AreTried s F l cs ts
+tried_at s F l now [] [] e w h = tt
+tried_at s F l now [] (t ∷ ts) e w h = absurd h
+tried_at s F l now (c ∷ cs) [] e w h = absurd h
+tried_at s F l now (c ∷ cs) (t ∷ ts) e w h = (
+  h.0,
+  (subst (λ (x : Option Files). IsJustified s F (held_at x c.path) t.cause) e h.1.0, λ is holds. h.1.1 (w is) (subst (λ (x : Option Files). Holds x c.path) (sym e) holds)),
+  tried_at s F l now cs ts e w h.2,
+)
+
+-- ---- one tablet more
+
+module _ (s : Schema) (F : List Leaf) (l : LinkShown) where
+  given_more : (t : ℕ) (ts : List (List Copy)) (left : List LeftTablet) (cs : List Copy) (R : List Node) → LeavesJust s F l t ts left → IsGiven s F l.held cs R → LeavesJust s F l t (ts ++ cs ∷ []) left
+  given_more t ts left cs R (no_tablets u) g = is_given t cs [] [] R g (no_tablets (suc t))
+  given_more t ts left cs R (is_given u xs rest more S h k) g = is_given t xs (rest ++ cs ∷ []) left S h (given_more (suc t) rest left cs R k g)
+  given_more t ts left cs R (is_left u xs rest more tried h k) g = is_left t xs (rest ++ cs ∷ []) more tried h (given_more (suc t) rest more cs R k g)
+
+  left_more : (t : ℕ) (ts : List (List Copy)) (left : List LeftTablet) (cs : List Copy) (tried : List Tried) (m : ℕ) → LeavesJust s F l t ts left → AreTried s F l cs tried → t + length ts ≡ m
+      → LeavesJust s F l t (ts ++ cs ∷ []) (left ++ record { tablet = m; tried = tried } ∷ [])
+  left_more t ts left cs tried m (no_tablets u) g e =
+      subst (λ (n : ℕ). LeavesJust s F l t (cs ∷ []) (record { tablet = n; tried = tried } ∷ [])) (let q : t ≡ m = omega (arith, e) in q) (is_left t cs [] [] tried g (no_tablets (suc t)))
+  left_more t ts left cs tried m (is_given u xs rest more S h k) g e = is_given t xs (rest ++ cs ∷ []) _ S h (left_more (suc t) rest left cs tried m k g (omega (arith, e)))
+  left_more t ts left cs tried m (is_left u xs rest more us h k) g e = is_left t xs (rest ++ cs ∷ []) _ us h (left_more (suc t) rest more cs tried m k g (omega (arith, e)))
+
+  -- with the link as it was later
+  pub next_given : (now : LinkShown) (ds : List (List ℕ)) (k n : ℕ) (left : List LeftTablet) (P : List Node) → now.held ≡ l.held → LeavesJust s F l 0 (tablets_from ds k 0 n) left → AreGivenBy s F now.held (copies_from ds n 0 k) P
+      → LeavesJust s F l 0 (tablets_from ds k 0 (n + 1)) left
+  next_given now ds k n left P e h g =
+      subst (λ (ts : List (List Copy)). LeavesJust s F l 0 ts left) (sym (tablets_next ds k n))
+      (given_more 0 (tablets_from ds k 0 n) left (copies_from ds n 0 k) g.0 h (subst (λ (x : Option Files). IsGiven s F x (copies_from ds n 0 k) g.0) e g.1))
+
+  pub next_left : (now : LinkShown) (ds : List (List ℕ)) (k n : ℕ) (left more : List LeftTablet) (tried : List Tried) → now.held ≡ l.held → (IsTrue l.is_steady → IsTrue now.is_steady) → LeavesJust s F l 0 (tablets_from ds k 0 n) left
+      → AreTried s F now (copies_from ds n 0 k) tried → more ≡ left ++ record { tablet = n; tried = tried } ∷ [] → LeavesJust s F l 0 (tablets_from ds k 0 (n + 1)) more
+  next_left now ds k n left more tried e w h g m =
+      subst (λ (ts : List (List Copy)). LeavesJust s F l 0 ts more) (sym (tablets_next ds k n)) (subst (LeavesJust s F l 0 (tablets_from ds k 0 n ++ copies_from ds n 0 k ∷ [])) (sym m)
+      (left_more 0 (tablets_from ds k 0 n) left (copies_from ds n 0 k) tried n h (tried_at s F l now (copies_from ds n 0 k) tried e w g) (tablets_length ds k 0 n)))
+
+-- ---- rises
+
+causes_more : (left : List LeftTablet) (t : LeftTablet) → causes_met (left ++ t ∷ []) ≡ causes_met left ++ causes_of t.tried
+causes_more [] t = append-nil (causes_of t.tried)
+causes_more (u ∷ left) t = ap (λ cs. causes_of u.tried ++ cs) (causes_more left t) ∙ sym (append_assoc (causes_of u.tried) (causes_met left) (causes_of t.tried))
+
+pub rises_left : (start old new : ℕ) (left more : List LeftTablet) (t : LeftTablet) → RisesApart start (causes_met left) old → RisesApart old (causes_of t.tried) new → more ≡ left ++ t ∷ [] → RisesApart start (causes_met more) new
+rises_left start old new left more t h k e =
+    subst (λ (ls : List LeftTablet). RisesApart start (causes_met ls) new) (sym e) (subst (λ (cs : List Cause). RisesApart start cs new) (sym (causes_more left t))
+    (rises_join start old new (causes_met left) (causes_of t.tried) h k (λ a l. rises_from a old new (causes_of t.tried) l k)))
+
+pub rises_later : (start old new : ℕ) (cs : List Cause) → RisesApart start cs old → old ≤ new → RisesApart start cs new
+rises_later start old new cs h l = subst (λ (x : List Cause). RisesApart start x new) (append-nil cs) (rises_join start old new cs [] h l (λ a m. omega (arith, l, m)))
+
+-- ---- what was taken
+
+given_next : (s : Schema) (F : List Leaf) (held : Option Files) (ts : List (List Copy)) (Rs : List (List Node)) (cs : List Copy) (R : List Node) → AreGiven s F held ts Rs → IsGiven s F held cs R → AreGiven s F held (ts ++ cs ∷ []) (Rs ++ R ∷ [])
+given_next s F held [] [] cs R h g = (g, tt)
+given_next s F held [] (S ∷ Ss) cs R h g = absurd h
+given_next s F held (x ∷ ts) [] cs R h g = absurd h
+given_next s F held (x ∷ ts) (S ∷ Ss) cs R h g = (h.0, given_next s F held ts Ss cs R h.1 g)
+
+joined_more : (Rs : List (List Node)) (R : List Node) → joined (Rs ++ R ∷ []) ≡ joined Rs ++ R
+joined_more [] R = append-nil R
+joined_more (S ∷ Rs) R = ap (λ x. S ++ x) (joined_more Rs R) ∙ sym (append_assoc S (joined Rs) R)
+
+pub takes_none : {T : Type 0} (has : T → List Node → Type 0) (s : Schema) (F : List Leaf) (held : Option Files) (before : T) → TakesGiven has s F held [] before before
+takes_none has s F held before = ([], tt, λ taken h. subst (has before) (sym (append-nil taken)) h)
+
+pub takes_more : {T : Type 0} (has : T → List Node → Type 0) (s : Schema) (F : List Leaf) (held now : Option Files) (ds : List (List ℕ)) (k n : ℕ) (P : List Node) (before middle after : T) → now ≡ held
+    → TakesGiven has s F held (tablets_from ds k 0 n) before middle → AreGivenBy s F now (copies_from ds n 0 k) P → ((taken : List Node) → has middle taken → has after (taken ++ P))
+    → TakesGiven has s F held (tablets_from ds k 0 (n + 1)) before after
+takes_more has s F held now ds k n P before middle after e h g takes =
+    let here : IsGiven s F held (copies_from ds n 0 k) g.0 = subst (λ (x : Option Files). IsGiven s F x (copies_from ds n 0 k) g.0) e g.1 in
+    let all : map (project (paths_of_leaves F)) (joined (h.0 ++ g.0 ∷ [])) ≡ map (project (paths_of_leaves F)) (joined h.0) ++ P =
+    ap (map (project (paths_of_leaves F))) (joined_more h.0 g.0) ∙ (map-append (project (paths_of_leaves F)) (joined h.0) g.0 ∙ ap (λ x. map (project (paths_of_leaves F)) (joined h.0) ++ x) (sym g.2)) in
+    (
+      h.0 ++ g.0 ∷ [],
+      subst (λ (ts : List (List Copy)). AreGiven s F held ts (h.0 ++ g.0 ∷ [])) (sym (tablets_next ds k n)) (given_next s F held (tablets_from ds k 0 n) h.0 (copies_from ds n 0 k) g.0 h.1 here),
+      λ taken w. subst (λ (x : List Node). has after (taken ++ x)) (sym all) (subst (has after) (append_assoc taken (map (project (paths_of_leaves F)) (joined h.0)) P) (takes _ (h.2 taken w))),
+    )

@@ -1,0 +1,4 @@
+-- what the types of this crate stand for
+pub mod Views
+-- what is read of a tablet
+pub mod Tablets

@@ -1,0 +1,34 @@
+-- What is read of one tablet, and of those before it.
+use Rattle.std.specs.Prelude.{◌≡◌, ℕ, suc, ◌+◌, List, [], ◌∷◌, ◌++◌, map, Option, Some, None, ⊤}
+use Rattle.dr_meaning.specs.Schema.{Schema}
+use Rattle.dr_meaning.specs.Path.{Leaf}
+use Rattle.dr_meaning.specs.Record.{Node, project}
+use Rattle.dr_outside.specs.Link.{Files, LinkShown}
+use Rattle.dr_outside.specs.declared.cause.Cause.{Cause}
+use Rattle.dr_assemble.specs.Views.{nodes_view}
+use Rattle.dr_records.specs.FileRecords.{paths_of_leaves}
+use Rattle.dr_serving.specs.Causes.{RisesApart}
+use Rattle.dr_reading.specs.Scan.{Copy, joined}
+use Rattle.dr_reading.specs.Given.{IsGiven, AreGiven}
+use Rattle.dr_reading.specs.Left as left
+use Rattle.dr_tablets.specs.Views.{all_tried_view}
+use Rattle.dr_tablets.specs.declared.reading.Tablet.{Tablet}
+
+-- these are the projections of records that a tablet of these copies gives
+abbrev pub AreGivenBy : Schema → List Leaf → Option Files → List Copy → List Node → Type 0
+AreGivenBy s F held cs P = (R : List Node) × IsGiven s F held cs R × (P ≡ map (project (paths_of_leaves F)) R)
+
+-- a tablet gives records, or each of its copies was tried
+abbrev pub IsReadAs : Schema → List Leaf → LinkShown → List Copy → Tablet → Type 0
+IsReadAs s F link cs (Tablet.Given records) = AreGivenBy s F link.held cs (nodes_view records.items)
+IsReadAs s F link cs (Tablet.Left tried) = left.AreTried s F link cs (all_tried_view tried.items)
+
+-- the causes that were met
+abbrev pub causes_in : Tablet → List Cause
+causes_in (Tablet.Given records) = []
+causes_in (Tablet.Left tried) = left.causes_of (all_tried_view tried.items)
+
+-- what has taken some records has now taken the projections of those that the tablets give, too
+abbrev pub TakesGiven : {T : Type 0} → (T → List Node → Type 0) → Schema → List Leaf → Option Files → List (List Copy) → T → T → Type 0
+TakesGiven has s F held ts before now = (Rs : List (List Node)) × AreGiven s F held ts Rs
+    × ((taken : List Node) → has before taken → has now (taken ++ map (project (paths_of_leaves F)) (joined Rs)))
