@@ -1,0 +1,3 @@
+pub mod OverSlots
+pub mod Reach
+pub mod Slots
