@@ -19,7 +19,7 @@ pub here : (f : List ℕ → Bool) (t : List ℕ) → f t ≡ true → some_end 
 here f [] h = h
 here f (c ∷ cs) h = ap (λ b. b || some_end f cs) h
 
-later : (f : List ℕ → Bool) (c : ℕ) (cs : List ℕ) → some_end f cs ≡ true → some_end f (c ∷ cs) ≡ true
+pub later : (f : List ℕ → Bool) (c : ℕ) (cs : List ℕ) → some_end f cs ≡ true → some_end f (c ∷ cs) ≡ true
 later f c cs h = later_true (f (c ∷ cs)) (some_end f cs) h
 
 -- an end of an end is an end
