@@ -1,3 +1,5 @@
+pub mod Appending
 pub mod OverSlots
 pub mod Reach
 pub mod Slots
+pub mod Views
