@@ -62,5 +62,5 @@ leaf_means ls slots row a t i h = by (slice_get ls i) refl h
     by (Some l) e g =
         let same : slot_value slots i ≡ value l = slot_of slots i ∙ (ap (λ vs. slice_index_or vs i None) a.values ∙ value_of_leaf value ls i l e) in
         let typed : is_of_type t (value l) ≡ true =
-            subst (λ s. is_of_type s (value l) ≡ true) (same_types (kind_type l.kind) t g) (holds_of_leaf (λ (k : Leaf). is_of_type (kind_type k.kind) (value k)) ls i l a.types e) in
+        subst (λ s. is_of_type s (value l) ≡ true) (same_types (kind_type l.kind) t g) (holds_of_leaf (λ (k : Leaf). is_of_type (kind_type k.kind) (value k)) ls i l a.types e) in
         ap (of_type t) same ∙ (kept_of_type t (value l) typed ∙ ap (λ o. value_at (path_of o) row) (sym e))

@@ -9,3 +9,4 @@ pub mod LeafLemmas
 pub mod NumberLemmas
 pub mod TextLemmas
 pub mod TruthLemmas
+pub mod TestLemmas

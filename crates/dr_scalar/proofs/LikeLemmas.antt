@@ -1,8 +1,8 @@
 -- Where a pattern leads from a place to its next `%`, that place is as good as any later one.
-use Rattle.std.proofs.Common.{◌≡◌, ℕ, zero, suc, ◌+◌, ◌<◌, ◌≤◌, List, [], ◌∷◌, length, Bool, true, false, ◌||◌, ◌&&◌, ◌==◌, refl, sym, ap, subst, ◌∙◌, arith, true≢false}
+use Rattle.std.proofs.Common.{◌≡◌, ℕ, ◌<◌, ◌≤◌, List, [], ◌∷◌, length, Bool, true, false, ◌||◌, ◌&&◌, ◌==◌, refl, sym, ap, subst, ◌∙◌, arith, true≢false}
 use Rattle.std.specs.Prelude.{if◌then◌else◌}
 use Rattle.dr_meaning.specs.Expression.{some_end, after_one, after_same, is_empty_text, matches}
-use Rattle.dr_scalar.specs.Reach.{Reach, ended, stopped, open_end, at_end, past_one, reach}
+use Rattle.dr_scalar.specs.Reach.{Reach, ended, stopped, open_end, past_one, reach}
 
 -- ---- the texts that end a text
 

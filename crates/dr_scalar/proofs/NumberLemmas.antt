@@ -1,9 +1,9 @@
 -- Over slots that are the values of the leaves in a row, a number has the value that it has in the row.
-use Rattle.std.proofs.Common.{◌≡◌, ℕ, List, map, pos, Bool, true, ◌&&◌, Option, Some, None, refl, sym, ap, ap₂, subst, ◌∙◌}
+use Rattle.std.proofs.Common.{◌≡◌, List, pos, Bool, true, Option, Some, refl, sym, ap, ap₂, subst, ◌∙◌}
 use Rattle.dr_meaning.specs.Path.{Leaf}
-use Rattle.dr_meaning.specs.Record.{Value, int_value, text_value, Node}
-use Rattle.dr_meaning.specs.Expression.{Expression, plus, minus, times, combine, compared, on_both, on_text, subtract_values, matches, occurs_in, not_value, and_values, or_values, null_test, evaluate}
-use Rattle.dr_meaning.specs.BoundExpression.{truth_type, number_type, text_type}
+use Rattle.dr_meaning.specs.Record.{Value, int_value, Node}
+use Rattle.dr_meaning.specs.Expression.{Expression, plus, minus, times, combine, on_both, subtract_values, evaluate}
+use Rattle.dr_meaning.specs.BoundExpression.{number_type}
 use Rattle.dr_levels.specs.declared.triplet.ValueRef.{ValueRef}
 use Rattle.dr_plan.specs.declared.expression.Number as numbers
 use Rattle.dr_plan.specs.declared.expression.Number.{Number}

@@ -1,8 +1,8 @@
 -- A part occurs in a text exactly where a search of it finds a place.
-use Rattle.std.proofs.Common.{◌≡◌, ℕ, zero, suc, ◌+◌, ◌<◌, ◌≤◌, List, [], ◌∷◌, length, Bool, true, false, ◌||◌, ◌&&◌, ◌==◌, Option, Some, None, is_some, refl, sym, ap, subst, ◌∙◌, arith, true≢false, slice_index}
+use Rattle.std.proofs.Common.{◌≡◌, ℕ, zero, suc, ◌+◌, ◌<◌, List, [], ◌∷◌, length, Bool, true, false, ◌||◌, ◌&&◌, ◌==◌, Option, Some, None, is_some, refl, sym, ap, ◌∙◌, arith, true≢false, slice_index}
 use Rattle.std.proofs.lemmas.Bool.{eqb-true, eq-eqb}
-use Rattle.dr_meaning.specs.Expression.{some_end, begins_text, occurs_in}
-use Rattle.memchr.specs.Find.{OccursAt, FindsNeedle, NoneBefore}
+use Rattle.dr_meaning.specs.Expression.{begins_text, occurs_in}
+use Rattle.memchr.specs.Find.{OccursAt, FindsNeedle}
 use Rattle.dr_scalar.proofs.LikeLemmas.{here, later}
 
 -- ---- at the front

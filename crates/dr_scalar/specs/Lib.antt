@@ -2,4 +2,5 @@ pub mod Appending
 pub mod OverSlots
 pub mod Reach
 pub mod Slots
+pub mod Tests
 pub mod Views

@@ -8,6 +8,7 @@ pub data Reach : Type 0 where
   stopped : Reach
   open_end : List ℕ → List ℕ → Reach
 
+-- at the end of the pattern
 abbrev pub at_end : List ℕ → Reach
 at_end [] = ended
 at_end (c ∷ cs) = stopped
@@ -22,6 +23,7 @@ abbrev pub reach : List ℕ → List ℕ → Reach
 reach [] = at_end
 reach (p ∷ ps) = λ text. if p == 37 then open_end ps text else past_one p (reach ps) text
 
+-- what the code tells of it
 abbrev pub halt_view : Halt → Reach
 halt_view Halt.End = ended
 halt_view Halt.Apart = stopped

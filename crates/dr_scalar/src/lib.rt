@@ -1,10 +1,15 @@
-//! The values of a plan's expressions in a row, whose leaves have the values in its slots.
+//! The values of a plan's expressions in a row.
 #![tactic(auto)]
 
 mod comparing;
 mod contains;
+mod evaluated;
+mod evaluating;
 mod like;
 mod numbers;
 mod slots;
 mod texts;
 mod truths;
+
+pub use evaluated::Evaluated;
+pub use evaluating::{eval, number, passes, text, truth};

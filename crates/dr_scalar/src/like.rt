@@ -5,6 +5,7 @@ ghost use Rattle.dr_meaning.specs.Expression.{matches, some_end};
 ghost use Rattle.dr_scalar.specs.Reach.{reach, halt_view};
 
 /// How far a pattern leads in a text, up to its first `%`.
+#[derive(Clone, Copy)]
 enum Halt<'p, 't> {
     /// To its end, and to the text's.
     End,

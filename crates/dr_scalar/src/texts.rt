@@ -3,7 +3,7 @@
 ghost use Rattle.std.specs.Prelude.{◌≡◌, IfOk, option_map, string_bytes};
 ghost use Rattle.dr_scalar.specs.Appending.{Appends, IsNullOrText};
 ghost use Rattle.dr_scalar.specs.OverSlots.{text_over};
-ghost use Rattle.dr_scalar.specs.Views.{text_view};
+ghost use Rattle.dr_scalar.specs.Views.{text_value_view};
 
 use crate::slots::text_in;
 use dr_levels::ValueRef;
@@ -20,7 +20,7 @@ pub(crate) fn text_of<'v>(
     text: &'v TextOf,
     row: &[Option<ValueRef<'v>>],
 ) -> Result<Option<CowStr<'v, Global>>, NoMemory>
-    ensures { IfOk result (λ v. option_map text_view v ≡ text_over row.now text.now) }
+    ensures { IfOk result (λ v. option_map text_value_view v ≡ text_over row.now text.now) }
 {
     match text {
         TextOf::Literal(literal) => Ok(Some(CowStr::Borrowed(literal.as_str()))),

@@ -1,6 +1,7 @@
 //! Truth values.
 
 ghost use Rattle.std.specs.Prelude.{◌≡◌, IfOk, option_map, string_bytes, chars};
+ghost use Rattle.std.specs.List.{list_all};
 ghost use Rattle.dr_meaning.specs.Expression as meant;
 ghost use Rattle.dr_meaning.specs.Record.{bool_value};
 ghost use Rattle.dr_plan.specs.Views.{comparison_view};
@@ -66,11 +67,7 @@ fn decided(
         }
         Truth::Truths(comparison, left, right) => {
             let left = truth_of(alloc, left, row)?;
-            Ok(compare_truths(
-                *comparison,
-                left,
-                truth_of(alloc, right, row)?,
-            ))
+            Ok(compare_truths(*comparison, left, truth_of(alloc, right, row)?))
         }
         Truth::Like(text, pattern) => text_like(alloc, text, pattern, row),
         Truth::Contains(text, part) => text_contains(alloc, text, part.as_str(), row),
@@ -128,11 +125,7 @@ fn texts_compared(
     let Some(right) = text_of(alloc, right, row)? else {
         return Ok(None);
     };
-    Ok(Some(compare_texts(
-        comparison,
-        left.as_str(),
-        right.as_str(),
-    )))
+    Ok(Some(compare_texts(comparison, left.as_str(), right.as_str())))
 }
 
 /// LIKE
@@ -163,4 +156,21 @@ fn text_contains(
         return Ok(None);
     };
     Ok(Some(occurs(part, text.as_str())))
+}
+
+/// Whether each of the tests is true.
+pub(crate) fn all_are_true(
+    alloc: Global,
+    tests: &[Truth],
+    row: &[Option<ValueRef<'_>>],
+) -> Result<bool, NoMemory>
+    ensures { IfOk result (λ b. b ≡ list_all (λ (t : Truth). meant.is_true (truth_over row.now t)) tests.now) }
+{
+    'tests: for test in tests {
+        match truth_of(alloc, test, row)? {
+            Some(true) => {}
+            _ => return Ok(false),
+        }
+    }
+    Ok(true)
 }

@@ -1,4 +1,4 @@
-use Rattle.std.proofs.Common.{◌≡◌, ◌∙◌, ◌∷◌, ◌+◌, ◌<◌, ◌≤◌, ℕ, List, length, sym, ap, chars, arith, rules}
+use Rattle.std.proofs.Common.{◌∙◌, sym, chars, arith, rules}
 use Rattle.dr_scalar.proofs.LikeLemmas.{ended_somewhere, nowhere_at_end, next_place, first_is_enough, open_shorter}
 use Rattle.dr_scalar.proofs.like.some_end_is_like.Goals as goal
 

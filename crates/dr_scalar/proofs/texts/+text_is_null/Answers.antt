@@ -1,5 +1,4 @@
-use Rattle.std.proofs.Common.{◌≡◌, ◌∙◌, Option, Bool, sym, ap, ap₂, subst, rules}
-use Rattle.dr_meaning.specs.Expression.{plus, combine, on_both}
+use Rattle.std.proofs.Common.{◌∙◌, Option, sym, ap, subst}
 use Rattle.dr_meaning.specs.Record.{Value}
 use Rattle.dr_plan.specs.declared.expression.TextOf.{TextOf}
 use Rattle.dr_scalar.specs.Appending.{IsNullOrText}
