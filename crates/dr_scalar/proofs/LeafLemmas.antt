@@ -31,7 +31,7 @@ pub second_holds : (a b : Bool) → (a && b) ≡ true → b ≡ true
 second_holds true b h = h
 second_holds false b h = cc
 
-holds_of_leaf : (test : Leaf → Bool) (ls : List Leaf) (i : ℕ) (l : Leaf) → list_all test ls ≡ true → slice_get ls i ≡ Some l → test l ≡ true
+pub holds_of_leaf : (test : Leaf → Bool) (ls : List Leaf) (i : ℕ) (l : Leaf) → list_all test ls ≡ true → slice_get ls i ≡ Some l → test l ≡ true
 holds_of_leaf test [] i l h e = cc
 holds_of_leaf test (k ∷ ls) zero l h e = let g : test k ≡ true = first_holds (test k) (list_all test ls) h in let q : k ≡ l = cc in subst (λ (m : Leaf). test m ≡ true) q g
 holds_of_leaf test (k ∷ ls) (suc i) l h e = holds_of_leaf test ls i l (second_holds (test k) (list_all test ls) h) e

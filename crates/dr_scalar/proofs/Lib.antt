@@ -10,3 +10,5 @@ pub mod NumberLemmas
 pub mod TextLemmas
 pub mod TruthLemmas
 pub mod TestLemmas
+-- which rows have values of the types of their leaves
+pub mod TypeLemmas

@@ -5,6 +5,7 @@ mod comparing;
 mod contains;
 mod evaluated;
 mod evaluating;
+pub mod laws;
 mod like;
 mod numbers;
 mod slots;
