@@ -175,15 +175,19 @@ pub are_rows : (s : ShapeTree) (os : List Object) (k : ℕ) (cs : List ResultCel
 are_rows s os k cs h e f = e ∙ ap result_cells (sym (rows_of s os k cs h e f))
 
 -- rows before rows
-pub record Joined (s : ShapeTree) (k m : ℕ) (cs ds : List ResultCell) : Type 0 where
-  pub objects : (read_rows s (k + m) (cs ++ ds)).objects ≡ (read_rows s k cs).objects ++ (read_rows s m ds).objects
-  pub are : AreRows s (k + m) (cs ++ ds)
+pub record Joined (s : ShapeTree) (k m n : ℕ) (cs ds es : List ResultCell) : Type 0 where
+  pub objects : (read_rows s n es).objects ≡ (read_rows s k cs).objects ++ (read_rows s m ds).objects
+  pub are : AreRows s n es
 
-pub rows_joined : (s : ShapeTree) (k m : ℕ) (cs ds : List ResultCell) → AreRows s k cs → AreRows s m ds → Joined s k m cs ds
-rows_joined s k m cs ds e f =
+pub rows_joined : (s : ShapeTree) (k m n : ℕ) (cs ds es : List ResultCell) → AreRows s k cs → AreRows s m ds → n ≡ k + m → es ≡ cs ++ ds → Joined s k m n cs ds es
+rows_joined s k m n cs ds es e f g h =
     let os : List Object = (read_rows s k cs).objects in
     let ps : List Object = (read_rows s m ds).objects in
     let fits : AllFitShape s (os ++ ps) = each_append (FitsShape s) os ps (reads_fitting s k cs) (reads_fitting s m ds) in
-    let all : cs ++ ds ≡ result_cells (os ++ ps) = ap₂ (λ (xs ys : List ResultCell). xs ++ ys) e f ∙ sym (result_cells-append os ps) in
-    let many : k + m ≡ length (os ++ ps) = sym (length-append os ps ∙ ap₂ (λ i j. i + j) (rows_length s k cs) (rows_length s m ds)) in
-    record { objects = rows_of s (os ++ ps) (k + m) (cs ++ ds) fits all many; are = are_rows s (os ++ ps) (k + m) (cs ++ ds) fits all many }
+    let all : es ≡ result_cells (os ++ ps) = h ∙ ap₂ (λ (xs ys : List ResultCell). xs ++ ys) e f ∙ sym (result_cells-append os ps) in
+    let many : n ≡ length (os ++ ps) = g ∙ sym (length-append os ps ∙ ap₂ (λ i j. i + j) (rows_length s k cs) (rows_length s m ds)) in
+    record { objects = rows_of s (os ++ ps) n es fits all many; are = are_rows s (os ++ ps) n es fits all many }
+
+-- rows of a shape are those of the same shape
+pub rows_of_same : (s t : ShapeTree) (k : ℕ) (cs : List ResultCell) → t ≡ s → AreRows t k cs → AreRows s k cs
+rows_of_same s t k cs e h = subst (λ (u : ShapeTree). AreRows u k cs) e h

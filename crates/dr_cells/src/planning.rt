@@ -1,10 +1,11 @@
 //! The shape of a plan's result.
 
-ghost use Rattle.std.specs.Prelude.{◌≡◌, IfOk, map, string_bytes};
+ghost use Rattle.std.specs.Prelude.{◌≡◌, ◌++◌, [], IfOk, OnOk, map, string_bytes};
+ghost use Rattle.std.specs.List.{slice_get};
 ghost use Rattle.dr_plan.specs.Objects.{object_view};
 ghost use Rattle.dr_plan.specs.Planned.{plan_view};
 ghost use Rattle.dr_cells.specs.Results.{shape_tree, no_list_shapes};
-ghost use Rattle.dr_cells.specs.Shapes.{shape_view, lists_view, plan_shape, names_at, tree_shape, tree_list_shapes};
+ghost use Rattle.dr_cells.specs.Shapes.{shape_view, lists_view, plan_shape, names_at, with_name, tree_shape, tree_list_shapes};
 ghost use Rattle.dr_cells.specs.PlanShapes.{item_names, row_names, plan_lists_view};
 
 use crate::shape::{ListShape, Shape};
@@ -74,9 +75,25 @@ fn names_of(alloc: Global, items: &[RecordItem], places: &[u32]) -> Result<Vec<S
 {
     let mut names = Vec::with_capacity(alloc, places.len())?;
     'places: for place in places {
-        if let Some(item) = items.get(*place as usize) {
-            names.push(String::from_str(alloc, item.name.as_str())?)?;
-        }
+        push_name(alloc, items, *place as usize, &mut names)?;
     }
     Ok(names)
+}
+
+/// Appends the name of the item at a place, if there is one.
+fn push_name(
+    alloc: Global,
+    items: &[RecordItem],
+    place: usize,
+    names: &mut Vec<String>,
+) -> Result<(), NoMemory>
+    ensures { OnOk result (map string_bytes (names.new).items ≡ map string_bytes (names.old).items ++ with_name (slice_get (item_names items.now) place) []) }
+{
+    match items.get(place) {
+        Some(item) => {
+            names.push(String::from_str(alloc, item.name.as_str())?)?;
+            Ok(())
+        }
+        None => Ok(()),
+    }
 }
