@@ -39,6 +39,12 @@ view-shape ns ls = search (rules, shapes.the_lemmas, lists.the_lemmas)
 pub view-list : (n : String Global) (s : shapes.Shape) → list_view (lists.roll-ListShape (record { name = n; shape = s })) ≡ record { name = string_bytes n; shape = shape_view s }
 view-list n s = search (rules, lists.the_lemmas, shapes.the_lemmas)
 
+pub view-shape_of : (s : shapes.Shape) → shape_view s ≡ shape_tree (map string_bytes (shapes.out-Shape s).names.items) (lists_view (shapes.out-Shape s).lists.items)
+view-shape_of s = search (rules, shapes.the_lemmas, lists.the_lemmas)
+
+pub view-list_shape : (l : lists.ListShape) → list_view l ≡ record { name = string_bytes (lists.out-ListShape l).name; shape = shape_view (lists.out-ListShape l).shape }
+view-list_shape l = search (rules, lists.the_lemmas, shapes.the_lemmas)
+
 -- ---- objects of trees
 
 name_there : (items : List RecordItem) (n : ℕ) → slice_get (names_of_items items) n ≡ option_map (λ (i : RecordItem). i.name) (slice_get items n)
