@@ -1,11 +1,10 @@
 -- Objects are read back from their cells.
 use Rattle.std.specs.Prelude.{◌≡◌, ℕ, zero, suc, ◌+◌, List, [], ◌∷◌, ◌++◌, length, drop}
-use Rattle.std.specs.List.{flat_map}
-use Rattle.std.proofs.Common.{refl, sym, ap, ap₂, ◌∙◌, subst, append_assoc, append-nil, arith, rules, length-append}
+use Rattle.std.proofs.Common.{refl, sym, ap, ap₂, ◌∙◌, subst, append_assoc, append-nil, length-append}
 use Rattle.dr_meaning.specs.Query.{Object, no_entries, cell, list, Objects, no_objects, object, objects_of}
-use Rattle.dr_cells.specs.Results.{ResultCell, value_cell, count_cell, own_values, count_objects, own_counts, inner_cells, all_cells, object_cells, result_cells}
+use Rattle.dr_cells.specs.Results.{ResultCell, own_values, count_objects, own_counts, inner_cells, all_cells, object_cells, result_cells}
 use Rattle.dr_cells.specs.Results.{ShapeTree, shape_tree, ListShapes, no_list_shapes, list_shape, count_lists, FitsNames, EachObject, FitsShape, FitsLists, AllFitShape}
-use Rattle.dr_cells.specs.Results.{ReadObject, ReadObjects, first_value, first_count, with_values, read_times, read_object, read_lists, read_rows, AreRows, ReadsBack, ReadsFitting}
+use Rattle.dr_cells.specs.Results.{ReadObject, ReadObjects, first_count, with_values, read_times, read_object, read_lists, read_rows, AreRows, ReadsBack, ReadsFitting}
 
 -- ---- what is read back
 
@@ -74,14 +73,14 @@ mutual
       let b : Behind ns ls o tail = behind ns ls o tail h in
       let cs : List ResultCell = own_values o ++ tail in
       let cut : object_cells o ++ more ≡ cs =
-          append_assoc (own_values o) (own_counts o ++ inner_cells o) more ∙ ap (λ (t : List ResultCell). own_values o ++ t) (append_assoc (own_counts o) (inner_cells o) more) in
+      append_assoc (own_values o) (own_counts o ++ inner_cells o) more ∙ ap (λ (t : List ResultCell). own_values o ++ t) (append_assoc (own_counts o) (inner_cells o) more) in
       let seen : tail ≡ own_counts b.lists ++ (inner_cells b.lists ++ more) = ap₂ (λ (ks xs : List ResultCell). ks ++ (xs ++ more)) b.counts b.inner in
       let left : drop (count_lists ls) tail ≡ inner_cells b.lists ++ more =
-          ap (drop (count_lists ls)) seen ∙ counts_dropped ls b.lists (inner_cells b.lists ++ more) b.fits in
+      ap (drop (count_lists ls)) seen ∙ counts_dropped ls b.lists (inner_cells b.lists ++ more) b.fits in
       let lists : read_lists ls (drop (length ns) cs) (drop (count_lists ls) (drop (length ns) cs)) ≡ read_so b.lists more =
-          ap (λ (t : List ResultCell). read_lists ls t (drop (count_lists ls) t)) b.dropped
-          ∙ ap₂ (read_lists ls) seen left
-          ∙ lists_read ls b.lists (inner_cells b.lists ++ more) more b.fits in
+      ap (λ (t : List ResultCell). read_lists ls t (drop (count_lists ls) t)) b.dropped
+      ∙ ap₂ (read_lists ls) seen left
+      ∙ lists_read ls b.lists (inner_cells b.lists ++ more) more b.fits in
       ap (read_object (shape_tree ns ls)) cut
       ∙ ap (λ (r : ReadObject). read_so (with_values ns cs r.object) r.rest) lists
       ∙ ap (λ (p : Object). read_so p more) b.joined
@@ -95,8 +94,8 @@ mutual
   lists_read (list_shape n s ls) (list m os o) counts more h =
       let ks : List ResultCell = own_counts o ++ counts in
       let here : read_times (read_object s) (count_objects os) ((all_cells os ++ inner_cells o) ++ more) ≡ all_read_so (list_of os) (inner_cells o ++ more) =
-          ap (read_times (read_object s) (count_objects os)) (append_assoc (all_cells os) (inner_cells o) more)
-          ∙ times_read (read_object s) (FitsShape s) (object_read s) os (inner_cells o ++ more) h.1 in
+      ap (read_times (read_object s) (count_objects os)) (append_assoc (all_cells os) (inner_cells o) more)
+      ∙ times_read (read_object s) (FitsShape s) (object_read s) os (inner_cells o ++ more) h.1 in
       ap (λ (r : ReadObjects). read_so (list n (objects_of r.objects) (read_lists ls ks r.rest).object) (read_lists ls ks r.rest).rest) here
       ∙ ap (λ (r : ReadObject). read_so (list n (objects_of (list_of os)) r.object) r.rest) (lists_read ls o counts more h.2)
       ∙ ap₂ (λ (k : List ℕ) (ps : Objects). read_so (list k ps o) more) (sym h.0) (objects_of-list_of os)

@@ -4,13 +4,12 @@ use Rattle.std.specs.List.{slice_get}
 use Rattle.std.specs.declared.alloc.Global.{Global}
 use Rattle.std.proofs.Common.{refl, sym, ap, ap₂, ◌∙◌, subst, rules, arith, append_assoc, append-nil}
 use Rattle.std.proofs.lemmas.List.{drop_more, map-append}
-use Rattle.dr_meaning.specs.Record.{Value, Node}
-use Rattle.dr_meaning.specs.Query.{RecordItem, GroupItem, Object, term_value, objects_of, instances_of}
-use Rattle.dr_partials.specs.Accumulators.{Accumulator}
-use Rattle.dr_partials.specs.Partials.{group_row, item_value, behind_item}
+use Rattle.dr_meaning.specs.Record.{Node}
+use Rattle.dr_meaning.specs.Query.{RecordItem, GroupItem, Object, objects_of, instances_of}
+use Rattle.dr_partials.specs.Partials.{behind_item}
 use Rattle.dr_plan.specs.Objects.{ObjectTree, object_tree, ListTrees, no_lists, list_tree, tree_object, tree_lists, tree_cells, cell_of}
 use Rattle.dr_cells.specs.Results.{ShapeTree, FitsNames, FitsShape, FitsLists, EachObject, no_list_shapes, shape_tree}
-use Rattle.dr_cells.specs.Shapes.{with_name, names_at, names_of_items, tree_shape, tree_list_shapes, row_shape, selection_shape, plan_shape, shape_view, list_view, lists_view, TreeObjectsFit, GroupRowsFit}
+use Rattle.dr_cells.specs.Shapes.{with_name, names_at, names_of_items, tree_shape, tree_list_shapes, selection_shape, plan_shape, shape_view, list_view, lists_view, TreeObjectsFit, GroupRowsFit}
 use Rattle.dr_cells.specs.PlanShapes.{append_shapes, plan_list_view, plan_lists_view}
 use Rattle.dr_meaning.specs.Path.{Leaf}
 use Rattle.dr_meaning.specs.Query.{GroupTerm}
@@ -119,9 +118,9 @@ list_more names ls k l before after n s h at e f pushed =
     let name : List ℕ = string_bytes (list_plans.out-ListPlan l).name in
     let shape : ShapeTree = tree_shape names (object_view (list_plans.out-ListPlan l).object) in
     let made : lists_view after ≡ append_shapes (lists_view before) (list_shape name shape no_list_shapes) =
-        ap lists_view pushed ∙ lists_view-append before (lists.roll-ListShape (record { name = n; shape = s }) ∷ [])
-        ∙ ap (λ (x : SeenShape). append_shapes (lists_view before) (list_shape x.name x.shape no_list_shapes)) (view-list n s)
-        ∙ ap₂ (λ (m : List ℕ) (t : ShapeTree). append_shapes (lists_view before) (list_shape m t no_list_shapes)) e f in
+    ap lists_view pushed ∙ lists_view-append before (lists.roll-ListShape (record { name = n; shape = s }) ∷ [])
+    ∙ ap (λ (x : SeenShape). append_shapes (lists_view before) (list_shape x.name x.shape no_list_shapes)) (view-list n s)
+    ∙ ap₂ (λ (m : List ℕ) (t : ShapeTree). append_shapes (lists_view before) (list_shape m t no_list_shapes)) e f in
     ap (λ (x : ListShapes). append_shapes x rest) made
     ∙ append_shapes-assoc (lists_view before) (list_shape name shape no_list_shapes) rest
     ∙ ap (append_shapes (lists_view before)) (sym (ap (λ (xs : List list_plans.ListPlan). tree_list_shapes names (plan_lists_view xs)) next

@@ -1,5 +1,5 @@
 -- Results as cells, one after another: an object's values, then how many objects each of its lists has, then those objects.
-use Rattle.std.specs.Prelude.{◌≡◌, ℕ, zero, suc, ◌+◌, List, [], ◌∷◌, ◌++◌, length, drop, Option, Some, None}
+use Rattle.std.specs.Prelude.{◌≡◌, ℕ, zero, suc, List, [], ◌∷◌, ◌++◌, length, drop, Option, None}
 use Rattle.std.specs.List.{flat_map}
 use Rattle.dr_meaning.specs.Record.{Value}
 use Rattle.dr_meaning.specs.Query.{Object, no_entries, cell, list, Objects, no_objects, object, objects_of}

@@ -39,11 +39,7 @@ fn row_shape(alloc: Global, items: &[GroupItem]) -> Result<Shape, NoMemory>
 
 /// The shape of the objects that a record query makes at a level.
 #[cycle(shapes)]
-fn object_shape(
-    alloc: Global,
-    items: &[RecordItem],
-    object: &ObjectPlan,
-) -> Result<Shape, NoMemory>
+fn object_shape(alloc: Global, items: &[RecordItem], object: &ObjectPlan) -> Result<Shape, NoMemory>
     ensures { IfOk result (λ s. shape_view s ≡ tree_shape (item_names items.now) (object_view object.now)) }
 {
     let names = names_of(alloc, items, &object.items)?;

@@ -1,7 +1,7 @@
 -- Texts that grow part by part, as the cells of a result are read.
 use Rattle.std.specs.Prelude.{◌≡◌, ◌<◌, ◌≤◌, ℕ, zero, suc, ◌+◌, ◌-◌, List, [], ◌∷◌, ◌++◌, map, length, get_or, drop, Bool, true, false, ◌||◌, not, nat_lt, nat_eq, if◌then◌else◌, is_ok, Result, Ok, Err, OnOk, String, string_bytes}
 use Rattle.std.specs.declared.alloc.Global.{Global}
-use Rattle.std.specs.List.{join_with_byte, flat_map}
+use Rattle.std.specs.List.{join_with_byte}
 use Rattle.std.proofs.Common.{refl, sym, ap, ap₂, ◌∙◌, arith, append_assoc, append-nil}
 use Rattle.std.proofs.lemmas.List.{drop_more, drop_all, drop-drop}
 use Rattle.std.proofs.Math.Dec.{eqb-suc-zero}
@@ -9,10 +9,10 @@ use Rattle.json.specs.Print.{quoted}
 use Rattle.dr_meaning.specs.Query.{Object, list, Objects, objects_of}
 use Rattle.dr_meaning.specs.Print.{member_text, cell_text, bracketed, object_text, object_texts, entry_texts, result_text}
 use Rattle.dr_cells.specs.Results.{ResultCell, first_value, first_count, ShapeTree, shape_tree, ListShapes, list_shape, no_list_shapes, count_lists, ReadObject, ReadObjects, with_values, read_object, read_lists, read_times}
-use Rattle.dr_cells.specs.Shapes.{shape_view, lists_view, list_view, SeenList}
+use Rattle.dr_cells.specs.Shapes.{shape_view, lists_view, SeenList}
 use Rattle.dr_cells.specs.declared.shape.ListShape as lists
 use Rattle.dr_cells.proofs.ShapeLemmas.{view-list_shape}
-use Rattle.dr_result_text.specs.Parts.{own_value, comma_if, separated, value_members}
+use Rattle.dr_result_text.specs.Parts.{comma_if, separated, value_members}
 
 -- what joined is what should
 pub joined : {E : Type 0} (r : Result (Unit {0}) E) (new old s t : List ℕ) → new ≡ (if is_ok r then old ++ s else old) → s ≡ t → OnOk r (new ≡ old ++ t)
@@ -66,9 +66,9 @@ value_more ns cs ds k n old text t u v h at e f g i so_far =
     let rest : List (List ℕ) = value_members (drop (k + 1) ns) (drop 1 (drop k cs)) in
     let next : drop k ns ≡ n ∷ drop (k + 1) ns = drop_more ns k n h ∙ ap (λ (x : List ℕ). x ∷ drop (k + 1) ns) (sym at) in
     let all : v ≡ (text ++ comma_if (nat_lt 0 k)) ++ member_text n own =
-        i ∙ ap₂ (λ (x : List ℕ) (xs : List ResultCell). x ++ cell_text (first_value xs)) (g ∙ ap (λ (x : List ℕ). x ++ (quoted n ++ 58 ∷ [])) f) e
-        ∙ append_assoc (text ++ comma_if (nat_lt 0 k)) (quoted n ++ 58 ∷ []) own
-        ∙ ap (λ (x : List ℕ). (text ++ comma_if (nat_lt 0 k)) ++ x) (one_value (quoted n) own) in
+    i ∙ ap₂ (λ (x : List ℕ) (xs : List ResultCell). x ++ cell_text (first_value xs)) (g ∙ ap (λ (x : List ℕ). x ++ (quoted n ++ 58 ∷ [])) f) e
+    ∙ append_assoc (text ++ comma_if (nat_lt 0 k)) (quoted n ++ 58 ∷ []) own
+    ∙ ap (λ (x : List ℕ). (text ++ comma_if (nat_lt 0 k)) ++ x) (one_value (quoted n) own) in
     ap₂ (λ (b : Bool) (xs : List ResultCell). v ++ separated b (value_members (drop (k + 1) ns) xs)) (more_than_none k) (one_dropped k cs)
     ∙ after_part (nat_lt 0 k) (member_text n own) rest text v all
     ∙ ap (λ (ms : List (List ℕ)). text ++ separated (nat_lt 0 k) (value_members ms (drop k cs))) (sym next)
@@ -104,7 +104,7 @@ object_more s ns ls cs ks ds b old t u v w e f g h i j k l =
     let values : List ℕ = separated false (value_members ns cs) in
     let lists : Object = (read_lists ls ks ds).object in
     let same : (read_lists ls ks ds).object ≡ (read_lists ls (drop (length ns) cs) (drop (count_lists ls) (drop (length ns) cs))).object =
-        ap (λ (xs : List ResultCell). (read_lists ls ks xs).object) g ∙ ap (λ (xs : List ResultCell). (read_lists ls xs (drop (count_lists ls) xs)).object) f in
+    ap (λ (xs : List ResultCell). (read_lists ls ks xs).object) g ∙ ap (λ (xs : List ResultCell). (read_lists ls xs (drop (count_lists ls) xs)).object) f in
     l ∙ ap (λ (x : List ℕ). x ++ 125 ∷ []) (k ∙ ap (λ (x : List ℕ). x ++ separated b (entry_texts lists)) (j ∙ ap (λ (x : List ℕ). x ++ values) i))
     ∙ braces old values (separated b (entry_texts lists))
     ∙ ap (λ (x : List ℕ). old ++ 123 ∷ (x ++ 125 ∷ [])) (all_entries ns cs (entry_texts lists) b h ∙ separated-all (value_members ns cs ++ entry_texts lists)
@@ -154,24 +154,26 @@ list_more all left n s others counts k m begin cs ds behind old text t u v w x e
     let front : List ℕ = text ++ comma_if (behind || nat_lt 0 k) in
     let rest : ReadObject = read_lists others (drop 1 (drop k counts)) ds in
     let made : x ≡ front ++ member_text n (bracketed objects) =
-        q ∙ ap (λ (y : List ℕ). y ++ 93 ∷ []) (p ∙ ap₂ (λ (y z : List ℕ). y ++ z) (j ∙ ap (λ (y : List ℕ). y ++ 91 ∷ []) (i ∙ ap (λ (y : List ℕ). y ++ (quoted n ++ 58 ∷ [])) h)) (separated-all objects))
-        ∙ brackets front (quoted n) (join_with_byte 44 objects) in
+    q ∙ ap (λ (y : List ℕ). y ++ 93 ∷ []) (p ∙ ap₂ (λ (y z : List ℕ). y ++ z) (j ∙ ap (λ (y : List ℕ). y ++ 91 ∷ []) (i ∙ ap (λ (y : List ℕ). y ++ (quoted n ++ 58 ∷ [])) h)) (separated-all objects))
+    ∙ brackets front (quoted n) (join_with_byte 44 objects) in
     let later : read_lists others (drop (k + 1) counts) ds ≡ rest = ap (λ (xs : List ResultCell). read_lists others xs ds) (one_dropped k counts) in
     let here : read_lists left (drop k counts) cs ≡ record { object = list n (objects_of (read_times (read_object s) m cs).objects) rest.object; rest = rest.rest } =
-        ap (λ (y : ListShapes). read_lists y (drop k counts) cs) e
-        ∙ ap (λ i. list_read n s others (drop 1 (drop k counts)) (read_times (read_object s) i cs)) (sym f)
-        ∙ ap (λ (xs : List ResultCell). list_made n (objects_of (read_times (read_object s) m cs).objects) (read_lists others (drop 1 (drop k counts)) xs)) (sym g) in
-    (ap₂ (λ (b : Bool) (r : ReadObject). x ++ separated b (entry_texts r.object)) (or_true behind (nat_lt 0 (k + 1)) (more_than_none k)) later
-    ∙ after_part (behind || nat_lt 0 k) (member_text n (bracketed objects)) (entry_texts rest.object) text x made
-    ∙ ap (λ (r : ReadObject). text ++ separated (behind || nat_lt 0 k) (entry_texts r.object)) (sym here)
-    ∙ so_far.0,
-    ap (λ (r : ReadObject). r.rest) later ∙ ap (λ (r : ReadObject). r.rest) (sym here) ∙ so_far.1)
+    ap (λ (y : ListShapes). read_lists y (drop k counts) cs) e
+    ∙ ap (λ i. list_read n s others (drop 1 (drop k counts)) (read_times (read_object s) i cs)) (sym f)
+    ∙ ap (λ (xs : List ResultCell). list_made n (objects_of (read_times (read_object s) m cs).objects) (read_lists others (drop 1 (drop k counts)) xs)) (sym g) in (
+      ap₂ (λ (b : Bool) (r : ReadObject). x ++ separated b (entry_texts r.object)) (or_true behind (nat_lt 0 (k + 1)) (more_than_none k)) later
+          ∙ after_part (behind || nat_lt 0 k) (member_text n (bracketed objects)) (entry_texts rest.object) text x made
+          ∙ ap (λ (r : ReadObject). text ++ separated (behind || nat_lt 0 k) (entry_texts r.object)) (sym here)
+          ∙ so_far.0,
+      ap (λ (r : ReadObject). r.rest) later ∙ ap (λ (r : ReadObject). r.rest) (sym here) ∙ so_far.1,
+    )
 
 pub no_lists_left : (all left : ListShapes) (counts : List ResultCell) (k : ℕ) (begin cs : List ResultCell) (behind : Bool) (old text : List ℕ) → left ≡ no_list_shapes → Lists all left counts k begin cs behind old text
     → (text ≡ old ++ separated behind (entry_texts (read_lists all counts begin).object)) × (cs ≡ (read_lists all counts begin).rest)
-no_lists_left all left counts k begin cs behind old text e so_far =
-    (sym (ap (λ (y : ListShapes). text ++ separated (behind || nat_lt 0 k) (entry_texts (read_lists y (drop k counts) cs).object)) e ∙ append-nil text) ∙ so_far.0,
-    sym (ap (λ (y : ListShapes). (read_lists y (drop k counts) cs).rest) e) ∙ so_far.1)
+no_lists_left all left counts k begin cs behind old text e so_far = (
+  sym (ap (λ (y : ListShapes). text ++ separated (behind || nat_lt 0 k) (entry_texts (read_lists y (drop k counts) cs).object)) e ∙ append-nil text) ∙ so_far.0,
+  sym (ap (λ (y : ListShapes). (read_lists y (drop k counts) cs).rest) e) ∙ so_far.1,
+)
 
 -- ---- objects of a list
 
@@ -196,21 +198,23 @@ times_more read total k begin cs ds old text t u h e f g so_far =
     let left : ReadObjects = read_times read (total - (k + 1)) (read cs).rest in
     let o : Object = (read cs).object in
     let here : read_times read (total - k) cs ≡ record { objects = o ∷ left.objects; rest = left.rest } = ap (λ m. read_times read m cs) (one_left total k h) in
-    let later : read_times read (total - (k + 1)) ds ≡ left = ap (read_times read (total - (k + 1))) g in
-    (ap₂ (λ (b : Bool) (r : ReadObjects). u ++ separated b (object_texts (objects_of r.objects))) (more_than_none k) later
-    ∙ after_part (nat_lt 0 k) (object_text o) (object_texts (objects_of left.objects)) text u (f ∙ ap (λ (y : List ℕ). y ++ object_text o) e)
-    ∙ ap (λ (r : ReadObjects). text ++ separated (nat_lt 0 k) (object_texts (objects_of r.objects))) (sym here)
-    ∙ so_far.0,
-    ap (λ (r : ReadObjects). r.rest) later ∙ ap (λ (r : ReadObjects). r.rest) (sym here) ∙ so_far.1)
+    let later : read_times read (total - (k + 1)) ds ≡ left = ap (read_times read (total - (k + 1))) g in (
+      ap₂ (λ (b : Bool) (r : ReadObjects). u ++ separated b (object_texts (objects_of r.objects))) (more_than_none k) later
+          ∙ after_part (nat_lt 0 k) (object_text o) (object_texts (objects_of left.objects)) text u (f ∙ ap (λ (y : List ℕ). y ++ object_text o) e)
+          ∙ ap (λ (r : ReadObjects). text ++ separated (nat_lt 0 k) (object_texts (objects_of r.objects))) (sym here)
+          ∙ so_far.0,
+      ap (λ (r : ReadObjects). r.rest) later ∙ ap (λ (r : ReadObjects). r.rest) (sym here) ∙ so_far.1,
+    )
 
 none_left : (n k : ℕ) → n ≤ k → n - k ≡ 0
 none_left n k h = omega (arith, h)
 
 pub no_times_left : (read : List ResultCell → ReadObject) (total k : ℕ) (begin cs : List ResultCell) (old text : List ℕ) → total ≤ k → Times read total k begin cs old text
     → (text ≡ old ++ separated false (object_texts (objects_of (read_times read total begin).objects))) × (cs ≡ (read_times read total begin).rest)
-no_times_left read total k begin cs old text h so_far =
-    (sym (ap (λ m. text ++ separated (nat_lt 0 k) (object_texts (objects_of (read_times read m cs).objects))) (none_left total k h) ∙ append-nil text) ∙ so_far.0,
-    sym (ap (λ m. (read_times read m cs).rest) (none_left total k h)) ∙ so_far.1)
+no_times_left read total k begin cs old text h so_far = (
+  sym (ap (λ m. text ++ separated (nat_lt 0 k) (object_texts (objects_of (read_times read m cs).objects))) (none_left total k h) ∙ append-nil text) ∙ so_far.0,
+  sym (ap (λ m. (read_times read m cs).rest) (none_left total k h)) ∙ so_far.1,
+)
 
 -- ---- lines
 

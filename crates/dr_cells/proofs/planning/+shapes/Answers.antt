@@ -1,4 +1,4 @@
-use Rattle.std.proofs.Common.{◌≡◌, ◌∙◌, sym, ap, ap₂, List, arith, length, get_or}
+use Rattle.std.proofs.Common.{◌≡◌, ◌∙◌, sym, ap, List, arith, length, get_or}
 use Rattle.std.proofs.lemmas.List.{drop_all}
 use Rattle.dr_plan.specs.declared.objects.ListPlan as list_plans
 use Rattle.dr_cells.specs.Results.{ListShapes}

@@ -1,4 +1,4 @@
-use Rattle.std.proofs.Common.{◌∙◌, rules}
+use Rattle.std.proofs.Common.{◌∙◌}
 use Rattle.dr_cells.proofs.ShapeLemmas.{name_pushed, no_name}
 use Rattle.dr_cells.proofs.planning.push_name.Goals as goal
 

@@ -1,6 +1,6 @@
-use Rattle.std.proofs.Common.{◌≡◌, ◌+◌, ◌<◌, ◌≤◌, ◌++◌, ◌∙◌, ap, false, String, Global, sym, map, drop, string_bytes, arith, length, get_or, List, nat_lt, nat_eq, not, vec_len, ℕ}
+use Rattle.std.proofs.Common.{◌≡◌, ◌+◌, ◌++◌, ◌∙◌, ap, false, String, Global, sym, map, drop, string_bytes, arith, length, get_or, List, nat_eq, not, vec_len, ℕ}
 use Rattle.std.proofs.lemmas.List.{length-map}
-use Rattle.dr_cells.specs.Results.{ResultCell, ShapeTree, shape_tree, read_object, count_lists, list_shape, first_count}
+use Rattle.dr_cells.specs.Results.{ResultCell, read_object, count_lists, list_shape, first_count}
 use Rattle.dr_cells.specs.Shapes.{shape_view, lists_view}
 use Rattle.dr_cells.specs.Views.{cells_view}
 use Rattle.dr_cells.specs.declared.shape.Shape as shapes

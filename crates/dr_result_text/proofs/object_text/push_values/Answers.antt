@@ -1,7 +1,6 @@
-use Rattle.std.proofs.Common.{◌≡◌, ◌∙◌, ap, sym, map, drop, string_bytes, arith, length, get_or, nat_lt}
+use Rattle.std.proofs.Common.{map, drop, string_bytes, arith}
 use Rattle.std.proofs.lemmas.List.{length-map}
 use Rattle.dr_cells.specs.Views.{cells_view}
-use Rattle.dr_result_text.specs.Parts.{comma_if}
 use Rattle.dr_result_text.proofs.PartLemmas.{value_more, text_there}
 use Rattle.dr_result_text.proofs.object_text.push_values.Goals as goal
 

@@ -1,4 +1,4 @@
-use Rattle.std.proofs.Common.{◌≡◌, ◌∙◌, drop, string_bytes, List}
+use Rattle.std.proofs.Common.{drop, string_bytes, List}
 use Rattle.dr_cells.specs.Results.{ResultCell, read_object, read_rows}
 use Rattle.dr_cells.specs.Shapes.{shape_view}
 use Rattle.dr_cells.specs.Views.{cells_view}

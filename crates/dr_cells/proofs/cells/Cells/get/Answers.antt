@@ -1,4 +1,4 @@
-use Rattle.std.proofs.Common.{◌≡◌, ◌<◌, ◌∙◌, ap, sym, arith, length, drop, ◌∷◌, ◌+◌}
+use Rattle.std.proofs.Common.{◌<◌, ◌∙◌, ap, sym, arith, length, drop, ◌∷◌, ◌+◌}
 use Rattle.std.proofs.lemmas.List.{length-map}
 use Rattle.dr_levels.proofs.TextLemmas.{map_there, all_there}
 use Rattle.dr_cells.specs.Held.{cell_view, is_cell}
