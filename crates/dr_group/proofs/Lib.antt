@@ -1,0 +1,2 @@
+-- the order of key tuples, cell by cell
+pub mod OrderLemmas

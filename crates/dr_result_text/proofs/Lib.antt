@@ -1,0 +1,2 @@
+-- texts that grow part by part
+pub mod PartLemmas

@@ -1,0 +1,2 @@
+-- the parts of a text
+pub mod Parts
