@@ -1,0 +1,4 @@
+-- rows held flat
+pub mod TableLemmas
+-- filling the values of leaves
+pub mod FillingLemmas

@@ -1,0 +1,6 @@
+-- what a row is known by
+pub mod Known
+-- what the types stand for
+pub mod Views
+-- how rows are gone through
+pub mod Walking

@@ -1,0 +1,11 @@
+//! Rows of a record as the values of leaves in them, and what a condition leaves of a record (Dremel 2010, section 5).
+#![tactic(auto)]
+
+mod instance_ref;
+mod looking;
+mod row;
+mod table;
+
+pub use instance_ref::InstanceRef;
+pub use row::Row;
+pub use table::Rows;
