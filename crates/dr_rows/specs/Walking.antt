@@ -1,5 +1,5 @@
 -- How the rows of a level are gone through: instance by instance, with the values of the leaves in the row at hand.
-use Rattle.std.specs.Prelude.{List, [], ◌∷◌, ◌++◌, Bool, true, false, ◌==◌, if◌then◌else◌, Option, Some, None}
+use Rattle.std.specs.Prelude.{◌≡◌, List, [], ◌∷◌, ◌++◌, Bool, true, false, ◌==◌, if◌then◌else◌, Option, Some, None}
 use Rattle.dr_meaning.specs.Path.{Step}
 use Rattle.dr_meaning.specs.Record.{Value, Instances, no_instances, instance, Instance, instances_in}
 use Rattle.dr_meaning.specs.Rows.{value_in}
@@ -35,3 +35,7 @@ for_some f vs (instance x xs) = for_each f (instance x xs)
 abbrev pub rows_below : List (List Step) → List Step → List Step → Instance → List (Option Value) → List Known
 rows_below leaves q [] x vs = record { values = filled q x leaves vs; end = Some x } ∷ []
 rows_below leaves q (s ∷ p) x vs = for_some (λ y. rows_below leaves (q ++ s ∷ []) p y (filled q x leaves vs)) (filled q x leaves vs) (instances_in s.place x)
+
+-- values that differ only at the leaves below the end of a path
+abbrev pub Keeps : List (List Step) → List Step → List (Option Value) → List (Option Value) → Type 0
+Keeps leaves q vs us = (x : Instance) → filled q x leaves us ≡ filled q x leaves vs

@@ -5,6 +5,7 @@ mod instance_ref;
 mod looking;
 mod row;
 mod table;
+mod walking;
 
 pub use instance_ref::InstanceRef;
 pub use row::Row;
