@@ -4,3 +4,7 @@ pub mod TableLemmas
 pub mod FillingLemmas
 -- going through rows
 pub mod WalkingLemmas
+-- putting instances into a node
+pub mod PuttingLemmas
+-- the rows are those of the level
+pub mod RowsLemmas

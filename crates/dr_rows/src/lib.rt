@@ -2,6 +2,7 @@
 #![tactic(auto)]
 
 mod instance_ref;
+mod listing;
 mod looking;
 mod row;
 mod table;
@@ -9,4 +10,5 @@ mod walking;
 
 pub use instance_ref::InstanceRef;
 pub use row::Row;
+pub use listing::rows_of;
 pub use table::Rows;

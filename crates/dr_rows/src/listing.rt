@@ -1,0 +1,33 @@
+//! The rows of a record.
+
+ghost use Rattle.std.specs.Prelude.{◌≡◌, map, IfOk};
+ghost use Rattle.dr_meaning.specs.Rows as rows_meaning;
+ghost use Rattle.dr_nested.specs.Views.{node_view};
+ghost use Rattle.dr_nested.specs.PathView.{step_view};
+ghost use Rattle.dr_rows.specs.Known.{known};
+ghost use Rattle.dr_rows.specs.Views.{paths_view, rows_view};
+
+use crate::instance_ref::InstanceRef;
+use crate::table::Rows;
+use crate::walking::walk;
+use dr_nested::{NoMemory, Node, Path, Step};
+use std::alloc::Global;
+
+/// The rows of a record at a level, in order: of each the values of the leaves, and the instance at the level's end.
+/// Nothing of the record is copied.
+///
+/// Errors: want of memory alone.
+pub fn rows_of<'n>(
+    alloc: Global,
+    leaves: &[Path],
+    level: &[Step],
+    whole: &'n Node,
+) -> Result<Rows<'n>, NoMemory>
+    ensures { IfOk result (λ t. rows_view t ≡ map (known (paths_view leaves.now) (map step_view level.now)) (rows_meaning.rows (map step_view level.now) (node_view whole.now))) }
+{
+    let mut values = Vec::new(alloc);
+    values.resize(leaves.len(), None)?;
+    let mut rows = Rows::new(alloc, leaves.len());
+    walk(leaves, level, 0, InstanceRef::Group(whole), &mut values, &mut rows)?;
+    Ok(rows)
+}
