@@ -8,3 +8,5 @@ pub mod WalkingLemmas
 pub mod PuttingLemmas
 -- the rows are those of the level
 pub mod RowsLemmas
+-- rows within a row
+pub mod CutLemmas

@@ -36,6 +36,11 @@ abbrev pub rows_below : List (List Step) → List Step → List Step → Instanc
 rows_below leaves q [] x vs = record { values = filled q x leaves vs; end = Some x } ∷ []
 rows_below leaves q (s ∷ p) x vs = for_some (λ y. rows_below leaves (q ++ s ∷ []) p y (filled q x leaves vs)) (filled q x leaves vs) (instances_in s.place x)
 
+-- the same where the instance may be absent: then one row
+abbrev pub rows_from_end : List (List Step) → List Step → List Step → List (Option Value) → Option Instance → List Known
+rows_from_end leaves q p vs None = record { values = vs; end = None } ∷ []
+rows_from_end leaves q p vs (Some x) = rows_below leaves q p x vs
+
 -- values that differ only at the leaves below the end of a path
 abbrev pub Keeps : List (List Step) → List Step → List (Option Value) → List (Option Value) → Type 0
 Keeps leaves q vs us = (x : Instance) → filled q x leaves us ≡ filled q x leaves vs

@@ -9,6 +9,6 @@ mod table;
 mod walking;
 
 pub use instance_ref::InstanceRef;
+pub use listing::{rows_of, rows_within};
 pub use row::Row;
-pub use listing::rows_of;
 pub use table::Rows;

@@ -1,9 +1,9 @@
 //! Going through the rows of a level.
 
-ghost use Rattle.std.specs.Prelude.{◌≡◌, ◌≤◌, ◌<◌, ◌+◌, ◌++◌, ◌∷◌, [], length, map, take, drop, OnOk};
+ghost use Rattle.std.specs.Prelude.{◌≡◌, ◌≤◌, ◌<◌, ◌+◌, ◌++◌, ◌∷◌, [], length, map, take, drop, option_map, OnOk};
 ghost use Rattle.dr_nested.specs.PathView.{step_view};
 ghost use Rattle.dr_rows.specs.Views.{lent_instance, lent_cells, paths_view, rows_view};
-ghost use Rattle.dr_rows.specs.Walking.{rows_below, Keeps};
+ghost use Rattle.dr_rows.specs.Walking.{rows_below, rows_from_end, Keeps};
 
 use crate::instance_ref::InstanceRef;
 use crate::looking::fill;
@@ -52,4 +52,27 @@ pub fn walk<'n>(
         walk(leaves, level, depth + 1, InstanceRef::of(below), values, rows)?;
     }
     Ok(())
+}
+
+/// Appends the rows of a level below what stands at the end of the level's first steps: where nothing does, one row.
+///
+/// Errors: want of memory alone.
+pub fn walk_from_end<'n>(
+    leaves: &[Path],
+    level: &[Step],
+    depth: usize,
+    end: Option<InstanceRef<'n>>,
+    values: &mut [Option<ValueRef<'n>>],
+    rows: &mut Rows<'n>,
+) -> Result<(), NoMemory>
+    requires depth { depth ≤ length level.now }
+    requires values { length values.old ≡ length leaves.now }
+    requires width { (rows.old).width ≡ length leaves.now }
+    ensures { OnOk result (rows_view rows.new ≡ rows_view rows.old ++ rows_from_end (paths_view leaves.now)
+        (map step_view (take depth level.now)) (map step_view (drop depth level.now)) (lent_cells values.old) (option_map lent_instance end.entry)) }
+{
+    match end {
+        Some(instance) => walk(leaves, level, depth, instance, values, rows),
+        None => rows.push(values, None),
+    }
 }
