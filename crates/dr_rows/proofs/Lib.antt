@@ -10,3 +10,7 @@ pub mod PuttingLemmas
 pub mod RowsLemmas
 -- rows within a row
 pub mod CutLemmas
+-- pruning
+pub mod PruningLemmas
+-- what is pruned is what a test keeps
+pub mod KeptLemmas

@@ -4,3 +4,5 @@ pub mod Known
 pub mod Views
 -- how rows are gone through
 pub mod Walking
+-- pruning by answers
+pub mod Pruning
