@@ -3,11 +3,11 @@ use Rattle.std.specs.Prelude.{◌≡◌, ℕ, List, [], ◌∷◌, ◌++◌, len
 use Rattle.std.proofs.Common.{refl, sym, ap, ap₂, ◌∙◌, arith, append_assoc, append-nil}
 use Rattle.std.proofs.lemmas.Bool.Decides.{nat_tests}
 use Rattle.dr_meaning.specs.Path.{Step}
-use Rattle.dr_meaning.specs.Record.{Value, Node, Instances, no_instances, instance, Instance, atom, inner, instances_at, instances_in}
+use Rattle.dr_meaning.specs.Record.{Value, Node, Instances, no_instances, instance, Instance, inner, instances_in}
 use Rattle.dr_meaning.specs.Rows.{rows, first_value, value_in}
 use Rattle.dr_rows.specs.Known.{Known, known, end_in, first_end, is_cut, is_cut_in, only_one, values_at}
 use Rattle.dr_rows.specs.Walking.{behind, filled, filled_one, for_each, for_some, rows_below, rows_from_end}
-use Rattle.dr_rows.proofs.WalkingLemmas.{behind_step, behind_further, filled_twice, keeps_fill, rows_kept}
+use Rattle.dr_rows.proofs.WalkingLemmas.{behind_step, behind_further, keeps_fill, rows_kept}
 use Rattle.dr_rows.proofs.RowsLemmas.{rows_are, values_from_start}
 
 -- ---- the first instance has the values that are taken

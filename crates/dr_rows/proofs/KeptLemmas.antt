@@ -1,13 +1,13 @@
 -- What is pruned by the answers of a test is what the test keeps.
 use Rattle.std.specs.Prelude.{◌≡◌, List, [], ◌∷◌, ◌++◌, map, Bool, true, false, Option, option_map}
-use Rattle.std.proofs.Common.{refl, sym, ap, ap₂, ◌∙◌, append_assoc, append-nil}
+use Rattle.std.proofs.Common.{refl, sym, ap, ◌∙◌, append_assoc, append-nil}
 use Rattle.std.proofs.lemmas.List.{map-append}
 use Rattle.std.proofs.lemmas.Simd.{map-map}
 use Rattle.dr_meaning.specs.Path.{Step}
 use Rattle.dr_meaning.specs.Record.{Node, Instances, no_instances, instance, Instance, atom, inner, single, instances_at, put_at}
 use Rattle.dr_meaning.specs.Rows.{instance_rows, each_instance_rows, field_rows, rows}
-use Rattle.dr_meaning.specs.Kept.{with_kept, keep_each, if_some_kept, keep_below, keep_instance, kept_along}
-use Rattle.dr_rows.specs.Pruning.{Pruned, first_answer, kept_if, by_answer, before_pruned, pruned_each, some_instances, pruned_field, pruned_instance, put_field, pruned_along}
+use Rattle.dr_meaning.specs.Kept.{keep_each, if_some_kept, keep_below, keep_instance, kept_along}
+use Rattle.dr_rows.specs.Pruning.{Pruned, kept_if, before_pruned, pruned_each, some_instances, pruned_field, pruned_instance, put_field, pruned_along}
 use Rattle.dr_rows.proofs.PuttingLemmas.{put_same}
 
 abbrev pruned : {A : Type 0} → A → List Bool → Pruned A

@@ -14,3 +14,5 @@ pub mod CutLemmas
 pub mod PruningLemmas
 -- what is pruned is what a test keeps
 pub mod KeptLemmas
+-- laws of rows
+pub mod RowLawLemmas

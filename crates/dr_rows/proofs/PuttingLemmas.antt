@@ -1,7 +1,7 @@
 -- What a node has where instances of a field are put.
 use Rattle.std.specs.Prelude.{◌≡◌, ◌≢◌, ℕ, zero, suc}
 use Rattle.std.proofs.Common.{refl, ap}
-use Rattle.dr_meaning.specs.Record.{Node, no_slots, slot, gap, Instances, no_instances, instance, Instance, instances_at, put_at}
+use Rattle.dr_meaning.specs.Record.{Node, no_slots, slot, gap, Instances, instance, Instance, instances_at, put_at}
 
 -- a field that has an instance has what is put
 pub put_there : (i : ℕ) (xs zs : Instances) (z : Instance) (n : Node) → instances_at i n ≡ instance z zs → instances_at i (put_at i xs n) ≡ xs

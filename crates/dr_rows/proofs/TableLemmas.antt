@@ -1,7 +1,7 @@
 -- Rows that are held flat.
-use Rattle.std.specs.Prelude.{◌≡◌, ◌<◌, ◌≤◌, ℕ, zero, suc, ◌+◌, ◌-◌, ◌*◌, List, [], ◌∷◌, ◌++◌, length, take, drop, get_or, Option, option_map}
-use Rattle.std.proofs.Common.{refl, sym, ap, ap₂, ◌∙◌, arith, add-one}
-use Rattle.std.proofs.lemmas.List.{drop-drop, drop-append-le, take-append-le, take_all, drop_all, length-drop}
+use Rattle.std.specs.Prelude.{◌≡◌, ◌<◌, ◌≤◌, ℕ, zero, suc, ◌+◌, ◌*◌, List, [], ◌∷◌, ◌++◌, length, take, drop, get_or, Option, option_map}
+use Rattle.std.proofs.Common.{refl, sym, ap, ap₂, ◌∙◌, arith}
+use Rattle.std.proofs.lemmas.List.{drop-drop, drop-append-le, take-append-le, take_all, length-drop}
 use Rattle.std.proofs.Math.Nat.{suc-mul}
 use Rattle.dr_levels.specs.declared.triplet.ValueRef.{ValueRef}
 use Rattle.dr_rows.specs.declared.instance_ref.InstanceRef.{InstanceRef}

@@ -1,11 +1,9 @@
 -- Going through rows, as the values of leaves are filled in place.
-use Rattle.std.specs.Prelude.{◌≡◌, ◌≢◌, ◌<◌, ℕ, zero, suc, ◌+◌, List, [], ◌∷◌, ◌++◌, length, map, take, drop, get_or, Bool, true, false, ◌==◌, if◌then◌else◌, Option, Some, None, Result, Ok, Err, OnOk}
+use Rattle.std.specs.Prelude.{◌≡◌, ◌≢◌, ◌<◌, ℕ, ◌+◌, List, [], ◌∷◌, ◌++◌, length, drop, get_or, Bool, true, false, ◌==◌, if◌then◌else◌, Option, Some, None, Result, Ok, Err, OnOk}
 use Rattle.std.proofs.Common.{refl, sym, ap, ap₂, ◌∙◌, subst, append_assoc}
-use Rattle.std.proofs.lemmas.List.{drop_more, map-append}
+use Rattle.std.proofs.lemmas.List.{drop_more}
 use Rattle.dr_meaning.specs.Path.{Step}
-use Rattle.dr_meaning.specs.Record.{Value, Instances, no_instances, instance, Instance, instances_in}
-use Rattle.dr_nested.specs.PathView.{step_view}
-use Rattle.dr_nested.specs.declared.path.Step as steps
+use Rattle.dr_meaning.specs.Record.{Value, Instance, instances_in}
 use Rattle.dr_nested.specs.declared.record.Instance as instances
 use Rattle.dr_nested.specs.Views.{instance_view, instances_view}
 use Rattle.dr_rows.specs.Known.{Known}

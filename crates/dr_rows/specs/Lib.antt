@@ -6,3 +6,5 @@ pub mod Views
 pub mod Walking
 -- pruning by answers
 pub mod Pruning
+-- laws of rows
+pub mod RowLaws

@@ -1,5 +1,5 @@
 -- Pruning a record by the answers of a test: one for each row of a level, in order.
-use Rattle.std.specs.Prelude.{List, [], ◌∷◌, drop, Bool, true, false, if◌then◌else◌, Option, Some, None, option_map}
+use Rattle.std.specs.Prelude.{List, [], ◌∷◌, drop, Bool, false, if◌then◌else◌, Option, Some, None, option_map}
 use Rattle.dr_meaning.specs.Path.{Step}
 use Rattle.dr_meaning.specs.Record.{Node, Instances, no_instances, instance, Instance, atom, inner, instances_at, put_at}
 use Rattle.dr_meaning.specs.Kept.{with_kept}

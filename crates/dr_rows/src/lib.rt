@@ -3,6 +3,7 @@
 
 mod answers;
 mod instance_ref;
+mod laws;
 mod listing;
 mod looking;
 mod pruning;
@@ -12,6 +13,7 @@ mod table;
 mod walking;
 
 pub use instance_ref::InstanceRef;
+pub use laws::rows_are_cut;
 pub use listing::{rows_of, rows_within};
 pub use pruning::prune;
 pub use row::Row;

@@ -30,7 +30,14 @@ pub fn rows_of<'n>(
     let mut values = Vec::new(alloc);
     values.resize(leaves.len(), None)?;
     let mut rows = Rows::new(alloc, leaves.len());
-    walk(leaves, level, 0, InstanceRef::Group(whole), &mut values, &mut rows)?;
+    walk(
+        leaves,
+        level,
+        0,
+        InstanceRef::Group(whole),
+        &mut values,
+        &mut rows,
+    )?;
     Ok(rows)
 }
 

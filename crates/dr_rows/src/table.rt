@@ -76,7 +76,11 @@ impl<'n> Rows<'n> {
     /// Appends a row.
     ///
     /// Errors: want of memory alone.
-    pub(crate) fn push(&mut self, values: &[Option<ValueRef<'n>>], end: Option<InstanceRef<'n>>) -> Result<(), NoMemory>
+    pub(crate) fn push(
+        &mut self,
+        values: &[Option<ValueRef<'n>>],
+        end: Option<InstanceRef<'n>>,
+    ) -> Result<(), NoMemory>
         requires { length values.now ≡ (self.old).width }
         ensures row { OnOk result (rows_view self.new ≡ rows_view self.old ++ record { values = lent_cells values.now; end = option_map lent_instance end.entry } ∷ []) }
         ensures width { (self.new).width ≡ (self.old).width }

@@ -49,7 +49,14 @@ pub fn walk<'n>(
         return rows.push(values, None);
     }
     'instances: for below in instances {
-        walk(leaves, level, depth + 1, InstanceRef::of(below), values, rows)?;
+        walk(
+            leaves,
+            level,
+            depth + 1,
+            InstanceRef::of(below),
+            values,
+            rows,
+        )?;
     }
     Ok(())
 }

@@ -1,8 +1,6 @@
 use Rattle.std.proofs.Common.{◌≡◌, ◌++◌, ◌∙◌, ap, sym, arith, length, map, take, drop, List, rules}
 use Rattle.std.specs.Prelude.{option_map}
 use Rattle.std.proofs.lemmas.List.{map-append, take-append-drop}
-use Rattle.dr_levels.specs.declared.triplet.ValueRef.{ValueRef}
-use Rattle.dr_nested.specs.declared.path.Step as steps
 use Rattle.dr_nested.specs.PathView.{step_view}
 use Rattle.dr_rows.specs.Known.{Known}
 use Rattle.dr_rows.specs.Views.{lent_cells, lent_instance, paths_view, row_view}

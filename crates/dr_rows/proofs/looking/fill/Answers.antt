@@ -1,5 +1,4 @@
-use Rattle.std.proofs.Common.{◌∙◌, ap, map, rules, arith, add-one, length}
-use Rattle.std.proofs.lemmas.List.{length-map}
+use Rattle.std.proofs.Common.{◌∙◌, ap, map, rules, arith, add-one}
 use Rattle.std.proofs.Math.ListN.{set}
 use Rattle.dr_nested.specs.PathView.{step_view}
 use Rattle.dr_rows.specs.Views.{lent_instance, lent_cells, paths_view}

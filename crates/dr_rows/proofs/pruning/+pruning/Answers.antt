@@ -1,12 +1,12 @@
-use Rattle.std.proofs.Common.{◌≡◌, ◌≢◌, ◌<◌, ◌≤◌, ◌+◌, ◌∙◌, sym, ap, refl, arith, rules, length, map, take, drop, List}
+use Rattle.std.proofs.Common.{◌≡◌, ◌≢◌, ◌<◌, ◌≤◌, ◌∙◌, sym, ap, refl, arith, rules, length, map, List}
 use Rattle.std.specs.Prelude.{ℕ, Option, option_map, Bool, not, ◌==◌, vec_len}
 use Rattle.dr_nested.specs.PathView.{step_view}
 use Rattle.dr_meaning.specs.Path.{Step}
-use Rattle.dr_meaning.specs.Record.{Instances, no_instances, instances_at, put_at}
-use Rattle.dr_nested.specs.Views.{instance_view, instances_view, slot_view, node_view}
+use Rattle.dr_meaning.specs.Record.{Instances, put_at}
+use Rattle.dr_nested.specs.Views.{instances_view, slot_view, node_view}
 use Rattle.dr_nested.proofs.LookingLemmas.{at_past}
 use Rattle.dr_nested.proofs.SelectionLemmas.{steps_by_first}
-use Rattle.dr_rows.specs.Pruning.{Pruned, kept_if, pruned_along, pruned_each, pruned_field, pruned_instance, slot_instances, some_instances}
+use Rattle.dr_rows.specs.Pruning.{Pruned, kept_if, pruned_along, pruned_field, pruned_instance, some_instances}
 use Rattle.dr_rows.proofs.PruningLemmas.{not_empty, left_more, kept_more, kept_all, held_field, some_if, at_slot, put_slot, same_slots, field_kept, absent_kept}
 use Rattle.dr_rows.proofs.pruning.+pruning.Goals as goal
 

@@ -1,7 +1,7 @@
-use Rattle.std.proofs.Common.{◌+◌, ◌∙◌, ap, arith, length, map, take, drop}
+use Rattle.std.proofs.Common.{◌+◌, ◌∙◌, arith, map, take, drop}
 use Rattle.dr_nested.specs.PathView.{step_view}
 use Rattle.dr_rows.specs.Views.{lent_instance, lent_cells, paths_view, rows_view}
-use Rattle.dr_rows.specs.Walking.{rows_below, for_each, Keeps}
+use Rattle.dr_rows.specs.Walking.{Keeps}
 use Rattle.dr_rows.proofs.WalkingLemmas.{one_more, keeps_fill, keeps_both, keeps_from, on_ok}
 use Rattle.dr_rows.proofs.walking.+walk.Goals as goal
 

@@ -2,7 +2,7 @@ use Rattle.std.proofs.Common.{◌≡◌, ◌+◌, ◌-◌, ◌++◌, length, map
 use Rattle.dr_meaning.specs.Record.{Instance}
 use Rattle.dr_nested.specs.PathView.{step_view}
 use Rattle.dr_nested.specs.Views.{instances_view}
-use Rattle.dr_rows.specs.Views.{lent_instance, lent_cells, paths_view, rows_view}
+use Rattle.dr_rows.specs.Views.{lent_cells, paths_view, rows_view}
 use Rattle.dr_rows.specs.Walking.{rows_below, for_each, Keeps}
 use Rattle.dr_rows.proofs.walking.+walk.Given as goal
 
