@@ -1,0 +1,37 @@
+-- What rows of values stand for.
+use Rattle.std.specs.Prelude.{ℕ, List, [], ◌∷◌, map, take, drop, Option, option_map}
+use Rattle.dr_meaning.specs.Path as path
+use Rattle.dr_meaning.specs.Record as record_tree
+use Rattle.dr_nested.specs.Views.{value_view, node_view}
+use Rattle.dr_nested.specs.PathView.{step_view}
+use Rattle.dr_nested.specs.declared.path.Path.{Path}
+use Rattle.dr_levels.specs.Views.{lent_value}
+use Rattle.dr_levels.specs.declared.triplet.ValueRef.{ValueRef}
+use Rattle.dr_rows.specs.declared.instance_ref.InstanceRef.{InstanceRef}
+use Rattle.dr_rows.specs.declared.row.Row.{Row}
+use Rattle.dr_rows.specs.declared.table.Rows.{Rows}
+use Rattle.dr_rows.specs.Known.{Known}
+
+-- an instance that is lent
+abbrev pub lent_instance : InstanceRef → record_tree.Instance
+lent_instance (InstanceRef.Atom v) = record_tree.atom (value_view v.now)
+lent_instance (InstanceRef.Group n) = record_tree.inner (node_view n.now)
+
+-- values that are lent, NULL where there is none
+abbrev pub lent_cells : List (Option ValueRef) → List (Option record_tree.Value)
+lent_cells vs = map (option_map lent_value) vs
+
+-- the paths of leaves
+abbrev pub paths_view : List Path → List (List path.Step)
+paths_view ls = map (λ (l : Path). map step_view l.steps.items) ls
+
+abbrev pub row_view : Row → Known
+row_view r = record { values = lent_cells r.values.now; end = option_map lent_instance r.end }
+
+-- rows whose values stand one behind another, so many of each
+abbrev pub rows_from : ℕ → List (Option ValueRef) → List (Option InstanceRef) → List Known
+rows_from width vs [] = []
+rows_from width vs (e ∷ es) = record { values = lent_cells (take width vs); end = option_map lent_instance e } ∷ rows_from width (drop width vs) es
+
+abbrev pub rows_view : Rows → List Known
+rows_view t = rows_from t.width t.values.items t.ends.items

@@ -1,0 +1,46 @@
+-- How the rows of a level are gone through: instance by instance, with the values of the leaves in the row at hand.
+use Rattle.std.specs.Prelude.{◌≡◌, List, [], ◌∷◌, ◌++◌, ◌==◌, if◌then◌else◌, Option, Some, None}
+use Rattle.dr_meaning.specs.Path.{Step}
+use Rattle.dr_meaning.specs.Record.{Value, Instances, no_instances, instance, Instance, instances_in}
+use Rattle.dr_meaning.specs.Rows.{value_in}
+use Rattle.dr_rows.specs.Known.{Known}
+
+-- what a path has behind another one that it begins with
+abbrev pub behind : List Step → List Step → Option (List Step)
+behind [] p = Some p
+behind (s ∷ q) [] = None
+behind (s ∷ q) (t ∷ p) = if s.place == t.place then behind q p else None
+
+-- the value at the rest of a leaf's path below an instance; a leaf that is not below it keeps its value
+abbrev pub filled_one : Option (List Step) → Instance → Option Value → Option Value
+filled_one None x v = v
+filled_one (Some p) x v = value_in p x
+
+-- the values of leaves, with those below an instance at the end of a path taken from it
+abbrev pub filled : List Step → Instance → List (List Step) → List (Option Value) → List (Option Value)
+filled q x [] vs = []
+filled q x (p ∷ ps) [] = []
+filled q x (p ∷ ps) (v ∷ vs) = filled_one (behind q p) x v ∷ filled q x ps vs
+
+abbrev pub for_each : (Instance → List Known) → Instances → List Known
+for_each f no_instances = []
+for_each f (instance x xs) = f x ++ for_each f xs
+
+-- a row without an instance of the next field
+abbrev pub for_some : (Instance → List Known) → List (Option Value) → Instances → List Known
+for_some f vs no_instances = record { values = vs; end = None } ∷ []
+for_some f vs (instance x xs) = for_each f (instance x xs)
+
+-- the rows of the rest of a level below an instance that stands at the end of its first steps, where the leaves have these values
+abbrev pub rows_below : List (List Step) → List Step → List Step → Instance → List (Option Value) → List Known
+rows_below leaves q [] x vs = record { values = filled q x leaves vs; end = Some x } ∷ []
+rows_below leaves q (s ∷ p) x vs = for_some (λ y. rows_below leaves (q ++ s ∷ []) p y (filled q x leaves vs)) (filled q x leaves vs) (instances_in s.place x)
+
+-- the same where the instance may be absent: then one row
+abbrev pub rows_from_end : List (List Step) → List Step → List Step → List (Option Value) → Option Instance → List Known
+rows_from_end leaves q p vs None = record { values = vs; end = None } ∷ []
+rows_from_end leaves q p vs (Some x) = rows_below leaves q p x vs
+
+-- values that differ only at the leaves below the end of a path
+abbrev pub Keeps : List (List Step) → List Step → List (Option Value) → List (Option Value) → Type 0
+Keeps leaves q vs us = (x : Instance) → filled q x leaves us ≡ filled q x leaves vs

@@ -1,0 +1,85 @@
+//! Going through the rows of a level.
+
+ghost use Rattle.std.specs.Prelude.{◌≡◌, ◌≤◌, ◌<◌, ◌+◌, ◌++◌, ◌∷◌, [], length, map, take, drop, option_map, OnOk};
+ghost use Rattle.dr_nested.specs.PathView.{step_view};
+ghost use Rattle.dr_rows.specs.Views.{lent_instance, lent_cells, paths_view, rows_view};
+ghost use Rattle.dr_rows.specs.Walking.{rows_below, rows_from_end, Keeps};
+
+use crate::instance_ref::InstanceRef;
+use crate::looking::fill;
+use crate::table::Rows;
+use dr_levels::ValueRef;
+use dr_nested::{NoMemory, Path, Step};
+
+/// The step of a level at a depth.
+fn step_at(level: &[Step], depth: usize) -> Step
+    requires { depth < length level.now }
+    ensures front { map step_view (take (depth + 1) level.now) ≡ map step_view (take depth level.now) ++ step_view result ∷ [] }
+    ensures rest { map step_view (drop depth level.now) ≡ step_view result ∷ map step_view (drop (depth + 1) level.now) }
+{
+    level[depth]
+}
+
+/// Appends the rows of a level below an instance that stands at the end of the level's first steps. The values are those of
+/// the leaves in the row at hand: afterwards only those below that instance may be others.
+///
+/// Errors: want of memory alone.
+pub fn walk<'n>(
+    leaves: &[Path],
+    level: &[Step],
+    depth: usize,
+    instance: InstanceRef<'n>,
+    values: &mut [Option<ValueRef<'n>>],
+    rows: &mut Rows<'n>,
+) -> Result<(), NoMemory>
+    requires depth { depth ≤ length level.now }
+    requires values { length values.old ≡ length leaves.now }
+    requires width { (rows.old).width ≡ length leaves.now }
+    ensures rows { OnOk result (rows_view rows.new ≡ rows_view rows.old ++ rows_below (paths_view leaves.now)
+        (map step_view (take depth level.now)) (map step_view (drop depth level.now)) (lent_instance instance.entry) (lent_cells values.old)) }
+    ensures others { OnOk result (Keeps (paths_view leaves.now) (map step_view (take depth level.now)) (lent_cells values.old) (lent_cells values.new)) }
+    ensures width { (rows.new).width ≡ (rows.old).width }
+{
+    fill(leaves, &level[..depth], instance, values);
+    if depth == level.len() {
+        return rows.push(values, Some(instance));
+    }
+    let instances = instance.instances_at(step_at(level, depth).place);
+    if instances.is_empty() {
+        return rows.push(values, None);
+    }
+    'instances: for below in instances {
+        walk(
+            leaves,
+            level,
+            depth + 1,
+            InstanceRef::of(below),
+            values,
+            rows,
+        )?;
+    }
+    Ok(())
+}
+
+/// Appends the rows of a level below what stands at the end of the level's first steps: where nothing does, one row.
+///
+/// Errors: want of memory alone.
+pub fn walk_from_end<'n>(
+    leaves: &[Path],
+    level: &[Step],
+    depth: usize,
+    end: Option<InstanceRef<'n>>,
+    values: &mut [Option<ValueRef<'n>>],
+    rows: &mut Rows<'n>,
+) -> Result<(), NoMemory>
+    requires depth { depth ≤ length level.now }
+    requires values { length values.old ≡ length leaves.now }
+    requires width { (rows.old).width ≡ length leaves.now }
+    ensures { OnOk result (rows_view rows.new ≡ rows_view rows.old ++ rows_from_end (paths_view leaves.now)
+        (map step_view (take depth level.now)) (map step_view (drop depth level.now)) (lent_cells values.old) (option_map lent_instance end.entry)) }
+{
+    match end {
+        Some(instance) => walk(leaves, level, depth, instance, values, rows),
+        None => rows.push(values, None),
+    }
+}
