@@ -1,12 +1,12 @@
 -- Where clap takes the words of `load`, its values are there.
-use Rattle.std.proofs.Common.{◌≡◌, true, false, refl, List, [], ◌∷◌, Option, Some, None}
+use Rattle.std.proofs.Common.{◌≡◌, ℕ, ◌∙◌, ap, true, false, refl, List, [], ◌∷◌, Option, Some, None}
 use Rattle.std.specs.Prelude.{bytes_eq, codes, option_and_then, option_map, slice_get}
 use Rattle.std.specs.List.{find}
 use Rattle.clap.specs.Words.{Row, Shape, Text, all_of, first_of}
 use Rattle.clap.specs.Walk.{nothing_held, rows_after}
 use Rattle.clap.specs.Simple.{built_leaf, inherited, marked_built, on_top, rows_at}
 use Rattle.clap.specs.Takes.{level_passes}
-use Rattle.dr_commands.specs.Load.{load_app}
+use Rattle.dr_commands.specs.Load.{load_app, LoadWords, with_directories, load_words}
 use Rattle.dr_commands.specs.Commands.{dremel_app, load, words_in}
 use Rattle.dr_commands.proofs.NeededLemmas.{Has, taken_has_needed}
 
@@ -32,3 +32,17 @@ load_has_values words passes none =
     all_there rows (Some a) None dirs s t q e = cc
     all_there rows (Some a) (Some b) None s t q e = q refl
     all_there rows (Some a) (Some b) (Some d) s t q e = cc
+
+-- these values
+abbrev pub with_all : Text → Text → ℕ → ℕ → List Text → LoadWords
+with_all s t r k ds = record { schema = s; table = t; rows = r; copies = k; directories = ds }
+
+-- its values, from each of them
+pub load_words_are : (rows : List Row) (a b : Text) (ds : List Text) (l : LoadWords) → first_of (codes "schema") rows ≡ Some a → first_of (codes "table") rows ≡ Some b → all_of (codes "dir") rows ≡ Some ds
+    → with_directories rows a b ds ≡ l → load_words rows ≡ Some l
+load_words_are rows a b ds l s t d e =
+    ap (option_and_then (λ x. option_and_then (λ y. option_map (with_directories rows x y) (all_of (codes "dir") rows)) (first_of (codes "table") rows))) s
+    ∙ (ap (option_and_then (λ y. option_map (with_directories rows a y) (all_of (codes "dir") rows))) t ∙ (ap (option_map (with_directories rows a b)) d ∙ ap Some e))
+
+pub words_same : (s t : Text) (r q k j : ℕ) (ds es : List Text) → r ≡ q → k ≡ j → ds ≡ es → with_all s t r k ds ≡ with_all s t q j es
+words_same s t r q k j ds es e f g = cc

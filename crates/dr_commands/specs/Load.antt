@@ -1,6 +1,6 @@
 -- `load --schema F --table F [--rows N] [--copies K] DIR..`: the records of the input, put as the tablets of a table.
-use Rattle.std.specs.Prelude.{ℕ, true, false, List, [], ◌∷◌, take, Option, Some, None, Result, Ok, Err, map, codes, option_map, option_and_then, string_bytes}
-use Rattle.clap.specs.Words.{App, Row, Text, all_of, first_of, new_rule}
+use Rattle.std.specs.Prelude.{ℕ, true, false, List, [], ◌∷◌, take, Option, Some, None, Result, Ok, Err, map, fold, codes, option_map, option_and_then, string_bytes}
+use Rattle.clap.specs.Words.{App, Row, Text, all_of, first_of, new_rule, with_rule}
 use Rattle.dr_meaning.specs.Schema.{Schema}
 use Rattle.dr_meaning.specs.SchemaText.{SchemaFault, parse_schema}
 use Rattle.dr_meaning.specs.Lines as line
@@ -25,12 +25,13 @@ pub record LoadWords : Type 0 where
 abbrev pub default_rows : ℕ
 default_rows = 100000
 
--- its part of the command line
+-- its part of the command line: its files; how many records and copies, and where to
+abbrev pub load_files_app : App
+load_files_app = subcommand_app (codes "load") (needed (option_rule (codes "schema")) ∷ needed (option_rule (codes "table")) ∷ [])
+
 abbrev pub load_app : App
-load_app = subcommand_app (codes "load") (
-  needed (option_rule (codes "schema"))
-  ∷ needed (option_rule (codes "table"))
-  ∷ number_rule (codes "rows") 1 most_tablet_rows
+load_app = fold with_rule load_files_app (
+  number_rule (codes "rows") 1 most_tablet_rows
   ∷ number_rule (codes "copies") 1 most_leaf_lines
   ∷ up_to most_leaf_lines (needed (new_rule (codes "dir")))
   ∷ [])

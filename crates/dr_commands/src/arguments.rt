@@ -1,6 +1,6 @@
 //! Options and words of a command line, and their values.
 
-ghost use Rattle.std.specs.Prelude.{◌≡◌, ◌<◌, IfOk, map, false, string_bytes};
+ghost use Rattle.std.specs.Prelude.{◌≡◌, ◌<◌, ◌≤◌, IfOk, map, false, string_bytes};
 ghost use Rattle.clap.specs.Words.{all_of, first_of, found_of, new_rule, rows_of, rule_of};
 ghost use Rattle.dr_commands.specs.Rules as meant;
 ghost use Rattle.dr_commands.specs.Rules.{Answers};
@@ -56,7 +56,8 @@ pub fn number_option<'a>(alloc: Global, name: &'a str, low: u32, high: u32) -> A
 
 /// The number that a text writes between these bounds, or the other.
 fn number_or(text: &str, low: u32, high: u32, other: u32) -> u32
-    ensures { result ≡ number_in low high other (Some text.now) }
+    ensures number { result ≡ number_in low high other (Some text.now) }
+    ensures within { low ≤ other → other ≤ high → (low ≤ result) × (result ≤ high) }
 {
     match text.parse::<u32>() {
         Ok(number) if low <= number && number <= high => number,
@@ -72,7 +73,8 @@ pub fn number_of(
     high: u32,
     other: u32,
 ) -> u32
-    ensures { result ≡ number_in low high other (first_of name.now (rows_of (found_of matches.now))) }
+    ensures number { result ≡ number_in low high other (first_of name.now (rows_of (found_of matches.now))) }
+    ensures within { low ≤ other → other ≤ high → (low ≤ result) × (result ≤ high) }
 {
     match matches.get_str(name) {
         Some(text) => number_or(text, low, high, other),

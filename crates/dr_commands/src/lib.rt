@@ -8,6 +8,7 @@ mod dump;
 mod fsm;
 mod limits;
 mod load;
+mod load_words;
 mod read;
 mod show_schema;
 mod stripe;
