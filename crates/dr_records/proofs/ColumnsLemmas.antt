@@ -1,5 +1,5 @@
 -- The columns of an opened file's leaves, one after another.
-use Rattle.std.proofs.Common.{◌≡◌, ◌<◌, ◌≤◌, ℕ, false, IfErr, zero, suc, ◌+◌, List, [], ◌∷◌, ◌++◌, length, take, map, Option, Some, None, refl, sym, ap, ◌∙◌, subst, add-one, arith}
+use Rattle.std.proofs.Common.{◌≡◌, ◌<◌, ◌≤◌, ◌^◌, ℕ, false, IfErr, zero, suc, ◌+◌, List, [], ◌∷◌, ◌++◌, length, take, map, Option, Some, None, refl, sym, ap, ◌∙◌, subst, add-one, arith}
 use Rattle.std.specs.Prelude.{IsErrAnd, Result, Ok, Err}
 use Rattle.std.specs.List.{slice_get}
 use Rattle.dr_formats.specs.Opening.{leaf_cause}
@@ -7,7 +7,7 @@ use Rattle.dr_outside.specs.declared.cause.Cause.{Cause}
 use Rattle.dr_file.specs.declared.file_fault.FileFault.{FileFault}
 use Rattle.dr_meaning.specs.Path.{Leaf}
 use Rattle.dr_meaning.specs.Column.{Triplet}
-use Rattle.dr_file.specs.OpenedFiles.{IsColumnOf, IsColumnFault, is_link_fault, is_read_fault}
+use Rattle.dr_file.specs.OpenedFiles.{HasCounts, IsColumnOf, IsColumnFault, is_link_fault, is_read_fault}
 use Rattle.dr_records.specs.FileRecords.{AreColumnsOf, IsColumnsFault}
 
 -- there is a leaf at each index below their number
@@ -54,3 +54,13 @@ err_is P (Err x) e h p = subst P (sym h) p
 pub no_read_fault : {A : Type 0} (r : Result A FileFault) (e : FileFault) → IsErrAnd r (λ x. x ≡ e) → is_link_fault e ≡ false → is_read_fault r ≡ false
 no_read_fault (Ok a) e h p = refl
 no_read_fault (Err x) e h p = ap is_link_fault h ∙ p
+
+-- a count below 2^64 doesn't fall with one failure more
+pub never_falls : {A : Type 0} (old new count : ℕ) (r : Result A FileFault) → count ≡ old → count < 2 ^ 64 → IfErr r (HasCounts old new) → (is_read_fault r ≡ false → new ≡ old) → old ≤ new
+never_falls old new count (Ok a) e l h calm = omega (arith, calm refl)
+never_falls old new count (Err FileFault.NoMemory) e l h calm = omega (arith, calm refl)
+never_falls old new count (Err (FileFault.Why (Cause.ReadFailed before after))) e l h calm = omega (arith, h.2, e, l)
+never_falls old new count (Err (FileFault.Why Cause.BadFooter)) e l h calm = omega (arith, calm refl)
+never_falls old new count (Err (FileFault.Why Cause.BadSchema)) e l h calm = omega (arith, calm refl)
+never_falls old new count (Err (FileFault.Why Cause.BadCodec)) e l h calm = omega (arith, calm refl)
+never_falls old new count (Err (FileFault.Why Cause.BadData)) e l h calm = omega (arith, calm refl)

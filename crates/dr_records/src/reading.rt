@@ -66,7 +66,7 @@ fn file_fault(fault: AssembleFault) -> FileFault
 ///
 /// Errors: the link failed, with its counts of faults before and after this call; else the first cause for which the file is none of any
 /// records for these leaves; want of memory.
-pub fn read_records<L: Link>(
+fn read_file<L: Link>(
     alloc: Global,
     link: &mut L,
     path: &str,
@@ -90,4 +90,33 @@ pub fn read_records<L: Link>(
         Ok(records) => Ok(records),
         Err(fault) => Err(file_fault(fault)),
     }
+}
+
+/// The records of the file at a path, projected to these leaves of the schema. The link is asked for the file's size, its two ends, the
+/// footer, and the chunks of these leaves.
+///
+/// Errors: the link failed, with its counts of faults before and after this call; else the first cause for which the file is none of any
+/// records for these leaves; want of memory.
+pub fn read_records<L: Link>(
+    alloc: Global,
+    link: &mut L,
+    path: &str,
+    schema: &Schema,
+    fields: &[Path],
+) -> Result<Vec<Node>, FileFault>
+    requires { AreLeavesOf (fields_view (schema.now).fields.items) (map path_view fields.now) }
+    ensures records { (bytes : List ℕ) → Tells (L.shows link.old) path.now bytes → IfOk result (λ v. AreOfFile bytes (schema_view schema.now) (map path_view fields.now) (nodes_view v.items)) }
+    ensures form { IfOk result (λ v. AreProjected (schema_view schema.now) (map path_view fields.now) (nodes_view v.items)) }
+    ensures cause { (bytes : List ℕ) → Tells (L.shows link.old) path.now bytes → IfErr result (IsFaultOf bytes (schema_view schema.now) (map path_view fields.now)) }
+    ensures same { (L.shows link.new).held ≡ (L.shows link.old).held }
+    ensures counts { IfErr result (HasCounts (L.shows link.old).faults (L.shows link.new).faults) }
+    ensures calm { is_read_fault result ≡ false → (L.shows link.new).faults ≡ (L.shows link.old).faults }
+    ensures steady { (bytes : List ℕ) → Serves (L.shows link.old) path.now bytes → is_read_fault result ≡ false }
+    ensures absent { Lacks (L.shows link.old).held path.now → result ≢ Err FileFault.NoMemory → is_read_fault result ≡ true }
+    ensures never_falls { (L.shows link.old).faults ≤ (L.shows link.new).faults }
+    ensures stays_steady { IsTrue (L.shows link.old).is_steady → IsTrue (L.shows link.new).is_steady }
+{
+    // a count that is below 2^64 doesn't fall with one failure more
+    let _faults = link.faults();
+    read_file(alloc, link, path, schema, fields)
 }
