@@ -2,7 +2,7 @@ use Rattle.std.proofs.Common.{arith, sym, ap, ◌∙◌, ◌++◌, ◌∷◌, []
 use Rattle.std.proofs.lemmas.Result.{on_ok_weaker}
 use Rattle.dr_meaning.specs.Record.{Node}
 use Rattle.dr_meaning.specs.Print.{braced, record_members}
-use Rattle.dr_nested.specs.Views.{rep_view, field_view, fields_view, slots_view, node_view, instances_view}
+use Rattle.dr_nested.specs.Views.{rep_view, field_view, fields_view, node_view, instances_view}
 use Rattle.dr_nested.proofs.ViewLemmas.{view-node}
 use Rattle.dr_print.specs.Members.{separated, held_text, texts_in}
 use Rattle.dr_print.proofs.MemberLemmas.{closed, node_text, list_held, first_held, past_slots}
