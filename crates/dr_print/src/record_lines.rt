@@ -178,7 +178,7 @@ fn push_node(
 /// Appends a record's line: compact JSON (RFC 8259) with the fields in the schema's order, ended by LF. An absent
 /// optional field and a field that a projection dropped aren't printed; a repeated field always is, as a list.
 ///
-/// Errors: want of memory alone.
+/// Errors: want of memory alone; the text may then have a part of the line behind what it had.
 pub fn push_record_text(
     alloc: Global,
     text: &mut String,
