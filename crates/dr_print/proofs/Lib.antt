@@ -1,3 +1,5 @@
 pub mod PrintLemmas
 -- the text of an automaton, piece by piece
 pub mod AutomatonLemmas
+-- the line of a record, member by member
+pub mod MemberLemmas

@@ -1,2 +1,4 @@
 -- the leaves of an automaton, lent, and the lines of its transitions
 pub mod Transitions
+-- the members of a record's line
+pub mod Members

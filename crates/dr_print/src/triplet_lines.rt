@@ -13,7 +13,7 @@ use itoa::Buffer;
 use std::alloc::{AllocError, Global};
 
 /// Appends a text in quotes, as compact JSON has it (RFC 8259, section 7).
-fn push_quoted(alloc: Global, text: &mut String, value: &str) -> Result<(), AllocError>
+pub(crate) fn push_quoted(alloc: Global, text: &mut String, value: &str) -> Result<(), AllocError>
     ensures { OnOk result (string_bytes text.new ≡ string_bytes text.old ++ quoted value.now) }
 {
     match serde_json::to_string(alloc, &value) {
@@ -30,7 +30,7 @@ pub fn push_level(text: &mut String, level: u32) -> Result<(), AllocError>
     text.push_str(buffer.format(level))
 }
 
-fn push_int(text: &mut String, number: i64) -> Result<(), AllocError>
+pub(crate) fn push_int(text: &mut String, number: i64) -> Result<(), AllocError>
     ensures { OnOk result (string_bytes text.new ≡ string_bytes text.old ++ signed_decimal number) }
 {
     let mut buffer = Buffer::new();
