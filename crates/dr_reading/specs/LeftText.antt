@@ -1,6 +1,7 @@
 -- The lines that tell which tablets are left, and why.
-use Rattle.std.specs.Prelude.{ℕ, List, [], ◌∷◌, map, nat_le, if◌then◌else◌}
-use Rattle.std.specs.List.{flat_map}
+use Rattle.std.specs.Prelude.{ℕ, ◌==◌, List, map, filter}
+use Rattle.std.specs.List.{flat_map, range_with_len}
+use Rattle.dr_formats.specs.TableFile.{most_leaf_lines}
 use Rattle.dr_formats.specs.File.{bad_footer, bad_schema, bad_codec, bad_data}
 use Rattle.dr_formats.specs.Reports.{LeafCause, read_failed, bad_file, LeftLeaf, left_tablet_text, left_file_text}
 use Rattle.dr_outside.specs.declared.cause.Cause.{Cause}
@@ -15,18 +16,13 @@ told_cause BadSchema = bad_file bad_schema
 told_cause BadCodec = bad_file bad_codec
 told_cause BadData = bad_file bad_data
 
--- a copy among others by ascending directory
-abbrev pub insert_tried : Tried → List Tried → List Tried
-insert_tried t [] = t ∷ []
-insert_tried t (u ∷ us) = if nat_le t.directory u.directory then t ∷ u ∷ us else u ∷ insert_tried t us
+-- those of the copies that lie in one directory
+abbrev pub in_directory : List Tried → ℕ → List Tried
+in_directory ts d = filter (λ (t : Tried). t.directory == d) ts
 
--- copies by ascending directory, behind some that are
-abbrev pub ascending_from : List Tried → List Tried → List Tried
-ascending_from us [] = us
-ascending_from us (t ∷ ts) = ascending_from (insert_tried t us) ts
-
-abbrev pub ascending : List Tried → List Tried
-ascending ts = ascending_from [] ts
+-- the copies by ascending directory
+unfoldable pub ascending : List Tried → List Tried
+ascending ts = flat_map (in_directory ts) (range_with_len 0 most_leaf_lines)
 
 abbrev pub told_leaf : Tried → LeftLeaf
 told_leaf t = record { leaf = t.directory; cause = told_cause t.cause }

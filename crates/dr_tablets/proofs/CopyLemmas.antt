@@ -1,6 +1,8 @@
 -- The copies of one tablet, tried one after another.
 use Rattle.std.proofs.Common.{◌≡◌, ◌<◌, ◌≤◌, ℕ, zero, suc, ◌+◌, ◌^◌, List, [], ◌∷◌, ◌++◌, length, map, Bool, true, false, Option, Some, None, refl, sym, ap, ◌∙◌, subst, inl, inr, add-one, true≢false, arith}
-use Rattle.std.specs.Prelude.{◌⊎◌, IsTrue, IsSome, min, ⊤}
+use Rattle.std.specs.Prelude.{◌⊎◌, IsTrue, IsSome, min, ⊤, Result, Ok, Err}
+use Rattle.std.proofs.Common.{Vec, Global}
+use Rattle.dr_nested.specs.declared.record.Node as code
 use Rattle.std.specs.List.{list_all}
 use Rattle.dr_meaning.specs.Schema.{Schema}
 use Rattle.dr_meaning.specs.Path.{Leaf}
@@ -148,11 +150,17 @@ pub rises_more : (start old new : ℕ) (cs ds : List Cause) (c : Cause) → Rise
 rises_more start old new cs ds c h n calm e =
     subst (λ (x : List Cause). RisesApart start x new) (sym e) (rises_join start old new cs (c ∷ []) h (last_rise old old new c (omega arith) n calm) (λ a l. last_rise a old new c l n calm))
 
--- the count doesn't fall along rises
-pub rises_ends : (start end : ℕ) (cs : List Cause) → RisesApart start cs end → start ≤ end
-rises_ends start end [] h = h
-rises_ends start end (Cause.ReadFailed before after ∷ cs) h = let k = rises_ends after end cs h.2 in omega (arith, h.0, h.1, k)
-rises_ends start end (Cause.BadFooter ∷ cs) h = rises_ends start end cs h
-rises_ends start end (Cause.BadSchema ∷ cs) h = rises_ends start end cs h
-rises_ends start end (Cause.BadCodec ∷ cs) h = rises_ends start end cs h
-rises_ends start end (Cause.BadData ∷ cs) h = rises_ends start end cs h
+-- what was given wasn't absent
+pub not_absent : false ≡ true → ⊥
+not_absent e = true≢false (sym e)
+
+abbrev pub fails : FileFault → Result (Vec code.Node Global) FileFault
+fails e = Err e
+
+-- a cause isn't want of memory
+pub no_memory : (e : FileFault) (c : Cause) → e ≡ FileFault.Why c → fails e ≡ fails FileFault.NoMemory → ⊥
+no_memory e c is same = cc
+
+-- a copy with its cause
+abbrev pub told : ℕ → Cause → Tried
+told d c = record { directory = d; cause = c }

@@ -2,3 +2,5 @@
 pub mod CopyLemmas
 -- the tablets of a table
 pub mod TableLemmas
+-- what is left, told
+pub mod ReportLemmas

@@ -15,8 +15,12 @@ use Rattle.dr_serving.specs.ServingLaws.{is_read}
 use Rattle.dr_reading.specs.Scan.{Copy, copies_from, tablets_from, joined}
 use Rattle.dr_reading.specs.Given.{IsGiven, AreGiven}
 use Rattle.dr_reading.specs.Left.{Tried, LeftTablet, IsCauseAt, AreTried, LeavesJust, no_tablets, is_given, is_left, causes_of, causes_met}
-use Rattle.dr_tablets.specs.Tablets.{AreGivenBy, TakesGiven}
-use Rattle.dr_tablets.proofs.CopyLemmas.{rises_join, rises_from, rises_ends}
+use Rattle.dr_assemble.specs.Views.{nodes_view}
+use Rattle.dr_tablets.specs.Views.{all_tried_view, all_left_view}
+use Rattle.dr_tablets.specs.declared.left.LeftTablet as code
+use Rattle.dr_tablets.specs.declared.reading.Tablet.{Tablet}
+use Rattle.dr_tablets.specs.Tablets.{AreGivenBy, IsReadAs, causes_in, TakesGiven, TakesTablet, with_tablet}
+use Rattle.dr_tablets.proofs.CopyLemmas.{rises_join, rises_from}
 
 -- ---- the tablets
 
@@ -69,7 +73,7 @@ module _ (s : Schema) (F : List Leaf) (l : LinkShown) where
       → AreTried s F now (copies_from ds n 0 k) tried → more ≡ left ++ record { tablet = n; tried = tried } ∷ [] → LeavesJust s F l 0 (tablets_from ds k 0 (n + 1)) more
   next_left now ds k n left more tried e w h g m =
       subst (λ (ts : List (List Copy)). LeavesJust s F l 0 ts more) (sym (tablets_next ds k n)) (subst (LeavesJust s F l 0 (tablets_from ds k 0 n ++ copies_from ds n 0 k ∷ [])) (sym m)
-      (left_more 0 (tablets_from ds k 0 n) left (copies_from ds n 0 k) tried n h (tried_at s F l now (copies_from ds n 0 k) tried e w g) (tablets_length ds k 0 n)))
+      (left_more 0 (tablets_from ds k 0 n) left (copies_from ds n 0 k) tried n h (tried_at s F l now (copies_from ds n 0 k) tried e w g) (omega (arith, tablets_length ds k 0 n))))
 
 -- ---- rises
 
@@ -112,3 +116,35 @@ takes_more has s F held now ds k n P before middle after e h g takes =
       subst (λ (ts : List (List Copy)). AreGiven s F held ts (h.0 ++ g.0 ∷ [])) (sym (tablets_next ds k n)) (given_next s F held (tablets_from ds k 0 n) h.0 (copies_from ds n 0 k) g.0 h.1 here),
       λ taken w. subst (λ (x : List Node). has after (taken ++ x)) (sym all) (subst (has after) (append_assoc taken (map (project (paths_of_leaves F)) (joined h.0)) P) (takes _ (h.2 taken w))),
     )
+
+-- ---- with what was read of one tablet
+
+pub step_left : (s : Schema) (F : List Leaf) (l now : LinkShown) (ds : List (List ℕ)) (k n : ℕ) (read : Tablet) (left more : List LeftTablet) → now.held ≡ l.held → (IsTrue l.is_steady → IsTrue now.is_steady)
+    → LeavesJust s F l 0 (tablets_from ds k 0 n) left → IsReadAs s F now (copies_from ds n 0 k) read → more ≡ with_tablet n read left → LeavesJust s F l 0 (tablets_from ds k 0 (n + 1)) more
+step_left s F l now ds k n (Tablet.Given records) left more e w h g m =
+    subst (LeavesJust s F l 0 (tablets_from ds k 0 (n + 1))) (sym m) (next_given s F l now ds k n left (nodes_view records.items) e h g)
+step_left s F l now ds k n (Tablet.Left tried) left more e w h g m = next_left s F l now ds k n left more (all_tried_view tried.items) e w h g m
+
+none_left : (t : ℕ) (read : Tablet) (left : List LeftTablet) → with_tablet t read left ≡ [] → left ≡ []
+none_left t (Tablet.Given records) left e = e
+none_left t (Tablet.Left tried) [] e = cc
+none_left t (Tablet.Left tried) (l ∷ left) e = cc
+
+is_some_left : (left : List LeftTablet) (t : LeftTablet) → left ++ t ∷ [] ≡ [] → ⊥
+is_some_left [] t e = cc
+is_some_left (l ∷ left) t e = cc
+
+pub step_taken : {T : Type 0} (has : T → List Node → Type 0) (s : Schema) (F : List Leaf) (held : Option Files) (now : LinkShown) (ds : List (List ℕ)) (k n : ℕ) (read : Tablet) (left more : List LeftTablet) (before middle after : T) → now.held ≡ held
+    → (left ≡ [] → TakesGiven has s F held (tablets_from ds k 0 n) before middle) → IsReadAs s F now (copies_from ds n 0 k) read → more ≡ with_tablet n read left → more ≡ [] → TakesTablet has read middle after
+    → TakesGiven has s F held (tablets_from ds k 0 (n + 1)) before after
+step_taken has s F held now ds k n (Tablet.Given records) left more before middle after e h g m none takes =
+    takes_more has s F held now.held ds k n (nodes_view records.items) before middle after e (h (sym m ∙ none)) g takes
+step_taken has s F held now ds k n (Tablet.Left tried) left more before middle after e h g m none takes = absurd (is_some_left left _ (sym m ∙ none))
+
+pub step_rises : (start old new n : ℕ) (read : Tablet) (left more : List LeftTablet) → RisesApart start (causes_met left) old → RisesApart old (causes_in read) new → more ≡ with_tablet n read left → RisesApart start (causes_met more) new
+step_rises start old new n (Tablet.Given records) left more h k m = subst (λ (ls : List LeftTablet). RisesApart start (causes_met ls) new) (sym m) (rises_later start old new (causes_met left) h k)
+step_rises start old new n (Tablet.Left tried) left more h k m = rises_left start old new left more (record { tablet = n; tried = all_tried_view tried.items }) h k m
+
+pub no_items : (ls : List code.LeftTablet) → all_left_view ls ≡ [] → ls ≡ []
+no_items [] e = refl
+no_items (l ∷ ls) e = cc

@@ -2,3 +2,5 @@
 pub mod Views
 -- what is read of a tablet
 pub mod Tablets
+-- how what is left is told
+pub mod Reports

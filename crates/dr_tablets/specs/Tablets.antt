@@ -32,3 +32,13 @@ causes_in (Tablet.Left tried) = left.causes_of (all_tried_view tried.items)
 abbrev pub TakesGiven : {T : Type 0} → (T → List Node → Type 0) → Schema → List Leaf → Option Files → List (List Copy) → T → T → Type 0
 TakesGiven has s F held ts before now = (Rs : List (List Node)) × AreGiven s F held ts Rs
     × ((taken : List Node) → has before taken → has now (taken ++ map (project (paths_of_leaves F)) (joined Rs)))
+
+-- what is left with what was read of one tablet more
+abbrev pub with_tablet : ℕ → Tablet → List left.LeftTablet → List left.LeftTablet
+with_tablet t (Tablet.Given records) ls = ls
+with_tablet t (Tablet.Left tried) ls = ls ++ record { tablet = t; tried = all_tried_view tried.items } ∷ []
+
+-- what has taken some records has now taken those of a tablet, too
+abbrev pub TakesTablet : {T : Type 0} → (T → List Node → Type 0) → Tablet → T → T → Type 0
+TakesTablet has (Tablet.Given records) before now = (taken : List Node) → has before taken → has now (taken ++ nodes_view records.items)
+TakesTablet has (Tablet.Left tried) before now = ⊤

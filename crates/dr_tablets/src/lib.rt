@@ -3,8 +3,10 @@
 
 mod left;
 mod reading;
+mod report;
 mod taker;
 
 pub use left::{LeftTablet, Tried};
-pub use reading::{read_table, read_tablet};
+pub use reading::{Tablet, read_table, read_tablet};
+pub use report::left_text;
 pub use taker::Taker;

@@ -12,7 +12,7 @@ ghost use Rattle.dr_serving.specs.Causes.{RisesApart};
 ghost use Rattle.dr_reading.specs.Scan.{copies_from, tablets_of};
 ghost use Rattle.dr_reading.specs.Left.{LeavesJust, causes_met};
 ghost use Rattle.dr_tablets.specs.Views.{all_left_view};
-ghost use Rattle.dr_tablets.specs.Tablets.{IsReadAs, causes_in, TakesGiven};
+ghost use Rattle.dr_tablets.specs.Tablets.{IsReadAs, causes_in, TakesGiven, TakesTablet, with_tablet};
 
 use crate::left::{LeftTablet, Tried};
 use crate::taker::Taker;
@@ -46,6 +46,7 @@ pub fn read_tablet<L: Link>(
     ensures read { IfOk result (IsReadAs (schema_view (table.now).schema) (map path_view fields.now) (L.shows link.old) (copies_from (table_view table.now).leaves tablet 0 (table.now).copies)) }
     ensures rises { IfOk result (λ t. RisesApart (L.shows link.old).faults (causes_in t) (L.shows link.new).faults) }
     ensures same { (L.shows link.new).held ≡ (L.shows link.old).held }
+    ensures never_falls { (L.shows link.old).faults ≤ (L.shows link.new).faults }
     ensures stays_steady { IsTrue (L.shows link.old).is_steady → IsTrue (L.shows link.new).is_steady }
 {
     let mut tried = Vec::new(alloc);
@@ -59,6 +60,30 @@ pub fn read_tablet<L: Link>(
         }
     }
     Ok(Tablet::Left(tried))
+}
+
+/// Keeps what was read of a tablet: it joins those that are left, or its records are taken, unless some tablet is left.
+fn keep<T: Taker>(
+    left: &mut Vec<LeftTablet>,
+    taker: &mut T,
+    tablet: u32,
+    read: Tablet,
+) -> Result<(), NoMemory>
+    ensures left { OnOk result (all_left_view (left.new).items ≡ with_tablet tablet read (all_left_view (left.old).items)) }
+    ensures taken { OnOk result ((left.new).items ≡ [] → TakesTablet T.has read taker.old taker.new) }
+{
+    match read {
+        Tablet::Left(tried) => {
+            left.push(LeftTablet { tablet, tried })?;
+            Ok(())
+        }
+        Tablet::Given(records) => {
+            if left.is_empty() {
+                taker.take(records)?;
+            }
+            Ok(())
+        }
+    }
 }
 
 /// The tablets of a table that are left. Where none is, the taker has taken the records of each, projected to these leaves of the table's
@@ -81,14 +106,8 @@ pub fn read_table<L: Link, T: Taker>(
 {
     let mut left = Vec::new(alloc);
     'tablets: for tablet in 0..table.tablets {
-        match read_tablet(alloc, link, table, fields, tablet)? {
-            Tablet::Left(tried) => left.push(LeftTablet { tablet, tried })?,
-            Tablet::Given(records) => {
-                if left.is_empty() {
-                    taker.take(records)?;
-                }
-            }
-        }
+        let read = read_tablet(alloc, link, table, fields, tablet)?;
+        keep(&mut left, taker, tablet, read)?;
     }
     Ok(left)
 }
