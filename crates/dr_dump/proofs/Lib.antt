@@ -1,0 +1,2 @@
+-- lines of records
+pub mod LineLemmas
