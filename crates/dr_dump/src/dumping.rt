@@ -22,7 +22,9 @@ use std::alloc::Global;
 /// What is read of a table: the lines of its records, or the tablets that are left.
 #[derive(PartialEq, Eq, Debug, Drop)]
 pub enum Dumped {
+    /// The lines of all records, each ended by LF.
     Lines(String),
+    /// The tablets of which no copy gives records, in their order; never none.
     Left(Vec<LeftTablet>),
 }
 
