@@ -1,0 +1,2 @@
+-- directories and copies that are refused
+pub mod WordLemmas

@@ -1,0 +1,2 @@
+-- what the problems of words stand for
+pub mod Words
