@@ -1,0 +1,4 @@
+-- names, and texts with quotes
+pub mod LiteralLemmas
+pub mod WriteLemmas
+pub mod NameLemmas
