@@ -12,6 +12,7 @@ use dr_plan::{Comparison, Expr, Number, TextOf, Truth};
 use std::alloc::AllocError;
 
 /// Appends a number's expression.
+#[cycle(numbers)]
 fn push_number_of(
     number: &Number,
     names: &Names<'_>,
@@ -27,28 +28,28 @@ fn push_number_of(
             push_number_of(operand, names, out)?;
             out.push_str(")")
         }
-        Number::Add(left, right) => {
-            out.push_str("(")?;
-            push_number_of(left, names, out)?;
-            out.push_str(" + ")?;
-            push_number_of(right, names, out)?;
-            out.push_str(")")
-        }
-        Number::Subtract(left, right) => {
-            out.push_str("(")?;
-            push_number_of(left, names, out)?;
-            out.push_str(" - ")?;
-            push_number_of(right, names, out)?;
-            out.push_str(")")
-        }
-        Number::Multiply(left, right) => {
-            out.push_str("(")?;
-            push_number_of(left, names, out)?;
-            out.push_str(" * ")?;
-            push_number_of(right, names, out)?;
-            out.push_str(")")
-        }
+        Number::Add(left, right) => push_operation(left, " + ", right, names, out),
+        Number::Subtract(left, right) => push_operation(left, " - ", right, names, out),
+        Number::Multiply(left, right) => push_operation(left, " * ", right, names, out),
     }
+}
+
+/// Appends two numbers' expressions with a sign between.
+#[cycle(numbers)]
+fn push_operation(
+    left: &Number,
+    sign: &str,
+    right: &Number,
+    names: &Names<'_>,
+    out: &mut String,
+) -> Result<(), AllocError>
+    ensures { OnOk result (string_bytes out.new ≡ string_bytes out.old ++ meant.in_parentheses (meant.expression_text (written_path names.now) (number_view (written_leaves names.now) left.now) ++ (sign.now ++ meant.expression_text (written_path names.now) (number_view (written_leaves names.now) right.now)))) }
+{
+    out.push_str("(")?;
+    push_number_of(left, names, out)?;
+    out.push_str(sign)?;
+    push_number_of(right, names, out)?;
+    out.push_str(")")
 }
 
 /// Appends a text's expression.
@@ -69,7 +70,8 @@ fn push_text_of(text: &TextOf, names: &Names<'_>, out: &mut String) -> Result<()
 }
 
 /// Appends a truth value's expression.
-fn push_truth_of(truth: &Truth, names: &Names<'_>, out: &mut String) -> Result<(), AllocError>
+#[cycle(truths)]
+pub(crate) fn push_truth_of(truth: &Truth, names: &Names<'_>, out: &mut String) -> Result<(), AllocError>
     ensures { OnOk result (string_bytes out.new ≡ string_bytes out.old ++ meant.expression_text (written_path names.now) (truth_view (written_leaves names.now) truth.now)) }
 {
     match truth {
@@ -80,26 +82,10 @@ fn push_truth_of(truth: &Truth, names: &Names<'_>, out: &mut String) -> Result<(
             push_truth_of(operand, names, out)?;
             out.push_str(")")
         }
-        Truth::And(left, right) => {
-            out.push_str("(")?;
-            push_truth_of(left, names, out)?;
-            out.push_str(" AND ")?;
-            push_truth_of(right, names, out)?;
-            out.push_str(")")
-        }
-        Truth::Or(left, right) => {
-            out.push_str("(")?;
-            push_truth_of(left, names, out)?;
-            out.push_str(" OR ")?;
-            push_truth_of(right, names, out)?;
-            out.push_str(")")
-        }
+        Truth::And(left, right) => push_joined(left, " AND ", right, names, out),
+        Truth::Or(left, right) => push_joined(left, " OR ", right, names, out),
         Truth::Truths(comparison, left, right) => {
-            out.push_str("(")?;
-            push_truth_of(left, names, out)?;
-            out.push_str(sign_of(*comparison))?;
-            push_truth_of(right, names, out)?;
-            out.push_str(")")
+            push_joined(left, sign_of(*comparison), right, names, out)
         }
         Truth::TruthIsNull(operand) => {
             out.push_str("(")?;
@@ -129,6 +115,24 @@ fn push_truth_of(truth: &Truth, names: &Names<'_>, out: &mut String) -> Result<(
             out.push_str(" IS NULL)")
         }
     }
+}
+
+/// Appends two truth values' expressions with a word or sign between.
+#[cycle(truths)]
+fn push_joined(
+    left: &Truth,
+    word: &str,
+    right: &Truth,
+    names: &Names<'_>,
+    out: &mut String,
+) -> Result<(), AllocError>
+    ensures { OnOk result (string_bytes out.new ≡ string_bytes out.old ++ meant.in_parentheses (meant.expression_text (written_path names.now) (truth_view (written_leaves names.now) left.now) ++ (word.now ++ meant.expression_text (written_path names.now) (truth_view (written_leaves names.now) right.now)))) }
+{
+    out.push_str("(")?;
+    push_truth_of(left, names, out)?;
+    out.push_str(word)?;
+    push_truth_of(right, names, out)?;
+    out.push_str(")")
 }
 
 /// Appends an expression of any type.

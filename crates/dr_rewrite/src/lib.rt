@@ -1,6 +1,8 @@
 //! The text of a plan's queries, as the servers of a tree run them.
 #![tactic(auto)]
 
+mod condition;
 mod expressions;
+mod lists;
 mod literals;
 mod names;
