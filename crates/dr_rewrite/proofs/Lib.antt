@@ -2,3 +2,4 @@
 pub mod LiteralLemmas
 pub mod WriteLemmas
 pub mod NameLemmas
+pub mod ListLemmas
