@@ -3,6 +3,8 @@
 
 mod condition;
 mod expressions;
+mod items;
 mod lists;
 mod literals;
 mod names;
+mod terms;

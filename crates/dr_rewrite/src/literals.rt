@@ -1,6 +1,6 @@
 //! Literals.
 
-ghost use Rattle.std.specs.Prelude.{◌≡◌, ◌<◌, ◌++◌, ◌∷◌, string_bytes, length, IfSome, MatchOption, OnOk};
+ghost use Rattle.std.specs.Prelude.{◌≡◌, ◌<◌, ◌++◌, ◌∷◌, decimal, string_bytes, length, IfSome, MatchOption, OnOk};
 ghost use Rattle.std.specs.Fmt.{signed_decimal};
 ghost use Rattle.dr_meaning.specs.Record.{bool_value};
 ghost use Rattle.dr_meaning.specs.TokenLaws.{doubled};
@@ -15,6 +15,14 @@ pub(crate) fn push_number(number: i64, out: &mut String) -> Result<(), AllocErro
 {
     let mut buffer = Buffer::new();
     out.push_str(buffer.format(number))
+}
+
+/// Appends a count.
+pub(crate) fn push_count(count: usize, out: &mut String) -> Result<(), AllocError>
+    ensures { OnOk result (string_bytes out.new ≡ string_bytes out.old ++ decimal count) }
+{
+    let mut buffer = Buffer::new();
+    out.push_str(buffer.format(count))
 }
 
 /// Appends TRUE or FALSE.
