@@ -4,6 +4,7 @@
 mod condition;
 mod expressions;
 mod items;
+mod lines;
 mod lists;
 mod literals;
 mod names;
