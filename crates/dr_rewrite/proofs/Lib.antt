@@ -3,3 +3,4 @@ pub mod LiteralLemmas
 pub mod WriteLemmas
 pub mod NameLemmas
 pub mod ListLemmas
+pub mod RewritingTextLemmas

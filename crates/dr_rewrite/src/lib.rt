@@ -8,4 +8,7 @@ mod lines;
 mod lists;
 mod literals;
 mod names;
+mod rewriting;
 mod terms;
+
+pub use rewriting::rewriting_text;

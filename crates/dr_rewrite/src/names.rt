@@ -17,6 +17,7 @@ use dr_nested::{Field, Path, Schema, Shape, Step};
 use std::alloc::AllocError;
 
 /// By what a plan is written: the schema that has the names, and the plan's leaves.
+#[derive(Clone, Copy)]
 pub(crate) struct Names<'n> {
     pub schema: &'n Schema,
     pub leaves: &'n [Path],
