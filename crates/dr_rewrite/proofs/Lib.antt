@@ -4,3 +4,4 @@ pub mod WriteLemmas
 pub mod NameLemmas
 pub mod ListLemmas
 pub mod RewritingTextLemmas
+pub mod LineLemmas

@@ -1,25 +1,26 @@
--- The lines that are written are those that tell the plan's query.
-use Rattle.std.proofs.Common.{◌≡◌, ℕ, zero, suc, ◌+◌, ◌<◌, List, [], ◌∷◌, ◌++◌, map, length, drop, Bool, true, false, ◌&&◌, Option, Some, None, option_map, string_bytes, refl, sym, ap, ap₂, ◌∙◌, arith}
+-- The items that are written are those of the plan's query.
+use Rattle.std.proofs.Common.{◌≡◌, ℕ, zero, suc, ◌+◌, ◌<◌, ◌≤◌, List, [], ◌∷◌, ◌++◌, map, length, drop, Bool, true, false, ◌&&◌, Option, Some, None, option_map, string_bytes, refl, sym, ap, ap₂, ◌∙◌, arith}
 use Rattle.std.specs.Prelude.{nat_lt}
 use borrow.Author.Tests.{ltb-true}
+use Rattle.std.proofs.lemmas.Bool.{and_parts}
 use Rattle.std.specs.List.{list_all, slice_get, filter_map, cons_option}
 use Rattle.dr_meaning.specs.Path.{Step, Leaf}
 use Rattle.dr_meaning.specs.Query as query
 use Rattle.dr_partials.specs.PartialTypes.{with_aggregate, aggregates_among}
-use Rattle.dr_partials.specs.Rewriting.{key_items, aggregate_items, column, merging_term, merging_terms, root_items, column_behind}
-use Rattle.dr_partials.specs.RewritingText.{nth_text, group_term_text, named, in_quotes, column_text, column_names, key_names, row_term_text}
+use Rattle.dr_partials.specs.Rewriting.{key_items, aggregate_items, merging_aggregate, merging_term, merging_terms, root_items, column_behind}
+use Rattle.dr_partials.specs.RewritingText.{aggregate_word, in_parentheses, nth_text, group_term_text, named, in_quotes, column_text, column_names, key_names, row_term_text}
 use Rattle.dr_plan.specs.declared.aggregate.Aggregate.{Aggregate}
 use Rattle.dr_plan.specs.declared.plan.GroupItem.{GroupItem}
 use Rattle.dr_plan.specs.declared.plan.GroupTerm.{GroupTerm}
 use Rattle.dr_plan.specs.Fitting.{aggregate_number, are_numbered, has_key}
-use Rattle.dr_plan.specs.Views.{aggregate_view, found_term, group_term_view, group_item_view, path_of}
+use Rattle.dr_plan.specs.Views.{aggregate_view, fold_view, found_term, group_term_view, group_item_view, path_of}
 use Rattle.dr_rewrite.specs.Items.{indexed, key_name, aggregate_name, key_text, leaf_key, leaf_aggregate, merging_text, merging_word, merging_word_at, inner_aggregate, root_term, root_item}
 use Rattle.dr_rewrite.specs.Writing.{written_leaves, written_path}
 use Rattle.dr_rewrite.specs.declared.names.Names.{Names}
 
 -- ---- names of columns
 
-abbrev names_of : List query.GroupItem → List (List ℕ)
+abbrev pub names_of : List query.GroupItem → List (List ℕ)
 names_of is = map (λ (i : query.GroupItem). i.name) is
 
 at_zero : (m : ℕ) → m ≡ m + 0
@@ -28,54 +29,54 @@ at_zero m = omega arith
 one_on : (m j : ℕ) → suc m + j ≡ m + suc j
 one_on m j = omega arith
 
-key_item_names : (f : ℕ → List Step) (n : ℕ) (ks : List ℕ) → names_of (key_items n (map f ks)) ≡ indexed (λ (i k : ℕ). key_name i) n ks
+pub key_item_names : (f : ℕ → List Step) (n : ℕ) (ks : List ℕ) → names_of (key_items n (map f ks)) ≡ indexed (λ (i k : ℕ). key_name i) n ks
 key_item_names f n [] = refl
 key_item_names f n (k ∷ ks) = ap (λ ns. key_name n ∷ ns) (key_item_names f (suc n) ks)
 
-names_count : (n : ℕ) (ps : List (List Step)) → length (names_of (key_items n ps)) ≡ length ps
+pub names_count : (n : ℕ) (ps : List (List Step)) → length (names_of (key_items n ps)) ≡ length ps
 names_count n [] = refl
 names_count n (p ∷ ps) = ap suc (names_count (suc n) ps)
 
-nth_name : (n : ℕ) (ps : List (List Step)) (i : ℕ) → i < length ps → nth_text (names_of (key_items n ps)) i ≡ key_name (n + i)
+pub nth_name : (n : ℕ) (ps : List (List Step)) (i : ℕ) → i < length ps → nth_text (names_of (key_items n ps)) i ≡ key_name (n + i)
 nth_name n [] i h = absurd (omega arith)
 nth_name n (p ∷ ps) zero h = ap key_name (at_zero n)
 nth_name n (p ∷ ps) (suc i) h = nth_name (suc n) ps i (omega arith) ∙ ap key_name (one_on n i)
 
-nth_aggregate : (n : ℕ) (ts : List query.GroupTerm) (i : ℕ) → i < length ts → nth_text (names_of (aggregate_items n ts)) i ≡ aggregate_name (n + i)
+pub nth_aggregate : (n : ℕ) (ts : List query.GroupTerm) (i : ℕ) → i < length ts → nth_text (names_of (aggregate_items n ts)) i ≡ aggregate_name (n + i)
 nth_aggregate n [] i h = absurd (omega arith)
 nth_aggregate n (t ∷ ts) zero h = ap aggregate_name (at_zero n)
 nth_aggregate n (t ∷ ts) (suc i) h = nth_aggregate (suc n) ts i (omega arith) ∙ ap aggregate_name (one_on n i)
 
-no_shift : (j : ℕ) → 0 + j ≡ j
+pub no_shift : (j : ℕ) → 0 + j ≡ j
 no_shift j = omega arith
 
 one_out : (m j : ℕ) → suc m + j ≡ suc (m + j)
 one_out m j = omega arith
 
-nth_behind : (xs ys : List (List ℕ)) (i : ℕ) → nth_text (xs ++ ys) (length xs + i) ≡ nth_text ys i
+pub nth_behind : (xs ys : List (List ℕ)) (i : ℕ) → nth_text (xs ++ ys) (length xs + i) ≡ nth_text ys i
 nth_behind [] ys i = ap (nth_text ys) (no_shift i)
 nth_behind (x ∷ xs) ys i = ap (nth_text ((x ∷ xs) ++ ys)) (one_out (length xs) i) ∙ nth_behind xs ys i
 
-nth_of : {A : Type 0} (g : A → List ℕ) (xs : List A) (i : ℕ) (x : A) → slice_get xs i ≡ Some x → nth_text (map g xs) i ≡ g x
+pub nth_of : {A : Type 0} (g : A → List ℕ) (xs : List A) (i : ℕ) (x : A) → slice_get xs i ≡ Some x → nth_text (map g xs) i ≡ g x
 nth_of g [] i x h = cc
 nth_of g (y ∷ ys) zero x h = let e : y ≡ x = cc in ap g e
 nth_of g (y ∷ ys) (suc i) x h = nth_of g ys i x h
 
-map_map : {A B C : Type 0} (g : B → C) (f : A → B) (xs : List A) → map g (map f xs) ≡ map (λ x. g (f x)) xs
+pub map_map : {A B C : Type 0} (g : B → C) (f : A → B) (xs : List A) → map g (map f xs) ≡ map (λ x. g (f x)) xs
 map_map g f [] = refl
 map_map g f (x ∷ xs) = ap (λ ys. g (f x) ∷ ys) (map_map g f xs)
 
-map_joined : {A B : Type 0} (g : A → B) (xs ys : List A) → map g (xs ++ ys) ≡ map g xs ++ map g ys
+pub map_joined : {A B : Type 0} (g : A → B) (xs ys : List A) → map g (xs ++ ys) ≡ map g xs ++ map g ys
 map_joined g [] ys = refl
 map_joined g (x ∷ xs) ys = ap (λ zs. g x ∷ zs) (map_joined g xs ys)
 
 -- ---- the leaf query
 
 -- an item as it is written, by the text of its term
-abbrev written_items : (query.GroupTerm → List ℕ) → List query.GroupItem → List (List ℕ)
+abbrev pub written_items : (query.GroupTerm → List ℕ) → List query.GroupItem → List (List ℕ)
 written_items text is = map (λ (i : query.GroupItem). named (text i.term) i.name) is
 
-leaf_keys : (n : Names) (all : List (List ℕ)) (f : ℕ → List Step) (i : ℕ) (ks : List ℕ) → ((j k : ℕ) → slice_get ks j ≡ Some k → nth_text all (i + j) ≡ key_text n k)
+pub leaf_keys : (n : Names) (all : List (List ℕ)) (f : ℕ → List Step) (i : ℕ) (ks : List ℕ) → ((j k : ℕ) → slice_get ks j ≡ Some k → nth_text all (i + j) ≡ key_text n k)
     → written_items (group_term_text (written_path n) all) (key_items i (map f ks)) ≡ indexed (leaf_key n) i ks
 leaf_keys n all f i [] h = refl
 leaf_keys n all f i (k ∷ ks) h =
@@ -85,7 +86,7 @@ same_term : (path : List Step → List ℕ) (ls : List Leaf) (all : List (List �
 same_term path ls all Aggregate.Rows = refl
 same_term path ls all (Aggregate.Of f e) = refl
 
-leaf_aggregates : (n : Names) (all : List (List ℕ)) (i : ℕ) (gs : List Aggregate)
+pub leaf_aggregates : (n : Names) (all : List (List ℕ)) (i : ℕ) (gs : List Aggregate)
     → written_items (group_term_text (written_path n) all) (aggregate_items i (map (aggregate_view (written_leaves n)) gs)) ≡ indexed (leaf_aggregate n) i gs
 leaf_aggregates n all i [] = refl
 leaf_aggregates n all i (a ∷ gs) = ap₂ (λ t ts. named t (aggregate_name i) ∷ ts) (same_term (written_path n) (written_leaves n) all a) (leaf_aggregates n all (suc i) gs)
@@ -149,10 +150,10 @@ from_here ls [] i a h = cc
 from_here ls (b ∷ bs) zero a h = let e : b ≡ a = cc in ap (λ x. aggregate_view ls x ∷ map (aggregate_view ls) bs) e
 from_here ls (b ∷ bs) (suc i) a h = from_here ls bs i a h
 
-abbrev numbers_of : List GroupItem → List ℕ
+abbrev pub numbers_of : List GroupItem → List ℕ
 numbers_of items = filter_map (λ (i : GroupItem). aggregate_number i.term) items
 
-among_items : (ls : List Leaf) (all : List Aggregate) (items : List GroupItem) (i : ℕ) → are_numbered i (numbers_of items) (length (drop i all)) ≡ true
+pub among_items : (ls : List Leaf) (all : List Aggregate) (items : List GroupItem) (i : ℕ) → are_numbered i (numbers_of items) (length (drop i all)) ≡ true
     → aggregates_among (map (group_item_view (map (aggregate_view ls) all)) items) ≡ map (aggregate_view ls) (drop i all)
 among_items ls all [] i h = sym (ap (map (aggregate_view ls)) (none_left i (drop i all) h))
 among_items ls all (item ∷ items) i h = by item.term h (among_items ls all items)
@@ -168,3 +169,71 @@ among_items ls all (item ∷ items) i h = by item.term h (among_items ls all ite
         let n = next_aggregate all i a (numbers_of items) g in
         ap (λ o. with_aggregate (found_term o) rest) (ap (slice_get (map (aggregate_view ls) all)) n.same ∙ viewed ls all i n.found n.there)
         ∙ (is_aggregate ls n.found rest ∙ (ap (λ ts. aggregate_view ls n.found ∷ ts) (r (suc i) n.behind) ∙ sym (from_here ls all i n.found n.there)))
+
+-- ---- merging, over the columns of a row
+
+-- the columns of aggregates stand behind those of keys
+abbrev pub AggregateColumns : List (List ℕ) → ℕ → ℕ → Type 0
+AggregateColumns names keys count = (i : ℕ) → i < count → nth_text names (keys + i) ≡ aggregate_name i
+
+merged_term : (ls : List Leaf) (names knames : List (List ℕ)) (c i : ℕ) (a : Aggregate) → nth_text names c ≡ aggregate_name i
+    → group_term_text (column_text names) knames (merging_term c (aggregate_view ls a)) ≡ merging_text i a
+merged_term ls names knames c i Aggregate.Rows h = ap (λ t. aggregate_word query.sum ++ in_parentheses t) h
+merged_term ls names knames c i (Aggregate.Of f e) h = ap (λ t. aggregate_word (merging_aggregate (fold_view f)) ++ in_parentheses t) h
+
+at_column : (keys i c : ℕ) → c ≡ keys + i → suc c ≡ keys + suc i
+at_column keys i c e = omega (arith, e)
+
+pub inner_aggregates : (ls : List Leaf) (names knames : List (List ℕ)) (keys count i c : ℕ) (gs : List Aggregate) → AggregateColumns names keys count → c ≡ keys + i → i + length gs ≤ count
+    → written_items (group_term_text (column_text names) knames) (aggregate_items i (merging_terms c (map (aggregate_view ls) gs))) ≡ indexed inner_aggregate i gs
+inner_aggregates ls names knames keys count i c [] n e h = refl
+inner_aggregates ls names knames keys count i c (a ∷ gs) n e h =
+    let l : i < count = omega arith in
+    let m : suc i + length gs ≤ count = omega arith in
+    ap₂ (λ t ts. named t (aggregate_name i) ∷ ts) (merged_term ls names knames c i a (ap (nth_text names) e ∙ n i l))
+    (inner_aggregates ls names knames keys count (suc i) (suc c) gs n (at_column keys i c e) m)
+
+column_behind_aggregate : (ls : List Leaf) (c : ℕ) (a : Aggregate) → column_behind c (aggregate_view ls a) ≡ suc c
+column_behind_aggregate ls c Aggregate.Rows = refl
+column_behind_aggregate ls c (Aggregate.Of f e) = refl
+
+abbrev pub KeyColumns : List (List ℕ) → ℕ → Type 0
+KeyColumns knames keys = (k : ℕ) → k < keys → nth_text knames k ≡ key_name k
+
+abbrev pub written_root : (query.GroupTerm → List ℕ) → List query.GroupItem → List (List ℕ)
+written_root text is = map (λ (i : query.GroupItem). named (text i.term) (in_quotes i.name)) is
+
+pub root_written : (ls : List Leaf) (all : List Aggregate) (names knames : List (List ℕ)) (keys : ℕ) → AggregateColumns names keys (length all) → KeyColumns knames keys
+    → (items : List GroupItem) (i c : ℕ) → c ≡ keys + i → are_numbered i (numbers_of items) (length (drop i all)) ≡ true → list_all (λ (x : GroupItem). has_key keys x.term) items ≡ true
+    → written_root (group_term_text (column_text names) knames) (root_items c (map (group_item_view (map (aggregate_view ls) all)) items)) ≡ map (root_item all) items
+root_written ls all names knames keys n m [] i c e h k = refl
+root_written ls all names knames keys n m (item ∷ items) i c e h k =
+    by item.term h (and_parts (has_key keys item.term) (list_all (λ (x : GroupItem). has_key keys x.term) items) k).0
+    (λ j d f g. root_written ls all names knames keys n m items j d f g (and_parts (has_key keys item.term) (list_all (λ (x : GroupItem). has_key keys x.term) items) k).1)
+  where
+    ts : List query.GroupTerm
+    ts = map (aggregate_view ls) all
+
+    text : query.GroupTerm → List ℕ
+    text = group_term_text (column_text names) knames
+
+    more : ℕ → List (List ℕ)
+    more d = written_root (group_term_text (column_text names) knames) (root_items d (map (group_item_view (map (aggregate_view ls) all)) items))
+
+    by : (t : GroupTerm) → are_numbered i (cons_option (aggregate_number t) (numbers_of items)) (length (drop i all)) ≡ true → has_key keys t ≡ true
+        → ((j d : ℕ) → d ≡ keys + j → are_numbered j (numbers_of items) (length (drop j all)) ≡ true
+            → written_root (group_term_text (column_text names) knames) (root_items d (map (group_item_view (map (aggregate_view ls) all)) items)) ≡ map (root_item all) items)
+        → named (group_term_text (column_text names) knames (merging_term c (group_term_view (map (aggregate_view ls) all) t))) (in_quotes (string_bytes item.name))
+            ∷ written_root (group_term_text (column_text names) knames) (root_items (column_behind c (group_term_view (map (aggregate_view ls) all) t)) (map (group_item_view (map (aggregate_view ls) all)) items))
+            ≡ named (root_term all t) (in_quotes (string_bytes item.name)) ∷ map (root_item all) items
+    by (GroupTerm.Key q) g l r = ap₂ (λ x xs. named x (in_quotes (string_bytes item.name)) ∷ xs) (m q (ltb-true q keys l)) (r i c e g)
+    by (GroupTerm.Aggregate a) g l r =
+        let w = next_aggregate all i a (numbers_of items) g in
+        let v : slice_get (map (aggregate_view ls) all) a ≡ Some (aggregate_view ls w.found) = ap (slice_get (map (aggregate_view ls) all)) w.same ∙ viewed ls all i w.found w.there in
+        let u : slice_get all a ≡ Some w.found = ap (slice_get all) w.same ∙ w.there in
+        ap₂ (λ x xs. named x (in_quotes (string_bytes item.name)) ∷ xs)
+        (ap (λ o. group_term_text (column_text names) knames (merging_term c (found_term o))) v
+        ∙ (merged_term ls names knames c i w.found (ap (nth_text names) e ∙ n i w.within)
+        ∙ ap₂ (λ o j. merging_word_at o ++ in_parentheses (aggregate_name j)) (sym u) (sym w.same)))
+        (ap (λ d. written_root (group_term_text (column_text names) knames) (root_items d (map (group_item_view (map (aggregate_view ls) all)) items)))
+        (ap (λ o. column_behind c (found_term o)) v ∙ column_behind_aggregate ls c w.found) ∙ r (suc i) (suc c) (at_column keys i c e) w.behind)
