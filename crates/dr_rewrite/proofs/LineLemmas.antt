@@ -1,5 +1,5 @@
 -- The three lines that are written are those of the plan's query.
-use Rattle.std.proofs.Common.{◌≡◌, ℕ, ◌+◌, ◌<◌, ◌≤◌, List, [], ◌∷◌, ◌++◌, map, length, drop, Bool, true, Option, Some, None, Vec, refl, sym, ap, ap₂, ◌∙◌, subst, arith}
+use Rattle.std.proofs.Common.{◌≡◌, ℕ, ◌+◌, ◌<◌, ◌≤◌, List, [], ◌∷◌, ◌++◌, map, length, true, Vec, refl, sym, ap, ap₂, ◌∙◌, subst, arith}
 use Rattle.std.specs.Prelude.{codes}
 use Rattle.std.specs.List.{list_all, slice_get}
 use Rattle.std.specs.declared.alloc.Global.{Global}
@@ -9,17 +9,16 @@ use Rattle.dr_meaning.specs.Path.{Step, Leaf}
 use Rattle.dr_meaning.specs.Query as query
 use Rattle.dr_nested.specs.SchemaView.{schema_view}
 use Rattle.dr_partials.specs.PartialTypes.{aggregates_among}
-use Rattle.dr_partials.specs.Rewriting.{key_items, aggregate_items, merging_terms, root_items}
+use Rattle.dr_partials.specs.Rewriting.{key_items, aggregate_items, merging_terms}
 use Rattle.dr_partials.specs.RewritingText.{nth_text, group_term_text, column_text, column_names, in_quotes, named, record_term_text, key_names as meant_names, select_text, leaf_text, inner_text, root_text, rewriting_text}
 use Rattle.dr_plan.specs.Conjuncts.{all_of}
 use Rattle.dr_plan.specs.declared.aggregate.Aggregate.{Aggregate}
 use Rattle.dr_plan.specs.declared.expression.Truth.{Truth}
 use Rattle.dr_plan.specs.declared.plan.GroupItem.{GroupItem}
-use Rattle.dr_plan.specs.declared.plan.RecordItem.{RecordItem}
 use Rattle.dr_plan.specs.declared.plan.Selection.{Selection}
-use Rattle.dr_plan.specs.Fitting.{aggregate_fits, are_numbered, has_key, selection_fits}
+use Rattle.dr_plan.specs.Fitting.{are_numbered, has_key, selection_fits}
 use Rattle.dr_plan.specs.Views.{aggregate_view, group_item_view, path_of, record_item_view, selection_view, truth_view}
-use Rattle.dr_rewrite.specs.Items.{indexed, key_name, aggregate_name, key_text, leaf_key, leaf_aggregate, inner_aggregate, record_item_text, root_item}
+use Rattle.dr_rewrite.specs.Items.{indexed, key_name, aggregate_name, key_text, leaf_key, leaf_aggregate}
 use Rattle.dr_rewrite.specs.Lines.{key_names, leaf_line, inner_line, root_line, lines, tests_text}
 use Rattle.dr_rewrite.specs.Writing.{written_leaves, written_path}
 use Rattle.dr_rewrite.specs.declared.names.Names.{Names}

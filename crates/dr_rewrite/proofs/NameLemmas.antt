@@ -1,5 +1,5 @@
 -- The names on a path below a group.
-use Rattle.std.proofs.Common.{◌≡◌, ℕ, zero, suc, ◌≤◌, List, [], ◌∷◌, ◌++◌, map, length, get_or, take, drop, ◌-◌, string_bytes, Option, Some, None, option_map, refl, sym, ap, ◌∙◌, append_assoc, append-nil, arith}
+use Rattle.std.proofs.Common.{◌≡◌, ℕ, zero, suc, ◌≤◌, List, [], ◌∷◌, ◌++◌, map, length, get_or, take, drop, ◌-◌, string_bytes, Some, None, option_map, refl, sym, ap, ◌∙◌, append_assoc, append-nil, arith}
 use Rattle.std.specs.List.{slice_get, join_with_byte}
 use Rattle.std.proofs.lemmas.List.{take_all}
 use Rattle.dr_meaning.specs.Schema as tree

@@ -1,5 +1,5 @@
 -- The items that are written are those of the plan's query.
-use Rattle.std.proofs.Common.{◌≡◌, ℕ, zero, suc, ◌+◌, ◌<◌, ◌≤◌, List, [], ◌∷◌, ◌++◌, map, length, drop, Bool, true, false, ◌&&◌, Option, Some, None, option_map, string_bytes, refl, sym, ap, ap₂, ◌∙◌, arith}
+use Rattle.std.proofs.Common.{◌≡◌, ℕ, zero, suc, ◌+◌, ◌<◌, ◌≤◌, List, [], ◌∷◌, ◌++◌, map, length, drop, Bool, true, false, ◌&&◌, Some, string_bytes, refl, sym, ap, ap₂, ◌∙◌, arith}
 use Rattle.std.specs.Prelude.{nat_lt}
 use borrow.Author.Tests.{ltb-true}
 use Rattle.std.proofs.lemmas.Bool.{and_parts}
@@ -8,13 +8,13 @@ use Rattle.dr_meaning.specs.Path.{Step, Leaf}
 use Rattle.dr_meaning.specs.Query as query
 use Rattle.dr_partials.specs.PartialTypes.{with_aggregate, aggregates_among}
 use Rattle.dr_partials.specs.Rewriting.{key_items, aggregate_items, merging_aggregate, merging_term, merging_terms, root_items, column_behind}
-use Rattle.dr_partials.specs.RewritingText.{aggregate_word, in_parentheses, nth_text, group_term_text, named, in_quotes, column_text, column_names, key_names, row_term_text}
+use Rattle.dr_partials.specs.RewritingText.{aggregate_word, in_parentheses, nth_text, group_term_text, named, in_quotes, column_text}
 use Rattle.dr_plan.specs.declared.aggregate.Aggregate.{Aggregate}
 use Rattle.dr_plan.specs.declared.plan.GroupItem.{GroupItem}
 use Rattle.dr_plan.specs.declared.plan.GroupTerm.{GroupTerm}
 use Rattle.dr_plan.specs.Fitting.{aggregate_number, are_numbered, has_key}
-use Rattle.dr_plan.specs.Views.{aggregate_view, fold_view, found_term, group_term_view, group_item_view, path_of}
-use Rattle.dr_rewrite.specs.Items.{indexed, key_name, aggregate_name, key_text, leaf_key, leaf_aggregate, merging_text, merging_word, merging_word_at, inner_aggregate, root_term, root_item}
+use Rattle.dr_plan.specs.Views.{aggregate_view, fold_view, found_term, group_term_view, group_item_view}
+use Rattle.dr_rewrite.specs.Items.{indexed, key_name, aggregate_name, key_text, leaf_key, leaf_aggregate, merging_text, merging_word_at, inner_aggregate, root_term, root_item}
 use Rattle.dr_rewrite.specs.Writing.{written_leaves, written_path}
 use Rattle.dr_rewrite.specs.declared.names.Names.{Names}
 
@@ -222,10 +222,10 @@ root_written ls all names knames keys n m (item ∷ items) i c e h k =
 
     by : (t : GroupTerm) → are_numbered i (cons_option (aggregate_number t) (numbers_of items)) (length (drop i all)) ≡ true → has_key keys t ≡ true
         → ((j d : ℕ) → d ≡ keys + j → are_numbered j (numbers_of items) (length (drop j all)) ≡ true
-            → written_root (group_term_text (column_text names) knames) (root_items d (map (group_item_view (map (aggregate_view ls) all)) items)) ≡ map (root_item all) items)
+        → written_root (group_term_text (column_text names) knames) (root_items d (map (group_item_view (map (aggregate_view ls) all)) items)) ≡ map (root_item all) items)
         → named (group_term_text (column_text names) knames (merging_term c (group_term_view (map (aggregate_view ls) all) t))) (in_quotes (string_bytes item.name))
-            ∷ written_root (group_term_text (column_text names) knames) (root_items (column_behind c (group_term_view (map (aggregate_view ls) all) t)) (map (group_item_view (map (aggregate_view ls) all)) items))
-            ≡ named (root_term all t) (in_quotes (string_bytes item.name)) ∷ map (root_item all) items
+        ∷ written_root (group_term_text (column_text names) knames) (root_items (column_behind c (group_term_view (map (aggregate_view ls) all) t)) (map (group_item_view (map (aggregate_view ls) all)) items))
+        ≡ named (root_term all t) (in_quotes (string_bytes item.name)) ∷ map (root_item all) items
     by (GroupTerm.Key q) g l r = ap₂ (λ x xs. named x (in_quotes (string_bytes item.name)) ∷ xs) (m q (ltb-true q keys l)) (r i c e g)
     by (GroupTerm.Aggregate a) g l r =
         let w = next_aggregate all i a (numbers_of items) g in

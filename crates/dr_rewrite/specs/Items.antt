@@ -1,7 +1,6 @@
 -- The items of a plan's queries, as they are written.
 use Rattle.std.specs.Prelude.{ℕ, suc, List, [], ◌∷◌, ◌++◌, codes, string_bytes, decimal, Option, Some, None}
 use Rattle.std.specs.List.{slice_get}
-use Rattle.dr_meaning.specs.Path.{Step, Leaf}
 use Rattle.dr_meaning.specs.Query as query
 use Rattle.dr_partials.specs.Rewriting.{merging_aggregate}
 use Rattle.dr_partials.specs.RewritingText.{aggregate_word, group_term_text, in_parentheses, in_quotes, named, record_term_text}

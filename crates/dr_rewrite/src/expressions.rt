@@ -13,11 +13,7 @@ use std::alloc::AllocError;
 
 /// Appends a number's expression.
 #[cycle(numbers)]
-fn push_number_of(
-    number: &Number,
-    names: &Names<'_>,
-    out: &mut String,
-) -> Result<(), AllocError>
+fn push_number_of(number: &Number, names: &Names<'_>, out: &mut String) -> Result<(), AllocError>
     ensures { OnOk result (string_bytes out.new ≡ string_bytes out.old ++ meant.expression_text (written_path names.now) (number_view (written_leaves names.now) number.now)) }
 {
     match number {
@@ -71,7 +67,11 @@ fn push_text_of(text: &TextOf, names: &Names<'_>, out: &mut String) -> Result<()
 
 /// Appends a truth value's expression.
 #[cycle(truths)]
-pub(crate) fn push_truth_of(truth: &Truth, names: &Names<'_>, out: &mut String) -> Result<(), AllocError>
+pub(crate) fn push_truth_of(
+    truth: &Truth,
+    names: &Names<'_>,
+    out: &mut String,
+) -> Result<(), AllocError>
     ensures { OnOk result (string_bytes out.new ≡ string_bytes out.old ++ meant.expression_text (written_path names.now) (truth_view (written_leaves names.now) truth.now)) }
 {
     match truth {

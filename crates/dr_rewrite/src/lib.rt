@@ -1,13 +1,16 @@
 //! The text of a plan's queries, as the servers of a tree run them.
 #![tactic(auto)]
 
+mod columns;
 mod condition;
 mod expressions;
-mod items;
+mod leaf_items;
 mod lines;
 mod lists;
 mod literals;
+mod merging;
 mod names;
+mod record_items;
 mod rewriting;
 mod terms;
 

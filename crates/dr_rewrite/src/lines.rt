@@ -4,10 +4,13 @@ ghost use Rattle.std.specs.Prelude.{◌≡◌, ◌++◌, codes, map, string_byte
 ghost use Rattle.dr_partials.specs.RewritingText as meant;
 ghost use Rattle.dr_rewrite.specs.Lines as written;
 
+use crate::columns::key_names;
 use crate::condition::push_condition;
-use crate::items::{key_names, key_paths, leaf_items, push_inner_aggregates, record_items, root_items};
+use crate::leaf_items::{key_paths, leaf_items};
 use crate::lists::push_listed;
+use crate::merging::{push_inner_aggregates, root_items};
 use crate::names::Names;
+use crate::record_items::record_items;
 use dr_memory::NoMemory;
 use dr_plan::{Selection, Truth};
 use std::alloc::{AllocError, Global};
@@ -64,11 +67,7 @@ fn push_leaf_line(
 }
 
 /// Appends the query of intermediate servers.
-fn push_inner_line(
-    alloc: Global,
-    selection: &Selection,
-    out: &mut String,
-) -> Result<(), NoMemory>
+fn push_inner_line(alloc: Global, selection: &Selection, out: &mut String) -> Result<(), NoMemory>
     ensures { OnOk result (string_bytes out.new ≡ string_bytes out.old ++ written.inner_line selection.now) }
 {
     match selection {
@@ -88,11 +87,7 @@ fn push_inner_line(
 }
 
 /// Appends the query of the root.
-fn push_root_line(
-    alloc: Global,
-    selection: &Selection,
-    out: &mut String,
-) -> Result<(), NoMemory>
+fn push_root_line(alloc: Global, selection: &Selection, out: &mut String) -> Result<(), NoMemory>
     ensures { OnOk result (string_bytes out.new ≡ string_bytes out.old ++ written.root_line selection.now) }
 {
     match selection {

@@ -1,4 +1,4 @@
-use Rattle.std.proofs.Common.{ℕ, ◌+◌, ◌*◌, max}
+use Rattle.std.proofs.Common.{◌+◌, ◌*◌, max}
 use Rattle.dr_plan.specs.declared.expression.Truth.{size-Truth}
 use Rattle.dr_rewrite.proofs.expressions.+truths.Given as goal
 

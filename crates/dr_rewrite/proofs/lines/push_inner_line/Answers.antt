@@ -1,6 +1,6 @@
-use Rattle.std.proofs.Common.{ℕ, ◌∙◌, ◌++◌, [], sym, ap, ap₂, map, string_bytes}
+use Rattle.std.proofs.Common.{◌∙◌, ◌++◌, [], sym, ap, ap₂, map, string_bytes}
 use Rattle.std.specs.Prelude.{codes}
-use Rattle.dr_rewrite.specs.Items.{indexed, inner_aggregate, key_name}
+use Rattle.dr_rewrite.specs.Items.{indexed, inner_aggregate}
 use Rattle.dr_rewrite.specs.Lines.{inner_line, key_names}
 use Rattle.dr_rewrite.proofs.WriteLemmas.{select_written, nothing}
 use Rattle.dr_rewrite.proofs.lines.push_inner_line.Goals as goal

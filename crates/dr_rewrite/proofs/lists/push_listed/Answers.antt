@@ -1,4 +1,4 @@
-use Rattle.std.proofs.Common.{◌≡◌, ◌∙◌, ◌++◌, ◌∷◌, ap, map, sym, string_bytes, append_assoc}
+use Rattle.std.proofs.Common.{◌∙◌, ◌++◌, ap, map, sym, string_bytes, append_assoc}
 use Rattle.std.proofs.lemmas.Result.{on_ok_weaker}
 use Rattle.dr_partials.specs.RewritingText.{commas}
 use Rattle.dr_rewrite.specs.Lists.{further_commas}

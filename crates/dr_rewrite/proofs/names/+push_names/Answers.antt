@@ -1,4 +1,4 @@
-use Rattle.std.proofs.Common.{◌≡◌, ◌++◌, ◌∷◌, ◌∙◌, ap, map, take, drop, length, ◌-◌, string_bytes}
+use Rattle.std.proofs.Common.{◌++◌, ◌∷◌, ◌∙◌, ap, map, take, drop, length, ◌-◌, string_bytes}
 use Rattle.std.proofs.lemmas.Result.{on_ok_weaker}
 use Rattle.dr_nested.specs.PathView.{step_view}
 use Rattle.dr_nested.specs.Views.{kind_view, shape_view}

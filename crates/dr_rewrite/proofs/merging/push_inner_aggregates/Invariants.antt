@@ -1,6 +1,6 @@
-use Rattle.std.proofs.Common.{◌≡◌, ◌++◌, ℕ, map, drop, string_bytes}
+use Rattle.std.proofs.Common.{◌≡◌, ◌++◌, map, drop, string_bytes}
 use Rattle.dr_rewrite.specs.Items.{indexed, inner_aggregate}
-use Rattle.dr_rewrite.proofs.items.push_inner_aggregates.Given as goal
+use Rattle.dr_rewrite.proofs.merging.push_inner_aggregates.Given as goal
 
 -- those that are left are still to come
 abbrev pub invariant-aggregates : goal.invariant-aggregates

@@ -1,6 +1,6 @@
-use Rattle.std.proofs.Common.{◌≡◌, ◌++◌, ℕ, map, drop, string_bytes}
+use Rattle.std.proofs.Common.{◌≡◌, ◌++◌, map, drop, string_bytes}
 use Rattle.dr_rewrite.specs.Items.{key_text}
-use Rattle.dr_rewrite.proofs.items.key_paths.Given as goal
+use Rattle.dr_rewrite.proofs.leaf_items.key_paths.Given as goal
 
 -- those that are left are still to come
 abbrev pub invariant-keys : goal.invariant-keys

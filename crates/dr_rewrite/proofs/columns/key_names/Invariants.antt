@@ -1,6 +1,6 @@
 use Rattle.std.proofs.Common.{◌≡◌, ◌++◌, ℕ, map, drop, string_bytes}
 use Rattle.dr_rewrite.specs.Items.{indexed, key_name}
-use Rattle.dr_rewrite.proofs.items.key_names.Given as goal
+use Rattle.dr_rewrite.proofs.columns.key_names.Given as goal
 
 -- those that are left are still to come
 abbrev pub invariant-keys : goal.invariant-keys

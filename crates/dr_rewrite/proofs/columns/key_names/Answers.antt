@@ -1,7 +1,6 @@
-use Rattle.std.proofs.Common.{arith, map, string_bytes, ◌++◌}
 use Rattle.dr_rewrite.specs.Items.{key_name}
 use Rattle.dr_rewrite.proofs.ListLemmas.{name_pushed}
-use Rattle.dr_rewrite.proofs.items.key_names.Goals as goal
+use Rattle.dr_rewrite.proofs.columns.key_names.Goals as goal
 
 pub keys-preserved : goal.keys-preserved
 keys-preserved c =

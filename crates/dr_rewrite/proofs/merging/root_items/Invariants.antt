@@ -1,6 +1,6 @@
-use Rattle.std.proofs.Common.{◌≡◌, ◌++◌, ℕ, map, drop, string_bytes}
+use Rattle.std.proofs.Common.{◌≡◌, ◌++◌, map, drop, string_bytes}
 use Rattle.dr_rewrite.specs.Items.{root_item}
-use Rattle.dr_rewrite.proofs.items.root_items.Given as goal
+use Rattle.dr_rewrite.proofs.merging.root_items.Given as goal
 
 -- those that are left are still to come
 abbrev pub invariant-items : goal.invariant-items
