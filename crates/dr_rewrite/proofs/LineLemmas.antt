@@ -21,7 +21,7 @@ use Rattle.dr_plan.specs.Views.{aggregate_view, group_item_view, path_of, record
 use Rattle.dr_rewrite.specs.Items.{indexed, key_name, aggregate_name, key_text, leaf_key, leaf_aggregate}
 use Rattle.dr_rewrite.specs.Lines.{key_names, leaf_line, inner_line, root_line, lines, tests_text}
 use Rattle.dr_rewrite.specs.Writing.{written_leaves, written_path}
-use Rattle.dr_rewrite.specs.declared.names.Names.{Names}
+use Rattle.dr_rewrite.specs.declared.paths.Names.{Names}
 use Rattle.dr_rewrite.proofs.RewritingTextLemmas.{names_of, key_item_names, names_count, nth_name, nth_aggregate, nth_behind, nth_of, no_shift, map_map, map_joined, written_items, leaf_keys, leaf_aggregates, numbers_of, among_items, inner_aggregates, root_written}
 
 -- ---- the parts of a plan that fits

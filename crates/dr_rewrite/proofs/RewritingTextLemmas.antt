@@ -16,7 +16,7 @@ use Rattle.dr_plan.specs.Fitting.{aggregate_number, are_numbered, has_key}
 use Rattle.dr_plan.specs.Views.{aggregate_view, fold_view, found_term, group_term_view, group_item_view}
 use Rattle.dr_rewrite.specs.Items.{indexed, key_name, aggregate_name, key_text, leaf_key, leaf_aggregate, merging_text, merging_word_at, inner_aggregate, root_term, root_item}
 use Rattle.dr_rewrite.specs.Writing.{written_leaves, written_path}
-use Rattle.dr_rewrite.specs.declared.names.Names.{Names}
+use Rattle.dr_rewrite.specs.declared.paths.Names.{Names}
 
 -- ---- names of columns
 

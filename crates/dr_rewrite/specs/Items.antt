@@ -10,7 +10,7 @@ use Rattle.dr_plan.specs.declared.plan.GroupTerm.{GroupTerm}
 use Rattle.dr_plan.specs.declared.plan.RecordItem.{RecordItem}
 use Rattle.dr_plan.specs.Views.{aggregate_view, fold_view, path_of, record_term_view}
 use Rattle.dr_rewrite.specs.Writing.{written_leaves, written_path}
-use Rattle.dr_rewrite.specs.declared.names.Names.{Names}
+use Rattle.dr_rewrite.specs.declared.paths.Names.{Names}
 
 -- a text of each, by its place, of which the first is the nth
 abbrev pub indexed : {A B : Type 0} → (ℕ → A → B) → ℕ → List A → List B

@@ -7,7 +7,7 @@ use Rattle.dr_plan.specs.declared.expression.Truth.{Truth}
 use Rattle.dr_plan.specs.declared.plan.Selection.{Selection}
 use Rattle.dr_rewrite.specs.Items.{indexed, inner_aggregate, key_name, key_text, leaf_aggregate, leaf_key, record_item_text, root_item}
 use Rattle.dr_rewrite.specs.Writing.{written_leaves, written_path}
-use Rattle.dr_rewrite.specs.declared.names.Names.{Names}
+use Rattle.dr_rewrite.specs.declared.paths.Names.{Names}
 
 -- WHERE and the tests
 abbrev pub tests_text : Names → List Truth → List ℕ

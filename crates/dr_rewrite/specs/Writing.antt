@@ -4,7 +4,7 @@ use Rattle.dr_meaning.specs.Path.{Step, Leaf}
 use Rattle.dr_nested.specs.PathView.{path_view}
 use Rattle.dr_nested.specs.SchemaView.{schema_view}
 use Rattle.dr_partials.specs.RewritingText.{name_text, path_text}
-use Rattle.dr_rewrite.specs.declared.names.Names.{Names}
+use Rattle.dr_rewrite.specs.declared.paths.Names.{Names}
 
 -- names with a dot between, and something before the first
 abbrev pub dotted : List ℕ → List (List ℕ) → List ℕ

@@ -7,7 +7,7 @@ ghost use Rattle.dr_plan.specs.Views.{truth_view};
 ghost use Rattle.dr_rewrite.specs.Writing.{written_leaves, written_path};
 
 use crate::expressions::push_truth_of;
-use crate::names::Names;
+use crate::paths::Names;
 use dr_plan::Truth;
 use std::alloc::AllocError;
 

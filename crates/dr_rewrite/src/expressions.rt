@@ -7,7 +7,7 @@ ghost use Rattle.dr_plan.specs.Views.{comparison_view, expr_view, number_view, t
 ghost use Rattle.dr_rewrite.specs.Writing.{written_leaves, written_path};
 
 use crate::literals::{push_number, push_text, push_truth};
-use crate::names::{Names, push_leaf};
+use crate::paths::{Names, push_leaf};
 use dr_plan::{Comparison, Expr, Number, TextOf, Truth};
 use std::alloc::AllocError;
 

@@ -4,7 +4,7 @@ ghost use Rattle.std.specs.Prelude.{◌≡◌, ◌++◌, map, string_bytes, IfOk
 ghost use Rattle.dr_rewrite.specs.Items as written;
 
 use crate::columns::{push_aggregate_name, push_key_name};
-use crate::names::{Names, push_leaf};
+use crate::paths::{Names, push_leaf};
 use crate::terms::push_aggregate;
 use dr_memory::NoMemory;
 use dr_plan::Aggregate;

@@ -10,6 +10,7 @@ mod lists;
 mod literals;
 mod merging;
 mod names;
+mod paths;
 mod record_items;
 mod rewriting;
 mod terms;

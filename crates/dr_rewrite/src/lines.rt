@@ -9,7 +9,7 @@ use crate::condition::push_condition;
 use crate::leaf_items::{key_paths, leaf_items};
 use crate::lists::push_listed;
 use crate::merging::{push_inner_aggregates, root_items};
-use crate::names::Names;
+use crate::paths::Names;
 use crate::record_items::record_items;
 use dr_memory::NoMemory;
 use dr_plan::{Selection, Truth};

@@ -3,7 +3,8 @@
 ghost use Rattle.std.specs.Prelude.{◌≡◌, map, string_bytes, IfOk};
 ghost use Rattle.dr_rewrite.specs.Items as written;
 
-use crate::names::{Names, push_quoted_name};
+use crate::names::push_quoted_name;
+use crate::paths::Names;
 use crate::terms::push_record_term;
 use dr_memory::NoMemory;
 use dr_plan::RecordItem;

@@ -6,7 +6,7 @@ ghost use Rattle.dr_partials.specs.RewritingText as meant;
 ghost use Rattle.dr_plan.specs.Planned.{plan_view, planned_query};
 
 use crate::lines::lines;
-use crate::names::Names;
+use crate::paths::Names;
 use dr_memory::NoMemory;
 use dr_nested::Schema;
 use dr_plan::Plan;

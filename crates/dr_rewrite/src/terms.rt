@@ -8,7 +8,7 @@ ghost use Rattle.dr_rewrite.specs.Items.{merging_word};
 ghost use Rattle.dr_rewrite.specs.Writing.{written_leaves, written_path};
 
 use crate::expressions::push_expression;
-use crate::names::{Names, push_path};
+use crate::paths::{Names, push_path};
 use dr_nested::Step;
 use dr_plan::{Aggregate, Expr, Fold, RecordTerm};
 use std::alloc::AllocError;

@@ -10,7 +10,7 @@ use Rattle.dr_plan.specs.Fitting.{selection_fits}
 use Rattle.dr_plan.specs.Views.{selection_view, truth_view}
 use Rattle.dr_plan.specs.declared.expression.Truth.{Truth}
 use Rattle.dr_rewrite.specs.Lines.{lines}
-use Rattle.dr_rewrite.specs.declared.names.Names.{Names}
+use Rattle.dr_rewrite.specs.declared.paths.Names.{Names}
 use Rattle.dr_rewrite.proofs.LineLemmas.{lines_are_rewriting}
 use Rattle.dr_rewrite.proofs.rewriting.rewriting_text.Goals as goal
 

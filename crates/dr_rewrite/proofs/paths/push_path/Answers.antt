@@ -5,7 +5,7 @@ use Rattle.dr_nested.specs.PathView.{step_view}
 use Rattle.dr_nested.specs.SchemaView.{schema_view}
 use Rattle.dr_partials.specs.RewritingText.{path_names}
 use Rattle.dr_rewrite.proofs.NameLemmas.{dots_between}
-use Rattle.dr_rewrite.proofs.names.push_path.Goals as goal
+use Rattle.dr_rewrite.proofs.paths.push_path.Goals as goal
 
 pub returns : goal.returns
 returns c =

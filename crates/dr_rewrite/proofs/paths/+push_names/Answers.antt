@@ -5,7 +5,7 @@ use Rattle.dr_nested.specs.Views.{kind_view, shape_view}
 use Rattle.dr_nested.proofs.ViewLemmas.{view-leaf, view-group}
 use Rattle.dr_partials.specs.RewritingText.{path_names, name_text}
 use Rattle.dr_rewrite.proofs.NameLemmas.{no_names, name_and_more, name_and_rest, below_leaf, no_name, last_name, names_behind}
-use Rattle.dr_rewrite.proofs.names.+push_names.Goals as goal
+use Rattle.dr_rewrite.proofs.paths.+push_names.Goals as goal
 
 pub returns-in-None : goal.returns-in-None
 returns-in-None t c =
