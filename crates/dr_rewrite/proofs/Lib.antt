@@ -1,0 +1,7 @@
+-- names, and texts with quotes
+pub mod LiteralLemmas
+pub mod WriteLemmas
+pub mod NameLemmas
+pub mod ListLemmas
+pub mod RewritingTextLemmas
+pub mod LineLemmas

@@ -1,0 +1,32 @@
+-- Lists of texts, and of conjuncts.
+use Rattle.std.proofs.Common.{◌≡◌, ℕ, ◌+◌, ◌<◌, String, string_bytes, length, drop, add-one, append_assoc, List, [], ◌∷◌, ◌++◌, map, append-nil, refl, sym, ap, ◌∙◌}
+use Rattle.std.proofs.lemmas.List.{map_push, drop_more}
+use Rattle.std.specs.declared.alloc.Global.{Global}
+use Rattle.dr_meaning.specs.Expression.{Expression, conjunction}
+use Rattle.dr_partials.specs.RewritingText.{commas}
+use Rattle.dr_plan.specs.Conjuncts.{joined}
+use Rattle.dr_rewrite.specs.Items.{indexed}
+use Rattle.dr_rewrite.specs.Lists.{further_commas}
+
+pub commas_first : (t : List ℕ) (ts : List (List ℕ)) → t ++ further_commas ts ≡ commas (t ∷ ts)
+commas_first t [] = append-nil t
+commas_first t (u ∷ us) = ap (λ x. t ++ (44 ∷ 32 ∷ x)) (commas_first u us)
+
+joined_push : (e f : Expression) (es : List Expression) → joined e (es ++ f ∷ []) ≡ conjunction (joined e es) f
+joined_push e f [] = refl
+joined_push e f (g ∷ es) = joined_push (conjunction e g) f es
+
+pub joined_last : {A : Type 0} (see : A → Expression) (e : Expression) (xs front : List A) (last : A) → xs ≡ front ++ last ∷ [] → conjunction (joined e (map see front)) (see last) ≡ joined e (map see xs)
+joined_last see e xs front last h = sym (ap (λ ys. joined e (map see ys)) h ∙ (ap (joined e) (map_push see front last) ∙ joined_push e (see last) (map see front)))
+
+-- ---- texts of each, by place
+
+pub name_pushed : (name : ℕ → List ℕ) (xs : List ℕ) (i : ℕ) (old new : List (String Global)) (s : String Global) (whole : List (List ℕ)) → i < length xs → new ≡ old ++ s ∷ [] → string_bytes s ≡ name i
+    → map string_bytes old ++ indexed (λ (j k : ℕ). name j) i (drop i xs) ≡ whole → map string_bytes new ++ indexed (λ (j k : ℕ). name j) (i + 1) (drop (i + 1) xs) ≡ whole
+name_pushed name xs i old new s whole h e f g =
+    let later = indexed (λ (j k : ℕ). name j) (i + 1) (drop (i + 1) xs) in
+    ap (λ ts. map string_bytes ts ++ later) e
+    ∙ (ap (λ ts. ts ++ later) (map_push string_bytes old s)
+    ∙ (append_assoc (map string_bytes old) (string_bytes s ∷ []) later
+    ∙ (ap (λ t. map string_bytes old ++ t ∷ later) f
+    ∙ (ap (λ ts. map string_bytes old ++ ts) (ap (λ j. name i ∷ indexed (λ (a k : ℕ). name a) j (drop (i + 1) xs)) (add-one i) ∙ sym (ap (indexed (λ (j k : ℕ). name j) i) (drop_more xs i 0 h))) ∙ g))))

@@ -1,0 +1,4 @@
+pub mod Items
+pub mod Lines
+pub mod Lists
+pub mod Writing
