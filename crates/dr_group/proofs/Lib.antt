@@ -1,2 +1,8 @@
 -- the order of key tuples, cell by cell
 pub mod OrderLemmas
+-- what aggregates gather
+pub mod GatheringLemmas
+-- groups in the order of their key tuples
+pub mod PlaceLemmas
+-- where a key tuple is looked for
+pub mod FindLemmas

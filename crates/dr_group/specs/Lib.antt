@@ -2,3 +2,7 @@
 pub mod Views
 -- what an aggregate gathers
 pub mod Gathering
+-- groups and their places
+pub mod Groups
+-- maps of groups
+pub mod Maps

@@ -3,7 +3,13 @@
 
 mod accumulator;
 mod gathering;
+mod group;
+mod group_map;
 mod orders;
+mod place;
+mod putting;
 
 pub use accumulator::Accumulator;
 pub use gathering::Gathering;
+pub use group::{Group, Taken};
+pub use group_map::GroupMap;
