@@ -6,3 +6,5 @@ pub mod GatheringLemmas
 pub mod PlaceLemmas
 -- where a key tuple is looked for
 pub mod FindLemmas
+-- held groups and their numbers
+pub mod HeldLemmas

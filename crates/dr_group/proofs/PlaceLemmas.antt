@@ -1,11 +1,13 @@
 -- Groups in the order of their key tuples: where a key tuple stands, and what is put there.
-use Rattle.std.specs.Prelude.{◌≡◌, ◌<◌, ◌≤◌, ℕ, zero, suc, ◌+◌, List, [], ◌∷◌, ◌++◌, map, length, take, drop, get_or, Bool, true, ◌&&◌, nat_lt, Option}
+use Rattle.std.specs.Prelude.{◌≡◌, ◌≢◌, ◌<◌, ◌≤◌, ℕ, zero, suc, ◌+◌, List, [], ◌∷◌, ◌++◌, map, length, take, drop, get_or, Bool, true, ◌&&◌, nat_lt, Option}
 use Rattle.std.specs.List.{insert, list_all}
 use Rattle.std.specs.Ordering.{match_ordering, ordering_reverse}
 use Rattle.std.specs.declared.cmp.Ordering.{Ordering}
 use Rattle.std.specs.declared.cmp.Ordering.TheVariants.{Less, Equal, Greater}
 use Rattle.std.proofs.Common.{refl, sym, ap, ap₂, ◌∙◌, subst, arith, length-append}
 use Rattle.std.proofs.Math.ListN.{set}
+use Rattle.std.proofs.lemmas.Cmp.{tied_itself}
+use Rattle.std.proofs.lemmas.List.{get_or-set_same, get_or-set_other}
 use Rattle.std.proofs.lemmas.Bool.{and_parts, ltb-true, lt-ltb}
 use Rattle.dr_meaning.specs.Query.{tuple_order}
 use Rattle.dr_partials.specs.Accumulators.{Accumulator}
@@ -15,7 +17,7 @@ use Rattle.dr_partials.specs.Putting.{Put}
 use Rattle.dr_partials.proofs.ValueOrders.{tuple_order_total, tuple_order_exact}
 use Rattle.dr_partials.proofs.GroupLemmas.{Tuple, AllAbove, Ascending, less_back, above_greater, ascending_groups, ascending_ascends}
 use Rattle.dr_group.specs.Gathering.{taken_by, group_by, new_group_by, put_by}
-use Rattle.dr_group.specs.Groups.{AllBelow, AllBehind, no_group}
+use Rattle.dr_group.specs.Groups.{AllBelow, AllBehind, no_group, with_accumulators}
 use Rattle.dr_group.specs.declared.gathering.Gathering.{Gathering}
 
 -- ---- where a key tuple stands
@@ -60,9 +62,6 @@ behind_more t (g ∷ gs) zero a h e = (e, behind_above t gs (above_greater t g.k
 behind_more t (g ∷ gs) (suc m) a h e = behind_more t gs m a.1 (omega (arith, h)) e
 
 -- ---- what is put there
-
-abbrev pub with_accumulators : Group → List Accumulator → Group
-with_accumulators g xs = record { keys = g.keys; accumulators = xs }
 
 abbrev keyed : List Accumulator → Tuple → Group
 keyed xs t = record { keys = t; accumulators = xs }
@@ -127,3 +126,73 @@ pub pick_at : (vs : List Group) (is : List ℕ) (p : ℕ) → p < length is → 
 pick_at vs [] p h = absurd (omega (arith, h))
 pick_at vs (i ∷ is) zero h = refl
 pick_at vs (i ∷ is) (suc p) h = pick_at vs is p (omega (arith, h))
+
+less_equal : Less ≡ Equal → ⊥
+less_equal h = cc
+
+not_less : (t : Tuple) → tuple_order t t ≡ Less → ⊥
+not_less t h = less_equal (sym h ∙ tied_itself tuple_order_total t)
+
+apart_by : (vs : List Group) (n i : ℕ) → tuple_order (get_or vs n no_group).keys (get_or vs i no_group).keys ≡ Less → n ≢ i
+apart_by vs n i h e = not_less (get_or vs n no_group).keys (ap (λ j. tuple_order (get_or vs n no_group).keys (get_or vs j no_group).keys) e ∙ h)
+
+picks_past : (vs : List Group) (is : List ℕ) (n : ℕ) (v : Group) → n < length vs → AllAbove (get_or vs n no_group).keys (picks vs is) → picks (set vs n v) is ≡ picks vs is
+picks_past vs [] n v h a = refl
+picks_past vs (i ∷ is) n v h a =
+    ap₂ (λ (g : Group) (gs : List Group). g ∷ gs) (get_or-set_other vs n i v no_group (λ e. apart_by vs n i a.0 (sym e))) (picks_past vs is n v h a.1)
+
+picked_above : (vs : List Group) (is : List ℕ) (p n : ℕ) (t : Tuple) → p < length is → n ≡ get_or is p n → AllAbove t (picks vs is) → tuple_order t (get_or vs n no_group).keys ≡ Less
+picked_above vs [] p n t h e a = absurd (omega (arith, h))
+picked_above vs (i ∷ is) zero n t h e a = ap (λ j. tuple_order t (get_or vs j no_group).keys) e ∙ a.0
+picked_above vs (i ∷ is) (suc p) n t h e a = picked_above vs is p n t (omega (arith, h)) e a.1
+
+-- one of them changes where its number stands, if they ascend
+pub picks_set : (vs : List Group) (is : List ℕ) (p n : ℕ) (v : Group) → n < length vs → p < length is → n ≡ get_or is p n → Ascending (picks vs is) → picks (set vs n v) is ≡ set (picks vs is) p v
+picks_set vs [] p n v h k e a = absurd (omega (arith, k))
+picks_set vs (i ∷ is) zero n v h k e a =
+    ap₂ (λ (g : Group) (gs : List Group). g ∷ gs)
+    (ap (λ j. get_or (set vs n v) j no_group) (sym e) ∙ get_or-set_same vs n v no_group h)
+    (picks_past vs is n v h (subst (λ j. AllAbove (get_or vs j no_group).keys (picks vs is)) (sym e) a.0))
+picks_set vs (i ∷ is) (suc p) n v h k e a =
+    ap₂ (λ (g : Group) (gs : List Group). g ∷ gs) (get_or-set_other vs n i v no_group (apart_by vs i n (picked_above vs is p n (get_or vs i no_group).keys (omega (arith, k)) e a.0))) (picks_set vs is p n v h (omega (arith, k)) e a.1)
+
+-- ---- a group more
+
+grown_at : (vs : List Group) (v : Group) (i : ℕ) → i < length vs → get_or (vs ++ v ∷ []) i no_group ≡ get_or vs i no_group
+grown_at [] v i h = absurd (omega (arith, h))
+grown_at (w ∷ vs) v zero h = refl
+grown_at (w ∷ vs) v (suc i) h = grown_at vs v i (omega (arith, h))
+
+grown_last : (vs : List Group) (v : Group) (i : ℕ) → i ≡ length vs → get_or (vs ++ v ∷ []) i no_group ≡ v
+grown_last [] v i e = ap (λ j. get_or (v ∷ []) j no_group) e
+grown_last (w ∷ vs) v zero e = absurd (omega (arith, e))
+grown_last (w ∷ vs) v (suc i) e = grown_last vs v i (omega (arith, e))
+
+pub picks_grown : (vs : List Group) (v : Group) (is : List ℕ) → list_all (λ i. nat_lt i (length vs)) is ≡ true → picks (vs ++ v ∷ []) is ≡ picks vs is
+picks_grown vs v [] a = refl
+picks_grown vs v (i ∷ is) a =
+    let parts = and_parts (nat_lt i (length vs)) (list_all (λ i. nat_lt i (length vs)) is) a in
+    ap₂ (λ (g : Group) (gs : List Group). g ∷ gs) (grown_at vs v i (ltb-true i (length vs) parts.0)) (picks_grown vs v is parts.1)
+
+pub picks_insert : (vs : List Group) (v : Group) (is : List ℕ) (p n : ℕ) → list_all (λ i. nat_lt i (length vs)) is ≡ true → n ≡ length vs → picks (vs ++ v ∷ []) (insert is p n) ≡ insert (picks vs is) p v
+picks_insert vs v is zero n a e = ap₂ (λ (g : Group) (gs : List Group). g ∷ gs) (grown_last vs v n e) (picks_grown vs v is a)
+picks_insert vs v [] (suc p) n a e = ap (λ (g : Group). g ∷ []) (grown_last vs v n e)
+picks_insert vs v (i ∷ is) (suc p) n a e =
+    let parts = and_parts (nat_lt i (length vs)) (list_all (λ i. nat_lt i (length vs)) is) a in
+    ap₂ (λ (g : Group) (gs : List Group). g ∷ gs) (grown_at vs v i (ltb-true i (length vs) parts.0)) (picks_insert vs v is p n parts.1 e)
+
+still_below : (m n : ℕ) (is : List ℕ) → m ≤ n → list_all (λ i. nat_lt i m) is ≡ true → list_all (λ i. nat_lt i n) is ≡ true
+still_below m n [] h a = refl
+still_below m n (i ∷ is) h a =
+    let parts = and_parts (nat_lt i m) (list_all (λ i. nat_lt i m) is) a in
+    ap₂ (λ b c. b && c) (lt-ltb i n (omega (arith, ltb-true i m parts.0, h))) (still_below m n is h parts.1)
+
+pub more_numbers : (m n : ℕ) (is : List ℕ) → m ≤ n → list_all (λ i. nat_lt i m) is ≡ true → list_all (λ i. nat_lt i n) is ≡ true
+more_numbers = still_below
+
+pub insert_numbers : (m n : ℕ) (is : List ℕ) (p i : ℕ) → m ≤ n → i < n → list_all (λ i. nat_lt i m) is ≡ true → list_all (λ i. nat_lt i n) (insert is p i) ≡ true
+insert_numbers m n is zero i h k a = ap₂ (λ b c. b && c) (lt-ltb i n k) (still_below m n is h a)
+insert_numbers m n [] (suc p) i h k a = ap₂ (λ b c. b && c) (lt-ltb i n k) refl
+insert_numbers m n (j ∷ is) (suc p) i h k a =
+    let parts = and_parts (nat_lt j m) (list_all (λ i. nat_lt i m) is) a in
+    ap₂ (λ b c. b && c) (lt-ltb j n (omega (arith, ltb-true j m parts.0, h))) (insert_numbers m n is p i h k parts.1)

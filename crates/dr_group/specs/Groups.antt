@@ -1,5 +1,5 @@
 -- Groups that are held, and their places in the order of key tuples.
-use Rattle.std.specs.Prelude.{◌≡◌, ◌<◌, ◌≤◌, ℕ, List, [], ◌∷◌, map, length, take, drop, get_or, Option, option_map}
+use Rattle.std.specs.Prelude.{◌≡◌, ◌<◌, ◌≤◌, ℕ, List, [], ◌∷◌, map, length, take, drop, get_or, slice_set, Option, option_map}
 use Rattle.std.specs.declared.cmp.Ordering.TheVariants.{Less, Equal, Greater}
 use denote.Ref.{Bor}
 use Rattle.dr_meaning.specs.Record.{Value}
@@ -10,6 +10,8 @@ use Rattle.dr_partials.specs.Putting as putting
 use Rattle.dr_levels.specs.declared.triplet.ValueRef.{ValueRef}
 use Rattle.dr_group.specs.Views.{accumulator_view, cell_view, lent_cell}
 use Rattle.dr_group.specs.declared.accumulator.Accumulator.{Accumulator}
+use Rattle.dr_group.specs.Gathering.{taken_by}
+use Rattle.dr_group.specs.declared.gathering.Gathering.{Gathering}
 use Rattle.dr_group.specs.declared.group.Group.{Group}
 use Rattle.dr_group.specs.declared.group.Taken.{Taken}
 use Rattle.dr_group.specs.declared.place.Place.{Place}
@@ -54,3 +56,12 @@ AllBehind t (g ∷ gs) = (tuple_order t g.keys ≡ Less) × AllBehind t gs
 abbrev pub IsPlace : List (Option Value) → List meant.Group → Place → Type 0
 IsPlace t gs (Place.At k) = (k < length gs) × AllBelow t (take k gs) × (tuple_order t (get_or gs k no_group).keys ≡ Equal)
 IsPlace t gs (Place.Before k) = (k ≤ length gs) × AllBelow t (take k gs) × AllBehind t (drop k gs)
+
+-- ---- what is put at a place
+
+abbrev pub with_accumulators : meant.Group → List accumulators.Accumulator → meant.Group
+with_accumulators g xs = record { keys = g.keys; accumulators = xs }
+
+-- the group at a place takes a value
+abbrev pub taken_at : List Gathering → ℕ → Option putting.Taken → List meant.Group → List meant.Group
+taken_at ks k t gs = slice_set gs k (with_accumulators (get_or gs k no_group) (taken_by ks t (get_or gs k no_group).accumulators))
