@@ -8,3 +8,5 @@ pub mod PlaceLemmas
 pub mod FindLemmas
 -- held groups and their numbers
 pub mod HeldLemmas
+-- the cells of rows
+pub mod FinishLemmas

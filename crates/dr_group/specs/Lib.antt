@@ -6,3 +6,5 @@ pub mod Gathering
 pub mod Groups
 -- maps of groups
 pub mod Maps
+-- the rows of groups
+pub mod Finishing

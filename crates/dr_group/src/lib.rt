@@ -2,6 +2,7 @@
 #![tactic(auto)]
 
 mod accumulator;
+mod finishing;
 mod gathering;
 mod group;
 mod group_map;
