@@ -21,12 +21,12 @@ use Rattle.dr_group.specs.declared.accumulator.Accumulator.{Accumulator}
 -- ---- by the items
 
 -- an aggregate, and no key
-abbrev IsAggregate : GroupTerm → Type 0
+abbrev pub IsAggregate : GroupTerm → Type 0
 IsAggregate (key i) = ⊥
 IsAggregate count_rows = Unit {0}
 IsAggregate (aggregate a e) = Unit {0}
 
-abbrev AllAggregates : List GroupTerm → Type 0
+abbrev pub AllAggregates : List GroupTerm → Type 0
 AllAggregates [] = Unit {0}
 AllAggregates (t ∷ ts) = IsAggregate t × AllAggregates ts
 

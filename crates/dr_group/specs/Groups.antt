@@ -25,6 +25,10 @@ group_view g = record { keys = map cell_view g.keys.items; accumulators = accumu
 abbrev pub no_group : meant.Group
 no_group = record { keys = []; accumulators = [] }
 
+-- the group of all rows
+abbrev pub keyless_group : List accumulators.Accumulator → meant.Group
+keyless_group xs = record { keys = []; accumulators = xs }
+
 -- the group of this number
 abbrev pub group_at : List Group → ℕ → meant.Group
 group_at gs i = get_or (map group_view gs) i no_group

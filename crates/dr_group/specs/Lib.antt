@@ -8,3 +8,7 @@ pub mod Groups
 pub mod Maps
 -- the rows of groups
 pub mod Finishing
+-- what the aggregates of a plan gather
+pub mod PlanGatherings
+-- partials
+pub mod Partials

@@ -6,6 +6,7 @@ mod finishing;
 mod gathering;
 mod group;
 mod group_map;
+mod making;
 mod orders;
 mod place;
 mod putting;
