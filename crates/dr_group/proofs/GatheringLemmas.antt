@@ -15,20 +15,11 @@ use Rattle.dr_partials.specs.Putting.{Taken, Put, take_one, take_at, taken_into,
 use Rattle.dr_plan.specs.Views.{fold_view}
 use Rattle.dr_group.specs.Views.{accumulator_view}
 use Rattle.dr_group.specs.Gathering.{empty_of, take_by, Becomes, gathering_view, term_gathering, gatherings_of, take_at_by, taken_by, group_by, new_group_by, put_by}
+use Rattle.dr_group.specs.Rows.{IsAggregate, AllAggregates}
 use Rattle.dr_group.specs.declared.gathering.Gathering.{Gathering}
 use Rattle.dr_group.specs.declared.accumulator.Accumulator.{Accumulator}
 
 -- ---- by the items
-
--- an aggregate, and no key
-abbrev pub IsAggregate : GroupTerm → Type 0
-IsAggregate (key i) = ⊥
-IsAggregate count_rows = Unit {0}
-IsAggregate (aggregate a e) = Unit {0}
-
-abbrev pub AllAggregates : List GroupTerm → Type 0
-AllAggregates [] = Unit {0}
-AllAggregates (t ∷ ts) = IsAggregate t × AllAggregates ts
 
 with_one : (t : GroupTerm) (ts : List GroupTerm) → AllAggregates ts → AllAggregates (with_aggregate t ts)
 with_one (key k) ts h = h

@@ -10,3 +10,7 @@ pub mod FindLemmas
 pub mod HeldLemmas
 -- the cells of rows
 pub mod FinishLemmas
+-- the rows of groups
+pub mod RowLemmas
+-- partials of a plan
+pub mod PartialLemmas

@@ -8,6 +8,7 @@ pub mod Groups
 pub mod Maps
 -- the rows of groups
 pub mod Finishing
+pub mod Rows
 -- what the aggregates of a plan gather
 pub mod PlanGatherings
 -- partials

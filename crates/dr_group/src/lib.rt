@@ -8,6 +8,7 @@ mod group;
 mod group_map;
 mod making;
 mod orders;
+mod partial;
 mod place;
 mod putting;
 
@@ -15,3 +16,4 @@ pub use accumulator::Accumulator;
 pub use gathering::Gathering;
 pub use group::{Group, Taken};
 pub use group_map::GroupMap;
+pub use partial::Partial;

@@ -19,6 +19,13 @@ use std::alloc::Global;
 use std::cmp::Ordering;
 
 impl GroupMap {
+    /// How many groups there are.
+    pub fn len(&self) -> usize
+        ensures { result ≡ length (groups_view self.now) }
+    {
+        self.sorted.len()
+    }
+
     /// Where a key tuple stands.
     fn find(&self, key: &[Option<ValueRef<'_>>]) -> Place
         ensures { IsPlace (map lent_cell key.now) (groups_view self.now) result }
