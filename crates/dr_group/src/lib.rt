@@ -6,6 +6,7 @@ mod finishing;
 mod gathering;
 mod group;
 mod group_map;
+mod joining;
 mod making;
 mod orders;
 mod partial;
