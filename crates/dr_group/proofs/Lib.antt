@@ -14,3 +14,5 @@ pub mod FinishLemmas
 pub mod RowLemmas
 -- partials of a plan
 pub mod PartialLemmas
+-- accumulators of two groups
+pub mod JoinLemmas
