@@ -16,3 +16,5 @@ pub mod RowLemmas
 pub mod PartialLemmas
 -- accumulators of two groups
 pub mod JoinLemmas
+-- merging from the fronts
+pub mod MergeLemmas

@@ -13,3 +13,5 @@ pub mod Rows
 pub mod PlanGatherings
 -- partials
 pub mod Partials
+-- whose turn it is in merging
+pub mod Turns

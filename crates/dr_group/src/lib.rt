@@ -12,6 +12,7 @@ mod orders;
 mod partial;
 mod place;
 mod putting;
+mod turn;
 
 pub use accumulator::Accumulator;
 pub use gathering::Gathering;
