@@ -15,3 +15,5 @@ pub mod PlanGatherings
 pub mod Partials
 -- whose turn it is in merging
 pub mod Turns
+-- merging
+pub mod Merging

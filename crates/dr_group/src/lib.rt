@@ -8,6 +8,7 @@ mod group;
 mod group_map;
 mod joining;
 mod making;
+mod merging;
 mod orders;
 mod partial;
 mod place;
