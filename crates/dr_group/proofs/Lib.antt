@@ -18,3 +18,5 @@ pub mod PartialLemmas
 pub mod JoinLemmas
 -- merging from the fronts
 pub mod MergeLemmas
+-- groups moved from the front of an order
+pub mod MovingLemmas

@@ -136,7 +136,7 @@ not_less t h = less_equal (sym h ∙ tied_itself tuple_order_total t)
 apart_by : (vs : List Group) (n i : ℕ) → tuple_order (get_or vs n no_group).keys (get_or vs i no_group).keys ≡ Less → n ≢ i
 apart_by vs n i h e = not_less (get_or vs n no_group).keys (ap (λ j. tuple_order (get_or vs n no_group).keys (get_or vs j no_group).keys) e ∙ h)
 
-picks_past : (vs : List Group) (is : List ℕ) (n : ℕ) (v : Group) → n < length vs → AllAbove (get_or vs n no_group).keys (picks vs is) → picks (set vs n v) is ≡ picks vs is
+pub picks_past : (vs : List Group) (is : List ℕ) (n : ℕ) (v : Group) → n < length vs → AllAbove (get_or vs n no_group).keys (picks vs is) → picks (set vs n v) is ≡ picks vs is
 picks_past vs [] n v h a = refl
 picks_past vs (i ∷ is) n v h a =
     ap₂ (λ (g : Group) (gs : List Group). g ∷ gs) (get_or-set_other vs n i v no_group (λ e. apart_by vs n i a.0 (sym e))) (picks_past vs is n v h a.1)
