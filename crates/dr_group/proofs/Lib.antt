@@ -20,3 +20,5 @@ pub mod JoinLemmas
 pub mod MergeLemmas
 -- groups moved from the front of an order
 pub mod MovingLemmas
+-- groups still to be merged
+pub mod TurnLemmas

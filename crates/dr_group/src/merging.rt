@@ -99,3 +99,44 @@ fn move_joined(
     join_each(&mut group.accumulators, &mut other.accumulators);
     push_reserved(merged, group);
 }
+
+/// Merges groups, by their orders, behind those that are merged.
+pub fn merge_into(
+    alloc: Global,
+    mine: &mut Vec<Group>,
+    my_order: &[u32],
+    theirs: &mut Vec<Group>,
+    their_order: &[u32],
+    merged: &mut Vec<Group>,
+)
+    requires my_numbers { are_numbers (mine.old).items my_order.now ≡ true }
+    requires my_ascending { AreAscending (picked (mine.old).items my_order.now) }
+    requires my_bound { GroupsCanBeOf (2 ^ 60) (picked (mine.old).items my_order.now) }
+    requires their_numbers { are_numbers (theirs.old).items their_order.now ≡ true }
+    requires their_ascending { AreAscending (picked (theirs.old).items their_order.now) }
+    requires their_bound { GroupsCanBeOf (2 ^ 60) (picked (theirs.old).items their_order.now) }
+    requires room { vec_len merged.old + length my_order.now + length their_order.now ≤ vec_capacity merged.old }
+    ensures merged { map group_view (merged.new).items ≡ map group_view (merged.old).items ++ merge_groups (picked (mine.old).items my_order.now) (picked (theirs.old).items their_order.now) }
+    ensures len { vec_len merged.new ≤ vec_len merged.old + length my_order.now + length their_order.now }
+{
+    let mut my_rest = my_order;
+    let mut their_rest = their_order;
+    'turns: loop {
+        match next_turn(mine, my_rest, theirs, their_rest) {
+            Turn::Mine => {
+                move_first(alloc, mine, my_rest, merged);
+                my_rest = &my_rest[1..];
+            }
+            Turn::Theirs => {
+                move_first(alloc, theirs, their_rest, merged);
+                their_rest = &their_rest[1..];
+            }
+            Turn::Both => {
+                move_joined(alloc, mine, my_rest, theirs, their_rest, merged);
+                my_rest = &my_rest[1..];
+                their_rest = &their_rest[1..];
+            }
+            Turn::End => return,
+        }
+    }
+}
