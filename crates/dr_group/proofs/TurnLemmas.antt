@@ -1,7 +1,8 @@
 -- Groups that are still to be merged, turn by turn.
-use Rattle.std.specs.Prelude.{◌≡◌, ◌<◌, ℕ, zero, suc, List, [], ◌∷◌, ◌++◌, map, length, take, drop, true, nat_lt}
+use Rattle.std.specs.Prelude.{◌≡◌, ◌<◌, ◌≤◌, ℕ, zero, suc, ◌+◌, ◌-◌, List, [], ◌∷◌, ◌++◌, map, length, take, drop, true, nat_lt}
 use Rattle.std.specs.List.{list_all}
 use Rattle.std.proofs.Common.{refl, sym, ap, ap₂, ◌∙◌, subst, arith, append_assoc, append-nil}
+use Rattle.std.proofs.lemmas.List.{take_all, length-drop}
 use Rattle.std.proofs.lemmas.Bool.{and_parts}
 use Rattle.std.specs.Ordering.{match_ordering}
 use Rattle.std.specs.declared.cmp.Ordering.{Ordering}
@@ -148,3 +149,20 @@ both_moved bound mine mine' my my' theirs theirs' their their' merged merged' wh
 pub all_merged : (bound : ℕ) (mine : List Group) (my : List ℕ) (theirs : List Group) (their : List ℕ) (merged : List Group) (whole : List meant.Group) → turn_of (picked mine my) (picked theirs their) ≡ Turn.End
     → Left bound mine my theirs their merged whole → map group_view merged ≡ whole
 all_merged bound mine my theirs their merged whole t s = none_next (picked mine my) (picked theirs their) (map group_view merged) whole t s.same
+
+-- ---- what is left of an order, and the room for it
+
+pub front_left : (xs : List ℕ) → take (length xs - 1) (drop 1 xs) ≡ drop 1 xs
+front_left xs = take_all (length xs - 1) (drop 1 xs) (omega (arith, length-drop 1 xs))
+
+shorter : (xs ys : List ℕ) → ys ≡ drop 1 xs → length ys ≡ length xs - 1
+shorter xs ys e = ap length e ∙ length-drop 1 xs
+
+pub room_mine : (xs ys : List ℕ) (n m b total : ℕ) → ys ≡ drop 1 xs → 0 < length xs → m ≡ n + 1 → n + length xs + b ≤ total → m + length ys + b ≤ total
+room_mine xs ys n m b total e h f r = omega (arith, shorter xs ys e, h, f, r)
+
+pub room_theirs : (xs ys : List ℕ) (n m a total : ℕ) → ys ≡ drop 1 xs → 0 < length xs → m ≡ n + 1 → n + a + length xs ≤ total → m + a + length ys ≤ total
+room_theirs xs ys n m a total e h f r = omega (arith, shorter xs ys e, h, f, r)
+
+pub room_both : (xs xs' ys ys' : List ℕ) (n m total : ℕ) → xs' ≡ drop 1 xs → ys' ≡ drop 1 ys → 0 < length xs → 0 < length ys → m ≡ n + 1 → n + length xs + length ys ≤ total → m + length xs' + length ys' ≤ total
+room_both xs xs' ys ys' n m total d e h k f r = omega (arith, shorter xs xs' d, shorter ys ys' e, h, k, f, r)
