@@ -22,3 +22,5 @@ pub mod MergeLemmas
 pub mod MovingLemmas
 -- groups still to be merged
 pub mod TurnLemmas
+-- groups numbered from 0 on
+pub mod NumberedLemmas

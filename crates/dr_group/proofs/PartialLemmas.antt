@@ -13,6 +13,7 @@ use Rattle.dr_partials.specs.Accumulators.{Accumulator}
 use Rattle.dr_partials.specs.Partials as meant
 use Rattle.dr_partials.specs.PartialTypes.{aggregates_among, with_aggregate}
 use Rattle.dr_partials.specs.Putting.{Put, put, put_selected, put_group, empty_accumulators}
+use Rattle.dr_levels.specs.Columns.{Adds}
 use Rattle.dr_plan.specs.Views.{path_of, aggregate_view, group_item_view, group_term_view, found_term, selection_view, fold_view}
 use Rattle.dr_plan.specs.Planned.{Planned, plan_view, planned_query, plan_leaves}
 use Rattle.dr_plan.specs.declared.aggregate.Aggregate.{Aggregate}
@@ -25,7 +26,7 @@ use Rattle.dr_plan.specs.declared.plan.GroupTerm.{GroupTerm as TermOfPlan}
 use Rattle.dr_group.specs.Gathering.{Becomes, empty_of, gathering_view, term_gathering, gatherings_of}
 use Rattle.dr_group.specs.Groups.{keyless_group}
 use Rattle.dr_group.specs.Maps.{groups_view, gatherings_view}
-use Rattle.dr_group.specs.Partials.{partial_view, GathersFor, IsPartialOf}
+use Rattle.dr_group.specs.Partials.{partial_view, GathersFor, IsPartialOf, AreAlike, PartialsOfOnePlanAreAlike}
 use Rattle.dr_group.specs.PlanGatherings.{aggregate_gathering, found_gathering, with_gathering, item_gatherings}
 use Rattle.dr_group.specs.Rows.{IsAggregate, AllAggregates, group_rows}
 use Rattle.dr_group.specs.declared.gathering.Gathering.{Gathering}
@@ -128,3 +129,28 @@ pub finished_groups : (p : Plan) (keys : Vec ℕ Global) (aggregates : Vec Aggre
     → group_rows (map (aggregate_view (plan_leaves p)) aggregates.items) items.items gs ≡ meant.finished (planned_query (plan_view p)) (meant.grouped gs)
 unfolding meant.finished
 finished_groups p keys aggregates items gs e = sym (ap (λ (s : Selection). meant.finished_selection (selection_view (plan_leaves p) s) (meant.grouped gs)) e)
+
+-- ---- merged
+
+pub alike : PartialsOfOnePlanAreAlike
+alike p (Partial.Lines r) (Partial.Lines s) h k = k ∙ sym h
+alike p (Partial.Lines r) (Partial.Groups m) h k = tt
+alike p (Partial.Groups m) (Partial.Lines s) h k = tt
+alike p (Partial.Groups m) (Partial.Groups n) h k = tt
+
+pub merge_lines : (r : Result (Unit {0}) NoMemory) (os ps qs : List Object) → Adds os ps qs r → Becomes (meant.lines os) (meant.lines ps) (meant.merge (meant.lines os) (meant.lines qs)) r
+unfolding meant.merge
+merge_lines (Ok done) os ps qs h = ap meant.lines h
+merge_lines (Err e) os ps qs h = ap meant.lines h
+
+pub merge_grouped : (r : Result (Unit {0}) NoMemory) (gs hs ks : List meant.Group) → Becomes gs hs (meant.merge_groups gs ks) r → Becomes (meant.grouped gs) (meant.grouped hs) (meant.merge (meant.grouped gs) (meant.grouped ks)) r
+unfolding meant.merge
+merge_grouped r gs hs ks h = grouped_becomes r gs hs (meant.merge_groups gs ks) h
+
+pub merge_lines_groups : (os : List Object) (gs : List meant.Group) → meant.lines os ≡ meant.merge (meant.lines os) (meant.grouped gs)
+unfolding meant.merge
+merge_lines_groups os gs = refl
+
+pub merge_groups_lines : (gs : List meant.Group) (os : List Object) → meant.grouped gs ≡ meant.merge (meant.grouped gs) (meant.lines os)
+unfolding meant.merge
+merge_groups_lines gs os = refl

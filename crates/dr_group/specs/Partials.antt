@@ -23,3 +23,15 @@ GathersFor (groups keys items) m = gatherings_of items ≡ gatherings_view m
 abbrev pub IsPartialOf : Planned → Partial → Type 0
 IsPartialOf p (Partial.Lines r) = rows_shape r ≡ plan_shape p
 IsPartialOf p (Partial.Groups m) = GathersFor p.selection m
+
+-- two partials of one query: their lines have one shape
+abbrev pub AreAlike : Partial → Partial → Type 0
+AreAlike (Partial.Lines r) (Partial.Lines s) = rows_shape s ≡ rows_shape r
+AreAlike (Partial.Lines r) (Partial.Groups m) = Unit {0}
+AreAlike (Partial.Groups m) p = Unit {0}
+
+-- ---- laws
+
+-- two partials of one plan are alike
+abbrev pub PartialsOfOnePlanAreAlike : Type 0
+PartialsOfOnePlanAreAlike = (p : Planned) (a b : Partial) → IsPartialOf p a → IsPartialOf p b → AreAlike a b

@@ -1,8 +1,9 @@
 //! Partials of a query.
 
-ghost use Rattle.std.specs.Prelude.{◌≡◌, IfOk, List, map, length};
+ghost use Rattle.std.specs.Prelude.{◌≡◌, ◌^◌, IfOk, List};
 ghost use Rattle.dr_meaning.specs.Query.{GroupTerm};
 ghost use Rattle.dr_partials.specs.Partials as meant;
+ghost use Rattle.dr_partials.specs.PartialBounds.{PartialCanBeOf};
 ghost use Rattle.dr_partials.specs.Putting as putting;
 ghost use Rattle.dr_plan.specs.Planned.{Planned, plan_view, planned_query};
 ghost use Rattle.dr_cells.specs.Results.{shape_tree, no_list_shapes};
@@ -12,7 +13,7 @@ ghost use Rattle.dr_cells.specs.PlanShapes.{row_names};
 ghost use Rattle.dr_group.specs.Gathering.{Becomes};
 ghost use Rattle.dr_group.specs.Groups.{put_view};
 ghost use Rattle.dr_group.specs.Maps.{groups_view};
-ghost use Rattle.dr_group.specs.Partials.{partial_view, IsPartialOf};
+ghost use Rattle.dr_group.specs.Partials.{partial_view, IsPartialOf, AreAlike};
 ghost use Rattle.dr_group.specs.Rows.{group_rows, AllAggregates};
 
 use crate::group::Taken;
@@ -68,6 +69,28 @@ impl Partial {
         match self {
             Partial::Lines(_) => Ok(()),
             Partial::Groups(groups) => groups.put(alloc, key, taken),
+        }
+    }
+
+    /// Merges another partial of the same query into this one, that of the records before those of the other. No value is copied.
+    ///
+    /// Errors: want of memory, or of room for texts or for the number of a group. Nothing has changed then.
+    pub fn merge(&mut self, alloc: Global, other: Partial) -> Result<(), NoMemory>
+        requires alike { AreAlike self.old other }
+        requires mine { PartialCanBeOf (2 ^ 60) (partial_view self.old) }
+        requires theirs { PartialCanBeOf (2 ^ 60) (partial_view other) }
+        ensures partial { Becomes (partial_view self.old) (partial_view self.new) (meant.merge (partial_view self.old) (partial_view other)) result }
+        ensures of_plan { (p : Planned) → IsPartialOf p self.old → IsPartialOf p self.new }
+    {
+        match self {
+            Partial::Lines(rows) => match other {
+                Partial::Lines(more) => rows.append(&more),
+                Partial::Groups(_) => Ok(()),
+            },
+            Partial::Groups(groups) => match other {
+                Partial::Groups(more) => groups.merge(alloc, more),
+                Partial::Lines(_) => Ok(()),
+            },
         }
     }
 
