@@ -1,7 +1,7 @@
 -- Held groups and their numbers, where a group changes and where one is put between others.
-use Rattle.std.specs.Prelude.{◌≡◌, ◌<◌, ◌≤◌, ℕ, suc, ◌+◌, List, [], ◌∷◌, ◌++◌, map, length, take, drop, get_or, true, nat_lt, if◌then◌else◌, is_ok, Option, Result, Ok, Err}
+use Rattle.std.specs.Prelude.{◌≡◌, ◌<◌, ℕ, ◌+◌, List, [], ◌∷◌, ◌++◌, map, length, take, drop, get_or, true, nat_lt, if◌then◌else◌, is_ok, Option, Result, Ok, Err}
 use Rattle.std.specs.List.{insert, list_all}
-use Rattle.std.proofs.Common.{refl, sym, ap, ap₂, ◌∙◌, subst, arith, length-append}
+use Rattle.std.proofs.Common.{sym, ap, ap₂, ◌∙◌, subst, arith, length-append}
 use Rattle.std.proofs.Math.ListN.{set}
 use Rattle.std.proofs.Math.Seq.{map-set_same}
 use Rattle.std.proofs.lemmas.List.{map-set, map-append, length-map, length-set}
@@ -9,11 +9,11 @@ use Rattle.dr_memory.specs.declared.NoMemory.{NoMemory}
 use Rattle.dr_partials.specs.Accumulators.{Accumulator}
 use Rattle.dr_partials.specs.Partials as meant
 use Rattle.dr_partials.specs.PartialTypes.{ascends}
-use Rattle.dr_partials.specs.Putting.{Taken, Put}
+use Rattle.dr_partials.specs.Putting.{Taken}
 use Rattle.dr_partials.proofs.GroupLemmas.{Tuple, ascending_groups}
 use Rattle.dr_group.specs.Views.{cell_view}
-use Rattle.dr_group.specs.Gathering.{Becomes, taken_by, new_group_by, put_by}
-use Rattle.dr_group.specs.Groups.{no_group, group_view, group_at, picked, accumulators_view, with_accumulators, taken_at, AllBelow, AllBehind, IsPlace}
+use Rattle.dr_group.specs.Gathering.{Becomes, taken_by}
+use Rattle.dr_group.specs.Groups.{group_view, group_at, picked, accumulators_view, with_accumulators, taken_at, AllBelow, AllBehind, IsPlace}
 use Rattle.dr_group.specs.declared.gathering.Gathering.{Gathering}
 use Rattle.dr_group.specs.declared.group.Group.{Group}
 use Rattle.dr_group.specs.declared.place.Place.{Place}

@@ -1,5 +1,5 @@
 -- Accumulators of two groups, joined one with one.
-use Rattle.std.specs.Prelude.{◌≡◌, ◌<◌, ◌≤◌, ℕ, zero, suc, ◌+◌, ◌^◌, List, [], ◌∷◌, ◌++◌, map, length, take, drop, get_or}
+use Rattle.std.specs.Prelude.{◌≡◌, ◌<◌, ◌≤◌, ℕ, zero, suc, ◌+◌, List, [], ◌∷◌, ◌++◌, length, take, drop, get_or}
 use Rattle.std.proofs.Common.{refl, sym, ap, ap₂, ◌∙◌, subst, arith, append-nil, append_assoc, add-one}
 use Rattle.std.proofs.Math.ListN.{set}
 use Rattle.std.proofs.lemmas.List.{map-set, length-map, length-set, drop_more, drop_all, take_all, take-map}
@@ -102,7 +102,7 @@ pub each_begun : (bound : ℕ) (xs zs ys : List Accumulator) (n : ℕ) → n ≡
     → EachJoined bound (accumulators_view zs) (accumulators_view ys) (join_all (accumulators_view xs) (accumulators_view ys)) 0
 each_begun bound xs zs ys n e f h j =
     let seen : accumulators_view zs ≡ take (length (accumulators_view ys)) (accumulators_view xs) =
-        ap accumulators_view f ∙ sym (take-map accumulator_view n xs) ∙ ap (λ m. take m (accumulators_view xs)) (e ∙ sym (length-map ys accumulator_view)) in
+    ap accumulators_view f ∙ sym (take-map accumulator_view n xs) ∙ ap (λ m. take m (accumulators_view xs)) (e ∙ sym (length-map ys accumulator_view)) in
     subst (λ (as_list : List meant.Accumulator). EachJoined bound as_list (accumulators_view ys) (join_all (accumulators_view xs) (accumulators_view ys)) 0) (sym seen)
     (record {
       same = as_long (accumulators_view xs) (accumulators_view ys);

@@ -1,13 +1,13 @@
 -- Merging groups from their fronts.
-use Rattle.std.specs.Prelude.{◌≡◌, List, [], ◌∷◌, ◌++◌}
+use Rattle.std.specs.Prelude.{◌≡◌, List, [], ◌∷◌}
 use Rattle.std.specs.Ordering.{match_ordering, ordering_reverse}
 use Rattle.std.specs.declared.cmp.Ordering.{Ordering}
 use Rattle.std.specs.declared.cmp.Ordering.TheVariants.{Less, Equal, Greater}
-use Rattle.std.proofs.Common.{refl, sym, ap, ap₂, ◌∙◌, subst}
+use Rattle.std.proofs.Common.{refl, ap, ◌∙◌, subst}
 use Rattle.dr_meaning.specs.Query.{tuple_order}
 use Rattle.dr_partials.specs.Partials.{Group, join_groups, insert_group, merge_groups}
 use Rattle.dr_partials.proofs.ValueOrders.{tuple_order_total, tuple_order_exact}
-use Rattle.dr_partials.proofs.GroupLemmas.{Tuple, AllAbove, Ascending, less_back, above_greater, merge_groups_none}
+use Rattle.dr_partials.proofs.GroupLemmas.{Tuple, AllAbove, Ascending, less_back, above_greater}
 use Rattle.dr_group.specs.Turns.{turn_of}
 use Rattle.dr_group.specs.declared.turn.Turn.{Turn}
 

@@ -1,13 +1,12 @@
 -- Groups that are moved from the front of an order.
-use Rattle.std.specs.Prelude.{◌≡◌, ◌<◌, ◌≤◌, ℕ, zero, suc, ◌+◌, List, [], ◌∷◌, ◌++◌, map, length, take, drop, get_or, true, nat_lt}
+use Rattle.std.specs.Prelude.{◌≡◌, ◌<◌, ℕ, zero, suc, ◌+◌, List, [], ◌∷◌, ◌++◌, map, length, drop, get_or, true, nat_lt}
 use Rattle.std.specs.List.{list_all, range_with_len}
-use Rattle.std.proofs.Common.{refl, sym, ap, ap₂, ◌∙◌, subst, arith, append_assoc, append-nil, add-one, length-append}
+use Rattle.std.proofs.Common.{sym, ap, ap₂, ◌∙◌, arith, add-one}
 use Rattle.std.proofs.Math.ListN.{set}
 use Rattle.std.proofs.lemmas.Bool.{and_parts, ltb-true}
 use Rattle.std.proofs.lemmas.List.{map-set, length-map}
-use Rattle.dr_partials.specs.Partials as meant
 use Rattle.dr_partials.proofs.GroupLemmas.{ascending_groups}
-use Rattle.dr_group.specs.Groups.{no_group, group_view, group_at, picked}
+use Rattle.dr_group.specs.Groups.{group_view, picked}
 use Rattle.dr_group.specs.Merging.{are_numbers, AreAscending}
 use Rattle.dr_group.specs.declared.group.Group.{Group}
 use Rattle.dr_group.proofs.PlaceLemmas.{picks, picks_past}

@@ -1,5 +1,5 @@
 -- Partials of a plan: before any record, put into, and finished.
-use Rattle.std.specs.Prelude.{◌≡◌, ℕ, zero, suc, List, [], ◌∷◌, ◌++◌, map, length, Bool, true, false, not, nat_eq, if◌then◌else◌, Option, Some, None, Result, Ok, Err, Vec}
+use Rattle.std.specs.Prelude.{◌≡◌, ℕ, zero, suc, List, [], ◌∷◌, map, length, Bool, not, nat_eq, if◌then◌else◌, Option, Result, Ok, Err, Vec}
 use Rattle.std.specs.List.{slice_get}
 use Rattle.std.specs.declared.alloc.Global.{Global}
 use Rattle.std.proofs.Common.{refl, sym, ap, ap₂, ◌∙◌, subst}
@@ -14,7 +14,7 @@ use Rattle.dr_partials.specs.Partials as meant
 use Rattle.dr_partials.specs.PartialTypes.{aggregates_among, with_aggregate}
 use Rattle.dr_partials.specs.Putting.{Put, put, put_selected, put_group, empty_accumulators}
 use Rattle.dr_levels.specs.Columns.{Adds}
-use Rattle.dr_plan.specs.Views.{path_of, aggregate_view, group_item_view, group_term_view, found_term, selection_view, fold_view}
+use Rattle.dr_plan.specs.Views.{path_of, aggregate_view, group_item_view, group_term_view, found_term, selection_view}
 use Rattle.dr_plan.specs.Planned.{Planned, plan_view, planned_query, plan_leaves}
 use Rattle.dr_plan.specs.declared.aggregate.Aggregate.{Aggregate}
 use Rattle.dr_plan.specs.declared.objects.ObjectPlan.{ObjectPlan}
@@ -26,9 +26,9 @@ use Rattle.dr_plan.specs.declared.plan.GroupTerm.{GroupTerm as TermOfPlan}
 use Rattle.dr_group.specs.Gathering.{Becomes, empty_of, gathering_view, term_gathering, gatherings_of}
 use Rattle.dr_group.specs.Groups.{keyless_group}
 use Rattle.dr_group.specs.Maps.{groups_view, gatherings_view}
-use Rattle.dr_group.specs.Partials.{partial_view, GathersFor, IsPartialOf, AreAlike, PartialsOfOnePlanAreAlike}
+use Rattle.dr_group.specs.Partials.{GathersFor, PartialsOfOnePlanAreAlike}
 use Rattle.dr_group.specs.PlanGatherings.{aggregate_gathering, found_gathering, with_gathering, item_gatherings}
-use Rattle.dr_group.specs.Rows.{IsAggregate, AllAggregates, group_rows}
+use Rattle.dr_group.specs.Rows.{IsAggregate, group_rows}
 use Rattle.dr_group.specs.declared.gathering.Gathering.{Gathering}
 use Rattle.dr_group.specs.declared.group_map.GroupMap.{GroupMap}
 use Rattle.dr_group.specs.declared.partial.Partial.{Partial}

@@ -1,17 +1,17 @@
 -- The rows of groups: their cells, by the items of a plan.
-use Rattle.std.specs.Prelude.{◌≡◌, ℕ, zero, suc, List, [], ◌∷◌, ◌++◌, map, length, drop, Option, Some, None}
-use Rattle.std.specs.List.{slice_get, flat_map}
+use Rattle.std.specs.Prelude.{◌≡◌, ℕ, zero, suc, List, [], ◌∷◌, ◌++◌, map, length, drop, Option}
+use Rattle.std.specs.List.{slice_get}
 use Rattle.std.proofs.Common.{refl, sym, ap, ap₂, ◌∙◌, subst, append-nil}
 use Rattle.dr_meaning.specs.Path.{Leaf}
 use Rattle.dr_meaning.specs.Record.{Value}
-use Rattle.dr_meaning.specs.Query.{Object, GroupTerm, key, count_rows, aggregate, GroupItem, objects_of}
-use Rattle.dr_partials.specs.Accumulators.{Accumulator, result_of}
+use Rattle.dr_meaning.specs.Query.{Object, GroupTerm, key, count_rows, aggregate, GroupItem}
+use Rattle.dr_partials.specs.Accumulators.{Accumulator}
 use Rattle.dr_partials.specs.Partials.{Group, group_row, item_value, behind_item}
 use Rattle.dr_plan.specs.Views.{group_item_view, group_term_view, found_term, aggregate_view}
 use Rattle.dr_plan.specs.declared.aggregate.Aggregate.{Aggregate}
 use Rattle.dr_plan.specs.declared.plan.GroupItem.{GroupItem as ItemOfPlan}
 use Rattle.dr_plan.specs.declared.plan.GroupTerm.{GroupTerm as TermOfPlan}
-use Rattle.dr_cells.specs.Results.{ResultCell, value_cell, own_values, own_counts, inner_cells, object_cells, result_cells, ShapeTree, shape_tree, no_list_shapes, AllFitShape, FitsShape, EachObject}
+use Rattle.dr_cells.specs.Results.{ResultCell, value_cell, own_values, own_counts, inner_cells, object_cells, result_cells, ShapeTree, shape_tree, no_list_shapes, AllFitShape}
 use Rattle.dr_cells.specs.Shapes.{row_shape}
 use Rattle.dr_cells.specs.PlanShapes.{row_names}
 use Rattle.dr_cells.proofs.ShapeLemmas.{group_rows_fit, row_names-views}

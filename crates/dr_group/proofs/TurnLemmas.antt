@@ -1,5 +1,5 @@
 -- Groups that are still to be merged, turn by turn.
-use Rattle.std.specs.Prelude.{◌≡◌, ◌<◌, ◌≤◌, ℕ, zero, suc, ◌+◌, ◌-◌, List, [], ◌∷◌, ◌++◌, map, length, take, drop, true, nat_lt}
+use Rattle.std.specs.Prelude.{◌≡◌, ◌<◌, ◌≤◌, ℕ, ◌+◌, ◌-◌, List, [], ◌∷◌, ◌++◌, map, length, take, drop, true, nat_lt}
 use Rattle.std.specs.List.{list_all}
 use Rattle.std.proofs.Common.{refl, sym, ap, ap₂, ◌∙◌, subst, arith, append_assoc, append-nil}
 use Rattle.std.proofs.lemmas.List.{take_all, length-drop}
@@ -11,7 +11,7 @@ use Rattle.dr_meaning.specs.Query.{tuple_order}
 use Rattle.dr_partials.specs.Partials as meant
 use Rattle.dr_partials.specs.Partials.{merge_groups}
 use Rattle.dr_partials.specs.PartialBounds.{GroupsCanBeOf}
-use Rattle.dr_partials.proofs.GroupLemmas.{Ascending, ascending_groups, ascending_ascends, merge_groups_none}
+use Rattle.dr_partials.proofs.GroupLemmas.{Ascending, ascending_groups, ascending_ascends}
 use Rattle.dr_group.specs.Groups.{group_view, picked}
 use Rattle.dr_group.specs.Merging.{are_numbers, AreAscending, join_firsts}
 use Rattle.dr_group.specs.Turns.{turn_of}

@@ -1,5 +1,5 @@
 -- The rows of groups as cells.
-use Rattle.std.specs.Prelude.{ℕ, List, [], ◌∷◌, drop, Option, None}
+use Rattle.std.specs.Prelude.{List, [], ◌∷◌, drop, Option, None}
 use Rattle.std.specs.List.{flat_map}
 use Rattle.dr_meaning.specs.Record.{Value}
 use Rattle.dr_meaning.specs.Query.{nth_value}

@@ -1,7 +1,6 @@
 -- Groups that are held, and their places in the order of key tuples.
 use Rattle.std.specs.Prelude.{◌≡◌, ◌<◌, ◌≤◌, ℕ, List, [], ◌∷◌, map, length, take, drop, get_or, slice_set, Option, option_map}
 use Rattle.std.specs.declared.cmp.Ordering.TheVariants.{Less, Equal, Greater}
-use denote.Ref.{Bor}
 use Rattle.dr_meaning.specs.Record.{Value}
 use Rattle.dr_meaning.specs.Query.{tuple_order}
 use Rattle.dr_partials.specs.Partials as meant

@@ -1,5 +1,5 @@
 -- What a partial stands for, and of which plan it is.
-use Rattle.std.specs.Prelude.{◌≡◌, List}
+use Rattle.std.specs.Prelude.{◌≡◌}
 use Rattle.dr_meaning.specs.Query.{Selection, objects, groups}
 use Rattle.dr_partials.specs.Partials as meant
 use Rattle.dr_plan.specs.Planned.{Planned}

@@ -1,5 +1,5 @@
 -- What the aggregates of a plan gather.
-use Rattle.std.specs.Prelude.{ℕ, List, [], ◌∷◌, Option, Some, None}
+use Rattle.std.specs.Prelude.{List, [], ◌∷◌, Option, Some, None}
 use Rattle.std.specs.List.{slice_get}
 use Rattle.dr_meaning.specs.Query as query
 use Rattle.dr_plan.specs.Views.{fold_view}

@@ -99,11 +99,7 @@ fn push_held(value: &Option<Value>, cells: &mut Cells) -> Result<(), NoMemory>
 }
 
 /// Appends what the accumulator of a number has gathered, or NULL.
-fn push_next(
-    accumulators: &[Accumulator],
-    number: usize,
-    cells: &mut Cells,
-) -> Result<(), NoMemory>
+fn push_next(accumulators: &[Accumulator], number: usize, cells: &mut Cells) -> Result<(), NoMemory>
     ensures { OnOk result (cells_view cells.new ≡ cells_view cells.old ++ value_cell (first_result (drop number (accumulators_view accumulators.now))) ∷ []) }
 {
     if number < accumulators.len() {

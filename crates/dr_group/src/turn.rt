@@ -30,9 +30,7 @@ pub fn next_turn(mine: &[Group], my_order: &[u32], theirs: &[Group], their_order
         ([], []) => Turn::End,
         ([_, ..], []) => Turn::Mine,
         ([], [_, ..]) => Turn::Theirs,
-        ([left, ..], [right, ..]) => {
-            turn_by(&mine[*left as usize], &theirs[*right as usize])
-        }
+        ([left, ..], [right, ..]) => { turn_by(&mine[*left as usize], &theirs[*right as usize]) }
     }
 }
 

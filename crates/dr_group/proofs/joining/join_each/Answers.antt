@@ -1,4 +1,4 @@
-use Rattle.std.proofs.Common.{◌≡◌, ◌<◌, ◌^◌, arith, length, rules}
+use Rattle.std.proofs.Common.{◌≡◌, ◌<◌, ◌^◌, arith, length}
 use Rattle.std.proofs.lemmas.List.{length-map, length-set}
 use Rattle.dr_partials.specs.Partials.{join_all}
 use Rattle.dr_group.specs.Views.{accumulator_view}
@@ -32,6 +32,8 @@ places-preserved c =
     let xs = c.places.mine in
     let ys = c.places.theirs in
     let inside : c.places.place < length xs.items = omega (arith, c.places-test.true, c.places.invariant.0) in
-    let theirs : c.places.place < length ys.items = omega (arith, inside, c.places.invariant.1.long, length-map xs.items accumulator_view, length-map ys.items accumulator_view) in
-    (omega (arith, c.places.invariant.0, length-set xs.items c.places.place c.join.new.mine), held_joined (2 ^ 60) xs.items ys.items (join_all (accumulators_view c.args.mine.now.items) (accumulators_view c.args.theirs.now.items)) c.places.place c.index_mut.result.now c.index_mut-in-places.result.now c.join.new.mine c.join.new.theirs
-    inside theirs c.index_mut.ensures.value c.index_mut-in-places.ensures.value c.join.ensures c.places.invariant.1)
+    let theirs : c.places.place < length ys.items = omega (arith, inside, c.places.invariant.1.long, length-map xs.items accumulator_view, length-map ys.items accumulator_view) in (
+      omega (arith, c.places.invariant.0, length-set xs.items c.places.place c.join.new.mine),
+      held_joined (2 ^ 60) xs.items ys.items (join_all (accumulators_view c.args.mine.now.items) (accumulators_view c.args.theirs.now.items)) c.places.place c.index_mut.result.now c.index_mut-in-places.result.now c.join.new.mine c.join.new.theirs
+          inside theirs c.index_mut.ensures.value c.index_mut-in-places.ensures.value c.join.ensures c.places.invariant.1,
+    )

@@ -1,4 +1,4 @@
-use Rattle.std.proofs.Common.{◌≡◌, ◌∙◌, ap, sym, map, List}
+use Rattle.std.proofs.Common.{◌∙◌, ap, sym, map, List}
 use Rattle.std.proofs.lemmas.Result.{IfOk-weaker}
 use Rattle.dr_cells.specs.Results.{shape_tree, no_list_shapes}
 use Rattle.dr_cells.specs.PlanShapes.{row_names}

@@ -1,6 +1,6 @@
-use Rattle.std.proofs.Common.{◌≡◌, ◌++◌, ◌∙◌, ap, sym, length, List, []}
+use Rattle.std.proofs.Common.{◌≡◌, ◌++◌, ◌∙◌, ap, sym, List, []}
 use Rattle.dr_meaning.specs.Query.{GroupTerm}
-use Rattle.dr_cells.specs.Results.{ResultCell, result_cells}
+use Rattle.dr_cells.specs.Results.{ResultCell}
 use Rattle.dr_cells.specs.Shapes.{shape_view}
 use Rattle.dr_cells.specs.Views.{cells_view}
 use Rattle.dr_cells.proofs.ReadingLemmas.{are_rows}

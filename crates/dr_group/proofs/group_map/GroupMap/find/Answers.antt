@@ -1,7 +1,6 @@
-use Rattle.std.proofs.Common.{◌≡◌, ◌+◌, ◌-◌, ◌/◌, ◌<◌, ◌∙◌, ap, sym, arith, length, ℕ, map, List, Option, get_or, Equal, Less, Greater}
+use Rattle.std.proofs.Common.{◌≡◌, ◌+◌, ◌-◌, ◌/◌, ◌<◌, ◌∙◌, ap, sym, arith, length, map, List, Option, get_or}
 use Rattle.std.proofs.lemmas.List.{length-map}
 use Rattle.dr_meaning.specs.Query.{tuple_order}
-use Rattle.dr_partials.proofs.GroupLemmas.{Tuple}
 use Rattle.dr_nested.specs.declared.record.Value.{Value}
 use Rattle.dr_partials.specs.Partials as meant
 use Rattle.dr_group.specs.Views.{lent_cell, cell_view}
@@ -22,7 +21,7 @@ returns-in-Equal c =
     let inside : m < length s.sorted.items = omega (arith, c.halves.invariant.within, long) in
     let number : c.index.result.now < length s.groups.items = number_below (length s.groups.items) s.sorted.items m c.index.result.now s.numbers inside c.index.ensures in
     let same : (get_or gs m no_group).keys ≡ map cell_view there.keys.items =
-        ap (λ (g : meant.Group). g.keys) (picked_there s.groups.items s.sorted.items m c.index.result.now there inside c.index.ensures number c.index-in-halves.ensures) in
+    ap (λ (g : meant.Group). g.keys) (picked_there s.groups.items s.sorted.items m c.index.result.now there inside c.index.ensures number c.index-in-halves.ensures) in
     let middle : m < length gs = omega (arith, inside, long) in
     found_place t gs m s.ascending middle
     (ap (tuple_order t) same ∙ ap (λ (ks : List (Option Value)). tuple_order t (map cell_view ks)) (sym c.deref.ensures.value) ∙ sym c.tuple_order.ensures ∙ c.in-Equal.is)
@@ -40,7 +39,7 @@ halves-preserved-in-Less c =
     let inside : m < length s.sorted.items = omega (arith, c.halves.invariant.within, long) in
     let number : c.index.result.now < length s.groups.items = number_below (length s.groups.items) s.sorted.items m c.index.result.now s.numbers inside c.index.ensures in
     let same : (get_or gs m no_group).keys ≡ map cell_view there.keys.items =
-        ap (λ (g : meant.Group). g.keys) (picked_there s.groups.items s.sorted.items m c.index.result.now there inside c.index.ensures number c.index-in-halves.ensures) in
+    ap (λ (g : meant.Group). g.keys) (picked_there s.groups.items s.sorted.items m c.index.result.now there inside c.index.ensures number c.index-in-halves.ensures) in
     lower_half t gs low high m s.ascending (omega arith) (omega arith)
     (ap (tuple_order t) same ∙ ap (λ (ks : List (Option Value)). tuple_order t (map cell_view ks)) (sym c.deref.ensures.value) ∙ sym c.tuple_order.ensures ∙ c.in-Less.is)
     c.halves.invariant
@@ -58,7 +57,7 @@ halves-preserved c =
     let inside : m < length s.sorted.items = omega (arith, c.halves.invariant.within, long) in
     let number : c.index.result.now < length s.groups.items = number_below (length s.groups.items) s.sorted.items m c.index.result.now s.numbers inside c.index.ensures in
     let same : (get_or gs m no_group).keys ≡ map cell_view there.keys.items =
-        ap (λ (g : meant.Group). g.keys) (picked_there s.groups.items s.sorted.items m c.index.result.now there inside c.index.ensures number c.index-in-halves.ensures) in
+    ap (λ (g : meant.Group). g.keys) (picked_there s.groups.items s.sorted.items m c.index.result.now there inside c.index.ensures number c.index-in-halves.ensures) in
     upper_half t gs low high m s.ascending (omega arith) (omega arith)
     (ap (tuple_order t) same ∙ ap (λ (ks : List (Option Value)). tuple_order t (map cell_view ks)) (sym c.deref.ensures.value) ∙ sym c.tuple_order.ensures ∙ c.in-Greater.is)
     c.halves.invariant

@@ -15,7 +15,7 @@ invariant_of-self-2 c =
     let is = s.sorted.items in
     let n : c.in-Ok.number ≡ length gs = search rules in
     let made : group_view c.in_ok-group.group ≡ new_group_by s.gatherings.items (put_view c.args.key.now c.args.taken) =
-        c.in_ok-group.ensures ∙ ap (λ (ks : List Gathering). new_group_by ks (put_view c.args.key.now c.args.taken)) c.deref.ensures.value in
+    c.in_ok-group.ensures ∙ ap (λ (ks : List Gathering). new_group_by ks (put_view c.args.key.now c.args.taken)) c.deref.ensures.value in
     record {
       numbers = insert_are_numbers c.insert.result gs c.push.new.self.items is c.insert.new.self.items c.args.place c.in-Ok.number c.in_ok-group.group s.numbers n c.in_ok-push.ensures.items (search rules);
       ascending = insert_are_ascending c.insert.result (map lent_cell c.args.key.now) gs c.push.new.self.items is c.insert.new.self.items c.args.place c.in-Ok.number c.in_ok-group.group s.numbers s.ascending n
@@ -29,6 +29,6 @@ returns-clause-groups c =
     let is = s.sorted.items in
     let n : c.in-Ok.number ≡ length gs = search rules in
     let made : group_view c.in_ok-group.group ≡ new_group_by s.gatherings.items (put_view c.args.key.now c.args.taken) =
-        c.in_ok-group.ensures ∙ ap (λ (ks : List Gathering). new_group_by ks (put_view c.args.key.now c.args.taken)) c.deref.ensures.value in
+    c.in_ok-group.ensures ∙ ap (λ (ks : List Gathering). new_group_by ks (put_view c.args.key.now c.args.taken)) c.deref.ensures.value in
     ap₂ picked c.in_ok-push.ensures.items (search rules) ∙ held_insert gs is c.args.place c.in-Ok.number c.in_ok-group.group s.numbers n
     ∙ ap (insert (picked gs is) c.args.place) made

@@ -1,6 +1,6 @@
-use Rattle.std.proofs.Common.{◌≡◌, ◌<◌, refl, arith, length, option_map, subst, List}
+use Rattle.std.proofs.Common.{◌<◌, refl, arith, length, option_map, subst, List}
 use Rattle.std.proofs.lemmas.List.{length-map}
-use Rattle.dr_group.specs.Groups.{group_at, picked, taken_view, accumulators_view}
+use Rattle.dr_group.specs.Groups.{group_at, taken_view, accumulators_view}
 use Rattle.dr_group.specs.Gathering.{Becomes, taken_by}
 use Rattle.dr_group.specs.declared.gathering.Gathering.{Gathering}
 use Rattle.dr_group.specs.declared.group.Group.{Group}

@@ -1,6 +1,5 @@
-use Rattle.std.proofs.Common.{◌≡◌, ◌∙◌, ap, ap₂, not, nat_eq, vec_len, length, sym, arith, if◌then◌else◌, List}
+use Rattle.std.proofs.Common.{◌≡◌, ◌∙◌, ap, ap₂, nat_eq, vec_len, length, arith}
 use Rattle.dr_partials.specs.Partials as meant
-use Rattle.dr_group.specs.Gathering.{gathering_view}
 use Rattle.dr_group.specs.PlanGatherings.{item_gatherings}
 use Rattle.dr_group.proofs.PartialLemmas.{empty_objects, empty_groups_are, gathers_for}
 use Rattle.dr_group.proofs.partial.Partial.empty.Goals as goal

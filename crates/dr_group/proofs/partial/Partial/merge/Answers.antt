@@ -1,4 +1,4 @@
-use Rattle.std.proofs.Common.{◌≡◌, ◌∙◌, ap, ap₂, sym, subst}
+use Rattle.std.proofs.Common.{◌∙◌, ap₂, sym, subst}
 use Rattle.dr_partials.specs.Partials as meant
 use Rattle.dr_cells.specs.Rows.{rows_view}
 use Rattle.dr_group.specs.Gathering.{Becomes}

@@ -1,7 +1,7 @@
-use Rattle.std.proofs.Common.{◌≡◌, ◌∙◌, ap, sym, subst}
+use Rattle.std.proofs.Common.{◌≡◌, sym, subst}
 use Rattle.dr_partials.specs.Partials as meant
 use Rattle.dr_partials.specs.Putting as putting
-use Rattle.dr_plan.specs.Planned.{Planned, planned_query}
+use Rattle.dr_plan.specs.Planned.{planned_query}
 use Rattle.dr_group.specs.Gathering.{Becomes}
 use Rattle.dr_group.specs.Groups.{put_view}
 use Rattle.dr_group.specs.Maps.{groups_view}
