@@ -19,7 +19,7 @@ pub struct Cells {
 }
 
 impl Cells {
-    ghost use Rattle.std.specs.Prelude.{◌<◌, ◌+◌, ◌∷◌, [], length, take, drop, option_map};
+    ghost use Rattle.std.specs.Prelude.{◌<◌, ◌+◌, ◌==◌, ◌∷◌, [], length, take, drop, option_map};
     ghost use Rattle.dr_meaning.specs.Record.{int_value, text_value};
     ghost use Rattle.dr_levels.specs.Views.{lent_value};
     ghost use Rattle.dr_levels.specs.Columns.{Adds};
@@ -41,6 +41,13 @@ impl Cells {
         ensures { result ≡ length (cells_view self.now) }
     {
         self.cells.len()
+    }
+
+    /// Whether there are none.
+    pub fn is_empty(&self) -> bool
+        ensures { result ≡ (length (cells_view self.now) == 0) }
+    {
+        self.cells.is_empty()
     }
 
     /// The cell of this number.

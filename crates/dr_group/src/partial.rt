@@ -72,7 +72,7 @@ impl Partial {
         }
     }
 
-    /// Merges another partial of the same query into this one, that of the records before those of the other. No value is copied.
+    /// Merges another partial of the same query into this one: its lines behind these, or its groups into these.
     ///
     /// Errors: want of memory, or of room for texts or for the number of a group. Nothing has changed then.
     pub fn merge(&mut self, alloc: Global, other: Partial) -> Result<(), NoMemory>

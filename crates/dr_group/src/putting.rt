@@ -20,7 +20,7 @@ use std::cmp::Ordering;
 
 impl GroupMap {
     /// How many groups there are.
-    pub fn len(&self) -> usize
+    pub(crate) fn len(&self) -> usize
         ensures { result ≡ length (groups_view self.now) }
     {
         self.sorted.len()
