@@ -2,7 +2,7 @@
 use Rattle.std.specs.Prelude.{◌≡◌, List, [], ◌∷◌, ◌++◌, pos, Some, None, codes}
 use Rattle.std.proofs.Common.{refl}
 use Rattle.dr_meaning.specs.Record.{int_value, text_value}
-use Rattle.dr_meaning.specs.Query.{Object, no_entries, cell, list, Objects, no_objects, object}
+use Rattle.dr_meaning.specs.Query.{Object, no_entries, cell, list, no_objects, object}
 use Rattle.dr_cells.specs.Results.{ResultCell, value_cell, count_cell, result_cells, ShapeTree, shape_tree, no_list_shapes, list_shape, read_rows}
 
 abbrev language : Object
