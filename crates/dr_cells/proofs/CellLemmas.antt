@@ -1,11 +1,12 @@
 -- Cells whose texts lie in a buffer: looked up, kept when the buffer grows, and put behind it.
-use Rattle.std.specs.Prelude.{◌≡◌, ◌≤◌, ℕ, ◌+◌, ◌-◌, List, [], ◌∷◌, ◌++◌, length, map, take, drop, true, ◌&&◌, Some, if◌then◌else◌, is_ok, Result, Ok, Err}
+use Rattle.std.specs.Prelude.{◌≡◌, ◌≤◌, ℕ, ◌+◌, ◌-◌, List, [], ◌∷◌, ◌++◌, length, map, take, drop, Bool, zero, suc, true, ◌&&◌, Some, if◌then◌else◌, is_ok, Result, Ok, Err}
 use Rattle.std.proofs.Common.{refl, ap, ap₂, ◌∙◌, arith, length-append}
 use Rattle.std.specs.List.{list_all}
 use Rattle.std.specs.Str.{IsUtf8, is_utf8}
 use Rattle.std.proofs.lemmas.Str.{is_utf8-from_IsUtf8}
 use Rattle.std.proofs.lemmas.Bool.{and_parts, leb-true, le-leb}
-use Rattle.std.proofs.lemmas.List.{take-append-le, take_all, drop-append-le, length-drop, map-append}
+use Rattle.std.proofs.Math.ListN.{set}
+use Rattle.std.proofs.lemmas.List.{map-set, take-append-le, take_all, drop-append-le, length-drop, map-append}
 use Rattle.std.proofs.Math.Seq.{drop-append_seam, drop-append-add}
 use Rattle.std.proofs.lemmas.List.Folds.{list_all-append}
 use Rattle.dr_meaning.specs.Record.{text_value}
@@ -131,3 +132,24 @@ pub seen_after : (r : Result (Unit {0}) NoMemory) (bytes more grown : List ℕ) 
     → list_all (is_cell bytes) cs ≡ true → Adds (cells_in bytes cs) (cells_in grown now) (cells_in more ds) r
 seen_after (Ok done) bytes more grown cs ds now a b e = ap₂ cells_in b a ∙ joined_seen bytes more cs ds e
 seen_after (Err g) bytes more grown cs ds now a b e = ap₂ cells_in b a ∙ still_all_seen bytes more cs e
+
+-- ---- a cell in the place of another
+
+all_set : (p : Cell → Bool) (cs : List Cell) (k : ℕ) (c : Cell) → p c ≡ true → list_all p cs ≡ true → list_all p (set cs k c) ≡ true
+all_set p [] k c h e = refl
+all_set p (d ∷ cs) zero c h e = ap₂ (λ a b. a && b) h (and_parts _ _ e).1
+all_set p (d ∷ cs) (suc k) c h e = ap₂ (λ a b. a && b) (and_parts _ _ e).0 (all_set p cs k c h (and_parts _ _ e).1)
+
+pub set_cells : (bytes text grown : List ℕ) (cs ds : List Cell) (k : ℕ) (p : TextPlace) → ds ≡ set cs k (Cell.Text p) → grown ≡ bytes ++ text → p.start ≡ length bytes → p.length ≡ length text → IsUtf8 text
+    → list_all (is_cell bytes) cs ≡ true → list_all (is_cell grown) ds ≡ true
+set_cells bytes text grown cs ds k p d g h i u e =
+    ap₂ (λ (bs : List ℕ) (xs : List Cell). list_all (is_cell bs) xs) g d ∙ all_set (is_cell (bytes ++ text)) cs k (Cell.Text p) (put_text bytes text p h i u) (still_cells bytes text cs e)
+
+pub set_seen : (bytes text grown : List ℕ) (cs ds : List Cell) (k : ℕ) (p : TextPlace) → ds ≡ set cs k (Cell.Text p) → grown ≡ bytes ++ text → p.start ≡ length bytes → p.length ≡ length text
+    → list_all (is_cell bytes) cs ≡ true → cells_in grown ds ≡ set (cells_in bytes cs) k (value_cell (Some (text_value text)))
+set_seen bytes text grown cs ds k p d g h i e =
+    ap₂ cells_in g d ∙ map-set (cell_view (bytes ++ text)) cs k (Cell.Text p)
+    ∙ ap₂ (λ (xs : List ResultCell) (t : List ℕ). set xs k (value_cell (Some (text_value t)))) (still_all_seen bytes text cs e) (put_there bytes text p h i)
+
+pub set_plain : (bytes : List ℕ) (cs ds : List Cell) (k : ℕ) (c : Cell) → ds ≡ set cs k c → is_cell bytes c ≡ true → list_all (is_cell bytes) cs ≡ true → list_all (is_cell bytes) ds ≡ true
+set_plain bytes cs ds k c d h e = ap (list_all (is_cell bytes)) d ∙ all_set (is_cell bytes) cs k c h e

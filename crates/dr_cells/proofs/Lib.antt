@@ -4,3 +4,5 @@ pub mod CellLemmas
 pub mod ReadingLemmas
 -- which shape the objects of a plan have
 pub mod ShapeLemmas
+-- results as cells, by computation
+pub mod WorkedResults

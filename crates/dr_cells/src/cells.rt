@@ -19,12 +19,13 @@ pub struct Cells {
 }
 
 impl Cells {
-    ghost use Rattle.std.specs.Prelude.{◌<◌, ◌+◌, ◌∷◌, [], length, take, drop, option_map};
+    ghost use Rattle.std.specs.Prelude.{◌<◌, ◌+◌, ◌==◌, ◌∷◌, [], length, take, drop, slice_set, option_map};
     ghost use Rattle.dr_meaning.specs.Record.{int_value, text_value};
     ghost use Rattle.dr_levels.specs.Views.{lent_value};
     ghost use Rattle.dr_levels.specs.Columns.{Adds};
     ghost use Rattle.dr_cells.specs.Results.{value_cell, count_cell};
-    ghost use Rattle.dr_cells.specs.Views.{cells_view, lent_cell};
+    ghost use Rattle.dr_cells.specs.Views.{cells_view, lent_cell, Replaces};
+    ghost use Rattle.dr_cells.specs.Held.{cell_view};
 
     /// No cells.
     pub fn new(alloc: Global) -> Cells
@@ -41,6 +42,13 @@ impl Cells {
         ensures { result ≡ length (cells_view self.now) }
     {
         self.cells.len()
+    }
+
+    /// Whether there are none.
+    pub fn is_empty(&self) -> bool
+        ensures { result ≡ (length (cells_view self.now) == 0) }
+    {
+        self.cells.is_empty()
     }
 
     /// The cell of this number.
@@ -102,6 +110,61 @@ impl Cells {
         self.cells.reserve(1)?;
         self.bytes.extend_from_slice(text.as_bytes())?;
         self.cells.push(Cell::Text(TextPlace { start, length }))?;
+        Ok(())
+    }
+
+    /// Puts a value, or NULL, into the place of a cell.
+    ///
+    /// Errors: want of memory, or of room: the texts of a result have less than 4 GiB together. Nothing has changed then.
+    pub fn set(&mut self, number: usize, value: Option<ValueRef<'_>>) -> Result<(), NoMemory>
+        requires { number < length (cells_view self.old) }
+        ensures { Replaces (cells_view self.old) (cells_view self.new) number (value_cell (option_map lent_value value.entry)) result }
+    {
+        match value {
+            None => {
+                self.set_cell(number, Cell::Null);
+                Ok(())
+            }
+            Some(ValueRef::Bool(truth)) => {
+                self.set_cell(number, Cell::Bool(truth));
+                Ok(())
+            }
+            Some(ValueRef::Int(whole)) => {
+                self.set_cell(number, Cell::Int(i128::from(whole)));
+                Ok(())
+            }
+            Some(ValueRef::Text(text)) => self.set_text(number, text),
+        }
+    }
+
+    /// Puts how many objects a list has into the place of a cell.
+    pub fn set_count(&mut self, number: usize, count: u64)
+        requires { number < length (cells_view self.old) }
+        ensures { cells_view self.new ≡ slice_set (cells_view self.old) number (count_cell count) }
+    {
+        self.set_cell(number, Cell::Count(count));
+    }
+
+    /// Puts a cell that has no text, or one that lies in the buffer, into the place of another.
+    fn set_cell(&mut self, number: usize, cell: Cell)
+        requires number { number < length (cells_view self.old) }
+        requires text { is_cell (self.old).bytes.items cell ≡ true }
+        ensures { cells_view self.new ≡ slice_set (cells_view self.old) number (cell_view (self.old).bytes.items cell) }
+    {
+        self.cells[number] = cell;
+    }
+
+    /// Puts a text into the place of a cell.
+    fn set_text(&mut self, number: usize, text: &str) -> Result<(), NoMemory>
+        requires { number < length (cells_view self.old) }
+        ensures { Replaces (cells_view self.old) (cells_view self.new) number (value_cell (Some (text_value text.now))) result }
+    {
+        let (Ok(start), Ok(length)) = (u32::try_from(self.bytes.len()), u32::try_from(text.len()))
+        else {
+            return Err(NoMemory);
+        };
+        self.bytes.extend_from_slice(text.as_bytes())?;
+        self.cells[number] = Cell::Text(TextPlace { start, length });
         Ok(())
     }
 

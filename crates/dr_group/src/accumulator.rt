@@ -103,11 +103,7 @@ fn add_number(sum: &mut Option<i128>, value: ValueRef<'_>) -> Result<(), NoMemor
 }
 
 /// Keeps a value where it is less than the one that is held.
-fn keep_least(
-    alloc: Global,
-    least: &mut Option<Value>,
-    value: ValueRef<'_>,
-) -> Result<(), NoMemory>
+fn keep_least(alloc: Global, least: &mut Option<Value>, value: ValueRef<'_>) -> Result<(), NoMemory>
     ensures { Becomes (cell_view least.old) (cell_view least.new) (join_options smaller (cell_view least.old) (Some (lent_value value.entry))) result }
 {
     if is_less(least, value) {

@@ -2,8 +2,23 @@
 #![tactic(auto)]
 
 mod accumulator;
+mod finishing;
 mod gathering;
+mod group;
+mod group_map;
+mod joining;
+pub mod laws;
+mod making;
+mod map_merging;
+mod merging;
 mod orders;
+mod partial;
+mod place;
+mod putting;
+mod turn;
 
 pub use accumulator::Accumulator;
 pub use gathering::Gathering;
+pub use group::{Group, Taken};
+pub use group_map::GroupMap;
+pub use partial::Partial;

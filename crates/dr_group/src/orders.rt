@@ -52,3 +52,29 @@ pub fn tuple_order(left: &[Option<ValueRef<'_>>], right: &[Option<Value>]) -> Or
     }
     left.len().cmp(&right.len())
 }
+
+/// The order of two held cells.
+fn held_cell_order(left: &Option<Value>, right: &Option<Value>) -> Ordering
+    ensures { result ≡ meant.cell_order (cell_view left.now) (cell_view right.now) }
+{
+    match left {
+        None => cell_order(None, right),
+        Some(value) => cell_order(Some(ValueRef::of(value)), right),
+    }
+}
+
+/// The order of two held key tuples.
+pub fn held_order(left: &[Option<Value>], right: &[Option<Value>]) -> Ordering
+    ensures { result ≡ meant.tuple_order (map cell_view left.now) (map cell_view right.now) }
+{
+    'cells: for (number, cell) in left.iter().enumerate() {
+        if number >= right.len() {
+            return Ordering::Greater;
+        }
+        match held_cell_order(cell, &right[number]) {
+            Ordering::Equal => {}
+            order => return order,
+        }
+    }
+    left.len().cmp(&right.len())
+}

@@ -1,0 +1,70 @@
+-- Groups that are held, and their places in the order of key tuples.
+use Rattle.std.specs.Prelude.{◌≡◌, ◌<◌, ◌≤◌, ℕ, List, [], ◌∷◌, map, length, take, drop, get_or, slice_set, Option, option_map}
+use Rattle.std.specs.declared.cmp.Ordering.TheVariants.{Less, Equal, Greater}
+use Rattle.dr_meaning.specs.Record.{Value}
+use Rattle.dr_meaning.specs.Query.{tuple_order}
+use Rattle.dr_partials.specs.Partials as meant
+use Rattle.dr_partials.specs.Accumulators as accumulators
+use Rattle.dr_partials.specs.Putting as putting
+use Rattle.dr_levels.specs.declared.triplet.ValueRef.{ValueRef}
+use Rattle.dr_group.specs.Views.{accumulator_view, cell_view, lent_cell}
+use Rattle.dr_group.specs.declared.accumulator.Accumulator.{Accumulator}
+use Rattle.dr_group.specs.Gathering.{taken_by}
+use Rattle.dr_group.specs.declared.gathering.Gathering.{Gathering}
+use Rattle.dr_group.specs.declared.group.Group.{Group}
+use Rattle.dr_group.specs.declared.group.Taken.{Taken}
+use Rattle.dr_group.specs.declared.place.Place.{Place}
+
+abbrev pub accumulators_view : List Accumulator → List accumulators.Accumulator
+accumulators_view xs = map accumulator_view xs
+
+abbrev pub group_view : Group → meant.Group
+group_view g = record { keys = map cell_view g.keys.items; accumulators = accumulators_view g.accumulators.items }
+
+abbrev pub no_group : meant.Group
+no_group = record { keys = []; accumulators = [] }
+
+-- the group of all rows
+abbrev pub keyless_group : List accumulators.Accumulator → meant.Group
+keyless_group xs = record { keys = []; accumulators = xs }
+
+-- the group of this number
+abbrev pub group_at : List Group → ℕ → meant.Group
+group_at gs i = get_or (map group_view gs) i no_group
+
+-- the groups of these numbers
+abbrev pub picked : List Group → List ℕ → List meant.Group
+picked gs is = map (group_at gs) is
+
+abbrev pub taken_view : Taken → putting.Taken
+taken_view t = record { aggregate = t.aggregate; value = lent_cell t.value }
+
+-- what is put
+abbrev pub put_view : List (Option ValueRef) → Option Taken → putting.Put
+put_view key taken = record { keys = map lent_cell key; taken = option_map taken_view taken }
+
+-- ---- places
+
+-- the key tuple is greater than each of these
+abbrev pub AllBelow : List (Option Value) → List meant.Group → Type 0
+AllBelow t [] = Unit {0}
+AllBelow t (g ∷ gs) = (tuple_order t g.keys ≡ Greater) × AllBelow t gs
+
+-- the key tuple is less than each of these
+abbrev pub AllBehind : List (Option Value) → List meant.Group → Type 0
+AllBehind t [] = Unit {0}
+AllBehind t (g ∷ gs) = (tuple_order t g.keys ≡ Less) × AllBehind t gs
+
+-- the key tuple is that of the group at this place, or stands before it
+abbrev pub IsPlace : List (Option Value) → List meant.Group → Place → Type 0
+IsPlace t gs (Place.At k) = (k < length gs) × AllBelow t (take k gs) × (tuple_order t (get_or gs k no_group).keys ≡ Equal)
+IsPlace t gs (Place.Before k) = (k ≤ length gs) × AllBelow t (take k gs) × AllBehind t (drop k gs)
+
+-- ---- what is put at a place
+
+abbrev pub with_accumulators : meant.Group → List accumulators.Accumulator → meant.Group
+with_accumulators g xs = record { keys = g.keys; accumulators = xs }
+
+-- the group at a place takes a value
+abbrev pub taken_at : List Gathering → ℕ → Option putting.Taken → List meant.Group → List meant.Group
+taken_at ks k t gs = slice_set gs k (with_accumulators (get_or gs k no_group) (taken_by ks t (get_or gs k no_group).accumulators))

@@ -1,0 +1,103 @@
+//! Groups of an aggregate query.
+
+ghost use Rattle.std.specs.Prelude.{◌≡◌, IfOk, map, option_map};
+ghost use Rattle.dr_group.specs.Views.{lent_cell, cell_view};
+ghost use Rattle.dr_group.specs.Gathering.{Becomes, taken_by, new_group_by, empty_of};
+ghost use Rattle.dr_group.specs.Groups.{accumulators_view, group_view, taken_view, put_view};
+
+use crate::accumulator::Accumulator;
+use crate::gathering::Gathering;
+use dr_levels::ValueRef;
+use dr_memory::NoMemory;
+use dr_nested::Value;
+use std::alloc::Global;
+
+/// A group: its key tuple, and what each aggregate has gathered.
+#[derive(Debug, Drop)]
+pub struct Group {
+    pub keys: Vec<Option<Value>>,
+    pub accumulators: Vec<Accumulator>,
+}
+
+/// A value, or NULL, for one of the aggregates, by its number.
+#[derive(Clone, Copy, PartialEq, Eq, Debug)]
+pub struct Taken<'a> {
+    pub aggregate: u32,
+    pub value: Option<ValueRef<'a>>,
+}
+
+/// Takes a value into the accumulator of its aggregate, if there is one.
+///
+/// Errors: want of memory, or of room for a count or a sum. Nothing has changed then.
+pub fn take_into(
+    alloc: Global,
+    gatherings: &[Gathering],
+    accumulators: &mut Vec<Accumulator>,
+    taken: Option<Taken<'_>>,
+) -> Result<(), NoMemory>
+    ensures { Becomes (accumulators_view (accumulators.old).items) (accumulators_view (accumulators.new).items) (taken_by gatherings.now (option_map taken_view taken.entry) (accumulators_view (accumulators.old).items)) result }
+{
+    let Some(taken) = taken else {
+        return Ok(());
+    };
+    let at = taken.aggregate as usize;
+    if at >= gatherings.len() {
+        return Ok(());
+    }
+    if at >= accumulators.len() {
+        return Ok(());
+    }
+    accumulators[at].take(alloc, gatherings[at], taken.value)
+}
+
+/// A group of a key tuple, in which a value is taken.
+///
+/// Errors: want of memory, or of room for a sum.
+pub fn new_group(
+    alloc: Global,
+    gatherings: &[Gathering],
+    key: &[Option<ValueRef<'_>>],
+    taken: Option<Taken<'_>>,
+) -> Result<Group, NoMemory>
+    ensures { IfOk result (λ g. group_view g ≡ new_group_by gatherings.now (put_view key.now taken.entry)) }
+{
+    let keys = held_keys(alloc, key)?;
+    let mut accumulators = empty_accumulators(alloc, gatherings)?;
+    take_into(alloc, gatherings, &mut accumulators, taken)?;
+    Ok(Group { keys, accumulators })
+}
+
+/// The accumulators of a group without rows.
+pub fn empty_accumulators(
+    alloc: Global,
+    gatherings: &[Gathering],
+) -> Result<Vec<Accumulator>, NoMemory>
+    ensures { IfOk result (λ v. accumulators_view v.items ≡ map empty_of gatherings.now) }
+{
+    let mut accumulators = Vec::with_capacity(alloc, gatherings.len())?;
+    'gatherings: for gathering in gatherings {
+        accumulators.push(Accumulator::new(*gathering))?;
+    }
+    Ok(accumulators)
+}
+
+/// A key tuple of its own.
+fn held_keys(alloc: Global, key: &[Option<ValueRef<'_>>]) -> Result<Vec<Option<Value>>, NoMemory>
+    ensures { IfOk result (λ v. map cell_view v.items ≡ map lent_cell key.now) }
+{
+    let mut keys = Vec::with_capacity(alloc, key.len())?;
+    'cells: for cell in key {
+        keys.push(held_cell(alloc, *cell)?)?;
+    }
+    Ok(keys)
+}
+
+/// A cell of its own.
+fn held_cell(alloc: Global, cell: Option<ValueRef<'_>>) -> Result<Option<Value>, NoMemory>
+    ensures { IfOk result (λ v. cell_view v ≡ lent_cell cell.entry) }
+{
+    match cell {
+        None => Ok(None),
+        Some(value) => Ok(Some(value.to_value(alloc)?)),
+    }
+}
