@@ -29,5 +29,6 @@ moved_cell n (Cell.Int z) = Cell.Int z
 moved_cell n (Cell.Text p) = Cell.Text (moved n p)
 moved_cell n (Cell.Count k) = Cell.Count k
 
+-- cells whose texts lie in one buffer
 abbrev pub cells_in : List ℕ → List Cell → List ResultCell
 cells_in bytes cs = map (cell_view bytes) cs

@@ -10,14 +10,17 @@ use Rattle.dr_cells.specs.Results.{ListShapes, no_list_shapes, list_shape}
 abbrev pub item_names : List RecordItem → List (List ℕ)
 item_names items = map (λ (i : RecordItem). string_bytes i.name) items
 
+-- the names of the items of an aggregate query
 abbrev pub row_names : List GroupItem → List (List ℕ)
 row_names items = map (λ (i : GroupItem). string_bytes i.name) items
 
 -- ---- the view of the lists of a plan
 
+-- a list of a plan's object, with its object seen
 abbrev pub plan_list_view : ListPlan → SeenList
 plan_list_view = fold-ListPlan SeenList ObjectTree list_step object_step
 
+-- the lists of a plan's object
 abbrev pub plan_lists_view : List ListPlan → ListTrees
 plan_lists_view ls = lists_of (map plan_list_view ls)
 

@@ -17,6 +17,7 @@ own_values no_entries = []
 own_values (cell n v o) = value_cell v ∷ own_values o
 own_values (list n os o) = own_values o
 
+-- how many there are
 abbrev pub count_objects : Objects → ℕ
 count_objects no_objects = 0
 count_objects (object o os) = suc (count_objects os)
@@ -34,13 +35,16 @@ abbrev mutual
   inner_cells (cell n v o) = inner_cells o
   inner_cells (list n os o) = all_cells os ++ inner_cells o
 
+  -- the cells of objects, one after another
   pub all_cells : Objects → List ResultCell
   all_cells no_objects = []
   all_cells (object o os) = (own_values o ++ (own_counts o ++ inner_cells o)) ++ all_cells os
 
+-- an object's values, then how many objects each of its lists has, then the cells of those
 abbrev pub object_cells : Object → List ResultCell
 object_cells o = own_values o ++ (own_counts o ++ inner_cells o)
 
+-- the cells of a result's objects
 abbrev pub result_cells : List Object → List ResultCell
 result_cells os = flat_map object_cells os
 
@@ -56,6 +60,7 @@ mutual
     no_list_shapes : ListShapes
     list_shape : List ℕ → ShapeTree → ListShapes → ListShapes
 
+-- how many lists there are
 abbrev pub count_lists : ListShapes → ℕ
 count_lists no_list_shapes = 0
 count_lists (list_shape n s ls) = suc (count_lists ls)
@@ -77,6 +82,7 @@ abbrev mutual
   pub FitsShape : ShapeTree → Object → Type 0
   FitsShape (shape_tree ns ls) o = FitsNames ns (FitsLists ls) o
 
+  -- an object has these lists, and nothing else
   pub FitsLists : ListShapes → Object → Type 0
   FitsLists no_list_shapes no_entries = Unit {0}
   FitsLists no_list_shapes (cell m v o) = ⊥
@@ -85,6 +91,7 @@ abbrev mutual
   FitsLists (list_shape n s ls) (cell m v o) = ⊥
   FitsLists (list_shape n s ls) (list m os o) = (m ≡ n) × EachObject (FitsShape s) os × FitsLists ls o
 
+-- each object of a result has the shape
 abbrev pub AllFitShape : ShapeTree → List Object → Type 0
 AllFitShape s os = EachObject (FitsShape s) (objects_of os)
 
@@ -105,6 +112,7 @@ first_value [] = None
 first_value (value_cell v ∷ cs) = v
 first_value (count_cell k ∷ cs) = None
 
+-- the count in the first cell; 0 where there is none
 abbrev pub first_count : List ResultCell → ℕ
 first_count [] = 0
 first_count (value_cell v ∷ cs) = 0

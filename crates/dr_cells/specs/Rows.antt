@@ -6,6 +6,7 @@ use Rattle.dr_cells.specs.Shapes.{shape_view}
 use Rattle.dr_cells.specs.Views.{cells_view}
 use Rattle.dr_cells.specs.declared.rows.RowsOut.{RowsOut}
 
+-- the shape of a result's objects
 abbrev pub rows_shape : RowsOut → ShapeTree
 rows_shape r = shape_view r.shape
 

@@ -27,10 +27,12 @@ abbrev mutual
   pub tree_shape : List (List ℕ) → ObjectTree → ShapeTree
   tree_shape names (object_tree ns ls) = shape_tree (names_at names ns) (tree_list_shapes names ls)
 
+  -- the lists of the objects that a tree makes
   pub tree_list_shapes : List (List ℕ) → ListTrees → ListShapes
   tree_list_shapes names no_lists = no_list_shapes
   tree_list_shapes names (list_tree name p o ls) = list_shape name (tree_shape names o) (tree_list_shapes names ls)
 
+-- the names of the items of a record query
 abbrev pub names_of_items : List RecordItem → List (List ℕ)
 names_of_items items = map (λ (i : RecordItem). i.name) items
 
@@ -38,10 +40,12 @@ names_of_items items = map (λ (i : RecordItem). i.name) items
 abbrev pub row_shape : List GroupItem → ShapeTree
 row_shape items = shape_tree (map (λ (i : GroupItem). i.name) items) no_list_shapes
 
+-- the shape that a tree makes, where there is one
 abbrev pub shape_by_tree : List (List ℕ) → Option ObjectTree → ShapeTree
 shape_by_tree names None = shape_tree [] no_list_shapes
 shape_by_tree names (Some o) = tree_shape names o
 
+-- of a record query the shape that its tree makes, of an aggregate query that of its rows
 abbrev pub selection_shape : Selection → Option ObjectTree → ShapeTree
 selection_shape (objects items) o = shape_by_tree (names_of_items items) o
 selection_shape (groups keys items) o = row_shape items
@@ -57,22 +61,28 @@ pub record SeenList : Type 0 where
   pub name : List ℕ
   pub shape : ShapeTree
 
+-- lists whose objects' shapes have been seen
 abbrev pub list_shapes_of : List SeenList → ListShapes
 list_shapes_of [] = no_list_shapes
 list_shapes_of (l ∷ ls) = list_shape l.name l.shape (list_shapes_of ls)
 
+-- one level, with its lists already seen
 abbrev pub shape_step : Shape-F SeenList ShapeTree → ShapeTree
 shape_step s = shape_tree (map string_bytes s.names.items) (list_shapes_of s.lists.items)
 
+-- one list, with the shape of its objects already seen
 abbrev pub list_step : ListShape-F SeenList ShapeTree → SeenList
 list_step l = record { name = string_bytes l.name; shape = l.shape }
 
+-- what a shape stands for
 abbrev pub shape_view : Shape → ShapeTree
 shape_view = fold-Shape SeenList ShapeTree list_step shape_step
 
+-- a list of a shape
 abbrev pub list_view : ListShape → SeenList
 list_view = fold-ListShape SeenList ShapeTree list_step shape_step
 
+-- the lists of a shape
 abbrev pub lists_view : List ListShape → ListShapes
 lists_view ls = list_shapes_of (map list_view ls)
 

@@ -7,6 +7,7 @@ use Rattle.dr_cells.specs.Held.{cells_in}
 use Rattle.dr_cells.specs.declared.cell.CellRef.{CellRef}
 use Rattle.dr_cells.specs.declared.cells.Cells.{Cells}
 
+-- the cells, in order
 abbrev pub cells_view : Cells → List ResultCell
 cells_view cs = cells_in cs.bytes.items cs.cells.items
 

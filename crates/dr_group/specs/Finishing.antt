@@ -9,6 +9,7 @@ use Rattle.dr_plan.specs.declared.plan.GroupTerm.{GroupTerm}
 use Rattle.dr_plan.specs.declared.plan.GroupItem.{GroupItem}
 use Rattle.dr_cells.specs.Results.{ResultCell, value_cell}
 
+-- what the first accumulator gives; NULL where there is none
 abbrev pub first_result : List Accumulator → Option Value
 first_result [] = None
 first_result (x ∷ xs) = result_of x
@@ -28,8 +29,10 @@ abbrev pub row_cells : List GroupItem → List (Option Value) → List Accumulat
 row_cells [] t xs = []
 row_cells (i ∷ is) t xs = value_cell (value_of_term i.term t xs) ∷ row_cells is t (behind_term i.term xs)
 
+-- the cells of a group's row
 abbrev pub group_cells : List GroupItem → Group → List ResultCell
 group_cells items g = row_cells items g.keys g.accumulators
 
+-- the cells of the rows of groups
 abbrev pub all_row_cells : List GroupItem → List Group → List ResultCell
 all_row_cells items gs = flat_map (group_cells items) gs

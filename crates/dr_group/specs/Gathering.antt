@@ -33,6 +33,7 @@ abbrev pub gathering_view : Gathering → Option Aggregate
 gathering_view Gathering.Rows = None
 gathering_view (Gathering.Values f) = Some (fold_view f)
 
+-- what an item gathers: an aggregate of values, or none for COUNT(*)
 abbrev pub term_gathering : GroupTerm → Option Aggregate
 term_gathering (key i) = None
 term_gathering count_rows = None
@@ -51,6 +52,7 @@ take_at_by (k ∷ ks) i v [] = []
 take_at_by (k ∷ ks) zero v (x ∷ xs) = take_by k v x ∷ xs
 take_at_by (k ∷ ks) (suc i) v (x ∷ xs) = x ∷ take_at_by ks i v xs
 
+-- what is taken, if anything, goes into its accumulator
 abbrev pub taken_by : List Gathering → Option Taken → List Accumulator → List Accumulator
 taken_by ks None xs = xs
 taken_by ks (Some t) xs = take_at_by ks t.aggregate t.value xs

@@ -15,12 +15,15 @@ use Rattle.dr_group.specs.declared.group.Group.{Group}
 use Rattle.dr_group.specs.declared.group.Taken.{Taken}
 use Rattle.dr_group.specs.declared.place.Place.{Place}
 
+-- what accumulators stand for
 abbrev pub accumulators_view : List Accumulator → List accumulators.Accumulator
 accumulators_view xs = map accumulator_view xs
 
+-- what a group stands for
 abbrev pub group_view : Group → meant.Group
 group_view g = record { keys = map cell_view g.keys.items; accumulators = accumulators_view g.accumulators.items }
 
+-- a group that stands where there is none
 abbrev pub no_group : meant.Group
 no_group = record { keys = []; accumulators = [] }
 
@@ -36,6 +39,7 @@ group_at gs i = get_or (map group_view gs) i no_group
 abbrev pub picked : List Group → List ℕ → List meant.Group
 picked gs is = map (group_at gs) is
 
+-- what is taken stands for this
 abbrev pub taken_view : Taken → putting.Taken
 taken_view t = record { aggregate = t.aggregate; value = lent_cell t.value }
 
@@ -62,6 +66,7 @@ IsPlace t gs (Place.Before k) = (k ≤ length gs) × AllBelow t (take k gs) × A
 
 -- ---- what is put at a place
 
+-- the group with other accumulators
 abbrev pub with_accumulators : meant.Group → List accumulators.Accumulator → meant.Group
 with_accumulators g xs = record { keys = g.keys; accumulators = xs }
 

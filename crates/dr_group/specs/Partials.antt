@@ -10,6 +10,7 @@ use Rattle.dr_group.specs.Maps.{groups_view, gatherings_view}
 use Rattle.dr_group.specs.declared.group_map.GroupMap.{GroupMap}
 use Rattle.dr_group.specs.declared.partial.Partial.{Partial}
 
+-- what a partial stands for
 abbrev pub partial_view : Partial → meant.Partial
 partial_view (Partial.Lines r) = meant.lines (rows_view r)
 partial_view (Partial.Groups m) = meant.grouped (groups_view m)

@@ -7,10 +7,12 @@ use Rattle.dr_plan.specs.declared.aggregate.Aggregate.{Aggregate}
 use Rattle.dr_plan.specs.declared.plan.GroupTerm.{GroupTerm}
 use Rattle.dr_plan.specs.declared.plan.GroupItem.{GroupItem}
 
+-- what an aggregate of a plan gathers
 abbrev pub aggregate_gathering : Aggregate → Option query.Aggregate
 aggregate_gathering Aggregate.Rows = None
 aggregate_gathering (Aggregate.Of f e) = Some (fold_view f)
 
+-- the same of one that may not be there
 abbrev pub found_gathering : Option Aggregate → Option query.Aggregate
 found_gathering None = None
 found_gathering (Some a) = aggregate_gathering a

@@ -11,6 +11,7 @@ IsAggregate (key i) = ⊥
 IsAggregate count_rows = Unit {0}
 IsAggregate (aggregate a e) = Unit {0}
 
+-- no key among them
 abbrev pub AllAggregates : List GroupTerm → Type 0
 AllAggregates [] = Unit {0}
 AllAggregates (t ∷ ts) = IsAggregate t × AllAggregates ts

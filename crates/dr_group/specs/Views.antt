@@ -12,9 +12,11 @@ use Rattle.dr_group.specs.declared.accumulator.Accumulator.{Accumulator}
 abbrev pub lent_cell : Option ValueRef → Option record_tree.Value
 lent_cell v = option_map lent_value v
 
+-- a held value, or NULL
 abbrev pub cell_view : Option Value → Option record_tree.Value
 cell_view v = option_map value_view v
 
+-- what an accumulator stands for
 abbrev pub accumulator_view : Accumulator → meant.Accumulator
 accumulator_view (Accumulator.Count n) = meant.counted n
 accumulator_view (Accumulator.Sum s) = meant.summed s
