@@ -1,8 +1,7 @@
 -- The lines of records, tablet by tablet.
-use Rattle.std.proofs.Common.{◌≡◌, ℕ, List, [], ◌++◌, map, Option, refl, sym, ap, ◌∙◌, subst}
+use Rattle.std.proofs.Common.{◌≡◌, ℕ, List, [], map, Option, refl, ◌∙◌, subst}
 use Rattle.std.specs.Prelude.{String, string_bytes}
 use Rattle.std.specs.declared.alloc.Global.{Global}
-use Rattle.std.proofs.lemmas.Grind.{flat_map-append}
 use Rattle.std.proofs.lemmas.List.Folds.{flat_map-map}
 use Rattle.dr_meaning.specs.Schema.{Fields}
 use Rattle.dr_meaning.specs.Path.{Leaf}
@@ -19,10 +18,6 @@ use Rattle.dr_dump.specs.Dumps.{lines_text, dump_text, HasLines, AreLinesOf}
 -- the leaves' paths, as they are read and as they are served
 pub same_paths : (F : List Leaf) → read.paths_of_leaves F ≡ paths_of_leaves F
 same_paths F = refl
-
--- the lines of records behind those of others
-pub lines_behind : (fs : Fields) (old new : List ℕ) (R S : List Node) → old ≡ lines_text fs R → new ≡ old ++ lines_text fs S → new ≡ lines_text fs (R ++ S)
-lines_behind fs old new R S h e = e ∙ ap (λ x. x ++ lines_text fs S) h ∙ sym (flat_map-append (record_text fs) R S)
 
 -- the lines of projections are what a dump prints
 pub dumped : (fs : Fields) (F : List Leaf) (R : List Node) → lines_text fs (map (project (read.paths_of_leaves F)) R) ≡ dump_text fs F R
