@@ -1,5 +1,5 @@
 -- Where clap takes the words of `load`, its values are there.
-use Rattle.std.proofs.Common.{◌≡◌, ℕ, ◌∙◌, ap, true, false, refl, List, [], ◌∷◌, Option, Some, None}
+use Rattle.std.proofs.Common.{◌≡◌, ℕ, ◌∙◌, ap, true, false, refl, List, [], Option, Some, None}
 use Rattle.std.specs.Prelude.{bytes_eq, codes, option_and_then, option_map, slice_get}
 use Rattle.std.specs.List.{find}
 use Rattle.clap.specs.Words.{Row, Shape, Text, all_of, first_of}

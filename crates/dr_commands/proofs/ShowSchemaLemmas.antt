@@ -1,8 +1,7 @@
 -- Where clap takes the words of `schema`, its values are there.
-use Rattle.std.proofs.Common.{◌≡◌, true, false, refl, List, [], ◌∷◌, Option, Some, None}
-use Rattle.std.specs.Prelude.{bytes_eq, codes, option_and_then, option_map, slice_get}
-use Rattle.std.specs.List.{find}
-use Rattle.clap.specs.Words.{Row, Shape, Text, all_of, first_of}
+use Rattle.std.proofs.Common.{◌≡◌, true, false, refl, List, [], Option, Some, None}
+use Rattle.std.specs.Prelude.{codes, option_map}
+use Rattle.clap.specs.Words.{Shape, Text, first_of}
 use Rattle.clap.specs.Walk.{nothing_held, rows_after}
 use Rattle.clap.specs.Simple.{built_leaf, inherited, marked_built, on_top, rows_at}
 use Rattle.clap.specs.Takes.{level_passes}

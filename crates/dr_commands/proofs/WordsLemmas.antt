@@ -1,11 +1,11 @@
 -- What the words of a command line ask for, from clap's answers.
 use Rattle.std.proofs.Common.{◌≡◌, ◌∙◌, Bool, cond, true, false, true≢false, refl, sym, ap, subst, List, [], ◌∷◌, Option, Some, None, is_some, Result, Ok, Err, IfOk}
-use Rattle.std.specs.Prelude.{IsSome, bytes_eq, codes, option_and_then, option_map, slice_get}
+use Rattle.std.specs.Prelude.{IsSome, option_map}
 use Rattle.std.specs.List.{find, list_all}
 use Rattle.std.specs.Option.{option_map_or}
-use Rattle.clap.specs.Words.{App, HasMatchesOf, Kinds, Row, Shape, Text, all_of, built, fault_of, first_of, is_simple, is_simple_and_free, kind_of, subcommand_of, subcommand_rows_of, takes}
-use Rattle.clap.specs.Walk.{answers_to, finished, nothing_held, rows_after, walk, walk_from}
-use Rattle.clap.specs.Simple.{argument_words, built_leaf, entered, inherited, label_of, marked_built, names_of, on_top, rows_at}
+use Rattle.clap.specs.Words.{App, HasMatchesOf, Kinds, Shape, Text, built, fault_of, is_simple, is_simple_and_free, kind_of, subcommand_of, subcommand_rows_of, takes}
+use Rattle.clap.specs.Walk.{answers_to, finished, nothing_held, walk, walk_from}
+use Rattle.clap.specs.Simple.{argument_words, entered, label_of, names_of, rows_at}
 use Rattle.clap.specs.Takes.{default_passes, entered_passes, is_valid, level_passes, settle_passes, walk_passes}
 use Rattle.clap.specs.declared.ArgMatches.{ArgMatches}
 use Rattle.clap.specs.declared.Error.{Error}

@@ -1,5 +1,5 @@
 -- `ask --schema F QUERY`: a query over the records of the input.
-use Rattle.std.specs.Prelude.{true, false, List, [], ◌∷◌, Option, Some, map, codes, option_map, option_and_then, string_bytes}
+use Rattle.std.specs.Prelude.{true, false, List, [], ◌∷◌, Option, Some, codes, option_map, option_and_then, string_bytes}
 use Rattle.clap.specs.Words.{App, Row, Text, first_of, new_rule}
 use Rattle.dr_meaning.specs.Ask as meant
 use Rattle.dr_commands.specs.Meaning.{Meaning, plain}

@@ -1,5 +1,5 @@
 -- The words of a command line: the command `dremel` as clap's own data, and what its words ask for by clap's definitions.
-use Rattle.std.specs.Prelude.{◌≡◌, ◌↔◌, IsSome, true, List, [], ◌∷◌, Option, Some, None, fold, codes, option_map, option_and_then, if◌then◌else◌}
+use Rattle.std.specs.Prelude.{◌≡◌, ◌↔◌, IsSome, true, List, [], ◌∷◌, Option, None, fold, codes, option_map, option_and_then, if◌then◌else◌}
 use Rattle.std.specs.Str.{bytes_eq}
 use Rattle.clap.specs.Words.{App, Row, Shape, Text, fault_of, new_app, subcommand_of, takes, with_subcommand}
 use Rattle.dr_commands.specs.Meaning.{Meaning}

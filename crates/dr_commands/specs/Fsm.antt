@@ -1,5 +1,5 @@
 -- `fsm --schema F FIELD..`: the automaton of leaves in schema order. It reads no input.
-use Rattle.std.specs.Prelude.{true, false, List, [], ◌∷◌, Option, Some, map, codes, option_map, option_and_then, string_bytes}
+use Rattle.std.specs.Prelude.{false, List, [], ◌∷◌, Option, Some, map, codes, option_map, option_and_then, string_bytes}
 use Rattle.clap.specs.Words.{App, Row, Text, all_of, first_of, new_rule}
 use Rattle.dr_meaning.specs.Fsm as meant
 use Rattle.dr_commands.specs.Meaning.{Meaning, plain}

@@ -8,7 +8,7 @@ use Rattle.dr_formats.specs.Loading.{Plan, Loaded, WordsRefusal, words_refusal, 
 use Rattle.dr_formats.specs.TableFile.{most_leaf_lines}
 use Rattle.dr_formats.specs.Reports.{loaded_text}
 use Rattle.dr_commands.specs.Refusals.{schema_refused, words_refused, line_refused}
-use Rattle.dr_commands.specs.Meaning.{Meaning, Look, Outcome, done, refused}
+use Rattle.dr_commands.specs.Meaning.{Meaning, Outcome, done, refused}
 use Rattle.dr_commands.specs.Rules.{option_rule, needed, up_to, subcommand_app}
 use Rattle.dr_commands.specs.Numbers.{number_rule, number_in}
 use Rattle.dr_commands.specs.declared.load.Load.{Load}
@@ -31,10 +31,10 @@ load_files_app = subcommand_app (codes "load") (needed (option_rule (codes "sche
 
 abbrev pub load_app : App
 load_app = fold with_rule load_files_app (
-  number_rule (codes "rows") 1 most_tablet_rows
-  ∷ number_rule (codes "copies") 1 most_leaf_lines
-  ∷ up_to most_leaf_lines (needed (new_rule (codes "dir")))
-  ∷ [])
+    number_rule (codes "rows") 1 most_tablet_rows
+    ∷ number_rule (codes "copies") 1 most_leaf_lines
+    ∷ up_to most_leaf_lines (needed (new_rule (codes "dir")))
+    ∷ [])
 
 -- its values, where all are there; clap takes no more directories than there may be
 abbrev pub with_directories : List Row → Text → Text → List Text → LoadWords

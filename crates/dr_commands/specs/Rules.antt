@@ -1,5 +1,5 @@
 -- The parts of a command line's definition, as clap's own data.
-use Rattle.std.specs.Prelude.{◌≡◌, ℕ, ⊤, true, List, ◌∷◌, [], Option, Some, None, Result, Ok, Err, fold}
+use Rattle.std.specs.Prelude.{◌≡◌, ℕ, ⊤, true, List, Option, Some, None, Result, Ok, Err, fold}
 use Rattle.clap.specs.Lexer.{usize_max}
 use Rattle.clap.specs.Words.{App, Rule, Text, new_app, new_rule, with_rule}
 use Rattle.dr_commands.specs.declared.words_fault.WordsFault.{WordsFault}

@@ -1,14 +1,12 @@
 -- The copies of one tablet, tried one after another.
-use Rattle.std.proofs.Common.{◌≡◌, ◌<◌, ◌≤◌, ℕ, zero, suc, ◌+◌, ◌^◌, List, [], ◌∷◌, ◌++◌, length, map, Bool, true, false, Option, Some, None, refl, sym, ap, ◌∙◌, subst, inl, inr, add-one, true≢false, arith}
-use Rattle.std.specs.Prelude.{◌⊎◌, IsTrue, IsSome, min, ⊤, Result, Ok, Err}
+use Rattle.std.proofs.Common.{◌≡◌, ◌<◌, ◌≤◌, ℕ, zero, suc, ◌+◌, List, [], ◌∷◌, ◌++◌, length, map, true, false, Option, Some, None, refl, sym, ap, ◌∙◌, subst, inl, inr, add-one, true≢false, arith}
+use Rattle.std.specs.Prelude.{IsTrue, IsSome, Result, Err}
 use Rattle.std.proofs.Common.{Vec, Global}
 use Rattle.dr_nested.specs.declared.record.Node as code
-use Rattle.std.specs.List.{list_all}
 use Rattle.dr_meaning.specs.Schema.{Schema}
 use Rattle.dr_meaning.specs.Path.{Leaf}
 use Rattle.dr_meaning.specs.Record.{Node, is_record}
-use Rattle.dr_formats.specs.File.{IsFileOf}
-use Rattle.dr_formats.specs.Tablets.{placement, tablet_path, nth_directory}
+use Rattle.dr_formats.specs.Tablets.{placement}
 use Rattle.dr_outside.specs.Faults.{raised, Rose}
 use Rattle.dr_outside.specs.Link.{Files, LinkShown, Holds, Lacks}
 use Rattle.dr_outside.specs.declared.cause.Cause.{Cause}
@@ -20,7 +18,7 @@ use Rattle.dr_serving.specs.Held.{held_at, held_file}
 use Rattle.dr_serving.specs.Causes.{IsJustified, RisesApart}
 use Rattle.dr_serving.specs.ServingLaws.{is_read}
 use Rattle.dr_reading.specs.Scan.{Copy, copy_in, copies_from}
-use Rattle.dr_reading.specs.Given.{IsFileThere, SomeIsFile, IsGiven}
+use Rattle.dr_reading.specs.Given.{IsFileThere, SomeIsFile}
 use Rattle.dr_reading.specs.Left.{Tried, IsCauseAt, AreTried}
 use Rattle.dr_tablets.specs.Tablets.{AreGivenBy}
 

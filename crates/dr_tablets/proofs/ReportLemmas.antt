@@ -69,10 +69,9 @@ pub told_there : (first now : Bool) (start old new : List ℕ) (ts us : List Tri
 told_there first now start old new ts us t d e b o n w =
     let f : in_directory us d ≡ in_directory ts d ++ t ∷ [] = ap (λ x. in_directory x d) e ∙ one_more true ts t d (eq-eqb t.directory d b) in
     let g : leaves_text first (in_directory us d) ≡ leaves_text first (in_directory ts d) ++ tried_text (still first (in_directory ts d)) t =
-    ap (leaves_text first) f ∙ (leaves_append first (in_directory ts d) (t ∷ []) ∙ ap (λ x. leaves_text first (in_directory ts d) ++ x) (append-nil (tried_text (still first (in_directory ts d)) t))) in
-    (
+    ap (leaves_text first) f ∙ (leaves_append first (in_directory ts d) (t ∷ []) ∙ ap (λ x. leaves_text first (in_directory ts d) ++ x) (append-nil (tried_text (still first (in_directory ts d)) t))) in (
       w ∙ (ap (λ x. x ++ tried_text now t) o ∙ (append_assoc start (leaves_text first (in_directory ts d)) (tried_text now t)
-      ∙ ap (λ x. start ++ x) (ap (λ x. leaves_text first (in_directory ts d) ++ tried_text x t) n ∙ sym g))),
+          ∙ ap (λ x. start ++ x) (ap (λ x. leaves_text first (in_directory ts d) ++ tried_text x t) n ∙ sym g))),
       sym (ap (still first) f ∙ still_append first (in_directory ts d) (t ∷ [])),
     )
 
@@ -99,10 +98,9 @@ pub next_directory : (first now : Bool) (start old new : List ℕ) (ts : List Tr
     → (new ≡ start ++ leaves_text true (flat_map (in_directory ts) (range_with_len 0 (d + 1)))) × (now ≡ still true (flat_map (in_directory ts) (range_with_len 0 (d + 1))))
 next_directory first now start old new ts d o f w n =
     let before : List Tried = flat_map (in_directory ts) (range_with_len 0 d) in
-    let here : List Tried = in_directory ts d in
-    (
+    let here : List Tried = in_directory ts d in (
       w ∙ (ap (λ x. x ++ leaves_text first here) o ∙ (append_assoc start (leaves_text true before) (leaves_text first here)
-      ∙ ap (λ x. start ++ x) (ap (λ x. leaves_text true before ++ leaves_text x here) f ∙ (sym (leaves_append true before here) ∙ ap (leaves_text true) (sym (directories_more ts d)))))),
+          ∙ ap (λ x. start ++ x) (ap (λ x. leaves_text true before ++ leaves_text x here) f ∙ (sym (leaves_append true before here) ∙ ap (leaves_text true) (sym (directories_more ts d)))))),
       n ∙ (ap (λ x. still x here) f ∙ (sym (still_append true before here) ∙ ap (still true) (sym (directories_more ts d)))),
     )
 

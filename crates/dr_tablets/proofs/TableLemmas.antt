@@ -1,7 +1,6 @@
 -- The tablets of a table, read one after another.
-use Rattle.std.proofs.Common.{◌≡◌, ◌≤◌, ℕ, zero, suc, ◌+◌, List, [], ◌∷◌, ◌++◌, length, map, Option, Some, None, refl, sym, ap, ap₂, ◌∙◌, subst, add-one, append_assoc, append-nil, arith}
+use Rattle.std.proofs.Common.{◌≡◌, ◌≤◌, ℕ, zero, suc, ◌+◌, List, [], ◌∷◌, ◌++◌, length, map, Option, refl, sym, ap, ◌∙◌, subst, add-one, append_assoc, append-nil, arith}
 use Rattle.std.specs.Prelude.{IsTrue}
-use Rattle.std.specs.List.{flat_map}
 use Rattle.std.proofs.lemmas.List.{map-append}
 use Rattle.dr_meaning.specs.Schema.{Schema}
 use Rattle.dr_meaning.specs.Path.{Leaf}
@@ -11,10 +10,9 @@ use Rattle.dr_outside.specs.declared.cause.Cause.{Cause}
 use Rattle.dr_records.specs.FileRecords.{paths_of_leaves}
 use Rattle.dr_serving.specs.Held.{held_at}
 use Rattle.dr_serving.specs.Causes.{IsJustified, RisesApart}
-use Rattle.dr_serving.specs.ServingLaws.{is_read}
 use Rattle.dr_reading.specs.Scan.{Copy, copies_from, tablets_from, joined}
 use Rattle.dr_reading.specs.Given.{IsGiven, AreGiven}
-use Rattle.dr_reading.specs.Left.{Tried, LeftTablet, IsCauseAt, AreTried, LeavesJust, no_tablets, is_given, is_left, causes_of, causes_met}
+use Rattle.dr_reading.specs.Left.{Tried, LeftTablet, AreTried, LeavesJust, no_tablets, is_given, is_left, causes_of, causes_met}
 use Rattle.dr_assemble.specs.Views.{nodes_view}
 use Rattle.dr_tablets.specs.Views.{all_tried_view, all_left_view}
 use Rattle.dr_tablets.specs.declared.left.LeftTablet as code
@@ -110,8 +108,7 @@ pub takes_more : {T : Type 0} (has : T → List Node → Type 0) (s : Schema) (F
 takes_more has s F held now ds k n P before middle after e h g takes =
     let here : IsGiven s F held (copies_from ds n 0 k) g.0 = subst (λ (x : Option Files). IsGiven s F x (copies_from ds n 0 k) g.0) e g.1 in
     let all : map (project (paths_of_leaves F)) (joined (h.0 ++ g.0 ∷ [])) ≡ map (project (paths_of_leaves F)) (joined h.0) ++ P =
-    ap (map (project (paths_of_leaves F))) (joined_more h.0 g.0) ∙ (map-append (project (paths_of_leaves F)) (joined h.0) g.0 ∙ ap (λ x. map (project (paths_of_leaves F)) (joined h.0) ++ x) (sym g.2)) in
-    (
+    ap (map (project (paths_of_leaves F))) (joined_more h.0 g.0) ∙ (map-append (project (paths_of_leaves F)) (joined h.0) g.0 ∙ ap (λ x. map (project (paths_of_leaves F)) (joined h.0) ++ x) (sym g.2)) in (
       h.0 ++ g.0 ∷ [],
       subst (λ (ts : List (List Copy)). AreGiven s F held ts (h.0 ++ g.0 ∷ [])) (sym (tablets_next ds k n)) (given_next s F held (tablets_from ds k 0 n) h.0 (copies_from ds n 0 k) g.0 h.1 here),
       λ taken w. subst (λ (x : List Node). has after (taken ++ x)) (sym all) (subst (has after) (append_assoc taken (map (project (paths_of_leaves F)) (joined h.0)) P) (takes _ (h.2 taken w))),

@@ -1,5 +1,5 @@
-use Rattle.std.proofs.Common.{rules, ◌≡◌, ◌∙◌, sym, ap, Some, None, option_map, Option, Bor}
-use Rattle.clap.specs.Words.{Text, found_of, first_of, rows_of}
+use Rattle.std.proofs.Common.{◌∙◌, sym, ap, option_map, Bor}
+use Rattle.clap.specs.Words.{Text, found_of}
 use Rattle.clap.proofs.WalkLemmas.{first_value-rows}
 use Rattle.dr_commands.specs.Numbers.{number_in}
 use Rattle.dr_commands.proofs.arguments.number_of.Goals as goal

@@ -1,4 +1,4 @@
-use Rattle.std.proofs.Common.{◌≡◌, sym, arith}
+use Rattle.std.proofs.Common.{sym, arith}
 use Rattle.dr_commands.proofs.NumberLemmas.{number_is, not_in_bounds}
 use Rattle.dr_commands.proofs.arguments.number_or.Goals as goal
 

@@ -1,4 +1,4 @@
-use Rattle.std.proofs.Common.{rules, ◌≡◌, ◌∙◌, List, ℕ, sym, ap, map, Some, string_bytes, option_map, Bor}
+use Rattle.std.proofs.Common.{◌∙◌, List, sym, ap, map, Some, option_map, Bor}
 use Rattle.clap.specs.Words.{Text, found_of}
 use Rattle.clap.proofs.WalkLemmas.{raw_values-rows}
 use Rattle.dr_commands.proofs.arguments.values_of.Goals as goal

@@ -1,4 +1,4 @@
-use Rattle.std.proofs.Common.{◌≡◌, ◌∙◌, sym, ap, map, take, string_bytes}
+use Rattle.std.proofs.Common.{◌∙◌, sym, ap, map, string_bytes}
 use Rattle.std.proofs.lemmas.List.{take-map}
 use Rattle.clap.specs.Words.{found_of, rows_of}
 use Rattle.dr_commands.proofs.LoadLemmas.{load_words_are, words_same}

@@ -1,11 +1,9 @@
-use Rattle.std.proofs.Common.{◌≡◌, ◌≤◌, ℕ, List, [], ◌∷◌, ◌++◌, map, true, false, refl, sym, ap, subst, ◌∙◌, arith}
-use Rattle.std.proofs.lemmas.List.{map-append}
+use Rattle.std.proofs.Common.{[], map, refl, sym, ap, subst, ◌∙◌, arith}
 use Rattle.dr_nested.specs.SchemaView.{schema_view}
 use Rattle.dr_nested.specs.PathView.{path_view}
 use Rattle.dr_table.specs.Views.{table_view}
-use Rattle.dr_reading.specs.Scan.{tablets_from}
 use Rattle.dr_reading.specs.Left.{LeavesJust, no_tablets, causes_met}
-use Rattle.dr_tablets.specs.Views.{left_view, all_left_view, all_tried_view}
+use Rattle.dr_tablets.specs.Views.{all_left_view}
 use Rattle.dr_tablets.proofs.TableLemmas.{takes_none, step_left, step_taken, step_rises, no_items}
 use Rattle.dr_tablets.proofs.reading.read_table.Goals as goal
 
@@ -13,8 +11,7 @@ pub tablets-init : goal.tablets-init
 tablets-init g c =
     let s = schema_view c.args.table.now.schema in
     let F = map path_view c.args.fields.now in
-    let link = g.L.Link.shows c.args.link.now in
-    (
+    let link = g.L.Link.shows c.args.link.now in (
       subst (λ ls. LeavesJust s F link 0 [] (all_left_view ls)) (sym c.new-left.ensures.items) (no_tablets 0),
       λ e. takes_none g.T.Taker.has s F link.held c.args.taker.now,
       subst (λ ls. Rattle.dr_serving.specs.Causes.RisesApart link.faults (causes_met (all_left_view ls)) link.faults) (sym c.new-left.ensures.items) (omega arith),
@@ -32,8 +29,7 @@ tablets-preserved g c =
     let now = g.L.Link.shows c.tablets.link in
     let n = c.tablets.tablet in
     let read = c.in_ok-read.read in
-    let more = c.in_ok-keep.ensures.left in
-    (
+    let more = c.in_ok-keep.ensures.left in (
       step_left s F link now ds k n read _ _ c.tablets.invariant.3 c.tablets.invariant.4 c.tablets.invariant.0 c.in_ok-read.ensures.read more,
       λ e. step_taken g.T.Taker.has s F link.held now ds k n read (all_left_view c.tablets.left.items) _ c.args.taker.now c.tablets.taker c.keep.new.taker c.tablets.invariant.3
           (λ w. c.tablets.invariant.1 (no_items c.tablets.left.items w)) c.in_ok-read.ensures.read more (ap all_left_view e) (c.in_ok-keep.ensures.taken e),

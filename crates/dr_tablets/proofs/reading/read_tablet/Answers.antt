@@ -1,4 +1,4 @@
-use Rattle.std.proofs.Common.{◌≡◌, ◌<◌, ◌≤◌, ℕ, List, [], ◌∷◌, ◌++◌, length, map, false, true, Option, Ok, Err, refl, sym, ap, subst, ◌∙◌, true≢false, arith, string_bytes}
+use Rattle.std.proofs.Common.{◌≡◌, ℕ, List, [], ◌∷◌, ◌++◌, length, map, false, true, Option, sym, ap, subst, ◌∙◌, arith}
 use Rattle.std.proofs.lemmas.List.{map-append}
 use Rattle.dr_nested.specs.SchemaView.{schema_view}
 use Rattle.dr_nested.specs.PathView.{path_view}
@@ -50,8 +50,7 @@ copies-preserved g c =
     (λ bytes tells. subst (IsFaultOf bytes s F) c.in-Err-Why.field-0-is (c.in-Err-Why.ensures.cause bytes (subst (λ (h : Option Files). TellsFile h path bytes) (sym c.copies.invariant.2) tells)))
     (λ lacks. subst (λ (f : FileFault). is_link_fault f ≡ true) c.in-Err-Why.field-0-is (c.in-Err-Why.ensures.absent (subst (λ (h : Option Files). Lacks h path) (sym c.copies.invariant.2) lacks) (λ e. no_memory c.in-Err-Why.field-0 c.in-Err-Why.cause c.in-Err-Why.field-0-is e)))
     (λ bytes is tells. subst (λ (f : FileFault). is_link_fault f ≡ false) c.in-Err-Why.field-0-is (c.in-Err-Why.ensures.steady bytes (c.copies.invariant.3 is, subst (λ (h : Option Files). TellsFile h path bytes) (sym c.copies.invariant.2) tells))) in
-    let more : all_tried_view c.push.new.self.items ≡ all_tried_view c.copies.tried.items ++ t ∷ [] = ap all_tried_view c.in_ok-push-in-Err-Why.ensures.items ∙ map-append tried_view c.copies.tried.items _ in
-    (
+    let more : all_tried_view c.push.new.self.items ≡ all_tried_view c.copies.tried.items ++ t ∷ [] = ap all_tried_view c.in_ok-push-in-Err-Why.ensures.items ∙ map-append tried_view c.copies.tried.items _ in (
       subst (λ (cs : List Copy). AreTried s F link cs (all_tried_view c.push.new.self.items)) (sym (copies_next ds c.args.tablet c.copies.copy))
           (tried_more s F link (copies_from ds c.args.tablet 0 c.copies.copy) _ _ copy t c.copies.invariant.0 c.placement-directory.ensures.leaf (subst (λ (p : List ℕ). IsCauseAt s F link p c.in-Err-Why.cause) at cause) more),
       rises_more link.faults old new (causes_of (all_tried_view c.copies.tried.items)) _ c.in-Err-Why.cause c.copies.invariant.1 counts calm
