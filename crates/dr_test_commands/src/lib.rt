@@ -11,3 +11,5 @@ mod json_tests;
 mod print_tests;
 #[cfg(test)]
 mod run_tests;
+#[cfg(test)]
+mod table_tests;

@@ -78,7 +78,13 @@ fn ends_so<R>(rt: &R, alloc: Global, row: &Row<'_>) -> Result<bool, Fail> {
     let mut source = MemSource::new(input.as_bytes(), [read].to_vec(alloc)?);
     let mut out = MemSink::narrow(alloc, 4, [write].to_vec(alloc)?);
     let mut err = MemSink::new(alloc, [complaint].to_vec(alloc)?);
-    let mut links: Vec<Shelf> = Vec::new(alloc);
+    let mut links = Vec::new(alloc);
+    for _ in 0..16 {
+        links.push(Shelf::new(alloc, Vec::new(alloc)))?;
+    }
+    if links.len() < 16 {
+        return Err("no links".into());
+    }
     let status = run(
         rt,
         alloc,

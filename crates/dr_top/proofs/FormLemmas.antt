@@ -1,13 +1,13 @@
 -- The record of a line has the form of its schema's records.
 use Rattle.std.specs.Prelude.{◌≡◌, ℕ, List, Bool, true, false, ◌&&◌, ◌||◌, nat_lt, if◌then◌else◌, ℤ, Option, Some, None, Result, Ok, Err}
-use Rattle.std.proofs.Common.{refl, sym, ap, ap₂, ◌∙◌, subst, arith}
+use Rattle.std.proofs.Common.{refl, sym, ap, ap₂, ◌∙◌}
 use Rattle.std.specs.Str.{is_utf8}
 use Rattle.serde_json.specs.Data.{Data, Items, no_items, item, Members}
 use Rattle.serde_json.specs.Find.{get_member, as_bool, as_str, as_array, as_object}
 use Rattle.serde_json.specs.Read.{read}
 use Rattle.dr_meaning.specs.Schema.{Repetition, required, optional, repeated, Kind, bool_kind, int32_kind, int64_kind, text_kind, Fields, no_fields, field, Shape, leaf, group, field_names}
 use Rattle.dr_meaning.specs.Record.{Value, bool_value, int_value, text_value, Node, no_slots, slot, Instances, no_instances, instance, Instance, atom, inner, in_int32, in_int64, count_instances, all_instances, fits_repetition, instance_count, text_bytes}
-use Rattle.dr_meaning.specs.JsonRecord.{RecordFault, not_json, unknown_field, out_of_range, null_element, too_large, after, then_give, of_bool, of_text, of_integer, integer_of, leaf_value, is_null, given, are_known, each_element, list_elements, field_instances, object_node, slots_of, instance_of, most_instances, most_text_bytes, node_within_limits, within_limits, record_of_value, of_reading, record_of_line}
+use Rattle.dr_meaning.specs.JsonRecord.{RecordFault, not_json, unknown_field, out_of_range, null_element, too_large, after, then_give, of_bool, of_text, of_integer, integer_of, leaf_value, is_null, given, are_known, each_element, list_elements, field_instances, object_node, slots_of, instance_of, most_instances, most_text_bytes, within_limits, record_of_value, of_reading, record_of_line}
 use Rattle.dr_levels.specs.Columns.{is_held}
 use Rattle.dr_striper.specs.Leaves.{has_fields, has_shape}
 

@@ -1,19 +1,15 @@
 -- The answer of `fsm`, from its steps.
-use Rattle.std.specs.Prelude.{◌≡◌, ℕ, List, [], ◌∷◌, map, string_bytes, Option, Some, None, Result, Ok, Err}
+use Rattle.std.specs.Prelude.{◌≡◌, ℕ, List, [], Option, Some, None, Result, Ok, Err}
 use Rattle.std.proofs.Common.{refl, sym, ap, ◌∙◌, subst}
 use Rattle.dr_meaning.specs.Schema.{Schema}
 use Rattle.dr_meaning.specs.SchemaText.{SchemaFault, parse_schema}
-use Rattle.dr_meaning.specs.Record.{Node}
-use Rattle.dr_meaning.specs.Lines as line
-use Rattle.dr_meaning.specs.Refusals.{CommandRefusal, schema_refused, field_refused, query_refused, line_refused}
+use Rattle.dr_meaning.specs.Refusals.{CommandRefusal, field_refused}
 use Rattle.dr_outside.specs.Source.{SourceShown}
 use Rattle.dr_outside.specs.Link.{Files, LinkShown}
-use Rattle.dr_commands.specs.Meaning.{Look, Outcome, plain, done, refused, IsEarly}
-use Rattle.dr_top.specs.World.{WhereTold, EndsAlone, IsOpened}
-use Rattle.dr_top.specs.Stops.{StopsWith, InputStops, IsFileSchema, IsRefusedLine, input_stop, line_problem_view, refusal_view}
+use Rattle.dr_commands.specs.Meaning.{Look, plain, done}
+use Rattle.dr_top.specs.World.{WhereTold, HasOutcome}
+use Rattle.dr_top.specs.Stops.{StopsPlain, IsFileSchema}
 use Rattle.dr_top.specs.declared.refusal.Refusal.{Refusal}
-use Rattle.dr_top.specs.declared.input_records.InputFault.{InputFault}
-use Rattle.dr_top.specs.declared.stop.Stop.{Stop}
 use Rattle.dr_top.proofs.OutcomeLemmas.{RefusesSchema, early_stop}
 use Rattle.dr_meaning.specs.Path.{Leaf}
 use Rattle.dr_meaning.specs.Fsm.{fsm, fsm_schema, fsm_named, fsm_leaves, named_leaves}
@@ -40,12 +36,12 @@ named_ends w (Some fs) path texts s r p t f h = (
 )
 
 pub fsm_field_stops : (w : FsmWords) (k k1 : LinkShown) (i : SourceShown) (path : List ℕ) (texts : List (List ℕ)) (s : Schema) (fault : FieldFault) → path ≡ w.schema → texts ≡ w.fields → IsFileSchema k.held path s → k1.faults ≡ k.faults
-    → FieldStops (named_leaves s.fields [] 0 texts) fault → StopsWith (fsm_meaning w) k k1 i i (field_stop fault)
+    → FieldStops (named_leaves s.fields [] 0 texts) fault → StopsPlain (fsm_meaning w) k k1 i i (field_stop fault)
 fsm_field_stops w k k1 i path texts s FieldFault.NoMemory p t f c h = (c, refl)
 fsm_field_stops w k k1 i path texts s (FieldFault.Refused n x) p t f c h =
-    early_stop (fsm_meaning w) k k1 i (Refusal.Field n x) c (named_ends w k.held path texts s (Err (field_refused n (path_problem_view x))) p t f h)
+    early_stop (fsm_meaning w) w.schema k k1 i (Refusal.Field n x) refl c (named_ends w k.held path texts s (Err (field_refused n (path_problem_view x))) p t f h)
 
 pub fsm_ends : (w : FsmWords) (k : LinkShown) (i : SourceShown) (path out : List ℕ) (texts : List (List ℕ)) (s : Schema) (ls : List Leaf) → path ≡ w.schema → texts ≡ w.fields → IsFileSchema k.held path s
-    → named_leaves s.fields [] 0 texts ≡ Ok ls → out ≡ fsm_leaves s.fields ls → EndsAlone (fsm_meaning w) k i (done out [])
+    → named_leaves s.fields [] 0 texts ≡ Ok ls → out ≡ fsm_leaves s.fields ls → HasOutcome (fsm_meaning w) k i (done out [])
 fsm_ends w k i path out texts s ls p t f n o =
-    subst (λ (x : List ℕ). EndsAlone (fsm_meaning w) k i (done x [])) (sym o) (always_ends (fsm_meaning w) k i (done (fsm_leaves s.fields ls) []) (named_ends w k.held path texts s (Ok ls) p t f n))
+    subst (λ (x : List ℕ). HasOutcome (fsm_meaning w) k i (done x [])) (sym o) (always_ends (fsm_meaning w) w.schema k i (done (fsm_leaves s.fields ls) []) refl (named_ends w k.held path texts s (Ok ls) p t f n))

@@ -1,5 +1,5 @@
 -- Reading records line by line.
-use Rattle.std.specs.Prelude.{◌≡◌, ℕ, zero, suc, ◌+◌, ◌<◌, ◌≤◌, List, [], ◌∷◌, ◌++◌, length, Bool, true, false, nat_lt, Option, Some, None, IfSome, IfNone, Result, Ok, Err, ⊤}
+use Rattle.std.specs.Prelude.{◌≡◌, ℕ, suc, ◌+◌, ◌<◌, ◌≤◌, List, [], ◌∷◌, ◌++◌, length, true, false, nat_lt, Option, Some, None, IfSome, IfNone, Result, Ok, Err}
 use Rattle.std.proofs.Common.{arith, refl, sym, ap, ◌∙◌, add-one, subst}
 use Rattle.std.proofs.lemmas.Bool.Decides.{nat_tests}
 use Rattle.dr_meaning.specs.Schema.{Fields}

@@ -1,4 +1,5 @@
--- the keeper and the schema's file
+-- the keeper's files: the schema's and the table's
+pub mod KeeperFileLemmas
 pub mod SchemaFileLemmas
 -- reading the records of the input
 pub mod InputLemmas
@@ -12,5 +13,8 @@ pub mod StripeLemmas
 pub mod StripeEnds
 pub mod FsmLemmas
 pub mod FsmEnds
+pub mod LoadEnds
+pub mod DumpEnds
+pub mod SchemaEnds
 -- the ends of a run
 pub mod RunLemmas

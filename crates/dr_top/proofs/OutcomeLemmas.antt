@@ -1,19 +1,26 @@
 -- Outcomes of commands, and what their steps say of them.
-use Rattle.std.specs.Prelude.{◌≡◌, ◌<◌, ℕ, Bool, true, false, List, [], length, Option, Some, None, Result, Ok, Err, IsErrAnd, IfErr, ⊤}
-use Rattle.std.proofs.Common.{refl, sym, ap, ◌∙◌, subst}
+use Rattle.std.specs.Prelude.{◌≡◌, ℕ, Bool, true, false, List, [], Option, Some, None, Result, Ok, Err, IsErrAnd, IfOk, IfErr, String, string_bytes}
+use Rattle.std.specs.declared.alloc.Global.{Global}
+use Rattle.std.proofs.Common.{refl, sym, ap, ◌∙◌, subst, inl}
 use Rattle.dr_meaning.specs.SchemaText.{SchemaFault, parse_schema}
-use Rattle.dr_meaning.specs.Path.{Leaf, PathFault}
-use Rattle.dr_meaning.specs.Refusals.{CommandRefusal, schema_refused, field_refused}
-use Rattle.dr_nested.specs.Faults.{problem_view, path_problem_view}
+use Rattle.dr_formats.specs.Loading.{Put}
+use Rattle.dr_formats.specs.TableFile.{TableFault as TableProblem, parse_table}
+use Rattle.dr_nested.specs.Faults.{problem_view}
+use Rattle.dr_table.specs.Faults.{problem_view as table_problem_view}
+use Rattle.dr_load.specs.Puts.{HasPut, HasPutSome}
 use Rattle.dr_outside.specs.Source.{SourceShown}
 use Rattle.dr_outside.specs.Link.{Files, LinkShown}
-use Rattle.dr_commands.specs.Meaning.{Look, Meaning, Outcome, refused, IsEarly}
-use Rattle.dr_top.specs.World.{WhereTold, WhereUsed, EndsAlone, IsOpened, files_of}
-use Rattle.dr_top.specs.Stops.{SchemaFileStops, FieldStops, StopsWith, IsRefusedSchema, schema_file_stop, field_stop, refusal_view}
+use Rattle.dr_commands.specs.Refusals.{schema_refused, table_refused}
+use Rattle.dr_commands.specs.Meaning.{Look, Meaning, Outcome, done, refused, puts_in}
+use Rattle.dr_top.specs.World.{WhereTold, WhereUsed, WhereFile, WithOutcome, ForOutcome, HasOutcome}
+use Rattle.dr_top.specs.Answers.{Gives, Finishes}
+use Rattle.dr_top.specs.Stops.{SchemaFileStops, TableFileStops, StopsPlain, StopsWith, PutsSome, IsRefusedSchema, IsRefusedTable, IsRefusedSo, schema_file_stop, table_file_stop, refusal_view}
 use Rattle.dr_top.specs.declared.refusal.Refusal.{Refusal}
 use Rattle.dr_top.specs.declared.schema_file.SchemaFileFault.{SchemaFileFault}
-use Rattle.dr_top.specs.declared.field.FieldFault.{FieldFault}
+use Rattle.dr_top.specs.declared.table_file.TableFileFault.{TableFileFault}
 use Rattle.dr_top.specs.declared.stop.Stop.{Stop}
+
+-- ---- what holds of the outcome
 
 -- what holds of all holds where it is used
 used_of_all : {A : Type 0} (b : Bool) (unused : A) (told : Option A) (P : A → Type 0) → ((a : A) → P a) → WhereUsed b unused told P
@@ -21,24 +28,96 @@ used_of_all false unused told P h = h unused
 used_of_all true unused None P h = tt
 used_of_all true unused (Some a) P h = h a
 
--- the outcome whatever the input and the links
-abbrev pub AlwaysEnds : Meaning → LinkShown → Outcome → Type 0
-AlwaysEnds m keeper o = WhereTold keeper.held (λ fs. (file : List ℕ) × (fs m.file ≡ Some file) × ((look : Look) → look.file ≡ file → m.outcome look ≡ o))
+file_of_all : (f : Option (List ℕ)) (held : Option Files) (P : (List ℕ → Type 0) → Type 0) → ((IsIt : List ℕ → Type 0) → P IsIt) → WhereFile f held P
+file_of_all None held P h = h _
+file_of_all (Some path) None P h = tt
+file_of_all (Some path) (Some fs) P h = h _
 
-ends_in : (m : Meaning) (held : Option Files) (left : Option (List ℕ)) (links : Option (List Files)) (o : Outcome)
-    → WhereTold held (λ fs. (file : List ℕ) × (fs m.file ≡ Some file) × ((look : Look) → look.file ≡ file → m.outcome look ≡ o))
-    → WhereTold held (λ fs. WhereUsed m.reads_input [] left (λ bytes. WhereUsed m.reads_links [] links (λ ls. (file : List ℕ) × (fs m.file ≡ Some file) × (m.outcome (record { file = file; input = bytes; links = ls }) ≡ o))))
-ends_in m None left links o h = tt
-ends_in m (Some fs) left links o h =
-    used_of_all m.reads_input [] left _ (λ bytes. used_of_all m.reads_links [] links _ (λ ls. (h.0, h.1, h.2 (record { file = h.0; input = bytes; links = ls }) refl)))
+weaker_used : {A : Type 0} (b : Bool) (unused : A) (told : Option A) (P Q : A → Type 0) → ((a : A) → P a → Q a) → WhereUsed b unused told P → WhereUsed b unused told Q
+weaker_used false unused told P Q w h = w unused h
+weaker_used true unused None P Q w h = tt
+weaker_used true unused (Some a) P Q w h = w a h
 
-pub always_ends : (m : Meaning) (keeper : LinkShown) (input : SourceShown) (o : Outcome) → AlwaysEnds m keeper o → EndsAlone m keeper input o
-always_ends m keeper input o h = λ links. ends_in m keeper.held input.left (files_of links) o h
+weaker_file : (f : Option (List ℕ)) (held : Option Files) (P Q : (List ℕ → Type 0) → Type 0) → ((IsIt : List ℕ → Type 0) → P IsIt → Q IsIt) → WhereFile f held P → WhereFile f held Q
+weaker_file None held P Q w h = w _ h
+weaker_file (Some path) None P Q w h = tt
+weaker_file (Some path) (Some fs) P Q w h = w _ h
+
+-- what follows from what holds of the outcome holds of it
+pub weaker : (m : Meaning) (k : LinkShown) (i : SourceShown) (P Q : Outcome → Type 0) → ((o : Outcome) → P o → Q o) → WithOutcome m k i P → WithOutcome m k i Q
+weaker m k i P Q w h = weaker_file m.file k.held _ _ (λ IsIt. weaker_used m.reads_input [] i.left _ _ (λ bytes g. (g.0, g.1, w (m.outcome (record { file = g.0; input = bytes })) g.2))) h
+
+-- what holds of each outcome holds of that
+pub of_each : (m : Meaning) (k : LinkShown) (i : SourceShown) (P : Outcome → Type 0) → ((o : Outcome) → P o) → ForOutcome m k i P
+of_each m k i P h = file_of_all m.file k.held _ (λ IsIt. used_of_all m.reads_input [] i.left _ (λ bytes file is. h (m.outcome (record { file = file; input = bytes }))))
+
+-- the outcome whatever the input
+abbrev pub AlwaysEnds : List ℕ → Meaning → LinkShown → (Outcome → Type 0) → Type 0
+AlwaysEnds path m keeper P = WhereTold keeper.held (λ fs. (file : List ℕ) × (fs path ≡ Some file) × ((look : Look) → look.file ≡ file → P (m.outcome look)))
+
+ends_in : (m : Meaning) (path : List ℕ) (held : Option Files) (left : Option (List ℕ)) (P : Outcome → Type 0)
+    → WhereTold held (λ fs. (file : List ℕ) × (fs path ≡ Some file) × ((look : Look) → look.file ≡ file → P (m.outcome look)))
+    → WhereTold held (λ fs. WhereUsed m.reads_input [] left (λ bytes. (file : List ℕ) × (fs path ≡ Some file) × P (m.outcome (record { file = file; input = bytes }))))
+ends_in m path None left P h = tt
+ends_in m path (Some fs) left P h = used_of_all m.reads_input [] left _ (λ bytes. (h.0, h.1, h.2 (record { file = h.0; input = bytes }) refl))
+
+pub always_with : (m : Meaning) (path : List ℕ) (keeper : LinkShown) (input : SourceShown) (P : Outcome → Type 0) → m.file ≡ Some path → AlwaysEnds path m keeper P → WithOutcome m keeper input P
+always_with m path keeper input P p h =
+    subst (λ (f : Option (List ℕ)). WhereFile f keeper.held (λ IsIt. WhereUsed m.reads_input [] input.left (λ bytes. (file : List ℕ) × IsIt file × P (m.outcome (record { file = file; input = bytes }))))) (sym p)
+    (ends_in m path keeper.held input.left P h)
+
+pub always_ends : (m : Meaning) (path : List ℕ) (keeper : LinkShown) (input : SourceShown) (o : Outcome) → m.file ≡ Some path → AlwaysEnds path m keeper (λ x. x ≡ o) → HasOutcome m keeper input o
+always_ends m path keeper input o p h = always_with m path keeper input (λ x. x ≡ o) p h
 
 -- an early refusal is a stop, of an input that stays
-pub early_stop : (m : Meaning) (keeper keeper_now : LinkShown) (input : SourceShown) (r : Refusal) → keeper_now.faults ≡ keeper.faults → AlwaysEnds m keeper (refused (refusal_view r) [])
-    → StopsWith m keeper keeper_now input input (Stop.Refused r)
-early_stop m keeper keeper_now input r calm h = (calm, refl, always_ends m keeper input (refused (refusal_view r) []) h, λ _. refl)
+pub early_stop : (m : Meaning) (path : List ℕ) (keeper keeper_now : LinkShown) (input : SourceShown) (r : Refusal) → m.file ≡ Some path → keeper_now.faults ≡ keeper.faults → AlwaysEnds path m keeper (λ x. x ≡ refused (refusal_view r) [])
+    → StopsPlain m keeper keeper_now input input (Stop.Refused r)
+early_stop m path keeper keeper_now input r p calm h = (calm, refl, always_ends m path keeper input (refused (refusal_view r) []) p h, λ _. refl)
+
+-- ---- what puts nothing
+
+pub put_none : (held now : Option Files) → now ≡ held → HasPut [] held now
+put_none None now e = tt
+put_none (Some fs) now e = subst (λ (x : Option Files). HasPut [] (Some fs) x) (sym e) (λ path. refl)
+
+pub put_nothing : (m : Meaning) (k k1 : LinkShown) (i : SourceShown) → k1.held ≡ k.held → PutsSome m k k1 i
+put_nothing m k k1 i e = of_each m k i (λ o. HasPutSome (puts_in o) k.held k1.held) (λ o. ([], puts_in o, refl, put_none k.held k1.held e))
+
+pub plain_finishes : (m : Meaning) (k k1 : LinkShown) (i : SourceShown) (ls : List LinkShown) (text : List ℕ) → k1.held ≡ k.held → HasOutcome m k i (done text []) → Finishes m k k1 i ls text
+plain_finishes m k k1 i ls text e h =
+    weaker m k i (λ o. o ≡ done text []) (Gives k k1 ls text) (λ o is. subst (Gives k k1 ls text) (sym is) (refl, put_none k.held k1.held e)) h
+
+pub plain_answer : {E : Type 0} (m : Meaning) (k k1 : LinkShown) (i : SourceShown) (ls : List LinkShown) (r : Result (String Global) E) → k1.held ≡ k.held → IfOk r (λ t. HasOutcome m k i (done (string_bytes t) []))
+    → IfOk r (λ t. Finishes m k k1 i ls (string_bytes t))
+plain_answer m k k1 i ls (Ok t) e h = plain_finishes m k k1 i ls (string_bytes t) e h
+plain_answer m k k1 i ls (Err x) e h = tt
+
+pub plain_stop : (m : Meaning) (k k1 : LinkShown) (i i1 : SourceShown) (ls : List LinkShown) (stop : Stop) → k1.held ≡ k.held → StopsPlain m k k1 i i1 stop → StopsWith m k k1 i i1 ls ls stop
+plain_stop m k k1 i i1 ls Stop.Usage e h = absurd h
+plain_stop m k k1 i i1 ls Stop.NoMemory e h = (h.0, h.1, inl (put_nothing m k k1 i e))
+plain_stop m k k1 i i1 ls Stop.Keeper e h = (h.0, ap (λ (x : SourceShown). x.faults) h.1, refl, inl (h.1, e))
+plain_stop m k k1 i i1 ls Stop.Source e h = (h.0, h.1, refl, h.2, put_nothing m k k1 i e)
+plain_stop m k k1 i i1 ls (Stop.Refused r) e h = (
+  h.0,
+  h.1,
+  refl,
+  weaker m k i (λ o. o ≡ refused (refusal_view r) []) (IsRefusedSo (refusal_view r) k.held k1.held) (λ o is. ([], is, put_none k.held k1.held e)) h.2,
+  h.3,
+)
+plain_stop m k k1 i i1 ls (Stop.Left left) e h = absurd h
+plain_stop m k k1 i i1 ls (Stop.LeftFile cause) e h = absurd h
+
+pub plain_stops : {A : Type 0} (m : Meaning) (k k1 : LinkShown) (i i1 : SourceShown) (ls : List LinkShown) (r : Result A Stop) → k1.held ≡ k.held → IfErr r (StopsPlain m k k1 i i1) → IfErr r (StopsWith m k k1 i i1 ls ls)
+plain_stops m k k1 i i1 ls (Ok a) e h = tt
+plain_stops m k k1 i i1 ls (Err stop) e h = plain_stop m k k1 i i1 ls stop e h
+
+-- where no outcome puts anything, what holds of the outcome holds with nothing put
+pub also_none : (m : Meaning) (k k1 : LinkShown) (i : SourceShown) (P : Outcome → Type 0) → ((look : Look) → puts_in (m.outcome look) ≡ []) → k1.held ≡ k.held → WithOutcome m k i P → WithOutcome m k i (λ o. P o × HasPut (puts_in o) k.held k1.held)
+also_none m k k1 i P n e h = weaker_file m.file k.held _ _ (λ IsIt. weaker_used m.reads_input [] i.left _ _ (λ bytes g. (
+  g.0,
+  g.1,
+  (g.2, subst (λ (ps : List Put). HasPut ps k.held k1.held) (sym (n (record { file = g.0; input = bytes }))) (put_none k.held k1.held e)),
+))) h
 
 -- ---- the schema's file
 
@@ -46,17 +125,35 @@ early_stop m keeper keeper_now input r calm h = (calm, refl, always_ends m keepe
 abbrev pub RefusesSchema : Meaning → Type 0
 RefusesSchema m = (look : Look) (e : SchemaFault) → parse_schema look.file ≡ Err e → m.outcome look ≡ refused (schema_refused e) []
 
-schema_ends : (m : Meaning) (held : Option Files) (path : List ℕ) (e : SchemaFault) → path ≡ m.file → RefusesSchema m → IsRefusedSchema held path e
-    → WhereTold held (λ fs. (file : List ℕ) × (fs m.file ≡ Some file) × ((look : Look) → look.file ≡ file → m.outcome look ≡ refused (schema_refused e) []))
-schema_ends m None path e p s h = tt
-schema_ends m (Some fs) path e p s h = (h.0, ap fs (sym p) ∙ h.1, λ look is. s look e (ap parse_schema is ∙ h.2))
+schema_ends : (m : Meaning) (held : Option Files) (path : List ℕ) (e : SchemaFault) → RefusesSchema m → IsRefusedSchema held path e
+    → WhereTold held (λ fs. (file : List ℕ) × (fs path ≡ Some file) × ((look : Look) → look.file ≡ file → m.outcome look ≡ refused (schema_refused e) []))
+schema_ends m None path e s h = tt
+schema_ends m (Some fs) path e s h = (h.0, h.1, λ look is. s look e (ap parse_schema is ∙ h.2))
 
-pub schema_file_stops : (m : Meaning) (keeper keeper_now : LinkShown) (input : SourceShown) (path : List ℕ) (fault : SchemaFileFault) → path ≡ m.file → RefusesSchema m → SchemaFileStops path keeper keeper_now fault
-    → StopsWith m keeper keeper_now input input (schema_file_stop fault)
+pub schema_file_stops : (m : Meaning) (keeper keeper_now : LinkShown) (input : SourceShown) (path : List ℕ) (fault : SchemaFileFault) → m.file ≡ Some path → RefusesSchema m → SchemaFileStops path keeper keeper_now fault
+    → StopsPlain m keeper keeper_now input input (schema_file_stop fault)
 schema_file_stops m keeper keeper_now input path SchemaFileFault.NoMemory p s h = (h, refl)
 schema_file_stops m keeper keeper_now input path SchemaFileFault.Keeper p s h = (h, refl)
 schema_file_stops m keeper keeper_now input path (SchemaFileFault.Refused k w) p s h =
-    early_stop m keeper keeper_now input (Refusal.Schema k w) h.0 (schema_ends m keeper.held path (record { place = k; problem = problem_view w }) p s h.1)
+    early_stop m path keeper keeper_now input (Refusal.Schema k w) p h.0 (schema_ends m keeper.held path (record { place = k; problem = problem_view w }) s h.1)
+
+-- ---- the table file
+
+-- a command refuses what its table refuses
+abbrev pub RefusesTable : Meaning → Type 0
+RefusesTable m = (look : Look) (e : TableProblem) → parse_table look.file ≡ Err e → m.outcome look ≡ refused (table_refused e) []
+
+table_ends : (m : Meaning) (held : Option Files) (path : List ℕ) (e : TableProblem) → RefusesTable m → IsRefusedTable held path e
+    → WhereTold held (λ fs. (file : List ℕ) × (fs path ≡ Some file) × ((look : Look) → look.file ≡ file → m.outcome look ≡ refused (table_refused e) []))
+table_ends m None path e s h = tt
+table_ends m (Some fs) path e s h = (h.0, h.1, λ look is. s look e (ap parse_table is ∙ h.2))
+
+pub table_file_stops : (m : Meaning) (keeper keeper_now : LinkShown) (input : SourceShown) (path : List ℕ) (fault : TableFileFault) → m.file ≡ Some path → RefusesTable m → TableFileStops path keeper keeper_now fault
+    → StopsPlain m keeper keeper_now input input (table_file_stop fault)
+table_file_stops m keeper keeper_now input path TableFileFault.NoMemory p s h = (h, refl)
+table_file_stops m keeper keeper_now input path TableFileFault.Keeper p s h = (h, refl)
+table_file_stops m keeper keeper_now input path (TableFileFault.Refused w) p s h =
+    early_stop m path keeper keeper_now input (Refusal.Table w) p h.0 (table_ends m keeper.held path (table_problem_view w) s h.1)
 
 -- ---- what is handed on
 

@@ -1,53 +1,49 @@
--- What the keeper is asked for, and a file that is too long.
-use Rattle.std.specs.Prelude.{◌≡◌, ◌≢◌, ◌<◌, ℕ, List, [], ◌∷◌, ◌++◌, length, Option, Some, None, option_map, Result, Ok, Err}
-use Rattle.std.proofs.Common.{refl, sym, ap, ◌∙◌, append_assoc, append-nil, subst}
-use Rattle.dr_meaning.specs.SchemaText.{too_long}
+-- The schema and the table of a file.
+use Rattle.std.specs.Prelude.{◌≡◌, ◌<◌, ℕ, List, length, Option, Some, None, IfNone, Ok, Err}
+use Rattle.std.proofs.Common.{refl}
+use Rattle.dr_meaning.specs.Schema.{Schema}
+use Rattle.dr_meaning.specs.SchemaText.{SchemaFault, parse_schema, too_long}
+use Rattle.dr_formats.specs.TableFile.{Table, TableFault, parse_table, longest_table, table_too_long}
 use Rattle.dr_nested.proofs.ParseLemmas.{text_is_too_long}
-use Rattle.dr_outside.specs.Link.{Files, LinkShown, Range, Request, size_of, bytes_of, with_request, HasSize}
-use Rattle.dr_outside.specs.declared.fault.Fault.{Fault}
-use Rattle.dr_top.specs.Stops.{AsksForFile, with_requests, IsRefusedSchema}
+use Rattle.std.proofs.lemmas.Bool.{lt-ltb}
+use Rattle.dr_outside.specs.Link.{Files}
+use Rattle.dr_top.specs.KeeperFile.{IsFile, IsLongFile}
+use Rattle.dr_top.specs.Stops.{IsFileSchema, IsRefusedSchema, IsFileTable, IsRefusedTable}
 
-no_more : (o : Option (List Request)) → o ≡ with_requests o []
-no_more None = refl
-no_more (Some rs) = ap (λ (x : List Request). Some x) (sym (append-nil rs))
+-- ---- the schema
 
-two_more : (o : Option (List Request)) (a b : Request) → with_request (with_request o a) b ≡ with_requests o (a ∷ b ∷ [])
-two_more None a b = refl
-two_more (Some rs) a b = ap (λ (x : List Request). Some x) (append_assoc rs (a ∷ []) (b ∷ []))
+pub file_schema : (held : Option Files) (path bytes : List ℕ) (s : Schema) → IsFile held path bytes → parse_schema bytes ≡ Ok s → IsFileSchema held path s
+file_schema None path bytes s h e = tt
+file_schema (Some fs) path bytes s h e = (bytes, h, e)
 
--- nothing was asked for
-pub asks_nothing : (path : List ℕ) (before now : LinkShown) → now.asked ≡ before.asked → AsksForFile path before now
-asks_nothing path before now e = ([], e ∙ no_more before.asked, tt)
+pub refused_schema : (held : Option Files) (path bytes : List ℕ) (f : SchemaFault) → IsFile held path bytes → parse_schema bytes ≡ Err f → IsRefusedSchema held path f
+refused_schema None path bytes f h e = tt
+refused_schema (Some fs) path bytes f h e = (bytes, h, e)
 
--- the length was
-pub asks_length : (path : List ℕ) (before now : LinkShown) → now.asked ≡ with_request before.asked (size_of path) → AsksForFile path before now
-asks_length path before now e = (size_of path ∷ [], e, refl)
+pub long_schema : (held : Option Files) (path : List ℕ) → IsLongFile held path 1048576 → IsRefusedSchema held path (record { place = 1048576; problem = too_long })
+long_schema None path h = tt
+long_schema (Some fs) path h = (h.0, h.1, text_is_too_long h.0 h.2)
 
--- and then the bytes
-pub asks_bytes : (path : List ℕ) (len : ℕ) (before middle now : LinkShown) → middle.asked ≡ with_request before.asked (size_of path)
-    → now.asked ≡ with_request middle.asked (bytes_of (record { path = path; start = 0; len = len })) → AsksForFile path before now
-asks_bytes path len before middle now e f =
-    let r : Request = bytes_of (record { path = path; start = 0; len = len }) in
-    (size_of path ∷ r ∷ [], f ∙ ap (λ (o : Option (List Request)). with_request o r) e ∙ two_more before.asked (size_of path) r, (refl, refl, refl))
+-- ---- the table
 
--- whatever the first call answered
-pub asks_after_length : {A : Type 0} (path : List ℕ) (before now : LinkShown) (r : Result A Fault) (fault : Fault) → r ≡ Err fault → (r ≢ Err Fault.NoMemory → now.asked ≡ with_request before.asked (size_of path))
-    → (r ≡ Err Fault.NoMemory → now.asked ≡ before.asked) → AsksForFile path before now
-asks_after_length path before now r Fault.Failed e some none = asks_length path before now (some (λ k. cc))
-asks_after_length path before now r Fault.NoMemory e some none = asks_nothing path before now (none e)
+table_is_too_long : (text : List ℕ) → longest_table < length text → parse_table text ≡ Err table_too_long
+unfolding parse_table
+table_is_too_long text h = rw (lt-ltb longest_table (length text) h) refl
 
--- whatever the second did
-pub asks_after_bytes : {A : Type 0} (path : List ℕ) (len : ℕ) (before middle now : LinkShown) (r : Result A Fault) (fault : Fault) → r ≡ Err fault → middle.asked ≡ with_request before.asked (size_of path)
-    → (r ≢ Err Fault.NoMemory → now.asked ≡ with_request middle.asked (bytes_of (record { path = path; start = 0; len = len })))
-    → (r ≡ Err Fault.NoMemory → now.asked ≡ middle.asked) → AsksForFile path before now
-asks_after_bytes path len before middle now r Fault.Failed k e some none = asks_bytes path len before middle now e (some (λ j. cc))
-asks_after_bytes path len before middle now r Fault.NoMemory k e some none = asks_length path before now (none k ∙ e)
+pub file_table : (held : Option Files) (path bytes : List ℕ) (t : Table) → IsFile held path bytes → parse_table bytes ≡ Ok t → IsFileTable held path t
+file_table None path bytes t h e = tt
+file_table (Some fs) path bytes t h e = (bytes, h, e)
 
--- a file that is longer than a schema may be is refused
-pub long_file : (held : Option Files) (path : List ℕ) (n : ℕ) → HasSize held path n → 1048576 < n → IsRefusedSchema held path (record { place = 1048576; problem = too_long })
-long_file None path n h l = tt
-long_file (Some fs) path n h l = go (fs path) refl h
-  where
-    go : (o : Option (List ℕ)) → fs path ≡ o → option_map length o ≡ Some n → IsRefusedSchema (Some fs) path (record { place = 1048576; problem = too_long })
-    go None e k = cc
-    go (Some bytes) e k = let is : length bytes ≡ n = cc in (bytes, e, text_is_too_long bytes (subst (λ (m : ℕ). 1048576 < m) (sym is) l))
+pub refused_table : (held : Option Files) (path bytes : List ℕ) (f : TableFault) → IsFile held path bytes → parse_table bytes ≡ Err f → IsRefusedTable held path f
+refused_table None path bytes f h e = tt
+refused_table (Some fs) path bytes f h e = (bytes, h, e)
+
+pub long_table : (held : Option Files) (path : List ℕ) → IsLongFile held path 2097152 → IsRefusedTable held path table_too_long
+long_table None path h = tt
+long_table (Some fs) path h = (h.0, h.1, table_is_too_long h.0 h.2)
+
+-- ---- where there is none
+
+pub is_none : {A : Type 0} (o : Option A) (P : Type 0) → o ≡ None → IfNone o P → P
+is_none None P e h = h
+is_none (Some a) P e h = cc

@@ -1,19 +1,19 @@
 -- The answer of `stripe`, from its steps.
-use Rattle.std.specs.Prelude.{◌≡◌, ℕ, List, [], ◌∷◌, map, string_bytes, Option, Some, None, Result, Ok, Err}
+use Rattle.std.specs.Prelude.{◌≡◌, ℕ, List, [], ◌∷◌, Option, Some, None, Result, Ok, Err}
 use Rattle.std.proofs.Common.{refl, sym, ap, ◌∙◌, subst}
 use Rattle.dr_meaning.specs.Schema.{Schema}
 use Rattle.dr_meaning.specs.SchemaText.{SchemaFault, parse_schema}
 use Rattle.dr_meaning.specs.Record.{Node}
 use Rattle.dr_meaning.specs.Lines as line
-use Rattle.dr_meaning.specs.Refusals.{CommandRefusal, schema_refused, field_refused, query_refused, line_refused}
+use Rattle.dr_formats.specs.Loading.{Put}
+use Rattle.dr_commands.specs.Refusals.{Refusal as Refused, field_refused, line_refused}
 use Rattle.dr_outside.specs.Source.{SourceShown}
 use Rattle.dr_outside.specs.Link.{Files, LinkShown}
 use Rattle.dr_commands.specs.Meaning.{Look, Outcome, plain, done, refused, IsEarly}
-use Rattle.dr_top.specs.World.{WhereTold, EndsAlone, IsOpened}
-use Rattle.dr_top.specs.Stops.{StopsWith, InputStops, IsFileSchema, IsRefusedLine, input_stop, line_problem_view, refusal_view}
+use Rattle.dr_top.specs.World.{WhereTold, HasOutcome}
+use Rattle.dr_top.specs.Stops.{StopsPlain, InputStops, IsFileSchema, IsRefusedLine, input_stop, line_problem_view}
 use Rattle.dr_top.specs.declared.refusal.Refusal.{Refusal}
 use Rattle.dr_top.specs.declared.input_records.InputFault.{InputFault}
-use Rattle.dr_top.specs.declared.stop.Stop.{Stop}
 use Rattle.dr_top.proofs.OutcomeLemmas.{RefusesSchema, early_stop}
 use Rattle.dr_meaning.specs.Path.{Leaf, PathFault, find_leaf}
 use Rattle.dr_meaning.specs.Column.{Triplet}
@@ -44,10 +44,10 @@ field_ends w (Some fs) path text s n e p t f z h = (
 )
 
 pub stripe_field_stops : (w : StripeWords) (k k1 : LinkShown) (i : SourceShown) (path text : List ℕ) (s : Schema) (fault : FieldFault) → path ≡ w.schema → text ≡ w.field → IsFileSchema k.held path s → k1.faults ≡ k.faults
-    → IsRefusedField (find_leaf text s.fields) 0 fault → StopsWith (stripe_meaning w) k k1 i i (field_stop fault)
+    → IsRefusedField (find_leaf text s.fields) 0 fault → StopsPlain (stripe_meaning w) k k1 i i (field_stop fault)
 stripe_field_stops w k k1 i path text s FieldFault.NoMemory p t f c h = (c, refl)
 stripe_field_stops w k k1 i path text s (FieldFault.Refused n x) p t f c h =
-    early_stop (stripe_meaning w) k k1 i (Refusal.Field n x) c (field_ends w k.held path text s n (path_problem_view x) p t f h.0 h.1)
+    early_stop (stripe_meaning w) w.schema k k1 i (Refusal.Field n x) refl c (field_ends w k.held path text s n (path_problem_view x) p t f h.0 h.1)
 
 -- ---- the records
 
@@ -58,17 +58,17 @@ ends_by_records w text s l look file t f n is =
     ap (λ (r : Result Schema SchemaFault). plain (stripe_schema w.field look.input r)) (ap parse_schema is ∙ f)
     ∙ ap (λ (r : Result Leaf PathFault). plain (stripe_field s look.input r)) (ap (λ (x : List ℕ). find_leaf x s.fields) (sym t) ∙ n)
 
-late : (l : Leaf) (recs : Result (List Node) line.Refusal) (r : CommandRefusal) → IsEarly r → plain (stripe_records l recs) ≡ refused r [] → ⊥
-late l (Ok ns) r early e = cc
-late l (Err x) r early e = let is : line_refused x ≡ r = cc in subst (λ (y : CommandRefusal). IsEarly y) (sym is) early
+late : (l : Leaf) (recs : Result (List Node) line.Refusal) (r : Refused) (puts : List Put) → IsEarly r → plain (stripe_records l recs) ≡ refused r puts → ⊥
+late l (Ok ns) r puts early e = cc
+late l (Err x) r puts early e = let is : line_refused x ≡ r = cc in subst (λ (y : Refused). IsEarly y) (sym is) early
 
 opened : (w : StripeWords) (held : Option Files) (path text : List ℕ) (s : Schema) (l : Leaf) → path ≡ w.schema → text ≡ w.field → IsFileSchema held path s → find_leaf text s.fields ≡ Ok l
-    → WhereTold held (λ fs. (file : List ℕ) × (fs w.schema ≡ Some file) × ((look : Look) (r : CommandRefusal) → look.file ≡ file → IsEarly r → plain (stripe look.file w.field look.input) ≡ refused r [] → ⊥))
+    → WhereTold held (λ fs. (file : List ℕ) × (fs w.schema ≡ Some file) × ((look : Look) (r : Refused) (puts : List Put) → look.file ≡ file → IsEarly r → plain (stripe look.file w.field look.input) ≡ refused r puts → ⊥))
 opened w None path text s l p t f n = tt
 opened w (Some fs) path text s l p t f n = (
   f.0,
   ap fs (sym p) ∙ f.1,
-  λ look r is early e. late l (line.records_of s.fields most_striped look.input) r early (sym (ends_by_records w text s l look f.0 t f.2 n is) ∙ e),
+  λ look r puts is early e. late l (line.records_of s.fields most_striped look.input) r puts early (sym (ends_by_records w text s l look f.0 t f.2 n is) ∙ e),
 )
 
 abbrev InputEnds : StripeWords → Option Files → Option (List ℕ) → Outcome → Type 0
@@ -81,15 +81,15 @@ line_ends w (Some fs) None path text s l e p t f n h = tt
 line_ends w (Some fs) (Some bytes) path text s l e p t f n h = (
   f.0,
   ap fs (sym p) ∙ f.1,
-  ends_by_records w text s l (record { file = f.0; input = bytes; links = [] }) f.0 t f.2 n refl ∙ ap (λ (r : Result (List Node) line.Refusal). plain (stripe_records l r)) h,
+  ends_by_records w text s l (record { file = f.0; input = bytes }) f.0 t f.2 n refl ∙ ap (λ (r : Result (List Node) line.Refusal). plain (stripe_records l r)) h,
 )
 
 pub stripe_input_stops : (w : StripeWords) (k k1 : LinkShown) (i i1 : SourceShown) (path text : List ℕ) (s : Schema) (l : Leaf) (fault : InputFault) → path ≡ w.schema → text ≡ w.field → IsFileSchema k.held path s → find_leaf text s.fields ≡ Ok l
-    → k1.faults ≡ k.faults → InputStops s.fields most_striped i i1 fault → StopsWith (stripe_meaning w) k k1 i i1 (input_stop fault)
+    → k1.faults ≡ k.faults → InputStops s.fields most_striped i i1 fault → StopsPlain (stripe_meaning w) k k1 i i1 (input_stop fault)
 stripe_input_stops w k k1 i i1 path text s l InputFault.NoMemory p t f n c h = (c, h)
 stripe_input_stops w k k1 i i1 path text s l InputFault.Source p t f n c h = (h, c, opened w k.held path text s l p t f n)
 stripe_input_stops w k k1 i i1 path text s l (InputFault.Refused m x) p t f n c h =
-    (c, h.0, λ links. line_ends w k.held i.left path text s l (record { line = m; fault = line_problem_view x }) p t f n h.1, λ early. absurd early)
+    (c, h.0, line_ends w k.held i.left path text s l (record { line = m; fault = line_problem_view x }) p t f n h.1, λ early. absurd early)
 
 only : (a b : List Triplet) → a ∷ [] ≡ b ∷ [] → a ≡ b
 only a b e = cc
@@ -101,11 +101,11 @@ column_ends w (Some fs) None path text out column s l p t f n h o = tt
 column_ends w (Some fs) (Some bytes) path text out column s l p t f n h o = (
   f.0,
   ap fs (sym p) ∙ f.1,
-  ends_by_records w text s l (record { file = f.0; input = bytes; links = [] }) f.0 t f.2 n refl
+  ends_by_records w text s l (record { file = f.0; input = bytes }) f.0 t f.2 n refl
       ∙ ap (λ (r : Result (List Node) line.Refusal). plain (stripe_records l r)) h.1
       ∙ ap (λ (x : List Triplet). done (column_text x) []) (sym (only column _ h.2)) ∙ ap (λ (x : List ℕ). done x []) (sym o),
 )
 
 pub stripe_ends : (w : StripeWords) (k : LinkShown) (i : SourceShown) (path text out : List ℕ) (column : List Triplet) (s : Schema) (l : Leaf) → path ≡ w.schema → text ≡ w.field → IsFileSchema k.held path s → find_leaf text s.fields ≡ Ok l
-    → HasColumns s.fields (l.path ∷ []) i.left (column ∷ []) → out ≡ column_text column → EndsAlone (stripe_meaning w) k i (done out [])
-stripe_ends w k i path text out column s l p t f n h o = λ links. column_ends w k.held i.left path text out column s l p t f n h o
+    → HasColumns s.fields (l.path ∷ []) i.left (column ∷ []) → out ≡ column_text column → HasOutcome (stripe_meaning w) k i (done out [])
+stripe_ends w k i path text out column s l p t f n h o = column_ends w k.held i.left path text out column s l p t f n h o

@@ -1,5 +1,5 @@
 -- What the words of a command line are answered with.
-use Rattle.std.specs.Prelude.{◌≡◌, false, true, List, ℕ, Option, Some, None}
+use Rattle.std.specs.Prelude.{◌≡◌, Bool, false, true, List, ℕ, Option, Some, None}
 use Rattle.dr_outside.specs.Source.{SourceShown}
 use Rattle.dr_outside.specs.Link.{LinkShown}
 use Rattle.dr_load.specs.Puts.{HasPut}
@@ -44,6 +44,10 @@ LeavesUnput (Some m) keeper keeper_now = m.puts_files ≡ false → keeper_now.h
 LeavesUnput None keeper keeper_now = keeper_now ≡ keeper
 
 -- links that aren't asked stay; of those of which the first is asked, it holds what it held, and the others stay
+abbrev pub LeavesLinksBy : Bool → List LinkShown → List LinkShown → Type 0
+LeavesLinksBy false links links_now = links_now ≡ links
+LeavesLinksBy true links links_now = SameOthers links links_now
+
 abbrev pub LeavesUnasked : Option Meaning → List LinkShown → List LinkShown → Type 0
-LeavesUnasked (Some m) links links_now = (m.asks_link ≡ false → links_now ≡ links) × SameOthers links links_now
+LeavesUnasked (Some m) links links_now = LeavesLinksBy m.asks_link links links_now
 LeavesUnasked None links links_now = links_now ≡ links

@@ -1,5 +1,5 @@
 -- How a run ends, in the world before and after it. What isn't said to change stays as it was.
-use Rattle.std.specs.Prelude.{◌≡◌, ℕ, true, List, [], codes, ◌⊎◌, Option, Some, None}
+use Rattle.std.specs.Prelude.{◌≡◌, ℕ, true, List, codes, ◌⊎◌, Option, Some, None}
 use Rattle.dr_formats.specs.Loading.{Put}
 use Rattle.dr_formats.specs.Reports.{left_file_text}
 use Rattle.dr_outside.specs.Faults.{raised}

@@ -1,9 +1,13 @@
 -- what the program meets outside at one moment, and what a command means on it
 pub mod World
+-- what a command gives: its text, or what is left
+pub mod Reading
 -- what stops a command
 pub mod Stops
--- the schema's file, and the leaf that a FIELD names
+-- the schema's file, the table file, and the leaf that a FIELD names
+pub mod KeeperFile
 pub mod SchemaFile
+pub mod TableFile
 pub mod Fields
 -- reading the records of the input
 pub mod Records

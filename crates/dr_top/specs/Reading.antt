@@ -1,10 +1,9 @@
 -- What a command gives: its text, or what is left.
-use Rattle.std.specs.Prelude.{◌≡◌, ◌≢◌, ℕ, List, [], ◌∷◌, Option, Some, None, Ok, Err, ⊤}
+use Rattle.std.specs.Prelude.{◌≡◌, ◌≢◌, ℕ, List, [], ◌∷◌, Option, Ok, Err, ⊤}
 use Rattle.dr_meaning.specs.SchemaText.{schema_text}
 use Rattle.dr_meaning.specs.Schema.{Schema}
 use Rattle.dr_meaning.specs.Record.{Node}
 use Rattle.dr_formats.specs.File.{FileCause, bad_footer, bad_schema, bad_codec, bad_data, schema_of_file}
-use Rattle.dr_formats.specs.Loading.{Put}
 use Rattle.dr_outside.specs.Link.{Files, LinkShown}
 use Rattle.dr_outside.specs.Faults.{Rose}
 use Rattle.dr_outside.specs.declared.cause.Cause.{Cause}
@@ -14,8 +13,7 @@ use Rattle.dr_serving.specs.Causes.{RisesApart}
 use Rattle.dr_reading.specs.Scan.{Scan, joined}
 use Rattle.dr_reading.specs.Given.{AreGiven}
 use Rattle.dr_reading.specs.Left.{LeftTablet, LeavesJust, causes_met}
-use Rattle.dr_load.specs.Puts.{HasPut}
-use Rattle.dr_commands.specs.Meaning.{Meaning, Outcome, done, refused, scans, looks_at}
+use Rattle.dr_commands.specs.Meaning.{Outcome, done, refused, scans, looks_at}
 use Rattle.dr_top.specs.World.{WithFirst, WithFirsts}
 
 -- ---- the text
@@ -57,8 +55,8 @@ abbrev pub IsSchemaCause : Held → Cause → Type 0
 IsSchemaCause held (ReadFailed before after) = Rose before after
 IsSchemaCause held BadFooter = HasSchemaCause bad_footer held
 IsSchemaCause held BadSchema = HasSchemaCause bad_schema held
-IsSchemaCause held BadCodec = ⊥
-IsSchemaCause held BadData = ⊥
+IsSchemaCause held BadCodec = HasSchemaCause bad_codec held
+IsSchemaCause held BadData = HasSchemaCause bad_data held
 
 abbrev pub LeavesFile : List ℕ → Cause → LinkShown → LinkShown → Type 0
 LeavesFile path c l now = IsSchemaCause (held_at l.held path) c × RisesApart l.faults (c ∷ []) now.faults

@@ -1,15 +1,7 @@
 -- Reading the schema's file.
-use Rattle.std.specs.Prelude.{◌≡◌, ◌<◌, ℕ, List, length, Option, Some}
-use Rattle.dr_meaning.specs.SchemaText.{longest_schema}
-use Rattle.dr_outside.specs.Link.{Files}
 use Rattle.dr_outside.specs.declared.fault.Fault.{Fault}
 use Rattle.dr_nested.specs.declared.fault.SchemaFault.{SchemaFault}
-use Rattle.dr_top.specs.World.{WhereTold}
 use Rattle.dr_top.specs.declared.schema_file.SchemaFileFault.{SchemaFileFault}
-
--- the file at a path has these bytes, where the keeper tells
-abbrev pub IsFile : Option Files → List ℕ → List ℕ → Type 0
-IsFile files path bytes = WhereTold files (λ fs. fs path ≡ Some bytes)
 
 -- the fault of a keeper's call, and that of a schema's text
 abbrev pub file_fault : Fault → SchemaFileFault

@@ -1,14 +1,14 @@
 -- What stops a command, and what each stop says of the keeper and of the input.
-use Rattle.std.specs.Prelude.{◌≡◌, ℕ, Bool, true, false, List, [], ◌∷◌, ◌++◌, Option, Some, None, option_map, Result, Ok, Err, ⊤, ◌⊎◌}
+use Rattle.std.specs.Prelude.{◌≡◌, ℕ, Bool, true, false, List, [], ◌∷◌, ◌++◌, Option, Some, option_map, Result, Ok, Err, ⊤, ◌⊎◌}
 use Rattle.dr_meaning.specs.Schema.{Fields, Schema}
 use Rattle.dr_meaning.specs.SchemaText.{SchemaFault, parse_schema}
-use Rattle.dr_meaning.specs.Path.{Leaf, PathFault}
 use Rattle.dr_meaning.specs.Lines as line
 use Rattle.dr_meaning.specs.Refusals as plain
 use Rattle.dr_formats.specs.Loading.{Put}
-use Rattle.dr_formats.specs.Loading as words
 use Rattle.dr_formats.specs.TableFile.{Table, TableFault, parse_table}
-use Rattle.dr_table.specs.Faults.{table_problem_view}
+use Rattle.dr_table.specs.Faults.{problem_view as table_problem_view}
+use Rattle.dr_file.specs.declared.file_fault.FileFault.{FileFault}
+use Rattle.dr_load.specs.declared.fault.LoadFault.{LoadFault}
 use Rattle.dr_load.specs.Puts.{HasPut, HasPutSome, BreaksOff}
 use Rattle.dr_nested.specs.Faults.{problem_view, path_problem_view}
 use Rattle.dr_json.specs.Faults.{record_problem_view}
@@ -19,12 +19,14 @@ use Rattle.dr_commands.specs.Refusals.{Refusal as Refused, schema_refused, table
 use Rattle.dr_commands.specs.Meaning.{Meaning, Outcome, refused, puts_in, IsEarly}
 use Rattle.dr_commands.specs.declared.words_fault.WordsFault.{WordsFault}
 use Rattle.dr_top.specs.World.{WhereTold, WithOutcome, ForOutcome, HasOutcome, IsOpened}
-use Rattle.dr_top.specs.Reading.{IsLeftWith, IsFileLeft}
+use Rattle.dr_top.specs.Reading.{IsLeftWith, IsFileLeft, LeavesFile}
 use Rattle.dr_tablets.specs.Views.{all_left_view}
 use Rattle.dr_top.specs.declared.refusal.LineProblem.{LineProblem}
-use Rattle.dr_top.specs.declared.refusal.WordsProblem.{WordsProblem}
+use Rattle.dr_load_words.specs.Words.{words_problem_view}
+use Rattle.dr_load_words.specs.declared.words.WordsProblem.{WordsProblem}
 use Rattle.dr_top.specs.declared.refusal.Refusal.{Refusal}
 use Rattle.dr_top.specs.declared.schema_file.SchemaFileFault.{SchemaFileFault}
+use Rattle.dr_top.specs.declared.table_file.TableFileFault.{TableFileFault}
 use Rattle.dr_top.specs.declared.field.FieldFault.{FieldFault}
 use Rattle.dr_top.specs.declared.input_records.InputFault.{InputFault}
 use Rattle.dr_top.specs.declared.stop.Stop.{Stop}
@@ -35,10 +37,6 @@ abbrev pub line_problem_view : LineProblem → line.LineFault
 line_problem_view LineProblem.TooLong = line.line_too_long
 line_problem_view LineProblem.TooManyRecords = line.too_many_records
 line_problem_view (LineProblem.Record w) = line.no_record (record_problem_view w)
-
-abbrev pub words_problem_view : WordsProblem → words.WordsRefusal
-words_problem_view (WordsProblem.Leaf n) = words.leaf_refused n
-words_problem_view WordsProblem.Copies = words.copies_refused
 
 abbrev pub refusal_view : Refusal → Refused
 refusal_view (Refusal.Schema p w) = schema_refused (record { place = p; problem = problem_view w })
@@ -78,6 +76,22 @@ SchemaFileStops path before now SchemaFileFault.Keeper = now.faults ≡ raised b
 SchemaFileStops path before now (SchemaFileFault.Refused p w) =
     (now.faults ≡ before.faults) × IsRefusedSchema before.held path (record { place = p; problem = problem_view w })
 
+-- ---- the table file
+
+-- the table of the file at a path
+abbrev pub IsFileTable : Option Files → List ℕ → Table → Type 0
+IsFileTable files path table = WhereTold files (λ fs. (bytes : List ℕ) × (fs path ≡ Some bytes) × (parse_table bytes ≡ Ok table))
+
+-- the file at a path is refused as a table, so
+abbrev pub IsRefusedTable : Option Files → List ℕ → TableFault → Type 0
+IsRefusedTable files path e = WhereTold files (λ fs. (bytes : List ℕ) × (fs path ≡ Some bytes) × (parse_table bytes ≡ Err e))
+
+-- why a table file gives no table
+abbrev pub TableFileStops : List ℕ → LinkShown → LinkShown → TableFileFault → Type 0
+TableFileStops path before now TableFileFault.NoMemory = now.faults ≡ before.faults
+TableFileStops path before now TableFileFault.Keeper = now.faults ≡ raised before.faults
+TableFileStops path before now (TableFileFault.Refused w) = (now.faults ≡ before.faults) × IsRefusedTable before.held path (table_problem_view w)
+
 -- ---- a FIELD
 
 -- the leaf that a FIELD of this number names, or why it is refused; want of memory may come in place of either
@@ -97,6 +111,14 @@ InputStops fs most before now InputFault.NoMemory = now.faults ≡ before.faults
 InputStops fs most before now InputFault.Source = now.faults ≡ raised before.faults
 InputStops fs most before now (InputFault.Refused n w) =
     (now.faults ≡ before.faults) × IsRefusedLine fs most before.left (record { line = n; fault = line_problem_view w })
+
+-- ---- a look at a file's schema
+
+-- why a file gives no schema
+abbrev pub SchemaStops : List ℕ → LinkShown → LinkShown → Stop → Type 0
+SchemaStops path link link_now Stop.NoMemory = ⊤
+SchemaStops path link link_now (Stop.LeftFile cause) = LeavesFile path cause link link_now
+SchemaStops path link link_now stop = ⊥
 
 -- ---- a command
 
@@ -138,10 +160,10 @@ StopsWith m keeper keeper_now input input_now links links_now (Stop.Refused r) =
     (keeper_now.faults ≡ keeper.faults) × (input_now.faults ≡ input.faults) × (links_now ≡ links)
     × WithOutcome m keeper input (IsRefusedSo (refusal_view r) keeper.held keeper_now.held) × (IsEarly (refusal_view r) → input_now ≡ input)
 StopsWith m keeper keeper_now input input_now links links_now (Stop.Left left) =
-    (keeper_now.faults ≡ keeper.faults) × (input_now ≡ input) × (keeper_now.held ≡ keeper.held)
+    (keeper_now.faults ≡ keeper.faults) × (m.asks_link ≡ true) × (input_now ≡ input) × (keeper_now.held ≡ keeper.held)
     × WithOutcome m keeper input (λ o. IsLeftWith o links links_now (all_left_view left.items))
 StopsWith m keeper keeper_now input input_now links links_now (Stop.LeftFile cause) =
-    (keeper_now.faults ≡ keeper.faults) × (input_now ≡ input) × (keeper_now.held ≡ keeper.held)
+    (keeper_now.faults ≡ keeper.faults) × (m.asks_link ≡ true) × (input_now ≡ input) × (keeper_now.held ≡ keeper.held)
     × WithOutcome m keeper input (λ o. IsFileLeft o links links_now cause)
 
 -- the input was read to its end, or left alone where it isn't read
@@ -160,6 +182,22 @@ schema_file_stop SchemaFileFault.NoMemory = Stop.NoMemory
 schema_file_stop SchemaFileFault.Keeper = Stop.Keeper
 schema_file_stop (SchemaFileFault.Refused p w) = Stop.Refused (Refusal.Schema p w)
 
+abbrev pub table_file_stop : TableFileFault → Stop
+table_file_stop TableFileFault.NoMemory = Stop.NoMemory
+table_file_stop TableFileFault.Keeper = Stop.Keeper
+table_file_stop (TableFileFault.Refused w) = Stop.Refused (Refusal.Table w)
+
+abbrev pub words_problem_stop : WordsProblem → Stop
+words_problem_stop w = Stop.Refused (Refusal.Words w)
+
+abbrev pub load_stop : LoadFault → Stop
+load_stop LoadFault.NoMemory = Stop.NoMemory
+load_stop (LoadFault.BadLine n w) = Stop.Refused (Refusal.Line n (LineProblem.Record w))
+load_stop (LoadFault.LineTooLong n) = Stop.Refused (Refusal.Line n LineProblem.TooLong)
+load_stop (LoadFault.TooManyRecords n) = Stop.Refused (Refusal.Line n LineProblem.TooManyRecords)
+load_stop LoadFault.ReadFault = Stop.Source
+load_stop LoadFault.KeepFault = Stop.Keeper
+
 abbrev pub field_stop : FieldFault → Stop
 field_stop FieldFault.NoMemory = Stop.NoMemory
 field_stop (FieldFault.Refused n w) = Stop.Refused (Refusal.Field n w)
@@ -168,3 +206,7 @@ abbrev pub input_stop : InputFault → Stop
 input_stop InputFault.NoMemory = Stop.NoMemory
 input_stop InputFault.Source = Stop.Source
 input_stop (InputFault.Refused n w) = Stop.Refused (Refusal.Line n w)
+
+abbrev pub file_stop : FileFault → Stop
+file_stop FileFault.NoMemory = Stop.NoMemory
+file_stop (FileFault.Why c) = Stop.LeftFile c

@@ -1,67 +1,77 @@
 //! The commands: what each answers.
 
-ghost use Rattle.std.specs.Prelude.{◌≡◌, ◌≢◌, [], Err, false, map, string_bytes, IfOk, IfErr, OnOk};
-ghost use Rattle.dr_commands.specs.Meaning.{done};
+ghost use Rattle.std.specs.Prelude.{◌≡◌, ◌≢◌, ◌<◌, length, Err, false, map, string_bytes, IfOk, IfErr, OnOk};
 ghost use Rattle.dr_commands.specs.Commands.{Taken, meaning_of, meant};
 ghost use Rattle.dr_commands.specs.CommandView.{command_view};
-ghost use Rattle.dr_top.specs.Stops.{StopsWith, IsReadBy, AsksForFile};
-ghost use Rattle.dr_top.specs.World.{EndsAlone};
-ghost use Rattle.dr_top.specs.Answers.{StopsMeant, AsksMeant, LeavesUnread};
+ghost use Rattle.dr_top.specs.Stops.{StopsWith, IsReadBy};
+ghost use Rattle.dr_top.specs.Answers.{Finishes, StopsMeant, AsksFor, AsksMeant, LeavesUnread, LeavesUnput, LeavesUnasked, LeavesLinksBy};
 ghost use Rattle.dr_top.specs.Ends.{ForMeant};
 
 mod ask;
+mod dump;
 mod fsm;
+mod load;
+mod show_schema;
 mod stripe;
 
 use crate::stop::Stop;
 use dr_commands::{Command, read_words};
-use dr_outside::{Keeper, Source};
+use dr_outside::{Keeper, Link, Source};
 use std::alloc::Global;
 
 /// The text that a command prints.
 ///
-/// Errors: its first refusal; the keeper or the source failed; want of memory.
-fn command_answer<S: Source, K: Keeper>(
+/// Errors: its first refusal; the keeper or the source failed; what is left; want of memory.
+fn command_answer<S: Source, K: Keeper, L: Link>(
     alloc: Global,
     command: &Command,
     source: &mut S,
     keeper: &mut K,
+    links: &mut [L],
 ) -> Result<String, Stop>
-    ensures text { IfOk result (λ t. EndsAlone (meaning_of (command_view command.now)) (K.shows keeper.old) (S.shows source.old) (done (string_bytes t) [])) }
+    requires link { 0 < length links.old }
+    ensures text { IfOk result (λ t. Finishes (meaning_of (command_view command.now)) (K.shows keeper.old) (K.shows keeper.new) (S.shows source.old) (map L.shows links.old) (string_bytes t)) }
     ensures read { OnOk result (IsReadBy (meaning_of (command_view command.now)).reads_input (S.shows source.old) (S.shows source.new)) }
     ensures source_calm { OnOk result ((S.shows source.new).faults ≡ (S.shows source.old).faults) }
     ensures keeper_calm { OnOk result ((K.shows keeper.new).faults ≡ (K.shows keeper.old).faults) }
-    ensures stops { IfErr result (StopsWith (meaning_of (command_view command.now)) (K.shows keeper.old) (K.shows keeper.new) (S.shows source.old) (S.shows source.new)) }
-    ensures kept { (K.shows keeper.new).held ≡ (K.shows keeper.old).held }
-    ensures asks { AsksForFile (meaning_of (command_view command.now)).file (K.shows keeper.old) (K.shows keeper.new) }
+    ensures stops { IfErr result (StopsWith (meaning_of (command_view command.now)) (K.shows keeper.old) (K.shows keeper.new) (S.shows source.old) (S.shows source.new) (map L.shows links.old) (map L.shows links.new)) }
+    ensures kept { (meaning_of (command_view command.now)).puts_files ≡ false → (K.shows keeper.new).held ≡ (K.shows keeper.old).held }
+    ensures asks { AsksFor (meaning_of (command_view command.now)).file (K.shows keeper.old) (K.shows keeper.new) }
     ensures unread { (meaning_of (command_view command.now)).reads_input ≡ false → S.shows source.new ≡ S.shows source.old }
+    ensures links { LeavesLinksBy (meaning_of (command_view command.now)).asks_link (map L.shows links.old) (map L.shows links.new) }
 {
     match command {
+        Command::Load(load) => load::answer(alloc, load, source, keeper),
         Command::Ask(ask) => ask::answer(alloc, ask, source, keeper),
+        Command::Dump(dump) => dump::answer(alloc, dump, keeper, &mut links[0]),
         Command::Stripe(stripe) => stripe::answer(alloc, stripe, source, keeper),
         Command::Fsm(fsm) => fsm::answer(alloc, fsm, keeper),
+        Command::ShowSchema(show) => show_schema::answer(alloc, show, &mut links[0]),
     }
 }
 
 /// The text that the words ask for.
 ///
-/// Errors: the words ask for nothing; the command's first refusal; the keeper or the source failed; want of memory.
-pub fn answer<S: Source, K: Keeper>(
+/// Errors: the words ask for nothing; the command's first refusal; the keeper or the source failed; what is left; want of memory.
+pub fn answer<S: Source, K: Keeper, L: Link>(
     alloc: Global,
     words: &[String],
     source: &mut S,
     keeper: &mut K,
+    links: &mut [L],
 ) -> Result<String, Stop>
-    ensures text { IfOk result (λ t. ForMeant (meant (map string_bytes words.now)) (λ m. EndsAlone m (K.shows keeper.old) (S.shows source.old) (done (string_bytes t) []))) }
+    requires link { 0 < length links.old }
+    ensures text { IfOk result (λ t. ForMeant (meant (map string_bytes words.now)) (λ m. Finishes m (K.shows keeper.old) (K.shows keeper.new) (S.shows source.old) (map L.shows links.old) (string_bytes t))) }
     ensures read { OnOk result (ForMeant (meant (map string_bytes words.now)) (λ m. IsReadBy m.reads_input (S.shows source.old) (S.shows source.new))) }
     ensures source_calm { OnOk result ((S.shows source.new).faults ≡ (S.shows source.old).faults) }
     ensures keeper_calm { OnOk result ((K.shows keeper.new).faults ≡ (K.shows keeper.old).faults) }
-    ensures stops { IfErr result (StopsMeant (meant (map string_bytes words.now)) (K.shows keeper.old) (K.shows keeper.new) (S.shows source.old) (S.shows source.new)) }
-    ensures kept { (K.shows keeper.new).held ≡ (K.shows keeper.old).held }
+    ensures stops { IfErr result (StopsMeant (meant (map string_bytes words.now)) (K.shows keeper.old) (K.shows keeper.new) (S.shows source.old) (S.shows source.new) (map L.shows links.old) (map L.shows links.new)) }
+    ensures kept { LeavesUnput (meant (map string_bytes words.now)) (K.shows keeper.old) (K.shows keeper.new) }
     ensures asks { AsksMeant (meant (map string_bytes words.now)) (K.shows keeper.old) (K.shows keeper.new) }
     ensures taken { Taken (map string_bytes words.now) → result ≢ Err Stop.Usage }
     ensures unread { LeavesUnread (meant (map string_bytes words.now)) (S.shows source.old) (S.shows source.new) }
+    ensures links { LeavesUnasked (meant (map string_bytes words.now)) (map L.shows links.old) (map L.shows links.new) }
 {
     let command = read_words(alloc, words)?;
-    command_answer(alloc, &command, source, keeper)
+    command_answer(alloc, &command, source, keeper, links)
 }

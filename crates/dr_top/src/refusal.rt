@@ -4,12 +4,17 @@ ghost use Rattle.std.specs.Prelude.{◌≡◌, ◌≤◌, ◌+◌, ◌++◌, len
 ghost use Rattle.dr_meaning.specs.Refusals.{schema_problem_name, path_fault_name, record_fault_name, line_fault_name, schema_refusal_text, field_refusal_text, line_refusal_text};
 ghost use Rattle.dr_nested.specs.Faults.{problem_view, path_problem_view};
 ghost use Rattle.dr_json.specs.Faults.{record_problem_view};
-ghost use Rattle.dr_commands.specs.Meaning.{refusal_text};
+ghost use Rattle.dr_formats.specs.Reports.{table_fault_name, table_refusal_text, words_refusal_text};
+ghost use Rattle.dr_table.specs.Faults.{problem_view as table_problem_view};
+ghost use Rattle.dr_commands.specs.Refusals.{refusal_text};
+ghost use Rattle.dr_load_words.specs.Words.{words_problem_view};
 ghost use Rattle.dr_top.specs.Stops.{line_problem_view, refusal_view};
 
 use crate::report::{LONGEST_REPORT, Report};
 use dr_json::RecordProblem;
+use dr_load_words::WordsProblem;
 use dr_nested::{PathProblem, SchemaProblem};
+use dr_table::TableProblem;
 use itoa::Buffer;
 
 /// What is wrong with an input line.
@@ -31,6 +36,10 @@ pub enum Refusal {
         offset: usize,
         problem: SchemaProblem,
     },
+    /// The table's first problem.
+    Table(TableProblem),
+    /// A directory, or the number of copies.
+    Words(WordsProblem),
     /// The first FIELD that is refused, counted from 0.
     Field {
         number: usize,
@@ -124,6 +133,57 @@ fn schema_report(offset: usize, problem: SchemaProblem) -> Report
     report
 }
 
+/// Appends the words for a table's problem.
+fn push_table_problem(report: &mut Report, problem: TableProblem)
+    requires { length report.old ≤ 20 }
+    ensures bytes { report.new ≡ report.old ++ table_fault_name (table_problem_view problem) }
+    ensures len { length report.new ≤ length report.old + 100 }
+{
+    match problem {
+        TableProblem::TooLong => report.push("TooLong"),
+        TableProblem::Head => report.push("Head"),
+        TableProblem::Tablets => report.push("Tablets"),
+        TableProblem::Copies => report.push("Copies"),
+        TableProblem::Leaf(number) => {
+            report.push("Leaf ");
+            push_number(report, number as u64);
+        }
+        TableProblem::Schema { offset, problem } => {
+            report.push("schema at ");
+            push_number(report, offset as u64);
+            report.push(": ");
+            report.push(schema_word(problem));
+        }
+    }
+}
+
+/// `refused table: WHAT`.
+fn table_report(problem: TableProblem) -> Report
+    ensures { result ≡ table_refusal_text (table_problem_view problem) }
+{
+    let mut report = Report::new();
+    report.push("refused table: ");
+    push_table_problem(&mut report, problem);
+    report.push("\n");
+    report
+}
+
+/// `refused leaf N`, `refused copies`.
+fn words_report(problem: WordsProblem) -> Report
+    ensures { result ≡ words_refusal_text (words_problem_view problem) }
+{
+    let mut report = Report::new();
+    match problem {
+        WordsProblem::Leaf(number) => {
+            report.push("refused leaf ");
+            push_number(&mut report, number as u64);
+            report.push("\n");
+        }
+        WordsProblem::Copies => report.push("refused copies\n"),
+    }
+    report
+}
+
 /// `refused field N: WHAT`.
 fn field_report(number: usize, problem: PathProblem) -> Report
     ensures { result ≡ field_refusal_text number (path_problem_view problem) }
@@ -167,6 +227,8 @@ impl Refusal {
     {
         match self {
             Refusal::Schema { offset, problem } => schema_report(offset, problem),
+            Refusal::Table(problem) => table_report(problem),
+            Refusal::Words(problem) => words_report(problem),
             Refusal::Field { number, problem } => field_report(number, problem),
             Refusal::Query => plain_report("refused query at 0: Syntax\n"),
             Refusal::Line { number, problem } => line_report(number, problem),

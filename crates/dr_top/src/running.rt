@@ -1,14 +1,16 @@
 //! The whole program as one call.
 
-ghost use Rattle.std.specs.Prelude.{◌≡◌, ◌≢◌, ◌⊎◌, map, string_bytes};
+ghost use Rattle.std.specs.Prelude.{◌≡◌, ◌≢◌, ◌≤◌, ◌⊎◌, length, map, string_bytes};
 ghost use Rattle.dr_commands.specs.Commands.{Taken, meant};
 ghost use Rattle.dr_top.specs.World.{world};
-ghost use Rattle.dr_top.specs.Ends.{Says, Holds, Prints, IsUsage, IsRefused, IsOutside, IsMemory, SameCounts, LeavesInput, AsksKeeper, LeavesLinks, IsComplete};
+ghost use Rattle.dr_top.specs.Ends.{Says, Holds, Prints, IsUsage, IsRefused, IsLeft, IsOutside, IsMemory, SameCounts, LeavesInput, LeavesFiles, AsksKeeper, LeavesLinks, IsComplete};
 
 use crate::commands::answer;
+use crate::left_file::left_file_report;
 use crate::stop::Stop;
 use dr_commands::USAGE;
 use dr_outside::{Gate, Keeper, Link, Sink, Source, write_all};
+use dr_tablets::left_text;
 use std::alloc::Global;
 
 /// Writes a line on standard error; a failure changes nothing else.
@@ -21,8 +23,9 @@ fn say<E: Sink>(err: &mut E, line: &[u8])
 /// Does what the words ask, of which the first is the program's name, and answers the program's status.
 ///
 /// 0: the whole text was written, and the input was read to its end, where the command reads it. 1: the words ask for
-/// nothing. 2: the schema, a FIELD, the query or a line of the input is refused, the first in this order. 4: the source,
-/// the sink or the keeper failed. 5: want of memory. What isn't 0 has a line on standard error.
+/// nothing. 2: the schema, the table, a FIELD, the directories, the query or a line of the input is refused, the first that the
+/// command looks at. 3: tablets of a table are left, or the file of `schema`, each with its cause. 4: the source, the sink or the
+/// keeper failed. 5: want of memory. What isn't 0 has a line on standard error.
 ///
 /// The clauses speak of what the things outside show before the call and after it. The gate is passed on to workers
 /// alone, and no command has any yet: the gate lets nobody through who isn't promised to be admitted.
@@ -37,6 +40,7 @@ pub fn run<R, S: Source, O: Sink, E: Sink, K: Keeper, L: Link + Send, G: Gate + 
     links: &mut [L],
     _gate: &G,
 ) -> u8
+    requires links { 16 ≤ length links.old }
     ensures prints { result ≡ 0 → Holds (meant (map string_bytes words.now)) Prints
         (world (S.shows source.old) (O.shows out.old) (E.shows err.old) (K.shows keeper.old) (map L.shows links.old))
         (world (S.shows source.new) (O.shows out.new) (E.shows err.new) (K.shows keeper.new) (map L.shows links.new)) }
@@ -47,19 +51,25 @@ pub fn run<R, S: Source, O: Sink, E: Sink, K: Keeper, L: Link + Send, G: Gate + 
     ensures refused { result ≡ 2 → Holds (meant (map string_bytes words.now)) IsRefused
         (world (S.shows source.old) (O.shows out.old) (E.shows err.old) (K.shows keeper.old) (map L.shows links.old))
         (world (S.shows source.new) (O.shows out.new) (E.shows err.new) (K.shows keeper.new) (map L.shows links.new)) }
+    ensures left { result ≡ 3 → Holds (meant (map string_bytes words.now)) IsLeft
+        (world (S.shows source.old) (O.shows out.old) (E.shows err.old) (K.shows keeper.old) (map L.shows links.old))
+        (world (S.shows source.new) (O.shows out.new) (E.shows err.new) (K.shows keeper.new) (map L.shows links.new)) }
     ensures outside { result ≡ 4 → Holds (meant (map string_bytes words.now)) IsOutside
         (world (S.shows source.old) (O.shows out.old) (E.shows err.old) (K.shows keeper.old) (map L.shows links.old))
         (world (S.shows source.new) (O.shows out.new) (E.shows err.new) (K.shows keeper.new) (map L.shows links.new)) }
-    ensures memory { result ≡ 5 → IsMemory
+    ensures memory { result ≡ 5 → IsMemory (meant (map string_bytes words.now))
         (world (S.shows source.old) (O.shows out.old) (E.shows err.old) (K.shows keeper.old) (map L.shows links.old))
         (world (S.shows source.new) (O.shows out.new) (E.shows err.new) (K.shows keeper.new) (map L.shows links.new)) }
-    ensures known { (result ≡ 0) ⊎ ((result ≡ 1) ⊎ ((result ≡ 2) ⊎ ((result ≡ 4) ⊎ (result ≡ 5)))) }
+    ensures known { (result ≡ 0) ⊎ ((result ≡ 1) ⊎ ((result ≡ 2) ⊎ ((result ≡ 3) ⊎ ((result ≡ 4) ⊎ (result ≡ 5))))) }
 
     // At every status.
     ensures calm { result ≢ 4 → SameCounts
         (world (S.shows source.old) (O.shows out.old) (E.shows err.old) (K.shows keeper.old) (map L.shows links.old))
         (world (S.shows source.new) (O.shows out.new) (E.shows err.new) (K.shows keeper.new) (map L.shows links.new)) }
     ensures unread { LeavesInput (meant (map string_bytes words.now))
+        (world (S.shows source.old) (O.shows out.old) (E.shows err.old) (K.shows keeper.old) (map L.shows links.old))
+        (world (S.shows source.new) (O.shows out.new) (E.shows err.new) (K.shows keeper.new) (map L.shows links.new)) }
+    ensures files { LeavesFiles (meant (map string_bytes words.now))
         (world (S.shows source.old) (O.shows out.old) (E.shows err.old) (K.shows keeper.old) (map L.shows links.old))
         (world (S.shows source.new) (O.shows out.new) (E.shows err.new) (K.shows keeper.new) (map L.shows links.new)) }
     ensures asks { AsksKeeper (meant (map string_bytes words.now))
@@ -72,7 +82,7 @@ pub fn run<R, S: Source, O: Sink, E: Sink, K: Keeper, L: Link + Send, G: Gate + 
         (world (S.shows source.old) (O.shows out.old) (E.shows err.old) (K.shows keeper.old) (map L.shows links.old))
         (world (S.shows source.new) (O.shows out.new) (E.shows err.new) (K.shows keeper.new) (map L.shows links.new)) }
 {
-    match answer(alloc, words, source, keeper) {
+    match answer(alloc, words, source, keeper, links) {
         Ok(text) => match write_all(out, text.as_bytes()) {
             Ok(()) => 0,
             Err(_) => {
@@ -99,6 +109,20 @@ pub fn run<R, S: Source, O: Sink, E: Sink, K: Keeper, L: Link + Send, G: Gate + 
         Err(Stop::Refused(refusal)) => {
             say(err, refusal.report().bytes());
             2
+        }
+        Err(Stop::Left(left)) => match left_text(alloc, &left) {
+            Ok(text) => {
+                say(err, text.as_bytes());
+                3
+            }
+            Err(_) => {
+                say(err, b"no memory\n");
+                5
+            }
+        },
+        Err(Stop::LeftFile(cause)) => {
+            say(err, left_file_report(cause).bytes());
+            3
         }
     }
 }

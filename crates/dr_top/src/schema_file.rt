@@ -4,13 +4,13 @@ ghost use Rattle.std.specs.Prelude.{◌≡◌, IfOk, IfErr, OnOk};
 ghost use Rattle.dr_nested.specs.SchemaView.{schema_view};
 ghost use Rattle.dr_outside.specs.declared.fault.Fault.TheVariants as outside;
 ghost use Rattle.dr_nested.specs.declared.fault.SchemaFault.TheVariants as schema_fault;
-ghost use Rattle.dr_top.specs.declared.schema_file.SchemaFileFault.TheVariants as stops;
-ghost use Rattle.dr_top.specs.SchemaFile.{file_fault, schema_fault_in, IsFile};
+ghost use Rattle.dr_top.specs.SchemaFile.{file_fault, schema_fault_in};
 ghost use Rattle.dr_top.specs.Stops.{IsFileSchema, SchemaFileStops, AsksForFile};
 
+use crate::keeper_file::read_file;
 use dr_nested::{LONGEST_SCHEMA, Schema, SchemaFault, SchemaProblem, parse_schema};
 use dr_outside::{Fault, Keeper};
-use std::alloc::{AllocError, Global};
+use std::alloc::Global;
 
 /// Why a schema's file gives no schema.
 #[derive(Clone, Copy, PartialEq, Eq, Debug)]
@@ -23,14 +23,6 @@ pub enum SchemaFileFault {
         offset: usize,
         problem: SchemaProblem,
     },
-}
-
-impl From<AllocError> for SchemaFileFault {
-    ghost from_gives = { λ _ fault. fault ≡ stops.NoMemory };
-
-    fn from(_: AllocError) -> SchemaFileFault {
-        SchemaFileFault::NoMemory
-    }
 }
 
 impl From<Fault> for SchemaFileFault {
@@ -58,32 +50,6 @@ impl From<SchemaFault> for SchemaFileFault {
     }
 }
 
-/// The bytes of a file that isn't longer than a schema may be.
-///
-/// Errors: a longer file is refused as a schema; the keeper failed; want of memory.
-fn read_file<K: Keeper>(
-    alloc: Global,
-    keeper: &mut K,
-    path: &str,
-) -> Result<Vec<u8>, SchemaFileFault>
-    ensures bytes { IfOk result (λ v. IsFile (K.shows keeper.old).held path.now v.items) }
-    ensures calm { OnOk result ((K.shows keeper.new).faults ≡ (K.shows keeper.old).faults) }
-    ensures stops { IfErr result (SchemaFileStops path.now (K.shows keeper.old) (K.shows keeper.new)) }
-    ensures kept { (K.shows keeper.new).held ≡ (K.shows keeper.old).held }
-    ensures asks { AsksForFile path.now (K.shows keeper.old) (K.shows keeper.new) }
-{
-    let size = keeper.size(path)?;
-    if size > LONGEST_SCHEMA as u64 {
-        return Err(SchemaFileFault::Refused {
-            offset: LONGEST_SCHEMA,
-            problem: SchemaProblem::TooLong,
-        });
-    }
-    let mut bytes = vec![in alloc; 0u8; size as usize]?;
-    keeper.read_at(path, 0, &mut bytes)?;
-    Ok(bytes)
-}
-
 /// The schema of the file at a path. The keeper is asked for the file's length and then for its bytes, each once.
 ///
 /// Errors: the text is no schema; the keeper failed; want of memory.
@@ -98,6 +64,11 @@ pub fn read_schema<K: Keeper>(
     ensures kept { (K.shows keeper.new).held ≡ (K.shows keeper.old).held }
     ensures asks { AsksForFile path.now (K.shows keeper.old) (K.shows keeper.new) }
 {
-    let text = read_file(alloc, keeper, path)?;
-    Ok(parse_schema(alloc, &text)?)
+    match read_file(alloc, keeper, path, LONGEST_SCHEMA)? {
+        Some(text) => Ok(parse_schema(alloc, &text)?),
+        None => Err(SchemaFileFault::Refused {
+            offset: LONGEST_SCHEMA,
+            problem: SchemaProblem::TooLong,
+        }),
+    }
 }

@@ -2,17 +2,23 @@
 
 ghost use Rattle.std.specs.Prelude.{◌≡◌};
 ghost use Rattle.dr_top.specs.declared.stop.Stop.TheVariants as stops;
-ghost use Rattle.dr_top.specs.Stops.{words_stop, schema_file_stop, field_stop, input_stop};
+ghost use Rattle.dr_top.specs.Stops.{words_stop, schema_file_stop, table_file_stop, words_problem_stop, field_stop, input_stop, load_stop, file_stop};
 
 use crate::field::FieldFault;
 use crate::input_records::InputFault;
-use crate::refusal::Refusal;
+use crate::refusal::{LineProblem, Refusal};
 use crate::schema_file::SchemaFileFault;
+use crate::table_file::TableFileFault;
 use dr_commands::WordsFault;
+use dr_file::FileFault;
+use dr_load::LoadFault;
+use dr_load_words::WordsProblem;
 use dr_memory::NoMemory;
+use dr_outside::Cause;
+use dr_tablets::LeftTablet;
 
 /// Why a command gives no text.
-#[derive(Clone, Copy, PartialEq, Eq, Debug)]
+#[derive(PartialEq, Eq, Debug, Drop)]
 pub enum Stop {
     /// The words ask for nothing.
     Usage,
@@ -23,6 +29,10 @@ pub enum Stop {
     /// The keeper failed.
     Keeper,
     Refused(Refusal),
+    /// Tablets are left: none of their copies gave records.
+    Left(Vec<LeftTablet>),
+    /// A file gave no schema.
+    LeftFile(Cause),
 }
 
 impl From<NoMemory> for Stop {
@@ -58,6 +68,50 @@ impl From<SchemaFileFault> for Stop {
     }
 }
 
+impl From<TableFileFault> for Stop {
+    ghost from_gives = { λ fault stop. stop ≡ table_file_stop fault };
+
+    fn from(fault: TableFileFault) -> Stop {
+        match fault {
+            TableFileFault::NoMemory => Stop::NoMemory,
+            TableFileFault::Keeper => Stop::Keeper,
+            TableFileFault::Refused(problem) => Stop::Refused(Refusal::Table(problem)),
+        }
+    }
+}
+
+impl From<WordsProblem> for Stop {
+    ghost from_gives = { λ problem stop. stop ≡ words_problem_stop problem };
+
+    fn from(problem: WordsProblem) -> Stop {
+        Stop::Refused(Refusal::Words(problem))
+    }
+}
+
+impl From<LoadFault> for Stop {
+    ghost from_gives = { λ fault stop. stop ≡ load_stop fault };
+
+    fn from(fault: LoadFault) -> Stop {
+        match fault {
+            LoadFault::NoMemory => Stop::NoMemory,
+            LoadFault::BadLine { line, problem } => Stop::Refused(Refusal::Line {
+                number: line,
+                problem: LineProblem::Record(problem),
+            }),
+            LoadFault::LineTooLong { line } => Stop::Refused(Refusal::Line {
+                number: line,
+                problem: LineProblem::TooLong,
+            }),
+            LoadFault::TooManyRecords { line } => Stop::Refused(Refusal::Line {
+                number: line,
+                problem: LineProblem::TooManyRecords,
+            }),
+            LoadFault::ReadFault => Stop::Source,
+            LoadFault::KeepFault => Stop::Keeper,
+        }
+    }
+}
+
 impl From<FieldFault> for Stop {
     ghost from_gives = { λ fault stop. stop ≡ field_stop fault };
 
@@ -81,6 +135,17 @@ impl From<InputFault> for Stop {
             InputFault::Refused { number, problem } => {
                 Stop::Refused(Refusal::Line { number, problem })
             }
+        }
+    }
+}
+
+impl From<FileFault> for Stop {
+    ghost from_gives = { λ fault stop. stop ≡ file_stop fault };
+
+    fn from(fault: FileFault) -> Stop {
+        match fault {
+            FileFault::NoMemory => Stop::NoMemory,
+            FileFault::Why(cause) => Stop::LeftFile(cause),
         }
     }
 }

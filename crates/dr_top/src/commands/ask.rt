@@ -8,8 +8,8 @@ ghost use Rattle.dr_nested.specs.SchemaView.{schema_view};
 ghost use Rattle.dr_nested.specs.PathView.{step_view};
 ghost use Rattle.dr_commands.specs.Meaning.{done};
 ghost use Rattle.dr_commands.specs.Ask.{ask_meaning, ask_view};
-ghost use Rattle.dr_top.specs.World.{EndsAlone, WhereTold};
-ghost use Rattle.dr_top.specs.Stops.{StopsWith, InputStops, IsReadBy, AsksForFile};
+ghost use Rattle.dr_top.specs.World.{HasOutcome, WhereTold};
+ghost use Rattle.dr_top.specs.Stops.{StopsPlain, InputStops, IsReadBy, AsksForFile};
 ghost use Rattle.dr_top.specs.Records.{HasTotal};
 ghost use Rattle.dr_top.specs.Queries.{HasQuery, QueryStops};
 
@@ -78,11 +78,11 @@ pub fn answer<S: Source, K: Keeper>(
     source: &mut S,
     keeper: &mut K,
 ) -> Result<String, Stop>
-    ensures text { IfOk result (λ t. EndsAlone (ask_meaning (ask_view ask.now)) (K.shows keeper.old) (S.shows source.old) (done (string_bytes t) [])) }
+    ensures text { IfOk result (λ t. HasOutcome (ask_meaning (ask_view ask.now)) (K.shows keeper.old) (S.shows source.old) (done (string_bytes t) [])) }
     ensures read { OnOk result (IsReadBy true (S.shows source.old) (S.shows source.new)) }
     ensures source_calm { OnOk result ((S.shows source.new).faults ≡ (S.shows source.old).faults) }
     ensures keeper_calm { OnOk result ((K.shows keeper.new).faults ≡ (K.shows keeper.old).faults) }
-    ensures stops { IfErr result (StopsWith (ask_meaning (ask_view ask.now)) (K.shows keeper.old) (K.shows keeper.new) (S.shows source.old) (S.shows source.new)) }
+    ensures stops { IfErr result (StopsPlain (ask_meaning (ask_view ask.now)) (K.shows keeper.old) (K.shows keeper.new) (S.shows source.old) (S.shows source.new)) }
     ensures kept { (K.shows keeper.new).held ≡ (K.shows keeper.old).held }
     ensures asks { AsksForFile (string_bytes (ask.now).schema) (K.shows keeper.old) (K.shows keeper.new) }
 {

@@ -1,81 +1,25 @@
 //! The answer of `fsm`.
 
-ghost use Rattle.std.specs.Prelude.{◌≡◌, [], Ok, map, string_bytes, IfOk, IfErr, OnOk};
-ghost use Rattle.std.specs.List.{list_any};
-ghost use Rattle.dr_meaning.specs.Path as path_meaning;
-ghost use Rattle.dr_meaning.specs.Walk.{same_path};
-ghost use Rattle.dr_meaning.specs.Fsm.{with_leaf, named_leaves, fsm_leaves};
+ghost use Rattle.std.specs.Prelude.{◌≡◌, [], map, string_bytes, IfOk, IfErr, OnOk};
+ghost use Rattle.dr_meaning.specs.Fsm.{fsm_leaves};
 ghost use Rattle.dr_nested.specs.Views.{fields_view};
-ghost use Rattle.dr_nested.specs.PathView.{path_view, step_view};
-ghost use Rattle.dr_nested.specs.declared.path.Path.{Path};
+ghost use Rattle.dr_nested.specs.PathView.{path_view};
 ghost use Rattle.dr_outside.specs.Source.{SourceShown};
 ghost use Rattle.dr_commands.specs.Meaning.{done};
 ghost use Rattle.dr_commands.specs.Fsm.{fsm_meaning, fsm_view};
-ghost use Rattle.dr_top.specs.World.{EndsAlone};
-ghost use Rattle.dr_top.specs.Stops.{StopsWith, FieldStops, AsksForFile};
+ghost use Rattle.dr_top.specs.World.{HasOutcome};
+ghost use Rattle.dr_top.specs.Stops.{StopsPlain, AsksForFile};
 
-use crate::field::{FieldFault, find_field};
+use crate::fields::find_fields;
 use crate::schema_file::read_schema;
 use crate::stop::Stop;
 use dr_commands::Fsm;
 use dr_fsm::{Automaton, Order};
 use dr_memory::NoMemory;
-use dr_nested::{Path, Schema, Step};
+use dr_nested::{Path, Schema};
 use dr_outside::Keeper;
 use dr_print::automaton_text;
 use std::alloc::Global;
-
-/// Whether a path begins with another.
-fn begins_with(front: &[Step], path: &[Step]) -> bool
-    ensures { result ≡ path_meaning.begins_with (map step_view front.now) (map step_view path.now) }
-{
-    match front {
-        [] => true,
-        [first, rest @ ..] => match path {
-            [] => false,
-            [step, steps @ ..] => first.place == step.place && begins_with(rest, steps),
-        },
-    }
-}
-
-fn is_same_path(one: &Path, other: &Path) -> bool
-    ensures { result ≡ same_path (path_view one.now).path (path_view other.now).path }
-{
-    begins_with(&one.steps, &other.steps) && begins_with(&other.steps, &one.steps)
-}
-
-/// Whether a leaf is among others.
-fn is_among(leaves: &[Path], leaf: &Path) -> bool
-    ensures { result ≡ list_any (λ (m : Path). same_path (path_view leaf.now).path (path_view m).path) leaves.now }
-{
-    leaves.iter().any(|other| is_same_path(leaf, other))
-}
-
-/// Appends a leaf, unless it is there.
-fn add_leaf(leaves: &mut Vec<Path>, leaf: Path) -> Result<(), NoMemory>
-    ensures { OnOk result (map path_view (leaves.new).items ≡ with_leaf (map path_view (leaves.old).items) (path_view leaf)) }
-{
-    if is_among(leaves, &leaf) {
-        return Ok(());
-    }
-    leaves.push(leaf)?;
-    Ok(())
-}
-
-/// The leaves that FIELD words name, each once.
-///
-/// Errors: the first word that is refused; want of memory.
-fn find_fields(alloc: Global, schema: &Schema, texts: &[String]) -> Result<Vec<Path>, FieldFault>
-    ensures leaves { IfOk result (λ v. named_leaves (fields_view (schema.now).fields.items) [] 0 (map string_bytes texts.now) ≡ Ok (map path_view v.items)) }
-    ensures stops { IfErr result (FieldStops (named_leaves (fields_view (schema.now).fields.items) [] 0 (map string_bytes texts.now))) }
-{
-    let mut leaves = Vec::new(alloc);
-    'texts: for (number, text) in texts.iter().enumerate() {
-        let leaf = find_field(alloc, schema, text.as_str(), number)?;
-        add_leaf(&mut leaves, leaf)?;
-    }
-    Ok(leaves)
-}
 
 /// The text of the automaton of leaves in schema order.
 fn leaves_text(alloc: Global, schema: &Schema, leaves: &[Path]) -> Result<String, NoMemory>
@@ -89,9 +33,9 @@ fn leaves_text(alloc: Global, schema: &Schema, leaves: &[Path]) -> Result<String
 ///
 /// Errors: the first refusal: the schema, then the FIELD words in order; the keeper failed; want of memory.
 pub fn answer<K: Keeper>(alloc: Global, fsm: &Fsm, keeper: &mut K) -> Result<String, Stop>
-    ensures text { (input : SourceShown) → IfOk result (λ t. EndsAlone (fsm_meaning (fsm_view fsm.now)) (K.shows keeper.old) input (done (string_bytes t) [])) }
+    ensures text { (input : SourceShown) → IfOk result (λ t. HasOutcome (fsm_meaning (fsm_view fsm.now)) (K.shows keeper.old) input (done (string_bytes t) [])) }
     ensures keeper_calm { OnOk result ((K.shows keeper.new).faults ≡ (K.shows keeper.old).faults) }
-    ensures stops { (input : SourceShown) → IfErr result (StopsWith (fsm_meaning (fsm_view fsm.now)) (K.shows keeper.old) (K.shows keeper.new) input input) }
+    ensures stops { (input : SourceShown) → IfErr result (StopsPlain (fsm_meaning (fsm_view fsm.now)) (K.shows keeper.old) (K.shows keeper.new) input input) }
     ensures kept { (K.shows keeper.new).held ≡ (K.shows keeper.old).held }
     ensures asks { AsksForFile (string_bytes (fsm.now).schema) (K.shows keeper.old) (K.shows keeper.new) }
 {

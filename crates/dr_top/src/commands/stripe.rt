@@ -9,8 +9,8 @@ ghost use Rattle.dr_striper.specs.Stripers.{striped, striped_leaves};
 ghost use Rattle.dr_striper.specs.Leaves.{is_leaf};
 ghost use Rattle.dr_commands.specs.Meaning.{done};
 ghost use Rattle.dr_commands.specs.Stripe.{stripe_meaning, stripe_view};
-ghost use Rattle.dr_top.specs.World.{EndsAlone, WhereTold};
-ghost use Rattle.dr_top.specs.Stops.{StopsWith, InputStops, IsReadBy, AsksForFile};
+ghost use Rattle.dr_top.specs.World.{HasOutcome, WhereTold};
+ghost use Rattle.dr_top.specs.Stops.{StopsPlain, InputStops, IsReadBy, AsksForFile};
 ghost use Rattle.dr_top.specs.Records.{HasColumns};
 
 use crate::field::find_field;
@@ -80,11 +80,11 @@ pub fn answer<S: Source, K: Keeper>(
     source: &mut S,
     keeper: &mut K,
 ) -> Result<String, Stop>
-    ensures text { IfOk result (λ t. EndsAlone (stripe_meaning (stripe_view stripe.now)) (K.shows keeper.old) (S.shows source.old) (done (string_bytes t) [])) }
+    ensures text { IfOk result (λ t. HasOutcome (stripe_meaning (stripe_view stripe.now)) (K.shows keeper.old) (S.shows source.old) (done (string_bytes t) [])) }
     ensures read { OnOk result (IsReadBy true (S.shows source.old) (S.shows source.new)) }
     ensures source_calm { OnOk result ((S.shows source.new).faults ≡ (S.shows source.old).faults) }
     ensures keeper_calm { OnOk result ((K.shows keeper.new).faults ≡ (K.shows keeper.old).faults) }
-    ensures stops { IfErr result (StopsWith (stripe_meaning (stripe_view stripe.now)) (K.shows keeper.old) (K.shows keeper.new) (S.shows source.old) (S.shows source.new)) }
+    ensures stops { IfErr result (StopsPlain (stripe_meaning (stripe_view stripe.now)) (K.shows keeper.old) (K.shows keeper.new) (S.shows source.old) (S.shows source.new)) }
     ensures kept { (K.shows keeper.new).held ≡ (K.shows keeper.old).held }
     ensures asks { AsksForFile (string_bytes (stripe.now).schema) (K.shows keeper.old) (K.shows keeper.new) }
 {

@@ -1,39 +1,103 @@
-use Rattle.std.proofs.Common.{◌≡◌, refl, sym, ap, subst, ◌∙◌, map, string_bytes, List, ℕ}
+use Rattle.std.proofs.Common.{◌≡◌, refl, ap, subst, ◌∙◌, map, string_bytes, List, ℕ}
 use Rattle.dr_outside.specs.Sink.{AddedWhole, AddedFront}
+use Rattle.dr_reading.specs.LeftText.{left_text}
+use Rattle.dr_tablets.specs.Views.{all_left_view}
+use Rattle.dr_tablets.specs.declared.left.LeftTablet.{LeftTablet}
 use Rattle.dr_commands.specs.Commands.{meant}
 use Rattle.dr_top.specs.Ends.{Says}
 use Rattle.dr_top.specs.Answers.{StopsMeant}
 use Rattle.dr_top.specs.declared.stop.Stop.{Stop}
-use Rattle.dr_top.proofs.RunLemmas.{prints_end, out_failed, usage_end, memory_counts, refused_end, refused_incomplete}
+use Rattle.dr_top.proofs.RunLemmas.{prints_end, out_failed, usage_end, usage_counts, memory_end, memory_counts, source_failed, source_incomplete, keeper_failed, keeper_incomplete, refused_end, refused_counts, refused_incomplete, left_end, left_counts, file_end, file_counts, file_incomplete}
 use Rattle.dr_top.proofs.running.run.Goals as goal
 
 pub returns-in-Ok-write_all-clause-prints : goal.returns-in-Ok-write_all-clause-prints
 returns-in-Ok-write_all-clause-prints g c = λ _.
-    prints_end _ _ _ _ _ _ _ _ _ _ (meant (map string_bytes c.args.words.now)) (string_bytes c.in-Ok.text) c.in-Ok.ensures.text c.in-Ok.ensures.read c.answer.ensures.kept
+    prints_end _ _ _ _ _ _ _ _ _ _ (meant (map string_bytes c.args.words.now)) (string_bytes c.in-Ok.text) c.in-Ok.ensures.text c.in-Ok.ensures.read
     (subst (λ (b : List ℕ). AddedWhole (g.O.Sink.shows c.args.out.now) (g.O.Sink.shows c.write_all.new.out) b) c.as_bytes.ensures.value c.in-Ok-write_all.ensures.whole) refl
 
 pub returns-in-Ok-clause-outside : goal.returns-in-Ok-clause-outside
 returns-in-Ok-clause-outside g c = λ _.
-    out_failed _ _ _ _ _ _ _ _ _ _ (meant (map string_bytes c.args.words.now)) (string_bytes c.in-Ok.text) c.in-Ok.ensures.text c.in-Ok.ensures.read c.answer.ensures.kept
+    out_failed _ _ _ _ _ _ _ _ _ _ (meant (map string_bytes c.args.words.now)) (string_bytes c.in-Ok.text) c.in-Ok.ensures.text c.in-Ok.ensures.read
     (subst (λ (b : List ℕ). AddedFront (g.O.Sink.shows c.args.out.now) (g.O.Sink.shows c.write_all.new.out) b) c.as_bytes.ensures.value c.in-Err.ensures.front) c.in-Err.ensures.cause c.in-Ok.ensures.keeper_calm c.in-Ok.ensures.source_calm c.say.ensures
 
 pub returns-in-Err-Usage-clause-usage : goal.returns-in-Err-Usage-clause-usage
 returns-in-Err-Usage-clause-usage g c = λ _.
-    usage_end _ _ _ _ _ _ _ _ (map g.L.Link.shows c.args.links.now) (map g.L.Link.shows c.args.links.now) (meant (map string_bytes c.args.words.now))
-    (subst (λ (s : Stop). StopsMeant (meant (map string_bytes c.args.words.now)) (g.K.Link.shows c.args.keeper.now) (g.K.Link.shows c.answer.new.keeper) (g.S.Source.shows c.args.source.now) (g.S.Source.shows c.answer.new.source) s) c.in-Err-Usage.field-0-is c.in-Err-Usage.ensures.stops) refl
+    usage_end _ _ _ _ _ _ _ _ _ _ (meant (map string_bytes c.args.words.now))
+    (subst (λ (s : Stop). StopsMeant (meant (map string_bytes c.args.words.now)) (g.K.Link.shows c.args.keeper.now) (g.K.Link.shows c.answer.new.keeper) (g.S.Source.shows c.args.source.now) (g.S.Source.shows c.answer.new.source) (map g.L.Link.shows c.args.links.now) (map g.L.Link.shows c.answer.new.links) s) c.in-Err-Usage.field-0-is c.in-Err-Usage.ensures.stops) refl
     (subst (λ (line : List ℕ). Says (g.E.Sink.shows c.args.err.now) (g.E.Sink.shows c.say-in-Err-Usage.new.err) line) c.as_bytes-in-Err-Usage.ensures.value c.say-in-Err-Usage.ensures)
+
+pub returns-in-Err-NoMemory-clause-memory : goal.returns-in-Err-NoMemory-clause-memory
+returns-in-Err-NoMemory-clause-memory g c = λ _.
+    memory_end _ _ _ _ _ _ _ _ _ _ (meant (map string_bytes c.args.words.now)) (subst (λ (s : Stop). StopsMeant (meant (map string_bytes c.args.words.now)) (g.K.Link.shows c.args.keeper.now) (g.K.Link.shows c.answer.new.keeper) (g.S.Source.shows c.args.source.now) (g.S.Source.shows c.answer.new.source) (map g.L.Link.shows c.args.links.now) (map g.L.Link.shows c.answer.new.links) s) c.in-Err-NoMemory.field-0-is c.in-Err-NoMemory.ensures.stops) refl c.say-in-Err-NoMemory.ensures
 
 pub returns-in-Err-NoMemory-clause-calm : goal.returns-in-Err-NoMemory-clause-calm
 returns-in-Err-NoMemory-clause-calm g c = λ _.
-    memory_counts _ _ _ _ _ _ _ _ _ _ (meant (map string_bytes c.args.words.now)) (subst (λ (s : Stop). StopsMeant (meant (map string_bytes c.args.words.now)) (g.K.Link.shows c.args.keeper.now) (g.K.Link.shows c.answer.new.keeper) (g.S.Source.shows c.args.source.now) (g.S.Source.shows c.answer.new.source) s) c.in-Err-NoMemory.field-0-is c.in-Err-NoMemory.ensures.stops) refl
+    memory_counts _ _ _ _ _ _ _ _ _ _ (meant (map string_bytes c.args.words.now)) (subst (λ (s : Stop). StopsMeant (meant (map string_bytes c.args.words.now)) (g.K.Link.shows c.args.keeper.now) (g.K.Link.shows c.answer.new.keeper) (g.S.Source.shows c.args.source.now) (g.S.Source.shows c.answer.new.source) (map g.L.Link.shows c.args.links.now) (map g.L.Link.shows c.answer.new.links) s) c.in-Err-NoMemory.field-0-is c.in-Err-NoMemory.ensures.stops) refl
 
-pub returns-clause-refused : goal.returns-clause-refused
-returns-clause-refused g c = λ _.
+pub returns-in-Err-Refused-clause-refused : goal.returns-in-Err-Refused-clause-refused
+returns-in-Err-Refused-clause-refused g c = λ _.
     let stop : c.in-Err-Refused.field-0 ≡ Stop.Refused c.in-Err-Refused.refusal = cc (c.in-Err-Refused.field-0-is) in
-    refused_end _ _ _ _ _ _ _ _ _ _ (meant (map string_bytes c.args.words.now)) c.in-Err-Refused.refusal (subst (λ (s : Stop). StopsMeant (meant (map string_bytes c.args.words.now)) (g.K.Link.shows c.args.keeper.now) (g.K.Link.shows c.answer.new.keeper) (g.S.Source.shows c.args.source.now) (g.S.Source.shows c.answer.new.source) s) stop c.in-Err-Refused.ensures.stops) c.answer.ensures.kept refl
+    refused_end _ _ _ _ _ _ _ _ _ _ (meant (map string_bytes c.args.words.now)) c.in-Err-Refused.refusal (subst (λ (s : Stop). StopsMeant (meant (map string_bytes c.args.words.now)) (g.K.Link.shows c.args.keeper.now) (g.K.Link.shows c.answer.new.keeper) (g.S.Source.shows c.args.source.now) (g.S.Source.shows c.answer.new.source) (map g.L.Link.shows c.args.links.now) (map g.L.Link.shows c.answer.new.links) s) stop c.in-Err-Refused.ensures.stops) refl
     (subst (λ (line : List ℕ). Says (g.E.Sink.shows c.args.err.now) (g.E.Sink.shows c.say-in-Err-Refused.new.err) line) (c.bytes.ensures ∙ c.report.ensures) c.say-in-Err-Refused.ensures)
+
+pub returns-in-Err-Refused-clause-complete : goal.returns-in-Err-Refused-clause-complete
+returns-in-Err-Refused-clause-complete g c =
+    let stop : c.in-Err-Refused.field-0 ≡ Stop.Refused c.in-Err-Refused.refusal = cc (c.in-Err-Refused.field-0-is) in
+    refused_incomplete _ _ _ _ _ _ _ _ _ _ (meant (map string_bytes c.args.words.now)) 2 c.in-Err-Refused.refusal (subst (λ (s : Stop). StopsMeant (meant (map string_bytes c.args.words.now)) (g.K.Link.shows c.args.keeper.now) (g.K.Link.shows c.answer.new.keeper) (g.S.Source.shows c.args.source.now) (g.S.Source.shows c.answer.new.source) (map g.L.Link.shows c.args.links.now) (map g.L.Link.shows c.answer.new.links) s) stop c.in-Err-Refused.ensures.stops)
+
+pub returns-in-Err-Usage-clause-calm : goal.returns-in-Err-Usage-clause-calm
+returns-in-Err-Usage-clause-calm g c = λ _.
+    usage_counts _ _ _ _ _ _ _ _ _ _ (meant (map string_bytes c.args.words.now)) (subst (λ (s : Stop). StopsMeant (meant (map string_bytes c.args.words.now)) (g.K.Link.shows c.args.keeper.now) (g.K.Link.shows c.answer.new.keeper) (g.S.Source.shows c.args.source.now) (g.S.Source.shows c.answer.new.source) (map g.L.Link.shows c.args.links.now) (map g.L.Link.shows c.answer.new.links) s) c.in-Err-Usage.field-0-is c.in-Err-Usage.ensures.stops) refl
+
+pub returns-in-Err-Source-clause-outside : goal.returns-in-Err-Source-clause-outside
+returns-in-Err-Source-clause-outside g c = λ _.
+    source_failed _ _ _ _ _ _ _ _ _ _ (meant (map string_bytes c.args.words.now)) (subst (λ (s : Stop). StopsMeant (meant (map string_bytes c.args.words.now)) (g.K.Link.shows c.args.keeper.now) (g.K.Link.shows c.answer.new.keeper) (g.S.Source.shows c.args.source.now) (g.S.Source.shows c.answer.new.source) (map g.L.Link.shows c.args.links.now) (map g.L.Link.shows c.answer.new.links) s) c.in-Err-Source.field-0-is c.in-Err-Source.ensures.stops) refl c.say-in-Err-Source.ensures
+
+pub returns-in-Err-Source-clause-complete : goal.returns-in-Err-Source-clause-complete
+returns-in-Err-Source-clause-complete g c =
+    source_incomplete _ _ _ _ _ _ _ _ _ _ (meant (map string_bytes c.args.words.now)) 4 (subst (λ (s : Stop). StopsMeant (meant (map string_bytes c.args.words.now)) (g.K.Link.shows c.args.keeper.now) (g.K.Link.shows c.answer.new.keeper) (g.S.Source.shows c.args.source.now) (g.S.Source.shows c.answer.new.source) (map g.L.Link.shows c.args.links.now) (map g.L.Link.shows c.answer.new.links) s) c.in-Err-Source.field-0-is c.in-Err-Source.ensures.stops)
+
+pub returns-in-Err-Keeper-clause-outside : goal.returns-in-Err-Keeper-clause-outside
+returns-in-Err-Keeper-clause-outside g c = λ _.
+    keeper_failed _ _ _ _ _ _ _ _ _ _ (meant (map string_bytes c.args.words.now)) (subst (λ (s : Stop). StopsMeant (meant (map string_bytes c.args.words.now)) (g.K.Link.shows c.args.keeper.now) (g.K.Link.shows c.answer.new.keeper) (g.S.Source.shows c.args.source.now) (g.S.Source.shows c.answer.new.source) (map g.L.Link.shows c.args.links.now) (map g.L.Link.shows c.answer.new.links) s) c.in-Err-Keeper.field-0-is c.in-Err-Keeper.ensures.stops) refl c.say-in-Err-Keeper.ensures
+
+pub returns-in-Err-Keeper-clause-complete : goal.returns-in-Err-Keeper-clause-complete
+returns-in-Err-Keeper-clause-complete g c =
+    keeper_incomplete _ _ _ _ _ _ _ _ _ _ (meant (map string_bytes c.args.words.now)) 4 (subst (λ (s : Stop). StopsMeant (meant (map string_bytes c.args.words.now)) (g.K.Link.shows c.args.keeper.now) (g.K.Link.shows c.answer.new.keeper) (g.S.Source.shows c.args.source.now) (g.S.Source.shows c.answer.new.source) (map g.L.Link.shows c.args.links.now) (map g.L.Link.shows c.answer.new.links) s) c.in-Err-Keeper.field-0-is c.in-Err-Keeper.ensures.stops)
+
+pub returns-in-Err-Refused-clause-calm : goal.returns-in-Err-Refused-clause-calm
+returns-in-Err-Refused-clause-calm g c = λ _.
+    let stop : c.in-Err-Refused.field-0 ≡ Stop.Refused c.in-Err-Refused.refusal = cc (c.in-Err-Refused.field-0-is) in
+    refused_counts _ _ _ _ _ _ _ _ _ _ (meant (map string_bytes c.args.words.now)) c.in-Err-Refused.refusal (subst (λ (s : Stop). StopsMeant (meant (map string_bytes c.args.words.now)) (g.K.Link.shows c.args.keeper.now) (g.K.Link.shows c.answer.new.keeper) (g.S.Source.shows c.args.source.now) (g.S.Source.shows c.answer.new.source) (map g.L.Link.shows c.args.links.now) (map g.L.Link.shows c.answer.new.links) s) stop c.in-Err-Refused.ensures.stops) refl
+
+pub returns-in-Ok-left_text-clause-left : goal.returns-in-Ok-left_text-clause-left
+returns-in-Ok-left_text-clause-left g c = λ _.
+    let stop : c.in-Err-Left.field-0 ≡ Stop.Left c.in-Err-Left.left = cc (c.in-Err-Left.field-0-is) in
+    left_end _ _ _ _ _ _ _ _ _ _ (meant (map string_bytes c.args.words.now)) c.in-Err-Left.left (subst (λ (s : Stop). StopsMeant (meant (map string_bytes c.args.words.now)) (g.K.Link.shows c.args.keeper.now) (g.K.Link.shows c.answer.new.keeper) (g.S.Source.shows c.args.source.now) (g.S.Source.shows c.answer.new.source) (map g.L.Link.shows c.args.links.now) (map g.L.Link.shows c.answer.new.links) s) stop c.in-Err-Left.ensures.stops) refl
+    (subst (λ (line : List ℕ). Says (g.E.Sink.shows c.args.err.now) (g.E.Sink.shows c.say-in-Ok-left_text.new.err) line) (c.as_bytes-in-Ok-left_text.ensures.value ∙ (c.in-Ok-left_text.ensures ∙ ap (λ (left : List LeftTablet). left_text (all_left_view left)) c.deref.ensures.value)) c.say-in-Ok-left_text.ensures)
+
+pub returns-in-Ok-left_text-clause-calm : goal.returns-in-Ok-left_text-clause-calm
+returns-in-Ok-left_text-clause-calm g c = λ _.
+    let stop : c.in-Err-Left.field-0 ≡ Stop.Left c.in-Err-Left.left = cc (c.in-Err-Left.field-0-is) in
+    left_counts _ _ _ _ _ _ _ _ _ _ (meant (map string_bytes c.args.words.now)) c.in-Err-Left.left (subst (λ (s : Stop). StopsMeant (meant (map string_bytes c.args.words.now)) (g.K.Link.shows c.args.keeper.now) (g.K.Link.shows c.answer.new.keeper) (g.S.Source.shows c.args.source.now) (g.S.Source.shows c.answer.new.source) (map g.L.Link.shows c.args.links.now) (map g.L.Link.shows c.answer.new.links) s) stop c.in-Err-Left.ensures.stops) refl
+
+pub returns-in-Err-Left-clause-calm : goal.returns-in-Err-Left-clause-calm
+returns-in-Err-Left-clause-calm g c = λ _.
+    let stop : c.in-Err-Left.field-0 ≡ Stop.Left c.in-Err-Left.left = cc (c.in-Err-Left.field-0-is) in
+    left_counts _ _ _ _ _ _ _ _ _ _ (meant (map string_bytes c.args.words.now)) c.in-Err-Left.left (subst (λ (s : Stop). StopsMeant (meant (map string_bytes c.args.words.now)) (g.K.Link.shows c.args.keeper.now) (g.K.Link.shows c.answer.new.keeper) (g.S.Source.shows c.args.source.now) (g.S.Source.shows c.answer.new.source) (map g.L.Link.shows c.args.links.now) (map g.L.Link.shows c.answer.new.links) s) stop c.in-Err-Left.ensures.stops) refl
+
+pub returns-clause-left : goal.returns-clause-left
+returns-clause-left g c = λ _.
+    let stop : c.in-Err-LeftFile.field-0 ≡ Stop.LeftFile c.in-Err-LeftFile.cause = cc (c.in-Err-LeftFile.field-0-is) in
+    file_end _ _ _ _ _ _ _ _ _ _ (meant (map string_bytes c.args.words.now)) c.in-Err-LeftFile.cause (subst (λ (s : Stop). StopsMeant (meant (map string_bytes c.args.words.now)) (g.K.Link.shows c.args.keeper.now) (g.K.Link.shows c.answer.new.keeper) (g.S.Source.shows c.args.source.now) (g.S.Source.shows c.answer.new.source) (map g.L.Link.shows c.args.links.now) (map g.L.Link.shows c.answer.new.links) s) stop c.in-Err-LeftFile.ensures.stops) refl
+    (subst (λ (line : List ℕ). Says (g.E.Sink.shows c.args.err.now) (g.E.Sink.shows c.say-in-Err-LeftFile.new.err) line) (c.bytes-in-Err-LeftFile.ensures ∙ c.left_file_report.ensures) c.say-in-Err-LeftFile.ensures)
+
+pub returns-clause-calm : goal.returns-clause-calm
+returns-clause-calm g c = λ _.
+    let stop : c.in-Err-LeftFile.field-0 ≡ Stop.LeftFile c.in-Err-LeftFile.cause = cc (c.in-Err-LeftFile.field-0-is) in
+    file_counts _ _ _ _ _ _ _ _ _ _ (meant (map string_bytes c.args.words.now)) c.in-Err-LeftFile.cause (subst (λ (s : Stop). StopsMeant (meant (map string_bytes c.args.words.now)) (g.K.Link.shows c.args.keeper.now) (g.K.Link.shows c.answer.new.keeper) (g.S.Source.shows c.args.source.now) (g.S.Source.shows c.answer.new.source) (map g.L.Link.shows c.args.links.now) (map g.L.Link.shows c.answer.new.links) s) stop c.in-Err-LeftFile.ensures.stops) refl
 
 pub returns-clause-complete : goal.returns-clause-complete
 returns-clause-complete g c =
-    let stop : c.in-Err-Refused.field-0 ≡ Stop.Refused c.in-Err-Refused.refusal = cc (c.in-Err-Refused.field-0-is) in
-    refused_incomplete _ _ _ _ _ _ _ _ _ _ (meant (map string_bytes c.args.words.now)) 2 c.in-Err-Refused.refusal (subst (λ (s : Stop). StopsMeant (meant (map string_bytes c.args.words.now)) (g.K.Link.shows c.args.keeper.now) (g.K.Link.shows c.answer.new.keeper) (g.S.Source.shows c.args.source.now) (g.S.Source.shows c.answer.new.source) s) stop c.in-Err-Refused.ensures.stops)
+    let stop : c.in-Err-LeftFile.field-0 ≡ Stop.LeftFile c.in-Err-LeftFile.cause = cc (c.in-Err-LeftFile.field-0-is) in
+    file_incomplete _ _ _ _ _ _ _ _ _ _ (meant (map string_bytes c.args.words.now)) c.in-Err-LeftFile.cause (subst (λ (s : Stop). StopsMeant (meant (map string_bytes c.args.words.now)) (g.K.Link.shows c.args.keeper.now) (g.K.Link.shows c.answer.new.keeper) (g.S.Source.shows c.args.source.now) (g.S.Source.shows c.answer.new.source) (map g.L.Link.shows c.args.links.now) (map g.L.Link.shows c.answer.new.links) s) stop c.in-Err-LeftFile.ensures.stops)

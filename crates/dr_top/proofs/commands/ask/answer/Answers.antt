@@ -1,5 +1,5 @@
-use Rattle.std.proofs.Common.{◌≡◌, ◌∙◌, ap, sym, map, string_bytes, List, ℕ, Some}
-use Rattle.dr_meaning.specs.Ask.{count_of, count_query}
+use Rattle.std.proofs.Common.{◌∙◌, ap, sym, map, string_bytes, List, ℕ, Some}
+use Rattle.dr_meaning.specs.Ask.{count_query}
 use Rattle.dr_nested.specs.SchemaView.{schema_view}
 use Rattle.dr_nested.specs.PathView.{step_view}
 use Rattle.dr_nested.specs.declared.path.Step.{Step}
@@ -12,7 +12,7 @@ pub returns-in_err-schema-clause-stops : goal.returns-in_err-schema-clause-stops
 returns-in_err-schema-clause-stops g c =
     err_is _ _ _ c.from_residual.ensures.1
     (schema_file_stops (ask_meaning (ask_view c.args.ask.now)) (g.K.Link.shows c.args.keeper.now) (g.K.Link.shows c.read_schema.new.keeper) (g.S.Source.shows c.args.source.now) c.as_str.result.now c.in_err-schema.field-0.0
-    c.as_str.ensures.value (ask_refuses_schema (ask_view c.args.ask.now)) c.in_err-schema.ensures.stops)
+    (ap Some (sym c.as_str.ensures.value)) (ask_refuses_schema (ask_view c.args.ask.now)) c.in_err-schema.ensures.stops)
 
 pub returns-in_err-query-clause-stops : goal.returns-in_err-query-clause-stops
 returns-in_err-query-clause-stops g c =

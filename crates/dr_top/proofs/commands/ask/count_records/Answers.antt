@@ -1,4 +1,4 @@
-use Rattle.std.proofs.Common.{arith, refl, ◌≡◌, ◌≤◌, ◌+◌, ◌∙◌, ap, map, ℕ}
+use Rattle.std.proofs.Common.{arith, refl, ◌≤◌, ◌+◌, ◌∙◌, ap, map, ℕ}
 use Rattle.dr_meaning.specs.Record.{instance_count}
 use Rattle.dr_meaning.specs.JsonRecord.{most_instances}
 use Rattle.dr_nested.specs.declared.record.Node.{Node}

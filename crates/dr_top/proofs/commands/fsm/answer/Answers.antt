@@ -1,4 +1,4 @@
-use Rattle.std.proofs.Common.{◌≡◌, ap, sym, ◌∙◌, map, string_bytes, Ok, List}
+use Rattle.std.proofs.Common.{ap, sym, ◌∙◌, map, string_bytes, Ok, List, Some}
 use Rattle.dr_nested.specs.declared.path.Path.{Path}
 use Rattle.dr_nested.specs.SchemaView.{schema_view}
 use Rattle.dr_nested.specs.PathView.{path_view}
@@ -11,7 +11,7 @@ pub returns-in_err-schema-clause-stops : goal.returns-in_err-schema-clause-stops
 returns-in_err-schema-clause-stops g c = λ input.
     err_is _ _ _ c.from_residual.ensures.1
     (schema_file_stops (fsm_meaning (fsm_view c.args.fsm.now)) (g.K.Link.shows c.args.keeper.now) (g.K.Link.shows c.read_schema.new.keeper) input c.as_str.result.now c.in_err-schema.field-0.0
-    c.as_str.ensures.value (fsm_refuses_schema (fsm_view c.args.fsm.now)) c.in_err-schema.ensures.stops)
+    (ap Some (sym c.as_str.ensures.value)) (fsm_refuses_schema (fsm_view c.args.fsm.now)) c.in_err-schema.ensures.stops)
 
 pub returns-in_err-leaves-clause-stops : goal.returns-in_err-leaves-clause-stops
 returns-in_err-leaves-clause-stops g c = λ input.

@@ -1,4 +1,4 @@
-use Rattle.std.proofs.Common.{◌≡◌, ap, string_bytes}
+use Rattle.std.proofs.Common.{ap, string_bytes, sym, Some}
 use Rattle.dr_nested.specs.SchemaView.{schema_view}
 use Rattle.dr_nested.specs.PathView.{path_view}
 use Rattle.dr_levels.specs.Views.{column_view}
@@ -12,7 +12,7 @@ pub returns-in_err-schema-clause-stops : goal.returns-in_err-schema-clause-stops
 returns-in_err-schema-clause-stops g c =
     err_is _ _ _ c.from_residual.ensures.1
     (schema_file_stops (stripe_meaning (stripe_view c.args.stripe.now)) (g.K.Link.shows c.args.keeper.now) (g.K.Link.shows c.read_schema.new.keeper) (g.S.Source.shows c.args.source.now) c.as_str.result.now c.in_err-schema.field-0.0
-    c.as_str.ensures.value (stripe_refuses_schema (stripe_view c.args.stripe.now)) c.in_err-schema.ensures.stops)
+    (ap Some (sym c.as_str.ensures.value)) (stripe_refuses_schema (stripe_view c.args.stripe.now)) c.in_err-schema.ensures.stops)
 
 pub returns-in_err-field-clause-stops : goal.returns-in_err-field-clause-stops
 returns-in_err-field-clause-stops g c =

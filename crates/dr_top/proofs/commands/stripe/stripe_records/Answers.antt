@@ -1,4 +1,4 @@
-use Rattle.std.proofs.Common.{arith, refl, ◌≡◌, ◌≤◌, ◌+◌, ◌∷◌, [], ap, subst, ◌∙◌, map, true, ◌&&◌}
+use Rattle.std.proofs.Common.{◌≡◌, ◌≤◌, ◌+◌, ◌∷◌, [], ap, subst, ◌∙◌, map, true, ◌&&◌}
 use Rattle.std.specs.List.{list_all}
 use Rattle.dr_meaning.specs.Path.{Leaf}
 use Rattle.dr_meaning.specs.Stripe.{most_striped}
@@ -9,7 +9,6 @@ use Rattle.dr_lines.specs.Cutting.{rest_of, pending}
 use Rattle.dr_striper.specs.Stripers.{striped, striped_paths, fits_leaf}
 use Rattle.dr_striper.specs.Leaves.{has_fields}
 use Rattle.dr_striper.proofs.FitLemmas.{form_fits}
-use Rattle.dr_levels.specs.Views.{column_view}
 use Rattle.dr_top.specs.Records.{AreColumns, HasColumns}
 use Rattle.dr_top.proofs.InputLemmas.{read_more, read_all, all_ended, input_stops, some_of, none_there}
 use Rattle.dr_top.proofs.OutcomeLemmas.{err_is}

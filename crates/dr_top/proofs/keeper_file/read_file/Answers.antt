@@ -1,18 +1,10 @@
 use Rattle.std.proofs.Common.{length}
-use Rattle.dr_top.proofs.SchemaFileLemmas.{asks_length, asks_bytes, asks_after_length, asks_after_bytes, long_file}
-use Rattle.dr_top.proofs.schema_file.read_file.Goals as goal
+use Rattle.dr_top.proofs.KeeperFileLemmas.{asks_length, asks_bytes, asks_after_length, asks_after_bytes}
+use Rattle.dr_top.proofs.keeper_file.read_file.Goals as goal
 
 pub returns-in_err-size-clause-asks : goal.returns-in_err-size-clause-asks
 returns-in_err-size-clause-asks g c =
     asks_after_length c.args.path.now (g.K.Link.shows c.args.keeper.now) (g.K.Link.shows c.size.new.self) c.size.result c.in_err-size.field-0.0 c.in_err-size.was c.size.ensures.asked c.size.ensures.not_asked
-
-pub returns-then-size-clause-stops : goal.returns-then-size-clause-stops
-returns-then-size-clause-stops g c =
-    (c.in_ok-size.ensures.calm (λ e. cc), long_file (g.K.Link.shows c.args.keeper.now).held c.args.path.now c.in_ok-size.size c.in_ok-size.ensures.bytes c.if-size.true)
-
-pub returns-then-size-clause-asks : goal.returns-then-size-clause-asks
-returns-then-size-clause-asks g c =
-    asks_length c.args.path.now (g.K.Link.shows c.args.keeper.now) (g.K.Link.shows c.size.new.self) (c.in_ok-size.ensures.asked (λ e. cc))
 
 pub returns-in_err-bytes-clause-asks : goal.returns-in_err-bytes-clause-asks
 returns-in_err-bytes-clause-asks g c =
@@ -27,3 +19,7 @@ pub returns-clause-asks : goal.returns-clause-asks
 returns-clause-asks g c =
     asks_bytes c.args.path.now (length c.deref_mut.result.now) (g.K.Link.shows c.args.keeper.now) (g.K.Link.shows c.size.new.self) (g.K.Link.shows c.read_at.new.self)
     (c.in_ok-size.ensures.asked (λ e. cc)) (c.in_ok-read_at.ensures.asked (λ e. cc))
+
+pub returns-then-size-longest-clause-asks : goal.returns-then-size-longest-clause-asks
+returns-then-size-longest-clause-asks g c =
+    asks_length c.args.path.now (g.K.Link.shows c.args.keeper.now) (g.K.Link.shows c.size.new.self) (c.in_ok-size.ensures.asked (λ e. cc))

@@ -4,7 +4,7 @@ use Rattle.dr_meaning.specs.Walk.{same_path}
 use Rattle.dr_nested.specs.PathView.{path_view}
 use Rattle.dr_nested.specs.declared.path.Path.{Path}
 use Rattle.dr_top.proofs.FsmLemmas.{named_again, named_first}
-use Rattle.dr_top.proofs.commands.fsm.add_leaf.Goals as goal
+use Rattle.dr_top.proofs.fields.add_leaf.Goals as goal
 
 pub returns-then-is_among : goal.returns-then-is_among
 returns-then-is_among c =

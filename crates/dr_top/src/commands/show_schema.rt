@@ -1,0 +1,26 @@
+//! The answer of `schema`.
+
+ghost use Rattle.std.specs.Prelude.{◌≡◌, string_bytes, IfOk, IfErr, IsTrue};
+ghost use Rattle.dr_serving.specs.Held.{held_at};
+ghost use Rattle.dr_top.specs.Reading.{IsSchemaShown};
+ghost use Rattle.dr_top.specs.Stops.{SchemaStops};
+
+use crate::stop::Stop;
+use dr_commands::ShowSchema;
+use dr_file::schema_of;
+use dr_nested::schema_text;
+use dr_outside::Link;
+use std::alloc::Global;
+
+/// The text that `schema` prints.
+///
+/// Errors: the cause for which the file gives no schema; want of memory.
+pub fn answer<L: Link>(alloc: Global, show: &ShowSchema, link: &mut L) -> Result<String, Stop>
+    ensures text { IfOk result (λ t. IsSchemaShown (held_at (L.shows link.old).held (string_bytes (show.now).file)) (string_bytes t)) }
+    ensures stops { IfErr result (SchemaStops (string_bytes (show.now).file) (L.shows link.old) (L.shows link.new)) }
+    ensures same { (L.shows link.new).held ≡ (L.shows link.old).held }
+    ensures stays_steady { IsTrue (L.shows link.old).is_steady → IsTrue (L.shows link.new).is_steady }
+{
+    let schema = schema_of(alloc, link, show.file.as_str())?;
+    Ok(schema_text(alloc, &schema)?)
+}
