@@ -52,13 +52,19 @@ fn ends_so<R, K: Keeper, L: Link + Send>(
         links,
         &OpenGate,
     );
-    Ok(status == row.status
-        && out.written() == row.out.as_bytes()
-        && err.written() == row.err.as_bytes())
+    Ok(
+        status == row.status
+            && out.written() == row.out.as_bytes()
+            && err.written() == row.err.as_bytes(),
+    )
 }
 
 /// Sixteen links over a shelf, of which the first fails at these calls.
-fn links_over<'a>(alloc: Global, shelf: &'a Shelf, failing: &[u64]) -> Result<Vec<MemLink<'a>>, Fail> {
+fn links_over<'a>(
+    alloc: Global,
+    shelf: &'a Shelf,
+    failing: &[u64],
+) -> Result<Vec<MemLink<'a>>, Fail> {
     let mut links = Vec::new(alloc);
     links.push(MemLink::new(alloc, shelf, failing.to_vec(alloc)?))?;
     for _ in 1..16 {

@@ -28,7 +28,7 @@ fn main(rt: HostRuntime) -> io::Result<ExitCode> {
     let alloc = rt.alloc();
     let words: Vec<String> = env::args(&rt)?.collect(alloc)?;
     let mut links = Vec::new(alloc);
-    for _ in 0..MOST_LEAVES {
+    'links: for _ in 0..MOST_LEAVES {
         links.push(DirLink::new(alloc, rt))?;
     }
     let status = run(
