@@ -8,6 +8,7 @@ use Rattle.dr_meaning.specs.Rows.{value_at}
 abbrev pub values_at : List (List Step) → Node → List (Option Value)
 values_at ps row = map (λ p. value_at p row) ps
 
+-- what stands below the first of some instances, if there is one
 abbrev pub first_end : (Instance → Option Instance) → Instances → Option Instance
 first_end f no_instances = None
 first_end f (instance x xs) = f x
@@ -17,6 +18,7 @@ abbrev pub end_in : List Step → Instance → Option Instance
 end_in [] x = Some x
 end_in (s ∷ p) x = first_end (end_in p) (instances_in s.place x)
 
+-- whether there is at most one instance, which passes
 abbrev pub only_one : (Instance → Bool) → Instances → Bool
 only_one f no_instances = true
 only_one f (instance x no_instances) = f x
@@ -36,5 +38,6 @@ pub record Known : Type 0 where
   pub values : List (Option Value)
   pub end : Option Instance
 
+-- what is known of a row at a level, where these are the leaves
 abbrev pub known : List (List Step) → List Step → Node → Known
 known leaves level row = record { values = values_at leaves row; end = end_in level (inner row) }

@@ -9,10 +9,12 @@ pub record Pruned (A : Type 0) : Type 0 where
   pub kept : A
   pub left : List Bool
 
+-- the next answer; at the end no
 abbrev pub first_answer : List Bool → Bool
 first_answer [] = false
 first_answer (b ∷ bs) = b
 
+-- this, if so
 abbrev pub kept_if : {A : Type 0} → Bool → A → Option A
 kept_if b x = if b then Some x else None
 
@@ -20,13 +22,16 @@ kept_if b x = if b then Some x else None
 abbrev pub by_answer : {A : Type 0} → A → List Bool → Pruned (Option A)
 by_answer x bs = record { kept = kept_if (first_answer bs) x; left = drop 1 bs }
 
+-- an instance, if it is kept, before others that are
 abbrev pub before_pruned : Pruned (Option Instance) → Pruned Instances → Pruned Instances
 before_pruned x xs = record { kept = with_kept x.kept xs.kept; left = xs.left }
 
+-- the instances that are kept
 abbrev pub pruned_each : (Instance → List Bool → Pruned (Option Instance)) → Instances → List Bool → Pruned Instances
 pruned_each f no_instances bs = record { kept = no_instances; left = bs }
 pruned_each f (instance x xs) bs = before_pruned (f x bs) (pruned_each f xs (f x bs).left)
 
+-- instances, where there are any
 abbrev pub some_instances : Instances → Option Instances
 some_instances no_instances = None
 some_instances (instance x xs) = Some (instance x xs)
@@ -41,6 +46,7 @@ abbrev pub pruned_instance : (Node → List Bool → Pruned (Option Node)) → I
 pruned_instance f (atom v) bs = by_answer (atom v) bs
 pruned_instance f (inner n) bs = record { kept = option_map inner (f n bs).kept; left = (f n bs).left }
 
+-- the node with what is kept of a field
 abbrev pub put_field : (Instances → Node) → Pruned (Option Instances) → Pruned (Option Node)
 put_field f xs = record { kept = option_map f xs.kept; left = xs.left }
 

@@ -25,6 +25,7 @@ lent_cells vs = map (option_map lent_value) vs
 abbrev pub paths_view : List Path → List (List path.Step)
 paths_view ls = map (λ (l : Path). map step_view l.steps.items) ls
 
+-- what a lent row tells
 abbrev pub row_view : Row → Known
 row_view r = record { values = lent_cells r.values.now; end = option_map lent_instance r.end }
 
@@ -33,5 +34,10 @@ abbrev pub rows_from : ℕ → List (Option ValueRef) → List (Option InstanceR
 rows_from width vs [] = []
 rows_from width vs (e ∷ es) = record { values = lent_cells (take width vs); end = option_map lent_instance e } ∷ rows_from width (drop width vs) es
 
+-- what is known of each row, in order
 abbrev pub rows_view : Rows → List Known
 rows_view t = rows_from t.width t.values.items t.ends.items
+
+-- how many values each row has
+abbrev pub rows_width : Rows → ℕ
+rows_width t = t.width

@@ -22,6 +22,7 @@ filled q x [] vs = []
 filled q x (p ∷ ps) [] = []
 filled q x (p ∷ ps) (v ∷ vs) = filled_one (behind q p) x v ∷ filled q x ps vs
 
+-- the rows of each instance
 abbrev pub for_each : (Instance → List Known) → Instances → List Known
 for_each f no_instances = []
 for_each f (instance x xs) = f x ++ for_each f xs

@@ -6,7 +6,7 @@ ghost use Rattle.dr_meaning.specs.Rows as rows_meaning;
 ghost use Rattle.dr_nested.specs.Views.{node_view};
 ghost use Rattle.dr_nested.specs.PathView.{step_view};
 ghost use Rattle.dr_rows.specs.Known.{known, is_cut};
-ghost use Rattle.dr_rows.specs.Views.{paths_view, row_view, rows_view};
+ghost use Rattle.dr_rows.specs.Views.{paths_view, row_view, rows_view, rows_width};
 
 use crate::instance_ref::InstanceRef;
 use crate::row::Row;
@@ -25,7 +25,8 @@ pub fn rows_of<'n>(
     level: &[Step],
     whole: &'n Node,
 ) -> Result<Rows<'n>, NoMemory>
-    ensures { IfOk result (λ t. rows_view t ≡ map (known (paths_view leaves.now) (map step_view level.now)) (rows_meaning.rows (map step_view level.now) (node_view whole.now))) }
+    ensures width { IfOk result (λ t. rows_width t ≡ length leaves.now) }
+    ensures rows { IfOk result (λ t. rows_view t ≡ map (known (paths_view leaves.now) (map step_view level.now)) (rows_meaning.rows (map step_view level.now) (node_view whole.now))) }
 {
     let mut values = Vec::new(alloc);
     values.resize(leaves.len(), None)?;
@@ -54,7 +55,8 @@ pub fn rows_within<'n>(
 ) -> Result<Rows<'n>, NoMemory>
     requires depth { depth ≤ length level.now }
     requires values { length row.values.now ≡ length leaves.now }
-    ensures { IfOk result (λ t. (whole : record_tree.Node) → is_cut (map step_view (take depth level.now)) whole ≡ true
+    ensures width { IfOk result (λ t. rows_width t ≡ length leaves.now) }
+    ensures rows { IfOk result (λ t. (whole : record_tree.Node) → is_cut (map step_view (take depth level.now)) whole ≡ true
         → row_view row.entry ≡ known (paths_view leaves.now) (map step_view (take depth level.now)) whole
         → rows_view t ≡ map (known (paths_view leaves.now) (map step_view level.now)) (rows_meaning.rows (map step_view level.now) whole)) }
 {

@@ -30,14 +30,14 @@ fn join_end<'n>(ends: &mut Vec<Option<InstanceRef<'n>>>, end: Option<InstanceRef
 }
 
 impl<'n> Rows<'n> {
-    ghost use Rattle.dr_rows.specs.Views.{lent_cells, lent_instance, row_view, rows_view};
+    ghost use Rattle.dr_rows.specs.Views.{lent_cells, lent_instance, row_view, rows_view, rows_width};
     ghost use Rattle.dr_rows.specs.Known.{Known};
     ghost use Rattle.std.specs.Prelude.{option_map};
 
     /// No rows of so many leaves.
     pub(crate) fn new(alloc: Global, width: usize) -> Rows<'n>
         ensures none { rows_view result ≡ [] }
-        ensures width { result.width ≡ width }
+        ensures width { rows_width result ≡ width }
     {
         Rows {
             width,
@@ -63,7 +63,8 @@ impl<'n> Rows<'n> {
     /// The row of a number.
     pub fn row(&self, number: usize) -> Row<'_, 'n>
         requires { number < length (rows_view self.now) }
-        ensures { drop number (rows_view self.now) ≡ row_view result ∷ drop (number + 1) (rows_view self.now) }
+        ensures row { drop number (rows_view self.now) ≡ row_view result ∷ drop (number + 1) (rows_view self.now) }
+        ensures width { length result.values.now ≡ rows_width self.now }
     {
         let from = number * self.width;
         let end = self.ends[number];
@@ -81,9 +82,9 @@ impl<'n> Rows<'n> {
         values: &[Option<ValueRef<'n>>],
         end: Option<InstanceRef<'n>>,
     ) -> Result<(), NoMemory>
-        requires { length values.now ≡ (self.old).width }
+        requires { length values.now ≡ rows_width self.old }
         ensures row { OnOk result (rows_view self.new ≡ rows_view self.old ++ record { values = lent_cells values.now; end = option_map lent_instance end.entry } ∷ []) }
-        ensures width { (self.new).width ≡ (self.old).width }
+        ensures width { rows_width self.new ≡ rows_width self.old }
     {
         self.ends.reserve(1)?;
         self.values.extend_from_slice(values)?;

@@ -2,7 +2,7 @@
 
 ghost use Rattle.std.specs.Prelude.{◌≡◌, ◌≤◌, ◌<◌, ◌+◌, ◌++◌, ◌∷◌, [], length, map, take, drop, option_map, OnOk};
 ghost use Rattle.dr_nested.specs.PathView.{step_view};
-ghost use Rattle.dr_rows.specs.Views.{lent_instance, lent_cells, paths_view, rows_view};
+ghost use Rattle.dr_rows.specs.Views.{lent_instance, lent_cells, paths_view, rows_view, rows_width};
 ghost use Rattle.dr_rows.specs.Walking.{rows_below, rows_from_end, Keeps};
 
 use crate::instance_ref::InstanceRef;
@@ -34,11 +34,11 @@ pub fn walk<'n>(
 ) -> Result<(), NoMemory>
     requires depth { depth ≤ length level.now }
     requires values { length values.old ≡ length leaves.now }
-    requires width { (rows.old).width ≡ length leaves.now }
+    requires width { rows_width rows.old ≡ length leaves.now }
     ensures rows { OnOk result (rows_view rows.new ≡ rows_view rows.old ++ rows_below (paths_view leaves.now)
         (map step_view (take depth level.now)) (map step_view (drop depth level.now)) (lent_instance instance.entry) (lent_cells values.old)) }
     ensures others { OnOk result (Keeps (paths_view leaves.now) (map step_view (take depth level.now)) (lent_cells values.old) (lent_cells values.new)) }
-    ensures width { (rows.new).width ≡ (rows.old).width }
+    ensures width { rows_width rows.new ≡ rows_width rows.old }
 {
     fill(leaves, &level[..depth], instance, values);
     if depth == level.len() {
@@ -74,8 +74,9 @@ pub fn walk_from_end<'n>(
 ) -> Result<(), NoMemory>
     requires depth { depth ≤ length level.now }
     requires values { length values.old ≡ length leaves.now }
-    requires width { (rows.old).width ≡ length leaves.now }
-    ensures { OnOk result (rows_view rows.new ≡ rows_view rows.old ++ rows_from_end (paths_view leaves.now)
+    requires width { rows_width rows.old ≡ length leaves.now }
+    ensures width { rows_width rows.new ≡ rows_width rows.old }
+    ensures rows { OnOk result (rows_view rows.new ≡ rows_view rows.old ++ rows_from_end (paths_view leaves.now)
         (map step_view (take depth level.now)) (map step_view (drop depth level.now)) (lent_cells values.old) (option_map lent_instance end.entry)) }
 {
     match end {

@@ -10,8 +10,8 @@ use Rattle.dr_rows.proofs.RowsLemmas.{rows_are}
 use Rattle.std.specs.Prelude.{[]}
 use Rattle.dr_rows.proofs.listing.rows_of.Goals as goal
 
-pub returns : goal.returns
-returns c =
+pub returns-clause-rows : goal.returns-clause-rows
+returns-clause-rows c =
     let ls = c.args.leaves.now in
     let vs = c.deref_mut.result.now in
     let level = map step_view c.args.level.now in

@@ -9,8 +9,8 @@ use Rattle.dr_rows.proofs.FillingLemmas.{cells-length, paths-length}
 use Rattle.dr_rows.proofs.CutLemmas.{within_are}
 use Rattle.dr_rows.proofs.listing.rows_within.Goals as goal
 
-pub returns : goal.returns
-returns c =
+pub returns-clause-rows : goal.returns-clause-rows
+returns-clause-rows c =
     let ls = c.args.leaves.now in
     let row = c.args.row in
     let p = map step_view (take c.args.depth c.args.level.now) in
@@ -19,7 +19,7 @@ returns c =
     let d : map step_view c.args.level.now ≡ p ++ r = ap (map step_view) (sym (take-append-drop c.args.depth c.args.level.now)) ∙ map-append step_view (take c.args.depth c.args.level.now) (drop c.args.depth c.args.level.now) in
     let same : lent_cells c.deref_mut.result.now ≡ lent_cells row.values.now = search rules in
     λ whole h e.
-    c.in_ok-walk_from_end.ensures
+    c.in_ok-walk_from_end.ensures.rows
     ∙ ap (λ (k : List Known). k ++ rows_from_end (paths_view ls) p r (lent_cells c.deref_mut.result.now) (option_map lent_instance row.end)) c.new-rows.ensures.none
     ∙ ap (λ vs. rows_from_end (paths_view ls) p r vs (option_map lent_instance row.end)) same
     ∙ within_are (paths_view ls) p r (map step_view c.args.level.now) whole (row_view row) m d h e

@@ -37,8 +37,8 @@ slice_bounds-result-end c =
     let k : c.args.number * t.width + t.width ≤ length t.values.items = row_within c.args.number (length t.ends.items) t.width (length t.values.items) h t.even in
     omega (arith, t.values.ok.0, c.deref.type_inv.1, c.deref.ensures.len)
 
-pub returns : goal.returns
-returns c =
+pub returns-clause-row : goal.returns-clause-row
+returns-clause-row c =
     let t = c.args.self.now in
     let i = c.args.number in
     let h : i < length t.ends.items = omega (arith, c.requires, rows_from-length t.width t.values.items t.ends.items) in

@@ -1,0 +1,75 @@
+//! What the condition of a plan leaves of a record.
+
+ghost use Rattle.std.specs.Prelude.{◌≡◌, List, map, true, IfOk};
+ghost use Rattle.dr_meaning.specs.Kept as kept_meaning;
+ghost use Rattle.dr_meaning.specs.Path.{Step as MeantStep};
+ghost use Rattle.dr_meaning.specs.Schema.{Fields};
+ghost use Rattle.dr_meaning.specs.Record as record_tree;
+ghost use Rattle.dr_meaning.specs.Rows as rows_meaning;
+ghost use Rattle.dr_meaning.specs.Query.{Query};
+ghost use Rattle.dr_meaning.specs.QueryLeaves.{query_leaves};
+ghost use Rattle.dr_meaning.specs.BindingLaws.{has_shapes};
+ghost use Rattle.dr_nested.specs.Views.{node_view};
+ghost use Rattle.dr_nested.specs.PathView.{step_view};
+ghost use Rattle.dr_plan.specs.Conjuncts.{all_of};
+ghost use Rattle.dr_plan.specs.Planned.{plan_leaves};
+ghost use Rattle.dr_plan.specs.Views.{truth_view};
+ghost use Rattle.dr_rows.specs.Known.{known};
+ghost use Rattle.dr_rows.specs.Pruning.{kept_if};
+ghost use Rattle.dr_rows.specs.Views.{paths_view, rows_view};
+ghost use Rattle.dr_scalar.specs.Tests.{all_true};
+ghost use Rattle.dr_mean.specs.Levels.{expressions_level};
+ghost use Rattle.dr_mean.specs.RowsOf.{IsTyped};
+ghost use Rattle.dr_mean.specs.Condition.{plan_kept, plan_tests};
+
+use crate::levels::tests_level;
+use dr_memory::NoMemory;
+use dr_nested::{Node, Step};
+use dr_plan::Plan;
+use dr_rows::{Rows, prune, rows_of};
+use dr_scalar::passes;
+use std::alloc::Global;
+
+/// The answers of a plan's condition for rows, in order.
+fn answer_rows(alloc: Global, plan: &Plan, rows: &Rows<'_>) -> Result<Vec<bool>, NoMemory>
+    ensures { IfOk result (λ v. (level : List MeantStep) (n : record_tree.Node) → IsTyped (plan.now).leaves.items n
+        → rows_view rows.now ≡ map (known (paths_view (plan.now).leaves.items) level) (rows_meaning.rows level n)
+        → v.items ≡ map (all_true (plan_tests plan.now)) (rows_meaning.rows level n)) }
+{
+    let mut answers = Vec::with_capacity(alloc, rows.len())?;
+    'rows: for number in 0..rows.len() {
+        let row = rows.row(number);
+        answers.push(passes(alloc, &plan.test, row.values)?)?;
+    }
+    Ok(answers)
+}
+
+/// The answers of a plan's condition for the rows of a record at a level, in order.
+fn answers_of(
+    alloc: Global,
+    plan: &Plan,
+    level: &[Step],
+    whole: &Node,
+) -> Result<Vec<bool>, NoMemory>
+    ensures { IfOk result (λ v. IsTyped (plan.now).leaves.items (node_view whole.now)
+        → v.items ≡ map (all_true (plan_tests plan.now)) (rows_meaning.rows (map step_view level.now) (node_view whole.now))) }
+{
+    let rows = rows_of(alloc, &plan.leaves, level, whole)?;
+    answer_rows(alloc, plan, &rows)
+}
+
+/// What the condition of a plan leaves of a record: the branches with a row that passes. Tells whether anything is left;
+/// where nothing is, the record isn't used any more. The record is one of the schema to which the plan is bound, or a
+/// projection of one to the plan's leaves.
+///
+/// Errors: want of memory alone.
+pub fn keep(alloc: Global, plan: &Plan, whole: &mut Node) -> Result<bool, NoMemory>
+    ensures { IfOk result (λ b. IsTyped (plan.now).leaves.items (node_view whole.old) → kept_if b (node_view whole.new) ≡ plan_kept plan.now (node_view whole.old)) }
+{
+    if plan.test.is_empty() {
+        return Ok(true);
+    }
+    let level = tests_level(&plan.leaves, &plan.test);
+    let answers = answers_of(alloc, plan, level, whole)?;
+    Ok(prune(whole, level, &answers))
+}

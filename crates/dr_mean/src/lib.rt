@@ -1,0 +1,17 @@
+//! What a plan means on records, computed record by record: the reference of all that answers queries.
+#![tactic(auto)]
+
+mod items;
+mod keeping;
+mod keys;
+mod laws;
+mod levels;
+mod lines;
+mod objects;
+mod values;
+
+pub use keeping::keep;
+pub use keys::key_of;
+pub use laws::{groups_take_records, lines_are_result, record_is_put_row_by_row};
+pub use levels::{expression_level, keys_level, longer, tests_level};
+pub use lines::mean_objects;
