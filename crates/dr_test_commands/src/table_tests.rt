@@ -250,3 +250,44 @@ fn loads_are_refused(rt: HostRuntime) -> Result<(), Fail> {
     }
     Ok(())
 }
+
+#[test]
+fn one_failure_of_a_link_leaves_nothing(rt: HostRuntime) -> Result<(), Fail> {
+    let alloc = rt.alloc();
+    let shelf = loaded(&rt, alloc)?;
+    let row = Row {
+        words: "dremel~dump~--table~t.table~DocId~Name.Language.Country",
+        status: 0,
+        out: PROJECTED,
+        err: "",
+    };
+    for call in 1..40 {
+        let mut keeper = keeper_of(alloc, &shelf)?;
+        let mut links = links_over(alloc, &shelf, &[call])?;
+        let ends = ends_so(&rt, alloc, row, "", &mut keeper, &mut links)?;
+        assert_eq!(rt; ends, true, "{call}");
+    }
+    Ok(())
+}
+
+#[test]
+fn one_failure_of_the_keeper_ends_a_load(rt: HostRuntime) -> Result<(), Fail> {
+    let alloc = rt.alloc();
+    // Its calls: the schema's length and bytes, two copies of two tablets, the table.
+    for call in 1..8 {
+        let mut keeper = Shelf::new(alloc, [call + 1].to_vec(alloc)?);
+        keeper.put("document.txt", DOCUMENT.as_bytes())?;
+        let bare = Shelf::new(alloc, Vec::new(alloc));
+        let mut links = links_over(alloc, &bare, &[])?;
+        let row = Row {
+            words: "dremel~load~--schema~document.txt~--table~t.table~--rows~1~--copies~2~x~x",
+            status: 4,
+            out: "",
+            err: "outside: keeper\n",
+        };
+        let ends = ends_so(&rt, alloc, row, RECORDS, &mut keeper, &mut links)?;
+        assert_eq!(rt; ends, true, "{call}");
+        assert_eq!(rt; keeper.get("t.table").is_some(), false);
+    }
+    Ok(())
+}
