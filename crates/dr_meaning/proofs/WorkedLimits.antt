@@ -13,7 +13,7 @@ use Rattle.dr_meaning.specs.JsonRecord.{RecordFault, record_of_line, node_within
 use Rattle.dr_meaning.specs.Lines.{line_too_long, too_many_records, no_record, record_at, line_record, longest_line}
 use Rattle.dr_meaning.specs.Tokens.{longest_query}
 use Rattle.dr_meaning.specs.Refusals.{schema_refusal_text, field_refusal_text, line_refusal_text, schema_problem_name, line_fault_name}
-use Rattle.dr_meaning.specs.Ask.{most_records}
+use Rattle.dr_meaning.specs.Ask.{most_asked}
 use Rattle.dr_meaning.specs.Stripe.{most_striped}
 use Rattle.dr_meaning.proofs.WorkedSchemas.{document}
 use Rattle.dr_meaning.proofs.WorkedRecords.{record_10, record_30, numbers, texts, document_node}
@@ -65,7 +65,7 @@ size_of_document = (refl, refl, refl)
 -- ---- the limits, each a number of its own
 
 pub limits : (longest_name ≡ 64) × (greatest_depth ≡ 32) × (most_leaves ≡ 1024) × (longest_schema ≡ 1048576) × (longest_line ≡ 1048576) × (longest_query ≡ 65536)
-    × (most_instances ≡ 1048575) × (most_text_bytes ≡ 1073741824) × (most_records ≡ 409600000) × (most_striped ≡ 4096000000)
+    × (most_instances ≡ 1048575) × (most_text_bytes ≡ 1073741824) × (most_asked 100000 ≡ 409600000) × (most_striped ≡ 4096000000)
 limits = (refl, refl, refl, refl, refl, refl, refl, refl, refl, refl)
 
 -- a record may reach both limits, and pass neither

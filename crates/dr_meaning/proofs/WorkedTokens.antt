@@ -1,7 +1,6 @@
 -- The tokens of query text, by computation.
 use Rattle.std.specs.Prelude.{◌≡◌, ℕ, ◌-◌, ◌^◌, List, [], ◌∷◌, ◌++◌, map, length, Option, Some, None, codes, refl}
 use Rattle.dr_meaning.specs.Tokens.{QueryToken, reserved, identifier, number, text, sign, bad, placed, query_tokens, bare_tokens, select_word, from_word, where_word, group_word, by_word, as_word, within_word, record_word, and_word, or_word, not_word, like_word, contains_word, is_word, null_word, true_word, false_word, count_word, sum_word, min_word, max_word, comma, open_parenthesis, close_parenthesis, dot, star, plus_sign, minus_sign, equals, differs, less_than, less_or_equal, greater_than, greater_or_equal, semicolon}
-use Rattle.dr_meaning.specs.QueryText.{CountText, count_text, count_tokens}
 
 abbrev tokens : List ℕ → List QueryToken
 tokens t = bare_tokens (query_tokens t)
@@ -66,29 +65,3 @@ strange_bytes = (refl, refl, refl)
 pub places : query_tokens (codes " a\t12\r\n'x''y' <= \"b\"<c;") ≡
     placed 1 (identifier (codes "a")) ∷ placed 3 (number 12) ∷ placed 7 (text (codes "x'y")) ∷ placed 14 (sign less_or_equal) ∷ placed 17 (identifier (codes "b")) ∷ placed 20 (sign less_than) ∷ placed 21 (identifier (codes "c")) ∷ placed 22 (sign semicolon) ∷ []
 places = refl
-
--- ---- the small grammar of one COUNT
-
-abbrev whole : List ℕ → List ℕ → Option CountText
-whole item table = Some (record { path = codes "a" ∷ codes "b" ∷ codes "c" ∷ []; item = Some item; table = table })
-
-pub counts : map count_text (codes "SELECT COUNT(a.b.c) AS n FROM t" ∷ codes "SELECT COUNT(a.b.c) AS n FROM t;" ∷ codes "SELECT COUNT(a) FROM t" ∷ []) ≡
-    whole (codes "n") (codes "t") ∷ whole (codes "n") (codes "t") ∷ Some (record { path = codes "a" ∷ []; item = None; table = codes "t" }) ∷ []
-unfolding count_text
-counts = refl
-
--- no other order, nothing left out, nothing more
-pub no_counts : map count_text (codes "COUNT(a) FROM t" ∷ codes "SELECT SUM(a) FROM t" ∷ codes "SELECT COUNT a FROM t" ∷ codes "SELECT COUNT() FROM t" ∷ codes "SELECT COUNT(*) FROM t" ∷ codes "SELECT COUNT(a.) FROM t" ∷ codes "SELECT COUNT(a b) FROM t"
-    ∷ codes "SELECT COUNT(a) AS FROM t" ∷ codes "SELECT COUNT(a) n FROM t" ∷ codes "SELECT COUNT(a)" ∷ codes "SELECT COUNT(a) FROM" ∷ codes "SELECT COUNT(a) FROM t;;" ∷ codes "SELECT COUNT(a) FROM t u" ∷ [] ∷ [])
-    ≡ None ∷ None ∷ None ∷ None ∷ None ∷ None ∷ None ∷ None ∷ None ∷ None ∷ None ∷ None ∷ None ∷ None ∷ []
-unfolding count_text
-no_counts = refl
-
--- more than 65,536 bytes are refused, whatever they are; 65,536 are read
-pub too_long : (query : List ℕ) → length query ≡ 65537 → count_text query ≡ None
-unfolding count_text
-too_long query e = rw e refl
-
-pub longest : (query : List ℕ) → length query ≡ 65536 → count_text query ≡ count_tokens (tokens query)
-unfolding count_text
-longest query e = rw e refl

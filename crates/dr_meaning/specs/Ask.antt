@@ -1,58 +1,54 @@
--- The command `ask` for one COUNT: its text, or its first refusal.
-use Rattle.std.specs.Prelude.{ℕ, ◌*◌, List, [], ◌∷◌, if◌then◌else◌, bytes_eq, codes, Option, Some, None, option_and_then, Result, Ok, Err}
-use Rattle.dr_meaning.specs.Schema.{Schema, Shape, leaf, group}
+-- Queries over records: the query of a text, what it prints, and the command `ask`.
+use Rattle.std.specs.Prelude.{ℕ, ◌*◌, List, Result, Ok, Err}
+use Rattle.dr_meaning.specs.Schema.{Schema}
 use Rattle.dr_meaning.specs.SchemaText.{SchemaFault, parse_schema}
-use Rattle.dr_meaning.specs.Path.{Step, Found, find_path}
 use Rattle.dr_meaning.specs.Record.{Node}
-use Rattle.dr_meaning.specs.Expression.{path_value}
-use Rattle.dr_meaning.specs.Query.{Query, aggregate, count, groups, meaning}
+use Rattle.dr_meaning.specs.Query.{Query, meaning}
+use Rattle.dr_meaning.specs.Syntax.{QuerySyntax}
+use Rattle.dr_meaning.specs.Parse.{QueryFault, parse_query}
+use Rattle.dr_meaning.specs.BoundExpression.{BindFault}
+use Rattle.dr_meaning.specs.Binding.{bind}
 use Rattle.dr_meaning.specs.Print.{result_text}
 use Rattle.dr_meaning.specs.Lines.{Refusal, records_of}
-use Rattle.dr_meaning.specs.QueryText.{CountText, count_text}
-use Rattle.dr_meaning.specs.Refusals.{CommandRefusal, schema_refused, query_refused, line_refused}
+use Rattle.dr_meaning.specs.Refusals.{QueryRefusal, text_refused, binding_refused, CommandRefusal, schema_refused, query_refused, line_refused}
 
--- ---- the query
+-- ---- the query of a text
 
--- an item's name: that of AS, else `f0_`
-abbrev pub item_name : Option (List ℕ) → List ℕ
-item_name None = codes "f0_"
-item_name (Some n) = n
+abbrev pub bound_or_refused : Result Query BindFault → Result Query QueryRefusal
+bound_or_refused (Ok q) = Ok q
+bound_or_refused (Err e) = Err (binding_refused e)
 
-abbrev pub count_query : List ℕ → List Step → Query
-count_query n p = record { condition = None; selection = groups [] (record { name = n; term = aggregate count (path_value p) } ∷ []) }
+abbrev pub bound_syntax : Schema → Result QuerySyntax QueryFault → Result Query QueryRefusal
+bound_syntax s (Ok q) = bound_or_refused (bind s q)
+bound_syntax s (Err e) = Err (text_refused e)
 
--- the path must be that of a leaf
-abbrev pub count_of_shape : List ℕ → List Step → Shape → Option Query
-count_of_shape n p (leaf k) = Some (count_query n p)
-count_of_shape n p (group fs) = None
+-- the query of a text over a schema, or its first fault: that of the text, or else that of binding
+unfoldable pub read_query : Schema → List ℕ → Result Query QueryRefusal
+read_query s text = bound_syntax s (parse_query text)
 
--- the FROM name must be the message's
-abbrev pub count_of_text : Schema → CountText → Option Query
-count_of_text s c = if bytes_eq c.table s.name then option_and_then (λ (f : Found). count_of_shape (item_name c.item) f.path f.shape)
-    (find_path c.path s.fields) else None
-
--- the query of a text; none where it is refused
-unfoldable pub count_of : Schema → List ℕ → Option Query
-count_of s query = option_and_then (count_of_text s) (count_text query)
+-- what a query prints on records
+unfoldable pub answer_text : Schema → Query → List Node → List ℕ
+answer_text s q ns = result_text (meaning s.fields q ns)
 
 -- ---- the command
 
--- at most 4,096 tablets of 100,000 records
-abbrev pub most_records : ℕ
-most_records = 4096 * 100000
+-- at most 4,096 tablets, of so many records each
+abbrev pub most_asked : ℕ → ℕ
+most_asked rows = 4096 * rows
 
 abbrev pub ask_records : Schema → Query → Result (List Node) Refusal → Result (List ℕ) CommandRefusal
-ask_records s q (Ok ns) = Ok (result_text (meaning s.fields q ns))
+ask_records s q (Ok ns) = Ok (answer_text s q ns)
 ask_records s q (Err e) = Err (line_refused e)
 
-abbrev pub ask_query : Schema → List ℕ → Option Query → Result (List ℕ) CommandRefusal
-ask_query s input None = Err query_refused
-ask_query s input (Some q) = ask_records s q (records_of s.fields most_records input)
+abbrev pub ask_query : ℕ → Schema → List ℕ → Result Query QueryRefusal → Result (List ℕ) CommandRefusal
+ask_query rows s input (Ok q) = ask_records s q (records_of s.fields (most_asked rows) input)
+ask_query rows s input (Err e) = Err (query_refused e)
 
-abbrev pub ask_schema : List ℕ → List ℕ → Result Schema SchemaFault → Result (List ℕ) CommandRefusal
-ask_schema query input (Ok s) = ask_query s input (count_of s query)
-ask_schema query input (Err e) = Err (schema_refused e)
+abbrev pub ask_schema : ℕ → List ℕ → List ℕ → Result Schema SchemaFault → Result (List ℕ) CommandRefusal
+ask_schema rows query input (Ok s) = ask_query rows s input (read_query s query)
+ask_schema rows query input (Err e) = Err (schema_refused e)
 
--- the text that `ask` prints of a schema text, a query and an input, or the first refusal: the schema, the query, then the lines in order
-unfoldable pub ask : List ℕ → List ℕ → List ℕ → Result (List ℕ) CommandRefusal
-ask schema query input = ask_schema query input (parse_schema schema)
+-- the text that `ask` prints of a schema text, a query and an input, with so many records to a tablet; or the first refusal: the schema, the
+-- query, then the lines in order
+unfoldable pub ask : ℕ → List ℕ → List ℕ → List ℕ → Result (List ℕ) CommandRefusal
+ask rows schema query input = ask_schema rows query input (parse_schema schema)

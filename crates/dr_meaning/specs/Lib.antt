@@ -24,9 +24,8 @@ pub mod QueryGrammar
 -- binding a query's names by a schema, with the type of each expression; or the first fault
 pub mod BoundExpression
 pub mod Binding
--- input lines, the query of one COUNT; what commands refuse, and the commands
+-- input lines; what commands refuse, and the commands
 pub mod Lines
-pub mod QueryText
 pub mod Refusals
 pub mod Ask
 pub mod Stripe

@@ -4,14 +4,21 @@ use Rattle.dr_meaning.specs.SchemaText.{SchemaProblem, too_long, float_kind, emp
 use Rattle.dr_meaning.specs.SchemaText.{SchemaFault}
 use Rattle.dr_meaning.specs.Path.{PathFault, unknown_field, not_a_leaf}
 use Rattle.dr_meaning.specs.JsonRecord.{RecordFault, not_json, unknown_field as unknown_key, missing_field, wrong_kind, out_of_range, null_element, too_large}
+use Rattle.dr_meaning.specs.Parse as parse
+use Rattle.dr_meaning.specs.BoundExpression as binding
 use Rattle.dr_meaning.specs.Lines.{LineFault, line_too_long, too_many_records, no_record, Refusal}
+
+-- why a query is refused: its text spells none, or the schema has no meaning for it
+pub data QueryRefusal : Type 0 where
+  text_refused : parse.QueryFault → QueryRefusal
+  binding_refused : binding.BindFault → QueryRefusal
 
 -- what is refused, in the order in which it is looked at
 pub data CommandRefusal : Type 0 where
   schema_refused : SchemaFault → CommandRefusal
   -- a FIELD, counted from 0
   field_refused : ℕ → PathFault → CommandRefusal
-  query_refused : CommandRefusal
+  query_refused : QueryRefusal → CommandRefusal
   line_refused : Refusal → CommandRefusal
 
 -- ---- names of refusals
@@ -44,12 +51,35 @@ line_fault_name line_too_long = codes "LineTooLong"
 line_fault_name too_many_records = codes "TooManyRecords"
 line_fault_name (no_record e) = record_fault_name e
 
--- `refused schema at B: WHAT`, `refused field N: WHAT`, `refused line N: WHAT`
+abbrev pub query_problem_name : parse.QueryProblem → List ℕ
+query_problem_name parse.too_long = codes "TooLong"
+query_problem_name parse.syntax = codes "Syntax"
+query_problem_name parse.too_deep = codes "TooDeep"
+query_problem_name parse.too_many = codes "TooMany"
+
+abbrev pub bind_problem_name : binding.BindProblem → List ℕ
+bind_problem_name binding.unknown_table = codes "UnknownTable"
+bind_problem_name binding.unknown_field = codes "UnknownField"
+bind_problem_name binding.not_a_leaf = codes "NotALeaf"
+bind_problem_name binding.type_mismatch = codes "TypeMismatch"
+bind_problem_name binding.unrelated = codes "Unrelated"
+bind_problem_name binding.bad_within = codes "BadWithin"
+bind_problem_name binding.not_grouped = codes "NotGrouped"
+bind_problem_name binding.duplicate_name = codes "DuplicateName"
+
+-- `refused schema at B: WHAT`, `refused field N: WHAT`, `refused query at B: WHAT`, `refused line N: WHAT`
 abbrev pub schema_refusal_text : SchemaFault → List ℕ
 schema_refusal_text e = codes "refused schema at " ++ (decimal e.place ++ (codes ": " ++ (schema_problem_name e.problem ++ 10 ∷ [])))
 
 abbrev pub field_refusal_text : ℕ → PathFault → List ℕ
 field_refusal_text n e = codes "refused field " ++ (decimal n ++ (codes ": " ++ (path_fault_name e ++ 10 ∷ [])))
+
+abbrev pub query_fault_text : ℕ → List ℕ → List ℕ
+query_fault_text place name = codes "refused query at " ++ (decimal place ++ (codes ": " ++ (name ++ 10 ∷ [])))
+
+abbrev pub query_refusal_text : QueryRefusal → List ℕ
+query_refusal_text (text_refused e) = query_fault_text e.place (query_problem_name e.problem)
+query_refusal_text (binding_refused e) = query_fault_text e.place (bind_problem_name e.problem)
 
 abbrev pub line_refusal_text : Refusal → List ℕ
 line_refusal_text e = codes "refused line " ++ (decimal e.line ++ (codes ": " ++ (line_fault_name e.fault ++ 10 ∷ [])))
