@@ -11,6 +11,7 @@ use crate::dump::{Dump, dump_command, dump_of};
 use crate::fsm::{Fsm, fsm_command, fsm_of};
 use crate::load::Load;
 use crate::load_words::{load_command, load_of};
+use crate::query::{Query, query_command, query_of};
 use crate::show_schema::{ShowSchema, show_schema_command, show_schema_of};
 use crate::stripe::{Stripe, stripe_command, stripe_of};
 use crate::words_fault::WordsFault;
@@ -21,6 +22,7 @@ use std::alloc::{AllocError, Global};
 #[derive(PartialEq, Eq, Debug, Drop)]
 pub enum Command {
     Load(Load),
+    Query(Query),
     Ask(Ask),
     Dump(Dump),
     Stripe(Stripe),
@@ -37,6 +39,7 @@ pub fn dremel_command<'a>(alloc: Global) -> Result<clap::Command<'a>, AllocError
         .disable_help_subcommand(true)
         .subcommand_required(true)
         .subcommand(load_command(alloc)?)?
+        .subcommand(query_command(alloc)?)?
         .subcommand(ask_command(alloc)?)?
         .subcommand(dump_command(alloc)?)?
         .subcommand(stripe_command(alloc)?)?
@@ -50,6 +53,7 @@ pub fn command_of(alloc: Global, matches: &ArgMatches<'_>) -> Result<Command, Wo
 {
     match matches.subcommand() {
         Some(("load", values)) => Ok(Command::Load(load_of(alloc, values)?)),
+        Some(("query", values)) => Ok(Command::Query(query_of(alloc, values)?)),
         Some(("ask", values)) => Ok(Command::Ask(ask_of(alloc, values)?)),
         Some(("dump", values)) => Ok(Command::Dump(dump_of(alloc, values)?)),
         Some(("stripe", values)) => Ok(Command::Stripe(stripe_of(alloc, values)?)),
