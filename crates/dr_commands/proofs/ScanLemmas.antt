@@ -17,6 +17,7 @@ use Rattle.dr_meaning.specs.Refusals.{QueryRefusal}
 use Rattle.dr_meaning.proofs.QueryLeavesLemmas.{leaves_are_enough, query_leaves_are_leaves}
 use Rattle.dr_reading.proofs.ReadingLemmas.{read_text_is_meant}
 use Rattle.dr_reading.specs.Held.{SeesLeavesAlone}
+use Rattle.dr_commands.specs.Query.{query_scan}
 use Rattle.dr_commands.specs.ScanLaws.{DumpSeesLeavesAlone, QuerySeesLeavesAlone, QueryPrintsMeaning}
 
 -- ---- dump
@@ -55,4 +56,4 @@ query_sees_leaves_alone t text b read R S e =
 
 pub query_prints_meaning : QueryPrintsMeaning
 query_prints_meaning t text b held Rs Ss read holds given =
-    read_text_is_meant _ held Rs Ss (query_leaves_are_leaves t.schema.fields b) (query_sees_leaves_alone t text b read) holds given
+    read_text_is_meant (query_scan t b) held Rs Ss (query_leaves_are_leaves t.schema.fields b) (query_sees_leaves_alone t text b read) holds given

@@ -6,7 +6,8 @@ ghost use Rattle.dr_commands.specs.Rules.{Answers};
 ghost use Rattle.dr_commands.specs.Commands as meant;
 ghost use Rattle.dr_commands.specs.CommandView.{command_view};
 
-use crate::ask::{Ask, ask_command, ask_of};
+use crate::ask::Ask;
+use crate::ask_words::{ask_command, ask_of};
 use crate::dump::{Dump, dump_command, dump_of};
 use crate::fsm::{Fsm, fsm_command, fsm_of};
 use crate::load::Load;
@@ -30,14 +31,21 @@ pub enum Command {
     ShowSchema(ShowSchema),
 }
 
-/// The whole command. No word asks for help: those that would are refused as unknown.
-pub fn dremel_command<'a>(alloc: Global) -> Result<clap::Command<'a>, AllocError>
-    ensures { IfOk result (λ command. app_of command ≡ meant.dremel_app) }
+/// The command before its subcommands join it. No word asks for help: those that would are refused as unknown.
+fn bare_command<'a>(alloc: Global) -> clap::Command<'a>
+    ensures { app_of result ≡ meant.bare_app }
 {
     clap::Command::new(alloc, "dremel")
         .disable_help_flag(true)
         .disable_help_subcommand(true)
         .subcommand_required(true)
+}
+
+/// The whole command.
+pub fn dremel_command<'a>(alloc: Global) -> Result<clap::Command<'a>, AllocError>
+    ensures { IfOk result (λ command. app_of command ≡ meant.dremel_app) }
+{
+    bare_command(alloc)
         .subcommand(load_command(alloc)?)?
         .subcommand(query_command(alloc)?)?
         .subcommand(ask_command(alloc)?)?

@@ -3,6 +3,7 @@
 
 mod arguments;
 mod ask;
+mod ask_words;
 mod command;
 mod dump;
 mod fsm;
