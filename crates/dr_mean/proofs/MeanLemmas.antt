@@ -11,7 +11,7 @@ use Rattle.dr_partials.specs.Partials.{Partial, lines, partial_of, empty_partial
 use Rattle.dr_partials.specs.Putting.{put_all}
 use Rattle.dr_partials.proofs.PartialLemmas.{finished_partial_is_meaning}
 use Rattle.dr_plan.specs.Fitting.{aggregate_fits}
-use Rattle.dr_plan.specs.Planned.{Planned, plan_view, plan_leaves, planned_query}
+use Rattle.dr_plan.specs.Planned.{Planned, plan_view, planned_query}
 use Rattle.dr_plan.specs.Views.{aggregate_view}
 use Rattle.dr_plan.specs.declared.aggregate.Aggregate.{Aggregate}
 use Rattle.dr_plan.specs.declared.objects.ObjectPlan.{ObjectPlan}
@@ -52,7 +52,7 @@ pub groups_are : (p : Plan) (ns : List RecordNode) (a : Answers p ns) (keys : Ve
 groups_are p ns a keys aggregates items leaves ks xs empty now h e f g none made =
     let q = planned_query (plan_view p) in
     let put : List Path → List ℕ → List Aggregate → Partial → Partial =
-        λ (l : List Path) (k : List ℕ) (ys : List Aggregate) (x : Partial). put_all q (records_puts p (key_paths (map path_view l) k) (map (aggregate_view (map path_view l)) ys) (projections l ns)) x in
+    λ (l : List Path) (k : List ℕ) (ys : List Aggregate) (x : Partial). put_all q (records_puts p (key_paths (map path_view l) k) (map (aggregate_view (map path_view l)) ys) (projections l ns)) x in
     made ∙ ap₂ (λ (l : List Path) (k : List ℕ). put l k xs empty) e f
     ∙ ap₂ (λ (ys : List Aggregate) (x : Partial). put p.leaves.items keys.items ys x) g none
     ∙ records_put p ns a keys aggregates items h

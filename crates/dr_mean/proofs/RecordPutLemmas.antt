@@ -120,17 +120,17 @@ records_put p ns a keys aggregates items h =
     let T : List GroupTerm = map (aggregate_view ls) aggregates.items in
     let I : List GroupItem = map (group_item_view T) items.items in
     let g : Grouped =
-        record {
-          schema = a.schema;
-          tree = a.syntax_tree;
-          bound = a.bound;
-          keys = K;
-          items = I;
-          used = F;
-          binds = a.binds;
-          selects = sym (ap (λ (x : Planned). x.selection) a.planned) ∙ ap (selection_view ls) h;
-          enough = ap (λ (G : List (List Step)). covers G a.bound) (plan_paths p ns a) ∙ bound_leaves_are_enough a.schema a.syntax_tree a.bound a.binds;
-        } in
+    record {
+      schema = a.schema;
+      tree = a.syntax_tree;
+      bound = a.bound;
+      keys = K;
+      items = I;
+      used = F;
+      binds = a.binds;
+      selects = sym (ap (λ (x : Planned). x.selection) a.planned) ∙ ap (selection_view ls) h;
+      enough = ap (λ (G : List (List Step)). covers G a.bound) (plan_paths p ns a) ∙ bound_leaves_are_enough a.schema a.syntax_tree a.bound a.binds;
+    } in
     let terms : aggregates_among I ≡ T = plan_aggregates ls aggregates.items items.items (groups_fit p keys aggregates items h).numbered in
     let all = all_put g [] a.records (empty_partial (query_of g)) refl a.are_records (stands_is fs (query_of g) [] (empty_partial (query_of g)) (empty_stands_for_none fs (query_of g))) in
     ap (λ (M : List Node). put_all (planned_query (plan_view p)) (records_puts p K T M) (empty_partial (planned_query (plan_view p)))) a.alike

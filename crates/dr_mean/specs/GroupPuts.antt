@@ -1,5 +1,5 @@
 -- What is put of records, aggregate by aggregate.
-use Rattle.std.specs.Prelude.{◌≡◌, ℕ, List, [], map, true, Option, None}
+use Rattle.std.specs.Prelude.{◌≡◌, ℕ, List, [], map, true, None}
 use Rattle.std.specs.List.{flat_map, list_all}
 use Rattle.dr_meaning.specs.Path.{Step, longer}
 use Rattle.dr_meaning.specs.Schema.{Fields}

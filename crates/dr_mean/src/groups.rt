@@ -59,7 +59,13 @@ fn put_values(
         expression_level(groups.leaves, expression),
     );
     let rows = rows_of(alloc, groups.leaves, level, whole)?;
-    put_rows(alloc, groups, Taking::Value(number, expression), &rows, partial)
+    put_rows(
+        alloc,
+        groups,
+        Taking::Value(number, expression),
+        &rows,
+        partial,
+    )
 }
 
 /// Puts what the aggregate at a place takes of a record, of which some rows are those of the keys' level.

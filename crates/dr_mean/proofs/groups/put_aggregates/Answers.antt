@@ -1,4 +1,4 @@
-use Rattle.std.proofs.Common.{◌≡◌, ◌<◌, ◌≤◌, ◌+◌, ◌∷◌, ◌∙◌, sym, ap, arith, ℕ, List, length, map, drop}
+use Rattle.std.proofs.Common.{◌≡◌, ◌<◌, ◌+◌, ◌∷◌, ◌∙◌, sym, ap, arith, ℕ, List, length, map, drop}
 use Rattle.std.proofs.lemmas.List.{drop_all, drop_more}
 use Rattle.dr_nested.specs.PathView.{path_view}
 use Rattle.dr_nested.specs.Views.{node_view}
@@ -45,3 +45,6 @@ returns-clause-puts c =
     λ p o t k.
     ap (λ (xs : List Aggregate). put_all (planned_query p) (term_puts keys i (map (aggregate_view ls) xs) n) (partial_view c.aggregates.partial)) (sym (drop_all i all c.aggregates-test.false))
     ∙ c.aggregates.invariant.puts p o t k
+
+pub returns-in_err-put_aggregate-clause-of_plan : goal.returns-in_err-put_aggregate-clause-of_plan
+returns-in_err-put_aggregate-clause-of_plan c = λ p h. c.put_aggregate.ensures.of_plan p (c.aggregates.invariant.of_plan p h)

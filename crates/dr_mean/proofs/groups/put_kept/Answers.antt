@@ -1,4 +1,4 @@
-use Rattle.std.proofs.Common.{◌≡◌, ◌∙◌, sym, ap, subst, Option, List, map}
+use Rattle.std.proofs.Common.{◌∙◌, sym, ap, subst, Option, List, map}
 use Rattle.dr_meaning.specs.Record.{Node}
 use Rattle.dr_nested.specs.PathView.{path_view}
 use Rattle.dr_nested.specs.Views.{node_view}
@@ -16,8 +16,8 @@ use Rattle.dr_mean.proofs.PutLemmas.{none_kept, kept_typed}
 use Rattle.dr_mean.proofs.WithinLemmas.{on_ok_by}
 use Rattle.dr_mean.proofs.groups.put_kept.Goals as goal
 
-pub returns-in-if-not-branch-clause-puts : goal.returns-in-if-not-branch-clause-puts
-returns-in-if-not-branch-clause-puts c =
+pub returns-then-not-branch-clause-puts : goal.returns-then-not-branch-clause-puts
+returns-then-not-branch-clause-puts c =
     let plan = c.args.groups.plan.now in
     let leaves = c.args.groups.leaves.now in
     let ls = map path_view leaves in

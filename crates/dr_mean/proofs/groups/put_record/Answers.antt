@@ -1,4 +1,4 @@
-use Rattle.std.proofs.Common.{◌≡◌, ◌∙◌, sym, ap, subst, List, map}
+use Rattle.std.proofs.Common.{◌≡◌, ◌∙◌, sym, ap, subst, map}
 use Rattle.dr_meaning.specs.Record.{Node, project}
 use Rattle.dr_nested.specs.PathView.{path_view}
 use Rattle.dr_nested.specs.Views.{node_view}

@@ -40,3 +40,6 @@ returns-clause-puts c =
     λ p i t.
     ap (λ (ms : List RecordNode). put_all (planned_query p) (records_puts c.args.groups.plan.now keys ts (projections leaves ms)) (partial_view c.records.partial)) (sym (drop_all k ns c.records-test.false))
     ∙ c.records.invariant.puts p i t
+
+pub returns-in_err-put_record-clause-of_plan : goal.returns-in_err-put_record-clause-of_plan
+returns-in_err-put_record-clause-of_plan c = λ p h. c.put_record.ensures.of_plan p (c.records.invariant.of_plan p h)

@@ -12,3 +12,6 @@ returns-clause-partial c =
     groups_are plan ns a c.args.keys.now c.args.aggregates.now c.args.items.now leaves c.deref-2.result.now c.deref-3.result.now (partial_view c.in_ok-partial.partial) (partial_view c.put_records.new.partial)
     c.requires.selection c.deref.ensures.value c.deref-2.ensures.value c.deref-3.ensures.value c.in_ok-partial.ensures.partial
     (c.in_ok-put_records.ensures.puts (plan_view plan) c.in_ok-partial.ensures.of_plan (records_typed plan ns leaves a c.deref.ensures.value))
+
+pub returns-clause-of_plan : goal.returns-clause-of_plan
+returns-clause-of_plan c = c.put_records.ensures.of_plan (plan_view c.args.plan.now) c.in_ok-partial.ensures.of_plan

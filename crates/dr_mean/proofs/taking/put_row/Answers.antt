@@ -1,11 +1,8 @@
-use Rattle.std.proofs.Common.{◌≡◌, ◌∙◌, ap, ap₂, List, Option, map}
-use Rattle.std.specs.Prelude.{option_map}
+use Rattle.std.proofs.Common.{◌∙◌, ap, ap₂, List, Option, map}
 use Rattle.dr_meaning.specs.Record.{Value}
 use Rattle.dr_nested.specs.PathView.{path_view}
-use Rattle.dr_levels.specs.declared.triplet.ValueRef.{ValueRef}
 use Rattle.dr_partials.specs.Putting.{Taken, put}
 use Rattle.dr_plan.specs.Planned.{planned_query}
-use Rattle.dr_group.specs.Groups.{put_view, taken_view}
 use Rattle.dr_group.specs.Partials.{partial_view, IsPartialOf}
 use Rattle.dr_rows.specs.Views.{lent_cells}
 use Rattle.dr_mean.specs.Takings.{taken_with}

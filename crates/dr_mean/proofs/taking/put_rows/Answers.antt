@@ -37,3 +37,6 @@ returns-clause-puts c =
     λ p level whole h t f e.
     let l : length (rows level whole) ≤ i = omega (arith, ap length e, length-map (rows level whole) (known (paths_view leaves) level)) in
     ap (λ (rs : List Node). put_all (planned_query p) (map one rs) (partial_view c.rows.partial)) (sym (drop_all i (rows level whole) l)) ∙ c.rows.invariant.puts p level whole h t f e
+
+pub returns-in_err-put_row-clause-of_plan : goal.returns-in_err-put_row-clause-of_plan
+returns-in_err-put_row-clause-of_plan c = λ p h. c.put_row.ensures.of_plan p (c.rows.invariant.of_plan p h)
