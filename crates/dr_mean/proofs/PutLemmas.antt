@@ -4,6 +4,7 @@ use Rattle.std.specs.List.{list_all}
 use Rattle.std.proofs.Common.{refl, sym, ap, ◌∙◌, arith}
 use Rattle.std.proofs.lemmas.Bool.{and_parts}
 use Rattle.std.proofs.lemmas.List.{drop_more}
+use Rattle.std.proofs.lemmas.List.Folds.{list_all-map}
 use Rattle.dr_memory.specs.declared.NoMemory.{NoMemory}
 use Rattle.dr_meaning.specs.Path.{Step}
 use Rattle.dr_meaning.specs.Record.{Node, project}
@@ -73,17 +74,9 @@ true_at f (y ∷ ys) (suc k) x h e t =
 -- a record among those that are typed
 pub typed_at : (leaves : List Path) (ns : List RecordNode) (k : ℕ) (n : RecordNode) → k < length ns → n ≡ get_or ns k n → AreTyped leaves (projections leaves ns) → IsTyped leaves (project (paths_view leaves) (node_view n))
 typed_at leaves ns k n h g t =
-    record { fields = t.fields; query = t.query; used = t.used; shapes = all_at leaves ns k n h g t.shapes }
-  where
-    all_at : (ls : List Path) (ms : List RecordNode) (j : ℕ) (m : RecordNode) → j < length ms → m ≡ get_or ms j m → list_all (has_shapes t.fields) (projections ls ms) ≡ true
-        → has_shapes t.fields (project (paths_view ls) (node_view m)) ≡ true
-    all_at ls [] j m i e s = absurd (omega arith)
-    all_at ls (l ∷ ms) zero m i e s =
-        let d : (has_shapes t.fields (project (paths_view ls) (node_view l)) ≡ true) × (list_all (has_shapes t.fields) (projections ls ms) ≡ true) = and_parts _ _ s in
-        ap (λ (x : RecordNode). has_shapes t.fields (project (paths_view ls) (node_view x))) e ∙ d.0
-    all_at ls (l ∷ ms) (suc j) m i e s =
-        let d : (has_shapes t.fields (project (paths_view ls) (node_view l)) ≡ true) × (list_all (has_shapes t.fields) (projections ls ms) ≡ true) = and_parts _ _ s in
-        all_at ls ms j m (omega arith) e d.1
+    let shape : RecordNode → Bool = λ (m : RecordNode). has_shapes t.fields (project (paths_view leaves) (node_view m)) in
+    let all : list_all shape ns ≡ true = sym (list_all-map (has_shapes t.fields) (λ (m : RecordNode). project (paths_view leaves) (node_view m)) ns) ∙ t.shapes in
+    record { fields = t.fields; query = t.query; used = t.used; shapes = true_at shape ns k n h g all }
 
 -- ---- what is left
 
