@@ -1,7 +1,6 @@
 -- The records that are given, and what a query prints of them.
 use Rattle.std.proofs.Common.{◌≡◌, ◌∙◌, inl, inr, ℕ, List, [], ◌∷◌, ◌++◌, map, true, Option, Some, None, refl, sym, ap, ap₂, subst}
-use Rattle.std.specs.Prelude.{◌&&◌, string_bytes, String, Ok}
-use Rattle.std.specs.declared.alloc.Global.{Global}
+use Rattle.std.specs.Prelude.{◌&&◌, Ok}
 use Rattle.std.specs.List.{list_all}
 use Rattle.std.proofs.lemmas.List.Folds.{list_all-append}
 use Rattle.std.proofs.lemmas.Simd.{map-map}
@@ -21,7 +20,7 @@ use Rattle.dr_nested.specs.Views.{node_view}
 use Rattle.dr_nested.specs.declared.path.Path.{Path}
 use Rattle.dr_nested.specs.declared.record.Node.{Node as RecordNode}
 use Rattle.dr_assemble.specs.Views.{nodes_view}
-use Rattle.dr_plan.specs.Planned.{Planned, plan_view, planned}
+use Rattle.dr_plan.specs.Planned.{Planned, plan_view, planned, IsOfSchema}
 use Rattle.dr_plan.specs.declared.plan.Plan.{Plan}
 use Rattle.dr_rows.specs.Views.{paths_view}
 use Rattle.dr_mean.specs.Answers.{Answers}
@@ -38,7 +37,7 @@ use Rattle.dr_query.proofs.ProjectionLemmas.{projections_twice}
 
 of_file : (s : Schema) (F : List Leaf) (R : List Node) (o : Option (List ℕ)) → IsFileThere s F R o → list_all (is_record s.fields) R ≡ true
 of_file s F R None h = absurd h
-of_file s F R (Some bytes) h = h.7
+of_file s F R (Some bytes) h = h.4.3
 
 of_some : (s : Schema) (F : List Leaf) (files : Files) (cs : List Copy) (R : List Node) → SomeIsFile s F files cs R → list_all (is_record s.fields) R ≡ true
 of_some s F files [] R h = absurd h
@@ -61,7 +60,7 @@ given_are_records s F held (cs ∷ ts) (R ∷ Rs) h =
 plan_paths : (ls : List Path) → paths_of_leaves (map path_view ls) ≡ paths_view ls
 plan_paths ls = map-map (λ (l : Leaf). l.path) path_view ls
 
-pub answers_of : (s : Schema) (held : Option Files) (ts : List (List Copy)) (p : Plan) (ns : List RecordNode) (q : Query) (x : QuerySyntax) → bind s x ≡ Ok q → plan_view p ≡ planned s.fields q
+abbrev answers_of : (s : Schema) (held : Option Files) (ts : List (List Copy)) (p : Plan) (ns : List RecordNode) (q : Query) (x : QuerySyntax) → bind s x ≡ Ok q → plan_view p ≡ planned s.fields q
     → (Rs : List (List Node)) → AreGiven s (map path_view p.leaves.items) held ts Rs → nodes_view ns ≡ map (project (paths_of_leaves (map path_view p.leaves.items))) (joined Rs) → Answers p ns
 answers_of s held ts p ns q x binds is Rs given all =
     let F : List (List Step) = paths_view p.leaves.items in
@@ -77,13 +76,23 @@ answers_of s held ts p ns q x binds is Rs given all =
       alike = sym (map-map (project F) node_view ns) ∙ (ap (map (project F)) once ∙ projections_twice F (joined Rs));
     }
 
+-- with what is lent
+pub answers_by : (s : Schema) (held : Option Files) (ts : List (List Copy)) (p : Plan) (ns ms : List RecordNode) (ls : List Path) → IsOfSchema s p → ls ≡ p.leaves.items → ns ≡ ms
+    → AreAllGiven s (map path_view ls) held ts (nodes_view ms) → Answers p ns
+answers_by s held ts p ns ms ls h e f all =
+    let g : AreAllGiven s (map path_view p.leaves.items) held ts (nodes_view ms) = subst (λ (x : List Path). AreAllGiven s (map path_view x) held ts (nodes_view ms)) e all in
+    answers_of s held ts p ns h.1 h.0 h.2 h.3 g.0 g.1 (ap nodes_view f ∙ g.2)
+
 -- ---- what is printed
 
-pub answer_is : (t : Table) (q : Query) (p : Plan) (held : Option Files) (rows : List Object) (text : List ℕ) (Rs : List (List Node)) → plan_view p ≡ planned t.schema.fields q
-    → AreGiven t.schema (map path_view p.leaves.items) held (tablets_of t) Rs → rows ≡ meaning t.schema.fields q (joined Rs) → text ≡ result_text rows → IsAnswerOf t q held text
+pub answer_is : (t : Table) (held : Option Files) (p : Plan) (q : Query) (ns ms : List RecordNode) (ls : List Path) (rows : List Object) (text : List ℕ) → IsPlanOf t.schema q p → ls ≡ p.leaves.items → ns ≡ ms
+    → AreAllGiven t.schema (map path_view ls) held (tablets_of t) (nodes_view ms) → ((a : Answers p ns) → rows ≡ meaning a.schema.fields a.bound a.records) → text ≡ result_text rows → IsAnswerOf t q held text
 unfolding answer_text
-answer_is t q p held rows text Rs is given means prints = (
-  Rs,
-  subst (λ (F : List Leaf). AreGiven t.schema F held (tablets_of t) Rs) (ap (λ (x : Planned). x.leaves) is) given,
-  prints ∙ ap result_text means,
-)
+answer_is t held p q ns ms ls rows text h e f all means prints =
+    let g : AreAllGiven t.schema (map path_view p.leaves.items) held (tablets_of t) (nodes_view ms) = subst (λ (x : List Path). AreAllGiven t.schema (map path_view x) held (tablets_of t) (nodes_view ms)) e all in
+    let a : Answers p ns = answers_of t.schema held (tablets_of t) p ns q h.0 h.1 h.2 g.0 g.1 (ap nodes_view f ∙ g.2) in
+    let same : rows ≡ meaning t.schema.fields q (joined g.0) = means a in (
+      g.0,
+      subst (λ (F : List Leaf). AreGiven t.schema F held (tablets_of t) g.0) (ap (λ (x : Planned). x.leaves) h.2) g.1,
+      prints ∙ ap result_text same,
+    )

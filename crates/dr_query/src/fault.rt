@@ -1,6 +1,6 @@
 //! Why a query is refused.
 
-ghost use Rattle.std.specs.Prelude.{◌≡◌};
+ghost use Rattle.std.specs.Prelude.{◌≡◌, ◌≤◌, length};
 ghost use Rattle.dr_query.specs.Faults.{problem_name, text_fault, bind_fault};
 
 use dr_bind::{BindFault, BindProblem};
@@ -18,7 +18,8 @@ pub enum QueryProblem {
 impl QueryProblem {
     /// Its name, as it is told on standard error.
     pub fn name(self) -> &'static str
-        ensures { result.now ≡ problem_name self }
+        ensures word { result.now ≡ problem_name self }
+        ensures short { length result.now ≤ 20 }
     {
         match self {
             QueryProblem::Text(TextProblem::TooLong) => "TooLong",
