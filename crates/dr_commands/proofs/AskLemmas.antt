@@ -1,11 +1,11 @@
 -- Where clap takes the words of `ask`, its values are there.
 use Rattle.std.proofs.Common.{◌≡◌, true, false, refl, List, [], Option, Some, None}
 use Rattle.std.specs.Prelude.{codes, option_and_then, option_map}
-use Rattle.clap.specs.Words.{Shape, Text, first_of}
+use Rattle.clap.specs.Words.{Row, Shape, Text, first_of}
 use Rattle.clap.specs.Walk.{nothing_held, rows_after}
 use Rattle.clap.specs.Simple.{built_leaf, inherited, marked_built, on_top, rows_at}
 use Rattle.clap.specs.Takes.{level_passes}
-use Rattle.dr_commands.specs.Ask.{ask_app}
+use Rattle.dr_commands.specs.Ask.{ask_app, with_query}
 use Rattle.dr_commands.specs.Commands.{dremel_app, ask, words_in}
 use Rattle.dr_commands.proofs.NeededLemmas.{Has, taken_has_needed}
 
@@ -15,11 +15,11 @@ ask_shape = built_leaf (inherited (on_top marked_built dremel_app).top ask_app.t
 pub ask_has_values : (words : List Text) → level_passes ask_shape [] nothing_held words false ≡ true → words_in (Some (rows_at ask_shape words)) ≡ None → ⊥
 ask_has_values words passes none =
     let needed = taken_has_needed ask_shape words refl refl passes in
-    both_there (first_of (codes "schema") (rows_after ask_shape.rules [] words)) (first_of (codes "query") (rows_after ask_shape.rules [] words)) (needed.0 refl)
-    (needed.1.0 refl) none
+    let rows = rows_after ask_shape.rules [] words in
+    both_there rows (first_of (codes "schema") rows) (first_of (codes "query") rows) (needed.0 refl) (needed.1.1.0 refl) none
   where
-    both_there : (schema query : Option Text) → Has schema → Has query
-        → option_map ask (option_and_then (λ a. option_map (λ b. record { schema = a; query = b }) query) schema) ≡ None → ⊥
-    both_there None query s q e = cc
-    both_there (Some a) None s q e = cc
-    both_there (Some a) (Some b) s q e = cc
+    both_there : (rows : List Row) (schema query : Option Text) → Has schema → Has query
+        → option_map ask (option_and_then (λ a. option_map (with_query rows a) query) schema) ≡ None → ⊥
+    both_there rows None query s q e = cc
+    both_there rows (Some a) None s q e = cc
+    both_there rows (Some a) (Some b) s q e = cc

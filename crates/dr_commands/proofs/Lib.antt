@@ -5,11 +5,14 @@ mod WordsLemmas
 -- where clap takes words, the values that have to be there are
 mod NeededLemmas
 mod LoadLemmas
+mod QueryLemmas
 mod AskLemmas
 mod DumpLemmas
 mod StripeLemmas
 mod FsmLemmas
 mod ShowSchemaLemmas
+-- what is printed of a table
+mod ScanLemmas
 -- numbers that options have
 mod NumberLemmas
 -- clap's definitions of faults and of taken words agree

@@ -22,6 +22,7 @@ use Rattle.dr_commands.proofs.AgreementLemmas.{fault_agrees, is_none}
 use Rattle.dr_commands.proofs.LoadLemmas.{load_has_values}
 use Rattle.dr_commands.proofs.DumpLemmas.{dump_has_values}
 use Rattle.dr_commands.proofs.ShowSchemaLemmas.{show_schema_has_values}
+use Rattle.dr_commands.proofs.QueryLemmas.{query_has_values}
 use Rattle.dr_commands.proofs.AskLemmas.{ask_has_values}
 use Rattle.dr_commands.proofs.StripeLemmas.{stripe_has_values}
 use Rattle.dr_commands.proofs.FsmLemmas.{fsm_has_values}
@@ -107,7 +108,7 @@ found_has_values (s ∷ rest) name words have passes there none =
 
 -- one part for each subcommand
 all_have_values : HaveValues completed.subs
-all_have_values = (load_has_values, (ask_has_values, (dump_has_values, (stripe_has_values, (fsm_has_values, (show_schema_has_values, tt))))))
+all_have_values = (load_has_values, (query_has_values, (ask_has_values, (dump_has_values, (stripe_has_values, (fsm_has_values, (show_schema_has_values, tt)))))))
 
 entered_has_values : (stop : Option (Text × List Text)) → entered_passes completed stop ≡ true → is_some (entered completed stop) ≡ true
     → words_in (entered completed stop) ≡ None → ⊥

@@ -3,7 +3,7 @@ use Rattle.std.specs.Prelude.{◌≡◌, refl, List, [], ◌∷◌, Some, None, 
 use Rattle.clap.specs.Words.{Text, fault_of}
 use Rattle.clap.specs.declared.error.ErrorKind.TheVariants as kind
 use Rattle.clap.proofs.OnLiterals.{clap_on_literals}
-use Rattle.dr_commands.specs.Commands.{Taken, ask, asked, dremel_app}
+use Rattle.dr_commands.specs.Commands.{Taken, ask, query as query_words, asked, dremel_app}
 
 abbrev query : Text
 query = codes "SELECT COUNT(Name.Url) FROM Document"
@@ -15,7 +15,7 @@ pub count_is_taken : Taken count_words
 unfolding clap_on_literals
 count_is_taken = refl
 
-pub count_is_asked : asked count_words ≡ Some (ask (record { schema = codes "document.txt"; query = query }))
+pub count_is_asked : asked count_words ≡ Some (ask (record { schema = codes "document.txt"; rows = 100000; query = query }))
 unfolding clap_on_literals
 count_is_asked = refl
 
@@ -23,6 +23,24 @@ count_is_asked = refl
 pub either_order : asked (codes "dremel" ∷ codes "ask" ∷ query ∷ codes "--schema=document.txt" ∷ []) ≡ asked count_words
 unfolding clap_on_literals
 either_order = refl
+
+-- how many records a tablet gets, and a number that clap doesn't take
+pub rows_are_asked : asked (codes "dremel" ∷ codes "ask" ∷ codes "--rows" ∷ codes "2" ∷ codes "--schema" ∷ codes "document.txt" ∷ query ∷ []) ≡ Some (ask (record { schema = codes "document.txt"; rows = 2; query = query }))
+unfolding clap_on_literals
+rows_are_asked = refl
+
+pub no_rows : asked (codes "dremel" ∷ codes "ask" ∷ codes "--rows" ∷ codes "0" ∷ codes "--schema" ∷ codes "document.txt" ∷ query ∷ []) ≡ None
+unfolding clap_on_literals
+no_rows = refl
+
+-- a query of a table; the table has to be named
+pub query_is_asked : asked (codes "dremel" ∷ codes "query" ∷ codes "--table" ∷ codes "t" ∷ query ∷ []) ≡ Some (query_words (record { table = codes "t"; query = query }))
+unfolding clap_on_literals
+query_is_asked = refl
+
+pub no_table : asked (codes "dremel" ∷ codes "query" ∷ query ∷ []) ≡ None
+unfolding clap_on_literals
+no_table = refl
 
 -- ---- the lines that are refused, with the kind that clap gives each
 
@@ -58,7 +76,7 @@ pub unknown_subcommand : fault_of dremel_app (codes "dremel" ∷ codes "nothing"
 unfolding clap_on_literals
 unknown_subcommand = refl
 
-pub unknown_option : fault_of dremel_app (codes "dremel" ∷ codes "ask" ∷ codes "--rows" ∷ codes "2" ∷ codes "--schema" ∷ codes "document.txt" ∷ query ∷ []) ≡ kind.UnknownArgument ∷ []
+pub unknown_option : fault_of dremel_app (codes "dremel" ∷ codes "ask" ∷ codes "--row" ∷ codes "2" ∷ codes "--schema" ∷ codes "document.txt" ∷ query ∷ []) ≡ kind.UnknownArgument ∷ []
 unfolding clap_on_literals
 unknown_option = refl
 
@@ -112,7 +130,7 @@ pub unknown_subcommand_asked : asked (codes "dremel" ∷ codes "nothing" ∷ [])
 unfolding clap_on_literals
 unknown_subcommand_asked = refl
 
-pub unknown_option_asked : asked (codes "dremel" ∷ codes "ask" ∷ codes "--rows" ∷ codes "2" ∷ codes "--schema" ∷ codes "document.txt" ∷ query ∷ []) ≡ None
+pub unknown_option_asked : asked (codes "dremel" ∷ codes "ask" ∷ codes "--row" ∷ codes "2" ∷ codes "--schema" ∷ codes "document.txt" ∷ query ∷ []) ≡ None
 unfolding clap_on_literals
 unknown_option_asked = refl
 

@@ -1,16 +1,18 @@
 -- What a command stands for.
 use Rattle.dr_commands.specs.Load.{load_view}
+use Rattle.dr_commands.specs.Query.{query_view}
 use Rattle.dr_commands.specs.Ask.{ask_view}
 use Rattle.dr_commands.specs.Dump.{dump_view}
 use Rattle.dr_commands.specs.Stripe.{stripe_view}
 use Rattle.dr_commands.specs.Fsm.{fsm_view}
 use Rattle.dr_commands.specs.ShowSchema.{show_schema_view}
-use Rattle.dr_commands.specs.Commands.{CommandWords, load, ask, dump, stripe, fsm, show_schema}
+use Rattle.dr_commands.specs.Commands.{CommandWords, load, query, ask, dump, stripe, fsm, show_schema}
 use Rattle.dr_commands.specs.declared.command.Command.{Command}
 use Rattle.dr_commands.specs.declared.command.Command.TheVariants as command
 
 abbrev pub command_view : Command → CommandWords
 command_view (command.Load l) = load (load_view l)
+command_view (command.Query q) = query (query_view q)
 command_view (command.Ask a) = ask (ask_view a)
 command_view (command.Dump d) = dump (dump_view d)
 command_view (command.Stripe s) = stripe (stripe_view s)

@@ -4,6 +4,7 @@ use Rattle.std.specs.Str.{bytes_eq}
 use Rattle.clap.specs.Words.{App, Row, Shape, Text, fault_of, new_app, subcommand_of, takes, with_subcommand}
 use Rattle.dr_commands.specs.Meaning.{Meaning}
 use Rattle.dr_commands.specs.Load.{LoadWords, load_app, load_words, load_meaning}
+use Rattle.dr_commands.specs.Query.{QueryWords, query_app, query_words, query_meaning}
 use Rattle.dr_commands.specs.Dump.{DumpWords, dump_app, dump_words, dump_meaning}
 use Rattle.dr_commands.specs.ShowSchema.{ShowSchemaWords, show_schema_app, show_schema_words, show_schema_meaning}
 use Rattle.dr_commands.specs.Ask.{AskWords, ask_app, ask_words, ask_meaning}
@@ -12,7 +13,7 @@ use Rattle.dr_commands.specs.Fsm.{FsmWords, fsm_app, fsm_words, fsm_meaning}
 
 -- each subcommand
 abbrev pub subcommands : List Shape
-subcommands = load_app.top ∷ ask_app.top ∷ dump_app.top ∷ stripe_app.top ∷ fsm_app.top ∷ show_schema_app.top ∷ []
+subcommands = load_app.top ∷ query_app.top ∷ ask_app.top ∷ dump_app.top ∷ stripe_app.top ∷ fsm_app.top ∷ show_schema_app.top ∷ []
 
 -- `dremel`, before its subcommands join: one of them has to be named, and no word asks for help
 abbrev pub bare_app : App
@@ -31,6 +32,7 @@ Taken words = takes dremel_app words ≡ true
 
 pub data CommandWords : Type 0 where
   load : LoadWords → CommandWords
+  query : QueryWords → CommandWords
   ask : AskWords → CommandWords
   dump : DumpWords → CommandWords
   stripe : StripeWords → CommandWords
@@ -40,11 +42,12 @@ pub data CommandWords : Type 0 where
 abbrev pub words_of : Text → List Row → Option CommandWords
 words_of name rows =
     if bytes_eq name (codes "load") then option_map load (load_words rows)
+    else (if bytes_eq name (codes "query") then option_map query (query_words rows)
     else (if bytes_eq name (codes "ask") then option_map ask (ask_words rows)
     else (if bytes_eq name (codes "dump") then option_map dump (dump_words rows)
     else (if bytes_eq name (codes "stripe") then option_map stripe (stripe_words rows)
     else (if bytes_eq name (codes "fsm") then option_map fsm (fsm_words rows)
-    else (if bytes_eq name (codes "schema") then option_map show_schema (show_schema_words rows) else None)))))
+    else (if bytes_eq name (codes "schema") then option_map show_schema (show_schema_words rows) else None))))))
 
 abbrev pub words_in : Option (Text × List Row) → Option CommandWords
 words_in = option_and_then (λ entered. words_of entered.0 entered.1)
@@ -56,6 +59,7 @@ asked words = if takes dremel_app words then words_in (subcommand_of dremel_app 
 -- what each command means
 abbrev pub meaning_of : CommandWords → Meaning
 meaning_of (load w) = load_meaning w
+meaning_of (query w) = query_meaning w
 meaning_of (ask w) = ask_meaning w
 meaning_of (dump w) = dump_meaning w
 meaning_of (stripe w) = stripe_meaning w

@@ -10,7 +10,7 @@ use Rattle.dr_formats.specs.Reports.{loaded_text}
 use Rattle.dr_commands.specs.Refusals.{schema_refused, words_refused, line_refused}
 use Rattle.dr_commands.specs.Meaning.{Meaning, Outcome, done, refused}
 use Rattle.dr_commands.specs.Rules.{option_rule, needed, up_to, subcommand_app}
-use Rattle.dr_commands.specs.Numbers.{number_rule, number_in}
+use Rattle.dr_commands.specs.Numbers.{number_rule, number_in, default_rows}
 use Rattle.dr_commands.specs.declared.load.Load.{Load}
 
 -- its values
@@ -20,10 +20,6 @@ pub record LoadWords : Type 0 where
   pub rows : ℕ
   pub copies : ℕ
   pub directories : List Text
-
--- how many records a tablet gets where the words don't say it
-abbrev pub default_rows : ℕ
-default_rows = 100000
 
 -- its part of the command line: its files; how many records and copies, and where to
 abbrev pub load_files_app : App

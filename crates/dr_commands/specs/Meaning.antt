@@ -49,5 +49,5 @@ IsEarly (schema_refused e) = ⊤
 IsEarly (table_refused e) = ⊤
 IsEarly (field_refused n e) = ⊤
 IsEarly (words_refused e) = ⊤
-IsEarly query_refused = ⊤
+IsEarly (query_refused e) = ⊤
 IsEarly (line_refused e) = ⊥

@@ -23,6 +23,10 @@ value_of t = digits_value 10 (without_leading_plus t)
 abbrev pub is_number_in : ℕ → ℕ → Text → Bool
 is_number_in low high t = is_numeral (without_leading_plus t) && nat_le low (value_of t) && nat_le (value_of t) high
 
+-- how many records a tablet gets where the words don't say it
+abbrev pub default_rows : ℕ
+default_rows = 100000
+
 -- the number of an option between these bounds, or the other where it isn't given; clap takes no number out of the bounds
 abbrev pub number_in : ℕ → ℕ → ℕ → Option Text → ℕ
 number_in low high other None = other

@@ -1,5 +1,5 @@
 -- What commands refuse, and the lines on standard error that name it.
-use Rattle.std.specs.Prelude.{ℕ, List, codes}
+use Rattle.std.specs.Prelude.{ℕ, List}
 use Rattle.dr_meaning.specs.SchemaText.{SchemaFault}
 use Rattle.dr_meaning.specs.Path.{PathFault}
 use Rattle.dr_meaning.specs.Lines as line
@@ -16,14 +16,14 @@ pub data Refusal : Type 0 where
   field_refused : ℕ → PathFault → Refusal
   -- a directory, or the number of copies
   words_refused : WordsRefusal → Refusal
-  query_refused : Refusal
+  query_refused : plain.QueryRefusal → Refusal
   line_refused : line.Refusal → Refusal
 
 -- a refusal of a command without tables
 abbrev pub refusal_of : plain.CommandRefusal → Refusal
 refusal_of (plain.schema_refused e) = schema_refused e
 refusal_of (plain.field_refused n e) = field_refused n e
-refusal_of plain.query_refused = query_refused
+refusal_of (plain.query_refused e) = query_refused e
 refusal_of (plain.line_refused e) = line_refused e
 
 -- the line that names a refusal
@@ -32,5 +32,5 @@ refusal_text (schema_refused e) = plain.schema_refusal_text e
 refusal_text (table_refused e) = table_refusal_text e
 refusal_text (field_refused n e) = plain.field_refusal_text n e
 refusal_text (words_refused e) = words_refusal_text e
-refusal_text query_refused = codes "refused query at 0: Syntax\n"
+refusal_text (query_refused e) = plain.query_refusal_text e
 refusal_text (line_refused e) = plain.line_refusal_text e

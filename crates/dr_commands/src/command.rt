@@ -6,11 +6,13 @@ ghost use Rattle.dr_commands.specs.Rules.{Answers};
 ghost use Rattle.dr_commands.specs.Commands as meant;
 ghost use Rattle.dr_commands.specs.CommandView.{command_view};
 
-use crate::ask::{Ask, ask_command, ask_of};
+use crate::ask::Ask;
+use crate::ask_words::{ask_command, ask_of};
 use crate::dump::{Dump, dump_command, dump_of};
 use crate::fsm::{Fsm, fsm_command, fsm_of};
 use crate::load::Load;
 use crate::load_words::{load_command, load_of};
+use crate::query::{Query, query_command, query_of};
 use crate::show_schema::{ShowSchema, show_schema_command, show_schema_of};
 use crate::stripe::{Stripe, stripe_command, stripe_of};
 use crate::words_fault::WordsFault;
@@ -21,6 +23,7 @@ use std::alloc::{AllocError, Global};
 #[derive(PartialEq, Eq, Debug, Drop)]
 pub enum Command {
     Load(Load),
+    Query(Query),
     Ask(Ask),
     Dump(Dump),
     Stripe(Stripe),
@@ -28,15 +31,23 @@ pub enum Command {
     ShowSchema(ShowSchema),
 }
 
-/// The whole command. No word asks for help: those that would are refused as unknown.
-pub fn dremel_command<'a>(alloc: Global) -> Result<clap::Command<'a>, AllocError>
-    ensures { IfOk result (λ command. app_of command ≡ meant.dremel_app) }
+/// The command before its subcommands join it. No word asks for help: those that would are refused as unknown.
+fn bare_command<'a>(alloc: Global) -> clap::Command<'a>
+    ensures { app_of result ≡ meant.bare_app }
 {
     clap::Command::new(alloc, "dremel")
         .disable_help_flag(true)
         .disable_help_subcommand(true)
         .subcommand_required(true)
+}
+
+/// The whole command.
+pub fn dremel_command<'a>(alloc: Global) -> Result<clap::Command<'a>, AllocError>
+    ensures { IfOk result (λ command. app_of command ≡ meant.dremel_app) }
+{
+    bare_command(alloc)
         .subcommand(load_command(alloc)?)?
+        .subcommand(query_command(alloc)?)?
         .subcommand(ask_command(alloc)?)?
         .subcommand(dump_command(alloc)?)?
         .subcommand(stripe_command(alloc)?)?
@@ -50,6 +61,7 @@ pub fn command_of(alloc: Global, matches: &ArgMatches<'_>) -> Result<Command, Wo
 {
     match matches.subcommand() {
         Some(("load", values)) => Ok(Command::Load(load_of(alloc, values)?)),
+        Some(("query", values)) => Ok(Command::Query(query_of(alloc, values)?)),
         Some(("ask", values)) => Ok(Command::Ask(ask_of(alloc, values)?)),
         Some(("dump", values)) => Ok(Command::Dump(dump_of(alloc, values)?)),
         Some(("stripe", values)) => Ok(Command::Stripe(stripe_of(alloc, values)?)),

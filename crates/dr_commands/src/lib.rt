@@ -3,12 +3,15 @@
 
 mod arguments;
 mod ask;
+mod ask_words;
 mod command;
 mod dump;
 mod fsm;
+pub mod laws;
 mod limits;
 mod load;
 mod load_words;
+mod query;
 mod read;
 mod show_schema;
 mod stripe;
@@ -19,10 +22,11 @@ pub use command::Command;
 pub use dump::Dump;
 pub use fsm::Fsm;
 pub use limits::{
-    DEFAULT_ROWS, MOST_COPIES, MOST_DIRECTORIES, MOST_RECORDS, MOST_ROWS, MOST_STRIPED,
+    DEFAULT_ROWS, MOST_COPIES, MOST_DIRECTORIES, MOST_ROWS, MOST_STRIPED,
     command_limits_are_as_defined,
 };
 pub use load::Load;
+pub use query::Query;
 pub use read::{USAGE, read_words, taken_words_ask};
 pub use show_schema::ShowSchema;
 pub use stripe::Stripe;

@@ -1,14 +1,10 @@
 //! The limits of the commands.
 
 ghost use Rattle.std.specs.Prelude.{◌≡◌};
-ghost use Rattle.dr_meaning.specs.Ask.{most_records};
 ghost use Rattle.dr_meaning.specs.Stripe.{most_striped};
 ghost use Rattle.dr_formats.specs.Loading.{most_tablet_rows};
 ghost use Rattle.dr_formats.specs.TableFile.{most_leaf_lines};
-ghost use Rattle.dr_commands.specs.Load.{default_rows};
-
-/// The greatest number of lines of `ask`: 4,096 tablets of 100,000 records.
-pub const MOST_RECORDS: u64 = 409_600_000;
+ghost use Rattle.dr_commands.specs.Numbers.{default_rows};
 
 /// The greatest number of lines of `stripe`: 4,096 times 1,000,000.
 pub const MOST_STRIPED: u64 = 4_096_000_000;
@@ -27,7 +23,6 @@ pub const MOST_DIRECTORIES: usize = 64;
 
 /// A law: these are the limits of the definitions.
 pub fn command_limits_are_as_defined()
-    ensures records { MOST_RECORDS ≡ most_records }
     ensures striped { MOST_STRIPED ≡ most_striped }
     ensures rows { MOST_ROWS ≡ most_tablet_rows }
     ensures default { DEFAULT_ROWS ≡ default_rows }

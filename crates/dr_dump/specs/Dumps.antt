@@ -1,5 +1,5 @@
 -- What is printed of a table's records, and which of its tablets are left.
-use Rattle.std.specs.Prelude.{◌≡◌, ◌≢◌, ℕ, List, [], Option, String, string_bytes}
+use Rattle.std.specs.Prelude.{◌≡◌, ℕ, List, Option, String, string_bytes}
 use Rattle.std.specs.List.{flat_map}
 use Rattle.std.specs.declared.alloc.Global.{Global}
 use Rattle.dr_meaning.specs.Schema.{Fields}
@@ -7,12 +7,10 @@ use Rattle.dr_meaning.specs.Path.{Leaf}
 use Rattle.dr_meaning.specs.Record.{Node, project}
 use Rattle.dr_meaning.specs.Print.{record_text}
 use Rattle.dr_formats.specs.TableFile.{Table}
-use Rattle.dr_outside.specs.Link.{Files, LinkShown}
+use Rattle.dr_outside.specs.Link.{Files}
 use Rattle.dr_serving.specs.Premises.{paths_of_leaves}
-use Rattle.dr_serving.specs.Causes.{RisesApart}
 use Rattle.dr_reading.specs.Scan.{joined, tablets_of}
 use Rattle.dr_reading.specs.Given.{AreGiven}
-use Rattle.dr_reading.specs.Left.{LeftTablet, LeavesJust, causes_met}
 
 -- the lines of records
 abbrev pub lines_text : Fields → List Node → List ℕ
@@ -29,7 +27,3 @@ dump_text fs F R = flat_map (λ n. record_text fs (project (paths_of_leaves F) n
 -- a text is the lines of the records of a table, of which each tablet gives its own
 abbrev pub AreLinesOf : Table → List Leaf → Option Files → List ℕ → Type 0
 AreLinesOf t F held text = (Rs : List (List Node)) × AreGiven t.schema F held (tablets_of t) Rs × (text ≡ dump_text t.schema.fields F (joined Rs))
-
--- some tablets of a table are left, just these, and each failed read among the causes has a rise of the link's count of its own
-abbrev pub LeavesTablets : Table → List Leaf → List LeftTablet → LinkShown → LinkShown → Type 0
-LeavesTablets t F left l now = (left ≢ []) × LeavesJust t.schema F l 0 (tablets_of t) left × RisesApart l.faults (causes_met left) now.faults

@@ -7,6 +7,7 @@ mod keys;
 mod laws;
 mod levels;
 mod lines;
+mod mean;
 mod objects;
 mod values;
 
@@ -15,3 +16,4 @@ pub use keys::key_of;
 pub use laws::{groups_take_records, lines_are_result, record_is_put_row_by_row};
 pub use levels::{expression_level, keys_level, longer, tests_level};
 pub use lines::mean_objects;
+pub use mean::mean;

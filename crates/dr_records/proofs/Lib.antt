@@ -1,4 +1,6 @@
 -- columns of leaves
 pub mod ColumnsLemmas
+-- leaves of the schema
+pub mod LeafLemmas
 -- records of columns
 pub mod RecordsLemmas

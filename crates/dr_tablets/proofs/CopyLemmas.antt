@@ -1,5 +1,5 @@
 -- The copies of one tablet, tried one after another.
-use Rattle.std.proofs.Common.{◌≡◌, ◌<◌, ◌≤◌, ℕ, zero, suc, ◌+◌, List, [], ◌∷◌, ◌++◌, length, map, true, false, Option, Some, None, refl, sym, ap, ◌∙◌, subst, inl, inr, add-one, true≢false, arith}
+use Rattle.std.proofs.Common.{◌≡◌, ◌<◌, ◌≤◌, ℕ, zero, suc, ◌+◌, ◌-◌, List, [], ◌∷◌, ◌++◌, length, map, true, false, Option, Some, None, refl, sym, ap, ◌∙◌, subst, inl, inr, add-one, true≢false, arith}
 use Rattle.std.specs.Prelude.{IsTrue, IsSome, Result, Err}
 use Rattle.std.proofs.Common.{Vec, Global}
 use Rattle.dr_nested.specs.declared.record.Node as code
@@ -20,7 +20,8 @@ use Rattle.dr_serving.specs.ServingLaws.{is_read}
 use Rattle.dr_reading.specs.Scan.{Copy, copy_in, copies_from}
 use Rattle.dr_reading.specs.Given.{IsFileThere, SomeIsFile}
 use Rattle.dr_reading.specs.Left.{Tried, IsCauseAt, AreTried}
-use Rattle.dr_tablets.specs.Tablets.{AreGivenBy}
+use Rattle.dr_reading.specs.Given.{IsGiven}
+use Rattle.dr_tablets.specs.Tablets.{AreGivenBy, FirstGives}
 
 -- ---- the copies
 
@@ -32,12 +33,10 @@ copies_more ds t j (suc k) m e = ap (λ cs. copy_in ds t (placement (length ds) 
 pub copies_next : (ds : List (List ℕ)) (t k : ℕ) → copies_from ds t 0 (k + 1) ≡ copies_from ds t 0 k ++ copy_in ds t (placement (length ds) t k) ∷ []
 copies_next ds t k = ap (copies_from ds t 0) (add-one k) ∙ copies_more ds t 0 k k (omega arith)
 
--- a copy that is among them
-copy_among : (s : Schema) (F : List Leaf) (files : Files) (R : List Node) (ds : List (List ℕ)) (t j k i m : ℕ) → i < k → j + i ≡ m → IsFileThere s F R (files (copy_in ds t (placement (length ds) t m)).path)
-    → SomeIsFile s F files (copies_from ds t j k) R
-copy_among s F files R ds t j zero i m l e h = absurd (omega arith)
-copy_among s F files R ds t j (suc k) zero m l e h = inl (subst (λ n. IsFileThere s F R (files (copy_in ds t (placement (length ds) t n)).path)) (let q : m ≡ j = omega (arith, e) in q) h)
-copy_among s F files R ds t j (suc k) (suc i) m l e h = inr (copy_among s F files R ds t (suc j) k i m (omega (arith, l)) (omega (arith, e)) h)
+-- the copies before one, and those behind it
+copies_split : (ds : List (List ℕ)) (t j i m k : ℕ) → j + i ≡ m → copies_from ds t j (i + suc k) ≡ copies_from ds t j i ++ copy_in ds t (placement (length ds) t m) ∷ copies_from ds t (suc m) k
+copies_split ds t j zero m k e = subst (λ (n : ℕ). copies_from ds t j (suc k) ≡ copy_in ds t (placement (length ds) t n) ∷ copies_from ds t (suc n) k) (let q : j ≡ m = omega (arith, e) in q) refl
+copies_split ds t j (suc i) m k e = ap (λ cs. copy_in ds t (placement (length ds) t j) ∷ cs) (copies_split ds t (suc j) i m k (omega (arith, e)))
 
 -- ---- what a copy gives
 
@@ -46,12 +45,45 @@ there : (s : Schema) (F : List Leaf) (files : Files) (path : List ℕ) (P : List
 there s F files path P None e h none = absurd (none e)
 there s F files path P (Some bytes) e h none = h bytes e
 
-pub copy_gives : (s : Schema) (F : List Leaf) (held : Option Files) (ds : List (List ℕ)) (t k i : ℕ) (path : List ℕ) (P : List Node) → i < k → path ≡ (copy_in ds t (placement (length ds) t i)).path
-    → AreProjected s F P → ((bytes : List ℕ) → TellsFile held path bytes → AreOfFile bytes s F P) → (Lacks held path → ⊥) → AreGivenBy s F held (copies_from ds t 0 k) P
-copy_gives s F None ds t k i path P l p a h none = (a.0, a.1, a.2)
-copy_gives s F (Some files) ds t k i path P l p a h none =
+gives : (s : Schema) (F : List Leaf) (held : Option Files) (path : List ℕ) (c : Copy) (P : List Node) → path ≡ c.path
+    → AreProjected s F P → ((bytes : List ℕ) → TellsFile held path bytes → AreOfFile bytes s F P) → (Lacks held path → ⊥) → AreGivenBy s F held (c ∷ []) P
+gives s F None path c P p a h none = (a.0, a.1, a.2)
+gives s F (Some files) path c P p a h none =
     let g = there s F files path P (files path) refl h none in
-    (g.0, copy_among s F files g.0 ds t 0 k i i l (omega arith) (subst (λ (q : List ℕ). IsFileThere s F g.0 (files q)) p g.1), g.2)
+    (g.0, inl (subst (λ (q : List ℕ). IsFileThere s F g.0 (files q)) p g.1), g.2)
+
+-- the copies before it were tried
+pub copy_gives : (s : Schema) (F : List Leaf) (link : LinkShown) (ds : List (List ℕ)) (t n i : ℕ) (path : List ℕ) (P : List Node) (tried : List Tried) → i < n → path ≡ (copy_in ds t (placement (length ds) t i)).path
+    → AreTried s F link (copies_from ds t 0 i) tried → AreProjected s F P → ((bytes : List ℕ) → TellsFile link.held path bytes → AreOfFile bytes s F P) → (Lacks link.held path → ⊥) → FirstGives s F link (copies_from ds t 0 n) P
+copy_gives s F link ds t n i path P tried l p before a h none =
+    let c : Copy = copy_in ds t (placement (length ds) t i) in
+    let k : ℕ = n - suc i in
+    let g = gives s F link.held path c P p a h none in
+    let at : i + suc k ≡ n = omega (arith, l) in
+    record {
+      before = copies_from ds t 0 i;
+      giving = c;
+      behind = copies_from ds t (suc i) k;
+      copies = ap (copies_from ds t 0) (sym at) ∙ copies_split ds t 0 i i k (omega arith);
+      tried = tried;
+      are_tried = before;
+      records = g.0;
+      given = g.1;
+      projected = g.2;
+    }
+
+some_behind : (s : Schema) (F : List Leaf) (files : Files) (R : List Node) (before : List Copy) (c : Copy) (behind : List Copy) → SomeIsFile s F files (c ∷ []) R → SomeIsFile s F files (before ++ c ∷ behind) R
+some_behind s F files R [] c behind (inl h) = inl h
+some_behind s F files R [] c behind (inr h) = absurd h
+some_behind s F files R (x ∷ before) c behind h = inr (some_behind s F files R before c behind h)
+
+given_among : (s : Schema) (F : List Leaf) (held : Option Files) (R : List Node) (before : List Copy) (c : Copy) (behind : List Copy) → IsGiven s F held (c ∷ []) R → IsGiven s F held (before ++ c ∷ behind) R
+given_among s F None R before c behind h = h
+given_among s F (Some files) R before c behind h = some_behind s F files R before c behind h
+
+-- what the first of the copies gives the tablet gives
+pub first_gives : (s : Schema) (F : List Leaf) (link : LinkShown) (cs : List Copy) (P : List Node) → FirstGives s F link cs P → AreGivenBy s F link.held cs P
+first_gives s F link cs P g = (g.records, subst (λ (x : List Copy). IsGiven s F link.held x g.records) (sym g.copies) (given_among s F link.held g.records g.before g.giving g.behind g.given), g.projected)
 
 -- ---- why a copy gives nothing
 

@@ -18,7 +18,7 @@ use Rattle.dr_tablets.specs.Views.{all_tried_view, all_left_view}
 use Rattle.dr_tablets.specs.declared.left.LeftTablet as code
 use Rattle.dr_tablets.specs.declared.reading.Tablet.{Tablet}
 use Rattle.dr_tablets.specs.Tablets.{AreGivenBy, IsReadAs, causes_in, TakesGiven, TakesTablet, with_tablet}
-use Rattle.dr_tablets.proofs.CopyLemmas.{rises_join, rises_from}
+use Rattle.dr_tablets.proofs.CopyLemmas.{first_gives, rises_join, rises_from}
 
 -- ---- the tablets
 
@@ -119,7 +119,7 @@ takes_more has s F held now ds k n P before middle after e h g takes =
 pub step_left : (s : Schema) (F : List Leaf) (l now : LinkShown) (ds : List (List ℕ)) (k n : ℕ) (read : Tablet) (left more : List LeftTablet) → now.held ≡ l.held → (IsTrue l.is_steady → IsTrue now.is_steady)
     → LeavesJust s F l 0 (tablets_from ds k 0 n) left → IsReadAs s F now (copies_from ds n 0 k) read → more ≡ with_tablet n read left → LeavesJust s F l 0 (tablets_from ds k 0 (n + 1)) more
 step_left s F l now ds k n (Tablet.Given records) left more e w h g m =
-    subst (LeavesJust s F l 0 (tablets_from ds k 0 (n + 1))) (sym m) (next_given s F l now ds k n left (nodes_view records.items) e h g)
+    subst (LeavesJust s F l 0 (tablets_from ds k 0 (n + 1))) (sym m) (next_given s F l now ds k n left (nodes_view records.items) e h (first_gives s F now _ _ g))
 step_left s F l now ds k n (Tablet.Left tried) left more e w h g m = next_left s F l now ds k n left more (all_tried_view tried.items) e w h g m
 
 none_left : (t : ℕ) (read : Tablet) (left : List LeftTablet) → with_tablet t read left ≡ [] → left ≡ []
@@ -135,7 +135,7 @@ pub step_taken : {T : Type 0} (has : T → List Node → Type 0) (s : Schema) (F
     → (left ≡ [] → TakesGiven has s F held (tablets_from ds k 0 n) before middle) → IsReadAs s F now (copies_from ds n 0 k) read → more ≡ with_tablet n read left → more ≡ [] → TakesTablet has read middle after
     → TakesGiven has s F held (tablets_from ds k 0 (n + 1)) before after
 step_taken has s F held now ds k n (Tablet.Given records) left more before middle after e h g m none takes =
-    takes_more has s F held now.held ds k n (nodes_view records.items) before middle after e (h (sym m ∙ none)) g takes
+    takes_more has s F held now.held ds k n (nodes_view records.items) before middle after e (h (sym m ∙ none)) (first_gives s F now _ _ g) takes
 step_taken has s F held now ds k n (Tablet.Left tried) left more before middle after e h g m none takes = absurd (is_some_left left _ (sym m ∙ none))
 
 pub step_rises : (start old new n : ℕ) (read : Tablet) (left more : List LeftTablet) → RisesApart start (causes_met left) old → RisesApart old (causes_in read) new → more ≡ with_tablet n read left → RisesApart start (causes_met more) new

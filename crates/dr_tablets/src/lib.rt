@@ -4,9 +4,9 @@
 mod left;
 mod reading;
 mod report;
-mod taker;
+mod table;
 
 pub use left::{LeftTablet, Tried};
-pub use reading::{Tablet, read_table, read_tablet};
+pub use reading::{Tablet, read_tablet};
 pub use report::left_text;
-pub use taker::Taker;
+pub use table::{TableRecords, read_table};

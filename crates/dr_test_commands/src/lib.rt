@@ -4,8 +4,6 @@
 #[cfg(test)]
 mod commands_tests;
 #[cfg(test)]
-mod count_tests;
-#[cfg(test)]
 mod json_tests;
 #[cfg(test)]
 mod print_tests;

@@ -13,10 +13,8 @@ use Rattle.dr_lines.specs.declared.cutter.LineFault.{LineFault as CutFault}
 use Rattle.dr_lines.specs.declared.cutter.LineFault.TheVariants as cutter
 use Rattle.dr_outside.specs.Faults.{raised}
 use Rattle.dr_outside.specs.Source.{SourceShown}
-use Rattle.dr_count.specs.Counting.{value_count}
-use Rattle.dr_count.proofs.CountingLemmas.{total_of_none, total_of_more}
 use Rattle.dr_top.specs.World.{WhereTold}
-use Rattle.dr_top.specs.Records.{behind, TakesRecord, RefusesNext, HasRead, OfRecords, IsTotal}
+use Rattle.dr_top.specs.Records.{behind, TakesRecord, RefusesNext, HasRead, OfRecords}
 use Rattle.dr_top.specs.Stops.{line_problem_view, IsRefusedLine, InputStops}
 use Rattle.dr_top.specs.Input.{ReadsLine, NextStops, line_fault_in}
 use Rattle.dr_top.specs.declared.refusal.LineProblem.{LineProblem}
@@ -162,14 +160,6 @@ pub all_ended : (fs : Fields) (most : ℕ) (P : List Node → Type 0) (all befor
 all_ended fs most P None before left pending number h e = tt
 all_ended fs most P (Some all) None left pending number h e = absurd h
 all_ended fs most P (Some all) (Some rest) left pending number h e = left_nothing left pending e.1
-
--- ---- totals
-
-pub no_total : (p : List Step) → IsTotal p 0 []
-no_total p = sym (total_of_none p)
-
-pub more_total : (p : List Step) (total sum : ℕ) (n : Node) → sum ≡ total + value_count p n → (ns : List Node) → IsTotal p total ns → IsTotal p sum (ns ++ n ∷ [])
-more_total p total sum n s ns h = s ∙ ap (λ (x : ℕ). x + value_count p n) h ∙ sym (total_of_more p ns n)
 
 -- ---- what is said of an option
 

@@ -5,16 +5,18 @@ pub mod SchemaFileLemmas
 pub mod InputLemmas
 -- the record of a line has the form of its schema's records
 pub mod FormLemmas
--- outcomes of commands
+-- outcomes of commands, and of those that ask the first link
 pub mod OutcomeLemmas
+pub mod FirstLinkLemmas
 -- single commands: their steps, and their answers
-pub mod AskLemmas
+pub mod AskEnds
 pub mod StripeLemmas
 pub mod StripeEnds
 pub mod FsmLemmas
 pub mod FsmEnds
 pub mod LoadEnds
 pub mod DumpEnds
+pub mod QueryEnds
 pub mod SchemaEnds
 -- the ends of a run
 pub mod RunLemmas

@@ -91,7 +91,7 @@ module _ (i i1 : SourceShown) (out out1 err err1 : SinkShown) (k k1 : LinkShown)
   pub left_end : (o : Option Meaning) (left : Vec LeftTablet Global) → StopsMeant o k k1 i i1 ls ls1 (Stop.Left left) → out1 ≡ out → Says err err1 (left_text (all_left_view left.items))
       → Holds o IsLeft (world i out err k ls) (world i1 out1 err1 k1 ls1)
   left_end None left h e s = absurd h
-  left_end (Some m) left h e s = inl (all_left_view left.items, s, h.4, e, h.2, h.3)
+  left_end (Some m) left h e s = inl (all_left_view left.items, h.1, s, h.4, e, h.2, h.3)
 
   pub left_counts : (o : Option Meaning) (left : Vec LeftTablet Global) → StopsMeant o k k1 i i1 ls ls1 (Stop.Left left) → out1 ≡ out → SameCounts (world i out err k ls) (world i1 out1 err1 k1 ls1)
   left_counts None left h e = absurd h
@@ -103,7 +103,7 @@ module _ (i i1 : SourceShown) (out out1 err err1 : SinkShown) (k k1 : LinkShown)
 
   pub file_end : (o : Option Meaning) (c : Cause) → StopsMeant o k k1 i i1 ls ls1 (Stop.LeftFile c) → out1 ≡ out → Says err err1 (left_file_text (told_cause c)) → Holds o IsLeft (world i out err k ls) (world i1 out1 err1 k1 ls1)
   file_end None c h e s = absurd h
-  file_end (Some m) c h e s = inr (c, s, h.4, e, h.2, h.3)
+  file_end (Some m) c h e s = inr (c, h.1, s, h.4, e, h.2, h.3)
 
   pub file_counts : (o : Option Meaning) (c : Cause) → StopsMeant o k k1 i i1 ls ls1 (Stop.LeftFile c) → out1 ≡ out → SameCounts (world i out err k ls) (world i1 out1 err1 k1 ls1)
   file_counts None c h e = absurd h

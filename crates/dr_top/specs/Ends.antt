@@ -69,15 +69,15 @@ IsRefused m before after = (r : Refusal) × Says before.err after.err (refusal_t
     × (after.out ≡ before.out) × (after.links ≡ before.links)
     × (IsEarly r → after.input ≡ before.input)
 
--- 3, tablets: just these are left, each with a cause for each of its copies, which err tells; all else stays
+-- 3, tablets: the command asks the first link; just these are left, each with a cause for each of its copies, which err tells; all else stays
 abbrev pub TabletsLeft : Meaning → World → World → Type 0
-TabletsLeft m before after = (left : List LeftTablet) × Says before.err after.err (left_text left)
+TabletsLeft m before after = (left : List LeftTablet) × (m.asks_link ≡ true) × Says before.err after.err (left_text left)
     × WithOutcome m before.keeper before.input (λ o. IsLeftWith o before.links after.links left)
     × (after.out ≡ before.out) × (after.input ≡ before.input) × (after.keeper.held ≡ before.keeper.held)
 
--- 3, a file: its cause, which err tells; all else stays
+-- 3, a file: the command asks the first link; its cause, which err tells; all else stays
 abbrev pub FileLeft : Meaning → World → World → Type 0
-FileLeft m before after = (c : Cause) × Says before.err after.err (left_file_text (told_cause c))
+FileLeft m before after = (c : Cause) × (m.asks_link ≡ true) × Says before.err after.err (left_file_text (told_cause c))
     × WithOutcome m before.keeper before.input (λ o. IsFileLeft o before.links after.links c)
     × (after.out ≡ before.out) × (after.input ≡ before.input) × (after.keeper.held ≡ before.keeper.held)
 

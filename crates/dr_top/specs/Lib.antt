@@ -12,8 +12,6 @@ pub mod Fields
 -- reading the records of the input
 pub mod Records
 pub mod Input
--- the query of one COUNT
-pub mod Queries
 -- what words are answered with
 pub mod Answers
 -- how a run ends

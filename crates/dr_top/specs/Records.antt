@@ -5,9 +5,7 @@ use Rattle.dr_meaning.specs.Path.{Step}
 use Rattle.dr_meaning.specs.Record as tree
 use Rattle.dr_meaning.specs.Column.{Triplet, column}
 use Rattle.dr_meaning.specs.Lines as line
-use Rattle.dr_meaning.specs.Ask.{most_records}
 use Rattle.dr_meaning.specs.Stripe.{most_striped}
-use Rattle.dr_count.specs.Counting.{total_count}
 use Rattle.dr_top.specs.World.{WhereTold}
 
 -- this is the first record of what was left, behind so many lines, and the others are those of what is left now; nothing is said of a source that doesn't tell
@@ -37,13 +35,6 @@ HasRead fs most P (Some all) (Some rest) number = (ns : List tree.Node)
 -- P holds of the input's records, of which there are at most so many
 abbrev pub OfRecords : Fields → ℕ → (List tree.Node → Type 0) → Option (List ℕ) → Type 0
 OfRecords fs most P input = WhereTold input (λ bytes. (ns : List tree.Node) × (line.records_of fs most bytes ≡ Ok ns) × P ns)
-
--- the records have this total
-abbrev pub IsTotal : List Step → ℕ → List tree.Node → Type 0
-IsTotal p total ns = total ≡ total_count p ns
-
-abbrev pub HasTotal : Fields → List Step → Option (List ℕ) → ℕ → Type 0
-HasTotal fs p input total = OfRecords fs most_records (IsTotal p total) input
 
 -- the records have these columns
 abbrev pub AreColumns : List (List Step) → List (List Triplet) → List tree.Node → Type 0

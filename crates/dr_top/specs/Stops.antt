@@ -24,6 +24,8 @@ use Rattle.dr_tablets.specs.Views.{all_left_view}
 use Rattle.dr_top.specs.declared.refusal.LineProblem.{LineProblem}
 use Rattle.dr_load_words.specs.Words.{words_problem_view}
 use Rattle.dr_load_words.specs.declared.words.WordsProblem.{WordsProblem}
+use Rattle.dr_query.specs.Faults.{refusal_of as query_refusal_of}
+use Rattle.dr_query.specs.declared.fault.QueryFault.{QueryFault}
 use Rattle.dr_top.specs.declared.refusal.Refusal.{Refusal}
 use Rattle.dr_top.specs.declared.schema_file.SchemaFileFault.{SchemaFileFault}
 use Rattle.dr_top.specs.declared.table_file.TableFileFault.{TableFileFault}
@@ -43,7 +45,7 @@ refusal_view (Refusal.Schema p w) = schema_refused (record { place = p; problem 
 refusal_view (Refusal.Field n w) = field_refused n (path_problem_view w)
 refusal_view (Refusal.Table w) = table_refused (table_problem_view w)
 refusal_view (Refusal.Words w) = words_refused (words_problem_view w)
-refusal_view Refusal.Query = query_refused
+refusal_view (Refusal.Query place p) = query_refused (query_refusal_of place p)
 refusal_view (Refusal.Line n w) = line_refused (record { line = n; fault = line_problem_view w })
 
 -- ---- the schema's file
@@ -201,6 +203,10 @@ load_stop LoadFault.KeepFault = Stop.Keeper
 abbrev pub field_stop : FieldFault → Stop
 field_stop FieldFault.NoMemory = Stop.NoMemory
 field_stop (FieldFault.Refused n w) = Stop.Refused (Refusal.Field n w)
+
+abbrev pub query_stop : QueryFault → Stop
+query_stop QueryFault.NoMemory = Stop.NoMemory
+query_stop (QueryFault.Refused place p) = Stop.Refused (Refusal.Query place p)
 
 abbrev pub input_stop : InputFault → Stop
 input_stop InputFault.NoMemory = Stop.NoMemory

@@ -11,6 +11,7 @@ mod ask;
 mod dump;
 mod fsm;
 mod load;
+mod query;
 mod show_schema;
 mod stripe;
 
@@ -42,6 +43,7 @@ fn command_answer<S: Source, K: Keeper, L: Link>(
 {
     match command {
         Command::Load(load) => load::answer(alloc, load, source, keeper),
+        Command::Query(query) => query::answer(alloc, query, keeper, &mut links[0]),
         Command::Ask(ask) => ask::answer(alloc, ask, source, keeper),
         Command::Dump(dump) => dump::answer(alloc, dump, keeper, &mut links[0]),
         Command::Stripe(stripe) => stripe::answer(alloc, stripe, source, keeper),

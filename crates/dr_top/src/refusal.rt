@@ -1,19 +1,21 @@
 //! What a command refuses, with its line on standard error.
 
 ghost use Rattle.std.specs.Prelude.{◌≡◌, ◌≤◌, ◌+◌, ◌++◌, length, decimal};
-ghost use Rattle.dr_meaning.specs.Refusals.{schema_problem_name, path_fault_name, record_fault_name, line_fault_name, schema_refusal_text, field_refusal_text, line_refusal_text};
+ghost use Rattle.dr_meaning.specs.Refusals.{schema_problem_name, path_fault_name, record_fault_name, line_fault_name, schema_refusal_text, field_refusal_text, query_refusal_text, line_refusal_text};
 ghost use Rattle.dr_nested.specs.Faults.{problem_view, path_problem_view};
 ghost use Rattle.dr_json.specs.Faults.{record_problem_view};
 ghost use Rattle.dr_formats.specs.Reports.{table_fault_name, table_refusal_text, words_refusal_text};
 ghost use Rattle.dr_table.specs.Faults.{problem_view as table_problem_view};
 ghost use Rattle.dr_commands.specs.Refusals.{refusal_text};
 ghost use Rattle.dr_load_words.specs.Words.{words_problem_view};
+ghost use Rattle.dr_query.specs.Faults.{refusal_of as query_refusal_of};
 ghost use Rattle.dr_top.specs.Stops.{line_problem_view, refusal_view};
 
-use crate::report::{LONGEST_REPORT, Report};
+use crate::report::Report;
 use dr_json::RecordProblem;
 use dr_load_words::WordsProblem;
 use dr_nested::{PathProblem, SchemaProblem};
+use dr_query::QueryProblem;
 use dr_table::TableProblem;
 use itoa::Buffer;
 
@@ -45,8 +47,11 @@ pub enum Refusal {
         number: usize,
         problem: PathProblem,
     },
-    /// The query.
-    Query,
+    /// The query's first problem, at its byte place in the query's text.
+    Query {
+        place: usize,
+        problem: QueryProblem,
+    },
     /// The first line that is refused, counted from 1.
     Line {
         number: u64,
@@ -210,13 +215,16 @@ fn line_report(number: u64, problem: LineProblem) -> Report
     report
 }
 
-/// A report of one piece.
-fn plain_report(text: &str) -> Report
-    requires { length text.now ≤ LONGEST_REPORT }
-    ensures { result ≡ text.now }
+/// `refused query at B: WHAT`.
+fn query_report(place: usize, problem: QueryProblem) -> Report
+    ensures { result ≡ query_refusal_text (query_refusal_of place problem) }
 {
     let mut report = Report::new();
-    report.push(text);
+    report.push("refused query at ");
+    push_number(&mut report, place as u64);
+    report.push(": ");
+    report.push(problem.name());
+    report.push("\n");
     report
 }
 
@@ -230,7 +238,7 @@ impl Refusal {
             Refusal::Table(problem) => table_report(problem),
             Refusal::Words(problem) => words_report(problem),
             Refusal::Field { number, problem } => field_report(number, problem),
-            Refusal::Query => plain_report("refused query at 0: Syntax\n"),
+            Refusal::Query { place, problem } => query_report(place, problem),
             Refusal::Line { number, problem } => line_report(number, problem),
         }
     }

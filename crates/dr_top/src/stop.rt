@@ -2,7 +2,7 @@
 
 ghost use Rattle.std.specs.Prelude.{◌≡◌};
 ghost use Rattle.dr_top.specs.declared.stop.Stop.TheVariants as stops;
-ghost use Rattle.dr_top.specs.Stops.{words_stop, schema_file_stop, table_file_stop, words_problem_stop, field_stop, input_stop, load_stop, file_stop};
+ghost use Rattle.dr_top.specs.Stops.{words_stop, schema_file_stop, table_file_stop, words_problem_stop, field_stop, query_stop, input_stop, load_stop, file_stop};
 
 use crate::field::FieldFault;
 use crate::input_records::InputFault;
@@ -15,6 +15,7 @@ use dr_load::LoadFault;
 use dr_load_words::WordsProblem;
 use dr_memory::NoMemory;
 use dr_outside::Cause;
+use dr_query::QueryFault;
 use dr_tablets::LeftTablet;
 
 /// Why a command gives no text.
@@ -120,6 +121,19 @@ impl From<FieldFault> for Stop {
             FieldFault::NoMemory => Stop::NoMemory,
             FieldFault::Refused { number, problem } => {
                 Stop::Refused(Refusal::Field { number, problem })
+            }
+        }
+    }
+}
+
+impl From<QueryFault> for Stop {
+    ghost from_gives = { λ fault stop. stop ≡ query_stop fault };
+
+    fn from(fault: QueryFault) -> Stop {
+        match fault {
+            QueryFault::NoMemory => Stop::NoMemory,
+            QueryFault::Refused { place, problem } => {
+                Stop::Refused(Refusal::Query { place, problem })
             }
         }
     }

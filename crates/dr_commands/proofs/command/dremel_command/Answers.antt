@@ -1,15 +1,14 @@
-use Rattle.std.proofs.Common.{rules, ◌≡◌, ◌∙◌, ap, ap₂}
+use Rattle.std.proofs.Common.{◌∙◌, ap, ap₂}
 use Rattle.std.proofs.lemmas.Result.{IfOk-weaker}
-use Rattle.clap.specs.Words.{App, app_of, with_subcommand}
-use Rattle.dr_commands.specs.Commands.{bare_app}
+use Rattle.clap.specs.Words.{App, with_subcommand}
 use Rattle.dr_commands.proofs.command.dremel_command.Goals as goal
 
 pub returns : goal.returns
 returns c =
-    let bare : app_of c.subcommand_required.result ≡ bare_app = search rules in
-    let with_load = c.in_ok-subcommand.ensures.shape c.in_ok-load_command.ensures.local ∙ ap₂ with_subcommand bare (ap (λ (a : App). a.top) c.in_ok-load_command.ensures.app) in
-    let with_ask = c.in_ok-subcommand-2.ensures.shape c.in_ok-ask_command.ensures.local ∙ ap₂ with_subcommand with_load (ap (λ (a : App). a.top) c.in_ok-ask_command.ensures.app) in
-    let with_dump = c.in_ok-subcommand-3.ensures.shape c.in_ok-dump_command.ensures.local ∙ ap₂ with_subcommand with_ask (ap (λ (a : App). a.top) c.in_ok-dump_command.ensures.app) in
-    let with_stripe = c.in_ok-subcommand-4.ensures.shape c.in_ok-stripe_command.ensures.local ∙ ap₂ with_subcommand with_dump (ap (λ (a : App). a.top) c.in_ok-stripe_command.ensures.app) in
-    let with_fsm = c.in_ok-subcommand-5.ensures.shape c.in_ok-fsm_command.ensures.local ∙ ap₂ with_subcommand with_stripe (ap (λ (a : App). a.top) c.in_ok-fsm_command.ensures.app) in
-    IfOk-weaker c.subcommand-6.result _ _ (λ r h. h.shape c.in_ok-show_schema_command.ensures.local ∙ ap₂ with_subcommand with_fsm (ap (λ (a : App). a.top) c.in_ok-show_schema_command.ensures.app)) c.subcommand-6.ensures
+    let with_load = c.in_ok-subcommand.ensures.shape c.in_ok-load_command.ensures.local ∙ ap₂ with_subcommand c.bare_command.ensures (ap (λ (a : App). a.top) c.in_ok-load_command.ensures.app) in
+    let with_query = c.in_ok-subcommand-2.ensures.shape c.in_ok-query_command.ensures.local ∙ ap₂ with_subcommand with_load (ap (λ (a : App). a.top) c.in_ok-query_command.ensures.app) in
+    let with_ask = c.in_ok-subcommand-3.ensures.shape c.in_ok-ask_command.ensures.local ∙ ap₂ with_subcommand with_query (ap (λ (a : App). a.top) c.in_ok-ask_command.ensures.app) in
+    let with_dump = c.in_ok-subcommand-4.ensures.shape c.in_ok-dump_command.ensures.local ∙ ap₂ with_subcommand with_ask (ap (λ (a : App). a.top) c.in_ok-dump_command.ensures.app) in
+    let with_stripe = c.in_ok-subcommand-5.ensures.shape c.in_ok-stripe_command.ensures.local ∙ ap₂ with_subcommand with_dump (ap (λ (a : App). a.top) c.in_ok-stripe_command.ensures.app) in
+    let with_fsm = c.in_ok-subcommand-6.ensures.shape c.in_ok-fsm_command.ensures.local ∙ ap₂ with_subcommand with_stripe (ap (λ (a : App). a.top) c.in_ok-fsm_command.ensures.app) in
+    IfOk-weaker c.subcommand-7.result _ _ (λ r h. h.shape c.in_ok-show_schema_command.ensures.local ∙ ap₂ with_subcommand with_fsm (ap (λ (a : App). a.top) c.in_ok-show_schema_command.ensures.app)) c.subcommand-7.ensures

@@ -21,10 +21,10 @@ returns-in-Ok-clause-read g c =
     let s = schema_view c.args.table.now.schema in
     let F = map path_view c.args.fields.now in
     let ds = (table_view c.args.table.now).leaves in
-    let held = (g.L.Link.shows c.args.link.now).held in
+    let link = g.L.Link.shows c.args.link.now in
     let path : c.as_str.result.now ≡ (copy_in ds c.args.tablet c.placement-directory.result).path = c.as_str.ensures.value ∙ c.in_ok-path.ensures in
-    copy_gives s F held ds c.args.tablet c.args.table.now.copies c.copies.copy c.as_str.result.now (nodes_view c.in-Ok.records.items) c.copies-test.true
-    (path ∙ ap (λ (d : ℕ). (copy_in ds c.args.tablet d).path) c.placement-directory.ensures.leaf) c.in-Ok.ensures.form
+    copy_gives s F link ds c.args.tablet c.args.table.now.copies c.copies.copy c.as_str.result.now (nodes_view c.in-Ok.records.items) (all_tried_view c.copies.tried.items) c.copies-test.true
+    (path ∙ ap (λ (d : ℕ). (copy_in ds c.args.tablet d).path) c.placement-directory.ensures.leaf) c.copies.invariant.0 c.in-Ok.ensures.form
     (λ bytes t. c.in-Ok.ensures.records bytes (subst (λ (h : Option Files). TellsFile h c.as_str.result.now bytes) (sym c.copies.invariant.2) t))
     (λ lacks. not_absent (c.in-Ok.ensures.absent (subst (λ (h : Option Files). Lacks h c.as_str.result.now) (sym c.copies.invariant.2) lacks) (λ e. cc)))
 

@@ -1,13 +1,16 @@
 use Rattle.std.proofs.Common.{sym, ap, subst, map, slice_set, string_bytes}
 use Rattle.std.specs.Prelude.{IfErr, IfOk}
-use Rattle.dr_commands.specs.Dump.{dump_view}
+use Rattle.dr_commands.specs.Dump.{dump_meaning, dump_view}
+use Rattle.dr_commands.specs.Query.{query_meaning, query_view}
 use Rattle.dr_commands.specs.Fsm.{fsm_meaning, fsm_view}
 use Rattle.dr_commands.specs.Commands.{CommandWords, meaning_of}
 use Rattle.dr_commands.specs.CommandView.{command_view}
 use Rattle.dr_top.specs.Answers.{Finishes}
 use Rattle.dr_top.specs.Stops.{StopsWith}
 use Rattle.dr_top.proofs.OutcomeLemmas.{plain_answer, plain_stops}
-use Rattle.dr_top.proofs.DumpEnds.{dump_answer, dump_stops}
+use Rattle.dr_top.proofs.FirstLinkLemmas.{first_answer, first_stops}
+use Rattle.dr_top.proofs.DumpEnds.{dump_puts}
+use Rattle.dr_top.proofs.QueryEnds.{query_puts}
 use Rattle.dr_top.proofs.commands.command_answer.Goals as goal
 
 pub returns-in-Load-clause-text : goal.returns-in-Load-clause-text
@@ -20,17 +23,30 @@ returns-in-Load-clause-stops g c =
     subst (λ (w : CommandWords). IfErr c.answer.result (StopsWith (meaning_of w) (g.K.Link.shows c.args.keeper.now) (g.K.Link.shows c.answer.new.keeper) (g.S.Source.shows c.args.source.now) (g.S.Source.shows c.answer.new.source) (map g.L.Link.shows c.args.links.now) (map g.L.Link.shows c.args.links.now)))
     (sym (ap command_view c.in-Load.is)) (c.answer.ensures.stops (map g.L.Link.shows c.args.links.now))
 
+pub returns-in-Query-clause-text : goal.returns-in-Query-clause-text
+returns-in-Query-clause-text g c =
+    subst (λ (w : CommandWords). IfOk c.answer-in-Query.result (λ t. Finishes (meaning_of w) (g.K.Link.shows c.args.keeper.now) (g.K.Link.shows c.answer-in-Query.new.keeper) (g.S.Source.shows c.args.source.now) (map g.L.Link.shows c.args.links.now) (string_bytes t))) (sym (ap command_view c.in-Query.is))
+    (first_answer (query_meaning (query_view c.in-Query.query)) (g.K.Link.shows c.args.keeper.now) (g.K.Link.shows c.answer-in-Query.new.keeper) (g.S.Source.shows c.args.source.now) g.L.Link.shows c.args.links.now c.index-links-0.result c.answer-in-Query.result
+    (query_puts (query_view c.in-Query.query)) c.requires.link c.answer-in-Query.ensures.kept c.answer-in-Query.ensures.text)
+
+pub returns-in-Query-clause-stops : goal.returns-in-Query-clause-stops
+returns-in-Query-clause-stops g c =
+    subst (λ (w : CommandWords). IfErr c.answer-in-Query.result (StopsWith (meaning_of w) (g.K.Link.shows c.args.keeper.now) (g.K.Link.shows c.answer-in-Query.new.keeper) (g.S.Source.shows c.args.source.now) (g.S.Source.shows c.args.source.now) (map g.L.Link.shows c.args.links.now) (map g.L.Link.shows (slice_set c.args.links.now 0 c.answer-in-Query.new.link))))
+    (sym (ap command_view c.in-Query.is))
+    (first_stops (query_meaning (query_view c.in-Query.query)) (g.K.Link.shows c.args.keeper.now) (g.K.Link.shows c.answer-in-Query.new.keeper) (g.S.Source.shows c.args.source.now) g.L.Link.shows c.args.links.now c.index-links-0.result c.answer-in-Query.new.link c.answer-in-Query.result
+    c.requires.link c.answer-in-Query.ensures.stops)
+
 pub returns-in-Dump-clause-text : goal.returns-in-Dump-clause-text
 returns-in-Dump-clause-text g c =
     subst (λ (w : CommandWords). IfOk c.answer-in-Dump.result (λ t. Finishes (meaning_of w) (g.K.Link.shows c.args.keeper.now) (g.K.Link.shows c.answer-in-Dump.new.keeper) (g.S.Source.shows c.args.source.now) (map g.L.Link.shows c.args.links.now) (string_bytes t))) (sym (ap command_view c.in-Dump.is))
-    (dump_answer (dump_view c.in-Dump.dump) (g.K.Link.shows c.args.keeper.now) (g.K.Link.shows c.answer-in-Dump.new.keeper) (g.S.Source.shows c.args.source.now) g.L.Link.shows c.args.links.now c.index-links-0.result c.answer-in-Dump.result
-    c.requires.link c.answer-in-Dump.ensures.kept c.answer-in-Dump.ensures.text)
+    (first_answer (dump_meaning (dump_view c.in-Dump.dump)) (g.K.Link.shows c.args.keeper.now) (g.K.Link.shows c.answer-in-Dump.new.keeper) (g.S.Source.shows c.args.source.now) g.L.Link.shows c.args.links.now c.index-links-0.result c.answer-in-Dump.result
+    (dump_puts (dump_view c.in-Dump.dump)) c.requires.link c.answer-in-Dump.ensures.kept c.answer-in-Dump.ensures.text)
 
 pub returns-in-Dump-clause-stops : goal.returns-in-Dump-clause-stops
 returns-in-Dump-clause-stops g c =
     subst (λ (w : CommandWords). IfErr c.answer-in-Dump.result (StopsWith (meaning_of w) (g.K.Link.shows c.args.keeper.now) (g.K.Link.shows c.answer-in-Dump.new.keeper) (g.S.Source.shows c.args.source.now) (g.S.Source.shows c.args.source.now) (map g.L.Link.shows c.args.links.now) (map g.L.Link.shows (slice_set c.args.links.now 0 c.answer-in-Dump.new.link))))
     (sym (ap command_view c.in-Dump.is))
-    (dump_stops (dump_view c.in-Dump.dump) (g.K.Link.shows c.args.keeper.now) (g.K.Link.shows c.answer-in-Dump.new.keeper) (g.S.Source.shows c.args.source.now) g.L.Link.shows c.args.links.now c.index-links-0.result c.answer-in-Dump.new.link c.answer-in-Dump.result
+    (first_stops (dump_meaning (dump_view c.in-Dump.dump)) (g.K.Link.shows c.args.keeper.now) (g.K.Link.shows c.answer-in-Dump.new.keeper) (g.S.Source.shows c.args.source.now) g.L.Link.shows c.args.links.now c.index-links-0.result c.answer-in-Dump.new.link c.answer-in-Dump.result
     c.requires.link c.answer-in-Dump.ensures.stops)
 
 pub returns-in-Fsm-clause-text : goal.returns-in-Fsm-clause-text

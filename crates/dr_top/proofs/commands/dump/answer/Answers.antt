@@ -3,11 +3,13 @@ use Rattle.dr_nested.specs.declared.path.Path.{Path}
 use Rattle.dr_nested.specs.PathView.{path_view}
 use Rattle.dr_table.specs.Views.{table_view}
 use Rattle.dr_commands.specs.Dump.{dump_meaning, dump_view}
-use Rattle.dr_dump.specs.Dumps.{AreLinesOf, LeavesTablets}
+use Rattle.dr_records.proofs.LeafLemmas.{named_are_leaves}
+use Rattle.dr_tablets.specs.Tablets.{LeavesTablets}
+use Rattle.dr_dump.specs.Dumps.{AreLinesOf}
 use Rattle.dr_dump.specs.Answers.{WhereLines, WhereLeft}
 use Rattle.dr_top.specs.Stops.{field_stop}
 use Rattle.dr_top.proofs.OutcomeLemmas.{err_is, plain_stop}
-use Rattle.dr_top.proofs.DumpEnds.{named_are_leaves, dump_field_stops, dump_text_ends, dump_left}
+use Rattle.dr_top.proofs.DumpEnds.{dump_field_stops, dump_text_ends, dump_left}
 use Rattle.dr_top.proofs.commands.dump.answer.Goals as goal
 
 pub returns-in_err-fields-clause-stops : goal.returns-in_err-fields-clause-stops

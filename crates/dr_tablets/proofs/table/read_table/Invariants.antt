@@ -1,0 +1,21 @@
+use Rattle.std.proofs.Common.{◌≡◌, ◌≤◌, map, []}
+use Rattle.std.specs.Prelude.{IsTrue}
+use Rattle.dr_nested.specs.SchemaView.{schema_view}
+use Rattle.dr_nested.specs.PathView.{path_view}
+use Rattle.dr_table.specs.Views.{table_view}
+use Rattle.dr_serving.specs.Causes.{RisesApart}
+use Rattle.dr_reading.specs.Scan.{tablets_from}
+use Rattle.dr_reading.specs.Left.{LeavesJust, causes_met}
+use Rattle.dr_tablets.specs.Views.{all_left_view}
+use Rattle.dr_tablets.specs.Tablets.{TakesGiven, HasRecords}
+use Rattle.dr_tablets.proofs.table.read_table.Given as goal
+
+-- the tablets before this one were read
+abbrev pub invariant-tablets : goal.invariant-tablets
+invariant-tablets g l =
+    LeavesJust (schema_view l.table.schema) (map path_view l.fields) (g.L.Link.shows l.initial.link) 0 (tablets_from (table_view l.table).leaves l.table.copies 0 l.tablet) (all_left_view l.left.items)
+    × (l.left.items ≡ [] → TakesGiven HasRecords (schema_view l.table.schema) (map path_view l.fields) (g.L.Link.shows l.initial.link).held (tablets_from (table_view l.table).leaves l.table.copies 0 l.tablet) l.initial.records l.records)
+    × RisesApart (g.L.Link.shows l.initial.link).faults (causes_met (all_left_view l.left.items)) (g.L.Link.shows l.link).faults
+    × ((g.L.Link.shows l.link).held ≡ (g.L.Link.shows l.initial.link).held)
+    × ((g.L.Link.shows l.initial.link).faults ≤ (g.L.Link.shows l.link).faults)
+    × (IsTrue (g.L.Link.shows l.initial.link).is_steady → IsTrue (g.L.Link.shows l.link).is_steady)
