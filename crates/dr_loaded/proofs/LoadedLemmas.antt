@@ -74,8 +74,8 @@ loaded_copies_are_files p R F before now s l a f h =
     let text : List ℕ = table_text (table_of p (length ts)) in
     let e : all_records ts ≡ R = tablets_hold_records p.rows R in
     let held : HoldTablets p (file_by p ts) (whole_puts p ts) now =
-        λ d i hd hi q. h (tablet_path (nth_directory p.directories d) i)
-            ∙ put_there (whole_puts p ts) before (tablet_path (nth_directory p.directories d) i) (file_by p ts i) (whole_all p (file_by p ts) ts text d i a hd hi l.few_tablets (are_files_by p ts)) (inr q) in
+    λ d i hd hi q. h (tablet_path (nth_directory p.directories d) i)
+    ∙ put_there (whole_puts p ts) before (tablet_path (nth_directory p.directories d) i) (file_by p ts i) (whole_all p (file_by p ts) ts text d i a hd hi l.few_tablets (are_files_by p ts)) (inr q) in
     files_from p F (file_by p ts) (whole_puts p ts) now 0 ts s f held (are_files_by p ts) (omega (arith, l.few_tablets))
     (all_fit p.rows (is_record p.schema.fields) ts (tablets_are_full p.rows R s.has_rows) (ap (list_all (is_record p.schema.fields)) e ∙ l.records))
     (all_fit p.rows is_limited ts (tablets_are_full p.rows R s.has_rows) (ap (list_all is_limited) e ∙ l.limited))
