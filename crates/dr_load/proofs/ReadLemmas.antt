@@ -1,10 +1,9 @@
 -- Reading records line by line.
-use Rattle.std.specs.Prelude.{◌≡◌, ℕ, suc, ◌+◌, ◌^◌, ◌<◌, ◌≤◌, List, [], ◌∷◌, length, true, false, nat_lt, Option, Some, None, MatchOption, Result, Ok, Err, ⊤}
+use Rattle.std.specs.Prelude.{◌≡◌, ℕ, suc, ◌+◌, ◌<◌, ◌≤◌, List, [], ◌∷◌, length, true, false, nat_lt, Option, Some, None, MatchOption, Result, Ok, Err, ⊤}
 use Rattle.std.proofs.Common.{arith, refl, sym, ap, ◌∙◌, add-one, subst}
-use Rattle.std.proofs.lemmas.Bool.{lt-ltb}
 use Rattle.std.proofs.lemmas.Bool.Decides.{nat_tests}
 use Rattle.dr_meaning.specs.Schema.{Fields}
-use Rattle.dr_meaning.specs.Record.{Node, is_record, text_bytes}
+use Rattle.dr_meaning.specs.Record.{Node, is_record}
 use Rattle.dr_meaning.specs.JsonRecord.{RecordFault, record_of_line}
 use Rattle.dr_meaning.specs.Lines.{lines_of, longest_line, LineFault, line_too_long, too_many_records, no_record, line_record, record_at, or_stop, taken_from}
 use Rattle.dr_nested.specs.Views.{node_view}

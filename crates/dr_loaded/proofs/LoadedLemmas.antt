@@ -1,7 +1,7 @@
 -- A table that a load has put is held.
-use Rattle.std.specs.Prelude.{◌≡◌, ℕ, zero, suc, ◌+◌, ◌<◌, ◌≤◌, List, [], ◌∷◌, ◌++◌, map, length, Bool, true, Option, Some, None, Result, Ok, ◌⊎◌}
+use Rattle.std.specs.Prelude.{◌≡◌, ℕ, zero, suc, ◌+◌, ◌≤◌, List, [], ◌∷◌, ◌++◌, length, true, Option, Some, None, Ok}
 use Rattle.std.specs.List.{list_all}
-use Rattle.std.proofs.Common.{arith, refl, sym, ap, ap₂, ◌∙◌, subst, inl, inr}
+use Rattle.std.proofs.Common.{arith, refl, sym, ap, ◌∙◌, subst, inl, inr}
 use Rattle.dr_meaning.specs.Schema.{Schema}
 use Rattle.dr_meaning.specs.Path.{Leaf, leaves}
 use Rattle.dr_meaning.specs.Record.{Node, is_record}
@@ -18,17 +18,17 @@ use Rattle.dr_formats.proofs.FileBack.{written_file_is_file}
 use Rattle.dr_formats.proofs.LoadFits.{limited_records_fit}
 use Rattle.dr_formats.proofs.TabletLemmas.{tablets_hold_records, tablets_are_full}
 use Rattle.dr_outside.specs.Link.{Files}
-use Rattle.dr_serving.specs.Held.{Held, held_file}
+use Rattle.dr_serving.specs.Held.{held_file}
 use Rattle.dr_serving.specs.Premises.{HoldsRecords, PathsHold}
-use Rattle.dr_reading.specs.Scan.{Copy, copies_from, tablets_from, tablets_of, joined}
+use Rattle.dr_reading.specs.Scan.{Copy, tablets_from, tablets_of, joined}
 use Rattle.dr_reading.specs.Held.{copy_paths, TabletsHold}
-use Rattle.dr_load.specs.Loads.{taken_of, LoadsTable}
+use Rattle.dr_load.specs.Loads.{taken_of}
 use Rattle.dr_load.specs.Records.{WhereTold}
-use Rattle.dr_load.specs.Puts.{after_puts, HasPut}
-use Rattle.dr_loaded.specs.Loaded.{IsPlan, AreLoadable, IsApart, CopiesHold, TabletsAreFiles}
+use Rattle.dr_load.specs.Puts.{HasPut}
+use Rattle.dr_loaded.specs.Loaded.{IsPlan, AreLoadable, CopiesHold, TabletsAreFiles}
 use Rattle.dr_loaded.specs.LoadedLaws.{LoadedCopiesAreFiles, LoadedTableIsHeld, LoadedRecordsAreHeld, LoadedRecordsAreJoined}
 use Rattle.dr_loaded.proofs.TabletLemmas.{AllFit, all_fit, some_tablet}
-use Rattle.dr_loaded.proofs.PutLemmas.{AllPut, SomePut, put_there, some_front, some_back, AreFilesBy, whole_all, HoldTablets, copies_hold}
+use Rattle.dr_loaded.proofs.PutLemmas.{SomePut, put_there, some_front, some_back, AreFilesBy, whole_all, HoldTablets, copies_hold}
 
 -- ---- the file of each tablet, by its number
 

@@ -1,6 +1,6 @@
 -- What files hold behind puts: where all puts at a path put the same bytes, and there is one, it holds these.
 use Rattle.std.specs.Prelude.{◌≡◌, ℕ, zero, suc, ◌+◌, ◌<◌, ◌≤◌, List, [], ◌∷◌, ◌++◌, map, length, bytes_eq, Bool, true, false, if◌then◌else◌, Option, Some, None, ◌⊎◌}
-use Rattle.std.proofs.Common.{arith, refl, sym, ap, ◌∙◌, subst, true≢false, inl, inr}
+use Rattle.std.proofs.Common.{arith, refl, sym, ap, ◌∙◌, true≢false, inl, inr}
 use Rattle.std.proofs.lemmas.Slice.Eq.{bytes_eq-Decides}
 use Rattle.dr_meaning.specs.Record.{Node}
 use Rattle.dr_formats.specs.Loading.{Plan, Put, tablet_puts, puts_from, put_at}
@@ -8,7 +8,7 @@ use Rattle.dr_formats.specs.Tablets.{placement, tablet_path, nth_directory, copy
 use Rattle.dr_formats.specs.Writing.{file_bytes}
 use Rattle.dr_formats.proofs.TabletLemmas.{placement_is_leaf, paths_differ}
 use Rattle.dr_outside.specs.Link.{Files}
-use Rattle.dr_reading.specs.Scan.{Copy, copies_from}
+use Rattle.dr_reading.specs.Scan.{copies_from}
 use Rattle.dr_load.specs.Puts.{with_file, after_puts}
 use Rattle.dr_loaded.specs.Loaded.{IsApart, CopiesHold}
 

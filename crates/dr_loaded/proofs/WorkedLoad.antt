@@ -1,8 +1,8 @@
 -- A load of three records, two to a tablet, on two directories with two copies, by computation.
-use Rattle.std.specs.Prelude.{◌≡◌, ℕ, List, [], ◌∷◌, ◌++◌, map, pos, Option, Some, None, codes}
+use Rattle.std.specs.Prelude.{◌≡◌, ℕ, List, [], ◌∷◌, map, pos, Some, codes}
 use Rattle.std.proofs.Common.{refl}
 use Rattle.std.specs.Fmt.{digits}
-use Rattle.dr_meaning.specs.Schema.{Schema, no_fields, field, leaf, required, int64_kind}
+use Rattle.dr_meaning.specs.Schema.{no_fields, field, leaf, required, int64_kind}
 use Rattle.dr_meaning.specs.Record.{int_value, Node, no_slots, slot, atom, single}
 use Rattle.dr_formats.specs.Loading.{Plan, whole_puts, table_of}
 use Rattle.dr_formats.specs.TableFile.{table_text}
