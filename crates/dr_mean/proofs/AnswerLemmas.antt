@@ -45,6 +45,9 @@ plan_nested p ns a items t e f =
 pub plan_leaves_used : (p : Plan) (ns : List RecordNode) (a : Answers p ns) → map path_view p.leaves.items ≡ query_leaves a.schema.fields a.bound
 plan_leaves_used p ns a = ap (λ (x : Planned). x.leaves) a.planned
 
+pub plan_paths : (p : Plan) (ns : List RecordNode) (a : Answers p ns) → paths_view p.leaves.items ≡ map (λ (l : Leaf). l.path) (query_leaves a.schema.fields a.bound)
+plan_paths p ns a = sym (map-map (λ (l : Leaf). l.path) path_view p.leaves.items) ∙ ap (map (λ (l : Leaf). l.path)) (plan_leaves_used p ns a)
+
 pub plan_shapes : (p : Plan) (ns : List RecordNode) (a : Answers p ns) → list_all (has_shapes a.schema.fields) (plan_projections p ns) ≡ true
 plan_shapes p ns a = ap (list_all (has_shapes a.schema.fields)) a.alike ∙ projections_have_shapes a.schema.fields (paths_view p.leaves.items) a.records a.are_records
 
@@ -61,10 +64,8 @@ pub result_means : (p : Plan) (ns : List RecordNode) (a : Answers p ns) (items :
     → map (tree_object items t) (filter_map (plan_kept p) (plan_projections p ns)) ≡ meaning a.schema.fields a.bound a.records
 result_means p ns a items t e f =
     let fs = a.schema.fields in
-    let F = paths_view p.leaves.items in
-    let steps : F ≡ map (λ (l : Leaf). l.path) (query_leaves fs a.bound) = sym (map-map (λ (l : Leaf). l.path) path_view p.leaves.items) ∙ ap (map (λ (l : Leaf). l.path)) (plan_leaves_used p ns a) in
     ap (λ (o : ObjectTree). map (tree_object items o) (filter_map (plan_kept p) (plan_projections p ns))) (tree_of_plan p ns a items t e f)
     ∙ objects_mean fs (plan_view p) items (plan_projections p ns) e
-    ∙ ap₂ (λ (x : Planned) (M : List Node). meaning fs (planned_query x) M) a.planned (a.alike ∙ ap (λ (G : List (List Step)). map (project G) a.records) steps)
+    ∙ ap₂ (λ (x : Planned) (M : List Node). meaning fs (planned_query x) M) a.planned (a.alike ∙ ap (λ (G : List (List Step)). map (project G) a.records) (plan_paths p ns a))
     ∙ rejoined_means_same fs a.bound (map (project (map (λ (l : Leaf). l.path) (query_leaves fs a.bound))) a.records)
     ∙ leaves_are_enough a.schema a.syntax_tree a.bound a.records a.binds

@@ -142,6 +142,10 @@ condition_rejoined (Some e) n = kept_rejoined e (conjuncts e) n refl
 all_rejoined : (c : Option Expression) (R : List Node) → filter_map (kept (all_of (condition_conjuncts c))) R ≡ filter_map (kept c) R
 all_rejoined c R = ap (λ (f : Node → Option Node). filter_map f R) (fun_ext (condition_rejoined c))
 
+-- and so puts the same
+pub puts_rejoined : (fs : Fields) (b : Query) (R : List Node) → puts_of (planned_query (planned fs b)) R ≡ puts_of b R
+puts_rejoined fs b R = ap (puts_of_selection b.selection) (all_rejoined b.condition R)
+
 -- ---- one record more
 
 partials_rejoined : (fs : Fields) (b : Query) (R : List Node) → partial_of fs (planned_query (planned fs b)) R ≡ partial_of fs b R
@@ -155,7 +159,7 @@ partial_planned : (fs : Fields) (b : Query) (p : Partial) → is_partial fs b p 
 unfolding is_partial
 partial_planned fs b p h = h
 
-stands_is : (fs : Fields) (q : Query) (R : List Node) (p : Partial) → Stands fs q R p → p ≡ partial_of fs q R
+pub stands_is : (fs : Fields) (q : Query) (R : List Node) (p : Partial) → Stands fs q R p → p ≡ partial_of fs q R
 unfolding Stands
 stands_is fs q R p h = h
 

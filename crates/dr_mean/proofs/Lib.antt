@@ -32,3 +32,9 @@ pub mod GroupLawLemmas
 pub mod KeyLemmas
 -- what is put of one record
 pub mod OneRecordLemmas
+-- records put into the groups of a plan
+pub mod RecordPutLemmas
+-- what is put, one after another
+pub mod PutLemmas
+-- partials of records and what they mean
+pub mod MeanLemmas

@@ -16,3 +16,7 @@ pub mod Answers
 pub mod GroupLaws
 -- keys by their leaves
 pub mod Keys
+-- what is put of rows
+pub mod Takings
+-- what is put of records
+pub mod GroupPuts

@@ -1,14 +1,17 @@
 //! What a plan means on records, computed record by record: the reference of all that answers queries.
 #![tactic(auto)]
 
+mod grouping;
+mod groups;
 mod items;
 mod keeping;
 mod keys;
 mod laws;
 mod levels;
 mod lines;
-mod mean;
+mod meaning;
 mod objects;
+mod taking;
 mod values;
 
 pub use keeping::keep;
@@ -16,4 +19,4 @@ pub use keys::key_of;
 pub use laws::{groups_take_records, lines_are_result, record_is_put_row_by_row};
 pub use levels::{expression_level, keys_level, longer, tests_level};
 pub use lines::mean_objects;
-pub use mean::mean;
+pub use meaning::{mean, partial_of};

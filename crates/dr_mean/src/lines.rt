@@ -7,8 +7,10 @@ ghost use Rattle.dr_meaning.specs.Record.{project as meant_project};
 ghost use Rattle.dr_nested.specs.Views.{node_view};
 ghost use Rattle.dr_plan.specs.declared.plan.Plan.{Plan as MeantPlan};
 ghost use Rattle.dr_plan.specs.Objects.{object_view, tree_object};
+ghost use Rattle.dr_plan.specs.Planned.{plan_view};
 ghost use Rattle.dr_cells.specs.Results.{result_cells};
-ghost use Rattle.dr_cells.specs.Rows.{rows_view};
+ghost use Rattle.dr_cells.specs.Rows.{rows_shape, rows_view};
+ghost use Rattle.dr_cells.specs.Shapes.{plan_shape};
 ghost use Rattle.dr_cells.specs.Views.{cells_view};
 ghost use Rattle.dr_rows.specs.Views.{paths_view};
 ghost use Rattle.dr_plan.specs.declared.plan.Selection.TheVariants.{Objects};
@@ -125,7 +127,8 @@ pub fn mean_objects(
 ) -> Result<RowsOut, NoMemory>
     requires selection { (plan.now).selection ≡ Objects items.now object.now }
     requires answers { Answers plan.now records.now }
-    ensures { IfOk result (λ r. (a : Answers plan.now records.now) → rows_view r ≡ meaning a.schema.fields a.bound a.records) }
+    ensures rows { IfOk result (λ r. (a : Answers plan.now records.now) → rows_view r ≡ meaning a.schema.fields a.bound a.records) }
+    ensures shape { IfOk result (λ r. rows_shape r ≡ plan_shape (plan_view plan.now)) }
 {
     let shape = shape_of(alloc, plan)?;
     let items = Items {

@@ -50,15 +50,12 @@ named_are_leaves fs texts F e = named_from fs [] 0 texts F tt e
 
 filtered_at : (f : Leaf → Bool) (ls : List Leaf) (i : ℕ) (l : Leaf) → slice_get (filter f ls) i ≡ Some l → IsAt ls l
 filtered_at f [] i l e = (i, e)
-filtered_at f (m ∷ ls) i l e = go (f m) i e
+filtered_at f (m ∷ ls) i l e = go (f m) i e (λ k h. let at = filtered_at f ls k l h in (suc at.0, at.1))
   where
-    behind : IsAt ls l → IsAt (m ∷ ls) l
-    behind h = (suc h.0, h.1)
-
-    go : (b : Bool) (i : ℕ) → slice_get (cond b (m ∷ filter f ls) (filter f ls)) i ≡ Some l → IsAt (m ∷ ls) l
-    go true zero e = (0, e)
-    go true (suc i) e = behind (filtered_at f ls i l e)
-    go false i e = behind (filtered_at f ls i l e)
+    go : (b : Bool) (i : ℕ) → slice_get (cond b (m ∷ filter f ls) (filter f ls)) i ≡ Some l → ((k : ℕ) → slice_get (filter f ls) k ≡ Some l → IsAt (m ∷ ls) l) → IsAt (m ∷ ls) l
+    go true zero e behind = (0, e)
+    go true (suc i) e behind = behind i e
+    go false i e behind = behind i e
 
 picked_are : (fs : Fields) (ls : List Leaf) (is : List ℕ) → ((i : ℕ) (l : Leaf) → slice_get ls i ≡ Some l → IsAt (leaves fs) l) → AreLeavesOf fs (filter_map (slice_get ls) is)
 picked_are fs ls [] h = tt

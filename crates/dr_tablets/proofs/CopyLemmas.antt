@@ -34,9 +34,13 @@ pub copies_next : (ds : List (List ℕ)) (t k : ℕ) → copies_from ds t 0 (k +
 copies_next ds t k = ap (copies_from ds t 0) (add-one k) ∙ copies_more ds t 0 k k (omega arith)
 
 -- the copies before one, and those behind it
-copies_split : (ds : List (List ℕ)) (t j i m k : ℕ) → j + i ≡ m → copies_from ds t j (i + suc k) ≡ copies_from ds t j i ++ copy_in ds t (placement (length ds) t m) ∷ copies_from ds t (suc m) k
-copies_split ds t j zero m k e = subst (λ (n : ℕ). copies_from ds t j (suc k) ≡ copy_in ds t (placement (length ds) t n) ∷ copies_from ds t (suc n) k) (let q : j ≡ m = omega (arith, e) in q) refl
-copies_split ds t j (suc i) m k e = ap (λ cs. copy_in ds t (placement (length ds) t j) ∷ cs) (copies_split ds t (suc j) i m k (omega (arith, e)))
+copies_split : (ds : List (List ℕ)) (t j i m k n : ℕ) → j + i ≡ m → n ≡ i + suc k → copies_from ds t j n ≡ copies_from ds t j i ++ copy_in ds t (placement (length ds) t m) ∷ copies_from ds t (suc m) k
+copies_split ds t j zero m k n e f =
+    let q : j ≡ m = omega (arith, e) in
+    let one : n ≡ suc k = omega (arith, f) in
+    ap (copies_from ds t j) one ∙ subst (λ (x : ℕ). copies_from ds t j (suc k) ≡ copy_in ds t (placement (length ds) t x) ∷ copies_from ds t (suc x) k) q refl
+copies_split ds t j (suc i) m k zero e f = absurd (omega (arith, f))
+copies_split ds t j (suc i) m k (suc n) e f = ap (λ cs. copy_in ds t (placement (length ds) t j) ∷ cs) (copies_split ds t (suc j) i m k n (omega (arith, e)) (omega (arith, f)))
 
 -- ---- what a copy gives
 
@@ -59,12 +63,12 @@ copy_gives s F link ds t n i path P tried l p before a h none =
     let c : Copy = copy_in ds t (placement (length ds) t i) in
     let k : ℕ = n - suc i in
     let g = gives s F link.held path c P p a h none in
-    let at : i + suc k ≡ n = omega (arith, l) in
+    let at : n ≡ i + suc k = omega (arith, l) in
     record {
       before = copies_from ds t 0 i;
       giving = c;
       behind = copies_from ds t (suc i) k;
-      copies = ap (copies_from ds t 0) (sym at) ∙ copies_split ds t 0 i i k (omega arith);
+      copies = copies_split ds t 0 i i k n (omega arith) at;
       tried = tried;
       are_tried = before;
       records = g.0;

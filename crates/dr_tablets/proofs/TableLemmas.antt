@@ -1,6 +1,7 @@
 -- The tablets of a table, read one after another.
 use Rattle.std.proofs.Common.{◌≡◌, ◌≤◌, ℕ, zero, suc, ◌+◌, List, [], ◌∷◌, ◌++◌, length, map, Option, refl, sym, ap, ◌∙◌, subst, add-one, append_assoc, append-nil, arith}
-use Rattle.std.specs.Prelude.{IsTrue}
+use Rattle.std.specs.Prelude.{IsTrue, Vec}
+use Rattle.std.specs.declared.alloc.Global.{Global}
 use Rattle.std.proofs.lemmas.List.{map-append}
 use Rattle.dr_meaning.specs.Schema.{Schema}
 use Rattle.dr_meaning.specs.Path.{Leaf}
@@ -10,14 +11,16 @@ use Rattle.dr_outside.specs.declared.cause.Cause.{Cause}
 use Rattle.dr_records.specs.FileRecords.{paths_of_leaves}
 use Rattle.dr_serving.specs.Held.{held_at}
 use Rattle.dr_serving.specs.Causes.{IsJustified, RisesApart}
-use Rattle.dr_reading.specs.Scan.{Copy, copies_from, tablets_from, joined}
+use Rattle.dr_formats.specs.TableFile.{Table}
+use Rattle.dr_nested.specs.declared.record.Node.{Node as RecordNode}
+use Rattle.dr_reading.specs.Scan.{Copy, copies_from, tablets_from, tablets_of, joined}
 use Rattle.dr_reading.specs.Given.{IsGiven, AreGiven}
 use Rattle.dr_reading.specs.Left.{Tried, LeftTablet, AreTried, LeavesJust, no_tablets, is_given, is_left, causes_of, causes_met}
 use Rattle.dr_assemble.specs.Views.{nodes_view}
 use Rattle.dr_tablets.specs.Views.{all_tried_view, all_left_view}
 use Rattle.dr_tablets.specs.declared.left.LeftTablet as code
 use Rattle.dr_tablets.specs.declared.reading.Tablet.{Tablet}
-use Rattle.dr_tablets.specs.Tablets.{AreGivenBy, IsReadAs, causes_in, TakesGiven, TakesTablet, with_tablet}
+use Rattle.dr_tablets.specs.Tablets.{AreGivenBy, AreAllGiven, HasRecords, IsReadAs, causes_in, TakesGiven, TakesTablet, with_tablet}
 use Rattle.dr_tablets.proofs.CopyLemmas.{first_gives, rises_join, rises_from}
 
 -- ---- the tablets
@@ -145,3 +148,11 @@ step_rises start old new n (Tablet.Left tried) left more h k m = rises_left star
 pub no_items : (ls : List code.LeftTablet) → all_left_view ls ≡ [] → ls ≡ []
 no_items [] e = refl
 no_items (l ∷ ls) e = cc
+
+-- what had no records has those of all tablets of a table
+pub all_given : (t : Table) (F : List Leaf) (held : Option Files) (n : ℕ) (before now : Vec RecordNode Global) → n ≡ t.tablets → nodes_view before.items ≡ []
+    → TakesGiven HasRecords t.schema F held (tablets_from t.leaves t.copies 0 n) before now → AreAllGiven t.schema F held (tablets_of t) (nodes_view now.items)
+all_given t F held n before now e none takes =
+    let h : TakesGiven HasRecords t.schema F held (tablets_of t) before now =
+    subst (λ (m : ℕ). TakesGiven HasRecords t.schema F held (tablets_from t.leaves t.copies 0 m) before now) e takes in
+    (h.0, h.1, h.2 [] none)

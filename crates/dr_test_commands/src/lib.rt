@@ -8,6 +8,10 @@ mod json_tests;
 #[cfg(test)]
 mod print_tests;
 #[cfg(test)]
+mod query_tests;
+#[cfg(test)]
+mod rows;
+#[cfg(test)]
 mod run_tests;
 #[cfg(test)]
 mod table_tests;

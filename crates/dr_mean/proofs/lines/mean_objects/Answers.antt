@@ -24,8 +24,8 @@ of-requires c =
     let count = count_is plan ns I (object_view o) c.in_ok-count.count (c.in_ok-count.ensures.count s) in
     are_rows (shape_view c.in_ok-shape.shape) (result_objects plan I (object_view o) ns) c.in_ok-count.count (cells_view c.push_records.new.cells) fit cells count
 
-pub returns : goal.returns
-returns c =
+pub returns-clause-rows : goal.returns-clause-rows
+returns-clause-rows c =
     let plan = c.args.plan.now in
     let ns = c.args.records.now in
     let items = c.args.items.now in

@@ -1,11 +1,14 @@
-use Rattle.std.proofs.Common.{[], map, refl, sym, ap, subst, ◌∙◌, arith}
+use Rattle.std.proofs.Common.{◌≡◌, [], map, refl, sym, ap, subst, ◌∙◌, arith, vec_len}
+use Rattle.std.proofs.lemmas.Bool.{eqb-true}
+use Rattle.std.proofs.lemmas.List.{nil_from_length}
+use Rattle.dr_assemble.specs.Views.{nodes_view}
 use Rattle.dr_nested.specs.SchemaView.{schema_view}
 use Rattle.dr_nested.specs.PathView.{path_view}
 use Rattle.dr_table.specs.Views.{table_view}
 use Rattle.dr_reading.specs.Left.{LeavesJust, no_tablets, causes_met}
 use Rattle.dr_tablets.specs.Views.{all_left_view}
 use Rattle.dr_tablets.specs.Tablets.{HasRecords}
-use Rattle.dr_tablets.proofs.TableLemmas.{takes_none, step_left, step_taken, step_rises, no_items}
+use Rattle.dr_tablets.proofs.TableLemmas.{all_given, takes_none, step_left, step_taken, step_rises, no_items}
 use Rattle.dr_tablets.proofs.table.read_table.Goals as goal
 
 pub tablets-init : goal.tablets-init
@@ -40,3 +43,11 @@ tablets-preserved g c =
       omega (arith, c.tablets.invariant.4, c.read_tablet.ensures.never_falls),
       λ is. c.read_tablet.ensures.stays_steady (c.tablets.invariant.5 is),
     )
+
+pub returns-then-is_empty-clause-given : goal.returns-then-is_empty-clause-given
+returns-then-is_empty-clause-given g c =
+    let left = c.tablets.left in
+    let zero : vec_len left ≡ 0 = eqb-true (vec_len left) 0 (sym c.is_empty.ensures ∙ c.if-is_empty.true) in
+    let none : left.items ≡ [] = nil_from_length left.items (omega (arith, zero, left.ok.0)) in
+    let all : c.tablets.tablet ≡ c.args.table.now.tablets = omega (arith, c.tablets-test.false, c.tablets.auto.tablet-end) in
+    all_given (table_view c.args.table.now) (map path_view c.args.fields.now) (g.L.Link.shows c.args.link.now).held c.tablets.tablet c.new-records.result c.tablets.records all (ap nodes_view c.new-records.ensures.items) (c.tablets.invariant.1 none)

@@ -1,0 +1,121 @@
+//! What rows put into groups.
+
+ghost use Rattle.std.specs.Prelude.{◌≡◌, List, map, option_map, true, IfOk, OnOk};
+ghost use Rattle.dr_meaning.specs.Path.{Leaf, Step as MeantStep};
+ghost use Rattle.dr_meaning.specs.Record as record_tree;
+ghost use Rattle.dr_meaning.specs.Rows as rows_meaning;
+ghost use Rattle.dr_nested.specs.PathView.{path_view};
+ghost use Rattle.dr_partials.specs.Putting.{put, put_all};
+ghost use Rattle.dr_plan.specs.Planned.{Planned, planned_query};
+ghost use Rattle.dr_group.specs.Groups.{taken_view};
+ghost use Rattle.dr_group.specs.Partials.{partial_view, IsPartialOf};
+ghost use Rattle.dr_rows.specs.Known.{known};
+ghost use Rattle.dr_rows.specs.Views.{paths_view, rows_view};
+ghost use Rattle.dr_scalar.specs.Slots.{AreValues};
+ghost use Rattle.dr_scalar.specs.Views.{evaluated_view};
+ghost use Rattle.dr_levels.specs.Views.{lent_value};
+ghost use Rattle.dr_mean.specs.Keys.{are_leaves};
+ghost use Rattle.dr_mean.specs.RowsOf.{IsTyped};
+ghost use Rattle.dr_mean.specs.Takings.{taking_fits, value_taken, taken_with, put_of};
+
+use crate::grouping::Grouping;
+use crate::keys::key_of;
+use dr_group::{Partial, Taken};
+use dr_levels::ValueRef;
+use dr_memory::NoMemory;
+use dr_plan::Expr;
+use dr_rows::Rows;
+use dr_scalar::{Evaluated, eval};
+use std::alloc::Global;
+
+/// What is taken of each of some rows into its group. The numbers are those of aggregates.
+#[derive(Clone, Copy)]
+pub enum Taking<'p> {
+    /// Nothing: the group is made where there is none.
+    Nothing,
+    /// The row, whatever its values.
+    Row(u32),
+    /// The value of an expression in the row.
+    Value(u32, &'p Expr),
+}
+
+/// The value that is taken of a row, where it isn't NULL.
+fn value_of<'v>(
+    alloc: Global,
+    taking: Taking<'v>,
+    row: &[Option<ValueRef<'v>>],
+) -> Result<Option<Evaluated<'v>>, NoMemory>
+    ensures { IfOk result (λ v. (ls : List Leaf) (r : record_tree.Node) → AreValues ls row.now r → taking_fits ls taking.entry ≡ true
+        → option_map evaluated_view v ≡ value_taken ls taking.entry r) }
+{
+    match taking {
+        Taking::Nothing | Taking::Row(_) => Ok(None),
+        Taking::Value(_, expression) => eval(alloc, expression, row),
+    }
+}
+
+/// A value or NULL, lent.
+fn lent<'a>(value: &'a Option<Evaluated<'_>>) -> Option<ValueRef<'a>>
+    ensures { option_map lent_value result ≡ option_map evaluated_view value.now }
+{
+    match value {
+        Some(value) => Some(value.lend()),
+        None => None,
+    }
+}
+
+/// What is taken of a row, if its value is this one.
+fn taken_as<'a>(taking: Taking<'_>, value: &'a Option<Evaluated<'_>>) -> Option<Taken<'a>>
+    ensures { option_map taken_view result ≡ taken_with taking.entry (option_map evaluated_view value.now) }
+{
+    match taking {
+        Taking::Nothing => None,
+        Taking::Row(aggregate) | Taking::Value(aggregate, _) => Some(Taken {
+            aggregate,
+            value: lent(value),
+        }),
+    }
+}
+
+/// Puts a row into its group. The key tuple is made in a buffer.
+fn put_row<'n>(
+    alloc: Global,
+    groups: Grouping<'_>,
+    taking: Taking<'_>,
+    row: &[Option<ValueRef<'n>>],
+    key: &mut Vec<Option<ValueRef<'n>>>,
+    partial: &mut Partial,
+) -> Result<(), NoMemory>
+    ensures puts { OnOk result ((p : Planned) (r : record_tree.Node) → IsPartialOf p partial.old → AreValues (map path_view groups.entry.leaves.now) row.now r
+        → taking_fits (map path_view groups.entry.leaves.now) taking.entry ≡ true
+        → partial_view partial.new ≡ put (planned_query p) (put_of (map path_view groups.entry.leaves.now) groups.entry.keys.now taking.entry r) (partial_view partial.old)) }
+    ensures of_plan { (p : Planned) → IsPartialOf p partial.old → IsPartialOf p partial.new }
+{
+    key_of(groups.keys, row, key)?;
+    let value = value_of(alloc, taking, row)?;
+    partial.put(alloc, key, taken_as(taking, &value))
+}
+
+/// Puts each of some rows into its group, in order.
+///
+/// Errors: want of memory, or of room for a count, a sum or a number of a group.
+pub fn put_rows(
+    alloc: Global,
+    groups: Grouping<'_>,
+    taking: Taking<'_>,
+    rows: &Rows<'_>,
+    partial: &mut Partial,
+) -> Result<(), NoMemory>
+    ensures puts { OnOk result ((p : Planned) (level : List MeantStep) (whole : record_tree.Node) → IsPartialOf p partial.old → IsTyped groups.entry.leaves.now whole
+        → taking_fits (map path_view groups.entry.leaves.now) taking.entry ≡ true
+        → rows_view rows.now ≡ map (known (paths_view groups.entry.leaves.now) level) (rows_meaning.rows level whole)
+        → partial_view partial.new ≡ put_all (planned_query p) (map (put_of (map path_view groups.entry.leaves.now) groups.entry.keys.now taking.entry) (rows_meaning.rows level whole)) (partial_view partial.old)) }
+    ensures of_plan { (p : Planned) → IsPartialOf p partial.old → IsPartialOf p partial.new }
+{
+    let mut key = Vec::new(alloc);
+    'rows: for number in 0..rows.len() {
+        let row = rows.row(number);
+        put_row(alloc, groups, taking, row.values, &mut key, partial)?;
+    }
+    Ok(())
+}
