@@ -1,14 +1,15 @@
 -- The columns of a tablet, record by record.
-use Rattle.std.specs.Prelude.{◌≡◌, ℕ, suc, ◌+◌, ◌^◌, ◌<◌, List, [], ◌∷◌, ◌++◌, map, length, replicate, Bool, true, nat_lt, Option, Some, None, IfSome, MatchOption, ⊤}
+use Rattle.std.specs.Prelude.{◌≡◌, ℕ, suc, ◌+◌, ◌<◌, List, [], ◌∷◌, ◌++◌, map, length, replicate, Bool, true, Option, Some, None, IfSome, MatchOption, ⊤}
 use Rattle.std.specs.List.{list_all}
 use Rattle.std.proofs.Common.{arith, refl, sym, ap, ap₂, ◌∙◌, subst, append_assoc, add-zero}
 use Rattle.std.proofs.lemmas.List.{length-append}
 use Rattle.std.proofs.lemmas.Bool.{and_parts, and_from}
 use Rattle.dr_meaning.specs.Schema.{Fields}
 use Rattle.dr_meaning.specs.Path.{Step, Leaf, leaves}
-use Rattle.dr_meaning.specs.Record.{Node, is_record, text_bytes}
+use Rattle.dr_meaning.specs.Record.{Node, is_record}
 use Rattle.dr_meaning.specs.Column.{Triplet, record_column, column}
 use Rattle.dr_meaning.specs.Lines.{Refusal, Taken, lines_of, taken_from}
+use Rattle.dr_formats.specs.WritingLaws.{is_limited}
 use Rattle.dr_nested.specs.PathView.{path_view}
 use Rattle.dr_nested.specs.declared.path.Path.{Path}
 use Rattle.dr_lines.specs.Cutting.{IsEnd}
@@ -83,7 +84,7 @@ pub fills_none : (fs : Fields) (most number : ℕ) (o : Option (List ℕ)) (ps :
 fills_none fs most number o ps columns l e = record {
   records = [];
   are_records = refl;
-  small = refl;
+  limited = refl;
   number_of = refl;
   columns_are = e ∙ empty_columns ps ∙ ap (map (λ (x : Leaf). column x.path [])) l;
   taken = nothing_taken fs most number o;
@@ -91,11 +92,11 @@ fills_none fs most number o ps columns l e = record {
 
 -- one record more
 pub fills_more : (fs : Fields) (most number count : ℕ) (a b c : Option (List ℕ)) (ps : List Path) (old new : List (List Triplet)) (n : Node) → HasColumnsOf fs most number a b old count → leaves_of ps ≡ leaves fs
-    → new ≡ gained (λ p. record_column p n) (paths_of ps) old → is_record fs n ≡ true → nat_lt (text_bytes n) (2 ^ 32) ≡ true → HasTaken fs most (number + count) (n ∷ []) b c → HasColumnsOf fs most number a c new (count + 1)
+    → new ≡ gained (λ p. record_column p n) (paths_of ps) old → is_record fs n ≡ true → is_limited n ≡ true → HasTaken fs most (number + count) (n ∷ []) b c → HasColumnsOf fs most number a c new (count + 1)
 fills_more fs most number count a b c ps old new n h l e r t k = record {
   records = h.records ++ n ∷ [];
   are_records = all_push (is_record fs) h.records n h.are_records r;
-  small = all_push (λ m. nat_lt (text_bytes m) (2 ^ 32)) h.records n h.small t;
+  limited = all_push is_limited h.records n h.limited t;
   number_of = omega (arith, length-append h.records (n ∷ []), h.number_of);
   columns_are =
       let F : List (List Step) = map (λ (x : Leaf). x.path) (leaves fs) in
@@ -109,7 +110,7 @@ pub fills_ended : (fs : Fields) (most number count : ℕ) (a b c : Option (List 
 fills_ended fs most number count a b c old new h i e = record {
   records = h.records;
   are_records = h.are_records;
-  small = h.small;
+  limited = h.limited;
   number_of = h.number_of;
   columns_are = e ∙ h.columns_are;
   taken = taken_ended fs most number h.records a b c h.taken i;
@@ -119,7 +120,7 @@ pub fills_same : (fs : Fields) (most number count rows : ℕ) (a b : Option (Lis
 fills_same fs most number count rows a b old new h e r = record {
   records = h.records;
   are_records = h.are_records;
-  small = h.small;
+  limited = h.limited;
   number_of = h.number_of ∙ r;
   columns_are = e ∙ h.columns_are;
   taken = h.taken;

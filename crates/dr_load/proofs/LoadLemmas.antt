@@ -1,17 +1,20 @@
 -- Tablets that are loaded one after another.
-use Rattle.std.specs.Prelude.{◌≡◌, ℕ, suc, ◌+◌, ◌*◌, ◌<◌, ◌≤◌, List, [], ◌∷◌, ◌++◌, length, Bool, true, false, nat_le, Option, Some, None, MatchOption, ⊤}
+use Rattle.std.specs.Prelude.{◌≡◌, ℕ, suc, ◌+◌, ◌*◌, ◌^◌, ◌<◌, ◌≤◌, List, [], ◌∷◌, ◌++◌, length, Bool, true, false, nat_le, nat_lt, Option, Some, None, MatchOption, ⊤}
 use Rattle.std.proofs.Common.{arith, refl, sym, ap, ap₂, ◌∙◌, subst, append_assoc, append-nil, add-zero, inl, inr}
 use Rattle.std.proofs.lemmas.List.{length-append}
-use Rattle.std.proofs.lemmas.Bool.{leb-true, leb-false}
+use Rattle.std.specs.List.{list_all}
+use Rattle.std.proofs.lemmas.List.Folds.{list_all-append}
+use Rattle.std.proofs.lemmas.Bool.{and_from, and_parts, leb-true, leb-false}
 use Rattle.std.proofs.Math.Nat.{mul-le-mul_left}
 use Rattle.dr_meaning.specs.Schema.{Schema}
 use Rattle.dr_meaning.specs.Path.{leaves}
-use Rattle.dr_meaning.specs.Record.{Node}
+use Rattle.dr_meaning.specs.Record.{Node, is_record, text_bytes}
 use Rattle.dr_meaning.specs.Column.{Triplet}
 use Rattle.dr_meaning.specs.Lines.{Refusal, Taken, lines_of, taken_from}
 use Rattle.dr_formats.specs.TableFile.{table_text}
 use Rattle.dr_formats.specs.Tablets.{tablets}
 use Rattle.dr_formats.specs.TabletLaws.{all_records}
+use Rattle.dr_formats.specs.WritingLaws.{is_limited}
 use Rattle.dr_formats.specs.Loading.{Plan, Put, most_loaded, tablet_puts, puts_from, puts_of, put_at, table_of, load}
 use Rattle.dr_outside.specs.Link.{Files}
 use Rattle.dr_lines.specs.Cutting.{ahead}
@@ -25,18 +28,29 @@ use Rattle.dr_load.specs.Faults.{refusal_of}
 use Rattle.dr_load.specs.Records.{WhereTold, behind, HasTaken, RefusesWithin}
 use Rattle.dr_load.specs.Filled.{HasColumnsOf}
 use Rattle.dr_load.specs.Puts.{HasPut, HasPutElsewhere, HasPutSome, BreaksOff}
-use Rattle.dr_load.specs.Loads.{StopsPutting, last_tablets, taken_of, tablets_put, tablet_part, HasPutTablets, LeavesPuts, HasLoaded}
+use Rattle.dr_load.specs.Loads.{StopsPutting, last_tablets, taken_of, tablets_put, tablet_part, HasPutTablets, LeavesPuts, HasLoaded, LoadsTable}
+use Rattle.dr_load.proofs.ReadForm.{limited_small}
 use Rattle.dr_load.proofs.FillLemmas.{nothing_taken, taken_more}
 use Rattle.dr_load.proofs.PutLemmas.{nothing_put, put_more, put_more_elsewhere, breaks_behind}
-use Rattle.dr_load.proofs.TabletLemmas.{tablets_are, full_are, full_come_first, all_have_more, all_records_more, count_of}
+use Rattle.dr_load.proofs.TabletLemmas.{tablets_are, full_are, full_come_first, all_have_more, all_records_more, count_of, few_of_few}
 
 -- ---- columns that can be written
+
+all_small : (R : List Node) → list_all is_limited R ≡ true → list_all (λ (n : Node). nat_lt (text_bytes n) (2 ^ 32)) R ≡ true
+all_small [] h = refl
+all_small (n ∷ R) h =
+    let g = and_parts (is_limited n) (list_all is_limited R) h in
+    and_from (nat_lt (text_bytes n) (2 ^ 32)) (list_all (λ (m : Node). nat_lt (text_bytes m) (2 ^ 32)) R) (limited_small n g.0) (all_small R g.1)
+
+-- one list of records behind another
+all_both : (test : Node → Bool) (R S : List Node) → list_all test R ≡ true → list_all test S ≡ true → list_all test (R ++ S) ≡ true
+all_both test R S r s = list_all-append test R S ∙ and_from (list_all test R) (list_all test S) r s
 
 pub have_columns : (s : Schema) (most number count : ℕ) (a b : Option (List ℕ)) (columns : List (List Triplet)) (h : HasColumnsOf s.fields most number a b columns count) → HaveColumns s h.records columns
 have_columns s most number count a b columns h = (h.are_records, h.columns_are)
 
 pub columns_fit : (s : Schema) (most number count : ℕ) (a b : Option (List ℕ)) (cs : List Column) → HasColumnsOf s.fields most number a b (columns_view cs) count → forms_view cs ≡ forms_of (leaves s.fields) → AreColumnsFor s cs
-columns_fit s most number count a b cs h f = write_laws.record_columns_fit s h.records cs (h.are_records, h.columns_are) h.small f
+columns_fit s most number count a b cs h f = write_laws.record_columns_fit s h.records cs (h.are_records, h.columns_are) (all_small h.records h.limited) f
 
 -- ---- puts of tablets
 
@@ -127,6 +141,8 @@ loaded_none p input pending held e = record {
   are_full = tt;
   tablets_of = refl;
   records_of = refl;
+  are_records = refl;
+  limited = refl;
   taken = subst (HasTaken p.schema.fields (most_loaded p.rows) 0 [] input) (sym (ahead_nothing input pending e)) (nothing_taken p.schema.fields (most_loaded p.rows) 0 input);
   put = nothing_put held held refl;
 }
@@ -144,6 +160,8 @@ loaded_more p k m input a b before held now columns l h q = record {
   are_full = all_have_more p.rows l.full h.records l.are_full h.number_of;
   tablets_of = omega (arith, length-append l.full (h.records ∷ []), l.tablets_of);
   records_of = omega (arith, ap length (all_records_more l.full h.records), length-append (all_records l.full) h.records, l.records_of, h.number_of);
+  are_records = ap (list_all (is_record p.schema.fields)) (all_records_more l.full h.records) ∙ all_both (is_record p.schema.fields) (all_records l.full) h.records l.are_records h.are_records;
+  limited = ap (list_all is_limited) (all_records_more l.full h.records) ∙ all_both is_limited (all_records l.full) h.records l.limited h.limited;
   taken = subst (λ (R : List Node). HasTaken p.schema.fields (most_loaded p.rows) 0 R input b) (sym (all_records_more l.full h.records)) (taken_behind p m (all_records l.full) h.records input a b l.records_of l.taken h.taken);
   put = subst (λ (ps : List Put). HasPut ps before now) (sym (puts_behind p k l.full (h.records ∷ []) l.tablets_of ∙ ap (λ (x : List Put). puts_from p 0 l.full ++ x) (append-nil (tablet_puts p k h.records))))
       (put_more (puts_from p 0 l.full) (tablet_puts p k h.records) before held now l.put q);
@@ -284,6 +302,31 @@ last_stands p k m count (Some bytes) a b before held now columns f l h r s e q n
     stops_at p bytes (puts_from p 0 l.full) (puts_from p k (last_tablets k h.records)) [] before held now f
     (last_puts p k m count bytes a b before held columns l h r s e ∙ sym (append-nil (puts_from p 0 l.full ++ puts_from p k (last_tablets k h.records)))) l.put q n z
 
+last_taken : (p : Plan) (k m count : ℕ) (input a b : Option (List ℕ)) (before held : Option Files) (columns : List (List Triplet)) (l : HasLoaded p k m input a before held) (h : HasColumnsOf p.schema.fields (most_loaded p.rows) m a b columns count)
+    → WhereTold a (λ _. b ≡ Some []) → WhereTold input (λ bytes. taken_of p bytes ≡ record { records = all_records l.full ++ h.records; refusal = None })
+last_taken p k m count None a b before held columns l h e = tt
+last_taken p k m count (Some bytes) a b before held columns l h e = all_taken p k m count bytes a b before held columns l h e
+
+-- the table without its file
+pub last_table : (p : Plan) (k m count total : ℕ) (input a b : Option (List ℕ)) (before held now : Option Files) (columns : List (List Triplet)) → HasLoaded p k m input a before held → (h : HasColumnsOf p.schema.fields (most_loaded p.rows) m a b columns count)
+    → 0 < p.rows → count < p.rows → WhereTold a (λ _. b ≡ Some []) → m + count ≤ 4096 * p.rows → total ≡ k + length (last_tablets k h.records) → HasPut (puts_from p k (last_tablets k h.records)) held now → LoadsTable p None total input before now
+last_table p k m count total input a b before held now columns l h r s e w t q =
+    let R : List Node = all_records l.full ++ h.records in
+    let last : List (List Node) = last_tablets k h.records in
+    let number : length R ≡ m + count = omega (arith, length-append (all_records l.full) h.records, l.records_of, h.number_of) in
+    let are : tablets p.rows R ≡ l.full ++ last = tablets_are p.rows l.full h.records l.are_full r (omega (arith, h.number_of, s)) ∙ ap (λ (j : ℕ). l.full ++ last_tablets j h.records) l.tablets_of in
+    let all : length (tablets p.rows R) ≡ total = omega (arith, ap length are, length-append l.full last, l.tablets_of, t) in
+    record {
+      records = R;
+      are_records = all_both (is_record p.schema.fields) (all_records l.full) h.records l.are_records h.are_records;
+      limited = all_both is_limited (all_records l.full) h.records l.limited h.limited;
+      tablets_of = all;
+      few_tablets = omega (arith, all, few_of_few p.rows 4096 R r (omega arith) (omega (arith, number, w)));
+      put = subst (λ (ps : List Put). HasPut ps before now) (sym (append-nil (puts_from p 0 (tablets p.rows R)) ∙ ap (puts_from p 0) are ∙ puts_behind p k l.full last l.tablets_of))
+          (put_more (puts_from p 0 l.full) (puts_from p k last) before held now l.put q);
+      taken = last_taken p k m count input a b before held columns l h e;
+    }
+
 no_rest : (a b : List ℕ) → a ++ b ≡ [] → b ≡ []
 no_rest [] b h = h
 no_rest (x ∷ a) b h = cc
@@ -344,3 +387,19 @@ table_stands p k path (Some bytes) before held now e t a c h q n z = by e n z
     by (LoadFault.BadLine j w) n r = absurd (cc)
     by (LoadFault.LineTooLong j) n r = absurd (cc)
     by (LoadFault.TooManyRecords j) n r = absurd (cc)
+
+-- the table file is put, too
+pub table_loaded : (p : Plan) (k : ℕ) (path : List ℕ) (input : Option (List ℕ)) (before held now : Option Files) → p.table ≡ Some path → LoadsTable p None k input before held
+    → HasPut (record { path = path; bytes = table_text (table_of p k) } ∷ []) held now → LoadsTable p p.table k input before now
+table_loaded p k path input before held now e l h =
+    let puts : List Put = puts_from p 0 (tablets p.rows l.records) in
+    record {
+      records = l.records;
+      are_records = l.are_records;
+      limited = l.limited;
+      tablets_of = l.tablets_of;
+      few_tablets = l.few_tablets;
+      put = subst (λ (o : Option (List ℕ)). HasPut (puts ++ put_at o (table_text (table_of p k))) before now) (sym e)
+          (put_more puts (record { path = path; bytes = table_text (table_of p k) } ∷ []) before held now (subst (λ (ps : List Put). HasPut ps before held) (append-nil puts) l.put) h);
+      taken = l.taken;
+    }

@@ -1,7 +1,7 @@
--- The record of a line has the form of its schema's records, with whole numbers in their kinds' ranges.
-use Rattle.std.specs.Prelude.{◌≡◌, ℕ, List, Bool, true, false, ◌&&◌, ◌||◌, nat_lt, if◌then◌else◌, ℤ, Option, Some, None, Result, Ok, Err}
-use Rattle.std.proofs.Common.{refl, sym, ap, ap₂, ◌∙◌, subst, ◌≤◌}
-use Rattle.std.proofs.lemmas.Bool.{ltb-false}
+-- The record of a line has the form of its schema's records, with whole numbers in their kinds' ranges, and is within the limits of a line.
+use Rattle.std.specs.Prelude.{◌≡◌, ℕ, List, ◌^◌, Bool, true, false, ◌&&◌, ◌||◌, nat_le, nat_lt, if◌then◌else◌, ℤ, Option, Some, None, Result, Ok, Err}
+use Rattle.std.proofs.Common.{arith, refl, sym, ap, ap₂, ◌∙◌, subst}
+use Rattle.std.proofs.lemmas.Bool.{and_from, and_parts, ltb-false, lt-ltb, le-leb, leb-true}
 use Rattle.std.specs.Str.{is_utf8}
 use Rattle.serde_json.specs.Data.{Data, Items, no_items, item, Members}
 use Rattle.serde_json.specs.Find.{get_member, as_bool, as_str, as_array, as_object}
@@ -9,6 +9,7 @@ use Rattle.serde_json.specs.Read.{read}
 use Rattle.dr_meaning.specs.Schema.{Repetition, required, optional, repeated, Kind, bool_kind, int32_kind, int64_kind, text_kind, Fields, no_fields, field, Shape, leaf, group, field_names}
 use Rattle.dr_meaning.specs.Record.{Value, bool_value, int_value, text_value, Node, no_slots, slot, Instances, no_instances, instance, Instance, atom, inner, in_int32, in_int64, count_instances, all_instances, fits_repetition, instance_count, text_bytes}
 use Rattle.dr_meaning.specs.JsonRecord.{RecordFault, not_json, unknown_field, out_of_range, null_element, too_large, after, then_give, of_bool, of_text, of_integer, integer_of, leaf_value, is_null, given, are_known, each_element, list_elements, field_instances, object_node, slots_of, instance_of, most_instances, most_text_bytes, within_limits, record_of_value, of_reading, record_of_line}
+use Rattle.dr_formats.specs.WritingLaws.{is_limited}
 use Rattle.dr_meaning.specs.Record.{is_slot_that, is_inner_that, is_end}
 
 -- ---- records, but for the UTF-8 of their texts
@@ -155,26 +156,35 @@ pub line_form : (fs : Fields) (line : List ℕ) (n : Node) → record_of_line fs
 unfolding record_of_line
 line_form fs line n e = line_if fs (is_utf8 line) (read line) n e
 
--- ---- its texts
+-- ---- its limits
 
-limits_small : (b : Bool) (m n : Node) → nat_lt most_text_bytes (text_bytes m) ≡ b → (c : Bool) → (if c || b then Err too_large else Ok m) ≡ Ok n → text_bytes n ≤ most_text_bytes
-limits_small true m n h true e = absurd (cc)
-limits_small true m n h false e = absurd (cc)
-limits_small false m n h true e = absurd (cc)
-limits_small false m n h false e = let k : m ≡ n = cc in subst (λ (x : Node). text_bytes x ≤ most_text_bytes) k (ltb-false most_text_bytes (text_bytes m) h)
+limits_if : (a b : Bool) (m n : Node) → nat_lt most_instances (instance_count m) ≡ a → nat_lt most_text_bytes (text_bytes m) ≡ b → (if a || b then Err too_large else Ok m) ≡ Ok n → is_limited n ≡ true
+limits_if true b m n h k e = absurd (cc)
+limits_if false true m n h k e = absurd (cc)
+limits_if false false m n h k e =
+    let q : m ≡ n = cc in
+    subst (λ (x : Node). is_limited x ≡ true) q
+    (and_from (nat_le (instance_count m) most_instances) (nat_le (text_bytes m) most_text_bytes) (le-leb (instance_count m) most_instances (ltb-false most_instances (instance_count m) h))
+    (le-leb (text_bytes m) most_text_bytes (ltb-false most_text_bytes (text_bytes m) k)))
 
-within_small : (x : Instance) (n : Node) → within_limits x ≡ Ok n → text_bytes n ≤ most_text_bytes
-within_small (atom v) n e = absurd (cc)
-within_small (inner m) n e = limits_small (nat_lt most_text_bytes (text_bytes m)) m n refl (nat_lt most_instances (instance_count m)) e
+within_limited : (x : Instance) (n : Node) → within_limits x ≡ Ok n → is_limited n ≡ true
+within_limited (atom v) n e = absurd (cc)
+within_limited (inner m) n e = limits_if (nat_lt most_instances (instance_count m)) (nat_lt most_text_bytes (text_bytes m)) m n refl refl e
 
-reading_small : (fs : Fields) (o : Option Data) (n : Node) → of_reading fs o ≡ Ok n → text_bytes n ≤ most_text_bytes
-reading_small fs None n e = absurd (cc)
-reading_small fs (Some d) n e = let k = after_ok within_limits (instance_of (group fs) d) n e in within_small k.0 n k.2
+reading_limited : (fs : Fields) (o : Option Data) (n : Node) → of_reading fs o ≡ Ok n → is_limited n ≡ true
+reading_limited fs None n e = absurd (cc)
+reading_limited fs (Some d) n e = let k = after_ok within_limits (instance_of (group fs) d) n e in within_limited k.0 n k.2
 
-small_if : (fs : Fields) (b : Bool) (o : Option Data) (n : Node) → (if b then of_reading fs o else Err not_json) ≡ Ok n → text_bytes n ≤ most_text_bytes
-small_if fs true o n e = reading_small fs o n e
-small_if fs false o n e = absurd (cc)
+limited_if : (fs : Fields) (b : Bool) (o : Option Data) (n : Node) → (if b then of_reading fs o else Err not_json) ≡ Ok n → is_limited n ≡ true
+limited_if fs true o n e = reading_limited fs o n e
+limited_if fs false o n e = absurd (cc)
 
-pub line_small : (fs : Fields) (line : List ℕ) (n : Node) → record_of_line fs line ≡ Ok n → text_bytes n ≤ most_text_bytes
+pub line_limited : (fs : Fields) (line : List ℕ) (n : Node) → record_of_line fs line ≡ Ok n → is_limited n ≡ true
 unfolding record_of_line
-line_small fs line n e = small_if fs (is_utf8 line) (read line) n e
+line_limited fs line n e = limited_if fs (is_utf8 line) (read line) n e
+
+-- its texts are short
+pub limited_small : (n : Node) → is_limited n ≡ true → nat_lt (text_bytes n) (2 ^ 32) ≡ true
+limited_small n h =
+    let x = and_parts (nat_le (instance_count n) most_instances) (nat_le (text_bytes n) most_text_bytes) h in
+    lt-ltb (text_bytes n) (2 ^ 32) (omega (arith, leb-true (text_bytes n) 1073741824 x.1))

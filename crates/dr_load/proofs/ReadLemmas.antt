@@ -1,10 +1,9 @@
 -- Reading records line by line.
-use Rattle.std.specs.Prelude.{◌≡◌, ℕ, suc, ◌+◌, ◌^◌, ◌<◌, ◌≤◌, List, [], ◌∷◌, length, true, false, nat_lt, Option, Some, None, MatchOption, Result, Ok, Err, ⊤}
+use Rattle.std.specs.Prelude.{◌≡◌, ℕ, suc, ◌+◌, ◌<◌, ◌≤◌, List, [], ◌∷◌, length, true, false, nat_lt, Option, Some, None, MatchOption, Result, Ok, Err, ⊤}
 use Rattle.std.proofs.Common.{arith, refl, sym, ap, ◌∙◌, add-one, subst}
-use Rattle.std.proofs.lemmas.Bool.{lt-ltb}
 use Rattle.std.proofs.lemmas.Bool.Decides.{nat_tests}
 use Rattle.dr_meaning.specs.Schema.{Fields}
-use Rattle.dr_meaning.specs.Record.{Node, is_record, text_bytes}
+use Rattle.dr_meaning.specs.Record.{Node, is_record}
 use Rattle.dr_meaning.specs.JsonRecord.{RecordFault, record_of_line}
 use Rattle.dr_meaning.specs.Lines.{lines_of, longest_line, LineFault, line_too_long, too_many_records, no_record, line_record, record_at, or_stop, taken_from}
 use Rattle.dr_nested.specs.Views.{node_view}
@@ -17,7 +16,7 @@ use Rattle.dr_load.specs.Faults.{refusal_of}
 use Rattle.dr_load.specs.Records.{HasTaken, RefusesWithin}
 use Rattle.dr_load.specs.Reading.{ReadsLine, line_fault_in}
 use Rattle.dr_load.specs.declared.fault.LoadFault.{LoadFault}
-use Rattle.dr_load.proofs.ReadForm.{line_form, line_small}
+use Rattle.dr_load.proofs.ReadForm.{line_form}
 use Rattle.dr_load.proofs.TextForm.{read_is_record}
 
 -- ---- a line
@@ -96,6 +95,3 @@ record_refuses fs most number left rest bytes line (LoadFault.BadLine n w) h g c
 
 pub line_is_record : (fs : Fields) (line : List ℕ) (n : CodeNode) → record_of_line fs line ≡ Ok (node_view n) → is_record fs (node_view n) ≡ true
 line_is_record fs line n e = read_is_record fs n (line_form fs line (node_view n) e)
-
-pub line_is_small : (fs : Fields) (line : List ℕ) (n : Node) → record_of_line fs line ≡ Ok n → nat_lt (text_bytes n) (2 ^ 32) ≡ true
-line_is_small fs line n e = lt-ltb (text_bytes n) (2 ^ 32) (omega (arith, line_small fs line n e))

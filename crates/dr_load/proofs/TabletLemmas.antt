@@ -1,8 +1,9 @@
 -- The tablets of records of which some full tablets are cut off.
-use Rattle.std.specs.Prelude.{◌≡◌, ℕ, zero, suc, ◌-◌, ◌*◌, ◌<◌, ◌≤◌, ◌==◌, if◌then◌else◌, List, [], ◌∷◌, ◌++◌, length, Bool, true, false, Option, Some, None}
+use Rattle.std.specs.Prelude.{◌≡◌, ℕ, zero, suc, ◌+◌, ◌-◌, ◌*◌, ◌<◌, ◌≤◌, ◌==◌, if◌then◌else◌, List, [], ◌∷◌, ◌++◌, length, Bool, true, false, nat_le, Option, Some, None}
 use Rattle.std.proofs.Common.{arith, refl, sym, ap, ◌∙◌, append_assoc, append-nil}
 use Rattle.std.proofs.lemmas.List.{length-append}
-use Rattle.std.proofs.lemmas.Bool.{eq-eqb, ne_eqb}
+use Rattle.std.proofs.lemmas.Bool.{eq-eqb, ne_eqb, leb-true, leb-false}
+use Rattle.std.proofs.Math.Nat.{mul-le-mul_left}
 use Rattle.dr_meaning.specs.Record.{Node}
 use Rattle.dr_meaning.specs.Lines.{Refusal}
 use Rattle.dr_formats.specs.Tablets.{tablets, tablets_from}
@@ -123,3 +124,21 @@ all_records_more (u ∷ ts) t = ap (λ (x : List Node). u ++ x) (all_records_mor
 pub count_of : (n : ℕ) (ts : List (List Node)) → AllHave n ts → length (all_records ts) ≡ length ts * n
 count_of n [] a = omega arith
 count_of n (t ∷ ts) a = omega (arith, length-append t (all_records ts), a.0, count_of n ts a.1)
+
+-- of held records and more, where some are held
+count_held : (n room : ℕ) (held R : List Node) → 0 < n → 0 < length held → length held + room ≡ n → length (tablets_from n room held R) * n + 1 ≤ length held + length R + n
+count_held n room held [] p h e = omega (arith, h)
+count_held n zero held (r ∷ R) p h e = omega (arith, e, p, count_held n (n - 1) (r ∷ []) R p (omega arith) (omega (arith, p)))
+count_held n (suc room) held (r ∷ R) p h e = omega (arith, length-append held (r ∷ []), count_held n room (held ++ r ∷ []) R p (omega (arith, length-append held (r ∷ []))) (omega (arith, e, length-append held (r ∷ []))))
+
+-- of at most so many times n records there are at most so many tablets of n
+pub few_of_few : (n k : ℕ) (R : List Node) → 0 < n → 0 < k → length R ≤ k * n → length (tablets n R) ≤ k
+few_of_few n k [] p q h = omega (arith, q)
+few_of_few zero k (r ∷ R) p q h = absurd (omega (arith, p))
+few_of_few (suc m) k (r ∷ R) p q h = by (nat_le (length (tablets (suc m) (r ∷ R))) k) refl
+  where
+    by : (b : Bool) → nat_le (length (tablets (suc m) (r ∷ R))) k ≡ b → length (tablets (suc m) (r ∷ R)) ≤ k
+    by true e = leb-true (length (tablets (suc m) (r ∷ R))) k e
+    by false e =
+        let big : suc k ≤ length (tablets (suc m) (r ∷ R)) = omega (arith, leb-false (length (tablets (suc m) (r ∷ R))) k e) in
+        omega (arith, mul-le-mul_left (suc m) big, count_held (suc m) m (r ∷ []) R p (omega arith) (omega arith), h)

@@ -1,10 +1,11 @@
 -- What the columns of one tablet hold.
-use Rattle.std.specs.Prelude.{◌≡◌, ℕ, List, map, length, true, nat_lt, ◌^◌, Option}
+use Rattle.std.specs.Prelude.{◌≡◌, ℕ, List, map, length, true, Option}
 use Rattle.std.specs.List.{list_all}
 use Rattle.dr_meaning.specs.Schema.{Fields}
 use Rattle.dr_meaning.specs.Path.{Leaf, leaves}
-use Rattle.dr_meaning.specs.Record.{Node, is_record, text_bytes}
+use Rattle.dr_meaning.specs.Record.{Node, is_record}
 use Rattle.dr_meaning.specs.Column.{Triplet, column}
+use Rattle.dr_formats.specs.WritingLaws.{is_limited}
 use Rattle.dr_levels.specs.Views.{columns_view}
 use Rattle.dr_load.specs.declared.filled.Filled.{Filled}
 use Rattle.dr_load.specs.Records.{HasTaken}
@@ -13,7 +14,7 @@ use Rattle.dr_load.specs.Records.{HasTaken}
 pub record HasColumnsOf (fs : Fields) (most number : ℕ) (before now : Option (List ℕ)) (columns : List (List Triplet)) (count : ℕ) : Type 0 where
   pub records : List Node
   pub are_records : list_all (is_record fs) records ≡ true
-  pub small : list_all (λ n. nat_lt (text_bytes n) (2 ^ 32)) records ≡ true
+  pub limited : list_all is_limited records ≡ true
   pub number_of : length records ≡ count
   pub columns_are : columns ≡ map (λ (l : Leaf). column l.path records) (leaves fs)
   pub taken : HasTaken fs most number records before now

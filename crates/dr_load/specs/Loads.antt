@@ -1,12 +1,15 @@
 -- What a load puts, counts and leaves.
-use Rattle.std.specs.Prelude.{◌≡◌, ℕ, ◌==◌, if◌then◌else◌, List, [], ◌∷◌, ◌++◌, length, Option, Some, None, ⊤, ◌⊎◌}
-use Rattle.dr_meaning.specs.Record.{Node}
+use Rattle.std.specs.Prelude.{◌≡◌, ◌≤◌, ℕ, ◌==◌, if◌then◌else◌, List, [], ◌∷◌, ◌++◌, length, Option, true, Some, None, ⊤, ◌⊎◌}
+use Rattle.std.specs.List.{list_all}
+use Rattle.dr_meaning.specs.Record.{Node, is_record}
 use Rattle.dr_meaning.specs.Lines.{Refusal, Taken, lines_of, taken_from}
 use Rattle.dr_formats.specs.Tablets.{tablets}
 use Rattle.dr_formats.specs.TabletLaws.{all_records}
-use Rattle.dr_formats.specs.Loading.{Plan, Put, most_loaded, puts_from, full_tablets, load}
+use Rattle.dr_formats.specs.TableFile.{most_tablets, table_text}
+use Rattle.dr_formats.specs.WritingLaws.{is_limited}
+use Rattle.dr_formats.specs.Loading.{Plan, Put, most_loaded, puts_from, put_at, table_of, full_tablets, load}
 use Rattle.dr_outside.specs.Link.{Files}
-use Rattle.dr_load.specs.Records.{HasTaken}
+use Rattle.dr_load.specs.Records.{WhereTold, HasTaken}
 use Rattle.dr_load.specs.Puts.{HasPut, HasPutSome, BreaksOff}
 use Rattle.dr_load.specs.declared.fault.LoadFault.{LoadFault}
 
@@ -63,5 +66,18 @@ pub record HasLoaded (p : Plan) (tablets records : ℕ) (input now : Option (Lis
   pub are_full : AllHave p.rows full
   pub tablets_of : length full ≡ tablets
   pub records_of : length (all_records full) ≡ records
+  pub are_records : list_all (is_record p.schema.fields) (all_records full) ≡ true
+  pub limited : list_all is_limited (all_records full) ≡ true
   pub taken : HasTaken p.schema.fields (most_loaded p.rows) 0 (all_records full) input now
   pub put : HasPut (puts_from p 0 full) before held
+
+-- some records were loaded, and so many tablets of them were put, and a table file where that is to be put: they are records of the schema, each within the limits
+-- of a line; they are those of the input, of which no line is refused. So much is known of a source that doesn't tell, too, but for the last
+pub record LoadsTable (p : Plan) (table : Option (List ℕ)) (count : ℕ) (input : Option (List ℕ)) (before now : Option Files) : Type 0 where
+  pub records : List Node
+  pub are_records : list_all (is_record p.schema.fields) records ≡ true
+  pub limited : list_all is_limited records ≡ true
+  pub tablets_of : length (tablets p.rows records) ≡ count
+  pub few_tablets : count ≤ most_tablets
+  pub put : HasPut (puts_from p 0 (tablets p.rows records) ++ put_at table (table_text (table_of p count))) before now
+  pub taken : WhereTold input (λ bytes. taken_of p bytes ≡ record { records = records; refusal = None })

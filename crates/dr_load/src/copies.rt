@@ -1,6 +1,6 @@
 //! Putting a file on the leaves of a tablet's copies.
 
-ghost use Rattle.std.specs.Prelude.{◌≡◌, ◌≢◌, ◌∷◌, [], ◌<◌, ◌≤◌, length, map, string_bytes, IfOk, IfErr, OnOk, OnErr, Err, None};
+ghost use Rattle.std.specs.Prelude.{◌≡◌, ◌≢◌, ◌∷◌, [], ◌<◌, ◌≤◌, length, map, string_bytes, IsTrue, IfOk, IfErr, OnOk, OnErr, Err, None};
 ghost use Rattle.dr_outside.specs.Faults.{raised};
 ghost use Rattle.dr_load.specs.Faults.{refusal_of};
 ghost use Rattle.dr_load.specs.Puts.{copies_of, copy_path, HasPut, HasPutElsewhere, BreaksOff};
@@ -39,6 +39,8 @@ fn put_copy<K: Keeper>(
     ensures read { result ≢ Err LoadFault.ReadFault }
     ensures line { IfErr result (λ e. refusal_of e ≡ None) }
     ensures asked { (K.shows keeper.new).asked ≡ (K.shows keeper.old).asked }
+    ensures steady { IsTrue (K.shows keeper.old).is_steady → result ≢ Err LoadFault.KeepFault }
+    ensures stays_steady { IsTrue (K.shows keeper.old).is_steady → IsTrue (K.shows keeper.new).is_steady }
 {
     match copy_path(alloc, leaves, tablet, copy) {
         Err(_) => Err(LoadFault::NoMemory),
@@ -67,6 +69,8 @@ pub(crate) fn put_copies<K: Keeper>(
     ensures read { result ≢ Err LoadFault.ReadFault }
     ensures line { IfErr result (λ e. refusal_of e ≡ None) }
     ensures asked { (K.shows keeper.new).asked ≡ (K.shows keeper.old).asked }
+    ensures steady { IsTrue (K.shows keeper.old).is_steady → result ≢ Err LoadFault.KeepFault }
+    ensures stays_steady { IsTrue (K.shows keeper.old).is_steady → IsTrue (K.shows keeper.new).is_steady }
 {
     'copies: for copy in 0..copies {
         match put_copy(alloc, keeper, leaves, tablet, copy, bytes) {

@@ -1,6 +1,6 @@
 //! Loading a table.
 
-ghost use Rattle.std.specs.Prelude.{◌≡◌, ◌≢◌, ◌∷◌, [], ◌≤◌, Some, None, Err, MatchOption, ⊤, IfOk, IfErr, OnOk, OnErr};
+ghost use Rattle.std.specs.Prelude.{◌≡◌, ◌≢◌, ◌∷◌, [], ◌≤◌, Some, None, Err, MatchOption, ⊤, IsTrue, IfOk, IfErr, OnOk, OnErr};
 ghost use Rattle.dr_formats.specs.TableFile.{table_text};
 ghost use Rattle.dr_formats.specs.Loading as meant;
 ghost use Rattle.dr_outside.specs.Faults.{raised};
@@ -8,7 +8,7 @@ ghost use Rattle.dr_load.specs.Faults.{refusal_of};
 ghost use Rattle.dr_load.specs.Plans.{plan_view};
 ghost use Rattle.dr_load.specs.Records.{WhereTold};
 ghost use Rattle.dr_load.specs.Puts.{HasPut, HasPutElsewhere};
-ghost use Rattle.dr_load.specs.Loads.{LeavesPuts, tablet_part};
+ghost use Rattle.dr_load.specs.Loads.{LeavesPuts, LoadsTable, tablet_part};
 
 use crate::fault::LoadFault;
 use crate::filling::fill_tablet;
@@ -36,6 +36,7 @@ pub fn load<S: Source, K: Keeper>(
     ensures tablets { IfOk result (λ l. WhereTold (S.shows source.old).left (λ input. l.tablets ≡ (meant.load (plan_view plan.now) input).tablets)) }
     ensures records { IfOk result (λ l. WhereTold (S.shows source.old).left (λ input. l.records ≡ (meant.load (plan_view plan.now) input).records)) }
     ensures puts { OnOk result (WhereTold (S.shows source.old).left (λ input. HasPut (meant.load (plan_view plan.now) input).puts (K.shows keeper.old).held (K.shows keeper.new).held)) }
+    ensures table { IfOk result (λ l. LoadsTable (plan_view plan.now) (plan_view plan.now).table l.tablets (S.shows source.old).left (K.shows keeper.old).held (K.shows keeper.new).held) }
     ensures end { OnOk result (WhereTold (S.shows source.old).left (λ _. (S.shows source.new).left ≡ Some [])) }
 
     ensures refused { IfErr result (λ e. MatchOption (refusal_of e) ⊤ (λ r. WhereTold (S.shows source.old).left (λ input. (meant.load (plan_view plan.now) input).refusal ≡ Some r))) }
@@ -46,6 +47,8 @@ pub fn load<S: Source, K: Keeper>(
     ensures keeper_cause { result ≡ Err LoadFault.KeepFault → (K.shows keeper.new).faults ≡ raised (K.shows keeper.old).faults }
     ensures keeper_calm { result ≢ Err LoadFault.KeepFault → (K.shows keeper.new).faults ≡ (K.shows keeper.old).faults }
     ensures asked { (K.shows keeper.new).asked ≡ (K.shows keeper.old).asked }
+    ensures steady { IsTrue (K.shows keeper.old).is_steady → result ≢ Err LoadFault.KeepFault }
+    ensures stays_steady { IsTrue (K.shows keeper.old).is_steady → IsTrue (K.shows keeper.new).is_steady }
 {
     match load_tablets(alloc, plan, source, keeper) {
         Err(fault) => Err(fault),
@@ -74,6 +77,8 @@ fn put_table<K: Keeper>(
     ensures read { result ≢ Err LoadFault.ReadFault }
     ensures line { IfErr result (λ e. refusal_of e ≡ None) }
     ensures asked { (K.shows keeper.new).asked ≡ (K.shows keeper.old).asked }
+    ensures steady { IsTrue (K.shows keeper.old).is_steady → result ≢ Err LoadFault.KeepFault }
+    ensures stays_steady { IsTrue (K.shows keeper.old).is_steady → IsTrue (K.shows keeper.new).is_steady }
 {
     match table_text_of(alloc, plan.schema, plan.leaves, plan.copies, tablets) {
         Err(_) => Err(LoadFault::NoMemory),
@@ -95,6 +100,7 @@ fn load_tablets<S: Source, K: Keeper>(
     ensures tablets { IfOk result (λ l. WhereTold (S.shows source.old).left (λ input. l.tablets ≡ (meant.load (plan_view plan.now) input).tablets)) }
     ensures records { IfOk result (λ l. WhereTold (S.shows source.old).left (λ input. l.records ≡ (meant.load (plan_view plan.now) input).records)) }
     ensures puts { OnOk result (WhereTold (S.shows source.old).left (λ input. HasPut (tablet_part (plan_view plan.now) input) (K.shows keeper.old).held (K.shows keeper.new).held)) }
+    ensures table { IfOk result (λ l. LoadsTable (plan_view plan.now) None l.tablets (S.shows source.old).left (K.shows keeper.old).held (K.shows keeper.new).held) }
     ensures end { OnOk result (WhereTold (S.shows source.old).left (λ _. (S.shows source.new).left ≡ Some [])) }
     ensures refused { IfErr result (λ e. MatchOption (refusal_of e) ⊤ (λ r. WhereTold (S.shows source.old).left (λ input. (meant.load (plan_view plan.now) input).refusal ≡ Some r))) }
     ensures stands { IfErr result (λ e. WhereTold (S.shows source.old).left (λ input. LeavesPuts (plan_view plan.now) input (K.shows keeper.old).held (K.shows keeper.new).held e)) }
@@ -103,6 +109,8 @@ fn load_tablets<S: Source, K: Keeper>(
     ensures keeper_cause { result ≡ Err LoadFault.KeepFault → (K.shows keeper.new).faults ≡ raised (K.shows keeper.old).faults }
     ensures keeper_calm { result ≢ Err LoadFault.KeepFault → (K.shows keeper.new).faults ≡ (K.shows keeper.old).faults }
     ensures asked { (K.shows keeper.new).asked ≡ (K.shows keeper.old).asked }
+    ensures steady { IsTrue (K.shows keeper.old).is_steady → result ≢ Err LoadFault.KeepFault }
+    ensures stays_steady { IsTrue (K.shows keeper.old).is_steady → IsTrue (K.shows keeper.new).is_steady }
 {
     let most = u64::from(MOST_TABLETS) * u64::from(plan.rows);
     let fields = match leaf_paths(alloc, plan.schema) {

@@ -1,6 +1,6 @@
 //! Putting tablets.
 
-ghost use Rattle.std.specs.Prelude.{◌≡◌, ◌≢◌, ◌+◌, ◌≤◌, List, length, IfOk, IfErr, OnOk, Err, None};
+ghost use Rattle.std.specs.Prelude.{◌≡◌, ◌≢◌, ◌+◌, ◌≤◌, List, length, IsTrue, IfOk, IfErr, OnOk, Err, None};
 ghost use Rattle.dr_meaning.specs.Record.{Node};
 ghost use Rattle.dr_formats.specs.Loading.{tablet_puts, puts_from};
 ghost use Rattle.dr_levels.specs.Views.{columns_view};
@@ -36,6 +36,8 @@ pub(crate) fn put_tablet<K: Keeper>(
     ensures read { result ≢ Err LoadFault.ReadFault }
     ensures line { IfErr result (λ e. refusal_of e ≡ None) }
     ensures asked { (K.shows keeper.new).asked ≡ (K.shows keeper.old).asked }
+    ensures steady { IsTrue (K.shows keeper.old).is_steady → result ≢ Err LoadFault.KeepFault }
+    ensures stays_steady { IsTrue (K.shows keeper.old).is_steady → IsTrue (K.shows keeper.new).is_steady }
 {
     match write_file(
         alloc,
@@ -68,6 +70,8 @@ pub(crate) fn put_last<K: Keeper>(
     ensures read { result ≢ Err LoadFault.ReadFault }
     ensures line { IfErr result (λ e. refusal_of e ≡ None) }
     ensures asked { (K.shows keeper.new).asked ≡ (K.shows keeper.old).asked }
+    ensures steady { IsTrue (K.shows keeper.old).is_steady → result ≢ Err LoadFault.KeepFault }
+    ensures stays_steady { IsTrue (K.shows keeper.old).is_steady → IsTrue (K.shows keeper.new).is_steady }
 {
     if filled.records == 0 && loaded.tablets > 0 {
         return Ok(loaded);

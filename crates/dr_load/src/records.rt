@@ -1,8 +1,9 @@
 //! The records of the input, one at a time.
 
-ghost use Rattle.std.specs.Prelude.{◌≡◌, ◌≢◌, ◌≤◌, ◌<◌, ◌+◌, ◌^◌, ◌∷◌, [], None, Err, true, nat_lt, MatchOption, ⊤, IfOk, IfErr, IfSome, IfNone, OnOk};
+ghost use Rattle.std.specs.Prelude.{◌≡◌, ◌≢◌, ◌≤◌, ◌<◌, ◌+◌, ◌^◌, ◌∷◌, [], None, Err, true, MatchOption, ⊤, IfOk, IfErr, IfSome, IfNone, OnOk};
 ghost use Rattle.dr_meaning.specs.JsonRecord.{record_of_line};
-ghost use Rattle.dr_meaning.specs.Record.{is_record, text_bytes};
+ghost use Rattle.dr_meaning.specs.Record.{is_record};
+ghost use Rattle.dr_formats.specs.WritingLaws.{is_limited};
 ghost use Rattle.dr_nested.specs.Views.{fields_view, node_view};
 ghost use Rattle.dr_lines.specs.Cutting.{rest_of, fault_of, IsEnd};
 ghost use Rattle.dr_outside.specs.Faults.{raised};
@@ -54,7 +55,7 @@ pub(crate) fn next_record<S: Source>(
     requires few { number < 2 ^ 63 }
     ensures record { IfOk result (λ o. IfSome o (λ n. HasTaken (fields_view (schema.now).fields.items) most number (node_view n ∷ []) (rest_of lines.old (S.shows source.old).left) (rest_of lines.new (S.shows source.new).left))) }
     ensures form { IfOk result (λ o. IfSome o (λ n. is_record (fields_view (schema.now).fields.items) (node_view n) ≡ true)) }
-    ensures small { IfOk result (λ o. IfSome o (λ n. nat_lt (text_bytes (node_view n)) (2 ^ 32) ≡ true)) }
+    ensures limited { IfOk result (λ o. IfSome o (λ n. is_limited (node_view n) ≡ true)) }
     ensures within { IfOk result (λ o. IfSome o (λ n. number + 1 ≤ most)) }
     ensures end { IfOk result (λ o. IfNone o (IsEnd (rest_of lines.old (S.shows source.old).left) (rest_of lines.new (S.shows source.new).left))) }
     ensures goes_on { OnOk result (fault_of lines.new ≡ None) }

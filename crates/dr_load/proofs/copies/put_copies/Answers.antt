@@ -13,4 +13,5 @@ copies-preserved g c = record {
       c.copies.invariant.put c.in-Ok.ensures.put;
   calm = search rules;
   asked = c.in-Ok.ensures.asked ∙ c.copies.invariant.asked;
+  steady = λ s. c.in-Ok.ensures.stays_steady (c.copies.invariant.steady s);
 }

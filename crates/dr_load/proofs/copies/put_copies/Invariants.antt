@@ -1,4 +1,4 @@
-use Rattle.std.proofs.Common.{◌≡◌, map, string_bytes}
+use Rattle.std.proofs.Common.{◌≡◌, IsTrue, map, string_bytes}
 use Rattle.dr_load.specs.Puts.{copies_of, HasPut}
 use Rattle.dr_load.proofs.copies.put_copies.Given as goal
 
@@ -8,4 +8,5 @@ invariant-copies g l = record {
   put : HasPut (copies_of (map string_bytes l.leaves) l.copy l.tablet l.bytes) (g.K.Link.shows l.initial.keeper).held (g.K.Link.shows l.keeper).held;
   calm : (g.K.Link.shows l.keeper).faults ≡ (g.K.Link.shows l.initial.keeper).faults;
   asked : (g.K.Link.shows l.keeper).asked ≡ (g.K.Link.shows l.initial.keeper).asked;
+  steady : IsTrue (g.K.Link.shows l.initial.keeper).is_steady → IsTrue (g.K.Link.shows l.keeper).is_steady;
 }

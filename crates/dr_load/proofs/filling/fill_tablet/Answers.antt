@@ -1,5 +1,6 @@
-use Rattle.std.proofs.Common.{◌≡◌, ◌≤◌, ◌+◌, ◌^◌, ◌∷◌, [], true, nat_lt, ℕ, subst, ◌∙◌, arith, rules}
-use Rattle.dr_meaning.specs.Record.{is_record, text_bytes}
+use Rattle.std.proofs.Common.{◌≡◌, ◌≤◌, ◌+◌, ◌∷◌, [], true, ℕ, subst, ◌∙◌, arith, rules}
+use Rattle.dr_meaning.specs.Record.{is_record}
+use Rattle.dr_formats.specs.WritingLaws.{is_limited}
 use Rattle.dr_nested.specs.Views.{fields_view, node_view}
 use Rattle.dr_nested.specs.declared.record.Node.{Node}
 use Rattle.dr_lines.specs.Cutting.{rest_of}
@@ -32,7 +33,7 @@ records-preserved g c =
       fills = fills_more (fields_view c.args.schema.now.fields.items) c.args.most c.args.number c.records.count (rest_of c.args.lines.now (g.S.Source.shows c.args.source.now).left) (rest_of c.records.lines (g.S.Source.shows c.records.source).left) (rest_of c.next_record.new.lines (g.S.Source.shows c.next_record.new.source).left)
           c.records.striper.fields.now (striped c.records.striper) (striped c.add.new.self) (node_view c.in-Ok-Some.node) c.records.invariant.fills c.records.invariant.leaves_are c.in-Ok-add.ensures.columns
           (some_of (λ (m : Node). is_record (fields_view c.args.schema.now.fields.items) (node_view m) ≡ true) c.in-Ok-Some.field-0 c.in-Ok-Some.node c.in-Ok-Some.field-0-is c.in-Ok-Some.ensures.form)
-          (some_of (λ (m : Node). nat_lt (text_bytes (node_view m)) (2 ^ 32) ≡ true) c.in-Ok-Some.field-0 c.in-Ok-Some.node c.in-Ok-Some.field-0-is c.in-Ok-Some.ensures.small)
+          (some_of (λ (m : Node). is_limited (node_view m) ≡ true) c.in-Ok-Some.field-0 c.in-Ok-Some.node c.in-Ok-Some.field-0-is c.in-Ok-Some.ensures.limited)
           (subst (λ (j : ℕ). HasTaken (fields_view c.args.schema.now.fields.items) c.args.most (c.args.number + j) (node_view c.in-Ok-Some.node ∷ []) (rest_of c.records.lines (g.S.Source.shows c.records.source).left) (rest_of c.next_record.new.lines (g.S.Source.shows c.next_record.new.source).left)) c.from.ensures
           (some_of (λ (m : Node). HasTaken (fields_view c.args.schema.now.fields.items) c.args.most (c.args.number + c.from.result) (node_view m ∷ []) (rest_of c.records.lines (g.S.Source.shows c.records.source).left) (rest_of c.next_record.new.lines (g.S.Source.shows c.next_record.new.source).left))
           c.in-Ok-Some.field-0 c.in-Ok-Some.node c.in-Ok-Some.field-0-is c.in-Ok-Some.ensures.record));

@@ -9,7 +9,7 @@ use Rattle.dr_load.specs.Records.{RefusesWithin}
 use Rattle.dr_load.specs.Filled.{HasColumnsOf}
 use Rattle.dr_load.specs.Loads.{HasLoaded}
 use Rattle.dr_load.proofs.FillLemmas.{fills_same}
-use Rattle.dr_load.proofs.LoadLemmas.{have_columns, columns_fit, loaded_more, few_tablets, refused_line, stands_reading, stands_putting, last_accepted, last_records, last_counted, last_put, last_stands, last_end}
+use Rattle.dr_load.proofs.LoadLemmas.{have_columns, columns_fit, loaded_more, few_tablets, refused_line, stands_reading, stands_putting, last_accepted, last_table, last_records, last_counted, last_put, last_stands, last_end}
 use Rattle.dr_load.proofs.loading.load_tablets.Goals as goal
 
 pub returns-in-Err-fill_tablet-clause-refused : goal.returns-in-Err-fill_tablet-clause-refused
@@ -143,6 +143,7 @@ tablets-preserved g c =
       source_calm = c.in-Ok-fill_tablet.ensures.calm (λ e. cc) ∙ c.tablets.invariant.source_calm;
       keeper_calm = c.in-Ok-put_tablet.ensures.calm (λ e. cc) ∙ c.tablets.invariant.keeper_calm;
       asked = c.in-Ok-put_tablet.ensures.asked ∙ c.tablets.invariant.asked;
+      steady = λ s. c.in-Ok-put_tablet.ensures.stays_steady (c.tablets.invariant.steady s);
     }
 
 pub returns-in-Ok-put_last-clause-accepted : goal.returns-in-Ok-put_last-clause-accepted
@@ -180,6 +181,27 @@ returns-in-Ok-put_last-clause-tablets g c =
     let part = c.in-Ok-fill_tablet.ensures.part c.if-this.true in
     let end = c.in-Ok-fill_tablet.ensures.end c.if-this.true in
     last_counted p k m f.records c.in-Ok-put_last.loaded.tablets input a b before held cs c.tablets.invariant.loaded h c.args.plan.now.has_rows part end (c.in-Ok-put_last.ensures.tablets h.records h.number_of)
+
+pub returns-in-Ok-put_last-clause-table : goal.returns-in-Ok-put_last-clause-table
+returns-in-Ok-put_last-clause-table g c =
+    let p = plan_view c.args.plan.now in
+    let input = (g.S.Source.shows c.args.source.now).left in
+    let a = rest_of c.tablets.lines (g.S.Source.shows c.tablets.source).left in
+    let b = rest_of c.fill_tablet.new.lines (g.S.Source.shows c.fill_tablet.new.source).left in
+    let before = (g.K.Link.shows c.args.keeper.now).held in
+    let held = (g.K.Link.shows c.tablets.keeper).held in
+    let k = c.tablets.loaded.tablets in
+    let m = c.tablets.loaded.records in
+    let rows = c.args.plan.now.rows in
+    let f = c.in-Ok-fill_tablet.filled in
+    let cs = columns_view c.in-Ok-fill_tablet.filled.columns.items in
+    let h = subst (λ (most : ℕ). HasColumnsOf (fields_view c.args.plan.now.schema.now.fields.items) most c.tablets.loaded.records (rest_of c.tablets.lines (g.S.Source.shows c.tablets.source).left) (rest_of c.fill_tablet.new.lines (g.S.Source.shows c.fill_tablet.new.source).left) (columns_view c.in-Ok-fill_tablet.filled.columns.items) c.in-Ok-fill_tablet.filled.records) c.tablets.invariant.most_is c.in-Ok-fill_tablet.ensures.fills in
+    let part = c.in-Ok-fill_tablet.ensures.part c.if-this.true in
+    let end = c.in-Ok-fill_tablet.ensures.end c.if-this.true in
+    let few = c.in-Ok-fill_tablet.ensures.few in
+    let most = c.tablets.invariant.most_is in
+    last_table p k m f.records c.in-Ok-put_last.loaded.tablets input a b before held (g.K.Link.shows c.put_last.new.keeper).held cs c.tablets.invariant.loaded h c.args.plan.now.has_rows part end (omega (arith, few, most)) (c.in-Ok-put_last.ensures.tablets h.records h.number_of)
+    (c.in-Ok-put_last.ensures.put h.records (have_columns p.schema (4096 * rows) m f.records a b cs h) h.number_of)
 
 pub returns-in-Ok-put_last-clause-records : goal.returns-in-Ok-put_last-clause-records
 returns-in-Ok-put_last-clause-records g c =

@@ -1,4 +1,4 @@
-use Rattle.std.proofs.Common.{◌≡◌, ◌≤◌, ◌+◌, ◌-◌, ◌*◌, None}
+use Rattle.std.proofs.Common.{◌≡◌, ◌≤◌, ◌+◌, ◌-◌, ◌*◌, IsTrue, None}
 use Rattle.dr_meaning.specs.Path.{leaves}
 use Rattle.dr_nested.specs.Views.{fields_view}
 use Rattle.dr_lines.specs.Cutting.{rest_of, fault_of}
@@ -18,6 +18,7 @@ invariant-tablets g l = record {
   source_calm : (g.S.Source.shows l.source).faults ≡ (g.S.Source.shows l.fn.source).faults;
   keeper_calm : (g.K.Link.shows l.keeper).faults ≡ (g.K.Link.shows l.fn.keeper).faults;
   asked : (g.K.Link.shows l.keeper).asked ≡ (g.K.Link.shows l.fn.keeper).asked;
+  steady : IsTrue (g.K.Link.shows l.fn.keeper).is_steady → IsTrue (g.K.Link.shows l.keeper).is_steady;
 }
 
 abbrev pub decreases-tablets : goal.decreases-tablets
