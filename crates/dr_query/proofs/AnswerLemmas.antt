@@ -1,5 +1,5 @@
 -- The records that are given, and what a query prints of them.
-use Rattle.std.proofs.Common.{◌≡◌, ◌∙◌, inl, inr, ℕ, List, [], ◌∷◌, ◌++◌, map, true, Option, Some, None, refl, sym, ap, ap₂, subst}
+use Rattle.std.proofs.Common.{◌≡◌, ◌∙◌, inl, inr, ℕ, List, [], ◌∷◌, map, true, Option, Some, None, refl, sym, ap, ap₂, subst}
 use Rattle.std.specs.Prelude.{◌&&◌, Ok}
 use Rattle.std.specs.List.{list_all}
 use Rattle.std.proofs.lemmas.List.Folds.{list_all-append}
@@ -8,14 +8,13 @@ use Rattle.dr_meaning.specs.Schema.{Schema}
 use Rattle.dr_meaning.specs.Path.{Step, Leaf}
 use Rattle.dr_meaning.specs.Record.{Node, is_record, project}
 use Rattle.dr_meaning.specs.Query.{Query, Object, meaning}
-use Rattle.dr_meaning.specs.QueryLeaves.{query_leaves}
 use Rattle.dr_meaning.specs.Syntax.{QuerySyntax}
 use Rattle.dr_meaning.specs.Binding.{bind}
 use Rattle.dr_meaning.specs.Print.{result_text}
 use Rattle.dr_meaning.specs.Ask.{answer_text}
 use Rattle.dr_formats.specs.TableFile.{Table}
 use Rattle.dr_outside.specs.Link.{Files}
-use Rattle.dr_nested.specs.PathView.{path_view, step_view}
+use Rattle.dr_nested.specs.PathView.{path_view}
 use Rattle.dr_nested.specs.Views.{node_view}
 use Rattle.dr_nested.specs.declared.path.Path.{Path}
 use Rattle.dr_nested.specs.declared.record.Node.{Node as RecordNode}
@@ -24,7 +23,6 @@ use Rattle.dr_plan.specs.Planned.{Planned, plan_view, planned, IsOfSchema}
 use Rattle.dr_plan.specs.declared.plan.Plan.{Plan}
 use Rattle.dr_rows.specs.Views.{paths_view}
 use Rattle.dr_mean.specs.Answers.{Answers}
-use Rattle.dr_mean.specs.Lines.{plan_projections}
 use Rattle.dr_records.specs.FileRecords.{paths_of_leaves}
 use Rattle.dr_reading.specs.Scan.{Copy, joined, tablets_of}
 use Rattle.dr_reading.specs.Given.{IsFileThere, SomeIsFile, IsGiven, AreGiven}

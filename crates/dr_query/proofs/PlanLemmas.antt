@@ -2,8 +2,6 @@
 use Rattle.std.proofs.Common.{◌≡◌, ◌∙◌, ℕ, List, sym, ap, map, subst, Result, Ok, Err}
 use Rattle.std.specs.Prelude.{IsErrAnd, IfErr, MatchOption, ⊤}
 use Rattle.dr_meaning.specs.Schema.{Schema}
-use Rattle.dr_meaning.specs.Path.{Leaf}
-use Rattle.dr_meaning.specs.QueryLeaves.{query_leaves}
 use Rattle.dr_meaning.specs.Syntax.{QuerySyntax}
 use Rattle.dr_meaning.specs.Parse.{QueryFault as ParseFault, parse_query}
 use Rattle.dr_meaning.specs.Ask.{read_query, bound_syntax, bound_or_refused}

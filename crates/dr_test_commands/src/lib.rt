@@ -2,6 +2,8 @@
 #![tactic(auto)]
 
 #[cfg(test)]
+mod agreement_tests;
+#[cfg(test)]
 mod commands_tests;
 #[cfg(test)]
 mod json_tests;

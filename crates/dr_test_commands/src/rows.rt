@@ -66,7 +66,7 @@ pub fn unfolded(alloc: Global, text: &str) -> Result<String, Fail> {
 }
 
 /// The input of a row: `R` at its front stands for the worked records.
-fn input_of(alloc: Global, text: &str) -> Result<String, Fail> {
+pub fn input_of(alloc: Global, text: &str) -> Result<String, Fail> {
     match text.strip_prefix("R") {
         Some(more) => {
             let mut input = String::from_str(alloc, RECORDS)?;

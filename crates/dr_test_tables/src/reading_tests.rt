@@ -1,18 +1,14 @@
 //! Tables that are read and dumped, with copies that are damaged or lost.
 
-ghost use Rattle.std.specs.Prelude.{⊤};
-
 use crate::fields::leaves_of;
 use crate::worked::{DOCUMENT, loaded, table_of};
 use dr_dump::{Dumped, dump_table};
 use dr_file::FileFault;
-use dr_memory::NoMemory;
-use dr_nested::{Node, Path, Schema};
 use dr_outside::{Cause, MemLink};
 use dr_print::push_record_text;
 use dr_records::read_records;
 use dr_table::Table;
-use dr_tablets::{LeftTablet, Tablet, Taker, Tried, left_text, read_table, read_tablet};
+use dr_tablets::{LeftTablet, TableRecords, Tablet, Tried, left_text, read_table, read_tablet};
 use std::alloc::Global;
 use std::test::Fail;
 
@@ -27,25 +23,6 @@ const TWO: &str = "DocId Name.Language.Country";
 const PROJECTED: &str =
     "{\"DocId\":10,\"Name\":[{\"Language\":[{\"Country\":\"us\"},{}]},{\"Language\":[]},{\"Language\":[{\"Country\":\"gb\"}]}]}\n{\"DocId\":20,\"Name\":[{\"Language\":[]}]}\n";
 
-/// The lines of the records that were taken.
-#[derive(Drop)]
-struct Lines<'a> {
-    alloc: Global,
-    schema: &'a Schema,
-    text: String,
-}
-
-impl Taker for Lines<'_> {
-    ghost has = { λ _ _. ⊤ };
-
-    fn take(&mut self, records: Vec<Node>) -> Result<(), NoMemory> {
-        for record in &records {
-            push_record_text(self.alloc, &mut self.text, self.schema, record)?;
-        }
-        Ok(())
-    }
-}
-
 /// The lines of a table that is read, or which tablets are left.
 fn lines_read(
     alloc: Global,
@@ -54,16 +31,15 @@ fn lines_read(
     link: &mut MemLink<'_>,
 ) -> Result<String, Fail> {
     let fields = leaves_of(alloc, &table.schema, names)?;
-    let mut lines = Lines {
-        alloc,
-        schema: &table.schema,
-        text: String::new(alloc),
-    };
-    let left = read_table(alloc, link, table, &fields, &mut lines)?;
-    if left.is_empty() {
-        Ok(lines.text)
-    } else {
-        Ok(left_text(alloc, &left)?)
+    match read_table(alloc, link, table, &fields)? {
+        TableRecords::Left(left) => Ok(left_text(alloc, &left)?),
+        TableRecords::Given(records) => {
+            let mut text = String::new(alloc);
+            for record in &records {
+                push_record_text(alloc, &mut text, &table.schema, record)?;
+            }
+            Ok(text)
+        }
     }
 }
 

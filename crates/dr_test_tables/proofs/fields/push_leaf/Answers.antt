@@ -3,7 +3,7 @@ use Rattle.std.proofs.lemmas.List.{map-append}
 use Rattle.dr_nested.specs.Views.{fields_view}
 use Rattle.dr_nested.specs.PathView.{path_view}
 use Rattle.dr_records.specs.FileRecords.{AreLeavesOf}
-use Rattle.dr_test_tables.proofs.FieldLemmas.{with_found}
+use Rattle.dr_records.proofs.LeafLemmas.{found_are_leaves}
 use Rattle.dr_test_tables.proofs.fields.push_leaf.Goals as goal
 
 pub returns : goal.returns
@@ -12,4 +12,4 @@ returns c = λ h.
     let old = c.args.leaves.now.items in
     let leaf = c.in_ok-leaf.leaf in
     subst (AreLeavesOf fs) (sym (ap (map path_view) c.in_ok-push.ensures.items ∙ map-append path_view old (leaf ∷ [])))
-    (with_found c.args.name.now fs (map path_view old) (path_view leaf) c.in_ok-leaf.ensures h)
+    (found_are_leaves fs (map path_view old) c.args.name.now (path_view leaf) h c.in_ok-leaf.ensures)
