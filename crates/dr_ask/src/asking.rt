@@ -1,24 +1,41 @@
-//! Asking an input.
+//! Asking a query of an input.
 
-ghost use Rattle.std.specs.Prelude.{◌≡◌, ◌≢◌, ◌<◌, ◌≤◌, Some, Ok, Err, [], List, MatchOption, ⊤, IfOk, IfErr, OnOk, string_bytes};
-ghost use Rattle.dr_meaning.specs.Ask.{answer_text, most_asked};
+ghost use Rattle.std.specs.Prelude.{◌≡◌, ◌≢◌, ◌<◌, ◌≤◌, ℕ, [], Some, None, Err, MatchOption, ⊤, IsTrue, IfOk, IfErr, OnOk, length, map, string_bytes};
+ghost use Rattle.dr_meaning.specs.Ask.{most_asked};
 ghost use Rattle.dr_meaning.specs.Lines.{records_of};
 ghost use Rattle.dr_meaning.specs.Query.{Query};
-ghost use Rattle.dr_meaning.specs.Record as tree;
 ghost use Rattle.dr_nested.specs.SchemaView.{schema_view};
-ghost use Rattle.dr_plan.specs.Planned.{IsOfSchema};
 ghost use Rattle.dr_outside.specs.Faults.{raised};
+ghost use Rattle.dr_plan.specs.Planned.{IsOfSchema};
+ghost use Rattle.dr_query.specs.Plans.{IsPlanOf};
 ghost use Rattle.dr_load.specs.Faults.{refusal_of};
 ghost use Rattle.dr_load.specs.Records.{WhereTold};
-ghost use Rattle.dr_query.specs.Plans.{IsPlanOf};
+ghost use Rattle.dr_ask.specs.Asked.{IsAnswerTo};
 
-use dr_load::LoadFault;
+use crate::answering::answer_steady;
+use dr_load::{LoadFault, Plan as LoadPlan, load};
+use dr_memory::NoMemory;
 use dr_nested::Schema;
-use dr_outside::Source;
+use dr_outside::{Shelf, Source};
 use dr_plan::Plan;
+use dr_table::Table;
 use std::alloc::Global;
 
-/// What a plan's query prints of the records of an input.
+/// The one directory of a table in memory.
+fn one_leaf(alloc: Global) -> Result<Vec<String>, NoMemory>
+    ensures { IfOk result (λ leaves. length leaves.items ≡ 1) }
+{
+    let mut leaves = Vec::new(alloc);
+    leaves.push(String::from_str(alloc, "memory")?)?;
+    Ok(leaves)
+}
+
+/// What a plan's query prints of the records of an input, of at most 4,096 times so many; the input is read to its end.
+///
+/// The records are loaded into memory as a table, so many to a tablet, and the answer is that of the table.
+///
+/// Errors: the first line that is refused; the source failed; want of memory. Nothing else can fail: what is kept in memory is
+/// there, whether the source tells its bytes or not.
 pub fn ask_input<S: Source>(
     alloc: Global,
     schema: Schema,
@@ -29,12 +46,31 @@ pub fn ask_input<S: Source>(
     requires planned { IsOfSchema (schema_view schema) plan.now }
     requires has_rows { 0 < rows }
     requires few_rows { rows ≤ 1000000 }
-    ensures text { IfOk result (λ t. (q : Query) → IsPlanOf (schema_view schema) q plan.now → WhereTold (S.shows source.old).left (λ input. (R : List tree.Node) × (records_of (schema_view schema).fields (most_asked rows) input ≡ Ok R) × (string_bytes t ≡ answer_text (schema_view schema) q R))) }
+    ensures text { IfOk result (λ t. (q : Query) → IsPlanOf (schema_view schema) q plan.now → WhereTold (S.shows source.old).left (IsAnswerTo (schema_view schema) q rows (string_bytes t))) }
     ensures end { OnOk result (WhereTold (S.shows source.old).left (λ _. (S.shows source.new).left ≡ Some [])) }
     ensures refused { IfErr result (λ e. MatchOption (refusal_of e) ⊤ (λ r. WhereTold (S.shows source.old).left (λ input. records_of (schema_view schema).fields (most_asked rows) input ≡ Err r))) }
     ensures source_cause { result ≡ Err LoadFault.ReadFault → (S.shows source.new).faults ≡ raised (S.shows source.old).faults }
     ensures source_calm { result ≢ Err LoadFault.ReadFault → (S.shows source.new).faults ≡ (S.shows source.old).faults }
     ensures never_keeper { result ≢ Err LoadFault.KeepFault }
 {
-    Err(LoadFault::NoMemory)
+    let leaves = one_leaf(alloc)?;
+    let mut shelf = Shelf::new(alloc, Vec::new(alloc));
+    let place = LoadPlan {
+        schema: &schema,
+        leaves: &leaves,
+        copies: 1,
+        rows,
+        table: None,
+    };
+    let tablets = match load(alloc, &place, source, &mut shelf) {
+        Ok(loaded) => loaded.tablets,
+        Err(fault) => return Err(fault),
+    };
+    let table = Table {
+        schema,
+        leaves,
+        copies: 1,
+        tablets,
+    };
+    answer_steady(alloc, &mut shelf, &table, plan)
 }

@@ -1,6 +1,7 @@
-//! A query over the records of an input, loaded into a table in memory.
+//! What a query prints of the records of an input, which are loaded into memory for it as a table.
 #![tactic(auto)]
 
+mod answering;
 mod asking;
 
 pub use asking::ask_input;
