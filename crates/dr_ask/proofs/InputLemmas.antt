@@ -1,9 +1,7 @@
 -- An input that is loaded into memory.
 use Rattle.std.specs.Prelude.{◌≡◌, ◌<◌, ◌≤◌, ℕ, List, [], length, true, Option, Some, None, MatchOption, Ok, Err, ⊤}
-use Rattle.std.proofs.Common.{arith, refl, sym, ap, ◌∙◌, subst}
+use Rattle.std.proofs.Common.{arith, sym, ap, ◌∙◌, subst}
 use Rattle.dr_meaning.specs.Schema.{Schema, is_schema}
-use Rattle.dr_meaning.specs.Path.{Leaf, leaves}
-use Rattle.dr_meaning.specs.Record.{Node}
 use Rattle.dr_meaning.specs.Query.{Query}
 use Rattle.dr_meaning.specs.Ask.{answer_text}
 use Rattle.dr_meaning.specs.Lines.{Refusal, lines_of, result_of, records_of}
@@ -11,7 +9,6 @@ use Rattle.dr_meaning.proofs.LineLemmas.{taken_are_records}
 use Rattle.dr_formats.specs.Loading.{Plan, most_loaded, table_of, load}
 use Rattle.dr_formats.specs.TableFile.{Table}
 use Rattle.dr_formats.specs.Tablets.{tablets}
-use Rattle.dr_formats.specs.WritingLaws.{AreAmong}
 use Rattle.dr_outside.specs.Link.{Files}
 use Rattle.dr_load.specs.Loads.{taken_of, LoadsTable}
 use Rattle.dr_load.specs.Records.{WhereTold}

@@ -19,7 +19,8 @@ use std::alloc::Global;
 
 /// What a plan's query prints of the records of a table, each copy of which is held as a file by a link that fails no more.
 ///
-/// Errors: want of memory alone. No tablet is left: a cause for that would be a failed read, or a file that is none.
+/// Errors: want of memory alone. That a tablet is left, for which the body answers `KeepFault`, can't happen: the cause at a copy
+/// would be a failed read, or bytes that are no file.
 pub(crate) fn answer_steady<L: Link>(
     alloc: Global,
     link: &mut L,

@@ -30,12 +30,11 @@ fn one_leaf(alloc: Global) -> Result<Vec<String>, NoMemory>
     Ok(leaves)
 }
 
-/// What a plan's query prints of the records of an input, of at most 4,096 times so many; the input is read to its end.
+/// What a plan's query prints of the records of an input, which is read to its end. They are loaded into memory as a table, `rows`
+/// of them to a tablet, and the answer is that of the table.
 ///
-/// The records are loaded into memory as a table, so many to a tablet, and the answer is that of the table.
-///
-/// Errors: the first line that is refused; the source failed; want of memory. Nothing else can fail: what is kept in memory is
-/// there, whether the source tells its bytes or not.
+/// Errors: the first line that is refused, as is each past 4,096 times `rows`; the source failed; want of memory. Nothing else: no
+/// tablet of the table is left, whether the source tells its bytes or not.
 pub fn ask_input<S: Source>(
     alloc: Global,
     schema: Schema,

@@ -1,6 +1,5 @@
-use Rattle.std.proofs.Common.{string_bytes, refl, subst, ◌∙◌}
+use Rattle.std.proofs.Common.{string_bytes, refl, subst}
 use Rattle.dr_meaning.specs.QueryLeaves.{query_leaves}
-use Rattle.dr_nested.specs.SchemaView.{schema_view}
 use Rattle.dr_table.specs.Views.{table_view}
 use Rattle.dr_tablets.specs.Tablets.{LeavesTablets}
 use Rattle.dr_tablets.specs.Views.{all_left_view}

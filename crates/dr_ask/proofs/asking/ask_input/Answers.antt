@@ -1,4 +1,4 @@
-use Rattle.std.proofs.Common.{arith, map, string_bytes, sym, ap, ◌∙◌, length}
+use Rattle.std.proofs.Common.{arith, map, string_bytes, ap, ◌∙◌, length}
 use Rattle.std.proofs.lemmas.List.{length-map}
 use Rattle.std.proofs.lemmas.Result.{IfOk-weaker}
 use Rattle.dr_nested.specs.SchemaView.{schema_view}
