@@ -181,7 +181,15 @@ fn one_text_is_printed_however_the_records_lie(rt: HostRuntime) -> Result<(), Fa
     let bare = Shelf::new(alloc, Vec::new(alloc));
     let mut none = links_over(alloc, &bare)?;
     let load = "dremel~load~--schema~document.txt~--table~t.table~--rows~7~--copies~2~x";
-    let loaded = printed(&rt, alloc, load, "y", input.as_str(), &mut keeper, &mut none)?;
+    let loaded = printed(
+        &rt,
+        alloc,
+        load,
+        "y",
+        input.as_str(),
+        &mut keeper,
+        &mut none,
+    )?;
     assert_eq!(rt; loaded.as_str(), "loaded 300 records into 43 tablets\n");
     let mut tables = Shelf::new(alloc, Vec::new(alloc));
     tables.put("t.table", keeper.get("t.table").ok_or("no table")?)?;
@@ -189,9 +197,25 @@ fn one_text_is_printed_however_the_records_lie(rt: HostRuntime) -> Result<(), Fa
     let mut links = links_over(alloc, &keeper)?;
     for query in QUERIES.lines() {
         let ask = "dremel~ask~--schema~document.txt";
-        let asked = printed(&rt, alloc, ask, query, input.as_str(), &mut tables, &mut links)?;
+        let asked = printed(
+            &rt,
+            alloc,
+            ask,
+            query,
+            input.as_str(),
+            &mut tables,
+            &mut links,
+        )?;
         let ask = "dremel~ask~--schema~document.txt~--rows~7";
-        let many = printed(&rt, alloc, ask, query, input.as_str(), &mut tables, &mut links)?;
+        let many = printed(
+            &rt,
+            alloc,
+            ask,
+            query,
+            input.as_str(),
+            &mut tables,
+            &mut links,
+        )?;
         assert_eq!(rt; many.as_str(), asked.as_str(), "{query}");
         let ask = "dremel~query~--table~t.table";
         let read = printed(&rt, alloc, ask, query, "", &mut tables, &mut links)?;

@@ -127,4 +127,3 @@ pub fn first_other<'a, R>(rt: &R, alloc: Global, rows: &'a str) -> Result<Option
     }
     Ok(None)
 }
-

@@ -81,9 +81,9 @@ records_end w (Some fs) (Some bytes) path text s q P o p t f n g h = (
   by_query w path text s (Ok q) (record { file = f.0; input = bytes }) f.0 t f.2 n refl ∙ g (line.records_of s.fields (most_asked w.rows) bytes) h,
 )
 
-line_ends : (w : AskWords) (k k1 : LinkShown) (i i1 : SourceShown) (path text : List ℕ) (s : Schema) (q : Query) (r : Refusal) (e : line.Refusal) → path ≡ w.schema → text ≡ w.query → IsFileSchema k.held path s → read_query s text ≡ Ok q
+line_ends : (w : AskWords) (k : LinkShown) (i : SourceShown) (path text : List ℕ) (s : Schema) (q : Query) (e : line.Refusal) → path ≡ w.schema → text ≡ w.query → IsFileSchema k.held path s → read_query s text ≡ Ok q
     → WhereRead i.left (λ input. line.records_of s.fields (most_asked w.rows) input ≡ Err e) → HasOutcome (ask_meaning w) k i (refused (line_refused e) [])
-line_ends w k k1 i i1 path text s q r e p t f n h =
+line_ends w k i path text s q e p t f n h =
     records_end w k.held i.left path text s q (λ x. x ≡ Err e) (refused (line_refused e) []) p t f n (λ x is. ap (λ (y : Result (List Node) line.Refusal). plain (ask_records s q y)) is) h
 
 pub ask_load_stops : (w : AskWords) (k k1 : LinkShown) (i i1 : SourceShown) (path text : List ℕ) (s : Schema) (q : Query) (fault : LoadFault) → path ≡ w.schema → text ≡ w.query → IsFileSchema k.held path s → read_query s text ≡ Ok q
@@ -92,9 +92,9 @@ pub ask_load_stops : (w : AskWords) (k k1 : LinkShown) (i i1 : SourceShown) (pat
 ask_load_stops w k k1 i i1 path text s q LoadFault.NoMemory p t f n c sc sm never h = (c, sm (λ e. cc))
 ask_load_stops w k k1 i i1 path text s q LoadFault.KeepFault p t f n c sc sm never h = absurd (never refl)
 ask_load_stops w k k1 i i1 path text s q LoadFault.ReadFault p t f n c sc sm never h = (sc refl, c, opened w k.held path text s q p t f n)
-ask_load_stops w k k1 i i1 path text s q (LoadFault.BadLine m x) p t f n c sc sm never h = (c, sm (λ e. cc), line_ends w k k1 i i1 path text s q _ _ p t f n h, λ early. absurd early)
-ask_load_stops w k k1 i i1 path text s q (LoadFault.LineTooLong m) p t f n c sc sm never h = (c, sm (λ e. cc), line_ends w k k1 i i1 path text s q _ _ p t f n h, λ early. absurd early)
-ask_load_stops w k k1 i i1 path text s q (LoadFault.TooManyRecords m) p t f n c sc sm never h = (c, sm (λ e. cc), line_ends w k k1 i i1 path text s q _ _ p t f n h, λ early. absurd early)
+ask_load_stops w k k1 i i1 path text s q (LoadFault.BadLine m x) p t f n c sc sm never h = (c, sm (λ e. cc), line_ends w k i path text s q _ p t f n h, λ early. absurd early)
+ask_load_stops w k k1 i i1 path text s q (LoadFault.LineTooLong m) p t f n c sc sm never h = (c, sm (λ e. cc), line_ends w k i path text s q _ p t f n h, λ early. absurd early)
+ask_load_stops w k k1 i i1 path text s q (LoadFault.TooManyRecords m) p t f n c sc sm never h = (c, sm (λ e. cc), line_ends w k i path text s q _ p t f n h, λ early. absurd early)
 
 -- ---- the text
 

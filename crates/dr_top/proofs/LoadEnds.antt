@@ -257,3 +257,8 @@ pub finishes_later : (w : LoadWords) (s : Schema) (p : Plan) (path text : List �
     → WhereLoaded i.left (λ input. HasPut (load p input).puts k1.held k2.held) → text ≡ loaded_text records tablets → Finishes (load_meaning w) k k2 i ls text
 finishes_later w s p path text k k1 k2 i ls records tablets b e a r t h q =
     load_finishes w s p path text k k2 i ls records tablets b a r t (subst (λ (x : Option Files). WhereLoaded i.left (λ input. HasPut (load p input).puts x k2.held)) e h) q
+
+pub line_later : (w : LoadWords) (s : Schema) (p : Plan) (path : List ℕ) (k k1 k2 : LinkShown) (i i1 : SourceShown) (ls : List LinkShown) → Begun w s p path k.held → k1.held ≡ k.held → k2.faults ≡ k.faults → i1.faults ≡ i.faults
+    → WhereLoaded i.left (λ input. HasPut (load p input).puts k1.held k2.held) → StopsWith (load_meaning w) k k2 i i1 ls ls Stop.NoMemory
+line_later w s p path k k1 k2 i i1 ls b e c d h =
+    line_memory w s p path k k2 i i1 ls b c d (subst (λ (x : Option Files). WhereLoaded i.left (λ input. HasPut (load p input).puts x k2.held)) e h)

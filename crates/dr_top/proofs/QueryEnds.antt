@@ -12,10 +12,6 @@ use Rattle.dr_outside.specs.Link.{Files, LinkShown}
 use Rattle.dr_tablets.specs.Tablets.{LeavesTablets}
 use Rattle.dr_tablets.specs.Views.{all_left_view}
 use Rattle.dr_tablets.specs.declared.left.LeftTablet.{LeftTablet}
-use Rattle.dr_meaning.specs.Schema.{Schema}
-use Rattle.dr_plan.specs.Planned.{IsOfSchema}
-use Rattle.dr_plan.specs.declared.plan.Plan.{Plan}
-use Rattle.dr_query.specs.Plans.{IsPlanMeant}
 use Rattle.dr_query.specs.Answers.{IsAnswerOf}
 use Rattle.dr_query.specs.Faults.{IsRefusedAs, refusal_of}
 use Rattle.dr_query.specs.declared.fault.QueryFault.{QueryFault}
@@ -30,10 +26,6 @@ use Rattle.dr_top.proofs.OutcomeLemmas.{RefusesTable, early_stop, always_with}
 
 pub query_refuses_table : (w : QueryWords) → RefusesTable (query_meaning w)
 query_refuses_table w look e h = ap (query_table w.query) h
-
--- the plan of a query that is read is one of the schema
-pub planned_of : (s : Schema) (p : Plan) (r : Result meant.Query QueryRefusal) → IsPlanMeant s r p → IsOfSchema s p
-planned_of s p r h = (h.2.0, h.0, h.2.1, h.2.2)
 
 -- ---- the outcome
 

@@ -39,14 +39,14 @@ returns-in-Query-clause-stops g c =
 pub returns-in-Dump-clause-text : goal.returns-in-Dump-clause-text
 returns-in-Dump-clause-text g c =
     subst (λ (w : CommandWords). IfOk c.answer-in-Dump.result (λ t. Finishes (meaning_of w) (g.K.Link.shows c.args.keeper.now) (g.K.Link.shows c.answer-in-Dump.new.keeper) (g.S.Source.shows c.args.source.now) (map g.L.Link.shows c.args.links.now) (string_bytes t))) (sym (ap command_view c.in-Dump.is))
-    (first_answer (dump_meaning (dump_view c.in-Dump.dump)) (g.K.Link.shows c.args.keeper.now) (g.K.Link.shows c.answer-in-Dump.new.keeper) (g.S.Source.shows c.args.source.now) g.L.Link.shows c.args.links.now c.index-links-0.result c.answer-in-Dump.result
+    (first_answer (dump_meaning (dump_view c.in-Dump.dump)) (g.K.Link.shows c.args.keeper.now) (g.K.Link.shows c.answer-in-Dump.new.keeper) (g.S.Source.shows c.args.source.now) g.L.Link.shows c.args.links.now c.index-links-0-in-Dump.result c.answer-in-Dump.result
     (dump_puts (dump_view c.in-Dump.dump)) c.requires.link c.answer-in-Dump.ensures.kept c.answer-in-Dump.ensures.text)
 
 pub returns-in-Dump-clause-stops : goal.returns-in-Dump-clause-stops
 returns-in-Dump-clause-stops g c =
     subst (λ (w : CommandWords). IfErr c.answer-in-Dump.result (StopsWith (meaning_of w) (g.K.Link.shows c.args.keeper.now) (g.K.Link.shows c.answer-in-Dump.new.keeper) (g.S.Source.shows c.args.source.now) (g.S.Source.shows c.args.source.now) (map g.L.Link.shows c.args.links.now) (map g.L.Link.shows (slice_set c.args.links.now 0 c.answer-in-Dump.new.link))))
     (sym (ap command_view c.in-Dump.is))
-    (first_stops (dump_meaning (dump_view c.in-Dump.dump)) (g.K.Link.shows c.args.keeper.now) (g.K.Link.shows c.answer-in-Dump.new.keeper) (g.S.Source.shows c.args.source.now) g.L.Link.shows c.args.links.now c.index-links-0.result c.answer-in-Dump.new.link c.answer-in-Dump.result
+    (first_stops (dump_meaning (dump_view c.in-Dump.dump)) (g.K.Link.shows c.args.keeper.now) (g.K.Link.shows c.answer-in-Dump.new.keeper) (g.S.Source.shows c.args.source.now) g.L.Link.shows c.args.links.now c.index-links-0-in-Dump.result c.answer-in-Dump.new.link c.answer-in-Dump.result
     c.requires.link c.answer-in-Dump.ensures.stops)
 
 pub returns-in-Fsm-clause-text : goal.returns-in-Fsm-clause-text

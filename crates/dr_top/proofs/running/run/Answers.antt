@@ -7,7 +7,7 @@ use Rattle.dr_commands.specs.Commands.{meant}
 use Rattle.dr_top.specs.Ends.{Says}
 use Rattle.dr_top.specs.Answers.{StopsMeant}
 use Rattle.dr_top.specs.declared.stop.Stop.{Stop}
-use Rattle.dr_top.proofs.RunLemmas.{prints_end, out_failed, usage_end, usage_counts, memory_end, memory_counts, source_failed, source_incomplete, keeper_failed, keeper_incomplete, refused_end, refused_counts, refused_incomplete, left_end, left_counts, file_end, file_counts, file_incomplete}
+use Rattle.dr_top.proofs.RunLemmas.{prints_end, out_failed, usage_end, usage_counts, memory_end, memory_counts, source_failed, source_incomplete, keeper_failed, keeper_incomplete, refused_end, refused_counts, refused_incomplete, left_end, left_counts, left_memory, file_end, file_counts, file_incomplete}
 use Rattle.dr_top.proofs.running.run.Goals as goal
 
 pub returns-in-Ok-write_all-clause-prints : goal.returns-in-Ok-write_all-clause-prints
@@ -85,6 +85,12 @@ pub returns-in-Err-Left-clause-calm : goal.returns-in-Err-Left-clause-calm
 returns-in-Err-Left-clause-calm g c = λ _.
     let stop : c.in-Err-Left.field-0 ≡ Stop.Left c.in-Err-Left.left = cc (c.in-Err-Left.field-0-is) in
     left_counts _ _ _ _ _ _ _ _ _ _ (meant (map string_bytes c.args.words.now)) c.in-Err-Left.left (subst (λ (s : Stop). StopsMeant (meant (map string_bytes c.args.words.now)) (g.K.Link.shows c.args.keeper.now) (g.K.Link.shows c.answer.new.keeper) (g.S.Source.shows c.args.source.now) (g.S.Source.shows c.answer.new.source) (map g.L.Link.shows c.args.links.now) (map g.L.Link.shows c.answer.new.links) s) stop c.in-Err-Left.ensures.stops) refl
+
+pub returns-in-Err-Left-clause-memory : goal.returns-in-Err-Left-clause-memory
+returns-in-Err-Left-clause-memory g c = λ _.
+    let stop : c.in-Err-Left.field-0 ≡ Stop.Left c.in-Err-Left.left = cc (c.in-Err-Left.field-0-is) in
+    left_memory _ _ _ _ _ _ _ _ _ _ (meant (map string_bytes c.args.words.now)) c.in-Err-Left.left (subst (λ (s : Stop). StopsMeant (meant (map string_bytes c.args.words.now)) (g.K.Link.shows c.args.keeper.now) (g.K.Link.shows c.answer.new.keeper) (g.S.Source.shows c.args.source.now) (g.S.Source.shows c.answer.new.source) (map g.L.Link.shows c.args.links.now) (map g.L.Link.shows c.answer.new.links) s) stop c.in-Err-Left.ensures.stops) refl
+    c.say-in-Err-left_text.ensures
 
 pub returns-clause-left : goal.returns-clause-left
 returns-clause-left g c = λ _.

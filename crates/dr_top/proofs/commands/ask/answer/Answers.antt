@@ -2,7 +2,6 @@ use Rattle.std.proofs.Common.{ap, sym, string_bytes, Some}
 use Rattle.dr_nested.specs.SchemaView.{schema_view}
 use Rattle.dr_commands.specs.Ask.{ask_meaning, ask_view}
 use Rattle.dr_top.proofs.OutcomeLemmas.{err_is, schema_file_stops}
-use Rattle.dr_top.proofs.QueryEnds.{planned_of}
 use Rattle.dr_top.proofs.AskEnds.{ask_refuses_schema, ask_query_stops, ask_load_stops, ask_ends}
 use Rattle.dr_top.proofs.commands.ask.answer.Goals as goal
 
@@ -18,13 +17,6 @@ returns-in_err-plan-clause-stops g c =
     (ask_query_stops (ask_view c.args.words.now) (g.K.Link.shows c.args.keeper.now) (g.K.Link.shows c.read_schema.new.keeper) (g.S.Source.shows c.args.source.now) c.as_str.result.now c.as_str-2.result.now (schema_view c.in_ok-schema.schema) c.in_err-plan.field-0.0
     c.as_str.ensures.value c.as_str-2.ensures.value c.in_ok-schema.ensures.schema c.in_ok-schema.ensures.calm c.in_err-plan.ensures.refused)
 
-pub ask_input-requires : goal.ask_input-requires
-ask_input-requires g c = record {
-  planned = planned_of (schema_view c.in_ok-schema.schema) c.in_ok-plan.plan _ c.in_ok-plan.ensures.plan;
-  has_rows = c.args.words.now.has_rows;
-  few_rows = c.args.words.now.few_rows;
-}
-
 pub returns-in_err-text-clause-stops : goal.returns-in_err-text-clause-stops
 returns-in_err-text-clause-stops g c =
     let read = c.in_ok-plan.ensures.plan in
@@ -32,7 +24,7 @@ returns-in_err-text-clause-stops g c =
     (ask_load_stops (ask_view c.args.words.now) (g.K.Link.shows c.args.keeper.now) (g.K.Link.shows c.read_schema.new.keeper) (g.S.Source.shows c.args.source.now) (g.S.Source.shows c.ask_input.new.source) c.as_str.result.now c.as_str-2.result.now
     (schema_view c.in_ok-schema.schema) read.0 c.in_err-text.field-0.0
     c.as_str.ensures.value c.as_str-2.ensures.value c.in_ok-schema.ensures.schema read.1 c.in_ok-schema.ensures.calm
-    (λ e. c.in_err-text.ensures.source_cause (ap _ e)) (λ n. c.in_err-text.ensures.source_calm (λ e. n (cc))) (λ e. c.in_err-text.ensures.never_keeper (ap _ e)) c.in_err-text.ensures.refused)
+    (λ e. c.in_err-text.ensures.source_cause (cc)) (λ n. c.in_err-text.ensures.source_calm (λ e. n (cc))) (λ e. c.in_err-text.ensures.never_keeper (cc)) c.in_err-text.ensures.refused)
 
 pub returns-clause-text : goal.returns-clause-text
 returns-clause-text g c =

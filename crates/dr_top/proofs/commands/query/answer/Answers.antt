@@ -1,13 +1,12 @@
 use Rattle.std.proofs.Common.{subst, string_bytes}
 use Rattle.dr_meaning.specs.QueryLeaves.{query_leaves}
-use Rattle.dr_nested.specs.SchemaView.{schema_view}
 use Rattle.dr_table.specs.Views.{table_view}
 use Rattle.dr_tablets.specs.Tablets.{LeavesTablets}
 use Rattle.dr_commands.specs.Query.{query_meaning, query_view}
 use Rattle.dr_query.specs.Answers.{IsAnswerOf, WhereText, WhereLeft}
 use Rattle.dr_top.specs.Stops.{query_stop}
 use Rattle.dr_top.proofs.OutcomeLemmas.{err_is, plain_stop}
-use Rattle.dr_top.proofs.QueryEnds.{planned_of, query_read_stops, query_text_ends, query_left}
+use Rattle.dr_top.proofs.QueryEnds.{query_read_stops, query_text_ends, query_left}
 use Rattle.dr_top.proofs.commands.query.answer.Goals as goal
 
 pub returns-in_err-plan-clause-stops : goal.returns-in_err-plan-clause-stops
@@ -16,9 +15,6 @@ returns-in_err-plan-clause-stops g c = λ input links.
     (plain_stop (query_meaning (query_view c.args.words.now)) (g.K.Link.shows c.args.keeper.now) (g.K.Link.shows c.read_table_file.new.keeper) input input _ (query_stop c.in_err-plan.field-0.0) c.in_ok-table.ensures.kept
     (query_read_stops (query_view c.args.words.now) (g.K.Link.shows c.args.keeper.now) (g.K.Link.shows c.read_table_file.new.keeper) input c.as_str.result.now c.as_str-2.result.now (table_view c.in_ok-table.table) c.in_err-plan.field-0.0
     c.as_str.ensures.value c.as_str-2.ensures.value c.in_ok-table.ensures.table c.in_ok-table.ensures.calm c.in_err-plan.ensures.refused))
-
-pub query_table-requires : goal.query_table-requires
-query_table-requires g c = record { planned = planned_of (schema_view c.in_ok-table.table.schema) c.in_ok-plan.plan _ c.in_ok-plan.ensures.plan; }
 
 pub returns-in-Text-clause-text : goal.returns-in-Text-clause-text
 returns-in-Text-clause-text g c = λ input links.
