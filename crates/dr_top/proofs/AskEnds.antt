@@ -23,7 +23,6 @@ use Rattle.dr_commands.specs.Ask.{AskWords, ask_meaning}
 use Rattle.dr_top.specs.World.{WhereTold, HasOutcome}
 use Rattle.dr_top.specs.Stops.{StopsPlain, IsFileSchema, query_stop, load_stop}
 use Rattle.dr_top.specs.declared.refusal.Refusal.{Refusal}
-use Rattle.dr_top.specs.declared.stop.Stop.{Stop}
 use Rattle.dr_top.proofs.OutcomeLemmas.{RefusesSchema, early_stop}
 
 pub ask_refuses_schema : (w : AskWords) → RefusesSchema (ask_meaning w)

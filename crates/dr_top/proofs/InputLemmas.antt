@@ -3,7 +3,6 @@ use Rattle.std.specs.Prelude.{◌≡◌, ℕ, suc, ◌+◌, ◌<◌, ◌≤◌, 
 use Rattle.std.proofs.Common.{arith, refl, sym, ap, ◌∙◌, add-one, subst}
 use Rattle.std.proofs.lemmas.Bool.Decides.{nat_tests}
 use Rattle.dr_meaning.specs.Schema.{Fields}
-use Rattle.dr_meaning.specs.Path.{Step}
 use Rattle.dr_meaning.specs.Record.{Node}
 use Rattle.dr_meaning.specs.JsonRecord.{RecordFault, record_of_line}
 use Rattle.dr_meaning.specs.Lines.{lines_of, longest_line, Refusal, LineFault, line_too_long, too_many_records, no_record, line_record, record_at, before_records, or_refusal, records_from, records_of}
