@@ -1,22 +1,18 @@
 #!/usr/bin/env bash
-# Measures queries over a table of N generated records (1,000,000 where no N is given, about 146 MB of JSON), loaded into one folder: a line for each query, and
-# for `ask` with two of them over the same records: processor seconds, wall seconds, and the most memory in MB. Then the first queries over a tenth of the records, by
-# which time and memory grow.
+# Measures four queries over N generated records (150,000 where no N is given, about 22 MB of JSON), loaded into one tablet and into ten, and asked of the records
+# themselves: a line for each: processor seconds, wall seconds, and the most memory in MB. Then one of them over a tenth of the records, by which time and memory grow.
 # usage: bench/query.sh [N] [PROGRAM]
 set -euo pipefail
-count=${1:-1000000}
+count=${1:-150000}
 top=$(cd "$(dirname "${BASH_SOURCE[0]}")/.." && pwd)
 program=${2:-$top/crates/dremel/out/dremel}
 work=$(mktemp -d)
 trap 'rm -rf "$work"' EXIT
 python3 "$top/bench/generate.py" "$count" >"$work/records.jsonl"
 python3 "$top/bench/generate.py" "$((count / 10))" >"$work/tenth.jsonl"
-mkdir "$work"/leaf{0,1}
+mkdir "$work"/leaf{0,1,2}
 schema=$top/examples/document.txt
-five="SELECT COUNT(*) AS r, COUNT(Name.Language.Code) AS c, COUNT(Name.Url) AS u, SUM(Links.Forward) AS f, MAX(DocId) AS m FROM Document"
-one="SELECT COUNT(DocId) AS n FROM Document"
-groups="SELECT Name.Language.Country, COUNT(*) AS n, SUM(DocId) AS s FROM Document GROUP BY Name.Language.Country"
-nested="SELECT DocId, COUNT(Name.Language.Code) WITHIN Name AS codes FROM Document WHERE Name.Url LIKE 'http://u/1%'"
+echo "$(nproc) processors, load $(cut -d ' ' -f 1 /proc/loadavg)"
 
 # measured NAME INPUT WORDS..
 measured() {
@@ -31,13 +27,20 @@ print(f"{name:44} status {status}  processor {used.ru_utime + used.ru_stime:7.2f
 PY
 }
 
-"$program" load --schema "$schema" --table "$work/t.table" "$work/leaf0" <"$work/records.jsonl"
-"$program" load --schema "$schema" --table "$work/tenth.table" "$work/leaf1" <"$work/tenth.jsonl"
-measured "query, COUNT of one leaf" /dev/null query --table "$work/t.table" "$one"
-measured "query, five aggregates of four leaves" /dev/null query --table "$work/t.table" "$five"
-measured "query, groups of a nested leaf" /dev/null query --table "$work/t.table" "$groups"
-measured "query, objects of a tenth of the names" /dev/null query --table "$work/t.table" "$nested"
-measured "ask, COUNT of one leaf" "$work/records.jsonl" ask --schema "$schema" "$one"
-measured "ask, five aggregates of four leaves" "$work/records.jsonl" ask --schema "$schema" "$five"
-measured "a tenth: COUNT of one leaf" /dev/null query --table "$work/tenth.table" "$one"
-measured "a tenth: five aggregates of four leaves" /dev/null query --table "$work/tenth.table" "$five"
+measured "load, one tablet" "$work/records.jsonl" load --schema "$schema" --table "$work/one.table" --rows "$count" "$work/leaf0"
+"$program" load --schema "$schema" --table "$work/ten.table" --rows "$((count / 10))" "$work/leaf1" <"$work/records.jsonl"
+"$program" load --schema "$schema" --table "$work/tenth.table" "$work/leaf2" <"$work/tenth.jsonl"
+
+# asked NAME QUERY: the query over one tablet, over ten, and over the records themselves
+asked() {
+  measured "$1, one tablet" /dev/null query --table "$work/one.table" "$2"
+  measured "$1, ten tablets" /dev/null query --table "$work/ten.table" "$2"
+  measured "$1, asked" "$work/records.jsonl" ask --schema "$schema" "$2"
+}
+
+five="SELECT COUNT(*) AS r, COUNT(Name.Language.Code) AS c, COUNT(Name.Url) AS u, SUM(Links.Forward) AS f, MAX(DocId) AS m FROM Document"
+asked "five aggregates" "$five"
+asked "groups" "SELECT Name.Language.Country, COUNT(*) AS n, SUM(DocId) AS s FROM Document GROUP BY Name.Language.Country"
+asked "objects" "SELECT DocId, COUNT(Name.Language.Code) WITHIN Name AS codes FROM Document WHERE Name.Url LIKE 'http://u/1%'"
+asked "selective count" "SELECT COUNT(*) AS n FROM Document WHERE DocId < 100"
+measured "five aggregates, a tenth of the records" /dev/null query --table "$work/tenth.table" "$five"
