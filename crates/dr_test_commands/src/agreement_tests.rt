@@ -21,7 +21,7 @@ fn push_numbers(alloc: Global, text: &mut String, state: &mut u64) -> Result<(),
         if place > 0 {
             text.push_str(",")?;
         }
-        let number = draw(state, 10) as i64 - 4;
+        let number = i64::try_from(draw(state, 10)).unwrap_or(0).wrapping_sub(4);
         text.push_str(format!(in alloc; "{}", number)?.as_str())?;
     }
     text.push_str("]")?;
