@@ -1,11 +1,15 @@
 -- What has to hold of a link and of a table, so that what is read of the table is its records.
-use Rattle.std.specs.Prelude.{◌≡◌, ℕ, suc, List, [], ◌∷◌, map, Option, ⊤, ◌≢◌}
+use Rattle.std.specs.Prelude.{◌≡◌, ℕ, suc, true, List, [], ◌∷◌, map, Option, Some, ⊤, ◌≢◌, ◌⊎◌}
+use Rattle.std.specs.List.{slice_get}
 use Rattle.dr_meaning.specs.Schema.{Schema}
 use Rattle.dr_meaning.specs.Path.{Leaf}
 use Rattle.dr_meaning.specs.Record.{Node, project}
 use Rattle.dr_outside.specs.Link.{Files}
 use Rattle.dr_serving.specs.Premises.{TellsFiles, PathsHold, paths_of_leaves}
+use Rattle.dr_serving.specs.ServingLaws.{is_read}
 use Rattle.dr_reading.specs.Scan.{Copy, Scan}
+use Rattle.dr_reading.specs.Given.{IsFileThere, SomeIsFile}
+use Rattle.dr_reading.specs.Left.{Tried, LeftTablet}
 
 abbrev pub copy_paths : List Copy → List (List ℕ)
 copy_paths cs = map (λ (c : Copy). c.path) cs
@@ -23,3 +27,22 @@ HoldsTable s held Rs = (files : Files) × TellsFiles files held × TabletsHold s
 -- what is printed depends on the projections to the leaves alone
 abbrev pub SeesLeavesAlone : Scan → Type 0
 SeesLeavesAlone s = (R S : List Node) → map (project (paths_of_leaves s.leaves)) R ≡ map (project (paths_of_leaves s.leaves)) S → s.text R ≡ s.text S
+
+-- ---- where a file is held of each tablet
+
+-- each tablet has a copy that is a file of some records
+abbrev pub EachHasFile : Schema → List Leaf → Files → List (List Copy) → Type 0
+EachHasFile s F files [] = ⊤
+EachHasFile s F files (cs ∷ ts) = ((R : List Node) × SomeIsFile s F files cs R) × EachHasFile s F files ts
+
+-- one of these copies is a file, and what was told of it is a failed read
+abbrev pub SomeFileFailed : Schema → List Leaf → Files → List Copy → List Tried → Type 0
+SomeFileFailed s F files [] ts = ⊥
+SomeFileFailed s F files (c ∷ cs) [] = ⊥
+SomeFileFailed s F files (c ∷ cs) (t ∷ ts) = (((R : List Node) × IsFileThere s F R (files c.path)) × (is_read t.cause ≡ true)) ⊎ SomeFileFailed s F files cs ts
+
+-- that is so of each tablet that is left
+abbrev pub EachReadFailed : Schema → List Leaf → Files → List (List Copy) → List LeftTablet → Type 0
+EachReadFailed s F files ts [] = ⊤
+EachReadFailed s F files ts (l ∷ ls) =
+    ((cs : List Copy) × (slice_get ts l.tablet ≡ Some cs) × SomeFileFailed s F files cs l.tried) × EachReadFailed s F files ts ls

@@ -1,5 +1,5 @@
 -- Laws of reading.
-use Rattle.std.specs.Prelude.{◌≡◌, ℕ, true, false, List, map, Option, Some}
+use Rattle.std.specs.Prelude.{◌≡◌, ℕ, true, false, IsTrue, List, [], map, Option, Some}
 use Rattle.std.specs.List.{list_all}
 use Rattle.dr_meaning.specs.Schema.{Schema}
 use Rattle.dr_meaning.specs.Path.{Leaf, is_leaf_path}
@@ -11,8 +11,8 @@ use Rattle.dr_serving.specs.Premises.{TellsFiles, paths_of_leaves}
 use Rattle.dr_serving.specs.ServingLaws.{is_read}
 use Rattle.dr_reading.specs.Scan.{Copy, Scan, joined}
 use Rattle.dr_reading.specs.Given.{AreGiven}
-use Rattle.dr_reading.specs.Left.{IsCauseAt}
-use Rattle.dr_reading.specs.Held.{TabletsHold, HoldsTable, SeesLeavesAlone}
+use Rattle.dr_reading.specs.Left.{LeftTablet, IsCauseAt, LeavesJust}
+use Rattle.dr_reading.specs.Held.{TabletsHold, HoldsTable, SeesLeavesAlone, EachHasFile, EachReadFailed}
 
 -- the records that are given have the projections of the tablets' records
 abbrev pub GivenAreProjected : Type 0
@@ -29,3 +29,13 @@ ReadTextIsMeant = (s : Scan) (held : Option Files) (Rs Ss : List (List Node)) �
 abbrev pub LeftHoldsNoFile : Type 0
 LeftHoldsNoFile = (s : Schema) (F : List Leaf) (link : LinkShown) (files : Files) (path bytes : List ℕ) (c : Cause) (R : List Node) → link.held ≡ Some files
     → files path ≡ Some bytes → IsCauseAt s F link path c → is_read c ≡ false → IsFileOf bytes s F R → ⊥
+
+-- where each tablet has a copy that is a file of some records, each that is left has such a copy, and what is told of it is a failed read
+abbrev pub LeftFailedToRead : Type 0
+LeftFailedToRead = (s : Schema) (F : List Leaf) (link : LinkShown) (files : Files) (ts : List (List Copy)) (left : List LeftTablet) → link.held ≡ Some files
+    → EachHasFile s F files ts → LeavesJust s F link 0 ts left → EachReadFailed s F files ts left
+
+-- and none is left where the link is steady
+abbrev pub SteadyLeavesNone : Type 0
+SteadyLeavesNone = (s : Schema) (F : List Leaf) (link : LinkShown) (files : Files) (ts : List (List Copy)) (left : List LeftTablet) → link.held ≡ Some files
+    → IsTrue link.is_steady → EachHasFile s F files ts → LeavesJust s F link 0 ts left → left ≡ []

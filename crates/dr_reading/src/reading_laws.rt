@@ -1,6 +1,6 @@
 // Laws of reading a table.
 
-ghost use Rattle.dr_reading.specs.ReadingLaws.{GivenAreProjected, ReadTextIsMeant, LeftHoldsNoFile};
+ghost use Rattle.dr_reading.specs.ReadingLaws.{GivenAreProjected, ReadTextIsMeant, LeftHoldsNoFile, LeftFailedToRead, SteadyLeavesNone};
 
 /// Whatever copy of each tablet gave its records: where each copy holds a file of the tablet's records, or none of any, what is printed of
 /// the records that were given is what is to be printed of the tablets' records.
@@ -12,4 +12,10 @@ pub fn read_text_is_meant()
 /// A copy whose cause isn't a failed read holds no file of any records.
 pub fn left_holds_no_file()
     ensures { LeftHoldsNoFile }
+{}
+
+/// Where each tablet has a copy that is a file, a tablet is left only where the read of such a copy failed, and none where the link is steady.
+pub fn held_files_are_read()
+    ensures failed { LeftFailedToRead }
+    ensures steady { SteadyLeavesNone }
 {}
