@@ -1,0 +1,55 @@
+-- Partials that are gathered together.
+use Rattle.std.specs.Prelude.{◌≡◌, ℕ, ◌*◌, ◌^◌, ◌≤◌, ⊤, true, List, [], ◌∷◌, map, length}
+use Rattle.std.specs.List.{list_all}
+use Rattle.dr_meaning.specs.Schema.{Fields}
+use Rattle.dr_meaning.specs.Query.{Query}
+use Rattle.dr_partials.specs.Partials as meant
+use Rattle.dr_partials.specs.PartialTypes.{is_partial}
+use Rattle.dr_partials.specs.PartialBounds.{PartialCanBeOf}
+use Rattle.dr_plan.specs.Planned.{Planned}
+use Rattle.dr_group.specs.Partials.{partial_view, IsPartialOf}
+use Rattle.dr_group.specs.declared.partial.Partial.{Partial}
+
+abbrev pub partials_view : List Partial → List meant.Partial
+partials_view ps = map partial_view ps
+
+-- each of them is a partial of the plan
+abbrev pub AreOfPlan : Planned → List Partial → Type 0
+AreOfPlan p [] = ⊤
+AreOfPlan p (r ∷ rs) = IsPartialOf p r × AreOfPlan p rs
+
+-- each of them can be of so many values
+abbrev pub AllCanBe : ℕ → List meant.Partial → Type 0
+AllCanBe m [] = ⊤
+AllCanBe m (p ∷ ps) = PartialCanBeOf m p × AllCanBe m ps
+
+-- partials of one plan and of one query, each of which can be of so many values
+pub record AreBounded (fs : Fields) (q : Query) (most : ℕ) (ps : List meant.Partial) : Type 0 where
+  pub partials : list_all (is_partial fs q) ps ≡ true
+  pub bounded : AllCanBe most ps
+
+-- they can be merged, all together
+pub record Together (ps : List Partial) : Type 0 where
+  pub plan : Planned
+  pub of_plan : AreOfPlan plan ps
+  pub fields : Fields
+  pub query : Query
+  pub most : ℕ
+  pub bounds : AreBounded fields query most (partials_view ps)
+  pub room : length ps * most ≤ 2 ^ 60
+
+-- it is a partial of the query, and can be of so many values
+abbrev pub IsBounded : Fields → Query → ℕ → meant.Partial → Type 0
+IsBounded fs q n p = (is_partial fs q p ≡ true) × PartialCanBeOf n p
+
+-- what is gathered of partials, where these tablets have them, in order: what is meant of each tablet's; a partial of their plan, and of as many values as
+-- they together
+pub record IsGathered (tablets : List ℕ) (gathers : (ℕ → meant.Partial) → meant.Partial) (ps : List Partial) (r : Partial) : Type 0 where
+  pub gathered : (piece : ℕ → meant.Partial) → map piece tablets ≡ partials_view ps → partial_view r ≡ gathers piece
+  pub of_plan : (p : Planned) → AreOfPlan p ps → IsPartialOf p r
+  pub bounded : (fs : Fields) (q : Query) (most : ℕ) → AreBounded fs q most (partials_view ps) → IsBounded fs q (length ps * most) (partial_view r)
+
+-- two partials of one plan, merged
+pub record IsMerged (a b r : Partial) : Type 0 where
+  pub partial : partial_view r ≡ meant.merge (partial_view a) (partial_view b)
+  pub of_plan : (p : Planned) → IsPartialOf p a → IsPartialOf p r
