@@ -1,0 +1,5 @@
+-- texts one behind another, and their tokens
+pub mod Lexing
+pub mod WrittenNames
+pub mod Writable
+pub mod WrittenExpressions
