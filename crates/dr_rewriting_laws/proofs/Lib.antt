@@ -3,3 +3,4 @@ pub mod Lexing
 pub mod WrittenNames
 pub mod Writable
 pub mod WrittenExpressions
+pub mod WrittenItems
