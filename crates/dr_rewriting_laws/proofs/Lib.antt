@@ -4,3 +4,4 @@ pub mod WrittenNames
 pub mod Writable
 pub mod WrittenExpressions
 pub mod WrittenItems
+pub mod BoundItems

@@ -28,10 +28,10 @@ primary_begins _ _ (between_parentheses i j ts e s) = (_, _, refl)
 -- ---- WITHIN
 
 -- a WITHIN that is bound to this node
-abbrev WithinSaid : Fields → BoundWithin → List PlacedToken → Type 0
+abbrev pub WithinSaid : Fields → BoundWithin → List PlacedToken → Type 0
 WithinSaid fs v ts = (w : Option WithinSyntax) × SpellsWithin ts w × ((u : BoundWithin) × (bind_within fs w ≡ passes (Some u)) × (u.node ≡ v.node) × (u.is_whole ≡ v.is_whole))
 
-abbrev WithinWritten : Fields → BoundWithin → Type 0
+abbrev pub WithinWritten : Fields → BoundWithin → Type 0
 WithinWritten fs v = (rest : List ℕ) → Ends rest → Reads (WithinSaid fs v) (codes " WITHIN " ++ node_text (path_text fs) v.node) rest
 
 same_node : (u v : BoundWithin) → ◌≡◌ {A = Checked (Option BoundWithin)} (passes (Some u)) (passes (Some v)) → u ≡ v
@@ -64,7 +64,7 @@ node_written fs i ns f w h rest k =
     (read_as (Both (One (reserved within_word)) (PathOf ns)) (WithinSaid fs (node_found i f)) (codes " WITHIN " ++ path_text fs f.path) rest (node_said fs i ns f h)
     (read_both (One (reserved within_word)) (PathOf ns) (codes " WITHIN ") (path_text fs f.path) rest (read_word_between within_word (codes "WITHIN") _ refl refl) (path_written fs ns f w h rest k)))
 
-within_written : (fs : Fields) (w : WithinSyntax) → WritableNode w.node → (v : BoundWithin) → bind_within fs (Some w) ≡ passes (Some v) → WithinWritten fs v
+pub within_written : (fs : Fields) (w : WithinSyntax) → WritableNode w.node → (v : BoundWithin) → bind_within fs (Some w) ≡ passes (Some v) → WithinWritten fs v
 within_written fs w k v h = by_node w.node k h
   where
     by_found : (p : PathSyntax) (o : Option Found) → WritableNames p.names → find_path p.names fs ≡ o → found_node w.place p.place o ≡ passes (Some v) → WithinWritten fs v
