@@ -5,3 +5,4 @@ pub mod Writable
 pub mod WrittenExpressions
 pub mod WrittenItems
 pub mod BoundItems
+pub mod WrittenQueries
