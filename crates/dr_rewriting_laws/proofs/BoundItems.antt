@@ -1,11 +1,11 @@
 -- The keys and items of a bound query, each as it is written in the leaf line, are read as what is bound to them again.
-use Rattle.std.proofs.Common.{◌≡◌, ℕ, zero, suc, List, [], ◌∷◌, ◌++◌, map, length, Bool, true, false, Option, Some, None, refl, sym, ap, ap₂, ◌∙◌, subst, append_assoc, append-nil, arith, length-append}
+use Rattle.std.proofs.Common.{◌≡◌, ℕ, suc, List, [], ◌∷◌, ◌++◌, map, length, Bool, true, false, Option, Some, None, refl, sym, ap, ◌∙◌, subst, append_assoc, append-nil, arith, length-append}
 use Rattle.std.specs.Prelude.{if◌then◌else◌, codes, option_map, Ok}
 use Rattle.std.specs.List.{filter_map, flat_map, cons_option, slice_get}
 use Rattle.std.specs.Fmt.{decimal}
 use Rattle.dr_meaning.specs.Schema.{Fields}
 use Rattle.dr_meaning.specs.Path.{Step, Leaf, find_path, found_leaf}
-use Rattle.dr_meaning.specs.Expression.{Expression, path_value}
+use Rattle.dr_meaning.specs.Expression.{path_value}
 use Rattle.dr_meaning.specs.Query.{Aggregate, count, sum, least, greatest, RecordTerm, expression as record_expression, within, RecordItem, GroupTerm, key, count_rows as rows_of_group, aggregate as aggregate_of_group, GroupItem}
 use Rattle.dr_meaning.specs.Tokens.{PlacedToken}
 use Rattle.dr_meaning.specs.Syntax.{PathSyntax, WithinSyntax, TermSyntax, expression, count_rows, aggregate, ItemSyntax}
@@ -19,8 +19,8 @@ use Rattle.dr_partials.specs.Rewriting.{key_items, aggregate_items}
 use Rattle.dr_partials.specs.RewritingText.{path_text, nth_text, record_term_text, group_term_text}
 use Rattle.dr_rewriting_laws.specs.ReadBack.{LeadsTo, SaysRecordItem, GivesGroupTerm, SaysGroupItem}
 use Rattle.dr_rewriting_laws.proofs.Lexing.{Reads, read_as}
-use Rattle.dr_rewriting_laws.proofs.Writable.{WritableNames, Writable, WritableWithin, WritableTerm, WritableItem, WritableKey, Every, every_append}
-use Rattle.dr_rewriting_laws.proofs.WrittenExpressions.{Ends, BoundWritten, Begun, PathOf, leads_again, leaf_written, leaf_value_written, expression_written}
+use Rattle.dr_rewriting_laws.proofs.Writable.{WritableNames, WritableWithin, WritableTerm, WritableItem, WritableKey, Every, every_append}
+use Rattle.dr_rewriting_laws.proofs.WrittenExpressions.{Ends, BoundWritten, PathOf, leads_again, leaf_written, leaf_value_written, expression_written}
 use Rattle.dr_rewriting_laws.proofs.WrittenItems.{TermSaid, IsRecordTerm, expression_term_written, rows_written, lone_written, within_written, within_term_written, Spelled, EachWritten}
 
 -- ---- what passed
@@ -113,7 +113,7 @@ record_term_written fs i (count_rows v) b w h g r k =
     absurd (cc)
 record_term_written fs i (aggregate a e v) b w h g r k =
     let q : (y : BoundExpression) × (o : Option BoundWithin) × (then_check (argument_of a i) (bind_expression fs e) ≡ passes y) × (bind_within fs v ≡ passes o) × (aggregated a y o ≡ b) =
-        together_passes (aggregated a) (then_check (argument_of a i) (bind_expression fs e)) (bind_within fs v) b h in
+    together_passes (aggregated a) (then_check (argument_of a i) (bind_expression fs e)) (bind_within fs v) b h in
     let d : (x : BoundExpression) × (bind_expression fs e ≡ passes x) × (argument_of a i x ≡ passes q.0) = then_passes (argument_of a i) (bind_expression fs e) q.0 q.2 in
     let same : d.0 ≡ q.0 = argument_same a i d.0 q.0 d.2 in
     by_node v w.1 q.1 q.3 d.0 q.0 d.2 (expression_written fs e w.0 d.0 d.1) (ap (λ x. aggregated a x q.1) same ∙ q.4)
@@ -146,9 +146,11 @@ record_item_written fs v vs f g = by_term (record_term v.term) f
     by_term : (o : Option RecordTerm) → ((r : RecordTerm) → o ≡ Some r → RecordWritten fs r)
         → RecordItemsWritten fs (cons_option (option_map (λ (t : RecordTerm). record { name = v.name; term = t }) o) (filter_map record_item vs))
     by_term None h = g
-    by_term (Some r) h =
-        ((λ rest k. read_as (TermSaid fs (IsRecordTerm r)) (Spelled RecordItem ItemSyntax SpellsItem (SaysRecordItem fs) (record { name = v.name; term = r })) (record_term_text (path_text fs) r) rest
-        (record_said fs (record { name = v.name; term = r })) (h r refl rest k)), g)
+    by_term (Some r) h = (
+      (λ rest k. read_as (TermSaid fs (IsRecordTerm r)) (Spelled RecordItem ItemSyntax SpellsItem (SaysRecordItem fs) (record { name = v.name; term = r })) (record_term_text (path_text fs) r) rest
+          (record_said fs (record { name = v.name; term = r })) (h r refl rest k)),
+      g,
+    )
 
 pub record_items_written : (fs : Fields) (n : ℕ) (is : List ItemSyntax) → Every WritableItem is → flat_map faults_in (bind_items fs n is) ≡ [] → all_within_faults (passing (bind_items fs n is)) ≡ []
     → RecordItemsWritten fs (filter_map record_item (passing (bind_items fs n is)))
@@ -190,7 +192,7 @@ group_term_written fs keys bound i (count_rows v) b w h g k =
     by_within (Some v) z = absurd (cc)
 group_term_written fs keys bound i (aggregate a e v) b w h g k =
     let q : (y : BoundExpression) × (o : Option BoundWithin) × (then_check (argument_of a i) (bind_expression fs e) ≡ passes y) × (bind_within fs v ≡ passes o) × (aggregated a y o ≡ b) =
-        together_passes (aggregated a) (then_check (argument_of a i) (bind_expression fs e)) (bind_within fs v) b h in
+    together_passes (aggregated a) (then_check (argument_of a i) (bind_expression fs e)) (bind_within fs v) b h in
     let d : (x : BoundExpression) × (bind_expression fs e ≡ passes x) × (argument_of a i x ≡ passes q.0) = then_passes (argument_of a i) (bind_expression fs e) q.0 q.2 in
     let same : d.0 ≡ q.0 = argument_same a i d.0 q.0 d.2 in
     by_within q.1 d.0 q.0 d.2 (expression_written fs e w.0 d.0 d.1) (ap (group_term bound) (ap (λ x. aggregated a x q.1) same ∙ q.4) ∙ k)
@@ -265,9 +267,10 @@ key_items_written : (fs : Fields) (front keys : List (List Step)) → Every (Key
 key_items_written fs front [] h = tt
 key_items_written fs front (p ∷ keys) h =
     let more : (front ++ p ∷ []) ++ keys ≡ front ++ p ∷ keys = append_assoc front (p ∷ []) keys in
-    let place : length (front ++ p ∷ []) ≡ suc (length front) = omega (arith, length-append front (p ∷ [])) in
-    (group_item_written fs (front ++ p ∷ keys) (record { name = codes "k" ++ decimal (length front); term = key (length front) }) (key_term_written fs (front ++ p ∷ keys) (length front) p h.0 (there front p keys) (text_there (path_text fs) front p keys)),
-    subst (λ ks. GroupItemsWritten fs ks (key_items (suc (length front)) keys)) more (subst (λ n. GroupItemsWritten fs ((front ++ p ∷ []) ++ keys) (key_items n keys)) place (key_items_written fs (front ++ p ∷ []) keys h.1)))
+    let place : length (front ++ p ∷ []) ≡ suc (length front) = omega (arith, length-append front (p ∷ [])) in (
+      group_item_written fs (front ++ p ∷ keys) (record { name = codes "k" ++ decimal (length front); term = key (length front) }) (key_term_written fs (front ++ p ∷ keys) (length front) p h.0 (there front p keys) (text_there (path_text fs) front p keys)),
+      subst (λ ks. GroupItemsWritten fs ks (key_items (suc (length front)) keys)) more (subst (λ n. GroupItemsWritten fs ((front ++ p ∷ []) ++ keys) (key_items n keys)) place (key_items_written fs (front ++ p ∷ []) keys h.1)),
+    )
 
 -- each item of the leaf query over keys
 pub leaf_items_written : (fs : Fields) (keys : List (List Step)) (terms : List GroupTerm) → Every (KeyFound fs) keys → Every (GroupTermWritten fs keys) terms → GroupItemsWritten fs keys (key_items 0 keys ++ aggregate_items 0 terms)

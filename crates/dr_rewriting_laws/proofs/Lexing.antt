@@ -1,13 +1,13 @@
 -- Texts one behind another, and the tokens that they are read as.
-use Rattle.std.proofs.Common.{◌≡◌, ℕ, suc, ◌+◌, ◌*◌, ◌-◌, ◌/◌, ◌%◌, ◌<◌, ◌≤◌, List, [], ◌∷◌, ◌++◌, length, Bool, true, false, refl, sym, ap, ◌∙◌, subst, arith, append_assoc, append-nil, length-append}
-use Rattle.std.specs.Prelude.{◌==◌, nat_le}
+use Rattle.std.proofs.Common.{◌≡◌, ℕ, suc, ◌+◌, ◌*◌, ◌-◌, ◌%◌, ◌<◌, ◌≤◌, List, [], ◌∷◌, ◌++◌, length, true, false, refl, sym, ◌∙◌, subst, arith, append_assoc, append-nil, length-append}
+use Rattle.std.specs.Prelude.{nat_le}
 use Rattle.std.specs.List.{list_all}
 use Rattle.std.specs.Fmt.{decimal}
 use Rattle.std.proofs.lemmas.Bool.{and_from, le-leb}
 use Rattle.std.proofs.lemmas.Fmt.{decimal_by_steps}
 use Rattle.dr_meaning.specs.Schema.{is_name, continues_name}
 use Rattle.dr_meaning.specs.Tokens.{Word, QueryToken, reserved, number, PlacedToken, placed, name_token, greatest_number, is_digit, query_tokens}
-use Rattle.dr_meaning.specs.TokenLaws.{begins_so, digits_value, AreDigitsOf, IsQueryToken, AreQueryTokens}
+use Rattle.dr_meaning.specs.TokenLaws.{begins_so, digits_value, IsQueryToken, AreQueryTokens}
 use Rattle.dr_meaning.proofs.TokenLemmas.{all_push}
 use Rattle.dr_meaning.proofs.QueryTokenLemmas.{blank_before, token_before}
 use Rattle.dr_meaning.proofs.OneQueryTokenLemmas.{one_list_of_query_tokens}
@@ -31,9 +31,13 @@ pub data One (t : QueryToken) : List PlacedToken → Type 0 where
 pub read_both : (Q R : List PlacedToken → Type 0) (text more rest : List ℕ) → Reads Q text (more ++ rest) → Reads R more rest → Reads (Both Q R) (text ++ more) rest
 read_both Q R text more rest f g i =
     let a = f i in
-    let b = g a.0 in
-    (b.0, a.1 ++ b.1, (λ us h. subst (λ x. AreQueryTokens i x ((a.1 ++ b.1) ++ us)) (sym (append_assoc text more rest))
-    (subst (λ x. AreQueryTokens i (text ++ (more ++ rest)) x) (sym (append_assoc a.1 b.1 us)) (a.2 (b.1 ++ us) (b.2 us h)))), both a.1 b.1 a.3 b.3)
+    let b = g a.0 in (
+      b.0,
+      a.1 ++ b.1,
+      (λ us h. subst (λ x. AreQueryTokens i x ((a.1 ++ b.1) ++ us)) (sym (append_assoc text more rest))
+          (subst (λ x. AreQueryTokens i (text ++ (more ++ rest)) x) (sym (append_assoc a.1 b.1 us)) (a.2 (b.1 ++ us) (b.2 us h)))),
+      both a.1 b.1 a.3 b.3,
+    )
 
 pub read_as : (Q R : List PlacedToken → Type 0) (text rest : List ℕ) → ((ts : List PlacedToken) → Q ts → R ts) → Reads Q text rest → Reads R text rest
 read_as Q R text rest f g i = let a = g i in (a.0, a.1, a.2, f a.1 a.3)
@@ -86,8 +90,11 @@ a_digit d h = and_from (nat_le 48 (48 + d)) (nat_le (48 + d) 57) (le-leb 48 (48 
 decimal_is_digits : (n : ℕ) → n ≤ greatest_number → Digits n (decimal n)
 decimal_is_digits n small = decimal_by_steps Digits
     (λ m l. (omega arith, and_from (is_digit (48 + m)) true (a_digit m l) refl, omega arith))
-    (λ m ds l h. (omega (arith, length-append ds ((48 + m % 10) ∷ [])), all_push is_digit ds (48 + m % 10) h.1 (a_digit (m % 10) (omega arith)),
-    digits_push 0 ds (48 + m % 10) ∙ omega (arith, h.2)))
+    (λ m ds l h. (
+      omega (arith, length-append ds ((48 + m % 10) ∷ [])),
+      all_push is_digit ds (48 + m % 10) h.1 (a_digit (m % 10) (omega arith)),
+      digits_push 0 ds (48 + m % 10) ∙ omega (arith, h.2),
+    ))
     n (omega arith)
 
 pub read_number : (n : ℕ) (rest : List ℕ) → n ≤ greatest_number → begins_so is_digit rest ≡ false → Reads (One (number n)) (decimal n) rest

@@ -6,3 +6,5 @@ pub mod WrittenExpressions
 pub mod WrittenItems
 pub mod BoundItems
 pub mod WrittenQueries
+-- worked examples, by computation
+pub mod WorkedReadBack

@@ -1,5 +1,5 @@
 -- What the trees of parsed queries have: names of the right form, and numbers that are tokens; so they can be written and read again.
-use Rattle.std.proofs.Common.{◌≡◌, inl, inr, ℕ, ◌+◌, ◌≤◌, List, [], ◌∷◌, ◌++◌, length, true, Option, Some, None, refl, sym, subst}
+use Rattle.std.proofs.Common.{◌≡◌, inl, inr, ℕ, ◌+◌, ◌≤◌, List, [], ◌∷◌, ◌++◌, length, true, Option, Some, None, subst}
 use Rattle.std.specs.Prelude.{Ok}
 use Rattle.dr_meaning.specs.Schema.{is_name}
 use Rattle.dr_meaning.specs.Tokens.{QueryToken, reserved, identifier, number, text, sign, bad, PlacedToken, greatest_number, dot, query_tokens, or_word, and_word, plus_sign, minus_sign, star, comma, close_parenthesis, from_word}

@@ -1,20 +1,20 @@
 -- Expressions as they are written in the lines of a rewriting: each is read as a primary that is bound to it again.
 use Rattle.std.proofs.Common.{◌≡◌, ℕ, ◌≤◌, List, [], ◌∷◌, ◌++◌, map, Bool, true, false, Option, Some, None, refl, sym, ap, ap₂, ◌∙◌, subst, append_assoc}
-use Rattle.std.specs.Prelude.{◌==◌, pos, codes, Result, Ok, Err}
+use Rattle.std.specs.Prelude.{◌==◌, pos, codes, Ok}
 use Rattle.std.specs.List.{join_with_byte}
 use Rattle.dr_meaning.specs.Schema.{Fields, Shape, leaf, group, continues_name}
-use Rattle.dr_meaning.specs.Path.{Step, Leaf, Found, PathFault, find_path, found_leaf, leaf_at}
-use Rattle.dr_meaning.specs.Record.{Value, bool_value, int_value, text_value}
+use Rattle.dr_meaning.specs.Path.{Leaf, Found, find_path, found_leaf, leaf_at}
+use Rattle.dr_meaning.specs.Record.{bool_value, int_value, text_value}
 use Rattle.dr_meaning.specs.Expression.{Arithmetic, plus, minus, times, Comparison, equal, unequal, less, at_most, greater, at_least, Expression, constant, path_value, negative as negative_expression, arithmetic as arithmetic_expression, comparison as comparison_expression, like as like_expression, contains as contains_expression, is_null as is_null_expression, negation as negation_expression, conjunction as conjunction_expression, disjunction as disjunction_expression}
 use Rattle.dr_meaning.specs.Tokens.{and_word, or_word, not_word, like_word, contains_word, is_word, null_word, true_word, false_word, Sign, open_parenthesis, close_parenthesis, dot, star, plus_sign, minus_sign, equals, differs, less_than, less_or_equal, greater_than, greater_or_equal, QueryToken, reserved, number, text, sign, PlacedToken, placed, greatest_number, is_digit}
 use Rattle.dr_meaning.specs.TokenLaws.{begins_so}
 use Rattle.dr_meaning.specs.Syntax.{PathSyntax, ExpressionSyntax, number_literal, text_literal as text_syntax, truth_literal, path, negative, arithmetic, comparison, like, contains, is_null, negation, conjunction, disjunction}
-use Rattle.dr_meaning.specs.QueryGrammar.{SpellsNames, first_name, further_name, SpellsPath, IsComparison, is_equal, is_unequal, is_less, is_at_most, is_greater, is_at_least, SpellsExpression, one_and, or_and, SpellsAnd, one_not, and_not, SpellsNot, not_not, one_test, SpellsTest, one_sum, compared_sums, like_text, contains_text, is_null_word, SpellsSum, one_product, plus_product, minus_product, SpellsProduct, one_unary, times_unary, SpellsUnary, minus_unary, one_primary, SpellsPrimary, a_number, a_text, a_true, a_false, a_path, in_parentheses as between_parentheses, sign_at, name_at}
+use Rattle.dr_meaning.specs.QueryGrammar.{SpellsNames, first_name, further_name, SpellsPath, IsComparison, is_equal, is_unequal, is_less, is_at_most, is_greater, is_at_least, SpellsExpression, one_and, or_and, SpellsAnd, one_not, and_not, SpellsNot, not_not, one_test, SpellsTest, one_sum, compared_sums, like_text, contains_text, is_null_word, SpellsSum, one_product, plus_product, minus_product, SpellsProduct, one_unary, times_unary, minus_unary, one_primary, SpellsPrimary, a_number, a_text, a_true, a_false, a_path, in_parentheses as between_parentheses, sign_at, name_at}
 use Rattle.dr_meaning.specs.BoundExpression.{Checked, passes, fails, checked_map, ValueType, truth_type, number_type, text_type, kind_type, type_from, null_test_type, logic_type, comparison_type, arithmetic_type, BoundPath, BoundExpression, at_place, bind_path, path_expression, operator, one_operand, two_operands, bind_expression}
-use Rattle.dr_partials.specs.RewritingText.{name_text, path_names, path_text, in_parentheses, text_literal, literal_text, sign_of, comparison_sign, expression_text}
+use Rattle.dr_partials.specs.RewritingText.{name_text, path_text, in_parentheses, text_literal, sign_of, comparison_sign, expression_text}
 use Rattle.dr_meaning.proofs.BindingLemmas.{FoundAt, path_passes}
 use Rattle.dr_rewriting_laws.proofs.Lexing.{Reads, Both, both, One, one, read_both, read_as, read_token, read_after_blank, read_before_blank, read_word, read_word_before_blank, read_word_between, read_number}
-use Rattle.dr_rewriting_laws.proofs.WrittenNames.{AreNames, read_text, read_names, path_has_names}
+use Rattle.dr_rewriting_laws.proofs.WrittenNames.{read_text, read_names, path_has_names}
 use Rattle.dr_rewriting_laws.proofs.Writable.{WritableNames, Writable}
 
 -- a rest that goes on with no word, number or text that stands before it

@@ -1,21 +1,21 @@
 -- Items of SELECT as they are written in the leaf line, and what they are read as.
-use Rattle.std.proofs.Common.{◌≡◌, ℕ, suc, List, [], ◌∷◌, ◌++◌, map, Bool, true, false, ◌&&◌, Option, Some, None, refl, sym, ap, ap₂, ◌∙◌, subst, append_assoc, append-nil}
+use Rattle.std.proofs.Common.{◌≡◌, ℕ, List, [], ◌∷◌, ◌++◌, map, Bool, true, false, ◌&&◌, Option, Some, None, refl, sym, ap, ap₂, ◌∙◌, subst, append_assoc}
 use Rattle.std.specs.Prelude.{if◌then◌else◌, codes}
 use Rattle.dr_meaning.specs.Schema.{Fields, group}
-use Rattle.dr_meaning.specs.Path.{Step, Leaf, Found, find_path, found_leaf, begins_with}
-use Rattle.dr_meaning.specs.Expression.{Expression, path_value, expression_level}
-use Rattle.dr_meaning.specs.Query.{Aggregate, count, sum, least, greatest, RecordTerm, expression as record_expression, within, GroupTerm, key, count_rows as counted_group, aggregate as aggregate_group}
-use Rattle.dr_meaning.specs.Tokens.{Word, count_word, sum_word, min_word, max_word, within_word, record_word, comma, open_parenthesis, close_parenthesis, star, QueryToken, reserved, sign, PlacedToken, placed}
-use Rattle.dr_meaning.specs.Syntax.{PathSyntax, ExpressionSyntax, NodeSyntax, whole_record, node, WithinSyntax, TermSyntax, expression, count_rows, aggregate, ItemSyntax}
-use Rattle.dr_meaning.specs.QueryGrammar.{sign_at, word_at, SpellsPath, SpellsExpression, SpellsPrimary, a_number, a_text, a_true, a_false, a_path, in_parentheses as between_parentheses, SpellsWithin, no_within, within_the_record, within_a_path, IsAggregate, is_count, is_sum, is_least, is_greatest, SpellsTerm, counted_rows, aggregated as aggregate_spelled, an_expression, SpellsItem, no_as, Separated, alone, and_one}
-use Rattle.dr_meaning.specs.BoundExpression.{BindFault, fault_at, bad_within, type_mismatch, Checked, passes, fails, checked_map, then_check, together, ValueType, number_type, kind_type, same_type, BoundPath, BoundExpression, bind_expression, of_type}
+use Rattle.dr_meaning.specs.Path.{Step, Found, find_path, begins_with}
+use Rattle.dr_meaning.specs.Expression.{Expression, expression_level}
+use Rattle.dr_meaning.specs.Query.{Aggregate, count, sum, least, greatest, RecordTerm, within}
+use Rattle.dr_meaning.specs.Tokens.{Word, count_word, sum_word, min_word, max_word, within_word, record_word, comma, open_parenthesis, close_parenthesis, star, reserved, sign, PlacedToken}
+use Rattle.dr_meaning.specs.Syntax.{PathSyntax, ExpressionSyntax, NodeSyntax, whole_record, node, WithinSyntax, TermSyntax, expression, count_rows, aggregate}
+use Rattle.dr_meaning.specs.QueryGrammar.{sign_at, word_at, SpellsPrimary, a_number, a_text, a_true, a_false, a_path, in_parentheses as between_parentheses, SpellsWithin, no_within, within_the_record, within_a_path, IsAggregate, is_count, is_sum, is_least, is_greatest, SpellsTerm, counted_rows, aggregated as aggregate_spelled, an_expression, Separated, alone, and_one}
+use Rattle.dr_meaning.specs.BoundExpression.{fault_at, bad_within, type_mismatch, Checked, passes, fails, checked_map, then_check, together, ValueType, number_type, same_type, BoundPath, BoundExpression, of_type}
 use Rattle.dr_meaning.specs.Binding.{BoundWithin, is_repeated_group, found_node, bind_node, bind_within, BoundTerm, plain, rows_counted, aggregated, argument_of, bind_term, holds_rows, within_faults, record_term}
-use Rattle.dr_partials.specs.RewritingText.{path_names, path_text, in_parentheses, aggregate_word, aggregate_text, node_text, record_term_text, group_term_text, commas}
-use Rattle.dr_rewriting_laws.specs.ReadBack.{GivesGroupTerm, OneByOne}
+use Rattle.dr_partials.specs.RewritingText.{path_names, path_text, in_parentheses, aggregate_word, aggregate_text, node_text, record_term_text, commas}
+use Rattle.dr_rewriting_laws.specs.ReadBack.{OneByOne}
 use Rattle.dr_rewriting_laws.proofs.Lexing.{Reads, Both, both, One, one, read_both, read_as, read_token, read_before_blank, read_word, read_word_between}
 use Rattle.dr_rewriting_laws.proofs.WrittenNames.{path_has_names}
-use Rattle.dr_rewriting_laws.proofs.Writable.{WritableNames, Writable, WritableNode, WritableWithin, WritableTerm, Every}
-use Rattle.dr_rewriting_laws.proofs.WrittenExpressions.{Ends, Gives, Said, text_in, Written, BoundWritten, expression_of, Begun, names_begin, PathOf, path_written, expression_written}
+use Rattle.dr_rewriting_laws.proofs.Writable.{WritableNames, WritableNode, Every}
+use Rattle.dr_rewriting_laws.proofs.WrittenExpressions.{Ends, Said, text_in, Written, BoundWritten, expression_of, Begun, names_begin, PathOf, path_written}
 
 pub primary_begins : (ts : List PlacedToken) (x : ExpressionSyntax) → SpellsPrimary ts x → Begun ts
 primary_begins _ _ (a_number i n) = (_, _, refl)
@@ -121,9 +121,12 @@ IsRecordTerm r c = (within_faults c ≡ []) × (record_term c ≡ Some r)
 -- an expression
 expression_said : (fs : Fields) (P : BoundTerm → Type 0) (e : Expression) (t : ValueType) → ((ps : List BoundPath) → P (plain (record { expression = e; gives = t; paths = ps })))
     → (ts : List PlacedToken) → Said fs e t ts → TermSaid fs P ts
-expression_said fs P e t p ts s =
-    (expression s.0, an_expression ts s.0 (expression_of ts s.0 s.1), primary_begins ts s.0 s.1,
-    λ j. (plain (record { expression = e; gives = t; paths = s.2.0 }), ap (checked_map plain) s.2.1, p s.2.0))
+expression_said fs P e t p ts s = (
+  expression s.0,
+  an_expression ts s.0 (expression_of ts s.0 s.1),
+  primary_begins ts s.0 s.1,
+  λ j. (plain (record { expression = e; gives = t; paths = s.2.0 }), ap (checked_map plain) s.2.1, p s.2.0),
+)
 
 pub expression_term_written : (fs : Fields) (P : BoundTerm → Type 0) (e : Expression) (t : ValueType) → ((ps : List BoundPath) → P (plain (record { expression = e; gives = t; paths = ps }))) → Written fs e t
     → (rest : List ℕ) → Ends rest → Reads (TermSaid fs P) (text_in fs e) rest
@@ -162,11 +165,16 @@ argument_again greatest i j x y z h e = refl
 -- an aggregate without WITHIN
 lone_said : (fs : Fields) (a : Aggregate) (i : ℕ) (e y : BoundExpression) (P : BoundTerm → Type 0) → argument_of a i e ≡ passes y → ((ps : List BoundPath) → P (aggregated a (record e { paths = ps }) None))
     → (ts : List PlacedToken) → AggregateSaid fs a e ts → TermSaid fs P ts
-lone_said fs a i e y P h p _ (both _ _ (one k) (both _ _ (one l) (both ts _ s (one m)))) =
-    (aggregate a s.0 None, aggregate_spelled k l m (aggregate_token a) a ts [] s.0 None (is_aggregate_token a) (expression_of ts s.0 s.1) no_within, (_, _, refl),
-    λ j. (aggregated a (record e { paths = s.2.0 }) None,
+lone_said fs a i e y P h p _ (both _ _ (one k) (both _ _ (one l) (both ts _ s (one m)))) = (
+  aggregate a s.0 None,
+  aggregate_spelled k l m (aggregate_token a) a ts [] s.0 None (is_aggregate_token a) (expression_of ts s.0 s.1) no_within,
+  (_, _, refl),
+  λ j. (
+    aggregated a (record e { paths = s.2.0 }) None,
     ap (λ c. together (aggregated a) (then_check (argument_of a j) c) (passes None)) s.2.1 ∙ ap (λ c. together (aggregated a) c (passes None)) (argument_again a i j e y (record e { paths = s.2.0 }) h refl),
-    p s.2.0))
+    p s.2.0,
+  ),
+)
 
 pub lone_written : (fs : Fields) (a : Aggregate) (i : ℕ) (e y : BoundExpression) (P : BoundTerm → Type 0) → argument_of a i e ≡ passes y → ((ps : List BoundPath) → P (aggregated a (record e { paths = ps }) None)) → BoundWritten fs e
     → (rest : List ℕ) → Ends rest → Reads (TermSaid fs P) (aggregate_text (path_text fs) a e.expression) rest
@@ -184,14 +192,17 @@ within_said : (fs : Fields) (a : Aggregate) (i : ℕ) (e y : BoundExpression) (v
     → (ts : List PlacedToken) → Both (AggregateSaid fs a e) (WithinSaid fs v) ts → TermSaid fs (IsRecordTerm (within a e.expression v.node)) ts
 within_said fs a i e y v h z _ (both _ us (both _ _ (one k) (both _ _ (one l) (both ts _ s (one m)))) w) =
     let u = w.2.0 in
-    let d : BoundExpression = record e { paths = s.2.0 } in
-    (aggregate a s.0 w.0,
-    subst (λ x. SpellsTerm (word_at k (aggregate_token a) ∷ sign_at l open_parenthesis ∷ x) (aggregate a s.0 w.0)) (sym (append_assoc ts (sign_at m close_parenthesis ∷ []) us))
-    (aggregate_spelled k l m (aggregate_token a) a ts us s.0 w.0 (is_aggregate_token a) (expression_of ts s.0 s.1) w.1),
-    (_, _, refl),
-    λ j. (aggregated a d (Some u),
-    ap₂ (λ c o. together (aggregated a) (then_check (argument_of a j) c) o) s.2.1 w.2.1 ∙ ap (λ c. together (aggregated a) c (passes (Some u))) (argument_again a i j e y d h refl),
-    (held_again e d u v a z refl w.2.2 w.2.3, ap (λ n. Some (within a e.expression n)) w.2.2)))
+    let d : BoundExpression = record e { paths = s.2.0 } in (
+      aggregate a s.0 w.0,
+      subst (λ x. SpellsTerm (word_at k (aggregate_token a) ∷ sign_at l open_parenthesis ∷ x) (aggregate a s.0 w.0)) (sym (append_assoc ts (sign_at m close_parenthesis ∷ []) us))
+          (aggregate_spelled k l m (aggregate_token a) a ts us s.0 w.0 (is_aggregate_token a) (expression_of ts s.0 s.1) w.1),
+      (_, _, refl),
+      λ j. (
+        aggregated a d (Some u),
+        ap₂ (λ c o. together (aggregated a) (then_check (argument_of a j) c) o) s.2.1 w.2.1 ∙ ap (λ c. together (aggregated a) c (passes (Some u))) (argument_again a i j e y d h refl),
+        (held_again e d u v a z refl w.2.2 w.2.3, ap (λ n. Some (within a e.expression n)) w.2.2),
+      ),
+    )
 
 pub within_term_written : (fs : Fields) (a : Aggregate) (i : ℕ) (e y : BoundExpression) (v : BoundWithin) → argument_of a i e ≡ passes y → within_faults (aggregated a e (Some v)) ≡ [] → BoundWritten fs e → WithinWritten fs v
     → (rest : List ℕ) → Ends rest → Reads (TermSaid fs (IsRecordTerm (within a e.expression v.node))) (record_term_text (path_text fs) (within a e.expression v.node)) rest

@@ -1,15 +1,15 @@
 -- Names, texts and paths as they are written in the lines of a rewriting, and what they are read as.
-use Rattle.std.proofs.Common.{◌≡◌, inl, inr, ℕ, zero, suc, ◌+◌, List, [], ◌∷◌, ◌++◌, map, Bool, true, false, Option, Some, None, refl, sym, ap, ◌∙◌, subst, true≢false, arith}
+use Rattle.std.proofs.Common.{◌≡◌, inl, inr, ℕ, suc, ◌+◌, List, [], ◌∷◌, ◌++◌, map, Bool, true, false, Option, Some, None, refl, sym, ap, ◌∙◌, arith}
 use Rattle.std.specs.Prelude.{◌==◌, if◌then◌else◌, bytes_eq, codes, option_map, option_and_then}
 use Rattle.std.specs.List.{flat_map, join_with_byte}
 use Rattle.std.specs.Str.{str_to_ascii_uppercase}
 use Rattle.std.proofs.lemmas.Slice.Eq.{bytes_eq-Decides}
-use Rattle.dr_meaning.specs.Schema.{Repetition, Fields, no_fields, field, Shape, group, fields_of, is_name, continues_name}
-use Rattle.dr_meaning.specs.Path.{Step, Found, named_field, found_below, resolve}
+use Rattle.dr_meaning.specs.Schema.{Repetition, Fields, no_fields, field, Shape, fields_of, is_name, continues_name}
+use Rattle.dr_meaning.specs.Path.{Found, named_field, found_below, resolve}
 use Rattle.dr_meaning.specs.Tokens.{Word, select_word, from_word, where_word, group_word, by_word, as_word, within_word, record_word, and_word, or_word, not_word, like_word, contains_word, is_word, null_word, true_word, false_word, count_word, sum_word, min_word, max_word, dot, QueryToken, reserved, identifier, text, sign, PlacedToken, word_or, word_of, name_token}
 use Rattle.dr_meaning.specs.TokenLaws.{begins_so, doubled}
 use Rattle.dr_meaning.specs.QueryGrammar.{sign_at, name_at, SpellsNames, first_name, further_name}
-use Rattle.dr_partials.specs.RewritingText.{in_quotes, unless_reserved, name_text, NamedShape, field_at, before_names, path_names, text_literal}
+use Rattle.dr_partials.specs.RewritingText.{in_quotes, unless_reserved, name_text, field_at, before_names, path_names, text_literal}
 use Rattle.dr_rewriting_laws.proofs.Lexing.{Reads, Both, both, One, one, read_both, read_as, read_token}
 
 -- ---- names

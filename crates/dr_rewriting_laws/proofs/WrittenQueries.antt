@@ -1,18 +1,17 @@
 -- The bare leaf line of a bound query is read as a tree that says the leaf query.
-use Rattle.std.proofs.Common.{◌≡◌, inl, inr, ℕ, List, [], ◌∷◌, ◌++◌, map, length, Bool, true, false, Option, Some, None, refl, sym, ap, ap₂, ◌∙◌, subst, append_assoc, append-nil}
-use Rattle.std.specs.Prelude.{if◌then◌else◌, codes, option_map, bytes_eq, Ok}
+use Rattle.std.proofs.Common.{◌≡◌, ℕ, List, [], ◌∷◌, ◌++◌, map, Bool, true, false, Option, Some, None, refl, sym, ap, ◌∙◌, subst, append-nil}
+use Rattle.std.specs.Prelude.{if◌then◌else◌, codes, option_map, bytes_eq}
 use Rattle.std.specs.List.{filter_map, flat_map, cons_option}
 use Rattle.std.proofs.lemmas.Slice.Eq.{bytes_eq-Decides}
 use Rattle.dr_meaning.specs.Schema.{Schema, Fields, is_name}
 use Rattle.dr_meaning.specs.Path.{Step}
 use Rattle.dr_meaning.specs.Expression.{Expression, path_value}
-use Rattle.dr_meaning.specs.Query.{RecordItem, GroupTerm, key, count_rows, aggregate, GroupItem, Selection, objects, groups, Query}
-use Rattle.dr_meaning.specs.Tokens.{select_word, from_word, where_word, group_word, by_word, QueryToken, reserved, identifier, PlacedToken, query_tokens}
+use Rattle.dr_meaning.specs.Query.{RecordItem, GroupTerm, key, GroupItem, Selection, objects, groups, Query}
+use Rattle.dr_meaning.specs.Tokens.{select_word, from_word, where_word, group_word, by_word, reserved, identifier, PlacedToken, query_tokens}
 use Rattle.dr_meaning.specs.Syntax.{NameSyntax, PathSyntax, ItemSyntax, ConditionSyntax, QuerySyntax}
-use Rattle.dr_meaning.specs.QueryGrammar.{word_at, name_at, SpellsPath, SpellsItem, Separated, SpellsWhere, no_where, where_expression, SpellsGroup, no_group, group_by, no_semicolon, SpellsQuery, a_query}
-use Rattle.dr_meaning.specs.Parse.{parse_query}
+use Rattle.dr_meaning.specs.QueryGrammar.{word_at, name_at, SpellsPath, SpellsItem, SpellsWhere, no_where, where_expression, SpellsGroup, no_group, group_by, no_semicolon, SpellsQuery, a_query}
 use Rattle.dr_meaning.specs.BoundExpression.{unknown_table, type_mismatch, BindFault, fault_at, Checked, passes, fails, checked_map, then_check, ValueType, truth_type, same_type, BoundPath, BoundExpression, bind_path, bind_expression, of_type}
-use Rattle.dr_meaning.specs.Binding.{bind_condition, BoundTerm, plain, rows_counted, aggregated, BoundItem, key_of, group_term, bind_items, is_record_syntax, bind_parts, faults_in, passing, within_faults, grouping_faults, record_item, group_item, table_faults, condition_of, query_of, bind}
+use Rattle.dr_meaning.specs.Binding.{bind_condition, BoundTerm, plain, rows_counted, aggregated, BoundItem, key_of, group_term, bind_items, is_record_syntax, bind_parts, faults_in, passing, within_faults, grouping_faults, record_item, group_item, table_faults, condition_of, query_of}
 use Rattle.dr_meaning.specs.BindingLaws.{faults_of, selection_names, names_from}
 use Rattle.dr_meaning.proofs.SyntaxSpelled.{spelled_is_accepted}
 use Rattle.dr_meaning.proofs.BindingFaultLemmas.{bound_is}
@@ -23,10 +22,10 @@ use Rattle.dr_partials.specs.RewritingText.{name_text, path_text, in_quotes, rec
 use Rattle.dr_rewriting_laws.specs.ReadBack.{LeafPiece, leaf_pieces, key_paths, line_text, bare_leaf_text, LeafLineHasNames, SaysCondition, LeadsTo, SaysRecordItem, SaysGroupItem, OneByOne, SaysSelection, SaysQuery, IsReadAs, LeafLineIsReadBack}
 use Rattle.dr_rewriting_laws.proofs.Lexing.{Reads, Both, both, One, one, read_both, read_as, read_whole, read_after_blank, read_word, read_word_before_blank, read_word_between}
 use Rattle.dr_rewriting_laws.proofs.WrittenNames.{read_name}
-use Rattle.dr_rewriting_laws.proofs.Writable.{Writable, WritableItem, WritableCondition, Every, Some_of, WritableQuery, parsed_writable}
-use Rattle.dr_rewriting_laws.proofs.WrittenExpressions.{Ends, Said, Written, BoundWritten, expression_of, expression_written}
+use Rattle.dr_rewriting_laws.proofs.Writable.{WritableCondition, Every, Some_of, WritableQuery, parsed_writable}
+use Rattle.dr_rewriting_laws.proofs.WrittenExpressions.{Ends, Said, BoundWritten, expression_of, expression_written}
 use Rattle.dr_rewriting_laws.proofs.WrittenItems.{primary_begins, AllSpelled, EachWritten, commas_written}
-use Rattle.dr_rewriting_laws.proofs.BoundItems.{of_type_same, then_passes, KeyFound, key_paths_of, keys_found, keys_written, record_items_written, aggregates_written, GroupTermWritten, GroupItemsWritten, leaf_items_written}
+use Rattle.dr_rewriting_laws.proofs.BoundItems.{of_type_same, then_passes, KeyFound, keys_found, keys_written, record_items_written, aggregates_written, GroupItemsWritten, leaf_items_written}
 
 -- ---- the condition
 
@@ -43,10 +42,16 @@ no_where_written fs rest k i = (i, [], (λ us h. h), (None, no_where, (None, ref
 where_said : (fs : Fields) (e : BoundExpression) → same_type e.gives truth_type ≡ true → (ts : List PlacedToken) → Both (One (reserved where_word)) (Said fs e.expression e.gives) ts → WhereSaid fs (Some e.expression) ts
 where_said fs e h _ (both _ ts (one i) s) =
     let b = primary_begins ts s.0 s.1 in
-    let d : BoundExpression = record e { paths = s.2.0 } in
-    (Some (record { place = b.0.place; expression = s.0 }), where_expression i b.0.place ts s.0 (b.0, b.1, b.2, refl) (expression_of ts s.0 s.1),
-    (Some d, ap (λ c. checked_map (λ (x : BoundExpression). Some x) (then_check (of_type truth_type b.0.place) c)) s.2.1
-    ∙ ap (λ t. checked_map (λ (x : BoundExpression). Some x) (if t then passes d else fails (record { place = b.0.place; problem = type_mismatch }) [])) h, refl))
+    let d : BoundExpression = record e { paths = s.2.0 } in (
+      Some (record { place = b.0.place; expression = s.0 }),
+      where_expression i b.0.place ts s.0 (b.0, b.1, b.2, refl) (expression_of ts s.0 s.1),
+      (
+        Some d,
+        ap (λ c. checked_map (λ (x : BoundExpression). Some x) (then_check (of_type truth_type b.0.place) c)) s.2.1
+            ∙ ap (λ t. checked_map (λ (x : BoundExpression). Some x) (if t then passes d else fails (record { place = b.0.place; problem = type_mismatch }) [])) h,
+        refl,
+      ),
+    )
 
 where_written : (fs : Fields) (e : BoundExpression) → same_type e.gives truth_type ≡ true → BoundWritten fs e → WhereWritten fs (Some e.expression)
 where_written fs e h f rest k =
@@ -120,10 +125,15 @@ Tail fs c keys = Both (WhereSaid fs c) (GroupSaid fs keys)
 query_said : (A : Type 0) (Says : A → ItemSyntax → Type 0) (fs : Fields) (items : List A) (name : List ℕ) (c : Option Expression) (keys : List (List Step)) (ts : List PlacedToken)
     → Both (One (reserved select_word)) (Both (AllSpelled A ItemSyntax SpellsItem Says items) (Both (One (reserved from_word)) (Both (One (identifier name)) (Tail fs c keys)))) ts
     → QuerySaid A Says fs items name c keys ts
-query_said A Says fs items name c keys _ (both _ _ (one h) (both ts _ s (both _ _ (one i) (both _ _ (one j) (both us vs w g))))) =
-    (record { items = s.0; table = record { place = j; name = name }; condition = w.0; keys = g.0 },
-    subst (λ x. SpellsQuery (word_at h select_word ∷ (ts ++ word_at i from_word ∷ name_at j name ∷ (us ++ x))) (record { items = s.0; table = record { place = j; name = name }; condition = w.0; keys = g.0 })) (append-nil vs)
-    (a_query h i j name ts us vs [] s.0 w.0 g.0 s.1 w.1 g.1 no_semicolon), refl, w.2, s.2, g.2)
+query_said A Says fs items name c keys _ (both _ _ (one h) (both ts _ s (both _ _ (one i) (both _ _ (one j) (both us vs w g))))) = (
+  record { items = s.0; table = record { place = j; name = name }; condition = w.0; keys = g.0 },
+  subst (λ x. SpellsQuery (word_at h select_word ∷ (ts ++ word_at i from_word ∷ name_at j name ∷ (us ++ x))) (record { items = s.0; table = record { place = j; name = name }; condition = w.0; keys = g.0 })) (append-nil vs)
+      (a_query h i j name ts us vs [] s.0 w.0 g.0 s.1 w.1 g.1 no_semicolon),
+  refl,
+  w.2,
+  s.2,
+  g.2,
+)
 
 tail_written : (fs : Fields) (c : Option Expression) (keys : List (List Step)) → WhereWritten fs c → Every (KeyFound fs) keys
     → Reads (Tail fs c keys) (where_text (path_text fs) c ++ group_by_text (map (path_text fs) keys)) []
