@@ -28,15 +28,15 @@ use Rattle.dr_rewriting_laws.proofs.WrittenItems.{TermSaid, IsRecordTerm, expres
 same_inside : {A : Type 0} (a b : A) → passes a ≡ passes b → a ≡ b
 same_inside a b h = cc
 
-passed_without_fault : {A : Type 0} (c : Checked A) → faults_in c ≡ [] → (a : A) × (c ≡ passes a)
+pub passed_without_fault : {A : Type 0} (c : Checked A) → faults_in c ≡ [] → (a : A) × (c ≡ passes a)
 passed_without_fault (passes a) h = (a, refl)
 passed_without_fault (fails e es) h = absurd (cc)
 
-mapped_passes : {A B : Type 0} (f : A → B) (c : Checked A) (b : B) → checked_map f c ≡ passes b → (a : A) × (c ≡ passes a) × (f a ≡ b)
+pub mapped_passes : {A B : Type 0} (f : A → B) (c : Checked A) (b : B) → checked_map f c ≡ passes b → (a : A) × (c ≡ passes a) × (f a ≡ b)
 mapped_passes f (passes a) b h = (a, refl, same_inside (f a) b h)
 mapped_passes f (fails e es) b h = absurd (cc)
 
-together_passes : {A B C : Type 0} (f : A → B → C) (c : Checked A) (d : Checked B) (r : C) → together f c d ≡ passes r → (a : A) × (b : B) × (c ≡ passes a) × (d ≡ passes b) × (f a b ≡ r)
+pub together_passes : {A B C : Type 0} (f : A → B → C) (c : Checked A) (d : Checked B) (r : C) → together f c d ≡ passes r → (a : A) × (b : B) × (c ≡ passes a) × (d ≡ passes b) × (f a b ≡ r)
 together_passes f (passes a) (passes b) r h = (a, b, refl, refl, same_inside (f a b) r h)
 together_passes f (passes a) (fails e es) r h = absurd (cc)
 together_passes f (fails e es) (passes b) r h = absurd (cc)
@@ -53,7 +53,7 @@ of_type_same t i a b h = by_test (same_type a.gives t) h
     by_test true e = cc
     by_test false e = absurd (cc)
 
-argument_same : (a : Aggregate) (i : ℕ) (x y : BoundExpression) → argument_of a i x ≡ passes y → x ≡ y
+pub argument_same : (a : Aggregate) (i : ℕ) (x y : BoundExpression) → argument_of a i x ≡ passes y → x ≡ y
 argument_same count i x y h = cc
 argument_same sum i x y h = of_type_same number_type i x y h
 argument_same least i x y h = cc
@@ -126,7 +126,7 @@ record_term_written fs i (aggregate a e v) b w h g r k =
         subst (RecordWritten fs) (same_term (within a x.expression u.node) r (ap record_term z ∙ k)) (within_term_written fs a i x y u p (ap within_faults z ∙ g) s (within_written fs v n u f))
 
 -- an item that passes, and its term
-item_passes : (fs : Fields) (n : ℕ) (i : ItemSyntax) → faults_in (bind_item fs n i) ≡ [] → (t : BoundTerm) × (bind_term fs i.place i.term ≡ passes t)
+pub item_passes : (fs : Fields) (n : ℕ) (i : ItemSyntax) → faults_in (bind_item fs n i) ≡ [] → (t : BoundTerm) × (bind_term fs i.place i.term ≡ passes t)
     × (bind_item fs n i ≡ passes (record { place = i.place; name = item_name n i.term i.name; term = t }))
 item_passes fs n i h =
     let q = passed_without_fault (bind_item fs n i) h in

@@ -6,5 +6,7 @@ pub mod WrittenExpressions
 pub mod WrittenItems
 pub mod BoundItems
 pub mod WrittenQueries
+pub mod Relations
+pub mod WholeBinding
 -- worked examples, by computation
 pub mod WorkedReadBack

@@ -331,10 +331,10 @@ leaf_value_written fs ns l w h rest k = read_as (PathOf ns) (Said fs (path_value
 
 -- ---- each expression
 
-abbrev OnePasses : (ValueType → Option ValueType) → (Expression → Expression) → Checked BoundExpression → BoundExpression → Type 0
+abbrev pub OnePasses : (ValueType → Option ValueType) → (Expression → Expression) → Checked BoundExpression → BoundExpression → Type 0
 OnePasses type make c b = (a : BoundExpression) × (t : ValueType) × (c ≡ passes a) × (type a.gives ≡ Some t) × (record { expression = make a.expression; gives = t; paths = a.paths } ≡ b)
 
-abbrev TwoPass : (ValueType → ValueType → Option ValueType) → (Expression → Expression → Expression) → Checked BoundExpression → Checked BoundExpression → BoundExpression → Type 0
+abbrev pub TwoPass : (ValueType → ValueType → Option ValueType) → (Expression → Expression → Expression) → Checked BoundExpression → Checked BoundExpression → BoundExpression → Type 0
 TwoPass type make c d b = (a : BoundExpression) × (e : BoundExpression) × (t : ValueType) × (c ≡ passes a) × (d ≡ passes e) × (type a.gives e.gives ≡ Some t)
     × (record { expression = make a.expression e.expression; gives = t; paths = a.paths ++ e.paths } ≡ b)
 
@@ -342,17 +342,17 @@ operator_passes : (i : ℕ) (o : Option ValueType) (e : Expression) (ps : List B
 operator_passes i None e ps b h = absurd (cc)
 operator_passes i (Some t) e ps b h = (t, refl, same_inside (record { expression = e; gives = t; paths = ps }) b h)
 
-one_passes : (i : ℕ) (type : ValueType → Option ValueType) (make : Expression → Expression) (c : Checked BoundExpression) (b : BoundExpression) → one_operand i type make c ≡ passes b → OnePasses type make c b
+pub one_passes : (i : ℕ) (type : ValueType → Option ValueType) (make : Expression → Expression) (c : Checked BoundExpression) (b : BoundExpression) → one_operand i type make c ≡ passes b → OnePasses type make c b
 one_passes i type make (passes a) b h = let q = operator_passes i (type a.gives) (make a.expression) a.paths b h in (a, q.0, refl, q.1, q.2)
 one_passes i type make (fails e es) b h = absurd (cc)
 
-two_pass : (i : ℕ) (type : ValueType → ValueType → Option ValueType) (make : Expression → Expression → Expression) (c d : Checked BoundExpression) (b : BoundExpression) → two_operands i type make c d ≡ passes b → TwoPass type make c d b
+pub two_pass : (i : ℕ) (type : ValueType → ValueType → Option ValueType) (make : Expression → Expression → Expression) (c d : Checked BoundExpression) (b : BoundExpression) → two_operands i type make c d ≡ passes b → TwoPass type make c d b
 two_pass i type make (passes a) (passes e) b h = let q = operator_passes i (type a.gives e.gives) (make a.expression e.expression) (a.paths ++ e.paths) b h in (a, e, q.0, refl, refl, q.1, q.2)
 two_pass i type make (passes a) (fails e es) b h = absurd (cc)
 two_pass i type make (fails e es) (passes a) b h = absurd (cc)
 two_pass i type make (fails e es) (fails f fs) b h = absurd (cc)
 
-path_passed : (fs : Fields) (p : PathSyntax) (b : BoundExpression) → checked_map path_expression (bind_path fs p) ≡ passes b → (x : BoundPath) × FoundAt fs p.names x × (path_expression x ≡ b)
+pub path_passed : (fs : Fields) (p : PathSyntax) (b : BoundExpression) → checked_map path_expression (bind_path fs p) ≡ passes b → (x : BoundPath) × FoundAt fs p.names x × (path_expression x ≡ b)
 path_passed fs p b h = by_path (bind_path fs p) refl h
   where
     by_path : (c : Checked BoundPath) → bind_path fs p ≡ c → checked_map path_expression c ≡ passes b → (x : BoundPath) × FoundAt fs p.names x × (path_expression x ≡ b)

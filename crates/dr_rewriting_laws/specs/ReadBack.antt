@@ -10,7 +10,7 @@ use Rattle.dr_meaning.specs.Syntax.{PathSyntax, ExpressionSyntax, ItemSyntax, Co
 use Rattle.dr_meaning.specs.QueryGrammar.{SpellsQuery}
 use Rattle.dr_meaning.specs.Parse.{QueryFault, parse_query}
 use Rattle.dr_meaning.specs.SyntaxLaws.{IsLimit}
-use Rattle.dr_meaning.specs.BoundExpression.{passes, BoundPath, BoundExpression, bind_path, bind_expression}
+use Rattle.dr_meaning.specs.BoundExpression.{duplicate_name, BindFault, passes, BoundPath, BoundExpression, bind_path, bind_expression}
 use Rattle.dr_meaning.specs.Binding.{BoundTerm, plain, bind_condition, bind_term, within_faults, group_term, record_term, bind}
 use Rattle.dr_partials.specs.Rewriting.{leaf_query}
 use Rattle.dr_partials.specs.RewritingText.{in_quotes, name_text, path_text, record_term_text, group_term_text, named, where_text, select_text, leaf_text}
@@ -92,3 +92,11 @@ IsReadAs bytes x = (parse_query bytes ≡ Ok x) ⊎ ((f : QueryFault) × (parse_
 abbrev pub LeafLineIsReadBack : Type 0
 LeafLineIsReadBack = (s : Schema) (bytes : List ℕ) (x : QuerySyntax) (q : Query) → parse_query bytes ≡ Ok x → bind s x ≡ Ok q
     → (y : QuerySyntax) × SpellsQuery (query_tokens (bare_leaf_text s q)) y × IsReadAs (bare_leaf_text s q) y × SaysQuery s (leaf_query q) y
+
+-- the schema refuses the tree for two items of one name, or not at all
+abbrev pub BindsButForNames : Schema → QuerySyntax → Type 0
+BindsButForNames s x = (f : BindFault) → bind s x ≡ Err f → f.problem ≡ duplicate_name
+
+-- a tree that says the leaf query of a bound query binds, unless two of its items have one name, now that they lack their AS parts
+abbrev pub LeafTreeBinds : Type 0
+LeafTreeBinds = (s : Schema) (x y : QuerySyntax) (q : Query) → bind s x ≡ Ok q → SaysQuery s (leaf_query q) y → BindsButForNames s y
