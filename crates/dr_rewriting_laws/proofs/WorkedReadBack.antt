@@ -1,5 +1,5 @@
 -- Bare leaf lines of queries, and that parse_query reads them back, by computation.
-use Rattle.std.specs.Prelude.{◌≡◌, ℕ, List, [], ◌∷◌, pos, Option, Some, None, codes, refl, Ok, Err, Result}
+use Rattle.std.specs.Prelude.{◌≡◌, ℕ, ◌^◌, List, [], ◌∷◌, Bool, true, false, pos, Option, Some, None, codes, refl, Ok, Err, Result}
 use Rattle.std.specs.Fmt.{digits}
 use Rattle.std.specs.Str.{is_utf8, chars}
 use Rattle.dr_meaning.specs.Schema.{no_fields, field, leaf, group, Schema, required, repeated, optional, int64_kind, text_kind}
@@ -7,9 +7,9 @@ use Rattle.dr_meaning.specs.Path.{Step}
 use Rattle.dr_meaning.specs.Record.{int_value}
 use Rattle.dr_meaning.specs.Expression.{constant, path_value, arithmetic, plus, like, contains}
 use Rattle.dr_meaning.specs.Query.{count, sum, greatest as greatest_value, expression, within, GroupItem, GroupTerm, key, count_rows, aggregate, RecordItem, RecordTerm, Query, objects, groups}
-use Rattle.dr_meaning.specs.Syntax.{QuerySyntax}
+use Rattle.dr_meaning.specs.Syntax.{number_literal, expression as expression_syntax, QuerySyntax}
 use Rattle.dr_meaning.specs.Parse.{parse_query, QueryFault, items, whole_expression, argument, keys}
-use Rattle.dr_meaning.specs.BoundExpression.{BindFault}
+use Rattle.dr_meaning.specs.BoundExpression.{BindProblem, duplicate_name, BindFault}
 use Rattle.dr_meaning.specs.Binding.{bind}
 use Rattle.dr_meaning.proofs.WorkedSchemas.{document_schema}
 use Rattle.dr_meaning.proofs.WorkedPaths.{doc_id, forward, name, code, country, url}
@@ -27,6 +27,23 @@ query_in s bytes = of_tree (parse_query bytes)
     of_tree : Result QuerySyntax QueryFault → Option Query
     of_tree (Ok x) = of_bound (bind s x)
     of_tree (Err f) = None
+
+abbrev is_read : Result QuerySyntax QueryFault → Bool
+is_read (Ok x) = true
+is_read (Err f) = false
+
+abbrev is_bound : Result Query BindFault → Bool
+is_bound (Ok q) = true
+is_bound (Err f) = false
+
+-- the problem for which the schema refuses a tree
+abbrev fault_in : Schema → Result QuerySyntax QueryFault → Option BindProblem
+fault_in s (Ok x) = of_bound (bind s x)
+  where
+    of_bound : Result Query BindFault → Option BindProblem
+    of_bound (Ok q) = None
+    of_bound (Err f) = Some f.problem
+fault_in s (Err f) = None
 
 -- its bare leaf line
 abbrev line_of : Schema → Option Query → Option (List ℕ)
@@ -120,8 +137,35 @@ pub line_of_nested_line : line_in document_schema nested_line ≡ Some nested_li
 unfolding bare_leaf_text leaf_query parse_query bind is_utf8 chars digits items whole_expression argument keys
 line_of_nested_line = refl
 
--- ---- two items of one name: the line still spells the query, though without other names it isn't bound
+-- ---- two items of one name
 
 pub line_of_twice : line_in document_schema (codes "SELECT DocId, DocId AS again FROM Document") ≡ Some (codes "SELECT DocId, DocId FROM Document")
 unfolding bare_leaf_text leaf_query parse_query bind is_utf8 chars digits items whole_expression argument keys
 line_of_twice = refl
+
+-- and over two of one name the line is read, but not bound
+pub twice_reads : is_read (parse_query (codes "SELECT DocId, DocId FROM Document")) ≡ true
+unfolding parse_query is_utf8 chars digits items whole_expression argument keys
+twice_reads = refl
+
+pub twice_has_one_name : fault_in document_schema (parse_query (codes "SELECT DocId, DocId FROM Document")) ≡ Some duplicate_name
+unfolding parse_query bind is_utf8 chars digits items whole_expression argument keys
+twice_has_one_name = refl
+
+-- ---- a tree with a number past 9223372036854775807 comes of no text: it is bound, but its line isn't read
+
+abbrev past_all_numbers : QuerySyntax
+past_all_numbers = record {
+  items = record { place = 7; term = expression_syntax (number_literal (2 ^ 63)); name = None } ∷ [];
+  table = record { place = 32; name = codes "Document" };
+  condition = None;
+  keys = [];
+}
+
+pub past_is_bound : is_bound (bind document_schema past_all_numbers) ≡ true
+unfolding bind is_utf8 chars digits
+past_is_bound = refl
+
+pub past_is_not_read : is_read (parse_query (codes "SELECT 9223372036854775808 FROM Document")) ≡ false
+unfolding parse_query is_utf8 chars digits items whole_expression argument keys
+past_is_not_read = refl
