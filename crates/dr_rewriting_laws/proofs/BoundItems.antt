@@ -20,13 +20,10 @@ use Rattle.dr_partials.specs.RewritingText.{path_text, nth_text, record_term_tex
 use Rattle.dr_rewriting_laws.specs.ReadBack.{LeadsTo, SaysRecordItem, GivesGroupTerm, SaysGroupItem}
 use Rattle.dr_rewriting_laws.proofs.Lexing.{Reads, read_as}
 use Rattle.dr_rewriting_laws.proofs.Writable.{WritableNames, WritableWithin, WritableTerm, WritableItem, WritableKey, Every, every_append}
-use Rattle.dr_rewriting_laws.proofs.WrittenExpressions.{Ends, BoundWritten, PathOf, leads_again, leaf_written, leaf_value_written, expression_written}
+use Rattle.dr_rewriting_laws.proofs.WrittenExpressions.{same_inside, Ends, BoundWritten, PathOf, leads_again, leaf_written, leaf_value_written, expression_written}
 use Rattle.dr_rewriting_laws.proofs.WrittenItems.{TermSaid, IsRecordTerm, expression_term_written, rows_written, lone_written, within_written, within_term_written, Spelled, EachWritten}
 
 -- ---- what passed
-
-same_inside : {A : Type 0} (a b : A) → passes a ≡ passes b → a ≡ b
-same_inside a b h = cc
 
 pub passed_without_fault : {A : Type 0} (c : Checked A) → faults_in c ≡ [] → (a : A) × (c ≡ passes a)
 passed_without_fault (passes a) h = (a, refl)
@@ -99,7 +96,7 @@ record_said fs i ts s =
 abbrev RecordWritten : Fields → RecordTerm → Type 0
 RecordWritten fs r = (rest : List ℕ) → Ends rest → Reads (TermSaid fs (IsRecordTerm r)) (record_term_text (path_text fs) r) rest
 
-same_term : {A : Type 0} (a b : A) → ◌≡◌ {A = Option A} (Some a) (Some b) → a ≡ b
+pub same_term : {A : Type 0} (a b : A) → ◌≡◌ {A = Option A} (Some a) (Some b) → a ≡ b
 same_term a b h = cc
 
 record_term_written : (fs : Fields) (i : ℕ) (t : TermSyntax) (b : BoundTerm) → WritableTerm t → bind_term fs i t ≡ passes b → within_faults b ≡ [] → (r : RecordTerm) → record_term b ≡ Some r → RecordWritten fs r

@@ -1,5 +1,5 @@
 -- The paths of bound parts, whatever their places: that each two of them are related is told by the paths alone.
-use Rattle.std.proofs.Common.{◌≡◌, ℕ, List, [], ◌∷◌, ◌++◌, map, Bool, true, false, ◌&&◌, Option, Some, None, refl, sym, ap, ap₂, ◌∙◌, subst}
+use Rattle.std.proofs.Common.{◌≡◌, ℕ, List, [], ◌∷◌, ◌++◌, map, Bool, true, false, ◌&&◌, Option, refl, ap, ap₂, ◌∙◌, subst}
 use Rattle.std.specs.Prelude.{if◌then◌else◌}
 use Rattle.std.specs.List.{list_all}
 use Rattle.std.proofs.lemmas.Bool.{and_parts}
@@ -8,9 +8,9 @@ use Rattle.dr_meaning.specs.Schema.{Fields}
 use Rattle.dr_meaning.specs.Path.{Step}
 use Rattle.dr_meaning.specs.Expression.{Expression, paths_of, negative as negative_expression, arithmetic as arithmetic_expression, comparison as comparison_expression, like as like_expression, contains as contains_expression, is_null as is_null_expression, negation as negation_expression, conjunction as conjunction_expression, disjunction as disjunction_expression}
 use Rattle.dr_meaning.specs.Syntax.{ExpressionSyntax, number_literal, text_literal, truth_literal, path, negative, arithmetic, comparison, like, contains, is_null, negation, conjunction, disjunction, TermSyntax, expression, count_rows, aggregate}
-use Rattle.dr_meaning.specs.BoundExpression.{unrelated, fault_at, Checked, passes, then_check, ValueType, truth_type, number_type, text_type, type_from, null_test_type, logic_type, comparison_type, arithmetic_type, BoundPath, BoundExpression, bind_path, path_expression, one_operand, two_operands, bind_expression, are_related, unrelated_after, unrelated_among}
+use Rattle.dr_meaning.specs.BoundExpression.{unrelated, fault_at, Checked, passes, then_check, ValueType, truth_type, number_type, text_type, type_from, null_test_type, logic_type, comparison_type, arithmetic_type, BoundPath, BoundExpression, one_operand, two_operands, bind_expression, are_related, unrelated_after, unrelated_among}
 use Rattle.dr_meaning.specs.Binding.{bind_within, BoundTerm, plain, rows_counted, aggregated, argument_of, bind_term}
-use Rattle.dr_rewriting_laws.proofs.WrittenExpressions.{OnePasses, one_passes, TwoPass, two_pass, path_passed}
+use Rattle.dr_rewriting_laws.proofs.WrittenExpressions.{same_inside, OnePasses, one_passes, TwoPass, two_pass, path_passed}
 use Rattle.dr_rewriting_laws.proofs.BoundItems.{mapped_passes, together_passes, then_passes, argument_same}
 
 abbrev pub paths : List BoundPath → List (List Step)
@@ -54,9 +54,6 @@ Fits b = paths b.paths ≡ paths_of b.expression
 
 abbrev PassedFits : Checked BoundExpression → Type 0
 PassedFits c = (b : BoundExpression) → c ≡ passes b → Fits b
-
-same_inside : {A : Type 0} (a b : A) → passes a ≡ passes b → a ≡ b
-same_inside a b h = cc
 
 literal_fits : (a : BoundExpression) → Fits a → PassedFits (passes a)
 literal_fits a f b h = subst Fits (same_inside a b h) f

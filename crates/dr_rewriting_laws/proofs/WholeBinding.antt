@@ -1,25 +1,27 @@
 -- A tree that says the leaf query of a bound query has no fault but items of one name.
-use Rattle.std.proofs.Common.{◌≡◌, ℕ, zero, suc, List, [], ◌∷◌, ◌++◌, map, Bool, true, false, ◌&&◌, Option, Some, None, refl, sym, ap, ap₂, ◌∙◌, subst, append-nil, true≢false}
-use Rattle.std.specs.Prelude.{◌==◌, if◌then◌else◌, option_map, is_some, bytes_eq, Ok, Err}
+use Rattle.std.proofs.Common.{◌≡◌, ℕ, zero, suc, List, [], ◌∷◌, ◌++◌, map, Bool, true, false, Option, Some, None, refl, sym, ap, ap₂, ◌∙◌, subst, true≢false}
+use Rattle.std.specs.Prelude.{◌==◌, if◌then◌else◌, option_map, is_some}
 use Rattle.std.specs.List.{list_all, list_any, filter_map, flat_map, cons_option, slice_get}
 use Rattle.std.proofs.lemmas.Bool.{and_from, eq-eqb}
 use Rattle.std.proofs.lemmas.List.{map-append}
 use Rattle.std.proofs.lemmas.Slice.Eq.{bytes_eq-Decides}
 use Rattle.dr_meaning.specs.Schema.{Schema, Fields}
 use Rattle.dr_meaning.specs.Path.{Step, begins_with, same_path}
-use Rattle.dr_meaning.specs.Expression.{Expression, path_value, paths_of}
-use Rattle.dr_meaning.specs.Query.{Aggregate, RecordTerm, expression as record_expression, within, RecordItem, GroupTerm, key, count_rows as rows_of_group, aggregate as aggregate_of_group, GroupItem, Selection, objects, groups, Query, Levels, levels_of}
+use Rattle.dr_meaning.specs.Expression.{Expression, paths_of}
+use Rattle.dr_meaning.specs.Query.{RecordTerm, expression as record_expression, within, RecordItem, GroupTerm, key, count_rows as rows_of_group, aggregate as aggregate_of_group, GroupItem, Query, Levels, levels_of}
 use Rattle.dr_meaning.specs.Syntax.{PathSyntax, TermSyntax, expression, count_rows, aggregate, ItemSyntax, ConditionSyntax, QuerySyntax}
-use Rattle.dr_meaning.specs.BoundExpression.{duplicate_name, bad_within, not_grouped, BindFault, fault_at, unknown_table, Checked, passes, fails, checked_map, then_check, together, truth_type, BoundPath, BoundExpression, bind_path, bind_expression, of_type, unrelated_among}
-use Rattle.dr_meaning.specs.Binding.{bind_condition, BoundWithin, bind_within, BoundTerm, plain, rows_counted, aggregated, argument_of, bind_term, item_name, BoundItem, bind_item, bind_items, is_of_record, has_keys, is_record_syntax, bind_parts, faults_in, if_passed, passing, where_passed, all_passed, paths_of_condition, unrelated_in_term, within_faults, place_among, key_of, group_term, grouping_faults, clashes_with, duplicate_faults, table_faults, part_faults, unrelated_faults, item_faults, record_term, record_item, group_item, condition_of, query_of, bind}
+use Rattle.dr_meaning.specs.BoundExpression.{duplicate_name, not_grouped, BindFault, fault_at, unknown_table, Checked, passes, fails, checked_map, then_check, together, truth_type, BoundPath, BoundExpression, bind_path, bind_expression, of_type, unrelated_among}
+use Rattle.dr_meaning.specs.Binding.{bind_condition, bind_within, BoundTerm, plain, rows_counted, aggregated, argument_of, bind_term, item_name, BoundItem, bind_item, bind_items, is_of_record, has_keys, is_record_syntax, bind_parts, faults_in, if_passed, passing, where_passed, all_passed, paths_of_condition, unrelated_in_term, within_faults, place_among, key_of, group_term, grouping_faults, clashes_with, duplicate_faults, table_faults, part_faults, unrelated_faults, item_faults, record_term, record_item, group_item, condition_of, query_of}
 use Rattle.dr_meaning.specs.BindingLaws.{faults_of}
 use Rattle.dr_meaning.proofs.BindingFaultLemmas.{bound_is, first_fault_is_told}
 use Rattle.dr_meaning.proofs.BoundPartsLemmas.{both_empty, no_part_faults, no_faults_in}
-use Rattle.dr_partials.specs.PartialTypes.{with_aggregate, aggregates_among}
+use Rattle.dr_partials.specs.PartialTypes.{aggregates_among}
 use Rattle.dr_partials.specs.Rewriting.{key_items, aggregate_items, leaf_selection, leaf_query}
 use Rattle.dr_rewriting_laws.specs.ReadBack.{SaysCondition, LeadsTo, SaysRecordItem, GivesGroupTerm, SaysGroupItem, OneByOne, SaysSelection, SaysQuery, BindsButForNames, LeafTreeBinds}
 use Rattle.dr_rewriting_laws.proofs.Writable.{Every, every_append}
-use Rattle.dr_rewriting_laws.proofs.BoundItems.{passed_without_fault, mapped_passes, together_passes, then_passes, of_type_same, item_passes}
+use Rattle.dr_rewriting_laws.proofs.WrittenExpressions.{same_inside}
+use Rattle.dr_rewriting_laws.proofs.WrittenQueries.{no_key, selection_of_kind}
+use Rattle.dr_rewriting_laws.proofs.BoundItems.{same_term, passed_without_fault, mapped_passes, together_passes, then_passes, of_type_same, item_passes}
 use Rattle.dr_rewriting_laws.proofs.Relations.{paths, Related, related_from, from_related, expression_fits, TermFits, term_fits}
 
 -- ---- lists without faults
@@ -43,12 +45,6 @@ every_get {A} P (b ∷ list) zero a h e = subst P (same b e) h.0
     same : (b : A) → ◌≡◌ {A = Option A} (Some b) (Some a) → b ≡ a
     same b k = cc
 every_get P (b ∷ list) (suc i) a h e = every_get P list i a h.1 e
-
-same_term : {A : Type 0} (a b : A) → ◌≡◌ {A = Option A} (Some a) (Some b) → a ≡ b
-same_term a b h = cc
-
-same_inside : {A : Type 0} (a b : A) → passes a ≡ passes b → a ≡ b
-same_inside a b h = cc
 
 -- ---- the condition
 
@@ -99,13 +95,15 @@ keys_bind fs (p ∷ keys) [] h = absurd h
 keys_bind fs (p ∷ keys) (k ∷ ks) h =
     let b = h.0.0 in
     let more = keys_bind fs keys ks h.1 in
-    let r = more.1 in
-    (b ∷ more.0, record {
-      no_faults = ap (λ (c : Checked BoundPath). faults_in c ++ flat_map faults_in (map (bind_path fs) ks)) h.0.1 ∙ r.no_faults;
-      passed = ap₂ (λ (c : Checked BoundPath) (cs : Checked (List BoundPath)). together (λ a rest. a ∷ rest) c cs) h.0.1 r.passed;
-      passing_all = ap (λ (c : Checked BoundPath). cons_option (if_passed c) (passing (map (bind_path fs) ks))) h.0.1 ∙ ap (λ bs. b ∷ bs) r.passing_all;
-      same_paths = ap₂ (λ q qs. q ∷ qs) h.0.2 r.same_paths;
-    })
+    let r = more.1 in (
+      b ∷ more.0,
+      record {
+        no_faults = ap (λ (c : Checked BoundPath). faults_in c ++ flat_map faults_in (map (bind_path fs) ks)) h.0.1 ∙ r.no_faults;
+        passed = ap₂ (λ (c : Checked BoundPath) (cs : Checked (List BoundPath)). together (λ a rest. a ∷ rest) c cs) h.0.1 r.passed;
+        passing_all = ap (λ (c : Checked BoundPath). cons_option (if_passed c) (passing (map (bind_path fs) ks))) h.0.1 ∙ ap (λ bs. b ∷ bs) r.passing_all;
+        same_paths = ap₂ (λ q qs. q ∷ qs) h.0.2 r.same_paths;
+      },
+    )
 
 -- keys without faults all pass
 all_pass : {A : Type 0} (cs : List (Checked A)) → flat_map faults_in cs ≡ [] → all_passed cs ≡ passes (passing cs)
@@ -126,9 +124,10 @@ items_bind fs P n (i ∷ is) h =
     let g = h.0 in
     let r = items_bind fs P (suc n) is h.1 in
     let e : bind_item fs n i ≡ passes (record { place = i.place; name = item_name n i.term i.name; term = g.0 }) =
-        ap (λ (c : Checked BoundTerm). checked_map (λ t. record { place = i.place; name = item_name n i.term i.name; term = t }) c) g.1 in
-    (ap (λ (c : Checked BoundItem). faults_in c ++ flat_map faults_in (bind_items fs (suc n) is)) e ∙ r.0,
-    subst (λ (c : Checked BoundItem). Every (λ (v : BoundItem). P v.term) (cons_option (if_passed c) (passing (bind_items fs (suc n) is)))) (sym e) (g.2, r.1))
+    ap (λ (c : Checked BoundTerm). checked_map (λ t. record { place = i.place; name = item_name n i.term i.name; term = t }) c) g.1 in (
+      ap (λ (c : Checked BoundItem). faults_in c ++ flat_map faults_in (bind_items fs (suc n) is)) e ∙ r.0,
+      subst (λ (c : Checked BoundItem). Every (λ (v : BoundItem). P v.term) (cons_option (if_passed c) (passing (bind_items fs (suc n) is)))) (sym e) (g.2, r.1),
+    )
 
 -- the terms of a query without faults have the paths of their expressions
 terms_fit : (fs : Fields) (n : ℕ) (is : List ItemSyntax) → flat_map faults_in (bind_items fs n is) ≡ [] → Every (λ (v : BoundItem). TermFits v.term) (passing (bind_items fs n is))
@@ -192,9 +191,10 @@ records_good fs [] (i ∷ is) h r = absurd h
 records_good fs (i ∷ items) [] h r = absurd h
 records_good fs (i ∷ items) (x ∷ is) h r =
     let s = h.0 in
-    let k = records_good fs items is h.1 r.1 in
-    (((s.0, s.1, (s.2, record_unrelated s.0 i.term (term_fits fs x.place x.term s.0 s.1) s.3 r.0)), k.0),
-    and_from (is_of_record x.term) (list_all (λ (i : ItemSyntax). is_of_record i.term) is) (stands_in_record fs x.place x.term s.0 i.term s.1 s.3) k.1)
+    let k = records_good fs items is h.1 r.1 in (
+      ((s.0, s.1, (s.2, record_unrelated s.0 i.term (term_fits fs x.place x.term s.0 s.1) s.3 r.0)), k.0),
+      and_from (is_of_record x.term) (list_all (λ (i : ItemSyntax). is_of_record i.term) is) (stands_in_record fs x.place x.term s.0 i.term s.1 s.3) k.1,
+    )
 
 -- ---- items of an aggregate query
 
@@ -269,20 +269,22 @@ key_good : (bound : List BoundPath) (keys : List (List Step)) (n : ℕ) (c : Bou
 key_good bound keys n c e f h =
     let x = h.0 in
     let p = h.1 in
-    subst (GroupGood bound) (sym h.2) (refl, from_related x.paths (p ∷ []) (subst TermFits h.2 f ∙ ap paths_of h.3) refl,
-    ap (λ y. is_some (option_map key (key_of bound y))) h.3 ∙ some_key (place_among bound p) (is_there bound n p (ap (λ ks. slice_get ks n) e ∙ h.4)))
-
-no_key : (e : Expression) → key_of [] e ≡ None
-no_key (path_value p) = refl
-no_key e = refl
+    subst (GroupGood bound) (sym h.2) (
+      refl,
+      from_related x.paths (p ∷ []) (subst TermFits h.2 f ∙ ap paths_of h.3) refl,
+      ap (λ y. is_some (option_map key (key_of bound y))) h.3 ∙ some_key (place_among bound p) (is_there bound n p (ap (λ ks. slice_get ks n) e ∙ h.4)),
+    )
 
 aggregate_good : (bound : List BoundPath) (keys : List (List Step)) (g : GroupTerm) (c : BoundTerm) → paths bound ≡ keys → TermFits c → GroupRelated keys g → group_term [] c ≡ Some g → GroupGood bound c
 aggregate_good bound keys g (plain e) b f r h = let z : None ≡ Some g = ap (option_map key) (sym (no_key e.expression)) ∙ h in absurd (cc)
 aggregate_good bound keys g (rows_counted None) b f r h = (refl, refl, refl)
 aggregate_good bound keys g (rows_counted (Some w)) b f r h = absurd (cc)
-aggregate_good bound keys g (aggregated a e None) b f r h =
-    (refl, from_related (bound ++ e.paths) (keys ++ paths_of e.expression) (together_paths bound e.paths keys (paths_of e.expression) b f)
-    (subst (GroupRelated keys) (sym (same_term (aggregate_of_group a e.expression) g h)) r), refl)
+aggregate_good bound keys g (aggregated a e None) b f r h = (
+  refl,
+  from_related (bound ++ e.paths) (keys ++ paths_of e.expression) (together_paths bound e.paths keys (paths_of e.expression) b f)
+      (subst (GroupRelated keys) (sym (same_term (aggregate_of_group a e.expression) g h)) r),
+  refl,
+)
 aggregate_good bound keys g (aggregated a e (Some w)) b f r h = absurd (cc)
 
 group_good : (bound : List BoundPath) (keys : List (List Step)) (g : GroupTerm) (c : BoundTerm) → paths bound ≡ keys → TermFits c → GroupRelated keys g → GivesGroupTerm keys g c → GroupGood bound c
@@ -358,9 +360,6 @@ record_has_no_keys x h = by_keys x.keys h
 
 is_record_again : (y : QuerySyntax) → y.keys ≡ [] → list_all (λ (i : ItemSyntax). is_of_record i.term) y.items ≡ true → is_record_syntax y ≡ true
 is_record_again y e h = ap (λ ks. if has_keys ks then false else list_all (λ (i : ItemSyntax). is_of_record i.term) y.items) e ∙ h
-
-abbrev selection_of_kind : Bool → List BoundPath → List BoundItem → Selection
-selection_of_kind b keys vs = if b then objects (filter_map record_item vs) else groups (paths keys) (filter_map (group_item keys) vs)
 
 abbrev unrelated_of : Checked (List BoundPath) → List BoundItem → List BindFault
 unrelated_of ks vs = flat_map (λ (v : BoundItem). unrelated_in_term ks v.term) vs

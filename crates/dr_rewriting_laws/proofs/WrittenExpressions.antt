@@ -301,7 +301,7 @@ path_written fs (n ∷ ns) f w h rest k =
     subst (λ ms. Reads (PathOf (n ∷ ns)) (join_with_byte 46 (map name_text ms)) rest) (sym (path_has_names (n ∷ ns) (group fs) f h))
     (read_as (λ ts. SpellsNames ts (n ∷ ns)) (PathOf (n ∷ ns)) (join_with_byte 46 (map name_text (n ∷ ns))) rest (path_of (n ∷ ns)) (read_names n ns rest w k.word))
 
-same_inside : {A : Type 0} (a b : A) → passes a ≡ passes b → a ≡ b
+pub same_inside : {A : Type 0} (a b : A) → passes a ≡ passes b → a ≡ b
 same_inside a b h = cc
 
 -- a path leads to a leaf again, wherever it stands

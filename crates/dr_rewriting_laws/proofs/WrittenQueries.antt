@@ -228,7 +228,8 @@ groups_written fs name c keys (i ∷ items) n s w k h =
 
 -- ---- there is an item
 
-no_key : (e : Expression) → key_of [] e ≡ None
+-- without keys no expression is one
+pub no_key : (e : Expression) → key_of [] e ≡ None
 no_key (path_value p) = refl
 no_key e = refl
 
@@ -298,7 +299,7 @@ all_within_faults vs = flat_map (λ (i : BoundItem). within_faults i.term) vs
 abbrev faults_of_kind : Bool → List BoundPath → List BoundItem → List BindFault
 faults_of_kind b keys vs = all_within_faults vs ++ (if b then [] else flat_map (grouping_faults keys) vs)
 
-abbrev selection_of_kind : Bool → List BoundPath → List BoundItem → Selection
+abbrev pub selection_of_kind : Bool → List BoundPath → List BoundItem → Selection
 selection_of_kind b keys vs = if b then objects (filter_map record_item vs) else groups (map (λ (k : BoundPath). k.leaf.path) keys) (filter_map (group_item keys) vs)
 
 -- the line of what is bound by the parts of a query

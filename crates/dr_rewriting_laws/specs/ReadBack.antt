@@ -88,7 +88,8 @@ SaysQuery s q x = (x.table.name ≡ s.name) × SaysCondition s.fields q.conditio
 abbrev pub IsReadAs : List ℕ → QuerySyntax → Type 0
 IsReadAs bytes x = (parse_query bytes ≡ Ok x) ⊎ ((f : QueryFault) × (parse_query bytes ≡ Err f) × IsLimit f.problem)
 
--- the bare leaf line of a query that was parsed and bound spells a tree that says the leaf query, and is read as it
+-- the bare leaf line of a query that was parsed and bound spells a tree that says the leaf query, and is read as it; binding alone isn't
+-- enough, since it takes trees with numbers that no text gives
 abbrev pub LeafLineIsReadBack : Type 0
 LeafLineIsReadBack = (s : Schema) (bytes : List ℕ) (x : QuerySyntax) (q : Query) → parse_query bytes ≡ Ok x → bind s x ≡ Ok q
     → (y : QuerySyntax) × SpellsQuery (query_tokens (bare_leaf_text s q)) y × IsReadAs (bare_leaf_text s q) y × SaysQuery s (leaf_query q) y
