@@ -6,11 +6,11 @@ use Rattle.dr_meaning.specs.Path.{Step}
 use Rattle.dr_meaning.specs.Expression.{Expression, path_value}
 use Rattle.dr_meaning.specs.Query.{RecordItem, GroupTerm, key, GroupItem, Selection, objects, groups, Query}
 use Rattle.dr_meaning.specs.Tokens.{query_tokens}
-use Rattle.dr_meaning.specs.Syntax.{PathSyntax, ExpressionSyntax, ItemSyntax, ConditionSyntax, QuerySyntax}
+use Rattle.dr_meaning.specs.Syntax.{PathSyntax, ItemSyntax, ConditionSyntax, QuerySyntax}
 use Rattle.dr_meaning.specs.QueryGrammar.{SpellsQuery}
 use Rattle.dr_meaning.specs.Parse.{QueryFault, parse_query}
 use Rattle.dr_meaning.specs.SyntaxLaws.{IsLimit}
-use Rattle.dr_meaning.specs.BoundExpression.{duplicate_name, BindFault, passes, BoundPath, BoundExpression, bind_path, bind_expression}
+use Rattle.dr_meaning.specs.BoundExpression.{duplicate_name, BindFault, passes, BoundPath, BoundExpression, bind_path}
 use Rattle.dr_meaning.specs.Binding.{BoundTerm, plain, bind_condition, bind_term, within_faults, group_term, record_term, bind}
 use Rattle.dr_partials.specs.Rewriting.{leaf_query}
 use Rattle.dr_partials.specs.RewritingText.{in_quotes, name_text, path_text, record_term_text, group_term_text, named, where_text, select_text, leaf_text}
@@ -45,9 +45,7 @@ LeafLineHasNames = (fs : Fields) (q : Query) → leaf_text (path_text fs) q.cond
 
 -- ---- what a syntax tree says, by what its parts are bound to
 
-abbrev pub SaysExpression : Fields → Expression → ExpressionSyntax → Type 0
-SaysExpression fs e x = (b : BoundExpression) × (bind_expression fs x ≡ passes b) × (b.expression ≡ e)
-
+-- a WHERE part, or none, that is bound to this condition
 abbrev pub SaysCondition : Fields → Option Expression → Option ConditionSyntax → Type 0
 SaysCondition fs c x = (b : Option BoundExpression) × (bind_condition fs x ≡ passes b) × (option_map (λ (e : BoundExpression). e.expression) b ≡ c)
 
