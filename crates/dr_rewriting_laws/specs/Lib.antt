@@ -1,0 +1,2 @@
+-- the leaf line, read back
+pub mod ReadBack
