@@ -10,18 +10,12 @@ use Rattle.dr_reading.specs.Scan.{joined, tablets_of}
 use Rattle.dr_reading.specs.Given.{AreGiven}
 use Rattle.dr_reading.specs.Left.{LeftTablet}
 use Rattle.dr_tablets.specs.Views.{all_left_view}
-use Rattle.dr_plan.specs.declared.plan.Plan.{Plan}
-use Rattle.dr_query.specs.Plans.{IsPlanOf}
 use Rattle.dr_query.specs.declared.answering.Queried.{Queried}
 
 -- a text is what a query prints of the records of a table, of which each tablet gives its own
 abbrev pub IsAnswerOf : Table → Query → Option Files → List ℕ → Type 0
 IsAnswerOf t q held text = (Rs : List (List Node)) × AreGiven t.schema (query_leaves t.schema.fields q) held (tablets_of t) Rs
     × (text ≡ answer_text t.schema q (joined Rs))
-
--- of the query whose plan this is
-abbrev pub ForQuery : Table → Plan → (Query → Type 0) → Type 0
-ForQuery t p P = (q : Query) → IsPlanOf t.schema q p → P q
 
 -- where a text is answered, this holds of it
 abbrev pub WhereText : (List ℕ → Type 0) → Queried → Type 0
