@@ -148,7 +148,7 @@ puts_rejoined fs b R = ap (puts_of_selection b.selection) (all_rejoined b.condit
 
 -- ---- one record more
 
-partials_rejoined : (fs : Fields) (b : Query) (R : List Node) → partial_of fs (planned_query (planned fs b)) R ≡ partial_of fs b R
+pub partials_rejoined : (fs : Fields) (b : Query) (R : List Node) → partial_of fs (planned_query (planned fs b)) R ≡ partial_of fs b R
 unfolding partial_of
 partials_rejoined fs b R = ap (selected_partial b.selection (levels_of fs)) (all_rejoined b.condition R)
 

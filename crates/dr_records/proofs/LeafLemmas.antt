@@ -3,11 +3,10 @@ use Rattle.std.specs.Prelude.{◌≡◌, ℕ, suc, zero, List, [], ◌∷◌, �
 use Rattle.std.specs.List.{slice_get, filter_map, list_any, cons_option}
 use Rattle.std.proofs.Common.{cond, refl, subst}
 use Rattle.dr_meaning.specs.Schema.{Fields}
-use Rattle.dr_meaning.specs.Path.{Step, Leaf, PathFault, find_path, find_leaf, cut_at_dots, leaves, same_path}
+use Rattle.dr_meaning.specs.Path.{Leaf, PathFault, find_path, find_leaf, cut_at_dots, leaves, same_path}
 use Rattle.dr_meaning.specs.Fsm.{named_leaves, with_leaf, or_field_refusal}
 use Rattle.dr_meaning.specs.Refusals.{CommandRefusal}
 use Rattle.dr_meaning.specs.Automaton.{reading_order}
-use Rattle.dr_meaning.specs.Query.{Query}
 use Rattle.dr_meaning.specs.QueryLeaves.{query_leaves, used_paths}
 use Rattle.dr_meaning.proofs.FindingLemmas.{of_found, in_at}
 use Rattle.dr_records.specs.FileRecords.{AreLeavesOf}

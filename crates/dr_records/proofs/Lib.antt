@@ -4,3 +4,7 @@ pub mod ColumnsLemmas
 pub mod LeafLemmas
 -- records of columns
 pub mod RecordsLemmas
+-- how much there is
+pub mod FewLemmas
+-- what is asked for
+pub mod AskedLemmas

@@ -1,15 +1,15 @@
 -- The records of a file's columns, and what the faults of its parts say of it.
-use Rattle.std.proofs.Common.{◌≡◌, ℕ, zero, suc, List, [], ◌∷◌, map, length, Option, Some, None, Bool, true, false, ◌&&◌, refl, sym, ap, ap₂, ◌∙◌, subst}
+use Rattle.std.proofs.Common.{◌≡◌, ℕ, zero, suc, List, [], ◌∷◌, map, Option, Some, None, Bool, true, refl, sym, ap, ap₂, ◌∙◌, subst}
 use Rattle.std.specs.List.{list_all, slice_get}
 use Rattle.std.proofs.lemmas.Bool.{and_parts, and_from}
 use Rattle.dr_meaning.specs.Schema.{Schema, Fields}
 use Rattle.dr_meaning.specs.Path.{Step, Leaf, leaves, is_leaf_path}
-use Rattle.dr_meaning.specs.Record.{Node, is_record, project}
+use Rattle.dr_meaning.specs.Record.{Node}
 use Rattle.dr_meaning.specs.Column.{Triplet, column}
 use Rattle.dr_nested.specs.PathView.{path_view}
 use Rattle.dr_nested.specs.declared.path.Path.{Path}
-use Rattle.dr_formats.specs.File.{Footer, footer_of, has_leaves, are_uncompressed, values_fit, file_column, AreColumns, IsDataOf, IsFileOf, FileCause, bad_footer, bad_schema, bad_codec, bad_data, HasCause}
-use Rattle.dr_formats.specs.Opening.{opening_cause, leaf_cause}
+use Rattle.dr_formats.specs.File.{Footer, footer_of, file_column, AreColumns, IsDataOf, IsFileOf, bad_footer, bad_schema, bad_codec, bad_data, HasCause}
+use Rattle.dr_formats.specs.Opening.{opening_cause}
 use Rattle.dr_formats.proofs.OpeningLemmas.{opening_cause_holds, leaf_cause_is_exact}
 use Rattle.dr_formats.proofs.ColumnsFit.{EachLeaf}
 use Rattle.dr_formats.proofs.ColumnRows.{leaf_paths}
@@ -17,7 +17,7 @@ use Rattle.dr_assemble.specs.Assembly.{HasColumns, AreProjections, NoneHas}
 use Rattle.dr_assemble.specs.Views.{paths_view}
 use Rattle.dr_assemble.specs.declared.fault.AssembleFault.{AssembleFault}
 use Rattle.dr_outside.specs.declared.cause.Cause.{Cause}
-use Rattle.dr_file.specs.OpenedFiles.{IsOpened, IsCauseOf, IsColumnOf, rows_of}
+use Rattle.dr_file.specs.OpenedFiles.{IsOpened, IsCauseOf}
 use Rattle.dr_file.specs.declared.opened.Opened.{Opened}
 use Rattle.dr_file.specs.declared.file_fault.FileFault.{FileFault}
 use Rattle.dr_records.specs.FileRecords.{AreLeavesOf, paths_of_leaves, AreOfFile, AreProjected, IsFaultOf, AreColumnsOf, SomeIsBad, IsColumnsFault, assemble_fault}

@@ -1,11 +1,11 @@
 -- What is read of a file for some leaves of a schema: the projections of its records, or why there are none.
-use Rattle.std.specs.Prelude.{◌≡◌, ℕ, List, [], ◌∷◌, map, true, Some, None, ⊤}
+use Rattle.std.specs.Prelude.{◌≡◌, ◌≤◌, ℕ, List, [], ◌∷◌, map, length, Bool, true, nat_le, Some, ⊤}
 use Rattle.std.specs.List.{slice_get, list_all}
 use Rattle.dr_meaning.specs.Schema.{Schema, Fields}
 use Rattle.dr_meaning.specs.Path.{Step, Leaf, leaves}
 use Rattle.dr_meaning.specs.Record.{Node, is_record, project}
-use Rattle.dr_meaning.specs.Column.{Triplet}
-use Rattle.dr_formats.specs.File.{FileCause, bad_footer, bad_schema, bad_codec, bad_data, IsFileOf, HasCause}
+use Rattle.dr_meaning.specs.Column.{Triplet, column}
+use Rattle.dr_formats.specs.File.{bad_footer, bad_schema, bad_codec, bad_data, IsFileOf, HasCause, most_rows, most_triplets}
 use Rattle.dr_formats.specs.Opening.{leaf_cause}
 use Rattle.dr_outside.specs.declared.cause.Cause.{Cause}
 use Rattle.dr_assemble.specs.declared.fault.AssembleFault.{AssembleFault}
@@ -27,6 +27,14 @@ AreOfFile bytes s F P = (R : List Node) × IsFileOf bytes s F R × (P ≡ map (p
 -- these are the projections to the leaves of records of the schema
 abbrev pub AreProjected : Schema → List Leaf → List Node → Type 0
 AreProjected s F P = (R : List Node) × (list_all (is_record s.fields) R ≡ true) × (P ≡ map (project (paths_of_leaves F)) R)
+
+-- whether none of these columns has more triplets than a leaf of a file may have
+abbrev pub are_short : List (List Triplet) → Bool
+are_short cs = list_all (λ (ts : List Triplet). nat_le (length ts) most_triplets) cs
+
+-- no more records than a file may have, and no more triplets at these leaves
+abbrev pub AreFew : List Leaf → List Node → Type 0
+AreFew F P = (length P ≤ most_rows) × (are_short (map (λ (l : Leaf). column l.path P) F) ≡ true)
 
 -- a fault is the cause for which the bytes are no file of any records for these leaves; want of memory and a link's failure may come in place of anything
 abbrev pub IsFaultOf : List ℕ → Schema → List Leaf → FileFault → Type 0

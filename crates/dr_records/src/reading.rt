@@ -1,18 +1,20 @@
 //! Reading the records of a file.
 
-ghost use Rattle.std.specs.Prelude.{◌≡◌, ◌≢◌, ◌≤◌, ℕ, List, length, map, true, false, IfOk, IfErr, IsTrue, Err};
+ghost use Rattle.std.specs.Prelude.{◌≡◌, ◌≢◌, ◌≤◌, ℕ, List, length, map, true, false, IfOk, IfErr, IsTrue, Err, Some};
+ghost use Rattle.std.specs.List.{flat_map};
 ghost use Rattle.dr_meaning.specs.Path.{Leaf};
-ghost use Rattle.dr_formats.specs.Opening.{reader_ranges};
+ghost use Rattle.dr_formats.specs.File.{Footer, footer_of};
+ghost use Rattle.dr_formats.specs.Opening.{leaf_ranges, reader_ranges};
 ghost use Rattle.dr_nested.specs.Views.{fields_view};
 ghost use Rattle.dr_nested.specs.SchemaView.{schema_view};
 ghost use Rattle.dr_nested.specs.PathView.{path_view};
 ghost use Rattle.dr_levels.specs.Views.{columns_view};
 ghost use Rattle.dr_assemble.specs.Views.{nodes_view};
 ghost use Rattle.dr_outside.specs.Link.{Lacks};
-ghost use Rattle.dr_chunk.specs.Telling.{Tells, Serves, AsksOnly};
+ghost use Rattle.dr_chunk.specs.Telling.{Tells, Serves, AsksOnly, is_read_inside};
 ghost use Rattle.dr_file.specs.Asking.{is_request_for};
 ghost use Rattle.dr_file.specs.OpenedFiles.{IsOpened, HasCounts, is_read_fault, leaf_count, path_of};
-ghost use Rattle.dr_records.specs.FileRecords.{AreLeavesOf, AreOfFile, IsFaultOf, AreProjected, AreColumnsOf, IsColumnsFault, assemble_fault};
+ghost use Rattle.dr_records.specs.FileRecords.{AreLeavesOf, AreOfFile, IsFaultOf, AreProjected, AreFew, AreColumnsOf, IsColumnsFault, are_short, assemble_fault};
 
 use dr_assemble::{AssembleFault, assemble};
 use dr_file::{FileFault, Opened};
@@ -34,6 +36,8 @@ fn read_columns<L: Link>(
     requires { leaves ≡ leaf_count opened.now }
     ensures columns { (bytes : List ℕ) (F : List Leaf) → IsOpened bytes F opened.now → length F ≡ leaves → Tells (L.shows link.old) (path_of opened.now) bytes → IfOk result (λ v. AreColumnsOf bytes F (columns_view v.items)) }
     ensures cause { (bytes : List ℕ) (F : List Leaf) → IsOpened bytes F opened.now → length F ≡ leaves → Tells (L.shows link.old) (path_of opened.now) bytes → IfErr result (IsColumnsFault bytes F) }
+    ensures few { IfOk result (λ v. are_short (columns_view v.items) ≡ true) }
+    ensures asked { (bytes : List ℕ) (F : List Leaf) (f : Footer) → IsOpened bytes F opened.now → length F ≡ leaves → footer_of bytes ≡ Some f → AsksOnly (is_read_inside (path_of opened.now) (flat_map (leaf_ranges f) F)) (L.shows link.old).asked (L.shows link.new).asked }
     ensures same { (L.shows link.new).held ≡ (L.shows link.old).held }
     ensures counts { IfErr result (HasCounts (L.shows link.old).faults (L.shows link.new).faults) }
     ensures calm { is_read_fault result ≡ false → (L.shows link.new).faults ≡ (L.shows link.old).faults }
@@ -77,6 +81,8 @@ fn read_file<L: Link>(
     ensures records { (bytes : List ℕ) → Tells (L.shows link.old) path.now bytes → IfOk result (λ v. AreOfFile bytes (schema_view schema.now) (map path_view fields.now) (nodes_view v.items)) }
     ensures form { IfOk result (λ v. AreProjected (schema_view schema.now) (map path_view fields.now) (nodes_view v.items)) }
     ensures cause { (bytes : List ℕ) → Tells (L.shows link.old) path.now bytes → IfErr result (IsFaultOf bytes (schema_view schema.now) (map path_view fields.now)) }
+    ensures few { IfOk result (λ v. AreFew (map path_view fields.now) (nodes_view v.items)) }
+    ensures asked { (bytes : List ℕ) → Tells (L.shows link.old) path.now bytes → AsksOnly (is_request_for path.now (reader_ranges bytes (map path_view fields.now))) (L.shows link.old).asked (L.shows link.new).asked }
     ensures same { (L.shows link.new).held ≡ (L.shows link.old).held }
     ensures counts { IfErr result (HasCounts (L.shows link.old).faults (L.shows link.new).faults) }
     ensures calm { is_read_fault result ≡ false → (L.shows link.new).faults ≡ (L.shows link.old).faults }
@@ -108,6 +114,8 @@ pub fn read_records<L: Link>(
     ensures records { (bytes : List ℕ) → Tells (L.shows link.old) path.now bytes → IfOk result (λ v. AreOfFile bytes (schema_view schema.now) (map path_view fields.now) (nodes_view v.items)) }
     ensures form { IfOk result (λ v. AreProjected (schema_view schema.now) (map path_view fields.now) (nodes_view v.items)) }
     ensures cause { (bytes : List ℕ) → Tells (L.shows link.old) path.now bytes → IfErr result (IsFaultOf bytes (schema_view schema.now) (map path_view fields.now)) }
+    ensures few { IfOk result (λ v. AreFew (map path_view fields.now) (nodes_view v.items)) }
+    ensures asked { (bytes : List ℕ) → Tells (L.shows link.old) path.now bytes → AsksOnly (is_request_for path.now (reader_ranges bytes (map path_view fields.now))) (L.shows link.old).asked (L.shows link.new).asked }
     ensures same { (L.shows link.new).held ≡ (L.shows link.old).held }
     ensures counts { IfErr result (HasCounts (L.shows link.old).faults (L.shows link.new).faults) }
     ensures calm { is_read_fault result ≡ false → (L.shows link.new).faults ≡ (L.shows link.old).faults }

@@ -34,7 +34,7 @@ pub copies_next : (ds : List (List ℕ)) (t k : ℕ) → copies_from ds t 0 (k +
 copies_next ds t k = ap (copies_from ds t 0) (add-one k) ∙ copies_more ds t 0 k k (omega arith)
 
 -- the copies before one, and those behind it
-copies_split : (ds : List (List ℕ)) (t j i m k n : ℕ) → j + i ≡ m → n ≡ i + suc k → copies_from ds t j n ≡ copies_from ds t j i ++ copy_in ds t (placement (length ds) t m) ∷ copies_from ds t (suc m) k
+pub copies_split : (ds : List (List ℕ)) (t j i m k n : ℕ) → j + i ≡ m → n ≡ i + suc k → copies_from ds t j n ≡ copies_from ds t j i ++ copy_in ds t (placement (length ds) t m) ∷ copies_from ds t (suc m) k
 copies_split ds t j zero m k n e f =
     let q : j ≡ m = omega (arith, e) in
     let one : n ≡ suc k = omega (arith, f) in
@@ -81,7 +81,7 @@ some_behind s F files R [] c behind (inl h) = inl h
 some_behind s F files R [] c behind (inr h) = absurd h
 some_behind s F files R (x ∷ before) c behind h = inr (some_behind s F files R before c behind h)
 
-given_among : (s : Schema) (F : List Leaf) (held : Option Files) (R : List Node) (before : List Copy) (c : Copy) (behind : List Copy) → IsGiven s F held (c ∷ []) R → IsGiven s F held (before ++ c ∷ behind) R
+pub given_among : (s : Schema) (F : List Leaf) (held : Option Files) (R : List Node) (before : List Copy) (c : Copy) (behind : List Copy) → IsGiven s F held (c ∷ []) R → IsGiven s F held (before ++ c ∷ behind) R
 given_among s F None R before c behind h = h
 given_among s F (Some files) R before c behind h = some_behind s F files R before c behind h
 

@@ -92,7 +92,7 @@ rises_later start old new cs h l = subst (λ (x : List Cause). RisesApart start 
 
 -- ---- what was taken
 
-given_next : (s : Schema) (F : List Leaf) (held : Option Files) (ts : List (List Copy)) (Rs : List (List Node)) (cs : List Copy) (R : List Node) → AreGiven s F held ts Rs → IsGiven s F held cs R → AreGiven s F held (ts ++ cs ∷ []) (Rs ++ R ∷ [])
+pub given_next : (s : Schema) (F : List Leaf) (held : Option Files) (ts : List (List Copy)) (Rs : List (List Node)) (cs : List Copy) (R : List Node) → AreGiven s F held ts Rs → IsGiven s F held cs R → AreGiven s F held (ts ++ cs ∷ []) (Rs ++ R ∷ [])
 given_next s F held [] [] cs R h g = (g, tt)
 given_next s F held [] (S ∷ Ss) cs R h g = absurd h
 given_next s F held (x ∷ ts) [] cs R h g = absurd h

@@ -1,10 +1,14 @@
-use Rattle.std.proofs.Common.{◌≡◌, ◌<◌, ℕ, List, length, Option, Some, refl, sym, ap, subst, ◌∙◌, arith, map}
+use Rattle.std.proofs.Common.{Option, refl, sym, ap, subst, ◌∙◌, arith, map}
 use Rattle.std.proofs.lemmas.List.{map-append}
 use Rattle.std.specs.Prelude.{◌∷◌, []}
-use Rattle.dr_meaning.specs.Path.{Leaf}
 use Rattle.dr_levels.specs.Views.{column_view}
 use Rattle.dr_outside.specs.Link.{Files}
-use Rattle.dr_chunk.specs.Telling.{TellsFile}
+use Rattle.std.specs.List.{flat_map}
+use Rattle.dr_formats.specs.Opening.{leaf_ranges}
+use Rattle.dr_chunk.specs.Telling.{TellsFile, is_read_inside}
+use Rattle.dr_chunk.proofs.AskLemmas.{asks_then}
+use Rattle.dr_records.proofs.FewLemmas.{one_more_short}
+use Rattle.dr_records.proofs.AskedLemmas.{leaf_asked}
 use Rattle.dr_file.specs.OpenedFiles.{path_of}
 use Rattle.dr_records.specs.FileRecords.{IsColumnsFault}
 use Rattle.dr_records.proofs.ColumnsLemmas.{leaf_there, one_more, all_columns, one_fault, err_is, no_read_fault}
@@ -31,7 +35,24 @@ leaves-preserved g c = (
   c.column.ensures.same ∙ c.leaves.invariant.1,
   c.in_ok-column.ensures.calm refl ∙ c.leaves.invariant.2,
   λ s. c.column.ensures.stays_steady (c.leaves.invariant.3 s),
+  one_more_short _ _ (column_view c.in_ok-column.column) c.leaves.invariant.4 c.in_ok-column.ensures.few (ap (map column_view) c.in-Ok.ensures.items ∙ map-append column_view c.leaves.columns.items (c.in_ok-column.column ∷ [])),
+  λ bytes F f o n e.
+      let l = leaf_there F c.leaves.index (omega (arith, c.leaves-test.true, n)) in
+      asks_then (is_read_inside (path_of c.args.opened.now) (flat_map (leaf_ranges f) F)) _ _ _ (c.leaves.invariant.5 bytes F f o n e)
+      (leaf_asked (path_of c.args.opened.now) f F c.leaves.index l.0 _ _ l.1 (c.column.ensures.asked bytes F l.0 f o l.1 e)),
 )
 
 pub returns-clause-columns : goal.returns-clause-columns
 returns-clause-columns g c = λ bytes F o n t. all_columns bytes F c.leaves.index _ (c.leaves.invariant.0 bytes F o n t) (omega (arith, c.leaves-test.false, n))
+
+pub returns-in_err-column-clause-asked : goal.returns-in_err-column-clause-asked
+returns-in_err-column-clause-asked g c = λ bytes F f o n e.
+    let l = leaf_there F c.leaves.index (omega (arith, c.leaves-test.true, n)) in
+    asks_then (is_read_inside (path_of c.args.opened.now) (flat_map (leaf_ranges f) F)) _ _ _ (c.leaves.invariant.5 bytes F f o n e)
+    (leaf_asked (path_of c.args.opened.now) f F c.leaves.index l.0 _ _ l.1 (c.column.ensures.asked bytes F l.0 f o l.1 e))
+
+pub returns-in-Err-clause-asked : goal.returns-in-Err-clause-asked
+returns-in-Err-clause-asked g c = λ bytes F f o n e.
+    let l = leaf_there F c.leaves.index (omega (arith, c.leaves-test.true, n)) in
+    asks_then (is_read_inside (path_of c.args.opened.now) (flat_map (leaf_ranges f) F)) _ _ _ (c.leaves.invariant.5 bytes F f o n e)
+    (leaf_asked (path_of c.args.opened.now) f F c.leaves.index l.0 _ _ l.1 (c.column.ensures.asked bytes F l.0 f o l.1 e))

@@ -1,10 +1,13 @@
-use Rattle.std.proofs.Common.{◌≡◌, ◌≤◌, ℕ, List, length, take}
-use Rattle.std.specs.Prelude.{IsTrue}
+use Rattle.std.proofs.Common.{◌≡◌, ℕ, List, length, take, true}
+use Rattle.std.specs.Prelude.{IsTrue, Some}
+use Rattle.std.specs.List.{flat_map}
 use Rattle.dr_meaning.specs.Path.{Leaf}
 use Rattle.dr_levels.specs.Views.{columns_view}
-use Rattle.dr_chunk.specs.Telling.{Tells}
+use Rattle.dr_formats.specs.File.{Footer, footer_of}
+use Rattle.dr_formats.specs.Opening.{leaf_ranges}
+use Rattle.dr_chunk.specs.Telling.{Tells, AsksOnly, is_read_inside}
 use Rattle.dr_file.specs.OpenedFiles.{IsOpened, path_of}
-use Rattle.dr_records.specs.FileRecords.{AreColumnsOf}
+use Rattle.dr_records.specs.FileRecords.{AreColumnsOf, are_short}
 use Rattle.dr_records.proofs.reading.read_columns.Given as goal
 
 abbrev pub invariant-leaves : goal.invariant-leaves
@@ -13,3 +16,6 @@ invariant-leaves g l =
     × ((g.L.Link.shows l.link).held ≡ (g.L.Link.shows l.initial.link).held)
     × ((g.L.Link.shows l.link).faults ≡ (g.L.Link.shows l.initial.link).faults)
     × (IsTrue (g.L.Link.shows l.initial.link).is_steady → IsTrue (g.L.Link.shows l.link).is_steady)
+    × (are_short (columns_view l.columns.items) ≡ true)
+    × ((bytes : List ℕ) (F : List Leaf) (f : Footer) → IsOpened bytes F l.opened → length F ≡ l.leaves → footer_of bytes ≡ Some f
+    → AsksOnly (is_read_inside (path_of l.opened) (flat_map (leaf_ranges f) F)) (g.L.Link.shows l.initial.link).asked (g.L.Link.shows l.link).asked)

@@ -1,4 +1,4 @@
-use Rattle.std.proofs.Common.{◌≡◌, ℕ, List, length, Option, Err, refl, sym, ap, subst, ◌∙◌, map}
+use Rattle.std.proofs.Common.{ℕ, List, Option, Err, sym, ap, subst, map}
 use Rattle.std.proofs.lemmas.List.{length-map}
 use Rattle.dr_levels.specs.Views.{columns_view}
 use Rattle.dr_nested.specs.PathView.{path_view}
@@ -7,6 +7,9 @@ use Rattle.dr_assemble.specs.Views.{nodes_view}
 use Rattle.dr_outside.specs.Link.{Files}
 use Rattle.dr_chunk.specs.Telling.{TellsFile}
 use Rattle.dr_records.specs.FileRecords.{IsFaultOf}
+use Rattle.dr_nested.specs.Views.{fields_view}
+use Rattle.dr_records.proofs.FewLemmas.{few_assembled}
+use Rattle.dr_records.proofs.AskedLemmas.{opening_asked, file_asked}
 use Rattle.dr_records.proofs.ColumnsLemmas.{err_is, no_read_fault}
 use Rattle.dr_records.proofs.RecordsLemmas.{have_leaf_paths, columns_fault, records_given, projected_given, assembled_fault}
 use Rattle.dr_records.proofs.reading.read_file.Goals as goal
@@ -56,3 +59,29 @@ returns-clause-cause g c = λ bytes t.
     subst (IsFaultOf bytes s F) (sym c.file_fault.ensures)
     (assembled_fault bytes s c.args.fields.now c.in_ok-opened.opened (columns_view c.in_ok-columns.columns.items) (columns_view c.deref.result.now) c.rows.result c.in-Err.fault o
     (c.in_ok-columns.ensures.columns bytes F o (length-map c.args.fields.now path_view) at) (ap columns_view c.deref.ensures.value) c.rows.ensures.rows (λ e. c.in-Err.ensures.refused (ap Err e)))
+
+pub returns-in_err-opened-clause-asked : goal.returns-in_err-opened-clause-asked
+returns-in_err-opened-clause-asked g c = λ bytes t. opening_asked c.args.path.now bytes (map path_view c.args.fields.now) _ _ (c.start.ensures.asked bytes t)
+
+pub returns-in_err-columns-clause-asked : goal.returns-in_err-columns-clause-asked
+returns-in_err-columns-clause-asked g c = λ bytes t.
+    let F = map path_view c.args.fields.now in
+    let o = c.in_ok-opened.ensures.opened bytes t in
+    file_asked c.args.path.now _ bytes F o.1.0 _ _ _ c.in_ok-opened.ensures.path o.1.1 (c.start.ensures.asked bytes t) (c.read_columns.ensures.asked bytes F o.1.0 o (length-map c.args.fields.now path_view) o.1.1)
+
+pub returns-in-Ok-clause-asked : goal.returns-in-Ok-clause-asked
+returns-in-Ok-clause-asked g c = λ bytes t.
+    let F = map path_view c.args.fields.now in
+    let o = c.in_ok-opened.ensures.opened bytes t in
+    file_asked c.args.path.now _ bytes F o.1.0 _ _ _ c.in_ok-opened.ensures.path o.1.1 (c.start.ensures.asked bytes t) (c.read_columns.ensures.asked bytes F o.1.0 o (length-map c.args.fields.now path_view) o.1.1)
+
+pub returns-clause-asked : goal.returns-clause-asked
+returns-clause-asked g c = λ bytes t.
+    let F = map path_view c.args.fields.now in
+    let o = c.in_ok-opened.ensures.opened bytes t in
+    file_asked c.args.path.now _ bytes F o.1.0 _ _ _ c.in_ok-opened.ensures.path o.1.1 (c.start.ensures.asked bytes t) (c.read_columns.ensures.asked bytes F o.1.0 o (length-map c.args.fields.now path_view) o.1.1)
+
+pub returns-in-Ok-clause-few : goal.returns-in-Ok-clause-few
+returns-in-Ok-clause-few g c =
+    few_assembled (fields_view c.args.schema.now.fields.items) c.args.fields.now (columns_view c.deref.result.now) (columns_view c.in_ok-columns.columns.items) c.rows.result (nodes_view c.in-Ok.records.items) c.in-Ok.ensures.records
+    (ap columns_view c.deref.ensures.value) c.in_ok-columns.ensures.few c.rows.ensures.few

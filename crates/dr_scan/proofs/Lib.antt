@@ -1,0 +1,10 @@
+-- literals that are summed
+pub mod LiteralLemmas
+-- projecting twice
+pub mod ProjectionLemmas
+-- the partial of a file's records
+pub mod ScanLemmas
+-- the copies of one tablet
+pub mod TabletLemmas
+-- the tablets of a table
+pub mod TableLemmas

@@ -1,0 +1,11 @@
+//! Scans: a tablet's records as a partial of a query, from the file at a path, or from the first of the tablet's copies that gives one.
+#![tactic(auto)]
+
+mod literals;
+mod pieces;
+mod scanning;
+mod tablet;
+
+pub use pieces::{Pieces, scan_table};
+pub use scanning::scan;
+pub use tablet::{Scanned, scan_tablet};

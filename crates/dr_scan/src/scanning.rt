@@ -1,0 +1,66 @@
+//! Scanning the file at a path.
+
+ghost use Rattle.std.specs.Prelude.{◌≡◌, ◌≢◌, ◌≤◌, ℕ, List, map, true, false, IfOk, IfErr, IsTrue, Err};
+ghost use Rattle.dr_formats.specs.Opening.{reader_ranges};
+ghost use Rattle.dr_nested.specs.SchemaView.{schema_view};
+ghost use Rattle.dr_outside.specs.Link.{Lacks};
+ghost use Rattle.dr_chunk.specs.Telling.{Tells, Serves, AsksOnly};
+ghost use Rattle.dr_file.specs.Asking.{is_request_for};
+ghost use Rattle.dr_file.specs.OpenedFiles.{HasCounts, is_read_fault};
+ghost use Rattle.dr_records.specs.FileRecords.{IsFaultOf};
+ghost use Rattle.dr_partials.specs.PartialTypes.{is_partial};
+ghost use Rattle.dr_partials.specs.PartialBounds.{PartialCanBeOf};
+ghost use Rattle.dr_partials.specs.Rewriting.{leaf_query};
+ghost use Rattle.dr_plan.specs.Planned.{IsOfSchema, plan_leaves, plan_view};
+ghost use Rattle.dr_group.specs.Partials.{IsPartialOf, partial_view};
+ghost use Rattle.dr_serving.specs.Truth.{IsTrueOf, most_values};
+ghost use Rattle.dr_scan.specs.Plans.{ForQuery};
+ghost use Rattle.dr_scan.specs.Scans.{StandsForBytes, StandsForRecords, truth_at};
+
+use crate::literals::see_literals;
+use dr_file::FileFault;
+use dr_group::Partial;
+use dr_mean::partial_of;
+use dr_memory::NoMemory;
+use dr_nested::Schema;
+use dr_outside::Link;
+use dr_plan::Plan;
+use dr_records::read_records;
+use std::alloc::Global;
+
+/// A plan's partial of the records of the file at a path, of which the plan's leaves alone are read. The link is asked for the file's
+/// size, its two ends, the footer, and the chunks of these leaves.
+///
+/// Errors: the link failed, with its counts of faults before and after this call; else the first cause for which the file is none of any
+/// records for these leaves; want of memory, or of room for the partial.
+pub fn scan<L: Link>(
+    alloc: Global,
+    plan: &Plan,
+    link: &mut L,
+    path: &str,
+    schema: &Schema,
+) -> Result<Partial, FileFault>
+    requires planned { IsOfSchema (schema_view schema.now) plan.now }
+    ensures partial { ForQuery (schema_view schema.now) plan.now (λ q. IfOk result (λ p. is_partial (schema_view schema.now).fields (leaf_query q) (partial_view p) ≡ true)) }
+    ensures bounded { IfOk result (λ p. PartialCanBeOf most_values (partial_view p)) }
+    ensures of_plan { IfOk result (IsPartialOf (plan_view plan.now)) }
+    ensures records { ForQuery (schema_view schema.now) plan.now (λ q. IfOk result (λ p. StandsForRecords (schema_view schema.now) q (partial_view p))) }
+    ensures stands { (bytes : List ℕ) → Tells (L.shows link.old) path.now bytes → ForQuery (schema_view schema.now) plan.now (λ q. IfOk result (λ p. StandsForBytes (schema_view schema.now) q bytes (partial_view p))) }
+    ensures truth { ForQuery (schema_view schema.now) plan.now (λ q. IfOk result (λ p. IsTrueOf (truth_at (schema_view schema.now) q (L.shows link.old).held path.now) (partial_view p))) }
+    ensures cause { (bytes : List ℕ) → Tells (L.shows link.old) path.now bytes → IfErr result (IsFaultOf bytes (schema_view schema.now) (plan_leaves plan.now)) }
+    ensures asked { (bytes : List ℕ) → Tells (L.shows link.old) path.now bytes → AsksOnly (is_request_for path.now (reader_ranges bytes (plan_leaves plan.now))) (L.shows link.old).asked (L.shows link.new).asked }
+    ensures same { (L.shows link.new).held ≡ (L.shows link.old).held }
+    ensures counts { IfErr result (HasCounts (L.shows link.old).faults (L.shows link.new).faults) }
+    ensures calm { is_read_fault result ≡ false → (L.shows link.new).faults ≡ (L.shows link.old).faults }
+    ensures steady { (bytes : List ℕ) → Serves (L.shows link.old) path.now bytes → is_read_fault result ≡ false }
+    ensures absent { Lacks (L.shows link.old).held path.now → result ≢ Err FileFault.NoMemory → is_read_fault result ≡ true }
+    ensures never_falls { (L.shows link.old).faults ≤ (L.shows link.new).faults }
+    ensures stays_steady { IsTrue (L.shows link.old).is_steady → IsTrue (L.shows link.new).is_steady }
+{
+    see_literals(plan);
+    let records = read_records(alloc, link, path, schema, &plan.leaves)?;
+    match partial_of(alloc, plan, &records) {
+        Ok(partial) => Ok(partial),
+        Err(NoMemory) => Err(FileFault::NoMemory),
+    }
+}
