@@ -24,7 +24,7 @@ use Rattle.dr_reading.specs.Left.{LeftTablet}
 use Rattle.dr_reading.proofs.ReadingLemmas.{given_are_projected}
 use Rattle.dr_tablets.specs.Tablets.{LeavesTablets}
 use Rattle.dr_plan.specs.declared.plan.Plan.{Plan}
-use Rattle.dr_query.specs.Plans.{IsPlanOf}
+use Rattle.dr_scan.specs.Plans.{IsPlanOf}
 use Rattle.dr_query.specs.Answers.{IsAnswerOf}
 use Rattle.dr_loaded.specs.Loaded.{TabletsAreFiles}
 use Rattle.dr_loaded.proofs.LoadedLemmas.{files_are_held}

@@ -7,7 +7,7 @@ ghost use Rattle.dr_meaning.specs.Query.{Query};
 ghost use Rattle.dr_nested.specs.SchemaView.{schema_view};
 ghost use Rattle.dr_outside.specs.Faults.{raised};
 ghost use Rattle.dr_plan.specs.Planned.{IsOfSchema};
-ghost use Rattle.dr_query.specs.Plans.{IsPlanOf};
+ghost use Rattle.dr_scan.specs.Plans.{IsPlanOf};
 ghost use Rattle.dr_load.specs.Faults.{refusal_of};
 ghost use Rattle.dr_load.specs.Records.{WhereTold};
 ghost use Rattle.dr_ask.specs.Asked.{IsAnswerTo};
@@ -20,6 +20,7 @@ use dr_outside::{Shelf, Source};
 use dr_plan::Plan;
 use dr_table::Table;
 use std::alloc::Global;
+use std::thread::Threads;
 
 /// The one directory of a table in memory.
 fn one_leaf(alloc: Global) -> Result<Vec<String>, NoMemory>
@@ -31,20 +32,23 @@ fn one_leaf(alloc: Global) -> Result<Vec<String>, NoMemory>
 }
 
 /// What a plan's query prints of the records of an input, which is read to its end. They are loaded into memory as a table, `rows`
-/// of them to a tablet, and the answer is that of the table.
+/// of them to a tablet, and the answer is that of the table, whose serving tree has at most `fan` children to a server.
 ///
 /// Errors: the first line that is refused, as is each past 4,096 times `rows`; the source failed; want of memory. Nothing else: no
 /// tablet of the table is left, whether the source tells its bytes or not.
-pub fn ask_input<S: Source>(
+pub fn ask_input<R: Threads + Sync, S: Source>(
+    rt: &R,
     alloc: Global,
     schema: Schema,
     plan: &Plan,
     rows: u32,
+    fan: u32,
     source: &mut S,
 ) -> Result<String, LoadFault>
     requires planned { IsOfSchema (schema_view schema) plan.now }
     requires has_rows { 0 < rows }
     requires few_rows { rows ≤ 1000000 }
+    requires fan { 1 ≤ fan }
     ensures text { IfOk result (λ t. (q : Query) → IsPlanOf (schema_view schema) q plan.now → WhereTold (S.shows source.old).left (IsAnswerTo (schema_view schema) q rows (string_bytes t))) }
     ensures end { OnOk result (WhereTold (S.shows source.old).left (λ _. (S.shows source.new).left ≡ Some [])) }
     ensures refused { IfErr result (λ e. MatchOption (refusal_of e) ⊤ (λ r. WhereTold (S.shows source.old).left (λ input. records_of (schema_view schema).fields (most_asked rows) input ≡ Err r))) }
@@ -71,5 +75,5 @@ pub fn ask_input<S: Source>(
         copies: 1,
         tablets,
     };
-    answer_steady(alloc, &mut shelf, &table, plan)
+    answer_steady(rt, alloc, &mut shelf, &table, plan, fan)
 }

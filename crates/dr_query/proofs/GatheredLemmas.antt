@@ -1,7 +1,9 @@
 -- The partials of all tablets, gathered: what they give is what the query means on the records of all tablets.
-use Rattle.std.proofs.Common.{◌≡◌, ◌≤◌, ◌∙◌, ℕ, suc, ◌+◌, ◌*◌, ◌^◌, ◌&&◌, List, [], ◌∷◌, ◌++◌, map, length, get_or, true, Option, refl, sym, ap, ap₂, subst, arith, append_assoc}
+use Rattle.std.proofs.Common.{◌≡◌, ◌≤◌, ◌∙◌, ℕ, zero, suc, ◌+◌, ◌*◌, ◌^◌, ◌&&◌, List, [], ◌∷◌, ◌++◌, map, length, get_or, true, Option, Vec, refl, sym, ap, ap₂, subst, arith, append_assoc}
 use Rattle.std.specs.Prelude.{Ok}
 use Rattle.std.specs.List.{list_all, flat_map, range_with_len}
+use Rattle.std.proofs.lemmas.List.{length-map}
+use Rattle.std.proofs.lemmas.List.FromFn.{length-range_with_len}
 use Rattle.dr_meaning.specs.Schema.{Schema}
 use Rattle.dr_meaning.specs.Path.{Leaf}
 use Rattle.dr_meaning.specs.Record.{Node, is_record}
@@ -28,7 +30,11 @@ use Rattle.dr_serving.specs.Truth.{most_values}
 use Rattle.dr_reading.specs.Scan.{Copy, joined, tablets_from, tablets_of}
 use Rattle.dr_reading.specs.Given.{AreGiven}
 use Rattle.dr_scan.specs.Plans.{IsPlanOf}
-use Rattle.dr_scan.specs.Tables.{AllStand, StandForTablets, OfEach}
+use Rattle.dr_meaning.specs.QueryLeaves.{query_leaves}
+use Rattle.std.specs.declared.alloc.Global.{Global}
+use Rattle.dr_scan.specs.Tables.{AllStand, StandForTablets, OfEach, WhereGiven}
+use Rattle.dr_scan.specs.declared.pieces.Pieces.{Pieces}
+use Rattle.dr_query.specs.Answers.{IsAnswerOf}
 use Rattle.dr_tree.specs.Together.{AllCanBe, AreBounded, AreOfPlan, Together, partials_view}
 
 -- ---- the pieces by their tablets
@@ -151,7 +157,7 @@ go_together s q v ps a b c few = record {
 -- ---- as many as there are tablets
 
 count_from : (leaves : List (List ℕ)) (copies t n : ℕ) → length (tablets_from leaves copies t n) ≡ n
-count_from leaves copies t 0 = refl
+count_from leaves copies t zero = refl
 count_from leaves copies t (suc n) = ap suc (count_from leaves copies (suc t) n)
 
 as_many : (s : Schema) (F : List Leaf) (held : Option Files) (ts : List (List Copy)) (Rs : List (List Node)) → AreGiven s F held ts Rs → length Rs ≡ length ts
@@ -162,3 +168,28 @@ as_many s F held (c ∷ ts) (R ∷ Rs) h = ap suc (as_many s F held ts Rs h.1)
 
 pub one_for_each : (t : Table) (q : Query) (F : List Leaf) (held : Option Files) (ps : List Partial) → (Rs : List (List Node)) → AreGiven t.schema F held (tablets_of t) Rs → AllStand t.schema q Rs ps → length ps ≡ t.tablets
 one_for_each t q F held ps Rs g a = sym (same_length t.schema q Rs ps a) ∙ (as_many t.schema F held (tablets_of t) Rs g ∙ count_from t.leaves t.copies 0 t.tablets)
+
+-- the tree of a fan has as many tablets
+pub fan_has_as_many : (n fan : ℕ) (tree : Tree) (ps : List Partial) → 1 ≤ n → tree ≡ of_fan n fan → length ps ≡ n → length ps ≡ length (tablets_in tree)
+fan_has_as_many n fan tree ps positive grows each =
+    each ∙ (sym (length-range_with_len 0 n) ∙ ap length (sym (fan_has_all_tablets n fan positive) ∙ ap tablets_in (sym grows)))
+
+-- ---- what a scan gives
+
+pub given_as_many : (t : Table) (q : Query) (held : Option Files) (v : Pieces) (w : Vec Partial Global) → v ≡ Pieces.Given w → WhereGiven (StandForTablets t.schema q held (tablets_of t)) v → length w.items ≡ t.tablets
+given_as_many t q held v w e h =
+    let g = subst (WhereGiven (StandForTablets t.schema q held (tablets_of t))) e h in
+    one_for_each t q (query_leaves t.schema.fields q) held w.items g.0 g.1 g.2
+
+pub given_together : (t : Table) (q : Query) (p : Planned) (held : Option Files) (v : Pieces) (w : Vec Partial Global) → v ≡ Pieces.Given w → t.tablets ≤ 4096 → WhereGiven (StandForTablets t.schema q held (tablets_of t)) v
+    → WhereGiven (OfEach (IsPartialOf p)) v → WhereGiven (OfEach (λ r. is_partial t.schema.fields (leaf_query q) (partial_view r) ≡ true)) v
+    → WhereGiven (OfEach (λ r. PartialCanBeOf most_values (partial_view r))) v → Together w.items
+given_together t q p held v w e few h a b c =
+    let n = given_as_many t q held v w e h in
+    go_together t.schema (leaf_query q) p w.items (subst (WhereGiven (OfEach (IsPartialOf p))) e a)
+    (subst (WhereGiven (OfEach (λ (r : Partial). is_partial t.schema.fields (leaf_query q) (partial_view r) ≡ true))) e b)
+    (subst (WhereGiven (OfEach (λ (r : Partial). PartialCanBeOf most_values (partial_view r)))) e c) (omega (arith, few, n))
+
+pub given_answer : (t : Table) (q : Query) (held : Option Files) (v : Pieces) (w : Vec Partial Global) (text : List ℕ) → v ≡ Pieces.Given w → WhereGiven (StandForTablets t.schema q held (tablets_of t)) v
+    → ((Rs : List (List Node)) → AllStand t.schema q Rs w.items → text ≡ answer_text t.schema q (joined Rs)) → IsAnswerOf t q held text
+given_answer t q held v w text e h prints = let g = subst (WhereGiven (StandForTablets t.schema q held (tablets_of t))) e h in (g.0, g.1, prints g.0 g.2)

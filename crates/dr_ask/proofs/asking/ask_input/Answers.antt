@@ -25,7 +25,7 @@ invariant_of-table g c =
     }
 
 pub answer_steady-requires-clause-held : goal.answer_steady-requires-clause-held
-answer_steady-requires-clause-held g c =
+answer_steady-requires-clause-held g c κs within =
     let ds = map string_bytes c.deref.result.now in
     let m : IsMemory (schema_view c.args.schema) ds c.args.rows = record { schema = c.args.schema.valid; one_directory = length-map c.deref.result.now string_bytes ∙ ap length c.deref.ensures.value ∙ c.in_ok-leaves.ensures; has_rows = c.requires.has_rows; few_rows = c.requires.few_rows } in
     (c.in-Ok.ensures.table.records, memory_holds (schema_view c.args.schema) ds (map string_bytes c.in_ok-leaves.leaves.items) c.args.rows c.in-Ok.loaded.tablets (g.S.Source.shows c.args.source.now).left (files_of c.new-shelf.result) (files_of c.load.new.keeper) m c.in-Ok.ensures.table (ap (map string_bytes) c.deref.ensures.value))
