@@ -3,7 +3,7 @@ use Rattle.std.specs.Prelude.{◌≡◌, refl, List, [], ◌∷◌, Some, None, 
 use Rattle.clap.specs.Words.{Text, fault_of}
 use Rattle.clap.specs.declared.error.ErrorKind.TheVariants as kind
 use Rattle.clap.proofs.OnLiterals.{clap_on_literals}
-use Rattle.dr_commands.specs.Commands.{Taken, ask, query as query_words, asked, dremel_app}
+use Rattle.dr_commands.specs.Commands.{Taken, ask, explain, query as query_words, asked, dremel_app}
 
 abbrev query : Text
 query = codes "SELECT COUNT(Name.Url) FROM Document"
@@ -41,6 +41,19 @@ query_is_asked = refl
 pub no_table : asked (codes "dremel" ∷ codes "query" ∷ query ∷ []) ≡ None
 unfolding clap_on_literals
 no_table = refl
+
+-- how a query over a schema is served; the schema has to be named
+pub explain_is_taken : Taken (codes "dremel" ∷ codes "explain" ∷ codes "--schema" ∷ codes "document.txt" ∷ query ∷ [])
+unfolding clap_on_literals
+explain_is_taken = refl
+
+pub explain_is_asked : asked (codes "dremel" ∷ codes "explain" ∷ codes "--schema" ∷ codes "document.txt" ∷ query ∷ []) ≡ Some (explain (record { schema = codes "document.txt"; query = query }))
+unfolding clap_on_literals
+explain_is_asked = refl
+
+pub nothing_explained : asked (codes "dremel" ∷ codes "explain" ∷ query ∷ []) ≡ None
+unfolding clap_on_literals
+nothing_explained = refl
 
 -- ---- the lines that are refused, with the kind that clap gives each
 

@@ -6,6 +6,7 @@ mod ask;
 mod ask_words;
 mod command;
 mod dump;
+mod explain;
 mod fsm;
 pub mod laws;
 mod limits;
@@ -20,6 +21,7 @@ mod words_fault;
 pub use ask::Ask;
 pub use command::Command;
 pub use dump::Dump;
+pub use explain::Explain;
 pub use fsm::Fsm;
 pub use limits::{
     DEFAULT_ROWS, MOST_COPIES, MOST_DIRECTORIES, MOST_ROWS, MOST_STRIPED,
