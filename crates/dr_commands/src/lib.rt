@@ -13,6 +13,7 @@ mod limits;
 mod load;
 mod load_words;
 mod query;
+mod query_words;
 mod read;
 mod show_schema;
 mod stripe;
@@ -24,8 +25,8 @@ pub use dump::Dump;
 pub use explain::Explain;
 pub use fsm::Fsm;
 pub use limits::{
-    DEFAULT_ROWS, MOST_COPIES, MOST_DIRECTORIES, MOST_ROWS, MOST_STRIPED,
-    command_limits_are_as_defined,
+    DEFAULT_FAN, DEFAULT_ROWS, LEAST_FAN, MOST_COPIES, MOST_DIRECTORIES, MOST_FAN, MOST_ROWS,
+    MOST_STRIPED, command_limits_are_as_defined,
 };
 pub use load::Load;
 pub use query::Query;
