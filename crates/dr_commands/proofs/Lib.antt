@@ -1,5 +1,6 @@
--- command lines written out, by computation
+-- command lines and what `explain` prints, written out, by computation
 mod WorkedWords
+mod WorkedExplain
 -- what the words of a command line ask for, from clap's answers
 mod WordsLemmas
 -- where clap takes words, the values that have to be there are
@@ -11,6 +12,7 @@ mod DumpLemmas
 mod StripeLemmas
 mod FsmLemmas
 mod ShowSchemaLemmas
+mod ExplainLemmas
 -- what is printed of a table
 mod ScanLemmas
 -- numbers that options have

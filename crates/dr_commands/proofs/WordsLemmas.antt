@@ -26,6 +26,7 @@ use Rattle.dr_commands.proofs.QueryLemmas.{query_has_values}
 use Rattle.dr_commands.proofs.AskLemmas.{ask_has_values}
 use Rattle.dr_commands.proofs.StripeLemmas.{stripe_has_values}
 use Rattle.dr_commands.proofs.FsmLemmas.{fsm_has_values}
+use Rattle.dr_commands.proofs.ExplainLemmas.{explain_has_values}
 
 -- ---- where clap takes words, and where it finds no fault
 
@@ -53,11 +54,15 @@ untaken_asks words untaken = go (takes dremel_app words) untaken
     go true not_taken = absurd (not_taken refl)
     go false not_taken = refl
 
+-- at words that clap takes an error is want of memory
+pub taken_error_is_memory : (app : App) (words : List Text) (e : Error) → app ≡ dremel_app → (takes app words ≡ true → kind_of e ≡ OutOfMemory) → Taken words → kind_of e ≡ OutOfMemory
+taken_error_is_memory app words e is memory taken = memory (ap (λ (a : App). takes a words) is ∙ taken)
+
 -- an error other than want of memory comes only at words that ask for nothing
 pub error_asks_nothing : (app : App) (words : List Text) (e : Error) → app ≡ dremel_app → (takes app words ≡ true → kind_of e ≡ OutOfMemory)
     → (kind_of e ≡ OutOfMemory → ⊥) → asked words ≡ None
 error_asks_nothing app words e is memory other =
-    untaken_asks words (λ taken. other (memory (ap (λ (a : App). takes a words) is ∙ taken)))
+    untaken_asks words (λ taken. other (taken_error_is_memory app words e is memory taken))
 
 -- with matches, the answer is what is asked for
 pub matches_answer : (app : App) (words : List Text) (m : ArgMatches) (r : Result Command WordsFault) → app ≡ dremel_app → HasMatchesOf app words m
@@ -108,7 +113,7 @@ found_has_values (s ∷ rest) name words have passes there none =
 
 -- one part for each subcommand
 all_have_values : HaveValues completed.subs
-all_have_values = (load_has_values, (query_has_values, (ask_has_values, (dump_has_values, (stripe_has_values, (fsm_has_values, (show_schema_has_values, tt)))))))
+all_have_values = (load_has_values, (query_has_values, (ask_has_values, (dump_has_values, (stripe_has_values, (fsm_has_values, (show_schema_has_values, (explain_has_values, tt))))))))
 
 entered_has_values : (stop : Option (Text × List Text)) → entered_passes completed stop ≡ true → is_some (entered completed stop) ≡ true
     → words_in (entered completed stop) ≡ None → ⊥

@@ -3,7 +3,7 @@ use Rattle.std.specs.Prelude.{◌≡◌, refl, List, [], ◌∷◌, Some, None, 
 use Rattle.clap.specs.Words.{Text, fault_of}
 use Rattle.clap.specs.declared.error.ErrorKind.TheVariants as kind
 use Rattle.clap.proofs.OnLiterals.{clap_on_literals}
-use Rattle.dr_commands.specs.Commands.{Taken, ask, query as query_words, asked, dremel_app}
+use Rattle.dr_commands.specs.Commands.{Taken, ask, explain, query as query_words, asked, dremel_app}
 
 abbrev query : Text
 query = codes "SELECT COUNT(Name.Url) FROM Document"
@@ -15,7 +15,7 @@ pub count_is_taken : Taken count_words
 unfolding clap_on_literals
 count_is_taken = refl
 
-pub count_is_asked : asked count_words ≡ Some (ask (record { schema = codes "document.txt"; rows = 100000; query = query }))
+pub count_is_asked : asked count_words ≡ Some (ask (record { schema = codes "document.txt"; rows = 100000; fan = 8; query = query }))
 unfolding clap_on_literals
 count_is_asked = refl
 
@@ -25,7 +25,7 @@ unfolding clap_on_literals
 either_order = refl
 
 -- how many records a tablet gets, and a number that clap doesn't take
-pub rows_are_asked : asked (codes "dremel" ∷ codes "ask" ∷ codes "--rows" ∷ codes "2" ∷ codes "--schema" ∷ codes "document.txt" ∷ query ∷ []) ≡ Some (ask (record { schema = codes "document.txt"; rows = 2; query = query }))
+pub rows_are_asked : asked (codes "dremel" ∷ codes "ask" ∷ codes "--rows" ∷ codes "2" ∷ codes "--schema" ∷ codes "document.txt" ∷ query ∷ []) ≡ Some (ask (record { schema = codes "document.txt"; rows = 2; fan = 8; query = query }))
 unfolding clap_on_literals
 rows_are_asked = refl
 
@@ -33,14 +33,44 @@ pub no_rows : asked (codes "dremel" ∷ codes "ask" ∷ codes "--rows" ∷ codes
 unfolding clap_on_literals
 no_rows = refl
 
+-- how many children a server has at most, and numbers that clap doesn't take
+abbrev with_fan : Text → List Text
+with_fan fan = codes "dremel" ∷ codes "query" ∷ codes "--table" ∷ codes "t" ∷ codes "--fan" ∷ fan ∷ query ∷ []
+
+pub fans_are_asked : (asked (with_fan (codes "2")) ≡ Some (query_words (record { table = codes "t"; fan = 2; query = query })))
+    × (asked (with_fan (codes "64")) ≡ Some (query_words (record { table = codes "t"; fan = 64; query = query })))
+unfolding clap_on_literals
+fans_are_asked = (refl, refl)
+
+pub no_fans : (asked (with_fan (codes "1")) ≡ None) × (asked (with_fan (codes "65")) ≡ None) × (asked (with_fan (codes "x")) ≡ None)
+unfolding clap_on_literals
+no_fans = (refl, refl, refl)
+
+pub fan_of_ask : asked (codes "dremel" ∷ codes "ask" ∷ codes "--fan" ∷ codes "3" ∷ codes "--schema" ∷ codes "document.txt" ∷ query ∷ []) ≡ Some (ask (record { schema = codes "document.txt"; rows = 100000; fan = 3; query = query }))
+unfolding clap_on_literals
+fan_of_ask = refl
+
 -- a query of a table; the table has to be named
-pub query_is_asked : asked (codes "dremel" ∷ codes "query" ∷ codes "--table" ∷ codes "t" ∷ query ∷ []) ≡ Some (query_words (record { table = codes "t"; query = query }))
+pub query_is_asked : asked (codes "dremel" ∷ codes "query" ∷ codes "--table" ∷ codes "t" ∷ query ∷ []) ≡ Some (query_words (record { table = codes "t"; fan = 8; query = query }))
 unfolding clap_on_literals
 query_is_asked = refl
 
 pub no_table : asked (codes "dremel" ∷ codes "query" ∷ query ∷ []) ≡ None
 unfolding clap_on_literals
 no_table = refl
+
+-- how a query over a schema is served; the schema has to be named
+pub explain_is_taken : Taken (codes "dremel" ∷ codes "explain" ∷ codes "--schema" ∷ codes "document.txt" ∷ query ∷ [])
+unfolding clap_on_literals
+explain_is_taken = refl
+
+pub explain_is_asked : asked (codes "dremel" ∷ codes "explain" ∷ codes "--schema" ∷ codes "document.txt" ∷ query ∷ []) ≡ Some (explain (record { schema = codes "document.txt"; query = query }))
+unfolding clap_on_literals
+explain_is_asked = refl
+
+pub nothing_explained : asked (codes "dremel" ∷ codes "explain" ∷ query ∷ []) ≡ None
+unfolding clap_on_literals
+nothing_explained = refl
 
 -- ---- the lines that are refused, with the kind that clap gives each
 

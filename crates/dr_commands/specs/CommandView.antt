@@ -6,7 +6,8 @@ use Rattle.dr_commands.specs.Dump.{dump_view}
 use Rattle.dr_commands.specs.Stripe.{stripe_view}
 use Rattle.dr_commands.specs.Fsm.{fsm_view}
 use Rattle.dr_commands.specs.ShowSchema.{show_schema_view}
-use Rattle.dr_commands.specs.Commands.{CommandWords, load, query, ask, dump, stripe, fsm, show_schema}
+use Rattle.dr_commands.specs.Explain.{explain_view}
+use Rattle.dr_commands.specs.Commands.{CommandWords, load, query, ask, dump, stripe, fsm, show_schema, explain}
 use Rattle.dr_commands.specs.declared.command.Command.{Command}
 use Rattle.dr_commands.specs.declared.command.Command.TheVariants as command
 
@@ -18,3 +19,4 @@ command_view (command.Dump d) = dump (dump_view d)
 command_view (command.Stripe s) = stripe (stripe_view s)
 command_view (command.Fsm f) = fsm (fsm_view f)
 command_view (command.ShowSchema s) = show_schema (show_schema_view s)
+command_view (command.Explain e) = explain (explain_view e)

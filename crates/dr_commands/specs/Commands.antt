@@ -10,10 +10,11 @@ use Rattle.dr_commands.specs.ShowSchema.{ShowSchemaWords, show_schema_app, show_
 use Rattle.dr_commands.specs.Ask.{AskWords, ask_app, ask_words, ask_meaning}
 use Rattle.dr_commands.specs.Stripe.{StripeWords, stripe_app, stripe_words, stripe_meaning}
 use Rattle.dr_commands.specs.Fsm.{FsmWords, fsm_app, fsm_words, fsm_meaning}
+use Rattle.dr_commands.specs.Explain.{ExplainWords, explain_app, explain_words, explain_meaning}
 
 -- each subcommand
 abbrev pub subcommands : List Shape
-subcommands = load_app.top ∷ query_app.top ∷ ask_app.top ∷ dump_app.top ∷ stripe_app.top ∷ fsm_app.top ∷ show_schema_app.top ∷ []
+subcommands = load_app.top ∷ query_app.top ∷ ask_app.top ∷ dump_app.top ∷ stripe_app.top ∷ fsm_app.top ∷ show_schema_app.top ∷ explain_app.top ∷ []
 
 -- `dremel`, before its subcommands join: one of them has to be named, and no word asks for help
 abbrev pub bare_app : App
@@ -38,6 +39,7 @@ pub data CommandWords : Type 0 where
   stripe : StripeWords → CommandWords
   fsm : FsmWords → CommandWords
   show_schema : ShowSchemaWords → CommandWords
+  explain : ExplainWords → CommandWords
 
 abbrev pub words_of : Text → List Row → Option CommandWords
 words_of name rows =
@@ -47,7 +49,8 @@ words_of name rows =
     else (if bytes_eq name (codes "dump") then option_map dump (dump_words rows)
     else (if bytes_eq name (codes "stripe") then option_map stripe (stripe_words rows)
     else (if bytes_eq name (codes "fsm") then option_map fsm (fsm_words rows)
-    else (if bytes_eq name (codes "schema") then option_map show_schema (show_schema_words rows) else None))))))
+    else (if bytes_eq name (codes "schema") then option_map show_schema (show_schema_words rows)
+    else (if bytes_eq name (codes "explain") then option_map explain (explain_words rows) else None)))))))
 
 abbrev pub words_in : Option (Text × List Row) → Option CommandWords
 words_in = option_and_then (λ entered. words_of entered.0 entered.1)
@@ -65,6 +68,7 @@ meaning_of (dump w) = dump_meaning w
 meaning_of (stripe w) = stripe_meaning w
 meaning_of (fsm w) = fsm_meaning w
 meaning_of (show_schema w) = show_schema_meaning w
+meaning_of (explain w) = explain_meaning w
 
 -- what the words mean; none where clap refuses them
 abbrev pub meant : List Text → Option Meaning

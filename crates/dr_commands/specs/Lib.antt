@@ -12,6 +12,7 @@ pub mod Dump
 pub mod Stripe
 pub mod Fsm
 pub mod ShowSchema
+pub mod Explain
 -- laws of what is printed of a table, each proved on a law function of src/
 pub mod ScanLaws
 -- what the words of a command line ask for

@@ -27,6 +27,16 @@ is_number_in low high t = is_numeral (without_leading_plus t) && nat_le low (val
 abbrev pub default_rows : ℕ
 default_rows = 100000
 
+-- how many children a server of a serving tree has at most: between these bounds, and where the words don't say it
+abbrev pub least_fan : ℕ
+least_fan = 2
+
+abbrev pub most_fan : ℕ
+most_fan = 64
+
+abbrev pub default_fan : ℕ
+default_fan = 8
+
 -- the number of an option between these bounds, or the other where it isn't given; clap takes no number out of the bounds
 abbrev pub number_in : ℕ → ℕ → ℕ → Option Text → ℕ
 number_in low high other None = other

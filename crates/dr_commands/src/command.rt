@@ -9,10 +9,12 @@ ghost use Rattle.dr_commands.specs.CommandView.{command_view};
 use crate::ask::Ask;
 use crate::ask_words::{ask_command, ask_of};
 use crate::dump::{Dump, dump_command, dump_of};
+use crate::explain::{Explain, explain_command, explain_of};
 use crate::fsm::{Fsm, fsm_command, fsm_of};
 use crate::load::Load;
 use crate::load_words::{load_command, load_of};
-use crate::query::{Query, query_command, query_of};
+use crate::query::Query;
+use crate::query_words::{query_command, query_of};
 use crate::show_schema::{ShowSchema, show_schema_command, show_schema_of};
 use crate::stripe::{Stripe, stripe_command, stripe_of};
 use crate::words_fault::WordsFault;
@@ -29,6 +31,7 @@ pub enum Command {
     Stripe(Stripe),
     Fsm(Fsm),
     ShowSchema(ShowSchema),
+    Explain(Explain),
 }
 
 /// The command before its subcommands join it. No word asks for help: those that would are refused as unknown.
@@ -52,7 +55,8 @@ pub fn dremel_command<'a>(alloc: Global) -> Result<clap::Command<'a>, AllocError
         .subcommand(dump_command(alloc)?)?
         .subcommand(stripe_command(alloc)?)?
         .subcommand(fsm_command(alloc)?)?
-        .subcommand(show_schema_command(alloc)?)
+        .subcommand(show_schema_command(alloc)?)?
+        .subcommand(explain_command(alloc)?)
 }
 
 /// The subcommand that clap met, with its values.
@@ -67,6 +71,7 @@ pub fn command_of(alloc: Global, matches: &ArgMatches<'_>) -> Result<Command, Wo
         Some(("stripe", values)) => Ok(Command::Stripe(stripe_of(alloc, values)?)),
         Some(("fsm", values)) => Ok(Command::Fsm(fsm_of(alloc, values)?)),
         Some(("schema", values)) => Ok(Command::ShowSchema(show_schema_of(alloc, values)?)),
+        Some(("explain", values)) => Ok(Command::Explain(explain_of(alloc, values)?)),
         _ => Err(WordsFault::Usage),
     }
 }

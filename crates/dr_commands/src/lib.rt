@@ -6,12 +6,14 @@ mod ask;
 mod ask_words;
 mod command;
 mod dump;
+mod explain;
 mod fsm;
 pub mod laws;
 mod limits;
 mod load;
 mod load_words;
 mod query;
+mod query_words;
 mod read;
 mod show_schema;
 mod stripe;
@@ -20,10 +22,11 @@ mod words_fault;
 pub use ask::Ask;
 pub use command::Command;
 pub use dump::Dump;
+pub use explain::Explain;
 pub use fsm::Fsm;
 pub use limits::{
-    DEFAULT_ROWS, MOST_COPIES, MOST_DIRECTORIES, MOST_ROWS, MOST_STRIPED,
-    command_limits_are_as_defined,
+    DEFAULT_FAN, DEFAULT_ROWS, LEAST_FAN, MOST_COPIES, MOST_DIRECTORIES, MOST_FAN, MOST_ROWS,
+    MOST_STRIPED, command_limits_are_as_defined,
 };
 pub use load::Load;
 pub use query::Query;

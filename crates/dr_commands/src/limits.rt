@@ -4,7 +4,7 @@ ghost use Rattle.std.specs.Prelude.{◌≡◌};
 ghost use Rattle.dr_meaning.specs.Stripe.{most_striped};
 ghost use Rattle.dr_formats.specs.Loading.{most_tablet_rows};
 ghost use Rattle.dr_formats.specs.TableFile.{most_leaf_lines};
-ghost use Rattle.dr_commands.specs.Numbers.{default_rows};
+ghost use Rattle.dr_commands.specs.Numbers.{default_rows, least_fan, most_fan, default_fan};
 
 /// The greatest number of lines of `stripe`: 4,096 times 1,000,000.
 pub const MOST_STRIPED: u64 = 4_096_000_000;
@@ -21,6 +21,15 @@ pub const MOST_COPIES: u32 = 64;
 /// The greatest number of leaf directories.
 pub const MOST_DIRECTORIES: usize = 64;
 
+/// The least number of children that a server may have at most.
+pub const LEAST_FAN: u32 = 2;
+
+/// The greatest.
+pub const MOST_FAN: u32 = 64;
+
+/// The number of children that a server has at most where the words don't say it.
+pub const DEFAULT_FAN: u32 = 8;
+
 /// A law: these are the limits of the definitions.
 pub fn command_limits_are_as_defined()
     ensures striped { MOST_STRIPED ≡ most_striped }
@@ -28,4 +37,7 @@ pub fn command_limits_are_as_defined()
     ensures default { DEFAULT_ROWS ≡ default_rows }
     ensures copies { MOST_COPIES ≡ most_leaf_lines }
     ensures directories { MOST_DIRECTORIES ≡ most_leaf_lines }
+    ensures least_fan { LEAST_FAN ≡ least_fan }
+    ensures fan { MOST_FAN ≡ most_fan }
+    ensures default_fan { DEFAULT_FAN ≡ default_fan }
 {}

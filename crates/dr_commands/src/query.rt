@@ -1,40 +1,16 @@
-//! The words of `query`.
+//! The values of `query`.
 
-ghost use Rattle.std.specs.Prelude.{◌≡◌, IfOk, false};
-ghost use Rattle.clap.specs.Words.{app_of, found_of, rows_of};
-ghost use Rattle.clap.specs.declared.builder.command.Command.{out-Command as fields_of};
-ghost use Rattle.dr_commands.specs.Rules.{Answers};
-ghost use Rattle.dr_commands.specs.Query as meant;
-
-use crate::arguments::{needed_option, needed_word, value_of};
-use crate::words_fault::WordsFault;
-use clap::ArgMatches;
-use std::alloc::{AllocError, Global};
+ghost use Rattle.std.specs.Prelude.{◌≤◌};
 
 /// The values of `query`.
 #[derive(PartialEq, Eq, Debug, Drop)]
 pub struct Query {
     /// The path of the table file.
     pub table: String,
+    /// How many children a server has at most, from 2 to 64.
+    pub fan: u32,
     /// The text of the query.
     pub query: String,
-}
-
-/// `query --table F QUERY`.
-pub fn query_command<'a>(alloc: Global) -> Result<clap::Command<'a>, AllocError>
-    ensures app { IfOk result (λ command. app_of command ≡ meant.query_app) }
-    ensures local { IfOk result (λ command. (fields_of command).has_globals ≡ false) }
-{
-    clap::Command::new(alloc, "query")
-        .arg(needed_option(alloc, "table"))?
-        .arg(needed_word(alloc, "query"))
-}
-
-/// The values of `query`.
-pub fn query_of(alloc: Global, matches: &ArgMatches<'_>) -> Result<Query, WordsFault>
-    ensures { Answers meant.query_view (meant.query_words (rows_of (found_of matches.now))) result }
-{
-    let table = value_of(alloc, matches, "table")?;
-    let query = value_of(alloc, matches, "query")?;
-    Ok(Query { table, query })
+    pub ghost has_fan: { 2 ≤ fan },
+    pub ghost small_fan: { fan ≤ 64 },
 }

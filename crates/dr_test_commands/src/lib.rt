@@ -6,6 +6,8 @@ mod agreement_tests;
 #[cfg(test)]
 mod commands_tests;
 #[cfg(test)]
+mod explain_tests;
+#[cfg(test)]
 mod json_tests;
 #[cfg(test)]
 mod print_tests;

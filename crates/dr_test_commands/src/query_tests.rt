@@ -25,7 +25,7 @@ fn queries_are_answered_or_refused(rt: HostRuntime) -> Result<(), Fail> {
     Ok(())
 }
 
-/// The same with one record to a tablet, and tablets that are counted.
+/// The same with one record to a tablet; then numbers of records and of children, some out of their bounds.
 const ROW_BY_ROW: &str = "\
 dremel~ask~--schema~document.txt~--rows~1~SELECT DocId AS Id, COUNT(Name.Language.Code) WITHIN Name AS Cnt, Name.Url + ',' + Name.Language.Code AS Str FROM Document WHERE Name.Url LIKE 'http%' AND DocId < 20 | S | R | 000 | 0 | {\"Id\":10,\"Name\":[{\"Cnt\":2,\"Language\":[{\"Str\":\"http://A,en-us\"},{\"Str\":\"http://A,en\"}]},{\"Cnt\":0,\"Language\":[]}]}^ |  | .
 dremel~ask~--schema~document.txt~--rows~1~SELECT COUNT(*) AS r, COUNT(Name.Url) AS u, SUM(Links.Forward) AS s FROM Document | S | R | 000 | 0 | {\"r\":2,\"u\":3,\"s\":200}^ |  | .
@@ -43,6 +43,11 @@ dremel~ask~--schema~document.txt~--rows~1~SELECT COUNT(Name.Url) FROM Document |
 dremel~ask~--schema~document.txt~--rows~1~SELECT MIN(Name.Url) AS a, MAX(Name.Language.Code) AS z FROM Document WHERE NOT DocId = 20 | S | R | 000 | 0 | {\"a\":\"http://A\",\"z\":\"en-us\"}^ |  | .
 dremel~ask~--schema~document.txt~--rows~1~SELECT DocId, SUM(Links.Forward) WITHIN RECORD AS s FROM Document; | S | R | 000 | 0 | {\"DocId\":10,\"s\":120}^{\"DocId\":20,\"s\":80}^ |  | .
 dremel~ask~--schema~document.txt~--rows~0~SELECT COUNT(*) FROM Document | S | R | 000 | 1 |  | U | .
+dremel~ask~--schema~document.txt~--fan~2~SELECT COUNT(Name.Url) FROM Document | S | R | 000 | 0 | {\"f0_\":3}^ |  | .
+dremel~ask~--schema~document.txt~--rows~1~--fan~64~SELECT COUNT(Name.Url) FROM Document | S | R | 000 | 0 | {\"f0_\":3}^ |  | .
+dremel~ask~--schema~document.txt~--fan~1~SELECT COUNT(Name.Url) FROM Document | S | R | 000 | 1 |  | U | .
+dremel~ask~--schema~document.txt~--fan~65~SELECT COUNT(Name.Url) FROM Document | S | R | 000 | 1 |  | U | .
+dremel~ask~--schema~document.txt~--fan~x~SELECT COUNT(Name.Url) FROM Document | S | R | 000 | 1 |  | U | .
 ";
 
 #[test]

@@ -135,6 +135,11 @@ dremel~query~--table~t.table~SELECT |  | 2 |  | refused query at 6: Syntax^ |  |
 dremel~query~--table~document.txt~SELECT |  | 2 |  | refused table: Head^ |  | .
 dremel~query~--table~lost.table~SELECT |  | 4 |  | outside: keeper^ |  | .
 dremel~query~SELECT COUNT(*) FROM Document |  | 1 |  | U |  | .
+dremel~query~--table~t.table~--fan~2~SELECT COUNT(*) AS n FROM Document WHERE DocId > 10 |  | 0 | {\"n\":1}^ |  |  | .
+dremel~query~--table~t.table~--fan~64~SELECT COUNT(*) AS n FROM Document WHERE DocId > 10 |  | 0 | {\"n\":1}^ |  |  | .
+dremel~query~--table~t.table~--fan~1~SELECT COUNT(*) AS n FROM Document WHERE DocId > 10 |  | 1 |  | U |  | .
+dremel~query~--table~t.table~--fan~65~SELECT COUNT(*) AS n FROM Document WHERE DocId > 10 |  | 1 |  | U |  | .
+dremel~query~--table~t.table~--fan~x~SELECT COUNT(*) AS n FROM Document WHERE DocId > 10 |  | 1 |  | U |  | .
 ";
 
 #[test]

@@ -14,6 +14,7 @@ pub mod StripeLemmas
 pub mod StripeEnds
 pub mod FsmLemmas
 pub mod FsmEnds
+pub mod ExplainEnds
 pub mod LoadEnds
 pub mod DumpEnds
 pub mod QueryEnds

@@ -9,6 +9,7 @@ ghost use Rattle.dr_top.specs.Ends.{ForMeant};
 
 mod ask;
 mod dump;
+mod explain;
 mod fsm;
 mod load;
 mod query;
@@ -49,6 +50,7 @@ fn command_answer<S: Source, K: Keeper, L: Link>(
         Command::Stripe(stripe) => stripe::answer(alloc, stripe, source, keeper),
         Command::Fsm(fsm) => fsm::answer(alloc, fsm, keeper),
         Command::ShowSchema(show) => show_schema::answer(alloc, show, &mut links[0]),
+        Command::Explain(explain) => explain::answer(alloc, explain, keeper),
     }
 }
 

@@ -3,6 +3,7 @@ use Rattle.std.specs.Prelude.{IfErr, IfOk}
 use Rattle.dr_commands.specs.Dump.{dump_meaning, dump_view}
 use Rattle.dr_commands.specs.Query.{query_meaning, query_view}
 use Rattle.dr_commands.specs.Fsm.{fsm_meaning, fsm_view}
+use Rattle.dr_commands.specs.Explain.{explain_meaning, explain_view}
 use Rattle.dr_commands.specs.Commands.{CommandWords, meaning_of}
 use Rattle.dr_commands.specs.CommandView.{command_view}
 use Rattle.dr_top.specs.Answers.{Finishes}
@@ -61,3 +62,16 @@ returns-in-Fsm-clause-stops g c =
     (sym (ap command_view c.in-Fsm.is))
     (plain_stops (fsm_meaning (fsm_view c.in-Fsm.fsm)) (g.K.Link.shows c.args.keeper.now) (g.K.Link.shows c.answer-in-Fsm.new.keeper) (g.S.Source.shows c.args.source.now) (g.S.Source.shows c.args.source.now) (map g.L.Link.shows c.args.links.now) c.answer-in-Fsm.result c.answer-in-Fsm.ensures.kept
     (c.answer-in-Fsm.ensures.stops (g.S.Source.shows c.args.source.now)))
+
+pub returns-in-Explain-clause-text : goal.returns-in-Explain-clause-text
+returns-in-Explain-clause-text g c =
+    subst (λ (w : CommandWords). IfOk c.answer-in-Explain.result (λ t. Finishes (meaning_of w) (g.K.Link.shows c.args.keeper.now) (g.K.Link.shows c.answer-in-Explain.new.keeper) (g.S.Source.shows c.args.source.now) (map g.L.Link.shows c.args.links.now) (string_bytes t))) (sym (ap command_view c.in-Explain.is))
+    (plain_answer (explain_meaning (explain_view c.in-Explain.explain)) (g.K.Link.shows c.args.keeper.now) (g.K.Link.shows c.answer-in-Explain.new.keeper) (g.S.Source.shows c.args.source.now) (map g.L.Link.shows c.args.links.now) c.answer-in-Explain.result c.answer-in-Explain.ensures.kept
+    (c.answer-in-Explain.ensures.text (g.S.Source.shows c.args.source.now)))
+
+pub returns-in-Explain-clause-stops : goal.returns-in-Explain-clause-stops
+returns-in-Explain-clause-stops g c =
+    subst (λ (w : CommandWords). IfErr c.answer-in-Explain.result (StopsWith (meaning_of w) (g.K.Link.shows c.args.keeper.now) (g.K.Link.shows c.answer-in-Explain.new.keeper) (g.S.Source.shows c.args.source.now) (g.S.Source.shows c.args.source.now) (map g.L.Link.shows c.args.links.now) (map g.L.Link.shows c.args.links.now)))
+    (sym (ap command_view c.in-Explain.is))
+    (plain_stops (explain_meaning (explain_view c.in-Explain.explain)) (g.K.Link.shows c.args.keeper.now) (g.K.Link.shows c.answer-in-Explain.new.keeper) (g.S.Source.shows c.args.source.now) (g.S.Source.shows c.args.source.now) (map g.L.Link.shows c.args.links.now) c.answer-in-Explain.result c.answer-in-Explain.ensures.kept
+    (c.answer-in-Explain.ensures.stops (g.S.Source.shows c.args.source.now)))

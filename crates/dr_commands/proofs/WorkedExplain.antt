@@ -1,0 +1,49 @@
+-- What `explain` prints, and what it refuses, by computation.
+use Rattle.std.specs.Prelude.{◌≡◌, ℕ, List, [], ◌∷◌, ◌++◌, Ok, Err, codes, refl}
+use Rattle.std.specs.Str.{is_utf8, chars}
+use Rattle.std.specs.Fmt.{digits}
+use Rattle.dr_meaning.specs.SchemaText.{parse_schema, empty_group}
+use Rattle.dr_meaning.specs.Parse.{parse_query, items, argument, whole_expression, keys, syntax}
+use Rattle.dr_meaning.specs.BoundExpression.{unknown_field}
+use Rattle.dr_meaning.specs.Binding.{bind}
+use Rattle.dr_meaning.specs.Ask.{read_query}
+use Rattle.dr_meaning.specs.Refusals.{schema_refused, query_refused, text_refused, binding_refused}
+use Rattle.dr_partials.specs.RewritingText.{rewriting_text}
+use Rattle.dr_commands.specs.Explain.{explained}
+
+abbrev schema : List ℕ
+schema = codes "message T { required int64 a; optional string b; }"
+
+abbrev line : List ℕ → List ℕ
+line t = t ++ 10 ∷ []
+
+-- an aggregate query, and a record query, of which servers above the leaves put the objects one behind another
+pub groups_explained : explained schema (codes "SELECT b, COUNT(a) AS n FROM T WHERE b <> 'it''s' GROUP BY b") ≡
+    Ok (line (codes "leaf: SELECT b AS k0, COUNT(a) AS a0 FROM tablet WHERE (b <> 'it''s') GROUP BY b") ++ (line (codes "inner: SELECT k0, SUM(a0) AS a0 FROM children GROUP BY k0")
+    ++ line (codes "root: SELECT k0 AS \"b\", SUM(a0) AS \"n\" FROM children GROUP BY k0")))
+unfolding explained parse_schema read_query parse_query items argument whole_expression keys bind is_utf8 chars rewriting_text digits
+groups_explained = refl
+
+pub objects_explained : explained schema (codes "SELECT a + 1 FROM T") ≡
+    Ok (line (codes "leaf: SELECT (a + 1) AS \"f0_\" FROM tablet") ++ (line (codes "inner: CONCAT children") ++ line (codes "root: CONCAT children")))
+unfolding explained parse_schema read_query parse_query items argument whole_expression keys bind is_utf8 chars rewriting_text digits
+objects_explained = refl
+
+-- ANDs at the top of a condition are taken from the left
+pub conditions_explained : explained schema (codes "SELECT a FROM T WHERE a > 1 AND (a < 9 AND b LIKE 'x%')") ≡
+    Ok (line (codes "leaf: SELECT a AS \"a\" FROM tablet WHERE (((a > 1) AND (a < 9)) AND (b LIKE 'x%'))") ++ (line (codes "inner: CONCAT children") ++ line (codes "root: CONCAT children")))
+unfolding explained parse_schema read_query parse_query items argument whole_expression keys bind is_utf8 chars rewriting_text digits
+conditions_explained = refl
+
+-- the schema is refused before the query, and the query's text before its fields
+pub schema_first : explained (codes "message T { }") (codes "SELECT") ≡ Err (schema_refused (record { place = 12; problem = empty_group }))
+unfolding explained parse_schema
+schema_first = refl
+
+pub no_query : explained schema (codes "SELECT c FROM") ≡ Err (query_refused (text_refused (record { place = 13; problem = syntax })))
+unfolding explained parse_schema read_query parse_query items argument whole_expression keys is_utf8 chars digits
+no_query = refl
+
+pub no_field : explained schema (codes "SELECT c FROM T") ≡ Err (query_refused (binding_refused (record { place = 7; problem = unknown_field })))
+unfolding explained parse_schema read_query parse_query items argument whole_expression keys bind is_utf8 chars digits
+no_field = refl

@@ -1,0 +1,51 @@
+-- `explain --schema F QUERY`: the queries of the servers of a tree by which a query over a schema is served. It reads no input.
+use Rattle.std.specs.Prelude.{ℕ, false, List, [], ◌∷◌, Option, Some, Result, Ok, Err, codes, option_map, option_and_then, string_bytes}
+use Rattle.clap.specs.Words.{App, Row, Text, first_of, new_rule}
+use Rattle.dr_meaning.specs.Schema.{Schema}
+use Rattle.dr_meaning.specs.SchemaText.{SchemaFault, parse_schema}
+use Rattle.dr_meaning.specs.Query.{Query}
+use Rattle.dr_meaning.specs.Ask.{read_query}
+use Rattle.dr_meaning.specs.Refusals.{QueryRefusal, CommandRefusal, schema_refused, query_refused}
+use Rattle.dr_partials.specs.RewritingText.{rewriting_text}
+use Rattle.dr_plan.specs.Conjuncts.{condition_conjuncts, all_of}
+use Rattle.dr_commands.specs.Meaning.{Meaning, plain}
+use Rattle.dr_commands.specs.Rules.{option_rule, needed, subcommand_app}
+use Rattle.dr_commands.specs.declared.explain.Explain.{Explain}
+
+-- its values
+pub record ExplainWords : Type 0 where
+  pub schema : Text
+  pub query : Text
+
+-- its part of the command line
+abbrev pub explain_app : App
+explain_app = subcommand_app (codes "explain") (needed (option_rule (codes "schema")) ∷ needed (new_rule (codes "query")) ∷ [])
+
+-- its values in what clap found, where all are there
+abbrev pub explain_words : List Row → Option ExplainWords
+explain_words rows = option_and_then (λ schema. option_map (λ query. record { schema = schema; query = query }) (first_of (codes "query") rows))
+    (first_of (codes "schema") rows)
+
+abbrev pub explain_view : Explain → ExplainWords
+explain_view e = record { schema = string_bytes e.schema; query = string_bytes e.query }
+
+-- ---- what it means
+
+-- the query as it is run: with the ANDs at the top of its condition taken from the left, as they are where none is in parentheses. It means the same
+abbrev pub as_run : Query → Query
+as_run q = record q { condition = all_of (condition_conjuncts q.condition) }
+
+abbrev pub explain_query : Schema → Result Query QueryRefusal → Result (List ℕ) CommandRefusal
+explain_query s (Ok q) = Ok (rewriting_text s.fields (as_run q))
+explain_query s (Err e) = Err (query_refused e)
+
+abbrev pub explain_schema : List ℕ → Result Schema SchemaFault → Result (List ℕ) CommandRefusal
+explain_schema query (Ok s) = explain_query s (read_query s query)
+explain_schema query (Err e) = Err (schema_refused e)
+
+-- the text that `explain` prints of a schema text and a query's text, or the first refusal: the schema, then the query
+unfoldable pub explained : List ℕ → List ℕ → Result (List ℕ) CommandRefusal
+explained schema query = explain_schema query (parse_schema schema)
+
+abbrev pub explain_meaning : ExplainWords → Meaning
+explain_meaning w = record { file = Some w.schema; reads_input = false; puts_files = false; asks_link = false; outcome = λ look. plain (explained look.file w.query) }
