@@ -20,11 +20,13 @@ use crate::stop::Stop;
 use dr_commands::{Command, read_words};
 use dr_outside::{Keeper, Link, Source};
 use std::alloc::Global;
+use std::thread::Threads;
 
 /// The text that a command prints.
 ///
 /// Errors: its first refusal; the keeper or the source failed; what is left; want of memory.
-fn command_answer<S: Source, K: Keeper, L: Link>(
+fn command_answer<R: Threads + Sync, S: Source, K: Keeper, L: Link>(
+    rt: &R,
     alloc: Global,
     command: &Command,
     source: &mut S,
@@ -44,8 +46,8 @@ fn command_answer<S: Source, K: Keeper, L: Link>(
 {
     match command {
         Command::Load(load) => load::answer(alloc, load, source, keeper),
-        Command::Query(query) => query::answer(alloc, query, keeper, &mut links[0]),
-        Command::Ask(ask) => ask::answer(alloc, ask, source, keeper),
+        Command::Query(query) => query::answer(rt, alloc, query, keeper, &mut links[0]),
+        Command::Ask(ask) => ask::answer(rt, alloc, ask, source, keeper),
         Command::Dump(dump) => dump::answer(alloc, dump, keeper, &mut links[0]),
         Command::Stripe(stripe) => stripe::answer(alloc, stripe, source, keeper),
         Command::Fsm(fsm) => fsm::answer(alloc, fsm, keeper),
@@ -57,7 +59,8 @@ fn command_answer<S: Source, K: Keeper, L: Link>(
 /// The text that the words ask for.
 ///
 /// Errors: the words ask for nothing; the command's first refusal; the keeper or the source failed; what is left; want of memory.
-pub fn answer<S: Source, K: Keeper, L: Link>(
+pub fn answer<R: Threads + Sync, S: Source, K: Keeper, L: Link>(
+    rt: &R,
     alloc: Global,
     words: &[String],
     source: &mut S,
@@ -77,5 +80,5 @@ pub fn answer<S: Source, K: Keeper, L: Link>(
     ensures links { LeavesUnasked (meant (map string_bytes words.now)) (map L.shows links.old) (map L.shows links.new) }
 {
     let command = read_words(alloc, words)?;
-    command_answer(alloc, &command, source, keeper, links)
+    command_answer(rt, alloc, &command, source, keeper, links)
 }

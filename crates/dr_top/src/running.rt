@@ -12,6 +12,7 @@ use dr_commands::USAGE;
 use dr_outside::{Gate, Keeper, Link, Sink, Source, write_all};
 use dr_tablets::left_text;
 use std::alloc::Global;
+use std::thread::Threads;
 
 /// Writes a line on standard error; a failure changes nothing else.
 fn say<E: Sink>(err: &mut E, line: &[u8])
@@ -29,8 +30,8 @@ fn say<E: Sink>(err: &mut E, line: &[u8])
 ///
 /// The clauses speak of what the things outside show before the call and after it. The gate is passed on to workers
 /// alone, and no command has any yet: the gate lets nobody through who isn't promised to be admitted.
-pub fn run<R, S: Source, O: Sink, E: Sink, K: Keeper, L: Link + Send, G: Gate + Sync>(
-    _rt: &R,
+pub fn run<R: Threads + Sync, S: Source, O: Sink, E: Sink, K: Keeper, L: Link + Send, G: Gate + Sync>(
+    rt: &R,
     alloc: Global,
     words: &[String],
     source: &mut S,
@@ -82,7 +83,7 @@ pub fn run<R, S: Source, O: Sink, E: Sink, K: Keeper, L: Link + Send, G: Gate + 
         (world (S.shows source.old) (O.shows out.old) (E.shows err.old) (K.shows keeper.old) (map L.shows links.old))
         (world (S.shows source.new) (O.shows out.new) (E.shows err.new) (K.shows keeper.new) (map L.shows links.new)) }
 {
-    match answer(alloc, words, source, keeper, links) {
+    match answer(rt, alloc, words, source, keeper, links) {
         Ok(text) => match write_all(out, text.as_bytes()) {
             Ok(()) => 0,
             Err(_) => {

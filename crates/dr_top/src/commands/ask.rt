@@ -13,12 +13,14 @@ use dr_commands::Ask;
 use dr_outside::{Keeper, Source};
 use dr_query::read_query;
 use std::alloc::Global;
+use std::thread::Threads;
 
 /// The text that `ask` prints.
 ///
 /// Errors: the first refusal: the schema, the query, then the input's lines; the keeper or the source failed; want of
 /// memory.
-pub fn answer<S: Source, K: Keeper>(
+pub fn answer<R: Threads + Sync, S: Source, K: Keeper>(
+    rt: &R,
     alloc: Global,
     words: &Ask,
     source: &mut S,
@@ -34,6 +36,6 @@ pub fn answer<S: Source, K: Keeper>(
 {
     let schema = read_schema(alloc, keeper, words.schema.as_str())?;
     let plan = read_query(alloc, &schema, words.query.as_str())?;
-    let text = ask_input(alloc, schema, &plan, words.rows, source)?;
+    let text = ask_input(rt, alloc, schema, &plan, words.rows, words.fan, source)?;
     Ok(text)
 }

@@ -14,11 +14,13 @@ use dr_commands::Query;
 use dr_outside::{Keeper, Link};
 use dr_query::{Queried, query_table, read_query};
 use std::alloc::Global;
+use std::thread::Threads;
 
 /// The text that `query` prints.
 ///
 /// Errors: the first refusal: the table, then the query; the keeper failed; tablets are left; want of memory.
-pub fn answer<K: Keeper, L: Link>(
+pub fn answer<R: Threads + Sync, K: Keeper, L: Link>(
+    rt: &R,
     alloc: Global,
     words: &Query,
     keeper: &mut K,
@@ -34,7 +36,7 @@ pub fn answer<K: Keeper, L: Link>(
 {
     let table = read_table_file(alloc, keeper, words.table.as_str())?;
     let plan = read_query(alloc, &table.schema, words.query.as_str())?;
-    match query_table(alloc, link, &table, &plan)? {
+    match query_table(rt, alloc, link, &table, &plan, words.fan)? {
         Queried::Text(text) => Ok(text),
         Queried::Left(left) => Err(Stop::Left(left)),
     }
