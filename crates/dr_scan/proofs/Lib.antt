@@ -8,3 +8,5 @@ pub mod ScanLemmas
 pub mod TabletLemmas
 -- the tablets of a table
 pub mod TableLemmas
+-- the truth of tablets
+pub mod TruthLemmas

@@ -5,3 +5,5 @@ pub mod Literals
 pub mod Scans
 pub mod Tablets
 pub mod Tables
+-- a law, proved on a law function of src/
+pub mod ScanLaws

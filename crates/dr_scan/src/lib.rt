@@ -1,6 +1,7 @@
 //! Scans: a tablet's records as a partial of a query, from the file at a path, or from the first of the tablet's copies that gives one.
 #![tactic(auto)]
 
+pub mod laws;
 mod literals;
 mod pieces;
 mod scanning;
