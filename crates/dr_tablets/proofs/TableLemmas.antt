@@ -20,7 +20,7 @@ use Rattle.dr_assemble.specs.Views.{nodes_view}
 use Rattle.dr_tablets.specs.Views.{all_tried_view, all_left_view}
 use Rattle.dr_tablets.specs.declared.left.LeftTablet as code
 use Rattle.dr_tablets.specs.declared.reading.Tablet.{Tablet}
-use Rattle.dr_tablets.specs.Tablets.{AreGivenBy, AreAllGiven, HasRecords, IsReadAs, causes_in, TakesGiven, TakesTablet, with_tablet}
+use Rattle.dr_tablets.specs.Tablets.{AreGivenBy, IsReadAs, causes_in, TakesGiven, TakesTablet, with_tablet}
 use Rattle.dr_tablets.proofs.CopyLemmas.{first_gives, rises_join, rises_from}
 
 -- ---- the tablets
@@ -148,11 +148,3 @@ step_rises start old new n (Tablet.Left tried) left more h k m = rises_left star
 pub no_items : (ls : List code.LeftTablet) → all_left_view ls ≡ [] → ls ≡ []
 no_items [] e = refl
 no_items (l ∷ ls) e = cc
-
--- what had no records has those of all tablets of a table
-pub all_given : (t : Table) (F : List Leaf) (held : Option Files) (n : ℕ) (before now : Vec RecordNode Global) → n ≡ t.tablets → nodes_view before.items ≡ []
-    → TakesGiven HasRecords t.schema F held (tablets_from t.leaves t.copies 0 n) before now → AreAllGiven t.schema F held (tablets_of t) (nodes_view now.items)
-all_given t F held n before now e none takes =
-    let h : TakesGiven HasRecords t.schema F held (tablets_of t) before now =
-    subst (λ (m : ℕ). TakesGiven HasRecords t.schema F held (tablets_from t.leaves t.copies 0 m) before now) e takes in
-    (h.0, h.1, h.2 [] none)

@@ -2,6 +2,5 @@
 pub mod Views
 -- what is read of a tablet
 pub mod Tablets
-pub mod Answers
 -- how what is left is told
 pub mod Reports

@@ -48,14 +48,6 @@ abbrev pub TakesGiven : {T : Type 0} → (T → List Node → Type 0) → Schema
 TakesGiven has s F held ts before now = (Rs : List (List Node)) × AreGiven s F held ts Rs
     × ((taken : List Node) → has before taken → has now (taken ++ map (project (paths_of_leaves F)) (joined Rs)))
 
--- these are the projections of the records that the tablets give
-abbrev pub AreAllGiven : Schema → List Leaf → Option Files → List (List Copy) → List Node → Type 0
-AreAllGiven s F held ts P = (Rs : List (List Node)) × AreGiven s F held ts Rs × (P ≡ map (project (paths_of_leaves F)) (joined Rs))
-
--- a list of records holds these
-abbrev pub HasRecords : Vec RecordNode Global → List Node → Type 0
-HasRecords records R = nodes_view records.items ≡ R
-
 -- some tablets of a table are left, just these, and each failed read among the causes has a rise of the link's count of its own
 abbrev pub LeavesTablets : Table → List Leaf → List left.LeftTablet → LinkShown → LinkShown → Type 0
 LeavesTablets t F ls link now = (ls ≢ []) × left.LeavesJust t.schema F link 0 (tablets_of t) ls × RisesApart link.faults (left.causes_met ls) now.faults

@@ -4,9 +4,7 @@
 mod left;
 mod reading;
 mod report;
-mod table;
 
 pub use left::{LeftTablet, Tried};
 pub use reading::{Tablet, read_tablet};
 pub use report::left_text;
-pub use table::{TableRecords, read_table};

@@ -5,10 +5,9 @@ use crate::worked::{DOCUMENT, loaded, table_of};
 use dr_dump::{Dumped, dump_table};
 use dr_file::FileFault;
 use dr_outside::{Cause, MemLink};
-use dr_print::push_record_text;
 use dr_records::read_records;
 use dr_table::Table;
-use dr_tablets::{LeftTablet, TableRecords, Tablet, Tried, left_text, read_table, read_tablet};
+use dr_tablets::{LeftTablet, Tablet, Tried, left_text, read_tablet};
 use std::alloc::Global;
 use std::test::Fail;
 
@@ -23,27 +22,7 @@ const TWO: &str = "DocId Name.Language.Country";
 const PROJECTED: &str =
     "{\"DocId\":10,\"Name\":[{\"Language\":[{\"Country\":\"us\"},{}]},{\"Language\":[]},{\"Language\":[{\"Country\":\"gb\"}]}]}\n{\"DocId\":20,\"Name\":[{\"Language\":[]}]}\n";
 
-/// The lines of a table that is read, or which tablets are left.
-fn lines_read(
-    alloc: Global,
-    table: &Table,
-    names: &str,
-    link: &mut MemLink<'_>,
-) -> Result<String, Fail> {
-    let fields = leaves_of(alloc, &table.schema, names)?;
-    match read_table(alloc, link, table, &fields)? {
-        TableRecords::Left(left) => Ok(left_text(alloc, &left)?),
-        TableRecords::Given(records) => {
-            let mut text = String::new(alloc);
-            for record in &records {
-                push_record_text(alloc, &mut text, &table.schema, record)?;
-            }
-            Ok(text)
-        }
-    }
-}
-
-/// The same of a table that is dumped.
+/// The lines of a table that is dumped, or which tablets are left.
 fn lines_dumped(
     alloc: Global,
     table: &Table,
@@ -109,12 +88,6 @@ fn a_tablet_is_read_from_a_copy_that_gives_it(rt: HostRuntime) -> Result<(), Fai
         let shelf = loaded(alloc, bad_footers, bad_data)?;
         let table = table_of(alloc, first, second, DOCUMENT)?;
         let mut link = MemLink::new(alloc, &shelf, Vec::new(alloc));
-        let read = lines_read(alloc, &table, names, &mut link)?;
-        assert_eq!(rt;
-            read.as_str(),
-            expected,
-            "{places} {bad_footers} {bad_data}"
-        );
         let dumped = lines_dumped(alloc, &table, names, &mut link)?;
         assert_eq!(rt;
             dumped.as_str(),
