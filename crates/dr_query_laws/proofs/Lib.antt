@@ -4,4 +4,5 @@ pub mod QueriesGoOn
 pub mod LeavesOnce
 pub mod OperatorsCounted
 pub mod OperatorsOfQueries
+pub mod ElementsCounted
 pub mod WorkedLimits

@@ -37,7 +37,7 @@ pub record Seq (A B : Type 0) (S : List PlacedToken → A → Type 0) (T : A →
   pub first : S front middle
   pub second : T middle rest b
 
-behind : (us vs ws ts rest : List PlacedToken) → us ≡ ts ++ vs → vs ≡ ws ++ rest → us ≡ (ts ++ ws) ++ rest
+pub behind : (us vs ws ts rest : List PlacedToken) → us ≡ ts ++ vs → vs ≡ ws ++ rest → us ≡ (ts ++ ws) ++ rest
 behind us vs ws ts rest e f = e ∙ (ap (λ xs. ts ++ xs) f ∙ sym (append_assoc ts ws rest))
 
 next_outcome : {A B : Type 0} (S : List PlacedToken → A → Type 0) (T : A → List PlacedToken → B → Type 0) (u v : Unread) (ts : List PlacedToken) (a : A) (q : Parsed B)

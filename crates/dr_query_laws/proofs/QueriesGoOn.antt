@@ -304,7 +304,7 @@ item_all i ts x at y =
     let first : at.0 ≡ b.first = cc in
     (y.front, y.rest, y.tokens, (b.first, b.others, b.tokens, sym (ap (λ (t : PlacedToken). t.place) first) ∙ (at.3 ∙ sym y.place)), y.term, y.names)
 
-item_goes : (u : Unread) → Outcome ItemSyntax SpellsItem u (item u)
+pub item_goes : (u : Unread) → Outcome ItemSyntax SpellsItem u (item u)
 item_goes u = begun ItemAt SpellsItem begun_item
     (λ i j ts x y. (item_of j x.term x.name, record { place = refl; front = y.front; rest = y.rest; tokens = y.tokens; term = y.term; names = y.names })) item_all u (item u)
     (weaker (Seq TermSyntax ItemSyntax SpellsTerm (NamedItem (place_of u))) (ItemAt (place_of u)) u (item u) (item_parts (place_of u))
@@ -374,7 +374,7 @@ elements_outcome A S begins element fill goes n u = weaker (Seq A (List A) S (λ
     (λ ts ys x. subst (λ zs. Separated A S zs ys) (sym x.tokens) (x.second x.front (alone x.front x.middle x.first)))
     (seq S (λ x. ElementsMore A S (x ∷ [])) u (element u) (λ x. further_elements begins element n (x ∷ [])) (λ x. fills_elements A S (x ∷ [])) (λ x v. elements_go A S begins element fill goes n (x ∷ []) v) (goes u))
 
-items_go : (u : Unread) → Outcome (List ItemSyntax) (Separated ItemSyntax SpellsItem) u (items u)
+pub items_go : (u : Unread) → Outcome (List ItemSyntax) (Separated ItemSyntax SpellsItem) u (items u)
 unfolding items
 items_go u = elements_outcome ItemSyntax SpellsItem begins_item item fills_item item_goes (most_items - 1) u
 
@@ -390,7 +390,7 @@ record TableAt (i : ℕ) (ts : List PlacedToken) (t : NameSyntax) : Type 0 where
   at : ℕ
   tokens : ts ≡ name_at at t.name ∷ []
 
-abbrev TableIs : List PlacedToken → NameSyntax → Type 0
+abbrev pub TableIs : List PlacedToken → NameSyntax → Type 0
 TableIs ts t = ts ≡ name_at t.place t.name ∷ []
 
 abbrev table_of : ℕ → List ℕ → NameSyntax
@@ -407,7 +407,7 @@ table_all i ts t b x =
     let place : x.at ≡ t.place = sym (ap (λ (s : PlacedToken). s.place) first) ∙ (b.3 ∙ sym x.place) in
     x.tokens ∙ ap (λ i. name_at i t.name ∷ []) place
 
-table_goes : (u : Unread) → Outcome NameSyntax TableIs u (table_name u)
+pub table_goes : (u : Unread) → Outcome NameSyntax TableIs u (table_name u)
 table_goes u = begun TableAt TableIs (λ i ts t x. record { first = name_at x.at t.name; others = []; tokens = x.tokens })
     (λ i j ts t x. (table_of j t.name, record { place = refl; at = x.at; tokens = x.tokens })) table_all u (table_name u)
     (weaker (Seq (List ℕ) NameSyntax IsName (λ n. Nothing NameSyntax (table_of (place_of u) n))) (TableAt (place_of u)) u (table_name u) (table_parts (place_of u))
@@ -450,7 +450,7 @@ fills_condition i =
       spelled = where_expression i b.first.place e.tokens e.value (b.first, b.others, b.tokens, refl) e.spelled;
     }
 
-where_goes : (u : Unread) → Outcome (Option ConditionSyntax) SpellsWhere u (where_part u)
+pub where_goes : (u : Unread) → Outcome (Option ConditionSyntax) SpellsWhere u (where_part u)
 where_goes u = if_outcome SpellsWhere (is_the_word where_word) (any_token >>= (λ _. here >>= (λ j. whole_expression >>= (λ e. give (condition_of j e))))) (give None) u
     (λ n. weaker (Behind (Option ConditionSyntax) (reserved where_word) WhereTail) SpellsWhere u ((any_token >>= (λ _. here >>= (λ j. whole_expression >>= (λ e. give (condition_of j e))))) u)
     (λ ts c x. subst (λ xs. SpellsWhere xs c) (sym x.tokens) x.second)
