@@ -5,4 +5,8 @@ pub mod LeavesOnce
 pub mod OperatorsCounted
 pub mod OperatorsOfQueries
 pub mod ElementsCounted
+pub mod NeverDeep
+pub mod NestingsTold
+pub mod NestingsOfQueries
 pub mod WorkedLimits
+pub mod WorkedNestings

@@ -26,11 +26,11 @@ use Rattle.dr_query_laws.proofs.ExpressionsGoOn.{path_outcome, fills_path, fills
 only_front : (ts us vs : List PlacedToken) → ts ≡ us ++ vs → vs ≡ [] → ts ≡ us
 only_front ts us vs e f = e ∙ (ap (λ xs. us ++ xs) f ∙ append-nil us)
 
-argument_goes : (u : Unread) → Outcome ExpressionSyntax SpellsExpression u (argument u)
+pub argument_goes : (u : Unread) → Outcome ExpressionSyntax SpellsExpression u (argument u)
 unfolding argument
 argument_goes u = nested_expression_goes (greatest_nesting - 1) u
 
-whole_goes : (u : Unread) → Outcome ExpressionSyntax SpellsExpression u (whole_expression u)
+pub whole_goes : (u : Unread) → Outcome ExpressionSyntax SpellsExpression u (whole_expression u)
 unfolding whole_expression
 whole_goes u = nested_expression_goes greatest_nesting u
 
@@ -81,12 +81,12 @@ fills_within = record { tokens = []; value = None; spelled = no_within }
 
 -- ---- terms
 
-record Aggregates (t : QueryToken) (a : Aggregate) : Type 0 where
-  by : Word
-  this : t ≡ reserved by
-  is : IsAggregate by a
+pub record Aggregates (t : QueryToken) (a : Aggregate) : Type 0 where
+  pub by : Word
+  pub this : t ≡ reserved by
+  pub is : IsAggregate by a
 
-aggregates : (t : QueryToken) (a : Aggregate) → aggregate_in t ≡ Some a → Aggregates t a
+pub aggregates : (t : QueryToken) (a : Aggregate) → aggregate_in t ≡ Some a → Aggregates t a
 aggregates (reserved count_word) a h = let e : count ≡ a = cc in record { by = count_word; this = refl; is = subst (IsAggregate count_word) e is_count }
 aggregates (reserved sum_word) a h = let e : sum ≡ a = cc in record { by = sum_word; this = refl; is = subst (IsAggregate sum_word) e is_sum }
 aggregates (reserved min_word) a h = let e : least ≡ a = cc in record { by = min_word; this = refl; is = subst (IsAggregate min_word) e is_least }
@@ -129,7 +129,7 @@ expression_argument_goes a u = weaker (Seq ExpressionSyntax TermSyntax SpellsExp
     (λ e. fills_close (aggregate a e)) (λ e v. close_goes (aggregate a e) v) (argument_goes u))
 
 -- the star of COUNT(*)
-star_of_count : (a : Aggregate) (u : Unread) → NextToken (counts_rows a) u → (a ≡ count) × NextToken (is_the_sign star) u
+pub star_of_count : (a : Aggregate) (u : Unread) → NextToken (counts_rows a) u → (a ≡ count) × NextToken (is_the_sign star) u
 star_of_count count u n = (refl, n)
 star_of_count a u n = absurd (cc n.passes_it)
 
@@ -172,7 +172,7 @@ aggregate_all a t means ts x y =
     let tokens : ts ≡ word_at y.place k.by ∷ sign_at o.place open_parenthesis ∷ o.rest = y.tokens ∙ ap₂ (λ z xs. placed y.place z ∷ xs) k.this o.tokens in
     subst (λ xs. SpellsTerm xs x) (sym tokens) (o.second y.place o.place k.by k.is)
 
-term_goes : (u : Unread) → Outcome TermSyntax SpellsTerm u (item_term u)
+pub term_goes : (u : Unread) → Outcome TermSyntax SpellsTerm u (item_term u)
 term_goes u = by_outcome SpellsTerm aggregate_in aggregate_term expression_term u
     (λ a m. weaker (Behind TermSyntax m.first.token (OpenTail a)) SpellsTerm u (aggregate_term a u) (aggregate_all a m.first.token m.means)
     (one_seq m.first.token (OpenTail a) u (any_token u) (λ _. mark open_parenthesis >>= (λ _. if_next (counts_rows a) rows_argument (expression_argument a)))
