@@ -28,7 +28,8 @@ pub data BeforeItem : ℕ → List PlacedToken → Type 0 where
 
 -- SELECT item {"," item} FROM name [WHERE expr] GROUP BY
 pub data BeforeKeys : List PlacedToken → Type 0 where
-  before_keys : (h i j k l : ℕ) (n : List ℕ) (ts us : List PlacedToken) (xs : List ItemSyntax) (c : Option ConditionSyntax) → Separated ItemSyntax SpellsItem ts xs → SpellsWhere us c
+  before_keys : (h i j k l : ℕ) (n : List ℕ) (ts us : List PlacedToken) (xs : List ItemSyntax) (c : Option ConditionSyntax)
+      → Separated ItemSyntax SpellsItem ts xs → SpellsWhere us c
       → BeforeKeys (word_at h select_word ∷ (ts ++ word_at i from_word ∷ name_at j n ∷ (us ++ word_at k group_word ∷ word_at l by_word ∷ [])))
 
 -- the tokens of a query up to where a key begins: those up to GROUP BY, and so many keys with a comma behind each
@@ -56,7 +57,8 @@ TooManyStandsAt all i = (before : List PlacedToken) × (t : PlacedToken) × (res
 
 -- TooMany stands at such a token
 abbrev pub TooManyStandsAtItsToken : Type 0
-TooManyStandsAtItsToken = (bytes : List ℕ) (i : ℕ) → parse_query bytes ≡ Err (record { place = i; problem = too_many }) → TooManyStandsAt (query_tokens bytes) i
+TooManyStandsAtItsToken = (bytes : List ℕ) (i : ℕ) → parse_query bytes ≡ Err (record { place = i; problem = too_many })
+    → TooManyStandsAt (query_tokens bytes) i
 
 -- an accepted text has at most 512 tokens among + - * AND OR
 abbrev pub AcceptedHasFewOperators : Type 0

@@ -69,8 +69,9 @@ pub data OpensInItem : List PlacedToken → PlacedToken → ℕ → Type 0 where
 -- query = SELECT item {"," item} FROM name [WHERE expr] ..
 pub data OpensInQuery : List PlacedToken → PlacedToken → ℕ → Type 0 where
   in_item : (m : ℕ) (front ts : List PlacedToken) (t : PlacedToken) (n : ℕ) → BeforeItem m front → OpensInItem ts t n → OpensInQuery (front ++ ts) t n
-  in_condition : (h i j k : ℕ) (name : List ℕ) (us ts : List PlacedToken) (xs : List ItemSyntax) (t : PlacedToken) (n : ℕ) → Separated ItemSyntax SpellsItem us xs
-      → OpensInExpression ts t n → OpensInQuery (word_at h select_word ∷ (us ++ word_at i from_word ∷ name_at j name ∷ word_at k where_word ∷ ts)) t n
+  in_condition : (h i j k : ℕ) (name : List ℕ) (us ts : List PlacedToken) (xs : List ItemSyntax) (t : PlacedToken) (n : ℕ)
+      → Separated ItemSyntax SpellsItem us xs → OpensInExpression ts t n
+      → OpensInQuery (word_at h select_word ∷ (us ++ word_at i from_word ∷ name_at j name ∷ word_at k where_word ∷ ts)) t n
 
 -- a token at place i of a text opens a nesting where 32 are open
 abbrev pub TooDeepStandsAt : List PlacedToken → ℕ → Type 0
@@ -79,4 +80,5 @@ TooDeepStandsAt all i = (before : List PlacedToken) × (t : PlacedToken) × (res
 
 -- TooDeep stands at such a token
 abbrev pub TooDeepStandsAtItsToken : Type 0
-TooDeepStandsAtItsToken = (bytes : List ℕ) (i : ℕ) → parse_query bytes ≡ Err (record { place = i; problem = too_deep }) → TooDeepStandsAt (query_tokens bytes) i
+TooDeepStandsAtItsToken = (bytes : List ℕ) (i : ℕ) → parse_query bytes ≡ Err (record { place = i; problem = too_deep })
+    → TooDeepStandsAt (query_tokens bytes) i
