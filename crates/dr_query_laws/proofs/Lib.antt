@@ -8,5 +8,9 @@ pub mod ElementsCounted
 pub mod NeverDeep
 pub mod NestingsTold
 pub mod NestingsOfQueries
+pub mod OpenStack
+pub mod StackOfTexts
+pub mod StackRead
+pub mod StackOfQueries
 pub mod WorkedLimits
 pub mod WorkedNestings

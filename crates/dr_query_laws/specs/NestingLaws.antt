@@ -1,11 +1,11 @@
 -- Where TooDeep stands: how many nestings are open before a token that opens one. A nesting is a parenthesis, a NOT before a `not`, a minus sign
 -- before a `unary`, or the parenthesis of an aggregate.
-use Rattle.std.specs.Prelude.{◌≡◌, ℕ, suc, List, [], ◌∷◌, ◌++◌, Err}
+use Rattle.std.specs.Prelude.{◌≡◌, ℕ, suc, List, [], ◌∷◌, ◌++◌, true, nat_lt, Ok, Err}
 use Rattle.dr_meaning.specs.Tokens.{Word, Sign, not_word, and_word, or_word, select_word, from_word, where_word, open_parenthesis, plus_sign, minus_sign}
 use Rattle.dr_meaning.specs.Tokens.{star, PlacedToken, query_tokens}
 use Rattle.dr_meaning.specs.Expression.{Comparison}
 use Rattle.dr_meaning.specs.Query.{Aggregate}
-use Rattle.dr_meaning.specs.Syntax.{ExpressionSyntax, ItemSyntax}
+use Rattle.dr_meaning.specs.Syntax.{ExpressionSyntax, ItemSyntax, QuerySyntax}
 use Rattle.dr_meaning.specs.Parse.{too_deep, parse_query}
 use Rattle.dr_meaning.specs.QueryGrammar.{word_at, sign_at, name_at, IsComparison, SpellsExpression, SpellsAnd, SpellsSum, SpellsProduct, IsAggregate}
 use Rattle.dr_meaning.specs.QueryGrammar.{SpellsItem, Separated}
@@ -82,3 +82,12 @@ TooDeepStandsAt all i = (before : List PlacedToken) × (t : PlacedToken) × (res
 abbrev pub TooDeepStandsAtItsToken : Type 0
 TooDeepStandsAtItsToken = (bytes : List ℕ) (i : ℕ) → parse_query bytes ≡ Err (record { place = i; problem = too_deep })
     → TooDeepStandsAt (query_tokens bytes) i
+
+-- behind the same tokens the same number of nestings is open, however it is told
+abbrev pub OneNumberIsOpen : Type 0
+OneNumberIsOpen = (before : List PlacedToken) (t u : PlacedToken) (m n : ℕ) → OpensInQuery before t m → OpensInQuery before u n → m ≡ n
+
+-- each token of an accepted text that opens a nesting stands where fewer than 32 are open, so nowhere are more than 32
+abbrev pub AcceptedNestsLittle : Type 0
+AcceptedNestsLittle = (bytes : List ℕ) (q : QuerySyntax) (before rest : List PlacedToken) (t : PlacedToken) (n : ℕ) → parse_query bytes ≡ Ok q
+    → query_tokens bytes ≡ before ++ t ∷ rest → OpensInQuery before t n → nat_lt n 32 ≡ true
