@@ -131,12 +131,12 @@ SpellsNested parenthesized ts e = SpellsPrimary ts e
 SpellsNested negated ts e = SpellsNot ts e
 SpellsNested signed ts e = SpellsUnary ts e
 
-abbrev Opens : Nesting → Unread → Type 0
+abbrev pub Opens : Nesting → Unread → Type 0
 Opens parenthesized u = NextToken (is_the_sign open_parenthesis) u
 Opens negated u = NextToken (is_the_word not_word) u
 Opens signed u = NextToken (is_the_sign minus_sign) u
 
-abbrev InnerGoes : Inner → Type 0
+abbrev pub InnerGoes : Inner → Type 0
 InnerGoes inner = (o : Nesting) (u : Unread) → Opens o u → Outcome ExpressionSyntax (SpellsNested o) u (inner o u)
 
 literal_by : (e : ExpressionSyntax) (t : QueryToken) → ((i : ℕ) → SpellsPrimary (placed i t ∷ []) e) → (ts : List PlacedToken) (b : ExpressionSyntax)
@@ -145,13 +145,13 @@ literal_by e t spelled ts b x =
     subst (SpellsPrimary ts) x.second.same (subst (λ xs. SpellsPrimary xs e) (sym (x.tokens ∙ ap (λ xs. placed x.place t ∷ xs) x.second.none)) (spelled x.place))
 
 -- the next token, which is this one
-record Next (t : QueryToken) (u : Unread) : Type 0 where
-  first : PlacedToken
-  rest : List PlacedToken
-  tokens : u.tokens ≡ first ∷ rest
-  this : first.token ≡ t
+pub record Next (t : QueryToken) (u : Unread) : Type 0 where
+  pub first : PlacedToken
+  pub rest : List PlacedToken
+  pub tokens : u.tokens ≡ first ∷ rest
+  pub this : first.token ≡ t
 
-next_by : (t : QueryToken) (ts : List PlacedToken) (n k : ℕ) → first_token ts ≡ Some t → Next t (record { tokens = ts; size = n; operators = k })
+pub next_by : (t : QueryToken) (ts : List PlacedToken) (n k : ℕ) → first_token ts ≡ Some t → Next t (record { tokens = ts; size = n; operators = k })
 next_by t [] n k h = absurd (cc h)
 next_by t (s ∷ ts) n k h = let e : s.token ≡ t = cc in record { first = s; rest = ts; tokens = refl; this = e }
 
@@ -187,14 +187,14 @@ primary_by inner goes None u f = stops_here SpellsPrimary syntax u a_primary
 primary_goes : (inner : Inner) → InnerGoes inner → (u : Unread) → Outcome ExpressionSyntax SpellsPrimary u (primary inner u)
 primary_goes inner goes u = primary_by inner goes (first_token u.tokens) u refl
 
-unary_goes : (inner : Inner) → InnerGoes inner → (u : Unread) → Outcome ExpressionSyntax SpellsUnary u (unary inner u)
+pub unary_goes : (inner : Inner) → InnerGoes inner → (u : Unread) → Outcome ExpressionSyntax SpellsUnary u (unary inner u)
 unary_goes inner goes u = if_outcome SpellsUnary (is_the_sign minus_sign) (inner signed) (primary inner) u (goes signed u)
     (weaker SpellsPrimary SpellsUnary u (primary inner u) one_primary (primary_goes inner goes u))
 
 -- ---- operands joined by operators
 
 -- an operand behind an operator joins what is before them
-abbrev JoinsAs : (List PlacedToken → ExpressionSyntax → Type 0) → (List PlacedToken → ExpressionSyntax → Type 0) → (QueryToken → Option Joining) → Type 0
+abbrev pub JoinsAs : (List PlacedToken → ExpressionSyntax → Type 0) → (List PlacedToken → ExpressionSyntax → Type 0) → (QueryToken → Option Joining) → Type 0
 JoinsAs R S joining = (i : ℕ) (t : QueryToken) (join : Joining) (ts us : List PlacedToken) (a b : ExpressionSyntax) → joining t ≡ Some join → R ts a → S us b → R (ts ++ placed i t ∷ us) (join i a b)
 
 -- further operands behind an expression
@@ -246,17 +246,17 @@ operands_outcome R S joining operand fill goes embed step u = weaker (Seq Expres
     (seq S (OperandsMore R) u (operand u) (λ a v. further_operands joining operand (length v.tokens) a v) (fills_operands R)
     (λ a v. operands_go R S joining operand fill goes step (length v.tokens) a v) (goes u))
 
-or_step : JoinsAs SpellsExpression SpellsAnd or_in
+pub or_step : JoinsAs SpellsExpression SpellsAnd or_in
 or_step i (reserved or_word) join ts us a b h r s = let e : disjunction ≡ join = cc in subst (λ j. SpellsExpression (ts ++ word_at i or_word ∷ us) (j i a b)) e (or_and i ts us a b r s)
 or_step i (reserved w) join ts us a b h r s = absurd (cc h)
 or_step i t join ts us a b h r s = absurd (cc h)
 
-and_step : JoinsAs SpellsAnd SpellsNot and_in
+pub and_step : JoinsAs SpellsAnd SpellsNot and_in
 and_step i (reserved and_word) join ts us a b h r s = let e : conjunction ≡ join = cc in subst (λ j. SpellsAnd (ts ++ word_at i and_word ∷ us) (j i a b)) e (and_not i ts us a b r s)
 and_step i (reserved w) join ts us a b h r s = absurd (cc h)
 and_step i t join ts us a b h r s = absurd (cc h)
 
-sum_step : JoinsAs SpellsSum SpellsProduct sum_in
+pub sum_step : JoinsAs SpellsSum SpellsProduct sum_in
 sum_step i (sign plus_sign) join ts us a b h r s =
     let e : (λ (k : ℕ). arithmetic k plus) ≡ join = cc in subst (λ j. SpellsSum (ts ++ sign_at i plus_sign ∷ us) (j i a b)) e (plus_product i ts us a b r s)
 sum_step i (sign minus_sign) join ts us a b h r s =
@@ -264,16 +264,16 @@ sum_step i (sign minus_sign) join ts us a b h r s =
 sum_step i (sign g) join ts us a b h r s = absurd (cc h)
 sum_step i t join ts us a b h r s = absurd (cc h)
 
-product_step : JoinsAs SpellsProduct SpellsUnary product_in
+pub product_step : JoinsAs SpellsProduct SpellsUnary product_in
 product_step i (sign star) join ts us a b h r s =
     let e : (λ (k : ℕ). arithmetic k times) ≡ join = cc in subst (λ j. SpellsProduct (ts ++ sign_at i star ∷ us) (j i a b)) e (times_unary i ts us a b r s)
 product_step i (sign g) join ts us a b h r s = absurd (cc h)
 product_step i t join ts us a b h r s = absurd (cc h)
 
-product_goes : (inner : Inner) → InnerGoes inner → (u : Unread) → Outcome ExpressionSyntax SpellsProduct u (product_of inner u)
+pub product_goes : (inner : Inner) → InnerGoes inner → (u : Unread) → Outcome ExpressionSyntax SpellsProduct u (product_of inner u)
 product_goes inner goes u = operands_outcome SpellsProduct SpellsUnary product_in (unary inner) a_unary (unary_goes inner goes) one_unary product_step u
 
-sum_goes : (inner : Inner) → InnerGoes inner → (u : Unread) → Outcome ExpressionSyntax SpellsSum u (sum_of inner u)
+pub sum_goes : (inner : Inner) → InnerGoes inner → (u : Unread) → Outcome ExpressionSyntax SpellsSum u (sum_of inner u)
 sum_goes inner goes u = operands_outcome SpellsSum SpellsProduct sum_in (product_of inner) a_product (product_goes inner goes) one_product sum_step u
 
 -- ---- tests
@@ -429,12 +429,12 @@ word_test_goes a u = if_outcome (TestMore a) (is_the_word not_word) (denied_test
     (weaker (Nothing ExpressionSyntax a) (TestMore a) u (give a u) (no_test a) (gives a u))))
 
 -- a comparison
-record Compares (t : QueryToken) (c : Comparison) : Type 0 where
-  by : Sign
-  this : t ≡ sign by
-  is : IsComparison by c
+pub record Compares (t : QueryToken) (c : Comparison) : Type 0 where
+  pub by : Sign
+  pub this : t ≡ sign by
+  pub is : IsComparison by c
 
-compares : (t : QueryToken) (c : Comparison) → comparison_in t ≡ Some c → Compares t c
+pub compares : (t : QueryToken) (c : Comparison) → comparison_in t ≡ Some c → Compares t c
 compares (sign equals) c h = let e : equal ≡ c = cc in record { by = equals; this = refl; is = subst (IsComparison equals) e is_equal }
 compares (sign differs) c h = let e : unequal ≡ c = cc in record { by = differs; this = refl; is = subst (IsComparison differs) e is_unequal }
 compares (sign less_than) c h = let e : less ≡ c = cc in record { by = less_than; this = refl; is = subst (IsComparison less_than) e is_less }
@@ -476,11 +476,11 @@ test_goes inner goes u = weaker (Seq ExpressionSyntax ExpressionSyntax SpellsSum
 
 -- ---- not, and, expr, and what opens a nesting
 
-not_goes : (inner : Inner) → InnerGoes inner → (u : Unread) → Outcome ExpressionSyntax SpellsNot u (not_of inner u)
+pub not_goes : (inner : Inner) → InnerGoes inner → (u : Unread) → Outcome ExpressionSyntax SpellsNot u (not_of inner u)
 not_goes inner goes u = if_outcome SpellsNot (is_the_word not_word) (inner negated) (test_of inner) u (goes negated u)
     (weaker SpellsTest SpellsNot u (test_of inner u) one_test (test_goes inner goes u))
 
-and_goes : (inner : Inner) → InnerGoes inner → (u : Unread) → Outcome ExpressionSyntax SpellsAnd u (and_of inner u)
+pub and_goes : (inner : Inner) → InnerGoes inner → (u : Unread) → Outcome ExpressionSyntax SpellsAnd u (and_of inner u)
 and_goes inner goes u = operands_outcome SpellsAnd SpellsNot and_in (not_of inner) a_not (not_goes inner goes) one_not and_step u
 
 expression_goes : (inner : Inner) → InnerGoes inner → (u : Unread) → Outcome ExpressionSyntax SpellsExpression u (expression_of inner u)
@@ -531,7 +531,7 @@ signs ts b x =
     let tokens : ts ≡ sign_at x.place minus_sign ∷ y.front = x.tokens ∙ ap (λ xs. sign_at x.place minus_sign ∷ xs) (only_front x.rest y.front y.rest y.tokens y.second.none) in
     subst (SpellsUnary ts) y.second.same (subst (λ xs. SpellsUnary xs (negative x.place y.middle)) (sym tokens) (minus_unary x.place y.front y.middle y.first))
 
-nested_goes : (n : ℕ) → InnerGoes (nested n)
+pub nested_goes : (n : ℕ) → InnerGoes (nested n)
 nested_goes zero o u h = stops_here (SpellsNested o) too_deep u (fills_nested o)
 nested_goes (suc n) parenthesized u h = weaker (Behind ExpressionSyntax (sign open_parenthesis) Inside) SpellsPrimary u (nested (suc n) parenthesized u) enclosed
     (one_seq (sign open_parenthesis) Inside u (any_token u) (λ _. expression_of (nested n) >>= (λ e. mark close_parenthesis >>= (λ _. give e)))

@@ -4,4 +4,13 @@ pub mod QueriesGoOn
 pub mod LeavesOnce
 pub mod OperatorsCounted
 pub mod OperatorsOfQueries
+pub mod ElementsCounted
+pub mod NeverDeep
+pub mod NestingsTold
+pub mod NestingsOfQueries
+pub mod OpenStack
+pub mod StackOfTexts
+pub mod StackRead
+pub mod StackOfQueries
 pub mod WorkedLimits
+pub mod WorkedNestings

@@ -8,6 +8,7 @@ use Rattle.dr_meaning.specs.Parse.{syntax, too_many, too_deep, next_is, either, 
 use Rattle.dr_meaning.specs.Parse.{word, mark, name, quoted_text, is_the_word, is_the_sign, name_in, text_in, here}
 use Rattle.dr_meaning.proofs.SyntaxReading.{NextToken, next_token, NextMeaning, next_meaning, word_is, sign_is_this}
 use Rattle.dr_query_laws.specs.LimitLaws.{is_operator, operators_in, TooManyStandsAt}
+use Rattle.dr_query_laws.proofs.Outcomes.{Outcome, reads, stops}
 
 -- what is left behind some tokens of a text, whose operators were counted
 pub record Counted (all : List PlacedToken) (u : Unread) : Type 0 where
@@ -33,6 +34,12 @@ pub bind : {A B : Type 0} (J K : Unread → Type 0) (all : List PlacedToken) (p 
     → ((a : A) (v : Unread) → J v → Reads B K all (next a v)) → Reads B K all (goes_on p next)
 bind J K all _ next (went a v c) step = step a v c
 bind J K all _ next (stopped f t) step = stopped f t
+
+-- the same, where it is known too what was read
+pub bind_both : {A B : Type 0} (S : List PlacedToken → A → Type 0) (J K : Unread → Type 0) (all : List PlacedToken) (u : Unread) (p : Parsed A) (next : A → Production B) → Outcome A S u p
+    → Reads A J all p → ((a : A) (v : Unread) (ts : List PlacedToken) → u.tokens ≡ ts ++ v.tokens → S ts a → J v → Reads B K all (next a v)) → Reads B K all (goes_on p next)
+bind_both S J K all u _ next (reads ts v a e z s) (went _ _ c) step = step a v ts e s c
+bind_both S J K all u _ next (stops ts rest more a f e z s) (stopped _ t) step = stopped f t
 
 pub one_by_one : {A B : Type 0} (all : List PlacedToken) (p : Production A) (next : A → Production B) → Keeps all A p → ((a : A) → Keeps all B (next a)) → Keeps all B (p >>= next)
 one_by_one all p next first step u c = bind (Counted all) (Counted all) all (p u) next (first u c) (λ a v d. step a v d)

@@ -1,7 +1,7 @@
--- Each production of a query keeps the count of the operators; so does the whole query, and its fault is where it is told to be.
+-- Each production of a query keeps the count of the operators, and its lists that of their elements; so does the whole query, and its fault is where it is told to be.
 use Rattle.std.specs.Prelude.{◌≡◌, ℕ, zero, suc, ◌-◌, List, [], ◌∷◌, ◌++◌, length, Bool, true, false, nat_le, nat_lt, if◌then◌else◌, Option, Some, None}
-use Rattle.std.specs.Prelude.{Result, Ok, Err}
-use Rattle.std.proofs.Common.{refl, sym, ap, subst, ◌∙◌, append-nil, inr}
+use Rattle.std.specs.Prelude.{Result, Ok, Err, ◌+◌, ◌⊎◌}
+use Rattle.std.proofs.Common.{refl, sym, ap, ap₂, subst, ◌∙◌, append_assoc, append-nil, length-append, add-zero, arith, inl, inr}
 use Rattle.dr_meaning.specs.Tokens.{or_word, and_word, not_word, dot, star, plus_sign, minus_sign, close_parenthesis, open_parenthesis, comma, semicolon, QueryToken, reserved}
 use Rattle.dr_meaning.specs.Tokens.{identifier, number, text, sign, bad, true_word, false_word, PlacedToken, placed, select_word, from_word, where_word, group_word, by_word, as_word}
 use Rattle.dr_meaning.specs.Tokens.{equals, differs, less_than, less_or_equal, greater_than, greater_or_equal, like_word, contains_word, is_word, null_word, within_word, record_word}
@@ -17,11 +17,15 @@ use Rattle.dr_meaning.specs.Parse.{Joining, or_in, and_in, sum_in, product_in, b
 use Rattle.dr_meaning.specs.Parse.{literal, path_operand, primary_at, primary, unary, further_operands, operands, sum_of, plain, like_test, contains_test, text_test, denied_test}
 use Rattle.dr_meaning.specs.Parse.{denied_null, plain_null, null_test, comparison_test, word_test, tested, test_of, not_of, expression_of, nested, further_elements, elements, too_many_of}
 use Rattle.dr_meaning.specs.Parse.{within_record, within_path, within_part, counts_rows, rows_argument, argument, expression_argument, aggregate_term, whole_expression, expression_term, item_term}
-use Rattle.dr_meaning.specs.Parse.{as_part, item, items, table_name, where_part, keys, group_part, text_end, end_part, query, result_of, unread_text, parse_query, greatest_nesting, most_items}
-use Rattle.dr_meaning.specs.QueryGrammar.{sign_at}
+use Rattle.dr_meaning.specs.Parse.{as_part, item, items, table_name, where_part, keys, group_part, text_end, end_part, query, result_of, unread_text, parse_query, greatest_nesting}
+use Rattle.dr_meaning.specs.QueryGrammar.{word_at, sign_at, name_at, SpellsPath, SpellsItem, Separated, alone, and_one, SpellsWhere}
 use Rattle.dr_meaning.proofs.SyntaxReading.{NextToken, next_token, sign_is_this}
-use Rattle.dr_query_laws.specs.LimitLaws.{is_operator, operators_in, TooManyStandsAt, TooManyStandsAtItsToken, AcceptedHasFewOperators}
-use Rattle.dr_query_laws.proofs.OperatorsCounted.{Counted, Reads, went, stopped, Keeps, bind, one_by_one, gives_counted, here_counted, no_limit, not_syntax, not_deep, if_counted, by_counted}
+use Rattle.dr_query_laws.specs.LimitLaws.{is_operator, operators_in, BeforeItem, before_further_item, BeforeKeys, before_keys, BeforeKey, before_further_key}
+use Rattle.dr_query_laws.specs.LimitLaws.{IsExtraOperator, BeginsExtraItem, BeginsExtraKey, TooManyStandsAt, TooManyStandsAtItsToken, AcceptedHasFewOperators}
+use Rattle.dr_query_laws.proofs.Outcomes.{Outcome, behind, One, known_word, known_sign, word_outcome}
+use Rattle.dr_query_laws.proofs.ExpressionsGoOn.{path_outcome}
+use Rattle.dr_query_laws.proofs.QueriesGoOn.{TableIs, table_goes, item_goes, items_go, where_goes}
+use Rattle.dr_query_laws.proofs.OperatorsCounted.{Counted, Reads, went, stopped, Keeps, bind, bind_both, one_by_one, gives_counted, here_counted, no_limit, not_syntax, not_deep, if_counted, by_counted}
 use Rattle.dr_query_laws.proofs.OperatorsCounted.{behind_counted, skip_word, skip_sign, word_counted, mark_counted, name_counted, text_counted, operator_counted}
 
 -- a token is skipped, and a production keeps the count behind it
@@ -267,10 +271,20 @@ item_counted all = one_by_one all here (λ i. item_term >>= (λ t. as_part >>= (
 
 -- ---- lists
 
+-- what is told of a token behind some tokens of a text
+abbrev IsExtra : List PlacedToken → PlacedToken → Type 0
+IsExtra before t = IsExtraOperator before t ⊎ BeginsExtraItem before t ⊎ BeginsExtraKey before t
+
+-- what is told of a token that begins an element behind 256 others, each with a comma behind it
+abbrev TellsExtra : (A : Type 0) → (List PlacedToken → A → Type 0) → (QueryToken → Bool) → List PlacedToken → Type 0
+TellsExtra A S begins front = (i : ℕ) (ts : List PlacedToken) (xs : List A) (t : PlacedToken) → Separated A S ts xs → length xs ≡ 256 → begins t.token ≡ true
+    → IsExtra (front ++ (ts ++ sign_at i comma ∷ [])) t
+
 -- behind a comma that was just read
-comma_behind : {A : Type 0} (all : List PlacedToken) (begins : QueryToken → Bool) → ((t : QueryToken) → begins t ≡ true → begins_item t ≡ true) → (u : Unread)
-    → NextToken (is_the_sign comma) u → Counted all u → Reads A (Counted all) all (too_many_of begins (record u { tokens = without_first u.tokens }))
-comma_behind {A} all begins starts u n c = by_test (next_is begins v) refl
+comma_behind : {A B : Type 0} (all : List PlacedToken) (S : List PlacedToken → A → Type 0) (begins : QueryToken → Bool) (front ts : List PlacedToken) (xs : List A) → TellsExtra A S begins front
+    → Separated A S ts xs → length xs ≡ 256 → (u : Unread) → NextToken (is_the_sign comma) u → all ≡ front ++ (ts ++ u.tokens) → Counted all u
+    → Reads B (Counted all) all (too_many_of begins (record u { tokens = without_first u.tokens }))
+comma_behind {A} {B} all S begins front ts xs tells s full u n z c = by_test (next_is begins v) refl
   where
     v : Unread
     v = record u { tokens = without_first u.tokens }
@@ -278,45 +292,79 @@ comma_behind {A} all begins starts u n c = by_test (next_is begins v) refl
     d : Counted all v
     d = behind_counted all u n.first n.rest n.tokens (ap is_operator (sign_is_this comma n.first.token n.passes_it)) c
 
-    by_test : (b : Bool) → next_is begins v ≡ b → Reads A (Counted all) all (either b (problem_here too_many) (problem_here syntax) v)
+    last : n.first ≡ sign_at n.first.place comma
+    last = ap (placed n.first.place) (sign_is_this comma n.first.token n.passes_it)
+
+    tokens : u.tokens ≡ sign_at n.first.place comma ∷ v.tokens
+    tokens = n.tokens ∙ ap₂ (λ x xs. x ∷ xs) last (sym (ap without_first n.tokens))
+
+    by_test : (b : Bool) → next_is begins v ≡ b → Reads B (Counted all) all (either b (problem_here too_many) (problem_here syntax) v)
     by_test true e =
         let m = next_token begins v e in
-        let last : n.first ≡ sign_at n.first.place comma = ap (placed n.first.place) (sign_is_this comma n.first.token n.passes_it) in
+        let before = front ++ (ts ++ sign_at n.first.place comma ∷ []) in
+        let here : all ≡ before ++ v.tokens = behind all (ts ++ u.tokens) (ts ++ sign_at n.first.place comma ∷ []) front v.tokens z
+        (behind (ts ++ u.tokens) u.tokens (sign_at n.first.place comma ∷ []) ts v.tokens refl tokens) in
         stopped (record { place = first_place v.size v.tokens; problem = too_many })
-        (λ _. (
-          d.before,
-          m.first,
-          m.rest,
-          d.tokens ∙ ap (λ xs. d.before ++ xs) m.tokens,
-          sym (ap (first_place v.size) m.tokens),
-          inr ((c.before, n.first.place, ap (λ x. c.before ++ x ∷ []) last), starts m.first.token m.passes_it),
-        ))
+        (λ _. (before, m.first, m.rest, here ∙ ap (λ xs. before ++ xs) m.tokens, sym (ap (first_place v.size) m.tokens), tells n.first.place ts xs m.first s full m.passes_it))
     by_test false e = no_limit all syntax not_syntax v d
 
-more_elements : {A : Type 0} (all : List PlacedToken) (begins : QueryToken → Bool) (element : Production A) → ((t : QueryToken) → begins t ≡ true → begins_item t ≡ true)
-    → Keeps all A element → (k : ℕ) (xs : List A) → Keeps all (List A) (further_elements begins element k xs)
-more_elements all begins element starts goes zero xs = if_counted all (is_the_sign comma) (any_token >>= (λ _. too_many_of begins)) (give xs)
-    (λ u n c. comma_behind all begins starts u n c) (gives_counted all xs)
-more_elements all begins element starts goes (suc k) xs =
-    if_counted all (is_the_sign comma) (any_token >>= (λ _. element >>= (λ x. further_elements begins element k (xs ++ x ∷ [])))) (give xs)
-    (λ u n c. then_skipped all (λ _. element >>= (λ x. further_elements begins element k (xs ++ x ∷ []))) u (any_token u) (skip_sign all comma refl u n c)
-    (λ _. one_by_one all element (λ x. further_elements begins element k (xs ++ x ∷ [])) goes (λ x. more_elements all begins element starts goes k (xs ++ x ∷ [])))) (gives_counted all xs)
+one_fewer : {A : Type 0} (xs : List A) (x : A) (k : ℕ) → length xs + suc k ≡ 256 → length (xs ++ x ∷ []) + k ≡ 256
+one_fewer xs x k h = let e : length (xs ++ x ∷ []) ≡ length xs + 1 = length-append xs (x ∷ []) in omega (arith, h, e)
 
-elements_counted : {A : Type 0} (all : List PlacedToken) (begins : QueryToken → Bool) (element : Production A) → ((t : QueryToken) → begins t ≡ true → begins_item t ≡ true)
-    → Keeps all A element → (k : ℕ) → Keeps all (List A) (elements begins element k)
-elements_counted all begins element starts goes k = one_by_one all element (λ x. further_elements begins element k (x ∷ [])) goes (λ x. more_elements all begins element starts goes k (x ∷ []))
+-- what is told of further elements behind a front, of which so many may come
+abbrev CountsMore : (A : Type 0) → List PlacedToken → (List PlacedToken → A → Type 0) → (QueryToken → Bool) → Production A → List PlacedToken → ℕ → Type 0
+CountsMore A all S begins element front k = (xs : List A) (ts : List PlacedToken) → Separated A S ts xs → length xs + k ≡ 256 → (u : Unread) → all ≡ front ++ (ts ++ u.tokens) → Counted all u
+    → Reads (List A) (Counted all) all (further_elements begins element k xs u)
 
-key_begins : (t : QueryToken) → begins_key t ≡ true → begins_item t ≡ true
-key_begins (identifier n) h = refl
-key_begins t h = absurd (cc h)
+elements_full : {A : Type 0} (all : List PlacedToken) (S : List PlacedToken → A → Type 0) (begins : QueryToken → Bool) (element : Production A) (front : List PlacedToken)
+    → TellsExtra A S begins front → CountsMore A all S begins element front zero
+elements_full {A} all S begins element front tells xs ts s full u z c = by_test (next_is (is_the_sign comma) u) refl
+  where
+    by_test : (b : Bool) → next_is (is_the_sign comma) u ≡ b → Reads (List A) (Counted all) all (either b (any_token >>= (λ _. too_many_of begins)) (give xs) u)
+    by_test true e = comma_behind all S begins front ts xs tells s (sym (add-zero (length xs)) ∙ full) u (next_token (is_the_sign comma) u e) z c
+    by_test false e = gives_counted all xs u c
 
-items_counted : (all : List PlacedToken) → Keeps all (List ItemSyntax) items
+elements_round : {A : Type 0} (all : List PlacedToken) (S : List PlacedToken → A → Type 0) (begins : QueryToken → Bool) (element : Production A) (front : List PlacedToken) → Keeps all A element
+    → ((u : Unread) → Outcome A S u (element u)) → (k : ℕ) → CountsMore A all S begins element front k → CountsMore A all S begins element front (suc k)
+elements_round {A} all S begins element front goes spells k again xs ts s full u z c = by_test (next_is (is_the_sign comma) u) refl
+  where
+    by_test : (b : Bool) → next_is (is_the_sign comma) u ≡ b
+        → Reads (List A) (Counted all) all (either b (any_token >>= (λ _. element >>= (λ x. further_elements begins element k (xs ++ x ∷ [])))) (give xs) u)
+    by_test true e =
+        let n = next_token (is_the_sign comma) u e in
+        bind_both (One (sign comma)) (Counted all) (Counted all) all u (any_token u) (λ _. element >>= (λ x. further_elements begins element k (xs ++ x ∷ []))) (known_sign comma u n) (skip_sign all comma refl u n c)
+        (λ i v ws g o d. bind_both S (Counted all) (Counted all) all v (element v) (λ x. further_elements begins element k (xs ++ x ∷ [])) (spells v) (goes v d)
+        (λ x w us h r f. again (xs ++ x ∷ []) (ts ++ sign_at i comma ∷ us) (and_one i ts us xs x s r) (one_fewer xs x k full) w
+        (z ∙ ap (λ zs. front ++ zs) (behind (ts ++ u.tokens) u.tokens (sign_at i comma ∷ us) ts w.tokens refl (g ∙ (ap (λ zs. zs ++ v.tokens) o ∙ ap (λ zs. sign_at i comma ∷ zs) h)))) f))
+    by_test false e = gives_counted all xs u c
+
+more_elements : {A : Type 0} (all : List PlacedToken) (S : List PlacedToken → A → Type 0) (begins : QueryToken → Bool) (element : Production A) (front : List PlacedToken)
+    → TellsExtra A S begins front → Keeps all A element → ((u : Unread) → Outcome A S u (element u)) → (k : ℕ) → CountsMore A all S begins element front k
+more_elements all S begins element front tells goes spells zero = elements_full all S begins element front tells
+more_elements all S begins element front tells goes spells (suc k) = elements_round all S begins element front goes spells k (more_elements all S begins element front tells goes spells k)
+
+elements_counted : {A : Type 0} (all : List PlacedToken) (S : List PlacedToken → A → Type 0) (begins : QueryToken → Bool) (element : Production A) (front : List PlacedToken)
+    → TellsExtra A S begins front → Keeps all A element → ((u : Unread) → Outcome A S u (element u)) → (u : Unread) → all ≡ front ++ u.tokens → Counted all u
+    → Reads (List A) (Counted all) all (elements begins element 255 u)
+elements_counted all S begins element front tells goes spells u z c =
+    bind_both S (Counted all) (Counted all) all u (element u) (λ x. further_elements begins element 255 (x ∷ [])) (spells u) (goes u c)
+    (λ x v ts g r d. more_elements all S begins element front tells goes spells 255 (x ∷ []) ts (alone ts x r) refl v (z ∙ ap (λ zs. front ++ zs) g) d)
+
+item_is_extra : (h : ℕ) → TellsExtra ItemSyntax SpellsItem begins_item (word_at h select_word ∷ [])
+item_is_extra h i ts xs t s full b =
+    let before = word_at h select_word ∷ (ts ++ sign_at i comma ∷ []) in
+    inr (inl (b, subst (λ n. BeforeItem n before) full (before_further_item h i ts xs s)))
+
+key_is_extra : (front : List PlacedToken) → BeforeKeys front → TellsExtra PathSyntax SpellsPath begins_key front
+key_is_extra front x i ts ks t s full b = inr (inr (b, subst (λ n. BeforeKey n (front ++ (ts ++ sign_at i comma ∷ []))) full (before_further_key i front ts ks x s)))
+
+items_counted : (all : List PlacedToken) (h : ℕ) (u : Unread) → all ≡ word_at h select_word ∷ u.tokens → Counted all u → Reads (List ItemSyntax) (Counted all) all (items u)
 unfolding items
-items_counted all = elements_counted all begins_item item (λ t h. h) (item_counted all) (most_items - 1)
+items_counted all h u z c = elements_counted all SpellsItem begins_item item (word_at h select_word ∷ []) (item_is_extra h) (item_counted all) item_goes u z c
 
-keys_counted : (all : List PlacedToken) → Keeps all (List PathSyntax) keys
+keys_counted : (all front : List PlacedToken) → BeforeKeys front → (u : Unread) → all ≡ front ++ u.tokens → Counted all u → Reads (List PathSyntax) (Counted all) all (keys u)
 unfolding keys
-keys_counted all = elements_counted all begins_key path_names key_begins (path_counted all) (most_items - 1)
+keys_counted all front x u z c = elements_counted all SpellsPath begins_key path_names front (key_is_extra front x) (path_counted all) path_outcome u z c
 
 -- ---- queries
 
@@ -333,10 +381,43 @@ where_counted all = if_counted all (is_the_word where_word) (any_token >>= (λ _
     (λ _. one_by_one all here (λ i. whole_expression >>= (λ e. give (condition_of i e))) (here_counted all)
     (λ i. one_by_one all whole_expression (λ e. give (condition_of i e)) (whole_counted all) (λ e. gives_counted all (condition_of i e))))) (gives_counted all None)
 
-group_counted : (all : List PlacedToken) → Keeps all (List PathSyntax) group_part
-group_counted all = if_counted all (is_the_word group_word) (any_token >>= (λ _. word by_word >>= (λ _. keys))) (give [])
-    (λ u n c. then_skipped all (λ _. word by_word >>= (λ _. keys)) u (any_token u) (skip_word all group_word refl u n c)
-    (λ _. one_by_one all (word by_word) (λ _. keys) (word_counted all by_word refl) (λ _. keys_counted all))) (gives_counted all [])
+-- a query's front: SELECT item {"," item} FROM name [WHERE expr]
+record UpToClauses (front : List PlacedToken) : Type 0 where
+  select_place : ℕ
+  from_place : ℕ
+  name_place : ℕ
+  name : List ℕ
+  item_tokens : List PlacedToken
+  item_trees : List ItemSyntax
+  condition_tokens : List PlacedToken
+  condition_tree : Option ConditionSyntax
+  tokens : front ≡ word_at select_place select_word ∷ (item_tokens ++ word_at from_place from_word ∷ name_at name_place name ∷ condition_tokens)
+  spells_items : Separated ItemSyntax SpellsItem item_tokens item_trees
+  spells_condition : SpellsWhere condition_tokens condition_tree
+
+-- GROUP BY behind such a front
+up_to_keys : (front : List PlacedToken) (k l : ℕ) → UpToClauses front → BeforeKeys (front ++ word_at k group_word ∷ word_at l by_word ∷ [])
+up_to_keys front k l x =
+    let two = word_at k group_word ∷ word_at l by_word ∷ [] in
+    let clauses = word_at x.from_place from_word ∷ name_at x.name_place x.name ∷ x.condition_tokens in
+    let tokens : front ++ two ≡ word_at x.select_place select_word ∷ (x.item_tokens ++ (clauses ++ two)) =
+    ap (λ xs. xs ++ two) x.tokens ∙ ap (λ xs. word_at x.select_place select_word ∷ xs) (append_assoc x.item_tokens clauses two) in
+    subst BeforeKeys (sym tokens) (before_keys x.select_place x.from_place x.name_place k l x.name x.item_tokens x.condition_tokens x.item_trees x.condition_tree x.spells_items x.spells_condition)
+
+group_counted : (all front : List PlacedToken) → UpToClauses front → (u : Unread) → all ≡ front ++ u.tokens → Counted all u → Reads (List PathSyntax) (Counted all) all (group_part u)
+group_counted all front x u z c = by_test (next_is (is_the_word group_word) u) refl
+  where
+    by_test : (b : Bool) → next_is (is_the_word group_word) u ≡ b → Reads (List PathSyntax) (Counted all) all (either b (any_token >>= (λ _. word by_word >>= (λ _. keys))) (give []) u)
+    by_test true e =
+        let n = next_token (is_the_word group_word) u e in
+        bind_both (One (reserved group_word)) (Counted all) (Counted all) all u (any_token u) (λ _. word by_word >>= (λ _. keys)) (known_word group_word u n) (skip_word all group_word refl u n c)
+        (λ k v ts g o d. bind_both (One (reserved by_word)) (Counted all) (Counted all) all v (word by_word v) (λ _. keys) (word_outcome by_word v) (word_counted all by_word refl v d)
+        (λ l w us h r f.
+        let two : u.tokens ≡ word_at k group_word ∷ word_at l by_word ∷ w.tokens =
+        g ∙ (ap (λ zs. zs ++ v.tokens) o ∙ ap (λ zs. word_at k group_word ∷ zs) (h ∙ ap (λ zs. zs ++ w.tokens) r)) in
+        keys_counted all (front ++ word_at k group_word ∷ word_at l by_word ∷ []) (up_to_keys front k l x) w
+        (behind all u.tokens (word_at k group_word ∷ word_at l by_word ∷ []) front w.tokens z two) f))
+    by_test false e = gives_counted all [] u c
 
 -- the whole text was read
 record Ended (all : List PlacedToken) (u : Unread) : Type 0 where
@@ -359,21 +440,58 @@ end_counted all u c = by_test (next_is (is_the_sign semicolon) u) refl
     by_test false e = text_end_counted all u c
 
 -- one production behind another, to the text's end
-ends : {A B : Type 0} (all : List PlacedToken) (p : Production A) (next : A → Production B) → Keeps all A p → ((a : A) (u : Unread) → Counted all u → Reads B (Ended all) all (next a u))
-    → (u : Unread) → Counted all u → Reads B (Ended all) all ((p >>= next) u)
-ends all p next first step u c = bind (Counted all) (Ended all) all (p u) next (first u c) step
+ends : {A B : Type 0} (S : List PlacedToken → A → Type 0) (all : List PlacedToken) (p : Production A) (next : A → Production B) (u : Unread) → Outcome A S u (p u) → Reads A (Counted all) all (p u)
+    → ((a : A) (v : Unread) (ts : List PlacedToken) → u.tokens ≡ ts ++ v.tokens → S ts a → Counted all v → Reads B (Ended all) all (next a v)) → Reads B (Ended all) all ((p >>= next) u)
+ends S all p next u o r step = bind_both S (Counted all) (Ended all) all u (p u) next o r step
 
 abbrev tree_of : List ItemSyntax → NameSyntax → Option ConditionSyntax → List PathSyntax → QuerySyntax
 tree_of xs t c ks = record { items = xs; table = t; condition = c; keys = ks }
 
-query_counted : (all : List PlacedToken) (u : Unread) → Counted all u → Reads QuerySyntax (Ended all) all (query u)
-query_counted all = ends all (word select_word) (λ _. items >>= (λ xs. word from_word >>= (λ _. table_name >>= (λ t. where_part >>= (λ c. group_part >>= (λ ks. end_part >>= (λ _. give (tree_of xs t c ks)))))))) (word_counted all select_word refl)
-    (λ _. ends all items (λ xs. word from_word >>= (λ _. table_name >>= (λ t. where_part >>= (λ c. group_part >>= (λ ks. end_part >>= (λ _. give (tree_of xs t c ks))))))) (items_counted all)
-    (λ xs. ends all (word from_word) (λ _. table_name >>= (λ t. where_part >>= (λ c. group_part >>= (λ ks. end_part >>= (λ _. give (tree_of xs t c ks)))))) (word_counted all from_word refl)
-    (λ _. ends all table_name (λ t. where_part >>= (λ c. group_part >>= (λ ks. end_part >>= (λ _. give (tree_of xs t c ks))))) (table_counted all)
-    (λ t. ends all where_part (λ c. group_part >>= (λ ks. end_part >>= (λ _. give (tree_of xs t c ks)))) (where_counted all)
-    (λ c. ends all group_part (λ ks. end_part >>= (λ _. give (tree_of xs t c ks))) (group_counted all)
-    (λ ks u d. bind (Ended all) (Ended all) all (end_part u) (λ _. give (tree_of xs t c ks)) (end_counted all u d) (λ _ v e. went (tree_of xs t c ks) v e)))))))
+-- what stands behind the condition; behind the table's name; behind the items
+abbrev behind_condition : List ItemSyntax → NameSyntax → Option ConditionSyntax → Production QuerySyntax
+behind_condition xs t c = group_part >>= (λ ks. end_part >>= (λ _. give (tree_of xs t c ks)))
+
+abbrev behind_table : List ItemSyntax → NameSyntax → Production QuerySyntax
+behind_table xs t = where_part >>= behind_condition xs t
+
+abbrev behind_items : List ItemSyntax → Production QuerySyntax
+behind_items xs = word from_word >>= (λ _. table_name >>= behind_table xs)
+
+clauses_end : (all front : List PlacedToken) (xs : List ItemSyntax) (t : NameSyntax) (x : Option ConditionSyntax) → UpToClauses front → (u : Unread) → all ≡ front ++ u.tokens → Counted all u
+    → Reads QuerySyntax (Ended all) all (behind_condition xs t x u)
+clauses_end all front xs t x f u z c =
+    bind (Counted all) (Ended all) all (group_part u) (λ ks. end_part >>= (λ _. give (tree_of xs t x ks))) (group_counted all front f u z c)
+    (λ ks v d. bind (Ended all) (Ended all) all (end_part v) (λ _. give (tree_of xs t x ks)) (end_counted all v d) (λ _ w e. went (tree_of xs t x ks) w e))
+
+items_end : (all : List PlacedToken) (h : ℕ) (ts : List PlacedToken) (xs : List ItemSyntax) → Separated ItemSyntax SpellsItem ts xs → (u : Unread) → all ≡ word_at h select_word ∷ (ts ++ u.tokens)
+    → Counted all u → Reads QuerySyntax (Ended all) all (behind_items xs u)
+items_end all h ts xs s u z c = ends (One (reserved from_word)) all (word from_word) (λ _. table_name >>= behind_table xs) u (word_outcome from_word u) (word_counted all from_word refl u c)
+    (λ i v f e o d. ends TableIs all table_name (behind_table xs) v (table_goes v) (table_counted all v d)
+    (λ t w n g p b. ends SpellsWhere all where_part (behind_condition xs t) w (where_goes w) (where_counted all w b)
+    (λ x y us k r a.
+    let clauses = word_at i from_word ∷ name_at t.place t.name ∷ us in
+    let tokens : u.tokens ≡ clauses ++ y.tokens =
+    e ∙ (ap (λ zs. zs ++ v.tokens) o ∙ ap (λ zs. word_at i from_word ∷ zs) (g ∙ (ap (λ zs. zs ++ w.tokens) p ∙ ap (λ zs. name_at t.place t.name ∷ zs) k))) in
+    clauses_end all (word_at h select_word ∷ (ts ++ clauses)) xs t x (record {
+      select_place = h;
+      from_place = i;
+      name_place = t.place;
+      name = t.name;
+      item_tokens = ts;
+      item_trees = xs;
+      condition_tokens = us;
+      condition_tree = x;
+      tokens = refl;
+      spells_items = s;
+      spells_condition = r;
+    }) y (z ∙ ap (λ zs. word_at h select_word ∷ zs) (behind (ts ++ u.tokens) u.tokens clauses ts y.tokens refl tokens)) a)))
+
+query_counted : (all : List PlacedToken) (u : Unread) → all ≡ u.tokens → Counted all u → Reads QuerySyntax (Ended all) all (query u)
+query_counted all u z c = ends (One (reserved select_word)) all (word select_word) (λ _. items >>= behind_items) u (word_outcome select_word u) (word_counted all select_word refl u c)
+    (λ h v f e o d.
+    let tokens : all ≡ word_at h select_word ∷ v.tokens = z ∙ (e ∙ ap (λ zs. zs ++ v.tokens) o) in
+    ends (Separated ItemSyntax SpellsItem) all items behind_items v (items_go v) (items_counted all h v tokens d)
+    (λ xs w ts g s b. items_end all h ts xs s w (tokens ∙ ap (λ zs. word_at h select_word ∷ zs) g) b))
 
 -- ---- the laws
 
@@ -405,7 +523,7 @@ too_many_stands bytes i h = by_length (nat_lt longest_query (length bytes)) h
     by_length : (b : Bool) → (if b then Err (record { place = longest_query; problem = too_long }) else result_of (query (unread_text bytes))) ≡ Err (record { place = i; problem = too_many })
         → TooManyStandsAt (query_tokens bytes) i
     by_length true g = absurd (not_long (ap problem_in g))
-    by_length false g = told_of (query_tokens bytes) (query (unread_text bytes)) i (query_counted (query_tokens bytes) (unread_text bytes) (nothing_read bytes)) g
+    by_length false g = told_of (query_tokens bytes) (query (unread_text bytes)) i (query_counted (query_tokens bytes) (unread_text bytes) refl (nothing_read bytes)) g
 
 pub few_operators : AcceptedHasFewOperators
 unfolding parse_query
@@ -414,4 +532,4 @@ few_operators bytes q h = by_length (nat_lt longest_query (length bytes)) h
     by_length : (b : Bool) → (if b then Err (record { place = longest_query; problem = too_long }) else result_of (query (unread_text bytes))) ≡ Ok q
         → nat_le (operators_in (query_tokens bytes)) 512 ≡ true
     by_length true g = absurd (cc g)
-    by_length false g = few_of (query_tokens bytes) (query (unread_text bytes)) q (query_counted (query_tokens bytes) (unread_text bytes) (nothing_read bytes)) g
+    by_length false g = few_of (query_tokens bytes) (query (unread_text bytes)) q (query_counted (query_tokens bytes) (unread_text bytes) refl (nothing_read bytes)) g

@@ -37,7 +37,7 @@ pub record Seq (A B : Type 0) (S : List PlacedToken → A → Type 0) (T : A →
   pub first : S front middle
   pub second : T middle rest b
 
-behind : (us vs ws ts rest : List PlacedToken) → us ≡ ts ++ vs → vs ≡ ws ++ rest → us ≡ (ts ++ ws) ++ rest
+pub behind : (us vs ws ts rest : List PlacedToken) → us ≡ ts ++ vs → vs ≡ ws ++ rest → us ≡ (ts ++ ws) ++ rest
 behind us vs ws ts rest e f = e ∙ (ap (λ xs. ts ++ xs) f ∙ sym (append_assoc ts ws rest))
 
 next_outcome : {A B : Type 0} (S : List PlacedToken → A → Type 0) (T : A → List PlacedToken → B → Type 0) (u v : Unread) (ts : List PlacedToken) (a : A) (q : Parsed B)
@@ -150,11 +150,11 @@ pub record IsText (ts : List PlacedToken) (t : List ℕ) : Type 0 where
   pub place : ℕ
   pub tokens : ts ≡ text_at place t ∷ []
 
-name_token_is : (n : List ℕ) (t : QueryToken) → name_in t ≡ Some n → t ≡ identifier n
+pub name_token_is : (n : List ℕ) (t : QueryToken) → name_in t ≡ Some n → t ≡ identifier n
 name_token_is n (identifier m) h = let e : m ≡ n = cc in ap identifier e
 name_token_is n t h = absurd (cc h)
 
-text_token_is : (x : List ℕ) (t : QueryToken) → text_in t ≡ Some x → t ≡ text x
+pub text_token_is : (x : List ℕ) (t : QueryToken) → text_in t ≡ Some x → t ≡ text x
 text_token_is x (text y) h = let e : y ≡ x = cc in ap text e
 text_token_is x t h = absurd (cc h)
 

@@ -26,11 +26,11 @@ use Rattle.dr_query_laws.proofs.ExpressionsGoOn.{path_outcome, fills_path, fills
 only_front : (ts us vs : List PlacedToken) → ts ≡ us ++ vs → vs ≡ [] → ts ≡ us
 only_front ts us vs e f = e ∙ (ap (λ xs. us ++ xs) f ∙ append-nil us)
 
-argument_goes : (u : Unread) → Outcome ExpressionSyntax SpellsExpression u (argument u)
+pub argument_goes : (u : Unread) → Outcome ExpressionSyntax SpellsExpression u (argument u)
 unfolding argument
 argument_goes u = nested_expression_goes (greatest_nesting - 1) u
 
-whole_goes : (u : Unread) → Outcome ExpressionSyntax SpellsExpression u (whole_expression u)
+pub whole_goes : (u : Unread) → Outcome ExpressionSyntax SpellsExpression u (whole_expression u)
 unfolding whole_expression
 whole_goes u = nested_expression_goes greatest_nesting u
 
@@ -81,12 +81,12 @@ fills_within = record { tokens = []; value = None; spelled = no_within }
 
 -- ---- terms
 
-record Aggregates (t : QueryToken) (a : Aggregate) : Type 0 where
-  by : Word
-  this : t ≡ reserved by
-  is : IsAggregate by a
+pub record Aggregates (t : QueryToken) (a : Aggregate) : Type 0 where
+  pub by : Word
+  pub this : t ≡ reserved by
+  pub is : IsAggregate by a
 
-aggregates : (t : QueryToken) (a : Aggregate) → aggregate_in t ≡ Some a → Aggregates t a
+pub aggregates : (t : QueryToken) (a : Aggregate) → aggregate_in t ≡ Some a → Aggregates t a
 aggregates (reserved count_word) a h = let e : count ≡ a = cc in record { by = count_word; this = refl; is = subst (IsAggregate count_word) e is_count }
 aggregates (reserved sum_word) a h = let e : sum ≡ a = cc in record { by = sum_word; this = refl; is = subst (IsAggregate sum_word) e is_sum }
 aggregates (reserved min_word) a h = let e : least ≡ a = cc in record { by = min_word; this = refl; is = subst (IsAggregate min_word) e is_least }
@@ -129,7 +129,7 @@ expression_argument_goes a u = weaker (Seq ExpressionSyntax TermSyntax SpellsExp
     (λ e. fills_close (aggregate a e)) (λ e v. close_goes (aggregate a e) v) (argument_goes u))
 
 -- the star of COUNT(*)
-star_of_count : (a : Aggregate) (u : Unread) → NextToken (counts_rows a) u → (a ≡ count) × NextToken (is_the_sign star) u
+pub star_of_count : (a : Aggregate) (u : Unread) → NextToken (counts_rows a) u → (a ≡ count) × NextToken (is_the_sign star) u
 star_of_count count u n = (refl, n)
 star_of_count a u n = absurd (cc n.passes_it)
 
@@ -172,7 +172,7 @@ aggregate_all a t means ts x y =
     let tokens : ts ≡ word_at y.place k.by ∷ sign_at o.place open_parenthesis ∷ o.rest = y.tokens ∙ ap₂ (λ z xs. placed y.place z ∷ xs) k.this o.tokens in
     subst (λ xs. SpellsTerm xs x) (sym tokens) (o.second y.place o.place k.by k.is)
 
-term_goes : (u : Unread) → Outcome TermSyntax SpellsTerm u (item_term u)
+pub term_goes : (u : Unread) → Outcome TermSyntax SpellsTerm u (item_term u)
 term_goes u = by_outcome SpellsTerm aggregate_in aggregate_term expression_term u
     (λ a m. weaker (Behind TermSyntax m.first.token (OpenTail a)) SpellsTerm u (aggregate_term a u) (aggregate_all a m.first.token m.means)
     (one_seq m.first.token (OpenTail a) u (any_token u) (λ _. mark open_parenthesis >>= (λ _. if_next (counts_rows a) rows_argument (expression_argument a)))
@@ -304,7 +304,7 @@ item_all i ts x at y =
     let first : at.0 ≡ b.first = cc in
     (y.front, y.rest, y.tokens, (b.first, b.others, b.tokens, sym (ap (λ (t : PlacedToken). t.place) first) ∙ (at.3 ∙ sym y.place)), y.term, y.names)
 
-item_goes : (u : Unread) → Outcome ItemSyntax SpellsItem u (item u)
+pub item_goes : (u : Unread) → Outcome ItemSyntax SpellsItem u (item u)
 item_goes u = begun ItemAt SpellsItem begun_item
     (λ i j ts x y. (item_of j x.term x.name, record { place = refl; front = y.front; rest = y.rest; tokens = y.tokens; term = y.term; names = y.names })) item_all u (item u)
     (weaker (Seq TermSyntax ItemSyntax SpellsTerm (NamedItem (place_of u))) (ItemAt (place_of u)) u (item u) (item_parts (place_of u))
@@ -374,7 +374,7 @@ elements_outcome A S begins element fill goes n u = weaker (Seq A (List A) S (λ
     (λ ts ys x. subst (λ zs. Separated A S zs ys) (sym x.tokens) (x.second x.front (alone x.front x.middle x.first)))
     (seq S (λ x. ElementsMore A S (x ∷ [])) u (element u) (λ x. further_elements begins element n (x ∷ [])) (λ x. fills_elements A S (x ∷ [])) (λ x v. elements_go A S begins element fill goes n (x ∷ []) v) (goes u))
 
-items_go : (u : Unread) → Outcome (List ItemSyntax) (Separated ItemSyntax SpellsItem) u (items u)
+pub items_go : (u : Unread) → Outcome (List ItemSyntax) (Separated ItemSyntax SpellsItem) u (items u)
 unfolding items
 items_go u = elements_outcome ItemSyntax SpellsItem begins_item item fills_item item_goes (most_items - 1) u
 
@@ -390,7 +390,7 @@ record TableAt (i : ℕ) (ts : List PlacedToken) (t : NameSyntax) : Type 0 where
   at : ℕ
   tokens : ts ≡ name_at at t.name ∷ []
 
-abbrev TableIs : List PlacedToken → NameSyntax → Type 0
+abbrev pub TableIs : List PlacedToken → NameSyntax → Type 0
 TableIs ts t = ts ≡ name_at t.place t.name ∷ []
 
 abbrev table_of : ℕ → List ℕ → NameSyntax
@@ -407,7 +407,7 @@ table_all i ts t b x =
     let place : x.at ≡ t.place = sym (ap (λ (s : PlacedToken). s.place) first) ∙ (b.3 ∙ sym x.place) in
     x.tokens ∙ ap (λ i. name_at i t.name ∷ []) place
 
-table_goes : (u : Unread) → Outcome NameSyntax TableIs u (table_name u)
+pub table_goes : (u : Unread) → Outcome NameSyntax TableIs u (table_name u)
 table_goes u = begun TableAt TableIs (λ i ts t x. record { first = name_at x.at t.name; others = []; tokens = x.tokens })
     (λ i j ts t x. (table_of j t.name, record { place = refl; at = x.at; tokens = x.tokens })) table_all u (table_name u)
     (weaker (Seq (List ℕ) NameSyntax IsName (λ n. Nothing NameSyntax (table_of (place_of u) n))) (TableAt (place_of u)) u (table_name u) (table_parts (place_of u))
@@ -450,7 +450,7 @@ fills_condition i =
       spelled = where_expression i b.first.place e.tokens e.value (b.first, b.others, b.tokens, refl) e.spelled;
     }
 
-where_goes : (u : Unread) → Outcome (Option ConditionSyntax) SpellsWhere u (where_part u)
+pub where_goes : (u : Unread) → Outcome (Option ConditionSyntax) SpellsWhere u (where_part u)
 where_goes u = if_outcome SpellsWhere (is_the_word where_word) (any_token >>= (λ _. here >>= (λ j. whole_expression >>= (λ e. give (condition_of j e))))) (give None) u
     (λ n. weaker (Behind (Option ConditionSyntax) (reserved where_word) WhereTail) SpellsWhere u ((any_token >>= (λ _. here >>= (λ j. whole_expression >>= (λ e. give (condition_of j e))))) u)
     (λ ts c x. subst (λ xs. SpellsWhere xs c) (sym x.tokens) x.second)

@@ -1,3 +1,4 @@
 pub mod FaultLaws
 pub mod LeavesLaws
 pub mod LimitLaws
+pub mod NestingLaws

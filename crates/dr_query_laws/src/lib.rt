@@ -4,3 +4,4 @@
 pub mod fault_laws;
 pub mod leaf_laws;
 pub mod limit_laws;
+pub mod nesting_laws;
