@@ -91,11 +91,11 @@ stand_from s q Sb pb (R ∷ Rs) (p ∷ ps) e h =
     let rest = stand_from s q (Sb ++ R ∷ []) (pb ++ partial_view p ∷ []) Rs ps e' h.2 in (
       ap (list_all (is_record s.fields)) here ∙ h.0,
       subst (λ (ns : List Node). Stands s.fields q ns (piece_of (pb ++ partial_view p ∷ partials_view ps) (length pb))) (sym here)
-      (subst (Stands s.fields q R) (sym mine) (stands_as s q R (partial_view p) h.1)),
+          (subst (Stands s.fields q R) (sym mine) (stands_as s q R (partial_view p) h.1)),
       subst (λ (n : ℕ). StandsForEach s.fields q (records_at (Sb ++ R ∷ Rs)) (piece_of (pb ++ partial_view p ∷ partials_view ps)) (range_with_len n (length ps))) (length_one pb (partial_view p))
-      (subst (λ (all : List meant.Partial). StandsForEach s.fields q (records_at (Sb ++ R ∷ Rs)) (piece_of all) (range_with_len (length (pb ++ partial_view p ∷ [])) (length ps))) (append_assoc pb (partial_view p ∷ []) (partials_view ps))
-      (subst (λ (all : List (List Node)). StandsForEach s.fields q (records_at all) (piece_of ((pb ++ partial_view p ∷ []) ++ partials_view ps)) (range_with_len (length (pb ++ partial_view p ∷ [])) (length ps)))
-      (append_assoc Sb (R ∷ []) Rs) rest)),
+          (subst (λ (all : List meant.Partial). StandsForEach s.fields q (records_at (Sb ++ R ∷ Rs)) (piece_of all) (range_with_len (length (pb ++ partial_view p ∷ [])) (length ps))) (append_assoc pb (partial_view p ∷ []) (partials_view ps))
+          (subst (λ (all : List (List Node)). StandsForEach s.fields q (records_at all) (piece_of ((pb ++ partial_view p ∷ []) ++ partials_view ps)) (range_with_len (length (pb ++ partial_view p ∷ [])) (length ps)))
+          (append_assoc Sb (R ∷ []) Rs) rest)),
     )
 
 all_stand : (s : Schema) (q : Query) (Rs : List (List Node)) (ps : List Partial) → AllStand s q Rs ps
@@ -120,12 +120,12 @@ gathered_answer s q plan Rs ps n fan tree p rows text is all positive each grows
     let tablets : tablets_in tree ≡ range_with_len 0 (length ps) = ap tablets_in grows ∙ (fan_has_all_tablets n fan positive ∙ ap (range_with_len 0) (sym each)) in
     let sizes : length (partials_view ps) ≡ length ps = length-map ps partial_view in
     let pieces : map (piece_of (partials_view ps)) (tablets_in tree) ≡ partials_view ps =
-          ap (map (piece_of (partials_view ps))) (tablets ∙ ap (range_with_len 0) (sym sizes)) ∙ all_pieces (partials_view ps) in
+    ap (map (piece_of (partials_view ps))) (tablets ∙ ap (range_with_len 0) (sym sizes)) ∙ all_pieces (partials_view ps) in
     let stands : StandsForEach s.fields q (records_at Rs) (piece_of (partials_view ps)) (tablets_in tree) =
-          subst (StandsForEach s.fields q (records_at Rs) (piece_of (partials_view ps))) (sym tablets) (all_stand s q Rs ps all) in
+    subst (StandsForEach s.fields q (records_at Rs) (piece_of (partials_view ps))) (sym tablets) (all_stand s q Rs ps all) in
     let means : finished q (gathered (piece_of (partials_view ps)) tree) ≡ meaning s.fields q (joined Rs) =
-          gathered_means_query s.fields q (records_at Rs) (piece_of (partials_view ps)) tree (bound_is_mergeable s is.0 q is.1) stands
-          ∙ ap (meaning s.fields q) (ap (records_of (records_at Rs)) (tablets ∙ ap (range_with_len 0) (sym (same_length s q Rs ps all))) ∙ all_records Rs) in
+    gathered_means_query s.fields q (records_at Rs) (piece_of (partials_view ps)) tree (bound_is_mergeable s is.0 q is.1) stands
+    ∙ ap (meaning s.fields q) (ap (records_of (records_at Rs)) (tablets ∙ ap (range_with_len 0) (sym (same_length s q Rs ps all))) ∙ all_records Rs) in
     prints ∙ ap result_text (finishes ∙ (ap (λ (v : Planned). finished (planned_query v) p) is.2 ∙ (ap (finished q) (gathers (piece_of (partials_view ps)) pieces) ∙ means)))
 
 -- ---- the partials of a table go together

@@ -22,6 +22,7 @@ module _ (s : Schema) (F : List Leaf) (link : LinkShown) (files : Files) (held :
       by_read : (bytes : List ℕ) → files c.path ≡ Some bytes → IsFileThere s F R (Some bytes) → (b : Bool) → is_read t.cause ≡ b → b ≡ true
       by_read bytes e f true k = refl
       by_read bytes e f false k = absurd (left_holds_no_file s F link files c.path bytes t.cause R held e cause k f)
+
       by_bytes : (o : Option (List ℕ)) → files c.path ≡ o → IsFileThere s F R o → is_read t.cause ≡ true
       by_bytes None e f = absurd f
       by_bytes (Some bytes) e f = by_read bytes e f (is_read t.cause) refl
@@ -44,9 +45,10 @@ module _ (s : Schema) (F : List Leaf) (link : LinkShown) (files : Files) (held :
       length_one : (b : List (List Copy)) → length (b ++ cs ∷ []) ≡ suc (length b)
       length_one [] = refl
       length_one (x ∷ b) = ap suc (length_one b)
-  each_failed all before (cs ∷ rest) n (l0 ∷ left) e l h (is_left m ds more ls tried a k) =
-      ((cs, ap (slice_get all) l ∙ (ap (λ xs. slice_get xs (length before)) e ∙ slice_behind before cs rest), some_failed cs tried h.0.0 a h.0.1),
-      each_failed all (before ++ cs ∷ []) rest (suc n) left (e ∙ sym (append_assoc before (cs ∷ []) rest)) (ap suc l ∙ sym (length_one before)) h.1 k)
+  each_failed all before (cs ∷ rest) n (l0 ∷ left) e l h (is_left m ds more ls tried a k) = (
+    (cs, ap (slice_get all) l ∙ (ap (λ xs. slice_get xs (length before)) e ∙ slice_behind before cs rest), some_failed cs tried h.0.0 a h.0.1),
+    each_failed all (before ++ cs ∷ []) rest (suc n) left (e ∙ sym (append_assoc before (cs ∷ []) rest)) (ap suc l ∙ sym (length_one before)) h.1 k,
+  )
     where
       length_one : (b : List (List Copy)) → length (b ++ cs ∷ []) ≡ suc (length b)
       length_one [] = refl

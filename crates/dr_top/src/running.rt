@@ -30,7 +30,15 @@ fn say<E: Sink>(err: &mut E, line: &[u8])
 ///
 /// The clauses speak of what the things outside show before the call and after it. The gate is passed on to workers
 /// alone, and no command has any yet: the gate lets nobody through who isn't promised to be admitted.
-pub fn run<R: Threads + Sync, S: Source, O: Sink, E: Sink, K: Keeper, L: Link + Send, G: Gate + Sync>(
+pub fn run<
+    R: Threads + Sync,
+    S: Source,
+    O: Sink,
+    E: Sink,
+    K: Keeper,
+    L: Link + Send,
+    G: Gate + Sync,
+>(
     rt: &R,
     alloc: Global,
     words: &[String],

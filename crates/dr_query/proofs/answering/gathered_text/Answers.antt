@@ -12,5 +12,5 @@ gather-requires-clause-tablets g c κs within = fan_has_as_many c.args.tablets c
 pub returns : goal.returns
 returns g c = λ s q Rs is all.
     IfOk-weaker c.result_text.result _ _ (λ t e.
-      gathered_answer s q c.args.plan.now Rs c.args.partials.items c.args.tablets c.args.fan (tree_view c.in_ok-tree.tree) (partial_view c.in_ok-partial.partial) (rows_view c.in_ok-rows.rows) (string_bytes t)
-      is all c.requires.tablets c.requires.each c.in_ok-tree.ensures c.in_ok-partial.ensures.gathered c.in_ok-rows.ensures.rows e) c.result_text.ensures
+    gathered_answer s q c.args.plan.now Rs c.args.partials.items c.args.tablets c.args.fan (tree_view c.in_ok-tree.tree) (partial_view c.in_ok-partial.partial) (rows_view c.in_ok-rows.rows) (string_bytes t)
+    is all c.requires.tablets c.requires.each c.in_ok-tree.ensures c.in_ok-partial.ensures.gathered c.in_ok-rows.ensures.rows e) c.result_text.ensures
