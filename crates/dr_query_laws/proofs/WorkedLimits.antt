@@ -18,16 +18,16 @@ a_comma_is_none : operators_in (sign_at 0 comma ∷ []) ≡ 0
 a_comma_is_none = refl
 
 -- the item 1 at place 7
-abbrev one_token : List PlacedToken
+abbrev pub one_token : List PlacedToken
 one_token = placed 7 (number 1) ∷ []
 
-abbrev one_item : ItemSyntax
+abbrev pub one_item : ItemSyntax
 one_item = record { place = 7; term = expression (number_literal 1); name = None }
 
 spells_one : SpellsExpression one_token (number_literal 1)
 spells_one = one_and _ _ (one_not _ _ (one_test _ _ (one_sum _ _ (one_product _ _ (one_unary _ _ (one_primary _ _ (a_number 7 1)))))))
 
-items_of_one : Separated ItemSyntax SpellsItem one_token (one_item ∷ [])
+pub items_of_one : Separated ItemSyntax SpellsItem one_token (one_item ∷ [])
 items_of_one = alone one_token one_item (one_token, [], refl, (placed 7 (number 1), [], refl, refl), an_expression one_token (number_literal 1) spells_one, no_as)
 
 -- SELECT 1,
