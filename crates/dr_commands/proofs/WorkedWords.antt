@@ -1,8 +1,10 @@
 -- Command lines written out: each holds by computation.
-use Rattle.std.specs.Prelude.{◌≡◌, refl, List, [], ◌∷◌, Some, None, codes}
+use Rattle.std.specs.Prelude.{◌≡◌, ℕ, refl, List, [], ◌∷◌, Some, None, codes}
 use Rattle.clap.specs.Words.{Text, fault_of}
 use Rattle.clap.specs.declared.error.ErrorKind.TheVariants as kind
 use Rattle.clap.proofs.OnLiterals.{clap_on_literals}
+use Rattle.dr_commands.specs.Ask.{AskWords, ask_meaning}
+use Rattle.dr_commands.specs.Query.{QueryWords, query_meaning}
 use Rattle.dr_commands.specs.Commands.{Taken, ask, explain, query as query_words, asked, dremel_app}
 
 abbrev query : Text
@@ -49,6 +51,13 @@ no_fans = (refl, refl, refl)
 pub fan_of_ask : asked (codes "dremel" ∷ codes "ask" ∷ codes "--fan" ∷ codes "3" ∷ codes "--schema" ∷ codes "document.txt" ∷ query ∷ []) ≡ Some (ask (record { schema = codes "document.txt"; rows = 100000; fan = 3; query = query }))
 unfolding clap_on_literals
 fan_of_ask = refl
+
+-- which changes nothing of what is meant
+pub fan_of_ask_means_nothing : (w : AskWords) (n : ℕ) → ask_meaning (record w { fan = n }) ≡ ask_meaning w
+fan_of_ask_means_nothing w n = refl
+
+pub fan_of_query_means_nothing : (w : QueryWords) (n : ℕ) → query_meaning (record w { fan = n }) ≡ query_meaning w
+fan_of_query_means_nothing w n = refl
 
 -- a query of a table; the table has to be named
 pub query_is_asked : asked (codes "dremel" ∷ codes "query" ∷ codes "--table" ∷ codes "t" ∷ query ∷ []) ≡ Some (query_words (record { table = codes "t"; fan = 8; query = query }))

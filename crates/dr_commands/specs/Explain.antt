@@ -48,4 +48,10 @@ unfoldable pub explained : List ℕ → List ℕ → Result (List ℕ) CommandRe
 explained schema query = explain_schema query (parse_schema schema)
 
 abbrev pub explain_meaning : ExplainWords → Meaning
-explain_meaning w = record { file = Some w.schema; reads_input = false; puts_files = false; asks_link = false; outcome = λ look. plain (explained look.file w.query) }
+explain_meaning w = record {
+  file = Some w.schema;
+  reads_input = false;
+  puts_files = false;
+  asks_link = false;
+  outcome = λ look. plain (explained look.file w.query);
+}

@@ -21,7 +21,8 @@ pub record QueryWords : Type 0 where
 
 -- its part of the command line
 abbrev pub query_app : App
-query_app = subcommand_app (codes "query") (needed (option_rule (codes "table")) ∷ number_rule (codes "fan") least_fan most_fan ∷ needed (new_rule (codes "query")) ∷ [])
+query_app = subcommand_app (codes "query") (needed (option_rule (codes "table")) ∷ number_rule (codes "fan") least_fan most_fan
+    ∷ needed (new_rule (codes "query")) ∷ [])
 
 -- its values in what clap found, where all are there
 abbrev pub with_query : List Row → Text → Text → QueryWords
