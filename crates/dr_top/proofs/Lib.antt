@@ -21,3 +21,5 @@ pub mod QueryEnds
 pub mod SchemaEnds
 -- the ends of a run
 pub mod RunLemmas
+-- tables that are held whole
+mod ServedLemmas

@@ -1,14 +1,17 @@
 -- How a run ends, in the world before and after it. What isn't said to change stays as it was.
-use Rattle.std.specs.Prelude.{◌≡◌, ℕ, true, List, codes, ◌⊎◌, Option, Some, None}
+use Rattle.std.specs.Prelude.{◌≡◌, ◌≢◌, ℕ, true, false, IsTrue, List, [], ◌∷◌, codes, ◌⊎◌, ⊤, Option, Some, None}
 use Rattle.dr_formats.specs.Loading.{Put}
 use Rattle.dr_formats.specs.Reports.{left_file_text}
 use Rattle.dr_outside.specs.Faults.{raised}
+use Rattle.dr_outside.specs.Link.{Files, LinkShown}
 use Rattle.dr_outside.specs.Sink.{SinkShown, AddedWhole, AddedFront}
 use Rattle.dr_outside.specs.declared.cause.Cause.{Cause}
+use Rattle.dr_reading.specs.Scan.{Scan}
+use Rattle.dr_reading.specs.Held.{EachHasFile}
 use Rattle.dr_reading.specs.Left.{LeftTablet}
 use Rattle.dr_reading.specs.LeftText.{told_cause, left_text}
 use Rattle.dr_commands.specs.Refusals.{Refusal, refusal_text}
-use Rattle.dr_commands.specs.Meaning.{Meaning, refused, IsEarly}
+use Rattle.dr_commands.specs.Meaning.{Meaning, refused, scans, IsEarly}
 use Rattle.dr_top.specs.World.{World, WithOutcome, IsOpened}
 use Rattle.dr_top.specs.Reading.{IsLeftWith, IsFileLeft}
 use Rattle.dr_top.specs.Stops.{IsReadBy, IsRefusedSo, PutsSome, PutsBreak}
@@ -145,3 +148,28 @@ LeavesLinks meant before after = LeavesUnasked meant before.links after.links
 abbrev pub IsComplete : Option Meaning → ℕ → World → World → Type 0
 IsComplete meant status before after = ForMeant meant (IsAccepted before) → IsCalm before after
     → (status ≡ 0) ⊎ ((status ≡ 5) ⊎ ((status ≡ 3) × ForMeant meant (λ m. m.asks_link ≡ true)))
+
+-- the table file that the words name is there; the first link is steady, and tells that of each tablet that the command scans a copy is a file,
+-- for the leaves that it reads
+pub record IsHeldWhole (m : Meaning) (w : World) : Type 0 where
+  pub path : List ℕ
+  pub kept : Files
+  pub file : List ℕ
+  pub scan : Scan
+  pub first : LinkShown
+  pub others : List LinkShown
+  pub files : Files
+  pub named : m.file ≡ Some path
+  pub reads_nothing : m.reads_input ≡ false
+  pub keeps : w.keeper.held ≡ Some kept
+  pub there : kept path ≡ Some file
+  pub scans_it : m.outcome (record { file = file; input = [] }) ≡ scans scan
+  pub links : w.links ≡ first ∷ others
+  pub tells : first.held ≡ Some files
+  pub steady : IsTrue first.is_steady
+  pub each : EachHasFile scan.schema scan.leaves files scan.tablets
+
+-- then no tablet is left
+abbrev pub IsServed : Option Meaning → ℕ → World → Type 0
+IsServed None status before = ⊤
+IsServed (Some m) status before = IsHeldWhole m before → status ≢ 3

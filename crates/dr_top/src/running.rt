@@ -3,7 +3,7 @@
 ghost use Rattle.std.specs.Prelude.{◌≡◌, ◌≢◌, ◌≤◌, ◌⊎◌, length, map, string_bytes};
 ghost use Rattle.dr_commands.specs.Commands.{Taken, meant};
 ghost use Rattle.dr_top.specs.World.{world};
-ghost use Rattle.dr_top.specs.Ends.{Says, Holds, Prints, IsUsage, IsRefused, IsLeft, IsOutside, IsMemory, SameCounts, LeavesInput, LeavesFiles, AsksKeeper, LeavesLinks, IsComplete};
+ghost use Rattle.dr_top.specs.Ends.{Says, Holds, Prints, IsUsage, IsRefused, IsLeft, IsOutside, IsMemory, SameCounts, LeavesInput, LeavesFiles, AsksKeeper, LeavesLinks, IsComplete, IsServed};
 
 use crate::commands::answer;
 use crate::left_file::left_file_report;
@@ -87,6 +87,8 @@ pub fn run<
     ensures links { LeavesLinks (meant (map string_bytes words.now))
         (world (S.shows source.old) (O.shows out.old) (E.shows err.old) (K.shows keeper.old) (map L.shows links.old))
         (world (S.shows source.new) (O.shows out.new) (E.shows err.new) (K.shows keeper.new) (map L.shows links.new)) }
+    ensures served { IsServed (meant (map string_bytes words.now)) result
+        (world (S.shows source.old) (O.shows out.old) (E.shows err.old) (K.shows keeper.old) (map L.shows links.old)) }
     ensures complete { IsComplete (meant (map string_bytes words.now)) result
         (world (S.shows source.old) (O.shows out.old) (E.shows err.old) (K.shows keeper.old) (map L.shows links.old))
         (world (S.shows source.new) (O.shows out.new) (E.shows err.new) (K.shows keeper.new) (map L.shows links.new)) }

@@ -1,0 +1,44 @@
+-- Where the first link is steady and tells that a copy of each tablet is a file, no tablet is left.
+use Rattle.std.proofs.Common.{◌≡◌, ◌∙◌, inl, inr, ℕ, Bool, false, List, [], ◌∷◌, Option, Some, None, refl, sym, ap, subst}
+use Rattle.std.specs.Prelude.{◌≢◌}
+use Rattle.dr_outside.specs.Source.{SourceShown}
+use Rattle.dr_outside.specs.Link.{Files, LinkShown}
+use Rattle.dr_reading.specs.Scan.{Scan}
+use Rattle.dr_reading.specs.Left.{LeftTablet}
+use Rattle.dr_reading.proofs.HeldFileLemmas.{steady_leaves_none}
+use Rattle.dr_commands.specs.Meaning.{Meaning, Outcome, scans}
+use Rattle.dr_top.specs.World.{World, WithOutcome, WhereFile, WhereTold, WhereUsed, WithFirsts}
+use Rattle.dr_top.specs.Reading.{IsLeftWith, IsFileLeft, LeavesTablets}
+use Rattle.dr_top.specs.Ends.{Holds, IsLeft, IsHeldWhole, IsServed}
+
+-- what holds of the outcome of a command that reads no input, on the file that is there
+outcome_at : (m : Meaning) (k : LinkShown) (i : SourceShown) (P : Outcome → Type 0) (path file : List ℕ) (kept : Files) → m.file ≡ Some path → k.held ≡ Some kept → m.reads_input ≡ false
+    → kept path ≡ Some file → WithOutcome m k i P → P (m.outcome (record { file = file; input = [] }))
+outcome_at m k i P path file kept named keeps unread there w =
+    let is : (List ℕ → Type 0) → Type 0 = λ IsIt. WhereUsed m.reads_input [] i.left (λ bytes. (f : List ℕ) × IsIt f × P (m.outcome (record { file = f; input = bytes }))) in
+    let a : WhereFile (Some path) k.held is = subst (λ (o : Option (List ℕ)). WhereFile o k.held is) named w in
+    let b : is (λ f. kept path ≡ Some f) = subst (λ (h : Option Files). WhereTold h (λ (fs : Files). is (λ f. fs path ≡ Some f))) keeps a in
+    let c : (f : List ℕ) × (kept path ≡ Some f) × P (m.outcome (record { file = f; input = [] })) =
+          subst (λ (u : Bool). WhereUsed u [] i.left (λ bytes. (f : List ℕ) × (kept path ≡ Some f) × P (m.outcome (record { file = f; input = bytes })))) unread b in
+    subst (λ (f : List ℕ). P (m.outcome (record { file = f; input = [] }))) (ap (or_else c.0) (sym c.1 ∙ there)) c.2
+  where
+    or_else : List ℕ → Option (List ℕ) → List ℕ
+    or_else d None = d
+    or_else d (Some x) = x
+
+not_left : (m : Meaning) (before after : World) → IsHeldWhole m before → IsLeft m before after → ⊥
+not_left m before after h (inl t) = in_links after.links (subst (λ (ls : List LinkShown). WithFirsts ls after.links (LeavesTablets h.scan t.0)) h.links scanned)
+  where
+    scanned : WithFirsts before.links after.links (LeavesTablets h.scan t.0)
+    scanned = subst (λ (o : Outcome). IsLeftWith o before.links after.links t.0) h.scans_it
+        (outcome_at m before.keeper before.input (λ o. IsLeftWith o before.links after.links t.0) h.path h.file h.kept h.named h.keeps h.reads_nothing h.there t.3)
+    in_links : (now : List LinkShown) → WithFirsts (h.first ∷ h.others) now (LeavesTablets h.scan t.0) → ⊥
+    in_links [] w = w
+    in_links (k ∷ ks) w = w.0 (steady_leaves_none h.scan.schema h.scan.leaves h.first h.files h.scan.tablets t.0 h.tells h.steady h.each w.1)
+not_left m before after h (inr t) =
+    subst (λ (o : Outcome). IsFileLeft o before.links after.links t.0) h.scans_it
+    (outcome_at m before.keeper before.input (λ o. IsFileLeft o before.links after.links t.0) h.path h.file h.kept h.named h.keeps h.reads_nothing h.there t.3)
+
+pub served_by : (o : Option Meaning) (before after : World) (status : ℕ) → Holds o IsLeft before after → IsServed o status before
+served_by None before after status h = absurd h
+served_by (Some m) before after status h = λ w. absurd (not_left m before after w h)
