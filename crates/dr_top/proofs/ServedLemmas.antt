@@ -9,7 +9,7 @@ use Rattle.dr_reading.proofs.HeldFileLemmas.{steady_leaves_none}
 use Rattle.dr_commands.specs.Meaning.{Meaning, Outcome, scans}
 use Rattle.dr_top.specs.World.{World, WithOutcome, WhereFile, WhereTold, WhereUsed, WithFirsts}
 use Rattle.dr_top.specs.Reading.{IsLeftWith, IsFileLeft, LeavesTablets}
-use Rattle.dr_top.specs.Ends.{Holds, IsLeft, IsHeldWhole, IsServed}
+use Rattle.dr_top.specs.Ends.{Holds, IsLeft, IsComplete, IsHeldWhole, IsServed}
 
 -- what holds of the outcome of a command that reads no input, on the file that is there
 outcome_at : (m : Meaning) (k : LinkShown) (i : SourceShown) (P : Outcome → Type 0) (path file : List ℕ) (kept : Files) → m.file ≡ Some path → k.held ≡ Some kept → m.reads_input ≡ false
@@ -42,3 +42,9 @@ not_left m before after h (inr t) =
 pub served_by : (o : Option Meaning) (before after : World) (status : ℕ) → Holds o IsLeft before after → IsServed o status before
 served_by None before after status h = absurd h
 served_by (Some m) before after status h = λ w. absurd (not_left m before after w h)
+
+-- where tablets or a file are left, the first link was asked
+pub left_complete : (o : Option Meaning) (before after : World) → Holds o IsLeft before after → IsComplete o 3 before after
+left_complete None before after h = absurd h
+left_complete (Some m) before after (inl t) = λ a b. inr (inr (refl, t.1))
+left_complete (Some m) before after (inr t) = λ a b. inr (inr (refl, t.1))

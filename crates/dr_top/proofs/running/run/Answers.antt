@@ -8,6 +8,7 @@ use Rattle.dr_top.specs.Ends.{Says}
 use Rattle.dr_top.specs.Answers.{StopsMeant}
 use Rattle.dr_top.specs.declared.stop.Stop.{Stop}
 use Rattle.dr_top.proofs.RunLemmas.{prints_end, out_failed, usage_end, usage_counts, memory_end, memory_counts, source_failed, source_incomplete, keeper_failed, keeper_incomplete, refused_end, refused_counts, refused_incomplete, left_end, left_counts, left_memory, file_end, file_counts, file_incomplete}
+use Rattle.dr_top.proofs.ServedLemmas.{served_by, left_complete}
 use Rattle.dr_top.proofs.running.run.Goals as goal
 
 pub returns-in-Ok-write_all-clause-prints : goal.returns-in-Ok-write_all-clause-prints
@@ -107,3 +108,12 @@ pub returns-clause-complete : goal.returns-clause-complete
 returns-clause-complete g c =
     let stop : c.in-Err-LeftFile.field-0 ≡ Stop.LeftFile c.in-Err-LeftFile.cause = cc (c.in-Err-LeftFile.field-0-is) in
     file_incomplete _ _ _ _ _ _ _ _ _ _ (meant (map string_bytes c.args.words.now)) c.in-Err-LeftFile.cause (subst (λ (s : Stop). StopsMeant (meant (map string_bytes c.args.words.now)) (g.K.Link.shows c.args.keeper.now) (g.K.Link.shows c.answer.new.keeper) (g.S.Source.shows c.args.source.now) (g.S.Source.shows c.answer.new.source) (map g.L.Link.shows c.args.links.now) (map g.L.Link.shows c.answer.new.links) s) stop c.in-Err-LeftFile.ensures.stops)
+
+pub returns-in-Ok-left_text-clause-served : goal.returns-in-Ok-left_text-clause-served
+returns-in-Ok-left_text-clause-served g c = served_by _ _ _ 3 (returns-in-Ok-left_text-clause-left g c refl)
+
+pub returns-in-Ok-left_text-clause-complete : goal.returns-in-Ok-left_text-clause-complete
+returns-in-Ok-left_text-clause-complete g c = left_complete _ _ _ (returns-in-Ok-left_text-clause-left g c refl)
+
+pub returns-clause-served : goal.returns-clause-served
+returns-clause-served g c = served_by _ _ _ 3 (returns-clause-left g c refl)
