@@ -5,3 +5,5 @@ pub mod NameLemmas
 pub mod ListLemmas
 pub mod RewritingTextLemmas
 pub mod LineLemmas
+pub mod ServerItemLemmas
+pub mod LeafLemmas

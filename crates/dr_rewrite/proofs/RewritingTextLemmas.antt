@@ -108,7 +108,7 @@ all_three false true c h = cc
 all_three false false c h = cc
 
 -- the aggregate at a place, and those behind it
-at_front : (all : List Aggregate) (i : ℕ) (a : Aggregate) (gs : List Aggregate) → drop i all ≡ a ∷ gs → (slice_get all i ≡ Some a) × (drop (suc i) all ≡ gs)
+pub at_front : {A : Type 0} (all : List A) (i : ℕ) (a : A) (gs : List A) → drop i all ≡ a ∷ gs → (slice_get all i ≡ Some a) × (drop (suc i) all ≡ gs)
 at_front [] zero a gs h = cc
 at_front [] (suc i) a gs h = cc
 at_front (b ∷ bs) zero a gs h = let e : b ≡ a = cc in let f : bs ≡ gs = cc in (ap Some e, f)

@@ -1,4 +1,6 @@
 pub mod Items
+pub mod LeafPlans
 pub mod Lines
 pub mod Lists
+pub mod ServerItems
 pub mod Writing

@@ -4,15 +4,19 @@
 mod columns;
 mod condition;
 mod expressions;
+mod leaf;
 mod leaf_items;
 mod lines;
 mod lists;
 mod literals;
 mod merging;
 mod names;
+mod numbers;
 mod paths;
 mod record_items;
 mod rewriting;
+mod server_items;
 mod terms;
 
+pub use leaf::leaf_of;
 pub use rewriting::rewriting_text;
