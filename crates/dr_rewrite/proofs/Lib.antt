@@ -7,3 +7,5 @@ pub mod RewritingTextLemmas
 pub mod LineLemmas
 pub mod ServerItemLemmas
 pub mod LeafLemmas
+pub mod MergeLemmas
+pub mod MergePlanLemmas

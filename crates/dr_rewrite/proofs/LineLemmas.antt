@@ -26,7 +26,7 @@ use Rattle.dr_rewrite.proofs.RewritingTextLemmas.{names_of, key_item_names, name
 
 -- ---- the parts of a plan that fits
 
-abbrev paths_at : List Leaf → List ℕ → List (List Step)
+abbrev pub paths_at : List Leaf → List ℕ → List (List Step)
 paths_at ls keys = map (λ k. path_of (slice_get ls k)) keys
 
 abbrev pub items_at : List Leaf → List Aggregate → List GroupItem → List query.GroupItem

@@ -1,6 +1,6 @@
 -- Lists of texts, and of conjuncts.
-use Rattle.std.proofs.Common.{◌≡◌, ℕ, ◌+◌, ◌<◌, length, drop, add-one, append_assoc, List, [], ◌∷◌, ◌++◌, map, append-nil, refl, sym, ap, ◌∙◌}
-use Rattle.std.proofs.lemmas.List.{map_push, drop_more}
+use Rattle.std.proofs.Common.{◌≡◌, ℕ, ◌+◌, ◌<◌, ◌≤◌, length, drop, add-one, append_assoc, List, [], ◌∷◌, ◌++◌, map, append-nil, refl, sym, ap, ◌∙◌}
+use Rattle.std.proofs.lemmas.List.{map_push, map-id, drop_all, drop_more}
 use Rattle.dr_meaning.specs.Expression.{Expression, conjunction}
 use Rattle.dr_partials.specs.RewritingText.{commas}
 use Rattle.dr_plan.specs.Conjuncts.{joined}
@@ -29,3 +29,8 @@ name_pushed see name xs i old new s whole h e f g =
     ∙ (append_assoc (map see old) (see s ∷ []) later
     ∙ (ap (λ t. map see old ++ t ∷ later) f
     ∙ (ap (λ ts. map see old ++ ts) (ap (λ j. name i ∷ indexed (λ (a k : ℕ). name a) j (drop (i + 1) xs)) (add-one i) ∙ sym (ap (indexed (λ (j k : ℕ). name j) i) (drop_more xs i 0 h))) ∙ g))))
+
+-- where none is left, the list is whole
+pub at_end : {B : Type 0} (name : ℕ → B) (xs : List ℕ) (i : ℕ) (made whole : List B) → length xs ≤ i → map (λ x. x) made ++ indexed (λ (j k : ℕ). name j) i (drop i xs) ≡ whole → made ≡ whole
+at_end name xs i made whole h g =
+    sym (map-id made) ∙ (sym (append-nil (map (λ x. x) made)) ∙ (ap (λ ys. map (λ x. x) made ++ indexed (λ (j k : ℕ). name j) i ys) (sym (drop_all i xs h)) ∙ g))
