@@ -1,5 +1,5 @@
 -- The plan of leaf servers.
-use Rattle.std.proofs.Common.{◌≡◌, ℕ, List, [], ◌∷◌, ◌++◌, map, length, true, ◌&&◌, Vec, refl, sym, ap, ap₂, ◌∙◌, subst}
+use Rattle.std.proofs.Common.{◌≡◌, ℕ, List, ◌++◌, map, length, true, ◌&&◌, Vec, refl, sym, ap, ap₂, ◌∙◌}
 use Rattle.std.specs.Prelude.{nat_lt}
 use Rattle.std.specs.List.{list_all, slice_get}
 use Rattle.std.specs.declared.alloc.Global.{Global}
@@ -7,16 +7,15 @@ use Rattle.std.proofs.lemmas.Bool.{and_parts}
 use Rattle.std.proofs.lemmas.List.{length-map}
 use Rattle.dr_meaning.specs.Path.{Step, Leaf}
 use Rattle.dr_meaning.specs.Query as query
-use Rattle.dr_partials.specs.PartialTypes.{aggregates_among}
 use Rattle.dr_partials.specs.Rewriting.{key_items, aggregate_items, leaf_selection}
 use Rattle.dr_plan.specs.declared.aggregate.Aggregate.{Aggregate}
 use Rattle.dr_plan.specs.declared.plan.GroupItem.{GroupItem}
 use Rattle.dr_plan.specs.declared.plan.Selection.{Selection}
 use Rattle.dr_plan.specs.Fitting.{aggregate_fits, are_numbered, has_key, selection_fits}
 use Rattle.dr_plan.specs.Planned.{objects_of_plan}
-use Rattle.dr_plan.specs.Views.{aggregate_view, group_item_view, path_of, selection_view}
+use Rattle.dr_plan.specs.Views.{aggregate_view, path_of, selection_view}
 use Rattle.dr_rewrite.specs.LeafPlans.{LeafSelects}
-use Rattle.dr_rewrite.specs.ServerItems.{titled, server_items, are_placed}
+use Rattle.dr_rewrite.specs.ServerItems.{titled, are_placed}
 use Rattle.dr_rewrite.proofs.LineLemmas.{parts_of}
 use Rattle.dr_rewrite.proofs.RewritingTextLemmas.{numbers_of}
 use Rattle.dr_rewrite.proofs.ServerItemLemmas.{both_true, by_titles, titled_view, server_items_seen, server_items_placed, placed_fit}

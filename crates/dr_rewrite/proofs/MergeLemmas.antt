@@ -1,20 +1,17 @@
 -- The queries over columns that merge results.
-use Rattle.std.proofs.Common.{◌≡◌, ℕ, zero, suc, ◌+◌, ◌<◌, ◌≤◌, List, [], ◌∷◌, ◌++◌, map, length, drop, Bool, true, ◌&&◌, Some, Vec, string_bytes, refl, sym, ap, ap₂, ◌∙◌, subst, add-one, arith, rules}
+use Rattle.std.proofs.Common.{◌≡◌, ℕ, zero, suc, ◌+◌, ◌≤◌, List, [], ◌∷◌, ◌++◌, map, length, drop, true, Some, string_bytes, refl, sym, ap, ap₂, ◌∙◌, add-one, arith, rules}
 use Rattle.std.specs.Prelude.{nat_lt}
 use Rattle.std.specs.List.{list_all, slice_get, cons_option, range_with_len}
-use Rattle.std.specs.declared.alloc.Global.{Global}
-use Rattle.std.proofs.lemmas.Bool.{and_parts, lt-ltb}
-use Rattle.std.proofs.lemmas.List.{length-map}
+use Rattle.std.proofs.lemmas.Bool.{lt-ltb}
 use Rattle.dr_meaning.specs.BoundExpression.{kind_type}
 use Rattle.dr_meaning.specs.Expression.{path_value}
 use Rattle.dr_meaning.specs.Path.{Step, Leaf}
 use Rattle.dr_meaning.specs.Query as query
 use Rattle.dr_nested.specs.Views.{kind_view}
 use Rattle.dr_nested.specs.declared.shape.Kind.{Kind}
-use Rattle.dr_partials.specs.Rewriting.{column, merging_aggregate, merging_term, merging_terms, root_items, column_behind}
+use Rattle.dr_partials.specs.Rewriting.{column, merging_term, merging_terms, root_items, column_behind}
 use Rattle.dr_plan.specs.declared.aggregate.Aggregate.{Aggregate}
 use Rattle.dr_plan.specs.declared.aggregate.Fold.{Fold}
-use Rattle.dr_plan.specs.declared.expression.Expr.{Expr}
 use Rattle.dr_plan.specs.declared.expression.Number as numbers
 use Rattle.dr_plan.specs.declared.expression.TextOf as texts
 use Rattle.dr_plan.specs.declared.expression.Truth as truths

@@ -1,5 +1,5 @@
 -- The plans that merge results run the definitions' queries.
-use Rattle.std.proofs.Common.{◌≡◌, ℕ, zero, ◌+◌, List, [], ◌∷◌, ◌++◌, map, length, true, None, Vec, refl, sym, ap, ap₂, ◌∙◌, subst, arith}
+use Rattle.std.proofs.Common.{◌≡◌, ℕ, ◌+◌, List, [], ◌++◌, map, length, true, None, Vec, sym, ap, ap₂, ◌∙◌, subst, arith}
 use Rattle.std.specs.Prelude.{nat_lt}
 use Rattle.std.specs.List.{list_all, slice_get, range_with_len}
 use Rattle.std.specs.declared.alloc.Global.{Global}
@@ -21,8 +21,7 @@ use Rattle.dr_plan.specs.declared.plan.Selection.{Selection}
 use Rattle.dr_plan.specs.Fitting.{aggregate_fits, selection_fits}
 use Rattle.dr_plan.specs.Planned.{plan_leaves, plan_view, planned_query}
 use Rattle.dr_plan.specs.Views.{aggregate_view, group_item_view, path_of, selection_view, truth_view}
-use Rattle.dr_rewrite.specs.Merge.{MergesColumns, selected_columns}
-use Rattle.dr_rewrite.specs.Merged.{key_numbers, merged_aggregates}
+use Rattle.dr_rewrite.specs.Merge.{MergesColumns}
 use Rattle.dr_rewrite.specs.RowColumns.{row_columns}
 use Rattle.dr_rewrite.specs.ServerItems.{titled, server_items, are_placed}
 use Rattle.dr_rewrite.proofs.LeafLemmas.{groups_fit}

@@ -1,5 +1,5 @@
 -- The aggregates that merge columns of results.
-use Rattle.std.specs.Prelude.{ℕ, ◌+◌, List, length}
+use Rattle.std.specs.Prelude.{ℕ, ◌+◌, List}
 use Rattle.dr_nested.specs.declared.shape.Kind.{Kind}
 use Rattle.dr_plan.specs.declared.aggregate.Aggregate.{Aggregate}
 use Rattle.dr_plan.specs.declared.aggregate.Fold.{Fold}

@@ -1,5 +1,5 @@
 -- The items by which servers give keys and aggregates.
-use Rattle.std.specs.Prelude.{ℕ, List, map, ◌++◌, string_bytes, Bool, ◌&&◌}
+use Rattle.std.specs.Prelude.{ℕ, List, ◌++◌, string_bytes, Bool, ◌&&◌}
 use Rattle.std.specs.List.{list_all, filter_map}
 use Rattle.dr_plan.specs.declared.aggregate.Aggregate.{Aggregate}
 use Rattle.dr_plan.specs.declared.plan.GroupItem.{GroupItem}
@@ -22,9 +22,16 @@ titled_key i = record { name = key_name i; term = GroupTerm.Key i }
 abbrev pub titled_aggregate : ℕ → Titled
 titled_aggregate i = record { name = aggregate_name i; term = GroupTerm.Aggregate i }
 
+-- of all keys, and of all aggregates
+abbrev pub titled_keys : List ℕ → List Titled
+titled_keys keys = indexed (λ (i k : ℕ). titled_key i) 0 keys
+
+abbrev pub titled_aggregates : List Aggregate → List Titled
+titled_aggregates gs = indexed (λ (i : ℕ) (a : Aggregate). titled_aggregate i) 0 gs
+
 -- each key, then each aggregate
 abbrev pub server_items : List ℕ → List Aggregate → List Titled
-server_items keys gs = indexed (λ (i k : ℕ). titled_key i) 0 keys ++ indexed (λ (i : ℕ) (a : Aggregate). titled_aggregate i) 0 gs
+server_items keys gs = titled_keys keys ++ titled_aggregates gs
 
 -- each key is there, and the aggregates are numbered in the items' order
 abbrev pub are_placed : ℕ → ℕ → List Titled → Bool

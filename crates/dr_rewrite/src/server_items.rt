@@ -1,8 +1,6 @@
 //! The items by which servers give keys and aggregates: k0, .., a0, ..
 
-ghost use Rattle.std.specs.Prelude.{◌≡◌, ◌++◌, ℕ, map, IfOk, OnOk};
-ghost use Rattle.dr_plan.specs.declared.aggregate.Aggregate.{Aggregate};
-ghost use Rattle.dr_rewrite.specs.Items.{indexed};
+ghost use Rattle.std.specs.Prelude.{◌≡◌, ◌++◌, map, IfOk, OnOk};
 ghost use Rattle.dr_rewrite.specs.ServerItems as meant;
 
 use crate::columns::{aggregate_name, key_name};
@@ -57,7 +55,7 @@ fn push_aggregate_items(
     aggregates: &[Aggregate],
     items: &mut Vec<GroupItem>,
 ) -> Result<(), NoMemory>
-    ensures { OnOk result (map meant.titled (items.new).items ≡ map meant.titled (items.old).items ++ indexed (λ (i : ℕ) (a : Aggregate). meant.titled_aggregate i) 0 aggregates.now) }
+    ensures { OnOk result (map meant.titled (items.new).items ≡ map meant.titled (items.old).items ++ meant.titled_aggregates aggregates.now) }
 {
     'aggregates: for (place, _) in aggregates.iter().enumerate() {
         items.push(aggregate_item(alloc, place)?)?;
@@ -77,10 +75,7 @@ fn copied_item(alloc: Global, item: &GroupItem) -> Result<GroupItem, NoMemory>
 }
 
 /// Items again.
-pub(crate) fn copied_items(
-    alloc: Global,
-    items: &[GroupItem],
-) -> Result<Vec<GroupItem>, NoMemory>
+pub(crate) fn copied_items(alloc: Global, items: &[GroupItem]) -> Result<Vec<GroupItem>, NoMemory>
     ensures { IfOk result (λ v. map meant.titled v.items ≡ map meant.titled items.now) }
 {
     let mut copies = Vec::with_capacity(alloc, items.len())?;

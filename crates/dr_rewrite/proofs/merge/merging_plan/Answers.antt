@@ -11,5 +11,5 @@ invariant_of-result c =
     record {
       tested = ap (list_all (truth_fits (map path_view c.in_ok-columns.columns.items))) c.new.ensures.items;
       selected = ap (λ ls. selection_fits ls s) c.in_ok-columns.ensures
-      ∙ merging_fits (map path_view c.args.leaves.now) c.args.keys.now c.args.aggregates.now c.args.items s c.in_ok-selection.ensures c.requires;
+          ∙ merging_fits (map path_view c.args.leaves.now) c.args.keys.now c.args.aggregates.now c.args.items s c.in_ok-selection.ensures c.requires;
     }
