@@ -5,3 +5,7 @@ pub mod NameLemmas
 pub mod ListLemmas
 pub mod RewritingTextLemmas
 pub mod LineLemmas
+pub mod ServerItemLemmas
+pub mod LeafLemmas
+pub mod MergeLemmas
+pub mod MergePlanLemmas

@@ -26,18 +26,18 @@ use Rattle.dr_rewrite.proofs.RewritingTextLemmas.{names_of, key_item_names, name
 
 -- ---- the parts of a plan that fits
 
-abbrev paths_at : List Leaf → List ℕ → List (List Step)
+abbrev pub paths_at : List Leaf → List ℕ → List (List Step)
 paths_at ls keys = map (λ k. path_of (slice_get ls k)) keys
 
-abbrev items_at : List Leaf → List Aggregate → List GroupItem → List query.GroupItem
+abbrev pub items_at : List Leaf → List Aggregate → List GroupItem → List query.GroupItem
 items_at ls all items = map (group_item_view (map (aggregate_view ls) all)) items
 
-record Numbered (ls : List Leaf) (keys : List ℕ) (all : List Aggregate) (items : List GroupItem) : Type 0 where
-  keyed : list_all (λ (x : GroupItem). has_key (length keys) x.term) items ≡ true
-  numbered : are_numbered 0 (numbers_of items) (length all) ≡ true
-  among : aggregates_among (items_at ls all items) ≡ map (aggregate_view ls) all
+pub record Numbered (ls : List Leaf) (keys : List ℕ) (all : List Aggregate) (items : List GroupItem) : Type 0 where
+  pub keyed : list_all (λ (x : GroupItem). has_key (length keys) x.term) items ≡ true
+  pub numbered : are_numbered 0 (numbers_of items) (length all) ≡ true
+  pub among : aggregates_among (items_at ls all items) ≡ map (aggregate_view ls) all
 
-parts_of : (ls : List Leaf) (keys : Vec ℕ Global) (all : Vec Aggregate Global) (items : Vec GroupItem Global) → selection_fits ls (Selection.Groups keys all items) ≡ true → Numbered ls keys.items all.items items.items
+pub parts_of : (ls : List Leaf) (keys : Vec ℕ Global) (all : Vec Aggregate Global) (items : Vec GroupItem Global) → selection_fits ls (Selection.Groups keys all items) ≡ true → Numbered ls keys.items all.items items.items
 parts_of ls keys all items h =
     let p = and_parts _ (are_numbered 0 (numbers_of items.items) (length all.items)) h in
     let q = and_parts _ (list_all (λ (x : GroupItem). has_key (length keys.items) x.term) items.items) p.0 in

@@ -23,10 +23,10 @@ use Rattle.dr_rewrite.specs.declared.paths.Names.{Names}
 abbrev pub names_of : List query.GroupItem → List (List ℕ)
 names_of is = map (λ (i : query.GroupItem). i.name) is
 
-at_zero : (m : ℕ) → m ≡ m + 0
+pub at_zero : (m : ℕ) → m ≡ m + 0
 at_zero m = omega arith
 
-one_on : (m j : ℕ) → suc m + j ≡ m + suc j
+pub one_on : (m j : ℕ) → suc m + j ≡ m + suc j
 one_on m j = omega arith
 
 pub key_item_names : (f : ℕ → List Step) (n : ℕ) (ks : List ℕ) → names_of (key_items n (map f ks)) ≡ indexed (λ (i k : ℕ). key_name i) n ks
@@ -108,7 +108,7 @@ all_three false true c h = cc
 all_three false false c h = cc
 
 -- the aggregate at a place, and those behind it
-at_front : (all : List Aggregate) (i : ℕ) (a : Aggregate) (gs : List Aggregate) → drop i all ≡ a ∷ gs → (slice_get all i ≡ Some a) × (drop (suc i) all ≡ gs)
+pub at_front : {A : Type 0} (all : List A) (i : ℕ) (a : A) (gs : List A) → drop i all ≡ a ∷ gs → (slice_get all i ≡ Some a) × (drop (suc i) all ≡ gs)
 at_front [] zero a gs h = cc
 at_front [] (suc i) a gs h = cc
 at_front (b ∷ bs) zero a gs h = let e : b ≡ a = cc in let f : bs ≡ gs = cc in (ap Some e, f)
@@ -130,7 +130,7 @@ in_front [] i x h = cc
 in_front (y ∷ ys) zero x h = omega arith
 in_front (y ∷ ys) (suc i) x h = omega (arith, in_front ys i x h)
 
-next_aggregate : (all : List Aggregate) (i a : ℕ) (js : List ℕ) → are_numbered i (a ∷ js) (length (drop i all)) ≡ true → NextAggregate all i a js
+pub next_aggregate : (all : List Aggregate) (i a : ℕ) (js : List ℕ) → are_numbered i (a ∷ js) (length (drop i all)) ≡ true → NextAggregate all i a js
 next_aggregate all i a js h = by (drop i all) refl h
   where
     by : (gs : List Aggregate) → drop i all ≡ gs → are_numbered i (a ∷ js) (length gs) ≡ true → NextAggregate all i a js
@@ -140,7 +140,7 @@ next_aggregate all i a js h = by (drop i all) refl h
         let t = all_three (nat_lt i (suc a)) (nat_lt a (suc i)) (are_numbered (suc i) js (length gs)) k in
         record { found = g; there = f.0; same = same_place i a t.0 t.1; within = in_front all i g f.0; behind = ap (λ xs. are_numbered (suc i) js (length xs)) f.1 ∙ t.2 }
 
-viewed : (ls : List Leaf) (all : List Aggregate) (i : ℕ) (a : Aggregate) → slice_get all i ≡ Some a → slice_get (map (aggregate_view ls) all) i ≡ Some (aggregate_view ls a)
+pub viewed : (ls : List Leaf) (all : List Aggregate) (i : ℕ) (a : Aggregate) → slice_get all i ≡ Some a → slice_get (map (aggregate_view ls) all) i ≡ Some (aggregate_view ls a)
 viewed ls [] i a h = cc
 viewed ls (b ∷ bs) zero a h = let e : b ≡ a = cc in ap (λ x. Some (aggregate_view ls x)) e
 viewed ls (b ∷ bs) (suc i) a h = viewed ls bs i a h
@@ -181,7 +181,7 @@ merged_term : (ls : List Leaf) (names knames : List (List ℕ)) (c i : ℕ) (a :
 merged_term ls names knames c i Aggregate.Rows h = ap (λ t. aggregate_word query.sum ++ in_parentheses t) h
 merged_term ls names knames c i (Aggregate.Of f e) h = ap (λ t. aggregate_word (merging_aggregate (fold_view f)) ++ in_parentheses t) h
 
-at_column : (keys i c : ℕ) → c ≡ keys + i → suc c ≡ keys + suc i
+pub at_column : (keys i c : ℕ) → c ≡ keys + i → suc c ≡ keys + suc i
 at_column keys i c e = omega (arith, e)
 
 pub inner_aggregates : (ls : List Leaf) (names knames : List (List ℕ)) (keys count i c : ℕ) (gs : List Aggregate) → AggregateColumns names keys count → c ≡ keys + i → i + length gs ≤ count
@@ -193,7 +193,7 @@ inner_aggregates ls names knames keys count i c (a ∷ gs) n e h =
     ap₂ (λ t ts. named t (aggregate_name i) ∷ ts) (merged_term ls names knames c i a (ap (nth_text names) e ∙ n i l))
     (inner_aggregates ls names knames keys count (suc i) (suc c) gs n (at_column keys i c e) m)
 
-column_behind_aggregate : (ls : List Leaf) (c : ℕ) (a : Aggregate) → column_behind c (aggregate_view ls a) ≡ suc c
+pub column_behind_aggregate : (ls : List Leaf) (c : ℕ) (a : Aggregate) → column_behind c (aggregate_view ls a) ≡ suc c
 column_behind_aggregate ls c Aggregate.Rows = refl
 column_behind_aggregate ls c (Aggregate.Of f e) = refl
 

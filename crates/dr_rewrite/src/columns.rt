@@ -24,11 +24,20 @@ pub(crate) fn push_aggregate_name(number: usize, out: &mut String) -> Result<(),
 }
 
 /// What servers call a key.
-fn key_name(alloc: Global, number: usize) -> Result<String, NoMemory>
+pub(crate) fn key_name(alloc: Global, number: usize) -> Result<String, NoMemory>
     ensures { IfOk result (λ s. string_bytes s ≡ written.key_name number) }
 {
     let mut text = String::new(alloc);
     push_key_name(number, &mut text)?;
+    Ok(text)
+}
+
+/// What servers call an aggregate.
+pub(crate) fn aggregate_name(alloc: Global, number: usize) -> Result<String, NoMemory>
+    ensures { IfOk result (λ s. string_bytes s ≡ written.aggregate_name number) }
+{
+    let mut text = String::new(alloc);
+    push_aggregate_name(number, &mut text)?;
     Ok(text)
 }
 

@@ -4,15 +4,23 @@
 mod columns;
 mod condition;
 mod expressions;
+mod leaf;
 mod leaf_items;
 mod lines;
 mod lists;
 mod literals;
+mod merge;
+mod merged;
 mod merging;
 mod names;
+mod numbers;
 mod paths;
 mod record_items;
 mod rewriting;
+mod row_columns;
+mod server_items;
 mod terms;
 
+pub use leaf::leaf_of;
+pub use merge::{Merge, inner_of, root_of};
 pub use rewriting::rewriting_text;
