@@ -19,7 +19,7 @@ outcome_at m k i P path file kept named keeps unread there w =
     let a : WhereFile (Some path) k.held is = subst (λ (o : Option (List ℕ)). WhereFile o k.held is) named w in
     let b : is (λ f. kept path ≡ Some f) = subst (λ (h : Option Files). WhereTold h (λ (fs : Files). is (λ f. fs path ≡ Some f))) keeps a in
     let c : (f : List ℕ) × (kept path ≡ Some f) × P (m.outcome (record { file = f; input = [] })) =
-          subst (λ (u : Bool). WhereUsed u [] i.left (λ bytes. (f : List ℕ) × (kept path ≡ Some f) × P (m.outcome (record { file = f; input = bytes })))) unread b in
+    subst (λ (u : Bool). WhereUsed u [] i.left (λ bytes. (f : List ℕ) × (kept path ≡ Some f) × P (m.outcome (record { file = f; input = bytes })))) unread b in
     subst (λ (f : List ℕ). P (m.outcome (record { file = f; input = [] }))) (ap (or_else c.0) (sym c.1 ∙ there)) c.2
   where
     or_else : List ℕ → Option (List ℕ) → List ℕ
@@ -32,6 +32,7 @@ not_left m before after h (inl t) = in_links after.links (subst (λ (ls : List L
     scanned : WithFirsts before.links after.links (LeavesTablets h.scan t.0)
     scanned = subst (λ (o : Outcome). IsLeftWith o before.links after.links t.0) h.scans_it
         (outcome_at m before.keeper before.input (λ o. IsLeftWith o before.links after.links t.0) h.path h.file h.kept h.named h.keeps h.reads_nothing h.there t.3)
+
     in_links : (now : List LinkShown) → WithFirsts (h.first ∷ h.others) now (LeavesTablets h.scan t.0) → ⊥
     in_links [] w = w
     in_links (k ∷ ks) w = w.0 (steady_leaves_none h.scan.schema h.scan.leaves h.first h.files h.scan.tablets t.0 h.tells h.steady h.each w.1)
