@@ -64,6 +64,11 @@ abbrev pub IsPlace : List (Option Value) → List meant.Group → Place → Type
 IsPlace t gs (Place.At k) = (k < length gs) × AllBelow t (take k gs) × (tuple_order t (get_or gs k no_group).keys ≡ Equal)
 IsPlace t gs (Place.Before k) = (k ≤ length gs) × AllBelow t (take k gs) × AllBehind t (drop k gs)
 
+-- the number of the group at which, or before which, a place is
+abbrev pub number_of : Place → ℕ
+number_of (Place.At k) = k
+number_of (Place.Before k) = k
+
 -- ---- what is put at a place
 
 -- the group with other accumulators

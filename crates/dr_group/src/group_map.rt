@@ -16,6 +16,8 @@ pub struct GroupMap {
     pub(crate) gatherings: Vec<Gathering>,
     pub(crate) groups: Vec<Group>,
     pub(crate) sorted: Vec<u32>,
+    /// Where a key tuple is looked for first, among the sorted: where the last one was put.
+    pub(crate) hint: usize,
     pub ghost numbers: { list_all (λ i. nat_lt i (length groups.items)) sorted.items ≡ true },
     pub ghost ascending: { ascends (map (λ (g : meant.Group). g.keys) (picked groups.items sorted.items)) ≡ true },
 }

@@ -38,6 +38,7 @@ impl GroupMap {
             gatherings,
             groups,
             sorted,
+            hint: 0,
         })
     }
 }

@@ -1,6 +1,6 @@
 //! Putting rows into groups.
 
-ghost use Rattle.std.specs.Prelude.{◌≡◌, ◌<◌, List, map, length, option_map};
+ghost use Rattle.std.specs.Prelude.{◌≡◌, ◌<◌, List, map, length, option_map, true};
 ghost use Rattle.std.specs.List.{insert};
 ghost use Rattle.dr_meaning.specs.Query.{GroupItem};
 ghost use Rattle.dr_partials.specs.Putting.{put_group};
@@ -44,6 +44,31 @@ impl GroupMap {
         Place::Before(low)
     }
 
+    /// Whether the group at the hint has a key tuple.
+    fn is_hinted(&self, key: &[Option<ValueRef<'_>>]) -> bool
+        ensures { result ≡ true → IsPlace (map lent_cell key.now) (groups_view self.now) (Place.At (self.now).hint) }
+    {
+        if self.hint >= self.sorted.len() {
+            return false;
+        }
+        let number = self.sorted[self.hint] as usize;
+        match tuple_order(key, &self.groups[number].keys) {
+            Ordering::Equal => true,
+            Ordering::Less | Ordering::Greater => false,
+        }
+    }
+
+    /// Where a key tuple stands: where the last one was put, if it is the same, or else where it is found.
+    fn place_of(&self, key: &[Option<ValueRef<'_>>]) -> Place
+        ensures { IsPlace (map lent_cell key.now) (groups_view self.now) result }
+    {
+        if self.is_hinted(key) {
+            Place::At(self.hint)
+        } else {
+            self.find(key)
+        }
+    }
+
     /// Puts a key tuple, which makes its group where there is none, and takes a value into it, if one is given.
     ///
     /// Errors: want of memory, or of room for a count, a sum or a number of a group. Nothing has changed then.
@@ -56,9 +81,26 @@ impl GroupMap {
         ensures groups { (items : List GroupItem) → gatherings_of items ≡ gatherings_view self.old → Becomes (groups_view self.old) (groups_view self.new) (put_group items (put_view key.now taken.entry) (groups_view self.old)) result }
         ensures gatherings { gatherings_view self.new ≡ gatherings_view self.old }
     {
-        match self.find(key) {
-            Place::At(place) => self.take_at(alloc, place, taken),
-            Place::Before(place) => self.insert_at(alloc, place, key, taken),
+        let place = self.place_of(key);
+        self.hint = place.number();
+        self.put_at(alloc, place, key, taken)
+    }
+
+    /// Puts a key tuple at the place where it stands.
+    fn put_at(
+        &mut self,
+        alloc: Global,
+        place: Place,
+        key: &[Option<ValueRef<'_>>],
+        taken: Option<Taken<'_>>,
+    ) -> Result<(), NoMemory>
+        requires { IsPlace (map lent_cell key.now) (groups_view self.old) place }
+        ensures groups { (items : List GroupItem) → gatherings_of items ≡ gatherings_view self.old → Becomes (groups_view self.old) (groups_view self.new) (put_group items (put_view key.now taken.entry) (groups_view self.old)) result }
+        ensures gatherings { gatherings_view self.new ≡ gatherings_view self.old }
+    {
+        match place {
+            Place::At(number) => self.take_at(alloc, number, taken),
+            Place::Before(number) => self.insert_at(alloc, number, key, taken),
         }
     }
 
