@@ -45,6 +45,8 @@ dremel~ask~--schema~document.txt~--rows~1~SELECT DocId, SUM(Links.Forward) WITHI
 dremel~ask~--schema~document.txt~--rows~0~SELECT COUNT(*) FROM Document | S | R | 000 | 1 |  | U | .
 dremel~ask~--schema~document.txt~--fan~2~SELECT COUNT(Name.Url) FROM Document | S | R | 000 | 0 | {\"f0_\":3}^ |  | .
 dremel~ask~--schema~document.txt~--rows~1~--fan~64~SELECT COUNT(Name.Url) FROM Document | S | R | 000 | 0 | {\"f0_\":3}^ |  | .
+dremel~ask~--schema~document.txt~--rows~1~--fan~2~SELECT COUNT(*) AS r, COUNT(Name.Url) AS u, SUM(Links.Forward) AS s FROM Document | S | R | 000 | 0 | {\"r\":2,\"u\":3,\"s\":200}^ |  | .
+dremel~ask~--schema~document.txt~--rows~1~--fan~2~SELECT Name.Language.Country, COUNT(DocId) AS n FROM Document GROUP BY Name.Language.Country | S | R | 000 | 0 | {\"Name.Language.Country\":null,\"n\":3}^{\"Name.Language.Country\":\"gb\",\"n\":1}^{\"Name.Language.Country\":\"us\",\"n\":1}^ |  | .
 dremel~ask~--schema~document.txt~--fan~1~SELECT COUNT(Name.Url) FROM Document | S | R | 000 | 1 |  | U | .
 dremel~ask~--schema~document.txt~--fan~65~SELECT COUNT(Name.Url) FROM Document | S | R | 000 | 1 |  | U | .
 dremel~ask~--schema~document.txt~--fan~x~SELECT COUNT(Name.Url) FROM Document | S | R | 000 | 1 |  | U | .
