@@ -1,6 +1,6 @@
 //! What queries mean on records.
 
-ghost use Rattle.std.specs.Prelude.{◌≡◌, ◌→◌, true, map};
+ghost use Rattle.std.specs.Prelude.{◌≡◌, map};
 ghost use Rattle.std.specs.List.{list_all};
 ghost use Rattle.dr_meaning.specs.Record.{is_record as is_record_of};
 ghost use Rattle.dr_nested.specs.SchemaView.{schema_view};
@@ -26,7 +26,7 @@ pub fn records_of(alloc: Global, schema: &Schema, lines: &[String]) -> Result<Ve
 
 /// Whether each of some nodes is a record.
 fn are_records(schema: &Schema, nodes: &[Node]) -> bool
-    ensures { result ≡ true → list_all (is_record_of (schema_view schema.now).fields) (map node_view nodes.now) ≡ true }
+    ensures { result ≡ list_all (is_record_of (schema_view schema.now).fields) (map node_view nodes.now) }
 {
     'nodes: for node in nodes {
         if !is_record(schema, node) {
