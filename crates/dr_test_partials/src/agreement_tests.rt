@@ -20,7 +20,7 @@ use std::alloc::Global;
 use std::test::Fail;
 use std::thread::Threads;
 
-const COUNT: usize = 12;
+const COUNT: usize = 120;
 
 /// The records, cut at each third place into two files: those before it, and those behind it.
 fn halves(alloc: Global, lines: &[String]) -> Result<Shelf, Fail> {
@@ -30,7 +30,14 @@ fn halves(alloc: Global, lines: &[String]) -> Result<Shelf, Fail> {
         for (side, lines) in [("front", front), ("behind", behind)] {
             let text = text_of(alloc, lines)?;
             let directory = format!(in alloc; "{side}{cut}")?;
-            load_lines(alloc, &mut shelf, text.as_str(), directory.as_str(), 1000, "t.table")?;
+            load_lines(
+                alloc,
+                &mut shelf,
+                text.as_str(),
+                directory.as_str(),
+                1000,
+                "t.table",
+            )?;
         }
     }
     Ok(shelf)
@@ -111,7 +118,11 @@ fn a_query_gives_the_answer_over_any_tree(rt: HostRuntime) -> Result<(), Fail> {
             let expected = meant_text(alloc, &schema, &plan, &records)?;
             for fan in [2, 3, 8] {
                 let text = queried_text(&rt, alloc, &mut shelf, &table, query, fan)?;
-                assert_eq!(rt; text.as_str(), expected.as_str(), "{directory} {fan} {query}");
+                assert_eq!(rt;
+                    text.as_str(),
+                    expected.as_str(),
+                    "{directory} {fan} {query}"
+                );
             }
         }
     }
