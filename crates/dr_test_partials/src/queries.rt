@@ -1,5 +1,6 @@
 //! Queries of the worked document.
 
+/// Record queries and aggregate queries, a line each.
 pub const QUERIES: &str = "\
 SELECT DocId FROM Document
 SELECT DocId, Name.Url FROM Document

@@ -19,10 +19,13 @@ SELECT COUNT(*) AS r, COUNT(Name.Url) AS u, SUM(Links.Forward) AS s FROM Documen
 SELECT Links.Forward AS f, COUNT(*) AS n FROM Document WHERE Links.Forward > 50 GROUP BY Links.Forward|{\"f\":60,\"n\":1}|{\"f\":80,\"n\":1}
 ";
 
+/// A query of which each record gives a line.
 const QUERY: &str = "SELECT DocId, COUNT(Links.Backward) WITHIN RECORD AS n FROM Document";
 
+/// What it prints of the first worked record.
 const FIRST: &str = "{\"DocId\":10,\"n\":0}\n";
 
+/// What it prints of both.
 const BOTH: &str = "{\"DocId\":10,\"n\":0}\n{\"DocId\":20,\"n\":2}\n";
 
 /// What a partial prints as that of all records.

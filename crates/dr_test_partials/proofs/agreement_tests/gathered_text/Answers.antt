@@ -1,6 +1,5 @@
-use Rattle.std.proofs.Common.{◌≡◌, ◌∙◌, ◌&&◌, List, [], ◌∷◌, length, true, refl, ap, ap₂, sym, subst, arith}
+use Rattle.std.proofs.Common.{◌≡◌, ◌∙◌, ◌&&◌, [], ◌∷◌, length, true, refl, ap, ap₂, sym, subst, arith}
 use Rattle.dr_nested.specs.SchemaView.{schema_view}
-use Rattle.dr_group.specs.declared.partial.Partial.{Partial}
 use Rattle.dr_partials.specs.Rewriting.{leaf_query}
 use Rattle.dr_partials.specs.Trees.{Tree, of_fan, tablets_of}
 use Rattle.dr_plan.specs.Planned.{plan_view}

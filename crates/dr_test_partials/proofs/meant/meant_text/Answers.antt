@@ -1,4 +1,4 @@
-use Rattle.std.proofs.Common.{◌∙◌, map, sym}
+use Rattle.std.proofs.Common.{map, sym}
 use Rattle.std.proofs.lemmas.Simd.{map-map}
 use Rattle.dr_meaning.specs.Record.{project}
 use Rattle.dr_nested.specs.Views.{node_view}
