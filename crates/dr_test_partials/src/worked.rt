@@ -1,0 +1,85 @@
+//! The worked document, tables of lines, and files that are cut.
+
+ghost use Rattle.std.specs.Prelude.{IfOk};
+ghost use Rattle.dr_nested.specs.SchemaView.{schema_view};
+ghost use Rattle.dr_plan.specs.Planned.{IsOfSchema};
+
+use dr_load::{Plan as LoadPlan, load};
+use dr_nested::{Schema, parse_schema};
+use dr_outside::{Keeper, MemSource, Shelf};
+use dr_plan::Plan;
+use dr_query::read_query;
+use dr_table::{Table, parse_table};
+use std::alloc::Global;
+use std::test::Fail;
+
+/// The worked schema.
+pub const DOCUMENT: &str =
+    "message Document { required int64 DocId; optional group Links { repeated int64 Backward; repeated int64 Forward; } repeated group Name { repeated group Language { required string Code; optional string Country; } optional string Url; } }";
+
+/// The lines of the worked records.
+const RECORDS: &str =
+    "{\"DocId\":10,\"Links\":{\"Forward\":[20,40,60]},\"Name\":[{\"Language\":[{\"Code\":\"en-us\",\"Country\":\"us\"},{\"Code\":\"en\"}],\"Url\":\"http://A\"},{\"Url\":\"http://B\"},{\"Language\":[{\"Code\":\"en-gb\",\"Country\":\"gb\"}]}]}\n{\"DocId\":20,\"Links\":{\"Backward\":[10,30],\"Forward\":[80]},\"Name\":[{\"Url\":\"http://C\"}]}\n";
+
+/// Loads lines as a table of documents, so many to a tablet, with a copy in each of some directories, which have a space between each two.
+pub fn load_lines(
+    alloc: Global,
+    shelf: &mut Shelf,
+    lines: &str,
+    directories: &str,
+    rows: u32,
+    table: &str,
+) -> Result<(), Fail> {
+    let schema = parse_schema(alloc, DOCUMENT.as_bytes())?;
+    let mut leaves = Vec::new(alloc);
+    for directory in directories.split(' ') {
+        leaves.push(String::from_str(alloc, directory)?)?;
+    }
+    let copies = u32::try_from(leaves.len()).or(Err("too many leaves"))?;
+    if copies == 0 || copies > 64 || rows == 0 || rows > 1_000_000 {
+        return Err("no plan".into());
+    }
+    let plan = LoadPlan {
+        schema: &schema,
+        leaves: &leaves,
+        copies,
+        rows,
+        table: Some(table),
+    };
+    let mut source = MemSource::new(lines.as_bytes(), Vec::new(alloc));
+    load(alloc, &plan, &mut source, shelf)?;
+    Ok(())
+}
+
+/// The table whose file is at this path.
+pub fn table_at(alloc: Global, shelf: &Shelf, path: &str) -> Result<Table, Fail> {
+    Ok(parse_table(alloc, shelf.get(path).ok_or("no table")?)?)
+}
+
+/// The files of the worked records, one to a tablet, in the directories `x` and `y`. These, with a space between each two, lack their
+/// last byte.
+pub fn loaded(alloc: Global, cut: &str) -> Result<Shelf, Fail> {
+    let mut shelf = Shelf::new(alloc, Vec::new(alloc));
+    load_lines(alloc, &mut shelf, RECORDS, "x y", 1, "t.table")?;
+    for path in cut.split_whitespace() {
+        let file = Vec::from_slice(alloc, shelf.get(path).ok_or("no file")?)?;
+        let (_, kept) = file.split_last().ok_or("no byte")?;
+        shelf.put(path, kept)?;
+    }
+    Ok(shelf)
+}
+
+/// A table of two tablets of documents in these two directories.
+pub fn table_of(alloc: Global, first: &str, second: &str) -> Result<Table, Fail> {
+    let text = format!(in alloc;
+        "dremel-table 1\ntablets 2\ncopies 2\nleaf {first}\nleaf {second}\nschema\n{DOCUMENT}\n"
+    )?;
+    Ok(parse_table(alloc, text.as_bytes())?)
+}
+
+/// The plan of a query's text.
+pub fn plan_of(alloc: Global, schema: &Schema, text: &str) -> Result<Plan, Fail>
+    ensures { IfOk result (IsOfSchema (schema_view schema.now)) }
+{
+    Ok(read_query(alloc, schema, text)?)
+}
