@@ -5,6 +5,7 @@ use dr_outside::{Keeper, Link, MemLink, MemSink, MemSource, OpenGate, Shelf};
 use dr_top::run;
 use std::alloc::Global;
 use std::test::Fail;
+use std::thread::Threads;
 
 /// A number below another, of a sequence that looks random.
 fn draw(state: &mut u64, below: u64) -> u64 {
@@ -82,7 +83,7 @@ fn records(alloc: Global, count: u64) -> Result<String, Fail> {
 }
 
 /// What words, parted by `~`, and a last one print over an input.
-fn printed<R, K: Keeper, L: Link + Send>(
+fn printed<R: Threads + Sync, K: Keeper, L: Link + Send>(
     rt: &R,
     alloc: Global,
     front: &str,

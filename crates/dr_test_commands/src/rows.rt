@@ -5,6 +5,7 @@ use dr_outside::{Keeper, MemSink, MemSource, OpenGate, Shelf};
 use dr_top::run;
 use std::alloc::Global;
 use std::test::Fail;
+use std::thread::Threads;
 
 pub const DOCUMENT: &str =
     "message Document { required int64 DocId; optional group Links { repeated int64 Backward; repeated int64 Forward; } repeated group Name { repeated group Language { required string Code; optional string Country; } optional string Url; } }";
@@ -78,7 +79,7 @@ pub fn input_of(alloc: Global, text: &str) -> Result<String, Fail> {
 }
 
 /// Whether a run ends as its row says.
-pub fn ends_so<R>(rt: &R, alloc: Global, row: &Row<'_>) -> Result<bool, Fail> {
+pub fn ends_so<R: Threads + Sync>(rt: &R, alloc: Global, row: &Row<'_>) -> Result<bool, Fail> {
     let mut words = Vec::new(alloc);
     for word in row.words.split("~") {
         words.push(String::from_str(alloc, word)?)?;
@@ -118,7 +119,11 @@ pub fn ends_so<R>(rt: &R, alloc: Global, row: &Row<'_>) -> Result<bool, Fail> {
 }
 
 /// The first of the rows that ends in another way.
-pub fn first_other<'a, R>(rt: &R, alloc: Global, rows: &'a str) -> Result<Option<&'a str>, Fail> {
+pub fn first_other<'a, R: Threads + Sync>(
+    rt: &R,
+    alloc: Global,
+    rows: &'a str,
+) -> Result<Option<&'a str>, Fail> {
     for text in rows.lines() {
         let row = row_of(text).ok_or("no row")?;
         if !ends_so(rt, alloc, &row)? {

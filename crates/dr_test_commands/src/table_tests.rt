@@ -7,6 +7,7 @@ use dr_outside::{Keeper, Link, MemLink, MemSink, MemSource, OpenGate, Shelf};
 use dr_top::run;
 use std::alloc::Global;
 use std::test::Fail;
+use std::thread::Threads;
 
 /// A run: its words, parted by `~`, the calls of the first link that fail, and how it ends: its status, what it printed, and what it
 /// said on standard error.
@@ -34,7 +35,7 @@ fn row_of(text: &str) -> Option<Row<'_>> {
 }
 
 /// Whether a run ends as its row says.
-fn ends_so<R, K: Keeper, L: Link + Send>(
+fn ends_so<R: Threads + Sync, K: Keeper, L: Link + Send>(
     rt: &R,
     alloc: Global,
     row: Row<'_>,
@@ -94,7 +95,7 @@ const LOAD: &str =
     "dremel~load~--schema~document.txt~--table~t.table~--rows~1~--copies~2~x~y |  | 0 | loaded 2 records into 2 tablets^ |  | R | .";
 
 /// A shelf with the worked schema, on which the worked records are loaded, one to a tablet, with a copy in each of two directories.
-fn loaded<R>(rt: &R, alloc: Global) -> Result<Shelf, Fail> {
+fn loaded<R: Threads + Sync>(rt: &R, alloc: Global) -> Result<Shelf, Fail> {
     let mut shelf = Shelf::new(alloc, Vec::new(alloc));
     shelf.put("document.txt", DOCUMENT.as_bytes())?;
     let bare = Shelf::new(alloc, Vec::new(alloc));
