@@ -21,7 +21,7 @@ use std::test::Fail;
 use std::thread::Threads;
 
 /// How many records there are.
-const COUNT: usize = 120;
+const COUNT: usize = 300;
 
 /// The records, cut at each place into two files: those before it, and those behind it.
 fn halves(alloc: Global, lines: &[String]) -> Result<Shelf, Fail> {
@@ -111,7 +111,7 @@ fn a_query_gives_the_answer_over_any_tree(rt: HostRuntime) -> Result<(), Fail> {
     let records = records_of(alloc, &schema, &lines)?;
     let plan = plan_of(alloc, &schema, "SELECT COUNT(*) AS n FROM Document")?;
     let counted = meant_text(alloc, &schema, &plan, &records)?;
-    assert_eq!(rt; counted.as_str(), "{\"n\":120}\n");
+    assert_eq!(rt; counted.as_str(), "{\"n\":300}\n");
     let text = text_of(alloc, &lines)?;
     let mut shelf = Shelf::new(alloc, Vec::new(alloc));
     for (rows, directory) in [(1, "one"), (7, "seven"), (1000, "all")] {

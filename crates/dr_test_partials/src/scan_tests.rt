@@ -160,45 +160,33 @@ fn another_copy_gives_where_a_call_fails(rt: HostRuntime) -> Result<(), Fail> {
     Ok(())
 }
 
-/// The two directories of a table, the files that are cut, and what all tablets print.
-const CUTS: [(&str, &str, &str, &str); 7] = [
-    ("x", "y", "x/t000000.parquet y/t000001.parquet", BOTH),
-    ("z", "y", "", BOTH),
-    ("x", "z", "", BOTH),
-    (
-        "x",
-        "y",
-        "x/t000000.parquet y/t000000.parquet",
-        "left t000000: 0 footer; 1 footer\n",
-    ),
-    (
-        "z",
-        "y",
-        "y/t000001.parquet",
-        "left t000001: 0 read; 1 footer\n",
-    ),
-    (
-        "x",
-        "z",
-        "x/t000000.parquet",
-        "left t000000: 0 footer; 1 read\n",
-    ),
-    (
-        "z",
-        "w",
-        "",
-        "left t000000: 0 read; 1 read\nleft t000001: 0 read; 1 read\n",
-    ),
-];
+/// The two directories of a table, the files that are cut, and the lines that all tablets print.
+const CUTS: &str = "\
+x|y|x/t000000.parquet y/t000001.parquet|{\"DocId\":10,\"n\":0}^{\"DocId\":20,\"n\":2}
+z|y||{\"DocId\":10,\"n\":0}^{\"DocId\":20,\"n\":2}
+x|z||{\"DocId\":10,\"n\":0}^{\"DocId\":20,\"n\":2}
+x|y|x/t000000.parquet y/t000000.parquet|left t000000: 0 footer; 1 footer
+z|y|y/t000001.parquet|left t000001: 0 read; 1 footer
+x|z|x/t000000.parquet|left t000000: 0 footer; 1 read
+z|w||left t000000: 0 read; 1 read^left t000001: 0 read; 1 read
+";
 
 #[test]
 fn a_table_without_a_tablet_is_left(rt: HostRuntime) -> Result<(), Fail> {
     let alloc = rt.alloc();
-    for (first, second, cut, expected) in CUTS {
+    for row in CUTS.lines() {
+        let (first, more) = row.split_once('|').ok_or("no directory")?;
+        let (second, more) = more.split_once('|').ok_or("no directory")?;
+        let (cut, lines) = more.split_once('|').ok_or("no lines")?;
+        let mut expected = String::new(alloc);
+        for line in lines.split("^") {
+            expected.push_str(line)?;
+            expected.push('\n')?;
+        }
         let shelf = loaded(alloc, cut)?;
         let table = table_of(alloc, first, second)?;
         let (text, _) = table_scanned(alloc, &shelf, &table, QUERY, Vec::new(alloc))?;
-        assert_eq!(rt; text.as_str(), expected, "{first} {second} {cut}");
+        assert_eq!(rt; text.as_str(), expected.as_str(), "{row}");
     }
     Ok(())
 }

@@ -3,4 +3,4 @@ use Rattle.dremel.proofs.main.Given as goal
 
 -- a link for each turn so far
 abbrev pub invariant-links : goal.invariant-links
-invariant-links l = length l.links.items ≡ l.counter
+invariant-links g l = length l.links.items ≡ l.counter
