@@ -12,7 +12,7 @@ ghost use Rattle.dr_bind.specs.Bound.{type_of};
 ghost use Rattle.dr_bind.specs.Operators.{unary_type, unary_of, binary_type, binary_of};
 
 use dr_memory::NoMemory;
-use dr_plan::{Expr, Number, Pattern, TextOf, Truth};
+use dr_plan::{Expr, Number, TextOf, Truth};
 use dr_sql::unquoted;
 use std::alloc::Global;
 
@@ -74,7 +74,7 @@ fn like(alloc: Global, operand: Expr, pattern: &str) -> Result<Option<Expr>, NoM
 {
     match operand {
         Expr::Text(text) => {
-            let pattern = Pattern::new(alloc, unquoted(alloc, pattern)?)?;
+            let pattern = unquoted(alloc, pattern)?;
             Ok(Some(Expr::Truth(Truth::Like(text, pattern))))
         }
         Expr::Truth(_) | Expr::Number(_) => Ok(None),

@@ -1,7 +1,5 @@
 //! Expressions of a plan, by the type of their values. A leaf is its number among the plan's leaves.
 
-use crate::pattern::Pattern;
-
 /// `=`, `<>`, `<`, `<=`, `>`, `>=`.
 #[derive(Clone, Copy, PartialEq, Eq, Debug)]
 pub enum Comparison {
@@ -43,7 +41,7 @@ pub enum Truth {
     Numbers(Comparison, Number, Number),
     Texts(Comparison, TextOf, TextOf),
     Truths(Comparison, Box<Truth>, Box<Truth>),
-    Like(TextOf, Pattern),
+    Like(TextOf, String),
     Contains(TextOf, String),
     NumberIsNull(Number),
     TextIsNull(TextOf),

@@ -7,12 +7,10 @@ mod condition;
 mod expression;
 pub mod laws;
 mod objects;
-mod pattern;
 mod plan;
 
 pub use aggregate::{Aggregate, Fold, Within};
 pub use condition::conjuncts;
 pub use expression::{Comparison, Expr, Number, TextOf, Truth};
 pub use objects::{ListPlan, ObjectPlan};
-pub use pattern::Pattern;
 pub use plan::{GroupItem, GroupTerm, Plan, RecordItem, RecordTerm, Selection};

@@ -99,7 +99,7 @@ pub(crate) fn push_truth_of(
             push_compared_texts(*comparison, left, right, names, out)
         }
         Truth::Like(text, pattern) => {
-            push_text_test(text, " LIKE ", pattern.text.as_str(), names, out)
+            push_text_test(text, " LIKE ", pattern.as_str(), names, out)
         }
         Truth::Contains(text, part) => {
             push_text_test(text, " CONTAINS ", part.as_str(), names, out)

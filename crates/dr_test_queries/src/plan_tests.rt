@@ -1,5 +1,5 @@
 use dr_memory::NoMemory;
-use dr_plan::{Comparison, Number, Pattern, TextOf, Truth, conjuncts};
+use dr_plan::{Comparison, Number, TextOf, Truth, conjuncts};
 use std::alloc::Global;
 use std::string::String;
 
@@ -39,16 +39,4 @@ fn conditions_are_cut_at_their_top(rt: HostRuntime) {
         return assert!(rt; false);
     };
     assert!(rt; matches!(parts.as_slice(), [Truth::Not(_), Truth::TruthIsNull(_)]));
-}
-
-#[test]
-fn patterns_are_cut_into_characters(rt: HostRuntime) {
-    let alloc = rt.alloc();
-    let Ok(text) = String::from_str(alloc, "é%_") else {
-        return assert!(rt; false);
-    };
-    let Ok(pattern) = Pattern::new(alloc, text) else {
-        return assert!(rt; false);
-    };
-    assert_eq!(rt; pattern.characters.as_slice(), &['é', '%', '_'][..]);
 }
