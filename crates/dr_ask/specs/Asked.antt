@@ -15,7 +15,8 @@ use Rattle.dr_loaded.specs.Loaded.{TabletsAreFiles}
 -- these records are those of a table that is held: each copy of each tablet is a file of the tablet's, for any leaves of the schema
 abbrev pub HoldsTableOf : Table → Option Files → List Node → Type 0
 HoldsTableOf t None R = ⊥
-HoldsTableOf t (Some files) R = (Rs : List (List Node)) × (joined Rs ≡ R) × ((F : List Leaf) → AreAmong (leaves t.schema.fields) F → TabletsAreFiles t.schema F files (tablets_of t) Rs)
+HoldsTableOf t (Some files) R = (Rs : List (List Node)) × (joined Rs ≡ R)
+    × ((F : List Leaf) → AreAmong (leaves t.schema.fields) F → TabletsAreFiles t.schema F files (tablets_of t) Rs)
 
 -- a text is what a query prints of the records of an input, where a tablet has so many of them
 abbrev pub IsAnswerTo : Schema → Query → ℕ → List ℕ → List ℕ → Type 0

@@ -37,7 +37,8 @@ abbrev pub pieces_after : {P : Type 0} → BoardShown P → ℕ → P → List P
 pieces_after board t piece = if has_answer board.history t then board.pieces else board.pieces ++ piece ∷ []
 
 -- of a board for the named job: its state is of that job, its pieces are those that the history asks for, and there is room for one a tablet
-pub record KeepsBoard {P : Type 0} (named : Job) (tablet_of : P → ℕ) (is_true : ℕ → P → Type 0) (state : StateShown) (pieces : List P) (capacity : ℕ) : Type 0 where
+pub record KeepsBoard {P : Type 0} (named : Job) (tablet_of : P → ℕ) (is_true : ℕ → P → Type 0)
+    (state : StateShown) (pieces : List P) (capacity : ℕ) : Type 0 where
   pub kept : KeepsPieces named tablet_of is_true state.history pieces
   pub job : state.job ≡ named
   pub room : length named.leaves ≤ capacity

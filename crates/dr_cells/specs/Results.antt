@@ -127,7 +127,9 @@ with_values (n ∷ ns) cs rest = cell n (first_value cs) (with_values ns (drop 1
 abbrev pub read_times : (List ResultCell → ReadObject) → ℕ → List ResultCell → ReadObjects
 read_times read zero cs = record { objects = []; rest = cs }
 read_times read (suc k) cs =
-    let first : ReadObject = read cs in let others : ReadObjects = read_times read k first.rest in record { objects = first.object ∷ others.objects; rest = others.rest }
+    let first : ReadObject = read cs in
+    let others : ReadObjects = read_times read k first.rest in
+    record { objects = first.object ∷ others.objects; rest = others.rest }
 
 abbrev mutual
   -- the object of a shape that begins here

@@ -17,7 +17,8 @@ pub record AskWords : Type 0 where
 
 -- its part of the command line
 abbrev pub ask_app : App
-ask_app = subcommand_app (codes "ask") (needed (option_rule (codes "schema")) ∷ number_rule (codes "rows") 1 most_tablet_rows ∷ number_rule (codes "fan") least_fan most_fan
+ask_app = subcommand_app (codes "ask")
+    (needed (option_rule (codes "schema")) ∷ number_rule (codes "rows") 1 most_tablet_rows ∷ number_rule (codes "fan") least_fan most_fan
     ∷ needed (new_rule (codes "query")) ∷ [])
 
 -- its values in what clap found, where all are there
@@ -37,4 +38,5 @@ ask_view a = record { schema = string_bytes a.schema; rows = a.rows; fan = a.fan
 
 -- what it means: that doesn't look at the fan, so what is printed doesn't depend on it
 abbrev pub ask_meaning : AskWords → Meaning
-ask_meaning w = record { file = Some w.schema; reads_input = true; puts_files = false; asks_link = false; outcome = λ look. plain (meant.ask w.rows look.file w.query look.input) }
+ask_meaning w = record { file = Some w.schema; reads_input = true; puts_files = false; asks_link = false;
+    outcome = λ look. plain (meant.ask w.rows look.file w.query look.input) }

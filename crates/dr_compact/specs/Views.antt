@@ -79,8 +79,10 @@ values_step (Values-F.I32s v) = record { element = compact.i32_type; values = ma
 values_step (Values-F.I64s v) = record { element = compact.i64_type; values = map compact.i64_item v.items }
 values_step (Values-F.Doubles v) = record { element = compact.double_type; values = map compact.double_item v.items }
 values_step (Values-F.Binaries v) = record { element = compact.binary_type; values = map (λ b. compact.binary_item b.now) v.items }
-values_step (Values-F.Lists v) = record { element = compact.list_type; values = map (λ (x : SeenValues). compact.list_item x.element (items_from x.values)) v.items }
-values_step (Values-F.Sets v) = record { element = compact.set_type; values = map (λ (x : SeenValues). compact.set_item x.element (items_from x.values)) v.items }
+values_step (Values-F.Lists v) =
+    record { element = compact.list_type; values = map (λ (x : SeenValues). compact.list_item x.element (items_from x.values)) v.items }
+values_step (Values-F.Sets v) =
+    record { element = compact.set_type; values = map (λ (x : SeenValues). compact.set_item x.element (items_from x.values)) v.items }
 values_step (Values-F.Maps v) = record { element = compact.map_type; values = v.items }
 values_step (Values-F.Structs v) = record { element = compact.struct_type; values = map compact.struct_item v.items }
 

@@ -42,7 +42,8 @@ tablet_part p input = puts_from p 0 (tablets_put p (taken_of p input).records (t
 
 -- some of the tablets that are to be put, from the front on, were put whole, and nothing else
 abbrev pub HasPutTablets : Plan → List ℕ → Option Files → Option Files → Type 0
-HasPutTablets p input before now = (ts : List (List Node)) × (us : List (List Node)) × (tablets_put p (taken_of p input).records (taken_of p input).refusal ≡ ts ++ us)
+HasPutTablets p input before now = (ts : List (List Node)) × (us : List (List Node))
+    × (tablets_put p (taken_of p input).records (taken_of p input).refusal ≡ ts ++ us)
     × HasPut (puts_from p 0 ts) before now
 
 -- what a load that stopped leaves of the keeper: where a line is refused, all that comes before; where the source failed, whole tablets from the front on; where

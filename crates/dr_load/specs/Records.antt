@@ -22,4 +22,5 @@ HasTaken fs most number R (Some all) (Some rest) =
 
 -- behind so many lines, a line of what was left is refused so, with fewer records before it than this
 abbrev pub RefusesWithin : Fields → ℕ → ℕ → ℕ → Option (List ℕ) → Refusal → Type 0
-RefusesWithin fs most number rows left e = WhereTold left (λ all. (R : List Node) × (length R < rows) × (taken_from fs most (suc number) (lines_of all) ≡ record { records = R; refusal = Some e }))
+RefusesWithin fs most number rows left e =
+    WhereTold left (λ all. (R : List Node) × (length R < rows) × (taken_from fs most (suc number) (lines_of all) ≡ record { records = R; refusal = Some e }))

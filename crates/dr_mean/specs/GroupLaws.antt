@@ -40,12 +40,14 @@ abbrev pub term_puts : List (List Step) → ℕ → List GroupTerm → Node → 
 term_puts keys i [] n = []
 term_puts keys i (key j ∷ ts) n = term_puts keys (suc i) ts n
 term_puts keys i (count_rows ∷ ts) n = puts_of_rows keys i (λ row. None) (rows (longest_level keys) n) ++ term_puts keys (suc i) ts n
-term_puts keys i (aggregate a e ∷ ts) n = puts_of_rows keys i (evaluate e) (rows (longer (longest_level keys) (expression_level e)) n) ++ term_puts keys (suc i) ts n
+term_puts keys i (aggregate a e ∷ ts) n =
+    puts_of_rows keys i (evaluate e) (rows (longer (longest_level keys) (expression_level e)) n) ++ term_puts keys (suc i) ts n
 
 -- the key tuples of its rows, and then the aggregates
 abbrev pub record_puts : List (List Step) → List GroupTerm → Option Node → List Put
 record_puts keys ts None = []
-record_puts keys ts (Some n) = map (λ (row : Node). record { keys = query.key_tuple keys row; taken = None }) (rows (longest_level keys) n) ++ term_puts keys 0 ts n
+record_puts keys ts (Some n) =
+    map (λ (row : Node). record { keys = query.key_tuple keys row; taken = None }) (rows (longest_level keys) n) ++ term_puts keys 0 ts n
 
 -- these are what is put of the record
 abbrev pub PutsOfOne : Type 0

@@ -21,7 +21,8 @@ abbrev mutual
 abbrev pub leaves_left : List ℕ → List SchemaElement → Option ℕ
 leaves_left [] [] = Some 0
 leaves_left [] (e ∷ es) = None
-leaves_left (n ∷ s) es = option_and_then (λ (f : FieldsRead). option_map (λ m. leaves_of_fields f.fields + m) (leaves_left s f.behind)) (fields_read (length es) n es)
+leaves_left (n ∷ s) es =
+    option_and_then (λ (f : FieldsRead). option_map (λ m. leaves_of_fields f.fields + m) (leaves_left s f.behind)) (fields_read (length es) n es)
 
 -- so many leaves more, if there is an answer
 abbrev pub and_leaves : Option ℕ → Option ℕ → Option ℕ

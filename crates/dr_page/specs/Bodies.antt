@@ -9,7 +9,8 @@ use Rattle.dr_page.specs.Levels.{levels_view}
 
 -- the triplets of repetition and definition levels, with the values that the rest of the body begins with
 abbrev pub triplets_behind : PageShape → List Value → List ℕ × List ℕ → List ℕ → Option (List Triplet)
-triplets_behind s dictionary ls rest = option_map (join_triplets s.max_definition ls.0 ls.1) (encoded_values s.encoding s.kind dictionary (count_equal s.max_definition ls.1) rest)
+triplets_behind s dictionary ls rest =
+    option_map (join_triplets s.max_definition ls.0 ls.1) (encoded_values s.encoding s.kind dictionary (count_equal s.max_definition ls.1) rest)
 
 -- the levels that a reader of bodies holds
 abbrev pub reader_levels : Shape → BodyReader → List ℕ × List ℕ

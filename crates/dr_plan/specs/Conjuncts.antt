@@ -39,4 +39,5 @@ ConjunctsHavePaths = (e : Expression) → flat_map paths_of (conjuncts e) ≡ pa
 
 -- a query means the same where its condition is cut into conjuncts and these are joined again
 abbrev pub RejoinedMeansSame : Type 0
-RejoinedMeansSame = (fs : Fields) (q : Query) (R : List Node) → meaning fs (record q { condition = all_of (condition_conjuncts q.condition) }) R ≡ meaning fs q R
+RejoinedMeansSame = (fs : Fields) (q : Query) (R : List Node)
+    → meaning fs (record q { condition = all_of (condition_conjuncts q.condition) }) R ≡ meaning fs q R

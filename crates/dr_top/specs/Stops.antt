@@ -157,7 +157,8 @@ StopsWith m keeper keeper_now input input_now links links_now Stop.Keeper =
     (keeper_now.faults ≡ raised keeper.faults) × (input_now.faults ≡ input.faults) × (links_now ≡ links)
     × (((input_now ≡ input) × (keeper_now.held ≡ keeper.held)) ⊎ PutsBreak m keeper keeper_now input)
 StopsWith m keeper keeper_now input input_now links links_now Stop.Source =
-    (input_now.faults ≡ raised input.faults) × (keeper_now.faults ≡ keeper.faults) × (links_now ≡ links) × IsOpened m keeper × PutsSome m keeper keeper_now input
+    (input_now.faults ≡ raised input.faults) × (keeper_now.faults ≡ keeper.faults) × (links_now ≡ links)
+    × IsOpened m keeper × PutsSome m keeper keeper_now input
 StopsWith m keeper keeper_now input input_now links links_now (Stop.Refused r) =
     (keeper_now.faults ≡ keeper.faults) × (input_now.faults ≡ input.faults) × (links_now ≡ links)
     × WithOutcome m keeper input (IsRefusedSo (refusal_view r) keeper.held keeper_now.held) × (IsEarly (refusal_view r) → input_now ≡ input)

@@ -33,5 +33,6 @@ file_end footer = footer ++ (little_endian_bytes 4 (length footer) ++ magic)
 
 -- the columns of records of a schema can be written, if the texts of each record have fewer than 2^32 bytes together and each column is made for its leaf
 abbrev pub RecordColumnsFit : Type 0
-RecordColumnsFit = (s : Schema) (R : List Node) (cs : List Column) → HaveColumns s R (columns_view cs) → list_all (λ (n : Node). nat_lt (text_bytes n) (2 ^ 32)) R ≡ true
+RecordColumnsFit = (s : Schema) (R : List Node) (cs : List Column) → HaveColumns s R (columns_view cs)
+    → list_all (λ (n : Node). nat_lt (text_bytes n) (2 ^ 32)) R ≡ true
     → map column_form cs ≡ map (λ (l : Leaf). form l.kind (max_definition l.path)) (leaves s.fields) → AreColumnsFor s cs
