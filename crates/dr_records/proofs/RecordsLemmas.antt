@@ -2,6 +2,7 @@
 use Rattle.std.proofs.Common.{◌≡◌, ℕ, zero, suc, List, [], ◌∷◌, map, Option, Some, None, Bool, true, refl, sym, ap, ap₂, ◌∙◌, subst}
 use Rattle.std.specs.List.{list_all, slice_get}
 use Rattle.std.proofs.lemmas.Bool.{and_parts, and_from}
+use Rattle.std.proofs.lemmas.Simd.{map-map}
 use Rattle.dr_meaning.specs.Schema.{Schema, Fields}
 use Rattle.dr_meaning.specs.Path.{Step, Leaf, leaves, is_leaf_path}
 use Rattle.dr_meaning.specs.Record.{Node}
@@ -20,7 +21,8 @@ use Rattle.dr_outside.specs.declared.cause.Cause.{Cause}
 use Rattle.dr_file.specs.OpenedFiles.{IsOpened, IsCauseOf}
 use Rattle.dr_file.specs.declared.opened.Opened.{Opened}
 use Rattle.dr_file.specs.declared.file_fault.FileFault.{FileFault}
-use Rattle.dr_records.specs.FileRecords.{AreLeavesOf, paths_of_leaves, AreOfFile, AreProjected, IsFaultOf, AreColumnsOf, SomeIsBad, IsColumnsFault, assemble_fault}
+use Rattle.dr_records.specs.FileRecords.{AreLeavesOf, paths_of_leaves, AreOfFile, AreProjected, IsFaultOf, AreColumnsOf, SomeIsBad, IsColumnsFault, assemble_fault, triplets_in, triplets_at}
+use Rattle.dr_records.proofs.FewLemmas.{columns_alike}
 
 -- ---- leaves and their paths
 
@@ -168,3 +170,20 @@ pub assembled_fault : (bytes : List ℕ) (s : Schema) (fields : List Path) (o : 
 assembled_fault bytes s fields o cs ds n AssembleFault.NoMemory h k d e none = tt
 assembled_fault bytes s fields o cs ds n AssembleFault.BadData h k d e none =
     no_records bytes s (map path_view fields) o cs h k (none_same s.fields (paths_view fields) (paths_of_leaves (map path_view fields)) cs ds o.rows n (paths_same fields) d e (none refl))
+
+-- ---- how many triplets a file has
+
+triplets_by_paths : (F : List Leaf) (R : List Node) → triplets_at F R ≡ triplets_in (map (λ (p : List Step). column p R) (paths_of_leaves F))
+triplets_by_paths F R = ap triplets_in (sym (map-map (λ (p : List Step). column p R) (λ (l : Leaf). l.path) F))
+
+-- what is read of a file has as many triplets as any records of which it is a file
+pub file_triplets : (bytes : List ℕ) (s : Schema) (F : List Leaf) (P R : List Node) → AreOfFile bytes s F P → IsFileOf bytes s F R → triplets_at F P ≡ triplets_at F R
+file_triplets bytes s F P R a b =
+    let f = a.1.0 in
+    let G : List (List Step) = paths_of_leaves F in
+    let same : b.0 ≡ f = same_footer b.0 f (footer_of bytes) b.1 a.1.1 in
+    let other : AreColumns bytes f F R = subst (λ (x : Footer). AreColumns bytes x F R) same b.4.4 in
+    let columns : map (λ (p : List Step). column p a.0) G ≡ map (λ (p : List Step). column p R) G = same_all _ _ (sym (columns_from F a.0) ∙ (sym a.1.4.4 ∙ (other ∙ columns_from F R))) in
+    triplets_by_paths F P
+    ∙ (ap (λ (Q : List Node). triplets_in (map (λ (p : List Step). column p Q) G)) a.2
+        ∙ (ap triplets_in (columns_alike G G (λ q e. e) a.0) ∙ (ap triplets_in columns ∙ sym (triplets_by_paths F R))))

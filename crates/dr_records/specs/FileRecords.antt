@@ -1,5 +1,5 @@
 -- What is read of a file for some leaves of a schema: the projections of its records, or why there are none.
-use Rattle.std.specs.Prelude.{◌≡◌, ◌≤◌, ℕ, List, [], ◌∷◌, map, length, Bool, true, nat_le, Some, ⊤}
+use Rattle.std.specs.Prelude.{◌≡◌, ◌≤◌, ◌+◌, ℕ, List, [], ◌∷◌, map, length, Bool, true, nat_le, Some, ⊤}
 use Rattle.std.specs.List.{slice_get, list_all}
 use Rattle.dr_meaning.specs.Schema.{Schema, Fields}
 use Rattle.dr_meaning.specs.Path.{Step, Leaf, leaves}
@@ -31,6 +31,15 @@ AreProjected s F P = (R : List Node) × (list_all (is_record s.fields) R ≡ tru
 -- whether none of these columns has more triplets than a leaf of a file may have
 abbrev pub are_short : List (List Triplet) → Bool
 are_short cs = list_all (λ (ts : List Triplet). nat_le (length ts) most_triplets) cs
+
+-- how many triplets columns have together
+abbrev pub triplets_in : List (List Triplet) → ℕ
+triplets_in [] = 0
+triplets_in (c ∷ cs) = length c + triplets_in cs
+
+-- how many triplets records have at some leaves
+abbrev pub triplets_at : List Leaf → List Node → ℕ
+triplets_at F P = triplets_in (map (λ (l : Leaf). column l.path P) F)
 
 -- no more records than a file may have, and no more triplets at these leaves
 abbrev pub AreFew : List Leaf → List Node → Type 0

@@ -1,6 +1,6 @@
 //! Reading the records of a file.
 
-ghost use Rattle.std.specs.Prelude.{◌≡◌, ◌≢◌, ◌≤◌, ℕ, List, length, map, true, false, IfOk, IfErr, IsTrue, Err, Some};
+ghost use Rattle.std.specs.Prelude.{◌≡◌, ◌≢◌, ◌≤◌, ◌+◌, ℕ, List, length, map, true, false, IfOk, IfErr, IsTrue, Err, Some};
 ghost use Rattle.std.specs.List.{flat_map};
 ghost use Rattle.dr_meaning.specs.Path.{Leaf};
 ghost use Rattle.dr_formats.specs.File.{Footer, footer_of};
@@ -14,29 +14,33 @@ ghost use Rattle.dr_outside.specs.Link.{Lacks};
 ghost use Rattle.dr_chunk.specs.Telling.{Tells, Serves, AsksOnly, is_read_inside};
 ghost use Rattle.dr_file.specs.Asking.{is_request_for};
 ghost use Rattle.dr_file.specs.OpenedFiles.{IsOpened, HasCounts, is_read_fault, leaf_count, path_of};
-ghost use Rattle.dr_records.specs.FileRecords.{AreLeavesOf, AreOfFile, IsFaultOf, AreProjected, AreFew, AreColumnsOf, IsColumnsFault, are_short, assemble_fault};
+ghost use Rattle.dr_records.specs.FileRecords.{AreLeavesOf, AreOfFile, IsFaultOf, AreProjected, AreFew, AreColumnsOf, IsColumnsFault, are_short, assemble_fault, triplets_in, triplets_at};
 
 use dr_assemble::{AssembleFault, assemble};
 use dr_file::{FileFault, Opened};
 use dr_levels::Column;
 use dr_nested::{Node, Path, Schema};
 use dr_outside::{Cause, Link};
+use dr_steps::Steps;
 use std::alloc::Global;
+use std::sync::ledger::Ledger;
 
-/// The columns of all leaves that a file was opened for.
+/// The columns of all leaves that a file was opened for. A step is a triplet.
 ///
 /// Errors: the link failed, with its counts of faults before and after this call; `BadData` where one leaf's chunks spell no column of any
 /// records; want of memory.
-fn read_columns<L: Link>(
+fn read_columns<L: Link, C: Ledger>(
     alloc: Global,
     link: &mut L,
     opened: &Opened,
     leaves: usize,
+    steps: &mut Steps<C>,
 ) -> Result<Vec<Column>, FileFault>
     requires { leaves ≡ leaf_count opened.now }
     ensures columns { (bytes : List ℕ) (F : List Leaf) → IsOpened bytes F opened.now → length F ≡ leaves → Tells (L.shows link.old) (path_of opened.now) bytes → IfOk result (λ v. AreColumnsOf bytes F (columns_view v.items)) }
     ensures cause { (bytes : List ℕ) (F : List Leaf) → IsOpened bytes F opened.now → length F ≡ leaves → Tells (L.shows link.old) (path_of opened.now) bytes → IfErr result (IsColumnsFault bytes F) }
     ensures few { IfOk result (λ v. are_short (columns_view v.items) ≡ true) }
+    ensures counted { IfOk result (λ v. steps.new ≡ steps.old + triplets_in (columns_view v.items)) }
     ensures asked { (bytes : List ℕ) (F : List Leaf) (f : Footer) → IsOpened bytes F opened.now → length F ≡ leaves → footer_of bytes ≡ Some f → AsksOnly (is_read_inside (path_of opened.now) (flat_map (leaf_ranges f) F)) (L.shows link.old).asked (L.shows link.new).asked }
     ensures same { (L.shows link.new).held ≡ (L.shows link.old).held }
     ensures counts { IfErr result (HasCounts (L.shows link.old).faults (L.shows link.new).faults) }
@@ -47,6 +51,7 @@ fn read_columns<L: Link>(
     let mut columns = Vec::new(alloc);
     'leaves: for index in 0..leaves {
         let column = opened.column(alloc, link, index)?;
+        steps.add(column.len() as u64);
         match columns.push(column) {
             Ok(()) => {}
             Err(_) => return Err(FileFault::NoMemory),
@@ -66,22 +71,24 @@ fn file_fault(fault: AssembleFault) -> FileFault
 }
 
 /// The records of the file at a path, projected to these leaves of the schema. The link is asked for the file's size, its two ends, the
-/// footer, and the chunks of these leaves.
+/// footer, and the chunks of these leaves. A step is a triplet of one of these leaves.
 ///
 /// Errors: the link failed, with its counts of faults before and after this call; else the first cause for which the file is none of any
 /// records for these leaves; want of memory.
-fn read_file<L: Link>(
+fn read_file<L: Link, C: Ledger>(
     alloc: Global,
     link: &mut L,
     path: &str,
     schema: &Schema,
     fields: &[Path],
+    steps: &mut Steps<C>,
 ) -> Result<Vec<Node>, FileFault>
     requires { AreLeavesOf (fields_view (schema.now).fields.items) (map path_view fields.now) }
     ensures records { (bytes : List ℕ) → Tells (L.shows link.old) path.now bytes → IfOk result (λ v. AreOfFile bytes (schema_view schema.now) (map path_view fields.now) (nodes_view v.items)) }
     ensures form { IfOk result (λ v. AreProjected (schema_view schema.now) (map path_view fields.now) (nodes_view v.items)) }
     ensures cause { (bytes : List ℕ) → Tells (L.shows link.old) path.now bytes → IfErr result (IsFaultOf bytes (schema_view schema.now) (map path_view fields.now)) }
     ensures few { IfOk result (λ v. AreFew (map path_view fields.now) (nodes_view v.items)) }
+    ensures counted { IfOk result (λ v. steps.new ≡ steps.old + triplets_at (map path_view fields.now) (nodes_view v.items)) }
     ensures asked { (bytes : List ℕ) → Tells (L.shows link.old) path.now bytes → AsksOnly (is_request_for path.now (reader_ranges bytes (map path_view fields.now))) (L.shows link.old).asked (L.shows link.new).asked }
     ensures same { (L.shows link.new).held ≡ (L.shows link.old).held }
     ensures counts { IfErr result (HasCounts (L.shows link.old).faults (L.shows link.new).faults) }
@@ -91,7 +98,7 @@ fn read_file<L: Link>(
     ensures stays_steady { IsTrue (L.shows link.old).is_steady → IsTrue (L.shows link.new).is_steady }
 {
     let opened = Opened::start(alloc, link, path, fields)?;
-    let columns = read_columns(alloc, link, &opened, fields.len())?;
+    let columns = read_columns(alloc, link, &opened, fields.len(), steps)?;
     match assemble(alloc, schema, fields, &columns, opened.rows()) {
         Ok(records) => Ok(records),
         Err(fault) => Err(file_fault(fault)),
@@ -99,22 +106,24 @@ fn read_file<L: Link>(
 }
 
 /// The records of the file at a path, projected to these leaves of the schema. The link is asked for the file's size, its two ends, the
-/// footer, and the chunks of these leaves.
+/// footer, and the chunks of these leaves. A step is a triplet of one of these leaves.
 ///
 /// Errors: the link failed, with its counts of faults before and after this call; else the first cause for which the file is none of any
 /// records for these leaves; want of memory.
-pub fn read_records<L: Link>(
+pub fn read_records<L: Link, C: Ledger>(
     alloc: Global,
     link: &mut L,
     path: &str,
     schema: &Schema,
     fields: &[Path],
+    steps: &mut Steps<C>,
 ) -> Result<Vec<Node>, FileFault>
     requires { AreLeavesOf (fields_view (schema.now).fields.items) (map path_view fields.now) }
     ensures records { (bytes : List ℕ) → Tells (L.shows link.old) path.now bytes → IfOk result (λ v. AreOfFile bytes (schema_view schema.now) (map path_view fields.now) (nodes_view v.items)) }
     ensures form { IfOk result (λ v. AreProjected (schema_view schema.now) (map path_view fields.now) (nodes_view v.items)) }
     ensures cause { (bytes : List ℕ) → Tells (L.shows link.old) path.now bytes → IfErr result (IsFaultOf bytes (schema_view schema.now) (map path_view fields.now)) }
     ensures few { IfOk result (λ v. AreFew (map path_view fields.now) (nodes_view v.items)) }
+    ensures counted { IfOk result (λ v. steps.new ≡ steps.old + triplets_at (map path_view fields.now) (nodes_view v.items)) }
     ensures asked { (bytes : List ℕ) → Tells (L.shows link.old) path.now bytes → AsksOnly (is_request_for path.now (reader_ranges bytes (map path_view fields.now))) (L.shows link.old).asked (L.shows link.new).asked }
     ensures same { (L.shows link.new).held ≡ (L.shows link.old).held }
     ensures counts { IfErr result (HasCounts (L.shows link.old).faults (L.shows link.new).faults) }
@@ -126,5 +135,5 @@ pub fn read_records<L: Link>(
 {
     // a count that is below 2^64 doesn't fall with one failure more
     let _faults = link.faults();
-    read_file(alloc, link, path, schema, fields)
+    read_file(alloc, link, path, schema, fields, steps)
 }

@@ -4,13 +4,7 @@
 #[cfg(test)]
 mod agreement_tests;
 #[cfg(test)]
-mod commands_tests;
-#[cfg(test)]
 mod explain_tests;
-#[cfg(test)]
-mod json_tests;
-#[cfg(test)]
-mod print_tests;
 #[cfg(test)]
 mod query_tests;
 #[cfg(test)]

@@ -2,16 +2,11 @@
 
 use dr_commands::USAGE;
 use dr_outside::{Keeper, MemSink, MemSource, OpenGate, Shelf};
+use dr_samples::{DOCUMENT, RECORDS};
 use dr_top::run;
 use std::alloc::Global;
 use std::test::Fail;
 use std::thread::Threads;
-
-pub const DOCUMENT: &str =
-    "message Document { required int64 DocId; optional group Links { repeated int64 Backward; repeated int64 Forward; } repeated group Name { repeated group Language { required string Code; optional string Country; } optional string Url; } }";
-
-pub const RECORDS: &str =
-    "{\"DocId\":10,\"Links\":{\"Forward\":[20,40,60]},\"Name\":[{\"Language\":[{\"Code\":\"en-us\",\"Country\":\"us\"},{\"Code\":\"en\"}],\"Url\":\"http://A\"},{\"Url\":\"http://B\"},{\"Language\":[{\"Code\":\"en-gb\",\"Country\":\"gb\"}]}]}\n{\"DocId\":20,\"Links\":{\"Backward\":[10,30],\"Forward\":[80]},\"Name\":[{\"Url\":\"http://C\"}]}\n";
 
 /// A run: its words, the schema's file, the input, which read, write and complaint fails (0 is none); and how it ends: its status, what
 /// it printed, and what it said on standard error.

@@ -1,9 +1,10 @@
 //! Runs of `load`, `dump`, `query` and `schema` over tables in memory.
 
-use crate::rows::{DOCUMENT, RECORDS, input_of, unfolded};
+use crate::rows::{input_of, unfolded};
 use dr_commands::USAGE;
 use dr_nested::{parse_schema, schema_text};
 use dr_outside::{Keeper, Link, MemLink, MemSink, MemSource, OpenGate, Shelf};
+use dr_samples::DOCUMENT;
 use dr_top::run;
 use std::alloc::Global;
 use std::test::Fail;

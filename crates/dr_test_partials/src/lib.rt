@@ -6,10 +6,6 @@ mod agreement_tests;
 #[cfg(test)]
 mod meant;
 #[cfg(test)]
-mod queries;
-#[cfg(test)]
-mod random;
-#[cfg(test)]
 mod scan_tests;
 #[cfg(test)]
 mod tree_tests;

@@ -9,17 +9,19 @@ use dr_nested::{Schema, parse_schema};
 use dr_outside::{Keeper, MemSource, Shelf};
 use dr_plan::Plan;
 use dr_query::read_query;
+use dr_samples::{DOCUMENT, RECORDS};
 use dr_table::{Table, parse_table};
 use std::alloc::Global;
 use std::test::Fail;
 
-/// The worked schema.
-pub const DOCUMENT: &str =
-    "message Document { required int64 DocId; optional group Links { repeated int64 Backward; repeated int64 Forward; } repeated group Name { repeated group Language { required string Code; optional string Country; } optional string Url; } }";
-
-/// The lines of the worked records.
-const RECORDS: &str =
-    "{\"DocId\":10,\"Links\":{\"Forward\":[20,40,60]},\"Name\":[{\"Language\":[{\"Code\":\"en-us\",\"Country\":\"us\"},{\"Code\":\"en\"}],\"Url\":\"http://A\"},{\"Url\":\"http://B\"},{\"Language\":[{\"Code\":\"en-gb\",\"Country\":\"gb\"}]}]}\n{\"DocId\":20,\"Links\":{\"Backward\":[10,30],\"Forward\":[80]},\"Name\":[{\"Url\":\"http://C\"}]}\n";
+/// Lines, one behind another.
+pub fn text_of(alloc: Global, lines: &[String]) -> Result<String, Fail> {
+    let mut text = String::new(alloc);
+    for line in lines {
+        text.push_str(line.as_str())?;
+    }
+    Ok(text)
+}
 
 /// Loads lines as a table of documents, so many to a tablet, with a copy in each of some directories, which have a space between each two.
 pub fn load_lines(

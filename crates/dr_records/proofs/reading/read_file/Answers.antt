@@ -1,4 +1,4 @@
-use Rattle.std.proofs.Common.{ℕ, List, Option, Err, sym, ap, subst, map}
+use Rattle.std.proofs.Common.{ℕ, ◌+◌, ◌∙◌, List, Option, Err, sym, ap, subst, map}
 use Rattle.std.proofs.lemmas.List.{length-map}
 use Rattle.dr_levels.specs.Views.{columns_view}
 use Rattle.dr_nested.specs.PathView.{path_view}
@@ -8,7 +8,7 @@ use Rattle.dr_outside.specs.Link.{Files}
 use Rattle.dr_chunk.specs.Telling.{TellsFile}
 use Rattle.dr_records.specs.FileRecords.{IsFaultOf}
 use Rattle.dr_nested.specs.Views.{fields_view}
-use Rattle.dr_records.proofs.FewLemmas.{few_assembled}
+use Rattle.dr_records.proofs.FewLemmas.{few_assembled, counted_assembled}
 use Rattle.dr_records.proofs.AskedLemmas.{opening_asked, file_asked}
 use Rattle.dr_records.proofs.ColumnsLemmas.{err_is, no_read_fault}
 use Rattle.dr_records.proofs.RecordsLemmas.{have_leaf_paths, columns_fault, records_given, projected_given, assembled_fault}
@@ -85,3 +85,9 @@ pub returns-in-Ok-clause-few : goal.returns-in-Ok-clause-few
 returns-in-Ok-clause-few g c =
     few_assembled (fields_view c.args.schema.now.fields.items) c.args.fields.now (columns_view c.deref.result.now) (columns_view c.in_ok-columns.columns.items) c.rows.result (nodes_view c.in-Ok.records.items) c.in-Ok.ensures.records
     (ap columns_view c.deref.ensures.value) c.in_ok-columns.ensures.few c.rows.ensures.few
+
+pub returns-in-Ok-clause-counted : goal.returns-in-Ok-clause-counted
+returns-in-Ok-clause-counted g c =
+    c.in_ok-columns.ensures.counted
+    ∙ ap (λ n. c.args.steps.now + n) (counted_assembled (fields_view c.args.schema.now.fields.items) c.args.fields.now (columns_view c.deref.result.now) (columns_view c.in_ok-columns.columns.items) c.rows.result
+        (nodes_view c.in-Ok.records.items) c.in-Ok.ensures.records (ap columns_view c.deref.ensures.value))

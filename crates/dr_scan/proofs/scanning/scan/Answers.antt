@@ -1,4 +1,8 @@
-use Rattle.std.proofs.Common.{List, map, subst}
+use Rattle.std.proofs.Common.{List, map, subst, sym, ap, ◌∙◌, ◌+◌}
+use Rattle.dr_formats.specs.File.{IsFileOf}
+use Rattle.dr_assemble.specs.Views.{nodes_view}
+use Rattle.dr_records.specs.FileRecords.{triplets_at}
+use Rattle.dr_records.proofs.RecordsLemmas.{file_triplets}
 use Rattle.dr_formats.specs.Opening.{reader_ranges}
 use Rattle.dr_nested.specs.SchemaView.{schema_view}
 use Rattle.dr_nested.specs.PathView.{path_view}
@@ -63,3 +67,12 @@ pub returns-clause-asked : goal.returns-clause-asked
 returns-clause-asked g c = λ bytes tells.
     subst (λ (ls : List Path). AsksOnly (is_request_for c.args.path.now (reader_ranges bytes (map path_view ls))) (g.L.Link.shows c.args.link.now).asked (g.L.Link.shows c.read_records.new.link).asked) c.deref.ensures.value
     (c.read_records.ensures.asked bytes tells)
+
+pub returns-in-Ok-clause-counted : goal.returns-in-Ok-clause-counted
+returns-in-Ok-clause-counted g c = λ bytes R tells is.
+    let s = schema_view c.args.schema.now in
+    let F = map path_view c.deref.result.now in
+    let file = subst (λ (ls : List Path). IsFileOf bytes s (map path_view ls) R) (sym c.deref.ensures.value) is in
+    c.in_ok-records.ensures.counted
+    ∙ ap (λ n. c.args.steps.now + n)
+    (file_triplets bytes s F (nodes_view c.in_ok-records.records.items) R (c.in_ok-records.ensures.records bytes tells) file ∙ ap (λ (ls : List Path). triplets_at (map path_view ls) R) c.deref.ensures.value)

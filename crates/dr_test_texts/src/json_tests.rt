@@ -2,15 +2,9 @@
 
 use dr_json::{RecordFault, RecordProblem, record_of};
 use dr_nested::{Instance, Schema, Slot, Value, parse_schema};
+use dr_samples::DOCUMENT;
 use std::alloc::Global;
 use std::test::Fail;
-
-const DOCUMENT: &[u8] = b"message Document {
-  required int64 DocId;
-  optional group Links { repeated int64 Backward; repeated int64 Forward; }
-  repeated group Name {
-    repeated group Language { required string Code; optional string Country; }
-    optional string Url; } }";
 
 const SMALL: &[u8] =
     b"message Small { required int32 Count; optional boolean Flag; repeated string Text; }";
@@ -84,7 +78,7 @@ fn first_other<'a>(alloc: Global, schema: &Schema, rows: &'a str) -> Result<Opti
 
 #[test]
 fn documents(rt: HostRuntime) -> Result<(), Fail> {
-    let schema = parse_schema(rt.alloc(), DOCUMENT).ok().ok_or("no schema")?;
+    let schema = parse_schema(rt.alloc(), DOCUMENT.as_bytes()).ok().ok_or("no schema")?;
     assert_eq!(rt; first_other(rt.alloc(), &schema, DOCUMENTS)?, None);
     let found = told(rt.alloc(), &schema, b"{\"DocId\":1}\xff")?;
     assert_eq!(rt; found.as_str(), "NotJson");
@@ -123,7 +117,7 @@ fn values_in_schema_order(rt: HostRuntime) -> Result<(), Fail> {
 
 #[test]
 fn most_instances(rt: HostRuntime) -> Result<(), Fail> {
-    let schema = parse_schema(rt.alloc(), DOCUMENT).ok().ok_or("no schema")?;
+    let schema = parse_schema(rt.alloc(), DOCUMENT.as_bytes()).ok().ok_or("no schema")?;
     let line = many_links(rt.alloc(), 1_048_573)?;
     assert_eq!(rt; record_of(rt.alloc(), &schema, line.as_bytes()).err(), None);
     let line = many_links(rt.alloc(), 1_048_574)?;

@@ -1,7 +1,9 @@
 //! Records of the worked document that look random.
 
+ghost use Rattle.std.specs.Prelude.{◌≡◌, length, IfOk};
+
+use dr_memory::NoMemory;
 use std::alloc::Global;
-use std::test::Fail;
 
 /// A number below another, of a sequence that looks random.
 fn draw(state: &mut u64, below: u64) -> u64 {
@@ -12,7 +14,7 @@ fn draw(state: &mut u64, below: u64) -> u64 {
 }
 
 /// Appends a list of up to three numbers from -4 to 5.
-fn push_numbers(alloc: Global, text: &mut String, state: &mut u64) -> Result<(), Fail> {
+fn push_numbers(alloc: Global, text: &mut String, state: &mut u64) -> Result<(), NoMemory> {
     text.push_str("[")?;
     for place in 0..draw(state, 4) {
         if place > 0 {
@@ -26,7 +28,7 @@ fn push_numbers(alloc: Global, text: &mut String, state: &mut u64) -> Result<(),
 }
 
 /// Appends a list of up to two languages.
-fn push_languages(alloc: Global, text: &mut String, state: &mut u64) -> Result<(), Fail> {
+fn push_languages(alloc: Global, text: &mut String, state: &mut u64) -> Result<(), NoMemory> {
     for place in 0..draw(state, 3) {
         text.push_str(if place > 0 { "," } else { "" })?;
         text.push_str("{\"Code\":\"c")?;
@@ -41,7 +43,7 @@ fn push_languages(alloc: Global, text: &mut String, state: &mut u64) -> Result<(
 }
 
 /// Appends a list of up to two names.
-fn push_names(alloc: Global, text: &mut String, state: &mut u64) -> Result<(), Fail> {
+fn push_names(alloc: Global, text: &mut String, state: &mut u64) -> Result<(), NoMemory> {
     for place in 0..draw(state, 3) {
         text.push_str(if place > 0 { ",{" } else { "{" })?;
         text.push_str("\"Language\":[")?;
@@ -58,7 +60,7 @@ fn push_names(alloc: Global, text: &mut String, state: &mut u64) -> Result<(), F
 }
 
 /// The line of a record.
-fn record_line(alloc: Global, state: &mut u64) -> Result<String, Fail> {
+fn record_line(alloc: Global, state: &mut u64) -> Result<String, NoMemory> {
     let mut text = String::new(alloc);
     text.push_str("{\"DocId\":")?;
     text.push_str(format!(in alloc; "{}", draw(state, 17))?.as_str())?;
@@ -75,21 +77,18 @@ fn record_line(alloc: Global, state: &mut u64) -> Result<String, Fail> {
     Ok(text)
 }
 
-/// The lines of so many records.
-pub fn record_lines(alloc: Global, count: usize) -> Result<Vec<String>, Fail> {
+/// The lines of so many records, each with its line feed. They are the same at each call.
+///
+/// Errors: want of memory alone.
+pub fn record_lines(alloc: Global, count: usize) -> Result<Vec<String>, NoMemory>
+    ensures { IfOk result (λ v. length v.items ≡ count) }
+{
     let mut lines = Vec::new(alloc);
     let mut state = 20100913;
-    for _ in 0..count {
-        lines.push(record_line(alloc, &mut state)?)?;
+    'lines: for number in 0..count {
+        let _ = number;
+        let line = record_line(alloc, &mut state)?;
+        lines.push(line)?;
     }
     Ok(lines)
-}
-
-/// Lines, one behind another.
-pub fn text_of(alloc: Global, lines: &[String]) -> Result<String, Fail> {
-    let mut text = String::new(alloc);
-    for line in lines {
-        text.push_str(line.as_str())?;
-    }
-    Ok(text)
 }

@@ -3,6 +3,7 @@ use dr_json::record_of;
 use dr_levels::{Column, Levels, Triplet, ValueRef};
 use dr_nested::{Kind, find, parse_schema};
 use dr_print::{automaton_text, column_text, push_record_text, record_text, triplet_text};
+use dr_samples::DOCUMENT;
 use std::test::Fail;
 
 fn triplet(value: Option<ValueRef<'_>>, repetition: u8, definition: u8) -> Triplet<'_> {
@@ -47,9 +48,6 @@ fn a_column_has_a_line_for_each_triplet(rt: HostRuntime) -> Result<(), Fail> {
     assert_eq!(rt; text.as_str(), "NULL 0 0\nNULL 0 0\n");
     Ok(())
 }
-
-const DOCUMENT: &str =
-    "message Document { required int64 DocId; optional group Links { repeated int64 Backward; repeated int64 Forward; } repeated group Name { repeated group Language { required string Code; optional string Country; } optional string Url; } }";
 
 // The leaves in another order than the schema's.
 const LEAVES: [&str; 6] = [
