@@ -186,4 +186,4 @@ file_triplets bytes s F P R a b =
     let columns : map (λ (p : List Step). column p a.0) G ≡ map (λ (p : List Step). column p R) G = same_all _ _ (sym (columns_from F a.0) ∙ (sym a.1.4.4 ∙ (other ∙ columns_from F R))) in
     triplets_by_paths F P
     ∙ (ap (λ (Q : List Node). triplets_in (map (λ (p : List Step). column p Q) G)) a.2
-        ∙ (ap triplets_in (columns_alike G G (λ q e. e) a.0) ∙ (ap triplets_in columns ∙ sym (triplets_by_paths F R))))
+    ∙ (ap triplets_in (columns_alike G G (λ q e. e) a.0) ∙ (ap triplets_in columns ∙ sym (triplets_by_paths F R))))

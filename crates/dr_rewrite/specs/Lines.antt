@@ -22,7 +22,7 @@ abbrev pub leaf_line : Names → List Truth → Selection → List ℕ
 leaf_line n tests (Selection.Objects items o) = select_text (map (record_item_text n) items.items) (codes "tablet") (tests_text n tests) []
 leaf_line n tests (Selection.Groups keys aggregates items) =
     select_text (indexed (leaf_key n) 0 keys.items ++ indexed (leaf_aggregate n) 0 aggregates.items)
-      (codes "tablet") (tests_text n tests) (map (key_text n) keys.items)
+    (codes "tablet") (tests_text n tests) (map (key_text n) keys.items)
 
 -- the inner query
 abbrev pub inner_line : Selection → List ℕ

@@ -14,7 +14,9 @@ pub struct Steps<C: Ledger> {
 
 impl<C: Ledger> Model for Steps<C> {
     ghost Value = { ℕ };
+
     ghost view = { λ s. s.book.total };
+
     ghost invariant = { λ s. 0 < s.share.parts };
 }
 

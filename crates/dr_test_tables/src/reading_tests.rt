@@ -8,9 +8,9 @@ use dr_outside::{Cause, MemLink};
 use dr_records::read_uncounted;
 use dr_table::Table;
 use dr_tablets::{LeftTablet, Tablet, Tried, left_text, read_tablet};
+use std::alloc::Global;
 use std::marker::Brand;
 use std::sync::ledger::Blank;
-use std::alloc::Global;
 use std::test::Fail;
 
 const ALL: &str =

@@ -78,7 +78,9 @@ fn first_other<'a>(alloc: Global, schema: &Schema, rows: &'a str) -> Result<Opti
 
 #[test]
 fn documents(rt: HostRuntime) -> Result<(), Fail> {
-    let schema = parse_schema(rt.alloc(), DOCUMENT.as_bytes()).ok().ok_or("no schema")?;
+    let schema = parse_schema(rt.alloc(), DOCUMENT.as_bytes())
+        .ok()
+        .ok_or("no schema")?;
     assert_eq!(rt; first_other(rt.alloc(), &schema, DOCUMENTS)?, None);
     let found = told(rt.alloc(), &schema, b"{\"DocId\":1}\xff")?;
     assert_eq!(rt; found.as_str(), "NotJson");
@@ -117,7 +119,9 @@ fn values_in_schema_order(rt: HostRuntime) -> Result<(), Fail> {
 
 #[test]
 fn most_instances(rt: HostRuntime) -> Result<(), Fail> {
-    let schema = parse_schema(rt.alloc(), DOCUMENT.as_bytes()).ok().ok_or("no schema")?;
+    let schema = parse_schema(rt.alloc(), DOCUMENT.as_bytes())
+        .ok()
+        .ok_or("no schema")?;
     let line = many_links(rt.alloc(), 1_048_573)?;
     assert_eq!(rt; record_of(rt.alloc(), &schema, line.as_bytes()).err(), None);
     let line = many_links(rt.alloc(), 1_048_574)?;
