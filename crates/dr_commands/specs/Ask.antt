@@ -38,5 +38,10 @@ ask_view a = record { schema = string_bytes a.schema; rows = a.rows; fan = a.fan
 
 -- what it means: that doesn't look at the fan, so what is printed doesn't depend on it
 abbrev pub ask_meaning : AskWords → Meaning
-ask_meaning w = record { file = Some w.schema; reads_input = true; puts_files = false; asks_link = false;
-    outcome = λ look. plain (meant.ask w.rows look.file w.query look.input) }
+ask_meaning w = record {
+  file = Some w.schema;
+  reads_input = true;
+  puts_files = false;
+  asks_link = false;
+  outcome = λ look. plain (meant.ask w.rows look.file w.query look.input);
+}

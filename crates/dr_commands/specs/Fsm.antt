@@ -25,5 +25,10 @@ fsm_view f = record { schema = string_bytes f.schema; fields = map string_bytes 
 
 -- what it means
 abbrev pub fsm_meaning : FsmWords → Meaning
-fsm_meaning w = record { file = Some w.schema; reads_input = false; puts_files = false; asks_link = false;
-    outcome = λ look. plain (meant.fsm look.file w.fields) }
+fsm_meaning w = record {
+  file = Some w.schema;
+  reads_input = false;
+  puts_files = false;
+  asks_link = false;
+  outcome = λ look. plain (meant.fsm look.file w.fields);
+}

@@ -25,5 +25,10 @@ stripe_view s = record { schema = string_bytes s.schema; field = string_bytes s.
 
 -- what it means
 abbrev pub stripe_meaning : StripeWords → Meaning
-stripe_meaning w = record { file = Some w.schema; reads_input = true; puts_files = false; asks_link = false;
-    outcome = λ look. plain (meant.stripe look.file w.field look.input) }
+stripe_meaning w = record {
+  file = Some w.schema;
+  reads_input = true;
+  puts_files = false;
+  asks_link = false;
+  outcome = λ look. plain (meant.stripe look.file w.field look.input);
+}

@@ -35,7 +35,7 @@ aggregate_puts keys i (aggregate a e) n = expression_puts keys i e n
 abbrev pub AreKeyRows : List Path → List ℕ → Node → List Known → Type 0
 AreKeyRows leaves keys n ks =
     ks ≡ map (known (paths_view leaves) (longest_level (key_paths (map path_view leaves) keys)))
-      (rows (longest_level (key_paths (map path_view leaves) keys)) n)
+    (rows (longest_level (key_paths (map path_view leaves) keys)) n)
 
 -- the projections of records to leaves
 abbrev pub projections : List Path → List RecordNode → List Node

@@ -62,8 +62,12 @@ file_view m = record {
 }
 
 abbrev pub data_page_view : DataPage → metadata.DataPageHeader
-data_page_view h = record { values = h.values.number; encoding = h.encoding;
-    definition_encoding = h.definition_encoding; repetition_encoding = h.repetition_encoding }
+data_page_view h = record {
+  values = h.values.number;
+  encoding = h.encoding;
+  definition_encoding = h.definition_encoding;
+  repetition_encoding = h.repetition_encoding;
+}
 
 abbrev pub dictionary_page_view : DictionaryPage → metadata.DictionaryPageHeader
 dictionary_page_view h = record { values = h.values.number; encoding = h.encoding }
