@@ -1,11 +1,12 @@
 -- Causes at opening and of one leaf, ranges, loading and the lines of commands, by computation.
 use Rattle.std.specs.Prelude.{◌≡◌, ℕ, List, [], ◌∷◌, ◌++◌, map, true, false, pos, Some, None, codes, refl}
+use Rattle.std.specs.Str.{is_utf8, chars}
 use Rattle.std.specs.Fmt.{digits}
 use Rattle.dr_meaning.specs.Schema.{Schema, no_fields, field, leaf, group, required, optional, repeated, int64_kind}
 use Rattle.dr_meaning.specs.SchemaText.{empty_group}
 use Rattle.dr_meaning.specs.Path.{Leaf, leaves}
 use Rattle.dr_meaning.specs.Record.{Node, no_slots, slot, single, atom, int_value}
-use Rattle.dr_meaning.specs.JsonRecord.{missing_field}
+use Rattle.dr_meaning.specs.JsonRecord.{record_of_line, missing_field, not_json}
 use Rattle.dr_meaning.specs.Lines.{Refusal, no_record}
 use Rattle.dr_formats.specs.Compact.{read_struct}
 use Rattle.dr_formats.specs.Hybrid.{hybrid}
@@ -152,6 +153,11 @@ first_line_is_refused = refl
 pub loads : load (plan 1) [] ≡ record { puts = puts_of (plan 1) [] None; records = 0; tablets = 1; refusal = None }
 unfolding load
 loads = refl
+
+-- lines are counted from 1: here the first isn't UTF-8, and so no record
+pub first_line_is_told : load (plan 1) (255 ∷ 10 ∷ []) ≡ record { puts = []; records = 0; tablets = 1; refusal = Some (record { line = 1; fault = no_record not_json }) }
+unfolding load record_of_line is_utf8 chars
+first_line_is_told = refl
 
 pub load_limits : (most_loaded 1 ≡ 4096) × (most_loaded 1000000 ≡ 4096000000) × (most_tablet_rows ≡ 1000000)
 load_limits = (refl, refl, refl)
