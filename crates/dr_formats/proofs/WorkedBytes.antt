@@ -5,7 +5,7 @@ use Rattle.dr_meaning.specs.Schema.{bool_kind, int32_kind, int64_kind, text_kind
 use Rattle.dr_meaning.specs.Record.{Value, bool_value, int_value, text_value}
 use Rattle.dr_formats.specs.Reading.{Reading, got, refused}
 use Rattle.dr_formats.specs.Varint.{VarintFault, varint_short, varint_too_long, read_varint, varint_bytes, zigzag, from_zigzag}
-use Rattle.dr_formats.specs.Compact.{Item, is_tree, true_type, false_type, byte_type, i16_type, i32_type, i64_type, double_type, binary_type, list_type, set_type, map_type, struct_type, type_number, type_of, Struct, stop, struct_field, truth_item, byte_item, i16_item, i32_item, i64_item, double_item, binary_item, list_item, set_item, empty_map_item, map_item, struct_item, no_items, item, no_pairs, pair, read_struct, struct_bytes, struct_fault, malformed}
+use Rattle.dr_formats.specs.Compact.{ThriftType, Items, Pairs, count_items, count_pairs, is_item, are_items, are_pairs, Item, is_tree, true_type, false_type, byte_type, i16_type, i32_type, i64_type, double_type, binary_type, list_type, set_type, map_type, struct_type, type_number, type_of, Struct, stop, struct_field, truth_item, byte_item, i16_item, i32_item, i64_item, double_item, binary_item, list_item, set_item, empty_map_item, map_item, struct_item, no_items, item, no_pairs, pair, read_struct, struct_bytes, struct_fault, malformed}
 use Rattle.dr_formats.specs.Hybrid.{hybrid, hybrid_bytes}
 use Rattle.dr_formats.specs.Plain.{has_short_text, is_writable, from_complement, complement, plain, plain_values, plain_bytes, dictionary_values, too_short, bad_text}
 use Rattle.dr_meaning.specs.Column.{triplet}
@@ -95,8 +95,9 @@ around zero = stop
 around (suc n) = alone (struct_item (around n))
 
 pub trees : map is_tree (each_type ∷ lists ∷ maps ∷ stop ∷ struct_field (z 32768) (byte_item 7) stop ∷ around 31 ∷ alone (list_item true_type (item (truth_item true) (item (truth_item false) no_items)))
-    ∷ alone (map_item i32_type binary_type (pair (i32_item (pos 1)) (binary_item []) (pair (i32_item (pos 2)) (binary_item []) no_pairs))) ∷ [])
-    ≡ true ∷ true ∷ true ∷ true ∷ true ∷ true ∷ true ∷ true ∷ []
+    ∷ alone (map_item i32_type binary_type (pair (i32_item (pos 1)) (binary_item []) (pair (i32_item (pos 2)) (binary_item []) no_pairs)))
+    ∷ alone (map_item i32_type binary_type (pair (i32_item (pos 1)) (binary_item []) no_pairs)) ∷ struct_field (pos 32767) (byte_item 7) stop ∷ [])
+    ≡ replicate 10 true
 trees = refl
 
 pub no_trees : map is_tree (struct_field (pos 32768) (byte_item 7) stop ∷ alone (i64_item (pos (2 ^ 63))) ∷ alone (i32_item (pos (2 ^ 63))) ∷ alone (double_item (1 ∷ [])) ∷ alone (list_item i32_type (item (i32_item (pos 1)) (item (i64_item (pos 1)) no_items)))
@@ -104,11 +105,31 @@ pub no_trees : map is_tree (struct_field (pos 32768) (byte_item 7) stop ∷ alon
     ≡ false ∷ false ∷ false ∷ false ∷ false ∷ false ∷ false ∷ false ∷ false ∷ []
 no_trees = refl
 
--- ids: negative and falling ones in the long form; the greatest of 16 bits, and one more by a delta
+-- lengths and sizes may reach 2^64 - 1, of bytes, of lists and sets, of maps; and not 2^64
+pub longest_bytes : (b : List ℕ) → length b ≡ 18446744073709551615 → is_item 1 (binary_item b) ≡ true
+longest_bytes b e = rw e refl
+
+pub longer_bytes : (b : List ℕ) → length b ≡ 18446744073709551616 → is_item 1 (binary_item b) ≡ false
+longer_bytes b e = rw e refl
+
+pub longest_list : (t : ThriftType) (xs : Items) → count_items xs ≡ 18446744073709551615 → (is_item 1 (list_item t xs) ≡ are_items 0 t xs) × (is_item 1 (set_item t xs) ≡ are_items 0 t xs)
+longest_list t xs e = rw e (refl, refl)
+
+pub longer_list : (t : ThriftType) (xs : Items) → count_items xs ≡ 18446744073709551616 → (is_item 1 (list_item t xs) ≡ false) × (is_item 1 (set_item t xs) ≡ false)
+longer_list t xs e = rw e (refl, refl)
+
+pub longest_map : (k v : ThriftType) (xs : Pairs) → count_pairs xs ≡ 18446744073709551615 → is_item 1 (map_item k v xs) ≡ are_pairs 0 k v xs
+longest_map k v xs e = rw e refl
+
+pub longer_map : (k v : ThriftType) (xs : Pairs) → count_pairs xs ≡ 18446744073709551616 → is_item 1 (map_item k v xs) ≡ false
+longer_map k v xs e = rw e refl
+
+-- ids: negative and falling ones in the long form; the greatest of 16 bits, also by a delta, and one more
 pub ids : (struct_bytes (struct_field (z 1) (truth_item true) (struct_field (z 2) (truth_item false) stop)) ≡ hex (codes "01 01 02 03 00")) × (read_struct (hex (codes "01 01 02 03 00")) ≡ got (struct_field (z 1) (truth_item true) (struct_field (z 2) (truth_item false) stop)) [])
     × (read_struct (hex (codes "01 FEFF03 00")) ≡ got (struct_field (pos 32767) (truth_item true) stop) []) × (read_struct (hex (codes "01 FFFF03 00")) ≡ got (struct_field (z 32768) (truth_item true) stop) []) × (struct_fault (hex (codes "01 FEFF03 11 00")) ≡ Some (record { place = 4; fault = malformed }))
+    × (read_struct (hex (codes "01 FCFF03 11 00")) ≡ got (struct_field (pos 32766) (truth_item true) (struct_field (pos 32767) (truth_item true) stop)) [])
 unfolding struct_bytes read_struct
-ids = (refl, refl, refl, refl, refl)
+ids = (refl, refl, refl, refl, refl, refl)
 
 -- the byte at which no struct goes on: an unknown type of a field, of a list, of keys, of values; a delta without a type; or the end
 pub faults : map (λ d. struct_fault (hex d)) (codes "1D 00" ∷ codes "19 1D" ∷ codes "1B 01 D1" ∷ codes "1B 01 1E" ∷ codes "10" ∷ codes "19 00" ∷ codes "18 05 61" ∷ codes "17 01" ∷ codes "16 80" ∷ codes "1B" ∷ codes "11" ∷ [])
