@@ -344,17 +344,6 @@ pub chunk_in_magic : Refused chunk_in_magic_bytes bad_data
 unfolding footer_of read_struct page_triplets hybrid
 chunk_in_magic = known_cause_holds chunk_in_magic_bytes one_schema one_leaf bad_data refl
 
-abbrev offset_in_magic_bytes : List ℕ
-offset_in_magic_bytes =
-    hex (codes "504152311500152015202C1504150015061506000007000000000000000800000000000000") ++
-    hex (codes "292C350018015415020015042500180161001604191C191C3C150435001604264226082602000026040000") ++
-    hex (codes "2B00000050415231")
-
--- a dictionary page's offset of 1 counts
-pub offset_in_magic : Refused offset_in_magic_bytes bad_data
-unfolding footer_of read_struct page_triplets hybrid
-offset_in_magic = known_cause_holds offset_in_magic_bytes one_schema one_leaf bad_data refl
-
 abbrev footer_in_magic_bytes : List ℕ
 footer_in_magic_bytes = hex (codes "50415231 09042C48015415020015042500180161001600190C00 17000000 50415231")
 
