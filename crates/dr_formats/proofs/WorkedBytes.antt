@@ -5,7 +5,7 @@ use Rattle.dr_meaning.specs.Schema.{bool_kind, int32_kind, int64_kind, text_kind
 use Rattle.dr_meaning.specs.Record.{Value, bool_value, int_value, text_value}
 use Rattle.dr_formats.specs.Reading.{Reading, got, refused}
 use Rattle.dr_formats.specs.Varint.{VarintFault, varint_short, varint_too_long, read_varint, varint_bytes, zigzag, from_zigzag}
-use Rattle.dr_formats.specs.Compact.{ThriftType, Items, Pairs, count_items, count_pairs, is_item, are_items, are_pairs, Item, is_tree, true_type, false_type, byte_type, i16_type, i32_type, i64_type, double_type, binary_type, list_type, set_type, map_type, struct_type, type_number, type_of, Struct, stop, struct_field, truth_item, byte_item, i16_item, i32_item, i64_item, double_item, binary_item, list_item, set_item, empty_map_item, map_item, struct_item, no_items, item, no_pairs, pair, read_struct, struct_bytes, struct_fault, malformed}
+use Rattle.dr_formats.specs.Compact.{ThriftType, Items, Pairs, list_header_bytes, count_items, count_pairs, is_item, are_items, are_pairs, Item, is_tree, true_type, false_type, byte_type, i16_type, i32_type, i64_type, double_type, binary_type, list_type, set_type, map_type, struct_type, type_number, type_of, Struct, stop, struct_field, truth_item, byte_item, i16_item, i32_item, i64_item, double_item, binary_item, list_item, set_item, empty_map_item, map_item, struct_item, no_items, item, no_pairs, pair, read_struct, struct_bytes, struct_fault, malformed}
 use Rattle.dr_formats.specs.Hybrid.{hybrid, hybrid_bytes}
 use Rattle.dr_formats.specs.Plain.{has_short_text, is_writable, from_complement, complement, plain, plain_values, plain_bytes, dictionary_values, too_short, bad_text}
 use Rattle.dr_meaning.specs.Column.{triplet}
@@ -73,6 +73,10 @@ pub long_lists : (struct_bytes lists ≡ hex (codes "19F30F000102030405060708090
 unfolding struct_bytes read_struct
 long_lists = (refl, refl)
 
+-- sizes up to 14 stand in the header's byte
+pub list_headers : map (λ n. list_header_bytes n byte_type) (0 ∷ 14 ∷ 15 ∷ 16 ∷ 128 ∷ []) ≡ hex (codes "03") ∷ hex (codes "E3") ∷ hex (codes "F3 0F") ∷ hex (codes "F3 10") ∷ hex (codes "F3 8001") ∷ []
+list_headers = refl
+
 -- maps: sizes first, then both types, then keys and values; a map without pairs is a 0 alone
 abbrev maps : Struct
 maps = struct_field (pos 1) (map_item byte_type true_type (pair (byte_item 7) (truth_item true) (pair (byte_item 8) (truth_item false) no_pairs))) (struct_field (pos 2) empty_map_item stop)
@@ -101,8 +105,8 @@ pub trees : map is_tree (each_type ∷ lists ∷ maps ∷ stop ∷ struct_field 
 trees = refl
 
 pub no_trees : map is_tree (struct_field (pos 32768) (byte_item 7) stop ∷ alone (i64_item (pos (2 ^ 63))) ∷ alone (i32_item (pos (2 ^ 63))) ∷ alone (double_item (1 ∷ [])) ∷ alone (list_item i32_type (item (i32_item (pos 1)) (item (i64_item (pos 1)) no_items)))
-    ∷ alone (set_item byte_type (item (truth_item true) no_items)) ∷ alone (map_item byte_type byte_type no_pairs) ∷ alone (map_item i32_type binary_type (pair (binary_item []) (i32_item (pos 1)) no_pairs)) ∷ around 32 ∷ [])
-    ≡ false ∷ false ∷ false ∷ false ∷ false ∷ false ∷ false ∷ false ∷ false ∷ []
+    ∷ alone (set_item byte_type (item (truth_item true) no_items)) ∷ alone (map_item byte_type byte_type no_pairs) ∷ alone (map_item i32_type binary_type (pair (binary_item []) (i32_item (pos 1)) no_pairs)) ∷ alone (list_item false_type (item (byte_item 1) no_items)) ∷ around 32 ∷ [])
+    ≡ replicate 10 false
 no_trees = refl
 
 -- lengths and sizes may reach 2^64 - 1, of bytes, of lists and sets, of maps; and not 2^64
@@ -130,6 +134,14 @@ pub ids : (struct_bytes (struct_field (z 1) (truth_item true) (struct_field (z 2
     × (read_struct (hex (codes "01 FCFF03 11 00")) ≡ got (struct_field (pos 32766) (truth_item true) (struct_field (pos 32767) (truth_item true) stop)) [])
 unfolding struct_bytes read_struct
 ids = (refl, refl, refl, refl, refl, refl)
+
+-- a delta of 15 is the greatest that fits the short form
+abbrev by_15_and_16 : Struct
+by_15_and_16 = struct_field (pos 1) (i32_item (pos 0)) (struct_field (pos 16) (i32_item (pos 0)) (struct_field (pos 32) (i32_item (pos 0)) stop))
+
+pub greatest_delta : (struct_bytes by_15_and_16 ≡ hex (codes "15 00 F5 00 05 40 00 00")) × (read_struct (hex (codes "15 00 F5 00 05 40 00 00")) ≡ got by_15_and_16 [])
+unfolding struct_bytes read_struct
+greatest_delta = (refl, refl)
 
 -- the byte at which no struct goes on: an unknown type of a field, of a list, of keys, of values; a delta without a type; or the end
 pub faults : map (λ d. struct_fault (hex d)) (codes "1D 00" ∷ codes "19 1D" ∷ codes "1B 01 D1" ∷ codes "1B 01 1E" ∷ codes "10" ∷ codes "19 00" ∷ codes "18 05 61" ∷ codes "17 01" ∷ codes "16 80" ∷ codes "1B" ∷ codes "11" ∷ [])
