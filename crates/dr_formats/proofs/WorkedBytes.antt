@@ -1,11 +1,11 @@
 -- Numbers, structs, hybrid data and values as bytes, by computation: vectors of the public standards, byte for byte.
-use Rattle.std.specs.Prelude.{◌≡◌, ℕ, length, zero, suc, ◌-◌, ◌^◌, List, [], ◌∷◌, ◌++◌, map, replicate, Bool, true, false, ℤ, pos, neg_ℤ, Some, None, codes, refl}
+use Rattle.std.specs.Prelude.{◌≡◌, ℕ, length, zero, suc, ◌-◌, ◌^◌, List, [], ◌∷◌, ◌++◌, map, replicate, Bool, true, false, ℤ, pos, neg_ℤ, Option, Some, None, codes, refl}
 use Rattle.std.specs.Str.{is_utf8, chars}
 use Rattle.dr_meaning.specs.Schema.{bool_kind, int32_kind, int64_kind, text_kind}
 use Rattle.dr_meaning.specs.Record.{Value, bool_value, int_value, text_value}
 use Rattle.dr_formats.specs.Reading.{Reading, got, refused}
 use Rattle.dr_formats.specs.Varint.{VarintFault, varint_short, varint_too_long, read_varint, varint_bytes, zigzag, from_zigzag}
-use Rattle.dr_formats.specs.Compact.{ThriftType, Items, Pairs, list_header_bytes, count_items, count_pairs, is_item, are_items, are_pairs, Item, is_tree, true_type, false_type, byte_type, i16_type, i32_type, i64_type, double_type, binary_type, list_type, set_type, map_type, struct_type, type_number, type_of, Struct, stop, struct_field, truth_item, byte_item, i16_item, i32_item, i64_item, double_item, binary_item, list_item, set_item, empty_map_item, map_item, struct_item, no_items, item, no_pairs, pair, read_struct, struct_bytes, struct_fault, malformed}
+use Rattle.dr_formats.specs.Compact.{ThriftType, Items, Pairs, list_header_bytes, count_items, count_pairs, is_item, are_items, are_pairs, Item, is_tree, true_type, false_type, byte_type, i16_type, i32_type, i64_type, double_type, binary_type, list_type, set_type, map_type, struct_type, type_number, type_of, Struct, stop, struct_field, truth_item, byte_item, i16_item, i32_item, i64_item, double_item, binary_item, list_item, set_item, empty_map_item, map_item, struct_item, no_items, item, no_pairs, pair, read_struct, struct_bytes, PlacedFault, struct_fault, malformed}
 use Rattle.dr_formats.specs.Hybrid.{hybrid, hybrid_bytes}
 use Rattle.dr_formats.specs.Plain.{has_short_text, is_writable, from_complement, complement, plain, plain_values, plain_bytes, dictionary_values, too_short, bad_text}
 use Rattle.dr_meaning.specs.Column.{triplet}
@@ -149,6 +149,16 @@ pub faults : map (λ d. struct_fault (hex d)) (codes "1D 00" ∷ codes "19 1D" �
     ∷ Some (record { place = 3; fault = malformed }) ∷ Some (record { place = 2; fault = malformed }) ∷ Some (record { place = 2; fault = malformed }) ∷ Some (record { place = 1; fault = malformed }) ∷ Some (record { place = 1; fault = malformed }) ∷ []
 unfolding read_struct
 faults = refl
+
+-- the end, where a field's header, a map's types, a length, a size, an id, or a value of a list is to come; and 2^64 in the place of a number, a length or a size
+abbrev malformed_at : ℕ → Option PlacedFault
+malformed_at i = Some (record { place = i; fault = malformed })
+
+pub cut_or_wide : (map (λ d. struct_fault (hex d)) (codes "15 02" ∷ codes "1B 01" ∷ codes "18 80" ∷ codes "19 F3 80" ∷ codes "1B 80" ∷ codes "05 80" ∷ codes "19 11" ∷ codes "19 12" ∷ codes "19 13" ∷ [])
+    ≡ map malformed_at (2 ∷ 2 ∷ 2 ∷ 3 ∷ 2 ∷ 2 ∷ 2 ∷ 2 ∷ 2 ∷ []))
+    × (map (λ d. struct_fault (hex d ++ hex (codes "FFFFFFFFFFFFFFFFFF02"))) (codes "16" ∷ codes "18" ∷ codes "19 F3" ∷ codes "1B" ∷ []) ≡ map malformed_at (10 ∷ 10 ∷ 11 ∷ 10 ∷ []))
+unfolding read_struct
+cut_or_wide = (refl, refl)
 
 -- ---- the hybrid of repeats and packed groups
 
