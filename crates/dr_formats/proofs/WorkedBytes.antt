@@ -105,8 +105,8 @@ pub trees : map is_tree (each_type ∷ lists ∷ maps ∷ stop ∷ struct_field 
 trees = refl
 
 pub no_trees : map is_tree (struct_field (pos 32768) (byte_item 7) stop ∷ alone (i64_item (pos (2 ^ 63))) ∷ alone (i32_item (pos (2 ^ 63))) ∷ alone (double_item (1 ∷ [])) ∷ alone (list_item i32_type (item (i32_item (pos 1)) (item (i64_item (pos 1)) no_items)))
-    ∷ alone (set_item byte_type (item (truth_item true) no_items)) ∷ alone (map_item byte_type byte_type no_pairs) ∷ alone (map_item i32_type binary_type (pair (binary_item []) (i32_item (pos 1)) no_pairs)) ∷ alone (list_item false_type (item (byte_item 1) no_items)) ∷ around 32 ∷ [])
-    ≡ replicate 10 false
+    ∷ alone (set_item byte_type (item (truth_item true) no_items)) ∷ alone (map_item byte_type byte_type no_pairs) ∷ alone (map_item i32_type binary_type (pair (binary_item []) (i32_item (pos 1)) no_pairs)) ∷ alone (list_item false_type (item (byte_item 1) no_items)) ∷ struct_field (z 32769) (byte_item 7) stop ∷ around 32 ∷ [])
+    ≡ replicate 11 false
 no_trees = refl
 
 -- lengths and sizes may reach 2^64 - 1, of bytes, of lists and sets, of maps; and not 2^64
@@ -128,12 +128,12 @@ longest_map k v xs e = rw e refl
 pub longer_map : (k v : ThriftType) (xs : Pairs) → count_pairs xs ≡ 18446744073709551616 → is_item 1 (map_item k v xs) ≡ false
 longer_map k v xs e = rw e refl
 
--- ids: negative and falling ones in the long form; the greatest of 16 bits, also by a delta, and one more
+-- ids: negative, falling and equal ones in the long form; the greatest of 16 bits, also by a delta, and one more
 pub ids : (struct_bytes (struct_field (z 1) (truth_item true) (struct_field (z 2) (truth_item false) stop)) ≡ hex (codes "01 01 02 03 00")) × (read_struct (hex (codes "01 01 02 03 00")) ≡ got (struct_field (z 1) (truth_item true) (struct_field (z 2) (truth_item false) stop)) [])
     × (read_struct (hex (codes "01 FEFF03 00")) ≡ got (struct_field (pos 32767) (truth_item true) stop) []) × (read_struct (hex (codes "01 FFFF03 00")) ≡ got (struct_field (z 32768) (truth_item true) stop) []) × (struct_fault (hex (codes "01 FEFF03 11 00")) ≡ Some (record { place = 4; fault = malformed }))
-    × (read_struct (hex (codes "01 FCFF03 11 00")) ≡ got (struct_field (pos 32766) (truth_item true) (struct_field (pos 32767) (truth_item true) stop)) [])
+    × (struct_bytes (struct_field (pos 1) (truth_item true) (struct_field (pos 1) (truth_item false) stop)) ≡ hex (codes "11 02 02 00")) × (read_struct (hex (codes "01 FCFF03 11 00")) ≡ got (struct_field (pos 32766) (truth_item true) (struct_field (pos 32767) (truth_item true) stop)) [])
 unfolding struct_bytes read_struct
-ids = (refl, refl, refl, refl, refl, refl)
+ids = (refl, refl, refl, refl, refl, refl, refl)
 
 -- a delta of 15 is the greatest that fits the short form
 abbrev by_15_and_16 : Struct
