@@ -74,7 +74,8 @@ unfolding struct_bytes read_struct
 long_lists = (refl, refl)
 
 -- sizes up to 14 stand in the header's byte
-pub list_headers : map (λ n. list_header_bytes n byte_type) (0 ∷ 14 ∷ 15 ∷ 16 ∷ 128 ∷ []) ≡ hex (codes "03") ∷ hex (codes "E3") ∷ hex (codes "F3 0F") ∷ hex (codes "F3 10") ∷ hex (codes "F3 8001") ∷ []
+pub list_headers : map (λ n. list_header_bytes n byte_type) (0 ∷ 14 ∷ 15 ∷ 16 ∷ 128 ∷ []) ≡
+    hex (codes "03") ∷ hex (codes "E3") ∷ hex (codes "F3 0F") ∷ hex (codes "F3 10") ∷ hex (codes "F3 8001") ∷ []
 list_headers = refl
 
 -- maps: sizes first, then both types, then keys and values; a map without pairs is a 0 alone
@@ -116,7 +117,8 @@ longest_bytes b e = rw e refl
 pub longer_bytes : (b : List ℕ) → length b ≡ 18446744073709551616 → is_item 1 (binary_item b) ≡ false
 longer_bytes b e = rw e refl
 
-pub longest_list : (t : ThriftType) (xs : Items) → count_items xs ≡ 18446744073709551615 → (is_item 1 (list_item t xs) ≡ are_items 0 t xs) × (is_item 1 (set_item t xs) ≡ are_items 0 t xs)
+pub longest_list : (t : ThriftType) (xs : Items) → count_items xs ≡ 18446744073709551615
+    → (is_item 1 (list_item t xs) ≡ are_items 0 t xs) × (is_item 1 (set_item t xs) ≡ are_items 0 t xs)
 longest_list t xs e = rw e (refl, refl)
 
 pub longer_list : (t : ThriftType) (xs : Items) → count_items xs ≡ 18446744073709551616 → (is_item 1 (list_item t xs) ≡ false) × (is_item 1 (set_item t xs) ≡ false)
@@ -150,13 +152,14 @@ pub faults : map (λ d. struct_fault (hex d)) (codes "1D 00" ∷ codes "19 1D" �
 unfolding read_struct
 faults = refl
 
--- the end, where a field's header, a map's types, a length, a size, an id, or a value of a list is to come; and 2^64 in the place of a number, a length or a size
+-- the end, where a field's header, a map's types, a length, a size, an id or a list's value is to come; 2^64 as a number, a length or a size
 abbrev malformed_at : ℕ → Option PlacedFault
 malformed_at i = Some (record { place = i; fault = malformed })
 
 pub cut_or_wide : (map (λ d. struct_fault (hex d)) (codes "15 02" ∷ codes "1B 01" ∷ codes "18 80" ∷ codes "19 F3 80" ∷ codes "1B 80" ∷ codes "05 80" ∷ codes "19 11" ∷ codes "19 12" ∷ codes "19 13" ∷ [])
     ≡ map malformed_at (2 ∷ 2 ∷ 2 ∷ 3 ∷ 2 ∷ 2 ∷ 2 ∷ 2 ∷ 2 ∷ []))
-    × (map (λ d. struct_fault (hex d ++ hex (codes "FFFFFFFFFFFFFFFFFF02"))) (codes "16" ∷ codes "18" ∷ codes "19 F3" ∷ codes "1B" ∷ []) ≡ map malformed_at (10 ∷ 10 ∷ 11 ∷ 10 ∷ []))
+    × (map (λ d. struct_fault (hex d ++ hex (codes "FFFFFFFFFFFFFFFFFF02")))
+    (codes "16" ∷ codes "18" ∷ codes "19 F3" ∷ codes "1B" ∷ []) ≡ map malformed_at (10 ∷ 10 ∷ 11 ∷ 10 ∷ []))
 unfolding read_struct
 cut_or_wide = (refl, refl)
 
