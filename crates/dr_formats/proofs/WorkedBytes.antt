@@ -176,10 +176,11 @@ pub no_runs : map (λ d. hybrid 3 5 (hex d)) (codes "00" ∷ codes "08 05" ∷ c
 unfolding hybrid
 no_runs = refl
 
--- widths of more than a byte, of 32 bits, of none
+-- widths of more than a byte, of 32 bits, of none; of a byte, where a group of eight ends before a repeat
 pub widths : (hybrid 9 2 (hex (codes "04 FF01")) ≡ Some (511 ∷ 511 ∷ [])) × (hybrid 32 1 (hex (codes "02 01020304")) ≡ Some (67305985 ∷ [])) × (hybrid 0 3 (hex (codes "03")) ≡ Some (0 ∷ 0 ∷ 0 ∷ [])) × (hybrid 12 2 (hex (codes "03 BCFADE")) ≡ Some (2748 ∷ 3567 ∷ []))
+    × (hybrid 8 9 (hex (codes "03 0102030405060708 02 09")) ≡ Some (1 ∷ 2 ∷ 3 ∷ 4 ∷ 5 ∷ 6 ∷ 7 ∷ 8 ∷ 9 ∷ []))
 unfolding hybrid
-widths = (refl, refl, refl, refl)
+widths = (refl, refl, refl, refl, refl)
 
 -- what is written: a repeat from eight equal values on, also in the middle; seven and others are packed; the rest of equal ones is a repeat
 pub written_runs : (hybrid_bytes 1 (replicate 7 1 ++ 0 ∷ []) ≡ hex (codes "03 7F")) × (hybrid_bytes 1 (replicate 8 1 ++ 0 ∷ []) ≡ hex (codes "10 01 02 00")) × (hybrid_bytes 1 (0 ∷ replicate 8 1) ≡ hex (codes "03 FE 02 01"))
