@@ -30,9 +30,9 @@ pub read_varints : map varint_of (codes "00" ∷ codes "AC02" ∷ codes "FFFFFFF
     got 0 [] ∷ got 300 [] ∷ got (2 ^ 64 - 1) [] ∷ got 0 [] ∷ got 300 (7 ∷ []) ∷ got 0 [] ∷ []
 read_varints = refl
 
--- bytes that end too early; 2^64; a padded spelling of eleven bytes: refused at the byte with which there is no such number
-pub no_varints : map varint_of ([] ∷ codes "80" ∷ codes "FFFFFFFFFFFFFFFFFF02" ∷ codes "8080808080808080808000" ∷ codes "FFFFFFFFFFFFFFFFFF" ∷ []) ≡
-    refused varint_short [] ∷ refused varint_short [] ∷ refused varint_too_long (2 ∷ []) ∷ refused varint_too_long (128 ∷ 0 ∷ []) ∷ refused varint_short [] ∷ []
+-- bytes that end too early; 2^64 and more; a padded spelling of eleven bytes: refused at the byte with which there is no such number
+pub no_varints : map varint_of ([] ∷ codes "80" ∷ codes "80808080808080808002" ∷ codes "FFFFFFFFFFFFFFFFFF02" ∷ codes "8080808080808080808000" ∷ codes "FFFFFFFFFFFFFFFFFF" ∷ []) ≡
+    refused varint_short [] ∷ refused varint_short [] ∷ refused varint_too_long (2 ∷ []) ∷ refused varint_too_long (2 ∷ []) ∷ refused varint_too_long (128 ∷ 0 ∷ []) ∷ refused varint_short [] ∷ []
 no_varints = refl
 
 -- 0, -1, 1, -2, 2, .. as 0, 1, 2, 3, 4, ..
@@ -152,12 +152,12 @@ pub faults : map (λ d. struct_fault (hex d)) (codes "1D 00" ∷ codes "19 1D" �
 unfolding read_struct
 faults = refl
 
--- the end, where a field's header, a map's types, a length, a size, an id or a list's value is to come; 2^64 as a number, a length or a size
+-- the end, where a list's or a field's header, a map's types, a length, a size, an id or a list's value is to come; 2^64 as a number, a length or a size
 abbrev malformed_at : ℕ → Option PlacedFault
 malformed_at i = Some (record { place = i; fault = malformed })
 
-pub cut_or_wide : (map (λ d. struct_fault (hex d)) (codes "15 02" ∷ codes "1B 01" ∷ codes "18 80" ∷ codes "19 F3 80" ∷ codes "1B 80" ∷ codes "05 80" ∷ codes "19 11" ∷ codes "19 12" ∷ codes "19 13" ∷ [])
-    ≡ map malformed_at (2 ∷ 2 ∷ 2 ∷ 3 ∷ 2 ∷ 2 ∷ 2 ∷ 2 ∷ 2 ∷ []))
+pub cut_or_wide : (map (λ d. struct_fault (hex d)) (codes "19" ∷ codes "15 02" ∷ codes "1B 01" ∷ codes "18 80" ∷ codes "19 F3 80" ∷ codes "1B 80" ∷ codes "05 80" ∷ codes "19 11" ∷ codes "19 12" ∷ codes "19 13" ∷ [])
+    ≡ map malformed_at (1 ∷ 2 ∷ 2 ∷ 2 ∷ 3 ∷ 2 ∷ 2 ∷ 2 ∷ 2 ∷ 2 ∷ []))
     × (map (λ d. struct_fault (hex d ++ hex (codes "FFFFFFFFFFFFFFFFFF02")))
     (codes "16" ∷ codes "18" ∷ codes "19 F3" ∷ codes "1B" ∷ []) ≡ map malformed_at (10 ∷ 10 ∷ 11 ∷ 10 ∷ []))
 unfolding read_struct
@@ -248,8 +248,9 @@ no_level_parts = refl
 
 -- a value of the kind, and a text only where its length fits four bytes
 pub writable : (map (is_writable int32_kind) (I (pos 5) ∷ I (pos (2 ^ 31)) ∷ text_value [] ∷ []) ≡ true ∷ false ∷ false ∷ []) × (is_writable text_kind (text_value (255 ∷ [])) ≡ false) × (is_writable text_kind (text_value (codes "a")) ≡ true)
+    × (is_writable bool_kind (bool_value true) ≡ true)
 unfolding is_utf8 chars lib.Utf8.encode
-writable = (refl, refl, refl)
+writable = (refl, refl, refl, refl)
 
 -- levels at most the greatest, and a value of the kind exactly at the greatest definition level
 pub triplets : map (is_triplet int32_kind 1 2) (triplet 1 2 (Some (I (pos 5))) ∷ triplet 0 1 None ∷ triplet 2 1 None ∷ triplet 0 3 None ∷ triplet 0 2 None ∷ triplet 0 1 (Some (I (pos 5))) ∷ triplet 0 2 (Some (text_value [])) ∷ [])
