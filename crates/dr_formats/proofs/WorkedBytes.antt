@@ -26,8 +26,8 @@ pub varints : (map varint_bytes (0 ∷ 1 ∷ 127 ∷ 128 ∷ 300 ∷ 16383 ∷ 1
 varints = (refl, refl, refl)
 
 -- what is read: also a padded spelling of up to ten bytes; what follows is left
-pub read_varints : map varint_of (codes "00" ∷ codes "AC02" ∷ codes "FFFFFFFFFFFFFFFFFF01" ∷ codes "8000" ∷ codes "AC820007" ∷ codes "80808080808080808000" ∷ []) ≡
-    got 0 [] ∷ got 300 [] ∷ got (2 ^ 64 - 1) [] ∷ got 0 [] ∷ got 300 (7 ∷ []) ∷ got 0 [] ∷ []
+pub read_varints : map varint_of (codes "00" ∷ codes "FF7F" ∷ codes "AC02" ∷ codes "FFFFFFFFFFFFFFFFFF01" ∷ codes "8000" ∷ codes "AC820007" ∷ codes "80808080808080808000" ∷ []) ≡
+    got 0 [] ∷ got 16383 [] ∷ got 300 [] ∷ got (2 ^ 64 - 1) [] ∷ got 0 [] ∷ got 300 (7 ∷ []) ∷ got 0 [] ∷ []
 read_varints = refl
 
 -- bytes that end too early; 2^64 and more; a padded spelling of eleven bytes: refused at the byte with which there is no such number
