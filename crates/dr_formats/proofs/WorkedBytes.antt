@@ -1,11 +1,11 @@
 -- Numbers, structs, hybrid data and values as bytes, by computation: vectors of the public standards, byte for byte.
-use Rattle.std.specs.Prelude.{◌≡◌, ℕ, length, zero, suc, ◌-◌, ◌^◌, List, [], ◌∷◌, ◌++◌, map, replicate, Bool, true, false, ℤ, pos, neg_ℤ, Some, None, codes, refl}
+use Rattle.std.specs.Prelude.{◌≡◌, ℕ, length, zero, suc, ◌-◌, ◌^◌, List, [], ◌∷◌, ◌++◌, map, replicate, Bool, true, false, ℤ, pos, neg_ℤ, Option, Some, None, codes, refl}
 use Rattle.std.specs.Str.{is_utf8, chars}
 use Rattle.dr_meaning.specs.Schema.{bool_kind, int32_kind, int64_kind, text_kind}
 use Rattle.dr_meaning.specs.Record.{Value, bool_value, int_value, text_value}
 use Rattle.dr_formats.specs.Reading.{Reading, got, refused}
 use Rattle.dr_formats.specs.Varint.{VarintFault, varint_short, varint_too_long, read_varint, varint_bytes, zigzag, from_zigzag}
-use Rattle.dr_formats.specs.Compact.{Item, is_tree, true_type, false_type, byte_type, i16_type, i32_type, i64_type, double_type, binary_type, list_type, set_type, map_type, struct_type, type_number, type_of, Struct, stop, struct_field, truth_item, byte_item, i16_item, i32_item, i64_item, double_item, binary_item, list_item, set_item, empty_map_item, map_item, struct_item, no_items, item, no_pairs, pair, read_struct, struct_bytes, struct_fault, malformed}
+use Rattle.dr_formats.specs.Compact.{ThriftType, Items, Pairs, list_header_bytes, count_items, count_pairs, is_item, are_items, are_pairs, Item, is_tree, true_type, false_type, byte_type, i16_type, i32_type, i64_type, double_type, binary_type, list_type, set_type, map_type, struct_type, type_number, type_of, Struct, stop, struct_field, truth_item, byte_item, i16_item, i32_item, i64_item, double_item, binary_item, list_item, set_item, empty_map_item, map_item, struct_item, no_items, item, no_pairs, pair, read_struct, struct_bytes, PlacedFault, struct_fault, malformed}
 use Rattle.dr_formats.specs.Hybrid.{hybrid, hybrid_bytes}
 use Rattle.dr_formats.specs.Plain.{has_short_text, is_writable, from_complement, complement, plain, plain_values, plain_bytes, dictionary_values, too_short, bad_text}
 use Rattle.dr_meaning.specs.Column.{triplet}
@@ -26,13 +26,13 @@ pub varints : (map varint_bytes (0 ∷ 1 ∷ 127 ∷ 128 ∷ 300 ∷ 16383 ∷ 1
 varints = (refl, refl, refl)
 
 -- what is read: also a padded spelling of up to ten bytes; what follows is left
-pub read_varints : map varint_of (codes "00" ∷ codes "AC02" ∷ codes "FFFFFFFFFFFFFFFFFF01" ∷ codes "8000" ∷ codes "AC820007" ∷ codes "80808080808080808000" ∷ []) ≡
-    got 0 [] ∷ got 300 [] ∷ got (2 ^ 64 - 1) [] ∷ got 0 [] ∷ got 300 (7 ∷ []) ∷ got 0 [] ∷ []
+pub read_varints : map varint_of (codes "00" ∷ codes "FF7F" ∷ codes "AC02" ∷ codes "FFFFFFFFFFFFFFFFFF01" ∷ codes "8000" ∷ codes "AC820007" ∷ codes "80808080808080808000" ∷ []) ≡
+    got 0 [] ∷ got 16383 [] ∷ got 300 [] ∷ got (2 ^ 64 - 1) [] ∷ got 0 [] ∷ got 300 (7 ∷ []) ∷ got 0 [] ∷ []
 read_varints = refl
 
--- bytes that end too early; 2^64; a padded spelling of eleven bytes: refused at the byte with which there is no such number
-pub no_varints : map varint_of ([] ∷ codes "80" ∷ codes "FFFFFFFFFFFFFFFFFF02" ∷ codes "8080808080808080808000" ∷ codes "FFFFFFFFFFFFFFFFFF" ∷ []) ≡
-    refused varint_short [] ∷ refused varint_short [] ∷ refused varint_too_long (2 ∷ []) ∷ refused varint_too_long (128 ∷ 0 ∷ []) ∷ refused varint_short [] ∷ []
+-- bytes that end too early; 2^64 and more; a padded spelling of eleven bytes: refused at the byte with which there is no such number
+pub no_varints : map varint_of ([] ∷ codes "80" ∷ codes "80808080808080808002" ∷ codes "FFFFFFFFFFFFFFFFFF02" ∷ codes "8080808080808080808000" ∷ codes "FFFFFFFFFFFFFFFFFF" ∷ []) ≡
+    refused varint_short [] ∷ refused varint_short [] ∷ refused varint_too_long (2 ∷ []) ∷ refused varint_too_long (2 ∷ []) ∷ refused varint_too_long (128 ∷ 0 ∷ []) ∷ refused varint_short [] ∷ []
 no_varints = refl
 
 -- 0, -1, 1, -2, 2, .. as 0, 1, 2, 3, 4, ..
@@ -73,6 +73,11 @@ pub long_lists : (struct_bytes lists ≡ hex (codes "19F30F000102030405060708090
 unfolding struct_bytes read_struct
 long_lists = (refl, refl)
 
+-- sizes up to 14 stand in the header's byte
+pub list_headers : map (λ n. list_header_bytes n byte_type) (0 ∷ 14 ∷ 15 ∷ 16 ∷ 128 ∷ []) ≡
+    hex (codes "03") ∷ hex (codes "E3") ∷ hex (codes "F3 0F") ∷ hex (codes "F3 10") ∷ hex (codes "F3 8001") ∷ []
+list_headers = refl
+
 -- maps: sizes first, then both types, then keys and values; a map without pairs is a 0 alone
 abbrev maps : Struct
 maps = struct_field (pos 1) (map_item byte_type true_type (pair (byte_item 7) (truth_item true) (pair (byte_item 8) (truth_item false) no_pairs))) (struct_field (pos 2) empty_map_item stop)
@@ -95,20 +100,50 @@ around zero = stop
 around (suc n) = alone (struct_item (around n))
 
 pub trees : map is_tree (each_type ∷ lists ∷ maps ∷ stop ∷ struct_field (z 32768) (byte_item 7) stop ∷ around 31 ∷ alone (list_item true_type (item (truth_item true) (item (truth_item false) no_items)))
-    ∷ alone (map_item i32_type binary_type (pair (i32_item (pos 1)) (binary_item []) (pair (i32_item (pos 2)) (binary_item []) no_pairs))) ∷ [])
-    ≡ true ∷ true ∷ true ∷ true ∷ true ∷ true ∷ true ∷ true ∷ []
+    ∷ alone (map_item i32_type binary_type (pair (i32_item (pos 1)) (binary_item []) (pair (i32_item (pos 2)) (binary_item []) no_pairs)))
+    ∷ alone (map_item i32_type binary_type (pair (i32_item (pos 1)) (binary_item []) no_pairs)) ∷ struct_field (pos 32767) (byte_item 7) stop ∷ [])
+    ≡ replicate 10 true
 trees = refl
 
 pub no_trees : map is_tree (struct_field (pos 32768) (byte_item 7) stop ∷ alone (i64_item (pos (2 ^ 63))) ∷ alone (i32_item (pos (2 ^ 63))) ∷ alone (double_item (1 ∷ [])) ∷ alone (list_item i32_type (item (i32_item (pos 1)) (item (i64_item (pos 1)) no_items)))
-    ∷ alone (set_item byte_type (item (truth_item true) no_items)) ∷ alone (map_item byte_type byte_type no_pairs) ∷ alone (map_item i32_type binary_type (pair (binary_item []) (i32_item (pos 1)) no_pairs)) ∷ around 32 ∷ [])
-    ≡ false ∷ false ∷ false ∷ false ∷ false ∷ false ∷ false ∷ false ∷ false ∷ []
+    ∷ alone (set_item byte_type (item (truth_item true) no_items)) ∷ alone (map_item byte_type byte_type no_pairs) ∷ alone (map_item i32_type binary_type (pair (binary_item []) (i32_item (pos 1)) no_pairs)) ∷ alone (list_item false_type (item (byte_item 1) no_items)) ∷ struct_field (z 32769) (byte_item 7) stop ∷ around 32 ∷ [])
+    ≡ replicate 11 false
 no_trees = refl
 
--- ids: negative and falling ones in the long form; the greatest of 16 bits, and one more by a delta
+-- lengths and sizes may reach 2^64 - 1, of bytes, of lists and sets, of maps; and not 2^64
+pub longest_bytes : (b : List ℕ) → length b ≡ 18446744073709551615 → is_item 1 (binary_item b) ≡ true
+longest_bytes b e = rw e refl
+
+pub longer_bytes : (b : List ℕ) → length b ≡ 18446744073709551616 → is_item 1 (binary_item b) ≡ false
+longer_bytes b e = rw e refl
+
+pub longest_list : (t : ThriftType) (xs : Items) → count_items xs ≡ 18446744073709551615
+    → (is_item 1 (list_item t xs) ≡ are_items 0 t xs) × (is_item 1 (set_item t xs) ≡ are_items 0 t xs)
+longest_list t xs e = rw e (refl, refl)
+
+pub longer_list : (t : ThriftType) (xs : Items) → count_items xs ≡ 18446744073709551616 → (is_item 1 (list_item t xs) ≡ false) × (is_item 1 (set_item t xs) ≡ false)
+longer_list t xs e = rw e (refl, refl)
+
+pub longest_map : (k v : ThriftType) (xs : Pairs) → count_pairs xs ≡ 18446744073709551615 → is_item 1 (map_item k v xs) ≡ are_pairs 0 k v xs
+longest_map k v xs e = rw e refl
+
+pub longer_map : (k v : ThriftType) (xs : Pairs) → count_pairs xs ≡ 18446744073709551616 → is_item 1 (map_item k v xs) ≡ false
+longer_map k v xs e = rw e refl
+
+-- ids: negative, falling and equal ones in the long form; the greatest of 16 bits, also by a delta, and one more
 pub ids : (struct_bytes (struct_field (z 1) (truth_item true) (struct_field (z 2) (truth_item false) stop)) ≡ hex (codes "01 01 02 03 00")) × (read_struct (hex (codes "01 01 02 03 00")) ≡ got (struct_field (z 1) (truth_item true) (struct_field (z 2) (truth_item false) stop)) [])
     × (read_struct (hex (codes "01 FEFF03 00")) ≡ got (struct_field (pos 32767) (truth_item true) stop) []) × (read_struct (hex (codes "01 FFFF03 00")) ≡ got (struct_field (z 32768) (truth_item true) stop) []) × (struct_fault (hex (codes "01 FEFF03 11 00")) ≡ Some (record { place = 4; fault = malformed }))
+    × (struct_bytes (struct_field (pos 1) (truth_item true) (struct_field (pos 1) (truth_item false) stop)) ≡ hex (codes "11 02 02 00")) × (read_struct (hex (codes "01 FCFF03 11 00")) ≡ got (struct_field (pos 32766) (truth_item true) (struct_field (pos 32767) (truth_item true) stop)) [])
 unfolding struct_bytes read_struct
-ids = (refl, refl, refl, refl, refl)
+ids = (refl, refl, refl, refl, refl, refl, refl)
+
+-- a delta of 15 is the greatest that fits the short form
+abbrev by_15_and_16 : Struct
+by_15_and_16 = struct_field (pos 1) (i32_item (pos 0)) (struct_field (pos 16) (i32_item (pos 0)) (struct_field (pos 32) (i32_item (pos 0)) stop))
+
+pub greatest_delta : (struct_bytes by_15_and_16 ≡ hex (codes "15 00 F5 00 05 40 00 00")) × (read_struct (hex (codes "15 00 F5 00 05 40 00 00")) ≡ got by_15_and_16 [])
+unfolding struct_bytes read_struct
+greatest_delta = (refl, refl)
 
 -- the byte at which no struct goes on: an unknown type of a field, of a list, of keys, of values; a delta without a type; or the end
 pub faults : map (λ d. struct_fault (hex d)) (codes "1D 00" ∷ codes "19 1D" ∷ codes "1B 01 D1" ∷ codes "1B 01 1E" ∷ codes "10" ∷ codes "19 00" ∷ codes "18 05 61" ∷ codes "17 01" ∷ codes "16 80" ∷ codes "1B" ∷ codes "11" ∷ [])
@@ -116,6 +151,17 @@ pub faults : map (λ d. struct_fault (hex d)) (codes "1D 00" ∷ codes "19 1D" �
     ∷ Some (record { place = 3; fault = malformed }) ∷ Some (record { place = 2; fault = malformed }) ∷ Some (record { place = 2; fault = malformed }) ∷ Some (record { place = 1; fault = malformed }) ∷ Some (record { place = 1; fault = malformed }) ∷ []
 unfolding read_struct
 faults = refl
+
+-- the end, where a list's or a field's header, a map's types, a length, a size, an id or a list's value is to come; 2^64 as a number, a length or a size
+abbrev malformed_at : ℕ → Option PlacedFault
+malformed_at i = Some (record { place = i; fault = malformed })
+
+pub cut_or_wide : (map (λ d. struct_fault (hex d)) (codes "19" ∷ codes "15 02" ∷ codes "1B 01" ∷ codes "18 80" ∷ codes "19 F3 80" ∷ codes "1B 80" ∷ codes "05 80" ∷ codes "19 11" ∷ codes "19 12" ∷ codes "19 13" ∷ [])
+    ≡ map malformed_at (1 ∷ 2 ∷ 2 ∷ 2 ∷ 3 ∷ 2 ∷ 2 ∷ 2 ∷ 2 ∷ 2 ∷ []))
+    × (map (λ d. struct_fault (hex d ++ hex (codes "FFFFFFFFFFFFFFFFFF02")))
+    (codes "16" ∷ codes "18" ∷ codes "19 F3" ∷ codes "1B" ∷ []) ≡ map malformed_at (10 ∷ 10 ∷ 11 ∷ 10 ∷ []))
+unfolding read_struct
+cut_or_wide = (refl, refl)
 
 -- ---- the hybrid of repeats and packed groups
 
@@ -130,10 +176,11 @@ pub no_runs : map (λ d. hybrid 3 5 (hex d)) (codes "00" ∷ codes "08 05" ∷ c
 unfolding hybrid
 no_runs = refl
 
--- widths of more than a byte, of 32 bits, of none
+-- widths of more than a byte, of 32 bits, of none; of a byte, where a group of eight ends before a repeat
 pub widths : (hybrid 9 2 (hex (codes "04 FF01")) ≡ Some (511 ∷ 511 ∷ [])) × (hybrid 32 1 (hex (codes "02 01020304")) ≡ Some (67305985 ∷ [])) × (hybrid 0 3 (hex (codes "03")) ≡ Some (0 ∷ 0 ∷ 0 ∷ [])) × (hybrid 12 2 (hex (codes "03 BCFADE")) ≡ Some (2748 ∷ 3567 ∷ []))
+    × (hybrid 8 9 (hex (codes "03 0102030405060708 02 09")) ≡ Some (1 ∷ 2 ∷ 3 ∷ 4 ∷ 5 ∷ 6 ∷ 7 ∷ 8 ∷ 9 ∷ []))
 unfolding hybrid
-widths = (refl, refl, refl, refl)
+widths = (refl, refl, refl, refl, refl)
 
 -- what is written: a repeat from eight equal values on, also in the middle; seven and others are packed; the rest of equal ones is a repeat
 pub written_runs : (hybrid_bytes 1 (replicate 7 1 ++ 0 ∷ []) ≡ hex (codes "03 7F")) × (hybrid_bytes 1 (replicate 8 1 ++ 0 ∷ []) ≡ hex (codes "10 01 02 00")) × (hybrid_bytes 1 (0 ∷ replicate 8 1) ≡ hex (codes "03 FE 02 01"))
@@ -201,8 +248,9 @@ no_level_parts = refl
 
 -- a value of the kind, and a text only where its length fits four bytes
 pub writable : (map (is_writable int32_kind) (I (pos 5) ∷ I (pos (2 ^ 31)) ∷ text_value [] ∷ []) ≡ true ∷ false ∷ false ∷ []) × (is_writable text_kind (text_value (255 ∷ [])) ≡ false) × (is_writable text_kind (text_value (codes "a")) ≡ true)
+    × (is_writable bool_kind (bool_value true) ≡ true)
 unfolding is_utf8 chars lib.Utf8.encode
-writable = (refl, refl, refl)
+writable = (refl, refl, refl, refl)
 
 -- levels at most the greatest, and a value of the kind exactly at the greatest definition level
 pub triplets : map (is_triplet int32_kind 1 2) (triplet 1 2 (Some (I (pos 5))) ∷ triplet 0 1 None ∷ triplet 2 1 None ∷ triplet 0 3 None ∷ triplet 0 2 None ∷ triplet 0 1 (Some (I (pos 5))) ∷ triplet 0 2 (Some (text_value [])) ∷ [])

@@ -1,5 +1,5 @@
 -- Structs of the compact protocol, by computation.
-use Rattle.std.specs.Prelude.{◌≡◌, [], ◌∷◌, ◌++◌, replicate, pos, Some, None, refl}
+use Rattle.std.specs.Prelude.{◌≡◌, [], ◌∷◌, ◌++◌, map, replicate, pos, Some, None, refl}
 use Rattle.dr_formats.specs.Reading.{got}
 use Rattle.dr_formats.specs.Compact.{Struct, stop, struct_field, i32_item, find_field, read_struct, struct_fault, malformed, too_deep, struct_bytes}
 
@@ -66,3 +66,8 @@ deep_enough = refl
 pub one_too_deep : struct_fault (replicate 32 28) ≡ Some (record { place = 32; fault = too_deep })
 unfolding read_struct
 one_too_deep = refl
+
+-- alike a list, a set and a map in the 32nd struct
+pub others_too_deep : map (λ b. struct_fault (replicate 31 28 ++ b ∷ [])) (25 ∷ 26 ∷ 27 ∷ 28 ∷ []) ≡ replicate 4 (Some (record { place = 32; fault = too_deep }))
+unfolding read_struct
+others_too_deep = refl

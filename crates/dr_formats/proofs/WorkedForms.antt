@@ -333,16 +333,24 @@ pub chunk_past_footer : Refused chunk_past_footer_bytes bad_data
 unfolding footer_of read_struct page_triplets hybrid
 chunk_past_footer = known_cause_holds chunk_past_footer_bytes one_schema one_leaf bad_data refl
 
-abbrev chunk_before_magic_bytes : List ℕ
-chunk_before_magic_bytes =
-    hex (codes "504152311500152015202C1504150015061506000007000000000000000800000000000000") ++
+abbrev chunk_in_magic_bytes : List ℕ
+chunk_in_magic_bytes =
+    hex (codes "5041523105020025202C1504150015061506000007000000000000000800000000000000") ++
     hex (codes "292C350018015415020015042500180161001604191C191C3C15043500160426422606000026040000") ++
     hex (codes "2900000050415231")
 
--- a chunk that begins in the magic
-pub chunk_before_magic : Refused chunk_before_magic_bytes bad_data
+-- a chunk that begins with the magic's last byte, which a page header could have: it spells a truth value in field 3, and the last of two with one id counts
+pub chunk_in_magic : Refused chunk_in_magic_bytes bad_data
 unfolding footer_of read_struct page_triplets hybrid
-chunk_before_magic = known_cause_holds chunk_before_magic_bytes one_schema one_leaf bad_data refl
+chunk_in_magic = known_cause_holds chunk_in_magic_bytes one_schema one_leaf bad_data refl
+
+abbrev footer_in_magic_bytes : List ℕ
+footer_in_magic_bytes = hex (codes "50415231 09042C48015415020015042500180161001600190C00 17000000 50415231")
+
+-- a footer that begins with the magic's last byte, alike
+pub footer_in_magic : Refused footer_in_magic_bytes bad_footer
+unfolding footer_of read_struct page_triplets hybrid
+footer_in_magic = known_cause_holds footer_in_magic_bytes one_schema one_leaf bad_footer refl
 
 abbrev group_without_chunk_bytes : List ℕ
 group_without_chunk_bytes =

@@ -1,17 +1,18 @@
 -- Causes at opening and of one leaf, ranges, loading and the lines of commands, by computation.
-use Rattle.std.specs.Prelude.{◌≡◌, ℕ, List, [], ◌∷◌, ◌++◌, map, true, false, pos, Some, None, codes, refl}
+use Rattle.std.specs.Prelude.{◌≡◌, ℕ, List, [], ◌∷◌, ◌++◌, map, take, replicate, true, false, pos, Some, None, codes, refl}
+use Rattle.std.specs.Str.{is_utf8, chars}
 use Rattle.std.specs.Fmt.{digits}
 use Rattle.dr_meaning.specs.Schema.{Schema, no_fields, field, leaf, group, required, optional, repeated, int64_kind}
 use Rattle.dr_meaning.specs.SchemaText.{empty_group}
 use Rattle.dr_meaning.specs.Path.{Leaf, leaves}
 use Rattle.dr_meaning.specs.Record.{Node, no_slots, slot, single, atom, int_value}
-use Rattle.dr_meaning.specs.JsonRecord.{missing_field}
+use Rattle.dr_meaning.specs.JsonRecord.{record_of_line, missing_field, not_json}
 use Rattle.dr_meaning.specs.Lines.{Refusal, no_record}
 use Rattle.dr_formats.specs.Compact.{read_struct}
 use Rattle.dr_formats.specs.Hybrid.{hybrid}
 use Rattle.dr_formats.specs.Page.{page_triplets}
 use Rattle.dr_formats.specs.File.{Footer, rows_agree, values_fit, bad_footer, bad_schema, bad_codec, bad_data, footer_of, known_cause}
-use Rattle.dr_formats.specs.Opening.{opening_cause, leaf_cause, range, reader_ranges, is_inside}
+use Rattle.dr_formats.specs.Opening.{opening_cause, leaf_cause, range, reader_ranges, is_inside, is_in_file}
 use Rattle.dr_formats.specs.Writing.{file_bytes}
 use Rattle.dr_formats.specs.TableFile.{table_text, table_too_long, bad_head, bad_tablets, bad_copies, bad_leaf, bad_table_schema}
 use Rattle.dr_formats.specs.Loading.{Put, Plan, puts_of, load_taken, load, words_refusal, leaf_refused, copies_refused, most_loaded, most_tablet_rows}
@@ -91,10 +92,15 @@ pub ranges : (reader_ranges one_file (a ∷ []) ≡ range 0 4 ∷ range 101 8 �
 unfolding footer_of read_struct
 ranges = (refl, refl)
 
--- of less than a frame nothing; of a frame without a footer both ends and the footer's place; not a chunk that reaches into the footer
-pub other_ranges : (reader_ranges (80 ∷ 65 ∷ 82 ∷ 49 ∷ []) (a ∷ []) ≡ []) × (reader_ranges (hex (codes "50415231 00000000 50415231")) (a ∷ []) ≡ range 0 4 ∷ range 4 8 ∷ range 4 0 ∷ []) × (reader_ranges (changed 73 126 one_file) (a ∷ []) ≡ range 0 4 ∷ range 101 8 ∷ range 29 72 ∷ [])
+-- of a byte less than a frame nothing; of a frame without a footer both ends and the footer's place; no chunk that reaches into the footer or the magic
+pub other_ranges : (reader_ranges (take 11 one_file) (a ∷ []) ≡ []) × (reader_ranges (hex (codes "50415231 00000000 50415231")) (a ∷ []) ≡ range 0 4 ∷ range 4 8 ∷ range 4 0 ∷ [])
+    × (map (λ bytes. reader_ranges bytes (a ∷ [])) (changed 73 52 one_file ∷ changed 73 126 one_file ∷ changed 75 6 one_file ∷ []) ≡ replicate 3 (range 0 4 ∷ range 101 8 ∷ range 29 72 ∷ []))
 unfolding footer_of read_struct
 other_ranges = (refl, refl, refl)
+
+-- a range may end where the file does
+pub in_file : map (is_in_file one_file) (range 101 8 ∷ range 109 0 ∷ range 101 9 ∷ range 110 0 ∷ []) ≡ true ∷ true ∷ false ∷ false ∷ []
+in_file = refl
 
 -- a part of a range, the range itself; a byte before it, a byte behind it
 pub inside : map (λ r. is_inside r (range 4 25)) (range 5 3 ∷ range 4 25 ∷ range 29 0 ∷ range 3 2 ∷ range 4 26 ∷ range 28 2 ∷ []) ≡ true ∷ true ∷ true ∷ false ∷ false ∷ false ∷ []
@@ -152,6 +158,11 @@ first_line_is_refused = refl
 pub loads : load (plan 1) [] ≡ record { puts = puts_of (plan 1) [] None; records = 0; tablets = 1; refusal = None }
 unfolding load
 loads = refl
+
+-- lines are counted from 1: here the first isn't UTF-8, and so no record
+pub first_line_is_told : load (plan 1) (255 ∷ 10 ∷ []) ≡ record { puts = []; records = 0; tablets = 1; refusal = Some (record { line = 1; fault = no_record not_json }) }
+unfolding load record_of_line is_utf8 chars
+first_line_is_told = refl
 
 pub load_limits : (most_loaded 1 ≡ 4096) × (most_loaded 1000000 ≡ 4096000000) × (most_tablet_rows ≡ 1000000)
 load_limits = (refl, refl, refl)
