@@ -1,5 +1,8 @@
 -- a pattern's way to its next `%`, and the places from which it may go on
 pub mod LikeLemmas
+-- where a pattern's literal front ends, and the places at which it occurs
+pub mod FrontLemmas
+pub mod PlaceLemmas
 -- where a part occurs in a text
 pub mod OccursLemmas
 -- values over slots, operator by operator

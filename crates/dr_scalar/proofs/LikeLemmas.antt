@@ -1,8 +1,10 @@
 -- Where a pattern leads from a place to its next `%`, that place is as good as any later one.
 use Rattle.std.proofs.Common.{◌≡◌, ℕ, ◌<◌, ◌≤◌, List, [], ◌∷◌, length, Bool, true, false, ◌||◌, ◌&&◌, ◌==◌, refl, sym, ap, subst, ◌∙◌, arith, true≢false}
-use Rattle.std.specs.Prelude.{if◌then◌else◌}
+use Rattle.std.specs.Prelude.{if◌then◌else◌, chars}
+use Rattle.std.proofs.lemmas.Bool.{eqb-true}
+use Rattle.std.proofs.lemmas.Str.{chars-nil}
 use Rattle.dr_meaning.specs.Expression.{some_end, after_one, after_same, is_empty_text, matches}
-use Rattle.dr_scalar.specs.Reach.{Reach, ended, stopped, open_end, past_one, reach}
+use Rattle.dr_scalar.specs.Reach.{Reach, ended, stopped, open_end, else_reach, past_one, reach, first_reach}
 
 -- ---- the texts that end a text
 
@@ -166,3 +168,45 @@ nowhere_at_end ps t e n = ap (some_end (matches ps)) n ∙ (sym (ap (matches ps)
 
 pub next_place : (ps t : List ℕ) (c : ℕ) (cs : List ℕ) → stopped ≡ reach ps t → t ≡ c ∷ cs → some_end (matches ps) t ≡ some_end (matches ps) cs
 next_place ps t c cs e n = ap (some_end (matches ps)) n ∙ ap (λ b. b || some_end (matches ps) cs) (sym (ap (matches ps) n) ∙ stopped_fails ps t e)
+
+-- ---- the first place from which the pattern leads on
+
+pub first_ended : (ps t : List ℕ) → ended ≡ first_reach ps t → some_end (matches ps) t ≡ true
+first_ended ps [] e = ended_matches ps [] e
+first_ended ps (c ∷ cs) e = by (reach ps (c ∷ cs)) refl e (first_ended ps cs)
+  where
+    by : (r : Reach) → r ≡ reach ps (c ∷ cs) → ended ≡ else_reach r (first_reach ps cs) → (ended ≡ first_reach ps cs → some_end (matches ps) cs ≡ true) → some_end (matches ps) (c ∷ cs) ≡ true
+    by ended k h g = ended_somewhere ps (c ∷ cs) k
+    by stopped k h g = later (matches ps) c cs (g h)
+    by (open_end qs u) k h g = cc
+
+pub first_stopped : (ps t : List ℕ) → stopped ≡ first_reach ps t → some_end (matches ps) t ≡ false
+first_stopped ps [] e = stopped_fails ps [] e
+first_stopped ps (c ∷ cs) e = by (reach ps (c ∷ cs)) refl e (first_stopped ps cs)
+  where
+    by : (r : Reach) → r ≡ reach ps (c ∷ cs) → stopped ≡ else_reach r (first_reach ps cs) → (stopped ≡ first_reach ps cs → some_end (matches ps) cs ≡ false) → some_end (matches ps) (c ∷ cs) ≡ false
+    by ended k h g = cc
+    by stopped k h g = next_place ps (c ∷ cs) c cs k refl ∙ g h
+    by (open_end qs u) k h g = cc
+
+-- the pattern behind the `%`, which is shorter, from there on
+abbrev GoesOn : List ℕ → List ℕ → List ℕ → List ℕ → Type 0
+GoesOn ps t qs u = (some_end (matches ps) t ≡ some_end (matches qs) u) × (length qs < length ps)
+
+pub first_open : (ps t qs u : List ℕ) → open_end qs u ≡ first_reach ps t → GoesOn ps t qs u
+first_open ps [] qs u e = (first_is_enough ps [] qs u e, (open_shorter ps [] qs u e).0)
+first_open ps (c ∷ cs) qs u e = by (reach ps (c ∷ cs)) refl e (first_open ps cs qs u)
+  where
+    by : (r : Reach) → r ≡ reach ps (c ∷ cs) → open_end qs u ≡ else_reach r (first_reach ps cs) → (open_end qs u ≡ first_reach ps cs → GoesOn ps cs qs u) → GoesOn ps (c ∷ cs) qs u
+    by ended k h g = cc
+    by stopped k h g = let q = g h in (next_place ps (c ∷ cs) c cs k refl ∙ q.0, q.1)
+    by (open_end vs w) k h g = let q = h ∙ k in (first_is_enough ps (c ∷ cs) qs u q, (open_shorter ps (c ∷ cs) qs u q).0)
+
+-- nothing more is wanted
+nothing_wanted : (t : List ℕ) → some_end (matches []) t ≡ true
+nothing_wanted [] = matches-nil []
+nothing_wanted (c ∷ cs) = later (matches []) c cs (nothing_wanted cs)
+
+pub empty_is_wanted : (pattern t : List ℕ) → (length pattern == 0) ≡ true → some_end (matches (chars pattern)) t ≡ true
+empty_is_wanted [] t e = ap (λ ps. some_end (matches ps) t) chars-nil ∙ nothing_wanted t
+empty_is_wanted (b ∷ bs) t e = let n : length (b ∷ bs) ≡ 0 = eqb-true (length (b ∷ bs)) 0 e in absurd (omega arith)

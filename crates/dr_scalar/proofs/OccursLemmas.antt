@@ -24,11 +24,11 @@ front_from_place (p ∷ ps) (c ∷ cs) o = both (p == c) (begins_text ps cs) (eq
       reads = λ j h. ap (slice_index cs) (no_shift j) ∙ (ap (slice_index (c ∷ cs)) (sym (no_shift (suc j))) ∙ o.reads (suc j) (omega arith));
     }
 
-first_of_two : (a b : Bool) → (a && b) ≡ true → a ≡ true
+pub first_of_two : (a b : Bool) → (a && b) ≡ true → a ≡ true
 first_of_two true b h = refl
 first_of_two false b h = h
 
-second_of_two : (a b : Bool) → (a && b) ≡ true → b ≡ true
+pub second_of_two : (a b : Bool) → (a && b) ≡ true → b ≡ true
 second_of_two true b h = h
 second_of_two false b h = absurd (true≢false (sym h))
 

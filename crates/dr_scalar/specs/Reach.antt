@@ -23,8 +23,24 @@ abbrev pub reach : List ℕ → List ℕ → Reach
 reach [] = at_end
 reach (p ∷ ps) = λ text. if p == 37 then open_end ps text else past_one p (reach ps) text
 
+-- the first of two that hasn't stopped
+abbrev pub else_reach : Reach → Reach → Reach
+else_reach ended other = ended
+else_reach stopped other = other
+else_reach (open_end pattern text) other = open_end pattern text
+
+-- how far it leads in the text, or in the longest text that ends it and in which it leads on
+abbrev pub first_reach : List ℕ → List ℕ → Reach
+first_reach pattern [] = reach pattern []
+first_reach pattern (c ∷ cs) = else_reach (reach pattern (c ∷ cs)) (first_reach pattern cs)
+
+-- the pattern's characters before its first `%` or `_`
+abbrev pub literal_front : List ℕ → List ℕ
+literal_front [] = []
+literal_front (p ∷ ps) = if p == 37 || p == 95 then [] else p ∷ literal_front ps
+
 -- what the code tells of it
 abbrev pub halt_view : Halt → Reach
 halt_view Halt.End = ended
 halt_view Halt.Apart = stopped
-halt_view (Halt.Percent pattern text) = open_end pattern.now (chars text.now)
+halt_view (Halt.Percent pattern text) = open_end (chars pattern.now) (chars text.now)

@@ -1,6 +1,6 @@
 //! Truth values.
 
-ghost use Rattle.std.specs.Prelude.{◌≡◌, IfOk, option_map, string_bytes, chars};
+ghost use Rattle.std.specs.Prelude.{◌≡◌, IfOk, option_map, chars};
 ghost use Rattle.std.specs.List.{list_all};
 ghost use Rattle.dr_meaning.specs.Expression as meant;
 ghost use Rattle.dr_meaning.specs.Record.{bool_value};
@@ -15,7 +15,7 @@ use crate::slots::truth_in;
 use crate::texts::{text_is_null, text_of};
 use dr_levels::ValueRef;
 use dr_memory::NoMemory;
-use dr_plan::{Comparison, Pattern, TextOf, Truth};
+use dr_plan::{Comparison, TextOf, Truth};
 use std::alloc::Global;
 
 /// A truth value, where it isn't NULL.
@@ -69,7 +69,7 @@ fn decided(
             let left = truth_of(alloc, left, row)?;
             Ok(compare_truths(*comparison, left, truth_of(alloc, right, row)?))
         }
-        Truth::Like(text, pattern) => text_like(alloc, text, pattern, row),
+        Truth::Like(text, pattern) => text_like(alloc, text, pattern.as_str(), row),
         Truth::Contains(text, part) => text_contains(alloc, text, part.as_str(), row),
         Truth::NumberIsNull(number) => Ok(Some(number_of(number, row).is_none())),
         Truth::TextIsNull(text) => Ok(Some(text_is_null(text, row))),
@@ -132,15 +132,15 @@ fn texts_compared(
 fn text_like(
     alloc: Global,
     text: &TextOf,
-    pattern: &Pattern,
+    pattern: &str,
     row: &[Option<ValueRef<'_>>],
 ) -> Result<Option<bool>, NoMemory>
-    ensures { IfOk result (λ v. option_map bool_value v ≡ meant.on_text (λ t. meant.matches (chars (string_bytes (pattern.now).text)) (chars t)) (text_over row.now text.now)) }
+    ensures { IfOk result (λ v. option_map bool_value v ≡ meant.on_text (λ t. meant.matches (chars pattern.now) (chars t)) (text_over row.now text.now)) }
 {
     let Some(text) = text_of(alloc, text, row)? else {
         return Ok(None);
     };
-    Ok(Some(is_like(&pattern.characters, text.as_str())))
+    Ok(Some(is_like(pattern, text.as_str())))
 }
 
 /// CONTAINS

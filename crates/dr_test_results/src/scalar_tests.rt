@@ -41,6 +41,24 @@ const VALUES: [(&str, &str); 22] = [
     ("s CONTAINS '\u{e9}l'", "true"),
 ];
 
+/// Texts and patterns of LIKE, and whether they match, a row a line.
+const LIKES: &str = "\
+'aaab' LIKE '%aab' => true
+'aaab' LIKE '%aab%aab' => false
+'aabaab' LIKE '%aab%aab' => true
+'one two three' LIKE '%ne%t%ee' => true
+'one two three' LIKE '%two%one%' => false
+'one two three' LIKE '%four%' => false
+'tea, tee' LIKE '%t_e' => true
+s LIKE '%\u{e9}_l%' => true
+s LIKE '%\u{e9}_o%' => false
+'\u{e9}\u{e8}\u{e9}\u{e8}a' LIKE '%\u{e9}\u{e8}a' => true
+'\u{e9}a' LIKE '%_\u{e9}_%' => false
+'' LIKE '%_%' => false
+'aaa' LIKE '%%%%%%%%%%%%%%%%%%%%%%%%%%%%%%%%%%%%%%%%%%%%%%%%%%%%%%%%%%%%%%%%%%%%%%%%%%%%%%%%%%%%%%%%%%%%%%%%%%%%' => true
+'aaa' LIKE '%%%%%%%%%%%%%%%%%%%%%%%%%%%%%%%%%%%%%%%%%%%%%%%%%%%%%%%%%%%%%%%%%%%%%%%%%%%%%%%%%%%%%%%%%%%%%%%%%%%%b' => false
+";
+
 /// The text of a number's value.
 fn number_shown(alloc: Global, value: Option<i64>) -> Result<String, Fail> {
     match value {
@@ -121,6 +139,20 @@ fn expressions_have_values(rt: HostRuntime) -> Result<(), Fail> {
     let schema = parse_schema(alloc, SCHEMA)?;
     let record = record_of(alloc, &schema, RECORD.as_bytes())?;
     for (expression, expected) in VALUES {
+        let (whole, typed) = told(alloc, &schema, &record, expression)?;
+        assert_eq!(rt; whole.as_str(), expected, "{expression}");
+        assert_eq!(rt; typed.as_str(), expected, "{expression}");
+    }
+    Ok(())
+}
+
+#[test]
+fn patterns_match_texts(rt: HostRuntime) -> Result<(), Fail> {
+    let alloc = rt.alloc();
+    let schema = parse_schema(alloc, SCHEMA)?;
+    let record = record_of(alloc, &schema, RECORD.as_bytes())?;
+    for row in LIKES.lines() {
+        let (expression, expected) = row.split_once(" => ").ok_or("no row")?;
         let (whole, typed) = told(alloc, &schema, &record, expression)?;
         assert_eq!(rt; whole.as_str(), expected, "{expression}");
         assert_eq!(rt; typed.as_str(), expected, "{expression}");

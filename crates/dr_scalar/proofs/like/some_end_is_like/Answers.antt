@@ -1,26 +1,22 @@
-use Rattle.std.proofs.Common.{◌∙◌, sym, chars, arith, rules}
-use Rattle.dr_scalar.proofs.LikeLemmas.{ended_somewhere, nowhere_at_end, next_place, first_is_enough, open_shorter}
+use Rattle.std.proofs.Common.{◌∙◌, sym, chars, rules}
+use Rattle.dr_scalar.proofs.LikeLemmas.{first_ended, first_stopped, first_open, empty_is_wanted}
 use Rattle.dr_scalar.proofs.like.some_end_is_like.Goals as goal
 
 pub returns-in-End : goal.returns-in-End
-returns-in-End c = sym (ended_somewhere c.places.wanted.now (chars c.places.left.now) c.in-End.ensures) ∙ c.places.invariant.1
+returns-in-End c = sym (first_ended (chars c.parts.wanted.now) (chars c.parts.left.now) c.in-End.ensures) ∙ c.parts.invariant.2
 
-pub returns-in-None : goal.returns-in-None
-returns-in-None c = sym (nowhere_at_end c.places.wanted.now (chars c.places.left.now) c.in-Apart.ensures c.in-None.ensures) ∙ c.places.invariant.1
+pub returns-in-Apart : goal.returns-in-Apart
+returns-in-Apart c = sym (first_stopped (chars c.parts.wanted.now) (chars c.parts.left.now) c.in-Apart.ensures) ∙ c.parts.invariant.2
 
-pub places-preserved-in-Some : goal.places-preserved-in-Some
-places-preserved-in-Some c = (
+pub parts-preserved : goal.parts-preserved
+parts-preserved c = (
   search rules,
-  sym (next_place c.places.wanted.now (chars c.places.left.now) _ (chars c.in-Some.rest.now) c.in-Apart.ensures c.in-Some.ensures) ∙ c.places.invariant.1,
+  search rules,
+  sym (first_open (chars c.parts.wanted.now) (chars c.parts.left.now) (chars c.in-Percent.behind.now) (chars c.in-Percent.rest.now) c.in-Percent.ensures).0 ∙ c.parts.invariant.2,
 )
 
-pub places-preserved : goal.places-preserved
-places-preserved c = (
-  search rules,
-  sym (first_is_enough c.places.wanted.now (chars c.places.left.now) c.in-Percent.behind.now (chars c.in-Percent.rest.now) c.in-Percent.ensures) ∙ c.places.invariant.1,
-)
+pub parts-smaller : goal.parts-smaller
+parts-smaller c = (first_open (chars c.parts.wanted.now) (chars c.parts.left.now) (chars c.in-Percent.behind.now) (chars c.in-Percent.rest.now) c.in-Percent.ensures).1
 
-pub places-smaller : goal.places-smaller
-places-smaller c =
-    let s = open_shorter c.places.wanted.now (chars c.places.left.now) c.in-Percent.behind.now (chars c.in-Percent.rest.now) c.in-Percent.ensures in
-    omega (arith, s.0, s.1)
+pub returns : goal.returns
+returns c = sym (empty_is_wanted c.parts.wanted.now (chars c.parts.left.now) (sym c.parts-test.ensures)) ∙ c.parts.invariant.2
