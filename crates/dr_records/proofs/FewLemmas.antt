@@ -68,7 +68,7 @@ few_assembled fs fields ds es n P h e s l =
 -- ---- counted
 
 triplets_in-append : (cs ds : List (List Triplet)) → triplets_in (cs ++ ds) ≡ triplets_in cs + triplets_in ds
-triplets_in-append [] ds = refl
+triplets_in-append [] ds = omega arith
 triplets_in-append (c ∷ cs) ds = ap (λ n. length c + n) (triplets_in-append cs ds) ∙ omega arith
 
 -- one column more
