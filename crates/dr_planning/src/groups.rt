@@ -23,10 +23,10 @@ pub(crate) enum Grouped {
 fn narrow(number: usize) -> Result<u32, NoMemory>
     ensures { IfOk result (λ n. n ≡ number) }
 {
-    match u32::try_from(number) {
-        Ok(narrow) => Ok(narrow),
-        Err(_) => Err(NoMemory),
+    if number > u32::MAX as usize {
+        return Err(NoMemory);
     }
+    Ok(number as u32)
 }
 
 /// The number of the key at a place, if there is one.
