@@ -2,17 +2,6 @@
 #![tactic(auto)]
 
 mod binding;
-mod bound;
-mod expressions;
-mod fault;
-mod items;
-mod operators;
-mod parts;
-mod paths;
-mod planning;
-mod resolving;
-mod rules;
-mod terms;
 
 pub use binding::bind;
-pub use fault::{BindFault, BindProblem, Fault};
+pub use dr_bound_parts::{BindFault, BindProblem, Fault};

@@ -14,7 +14,7 @@ use Rattle.dr_records.proofs.LeafLemmas.{used_are_leaves}
 use Rattle.dr_sql.specs.Faults as text
 use Rattle.dr_sql.specs.declared.fault.QueryFault.{QueryFault as TextFault}
 use Rattle.dr_bind.specs.Binds.{BindsTo}
-use Rattle.dr_bind.specs.declared.fault.BindFault.{BindFault}
+use Rattle.dr_bound_parts.specs.declared.fault.BindFault.{BindFault}
 use Rattle.dr_query.specs.Faults.{IsRefusedAs, text_fault, bind_fault}
 use Rattle.dr_query.specs.Plans.{IsPlanMeant}
 

@@ -16,9 +16,9 @@ use Rattle.dr_plan.specs.Planned.{plan_view, planned}
 use Rattle.dr_objects.specs.NamedLevels.{levels_view, joined}
 use Rattle.dr_meaning.specs.Query.{levels_of}
 use Rattle.dr_sql.specs.Views as syntax
-use Rattle.dr_bind.specs.Parts.{AreParts}
+use Rattle.dr_bound_parts.specs.Parts.{AreParts}
 use Rattle.dr_bind.proofs.BindLemmas.{if_ok, leaves_are_used}
-use Rattle.dr_bind.proofs.PlanLemmas.{parts_can_be_planned}
+use Rattle.dr_planning.proofs.PlanLemmas.{parts_can_be_planned}
 use Rattle.dr_bind.proofs.binding.plan_without_faults.Goals as goal
 
 -- what the parts over the used leaves are, and that these are the query's leaves

@@ -1,6 +1,0 @@
-use Rattle.std.proofs.Common.{◌∙◌}
-use Rattle.dr_bind.proofs.ItemLemmas.{joined_names}
-use Rattle.dr_bind.proofs.items.dotted.Goals as goal
-
-pub returns : goal.returns
-returns c = c.in_ok-join.ensures.ok ∙ joined_names c.args.names.now

@@ -1,7 +1,0 @@
-use Rattle.std.proofs.Common.{◌≡◌, map, take, string_bytes}
-use Rattle.dr_bind.specs.Resolved.{lent}
-use Rattle.dr_bind.proofs.paths.kept_names.Given as goal
-
--- the names so far are kept
-abbrev pub invariant-names : goal.invariant-names
-invariant-names l = map string_bytes l.kept.items ≡ map lent (take l.name-index l.names)

@@ -1,9 +1,0 @@
-use Rattle.std.proofs.Common.{map, take}
-use Rattle.dr_nested.specs.PathView.{path_view}
-use Rattle.dr_chains.specs.Views.{bound_path_view}
-use Rattle.dr_bind.specs.Planning.{AreNumbers}
-use Rattle.dr_bind.proofs.planning.key_leaves.Given as goal
-
--- the numbers are those of the keys so far
-abbrev pub invariant-keys : goal.invariant-keys
-invariant-keys l = AreNumbers (map path_view l.leaves) (map bound_path_view (take l.key-index l.keys)) l.numbers.items

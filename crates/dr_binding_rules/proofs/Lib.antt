@@ -1,0 +1,2 @@
+-- the rules above paths and operators
+pub mod RuleLemmas

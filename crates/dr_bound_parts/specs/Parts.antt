@@ -1,0 +1,25 @@
+-- The parts of a query as they were bound, against what the definitions make of them.
+use Rattle.std.specs.Prelude.{◌≡◌, ◌==◌, List, map, length, Option, Some, None}
+use Rattle.dr_meaning.specs.Schema.{Fields}
+use Rattle.dr_meaning.specs.Path.{Leaf}
+use Rattle.dr_meaning.specs.BoundExpression as meant
+use Rattle.dr_meaning.specs.BoundExpression.{Checked, passes, fails}
+use Rattle.dr_meaning.specs.Binding as binding
+use Rattle.dr_chains.specs.Views.{bound_path_view}
+use Rattle.dr_bound_parts.specs.Items.{IsCondition, AreItems}
+use Rattle.dr_bound_parts.specs.declared.parts.BoundCondition.{BoundCondition}
+use Rattle.dr_bound_parts.specs.declared.parts.BoundParts.{BoundParts}
+
+-- a condition that passes is bound, any other isn't
+abbrev pub IsCheckedCondition : Fields → List Leaf → Checked (Option meant.BoundExpression) → Option (Option BoundCondition) → Type 0
+IsCheckedCondition fs ls (passes b) None = ⊥
+IsCheckedCondition fs ls (passes b) (Some c) = IsCondition fs ls b c
+IsCheckedCondition fs ls (fails e es) None = Unit {0}
+IsCheckedCondition fs ls (fails e es) (Some c) = ⊥
+
+pub record AreParts (fs : Fields) (ls : List Leaf) (b : binding.BoundParts) (p : BoundParts) : Type 0 where
+  pub record_query : p.is_record_query ≡ b.is_record_query
+  pub condition : IsCheckedCondition fs ls b.condition p.condition
+  pub items : AreItems fs ls (binding.passing b.items) p.items.items
+  pub keys : map bound_path_view p.keys.items ≡ binding.passing b.keys
+  pub all_keys : p.has_all_keys ≡ (length (binding.passing b.keys) == length b.keys)

@@ -1,0 +1,2 @@
+-- what operators make
+pub mod Operators

@@ -1,0 +1,2 @@
+-- what parts stand for in a plan
+pub mod Planning

@@ -1,0 +1,92 @@
+//! The plan of parts that are bound.
+
+ghost use Rattle.std.specs.Prelude.{◌≡◌, true, List, map, IfOk};
+ghost use Rattle.std.specs.List.{list_all};
+ghost use Rattle.dr_meaning.specs.Schema.{Fields};
+ghost use Rattle.dr_meaning.specs.Path as path_meaning;
+ghost use Rattle.dr_meaning.specs.Query as query;
+ghost use Rattle.dr_meaning.specs.QueryLeaves as used;
+ghost use Rattle.dr_meaning.specs.Binding as binding;
+ghost use Rattle.dr_nested.specs.PathView.{path_view};
+ghost use Rattle.dr_plan.specs.Views.{truth_view};
+ghost use Rattle.dr_plan.specs.Fitting.{truth_fits};
+ghost use Rattle.dr_plan.specs.Planned.{plan_view, planned};
+ghost use Rattle.dr_objects.specs.NamedLevels.{joined, levels_view};
+ghost use Rattle.dr_bound_parts.specs.Parts.{AreParts};
+ghost use Rattle.dr_planning.specs.Planning as plan;
+
+use crate::groups::selected_groups;
+use crate::records::selected_objects;
+use dr_bound_parts::{BoundCondition, BoundItem, BoundParts};
+use dr_chains::BoundPath;
+use dr_memory::NoMemory;
+use dr_nested::Path;
+use dr_objects::Level;
+use dr_plan::{Plan, Selection, Truth, conjuncts};
+use std::alloc::Global;
+
+/// The conjuncts of the condition.
+fn tests_of(
+    alloc: Global,
+    condition: Option<Option<BoundCondition>>,
+) -> Result<Vec<Truth>, NoMemory>
+    ensures view { IfOk result (λ v. (ls : List path_meaning.Leaf) → map (truth_view ls) v.items ≡ plan.condition_conjuncts ls condition) }
+    ensures fits { IfOk result (λ v. (ls : List path_meaning.Leaf) → plan.condition_fits ls condition ≡ true → list_all (truth_fits ls) v.items ≡ true) }
+{
+    match condition {
+        None => Ok(Vec::new(alloc)),
+        Some(passed) => match passed {
+            None => Ok(Vec::new(alloc)),
+            Some(condition) => conjuncts(alloc, condition.truth),
+        },
+    }
+}
+
+/// What parts of a query select.
+fn selected(
+    alloc: Global,
+    levels: &[Level],
+    leaves: &[Path],
+    is_record_query: bool,
+    keys: &[BoundPath],
+    items: Vec<BoundItem>,
+) -> Result<Selection, NoMemory>
+    ensures { IfOk result (λ s. plan.Selects is_record_query (levels_view levels.now) (map path_view leaves.now) keys.now items.items s) }
+{
+    if is_record_query {
+        selected_objects(alloc, levels, items)
+    } else {
+        selected_groups(alloc, leaves, keys, items)
+    }
+}
+
+/// The plan of parts over these leaves, by the schema's levels.
+///
+/// Errors: want of memory alone.
+pub fn plan_of(
+    alloc: Global,
+    levels: &[Level],
+    leaves: Vec<Path>,
+    parts: BoundParts,
+) -> Result<Plan, NoMemory>
+    requires { plan.CanBePlanned (map path_view leaves.items) parts }
+    ensures { IfOk result (λ p. (fs : Fields) (b : binding.BoundParts) → AreParts fs (map path_view leaves.items) b parts → levels_view levels.now ≡ joined (query.levels_of fs)
+        → map path_view leaves.items ≡ used.query_leaves fs (binding.query_of b) → plan_view p ≡ planned fs (binding.query_of b)) }
+{
+    let is_record_query = parts.is_record_query;
+    let keys = parts.keys;
+    let selection = selected(
+        alloc,
+        levels,
+        leaves.as_slice(),
+        is_record_query,
+        keys.as_slice(),
+        parts.items,
+    )?;
+    let test = tests_of(alloc, parts.condition)?;
+    Ok(Plan {
+        leaves,
+        test,
+        selection,
+    })
+}

@@ -1,0 +1,97 @@
+-- The condition and what items give.
+use Rattle.std.proofs.Common.{◌≡◌, ℕ, List, ◌∷◌, map, true, false, Option, Some, None, refl, sym, ap, ◌∙◌}
+use Rattle.std.specs.Prelude.{Vec}
+use Rattle.std.specs.declared.alloc.Global.{Global}
+use Rattle.dr_meaning.specs.Schema.{Fields}
+use Rattle.dr_meaning.specs.Path.{Leaf}
+use Rattle.dr_meaning.specs.BoundExpression as meant
+use Rattle.dr_meaning.specs.BoundExpression.{BindFault, Checked, passes, fails, ValueType, truth_type, number_type, text_type, same_type, of_type, then_check, together, checked_map, type_mismatch}
+use Rattle.dr_meaning.specs.Binding as binding
+use Rattle.dr_meaning.specs.Binding.{first_fault}
+use Rattle.dr_meaning.specs.Query.{Aggregate}
+use Rattle.dr_plan.specs.declared.expression.Truth.{Truth}
+use Rattle.dr_plan.specs.declared.expression.Expr.{Expr}
+use Rattle.dr_plan.specs.declared.aggregate.Fold.{Fold}
+use Rattle.dr_plan.specs.Views.{fold_view, expr_view}
+use Rattle.dr_plan.specs.Fitting.{expr_fits}
+use Rattle.dr_bound_parts.specs.Faults.{earlier}
+use Rattle.dr_bound_parts.specs.Bound.{type_of, IsExpression}
+use Rattle.dr_resolve.specs.Outcomes.{Came}
+use Rattle.dr_chains.specs.declared.bound.BoundPath.{BoundPath}
+use Rattle.dr_chains.specs.Views.{bound_path_view}
+use Rattle.dr_bound_parts.specs.Items.{IsTruth, IsWithin, IsTerm}
+use Rattle.dr_bound_parts.specs.declared.parts.BoundExpression.{BoundExpression}
+use Rattle.dr_bound_parts.specs.declared.parts.BoundCondition.{BoundCondition}
+use Rattle.dr_bound_parts.specs.declared.parts.BoundWithin.{BoundWithin}
+use Rattle.dr_bound_parts.specs.declared.parts.BoundTerm.{BoundTerm}
+use Rattle.dr_bound_parts.proofs.FaultLemmas.{noted_behind}
+
+-- ---- a wanted type
+
+-- nothing could be bound
+pub none_checked : {A B C D : Type 0} (Is : A → C → Type 0) (Is' : B → D → Type 0) (rule : A → Checked B) (c : Checked A) (before now : Option BindFault) → Came Is before now c None → Came Is' before now (then_check rule c) None
+none_checked Is Is' rule (passes b) before now h = absurd h
+none_checked Is Is' rule (fails e es) before now h = h
+
+pub none_mapped : {A B C D : Type 0} (Is : A → C → Type 0) (Is' : B → D → Type 0) (f : A → B) (c : Checked A) (before now : Option BindFault) → Came Is before now c None → Came Is' before now (checked_map f c) None
+none_mapped Is Is' f (passes b) before now h = absurd h
+none_mapped Is Is' f (fails e es) before now h = h
+
+pub mapped : {A B C D : Type 0} (Is : A → C → Type 0) (Is' : B → D → Type 0) (f : A → B) (y : C) (z : D) (c : Checked A) (before now : Option BindFault) → ((b : A) → Is b y → Is' (f b) z) → Came Is before now c (Some y) → Came Is' before now (checked_map f c) (Some z)
+mapped Is Is' f y z (passes b) before now g h = (h.0, g b h.1)
+mapped Is Is' f y z (fails e es) before now g h = absurd h
+
+-- a value of the wanted type
+pub of_wanted : (fs : Fields) (ls : List Leaf) (wanted : ValueType) (i : ℕ) (c : Checked meant.BoundExpression) (before now : Option BindFault) (x : BoundExpression) → same_type (type_of x.expression) wanted ≡ true
+    → Came (IsExpression fs ls) before now c (Some x) → Came (IsExpression fs ls) before now (then_check (of_type wanted i) c) (Some x)
+of_wanted fs ls wanted i (fails e es) before now x t h = absurd h
+of_wanted fs ls wanted i (passes b) before now x t h = let s : same_type b.gives wanted ≡ true = ap (λ y. same_type y wanted) (sym h.1.gives) ∙ t in rw s h
+
+-- a value of another type
+pub of_other : {D : Type 0} (Is : meant.BoundExpression → D → Type 0) (fs : Fields) (ls : List Leaf) (wanted : ValueType) (i : ℕ) (c : Checked meant.BoundExpression) (before between now : Option BindFault) (x : BoundExpression)
+    → same_type (type_of x.expression) wanted ≡ false → now ≡ earlier between (Some (record { place = i; problem = type_mismatch }))
+    → Came (IsExpression fs ls) before between c (Some x) → Came Is before now (then_check (of_type wanted i) c) None
+of_other Is fs ls wanted i (fails e es) before between now x t n h = absurd h
+of_other Is fs ls wanted i (passes b) before between now x t n h =
+    let s : same_type b.gives wanted ≡ false = ap (λ y. same_type y wanted) (sym h.1.gives) ∙ t in
+    rw s (n ∙ ap (λ y. earlier y (Some (record { place = i; problem = type_mismatch }))) h.0)
+
+-- a truth value
+pub of_truth : (fs : Fields) (ls : List Leaf) (i : ℕ) (c : Checked meant.BoundExpression) (before now : Option BindFault) (x : BoundExpression) (t : Truth) (y : BoundCondition) → x.expression ≡ Expr.Truth t
+    → y.truth ≡ t → y.paths ≡ x.paths → Came (IsExpression fs ls) before now c (Some x) → Came (IsTruth fs ls) before now (then_check (of_type truth_type i) c) (Some y)
+of_truth fs ls i (fails e es) before now x t y e' t' p h = absurd h
+of_truth fs ls i (passes b) before now x t y e' t' p h =
+    let s : same_type b.gives truth_type ≡ true = ap (λ z. same_type z truth_type) (sym h.1.gives ∙ ap type_of e') in
+    let same : Expr.Truth y.truth ≡ x.expression = ap Expr.Truth t' ∙ sym e' in
+    rw s (
+      h.0,
+      record {
+        paths = ap (λ (ps : Vec BoundPath Global). map bound_path_view ps.items) p ∙ h.1.paths;
+        own = h.1.own;
+        real = h.1.real;
+        view = λ z. ap (expr_view ls) same ∙ (h.1.means z).view;
+        fits = λ z. ap (expr_fits ls) same ∙ (h.1.means z).fits;
+      },
+    )
+
+-- ---- aggregates
+
+pub no_argument : (fs : Fields) (ls : List Leaf) (a : Aggregate) (c : Checked meant.BoundExpression) (d : Checked (Option binding.BoundWithin)) (before between now : Option BindFault) (w : Option (Option BoundWithin))
+    → Came (IsExpression fs ls) before between c None → Came IsWithin between now d w → Came (IsTerm fs ls) before now (together (binding.aggregated a) c d) None
+no_argument fs ls a (passes b) d before between now w h k = absurd h
+no_argument fs ls a (fails e es) (passes v) before between now None h k = absurd k
+no_argument fs ls a (fails e es) (passes v) before between now (Some w) h k = k.0 ∙ h
+no_argument fs ls a (fails e es) (fails g gs) before between now None h k = noted_behind before between now (e ∷ es) (g ∷ gs) h k
+no_argument fs ls a (fails e es) (fails g gs) before between now (Some w) h k = absurd k
+
+pub no_node : (fs : Fields) (ls : List Leaf) (a : Aggregate) (c : Checked meant.BoundExpression) (d : Checked (Option binding.BoundWithin)) (before between now : Option BindFault) (x : BoundExpression)
+    → Came (IsExpression fs ls) before between c (Some x) → Came IsWithin between now d None → Came (IsTerm fs ls) before now (together (binding.aggregated a) c d) None
+no_node fs ls a (fails e es) d before between now x h k = absurd h
+no_node fs ls a (passes b) (passes v) before between now x h k = absurd k
+no_node fs ls a (passes b) (fails g gs) before between now x h k = k ∙ ap (λ y. earlier y (first_fault (g ∷ gs))) h.0
+
+pub both_bound : (fs : Fields) (ls : List Leaf) (f : Fold) (c : Checked meant.BoundExpression) (d : Checked (Option binding.BoundWithin)) (before between now : Option BindFault) (x : BoundExpression) (w : Option BoundWithin)
+    → Came (IsExpression fs ls) before between c (Some x) → Came IsWithin between now d (Some w) → Came (IsTerm fs ls) before now (together (binding.aggregated (fold_view f)) c d) (Some (BoundTerm.Aggregated f x w))
+both_bound fs ls f (fails e es) d before between now x w h k = absurd h
+both_bound fs ls f (passes b) (fails g gs) before between now x w h k = absurd k
+both_bound fs ls f (passes b) (passes v) before between now x w h k = (k.0 ∙ h.0, (refl, h.1, k.1))

@@ -1,0 +1,25 @@
+use Rattle.std.proofs.Common.{◌≡◌, List, map, subst}
+use Rattle.std.specs.List.{flat_map}
+use Rattle.dr_meaning.specs.BoundExpression.{bind_path}
+use Rattle.dr_meaning.specs.Binding.{first_fault, faults_in, bind_items, bind_parts}
+use Rattle.dr_sql.specs.Views as syntax
+use Rattle.dr_sql.specs.declared.query.Item.{Item}
+use Rattle.dr_sql.specs.declared.expression.Path.{Path}
+use Rattle.dr_bound_parts.specs.Faults.{earlier, first_view}
+use Rattle.dr_resolve.specs.Outcomes.{fields_in, leaves_in}
+use Rattle.dr_bound_parts.specs.Items.{IsCondition}
+use Rattle.dr_resolve.proofs.PartLemmas.{came_noted, parts_noted}
+use Rattle.dr_resolve.proofs.names.Binder.parts.Goals as goal
+
+pub returns-clause-first : goal.returns-clause-first
+returns-clause-first c =
+    let fs = fields_in c.args.self in
+    let b = bind_parts fs (syntax.query_view c.args.query.now) in
+    let zero = first_view c.args.first.now in
+    let one = first_view c.condition.new.first in
+    let two = first_view c.items.new.first in
+    let three = first_view c.keys.new.first in
+    parts_noted b zero one two three
+    (came_noted (IsCondition fs (leaves_in c.args.self)) b.condition zero one c.in_ok-condition.condition c.in_ok-condition.ensures)
+    (subst (λ (xs : List Item). two ≡ earlier one (first_fault (flat_map faults_in (bind_items fs 0 (map syntax.item_view xs))))) c.deref.ensures.value c.in_ok-items.ensures.first)
+    (subst (λ (xs : List Path). three ≡ earlier two (first_fault (flat_map faults_in (map (bind_path fs) (map syntax.path_view xs))))) c.deref-2.ensures.value c.in_ok-keys.ensures.first)

@@ -1,0 +1,4 @@
+-- fields that were found
+pub mod Resolved
+-- what comes of binding a part
+pub mod Outcomes

@@ -1,0 +1,52 @@
+-- What comes of binding a part of a query, against what the definitions make of it.
+use Rattle.std.specs.Prelude.{◌≡◌, ℕ, List, [], ◌∷◌, map, false, Option, Some, None, Vec}
+use Rattle.std.specs.declared.alloc.Global.{Global}
+use Rattle.dr_meaning.specs.Schema.{Fields}
+use Rattle.dr_meaning.specs.Path.{Leaf}
+use Rattle.dr_meaning.specs.BoundExpression as meant
+use Rattle.dr_meaning.specs.BoundExpression.{Checked, passes, fails}
+use Rattle.dr_meaning.specs.Binding.{first_fault}
+use Rattle.dr_nested.specs.PathView.{path_view}
+use Rattle.dr_nested.specs.Views.{fields_view}
+use Rattle.dr_plan.specs.declared.expression.Expr.{Expr}
+use Rattle.dr_chains.specs.declared.bound.BoundPath.{BoundPath}
+use Rattle.dr_chains.specs.Views.{bound_path_view}
+use Rattle.dr_bound_parts.specs.Faults.{earlier}
+use Rattle.dr_bound_parts.specs.declared.parts.BoundExpression.{BoundExpression}
+use Rattle.dr_resolve.specs.declared.names.Binder.{Binder}
+
+-- ---- what names are bound to
+
+abbrev pub fields_in : Binder → Fields
+fields_in b = fields_view (b.schema.now).fields.items
+
+abbrev pub leaves_in : Binder → List Leaf
+leaves_in b = map path_view b.leaves.now
+
+-- ---- outcomes
+
+-- a part that passes is bound, and the first fault so far stays; of one that doesn't, its faults are noted behind those so far
+abbrev pub Came : {A B : Type 0} → (B → A → Type 0) → Option meant.BindFault → Option meant.BindFault → Checked B → Option A → Type 0
+Came Is before now (passes b) (Some a) = (now ≡ before) × Is b a
+Came Is before now (passes b) None = ⊥
+Came Is before now (fails e es) (Some a) = ⊥
+Came Is before now (fails e es) None = now ≡ earlier before (first_fault (e ∷ es))
+
+-- ---- paths
+
+abbrev pub IsPath : meant.BoundPath → BoundPath → Type 0
+IsPath b p = bound_path_view p ≡ b
+
+-- ---- operators
+
+-- what an operator at a place made of its operands, whose paths these are: an expression; or nothing, where they are of wrong types, which is noted
+abbrev pub MadeAt : ℕ → Option Expr → Vec BoundPath Global → Option meant.BindFault → Option meant.BindFault → Option BoundExpression → Type 0
+MadeAt i made paths before now None = (made ≡ None) × (now ≡ earlier before (Some (record { place = i; problem = meant.type_mismatch })))
+MadeAt i made paths before now (Some x) = (made ≡ Some x.expression) × (x.paths ≡ paths) × (now ≡ before) × (x.is_path ≡ false)
+
+-- ---- parts
+
+-- a part, if it could be bound
+abbrev pub present : {A : Type 0} → Option A → List A
+present None = []
+present (Some a) = a ∷ []

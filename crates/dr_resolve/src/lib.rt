@@ -1,0 +1,12 @@
+//! Binding the parts of a query, each by itself: names become leaves of a schema, and expressions get types.
+#![tactic(auto)]
+
+mod expressions;
+mod items;
+mod names;
+mod parts;
+mod paths;
+mod resolving;
+mod terms;
+
+pub use names::Binder;
