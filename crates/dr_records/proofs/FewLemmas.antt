@@ -18,6 +18,7 @@ use Rattle.dr_nested.specs.PathView.{path_view}
 use Rattle.dr_nested.specs.declared.path.Path.{Path}
 use Rattle.dr_assemble.specs.Assembly.{AreProjections}
 use Rattle.dr_assemble.specs.Views.{paths_view}
+use Rattle.dr_steps.specs.Counting.{counted}
 use Rattle.dr_records.specs.FileRecords.{are_short, AreFew, triplets_in, triplets_at}
 
 -- ---- the columns of projections
@@ -72,7 +73,7 @@ triplets_in-append [] ds = omega arith
 triplets_in-append (c ∷ cs) ds = ap (λ n. length c + n) (triplets_in-append cs ds) ∙ omega arith
 
 -- one column more
-pub one_more_counted : (cs ds : List (List Triplet)) (c : List Triplet) (k m n : ℕ) → m ≡ k + triplets_in cs → n ≡ m + length c → ds ≡ cs ++ c ∷ [] → n ≡ k + triplets_in ds
+pub one_more_counted : (cs ds : List (List Triplet)) (c : List Triplet) (k m n : ℕ) → m ≡ counted k (triplets_in cs) → n ≡ counted m (length c) → ds ≡ cs ++ c ∷ [] → n ≡ counted k (triplets_in ds)
 one_more_counted cs ds c k m n h a e =
     let whole : triplets_in ds ≡ triplets_in cs + (length c + 0) = ap triplets_in e ∙ triplets_in-append cs (c ∷ []) in
     omega (arith, h, a, whole)

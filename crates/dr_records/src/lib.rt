@@ -3,7 +3,5 @@
 
 pub mod laws;
 mod reading;
-mod uncounted;
 
 pub use reading::read_records;
-pub use uncounted::read_uncounted;

@@ -1,6 +1,6 @@
 //! Reading the records of a file.
 
-ghost use Rattle.std.specs.Prelude.{◌≡◌, ◌≢◌, ◌≤◌, ◌+◌, ℕ, List, length, map, true, false, IfOk, IfErr, IsTrue, Err, Some};
+ghost use Rattle.std.specs.Prelude.{◌≡◌, ◌≢◌, ◌≤◌, ℕ, List, length, map, true, false, IfOk, IfErr, IsTrue, Err, Some};
 ghost use Rattle.std.specs.List.{flat_map};
 ghost use Rattle.dr_meaning.specs.Path.{Leaf};
 ghost use Rattle.dr_formats.specs.File.{Footer, footer_of};
@@ -14,6 +14,7 @@ ghost use Rattle.dr_outside.specs.Link.{Lacks};
 ghost use Rattle.dr_chunk.specs.Telling.{Tells, Serves, AsksOnly, is_read_inside};
 ghost use Rattle.dr_file.specs.Asking.{is_request_for};
 ghost use Rattle.dr_file.specs.OpenedFiles.{IsOpened, HasCounts, is_read_fault, leaf_count, path_of};
+ghost use Rattle.dr_steps.specs.Counting.{counted};
 ghost use Rattle.dr_records.specs.FileRecords.{AreLeavesOf, AreOfFile, IsFaultOf, AreProjected, AreFew, AreColumnsOf, IsColumnsFault, are_short, assemble_fault, triplets_in, triplets_at};
 
 use dr_assemble::{AssembleFault, assemble};
@@ -23,24 +24,23 @@ use dr_nested::{Node, Path, Schema};
 use dr_outside::{Cause, Link};
 use dr_steps::Steps;
 use std::alloc::Global;
-use std::sync::ledger::Ledger;
 
 /// The columns of all leaves that a file was opened for. A step is a triplet.
 ///
 /// Errors: the link failed, with its counts of faults before and after this call; `BadData` where one leaf's chunks spell no column of any
 /// records; want of memory.
-fn read_columns<L: Link, C: Ledger>(
+fn read_columns<L: Link>(
     alloc: Global,
     link: &mut L,
     opened: &Opened,
     leaves: usize,
-    steps: &mut Steps<C>,
+    steps: &mut Steps,
 ) -> Result<Vec<Column>, FileFault>
     requires { leaves ≡ leaf_count opened.now }
     ensures columns { (bytes : List ℕ) (F : List Leaf) → IsOpened bytes F opened.now → length F ≡ leaves → Tells (L.shows link.old) (path_of opened.now) bytes → IfOk result (λ v. AreColumnsOf bytes F (columns_view v.items)) }
     ensures cause { (bytes : List ℕ) (F : List Leaf) → IsOpened bytes F opened.now → length F ≡ leaves → Tells (L.shows link.old) (path_of opened.now) bytes → IfErr result (IsColumnsFault bytes F) }
     ensures few { IfOk result (λ v. are_short (columns_view v.items) ≡ true) }
-    ensures counted { IfOk result (λ v. steps.new ≡ steps.old + triplets_in (columns_view v.items)) }
+    ensures counted { IfOk result (λ v. steps.new ≡ counted steps.old (triplets_in (columns_view v.items))) }
     ensures asked { (bytes : List ℕ) (F : List Leaf) (f : Footer) → IsOpened bytes F opened.now → length F ≡ leaves → footer_of bytes ≡ Some f → AsksOnly (is_read_inside (path_of opened.now) (flat_map (leaf_ranges f) F)) (L.shows link.old).asked (L.shows link.new).asked }
     ensures same { (L.shows link.new).held ≡ (L.shows link.old).held }
     ensures counts { IfErr result (HasCounts (L.shows link.old).faults (L.shows link.new).faults) }
@@ -75,20 +75,20 @@ fn file_fault(fault: AssembleFault) -> FileFault
 ///
 /// Errors: the link failed, with its counts of faults before and after this call; else the first cause for which the file is none of any
 /// records for these leaves; want of memory.
-fn read_file<L: Link, C: Ledger>(
+fn read_file<L: Link>(
     alloc: Global,
     link: &mut L,
     path: &str,
     schema: &Schema,
     fields: &[Path],
-    steps: &mut Steps<C>,
+    steps: &mut Steps,
 ) -> Result<Vec<Node>, FileFault>
     requires { AreLeavesOf (fields_view (schema.now).fields.items) (map path_view fields.now) }
     ensures records { (bytes : List ℕ) → Tells (L.shows link.old) path.now bytes → IfOk result (λ v. AreOfFile bytes (schema_view schema.now) (map path_view fields.now) (nodes_view v.items)) }
     ensures form { IfOk result (λ v. AreProjected (schema_view schema.now) (map path_view fields.now) (nodes_view v.items)) }
     ensures cause { (bytes : List ℕ) → Tells (L.shows link.old) path.now bytes → IfErr result (IsFaultOf bytes (schema_view schema.now) (map path_view fields.now)) }
     ensures few { IfOk result (λ v. AreFew (map path_view fields.now) (nodes_view v.items)) }
-    ensures counted { IfOk result (λ v. steps.new ≡ steps.old + triplets_at (map path_view fields.now) (nodes_view v.items)) }
+    ensures counted { IfOk result (λ v. steps.new ≡ counted steps.old (triplets_at (map path_view fields.now) (nodes_view v.items))) }
     ensures asked { (bytes : List ℕ) → Tells (L.shows link.old) path.now bytes → AsksOnly (is_request_for path.now (reader_ranges bytes (map path_view fields.now))) (L.shows link.old).asked (L.shows link.new).asked }
     ensures same { (L.shows link.new).held ≡ (L.shows link.old).held }
     ensures counts { IfErr result (HasCounts (L.shows link.old).faults (L.shows link.new).faults) }
@@ -110,20 +110,20 @@ fn read_file<L: Link, C: Ledger>(
 ///
 /// Errors: the link failed, with its counts of faults before and after this call; else the first cause for which the file is none of any
 /// records for these leaves; want of memory.
-pub fn read_records<L: Link, C: Ledger>(
+pub fn read_records<L: Link>(
     alloc: Global,
     link: &mut L,
     path: &str,
     schema: &Schema,
     fields: &[Path],
-    steps: &mut Steps<C>,
+    steps: &mut Steps,
 ) -> Result<Vec<Node>, FileFault>
     requires { AreLeavesOf (fields_view (schema.now).fields.items) (map path_view fields.now) }
     ensures records { (bytes : List ℕ) → Tells (L.shows link.old) path.now bytes → IfOk result (λ v. AreOfFile bytes (schema_view schema.now) (map path_view fields.now) (nodes_view v.items)) }
     ensures form { IfOk result (λ v. AreProjected (schema_view schema.now) (map path_view fields.now) (nodes_view v.items)) }
     ensures cause { (bytes : List ℕ) → Tells (L.shows link.old) path.now bytes → IfErr result (IsFaultOf bytes (schema_view schema.now) (map path_view fields.now)) }
     ensures few { IfOk result (λ v. AreFew (map path_view fields.now) (nodes_view v.items)) }
-    ensures counted { IfOk result (λ v. steps.new ≡ steps.old + triplets_at (map path_view fields.now) (nodes_view v.items)) }
+    ensures counted { IfOk result (λ v. steps.new ≡ counted steps.old (triplets_at (map path_view fields.now) (nodes_view v.items))) }
     ensures asked { (bytes : List ℕ) → Tells (L.shows link.old) path.now bytes → AsksOnly (is_request_for path.now (reader_ranges bytes (map path_view fields.now))) (L.shows link.old).asked (L.shows link.new).asked }
     ensures same { (L.shows link.new).held ≡ (L.shows link.old).held }
     ensures counts { IfErr result (HasCounts (L.shows link.old).faults (L.shows link.new).faults) }

@@ -6,9 +6,7 @@ mod literals;
 mod pieces;
 mod scanning;
 mod tablet;
-mod uncounted;
 
 pub use pieces::{Pieces, scan_table};
 pub use scanning::scan;
 pub use tablet::{Scanned, scan_tablet};
-pub use uncounted::scan_uncounted;

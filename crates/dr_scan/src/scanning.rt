@@ -1,6 +1,6 @@
 //! Scanning the file at a path.
 
-ghost use Rattle.std.specs.Prelude.{◌≡◌, ◌≢◌, ◌≤◌, ◌+◌, ℕ, List, map, true, false, IfOk, IfErr, IsTrue, Err};
+ghost use Rattle.std.specs.Prelude.{◌≡◌, ◌≢◌, ◌≤◌, ℕ, List, map, true, false, IfOk, IfErr, IsTrue, Err};
 ghost use Rattle.dr_formats.specs.Opening.{reader_ranges};
 ghost use Rattle.dr_nested.specs.SchemaView.{schema_view};
 ghost use Rattle.dr_outside.specs.Link.{Lacks};
@@ -9,6 +9,7 @@ ghost use Rattle.dr_file.specs.Asking.{is_request_for};
 ghost use Rattle.dr_file.specs.OpenedFiles.{HasCounts, is_read_fault};
 ghost use Rattle.dr_meaning.specs.Record.{Node};
 ghost use Rattle.dr_formats.specs.File.{IsFileOf};
+ghost use Rattle.dr_steps.specs.Counting.{counted};
 ghost use Rattle.dr_records.specs.FileRecords.{IsFaultOf, triplets_at};
 ghost use Rattle.dr_partials.specs.PartialTypes.{is_partial};
 ghost use Rattle.dr_partials.specs.PartialBounds.{PartialCanBeOf};
@@ -30,20 +31,19 @@ use dr_plan::Plan;
 use dr_records::read_records;
 use dr_steps::Steps;
 use std::alloc::Global;
-use std::sync::ledger::Ledger;
 
 /// A plan's partial of the records of the file at a path, of which the plan's leaves alone are read. The link is asked for the file's
 /// size, its two ends, the footer, and the chunks of these leaves. A step is a triplet of one of these leaves.
 ///
 /// Errors: the link failed, with its counts of faults before and after this call; else the first cause for which the file is none of any
 /// records for these leaves; want of memory, or of room for the partial.
-pub fn scan<L: Link, C: Ledger>(
+pub fn scan<L: Link>(
     alloc: Global,
     plan: &Plan,
     link: &mut L,
     path: &str,
     schema: &Schema,
-    steps: &mut Steps<C>,
+    steps: &mut Steps,
 ) -> Result<Partial, FileFault>
     requires planned { IsOfSchema (schema_view schema.now) plan.now }
     ensures partial { ForQuery (schema_view schema.now) plan.now (λ q. IfOk result (λ p. is_partial (schema_view schema.now).fields (leaf_query q) (partial_view p) ≡ true)) }
@@ -54,7 +54,7 @@ pub fn scan<L: Link, C: Ledger>(
     ensures truth { ForQuery (schema_view schema.now) plan.now (λ q. IfOk result (λ p. IsTrueOf (truth_at (schema_view schema.now) q (L.shows link.old).held path.now) (partial_view p))) }
     ensures cause { (bytes : List ℕ) → Tells (L.shows link.old) path.now bytes → IfErr result (IsFaultOf bytes (schema_view schema.now) (plan_leaves plan.now)) }
     ensures asked { (bytes : List ℕ) → Tells (L.shows link.old) path.now bytes → AsksOnly (is_request_for path.now (reader_ranges bytes (plan_leaves plan.now))) (L.shows link.old).asked (L.shows link.new).asked }
-    ensures counted { (bytes : List ℕ) (R : List Node) → Tells (L.shows link.old) path.now bytes → IsFileOf bytes (schema_view schema.now) (plan_leaves plan.now) R → IfOk result (λ p. steps.new ≡ steps.old + triplets_at (plan_leaves plan.now) R) }
+    ensures counted { (bytes : List ℕ) (R : List Node) → Tells (L.shows link.old) path.now bytes → IsFileOf bytes (schema_view schema.now) (plan_leaves plan.now) R → IfOk result (λ p. steps.new ≡ counted steps.old (triplets_at (plan_leaves plan.now) R)) }
     ensures same { (L.shows link.new).held ≡ (L.shows link.old).held }
     ensures counts { IfErr result (HasCounts (L.shows link.old).faults (L.shows link.new).faults) }
     ensures calm { is_read_fault result ≡ false → (L.shows link.new).faults ≡ (L.shows link.old).faults }

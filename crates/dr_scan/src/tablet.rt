@@ -14,17 +14,16 @@ ghost use Rattle.dr_reading.specs.Scan.{copies_from};
 ghost use Rattle.dr_scan.specs.Plans.{ForQuery};
 ghost use Rattle.dr_scan.specs.Tablets.{IsScannedAs, WhereScanned, causes_in};
 
-use crate::uncounted::scan_uncounted;
+use crate::scanning::scan;
 use dr_file::FileFault;
 use dr_group::Partial;
 use dr_memory::NoMemory;
 use dr_outside::Link;
 use dr_plan::Plan;
+use dr_steps::Steps;
 use dr_table::{Table, path_of, placement};
 use dr_tablets::Tried;
 use std::alloc::Global;
-use std::marker::Brand;
-use std::sync::ledger::Blank;
 
 /// What is scanned of a tablet: a partial of its records, or the copies that were tried, which is each of them.
 #[derive(Debug, Drop)]
@@ -57,8 +56,8 @@ pub fn scan_tablet<L: Link>(
     'copies: for copy in 0..table.copies {
         let directory = placement(table, tablet, copy);
         let path = path_of(alloc, table, directory, tablet)?;
-        let blank = Blank::new(1);
-        match scan_uncounted::<L, Brand>(alloc, plan, link, path.as_str(), &table.schema, blank) {
+        let mut steps = Steps::new();
+        match scan(alloc, plan, link, path.as_str(), &table.schema, &mut steps) {
             Ok(partial) => return Ok(Scanned::Given(partial)),
             Err(FileFault::NoMemory) => return Err(NoMemory),
             Err(FileFault::Why(cause)) => tried.push(Tried { directory, cause })?,

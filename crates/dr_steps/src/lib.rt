@@ -1,4 +1,4 @@
-//! Steps of work, counted in proofs alone.
+//! Steps of work, counted.
 #![tactic(auto)]
 
 mod steps;

@@ -1,41 +1,43 @@
 //! How many steps were taken.
 
-ghost use Rattle.std.specs.Prelude.{◌≡◌, ◌+◌, ◌<◌, ℕ};
+ghost use Rattle.std.specs.Prelude.{◌≡◌};
+ghost use Rattle.dr_steps.specs.Counting.{counted};
 
 use std::marker::Model;
-use std::sync::ledger::{Blank, Book, Ledger, Share};
 
-/// How many steps were taken. It takes no bytes, and no code can read it: contracts alone speak of it, and only `add` changes it.
-#[derive(Drop)]
-pub struct Steps<C: Ledger> {
-    book: Book<C>,
-    share: Share<C>,
+/// How many steps were taken: a count that stands still at the greatest number of 64 bits.
+#[derive(Debug, Drop)]
+pub struct Steps {
+    taken: u64,
 }
 
-impl<C: Ledger> Model for Steps<C> {
+impl Model for Steps {
+    ghost use Rattle.std.specs.Prelude.{ℕ};
+
     ghost Value = { ℕ };
 
-    ghost view = { λ s. s.book.total };
-
-    ghost invariant = { λ s. 0 < s.share.parts };
+    ghost view = { λ s. s.taken };
 }
 
-impl<C: Ledger> Steps<C> {
-    /// No steps so far, counted by a new ledger.
-    pub fn start(blank: Blank) -> Steps<C>
-        requires name { blank.name ≡ C.name }
-        requires parts { blank.parts ≡ C.parts }
-        requires shared { 0 < blank.parts }
+impl Steps {
+    /// No steps so far.
+    pub fn new() -> Steps
         ensures { result ≡ 0 }
     {
-        let (book, share) = blank.open();
-        Steps { book, share }
+        Steps { taken: 0 }
     }
 
     /// So many steps more.
     pub fn add(&mut self, count: u64)
-        ensures { self.new ≡ self.old + count }
+        ensures { self.new ≡ counted self.old count }
     {
-        self.book.add(&mut self.share, count);
+        self.taken = self.taken.saturating_add(count);
+    }
+
+    /// How many there were.
+    pub fn taken(&self) -> u64
+        ensures { result ≡ self.now }
+    {
+        self.taken
     }
 }

@@ -17,11 +17,10 @@ use dr_file::FileFault;
 use dr_memory::NoMemory;
 use dr_nested::{Node, Path};
 use dr_outside::Link;
-use dr_records::read_uncounted;
+use dr_records::read_records;
+use dr_steps::Steps;
 use dr_table::{Table, path_of, placement};
 use std::alloc::Global;
-use std::marker::Brand;
-use std::sync::ledger::Blank;
 
 /// What is read of a tablet: its records, projected to the leaves, or the copies that were tried, which is each of them.
 #[derive(Debug, Drop)]
@@ -52,8 +51,15 @@ pub fn read_tablet<L: Link>(
     'copies: for copy in 0..table.copies {
         let directory = placement(table, tablet, copy);
         let path = path_of(alloc, table, directory, tablet)?;
-        let blank = Blank::new(1);
-        match read_uncounted::<L, Brand>(alloc, link, path.as_str(), &table.schema, fields, blank) {
+        let mut steps = Steps::new();
+        match read_records(
+            alloc,
+            link,
+            path.as_str(),
+            &table.schema,
+            fields,
+            &mut steps,
+        ) {
             Ok(records) => return Ok(Tablet::Given(records)),
             Err(FileFault::NoMemory) => return Err(NoMemory),
             Err(FileFault::Why(cause)) => tried.push(Tried { directory, cause })?,

@@ -12,12 +12,11 @@ use dr_plan::Plan;
 use dr_query::{Queried, query_table};
 use dr_result_text::result_text;
 use dr_samples::{DOCUMENT, QUERIES, record_lines};
-use dr_scan::scan_uncounted;
+use dr_scan::scan;
+use dr_steps::Steps;
 use dr_table::Table;
 use dr_tree::{gather, of_fan};
 use std::alloc::Global;
-use std::marker::Brand;
-use std::sync::ledger::Blank;
 use std::test::Fail;
 use std::thread::Threads;
 
@@ -58,9 +57,9 @@ fn gathered_text<R: Threads + Sync, L: Link>(
 {
     let front = format!(in alloc; "front{cut}/t000000.parquet")?;
     let behind = format!(in alloc; "behind{cut}/t000000.parquet")?;
-    let (one, other) = (Blank::new(1), Blank::new(1));
-    let first = scan_uncounted::<L, Brand>(alloc, plan, link, front.as_str(), schema, one)?;
-    let second = scan_uncounted::<L, Brand>(alloc, plan, link, behind.as_str(), schema, other)?;
+    let mut steps = Steps::new();
+    let first = scan(alloc, plan, link, front.as_str(), schema, &mut steps)?;
+    let second = scan(alloc, plan, link, behind.as_str(), schema, &mut steps)?;
     let partials = vec![in alloc; first, second]?;
     let tree = of_fan(alloc, 2, 2)?;
     let partial = gather(rt, alloc, &tree, partials)?;

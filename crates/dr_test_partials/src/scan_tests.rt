@@ -7,12 +7,11 @@ use dr_outside::{MemLink, Shelf};
 use dr_plan::Plan;
 use dr_result_text::result_text;
 use dr_samples::DOCUMENT;
-use dr_scan::{Pieces, Scanned, scan_table, scan_tablet, scan_uncounted};
+use dr_scan::{Pieces, Scanned, scan, scan_table, scan_tablet};
+use dr_steps::Steps;
 use dr_table::Table;
 use dr_tablets::{LeftTablet, left_text};
 use std::alloc::Global;
-use std::marker::Brand;
-use std::sync::ledger::Blank;
 use std::test::Fail;
 
 /// Queries, and what each prints of the first worked record and of the second.
@@ -48,8 +47,8 @@ fn file_scanned(
     let schema = parse_schema(alloc, DOCUMENT.as_bytes())?;
     let plan = plan_of(alloc, &schema, query)?;
     let mut link = MemLink::new(alloc, shelf, [fails].to_vec(alloc)?);
-    let blank = Blank::new(1);
-    let scanned = scan_uncounted::<_, Brand>(alloc, &plan, &mut link, path, &schema, blank);
+    let mut steps = Steps::new();
+    let scanned = scan(alloc, &plan, &mut link, path, &schema, &mut steps);
     let text = match scanned {
         Ok(partial) => printed(alloc, &plan, partial)?,
         Err(fault) => format!(in alloc; "{fault:?}")?,

@@ -5,12 +5,11 @@ use crate::worked::{DOCUMENT, loaded, table_of};
 use dr_dump::{Dumped, dump_table};
 use dr_file::FileFault;
 use dr_outside::{Cause, MemLink};
-use dr_records::read_uncounted;
+use dr_records::read_records;
+use dr_steps::Steps;
 use dr_table::Table;
 use dr_tablets::{LeftTablet, Tablet, Tried, left_text, read_tablet};
 use std::alloc::Global;
-use std::marker::Brand;
-use std::sync::ledger::Blank;
 use std::test::Fail;
 
 const ALL: &str =
@@ -195,8 +194,8 @@ fn the_records_of_a_file_are_read(rt: HostRuntime) -> Result<(), Fail> {
     ];
     for (path, fails, expected) in rows {
         let mut link = MemLink::new(alloc, &shelf, [fails].to_vec(alloc)?);
-        let blank = Blank::new(1);
-        let read = read_uncounted::<_, Brand>(alloc, &mut link, path, &schema, &fields, blank);
+        let mut steps = Steps::new();
+        let read = read_records(alloc, &mut link, path, &schema, &fields, &mut steps);
         assert_eq!(rt;
             read.map(|records| records.len()),
             expected,

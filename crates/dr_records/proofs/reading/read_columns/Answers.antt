@@ -1,4 +1,4 @@
-use Rattle.std.proofs.Common.{Option, ◌+◌, refl, sym, ap, subst, ◌∙◌, arith, map}
+use Rattle.std.proofs.Common.{Option, refl, sym, ap, subst, ◌∙◌, arith, map}
 use Rattle.std.proofs.lemmas.List.{map-append}
 use Rattle.std.specs.Prelude.{◌∷◌, []}
 use Rattle.dr_levels.specs.Views.{column_view}
@@ -12,6 +12,7 @@ use Rattle.dr_records.proofs.AskedLemmas.{leaf_asked}
 use Rattle.dr_file.specs.OpenedFiles.{path_of}
 use Rattle.dr_records.specs.FileRecords.{IsColumnsFault}
 use Rattle.dr_records.proofs.ColumnsLemmas.{leaf_there, one_more, all_columns, one_fault, err_is, no_read_fault}
+use Rattle.dr_steps.specs.Counting.{counted}
 use Rattle.dr_records.proofs.reading.read_columns.Goals as goal
 
 pub returns-in_err-column-clause-cause : goal.returns-in_err-column-clause-cause
@@ -40,7 +41,7 @@ leaves-preserved g c = (
       let l = leaf_there F c.leaves.index (omega (arith, c.leaves-test.true, n)) in
       asks_then (is_read_inside (path_of c.args.opened.now) (flat_map (leaf_ranges f) F)) _ _ _ (c.leaves.invariant.5 bytes F f o n e)
       (leaf_asked (path_of c.args.opened.now) f F c.leaves.index l.0 _ _ l.1 (c.column.ensures.asked bytes F l.0 f o l.1 e)),
-  one_more_counted _ _ (column_view c.in_ok-column.column) _ _ _ c.leaves.invariant.6 (c.add.ensures ∙ ap (λ n. c.leaves.steps + n) c.len.ensures) (ap (map column_view) c.in-Ok.ensures.items ∙ map-append column_view c.leaves.columns.items (c.in_ok-column.column ∷ [])),
+  one_more_counted _ _ (column_view c.in_ok-column.column) _ _ _ c.leaves.invariant.6 (c.add.ensures ∙ ap (counted c.leaves.steps) c.len.ensures) (ap (map column_view) c.in-Ok.ensures.items ∙ map-append column_view c.leaves.columns.items (c.in_ok-column.column ∷ [])),
 )
 
 pub returns-clause-columns : goal.returns-clause-columns

@@ -1,4 +1,4 @@
-use Rattle.std.proofs.Common.{◌≡◌, ◌+◌, ℕ, List, length, take, true}
+use Rattle.std.proofs.Common.{◌≡◌, ℕ, List, length, take, true}
 use Rattle.std.specs.Prelude.{IsTrue, Some}
 use Rattle.std.specs.List.{flat_map}
 use Rattle.dr_meaning.specs.Path.{Leaf}
@@ -8,6 +8,7 @@ use Rattle.dr_formats.specs.Opening.{leaf_ranges}
 use Rattle.dr_chunk.specs.Telling.{Tells, AsksOnly, is_read_inside}
 use Rattle.dr_file.specs.OpenedFiles.{IsOpened, path_of}
 use Rattle.dr_records.specs.FileRecords.{AreColumnsOf, are_short, triplets_in}
+use Rattle.dr_steps.specs.Counting.{counted}
 use Rattle.dr_records.proofs.reading.read_columns.Given as goal
 
 abbrev pub invariant-leaves : goal.invariant-leaves
@@ -19,4 +20,4 @@ invariant-leaves g l =
     × (are_short (columns_view l.columns.items) ≡ true)
     × ((bytes : List ℕ) (F : List Leaf) (f : Footer) → IsOpened bytes F l.opened → length F ≡ l.leaves → footer_of bytes ≡ Some f
     → AsksOnly (is_read_inside (path_of l.opened) (flat_map (leaf_ranges f) F)) (g.L.Link.shows l.initial.link).asked (g.L.Link.shows l.link).asked)
-    × (l.steps ≡ l.initial.steps + triplets_in (columns_view l.columns.items))
+    × (l.steps ≡ counted l.initial.steps (triplets_in (columns_view l.columns.items)))

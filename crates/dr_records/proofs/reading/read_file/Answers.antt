@@ -1,4 +1,4 @@
-use Rattle.std.proofs.Common.{ℕ, ◌+◌, ◌∙◌, List, Option, Err, sym, ap, subst, map}
+use Rattle.std.proofs.Common.{ℕ, ◌∙◌, List, Option, Err, sym, ap, subst, map}
 use Rattle.std.proofs.lemmas.List.{length-map}
 use Rattle.dr_levels.specs.Views.{columns_view}
 use Rattle.dr_nested.specs.PathView.{path_view}
@@ -12,6 +12,7 @@ use Rattle.dr_records.proofs.FewLemmas.{few_assembled, counted_assembled}
 use Rattle.dr_records.proofs.AskedLemmas.{opening_asked, file_asked}
 use Rattle.dr_records.proofs.ColumnsLemmas.{err_is, no_read_fault}
 use Rattle.dr_records.proofs.RecordsLemmas.{have_leaf_paths, columns_fault, records_given, projected_given, assembled_fault}
+use Rattle.dr_steps.specs.Counting.{counted}
 use Rattle.dr_records.proofs.reading.read_file.Goals as goal
 
 pub returns-in_err-columns-clause-cause : goal.returns-in_err-columns-clause-cause
@@ -89,5 +90,5 @@ returns-in-Ok-clause-few g c =
 pub returns-in-Ok-clause-counted : goal.returns-in-Ok-clause-counted
 returns-in-Ok-clause-counted g c =
     c.in_ok-columns.ensures.counted
-    ∙ ap (λ n. c.args.steps.now + n) (counted_assembled (fields_view c.args.schema.now.fields.items) c.args.fields.now (columns_view c.deref.result.now) (columns_view c.in_ok-columns.columns.items) c.rows.result
+    ∙ ap (counted c.args.steps.now) (counted_assembled (fields_view c.args.schema.now.fields.items) c.args.fields.now (columns_view c.deref.result.now) (columns_view c.in_ok-columns.columns.items) c.rows.result
     (nodes_view c.in-Ok.records.items) c.in-Ok.ensures.records (ap columns_view c.deref.ensures.value))

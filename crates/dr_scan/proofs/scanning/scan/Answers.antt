@@ -1,4 +1,4 @@
-use Rattle.std.proofs.Common.{List, map, subst, sym, ap, ◌∙◌, ◌+◌}
+use Rattle.std.proofs.Common.{List, map, subst, sym, ap, ◌∙◌}
 use Rattle.dr_formats.specs.File.{IsFileOf}
 use Rattle.dr_assemble.specs.Views.{nodes_view}
 use Rattle.dr_records.specs.FileRecords.{triplets_at}
@@ -12,6 +12,7 @@ use Rattle.dr_file.specs.Asking.{is_request_for}
 use Rattle.dr_group.specs.Partials.{partial_view}
 use Rattle.dr_tablets.proofs.CopyLemmas.{not_absent}
 use Rattle.dr_scan.proofs.ScanLemmas.{plan_has_leaves, lent, answers_by, gives_partial, stands_for_records, stands_for_bytes, gives_few, truth_is}
+use Rattle.dr_steps.specs.Counting.{counted}
 use Rattle.dr_scan.proofs.scanning.scan.Goals as goal
 
 pub read_records-requires : goal.read_records-requires
@@ -74,5 +75,5 @@ returns-in-Ok-clause-counted g c = λ bytes R tells is.
     let F = map path_view c.deref.result.now in
     let file = subst (λ (ls : List Path). IsFileOf bytes s (map path_view ls) R) (sym c.deref.ensures.value) is in
     c.in_ok-records.ensures.counted
-    ∙ ap (λ n. c.args.steps.now + n)
+    ∙ ap (counted c.args.steps.now)
     (file_triplets bytes s F (nodes_view c.in_ok-records.records.items) R (c.in_ok-records.ensures.records bytes tells) file ∙ ap (λ (ls : List Path). triplets_at (map path_view ls) R) c.deref.ensures.value)

@@ -32,7 +32,7 @@ returns-in-Ok-clause-read g c = λ q is.
     (λ lacks. not_absent (c.in-Ok.ensures.absent (subst (λ (h : Option Files). Lacks h at) (sym c.copies.invariant.2) lacks) (λ e. cc)))
 
 pub returns-in-Ok-clause-rises : goal.returns-in-Ok-clause-rises
-returns-in-Ok-clause-rises g c = omega (arith, c.copies.invariant.4, c.scan_uncounted.ensures.never_falls)
+returns-in-Ok-clause-rises g c = omega (arith, c.copies.invariant.4, c.scan.ensures.never_falls)
 
 pub copies-preserved : goal.copies-preserved
 copies-preserved g c =
@@ -41,7 +41,7 @@ copies-preserved g c =
     let ds = (table_view c.args.table.now).leaves in
     let link = g.L.Link.shows c.args.link.now in
     let old = (g.L.Link.shows c.copies.link).faults in
-    let new = (g.L.Link.shows c.scan_uncounted.new.link).faults in
+    let new = (g.L.Link.shows c.scan.new.link).faults in
     let path = c.as_str.result.now in
     let fault = FileFault.Why c.in-Err-Why.cause in
     let copy = copy_in ds c.args.tablet (placement (length ds) c.args.tablet c.copies.copy) in
@@ -58,9 +58,9 @@ copies-preserved g c =
           (tried_more s F link (copies_from ds c.args.tablet 0 c.copies.copy) _ _ copy t c.copies.invariant.0 c.placement-directory.ensures.leaf (subst (λ (p : List ℕ). IsCauseAt s F link p c.in-Err-Why.cause) at cause) more),
       rises_more link.faults old new (causes_of (all_tried_view c.copies.tried.items)) _ c.in-Err-Why.cause c.copies.invariant.1 counts calm
           (ap causes_of more ∙ map-append (λ (x : Tried). x.cause) (all_tried_view c.copies.tried.items) (t ∷ [])),
-      c.scan_uncounted.ensures.same ∙ c.copies.invariant.2,
-      λ is. c.scan_uncounted.ensures.stays_steady (c.copies.invariant.3 is),
-      omega (arith, c.copies.invariant.4, c.scan_uncounted.ensures.never_falls),
+      c.scan.ensures.same ∙ c.copies.invariant.2,
+      λ is. c.scan.ensures.stays_steady (c.copies.invariant.3 is),
+      omega (arith, c.copies.invariant.4, c.scan.ensures.never_falls),
     )
 
 pub returns-clause-read : goal.returns-clause-read

@@ -17,7 +17,3 @@ invariant-copies g l =
     × ((g.L.Link.shows l.link).held ≡ (g.L.Link.shows l.initial.link).held)
     × (IsTrue (g.L.Link.shows l.initial.link).is_steady → IsTrue (g.L.Link.shows l.link).is_steady)
     × ((g.L.Link.shows l.initial.link).faults ≤ (g.L.Link.shows l.link).faults)
-
--- steps are counted by the new ledger
-abbrev pub ghosts-scan_uncounted-C-Ledger : goal.ghosts-scan_uncounted-C-Ledger
-ghosts-scan_uncounted-C-Ledger g a = record { name = a.blank.name; parts = a.blank.parts }

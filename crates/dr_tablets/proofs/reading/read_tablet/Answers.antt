@@ -29,7 +29,7 @@ returns-in-Ok-clause-read g c =
     (λ lacks. not_absent (c.in-Ok.ensures.absent (subst (λ (h : Option Files). Lacks h c.as_str.result.now) (sym c.copies.invariant.2) lacks) (λ e. cc)))
 
 pub returns-in-Ok-clause-rises : goal.returns-in-Ok-clause-rises
-returns-in-Ok-clause-rises g c = omega (arith, c.copies.invariant.4, c.read_uncounted.ensures.never_falls)
+returns-in-Ok-clause-rises g c = omega (arith, c.copies.invariant.4, c.read_records.ensures.never_falls)
 
 pub copies-preserved : goal.copies-preserved
 copies-preserved g c =
@@ -38,7 +38,7 @@ copies-preserved g c =
     let ds = (table_view c.args.table.now).leaves in
     let link = g.L.Link.shows c.args.link.now in
     let old = (g.L.Link.shows c.copies.link).faults in
-    let new = (g.L.Link.shows c.read_uncounted.new.link).faults in
+    let new = (g.L.Link.shows c.read_records.new.link).faults in
     let path = c.as_str.result.now in
     let fault = FileFault.Why c.in-Err-Why.cause in
     let copy = copy_in ds c.args.tablet (placement (length ds) c.args.tablet c.copies.copy) in
@@ -55,7 +55,7 @@ copies-preserved g c =
           (tried_more s F link (copies_from ds c.args.tablet 0 c.copies.copy) _ _ copy t c.copies.invariant.0 c.placement-directory.ensures.leaf (subst (λ (p : List ℕ). IsCauseAt s F link p c.in-Err-Why.cause) at cause) more),
       rises_more link.faults old new (causes_of (all_tried_view c.copies.tried.items)) _ c.in-Err-Why.cause c.copies.invariant.1 counts calm
           (ap causes_of more ∙ map-append (λ (x : Tried). x.cause) (all_tried_view c.copies.tried.items) (t ∷ [])),
-      c.read_uncounted.ensures.same ∙ c.copies.invariant.2,
-      λ is. c.read_uncounted.ensures.stays_steady (c.copies.invariant.3 is),
-      omega (arith, c.copies.invariant.4, c.read_uncounted.ensures.never_falls),
+      c.read_records.ensures.same ∙ c.copies.invariant.2,
+      λ is. c.read_records.ensures.stays_steady (c.copies.invariant.3 is),
+      omega (arith, c.copies.invariant.4, c.read_records.ensures.never_falls),
     )
