@@ -78,6 +78,10 @@ one_more_counted cs ds c k m n h a e =
     let whole : triplets_in ds ≡ triplets_in cs + (length c + 0) = ap triplets_in e ∙ triplets_in-append cs (c ∷ []) in
     omega (arith, h, a, whole)
 
+-- as many steps as columns have triplets, where these are counted from none on
+pub taken_counted : (before now t n : ℕ) → now ≡ counted before t → t ≡ counted 0 n → now ≡ counted before n
+taken_counted before now t n h k = omega (arith, h, k)
+
 -- the projections have as many triplets as the columns of which they are made
 pub counted_assembled : (fs : Fields) (fields : List Path) (ds es : List (List Triplet)) (n : ℕ) (P : List Node) → AreProjections fs (paths_view fields) ds n P → ds ≡ es
     → triplets_in es ≡ triplets_at (map path_view fields) P

@@ -49,14 +49,16 @@ fn read_columns<L: Link>(
     ensures stays_steady { IsTrue (L.shows link.old).is_steady → IsTrue (L.shows link.new).is_steady }
 {
     let mut columns = Vec::new(alloc);
+    let mut triplets = 0u64;
     'leaves: for index in 0..leaves {
         let column = opened.column(alloc, link, index)?;
-        steps.add(column.len() as u64);
+        triplets = triplets.saturating_add(column.len() as u64);
         match columns.push(column) {
             Ok(()) => {}
             Err(_) => return Err(FileFault::NoMemory),
         }
     }
+    steps.add(triplets);
     Ok(columns)
 }
 

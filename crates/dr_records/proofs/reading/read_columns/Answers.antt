@@ -7,7 +7,7 @@ use Rattle.std.specs.List.{flat_map}
 use Rattle.dr_formats.specs.Opening.{leaf_ranges}
 use Rattle.dr_chunk.specs.Telling.{TellsFile, is_read_inside}
 use Rattle.dr_chunk.proofs.AskLemmas.{asks_then}
-use Rattle.dr_records.proofs.FewLemmas.{one_more_short, one_more_counted}
+use Rattle.dr_records.proofs.FewLemmas.{one_more_short, one_more_counted, taken_counted}
 use Rattle.dr_records.proofs.AskedLemmas.{leaf_asked}
 use Rattle.dr_file.specs.OpenedFiles.{path_of}
 use Rattle.dr_records.specs.FileRecords.{IsColumnsFault}
@@ -41,7 +41,7 @@ leaves-preserved g c = (
       let l = leaf_there F c.leaves.index (omega (arith, c.leaves-test.true, n)) in
       asks_then (is_read_inside (path_of c.args.opened.now) (flat_map (leaf_ranges f) F)) _ _ _ (c.leaves.invariant.5 bytes F f o n e)
       (leaf_asked (path_of c.args.opened.now) f F c.leaves.index l.0 _ _ l.1 (c.column.ensures.asked bytes F l.0 f o l.1 e)),
-  one_more_counted _ _ (column_view c.in_ok-column.column) _ _ _ c.leaves.invariant.6 (c.add.ensures ∙ ap (counted c.leaves.steps) c.len.ensures) (ap (map column_view) c.in-Ok.ensures.items ∙ map-append column_view c.leaves.columns.items (c.in_ok-column.column ∷ [])),
+  one_more_counted _ _ (column_view c.in_ok-column.column) _ _ _ c.leaves.invariant.6 (c.saturating_add.ensures ∙ ap (counted c.leaves.triplets) c.len.ensures) (ap (map column_view) c.in-Ok.ensures.items ∙ map-append column_view c.leaves.columns.items (c.in_ok-column.column ∷ [])),
 )
 
 pub returns-clause-columns : goal.returns-clause-columns
@@ -58,3 +58,6 @@ returns-in-Err-clause-asked g c = λ bytes F f o n e.
     let l = leaf_there F c.leaves.index (omega (arith, c.leaves-test.true, n)) in
     asks_then (is_read_inside (path_of c.args.opened.now) (flat_map (leaf_ranges f) F)) _ _ _ (c.leaves.invariant.5 bytes F f o n e)
     (leaf_asked (path_of c.args.opened.now) f F c.leaves.index l.0 _ _ l.1 (c.column.ensures.asked bytes F l.0 f o l.1 e))
+
+pub returns-clause-counted : goal.returns-clause-counted
+returns-clause-counted g c = taken_counted _ _ _ _ c.add.ensures c.leaves.invariant.6

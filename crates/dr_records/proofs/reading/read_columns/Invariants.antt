@@ -20,4 +20,4 @@ invariant-leaves g l =
     × (are_short (columns_view l.columns.items) ≡ true)
     × ((bytes : List ℕ) (F : List Leaf) (f : Footer) → IsOpened bytes F l.opened → length F ≡ l.leaves → footer_of bytes ≡ Some f
     → AsksOnly (is_read_inside (path_of l.opened) (flat_map (leaf_ranges f) F)) (g.L.Link.shows l.initial.link).asked (g.L.Link.shows l.link).asked)
-    × (l.steps ≡ counted l.initial.steps (triplets_in (columns_view l.columns.items)))
+    × (l.triplets ≡ counted 0 (triplets_in (columns_view l.columns.items)))
