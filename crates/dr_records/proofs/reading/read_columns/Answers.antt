@@ -41,7 +41,7 @@ leaves-preserved g c = (
       let l = leaf_there F c.leaves.index (omega (arith, c.leaves-test.true, n)) in
       asks_then (is_read_inside (path_of c.args.opened.now) (flat_map (leaf_ranges f) F)) _ _ _ (c.leaves.invariant.5 bytes F f o n e)
       (leaf_asked (path_of c.args.opened.now) f F c.leaves.index l.0 _ _ l.1 (c.column.ensures.asked bytes F l.0 f o l.1 e)),
-  one_more_counted _ _ (column_view c.in_ok-column.column) _ _ _ c.leaves.invariant.6 (c.saturating_add.ensures ∙ ap (counted c.leaves.triplets) c.len.ensures) (ap (map column_view) c.in-Ok.ensures.items ∙ map-append column_view c.leaves.columns.items (c.in_ok-column.column ∷ [])),
+  one_more_counted _ _ (column_view c.in_ok-column.column) _ _ _ c.leaves.invariant.6 (c.saturating_add-triplets.ensures ∙ ap (counted c.leaves.triplets) c.len.ensures) (ap (map column_view) c.in-Ok.ensures.items ∙ map-append column_view c.leaves.columns.items (c.in_ok-column.column ∷ [])),
 )
 
 pub returns-clause-columns : goal.returns-clause-columns
