@@ -107,7 +107,8 @@ record_levels xs = filter_map (λ (x : BoundItem). record_level x.term) xs
 
 -- the plan of the objects of items at these levels
 abbrev pub AreObjects : NamedLevels → List (List Step) → ObjectPlan → Type 0
-AreObjects levels qs o = (fs : Fields) (its : List query.RecordItem) → levels ≡ joined (query.levels_of fs) → map (λ (i : query.RecordItem). query.term_level i.term) its ≡ qs → object_view o ≡ object_tree_of fs its
+AreObjects levels qs o = (fs : Fields) (its : List query.RecordItem) → levels ≡ joined (query.levels_of fs)
+    → map (λ (i : query.RecordItem). query.term_level i.term) its ≡ qs → object_view o ≡ object_tree_of fs its
 
 abbrev pub SelectsObjects : NamedLevels → List BoundItem → Selection → Type 0
 SelectsObjects levels xs (Selection.Objects items o) = (items.items ≡ filter_map record_item_of xs) × AreObjects levels (record_levels xs) o
