@@ -75,8 +75,8 @@ fn file_fault(fault: AssembleFault) -> FileFault
 /// The records of the file at a path, projected to these leaves of the schema. The link is asked for the file's size, its two ends, the
 /// footer, and the chunks of these leaves. A step is a triplet of one of these leaves.
 ///
-/// Errors: the link failed, with its counts of faults before and after this call; else the first cause for which the file is none of any
-/// records for these leaves; want of memory.
+/// Errors, at which no step is counted: the link failed, with its counts of faults before and after this call; else the first cause for
+/// which the file is none of any records for these leaves; want of memory.
 fn read_file<L: Link>(
     alloc: Global,
     link: &mut L,
@@ -91,6 +91,7 @@ fn read_file<L: Link>(
     ensures cause { (bytes : List ℕ) → Tells (L.shows link.old) path.now bytes → IfErr result (IsFaultOf bytes (schema_view schema.now) (map path_view fields.now)) }
     ensures few { IfOk result (λ v. AreFew (map path_view fields.now) (nodes_view v.items)) }
     ensures counted { IfOk result (λ v. steps.new ≡ counted steps.old (triplets_at (map path_view fields.now) (nodes_view v.items))) }
+    ensures uncounted { IfErr result (λ e. steps.new ≡ steps.old) }
     ensures asked { (bytes : List ℕ) → Tells (L.shows link.old) path.now bytes → AsksOnly (is_request_for path.now (reader_ranges bytes (map path_view fields.now))) (L.shows link.old).asked (L.shows link.new).asked }
     ensures same { (L.shows link.new).held ≡ (L.shows link.old).held }
     ensures counts { IfErr result (HasCounts (L.shows link.old).faults (L.shows link.new).faults) }
@@ -100,9 +101,13 @@ fn read_file<L: Link>(
     ensures stays_steady { IsTrue (L.shows link.old).is_steady → IsTrue (L.shows link.new).is_steady }
 {
     let opened = Opened::start(alloc, link, path, fields)?;
-    let columns = read_columns(alloc, link, &opened, fields.len(), steps)?;
+    let mut read = Steps::new();
+    let columns = read_columns(alloc, link, &opened, fields.len(), &mut read)?;
     match assemble(alloc, schema, fields, &columns, opened.rows()) {
-        Ok(records) => Ok(records),
+        Ok(records) => {
+            steps.add(read.taken());
+            Ok(records)
+        }
         Err(fault) => Err(file_fault(fault)),
     }
 }
@@ -110,8 +115,8 @@ fn read_file<L: Link>(
 /// The records of the file at a path, projected to these leaves of the schema. The link is asked for the file's size, its two ends, the
 /// footer, and the chunks of these leaves. A step is a triplet of one of these leaves.
 ///
-/// Errors: the link failed, with its counts of faults before and after this call; else the first cause for which the file is none of any
-/// records for these leaves; want of memory.
+/// Errors, at which no step is counted: the link failed, with its counts of faults before and after this call; else the first cause for
+/// which the file is none of any records for these leaves; want of memory.
 pub fn read_records<L: Link>(
     alloc: Global,
     link: &mut L,
@@ -126,6 +131,7 @@ pub fn read_records<L: Link>(
     ensures cause { (bytes : List ℕ) → Tells (L.shows link.old) path.now bytes → IfErr result (IsFaultOf bytes (schema_view schema.now) (map path_view fields.now)) }
     ensures few { IfOk result (λ v. AreFew (map path_view fields.now) (nodes_view v.items)) }
     ensures counted { IfOk result (λ v. steps.new ≡ counted steps.old (triplets_at (map path_view fields.now) (nodes_view v.items))) }
+    ensures uncounted { IfErr result (λ e. steps.new ≡ steps.old) }
     ensures asked { (bytes : List ℕ) → Tells (L.shows link.old) path.now bytes → AsksOnly (is_request_for path.now (reader_ranges bytes (map path_view fields.now))) (L.shows link.old).asked (L.shows link.new).asked }
     ensures same { (L.shows link.new).held ≡ (L.shows link.old).held }
     ensures counts { IfErr result (HasCounts (L.shows link.old).faults (L.shows link.new).faults) }

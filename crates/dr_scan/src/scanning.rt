@@ -35,8 +35,8 @@ use std::alloc::Global;
 /// A plan's partial of the records of the file at a path, of which the plan's leaves alone are read. The link is asked for the file's
 /// size, its two ends, the footer, and the chunks of these leaves. A step is a triplet of one of these leaves.
 ///
-/// Errors: the link failed, with its counts of faults before and after this call; else the first cause for which the file is none of any
-/// records for these leaves; want of memory, or of room for the partial.
+/// Errors, at which no step is counted: the link failed, with its counts of faults before and after this call; else the first cause for
+/// which the file is none of any records for these leaves; want of memory, or of room for the partial.
 pub fn scan<L: Link>(
     alloc: Global,
     plan: &Plan,
@@ -55,6 +55,7 @@ pub fn scan<L: Link>(
     ensures cause { (bytes : List ℕ) → Tells (L.shows link.old) path.now bytes → IfErr result (IsFaultOf bytes (schema_view schema.now) (plan_leaves plan.now)) }
     ensures asked { (bytes : List ℕ) → Tells (L.shows link.old) path.now bytes → AsksOnly (is_request_for path.now (reader_ranges bytes (plan_leaves plan.now))) (L.shows link.old).asked (L.shows link.new).asked }
     ensures counted { (bytes : List ℕ) (R : List Node) → Tells (L.shows link.old) path.now bytes → IsFileOf bytes (schema_view schema.now) (plan_leaves plan.now) R → IfOk result (λ p. steps.new ≡ counted steps.old (triplets_at (plan_leaves plan.now) R)) }
+    ensures uncounted { IfErr result (λ e. steps.new ≡ steps.old) }
     ensures same { (L.shows link.new).held ≡ (L.shows link.old).held }
     ensures counts { IfErr result (HasCounts (L.shows link.old).faults (L.shows link.new).faults) }
     ensures calm { is_read_fault result ≡ false → (L.shows link.new).faults ≡ (L.shows link.old).faults }
@@ -64,9 +65,13 @@ pub fn scan<L: Link>(
     ensures stays_steady { IsTrue (L.shows link.old).is_steady → IsTrue (L.shows link.new).is_steady }
 {
     see_literals(plan);
-    let records = read_records(alloc, link, path, schema, &plan.leaves, steps)?;
+    let mut read = Steps::new();
+    let records = read_records(alloc, link, path, schema, &plan.leaves, &mut read)?;
     match partial_of(alloc, plan, &records) {
-        Ok(partial) => Ok(partial),
+        Ok(partial) => {
+            steps.add(read.taken());
+            Ok(partial)
+        }
         Err(NoMemory) => Err(FileFault::NoMemory),
     }
 }

@@ -6,9 +6,9 @@ use Rattle.dr_nested.specs.SchemaView.{schema_view}
 use Rattle.dr_assemble.specs.Views.{nodes_view}
 use Rattle.dr_outside.specs.Link.{Files}
 use Rattle.dr_chunk.specs.Telling.{TellsFile}
-use Rattle.dr_records.specs.FileRecords.{IsFaultOf}
+use Rattle.dr_records.specs.FileRecords.{IsFaultOf, triplets_in}
 use Rattle.dr_nested.specs.Views.{fields_view}
-use Rattle.dr_records.proofs.FewLemmas.{few_assembled, counted_assembled}
+use Rattle.dr_records.proofs.FewLemmas.{few_assembled, counted_assembled, taken_counted}
 use Rattle.dr_records.proofs.AskedLemmas.{opening_asked, file_asked}
 use Rattle.dr_records.proofs.ColumnsLemmas.{err_is, no_read_fault}
 use Rattle.dr_records.proofs.RecordsLemmas.{have_leaf_paths, columns_fault, records_given, projected_given, assembled_fault}
@@ -89,6 +89,7 @@ returns-in-Ok-clause-few g c =
 
 pub returns-in-Ok-clause-counted : goal.returns-in-Ok-clause-counted
 returns-in-Ok-clause-counted g c =
-    c.in_ok-columns.ensures.counted
+    let read = c.in_ok-columns.ensures.counted ∙ ap (λ n. counted n (triplets_in (columns_view c.in_ok-columns.columns.items))) c.new.ensures in
+    taken_counted _ _ _ _ c.add.ensures (c.taken.ensures ∙ read)
     ∙ ap (counted c.args.steps.now) (counted_assembled (fields_view c.args.schema.now.fields.items) c.args.fields.now (columns_view c.deref.result.now) (columns_view c.in_ok-columns.columns.items) c.rows.result
     (nodes_view c.in-Ok.records.items) c.in-Ok.ensures.records (ap columns_view c.deref.ensures.value))

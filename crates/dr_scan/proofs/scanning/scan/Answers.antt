@@ -2,6 +2,7 @@ use Rattle.std.proofs.Common.{List, map, subst, sym, ap, ◌∙◌}
 use Rattle.dr_formats.specs.File.{IsFileOf}
 use Rattle.dr_assemble.specs.Views.{nodes_view}
 use Rattle.dr_records.specs.FileRecords.{triplets_at}
+use Rattle.dr_records.proofs.FewLemmas.{taken_counted}
 use Rattle.dr_records.proofs.RecordsLemmas.{file_triplets}
 use Rattle.dr_formats.specs.Opening.{reader_ranges}
 use Rattle.dr_nested.specs.SchemaView.{schema_view}
@@ -74,6 +75,7 @@ returns-in-Ok-clause-counted g c = λ bytes R tells is.
     let s = schema_view c.args.schema.now in
     let F = map path_view c.deref.result.now in
     let file = subst (λ (ls : List Path). IsFileOf bytes s (map path_view ls) R) (sym c.deref.ensures.value) is in
-    c.in_ok-records.ensures.counted
+    let read = c.in_ok-records.ensures.counted ∙ ap (λ n. counted n (triplets_at F (nodes_view c.in_ok-records.records.items))) c.new.ensures in
+    taken_counted _ _ _ _ c.add.ensures (c.taken.ensures ∙ read)
     ∙ ap (counted c.args.steps.now)
     (file_triplets bytes s F (nodes_view c.in_ok-records.records.items) R (c.in_ok-records.ensures.records bytes tells) file ∙ ap (λ (ls : List Path). triplets_at (map path_view ls) R) c.deref.ensures.value)
