@@ -1,6 +1,7 @@
 -- The tokens of query text, by computation.
 use Rattle.std.specs.Prelude.{◌≡◌, ℕ, ◌-◌, ◌^◌, List, [], ◌∷◌, ◌++◌, map, length, Option, Some, None, codes, refl}
-use Rattle.dr_meaning.specs.Tokens.{QueryToken, reserved, identifier, number, text, sign, bad, placed, query_tokens, bare_tokens, select_word, from_word, where_word, group_word, by_word, as_word, within_word, record_word, and_word, or_word, not_word, like_word, contains_word, is_word, null_word, true_word, false_word, count_word, sum_word, min_word, max_word, comma, open_parenthesis, close_parenthesis, dot, star, plus_sign, minus_sign, equals, differs, less_than, less_or_equal, greater_than, greater_or_equal, semicolon}
+use Rattle.dr_meaning.specs.Tokens.{QueryToken, Sign, reserved, identifier, number, text, sign, bad, placed, query_tokens, bare_tokens, select_word, from_word, where_word, group_word, by_word, as_word, within_word, record_word, and_word, or_word, not_word, like_word, contains_word, is_word, null_word, true_word, false_word, count_word, sum_word, min_word, max_word, comma, open_parenthesis, close_parenthesis, dot, star, plus_sign, minus_sign, equals, differs, less_than, less_or_equal, greater_than, greater_or_equal, semicolon}
+use Rattle.dr_meaning.specs.Parse.{sign_bytes}
 
 abbrev tokens : List ℕ → List QueryToken
 tokens t = bare_tokens (query_tokens t)
@@ -45,9 +46,16 @@ unclosed_texts = refl
 
 -- ---- signs
 
+abbrev all_signs : List Sign
+all_signs = comma ∷ open_parenthesis ∷ close_parenthesis ∷ dot ∷ star ∷ plus_sign ∷ minus_sign ∷ equals ∷ differs ∷ less_than ∷ less_or_equal ∷ greater_than ∷ greater_or_equal ∷ semicolon ∷ []
+
 pub signs : tokens (codes ",().*+-=<><<=>>=;") ≡ sign comma ∷ sign open_parenthesis ∷ sign close_parenthesis ∷ sign dot ∷ sign star ∷ sign plus_sign ∷ sign minus_sign ∷ sign equals
     ∷ sign differs ∷ sign less_than ∷ sign less_or_equal ∷ sign greater_than ∷ sign greater_or_equal ∷ sign semicolon ∷ []
 signs = refl
+
+-- the bytes of each sign are its token
+pub bytes_of_signs : map (λ (s : Sign). tokens (sign_bytes s)) all_signs ≡ map (λ (s : Sign). sign s ∷ []) all_signs
+bytes_of_signs = refl
 
 -- the longest sign is taken, also at the text's end; a blank between two bytes parts them
 pub longest_signs : map tokens (codes "<>=" ∷ codes "<" ∷ codes ">" ∷ codes "< >" ∷ codes "< =" ∷ codes "> =" ∷ codes "><" ∷ codes "a<b" ∷ codes "a>b" ∷ []) ≡
