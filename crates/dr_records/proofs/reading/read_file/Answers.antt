@@ -89,7 +89,7 @@ returns-in-Ok-clause-few g c =
 
 pub returns-in-Ok-clause-counted : goal.returns-in-Ok-clause-counted
 returns-in-Ok-clause-counted g c =
-    let read = c.in_ok-columns.ensures.counted ∙ ap (λ n. counted n (triplets_in (columns_view c.in_ok-columns.columns.items))) c.new.ensures in
+    let read = c.in_ok-columns.ensures.counted ∙ ap (λ n. counted n (triplets_in (columns_view c.in_ok-columns.columns.items))) c.new-read.ensures in
     taken_counted _ _ _ _ c.add.ensures (c.taken.ensures ∙ read)
     ∙ ap (counted c.args.steps.now) (counted_assembled (fields_view c.args.schema.now.fields.items) c.args.fields.now (columns_view c.deref.result.now) (columns_view c.in_ok-columns.columns.items) c.rows.result
     (nodes_view c.in-Ok.records.items) c.in-Ok.ensures.records (ap columns_view c.deref.ensures.value))

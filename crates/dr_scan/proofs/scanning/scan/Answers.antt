@@ -75,7 +75,7 @@ returns-in-Ok-clause-counted g c = λ bytes R tells is.
     let s = schema_view c.args.schema.now in
     let F = map path_view c.deref.result.now in
     let file = subst (λ (ls : List Path). IsFileOf bytes s (map path_view ls) R) (sym c.deref.ensures.value) is in
-    let read = c.in_ok-records.ensures.counted ∙ ap (λ n. counted n (triplets_at F (nodes_view c.in_ok-records.records.items))) c.new.ensures in
+    let read = c.in_ok-records.ensures.counted ∙ ap (λ n. counted n (triplets_at F (nodes_view c.in_ok-records.records.items))) c.new-read.ensures in
     taken_counted _ _ _ _ c.add.ensures (c.taken.ensures ∙ read)
     ∙ ap (counted c.args.steps.now)
     (file_triplets bytes s F (nodes_view c.in_ok-records.records.items) R (c.in_ok-records.ensures.records bytes tells) file ∙ ap (λ (ls : List Path). triplets_at (map path_view ls) R) c.deref.ensures.value)
