@@ -1,6 +1,8 @@
 -- command lines and what `explain` prints, written out, by computation
 mod WorkedWords
 mod WorkedExplain
+-- what each command looks at and how it goes on, by computation
+mod WorkedOutcomes
 -- what the words of a command line ask for, from clap's answers
 mod WordsLemmas
 -- where clap takes words, the values that have to be there are

@@ -1,5 +1,5 @@
 -- What is printed of a table depends on the leaves that are read alone.
-use Rattle.std.proofs.Common.{◌≡◌, ◌∙◌, ℕ, refl, sym, ap, List, [], ◌∷◌, ◌++◌, map, Option, Result, Ok, Err}
+use Rattle.std.proofs.Common.{◌≡◌, ◌∙◌, ℕ, refl, sym, ap, List, [], ◌∷◌, ◌++◌, map, Result, Ok, Err}
 use Rattle.std.specs.List.{flat_map}
 use Rattle.dr_meaning.specs.Schema.{Schema}
 use Rattle.dr_meaning.specs.Path.{Step, Leaf}
@@ -10,13 +10,10 @@ use Rattle.dr_meaning.specs.Syntax.{QuerySyntax}
 use Rattle.dr_meaning.specs.Parse.{QueryFault, parse_query}
 use Rattle.dr_meaning.specs.BoundExpression.{BindFault}
 use Rattle.dr_meaning.specs.Binding.{bind}
-use Rattle.dr_meaning.specs.BindingLaws.{LeavesAreEnough, QueryLeavesAreLeaves}
 use Rattle.dr_meaning.specs.Print.{record_text, result_text}
 use Rattle.dr_meaning.specs.Ask.{read_query, answer_text, bound_syntax, bound_or_refused}
-use Rattle.dr_meaning.specs.Refusals.{QueryRefusal}
 use Rattle.dr_meaning.proofs.QueryLeavesLemmas.{leaves_are_enough, query_leaves_are_leaves}
 use Rattle.dr_reading.proofs.ReadingLemmas.{read_text_is_meant}
-use Rattle.dr_reading.specs.Held.{SeesLeavesAlone}
 use Rattle.dr_commands.specs.Query.{query_scan}
 use Rattle.dr_commands.specs.ScanLaws.{DumpSeesLeavesAlone, QuerySeesLeavesAlone, QueryPrintsMeaning}
 
