@@ -17,7 +17,7 @@ tar -C "$top" -cf - --exclude out crates crates.txt HANDLES | tar -C "$work/copy
 crate=$work/copy/crates/bench_records
 mkdir -p "$crate/src"
 cp "$top/bench/records/program.txt" "$crate/src/main.rt"
-sed -e '/^\/\/\/ A sink/,$d' -e 's/{Failed, Sink, Source}/{Failed, Source}/' -e 's/{Read, Write}/Read/' "$top/crates/dremel/src/streams.rt" >"$crate/src/streams.rt"
+sed -e '/^\/\/\/ A sink/,$d' -e 's/{Failed, Sink, Source}/{Failed, Source}/' -e 's/{Read, Write}/Read/' "$top/crates/dr_files/src/streams.rt" >"$crate/src/streams.rt"
 for name in find_leaves leaf read_on read_all; do
   mkdir -p "$crate/proofs/$name"
   if [ -f "$top/bench/records/${name}_answers.txt" ]; then cp "$top/bench/records/${name}_answers.txt" "$crate/proofs/$name/Answers.antt"; fi

@@ -1,6 +1,6 @@
 //! Asking a query of an input.
 
-ghost use Rattle.std.specs.Prelude.{◌≡◌, ◌≢◌, ◌<◌, ◌≤◌, ℕ, [], Some, None, Err, MatchOption, ⊤, IsTrue, IfOk, IfErr, OnOk, length, map, string_bytes};
+ghost use Rattle.std.specs.Prelude.{◌≡◌, ◌≢◌, ◌<◌, ◌≤◌, [], Some, None, Err, MatchOption, ⊤, IfOk, IfErr, OnOk, length, string_bytes};
 ghost use Rattle.dr_meaning.specs.Ask.{most_asked};
 ghost use Rattle.dr_meaning.specs.Lines.{records_of};
 ghost use Rattle.dr_meaning.specs.Query.{Query};

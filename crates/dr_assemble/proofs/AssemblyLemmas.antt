@@ -1,22 +1,19 @@
 -- What is restored, where it has the given columns, are the projections of the records that have them; where it hasn't, no records have them.
-use Rattle.std.proofs.Common.{◌≡◌, ℕ, List, [], ◌∷◌, ◌++◌, map, length, Bool, true, false, ◌&&◌, ◌||◌, Option, Some, None, refl, sym, ap, ap₂, ◌∙◌, subst, eq-eqb, append_assoc, append-nil, take, get_or, add-one, ◌+◌, ◌<◌}
-use Rattle.std.proofs.lemmas.List.{length-map, map-append}
-use Rattle.std.proofs.Math.Seq.{take-suc}
-use Rattle.std.specs.Prelude.{◌==◌, Result, Ok, Err, IfOk, IsErrOf, replicate}
+use Rattle.std.proofs.Common.{◌≡◌, ℕ, List, [], ◌∷◌, map, length, Bool, true, false, ◌&&◌, ◌||◌, Option, Some, None, refl, sym, ap, ap₂, ◌∙◌, subst, eq-eqb}
+use Rattle.std.proofs.lemmas.List.{length-map}
+use Rattle.std.specs.Prelude.{◌==◌, Result, Ok, Err, IfOk, IsErrOf}
 use Rattle.std.specs.List.{list_all, list_any}
 use Rattle.dr_meaning.specs.Schema.{Fields}
 use Rattle.dr_meaning.specs.Path.{Step, is_leaf_path, begins_with}
 use Rattle.dr_meaning.specs.Record.{Node, project}
-use Rattle.dr_meaning.specs.Column.{Triplet, record_column, column}
+use Rattle.dr_meaning.specs.Column.{Triplet, column}
 use Rattle.dr_meaning.specs.ProjectionLaws.{leads}
 use Rattle.dr_meaning.proofs.MeaningLemmas.{column_of_projections}
-use Rattle.dr_nested.specs.Views.{node_view}
-use Rattle.dr_nested.specs.declared.path.Path.{Path}
 use Rattle.dr_nested.specs.declared.record.Node as code
 use Rattle.dr_assemble.specs.Restoring.{strips}
 use Rattle.dr_assemble.proofs.ByPaths.{restored_records}
 use Rattle.dr_assemble.specs.Assembly.{HasColumns}
-use Rattle.dr_assemble.specs.Views.{paths_view, nodes_view, columns_at, Restores}
+use Rattle.dr_assemble.specs.Views.{Restores}
 use Rattle.dr_assemble.specs.declared.fault.AssembleFault.{AssembleFault}
 use Rattle.dr_assemble.proofs.StripLemmas.{strips_of, strips_of_map}
 use Rattle.dr_assemble.proofs.RestoringLemmas.{restored_of_columns}

@@ -1,13 +1,12 @@
 -- Passing one list of triplets, then another.
 use Rattle.std.specs.Prelude.{◌≡◌, ◌<◌, ◌≤◌, ℕ, zero, suc, ◌+◌, ◌-◌, List, [], ◌∷◌, ◌++◌, length, map, take, drop, get_or, Bool, true, false}
-use Rattle.std.proofs.Common.{refl, sym, ap, ap₂, ◌∙◌, arith, subst, append_assoc, append-nil, add-one}
-use Rattle.std.proofs.Math.Seq.{take-suc}
-use Rattle.std.proofs.lemmas.List.{map-append, take_all, drop_more}
+use Rattle.std.proofs.Common.{refl, sym, ap, ap₂, ◌∙◌, arith, subst, append_assoc, append-nil}
+use Rattle.std.proofs.lemmas.List.{take_all, drop_more}
 use Rattle.dr_meaning.specs.Schema.{repetition_count, definition_count}
 use Rattle.dr_meaning.specs.Path.{Step}
-use Rattle.dr_meaning.specs.Record.{Instances, no_instances, instance, Instance, instances_in}
+use Rattle.dr_meaning.specs.Record.{Instances, instance, Instance, instances_in}
 use Rattle.dr_meaning.specs.Column.{Triplet, each_later, instance_column, record_column, column}
-use Rattle.dr_nested.specs.Views.{instance_view, instances_view, instances_of}
+use Rattle.dr_nested.specs.Views.{instance_view, instances_view}
 use Rattle.dr_nested.specs.Views.{node_view}
 use Rattle.dr_nested.specs.PathView.{step_view}
 use Rattle.dr_nested.specs.declared.record.Instance as code

@@ -1,8 +1,7 @@
 -- Cutting the strips of a group, one after another.
-use Rattle.std.proofs.Common.{◌≡◌, ℕ, ◌+◌, ◌<◌, List, [], ◌∷◌, ◌++◌, map, length, get_or, take, drop, refl, sym, ap, ap₂, ◌∙◌, arith, add-one}
+use Rattle.std.proofs.Common.{◌≡◌, ℕ, ◌+◌, ◌<◌, List, [], ◌∷◌, ◌++◌, map, length, get_or, take, drop, sym, ap, ap₂, ◌∙◌, arith}
 use Rattle.std.proofs.Math.ListN.{set}
 use Rattle.std.proofs.lemmas.List.{take_more_set, take_more, drop_more, drop-set-lt, map-append, length-drop}
-use Rattle.dr_meaning.specs.Column.{Triplet}
 use Rattle.dr_assemble.specs.Restoring.{Strip, strip, first_piece, later_pieces, first_pieces, other_pieces}
 use Rattle.dr_assemble.specs.Views.{strip_view, strips_view}
 use Rattle.dr_assemble.specs.declared.strip.Strip as code

@@ -6,7 +6,7 @@ use Rattle.std.proofs.lemmas.Str.{is_utf8-from_IsUtf8, IsUtf8-nil}
 use Rattle.dr_meaning.specs.Schema.{Repetition, required, optional, repeated, Kind, bool_kind, int32_kind, int64_kind, text_kind, Fields, no_fields, field, Shape, leaf, group, repetition_count, definition_count}
 use Rattle.dr_meaning.specs.Path.{Step}
 use Rattle.dr_meaning.specs.Record as record_tree
-use Rattle.dr_meaning.specs.Record.{Value, bool_value, int_value, text_value, Node, no_slots, slot, gap, Instances, no_instances, instance, Instance, atom, inner, is_of_kind, count_instances, fits_repetition, all_instances, is_record, is_instance, slot_for, project, project_all, project_one}
+use Rattle.dr_meaning.specs.Record.{Value, bool_value, int_value, text_value, Node, no_slots, slot, Instances, no_instances, instance, Instance, atom, inner, is_of_kind, count_instances, fits_repetition, all_instances, is_record, is_instance, slot_for, project, project_all, project_one}
 use Rattle.dr_meaning.specs.Column.{Triplet}
 use Rattle.dr_nested.specs.Views.{instances_of}
 use Rattle.dr_assemble.specs.Restoring.{Strip, count_pieces, first_pieces, other_pieces, before, restored_each, first_definition, first_strip_value, restored_instances, restored_slot, onto_node, slot_before, restored_atom, has_rows}

@@ -1,11 +1,10 @@
 -- The front of the strips that lead into a field.
-use Rattle.std.proofs.Common.{◌≡◌, ℕ, zero, suc, ◌+◌, ◌-◌, ◌<◌, ◌≤◌, List, [], ◌∷◌, ◌++◌, map, length, get_or, take, drop, Bool, true, false, refl, sym, ap, ◌∙◌, arith, append-nil, subst, length-drop}
-use Rattle.std.specs.Prelude.{◌==◌, if◌then◌else◌}
+use Rattle.std.proofs.Common.{◌≡◌, ℕ, ◌+◌, ◌-◌, ◌<◌, ◌≤◌, List, [], ◌∷◌, ◌++◌, map, length, get_or, take, drop, false, refl, sym, ap, ◌∙◌, arith, append-nil, subst, length-drop}
 use Rattle.std.proofs.lemmas.List.{drop_more, take-map, drop-map, take_all, drop-drop}
 use Rattle.dr_meaning.specs.Path.{Step}
 use Rattle.dr_meaning.specs.Column.{Triplet}
 use Rattle.dr_assemble.specs.Pieces.{begins_at}
-use Rattle.dr_assemble.specs.Restoring.{Strip, strip, without_step, front_if, front_at, after_if, after_front}
+use Rattle.dr_assemble.specs.Restoring.{Strip, without_step, front_if, front_at, after_if, after_front}
 use Rattle.dr_assemble.specs.Views.{strip_view, strips_view}
 use Rattle.dr_assemble.specs.declared.strip.Strip as code
 

@@ -1,11 +1,9 @@
 -- What the loops restore, one after another.
-use Rattle.std.proofs.Common.{◌≡◌, ℕ, zero, suc, ◌+◌, ◌<◌, ◌≤◌, List, [], ◌∷◌, ◌++◌, length, get_or, take, drop, true, false, Option, Some, None, refl, sym, ap, ap₂, ◌∙◌, subst, arith, add-one, append_assoc, append-nil, string_bytes}
-use Rattle.std.specs.Prelude.{option_map, ◌==◌, if◌then◌else◌, nat_lt, Result, Ok, Err}
+use Rattle.std.proofs.Common.{◌≡◌, ℕ, zero, suc, ◌+◌, ◌<◌, ◌≤◌, List, [], ◌∷◌, ◌++◌, length, get_or, take, drop, true, Option, Some, None, refl, sym, ap, ◌∙◌, subst, arith, add-one, append_assoc, append-nil, string_bytes}
+use Rattle.std.specs.Prelude.{option_map, nat_lt, Result, Ok, Err}
 use Rattle.std.specs.Result.{IsErrAnd}
 use Rattle.std.proofs.lemmas.List.{drop_more, drop_all, take_all}
-use Rattle.std.proofs.lemmas.Bool.Decides.{nat_tests}
 use Rattle.dr_meaning.specs.Schema as tree
-use Rattle.dr_meaning.specs.Path.{Step}
 use Rattle.dr_meaning.specs.Record.{Node, no_slots, Instances}
 use Rattle.dr_meaning.specs.Column.{Triplet}
 use Rattle.dr_nested.specs.declared.shape.Field.{Field}

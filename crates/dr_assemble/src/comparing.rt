@@ -4,7 +4,7 @@ ghost use Rattle.std.specs.Prelude.{◌≡◌, ◌≤◌, ◌<◌, ◌+◌, ◌�
 ghost use Rattle.dr_meaning.specs.Schema.{greatest_depth, repetition_count, definition_count};
 ghost use Rattle.dr_meaning.specs.Record as record_tree;
 ghost use Rattle.dr_meaning.specs.Column as meant;
-ghost use Rattle.dr_nested.specs.Views.{value_view, instance_view, instances_view, node_view};
+ghost use Rattle.dr_nested.specs.Views.{instance_view, instances_view, node_view};
 ghost use Rattle.dr_nested.specs.PathView.{step_view, path_view};
 ghost use Rattle.dr_levels.specs.Views.{triplets_view, column_view, columns_view};
 ghost use Rattle.dr_assemble.specs.Comparing.{Passes, lent_value, field_column};

@@ -1,6 +1,6 @@
 //! Restoring nodes of the triplets of their leaves.
 
-ghost use Rattle.std.specs.Prelude.{◌≡◌, ◌≤◌, ◌+◌, [], ◌∷◌, map, nat_lt, pos, option_map};
+ghost use Rattle.std.specs.Prelude.{◌≡◌, ◌≤◌, ◌+◌, [], ◌∷◌, map, nat_lt, option_map};
 ghost use Rattle.dr_meaning.specs.Schema.{depth, shape_depth, greatest_depth};
 ghost use Rattle.dr_meaning.specs.Record as record_tree;
 ghost use Rattle.dr_nested.specs.Views.{rep_view, kind_view, shape_view, fields_view, value_view, instance_view, slot_view, node_view};

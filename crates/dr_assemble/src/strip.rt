@@ -1,6 +1,6 @@
 //! Strips: the triplets of a leaf in an instance of a group.
 
-ghost use Rattle.std.specs.Prelude.{◌≡◌, ◌≤◌, ◌<◌, ℕ, [], ◌∷◌, ◌++◌, length, map, take, drop, IfOk, OnOk, Vec, slice_index_or};
+ghost use Rattle.std.specs.Prelude.{◌≡◌, ◌≤◌, ◌<◌, [], length, map, take, drop, IfOk, Vec};
 ghost use Rattle.std.specs.declared.alloc.Global.{Global};
 ghost use Rattle.dr_levels.specs.Views.{triplets_view};
 ghost use Rattle.dr_assemble.specs.Pieces as pieces;

@@ -1,6 +1,6 @@
 //! Binding a query to a schema.
 
-ghost use Rattle.std.specs.Prelude.{◌≡◌, ◌++◌, map, true, IfOk};
+ghost use Rattle.std.specs.Prelude.{◌≡◌, IfOk};
 ghost use Rattle.dr_meaning.specs.Binding as meant;
 ghost use Rattle.dr_nested.specs.SchemaView.{schema_view};
 ghost use Rattle.dr_objects.specs.NamedLevels.{joined, levels_view};

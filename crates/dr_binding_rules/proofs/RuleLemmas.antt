@@ -7,10 +7,10 @@ use Rattle.std.proofs.lemmas.Bool.{eqb-true, eq-eqb, false≢true}
 use Rattle.std.proofs.lemmas.List.{drop_all}
 use Rattle.dr_meaning.specs.Schema.{Fields}
 use Rattle.dr_meaning.specs.Path as path_meaning
-use Rattle.dr_meaning.specs.Path.{Leaf, begins_with}
+use Rattle.dr_meaning.specs.Path.{Leaf}
 use Rattle.dr_meaning.specs.Query.{Levels, key}
 use Rattle.dr_meaning.specs.BoundExpression as meant
-use Rattle.dr_meaning.specs.BoundExpression.{BindFault, Checked, passes, fails, together, unrelated, duplicate_name, not_grouped, bad_within, fault_at, unrelated_after, unrelated_among}
+use Rattle.dr_meaning.specs.BoundExpression.{BindFault, Checked, passes, fails, together, unrelated, duplicate_name, bad_within, fault_at, unrelated_after, unrelated_among}
 use Rattle.dr_meaning.specs.Binding as binding
 use Rattle.dr_meaning.specs.Binding.{first_fault, passing, all_passed, where_passed, duplicate_faults}
 use Rattle.dr_nested.specs.PathView.{step_view}

@@ -6,7 +6,7 @@ use Rattle.dr_formats.specs.Varint.{varint_bytes}
 use Rattle.std.specs.declared.alloc.Global.{Global}
 use Rattle.std.proofs.lemmas.List.{append-nil, drop_more, drop_all, length-map}
 use Rattle.dr_formats.specs.Compact as compact
-use Rattle.dr_formats.specs.Compact.{ThriftType, Item, Items, Pairs, Struct, struct_bytes, fields_bytes, item_bytes, items_bytes, pairs_bytes, in_field, item_type, header_bytes, count_pairs, count_items}
+use Rattle.dr_formats.specs.Compact.{ThriftType, Item, Pairs, Struct, struct_bytes, fields_bytes, item_bytes, items_bytes, pairs_bytes, in_field, item_type, header_bytes, count_pairs, count_items}
 use Rattle.dr_memory.specs.declared.NoMemory.{NoMemory}
 use Rattle.dr_compact.specs.declared.tree.Values.{Values}
 use Rattle.dr_compact.specs.declared.tree.Field.{Field}

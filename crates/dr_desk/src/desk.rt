@@ -1,6 +1,6 @@
-ghost use Rattle.std.specs.Prelude.{◌≡◌, [], true, false, None, ◌||◌, replicate, IfOk, IfSome, IfNone, MatchBool};
+ghost use Rattle.std.specs.Prelude.{◌≡◌, [], true, None, ◌||◌, replicate, IfOk, IfSome, IfNone, MatchBool};
 ghost use mathlib.Core.List.{IsPrefix};
-ghost use Rattle.dr_dispatch.specs.History.{has_give, has_answer, has_fault, is_recorded, is_history};
+ghost use Rattle.dr_dispatch.specs.History.{has_give, has_answer, has_fault, is_history};
 ghost use Rattle.dr_dispatch.specs.Choice.{choice};
 ghost use Rattle.dr_dispatch.specs.Pieces.{KeepsPieces};
 ghost use Rattle.dr_dispatch.specs.Seen.{AreOfHistory};

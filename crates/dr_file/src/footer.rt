@@ -1,7 +1,7 @@
 //! A file's footer.
 
-ghost use Rattle.std.specs.Prelude.{◌≡◌, ◌≢◌, ◌++◌, ℕ, List, take, drop, true, false, IfOk, Err, IsTrue};
-ghost use Rattle.dr_formats.specs.File.{is_framed, footer_place, footer_length};
+ghost use Rattle.std.specs.Prelude.{◌≡◌, ◌≢◌, ◌++◌, ℕ, List, false, IfOk, Err, IsTrue};
+ghost use Rattle.dr_formats.specs.File.{is_framed};
 ghost use Rattle.dr_formats.specs.Opening.{end_ranges, footer_ranges};
 ghost use Rattle.dr_outside.specs.Faults.{raised};
 ghost use Rattle.dr_chunk.specs.Telling.{Tells, AsksOnly, Serves};

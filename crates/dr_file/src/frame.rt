@@ -1,6 +1,6 @@
 //! The two ends of a file, between which its footer lies.
 
-ghost use Rattle.std.specs.Prelude.{◌≡◌, ◌≢◌, ◌≤◌, ◌-◌, ◌+◌, ◌++◌, ℕ, List, length, take, true, false, IfOk, IfSome, IfNone, Err, IsTrue};
+ghost use Rattle.std.specs.Prelude.{◌≡◌, ◌≢◌, ◌≤◌, ◌-◌, ℕ, List, length, take, true, false, IfOk, IfSome, IfNone, Err, IsTrue};
 ghost use Rattle.dr_formats.specs.LittleEndian.{little_endian};
 ghost use Rattle.dr_formats.specs.File.{is_framed};
 ghost use Rattle.dr_formats.specs.Opening.{end_ranges};

@@ -5,7 +5,7 @@ ghost use Rattle.std.specs.List.{list_all};
 ghost use Rattle.dr_formats.specs.File.{is_whole_group, chunk_values};
 ghost use Rattle.dr_formats.specs.FileSchema.{file_schema};
 ghost use Rattle.dr_meta.specs.OneTree.{count_leaves};
-ghost use Rattle.dr_meta.specs.Views.{file_view, group_view, groups_view};
+ghost use Rattle.dr_meta.specs.Views.{file_view, group_view};
 ghost use Rattle.dr_file.specs.Groups.{lent_meta, chunk_of, are_rows, are_triplets, is_uncompressed_at};
 ghost use Rattle.dr_file.specs.Openings.{footer_with, IsNoFooter};
 

@@ -1,6 +1,6 @@
 //! The rows of groups.
 
-ghost use Rattle.std.specs.Prelude.{◌≡◌, ◌++◌, ◌∷◌, [], drop, IfOk, OnOk, map, option_map};
+ghost use Rattle.std.specs.Prelude.{◌≡◌, ◌++◌, ◌∷◌, [], drop, IfOk, OnOk, map};
 ghost use Rattle.dr_meaning.specs.Query.{nth_value};
 ghost use Rattle.dr_partials.specs.Accumulators.{result_of};
 ghost use Rattle.dr_cells.specs.Results.{value_cell};

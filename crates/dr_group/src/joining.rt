@@ -1,7 +1,6 @@
 //! What two accumulators of one aggregate have gathered together.
 
-ghost use Rattle.std.specs.Prelude.{◌≡◌, ◌≤◌, ◌^◌, ◌*◌, ◌+ℤ◌, if◌then◌else◌, IfSome};
-ghost use Rattle.std.specs.Int.RustNames.{unsigned_abs};
+ghost use Rattle.std.specs.Prelude.{◌≡◌, ◌≤◌, ◌^◌, ◌*◌, ◌+ℤ◌, if◌then◌else◌};
 ghost use Rattle.dr_meaning.specs.Query.{smaller, larger};
 ghost use Rattle.dr_partials.specs.Accumulators as meant;
 ghost use Rattle.dr_partials.specs.PartialBounds.{CanBeOf, AllCanBeOf};

@@ -1,7 +1,7 @@
 //! Merging groups.
 
-ghost use Rattle.std.specs.Prelude.{◌≡◌, ◌<◌, ◌≤◌, ◌+◌, ◌^◌, ◌++◌, ◌∷◌, [], true, IfOk, length, map, take, drop, nat_lt, slice_set, vec_len, vec_capacity};
-ghost use Rattle.std.specs.List.{list_all, range_with_len};
+ghost use Rattle.std.specs.Prelude.{◌≡◌, ◌<◌, ◌≤◌, ◌+◌, ◌^◌, ◌++◌, ◌∷◌, [], true, IfOk, length, map, take, drop, slice_set, vec_len, vec_capacity};
+ghost use Rattle.std.specs.List.{range_with_len};
 ghost use Rattle.dr_partials.specs.Partials.{merge_groups};
 ghost use Rattle.dr_partials.specs.PartialBounds.{GroupsCanBeOf};
 ghost use Rattle.dr_group.specs.Groups.{group_at, group_view, picked};

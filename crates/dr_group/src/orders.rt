@@ -1,8 +1,7 @@
 //! The order of values, of cells and of key tuples.
 
-ghost use Rattle.std.specs.Prelude.{◌≡◌, map, option_map};
+ghost use Rattle.std.specs.Prelude.{◌≡◌, map};
 ghost use Rattle.dr_meaning.specs.Query as meant;
-ghost use Rattle.dr_nested.specs.Views.{value_view};
 ghost use Rattle.dr_levels.specs.Views.{lent_value};
 ghost use Rattle.dr_group.specs.Views.{lent_cell, cell_view};
 

@@ -1,6 +1,6 @@
 -- Unpacking: eight values of a word, one value of a word, and the loops over them.
 use Rattle.std.proofs.Common.{◌≡◌, ℕ, zero, suc, ◌+◌, ◌-◌, ◌*◌, ◌/◌, ◌%◌, ◌^◌, ◌≤◌, ◌<◌, List, [], ◌∷◌, ◌++◌, length, take, drop, replicate, set, refl, sym, ap, ap₂, ◌∙◌, arith, pow_mono, Option, Some, None}
-use Rattle.std.proofs.lemmas.List.{length-append, length-take, length-drop, length-replicate, length-set, take_all, drop-replicate, take_more_set}
+use Rattle.std.proofs.lemmas.List.{length-append, length-take, length-drop, length-replicate, length-set, take_all, take_more_set}
 use Rattle.std.proofs.lemmas.Slice.{take-put_mid}
 use borrow.Rule.Slice.PartMut.{put_mid}
 use Rattle.std.specs.Prelude.{bit_and, IfSome, IfNone, SomeIff}

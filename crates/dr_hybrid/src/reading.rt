@@ -1,6 +1,6 @@
 //! Reading a run.
 
-ghost use Rattle.std.specs.Prelude.{◌≡◌, ◌≤◌, ◌*◌, IfOk, OnErr};
+ghost use Rattle.std.specs.Prelude.{◌≡◌, ◌≤◌, IfOk, OnErr};
 ghost use Rattle.dr_formats.specs.Reading.{got};
 ghost use Rattle.dr_formats.specs.Hybrid.{short, run};
 ghost use Rattle.dr_bytes.specs.Cutting.{left};

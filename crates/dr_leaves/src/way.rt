@@ -1,7 +1,6 @@
 //! The way from the root of a schema to a field.
 
-ghost use Rattle.std.specs.Prelude.{◌≡◌, ◌<◌, ◌≤◌, length, map, string_bytes, IfOk};
-ghost use Rattle.dr_meaning.specs.Schema.{greatest_depth};
+ghost use Rattle.std.specs.Prelude.{◌≡◌, ◌<◌, IfOk};
 ghost use Rattle.dr_nested.specs.PathView.{step_view};
 ghost use Rattle.dr_leaves.specs.Ways.{way_view, way_below, root_way};
 

@@ -1,6 +1,6 @@
 //! The values of a column, in one vector of their kind.
 
-ghost use Rattle.std.specs.Prelude.{◌≡◌, ◌<◌, ◌≤◌, ◌+◌, ◌++◌, ◌∷◌, [], length, take, drop, map, true, option_map, IfSome};
+ghost use Rattle.std.specs.Prelude.{◌≡◌, ◌<◌, ◌≤◌, ◌+◌, ◌∷◌, [], length, take, drop, map, true, option_map, IfSome};
 ghost use Rattle.dr_meaning.specs.Record.{bool_value, int_value};
 ghost use Rattle.dr_meaning.specs.Schema as tree;
 ghost use Rattle.dr_nested.specs.Views.{kind_view};

@@ -1,7 +1,7 @@
 //! Striping the records of one tablet.
 
-ghost use Rattle.std.specs.Prelude.{◌≡◌, ◌≢◌, ◌≤◌, ◌<◌, ◌+◌, ◌^◌, [], Some, None, Err, true, false, map, MatchOption, ⊤, IfOk, IfErr, OnOk};
-ghost use Rattle.dr_meaning.specs.Path.{Leaf, leaves};
+ghost use Rattle.std.specs.Prelude.{◌≡◌, ◌≢◌, ◌≤◌, ◌<◌, ◌+◌, ◌^◌, [], Some, None, Err, true, false, MatchOption, ⊤, IfOk, IfErr, OnOk};
+ghost use Rattle.dr_meaning.specs.Path.{leaves};
 ghost use Rattle.dr_nested.specs.Views.{fields_view};
 ghost use Rattle.dr_levels.specs.Views.{forms_view};
 ghost use Rattle.dr_striper.specs.Striping.{leaves_of, forms_of};

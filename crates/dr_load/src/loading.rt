@@ -1,6 +1,6 @@
 //! Loading a table.
 
-ghost use Rattle.std.specs.Prelude.{◌≡◌, ◌≢◌, ◌∷◌, [], ◌≤◌, Some, None, Err, MatchOption, ⊤, IsTrue, IfOk, IfErr, OnOk, OnErr};
+ghost use Rattle.std.specs.Prelude.{◌≡◌, ◌≢◌, ◌∷◌, [], Some, None, Err, MatchOption, ⊤, IsTrue, IfOk, IfErr, OnOk, OnErr};
 ghost use Rattle.dr_formats.specs.TableFile.{table_text};
 ghost use Rattle.dr_formats.specs.Loading as meant;
 ghost use Rattle.dr_outside.specs.Faults.{raised};

@@ -3,22 +3,14 @@
 ghost use Rattle.std.specs.Prelude.{◌≡◌, List, map, true, IfOk};
 ghost use Rattle.dr_meaning.specs.Kept as kept_meaning;
 ghost use Rattle.dr_meaning.specs.Path.{Step as MeantStep};
-ghost use Rattle.dr_meaning.specs.Schema.{Fields};
 ghost use Rattle.dr_meaning.specs.Record as record_tree;
 ghost use Rattle.dr_meaning.specs.Rows as rows_meaning;
-ghost use Rattle.dr_meaning.specs.Query.{Query};
-ghost use Rattle.dr_meaning.specs.QueryLeaves.{query_leaves};
-ghost use Rattle.dr_meaning.specs.BindingLaws.{has_shapes};
 ghost use Rattle.dr_nested.specs.Views.{node_view};
 ghost use Rattle.dr_nested.specs.PathView.{step_view};
-ghost use Rattle.dr_plan.specs.Conjuncts.{all_of};
-ghost use Rattle.dr_plan.specs.Planned.{plan_leaves};
-ghost use Rattle.dr_plan.specs.Views.{truth_view};
 ghost use Rattle.dr_rows.specs.Known.{known};
 ghost use Rattle.dr_rows.specs.Pruning.{kept_if};
 ghost use Rattle.dr_rows.specs.Views.{paths_view, rows_view};
 ghost use Rattle.dr_scalar.specs.Tests.{all_true};
-ghost use Rattle.dr_mean.specs.Levels.{expressions_level};
 ghost use Rattle.dr_mean.specs.RowsOf.{IsTyped};
 ghost use Rattle.dr_mean.specs.Condition.{plan_kept, plan_tests};
 

@@ -1,7 +1,7 @@
 //! Key tuples of rows.
 
 ghost use Rattle.std.specs.Prelude.{◌≡◌, List, map, option_map, true, OnOk};
-ghost use Rattle.std.specs.List.{list_all, slice_get};
+ghost use Rattle.std.specs.List.{slice_get};
 ghost use Rattle.dr_meaning.specs.Path.{Leaf};
 ghost use Rattle.dr_meaning.specs.Record as record_tree;
 ghost use Rattle.dr_meaning.specs.Query.{key_tuple};

@@ -1,11 +1,11 @@
 //! The levels of a plan's expressions: the longest chain among their leaves.
 
-ghost use Rattle.std.specs.Prelude.{◌≡◌, List, map};
+ghost use Rattle.std.specs.Prelude.{◌≡◌, map};
 ghost use Rattle.std.specs.List.{slice_get};
 ghost use Rattle.dr_meaning.specs.Expression as meant;
 ghost use Rattle.dr_meaning.specs.Path as path_meaning;
 ghost use Rattle.dr_nested.specs.PathView.{step_view, path_view};
-ghost use Rattle.dr_plan.specs.Views.{expr_view, leaf_value, number_view, path_of, text_view, truth_view};
+ghost use Rattle.dr_plan.specs.Views.{expr_view, number_view, path_of, text_view, truth_view};
 ghost use Rattle.dr_mean.specs.Levels.{expressions_level};
 
 use dr_chains::level;

@@ -1,6 +1,6 @@
 //! The objects of a record query, as cells of a result.
 
-ghost use Rattle.std.specs.Prelude.{◌≡◌, ◌≤◌, ◌++◌, ◌∷◌, [], ℕ, List, filter, length, map, true, is_some, IfOk, OnOk};
+ghost use Rattle.std.specs.Prelude.{◌≡◌, ◌++◌, ◌∷◌, [], List, filter, length, map, true, is_some, IfOk, OnOk};
 ghost use Rattle.std.specs.List.{flat_map, slice_get};
 ghost use Rattle.dr_meaning.specs.Path.{Step as MeantStep, begins_with};
 ghost use Rattle.dr_meaning.specs.Query.{RecordItem as MeantItem, term_value};

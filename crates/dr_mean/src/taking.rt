@@ -14,7 +14,6 @@ ghost use Rattle.dr_rows.specs.Views.{paths_view, rows_view};
 ghost use Rattle.dr_scalar.specs.Slots.{AreValues};
 ghost use Rattle.dr_scalar.specs.Views.{evaluated_view};
 ghost use Rattle.dr_levels.specs.Views.{lent_value};
-ghost use Rattle.dr_mean.specs.Keys.{are_leaves};
 ghost use Rattle.dr_mean.specs.RowsOf.{IsTyped};
 ghost use Rattle.dr_mean.specs.Takings.{taking_fits, value_taken, taken_with, put_of};
 

@@ -9,7 +9,6 @@ ghost use Rattle.dr_meaning.specs.Record as record_tree;
 ghost use Rattle.dr_meaning.specs.Rows as rows_meaning;
 ghost use Rattle.dr_partials.specs.Accumulators.{accumulated, result_of, take_value};
 ghost use Rattle.dr_plan.specs.Fitting.{expr_fits};
-ghost use Rattle.dr_plan.specs.Planned.{plan_leaves};
 ghost use Rattle.dr_plan.specs.Views.{expr_view, fold_view};
 ghost use Rattle.dr_cells.specs.Results.{value_cell};
 ghost use Rattle.dr_cells.specs.Views.{cells_view};

@@ -1,5 +1,5 @@
 -- The tokens of query text, by computation.
-use Rattle.std.specs.Prelude.{◌≡◌, ℕ, ◌-◌, ◌^◌, List, [], ◌∷◌, ◌++◌, map, length, Option, Some, None, codes, refl}
+use Rattle.std.specs.Prelude.{◌≡◌, ℕ, ◌-◌, ◌^◌, List, [], ◌∷◌, ◌++◌, map, codes, refl}
 use Rattle.dr_meaning.specs.Tokens.{QueryToken, Sign, reserved, identifier, number, text, sign, bad, placed, query_tokens, bare_tokens, select_word, from_word, where_word, group_word, by_word, as_word, within_word, record_word, and_word, or_word, not_word, like_word, contains_word, is_word, null_word, true_word, false_word, count_word, sum_word, min_word, max_word, comma, open_parenthesis, close_parenthesis, dot, star, plus_sign, minus_sign, equals, differs, less_than, less_or_equal, greater_than, greater_or_equal, semicolon}
 use Rattle.dr_meaning.specs.Parse.{sign_bytes}
 

@@ -1,19 +1,19 @@
 -- Fields put behind one another.
-use Rattle.std.proofs.Common.{◌≡◌, ℕ, ℤ, List, [], ◌∷◌, ◌++◌, map, refl, sym, ap, ◌∙◌, Bool}
+use Rattle.std.proofs.Common.{◌≡◌, ℕ, ℤ, List, [], ◌∷◌, ◌++◌, map, refl, sym, ap, ◌∙◌}
 use Rattle.std.specs.Prelude.{Vec}
 use Rattle.std.specs.declared.alloc.Global.{Global}
 use Rattle.std.proofs.lemmas.List.{map-append}
 use denote.Ref.{Bor}
 use Rattle.dr_formats.specs.Compact as compact
-use Rattle.dr_formats.specs.Compact.{Struct, struct_field, Item, list_item, struct_item, i32_type, i32_item, binary_type, binary_item, struct_type}
+use Rattle.dr_formats.specs.Compact.{Struct, struct_field, list_item, struct_item, i32_type, i32_item, binary_type, binary_item, struct_type}
 use Rattle.dr_formats.specs.Metadata.{items_of, structs}
 use Rattle.dr_compact.specs.declared.tree.Field.{Field}
 use Rattle.dr_compact.specs.declared.tree.Tree.{Tree}
 use Rattle.dr_compact.specs.declared.tree.Item.TheVariants as items
 use Rattle.dr_compact.specs.declared.tree.Values.TheVariants as lists
-use Rattle.dr_compact.specs.Views.{SeenField, item_view, field_view, tree_view, values_view, struct_onto, items_from}
+use Rattle.dr_compact.specs.Views.{SeenField, item_view, field_view, tree_view, struct_onto, items_from}
 use Rattle.dr_compact.proofs.StepLemmas.{seen_field, onto_field}
-use Rattle.dr_compact.proofs.ViewLemmas.{view-field, view-list, view-structs, view-i32s, view-binaries, as_struct, lent_binary, seen}
+use Rattle.dr_compact.proofs.ViewLemmas.{view-field, view-list, view-structs, view-i32s, view-binaries, as_struct, lent_binary}
 use Rattle.dr_meta.specs.Views.{lent}
 
 pub onto_put : (fs gs : List Field) (f : Field) (id : ℤ) → gs ≡ fs ++ f ∷ [] → f.id ≡ id → (rest : Struct) → struct_onto (map field_view gs) rest ≡ struct_onto (map field_view fs) (struct_field id (item_view f.item) rest)

@@ -5,7 +5,7 @@ use Rattle.std.specs.Option.{is_some}
 use Rattle.std.proofs.lemmas.List.{length-append, length-map, reverse-append, reverse-reverse}
 use Rattle.dr_meaning.specs.Schema.{Repetition}
 use Rattle.dr_formats.specs.Metadata.{SchemaElement}
-use Rattle.dr_formats.specs.FileSchema.{FileFields, no_file_fields, file_field, FileShape, file_leaf, file_group, FieldsRead, ShapeRead, with_first, as_group, shape_read, fields_read, repetition_from, FileSchema, file_schema, root_read, whole_schema, leaves_under, shape_leaves_under, within_depth, file_leaves, FileLeaf, leaf_under, is_open_name}
+use Rattle.dr_formats.specs.FileSchema.{FileFields, no_file_fields, file_field, FileShape, file_leaf, file_group, FieldsRead, ShapeRead, with_first, as_group, shape_read, fields_read, repetition_from, file_schema, root_read, whole_schema, leaves_under, shape_leaves_under, within_depth, file_leaves, leaf_under, is_open_name}
 use Rattle.dr_meta.specs.OneTree.{count_leaves, leaves_of_fields, leaves_of_shape, leaves_left, and_leaves, size_of_group, still_open}
 
 -- ---- leaves

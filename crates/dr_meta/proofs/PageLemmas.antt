@@ -1,8 +1,8 @@
 -- Trees of page headers: viewed as those headers, and made from the trees of their parts.
-use Rattle.std.proofs.Common.{◌≡◌, ℕ, ℤ, Bool, pos, refl, sym, ap, ap₂, ◌∙◌}
+use Rattle.std.proofs.Common.{◌≡◌, ℕ, ℤ, Bool, pos, refl, ap, ap₂, ◌∙◌}
 use Rattle.std.specs.Prelude.{Option, Some, None, option_map, Ok}
-use Rattle.dr_formats.specs.Compact.{Struct, Item, stop, struct_field, struct_item, i32_item}
-use Rattle.dr_formats.specs.Metadata.{PageHeader, DataPageHeader, DictionaryPageHeader, DataPageHeaderV2, view_page, view_data_header, view_dictionary_header, view_data_header_v2, data_header_tree, dictionary_header_tree, with_field, with_i32, count_i32}
+use Rattle.dr_formats.specs.Compact.{Struct, stop, struct_field, struct_item, i32_item}
+use Rattle.dr_formats.specs.Metadata.{PageHeader, DataPageHeader, DictionaryPageHeader, DataPageHeaderV2, view_page, view_data_header_v2, data_header_tree, dictionary_header_tree, with_field, with_i32, count_i32}
 use Rattle.dr_compact.specs.declared.tree.Tree.{Tree}
 use Rattle.dr_compact.specs.Views.{tree_view}
 use Rattle.dr_meta.specs.declared.page.PageHead.{PageHead}

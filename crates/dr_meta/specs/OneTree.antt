@@ -1,5 +1,5 @@
 -- A list of schema elements read with the groups that are still open, the innermost first, by how many fields each still has.
-use Rattle.std.specs.Prelude.{ℕ, zero, suc, ◌+◌, List, [], ◌∷◌, length, ℤ, pos, negsuc, Option, Some, None, option_map, option_and_then, map, reverse}
+use Rattle.std.specs.Prelude.{ℕ, suc, ◌+◌, List, [], ◌∷◌, length, ℤ, pos, negsuc, Option, Some, None, option_map, option_and_then, map, reverse}
 use Rattle.dr_formats.specs.Metadata.{SchemaElement}
 use Rattle.dr_formats.specs.FileSchema.{FileFields, no_file_fields, file_field, FileShape, file_leaf, file_group, FieldsRead, fields_read, FileSchema, file_leaves}
 

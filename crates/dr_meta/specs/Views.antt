@@ -1,5 +1,5 @@
 -- What metadata stands for, in the definitions' words.
-use Rattle.std.specs.Prelude.{ℕ, List, map, Option, option_map, Vec}
+use Rattle.std.specs.Prelude.{ℕ, List, map, option_map, Vec}
 use Rattle.std.specs.declared.alloc.Global.{Global}
 use denote.Ref.{Bor}
 use Rattle.dr_formats.specs.Metadata as metadata

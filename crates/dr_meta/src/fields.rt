@@ -1,6 +1,6 @@
 //! Fields of a struct, by their ids and types.
 
-ghost use Rattle.std.specs.Prelude.{◌≡◌, option_map, map};
+ghost use Rattle.std.specs.Prelude.{◌≡◌, option_map};
 ghost use Rattle.dr_formats.specs.Metadata.{optional_field, needed, needed_count, unless_negative, as_i32, as_i64, as_truth, as_binary, as_struct, as_structs, as_numbers, as_names};
 ghost use Rattle.dr_compact.specs.Views.{tree_view};
 ghost use Rattle.dr_meta.specs.Views.{lent, lent_names, lent_structs};

@@ -1,6 +1,6 @@
 //! The metadata of a file, from a tree.
 
-ghost use Rattle.std.specs.Prelude.{◌≡◌, map};
+ghost use Rattle.std.specs.Prelude.{map};
 ghost use Rattle.dr_formats.specs.Metadata as metadata;
 ghost use Rattle.dr_formats.specs.Metadata.{each, view_element, view_column_meta, view_chunk, view_group};
 ghost use Rattle.dr_compact.specs.Views.{tree_view};

@@ -1,6 +1,6 @@
 //! The header of a page, from a tree.
 
-ghost use Rattle.std.specs.Prelude.{◌≡◌, option_map};
+ghost use Rattle.std.specs.Prelude.{option_map};
 ghost use Rattle.dr_formats.specs.Metadata as metadata;
 ghost use Rattle.dr_formats.specs.Metadata.{where_there, view_data_header, view_dictionary_header, view_data_header_v2};
 ghost use Rattle.dr_compact.specs.Views.{tree_view};

@@ -1,5 +1,5 @@
 -- Selecting one path after another.
-use Rattle.std.specs.Prelude.{◌≡◌, ◌≤◌, ◌<◌, ℕ, zero, suc, ◌+◌, List, [], ◌∷◌, ◌++◌, map, length, get_or, take, drop, ◌-◌, slice_get, option_map, Option, Some, None, Vec}
+use Rattle.std.specs.Prelude.{◌≡◌, ◌≤◌, ◌<◌, ℕ, zero, suc, ◌+◌, List, [], ◌∷◌, ◌++◌, map, length, get_or, take, drop, ◌-◌, slice_get, option_map, Option, Some, None}
 use Rattle.std.proofs.Common.{refl, sym, ap, ◌∙◌, subst, arith, rules, add-one}
 use Rattle.std.proofs.Math.ListN.{set}
 use Rattle.std.proofs.lemmas.List.{set-set, take_all}
@@ -7,7 +7,7 @@ use Rattle.std.proofs.lemmas.Option.{slice_get-map, slice_get_read, slice_get_pa
 use Rattle.dr_meaning.specs.Schema.{Repetition}
 use Rattle.dr_meaning.specs.Path.{Step}
 use Rattle.dr_meaning.specs.Record.{here, there}
-use Rattle.dr_nested.specs.Selected.{Selected, none_selected, skipped, chosen, choices_of, first_selected, later_selected, selected_at, AllEnd, IsSome, Selects, SelectsFirst}
+use Rattle.dr_nested.specs.Selected.{Selected, none_selected, skipped, chosen, choices_of, first_selected, later_selected, selected_at, Selects, SelectsFirst}
 use Rattle.dr_nested.specs.SelectionView.{choice_view, choices_view, selection_view, padded}
 use Rattle.dr_nested.specs.PathView.{step_view}
 use Rattle.dr_nested.specs.declared.path.Step as steps

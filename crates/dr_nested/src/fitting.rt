@@ -1,6 +1,6 @@
 //! Whether a node is a record of a schema.
 
-ghost use Rattle.std.specs.Prelude.{◌≡◌, pos};
+ghost use Rattle.std.specs.Prelude.{◌≡◌};
 ghost use Rattle.dr_meaning.specs.Record as record_tree;
 ghost use Rattle.dr_nested.specs.Views.{rep_view, kind_view, field_view, shape_view, fields_view, value_view, instance_view, instances_view, slot_view, node_view};
 ghost use Rattle.dr_nested.specs.Fitting.{fits_slot};

@@ -2,7 +2,7 @@
 
 ghost use Rattle.std.specs.Prelude.{◌≡◌};
 ghost use Rattle.dr_meaning.specs.Record as record_tree;
-ghost use Rattle.dr_nested.specs.Views.{slot_view, instances_view, node_view};
+ghost use Rattle.dr_nested.specs.Views.{instances_view, node_view};
 
 use crate::record::{Instance, Node, Slot};
 

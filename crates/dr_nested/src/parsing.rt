@@ -1,6 +1,6 @@
 //! The schema of a text, and the text of a schema.
 
-ghost use Rattle.std.specs.Prelude.{◌≡◌, ◌≤◌, length, true, MatchOption, ⊤, option_map};
+ghost use Rattle.std.specs.Prelude.{◌≡◌, ◌≤◌, length, true, MatchOption, option_map};
 ghost use Rattle.std.specs.List.{list_all};
 ghost use Rattle.dr_meaning.specs.Schema as tree;
 ghost use Rattle.dr_meaning.specs.SchemaText as text_meaning;

@@ -1,6 +1,6 @@
 //! Reading a schema text, token by token.
 
-ghost use Rattle.std.specs.Prelude.{◌≡◌, ◌≤◌, ◌<◌, ◌+◌, ◌∷◌, [], bytes_eq, string_bytes, option_map, OnOk, IfErr};
+ghost use Rattle.std.specs.Prelude.{◌≡◌, ◌<◌, ◌+◌, ◌∷◌, [], bytes_eq, string_bytes, option_map, OnOk, IfErr};
 ghost use Rattle.std.specs.List.{list_any};
 ghost use Rattle.dr_nested.specs.declared.shape.Field.{Field};
 ghost use Rattle.dr_meaning.specs.SchemaText as text;

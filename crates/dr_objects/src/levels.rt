@@ -1,6 +1,6 @@
 //! The levels of a schema.
 
-ghost use Rattle.std.specs.Prelude.{◌≡◌, ◌++◌, ◌∷◌, [], map, length, IfOk, OnOk, string_bytes};
+ghost use Rattle.std.specs.Prelude.{◌≡◌, ◌++◌, ◌∷◌, [], map, IfOk, OnOk, string_bytes};
 ghost use Rattle.dr_meaning.specs.Query as meant;
 ghost use Rattle.dr_nested.specs.PathView.{step_view};
 ghost use Rattle.dr_nested.specs.SchemaView.{schema_view};

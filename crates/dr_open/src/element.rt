@@ -1,6 +1,6 @@
 //! What a schema element says of a leaf or a field.
 
-ghost use Rattle.std.specs.Prelude.{◌≡◌, true, false, Some, None, pos, option_map};
+ghost use Rattle.std.specs.Prelude.{◌≡◌, true, false, Some, None, option_map};
 ghost use Rattle.dr_formats.specs.FileSchema.{repetition_from, is_open_conversion, kind_from, is_kind};
 ghost use Rattle.dr_meta.specs.Views.{item_view};
 ghost use Rattle.dr_nested.specs.Views.{rep_view, kind_view};

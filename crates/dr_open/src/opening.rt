@@ -1,7 +1,7 @@
 //! The open part of a file's schema. Groups are entered by recursion down to the greatest depth of a path; what is closed is
 //! passed without.
 
-ghost use Rattle.std.specs.Prelude.{◌≡◌, ◌≤◌, [], ◌∷◌, ◌++◌, List, ℕ, map, length, Some, option_map, option_and_then, string_bytes, OnOk, IfOk, IfSome, IsSome};
+ghost use Rattle.std.specs.Prelude.{◌≡◌, ◌≤◌, [], ◌∷◌, ◌++◌, List, ℕ, map, length, Some, option_map, option_and_then, OnOk, IfOk, IfSome, IsSome};
 ghost use Rattle.std.specs.Option.{is_some, option_to_list};
 ghost use Rattle.dr_formats.specs.FileSchema as file;
 ghost use Rattle.dr_meta.specs.Views.{item_view, lent};

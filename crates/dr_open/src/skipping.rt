@@ -2,7 +2,7 @@
 
 ghost use Rattle.std.specs.Prelude.{◌≡◌, ◌<◌, ◌≤◌, ◌+◌, map, drop, length, Some, None, IsSome, IfSome, IfNone};
 ghost use Rattle.dr_meta.specs.Views.{item_view};
-ghost use Rattle.dr_open.specs.Places.{Passed, passed, HasNoLeaf, HasLeavesIn, shape_from, behind_shape};
+ghost use Rattle.dr_open.specs.Places.{passed, HasNoLeaf, HasLeavesIn, shape_from, behind_shape};
 ghost use Rattle.dr_open.specs.Skips.{skip_view};
 
 use dr_meta::{SchemaItem, group_size};

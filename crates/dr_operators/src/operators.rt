@@ -7,7 +7,7 @@ ghost use Rattle.dr_meaning.specs.BoundExpression.{truth_type, number_type, text
 ghost use Rattle.dr_plan.specs.Views.{expr_view, comparison_view as planned_comparison};
 ghost use Rattle.dr_plan.specs.Fitting.{expr_fits};
 ghost use Rattle.dr_sql.specs.TokenViews.{undoubled};
-ghost use Rattle.dr_sql.specs.Views.{arithmetic_view, comparison_view};
+ghost use Rattle.dr_sql.specs.Views.{comparison_view};
 ghost use Rattle.dr_bound_parts.specs.Bound.{type_of};
 ghost use Rattle.dr_operators.specs.Operators.{unary_type, unary_of, binary_type, binary_of};
 

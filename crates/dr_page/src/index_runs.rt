@@ -1,6 +1,6 @@
 //! Indices of a dictionary's values.
 
-ghost use Rattle.std.specs.Prelude.{◌≡◌, ◌≤◌, OnOk, vec_len};
+ghost use Rattle.std.specs.Prelude.{◌≤◌};
 ghost use Rattle.dr_formats.specs.Hybrid.{hybrid};
 ghost use Rattle.dr_page.specs.Reads.{Reads};
 ghost use Rattle.dr_page.specs.Indices.{indices_ahead};

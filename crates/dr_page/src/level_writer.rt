@@ -1,6 +1,6 @@
 //! Level parts of page bodies, written.
 
-ghost use Rattle.std.specs.Prelude.{◌≡◌, ◌<◌, ◌≤◌, ◌^◌, length, map, true, nat_le, OnOk};
+ghost use Rattle.std.specs.Prelude.{◌≡◌, ◌<◌, ◌≤◌, ◌^◌, length, map, true, nat_le};
 ghost use Rattle.std.specs.List.{list_all};
 ghost use Rattle.dr_formats.specs.Page.{level_bytes};
 ghost use Rattle.dr_page.specs.Writes.{Writes};

@@ -1,6 +1,6 @@
 //! Levels side by side.
 
-ghost use Rattle.std.specs.Prelude.{◌≡◌, length, map, OnOk};
+ghost use Rattle.std.specs.Prelude.{◌≡◌, length, OnOk};
 ghost use Rattle.dr_formats.specs.Page.{count_equal};
 ghost use Rattle.dr_page.specs.Parts.{PairsOf};
 

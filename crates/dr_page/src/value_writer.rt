@@ -1,7 +1,7 @@
 //! Values of page bodies in PLAIN.
 
-ghost use Rattle.std.specs.Prelude.{◌≡◌, ◌/◌, ◌+◌, min, length, true};
-ghost use Rattle.std.specs.List.{list_all, sum_by};
+ghost use Rattle.std.specs.Prelude.{◌≡◌, ◌+◌, length, true};
+ghost use Rattle.std.specs.List.{list_all};
 ghost use Rattle.dr_meaning.specs.Schema.{text_kind};
 ghost use Rattle.dr_nested.specs.Views.{kind_view};
 ghost use Rattle.dr_levels.specs.Lent.{lent_values, lends_kind};

@@ -1,6 +1,6 @@
 -- Texts that grow line by line.
 use Rattle.std.specs.Prelude.{◌≡◌, ℕ, List, [], ◌∷◌, ◌++◌, if◌then◌else◌, is_ok, Result, Ok, Err, OnOk}
-use Rattle.std.proofs.Common.{refl, sym, ap, ap₂, ◌∙◌, append_assoc, append-nil}
+use Rattle.std.proofs.Common.{refl, sym, ap, ◌∙◌, append_assoc, append-nil}
 use Rattle.dr_meaning.specs.Column as meant
 use Rattle.dr_meaning.specs.Stripe.{triplet_text, column_text}
 

@@ -1,6 +1,6 @@
 //! The text of an automaton: one transition to a line.
 
-ghost use Rattle.std.specs.Prelude.{◌≡◌, ◌++◌, ◌<◌, ◌^◌, ℕ, length, map, All, IfOk, OnOk, string_bytes};
+ghost use Rattle.std.specs.Prelude.{◌≡◌, ◌++◌, ◌<◌, ◌^◌, length, map, All, IfOk, OnOk, string_bytes};
 ghost use Rattle.dr_meaning.specs.Automaton as meant;
 ghost use Rattle.dr_meaning.specs.Fsm as fsm;
 ghost use Rattle.dr_nested.specs.PathView.{path_view};

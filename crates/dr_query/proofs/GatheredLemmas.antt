@@ -1,6 +1,5 @@
 -- The partials of all tablets, gathered: what they give is what the query means on the records of all tablets.
-use Rattle.std.proofs.Common.{◌≡◌, ◌≤◌, ◌∙◌, ℕ, zero, suc, ◌+◌, ◌*◌, ◌^◌, ◌&&◌, List, [], ◌∷◌, ◌++◌, map, length, get_or, true, Option, Vec, refl, sym, ap, ap₂, subst, arith, append_assoc}
-use Rattle.std.specs.Prelude.{Ok}
+use Rattle.std.proofs.Common.{◌≡◌, ◌≤◌, ◌∙◌, ℕ, zero, suc, ◌+◌, ◌&&◌, List, [], ◌∷◌, ◌++◌, map, length, get_or, true, Option, Vec, refl, sym, ap, ap₂, subst, arith, append_assoc}
 use Rattle.std.specs.List.{list_all, flat_map, range_with_len}
 use Rattle.std.proofs.lemmas.List.{length-map}
 use Rattle.std.proofs.lemmas.List.FromFn.{length-range_with_len}
@@ -22,7 +21,7 @@ use Rattle.dr_partials.specs.TreeLaws.{records_of, StandsForEach}
 use Rattle.dr_partials.proofs.BoundLemmas.{bound_is_mergeable}
 use Rattle.dr_partials.proofs.RewritingLemmas.{leaf_has_partials}
 use Rattle.dr_partials.proofs.TreeLemmas.{gathered_means_query, fan_has_all_tablets}
-use Rattle.dr_plan.specs.Planned.{Planned, plan_view, planned, planned_query, IsOfSchema}
+use Rattle.dr_plan.specs.Planned.{Planned, plan_view, planned_query}
 use Rattle.dr_plan.specs.declared.plan.Plan.{Plan}
 use Rattle.dr_group.specs.Partials.{partial_view, IsPartialOf}
 use Rattle.dr_group.specs.declared.partial.Partial.{Partial}
@@ -35,7 +34,7 @@ use Rattle.std.specs.declared.alloc.Global.{Global}
 use Rattle.dr_scan.specs.Tables.{AllStand, StandForTablets, OfEach, WhereGiven}
 use Rattle.dr_scan.specs.declared.pieces.Pieces.{Pieces}
 use Rattle.dr_query.specs.Answers.{IsAnswerOf}
-use Rattle.dr_tree.specs.Together.{AllCanBe, AreBounded, AreOfPlan, Together, partials_view}
+use Rattle.dr_tree.specs.Together.{AllCanBe, AreOfPlan, Together, partials_view}
 
 -- ---- the pieces by their tablets
 

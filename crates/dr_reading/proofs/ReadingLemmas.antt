@@ -1,24 +1,20 @@
 -- What is given of tablets has the projections of their records.
-use Rattle.std.proofs.Common.{◌≡◌, inl, inr, ℕ, List, [], ◌∷◌, ◌++◌, map, true, false, Option, Some, None, refl, sym, ap, ap₂, ◌∙◌, subst}
-use Rattle.std.specs.Prelude.{◌⊎◌}
+use Rattle.std.proofs.Common.{◌≡◌, inl, inr, ℕ, List, [], ◌∷◌, ◌++◌, map, true, Option, Some, None, refl, sym, ap, ap₂, ◌∙◌, subst}
 use Rattle.std.specs.List.{list_all}
 use Rattle.std.proofs.lemmas.List.{map-append}
 use Rattle.dr_meaning.specs.Schema.{Schema}
 use Rattle.dr_meaning.specs.Path.{Leaf, is_leaf_path}
 use Rattle.dr_meaning.specs.Record.{Node, project}
 use Rattle.dr_formats.specs.File.{IsFileOf}
-use Rattle.dr_outside.specs.Link.{Files, LinkShown}
-use Rattle.dr_outside.specs.declared.cause.Cause.{Cause}
+use Rattle.dr_outside.specs.Link.{Files}
 use Rattle.dr_serving.specs.Held.{Held, present, held_file, held_at}
 use Rattle.dr_serving.specs.Premises.{TellsFiles, HoldsRecords, PathsHold, paths_of_leaves}
-use Rattle.dr_serving.specs.ServingLaws.{is_read}
 use Rattle.dr_serving.specs.Causes.{IsJustified}
 use Rattle.dr_serving.proofs.ServingLemmas.{same_projections}
 use Rattle.dr_serving.proofs.PieceLemmas.{other_causes_hold_no_file}
-use Rattle.dr_reading.specs.Scan.{Copy, Scan, joined}
-use Rattle.dr_reading.specs.Given.{IsFileThere, SomeIsFile, IsGiven, AreGiven}
-use Rattle.dr_reading.specs.Left.{IsCauseAt}
-use Rattle.dr_reading.specs.Held.{copy_paths, TabletsHold, HoldsTable, SeesLeavesAlone}
+use Rattle.dr_reading.specs.Scan.{Copy, joined}
+use Rattle.dr_reading.specs.Given.{IsFileThere, SomeIsFile, AreGiven}
+use Rattle.dr_reading.specs.Held.{copy_paths, TabletsHold}
 use Rattle.dr_reading.specs.ReadingLaws.{GivenAreProjected, ReadTextIsMeant, LeftHoldsNoFile}
 
 module _ (s : Schema) (F : List Leaf) (leaves : list_all (λ (l : Leaf). is_leaf_path s.fields l.path) F ≡ true) where

@@ -3,7 +3,7 @@ use Rattle.std.specs.Prelude.{ℕ, ◌==◌, List, map, filter}
 use Rattle.std.specs.List.{flat_map, range_with_len}
 use Rattle.dr_formats.specs.TableFile.{most_leaf_lines}
 use Rattle.dr_formats.specs.File.{bad_footer, bad_schema, bad_codec, bad_data}
-use Rattle.dr_formats.specs.Reports.{LeafCause, read_failed, bad_file, LeftLeaf, left_tablet_text, left_file_text}
+use Rattle.dr_formats.specs.Reports.{LeafCause, read_failed, bad_file, LeftLeaf, left_tablet_text}
 use Rattle.dr_outside.specs.declared.cause.Cause.{Cause}
 use Rattle.dr_outside.specs.declared.cause.Cause.TheVariants.{ReadFailed, BadFooter, BadSchema, BadCodec, BadData}
 use Rattle.dr_reading.specs.Left.{Tried, LeftTablet}

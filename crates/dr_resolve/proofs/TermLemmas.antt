@@ -5,7 +5,7 @@ use Rattle.std.specs.declared.alloc.Global.{Global}
 use Rattle.dr_meaning.specs.Schema.{Fields}
 use Rattle.dr_meaning.specs.Path.{Leaf}
 use Rattle.dr_meaning.specs.BoundExpression as meant
-use Rattle.dr_meaning.specs.BoundExpression.{BindFault, Checked, passes, fails, ValueType, truth_type, number_type, text_type, same_type, of_type, then_check, together, checked_map, type_mismatch}
+use Rattle.dr_meaning.specs.BoundExpression.{BindFault, Checked, passes, fails, ValueType, truth_type, same_type, of_type, then_check, together, checked_map, type_mismatch}
 use Rattle.dr_meaning.specs.Binding as binding
 use Rattle.dr_meaning.specs.Binding.{first_fault}
 use Rattle.dr_meaning.specs.Query.{Aggregate}

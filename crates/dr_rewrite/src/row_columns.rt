@@ -1,6 +1,6 @@
 //! The columns of a result's rows, as leaves: k0, .., a0, ..
 
-ghost use Rattle.std.specs.Prelude.{◌≡◌, ◌++◌, map, length, string_bytes, IfOk, OnOk};
+ghost use Rattle.std.specs.Prelude.{◌≡◌, ◌++◌, map, string_bytes, IfOk, OnOk};
 ghost use Rattle.dr_nested.specs.PathView.{path_view};
 ghost use Rattle.dr_nested.specs.Views.{kind_view};
 ghost use Rattle.dr_rewrite.specs.Items.{indexed};

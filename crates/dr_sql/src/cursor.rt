@@ -2,8 +2,7 @@
 
 ghost use Rattle.std.specs.Prelude.{◌≡◌, ◌≤◌, if◌then◌else◌, option_map, length};
 ghost use Rattle.dr_meaning.specs.Parse as parse;
-ghost use Rattle.dr_sql.specs.TokenViews.{token_view, word_view, sign_view, placed_views};
-ghost use Rattle.dr_sql.specs.Faults.{problem_view};
+ghost use Rattle.dr_sql.specs.TokenViews.{token_view, word_view, sign_view};
 
 use crate::fault::{QueryFault, QueryProblem};
 use crate::limits::MOST_OPERATORS;

@@ -1,6 +1,6 @@
 //! Reading paths.
 
-ghost use Rattle.std.specs.Prelude.{map, Vec};
+ghost use Rattle.std.specs.Prelude.{Vec};
 ghost use Rattle.dr_meaning.specs.Parse as parse;
 ghost use Rattle.dr_sql.specs.Reads.{unread, Reads};
 ghost use Rattle.dr_sql.specs.Views.{path_view, names_view};

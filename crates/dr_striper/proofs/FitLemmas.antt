@@ -1,12 +1,12 @@
 -- What a record of a schema gives the schema's leaves, they take.
-use Rattle.std.specs.Prelude.{◌≡◌, ◌≢◌, ◌<◌, ℕ, zero, suc, ◌+◌, List, [], ◌∷◌, ◌++◌, Bool, true, false, ◌&&◌, ◌==◌, Option, Some, None}
+use Rattle.std.specs.Prelude.{◌≡◌, ◌≢◌, ◌<◌, ℕ, zero, suc, ◌+◌, List, [], ◌∷◌, Bool, true, false, ◌&&◌, ◌==◌, Some, None}
 use Rattle.std.proofs.Common.{refl, sym, ap, ap₂, ◌∙◌, arith, subst, true≢false}
 use Rattle.std.specs.List.{list_all}
 use Rattle.std.proofs.lemmas.Bool.{and_parts}
 use Rattle.std.proofs.lemmas.Bool.Decides.{nat_tests}
 use Rattle.std.proofs.lemmas.List.Folds.{list_all-append}
 use Rattle.dr_meaning.specs.Schema.{Repetition, required, optional, repeated, Kind, bool_kind, int32_kind, int64_kind, text_kind, Fields, no_fields, field, Shape, leaf, group, repetition_count, definition_count}
-use Rattle.dr_meaning.specs.Path.{Step, Leaf, same_repetition, through, is_empty_path, max_definition}
+use Rattle.dr_meaning.specs.Path.{Step, Leaf, same_repetition, through, max_definition}
 use Rattle.dr_meaning.specs.Record.{Value, bool_value, int_value, text_value, Node, no_slots, slot, gap, Instances, no_instances, instance, Instance, atom, inner, is_of_kind, is_record, is_instance, all_instances, count_instances, fits_repetition}
 use Rattle.dr_meaning.specs.Column.{Triplet, triplet, spread, each_later, instance_column}
 use Rattle.dr_meaning.proofs.ProjectionLemmas.{step}

@@ -8,7 +8,7 @@ use Rattle.std.proofs.lemmas.List.Folds.{list_all-append, list_all-map}
 use Rattle.dr_meaning.specs.Schema.{repetition_count, definition_count}
 use Rattle.dr_meaning.specs.Path.{Step}
 use Rattle.dr_meaning.specs.Record.{Instances, no_instances, instance, Instance, instances_in}
-use Rattle.dr_meaning.specs.Column.{Triplet, triplet, instance_column, value_of}
+use Rattle.dr_meaning.specs.Column.{Triplet, triplet, instance_column}
 use Rattle.dr_levels.specs.declared.column.Column as columns
 use Rattle.dr_levels.specs.Views.{LeafForm, column_form, forms_view}
 use Rattle.dr_levels.specs.Columns.{takes}

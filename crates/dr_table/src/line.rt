@@ -1,6 +1,6 @@
 //! The lines of a table file.
 
-ghost use Rattle.std.specs.Prelude.{◌≡◌, ◌<◌, ◌≤◌, ◌^◌, IfSome, option_map, option_copied};
+ghost use Rattle.std.specs.Prelude.{◌≡◌, ◌<◌, ◌≤◌, IfSome, option_map, option_copied};
 ghost use Rattle.dr_formats.specs.TableFile.{first_line, behind_word, number_behind, leaf_line};
 ghost use Rattle.dr_table.specs.Lines.{line_view};
 

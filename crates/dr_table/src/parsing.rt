@@ -1,6 +1,6 @@
 //! The table of a text.
 
-ghost use Rattle.std.specs.Prelude.{◌≡◌, ◌<◌, ◌≤◌, List, ℕ, [], map, length, string_bytes, Result};
+ghost use Rattle.std.specs.Prelude.{◌<◌, ◌≤◌, [], map, length, string_bytes, Result};
 ghost use Rattle.dr_nested.specs.Faults.{Gives};
 ghost use Rattle.dr_formats.specs.TableFile as meant;
 ghost use Rattle.dr_table.specs.Faults.{fault_view};

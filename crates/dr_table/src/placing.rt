@@ -1,6 +1,6 @@
 //! Where the copies of tablets lie.
 
-ghost use Rattle.std.specs.Prelude.{◌≡◌, ◌<◌, length, map, string_bytes, IfOk};
+ghost use Rattle.std.specs.Prelude.{◌≡◌, ◌<◌, length, string_bytes, IfOk};
 ghost use Rattle.dr_formats.specs.Tablets as meant;
 ghost use Rattle.dr_table.specs.Views.{table_view};
 

@@ -1,7 +1,6 @@
 -- The tablets of a table, read one after another.
 use Rattle.std.proofs.Common.{◌≡◌, ◌≤◌, ℕ, zero, suc, ◌+◌, List, [], ◌∷◌, ◌++◌, length, map, Option, refl, sym, ap, ◌∙◌, subst, add-one, append_assoc, append-nil, arith}
-use Rattle.std.specs.Prelude.{IsTrue, Vec}
-use Rattle.std.specs.declared.alloc.Global.{Global}
+use Rattle.std.specs.Prelude.{IsTrue}
 use Rattle.std.proofs.lemmas.List.{map-append}
 use Rattle.dr_meaning.specs.Schema.{Schema}
 use Rattle.dr_meaning.specs.Path.{Leaf}
@@ -11,9 +10,7 @@ use Rattle.dr_outside.specs.declared.cause.Cause.{Cause}
 use Rattle.dr_records.specs.FileRecords.{paths_of_leaves}
 use Rattle.dr_serving.specs.Held.{held_at}
 use Rattle.dr_serving.specs.Causes.{IsJustified, RisesApart}
-use Rattle.dr_formats.specs.TableFile.{Table}
-use Rattle.dr_nested.specs.declared.record.Node.{Node as RecordNode}
-use Rattle.dr_reading.specs.Scan.{Copy, copies_from, tablets_from, tablets_of, joined}
+use Rattle.dr_reading.specs.Scan.{Copy, copies_from, tablets_from, joined}
 use Rattle.dr_reading.specs.Given.{IsGiven, AreGiven}
 use Rattle.dr_reading.specs.Left.{Tried, LeftTablet, AreTried, LeavesJust, no_tablets, is_given, is_left, causes_of, causes_met}
 use Rattle.dr_assemble.specs.Views.{nodes_view}

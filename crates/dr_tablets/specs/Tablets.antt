@@ -1,6 +1,5 @@
 -- What is read of one tablet, and of those before it.
-use Rattle.std.specs.Prelude.{◌≡◌, ◌≢◌, ℕ, List, [], ◌∷◌, ◌++◌, map, Option, Vec, ⊤}
-use Rattle.std.specs.declared.alloc.Global.{Global}
+use Rattle.std.specs.Prelude.{◌≡◌, ◌≢◌, ℕ, List, [], ◌∷◌, ◌++◌, map, Option, ⊤}
 use Rattle.dr_meaning.specs.Schema.{Schema}
 use Rattle.dr_meaning.specs.Path.{Leaf}
 use Rattle.dr_meaning.specs.Record.{Node, project}
@@ -8,7 +7,6 @@ use Rattle.dr_outside.specs.Link.{Files, LinkShown}
 use Rattle.dr_outside.specs.declared.cause.Cause.{Cause}
 use Rattle.dr_assemble.specs.Views.{nodes_view}
 use Rattle.dr_records.specs.FileRecords.{paths_of_leaves}
-use Rattle.dr_nested.specs.declared.record.Node.{Node as RecordNode}
 use Rattle.dr_formats.specs.TableFile.{Table}
 use Rattle.dr_serving.specs.Causes.{RisesApart}
 use Rattle.dr_reading.specs.Scan.{Copy, joined, tablets_of}

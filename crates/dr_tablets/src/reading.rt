@@ -1,7 +1,6 @@
 //! Reading a tablet of a table.
 
-ghost use Rattle.std.specs.Prelude.{◌≡◌, ◌<◌, ◌≤◌, [], List, map, IfOk, OnOk, IsTrue};
-ghost use Rattle.dr_meaning.specs.Path.{Leaf};
+ghost use Rattle.std.specs.Prelude.{◌≡◌, ◌<◌, ◌≤◌, map, IfOk, IsTrue};
 ghost use Rattle.dr_meaning.specs.Record as tree;
 ghost use Rattle.dr_nested.specs.Views.{fields_view};
 ghost use Rattle.dr_nested.specs.SchemaView.{schema_view};

@@ -1,7 +1,6 @@
 //! The lines that tell which tablets are left, and why.
 
 ghost use Rattle.std.specs.Prelude.{◌≡◌, ◌++◌, ◌<◌, decimal, string_bytes, map, IfOk, OnOk};
-ghost use Rattle.std.specs.List.{range_with_len};
 ghost use Rattle.dr_formats.specs.Reports.{left_leaves_text};
 ghost use Rattle.dr_reading.specs.LeftText.{told_leaf, in_directory, ascending, left_line, left_text as meant_text};
 ghost use Rattle.dr_tablets.specs.Views.{tried_view, all_tried_view, left_view, all_left_view};

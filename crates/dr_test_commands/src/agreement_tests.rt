@@ -1,8 +1,8 @@
 //! Queries of records that look random: whether they are asked in one tablet or in many, or loaded and queried, one text is printed.
 
-use dr_outside::{Keeper, Link, MemLink, MemSink, MemSource, OpenGate, Shelf};
+use crate::status::{status_of, words_of};
+use dr_outside::{Keeper, Link, MemLink, MemSink, MemSource, Shelf};
 use dr_samples::{DOCUMENT, QUERIES, record_lines};
-use dr_top::run;
 use std::alloc::Global;
 use std::test::Fail;
 use std::thread::Threads;
@@ -17,18 +17,12 @@ fn printed<R: Threads + Sync, K: Keeper, L: Link + Send>(
     keeper: &mut K,
     links: &mut [L],
 ) -> Result<String, Fail> {
-    let mut words = Vec::new(alloc);
-    for word in front.split("~") {
-        words.push(String::from_str(alloc, word)?)?;
-    }
+    let mut words = words_of(alloc, front)?;
     words.push(String::from_str(alloc, last)?)?;
     let mut source = MemSource::new(input.as_bytes(), Vec::new(alloc));
     let mut out = MemSink::new(alloc, Vec::new(alloc));
     let mut err = MemSink::new(alloc, Vec::new(alloc));
-    if links.len() < 16 {
-        return Err("no links".into());
-    }
-    let status = run(
+    let status = status_of(
         rt,
         alloc,
         &words,
@@ -37,8 +31,7 @@ fn printed<R: Threads + Sync, K: Keeper, L: Link + Send>(
         &mut err,
         keeper,
         links,
-        &OpenGate,
-    );
+    )?;
     if status != 0 {
         return Err("no answer".into());
     }

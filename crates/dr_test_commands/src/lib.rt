@@ -12,4 +12,6 @@ mod rows;
 #[cfg(test)]
 mod run_tests;
 #[cfg(test)]
+mod status;
+#[cfg(test)]
 mod table_tests;

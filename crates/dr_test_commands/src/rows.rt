@@ -1,9 +1,9 @@
 //! Runs of the program over an input, each written as a row of a table.
 
+use crate::status::{status_of, words_of};
 use dr_commands::USAGE;
-use dr_outside::{Keeper, MemSink, MemSource, OpenGate, Shelf};
+use dr_outside::{Keeper, MemSink, MemSource, Shelf};
 use dr_samples::{DOCUMENT, RECORDS};
-use dr_top::run;
 use std::alloc::Global;
 use std::test::Fail;
 use std::thread::Threads;
@@ -75,10 +75,7 @@ pub fn input_of(alloc: Global, text: &str) -> Result<String, Fail> {
 
 /// Whether a run ends as its row says.
 pub fn ends_so<R: Threads + Sync>(rt: &R, alloc: Global, row: &Row<'_>) -> Result<bool, Fail> {
-    let mut words = Vec::new(alloc);
-    for word in row.words.split("~") {
-        words.push(String::from_str(alloc, word)?)?;
-    }
+    let words = words_of(alloc, row.words)?;
     let input = input_of(alloc, row.input)?;
     let wanted_out = unfolded(alloc, row.out)?;
     let wanted_err = unfolded(alloc, if row.err == "U" { USAGE } else { row.err })?;
@@ -92,10 +89,7 @@ pub fn ends_so<R: Threads + Sync>(rt: &R, alloc: Global, row: &Row<'_>) -> Resul
     for _ in 0..16 {
         links.push(Shelf::new(alloc, Vec::new(alloc)))?;
     }
-    if links.len() < 16 {
-        return Err("no links".into());
-    }
-    let status = run(
+    let status = status_of(
         rt,
         alloc,
         &words,
@@ -104,8 +98,7 @@ pub fn ends_so<R: Threads + Sync>(rt: &R, alloc: Global, row: &Row<'_>) -> Resul
         &mut err,
         &mut shelf,
         &mut links,
-        &OpenGate,
-    );
+    )?;
     Ok(
         status == row.status
             && out.written() == wanted_out.as_bytes()

@@ -1,11 +1,11 @@
 //! Runs of `load`, `dump`, `query` and `schema` over tables in memory.
 
 use crate::rows::{input_of, unfolded};
+use crate::status::{status_of, words_of};
 use dr_commands::USAGE;
 use dr_nested::{parse_schema, schema_text};
-use dr_outside::{Keeper, Link, MemLink, MemSink, MemSource, OpenGate, Shelf};
+use dr_outside::{Keeper, Link, MemLink, MemSink, MemSource, Shelf};
 use dr_samples::DOCUMENT;
-use dr_top::run;
 use std::alloc::Global;
 use std::test::Fail;
 use std::thread::Threads;
@@ -43,20 +43,14 @@ fn ends_so<R: Threads + Sync, K: Keeper, L: Link + Send>(
     keeper: &mut K,
     links: &mut [L],
 ) -> Result<bool, Fail> {
-    let mut words = Vec::new(alloc);
-    for word in row.words.split("~") {
-        words.push(String::from_str(alloc, word)?)?;
-    }
+    let words = words_of(alloc, row.words)?;
     let input = input_of(alloc, row.input)?;
     let wanted_out = unfolded(alloc, row.out)?;
     let wanted_err = unfolded(alloc, if row.err == "U" { USAGE } else { row.err })?;
     let mut source = MemSource::new(input.as_bytes(), Vec::new(alloc));
     let mut out = MemSink::new(alloc, Vec::new(alloc));
     let mut err = MemSink::new(alloc, Vec::new(alloc));
-    if links.len() < 16 {
-        return Err("no links".into());
-    }
-    let status = run(
+    let status = status_of(
         rt,
         alloc,
         &words,
@@ -65,8 +59,7 @@ fn ends_so<R: Threads + Sync, K: Keeper, L: Link + Send>(
         &mut err,
         keeper,
         links,
-        &OpenGate,
-    );
+    )?;
     Ok(
         status == row.status
             && out.written() == wanted_out.as_bytes()

@@ -1,5 +1,4 @@
 ghost use Rattle.std.specs.Prelude.{◌≡◌, ◌≤◌, ◌^◌, ℕ, true, length, IfOk};
-ghost use Rattle.dr_dispatch.specs.History.{has_give};
 
 use dr_desk::{
     Board, Closing, Desk, Event, Ground, Hand, Job, Naming, NoMemory, Pass, Piece, Room, Told,

@@ -1,7 +1,5 @@
 //! Chunks of 64-bit integers.
 
-ghost use Rattle.std.specs.Prelude.{◌≡◌};
-
 use dr_chunk::{ByteRange, ChunkBuffers, ChunkFault, LeafShape, read_chunk};
 use dr_levels::{Column, ValuesRef};
 use dr_nested::Kind;

@@ -1,12 +1,9 @@
 -- Where the first link is steady and tells that a copy of each tablet is a file, no tablet is left.
 use Rattle.std.proofs.Common.{◌≡◌, ◌∙◌, inl, inr, ℕ, Bool, false, List, [], ◌∷◌, Option, Some, None, refl, sym, ap, subst}
-use Rattle.std.specs.Prelude.{◌≢◌}
 use Rattle.dr_outside.specs.Source.{SourceShown}
 use Rattle.dr_outside.specs.Link.{Files, LinkShown}
-use Rattle.dr_reading.specs.Scan.{Scan}
-use Rattle.dr_reading.specs.Left.{LeftTablet}
 use Rattle.dr_reading.proofs.HeldFileLemmas.{steady_leaves_none}
-use Rattle.dr_commands.specs.Meaning.{Meaning, Outcome, scans}
+use Rattle.dr_commands.specs.Meaning.{Meaning, Outcome}
 use Rattle.dr_top.specs.World.{World, WithOutcome, WhereFile, WhereTold, WhereUsed, WithFirsts}
 use Rattle.dr_top.specs.Reading.{IsLeftWith, IsFileLeft, LeavesTablets}
 use Rattle.dr_top.specs.Ends.{Holds, IsLeft, IsComplete, IsHeldWhole, IsServed}

@@ -5,7 +5,7 @@ use Rattle.std.specs.List.{range_with_len}
 use Rattle.std.proofs.Common.{refl, sym, ap, ap₂, ◌∙◌, arith, append_assoc}
 use Rattle.std.proofs.lemmas.List.{map-append, take-map, drop-map}
 use Rattle.std.proofs.lemmas.List.FromFn.{map-range_with_len_more}
-use Rattle.dr_partials.specs.Trees.{Tree, leaf_server, intermediate_server, no_trees, next_tree, Packed, pack, trees_of, grow, of_fan}
+use Rattle.dr_partials.specs.Trees.{Tree, leaf_server, intermediate_server, next_tree, Packed, pack, trees_of, grow, of_fan}
 use Rattle.dr_tree.specs.Fan.{servers_of, all_grown}
 use Rattle.dr_tree.specs.Views.{tree_view, all_views}
 use Rattle.dr_tree.specs.declared.tree.Tree as code

@@ -1,7 +1,6 @@
 -- What is gathered of partials: of two lists of them, from what is gathered of each.
-use Rattle.std.specs.Prelude.{◌≡◌, ◌≤◌, ℕ, ◌+◌, ◌*◌, ◌^◌, ◌++◌, ◌&&◌, true, List, [], ◌∷◌, map, length, drop, get_or, Option, Some, None}
+use Rattle.std.specs.Prelude.{◌≡◌, ◌≤◌, ℕ, ◌+◌, ◌*◌, ◌^◌, ◌++◌, List, [], ◌∷◌, map, length, drop, get_or, Some, None}
 use Rattle.std.specs.List.{list_all}
-use Rattle.std.specs.Int.RustNames.{unsigned_abs}
 use Rattle.std.proofs.Common.{refl, sym, ap, ap₂, ◌∙◌, subst, arith, length-append}
 use Rattle.std.proofs.lemmas.Bool.{and_parts}
 use Rattle.std.proofs.lemmas.List.{length-map, map-append}

@@ -6,7 +6,7 @@ ghost use Rattle.dr_formats.specs.Plain.{plain_bytes};
 ghost use Rattle.dr_formats.specs.Page.{with_value};
 ghost use Rattle.dr_formats.specs.Writing.{cut_pages};
 ghost use Rattle.dr_levels.specs.Views.{lent_value, triplets_view, triplets_form};
-ghost use Rattle.dr_write.specs.Cutting.{records_of, record_end, repetitions_of, IsEnough};
+ghost use Rattle.dr_write.specs.Cutting.{records_of, record_end, IsEnough};
 
 use dr_levels::{Levels, Triplets, ValueRef};
 use dr_nested::Kind;

@@ -1,6 +1,6 @@
 //! The elements of a schema.
 
-ghost use Rattle.std.specs.Prelude.{◌≡◌, ◌++◌, string_bytes, IfOk, OnOk};
+ghost use Rattle.std.specs.Prelude.{◌≡◌, ◌++◌, IfOk, OnOk};
 ghost use Rattle.dr_formats.specs.Writing.{type_from, repetition_number, converted_from, leaf_element, group_element, elements, shape_elements, schema_elements};
 ghost use Rattle.dr_nested.specs.Views.{rep_view, kind_view, shape_view, fields_view};
 ghost use Rattle.dr_nested.specs.SchemaView.{schema_view};

@@ -1,6 +1,6 @@
 //! The leaves of a schema.
 
-ghost use Rattle.std.specs.Prelude.{◌≡◌, ◌≤◌, ◌<◌, ◌+◌, ◌++◌, string_bytes, IfOk, OnOk, map};
+ghost use Rattle.std.specs.Prelude.{◌≡◌, ◌≤◌, ◌<◌, ◌+◌, ◌++◌, IfOk, OnOk, map};
 ghost use Rattle.dr_meaning.specs.Schema.{depth, shape_depth};
 ghost use Rattle.dr_meaning.specs.Schema as tree;
 ghost use Rattle.dr_meaning.specs.Path as path_meaning;

@@ -1,16 +1,13 @@
 //! Files, byte for byte.
 
 ghost use Rattle.std.specs.Prelude.{◌≡◌, true, IfOk};
-ghost use Rattle.std.specs.List.{list_all};
 ghost use Rattle.dr_formats.specs.Page.{is_triplet};
 ghost use Rattle.dr_formats.specs.Plain.{is_writable};
 ghost use Rattle.dr_nested.specs.Views.{kind_view};
-ghost use Rattle.dr_nested.specs.SchemaView.{schema_view};
 ghost use Rattle.dr_levels.specs.Views.{lent_value, triplet_view, column_form};
 ghost use Rattle.dr_levels.specs.Columns.{is_held, takes};
 ghost use Rattle.dr_write.specs.Chunks.{IsFor, AreFor};
 ghost use Rattle.dr_write.specs.Leaves.{leaf_view, leaves_view};
-ghost use Rattle.dr_write.specs.Files.{AreColumnsFor};
 
 use crate::leaf::Leaf;
 use crate::leaves::schema_leaves;

@@ -1,13 +1,7 @@
 //! The program: the real files and streams, and `run` over them.
 #![tactic(auto)]
 
-mod files;
-mod streams;
-#[cfg(test)]
-mod tests;
-
-use crate::files::{DirKeeper, DirLink};
-use crate::streams::{Incoming, Outgoing};
+use dr_files::{DirKeeper, DirLink, Incoming, Outgoing};
 use dr_outside::OpenGate;
 use dr_top::run;
 use std::process::ExitCode;

@@ -1,4 +1,4 @@
-use Rattle.std.proofs.Common.{sym, ap, ◌∙◌, map}
+use Rattle.std.proofs.Common.{map}
 use Rattle.dr_meaning.specs.Column.{instance_column}
 use Rattle.dr_nested.specs.Views.{instance_view, instances_view}
 use Rattle.dr_nested.specs.PathView.{step_view}

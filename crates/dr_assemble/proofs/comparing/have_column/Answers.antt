@@ -1,12 +1,11 @@
-use Rattle.std.proofs.Common.{◌≡◌, [], ◌∙◌, ◌++◌, ap, sym, take, List, length, arith, true≢false}
+use Rattle.std.proofs.Common.{◌≡◌, ◌∙◌, ◌++◌, ap, sym, take, List, arith, true≢false}
 use Rattle.std.proofs.lemmas.List.{take_all}
-use Rattle.std.specs.Prelude.{IsTrue}
 use Rattle.dr_meaning.specs.Column.{column}
 use Rattle.dr_nested.specs.PathView.{path_view}
 use Rattle.dr_nested.specs.declared.record.Node.{Node}
 use Rattle.dr_levels.specs.Views.{triplets_view, column_view}
 use Rattle.dr_assemble.specs.Views.{nodes_view}
-use Rattle.dr_assemble.proofs.ComparingLemmas.{column_more, column_never, none_left}
+use Rattle.dr_assemble.proofs.ComparingLemmas.{column_more, column_never}
 use Rattle.dr_assemble.proofs.PieceLemmas.{all_passed}
 use Rattle.dr_assemble.proofs.comparing.have_column.Goals as goal
 

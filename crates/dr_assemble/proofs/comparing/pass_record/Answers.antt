@@ -1,4 +1,4 @@
-use Rattle.std.proofs.Common.{sym, ap, ◌∙◌, List, map, subst}
+use Rattle.std.proofs.Common.{List, map, subst}
 use Rattle.dr_meaning.specs.Record.{inner}
 use Rattle.dr_meaning.specs.Column.{record_column}
 use Rattle.dr_nested.specs.Views.{node_view, instances_view}

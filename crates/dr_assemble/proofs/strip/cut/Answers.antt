@@ -1,4 +1,4 @@
-use Rattle.std.proofs.Common.{◌≡◌, ◌<◌, length, get_or, arith, ap, ◌∙◌, sym}
+use Rattle.std.proofs.Common.{◌≡◌, ◌<◌, length, get_or, arith, ap, ◌∙◌}
 use Rattle.dr_assemble.specs.Restoring.{strip}
 use Rattle.dr_assemble.specs.Views.{strip_view}
 use Rattle.dr_assemble.proofs.CuttingLemmas.{long_enough, same_there, same_behind, first_more, other_more}

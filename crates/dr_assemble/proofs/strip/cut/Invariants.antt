@@ -1,4 +1,4 @@
-use Rattle.std.proofs.Common.{◌≡◌, take, drop, length}
+use Rattle.std.proofs.Common.{◌≡◌, take, drop}
 use Rattle.dr_assemble.specs.Restoring as restoring
 use Rattle.dr_assemble.specs.Views.{strips_view}
 use Rattle.dr_assemble.proofs.strip.cut.Given as goal

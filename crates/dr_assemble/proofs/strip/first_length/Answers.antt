@@ -1,4 +1,3 @@
-use Rattle.std.proofs.Common.{arith}
 use Rattle.dr_levels.specs.Views.{triplets_view}
 use Rattle.dr_assemble.proofs.PieceLemmas.{first_taken}
 use Rattle.dr_assemble.proofs.strip.first_length.Goals as goal

@@ -1,15 +1,14 @@
-use Rattle.std.proofs.Common.{◌≡◌, ◌∙◌, map, sym, ap, ap₂, subst, true, Bool}
-use Rattle.std.specs.Prelude.{option_map, is_some}
+use Rattle.std.proofs.Common.{◌≡◌, ◌∙◌, map, sym, ap, ap₂, subst, Bool}
+use Rattle.std.specs.Prelude.{is_some}
 use Rattle.std.specs.List.{list_all}
 use Rattle.std.proofs.lemmas.Result.{err_from_is_err_and}
 use Rattle.dr_formats.specs.FileSchema.{file_schema, file_leaves}
-use Rattle.dr_formats.specs.File.{is_whole_group, is_found}
-use Rattle.dr_meta.specs.OneTree.{count_leaves}
+use Rattle.dr_formats.specs.File.{is_found}
 use Rattle.dr_meta.specs.Views.{item_view, group_view, file_view}
 use Rattle.dr_nested.specs.PathView.{path_view}
 use Rattle.dr_open.specs.Places.{place_in_file}
 use Rattle.dr_file.specs.Groups.{chunk_of, are_uncompressed_at, are_numbers_at}
-use Rattle.dr_file.specs.Openings.{opened_leaf_view, shown_at_each, footer_with, footer_cause, IsNoFooter, IsOpenedAs, IsOpenFault, IsPlacesFault}
+use Rattle.dr_file.specs.Openings.{opened_leaf_view, shown_at_each, footer_with, footer_cause, IsOpenedAs, IsOpenFault, IsPlacesFault}
 use Rattle.dr_file.proofs.OpeningLemmas.{no_footer, tree_there, chunks_there, places_there, schema_cause, opened_by_places, fault_by_places, ok_both, err_by}
 use Rattle.dr_file.proofs.opening.open_meta.Goals as goal
 

@@ -1,9 +1,8 @@
 use Rattle.std.proofs.Common.{◌∙◌, ap, map, pos}
 use Rattle.std.proofs.lemmas.Result.{on_ok_weaker}
-use Rattle.dr_formats.specs.Compact.{Item, struct_field, list_item, i32_type, binary_type, i32_item, binary_item}
+use Rattle.dr_formats.specs.Compact.{Item, struct_field, list_item, i32_type, i32_item}
 use Rattle.dr_formats.specs.Metadata.{items_of}
 use Rattle.dr_compact.specs.Views.{field_view, struct_onto}
-use Rattle.dr_meta.specs.Views.{lent}
 use Rattle.dr_meta.proofs.BuildLemmas.{numbers_item}
 use Rattle.dr_meta.proofs.building.put_some_numbers.Goals as goal
 

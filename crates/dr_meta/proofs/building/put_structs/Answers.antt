@@ -1,6 +1,6 @@
 use Rattle.std.proofs.Common.{◌∙◌, ap, map, pos}
 use Rattle.std.proofs.lemmas.Result.{on_ok_weaker}
-use Rattle.dr_formats.specs.Compact.{Item, Struct, struct_field}
+use Rattle.dr_formats.specs.Compact.{Item, struct_field}
 use Rattle.dr_compact.specs.Views.{field_view, struct_onto}
 use Rattle.dr_meta.proofs.BuildLemmas.{structs_item}
 use Rattle.dr_meta.proofs.building.put_structs.Goals as goal

@@ -1,14 +1,12 @@
-use Rattle.std.proofs.Common.{◌≡◌, ◌∙◌, sym, ap, ap₂, map, pos}
-use Rattle.std.specs.Prelude.{Some}
-use Rattle.dr_formats.specs.Compact.{Struct, stop, struct_field, struct_item, list_item, Item}
+use Rattle.std.proofs.Common.{◌∙◌, sym, ap, ap₂, map, pos}
+use Rattle.dr_formats.specs.Compact.{stop, struct_field, Item}
 use Rattle.dr_formats.specs.Metadata as metadata
-use Rattle.dr_formats.specs.Metadata.{with_field, with_i32, with_i64, count_i32, count_i64, structs}
-use Rattle.dr_compact.specs.Views.{field_view, tree_view, item_view, struct_onto}
+use Rattle.dr_formats.specs.Metadata.{with_field, with_i32, count_i64}
+use Rattle.dr_compact.specs.Views.{field_view, item_view}
 use Rattle.dr_compact.specs.declared.tree.Item.TheVariants as items
 use Rattle.dr_compact.proofs.StepLemmas.{onto_stop}
-use Rattle.dr_compact.proofs.ViewLemmas.{view-tree_of, view-binary, view-struct}
+use Rattle.dr_compact.proofs.ViewLemmas.{view-tree_of}
 use Rattle.dr_meta.specs.Views as views
-use Rattle.dr_meta.specs.Views.{lent}
 use Rattle.dr_meta.proofs.BuildLemmas.{onto_nothing}
 use Rattle.dr_formats.specs.Compact.{binary_item}
 use Rattle.dr_meta.proofs.BuildLemmas.{structs_made}

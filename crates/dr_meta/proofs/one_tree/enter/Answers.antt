@@ -1,7 +1,7 @@
 use Rattle.dr_meta.specs.Views.{item_view}
 use Rattle.dr_meta.proofs.OneTreeLemmas.{leaf_entered, group_entered}
 use Rattle.dr_meta.proofs.one_tree.enter.Goals as goal
-use Rattle.std.proofs.Common.{refl, sym, ◌∙◌}
+use Rattle.std.proofs.Common.{sym}
 
 pub returns-then-is_some-clause-step : goal.returns-then-is_some-clause-step
 returns-then-is_some-clause-step c = leaf_entered (item_view c.args.item.now) c.args.groups.now.items c.pop.new.self.items c.open_group.new.groups.items c.in-Some.left c.in-Some.ensures.items (c.is_repetition.ensures.some c.if-not-is_repetition.false) c.if-is_some.ensures c.in_ok-open_group.ensures

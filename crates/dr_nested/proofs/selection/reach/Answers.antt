@@ -1,6 +1,5 @@
-use Rattle.std.proofs.Common.{arith, sym, ap, ◌∙◌, ◌≤◌, ◌<◌, ◌+◌, List, length}
+use Rattle.std.proofs.Common.{arith, sym, ap, ◌∙◌, ◌+◌}
 use Rattle.dr_nested.specs.SelectionView.{padded}
-use Rattle.dr_nested.specs.declared.selection.Choice.{Choice}
 use Rattle.dr_nested.proofs.SelectionLemmas.{padded_push, padded_enough}
 use Rattle.dr_nested.proofs.selection.reach.Goals as goal
 

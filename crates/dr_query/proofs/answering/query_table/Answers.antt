@@ -1,7 +1,6 @@
-use Rattle.std.proofs.Common.{◌≡◌, sym, subst}
+use Rattle.std.proofs.Common.{◌≡◌, subst}
 use Rattle.std.proofs.lemmas.Result.{IfOk-at_ok}
 use Rattle.std.specs.Prelude.{string_bytes}
-use Rattle.dr_nested.specs.SchemaView.{schema_view}
 use Rattle.dr_plan.specs.Planned.{plan_view}
 use Rattle.dr_table.specs.Views.{table_view}
 use Rattle.dr_meaning.specs.QueryLeaves.{query_leaves}

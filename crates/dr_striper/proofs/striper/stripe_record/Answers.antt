@@ -1,5 +1,5 @@
 use Rattle.std.proofs.Common.{ap, ◌∙◌, subst, sym}
-use Rattle.dr_levels.specs.Views.{columns_view, forms_view}
+use Rattle.dr_levels.specs.Views.{columns_view}
 use Rattle.dr_meaning.specs.Column.{record_column}
 use Rattle.dr_nested.specs.Views.{node_view}
 use Rattle.dr_striper.specs.Striping.{Takes, paths_of}

@@ -1,9 +1,9 @@
-use Rattle.std.proofs.Common.{rules, ◌≡◌, ◌+◌, ◌-◌, ◌++◌, ◌∙◌, sym, ap, subst, arith, length, map, take, drop}
+use Rattle.std.proofs.Common.{rules, ◌≡◌, ◌+◌, ◌-◌, ◌++◌, ◌∙◌, sym, ap, subst, arith, length, take}
 use Rattle.std.proofs.lemmas.List.{take-append-drop}
 use Rattle.std.proofs.lemmas.Result.{IfOk-weaker, IfOk-at_ok}
 use Rattle.dr_partials.specs.Partials as meant
-use Rattle.dr_partials.specs.Trees.{gathered, gathered_behind, tablets_of, tablets_of_all}
-use Rattle.dr_tree.specs.Together.{IsGathered, Together, partials_view}
+use Rattle.dr_partials.specs.Trees.{gathered, tablets_of, tablets_of_all}
+use Rattle.dr_tree.specs.Together.{Together}
 use Rattle.dr_tree.specs.Views.{tree_view, all_views, trees_view}
 use Rattle.dr_tree.proofs.ViewLemmas.{size, sizes, sizes_last, last_apart, has_size, count_apart}
 use Rattle.dr_tree.proofs.GatheringLemmas.{leaf_gathered, first_together, second_together, gathered_alike, gathered_room, merged_gathered, gathered_children}

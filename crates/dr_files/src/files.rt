@@ -45,6 +45,7 @@ impl<R: Files> DirLink<R>
 where
     R::File: FileExt,
 {
+    /// The files that `files` reaches. No fault is counted yet.
     pub fn new(alloc: Global, files: R) -> Self
         ensures { (⟦<DirLink<R> as Link>⟧.shows result).faults ≡ 0 }
     {
@@ -120,6 +121,7 @@ impl<R: Files> DirKeeper<R>
 where
     R::File: FileExt,
 {
+    /// The files that `files` reaches. No fault is counted yet.
     pub fn new(alloc: Global, files: R) -> Self
         ensures { (⟦<DirKeeper<R> as Link>⟧.shows result).faults ≡ 0 }
     {

@@ -12,6 +12,7 @@ pub struct Incoming<R> {
 }
 
 impl<R: Read> Incoming<R> {
+    /// The source of a reader. No fault is counted yet.
     pub fn new(reader: R) -> Self
         ensures { (⟦<Incoming<R> as Source>⟧.shows result).faults ≡ 0 }
     {
@@ -42,6 +43,7 @@ pub struct Outgoing<W> {
 }
 
 impl<W: Write> Outgoing<W> {
+    /// The sink of a writer. No fault and no call is counted yet.
     pub fn new(writer: W) -> Self
         ensures { (⟦<Outgoing<W> as Sink>⟧.shows result).faults ≡ 0 }
     {
