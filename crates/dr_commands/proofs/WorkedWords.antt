@@ -1,11 +1,11 @@
 -- Command lines written out: each holds by computation.
-use Rattle.std.specs.Prelude.{◌≡◌, ℕ, refl, List, [], ◌∷◌, Some, None, codes}
+use Rattle.std.specs.Prelude.{◌≡◌, ℕ, refl, List, [], ◌∷◌, map, replicate, Option, Some, None, codes}
 use Rattle.clap.specs.Words.{Text, fault_of}
 use Rattle.clap.specs.declared.error.ErrorKind.TheVariants as kind
 use Rattle.clap.proofs.OnLiterals.{clap_on_literals}
 use Rattle.dr_commands.specs.Ask.{AskWords, ask_meaning}
 use Rattle.dr_commands.specs.Query.{QueryWords, query_meaning}
-use Rattle.dr_commands.specs.Commands.{Taken, ask, explain, query as query_words, asked, dremel_app}
+use Rattle.dr_commands.specs.Commands.{Taken, CommandWords, load, ask, dump, stripe, fsm, show_schema, explain, query as query_words, asked, dremel_app}
 
 abbrev query : Text
 query = codes "SELECT COUNT(Name.Url) FROM Document"
@@ -80,6 +80,48 @@ explain_is_asked = refl
 pub nothing_explained : asked (codes "dremel" ∷ codes "explain" ∷ query ∷ []) ≡ None
 unfolding clap_on_literals
 nothing_explained = refl
+
+-- ---- the other commands
+
+-- a load: its two files; how many records a tablet gets and how many copies it has, behind the directories or before them
+abbrev load_line : List Text → List Text
+load_line more = codes "dremel" ∷ codes "load" ∷ codes "--schema" ∷ codes "s" ∷ codes "--table" ∷ codes "t" ∷ more
+
+abbrev load_of : ℕ → ℕ → List Text → Option CommandWords
+load_of rows copies directories = Some (load (record { schema = codes "s"; table = codes "t"; rows = rows; copies = copies; directories = directories }))
+
+pub loads_are_asked : (asked (load_line (codes "x" ∷ codes "y" ∷ [])) ≡ load_of 100000 1 (codes "x" ∷ codes "y" ∷ []))
+    × (asked (load_line (codes "--rows" ∷ codes "1000000" ∷ codes "--copies=64" ∷ codes "x" ∷ [])) ≡ load_of 1000000 64 (codes "x" ∷ []))
+    × (asked (load_line (codes "x" ∷ codes "y" ∷ codes "--copies" ∷ codes "+2" ∷ codes "--rows=1" ∷ [])) ≡ load_of 1 2 (codes "x" ∷ codes "y" ∷ []))
+unfolding clap_on_literals
+loads_are_asked = (refl, refl, refl)
+
+-- no directory; numbers out of their bounds; a file that isn't named
+pub no_loads : map asked (load_line [] ∷ load_line (codes "--rows=0" ∷ codes "x" ∷ []) ∷ load_line (codes "--rows=1000001" ∷ codes "x" ∷ []) ∷ load_line (codes "--copies=0" ∷ codes "x" ∷ []) ∷ load_line (codes "--copies=65" ∷ codes "x" ∷ [])
+    ∷ (codes "dremel" ∷ codes "load" ∷ codes "--schema" ∷ codes "s" ∷ codes "x" ∷ []) ∷ (codes "dremel" ∷ codes "load" ∷ codes "--table" ∷ codes "t" ∷ codes "x" ∷ []) ∷ []) ≡ replicate 7 None
+unfolding clap_on_literals
+no_loads = refl
+
+-- at most 64 directories
+pub directories_of_loads : (asked (load_line (replicate 64 (codes "x"))) ≡ load_of 100000 1 (replicate 64 (codes "x"))) × (asked (load_line (replicate 65 (codes "x"))) ≡ None)
+unfolding clap_on_literals
+directories_of_loads = (refl, refl)
+
+-- a dump of some leaves, a column, an automaton, the schema of a file
+pub others_are_asked : (asked (codes "dremel" ∷ codes "dump" ∷ codes "--table" ∷ codes "t" ∷ codes "a" ∷ codes "b" ∷ []) ≡ Some (dump (record { table = codes "t"; fields = codes "a" ∷ codes "b" ∷ [] })))
+    × (asked (codes "dremel" ∷ codes "stripe" ∷ codes "--schema" ∷ codes "s" ∷ codes "a" ∷ []) ≡ Some (stripe (record { schema = codes "s"; field = codes "a" })))
+    × (asked (codes "dremel" ∷ codes "fsm" ∷ codes "--schema" ∷ codes "s" ∷ codes "a" ∷ codes "b" ∷ []) ≡ Some (fsm (record { schema = codes "s"; fields = codes "a" ∷ codes "b" ∷ [] })))
+    × (asked (codes "dremel" ∷ codes "schema" ∷ codes "f" ∷ []) ≡ Some (show_schema (record { file = codes "f" })))
+unfolding clap_on_literals
+others_are_asked = (refl, refl, refl, refl)
+
+-- no leaf, no file; two leaves of a column, two files; a file that isn't named
+pub others_without_their_words : map (λ words. asked (codes "dremel" ∷ words))
+    ((codes "dump" ∷ codes "--table" ∷ codes "t" ∷ []) ∷ (codes "stripe" ∷ codes "--schema" ∷ codes "s" ∷ []) ∷ (codes "fsm" ∷ codes "--schema" ∷ codes "s" ∷ []) ∷ (codes "schema" ∷ [])
+    ∷ (codes "stripe" ∷ codes "--schema" ∷ codes "s" ∷ codes "a" ∷ codes "b" ∷ []) ∷ (codes "schema" ∷ codes "f" ∷ codes "g" ∷ [])
+    ∷ (codes "dump" ∷ codes "a" ∷ []) ∷ (codes "stripe" ∷ codes "a" ∷ []) ∷ (codes "fsm" ∷ codes "a" ∷ []) ∷ []) ≡ replicate 9 None
+unfolding clap_on_literals
+others_without_their_words = refl
 
 -- ---- the lines that are refused, with the kind that clap gives each
 
