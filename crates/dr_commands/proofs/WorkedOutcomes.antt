@@ -26,11 +26,7 @@ use Rattle.dr_meaning.proofs.WorkedStripe.{doc_id_lines}
 use Rattle.dr_meaning.proofs.WorkedAsk.{first_answer}
 use Rattle.dr_meaning.proofs.WorkedRecords.{line_10, line_20, record_10, record_20, numbers}
 use Rattle.dr_formats.specs.Loading.{Put, Plan, load, load_taken, puts_of, leaf_refused, copies_refused}
-use Rattle.dr_formats.specs.Compact.{read_struct}
-use Rattle.dr_formats.specs.File.{bad_footer, bad_schema, footer_of, schema_of_file}
 use Rattle.dr_formats.specs.TableFile.{parse_table, bad_head}
-use Rattle.dr_formats.proofs.WorkedFiles.{one_file}
-use Rattle.dr_formats.proofs.WorkedDamaged.{changed}
 use Rattle.dr_formats.proofs.WorkedTables.{two_copies_text}
 use Rattle.dr_reading.specs.Scan.{Copy}
 use Rattle.dr_commands.specs.Refusals.{schema_refused, table_refused, field_refused, words_refused, query_refused, line_refused, refusal_of, refusal_text}
@@ -106,11 +102,6 @@ count_is_printed = ap plain first_answer
 
 pub schema_is_shown : at (show_schema_meaning (record { file = codes "f.parquet" })) [] [] ≡ looks_at (codes "f.parquet")
 schema_is_shown = refl
-
--- a file whose only leaf has the type DOUBLE, and bytes that aren't framed, have none
-pub no_schema_is_shown : (schema_of_file (changed 40 10 one_file) ≡ Err bad_schema) × (schema_of_file [] ≡ Err bad_footer)
-unfolding footer_of read_struct
-no_schema_is_shown = (refl, refl)
 
 -- what a command without tables refuses, and what it prints
 pub plain_ends : (plain (Ok (codes "x")) ≡ done (codes "x") []) × (plain (Err (plainly.field_refused 1 unknown_field)) ≡ refused (field_refused 1 unknown_field) [])

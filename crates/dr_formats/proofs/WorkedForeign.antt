@@ -1,5 +1,5 @@
 -- Files that another writer may have made, by computation: a dictionary, a column that is closed, another codec.
-use Rattle.std.specs.Prelude.{◌≡◌, ℕ, List, [], ◌∷◌, pos, Some, None, codes, refl, Ok}
+use Rattle.std.specs.Prelude.{◌≡◌, ℕ, List, [], ◌∷◌, pos, Some, None, codes, refl, Ok, Err}
 use Rattle.dr_meaning.specs.Schema.{Schema, no_fields, field, leaf, required, int64_kind}
 use Rattle.dr_meaning.specs.Path.{leaves}
 use Rattle.dr_meaning.specs.Record.{Node, no_slots, slot, no_instances, instance, atom, int_value}
@@ -7,11 +7,11 @@ use Rattle.dr_formats.specs.Compact.{read_struct, struct_bytes}
 use Rattle.dr_formats.specs.Hybrid.{hybrid}
 use Rattle.dr_formats.specs.Page.{page_triplets}
 use Rattle.dr_formats.specs.Metadata.{SchemaElement, ColumnChunk, FileMeta, file_tree}
-use Rattle.dr_formats.specs.File.{bad_schema, bad_codec, bad_data, HasCause, IsFileOf, footer_of, schema_of_file}
+use Rattle.dr_formats.specs.File.{bad_footer, bad_schema, bad_codec, bad_data, HasCause, IsFileOf, footer_of, schema_of_file}
 use Rattle.dr_formats.specs.Writing.{framed, leaf_element}
 use Rattle.dr_formats.proofs.FileLemmas.{known_cause_holds}
 use Rattle.dr_formats.proofs.WorkedFiles.{one_schema, one_file}
-use Rattle.dr_formats.proofs.WorkedDamaged.{footer_or, one_leaf}
+use Rattle.dr_formats.proofs.WorkedDamaged.{changed, footer_or, one_leaf}
 
 -- a dictionary page of 7 and 9 and a page of three of its values
 abbrev pub dictionary_chunk : List ℕ → List ℕ
@@ -87,3 +87,8 @@ open_part = refl
 pub written_schema : schema_of_file one_file ≡ Ok one_schema
 unfolding footer_of read_struct
 written_schema = refl
+
+-- a file whose only leaf has the type DOUBLE, and bytes that aren't framed, have none
+pub no_schema_is_shown : (schema_of_file (changed 40 10 one_file) ≡ Err bad_schema) × (schema_of_file [] ≡ Err bad_footer)
+unfolding footer_of read_struct
+no_schema_is_shown = (refl, refl)
