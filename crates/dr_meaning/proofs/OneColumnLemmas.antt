@@ -417,7 +417,7 @@ through_kind_is zero kind kinds first later k f g h = f h
 through_kind_is (suc i) kind kinds first later k f g h = g i h
 
 mutual
-  kind_is_path : (fs : Fields) (p : List Step) (k : Kind) → leaf_kind fs p ≡ Some k → is_leaf_path fs p ≡ true
+  pub kind_is_path : (fs : Fields) (p : List Step) (k : Kind) → leaf_kind fs p ≡ Some k → is_leaf_path fs p ≡ true
   kind_is_path no_fields p k h = absurd (cc)
   kind_is_path (field n r s fs) [] k h = absurd (cc)
   kind_is_path (field n r s fs) (t ∷ p) k h =
@@ -426,7 +426,7 @@ mutual
       (λ j e. kind_is_path fs (step j t.repetition ∷ p) k e)
       h
 
-  shape_is_path : (s : Shape) (p : List Step) (k : Kind) → shape_kind s p ≡ Some k → is_shape_path s p ≡ true
+  pub shape_is_path : (s : Shape) (p : List Step) (k : Kind) → shape_kind s p ≡ Some k → is_shape_path s p ≡ true
   shape_is_path (leaf j) [] k h = refl
   shape_is_path (leaf j) (t ∷ p) k h = absurd (cc)
   shape_is_path (group fs) p k h = kind_is_path fs p k h
