@@ -1,0 +1,8 @@
+use Rattle.std.specs.Prelude.{Option}
+use Rattle.dr_meaning.specs.Record.{Value}
+use Rattle.dr_partials.specs.Putting.{Put}
+use Rattle.dr_firing.proofs.CuttingLemmas.{goes_behind}
+use Rattle.dr_firing.proofs.cutting_laws.append_and_cut.Goals as goal
+
+pub returns : goal.returns
+returns c = record { values = λ seen left w r T g. goes_behind seen left w r T g; puts = λ seen left w r T g. goes_behind seen left w r T g }
