@@ -1,5 +1,6 @@
 -- worked examples, by computation
 pub mod WorkedCourse
+pub mod WorkedTurns
 -- what the walk's machine makes of moves' own columns; what is made in going through a course; leaves selected once each
 pub mod Following
 pub mod Made

@@ -1,64 +1,84 @@
--- Courses of a small schema, gone through: over the columns of records, and over columns that no records have.
-use Rattle.std.proofs.Common.{◌≡◌, ℕ, zero, suc, List, [], ◌∷◌, ◌++◌, Option, None, Some, refl}
-use Rattle.std.specs.Prelude.{map, option_map, pos}
-use Rattle.dr_meaning.specs.Schema.{Repetition, required, optional, repeated, int64_kind, Fields, no_fields, field, leaf, group}
-use Rattle.dr_meaning.specs.Path.{Step}
-use Rattle.dr_meaning.specs.Record.{int_value, Node, no_slots, slot, no_instances, instance, Instance, atom, inner, single}
-use Rattle.dr_meaning.specs.Column.{Triplet, triplet}
-use Rattle.dr_meaning.specs.Walk.{Move, walk}
-use Rattle.dr_course.specs.Course.{Items, course}
-use Rattle.dr_course.specs.Turning.{Stack, between, Turn, gives, goes_on, done, stops, turn}
-use Rattle.dr_course.specs.Leading.{Left, heads, behind_move, columns_of, has_columns}
+-- Courses, by computation.
+use Rattle.std.specs.Prelude.{◌≡◌, ℕ, zero, suc, List, [], ◌∷◌, map, Bool, true, false, refl}
+use Rattle.dr_meaning.specs.Schema.{required, optional, repeated, int64_kind, text_kind, Kind, Fields, no_fields, field, leaf, group}
+use Rattle.dr_meaning.specs.Path.{Step, same_path}
+use Rattle.dr_meaning.proofs.WorkedSchemas.{document}
+use Rattle.dr_meaning.proofs.WorkedPaths.{step, doc_id, backward, forward, code, country, url}
+use Rattle.dr_course.specs.Course.{Gate, reach, are_open, Give, comes_to, Visit, Items, nothing, give, visit, followed_by, course}
+use Rattle.dr_course.specs.Selection.{all_differ}
 
-abbrev after_turn : (Stack → Left → Option (List Move)) → Left → Turn → Option (List Move)
-after_turn run left (gives m S) = option_map (λ ms. m ∷ ms) (run S (behind_move m left))
-after_turn run left (goes_on S) = run S left
-after_turn run left done = Some []
-after_turn run left stops = None
+abbrev pub gate : ℕ → ℕ → Gate
+gate i d = record { leaf = i; definition = d }
 
--- the moves of so many turns, where all is done within them
-abbrev run : Items → ℕ → Stack → Left → Option (List Move)
-run T zero S left = None
-run T (suc n) S left = after_turn (λ U rest. run T n U rest) left (turn T S (heads left))
+-- ---- gates: levels 3, 1 and 0 come next for the leaves 0, 1 and all others
 
-abbrev step : ℕ → Repetition → Step
-step i r = record { place = i; repetition = r }
+abbrev next : ℕ → ℕ
+next zero = 3
+next (suc zero) = 1
+next (suc (suc i)) = 0
 
--- message { optional group g { repeated group h { optional int64 a; required int64 b }; optional int64 c }; repeated int64 d }
-abbrev fs : Fields
-fs = field [] optional (group (field [] repeated (group (field [] optional (leaf int64_kind) (field [] required (leaf int64_kind) no_fields))) (field [] optional (leaf int64_kind) no_fields)))
+-- a group is there where the level is greater than its own
+pub open_gates : map (are_open next) ([] ∷ (gate 0 2 ∷ []) ∷ (gate 0 3 ∷ []) ∷ (gate 0 2 ∷ gate 1 0 ∷ []) ∷ (gate 0 2 ∷ gate 1 1 ∷ []) ∷ (gate 1 1 ∷ gate 0 2 ∷ []) ∷ []) ≡
+    true ∷ true ∷ false ∷ true ∷ false ∷ false ∷ []
+open_gates = refl
+
+pub reached : map (λ G. reach next G 7) ([] ∷ (gate 0 2 ∷ []) ∷ (gate 0 3 ∷ []) ∷ (gate 0 2 ∷ gate 1 0 ∷ []) ∷ (gate 0 2 ∷ gate 1 1 ∷ []) ∷ (gate 1 1 ∷ gate 0 3 ∷ []) ∷ []) ≡
+    7 ∷ 7 ∷ 3 ∷ 7 ∷ 1 ∷ 1 ∷ []
+reached = refl
+
+abbrev pub given : ℕ → Kind → List Gate → ℕ → ℕ → Give
+given i k G low full = record { leaf = i; kind = k; gates = G; low = low; full = full }
+
+-- a leaf of the levels 4 and 5: behind open gates, and behind a shut one of level 3
+pub may_come : (map (comes_to next (given 1 int64_kind (gate 0 2 ∷ []) 4 5)) (0 ∷ 2 ∷ 3 ∷ 4 ∷ 5 ∷ 6 ∷ []) ≡ false ∷ false ∷ false ∷ true ∷ true ∷ false ∷ [])
+    × (map (comes_to next (given 1 int64_kind (gate 0 3 ∷ []) 4 5)) (0 ∷ 2 ∷ 3 ∷ 4 ∷ 5 ∷ 6 ∷ []) ≡ false ∷ false ∷ true ∷ false ∷ false ∷ false ∷ [])
+may_come = (refl, refl)
+
+-- ---- courses
+
+-- a record's own leaf, then each name; in a name its own leaf, then each language
+pub three_leaves : course document (doc_id ∷ country ∷ url ∷ []) ≡
+    give (given 0 int64_kind [] 0 0) (
+    visit (record { number = 3; level = 1; leaf = 1; gates = []; low = 0; leaves = 2 ∷ 1 ∷ [] })
+    (give (given 2 text_kind [] 1 2)
+    (visit (record { number = 4; level = 2; leaf = 1; gates = []; low = 1; leaves = 1 ∷ [] }) (give (given 1 text_kind [] 2 3) nothing) nothing))
+    nothing)
+three_leaves = refl
+
+-- the fields of an optional group, each behind its gate; a repeated leaf's only level is that of its instances; nothing without selected leaves
+pub links : (course document (forward ∷ backward ∷ []) ≡
+    visit (record { number = 1; level = 1; leaf = 1; gates = gate 0 0 ∷ []; low = 1; leaves = 1 ∷ [] }) (give (given 1 int64_kind [] 2 2) nothing)
+    (visit (record { number = 2; level = 1; leaf = 0; gates = gate 0 0 ∷ []; low = 1; leaves = 0 ∷ [] }) (give (given 0 int64_kind [] 2 2) nothing) nothing))
+    × (course document [] ≡ nothing)
+links = (refl, refl)
+
+-- optional groups inside and outside of repeated ones:
+-- { optional group g { repeated group h { optional group i { optional int64 a; required int64 b } }; required group j { optional int64 c } }; repeated int64 d }
+abbrev pub fs : Fields
+fs =
+    field [] optional (group
+    (field [] repeated (group (field [] optional (group (field [] optional (leaf int64_kind) (field [] required (leaf int64_kind) no_fields))) no_fields))
+    (field [] required (group (field [] optional (leaf int64_kind) no_fields)) no_fields)))
     (field [] repeated (leaf int64_kind) no_fields)
 
-abbrev F : List (List Step)
-F = (step 0 optional ∷ step 0 repeated ∷ step 0 optional ∷ []) ∷ (step 0 optional ∷ step 0 repeated ∷ step 1 required ∷ []) ∷ (step 0 optional ∷ step 1 optional ∷ []) ∷ (step 1 repeated ∷ []) ∷ []
+abbrev pub F : List (List Step)
+F = (step 0 optional ∷ step 0 repeated ∷ step 0 optional ∷ step 0 optional ∷ [])
+    ∷ (step 0 optional ∷ step 0 repeated ∷ step 0 optional ∷ step 1 required ∷ [])
+    ∷ (step 0 optional ∷ step 1 required ∷ step 0 optional ∷ [])
+    ∷ (step 1 repeated ∷ []) ∷ []
 
-abbrev number : ℕ → Instance
-number n = atom (int_value (pos n))
+-- g's gate is asked where the record begins, of its first selected leaf; i's where an instance of h begins
+pub gated_course : course fs F ≡
+    give (given 2 int64_kind (gate 0 0 ∷ []) 1 2) (
+    visit (record { number = 1; level = 1; leaf = 0; gates = gate 0 0 ∷ []; low = 1; leaves = 0 ∷ 1 ∷ [] })
+    (give (given 0 int64_kind (gate 0 2 ∷ []) 3 4) (give (given 1 int64_kind (gate 0 2 ∷ []) 3 3) nothing))
+    (visit (record { number = 2; level = 1; leaf = 3; gates = []; low = 0; leaves = 3 ∷ [] }) (give (given 3 int64_kind [] 1 1) nothing) nothing))
+gated_course = refl
 
-abbrev h_of : ℕ → Instance
-h_of n = inner (slot no_instances (slot (single (number n)) no_slots))
+pub one_behind_the_other : followed_by (give (given 0 int64_kind [] 0 0) nothing) (give (given 1 int64_kind [] 0 0) nothing) ≡ give (given 0 int64_kind [] 0 0) (give (given 1 int64_kind [] 0 0) nothing)
+one_behind_the_other = refl
 
-abbrev r1 : Node
-r1 = slot (single (inner (slot (instance (h_of 1) (single (h_of 2))) (slot (single (number 3)) no_slots)))) (slot (instance (number 4) (single (number 5))) no_slots)
+-- ---- selections
 
-abbrev r2 : Node
-r2 = slot no_instances (slot no_instances no_slots)
-
-abbrev r3 : Node
-r3 = slot (single (inner (slot no_instances (slot no_instances no_slots)))) (slot no_instances no_slots)
-
-gives_walk : run (course fs F) 100 (between 3) (has_columns F (r1 ∷ r2 ∷ r3 ∷ [])) ≡ Some (walk fs F (r1 ∷ r2 ∷ r3 ∷ []))
-unfolding walk
-gives_walk = refl
-
-abbrev null_at : ℕ → ℕ → Triplet
-null_at r d = triplet r d None
-
--- g is absent for one leaf, and there for another; the columns of one record
-disagree : run (course fs F) 100 (between 1) (columns_of ((null_at 0 0 ∷ []) ∷ (null_at 0 1 ∷ []) ∷ (null_at 0 1 ∷ []) ∷ (null_at 0 0 ∷ []) ∷ [])) ≡ None
-disagree = refl
-
--- one more instance after an empty list
-after_empty : run (course fs F) 100 (between 1) (columns_of ((null_at 0 0 ∷ []) ∷ (null_at 0 0 ∷ []) ∷ (null_at 0 0 ∷ []) ∷ (null_at 0 0 ∷ triplet 1 1 (Some (int_value (pos 7))) ∷ []) ∷ [])) ≡ Some (walk fs F (r2 ∷ []))
-unfolding walk
-after_empty = refl
+pub differ : map all_differ ([] ∷ (doc_id ∷ []) ∷ (doc_id ∷ code ∷ country ∷ url ∷ []) ∷ (doc_id ∷ doc_id ∷ []) ∷ (code ∷ country ∷ code ∷ []) ∷ (code ∷ country ∷ country ∷ []) ∷ []) ≡ true ∷ true ∷ true ∷ false ∷ false ∷ false ∷ []
+differ = refl
