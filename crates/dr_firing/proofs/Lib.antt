@@ -1,3 +1,5 @@
+-- worked examples, by computation
+pub mod WorkedFiring
 -- what was read of a leaf wherever a triplet of another is given
 pub mod ReadingLemmas
 pub mod NearLemmas

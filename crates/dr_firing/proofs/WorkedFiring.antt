@@ -1,0 +1,200 @@
+-- What a scan makes of a record's moves, by computation.
+use Rattle.std.proofs.Common.{◌≡◌, ◌⊎◌, inl, inr, ◌<◌, ℕ, zero, suc, List, [], ◌∷◌, ◌++◌, length, refl, arith}
+use Rattle.std.specs.Prelude.{map, Bool, true, false, ◌==◌, if◌then◌else◌, Option, Some, None, pos, codes, bytes_eq}
+use Rattle.dr_meaning.specs.Path.{Step, level}
+use Rattle.dr_meaning.specs.Record.{Value, bool_value, int_value, text_value, Node}
+use Rattle.dr_meaning.specs.Rows.{rows, value_at}
+use Rattle.dr_meaning.specs.Column.{triplet}
+use Rattle.dr_meaning.specs.Walk.{Move, enter, value, leave, record_moves}
+use Rattle.dr_meaning.proofs.WorkedSchemas.{document}
+use Rattle.dr_meaning.proofs.WorkedRecords.{record_10}
+use Rattle.dr_meaning.proofs.WorkedPaths.{doc_id, backward, forward, name, code, country, url}
+use Rattle.dr_firing.specs.Context.{Context, with_value, contexts}
+use Rattle.dr_firing.specs.Together.{Together, same_leaf, along, apart}
+use Rattle.dr_firing.specs.Tour.{Tour, over, saw, inside, moves_of, after}
+use Rattle.dr_firing.specs.Condition.{Watch, some_true, rest_below, is_dropped}
+use Rattle.dr_firing.specs.Cutting.{flow, Branch, Going, go, go_all}
+
+abbrev word : List ℕ → Option Value
+word t = Some (text_value t)
+
+abbrev number : ℕ → Option Value
+number n = Some (int_value (pos n))
+
+-- the leaves 0, 1 and 2
+abbrev F : List (List Step)
+F = doc_id ∷ country ∷ url ∷ []
+
+-- a name with two languages, one with none, and one with one language and no url
+abbrev moves_10 : List Move
+moves_10 =
+    enter 0 ∷ value 0 (triplet 0 0 (number 10))
+    ∷ enter 3 ∷ value 2 (triplet 0 2 (word (codes "http://A"))) ∷ enter 4 ∷ value 1 (triplet 0 3 (word (codes "us"))) ∷ leave 4 ∷ enter 4 ∷ value 1 (triplet 2 2 None) ∷ leave 4 ∷ leave 3
+    ∷ enter 3 ∷ value 2 (triplet 1 2 (word (codes "http://B"))) ∷ value 1 (triplet 1 1 None) ∷ leave 3
+    ∷ enter 3 ∷ value 2 (triplet 1 1 None) ∷ enter 4 ∷ value 1 (triplet 1 3 (word (codes "gb"))) ∷ leave 4 ∷ leave 3
+    ∷ leave 0 ∷ []
+
+pub are_moves : record_moves document F record_10 ≡ moves_10
+are_moves = refl
+
+-- nothing was read before
+abbrev start : Context
+start i = None
+
+-- ---- contexts and rows
+
+abbrev three : Context → List (Option Value)
+three d = d 0 ∷ d 1 ∷ d 2 ∷ []
+
+abbrev four_rows : List (List (Option Value))
+four_rows =
+    (number 10 ∷ word (codes "us") ∷ word (codes "http://A") ∷ []) ∷ (number 10 ∷ None ∷ word (codes "http://A") ∷ [])
+    ∷ (number 10 ∷ None ∷ word (codes "http://B") ∷ []) ∷ (number 10 ∷ word (codes "gb") ∷ None ∷ []) ∷ []
+
+pub at_country : map three (contexts 1 start moves_10) ≡ four_rows
+at_country = refl
+
+-- these are the rows of the level of Country
+pub are_rows : map (λ (row : Node). value_at doc_id row ∷ value_at country row ∷ value_at url row ∷ []) (rows (level country) record_10) ≡ four_rows
+are_rows = refl
+
+-- at each url the country that was read last, which is no leaf read together with it: that of the name before
+pub at_url : map three (contexts 2 start moves_10) ≡
+    (number 10 ∷ None ∷ word (codes "http://A") ∷ []) ∷ (number 10 ∷ None ∷ word (codes "http://B") ∷ []) ∷ (number 10 ∷ None ∷ None ∷ []) ∷ []
+at_url = refl
+
+-- ---- leaves that are read together
+
+-- a leaf with itself; a leaf of the record with one in a name; a name's own leaf with one in its languages; two leaves of one level, in their order
+pub with_itself : Together (Unit {0}) ⊥ code code
+with_itself = along _ _ _ _ _ (along _ _ _ _ _ (along _ _ _ _ _ (same_leaf tt)))
+
+pub of_record : Together ⊥ (Unit {0}) doc_id country
+of_record = apart _ _ _ _ tt (refl, refl, inl (omega arith))
+
+pub of_name : Together ⊥ (Unit {0}) url country
+of_name = along _ _ _ _ _ (apart _ _ _ _ tt (refl, refl, inl (omega arith)))
+
+pub in_order : Together ⊥ (Unit {0}) code country
+in_order = along _ _ _ _ _ (along _ _ _ _ _ (apart _ _ _ _ tt (refl, refl, inr (omega arith, refl))))
+
+-- ---- tours
+
+abbrev name_1 : Tour → Tour
+name_1 T = inside 3 (saw 2 (triplet 0 2 (word (codes "http://A"))) (inside 4 (saw 1 (triplet 0 3 (word (codes "us"))) over) (inside 4 (saw 1 (triplet 2 2 None) over) over))) T
+
+abbrev name_2 : Tour → Tour
+name_2 T = inside 3 (saw 2 (triplet 1 2 (word (codes "http://B"))) (saw 1 (triplet 1 1 None) over)) T
+
+abbrev name_3 : Tour → Tour
+name_3 T = inside 3 (saw 2 (triplet 1 1 None) (inside 4 (saw 1 (triplet 1 3 (word (codes "gb"))) over) over)) T
+
+abbrev tour_10 : Tour
+tour_10 = inside 0 (saw 0 (triplet 0 0 (number 10)) (name_1 (name_2 (name_3 over)))) over
+
+pub tour_moves : moves_of tour_10 ≡ moves_10
+tour_moves = refl
+
+pub context_behind : (three (after start tour_10) ≡ number 10 ∷ word (codes "gb") ∷ None ∷ []) × (three (after start (name_1 over)) ≡ None ∷ None ∷ word (codes "http://A") ∷ [])
+context_behind = (refl, refl)
+
+-- ---- conditions
+
+abbrev is_word : List ℕ → Option Value → Bool
+is_word t None = false
+is_word t (Some (bool_value b)) = false
+is_word t (Some (int_value z)) = false
+is_word t (Some (text_value u)) = bytes_eq t u
+
+-- Name.Language.Country = 'gb'; Name.Language.Country = 'us' AND Name.Url = 'http://A'; Name.Url = 'http://B'; DocId is there
+abbrev in_gb : Watch
+in_gb = record { chain = 3 ∷ 4 ∷ []; last = 1; test = λ (d : Context). is_word (codes "gb") (d 1) }
+
+abbrev us_of_a : Watch
+us_of_a = record { chain = 3 ∷ 4 ∷ []; last = 1; test = λ (d : Context). if is_word (codes "us") (d 1) then is_word (codes "http://A") (d 2) else false }
+
+abbrev at_b : Watch
+at_b = record { chain = 3 ∷ []; last = 2; test = λ (d : Context). is_word (codes "http://B") (d 2) }
+
+abbrev always : Watch
+always = record { chain = []; last = 0; test = λ (d : Context). true }
+
+abbrev in_names : Watch → List Bool
+in_names w = some_true w start (name_1 over) ∷ some_true w start (name_2 over) ∷ some_true w start (name_3 over) ∷ some_true w start tour_10 ∷ []
+
+pub true_rows : (in_names in_gb ≡ false ∷ false ∷ true ∷ true ∷ []) × (in_names us_of_a ≡ true ∷ false ∷ false ∷ true ∷ []) × (in_names at_b ≡ false ∷ true ∷ false ∷ true ∷ []) × (in_names always ≡ false ∷ false ∷ false ∷ true ∷ [])
+true_rows = (refl, refl, refl, refl)
+
+-- a row is at the last leaf, with what was read before it, inside and outside of the instance
+pub row_needs_context : (some_true us_of_a start (inside 4 (saw 1 (triplet 0 3 (word (codes "us"))) over) over) ≡ false)
+    × (some_true us_of_a (with_value 2 (word (codes "http://A")) start) (inside 4 (saw 1 (triplet 0 3 (word (codes "us"))) over) over) ≡ true)
+    × (some_true us_of_a start (saw 2 (triplet 0 2 (word (codes "http://A"))) (saw 1 (triplet 0 3 (word (codes "us"))) over)) ≡ true)
+    × (some_true us_of_a start (saw 1 (triplet 0 3 (word (codes "us"))) (saw 2 (triplet 0 2 (word (codes "http://A"))) over)) ≡ false)
+row_needs_context = (refl, refl, refl, refl)
+
+-- where a branch is on the chain of names and languages
+pub places_on_chain : (rest_below 3 (Some (3 ∷ 4 ∷ [])) ≡ Some (4 ∷ [])) × (rest_below 4 (Some (4 ∷ [])) ≡ Some []) × (rest_below 2 (Some (3 ∷ 4 ∷ [])) ≡ None)
+    × (rest_below 4 (Some (3 ∷ 4 ∷ [])) ≡ None) × (rest_below 4 (Some []) ≡ None) × (rest_below 3 None ≡ None)
+places_on_chain = (refl, refl, refl, refl, refl, refl)
+
+pub dropped : map (λ r. is_dropped r false) (None ∷ Some [] ∷ Some (4 ∷ []) ∷ []) ≡ false ∷ true ∷ true ∷ []
+dropped = refl
+
+pub kept : map (λ r. is_dropped r true) (None ∷ Some [] ∷ Some (4 ∷ []) ∷ []) ≡ false ∷ false ∷ false ∷ []
+kept = refl
+
+-- ---- append and cut
+
+-- each value that is read; behind each branch that is left, its number
+abbrev seen : ℕ → Context → List (Option Value)
+seen i d = d i ∷ []
+
+abbrev left : ℕ → Context → List (Option Value) → List (Option Value)
+left k d made = made ++ number k ∷ []
+
+abbrev made_of : Watch → List (Option Value)
+made_of w = flow seen left w (Some (0 ∷ w.chain)) start tour_10
+
+-- the names and languages without a true row are cut off; what is off the chain stays; without a true row there is nothing
+pub in_gb_makes : made_of in_gb ≡ number 10 ∷ None ∷ word (codes "gb") ∷ number 4 ∷ number 3 ∷ number 0 ∷ []
+in_gb_makes = refl
+
+pub us_of_a_makes : made_of us_of_a ≡ number 10 ∷ word (codes "http://A") ∷ word (codes "us") ∷ number 4 ∷ number 3 ∷ number 0 ∷ []
+us_of_a_makes = refl
+
+pub at_b_makes : made_of at_b ≡ number 10 ∷ word (codes "http://B") ∷ None ∷ number 3 ∷ number 0 ∷ []
+at_b_makes = refl
+
+pub always_makes : made_of always ≡
+    number 10 ∷ word (codes "http://A") ∷ word (codes "us") ∷ number 4 ∷ None ∷ number 4 ∷ number 3
+    ∷ word (codes "http://B") ∷ None ∷ number 3 ∷ None ∷ word (codes "gb") ∷ number 4 ∷ number 3 ∷ number 0 ∷ []
+always_makes = refl
+
+pub never_makes : made_of (record in_gb { test = λ (d : Context). false }) ≡ []
+never_makes = refl
+
+-- off the chain nothing is cut off
+pub off_chain : flow seen left in_gb None start (name_1 over) ≡ word (codes "http://A") ∷ word (codes "us") ∷ number 4 ∷ None ∷ number 4 ∷ number 3 ∷ []
+off_chain = refl
+
+abbrev at_start : Going (Option Value)
+at_start = record { context = start; made = number 99 ∷ []; branches = [] }
+
+abbrev gone : Watch → List Move → Going (Option Value)
+gone w ms = go_all seen left w (Some (0 ∷ w.chain)) ms at_start
+
+-- one move after another: what was made before stays
+pub goes_to_the_end : ((gone in_gb moves_10).made ≡ number 99 ∷ made_of in_gb) × ((gone us_of_a moves_10).made ≡ number 99 ∷ made_of us_of_a) × ((gone at_b moves_10).made ≡ number 99 ∷ made_of at_b)
+    × ((gone always moves_10).made ≡ number 99 ∷ made_of always) × ((gone in_gb moves_10).branches ≡ [])
+goes_to_the_end = (refl, refl, refl, refl, refl)
+
+-- in the second name, before and behind its row: the branches that are open, and how much had been made when they began
+pub in_the_second_name : ((gone at_b (enter 0 ∷ value 0 (triplet 0 0 (number 10)) ∷ enter 3 ∷ [])).branches ≡ record { rest = Some []; hit = false; mark = 2 } ∷ record { rest = Some (3 ∷ []); hit = false; mark = 1 } ∷ [])
+    × ((gone at_b (enter 0 ∷ value 0 (triplet 0 0 (number 10)) ∷ enter 3 ∷ value 2 (triplet 1 2 (word (codes "http://B"))) ∷ [])).branches ≡ record { rest = Some []; hit = true; mark = 2 } ∷ record { rest = Some (3 ∷ []); hit = true; mark = 1 } ∷ [])
+    × (three (gone at_b (enter 0 ∷ value 0 (triplet 0 0 (number 10)) ∷ enter 3 ∷ value 2 (triplet 1 2 (word (codes "http://B"))) ∷ [])).context ≡ number 10 ∷ None ∷ word (codes "http://B") ∷ [])
+in_the_second_name = (refl, refl, refl)
+
+-- a branch below the chain's end, or off it
+pub below_and_beside : (map (λ (b : Branch). b.rest) (gone at_b (enter 0 ∷ enter 3 ∷ enter 4 ∷ [])).branches ≡ None ∷ Some [] ∷ Some (3 ∷ []) ∷ [])
+    × (map (λ (b : Branch). b.rest) (gone at_b (enter 0 ∷ enter 2 ∷ [])).branches ≡ None ∷ Some (3 ∷ []) ∷ [])
+below_and_beside = (refl, refl)
