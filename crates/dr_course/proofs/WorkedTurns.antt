@@ -1,14 +1,14 @@
 -- Turns over columns, by computation: over those of records, and over columns that no records have.
 use Rattle.std.specs.Prelude.{◌≡◌, ℕ, zero, suc, List, [], ◌∷◌, map, length, Option, Some, None, option_map, pos, codes, refl}
 use Rattle.std.specs.Str.{is_utf8, chars}
-use Rattle.dr_meaning.specs.Schema.{Fields}
+use Rattle.dr_meaning.specs.Schema.{Fields, no_fields, field, leaf, group, required, optional, repeated, int64_kind, text_kind}
 use Rattle.dr_meaning.specs.Path.{Step}
 use Rattle.dr_meaning.specs.Record.{Value, int_value, text_value, bool_value, Node, no_slots, slot, no_instances, instance, Instance, atom, inner, single}
 use Rattle.dr_meaning.specs.Column.{Triplet, triplet, column}
 use Rattle.dr_meaning.specs.Walk.{Move, enter, value, leave, walk}
 use Rattle.dr_meaning.proofs.WorkedSchemas.{document}
 use Rattle.dr_meaning.proofs.WorkedRecords.{record_10, record_20, record_30}
-use Rattle.dr_meaning.proofs.WorkedPaths.{doc_id, backward, forward, code, country, url}
+use Rattle.dr_meaning.proofs.WorkedPaths.{step, doc_id, backward, forward, code, country, url}
 use Rattle.dr_course.specs.Course.{Items, course}
 use Rattle.dr_course.specs.Turning.{Stack, between, Turn, gives, goes_on, done, stops, turn}
 use Rattle.dr_course.specs.Leading.{Left, heads, behind_move, columns_of, has_columns}
@@ -188,3 +188,19 @@ left_over = (refl, refl, refl)
 -- with one record more than the columns have a turn stops; with one fewer all is left
 pub other_counts : (outcome fs F 2 (columns_of (a₁ ∷ b₁ ∷ c₁ ∷ d₁ ∷ [])) ≡ None) × (outcome fs F 0 (columns_of (a₁ ∷ b₁ ∷ c₁ ∷ d₁ ∷ [])) ≡ Some (record { moves = []; left = 1 ∷ 1 ∷ 1 ∷ 1 ∷ 0 ∷ 0 ∷ [] }))
 other_counts = (refl, refl)
+
+-- ---- the record whose turns docs/DEFINITIONS.md shows
+
+abbrev pictured_fields : Fields
+pictured_fields = field [] required (leaf int64_kind) (field [] repeated (group (field [] repeated (group (field [] optional (leaf text_kind) no_fields)) (field [] optional (leaf text_kind) no_fields))) no_fields)
+
+abbrev pictured_leaves : List (List Step)
+pictured_leaves = (step 0 required ∷ []) ∷ (step 1 repeated ∷ step 0 repeated ∷ step 0 optional ∷ []) ∷ (step 1 repeated ∷ step 1 optional ∷ []) ∷ []
+
+pub pictured : outcome pictured_fields pictured_leaves 1 (columns_of ((triplet 0 0 (number 10) ∷ []) ∷ (triplet 0 3 (word (codes "us")) ∷ null_at 2 2 ∷ null_at 1 1 ∷ []) ∷ (triplet 0 2 (word (codes "http://A")) ∷ null_at 1 1 ∷ []) ∷ [])) ≡ whole (
+    enter 0 ∷ value 0 (triplet 0 0 (number 10))
+    ∷ enter 1 ∷ value 2 (triplet 0 2 (word (codes "http://A"))) ∷ enter 2 ∷ value 1 (triplet 0 3 (word (codes "us"))) ∷ leave 2 ∷ enter 2 ∷ value 1 (null_at 2 2) ∷ leave 2 ∷ leave 1
+    ∷ enter 1 ∷ value 2 (null_at 1 1) ∷ value 1 (null_at 1 1) ∷ leave 1
+    ∷ leave 0 ∷ [])
+unfolding is_utf8 chars lib.Utf8.encode
+pictured = refl
