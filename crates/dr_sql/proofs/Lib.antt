@@ -7,3 +7,5 @@ pub mod ParseLemmas
 pub mod ListLemmas
 -- a text cut at a single quote
 pub mod QuoteLemmas
+-- the levels of operators
+pub mod LevelLemmas

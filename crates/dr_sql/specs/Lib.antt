@@ -4,3 +4,4 @@ pub mod Faults
 pub mod Reads
 pub mod Shapes
 pub mod Lexing
+pub mod Levels

@@ -3,9 +3,11 @@
 ghost use Rattle.std.specs.Prelude.{◌≡◌, IfOk};
 ghost use Rattle.dr_meaning.specs.Syntax as syntax;
 ghost use Rattle.dr_sql.specs.Views.{expression_view, arithmetic_view, comparison_view};
+ghost use Rattle.dr_sql.specs.Levels.{joined_view};
 ghost use Rattle.dr_sql.specs.TokenViews.{undoubled};
 
 use crate::expression::{Arithmetic, Comparison, Expression};
+use crate::level::Joining;
 use dr_memory::NoMemory;
 use std::alloc::Global;
 
@@ -114,5 +116,21 @@ impl<'a> Expression<'a> {
         let left = Box::new(alloc, left)?;
         let right = Box::new(alloc, right)?;
         Ok(Expression::Or(place, left, right))
+    }
+    /// Two operands joined by an operator.
+    pub fn joined(
+        alloc: Global,
+        place: usize,
+        joining: Joining,
+        left: Expression<'a>,
+        right: Expression<'a>,
+    ) -> Result<Expression<'a>, NoMemory>
+        ensures { IfOk result (λ e. expression_view e ≡ joined_view joining place left.entry right.entry) }
+    {
+        match joining {
+            Joining::Or => Expression::disjunction(alloc, place, left, right),
+            Joining::And => Expression::conjunction(alloc, place, left, right),
+            Joining::Arithmetic(sign) => Expression::arithmetic(alloc, place, sign, left, right),
+        }
     }
 }

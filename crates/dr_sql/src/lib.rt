@@ -7,6 +7,7 @@ mod cursor;
 mod expression;
 mod fault;
 mod items;
+mod level;
 mod lexing;
 mod limits;
 mod numeral;

@@ -1,15 +1,17 @@
-//! Reading expressions, a function for each production of the grammar. `depth` says how many nestings may still be
-//! opened.
+//! Reading expressions, by the productions of the grammar; those that join operands are one function, by levels. `depth`
+//! says how many nestings may still be opened.
 
 ghost use Rattle.std.specs.Prelude.{◌≡◌, suc, IfOk, IfErr};
 ghost use Rattle.dr_meaning.specs.Parse as parse;
 ghost use Rattle.dr_sql.specs.Reads.{unread, Reads};
 ghost use Rattle.dr_sql.specs.Views.{expression_view};
+ghost use Rattle.dr_sql.specs.Levels.{level_of, operand_of};
 
 use crate::cursor::Cursor;
-use crate::expression::{Arithmetic, Expression};
+use crate::expression::Expression;
 use crate::fault::{QueryFault, QueryProblem};
-use crate::operators::{next_comparison, next_of_sum};
+use crate::level::Level;
+use crate::operators::next_comparison;
 use crate::paths::path;
 use crate::token::Token;
 use crate::word::{Sign, Word};
@@ -31,7 +33,6 @@ fn deeper(cursor: &Cursor<'_, '_>, depth: u32) -> Result<u32, QueryFault>
 }
 
 /// expr = and {OR and}
-#[cycle(operands)]
 pub fn expression<'a>(
     alloc: Global,
     cursor: &mut Cursor<'_, 'a>,
@@ -39,37 +40,48 @@ pub fn expression<'a>(
 ) -> Result<Expression<'a>, QueryFault>
     ensures { Reads expression_view (parse.expression_of (parse.nested depth) (unread cursor.old)) (unread cursor.new) result }
 {
-    let mut left = conjunction(alloc, cursor, depth)?;
-    'or: for _ in 0..cursor.left() {
-        if !cursor.next_is_word(Word::Or) {
+    joined(alloc, cursor, Level::Or, depth)
+}
+
+/// Operands of a level, joined by its operators, as in and = not {AND not}, sum = prod {("+"|"-") prod} and
+/// prod = unary {"*" unary}.
+#[cycle(operands)]
+fn joined<'a>(
+    alloc: Global,
+    cursor: &mut Cursor<'_, 'a>,
+    level: Level,
+    depth: u32,
+) -> Result<Expression<'a>, QueryFault>
+    ensures { Reads expression_view (level_of level (parse.nested depth) (unread cursor.old)) (unread cursor.new) result }
+{
+    let mut left = operand(alloc, cursor, level, depth)?;
+    'operators: for _ in 0..cursor.left() {
+        let Some(joining) = level.next(cursor) else {
             break;
-        }
+        };
         let place = cursor.operator()?;
-        let right = conjunction(alloc, cursor, depth)?;
-        left = Expression::disjunction(alloc, place, left, right)?;
+        let right = operand(alloc, cursor, level, depth)?;
+        left = Expression::joined(alloc, place, joining, left, right)?;
     }
     Ok(left)
 }
 
-/// and = not {AND not}
+/// An operand of a level.
 #[cycle(operands)]
-fn conjunction<'a>(
+fn operand<'a>(
     alloc: Global,
     cursor: &mut Cursor<'_, 'a>,
+    level: Level,
     depth: u32,
 ) -> Result<Expression<'a>, QueryFault>
-    ensures { Reads expression_view (parse.and_of (parse.nested depth) (unread cursor.old)) (unread cursor.new) result }
+    ensures { Reads expression_view (operand_of level (parse.nested depth) (unread cursor.old)) (unread cursor.new) result }
 {
-    let mut left = negation(alloc, cursor, depth)?;
-    'and: for _ in 0..cursor.left() {
-        if !cursor.next_is_word(Word::And) {
-            break;
-        }
-        let place = cursor.operator()?;
-        let right = negation(alloc, cursor, depth)?;
-        left = Expression::conjunction(alloc, place, left, right)?;
+    match level {
+        Level::Or => joined(alloc, cursor, Level::And, depth),
+        Level::And => negation(alloc, cursor, depth),
+        Level::Sum => joined(alloc, cursor, Level::Product, depth),
+        Level::Product => unary(alloc, cursor, depth),
     }
-    Ok(left)
 }
 
 /// not = NOT not | test
@@ -99,57 +111,15 @@ fn test<'a>(
 ) -> Result<Expression<'a>, QueryFault>
     ensures { Reads expression_view (parse.test_of (parse.nested depth) (unread cursor.old)) (unread cursor.new) result }
 {
-    let left = sum(alloc, cursor, depth)?;
+    let left = joined(alloc, cursor, Level::Sum, depth)?;
     match next_comparison(cursor) {
         Some(operator) => {
             let place = cursor.advance();
-            let right = sum(alloc, cursor, depth)?;
+            let right = joined(alloc, cursor, Level::Sum, depth)?;
             Ok(Expression::comparison(alloc, place, operator, left, right)?)
         }
         None => word_test(alloc, cursor, left),
     }
-}
-
-/// sum = prod {("+"|"-") prod}
-#[cycle(operands)]
-fn sum<'a>(
-    alloc: Global,
-    cursor: &mut Cursor<'_, 'a>,
-    depth: u32,
-) -> Result<Expression<'a>, QueryFault>
-    ensures { Reads expression_view (parse.sum_of (parse.nested depth) (unread cursor.old)) (unread cursor.new) result }
-{
-    let mut left = product(alloc, cursor, depth)?;
-    'sums: for _ in 0..cursor.left() {
-        let Some(operator) = next_of_sum(cursor) else {
-            break;
-        };
-        let place = cursor.operator()?;
-        let right = product(alloc, cursor, depth)?;
-        left = Expression::arithmetic(alloc, place, operator, left, right)?;
-    }
-    Ok(left)
-}
-
-/// prod = unary {"*" unary}
-#[cycle(operands)]
-fn product<'a>(
-    alloc: Global,
-    cursor: &mut Cursor<'_, 'a>,
-    depth: u32,
-) -> Result<Expression<'a>, QueryFault>
-    ensures { Reads expression_view (parse.product_of (parse.nested depth) (unread cursor.old)) (unread cursor.new) result }
-{
-    let mut left = unary(alloc, cursor, depth)?;
-    'products: for _ in 0..cursor.left() {
-        if !cursor.next_is_sign(Sign::Star) {
-            break;
-        }
-        let place = cursor.operator()?;
-        let right = unary(alloc, cursor, depth)?;
-        left = Expression::arithmetic(alloc, place, Arithmetic::Times, left, right)?;
-    }
-    Ok(left)
 }
 
 /// unary = "-" unary | prim
@@ -213,7 +183,7 @@ fn parenthesized<'a>(
 {
     let inside = deeper(cursor, depth)?;
     cursor.advance();
-    let inner = expression(alloc, cursor, inside)?;
+    let inner = joined(alloc, cursor, Level::Or, inside)?;
     cursor.sign(Sign::Close)?;
     Ok(inner)
 }

@@ -1,0 +1,47 @@
+//! The levels of operators that join operands, and the operator of a level that the next token is.
+
+ghost use Rattle.std.specs.Prelude.{◌≡◌, option_map};
+ghost use Rattle.dr_sql.specs.Reads.{unread};
+ghost use Rattle.dr_sql.specs.Levels.{joining_view, next_joining};
+
+use crate::cursor::Cursor;
+use crate::expression::Arithmetic;
+use crate::operators::next_of_sum;
+use crate::word::{Sign, Word};
+
+/// How closely operators bind, the loosest first: OR; AND; `+` and `-`; `*`.
+#[derive(Clone, Copy, Debug)]
+pub enum Level {
+    Or,
+    And,
+    Sum,
+    Product,
+}
+
+/// An operator between two operands of one level.
+#[derive(Clone, Copy, Debug)]
+pub enum Joining {
+    Or,
+    And,
+    Arithmetic(Arithmetic),
+}
+
+impl Level {
+    /// The operator of the level that the next token is.
+    pub fn next(self, cursor: &Cursor<'_, '_>) -> Option<Joining>
+        ensures { option_map joining_view result ≡ next_joining self (unread cursor.now) }
+    {
+        match self {
+            Level::Or if cursor.next_is_word(Word::Or) => Some(Joining::Or),
+            Level::And if cursor.next_is_word(Word::And) => Some(Joining::And),
+            Level::Sum => match next_of_sum(cursor) {
+                Some(sign) => Some(Joining::Arithmetic(sign)),
+                None => None,
+            },
+            Level::Product if cursor.next_is_sign(Sign::Star) => {
+                Some(Joining::Arithmetic(Arithmetic::Times))
+            }
+            _ => None,
+        }
+    }
+}
