@@ -1,11 +1,11 @@
 -- Rows fire at leaves, inside an instance: what was read outside of it stays.
-use Rattle.std.proofs.Common.{◌≡◌, ℕ, suc, List, [], ◌∷◌, ◌++◌, length, Bool, true, false, Option, None, Some, refl, sym, ap, ap₂, subst, ◌∙◌, arith}
-use Rattle.std.specs.Prelude.{map, is_some, ◌==◌}
+use Rattle.std.proofs.Common.{◌≡◌, ℕ, List, [], ◌∷◌, ◌++◌, length, Bool, true, Option, Some, refl, sym, ap, ap₂, ◌∙◌, arith}
+use Rattle.std.specs.Prelude.{map}
 use Rattle.std.specs.List.{list_any}
 use Rattle.std.proofs.lemmas.List.{length-map}
 use Rattle.dr_meaning.specs.Schema.{Shape}
 use Rattle.dr_meaning.specs.Path.{Step, level, is_shape_path}
-use Rattle.dr_meaning.specs.Record.{Value, Node, Instance, is_instance}
+use Rattle.dr_meaning.specs.Record.{Value, Instance, is_instance}
 use Rattle.dr_meaning.specs.Rows.{value_in}
 use Rattle.dr_meaning.specs.Column.{Triplet}
 use Rattle.dr_meaning.specs.Automaton.{Pick}
@@ -16,8 +16,8 @@ use Rattle.dr_firing.specs.Context.{Context, contexts}
 use Rattle.dr_firing.specs.Tour.{Tour, moves_of}
 use Rattle.dr_firing.specs.Condition.{Watch, some_true}
 use Rattle.dr_firing.specs.Readers.{Readers, no_reader, below, outside, IsRowInside}
-use Rattle.dr_firing.specs.Together.{Together, same_leaf, along}
-use Rattle.dr_firing.proofs.ReadingLemmas.{reads, const_read}
+use Rattle.dr_firing.specs.Together.{Together}
+use Rattle.dr_firing.proofs.ReadingLemmas.{const_read}
 use Rattle.dr_firing.proofs.RowsRead.{irows, shape_reads, counts}
 use Rattle.dr_firing.proofs.FiringLemmas.{contexts_read, with_itself}
 use Rattle.dr_firing.proofs.TourLemmas.{some_true_any, any_of_map}

@@ -1,12 +1,10 @@
 -- Rows fire at leaves.
-use Rattle.std.proofs.Common.{◌≡◌, ℕ, zero, suc, List, [], ◌∷◌, length, Bool, true, false, Option, None, Some, refl, sym, ap, ap₂, subst, ◌∙◌, arith}
+use Rattle.std.proofs.Common.{◌≡◌, ℕ, List, [], ◌∷◌, length, Bool, true, false, Option, Some, refl, sym, ap, ap₂, subst, ◌∙◌, arith}
 use Rattle.std.specs.Prelude.{map, ◌==◌, if◌then◌else◌}
-use Rattle.std.specs.List.{slice_get, list_all}
-use Rattle.std.proofs.lemmas.Bool.{and_parts}
+use Rattle.std.specs.List.{slice_get}
 use Rattle.std.proofs.lemmas.List.{length-map}
-use Rattle.dr_meaning.specs.Schema.{Fields}
-use Rattle.dr_meaning.specs.Path.{Step, level, is_leaf_path}
-use Rattle.dr_meaning.specs.Record.{Value, Node, is_record}
+use Rattle.dr_meaning.specs.Path.{Step, level}
+use Rattle.dr_meaning.specs.Record.{Value, Node}
 use Rattle.dr_meaning.specs.Rows.{rows, value_at}
 use Rattle.dr_meaning.specs.Walk.{Move, enter, value, leave, record_moves}
 use Rattle.dr_course.proofs.LeadingLemmas.{leaf_at}
@@ -14,7 +12,7 @@ use Rattle.dr_firing.specs.Context.{Context, with_value, contexts}
 use Rattle.dr_firing.specs.Together.{Together, same_leaf, along}
 use Rattle.dr_firing.specs.Firing.{AllTogether, IsRow, RowsFire}
 use Rattle.dr_firing.proofs.ReadingLemmas.{reads, put_if, new}
-use Rattle.dr_firing.proofs.RowsRead.{record_reads, own_together}
+use Rattle.dr_firing.proofs.RowsRead.{record_reads}
 
 read_here : (b : Bool) (j k : ℕ) (v : Option Value) (c : Context) → (j == k) ≡ b → with_value j v c k ≡ (if b then v else c k)
 read_here b j k v c e = ap (λ (x : Bool). if x then v else c k) e

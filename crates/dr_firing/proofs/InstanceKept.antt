@@ -1,19 +1,9 @@
 -- An instance on the condition's chain has a true row in the walk exactly where it is kept.
-use Rattle.std.proofs.Common.{◌≡◌, ℕ, List, Bool, true, Some, refl, sym, ap, ◌∙◌}
-use Rattle.std.specs.Prelude.{map, is_some}
+use Rattle.std.proofs.Common.{sym, ap, ◌∙◌}
 use Rattle.std.specs.List.{list_any}
-use Rattle.dr_meaning.specs.Schema.{Shape}
-use Rattle.dr_meaning.specs.Path.{Step, level, is_shape_path}
-use Rattle.dr_meaning.specs.Record.{Node, Instances, Instance, single, is_instance}
-use Rattle.dr_meaning.specs.Rows.{instance_rows, rows}
-use Rattle.dr_meaning.specs.Kept.{keep_instance, kept_along}
-use Rattle.dr_meaning.specs.Automaton.{Pick}
-use Rattle.dr_meaning.specs.Walk.{Depth, moves_in, shape_near_moves, shape_far_moves}
-use Rattle.dr_meaning.proofs.WalkLemmas.{Only}
+use Rattle.dr_meaning.specs.Path.{level}
+use Rattle.dr_meaning.specs.Record.{Instances, single}
 use Rattle.dr_firing.specs.KeptLaws.{TrueRowKeepsInstance}
-use Rattle.dr_firing.specs.Tour.{Tour, moves_of}
-use Rattle.dr_firing.specs.Condition.{Watch, some_true}
-use Rattle.dr_firing.specs.Readers.{Readers, IsRowInside}
 use Rattle.dr_firing.proofs.RowsRead.{irows, single_rows}
 use Rattle.dr_firing.proofs.KeptRows.{instance_any, any_map, kept_any}
 use Rattle.dr_firing.proofs.FiringInside.{true_row_inside}

@@ -1,5 +1,5 @@
 -- A record is kept exactly where its condition is true in one of the rows of the condition's chain.
-use Rattle.std.proofs.Common.{◌≡◌, ℕ, zero, suc, List, [], ◌∷◌, ◌++◌, Bool, true, false, Option, None, Some, refl, sym, ap, ap₂, subst, ◌∙◌}
+use Rattle.std.proofs.Common.{◌≡◌, ℕ, zero, suc, List, [], ◌∷◌, ◌++◌, Bool, true, false, Option, None, Some, refl, sym, ap, ap₂, ◌∙◌}
 use Rattle.std.specs.Prelude.{map, ◌||◌, if◌then◌else◌, option_map, is_some}
 use Rattle.std.specs.List.{list_any}
 use Rattle.dr_meaning.specs.Path.{Step}

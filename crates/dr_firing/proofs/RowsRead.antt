@@ -1,25 +1,23 @@
 -- Rows fire at leaves: what was read of a leaf, wherever a triplet of another leaf is given, is its value in the row there.
-use Rattle.std.proofs.Common.{◌≡◌, ◌⊎◌, inl, inr, ℕ, zero, suc, ◌+◌, ◌<◌, ◌≤◌, List, [], ◌∷◌, ◌++◌, length, Bool, true, false, ◌&&◌, Option, None, Some, refl, sym, ap, ap₂, subst, ◌∙◌, append_assoc, append-nil, true≢false, arith}
-use Rattle.std.specs.Prelude.{map, ◌==◌, if◌then◌else◌}
-use Rattle.std.proofs.lemmas.List.{map-append}
+use Rattle.std.proofs.Common.{◌≡◌, ◌⊎◌, inl, inr, ℕ, zero, suc, ◌+◌, ◌<◌, ◌≤◌, List, [], ◌∷◌, ◌++◌, length, Bool, true, false, Option, None, Some, refl, sym, ap, ap₂, subst, ◌∙◌, append_assoc, append-nil, true≢false, arith}
+use Rattle.std.specs.Prelude.{map, ◌==◌}
 use Rattle.std.proofs.lemmas.Simd.{map-map}
 use Rattle.std.proofs.lemmas.Bool.{and_parts, eq-eqb, ne_eqb, eqb-true, leb-true}
-use Rattle.dr_meaning.specs.Schema.{Repetition, required, optional, repeated, Kind, Fields, no_fields, field, Shape, leaf, group, repetition_count, definition_count, shape_repeated_fields, is_repeated}
-use Rattle.dr_meaning.specs.Path.{Step, is_leaf_path, is_shape_path, same_repetition, through, max_repetition, level, up_to}
-use Rattle.dr_meaning.specs.Record.{Value, Node, no_slots, slot, gap, Instances, no_instances, instance, Instance, atom, inner, single, count_instances, fits_repetition, all_instances, is_record, is_instance, instances_at, instances_in, put_at}
+use Rattle.dr_meaning.specs.Schema.{Repetition, required, optional, repeated, Kind, Fields, no_fields, field, Shape, leaf, group, repetition_count, shape_repeated_fields, is_repeated}
+use Rattle.dr_meaning.specs.Path.{Step, is_leaf_path, is_shape_path, same_repetition, max_repetition, level, up_to}
+use Rattle.dr_meaning.specs.Record.{Value, Node, no_slots, slot, gap, Instances, no_instances, instance, Instance, atom, inner, single, count_instances, fits_repetition, all_instances, is_record, is_instance, instances_at, put_at}
 use Rattle.dr_meaning.specs.Rows.{instance_rows, each_instance_rows, field_rows, rows, first_value, value_in, value_at}
-use Rattle.dr_meaning.specs.Column.{Triplet, triplet, value_of, each_later, spread, instance_column}
+use Rattle.dr_meaning.specs.Column.{Triplet}
 use Rattle.dr_meaning.specs.Automaton.{Pick, picks, behind, beside}
 use Rattle.std.specs.List.{slice_get}
-use Rattle.dr_meaning.specs.Walk.{Move, enter, value, leave, Depth, inside, begun_later, first_of, first_slot, other_slots, node_of, unless_repeated, enclosed, later_moves, repeated_moves, by_repetition, where_selected, moves_in, near_moves, far_moves, shape_near_moves, shape_far_moves, top, record_moves}
+use Rattle.dr_meaning.specs.Walk.{Move, leave, Depth, inside, begun_later, first_of, first_slot, other_slots, enclosed, later_moves, moves_in, near_moves, far_moves, shape_near_moves, shape_far_moves, top, record_moves}
 use Rattle.dr_meaning.specs.WalkLaws.{triplets_of}
 use Rattle.dr_meaning.proofs.ProjectionLemmas.{step}
-use Rattle.dr_meaning.proofs.Blocks.{same_repetition-true, and₃_parts}
-use Rattle.dr_meaning.proofs.WalkLemmas.{picks_only, of_append, of_enclosed, Without, Only, without_behind, without_beside, only_behind, beside_first, only_beside, behind_later, near_nothing, far_nothing, shape_near_nothing, shape_far_nothing, near_in, far_in, far_in_nothing, unless_nothing, nothing_before, nothing_behind, selected, IsNode, IsThere, Gives, shape_gives, optional_column, FirstSlot, first_of_node}
+use Rattle.dr_meaning.proofs.Blocks.{same_repetition-true}
+use Rattle.dr_meaning.proofs.WalkLemmas.{picks_only, of_append, Without, Only, only_behind, beside_first, only_beside, behind_later, near_nothing, far_nothing, shape_near_nothing, shape_far_nothing, near_in, far_in, far_in_nothing, unless_nothing, selected, IsNode, IsThere, shape_gives, optional_column, FirstSlot, first_of_node}
 use Rattle.dr_firing.specs.Together.{IsApart, Together, same_leaf, along, apart}
-use Rattle.dr_firing.proofs.ReadingLemmas.{new, put_if, reads, last, reads_append, last_append, silent, none_read, const_read, last_single, own_read, apart_read, first_read, later_read}
-use Rattle.dr_firing.proofs.NearLemmas.{fields_far_silent, fields_near_silent, first_there, optional_value, GivenOnce, fields_once}
-use Rattle.std.proofs.Common.{length-append}
+use Rattle.dr_firing.proofs.ReadingLemmas.{reads, last, reads_append, last_single, own_read, apart_read, first_read, later_read}
+use Rattle.dr_firing.proofs.NearLemmas.{fields_far_silent, fields_near_silent, fields_once}
 use Rattle.std.proofs.lemmas.List.{length-map}
 
 -- ---- rows of an instance

@@ -1,15 +1,12 @@
 -- The moves of a record as a tour; and a record is kept where its tour has a true row.
-use Rattle.std.proofs.Common.{◌≡◌, ℕ, zero, suc, List, [], ◌∷◌, ◌++◌, length, Bool, true, false, ◌&&◌, Option, None, Some, refl, sym, ap, ap₂, subst, ◌∙◌, append_assoc, append-nil, arith}
-use Rattle.std.specs.Prelude.{map, ◌==◌, ◌||◌, if◌then◌else◌, is_some}
-use Rattle.std.specs.List.{list_all, list_any, slice_get}
-use Rattle.dr_meaning.specs.Schema.{Fields}
-use Rattle.dr_meaning.specs.Path.{Step, level, is_leaf_path}
-use Rattle.dr_meaning.specs.Record.{Value, Node, is_record}
+use Rattle.std.proofs.Common.{◌≡◌, ℕ, List, [], ◌∷◌, ◌++◌, length, Bool, true, false, ◌&&◌, None, refl, sym, ap, ap₂, ◌∙◌, append_assoc}
+use Rattle.std.specs.Prelude.{map, ◌==◌, ◌||◌, if◌then◌else◌}
+use Rattle.std.specs.List.{list_any}
+use Rattle.dr_meaning.specs.Path.{level}
 use Rattle.dr_meaning.specs.Rows.{rows}
-use Rattle.dr_meaning.specs.Kept.{kept_along}
-use Rattle.dr_meaning.specs.Column.{Triplet, triplet}
+use Rattle.dr_meaning.specs.Column.{triplet}
 use Rattle.dr_meaning.specs.Walk.{Move, enter, value, leave, walk, record_moves}
-use Rattle.dr_course.specs.Course.{Gate, reach, Give, Visit, Items, nothing, give, visit, course}
+use Rattle.dr_course.specs.Course.{reach, Visit, Items, course}
 use Rattle.dr_course.proofs.Made.{nulls, Made, made_nothing, made_give, made_absent, made_visit, Laps, no_lap, one_lap, MadeRecords, no_record, one_record}
 use Rattle.dr_course.proofs.FollowingLemmas.{follows_made}
 use Rattle.dr_course.proofs.WalkFollows.{walk_follows}
@@ -17,7 +14,6 @@ use Rattle.dr_firing.specs.Context.{Context, with_value, contexts}
 use Rattle.dr_firing.specs.Tour.{Toured, WalkIsTour, Tour, over, saw, inside, moves_of, after}
 use Rattle.dr_firing.specs.Condition.{Watch, some_true}
 use Rattle.dr_firing.specs.KeptLaws.{TrueRowKeeps}
-use Rattle.dr_firing.specs.Firing.{AllTogether, IsRow}
 use Rattle.dr_firing.proofs.FiringLemmas.{rows_fire}
 use Rattle.dr_firing.proofs.KeptRows.{any_append, kept_any}
 

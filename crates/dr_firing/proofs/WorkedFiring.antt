@@ -1,25 +1,36 @@
 -- What a scan makes of a record's moves, by computation.
-use Rattle.std.proofs.Common.{◌≡◌, ◌⊎◌, inl, inr, ◌<◌, ℕ, zero, suc, List, [], ◌∷◌, ◌++◌, length, refl, arith}
+use Rattle.std.proofs.Common.{◌≡◌, ◌⊎◌, inl, inr, ℕ, List, [], ◌∷◌, ◌++◌, refl, sym, ap, subst, true≢false, arith}
 use Rattle.std.specs.Prelude.{map, Bool, true, false, ◌==◌, if◌then◌else◌, Option, Some, None, pos, codes, bytes_eq}
 use Rattle.dr_meaning.specs.Path.{Step, level}
-use Rattle.dr_meaning.specs.Record.{Value, bool_value, int_value, text_value, Node}
+use Rattle.dr_meaning.specs.Schema.{Shape, group, field, leaf, no_fields, repeated, optional, text_kind}
+use Rattle.dr_meaning.specs.Automaton.{Pick, picks, behind, beside}
+use Rattle.dr_meaning.specs.Record.{Value, bool_value, int_value, text_value, Node, no_slots, slot, Instance, inner, single}
 use Rattle.dr_meaning.specs.Rows.{rows, value_at}
 use Rattle.dr_meaning.specs.Column.{triplet}
 use Rattle.dr_meaning.specs.Walk.{Move, enter, value, leave, record_moves}
-use Rattle.dr_meaning.proofs.WorkedSchemas.{document}
-use Rattle.dr_meaning.proofs.WorkedRecords.{record_10}
-use Rattle.dr_meaning.proofs.WorkedPaths.{doc_id, backward, forward, name, code, country, url}
+use Rattle.dr_meaning.proofs.WorkedSchemas.{document, language}
+use Rattle.dr_meaning.proofs.WorkedRecords.{record_10, language_node, texts}
+use Rattle.dr_meaning.proofs.WorkedPaths.{step, doc_id, code, country, url}
 use Rattle.dr_firing.specs.Context.{Context, with_value, contexts}
 use Rattle.dr_firing.specs.Together.{Together, same_leaf, along, apart}
+use Rattle.dr_firing.specs.Firing.{AllTogether, IsRow}
+use Rattle.dr_firing.specs.Readers.{Only, Without, Readers, no_reader, below, outside, IsRowInside}
 use Rattle.dr_firing.specs.Tour.{Tour, over, saw, inside, moves_of, after}
 use Rattle.dr_firing.specs.Condition.{Watch, some_true, rest_below, is_dropped}
-use Rattle.dr_firing.specs.Cutting.{flow, Branch, Going, go, go_all}
+use Rattle.dr_firing.specs.Cutting.{flow, Branch, Going, go_all}
 
 abbrev word : List ℕ → Option Value
 word t = Some (text_value t)
 
 abbrev number : ℕ → Option Value
 number n = Some (int_value (pos n))
+
+-- whether a value is this text
+abbrev is_word : List ℕ → Option Value → Bool
+is_word t None = false
+is_word t (Some (bool_value b)) = false
+is_word t (Some (int_value z)) = false
+is_word t (Some (text_value u)) = bytes_eq t u
 
 -- the leaves 0, 1 and 2
 abbrev F : List (List Step)
@@ -78,6 +89,94 @@ of_name = along _ _ _ _ _ (apart _ _ _ _ tt (refl, refl, inl (omega arith)))
 pub in_order : Together ⊥ (Unit {0}) code country
 in_order = along _ _ _ _ _ (along _ _ _ _ _ (apart _ _ _ _ tt (refl, refl, inr (omega arith, refl))))
 
+-- all of them with Country; a leaf that isn't selected is read together with none
+pub all_with_country : AllTogether F 1 country (0 ∷ 2 ∷ 1 ∷ [])
+all_with_country = (
+  (doc_id, refl, apart _ _ _ _ tt (refl, refl, inl (omega arith))),
+  (
+    (url, refl, along _ _ _ _ _ (apart _ _ _ _ tt (refl, refl, inl (omega arith)))),
+    ((country, refl, along _ _ _ _ _ (along _ _ _ _ _ (along _ _ _ _ _ (same_leaf refl)))), tt),
+  ),
+)
+
+pub not_selected : AllTogether F 1 country (3 ∷ []) → ⊥
+not_selected h = let e : None ≡ Some h.0.0 = h.0.1 in absurd (cc)
+
+-- ---- rows
+
+abbrev first_row : Node
+first_row = first_or_none (rows (level country) record_10)
+  where
+    first_or_none : List Node → Node
+    first_or_none [] = no_slots
+    first_or_none (row ∷ rest) = row
+
+abbrev first_context : Context
+first_context = with_value 2 (word (codes "http://A")) (with_value 1 (word (codes "us")) (with_value 0 (number 10) start))
+
+pub is_row : IsRow F (0 ∷ 1 ∷ 2 ∷ []) first_context first_row
+is_row = (
+  (λ q e. let w : doc_id ≡ q = cc in subst (λ (p : List Step). number 10 ≡ value_at p first_row) w refl),
+  (
+    (λ q e. let w : country ≡ q = cc in subst (λ (p : List Step). word (codes "us") ≡ value_at p first_row) w refl),
+    ((λ q e. let w : url ≡ q = cc in subst (λ (p : List Step). word (codes "http://A") ≡ value_at p first_row) w refl), tt),
+  ),
+)
+
+-- with another value, of any of the leaves, it isn't
+pub not_row : (IsRow F (1 ∷ []) (with_value 1 (word (codes "gb")) first_context) first_row → ⊥) × (IsRow F (2 ∷ 1 ∷ []) (with_value 1 (word (codes "gb")) first_context) first_row → ⊥)
+not_row = (λ h. true≢false (ap (is_word (codes "gb")) (h.0 country refl)), λ h. true≢false (ap (is_word (codes "gb")) (h.1.0 country refl)))
+
+-- ---- in an instance: the leaves Country and Url in a name, with DocId outside of it
+
+abbrev in_name : List Pick
+in_name = record { rest = step 0 repeated ∷ step 1 optional ∷ []; index = 1 } ∷ record { rest = step 1 optional ∷ []; index = 2 } ∷ []
+
+pub those_in_name : behind (beside (beside (picks F))) ≡ in_name
+those_in_name = refl
+
+abbrev name_shape : Shape
+name_shape = group (field (codes "Language") repeated (group language) (field (codes "Url") optional (leaf text_kind) no_fields))
+
+pub country_below : Only 1 (step 0 repeated ∷ step 1 optional ∷ []) in_name
+country_below = inl (refl, refl, (refl, tt))
+
+pub url_below : Only 2 (step 1 optional ∷ []) in_name
+url_below = inr (refl, inl (refl, refl, tt))
+
+pub doc_id_outside : Without 0 in_name
+doc_id_outside = (refl, (refl, tt))
+
+pub not_without : (Without 2 in_name → ⊥) × (Only 0 [] in_name → ⊥)
+not_without = (λ h. true≢false h.1.0, no_only)
+  where
+    no_last : (((2 == 0) ≡ true) × ((step 1 optional ∷ []) ≡ []) × Unit {0}) ⊎ (((2 == 0) ≡ false) × ⊥) → ⊥
+    no_last (inl h) = true≢false (sym h.0)
+    no_last (inr h) = h.1
+
+    no_only : Only 0 [] in_name → ⊥
+    no_only (inl h) = true≢false (sym h.0)
+    no_only (inr h) = no_last h.1
+
+abbrev readers : Readers 1 name_shape in_name (step 0 repeated ∷ step 1 optional ∷ []) (1 ∷ 2 ∷ 0 ∷ [])
+readers =
+    below 1 (step 0 repeated ∷ step 1 optional ∷ []) (2 ∷ 0 ∷ []) country_below refl (along _ _ _ _ _ (along _ _ _ _ _ (same_leaf refl)))
+    (below 2 (step 1 optional ∷ []) (0 ∷ []) url_below refl (apart _ _ _ _ tt (refl, refl, inl (omega arith)))
+    (outside 0 [] doc_id_outside no_reader))
+
+-- the first name, cut to its first language
+abbrev first_name : Instance
+first_name = inner (slot (single (inner (language_node (codes "en-us") (codes "us" ∷ [])))) (slot (texts (codes "http://A" ∷ [])) no_slots))
+
+abbrev IsRowHere : Context → Type 0
+IsRowHere d = IsRowInside 1 name_shape in_name (step 0 repeated ∷ step 1 optional ∷ []) (with_value 0 (number 10) start) (1 ∷ 2 ∷ 0 ∷ []) readers d first_name
+
+pub row_inside : IsRowHere first_context
+row_inside = (refl, (refl, (refl, tt)))
+
+pub not_inside : (IsRowHere (with_value 1 (word (codes "gb")) first_context) → ⊥) × (IsRowHere (with_value 2 (word (codes "gb")) first_context) → ⊥) × (IsRowHere (with_value 0 (word (codes "gb")) first_context) → ⊥)
+not_inside = (λ h. true≢false (ap (is_word (codes "gb")) h.0), λ h. true≢false (ap (is_word (codes "gb")) h.1.0), λ h. true≢false (ap (is_word (codes "gb")) h.1.1.0))
+
 -- ---- tours
 
 abbrev name_1 : Tour → Tour
@@ -99,12 +198,6 @@ pub context_behind : (three (after start tour_10) ≡ number 10 ∷ word (codes 
 context_behind = (refl, refl)
 
 -- ---- conditions
-
-abbrev is_word : List ℕ → Option Value → Bool
-is_word t None = false
-is_word t (Some (bool_value b)) = false
-is_word t (Some (int_value z)) = false
-is_word t (Some (text_value u)) = bytes_eq t u
 
 -- Name.Language.Country = 'gb'; Name.Language.Country = 'us' AND Name.Url = 'http://A'; Name.Url = 'http://B'; DocId is there
 abbrev in_gb : Watch

@@ -1,5 +1,5 @@
 -- A condition watched over moves, and where a branch is on its chain.
-use Rattle.std.specs.Prelude.{ℕ, List, [], ◌∷◌, Bool, true, false, not, ◌&&◌, ◌||◌, ◌==◌, if◌then◌else◌, Option, Some, None}
+use Rattle.std.specs.Prelude.{ℕ, List, [], ◌∷◌, Bool, false, not, ◌&&◌, ◌||◌, ◌==◌, if◌then◌else◌, Option, Some, None}
 use Rattle.dr_firing.specs.Context.{Context, with_value}
 use Rattle.dr_firing.specs.Tour.{Tour, over, saw, inside, after}
 

@@ -1,5 +1,5 @@
 -- What is kept of a record is what has a true row in its walk.
-use Rattle.std.specs.Prelude.{◌≡◌, ℕ, List, [], ◌∷◌, Bool, true, Some, is_some}
+use Rattle.std.specs.Prelude.{◌≡◌, ℕ, List, Bool, true, Some, is_some}
 use Rattle.std.specs.List.{list_all, list_any, slice_get}
 use Rattle.dr_meaning.specs.Schema.{Fields, Shape}
 use Rattle.dr_meaning.specs.Path.{Step, level, is_leaf_path, is_shape_path}

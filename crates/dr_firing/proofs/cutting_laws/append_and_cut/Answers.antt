@@ -1,6 +1,3 @@
-use Rattle.std.specs.Prelude.{Option}
-use Rattle.dr_meaning.specs.Record.{Value}
-use Rattle.dr_partials.specs.Putting.{Put}
 use Rattle.dr_firing.proofs.CuttingLemmas.{goes_behind}
 use Rattle.dr_firing.proofs.cutting_laws.append_and_cut.Goals as goal
 
