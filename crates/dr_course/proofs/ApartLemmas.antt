@@ -1,10 +1,10 @@
 -- Leaves with different paths are selected once each.
-use Rattle.std.proofs.Common.{◌≡◌, ℕ, zero, suc, List, [], ◌∷◌, Bool, true, false, ◌&&◌, refl, sym, ap, ap₂, subst, ◌∙◌, true≢false, arith}
+use Rattle.std.proofs.Common.{◌≡◌, ℕ, zero, suc, List, [], ◌∷◌, Bool, true, false, ◌&&◌, refl, sym, ap, ap₂, ◌∙◌, true≢false, arith}
 use Rattle.std.specs.Prelude.{◌==◌, not}
 use Rattle.std.specs.List.{list_all}
 use Rattle.std.proofs.lemmas.Bool.{and_parts, eq-eqb, ne_eqb, eqb-true}
 use Rattle.dr_meaning.specs.Schema.{Repetition, Fields, no_fields, field, Shape, leaf, group}
-use Rattle.dr_meaning.specs.Path.{Step, same_path, begins_with, is_leaf_path, is_shape_path, is_empty_path}
+use Rattle.dr_meaning.specs.Path.{Step, same_path, begins_with, is_leaf_path, is_empty_path}
 use Rattle.dr_meaning.specs.Automaton.{Pick, picks, picks_from, behind_if, behind_pick, behind, beside_if, beside_pick, beside}
 use Rattle.dr_course.specs.Selection.{differs, all_differ}
 use Rattle.dr_course.proofs.Apart.{AtMostOne, Apart, ShapeApart}

@@ -1,11 +1,10 @@
 -- The moves in what is absent: a NULL of each leaf, in reading order.
-use Rattle.std.proofs.Common.{◌≡◌, ℕ, zero, suc, ◌+◌, List, [], ◌∷◌, ◌++◌, Bool, true, false, Option, None, Some, refl, sym, ap, ap₂, subst, ◌∙◌, append_assoc, append-nil, true≢false, arith}
-use Rattle.std.specs.Prelude.{map}
-use Rattle.dr_meaning.specs.Schema.{Repetition, required, optional, repeated, Kind, Fields, no_fields, field, Shape, leaf, group, repetition_count, definition_count, shape_repeated_fields}
-use Rattle.dr_meaning.specs.Record.{Value, Node, no_slots, Instances, no_instances, instance, Instance}
-use Rattle.dr_meaning.specs.Column.{Triplet, triplet}
+use Rattle.std.proofs.Common.{◌≡◌, ℕ, suc, ◌+◌, List, [], ◌∷◌, ◌++◌, None, refl, sym, ap}
+use Rattle.dr_meaning.specs.Schema.{Repetition, required, optional, repeated, Fields, no_fields, field, Shape, leaf, group, repetition_count, shape_repeated_fields}
+use Rattle.dr_meaning.specs.Record.{no_slots, no_instances}
+use Rattle.dr_meaning.specs.Column.{triplet}
 use Rattle.dr_meaning.specs.Automaton.{Pick, behind, beside, indexes, near_order, far_order, shape_near_order, shape_far_order, unless_repeated as order_unless_repeated, where_repeated}
-use Rattle.dr_meaning.specs.Walk.{Move, enter, value, leave, Depth, inside, begun_later, first_of, first_slot, other_slots, node_of, value_there, triplet_moves, unless_repeated, enclosed, later_moves, repeated_moves, by_repetition, where_selected, moves_in, near_moves, far_moves, shape_near_moves, shape_far_moves, top, record_moves}
+use Rattle.dr_meaning.specs.Walk.{Move, value, Depth, inside, begun_later, triplet_moves, unless_repeated, repeated_moves, by_repetition, where_selected, moves_in, near_moves, far_moves, shape_near_moves, shape_far_moves}
 use Rattle.dr_course.proofs.Made.{nulls}
 use Rattle.dr_course.proofs.GateLemmas.{nulls_append, no_shape_near_order, no_shape_far_order}
 

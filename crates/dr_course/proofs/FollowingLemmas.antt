@@ -1,11 +1,10 @@
 -- What follows a course is made of it.
-use Rattle.std.proofs.Common.{◌≡◌, ℕ, zero, suc, List, [], ◌∷◌, ◌++◌, true, false, Option, None, refl, sym, ap, subst, ◌∙◌, append_assoc, arith}
-use Rattle.std.specs.Prelude.{map, ◌==◌, ◌&&◌, nat_lt}
+use Rattle.std.proofs.Common.{◌≡◌, ℕ, suc, List, [], ◌∷◌, ◌++◌, None, refl, sym, ap, subst, ◌∙◌, append_assoc}
 use Rattle.std.proofs.lemmas.Bool.{and_parts}
-use Rattle.dr_meaning.specs.Column.{Triplet, triplet}
+use Rattle.dr_meaning.specs.Column.{triplet}
 use Rattle.dr_meaning.specs.Walk.{Move, enter, value, leave}
-use Rattle.dr_course.specs.Course.{Gate, reach, are_open, Give, Visit, Items, nothing, give, visit}
-use Rattle.dr_course.specs.Turning.{Stack, between, in_record, in_items, in_absent, lapped, entering, has_its_value}
+use Rattle.dr_course.specs.Course.{reach, Items}
+use Rattle.dr_course.specs.Turning.{Stack, between, in_record, in_items, in_absent, lapped, entering}
 use Rattle.dr_course.proofs.Following.{next_definition, Follows, ended, record_begun, record_ended, items_done, given, visited, skipped, absent_done, absent_given, lap_more, lap_last, entered}
 use Rattle.dr_course.proofs.Made.{nulls, Made, made_nothing, made_give, made_absent, made_visit, Laps, no_lap, one_lap, MadeRecords, no_record, one_record}
 

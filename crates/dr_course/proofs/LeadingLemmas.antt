@@ -1,26 +1,25 @@
 -- Over the columns of records the turns give their walk; and columns over which all is done are those of records.
-use Rattle.std.proofs.Common.{◌≡◌, ℕ, zero, suc, ◌+◌, ◌<◌, ◌≤◌, List, [], ◌∷◌, ◌++◌, length, Bool, true, false, Option, None, Some, refl, sym, ap, ap₂, subst, ◌∙◌, append_assoc, append-nil, true≢false, arith}
+use Rattle.std.proofs.Common.{◌≡◌, ℕ, zero, suc, ◌+◌, ◌≤◌, List, [], ◌∷◌, ◌++◌, length, Bool, true, false, Option, None, Some, refl, sym, ap, ap₂, subst, ◌∙◌, append-nil, arith}
 use Rattle.std.specs.Prelude.{map, get_or, nat_lt, ◌&&◌, ◌==◌, if◌then◌else◌}
 use Rattle.std.specs.List.{list_all, flat_map, slice_get}
-use Rattle.std.proofs.lemmas.Bool.{and_parts, eq-eqb, ne_eqb, eqb-true}
-use Rattle.dr_meaning.specs.Schema.{Fields, group}
+use Rattle.std.proofs.lemmas.Bool.{and_parts, ne_eqb, eqb-true}
+use Rattle.dr_meaning.specs.Schema.{Fields}
 use Rattle.dr_meaning.specs.Path.{Step, is_leaf_path}
-use Rattle.dr_meaning.specs.Record.{Value, Node, is_record}
-use Rattle.dr_meaning.specs.Column.{Triplet, triplet, column}
-use Rattle.dr_meaning.specs.Automaton.{Pick, picks, picks_from}
+use Rattle.dr_meaning.specs.Record.{Node, is_record}
+use Rattle.dr_meaning.specs.Column.{Triplet, column}
+use Rattle.dr_meaning.specs.Automaton.{picks, picks_from}
 use Rattle.dr_meaning.specs.Walk.{Move, enter, value, leave, walk, near_moves, far_moves, top, record_moves}
 use Rattle.dr_meaning.specs.WalkLaws.{triplets_of}
 use Rattle.dr_meaning.proofs.WalkLemmas.{of_append, of_enclosed, Without, near_nothing, far_nothing, walk_gives_columns}
-use Rattle.dr_course.specs.Course.{Gate, reach, are_open, Give, Visit, Items, nothing, give, visit, course}
-use Rattle.dr_course.specs.Turning.{Stack, between, in_record, in_items, in_absent, lapped, entering, Turn, gives, goes_on, done, stops, is_due, turn_given, is_null, turn_absent, turn, definitions_of, definition_of, level_of}
-use Rattle.dr_course.specs.Leading.{Left, head_of, tail_of, heads, behind_move, Leads, stays, moves, turns, columns_of, has_columns}
+use Rattle.dr_course.specs.Course.{reach, are_open, Items, nothing, give, visit, course}
+use Rattle.dr_course.specs.Turning.{Stack, between, in_record, in_items, in_absent, lapped, entering, Turn, gives, goes_on, stops, is_due, turn_given, is_null, turn_absent, turn, definitions_of, definition_of}
+use Rattle.dr_course.specs.Leading.{Left, head_of, tail_of, heads, behind_move, Leads, stays, moves, turns, has_columns}
 use Rattle.dr_course.specs.CourseLaws.{RecordsLead, LedToRecords}
 use Rattle.dr_course.proofs.Following.{Follows, heads_of}
-use Rattle.dr_course.proofs.Made.{MadeRecords, no_record}
+use Rattle.dr_course.proofs.Made.{no_record}
 use Rattle.dr_course.proofs.TurnLemmas.{Agrees, turn_agrees}
 use Rattle.dr_course.proofs.WalkFollows.{walk_follows}
-use Rattle.dr_course.proofs.NodesMade.{RecordsMade, records_made}
-use Rattle.dr_course.proofs.FollowingLemmas.{Rest}
+use Rattle.dr_course.proofs.NodesMade.{records_made}
 use Rattle.dr_course.proofs.Viability.{Turns, no_turn, move_turn, still_turn, turns_back}
 use Rattle.dr_course.proofs.ApartLemmas.{leaves_apart}
 

@@ -1,17 +1,13 @@
 -- Over the columns of moves that follow a course the turns lead to the end, and give these moves.
-use Rattle.std.proofs.Common.{◌≡◌, ℕ, zero, suc, List, [], ◌∷◌, length, Bool, true, false, ◌&&◌, ◌==◌, Option, Some, None, refl, sym, ap, subst, ◌∙◌}
+use Rattle.std.proofs.Common.{◌≡◌, ℕ, suc, List, [], ◌∷◌, length, Bool, true, false, ◌&&◌, ◌==◌, Some, None, refl, sym, ap, subst, ◌∙◌}
 use Rattle.std.specs.Prelude.{nat_lt, if◌then◌else◌}
-use Rattle.std.specs.List.{list_all}
 use Rattle.std.proofs.lemmas.Bool.{eq-eqb}
-use Rattle.dr_meaning.specs.Schema.{Fields}
-use Rattle.dr_meaning.specs.Path.{Step, is_leaf_path}
-use Rattle.dr_meaning.specs.Record.{Node, is_record}
-use Rattle.dr_meaning.specs.Column.{Triplet, triplet}
+use Rattle.dr_meaning.specs.Column.{triplet}
 use Rattle.dr_meaning.specs.Walk.{Move, enter, value, leave, walk}
 use Rattle.dr_meaning.specs.WalkLaws.{triplets_of}
 use Rattle.dr_meaning.specs.AutomatonLaws.{next_level}
-use Rattle.dr_course.specs.Course.{reach, are_open, Give, Visit, Items, nothing, give, visit, course}
-use Rattle.dr_course.specs.Turning.{Stack, between, in_record, in_items, in_absent, lapped, entering, Turn, gives, goes_on, stops, definition_of, level_of, definitions_of, is_due, turn_given, is_null, turn_absent, turn}
+use Rattle.dr_course.specs.Course.{reach, are_open, Visit, Items, nothing, give, visit, course}
+use Rattle.dr_course.specs.Turning.{Stack, between, in_record, in_items, in_absent, lapped, entering, gives, goes_on, stops, definition_of, level_of, definitions_of, is_due, turn_given, is_null, turn_absent, turn}
 use Rattle.dr_course.specs.Leading.{Left, head_of, heads, behind_move, Leads, stays, moves, turns, has_columns}
 use Rattle.dr_course.specs.CourseLaws.{RecordsLeadThrough}
 use Rattle.dr_course.proofs.Following.{next_definition, heads_of, Follows, ended, record_begun, record_ended, items_done, given, visited, skipped, absent_done, absent_given, lap_more, lap_last, entered}

@@ -1,8 +1,8 @@
 -- What is made in going through a course: the moves of a level, of the later instances of a repeated field, of records.
-use Rattle.std.specs.Prelude.{◌≡◌, ℕ, zero, suc, List, [], ◌∷◌, ◌++◌, map, true, false, Option, None}
+use Rattle.std.specs.Prelude.{◌≡◌, ℕ, suc, List, [], ◌∷◌, ◌++◌, map, true, None}
 use Rattle.dr_meaning.specs.Column.{Triplet, triplet}
 use Rattle.dr_meaning.specs.Walk.{Move, enter, value, leave}
-use Rattle.dr_course.specs.Course.{Gate, reach, are_open, comes_to, Give, Visit, Items, nothing, give, visit}
+use Rattle.dr_course.specs.Course.{reach, are_open, comes_to, Give, Visit, Items, nothing, give, visit}
 use Rattle.dr_course.specs.Turning.{has_its_value}
 
 -- a NULL of each of these leaves

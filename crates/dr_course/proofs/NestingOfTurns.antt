@@ -1,10 +1,10 @@
 -- Each move that a turn gives nests on what is open.
-use Rattle.std.proofs.Common.{◌≡◌, ℕ, suc, List, [], ◌∷◌, ◌++◌, Bool, true, false, Option, None, Some, refl, sym, ap, subst, ◌∙◌}
+use Rattle.std.proofs.Common.{◌≡◌, suc, List, [], ◌∷◌, ◌++◌, true, Option, None, Some, refl, sym, ap, ◌∙◌}
 use Rattle.std.specs.Prelude.{map, option_and_then, is_some}
 use Rattle.std.specs.List.{list_all}
 use Rattle.std.proofs.lemmas.Bool.{and_from}
 use Rattle.dr_meaning.specs.Schema.{Fields}
-use Rattle.dr_meaning.specs.Path.{Step, Leaf, is_leaf_path}
+use Rattle.dr_meaning.specs.Path.{Leaf, is_leaf_path}
 use Rattle.dr_meaning.specs.Walk.{Move, Open, no_record, open_after}
 use Rattle.dr_meaning.specs.WalkLaws.{open_after_moves, AreLeavesOf}
 use Rattle.dr_meaning.proofs.LeafKinds.{kind_of_leaf}

@@ -1,19 +1,19 @@
 -- What is made of a course is the walk of some records.
-use Rattle.std.proofs.Common.{◌≡◌, ◌⊎◌, inl, inr, ℕ, zero, suc, ◌+◌, ◌<◌, List, [], ◌∷◌, ◌++◌, length, Bool, true, false, ◌&&◌, Option, None, Some, refl, sym, ap, ap₂, subst, ◌∙◌, append_assoc, append-nil, true≢false, arith}
-use Rattle.std.specs.Prelude.{map, ◌||◌, if◌then◌else◌, ◌==◌, nat_lt, ℤ, pos}
-use Rattle.std.specs.List.{list_all, flat_map}
+use Rattle.std.proofs.Common.{◌≡◌, ◌⊎◌, inl, inr, ℕ, suc, ◌+◌, List, [], ◌∷◌, ◌++◌, length, Bool, true, false, Option, None, Some, refl, sym, ap, ap₂, subst, ◌∙◌, append_assoc, append-nil, true≢false, arith}
+use Rattle.std.specs.Prelude.{◌||◌, if◌then◌else◌, ◌==◌, nat_lt, pos}
+use Rattle.std.specs.List.{list_all}
 use Rattle.std.specs.Str.{is_utf8, chars}
-use Rattle.std.proofs.lemmas.Bool.{and_parts, eq-eqb, eqb-true}
+use Rattle.std.proofs.lemmas.Bool.{eq-eqb, eqb-true}
 use Rattle.dr_meaning.specs.Schema.{Repetition, required, optional, repeated, Kind, bool_kind, int32_kind, int64_kind, text_kind, Fields, no_fields, field, Shape, leaf, group, repetition_count, definition_count, shape_repeated_fields}
 use Rattle.dr_meaning.specs.Path.{Step}
 use Rattle.dr_meaning.specs.Record.{Value, bool_value, int_value, text_value, Node, no_slots, slot, Instances, no_instances, instance, Instance, atom, inner, single, count_instances, fits_repetition, all_instances, is_record, is_instance, is_of_kind}
 use Rattle.dr_meaning.specs.Column.{Triplet, triplet}
-use Rattle.dr_meaning.specs.Automaton.{Pick, picks, behind, beside, indexes, shape_near_order, shape_far_order}
-use Rattle.dr_meaning.specs.Walk.{Move, enter, value, leave, Depth, inside, begun_later, first_of, first_slot, other_slots, node_of, value_there, triplet_moves, unless_repeated as walk_unless_repeated, enclosed, later_moves, repeated_moves, by_repetition as walk_by_repetition, where_selected as walk_where_selected, moves_in, near_moves, far_moves, shape_near_moves, shape_far_moves, top, record_moves, walk}
-use Rattle.dr_course.specs.Course.{Gate, reach, are_open, comes_to, low_in, Give, Visit, Items, nothing, give, visit, followed_by, first_index, gated, give_each, unless_repeated, where_selected, by_repetition, visit_of, near_items, far_items, field_near_items, shape_near_items, shape_far_items, course}
+use Rattle.dr_meaning.specs.Automaton.{Pick, picks, behind, beside, shape_near_order, shape_far_order}
+use Rattle.dr_meaning.specs.Walk.{Move, enter, value, leave, Depth, inside, begun_later, first_of, unless_repeated as walk_unless_repeated, enclosed, later_moves, repeated_moves, by_repetition as walk_by_repetition, where_selected as walk_where_selected, moves_in, near_moves, far_moves, shape_near_moves, shape_far_moves, walk}
+use Rattle.dr_course.specs.Course.{Gate, are_open, comes_to, Give, Visit, Items, nothing, visit, followed_by, first_index, gated, give_each, unless_repeated, where_selected, by_repetition, visit_of, near_items, far_items, field_near_items, shape_near_items, shape_far_items, course}
 use Rattle.dr_course.specs.Turning.{has_its_value, is_value_of, is_no_value}
-use Rattle.dr_course.proofs.Made.{nulls, Made, made_nothing, made_give, made_absent, made_visit, Laps, no_lap, one_lap, MadeRecords, no_record, one_record}
-use Rattle.dr_course.proofs.GateLemmas.{Shut, open_reach, open_gated, shut_gated, Split, split, made_none, shut_comes, near_dead, far_dead, shape_far_dead, no_shape_far_items}
+use Rattle.dr_course.proofs.Made.{nulls, Made, made_give, made_absent, made_visit, Laps, no_lap, one_lap, MadeRecords, no_record, one_record}
+use Rattle.dr_course.proofs.GateLemmas.{open_reach, open_gated, shut_gated, split, made_none, near_dead, shape_far_dead, no_shape_far_items}
 use Rattle.dr_course.proofs.DeadMoves.{two_parts, shape_near_in_absent, shape_far_in_absent}
 use Rattle.dr_course.proofs.Apart.{AtMostOne, Apart, ShapeApart}
 

@@ -1,12 +1,12 @@
 -- Turns over the columns of moves give these moves exactly where the moves follow the course.
-use Rattle.std.proofs.Common.{◌≡◌, ℕ, zero, suc, List, [], ◌∷◌, Bool, true, false, Option, None, Some, refl, sym, ap, ap₂, subst, ◌∙◌, true≢false, arith}
+use Rattle.std.proofs.Common.{◌≡◌, ℕ, zero, suc, List, [], ◌∷◌, Bool, true, false, Option, None, Some, refl, sym, ap, ap₂, subst, ◌∙◌, true≢false}
 use Rattle.std.specs.Prelude.{◌&&◌, ◌==◌, nat_lt, if◌then◌else◌}
 use Rattle.std.proofs.lemmas.Bool.{and_parts, eq-eqb, eqb-true}
 use Rattle.dr_meaning.specs.Record.{Value}
 use Rattle.dr_meaning.specs.Column.{Triplet, triplet}
 use Rattle.dr_meaning.specs.Walk.{Move, enter, value, leave}
 use Rattle.dr_meaning.specs.AutomatonLaws.{next_level}
-use Rattle.dr_course.specs.Course.{Gate, reach, are_open, comes_to, Give, Visit, Items, nothing, give, visit}
+use Rattle.dr_course.specs.Course.{reach, are_open, comes_to, Give, Visit, Items, nothing, give, visit}
 use Rattle.dr_course.specs.Turning.{is_no_value, Stack, between, in_record, in_items, in_absent, lapped, entering, has_its_value, Turn, gives, goes_on, done, stops, definition_of, level_of, definitions_of, is_due, turn_given, is_null, turn_absent, turn}
 use Rattle.dr_course.proofs.Following.{next_definition, Follows, ended, record_begun, record_ended, items_done, given, visited, skipped, absent_done, absent_given, lap_more, lap_last, entered, heads_of}
 

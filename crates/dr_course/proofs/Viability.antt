@@ -1,5 +1,5 @@
 -- Whatever comes next in the columns, what a turn gives can be gone on from to the walk of some records.
-use Rattle.std.proofs.Common.{◌≡◌, ℕ, zero, suc, List, [], ◌∷◌, ◌++◌, length, Bool, true, false, Option, None, Some, refl, sym, ap, ap₂, subst, ◌∙◌, append_assoc, true≢false, arith}
+use Rattle.std.proofs.Common.{◌≡◌, ℕ, zero, suc, List, [], ◌∷◌, ◌++◌, length, Bool, true, false, Option, None, Some, refl, sym, ap, ap₂, subst, ◌∙◌, append_assoc, true≢false}
 use Rattle.std.specs.List.{list_all}
 use Rattle.std.specs.Prelude.{◌||◌, nat_lt, ◌&&◌, ◌==◌, if◌then◌else◌}
 use Rattle.std.proofs.lemmas.Bool.{and_parts, eq-eqb, eqb-true}
@@ -9,12 +9,12 @@ use Rattle.dr_meaning.specs.Automaton.{picks}
 use Rattle.dr_meaning.specs.Record.{Value, Node, is_record}
 use Rattle.dr_meaning.specs.Column.{Triplet, triplet}
 use Rattle.dr_meaning.specs.Walk.{Move, enter, value, leave, walk}
-use Rattle.dr_course.specs.Course.{Gate, reach, are_open, comes_to, Give, Visit, Items, nothing, give, visit, course}
-use Rattle.dr_course.specs.Turning.{is_no_value, is_value_of, Stack, between, in_record, in_items, in_absent, lapped, entering, has_its_value, Turn, gives, goes_on, done, stops, definition_of, level_of, definitions_of, is_due, turn_given, is_null, turn_absent, turn}
-use Rattle.dr_course.proofs.Made.{nulls, Made, made_nothing, made_give, made_absent, made_visit, Laps, no_lap, one_lap, MadeRecords, no_record, one_record}
+use Rattle.dr_course.specs.Course.{reach, are_open, comes_to, Give, Visit, Items, nothing, give, visit, course}
+use Rattle.dr_course.specs.Turning.{is_no_value, Stack, between, in_record, in_items, in_absent, lapped, entering, has_its_value, Turn, gives, goes_on, done, stops, definition_of, level_of, definitions_of, is_due, turn_given, is_null, turn_absent, turn}
+use Rattle.dr_course.proofs.Made.{nulls, Made, made_nothing, made_give, made_absent, made_visit, no_lap, one_lap, MadeRecords, no_record, one_record}
 use Rattle.dr_course.proofs.FollowingLemmas.{Rest, around_visit, around_lap}
 use Rattle.dr_course.proofs.Apart.{Apart}
-use Rattle.dr_course.proofs.NodesMade.{some_value, RecordsMade, records_made}
+use Rattle.dr_course.proofs.NodesMade.{some_value, records_made}
 
 -- ---- something can be made of whatever is still to be gone through
 

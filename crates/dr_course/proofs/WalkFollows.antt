@@ -1,27 +1,25 @@
 -- The walk of records follows the course of their schema: going through it.
-use Rattle.std.proofs.Common.{◌≡◌, ℕ, zero, suc, ◌+◌, ◌<◌, ◌≤◌, List, [], ◌∷◌, ◌++◌, length, Bool, true, false, ◌&&◌, Option, None, Some, refl, sym, ap, ap₂, subst, ◌∙◌, append_assoc, append-nil, true≢false, arith}
-use Rattle.std.specs.Prelude.{◌||◌, map, ◌==◌, nat_lt, nat_le, if◌then◌else◌}
+use Rattle.std.proofs.Common.{◌≡◌, ℕ, suc, ◌+◌, ◌<◌, ◌≤◌, List, [], ◌∷◌, ◌++◌, length, Bool, true, false, Option, None, Some, refl, sym, ap, subst, ◌∙◌, append_assoc, true≢false, arith}
+use Rattle.std.specs.Prelude.{◌||◌, ◌==◌}
 use Rattle.std.specs.List.{list_all, flat_map, slice_get}
-use Rattle.std.proofs.lemmas.Bool.{and_parts, eq-eqb, ne_eqb, eqb-true, leb-true, lt-ltb, le-ltb}
+use Rattle.std.proofs.lemmas.Bool.{and_parts, eq-eqb, ne_eqb, lt-ltb, le-ltb}
 use Rattle.dr_meaning.specs.Schema.{Repetition, required, optional, repeated, Kind, Fields, no_fields, field, Shape, leaf, group, repetition_count, definition_count, shape_repeated_fields}
-use Rattle.dr_meaning.specs.Path.{Step, is_leaf_path, is_shape_path, same_repetition, through}
-use Rattle.dr_meaning.specs.Record.{Value, Node, no_slots, slot, gap, Instances, no_instances, instance, Instance, atom, inner, single, count_instances, fits_repetition, all_instances, is_record, is_instance, is_of_kind, is_atom_of, instances_at, instances_in}
-use Rattle.dr_meaning.specs.Column.{Triplet, triplet, value_of, each_later, spread, instance_column}
-use Rattle.dr_meaning.specs.Automaton.{Pick, picks, picks_from, behind_if, behind_pick, behind, beside_if, beside_pick, beside, indexes, near_order, far_order, shape_near_order, shape_far_order, unless_repeated as order_unless_repeated, where_repeated}
-use Rattle.dr_meaning.specs.Walk.{Move, enter, value, leave, Depth, inside, begun_later, first_of, first_slot, other_slots, node_of, value_there, triplet_moves, unless_repeated as walk_unless_repeated, enclosed, later_moves, repeated_moves, by_repetition as walk_by_repetition, where_selected as walk_where_selected, moves_in, near_moves, far_moves, shape_near_moves, shape_far_moves, top, record_moves, walk}
-use Rattle.dr_meaning.specs.WalkLaws.{triplets_of}
+use Rattle.dr_meaning.specs.Path.{Step, is_leaf_path}
+use Rattle.dr_meaning.specs.Record.{Value, Node, no_slots, slot, gap, Instances, no_instances, instance, Instance, atom, inner, count_instances, fits_repetition, all_instances, is_record, is_instance, is_of_kind, is_atom_of}
+use Rattle.dr_meaning.specs.Column.{triplet}
+use Rattle.dr_meaning.specs.Automaton.{Pick, picks, picks_from, behind, beside, indexes, near_order, far_order, shape_near_order, shape_far_order, unless_repeated as order_unless_repeated, where_repeated}
+use Rattle.dr_meaning.specs.Walk.{Move, enter, leave, Depth, inside, first_of, first_slot, other_slots, node_of, triplet_moves, unless_repeated as walk_unless_repeated, enclosed, later_moves, moves_in, near_moves, far_moves, shape_near_moves, shape_far_moves, top, record_moves, walk}
 use Rattle.dr_meaning.specs.AutomatonLaws.{next_level}
-use Rattle.dr_meaning.proofs.ProjectionLemmas.{step}
-use Rattle.dr_meaning.proofs.Blocks.{same_repetition-true, and₃_parts}
-use Rattle.dr_meaning.proofs.WalkLemmas.{of_append, Without, Only, without_behind, without_beside, only_behind, beside_first, only_beside, behind_later, picks_only, near_nothing, far_nothing, shape_near_nothing, shape_far_nothing, optional_column, Gives, shape_gives}
-use Rattle.dr_course.specs.Course.{Gate, reach, are_open, comes_to, low_in, Give, Visit, Items, nothing, give, visit, followed_by, first_index, gated, give_each, unless_repeated, where_selected, by_repetition, visit_of, near_items, far_items, field_near_items, shape_near_items, shape_far_items, course}
-use Rattle.dr_course.specs.Turning.{Stack, between, in_record, in_items, in_absent, lapped, entering, has_its_value}
+use Rattle.dr_meaning.proofs.Blocks.{and₃_parts}
+use Rattle.dr_meaning.proofs.WalkLemmas.{Only, picks_only}
+use Rattle.dr_course.specs.Course.{Gate, reach, are_open, comes_to, low_in, Give, Visit, Items, nothing, give, visit, followed_by, gated, give_each, unless_repeated, where_selected, by_repetition, visit_of, near_items, far_items, field_near_items, shape_near_items, shape_far_items, course}
+use Rattle.dr_course.specs.Turning.{Stack, between, in_record, in_items, in_absent, lapped}
 use Rattle.dr_course.proofs.Following.{next_definition, Follows, ended, record_begun, record_ended, items_done, given, visited, skipped, absent_done, absent_given, lap_more, lap_last, entered}
 use Rattle.dr_course.proofs.Made.{nulls}
-use Rattle.dr_course.proofs.GateLemmas.{low_above, Shut, open_reach, open_gated, shut_gated, gated_shut, nulls_append, no_shape_near_order, no_shape_far_order, no_shape_far_items}
+use Rattle.dr_course.proofs.GateLemmas.{Shut, open_reach, open_gated, shut_gated, gated_shut, nulls_append, no_shape_near_order, no_shape_far_order}
 use Rattle.dr_course.proofs.DeadMoves.{shape_near_in_absent, shape_far_in_absent, two_parts}
 use Rattle.dr_course.proofs.NodesMade.{required_items, depth, body, slot_far, in_first, in_later}
-use Rattle.dr_course.proofs.FollowsWalk.{absent_next, first_def, first_def_above, AllOnly, Paths, ShapePaths, Heads, AllAt, SlotHeads, Low, all_only_behind, all_only_beside, FieldPaths, field_paths, heads_behind, heads_beside, low_behind, low_beside, AllWithout, behind_without, low_past, Begun, begun, heads_begun, low_begun}
+use Rattle.dr_course.proofs.FollowsWalk.{absent_next, first_def, first_def_above, AllOnly, Paths, ShapePaths, Heads, SlotHeads, Low, all_only_behind, all_only_beside, field_paths, heads_behind, heads_beside, low_behind, low_beside, behind_without, low_past, begun, heads_begun, low_begun}
 
 -- ---- items, one after another
 

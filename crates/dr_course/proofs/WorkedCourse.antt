@@ -1,10 +1,10 @@
 -- Courses, by computation.
-use Rattle.std.specs.Prelude.{◌≡◌, ℕ, zero, suc, List, [], ◌∷◌, map, Bool, true, false, refl}
+use Rattle.std.specs.Prelude.{◌≡◌, ℕ, zero, suc, List, [], ◌∷◌, map, true, false, refl}
 use Rattle.dr_meaning.specs.Schema.{required, optional, repeated, int64_kind, text_kind, Kind, Fields, no_fields, field, leaf, group}
-use Rattle.dr_meaning.specs.Path.{Step, same_path}
+use Rattle.dr_meaning.specs.Path.{Step}
 use Rattle.dr_meaning.proofs.WorkedSchemas.{document}
 use Rattle.dr_meaning.proofs.WorkedPaths.{step, doc_id, backward, forward, code, country, url}
-use Rattle.dr_course.specs.Course.{Gate, reach, are_open, Give, comes_to, Visit, Items, nothing, give, visit, followed_by, course}
+use Rattle.dr_course.specs.Course.{Gate, reach, are_open, Give, comes_to, nothing, give, visit, followed_by, course}
 use Rattle.dr_course.specs.Selection.{all_differ}
 
 abbrev pub gate : ℕ → ℕ → Gate

@@ -3,8 +3,8 @@ use Rattle.std.specs.Prelude.{◌≡◌, ℕ, zero, suc, List, [], ◌∷◌, ma
 use Rattle.std.specs.Str.{is_utf8, chars}
 use Rattle.dr_meaning.specs.Schema.{Fields, no_fields, field, leaf, group, required, optional, repeated, int64_kind, text_kind}
 use Rattle.dr_meaning.specs.Path.{Step}
-use Rattle.dr_meaning.specs.Record.{Value, int_value, text_value, bool_value, Node, no_slots, slot, no_instances, instance, Instance, atom, inner, single}
-use Rattle.dr_meaning.specs.Column.{Triplet, triplet, column}
+use Rattle.dr_meaning.specs.Record.{Value, int_value, text_value, Node, no_slots, slot, no_instances, instance, Instance, atom, inner, single}
+use Rattle.dr_meaning.specs.Column.{Triplet, triplet}
 use Rattle.dr_meaning.specs.Walk.{Move, enter, value, leave, walk}
 use Rattle.dr_meaning.proofs.WorkedSchemas.{document}
 use Rattle.dr_meaning.proofs.WorkedRecords.{record_10, record_20, record_30}
