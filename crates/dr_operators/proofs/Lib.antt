@@ -1,0 +1,2 @@
+-- operands of unlike types
+pub mod UnlikeLemmas
