@@ -11,7 +11,10 @@ use Rattle.dr_nested.specs.Views.{fields_view}
 use Rattle.dr_plan.specs.declared.expression.Expr.{Expr}
 use Rattle.dr_chains.specs.declared.bound.BoundPath.{BoundPath}
 use Rattle.dr_chains.specs.Views.{bound_path_view}
+use Rattle.dr_sql.specs.Views.{expression_view}
+use Rattle.dr_sql.specs.declared.expression.Expression.{Expression}
 use Rattle.dr_bound_parts.specs.Faults.{earlier}
+use Rattle.dr_bound_parts.specs.Bound.{IsExpression}
 use Rattle.dr_bound_parts.specs.declared.parts.BoundExpression.{BoundExpression}
 use Rattle.dr_resolve.specs.declared.names.Binder.{Binder}
 
@@ -31,6 +34,14 @@ Came Is before now (passes b) (Some a) = (now ≡ before) × Is b a
 Came Is before now (passes b) None = ⊥
 Came Is before now (fails e es) (Some a) = ⊥
 Came Is before now (fails e es) None = now ≡ earlier before (first_fault (e ∷ es))
+
+-- an expression of a query over the fields of a binder
+abbrev pub bound_in : Binder → Expression → Checked meant.BoundExpression
+bound_in b e = meant.bind_expression (fields_in b) (expression_view e)
+
+-- what comes of binding an expression over the fields and leaves of a binder
+abbrev pub CameIn : Binder → Option meant.BindFault → Option meant.BindFault → Checked meant.BoundExpression → Option BoundExpression → Type 0
+CameIn b before now c o = Came (IsExpression (fields_in b) (leaves_in b)) before now c o
 
 -- ---- paths
 

@@ -7,7 +7,7 @@ ghost use Rattle.dr_meaning.specs.BoundExpression as meant;
 ghost use Rattle.dr_sql.specs.Views as syntax;
 ghost use Rattle.dr_bound_parts.specs.Faults.{first_view};
 ghost use Rattle.dr_bound_parts.specs.Bound.{IsExpression};
-ghost use Rattle.dr_resolve.specs.Outcomes.{Came, MadeAt, fields_in, leaves_in};
+ghost use Rattle.dr_resolve.specs.Outcomes.{Came, CameIn, MadeAt, bound_in, fields_in, leaves_in};
 ghost use Rattle.dr_operators.specs.Operators.{unary_type, unary_of, binary_type, binary_of};
 
 use crate::names::Binder;
@@ -154,39 +154,19 @@ impl Binder<'_> {
             Expression::IsNull(place, e) => self.one(*place, Unary::IsNull, e, first),
             Expression::Not(place, e) => self.one(*place, Unary::Not, e, first),
             Expression::Arithmetic(place, operator, left, right) => {
-                let left = self.expression(left, first)?;
-                let right = self.expression(right, first)?;
-                binary(
-                    self.alloc,
-                    *place,
-                    Binary::Arithmetic(*operator),
-                    left,
-                    right,
-                    first,
-                )
+                self.two(*place, Binary::Arithmetic(*operator), left, right, first)
             }
             Expression::Comparison(place, operator, left, right) => {
-                let left = self.expression(left, first)?;
-                let right = self.expression(right, first)?;
-                binary(
-                    self.alloc,
-                    *place,
-                    Binary::Comparison(*operator),
-                    left,
-                    right,
-                    first,
-                )
+                self.two(*place, Binary::Comparison(*operator), left, right, first)
             }
-            Expression::And(place, left, right) => {
-                let left = self.expression(left, first)?;
-                let right = self.expression(right, first)?;
-                binary(self.alloc, *place, Binary::And, left, right, first)
-            }
-            Expression::Or(place, left, right) => {
-                let left = self.expression(left, first)?;
-                let right = self.expression(right, first)?;
-                binary(self.alloc, *place, Binary::Or, left, right, first)
-            }
+            Expression::And(place, left, right) => self.two(
+                *place,
+                Binary::And,
+                left,
+                right,
+                first,
+            ),
+            Expression::Or(place, left, right) => self.two(*place, Binary::Or, left, right, first),
         }
     }
 
@@ -203,5 +183,22 @@ impl Binder<'_> {
     {
         let operand = self.expression(operand, first)?;
         unary(self.alloc, place, operator, operand, first)
+    }
+    /// An operator of two operands.
+    #[cycle(expressions)]
+    fn two(
+        self,
+        place: usize,
+        operator: Binary,
+        left: &Expression<'_>,
+        right: &Expression<'_>,
+        first: &mut FirstFault,
+    ) -> Result<Option<BoundExpression>, NoMemory>
+        ensures { IfOk result (CameIn self.entry (first_view first.old) (first_view first.new)
+            (meant.two_operands place (binary_type operator) (binary_of operator) (bound_in self.entry left.now) (bound_in self.entry right.now))) }
+    {
+        let left = self.expression(left, first)?;
+        let right = self.expression(right, first)?;
+        binary(self.alloc, place, operator, left, right, first)
     }
 }
