@@ -4,10 +4,6 @@
 #[cfg(test)]
 mod chunk_tests;
 #[cfg(test)]
-mod file_tests;
-#[cfg(test)]
-mod load_tests;
-#[cfg(test)]
 mod meta_tests;
 #[cfg(test)]
 mod open_tests;

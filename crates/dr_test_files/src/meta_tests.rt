@@ -43,6 +43,7 @@ fn page_again(alloc: Global, bytes: &[u8]) -> Result<Vec<u8>, Option<MetaFault>>
     Ok(out)
 }
 
+/// Files are written with one form of metadata; what others become where they are written again no command shows.
 #[test]
 fn metadata_is_viewed_and_written_again(rt: HostRuntime) -> Result<(), Fail> {
     let alloc = rt.alloc();
@@ -79,6 +80,7 @@ fn metadata_is_viewed_and_written_again(rt: HostRuntime) -> Result<(), Fail> {
     Ok(())
 }
 
+/// The same of page headers.
 #[test]
 fn page_headers_are_viewed_and_written_again(rt: HostRuntime) -> Result<(), Fail> {
     let cases: [&[u8]; 4] = [
@@ -101,6 +103,7 @@ fn page_headers_are_viewed_and_written_again(rt: HostRuntime) -> Result<(), Fail
     Ok(())
 }
 
+/// A file is left with `footer`, whichever field is wrong.
 #[test]
 fn the_first_fault_is_told(rt: HostRuntime) -> Result<(), Fail> {
     let missing = MetaFault::Missing;
@@ -167,6 +170,7 @@ fn the_first_fault_is_told(rt: HostRuntime) -> Result<(), Fail> {
     Ok(())
 }
 
+/// A type's own call.
 #[test]
 fn counts_have_63_bits(rt: HostRuntime) -> Result<(), Fail> {
     let most = (1 << 63) - 1;
@@ -191,6 +195,7 @@ fn element(
     }
 }
 
+/// No command shows how many leaves a file has.
 #[test]
 fn leaves_of_one_tree_are_counted(rt: HostRuntime) -> Result<(), Fail> {
     let alloc = rt.alloc();

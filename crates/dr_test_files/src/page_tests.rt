@@ -52,17 +52,11 @@ const BODY: [u8; 26] = [
     3, 0, 0, 0, 3, 0x58, 0, 3, 0, 0, 0, 3, 0xdb, 1, 2, 0, 0, 0, 0x75, 0x73, 2, 0, 0, 0, 0x67, 0x62,
 ];
 
-const BODY_SHOWN: &str = "(us 0 3)(NULL 2 2)(NULL 1 1)(gb 1 3)(NULL 0 1)";
-
 // A leaf, by its kind and its greatest repetition and definition level.
 type Leaf = (Kind, u8, u8);
 
 // Encodings of values, definition levels and repetition levels.
 type Encodings = (i64, i64, i64);
-
-const LEVELLED: Leaf = (Kind::Text, 2, 3);
-
-const OPTIONAL: Leaf = (Kind::I64, 0, 1);
 
 const REPEATED: Leaf = (Kind::Bool, 1, 0);
 
@@ -77,68 +71,18 @@ const PLAIN: Encodings = (0, 3, 3);
 
 const HUGE: u64 = 1 << 63;
 
+/// Bodies that no page of a file has: of more values than a page can tell, and of a repeated leaf that is always there. What pages of files have is in the cases.
 #[test]
-fn bodies_are_read(rt: HostRuntime) -> Result<(), Fail> {
+fn bodies_of_no_file_are_read(rt: HostRuntime) -> Result<(), Fail> {
     let alloc = rt.alloc();
-    let [bools, int32s, int64s, texts] = REQUIRED;
+    let [bools, _, int64s, texts] = REQUIRED;
     let two = [
         1, 0, 0, 0, 0, 0, 0, 0, 0xff, 0xff, 0xff, 0xff, 0xff, 0xff, 0xff, 0xff,
     ];
-    let mut longer = BODY.to_vec(alloc)?;
-    longer.extend_from_slice(&[1, 2, 3])?;
-    let rows: [(Leaf, Encodings, u64, &[u8], Option<&str>); 32] = [
-        (LEVELLED, PLAIN, 5, &BODY, Some(BODY_SHOWN)),
-        (LEVELLED, PLAIN, 5, &longer, Some(BODY_SHOWN)),
-        (LEVELLED, PLAIN, 5, &BODY[..25], None),
-        (LEVELLED, PLAIN, 9, &BODY, None),
-        (int64s, PLAIN, 2, &two, Some("(1 0 0)(-1 0 0)")),
-        (int64s, (0, 9, -1), 2, &two, Some("(1 0 0)(-1 0 0)")),
-        (int64s, PLAIN, 2, &two[..15], None),
-        (int64s, PLAIN, 0, &[], Some("")),
+    let rows: [(Leaf, Encodings, u64, &[u8], Option<&str>); 6] = [
         (int64s, PLAIN, HUGE, &two, None),
-        (
-            int32s,
-            PLAIN,
-            1,
-            &[0, 0, 0, 0x80, 9],
-            Some("(-2147483648 0 0)"),
-        ),
-        (bools, PLAIN, 2, &[2], Some("(false 0 0)(true 0 0)")),
-        (bools, PLAIN, 9, &[2], None),
         (bools, PLAIN, HUGE, &two, None),
-        (texts, PLAIN, 1, &[1, 0, 0, 0, b'a', 1], Some("(a 0 0)")),
-        (texts, PLAIN, 1, &[1, 0, 0, 0, 0x80], None),
-        (texts, PLAIN, 1, &[2, 0, 0, 0, b'a'], None),
         (texts, PLAIN, HUGE, &[], None),
-        (
-            OPTIONAL,
-            PLAIN,
-            2,
-            &[2, 0, 0, 0, 4, 0],
-            Some("(NULL 0 0)(NULL 0 0)"),
-        ),
-        (
-            OPTIONAL,
-            (2, 3, 9),
-            1,
-            &[2, 0, 0, 0, 4, 0],
-            Some("(NULL 0 0)"),
-        ),
-        (
-            OPTIONAL,
-            (8, 3, 3),
-            1,
-            &[2, 0, 0, 0, 4, 0],
-            Some("(NULL 0 0)"),
-        ),
-        (OPTIONAL, (3, 3, 3), 1, &[2, 0, 0, 0, 4, 0], None),
-        (OPTIONAL, (-1, 3, 3), 1, &[2, 0, 0, 0, 4, 0], None),
-        (OPTIONAL, (0, 4, 3), 1, &[2, 0, 0, 0, 4, 0], None),
-        (OPTIONAL, PLAIN, 1, &[2, 0, 0, 0, 4, 2], None),
-        (OPTIONAL, PLAIN, 1, &[3, 0, 0, 0, 4, 0], None),
-        (OPTIONAL, PLAIN, 1, &[2, 0, 0], None),
-        (OPTIONAL, PLAIN, 3, &[2, 0, 0, 0, 4, 0], None),
-        (OPTIONAL, PLAIN, 1, &[2, 0, 0, 0, 4, 1], None),
         (
             REPEATED,
             PLAIN,
@@ -148,7 +92,6 @@ fn bodies_are_read(rt: HostRuntime) -> Result<(), Fail> {
         ),
         (REPEATED, (0, 3, 0), 3, &[2, 0, 0, 0, 3, 6, 5], None),
         (REPEATED, PLAIN, 3, &[2, 0, 0, 0, 6, 2, 5], None),
-        (OPTIONAL, PLAIN, 0, &[0, 0, 0, 0], Some("")),
     ];
     let mut reader = BodyReader::new(alloc);
     for (leaf, encodings, triplets, bytes, expected) in rows {
@@ -185,116 +128,28 @@ fn bodies_are_read(rt: HostRuntime) -> Result<(), Fail> {
 // Seven and nine, in eight bytes each.
 const NUMBERS: [u8; 16] = [7, 0, 0, 0, 0, 0, 0, 0, 9, 0, 0, 0, 0, 0, 0, 0];
 
-// A text of one byte and one of two, and a byte behind them.
-const TWO_WORDS: [u8; 12] = [1, 0, 0, 0, b'a', 2, 0, 0, 0, b'b', b'c', 7];
-
+/// Values of a dictionary, more than a page can tell. Those that a page can tell are in the cases.
 #[test]
-fn values_of_a_dictionary_are_read(rt: HostRuntime) -> Result<(), Fail> {
+fn more_indices_than_bytes_are_refused(rt: HostRuntime) -> Result<(), Fail> {
     let alloc = rt.alloc();
-    let rows: [(Kind, &[u8], i64, u64, &[u8], Option<&str>); 15] = [
-        (
-            Kind::I64,
-            &NUMBERS,
-            8,
-            3,
-            &[1, 3, 2],
-            Some("(7 0 0)(9 0 0)(7 0 0)"),
-        ),
-        (
-            Kind::I64,
-            &NUMBERS,
-            2,
-            3,
-            &[1, 3, 2, 9],
-            Some("(7 0 0)(9 0 0)(7 0 0)"),
-        ),
-        (
-            Kind::I64,
-            &NUMBERS,
-            8,
-            2,
-            &[32, 4, 1, 0, 0, 0],
-            Some("(9 0 0)(9 0 0)"),
-        ),
-        (Kind::I64, &NUMBERS, 8, 1, &[2, 2, 2], None),
-        (Kind::I64, &NUMBERS, 8, 3, &[0x21, 3, 2], None),
-        (Kind::I64, &NUMBERS, 8, 0, &[], Some("")),
-        (Kind::I64, &NUMBERS, 8, 1, &[], None),
-        (Kind::I64, &NUMBERS, 8, 1, &[0, 2], Some("(7 0 0)")),
-        (Kind::I64, &NUMBERS, 8, 9, &[1, 3, 2], None),
-        (Kind::I64, &NUMBERS, 8, HUGE, &[1, 3, 2], None),
-        (
-            Kind::I32,
-            &NUMBERS,
-            8,
-            2,
-            &[1, 3, 2],
-            Some("(7 0 0)(0 0 0)"),
-        ),
-        (
-            Kind::Text,
-            &TWO_WORDS,
-            8,
-            3,
-            &[1, 3, 1],
-            Some("(bc 0 0)(a 0 0)(a 0 0)"),
-        ),
-        (
-            Kind::Bool,
-            &[2],
-            2,
-            2,
-            &[1, 3, 1],
-            Some("(true 0 0)(false 0 0)"),
-        ),
-        (Kind::Text, &TWO_WORDS, 8, 1, &[1, 3, 1], Some("(bc 0 0)")),
-        (Kind::Text, &TWO_WORDS, 0, 1, &TWO_WORDS, Some("(a 0 0)")),
-    ];
-    let mut reader = BodyReader::new(alloc);
-    for (kind, values, encoding, triplets, bytes, expected) in rows {
-        let shape = Shape {
-            triplets,
-            encoding,
-            definition_encoding: 3,
-            repetition_encoding: 3,
-            kind,
-            max_repetition: 0,
-            max_definition: 0,
-        };
-        let dictionary = Dictionary::read(alloc, kind, 2, values.to_vec(alloc)?).or(Err(
-            "dictionary",
-        ))?;
-        let mut column = Column::new(alloc, kind, 0);
-        let read = reader.read(&shape, &dictionary, bytes, &mut column);
-        let expected_result = if expected.is_some() {
-            Ok(())
-        } else {
-            Err(PageFault::BadData)
-        };
-        assert_eq!(rt; read, expected_result, "{bytes:?}");
-        assert_eq!(rt;
-            shown(alloc, &column)?.as_str(),
-            expected.unwrap_or(""),
-            "{bytes:?}"
-        );
-    }
-    Ok(())
-}
-
-#[test]
-fn dictionaries_that_are_short_are_refused(rt: HostRuntime) -> Result<(), Fail> {
-    let alloc = rt.alloc();
-    let rows: [(Kind, u64, &[u8]); 5] = [
-        (Kind::Bool, 9, &[0]),
-        (Kind::I32, 2, &[0; 7]),
-        (Kind::I64, 1, &[0; 7]),
-        (Kind::I64, HUGE, &[0; 7]),
-        (Kind::Text, 1, &[1, 0, 0, 0, 0xff]),
-    ];
-    for (kind, count, bytes) in rows {
-        let read = Dictionary::read(alloc, kind, count, bytes.to_vec(alloc)?);
-        assert_eq!(rt; read.map(|_| ()), Err(PageFault::BadData), "{bytes:?}");
-    }
+    let shape = Shape {
+        triplets: HUGE,
+        encoding: 8,
+        definition_encoding: 3,
+        repetition_encoding: 3,
+        kind: Kind::I64,
+        max_repetition: 0,
+        max_definition: 0,
+    };
+    let dictionary = Dictionary::read(alloc, Kind::I64, 2, NUMBERS.to_vec(alloc)?).or(Err(
+        "dictionary",
+    ))?;
+    let mut column = Column::new(alloc, Kind::I64, 0);
+    let read = BodyReader::new(alloc).read(&shape, &dictionary, &[1, 3, 2], &mut column);
+    assert_eq!(rt; read, Err(PageFault::BadData));
+    assert_eq!(rt; column.len(), 0);
+    let short = Dictionary::read(alloc, Kind::I64, HUGE, [0; 7].to_vec(alloc)?);
+    assert_eq!(rt; short.map(|_| ()), Err(PageFault::BadData));
     Ok(())
 }
 

@@ -4,8 +4,6 @@
 #[cfg(test)]
 mod fields;
 #[cfg(test)]
-mod load_words_tests;
-#[cfg(test)]
 mod reading_tests;
 #[cfg(test)]
 mod worked;

@@ -2,7 +2,7 @@
 
 use dr_load::{Plan, load};
 use dr_nested::parse_schema;
-use dr_outside::{Keeper, MemSource, Shelf};
+use dr_outside::{MemSource, Shelf};
 use dr_table::{Table, parse_table};
 use std::alloc::Global;
 use std::test::Fail;
@@ -13,29 +13,8 @@ pub const DOCUMENT: &str =
 const RECORDS: &str =
     "{\"DocId\":10,\"Links\":{\"Forward\":[20,40,60]},\"Name\":[{\"Language\":[{\"Code\":\"en-us\",\"Country\":\"us\"},{\"Code\":\"en\"}],\"Url\":\"http://A\"},{\"Url\":\"http://B\"},{\"Language\":[{\"Code\":\"en-gb\",\"Country\":\"gb\"}]}]}\n{\"DocId\":20,\"Links\":{\"Backward\":[10,30],\"Forward\":[80]},\"Name\":[{\"Url\":\"http://C\"}]}\n";
 
-/// Puts a byte into each of these files, whose paths have a space between each two.
-fn damage(
-    alloc: Global,
-    shelf: &mut Shelf,
-    paths: &str,
-    place: usize,
-    byte: u8,
-) -> Result<(), Fail> {
-    for path in paths.split(' ') {
-        if path.is_empty() {
-            continue;
-        }
-        let mut file = Vec::from_slice(alloc, shelf.get(path).ok_or("no file")?)?;
-        if let Some(there) = file.get_mut(place) {
-            *there = byte;
-        }
-        shelf.put(path, &file)?;
-    }
-    Ok(())
-}
-
-/// The files of the worked records in the directories `x` and `y`; these paths have bad footers, and those bad data.
-pub fn loaded(alloc: Global, bad_footers: &str, bad_data: &str) -> Result<Shelf, Fail> {
+/// The files of the worked records in the directories `x` and `y`.
+pub fn loaded(alloc: Global) -> Result<Shelf, Fail> {
     let schema = parse_schema(alloc, DOCUMENT.as_bytes())?;
     let leaves = vec![in alloc;
         String::from_str(alloc, "x")?,
@@ -54,8 +33,6 @@ pub fn loaded(alloc: Global, bad_footers: &str, bad_data: &str) -> Result<Shelf,
     let mut shelf = Shelf::new(alloc, Vec::new(alloc));
     let mut source = MemSource::new(RECORDS.as_bytes(), Vec::new(alloc));
     load(alloc, &plan, &mut source, &mut shelf)?;
-    damage(alloc, &mut shelf, bad_footers, 0, 0)?;
-    damage(alloc, &mut shelf, bad_data, 5, 2)?;
     Ok(shelf)
 }
 
