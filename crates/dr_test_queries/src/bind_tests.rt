@@ -76,25 +76,11 @@ SELECT 1 FROM Document => with 0 tests; 1 items
 SELECT COUNT(*) AS r, COUNT(Name.Url) AS u, SUM(Links.Forward) AS s FROM Document => Links.Forward Name.Url with 0 tests; 0 keys, 3 aggregates, 3 items
 SELECT Name.Language.Country, COUNT(DocId) AS n FROM Document GROUP BY Name.Language.Country => DocId Name.Language.Country with 0 tests; 1 keys, 1 aggregates, 2 items
 SELECT (Name.Url) FROM Document GROUP BY DocId, Name.Url => DocId Name.Url with 0 tests; 2 keys, 0 aggregates, 1 items
-# each problem once, with its place
-SELECT DocId FROM Records => UnknownTable 18
-SELECT Id FROM Document => UnknownField 7
-SELECT Name FROM Document => NotALeaf 7
-SELECT DocId + Name.Url FROM Document => TypeMismatch 13
-SELECT DocId FROM Document WHERE DocId => TypeMismatch 33
-SELECT SUM(Name.Url) FROM Document => TypeMismatch 7
-SELECT DocId FROM Document WHERE Links.Forward > 'x' => TypeMismatch 47
-SELECT DocId FROM Document WHERE Links.Forward = 20 AND Name.Url = 'x' => Unrelated 56
-SELECT COUNT(DocId) WITHIN Links FROM Document => BadWithin 20
-SELECT COUNT(*) WITHIN RECORD FROM Document => BadWithin 16
-SELECT DocId, COUNT(*) FROM Document => NotGrouped 7
-SELECT Name.Url, DocId AS Name FROM Document => DuplicateName 17
-# the first of several; unrelated paths are looked for where all else passes
-SELECT DocId FROM Document WHERE Links.Forward = 20 AND Name.Url = 5 => TypeMismatch 65
-SELECT Id, Name FROM Records => UnknownField 7
+# a name that a path's last one has, and not its first
 SELECT DocId AS Name, Name.Url FROM Document => DocId Name.Url with 0 tests; 2 items
 ";
 
+/// No command shows which leaves a plan reads, in which order, and how many tests it makes. What is refused is in the cases.
 #[test]
 fn queries_are_bound(rt: HostRuntime) -> Result<(), Fail> {
     let alloc = rt.alloc();

@@ -43,6 +43,7 @@ fn bound_paths(alloc: Global, schema: &Schema, names: &[&str]) -> Option<Vec<Bou
     Some(paths)
 }
 
+/// Paths are lists of steps, which no command shows.
 #[test]
 fn levels_end_with_repeated_fields(rt: HostRuntime) {
     assert!(rt; level(&ID).is_empty());
@@ -50,6 +51,7 @@ fn levels_end_with_repeated_fields(rt: HostRuntime) {
     assert_eq!(rt; level(&URL).len(), 1);
 }
 
+/// The same of the longest level; that unrelated paths are refused is in the cases.
 #[test]
 fn paths_off_the_longest_chain_are_unrelated(rt: HostRuntime) {
     let alloc = rt.alloc();

@@ -10,6 +10,4 @@ mod objects_tests;
 #[cfg(test)]
 mod plan_tests;
 #[cfg(test)]
-mod sql_tests;
-#[cfg(test)]
 mod used_tests;

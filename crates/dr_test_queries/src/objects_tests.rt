@@ -43,6 +43,7 @@ static LANGUAGE: [Step; 2] = [
     },
 ];
 
+/// Levels are lists of steps, which no command shows.
 #[test]
 fn levels_are_repeated_fields(rt: HostRuntime) {
     let alloc = rt.alloc();
@@ -71,6 +72,7 @@ fn levels_are_repeated_fields(rt: HostRuntime) {
     assert!(rt; !begins_with(&language.path, &name.path));
 }
 
+/// The calls by which duplicate names are found; no command asks them one by one.
 #[test]
 fn items_put_names_into_objects(rt: HostRuntime) {
     let alloc = rt.alloc();
@@ -90,6 +92,7 @@ fn items_put_names_into_objects(rt: HostRuntime) {
     assert!(rt; !puts_name(&levels, &LANGUAGE, "Cnt", &NAME, "Cnt"));
 }
 
+/// No command shows the plan of objects itself.
 #[test]
 fn objects_nest_as_levels(rt: HostRuntime) {
     let alloc = rt.alloc();

@@ -23,12 +23,14 @@ fn condition(alloc: Global) -> Result<Truth, NoMemory> {
     Truth::conjunction(alloc, Truth::negation(alloc, same)?, null)
 }
 
+/// A type's own calls.
 #[test]
 fn expressions_are_put_together(rt: HostRuntime) {
     let made = condition(rt.alloc());
     assert!(rt; matches!(made, Ok(Truth::And(_, _))));
 }
 
+/// No command shows the parts of a condition.
 #[test]
 fn conditions_are_cut_at_their_top(rt: HostRuntime) {
     let alloc = rt.alloc();

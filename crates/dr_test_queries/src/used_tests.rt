@@ -21,6 +21,7 @@ static DOC_ID: [Step; 1] = [Step {
     rep: Rep::Required,
 }];
 
+/// No command shows which leaves are read, and in which order.
 #[test]
 fn used_leaves_come_once_in_reading_order(rt: HostRuntime) {
     let alloc = rt.alloc();

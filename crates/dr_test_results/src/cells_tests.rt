@@ -62,6 +62,7 @@ fn one_of_each(alloc: Global) -> Result<Cells, Fail> {
 const EACH: &str =
     "NULL true -7 us -170141183460469231731687303715884105728 NULL #18446744073709551615 ";
 
+/// A type's own calls.
 #[test]
 fn cells_are_appended_and_replaced(rt: HostRuntime) -> Result<(), Fail> {
     let alloc = rt.alloc();
@@ -82,6 +83,7 @@ fn cells_are_appended_and_replaced(rt: HostRuntime) -> Result<(), Fail> {
     Ok(())
 }
 
+/// The same of the shape of results.
 #[test]
 fn a_plan_has_a_shape(rt: HostRuntime) -> Result<(), Fail> {
     let alloc = rt.alloc();

@@ -63,6 +63,7 @@ fn gathered(alloc: Global, plan: &Plan, taken: &[Row]) -> Result<RowsOut, Fail>
     Ok(partial.finish(alloc, plan)?)
 }
 
+/// Each aggregate of a group takes what it is given, also what no record gives: a group without a row.
 #[test]
 fn groups_are_printed_in_the_order_of_their_keys(rt: HostRuntime) -> Result<(), Fail> {
     let alloc = rt.alloc();

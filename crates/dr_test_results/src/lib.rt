@@ -10,6 +10,4 @@ mod rewrite_tests;
 #[cfg(test)]
 mod rows_tests;
 #[cfg(test)]
-mod scalar_tests;
-#[cfg(test)]
 mod worked;

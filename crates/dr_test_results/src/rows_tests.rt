@@ -75,6 +75,7 @@ const LEAVES: &str = "DocId Name.Url Name.Language.Country";
 
 const LANGUAGES: &str = "10 http://A us +\n10 http://A NULL +\n10 http://B NULL -\n10 NULL gb +\n";
 
+/// No command shows rows themselves, and whether an instance stands at the end of one.
 #[test]
 fn a_record_has_rows_at_each_level(rt: HostRuntime) -> Result<(), Fail> {
     let alloc = rt.alloc();
@@ -103,6 +104,7 @@ fn a_record_has_rows_at_each_level(rt: HostRuntime) -> Result<(), Fail> {
     Ok(())
 }
 
+/// The same of rows within rows.
 #[test]
 fn rows_lie_within_rows(rt: HostRuntime) -> Result<(), Fail> {
     let alloc = rt.alloc();
@@ -116,6 +118,7 @@ fn rows_lie_within_rows(rt: HostRuntime) -> Result<(), Fail> {
     Ok(())
 }
 
+/// A call that prunes by verdicts that no condition gives.
 #[test]
 fn a_test_of_rows_leaves_branches(rt: HostRuntime) -> Result<(), Fail> {
     let alloc = rt.alloc();
@@ -131,6 +134,7 @@ fn a_test_of_rows_leaves_branches(rt: HostRuntime) -> Result<(), Fail> {
     Ok(())
 }
 
+/// A type's own call.
 #[test]
 fn an_instance_has_instances(rt: HostRuntime) -> Result<(), Fail> {
     let alloc = rt.alloc();
