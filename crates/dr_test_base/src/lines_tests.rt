@@ -21,6 +21,7 @@ impl Source for Dripping<'_> {
     }
 }
 
+/// The source of a case gives all that fits: one that drips is a type of its own.
 #[test]
 fn lines_are_the_same_whatever_the_reads_give(rt: HostRuntime) -> Result<(), Fail> {
     let alloc = rt.alloc();
@@ -50,6 +51,7 @@ fn lines_are_the_same_whatever_the_reads_give(rt: HostRuntime) -> Result<(), Fai
     Ok(())
 }
 
+/// What comes after a line that is too long; that it is refused is in the cases.
 #[test]
 fn the_longest_line_is_taken_and_no_longer_one(rt: HostRuntime) -> Result<(), Fail> {
     let alloc = rt.alloc();
@@ -79,6 +81,7 @@ fn the_longest_line_is_taken_and_no_longer_one(rt: HostRuntime) -> Result<(), Fa
     Ok(())
 }
 
+/// The same, with a read that fails between two lines.
 #[test]
 fn a_failed_read_stops_behind_the_whole_lines(rt: HostRuntime) -> Result<(), Fail> {
     let alloc = rt.alloc();

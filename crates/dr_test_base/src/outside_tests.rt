@@ -62,6 +62,7 @@ fn requests(alloc: Global, noted: &[(&str, Option<u64>)]) -> Result<Vec<Asked>, 
 
 fn crosses_threads<T: Send>(_: &T) {}
 
+/// What cases stand on.
 #[test]
 fn a_source_gives_its_bytes_and_fails_where_listed(rt: HostRuntime) -> Result<(), Fail> {
     let failing = [2].to_vec(rt.alloc())?;
@@ -82,6 +83,7 @@ fn a_source_gives_its_bytes_and_fails_where_listed(rt: HostRuntime) -> Result<()
     Ok(())
 }
 
+/// What cases stand on.
 #[test]
 fn a_piece_is_written_whole_or_up_to_the_failure(rt: HostRuntime) -> Result<(), Fail> {
     let alloc = rt.alloc();
@@ -97,6 +99,7 @@ fn a_piece_is_written_whole_or_up_to_the_failure(rt: HostRuntime) -> Result<(), 
     Ok(())
 }
 
+/// What cases stand on.
 #[test]
 fn a_shelf_keeps_files_by_path(rt: HostRuntime) -> Result<(), Fail> {
     let alloc = rt.alloc();
@@ -115,6 +118,7 @@ fn a_shelf_keeps_files_by_path(rt: HostRuntime) -> Result<(), Fail> {
     Ok(())
 }
 
+/// What cases stand on.
 #[test]
 fn a_link_gives_ranges_of_the_shelf(rt: HostRuntime) -> Result<(), Fail> {
     let alloc = rt.alloc();
@@ -154,11 +158,13 @@ fn a_link_gives_ranges_of_the_shelf(rt: HostRuntime) -> Result<(), Fail> {
     Ok(())
 }
 
+/// What cases stand on.
 #[test]
 fn an_open_gate_holds_nobody_up() {
     pass(&OpenGate);
 }
 
+/// Types' own calls.
 #[test]
 fn causes_and_faults_have_their_names(rt: HostRuntime) -> Result<(), Fail> {
     let failed = Cause::ReadFailed {

@@ -5,6 +5,4 @@
 #[cfg(test)]
 mod json_tests;
 #[cfg(test)]
-mod print_tests;
-#[cfg(test)]
 mod words_tests;
