@@ -264,18 +264,21 @@ fn first_other<'a>(alloc: Global, schema: &[u8], rows: &'a str) -> Result<Option
     Ok(None)
 }
 
+/// Most of these columns stand in no file: of no leaf, of one leaf twice, with values where none may be.
 #[test]
 fn columns_of_documents(rt: HostRuntime) -> Result<(), Fail> {
     assert_eq!(rt; first_other(rt.alloc(), DOCUMENT, DOCUMENTS)?, None);
     Ok(())
 }
 
+/// Levels and values that no page can spell.
 #[test]
 fn triplets_that_no_record_has(rt: HostRuntime) -> Result<(), Fail> {
     assert_eq!(rt; first_other(rt.alloc(), SMALL, SMALL_ONES)?, None);
     Ok(())
 }
 
+/// A call with more or fewer columns than leaves.
 #[test]
 fn a_column_for_each_field(rt: HostRuntime) -> Result<(), Fail> {
     let alloc = rt.alloc();

@@ -103,6 +103,7 @@ fn texts(alloc: Global) -> Result<Column, Fail>
     Ok(column)
 }
 
+/// A type's own calls.
 #[test]
 fn columns_give_their_triplets(rt: HostRuntime) -> Result<(), Fail> {
     let alloc = rt.alloc();
@@ -120,6 +121,7 @@ fn columns_give_their_triplets(rt: HostRuntime) -> Result<(), Fail> {
     Ok(())
 }
 
+/// A type's own calls.
 #[test]
 fn a_column_keeps_its_first_triplets(rt: HostRuntime) -> Result<(), Fail> {
     let alloc = rt.alloc();
@@ -150,6 +152,7 @@ fn push_text(column: &mut Column, text: &str) -> Result<(), NoMemory>
     })
 }
 
+/// A type's own calls.
 #[test]
 fn a_cleared_column_is_empty(rt: HostRuntime) -> Result<(), Fail> {
     let mut column = texts(rt.alloc())?;
@@ -162,6 +165,7 @@ fn a_cleared_column_is_empty(rt: HostRuntime) -> Result<(), Fail> {
     Ok(())
 }
 
+/// A type's own calls.
 #[test]
 fn triplets_are_split(rt: HostRuntime) -> Result<(), Fail> {
     let column = texts(rt.alloc())?;
@@ -181,6 +185,7 @@ fn triplets_are_split(rt: HostRuntime) -> Result<(), Fail> {
     Ok(())
 }
 
+/// A type's own calls.
 #[test]
 fn branches_are_read_off_the_masks(rt: HostRuntime) -> Result<(), Fail> {
     let kept = Kept {

@@ -64,22 +64,16 @@ fn is(text: Option<String>, expected: &str) -> bool {
     }
 }
 
+/// `fsm` shows automata by the schema's order alone.
 #[test]
-fn all_leaves_in_schema_order(rt: HostRuntime) {
-    let expected =
-        "DocId 0 Links.Backward\nLinks.Backward 0 Links.Forward\nLinks.Backward 1 Links.Backward\nLinks.Forward 0 Name.Language.Code\nLinks.Forward 1 Links.Forward\nName.Language.Code 0 Name.Language.Country\nName.Language.Code 1 Name.Language.Country\nName.Language.Code 2 Name.Language.Country\nName.Language.Country 0 Name.Url\nName.Language.Country 1 Name.Url\nName.Language.Country 2 Name.Language.Code\nName.Url 0 end\nName.Url 1 Name.Language.Code\n";
-    assert!(rt; is(lines(rt.alloc(), &LEAVES, Order::BySchema), expected));
-}
-
-#[test]
-fn two_leaves(rt: HostRuntime) {
+fn two_leaves_in_reading_order(rt: HostRuntime) {
     let names = ["DocId", "Name.Language.Country"];
     let expected =
         "DocId 0 Name.Language.Country\nName.Language.Country 0 end\nName.Language.Country 1 Name.Language.Country\nName.Language.Country 2 Name.Language.Country\n";
-    assert!(rt; is(lines(rt.alloc(), &names, Order::BySchema), expected));
     assert!(rt; is(lines(rt.alloc(), &names, Order::Reading), expected));
 }
 
+/// The same of all leaves.
 #[test]
 fn all_leaves_in_reading_order(rt: HostRuntime) {
     let expected =
@@ -87,6 +81,7 @@ fn all_leaves_in_reading_order(rt: HostRuntime) {
     assert!(rt; is(lines(rt.alloc(), &LEAVES, Order::Reading), expected));
 }
 
+/// A type's own call.
 #[test]
 fn leaves_are_places_in_the_selection(rt: HostRuntime) {
     let names = ["Name.Url", "Name.Language.Country", "DocId"];
@@ -98,6 +93,7 @@ fn leaves_are_places_in_the_selection(rt: HostRuntime) {
     assert_eq!(rt; *reading.leaves(), *second.as_slice());
 }
 
+/// `fsm` asks of leaves and levels that are there.
 #[test]
 fn what_is_no_leaf_or_no_level_leads_to_the_end(rt: HostRuntime) {
     let names = ["DocId", "Name.Language.Country"];

@@ -67,6 +67,7 @@ fn shown(alloc: Global, schema: &str) -> Result<String, Fail> {
     Ok(text)
 }
 
+/// No command shows the steps of leaves.
 #[test]
 fn a_schema_has_its_leaves_in_order(rt: HostRuntime) -> Result<(), Fail> {
     for (schema, leaves) in [(DOCUMENT, DOCUMENT_LEAVES), (SMALL, SMALL_LEAVES)] {

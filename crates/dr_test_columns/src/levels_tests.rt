@@ -26,6 +26,7 @@ fn chain_text(alloc: Global, name: &str) -> Result<String, Fail> {
     Ok(text)
 }
 
+/// No command shows levels and chains of a path without a record.
 #[test]
 fn paths_have_levels_and_a_chain(rt: HostRuntime) -> Result<(), Fail> {
     let alloc = rt.alloc();
@@ -46,6 +47,7 @@ fn paths_have_levels_and_a_chain(rt: HostRuntime) -> Result<(), Fail> {
     Ok(())
 }
 
+/// The same of the level that two paths share.
 #[test]
 fn two_paths_have_a_common_level(rt: HostRuntime) -> Result<(), Fail> {
     let alloc = rt.alloc();

@@ -41,16 +41,19 @@ fn is(order: Option<Vec<usize>>, places: &[usize]) -> bool {
     }
 }
 
+/// No command shows an order as places in a selection.
 #[test]
 fn schema_order_is_depth_first(rt: HostRuntime) {
     assert!(rt; is(by_schema(rt.alloc(), &MIXED), &[3, 5, 4, 2, 1, 0]));
 }
 
+/// The same of reading order.
 #[test]
 fn reading_order_goes_level_by_level(rt: HostRuntime) {
     assert!(rt; is(by_level(rt.alloc(), &MIXED), &[3, 5, 4, 0, 2, 1]));
 }
 
+/// The same of some leaves.
 #[test]
 fn some_leaves_keep_their_order(rt: HostRuntime) {
     let some = ["Name.Language.Country", "Name.Url", "DocId"];
@@ -58,6 +61,7 @@ fn some_leaves_keep_their_order(rt: HostRuntime) {
     assert!(rt; is(by_level(rt.alloc(), &some), &[2, 1, 0]));
 }
 
+/// The same of none.
 #[test]
 fn no_leaves_have_an_empty_order(rt: HostRuntime) {
     assert!(rt; is(by_schema(rt.alloc(), &[]), &[]));

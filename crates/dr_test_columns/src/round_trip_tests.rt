@@ -171,6 +171,7 @@ fn comes_back(alloc: Global, leaves: &[&str], seed: u64) -> Result<bool, Fail> {
     Ok(nodes.len() as u64 == RECORDS)
 }
 
+/// What is compared are records and projections in memory; that what is loaded is dumped again is in the cases.
 #[test]
 fn assembled_records_are_the_projections(rt: HostRuntime) -> Result<(), Fail> {
     let all = [

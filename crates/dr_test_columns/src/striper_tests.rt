@@ -92,11 +92,6 @@ fn second_document(alloc: Global) -> Result<Node, AllocError> {
     document(alloc, 20, links(alloc, &[10, 30], &[80])?, names)
 }
 
-// A document without links and names.
-fn bare_document(alloc: Global) -> Result<Node, AllocError> {
-    document(alloc, 30, Slot::Held(Vec::new(alloc)), Vec::new(alloc))
-}
-
 fn leaf_of(alloc: Global, schema: &Schema, name: &str) -> Result<Path, Fail>
     ensures { IfOk result (λ p. is_leaf (fields_view (schema.now).fields.items) (path_view p) ≡ true) }
 {
@@ -170,6 +165,7 @@ fn column_text(alloc: Global, column: &Column) -> Result<String, AllocError> {
     Ok(text)
 }
 
+/// `stripe` shows the column of one leaf: no command shows columns in the order of a selection.
 #[test]
 fn leaves_have_their_columns_in_the_order_of_the_selection(rt: HostRuntime) -> Result<(), Fail> {
     let alloc = rt.alloc();
@@ -190,40 +186,6 @@ fn leaves_have_their_columns_in_the_order_of_the_selection(rt: HostRuntime) -> R
                 "at {name}"
             );
         }
-    }
-    Ok(())
-}
-
-#[test]
-fn absent_groups_give_a_triplet_each(rt: HostRuntime) -> Result<(), Fail> {
-    let alloc = rt.alloc();
-    let documents = [
-        first_document(alloc)?,
-        second_document(alloc)?,
-        bare_document(alloc)?,
-    ];
-    let leaves = [
-        ("DocId", "(10 0 0)(20 0 0)(30 0 0)"),
-        ("Links.Backward", "(NULL 0 1)(10 0 2)(30 1 2)(NULL 0 0)"),
-        (
-            "Name.Language.Country",
-            "('us' 0 3)(NULL 2 2)(NULL 1 1)('gb' 1 3)(NULL 0 1)(NULL 0 0)",
-        ),
-    ];
-    let columns = striped(alloc, &leaves, &documents)?;
-    assert_eq!(rt; columns.len(), 3);
-    for (column, (name, expected)) in columns.iter().zip(leaves) {
-        assert_eq!(rt; column_text(alloc, column)?.as_str(), expected, "at {name}");
-    }
-    Ok(())
-}
-
-#[test]
-fn no_records_give_empty_columns(rt: HostRuntime) -> Result<(), Fail> {
-    let columns = striped(rt.alloc(), &[DOC_ID, BACKWARD, URL], &[])?;
-    assert_eq!(rt; columns.len(), 3);
-    for column in columns.iter() {
-        assert_eq!(rt; column.len(), 0);
     }
     Ok(())
 }
