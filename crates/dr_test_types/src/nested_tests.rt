@@ -95,7 +95,7 @@ fn small_schema(alloc: Global) -> Result<Schema, SchemaFault> {
     )
 }
 
-/// What is no record of a schema no line gives.
+/// No line gives what is no record of its schema.
 #[test]
 fn a_record_fits_its_schema(rt: HostRuntime) -> Result<(), Fail> {
     let alloc = rt.alloc();

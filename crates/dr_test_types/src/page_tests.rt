@@ -169,6 +169,7 @@ fn optional(triplets: u64) -> Shape
     }
 }
 
+/// A state: what a refused body leaves of a column, and more values than memory has room for.
 #[test]
 fn a_refused_body_leaves_the_column(rt: HostRuntime) -> Result<(), Fail> {
     let alloc = rt.alloc();
@@ -243,6 +244,7 @@ fn texts_written(alloc: Global) -> Result<(Vec<u8>, u64), Fail> {
     Ok((out, plain_size(column.triplets())))
 }
 
+/// No command shows how many bytes values have; the page itself is in the cases.
 #[test]
 fn texts_are_written(rt: HostRuntime) -> Result<(), Fail> {
     let (out, size) = texts_written(rt.alloc())?;
@@ -268,6 +270,7 @@ const ONE: [Levels; 3] = [
     },
 ];
 
+/// The same of required leaves.
 #[test]
 fn values_of_a_required_leaf_are_written_alone(rt: HostRuntime) -> Result<(), Fail> {
     let alloc = rt.alloc();
