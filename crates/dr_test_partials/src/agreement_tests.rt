@@ -1,20 +1,17 @@
-//! Queries of records that look random: however the records are cut into tablets and whatever tree gathers their partials, the text that
-//! is printed is what the plan means on all of them.
+//! Queries of records that look random: wherever the records are cut in two, the text that is printed is what the plan means on all of them.
 
 ghost use Rattle.dr_nested.specs.SchemaView.{schema_view};
 ghost use Rattle.dr_plan.specs.Planned.{IsOfSchema};
 
 use crate::meant::{meant_text, records_of};
-use crate::worked::{load_lines, plan_of, table_at, text_of};
+use crate::worked::{load_lines, plan_of, text_of};
 use dr_nested::{Schema, parse_schema};
 use dr_outside::{Link, Shelf};
 use dr_plan::Plan;
-use dr_query::{Queried, query_table};
 use dr_result_text::result_text;
 use dr_samples::{DOCUMENT, QUERIES, record_lines};
 use dr_scan::scan;
 use dr_steps::Steps;
-use dr_table::Table;
 use dr_tree::{gather, of_fan};
 use std::alloc::Global;
 use std::test::Fail;
@@ -67,6 +64,7 @@ fn gathered_text<R: Threads + Sync, L: Link>(
     Ok(result_text(alloc, &rows)?)
 }
 
+/// A loop over 301 cuts, against what the evaluator of records gives, which no command runs.
 #[test]
 fn the_partials_of_two_tablets_give_the_answer(rt: HostRuntime) -> Result<(), Fail> {
     let alloc = rt.alloc();
@@ -80,55 +78,6 @@ fn the_partials_of_two_tablets_give_the_answer(rt: HostRuntime) -> Result<(), Fa
         for cut in 0..=COUNT {
             let text = gathered_text(&rt, alloc, &mut shelf, &schema, &plan, cut)?;
             assert_eq!(rt; text.as_str(), expected.as_str(), "{cut} {query}");
-        }
-    }
-    Ok(())
-}
-
-/// What a query prints of a table, over a tree of this fan.
-fn queried_text<R: Threads + Sync>(
-    rt: &R,
-    alloc: Global,
-    shelf: &mut Shelf,
-    table: &Table,
-    query: &str,
-    fan: u32,
-) -> Result<String, Fail> {
-    let plan = plan_of(alloc, &table.schema, query)?;
-    if fan == 0 {
-        return Err("no fan".into());
-    }
-    match query_table(rt, alloc, shelf, table, &plan, fan)? {
-        Queried::Text(text) => Ok(text),
-        Queried::Left(_) => Err("left".into()),
-    }
-}
-
-#[test]
-fn a_query_gives_the_answer_over_any_tree(rt: HostRuntime) -> Result<(), Fail> {
-    let alloc = rt.alloc();
-    let schema = parse_schema(alloc, DOCUMENT.as_bytes())?;
-    let lines = record_lines(alloc, COUNT)?;
-    let records = records_of(alloc, &schema, &lines)?;
-    let plan = plan_of(alloc, &schema, "SELECT COUNT(*) AS n FROM Document")?;
-    let counted = meant_text(alloc, &schema, &plan, &records)?;
-    assert_eq!(rt; counted.as_str(), "{\"n\":300}\n");
-    let text = text_of(alloc, &lines)?;
-    let mut shelf = Shelf::new(alloc, Vec::new(alloc));
-    for (rows, directory) in [(1, "one"), (7, "seven"), (1000, "all")] {
-        load_lines(alloc, &mut shelf, text.as_str(), directory, rows, directory)?;
-        let table = table_at(alloc, &shelf, directory)?;
-        for query in QUERIES.lines() {
-            let plan = plan_of(alloc, &schema, query)?;
-            let expected = meant_text(alloc, &schema, &plan, &records)?;
-            for fan in [2, 3, 8] {
-                let text = queried_text(&rt, alloc, &mut shelf, &table, query, fan)?;
-                assert_eq!(rt;
-                    text.as_str(),
-                    expected.as_str(),
-                    "{directory} {fan} {query}"
-                );
-            }
         }
     }
     Ok(())

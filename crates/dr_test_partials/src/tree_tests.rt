@@ -3,6 +3,7 @@
 use dr_tree::of_fan;
 use std::test::Fail;
 
+/// No command shows a tree.
 #[test]
 fn neighbours_come_below_one_server(rt: HostRuntime) -> Result<(), Fail> {
     let alloc = rt.alloc();

@@ -1,4 +1,4 @@
-//! The worked document, tables of lines, and files that are cut.
+//! The worked document, and tables of lines.
 
 ghost use Rattle.std.specs.Prelude.{IfOk};
 ghost use Rattle.dr_nested.specs.SchemaView.{schema_view};
@@ -6,11 +6,10 @@ ghost use Rattle.dr_plan.specs.Planned.{IsOfSchema};
 
 use dr_load::{Plan as LoadPlan, load};
 use dr_nested::{Schema, parse_schema};
-use dr_outside::{Keeper, MemSource, Shelf};
+use dr_outside::{MemSource, Shelf};
 use dr_plan::Plan;
 use dr_query::read_query;
 use dr_samples::{DOCUMENT, RECORDS};
-use dr_table::{Table, parse_table};
 use std::alloc::Global;
 use std::test::Fail;
 
@@ -53,30 +52,11 @@ pub fn load_lines(
     Ok(())
 }
 
-/// The table whose file is at this path.
-pub fn table_at(alloc: Global, shelf: &Shelf, path: &str) -> Result<Table, Fail> {
-    Ok(parse_table(alloc, shelf.get(path).ok_or("no table")?)?)
-}
-
-/// The files of the worked records, one to a tablet, in the directories `x` and `y`. These, with a space between each two, lack their
-/// last byte.
-pub fn loaded(alloc: Global, cut: &str) -> Result<Shelf, Fail> {
+/// The files of the worked records, one to a tablet, in the directories `x` and `y`.
+pub fn loaded(alloc: Global) -> Result<Shelf, Fail> {
     let mut shelf = Shelf::new(alloc, Vec::new(alloc));
     load_lines(alloc, &mut shelf, RECORDS, "x y", 1, "t.table")?;
-    for path in cut.split_whitespace() {
-        let file = Vec::from_slice(alloc, shelf.get(path).ok_or("no file")?)?;
-        let (_, kept) = file.split_last().ok_or("no byte")?;
-        shelf.put(path, kept)?;
-    }
     Ok(shelf)
-}
-
-/// A table of two tablets of documents in these two directories.
-pub fn table_of(alloc: Global, first: &str, second: &str) -> Result<Table, Fail> {
-    let text = format!(in alloc;
-        "dremel-table 1\ntablets 2\ncopies 2\nleaf {first}\nleaf {second}\nschema\n{DOCUMENT}\n"
-    )?;
-    Ok(parse_table(alloc, text.as_bytes())?)
 }
 
 /// The plan of a query's text.

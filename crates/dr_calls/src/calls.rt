@@ -1,0 +1,44 @@
+//! The calls by their names.
+
+use crate::hybrids::{decoded, decoded_levels, encoded_levels, read_back};
+use crate::leaves::{leaves_counted, place_found};
+use crate::numbers::{signed, turned, varint_read, varint_written};
+use crate::structs::{file_again, page_again, struct_again};
+use crate::values::{picked, plain_read};
+use dr_case_lines::Broken;
+use std::alloc::Global;
+
+/// What the call answers whose name is the first word.
+pub fn answer(alloc: Global, words: &[String], bytes: &[u8]) -> Result<String, Broken> {
+    let name = words.first().ok_or(Broken::Form)?;
+    match name.as_str() {
+        "varint" => varint_read(alloc, bytes),
+        "write_varint" => varint_written(alloc, words),
+        "zigzag" => turned(alloc, words),
+        "from_zigzag" => signed(alloc, words),
+        "decode" => decoded(alloc, words, bytes),
+        "decode_levels" => decoded_levels(alloc, words, bytes),
+        "encode_levels" => encoded_levels(alloc, words, bytes),
+        "read_back" => read_back(alloc, words),
+        _ => answer_more(alloc, name.as_str(), words, bytes),
+    }
+}
+
+/// What another call answers.
+fn answer_more(
+    alloc: Global,
+    name: &str,
+    words: &[String],
+    bytes: &[u8],
+) -> Result<String, Broken> {
+    match name {
+        "read_plain" => plain_read(alloc, words, bytes),
+        "pick" => picked(alloc, words, bytes),
+        "struct" => struct_again(alloc, bytes),
+        "file" => file_again(alloc, bytes),
+        "page" => page_again(alloc, bytes),
+        "count_leaves" => leaves_counted(alloc, bytes),
+        "leaf_place" => place_found(alloc, words, bytes),
+        _ => Err(Broken::Form),
+    }
+}

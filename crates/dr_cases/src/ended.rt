@@ -1,0 +1,122 @@
+//! A run of the program over things in memory, and how it ended.
+
+use crate::case::{Failing, Thing};
+use dr_case_lines::Broken;
+use dr_outside::{Link, MemLink, MemSink, MemSource, OpenGate, Shelf};
+use dr_top::run;
+use std::alloc::Global;
+use std::thread::Threads;
+
+/// What a run is given beside its files.
+#[derive(Clone, Copy)]
+pub struct Given<'a> {
+    /// The words, the program's name first.
+    pub words: &'a [String],
+    pub input: &'a [u8],
+    pub failing: &'a Failing,
+    /// The most bytes that one write takes.
+    pub most: usize,
+}
+
+/// How a run ended.
+#[derive(Drop)]
+pub struct Ended {
+    pub status: u8,
+    pub out: Vec<u8>,
+    pub err: Vec<u8>,
+    /// The counts of faults, and of what the first link was asked for.
+    source_faults: u64,
+    out_faults: u64,
+    err_faults: u64,
+    keeper_faults: u64,
+    asked: u64,
+}
+
+impl Ended {
+    /// How it ended, in lines.
+    pub fn told(&self, alloc: Global) -> Result<String, Broken> {
+        let out = str::from_utf8(&self.out).unwrap_or("(no text)");
+        let err = str::from_utf8(&self.err).unwrap_or("(no text)");
+        let status = self.status;
+        Ok(format!(in alloc; "ended with {status}; out:\n{out}err:\n{err}")?)
+    }
+
+    /// Whether this call of a thing was made, which was to fail.
+    pub fn has_made(&self, thing: Thing, call: u64) -> bool {
+        match thing {
+            Thing::Source => self.source_faults > 0,
+            Thing::Out => self.out_faults > 0,
+            Thing::Err => self.err_faults > 0,
+            Thing::Keeper => self.keeper_faults > 0,
+            Thing::Link => self.asked >= call,
+        }
+    }
+}
+
+/// Sixteen links over a shelf, of which the first fails at these calls.
+fn links_over<'a>(
+    alloc: Global,
+    shelf: &'a Shelf,
+    failing: &[u64],
+) -> Result<Vec<MemLink<'a>>, Broken> {
+    let mut links = Vec::new(alloc);
+    links.push(MemLink::new(alloc, shelf, failing.to_vec(alloc)?))?;
+    for _ in 1..16 {
+        links.push(MemLink::new(alloc, shelf, Vec::new(alloc)))?;
+    }
+    Ok(links)
+}
+
+/// The program's status for these words. It wants sixteen links.
+fn status_of<R: Threads + Sync>(
+    rt: &R,
+    alloc: Global,
+    words: &[String],
+    source: &mut MemSource<'_>,
+    out: &mut MemSink,
+    err: &mut MemSink,
+    keeper: &mut Shelf,
+    links: &mut [MemLink<'_>],
+) -> Result<u8, Broken> {
+    if links.len() < 16 {
+        return Err(Broken::Form);
+    }
+    Ok(run(rt, alloc, words, source, out, err, keeper, links, &OpenGate))
+}
+
+/// How a run ends over a keeper, and links over a shelf.
+pub fn outcome<R: Threads + Sync>(
+    rt: &R,
+    alloc: Global,
+    given: Given<'_>,
+    keeper: &mut Shelf,
+    shelf: &Shelf,
+) -> Result<Ended, Broken> {
+    let failing = given.failing;
+    let mut source = MemSource::new(given.input, failing.source.to_vec(alloc)?);
+    let most = if given.most == 0 { 1 } else { given.most };
+    let mut out = MemSink::narrow(alloc, most, failing.out.to_vec(alloc)?);
+    let mut err = MemSink::new(alloc, failing.err.to_vec(alloc)?);
+    let mut links = links_over(alloc, shelf, &failing.link)?;
+    let status = status_of(
+        rt,
+        alloc,
+        given.words,
+        &mut source,
+        &mut out,
+        &mut err,
+        keeper,
+        &mut links,
+    )?;
+    let asked = links.first().map_or(0, |link| link.asked().len() as u64);
+    Ok(Ended {
+        status,
+        out: out.written().to_vec(alloc)?,
+        err: err.written().to_vec(alloc)?,
+        source_faults: source.faults(),
+        out_faults: out.faults(),
+        err_faults: err.faults(),
+        keeper_faults: Link::faults(keeper),
+        asked,
+    })
+}

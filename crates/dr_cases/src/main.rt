@@ -1,0 +1,59 @@
+//! Runs the whole program over the cases of files, in memory, and prints those that end in another way than they say.
+#![tactic(auto)]
+
+mod case;
+mod each;
+mod ended;
+mod runs;
+mod session;
+mod setting;
+
+use dr_case_lines::{Broken, Place, Tally};
+use session::Session;
+use std::alloc::Global;
+use std::process::ExitCode;
+use std::thread::Threads;
+use std::{env, fs, io};
+
+/// Runs the cases of a file.
+fn run_file<R: Threads + Sync>(
+    rt: &R,
+    alloc: Global,
+    file: &str,
+    text: &str,
+    tally: &mut Tally,
+) -> Result<(), Broken> {
+    let mut session = Session::new(alloc);
+    let mut place = Place { file, line: 0 };
+    for line in text.lines() {
+        place.line = place.line.saturating_add(1);
+        let taken = if line.is_empty() {
+            session.end(rt, place, tally)
+        } else {
+            session.take_line(line)
+        };
+        if taken.is_err() {
+            tally.fail(place, line)?;
+        }
+    }
+    session.end(rt, place, tally)
+}
+
+fn main(rt: HostRuntime) -> io::Result<ExitCode> {
+    let alloc = rt.alloc();
+    let names: Vec<String> = env::args(&rt)?.collect(alloc)?;
+    let mut tally = Tally::new(alloc);
+    let mut is_broken = false;
+    for name in names.iter().skip(1) {
+        let text = fs::read_to_string(&rt, name.as_str())?;
+        is_broken = is_broken
+            || run_file(&rt, alloc, name.as_str(), text.as_str(), &mut tally).is_err();
+    }
+    match tally.text() {
+        Ok(text) if !is_broken => {
+            print!(rt; "{}", text.as_str())?;
+            Ok(ExitCode::from(0))
+        }
+        _ => Ok(ExitCode::from(1)),
+    }
+}

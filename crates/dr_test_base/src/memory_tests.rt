@@ -1,9 +1,0 @@
-use dr_memory::NoMemory;
-use std::alloc::AllocError;
-use std::test::Fail;
-
-#[test]
-fn want_of_memory_is_told_one_way(rt: HostRuntime) -> Result<(), Fail> {
-    assert_eq!(rt; NoMemory::from(AllocError), NoMemory);
-    Ok(())
-}
