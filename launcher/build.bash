@@ -122,7 +122,7 @@ pass_on() {
 # The time that is likely left, by the pace so far: of all that is left, and not less than the longest chain of crates needs.
 time_left() {
   local own=$((ready - kept)) left=$((whole - ready)) longest=0 each
-  [ "$own" -gt 0 ] && [ "$SECONDS" -gt 20 ] || return
+  [ "$own" -gt 0 ] && [ "$left" -gt 0 ] && [ "$SECONDS" -gt 20 ] || return
   for each in "${chains[@]}"; do
     [ "$each" -gt "$longest" ] && longest=$each
   done
