@@ -81,7 +81,9 @@ make_absolute() {
     *) REPLY=$PWD/$1 ;;
   esac
   if [ "$1" = "$table_file" ] && awk '/^schema$/ { exit } /^leaf [^\/]/ { found = 1 } END { exit !found }' "$REPLY" 2>/dev/null; then
-    awk -v here="$PWD" '/^schema$/ { behind = 1 } !behind && /^leaf [^\/]/ { sub("^leaf ", "leaf " here "/") } { print }' "$REPLY" >"$room/table"
+    here=$PWD awk '/^schema$/ { behind = 1 }
+      !behind && /^leaf [^\/]/ { $0 = "leaf " ENVIRON["here"] "/" substr($0, 6) }
+      { print }' "$REPLY" >"$room/table"
     REPLY=$room/table
   fi
 }
