@@ -1,25 +1,22 @@
 # Proving and building the program.
 
-# The crates that the program stands on, one to a line: its name, the processor seconds that its proof is likely to take, and those of the
-# longest chain that begins with it. Ten seconds a crate and 0.17 a line of code, as measured; the program itself is compiled twice.
+# The program's crates, one to a line: its name, the processor seconds that its proof is likely to take, and those of the longest chain that
+# begins with it. Ten seconds a crate and 0.17 a line of code, as measured; the program itself is compiled twice.
 weigh_crates() {
-  awk -v top="$top" '
-    function lines(name, kind, files, found, each) {
-      files = "find " top "/crates/" name " -name out -prune -o -name must-fail -prune -o -name \"*." kind "\" -exec cat {} + | wc -l"
+  program_crates | awk -v top="$top" '
+    function lines(name, kind, files, found) {
+      files = "find \"" top "/crates/" name "\" -name out -prune -o -name must-fail -prune -o -name \"*." kind "\" -exec cat {} + | wc -l"
       files | getline found
       close(files)
       return found
     }
-    function visit(name, words, n, i) {
-      if (!(name in row) || name in cost) return
-      cost[name] = 10 + 0.17 * lines(name, "rt") + 0.0025 * lines(name, "antt") + (name == "dremel" ? 250 : 0)
-      n = split(row[name], words, " ")
-      for (i = 2; i <= n; i++) visit(words[i])
-      order[++count] = name
+    FNR == NR {
+      order[++count] = $1
+      cost[$1] = 10 + 0.17 * lines($1, "rt") + 0.0025 * lines($1, "antt") + ($1 == "dremel" ? 250 : 0)
+      next
     }
     !/^#/ && NF { name = $1; sub(":", "", name); row[name] = $0 }
     END {
-      visit("dremel")
       for (at = count; at >= 1; at--) {
         name = order[at]
         chain[name] += cost[name]
@@ -28,7 +25,7 @@ weigh_crates() {
           if (words[i] in cost && chain[words[i]] < chain[name]) chain[words[i]] = chain[name]
       }
       for (at = 1; at <= count; at++) printf "%s %d %d\n", order[at], cost[order[at]], chain[order[at]]
-    }' "$top/crates.txt"
+    }' - "$top/crates.txt"
 }
 
 # how many crates are likely to be proved at once: one for each processor and for each 2.5 GB of free memory

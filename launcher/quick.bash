@@ -23,7 +23,9 @@ run_quick() {
     return
   fi
   make_words_absolute
-  say "not built yet: this answer comes from a quick build without proof, which takes a minute or two; './dremel --build' proves and builds the program, once, in about $(build_minutes) min"
+  local why="not built yet"
+  [ ! -x "$program" ] || why="the program is older than its sources"
+  say "$why: this answer comes from a quick build without proof, which takes a minute or two; './dremel --build' proves and builds the program, once, in about $(build_minutes) min"
   (cd "$top/crates/dremel" && exec rt try --seconds 300 -- "${words[@]}") <"$room/input" >"$room/out" 2>"$room/err"
   give_answer
 }
