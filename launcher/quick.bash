@@ -16,7 +16,7 @@ run_quick() {
     load) want_build "load wants the built program"; return ;;
     *) print_usage; return 1 ;;
   esac
-  command -v rt >/dev/null || { want_build "the program isn't built, and the command rt of the Rattle toolchain, which builds it, isn't there"; return; }
+  command -v rt >/dev/null || { say "the program isn't built: that wants the command rt of the Rattle toolchain"; return 6; }
   make_room
   if ! put_input; then
     want_build "the quick build takes at most $most_input bytes of standard input"
