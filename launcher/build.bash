@@ -64,17 +64,17 @@ build() {
     tell_where
     return 0
   fi
-  command -v rt >/dev/null || { say "proving and building wants the command rt of the Rattle toolchain"; return 6; }
+  command -v rt >/dev/null || { say "proving and building wants the command rt of the Rattle toolchain"; return "$no_answer"; }
   make_room
-  weigh_crates >"$room/crates" && copy_crates "$room/repository" "$room/crates" || { say "the crates could not be copied to $room"; return 6; }
+  weigh_crates >"$room/crates" && copy_crates "$room/repository" "$room/crates" || { say "the crates could not be copied to $room"; return "$no_answer"; }
   say "proving the program's $(wc -l <"$room/crates") crates, up to $(lanes) at a time, and building it: about $(build_minutes) min from nothing"
   (cd "$room/repository" && rt ci </dev/null 2>&1) | tee "$room/log" | tell_progress "$room/crates"
   if [ "${PIPESTATUS[0]}" != 0 ] || [ ! -x "$room/repository/crates/dremel/out/dremel" ]; then
     grep -v ': proved$' "$room/log" | tail -n 60 >&2
     say "the program could not be proved and built: the lines above tell why"
-    return 6
+    return "$no_answer"
   fi
-  mkdir -p "${program%/*}" && cp "$room/repository/crates/dremel/out/dremel" "$program.new" && mv "$program.new" "$program" || return 6
+  mkdir -p "${program%/*}" && cp "$room/repository/crates/dremel/out/dremel" "$program.new" && mv "$program.new" "$program" || return "$no_answer"
   say "proved and built in $((SECONDS / 60)) min $((SECONDS % 60)) s"
   tell_where
 }

@@ -6,7 +6,7 @@ most_input=67108864
 # says that the answer wants the built program, and why
 want_build() {
   say "$1; './dremel --build' proves and builds the program, once, in about $(build_minutes) min"
-  return 6
+  return "$no_answer"
 }
 
 # Runs the words by `rt try`, which builds the program without proof and runs it, and gives what the program itself wrote and its status.
@@ -16,7 +16,7 @@ run_quick() {
     load) want_build "load wants the built program"; return ;;
     *) print_usage; return 1 ;;
   esac
-  command -v rt >/dev/null || { say "the program isn't built: that wants the command rt of the Rattle toolchain"; return 6; }
+  command -v rt >/dev/null || { say "the program isn't built: that wants the command rt of the Rattle toolchain"; return "$no_answer"; }
   make_room
   if ! put_input; then
     want_build "the quick build takes at most $most_input bytes of standard input"
