@@ -44,7 +44,7 @@ give_answer() {
   if [[ $(tail -n 1 "$room/err") =~ ^run=ended\ status=([0-9]+)\  ]]; then
     local status=${BASH_REMATCH[1]}
     cat "$room/out"
-    awk '{ line[NR] = $0 } /^(checked|interpreted|interpreter): / { last = NR }
+    awk '/^rt: / { next } { line[++count] = $0 } /^checked: / { last = count }
       END { for (at = 1; at < last; at++) print line[at] }' "$room/err" | tee "$room/told" >&2
     return "$status"
   fi
