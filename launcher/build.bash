@@ -91,7 +91,8 @@ tell_progress() {
   while read -r name cost chain; do
     costs[$name]=$cost chains[$name]=$chain all=$((all + cost)) count=$((count + 1))
   done <"$1"
-  local total=$count whole=$all kept=0 proved=0
+  local total=$count whole=$all kept=0 proved=0 at_once
+  at_once=$(lanes)
   while IFS= read -r line; do
     [[ $line =~ ^rt:\ ([a-z0-9_]+)\ (proved|is kept) ]] || { pass_on "$line"; continue; }
     name=${BASH_REMATCH[1]}
@@ -123,7 +124,7 @@ time_left() {
   for each in "${chains[@]}"; do
     [ "$each" -gt "$longest" ] && longest=$each
   done
-  awk -v own="$own" -v left="$left" -v longest="$longest" -v seconds="$SECONDS" -v lanes="$(lanes)" 'BEGIN {
+  awk -v own="$own" -v left="$left" -v longest="$longest" -v seconds="$SECONDS" -v lanes="$at_once" 'BEGIN {
     pace = own / seconds
     time = left / pace
     slow = pace < lanes ? lanes / pace : 1
