@@ -28,7 +28,7 @@ git init -q "$work/copy"
 python3 "$top/bench/generate.py" "$count" >"$work/records.jsonl"
 echo "building" >&2
 (cd "$crate" && rt run </dev/null) >"$work/log" 2>&1 || { cat "$work/log" >&2; exit 1; }
-"$top/dremel" ask --schema "$top/examples/document.txt" "SELECT COUNT(Name.Url) FROM Document" <"$top/examples/document.jsonl" >/dev/null
+"$top/dremel" --build
 program=$crate/out/bench_records
 leaves="DocId Links.Backward Links.Forward Name.Language.Code Name.Language.Country Name.Url"
 TIMEFORMAT="%R s"
