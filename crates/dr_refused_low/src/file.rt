@@ -1,0 +1,46 @@
+//! Opened files.
+
+ghost use Rattle.std.specs.Prelude.{◌≡◌, ◌≤◌, ◌<◌, ℕ, List, length, false, Some, IsTrue, IfOk, IfErr};
+ghost use Rattle.std.specs.List.{slice_get};
+ghost use Rattle.dr_meaning.specs.Path.{Leaf, max_definition};
+ghost use Rattle.dr_formats.specs.File.{Footer, footer_of, most_triplets};
+ghost use Rattle.dr_formats.specs.Opening.{leaf_cause, leaf_ranges};
+ghost use Rattle.dr_levels.specs.Views.{column_view, column_form, form};
+ghost use Rattle.dr_chunk.specs.Telling.{Tells, Serves, AsksOnly, is_read_inside};
+ghost use Rattle.dr_file.specs.OpenedFiles.{IsOpened, IsColumnOf, IsColumnFault, HasCounts, is_read_fault, leaf_count, path_of};
+
+use dr_file::{FileFault, Opened};
+use dr_levels::Column;
+use dr_outside::Link;
+use std::alloc::Global;
+
+/// As `Opened::column`.
+pub fn column_of<L: Link>(
+    opened: &Opened,
+    alloc: Global,
+    link: &mut L,
+    index: usize,
+) -> Result<Column, FileFault>
+    requires { index < leaf_count opened.now }
+    ensures column { (bytes : List ℕ) (F : List Leaf) (l : Leaf) → IsOpened bytes F opened.now
+        → slice_get F index ≡ Some l → Tells (L.shows link.old) (path_of opened.now) bytes
+        → IfOk result (λ c. IsColumnOf bytes l (column_view c)) }
+    ensures cause { (bytes : List ℕ) (F : List Leaf) (l : Leaf) → IsOpened bytes F opened.now
+        → slice_get F index ≡ Some l → Tells (L.shows link.old) (path_of opened.now) bytes
+        → IfErr result (λ e. IsColumnFault e (leaf_cause bytes l)) }
+    ensures few { IfOk result (λ c. length (column_view c) ≤ most_triplets) }
+    ensures form { (bytes : List ℕ) (F : List Leaf) (l : Leaf) → IsOpened bytes F opened.now
+        → slice_get F index ≡ Some l → IfOk result (λ c. column_form c ≡ form l.kind (max_definition l.path)) }
+    ensures asked { (bytes : List ℕ) (F : List Leaf) (l : Leaf) (f : Footer) → IsOpened bytes F opened.now
+        → slice_get F index ≡ Some l → footer_of bytes ≡ Some f
+        → AsksOnly (is_read_inside (path_of opened.now) (leaf_ranges f l)) (L.shows link.old).asked
+        (L.shows link.new).asked }
+    ensures same { (L.shows link.new).held ≡ (L.shows link.old).held }
+    ensures counts { IfErr result (HasCounts (L.shows link.old).faults (L.shows link.new).faults) }
+    ensures calm { is_read_fault result ≡ false → (L.shows link.new).faults ≡ (L.shows link.old).faults }
+    ensures steady { (bytes : List ℕ) (F : List Leaf) → IsOpened bytes F opened.now
+        → Serves (L.shows link.old) (path_of opened.now) bytes → is_read_fault result ≡ false }
+    ensures stays_steady { IsTrue (L.shows link.old).is_steady → IsTrue (L.shows link.new).is_steady }
+{
+    opened.column(alloc, link, index)
+}

@@ -1,0 +1,56 @@
+//! The records of files.
+
+ghost use Rattle.std.specs.Prelude.{◌≡◌, ◌≢◌, ◌≤◌, ℕ, List, map, true, false, IfOk, IfErr, IsTrue, Err};
+ghost use Rattle.dr_formats.specs.Opening.{reader_ranges};
+ghost use Rattle.dr_nested.specs.Views.{fields_view};
+ghost use Rattle.dr_nested.specs.SchemaView.{schema_view};
+ghost use Rattle.dr_nested.specs.PathView.{path_view};
+ghost use Rattle.dr_assemble.specs.Views.{nodes_view};
+ghost use Rattle.dr_outside.specs.Link.{Lacks};
+ghost use Rattle.dr_chunk.specs.Telling.{Tells, Serves, AsksOnly};
+ghost use Rattle.dr_file.specs.Asking.{is_request_for};
+ghost use Rattle.dr_file.specs.OpenedFiles.{HasCounts, is_read_fault};
+ghost use Rattle.dr_steps.specs.Counting.{counted};
+ghost use Rattle.dr_records.specs.FileRecords.{AreLeavesOf, AreOfFile, IsFaultOf, AreProjected, AreFew, triplets_at};
+
+use dr_file::FileFault;
+use dr_nested::{Node, Path, Schema};
+use dr_outside::Link;
+use dr_records::read_records;
+use dr_steps::Steps;
+use std::alloc::Global;
+
+/// As `read_records`.
+pub fn records_of<L: Link>(
+    alloc: Global,
+    link: &mut L,
+    path: &str,
+    schema: &Schema,
+    fields: &[Path],
+    steps: &mut Steps,
+) -> Result<Vec<Node>, FileFault>
+    requires { AreLeavesOf (fields_view (schema.now).fields.items) (map path_view fields.now) }
+    ensures records { (bytes : List ℕ) → Tells (L.shows link.old) path.now bytes
+        → IfOk result (λ v. AreOfFile bytes (schema_view schema.now) (map path_view fields.now) (nodes_view v.items)) }
+    ensures form { IfOk result (λ v. AreProjected (schema_view schema.now) (map path_view fields.now)
+        (nodes_view v.items)) }
+    ensures cause { (bytes : List ℕ) → Tells (L.shows link.old) path.now bytes
+        → IfErr result (IsFaultOf bytes (schema_view schema.now) (map path_view fields.now)) }
+    ensures few { IfOk result (λ v. AreFew (map path_view fields.now) (nodes_view v.items)) }
+    ensures counted { IfOk result (λ v. steps.new ≡ counted steps.old
+        (triplets_at (map path_view fields.now) (nodes_view v.items))) }
+    ensures uncounted { IfErr result (λ e. steps.new ≡ steps.old) }
+    ensures asked { (bytes : List ℕ) → Tells (L.shows link.old) path.now bytes
+        → AsksOnly (is_request_for path.now (reader_ranges bytes (map path_view fields.now))) (L.shows link.old).asked
+        (L.shows link.new).asked }
+    ensures same { (L.shows link.new).held ≡ (L.shows link.old).held }
+    ensures counts { IfErr result (HasCounts (L.shows link.old).faults (L.shows link.new).faults) }
+    ensures calm { is_read_fault result ≡ false → (L.shows link.new).faults ≡ (L.shows link.old).faults }
+    ensures steady { (bytes : List ℕ) → Serves (L.shows link.old) path.now bytes → is_read_fault result ≡ false }
+    ensures absent { Lacks (L.shows link.old).held path.now → result ≢ Err FileFault.NoMemory
+        → is_read_fault result ≡ true }
+    ensures never_falls { (L.shows link.old).faults ≤ (L.shows link.new).faults }
+    ensures stays_steady { IsTrue (L.shows link.old).is_steady → IsTrue (L.shows link.new).is_steady }
+{
+    read_records(alloc, link, path, schema, fields, steps)
+}

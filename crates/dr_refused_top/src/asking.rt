@@ -1,0 +1,49 @@
+//! Answers on inputs.
+
+ghost use Rattle.std.specs.Prelude.{◌≡◌, ◌≢◌, ◌<◌, ◌≤◌, [], Some, Err, MatchOption, ⊤, IfOk, IfErr, OnOk, string_bytes};
+ghost use Rattle.dr_meaning.specs.Ask.{most_asked};
+ghost use Rattle.dr_meaning.specs.Lines.{records_of};
+ghost use Rattle.dr_meaning.specs.Query.{Query};
+ghost use Rattle.dr_nested.specs.SchemaView.{schema_view};
+ghost use Rattle.dr_outside.specs.Faults.{raised};
+ghost use Rattle.dr_plan.specs.Planned.{IsOfSchema};
+ghost use Rattle.dr_scan.specs.Plans.{IsPlanOf};
+ghost use Rattle.dr_load.specs.Faults.{refusal_of};
+ghost use Rattle.dr_load.specs.Records.{WhereTold};
+ghost use Rattle.dr_ask.specs.Asked.{IsAnswerTo};
+
+use dr_ask::ask_input;
+use dr_load::LoadFault;
+use dr_nested::Schema;
+use dr_outside::Source;
+use dr_plan::Plan;
+use std::alloc::Global;
+use std::thread::Threads;
+
+/// As `ask_input`.
+pub fn answer_on<R: Threads + Sync, S: Source>(
+    rt: &R,
+    alloc: Global,
+    schema: Schema,
+    plan: &Plan,
+    rows: u32,
+    fan: u32,
+    source: &mut S,
+) -> Result<String, LoadFault>
+    requires planned { IsOfSchema (schema_view schema) plan.now }
+    requires has_rows { 0 < rows }
+    requires few_rows { rows ≤ 1000000 }
+    requires fan { 1 ≤ fan }
+    ensures text { IfOk result (λ t. (q : Query) → IsPlanOf (schema_view schema) q plan.now
+        → WhereTold (S.shows source.old).left (IsAnswerTo (schema_view schema) q rows (string_bytes t))) }
+    ensures end { OnOk result (WhereTold (S.shows source.old).left (λ _. (S.shows source.new).left ≡ Some [])) }
+    ensures refused { IfErr result (λ e. MatchOption (refusal_of e) ⊤
+        (λ r. WhereTold (S.shows source.old).left (λ input. records_of (schema_view schema).fields (most_asked rows)
+        input ≡ Err r))) }
+    ensures source_cause { result ≡ Err LoadFault.ReadFault
+        → (S.shows source.new).faults ≡ raised (S.shows source.old).faults }
+    ensures source_calm { result ≢ Err LoadFault.ReadFault → (S.shows source.new).faults ≡ (S.shows source.old).faults }
+    ensures never_keeper { result ≢ Err LoadFault.KeepFault }
+{
+    ask_input(rt, alloc, schema, plan, rows, fan, source)
+}

@@ -1,0 +1,17 @@
+//! Words of commands.
+
+ghost use Rattle.std.specs.Prelude.{◌≡◌, ◌≢◌, IfOk, Some, None, map, string_bytes};
+ghost use Rattle.dr_commands.specs.CommandView.{command_view};
+ghost use Rattle.dr_commands.specs.Commands as meant;
+
+use dr_commands::{Command, WordsFault, read_words};
+use std::alloc::Global;
+
+/// As `read_words`.
+pub fn command_read(alloc: Global, words: &[String]) -> Result<Command, WordsFault>
+    ensures values { IfOk result (λ command. meant.asked (map string_bytes words.now) ≡ Some (command_view command)) }
+    ensures refused { result ≡ Err WordsFault.Usage → meant.asked (map string_bytes words.now) ≡ None }
+    ensures taken { meant.Taken (map string_bytes words.now) → result ≢ Err WordsFault.Usage }
+{
+    read_words(alloc, words)
+}
