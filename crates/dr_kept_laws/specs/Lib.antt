@@ -1,0 +1,9 @@
+-- definitions
+pub mod RowsOfKept
+pub mod GroupFlow
+pub mod ObjectsOfKept
+pub mod ReadTogether
+-- laws
+pub mod RowsOfKeptLaws
+pub mod GroupFlowLaws
+pub mod ObjectsOfKeptLaws
