@@ -1,46 +1,22 @@
 -- What is kept of a record's kept rows is the rows of what is kept of the record.
-use Rattle.std.proofs.Common.{◌≡◌, ◌⊎◌, inl, inr, ℕ, suc, ◌≤◌, List, [], ◌∷◌, ◌++◌, Bool, true, false, Option, None, Some, refl, sym, ap, ap₂, subst, ◌∙◌, true≢false, append-nil, arith}
-use Rattle.std.specs.Prelude.{◌≢◌, map, ◌==◌, if◌then◌else◌, option_map}
+use Rattle.std.proofs.Common.{◌≡◌, ◌⊎◌, inl, inr, ℕ, suc, ◌≤◌, List, [], ◌∷◌, ◌++◌, Bool, true, false, Option, None, Some, refl, sym, ap, ap₂, subst, ◌∙◌, append-nil, arith}
+use Rattle.std.specs.Prelude.{map, ◌==◌, if◌then◌else◌, option_map}
 use Rattle.std.proofs.lemmas.List.{map-append}
 use Rattle.std.proofs.lemmas.Simd.{map-map}
-use Rattle.std.proofs.lemmas.Bool.{eq-eqb, eqb-true}
+use Rattle.std.proofs.lemmas.Bool.{eqb-true}
 use Rattle.dr_meaning.specs.Schema.{Fields, is_repeated}
 use Rattle.dr_meaning.specs.Path.{Step, level, begins_with}
-use Rattle.dr_meaning.specs.Record.{Value, Node, Instances, no_instances, instance, Instance, atom, inner, single, count_instances, is_record, instances_at, put_at}
+use Rattle.dr_meaning.specs.Record.{Node, Instances, no_instances, instance, Instance, atom, inner, single, count_instances, is_record, instances_at, put_at}
 use Rattle.dr_meaning.specs.Rows.{instance_rows, each_instance_rows, field_rows, rows, first_value, value_in, value_at}
 use Rattle.dr_meaning.specs.Kept.{with_kept, keep_each, if_some_kept, keep_below, keep_instance, kept_along}
 use Rattle.dr_meaning.proofs.Blocks.{EachInstance}
 use Rattle.dr_kept_laws.specs.RowsOfKept.{rows_where_any, kept_instance_rows, each_kept_rows, kept_field_rows, kept_rows, rows_left}
 use Rattle.dr_kept_laws.specs.RowsOfKeptLaws.{IsOfChain, KeptOfRows}
 use Rattle.dr_kept_laws.proofs.FewLemmas.{record_few}
+use Rattle.dr_kept_laws.proofs.RowLists.{not_same, map_same, AllOf, all_append, all_mapped, map_where}
 use Rattle.dr_kept_laws.proofs.PutLemmas.{put_none, put_either, put_there, put_apart, put_twice, put_swap}
 use Rattle.dr_kept_laws.proofs.LevelLemmas.{none_repeated, on_below, on_apart, on_root}
 use Rattle.dr_kept_laws.proofs.RowsOfKeptLemmas.{FewIn, FewOn, kept_same, none_kept, all_rows}
-
--- ---- lists
-
-abbrev AllOf : {X : Type 0} → (X → Type 0) → List X → Type 0
-AllOf P [] = Unit {0}
-AllOf P (x ∷ xs) = P x × AllOf P xs
-
-all_append : {X : Type 0} (P : X → Type 0) (xs ys : List X) → AllOf P xs → AllOf P ys → AllOf P (xs ++ ys)
-all_append P [] ys h g = g
-all_append P (x ∷ xs) ys h g = (h.0, all_append P xs ys h.1 g)
-
-all_mapped : {X Y : Type 0} (P : Y → Type 0) (Q : X → Type 0) (f : X → Y) → ((x : X) → Q x → P (f x)) → (xs : List X) → AllOf Q xs → AllOf P (map f xs)
-all_mapped P Q f g [] h = tt
-all_mapped P Q f g (x ∷ xs) h = (g x h.0, all_mapped P Q f g xs h.1)
-
-map_where : {X Y : Type 0} (P : X → Type 0) (f g : X → Y) → ((x : X) → P x → f x ≡ g x) → (xs : List X) → AllOf P xs → map f xs ≡ map g xs
-map_where P f g h [] a = refl
-map_where P f g h (x ∷ xs) a = ap₂ (λ y z. y ∷ z) (h x a.0) (map_where P f g h xs a.1)
-
-map_same : {X Y : Type 0} (f g : X → Y) → ((x : X) → f x ≡ g x) → (xs : List X) → map f xs ≡ map g xs
-map_same f g h [] = refl
-map_same f g h (x ∷ xs) = ap₂ (λ y z. y ∷ z) (h x) (map_same f g h xs)
-
-not_same : (i j : ℕ) → (i == j) ≡ false → i ≢ j
-not_same i j h e = true≢false (sym (eq-eqb i j e) ∙ h)
 
 -- ---- a value without repeated fields is the same in each row
 

@@ -1,14 +1,13 @@
 -- An expression depends on the values of its paths alone.
-use Rattle.std.specs.Prelude.{◌≡◌, List, [], ◌∷◌, ◌++◌, Bool, true, ◌&&◌, Option, Some}
+use Rattle.std.specs.Prelude.{◌≡◌, List, ◌++◌, Bool, true, ◌&&◌}
 use Rattle.std.specs.List.{list_all}
 use Rattle.std.proofs.Common.{refl, sym, ap, ap₂, ◌∙◌}
 use Rattle.std.proofs.lemmas.List.Folds.{list_all-append}
 use Rattle.std.proofs.lemmas.Bool.{and_parts}
-use Rattle.dr_meaning.specs.Schema.{Fields}
 use Rattle.dr_meaning.specs.Path.{Step, is_leaf_path, level, begins_with}
-use Rattle.dr_meaning.specs.Record.{Value, Node, int_value}
+use Rattle.dr_meaning.specs.Record.{Node}
 use Rattle.dr_meaning.specs.Rows.{value_at}
-use Rattle.dr_meaning.specs.Expression.{Expression, constant, path_value, negative, arithmetic, comparison, like, contains, is_null, negation, conjunction, disjunction, evaluate, paths_of, on_both, combine, compared, on_text, matches, occurs_in, null_test, not_value, and_values, or_values, subtract_values}
+use Rattle.dr_meaning.specs.Expression.{Expression, constant, path_value, negative, arithmetic, comparison, like, contains, is_null, negation, conjunction, disjunction, evaluate, paths_of, on_both, combine, compared, on_text, occurs_in, null_test, not_value, and_values, or_values}
 use Rattle.dr_kept_laws.specs.RowsOfKeptLaws.{ExpressionsAreOfChains}
 
 module _ (test : List Step → Bool) (a b : Node) (same : (q : List Step) → test q ≡ true → value_at q a ≡ value_at q b) where

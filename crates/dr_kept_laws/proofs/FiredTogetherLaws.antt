@@ -40,9 +40,9 @@ module _ (X : Type 0) where
         tour = inside 0 a.within over;
         moves = a.moves;
         fires = λ c.
-          ap (λ (made : List X). (if not (some_true w c a.within) then [] else made ++ f (after c a.within) ∷ []) ++ []) (nothing_seen X (λ c. f c ∷ []) w (Some w.chain) c a.within a.no_record)
-          ∙ by_kept (some_true w c a.within) (kept_along (level q) condition n) (after c a.within)
-          (true_row_keeps fs F w q K n c condition (inside 0 a.within over) s.leaves s.last z s.together s.decides a.moves);
+            ap (λ (made : List X). (if not (some_true w c a.within) then [] else made ++ f (after c a.within) ∷ []) ++ []) (nothing_seen X (λ c. f c ∷ []) w (Some w.chain) c a.within a.no_record)
+            ∙ by_kept (some_true w c a.within) (kept_along (level q) condition n) (after c a.within)
+            (true_row_keeps fs F w q K n c condition (inside 0 a.within over) s.leaves s.last z s.together s.decides a.moves);
       }
     where
       by_kept : (b : Bool) (o : Option Node) (c : Context) → (b || false) ≡ is_some o → (if not b then [] else f c ∷ []) ++ [] ≡ map g (rows_left [] o)

@@ -1,11 +1,11 @@
 -- What fires over a record's moves is what is told of the rows of what is kept.
-use Rattle.std.proofs.Common.{◌≡◌, ℕ, zero, suc, ◌+◌, List, [], ◌∷◌, ◌++◌, length, Bool, true, ◌&&◌, Option, None, Some, refl, sym, ap, ap₂, subst, ◌∙◌, true≢false, arith}
+use Rattle.std.proofs.Common.{◌≡◌, ℕ, zero, suc, List, [], ◌∷◌, ◌++◌, length, Bool, true, Option, None, Some, refl, sym, ap, ap₂, subst, ◌∙◌, true≢false, arith}
 use Rattle.std.specs.Prelude.{map}
 use Rattle.std.specs.List.{slice_get, list_all, flat_map, filter_map, cons_option}
 use Rattle.std.proofs.lemmas.List.{length-map, map-append}
 use Rattle.std.proofs.lemmas.Simd.{map-map}
-use Rattle.std.proofs.lemmas.Bool.{and_parts, eq-eqb}
-use Rattle.dr_meaning.specs.Schema.{Repetition, required, optional, repeated, Fields, no_fields, field, Shape, leaf, group}
+use Rattle.std.proofs.lemmas.Bool.{and_parts}
+use Rattle.dr_meaning.specs.Schema.{Repetition, Fields, no_fields, field, Shape, leaf, group}
 use Rattle.dr_meaning.specs.Path.{Step, level, up_to, begins_with, is_leaf_path, is_shape_path, same_repetition}
 use Rattle.dr_meaning.specs.Record.{Value, Node, Instances, inner, single, is_record}
 use Rattle.dr_meaning.specs.Rows.{rows, value_at}
@@ -14,7 +14,6 @@ use Rattle.dr_meaning.specs.Automaton.{picks}
 use Rattle.dr_meaning.specs.Walk.{Move, first_of, node_of, near_moves, far_moves, top, record_moves, walk}
 use Rattle.dr_meaning.proofs.ProjectionLemmas.{step}
 use Rattle.dr_meaning.proofs.Blocks.{same_repetition-true}
-use Rattle.dr_meaning.proofs.WalkLemmas.{Only, picks_only}
 use Rattle.dr_pruning_laws.specs.ChainNumbers.{shape_numbers}
 use Rattle.dr_kept_laws.specs.RowsOfKept.{kept_instance_rows, kept_rows, rows_left}
 use Rattle.dr_kept_laws.specs.GroupFlow.{fired_at, left_alone}
@@ -23,6 +22,7 @@ use Rattle.dr_pruning_laws.specs.Tours.{joined}
 use Rattle.dr_kept_laws.specs.GroupFlowLaws.{IsTold, FiredOfKept, FiredOfAll}
 use Rattle.dr_pruning_laws.proofs.TourParts.{one_tour, joined_moves, joined_flow}
 use Rattle.dr_kept_laws.proofs.RecordTours.{record_tour}
+use Rattle.dr_pruning_laws.proofs.Selections.{leaf_selected, selected_only}
 use Rattle.dr_kept_laws.proofs.RowsOfKeptLaws.{rows_of_kept}
 use Rattle.dr_kept_laws.proofs.FiredLemmas.{Always, enclosed_always, fired_all}
 use Rattle.dr_kept_laws.proofs.RowValues.{instance_values, inner_values, none_true, no_level, along_level}
@@ -34,12 +34,6 @@ use Rattle.dr_firing.specs.Cutting.{flow}
 use Rattle.dr_firing.specs.Together.{Together, same_leaf, along, apart}
 use Rattle.dr_firing.specs.Firing.{AllTogether, IsRow}
 use Rattle.dr_firing.proofs.FiringLemmas.{rows_fire}
-
--- the path of a leaf of the selection
-leaf_path : (fs : Fields) (F : List (List Step)) (k : ℕ) (q : List Step) → list_all (is_leaf_path fs) F ≡ true → slice_get F k ≡ Some q → is_leaf_path fs q ≡ true
-leaf_path fs [] k q h e = absurd (cc)
-leaf_path fs (p ∷ F) zero q h e = let x : p ≡ q = cc in subst (λ (y : List Step). is_leaf_path fs y ≡ true) x (and_parts (is_leaf_path fs p) (list_all (is_leaf_path fs) F) h).0
-leaf_path fs (p ∷ F) (suc k) q h e = leaf_path fs F k q (and_parts (is_leaf_path fs p) (list_all (is_leaf_path fs) F) h).1 e
 
 -- ---- leaves that are read together with a leaf have their repeated fields on its level
 
@@ -106,8 +100,8 @@ module _ (fs : Fields) (F : List (List Step)) (i : ℕ) (p c : List Step) (test 
   -- each leaf that is read together with leaf i has the same values in the rows of what is kept and in the kept rows
   same_leaf_values : (k : ℕ) (q : List Step) → slice_get F k ≡ Some q → Together (k ≡ i) (Unit {0}) q p → map (value_at q) (rows_left (level p) (kept_along c test n)) ≡ map (value_at q) (kept_rows (level p) c test n)
   same_leaf_values k q u t =
-      let a : is_leaf_path fs q ≡ true = leaf_path fs F k q h u in
-      rows_of_kept fs n (level p) c q test z a (together_level (k ≡ i) (Unit {0}) (group fs) q p t a (leaf_path fs F i p h e))
+      let a : is_leaf_path fs q ≡ true = leaf_selected fs F k q h u in
+      rows_of_kept fs n (level p) c q test z a (together_level (k ≡ i) (Unit {0}) (group fs) q p t a (leaf_selected fs F i p h e))
 
   in_kept : (k : ℕ) (q : List Step) → slice_get F k ≡ Some q → map (λ (d : Context). d k) (map (row_context F) (kept_rows (level p) c test n)) ≡ map (value_at q) (kept_rows (level p) c test n)
   in_kept k q u = map-map (λ (d : Context). d k) (row_context F) (kept_rows (level p) c test n) ∙ ap (λ (o : Option (List Step)). map (value_of_path o) (kept_rows (level p) c test n)) u
@@ -141,9 +135,6 @@ module _ (fs : Fields) (F : List (List Step)) (i : ℕ) (p c : List Step) (test 
 abbrev record_row : Instances → Node
 record_row xs = node_of (first_of xs)
 
-no_shift : (k : ℕ) → 0 + k ≡ k
-no_shift k = omega arith
-
 -- the record's branch, on the chain
 record_always : (X : Type 0) (fs : Fields) (F : List (List Step)) (i : ℕ) (p q : List Step) (n : Node) (w : Watch) (test : Node → Bool) (f : Context → X) (g : Node → X)
     → list_all (is_leaf_path fs) F ≡ true → is_record fs n ≡ true → slice_get F i ≡ Some p → slice_get F w.last ≡ Some q
@@ -154,8 +145,8 @@ record_always X fs F i p q n w test f g h z t s =
     (map (λ ys. g (record_row ys)) (kept_instance_rows (kept_rows (level p) (level q)) (λ y. record_row (single y)) test (inner n)))
     (λ y. ap (map (λ ys. g (record_row ys))) (none_true (level p) (level q) record_row test (inner n) y))
     (fires_in X i f w g test (group fs) p q (picks F) 1 top (inner n) record_row
-    (subst (λ (k : ℕ). Only k p (picks F)) (no_shift i) (picks_only i 0 p F t)) (subst (λ (k : ℕ). Only k q (picks F)) (no_shift w.last) (picks_only w.last 0 q F s))
-    (leaf_path fs F i p h t) (leaf_path fs F w.last q h s) z)
+    (selected_only F i p t) (selected_only F w.last q s)
+    (leaf_selected fs F i p h t) (leaf_selected fs F w.last q h s) z)
 
 -- moves with what is made over them, whatever was read before
 pub record Firing (X : Type 0) (seen : ℕ → Context → List X) (left : ℕ → Context → List X → List X) (w : Watch) (r : Option (List ℕ)) (ms : List Move) (out : List X) : Type 0 where
@@ -173,10 +164,10 @@ record_firing X fs F w q K condition s i p f g t n z =
       tour = a.tour;
       moves = a.moves;
       fires = λ c. ap (λ (N : List ℕ). flow (fired_at i f) left_alone w (Some (0 ∷ N)) c a.tour) s.chain
-        ∙ a.fires c (rows_fire X fs F i p t.leaves n c f g s.leaves t.path z t.together t.same ∙ sym (inner_values X g (level p) record_row n))
-        (rows_fire Bool fs F w.last q K n c w.test condition s.leaves s.last z s.together s.decides ∙ sym (inner_values Bool condition (level q) record_row n))
-        ∙ map-map (λ (ys : Instances). g (record_row ys)) (λ (r : Node). single (inner r)) (kept_rows (level p) (level q) condition n)
-        ∙ told_of_left fs F i p (level q) condition n s.leaves z t.path X f g t;
+          ∙ a.fires c (rows_fire X fs F i p t.leaves n c f g s.leaves t.path z t.together t.same ∙ sym (inner_values X g (level p) record_row n))
+          (rows_fire Bool fs F w.last q K n c w.test condition s.leaves s.last z s.together s.decides ∙ sym (inner_values Bool condition (level q) record_row n))
+          ∙ map-map (λ (ys : Instances). g (record_row ys)) (λ (r : Node). single (inner r)) (kept_rows (level p) (level q) condition n)
+          ∙ told_of_left fs F i p (level q) condition n s.leaves z t.path X f g t;
     }
 
 -- without a condition it is what is told of all its rows
@@ -210,9 +201,9 @@ walk_firing X seen left w r fs F p g kept each (n ∷ R) v =
       tour = joined a.tour b.tour;
       moves = joined_moves a.tour b.tour ∙ ap₂ (λ (x y : List Move). x ++ y) a.moves b.moves;
       fires = λ c. joined_flow seen left w r c a.tour b.tour
-        ∙ ap₂ (λ (x y : List X). x ++ y) (a.fires c) (b.fires (after c a.tour))
-        ∙ sym (map-append g (rows_left p (kept n)) (flat_map (rows p) (filter_map kept R)))
-        ∙ ap (map g) (sym (left_before p (kept n) (filter_map kept R)));
+          ∙ ap₂ (λ (x y : List X). x ++ y) (a.fires c) (b.fires (after c a.tour))
+          ∙ sym (map-append g (rows_left p (kept n)) (flat_map (rows p) (filter_map kept R)))
+          ∙ ap (map g) (sym (left_before p (kept n) (filter_map kept R)));
     }
 
 pub all_some : (R : List Node) → filter_map (λ (n : Node). Some n) R ≡ R

@@ -4,7 +4,7 @@ use Rattle.std.specs.Prelude.{map, ◌||◌, ◌==◌, if◌then◌else◌}
 use Rattle.std.specs.List.{list_any}
 use Rattle.std.proofs.lemmas.List.{map-append}
 use Rattle.std.proofs.lemmas.Simd.{map-map}
-use Rattle.std.proofs.lemmas.Bool.{and_parts, eq-eqb, eqb-true}
+use Rattle.std.proofs.lemmas.Bool.{and_parts, eqb-true}
 use Rattle.dr_meaning.specs.Schema.{Repetition, required, optional, repeated, Fields, no_fields, field, Shape, leaf, group, repetition_count, repeated_fields, shape_repeated_fields}
 use Rattle.dr_meaning.specs.Path.{Step, level, is_leaf_path, is_shape_path, same_repetition, max_repetition}
 use Rattle.dr_meaning.specs.Record.{Node, Instances, no_instances, instance, Instance, atom, inner, single, count_instances, fits_repetition, all_instances, is_instance, instances_at, put_at}
@@ -18,6 +18,7 @@ use Rattle.dr_meaning.proofs.WalkLemmas.{Only, Without, IsNode, FirstSlot, first
 use Rattle.dr_pruning_laws.specs.ChainNumbers.{own_number, numbers_in, shape_numbers}
 use Rattle.dr_pruning_laws.specs.Leavings.{Leaving, off, instance_leavings}
 use Rattle.dr_kept_laws.specs.RowsOfKept.{kept_instance_rows, each_kept_rows, kept_field_rows, kept_rows}
+use Rattle.dr_kept_laws.proofs.RowLists.{not_same}
 use Rattle.dr_kept_laws.proofs.PutLemmas.{put_none}
 use Rattle.dr_kept_laws.proofs.FewLemmas.{few}
 use Rattle.dr_pruning_laws.proofs.OffChain.{Off, same_off, no_leavings, near_off, shape_near_off, instance_off, field_off, far_off, shape_far_off}
@@ -38,9 +39,6 @@ instance_part_off h G k at x = instance_off k (k + shape_repeated_fields h) h G 
 
 field_part_off : (r : Repetition) (h : Shape) (G : List Pick) (k : ℕ) (at : Depth) (n : Node) → (ls : List Leaving) × Off k (k + (repetition_count r + shape_repeated_fields h)) (far_in r h G k at n) ls
 field_part_off r h G k at n = (_, field_off r h G (λ k at x. far_part_off h G k at x) k at n)
-
-not_same : (j k : ℕ) → (j == k) ≡ false → j ≢ k
-not_same j k h e = true≢false (sym (eq-eqb j k e) ∙ h)
 
 -- no numbers without repeated fields
 near_numbers : (h : Shape) (q : List Step) (k : ℕ) → is_shape_path h q ≡ true → max_repetition q ≡ 0 → shape_numbers h k q ≡ []

@@ -1,5 +1,5 @@
 -- What was read last where an instance is left: of its own leaves their values in it, of leaves outside of it what was read before.
-use Rattle.std.proofs.Common.{◌≡◌, ℕ, List, [], ◌∷◌, ◌++◌, Bool, true, false, Option, Some, refl, sym, ap, ap₂, ◌∙◌}
+use Rattle.std.proofs.Common.{◌≡◌, ℕ, List, ◌∷◌, ◌++◌, Bool, true, false, Option, Some, refl, sym, ap, ap₂, ◌∙◌}
 use Rattle.std.specs.Prelude.{◌==◌, if◌then◌else◌}
 use Rattle.dr_meaning.specs.Schema.{Shape}
 use Rattle.dr_meaning.specs.Path.{Step, is_shape_path, max_repetition}
@@ -7,8 +7,7 @@ use Rattle.dr_meaning.specs.Record.{Value, Instance, is_instance}
 use Rattle.dr_meaning.specs.Rows.{value_in}
 use Rattle.dr_meaning.specs.Column.{Triplet}
 use Rattle.dr_meaning.specs.Automaton.{Pick}
-use Rattle.dr_meaning.specs.Walk.{Move, leave, Depth, moves_in, shape_near_moves, shape_far_moves}
-use Rattle.dr_meaning.specs.WalkLaws.{triplets_of}
+use Rattle.dr_meaning.specs.Walk.{leave, Depth, moves_in, shape_near_moves, shape_far_moves}
 use Rattle.dr_meaning.proofs.WalkLemmas.{of_append, Only, Without, shape_near_nothing, shape_far_nothing}
 use Rattle.dr_firing.specs.Context.{Context, with_value}
 use Rattle.dr_firing.specs.Tour.{Tour, over, saw, inside, moves_of, after}

@@ -2,6 +2,7 @@
 pub mod WorkedRowsOfKept
 pub mod WorkedGroupFlow
 pub mod WorkedObjectsOfKept
+pub mod WorkedLaterLeaf
 -- lemmas of the laws
 pub mod PutLemmas
 pub mod LevelLemmas
@@ -20,4 +21,5 @@ pub mod RowRecords
 pub mod ObjectsOfKeptLemmas
 pub mod ExpressionChains
 pub mod LeaveContexts
-pub mod ReadTogetherLemmas
+pub mod LaterLeafLemmas
+pub mod RowLists

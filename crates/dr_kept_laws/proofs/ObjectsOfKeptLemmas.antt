@@ -1,7 +1,6 @@
 -- The object of what is kept of a record is told by the record.
-use Rattle.std.proofs.Common.{◌≡◌, List, [], ◌∷◌, Bool, true, false, ◌&&◌, Option, None, Some, refl, sym, ap, ap₂, subst, ◌∙◌, true≢false}
-use Rattle.std.specs.Prelude.{ℕ, map, ◌==◌, if◌then◌else◌, filter}
-use Rattle.std.specs.List.{filter_map}
+use Rattle.std.proofs.Common.{◌≡◌, List, [], ◌∷◌, Bool, true, false, ◌&&◌, Option, Some, refl, sym, ap, ap₂, subst, ◌∙◌, true≢false}
+use Rattle.std.specs.Prelude.{map, ◌==◌, if◌then◌else◌, filter}
 use Rattle.std.proofs.lemmas.Bool.{and_parts, eq-eqb, eqb-true}
 use Rattle.dr_meaning.specs.Schema.{Fields}
 use Rattle.dr_meaning.specs.Path.{Step, is_leaf_path, level, begins_with, same_path}
@@ -9,14 +8,15 @@ use Rattle.dr_meaning.specs.Record.{Value, Node, is_record}
 use Rattle.dr_meaning.specs.Rows.{rows, value_at, is_present}
 use Rattle.dr_meaning.specs.Kept.{kept_along}
 use Rattle.dr_meaning.specs.Expression.{Expression, evaluate, expression_level}
-use Rattle.dr_meaning.specs.Query.{Aggregate, RecordTerm, expression, within, RecordItem, Object, cell, objects_of, aggregated, present_values, over_rows, Levels, no_levels, deeper, term_level, term_value, with_cells, leads_to_items, with_list, instances_of, object_lists, record_object}
+use Rattle.dr_meaning.specs.Query.{Aggregate, RecordTerm, expression, within, RecordItem, Object, cell, objects_of, aggregated, present_values, over_rows, Levels, no_levels, deeper, term_level, term_value, with_cells, leads_to_items, with_list, instances_of, object_lists}
 use Rattle.dr_kept_laws.specs.RowsOfKept.{kept_rows, rows_left}
 use Rattle.dr_kept_laws.specs.RowsOfKeptLaws.{IsOfChain}
-use Rattle.dr_kept_laws.specs.ObjectsOfKept.{kept_instances, kept_value, kept_cells, kept_lists, kept_object}
+use Rattle.dr_kept_laws.specs.ObjectsOfKept.{kept_instances, kept_value, kept_cells, kept_lists}
 use Rattle.dr_kept_laws.specs.ObjectsOfKeptLaws.{term_expression, AreOfChains, ObjectOfKept}
 use Rattle.dr_kept_laws.proofs.RowsOfKeptLaws.{rows_of_kept, end_in_kept}
 use Rattle.dr_kept_laws.proofs.CutRowsLemmas.{kept_of_rows}
-use Rattle.dr_kept_laws.proofs.RowRecords.{AllOf, all_kept, kept_records}
+use Rattle.dr_kept_laws.proofs.RowLists.{AllOf}
+use Rattle.dr_kept_laws.proofs.RowRecords.{all_kept, kept_records}
 
 -- ---- two lists, one with one
 
@@ -58,9 +58,10 @@ two_rows fs c test p (r ∷ rs) (k ∷ ks) e z s v =
     let e0 : kept_along c test k ≡ Some r = cc in
     let e1 : map (kept_along c test) ks ≡ map (λ (r : Node). Some r) rs = cc in
     let s0 : is_present p r ≡ is_present p k = cc in
-    let s1 : map (is_present p) rs ≡ map (is_present p) ks = cc in
-    ((e0, z.0, s0, (λ q u l. first_same (value_at q r) (value_at q k) (map (value_at q) rs) (map (value_at q) ks) (v q u l))),
-      two_rows fs c test p rs ks e1 z.1 s1 (λ q u l. rest_same (value_at q r) (value_at q k) (map (value_at q) rs) (map (value_at q) ks) (v q u l)))
+    let s1 : map (is_present p) rs ≡ map (is_present p) ks = cc in (
+      (e0, z.0, s0, (λ q u l. first_same (value_at q r) (value_at q k) (map (value_at q) rs) (map (value_at q) ks) (v q u l))),
+      two_rows fs c test p rs ks e1 z.1 s1 (λ q u l. rest_same (value_at q r) (value_at q k) (map (value_at q) rs) (map (value_at q) ks) (v q u l)),
+    )
   where
     first_same : {X : Type 0} (a b : X) (xs ys : List X) → a ∷ xs ≡ b ∷ ys → a ≡ b
     first_same a b xs ys h = cc

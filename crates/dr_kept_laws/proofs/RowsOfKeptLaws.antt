@@ -11,13 +11,10 @@ use Rattle.dr_meaning.specs.Kept.{kept_along}
 use Rattle.dr_meaning.proofs.Blocks.{EachInstance}
 use Rattle.dr_kept_laws.specs.RowsOfKept.{rows_where_any, kept_instance_rows, each_kept_rows, kept_field_rows, kept_rows, rows_left}
 use Rattle.dr_kept_laws.specs.RowsOfKeptLaws.{RowsOfKept, PresentInKept, EndInKept, TrueRowsAreKept}
+use Rattle.dr_kept_laws.proofs.RowLists.{map_same}
 use Rattle.dr_kept_laws.proofs.PutLemmas.{put_none}
 use Rattle.dr_kept_laws.proofs.RowsOfKeptLemmas.{FewOn, look, none_kept, same_rows}
 use Rattle.dr_kept_laws.proofs.FewLemmas.{record_few, front_few}
-
-map_same : {X Y : Type 0} (f g : X → Y) → ((x : X) → f x ≡ g x) → (xs : List X) → map f xs ≡ map g xs
-map_same f g h [] = refl
-map_same f g h (x ∷ xs) = ap₂ (λ y z. y ∷ z) (h x) (map_same f g h xs)
 
 -- ---- values, and what is there
 

@@ -1,9 +1,9 @@
 -- What is kept of a record has the record's kept rows: whatever is looked up in them by a path whose repeated fields are on the rows' path is the same.
-use Rattle.std.proofs.Common.{◌≡◌, ℕ, ◌≤◌, List, [], ◌∷◌, ◌++◌, length, Bool, true, false, Option, None, Some, refl, sym, ap, ap₂, subst, ◌∙◌, true≢false, arith}
-use Rattle.std.specs.Prelude.{◌≢◌, map, ◌==◌, if◌then◌else◌, option_map, is_some}
+use Rattle.std.proofs.Common.{◌≡◌, ℕ, ◌≤◌, List, [], ◌∷◌, ◌++◌, length, Bool, true, false, Option, None, Some, refl, sym, ap, ap₂, subst, ◌∙◌, arith}
+use Rattle.std.specs.Prelude.{map, ◌==◌, if◌then◌else◌, option_map, is_some}
 use Rattle.std.proofs.lemmas.List.{map-append, length-map}
 use Rattle.std.proofs.lemmas.Simd.{map-map}
-use Rattle.std.proofs.lemmas.Bool.{eq-eqb, eqb-true}
+use Rattle.std.proofs.lemmas.Bool.{eqb-true}
 use Rattle.dr_meaning.specs.Schema.{Repetition, is_repeated}
 use Rattle.dr_meaning.specs.Path.{Step, level, begins_with}
 use Rattle.dr_meaning.specs.Record.{Value, Node, Instances, no_instances, instance, Instance, atom, inner, single, count_instances, instances_at, instances_in, put_at}
@@ -12,23 +12,9 @@ use Rattle.dr_meaning.specs.Kept.{with_kept, keep_each, if_some_kept, keep_below
 use Rattle.dr_meaning.proofs.Blocks.{EachInstance}
 use Rattle.dr_kept_laws.specs.RowsOfKept.{rows_where_any, kept_instance_rows, each_kept_rows, kept_field_rows, kept_rows}
 use Rattle.dr_kept_laws.proofs.PutLemmas.{put_there, put_apart, put_twice, put_swap}
+use Rattle.dr_kept_laws.proofs.RowLists.{not_same, map_same, constant_maps}
 use Rattle.dr_kept_laws.proofs.LevelLemmas.{none_repeated, on_root, on_below, on_apart}
 use Rattle.dr_firing.proofs.KeptRows.{kept_any}
-
--- ---- lists
-
-map_same : {X Y : Type 0} (f g : X → Y) → ((x : X) → f x ≡ g x) → (xs : List X) → map f xs ≡ map g xs
-map_same f g h [] = refl
-map_same f g h (x ∷ xs) = ap₂ (λ y z. y ∷ z) (h x) (map_same f g h xs)
-
-constant_maps : {X Y : Type 0} (y : Y) (xs zs : List X) → length xs ≡ length zs → map (λ (x : X). y) xs ≡ map (λ (x : X). y) zs
-constant_maps y [] [] h = refl
-constant_maps y [] (z ∷ zs) h = absurd (omega (arith, h))
-constant_maps y (x ∷ xs) [] h = absurd (omega (arith, h))
-constant_maps {Y = Y} y (x ∷ xs) (z ∷ zs) h = ap (λ (l : List Y). y ∷ l) (constant_maps y xs zs (omega (arith, h)))
-
-not_same : (i j : ℕ) → (i == j) ≡ false → i ≢ j
-not_same i j h e = true≢false (sym (eq-eqb i j e) ∙ h)
 
 -- ---- what is kept
 

@@ -28,7 +28,7 @@ fs = field [] repeated (group (field [] repeated (group (number_leaf required (n
     (number_leaf repeated (field [] optional (group (number_leaf repeated (number_leaf optional no_fields))) no_fields))
 
 -- x 0, y 1, c 2, d 3, e 4, h 5
-abbrev F : List (List Step)
+abbrev pub F : List (List Step)
 F = x ∷ y ∷ c ∷ d ∷ e ∷ h ∷ []
 
 -- the tours behind moves, innermost first

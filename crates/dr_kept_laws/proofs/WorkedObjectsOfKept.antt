@@ -1,11 +1,10 @@
 -- Kept objects of a small record, by computation.
-use Rattle.std.specs.Prelude.{◌≡◌, ℕ, List, [], ◌∷◌, map, Bool, Option, None, Some, pos, codes, refl}
+use Rattle.std.specs.Prelude.{◌≡◌, ℕ, List, [], ◌∷◌, map, Bool, None, codes, refl}
 use Rattle.std.specs.List.{filter_map}
-use Rattle.dr_meaning.specs.Path.{Step}
-use Rattle.dr_meaning.specs.Record.{Node, int_value}
+use Rattle.dr_meaning.specs.Record.{Node}
 use Rattle.dr_meaning.specs.Expression.{Expression, path_value, evaluate, is_true, is_null}
 use Rattle.dr_meaning.specs.Kept.{kept_along}
-use Rattle.dr_meaning.specs.Query.{count, sum, expression, within, RecordItem, Object, Objects, no_entries, cell, list, no_objects, object, levels_of, record_object}
+use Rattle.dr_meaning.specs.Query.{count, sum, expression, within, RecordItem, Object, no_entries, cell, list, no_objects, object, levels_of, record_object}
 use Rattle.dr_kept_laws.specs.ObjectsOfKept.{kept_object}
 use Rattle.dr_kept_laws.proofs.WorkedGroupFlow.{fs}
 use Rattle.dr_kept_laws.proofs.WorkedRowsOfKept.{a, b, c, d, e, x, y, above, some_number, whole}

@@ -26,6 +26,7 @@ abbrev pub fired_if : {X : Type 0} → Option ℕ → (Context → X) → ℕ �
 fired_if None f k c = []
 fired_if (Some i) f k c = fired_at i f k c
 
+-- of several readings, in their order
 abbrev pub all_fired : {X : Type 0} → List (Reading X) → ℕ → Context → List X
 all_fired [] k c = []
 all_fired (r ∷ rs) k c = fired_if r.leaf r.fires k c ++ all_fired rs k c
@@ -35,6 +36,7 @@ abbrev pub left_if : {X : Type 0} → Option ℕ → (Context → X) → Context
 left_if None f c = f c ∷ []
 left_if (Some i) f c = []
 
+-- of several readings, in their order
 abbrev pub all_left : {X : Type 0} → List (Reading X) → Context → List X
 all_left [] c = []
 all_left (r ∷ rs) c = left_if r.leaf r.fires c ++ all_left rs c

@@ -45,6 +45,7 @@ abbrev pub MeansAt : {X : Type 0} → List (List Step) → Option ℕ → (Conte
 MeansAt F None f l g = (l ≡ []) × ((c : Context) (row : Node) → f c ≡ g row)
 MeansAt {X} F (Some i) f l g = (p : List Step) × (level p ≡ l) × IsTold X F i p f g
 
+-- each of these readings does
 abbrev pub AllMean : {X : Type 0} → List (List Step) → List (Reading X) → Type 0
 AllMean F [] = Unit {0}
 AllMean F (x ∷ xs) = MeansAt F x.leaf x.fires x.level x.means × AllMean F xs

@@ -2,7 +2,7 @@
 pub mod RowsOfKept
 pub mod GroupFlow
 pub mod ObjectsOfKept
-pub mod ReadTogether
+pub mod LaterLeaf
 -- laws
 pub mod RowsOfKeptLaws
 pub mod GroupFlowLaws

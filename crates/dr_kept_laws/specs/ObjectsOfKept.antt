@@ -4,8 +4,8 @@ use Rattle.dr_meaning.specs.Path.{Step, same_path}
 use Rattle.dr_meaning.specs.Record.{Value, Node}
 use Rattle.dr_meaning.specs.Rows.{is_present}
 use Rattle.dr_meaning.specs.Expression.{evaluate, expression_level}
-use Rattle.dr_meaning.specs.Query.{RecordTerm, expression, within, RecordItem, Object, no_entries, cell, objects_of, over_rows, Levels, no_levels, deeper}
-use Rattle.dr_meaning.specs.Query.{term_level, leads_to_items, with_list}
+use Rattle.dr_meaning.specs.Query.{RecordTerm, expression, within, RecordItem, Object, no_entries, cell, objects_of, over_rows, Levels}
+use Rattle.dr_meaning.specs.Query.{no_levels, deeper, term_level, leads_to_items, with_list}
 use Rattle.dr_kept_laws.specs.RowsOfKept.{kept_rows}
 
 -- the kept rows of a path within a row, without those in which its end is absent
@@ -20,7 +20,8 @@ kept_value c test (within a e node) row = over_rows a e (kept_rows (expression_l
 -- the items of a level before the rest of the object
 abbrev pub kept_cells : List Step → (Node → Bool) → List RecordItem → List Step → Node → Object → Object
 kept_cells c test [] p row rest = rest
-kept_cells c test (i ∷ is) p row rest = if same_path p (term_level i.term) then cell i.name (kept_value c test i.term row) (kept_cells c test is p row rest)
+kept_cells c test (i ∷ is) p row rest = if same_path p (term_level i.term)
+    then cell i.name (kept_value c test i.term row) (kept_cells c test is p row rest)
     else kept_cells c test is p row rest
 
 -- for each next level that leads to items one list, of the object of each kept instance
@@ -30,5 +31,6 @@ kept_lists c test items (deeper names p below beside) row = with_list (leads_to_
     (objects_of (map (λ r. kept_cells c test items p r (kept_lists c test items below r)) (kept_instances p c test row)))
     (kept_lists c test items beside row)
 
+-- the object of a record
 abbrev pub kept_object : List Step → (Node → Bool) → List RecordItem → Levels → Node → Object
 kept_object c test items levels n = kept_cells c test items [] n (kept_lists c test items levels n)

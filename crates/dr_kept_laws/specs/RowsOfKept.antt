@@ -14,6 +14,7 @@ abbrev pub kept_instance_rows : ((Node → Bool) → Node → List Node) → (In
 kept_instance_rows f row test (atom v) = if test (row (atom v)) then single (atom v) ∷ [] else []
 kept_instance_rows f row test (inner n) = map (λ m. single (inner m)) (f (λ m. test (row (inner m))) n)
 
+-- those of several instances, one after another
 abbrev pub each_kept_rows : (Instance → List Instances) → Instances → List Instances
 each_kept_rows f no_instances = []
 each_kept_rows f (instance x xs) = f x ++ each_kept_rows f xs

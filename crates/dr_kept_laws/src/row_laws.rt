@@ -2,9 +2,10 @@
 
 ghost use Rattle.dr_kept_laws.specs.GroupFlowLaws.{AllFiredTogether, FiredOfAll, FiredOfKept, FiredTogether};
 ghost use Rattle.dr_kept_laws.specs.ObjectsOfKeptLaws.{ObjectOfKept};
-ghost use Rattle.dr_kept_laws.specs.ReadTogether.{ReadTogether};
+ghost use Rattle.dr_kept_laws.specs.LaterLeaf.{LaterReadsBoth};
 ghost use Rattle.dr_kept_laws.specs.RowsOfKeptLaws.{EndInKept, ExpressionsAreOfChains, KeptOfRows, PresentInKept, RowsOfKept, TrueRowsAreKept};
 ghost use Rattle.dr_meaning.specs.Record.{Value};
+ghost use Rattle.dr_partials.specs.Putting.{Put};
 ghost use Rattle.std.specs.Prelude.{List, Option};
 
 /// What is kept of a record has the record's kept rows, with the same values.
@@ -44,25 +45,29 @@ pub fn object_of_kept()
 
 /// What fires at a leaf's triplets over moves that a condition cuts is what the rows of what is kept have, as values of leaves.
 pub fn fired_of_kept()
-    ensures { FiredOfKept (List (Option Value)) }
+    ensures values { FiredOfKept (List (Option Value)) }
+    ensures puts { FiredOfKept Put }
 {}
 
 /// Without a condition it is what all rows have.
 pub fn fired_of_all()
-    ensures { FiredOfAll (List (Option Value)) }
+    ensures values { FiredOfAll (List (Option Value)) }
+    ensures puts { FiredOfAll Put }
 {}
 
 /// Several readings make together what each means in the rows of what is kept.
 pub fn fired_together()
-    ensures { FiredTogether (List (Option Value)) }
+    ensures values { FiredTogether (List (Option Value)) }
+    ensures puts { FiredTogether Put }
 {}
 
 /// Without a condition they make what each means in all rows.
 pub fn all_fired_together()
-    ensures { AllFiredTogether (List (Option Value)) }
+    ensures values { AllFiredTogether (List (Option Value)) }
+    ensures puts { AllFiredTogether Put }
 {}
 
 /// Leaves of one chain are read together with the last of them in reading order.
-pub fn read_together()
-    ensures { ReadTogether }
+pub fn later_reads_both()
+    ensures { LaterReadsBoth }
 {}

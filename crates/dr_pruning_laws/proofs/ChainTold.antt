@@ -25,7 +25,7 @@ use Rattle.dr_firing.proofs.NearLemmas.{shape_near_silent, shape_far_silent}
 
 -- ---- the level of a path
 
-level_none : (p : List Step) → max_repetition p ≡ 0 → level p ≡ []
+pub level_none : (p : List Step) → max_repetition p ≡ 0 → level p ≡ []
 level_none [] h = refl
 level_none (s ∷ p) h = ap (up_to s) (level_none p (omega (arith, h))) ∙ by_repetition_of s.repetition (omega (arith, h))
   where

@@ -53,5 +53,5 @@ module _ {A : Type 0} (seen : ℕ → Context → List A) (left : ℕ → Contex
       (append_assoc made (if is_dropped r (some_true w c B) then [] else left k d more) (flow seen left w (chain_in w (map (with_rows rows) bs)) d T)
       ∙ ap (λ (x : Option (List ℕ)). made ++ ((if is_dropped r (some_true w c B) then [] else left k d more) ++ flow seen left w x d T)) (same_chain w rows bs))
 
-pub frames_make_flow : FramesMakeFlow
+pub frames_make_flow : (A : Type 0) → FramesMakeFlow A
 frames_make_flow A seen left w T = ap (λ (f : Frames A). f.made) (frames_behind seen left w T nothing_read.context [] [] [])

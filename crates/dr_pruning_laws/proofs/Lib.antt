@@ -26,3 +26,5 @@ pub mod PartLemmas
 pub mod PartTelling
 pub mod ConstantLemmas
 pub mod ReadingTogether
+pub mod FlaggedLemmas
+pub mod LongestLevel

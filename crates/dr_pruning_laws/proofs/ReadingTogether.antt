@@ -125,7 +125,7 @@ other_front s t e c X D h = by_repetition_of e D
     by_repetition_of repeated D = first [] (map (λ (q : List Step). t ∷ q) D)
 
 -- through different fields nothing repeated is on the first
-apart_chain : (s t : Step) (q p : List Step) → (s.place == t.place) ≡ false → is_chain_front (chain (s ∷ q)) (chain (t ∷ p)) ≡ true → max_repetition (s ∷ q) ≡ 0
+pub apart_chain : (s t : Step) (q p : List Step) → (s.place == t.place) ≡ false → is_chain_front (chain (s ∷ q)) (chain (t ∷ p)) ≡ true → max_repetition (s ∷ q) ≡ 0
 apart_chain s t q p h g = by_repetition_of s.repetition (chain q) (chain_none q) g
   where
     below : (C : List (List Step)) (m : ℕ) → (C ≡ [] → m ≡ 0) → is_chain_front (map (λ (x : List Step). s ∷ x) C) (headed t t.repetition (chain p)) ≡ true → m ≡ 0
@@ -157,7 +157,7 @@ same_chains s t u v c e h g C D = by_both (is_repeated c) (is_repeated e)
     by_both false false = same_fronts s t u v h g C D
 
 -- through the same field
-below_chain : (s : Step) (q p : List Step) → is_chain_front (chain (s ∷ q)) (chain (s ∷ p)) ≡ true → is_chain_front (chain q) (chain p) ≡ true
+pub below_chain : (s : Step) (q p : List Step) → is_chain_front (chain (s ∷ q)) (chain (s ∷ p)) ≡ true → is_chain_front (chain q) (chain p) ≡ true
 below_chain s q p h = by_repetition_of s.repetition h
   where
     all_below : (C D : List (List Step)) → is_chain_front (map (λ (x : List Step). s ∷ x) C) (map (λ (x : List Step). s ∷ x) D) ≡ is_chain_front C D

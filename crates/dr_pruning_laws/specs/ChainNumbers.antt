@@ -25,6 +25,7 @@ abbrev mutual
   numbers_in (field m r s fs) k (t ∷ p) = by_place t.place (own_number r k (λ j. shape_numbers s j p))
       (λ i. numbers_in fs (k + (repetition_count r + shape_repeated_fields s)) (record { place = i; repetition = t.repetition } ∷ p))
 
+  -- the numbers on a path below a shape
   pub shape_numbers : Shape → ℕ → List Step → List ℕ
   shape_numbers (leaf j) k p = []
   shape_numbers (group fs) k p = numbers_in fs k p

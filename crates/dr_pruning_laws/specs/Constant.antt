@@ -8,6 +8,7 @@ use Rattle.dr_meaning.specs.Walk.{Move, enter, value, leave, walk}
 use Rattle.dr_pruning_laws.specs.Leavings.{Leaving, record_leavings}
 use Rattle.dr_pruning_laws.specs.Telling.{Verdict, kept, dropped, first_dropped}
 
+-- so many that are kept
 abbrev pub all_kept : ℕ → List Verdict
 all_kept zero = []
 all_kept (suc n) = kept ∷ all_kept n
@@ -23,6 +24,7 @@ depth_behind n (enter k) = suc n
 depth_behind n (value i t) = n
 depth_behind n (leave k) = n - 1
 
+-- behind some moves
 abbrev pub depth_behind_all : ℕ → List Move → ℕ
 depth_behind_all n [] = n
 depth_behind_all n (m ∷ ms) = depth_behind_all (depth_behind n m) ms
@@ -37,11 +39,13 @@ constant_at b n (leave k) = constant_verdicts b n
 abbrev pub constant_told : Bool → List Move → Move → List Verdict
 constant_told b ms m = constant_at b (depth_behind_all 0 ms) m
 
+-- the branch that a move leaves, as it is told
 abbrev pub constant_leaving : Bool → ℕ → Move → List Leaving
 constant_leaving b n (enter k) = []
 constant_leaving b n (value i t) = []
 constant_leaving b n (leave k) = record { number = k; dropped = first_dropped (reverse (constant_at b n (leave k))) } ∷ []
 
+-- at each Leave of these moves
 abbrev pub constant_leavings : Bool → ℕ → List Move → List Leaving
 constant_leavings b n [] = []
 constant_leavings b n (m ∷ ms) = constant_leaving b n m ++ constant_leavings b (depth_behind n m) ms

@@ -13,6 +13,7 @@ pub record Numbers : Type 0 where
   pub hit : ℕ
   pub read : Bool
 
+-- where nothing is open
 abbrev pub no_numbers : Numbers
 no_numbers = record { depth = 0; along = 0; hit = 0; read = false }
 
@@ -20,6 +21,7 @@ no_numbers = record { depth = 0; along = 0; hit = 0; read = false }
 abbrev pub whole_chain : Watch → List ℕ
 whole_chain w = 0 ∷ w.chain
 
+-- whether a chain goes on with this number
 abbrev pub is_first : ℕ → List ℕ → Bool
 is_first k [] = false
 is_first k (j ∷ r) = k == j
@@ -60,6 +62,7 @@ abbrev pub verdicts_of : ℕ → Numbers → ℕ → List Verdict
 verdicts_of long n zero = []
 verdicts_of long n (suc i) = verdict_at long n i ∷ verdicts_of long n i
 
+-- of the branch that is left and the others
 abbrev pub left_among : ℕ → Numbers → ℕ → List Verdict
 left_among long n zero = []
 left_among long n (suc i) = verdict_left n i ∷ verdicts_of long n i
@@ -81,12 +84,15 @@ pub record Counted : Type 0 where
   pub context : Context
   pub numbers : Numbers
 
+-- before any move
 abbrev pub nothing_counted : Counted
 nothing_counted = record { context = nothing_read.context; numbers = no_numbers }
 
+-- behind one more move
 abbrev pub count_on : Watch → Counted → Move → Counted
 count_on w g m = record { context = context_behind g.context m; numbers = count_move w (context_behind g.context m) m g.numbers }
 
+-- behind some more
 abbrev pub count_all : Watch → Counted → List Move → Counted
 count_all w g [] = g
 count_all w g (m ∷ ms) = count_all w (count_on w g m) ms

@@ -13,6 +13,7 @@ pub record Frames (A : Type 0) : Type 0 where
   pub made : List A
   pub marks : List ℕ
 
+-- out of the innermost branch
 abbrev pub frame_left : {A : Type 0} → (ℕ → Context → List A → List A) → Bool → ℕ → Frames A → List ℕ → Frames A
 frame_left left is_dropped k f [] = f
 frame_left left is_dropped k f (m ∷ ms) = record {
@@ -33,6 +34,6 @@ frame_moves seen left w g [] f = f
 frame_moves seen left w g (m ∷ ms) f = frame_moves seen left w (watch_move w g m) ms (frame_move seen left (first_dropped (verdicts_at w g m)) m f)
 
 -- in this way what the kept moves make is made
-abbrev pub FramesMakeFlow : Type 1
-FramesMakeFlow = (A : Type 0) (seen : ℕ → Context → List A) (left : ℕ → Context → List A → List A) (w : Watch) (T : Tour)
+abbrev pub FramesMakeFlow : Type 0 → Type 0
+FramesMakeFlow A = (seen : ℕ → Context → List A) (left : ℕ → Context → List A → List A) (w : Watch) (T : Tour)
     → (frame_moves seen left w nothing_read (moves_of T) (record { context = nothing_read.context; made = []; marks = [] })).made ≡ flow seen left w (Some (0 ∷ w.chain)) nothing_read.context T

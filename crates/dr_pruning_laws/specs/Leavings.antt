@@ -82,6 +82,7 @@ abbrev mutual
       (instance_leavings s (behind G) k (stand 0)) (first_slot n))
       ++ node_leavings fs (beside G) (k + (repetition_count r + shape_repeated_fields s)) (λ i. stand (suc i)) (other_slots n)
 
+  -- the branches in an instance
   pub instance_leavings : Shape → List Pick → ℕ → Standing → Option Instance → List Leaving
   instance_leavings (leaf j) G k s x = []
   instance_leavings (group fs) G k s x = node_leavings fs G k (stand_below s (node_of x)) (node_of x)

@@ -9,6 +9,7 @@ pub mod Counting
 pub mod OpenNumbers
 pub mod Parts
 pub mod Constant
+pub mod FlaggedFlow
 -- laws
 pub mod TellingLaws
 pub mod TogetherLaws

@@ -7,6 +7,7 @@ use Rattle.dr_meaning.specs.Record.{Node, is_record}
 use Rattle.dr_meaning.specs.Walk.{Move, enter, value, leave, walk}
 use Rattle.dr_pruning_laws.specs.ChainNumbers.{chain_numbers}
 
+-- out of the innermost
 abbrev pub rest_open : List ℕ → List ℕ
 rest_open [] = []
 rest_open (k ∷ open_ones) = open_ones
@@ -18,6 +19,7 @@ open_at i open_ones (enter k ∷ ms) = open_at i (k ∷ open_ones) ms
 open_at i open_ones (value j t ∷ ms) = if j == i then reverse open_ones ∷ open_at i open_ones ms else open_at i open_ones ms
 open_at i open_ones (leave k ∷ ms) = open_at i (rest_open open_ones) ms
 
+-- whether the first list is the first part of the second
 abbrev pub is_front : List ℕ → List ℕ → Bool
 is_front [] N = true
 is_front (k ∷ K) [] = false

@@ -21,9 +21,11 @@ pub record Part : Type 0 where
 abbrev pub part_at : ℕ → Context → Part → Part
 part_at i c a = record a { answer = if i == a.last then a.test c else a.answer }
 
+-- whether all are true by their answers
 abbrev pub all_answers : List Part → Bool
 all_answers ps = list_all (λ (a : Part). a.answer) ps
 
+-- whether all are true in a context
 abbrev pub all_tests : List Part → Context → Bool
 all_tests ps c = list_all (λ (a : Part). a.test c) ps
 
@@ -54,6 +56,7 @@ AnswersAreTests = (fs : Fields) (F : List (List Step)) (i : ℕ) (p : List Step)
 
 -- ---- a pruner that keeps the answers
 
+-- the parts with their answers behind a move; the context is that behind it
 abbrev pub parts_behind : Context → Move → List Part → List Part
 parts_behind c (enter k) ps = ps
 parts_behind c (value i t) ps = map (part_at i c) ps
@@ -69,15 +72,19 @@ pub record Pruning : Type 0 where
   pub parts : List Part
   pub numbers : Numbers
 
+-- before any move
 abbrev pub nothing_pruned : List Part → Pruning
 nothing_pruned ps = record { context = nothing_read.context; parts = ps; numbers = no_numbers }
 
+-- behind a move, given what the parts and the context are there
 abbrev pub prune_with : Watch → List Part → Context → Move → Numbers → Pruning
 prune_with w ps c m n = record { context = c; parts = ps; numbers = count_move (answering w ps) c m n }
 
+-- behind one more move
 abbrev pub prune_move : Watch → Pruning → Move → Pruning
 prune_move w g m = prune_with w (parts_behind (context_behind g.context m) m g.parts) (context_behind g.context m) m g.numbers
 
+-- behind some more
 abbrev pub prune_moves : Watch → Pruning → List Move → Pruning
 prune_moves w g [] = g
 prune_moves w g (m ∷ ms) = prune_moves w (prune_move w g m) ms

@@ -6,6 +6,7 @@ use Rattle.dr_pruning_laws.specs.Leavings.{Leaving}
 use Rattle.dr_firing.specs.Context.{Context, with_value}
 use Rattle.dr_firing.specs.Condition.{Watch, rest_below}
 
+-- what is told of one branch
 pub data Verdict : Type 0 where
   kept : Verdict
   dropped : Verdict
@@ -34,13 +35,16 @@ chain_in w (b ∷ bs) = b.rest
 abbrev pub rows_at : Watch → ℕ → Context → List Bool
 rows_at w i c = if i == w.last then w.test c ∷ [] else []
 
+-- a branch with more rows
 abbrev pub with_rows : List Bool → Opened → Opened
 with_rows rs b = record b { rows = b.rows ++ rs }
 
+-- out of the innermost
 abbrev pub without_first : List Opened → List Opened
 without_first [] = []
 without_first (b ∷ bs) = bs
 
+-- behind one more move
 abbrev pub watch_move : Watch → Watching → Move → Watching
 watch_move w g (enter k) = record g { open_ones = record { rest = rest_below k (chain_in w g.open_ones); rows = [] } ∷ g.open_ones }
 watch_move w g (value i t) = record {
@@ -49,10 +53,12 @@ watch_move w g (value i t) = record {
 }
 watch_move w g (leave k) = record g { open_ones = without_first g.open_ones }
 
+-- behind some more
 abbrev pub watch_moves : Watch → Watching → List Move → Watching
 watch_moves w g [] = g
 watch_moves w g (m ∷ ms) = watch_moves w (watch_move w g m) ms
 
+-- whether a list is empty
 abbrev pub is_nothing : {A : Type 0} → List A → Bool
 is_nothing [] = true
 is_nothing (x ∷ xs) = false
@@ -62,6 +68,7 @@ abbrev pub verdict_on : Option (List ℕ) → List Bool → Verdict
 verdict_on None rows = kept
 verdict_on (Some r) rows = if list_any (λ b. b) rows then kept else if is_nothing r && not (is_nothing rows) then dropped else undecided
 
+-- of an open branch
 abbrev pub verdict : Opened → Verdict
 verdict b = verdict_on b.rest b.rows
 
@@ -70,6 +77,7 @@ abbrev pub last_verdict_on : Option (List ℕ) → List Bool → Verdict
 last_verdict_on None rows = kept
 last_verdict_on (Some r) rows = if list_any (λ b. b) rows then kept else dropped
 
+-- of a branch as it is left
 abbrev pub last_verdict : Opened → Verdict
 last_verdict b = last_verdict_on b.rest b.rows
 
@@ -90,6 +98,7 @@ told w ms m = reverse (verdicts_at w (watch_moves w nothing_read ms) m)
 
 -- ---- what is told of the branches that are left
 
+-- whether that is dropped
 abbrev pub is_told_dropped : Verdict → Bool
 is_told_dropped kept = false
 is_told_dropped dropped = true
@@ -100,6 +109,7 @@ abbrev pub first_dropped : List Verdict → Bool
 first_dropped [] = false
 first_dropped (v ∷ vs) = is_told_dropped v
 
+-- the branch that a move leaves, as it is told
 abbrev pub leaving_at : Watch → Watching → Move → List Leaving
 leaving_at w g (enter k) = []
 leaving_at w g (value i t) = []
@@ -110,5 +120,6 @@ abbrev pub leavings_from : Watch → Watching → List Move → List Leaving
 leavings_from w g [] = []
 leavings_from w g (m ∷ ms) = leaving_at w g m ++ leavings_from w (watch_move w g m) ms
 
+-- at each Leave of moves, from the first on
 abbrev pub told_leavings : Watch → List Move → List Leaving
 told_leavings w ms = leavings_from w nothing_read ms

@@ -2,11 +2,16 @@
 
 ghost use Rattle.dr_pruning_laws.specs.ChainNumbers.{NumbersNameChain};
 ghost use Rattle.dr_pruning_laws.specs.Constant.{ConstantIsKept};
+ghost use Rattle.dr_meaning.specs.Record.{Value};
+ghost use Rattle.dr_partials.specs.Putting.{Put};
+ghost use Rattle.dr_pruning_laws.specs.FlaggedFlow.{FlowIsKept};
+ghost use Rattle.dr_pruning_laws.specs.Frames.{FramesMakeFlow};
+ghost use Rattle.std.specs.Prelude.{Option};
 ghost use Rattle.dr_pruning_laws.specs.Counting.{NumbersTell};
 ghost use Rattle.dr_pruning_laws.specs.OpenNumbers.{OpenOnChain};
 ghost use Rattle.dr_pruning_laws.specs.Parts.{AnswersAreTests, PartsTell};
 ghost use Rattle.dr_pruning_laws.specs.TellingLaws.{DecidedStays, LeavingsAreKept, ToldIsKept};
-ghost use Rattle.dr_pruning_laws.specs.TogetherLaws.{ReadTogether};
+ghost use Rattle.dr_pruning_laws.specs.TogetherLaws.{LevelOfLast, ReadTogether};
 ghost use Rattle.dr_pruning_laws.specs.Tours.{OneTour};
 
 /// Moves have at most one tour.
@@ -62,4 +67,21 @@ pub fn constant_is_kept()
 /// Leaves in reading order whose chains begin with one another are read together.
 pub fn read_together()
     ensures { ReadTogether }
+{}
+
+/// The longest level of such leaves is that of the last of them.
+pub fn level_of_last()
+    ensures { LevelOfLast }
+{}
+
+/// What is made with what is told is what the kept moves make: of values, and of puts.
+pub fn frames_make_flow()
+    ensures values { FramesMakeFlow (Option Value) }
+    ensures puts { FramesMakeFlow Put }
+{}
+
+/// What the kept moves make depends on the condition by the branches that the query drops alone: of values, and of puts.
+pub fn flow_is_kept()
+    ensures values { FlowIsKept (Option Value) }
+    ensures puts { FlowIsKept Put }
 {}

@@ -1,7 +1,8 @@
 use Rattle.std.specs.Prelude.{List, Option}
 use Rattle.dr_meaning.specs.Record.{Value}
+use Rattle.dr_partials.specs.Putting.{Put}
 use Rattle.dr_kept_laws.proofs.FiredTogetherLaws.{fired_together}
 use Rattle.dr_kept_laws.proofs.row_laws.fired_together.Goals as goal
 
 pub returns : goal.returns
-returns c = fired_together (List (Option Value))
+returns c = record { values = fired_together (List (Option Value)); puts = fired_together Put }

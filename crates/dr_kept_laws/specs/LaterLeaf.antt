@@ -13,7 +13,7 @@ comes_first k i [] = true
 comes_first k i (j ∷ js) = if j == k then true else if j == i then false else comes_first k i js
 
 -- of two leaves, one of whose levels begins with the other's, the later one in reading order has the longer level, and both are read together
-abbrev pub ReadTogether : Type 0
-ReadTogether = (fs : Fields) (F : List (List Step)) (i k : ℕ) (p q : List Step) → list_all (is_leaf_path fs) F ≡ true → all_differ F ≡ true
+abbrev pub LaterReadsBoth : Type 0
+LaterReadsBoth = (fs : Fields) (F : List (List Step)) (i k : ℕ) (p q : List Step) → list_all (is_leaf_path fs) F ≡ true → all_differ F ≡ true
     → slice_get F i ≡ Some p → slice_get F k ≡ Some q → (begins_with (level q) (level p) || begins_with (level p) (level q)) ≡ true
     → comes_first k i (reading_order fs F) ≡ true → (begins_with (level q) (level p) ≡ true) × Together (k ≡ i) (Unit {0}) q p

@@ -1,23 +1,20 @@
 -- Leaves of one chain are read together with the last of them in reading order.
-use Rattle.std.proofs.Common.{◌≡◌, ◌≢◌, ◌⊎◌, inl, inr, ℕ, zero, suc, ◌+◌, ◌<◌, ◌≤◌, List, [], ◌∷◌, ◌++◌, Bool, true, false, ◌&&◌, Option, Some, refl, sym, ap, ap₂, subst, ◌∙◌, append_assoc, append-nil, true≢false, arith}
+use Rattle.std.proofs.Common.{◌≡◌, ◌⊎◌, inl, inr, ℕ, zero, suc, ◌+◌, ◌<◌, ◌≤◌, List, [], ◌∷◌, ◌++◌, Bool, true, false, refl, sym, ap, ap₂, subst, ◌∙◌, append_assoc, append-nil, true≢false, arith}
 use Rattle.std.specs.Prelude.{◌==◌, ◌||◌, if◌then◌else◌}
-use Rattle.std.specs.List.{slice_get, list_all}
 use Rattle.std.proofs.lemmas.Bool.{and_parts, eq-eqb, ne_eqb, eqb-true}
 use Rattle.dr_meaning.specs.Schema.{Repetition, required, optional, repeated, Fields, no_fields, field, Shape, leaf, group, repetition_count}
 use Rattle.dr_meaning.specs.Path.{Step, is_leaf_path, is_shape_path, same_repetition, max_repetition, level, up_to, begins_with}
-use Rattle.dr_meaning.specs.Automaton.{Pick, picks, behind, beside, indexes, unless_repeated, where_repeated, near_order, far_order, shape_near_order, shape_far_order, reading_order}
-use Rattle.dr_meaning.specs.OrderLaws.{times}
+use Rattle.dr_meaning.specs.Automaton.{Pick, picks, behind, beside, indexes, unless_repeated, where_repeated, near_order, far_order, shape_near_order, shape_far_order}
 use Rattle.dr_meaning.proofs.ProjectionLemmas.{step}
 use Rattle.dr_meaning.proofs.Blocks.{same_repetition-true}
-use Rattle.dr_meaning.proofs.OrderLemmas.{times_append}
-use Rattle.dr_meaning.proofs.WalkLemmas.{Without, Only, without_behind, without_beside, only_behind, beside_first, only_beside, behind_later, picks_only}
-use Rattle.dr_course.specs.Selection.{all_differ}
-use Rattle.dr_kept_laws.specs.ReadTogether.{comes_first, ReadTogether}
+use Rattle.dr_meaning.proofs.WalkLemmas.{Without, Only, without_behind, without_beside, only_behind, beside_first, only_beside, behind_later}
+use Rattle.dr_kept_laws.specs.LaterLeaf.{comes_first, LaterReadsBoth}
 use Rattle.dr_course.proofs.Apart.{AtMostOne, Apart, ShapeApart}
+use Rattle.dr_pruning_laws.proofs.Selections.{leaf_selected, selected_only}
 use Rattle.dr_course.proofs.ApartLemmas.{leaves_apart}
 use Rattle.dr_kept_laws.proofs.LevelLemmas.{on_root, on_apart}
 use Rattle.dr_kept_laws.proofs.RowValues.{no_level, level_none, along_level}
-use Rattle.dr_firing.specs.Together.{IsApart, Together, same_leaf, along, apart}
+use Rattle.dr_firing.specs.Together.{Together, same_leaf, along, apart}
 
 -- ---- lists of leaves
 
@@ -317,11 +314,12 @@ module _ (k i : ℕ) where
   through_longer : (m : List ℕ) (r : Repetition) (h : Shape) (fs : Fields) (c e : Repetition) (q p : List Step) → ShapeLonger h q p → FieldsLonger fs c e q p → FieldsLonger (field m r h fs) c e q p
   through_longer m r h fs c e q p f g zero G ok oi uk ui l w =
       let x : (same_repetition c r ≡ true) × (is_shape_path h q ≡ true) = and_parts _ _ uk in
-      let y : (same_repetition e r ≡ true) × (is_shape_path h p ≡ true) = and_parts _ _ ui in
-      (same_repetition-true c r x.0 ∙ sym (same_repetition-true e r y.0),
+      let y : (same_repetition e r ≡ true) × (is_shape_path h p ≡ true) = and_parts _ _ ui in (
+        same_repetition-true c r x.0 ∙ sym (same_repetition-true e r y.0),
         f (behind G) (only_behind k c q G ok) (only_behind i e p G oi) x.1 y.1 l
-        (sym (field_first k i r (shape_near_order h (behind G)) (shape_far_order h (behind G)) (near_order fs (beside G)) (far_order fs (beside G))
-        (near_none k fs (beside G) (beside_first k c q G ok)) (near_none i fs (beside G) (beside_first i e p G oi)) (far_none k fs (beside G) (beside_first k c q G ok)) (far_none i fs (beside G) (beside_first i e p G oi))) ∙ w))
+            (sym (field_first k i r (shape_near_order h (behind G)) (shape_far_order h (behind G)) (near_order fs (beside G)) (far_order fs (beside G))
+            (near_none k fs (beside G) (beside_first k c q G ok)) (near_none i fs (beside G) (beside_first i e p G oi)) (far_none k fs (beside G) (beside_first k c q G ok)) (far_none i fs (beside G) (beside_first i e p G oi))) ∙ w),
+      )
   through_longer m r h fs c e q p f g (suc a) G ok oi uk ui l w =
       let N = shape_near_order h (behind G) in
       let wk : Without k (behind G) = behind_later k a c q G ok in
@@ -360,23 +358,12 @@ module _ (k i : ℕ) where
     shape_longer (group (field m r h fs)) (s ∷ q) [] G ok oi uk ui l w = absurd (true≢false (sym ui))
     shape_longer (group fs) (s ∷ q) (t ∷ p) G ok oi uk ui l w = group_longer fs s t q p (λ a G ok oi uk ui l w. fields_longer fs s.repetition t.repetition q p a G ok oi uk ui l w) G ok oi uk ui l w
 
-leaf_path : (fs : Fields) (F : List (List Step)) (k : ℕ) (q : List Step) → list_all (is_leaf_path fs) F ≡ true → slice_get F k ≡ Some q → is_leaf_path fs q ≡ true
-leaf_path fs [] k q h e = absurd (cc)
-leaf_path fs (p ∷ F) zero q h e = let x : p ≡ q = cc in subst (λ (y : List Step). is_leaf_path fs y ≡ true) x (and_parts (is_leaf_path fs p) (list_all (is_leaf_path fs) F) h).0
-leaf_path fs (p ∷ F) (suc k) q h e = leaf_path fs F k q (and_parts (is_leaf_path fs p) (list_all (is_leaf_path fs) F) h).1 e
-
-no_shift : (k : ℕ) → 0 + k ≡ k
-no_shift k = omega arith
-
-pub read_together : ReadTogether
-read_together fs F i k p q h d ei ek l w = (longer, shape_together k i (group fs) q p (picks F) (leaves_apart fs F h d) (only k q ek) (only i p ei) (leaf_path fs F k q h ek) (leaf_path fs F i p h ei) longer w)
+pub later_reads_both : LaterReadsBoth
+later_reads_both fs F i k p q h d ei ek l w = (longer, shape_together k i (group fs) q p (picks F) (leaves_apart fs F h d) (selected_only F k q ek) (selected_only F i p ei) (leaf_selected fs F k q h ek) (leaf_selected fs F i p h ei) longer w)
   where
-    only : (j : ℕ) (p : List Step) → slice_get F j ≡ Some p → Only j p (picks F)
-    only j p e = subst (λ (x : ℕ). Only x p (picks F)) (no_shift j) (picks_only j 0 p F e)
-
     by_level : (b : Bool) → (b || begins_with (level p) (level q)) ≡ true → begins_with (level q) (level p) ≡ b → begins_with (level q) (level p) ≡ true
     by_level true l e = e
-    by_level false l e = shape_longer k i (group fs) q p (picks F) (only k q ek) (only i p ei) (leaf_path fs F k q h ek) (leaf_path fs F i p h ei) l w
+    by_level false l e = shape_longer k i (group fs) q p (picks F) (selected_only F k q ek) (selected_only F i p ei) (leaf_selected fs F k q h ek) (leaf_selected fs F i p h ei) l w
 
     longer : begins_with (level q) (level p) ≡ true
     longer = by_level (begins_with (level q) (level p)) l refl
