@@ -33,6 +33,7 @@ impl Session {
 
     /// Takes a line of a block.
     pub fn take_line(&mut self, line: &str) -> Result<(), Broken> {
+        let alloc = self.alloc;
         let (head, rest) = line.split_once(' ').unwrap_or((line, ""));
         let text = if self.has_out {
             &mut self.out
@@ -43,12 +44,12 @@ impl Session {
             return Ok(());
         }
         match head {
-            "many" => push_copies(self.alloc, rest, text),
+            "many" => push_copies(alloc, rest, text),
             "call" => {
-                self.words = words_of(self.alloc, rest)?;
+                self.words = words_of(alloc, rest)?;
                 Ok(())
             }
-            "+" => Ok(self.words.push(String::from_str(self.alloc, rest)?)?),
+            "+" => Ok(self.words.push(String::from_str(alloc, rest)?)?),
             "out" => {
                 self.has_out = true;
                 Ok(())
