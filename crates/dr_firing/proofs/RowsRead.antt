@@ -84,7 +84,7 @@ map_append : {X Y : Type 0} (f : X → Y) (xs ys : List X) → map f (xs ++ ys) 
 map_append f [] ys = refl
 map_append f (x ∷ xs) ys = ap (λ z. f x ∷ z) (map_append f xs ys)
 
-map_same : {X Y : Type 0} (f g : X → Y) → ((x : X) → f x ≡ g x) → (xs : List X) → map f xs ≡ map g xs
+pub map_same : {X Y : Type 0} (f g : X → Y) → ((x : X) → f x ≡ g x) → (xs : List X) → map f xs ≡ map g xs
 map_same f g h [] = refl
 map_same f g h (x ∷ xs) = ap₂ (λ y z. y ∷ z) (h x) (map_same f g h xs)
 

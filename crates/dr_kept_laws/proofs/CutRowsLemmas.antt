@@ -13,10 +13,11 @@ use Rattle.dr_meaning.proofs.Blocks.{EachInstance}
 use Rattle.dr_kept_laws.specs.RowsOfKept.{rows_where_any, kept_instance_rows, each_kept_rows, kept_field_rows, kept_rows, rows_left}
 use Rattle.dr_kept_laws.specs.RowsOfKeptLaws.{IsOfChain, KeptOfRows}
 use Rattle.dr_kept_laws.proofs.FewLemmas.{record_few}
-use Rattle.dr_kept_laws.proofs.RowLists.{not_same, map_same, AllOf, all_append, all_mapped, map_where}
+use Rattle.dr_kept_laws.proofs.RowLists.{not_same, AllOf, all_append, all_mapped, map_where}
 use Rattle.dr_kept_laws.proofs.PutLemmas.{put_none, put_either, put_there, put_apart, put_twice, put_swap}
 use Rattle.dr_kept_laws.proofs.LevelLemmas.{none_repeated, on_below, on_apart, on_root}
 use Rattle.dr_kept_laws.proofs.RowsOfKeptLemmas.{FewIn, FewOn, kept_same, none_kept, all_rows}
+use Rattle.dr_firing.proofs.RowsRead.{map_same}
 
 -- ---- a value without repeated fields is the same in each row
 

@@ -7,10 +7,6 @@ use Rattle.std.proofs.lemmas.Bool.{eq-eqb}
 pub not_same : (i j : ℕ) → (i == j) ≡ false → i ≢ j
 not_same i j h e = true≢false (sym (eq-eqb i j e) ∙ h)
 
-pub map_same : {X Y : Type 0} (f g : X → Y) → ((x : X) → f x ≡ g x) → (xs : List X) → map f xs ≡ map g xs
-map_same f g h [] = refl
-map_same f g h (x ∷ xs) = ap₂ (λ y z. y ∷ z) (h x) (map_same f g h xs)
-
 -- the same thing, as often
 pub constant_maps : {X Y : Type 0} (y : Y) (xs zs : List X) → length xs ≡ length zs → map (λ (x : X). y) xs ≡ map (λ (x : X). y) zs
 constant_maps y [] [] h = refl

@@ -11,10 +11,10 @@ use Rattle.dr_meaning.specs.Kept.{kept_along}
 use Rattle.dr_meaning.proofs.Blocks.{EachInstance}
 use Rattle.dr_kept_laws.specs.RowsOfKept.{rows_where_any, kept_instance_rows, each_kept_rows, kept_field_rows, kept_rows, rows_left}
 use Rattle.dr_kept_laws.specs.RowsOfKeptLaws.{RowsOfKept, PresentInKept, EndInKept, TrueRowsAreKept}
-use Rattle.dr_kept_laws.proofs.RowLists.{map_same}
 use Rattle.dr_kept_laws.proofs.PutLemmas.{put_none}
 use Rattle.dr_kept_laws.proofs.RowsOfKeptLemmas.{FewOn, look, none_kept, same_rows}
 use Rattle.dr_kept_laws.proofs.FewLemmas.{record_few, front_few}
+use Rattle.dr_firing.proofs.RowsRead.{map_same}
 
 -- ---- values, and what is there
 

@@ -12,9 +12,10 @@ use Rattle.dr_meaning.specs.Kept.{with_kept, keep_each, if_some_kept, keep_below
 use Rattle.dr_meaning.proofs.Blocks.{EachInstance}
 use Rattle.dr_kept_laws.specs.RowsOfKept.{rows_where_any, kept_instance_rows, each_kept_rows, kept_field_rows, kept_rows}
 use Rattle.dr_kept_laws.proofs.PutLemmas.{put_there, put_apart, put_twice, put_swap}
-use Rattle.dr_kept_laws.proofs.RowLists.{not_same, map_same, constant_maps}
+use Rattle.dr_kept_laws.proofs.RowLists.{not_same, constant_maps}
 use Rattle.dr_kept_laws.proofs.LevelLemmas.{none_repeated, on_root, on_below, on_apart}
 use Rattle.dr_firing.proofs.KeptRows.{kept_any}
+use Rattle.dr_firing.proofs.RowsRead.{map_same}
 
 -- ---- what is kept
 

@@ -7,7 +7,8 @@ use Rattle.std.proofs.Math.Nat.{min-le_left, min-le_right}
 use Rattle.dr_meaning.specs.Walk.{Move, enter, value, leave}
 use Rattle.dr_pruning_laws.specs.Telling.{Verdict, kept, dropped, undecided, Opened, Watching, nothing_read, chain_in, rows_at, with_rows, without_first, watch_move, watch_moves, is_nothing, verdict, verdict_on, last_verdict, last_verdict_on, verdicts_at_leave, verdicts_at}
 use Rattle.dr_pruning_laws.specs.Counting.{Numbers, no_numbers, whole_chain, is_first, count_entered, count_row, count_left, count_move, verdict_at, verdict_left, verdicts_of, left_among, numbers_tell, context_behind, count_all, counted_tell, NumbersTell}
-use Rattle.dr_pruning_laws.proofs.TellingLemmas.{any_append, no_more_rows}
+use Rattle.dr_pruning_laws.proofs.TellingLemmas.{no_more_rows}
+use Rattle.dr_firing.proofs.KeptRows.{any_append}
 use Rattle.dr_firing.specs.Context.{Context, with_value}
 use Rattle.dr_firing.specs.Condition.{Watch, rest_below}
 
@@ -116,14 +117,14 @@ entered_stands w n k (suc s) (b ∷ bs) o d h f = subst (λ (c : Bool). Stands w
 -- ---- a row
 
 any_more : (rows : List Bool) → any_true (rows ++ false ∷ []) ≡ any_true rows
-any_more rows = any_append rows (false ∷ []) ∙ or_false (any_true rows)
+any_more rows = any_append (λ b. b) rows (false ∷ []) ∙ or_false (any_true rows)
   where
     or_false : (b : Bool) → (b || false) ≡ b
     or_false true = refl
     or_false false = refl
 
 any_hit : (rows : List Bool) → any_true (rows ++ true ∷ []) ≡ true
-any_hit rows = any_append rows (true ∷ []) ∙ or_true (any_true rows)
+any_hit rows = any_append (λ b. b) rows (true ∷ []) ∙ or_true (any_true rows)
   where
     or_true : (b : Bool) → (b || true) ≡ true
     or_true true = refl

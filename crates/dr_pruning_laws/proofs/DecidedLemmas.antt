@@ -12,7 +12,8 @@ use Rattle.dr_pruning_laws.specs.TellingLaws.{open_count, DecidedStays}
 use Rattle.dr_pruning_laws.proofs.TourParts.{IsEnd, same_front}
 use Rattle.dr_pruning_laws.proofs.AtMostOnce.{IsOnce}
 use Rattle.dr_pruning_laws.proofs.LeavingsKept.{walk_once}
-use Rattle.dr_pruning_laws.proofs.TellingLemmas.{tour_rows, any_append, watch_append, watches_behind, same_chain}
+use Rattle.dr_pruning_laws.proofs.TellingLemmas.{tour_rows, watch_append, watches_behind, same_chain}
+use Rattle.dr_firing.proofs.KeptRows.{any_append}
 use Rattle.dr_pruning_laws.proofs.StayLemmas.{told_inside}
 use Rattle.dr_firing.specs.Context.{Context, with_value}
 use Rattle.dr_firing.specs.Tour.{Tour, over, saw, inside, moves_of, after}
@@ -107,7 +108,7 @@ verdict_stays (Some r) rows more v o e f = by_true (list_any (λ b. b) rows) ref
     by_end (j ∷ r) rows o g h = absurd (f (sym h))
 
     by_true : (b : Bool) → list_any (λ b. b) rows ≡ b → (if b then kept else if is_nothing r && not (is_nothing rows) then dropped else undecided) ≡ v → last_verdict_on (Some r) (rows ++ more) ≡ v
-    by_true true g h = ap (λ (b : Bool). if b then kept else dropped) (any_append rows more ∙ ap (λ (b : Bool). b || list_any (λ b. b) more) g) ∙ h
+    by_true true g h = ap (λ (b : Bool). if b then kept else dropped) (any_append (λ b. b) rows more ∙ ap (λ (b : Bool). b || list_any (λ b. b) more) g) ∙ h
     by_true false g h = by_end r rows o g h
 
 -- ---- the place of a branch in what is told

@@ -11,6 +11,7 @@ use Rattle.dr_pruning_laws.specs.Parts.{Part, part_at, all_answers, all_tests, a
 use Rattle.dr_pruning_laws.proofs.FreshLemmas.{fresh_by, Fresh}
 use Rattle.dr_pruning_laws.proofs.FreshWalk.{walk_fresh}
 use Rattle.dr_pruning_laws.proofs.Selections.{leaf_selected}
+use Rattle.dr_firing.proofs.RowsRead.{map_same}
 use Rattle.dr_firing.specs.Context.{Context, with_value, contexts}
 use Rattle.dr_firing.specs.Firing.{AllTogether}
 use Rattle.dr_firing.specs.Together.{Together}
@@ -110,10 +111,6 @@ right_entered i k ms c (a ∷ ps) h = (h.0, right_entered i k ms c ps h.1)
 pub right_left : (i k : ℕ) (ms : List Move) (c : Context) (ps : List Part) → AllRight i c (leave k ∷ ms) ps → AllRight i c ms ps
 right_left i k ms c [] h = tt
 right_left i k ms c (a ∷ ps) h = (h.0, right_left i k ms c ps h.1)
-
-map_same : {X Y : Type 0} (f g : X → Y) → ((x : X) → f x ≡ g x) → (xs : List X) → map f xs ≡ map g xs
-map_same f g h [] = refl
-map_same f g h (x ∷ xs) = ap₂ (λ y z. y ∷ z) (h x) (map_same f g h xs)
 
 all_right : (i : ℕ) (ms : List Move) (c : Context) (ps : List Part) → AllRight i c ms ps → answers_at i c ps ms ≡ map (all_tests ps) (contexts i c ms)
 all_right i [] c ps h = refl

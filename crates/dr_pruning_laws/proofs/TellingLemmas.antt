@@ -11,6 +11,7 @@ use Rattle.dr_firing.specs.Context.{Context, with_value}
 use Rattle.dr_firing.specs.Tour.{Tour, over, saw, inside, moves_of, after}
 use Rattle.dr_firing.specs.Condition.{Watch, some_true, rest_below, is_dropped}
 use Rattle.dr_firing.proofs.TourLemmas.{walk_tour}
+use Rattle.dr_firing.proofs.KeptRows.{any_append}
 
 -- the condition in the rows of a tour, in order
 abbrev pub tour_rows : Watch → Context → Tour → List Bool
@@ -18,15 +19,10 @@ tour_rows w c over = []
 tour_rows w c (saw i t T) = rows_at w i (with_value i t.value c) ++ tour_rows w (with_value i t.value c) T
 tour_rows w c (inside k B T) = tour_rows w c B ++ tour_rows w (after c B) T
 
-pub any_append : (xs ys : List Bool) → list_any (λ b. b) (xs ++ ys) ≡ (list_any (λ b. b) xs || list_any (λ b. b) ys)
-any_append [] ys = refl
-any_append (true ∷ xs) ys = refl
-any_append (false ∷ xs) ys = any_append xs ys
-
 -- a row is true exactly where some row is
 pub any_row : (w : Watch) (T : Tour) (c : Context) → list_any (λ b. b) (tour_rows w c T) ≡ some_true w c T
 any_row w over c = refl
-any_row w (saw i t T) c = any_append (rows_at w i (with_value i t.value c)) (tour_rows w (with_value i t.value c) T) ∙ ap₂ (λ (x y : Bool). x || y) (by_leaf (i == w.last)) (any_row w T (with_value i t.value c))
+any_row w (saw i t T) c = any_append (λ b. b) (rows_at w i (with_value i t.value c)) (tour_rows w (with_value i t.value c) T) ∙ ap₂ (λ (x y : Bool). x || y) (by_leaf (i == w.last)) (any_row w T (with_value i t.value c))
   where
     or_false : (b : Bool) → (b || false) ≡ b
     or_false true = refl
@@ -35,7 +31,7 @@ any_row w (saw i t T) c = any_append (rows_at w i (with_value i t.value c)) (tou
     by_leaf : (h : Bool) → list_any (λ b. b) (if h then w.test (with_value i t.value c) ∷ [] else []) ≡ (h && w.test (with_value i t.value c))
     by_leaf true = or_false (w.test (with_value i t.value c))
     by_leaf false = refl
-any_row w (inside k B T) c = any_append (tour_rows w c B) (tour_rows w (after c B) T) ∙ ap₂ (λ (x y : Bool). x || y) (any_row w B c) (any_row w T (after c B))
+any_row w (inside k B T) c = any_append (λ b. b) (tour_rows w c B) (tour_rows w (after c B) T) ∙ ap₂ (λ (x y : Bool). x || y) (any_row w B c) (any_row w T (after c B))
 
 pub more_rows : (xs ys : List Bool) (bs : List Opened) → map (with_rows ys) (map (with_rows xs) bs) ≡ map (with_rows (xs ++ ys)) bs
 more_rows xs ys [] = refl
