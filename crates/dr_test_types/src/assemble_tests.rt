@@ -191,12 +191,12 @@ fn assembled(alloc: Global, schema: &[u8], text: &str, rows: u64) -> Result<Opti
     }
 }
 
-/// What is told of columns of so many rows, row by row; `bad data` where no records have them: of no leaf, and of one leaf twice.
+/// What is told of columns of so many rows, row by row; `bad data` where no records have them: of one leaf twice, and of no leaf.
 const DOCUMENTS: &str = "\
+DocId 0,0=1|DocId 0,0=2 => 1 => bad data
  => 2 => (___)(___)
  => 0 => 
  => 3 => (___)(___)(___)
-DocId 0,0=1|DocId 0,0=2 => 1 => bad data
 ";
 
 /// The same of smaller columns: values of another kind, out of range, missing, or where none may be; levels above what a place allows.

@@ -1,4 +1,4 @@
-use dr_chains::{BoundPath, first_unrelated, level, longest_level};
+use dr_chains::{BoundPath, first_unrelated};
 use dr_nested::{Rep, Schema, Step, find, parse_schema};
 use dr_objects::same_path;
 use std::alloc::Global;
@@ -17,22 +17,6 @@ static LANGUAGE: [Step; 2] = [
     },
 ];
 
-static URL: [Step; 2] = [
-    Step {
-        place: 2,
-        rep: Rep::Repeated,
-    },
-    Step {
-        place: 1,
-        rep: Rep::Optional,
-    },
-];
-
-static ID: [Step; 1] = [Step {
-    place: 0,
-    rep: Rep::Required,
-}];
-
 /// The paths to leaves, each with its number as its place.
 fn bound_paths(alloc: Global, schema: &Schema, names: &[&str]) -> Option<Vec<BoundPath>> {
     let mut paths = Vec::new(alloc);
@@ -43,15 +27,7 @@ fn bound_paths(alloc: Global, schema: &Schema, names: &[&str]) -> Option<Vec<Bou
     Some(paths)
 }
 
-/// Paths are lists of steps, which no command shows.
-#[test]
-fn levels_end_with_repeated_fields(rt: HostRuntime) {
-    assert!(rt; level(&ID).is_empty());
-    assert!(rt; same_path(level(&LANGUAGE), &LANGUAGE));
-    assert_eq!(rt; level(&URL).len(), 1);
-}
-
-/// The same of the longest level; that unrelated paths are refused is in the cases.
+/// No command shows which path is the first that is unrelated to earlier ones of which the longest is told.
 #[test]
 fn paths_off_the_longest_chain_are_unrelated(rt: HostRuntime) {
     let alloc = rt.alloc();
@@ -62,7 +38,6 @@ fn paths_off_the_longest_chain_are_unrelated(rt: HostRuntime) {
     let Some(paths) = bound_paths(alloc, &schema, &texts) else {
         return assert!(rt; false);
     };
-    assert!(rt; same_path(longest_level(&paths), &LANGUAGE));
     let Ok(longest) = first_unrelated(&[], &paths) else {
         return assert!(rt; false);
     };

@@ -29,10 +29,6 @@ mod hybrid_tests;
 #[cfg(test)]
 mod json_tests;
 #[cfg(test)]
-mod leaves_tests;
-#[cfg(test)]
-mod levels_tests;
-#[cfg(test)]
 mod lines_tests;
 #[cfg(test)]
 mod loaded;
@@ -41,13 +37,7 @@ mod memory_tests;
 #[cfg(test)]
 mod meta_tests;
 #[cfg(test)]
-mod nested_tests;
-#[cfg(test)]
-mod objects_tests;
-#[cfg(test)]
 mod open_tests;
-#[cfg(test)]
-mod order_tests;
 #[cfg(test)]
 mod outside_tests;
 #[cfg(test)]
@@ -70,7 +60,5 @@ mod rows_tests;
 mod striper_tests;
 #[cfg(test)]
 mod table_tests;
-#[cfg(test)]
-mod used_tests;
 #[cfg(test)]
 mod words_tests;

@@ -1,0 +1,3 @@
+pub mod LeafPaths
+pub mod RecordFits
+pub mod ResultObjects
