@@ -1,6 +1,7 @@
 -- Operators over operands that have been bound.
 use Rattle.std.proofs.Common.{◌≡◌, ℕ, List, ◌∷◌, ◌++◌, map, false, ◌&&◌, Option, Some, None, refl, sym, ap, ap₂, ◌∙◌}
 use Rattle.std.specs.Prelude.{option_map, IfSome, Vec}
+use Rattle.std.specs.Option.{option_zip}
 use Rattle.std.specs.declared.alloc.Global.{Global}
 use Rattle.std.proofs.lemmas.List.{map-append}
 use Rattle.dr_meaning.specs.Schema.{Fields}
@@ -108,7 +109,7 @@ binary_is_no_path Binary.And a b = refl
 binary_is_no_path Binary.Or a b = refl
 
 -- one of the operands couldn't be bound
-pub no_left : (fs : Fields) (ls : List Leaf) (i : ℕ) (type : ValueType → ValueType → Option ValueType) (make : Expression → Expression → Expression) (c d : Checked meant.BoundExpression)
+no_left : (fs : Fields) (ls : List Leaf) (i : ℕ) (type : ValueType → ValueType → Option ValueType) (make : Expression → Expression → Expression) (c d : Checked meant.BoundExpression)
     (before between now : Option BindFault) (right : Option BoundExpression) → Came (IsExpression fs ls) before between c None → Came (IsExpression fs ls) between now d right
     → Came (IsExpression fs ls) before now (two_operands i type make c d) None
 no_left fs ls i type make (passes a) d before between now right h k = absurd h
@@ -117,12 +118,31 @@ no_left fs ls i type make (fails e es) (passes b) before between now (Some y) h 
 no_left fs ls i type make (fails e es) (fails g gs) before between now None h k = noted_behind before between now (e ∷ es) (g ∷ gs) h k
 no_left fs ls i type make (fails e es) (fails g gs) before between now (Some y) h k = absurd k
 
-pub no_right : (fs : Fields) (ls : List Leaf) (i : ℕ) (type : ValueType → ValueType → Option ValueType) (make : Expression → Expression → Expression) (c d : Checked meant.BoundExpression)
+no_right : (fs : Fields) (ls : List Leaf) (i : ℕ) (type : ValueType → ValueType → Option ValueType) (make : Expression → Expression → Expression) (c d : Checked meant.BoundExpression)
     (before between now : Option BindFault) (x : BoundExpression) → Came (IsExpression fs ls) before between c (Some x) → Came (IsExpression fs ls) between now d None
     → Came (IsExpression fs ls) before now (two_operands i type make c d) None
 no_right fs ls i type make (fails e es) d before between now x h k = absurd h
 no_right fs ls i type make (passes a) (passes b) before between now x h k = absurd k
 no_right fs ls i type make (passes a) (fails g gs) before between now x h k = k ∙ ap (λ y. earlier y (first_fault (g ∷ gs))) h.0
+
+-- not both of the operands could be bound
+pub no_pair : (fs : Fields) (ls : List Leaf) (i : ℕ) (type : ValueType → ValueType → Option ValueType) (make : Expression → Expression → Expression) (c d : Checked meant.BoundExpression)
+    (before between now : Option BindFault) (left right : Option BoundExpression) → option_zip left right ≡ None → Came (IsExpression fs ls) before between c left
+    → Came (IsExpression fs ls) between now d right → Came (IsExpression fs ls) before now (two_operands i type make c d) None
+no_pair fs ls i type make c d before between now None right z h k = no_left fs ls i type make c d before between now right h k
+no_pair fs ls i type make c d before between now (Some x) None z h k = no_right fs ls i type make c d before between now x h k
+no_pair fs ls i type make c d before between now (Some x) (Some y) z h k = absurd (cc)
+
+-- of a pair of operands, each could be bound
+pub left_of_pair : (left right : Option BoundExpression) (x y : BoundExpression) → option_zip left right ≡ Some (x, y) → left ≡ Some x
+left_of_pair None right x y z = absurd (cc)
+left_of_pair (Some a) None x y z = absurd (cc)
+left_of_pair (Some a) (Some b) x y z = ap (option_map (λ (p : BoundExpression × BoundExpression). p.0)) z
+
+pub right_of_pair : (left right : Option BoundExpression) (x y : BoundExpression) → option_zip left right ≡ Some (x, y) → right ≡ Some y
+right_of_pair None right x y z = absurd (cc)
+right_of_pair (Some a) None x y z = absurd (cc)
+right_of_pair (Some a) (Some b) x y z = ap (option_map (λ (p : BoundExpression × BoundExpression). p.1)) z
 
 abbrev ViewJoins : (Expression → Expression → Expression) → Expr → Expr → Option Expr → Type 0
 ViewJoins make a b made = IfSome made (λ e. (ls : List Leaf) → expr_view ls e ≡ make (expr_view ls a) (expr_view ls b))

@@ -102,17 +102,12 @@ fn binary(
         → Came (IsExpression fs ls) before between c left → Came (IsExpression fs ls) between (first_view first.old) d right
         → Came (IsExpression fs ls) before (first_view first.new) (meant.two_operands place (binary_type operator) (binary_of operator) c d) o) }
 {
-    match left {
-        None => Ok(None),
-        Some(left) => match right {
-            None => Ok(None),
-            Some(right) => {
-                let made = operator.apply(alloc, left.expression, right.expression)?;
-                let paths = joined_paths(left.paths, right.paths)?;
-                Ok(made_at(place, made, paths, first))
-            }
-        },
-    }
+    let Some((left, right)) = left.zip(right) else {
+        return Ok(None);
+    };
+    let made = operator.apply(alloc, left.expression, right.expression)?;
+    let paths = joined_paths(left.paths, right.paths)?;
+    Ok(made_at(place, made, paths, first))
 }
 
 impl Binder<'_> {
