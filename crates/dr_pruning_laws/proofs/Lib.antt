@@ -1,5 +1,6 @@
 -- worked examples, by computation
 pub mod WorkedTelling
+pub mod WorkedFlags
 -- lemmas of the laws
 pub mod Selections
 pub mod TourParts
