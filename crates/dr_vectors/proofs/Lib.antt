@@ -1,3 +1,4 @@
 pub mod LeafPaths
 pub mod RecordFits
 pub mod ResultObjects
+pub mod QueryTrees
