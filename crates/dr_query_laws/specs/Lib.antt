@@ -1,4 +1,5 @@
 pub mod FaultLaws
+pub mod FindLaws
 pub mod LeavesLaws
 pub mod LimitLaws
 pub mod NestingLaws
