@@ -10,7 +10,7 @@ use Rattle.dr_outside.specs.Link.{Files, LinkShown, Holds}
 use Rattle.dr_reading.specs.Scan.{Copy, tablets_from}
 use Rattle.dr_reading.specs.Left.{Tried, LeftTablet, AreTried, LeavesJust, no_tablets, is_given, is_left}
 use Rattle.dr_reading.proofs.ReadingLemmas.{left_holds_no_file}
-use Rattle.dr_loaded.specs.Loaded.{TabletsAreFiles}
+use Rattle.dr_load.specs.Loaded.{TabletsAreFiles}
 
 -- each tablet has a copy
 abbrev HaveCopies : List (List Copy) → Type 0

@@ -8,7 +8,7 @@ use Rattle.dr_meaning.specs.Binding as binding
 use Rattle.dr_nested.specs.PathView.{step_view}
 use Rattle.dr_plan.specs.Views.{truth_view, fold_view}
 use Rattle.dr_plan.specs.Fitting.{truth_fits}
-use Rattle.dr_chains.specs.Views.{bound_path_view, paths_at}
+use Rattle.dr_paths.specs.Views.{bound_path_view, paths_at}
 use Rattle.dr_bound_parts.specs.Bound.{AreReal, Covers, IsExpression}
 use Rattle.dr_bound_parts.specs.declared.parts.BoundCondition.{BoundCondition}
 use Rattle.dr_bound_parts.specs.declared.parts.BoundWithin.{BoundWithin}

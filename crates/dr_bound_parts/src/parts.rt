@@ -1,7 +1,7 @@
 //! Parts of a query whose names have become leaves of a schema.
 
-use dr_chains::BoundPath;
 use dr_nested::Step;
+use dr_paths::BoundPath;
 use dr_plan::{Expr, Fold, Truth};
 
 /// An expression, with its paths in the order of the text, and whether it is a path alone.

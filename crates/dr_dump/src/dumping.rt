@@ -5,7 +5,7 @@ ghost use Rattle.dr_nested.specs.Views.{fields_view};
 ghost use Rattle.dr_nested.specs.PathView.{path_view};
 ghost use Rattle.dr_table.specs.Views.{table_view};
 ghost use Rattle.dr_assemble.specs.Views.{nodes_view};
-ghost use Rattle.dr_records.specs.FileRecords.{AreLeavesOf};
+ghost use Rattle.dr_tablets.specs.FileRecords.{AreLeavesOf};
 ghost use Rattle.dr_tablets.specs.Views.{all_left_view};
 ghost use Rattle.dr_tablets.specs.Tablets.{LeavesTablets, TakesTablet, with_tablet};
 ghost use Rattle.dr_dump.specs.Dumps.{lines_text, HasLines, AreLinesOf};

@@ -11,3 +11,13 @@ pub mod FillLemmas
 pub mod TabletLemmas
 -- tablets that are loaded one after another
 pub mod LoadLemmas
+-- directories and copies that are refused
+pub mod WordLemmas
+-- a worked example, by computation
+pub mod WorkedLoad
+-- the records of each tablet
+pub mod LoadedTablets
+-- what files hold behind puts
+pub mod LoadedPuts
+-- the laws
+pub mod LoadedLemmas

@@ -12,3 +12,9 @@ pub mod Reading
 pub mod Filled
 -- what a load puts, counts and leaves
 pub mod Loads
+-- what the problems of words stand for
+pub mod Words
+-- what may be loaded, and which files copies hold
+pub mod Loaded
+-- laws, each proved on a law function of src/
+pub mod LoadedLaws

@@ -15,9 +15,9 @@ use crate::filling::fill_tablet;
 use crate::loaded::Loaded;
 use crate::plan::Plan;
 use crate::putting::{put_last, put_tablet};
-use dr_leaves::leaf_paths;
 use dr_lines::Lines;
 use dr_outside::{Keeper, Source};
+use dr_paths::leaf_paths;
 use dr_table::{MOST_TABLETS, table_text_of};
 use std::alloc::Global;
 

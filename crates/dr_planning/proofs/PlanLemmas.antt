@@ -25,10 +25,10 @@ use Rattle.dr_plan.specs.Planned.{Planned, planned, objects_of_plan, objects_of_
 use Rattle.dr_plan.specs.declared.expression.Expr.{Expr}
 use Rattle.dr_plan.specs.declared.aggregate.Fold.{Fold}
 use Rattle.dr_plan.specs.declared.plan.Selection.{Selection}
-use Rattle.dr_objects.specs.NamedLevels.{NamedLevels, joined}
-use Rattle.dr_chains.specs.declared.bound.BoundPath.{BoundPath}
-use Rattle.dr_chains.specs.Views.{bound_path_view, paths_at}
-use Rattle.dr_used.proofs.UsedLemmas.{number_of_used}
+use Rattle.dr_planning.specs.NamedLevels.{NamedLevels, joined}
+use Rattle.dr_paths.specs.declared.bound.BoundPath.{BoundPath}
+use Rattle.dr_paths.specs.Views.{bound_path_view, paths_at}
+use Rattle.dr_paths.proofs.UsedLemmas.{number_of_used}
 use Rattle.dr_bound_parts.specs.declared.parts.BoundExpression.{BoundExpression}
 use Rattle.dr_bound_parts.specs.declared.parts.BoundCondition.{BoundCondition}
 use Rattle.dr_bound_parts.specs.declared.parts.BoundTerm.{BoundTerm}

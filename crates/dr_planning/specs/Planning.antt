@@ -20,9 +20,9 @@ use Rattle.dr_plan.specs.declared.plan.RecordItem.{RecordItem}
 use Rattle.dr_plan.specs.declared.plan.GroupTerm.{GroupTerm}
 use Rattle.dr_plan.specs.declared.plan.GroupItem.{GroupItem}
 use Rattle.dr_plan.specs.declared.plan.Selection.{Selection}
-use Rattle.dr_objects.specs.NamedLevels.{NamedLevels, joined}
-use Rattle.dr_chains.specs.declared.bound.BoundPath.{BoundPath}
-use Rattle.dr_chains.specs.Views.{bound_path_view, paths_at}
+use Rattle.dr_planning.specs.NamedLevels.{NamedLevels, joined}
+use Rattle.dr_paths.specs.declared.bound.BoundPath.{BoundPath}
+use Rattle.dr_paths.specs.Views.{bound_path_view, paths_at}
 use Rattle.dr_bound_parts.specs.declared.parts.BoundExpression.{BoundExpression}
 use Rattle.dr_bound_parts.specs.declared.parts.BoundCondition.{BoundCondition}
 use Rattle.dr_bound_parts.specs.declared.parts.BoundTerm.{BoundTerm}

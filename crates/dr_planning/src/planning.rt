@@ -11,17 +11,17 @@ ghost use Rattle.dr_nested.specs.PathView.{path_view};
 ghost use Rattle.dr_plan.specs.Views.{truth_view};
 ghost use Rattle.dr_plan.specs.Fitting.{truth_fits};
 ghost use Rattle.dr_plan.specs.Planned.{plan_view, planned};
-ghost use Rattle.dr_objects.specs.NamedLevels.{joined, levels_view};
+ghost use Rattle.dr_planning.specs.NamedLevels.{joined, levels_view};
 ghost use Rattle.dr_bound_parts.specs.Parts.{AreParts};
 ghost use Rattle.dr_planning.specs.Planning as plan;
 
 use crate::groups::selected_groups;
+use crate::level::Level;
 use crate::records::selected_objects;
 use dr_bound_parts::{BoundCondition, BoundItem, BoundParts};
-use dr_chains::BoundPath;
 use dr_memory::NoMemory;
 use dr_nested::Path;
-use dr_objects::Level;
+use dr_paths::BoundPath;
 use dr_plan::{Plan, Selection, Truth, conjuncts};
 use std::alloc::Global;
 

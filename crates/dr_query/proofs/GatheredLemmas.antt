@@ -28,7 +28,7 @@ use Rattle.dr_group.specs.declared.partial.Partial.{Partial}
 use Rattle.dr_serving.specs.Truth.{most_values}
 use Rattle.dr_reading.specs.Scan.{Copy, joined, tablets_from, tablets_of}
 use Rattle.dr_reading.specs.Given.{AreGiven}
-use Rattle.dr_scan.specs.Plans.{IsPlanOf}
+use Rattle.dr_plan.specs.PlanOf.{IsPlanOf}
 use Rattle.dr_meaning.specs.QueryLeaves.{query_leaves}
 use Rattle.std.specs.declared.alloc.Global.{Global}
 use Rattle.dr_scan.specs.Tables.{AllStand, StandForTablets, OfEach, WhereGiven}

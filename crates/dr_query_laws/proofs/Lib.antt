@@ -1,7 +1,6 @@
 pub mod Outcomes
 pub mod ExpressionsGoOn
 pub mod QueriesGoOn
-pub mod LeavesOnce
 pub mod OperatorsCounted
 pub mod OperatorsOfQueries
 pub mod ElementsCounted
@@ -14,3 +13,15 @@ pub mod StackRead
 pub mod StackOfQueries
 pub mod WorkedLimits
 pub mod WorkedNestings
+-- texts one behind another, and their tokens
+pub mod Lexing
+pub mod WrittenNames
+pub mod Writable
+pub mod WrittenExpressions
+pub mod WrittenItems
+pub mod BoundItems
+pub mod WrittenQueries
+pub mod Relations
+pub mod WholeBinding
+-- worked examples, by computation
+pub mod WorkedReadBack

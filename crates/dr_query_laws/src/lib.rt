@@ -1,7 +1,7 @@
-//! Laws of the query language that no other crate rests on. Each function has an empty body, and its contract is a law.
+//! Laws of the query language and of its rewriting that no other crate rests on. Each function has an empty body, and its contract is a law.
 #![tactic(auto)]
 
 pub mod fault_laws;
-pub mod leaf_laws;
 pub mod limit_laws;
 pub mod nesting_laws;
+pub mod read_back_laws;

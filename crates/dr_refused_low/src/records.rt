@@ -10,14 +10,13 @@ ghost use Rattle.dr_outside.specs.Link.{Lacks};
 ghost use Rattle.dr_chunk.specs.Telling.{Tells, Serves, AsksOnly};
 ghost use Rattle.dr_file.specs.Asking.{is_request_for};
 ghost use Rattle.dr_file.specs.OpenedFiles.{HasCounts, is_read_fault};
-ghost use Rattle.dr_steps.specs.Counting.{counted};
-ghost use Rattle.dr_records.specs.FileRecords.{AreLeavesOf, AreOfFile, IsFaultOf, AreProjected, AreFew, triplets_at};
+ghost use Rattle.dr_tablets.specs.Counting.{counted};
+ghost use Rattle.dr_tablets.specs.FileRecords.{AreLeavesOf, AreOfFile, IsFaultOf, AreProjected, AreFew, triplets_at};
 
 use dr_file::FileFault;
 use dr_nested::{Node, Path, Schema};
 use dr_outside::Link;
-use dr_records::read_records;
-use dr_steps::Steps;
+use dr_tablets::{Steps, read_records};
 use std::alloc::Global;
 
 /// As `read_records`.

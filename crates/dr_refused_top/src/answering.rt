@@ -6,7 +6,7 @@ ghost use Rattle.dr_nested.specs.SchemaView.{schema_view};
 ghost use Rattle.dr_plan.specs.Planned.{IsOfSchema};
 ghost use Rattle.dr_table.specs.Views.{table_view};
 ghost use Rattle.dr_tablets.specs.Tablets.{LeavesTablets};
-ghost use Rattle.dr_scan.specs.Plans.{ForQuery};
+ghost use Rattle.dr_plan.specs.PlanOf.{ForQuery};
 ghost use Rattle.dr_query.specs.Answers.{IsAnswerOf, WhereLeft, WhereText};
 
 use dr_memory::NoMemory;

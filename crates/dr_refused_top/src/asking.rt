@@ -7,7 +7,7 @@ ghost use Rattle.dr_meaning.specs.Query.{Query};
 ghost use Rattle.dr_nested.specs.SchemaView.{schema_view};
 ghost use Rattle.dr_outside.specs.Faults.{raised};
 ghost use Rattle.dr_plan.specs.Planned.{IsOfSchema};
-ghost use Rattle.dr_scan.specs.Plans.{IsPlanOf};
+ghost use Rattle.dr_plan.specs.PlanOf.{IsPlanOf};
 ghost use Rattle.dr_load.specs.Faults.{refusal_of};
 ghost use Rattle.dr_load.specs.Records.{WhereTold};
 ghost use Rattle.dr_ask.specs.Asked.{IsAnswerTo};

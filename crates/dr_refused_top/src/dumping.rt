@@ -4,7 +4,7 @@ ghost use Rattle.std.specs.Prelude.{◌≡◌, ◌≤◌, map, IfOk, IsTrue};
 ghost use Rattle.dr_nested.specs.Views.{fields_view};
 ghost use Rattle.dr_nested.specs.PathView.{path_view};
 ghost use Rattle.dr_table.specs.Views.{table_view};
-ghost use Rattle.dr_records.specs.FileRecords.{AreLeavesOf};
+ghost use Rattle.dr_tablets.specs.FileRecords.{AreLeavesOf};
 ghost use Rattle.dr_tablets.specs.Tablets.{LeavesTablets};
 ghost use Rattle.dr_dump.specs.Dumps.{AreLinesOf};
 ghost use Rattle.dr_dump.specs.Answers.{WhereLines, WhereLeft};

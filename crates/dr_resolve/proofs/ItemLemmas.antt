@@ -13,8 +13,8 @@ use Rattle.dr_meaning.specs.Binding.{first_fault, faults_in, passing, bind_item,
 use Rattle.dr_sql.specs.Views as syntax
 use Rattle.dr_sql.specs.declared.query.Item.{Item}
 use Rattle.dr_sql.specs.declared.expression.Path.{Path}
-use Rattle.dr_chains.specs.declared.bound.BoundPath.{BoundPath}
-use Rattle.dr_chains.specs.Views.{bound_path_view}
+use Rattle.dr_paths.specs.declared.bound.BoundPath.{BoundPath}
+use Rattle.dr_paths.specs.Views.{bound_path_view}
 use Rattle.dr_bound_parts.specs.Faults.{earlier}
 use Rattle.dr_resolve.specs.Resolved.{lent}
 use Rattle.dr_resolve.specs.Outcomes.{Came, IsPath}

@@ -9,8 +9,8 @@ use Rattle.dr_meaning.specs.Binding.{first_fault}
 use Rattle.dr_nested.specs.PathView.{path_view}
 use Rattle.dr_nested.specs.Views.{fields_view}
 use Rattle.dr_plan.specs.declared.expression.Expr.{Expr}
-use Rattle.dr_chains.specs.declared.bound.BoundPath.{BoundPath}
-use Rattle.dr_chains.specs.Views.{bound_path_view}
+use Rattle.dr_paths.specs.declared.bound.BoundPath.{BoundPath}
+use Rattle.dr_paths.specs.Views.{bound_path_view}
 use Rattle.dr_sql.specs.Views.{expression_view}
 use Rattle.dr_sql.specs.declared.expression.Expression.{Expression}
 use Rattle.dr_bound_parts.specs.Faults.{earlier}

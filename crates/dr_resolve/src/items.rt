@@ -8,14 +8,14 @@ ghost use Rattle.dr_sql.specs.Views as syntax;
 ghost use Rattle.dr_bound_parts.specs.Faults.{earlier, first_view};
 ghost use Rattle.dr_resolve.specs.Resolved.{lent};
 ghost use Rattle.dr_resolve.specs.Outcomes.{Came, fields_in, leaves_in};
-ghost use Rattle.dr_chains.specs.Views.{bound_path_view};
+ghost use Rattle.dr_paths.specs.Views.{bound_path_view};
 ghost use Rattle.dr_bound_parts.specs.Items.{AreItems, IsItem};
 ghost use Rattle.dr_resolve.specs.Outcomes.{present};
 
 use crate::names::Binder;
 use dr_bound_parts::{BoundItem, FirstFault};
-use dr_chains::BoundPath;
 use dr_memory::NoMemory;
+use dr_paths::BoundPath;
 use dr_sql::{Expression, Item, Path, Term};
 use std::alloc::Global;
 

@@ -18,9 +18,8 @@ use crate::resolving::{End, Found, resolve};
 use dr_bound_parts::{
     BindProblem, BoundCondition, BoundExpression, BoundTerm, BoundWithin, FirstFault,
 };
-use dr_chains::level;
 use dr_memory::NoMemory;
-use dr_objects::same_path;
+use dr_paths::{level, same_path};
 use dr_plan::{Expr, Fold};
 use dr_sql::{Aggregate, Condition, Expression, Node, Term, Within};
 

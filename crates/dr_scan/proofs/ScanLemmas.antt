@@ -32,11 +32,11 @@ use Rattle.dr_plan.specs.declared.plan.Plan.{Plan}
 use Rattle.dr_rows.specs.Views.{paths_view}
 use Rattle.dr_mean.specs.Answers.{Answers}
 use Rattle.dr_mean.proofs.GroupLawLemmas.{partials_rejoined}
-use Rattle.dr_records.specs.FileRecords.{AreLeavesOf, AreProjected, AreOfFile, AreFew, are_short, paths_of_leaves}
-use Rattle.dr_records.proofs.LeafLemmas.{used_are_leaves}
+use Rattle.dr_tablets.specs.FileRecords.{AreLeavesOf, AreProjected, AreOfFile, AreFew, are_short, paths_of_leaves}
+use Rattle.dr_tablets.proofs.LeafLemmas.{used_are_leaves}
 use Rattle.dr_serving.specs.Held.{held_at, held_file, present}
 use Rattle.dr_serving.specs.Truth.{StandsForFile, IsTrueOf, most_values}
-use Rattle.dr_scan.specs.Plans.{IsPlanOf}
+use Rattle.dr_plan.specs.PlanOf.{IsPlanOf}
 use Rattle.dr_scan.specs.Scans.{StandsForBytes, StandsForRecords, truth_at}
 use Rattle.dr_scan.proofs.ProjectionLemmas.{projections_twice}
 

@@ -9,15 +9,15 @@ ghost use Rattle.dr_file.specs.Asking.{is_request_for};
 ghost use Rattle.dr_file.specs.OpenedFiles.{HasCounts, is_read_fault};
 ghost use Rattle.dr_meaning.specs.Record.{Node};
 ghost use Rattle.dr_formats.specs.File.{IsFileOf};
-ghost use Rattle.dr_steps.specs.Counting.{counted};
-ghost use Rattle.dr_records.specs.FileRecords.{IsFaultOf, triplets_at};
+ghost use Rattle.dr_tablets.specs.Counting.{counted};
+ghost use Rattle.dr_tablets.specs.FileRecords.{IsFaultOf, triplets_at};
 ghost use Rattle.dr_partials.specs.PartialTypes.{is_partial};
 ghost use Rattle.dr_partials.specs.PartialBounds.{PartialCanBeOf};
 ghost use Rattle.dr_partials.specs.Rewriting.{leaf_query};
 ghost use Rattle.dr_plan.specs.Planned.{IsOfSchema, plan_leaves, plan_view};
 ghost use Rattle.dr_group.specs.Partials.{IsPartialOf, partial_view};
 ghost use Rattle.dr_serving.specs.Truth.{IsTrueOf, most_values};
-ghost use Rattle.dr_scan.specs.Plans.{ForQuery};
+ghost use Rattle.dr_plan.specs.PlanOf.{ForQuery};
 ghost use Rattle.dr_scan.specs.Scans.{StandsForBytes, StandsForRecords, truth_at};
 
 use crate::literals::see_literals;
@@ -28,8 +28,7 @@ use dr_memory::NoMemory;
 use dr_nested::Schema;
 use dr_outside::Link;
 use dr_plan::Plan;
-use dr_records::read_records;
-use dr_steps::Steps;
+use dr_tablets::{Steps, read_records};
 use std::alloc::Global;
 
 /// A plan's partial of the records of the file at a path, of which the plan's leaves alone are read. The link is asked for the file's

@@ -11,7 +11,7 @@ ghost use Rattle.dr_group.specs.Partials.{IsPartialOf, partial_view};
 ghost use Rattle.dr_serving.specs.Causes.{RisesApart};
 ghost use Rattle.dr_serving.specs.Truth.{most_values};
 ghost use Rattle.dr_reading.specs.Scan.{copies_from};
-ghost use Rattle.dr_scan.specs.Plans.{ForQuery};
+ghost use Rattle.dr_plan.specs.PlanOf.{ForQuery};
 ghost use Rattle.dr_scan.specs.Tablets.{IsScannedAs, WhereScanned, causes_in};
 
 use crate::scanning::scan;
@@ -20,9 +20,8 @@ use dr_group::Partial;
 use dr_memory::NoMemory;
 use dr_outside::Link;
 use dr_plan::Plan;
-use dr_steps::Steps;
 use dr_table::{Table, path_of, placement};
-use dr_tablets::Tried;
+use dr_tablets::{Steps, Tried};
 use std::alloc::Global;
 
 /// What is scanned of a tablet: a partial of its records, or the copies that were tried, which is each of them.

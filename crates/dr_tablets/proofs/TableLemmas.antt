@@ -7,7 +7,7 @@ use Rattle.dr_meaning.specs.Path.{Leaf}
 use Rattle.dr_meaning.specs.Record.{Node, project}
 use Rattle.dr_outside.specs.Link.{Files, LinkShown, Holds}
 use Rattle.dr_outside.specs.declared.cause.Cause.{Cause}
-use Rattle.dr_records.specs.FileRecords.{paths_of_leaves}
+use Rattle.dr_tablets.specs.FileRecords.{paths_of_leaves}
 use Rattle.dr_serving.specs.Held.{held_at}
 use Rattle.dr_serving.specs.Causes.{IsJustified, RisesApart}
 use Rattle.dr_reading.specs.Scan.{Copy, copies_from, tablets_from, joined}

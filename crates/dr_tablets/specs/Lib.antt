@@ -4,3 +4,9 @@ pub mod Views
 pub mod Tablets
 -- how what is left is told
 pub mod Reports
+-- what is read of a file
+pub mod FileRecords
+-- laws, each proved on a law function of src/
+pub mod LeafLaws
+-- steps of work
+pub mod Counting

@@ -6,18 +6,18 @@ ghost use Rattle.dr_nested.specs.Views.{fields_view};
 ghost use Rattle.dr_nested.specs.SchemaView.{schema_view};
 ghost use Rattle.dr_nested.specs.PathView.{path_view};
 ghost use Rattle.dr_table.specs.Views.{table_view};
-ghost use Rattle.dr_records.specs.FileRecords.{AreLeavesOf};
+ghost use Rattle.dr_tablets.specs.FileRecords.{AreLeavesOf};
 ghost use Rattle.dr_serving.specs.Causes.{RisesApart};
 ghost use Rattle.dr_reading.specs.Scan.{copies_from};
 ghost use Rattle.dr_tablets.specs.Tablets.{IsReadAs, causes_in};
 
 use crate::left::Tried;
+use crate::records::read_records;
+use crate::steps::Steps;
 use dr_file::FileFault;
 use dr_memory::NoMemory;
 use dr_nested::{Node, Path};
 use dr_outside::Link;
-use dr_records::read_records;
-use dr_steps::Steps;
 use dr_table::{Table, path_of, placement};
 use std::alloc::Global;
 

@@ -1,6 +1,5 @@
-use dr_chains::{BoundPath, first_unrelated};
 use dr_nested::{Rep, Schema, Step, find, parse_schema};
-use dr_objects::same_path;
+use dr_paths::{BoundPath, first_unrelated, same_path};
 use std::alloc::Global;
 
 const DOCUMENT: &str =

@@ -3,7 +3,7 @@
 ghost use Rattle.std.specs.Prelude.{map, IfOk, OnOk};
 ghost use Rattle.dr_nested.specs.Views.{fields_view};
 ghost use Rattle.dr_nested.specs.PathView.{path_view};
-ghost use Rattle.dr_records.specs.FileRecords.{AreLeavesOf};
+ghost use Rattle.dr_tablets.specs.FileRecords.{AreLeavesOf};
 
 use dr_nested::{Path, Schema, find};
 use std::alloc::Global;

@@ -11,7 +11,7 @@ use dr_group::{Partial, Taken};
 use dr_levels::ValueRef;
 use dr_nested::parse_schema;
 use dr_plan::Plan;
-use dr_result_text::result_text;
+use dr_print::result_text;
 use std::alloc::Global;
 use std::test::Fail;
 

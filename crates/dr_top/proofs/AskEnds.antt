@@ -15,8 +15,8 @@ use Rattle.dr_outside.specs.Link.{Files, LinkShown}
 use Rattle.dr_load.specs.Records.{WhereTold as WhereRead}
 use Rattle.dr_load.specs.Faults.{refusal_of as line_refusal_of}
 use Rattle.dr_load.specs.declared.fault.LoadFault.{LoadFault}
-use Rattle.dr_query.specs.Faults.{IsRefusedAs, refusal_of}
-use Rattle.dr_query.specs.declared.fault.QueryFault.{QueryFault}
+use Rattle.dr_bind.specs.Faults.{IsRefusedAs, refusal_of}
+use Rattle.dr_bind.specs.declared.fault.QueryFault.{QueryFault}
 use Rattle.dr_commands.specs.Refusals.{Refusal as Refused, query_refused, line_refused}
 use Rattle.dr_commands.specs.Meaning.{Look, Outcome, plain, done, refused, IsEarly}
 use Rattle.dr_commands.specs.Ask.{AskWords, ask_meaning}

@@ -10,8 +10,8 @@ use Rattle.dr_outside.specs.Source.{SourceShown}
 use Rattle.dr_outside.specs.Link.{Files, LinkShown}
 use Rattle.dr_partials.specs.RewritingText.{rewriting_text}
 use Rattle.dr_plan.specs.Planned.{Planned, planned, planned_query}
-use Rattle.dr_query.specs.Faults.{IsRefusedAs, refusal_of}
-use Rattle.dr_query.specs.declared.fault.QueryFault.{QueryFault}
+use Rattle.dr_bind.specs.Faults.{IsRefusedAs, refusal_of}
+use Rattle.dr_bind.specs.declared.fault.QueryFault.{QueryFault}
 use Rattle.dr_commands.specs.Meaning.{Look, plain, done}
 use Rattle.dr_commands.specs.Explain.{ExplainWords, explain_meaning, explain_schema, explain_query, explained, as_run}
 use Rattle.dr_top.specs.World.{WhereTold, HasOutcome}

@@ -15,8 +15,8 @@ use Rattle.dr_load.specs.Records.{WhereTold as WhereLoaded}
 use Rattle.dr_load.specs.Puts.{HasPut, HasPutSome, BreaksOff}
 use Rattle.dr_load.specs.Loads.{LeavesPuts, HasPutTablets, tablets_put, tablet_part, taken_of}
 use Rattle.dr_load.specs.declared.fault.LoadFault.{LoadFault}
-use Rattle.dr_load_words.specs.Words.{words_problem_view}
-use Rattle.dr_load_words.specs.declared.words.WordsProblem.{WordsProblem}
+use Rattle.dr_load.specs.Words.{words_problem_view}
+use Rattle.dr_load.specs.declared.words.WordsProblem.{WordsProblem}
 use Rattle.dr_commands.specs.Refusals.{Refusal as Refused, words_refused, line_refused}
 use Rattle.dr_commands.specs.Meaning.{Look, Outcome, refused, puts_in, IsEarly}
 use Rattle.dr_commands.specs.Load.{LoadWords, load_plan, loaded_outcome, load_checked, load_schema, load_meaning}

@@ -13,8 +13,8 @@ use Rattle.dr_tablets.specs.Tablets.{LeavesTablets}
 use Rattle.dr_tablets.specs.Views.{all_left_view}
 use Rattle.dr_tablets.specs.declared.left.LeftTablet.{LeftTablet}
 use Rattle.dr_query.specs.Answers.{IsAnswerOf}
-use Rattle.dr_query.specs.Faults.{IsRefusedAs, refusal_of}
-use Rattle.dr_query.specs.declared.fault.QueryFault.{QueryFault}
+use Rattle.dr_bind.specs.Faults.{IsRefusedAs, refusal_of}
+use Rattle.dr_bind.specs.declared.fault.QueryFault.{QueryFault}
 use Rattle.dr_commands.specs.Meaning.{Look, Outcome, puts_in}
 use Rattle.dr_commands.specs.Query.{QueryWords, query_meaning, query_table, query_read}
 use Rattle.dr_top.specs.World.{WhereTold, WithOutcome}

@@ -22,10 +22,10 @@ use Rattle.dr_top.specs.World.{WhereTold, WithOutcome, ForOutcome, HasOutcome, I
 use Rattle.dr_top.specs.Reading.{IsLeftWith, IsFileLeft, LeavesFile}
 use Rattle.dr_tablets.specs.Views.{all_left_view}
 use Rattle.dr_top.specs.declared.refusal.LineProblem.{LineProblem}
-use Rattle.dr_load_words.specs.Words.{words_problem_view}
-use Rattle.dr_load_words.specs.declared.words.WordsProblem.{WordsProblem}
-use Rattle.dr_query.specs.Faults.{refusal_of as query_refusal_of}
-use Rattle.dr_query.specs.declared.fault.QueryFault.{QueryFault}
+use Rattle.dr_load.specs.Words.{words_problem_view}
+use Rattle.dr_load.specs.declared.words.WordsProblem.{WordsProblem}
+use Rattle.dr_bind.specs.Faults.{refusal_of as query_refusal_of}
+use Rattle.dr_bind.specs.declared.fault.QueryFault.{QueryFault}
 use Rattle.dr_top.specs.declared.refusal.Refusal.{Refusal}
 use Rattle.dr_top.specs.declared.schema_file.SchemaFileFault.{SchemaFileFault}
 use Rattle.dr_top.specs.declared.table_file.TableFileFault.{TableFileFault}

@@ -9,13 +9,12 @@ use crate::input_records::InputFault;
 use crate::refusal::{LineProblem, Refusal};
 use crate::schema_file::SchemaFileFault;
 use crate::table_file::TableFileFault;
+use dr_bind::QueryFault;
 use dr_commands::WordsFault;
 use dr_file::FileFault;
-use dr_load::LoadFault;
-use dr_load_words::WordsProblem;
+use dr_load::{LoadFault, WordsProblem};
 use dr_memory::NoMemory;
 use dr_outside::Cause;
-use dr_query::QueryFault;
 use dr_tablets::LeftTablet;
 
 /// Why a command gives no text.

@@ -7,8 +7,8 @@ use Rattle.dr_meaning.specs.Query.{levels_of}
 use Rattle.dr_meaning.specs.Binding.{entry_name, is_named}
 use Rattle.dr_meaning.specs.QueryLeaves.{in_reading_order}
 use Rattle.dr_plan.specs.Objects.{object_tree, no_lists, list_tree}
-use Rattle.dr_objects.specs.NamedLevels.{joined, no_named, named}
-use Rattle.dr_objects.specs.Trees.{named_object}
+use Rattle.dr_planning.specs.NamedLevels.{joined, no_named, named}
+use Rattle.dr_planning.specs.Trees.{named_object}
 use Rattle.dr_meaning.proofs.WorkedSchemas.{document}
 use Rattle.dr_meaning.proofs.WorkedPaths.{backward, forward, name, language_level}
 

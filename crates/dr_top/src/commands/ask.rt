@@ -9,9 +9,9 @@ ghost use Rattle.dr_top.specs.Stops.{StopsPlain, IsReadBy, AsksForFile};
 use crate::schema_file::read_schema;
 use crate::stop::Stop;
 use dr_ask::ask_input;
+use dr_bind::read_query;
 use dr_commands::Ask;
 use dr_outside::{Keeper, Source};
-use dr_query::read_query;
 use std::alloc::Global;
 use std::thread::Threads;
 

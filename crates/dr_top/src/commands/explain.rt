@@ -9,9 +9,9 @@ ghost use Rattle.dr_top.specs.Stops.{StopsPlain, AsksForFile};
 
 use crate::schema_file::read_schema;
 use crate::stop::Stop;
+use dr_bind::read_query;
 use dr_commands::Explain;
 use dr_outside::Keeper;
-use dr_query::read_query;
 use dr_rewrite::rewriting_text;
 use std::alloc::Global;
 

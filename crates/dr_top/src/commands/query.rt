@@ -10,9 +10,10 @@ ghost use Rattle.dr_top.specs.Stops.{StopsWith, AsksForFile};
 
 use crate::stop::Stop;
 use crate::table_file::read_table_file;
+use dr_bind::read_query;
 use dr_commands::Query;
 use dr_outside::{Keeper, Link};
-use dr_query::{Queried, query_table, read_query};
+use dr_query::{Queried, query_table};
 use std::alloc::Global;
 use std::thread::Threads;
 

@@ -2,8 +2,8 @@ use Rattle.std.proofs.Common.{List, map, subst}
 use Rattle.dr_nested.specs.PathView.{path_view}
 use Rattle.dr_nested.specs.declared.path.Path.{Path}
 use Rattle.dr_plan.specs.Views.{truth_view}
-use Rattle.dr_objects.specs.NamedLevels.{levels_view}
-use Rattle.dr_chains.specs.declared.bound.BoundPath.{BoundPath}
+use Rattle.dr_planning.specs.NamedLevels.{levels_view}
+use Rattle.dr_paths.specs.declared.bound.BoundPath.{BoundPath}
 use Rattle.dr_meaning.specs.Binding.{passing}
 use Rattle.dr_planning.specs.Planning.{Selects}
 use Rattle.dr_planning.proofs.PlanSelectionLemmas.{condition_right, selection_right}

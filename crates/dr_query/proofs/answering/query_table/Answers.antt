@@ -7,7 +7,7 @@ use Rattle.dr_meaning.specs.QueryLeaves.{query_leaves}
 use Rattle.dr_meaning.specs.Ask.{answer_text}
 use Rattle.dr_reading.specs.Scan.{joined}
 use Rattle.dr_tablets.specs.Tablets.{LeavesTablets}
-use Rattle.dr_scan.specs.Plans.{IsPlanOf}
+use Rattle.dr_plan.specs.PlanOf.{IsPlanOf}
 use Rattle.dr_scan.specs.Tables.{WhereLeft}
 use Rattle.dr_query.proofs.GatheredLemmas.{given_as_many, given_together, given_answer}
 use Rattle.dr_query.proofs.answering.query_table.Goals as goal

@@ -13,7 +13,7 @@ use Rattle.dr_serving.specs.Truth.{most_values}
 use Rattle.dr_reading.specs.Scan.{tablets_from}
 use Rattle.dr_reading.specs.Left.{LeavesJust, causes_met}
 use Rattle.dr_tablets.specs.Views.{all_left_view}
-use Rattle.dr_scan.specs.Plans.{ForQuery}
+use Rattle.dr_plan.specs.PlanOf.{ForQuery}
 use Rattle.dr_scan.specs.Tables.{OfEach, StandForTablets}
 use Rattle.dr_scan.proofs.pieces.scan_table.Given as goal
 

@@ -9,7 +9,7 @@ use Rattle.dr_file.specs.OpenedFiles.{HasCounts, is_link_fault}
 use Rattle.dr_file.specs.declared.file_fault.FileFault.{FileFault}
 use Rattle.dr_group.specs.Partials.{partial_view}
 use Rattle.dr_plan.specs.Planned.{plan_leaves}
-use Rattle.dr_records.specs.FileRecords.{IsFaultOf}
+use Rattle.dr_tablets.specs.FileRecords.{IsFaultOf}
 use Rattle.dr_reading.specs.Scan.{Copy, copy_in, copies_from}
 use Rattle.dr_reading.specs.Left.{Tried, IsCauseAt, AreTried, causes_of}
 use Rattle.dr_tablets.specs.Views.{tried_view, all_tried_view}

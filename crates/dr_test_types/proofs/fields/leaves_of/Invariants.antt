@@ -1,7 +1,7 @@
 use Rattle.std.proofs.Common.{map}
 use Rattle.dr_nested.specs.Views.{fields_view}
 use Rattle.dr_nested.specs.PathView.{path_view}
-use Rattle.dr_records.specs.FileRecords.{AreLeavesOf}
+use Rattle.dr_tablets.specs.FileRecords.{AreLeavesOf}
 use Rattle.dr_test_types.proofs.fields.leaves_of.Given as goal
 
 -- those that were found so far are leaves

@@ -2,8 +2,8 @@ use Rattle.std.proofs.Common.{[], ◌∷◌, map, sym, ap, subst, ◌∙◌}
 use Rattle.std.proofs.lemmas.List.{map-append}
 use Rattle.dr_nested.specs.Views.{fields_view}
 use Rattle.dr_nested.specs.PathView.{path_view}
-use Rattle.dr_records.specs.FileRecords.{AreLeavesOf}
-use Rattle.dr_records.proofs.LeafLemmas.{found_are_leaves}
+use Rattle.dr_tablets.specs.FileRecords.{AreLeavesOf}
+use Rattle.dr_tablets.proofs.LeafLemmas.{found_are_leaves}
 use Rattle.dr_test_types.proofs.fields.push_leaf.Goals as goal
 
 pub returns : goal.returns

@@ -3,7 +3,7 @@ use Rattle.dr_nested.specs.declared.path.Path.{Path}
 use Rattle.dr_nested.specs.PathView.{path_view}
 use Rattle.dr_table.specs.Views.{table_view}
 use Rattle.dr_commands.specs.Dump.{dump_meaning, dump_view}
-use Rattle.dr_records.proofs.LeafLemmas.{named_are_leaves}
+use Rattle.dr_tablets.proofs.LeafLemmas.{named_are_leaves}
 use Rattle.dr_tablets.specs.Tablets.{LeavesTablets}
 use Rattle.dr_dump.specs.Dumps.{AreLinesOf}
 use Rattle.dr_dump.specs.Answers.{WhereLines, WhereLeft}
