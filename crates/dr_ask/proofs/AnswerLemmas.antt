@@ -18,7 +18,7 @@ use Rattle.dr_formats.proofs.ColumnsFit.{EachLeaf}
 use Rattle.dr_outside.specs.Link.{Files, LinkShown}
 use Rattle.dr_tablets.specs.FileRecords.{AreLeavesOf}
 use Rattle.dr_tablets.proofs.LeafLemmas.{used_are_leaves}
-use Rattle.dr_serving.specs.Premises.{paths_of_leaves}
+use Rattle.dr_reading.specs.Premises.{paths_of_leaves}
 use Rattle.dr_reading.specs.Scan.{joined, tablets_of}
 use Rattle.dr_reading.specs.Left.{LeftTablet}
 use Rattle.dr_reading.proofs.ReadingLemmas.{given_are_projected}

@@ -18,10 +18,9 @@ use Rattle.dr_formats.proofs.FileBack.{written_file_is_file}
 use Rattle.dr_formats.proofs.LoadFits.{limited_records_fit}
 use Rattle.dr_formats.proofs.TabletLemmas.{tablets_hold_records, tablets_are_full}
 use Rattle.dr_outside.specs.Link.{Files}
-use Rattle.dr_serving.specs.Held.{held_file}
-use Rattle.dr_serving.specs.Premises.{HoldsRecords, PathsHold}
-use Rattle.dr_reading.specs.Scan.{Copy, tablets_from, tablets_of, joined}
-use Rattle.dr_reading.specs.Held.{copy_paths, TabletsHold}
+use Rattle.dr_reading.specs.Held.{held_file}
+use Rattle.dr_reading.specs.Premises.{HoldsRecords, PathsHold, TabletsHold}
+use Rattle.dr_reading.specs.Scan.{Copy, tablets_from, tablets_of, joined, copy_paths}
 use Rattle.dr_load.specs.Loads.{taken_of}
 use Rattle.dr_load.specs.Records.{WhereTold}
 use Rattle.dr_load.specs.Puts.{HasPut}

@@ -8,7 +8,7 @@ use Rattle.dr_formats.specs.Tablets.{tablets}
 use Rattle.dr_formats.specs.WritingLaws.{AreAmong}
 use Rattle.dr_outside.specs.Link.{Files}
 use Rattle.dr_reading.specs.Scan.{joined, tablets_of}
-use Rattle.dr_reading.specs.Held.{TabletsHold}
+use Rattle.dr_reading.specs.Premises.{TabletsHold}
 use Rattle.dr_load.specs.Loads.{LoadsTable}
 use Rattle.dr_load.specs.Records.{WhereTold}
 use Rattle.dr_load.specs.Puts.{HasPut}

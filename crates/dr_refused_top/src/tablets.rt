@@ -6,7 +6,7 @@ ghost use Rattle.dr_nested.specs.SchemaView.{schema_view};
 ghost use Rattle.dr_nested.specs.PathView.{path_view};
 ghost use Rattle.dr_table.specs.Views.{table_view};
 ghost use Rattle.dr_tablets.specs.FileRecords.{AreLeavesOf};
-ghost use Rattle.dr_serving.specs.Causes.{RisesApart};
+ghost use Rattle.dr_reading.specs.Causes.{RisesApart};
 ghost use Rattle.dr_reading.specs.Scan.{copies_from};
 ghost use Rattle.dr_tablets.specs.Tablets.{IsReadAs, causes_in};
 

@@ -34,7 +34,7 @@ use Rattle.dr_mean.specs.Answers.{Answers}
 use Rattle.dr_mean.proofs.GroupLawLemmas.{partials_rejoined}
 use Rattle.dr_tablets.specs.FileRecords.{AreLeavesOf, AreProjected, AreOfFile, AreFew, are_short, paths_of_leaves}
 use Rattle.dr_tablets.proofs.LeafLemmas.{used_are_leaves}
-use Rattle.dr_serving.specs.Held.{held_at, held_file, present}
+use Rattle.dr_reading.specs.Held.{held_at, held_file, present}
 use Rattle.dr_serving.specs.Truth.{StandsForFile, IsTrueOf, most_values}
 use Rattle.dr_plan.specs.PlanOf.{IsPlanOf}
 use Rattle.dr_scan.specs.Scans.{StandsForBytes, StandsForRecords, truth_at}

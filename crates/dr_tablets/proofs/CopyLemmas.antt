@@ -14,9 +14,8 @@ use Rattle.dr_chunk.specs.Telling.{TellsFile}
 use Rattle.dr_file.specs.OpenedFiles.{HasCounts, is_link_fault}
 use Rattle.dr_file.specs.declared.file_fault.FileFault.{FileFault}
 use Rattle.dr_tablets.specs.FileRecords.{AreOfFile, AreProjected, IsFaultOf}
-use Rattle.dr_serving.specs.Held.{held_at, held_file}
-use Rattle.dr_serving.specs.Causes.{IsJustified, RisesApart}
-use Rattle.dr_serving.specs.ServingLaws.{is_read}
+use Rattle.dr_reading.specs.Held.{held_at, held_file}
+use Rattle.dr_reading.specs.Causes.{IsJustified, RisesApart, is_read}
 use Rattle.dr_reading.specs.Scan.{Copy, copy_in, copies_from}
 use Rattle.dr_reading.specs.Given.{IsFileThere, SomeIsFile}
 use Rattle.dr_reading.specs.Left.{Tried, IsCauseAt, AreTried}

@@ -8,7 +8,7 @@ use Rattle.dr_outside.specs.declared.cause.Cause.{Cause}
 use Rattle.dr_assemble.specs.Views.{nodes_view}
 use Rattle.dr_tablets.specs.FileRecords.{paths_of_leaves}
 use Rattle.dr_formats.specs.TableFile.{Table}
-use Rattle.dr_serving.specs.Causes.{RisesApart}
+use Rattle.dr_reading.specs.Causes.{RisesApart}
 use Rattle.dr_reading.specs.Scan.{Copy, joined, tablets_of}
 use Rattle.dr_reading.specs.Given.{IsGiven, AreGiven}
 use Rattle.dr_reading.specs.Left as left

@@ -12,7 +12,7 @@ use Rattle.dr_chunk.specs.Telling.{TellsFile}
 use Rattle.dr_file.specs.Schemas.{cause_in}
 use Rattle.dr_file.specs.OpenedFiles.{IsCauseOf, HasCounts, is_link_fault}
 use Rattle.dr_file.specs.declared.file_fault.FileFault.{FileFault}
-use Rattle.dr_serving.specs.Held.{held_at, held_file}
+use Rattle.dr_reading.specs.Held.{held_at, held_file}
 use Rattle.dr_commands.specs.ShowSchema.{ShowSchemaWords, show_schema_meaning}
 use Rattle.dr_top.specs.Reading.{IsSchemaShown, IsSchemaCause, LeavesFile}
 use Rattle.dr_top.specs.Answers.{Finishes}

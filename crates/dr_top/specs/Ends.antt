@@ -7,7 +7,7 @@ use Rattle.dr_outside.specs.Link.{Files, LinkShown}
 use Rattle.dr_outside.specs.Sink.{SinkShown, AddedWhole, AddedFront}
 use Rattle.dr_outside.specs.declared.cause.Cause.{Cause}
 use Rattle.dr_reading.specs.Scan.{Scan}
-use Rattle.dr_reading.specs.Held.{EachHasFile}
+use Rattle.dr_reading.specs.Premises.{EachHasFile}
 use Rattle.dr_reading.specs.Left.{LeftTablet}
 use Rattle.dr_reading.specs.LeftText.{told_cause, left_text}
 use Rattle.dr_commands.specs.Refusals.{Refusal, refusal_text}

@@ -1,7 +1,7 @@
 //! The answer of `schema`.
 
 ghost use Rattle.std.specs.Prelude.{◌≡◌, string_bytes, IfOk, IfErr, IsTrue};
-ghost use Rattle.dr_serving.specs.Held.{held_at};
+ghost use Rattle.dr_reading.specs.Held.{held_at};
 ghost use Rattle.dr_top.specs.Reading.{IsSchemaShown};
 ghost use Rattle.dr_top.specs.Stops.{SchemaStops};
 

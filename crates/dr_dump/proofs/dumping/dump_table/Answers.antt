@@ -5,7 +5,7 @@ use Rattle.dr_nested.specs.SchemaView.{schema_view}
 use Rattle.dr_nested.specs.Views.{fields_view}
 use Rattle.dr_nested.specs.PathView.{path_view}
 use Rattle.dr_table.specs.Views.{table_view}
-use Rattle.dr_serving.specs.Causes.{RisesApart}
+use Rattle.dr_reading.specs.Causes.{RisesApart}
 use Rattle.dr_reading.specs.Left.{LeavesJust, no_tablets, causes_met}
 use Rattle.dr_tablets.specs.declared.left.LeftTablet.{LeftTablet}
 use Rattle.dr_tablets.specs.Views.{all_left_view}

@@ -4,7 +4,7 @@ use Rattle.dr_nested.specs.SchemaView.{schema_view}
 use Rattle.dr_nested.specs.Views.{fields_view}
 use Rattle.dr_nested.specs.PathView.{path_view}
 use Rattle.dr_table.specs.Views.{table_view}
-use Rattle.dr_serving.specs.Causes.{RisesApart}
+use Rattle.dr_reading.specs.Causes.{RisesApart}
 use Rattle.dr_reading.specs.Scan.{tablets_from}
 use Rattle.dr_reading.specs.Left.{LeavesJust, causes_met}
 use Rattle.dr_tablets.specs.Views.{all_left_view}

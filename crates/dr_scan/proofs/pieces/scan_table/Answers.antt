@@ -10,7 +10,7 @@ use Rattle.dr_partials.specs.PartialBounds.{PartialCanBeOf}
 use Rattle.dr_partials.specs.Rewriting.{leaf_query}
 use Rattle.dr_plan.specs.Planned.{plan_view}
 use Rattle.dr_group.specs.Partials.{IsPartialOf, partial_view}
-use Rattle.dr_serving.specs.Causes.{RisesApart}
+use Rattle.dr_reading.specs.Causes.{RisesApart}
 use Rattle.dr_serving.specs.Truth.{most_values}
 use Rattle.dr_reading.specs.Scan.{tablets_from}
 use Rattle.dr_reading.specs.Left.{LeavesJust, no_tablets, causes_met}

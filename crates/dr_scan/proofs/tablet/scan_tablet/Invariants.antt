@@ -3,7 +3,7 @@ use Rattle.std.specs.Prelude.{IsTrue}
 use Rattle.dr_nested.specs.SchemaView.{schema_view}
 use Rattle.dr_table.specs.Views.{table_view}
 use Rattle.dr_plan.specs.Planned.{plan_leaves}
-use Rattle.dr_serving.specs.Causes.{RisesApart}
+use Rattle.dr_reading.specs.Causes.{RisesApart}
 use Rattle.dr_reading.specs.Scan.{copies_from}
 use Rattle.dr_reading.specs.Left.{AreTried, causes_of}
 use Rattle.dr_tablets.specs.Views.{all_tried_view}
