@@ -19,17 +19,17 @@ use Rattle.dr_reading.specs.Left.{Tried, LeftTablet, AreTried, LeavesJust, no_ta
 
 -- ---- what is held
 
-abbrev path_a : List ℕ
+abbrev pub path_a : List ℕ
 path_a = codes "a"
 
-abbrev path_b : List ℕ
+abbrev pub path_b : List ℕ
 path_b = codes "b"
 
-abbrev path_c : List ℕ
+abbrev pub path_c : List ℕ
 path_c = codes "c"
 
 -- a file at a, no byte at b, nothing at c
-abbrev files : Files
+abbrev pub files : Files
 files path = if bytes_eq path path_a then Some one_file else (if bytes_eq path path_b then Some [] else None)
 
 pub held_alone : (held_at None path_a ≡ untold) × (held_at (Some files) path_a ≡ present one_file) × (held_at (Some files) path_b ≡ present []) × (held_at (Some files) path_c ≡ absent)
@@ -58,13 +58,13 @@ untold_there = (inr (inl refl), none)
 
 -- ---- causes
 
-abbrev path_of_a : List Step
+abbrev pub path_of_a : List Step
 path_of_a = record { place = 0; repetition = required } ∷ []
 
-abbrev the_leaf : Leaf
+abbrev pub the_leaf : Leaf
 the_leaf = record { names = codes "a" ∷ []; path = path_of_a; kind = int64_kind }
 
-no_footer : footer_of [] ≡ None
+pub no_footer : footer_of [] ≡ None
 unfolding footer_of
 no_footer = refl
 
@@ -110,7 +110,7 @@ pub reads : justified absent (ReadFailed 3 4) × justified (present one_file) (R
 reads = (lit≤ tt, lit≤ tt, λ h. omega (arith, h), lit≤ tt)
 
 -- each copy in its directory with a cause of its own: none is missing, and none is told of another directory
-abbrev copy : ℕ → List ℕ → Copy
+abbrev pub copy : ℕ → List ℕ → Copy
 copy d path = record { directory = d; path = path }
 
 abbrev tried : ℕ → Cause → Tried
@@ -157,10 +157,10 @@ rises = (
 -- ---- tablets that are left
 
 -- tablet 0 at b and at a, tablet 1 at b and at c: the first gives its record, the second is left, where no byte and nothing are held
-abbrev two_tablets : List (List Copy)
+abbrev pub two_tablets : List (List Copy)
 two_tablets = (copy 0 path_b ∷ copy 1 path_a ∷ []) ∷ (copy 1 path_b ∷ copy 0 path_c ∷ []) ∷ []
 
-abbrev second : LeftTablet
+abbrev pub second : LeftTablet
 second = record { tablet = 1; tried = tried 1 BadFooter ∷ tried 0 (ReadFailed 5 6) ∷ [] }
 
 pub second_is_tried : AreTried one_schema (the_leaf ∷ []) (shown false) (copy 1 path_b ∷ copy 0 path_c ∷ []) second.tried

@@ -1,7 +1,5 @@
 -- Laws of serving.
 use Rattle.std.specs.Prelude.{◌≡◌, ℕ, ◌<◌, ⊤, true, List, [], ◌∷◌, length, Ok}
-use Rattle.dr_meaning.specs.Schema.{Schema}
-use Rattle.dr_meaning.specs.Path.{Leaf}
 use Rattle.dr_meaning.specs.Record.{Node}
 use Rattle.dr_meaning.specs.Query.{meaning}
 use Rattle.dr_meaning.specs.MeaningLaws.{covers}
