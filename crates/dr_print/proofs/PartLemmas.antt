@@ -1,5 +1,5 @@
 -- Texts that grow part by part, as the cells of a result are read.
-use Rattle.std.specs.Prelude.{◌≡◌, ◌<◌, ◌≤◌, ℕ, zero, suc, ◌+◌, ◌-◌, List, [], ◌∷◌, ◌++◌, map, length, get_or, drop, Bool, true, false, ◌||◌, not, nat_lt, nat_eq, if◌then◌else◌, is_ok, Result, Ok, Err, OnOk, String, string_bytes}
+use Rattle.std.specs.Prelude.{◌≡◌, ◌<◌, ◌≤◌, ℕ, zero, suc, ◌+◌, ◌-◌, List, [], ◌∷◌, ◌++◌, map, length, get_or, drop, Bool, true, false, ◌||◌, not, nat_lt, nat_eq, String, string_bytes}
 use Rattle.std.specs.declared.alloc.Global.{Global}
 use Rattle.std.specs.List.{join_with_byte}
 use Rattle.std.proofs.Common.{refl, sym, ap, ap₂, ◌∙◌, arith, append_assoc, append-nil}
@@ -13,11 +13,6 @@ use Rattle.dr_cells.specs.Shapes.{shape_view, lists_view, SeenList}
 use Rattle.dr_cells.specs.declared.shape.ListShape as lists
 use Rattle.dr_cells.proofs.ShapeLemmas.{view-list_shape}
 use Rattle.dr_print.specs.Parts.{comma_if, separated, value_members}
-
--- what joined is what should
-pub joined : {E : Type 0} (r : Result (Unit {0}) E) (new old s t : List ℕ) → new ≡ (if is_ok r then old ++ s else old) → s ≡ t → OnOk r (new ≡ old ++ t)
-joined (Ok done) new old s t h e = h ∙ ap (λ x. old ++ x) e
-joined (Err e) new old s t h f = tt
 
 -- ---- parts
 

@@ -1,44 +1,16 @@
 //! The texts of single cells.
 
-ghost use Rattle.std.specs.Prelude.{◌≡◌, ◌++◌, ◌∷◌, [], drop, string_bytes, OnOk};
+ghost use Rattle.std.specs.Prelude.{◌≡◌, ◌++◌, drop, string_bytes, OnOk};
 ghost use Rattle.std.specs.Fmt.{signed_decimal};
-ghost use Rattle.json.specs.Print.{quoted};
 ghost use Rattle.dr_meaning.specs.Print as print;
 ghost use Rattle.dr_cells.specs.Results.{first_value, first_count};
 ghost use Rattle.dr_cells.specs.Views.{cells_view, lent_cell};
-ghost use Rattle.dr_print.specs.Parts.{own_value, comma_if};
+ghost use Rattle.dr_print.specs.Parts.{own_value};
 
+use crate::parts::push_quoted;
 use dr_cells::{CellRef, Cells};
 use itoa::Buffer;
 use std::alloc::{AllocError, Global};
-
-/// Appends a comma, where something stands before.
-pub fn push_comma(text: &mut String, behind: bool) -> Result<(), AllocError>
-    ensures { OnOk result (string_bytes text.new ≡ string_bytes text.old ++ comma_if behind) }
-{
-    match behind {
-        true => text.push_str(","),
-        false => Ok(()),
-    }
-}
-
-/// Appends a text in quotes, as compact JSON has it (RFC 8259, section 7).
-fn push_quoted(alloc: Global, text: &mut String, value: &str) -> Result<(), AllocError>
-    ensures { OnOk result (string_bytes text.new ≡ string_bytes text.old ++ quoted value.now) }
-{
-    match serde_json::to_string(alloc, &value) {
-        Ok(quote) => text.push_str(quote.as_str()),
-        Err(_) => Err(AllocError),
-    }
-}
-
-/// Appends a name in quotes and a colon.
-pub fn push_name(alloc: Global, text: &mut String, name: &str) -> Result<(), AllocError>
-    ensures { OnOk result (string_bytes text.new ≡ string_bytes text.old ++ (quoted name.now ++ 58 ∷ [])) }
-{
-    push_quoted(alloc, text, name)?;
-    text.push_str(":")
-}
 
 fn push_whole(text: &mut String, number: i128) -> Result<(), AllocError>
     ensures { OnOk result (string_bytes text.new ≡ string_bytes text.old ++ signed_decimal number) }

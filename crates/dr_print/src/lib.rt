@@ -3,6 +3,7 @@
 
 mod cell_text;
 mod object_text;
+mod parts;
 mod printing;
 mod record_lines;
 mod skipping;

@@ -8,7 +8,8 @@ ghost use Rattle.dr_cells.specs.Shapes.{shape_view, lists_view};
 ghost use Rattle.dr_cells.specs.Views.{cells_view};
 ghost use Rattle.dr_print.specs.Parts.{separated, value_members};
 
-use crate::cell_text::{count_at, push_comma, push_name, push_value};
+use crate::cell_text::{count_at, push_value};
+use crate::parts::{push_comma, push_name};
 use crate::skipping::skip;
 use dr_cells::{Cells, ListShape, Shape};
 use std::alloc::{AllocError, Global};

@@ -1,7 +1,7 @@
 use Rattle.std.proofs.Common.{◌∙◌, string_bytes}
 use Rattle.serde_json.proofs.FreeTexts.{text_of_str}
-use Rattle.dr_print.proofs.PartLemmas.{joined}
-use Rattle.dr_print.proofs.cell_text.push_quoted.Goals as goal
+use Rattle.dr_print.proofs.PrintLemmas.{joined}
+use Rattle.dr_print.proofs.parts.push_quoted.Goals as goal
 
 pub returns-in-Ok : goal.returns-in-Ok
 returns-in-Ok c =
