@@ -1,4 +1,5 @@
 pub mod Outcomes
+pub mod FindRefusals
 pub mod ExpressionsGoOn
 pub mod QueriesGoOn
 pub mod OperatorsCounted

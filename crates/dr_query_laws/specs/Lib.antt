@@ -1,4 +1,5 @@
 pub mod FaultLaws
+pub mod FindLaws
 pub mod LimitLaws
 pub mod NestingLaws
 -- the leaf line, read back

@@ -2,6 +2,7 @@
 #![tactic(auto)]
 
 pub mod fault_laws;
+pub mod find_laws;
 pub mod limit_laws;
 pub mod nesting_laws;
 pub mod read_back_laws;
