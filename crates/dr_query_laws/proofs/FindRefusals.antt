@@ -30,11 +30,11 @@ onto_more b ns ms h = ap (λ (xs : List (List ℕ)). onto_first b (xs ++ ms)) h.
 -- what is behind a dot is cut by itself
 pub cut_behind : (t r : List ℕ) → cut_at_dots (t ++ 46 ∷ r) ≡ cut_at_dots t ++ cut_at_dots r
 cut_behind [] r = refl
-cut_behind (b ∷ t) r = by_test (b == 46)
+cut_behind (b ∷ t) r = by_test (b == 46) (cut_behind t r)
   where
-    by_test : (d : Bool) → (if d then [] ∷ cut_at_dots (t ++ 46 ∷ r) else onto_first b (cut_at_dots (t ++ 46 ∷ r))) ≡ (if d then [] ∷ cut_at_dots t else onto_first b (cut_at_dots t)) ++ cut_at_dots r
-    by_test true = ap (λ (xs : List (List ℕ)). [] ∷ xs) (cut_behind t r)
-    by_test false = ap (onto_first b) (cut_behind t r) ∙ onto_more b (cut_at_dots t) (cut_at_dots r) (cut_some t)
+    by_test : (d : Bool) → cut_at_dots (t ++ 46 ∷ r) ≡ cut_at_dots t ++ cut_at_dots r → (if d then [] ∷ cut_at_dots (t ++ 46 ∷ r) else onto_first b (cut_at_dots (t ++ 46 ∷ r))) ≡ (if d then [] ∷ cut_at_dots t else onto_first b (cut_at_dots t)) ++ cut_at_dots r
+    by_test true k = ap (λ (xs : List (List ℕ)). [] ∷ xs) k
+    by_test false k = ap (onto_first b) k ∙ onto_more b (cut_at_dots t) (cut_at_dots r) (cut_some t)
 
 -- ---- names behind names
 
@@ -54,19 +54,22 @@ LeadsToGroup ns s = (g : Found) × (gs : Fields) × (resolve ns s ≡ Some g) ×
 leads_to_group : (ns : List (List ℕ)) (m : List ℕ) (ms : List (List ℕ)) (s : Shape) (f : Found) → resolve (ns ++ m ∷ ms) s ≡ Some f → LeadsToGroup ns s
 leads_to_group [] m ms (leaf k) f h = absurd (no_found f h)
 leads_to_group [] m ms (group gs) f h = (found [] (group gs), gs, refl, refl)
-leads_to_group (n ∷ ns) m ms s f h = by_field (named_field n 0 (fields_of s)) h
+leads_to_group (n ∷ ns) m ms s f h = by_field (λ t q. leads_to_group ns m ms t q) (named_field n 0 (fields_of s)) h
   where
-    below : (g : Found) → (o : Option Found) → resolve (ns ++ m ∷ ms) g.shape ≡ o → option_map (found_below g) o ≡ Some f
+    Further : Type 0
+    Further = (t : Shape) (q : Found) → resolve (ns ++ m ∷ ms) t ≡ Some q → LeadsToGroup ns t
+
+    below : Further → (g : Found) → (o : Option Found) → resolve (ns ++ m ∷ ms) g.shape ≡ o → option_map (found_below g) o ≡ Some f
         → (e : Found) × (gs : Fields) × (option_map (found_below g) (resolve ns g.shape) ≡ Some e) × (e.shape ≡ group gs)
-    below g None w h = absurd (no_found f h)
-    below g (Some q) w h =
-        let k = leads_to_group ns m ms g.shape q w in
+    below more g None w h = absurd (no_found f h)
+    below more g (Some q) w h =
+        let k = more g.shape q w in
         (found_below g k.0, k.1, ap (option_map (found_below g)) k.2, k.3)
 
-    by_field : (o : Option Found) → option_and_then (λ (g : Found). option_map (found_below g) (resolve (ns ++ m ∷ ms) g.shape)) o ≡ Some f
+    by_field : Further → (o : Option Found) → option_and_then (λ (g : Found). option_map (found_below g) (resolve (ns ++ m ∷ ms) g.shape)) o ≡ Some f
         → (e : Found) × (gs : Fields) × (option_and_then (λ (g : Found). option_map (found_below g) (resolve ns g.shape)) o ≡ Some e) × (e.shape ≡ group gs)
-    by_field None h = absurd (no_found f h)
-    by_field (Some g) h = below g (resolve (ns ++ m ∷ ms) g.shape) refl h
+    by_field more None h = absurd (no_found f h)
+    by_field more (Some g) h = below more g (resolve (ns ++ m ∷ ms) g.shape) refl h
 
 -- names lead on from where others lead to
 abbrev LeadsOn : List (List ℕ) → Shape → Shape → Type 0
@@ -74,45 +77,48 @@ LeadsOn ns s t = (e : Found) × (resolve ns s ≡ Some e) × (e.shape ≡ t)
 
 leads_on : (ns ms : List (List ℕ)) (s : Shape) (f h : Found) → resolve ns s ≡ Some f → resolve ms f.shape ≡ Some h → LeadsOn (ns ++ ms) s h.shape
 leads_on [] ms s f h a b = (h, subst (λ (x : Found). resolve ms x.shape ≡ Some h) (sym (same_found (found [] s) f a)) b, refl)
-leads_on (n ∷ ns) ms s f h a b = by_field (named_field n 0 (fields_of s)) a
+leads_on (n ∷ ns) ms s f h a b = by_field (λ t q. leads_on ns ms t q h) (named_field n 0 (fields_of s)) a
   where
-    below : (g : Found) → (o : Option Found) → resolve ns g.shape ≡ o → option_map (found_below g) o ≡ Some f
+    Further : Type 0
+    Further = (t : Shape) (q : Found) → resolve ns t ≡ Some q → resolve ms q.shape ≡ Some h → LeadsOn (ns ++ ms) t h.shape
+
+    below : Further → (g : Found) → (o : Option Found) → resolve ns g.shape ≡ o → option_map (found_below g) o ≡ Some f
         → (e : Found) × (option_map (found_below g) (resolve (ns ++ ms) g.shape) ≡ Some e) × (e.shape ≡ h.shape)
-    below g None w a = absurd (no_found f a)
-    below g (Some q) w a =
-        let k = leads_on ns ms g.shape q h w (subst (λ (x : Found). resolve ms x.shape ≡ Some h) (sym (same_found (found_below g q) f a)) b) in
+    below more g None w a = absurd (no_found f a)
+    below more g (Some q) w a =
+        let k = more g.shape q w (subst (λ (x : Found). resolve ms x.shape ≡ Some h) (sym (same_found (found_below g q) f a)) b) in
         (found_below g k.0, ap (option_map (found_below g)) k.1, k.2)
 
-    by_field : (o : Option Found) → option_and_then (λ (g : Found). option_map (found_below g) (resolve ns g.shape)) o ≡ Some f
+    by_field : Further → (o : Option Found) → option_and_then (λ (g : Found). option_map (found_below g) (resolve ns g.shape)) o ≡ Some f
         → (e : Found) × (option_and_then (λ (g : Found). option_map (found_below g) (resolve (ns ++ ms) g.shape)) o ≡ Some e) × (e.shape ≡ h.shape)
-    by_field None a = absurd (no_found f a)
-    by_field (Some g) a = below g (resolve ns g.shape) refl a
+    by_field more None a = absurd (no_found f a)
+    by_field more (Some g) a = below more g (resolve ns g.shape) refl a
 
 -- ---- what names lead to is of the right form
 
 named_valid : (n : List ℕ) (i : ℕ) (fs : Fields) (g : Found) → is_group fs ≡ true → named_field n i fs ≡ Some g → is_shape g.shape ≡ true
 named_valid n i no_fields g v e = absurd (no_found g e)
-named_valid n i (field m r s fs) g v e = by_name (bytes_eq n m) e
+named_valid n i (field m r s fs) g v e = by_name (first_of_group m r s fs v) (bytes_eq n m) (named_valid n (suc i) fs g (first_of_group m r s fs v).3) e
   where
-    p : FirstField m s fs
-    p = first_of_group m r s fs v
-
-    by_name : (b : Bool) → (if b then Some (found (record { place = i; repetition = r } ∷ []) s) else named_field n (suc i) fs) ≡ Some g → is_shape g.shape ≡ true
-    by_name true e = subst (λ (x : Found). is_shape x.shape ≡ true) (same_found (found (record { place = i; repetition = r } ∷ []) s) g e) p.2
-    by_name false e = named_valid n (suc i) fs g p.3 e
+    by_name : FirstField m s fs → (b : Bool) → (named_field n (suc i) fs ≡ Some g → is_shape g.shape ≡ true) → (if b then Some (found (record { place = i; repetition = r } ∷ []) s) else named_field n (suc i) fs) ≡ Some g → is_shape g.shape ≡ true
+    by_name p true k e = subst (λ (x : Found). is_shape x.shape ≡ true) (same_found (found (record { place = i; repetition = r } ∷ []) s) g e) p.2
+    by_name p false k e = k e
 
 resolved_valid : (ns : List (List ℕ)) (s : Shape) (f : Found) → is_shape s ≡ true → resolve ns s ≡ Some f → is_shape f.shape ≡ true
 resolved_valid [] s f v e = subst (λ (x : Found). is_shape x.shape ≡ true) (same_found (found [] s) f e) v
 resolved_valid (n ∷ ns) (leaf k) f v e = absurd (no_found f e)
-resolved_valid (n ∷ ns) (group fs) f v e = by_field (named_field n 0 fs) refl e
+resolved_valid (n ∷ ns) (group fs) f v e = by_field (λ t q. resolved_valid ns t q) (named_field n 0 fs) refl e
   where
-    below : (g : Found) → is_shape g.shape ≡ true → (o : Option Found) → resolve ns g.shape ≡ o → option_map (found_below g) o ≡ Some f → is_shape f.shape ≡ true
-    below g u None w e = absurd (no_found f e)
-    below g u (Some q) w e = subst (λ (x : Found). is_shape x.shape ≡ true) (same_found (found_below g q) f e) (resolved_valid ns g.shape q u w)
+    Further : Type 0
+    Further = (t : Shape) (q : Found) → is_shape t ≡ true → resolve ns t ≡ Some q → is_shape q.shape ≡ true
 
-    by_field : (o : Option Found) → named_field n 0 fs ≡ o → option_and_then (λ (g : Found). option_map (found_below g) (resolve ns g.shape)) o ≡ Some f → is_shape f.shape ≡ true
-    by_field None w e = absurd (no_found f e)
-    by_field (Some g) w e = below g (named_valid n 0 fs g (and_parts (is_nonempty fs) (is_group fs) v).1 w) (resolve ns g.shape) refl e
+    below : Further → (g : Found) → is_shape g.shape ≡ true → (o : Option Found) → resolve ns g.shape ≡ o → option_map (found_below g) o ≡ Some f → is_shape f.shape ≡ true
+    below more g u None w e = absurd (no_found f e)
+    below more g u (Some q) w e = subst (λ (x : Found). is_shape x.shape ≡ true) (same_found (found_below g q) f e) (more g.shape q u w)
+
+    by_field : Further → (o : Option Found) → named_field n 0 fs ≡ o → option_and_then (λ (g : Found). option_map (found_below g) (resolve ns g.shape)) o ≡ Some f → is_shape f.shape ≡ true
+    by_field more None w e = absurd (no_found f e)
+    by_field more (Some g) w e = below more g (named_valid n 0 fs g (and_parts (is_nonempty fs) (is_group fs) v).1 w) (resolve ns g.shape) refl e
 
 -- also from a root without fields, since a text has a name
 from_root : (n : List ℕ) (ns : List (List ℕ)) (fs : Fields) (f : Found) → is_group fs ≡ true → resolve (n ∷ ns) (group fs) ≡ Some f → is_shape f.shape ≡ true

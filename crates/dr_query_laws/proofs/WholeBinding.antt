@@ -8,7 +8,7 @@ use Rattle.std.proofs.lemmas.Slice.Eq.{bytes_eq-Decides}
 use Rattle.dr_meaning.specs.Schema.{Schema, Fields}
 use Rattle.dr_meaning.specs.Path.{Step, begins_with, same_path}
 use Rattle.dr_meaning.specs.Expression.{Expression, paths_of}
-use Rattle.dr_meaning.specs.Query.{RecordTerm, expression as record_expression, within, RecordItem, GroupTerm, key, count_rows as rows_of_group, aggregate as aggregate_of_group, GroupItem, Query, Levels, levels_of}
+use Rattle.dr_meaning.specs.Query.{Aggregate, RecordTerm, expression as record_expression, within, RecordItem, GroupTerm, key, count_rows as rows_of_group, aggregate as aggregate_of_group, GroupItem, Query, Levels, levels_of}
 use Rattle.dr_meaning.specs.Syntax.{PathSyntax, TermSyntax, expression, count_rows, aggregate, ItemSyntax, ConditionSyntax, QuerySyntax}
 use Rattle.dr_meaning.specs.BoundExpression.{duplicate_name, not_grouped, BindFault, fault_at, unknown_table, Checked, passes, fails, checked_map, then_check, together, truth_type, BoundPath, BoundExpression, bind_path, bind_expression, of_type, unrelated_among}
 use Rattle.dr_meaning.specs.Binding.{bind_condition, BoundWithin, bind_within, bind_argument, alone, argument_alone, arguments_alone, unrelated_behind, BoundTerm, plain, rows_counted, aggregated, argument_of, bind_term, item_name, BoundItem, bind_item, bind_items, is_of_record, has_keys, is_record_syntax, bind_parts, faults_in, if_passed, passing, where_passed, all_passed, paths_of_condition, unrelated_in_term, within_faults, place_among, key_of, group_term, grouping_faults, has_name_of, has_name_of_list, duplicates_behind, duplicate_faults, table_faults, part_faults, unrelated_faults, item_faults, record_term, record_item, group_item, condition_of, query_of}
