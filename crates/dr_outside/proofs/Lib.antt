@@ -1,2 +1,4 @@
 pub mod FailingLemmas
+pub mod FaultLemmas
+pub mod ShelfLemmas
 pub mod SinkLemmas

@@ -118,7 +118,7 @@ tried d c = record { directory = d; cause = c }
 
 -- a link that holds these files, and whether it is steady
 abbrev shown : Bool → LinkShown
-shown steady = record { held = Some files; asked = None; faults = 1; is_steady = steady }
+shown steady = record { held = Some files; asked = None; puts = None; faults = 1; is_steady = steady }
 
 abbrev are_tried : Bool → List Tried → Type 0
 are_tried steady ts = AreTried one_schema (the_leaf ∷ []) (shown steady) (copy 3 path_b ∷ copy 0 path_c ∷ []) ts

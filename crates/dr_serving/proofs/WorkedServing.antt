@@ -126,7 +126,7 @@ too_many_values t = let n = t.bounded.0.0 in omega (arith, n)
 
 -- by two links, of which the first had five faults
 abbrev first_link : LinkShown
-first_link = record { held = Some files; asked = None; faults = 5; is_steady = false }
+first_link = record { held = Some files; asked = None; puts = None; faults = 5; is_steady = false }
 
 abbrev serving : List (List Copy) → Serving
 serving tablets = record { schema = one_schema; query = totals; first_link = first_link; other_links = Some files ∷ []; tablets = tablets }
