@@ -3,6 +3,7 @@
 
 mod copies;
 mod fault;
+mod file;
 mod filled;
 mod filling;
 mod loaded;
