@@ -5,7 +5,7 @@ ghost use Rattle.dr_formats.specs.LittleEndian.{little_endian};
 ghost use Rattle.dr_formats.specs.File.{is_framed};
 ghost use Rattle.dr_formats.specs.Opening.{end_ranges};
 ghost use Rattle.dr_outside.specs.Faults.{raised};
-ghost use Rattle.dr_chunk.specs.Telling.{Tells, AsksOnly, Serves};
+ghost use Rattle.dr_outside.specs.Telling.{Tells, AsksOnly, Serves};
 ghost use Rattle.dr_file.specs.Asking.{is_request_for};
 ghost use Rattle.dr_file.specs.Frames.{IsFrame, are_ends, outside_fault};
 ghost use Rattle.dr_file.specs.declared.frame.FooterFault.TheVariants.{NoMemory as WantOfMemory};

@@ -9,7 +9,7 @@ ghost use Rattle.dr_compact.specs.Views.{tree_view};
 ghost use Rattle.dr_meta.specs.Views.{file_view};
 ghost use Rattle.dr_nested.specs.SchemaView.{schema_view};
 ghost use Rattle.dr_outside.specs.Faults.{raised};
-ghost use Rattle.dr_chunk.specs.Telling.{Tells, AsksOnly, Serves};
+ghost use Rattle.dr_outside.specs.Telling.{Tells, AsksOnly, Serves};
 ghost use Rattle.dr_file.specs.Asking.{is_request_for};
 ghost use Rattle.dr_file.specs.Openings.{footer_with, footer_in, IsOpenFault};
 ghost use Rattle.dr_file.specs.OpenedFiles.{IsCauseOf, is_read_fault, HasCounts};

@@ -5,7 +5,7 @@ ghost use Rattle.dr_formats.specs.File.{most_rows};
 ghost use Rattle.dr_formats.specs.Opening.{opening_cause, end_ranges, footer_ranges};
 ghost use Rattle.dr_outside.specs.Faults.{raised};
 ghost use Rattle.dr_nested.specs.PathView.{path_view};
-ghost use Rattle.dr_chunk.specs.Telling.{Tells, AsksOnly, Serves};
+ghost use Rattle.dr_outside.specs.Telling.{Tells, AsksOnly, Serves};
 ghost use Rattle.dr_file.specs.Asking.{is_request_for};
 ghost use Rattle.dr_file.specs.Openings.{IsOpenFault};
 ghost use Rattle.dr_file.specs.OpenedFiles.{IsOpened, IsCauseOf, is_read_fault, told_fault, HasCounts, rows_of, path_of, leaf_count};

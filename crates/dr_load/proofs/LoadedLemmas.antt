@@ -23,7 +23,7 @@ use Rattle.dr_reading.specs.Premises.{HoldsRecords, PathsHold, TabletsHold}
 use Rattle.dr_reading.specs.Scan.{Copy, tablets_from, tablets_of, joined, copy_paths}
 use Rattle.dr_load.specs.Loads.{taken_of}
 use Rattle.dr_load.specs.Records.{WhereTold}
-use Rattle.dr_load.specs.Puts.{HasPut}
+use Rattle.dr_load.specs.Puts.{HoldsPut}
 use Rattle.dr_load.specs.Loaded.{IsPlan, AreLoadable, CopiesHold, TabletsAreFiles}
 use Rattle.dr_load.specs.LoadedLaws.{LoadedCopiesAreFiles, LoadedTableIsHeld, LoadedRecordsAreHeld, LoadedRecordsAreJoined}
 use Rattle.dr_load.proofs.LoadedTablets.{AllFit, all_fit, some_tablet}
@@ -110,7 +110,7 @@ pub loaded_records_are_held : LoadedRecordsAreHeld
 loaded_records_are_held p count input F before now s a f l =
     let ts : List (List Node) = tablets p.rows l.records in
     let fit : AreLoadable p l.records = record { records = l.are_records; limited = l.limited; few_tablets = omega (arith, l.tablets_of, l.few_tablets) } in
-    let w : HasPut (whole_puts p ts) (Some before) (Some now) = subst (λ (k : ℕ). HasPut (puts_from p 0 ts ++ put_at p.table (table_text (table_of p k))) (Some before) (Some now)) (sym l.tablets_of) l.put in (
+    let w : HoldsPut (whole_puts p ts) (Some before) (Some now) = subst (λ (k : ℕ). HoldsPut (puts_from p 0 ts ++ put_at p.table (table_text (table_of p k))) (Some before) (Some now)) (sym l.tablets_of) l.put in (
       omega (arith, some_tablet p.rows ts (tablets_are_full p.rows l.records s.has_rows), l.tablets_of),
       subst (λ (k : ℕ). TabletsAreFiles p.schema F now (tablets_of (table_of p k)) ts) l.tablets_of (loaded_copies_are_files p l.records F before now s fit a f w),
       told_records p input l.records l.taken,

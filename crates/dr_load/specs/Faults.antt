@@ -1,5 +1,5 @@
 -- What the faults of this crate stand for.
-use Rattle.std.specs.Prelude.{Option, Some, None}
+use Rattle.std.specs.Prelude.{Bool, true, false, Option, Some, None}
 use Rattle.dr_meaning.specs.Lines.{Refusal, line_too_long, too_many_records, no_record}
 use Rattle.dr_json.specs.Faults.{record_problem_view}
 use Rattle.dr_outside.specs.declared.fault.Fault.{Fault}
@@ -18,3 +18,12 @@ refusal_of LoadFault.KeepFault = None
 abbrev pub of_outside : Fault → LoadFault
 of_outside Fault.Failed = LoadFault.KeepFault
 of_outside Fault.NoMemory = LoadFault.NoMemory
+
+-- whether the keeper tells of a put that failed so: not where memory was wanting for it
+abbrev pub is_told : LoadFault → Bool
+is_told LoadFault.NoMemory = false
+is_told (LoadFault.BadLine n w) = true
+is_told (LoadFault.LineTooLong n) = true
+is_told (LoadFault.TooManyRecords n) = true
+is_told LoadFault.ReadFault = true
+is_told LoadFault.KeepFault = true

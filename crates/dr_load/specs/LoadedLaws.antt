@@ -11,21 +11,21 @@ use Rattle.dr_reading.specs.Scan.{joined, tablets_of}
 use Rattle.dr_reading.specs.Premises.{TabletsHold}
 use Rattle.dr_load.specs.Loads.{LoadsTable}
 use Rattle.dr_load.specs.Records.{WhereTold}
-use Rattle.dr_load.specs.Puts.{HasPut}
+use Rattle.dr_load.specs.Puts.{HoldsPut}
 use Rattle.dr_load.specs.Loaded.{IsPlan, AreLoadable, IsApart, TabletsAreFiles}
 
 -- behind the puts of a table, whatever was held before: each copy of each tablet holds the file that is written for the tablet's records, and it is one
 abbrev pub LoadedCopiesAreFiles : Type 0
 LoadedCopiesAreFiles = (p : Plan) (R : List Node) (F : List Leaf) (before now : Files)
     → IsPlan p → AreLoadable p R → IsApart p.directories p.table → AreAmong (leaves p.schema.fields) F
-    → HasPut (whole_puts p (tablets p.rows R)) (Some before) (Some now)
+    → HoldsPut (whole_puts p (tablets p.rows R)) (Some before) (Some now)
     → TabletsAreFiles p.schema F now (tablets_of (table_of p (length (tablets p.rows R)))) (tablets p.rows R)
 
 -- so the table is held: what is read of it is its records
 abbrev pub LoadedTableIsHeld : Type 0
 LoadedTableIsHeld = (p : Plan) (R : List Node) (F : List Leaf) (before now : Files)
     → IsPlan p → AreLoadable p R → IsApart p.directories p.table → AreAmong (leaves p.schema.fields) F
-    → HasPut (whole_puts p (tablets p.rows R)) (Some before) (Some now)
+    → HoldsPut (whole_puts p (tablets p.rows R)) (Some before) (Some now)
     → TabletsHold p.schema F now (tablets_of (table_of p (length (tablets p.rows R)))) (tablets p.rows R)
 
 -- a table that a load has put, with its file or without: there is a tablet; each copy of each tablet holds the file that is written for the tablet's records; and

@@ -4,6 +4,7 @@
 
 mod copies;
 mod fault;
+mod file;
 mod filled;
 mod filling;
 mod line;

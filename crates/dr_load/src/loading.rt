@@ -1,16 +1,17 @@
 //! Loading a table.
 
-ghost use Rattle.std.specs.Prelude.{◌≡◌, ◌≢◌, ◌∷◌, [], Some, None, Err, MatchOption, ⊤, IsTrue, IfOk, IfErr, OnOk, OnErr};
+ghost use Rattle.std.specs.Prelude.{◌≡◌, ◌≢◌, ◌∷◌, [], Some, None, Err, MatchOption, ⊤, IsTrue, IfOk, IfErr, OnOk};
 ghost use Rattle.dr_formats.specs.TableFile.{table_text};
 ghost use Rattle.dr_formats.specs.Loading as meant;
 ghost use Rattle.dr_outside.specs.Faults.{raised};
-ghost use Rattle.dr_load.specs.Faults.{refusal_of};
+ghost use Rattle.dr_load.specs.Faults.{refusal_of, is_told};
 ghost use Rattle.dr_load.specs.Plans.{plan_view};
 ghost use Rattle.dr_load.specs.Records.{WhereTold};
-ghost use Rattle.dr_load.specs.Puts.{HasPut, HasPutElsewhere};
+ghost use Rattle.dr_load.specs.Puts.{HasPut, HasFailed};
 ghost use Rattle.dr_load.specs.Loads.{LeavesPuts, LoadsTable, tablet_part};
 
 use crate::fault::LoadFault;
+use crate::file::put_file;
 use crate::filling::fill_tablet;
 use crate::loaded::Loaded;
 use crate::plan::Plan;
@@ -35,12 +36,12 @@ pub fn load<S: Source, K: Keeper>(
     ensures accepted { OnOk result (WhereTold (S.shows source.old).left (λ input. (meant.load (plan_view plan.now) input).refusal ≡ None)) }
     ensures tablets { IfOk result (λ l. WhereTold (S.shows source.old).left (λ input. l.tablets ≡ (meant.load (plan_view plan.now) input).tablets)) }
     ensures records { IfOk result (λ l. WhereTold (S.shows source.old).left (λ input. l.records ≡ (meant.load (plan_view plan.now) input).records)) }
-    ensures puts { OnOk result (WhereTold (S.shows source.old).left (λ input. HasPut (meant.load (plan_view plan.now) input).puts (K.shows keeper.old).held (K.shows keeper.new).held)) }
+    ensures puts { OnOk result (WhereTold (S.shows source.old).left (λ input. HasPut (meant.load (plan_view plan.now) input).puts (K.shows keeper.old) (K.shows keeper.new))) }
     ensures table { IfOk result (λ l. LoadsTable (plan_view plan.now) (plan_view plan.now).table l.tablets (S.shows source.old).left (K.shows keeper.old).held (K.shows keeper.new).held) }
     ensures end { OnOk result (WhereTold (S.shows source.old).left (λ _. (S.shows source.new).left ≡ Some [])) }
 
     ensures refused { IfErr result (λ e. MatchOption (refusal_of e) ⊤ (λ r. WhereTold (S.shows source.old).left (λ input. (meant.load (plan_view plan.now) input).refusal ≡ Some r))) }
-    ensures stands { IfErr result (λ e. WhereTold (S.shows source.old).left (λ input. LeavesPuts (plan_view plan.now) input (K.shows keeper.old).held (K.shows keeper.new).held e)) }
+    ensures stands { IfErr result (λ e. WhereTold (S.shows source.old).left (λ input. LeavesPuts (plan_view plan.now) input (K.shows keeper.old) (K.shows keeper.new) e)) }
 
     ensures source_cause { result ≡ Err LoadFault.ReadFault → (S.shows source.new).faults ≡ raised (S.shows source.old).faults }
     ensures source_calm { result ≢ Err LoadFault.ReadFault → (S.shows source.new).faults ≡ (S.shows source.old).faults }
@@ -70,8 +71,8 @@ fn put_table<K: Keeper>(
     tablets: u32,
     path: &str,
 ) -> Result<(), LoadFault>
-    ensures put { OnOk result (HasPut (record { path = path.now; bytes = table_text (meant.table_of (plan_view plan.now) tablets) } ∷ []) (K.shows keeper.old).held (K.shows keeper.new).held) }
-    ensures broken { OnErr result (HasPutElsewhere [] path.now (K.shows keeper.old).held (K.shows keeper.new).held) }
+    ensures put { OnOk result (HasPut (record { path = path.now; bytes = table_text (meant.table_of (plan_view plan.now) tablets) } ∷ []) (K.shows keeper.old) (K.shows keeper.new)) }
+    ensures broken { IfErr result (λ e. HasFailed (is_told e) [] (record { path = path.now; bytes = table_text (meant.table_of (plan_view plan.now) tablets) }) (K.shows keeper.old) (K.shows keeper.new)) }
     ensures cause { result ≡ Err LoadFault.KeepFault → (K.shows keeper.new).faults ≡ raised (K.shows keeper.old).faults }
     ensures calm { result ≢ Err LoadFault.KeepFault → (K.shows keeper.new).faults ≡ (K.shows keeper.old).faults }
     ensures read { result ≢ Err LoadFault.ReadFault }
@@ -82,10 +83,7 @@ fn put_table<K: Keeper>(
 {
     match table_text_of(alloc, plan.schema, plan.leaves, plan.copies, tablets) {
         Err(_) => Err(LoadFault::NoMemory),
-        Ok(text) => match keeper.put(path, text.as_bytes()) {
-            Ok(()) => Ok(()),
-            Err(fault) => Err(fault.into()),
-        },
+        Ok(text) => put_file(keeper, path, text.as_bytes()),
     }
 }
 
@@ -99,11 +97,11 @@ fn load_tablets<S: Source, K: Keeper>(
     ensures accepted { OnOk result (WhereTold (S.shows source.old).left (λ input. (meant.load (plan_view plan.now) input).refusal ≡ None)) }
     ensures tablets { IfOk result (λ l. WhereTold (S.shows source.old).left (λ input. l.tablets ≡ (meant.load (plan_view plan.now) input).tablets)) }
     ensures records { IfOk result (λ l. WhereTold (S.shows source.old).left (λ input. l.records ≡ (meant.load (plan_view plan.now) input).records)) }
-    ensures puts { OnOk result (WhereTold (S.shows source.old).left (λ input. HasPut (tablet_part (plan_view plan.now) input) (K.shows keeper.old).held (K.shows keeper.new).held)) }
+    ensures puts { OnOk result (WhereTold (S.shows source.old).left (λ input. HasPut (tablet_part (plan_view plan.now) input) (K.shows keeper.old) (K.shows keeper.new))) }
     ensures table { IfOk result (λ l. LoadsTable (plan_view plan.now) None l.tablets (S.shows source.old).left (K.shows keeper.old).held (K.shows keeper.new).held) }
     ensures end { OnOk result (WhereTold (S.shows source.old).left (λ _. (S.shows source.new).left ≡ Some [])) }
     ensures refused { IfErr result (λ e. MatchOption (refusal_of e) ⊤ (λ r. WhereTold (S.shows source.old).left (λ input. (meant.load (plan_view plan.now) input).refusal ≡ Some r))) }
-    ensures stands { IfErr result (λ e. WhereTold (S.shows source.old).left (λ input. LeavesPuts (plan_view plan.now) input (K.shows keeper.old).held (K.shows keeper.new).held e)) }
+    ensures stands { IfErr result (λ e. WhereTold (S.shows source.old).left (λ input. LeavesPuts (plan_view plan.now) input (K.shows keeper.old) (K.shows keeper.new) e)) }
     ensures source_cause { result ≡ Err LoadFault.ReadFault → (S.shows source.new).faults ≡ raised (S.shows source.old).faults }
     ensures source_calm { result ≢ Err LoadFault.ReadFault → (S.shows source.new).faults ≡ (S.shows source.old).faults }
     ensures keeper_cause { result ≡ Err LoadFault.KeepFault → (K.shows keeper.new).faults ≡ raised (K.shows keeper.old).faults }

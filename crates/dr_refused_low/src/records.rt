@@ -7,7 +7,7 @@ ghost use Rattle.dr_nested.specs.SchemaView.{schema_view};
 ghost use Rattle.dr_nested.specs.PathView.{path_view};
 ghost use Rattle.dr_assemble.specs.Views.{nodes_view};
 ghost use Rattle.dr_outside.specs.Link.{Lacks};
-ghost use Rattle.dr_chunk.specs.Telling.{Tells, Serves, AsksOnly};
+ghost use Rattle.dr_outside.specs.Telling.{Tells, Serves, AsksOnly};
 ghost use Rattle.dr_file.specs.Asking.{is_request_for};
 ghost use Rattle.dr_file.specs.OpenedFiles.{HasCounts, is_read_fault};
 ghost use Rattle.dr_tablets.specs.Counting.{counted};

@@ -27,8 +27,7 @@ pub fn loaded<S: Source, K: Keeper>(
     ensures records { IfOk result (λ l. WhereTold (S.shows source.old).left
         (λ input. l.records ≡ (meant.load (plan_view plan.now) input).records)) }
     ensures puts { OnOk result (WhereTold (S.shows source.old).left
-        (λ input. HasPut (meant.load (plan_view plan.now) input).puts (K.shows keeper.old).held
-        (K.shows keeper.new).held)) }
+        (λ input. HasPut (meant.load (plan_view plan.now) input).puts (K.shows keeper.old) (K.shows keeper.new))) }
     ensures table { IfOk result (λ l. LoadsTable (plan_view plan.now) (plan_view plan.now).table l.tablets
         (S.shows source.old).left (K.shows keeper.old).held (K.shows keeper.new).held) }
     ensures end { OnOk result (WhereTold (S.shows source.old).left (λ _. (S.shows source.new).left ≡ Some [])) }
@@ -36,7 +35,7 @@ pub fn loaded<S: Source, K: Keeper>(
     ensures refused { IfErr result (λ e. MatchOption (refusal_of e) ⊤
         (λ r. WhereTold (S.shows source.old).left (λ input. (meant.load (plan_view plan.now) input).refusal ≡ Some r))) }
     ensures stands { IfErr result (λ e. WhereTold (S.shows source.old).left
-        (λ input. LeavesPuts (plan_view plan.now) input (K.shows keeper.old).held (K.shows keeper.new).held e)) }
+        (λ input. LeavesPuts (plan_view plan.now) input (K.shows keeper.old) (K.shows keeper.new) e)) }
 
     ensures source_cause { result ≡ Err LoadFault.ReadFault
         → (S.shows source.new).faults ≡ raised (S.shows source.old).faults }

@@ -4,7 +4,7 @@ ghost use Rattle.std.specs.Prelude.{◌≡◌, ◌≢◌, ◌≤◌, ℕ, List, 
 ghost use Rattle.dr_formats.specs.Opening.{reader_ranges};
 ghost use Rattle.dr_nested.specs.SchemaView.{schema_view};
 ghost use Rattle.dr_outside.specs.Link.{Lacks};
-ghost use Rattle.dr_chunk.specs.Telling.{Tells, Serves, AsksOnly};
+ghost use Rattle.dr_outside.specs.Telling.{Tells, Serves, AsksOnly};
 ghost use Rattle.dr_file.specs.Asking.{is_request_for};
 ghost use Rattle.dr_file.specs.OpenedFiles.{HasCounts, is_read_fault};
 ghost use Rattle.dr_meaning.specs.Record.{Node};

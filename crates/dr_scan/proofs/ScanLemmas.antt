@@ -11,7 +11,7 @@ use Rattle.dr_meaning.specs.Query.{Query}
 use Rattle.dr_meaning.specs.QueryLeaves.{query_leaves}
 use Rattle.dr_formats.specs.File.{IsFileOf, most_triplets}
 use Rattle.dr_outside.specs.Link.{Files, Lacks}
-use Rattle.dr_chunk.specs.Telling.{TellsFile}
+use Rattle.dr_outside.specs.Telling.{TellsFile}
 use Rattle.dr_nested.specs.Views.{node_view}
 use Rattle.dr_nested.specs.PathView.{path_view}
 use Rattle.dr_nested.specs.declared.path.Path.{Path}

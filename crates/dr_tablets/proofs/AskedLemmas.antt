@@ -7,7 +7,8 @@ use Rattle.dr_meaning.specs.Path.{Leaf}
 use Rattle.dr_formats.specs.File.{Footer, footer_of}
 use Rattle.dr_formats.specs.Opening.{Range, range, is_inside, end_ranges, footer_ranges, leaf_ranges, chunk_ranges, reader_ranges}
 use Rattle.dr_outside.specs.Link.{Request, size_of, bytes_of}
-use Rattle.dr_chunk.specs.Telling.{AsksOnly, is_read_inside}
+use Rattle.dr_outside.specs.Telling.{AsksOnly}
+use Rattle.dr_chunk.specs.Ranges.{is_read_inside}
 use Rattle.dr_chunk.proofs.AskLemmas.{asks_then}
 use Rattle.dr_file.specs.Asking.{is_request_for}
 use Rattle.dr_file.proofs.AskLemmas.{asks_weaker}

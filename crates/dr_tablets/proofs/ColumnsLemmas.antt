@@ -4,6 +4,7 @@ use Rattle.std.specs.Prelude.{IsErrAnd, Result, Ok, Err}
 use Rattle.std.specs.List.{slice_get}
 use Rattle.dr_formats.specs.Opening.{leaf_cause}
 use Rattle.dr_outside.specs.declared.cause.Cause.{Cause}
+use Rattle.dr_outside.proofs.FaultLemmas.{raised_never_falls}
 use Rattle.dr_file.specs.declared.file_fault.FileFault.{FileFault}
 use Rattle.dr_meaning.specs.Path.{Leaf}
 use Rattle.dr_meaning.specs.Column.{Triplet}
@@ -55,12 +56,12 @@ pub no_read_fault : {A : Type 0} (r : Result A FileFault) (e : FileFault) → Is
 no_read_fault (Ok a) e h p = refl
 no_read_fault (Err x) e h p = ap is_link_fault h ∙ p
 
--- a count below 2^64 doesn't fall with one failure more
-pub never_falls : {A : Type 0} (old new count : ℕ) (r : Result A FileFault) → count ≡ old → count < 2 ^ 64 → IfErr r (HasCounts old new) → (is_read_fault r ≡ false → new ≡ old) → old ≤ new
-never_falls old new count (Ok a) e l h calm = omega (arith, calm refl)
-never_falls old new count (Err FileFault.NoMemory) e l h calm = omega (arith, calm refl)
-never_falls old new count (Err (FileFault.Why (Cause.ReadFailed before after))) e l h calm = omega (arith, h.2, e, l)
-never_falls old new count (Err (FileFault.Why Cause.BadFooter)) e l h calm = omega (arith, calm refl)
-never_falls old new count (Err (FileFault.Why Cause.BadSchema)) e l h calm = omega (arith, calm refl)
-never_falls old new count (Err (FileFault.Why Cause.BadCodec)) e l h calm = omega (arith, calm refl)
-never_falls old new count (Err (FileFault.Why Cause.BadData)) e l h calm = omega (arith, calm refl)
+-- a count that rises by one at a link's failure, and at nothing else, never falls
+pub never_falls : {A : Type 0} (old new : ℕ) (r : Result A FileFault) → IfErr r (HasCounts old new) → (is_read_fault r ≡ false → new ≡ old) → old ≤ new
+never_falls old new (Ok a) h calm = omega (arith, calm refl)
+never_falls old new (Err FileFault.NoMemory) h calm = omega (arith, calm refl)
+never_falls old new (Err (FileFault.Why (Cause.ReadFailed before after))) h calm = omega (arith, raised_never_falls old, h.2)
+never_falls old new (Err (FileFault.Why Cause.BadFooter)) h calm = omega (arith, calm refl)
+never_falls old new (Err (FileFault.Why Cause.BadSchema)) h calm = omega (arith, calm refl)
+never_falls old new (Err (FileFault.Why Cause.BadCodec)) h calm = omega (arith, calm refl)
+never_falls old new (Err (FileFault.Why Cause.BadData)) h calm = omega (arith, calm refl)

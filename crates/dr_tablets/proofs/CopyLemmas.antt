@@ -10,7 +10,7 @@ use Rattle.dr_formats.specs.Tablets.{placement}
 use Rattle.dr_outside.specs.Faults.{raised, Rose}
 use Rattle.dr_outside.specs.Link.{Files, LinkShown, Holds, Lacks}
 use Rattle.dr_outside.specs.declared.cause.Cause.{Cause}
-use Rattle.dr_chunk.specs.Telling.{TellsFile}
+use Rattle.dr_outside.specs.Telling.{TellsFile}
 use Rattle.dr_file.specs.OpenedFiles.{HasCounts, is_link_fault}
 use Rattle.dr_file.specs.declared.file_fault.FileFault.{FileFault}
 use Rattle.dr_tablets.specs.FileRecords.{AreOfFile, AreProjected, IsFaultOf}

@@ -11,7 +11,8 @@ ghost use Rattle.dr_nested.specs.PathView.{path_view};
 ghost use Rattle.dr_levels.specs.Views.{columns_view};
 ghost use Rattle.dr_assemble.specs.Views.{nodes_view};
 ghost use Rattle.dr_outside.specs.Link.{Lacks};
-ghost use Rattle.dr_chunk.specs.Telling.{Tells, Serves, AsksOnly, is_read_inside};
+ghost use Rattle.dr_outside.specs.Telling.{Tells, Serves, AsksOnly};
+ghost use Rattle.dr_chunk.specs.Ranges.{is_read_inside};
 ghost use Rattle.dr_file.specs.Asking.{is_request_for};
 ghost use Rattle.dr_file.specs.OpenedFiles.{IsOpened, HasCounts, is_read_fault, leaf_count, path_of};
 ghost use Rattle.dr_tablets.specs.Counting.{counted};
@@ -77,46 +78,6 @@ fn file_fault(fault: AssembleFault) -> FileFault
 ///
 /// Errors, at which no step is counted: the link failed, with its counts of faults before and after this call; else the first cause for
 /// which the file is none of any records for these leaves; want of memory.
-fn read_file<L: Link>(
-    alloc: Global,
-    link: &mut L,
-    path: &str,
-    schema: &Schema,
-    fields: &[Path],
-    steps: &mut Steps,
-) -> Result<Vec<Node>, FileFault>
-    requires { AreLeavesOf (fields_view (schema.now).fields.items) (map path_view fields.now) }
-    ensures records { (bytes : List ℕ) → Tells (L.shows link.old) path.now bytes → IfOk result (λ v. AreOfFile bytes (schema_view schema.now) (map path_view fields.now) (nodes_view v.items)) }
-    ensures form { IfOk result (λ v. AreProjected (schema_view schema.now) (map path_view fields.now) (nodes_view v.items)) }
-    ensures cause { (bytes : List ℕ) → Tells (L.shows link.old) path.now bytes → IfErr result (IsFaultOf bytes (schema_view schema.now) (map path_view fields.now)) }
-    ensures few { IfOk result (λ v. AreFew (map path_view fields.now) (nodes_view v.items)) }
-    ensures counted { IfOk result (λ v. steps.new ≡ counted steps.old (triplets_at (map path_view fields.now) (nodes_view v.items))) }
-    ensures uncounted { IfErr result (λ e. steps.new ≡ steps.old) }
-    ensures asked { (bytes : List ℕ) → Tells (L.shows link.old) path.now bytes → AsksOnly (is_request_for path.now (reader_ranges bytes (map path_view fields.now))) (L.shows link.old).asked (L.shows link.new).asked }
-    ensures same { (L.shows link.new).held ≡ (L.shows link.old).held }
-    ensures counts { IfErr result (HasCounts (L.shows link.old).faults (L.shows link.new).faults) }
-    ensures calm { is_read_fault result ≡ false → (L.shows link.new).faults ≡ (L.shows link.old).faults }
-    ensures steady { (bytes : List ℕ) → Serves (L.shows link.old) path.now bytes → is_read_fault result ≡ false }
-    ensures absent { Lacks (L.shows link.old).held path.now → result ≢ Err FileFault.NoMemory → is_read_fault result ≡ true }
-    ensures stays_steady { IsTrue (L.shows link.old).is_steady → IsTrue (L.shows link.new).is_steady }
-{
-    let opened = Opened::start(alloc, link, path, fields)?;
-    let mut read = Steps::new();
-    let columns = read_columns(alloc, link, &opened, fields.len(), &mut read)?;
-    match assemble(alloc, schema, fields, &columns, opened.rows()) {
-        Ok(records) => {
-            steps.add(read.taken());
-            Ok(records)
-        }
-        Err(fault) => Err(file_fault(fault)),
-    }
-}
-
-/// The records of the file at a path, projected to these leaves of the schema. The link is asked for the file's size, its two ends, the
-/// footer, and the chunks of these leaves. A step is a triplet of one of these leaves.
-///
-/// Errors, at which no step is counted: the link failed, with its counts of faults before and after this call; else the first cause for
-/// which the file is none of any records for these leaves; want of memory.
 pub fn read_records<L: Link>(
     alloc: Global,
     link: &mut L,
@@ -141,7 +102,14 @@ pub fn read_records<L: Link>(
     ensures never_falls { (L.shows link.old).faults ≤ (L.shows link.new).faults }
     ensures stays_steady { IsTrue (L.shows link.old).is_steady → IsTrue (L.shows link.new).is_steady }
 {
-    // a count that is below 2^64 doesn't fall with one failure more
-    let _faults = link.faults();
-    read_file(alloc, link, path, schema, fields, steps)
+    let opened = Opened::start(alloc, link, path, fields)?;
+    let mut read = Steps::new();
+    let columns = read_columns(alloc, link, &opened, fields.len(), &mut read)?;
+    match assemble(alloc, schema, fields, &columns, opened.rows()) {
+        Ok(records) => {
+            steps.add(read.taken());
+            Ok(records)
+        }
+        Err(fault) => Err(file_fault(fault)),
+    }
 }

@@ -17,7 +17,7 @@ use Rattle.dr_commands.specs.Meaning.{Look, Outcome, puts_in}
 use Rattle.dr_commands.specs.Dump.{DumpWords, dump_meaning, dump_table, dump_named}
 use Rattle.dr_top.specs.World.{WhereTold, WithOutcome}
 use Rattle.dr_top.specs.Reading.{HasText, IsLeftWith}
-use Rattle.dr_top.specs.Stops.{StopsPlain, StopsWith, FieldStops, IsFileTable, field_stop}
+use Rattle.dr_top.specs.Stops.{IsUnput, StopsPlain, StopsWith, FieldStops, IsFileTable, field_stop}
 use Rattle.dr_top.specs.declared.refusal.Refusal.{Refusal}
 use Rattle.dr_top.specs.declared.field.FieldFault.{FieldFault}
 use Rattle.dr_top.specs.declared.stop.Stop.{Stop}
@@ -52,7 +52,7 @@ dump_text_ends w k i l ls path text texts t F p q f e h =
     always_with (dump_meaning w) w.table k i (λ o. HasText o (l ∷ ls) text) refl (named_ends w k.held path texts t (Ok F) (λ o. HasText o (l ∷ ls) text) p q f e h)
 
 pub dump_left : (w : DumpWords) (k k1 : LinkShown) (i : SourceShown) (l l1 : LinkShown) (ls : List LinkShown) (path : List ℕ) (texts : List (List ℕ)) (t : Table) (F : List Leaf) (left : Vec LeftTablet Global) → path ≡ w.table → texts ≡ w.fields
-    → IsFileTable k.held path t → named_leaves t.schema.fields [] 0 texts ≡ Ok F → k1.faults ≡ k.faults → k1.held ≡ k.held → LeavesTablets t F (all_left_view left.items) l l1
+    → IsFileTable k.held path t → named_leaves t.schema.fields [] 0 texts ≡ Ok F → k1.faults ≡ k.faults → IsUnput k k1 → LeavesTablets t F (all_left_view left.items) l l1
     → StopsWith (dump_meaning w) k k1 i i (l ∷ ls) (l1 ∷ ls) (Stop.Left left)
 dump_left w k k1 i l l1 ls path texts t F left p q f e c d h = (
   c,

@@ -8,13 +8,14 @@ use Rattle.dr_formats.specs.TableFile.{TableFault as TableProblem, parse_table}
 use Rattle.dr_nested.specs.Faults.{problem_view}
 use Rattle.dr_table.specs.Faults.{problem_view as table_problem_view}
 use Rattle.dr_load.specs.Puts.{HasPut, HasPutSome}
+use Rattle.dr_load.proofs.PutLemmas.{nothing_put}
 use Rattle.dr_outside.specs.Source.{SourceShown}
 use Rattle.dr_outside.specs.Link.{Files, LinkShown}
 use Rattle.dr_commands.specs.Refusals.{schema_refused, table_refused}
 use Rattle.dr_commands.specs.Meaning.{Look, Meaning, Outcome, done, refused, puts_in}
 use Rattle.dr_top.specs.World.{WhereTold, WhereUsed, WhereFile, WithOutcome, ForOutcome, HasOutcome}
 use Rattle.dr_top.specs.Answers.{Gives, Finishes}
-use Rattle.dr_top.specs.Stops.{SchemaFileStops, TableFileStops, StopsPlain, StopsWith, PutsSome, IsRefusedSchema, IsRefusedTable, IsRefusedSo, schema_file_stop, table_file_stop, refusal_view}
+use Rattle.dr_top.specs.Stops.{IsUnput, SchemaFileStops, TableFileStops, StopsPlain, StopsWith, PutsSome, PutsBeforeEnd, puts_before_end, IsRefusedSchema, IsRefusedTable, IsRefusedSo, schema_file_stop, table_file_stop, refusal_view}
 use Rattle.dr_top.specs.declared.refusal.Refusal.{Refusal}
 use Rattle.dr_top.specs.declared.schema_file.SchemaFileFault.{SchemaFileFault}
 use Rattle.dr_top.specs.declared.table_file.TableFileFault.{TableFileFault}
@@ -76,47 +77,52 @@ early_stop m path keeper keeper_now input r p calm h = (calm, refl, always_ends 
 
 -- ---- what puts nothing
 
-pub put_none : (held now : Option Files) → now ≡ held → HasPut [] held now
-put_none None now e = tt
-put_none (Some fs) now e = subst (λ (x : Option Files). HasPut [] (Some fs) x) (sym e) (λ path. refl)
+pub put_none : (k k1 : LinkShown) → IsUnput k k1 → HasPut [] k k1
+put_none k k1 e = nothing_put k k1 e.held e.puts
 
-pub put_nothing : (m : Meaning) (k k1 : LinkShown) (i : SourceShown) → k1.held ≡ k.held → PutsSome m k k1 i
-put_nothing m k k1 i e = of_each m k i (λ o. HasPutSome (puts_in o) k.held k1.held) (λ o. ([], puts_in o, refl, put_none k.held k1.held e))
+some_of_none : (ps : List Put) (k k1 : LinkShown) → IsUnput k k1 → HasPutSome ps k k1
+some_of_none ps k k1 e = ([], ps, refl, put_none k k1 e)
 
-pub plain_finishes : (m : Meaning) (k k1 : LinkShown) (i : SourceShown) (ls : List LinkShown) (text : List ℕ) → k1.held ≡ k.held → HasOutcome m k i (done text []) → Finishes m k k1 i ls text
+pub put_nothing : (m : Meaning) (k k1 : LinkShown) (i : SourceShown) → IsUnput k k1 → PutsSome m k k1 i
+put_nothing m k k1 i e = of_each m k i (λ o. HasPutSome (puts_in o) k k1) (λ o. some_of_none (puts_in o) k k1 e)
+
+put_nothing_yet : (m : Meaning) (k k1 : LinkShown) (i : SourceShown) → IsUnput k k1 → PutsBeforeEnd m k k1 i
+put_nothing_yet m k k1 i e = of_each m k i (λ o. HasPutSome (puts_before_end o) k k1) (λ o. some_of_none (puts_before_end o) k k1 e)
+
+pub plain_finishes : (m : Meaning) (k k1 : LinkShown) (i : SourceShown) (ls : List LinkShown) (text : List ℕ) → IsUnput k k1 → HasOutcome m k i (done text []) → Finishes m k k1 i ls text
 plain_finishes m k k1 i ls text e h =
-    weaker m k i (λ o. o ≡ done text []) (Gives k k1 ls text) (λ o is. subst (Gives k k1 ls text) (sym is) (refl, put_none k.held k1.held e)) h
+    weaker m k i (λ o. o ≡ done text []) (Gives k k1 ls text) (λ o is. subst (Gives k k1 ls text) (sym is) (refl, put_none k k1 e)) h
 
-pub plain_answer : {E : Type 0} (m : Meaning) (k k1 : LinkShown) (i : SourceShown) (ls : List LinkShown) (r : Result (String Global) E) → k1.held ≡ k.held → IfOk r (λ t. HasOutcome m k i (done (string_bytes t) []))
+pub plain_answer : {E : Type 0} (m : Meaning) (k k1 : LinkShown) (i : SourceShown) (ls : List LinkShown) (r : Result (String Global) E) → IsUnput k k1 → IfOk r (λ t. HasOutcome m k i (done (string_bytes t) []))
     → IfOk r (λ t. Finishes m k k1 i ls (string_bytes t))
 plain_answer m k k1 i ls (Ok t) e h = plain_finishes m k k1 i ls (string_bytes t) e h
 plain_answer m k k1 i ls (Err x) e h = tt
 
-pub plain_stop : (m : Meaning) (k k1 : LinkShown) (i i1 : SourceShown) (ls : List LinkShown) (stop : Stop) → k1.held ≡ k.held → StopsPlain m k k1 i i1 stop → StopsWith m k k1 i i1 ls ls stop
+pub plain_stop : (m : Meaning) (k k1 : LinkShown) (i i1 : SourceShown) (ls : List LinkShown) (stop : Stop) → IsUnput k k1 → StopsPlain m k k1 i i1 stop → StopsWith m k k1 i i1 ls ls stop
 plain_stop m k k1 i i1 ls Stop.Usage e h = absurd h
 plain_stop m k k1 i i1 ls Stop.NoMemory e h = (h.0, h.1, inl (put_nothing m k k1 i e))
 plain_stop m k k1 i i1 ls Stop.Keeper e h = (h.0, ap (λ (x : SourceShown). x.faults) h.1, refl, inl (h.1, e))
-plain_stop m k k1 i i1 ls Stop.Source e h = (h.0, h.1, refl, h.2, put_nothing m k k1 i e)
+plain_stop m k k1 i i1 ls Stop.Source e h = (h.0, h.1, refl, h.2, put_nothing_yet m k k1 i e)
 plain_stop m k k1 i i1 ls (Stop.Refused r) e h = (
   h.0,
   h.1,
   refl,
-  weaker m k i (λ o. o ≡ refused (refusal_view r) []) (IsRefusedSo (refusal_view r) k.held k1.held) (λ o is. ([], is, put_none k.held k1.held e)) h.2,
+  weaker m k i (λ o. o ≡ refused (refusal_view r) []) (IsRefusedSo (refusal_view r) k k1) (λ o is. ([], is, put_none k k1 e)) h.2,
   h.3,
 )
 plain_stop m k k1 i i1 ls (Stop.Left left) e h = absurd h
 plain_stop m k k1 i i1 ls (Stop.LeftFile cause) e h = absurd h
 
-pub plain_stops : {A : Type 0} (m : Meaning) (k k1 : LinkShown) (i i1 : SourceShown) (ls : List LinkShown) (r : Result A Stop) → k1.held ≡ k.held → IfErr r (StopsPlain m k k1 i i1) → IfErr r (StopsWith m k k1 i i1 ls ls)
+pub plain_stops : {A : Type 0} (m : Meaning) (k k1 : LinkShown) (i i1 : SourceShown) (ls : List LinkShown) (r : Result A Stop) → IsUnput k k1 → IfErr r (StopsPlain m k k1 i i1) → IfErr r (StopsWith m k k1 i i1 ls ls)
 plain_stops m k k1 i i1 ls (Ok a) e h = tt
 plain_stops m k k1 i i1 ls (Err stop) e h = plain_stop m k k1 i i1 ls stop e h
 
 -- where no outcome puts anything, what holds of the outcome holds with nothing put
-pub also_none : (m : Meaning) (k k1 : LinkShown) (i : SourceShown) (P : Outcome → Type 0) → ((look : Look) → puts_in (m.outcome look) ≡ []) → k1.held ≡ k.held → WithOutcome m k i P → WithOutcome m k i (λ o. P o × HasPut (puts_in o) k.held k1.held)
+pub also_none : (m : Meaning) (k k1 : LinkShown) (i : SourceShown) (P : Outcome → Type 0) → ((look : Look) → puts_in (m.outcome look) ≡ []) → IsUnput k k1 → WithOutcome m k i P → WithOutcome m k i (λ o. P o × HasPut (puts_in o) k k1)
 also_none m k k1 i P n e h = weaker_file m.file k.held _ _ (λ IsIt. weaker_used m.reads_input [] i.left _ _ (λ bytes g. (
   g.0,
   g.1,
-  (g.2, subst (λ (ps : List Put). HasPut ps k.held k1.held) (sym (n (record { file = g.0; input = bytes }))) (put_none k.held k1.held e)),
+  (g.2, subst (λ (ps : List Put). HasPut ps k k1) (sym (n (record { file = g.0; input = bytes }))) (put_none k k1 e)),
 ))) h
 
 -- ---- the schema's file

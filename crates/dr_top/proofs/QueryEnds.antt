@@ -19,7 +19,7 @@ use Rattle.dr_commands.specs.Meaning.{Look, Outcome, puts_in}
 use Rattle.dr_commands.specs.Query.{QueryWords, query_meaning, query_table, query_read}
 use Rattle.dr_top.specs.World.{WhereTold, WithOutcome}
 use Rattle.dr_top.specs.Reading.{HasText, IsLeftWith}
-use Rattle.dr_top.specs.Stops.{StopsPlain, StopsWith, IsFileTable, query_stop}
+use Rattle.dr_top.specs.Stops.{IsUnput, StopsPlain, StopsWith, IsFileTable, query_stop}
 use Rattle.dr_top.specs.declared.refusal.Refusal.{Refusal}
 use Rattle.dr_top.specs.declared.stop.Stop.{Stop}
 use Rattle.dr_top.proofs.OutcomeLemmas.{RefusesTable, early_stop, always_with}
@@ -53,7 +53,7 @@ query_text_ends w k i l ls path text out t q p e f r h =
     always_with (query_meaning w) w.table k i (λ o. HasText o (l ∷ ls) out) refl (read_ends w k.held path text t (Ok q) (λ o. HasText o (l ∷ ls) out) p e f r h)
 
 pub query_left : (w : QueryWords) (k k1 : LinkShown) (i : SourceShown) (l l1 : LinkShown) (ls : List LinkShown) (path text : List ℕ) (t : Table) (q : meant.Query) (left : Vec LeftTablet Global) → path ≡ w.table → text ≡ w.query
-    → IsFileTable k.held path t → read_query t.schema text ≡ Ok q → k1.faults ≡ k.faults → k1.held ≡ k.held → LeavesTablets t (query_leaves t.schema.fields q) (all_left_view left.items) l l1
+    → IsFileTable k.held path t → read_query t.schema text ≡ Ok q → k1.faults ≡ k.faults → IsUnput k k1 → LeavesTablets t (query_leaves t.schema.fields q) (all_left_view left.items) l l1
     → StopsWith (query_meaning w) k k1 i i (l ∷ ls) (l1 ∷ ls) (Stop.Left left)
 query_left w k k1 i l l1 ls path text t q left p e f r c d h = (
   c,

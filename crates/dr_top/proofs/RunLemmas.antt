@@ -29,7 +29,7 @@ use Rattle.dr_top.proofs.OutcomeLemmas.{weaker, put_nothing}
 pub words_stops : (o : Option CommandWords) (fault : WordsFault) (k : LinkShown) (i : SourceShown) (ls : List LinkShown) → (fault ≡ WordsFault.Usage → o ≡ None) → StopsMeant (option_map meaning_of o) k k i i ls ls (words_stop fault)
 words_stops o WordsFault.Usage k i ls h = subst (λ (x : Option CommandWords). StopsMeant (option_map meaning_of x) k k i i ls ls Stop.Usage) (sym (h refl)) (refl, refl, refl)
 words_stops None WordsFault.NoMemory k i ls h = (refl, refl, refl)
-words_stops (Some w) WordsFault.NoMemory k i ls h = (refl, refl, inl (put_nothing (meaning_of w) k k i refl))
+words_stops (Some w) WordsFault.NoMemory k i ls h = (refl, refl, inl (put_nothing (meaning_of w) k k i (record { held = refl; puts = refl })))
 
 pub stop_is_usage : (fault : WordsFault) → words_stop fault ≡ Stop.Usage → fault ≡ WordsFault.Usage
 stop_is_usage WordsFault.Usage e = refl
@@ -125,7 +125,7 @@ module _ (i i1 : SourceShown) (out out1 err err1 : SinkShown) (k k1 : LinkShown)
   pub refused_incomplete : (o : Option Meaning) (n : ℕ) (r : Refusal) → StopsMeant o k k1 i i1 ls ls1 (Stop.Refused r) → IsComplete o n (world i out err k ls) (world i1 out1 err1 k1 ls1)
   refused_incomplete None n r h accepted calm = absurd h
   refused_incomplete (Some m) n r h accepted calm =
-      absurd (accepted (refusal_view r) (weaker m k i (IsRefusedSo (refusal_view r) k.held k1.held) (λ (x : Outcome). (puts : List Put) × (x ≡ refused (refusal_view r) puts)) (λ x p. (p.0, p.1)) h.3))
+      absurd (accepted (refusal_view r) (weaker m k i (IsRefusedSo (refusal_view r) k k1) (λ (x : Outcome). (puts : List Put) × (x ≡ refused (refusal_view r) puts)) (λ x p. (p.0, p.1)) h.3))
 
   pub left_incomplete : (o : Option Meaning) (left : Vec LeftTablet Global) → StopsMeant o k k1 i i1 ls ls1 (Stop.Left left) → IsComplete o 3 (world i out err k ls) (world i1 out1 err1 k1 ls1)
   left_incomplete None left h accepted calm = absurd h

@@ -8,7 +8,7 @@ use Rattle.dr_outside.specs.Faults.{raised, Rose}
 use Rattle.dr_outside.specs.Source.{SourceShown}
 use Rattle.dr_outside.specs.Link.{Files, LinkShown, Lacks}
 use Rattle.dr_outside.specs.declared.cause.Cause.{Cause}
-use Rattle.dr_chunk.specs.Telling.{TellsFile}
+use Rattle.dr_outside.specs.Telling.{TellsFile}
 use Rattle.dr_file.specs.Schemas.{cause_in}
 use Rattle.dr_file.specs.OpenedFiles.{IsCauseOf, HasCounts, is_link_fault}
 use Rattle.dr_file.specs.declared.file_fault.FileFault.{FileFault}
@@ -16,7 +16,7 @@ use Rattle.dr_reading.specs.Held.{held_at, held_file}
 use Rattle.dr_commands.specs.ShowSchema.{ShowSchemaWords, show_schema_meaning}
 use Rattle.dr_top.specs.Reading.{IsSchemaShown, IsSchemaCause, LeavesFile}
 use Rattle.dr_top.specs.Answers.{Finishes}
-use Rattle.dr_top.specs.Stops.{SchemaStops, StopsWith, file_stop}
+use Rattle.dr_top.specs.Stops.{IsUnput, SchemaStops, StopsWith, file_stop}
 use Rattle.dr_top.specs.declared.stop.Stop.{Stop}
 use Rattle.dr_tablets.proofs.CopyLemmas.{rises_more}
 use Rattle.dr_top.proofs.OutcomeLemmas.{put_nothing, put_none}
@@ -82,10 +82,10 @@ schema_faults path (FileFault.Why c) l l1 n h none calm = file_left path c l l1 
 
 -- ---- in the program
 
-pub schema_finishes : (w : ShowSchemaWords) (k k1 : LinkShown) (i : SourceShown) (l : LinkShown) (ls : List LinkShown) (path text : List ℕ) → path ≡ w.file → k1.held ≡ k.held → IsSchemaShown (held_at l.held path) text → Finishes (show_schema_meaning w) k k1 i (l ∷ ls) text
-schema_finishes w k k1 i l ls path text p e h = ([], refl, (subst (λ (x : List ℕ). IsSchemaShown (held_at l.held x) text) p h, put_none k.held k1.held e))
+pub schema_finishes : (w : ShowSchemaWords) (k k1 : LinkShown) (i : SourceShown) (l : LinkShown) (ls : List LinkShown) (path text : List ℕ) → path ≡ w.file → IsUnput k k1 → IsSchemaShown (held_at l.held path) text → Finishes (show_schema_meaning w) k k1 i (l ∷ ls) text
+schema_finishes w k k1 i l ls path text p e h = ([], refl, (subst (λ (x : List ℕ). IsSchemaShown (held_at l.held x) text) p h, put_none k k1 e))
 
-pub schema_stop : (w : ShowSchemaWords) (k k1 : LinkShown) (i : SourceShown) (l l1 : LinkShown) (ls : List LinkShown) (path : List ℕ) (stop : Stop) → path ≡ w.file → k1.held ≡ k.held → k1.faults ≡ k.faults → SchemaStops path l l1 stop
+pub schema_stop : (w : ShowSchemaWords) (k k1 : LinkShown) (i : SourceShown) (l l1 : LinkShown) (ls : List LinkShown) (path : List ℕ) (stop : Stop) → path ≡ w.file → IsUnput k k1 → k1.faults ≡ k.faults → SchemaStops path l l1 stop
     → StopsWith (show_schema_meaning w) k k1 i i (l ∷ ls) (l1 ∷ ls) stop
 schema_stop w k k1 i l l1 ls path Stop.Usage p e f h = absurd h
 schema_stop w k k1 i l l1 ls path Stop.NoMemory p e f h = (f, refl, inl (put_nothing (show_schema_meaning w) k k1 i e))

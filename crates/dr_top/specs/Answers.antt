@@ -6,12 +6,12 @@ use Rattle.dr_load.specs.Puts.{HasPut}
 use Rattle.dr_commands.specs.Meaning.{Meaning, Outcome, puts_in}
 use Rattle.dr_top.specs.World.{WithOutcome}
 use Rattle.dr_top.specs.Reading.{HasText, SameOthers}
-use Rattle.dr_top.specs.Stops.{StopsWith, AsksForFile}
+use Rattle.dr_top.specs.Stops.{IsUnput, StopsWith, AsksForFile}
 use Rattle.dr_top.specs.declared.stop.Stop.{Stop}
 
--- an outcome has this text, and its files are put
+-- an outcome has this text, and its files are put, in their order
 abbrev pub Gives : LinkShown → LinkShown → List LinkShown → List ℕ → Outcome → Type 0
-Gives keeper keeper_now links text o = HasText o links text × HasPut (puts_in o) keeper.held keeper_now.held
+Gives keeper keeper_now links text o = HasText o links text × HasPut (puts_in o) keeper keeper_now
 
 -- what a command of this meaning gives
 abbrev pub Finishes : Meaning → LinkShown → LinkShown → SourceShown → List LinkShown → List ℕ → Type 0
@@ -38,9 +38,9 @@ abbrev pub LeavesUnread : Option Meaning → SourceShown → SourceShown → Typ
 LeavesUnread (Some m) input input_now = m.reads_input ≡ false → input_now ≡ input
 LeavesUnread None input input_now = input_now ≡ input
 
--- a keeper to which nothing is put holds what it held
+-- a keeper to which nothing is put holds what it held, and is asked for no put
 abbrev pub LeavesUnput : Option Meaning → LinkShown → LinkShown → Type 0
-LeavesUnput (Some m) keeper keeper_now = m.puts_files ≡ false → keeper_now.held ≡ keeper.held
+LeavesUnput (Some m) keeper keeper_now = m.puts_files ≡ false → IsUnput keeper keeper_now
 LeavesUnput None keeper keeper_now = keeper_now ≡ keeper
 
 -- links that aren't asked stay; of those of which the first is asked, it holds what it held, and the others stay

@@ -14,7 +14,7 @@ use Rattle.dr_commands.specs.Refusals.{Refusal, refusal_text}
 use Rattle.dr_commands.specs.Meaning.{Meaning, refused, scans, IsEarly}
 use Rattle.dr_top.specs.World.{World, WithOutcome, IsOpened}
 use Rattle.dr_top.specs.Reading.{IsLeftWith, IsFileLeft}
-use Rattle.dr_top.specs.Stops.{IsReadBy, IsRefusedSo, PutsSome, PutsBreak}
+use Rattle.dr_top.specs.Stops.{IsUnput, IsReadBy, IsRefusedSo, PutsSome, PutsBeforeEnd, PutsBreak}
 use Rattle.dr_top.specs.Answers.{Finishes, AsksMeant, LeavesUnread, LeavesUnput, LeavesUnasked}
 
 -- ---- words of the clauses
@@ -68,7 +68,7 @@ IsUsage meant before after = (meant ≡ None)
 -- 2: the first refusal, which err names; out and the links stay, and so does the input where it isn't one of its lines that is refused
 abbrev pub IsRefused : Meaning → World → World → Type 0
 IsRefused m before after = (r : Refusal) × Says before.err after.err (refusal_text r)
-    × WithOutcome m before.keeper before.input (IsRefusedSo r before.keeper.held after.keeper.held)
+    × WithOutcome m before.keeper before.input (IsRefusedSo r before.keeper after.keeper)
     × (after.out ≡ before.out) × (after.links ≡ before.links)
     × (IsEarly r → after.input ≡ before.input)
 
@@ -76,29 +76,29 @@ IsRefused m before after = (r : Refusal) × Says before.err after.err (refusal_t
 abbrev pub TabletsLeft : Meaning → World → World → Type 0
 TabletsLeft m before after = (left : List LeftTablet) × (m.asks_link ≡ true) × Says before.err after.err (left_text left)
     × WithOutcome m before.keeper before.input (λ o. IsLeftWith o before.links after.links left)
-    × (after.out ≡ before.out) × (after.input ≡ before.input) × (after.keeper.held ≡ before.keeper.held)
+    × (after.out ≡ before.out) × (after.input ≡ before.input) × IsUnput before.keeper after.keeper
 
 -- 3, a file: the command asks the first link; its cause, which err tells; all else stays
 abbrev pub FileLeft : Meaning → World → World → Type 0
 FileLeft m before after = (c : Cause) × (m.asks_link ≡ true) × Says before.err after.err (left_file_text (told_cause c))
     × WithOutcome m before.keeper before.input (λ o. IsFileLeft o before.links after.links c)
-    × (after.out ≡ before.out) × (after.input ≡ before.input) × (after.keeper.held ≡ before.keeper.held)
+    × (after.out ≡ before.out) × (after.input ≡ before.input) × IsUnput before.keeper after.keeper
 
 abbrev pub IsLeft : Meaning → World → World → Type 0
 IsLeft m before after = TabletsLeft m before after ⊎ FileLeft m before after
 
--- 4, the input: nothing before it is refused, and of the files that are to be put those from the front on were put
+-- 4, the input: nothing before it is refused, and of the files that are to be put those from the front on were put, without the last one
 abbrev pub SourceFailed : Meaning → World → World → Type 0
 SourceFailed m before after = Says before.err after.err (codes "outside: source\n")
     × HasRisen before.input.faults after.input.faults
-    × IsOpened m before.keeper × PutsSome m before.keeper after.keeper before.input
+    × IsOpened m before.keeper × PutsBeforeEnd m before.keeper after.keeper before.input
     × (after.keeper.faults ≡ before.keeper.faults) × (after.out ≡ before.out) × (after.links ≡ before.links)
 
 -- 4, the keeper: it failed as the file was read, and the input and what it holds stay, or at one of the files that are to be put
 abbrev pub KeeperFailed : Meaning → World → World → Type 0
 KeeperFailed m before after = Says before.err after.err (codes "outside: keeper\n")
     × HasRisen before.keeper.faults after.keeper.faults
-    × (((after.input ≡ before.input) × (after.keeper.held ≡ before.keeper.held)) ⊎ PutsBreak m before.keeper after.keeper before.input)
+    × (((after.input ≡ before.input) × IsUnput before.keeper after.keeper) ⊎ PutsBreak true m before.keeper after.keeper before.input)
     × (after.input.faults ≡ before.input.faults) × (after.out ≡ before.out) × (after.links ≡ before.links)
 
 -- 4, out: it holds a front of the text, and no more was asked of it than it took to find that
@@ -116,7 +116,7 @@ IsOutside m before after = SourceFailed m before after ⊎ (KeeperFailed m befor
 -- the files that words of this meaning put, where memory ran out: some from the front on, or one that may be broken off
 abbrev pub PutsMeant : Option Meaning → World → World → Type 0
 PutsMeant None before after = after.keeper ≡ before.keeper
-PutsMeant (Some m) before after = PutsSome m before.keeper after.keeper before.input ⊎ PutsBreak m before.keeper after.keeper before.input
+PutsMeant (Some m) before after = PutsSome m before.keeper after.keeper before.input ⊎ PutsBreak false m before.keeper after.keeper before.input
 
 -- 5: want of memory; nothing was printed
 abbrev pub IsMemory : Option Meaning → World → World → Type 0
@@ -132,7 +132,7 @@ IsAccepted before m = (r : Refusal) → WithOutcome m before.keeper before.input
 abbrev pub LeavesInput : Option Meaning → World → World → Type 0
 LeavesInput meant before after = LeavesUnread meant before.input after.input
 
--- a keeper to which nothing is put holds what it held
+-- a keeper to which nothing is put holds what it held, and is asked for no put
 abbrev pub LeavesFiles : Option Meaning → World → World → Type 0
 LeavesFiles meant before after = LeavesUnput meant before.keeper after.keeper
 

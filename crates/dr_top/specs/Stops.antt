@@ -16,7 +16,7 @@ use Rattle.dr_outside.specs.Faults.{raised}
 use Rattle.dr_outside.specs.Source.{SourceShown}
 use Rattle.dr_outside.specs.Link.{Files, LinkShown, Request, size_of, bytes_of}
 use Rattle.dr_commands.specs.Refusals.{Refusal as Refused, schema_refused, table_refused, field_refused, words_refused, query_refused, line_refused}
-use Rattle.dr_commands.specs.Meaning.{Meaning, Outcome, refused, puts_in, IsEarly}
+use Rattle.dr_commands.specs.Meaning.{Meaning, Outcome, done, refused, scans, looks_at, puts_in, IsEarly}
 use Rattle.dr_commands.specs.declared.words_fault.WordsFault.{WordsFault}
 use Rattle.dr_top.specs.World.{WhereTold, WithOutcome, ForOutcome, HasOutcome, IsOpened}
 use Rattle.dr_top.specs.Reading.{IsLeftWith, IsFileLeft, LeavesFile}
@@ -32,6 +32,13 @@ use Rattle.dr_top.specs.declared.table_file.TableFileFault.{TableFileFault}
 use Rattle.dr_top.specs.declared.field.FieldFault.{FieldFault}
 use Rattle.dr_top.specs.declared.input_records.InputFault.{InputFault}
 use Rattle.dr_top.specs.declared.stop.Stop.{Stop}
+
+-- ---- the keeper
+
+-- the keeper holds what it held, and was asked for no put
+pub record IsUnput (before now : LinkShown) : Type 0 where
+  pub held : now.held ≡ before.held
+  pub puts : now.puts ≡ before.puts
 
 -- ---- refusals
 
@@ -136,37 +143,54 @@ StopsPlain m keeper keeper_now input input_now (Stop.Refused r) =
 StopsPlain m keeper keeper_now input input_now (Stop.Left left) = ⊥
 StopsPlain m keeper keeper_now input input_now (Stop.LeftFile cause) = ⊥
 
--- a front of its puts was done, and no other
+-- without the last
+abbrev pub all_but_last : List Put → List Put
+all_but_last [] = []
+all_but_last (p ∷ []) = []
+all_but_last (p ∷ q ∷ ps) = p ∷ all_but_last (q ∷ ps)
+
+-- the files that a command puts before it is done: the last one of them says that all are there
+abbrev pub puts_before_end : Outcome → List Put
+puts_before_end (done text puts) = all_but_last puts
+puts_before_end (refused r puts) = puts
+puts_before_end (scans s) = []
+puts_before_end (looks_at path) = []
+
+-- a front of its puts was done, in their order, and no other was asked for
 abbrev pub PutsSome : Meaning → LinkShown → LinkShown → SourceShown → Type 0
-PutsSome m keeper keeper_now input = ForOutcome m keeper input (λ o. HasPutSome (puts_in o) keeper.held keeper_now.held)
+PutsSome m keeper keeper_now input = ForOutcome m keeper input (λ o. HasPutSome (puts_in o) keeper keeper_now)
 
--- one of its puts failed
-abbrev pub PutsBreak : Meaning → LinkShown → LinkShown → SourceShown → Type 0
-PutsBreak m keeper keeper_now input = ForOutcome m keeper input (λ o. BreaksOff (puts_in o) keeper.held keeper_now.held)
+-- the same of the puts before it is done
+abbrev pub PutsBeforeEnd : Meaning → LinkShown → LinkShown → SourceShown → Type 0
+PutsBeforeEnd m keeper keeper_now input = ForOutcome m keeper input (λ o. HasPutSome (puts_before_end o) keeper keeper_now)
 
--- its first refusal, before which it has put these files
-abbrev pub IsRefusedSo : Refused → Option Files → Option Files → Outcome → Type 0
-IsRefusedSo r held now o = (puts : List Put) × (o ≡ refused r puts) × HasPut puts held now
+-- one of its puts failed, which is told or not; those before it were done, in their order, and none behind it was asked for
+abbrev pub PutsBreak : Bool → Meaning → LinkShown → LinkShown → SourceShown → Type 0
+PutsBreak told m keeper keeper_now input = ForOutcome m keeper input (λ o. BreaksOff told (puts_in o) keeper keeper_now)
+
+-- its first refusal, before which it has put these files, in this order
+abbrev pub IsRefusedSo : Refused → LinkShown → LinkShown → Outcome → Type 0
+IsRefusedSo r keeper keeper_now o = (puts : List Put) × (o ≡ refused r puts) × HasPut puts keeper keeper_now
 
 -- what a command is stopped by, with what it leaves of the keeper, of the input and of the links
 abbrev pub StopsWith : Meaning → LinkShown → LinkShown → SourceShown → SourceShown → List LinkShown → List LinkShown → Stop → Type 0
 StopsWith m keeper keeper_now input input_now links links_now Stop.Usage = ⊥
 StopsWith m keeper keeper_now input input_now links links_now Stop.NoMemory =
-    (keeper_now.faults ≡ keeper.faults) × (input_now.faults ≡ input.faults) × (PutsSome m keeper keeper_now input ⊎ PutsBreak m keeper keeper_now input)
+    (keeper_now.faults ≡ keeper.faults) × (input_now.faults ≡ input.faults) × (PutsSome m keeper keeper_now input ⊎ PutsBreak false m keeper keeper_now input)
 StopsWith m keeper keeper_now input input_now links links_now Stop.Keeper =
     (keeper_now.faults ≡ raised keeper.faults) × (input_now.faults ≡ input.faults) × (links_now ≡ links)
-    × (((input_now ≡ input) × (keeper_now.held ≡ keeper.held)) ⊎ PutsBreak m keeper keeper_now input)
+    × (((input_now ≡ input) × IsUnput keeper keeper_now) ⊎ PutsBreak true m keeper keeper_now input)
 StopsWith m keeper keeper_now input input_now links links_now Stop.Source =
     (input_now.faults ≡ raised input.faults) × (keeper_now.faults ≡ keeper.faults) × (links_now ≡ links)
-    × IsOpened m keeper × PutsSome m keeper keeper_now input
+    × IsOpened m keeper × PutsBeforeEnd m keeper keeper_now input
 StopsWith m keeper keeper_now input input_now links links_now (Stop.Refused r) =
     (keeper_now.faults ≡ keeper.faults) × (input_now.faults ≡ input.faults) × (links_now ≡ links)
-    × WithOutcome m keeper input (IsRefusedSo (refusal_view r) keeper.held keeper_now.held) × (IsEarly (refusal_view r) → input_now ≡ input)
+    × WithOutcome m keeper input (IsRefusedSo (refusal_view r) keeper keeper_now) × (IsEarly (refusal_view r) → input_now ≡ input)
 StopsWith m keeper keeper_now input input_now links links_now (Stop.Left left) =
-    (keeper_now.faults ≡ keeper.faults) × (m.asks_link ≡ true) × (input_now ≡ input) × (keeper_now.held ≡ keeper.held)
+    (keeper_now.faults ≡ keeper.faults) × (m.asks_link ≡ true) × (input_now ≡ input) × IsUnput keeper keeper_now
     × WithOutcome m keeper input (λ o. IsLeftWith o links links_now (all_left_view left.items))
 StopsWith m keeper keeper_now input input_now links links_now (Stop.LeftFile cause) =
-    (keeper_now.faults ≡ keeper.faults) × (m.asks_link ≡ true) × (input_now ≡ input) × (keeper_now.held ≡ keeper.held)
+    (keeper_now.faults ≡ keeper.faults) × (m.asks_link ≡ true) × (input_now ≡ input) × IsUnput keeper keeper_now
     × WithOutcome m keeper input (λ o. IsFileLeft o links links_now cause)
 
 -- the input was read to its end, or left alone where it isn't read

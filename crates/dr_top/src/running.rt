@@ -29,7 +29,7 @@ fn say<E: Sink>(err: &mut E, line: &[u8])
 /// keeper failed. 5: want of memory. What isn't 0 has a line on standard error.
 ///
 /// The clauses speak of what the things outside show before the call and after it. The gate is passed on to workers
-/// alone, and no command has any yet: the gate lets nobody through who isn't promised to be admitted.
+/// alone, and no command has any yet.
 pub fn run<
     R: Threads + Sync,
     S: Source,

@@ -4,7 +4,7 @@ ghost use Rattle.std.specs.Prelude.{◌≡◌, [], true, string_bytes, IfOk, IfE
 ghost use Rattle.dr_commands.specs.Meaning.{done};
 ghost use Rattle.dr_commands.specs.Ask.{ask_meaning, ask_view};
 ghost use Rattle.dr_top.specs.World.{HasOutcome};
-ghost use Rattle.dr_top.specs.Stops.{StopsPlain, IsReadBy, AsksForFile};
+ghost use Rattle.dr_top.specs.Stops.{IsUnput, StopsPlain, IsReadBy, AsksForFile};
 
 use crate::schema_file::read_schema;
 use crate::stop::Stop;
@@ -31,7 +31,7 @@ pub fn answer<R: Threads + Sync, S: Source, K: Keeper>(
     ensures source_calm { OnOk result ((S.shows source.new).faults ≡ (S.shows source.old).faults) }
     ensures keeper_calm { OnOk result ((K.shows keeper.new).faults ≡ (K.shows keeper.old).faults) }
     ensures stops { IfErr result (StopsPlain (ask_meaning (ask_view words.now)) (K.shows keeper.old) (K.shows keeper.new) (S.shows source.old) (S.shows source.new)) }
-    ensures kept { (K.shows keeper.new).held ≡ (K.shows keeper.old).held }
+    ensures kept { IsUnput (K.shows keeper.old) (K.shows keeper.new) }
     ensures asks { AsksForFile (string_bytes (words.now).schema) (K.shows keeper.old) (K.shows keeper.new) }
 {
     let schema = read_schema(alloc, keeper, words.schema.as_str())?;

@@ -10,7 +10,7 @@ ghost use Rattle.dr_striper.specs.Leaves.{is_leaf};
 ghost use Rattle.dr_commands.specs.Meaning.{done};
 ghost use Rattle.dr_commands.specs.Stripe.{stripe_meaning, stripe_view};
 ghost use Rattle.dr_top.specs.World.{HasOutcome, WhereTold};
-ghost use Rattle.dr_top.specs.Stops.{StopsPlain, InputStops, IsReadBy, AsksForFile};
+ghost use Rattle.dr_top.specs.Stops.{IsUnput, StopsPlain, InputStops, IsReadBy, AsksForFile};
 ghost use Rattle.dr_top.specs.Records.{HasColumns};
 
 use crate::field::find_field;
@@ -85,7 +85,7 @@ pub fn answer<S: Source, K: Keeper>(
     ensures source_calm { OnOk result ((S.shows source.new).faults ≡ (S.shows source.old).faults) }
     ensures keeper_calm { OnOk result ((K.shows keeper.new).faults ≡ (K.shows keeper.old).faults) }
     ensures stops { IfErr result (StopsPlain (stripe_meaning (stripe_view stripe.now)) (K.shows keeper.old) (K.shows keeper.new) (S.shows source.old) (S.shows source.new)) }
-    ensures kept { (K.shows keeper.new).held ≡ (K.shows keeper.old).held }
+    ensures kept { IsUnput (K.shows keeper.old) (K.shows keeper.new) }
     ensures asks { AsksForFile (string_bytes (stripe.now).schema) (K.shows keeper.old) (K.shows keeper.new) }
 {
     let schema = read_schema(alloc, keeper, stripe.schema.as_str())?;

@@ -10,7 +10,7 @@ use Rattle.dr_load.proofs.loading.load_tablets.Given as goal
 -- the full tablets so far are put
 abbrev pub invariant-tablets : goal.invariant-tablets
 invariant-tablets g l = record {
-  loaded : HasLoaded (plan_view l.plan) l.loaded.tablets l.loaded.records (g.S.Source.shows l.fn.source).left (rest_of l.lines (g.S.Source.shows l.source).left) (g.K.Link.shows l.fn.keeper).held (g.K.Link.shows l.keeper).held;
+  loaded : HasLoaded (plan_view l.plan) l.loaded.tablets l.loaded.records (g.S.Source.shows l.fn.source).left (rest_of l.lines (g.S.Source.shows l.source).left) (g.K.Link.shows l.fn.keeper) (g.K.Link.shows l.keeper);
   leaves_are : leaves_of l.fields.items ≡ leaves (fields_view l.plan.schema.now.fields.items);
   most_is : l.most ≡ 4096 * l.plan.rows;
   going : fault_of l.lines ≡ None;

@@ -8,7 +8,7 @@ use Rattle.dr_formats.specs.Opening.{reader_ranges}
 use Rattle.dr_nested.specs.SchemaView.{schema_view}
 use Rattle.dr_nested.specs.PathView.{path_view}
 use Rattle.dr_nested.specs.declared.path.Path.{Path}
-use Rattle.dr_chunk.specs.Telling.{AsksOnly}
+use Rattle.dr_outside.specs.Telling.{AsksOnly}
 use Rattle.dr_file.specs.Asking.{is_request_for}
 use Rattle.dr_group.specs.Partials.{partial_view}
 use Rattle.dr_tablets.proofs.CopyLemmas.{not_absent}

@@ -5,7 +5,8 @@ use Rattle.dr_levels.specs.Views.{column_view}
 use Rattle.dr_outside.specs.Link.{Files}
 use Rattle.std.specs.List.{flat_map}
 use Rattle.dr_formats.specs.Opening.{leaf_ranges}
-use Rattle.dr_chunk.specs.Telling.{TellsFile, is_read_inside}
+use Rattle.dr_outside.specs.Telling.{TellsFile}
+use Rattle.dr_chunk.specs.Ranges.{is_read_inside}
 use Rattle.dr_chunk.proofs.AskLemmas.{asks_then}
 use Rattle.dr_tablets.proofs.FewLemmas.{one_more_short, one_more_counted, taken_counted}
 use Rattle.dr_tablets.proofs.AskedLemmas.{leaf_asked}

@@ -5,7 +5,8 @@ use Rattle.dr_meaning.specs.Path.{Leaf}
 use Rattle.dr_levels.specs.Views.{columns_view}
 use Rattle.dr_formats.specs.File.{Footer, footer_of}
 use Rattle.dr_formats.specs.Opening.{leaf_ranges}
-use Rattle.dr_chunk.specs.Telling.{Tells, AsksOnly, is_read_inside}
+use Rattle.dr_outside.specs.Telling.{Tells, AsksOnly}
+use Rattle.dr_chunk.specs.Ranges.{is_read_inside}
 use Rattle.dr_file.specs.OpenedFiles.{IsOpened, path_of}
 use Rattle.dr_tablets.specs.FileRecords.{AreColumnsOf, are_short, triplets_in}
 use Rattle.dr_tablets.specs.Counting.{counted}

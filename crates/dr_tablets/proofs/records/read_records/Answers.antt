@@ -1,19 +1,19 @@
-use Rattle.std.proofs.Common.{ℕ, ◌∙◌, List, Option, Err, sym, ap, subst, map}
+use Rattle.std.proofs.Common.{ℕ, ◌∙◌, ◌≤◌, List, Option, Err, sym, ap, subst, map, arith}
 use Rattle.std.proofs.lemmas.List.{length-map}
 use Rattle.dr_levels.specs.Views.{columns_view}
 use Rattle.dr_nested.specs.PathView.{path_view}
 use Rattle.dr_nested.specs.SchemaView.{schema_view}
 use Rattle.dr_assemble.specs.Views.{nodes_view}
 use Rattle.dr_outside.specs.Link.{Files}
-use Rattle.dr_chunk.specs.Telling.{TellsFile}
+use Rattle.dr_outside.specs.Telling.{TellsFile}
 use Rattle.dr_tablets.specs.FileRecords.{IsFaultOf, triplets_in}
 use Rattle.dr_nested.specs.Views.{fields_view}
 use Rattle.dr_tablets.proofs.FewLemmas.{few_assembled, counted_assembled, taken_counted}
 use Rattle.dr_tablets.proofs.AskedLemmas.{opening_asked, file_asked}
-use Rattle.dr_tablets.proofs.ColumnsLemmas.{err_is, no_read_fault}
+use Rattle.dr_tablets.proofs.ColumnsLemmas.{err_is, no_read_fault, never_falls}
 use Rattle.dr_tablets.proofs.RecordsLemmas.{have_leaf_paths, columns_fault, records_given, projected_given, assembled_fault}
 use Rattle.dr_tablets.specs.Counting.{counted}
-use Rattle.dr_tablets.proofs.records.read_file.Goals as goal
+use Rattle.dr_tablets.proofs.records.read_records.Goals as goal
 
 pub returns-in_err-columns-clause-cause : goal.returns-in_err-columns-clause-cause
 returns-in_err-columns-clause-cause g c = λ bytes t.
@@ -93,3 +93,27 @@ returns-in-Ok-clause-counted g c =
     taken_counted _ _ _ _ c.add.ensures (c.taken.ensures ∙ read)
     ∙ ap (counted c.args.steps.now) (counted_assembled (fields_view c.args.schema.now.fields.items) c.args.fields.now (columns_view c.deref.result.now) (columns_view c.in_ok-columns.columns.items) c.rows.result
     (nodes_view c.in-Ok.records.items) c.in-Ok.ensures.records (ap columns_view c.deref.ensures.value))
+
+pub returns-in_err-opened-clause-never_falls : goal.returns-in_err-opened-clause-never_falls
+returns-in_err-opened-clause-never_falls g c = never_falls _ _ c.start.result c.start.ensures.counts c.start.ensures.calm
+
+pub returns-in_err-columns-clause-never_falls : goal.returns-in_err-columns-clause-never_falls
+returns-in_err-columns-clause-never_falls g c = omega (
+  arith,
+  never_falls (g.L.Link.shows c.args.link.now).faults (g.L.Link.shows c.start.new.link).faults c.start.result c.start.ensures.counts c.start.ensures.calm,
+  never_falls (g.L.Link.shows c.start.new.link).faults (g.L.Link.shows c.read_columns.new.link).faults c.read_columns.result c.read_columns.ensures.counts c.read_columns.ensures.calm,
+)
+
+pub returns-in-Ok-clause-never_falls : goal.returns-in-Ok-clause-never_falls
+returns-in-Ok-clause-never_falls g c = omega (
+  arith,
+  never_falls (g.L.Link.shows c.args.link.now).faults (g.L.Link.shows c.start.new.link).faults c.start.result c.start.ensures.counts c.start.ensures.calm,
+  never_falls (g.L.Link.shows c.start.new.link).faults (g.L.Link.shows c.read_columns.new.link).faults c.read_columns.result c.read_columns.ensures.counts c.read_columns.ensures.calm,
+)
+
+pub returns-clause-never_falls : goal.returns-clause-never_falls
+returns-clause-never_falls g c = omega (
+  arith,
+  never_falls (g.L.Link.shows c.args.link.now).faults (g.L.Link.shows c.start.new.link).faults c.start.result c.start.ensures.counts c.start.ensures.calm,
+  never_falls (g.L.Link.shows c.start.new.link).faults (g.L.Link.shows c.read_columns.new.link).faults c.read_columns.result c.read_columns.ensures.counts c.read_columns.ensures.calm,
+)
