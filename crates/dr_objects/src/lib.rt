@@ -9,6 +9,6 @@ mod paths;
 
 pub use level::Level;
 pub use levels::levels_of;
-pub use names::puts_name;
+pub use names::is_list_between;
 pub use objects::object_plan;
 pub use paths::{begins_with, same_path};
