@@ -6,5 +6,5 @@ mod levels;
 mod related;
 
 pub use bound::BoundPath;
-pub use levels::{level, longest_level};
+pub use levels::{deepest_level, level, longest_level};
 pub use related::first_unrelated;
