@@ -14,3 +14,6 @@ pub mod StackRead
 pub mod StackOfQueries
 pub mod WorkedLimits
 pub mod WorkedNestings
+pub mod RulesOfExpressions
+pub mod RulesOfQueries
+pub mod DeepestLevels
