@@ -1,6 +1,6 @@
 -- A tree that says the leaf query of a bound query has no fault but items of one name.
 use Rattle.std.proofs.Common.{◌≡◌, ℕ, zero, suc, List, [], ◌∷◌, ◌++◌, map, Bool, true, false, Option, Some, None, refl, sym, ap, ap₂, ◌∙◌, subst, true≢false}
-use Rattle.std.specs.Prelude.{◌==◌, if◌then◌else◌, option_map, is_some}
+use Rattle.std.specs.Prelude.{◌==◌, ◌||◌, if◌then◌else◌, option_map, is_some}
 use Rattle.std.specs.List.{list_all, list_any, filter_map, flat_map, cons_option, slice_get}
 use Rattle.std.proofs.lemmas.Bool.{and_from, eq-eqb}
 use Rattle.std.proofs.lemmas.List.{map-append}
@@ -11,7 +11,7 @@ use Rattle.dr_meaning.specs.Expression.{Expression, paths_of}
 use Rattle.dr_meaning.specs.Query.{RecordTerm, expression as record_expression, within, RecordItem, GroupTerm, key, count_rows as rows_of_group, aggregate as aggregate_of_group, GroupItem, Query, Levels, levels_of}
 use Rattle.dr_meaning.specs.Syntax.{PathSyntax, TermSyntax, expression, count_rows, aggregate, ItemSyntax, ConditionSyntax, QuerySyntax}
 use Rattle.dr_meaning.specs.BoundExpression.{duplicate_name, not_grouped, BindFault, fault_at, unknown_table, Checked, passes, fails, checked_map, then_check, together, truth_type, BoundPath, BoundExpression, bind_path, bind_expression, of_type, unrelated_among}
-use Rattle.dr_meaning.specs.Binding.{bind_condition, bind_within, BoundTerm, plain, rows_counted, aggregated, argument_of, bind_term, item_name, BoundItem, bind_item, bind_items, is_of_record, has_keys, is_record_syntax, bind_parts, faults_in, if_passed, passing, where_passed, all_passed, paths_of_condition, unrelated_in_term, within_faults, place_among, key_of, group_term, grouping_faults, clashes_with, duplicate_faults, table_faults, part_faults, unrelated_faults, item_faults, record_term, record_item, group_item, condition_of, query_of}
+use Rattle.dr_meaning.specs.Binding.{bind_condition, BoundWithin, bind_within, bind_argument, alone, argument_alone, arguments_alone, unrelated_behind, BoundTerm, plain, rows_counted, aggregated, argument_of, bind_term, item_name, BoundItem, bind_item, bind_items, is_of_record, has_keys, is_record_syntax, bind_parts, faults_in, if_passed, passing, where_passed, all_passed, paths_of_condition, unrelated_in_term, within_faults, place_among, key_of, group_term, grouping_faults, has_name_of, has_name_of_list, duplicates_behind, duplicate_faults, table_faults, part_faults, unrelated_faults, item_faults, record_term, record_item, group_item, condition_of, query_of}
 use Rattle.dr_meaning.specs.BindingLaws.{faults_of}
 use Rattle.dr_meaning.proofs.BindingFaultLemmas.{bound_is, first_fault_is_told}
 use Rattle.dr_meaning.proofs.BoundPartsLemmas.{both_empty, no_part_faults, no_faults_in}
@@ -306,11 +306,11 @@ groups_good fs bound keys (i ∷ items) (x ∷ is) b h r =
 abbrev Named : BindFault → Type 0
 Named f = f.problem ≡ duplicate_name
 
-duplicates_named : (ls : Levels) (b : Bool) (earlier is : List BoundItem) → Every Named (duplicate_faults ls b earlier is)
-duplicates_named ls b earlier [] = tt
-duplicates_named ls b earlier (i ∷ is) = by_test (list_any (clashes_with ls b i) earlier) (duplicates_named ls b (i ∷ earlier) is)
+duplicates_named : (ls : Levels) (b : Bool) (all earlier is : List BoundItem) → Every Named (duplicates_behind ls b all earlier is)
+duplicates_named ls b all earlier [] = tt
+duplicates_named ls b all earlier (i ∷ is) = by_test (list_any (has_name_of b i) earlier || list_any (has_name_of_list ls b i) all) (duplicates_named ls b all (i ∷ earlier) is)
   where
-    by_test : (t : Bool) → Every Named (duplicate_faults ls b (i ∷ earlier) is) → Every Named ((if t then fault_at i.place duplicate_name else []) ++ duplicate_faults ls b (i ∷ earlier) is)
+    by_test : (t : Bool) → Every Named (duplicates_behind ls b all (i ∷ earlier) is) → Every Named ((if t then fault_at i.place duplicate_name else []) ++ duplicates_behind ls b all (i ∷ earlier) is)
     by_test true k = (refl, k)
     by_test false k = k
 
@@ -319,7 +319,7 @@ but_for_names : (s : Schema) (y : QuerySyntax) → table_faults s.name y.table �
 but_for_names s y t p u i f h =
     let parts = bind_parts s.fields y in
     let first = first_fault_is_told s y f h in
-    let names = duplicates_named (levels_of s.fields) parts.is_record_query [] (passing parts.items) in
+    let names = duplicates_named (levels_of s.fields) parts.is_record_query (passing parts.items) [] (passing parts.items) in
     let all : Every Named (faults_of s y) = every_append Named _ _ (every_append Named _ _ (every_append Named _ _ (every_append Named _ _ (every_empty Named _ t) (every_empty Named _ p)) (every_empty Named _ u)) (every_empty Named _ i)) names in
     every_get Named (faults_of s y) first.0.0 f all first.0.1
 
@@ -327,6 +327,27 @@ but_for_names s y t p u i f h =
 
 abbrev grouping_if : Bool → List BoundPath → List BoundItem → List BindFault
 grouping_if b keys vs = if b then [] else flat_map (grouping_faults keys) vs
+
+-- an argument stands alone beside a WITHIN that fails, and there the item fails
+none_alone : (c : Checked BoundExpression) (d : Checked (Option BoundWithin)) (a : Aggregate) → faults_in (together (aggregated a) c d) ≡ [] → alone c d ≡ []
+none_alone (passes e) (passes w) a h = refl
+none_alone (passes e) (fails f fs) a h = absurd (cc)
+none_alone (fails f fs) d a h = refl
+
+no_argument_alone : (fs : Fields) (i : ℕ) (t : TermSyntax) → faults_in (bind_term fs i t) ≡ [] → argument_alone fs i t ≡ []
+no_argument_alone fs i (expression e) h = refl
+no_argument_alone fs i (count_rows w) h = refl
+no_argument_alone fs i (aggregate a e w) h = none_alone (bind_argument fs i a e) (bind_within fs w) a h
+
+mapped_faults : {A B : Type 0} (f : A → B) (c : Checked A) → faults_in (checked_map f c) ≡ faults_in c
+mapped_faults f (passes a) = refl
+mapped_faults f (fails e es) = refl
+
+no_arguments_alone : (fs : Fields) (n : ℕ) (is : List ItemSyntax) → flat_map faults_in (bind_items fs n is) ≡ [] → arguments_alone fs is ≡ []
+no_arguments_alone fs n [] h = refl
+no_arguments_alone fs n (i ∷ is) h =
+    let k = both_empty (faults_in (bind_item fs n i)) (flat_map faults_in (bind_items fs (suc n) is)) h in
+    ap₂ (λ a b. a ++ b) (no_argument_alone fs i.place i.term (sym (mapped_faults _ (bind_term fs i.place i.term)) ∙ k.0)) (no_arguments_alone fs (suc n) is k.1)
 
 -- a tree whose parts pass, are related, and are held by their nodes
 tree_binds : (s : Schema) (y : QuerySyntax) (keys : List (List Step)) (bound : List BoundPath) → y.table.name ≡ s.name → (faults_in (bind_condition s.fields y.condition) ≡ []) × (unrelated_condition (bind_condition s.fields y.condition) ≡ [])
@@ -337,7 +358,8 @@ tree_binds s y keys bound t c f k r e g =
     let unrelated_items_of : Checked (List BoundPath) → List BindFault = λ ks. flat_map (λ (v : BoundItem). unrelated_in_term ks v.term) vs in
     but_for_names s y (ap (λ b. if b then [] else fault_at y.table.place unknown_table) ((bytes_eq-Decides y.table.name s.name).1 t))
     (ap₂ (λ a b. a ++ b) (ap₂ (λ a b. a ++ b) c.0 f) k.no_faults)
-    (ap₂ (λ a b. a ++ b) (ap₂ (λ a b. a ++ b) c.1 (ap unrelated_items_of k.passed ∙ all_empty (λ (v : BoundItem). unrelated_in_term (passes bound) v.term) vs (every_weaker (λ (v : BoundItem). Held bound v.term) (λ (v : BoundItem). unrelated_in_term (passes bound) v.term ≡ []) vs (λ v h. h.1) e)))
+    (ap₂ (λ a b. a ++ b) (ap₂ (λ a b. a ++ b) (ap₂ (λ a b. a ++ b) c.1 (ap unrelated_items_of k.passed ∙ all_empty (λ (v : BoundItem). unrelated_in_term (passes bound) v.term) vs (every_weaker (λ (v : BoundItem). Held bound v.term) (λ (v : BoundItem). unrelated_in_term (passes bound) v.term ≡ []) vs (λ v h. h.1) e)))
+    (ap (λ es. flat_map (unrelated_behind (all_passed (map (bind_path s.fields) y.keys))) es) (no_arguments_alone s.fields 0 y.items f)))
     (ap (where_passed unrelated_among) k.passed ∙ from_related bound keys k.same_paths r))
     (ap₂ (λ a b. a ++ b) (all_empty (λ (v : BoundItem). within_faults v.term) vs (every_weaker (λ (v : BoundItem). Held bound v.term) (λ (v : BoundItem). within_faults v.term ≡ []) vs (λ v h. h.0) e))
     (ap (λ ks. grouping_if (is_record_syntax y) ks vs) k.passing_all ∙ g))
@@ -401,6 +423,6 @@ leaf_tree_binds s x y q h says =
     let parts = bind_parts s.fields x in
     let f = no_faults_in parts (no_part_faults s x b.0).0 in
     let u = both_empty _ _ (both_empty _ _ (both_empty _ _ (both_empty _ _ b.0).0).0).1 in
-    let v = both_empty _ _ u.0 in
+    let v = both_empty _ _ (both_empty _ _ u.0).0 in
     let told : SaysQuery s (leaf_query (query_of parts)) y = subst (λ (z : Query). SaysQuery s (leaf_query z) y) (sym b.1) says in
     parts_bind s x y (is_record_syntax x) refl told.0 (condition_binds s.fields (condition_of (bind_condition s.fields x.condition)) y.condition told.1 (condition_related s.fields x.condition f.0 v.0)) f.1 f.2 v.1 u.1 told.2
