@@ -16,7 +16,7 @@ use Rattle.dr_bound_parts.proofs.FaultLemmas.{noted_behind}
 
 -- the faults of the names, after which come those of all items
 abbrev duplicates : Schema → QuerySyntax → List BindFault
-duplicates s q = let b = bind_parts s.fields q in duplicate_faults (levels_of s.fields) b.is_record_query [] (passing b.items)
+duplicates s q = let b = bind_parts s.fields q in duplicate_faults (levels_of s.fields) b.is_record_query (passing b.items)
 
 -- the first of all faults has been noted once those of the table, the parts and the rules above them have
 pub all_noted : (s : Schema) (q : QuerySyntax) (none table parts rules : Option BindFault) → none ≡ None → table ≡ earlier none (first_fault (table_faults s.name q.table))

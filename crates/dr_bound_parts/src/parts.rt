@@ -44,12 +44,13 @@ pub struct BoundItem {
 }
 
 /// The parts of a query: whether it is a record query; the condition, if it could be bound; the items and keys that could be bound, and whether
-/// each key could be.
+/// each key could be; of the items that could not, since WITHIN names no field, the arguments that could.
 #[derive(Drop)]
 pub struct BoundParts {
     pub is_record_query: bool,
     pub condition: Option<Option<BoundCondition>>,
     pub items: Vec<BoundItem>,
+    pub arguments: Vec<BoundExpression>,
     pub keys: Vec<BoundPath>,
     pub has_all_keys: bool,
 }

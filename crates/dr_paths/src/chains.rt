@@ -1,6 +1,7 @@
 //! Chains of repeated fields on paths.
 
 ghost use Rattle.std.specs.Prelude.{◌≡◌, map};
+ghost use Rattle.dr_meaning.specs.Binding as binding;
 ghost use Rattle.dr_meaning.specs.Expression as expression_meaning;
 ghost use Rattle.dr_meaning.specs.Path as path_meaning;
 ghost use Rattle.dr_paths.specs.Views.{bound_path_view, paths_at};
@@ -41,4 +42,41 @@ pub fn longest_level(paths: &[BoundPath]) -> &[Step]
         longest = longer(level(&paths[rest].leaf.steps), longest);
     }
     longest
+}
+
+/// The number of repeated fields on a path.
+fn repeated_fields(steps: &[Step]) -> usize
+    ensures { result ≡ path_meaning.max_repetition (map step_view steps.now) }
+{
+    let mut count = 0;
+    'steps: for step in steps {
+        if let Rep::Repeated = step.rep {
+            count += 1;
+        }
+    }
+    count
+}
+
+/// The level with more repeated fields, the first where they have as many.
+fn deeper<'p>(one: &'p [Step], other: &'p [Step]) -> &'p [Step]
+    ensures { map step_view result.now ≡ binding.deeper_level (map step_view one.now) (map step_view other.now) }
+{
+    if repeated_fields(one) < repeated_fields(other) {
+        other
+    } else {
+        one
+    }
+}
+
+/// The level with the most repeated fields of paths that need not be related, the first of those with as many: none where there are no paths.
+pub fn deepest_level(paths: &[BoundPath]) -> &[Step]
+    ensures { map step_view result.now ≡ binding.deepest_level (paths_at (map bound_path_view paths.now)) }
+{
+    let mut deepest: &[Step] = &[];
+    let mut rest = paths.len();
+    'paths: while rest > 0 {
+        rest -= 1;
+        deepest = deeper(level(&paths[rest].leaf.steps), deepest);
+    }
+    deepest
 }

@@ -1,14 +1,14 @@
--- What items put into objects, over levels with joined names.
-use Rattle.std.specs.Prelude.{◌≡◌, ◌<◌, ℕ, ◌+◌, List, [], ◌∷◌, length, get_or, drop, Bool, true, false, if◌then◌else◌, Option, Some}
+-- The lists that lead from object to object, over levels with joined names.
+use Rattle.std.specs.Prelude.{◌≡◌, ◌<◌, ℕ, ◌+◌, List, [], ◌∷◌, length, get_or, drop, Bool, true, false, if◌then◌else◌, Option, Some, None}
 use Rattle.std.specs.Option.{option_or}
 use Rattle.std.specs.List.{join_with_byte}
 use Rattle.std.proofs.Common.{refl, sym, ap, ap₂, ◌∙◌}
 use Rattle.std.proofs.lemmas.List.{drop_more}
 use Rattle.dr_meaning.specs.Path.{Step, begins_with, same_path}
 use Rattle.dr_meaning.specs.Query.{Levels, no_levels, deeper, append_levels}
-use Rattle.dr_meaning.specs.Binding.{levels_inside, next_levels, list_name, entry_name}
+use Rattle.dr_meaning.specs.Binding.{levels_inside, next_levels, list_name, list_between}
 use Rattle.dr_planning.specs.NamedLevels.{NamedLevels, named, joined, levels_view, level_view}
-use Rattle.dr_planning.specs.Entries.{named_list, list_inside, next_list, named_entry}
+use Rattle.dr_planning.specs.Entries.{named_list, list_inside, next_list, named_between}
 use Rattle.dr_planning.specs.declared.level.Level as levels
 
 -- ---- in the words of the definition
@@ -46,11 +46,11 @@ next_list-joined [] p ls = list_name-joined p ls
 next_list-joined (s ∷ o) p ls = list_inside-joined (s ∷ o) p ls
 
 -- the law: over levels whose names are joined this is the definition's name
-pub entry_name-joined : (ls : Levels) (o : List Step) (name : List ℕ) (p : List Step) → named_entry (joined ls) o name p ≡ entry_name ls o name p
-entry_name-joined ls o name p = ap (if_some (same_path o p) name) (next_list-joined o p ls)
+between-joined : (ls : Levels) (o p : List Step) → named_between (joined ls) o p ≡ list_between ls o p
+between-joined ls o p = ap (λ (n : Option (List ℕ)). if same_path o p then None else n) (next_list-joined o p ls)
 
-pub entry_name-named : (ns : NamedLevels) (ls : Levels) (o : List Step) (name : List ℕ) (p : List Step) → ns ≡ joined ls → named_entry ns o name p ≡ entry_name ls o name p
-entry_name-named ns ls o name p e = ap (λ (m : NamedLevels). named_entry m o name p) e ∙ entry_name-joined ls o name p
+pub between-named : (ns : NamedLevels) (ls : Levels) (o p : List Step) → ns ≡ joined ls → named_between ns o p ≡ list_between ls o p
+between-named ns ls o p e = ap (λ (m : NamedLevels). named_between m o p) e ∙ between-joined ls o p
 
 -- ---- one level after another
 

@@ -12,7 +12,7 @@ use Rattle.dr_meaning.specs.Query.{Levels, key}
 use Rattle.dr_meaning.specs.BoundExpression as meant
 use Rattle.dr_meaning.specs.BoundExpression.{BindFault, Checked, passes, fails, together, unrelated, duplicate_name, bad_within, fault_at, unrelated_after, unrelated_among}
 use Rattle.dr_meaning.specs.Binding as binding
-use Rattle.dr_meaning.specs.Binding.{first_fault, passing, all_passed, where_passed, duplicate_faults}
+use Rattle.dr_meaning.specs.Binding.{first_fault, passing, all_passed, where_passed, name_faults, duplicates_behind}
 use Rattle.dr_nested.specs.PathView.{step_view}
 use Rattle.dr_nested.specs.declared.path.Step.{Step}
 use Rattle.dr_plan.specs.declared.aggregate.Fold.{Fold}
@@ -21,9 +21,9 @@ use Rattle.dr_paths.specs.Views.{bound_path_view}
 use Rattle.dr_paths.proofs.RelatedLemmas.{unrelated_behind, unrelated_front}
 use Rattle.dr_bound_parts.specs.Faults.{earlier}
 use Rattle.dr_bound_parts.specs.Bound.{IsExpression}
-use Rattle.dr_bound_parts.specs.Items.{AreItems, IsItem, IsTerm, within_view}
+use Rattle.dr_bound_parts.specs.Items.{AreExpressions, AreItems, IsItem, IsTerm, within_view}
 use Rattle.dr_bound_parts.specs.Parts.{AreParts}
-use Rattle.dr_planning.specs.Rules.{IsChain, clash_faults}
+use Rattle.dr_planning.specs.Rules.{IsChain}
 use Rattle.dr_bound_parts.specs.declared.parts.BoundExpression.{BoundExpression}
 use Rattle.dr_bound_parts.specs.declared.parts.BoundWithin.{BoundWithin}
 use Rattle.dr_bound_parts.specs.declared.parts.BoundTerm.{BoundTerm}
@@ -79,6 +79,47 @@ pub noted_items : (fs : Fields) (ls : List Leaf) (rule : binding.BoundItem → L
     (now whole : Option BindFault) → AreItems fs ls bs xs → length xs ≤ k → earlier now (first_fault (flat_map rule (drop k bs))) ≡ whole → now ≡ whole
 noted_items fs ls rule bs xs k now whole h le inv =
     let n = items_length fs ls bs xs h in
+    sym (earlier_none now) ∙ ap (λ l. earlier now (first_fault (flat_map rule l))) (sym (drop_all k bs (omega arith))) ∙ inv
+
+-- ---- arguments that stand alone, one after another
+
+abbrev ArgumentAt : Fields → List Leaf → List meant.BoundExpression → ℕ → BoundExpression → Type 0
+ArgumentAt fs ls bs k x = (b : meant.BoundExpression) × IsExpression fs ls b x × (drop k bs ≡ b ∷ drop (k + 1) bs)
+
+argument_at : (fs : Fields) (ls : List Leaf) (bs : List meant.BoundExpression) (xs : List BoundExpression) (k : ℕ) (d : BoundExpression) → AreExpressions fs ls bs xs → k < length xs → ArgumentAt fs ls bs k (get_or xs k d)
+argument_at fs ls [] [] k d h lt = absurd (omega arith)
+argument_at fs ls [] (x ∷ xs) k d h lt = absurd h
+argument_at fs ls (b ∷ bs) [] k d h lt = absurd h
+argument_at fs ls (b ∷ bs) (x ∷ xs) zero d h lt = (b, h.0, refl)
+argument_at fs ls (b ∷ bs) (x ∷ xs) (suc k) d h lt =
+    let r = argument_at fs ls bs xs k d h.1 (omega arith) in
+    let e : suc (k + 1) ≡ suc k + 1 = omega arith in
+    (r.0, r.1, r.2 ∙ ap (λ n. r.0 ∷ drop n (b ∷ bs)) e)
+
+arguments_length : (fs : Fields) (ls : List Leaf) (bs : List meant.BoundExpression) (xs : List BoundExpression) → AreExpressions fs ls bs xs → length bs ≡ length xs
+arguments_length fs ls [] [] h = refl
+arguments_length fs ls [] (x ∷ xs) h = absurd h
+arguments_length fs ls (b ∷ bs) [] h = absurd h
+arguments_length fs ls (b ∷ bs) (x ∷ xs) h = ap suc (arguments_length fs ls bs xs h.1)
+
+-- one argument's faults are noted
+pub noted_argument : (fs : Fields) (ls : List Leaf) (rule : meant.BoundExpression → List BindFault) (bs : List meant.BoundExpression) (xs : List BoundExpression) (k : ℕ) (x : BoundExpression)
+    (between now whole : Option BindFault) → AreExpressions fs ls bs xs → k < length xs → x ≡ get_or xs k x → ((b : meant.BoundExpression) → IsExpression fs ls b x → now ≡ earlier between (first_fault (rule b)))
+    → earlier between (first_fault (flat_map rule (drop k bs))) ≡ whole → earlier now (first_fault (flat_map rule (drop (k + 1) bs))) ≡ whole
+noted_argument fs ls rule bs xs k x between now whole h lt at step inv =
+    let a = argument_at fs ls bs xs k x h lt in
+    let rest : List BindFault = flat_map rule (drop (k + 1) bs) in
+    ap (λ y. earlier y (first_fault rest)) (step a.0 (subst (IsExpression fs ls a.0) (sym at) a.1))
+    ∙ earlier_assoc between (first_fault (rule a.0)) (first_fault rest)
+    ∙ ap (earlier between) (sym (first_fault-append (rule a.0) rest))
+    ∙ ap (λ l. earlier between (first_fault (flat_map rule l))) (sym a.2)
+    ∙ inv
+
+-- those of all arguments are noted
+pub noted_arguments : (fs : Fields) (ls : List Leaf) (rule : meant.BoundExpression → List BindFault) (bs : List meant.BoundExpression) (xs : List BoundExpression) (k : ℕ)
+    (now whole : Option BindFault) → AreExpressions fs ls bs xs → length xs ≤ k → earlier now (first_fault (flat_map rule (drop k bs))) ≡ whole → now ≡ whole
+noted_arguments fs ls rule bs xs k now whole h le inv =
+    let n = arguments_length fs ls bs xs h in
     sym (earlier_none now) ∙ ap (λ l. earlier now (first_fault (flat_map rule l))) (sym (drop_all k bs (omega arith))) ∙ inv
 
 -- ---- the keys
@@ -213,52 +254,52 @@ or_none false = refl
 pub any_taken : (f : binding.BoundItem → Bool) (bs : List binding.BoundItem) (k : ℕ) → list_any f (take k bs) ≡ list_any f (items_before [] bs k)
 any_taken f bs k = sym (or_none (list_any f (take k bs))) ∙ sym (any_before f [] bs k)
 
--- the fault of an item that clashes is noted
-pub noted_clash : (fs : Fields) (ls : List Leaf) (tree : Levels) (q : Bool) (bs : List binding.BoundItem) (xs : List BoundItem) (k : ℕ) (x : BoundItem)
+-- the fault of a name that is taken is noted
+pub noted_name : (fs : Fields) (ls : List Leaf) (tree : Levels) (q : Bool) (bs : List binding.BoundItem) (xs : List BoundItem) (k : ℕ) (x : BoundItem)
     (between now whole : Option BindFault) → AreItems fs ls bs xs → k < length xs → x ≡ get_or xs k x
-    → ((b : binding.BoundItem) (ds : List binding.BoundItem) → IsItem fs ls b x → AreItems fs ls ds (take k xs) → now ≡ earlier between (first_fault (clash_faults tree q b ds)))
-    → earlier between (first_fault (duplicate_faults tree q (items_before [] bs k) (drop k bs))) ≡ whole
-    → earlier now (first_fault (duplicate_faults tree q (items_before [] bs (k + 1)) (drop (k + 1) bs))) ≡ whole
-noted_clash fs ls tree q bs xs k x between now whole h lt at step inv =
+    → ((b : binding.BoundItem) (ds es : List binding.BoundItem) → IsItem fs ls b x → AreItems fs ls ds (take k xs) → AreItems fs ls es xs → now ≡ earlier between (first_fault (name_faults tree q es ds b)))
+    → earlier between (first_fault (duplicates_behind tree q bs (items_before [] bs k) (drop k bs))) ≡ whole
+    → earlier now (first_fault (duplicates_behind tree q bs (items_before [] bs (k + 1)) (drop (k + 1) bs))) ≡ whole
+noted_name fs ls tree q bs xs k x between now whole h lt at step inv =
     let a = item_at fs ls bs xs k x h lt in
     let i = a.0 in
-    let rest : List BindFault = duplicate_faults tree q (items_before [] bs (k + 1)) (drop (k + 1) bs) in
-    let own : List BindFault = clash_faults tree q i (items_before [] bs k) in
+    let rest : List BindFault = duplicates_behind tree q bs (items_before [] bs (k + 1)) (drop (k + 1) bs) in
+    let own : List BindFault = name_faults tree q bs (items_before [] bs k) i in
     let more : items_before [] bs (k + 1) ≡ i ∷ items_before [] bs k = ap (items_before [] bs) (add-one k) ∙ items_before-more [] bs k i (drop (k + 1) bs) a.2 in
-    let told : now ≡ earlier between (first_fault own) = step i (take k bs) (subst (IsItem fs ls i) (sym at) a.1) (items_taken fs ls bs xs k h)
-    ∙ ap (λ (b : Bool). earlier between (first_fault (if b then fault_at i.place duplicate_name else []))) (any_taken (binding.clashes_with tree q i) bs k) in
+    let told : now ≡ earlier between (first_fault own) = step i (take k bs) bs (subst (IsItem fs ls i) (sym at) a.1) (items_taken fs ls bs xs k h) h
+    ∙ ap (λ (b : Bool). earlier between (first_fault (if b || list_any (binding.has_name_of_list tree q i) bs then fault_at i.place duplicate_name else []))) (any_taken (binding.has_name_of q i) bs k) in
     ap (λ y. earlier y (first_fault rest)) told
     ∙ earlier_assoc between (first_fault own) (first_fault rest)
     ∙ ap (earlier between) (sym (first_fault-append own rest))
-    ∙ ap (λ (front : List binding.BoundItem). earlier between (first_fault (own ++ duplicate_faults tree q front (drop (k + 1) bs)))) more
-    ∙ ap (λ (l : List binding.BoundItem). earlier between (first_fault (duplicate_faults tree q (items_before [] bs k) l))) (sym a.2)
+    ∙ ap (λ (front : List binding.BoundItem). earlier between (first_fault (own ++ duplicates_behind tree q bs front (drop (k + 1) bs)))) more
+    ∙ ap (λ (l : List binding.BoundItem). earlier between (first_fault (duplicates_behind tree q bs (items_before [] bs k) l))) (sym a.2)
     ∙ inv
 
-pub noted_clashes : (fs : Fields) (ls : List Leaf) (tree : Levels) (q : Bool) (bs : List binding.BoundItem) (xs : List BoundItem) (k : ℕ) (now whole : Option BindFault) → AreItems fs ls bs xs → length xs ≤ k
-    → earlier now (first_fault (duplicate_faults tree q (items_before [] bs k) (drop k bs))) ≡ whole → now ≡ whole
-noted_clashes fs ls tree q bs xs k now whole h le inv =
+pub noted_names : (fs : Fields) (ls : List Leaf) (tree : Levels) (q : Bool) (bs : List binding.BoundItem) (xs : List BoundItem) (k : ℕ) (now whole : Option BindFault) → AreItems fs ls bs xs → length xs ≤ k
+    → earlier now (first_fault (duplicates_behind tree q bs (items_before [] bs k) (drop k bs))) ≡ whole → now ≡ whole
+noted_names fs ls tree q bs xs k now whole h le inv =
     let n = items_length fs ls bs xs h in
-    sym (earlier_none now) ∙ ap (λ (l : List binding.BoundItem). earlier now (first_fault (duplicate_faults tree q (items_before [] bs k) l))) (sym (drop_all k bs (omega arith))) ∙ inv
+    sym (earlier_none now) ∙ ap (λ (l : List binding.BoundItem). earlier now (first_fault (duplicates_behind tree q bs (items_before [] bs k) l))) (sym (drop_all k bs (omega arith))) ∙ inv
 
 -- ---- one of some items
 
--- one that clashes is found
-pub clash_found : (fs : Fields) (ls : List Leaf) (f : binding.BoundItem → Bool) (ds : List binding.BoundItem) (ys : List BoundItem) (k : ℕ) (y : BoundItem) (r : Bool) → AreItems fs ls ds ys → k < length ys → y ≡ get_or ys k y
+-- one that is sought is found
+pub any_found : (fs : Fields) (ls : List Leaf) (f : binding.BoundItem → Bool) (ds : List binding.BoundItem) (ys : List BoundItem) (k : ℕ) (y : BoundItem) (r : Bool) → AreItems fs ls ds ys → k < length ys → y ≡ get_or ys k y
     → ((d : binding.BoundItem) → IsItem fs ls d y → r ≡ f d) → r ≡ true → list_any f ds ≡ list_any f (drop k ds) → true ≡ list_any f ds
-clash_found fs ls f ds ys k y r h lt at step e inv =
+any_found fs ls f ds ys k y r h lt at step e inv =
     let a = item_at fs ls ds ys k y h lt in
     let one : f a.0 ≡ true = sym (step a.0 (subst (IsItem fs ls a.0) (sym at) a.1)) ∙ e in
     sym (inv ∙ ap (list_any f) a.2 ∙ ap (λ (b : Bool). b || list_any f (drop (k + 1) ds)) one)
 
-pub clash_sought : (fs : Fields) (ls : List Leaf) (f : binding.BoundItem → Bool) (ds : List binding.BoundItem) (ys : List BoundItem) (k : ℕ) (y : BoundItem) (r : Bool) → AreItems fs ls ds ys → k < length ys → y ≡ get_or ys k y
+pub any_sought : (fs : Fields) (ls : List Leaf) (f : binding.BoundItem → Bool) (ds : List binding.BoundItem) (ys : List BoundItem) (k : ℕ) (y : BoundItem) (r : Bool) → AreItems fs ls ds ys → k < length ys → y ≡ get_or ys k y
     → ((d : binding.BoundItem) → IsItem fs ls d y → r ≡ f d) → r ≡ false → list_any f ds ≡ list_any f (drop k ds) → list_any f ds ≡ list_any f (drop (k + 1) ds)
-clash_sought fs ls f ds ys k y r h lt at step e inv =
+any_sought fs ls f ds ys k y r h lt at step e inv =
     let a = item_at fs ls ds ys k y h lt in
     let one : f a.0 ≡ false = sym (step a.0 (subst (IsItem fs ls a.0) (sym at) a.1)) ∙ e in
     inv ∙ ap (list_any f) a.2 ∙ ap (λ (b : Bool). b || list_any f (drop (k + 1) ds)) one
 
-pub no_clash : (fs : Fields) (ls : List Leaf) (f : binding.BoundItem → Bool) (ds : List binding.BoundItem) (ys : List BoundItem) (k : ℕ) → AreItems fs ls ds ys → length ys ≤ k
+pub none_found : (fs : Fields) (ls : List Leaf) (f : binding.BoundItem → Bool) (ds : List binding.BoundItem) (ys : List BoundItem) (k : ℕ) → AreItems fs ls ds ys → length ys ≤ k
     → list_any f ds ≡ list_any f (drop k ds) → false ≡ list_any f ds
-no_clash fs ls f ds ys k h le inv =
+none_found fs ls f ds ys k h le inv =
     let n = items_length fs ls ds ys h in
     sym (inv ∙ ap (list_any f) (drop_all k ds (omega arith)))

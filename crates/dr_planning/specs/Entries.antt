@@ -1,4 +1,4 @@
--- What items put into the objects of a result, over levels with joined names.
+-- The lists that lead from object to object, over levels with joined names.
 use Rattle.std.specs.Prelude.{ℕ, List, [], ◌∷◌, if◌then◌else◌, Option, Some, None}
 use Rattle.std.specs.Option.{option_or}
 use Rattle.dr_meaning.specs.Path.{Step, begins_with, same_path}
@@ -18,6 +18,6 @@ abbrev pub next_list : List Step → List Step → NamedLevels → Option (List 
 next_list [] p ls = named_list p ls
 next_list (s ∷ o) p ls = list_inside (s ∷ o) p ls
 
--- the name of what an item of this name, at the level p, puts into the object at the level o: itself, a list that leads to it, or nothing
-abbrev pub named_entry : NamedLevels → List Step → List ℕ → List Step → Option (List ℕ)
-named_entry ls o name p = if same_path o p then Some name else next_list o p ls
+-- the name of the list that leads from the object at the level o to an item of another level p, if one does
+abbrev pub named_between : NamedLevels → List Step → List Step → Option (List ℕ)
+named_between ls o p = if same_path o p then None else next_list o p ls

@@ -2,7 +2,7 @@
 pub mod Planning
 -- levels with joined names, and the view of the code's levels
 pub mod NamedLevels
--- what items put into objects
+-- the lists that lead from object to object
 pub mod Entries
 -- the trees of objects
 pub mod Trees

@@ -1,9 +1,9 @@
 -- The rules of a query above its paths and operators.
-use Rattle.std.specs.Prelude.{◌≡◌, List, [], map, Bool, if◌then◌else◌}
+use Rattle.std.specs.Prelude.{◌≡◌, List, [], map, Bool, ◌||◌}
 use Rattle.std.specs.List.{list_any}
 use Rattle.dr_meaning.specs.Query.{Levels}
-use Rattle.dr_meaning.specs.BoundExpression.{BoundPath, BindFault, Checked, passes, fails, unrelated, duplicate_name, fault_at, unrelated_among}
-use Rattle.dr_meaning.specs.Binding.{BoundItem, clashes_with}
+use Rattle.dr_meaning.specs.BoundExpression.{BoundPath, Checked, passes, fails, unrelated, fault_at, unrelated_among}
+use Rattle.dr_meaning.specs.Binding.{BoundItem, has_name_of, has_name_of_list}
 use Rattle.dr_nested.specs.PathView.{step_view}
 use Rattle.dr_paths.specs.Related.{Spans, joined_before}
 use Rattle.dr_planning.specs.declared.rules.KeyChain.{KeyChain}
@@ -17,6 +17,6 @@ IsChain (fails e es) KeyChain.Unbound = Unit {0}
 IsChain (fails e es) (KeyChain.Related l) = ⊥
 IsChain (fails e es) (KeyChain.Unrelated i) = ⊥
 
--- the fault of an item that clashes with one of these
-abbrev pub clash_faults : Levels → Bool → BoundItem → List BoundItem → List BindFault
-clash_faults ls b i others = if list_any (clashes_with ls b i) others then fault_at i.place duplicate_name else []
+-- whether an item has the name of one of these earlier ones, or of a list that leads to one of all
+abbrev pub name_taken : Levels → Bool → List BoundItem → List BoundItem → BoundItem → Bool
+name_taken ls b all before i = list_any (has_name_of b i) before || list_any (has_name_of_list ls b i) all

@@ -14,7 +14,7 @@ mod value_paths;
 
 pub use level::Level;
 pub use levels::levels_of;
-pub use names::puts_name;
+pub use names::is_list_between;
 pub use objects::object_plan;
 pub use planning::plan_of;
 pub use rules::note_rules;

@@ -11,35 +11,23 @@ use crate::level::Level;
 use dr_nested::Step;
 use dr_paths::{begins_with, same_path};
 
-/// Whether an item of this name, which belongs to a level, puts an entry of the wanted name into the object at a level:
-/// itself where it belongs to that object, or a list of the object that leads to it.
-pub fn puts_name(
-    levels: &[Level],
-    object: &[Step],
-    name: &str,
-    level: &[Step],
-    wanted: &str,
-) -> bool
-    ensures entry { result ≡ binding.is_named wanted.now (entries.named_entry (levels_view levels.now) (map step_view object.now) name.now (map step_view level.now)) }
-    ensures meant { (ls : Levels) → levels_view levels.now ≡ joined ls → result ≡ binding.is_named wanted.now (binding.entry_name ls (map step_view object.now) name.now (map step_view level.now)) }
+/// Whether the list that leads from the object at a level to an item of another level, if one does, has the wanted name.
+pub fn is_list_between(levels: &[Level], object: &[Step], level: &[Step], wanted: &str) -> bool
+    ensures named { result ≡ binding.is_named wanted.now (entries.named_between (levels_view levels.now) (map step_view object.now) (map step_view level.now)) }
+    ensures meant { (ls : Levels) → levels_view levels.now ≡ joined ls → result ≡ binding.is_named wanted.now (binding.list_between ls (map step_view object.now) (map step_view level.now)) }
 {
-    match entry_name(levels, object, name, level) {
+    match list_between(levels, object, level) {
         None => false,
-        Some(entry) => wanted == entry,
+        Some(name) => wanted == name,
     }
 }
 
-/// The name of what an item puts into the object at a level, if anything.
-fn entry_name<'a>(
-    levels: &'a [Level],
-    object: &[Step],
-    name: &'a str,
-    level: &[Step],
-) -> Option<&'a str>
-    ensures { option_copied result ≡ entries.named_entry (levels_view levels.now) (map step_view object.now) name.now (map step_view level.now) }
+/// The name of the list that leads from the object at a level to an item of another level, if one does.
+fn list_between<'a>(levels: &'a [Level], object: &[Step], level: &[Step]) -> Option<&'a str>
+    ensures { option_copied result ≡ entries.named_between (levels_view levels.now) (map step_view object.now) (map step_view level.now) }
 {
     if same_path(object, level) {
-        return Some(name);
+        return None;
     }
     match object {
         [] => list_name(levels, level),

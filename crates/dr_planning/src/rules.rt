@@ -14,18 +14,20 @@ ghost use Rattle.dr_paths.specs.Views.{bound_path_view};
 ghost use Rattle.dr_planning.specs.NamedLevels.{joined, levels_view};
 ghost use Rattle.dr_bound_parts.specs.Faults.{earlier, first_view};
 ghost use Rattle.dr_bound_parts.specs.Bound.{IsExpression};
-ghost use Rattle.dr_bound_parts.specs.Items.{AreItems, IsItem, IsTerm, within_view};
+ghost use Rattle.dr_bound_parts.specs.Items.{AreExpressions, AreItems, IsItem, IsTerm, within_view};
 ghost use Rattle.dr_bound_parts.specs.Parts.{AreParts, IsCheckedCondition};
-ghost use Rattle.dr_planning.specs.Rules.{IsChain, clash_faults};
+ghost use Rattle.dr_planning.specs.Rules.{IsChain, name_taken};
 
 use crate::level::Level;
-use crate::names::puts_name;
+use crate::names::is_list_between;
 use dr_bound_parts::{
     BindProblem, BoundCondition, BoundExpression, BoundItem, BoundParts, BoundTerm, BoundWithin,
     FirstFault, place_among,
 };
 use dr_nested::Step;
-use dr_paths::{BoundPath, begins_with, first_unrelated, level, longest_level};
+use dr_paths::{
+    BoundPath, begins_with, deepest_level, first_unrelated, level, longest_level, same_path,
+};
 
 /// What the keys say of the paths behind them: nothing, where one of them couldn't be bound; their longest level; or the place of the first that
 /// isn't related to an earlier one.
@@ -39,7 +41,7 @@ enum KeyChain<'k> {
 /// Notes the faults of all rules above paths and operators.
 pub fn note_rules(levels: &[Level], parts: &BoundParts, first: &mut FirstFault)
     ensures { (fs : Fields) (ls : List Leaf) (b : binding.BoundParts) → AreParts fs ls b parts.now → levels_view levels.now ≡ joined (query.levels_of fs)
-        → first_view first.new ≡ earlier (first_view first.old) (binding.first_fault (binding.unrelated_faults b ++ (binding.item_faults b ++ binding.duplicate_faults (query.levels_of fs) b.is_record_query [] (binding.passing b.items)))) }
+        → first_view first.new ≡ earlier (first_view first.old) (binding.first_fault (binding.unrelated_faults b ++ (binding.item_faults b ++ binding.duplicate_faults (query.levels_of fs) b.is_record_query (binding.passing b.items)))) }
 {
     note_unrelated(parts, first);
     note_item_rules(parts, first);
@@ -132,7 +134,21 @@ fn note_unrelated_items(chain: KeyChain<'_>, items: &[BoundItem], first: &mut Fi
     }
 }
 
-/// Notes the paths that aren't related to earlier ones: of the condition, of each item, of the keys.
+/// The same for each argument that stands alone.
+fn note_unrelated_arguments(
+    chain: KeyChain<'_>,
+    arguments: &[BoundExpression],
+    first: &mut FirstFault,
+)
+    ensures { (fs : Fields) (ls : List Leaf) (ks : meant.Checked (List meant.BoundPath)) (bs : List meant.BoundExpression) → IsChain ks chain.entry → AreExpressions fs ls bs arguments.now
+        → first_view first.new ≡ earlier (first_view first.old) (binding.first_fault (flat_map (binding.unrelated_behind ks) bs)) }
+{
+    'arguments: for argument in arguments {
+        note_behind_keys(chain, &argument.paths, first);
+    }
+}
+
+/// Notes the paths that aren't related to earlier ones: of the condition, of each item, of each argument that stands alone, of the keys.
 fn note_unrelated(parts: &BoundParts, first: &mut FirstFault)
     ensures { (fs : Fields) (ls : List Leaf) (b : binding.BoundParts) → AreParts fs ls b parts.now
         → first_view first.new ≡ earlier (first_view first.old) (binding.first_fault (binding.unrelated_faults b)) }
@@ -140,6 +156,7 @@ fn note_unrelated(parts: &BoundParts, first: &mut FirstFault)
     let chain = key_chain(parts);
     note_condition(&parts.condition, first);
     note_unrelated_items(chain, &parts.items, first);
+    note_unrelated_arguments(chain, &parts.arguments, first);
     note_keys(chain, first);
 }
 
@@ -258,7 +275,7 @@ fn item_level(term: &BoundTerm) -> &[Step]
     ensures { (fs : Fields) (ls : List Leaf) (t : binding.BoundTerm) → IsTerm fs ls t term.now → map step_view result.now ≡ binding.item_level t }
 {
     match term {
-        BoundTerm::Value(value) => longest_level(&value.paths),
+        BoundTerm::Value(value) => deepest_level(&value.paths),
         BoundTerm::Rows(within) => within_level(within),
         BoundTerm::Aggregated(_, _, within) => within_level(within),
     }
@@ -275,56 +292,98 @@ fn object_of(is_record_query: bool, item: &BoundItem) -> &[Step]
     }
 }
 
-/// Whether an item has the name of what an earlier one puts into its object.
-fn clashes_with(
+/// Whether two items of one object have one name.
+fn has_name_of(is_record_query: bool, item: &BoundItem, other: &BoundItem) -> bool
+    ensures { (fs : Fields) (ls : List Leaf) (b d : binding.BoundItem) → IsItem fs ls b item.now → IsItem fs ls d other.now
+        → result ≡ binding.has_name_of is_record_query b d }
+{
+    let object = object_of(is_record_query, item);
+    same_path(object, object_of(is_record_query, other))
+        && item.name.as_str() == other.name.as_str()
+}
+
+/// Whether an item has the name of a list of its object that leads to another item.
+fn has_name_of_list(
     levels: &[Level],
     is_record_query: bool,
     item: &BoundItem,
     other: &BoundItem,
 ) -> bool
     ensures { (fs : Fields) (ls : List Leaf) (tree : query.Levels) (b d : binding.BoundItem) → levels_view levels.now ≡ joined tree → IsItem fs ls b item.now → IsItem fs ls d other.now
-        → result ≡ binding.clashes_with tree is_record_query b d }
+        → result ≡ binding.has_name_of_list tree is_record_query b d }
 {
-    puts_name(
+    is_list_between(
         levels,
         object_of(is_record_query, item),
-        other.name.as_str(),
         object_of(is_record_query, other),
         item.name.as_str(),
     )
 }
 
-/// Whether an item has the name of what one of some others puts into its object.
-fn clashes(levels: &[Level], is_record_query: bool, item: &BoundItem, others: &[BoundItem]) -> bool
-    ensures { (fs : Fields) (ls : List Leaf) (tree : query.Levels) (b : binding.BoundItem) (ds : List binding.BoundItem) → levels_view levels.now ≡ joined tree → IsItem fs ls b item.now
-        → AreItems fs ls ds others.now → result ≡ list_any (binding.clashes_with tree is_record_query b) ds }
+/// Whether an item has the name of one of some others of its object.
+fn is_item_name(is_record_query: bool, item: &BoundItem, others: &[BoundItem]) -> bool
+    ensures { (fs : Fields) (ls : List Leaf) (b : binding.BoundItem) (ds : List binding.BoundItem) → IsItem fs ls b item.now → AreItems fs ls ds others.now
+        → result ≡ list_any (binding.has_name_of is_record_query b) ds }
 {
     'others: for other in others {
-        if clashes_with(levels, is_record_query, item, other) {
+        if has_name_of(is_record_query, item, other) {
             return true;
         }
     }
     false
 }
 
-/// Notes an item that has the name of what one of some others puts into its object.
-fn note_clash(
+/// Whether an item has the name of a list of its object that leads to one of some others.
+fn is_list_name(
     levels: &[Level],
     is_record_query: bool,
     item: &BoundItem,
     others: &[BoundItem],
+) -> bool
+    ensures { (fs : Fields) (ls : List Leaf) (tree : query.Levels) (b : binding.BoundItem) (ds : List binding.BoundItem) → levels_view levels.now ≡ joined tree → IsItem fs ls b item.now
+        → AreItems fs ls ds others.now → result ≡ list_any (binding.has_name_of_list tree is_record_query b) ds }
+{
+    'others: for other in others {
+        if has_name_of_list(levels, is_record_query, item, other) {
+            return true;
+        }
+    }
+    false
+}
+
+/// Whether an item has the name of an earlier one of its object, or of a list of its object that leads to any item.
+fn is_name_taken(
+    levels: &[Level],
+    is_record_query: bool,
+    item: &BoundItem,
+    before: &[BoundItem],
+    all: &[BoundItem],
+) -> bool
+    ensures { (fs : Fields) (ls : List Leaf) (tree : query.Levels) (b : binding.BoundItem) (ds bs : List binding.BoundItem) → levels_view levels.now ≡ joined tree → IsItem fs ls b item.now
+        → AreItems fs ls ds before.now → AreItems fs ls bs all.now → result ≡ name_taken tree is_record_query bs ds b }
+{
+    is_item_name(is_record_query, item, before) || is_list_name(levels, is_record_query, item, all)
+}
+
+/// Notes an item that has the name of an earlier one of its object, or of a list of its object that leads to any item.
+fn note_name(
+    levels: &[Level],
+    is_record_query: bool,
+    item: &BoundItem,
+    before: &[BoundItem],
+    all: &[BoundItem],
     first: &mut FirstFault,
 )
-    ensures { (fs : Fields) (ls : List Leaf) (tree : query.Levels) (b : binding.BoundItem) (ds : List binding.BoundItem) → levels_view levels.now ≡ joined tree → IsItem fs ls b item.now
-        → AreItems fs ls ds others.now
-        → first_view first.new ≡ earlier (first_view first.old) (binding.first_fault (clash_faults tree is_record_query b ds)) }
+    ensures { (fs : Fields) (ls : List Leaf) (tree : query.Levels) (b : binding.BoundItem) (ds bs : List binding.BoundItem) → levels_view levels.now ≡ joined tree → IsItem fs ls b item.now
+        → AreItems fs ls ds before.now → AreItems fs ls bs all.now
+        → first_view first.new ≡ earlier (first_view first.old) (binding.first_fault (binding.name_faults tree is_record_query bs ds b)) }
 {
-    if clashes(levels, is_record_query, item, others) {
+    if is_name_taken(levels, is_record_query, item, before, all) {
         first.note(item.place, BindProblem::DuplicateName);
     }
 }
 
-/// Notes the items that have the name of what an earlier one puts into their object.
+/// Notes the items whose names their objects have already.
 fn note_duplicates(
     levels: &[Level],
     is_record_query: bool,
@@ -332,9 +391,16 @@ fn note_duplicates(
     first: &mut FirstFault,
 )
     ensures { (fs : Fields) (ls : List Leaf) (tree : query.Levels) (bs : List binding.BoundItem) → levels_view levels.now ≡ joined tree → AreItems fs ls bs items.now
-        → first_view first.new ≡ earlier (first_view first.old) (binding.first_fault (binding.duplicate_faults tree is_record_query [] bs)) }
+        → first_view first.new ≡ earlier (first_view first.old) (binding.first_fault (binding.duplicate_faults tree is_record_query bs)) }
 {
     'items: for (number, item) in items.iter().enumerate() {
-        note_clash(levels, is_record_query, item, &items[..number], first);
+        note_name(
+            levels,
+            is_record_query,
+            item,
+            &items[..number],
+            items,
+            first,
+        );
     }
 }

@@ -14,6 +14,9 @@ pub mod StackRead
 pub mod StackOfQueries
 pub mod WorkedLimits
 pub mod WorkedNestings
+pub mod RulesOfExpressions
+pub mod RulesOfQueries
+pub mod DeepestLevels
 -- texts one behind another, and their tokens
 pub mod Lexing
 pub mod WrittenNames

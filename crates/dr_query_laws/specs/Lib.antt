@@ -1,3 +1,5 @@
+pub mod BindingRules
+pub mod ChainLaws
 pub mod FaultLaws
 pub mod FindLaws
 pub mod LimitLaws

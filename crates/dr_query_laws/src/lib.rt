@@ -1,6 +1,8 @@
 //! Laws of the query language and of its rewriting that no other crate rests on. Each function has an empty body, and its contract is a law.
 #![tactic(auto)]
 
+pub mod binding_laws;
+pub mod chain_laws;
 pub mod fault_laws;
 pub mod find_laws;
 pub mod limit_laws;

@@ -18,7 +18,7 @@ pub fn rules_noted(levels: &[Level], parts: &BoundParts, first: &mut FirstFault)
         → levels_view levels.now ≡ joined (query.levels_of fs)
         → first_view first.new ≡ earlier (first_view first.old)
         (binding.first_fault (binding.unrelated_faults b ++
-        (binding.item_faults b ++ binding.duplicate_faults (query.levels_of fs) b.is_record_query []
+        (binding.item_faults b ++ binding.duplicate_faults (query.levels_of fs) b.is_record_query
         (binding.passing b.items)))) }
 {
     note_rules(levels, parts, first)

@@ -77,7 +77,7 @@ SELECT COUNT(*) AS r, COUNT(Name.Url) AS u, SUM(Links.Forward) AS s FROM Documen
 SELECT Name.Language.Country, COUNT(DocId) AS n FROM Document GROUP BY Name.Language.Country => DocId Name.Language.Country with 0 tests; 1 keys, 1 aggregates, 2 items
 SELECT (Name.Url) FROM Document GROUP BY DocId, Name.Url => DocId Name.Url with 0 tests; 2 keys, 0 aggregates, 1 items
 # a name that a path's last one has, and not its first
-SELECT DocId AS Name, Name.Url FROM Document => DocId Name.Url with 0 tests; 2 items
+SELECT DocId AS Url, Name.Url FROM Document => DocId Name.Url with 0 tests; 2 items
 ";
 
 /// No command shows which leaves a plan reads, in which order, and how many tests it makes. What is refused is in the cases.

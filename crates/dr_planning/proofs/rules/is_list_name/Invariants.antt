@@ -6,9 +6,9 @@ use Rattle.dr_meaning.specs.Query.{Levels}
 use Rattle.dr_meaning.specs.Binding as binding
 use Rattle.dr_planning.specs.NamedLevels.{joined, levels_view}
 use Rattle.dr_bound_parts.specs.Items.{AreItems, IsItem}
-use Rattle.dr_planning.proofs.rules.clashes.Given as goal
+use Rattle.dr_planning.proofs.rules.is_list_name.Given as goal
 
--- none of the others so far does
+-- no list to one of the others so far has the name
 abbrev pub invariant-others : goal.invariant-others
 invariant-others l = (fs : Fields) (ls : List Leaf) (tree : Levels) (b : binding.BoundItem) (ds : List binding.BoundItem) → levels_view l.levels ≡ joined tree → IsItem fs ls b l.item → AreItems fs ls ds l.others
-    → list_any (binding.clashes_with tree l.is_record_query b) ds ≡ list_any (binding.clashes_with tree l.is_record_query b) (drop l.other-index ds)
+    → list_any (binding.has_name_of_list tree l.is_record_query b) ds ≡ list_any (binding.has_name_of_list tree l.is_record_query b) (drop l.other-index ds)
