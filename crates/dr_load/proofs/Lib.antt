@@ -5,6 +5,7 @@ pub mod TextForm
 pub mod ReadLemmas
 -- what a keeper holds after puts
 pub mod PutLemmas
+pub mod WorkedPuts
 -- the columns of a tablet
 pub mod FillLemmas
 -- tablets

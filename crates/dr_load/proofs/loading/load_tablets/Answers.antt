@@ -1,4 +1,4 @@
-use Rattle.std.proofs.Common.{◌+◌, ◌*◌, ℕ, Err, MatchOption, subst, ap, sym, refl, ◌∙◌, arith}
+use Rattle.std.proofs.Common.{◌+◌, ◌*◌, ℕ, Err, MatchOption, subst, ap, sym, refl, ◌∙◌, arith, rules}
 use Rattle.std.specs.Prelude.{⊤}
 use Rattle.dr_nested.specs.Views.{fields_view}
 use Rattle.dr_levels.specs.Views.{columns_view}
@@ -9,7 +9,7 @@ use Rattle.dr_load.specs.Records.{RefusesWithin}
 use Rattle.dr_load.specs.Filled.{HasColumnsOf}
 use Rattle.dr_load.specs.Loads.{HasLoaded}
 use Rattle.dr_load.proofs.FillLemmas.{fills_same}
-use Rattle.dr_load.proofs.LoadLemmas.{have_columns, columns_fit, loaded_more, few_tablets, refused_line, stands_reading, stands_putting, last_accepted, last_table, last_records, last_counted, last_put, last_stands, last_end}
+use Rattle.dr_load.proofs.LoadLemmas.{have_columns, columns_fit, loaded_none, loaded_more, few_tablets, refused_line, stands_reading, stands_putting, last_accepted, last_table, last_records, last_counted, last_put, last_stands, last_end}
 use Rattle.dr_load.proofs.loading.load_tablets.Goals as goal
 
 pub returns-in-Err-fill_tablet-clause-refused : goal.returns-in-Err-fill_tablet-clause-refused
@@ -272,3 +272,16 @@ returns-in-Err-put_last-clause-stands g c =
     let end = c.in-Ok-fill_tablet.ensures.end c.if-this.true in
     last_stands p k m f.records input a b before held (g.K.Link.shows c.put_last.new.keeper) cs c.in-Err-put_last.fault c.tablets.invariant.loaded h c.args.plan.now.has_rows part end
     (c.in-Err-put_last.ensures.stops h.records (have_columns p.schema (4096 * rows) m f.records a b cs h) h.number_of) c.in-Err-put_last.ensures.line (λ e. c.in-Err-put_last.ensures.read (ap (λ x. Err x) e))
+
+pub tablets-init : goal.tablets-init
+tablets-init g c = record {
+  loaded = loaded_none (plan_view c.args.plan.now) (g.S.Source.shows c.args.source.now).left (pending c.in-Ok-new.lines) (g.K.Link.shows c.args.keeper.now) (search rules);
+  leaves_are = search rules;
+  most_is = search rules;
+  going = search rules;
+  within = search rules;
+  source_calm = refl;
+  keeper_calm = refl;
+  asked = refl;
+  steady = λ s. s;
+}
