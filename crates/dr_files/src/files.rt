@@ -1,21 +1,27 @@
 // Files on disk as a link and as a keeper. Neither tells what it holds.
-ghost use Rattle.std.specs.Prelude.{◌≡◌, ◌≢◌, ◌≤◌, Err, false, None};
+ghost use Rattle.std.specs.Prelude.{◌≡◌, ◌≢◌, ◌≤◌, ◌+◌, length, Ok, Err, false, Some, None, IfSome, IsSome, IsOk, OnOk, OnErr};
+ghost use Rattle.std.specs.BTreeMap.{get_by_text};
 ghost use Rattle.dr_outside.specs.Faults.{raised};
+ghost use Rattle.dr_outside.specs.Link.{IsPartAt, FallsShort};
 
+use crate::whole::{copy_range, read_whole, tells_size};
 use dr_outside::{Fault, Keeper, Link};
 use std::alloc::Global;
+use std::collections::BTreeMap;
 use std::fs::{File, OpenFile};
 use std::io::ErrorKind;
 use std::os::unix::fs::FileExt;
 use std::rt::Files;
 use std::{fs, io};
 
-/// The files that are named by their paths. It keeps the file open that it read last.
+/// The files that are named by their paths. It keeps the file open that it read last. One that doesn't tell its size, as a pipe,
+/// is read whole at its first use, at most 256 MiB of it, and served from memory from then on.
 #[derive(Drop)]
 pub struct DirLink<R: Files> {
     alloc: Global,
     files: R,
     last: Option<Opened<R::File>>,
+    whole: BTreeMap<String, Vec<u8>>,
     faults: u64,
 }
 
@@ -53,13 +59,23 @@ where
             alloc,
             files,
             last: None,
+            whole: BTreeMap::new(alloc),
             faults: 0,
         }
     }
 
-    // The file at a path, which is no longer kept.
+    // Whether the file at a path is kept open.
+    fn is_open(&self, path: &str) -> bool {
+        match &self.last {
+            Some(last) => last.path.as_str() == path,
+            None => false,
+        }
+    }
+
+    // The file at a path, which is no longer kept open.
     fn take_file(&mut self, path: &str) -> io::Result<Opened<R::File>>
-        ensures { self.new.faults ≡ self.old.faults }
+        ensures faults { self.new.faults ≡ self.old.faults }
+        ensures whole { self.new.whole ≡ self.old.whole }
     {
         if let Some(last) = self.last.take()
             && last.path.as_str() == path
@@ -71,9 +87,34 @@ where
         Ok(Opened { path, file })
     }
 
-    fn file_size(&mut self, path: &str) -> io::Result<u64>
-        ensures { self.new.faults ≡ self.old.faults }
+    // Opens the file at a path, if it isn't at hand: one that doesn't tell its size is read whole.
+    fn reach(&mut self, path: &str) -> io::Result<()>
+        ensures faults { self.new.faults ≡ self.old.faults }
+        ensures whole { IsSome (get_by_text self.old.whole path.now) → self.new.whole ≡ self.old.whole }
+        ensures reached { IsSome (get_by_text self.old.whole path.now) → IsOk result }
     {
+        if self.whole.contains_key(path) || self.is_open(path) {
+            return Ok(());
+        }
+        let opened = self.take_file(path)?;
+        if tells_size(&opened.file)? {
+            self.last = Some(opened);
+            return Ok(());
+        }
+        let bytes = read_whole(self.alloc, opened.file)?;
+        self.whole.insert(opened.path, bytes)?;
+        Ok(())
+    }
+
+    fn file_size(&mut self, path: &str) -> io::Result<u64>
+        ensures faults { self.new.faults ≡ self.old.faults }
+        ensures whole { IfSome (get_by_text self.old.whole path.now) (λ bytes. result ≡ Ok (length bytes.items)) }
+        ensures stays { IsSome (get_by_text self.old.whole path.now) → self.new.whole ≡ self.old.whole }
+    {
+        self.reach(path)?;
+        if let Some(bytes) = self.whole.get(path) {
+            return Ok(bytes.len() as u64);
+        }
         let opened = self.take_file(path)?;
         let size = opened.file.metadata()?.len();
         self.last = Some(opened);
@@ -81,8 +122,15 @@ where
     }
 
     fn read_range(&mut self, path: &str, at: u64, buf: &mut [u8]) -> io::Result<()>
-        ensures { self.new.faults ≡ self.old.faults }
+        ensures faults { self.new.faults ≡ self.old.faults }
+        ensures part { IfSome (get_by_text self.old.whole path.now) (λ bytes. OnOk result (IsPartAt (Some bytes.items) at buf.new)) }
+        ensures short { IfSome (get_by_text self.old.whole path.now) (λ bytes. OnErr result (FallsShort (Some bytes.items) (at + length buf.old))) }
+        ensures stays { IsSome (get_by_text self.old.whole path.now) → self.new.whole ≡ self.old.whole }
     {
+        self.reach(path)?;
+        if let Some(bytes) = self.whole.get(path) {
+            return copy_range(bytes, at, buf);
+        }
         let opened = self.take_file(path)?;
         opened.file.read_exact_at(buf, at)?;
         self.last = Some(opened);
@@ -156,6 +204,7 @@ where
 {
     fn put(&mut self, path: &str, bytes: &[u8]) -> Result<(), Fault> {
         self.link.last = None;
+        self.link.whole.remove(path);
         let answer = fs::write(&self.link.files, path, bytes);
         counted(&mut self.link.faults, answer)
     }

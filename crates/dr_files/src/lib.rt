@@ -6,6 +6,7 @@ mod files;
 mod streams;
 #[cfg(test)]
 mod tests;
+mod whole;
 
 pub use files::{DirKeeper, DirLink};
 pub use streams::{Incoming, Outgoing};

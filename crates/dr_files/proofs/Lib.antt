@@ -1,0 +1,2 @@
+-- bytes that are read up to a limit
+mod WholeLemmas
