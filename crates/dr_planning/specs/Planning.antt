@@ -9,7 +9,7 @@ use Rattle.dr_meaning.specs.BoundExpression as meant
 use Rattle.dr_meaning.specs.Binding as binding
 use Rattle.dr_meaning.specs.Query as query
 use Rattle.dr_nested.specs.PathView.{step_view}
-use Rattle.dr_plan.specs.Conjuncts.{conjuncts}
+use Rattle.dr_plan.specs.Conjuncts.{conjuncts, Joining, joining_from}
 use Rattle.dr_plan.specs.Objects.{object_view, object_tree_of}
 use Rattle.dr_plan.specs.Views.{truth_view, path_of}
 use Rattle.dr_plan.specs.Fitting.{truth_fits, is_summed}
@@ -77,6 +77,12 @@ abbrev pub condition_conjuncts : List Leaf → Option (Option BoundCondition) �
 condition_conjuncts ls None = []
 condition_conjuncts ls (Some None) = []
 condition_conjuncts ls (Some (Some c)) = conjuncts (truth_view ls c.truth)
+
+-- how the condition joins them
+abbrev pub condition_joining : List Leaf → Option (Option BoundCondition) → Option Joining
+condition_joining ls None = None
+condition_joining ls (Some None) = None
+condition_joining ls (Some (Some c)) = Some (joining_from 0 (truth_view ls c.truth))
 
 abbrev pub condition_fits : List Leaf → Option (Option BoundCondition) → Bool
 condition_fits ls None = true

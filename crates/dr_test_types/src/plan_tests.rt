@@ -37,8 +37,8 @@ fn conditions_are_cut_at_their_top(rt: HostRuntime) {
     let Ok(made) = condition(alloc) else {
         return assert!(rt; false);
     };
-    let Ok(parts) = conjuncts(alloc, made) else {
+    let Ok(cut) = conjuncts(alloc, made) else {
         return assert!(rt; false);
     };
-    assert!(rt; matches!(parts.as_slice(), [Truth::Not(_), Truth::TruthIsNull(_)]));
+    assert!(rt; matches!(cut.test.as_slice(), [Truth::Not(_), Truth::TruthIsNull(_)]));
 }
