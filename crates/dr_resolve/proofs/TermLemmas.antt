@@ -1,6 +1,6 @@
 -- The condition and what items give.
 use Rattle.std.proofs.Common.{◌≡◌, ℕ, List, [], ◌∷◌, ◌++◌, map, true, false, Option, Some, None, refl, sym, ap, ◌∙◌, subst, append-nil}
-use Rattle.std.specs.Prelude.{Vec}
+use Rattle.std.specs.Prelude.{Vec, Result, Ok, Err, OnOk}
 use Rattle.std.specs.declared.alloc.Global.{Global}
 use Rattle.dr_meaning.specs.Schema.{Fields}
 use Rattle.dr_meaning.specs.Path.{Leaf}
@@ -128,3 +128,8 @@ pub alone_here : (fs : Fields) (ls : List Leaf) (c : Checked meant.BoundExpressi
 alone_here fs ls (fails e es) d before between now x xs ys p h k = absurd h
 alone_here fs ls (passes b) (passes v) before between now x xs ys p h k = absurd k
 alone_here fs ls (passes b) (fails g gs) before between now x xs ys p h k = λ bs r. subst (AreExpressions fs ls (bs ++ b ∷ [])) (sym p) (expressions_more fs ls bs xs b x r h.1)
+
+-- of an answer without a value what follows
+pub on_ok_weaker : {A E : Type 0} (r : Result A E) (P Q : Type 0) → (P → Q) → OnOk r P → OnOk r Q
+on_ok_weaker (Ok a) P Q f h = f h
+on_ok_weaker (Err e) P Q f h = tt

@@ -15,3 +15,9 @@ returns-in-None-clause-term c = λ fs ls d e before between now h k. no_argument
 pub returns-in-None-clause-alone : goal.returns-in-None-clause-alone
 returns-in-None-clause-alone c = λ fs ls d e before between now h k. alone_without fs ls d e before between c.args.alone.now.items
     (subst (λ (o : Option BoundExpression). Came (IsExpression fs ls) before between d o) c.in-None.is h)
+
+pub returns-in_ok-push-in-None-within-clause-alone : goal.returns-in_ok-push-in-None-within-clause-alone
+returns-in_ok-push-in-None-within-clause-alone c = λ fs ls d e before between now h k.
+    alone_here fs ls d e before between now c.in-Some.argument c.args.alone.now.items c.push.new.self.items c.in_ok-push-in-None-within.ensures.items
+    (subst (λ (o : Option BoundExpression). Came (IsExpression fs ls) before between d o) c.in-Some.is h)
+    (subst (λ (o : Option (Option BoundWithin)). Came IsWithin between now e o) c.in-None-within.is k)
