@@ -1,7 +1,7 @@
 -- What is gathered of partials: of two lists of them, from what is gathered of each.
 use Rattle.std.specs.Prelude.{◌≡◌, ◌≤◌, ℕ, ◌+◌, ◌^◌, ◌++◌, List, [], ◌∷◌, map, length, drop, get_or, Some, None}
 use Rattle.std.specs.List.{list_all}
-use Rattle.std.proofs.Common.{refl, sym, ap, ap₂, ◌∙◌, subst, arith}
+use Rattle.std.proofs.Common.{refl, sym, ap, ap₂, ◌∙◌, subst, arith, length-append}
 use Rattle.std.proofs.lemmas.Bool.{and_parts}
 use Rattle.std.proofs.lemmas.List.{length-map, map-append}
 use Rattle.std.proofs.lemmas.List.Folds.{list_all-append}
@@ -146,8 +146,13 @@ only_gathered t a = record {
   bounded = λ fs q m h. ((and_parts _ _ h.partials).0, let b = h.bounded in partial_more b.0 m (let le = b.2 in omega (arith, le)) (partial_view a) b.3);
 }
 
-pub one_gathered : (t : ℕ) (ps : List Partial) (a : Partial) → ps ≡ a ∷ [] → IsGathered (t ∷ []) (λ piece. piece t) ps a
+one_gathered : (t : ℕ) (ps : List Partial) (a : Partial) → ps ≡ a ∷ [] → IsGathered (t ∷ []) (λ piece. piece t) ps a
 one_gathered t ps a e = subst (λ (qs : List Partial). IsGathered (t ∷ []) (λ piece. piece t) qs a) (sym e) (only_gathered t a)
+
+-- the last of a list of one is the only one
+pub the_only : (t : ℕ) (ps rest : List Partial) (a : Partial) → length ps ≡ 1 → ps ≡ rest ++ a ∷ [] → IsGathered (t ∷ []) (λ piece. piece t) ps a
+the_only t ps [] a l e = one_gathered t ps a e
+the_only t ps (r ∷ rest) a l e = absurd (let n = ap length e in let m = length-append rest (a ∷ []) in omega (arith, l, n, m))
 
 -- of a leaf server it is the tablet's own
 pub leaf_gathered : (t : ℕ) (tree : code.Tree) (ps : List Partial) (r : Partial) → tree ≡ variants.Leaf t → IsGathered (t ∷ []) (λ piece. piece t) ps r
