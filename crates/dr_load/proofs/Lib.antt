@@ -1,8 +1,3 @@
--- the record of a line is a record of its schema
-pub mod ReadForm
-pub mod TextForm
--- reading records line by line
-pub mod ReadLemmas
 -- what a keeper holds after puts
 pub mod PutLemmas
 -- the columns of a tablet

@@ -6,7 +6,7 @@ use Rattle.std.specs.List.{list_all}
 use Rattle.std.proofs.lemmas.List.Folds.{list_all-append}
 use Rattle.std.proofs.lemmas.Bool.{and_from, and_parts, leb-true, leb-false}
 use Rattle.std.proofs.Math.Nat.{mul-le-mul_left}
-use Rattle.dr_meaning.specs.Schema.{Schema}
+use Rattle.dr_meaning.specs.Schema.{Fields, Schema}
 use Rattle.dr_meaning.specs.Path.{leaves}
 use Rattle.dr_meaning.specs.Record.{Node, is_record, text_bytes}
 use Rattle.dr_meaning.specs.Column.{Triplet}
@@ -25,12 +25,12 @@ use Rattle.dr_write.specs.Files.{AreColumnsFor, HaveColumns}
 use Rattle.dr_write.proofs.FitLemmas as write_laws
 use Rattle.dr_load.specs.declared.fault.LoadFault.{LoadFault}
 use Rattle.dr_load.specs.Faults.{refusal_of}
-use Rattle.dr_load.specs.Records.{WhereTold, behind, HasTaken, RefusesWithin}
-use Rattle.dr_load.specs.Filled.{HasColumnsOf}
+use Rattle.dr_input.specs.Taken.{WhereTold, behind, HasTaken, AcceptsRead}
+use Rattle.dr_input.proofs.ReadForm.{limited_small}
+use Rattle.dr_input.proofs.TakenLemmas.{nothing_taken, taken_more, taken_is as taken_so, accepts_behind}
+use Rattle.dr_load.specs.Filled.{HasColumnsOf, RefusesWithin}
 use Rattle.dr_load.specs.Puts.{HasPut, HasPutElsewhere, HasPutSome, BreaksOff}
 use Rattle.dr_load.specs.Loads.{StopsPutting, last_tablets, taken_of, tablets_put, tablet_part, HasPutTablets, LeavesPuts, HasLoaded, LoadsTable}
-use Rattle.dr_load.proofs.ReadForm.{limited_small}
-use Rattle.dr_load.proofs.FillLemmas.{nothing_taken, taken_more}
 use Rattle.dr_load.proofs.PutLemmas.{nothing_put, put_more, put_more_elsewhere, breaks_behind}
 use Rattle.dr_load.proofs.TabletLemmas.{tablets_are, full_are, full_come_first, all_have_more, all_records_more, count_of, few_of_few}
 
@@ -130,20 +130,16 @@ stops_at p input front ps rest a b c e t h s n r = by e s n r
 
 -- ---- the loop
 
-ahead_nothing : (o : Option (List ℕ)) (pending : List ℕ) → pending ≡ [] → ahead pending o ≡ o
-ahead_nothing None pending e = refl
-ahead_nothing (Some x) pending e = ap (λ (y : List ℕ). Some (y ++ x)) e
-
 -- no tablet yet
-pub loaded_none : (p : Plan) (input : Option (List ℕ)) (pending : List ℕ) (held : Option Files) → pending ≡ [] → HasLoaded p 0 0 input (ahead pending input) held held
-loaded_none p input pending held e = record {
+pub loaded_none : (p : Plan) (input left : Option (List ℕ)) (held : Option Files) → left ≡ input → HasLoaded p 0 0 input left held held
+loaded_none p input left held e = record {
   full = [];
   are_full = tt;
   tablets_of = refl;
   records_of = refl;
   are_records = refl;
   limited = refl;
-  taken = subst (HasTaken p.schema.fields (most_loaded p.rows) 0 [] input) (sym (ahead_nothing input pending e)) (nothing_taken p.schema.fields (most_loaded p.rows) 0 input);
+  taken = subst (HasTaken p.schema.fields (most_loaded p.rows) 0 [] input) (sym e) (nothing_taken p.schema.fields (most_loaded p.rows) 0 input);
   put = nothing_put held held refl;
 }
 
@@ -182,7 +178,7 @@ few_tablets p k m input a before held l w r = by (nat_le k 4096) refl
 taken_is : (p : Plan) (m : ℕ) (R : List Node) (input : List ℕ) (rest : List ℕ) → length R ≡ m → HasTaken p.schema.fields (most_loaded p.rows) 0 R (Some input) (Some rest) → taken_of p input ≡ behind R (taken_from p.schema.fields (most_loaded p.rows) (suc m) (lines_of rest))
 taken_is p m R input rest e h =
     let z : 0 + length R ≡ m = omega (arith, e) in
-    h ∙ ap (λ (j : ℕ). behind R (taken_from p.schema.fields (most_loaded p.rows) (suc j) (lines_of rest))) z
+    taken_so p.schema.fields (most_loaded p.rows) 0 R input rest h ∙ ap (λ (j : ℕ). behind R (taken_from p.schema.fields (most_loaded p.rows) (suc j) (lines_of rest))) z
 
 tablets_left : (p : Plan) (k m : ℕ) (input a : Option (List ℕ)) (before held : Option Files) → 0 < p.rows → HasLoaded p k m input a before held → WhereTold input (λ bytes. HasPutTablets p bytes before held)
 tablets_left p k m None a before held r l = tt
@@ -228,6 +224,17 @@ stands_reading p k m (Some bytes) a before held (LoadFault.BadLine j w) r l h n 
 stands_reading p k m (Some bytes) a before held (LoadFault.LineTooLong j) r l h n = refused_puts p k m (Some bytes) a before held _ r l h
 stands_reading p k m (Some bytes) a before held (LoadFault.TooManyRecords j) r l h n = refused_puts p k m (Some bytes) a before held _ r l h
 
+-- what is said of a reader is said of what is to be loaded
+pub of_reader : (P : Fields → ℕ → ℕ → Type 0) (fs gs : Fields) (most many number count : ℕ) → fs ≡ gs → most ≡ many → number ≡ count → P fs most number → P gs many count
+of_reader P fs gs most many number count e f g h = subst (λ (x : Fields). P x many count) e (subst (λ (m : ℕ). P fs m count) f (subst (P fs most) g h))
+
+-- no whole line that was read is refused
+pub accepts_loading : (p : Plan) (k m : ℕ) (input a now : Option (List ℕ)) (before held : Option Files) → HasLoaded p k m input a before held → AcceptsRead p.schema.fields (most_loaded p.rows) m a now
+    → AcceptsRead p.schema.fields (most_loaded p.rows) 0 input now
+accepts_loading p k m input a now before held l h =
+    let z : m ≡ 0 + length (all_records l.full) = omega (arith, l.records_of) in
+    accepts_behind p.schema.fields (most_loaded p.rows) 0 (all_records l.full) input a now l.taken (subst (λ (j : ℕ). AcceptsRead p.schema.fields (most_loaded p.rows) j a now) z h)
+
 -- ---- putting a full tablet stops
 
 pub stands_putting : (p : Plan) (k m : ℕ) (input a b : Option (List ℕ)) (before held now : Option Files) (columns : List (List Triplet)) (e : LoadFault) → 0 < p.rows → HasLoaded p k m input a before held → (h : HasColumnsOf p.schema.fields (most_loaded p.rows) m a b columns p.rows)
@@ -260,7 +267,7 @@ all_taken p k m count bytes None b before held columns l h e = absurd l.taken
 all_taken p k m count bytes (Some rest) b before held columns l h e =
     let R : List Node = all_records l.full ++ h.records in
     let t : HasTaken p.schema.fields (most_loaded p.rows) 0 R (Some bytes) (Some []) = subst (HasTaken p.schema.fields (most_loaded p.rows) 0 R (Some bytes)) e (taken_behind p m (all_records l.full) h.records (Some bytes) (Some rest) b l.records_of l.taken h.taken) in
-    t ∙ ap (λ (x : List Node). record { records = x; refusal = None }) (append-nil R)
+    taken_so p.schema.fields (most_loaded p.rows) 0 R bytes [] t ∙ ap (λ (x : List Node). record { records = x; refusal = None }) (append-nil R)
 
 last_puts : (p : Plan) (k m count : ℕ) (bytes : List ℕ) (a b : Option (List ℕ)) (before held : Option Files) (columns : List (List Triplet)) (l : HasLoaded p k m (Some bytes) a before held) (h : HasColumnsOf p.schema.fields (most_loaded p.rows) m a b columns count)
     → 0 < p.rows → count < p.rows → WhereTold a (λ _. b ≡ Some []) → tablet_part p bytes ≡ puts_from p 0 l.full ++ puts_from p k (last_tablets k h.records)

@@ -4,10 +4,6 @@ pub mod Faults
 pub mod Plans
 -- what a keeper holds after puts
 pub mod Puts
--- what was read of records
-pub mod Records
--- reading one line
-pub mod Reading
 -- what a filled tablet holds
 pub mod Filled
 -- what a load puts, counts and leaves

@@ -9,7 +9,7 @@ use Rattle.dr_formats.specs.TableFile.{most_tablets, table_text}
 use Rattle.dr_formats.specs.WritingLaws.{is_limited}
 use Rattle.dr_formats.specs.Loading.{Plan, Put, most_loaded, puts_from, put_at, table_of, full_tablets, load}
 use Rattle.dr_outside.specs.Link.{Files}
-use Rattle.dr_load.specs.Records.{WhereTold, HasTaken}
+use Rattle.dr_input.specs.Taken.{WhereTold, HasTaken}
 use Rattle.dr_load.specs.Puts.{HasPut, HasPutSome, BreaksOff}
 use Rattle.dr_load.specs.declared.fault.LoadFault.{LoadFault}
 

@@ -9,7 +9,6 @@ mod loaded;
 mod loading;
 mod plan;
 mod putting;
-mod records;
 
 pub use fault::LoadFault;
 pub use loaded::Loaded;

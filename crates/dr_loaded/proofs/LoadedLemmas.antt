@@ -23,7 +23,7 @@ use Rattle.dr_serving.specs.Premises.{HoldsRecords, PathsHold}
 use Rattle.dr_reading.specs.Scan.{Copy, tablets_from, tablets_of, joined}
 use Rattle.dr_reading.specs.Held.{copy_paths, TabletsHold}
 use Rattle.dr_load.specs.Loads.{taken_of}
-use Rattle.dr_load.specs.Records.{WhereTold}
+use Rattle.dr_input.specs.Taken.{WhereTold}
 use Rattle.dr_load.specs.Puts.{HasPut}
 use Rattle.dr_loaded.specs.Loaded.{IsPlan, AreLoadable, CopiesHold, TabletsAreFiles}
 use Rattle.dr_loaded.specs.LoadedLaws.{LoadedCopiesAreFiles, LoadedTableIsHeld, LoadedRecordsAreHeld, LoadedRecordsAreJoined}

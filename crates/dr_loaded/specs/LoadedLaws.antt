@@ -10,7 +10,7 @@ use Rattle.dr_outside.specs.Link.{Files}
 use Rattle.dr_reading.specs.Scan.{joined, tablets_of}
 use Rattle.dr_reading.specs.Held.{TabletsHold}
 use Rattle.dr_load.specs.Loads.{LoadsTable}
-use Rattle.dr_load.specs.Records.{WhereTold}
+use Rattle.dr_input.specs.Taken.{WhereTold}
 use Rattle.dr_load.specs.Puts.{HasPut}
 use Rattle.dr_loaded.specs.Loaded.{IsPlan, AreLoadable, IsApart, TabletsAreFiles}
 

@@ -4,7 +4,7 @@ ghost use Rattle.std.specs.Prelude.{◌≡◌, ◌≢◌, [], Some, None, Err, M
 ghost use Rattle.dr_outside.specs.Faults.{raised};
 ghost use Rattle.dr_load.specs.Faults.{refusal_of};
 ghost use Rattle.dr_load.specs.Plans.{plan_view};
-ghost use Rattle.dr_load.specs.Records.{WhereTold};
+ghost use Rattle.dr_input.specs.Taken.{WhereTold, AcceptsRead};
 ghost use Rattle.dr_load.specs.Puts.{HasPut};
 ghost use Rattle.dr_load.specs.Loads.{LeavesPuts, LoadsTable};
 ghost use Rattle.dr_formats.specs.Loading as meant;
@@ -38,6 +38,9 @@ pub fn loaded<S: Source, K: Keeper>(
     ensures stands { IfErr result (λ e. WhereTold (S.shows source.old).left
         (λ input. LeavesPuts (plan_view plan.now) input (K.shows keeper.old).held (K.shows keeper.new).held e)) }
 
+    ensures accepts { result ≡ Err LoadFault.ReadFault
+        → AcceptsRead (plan_view plan.now).schema.fields (meant.most_loaded (plan.now).rows) 0
+        (S.shows source.old).left (S.shows source.new).left }
     ensures source_cause { result ≡ Err LoadFault.ReadFault
         → (S.shows source.new).faults ≡ raised (S.shows source.old).faults }
     ensures source_calm { result ≢ Err LoadFault.ReadFault → (S.shows source.new).faults ≡ (S.shows source.old).faults }

@@ -3,8 +3,6 @@ pub mod KeeperFileLemmas
 pub mod SchemaFileLemmas
 -- reading the records of the input
 pub mod InputLemmas
--- the record of a line has the form of its schema's records
-pub mod FormLemmas
 -- outcomes of commands, and of those that ask the first link
 pub mod OutcomeLemmas
 pub mod FirstLinkLemmas

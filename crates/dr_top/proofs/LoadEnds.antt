@@ -5,13 +5,14 @@ use Rattle.dr_meaning.specs.Schema.{Schema}
 use Rattle.dr_meaning.specs.SchemaText.{parse_schema}
 use Rattle.dr_meaning.specs.Record.{Node}
 use Rattle.dr_meaning.specs.Lines as line
-use Rattle.dr_formats.specs.Loading.{Plan, Put, Loaded, WordsRefusal, words_refusal, puts_from, tablet_puts, puts_of, load}
+use Rattle.dr_formats.specs.Loading.{Plan, Put, Loaded, WordsRefusal, words_refusal, puts_from, tablet_puts, puts_of, most_loaded, load}
 use Rattle.dr_formats.specs.Reports.{loaded_text}
 use Rattle.dr_outside.specs.Faults.{raised}
 use Rattle.dr_outside.specs.Source.{SourceShown}
 use Rattle.dr_outside.specs.Link.{Files, LinkShown}
 use Rattle.dr_load.specs.Faults.{refusal_of}
-use Rattle.dr_load.specs.Records.{WhereTold as WhereLoaded}
+use Rattle.dr_input.specs.Whole.{whole_lines}
+use Rattle.dr_input.specs.Taken.{WhereTold as WhereLoaded, WhereGiven, AcceptsRead}
 use Rattle.dr_load.specs.Puts.{HasPut, HasPutSome, BreaksOff}
 use Rattle.dr_load.specs.Loads.{LeavesPuts, HasPutTablets, tablets_put, tablet_part, taken_of}
 use Rattle.dr_load.specs.declared.fault.LoadFault.{LoadFault}
@@ -159,6 +160,28 @@ opened w s path (Some fs) a f n = (
   λ look r puts is early e. late (load (load_plan w s) look.input) (load (load_plan w s) look.input).refusal r puts early (sym (outcome_is w s (load_plan w s) look.file look.input refl (ap parse_schema is ∙ f.2) n) ∙ e),
 )
 
+-- what the source gave is accepted
+none_refused : (l : Loaded) (o : Option line.Refusal) (r : Refused) (puts : List Put) → o ≡ None → loaded_outcome l o ≡ refused r puts → ⊥
+none_refused l None r puts h e = cc
+none_refused l (Some x) r puts h e = cc
+
+load_refusal : (p : Plan) (input : List ℕ) → (load p input).refusal ≡ (line.taken_from p.schema.fields (most_loaded p.rows) 1 (line.lines_of input)).refusal
+unfolding load
+load_refusal p input = refl
+
+accepts : (w : LoadWords) (s : Schema) (p : Plan) (path : List ℕ) (held : Option Files) (left now : Option (List ℕ)) → Begun w s p path held → AcceptsRead p.schema.fields (most_loaded p.rows) 0 left now
+    → WhereTold held (λ fs. WhereGiven left now (λ read. (file : List ℕ) × (fs w.schema ≡ Some file) × ((r : Refused) (puts : List Put) → load_schema w (whole_lines read) (parse_schema file) ≡ refused r puts → ⊥)))
+accepts w s p path None left now b a = tt
+accepts w s p path (Some fs) None now b a = tt
+accepts w s p path (Some fs) (Some all) None b a = absurd a
+accepts w s p path (Some fs) (Some all) (Some rest) b a = (
+  a.0,
+  a.1,
+  b.file.0,
+  ap fs (sym b.at) ∙ b.file.1,
+  λ r puts e. none_refused (load p (whole_lines a.0)) (load p (whole_lines a.0)).refusal r puts (load_refusal p (whole_lines a.0) ∙ a.2) (sym (outcome_is w s p b.file.0 (whole_lines a.0) b.is b.file.2 b.words) ∙ e),
+)
+
 refused_on : (w : LoadWords) (s : Schema) (p : Plan) (path : List ℕ) (held now : Option Files) (left : Option (List ℕ)) (e : line.Refusal) → Begun w s p path held
     → WhereTold left (λ input. (load p input).refusal ≡ Some e) → WhereTold left (λ input. HasPut (load p input).puts held now)
     → WhereTold held (λ fs. WhereTold left (λ input. (file : List ℕ) × (fs w.schema ≡ Some file) × IsRefusedSo (line_refused e) held now (load_schema w input (parse_schema file))))
@@ -177,34 +200,36 @@ told (Some input) P h = h
 pub load_stops : (w : LoadWords) (s : Schema) (p : Plan) (path : List ℕ) (k k1 : LinkShown) (i i1 : SourceShown) (ls : List LinkShown) (fault : LoadFault) → Begun w s p path k.held
     → (fault ≡ LoadFault.ReadFault → i1.faults ≡ raised i.faults) → (fault ≢ LoadFault.ReadFault → i1.faults ≡ i.faults)
     → (fault ≡ LoadFault.KeepFault → k1.faults ≡ raised k.faults) → (fault ≢ LoadFault.KeepFault → k1.faults ≡ k.faults)
+    → (fault ≡ LoadFault.ReadFault → AcceptsRead p.schema.fields (most_loaded p.rows) 0 i.left i1.left)
     → MatchOption (refusal_of fault) ⊤ (λ r. WhereLoaded i.left (λ input. (load p input).refusal ≡ Some r))
     → WhereLoaded i.left (λ input. LeavesPuts p input k.held k1.held fault)
     → StopsWith (load_meaning w) k k1 i i1 ls ls (load_stop fault)
-load_stops w s p path k k1 i i1 ls LoadFault.NoMemory b sc sm kc km r h = (km (λ e. cc), sm (λ e. cc), memory w s p path k k1 i i1 ls b (either p i.left k.held k1.held h))
-load_stops w s p path k k1 i i1 ls LoadFault.KeepFault b sc sm kc km r h =
+load_stops w s p path k k1 i i1 ls LoadFault.NoMemory b sc sm kc km a r h = (km (λ e. cc), sm (λ e. cc), memory w s p path k k1 i i1 ls b (either p i.left k.held k1.held h))
+load_stops w s p path k k1 i i1 ls LoadFault.KeepFault b sc sm kc km a r h =
     (kc refl, sm (λ e. cc), refl, inr (break_off w s p path k k1 i i1 ls b (stands p i.left k.held k1.held LoadFault.KeepFault (λ input. BreaksOff (load p input).puts k.held k1.held) (λ input x. x) h)))
-load_stops w s p path k k1 i i1 ls LoadFault.ReadFault b sc sm kc km r h = (
+load_stops w s p path k k1 i i1 ls LoadFault.ReadFault b sc sm kc km a r h = (
   sc refl,
   km (λ e. cc),
   refl,
   opened w s path k.held b.at b.file b.words,
   some_put w s p path k k1 i i1 ls b (told_some p i.left k.held k1.held (stands p i.left k.held k1.held LoadFault.ReadFault (λ input. HasPutTablets p input k.held k1.held) (λ input x. x) h)),
+  accepts w s p path k.held i.left i1.left b (a refl),
 )
-load_stops w s p path k k1 i i1 ls (LoadFault.BadLine n x) b sc sm kc km r h = (
+load_stops w s p path k k1 i i1 ls (LoadFault.BadLine n x) b sc sm kc km a r h = (
   km (λ e. cc),
   sm (λ e. cc),
   refl,
   refused_on w s p path k.held k1.held i.left _ b (told i.left _ r) (stands p i.left k.held k1.held (LoadFault.BadLine n x) (λ input. HasPut (load p input).puts k.held k1.held) (λ input y. y) h),
   λ early. absurd early,
 )
-load_stops w s p path k k1 i i1 ls (LoadFault.LineTooLong n) b sc sm kc km r h = (
+load_stops w s p path k k1 i i1 ls (LoadFault.LineTooLong n) b sc sm kc km a r h = (
   km (λ e. cc),
   sm (λ e. cc),
   refl,
   refused_on w s p path k.held k1.held i.left _ b (told i.left _ r) (stands p i.left k.held k1.held (LoadFault.LineTooLong n) (λ input. HasPut (load p input).puts k.held k1.held) (λ input y. y) h),
   λ early. absurd early,
 )
-load_stops w s p path k k1 i i1 ls (LoadFault.TooManyRecords n) b sc sm kc km r h = (
+load_stops w s p path k k1 i i1 ls (LoadFault.TooManyRecords n) b sc sm kc km a r h = (
   km (λ e. cc),
   sm (λ e. cc),
   refl,
@@ -245,11 +270,12 @@ begun w s path ds es table held p d e t f n = record {
 pub stops_later : (w : LoadWords) (s : Schema) (p : Plan) (path : List ℕ) (k k1 k2 : LinkShown) (i i1 : SourceShown) (ls : List LinkShown) (fault : LoadFault) → Begun w s p path k.held → k1.held ≡ k.held → k1.faults ≡ k.faults
     → (fault ≡ LoadFault.ReadFault → i1.faults ≡ raised i.faults) → (fault ≢ LoadFault.ReadFault → i1.faults ≡ i.faults)
     → (fault ≡ LoadFault.KeepFault → k2.faults ≡ raised k1.faults) → (fault ≢ LoadFault.KeepFault → k2.faults ≡ k1.faults)
+    → (fault ≡ LoadFault.ReadFault → AcceptsRead p.schema.fields (most_loaded p.rows) 0 i.left i1.left)
     → MatchOption (refusal_of fault) ⊤ (λ r. WhereLoaded i.left (λ input. (load p input).refusal ≡ Some r))
     → WhereLoaded i.left (λ input. LeavesPuts p input k1.held k2.held fault)
     → StopsWith (load_meaning w) k k2 i i1 ls ls (load_stop fault)
-stops_later w s p path k k1 k2 i i1 ls fault b e c sc sm kc km r h =
-    load_stops w s p path k k2 i i1 ls fault b sc sm (λ x. kc x ∙ ap raised c) (λ x. km x ∙ c) r
+stops_later w s p path k k1 k2 i i1 ls fault b e c sc sm kc km a r h =
+    load_stops w s p path k k2 i i1 ls fault b sc sm (λ x. kc x ∙ ap raised c) (λ x. km x ∙ c) a r
     (subst (λ (x : Option Files). WhereLoaded i.left (λ input. LeavesPuts p input x k2.held fault)) e h)
 
 pub finishes_later : (w : LoadWords) (s : Schema) (p : Plan) (path text : List ℕ) (k k1 k2 : LinkShown) (i : SourceShown) (ls : List LinkShown) (records tablets : ℕ) → Begun w s p path k.held → k1.held ≡ k.held

@@ -10,9 +10,9 @@ use Rattle.dr_table.specs.Faults.{problem_view as table_problem_view}
 use Rattle.dr_load.specs.Puts.{HasPut, HasPutSome}
 use Rattle.dr_outside.specs.Source.{SourceShown}
 use Rattle.dr_outside.specs.Link.{Files, LinkShown}
-use Rattle.dr_commands.specs.Refusals.{schema_refused, table_refused}
+use Rattle.dr_commands.specs.Refusals.{Refusal as Refused, schema_refused, table_refused}
 use Rattle.dr_commands.specs.Meaning.{Look, Meaning, Outcome, done, refused, puts_in}
-use Rattle.dr_top.specs.World.{WhereTold, WhereUsed, WhereFile, WithOutcome, ForOutcome, HasOutcome}
+use Rattle.dr_top.specs.World.{WhereTold, WhereUsed, WhereFile, WithOutcome, ForOutcome, HasOutcome, RefusesEarly}
 use Rattle.dr_top.specs.Answers.{Gives, Finishes}
 use Rattle.dr_top.specs.Stops.{SchemaFileStops, TableFileStops, StopsPlain, StopsWith, PutsSome, IsRefusedSchema, IsRefusedTable, IsRefusedSo, schema_file_stop, table_file_stop, refusal_view}
 use Rattle.dr_top.specs.declared.refusal.Refusal.{Refusal}
@@ -69,10 +69,15 @@ always_with m path keeper input P p h =
 pub always_ends : (m : Meaning) (path : List ℕ) (keeper : LinkShown) (input : SourceShown) (o : Outcome) → m.file ≡ Some path → AlwaysEnds path m keeper (λ x. x ≡ o) → HasOutcome m keeper input o
 always_ends m path keeper input o p h = always_with m path keeper input (λ x. x ≡ o) p h
 
+pub always_refuses : (m : Meaning) (path : List ℕ) (keeper : LinkShown) (r : Refused) → m.file ≡ Some path → AlwaysEnds path m keeper (λ x. x ≡ refused r []) → RefusesEarly m keeper r
+always_refuses m path keeper r p h =
+    subst (λ (f : Option (List ℕ)). WhereFile f keeper.held (λ IsIt. (file : List ℕ) × IsIt file × ((look : Look) → look.file ≡ file → m.outcome look ≡ refused r []))) (sym p) h
+
 -- an early refusal is a stop, of an input that stays
 pub early_stop : (m : Meaning) (path : List ℕ) (keeper keeper_now : LinkShown) (input : SourceShown) (r : Refusal) → m.file ≡ Some path → keeper_now.faults ≡ keeper.faults → AlwaysEnds path m keeper (λ x. x ≡ refused (refusal_view r) [])
     → StopsPlain m keeper keeper_now input input (Stop.Refused r)
-early_stop m path keeper keeper_now input r p calm h = (calm, refl, always_ends m path keeper input (refused (refusal_view r) []) p h, λ _. refl)
+early_stop m path keeper keeper_now input r p calm h =
+    (calm, refl, always_ends m path keeper input (refused (refusal_view r) []) p h, λ _. (refl, always_refuses m path keeper (refusal_view r) p h))
 
 -- ---- what puts nothing
 
@@ -96,13 +101,13 @@ pub plain_stop : (m : Meaning) (k k1 : LinkShown) (i i1 : SourceShown) (ls : Lis
 plain_stop m k k1 i i1 ls Stop.Usage e h = absurd h
 plain_stop m k k1 i i1 ls Stop.NoMemory e h = (h.0, h.1, inl (put_nothing m k k1 i e))
 plain_stop m k k1 i i1 ls Stop.Keeper e h = (h.0, ap (λ (x : SourceShown). x.faults) h.1, refl, inl (h.1, e))
-plain_stop m k k1 i i1 ls Stop.Source e h = (h.0, h.1, refl, h.2, put_nothing m k k1 i e)
+plain_stop m k k1 i i1 ls Stop.Source e h = (h.0, h.1, refl, h.2, put_nothing m k k1 i e, h.3)
 plain_stop m k k1 i i1 ls (Stop.Refused r) e h = (
   h.0,
   h.1,
   refl,
   weaker m k i (λ o. o ≡ refused (refusal_view r) []) (IsRefusedSo (refusal_view r) k.held k1.held) (λ o is. ([], is, put_none k.held k1.held e)) h.2,
-  h.3,
+  λ early. let x = h.3 early in (x.0, x.1, put_none k.held k1.held e),
 )
 plain_stop m k k1 i i1 ls (Stop.Left left) e h = absurd h
 plain_stop m k k1 i i1 ls (Stop.LeftFile cause) e h = absurd h

@@ -44,5 +44,5 @@ served_by (Some m) before after status h = λ w. absurd (not_left m before after
 -- where tablets or a file are left, the first link was asked
 pub left_complete : (o : Option Meaning) (before after : World) → Holds o IsLeft before after → IsComplete o 3 before after
 left_complete None before after h = absurd h
-left_complete (Some m) before after (inl t) = λ a b. inr (inr (refl, t.1))
-left_complete (Some m) before after (inr t) = λ a b. inr (inr (refl, t.1))
+left_complete (Some m) before after (inl t) = λ a b. inr (inr (inl (refl, t.1)))
+left_complete (Some m) before after (inr t) = λ a b. inr (inr (inl (refl, t.1)))

@@ -1,8 +1,9 @@
 -- How a run ends, in the world before and after it. What isn't said to change stays as it was.
-use Rattle.std.specs.Prelude.{◌≡◌, ◌≢◌, ℕ, true, false, IsTrue, List, [], ◌∷◌, codes, ◌⊎◌, ⊤, Option, Some, None}
+use Rattle.std.specs.Prelude.{◌≡◌, ◌≢◌, ℕ, Bool, true, false, IsTrue, List, [], ◌∷◌, codes, ◌⊎◌, ⊤, Option, Some, None}
 use Rattle.dr_formats.specs.Loading.{Put}
 use Rattle.dr_formats.specs.Reports.{left_file_text}
 use Rattle.dr_outside.specs.Faults.{raised}
+use Rattle.dr_load.specs.Puts.{HasPut}
 use Rattle.dr_outside.specs.Link.{Files, LinkShown}
 use Rattle.dr_outside.specs.Sink.{SinkShown, AddedWhole, AddedFront}
 use Rattle.dr_outside.specs.declared.cause.Cause.{Cause}
@@ -12,7 +13,7 @@ use Rattle.dr_reading.specs.Left.{LeftTablet}
 use Rattle.dr_reading.specs.LeftText.{told_cause, left_text}
 use Rattle.dr_commands.specs.Refusals.{Refusal, refusal_text}
 use Rattle.dr_commands.specs.Meaning.{Meaning, refused, scans, IsEarly}
-use Rattle.dr_top.specs.World.{World, WithOutcome, IsOpened}
+use Rattle.dr_top.specs.World.{World, WithOutcome, IsOpened, AcceptsWhole, RefusesEarly}
 use Rattle.dr_top.specs.Reading.{IsLeftWith, IsFileLeft}
 use Rattle.dr_top.specs.Stops.{IsReadBy, IsRefusedSo, PutsSome, PutsBreak}
 use Rattle.dr_top.specs.Answers.{Finishes, AsksMeant, LeavesUnread, LeavesUnput, LeavesUnasked}
@@ -65,12 +66,13 @@ IsUsage meant before after = (meant ≡ None)
     × Says before.err after.err (codes "usage: dremel load|query|ask|dump|stripe|fsm|schema|explain|gen|trial ..\n")
     × (after.input ≡ before.input) × (after.out ≡ before.out) × (after.keeper ≡ before.keeper) × (after.links ≡ before.links)
 
--- 2: the first refusal, which err names; out and the links stay, and so does the input where it isn't one of its lines that is refused
+-- 2: the first refusal, which err names; out and the links stay. Where it isn't a line of the input that is refused, the refusal is that of
+-- the file and the words whatever the input, and the input and what the keeper holds stay
 abbrev pub IsRefused : Meaning → World → World → Type 0
 IsRefused m before after = (r : Refusal) × Says before.err after.err (refusal_text r)
     × WithOutcome m before.keeper before.input (IsRefusedSo r before.keeper.held after.keeper.held)
     × (after.out ≡ before.out) × (after.links ≡ before.links)
-    × (IsEarly r → after.input ≡ before.input)
+    × (IsEarly r → (after.input ≡ before.input) × RefusesEarly m before.keeper r × HasPut [] before.keeper.held after.keeper.held)
 
 -- 3, tablets: the command asks the first link; just these are left, each with a cause for each of its copies, which err tells; all else stays
 abbrev pub TabletsLeft : Meaning → World → World → Type 0
@@ -87,11 +89,12 @@ FileLeft m before after = (c : Cause) × (m.asks_link ≡ true) × Says before.e
 abbrev pub IsLeft : Meaning → World → World → Type 0
 IsLeft m before after = TabletsLeft m before after ⊎ FileLeft m before after
 
--- 4, the input: nothing before it is refused, and of the files that are to be put those from the front on were put
+-- 4, the input: nothing before it is refused, nor is a whole line that the source gave; of the files that are to be put those from the front on were put
 abbrev pub SourceFailed : Meaning → World → World → Type 0
 SourceFailed m before after = Says before.err after.err (codes "outside: source\n")
     × HasRisen before.input.faults after.input.faults
     × IsOpened m before.keeper × PutsSome m before.keeper after.keeper before.input
+    × AcceptsWhole m before.keeper before.input after.input
     × (after.keeper.faults ≡ before.keeper.faults) × (after.out ≡ before.out) × (after.links ≡ before.links)
 
 -- 4, the keeper: it failed as the file was read, and the input and what it holds stay, or at one of the files that are to be put
@@ -124,9 +127,24 @@ IsMemory meant before after = Says before.err after.err (codes "no memory\n") ×
 
 -- ---- at every status
 
--- nothing that the command looks at is refused: its schema or table, its FIELDs, its directories, its query, the input's lines
+-- the first where the input is read and isn't told, else the second
+abbrev pub ByInput : Bool → Option (List ℕ) → Type 0 → Type 0 → Type 0
+ByInput true None untold told = untold
+ByInput true (Some bytes) untold told = told
+ByInput false left untold told = told
+
+-- the command has this refusal; of an input that is read and isn't told, it is one that comes before the input
+abbrev pub Refuses : World → Meaning → Refusal → Type 0
+Refuses before m r = ByInput m.reads_input before.input.left (IsEarly r × RefusesEarly m before.keeper r)
+    (WithOutcome m before.keeper before.input (λ o. (puts : List Put) × (o ≡ refused r puts)))
+
+-- nothing that the command looks at is refused: its schema or table, its FIELDs, its directories, its query, the input's lines where they are told
 abbrev pub IsAccepted : World → Meaning → Type 0
-IsAccepted before m = (r : Refusal) → WithOutcome m before.keeper before.input (λ o. (puts : List Put) × (o ≡ refused r puts)) → ⊥
+IsAccepted before m = (r : Refusal) → Refuses before m r → ⊥
+
+-- the input is read and isn't told: whether one of its lines is refused isn't known
+abbrev pub IsUntold : World → Meaning → Type 0
+IsUntold before m = ByInput m.reads_input before.input.left ⊤ ⊥
 
 -- an input that isn't read stays
 abbrev pub LeavesInput : Option Meaning → World → World → Type 0
@@ -144,10 +162,11 @@ AsksKeeper meant before after = AsksMeant meant before.keeper after.keeper
 abbrev pub LeavesLinks : Option Meaning → World → World → Type 0
 LeavesLinks meant before after = LeavesUnasked meant before.links after.links
 
--- where the words mean something of which nothing is refused, and no count rises, the status is 0 or 5, or 3 where the first link is asked
+-- where the words mean something of which nothing is refused, and no count rises, the status is 0 or 5, or 3 where the first link is asked, or 2 where the
+-- input isn't told
 abbrev pub IsComplete : Option Meaning → ℕ → World → World → Type 0
 IsComplete meant status before after = ForMeant meant (IsAccepted before) → IsCalm before after
-    → (status ≡ 0) ⊎ ((status ≡ 5) ⊎ ((status ≡ 3) × ForMeant meant (λ m. m.asks_link ≡ true)))
+    → (status ≡ 0) ⊎ ((status ≡ 5) ⊎ (((status ≡ 3) × ForMeant meant (λ m. m.asks_link ≡ true)) ⊎ ((status ≡ 2) × ForMeant meant (IsUntold before))))
 
 -- the table file that the words name is there; the first link is steady, and tells that of each tablet that the command scans a copy is a file,
 -- for the leaves that it reads

@@ -11,17 +11,19 @@ use Rattle.dr_file.specs.declared.file_fault.FileFault.{FileFault}
 use Rattle.dr_load.specs.declared.fault.LoadFault.{LoadFault}
 use Rattle.dr_load.specs.Puts.{HasPut, HasPutSome, BreaksOff}
 use Rattle.dr_nested.specs.Faults.{problem_view, path_problem_view}
-use Rattle.dr_json.specs.Faults.{record_problem_view}
+use Rattle.dr_input.specs.Taken.{AcceptsRead}
+use Rattle.dr_input.specs.Faults.{line_problem_view}
+use Rattle.dr_input.specs.declared.fault.LineProblem.{LineProblem}
+use Rattle.dr_input.specs.declared.fault.InputFault.{InputFault}
 use Rattle.dr_outside.specs.Faults.{raised}
 use Rattle.dr_outside.specs.Source.{SourceShown}
 use Rattle.dr_outside.specs.Link.{Files, LinkShown, Request, size_of, bytes_of}
 use Rattle.dr_commands.specs.Refusals.{Refusal as Refused, schema_refused, table_refused, field_refused, words_refused, query_refused, line_refused}
 use Rattle.dr_commands.specs.Meaning.{Meaning, Outcome, refused, puts_in, IsEarly}
 use Rattle.dr_commands.specs.declared.words_fault.WordsFault.{WordsFault}
-use Rattle.dr_top.specs.World.{WhereTold, WithOutcome, ForOutcome, HasOutcome, IsOpened}
+use Rattle.dr_top.specs.World.{WhereTold, WithOutcome, ForOutcome, HasOutcome, IsOpened, AcceptsWhole, RefusesEarly}
 use Rattle.dr_top.specs.Reading.{IsLeftWith, IsFileLeft, LeavesFile}
 use Rattle.dr_tablets.specs.Views.{all_left_view}
-use Rattle.dr_top.specs.declared.refusal.LineProblem.{LineProblem}
 use Rattle.dr_load_words.specs.Words.{words_problem_view}
 use Rattle.dr_load_words.specs.declared.words.WordsProblem.{WordsProblem}
 use Rattle.dr_query.specs.Faults.{refusal_of as query_refusal_of}
@@ -30,15 +32,9 @@ use Rattle.dr_top.specs.declared.refusal.Refusal.{Refusal}
 use Rattle.dr_top.specs.declared.schema_file.SchemaFileFault.{SchemaFileFault}
 use Rattle.dr_top.specs.declared.table_file.TableFileFault.{TableFileFault}
 use Rattle.dr_top.specs.declared.field.FieldFault.{FieldFault}
-use Rattle.dr_top.specs.declared.input_records.InputFault.{InputFault}
 use Rattle.dr_top.specs.declared.stop.Stop.{Stop}
 
 -- ---- refusals
-
-abbrev pub line_problem_view : LineProblem → line.LineFault
-line_problem_view LineProblem.TooLong = line.line_too_long
-line_problem_view LineProblem.TooManyRecords = line.too_many_records
-line_problem_view (LineProblem.Record w) = line.no_record (record_problem_view w)
 
 abbrev pub refusal_view : Refusal → Refused
 refusal_view (Refusal.Schema p w) = schema_refused (record { place = p; problem = problem_view w })
@@ -107,10 +103,10 @@ FieldStops meant (FieldFault.Refused n w) = meant ≡ Err (plain.field_refused n
 abbrev pub IsRefusedLine : Fields → ℕ → Option (List ℕ) → line.Refusal → Type 0
 IsRefusedLine fs most input e = WhereTold input (λ bytes. line.records_of fs most bytes ≡ Err e)
 
--- why an input gives no records
+-- why an input gives no records: memory was wanting; the source failed, and no whole line that it gave is refused; the first refused line
 abbrev pub InputStops : Fields → ℕ → SourceShown → SourceShown → InputFault → Type 0
 InputStops fs most before now InputFault.NoMemory = now.faults ≡ before.faults
-InputStops fs most before now InputFault.Source = now.faults ≡ raised before.faults
+InputStops fs most before now InputFault.Source = (now.faults ≡ raised before.faults) × AcceptsRead fs most 0 before.left now.left
 InputStops fs most before now (InputFault.Refused n w) =
     (now.faults ≡ before.faults) × IsRefusedLine fs most before.left (record { line = n; fault = line_problem_view w })
 
@@ -129,10 +125,11 @@ abbrev pub StopsPlain : Meaning → LinkShown → LinkShown → SourceShown → 
 StopsPlain m keeper keeper_now input input_now Stop.Usage = ⊥
 StopsPlain m keeper keeper_now input input_now Stop.NoMemory = (keeper_now.faults ≡ keeper.faults) × (input_now.faults ≡ input.faults)
 StopsPlain m keeper keeper_now input input_now Stop.Keeper = (keeper_now.faults ≡ raised keeper.faults) × (input_now ≡ input)
-StopsPlain m keeper keeper_now input input_now Stop.Source = (input_now.faults ≡ raised input.faults) × (keeper_now.faults ≡ keeper.faults) × IsOpened m keeper
+StopsPlain m keeper keeper_now input input_now Stop.Source =
+    (input_now.faults ≡ raised input.faults) × (keeper_now.faults ≡ keeper.faults) × IsOpened m keeper × AcceptsWhole m keeper input input_now
 StopsPlain m keeper keeper_now input input_now (Stop.Refused r) =
     (keeper_now.faults ≡ keeper.faults) × (input_now.faults ≡ input.faults) × HasOutcome m keeper input (refused (refusal_view r) [])
-    × (IsEarly (refusal_view r) → input_now ≡ input)
+    × (IsEarly (refusal_view r) → (input_now ≡ input) × RefusesEarly m keeper (refusal_view r))
 StopsPlain m keeper keeper_now input input_now (Stop.Left left) = ⊥
 StopsPlain m keeper keeper_now input input_now (Stop.LeftFile cause) = ⊥
 
@@ -158,10 +155,11 @@ StopsWith m keeper keeper_now input input_now links links_now Stop.Keeper =
     × (((input_now ≡ input) × (keeper_now.held ≡ keeper.held)) ⊎ PutsBreak m keeper keeper_now input)
 StopsWith m keeper keeper_now input input_now links links_now Stop.Source =
     (input_now.faults ≡ raised input.faults) × (keeper_now.faults ≡ keeper.faults) × (links_now ≡ links)
-    × IsOpened m keeper × PutsSome m keeper keeper_now input
+    × IsOpened m keeper × PutsSome m keeper keeper_now input × AcceptsWhole m keeper input input_now
 StopsWith m keeper keeper_now input input_now links links_now (Stop.Refused r) =
     (keeper_now.faults ≡ keeper.faults) × (input_now.faults ≡ input.faults) × (links_now ≡ links)
-    × WithOutcome m keeper input (IsRefusedSo (refusal_view r) keeper.held keeper_now.held) × (IsEarly (refusal_view r) → input_now ≡ input)
+    × WithOutcome m keeper input (IsRefusedSo (refusal_view r) keeper.held keeper_now.held)
+    × (IsEarly (refusal_view r) → (input_now ≡ input) × RefusesEarly m keeper (refusal_view r) × HasPut [] keeper.held keeper_now.held)
 StopsWith m keeper keeper_now input input_now links links_now (Stop.Left left) =
     (keeper_now.faults ≡ keeper.faults) × (m.asks_link ≡ true) × (input_now ≡ input) × (keeper_now.held ≡ keeper.held)
     × WithOutcome m keeper input (λ o. IsLeftWith o links links_now (all_left_view left.items))
