@@ -1,9 +1,8 @@
 -- paths, levels and records
 pub mod LeafPaths
 pub mod RecordFits
-pub mod RecordRows
+pub mod PrunedRecords
 -- columns
-pub mod ColumnsOfNoRecords
 pub mod LevelsAndValues
 -- queries
 pub mod QueryTrees
@@ -14,8 +13,5 @@ pub mod ResultObjects
 pub mod ResultShapes
 pub mod GroupsByPutting
 -- files
-pub mod WrittenBytes
-pub mod BodiesOfNoPage
-pub mod OpenLeafLimit
--- tables
+pub mod WrittenMaps
 pub mod TabletCopies
