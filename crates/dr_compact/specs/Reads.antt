@@ -1,5 +1,6 @@
 -- What came of reading, against what the definitions say.
-use Rattle.std.specs.Prelude.{◌≡◌, ℕ, List, Option, Some, None, IfSome, Result, Ok, Err}
+use Rattle.std.specs.Prelude.{◌≡◌, ℕ, List, [], ◌∷◌, ◌++◌, Option, Some, None, IfSome, Result, Ok, Err, Vec, ⊥}
+use Rattle.std.specs.declared.alloc.Global.{Global}
 use Rattle.dr_formats.specs.Reading.{Reading, got}
 use Rattle.dr_formats.specs.Compact as compact
 use Rattle.dr_bytes.specs.Numbers.{IsFault}
@@ -19,3 +20,10 @@ IsFaultOf e r = IfSome (fault_view e) (λ f. IsFault f r)
 abbrev pub Reads : {A B : Type 0} → (A → B) → Reading compact.CompactFault B → List ℕ → Result A CompactFault → Type 0
 Reads see meant behind (Ok a) = meant ≡ got (see a) behind
 Reads see meant behind (Err e) = IsFaultOf e meant
+
+-- values with the one that was read behind them, or the fault of reading it; want of memory may come in place of the values
+abbrev pub JoinsOne : {A : Type 0} → List A → Result A CompactFault → Result (Vec A Global) CompactFault → Type 0
+JoinsOne vs (Ok a) (Ok ws) = ws.items ≡ vs ++ a ∷ []
+JoinsOne vs (Ok a) (Err e) = e ≡ CompactFault.NoMemory
+JoinsOne vs (Err f) (Ok ws) = ⊥
+JoinsOne vs (Err f) (Err e) = e ≡ f

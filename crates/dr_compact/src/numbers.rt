@@ -2,8 +2,8 @@
 
 ghost use Rattle.std.specs.Prelude.{◌≡◌, ◌∷◌, [], IfOk, IfErr};
 ghost use Rattle.dr_formats.specs.Varint.{varint};
-ghost use Rattle.dr_formats.specs.Reading.{bytes_of};
-ghost use Rattle.dr_formats.specs.Compact.{malformed, signed_varint, field_id, binary};
+ghost use Rattle.dr_formats.specs.Reading.{bytes_of, byte_as};
+ghost use Rattle.dr_formats.specs.Compact.{malformed, signed_varint, field_id, binary, truth_byte, truth_item};
 ghost use Rattle.dr_bytes.specs.Cutting.{left};
 ghost use Rattle.dr_compact.specs.Reads.{Reads};
 
@@ -20,6 +20,13 @@ pub(crate) fn next_byte(cut: &mut Cut<'_>) -> Result<u8, CompactFault>
 {
     let byte = cut.take(1)?;
     Ok(byte[0])
+}
+
+/// The next truth value of a list, a set or a map: the byte 1 is true.
+pub(crate) fn next_truth(cut: &mut Cut<'_>) -> Result<bool, CompactFault>
+    ensures { Reads truth_item (byte_as malformed malformed truth_byte (left cut.old)) (left cut.new) result }
+{
+    Ok(next_byte(cut)? == 1)
 }
 
 /// The next variable-length number.

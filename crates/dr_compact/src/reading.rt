@@ -12,10 +12,10 @@ ghost use Rattle.dr_compact.specs.Views.{item_view, values_view, elements_view, 
 
 use crate::fault::CompactFault;
 use crate::headers::{field_header, key_and_value, list_header};
-use crate::numbers::{next_binary, next_byte, next_double, next_number, next_signed};
+use crate::numbers::{next_binary, next_byte, next_double, next_number, next_signed, next_truth};
 use crate::thrift_type::ThriftType;
 use crate::tree::{Field, Item, Map, Tree, Values};
-use crate::values::no_values;
+use crate::values::{no_values, with_one};
 use dr_bytes::Cut;
 use std::alloc::Global;
 
@@ -147,49 +147,31 @@ fn read_element<'a>(
     ensures { Reads values_view (joined (values_view values.entry) (value_of depth (values_view values.entry).element (left cut.old))) (left cut.new) result }
 {
     match values {
-        Values::Truths(kind, mut truths) => {
-            truths.push(next_byte(cut)? == 1)?;
+        Values::Truths(kind, truths) => {
+            let truths = with_one(truths, next_truth(cut))?;
             Ok(Values::Truths(kind, truths))
         }
-        Values::Bytes(mut bytes) => {
-            bytes.push(next_byte(cut)?)?;
-            Ok(Values::Bytes(bytes))
-        }
-        Values::I16s(mut numbers) => {
-            numbers.push(next_signed(cut)?)?;
-            Ok(Values::I16s(numbers))
-        }
-        Values::I32s(mut numbers) => {
-            numbers.push(next_signed(cut)?)?;
-            Ok(Values::I32s(numbers))
-        }
-        Values::I64s(mut numbers) => {
-            numbers.push(next_signed(cut)?)?;
-            Ok(Values::I64s(numbers))
-        }
-        Values::Doubles(mut doubles) => {
-            doubles.push(next_double(cut)?)?;
-            Ok(Values::Doubles(doubles))
-        }
-        Values::Binaries(mut binaries) => {
-            binaries.push(next_binary(cut)?)?;
+        Values::Bytes(bytes) => Ok(Values::Bytes(with_one(bytes, next_byte(cut))?)),
+        Values::I16s(numbers) => Ok(Values::I16s(with_one(numbers, next_signed(cut))?)),
+        Values::I32s(numbers) => Ok(Values::I32s(with_one(numbers, next_signed(cut))?)),
+        Values::I64s(numbers) => Ok(Values::I64s(with_one(numbers, next_signed(cut))?)),
+        Values::Doubles(doubles) => Ok(Values::Doubles(with_one(doubles, next_double(cut))?)),
+        Values::Binaries(binaries) => {
+            let binaries = with_one(binaries, next_binary(cut))?;
             Ok(Values::Binaries(binaries))
         }
-        Values::Lists(mut lists) => {
-            lists.push(read_elements(alloc, cut, depth)?)?;
-            Ok(Values::Lists(lists))
+        Values::Lists(lists) => {
+            let list = read_elements(alloc, cut, depth);
+            Ok(Values::Lists(with_one(lists, list)?))
         }
-        Values::Sets(mut sets) => {
-            sets.push(read_elements(alloc, cut, depth)?)?;
-            Ok(Values::Sets(sets))
+        Values::Sets(sets) => {
+            let set = read_elements(alloc, cut, depth);
+            Ok(Values::Sets(with_one(sets, set)?))
         }
-        Values::Maps(mut maps) => {
-            maps.push(read_map(alloc, cut, depth)?)?;
-            Ok(Values::Maps(maps))
-        }
-        Values::Structs(mut structs) => {
-            structs.push(read_tree(alloc, cut, depth)?)?;
-            Ok(Values::Structs(structs))
+        Values::Maps(maps) => Ok(Values::Maps(with_one(maps, read_map(alloc, cut, depth))?)),
+        Values::Structs(structs) => {
+            let tree = read_tree(alloc, cut, depth);
+            Ok(Values::Structs(with_one(structs, tree)?))
         }
     }
 }

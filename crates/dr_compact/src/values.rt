@@ -3,8 +3,10 @@
 ghost use Rattle.std.specs.Prelude.{◌≡◌, [], length};
 ghost use Rattle.dr_compact.specs.Views.{item_view, values_view};
 ghost use Rattle.dr_formats.specs.Compact.{item_type};
+ghost use Rattle.dr_compact.specs.Reads.{JoinsOne};
 ghost use Rattle.dr_compact.specs.Types.{type_view};
 
+use crate::fault::CompactFault;
 use crate::thrift_type::ThriftType;
 use crate::tree::{Item, TruthType, Values};
 use std::alloc::Global;
@@ -86,4 +88,18 @@ pub(crate) fn type_of_item(item: &Item<'_>) -> ThriftType
         Item::Map(_) => ThriftType::Map,
         Item::Struct(_) => ThriftType::Struct,
     }
+}
+
+/// Values with the one that was read behind them.
+///
+/// Errors: the fault of reading it; want of memory.
+pub(crate) fn with_one<T: Drop>(
+    values: Vec<T>,
+    read: Result<T, CompactFault>,
+) -> Result<Vec<T>, CompactFault>
+    ensures { JoinsOne (values.entry).items read.entry result }
+{
+    let mut values = values;
+    values.push(read?)?;
+    Ok(values)
 }
