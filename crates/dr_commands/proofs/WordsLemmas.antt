@@ -12,7 +12,7 @@ use Rattle.clap.specs.declared.Error.{Error}
 use Rattle.clap.specs.declared.error.ErrorKind.TheVariants.{OutOfMemory}
 use Rattle.clap.proofs.OnLiterals.{clap_on_literals}
 use Rattle.clap.proofs.WalkLemmas.{both}
-use Rattle.dr_commands.specs.Commands.{CommandWords, FaultlessAreTaken, Taken, TakenAsk, asked, dremel_app, words_in}
+use Rattle.dr_commands.specs.Commands.{ClapTakes, CommandWords, FaultlessAreTaken, NamesFew, Taken, TakenAsk, asked, dremel_app, words_in}
 use Rattle.dr_commands.specs.Rules.{Answers}
 use Rattle.dr_commands.specs.CommandView.{command_view}
 use Rattle.dr_commands.specs.declared.command.Command.{Command}
@@ -44,10 +44,10 @@ none_empty (k ∷ kinds) e = absurd (true≢false (sym e))
 pub faultless_are_taken : FaultlessAreTaken
 faultless_are_taken words = (λ e. sym (faults_agree words) ∙ ap is_none e, λ taken. none_empty (fault_of dremel_app words) (faults_agree words ∙ taken))
 
-taken_asks : (words : List Text) → Taken words → asked words ≡ words_in (subcommand_of dremel_app words)
+taken_asks : (words : List Text) → ClapTakes words → asked words ≡ words_in (subcommand_of dremel_app words)
 taken_asks words taken = ap (λ (b : Bool). cond b (words_in (subcommand_of dremel_app words)) None) taken
 
-untaken_asks : (words : List Text) → (Taken words → ⊥) → asked words ≡ None
+untaken_asks : (words : List Text) → (ClapTakes words → ⊥) → asked words ≡ None
 untaken_asks words untaken = go (takes dremel_app words) untaken
   where
     go : (b : Bool) → (b ≡ true → ⊥) → cond b (words_in (subcommand_of dremel_app words)) None ≡ None
@@ -55,7 +55,7 @@ untaken_asks words untaken = go (takes dremel_app words) untaken
     go false not_taken = refl
 
 -- at words that clap takes an error is want of memory
-pub taken_error_is_memory : (app : App) (words : List Text) (e : Error) → app ≡ dremel_app → (takes app words ≡ true → kind_of e ≡ OutOfMemory) → Taken words → kind_of e ≡ OutOfMemory
+pub taken_error_is_memory : (app : App) (words : List Text) (e : Error) → app ≡ dremel_app → (takes app words ≡ true → kind_of e ≡ OutOfMemory) → ClapTakes words → kind_of e ≡ OutOfMemory
 taken_error_is_memory app words e is memory taken = memory (ap (λ (a : App). takes a words) is ∙ taken)
 
 -- an error other than want of memory comes only at words that ask for nothing
@@ -92,38 +92,62 @@ completed = built dremel_app
 abbrev HaveValues : List Shape → Type 0
 HaveValues [] = Unit {0}
 HaveValues (s ∷ rest) =
-    ((words : List Text) → level_passes s [] nothing_held words false ≡ true → words_in (Some (rows_at s words)) ≡ None → ⊥) × HaveValues rest
+    ((words : List Text) → level_passes s [] nothing_held words false ≡ true → NamesFew (Some (rows_at s words)) → words_in (Some (rows_at s words)) ≡ None → ⊥) × HaveValues rest
 
 found_has_values : (subs : List Shape) (name : Text) (words : List Text) → HaveValues subs
     → option_map_or (λ (s : Shape). level_passes s [] nothing_held words false) (find (λ s. answers_to name (label_of s)) subs) true ≡ true
     → is_some (option_map (λ (s : Shape). rows_at s words) (find (λ s. answers_to name (label_of s)) subs)) ≡ true
+    → NamesFew (option_map (λ (s : Shape). rows_at s words) (find (λ s. answers_to name (label_of s)) subs))
     → words_in (option_map (λ (s : Shape). rows_at s words) (find (λ s. answers_to name (label_of s)) subs)) ≡ None → ⊥
-found_has_values [] name words have passes there none = true≢false (sym there)
-found_has_values (s ∷ rest) name words have passes there none =
-    go (answers_to name (label_of s)) (find (λ x. answers_to name (label_of x)) rest) (found_has_values rest name words have.1) passes there none
+found_has_values [] name words have passes there few none = true≢false (sym there)
+found_has_values (s ∷ rest) name words have passes there few none =
+    go (answers_to name (label_of s)) (find (λ x. answers_to name (label_of x)) rest) (found_has_values rest name words have.1) passes there few none
   where
     go : (b : Bool) (later : Option Shape)
         → (option_map_or (λ (x : Shape). level_passes x [] nothing_held words false) later true ≡ true
-        → is_some (option_map (λ (x : Shape). rows_at x words) later) ≡ true → words_in (option_map (λ (x : Shape). rows_at x words) later) ≡ None → ⊥)
+        → is_some (option_map (λ (x : Shape). rows_at x words) later) ≡ true → NamesFew (option_map (λ (x : Shape). rows_at x words) later)
+        → words_in (option_map (λ (x : Shape). rows_at x words) later) ≡ None → ⊥)
         → option_map_or (λ (x : Shape). level_passes x [] nothing_held words false) (cond b (Some s) later) true ≡ true
         → is_some (option_map (λ (x : Shape). rows_at x words) (cond b (Some s) later)) ≡ true
+        → NamesFew (option_map (λ (x : Shape). rows_at x words) (cond b (Some s) later))
         → words_in (option_map (λ (x : Shape). rows_at x words) (cond b (Some s) later)) ≡ None → ⊥
-    go true later next passes there none = have.0 words passes none
-    go false later next passes there none = next passes there none
+    go true later next passes there few none = have.0 words passes few none
+    go false later next passes there few none = next passes there few none
 
--- one part for each subcommand
+-- one part for each subcommand; only `load` names directories
 all_have_values : HaveValues completed.subs
-all_have_values = (load_has_values, (query_has_values, (ask_has_values, (dump_has_values, (stripe_has_values, (fsm_has_values, (show_schema_has_values, (explain_has_values, tt))))))))
+all_have_values = (
+  load_has_values,
+  (
+    λ words passes _. query_has_values words passes,
+    (
+      λ words passes _. ask_has_values words passes,
+      (
+        λ words passes _. dump_has_values words passes,
+        (
+          λ words passes _. stripe_has_values words passes,
+          (
+            λ words passes _. fsm_has_values words passes,
+            (
+              λ words passes _. show_schema_has_values words passes,
+              (λ words passes _. explain_has_values words passes, tt),
+            ),
+          ),
+        ),
+      ),
+    ),
+  ),
+)
 
 entered_has_values : (stop : Option (Text × List Text)) → entered_passes completed stop ≡ true → is_some (entered completed stop) ≡ true
-    → words_in (entered completed stop) ≡ None → ⊥
-entered_has_values None passes there none = true≢false (sym there)
-entered_has_values (Some p) passes there none = found_has_values completed.subs p.0 p.1 all_have_values passes there none
+    → NamesFew (entered completed stop) → words_in (entered completed stop) ≡ None → ⊥
+entered_has_values None passes there few none = true≢false (sym there)
+entered_has_values (Some p) passes there few none = found_has_values completed.subs p.0 p.1 all_have_values passes there few none
 
--- where clap takes the words, the subcommand has the values that have to be there
+-- where the words are taken, the subcommand has the values that have to be there
 pub taken_has_values : (words : List Text) → Taken words → words_in (subcommand_of dremel_app words) ≡ None → ⊥
 taken_has_values words taken none =
-    let passes = (both (is_simple dremel_app) _ taken).1 in
+    let passes = (both (is_simple dremel_app) _ taken.0).1 in
     let stop = (walk completed.top.rules (names_of completed) nothing_held (argument_words dremel_app words)).stopped in
     let parts = both (entered_passes completed stop) _ passes in
     let end = (walk completed.top.rules (names_of completed) nothing_held (argument_words dremel_app words)).held in
@@ -131,12 +155,12 @@ taken_has_values words taken none =
     let settles = both (settle_passes completed.top.rules completed.top.args_override_self end) _ walks.1 in
     let valid = (both (list_all default_passes completed.top.rules) (is_valid completed.top (finished completed.top.rules end) (is_some (entered completed stop))) settles.1).1 in
     let named = (both (is_some (entered completed stop)) _ valid).0 in
-    entered_has_values stop parts.0 named none
+    entered_has_values stop parts.0 named taken.1 none
 
 -- so they ask for something
 pub taken_ask : TakenAsk
 taken_ask words taken =
-    subst (λ (o : Option CommandWords). IsSome o) (sym (taken_asks words taken)) (there (words_in (subcommand_of dremel_app words)) (taken_has_values words taken))
+    subst (λ (o : Option CommandWords). IsSome o) (sym (taken_asks words taken.0)) (there (words_in (subcommand_of dremel_app words)) (taken_has_values words taken))
   where
     there : (o : Option CommandWords) → (o ≡ None → ⊥) → IsSome o
     there None some = absurd (some refl)
@@ -144,4 +168,4 @@ taken_ask words taken =
 
 -- and `Usage` is no answer there
 pub taken_answers : (words : List Text) (r : Result Command WordsFault) → Answers command_view (asked words) r → Taken words → r ≡ Err Usage → ⊥
-taken_answers words r answer taken usage = taken_has_values words taken (sym (taken_asks words taken) ∙ usage_answers (asked words) r answer usage)
+taken_answers words r answer taken usage = taken_has_values words taken (sym (taken_asks words taken.0) ∙ usage_answers (asked words) r answer usage)

@@ -1,5 +1,5 @@
 -- Command lines written out: each holds by computation.
-use Rattle.std.specs.Prelude.{◌≡◌, ℕ, refl, List, [], ◌∷◌, map, replicate, Option, Some, None, codes}
+use Rattle.std.specs.Prelude.{◌≡◌, ℕ, refl, List, [], ◌∷◌, ◌++◌, map, replicate, Option, Some, None, codes}
 use Rattle.clap.specs.Words.{Text, fault_of}
 use Rattle.clap.specs.declared.error.ErrorKind.TheVariants as kind
 use Rattle.clap.proofs.OnLiterals.{clap_on_literals}
@@ -15,7 +15,7 @@ count_words = codes "dremel" ∷ codes "ask" ∷ codes "--schema" ∷ codes "doc
 
 pub count_is_taken : Taken count_words
 unfolding clap_on_literals
-count_is_taken = refl
+count_is_taken = (refl, tt)
 
 pub count_is_asked : asked count_words ≡ Some (ask (record { schema = codes "document.txt"; rows = 100000; fan = 8; query = query }))
 unfolding clap_on_literals
@@ -71,7 +71,7 @@ no_table = refl
 -- how a query over a schema is served; the schema has to be named
 pub explain_is_taken : Taken (codes "dremel" ∷ codes "explain" ∷ codes "--schema" ∷ codes "document.txt" ∷ query ∷ [])
 unfolding clap_on_literals
-explain_is_taken = refl
+explain_is_taken = (refl, tt)
 
 pub explain_is_asked : asked (codes "dremel" ∷ codes "explain" ∷ codes "--schema" ∷ codes "document.txt" ∷ query ∷ []) ≡ Some (explain (record { schema = codes "document.txt"; query = query }))
 unfolding clap_on_literals
@@ -102,7 +102,29 @@ pub no_loads : map asked (load_line [] ∷ load_line (codes "--rows=0" ∷ codes
 unfolding clap_on_literals
 no_loads = refl
 
--- at most 64 directories
+-- options may also stand between the directories and behind them, and their values are no directories; two minus signs end them
+pub options_between_directories : (asked (load_line (codes "x" ∷ codes "--rows" ∷ codes "5" ∷ codes "y" ∷ [])) ≡ load_of 5 1 (codes "x" ∷ codes "y" ∷ []))
+    × (asked (load_line (codes "x" ∷ codes "--copies=2" ∷ codes "y" ∷ codes "--rows" ∷ codes "7" ∷ codes "z" ∷ [])) ≡ load_of 7 2 (codes "x" ∷ codes "y" ∷ codes "z" ∷ []))
+    × (asked (codes "dremel" ∷ codes "load" ∷ codes "x" ∷ codes "--table" ∷ codes "t" ∷ codes "x" ∷ codes "--schema" ∷ codes "s" ∷ []) ≡ load_of 100000 1 (codes "x" ∷ codes "x" ∷ []))
+    × (asked (load_line (codes "x" ∷ codes "--rows" ∷ codes "5" ∷ codes "--" ∷ codes "--copies" ∷ codes "2" ∷ [])) ≡ load_of 5 1 (codes "x" ∷ codes "--copies" ∷ codes "2" ∷ []))
+unfolding clap_on_literals
+options_between_directories = (refl, refl, refl, refl)
+
+-- an option twice, one without its value, a value that is no number, an option that is none; options alone
+pub no_loads_between : map asked (load_line (codes "--rows=1" ∷ codes "x" ∷ codes "--rows" ∷ codes "1" ∷ codes "y" ∷ []) ∷ load_line (codes "x" ∷ codes "--table" ∷ codes "t" ∷ codes "y" ∷ [])
+    ∷ load_line (codes "x" ∷ codes "y" ∷ codes "--rows" ∷ []) ∷ load_line (codes "x" ∷ codes "--rows" ∷ codes "y" ∷ []) ∷ load_line (codes "x" ∷ codes "--row" ∷ codes "5" ∷ codes "y" ∷ [])
+    ∷ load_line (codes "--rows" ∷ codes "5" ∷ codes "--copies" ∷ codes "1" ∷ []) ∷ []) ≡ replicate 6 None
+unfolding clap_on_literals
+no_loads_between = refl
+
+-- at most 64 directories, on both sides of an option together
+abbrev around : ℕ → ℕ → List Text
+around before behind = load_line (replicate before (codes "x") ++ codes "--rows" ∷ codes "5" ∷ replicate behind (codes "x"))
+
+pub directories_around : (asked (around 32 32) ≡ load_of 5 1 (replicate 64 (codes "x"))) × (asked (around 32 33) ≡ None) × (asked (around 65 1) ≡ None)
+unfolding clap_on_literals
+directories_around = (refl, refl, refl)
+
 pub directories_of_loads : (asked (load_line (replicate 64 (codes "x"))) ≡ load_of 100000 1 (replicate 64 (codes "x"))) × (asked (load_line (replicate 65 (codes "x"))) ≡ None)
 unfolding clap_on_literals
 directories_of_loads = (refl, refl)

@@ -1,7 +1,8 @@
 -- The words of a command line: the command `dremel` as clap's own data, and what its words ask for by clap's definitions.
-use Rattle.std.specs.Prelude.{◌≡◌, ◌↔◌, IsSome, true, List, [], ◌∷◌, Option, None, fold, codes, option_map, option_and_then, if◌then◌else◌}
+use Rattle.std.specs.Prelude.{◌≡◌, ◌≤◌, ◌↔◌, IsSome, IfSome, true, List, [], ◌∷◌, length, Option, None, fold, codes, option_map, option_and_then, if◌then◌else◌}
 use Rattle.std.specs.Str.{bytes_eq}
-use Rattle.clap.specs.Words.{App, Row, Shape, Text, fault_of, new_app, subcommand_of, takes, with_subcommand}
+use Rattle.clap.specs.Words.{App, Row, Shape, Text, all_of, fault_of, new_app, subcommand_of, takes, with_subcommand}
+use Rattle.dr_formats.specs.TableFile.{most_leaf_lines}
 use Rattle.dr_commands.specs.Meaning.{Meaning}
 use Rattle.dr_commands.specs.Load.{LoadWords, load_app, load_words, load_meaning}
 use Rattle.dr_commands.specs.Query.{QueryWords, query_app, query_words, query_meaning}
@@ -26,8 +27,16 @@ abbrev pub dremel_app : App
 dremel_app = fold with_subcommand bare_app subcommands
 
 -- clap takes the words
+abbrev pub ClapTakes : List Text → Type 0
+ClapTakes words = takes dremel_app words ≡ true
+
+-- the words of a subcommand name no more directories than there may be; only those of `load` name any
+abbrev pub NamesFew : Option (Text × List Row) → Type 0
+NamesFew entered = IfSome entered (λ named. IfSome (all_of (codes "dir") named.1) (λ directories. length directories ≤ most_leaf_lines))
+
+-- clap takes the words, and they name no more directories than there may be
 abbrev pub Taken : List Text → Type 0
-Taken words = takes dremel_app words ≡ true
+Taken words = ClapTakes words × NamesFew (subcommand_of dremel_app words)
 
 -- ---- what the words ask for
 
@@ -55,7 +64,7 @@ words_of name rows =
 abbrev pub words_in : Option (Text × List Row) → Option CommandWords
 words_in = option_and_then (λ entered. words_of entered.0 entered.1)
 
--- the subcommand that the words name, with its values; none where clap refuses the words
+-- the subcommand that the words name, with its values; none where clap refuses the words, or they name too many directories
 abbrev pub asked : List Text → Option CommandWords
 asked words = if takes dremel_app words then words_in (subcommand_of dremel_app words) else None
 
@@ -70,16 +79,16 @@ meaning_of (fsm w) = fsm_meaning w
 meaning_of (show_schema w) = show_schema_meaning w
 meaning_of (explain w) = explain_meaning w
 
--- what the words mean; none where clap refuses them
+-- what the words mean, if they ask for anything
 abbrev pub meant : List Text → Option Meaning
 meant words = option_map meaning_of (asked words)
 
 -- ---- laws
 
--- where clap takes the words, the subcommand has each value that has to be there
+-- where the words are taken, the subcommand has each value that has to be there
 abbrev pub TakenAsk : Type 0
 TakenAsk = (words : List Text) → Taken words → IsSome (asked words)
 
 -- clap finds no fault exactly where it takes the words
 abbrev pub FaultlessAreTaken : Type 0
-FaultlessAreTaken = (words : List Text) → (fault_of dremel_app words ≡ []) ↔ Taken words
+FaultlessAreTaken = (words : List Text) → (fault_of dremel_app words ≡ []) ↔ ClapTakes words

@@ -1,5 +1,5 @@
 -- `load --schema F --table F [--rows N] [--copies K] DIR..`: the records of the input, put as the tablets of a table.
-use Rattle.std.specs.Prelude.{ℕ, true, false, List, [], ◌∷◌, take, Option, Some, None, Result, Ok, Err, map, fold, codes, option_map, option_and_then, string_bytes}
+use Rattle.std.specs.Prelude.{ℕ, true, false, List, [], ◌∷◌, Option, Some, None, Result, Ok, Err, map, fold, codes, option_map, option_and_then, string_bytes}
 use Rattle.clap.specs.Words.{App, Row, Text, all_of, first_of, new_rule, with_rule}
 use Rattle.dr_meaning.specs.Schema.{Schema}
 use Rattle.dr_meaning.specs.SchemaText.{SchemaFault, parse_schema}
@@ -9,7 +9,7 @@ use Rattle.dr_formats.specs.TableFile.{most_leaf_lines}
 use Rattle.dr_formats.specs.Reports.{loaded_text}
 use Rattle.dr_commands.specs.Refusals.{schema_refused, words_refused, line_refused}
 use Rattle.dr_commands.specs.Meaning.{Meaning, Outcome, done, refused}
-use Rattle.dr_commands.specs.Rules.{option_rule, needed, up_to, subcommand_app}
+use Rattle.dr_commands.specs.Rules.{option_rule, needed, several, at_most, subcommand_app}
 use Rattle.dr_commands.specs.Numbers.{number_rule, number_in, default_rows}
 use Rattle.dr_commands.specs.declared.load.Load.{Load}
 
@@ -29,21 +29,25 @@ abbrev pub load_app : App
 load_app = fold with_rule load_files_app (
     number_rule (codes "rows") 1 most_tablet_rows
     ∷ number_rule (codes "copies") 1 most_leaf_lines
-    ∷ up_to most_leaf_lines (needed (new_rule (codes "dir")))
+    ∷ several (needed (new_rule (codes "dir")))
     ∷ [])
 
--- its values, where all are there; clap takes no more directories than there may be
+-- its values, where all are there
 abbrev pub with_directories : List Row → Text → Text → List Text → LoadWords
 with_directories rows schema table directories = record {
   schema = schema;
   table = table;
   rows = number_in 1 most_tablet_rows default_rows (first_of (codes "rows") rows);
   copies = number_in 1 most_leaf_lines 1 (first_of (codes "copies") rows);
-  directories = take most_leaf_lines directories;
+  directories = directories;
 }
 
+-- the directories, where they are no more than there may be; clap takes any number of them
+abbrev pub directories_of : List Row → Option (List Text)
+directories_of rows = at_most most_leaf_lines (all_of (codes "dir") rows)
+
 abbrev pub load_words : List Row → Option LoadWords
-load_words rows = option_and_then (λ schema. option_and_then (λ table. option_map (with_directories rows schema table) (all_of (codes "dir") rows))
+load_words rows = option_and_then (λ schema. option_and_then (λ table. option_map (with_directories rows schema table) (directories_of rows))
     (first_of (codes "table") rows)) (first_of (codes "schema") rows)
 
 abbrev pub load_view : Load → LoadWords

@@ -1,5 +1,5 @@
 -- The parts of a command line's definition, as clap's own data.
-use Rattle.std.specs.Prelude.{◌≡◌, ℕ, ⊤, true, List, Option, Some, None, Result, Ok, Err, fold}
+use Rattle.std.specs.Prelude.{◌≡◌, ℕ, ⊤, true, List, length, nat_le, if◌then◌else◌, Option, Some, None, option_and_then, Result, Ok, Err, fold}
 use Rattle.clap.specs.Lexer.{usize_max}
 use Rattle.clap.specs.Words.{App, Rule, Text, new_app, new_rule, with_rule}
 use Rattle.dr_commands.specs.declared.words_fault.WordsFault.{WordsFault}
@@ -17,9 +17,9 @@ needed rule = record rule { required = true }
 abbrev pub several : Rule → Rule
 several rule = record rule { range = Some (record { start_inclusive = 1; end_inclusive = usize_max }) }
 
--- one word or more, up to so many
-abbrev pub up_to : ℕ → Rule → Rule
-up_to most rule = record rule { range = Some (record { start_inclusive = 1; end_inclusive = most }) }
+-- the values, where they are no more than so many
+abbrev pub at_most : ℕ → Option (List Text) → Option (List Text)
+at_most most = option_and_then (λ values. if nat_le (length values) most then Some values else None)
 
 -- a subcommand with these options and words, in order
 abbrev pub subcommand_app : Text → List Rule → App

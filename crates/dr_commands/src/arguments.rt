@@ -1,6 +1,6 @@
 //! Options and words of a command line, and their values.
 
-ghost use Rattle.std.specs.Prelude.{◌≡◌, ◌<◌, ◌≤◌, IfOk, map, false, string_bytes};
+ghost use Rattle.std.specs.Prelude.{◌≡◌, ◌≤◌, IfOk, length, map, false, string_bytes};
 ghost use Rattle.clap.specs.Words.{all_of, first_of, found_of, new_rule, rows_of, rule_of};
 ghost use Rattle.dr_commands.specs.Rules as meant;
 ghost use Rattle.dr_commands.specs.Rules.{Answers};
@@ -33,15 +33,6 @@ pub fn needed_words<'a>(alloc: Global, name: &'a str) -> Arg<'a>
     ensures local { result.global ≡ false }
 {
     Arg::new(alloc, name).required(true).num_args(1..)
-}
-
-/// One word or more that have to be given, up to so many.
-pub fn needed_words_up_to<'a>(alloc: Global, name: &'a str, most: usize) -> Arg<'a>
-    requires { 0 < most }
-    ensures rule { rule_of result ≡ meant.up_to most (meant.needed (new_rule name.entry.now)) }
-    ensures local { result.global ≡ false }
-{
-    Arg::new(alloc, name).required(true).num_args(1..=most)
 }
 
 /// An option `--NAME NUMBER`, at most once, whose number lies between these bounds.
@@ -98,6 +89,23 @@ pub fn values_of(
         Some(texts) => Ok(copy_texts(alloc, texts)?),
         None => Err(WordsFault::Usage),
     }
+}
+
+/// All values of an option or word, where they are no more than so many.
+pub fn values_up_to(
+    alloc: Global,
+    matches: &ArgMatches<'_>,
+    name: &str,
+    most: usize,
+) -> Result<Vec<String>, WordsFault>
+    ensures values { Answers (λ v. map string_bytes v.items) (meant.at_most most (all_of name.now (rows_of (found_of matches.now)))) result }
+    ensures few { IfOk result (λ v. length v.items ≤ most) }
+{
+    let values = values_of(alloc, matches, name)?;
+    if values.len() > most {
+        return Err(WordsFault::Usage);
+    }
+    Ok(values)
 }
 
 /// Texts of its own that equal these.

@@ -7,7 +7,7 @@ ghost use Rattle.dr_commands.specs.Rules.{Answers};
 ghost use Rattle.dr_commands.specs.Load as meant;
 
 use crate::arguments::{
-    needed_option, needed_words_up_to, number_of, number_option, value_of, values_of,
+    needed_option, needed_words, number_of, number_option, value_of, values_up_to,
 };
 use crate::limits::{DEFAULT_ROWS, MOST_COPIES, MOST_DIRECTORIES, MOST_ROWS};
 use crate::load::Load;
@@ -33,7 +33,7 @@ pub fn load_command<'a>(alloc: Global) -> Result<clap::Command<'a>, AllocError>
     load_files(alloc)?
         .arg(number_option(alloc, "rows", 1, MOST_ROWS))?
         .arg(number_option(alloc, "copies", 1, MOST_COPIES))?
-        .arg(needed_words_up_to(alloc, "dir", MOST_DIRECTORIES))
+        .arg(needed_words(alloc, "dir"))
 }
 
 /// The values of `load`.
@@ -42,8 +42,7 @@ pub fn load_of(alloc: Global, matches: &ArgMatches<'_>) -> Result<Load, WordsFau
 {
     let schema = value_of(alloc, matches, "schema")?;
     let table = value_of(alloc, matches, "table")?;
-    let mut directories = values_of(alloc, matches, "dir")?;
-    directories.truncate(MOST_DIRECTORIES);
+    let directories = values_up_to(alloc, matches, "dir", MOST_DIRECTORIES)?;
     let rows = number_of(matches, "rows", 1, MOST_ROWS, DEFAULT_ROWS);
     let copies = number_of(matches, "copies", 1, MOST_COPIES, 1);
     Ok(Load {

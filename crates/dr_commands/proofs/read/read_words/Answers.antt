@@ -16,4 +16,4 @@ returns-in-Err-clause-refused c = λ usage.
 pub returns-in-Err-clause-taken : goal.returns-in-Err-clause-taken
 returns-in-Err-clause-taken c = λ taken usage.
     let words : List (List ℕ) = map string_bytes c.args.words.now in
-    c.fault_of.ensures (cc) (taken_error_is_memory _ words c.in-Err.error c.in_ok-dremel_command.ensures c.in-Err.ensures.passes taken)
+    c.fault_of.ensures (cc) (taken_error_is_memory _ words c.in-Err.error c.in_ok-dremel_command.ensures c.in-Err.ensures.passes taken.0)
