@@ -16,18 +16,18 @@ use Rattle.dr_formats.specs.WritingLaws.{nth_leaf, AreAmong}
 use Rattle.dr_formats.proofs.ColumnRows.{leaf_paths}
 use Rattle.dr_formats.proofs.ColumnsFit.{EachLeaf}
 use Rattle.dr_outside.specs.Link.{Files, LinkShown}
-use Rattle.dr_records.specs.FileRecords.{AreLeavesOf}
-use Rattle.dr_records.proofs.LeafLemmas.{used_are_leaves}
-use Rattle.dr_serving.specs.Premises.{paths_of_leaves}
+use Rattle.dr_tablets.specs.FileRecords.{AreLeavesOf}
+use Rattle.dr_tablets.proofs.LeafLemmas.{used_are_leaves}
+use Rattle.dr_reading.specs.Premises.{paths_of_leaves}
 use Rattle.dr_reading.specs.Scan.{joined, tablets_of}
 use Rattle.dr_reading.specs.Left.{LeftTablet}
 use Rattle.dr_reading.proofs.ReadingLemmas.{given_are_projected}
 use Rattle.dr_tablets.specs.Tablets.{LeavesTablets}
 use Rattle.dr_plan.specs.declared.plan.Plan.{Plan}
-use Rattle.dr_scan.specs.Plans.{IsPlanOf}
+use Rattle.dr_plan.specs.PlanOf.{IsPlanOf}
 use Rattle.dr_query.specs.Answers.{IsAnswerOf}
-use Rattle.dr_loaded.specs.Loaded.{TabletsAreFiles}
-use Rattle.dr_loaded.proofs.LoadedLemmas.{files_are_held}
+use Rattle.dr_load.specs.Loaded.{TabletsAreFiles}
+use Rattle.dr_load.proofs.LoadedLemmas.{files_are_held}
 use Rattle.dr_ask.specs.Asked.{HoldsTableOf}
 use Rattle.dr_ask.proofs.LeftLemmas.{have_copies, none_left}
 

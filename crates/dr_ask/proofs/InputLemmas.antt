@@ -11,9 +11,9 @@ use Rattle.dr_formats.specs.TableFile.{Table}
 use Rattle.dr_formats.specs.Tablets.{tablets}
 use Rattle.dr_outside.specs.Link.{Files}
 use Rattle.dr_load.specs.Loads.{taken_of, LoadsTable}
-use Rattle.dr_load.specs.Records.{WhereTold}
-use Rattle.dr_loaded.specs.Loaded.{IsPlan, IsApart}
-use Rattle.dr_loaded.proofs.LoadedLemmas.{loaded_records_are_held, loaded_records_are_joined}
+use Rattle.dr_input.specs.Taken.{WhereTold}
+use Rattle.dr_load.specs.Loaded.{IsPlan, IsApart}
+use Rattle.dr_load.proofs.LoadedLemmas.{loaded_records_are_held, loaded_records_are_joined}
 use Rattle.dr_ask.specs.Asked.{HoldsTableOf, IsAnswerTo}
 
 -- what a load has put is a table that is held

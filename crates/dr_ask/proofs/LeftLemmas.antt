@@ -8,9 +8,9 @@ use Rattle.dr_formats.specs.File.{IsFileOf}
 use Rattle.dr_formats.specs.Writing.{file_bytes}
 use Rattle.dr_outside.specs.Link.{Files, LinkShown, Holds}
 use Rattle.dr_reading.specs.Scan.{Copy, tablets_from}
-use Rattle.dr_reading.specs.Left.{Tried, LeftTablet, AreTried, LeavesJust, no_tablets, is_given, is_left}
+use Rattle.dr_reading.specs.Left.{Tried, LeftTablet, AreTried, LeavesJust, no_tablets, is_answered, is_left}
 use Rattle.dr_reading.proofs.ReadingLemmas.{left_holds_no_file}
-use Rattle.dr_loaded.specs.Loaded.{TabletsAreFiles}
+use Rattle.dr_load.specs.Loaded.{TabletsAreFiles}
 
 -- each tablet has a copy
 abbrev HaveCopies : List (List Copy) → Type 0
@@ -33,9 +33,9 @@ module _ (s : Schema) (F : List Leaf) (link : LinkShown) (files : Files) (held :
 
   pub none_left : (t : ℕ) (cs : List (List Copy)) (left : List LeftTablet) (Rs : List (List Node)) → HaveCopies cs → TabletsAreFiles s F files cs Rs → LeavesJust s F link t cs left → left ≡ []
   none_left t cs left Rs c f (no_tablets u) = refl
-  none_left t cs left [] c f (is_given u xs rest more S g k) = absurd f
-  none_left t cs left (R ∷ Rs) c f (is_given u [] rest more S g k) = absurd c
-  none_left t cs left (R ∷ Rs) c f (is_given u (x ∷ xs) rest more S g k) = none_left (suc u) rest more Rs c f.2 k
+  none_left t cs left [] c f (is_answered u xs rest more g k) = absurd f
+  none_left t cs left (R ∷ Rs) c f (is_answered u [] rest more g k) = absurd c
+  none_left t cs left (R ∷ Rs) c f (is_answered u (x ∷ xs) rest more g k) = none_left (suc u) rest more Rs c f.2 k
   none_left t cs left [] c f (is_left u xs rest more tried g k) = absurd f
   none_left t cs left (R ∷ Rs) c f (is_left u [] rest more tried g k) = absurd c
   none_left t cs left (R ∷ Rs) c f (is_left u (x ∷ xs) rest more tried g k) = absurd (none_tried x xs tried R f.0 f.1.0 g)

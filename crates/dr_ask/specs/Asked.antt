@@ -10,7 +10,7 @@ use Rattle.dr_formats.specs.TableFile.{Table}
 use Rattle.dr_formats.specs.WritingLaws.{AreAmong}
 use Rattle.dr_outside.specs.Link.{Files}
 use Rattle.dr_reading.specs.Scan.{joined, tablets_of}
-use Rattle.dr_loaded.specs.Loaded.{TabletsAreFiles}
+use Rattle.dr_load.specs.Loaded.{TabletsAreFiles}
 
 -- these records are those of a table that is held: each copy of each tablet is a file of the tablet's, for any leaves of the schema
 abbrev pub HoldsTableOf : Table → Option Files → List Node → Type 0

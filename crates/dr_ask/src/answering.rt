@@ -6,7 +6,7 @@ ghost use Rattle.dr_meaning.specs.Query.{Query};
 ghost use Rattle.dr_meaning.specs.Record.{Node};
 ghost use Rattle.dr_nested.specs.SchemaView.{schema_view};
 ghost use Rattle.dr_plan.specs.Planned.{IsOfSchema};
-ghost use Rattle.dr_scan.specs.Plans.{IsPlanOf};
+ghost use Rattle.dr_plan.specs.PlanOf.{IsPlanOf};
 ghost use Rattle.dr_table.specs.Views.{table_view};
 ghost use Rattle.dr_ask.specs.Asked.{HoldsTableOf};
 

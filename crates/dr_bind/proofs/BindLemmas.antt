@@ -10,13 +10,13 @@ use Rattle.dr_meaning.specs.Syntax.{QuerySyntax}
 use Rattle.dr_meaning.specs.BoundExpression.{BindFault}
 use Rattle.dr_meaning.specs.Binding as meant
 use Rattle.dr_meaning.specs.Binding.{first_fault, bind_parts, table_faults, part_faults, unrelated_faults, item_faults, duplicate_faults, passing, query_faults, query_of, unless_fault}
-use Rattle.dr_used.proofs.UsedLemmas.{leaves_of_used}
+use Rattle.dr_paths.proofs.UsedLemmas.{leaves_of_used}
 use Rattle.dr_bound_parts.specs.Faults.{earlier}
 use Rattle.dr_bound_parts.proofs.FaultLemmas.{noted_behind}
 
 -- the faults of the names, after which come those of all items
 abbrev duplicates : Schema → QuerySyntax → List BindFault
-duplicates s q = let b = bind_parts s.fields q in duplicate_faults (levels_of s.fields) b.is_record_query [] (passing b.items)
+duplicates s q = let b = bind_parts s.fields q in duplicate_faults (levels_of s.fields) b.is_record_query (passing b.items)
 
 -- the first of all faults has been noted once those of the table, the parts and the rules above them have
 pub all_noted : (s : Schema) (q : QuerySyntax) (none table parts rules : Option BindFault) → none ≡ None → table ≡ earlier none (first_fault (table_faults s.name q.table))

@@ -3,23 +3,21 @@
 ghost use Rattle.std.specs.Prelude.{◌≡◌, IfOk};
 ghost use Rattle.dr_meaning.specs.Binding as meant;
 ghost use Rattle.dr_nested.specs.SchemaView.{schema_view};
-ghost use Rattle.dr_objects.specs.NamedLevels.{joined, levels_view};
+ghost use Rattle.dr_planning.specs.NamedLevels.{joined, levels_view};
 ghost use Rattle.dr_meaning.specs.Query.{levels_of};
 ghost use Rattle.dr_plan.specs.Planned.{plan_view, planned};
 ghost use Rattle.dr_sql.specs.Views as syntax;
 ghost use Rattle.dr_bound_parts.specs.Faults.{earlier, first_view};
 ghost use Rattle.dr_bind.specs.Binds.{BindsTo, PartsOf};
 
-use dr_binding_rules::note_rules;
 use dr_bound_parts::{BindFault, BindProblem, BoundParts, FirstFault};
 use dr_memory::NoMemory;
 use dr_nested::Schema;
-use dr_objects::{Level, levels_of};
+use dr_paths::used_leaves;
 use dr_plan::Plan;
-use dr_planning::{plan_of, used_paths};
+use dr_planning::{Level, levels_of, note_rules, plan_of, used_paths};
 use dr_resolve::Binder;
 use dr_sql::{Query, Table};
-use dr_used::used_leaves;
 use std::alloc::Global;
 
 /// Notes a table that isn't the schema's message.

@@ -9,8 +9,8 @@ use Rattle.dr_meaning.specs.BoundExpression.{ValueType, truth_type, number_type,
 use Rattle.dr_plan.specs.Views.{expr_view}
 use Rattle.dr_plan.specs.Fitting.{expr_fits}
 use Rattle.dr_plan.specs.declared.expression.Expr.{Expr}
-use Rattle.dr_used.specs.Numbers.{number_among}
-use Rattle.dr_chains.specs.Views.{bound_path_view, paths_at}
+use Rattle.dr_paths.specs.Numbers.{number_among}
+use Rattle.dr_paths.specs.Views.{bound_path_view, paths_at}
 use Rattle.dr_bound_parts.specs.declared.parts.BoundExpression.{BoundExpression}
 
 -- ---- leaves of a plan

@@ -8,9 +8,10 @@ use Rattle.dr_meaning.specs.Binding as binding
 use Rattle.dr_nested.specs.PathView.{step_view}
 use Rattle.dr_plan.specs.Views.{truth_view, fold_view}
 use Rattle.dr_plan.specs.Fitting.{truth_fits}
-use Rattle.dr_chains.specs.Views.{bound_path_view, paths_at}
+use Rattle.dr_paths.specs.Views.{bound_path_view, paths_at}
 use Rattle.dr_bound_parts.specs.Bound.{AreReal, Covers, IsExpression}
 use Rattle.dr_bound_parts.specs.declared.parts.BoundCondition.{BoundCondition}
+use Rattle.dr_bound_parts.specs.declared.parts.BoundExpression.{BoundExpression}
 use Rattle.dr_bound_parts.specs.declared.parts.BoundWithin.{BoundWithin}
 use Rattle.dr_bound_parts.specs.declared.parts.BoundTerm.{BoundTerm}
 use Rattle.dr_bound_parts.specs.declared.parts.BoundItem.{BoundItem}
@@ -62,3 +63,10 @@ AreItems fs ls [] [] = Unit {0}
 AreItems fs ls [] (x ∷ xs) = ⊥
 AreItems fs ls (b ∷ bs) [] = ⊥
 AreItems fs ls (b ∷ bs) (x ∷ xs) = IsItem fs ls b x × AreItems fs ls bs xs
+
+-- expressions in their order
+abbrev pub AreExpressions : Fields → List Leaf → List meant.BoundExpression → List BoundExpression → Type 0
+AreExpressions fs ls [] [] = Unit {0}
+AreExpressions fs ls [] (x ∷ xs) = ⊥
+AreExpressions fs ls (b ∷ bs) [] = ⊥
+AreExpressions fs ls (b ∷ bs) (x ∷ xs) = IsExpression fs ls b x × AreExpressions fs ls bs xs

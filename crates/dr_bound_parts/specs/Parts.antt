@@ -5,8 +5,8 @@ use Rattle.dr_meaning.specs.Path.{Leaf}
 use Rattle.dr_meaning.specs.BoundExpression as meant
 use Rattle.dr_meaning.specs.BoundExpression.{Checked, passes, fails}
 use Rattle.dr_meaning.specs.Binding as binding
-use Rattle.dr_chains.specs.Views.{bound_path_view}
-use Rattle.dr_bound_parts.specs.Items.{IsCondition, AreItems}
+use Rattle.dr_paths.specs.Views.{bound_path_view}
+use Rattle.dr_bound_parts.specs.Items.{IsCondition, AreItems, AreExpressions}
 use Rattle.dr_bound_parts.specs.declared.parts.BoundCondition.{BoundCondition}
 use Rattle.dr_bound_parts.specs.declared.parts.BoundParts.{BoundParts}
 
@@ -21,5 +21,6 @@ pub record AreParts (fs : Fields) (ls : List Leaf) (b : binding.BoundParts) (p :
   pub record_query : p.is_record_query ≡ b.is_record_query
   pub condition : IsCheckedCondition fs ls b.condition p.condition
   pub items : AreItems fs ls (binding.passing b.items) p.items.items
+  pub arguments : AreExpressions fs ls b.arguments p.arguments.items
   pub keys : map bound_path_view p.keys.items ≡ binding.passing b.keys
   pub all_keys : p.has_all_keys ≡ (length (binding.passing b.keys) == length b.keys)

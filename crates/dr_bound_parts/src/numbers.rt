@@ -3,12 +3,11 @@
 ghost use Rattle.std.specs.Prelude.{◌≡◌, ◌<◌, ◌^◌, ℕ, Some, map};
 ghost use Rattle.dr_meaning.specs.Binding as binding;
 ghost use Rattle.dr_nested.specs.PathView.{path_view, step_view};
-ghost use Rattle.dr_chains.specs.Views.{bound_path_view};
-ghost use Rattle.dr_used.specs.Numbers.{number_among};
+ghost use Rattle.dr_paths.specs.Views.{bound_path_view};
+ghost use Rattle.dr_paths.specs.Numbers.{number_among};
 
-use dr_chains::BoundPath;
 use dr_nested::{Path, Step};
-use dr_objects::same_path;
+use dr_paths::{BoundPath, same_path};
 
 /// The number of a path's leaf among some; of no use where it isn't among them, or has a number past 32 bits.
 pub fn leaf_number(leaves: &[Path], steps: &[Step]) -> u32

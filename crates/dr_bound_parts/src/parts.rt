@@ -1,7 +1,7 @@
 //! Parts of a query whose names have become leaves of a schema.
 
-use dr_chains::BoundPath;
 use dr_nested::Step;
+use dr_paths::BoundPath;
 use dr_plan::{Expr, Fold, Truth};
 
 /// An expression, with its paths in the order of the text, and whether it is a path alone.
@@ -44,12 +44,13 @@ pub struct BoundItem {
 }
 
 /// The parts of a query: whether it is a record query; the condition, if it could be bound; the items and keys that could be bound, and whether
-/// each key could be.
+/// each key could be; of the items that could not, since WITHIN names no field, the arguments that could.
 #[derive(Drop)]
 pub struct BoundParts {
     pub is_record_query: bool,
     pub condition: Option<Option<BoundCondition>>,
     pub items: Vec<BoundItem>,
+    pub arguments: Vec<BoundExpression>,
     pub keys: Vec<BoundPath>,
     pub has_all_keys: bool,
 }

@@ -1,8 +1,12 @@
 //! The calls by their names.
 
+use crate::cuts::cut_up;
 use crate::hybrids::{decoded, decoded_levels, encoded_levels, read_back};
 use crate::leaves::{leaves_counted, place_found};
+use crate::lines::lines_cut;
 use crate::numbers::{signed, turned, varint_read, varint_written};
+use crate::records::record_read;
+use crate::runs::runs_read;
 use crate::structs::{file_again, page_again, struct_again};
 use crate::values::{picked, plain_read};
 use dr_case_lines::Broken;
@@ -12,12 +16,14 @@ use std::alloc::Global;
 pub fn answer(alloc: Global, words: &[String], bytes: &[u8]) -> Result<String, Broken> {
     let name = words.first().ok_or(Broken::Form)?;
     match name.as_str() {
+        "cut" => cut_up(alloc, words, bytes),
         "varint" => varint_read(alloc, bytes),
         "write_varint" => varint_written(alloc, words),
         "zigzag" => turned(alloc, words),
         "from_zigzag" => signed(alloc, words),
         "decode" => decoded(alloc, words, bytes),
         "decode_levels" => decoded_levels(alloc, words, bytes),
+        "runs" => runs_read(alloc, words, bytes),
         "encode_levels" => encoded_levels(alloc, words, bytes),
         "read_back" => read_back(alloc, words),
         _ => answer_more(alloc, name.as_str(), words, bytes),
@@ -37,6 +43,8 @@ fn answer_more(
         "struct" => struct_again(alloc, bytes),
         "file" => file_again(alloc, bytes),
         "page" => page_again(alloc, bytes),
+        "record" => record_read(alloc, words, bytes),
+        "lines" => lines_cut(alloc, words, bytes),
         "count_leaves" => leaves_counted(alloc, bytes),
         "leaf_place" => place_found(alloc, words, bytes),
         _ => Err(Broken::Form),

@@ -3,9 +3,13 @@
 #![tactic(auto)]
 
 mod calls;
+mod cuts;
 mod hybrids;
 mod leaves;
+mod lines;
 mod numbers;
+mod records;
+mod runs;
 mod session;
 mod structs;
 mod texts;

@@ -4,7 +4,8 @@ use Rattle.std.specs.Prelude.{Option, Some, None, ◌&&◌}
 use Rattle.std.proofs.lemmas.List.Folds.{list_all-append}
 use Rattle.dr_outside.specs.Link.{Request}
 use Rattle.dr_chunk.specs.declared.byte_range.ByteRange.{ByteRange}
-use Rattle.dr_chunk.specs.Telling.{AsksOnly, is_read_inside, inside}
+use Rattle.dr_outside.specs.Telling.{AsksOnly}
+use Rattle.dr_chunk.specs.Ranges.{is_read_inside, inside}
 
 pub asks_then : (test : Request → Bool) (a b c : Option (List Request)) → AsksOnly test a b → AsksOnly test b c → AsksOnly test a c
 asks_then test None b c p q = tt

@@ -12,7 +12,7 @@ use Rattle.dr_formats.proofs.GrammarSound.{struct_is_read_exactly}
 use Rattle.dr_meta.specs.declared.fault.MetaFault.{MetaFault}
 use Rattle.dr_meta.specs.Faults.{fault_view}
 use Rattle.dr_outside.specs.Link.{Files, LinkShown}
-use Rattle.dr_chunk.specs.Telling.{Tells, TellsFile}
+use Rattle.dr_outside.specs.Telling.{Tells, TellsFile}
 use Rattle.dr_chunk.specs.Faults.{meta_fault}
 use Rattle.dr_chunk.specs.Headers.{IsRefused, IsHeaderFault}
 

@@ -7,7 +7,7 @@ use Rattle.std.proofs.Math.Seq.{take-add}
 use Rattle.dr_outside.specs.Link.{Files, HasBytes, IsPartAt}
 use Rattle.dr_chunk.specs.declared.stretch.Stretch.{Stretch}
 use Rattle.dr_chunk.specs.Stretches.{pending, left_count, rest_in}
-use Rattle.dr_chunk.specs.Telling.{TellsFile}
+use Rattle.dr_outside.specs.Telling.{TellsFile}
 
 -- what was put into the room behind the others
 pub put_behind : {A : Type 0} (old D R F P Q : List A) (z : A) (l k m start count : ℕ) → D ≡ R → R ≡ take m old ++ replicate k z → length old ≤ m → start ≡ length old → l ≡ start + count → length F ≡ count → take l ((take start D ++ (F ++ P)) ++ Q) ≡ old ++ F

@@ -1,5 +1,5 @@
--- what a link tells of a file, and what it is asked for
-pub mod Telling
+-- ranges of a file, and requests for bytes in them
+pub mod Ranges
 -- stretches of a file
 pub mod Stretches
 -- page headers as they are read

@@ -11,7 +11,8 @@ ghost use Rattle.dr_chunk.specs.Steps.{page_step};
 ghost use Rattle.dr_chunk.specs.Stretches.{rest_in, path_of, range_of};
 ghost use Rattle.dr_chunk.specs.Takers.{leaf_of, wanted_of, is_first_of, dictionary_of, leaf_form, IsLeafOf};
 ghost use Rattle.dr_chunk.specs.Pages.{TakesStep};
-ghost use Rattle.dr_chunk.specs.Telling.{Tells, Serves, AsksOnly, is_read_inside, inside};
+ghost use Rattle.dr_outside.specs.Telling.{Tells, Serves, AsksOnly};
+ghost use Rattle.dr_chunk.specs.Ranges.{is_read_inside, inside};
 
 use crate::buffers::ChunkBuffers;
 use crate::byte_range::ByteRange;
@@ -64,8 +65,8 @@ fn next_page<L: Link>(
     Ok(())
 }
 
-/// Appends the first `wanted` triplets of a column chunk of a leaf to a column: of the file at this path, the chunk is this range of bytes. What lies behind the last page that is needed isn't read. What the buffers held before
-/// doesn't matter.
+/// Appends the first `wanted` triplets of a column chunk of a leaf to a column: of the file at this path, the chunk is this range of bytes. The link is asked for
+/// bytes of this range alone. What stands behind the last page that is needed doesn't matter, nor does what the buffers held before.
 ///
 /// Errors: the bytes aren't a chunk of so many triplets, an unimplemented encoding included; the link failed; want of memory. After an error the column holds triplets of nobody.
 pub fn read_chunk<L: Link>(

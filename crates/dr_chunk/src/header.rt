@@ -6,7 +6,8 @@ ghost use Rattle.dr_formats.specs.Chunk.{page_header};
 ghost use Rattle.dr_meta.specs.Views.{page_view};
 ghost use Rattle.dr_chunk.specs.Headers.{IsRefused, IsHeaderFault};
 ghost use Rattle.dr_chunk.specs.Stretches.{rest_in, path_of, range_of};
-ghost use Rattle.dr_chunk.specs.Telling.{Tells, Serves, AsksOnly, is_read_inside, inside};
+ghost use Rattle.dr_outside.specs.Telling.{Tells, Serves, AsksOnly};
+ghost use Rattle.dr_chunk.specs.Ranges.{is_read_inside, inside};
 ghost use Rattle.dr_outside.specs.Faults.{raised};
 ghost use Rattle.dr_chunk.specs.Faults.{compact_fault, meta_fault};
 

@@ -2,7 +2,8 @@
 
 ghost use Rattle.std.specs.Prelude.{◌≡◌, ◌≢◌, ◌≤◌, ◌<◌, ◌+◌, ◌-◌, ◌∷◌, [], ℕ, List, length, take, drop, true, false, IfOk, OnOk, Err, IsTrue};
 ghost use Rattle.dr_outside.specs.Faults.{raised};
-ghost use Rattle.dr_chunk.specs.Telling.{Tells, Serves, AsksOnly, is_read_inside, inside};
+ghost use Rattle.dr_outside.specs.Telling.{Tells, Serves, AsksOnly};
+ghost use Rattle.dr_chunk.specs.Ranges.{is_read_inside, inside};
 
 use crate::byte_range::ByteRange;
 use dr_outside::{Fault, Link};

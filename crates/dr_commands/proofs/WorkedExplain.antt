@@ -29,11 +29,16 @@ pub objects_explained : explained schema (codes "SELECT a + 1 FROM T") ≡
 unfolding explained parse_schema read_query parse_query items argument whole_expression keys bind is_utf8 chars rewriting_text digits
 objects_explained = refl
 
--- ANDs at the top of a condition are taken from the left
-pub conditions_explained : explained schema (codes "SELECT a FROM T WHERE a > 1 AND (a < 9 AND b LIKE 'x%')") ≡
-    Ok (line (codes "leaf: SELECT a AS \"a\" FROM tablet WHERE (((a > 1) AND (a < 9)) AND (b LIKE 'x%'))") ++ (line (codes "inner: CONCAT children") ++ line (codes "root: CONCAT children")))
+-- a condition is told as it was written: ANDs without parentheses from the left, others as the parentheses say, on either side, and below an OR
+abbrev told : List ℕ → List ℕ
+told condition = line (codes "leaf: SELECT a AS \"a\" FROM tablet WHERE " ++ condition) ++ (line (codes "inner: CONCAT children") ++ line (codes "root: CONCAT children"))
+
+pub conditions_explained : (explained schema (codes "SELECT a FROM T WHERE a > 1 AND (a < 9 AND b LIKE 'x%')") ≡ Ok (told (codes "((a > 1) AND ((a < 9) AND (b LIKE 'x%')))")))
+    × (explained schema (codes "SELECT a FROM T WHERE a > 1 AND a < 9 AND b LIKE 'x%'") ≡ Ok (told (codes "(((a > 1) AND (a < 9)) AND (b LIKE 'x%'))")))
+    × (explained schema (codes "SELECT a FROM T WHERE (a > 1 AND a < 9) AND (a > 2 AND a < 8)") ≡ Ok (told (codes "(((a > 1) AND (a < 9)) AND ((a > 2) AND (a < 8)))")))
+    × (explained schema (codes "SELECT a FROM T WHERE a > 1 AND a < 9 OR b IS NULL") ≡ Ok (told (codes "(((a > 1) AND (a < 9)) OR (b IS NULL))")))
 unfolding explained parse_schema read_query parse_query items argument whole_expression keys bind is_utf8 chars rewriting_text digits
-conditions_explained = refl
+conditions_explained = (refl, refl, refl, refl)
 
 -- the schema is refused before the query, and the query's text before its fields
 pub schema_first : explained (codes "message T { }") (codes "SELECT") ≡ Err (schema_refused (record { place = 12; problem = empty_group }))

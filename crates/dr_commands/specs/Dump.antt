@@ -8,7 +8,7 @@ use Rattle.dr_meaning.specs.Print.{record_text}
 use Rattle.dr_meaning.specs.Fsm.{named_leaves}
 use Rattle.dr_meaning.specs.Refusals.{CommandRefusal}
 use Rattle.dr_formats.specs.TableFile.{Table, TableFault, parse_table}
-use Rattle.dr_serving.specs.Premises.{paths_of_leaves}
+use Rattle.dr_reading.specs.Premises.{paths_of_leaves}
 use Rattle.dr_reading.specs.Scan.{Scan, tablets_of}
 use Rattle.dr_commands.specs.Refusals.{table_refused, refusal_of}
 use Rattle.dr_commands.specs.Meaning.{Meaning, Outcome, refused, scans}

@@ -7,7 +7,6 @@ use Rattle.dr_meaning.specs.Query.{Query}
 use Rattle.dr_meaning.specs.Ask.{read_query}
 use Rattle.dr_meaning.specs.Refusals.{QueryRefusal, CommandRefusal, schema_refused, query_refused}
 use Rattle.dr_partials.specs.RewritingText.{rewriting_text}
-use Rattle.dr_plan.specs.Conjuncts.{condition_conjuncts, all_of}
 use Rattle.dr_commands.specs.Meaning.{Meaning, plain}
 use Rattle.dr_commands.specs.Rules.{option_rule, needed, subcommand_app}
 use Rattle.dr_commands.specs.declared.explain.Explain.{Explain}
@@ -31,12 +30,8 @@ explain_view e = record { schema = string_bytes e.schema; query = string_bytes e
 
 -- ---- what it means
 
--- the query as it is run: with the ANDs at the top of its condition taken from the left, as they are where none is in parentheses. It means the same
-abbrev pub as_run : Query → Query
-as_run q = record q { condition = all_of (condition_conjuncts q.condition) }
-
 abbrev pub explain_query : Schema → Result Query QueryRefusal → Result (List ℕ) CommandRefusal
-explain_query s (Ok q) = Ok (rewriting_text s.fields (as_run q))
+explain_query s (Ok q) = Ok (rewriting_text s.fields q)
 explain_query s (Err e) = Err (query_refused e)
 
 abbrev pub explain_schema : List ℕ → Result Schema SchemaFault → Result (List ℕ) CommandRefusal

@@ -8,7 +8,7 @@ use Rattle.dr_formats.specs.TableFile.{Table}
 use Rattle.dr_outside.specs.Link.{Files}
 use Rattle.dr_reading.specs.Scan.{joined, tablets_of}
 use Rattle.dr_reading.specs.Given.{AreGiven}
-use Rattle.dr_reading.specs.Held.{HoldsTable, SeesLeavesAlone}
+use Rattle.dr_reading.specs.Premises.{HoldsTable, SeesLeavesAlone}
 use Rattle.dr_commands.specs.Dump.{dump_scan}
 use Rattle.dr_commands.specs.Query.{query_scan}
 

@@ -9,8 +9,8 @@ use Rattle.dr_meaning.specs.Record.{Node, project}
 use Rattle.dr_meaning.specs.Print.{record_text}
 use Rattle.dr_formats.specs.TableFile.{Table}
 use Rattle.dr_outside.specs.Link.{Files}
-use Rattle.dr_serving.specs.Premises.{paths_of_leaves}
-use Rattle.dr_records.specs.FileRecords as read
+use Rattle.dr_reading.specs.Premises.{paths_of_leaves}
+use Rattle.dr_tablets.specs.FileRecords as read
 use Rattle.dr_reading.specs.Scan.{tablets_from, tablets_of, joined}
 use Rattle.dr_tablets.specs.Tablets.{TakesGiven}
 use Rattle.dr_dump.specs.Dumps.{lines_text, dump_text, HasLines, AreLinesOf}

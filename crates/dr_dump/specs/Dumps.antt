@@ -8,7 +8,7 @@ use Rattle.dr_meaning.specs.Record.{Node, project}
 use Rattle.dr_meaning.specs.Print.{record_text}
 use Rattle.dr_formats.specs.TableFile.{Table}
 use Rattle.dr_outside.specs.Link.{Files}
-use Rattle.dr_serving.specs.Premises.{paths_of_leaves}
+use Rattle.dr_reading.specs.Premises.{paths_of_leaves}
 use Rattle.dr_reading.specs.Scan.{joined, tablets_of}
 use Rattle.dr_reading.specs.Given.{AreGiven}
 

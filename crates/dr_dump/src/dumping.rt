@@ -5,7 +5,9 @@ ghost use Rattle.dr_nested.specs.Views.{fields_view};
 ghost use Rattle.dr_nested.specs.PathView.{path_view};
 ghost use Rattle.dr_table.specs.Views.{table_view};
 ghost use Rattle.dr_assemble.specs.Views.{nodes_view};
-ghost use Rattle.dr_records.specs.FileRecords.{AreLeavesOf};
+ghost use Rattle.dr_reading.specs.Scan.{tablets_of};
+ghost use Rattle.dr_tablets.specs.Asked.{AsksForTablets};
+ghost use Rattle.dr_tablets.specs.FileRecords.{AreLeavesOf};
 ghost use Rattle.dr_tablets.specs.Views.{all_left_view};
 ghost use Rattle.dr_tablets.specs.Tablets.{LeavesTablets, TakesTablet, with_tablet};
 ghost use Rattle.dr_dump.specs.Dumps.{lines_text, HasLines, AreLinesOf};
@@ -70,7 +72,8 @@ fn keep(
 }
 
 /// The lines of the records of a table, projected to these leaves of its schema, in the order of the tablets; or the tablets that are
-/// left, of which no copy gives records.
+/// left, of which no copy gives records. The link is asked for no file but those of the table, and for no bytes of them but what the
+/// leaves take.
 ///
 /// Errors: want of memory alone.
 pub fn dump_table<L: Link>(
@@ -82,6 +85,7 @@ pub fn dump_table<L: Link>(
     requires leaves { AreLeavesOf (fields_view (table.now).schema.fields.items) (map path_view fields.now) }
     ensures lines { IfOk result (WhereLines (AreLinesOf (table_view table.now) (map path_view fields.now) (L.shows link.old).held)) }
     ensures left { IfOk result (WhereLeft (λ left. LeavesTablets (table_view table.now) (map path_view fields.now) left (L.shows link.old) (L.shows link.new))) }
+    ensures asks { AsksForTablets (map path_view fields.now) (tablets_of (table_view table.now)) (L.shows link.old) (L.shows link.new) }
     ensures same { (L.shows link.new).held ≡ (L.shows link.old).held }
     ensures never_falls { (L.shows link.old).faults ≤ (L.shows link.new).faults }
     ensures stays_steady { IsTrue (L.shows link.old).is_steady → IsTrue (L.shows link.new).is_steady }

@@ -10,7 +10,7 @@ use Rattle.dr_outside.specs.Link.{Request, size_of, bytes_of, with_request}
 use Rattle.dr_outside.specs.declared.fault.Fault.{Fault}
 use Rattle.dr_formats.specs.Opening.{Range, range, is_inside, end_ranges, footer_ranges}
 use Rattle.dr_formats.specs.File.{is_framed, footer_place, footer_length}
-use Rattle.dr_chunk.specs.Telling.{AsksOnly}
+use Rattle.dr_outside.specs.Telling.{AsksOnly}
 use Rattle.dr_file.specs.Asking.{is_request_for}
 
 -- nothing was asked

@@ -14,7 +14,8 @@ use Rattle.dr_formats.specs.Chunk.{chunk_start, chunk_triplets, pages_triplets}
 use Rattle.dr_formats.specs.File.{Footer, footer_of, of_rows, leaf_chunk, group_column, groups_column, file_column, total, rows_agree, values_fit, most_rows, has_leaves, are_uncompressed, leaf_place, is_found, is_uncompressed, chunk_values, most_triplets, FileCause, bad_data, cause_by, is_framed, footer_place, footer_meta, with_schema, is_whole_group}
 use Rattle.dr_formats.specs.Opening.{has_numbers, has_column, has_leaf_column, leaf_cause, Range, chunk_range, leaf_ranges}
 use Rattle.dr_outside.specs.Link.{Request}
-use Rattle.dr_chunk.specs.Telling.{AsksOnly, is_read_inside}
+use Rattle.dr_outside.specs.Telling.{AsksOnly}
+use Rattle.dr_chunk.specs.Ranges.{is_read_inside}
 use Rattle.dr_outside.specs.Faults.{raised}
 use Rattle.dr_chunk.specs.declared.fault.ChunkFault.{ChunkFault}
 use Rattle.dr_file.specs.declared.opened_leaf.OpenedLeaf.{OpenedLeaf}

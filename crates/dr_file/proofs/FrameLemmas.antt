@@ -6,7 +6,7 @@ use Rattle.std.proofs.lemmas.Bool.{le-leb, leb-true}
 use Rattle.dr_outside.specs.Link.{Files, HasSize, HasBytes, HasRange, Reaches, IsPartAt}
 use Rattle.dr_formats.specs.LittleEndian.{little_endian}
 use Rattle.dr_formats.specs.File.{magic, is_framed, footer_length, footer_place}
-use Rattle.dr_chunk.specs.Telling.{TellsFile}
+use Rattle.dr_outside.specs.Telling.{TellsFile}
 use Rattle.dr_outside.specs.declared.fault.Fault.{Fault}
 use Rattle.dr_file.specs.declared.frame.FooterFault.{FooterFault}
 use Rattle.dr_file.specs.Frames.{are_ends, outside_fault}

@@ -14,7 +14,8 @@ use Rattle.dr_levels.specs.declared.triplet.Levels.{Levels}
 use Rattle.dr_levels.specs.Views.{levels_pair, triplet_levels}
 use Rattle.dr_outside.specs.Link.{Request, size_of, bytes_of}
 use Rattle.dr_page.specs.Reads.{Joins}
-use Rattle.dr_chunk.specs.Telling.{AsksOnly, is_read_inside}
+use Rattle.dr_outside.specs.Telling.{AsksOnly}
+use Rattle.dr_chunk.specs.Ranges.{is_read_inside}
 use Rattle.dr_file.specs.declared.chunk_place.ChunkPlace.{ChunkPlace}
 use Rattle.dr_file.specs.Openings.{ShownChunk, chunk_place_view}
 use Rattle.dr_file.specs.ChunkPlaces.{all_values}

@@ -21,7 +21,7 @@ pub(crate) struct ChunkPlace {
 
 impl ChunkPlace {
     ghost use Rattle.std.specs.Prelude.{◌≡◌, true, false, IfSome, IfNone};
-    ghost use Rattle.dr_chunk.specs.Telling.{inside};
+    ghost use Rattle.dr_chunk.specs.Ranges.{inside};
     ghost use Rattle.dr_formats.specs.Opening.{range};
     ghost use Rattle.dr_file.specs.Openings.{chunk_place_view};
     ghost use Rattle.dr_file.specs.LeafColumns.{lies_before};

@@ -1,10 +1,10 @@
 //! A file's footer.
 
-ghost use Rattle.std.specs.Prelude.{◌≡◌, ◌≢◌, ◌++◌, ℕ, List, false, IfOk, Err, IsTrue};
+ghost use Rattle.std.specs.Prelude.{◌≡◌, ◌≢◌, ◌++◌, ℕ, List, false, IfOk, Err, IsTrue, []};
 ghost use Rattle.dr_formats.specs.File.{is_framed};
 ghost use Rattle.dr_formats.specs.Opening.{end_ranges, footer_ranges};
 ghost use Rattle.dr_outside.specs.Faults.{raised};
-ghost use Rattle.dr_chunk.specs.Telling.{Tells, AsksOnly, Serves};
+ghost use Rattle.dr_outside.specs.Telling.{Tells, AsksOnly, Serves};
 ghost use Rattle.dr_file.specs.Asking.{is_request_for};
 ghost use Rattle.dr_file.specs.Frames.{IsFooter};
 ghost use Rattle.dr_outside.specs.Link.{Lacks};
@@ -32,6 +32,7 @@ pub(crate) fn read_footer<L: Link>(
     ensures footer { (bytes : List ℕ) → Tells (L.shows link.old) path.now bytes → IfOk result (λ f. IsFooter bytes f.place f.bytes.items) }
     ensures bad { (bytes : List ℕ) → Tells (L.shows link.old) path.now bytes → result ≡ Err FooterFault.BadFooter → is_framed bytes ≡ false }
     ensures asked { (bytes : List ℕ) → Tells (L.shows link.old) path.now bytes → AsksOnly (is_request_for path.now (end_ranges bytes ++ footer_ranges bytes)) (L.shows link.old).asked (L.shows link.new).asked }
+    ensures asked_absent { Lacks (L.shows link.old).held path.now → AsksOnly (is_request_for path.now []) (L.shows link.old).asked (L.shows link.new).asked }
     ensures same { (L.shows link.new).held ≡ (L.shows link.old).held }
     ensures cause { result ≡ Err FooterFault.Failed → (L.shows link.new).faults ≡ raised (L.shows link.old).faults }
     ensures calm { result ≢ Err FooterFault.Failed → (L.shows link.new).faults ≡ (L.shows link.old).faults }

@@ -6,7 +6,8 @@ ghost use Rattle.dr_meaning.specs.Path.{Leaf, max_definition};
 ghost use Rattle.dr_formats.specs.File.{most_triplets};
 ghost use Rattle.dr_levels.specs.Views.{column_view, column_form, form};
 ghost use Rattle.dr_outside.specs.Faults.{raised};
-ghost use Rattle.dr_chunk.specs.Telling.{Tells, AsksOnly, is_read_inside, Serves};
+ghost use Rattle.dr_outside.specs.Telling.{Tells, AsksOnly, Serves};
+ghost use Rattle.dr_chunk.specs.Ranges.{is_read_inside};
 ghost use Rattle.dr_file.specs.Openings.{chunk_place_view};
 ghost use Rattle.dr_file.specs.LeafColumns.{is_good_chunk, chunks_triplets, shown_range, IsShownLeaf};
 

@@ -1,6 +1,6 @@
 //! The schemas of files.
 
-ghost use Rattle.std.specs.Prelude.{◌≡◌, ◌≢◌, ◌++◌, ℕ, List, false, IfOk, IfErr, Ok, Err, IsTrue, true};
+ghost use Rattle.std.specs.Prelude.{◌≡◌, ◌≢◌, ◌++◌, ℕ, List, false, IfOk, IfErr, Ok, Err, IsTrue, true, []};
 ghost use Rattle.dr_formats.specs.File.{schema_or_cause, schema_of_file, meta_of, meta_read};
 ghost use Rattle.dr_formats.specs.Opening.{end_ranges, footer_ranges};
 ghost use Rattle.dr_formats.specs.Metadata.{view_file as file_viewed};
@@ -9,7 +9,7 @@ ghost use Rattle.dr_compact.specs.Views.{tree_view};
 ghost use Rattle.dr_meta.specs.Views.{file_view};
 ghost use Rattle.dr_nested.specs.SchemaView.{schema_view};
 ghost use Rattle.dr_outside.specs.Faults.{raised};
-ghost use Rattle.dr_chunk.specs.Telling.{Tells, AsksOnly, Serves};
+ghost use Rattle.dr_outside.specs.Telling.{Tells, AsksOnly, Serves};
 ghost use Rattle.dr_file.specs.Asking.{is_request_for};
 ghost use Rattle.dr_file.specs.Openings.{footer_with, footer_in, IsOpenFault};
 ghost use Rattle.dr_file.specs.OpenedFiles.{IsCauseOf, is_read_fault, HasCounts};
@@ -71,6 +71,7 @@ fn read_schema<L: Link>(alloc: Global, link: &mut L, path: &str) -> Result<Schem
     ensures schema { (bytes : List ℕ) → Tells (L.shows link.old) path.now bytes → IfOk result (λ s. schema_of_file bytes ≡ Ok (schema_view s)) }
     ensures cause { (bytes : List ℕ) → Tells (L.shows link.old) path.now bytes → result ≢ Err OpenFault.Failed → IfErr result (λ e. IsOpenFault e (cause_in (schema_of_file bytes))) }
     ensures asked { (bytes : List ℕ) → Tells (L.shows link.old) path.now bytes → AsksOnly (is_request_for path.now (end_ranges bytes ++ footer_ranges bytes)) (L.shows link.old).asked (L.shows link.new).asked }
+    ensures asked_absent { Lacks (L.shows link.old).held path.now → AsksOnly (is_request_for path.now []) (L.shows link.old).asked (L.shows link.new).asked }
     ensures same { (L.shows link.new).held ≡ (L.shows link.old).held }
     ensures rose { result ≡ Err OpenFault.Failed → (L.shows link.new).faults ≡ raised (L.shows link.old).faults }
     ensures calm { result ≢ Err OpenFault.Failed → (L.shows link.new).faults ≡ (L.shows link.old).faults }
@@ -91,6 +92,7 @@ pub fn schema_of<L: Link>(alloc: Global, link: &mut L, path: &str) -> Result<Sch
     ensures schema { (bytes : List ℕ) → Tells (L.shows link.old) path.now bytes → IfOk result (λ s. schema_of_file bytes ≡ Ok (schema_view s)) }
     ensures cause { (bytes : List ℕ) → Tells (L.shows link.old) path.now bytes → IfErr result (λ e. IsCauseOf e (cause_in (schema_of_file bytes))) }
     ensures asked { (bytes : List ℕ) → Tells (L.shows link.old) path.now bytes → AsksOnly (is_request_for path.now (end_ranges bytes ++ footer_ranges bytes)) (L.shows link.old).asked (L.shows link.new).asked }
+    ensures asked_absent { Lacks (L.shows link.old).held path.now → AsksOnly (is_request_for path.now []) (L.shows link.old).asked (L.shows link.new).asked }
     ensures same { (L.shows link.new).held ≡ (L.shows link.old).held }
     ensures counts { IfErr result (HasCounts (L.shows link.old).faults (L.shows link.new).faults) }
     ensures calm { is_read_fault result ≡ false → (L.shows link.new).faults ≡ (L.shows link.old).faults }

@@ -1,11 +1,11 @@
 //! Opening a file.
 
-ghost use Rattle.std.specs.Prelude.{◌≡◌, ◌≢◌, ◌≤◌, ◌++◌, ℕ, List, map, false, IfOk, IfErr, Err, IsTrue, true, length};
+ghost use Rattle.std.specs.Prelude.{◌≡◌, ◌≢◌, ◌≤◌, ◌++◌, ℕ, List, map, false, IfOk, IfErr, Err, IsTrue, true, length, []};
 ghost use Rattle.dr_formats.specs.File.{most_rows};
 ghost use Rattle.dr_formats.specs.Opening.{opening_cause, end_ranges, footer_ranges};
 ghost use Rattle.dr_outside.specs.Faults.{raised};
 ghost use Rattle.dr_nested.specs.PathView.{path_view};
-ghost use Rattle.dr_chunk.specs.Telling.{Tells, AsksOnly, Serves};
+ghost use Rattle.dr_outside.specs.Telling.{Tells, AsksOnly, Serves};
 ghost use Rattle.dr_file.specs.Asking.{is_request_for};
 ghost use Rattle.dr_file.specs.Openings.{IsOpenFault};
 ghost use Rattle.dr_file.specs.OpenedFiles.{IsOpened, IsCauseOf, is_read_fault, told_fault, HasCounts, rows_of, path_of, leaf_count};
@@ -48,6 +48,7 @@ fn open<L: Link>(
     ensures path { IfOk result (λ o. path_of o ≡ path.now) }
     ensures count { IfOk result (λ o. leaf_count o ≡ length fields.now) }
     ensures asked { (bytes : List ℕ) → Tells (L.shows link.old) path.now bytes → AsksOnly (is_request_for path.now (end_ranges bytes ++ footer_ranges bytes)) (L.shows link.old).asked (L.shows link.new).asked }
+    ensures asked_absent { Lacks (L.shows link.old).held path.now → AsksOnly (is_request_for path.now []) (L.shows link.old).asked (L.shows link.new).asked }
     ensures same { (L.shows link.new).held ≡ (L.shows link.old).held }
     ensures rose { result ≡ Err OpenFault.Failed → (L.shows link.new).faults ≡ raised (L.shows link.old).faults }
     ensures calm { result ≢ Err OpenFault.Failed → (L.shows link.new).faults ≡ (L.shows link.old).faults }
@@ -84,6 +85,7 @@ impl Opened {
         ensures path { IfOk result (λ o. path_of o ≡ path.now) }
         ensures count { IfOk result (λ o. leaf_count o ≡ length fields.now) }
         ensures asked { (bytes : List ℕ) → Tells (L.shows link.old) path.now bytes → AsksOnly (is_request_for path.now (end_ranges bytes ++ footer_ranges bytes)) (L.shows link.old).asked (L.shows link.new).asked }
+        ensures asked_absent { Lacks (L.shows link.old).held path.now → AsksOnly (is_request_for path.now []) (L.shows link.old).asked (L.shows link.new).asked }
         ensures same { (L.shows link.new).held ≡ (L.shows link.old).held }
         ensures counts { IfErr result (HasCounts (L.shows link.old).faults (L.shows link.new).faults) }
         ensures calm { is_read_fault result ≡ false → (L.shows link.new).faults ≡ (L.shows link.old).faults }

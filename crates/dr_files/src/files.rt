@@ -142,7 +142,7 @@ impl<R: Files> Link for DirLink<R>
 where
     R::File: FileExt,
 {
-    ghost shows = { λ s. record { held = None; asked = None; faults = s.faults; is_steady = false } };
+    ghost shows = { λ s. record { held = None; asked = None; puts = None; faults = s.faults; is_steady = false } };
 
     fn size(&mut self, path: &str) -> Result<u64, Fault> {
         let answer = self.file_size(path);
@@ -183,7 +183,7 @@ impl<R: Files> Link for DirKeeper<R>
 where
     R::File: FileExt,
 {
-    ghost shows = { λ s. record { held = None; asked = None; faults = s.link.faults; is_steady = false } };
+    ghost shows = { λ s. record { held = None; asked = None; puts = None; faults = s.link.faults; is_steady = false } };
 
     fn size(&mut self, path: &str) -> Result<u64, Fault> {
         self.link.size(path)

@@ -1,13 +1,13 @@
 -- Lines of a text cut at its first LF, and what is read ahead.
 use Rattle.std.specs.Prelude.{◌≡◌, ℕ, zero, suc, ◌+◌, ◌-◌, ◌<◌, ◌≤◌, ◌==◌, List, [], ◌∷◌, ◌++◌, length, take, drop, slice_index, Bool, true, false, not, Option, Some, None}
-use Rattle.std.proofs.Common.{arith, refl, sym, ap, ◌∙◌, append_assoc, append-nil, true≢false, subst}
+use Rattle.std.proofs.Common.{arith, refl, sym, ap, ◌∙◌, append_assoc, append-nil, true≢false, subst, inl, inr}
 use Rattle.std.proofs.lemmas.List.{take-append-drop, drop_more, drop-take, drop-drop, length-take}
 use Rattle.std.proofs.lemmas.Bool.{and_parts, and_from}
 use Rattle.std.proofs.lemmas.Bool.Decides.{nat_tests}
 use Rattle.memchr.specs.Find.{Nowhere, Passes, is_byte}
 use Rattle.dr_outside.specs.Source.{Took}
 use Rattle.dr_meaning.specs.Lines.{lines_of, onto_line, longest_line}
-use Rattle.dr_lines.specs.Cutting.{ahead, Keeps, CutsLine, IsEnd, IsTooLong, no_lf}
+use Rattle.dr_lines.specs.Cutting.{ahead, Keeps, CutsLine, CutsBytes, BeginsLine, IsEnd, IsTooLong, no_lf}
 
 pub took_ahead : (before after : Option (List ℕ)) (bytes piece : List ℕ) → piece ≡ bytes → Took before after bytes → Keeps before (ahead piece after)
 took_ahead None after bytes piece e h = tt
@@ -146,14 +146,23 @@ keeps_moved (Some all) (Some rest) line now piece pending e a h =
     ap (λ (x : List ℕ). Some (x ++ rest)) a ∙ ap (λ (x : List ℕ). Some x) (append_assoc line piece rest) ∙ ap (λ (x : List ℕ). Some (line ++ (x ++ rest))) (sym e) ∙ h
 
 -- an LF ends the line
+cut_bytes : (all line now piece pending rest left : List ℕ) → pending ≡ piece ++ 10 ∷ rest → now ≡ line ++ piece → Some (line ++ (pending ++ left)) ≡ Some all → all ≡ now ++ 10 ∷ (rest ++ left)
+cut_bytes all line now piece pending rest left e a h =
+    sym (some_same (line ++ (pending ++ left)) all h) ∙ ap (λ (x : List ℕ). line ++ (x ++ left)) e ∙ ap (λ (x : List ℕ). line ++ x) (append_assoc piece (10 ∷ rest) left) ∙ sym (append_assoc line piece (10 ∷ (rest ++ left)))
+    ∙ ap (λ (x : List ℕ). x ++ 10 ∷ (rest ++ left)) (sym a)
+
+pub bytes_are_cut : (all left : Option (List ℕ)) (line now piece pending rest : List ℕ) → pending ≡ piece ++ 10 ∷ rest → now ≡ line ++ piece → no_lf line ≡ true → no_lf piece ≡ true
+    → Keeps all (ahead line (ahead pending left)) → CutsBytes all now (ahead rest left)
+bytes_are_cut None left line now piece pending rest e a n m h = tt
+bytes_are_cut (Some all) None line now piece pending rest e a n m h = absurd (true≢false (sym (ap is_told h)))
+bytes_are_cut (Some all) (Some left) line now piece pending rest e a n m h = (ap no_lf a ∙ no_lf_append line piece n m, inl (cut_bytes all line now piece pending rest left e a h))
+
 pub line_is_cut : (all left : Option (List ℕ)) (line now piece pending rest : List ℕ) → pending ≡ piece ++ 10 ∷ rest → now ≡ line ++ piece → no_lf line ≡ true → no_lf piece ≡ true
     → Keeps all (ahead line (ahead pending left)) → CutsLine all now (ahead rest left)
 line_is_cut None left line now piece pending rest e a n m h = tt
 line_is_cut (Some all) None line now piece pending rest e a n m h = absurd (true≢false (sym (ap is_told h)))
 line_is_cut (Some all) (Some left) line now piece pending rest e a n m h =
-    let w : all ≡ (line ++ piece) ++ 10 ∷ (rest ++ left) =
-    sym (some_same (line ++ (pending ++ left)) all h) ∙ ap (λ (x : List ℕ). line ++ (x ++ left)) e ∙ ap (λ (x : List ℕ). line ++ x) (append_assoc piece (10 ∷ rest) left) ∙ sym (append_assoc line piece (10 ∷ (rest ++ left))) in
-    ap lines_of w ∙ cut_at_lf (line ++ piece) (rest ++ left) (no_lf_append line piece n m) ∙ ap (λ (l : List ℕ). l ∷ lines_of (rest ++ left)) (sym a)
+    ap lines_of (cut_bytes all line now piece pending rest left e a h) ∙ cut_at_lf now (rest ++ left) (ap no_lf a ∙ no_lf_append line piece n m)
 
 -- the end ends the line, if there is one
 pub line_is_last : (all left : Option (List ℕ)) (line : List ℕ) → 0 < length line → no_lf line ≡ true → left ≡ Some [] → Keeps all (ahead line left) → CutsLine all line (Some [])
@@ -181,3 +190,20 @@ line_ends (Some all) (Some rest) now line l n h e =
     let r : Some rest ≡ Some [] = ap (λ (x : List ℕ). Some x) e.0 in
     let k = line_is_last (Some all) (Some rest) line l n r h in
     subst (λ (o : Option (List ℕ)). CutsLine (Some all) line o) (sym e.1) k
+
+last_bytes : (all rest line : List ℕ) → rest ≡ [] → Some (line ++ rest) ≡ Some all → all ≡ line
+last_bytes all rest line r h = sym (some_same (line ++ rest) all h) ∙ ap (λ (x : List ℕ). line ++ x) r ∙ append-nil line
+
+pub bytes_end : (all before now : Option (List ℕ)) (line : List ℕ) → no_lf line ≡ true → Keeps all (ahead line before) → IsEnd before now → CutsBytes all line now
+bytes_end None before now line n h e = tt
+bytes_end (Some all) None now line n h e = absurd (true≢false (sym (ap is_told h)))
+bytes_end (Some all) (Some rest) now line n h e =
+    subst (λ (o : Option (List ℕ)). CutsBytes (Some all) line o) (sym e.1) (n, inr (last_bytes all rest line e.0 h, refl))
+
+-- the source failed behind what is read of the line
+pub line_begins : (all before now : Option (List ℕ)) (line pending : List ℕ) → pending ≡ [] → now ≡ before → no_lf line ≡ true → length line ≤ longest_line → Keeps all (ahead line (ahead pending before)) → BeginsLine all now
+line_begins None before now line pending e s n l h = tt
+line_begins (Some all) None now line pending e s n l h = absurd (true≢false (sym (ap is_told h)))
+line_begins (Some all) (Some rest) now line pending e s n l h =
+    subst (λ (o : Option (List ℕ)). BeginsLine (Some all) o) (sym s)
+    (line, sym (some_same (line ++ (pending ++ rest)) all h) ∙ ap (λ (x : List ℕ). line ++ (x ++ rest)) e, n, l)

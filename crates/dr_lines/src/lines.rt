@@ -3,7 +3,7 @@
 ghost use Rattle.std.specs.Prelude.{◌≡◌, ◌≢◌, ◌≤◌, ◌<◌, ◌^◌, ◌++◌, ◌∷◌, ℕ, List, [], true, false, length, vec_capacity, IfOk, OnOk, OnErr, IfErr, IfSome, IfNone, Some, None, Ok, Err, take, drop, ◌+◌};
 ghost use Rattle.dr_meaning.specs.Lines.{longest_line};
 ghost use Rattle.dr_outside.specs.Faults.{raised};
-ghost use Rattle.dr_lines.specs.Cutting.{pending, last_line, fault_of, rest_of, CutsLine, IsEnd, IsTooLong, Keeps, no_lf};
+ghost use Rattle.dr_lines.specs.Cutting.{pending, last_line, fault_of, rest_of, CutsLine, CutsBytes, BeginsLine, IsEnd, IsTooLong, Keeps, no_lf};
 
 use crate::cutter::{LineFault, Lines};
 use dr_memory::NoMemory;
@@ -55,6 +55,8 @@ impl Lines {
     /// error it is repeated.
     pub fn next<S: Source>(&mut self, source: &mut S) -> Result<bool, LineFault>
         ensures cuts { IfOk result (λ more. more ≡ true → CutsLine (rest_of self.old (S.shows source.old).left) (last_line self.new) (rest_of self.new (S.shows source.new).left)) }
+        ensures bytes { IfOk result (λ more. more ≡ true → CutsBytes (rest_of self.old (S.shows source.old).left)
+            (last_line self.new) (rest_of self.new (S.shows source.new).left)) }
         ensures short { IfOk result (λ more. more ≡ true → length (last_line self.new) ≤ longest_line) }
         ensures end { IfOk result (λ more. more ≡ false → IsEnd (rest_of self.old (S.shows source.old).left) (rest_of self.new (S.shows source.new).left)) }
         ensures no_line { IfOk result (λ more. more ≡ false → last_line self.new ≡ []) }
@@ -65,6 +67,8 @@ impl Lines {
         // Where a whole line is read ahead, the source isn't asked.
         ensures ahead { no_lf (pending self.old) ≡ false → source.new ≡ source.old }
         ensures waits { fault_of self.old ≡ None → result ≡ Err LineFault.ReadFault → no_lf (pending self.old) ≡ true }
+        ensures begins { fault_of self.old ≡ None → result ≡ Err LineFault.ReadFault
+            → BeginsLine (rest_of self.old (S.shows source.old).left) (S.shows source.new).left }
 
         // After an error the source isn't asked again.
         ensures stops { IfErr result (λ e. fault_of self.new ≡ Some e) }
@@ -87,6 +91,8 @@ impl Lines {
     fn cut<S: Source>(&mut self, source: &mut S) -> Result<bool, LineFault>
         requires { last_line self.old ≡ [] }
         ensures cuts { IfOk result (λ more. more ≡ true → CutsLine (rest_of self.old (S.shows source.old).left) (last_line self.new) (rest_of self.new (S.shows source.new).left)) }
+        ensures bytes { IfOk result (λ more. more ≡ true → CutsBytes (rest_of self.old (S.shows source.old).left)
+            (last_line self.new) (rest_of self.new (S.shows source.new).left)) }
         ensures end { IfOk result (λ more. more ≡ false → IsEnd (rest_of self.old (S.shows source.old).left) (rest_of self.new (S.shows source.new).left)) }
         ensures long { result ≡ Err LineFault.TooLong → IsTooLong (rest_of self.old (S.shows source.old).left) }
         ensures no_line { IfOk result (λ more. more ≡ false → last_line self.new ≡ []) }
@@ -94,6 +100,8 @@ impl Lines {
         ensures calm { result ≢ Err LineFault.ReadFault → (S.shows source.new).faults ≡ (S.shows source.old).faults }
         ensures ahead { no_lf (pending self.old) ≡ false → source.new ≡ source.old }
         ensures waits { result ≡ Err LineFault.ReadFault → no_lf (pending self.old) ≡ true }
+        ensures begins { result ≡ Err LineFault.ReadFault
+            → BeginsLine (rest_of self.old (S.shows source.old).left) (S.shows source.new).left }
         ensures fault { fault_of self.new ≡ fault_of self.old }
     {
         'pieces: loop {
@@ -118,6 +126,7 @@ impl Lines {
         ensures calm { OnOk result ((S.shows source.new).faults ≡ (S.shows source.old).faults) }
         ensures ahead { 0 < length (pending self.old) → source.new ≡ source.old }
         ensures waits { OnErr result (pending self.old ≡ []) }
+        ensures stays { OnErr result ((S.shows source.new).left ≡ (S.shows source.old).left) }
         ensures reads_ahead { 0 < length (pending self.old) → pending self.new ≡ pending self.old }
     {
         if self.from < self.to {
@@ -138,6 +147,7 @@ impl Lines {
         ensures read { IfErr result (λ e. e ≡ LineFault.ReadFault) }
         ensures cause { OnErr result ((S.shows source.new).faults ≡ raised (S.shows source.old).faults) }
         ensures calm { OnOk result ((S.shows source.new).faults ≡ (S.shows source.old).faults) }
+        ensures stays { OnErr result ((S.shows source.new).left ≡ (S.shows source.old).left) }
     {
         self.from = 0;
         self.to = 0;

@@ -1,65 +1,88 @@
 -- The columns of a tablet, record by record.
-use Rattle.std.specs.Prelude.{◌≡◌, ℕ, suc, ◌+◌, ◌<◌, List, [], ◌∷◌, ◌++◌, map, length, replicate, Bool, true, Option, Some, None, IfSome, MatchOption, ⊤}
+use Rattle.std.specs.Prelude.{◌≡◌, ℕ, ◌+◌, ◌<◌, List, [], ◌∷◌, ◌++◌, map, length, replicate, Bool, true, Option, Some, None, IfSome, MatchOption, Result, Ok, Err, IsErrAnd, IfErr, ⊤}
 use Rattle.std.specs.List.{list_all}
-use Rattle.std.proofs.Common.{arith, refl, sym, ap, ap₂, ◌∙◌, subst, append_assoc, add-zero}
+use Rattle.std.proofs.Common.{arith, refl, sym, ap, ap₂, ◌∙◌, subst}
 use Rattle.std.proofs.lemmas.List.{length-append}
 use Rattle.std.proofs.lemmas.Bool.{and_parts, and_from}
 use Rattle.dr_meaning.specs.Schema.{Fields}
 use Rattle.dr_meaning.specs.Path.{Step, Leaf, leaves}
 use Rattle.dr_meaning.specs.Record.{Node, is_record}
 use Rattle.dr_meaning.specs.Column.{Triplet, record_column, column}
-use Rattle.dr_meaning.specs.Lines.{Refusal, Taken, lines_of, taken_from}
+use Rattle.dr_meaning.specs.Lines.{Refusal}
 use Rattle.dr_formats.specs.WritingLaws.{is_limited}
 use Rattle.dr_nested.specs.PathView.{path_view}
 use Rattle.dr_nested.specs.declared.path.Path.{Path}
 use Rattle.dr_lines.specs.Cutting.{IsEnd}
+use Rattle.dr_outside.specs.Source.{SourceShown}
 use Rattle.dr_striper.specs.Striping.{gained, paths_of, leaves_of}
 use Rattle.dr_striper.specs.Stripers.{fits_leaf}
 use Rattle.dr_striper.proofs.GrowthLemmas.{columns-push}
 use Rattle.dr_striper.proofs.FitLemmas.{record_fits_all}
 use Rattle.dr_striper.proofs.SchemaLeafLemmas.{schema_leaves_are}
-use Rattle.dr_load.specs.Records.{WhereTold, behind, HasTaken, RefusesWithin}
-use Rattle.dr_load.specs.Filled.{HasColumnsOf}
+use Rattle.dr_input.specs.Taken.{HasTaken, RefusesNext, AcceptsRead}
+use Rattle.dr_input.specs.Stops.{NextStops}
+use Rattle.dr_input.specs.declared.fault.InputFault.{InputFault}
+use Rattle.dr_input.specs.declared.fault.LineProblem.{LineProblem}
+use Rattle.dr_input.proofs.TakenLemmas.{nothing_taken, taken_more, taken_ended, refused_behind, accepts_begun, accepts_behind}
+use Rattle.dr_load.specs.declared.fault.LoadFault.{LoadFault}
+use Rattle.dr_load.specs.Faults.{refusal_of, of_input}
+use Rattle.dr_load.specs.Filled.{HasColumnsOf, RefusesWithin}
 
--- ---- what was taken
+-- ---- a line is refused
 
-pub nothing_taken : (fs : Fields) (most number : ℕ) (o : Option (List ℕ)) → HasTaken fs most number [] o o
-nothing_taken fs most number None = tt
-nothing_taken fs most number (Some all) = ap (λ (j : ℕ). taken_from fs most (suc j) (lines_of all)) (sym (add-zero number))
+refused_within : (fs : Fields) (most number rows : ℕ) (R : List Node) (a b : Option (List ℕ)) (e : Refusal) → HasTaken fs most number R a b → length R < rows → RefusesNext fs most (number + length R) b e → RefusesWithin fs most number rows a e
+refused_within fs most number rows R None b e h l r = tt
+refused_within fs most number rows R (Some all) None e h l r = absurd h
+refused_within fs most number rows R (Some all) (Some rest) e h l r = (R, l, refused_behind fs most number R all rest e h r)
 
-behind_both : (R S : List Node) (t : Taken) → behind R (behind S t) ≡ behind (R ++ S) t
-behind_both R S t = ap (λ (x : List Node). record { records = x; refusal = t.refusal }) (sym (append_assoc R S t.records))
+-- ---- why a tablet isn't filled, behind records that were taken
 
-pub taken_more : (fs : Fields) (most number : ℕ) (R S : List Node) (a b c : Option (List ℕ)) → HasTaken fs most number R a b → HasTaken fs most (number + length R) S b c → HasTaken fs most number (R ++ S) a c
-taken_more fs most number R S None b c h k = tt
-taken_more fs most number R S (Some all) None c h k = absurd h
-taken_more fs most number R S (Some all) (Some rest) None h k = absurd k
-taken_more fs most number R S (Some all) (Some rest) (Some others) h k =
-    let n : (number + length R) + length S ≡ number + length (R ++ S) = omega (arith, length-append R S) in
-    h ∙ ap (behind R) k ∙ behind_both R S (taken_from fs most (suc ((number + length R) + length S)) (lines_of others))
-    ∙ ap (λ (j : ℕ). behind (R ++ S) (taken_from fs most (suc j) (lines_of others))) n
+module _ (fs : Fields) (most number rows : ℕ) (R : List Node) (a b : Option (List ℕ)) (before now : SourceShown) (t : HasTaken fs most number R a b) where
+  stops_refuses : (cause : InputFault) → length R < rows → NextStops fs most (number + length R) b before now cause → MatchOption (refusal_of (of_input cause)) ⊤ (RefusesWithin fs most number rows a)
+  stops_refuses InputFault.NoMemory l s = tt
+  stops_refuses InputFault.Source l s = tt
+  stops_refuses (InputFault.Refused n LineProblem.TooLong) l s = refused_within fs most number rows R a b _ t l s.1
+  stops_refuses (InputFault.Refused n LineProblem.TooManyRecords) l s = refused_within fs most number rows R a b _ t l s.1
+  stops_refuses (InputFault.Refused n (LineProblem.Record w)) l s = refused_within fs most number rows R a b _ t l s.1
 
--- at the input's end
-pub taken_ended : (fs : Fields) (most number : ℕ) (R : List Node) (a b c : Option (List ℕ)) → HasTaken fs most number R a b → IsEnd b c → HasTaken fs most number R a c
-taken_ended fs most number R None b c h e = tt
-taken_ended fs most number R (Some all) None c h e = absurd h
-taken_ended fs most number R (Some all) (Some rest) c h e =
-    subst (HasTaken fs most number R (Some all)) (ap (λ (x : List ℕ). Some x) e.0 ∙ sym e.1) h
+  stops_accepts : (cause : InputFault) → NextStops fs most (number + length R) b before now cause → of_input cause ≡ LoadFault.ReadFault → AcceptsRead fs most number a now.left
+  stops_accepts InputFault.NoMemory s e = cc
+  stops_accepts InputFault.Source s e = accepts_behind fs most number R a b now.left t (accepts_begun fs most (number + length R) b now.left s.1)
+  stops_accepts (InputFault.Refused n LineProblem.TooLong) s e = cc
+  stops_accepts (InputFault.Refused n LineProblem.TooManyRecords) s e = cc
+  stops_accepts (InputFault.Refused n (LineProblem.Record w)) s e = cc
 
-pub told_ended : (fs : Fields) (most number : ℕ) (R : List Node) (a b c : Option (List ℕ)) → HasTaken fs most number R a b → IsEnd b c → WhereTold a (λ _. c ≡ Some [])
-told_ended fs most number R None b c h e = tt
-told_ended fs most number R (Some all) None c h e = absurd h
-told_ended fs most number R (Some all) (Some rest) c h e = e.1
+-- of a tablet of which so many records are there
+pub fill_refuses : (fs : Fields) (most number rows count place : ℕ) (a b : Option (List ℕ)) (columns : List (List Triplet)) (before now : SourceShown) (cause : InputFault) → HasColumnsOf fs most number a b columns count → count < rows → place ≡ number + count
+    → NextStops fs most place b before now cause → MatchOption (refusal_of (of_input cause)) ⊤ (RefusesWithin fs most number rows a)
+fill_refuses fs most number rows count place a b columns before now cause h l p s =
+    stops_refuses fs most number rows h.records a b before now h.taken cause (omega (arith, l, h.number_of))
+    (subst (λ (j : ℕ). NextStops fs most j b before now cause) (p ∙ ap (λ (j : ℕ). number + j) (sym h.number_of)) s)
 
-refused_behind : (fs : Fields) (most number rows : ℕ) (R : List Node) (a b : Option (List ℕ)) (e : Refusal) → HasTaken fs most number R a b → length R < rows → RefusesWithin fs most (number + length R) 1 b e → RefusesWithin fs most number rows a e
-refused_behind fs most number rows R None b e h l r = tt
-refused_behind fs most number rows R (Some all) None e h l r = absurd h
-refused_behind fs most number rows R (Some all) (Some rest) e h l r = (R ++ r.0, omega (arith, length-append R r.0, r.1, l), h ∙ ap (behind R) r.2)
+pub fill_accepts : (fs : Fields) (most number count place : ℕ) (a b : Option (List ℕ)) (columns : List (List Triplet)) (before now : SourceShown) (cause : InputFault) → HasColumnsOf fs most number a b columns count → place ≡ number + count
+    → NextStops fs most place b before now cause → of_input cause ≡ LoadFault.ReadFault → AcceptsRead fs most number a now.left
+fill_accepts fs most number count place a b columns before now cause h p s e =
+    stops_accepts fs most number 0 h.records a b before now h.taken cause
+    (subst (λ (j : ℕ). NextStops fs most j b before now cause) (p ∙ ap (λ (j : ℕ). number + j) (sym h.number_of)) s) e
 
-pub refusal_behind : (fs : Fields) (most number rows : ℕ) (R : List Node) (a b : Option (List ℕ)) (o : Option Refusal) → HasTaken fs most number R a b → length R < rows
-    → MatchOption o ⊤ (RefusesWithin fs most (number + length R) 1 b) → MatchOption o ⊤ (RefusesWithin fs most number rows a)
-refusal_behind fs most number rows R a b None h l r = tt
-refusal_behind fs most number rows R a b (Some e) h l r = refused_behind fs most number rows R a b e h l r
+-- of a reader of these fields and of so many lines
+pub reader_stops : (fs gs : Fields) (most many number : ℕ) (b : Option (List ℕ)) (before now : SourceShown) (cause : InputFault) → fs ≡ gs → most ≡ many → NextStops fs most number b before now cause → NextStops gs many number b before now cause
+reader_stops fs gs most many number b before now cause e f s =
+    subst (λ (x : Fields). NextStops x many number b before now cause) e (subst (λ (m : ℕ). NextStops fs m number b before now cause) f s)
+
+pub reader_takes : (fs gs : Fields) (most many number j : ℕ) (R : List Node) (a b : Option (List ℕ)) → fs ≡ gs → most ≡ many → number ≡ j → HasTaken fs most number R a b → HasTaken gs many j R a b
+reader_takes fs gs most many number j R a b e f g h =
+    subst (λ (x : Fields). HasTaken x many j R a b) e (subst (λ (m : ℕ). HasTaken fs m j R a b) f (subst (λ (i : ℕ). HasTaken fs most i R a b) g h))
+
+-- ---- what is said of the only error
+
+pub err_is : {A E : Type 0} (P : E → Type 0) (r : Result A E) (e : E) → IsErrAnd r (λ x. x ≡ e) → P e → IfErr r P
+err_is P (Ok a) e h p = tt
+err_is P (Err x) e h p = subst P (sym h) p
+
+pub err_equal : {A E : Type 0} (r : Result A E) (e f : E) → IsErrAnd r (λ x. x ≡ e) → r ≡ Err f → e ≡ f
+err_equal (Ok a) e f h k = cc
+err_equal (Err x) e f h k = let q : x ≡ f = cc in sym h ∙ q
 
 -- ---- columns
 

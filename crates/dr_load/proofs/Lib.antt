@@ -1,13 +1,19 @@
--- the record of a line is a record of its schema
-pub mod ReadForm
-pub mod TextForm
--- reading records line by line
-pub mod ReadLemmas
 -- what a keeper holds after puts
 pub mod PutLemmas
+pub mod WorkedPuts
 -- the columns of a tablet
 pub mod FillLemmas
 -- tablets
 pub mod TabletLemmas
 -- tablets that are loaded one after another
 pub mod LoadLemmas
+-- directories and copies that are refused
+pub mod WordLemmas
+-- a worked example, by computation
+pub mod WorkedLoad
+-- the records of each tablet
+pub mod LoadedTablets
+-- what files hold behind puts
+pub mod LoadedPuts
+-- the laws
+pub mod LoadedLemmas

@@ -1,20 +1,23 @@
--- What a keeper holds after puts.
-use Rattle.std.specs.Prelude.{◌≡◌, ℕ, zero, suc, ◌+◌, ◌-◌, ◌<◌, List, [], ◌∷◌, ◌++◌, map, length, bytes_eq, Bool, true, false, if◌then◌else◌, Option, Some, None, String}
+-- What a keeper holds after puts, and which puts it was asked for.
+use Rattle.std.specs.Option.{option_map}
+use Rattle.std.specs.Prelude.{◌≡◌, ◌≢◌, ℕ, zero, suc, ◌+◌, ◌-◌, ◌<◌, List, [], ◌∷◌, ◌++◌, map, length, bytes_eq, Bool, true, false, if◌then◌else◌, Option, Some, None, String}
 use Rattle.std.proofs.Common.{arith, refl, sym, ap, ◌∙◌, subst, true≢false, append-nil, append_assoc, add-zero, string_bytes, get_or, Global}
 use Rattle.std.proofs.lemmas.List.{map-append, length-map}
 use Rattle.std.proofs.lemmas.Slice.Eq.{bytes_eq-Decides}
 use Rattle.dr_formats.specs.Loading.{Put}
 use Rattle.dr_formats.specs.Tablets.{copy_paths_from, placement, tablet_path, nth_directory}
 use Rattle.dr_table.proofs.PathLemmas.{directory_at}
-use Rattle.dr_outside.specs.Link.{Files, HasFile, SameElsewhere}
-use Rattle.dr_load.specs.Puts.{copies_of, copy_path, with_file, after_puts, HasPut, HasPutElsewhere, BreaksOff}
+use Rattle.dr_outside.specs.declared.fault.Fault.{Fault}
+use Rattle.dr_outside.specs.Link.{Files, PutShown, LinkShown, HasFile, SameElsewhere, with_put}
+use Rattle.dr_load.specs.Faults.{is_told, of_outside}
+use Rattle.dr_load.specs.Puts.{copies_of, copy_path, with_file, after_puts, HoldsPut, HoldsPutElsewhere, shown, put_shown, AsksPuts, HasPut, if_told, HasFailed, BreaksOff}
 
 -- ---- files
 
-pub one_put : (before now : Option Files) (path bytes : List ℕ) → HasFile before now path bytes → SameElsewhere before now path → HasPut (record { path = path; bytes = bytes } ∷ []) before now
-one_put None now path bytes h s = tt
-one_put (Some f) None path bytes h s = absurd h
-one_put (Some f) (Some g) path bytes h s = λ q. by q (bytes_eq q path) refl
+holds_one : (before now : Option Files) (path bytes : List ℕ) → HasFile before now path bytes → SameElsewhere before now path → HoldsPut (record { path = path; bytes = bytes } ∷ []) before now
+holds_one None now path bytes h s = tt
+holds_one (Some f) None path bytes h s = absurd h
+holds_one (Some f) (Some g) path bytes h s = λ q. by q (bytes_eq q path) refl
   where
     by : (q : List ℕ) (b : Bool) → bytes_eq q path ≡ b → g q ≡ (if b then Some bytes else f q)
     by q true e = ap g ((bytes_eq-Decides q path).0 e) ∙ h
@@ -28,39 +31,84 @@ after_append : (ps qs : List Put) (f : Files) (q : List ℕ) → after_puts (ps 
 after_append [] qs f q = refl
 after_append (p ∷ ps) qs f q = after_append ps qs (with_file f p) q
 
-pub nothing_put : (a b : Option Files) → b ≡ a → HasPut [] a b
-nothing_put None b e = tt
-nothing_put (Some f) b e = subst (λ o. HasPut [] (Some f) o) (sym e) (λ q. refl)
+holds_none : (a b : Option Files) → b ≡ a → HoldsPut [] a b
+holds_none None b e = tt
+holds_none (Some f) b e = subst (λ o. HoldsPut [] (Some f) o) (sym e) (λ q. refl)
 
-pub nothing_put_elsewhere : (a b : Option Files) (path : List ℕ) → b ≡ a → HasPutElsewhere [] path a b
-nothing_put_elsewhere None b path e = tt
-nothing_put_elsewhere (Some f) b path e = subst (λ o. HasPutElsewhere [] path (Some f) o) (sym e) (λ q n. refl)
+same_holds_elsewhere : (a b : Option Files) (path : List ℕ) → b ≡ a → HoldsPutElsewhere [] path a b
+same_holds_elsewhere None b path e = tt
+same_holds_elsewhere (Some f) b path e = subst (λ o. HoldsPutElsewhere [] path (Some f) o) (sym e) (λ q n. refl)
 
 -- nothing was done at other paths
-pub same_elsewhere : (a b : Option Files) (path : List ℕ) → SameElsewhere a b path → HasPutElsewhere [] path a b
-same_elsewhere None b path h = tt
-same_elsewhere (Some f) None path h = absurd h
-same_elsewhere (Some f) (Some g) path h = h
+holds_elsewhere : (a b : Option Files) (path : List ℕ) → SameElsewhere a b path → HoldsPutElsewhere [] path a b
+holds_elsewhere None b path h = tt
+holds_elsewhere (Some f) None path h = absurd h
+holds_elsewhere (Some f) (Some g) path h = h
 
-pub put_more : (ps qs : List Put) (a b c : Option Files) → HasPut ps a b → HasPut qs b c → HasPut (ps ++ qs) a c
-put_more ps qs None b c h k = tt
-put_more ps qs (Some f) None c h k = absurd h
-put_more ps qs (Some f) (Some g) None h k = absurd k
-put_more ps qs (Some f) (Some g) (Some m) h k = λ q. k q ∙ after_same qs g (after_puts ps f) h q ∙ sym (after_append ps qs f q)
+pub holds_more : (ps qs : List Put) (a b c : Option Files) → HoldsPut ps a b → HoldsPut qs b c → HoldsPut (ps ++ qs) a c
+holds_more ps qs None b c h k = tt
+holds_more ps qs (Some f) None c h k = absurd h
+holds_more ps qs (Some f) (Some g) None h k = absurd k
+holds_more ps qs (Some f) (Some g) (Some m) h k = λ q. k q ∙ after_same qs g (after_puts ps f) h q ∙ sym (after_append ps qs f q)
 
-pub put_more_elsewhere : (ps qs : List Put) (path : List ℕ) (a b c : Option Files) → HasPut ps a b → HasPutElsewhere qs path b c → HasPutElsewhere (ps ++ qs) path a c
-put_more_elsewhere ps qs path None b c h k = tt
-put_more_elsewhere ps qs path (Some f) None c h k = absurd h
-put_more_elsewhere ps qs path (Some f) (Some g) None h k = absurd k
-put_more_elsewhere ps qs path (Some f) (Some g) (Some m) h k = λ q n. k q n ∙ after_same qs g (after_puts ps f) h q ∙ sym (after_append ps qs f q)
+holds_more_elsewhere : (ps qs : List Put) (path : List ℕ) (a b c : Option Files) → HoldsPut ps a b → HoldsPutElsewhere qs path b c → HoldsPutElsewhere (ps ++ qs) path a c
+holds_more_elsewhere ps qs path None b c h k = tt
+holds_more_elsewhere ps qs path (Some f) None c h k = absurd h
+holds_more_elsewhere ps qs path (Some f) (Some g) None h k = absurd k
+holds_more_elsewhere ps qs path (Some f) (Some g) (Some m) h k = λ q n. k q n ∙ after_same qs g (after_puts ps f) h q ∙ sym (after_append ps qs f q)
 
-pub breaks_behind : (ps qs : List Put) (a b c : Option Files) → HasPut ps a b → BreaksOff qs b c → BreaksOff (ps ++ qs) a c
-breaks_behind ps qs a b c h k = (
+-- ---- what was asked for
+
+asks_none : (a b : Option (List PutShown)) → b ≡ a → AsksPuts [] a b
+asks_none None b e = e
+asks_none (Some told) b e = e ∙ ap (λ (x : List PutShown). Some x) (sym (append-nil told))
+
+asks_more : (ps qs : List Put) (a b c : Option (List PutShown)) → AsksPuts ps a b → AsksPuts qs b c → AsksPuts (ps ++ qs) a c
+asks_more ps qs a b c h k = k ∙ ap (option_map (λ (told : List PutShown). told ++ shown qs)) h ∙ twice a
+  where
+    twice : (o : Option (List PutShown)) → option_map (λ (told : List PutShown). told ++ shown qs) (option_map (λ (told : List PutShown). told ++ shown ps) o) ≡ option_map (λ (told : List PutShown). told ++ shown (ps ++ qs)) o
+    twice None = refl
+    twice (Some told) = ap (λ (x : List PutShown). Some x) (append_assoc told (shown ps) (shown qs) ∙ ap (λ (x : List PutShown). told ++ x) (sym (map-append put_shown ps qs)))
+
+-- ---- puts
+
+pub one_put : (before now : LinkShown) (path bytes : List ℕ) → HasFile before.held now.held path bytes → SameElsewhere before.held now.held path → now.puts ≡ with_put before.puts (record { path = path; bytes = bytes })
+    → HasPut (record { path = path; bytes = bytes } ∷ []) before now
+one_put before now path bytes h s e = record { files = holds_one before.held now.held path bytes h s; asks = e }
+
+pub nothing_put : (a b : LinkShown) → b.held ≡ a.held → b.puts ≡ a.puts → HasPut [] a b
+nothing_put a b h e = record { files = holds_none a.held b.held h; asks = asks_none a.puts b.puts e }
+
+-- memory was wanting before a put: none is told
+pub none_failed : (a b : LinkShown) (p : Put) → b.held ≡ a.held → b.puts ≡ a.puts → HasFailed false [] p a b
+none_failed a b p h e = record { files = same_holds_elsewhere a.held b.held p.path h; asks = asks_none a.puts b.puts e }
+
+-- a put failed, which is told or not
+pub put_failed : (told : Bool) (a b : LinkShown) (p : Put) → SameElsewhere a.held b.held p.path → AsksPuts (if_told told p) a.puts b.puts → HasFailed told [] p a b
+put_failed told a b p h e = record { files = holds_elsewhere a.held b.held p.path h; asks = e }
+
+-- what a keeper's own fault tells of the put
+pub failed_so : (fault : Fault) (a b : LinkShown) (p : Put) → (fault ≢ Fault.NoMemory → b.puts ≡ with_put a.puts (record { path = p.path; bytes = p.bytes })) → (fault ≡ Fault.NoMemory → b.puts ≡ a.puts)
+    → AsksPuts (if_told (is_told (of_outside fault)) p) a.puts b.puts
+failed_so Fault.Failed a b p t n = t (λ e. cc)
+failed_so Fault.NoMemory a b p t n = asks_none a.puts b.puts (n refl)
+
+pub put_more : (ps qs : List Put) (a b c : LinkShown) → HasPut ps a b → HasPut qs b c → HasPut (ps ++ qs) a c
+put_more ps qs a b c h k = record { files = holds_more ps qs a.held b.held c.held h.files k.files; asks = asks_more ps qs a.puts b.puts c.puts h.asks k.asks }
+
+pub fails_behind : (told : Bool) (ps done : List Put) (p : Put) (a b c : LinkShown) → HasPut ps a b → HasFailed told done p b c → HasFailed told (ps ++ done) p a c
+fails_behind told ps done p a b c h k = record {
+  files = holds_more_elsewhere ps done p.path a.held b.held c.held h.files k.files;
+  asks = subst (λ (x : List Put). AsksPuts x a.puts c.puts) (sym (append_assoc ps done (if_told told p))) (asks_more ps (done ++ if_told told p) a.puts b.puts c.puts h.asks k.asks);
+}
+
+pub breaks_behind : (told : Bool) (ps qs : List Put) (a b c : LinkShown) → HasPut ps a b → BreaksOff told qs b c → BreaksOff told (ps ++ qs) a c
+breaks_behind told ps qs a b c h k = (
   ps ++ k.0,
   k.1,
   k.2,
   ap (λ (x : List Put). ps ++ x) k.3 ∙ sym (append_assoc ps k.0 (k.1 ∷ k.2)),
-  put_more_elsewhere ps k.0 k.1.path a b c h k.4,
+  fails_behind told ps k.0 k.1 a b c h k.4,
 )
 
 -- ---- the copies of a tablet
@@ -95,18 +143,19 @@ copies_more ds copy t bytes =
     copies_split ds (copy + 1) copy t bytes (omega arith)
     ∙ ap (λ (n : ℕ). copies_of ds copy t bytes ++ put_of bytes (copy_path ds t copy) ∷ map (put_of bytes) (copy_paths_from ds t (suc copy) n)) z
 
-pub copy_is_put : (ds : List (List ℕ)) (copy t : ℕ) (bytes : List ℕ) (a b c : Option Files) → HasPut (copies_of ds copy t bytes) a b → HasPut (put_of bytes (copy_path ds t copy) ∷ []) b c → HasPut (copies_of ds (copy + 1) t bytes) a c
+pub copy_is_put : (ds : List (List ℕ)) (copy t : ℕ) (bytes : List ℕ) (a b c : LinkShown) → HasPut (copies_of ds copy t bytes) a b → HasPut (put_of bytes (copy_path ds t copy) ∷ []) b c → HasPut (copies_of ds (copy + 1) t bytes) a c
 copy_is_put ds copy t bytes a b c h k =
     subst (λ ps. HasPut ps a c) (sym (copies_more ds copy t bytes)) (put_more (copies_of ds copy t bytes) (put_of bytes (copy_path ds t copy) ∷ []) a b c h k)
 
 -- a copy fails
-pub copy_fails : (ds : List (List ℕ)) (copies copy t : ℕ) (bytes : List ℕ) (a b c : Option Files) → copy < copies → HasPut (copies_of ds copy t bytes) a b → HasPutElsewhere [] (copy_path ds t copy) b c → BreaksOff (copies_of ds copies t bytes) a c
-copy_fails ds copies copy t bytes a b c l h k = (
+pub copy_fails : (told : Bool) (ds : List (List ℕ)) (copies copy t : ℕ) (bytes : List ℕ) (a b c : LinkShown) → copy < copies → HasPut (copies_of ds copy t bytes) a b → HasFailed told [] (put_of bytes (copy_path ds t copy)) b c
+    → BreaksOff told (copies_of ds copies t bytes) a c
+copy_fails told ds copies copy t bytes a b c l h k = (
   copies_of ds copy t bytes,
   put_of bytes (copy_path ds t copy),
   map (put_of bytes) (copy_paths_from ds t (suc copy) (copies - suc copy)),
   copies_split ds copies copy t bytes l,
-  subst (λ ps. HasPutElsewhere ps (copy_path ds t copy) a c) (append-nil (copies_of ds copy t bytes)) (put_more_elsewhere (copies_of ds copy t bytes) [] (copy_path ds t copy) a b c h k),
+  subst (λ ps. HasFailed told ps (put_of bytes (copy_path ds t copy)) a c) (append-nil (copies_of ds copy t bytes)) (fails_behind told (copies_of ds copy t bytes) [] (put_of bytes (copy_path ds t copy)) a b c h k),
 )
 
 -- where a copy goes, by the directory at its place

@@ -1,14 +1,15 @@
 -- What the columns of one tablet hold.
-use Rattle.std.specs.Prelude.{◌≡◌, ℕ, List, map, length, true, Option}
+use Rattle.std.specs.Prelude.{◌≡◌, ◌<◌, ℕ, suc, List, map, length, true, Option, Some}
 use Rattle.std.specs.List.{list_all}
 use Rattle.dr_meaning.specs.Schema.{Fields}
 use Rattle.dr_meaning.specs.Path.{Leaf, leaves}
 use Rattle.dr_meaning.specs.Record.{Node, is_record}
 use Rattle.dr_meaning.specs.Column.{Triplet, column}
+use Rattle.dr_meaning.specs.Lines.{Refusal, lines_of, taken_from}
 use Rattle.dr_formats.specs.WritingLaws.{is_limited}
 use Rattle.dr_levels.specs.Views.{columns_view}
 use Rattle.dr_load.specs.declared.filled.Filled.{Filled}
-use Rattle.dr_load.specs.Records.{HasTaken}
+use Rattle.dr_input.specs.Taken.{WhereTold, HasTaken}
 
 -- behind so many lines, the records of these columns were taken of what was left
 pub record HasColumnsOf (fs : Fields) (most number : ℕ) (before now : Option (List ℕ)) (columns : List (List Triplet)) (count : ℕ) : Type 0 where
@@ -21,3 +22,8 @@ pub record HasColumnsOf (fs : Fields) (most number : ℕ) (before now : Option (
 
 abbrev pub FillsTablet : Fields → ℕ → ℕ → Option (List ℕ) → Option (List ℕ) → Filled → Type 0
 FillsTablet fs most number before now f = HasColumnsOf fs most number before now (columns_view f.columns.items) f.records
+
+-- behind so many lines, a line of what was left is refused so, with fewer records before it than this
+abbrev pub RefusesWithin : Fields → ℕ → ℕ → ℕ → Option (List ℕ) → Refusal → Type 0
+RefusesWithin fs most number rows left e =
+    WhereTold left (λ all. (R : List Node) × (length R < rows) × (taken_from fs most (suc number) (lines_of all) ≡ record { records = R; refusal = Some e }))

@@ -4,11 +4,13 @@ pub mod Faults
 pub mod Plans
 -- what a keeper holds after puts
 pub mod Puts
--- what was read of records
-pub mod Records
--- reading one line
-pub mod Reading
 -- what a filled tablet holds
 pub mod Filled
 -- what a load puts, counts and leaves
 pub mod Loads
+-- what the problems of words stand for
+pub mod Words
+-- what may be loaded, and which files copies hold
+pub mod Loaded
+-- laws, each proved on a law function of src/
+pub mod LoadedLaws

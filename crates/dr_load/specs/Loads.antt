@@ -1,5 +1,5 @@
 -- What a load puts, counts and leaves.
-use Rattle.std.specs.Prelude.{◌≡◌, ◌≤◌, ℕ, ◌==◌, if◌then◌else◌, List, [], ◌∷◌, ◌++◌, length, Option, true, Some, None, ⊤, ◌⊎◌}
+use Rattle.std.specs.Prelude.{◌≡◌, ◌≤◌, ℕ, true, false, ◌==◌, if◌then◌else◌, List, [], ◌∷◌, ◌++◌, length, Option, Some, None, ⊤, ◌⊎◌}
 use Rattle.std.specs.List.{list_all}
 use Rattle.dr_meaning.specs.Record.{Node, is_record}
 use Rattle.dr_meaning.specs.Lines.{Refusal, Taken, lines_of, taken_from}
@@ -8,15 +8,15 @@ use Rattle.dr_formats.specs.TabletLaws.{all_records}
 use Rattle.dr_formats.specs.TableFile.{most_tablets, table_text}
 use Rattle.dr_formats.specs.WritingLaws.{is_limited}
 use Rattle.dr_formats.specs.Loading.{Plan, Put, most_loaded, puts_from, put_at, table_of, full_tablets, load}
-use Rattle.dr_outside.specs.Link.{Files}
-use Rattle.dr_load.specs.Records.{WhereTold, HasTaken}
-use Rattle.dr_load.specs.Puts.{HasPut, HasPutSome, BreaksOff}
+use Rattle.dr_outside.specs.Link.{Files, LinkShown}
+use Rattle.dr_input.specs.Taken.{WhereTold, HasTaken}
+use Rattle.dr_load.specs.Puts.{HoldsPut, HasPut, HasPutSome, BreaksOff}
 use Rattle.dr_load.specs.declared.fault.LoadFault.{LoadFault}
 
 -- why putting stopped: the keeper failed at one of the puts; or memory was wanting, at one of them or between them
-abbrev pub StopsPutting : List Put → Option Files → Option Files → LoadFault → Type 0
-StopsPutting ps before now LoadFault.NoMemory = HasPutSome ps before now ⊎ BreaksOff ps before now
-StopsPutting ps before now LoadFault.KeepFault = BreaksOff ps before now
+abbrev pub StopsPutting : List Put → LinkShown → LinkShown → LoadFault → Type 0
+StopsPutting ps before now LoadFault.NoMemory = HasPutSome ps before now ⊎ BreaksOff false ps before now
+StopsPutting ps before now LoadFault.KeepFault = BreaksOff true ps before now
 StopsPutting ps before now LoadFault.ReadFault = ⊤
 StopsPutting ps before now (LoadFault.BadLine n w) = ⊤
 StopsPutting ps before now (LoadFault.LineTooLong n) = ⊤
@@ -41,17 +41,17 @@ abbrev pub tablet_part : Plan → List ℕ → List Put
 tablet_part p input = puts_from p 0 (tablets_put p (taken_of p input).records (taken_of p input).refusal)
 
 -- some of the tablets that are to be put, from the front on, were put whole, and nothing else
-abbrev pub HasPutTablets : Plan → List ℕ → Option Files → Option Files → Type 0
+abbrev pub HasPutTablets : Plan → List ℕ → LinkShown → LinkShown → Type 0
 HasPutTablets p input before now = (ts : List (List Node)) × (us : List (List Node))
     × (tablets_put p (taken_of p input).records (taken_of p input).refusal ≡ ts ++ us)
     × HasPut (puts_from p 0 ts) before now
 
 -- what a load that stopped leaves of the keeper: where a line is refused, all that comes before; where the source failed, whole tablets from the front on; where
 -- the keeper failed, one of the puts is broken off; where memory was wanting, some of the tablets' puts, or one is broken off. In none is the put of the table file done
-abbrev pub LeavesPuts : Plan → List ℕ → Option Files → Option Files → LoadFault → Type 0
-LeavesPuts p input before now LoadFault.NoMemory = HasPutSome (tablet_part p input) before now ⊎ BreaksOff (load p input).puts before now
+abbrev pub LeavesPuts : Plan → List ℕ → LinkShown → LinkShown → LoadFault → Type 0
+LeavesPuts p input before now LoadFault.NoMemory = HasPutSome (tablet_part p input) before now ⊎ BreaksOff false (load p input).puts before now
 LeavesPuts p input before now LoadFault.ReadFault = HasPutTablets p input before now
-LeavesPuts p input before now LoadFault.KeepFault = BreaksOff (load p input).puts before now
+LeavesPuts p input before now LoadFault.KeepFault = BreaksOff true (load p input).puts before now
 LeavesPuts p input before now (LoadFault.BadLine n w) = HasPut (load p input).puts before now
 LeavesPuts p input before now (LoadFault.LineTooLong n) = HasPut (load p input).puts before now
 LeavesPuts p input before now (LoadFault.TooManyRecords n) = HasPut (load p input).puts before now
@@ -62,7 +62,7 @@ AllHave n [] = ⊤
 AllHave n (t ∷ ts) = (length t ≡ n) × AllHave n ts
 
 -- so many full tablets, with so many records, were taken of the input and put
-pub record HasLoaded (p : Plan) (tablets records : ℕ) (input now : Option (List ℕ)) (before held : Option Files) : Type 0 where
+pub record HasLoaded (p : Plan) (tablets records : ℕ) (input now : Option (List ℕ)) (before held : LinkShown) : Type 0 where
   pub full : List (List Node)
   pub are_full : AllHave p.rows full
   pub tablets_of : length full ≡ tablets
@@ -80,5 +80,5 @@ pub record LoadsTable (p : Plan) (table : Option (List ℕ)) (count : ℕ) (inpu
   pub limited : list_all is_limited records ≡ true
   pub tablets_of : length (tablets p.rows records) ≡ count
   pub few_tablets : count ≤ most_tablets
-  pub put : HasPut (puts_from p 0 (tablets p.rows records) ++ put_at table (table_text (table_of p count))) before now
+  pub put : HoldsPut (puts_from p 0 (tablets p.rows records) ++ put_at table (table_text (table_of p count))) before now
   pub taken : WhereTold input (λ bytes. taken_of p bytes ≡ record { records = records; refusal = None })

@@ -1,9 +1,10 @@
--- What a keeper holds after puts.
-use Rattle.std.specs.Prelude.{◌≡◌, ◌≢◌, ℕ, List, [], ◌∷◌, ◌++◌, map, bytes_eq, if◌then◌else◌, Option, Some, None, ⊤}
+-- What a keeper holds after puts, and which puts it was asked for.
+use Rattle.std.specs.Prelude.{◌≡◌, ◌≢◌, ℕ, Bool, true, false, List, [], ◌∷◌, ◌++◌, map, bytes_eq, if◌then◌else◌, Option, Some, None, ⊤}
+use Rattle.std.specs.Option.{option_map}
 use Rattle.dr_formats.specs.Loading.{Put}
 use Rattle.dr_formats.specs.Tablets.{placement, tablet_path, nth_directory, copy_paths}
 use Rattle.std.specs.Prelude.{length}
-use Rattle.dr_outside.specs.Link.{Files}
+use Rattle.dr_outside.specs.Link.{Files, PutShown, LinkShown}
 
 -- a file on each copy of a tablet, in order
 abbrev pub copies_of : List (List ℕ) → ℕ → ℕ → List ℕ → List Put
@@ -23,21 +24,47 @@ after_puts [] files = files
 after_puts (p ∷ ps) files = after_puts ps (with_file files p)
 
 -- at each path there is what was held before, or what was put there last; nothing is said of a keeper that didn't tell before
-abbrev pub HasPut : List Put → Option Files → Option Files → Type 0
-HasPut ps None now = ⊤
-HasPut ps (Some before) None = ⊥
-HasPut ps (Some before) (Some now) = (path : List ℕ) → now path ≡ after_puts ps before path
+abbrev pub HoldsPut : List Put → Option Files → Option Files → Type 0
+HoldsPut ps None now = ⊤
+HoldsPut ps (Some before) None = ⊥
+HoldsPut ps (Some before) (Some now) = (path : List ℕ) → now path ≡ after_puts ps before path
 
 -- at each path but one
-abbrev pub HasPutElsewhere : List Put → List ℕ → Option Files → Option Files → Type 0
-HasPutElsewhere ps spoiled None now = ⊤
-HasPutElsewhere ps spoiled (Some before) None = ⊥
-HasPutElsewhere ps spoiled (Some before) (Some now) = (path : List ℕ) → path ≢ spoiled → now path ≡ after_puts ps before path
+abbrev pub HoldsPutElsewhere : List Put → List ℕ → Option Files → Option Files → Type 0
+HoldsPutElsewhere ps spoiled None now = ⊤
+HoldsPutElsewhere ps spoiled (Some before) None = ⊥
+HoldsPutElsewhere ps spoiled (Some before) (Some now) = (path : List ℕ) → path ≢ spoiled → now path ≡ after_puts ps before path
 
--- some of the puts from the front on were done, and no other
-abbrev pub HasPutSome : List Put → Option Files → Option Files → Type 0
+-- a put, as a keeper tells it
+abbrev pub put_shown : Put → PutShown
+put_shown p = record { path = p.path; bytes = p.bytes }
+
+abbrev pub shown : List Put → List PutShown
+shown ps = map put_shown ps
+
+-- in between, exactly these puts were asked for, in this order; nothing is said of a keeper that doesn't tell its puts
+abbrev pub AsksPuts : List Put → Option (List PutShown) → Option (List PutShown) → Type 0
+AsksPuts ps before now = now ≡ option_map (λ (told : List PutShown). told ++ shown ps) before
+
+-- these puts were asked for and done, in this order, and no other
+pub record HasPut (ps : List Put) (before now : LinkShown) : Type 0 where
+  pub files : HoldsPut ps before.held now.held
+  pub asks : AsksPuts ps before.puts now.puts
+
+-- the put itself, where it is told
+abbrev pub if_told : Bool → Put → List Put
+if_told true p = p ∷ []
+if_told false p = []
+
+-- these puts were done, and then one failed, which is told or not: its path may hold anything; no other put was asked for
+pub record HasFailed (told : Bool) (done : List Put) (p : Put) (before now : LinkShown) : Type 0 where
+  pub files : HoldsPutElsewhere done p.path before.held now.held
+  pub asks : AsksPuts (done ++ if_told told p) before.puts now.puts
+
+-- some of the puts from the front on were done, and no other was asked for
+abbrev pub HasPutSome : List Put → LinkShown → LinkShown → Type 0
 HasPutSome ps before now = (done : List Put) × (rest : List Put) × (ps ≡ done ++ rest) × HasPut done before now
 
--- one of the puts failed: those before it were done, its path may hold anything, no other path changed
-abbrev pub BreaksOff : List Put → Option Files → Option Files → Type 0
-BreaksOff ps before now = (done : List Put) × (p : Put) × (rest : List Put) × (ps ≡ done ++ p ∷ rest) × HasPutElsewhere done p.path before now
+-- one of the puts failed, which is told or not: those before it were done, and none behind it was asked for
+abbrev pub BreaksOff : Bool → List Put → LinkShown → LinkShown → Type 0
+BreaksOff told ps before now = (done : List Put) × (p : Put) × (rest : List Put) × (ps ≡ done ++ p ∷ rest) × HasFailed told done p before now

@@ -1,11 +1,12 @@
 //! Putting a file on the leaves of a tablet's copies.
 
-ghost use Rattle.std.specs.Prelude.{◌≡◌, ◌≢◌, ◌∷◌, [], ◌<◌, ◌≤◌, length, map, string_bytes, IsTrue, IfOk, IfErr, OnOk, OnErr, Err, None};
+ghost use Rattle.std.specs.Prelude.{◌≡◌, ◌≢◌, ◌∷◌, [], ◌<◌, ◌≤◌, length, map, string_bytes, IsTrue, IfOk, IfErr, OnOk, Err, None};
 ghost use Rattle.dr_outside.specs.Faults.{raised};
-ghost use Rattle.dr_load.specs.Faults.{refusal_of};
-ghost use Rattle.dr_load.specs.Puts.{copies_of, copy_path, HasPut, HasPutElsewhere, BreaksOff};
+ghost use Rattle.dr_load.specs.Faults.{refusal_of, is_told};
+ghost use Rattle.dr_load.specs.Puts.{copies_of, copy_path, HasPut, HasFailed, BreaksOff};
 
 use crate::fault::LoadFault;
+use crate::file::put_file;
 use dr_memory::NoMemory;
 use dr_outside::Keeper;
 use dr_table::{placement_among, tablet_path};
@@ -32,8 +33,8 @@ fn put_copy<K: Keeper>(
 ) -> Result<(), LoadFault>
     requires has_leaf { 0 < length leaves.now }
     requires few_leaves { length leaves.now ≤ 64 }
-    ensures put { OnOk result (HasPut (record { path = copy_path (map string_bytes leaves.now) tablet copy; bytes = bytes.now } ∷ []) (K.shows keeper.old).held (K.shows keeper.new).held) }
-    ensures broken { OnErr result (HasPutElsewhere [] (copy_path (map string_bytes leaves.now) tablet copy) (K.shows keeper.old).held (K.shows keeper.new).held) }
+    ensures put { OnOk result (HasPut (record { path = copy_path (map string_bytes leaves.now) tablet copy; bytes = bytes.now } ∷ []) (K.shows keeper.old) (K.shows keeper.new)) }
+    ensures broken { IfErr result (λ e. HasFailed (is_told e) [] (record { path = copy_path (map string_bytes leaves.now) tablet copy; bytes = bytes.now }) (K.shows keeper.old) (K.shows keeper.new)) }
     ensures cause { result ≡ Err LoadFault.KeepFault → (K.shows keeper.new).faults ≡ raised (K.shows keeper.old).faults }
     ensures calm { result ≢ Err LoadFault.KeepFault → (K.shows keeper.new).faults ≡ (K.shows keeper.old).faults }
     ensures read { result ≢ Err LoadFault.ReadFault }
@@ -44,10 +45,7 @@ fn put_copy<K: Keeper>(
 {
     match copy_path(alloc, leaves, tablet, copy) {
         Err(_) => Err(LoadFault::NoMemory),
-        Ok(path) => match keeper.put(path.as_str(), bytes) {
-            Ok(()) => Ok(()),
-            Err(fault) => Err(fault.into()),
-        },
+        Ok(path) => put_file(keeper, path.as_str(), bytes),
     }
 }
 
@@ -62,8 +60,8 @@ pub(crate) fn put_copies<K: Keeper>(
 ) -> Result<(), LoadFault>
     requires has_leaf { 0 < length leaves.now }
     requires few_leaves { length leaves.now ≤ 64 }
-    ensures put { OnOk result (HasPut (copies_of (map string_bytes leaves.now) copies tablet bytes.now) (K.shows keeper.old).held (K.shows keeper.new).held) }
-    ensures broken { OnErr result (BreaksOff (copies_of (map string_bytes leaves.now) copies tablet bytes.now) (K.shows keeper.old).held (K.shows keeper.new).held) }
+    ensures put { OnOk result (HasPut (copies_of (map string_bytes leaves.now) copies tablet bytes.now) (K.shows keeper.old) (K.shows keeper.new)) }
+    ensures broken { IfErr result (λ e. BreaksOff (is_told e) (copies_of (map string_bytes leaves.now) copies tablet bytes.now) (K.shows keeper.old) (K.shows keeper.new)) }
     ensures cause { result ≡ Err LoadFault.KeepFault → (K.shows keeper.new).faults ≡ raised (K.shows keeper.old).faults }
     ensures calm { result ≢ Err LoadFault.KeepFault → (K.shows keeper.new).faults ≡ (K.shows keeper.old).faults }
     ensures read { result ≢ Err LoadFault.ReadFault }

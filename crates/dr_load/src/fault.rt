@@ -2,8 +2,9 @@
 
 ghost use Rattle.std.specs.Prelude.{◌≡◌};
 ghost use Rattle.dr_load.specs.declared.fault.LoadFault.TheVariants as stops;
-ghost use Rattle.dr_load.specs.Faults.{of_outside};
+ghost use Rattle.dr_load.specs.Faults.{of_outside, of_input};
 
+use dr_input::{InputFault, LineProblem};
 use dr_json::RecordProblem;
 use dr_memory::NoMemory;
 use dr_outside::Fault;
@@ -32,6 +33,22 @@ impl From<Fault> for LoadFault {
         match cause {
             Fault::Failed => LoadFault::KeepFault,
             Fault::NoMemory => LoadFault::NoMemory,
+        }
+    }
+}
+
+impl From<InputFault> for LoadFault {
+    ghost from_gives = { λ cause fault. fault ≡ of_input cause };
+
+    fn from(cause: InputFault) -> LoadFault {
+        match cause {
+            InputFault::NoMemory => LoadFault::NoMemory,
+            InputFault::Source => LoadFault::ReadFault,
+            InputFault::Refused { line, problem } => match problem {
+                LineProblem::TooLong => LoadFault::LineTooLong { line },
+                LineProblem::TooManyRecords => LoadFault::TooManyRecords { line },
+                LineProblem::Record(problem) => LoadFault::BadLine { line, problem },
+            },
         }
     }
 }

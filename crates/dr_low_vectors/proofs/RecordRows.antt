@@ -2,7 +2,7 @@
 use Rattle.std.specs.Prelude.{◌≡◌, ℕ, List, [], ◌∷◌, map, Bool, true, false, pos, Option, Some, None, codes, refl}
 use Rattle.std.specs.List.{flat_map}
 use Rattle.dr_meaning.specs.Path.{Step}
-use Rattle.dr_meaning.specs.Record.{Value, int_value, text_value, Node}
+use Rattle.dr_meaning.specs.Record.{Value, int_value, text_value, Node, Instances, no_instances, instance, count_instances, instances_at, instances_in}
 use Rattle.dr_meaning.specs.Rows.{rows, value_at, is_present}
 use Rattle.dr_meaning.proofs.WorkedRecords.{record_10, record_20, record_30}
 use Rattle.dr_meaning.proofs.WorkedPaths.{doc_id, name, language_level, country, url}
@@ -49,3 +49,12 @@ rows_without_languages = (refl, refl)
 -- the rows of a level lie in those of the level above it
 pub rows_within_rows : seen_rows three language_level (flat_map (rows language_level) (rows name record_10)) ≡ languages
 rows_within_rows = refl
+
+-- how many instances of the field at a place the first of these has
+abbrev counted_in_first : ℕ → Instances → ℕ
+counted_in_first i no_instances = 0
+counted_in_first i (instance x xs) = count_instances (instances_in i x)
+
+-- a value has none, the first name two languages
+pub instances_of_instances : (counted_in_first 0 (instances_at 0 record_10) ≡ 0) × (counted_in_first 0 (instances_at 2 record_10) ≡ 2)
+instances_of_instances = (refl, refl)

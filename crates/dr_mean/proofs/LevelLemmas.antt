@@ -7,7 +7,7 @@ use Rattle.std.proofs.lemmas.Bool.Decides.{leb_tells}
 use Rattle.dr_meaning.specs.Path.{Step, Leaf, level, longer}
 use Rattle.dr_meaning.specs.Expression.{Expression, paths_of, longest_level, expression_level}
 use Rattle.dr_plan.specs.Views.{leaf_value, path_of}
-use Rattle.dr_chains.proofs.LevelLemmas.{longer-first, longer-second}
+use Rattle.dr_paths.proofs.ChainLemmas.{longer-first, longer-second}
 
 pub longer_none : (p : List Step) → longer [] p ≡ p
 longer_none [] = refl

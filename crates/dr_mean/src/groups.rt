@@ -18,11 +18,12 @@ ghost use Rattle.dr_mean.specs.Takings.{key_paths};
 
 use crate::grouping::Grouping;
 use crate::keeping::keep;
-use crate::levels::{expression_level, keys_level, longer};
+use crate::levels::{expression_level, keys_level};
 use crate::taking::{Taking, put_rows};
 use dr_group::Partial;
 use dr_memory::NoMemory;
 use dr_nested::{Node, project};
+use dr_paths::longer;
 use dr_plan::{Aggregate, Expr};
 use dr_rows::{Rows, rows_of};
 use std::alloc::Global;

@@ -8,16 +8,9 @@ ghost use Rattle.dr_nested.specs.PathView.{step_view, path_view};
 ghost use Rattle.dr_plan.specs.Views.{expr_view, number_view, path_of, text_view, truth_view};
 ghost use Rattle.dr_mean.specs.Levels.{expressions_level};
 
-use dr_chains::level;
 use dr_nested::{Path, Step};
+use dr_paths::{level, longer};
 use dr_plan::{Expr, Number, TextOf, Truth};
-
-/// The longer of two chains, the first where they are as long.
-pub fn longer<'p>(one: &'p [Step], other: &'p [Step]) -> &'p [Step]
-    ensures { map step_view result.now ≡ path_meaning.longer (map step_view one.now) (map step_view other.now) }
-{
-    if one.len() < other.len() { other } else { one }
-}
 
 fn leaf_level(leaves: &[Path], leaf: u32) -> &[Step]
     ensures { map step_view result.now ≡ path_meaning.level (path_of (slice_get (map path_view leaves.now) leaf)) }

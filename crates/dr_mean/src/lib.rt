@@ -17,6 +17,6 @@ mod values;
 pub use keeping::keep;
 pub use keys::key_of;
 pub use laws::{groups_take_records, lines_are_result, record_is_put_row_by_row};
-pub use levels::{expression_level, keys_level, longer, tests_level};
+pub use levels::{expression_level, keys_level, tests_level};
 pub use lines::mean_objects;
 pub use meaning::{mean, partial_of};

@@ -1,7 +1,7 @@
 -- Binding of queries' texts, by computation: each fault with its place, and which of several comes first.
 use Rattle.std.specs.Prelude.{◌≡◌, ℕ, List, [], ◌∷◌, Bool, true, false, pos, Option, Some, None, Result, Ok, Err, codes, refl}
 use Rattle.std.specs.Fmt.{digits}
-use Rattle.dr_meaning.specs.Schema.{Schema, required, bool_kind, int32_kind, int64_kind, text_kind, no_fields, field, leaf}
+use Rattle.dr_meaning.specs.Schema.{Schema, required, optional, repeated, bool_kind, int32_kind, int64_kind, text_kind, no_fields, field, leaf, group}
 use Rattle.dr_meaning.specs.Path.{Step}
 use Rattle.dr_meaning.specs.Record.{int_value}
 use Rattle.dr_meaning.specs.Expression.{Expression, constant, path_value, comparison, equal}
@@ -44,6 +44,14 @@ plain_schema = record {
   name = codes "From";
   fields = field (codes "select") required (leaf text_kind) (field (codes "Group") required (leaf int32_kind)
       (field (codes "select1") required (leaf bool_kind) (field (codes "wide") required (leaf int64_kind) no_fields)));
+}
+
+-- a message of repeated leaves: one in an optional group, one in a repeated one, one alone
+abbrev pairs_schema : Schema
+pairs_schema = record {
+  name = codes "T";
+  fields = field (codes "g") optional (group (field (codes "b") repeated (leaf int64_kind) no_fields))
+      (field (codes "h") repeated (group (field (codes "c") repeated (leaf int64_kind) no_fields)) (field (codes "a") repeated (leaf int64_kind) no_fields));
 }
 
 abbrev step : ℕ → Step
@@ -201,6 +209,20 @@ pub unrelated_keys : (asked (codes "SELECT COUNT(*) FROM Document GROUP BY Links
 unfolding bind parse_query items keys whole_expression argument digits
 unrelated_keys = (refl, refl, refl, refl, refl, refl, refl)
 
+-- an argument is compared, also with the keys, where WITHIN names no field; not where the argument or a key fails
+pub arguments_beside_nodes : (asked (codes "SELECT COUNT(Links.Forward = Links.Backward) WITHIN x FROM Document") ≡ refused_at 29 unrelated)
+    × (asked (codes "SELECT COUNT(Links.Forward = DocId) WITHIN x FROM Document") ≡ refused_at 43 unknown_field)
+    × (asked (codes "SELECT COUNT(Links.Forward = Links.Backward + 'a') WITHIN x FROM Document") ≡ refused_at 44 type_mismatch)
+    × (asked (codes "SELECT SUM(Links.Forward + Links.Backward) WITHIN x FROM Document") ≡ refused_at 27 unrelated)
+    × (asked (codes "SELECT SUM(Links.Forward = Links.Backward) WITHIN x FROM Document") ≡ refused_at 7 type_mismatch)
+    × (asked (codes "SELECT COUNT(Name.Url) WITHIN x FROM Document GROUP BY Links.Forward") ≡ refused_at 13 unrelated)
+    × (asked (codes "SELECT COUNT(Name.Url) WITHIN x FROM Document GROUP BY Links.Forward, y") ≡ refused_at 30 unknown_field)
+    × (asked (codes "SELECT COUNT(Name.Url) WITHIN x FROM Document GROUP BY Name.Language.Code") ≡ refused_at 30 unknown_field)
+    × (asked (codes "SELECT COUNT(DocId) WITHIN x, COUNT(Links.Forward = Links.Backward) WITHIN x FROM Document") ≡ refused_at 27 unknown_field)
+    × (asked (codes "SELECT DocId, COUNT(Links.Forward = Links.Backward) WITHIN RECORD FROM Document") ≡ refused_at 36 unrelated)
+unfolding bind parse_query items keys whole_expression argument digits
+arguments_beside_nodes = (refl, refl, refl, refl, refl, refl, refl, refl, refl, refl)
+
 -- ---- WITHIN
 
 -- the node is the record or a repeated group
@@ -274,17 +296,44 @@ pub one_name_in_many_objects : (is_bound (codes "SELECT DocId AS a, Name.Url AS 
 unfolding bind parse_query items keys whole_expression argument digits
 one_name_in_many_objects = (refl, refl, refl)
 
--- against a list of the same object that leads to an earlier item
+-- against a list of the same object that leads to another item, an earlier or a later one
 pub duplicate_lists : (asked (codes "SELECT Name.Url, DocId AS Name FROM Document") ≡ refused_at 17 duplicate_name)
     × (asked (codes "SELECT Name.Language.Code, DocId AS Name FROM Document") ≡ refused_at 27 duplicate_name)
     × (asked (codes "SELECT Name.Language.Code, Name.Url AS Language FROM Document") ≡ refused_at 27 duplicate_name)
     × (asked (codes "SELECT COUNT(Name.Language.Code) WITHIN Name.Language, Name.Url AS Language FROM Document") ≡ refused_at 55 duplicate_name)
-    × (is_bound (codes "SELECT Name.Language.Code, DocId AS Language, Name.Url AS Name FROM Document") ≡ true)
-    × (is_bound (codes "SELECT DocId AS Name, Name.Url FROM Document") ≡ true)
-    × (is_bound (codes "SELECT Links.Forward, DocId AS Forward, DocId AS Links FROM Document") ≡ true)
-    × (is_bound (codes "SELECT Name.Language.Code, Links.Forward AS Language FROM Document") ≡ true)
+    × (asked (codes "SELECT DocId AS Name, Name.Url FROM Document") ≡ refused_at 7 duplicate_name)
+    × (asked (codes "SELECT DocId, DocId AS Name, Links.Forward, Name.Language.Code FROM Document") ≡ refused_at 14 duplicate_name)
+    × (asked (codes "SELECT Name.Url AS Language, Name.Language.Code FROM Document") ≡ refused_at 7 duplicate_name)
+    × (asked (codes "SELECT DocId AS Name, COUNT(Name.Url) WITHIN Name FROM Document") ≡ refused_at 7 duplicate_name)
 unfolding bind parse_query items keys whole_expression argument digits
 duplicate_lists = (refl, refl, refl, refl, refl, refl, refl, refl)
+
+-- not against a list of another object, one that leads to items of no other level, or one that leads only to an item that fails; nor against a later item
+pub lists_elsewhere : (is_bound (codes "SELECT Name.Language.Code, DocId AS Language, Name.Url AS Name FROM Document") ≡ true)
+    × (is_bound (codes "SELECT DocId AS Language, Name.Url AS Name, Name.Language.Code FROM Document") ≡ true)
+    × (is_bound (codes "SELECT Links.Forward, DocId AS Forward, DocId AS Links FROM Document") ≡ true)
+    × (is_bound (codes "SELECT Name.Language.Code, Links.Forward AS Language FROM Document") ≡ true)
+    × (is_bound (codes "SELECT Links.Forward AS Language, Name.Language.Code FROM Document") ≡ true)
+    × (is_bound (codes "SELECT DocId AS Name, COUNT(Name.Url) WITHIN RECORD, Links.Forward AS Name FROM Document") ≡ true)
+    × (asked (codes "SELECT DocId AS Name, Name.Url + 1 FROM Document") ≡ refused_at 31 type_mismatch)
+    × (asked (codes "SELECT DocId AS Name, COUNT(Name.Url) WITHIN x FROM Document") ≡ refused_at 45 unknown_field)
+    × (asked (codes "SELECT DocId AS a, DocId + 1 AS a, Name.Url AS a FROM Document") ≡ refused_at 19 duplicate_name)
+unfolding bind parse_query items keys whole_expression argument digits
+lists_elsewhere = (refl, refl, refl, refl, refl, refl, refl, refl, refl)
+
+-- an item of paths that aren't related stands at the level with the most repeated fields, of as many at the first: whatever the other fields
+pub deepest_chains : (asked (codes "SELECT DocId AS Name, Name.Url IS NULL AND Links.Forward = 1 FROM Document") ≡ refused_at 7 duplicate_name)
+    × (asked (codes "SELECT DocId AS Name, Links.Forward = 1 AND Name.Url IS NULL FROM Document") ≡ refused_at 44 unrelated)
+    × (asked_of pairs_schema (codes "SELECT h.c AS x, g.b = h.c AS x FROM T") ≡ refused_at 17 duplicate_name)
+    × (asked_of pairs_schema (codes "SELECT h.c AS x, h.c = g.b AS x FROM T") ≡ refused_at 17 duplicate_name)
+    × (asked_of pairs_schema (codes "SELECT g.b AS x, g.b = h.c AS x FROM T") ≡ refused_at 23 unrelated)
+    × (asked_of pairs_schema (codes "SELECT a AS x, g.b = a AS x FROM T") ≡ refused_at 21 unrelated)
+    × (asked_of pairs_schema (codes "SELECT g.b AS x, g.b = a AS x FROM T") ≡ refused_at 17 duplicate_name)
+    × (asked_of pairs_schema (codes "SELECT a AS x, a = g.b AS x FROM T") ≡ refused_at 15 duplicate_name)
+    × (asked_of pairs_schema (codes "SELECT 1 AS a, a AS b FROM T") ≡ refused_at 7 duplicate_name)
+    × (asked_of pairs_schema (codes "SELECT COUNT(a = g.b) WITHIN x FROM T") ≡ refused_at 17 unrelated)
+unfolding bind parse_query items keys whole_expression argument digits
+deepest_chains = (refl, refl, refl, refl, refl, refl, refl, refl, refl, refl)
 
 -- an aggregate query has one object and no lists
 pub names_of_groups : (asked (codes "SELECT COUNT(*) AS n, SUM(DocId) AS n FROM Document") ≡ refused_at 22 duplicate_name)

@@ -3,11 +3,11 @@ use Rattle.std.specs.Prelude.{ℕ, suc, List, [], ◌∷◌, ◌++◌, map, Bool
 use Rattle.std.specs.Prelude.{Option, Some, None, option_map, is_some, Result, Ok, Err, decimal}
 use Rattle.std.specs.List.{list_any, list_all, filter_map, flat_map, join_with_byte}
 use Rattle.dr_meaning.specs.Schema.{Schema, Fields, Shape, leaf, group}
-use Rattle.dr_meaning.specs.Path.{Step, Found, find_path, level, begins_with, same_path}
-use Rattle.dr_meaning.specs.Expression.{Expression, path_value, expression_level}
+use Rattle.dr_meaning.specs.Path.{Step, Found, find_path, level, begins_with, same_path, max_repetition}
+use Rattle.dr_meaning.specs.Expression.{Expression, path_value, paths_of, expression_level}
 use Rattle.dr_meaning.specs.Query.{Aggregate, sum, RecordTerm, expression, within, GroupTerm, key, count_rows, aggregate, RecordItem, GroupItem}
 use Rattle.dr_meaning.specs.Query.{Selection, objects, groups, Query, Levels, no_levels, deeper, append_levels, levels_of}
-use Rattle.dr_meaning.specs.Syntax.{NameSyntax, PathSyntax, path, NodeSyntax, whole_record, node, WithinSyntax, TermSyntax, ConditionSyntax}
+use Rattle.dr_meaning.specs.Syntax.{NameSyntax, PathSyntax, ExpressionSyntax, path, NodeSyntax, whole_record, node, WithinSyntax, TermSyntax, ConditionSyntax}
 use Rattle.dr_meaning.specs.Syntax.{expression as expression_syntax, count_rows as count_rows_syntax, aggregate as aggregate_syntax, ItemSyntax}
 use Rattle.dr_meaning.specs.Syntax.{QuerySyntax}
 use Rattle.dr_meaning.specs.BoundExpression.{BindProblem, unknown_table, unknown_field, not_a_leaf, type_mismatch, unrelated, bad_within, not_grouped}
@@ -61,11 +61,29 @@ abbrev pub argument_of : Aggregate → ℕ → BoundExpression → Checked Bound
 argument_of sum i e = of_type number_type i e
 argument_of a i e = passes e
 
+abbrev pub bind_argument : Fields → ℕ → Aggregate → ExpressionSyntax → Checked BoundExpression
+bind_argument fs i a e = then_check (argument_of a i) (bind_expression fs e)
+
 -- the term of an item at this place
 abbrev pub bind_term : Fields → ℕ → TermSyntax → Checked BoundTerm
 bind_term fs i (expression_syntax e) = checked_map plain (bind_expression fs e)
 bind_term fs i (count_rows_syntax w) = checked_map rows_counted (bind_within fs w)
-bind_term fs i (aggregate_syntax a e w) = together (aggregated a) (then_check (argument_of a i) (bind_expression fs e)) (bind_within fs w)
+bind_term fs i (aggregate_syntax a e w) = together (aggregated a) (bind_argument fs i a e) (bind_within fs w)
+
+-- an argument that passes, beside a WITHIN that doesn't
+abbrev pub alone : Checked BoundExpression → Checked (Option BoundWithin) → List BoundExpression
+alone (passes e) (passes w) = []
+alone (passes e) (fails f fs) = e ∷ []
+alone (fails f fs) w = []
+
+-- the argument of an aggregate that fails by its WITHIN alone: its paths are compared all the same
+abbrev pub argument_alone : Fields → ℕ → TermSyntax → List BoundExpression
+argument_alone fs i (expression_syntax e) = []
+argument_alone fs i (count_rows_syntax w) = []
+argument_alone fs i (aggregate_syntax a e w) = alone (bind_argument fs i a e) (bind_within fs w)
+
+abbrev pub arguments_alone : Fields → List ItemSyntax → List BoundExpression
+arguments_alone fs is = flat_map (λ (i : ItemSyntax). argument_alone fs i.place i.term) is
 
 -- the name of the nth item where AS gives none: a path's names, joined by dots; else f<n>_
 abbrev pub own_name : ℕ → TermSyntax → List ℕ
@@ -98,6 +116,7 @@ pub record BoundParts : Type 0 where
   pub is_record_query : Bool
   pub condition : Checked (Option BoundExpression)
   pub items : List (Checked BoundItem)
+  pub arguments : List BoundExpression
   pub keys : List (Checked BoundPath)
 
 -- whether a term may stand in a record query: it is no aggregate, or has WITHIN
@@ -118,6 +137,7 @@ bind_parts fs q = record {
   is_record_query = is_record_syntax q;
   condition = bind_condition fs q.condition;
   items = bind_items fs 0 q.items;
+  arguments = arguments_alone fs q.items;
   keys = map (bind_path fs) q.keys;
 }
 
@@ -150,13 +170,18 @@ abbrev pub paths_of_condition : Option BoundExpression → List BoundPath
 paths_of_condition None = []
 paths_of_condition (Some e) = e.paths
 
--- among the paths of an expression; among the keys followed by the paths of an aggregate's argument
+-- among the keys followed by the paths of an aggregate's argument
+abbrev pub unrelated_behind : Checked (List BoundPath) → BoundExpression → List BindFault
+unrelated_behind keys e = where_passed (λ ks. unrelated_among (ks ++ e.paths)) keys
+
+-- among the paths of an expression; among those of an aggregate's argument, behind the keys
 abbrev pub unrelated_in_term : Checked (List BoundPath) → BoundTerm → List BindFault
 unrelated_in_term keys (plain e) = unrelated_among e.paths
 unrelated_in_term keys (rows_counted w) = []
-unrelated_in_term keys (aggregated a e w) = where_passed (λ ks. unrelated_among (ks ++ e.paths)) keys
+unrelated_in_term keys (aggregated a e w) = unrelated_behind keys e
 
--- whether a node holds the rows of an expression: it is whole, and the longest chain of the expression begins with it
+-- whether a node holds the rows of an expression: it is whole, and the longest chain of the expression begins with it. The expression's paths
+-- are related: one that isn't has a fault before WITHIN
 abbrev pub holds_rows : Expression → BoundWithin → Bool
 holds_rows e w = w.is_whole && begins_with w.node (expression_level e)
 
@@ -192,13 +217,22 @@ grouping_faults keys i = if is_some (group_term keys i.term) then [] else fault_
 
 -- ---- names of one object
 
+-- of two levels the one with more repeated fields, the first where they have as many
+abbrev pub deeper_level : List Step → List Step → List Step
+deeper_level p q = if nat_lt (max_repetition p) (max_repetition q) then q else p
+
+-- the level of the path with the most repeated fields, the first of several such, also where the paths aren't related
+abbrev pub deepest_level : List (List Step) → List Step
+deepest_level [] = []
+deepest_level (p ∷ ps) = deeper_level (level p) (deepest_level ps)
+
 abbrev pub within_level : Option BoundWithin → List Step
 within_level None = []
 within_level (Some w) = level w.node
 
 -- the level of the object in which an item of a record query stands
 abbrev pub item_level : BoundTerm → List Step
-item_level (plain e) = expression_level e.expression
+item_level (plain e) = deepest_level (paths_of e.expression)
 item_level (rows_counted w) = within_level w
 item_level (aggregated a e w) = within_level w
 
@@ -220,23 +254,34 @@ abbrev pub list_name : List Step → Levels → Option (List ℕ)
 list_name p no_levels = None
 list_name p (deeper names q below others) = if begins_with q p then Some (join_with_byte 46 names) else list_name p others
 
--- the name of what an item of this name and level puts into the object at a level: itself, a list that leads to it, or nothing
-abbrev pub entry_name : Levels → List Step → List ℕ → List Step → Option (List ℕ)
-entry_name ls p name q = if same_path p q then Some name else list_name q (next_levels p ls)
+-- the name of the list that leads from the object at a level to an item of another level, if one does
+abbrev pub list_between : Levels → List Step → List Step → Option (List ℕ)
+list_between ls p q = if same_path p q then None else list_name q (next_levels p ls)
 
 abbrev pub is_named : List ℕ → Option (List ℕ) → Bool
 is_named name None = false
 is_named name (Some other) = bytes_eq name other
 
--- whether the item has the name of what an earlier one puts into its object
-abbrev pub clashes_with : Levels → Bool → BoundItem → BoundItem → Bool
-clashes_with ls b i earlier = is_named i.name (entry_name ls (object_of b i) earlier.name (object_of b earlier))
+-- whether two items of one object have one name
+abbrev pub has_name_of : Bool → BoundItem → BoundItem → Bool
+has_name_of b i other = same_path (object_of b i) (object_of b other) && bytes_eq i.name other.name
 
--- the items that clash with one before them
-abbrev pub duplicate_faults : Levels → Bool → List BoundItem → List BoundItem → List BindFault
-duplicate_faults ls b earlier [] = []
-duplicate_faults ls b earlier (i ∷ is) =
-    (if list_any (clashes_with ls b i) earlier then fault_at i.place duplicate_name else []) ++ duplicate_faults ls b (i ∷ earlier) is
+-- whether an item has the name of a list of its object that leads to another item
+abbrev pub has_name_of_list : Levels → Bool → BoundItem → BoundItem → Bool
+has_name_of_list ls b i other = is_named i.name (list_between ls (object_of b i) (object_of b other))
+
+-- an item with the name of an earlier one of its object, or of a list of its object that leads to any item
+abbrev pub name_faults : Levels → Bool → List BoundItem → List BoundItem → BoundItem → List BindFault
+name_faults ls b all earlier i =
+    if list_any (has_name_of b i) earlier || list_any (has_name_of_list ls b i) all then fault_at i.place duplicate_name else []
+
+-- the items whose names their objects have already
+abbrev pub duplicates_behind : Levels → Bool → List BoundItem → List BoundItem → List BoundItem → List BindFault
+duplicates_behind ls b all earlier [] = []
+duplicates_behind ls b all earlier (i ∷ is) = name_faults ls b all earlier i ++ duplicates_behind ls b all (i ∷ earlier) is
+
+abbrev pub duplicate_faults : Levels → Bool → List BoundItem → List BindFault
+duplicate_faults ls b items = duplicates_behind ls b items [] items
 
 -- ---- all faults, and the first
 
@@ -252,6 +297,7 @@ part_faults b = faults_in b.condition ++ flat_map faults_in b.items ++ flat_map 
 abbrev pub unrelated_faults : BoundParts → List BindFault
 unrelated_faults b = where_passed (λ c. unrelated_among (paths_of_condition c)) b.condition
     ++ flat_map (λ (i : BoundItem). unrelated_in_term (all_passed b.keys) i.term) (passing b.items)
+    ++ flat_map (unrelated_behind (all_passed b.keys)) b.arguments
     ++ where_passed unrelated_among (all_passed b.keys)
 
 -- of items by themselves
@@ -262,7 +308,7 @@ item_faults b = flat_map (λ (i : BoundItem). within_faults i.term) (passing b.i
 -- the faults of all rules
 abbrev pub query_faults : Schema → QuerySyntax → BoundParts → List BindFault
 query_faults s q b = table_faults s.name q.table ++ part_faults b ++ unrelated_faults b ++ item_faults b
-    ++ duplicate_faults (levels_of s.fields) b.is_record_query [] (passing b.items)
+    ++ duplicate_faults (levels_of s.fields) b.is_record_query (passing b.items)
 
 -- a problem's place in the order in which problems at one place are told
 abbrev pub rank : BindProblem → ℕ

@@ -1,8 +1,8 @@
 -- A quiet list of failing calls stays quiet.
-use Rattle.std.proofs.Common.{◌≡◌, ℕ, ◌+◌, ◌-◌, ◌^◌, ◌≤◌, ◌==◌, true, false, nat_le, List, [], ◌∷◌, refl, arith, min}
+use Rattle.std.proofs.Common.{◌≡◌, ℕ, ◌+◌, ◌≤◌, ◌==◌, true, false, nat_le, List, [], ◌∷◌, refl, arith}
 use Rattle.std.specs.List.{list_all, list_any}
 use Rattle.std.proofs.lemmas.Grind.{common_steps}
-use Rattle.dr_outside.specs.Failing.{Failing, is_due, is_quiet, after_call}
+use Rattle.dr_outside.specs.Failing.{Failing, is_due, is_quiet}
 
 -- no number of the list is above c, so c + 1 isn't in it
 pub none_listed : (c : ℕ) (xs : List ℕ) → list_all (λ n. nat_le n c) xs ≡ true → list_any (λ n. n == c + 1) xs ≡ false
@@ -17,7 +17,3 @@ all_below c d (x ∷ xs) le h = grind (arith, common_steps, all_below c d xs)
 -- where no further call is listed, the next one doesn't fail
 pub quiet_not_due : (f : Failing) → is_quiet f ≡ true → is_due f ≡ false
 quiet_not_due f h = let none = none_listed f.calls f.listed h in grind (arith, common_steps)
-
--- and none is listed after it
-pub quiet_after_call : (f : Failing) → f.calls ≤ 2 ^ 64 - 1 → is_quiet f ≡ true → is_quiet (after_call f) ≡ true
-quiet_after_call f fits h = let le : f.calls ≤ min (f.calls + 1) (2 ^ 64 - 1) = omega arith in all_below f.calls (min (f.calls + 1) (2 ^ 64 - 1)) f.listed le h

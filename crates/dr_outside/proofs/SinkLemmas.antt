@@ -4,6 +4,7 @@ use Rattle.std.proofs.lemmas.Bool.Decides.{nat_tests}
 use Rattle.std.specs.declared.option.Option.{Option}
 use Rattle.dr_outside.specs.Faults.{raised}
 use Rattle.dr_outside.specs.Sink.{Added}
+use Rattle.dr_outside.proofs.FaultLemmas.{raised_by_one}
 
 pub Added-nil : (a : Option (List ℕ)) → Added a a []
 Added-nil None = tt
@@ -22,4 +23,4 @@ longer_than_none n false h k = grind (arith, nat_tests)
 
 -- a write that took a byte is one write more for one byte or more
 pub calls_after : (start now next n : ℕ) (front rest : List ℕ) → next ≡ raised now → now ≤ start + length front → 0 < n → n ≤ length rest → next ≤ start + length (front ++ take n rest)
-calls_after start now next n front rest e h some fits = omega (arith, length-append front (take n rest), length-take n rest)
+calls_after start now next n front rest e h some fits = omega (arith, raised_by_one now, length-append front (take n rest), length-take n rest)

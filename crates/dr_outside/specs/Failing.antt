@@ -1,5 +1,5 @@
 -- Which calls of a thing in memory are to fail, and how many did.
-use Rattle.std.specs.Prelude.{ℕ, Bool, ◌+◌, ◌-◌, ◌^◌, ◌==◌, ◌&&◌, nat_le, nat_lt, min, List, if◌then◌else◌}
+use Rattle.std.specs.Prelude.{ℕ, Bool, ◌+◌, ◌-◌, ◌^◌, ◌==◌, ◌&&◌, nat_le, nat_lt, List, if◌then◌else◌}
 use Rattle.std.specs.List.{list_all, list_any}
 use Rattle.dr_outside.specs.Faults.{raised}
 
@@ -19,7 +19,7 @@ is_due f = nat_lt f.calls (2 ^ 64 - 1) && list_any (λ n. n == f.calls + 1) f.li
 
 -- one more call was made
 abbrev pub after_call : Failing → Failing
-after_call f = record { listed = f.listed; calls = min (f.calls + 1) (2 ^ 64 - 1); faults = if is_due f then raised f.faults else f.faults }
+after_call f = record { listed = f.listed; calls = raised f.calls; faults = if is_due f then raised f.faults else f.faults }
 
 -- one more fault
 abbrev pub after_fault : Failing → Failing

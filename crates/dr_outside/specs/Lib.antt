@@ -3,7 +3,9 @@ pub mod Cause
 pub mod Source
 pub mod Sink
 pub mod Link
+pub mod Telling
 pub mod Failing
 pub mod Memory
+pub mod Puts
 pub mod Shelf
 pub mod MemLink

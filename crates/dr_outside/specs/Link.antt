@@ -1,4 +1,4 @@
--- What a link shows: what it holds, and what it was asked for.
+-- What a link shows: what it holds, what it was asked for, and what was put.
 use Rattle.std.specs.Prelude.{◌≡◌, ◌≢◌, ◌<◌, ◌≤◌, ◌+◌, ℕ, Bool, List, [], ◌∷◌, ◌++◌, length, take, drop, None, Some, ⊤, IsSome}
 use Rattle.std.specs.Option.{option_map}
 use Rattle.std.specs.declared.option.Option.{Option}
@@ -20,12 +20,19 @@ pub data Request : Type 0 where
   -- the bytes of a range
   bytes_of : Range → Request
 
+-- a put, as it is told: the path and the bytes
+pub record PutShown : Type 0 where
+  pub path : List ℕ
+  pub bytes : List ℕ
+
 -- what a link shows at one moment
 pub record LinkShown : Type 0 where
   -- the bytes at each path that is held, or none where it doesn't tell
   pub held : Option Files
   -- what it was asked for, given or refused, in order, or none where it doesn't tell
   pub asked : Option (List Request)
+  -- the puts that a keeper was asked for, given or refused, in order, or none where it doesn't tell
+  pub puts : Option (List PutShown)
   -- how many faults there were, at most 2^64 - 1
   pub faults : ℕ
   -- from here on only a path that isn't held, or a range past its end, fails
@@ -83,6 +90,14 @@ unknown = None
 -- what was asked for, with one request more
 abbrev pub with_request : Option (List Request) → Request → Option (List Request)
 with_request asked request = option_map (λ requests. requests ++ request ∷ []) asked
+
+-- of a link that is no keeper: nothing was put
+abbrev pub no_puts : Option (List PutShown)
+no_puts = Some []
+
+-- the puts, with one more
+abbrev pub with_put : Option (List PutShown) → PutShown → Option (List PutShown)
+with_put puts put = option_map (λ before. before ++ put ∷ []) puts
 
 -- the path now has these bytes; nothing is said where the keeper didn't tell before
 abbrev pub HasFile : Option Files → Option Files → List ℕ → List ℕ → Type 0

@@ -24,6 +24,6 @@ pub use link::Link;
 pub use mem_link::{Asked, MemLink};
 pub use mem_sink::MemSink;
 pub use mem_source::MemSource;
-pub use shelf::Shelf;
+pub use shelf::{Put, Shelf};
 pub use sink::{Sink, write_all};
 pub use source::Source;

@@ -6,7 +6,7 @@ use crate::Fault;
 
 /// Files that are read by ranges.
 pub trait Link {
-    /// What it shows: the files that it holds and what it was asked for, where it tells them, and its count of faults.
+    /// What it shows: the files that it holds, what it was asked for and what was put, where it tells them, and its count of faults.
     ghost shows: { Self → LinkShown };
 
     /// The number of bytes at a path.
@@ -16,6 +16,7 @@ pub trait Link {
         ensures steady { IsTrue (shows self.old).is_steady → Holds (shows self.old).held path.now → result ≢ Err Fault.Failed }
 
         ensures same { (shows self.new).held ≡ (shows self.old).held }
+        ensures puts { (shows self.new).puts ≡ (shows self.old).puts }
         ensures asked { result ≢ Err Fault.NoMemory → (shows self.new).asked ≡ with_request (shows self.old).asked (size_of path.now) }
         ensures not_asked { result ≡ Err Fault.NoMemory → (shows self.new).asked ≡ (shows self.old).asked }
         ensures cause { result ≡ Err Fault.Failed → (shows self.new).faults ≡ raised (shows self.old).faults }
@@ -30,6 +31,7 @@ pub trait Link {
         ensures steady { IsTrue (shows self.old).is_steady → HasRange (shows self.old).held (record { path = path.now; start = at; len = length buf.old }) → result ≢ Err Fault.Failed }
 
         ensures same { (shows self.new).held ≡ (shows self.old).held }
+        ensures puts { (shows self.new).puts ≡ (shows self.old).puts }
         ensures asked { result ≢ Err Fault.NoMemory → (shows self.new).asked ≡ with_request (shows self.old).asked (bytes_of (record { path = path.now; start = at; len = length buf.old })) }
         ensures not_asked { result ≡ Err Fault.NoMemory → (shows self.new).asked ≡ (shows self.old).asked }
         ensures cause { result ≡ Err Fault.Failed → (shows self.new).faults ≡ raised (shows self.old).faults }

@@ -84,11 +84,11 @@ impl Link for MemLink<'_> {
     ghost use Rattle.std.specs.Prelude.{◌≢◌, ◌≤◌, ℕ, List, Bool, true, false, Some, None, length, IsTrue, IfOk, OnOk, Err};
     ghost use Rattle.dr_outside.specs.Failing.{is_due, is_quiet};
     ghost use Rattle.dr_outside.specs.Faults.{raised};
-    ghost use Rattle.dr_outside.specs.Link.{Holds, Lacks, HasRange, LacksRange, HasSize, HasBytes, size_of, bytes_of, with_request};
+    ghost use Rattle.dr_outside.specs.Link.{Holds, Lacks, HasRange, LacksRange, HasSize, HasBytes, size_of, bytes_of, with_request, no_puts};
     ghost use Rattle.dr_outside.specs.Shelf.{files_of};
     ghost use Rattle.dr_outside.specs.MemLink.{requests_of, shelf_of, link_failing};
 
-    ghost shows = { λ l. record { held = Some (files_of (shelf_of l)); asked = Some (requests_of l); faults = (link_failing l).faults; is_steady = is_quiet (link_failing l) } };
+    ghost shows = { λ l. record { held = Some (files_of (shelf_of l)); asked = Some (requests_of l); puts = no_puts; faults = (link_failing l).faults; is_steady = is_quiet (link_failing l) } };
 
     /// Fails exactly at the listed calls and where the path isn't held.
     fn size(&mut self, path: &str) -> Result<u64, Fault>
@@ -96,6 +96,7 @@ impl Link for MemLink<'_> {
         ensures absent { Lacks (Some (files_of (shelf_of self.old))) path.now → result ≢ Err Fault.NoMemory → result ≡ Err Fault.Failed }
         ensures steady { IsTrue (is_quiet (link_failing self.old)) → Holds (Some (files_of (shelf_of self.old))) path.now → result ≢ Err Fault.Failed }
         ensures same { (Some (files_of (shelf_of self.new))) ≡ (Some (files_of (shelf_of self.old))) }
+        ensures puts { no_puts ≡ no_puts }
         ensures asked { result ≢ Err Fault.NoMemory → (Some (requests_of self.new)) ≡ with_request (Some (requests_of self.old)) (size_of path.now) }
         ensures not_asked { result ≡ Err Fault.NoMemory → (Some (requests_of self.new)) ≡ (Some (requests_of self.old)) }
         ensures cause { result ≡ Err Fault.Failed → (link_failing self.new).faults ≡ raised (link_failing self.old).faults }
@@ -128,6 +129,7 @@ impl Link for MemLink<'_> {
         ensures absent { LacksRange (Some (files_of (shelf_of self.old))) (record { path = path.now; start = at; len = length buf.old }) → result ≢ Err Fault.NoMemory → result ≡ Err Fault.Failed }
         ensures steady { IsTrue (is_quiet (link_failing self.old)) → HasRange (Some (files_of (shelf_of self.old))) (record { path = path.now; start = at; len = length buf.old }) → result ≢ Err Fault.Failed }
         ensures same { (Some (files_of (shelf_of self.new))) ≡ (Some (files_of (shelf_of self.old))) }
+        ensures puts { no_puts ≡ no_puts }
         ensures asked { result ≢ Err Fault.NoMemory → (Some (requests_of self.new)) ≡ with_request (Some (requests_of self.old)) (bytes_of (record { path = path.now; start = at; len = length buf.old })) }
         ensures not_asked { result ≡ Err Fault.NoMemory → (Some (requests_of self.new)) ≡ (Some (requests_of self.old)) }
         ensures cause { result ≡ Err Fault.Failed → (link_failing self.new).faults ≡ raised (link_failing self.old).faults }

@@ -26,8 +26,7 @@ pub(crate) fn read_indices(bytes: &[u8], count: usize, out: &mut Vec<u32>) -> Re
     }
 }
 
-/// Puts the values of a width of at most 32 bits with which bytes begin into the place of others, as many as are wanted. Room is taken
-/// run by run, as the bytes spell them.
+/// Puts the values of a width of at most 32 bits with which bytes begin into the place of others, as many as are wanted.
 fn read_runs(bytes: &[u8], width: u32, count: usize, out: &mut Vec<u32>) -> Result<(), PageFault>
     requires { width ≤ 32 }
     ensures { Reads (hybrid width count bytes.now) (out.new).items result }

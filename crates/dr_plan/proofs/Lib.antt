@@ -4,3 +4,4 @@ pub mod WorkedPlans
 pub mod ConjunctLemmas
 pub mod ObjectLemmas
 pub mod CuttingLemmas
+pub mod RejoiningLemmas

@@ -6,6 +6,7 @@ use Rattle.dr_meaning.specs.Record.{bool_value, int_value, text_value}
 use Rattle.dr_meaning.specs.Expression as meant
 use Rattle.dr_meaning.specs.Query as query
 use Rattle.dr_nested.specs.PathView.{step_view}
+use Rattle.dr_plan.specs.Conjuncts as cut
 use Rattle.dr_plan.specs.declared.expression.Comparison.{Comparison}
 use Rattle.dr_plan.specs.declared.expression.Number.{Number, fold-Number}
 use Rattle.dr_plan.specs.declared.expression.Number.TheOpen.{Number-F}
@@ -14,6 +15,8 @@ use Rattle.dr_plan.specs.declared.expression.TextOf.TheOpen.{TextOf-F}
 use Rattle.dr_plan.specs.declared.expression.Truth.{Truth, fold-Truth}
 use Rattle.dr_plan.specs.declared.expression.Truth.TheOpen.{Truth-F}
 use Rattle.dr_plan.specs.declared.expression.Expr.{Expr}
+use Rattle.dr_plan.specs.declared.joining.Joining.{Joining, fold-Joining}
+use Rattle.dr_plan.specs.declared.joining.Joining.TheOpen.{Joining-F}
 use Rattle.dr_plan.specs.declared.aggregate.Fold.{Fold}
 use Rattle.dr_plan.specs.declared.aggregate.Aggregate.{Aggregate}
 use Rattle.dr_plan.specs.declared.plan.RecordTerm.{RecordTerm}
@@ -81,6 +84,15 @@ abbrev pub expr_view : List Leaf → Expr → meant.Expression
 expr_view ls (Expr.Truth a) = truth_view ls a
 expr_view ls (Expr.Number a) = number_view ls a
 expr_view ls (Expr.Text a) = text_view ls a
+
+-- ---- how a condition was written
+
+abbrev pub joining_step : Joining-F cut.Joining → cut.Joining
+joining_step (Joining-F.Conjunct n) = cut.by_number n
+joining_step (Joining-F.And a b) = cut.by_and a.value b.value
+
+abbrev pub joining_view : Joining → cut.Joining
+joining_view = fold-Joining cut.Joining joining_step
 
 -- ---- selections
 

@@ -5,12 +5,14 @@ mod aggregate;
 mod building;
 mod condition;
 mod expression;
+mod joining;
 pub mod laws;
 mod objects;
 mod plan;
 
 pub use aggregate::{Aggregate, Fold, Within};
-pub use condition::conjuncts;
+pub use condition::{CutCondition, conjuncts};
 pub use expression::{Comparison, Expr, Number, TextOf, Truth};
+pub use joining::Joining;
 pub use objects::{ListPlan, ObjectPlan};
 pub use plan::{GroupItem, GroupTerm, Plan, RecordItem, RecordTerm, Selection};

@@ -7,6 +7,7 @@ ghost use Rattle.dr_plan.specs.Fitting.{selection_fits, truth_fits};
 
 use crate::aggregate::{Aggregate, Within};
 use crate::expression::{Expr, Truth};
+use crate::joining::Joining;
 use crate::objects::ObjectPlan;
 use dr_nested::Path;
 
@@ -55,6 +56,8 @@ pub struct Plan {
     pub leaves: Vec<Path>,
     /// The condition, as expressions all of which must be true. Without a condition there is none.
     pub test: Vec<Truth>,
+    /// How the condition joins them, as it was written.
+    pub joining: Option<Joining>,
     pub selection: Selection,
     pub ghost tested: { list_all (truth_fits (map path_view leaves.items)) test.items ≡ true },
     pub ghost selected: { selection_fits (map path_view leaves.items) selection ≡ true },

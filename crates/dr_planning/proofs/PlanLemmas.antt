@@ -25,10 +25,10 @@ use Rattle.dr_plan.specs.Planned.{Planned, planned, objects_of_plan, objects_of_
 use Rattle.dr_plan.specs.declared.expression.Expr.{Expr}
 use Rattle.dr_plan.specs.declared.aggregate.Fold.{Fold}
 use Rattle.dr_plan.specs.declared.plan.Selection.{Selection}
-use Rattle.dr_objects.specs.NamedLevels.{NamedLevels, joined}
-use Rattle.dr_chains.specs.declared.bound.BoundPath.{BoundPath}
-use Rattle.dr_chains.specs.Views.{bound_path_view, paths_at}
-use Rattle.dr_used.proofs.UsedLemmas.{number_of_used}
+use Rattle.dr_planning.specs.NamedLevels.{NamedLevels, joined}
+use Rattle.dr_paths.specs.declared.bound.BoundPath.{BoundPath}
+use Rattle.dr_paths.specs.Views.{bound_path_view, paths_at}
+use Rattle.dr_paths.proofs.UsedLemmas.{number_of_used}
 use Rattle.dr_bound_parts.specs.declared.parts.BoundExpression.{BoundExpression}
 use Rattle.dr_bound_parts.specs.declared.parts.BoundCondition.{BoundCondition}
 use Rattle.dr_bound_parts.specs.declared.parts.BoundTerm.{BoundTerm}
@@ -38,13 +38,13 @@ use Rattle.dr_bound_parts.specs.Bound.{Covers, AreReal, type_of, IsExpression}
 use Rattle.dr_bound_parts.specs.Items.{within_view, IsTerm, AreItems}
 use Rattle.dr_bound_parts.specs.Parts.{IsCheckedCondition, AreParts}
 use Rattle.dr_planning.specs.Planning.{condition_paths, record_paths, group_paths, record_item_paths, group_item_paths, selection_paths, parts_paths}
-use Rattle.dr_planning.specs.Planning.{condition_conjuncts}
+use Rattle.dr_planning.specs.Planning.{condition_conjuncts, condition_joining}
 use Rattle.dr_planning.specs.Planning.{Selects}
 use Rattle.dr_planning.specs.Planning.{sums_numbers, CanBePlanned, SumsNumbers, AllSumNumbers}
 use Rattle.dr_bound_parts.proofs.BoundLemmas.{real_joined}
 use Rattle.dr_planning.proofs.PlanPathLemmas.{term_cases, chosen, parts_used}
 use Rattle.dr_planning.proofs.PlanStepLemmas.{both}
-use Rattle.dr_planning.proofs.PlanSelectionLemmas.{cut_covers, condition_seen, all_summed, selection_seen, objects_seen}
+use Rattle.dr_planning.proofs.PlanSelectionLemmas.{cut_covers, condition_seen, joining_seen, all_summed, selection_seen, objects_seen}
 
 -- ---- the plan
 
@@ -52,23 +52,25 @@ pub both_covered : (ls : List Leaf) (p : BoundParts) → Covers ls (map bound_pa
     → Covers ls (map bound_path_view (condition_paths p.condition)) × Covers ls (map bound_path_view (selection_paths p.is_record_query p.keys.items p.items.items))
 both_covered ls p h = cut_covers ls (condition_paths p.condition) (selection_paths p.is_record_query p.keys.items p.items.items) h
 
-abbrev pub plan_parts : List Leaf → List Expression → query.Selection → Option ObjectTree → Planned
-plan_parts ls tests s o = record { leaves = ls; conjuncts = tests; selection = s; objects = o }
+abbrev pub plan_parts : List Leaf → List Expression → Option cut.Joining → query.Selection → Option ObjectTree → Planned
+plan_parts ls tests j s o = record { leaves = ls; conjuncts = tests; joining = j; selection = s; objects = o }
 
 -- the plan of parts is that of their query
-pub plan_seen : (fs : Fields) (levels : NamedLevels) (ls : List Leaf) (b : binding.BoundParts) (p : BoundParts) (tests : List Expression) (s : Selection) → AreParts fs ls b p → Covers ls (map bound_path_view (parts_paths p))
-    → levels ≡ joined (query.levels_of fs) → ls ≡ query_leaves fs (query_of b) → tests ≡ condition_conjuncts ls p.condition → Selects p.is_record_query levels ls p.keys.items p.items.items s
-    → plan_parts ls tests (selection_view ls s) (objects_of_plan s) ≡ planned fs (query_of b)
-plan_seen fs levels ls b p tests s h k e l t w =
+pub plan_seen : (fs : Fields) (levels : NamedLevels) (ls : List Leaf) (b : binding.BoundParts) (p : BoundParts) (tests : List Expression) (j : Option cut.Joining) (s : Selection) → AreParts fs ls b p → Covers ls (map bound_path_view (parts_paths p))
+    → levels ≡ joined (query.levels_of fs) → ls ≡ query_leaves fs (query_of b) → tests ≡ condition_conjuncts ls p.condition → j ≡ condition_joining ls p.condition → Selects p.is_record_query levels ls p.keys.items p.items.items s
+    → plan_parts ls tests j (selection_view ls s) (objects_of_plan s) ≡ planned fs (query_of b)
+plan_seen fs levels ls b p tests j s h k e l t m w =
     let c = both_covered ls p k in
     let same : chosen p.is_record_query (map bound_path_view p.keys.items) (passing b.items) ≡ binding.selection_of b =
     ap₂ (λ (r : Bool) (ks : List meant.BoundPath). chosen r ks (passing b.items)) h.record_query h.keys in
     let tested : tests ≡ cut.condition_conjuncts (binding.condition_of b.condition) = t ∙ condition_seen fs ls b.condition p.condition h.condition c.0 in
+    let joined_so : j ≡ cut.condition_joining (binding.condition_of b.condition) = m ∙ joining_seen fs ls b.condition p.condition h.condition c.0 in
     let selected : selection_view ls s ≡ binding.selection_of b = selection_seen fs levels ls p.is_record_query p.keys.items (passing b.items) p.items.items s h.items c.1 w ∙ same in
     let shown : objects_of_plan s ≡ objects_of_query fs (binding.selection_of b) =
     objects_seen fs levels ls p.is_record_query p.keys.items (passing b.items) p.items.items s h.items e w ∙ ap (objects_of_query fs) same in
-    ap₂ (λ (v : List Leaf) (x : List Expression). plan_parts v x (selection_view ls s) (objects_of_plan s)) l tested
-    ∙ ap₂ (λ (y : query.Selection) (z : Option ObjectTree). plan_parts (query_leaves fs (query_of b)) (cut.condition_conjuncts (binding.condition_of b.condition)) y z) selected shown
+    ap₂ (λ (v : List Leaf) (x : List Expression). plan_parts v x j (selection_view ls s) (objects_of_plan s)) l tested
+    ∙ (ap (λ (i : Option cut.Joining). plan_parts (query_leaves fs (query_of b)) (cut.condition_conjuncts (binding.condition_of b.condition)) i (selection_view ls s) (objects_of_plan s)) joined_so
+    ∙ ap₂ (λ (y : query.Selection) (z : Option ObjectTree). plan_parts (query_leaves fs (query_of b)) (cut.condition_conjuncts (binding.condition_of b.condition)) (cut.condition_joining (binding.condition_of b.condition)) y z) selected shown)
 
 -- ---- leaves of a query cover the paths that it uses
 

@@ -16,8 +16,8 @@ use Rattle.dr_meaning.specs.MeaningLaws as laws
 use Rattle.dr_meaning.specs.QueryLeaves.{value_paths, selection_values, used_paths}
 use Rattle.dr_plan.specs.Views.{fold_view}
 use Rattle.dr_plan.specs.declared.aggregate.Fold.{Fold}
-use Rattle.dr_chains.specs.declared.bound.BoundPath.{BoundPath}
-use Rattle.dr_chains.specs.Views.{bound_path_view, paths_at}
+use Rattle.dr_paths.specs.declared.bound.BoundPath.{BoundPath}
+use Rattle.dr_paths.specs.Views.{bound_path_view, paths_at}
 use Rattle.dr_bound_parts.specs.declared.parts.BoundExpression.{BoundExpression}
 use Rattle.dr_bound_parts.specs.declared.parts.BoundCondition.{BoundCondition}
 use Rattle.dr_bound_parts.specs.declared.parts.BoundWithin.{BoundWithin}

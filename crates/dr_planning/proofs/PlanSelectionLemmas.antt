@@ -22,9 +22,9 @@ use Rattle.dr_plan.specs.declared.plan.RecordTerm.{RecordTerm}
 use Rattle.dr_plan.specs.declared.plan.RecordItem.{RecordItem}
 use Rattle.dr_plan.specs.declared.plan.GroupItem.{GroupItem}
 use Rattle.dr_plan.specs.declared.plan.Selection.{Selection}
-use Rattle.dr_objects.specs.NamedLevels.{NamedLevels, joined}
-use Rattle.dr_chains.specs.declared.bound.BoundPath.{BoundPath}
-use Rattle.dr_chains.specs.Views.{bound_path_view, paths_at}
+use Rattle.dr_planning.specs.NamedLevels.{NamedLevels, joined}
+use Rattle.dr_paths.specs.declared.bound.BoundPath.{BoundPath}
+use Rattle.dr_paths.specs.Views.{bound_path_view, paths_at}
 use Rattle.dr_bound_parts.specs.declared.parts.BoundExpression.{BoundExpression}
 use Rattle.dr_bound_parts.specs.declared.parts.BoundCondition.{BoundCondition}
 use Rattle.dr_bound_parts.specs.declared.parts.BoundTerm.{BoundTerm}
@@ -34,7 +34,7 @@ use Rattle.dr_bound_parts.specs.Bound.{Covers, is_path_value, Means, IsExpressio
 use Rattle.dr_bound_parts.specs.Items.{IsTerm, AreItems}
 use Rattle.dr_bound_parts.specs.Parts.{IsCheckedCondition}
 use Rattle.dr_planning.specs.Planning.{condition_paths, record_paths, group_paths, record_item_paths, group_item_paths, selection_paths, steps_at}
-use Rattle.dr_planning.specs.Planning.{condition_conjuncts, condition_fits, record_term_of, record_item_of, record_level, record_levels}
+use Rattle.dr_planning.specs.Planning.{condition_conjuncts, condition_joining, condition_fits, record_term_of, record_item_of, record_level, record_levels}
 use Rattle.dr_planning.specs.Planning.{place_of_first, key_number, grouped_of, with_aggregate, aggregates_of, with_group_item, group_items_of, Selects}
 use Rattle.dr_planning.specs.Planning.{sums_numbers}
 use Rattle.dr_bound_parts.proofs.BoundLemmas.{covers_parts}
@@ -60,6 +60,16 @@ condition_seen fs ls (passes (Some b)) (Some None) h k = absurd h
 condition_seen fs ls (passes (Some b)) (Some (Some c)) h k = ap cut.conjuncts (h.view (subst (λ (ps : List meant.BoundPath). Covers ls ps) h.paths k))
 condition_seen fs ls (fails e es) None h k = refl
 condition_seen fs ls (fails e es) (Some c) h k = absurd h
+
+pub joining_seen : (fs : Fields) (ls : List Leaf) (b : Checked (Option meant.BoundExpression)) (c : Option (Option BoundCondition)) → IsCheckedCondition fs ls b c → Covers ls (map bound_path_view (condition_paths c))
+    → condition_joining ls c ≡ cut.condition_joining (binding.condition_of b)
+joining_seen fs ls (passes b) None h k = absurd h
+joining_seen fs ls (passes None) (Some None) h k = refl
+joining_seen fs ls (passes None) (Some (Some c)) h k = absurd h
+joining_seen fs ls (passes (Some b)) (Some None) h k = absurd h
+joining_seen fs ls (passes (Some b)) (Some (Some c)) h k = ap (λ (e : Expression). Some (cut.joining_from 0 e)) (h.view (subst (λ (ps : List meant.BoundPath). Covers ls ps) h.paths k))
+joining_seen fs ls (fails e es) None h k = refl
+joining_seen fs ls (fails e es) (Some c) h k = absurd h
 
 pub condition_right : (fs : Fields) (ls : List Leaf) (b : Checked (Option meant.BoundExpression)) (c : Option (Option BoundCondition)) → IsCheckedCondition fs ls b c → Covers ls (map bound_path_view (condition_paths c))
     → condition_fits ls c ≡ true

@@ -16,9 +16,9 @@ use Rattle.dr_plan.specs.declared.aggregate.Aggregate.{Aggregate}
 use Rattle.dr_plan.specs.declared.plan.RecordItem.{RecordItem}
 use Rattle.dr_plan.specs.declared.plan.GroupTerm.{GroupTerm}
 use Rattle.dr_plan.specs.declared.plan.GroupItem.{GroupItem}
-use Rattle.dr_chains.specs.declared.bound.BoundPath.{BoundPath}
-use Rattle.dr_chains.specs.Views.{bound_path_view}
-use Rattle.dr_used.specs.Numbers.{number_among}
+use Rattle.dr_paths.specs.declared.bound.BoundPath.{BoundPath}
+use Rattle.dr_paths.specs.Views.{bound_path_view}
+use Rattle.dr_paths.specs.Numbers.{number_among}
 use Rattle.dr_bound_parts.specs.declared.parts.BoundItem.{BoundItem}
 use Rattle.dr_planning.specs.declared.groups.Grouped.{Grouped}
 use Rattle.dr_bound_parts.specs.Bound.{IsAmong}

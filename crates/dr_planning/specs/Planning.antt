@@ -9,7 +9,7 @@ use Rattle.dr_meaning.specs.BoundExpression as meant
 use Rattle.dr_meaning.specs.Binding as binding
 use Rattle.dr_meaning.specs.Query as query
 use Rattle.dr_nested.specs.PathView.{step_view}
-use Rattle.dr_plan.specs.Conjuncts.{conjuncts}
+use Rattle.dr_plan.specs.Conjuncts.{conjuncts, Joining, joining_from}
 use Rattle.dr_plan.specs.Objects.{object_view, object_tree_of}
 use Rattle.dr_plan.specs.Views.{truth_view, path_of}
 use Rattle.dr_plan.specs.Fitting.{truth_fits, is_summed}
@@ -20,9 +20,9 @@ use Rattle.dr_plan.specs.declared.plan.RecordItem.{RecordItem}
 use Rattle.dr_plan.specs.declared.plan.GroupTerm.{GroupTerm}
 use Rattle.dr_plan.specs.declared.plan.GroupItem.{GroupItem}
 use Rattle.dr_plan.specs.declared.plan.Selection.{Selection}
-use Rattle.dr_objects.specs.NamedLevels.{NamedLevels, joined}
-use Rattle.dr_chains.specs.declared.bound.BoundPath.{BoundPath}
-use Rattle.dr_chains.specs.Views.{bound_path_view, paths_at}
+use Rattle.dr_planning.specs.NamedLevels.{NamedLevels, joined}
+use Rattle.dr_paths.specs.declared.bound.BoundPath.{BoundPath}
+use Rattle.dr_paths.specs.Views.{bound_path_view, paths_at}
 use Rattle.dr_bound_parts.specs.declared.parts.BoundExpression.{BoundExpression}
 use Rattle.dr_bound_parts.specs.declared.parts.BoundCondition.{BoundCondition}
 use Rattle.dr_bound_parts.specs.declared.parts.BoundTerm.{BoundTerm}
@@ -77,6 +77,12 @@ abbrev pub condition_conjuncts : List Leaf → Option (Option BoundCondition) �
 condition_conjuncts ls None = []
 condition_conjuncts ls (Some None) = []
 condition_conjuncts ls (Some (Some c)) = conjuncts (truth_view ls c.truth)
+
+-- how the condition joins them
+abbrev pub condition_joining : List Leaf → Option (Option BoundCondition) → Option Joining
+condition_joining ls None = None
+condition_joining ls (Some None) = None
+condition_joining ls (Some (Some c)) = Some (joining_from 0 (truth_view ls c.truth))
 
 abbrev pub condition_fits : List Leaf → Option (Option BoundCondition) → Bool
 condition_fits ls None = true

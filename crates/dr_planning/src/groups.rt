@@ -2,13 +2,13 @@
 
 ghost use Rattle.std.specs.Prelude.{◌≡◌, ◌++◌, [], map, length, IfOk, OnOk};
 ghost use Rattle.dr_nested.specs.PathView.{path_view};
-ghost use Rattle.dr_chains.specs.Views.{bound_path_view};
+ghost use Rattle.dr_paths.specs.Views.{bound_path_view};
 ghost use Rattle.dr_planning.specs.Planning as plan;
 
 use dr_bound_parts::{BoundExpression, BoundItem, BoundTerm, leaf_number, place_among};
-use dr_chains::BoundPath;
 use dr_memory::NoMemory;
 use dr_nested::Path;
+use dr_paths::BoundPath;
 use dr_plan::{Aggregate, GroupItem, GroupTerm, Selection};
 use std::alloc::Global;
 

@@ -1,6 +1,6 @@
 //! The plan of parts that are bound.
 
-ghost use Rattle.std.specs.Prelude.{◌≡◌, true, List, map, IfOk};
+ghost use Rattle.std.specs.Prelude.{◌≡◌, true, [], None, List, map, option_map, IfOk};
 ghost use Rattle.std.specs.List.{list_all};
 ghost use Rattle.dr_meaning.specs.Schema.{Fields};
 ghost use Rattle.dr_meaning.specs.Path as path_meaning;
@@ -8,35 +8,47 @@ ghost use Rattle.dr_meaning.specs.Query as query;
 ghost use Rattle.dr_meaning.specs.QueryLeaves as used;
 ghost use Rattle.dr_meaning.specs.Binding as binding;
 ghost use Rattle.dr_nested.specs.PathView.{path_view};
-ghost use Rattle.dr_plan.specs.Views.{truth_view};
+ghost use Rattle.dr_plan.specs.Views.{joining_view, truth_view};
 ghost use Rattle.dr_plan.specs.Fitting.{truth_fits};
 ghost use Rattle.dr_plan.specs.Planned.{plan_view, planned};
-ghost use Rattle.dr_objects.specs.NamedLevels.{joined, levels_view};
+ghost use Rattle.dr_planning.specs.NamedLevels.{joined, levels_view};
 ghost use Rattle.dr_bound_parts.specs.Parts.{AreParts};
 ghost use Rattle.dr_planning.specs.Planning as plan;
 
 use crate::groups::selected_groups;
+use crate::level::Level;
 use crate::records::selected_objects;
 use dr_bound_parts::{BoundCondition, BoundItem, BoundParts};
-use dr_chains::BoundPath;
 use dr_memory::NoMemory;
 use dr_nested::Path;
-use dr_objects::Level;
-use dr_plan::{Plan, Selection, Truth, conjuncts};
+use dr_paths::BoundPath;
+use dr_plan::{CutCondition, Plan, Selection, conjuncts};
 use std::alloc::Global;
 
-/// The conjuncts of the condition.
-fn tests_of(
+/// Of a query without a condition.
+fn without_condition(alloc: Global) -> CutCondition
+    ensures test { result.test.items ≡ [] }
+    ensures joining { result.joining ≡ None }
+{
+    CutCondition {
+        test: Vec::new(alloc),
+        joining: None,
+    }
+}
+
+/// The condition, cut at its top.
+fn cut_condition(
     alloc: Global,
     condition: Option<Option<BoundCondition>>,
-) -> Result<Vec<Truth>, NoMemory>
-    ensures view { IfOk result (λ v. (ls : List path_meaning.Leaf) → map (truth_view ls) v.items ≡ plan.condition_conjuncts ls condition) }
-    ensures fits { IfOk result (λ v. (ls : List path_meaning.Leaf) → plan.condition_fits ls condition ≡ true → list_all (truth_fits ls) v.items ≡ true) }
+) -> Result<CutCondition, NoMemory>
+    ensures view { IfOk result (λ c. (ls : List path_meaning.Leaf) → map (truth_view ls) c.test.items ≡ plan.condition_conjuncts ls condition) }
+    ensures fits { IfOk result (λ c. (ls : List path_meaning.Leaf) → plan.condition_fits ls condition ≡ true → list_all (truth_fits ls) c.test.items ≡ true) }
+    ensures joining { IfOk result (λ c. (ls : List path_meaning.Leaf) → option_map joining_view c.joining ≡ plan.condition_joining ls condition) }
 {
     match condition {
-        None => Ok(Vec::new(alloc)),
+        None => Ok(without_condition(alloc)),
         Some(passed) => match passed {
-            None => Ok(Vec::new(alloc)),
+            None => Ok(without_condition(alloc)),
             Some(condition) => conjuncts(alloc, condition.truth),
         },
     }
@@ -83,10 +95,11 @@ pub fn plan_of(
         keys.as_slice(),
         parts.items,
     )?;
-    let test = tests_of(alloc, parts.condition)?;
+    let condition = cut_condition(alloc, parts.condition)?;
     Ok(Plan {
         leaves,
-        test,
+        test: condition.test,
+        joining: condition.joining,
         selection,
     })
 }

@@ -3,14 +3,15 @@
 ghost use Rattle.std.specs.Prelude.{◌≡◌, map, IfOk, option_map};
 ghost use Rattle.std.specs.List.{filter_map};
 ghost use Rattle.dr_nested.specs.PathView.{lent_path};
-ghost use Rattle.dr_objects.specs.NamedLevels.{levels_view};
+ghost use Rattle.dr_planning.specs.NamedLevels.{levels_view};
 ghost use Rattle.dr_planning.specs.Planning as plan;
 
+use crate::level::Level;
+use crate::objects::object_plan;
 use dr_bound_parts::{BoundItem, BoundTerm};
-use dr_chains::{level, longest_level};
 use dr_memory::NoMemory;
 use dr_nested::Step;
-use dr_objects::{Level, object_plan};
+use dr_paths::{level, longest_level};
 use dr_plan::{ObjectPlan, RecordItem, RecordTerm, Selection, Within};
 use std::alloc::Global;
 

@@ -10,9 +10,9 @@ ghost use Rattle.dr_bound_parts.specs.Parts.{AreParts};
 ghost use Rattle.dr_planning.specs.Planning as plan;
 
 use dr_bound_parts::{BoundCondition, BoundItem, BoundParts, BoundTerm};
-use dr_chains::BoundPath;
 use dr_memory::NoMemory;
 use dr_nested::Step;
+use dr_paths::BoundPath;
 use std::alloc::Global;
 
 /// The paths of the condition.

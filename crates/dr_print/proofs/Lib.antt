@@ -3,3 +3,5 @@ pub mod PrintLemmas
 pub mod AutomatonLemmas
 -- the line of a record, member by member
 pub mod MemberLemmas
+-- texts that grow part by part
+pub mod PartLemmas

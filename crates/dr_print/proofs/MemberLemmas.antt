@@ -13,7 +13,9 @@ use Rattle.dr_nested.specs.declared.record.Instance as instances
 use Rattle.dr_nested.specs.declared.record.Slot as slots
 use Rattle.dr_nested.specs.Views.{SeenField, rep_view, shape_view, field_view, fields_view, instance_view, instances_view, slots_view}
 use Rattle.dr_nested.proofs.ViewLemmas.{view-field}
-use Rattle.dr_print.specs.Members.{separated, has_parts, first_part, held_text, texts_in, members_in}
+use Rattle.dr_print.specs.Parts.{separated}
+use Rattle.dr_print.proofs.PartLemmas.{separated-all}
+use Rattle.dr_print.specs.Members.{has_parts, first_part, held_text, texts_in, members_in}
 
 -- ---- texts that grow
 
@@ -23,14 +25,6 @@ closed (Ok done) new mid s whole h e = h ∙ e
 closed (Err f) new mid s whole h e = tt
 
 -- ---- parts
-
-commas : (p : List ℕ) (ps : List (List ℕ)) → join_with_byte 44 (p ∷ ps) ≡ p ++ separated true ps
-commas p [] = sym (append-nil p)
-commas p (q ∷ ps) = ap (λ (t : List ℕ). p ++ 44 ∷ t) (commas q ps)
-
-separated-all : (ps : List (List ℕ)) → separated false ps ≡ join_with_byte 44 ps
-separated-all [] = refl
-separated-all (p ∷ ps) = sym (commas p ps)
 
 between : (a z : ℕ) (old j : List ℕ) → ((old ++ a ∷ []) ++ j) ++ z ∷ [] ≡ old ++ (a ∷ (j ++ z ∷ []))
 between a z old j = simp append_assoc

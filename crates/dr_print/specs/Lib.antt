@@ -2,3 +2,5 @@
 pub mod Transitions
 -- the members of a record's line
 pub mod Members
+-- the parts of a text
+pub mod Parts

@@ -1,19 +1,9 @@
 -- Members of an object, put one behind another.
-use Rattle.std.specs.Prelude.{ℕ, List, [], ◌∷◌, ◌++◌, Bool, true, false, Option, Some, None}
+use Rattle.std.specs.Prelude.{ℕ, List, [], ◌∷◌, Bool, true, false, Option, Some, None}
 use Rattle.dr_meaning.specs.Schema.{Repetition, required, optional, repeated}
 use Rattle.dr_meaning.specs.Record.{Instances}
 use Rattle.dr_meaning.specs.Print.{bracketed, instance_texts, field_members, shape_text}
 use Rattle.dr_nested.specs.Views.{SeenField}
-
--- a comma, where something stands before
-abbrev pub comma_if : Bool → List ℕ
-comma_if true = 44 ∷ []
-comma_if false = []
-
--- parts separated by commas; where something stands before them, with a comma before the first too
-abbrev pub separated : Bool → List (List ℕ) → List ℕ
-separated behind [] = []
-separated behind (p ∷ ps) = comma_if behind ++ (p ++ separated true ps)
 
 -- whether there are parts
 abbrev pub has_parts : List (List ℕ) → Bool

@@ -1,10 +1,16 @@
-//! Printed texts.
+//! Printed texts: records, columns, automata, and the result of a query.
 #![tactic(auto)]
 
+mod cell_text;
+mod object_text;
+mod parts;
+mod printing;
 mod record_lines;
+mod skipping;
 mod transitions;
 mod triplet_lines;
 
+pub use printing::result_text;
 pub use record_lines::{push_record_text, record_text};
 pub use transitions::automaton_text;
 pub use triplet_lines::{column_text, triplet_text};

@@ -1,12 +1,13 @@
 //! The line of a record: compact JSON, ended by LF.
 
-ghost use Rattle.std.specs.Prelude.{◌≡◌, ◌++◌, ◌∷◌, ◌||◌, [], false, Some, string_bytes, IfOk, OnOk};
-ghost use Rattle.json.specs.Print.{quoted};
+ghost use Rattle.std.specs.Prelude.{◌≡◌, ◌++◌, ◌||◌, false, Some, string_bytes, IfOk, OnOk};
 ghost use Rattle.dr_meaning.specs.Print as print;
 ghost use Rattle.dr_nested.specs.Views.{rep_view, field_view, shape_view, fields_view, value_view, instance_view, instances_view, slot_view, node_view};
-ghost use Rattle.dr_print.specs.Members.{comma_if, separated, has_parts, held_text, texts_in, members_in};
+ghost use Rattle.dr_print.specs.Members.{has_parts, held_text, texts_in, members_in};
+ghost use Rattle.dr_print.specs.Parts.{separated};
 
-use crate::triplet_lines::{push_int, push_quoted};
+use crate::parts::{push_comma, push_name, push_quoted};
+use crate::triplet_lines::push_int;
 use dr_nested::{Field, Instance, NoMemory, Node, Rep, Schema, Shape, Slot, Value};
 use std::alloc::{AllocError, Global};
 
@@ -20,24 +21,6 @@ fn push_value(alloc: Global, text: &mut String, value: &Value) -> Result<(), All
         Value::Int(number) => push_int(text, *number),
         Value::Text(value) => push_quoted(alloc, text, value.as_str()),
     }
-}
-
-/// Appends a comma, where something stands before.
-fn push_comma(text: &mut String, behind: bool) -> Result<(), AllocError>
-    ensures { OnOk result (string_bytes text.new ≡ string_bytes text.old ++ comma_if behind) }
-{
-    match behind {
-        true => text.push_str(","),
-        false => Ok(()),
-    }
-}
-
-/// Appends a name in quotes and a colon.
-fn push_name(alloc: Global, text: &mut String, name: &str) -> Result<(), AllocError>
-    ensures { OnOk result (string_bytes text.new ≡ string_bytes text.old ++ (quoted name.now ++ 58 ∷ [])) }
-{
-    push_quoted(alloc, text, name)?;
-    text.push_str(":")
 }
 
 /// Whether a field with these instances is printed: a repeated field always, another one where it has an instance.

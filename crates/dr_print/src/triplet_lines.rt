@@ -2,25 +2,15 @@
 
 ghost use Rattle.std.specs.Prelude.{◌≡◌, ◌++◌, decimal, string_bytes, option_map, IfOk, OnOk};
 ghost use Rattle.std.specs.Fmt.{signed_decimal};
-ghost use Rattle.json.specs.Print.{quoted};
 ghost use Rattle.dr_meaning.specs.Print as print;
 ghost use Rattle.dr_meaning.specs.Stripe as stripe;
 ghost use Rattle.dr_levels.specs.Views.{lent_value, triplet_view, triplets_view, column_view};
 
+use crate::parts::push_quoted;
 use dr_levels::{Column, Triplet, Triplets, ValueRef};
 use dr_nested::NoMemory;
 use itoa::Buffer;
 use std::alloc::{AllocError, Global};
-
-/// Appends a text in quotes, as compact JSON has it (RFC 8259, section 7).
-pub(crate) fn push_quoted(alloc: Global, text: &mut String, value: &str) -> Result<(), AllocError>
-    ensures { OnOk result (string_bytes text.new ≡ string_bytes text.old ++ quoted value.now) }
-{
-    match serde_json::to_string(alloc, &value) {
-        Ok(quote) => text.push_str(quote.as_str()),
-        Err(_) => Err(AllocError),
-    }
-}
 
 /// Appends a number.
 pub fn push_level(text: &mut String, level: u32) -> Result<(), AllocError>

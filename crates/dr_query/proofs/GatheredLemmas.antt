@@ -1,5 +1,5 @@
 -- The partials of all tablets, gathered: what they give is what the query means on the records of all tablets.
-use Rattle.std.proofs.Common.{◌≡◌, ◌≤◌, ◌∙◌, ℕ, zero, suc, ◌+◌, ◌&&◌, List, [], ◌∷◌, ◌++◌, map, length, get_or, true, Option, Vec, refl, sym, ap, ap₂, subst, arith, append_assoc}
+use Rattle.std.proofs.Common.{◌≡◌, ◌≤◌, ◌∙◌, ℕ, zero, suc, ◌+◌, ◌*◌, ◌&&◌, List, [], ◌∷◌, ◌++◌, map, length, get_or, true, Option, Vec, refl, sym, ap, ap₂, subst, arith, append_assoc}
 use Rattle.std.specs.List.{list_all, flat_map, range_with_len}
 use Rattle.std.proofs.lemmas.List.{length-map}
 use Rattle.std.proofs.lemmas.List.FromFn.{length-range_with_len}
@@ -28,13 +28,13 @@ use Rattle.dr_group.specs.declared.partial.Partial.{Partial}
 use Rattle.dr_serving.specs.Truth.{most_values}
 use Rattle.dr_reading.specs.Scan.{Copy, joined, tablets_from, tablets_of}
 use Rattle.dr_reading.specs.Given.{AreGiven}
-use Rattle.dr_scan.specs.Plans.{IsPlanOf}
+use Rattle.dr_plan.specs.PlanOf.{IsPlanOf}
 use Rattle.dr_meaning.specs.QueryLeaves.{query_leaves}
 use Rattle.std.specs.declared.alloc.Global.{Global}
 use Rattle.dr_scan.specs.Tables.{AllStand, StandForTablets, OfEach, WhereGiven}
 use Rattle.dr_scan.specs.declared.pieces.Pieces.{Pieces}
 use Rattle.dr_query.specs.Answers.{IsAnswerOf}
-use Rattle.dr_tree.specs.Together.{AllCanBe, AreOfPlan, Together, partials_view}
+use Rattle.dr_tree.specs.Together.{CanBeTogether, AreOfPlan, Together, partials_view}
 
 -- ---- the pieces by their tablets
 
@@ -137,9 +137,9 @@ all_partials : (s : Schema) (q : Query) (ps : List Partial) → OfEach (λ p. is
 all_partials s q [] h = refl
 all_partials s q (p ∷ ps) h = ap₂ (λ a b. a && b) h.0 (all_partials s q ps h.1)
 
-all_bounded : (ps : List Partial) → OfEach (λ p. PartialCanBeOf most_values (partial_view p)) ps → AllCanBe most_values (partials_view ps)
+all_bounded : (ps : List Partial) → OfEach (λ p. PartialCanBeOf most_values (partial_view p)) ps → CanBeTogether (length ps * most_values) (partials_view ps)
 all_bounded [] h = tt
-all_bounded (p ∷ ps) h = (h.0, all_bounded ps h.1)
+all_bounded (p ∷ ps) h = (most_values, length ps * most_values, omega arith, h.0, all_bounded ps h.1)
 
 pub go_together : (s : Schema) (q : Query) (v : Planned) (ps : List Partial) → OfEach (IsPartialOf v) ps → OfEach (λ p. is_partial s.fields q (partial_view p) ≡ true) ps
     → OfEach (λ p. PartialCanBeOf most_values (partial_view p)) ps → length ps ≤ 4096 → Together ps
@@ -148,7 +148,7 @@ go_together s q v ps a b c few = record {
   of_plan = of_plan v ps a;
   fields = s.fields;
   query = q;
-  most = most_values;
+  most = length ps * most_values;
   bounds = record { partials = all_partials s q ps b; bounded = all_bounded ps c };
   room = omega (arith, few);
 }

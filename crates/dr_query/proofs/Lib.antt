@@ -1,4 +1,4 @@
--- the plan of a query's text
+-- the leaves of a plan
 mod PlanLemmas
 -- the partials of all tablets, gathered
 mod GatheredLemmas

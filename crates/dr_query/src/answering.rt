@@ -8,10 +8,11 @@ ghost use Rattle.dr_meaning.specs.Record.{Node};
 ghost use Rattle.dr_meaning.specs.Schema.{Schema as Meant};
 ghost use Rattle.dr_nested.specs.SchemaView.{schema_view};
 ghost use Rattle.dr_plan.specs.Planned.{IsOfSchema};
-ghost use Rattle.dr_reading.specs.Scan.{joined};
+ghost use Rattle.dr_reading.specs.Scan.{joined, tablets_of};
 ghost use Rattle.dr_table.specs.Views.{table_view};
+ghost use Rattle.dr_tablets.specs.Asked.{AsksForTablets};
 ghost use Rattle.dr_tablets.specs.Tablets.{LeavesTablets};
-ghost use Rattle.dr_scan.specs.Plans.{ForQuery, IsPlanOf};
+ghost use Rattle.dr_plan.specs.PlanOf.{ForQuery, IsPlanOf};
 ghost use Rattle.dr_scan.specs.Tables.{AllStand};
 ghost use Rattle.dr_tree.specs.Together.{Together};
 ghost use Rattle.dr_query.specs.Answers.{IsAnswerOf, WhereLeft, WhereText};
@@ -20,7 +21,7 @@ use dr_group::Partial;
 use dr_memory::NoMemory;
 use dr_outside::Link;
 use dr_plan::Plan;
-use dr_result_text::result_text;
+use dr_print::result_text;
 use dr_scan::{Pieces, scan_table};
 use dr_table::Table;
 use dr_tablets::LeftTablet;
@@ -54,6 +55,7 @@ pub fn query_table<R: Threads + Sync, L: Link>(
     requires fan { 1 ≤ fan }
     ensures text { ForQuery (schema_view (table.now).schema) plan.now (λ q. IfOk result (WhereText (IsAnswerOf (table_view table.now) q (L.shows link.old).held))) }
     ensures left { ForQuery (schema_view (table.now).schema) plan.now (λ q. IfOk result (WhereLeft (λ left. LeavesTablets (table_view table.now) (query_leaves (table_view table.now).schema.fields q) left (L.shows link.old) (L.shows link.new)))) }
+    ensures asks { ForQuery (schema_view (table.now).schema) plan.now (λ q. AsksForTablets (query_leaves (table_view table.now).schema.fields q) (tablets_of (table_view table.now)) (L.shows link.old) (L.shows link.new)) }
     ensures same { (L.shows link.new).held ≡ (L.shows link.old).held }
     ensures never_falls { (L.shows link.old).faults ≤ (L.shows link.new).faults }
     ensures stays_steady { IsTrue (L.shows link.old).is_steady → IsTrue (L.shows link.new).is_steady }

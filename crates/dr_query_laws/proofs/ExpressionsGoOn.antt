@@ -17,8 +17,8 @@ use Rattle.dr_meaning.specs.QueryGrammar.{is_less, is_at_most, is_greater, is_at
 use Rattle.dr_meaning.specs.QueryGrammar.{SpellsTest, one_sum, compared_sums, like_text, not_like_text, contains_text, not_contains_text, is_null_word, is_not_null, SpellsSum}
 use Rattle.dr_meaning.specs.QueryGrammar.{one_product, plus_product, minus_product, SpellsProduct, one_unary, times_unary, SpellsUnary, minus_unary, one_primary, SpellsPrimary}
 use Rattle.dr_meaning.specs.QueryGrammar.{a_number, a_text, a_true, a_false, a_path, in_parentheses, BeginsAt}
-use Rattle.dr_meaning.proofs.SyntaxReading.{NextToken, next_token}
-use Rattle.dr_query_laws.proofs.Outcomes.{Filled, Outcome, weaker, Seq, seq, Nothing, gives, fills_nothing, stops_here, if_outcome, by_outcome, One, any_of, operator_of}
+use Rattle.dr_meaning.proofs.SyntaxReading.{NextToken, next_token, word_is, sign_is_this}
+use Rattle.dr_query_laws.proofs.Outcomes.{Filled, OneFirst, Outcome, weaker, Seq, seq, Nothing, gives, fills_nothing, stops_here, if_outcome, by_outcome, One, any_of, operator_of}
 use Rattle.dr_query_laws.proofs.Outcomes.{known_word, known_sign, known_operator, word_outcome, mark_outcome, IsName, IsText, name_outcome, text_outcome, Behind, one_seq}
 use Rattle.dr_query_laws.proofs.Outcomes.{fills_one, fills_seq, Begun, begun}
 
@@ -73,7 +73,7 @@ record PathAt (i : ℕ) (ts : List PlacedToken) (p : PathSyntax) : Type 0 where
   place : p.place ≡ i
   names : SpellsNames ts p.names
 
-abbrev path_of : ℕ → List (List ℕ) → PathSyntax
+abbrev pub path_of : ℕ → List (List ℕ) → PathSyntax
 path_of i ns = record { place = i; names = ns }
 
 named_path : (i : ℕ) (ts : List PlacedToken) (p : PathSyntax) → Seq (List (List ℕ)) PathSyntax SpellsNames (λ ns. Nothing PathSyntax (path_of i ns)) ts p → PathAt i ts p
@@ -179,10 +179,10 @@ primary_by inner goes (Some (reserved true_word)) u f = literal_goes (truth_lite
 primary_by inner goes (Some (reserved false_word)) u f = literal_goes (truth_literal false) (reserved false_word) a_false u f
 primary_by inner goes (Some (identifier n)) u f = path_operand_goes u
 primary_by inner goes (Some (sign open_parenthesis)) u f = goes parenthesized u (next_token (is_the_sign open_parenthesis) u (ap (passes (is_the_sign open_parenthesis)) f))
-primary_by inner goes (Some (sign s)) u f = stops_here SpellsPrimary syntax u a_primary
-primary_by inner goes (Some (reserved w)) u f = stops_here SpellsPrimary syntax u a_primary
-primary_by inner goes (Some bad) u f = stops_here SpellsPrimary syntax u a_primary
-primary_by inner goes None u f = stops_here SpellsPrimary syntax u a_primary
+primary_by inner goes (Some (sign s)) u f = stops_here SpellsPrimary syntax u a_primary tt
+primary_by inner goes (Some (reserved w)) u f = stops_here SpellsPrimary syntax u a_primary tt
+primary_by inner goes (Some bad) u f = stops_here SpellsPrimary syntax u a_primary tt
+primary_by inner goes None u f = stops_here SpellsPrimary syntax u a_primary tt
 
 primary_goes : (inner : Inner) → InnerGoes inner → (u : Unread) → Outcome ExpressionSyntax SpellsPrimary u (primary inner u)
 primary_goes inner goes u = primary_by inner goes (first_token u.tokens) u refl
@@ -376,7 +376,7 @@ denied_goes : (a : ExpressionSyntax) (u : Unread) → NextToken (is_the_word not
 denied_goes a u n = weaker (Behind ExpressionSyntax (reserved not_word) (DeniedTail a)) (TestMore a) u (denied_test a u)
     (λ ts b x us s. subst (λ xs. SpellsTest (us ++ xs) b) (sym x.tokens) (x.second.denies x.place us s))
     (one_seq (reserved not_word) (DeniedTail a) u (any_token u) (λ _. text_test negation a (problem_here syntax)) (fills_denied a)
-    (λ i v. text_test_goes (DeniedTail a i) negation a (problem_here syntax) v (denied_like a i) (denied_contains a i) (stops_here (DeniedTail a i) syntax v (fills_denied a i)))
+    (λ i v. text_test_goes (DeniedTail a i) negation a (problem_here syntax) v (denied_like a i) (denied_contains a i) (stops_here (DeniedTail a i) syntax v (fills_denied a i) tt))
     (known_word not_word u n))
 
 -- behind a sum and IS, which stands at place i
@@ -486,11 +486,6 @@ and_goes inner goes u = operands_outcome SpellsAnd SpellsNot and_in (not_of inne
 expression_goes : (inner : Inner) → InnerGoes inner → (u : Unread) → Outcome ExpressionSyntax SpellsExpression u (expression_of inner u)
 expression_goes inner goes u = operands_outcome SpellsExpression SpellsAnd or_in (and_of inner) an_and (and_goes inner goes) one_and or_step u
 
-fills_nested : (o : Nesting) → Filled ExpressionSyntax (SpellsNested o)
-fills_nested parenthesized = a_primary
-fills_nested negated = a_not
-fills_nested signed = a_unary
-
 -- ")" behind an expression in parentheses
 abbrev Closed : ExpressionSyntax → List PlacedToken → ExpressionSyntax → Type 0
 Closed e = Behind ExpressionSyntax (sign close_parenthesis) (λ j. Nothing ExpressionSyntax e)
@@ -531,8 +526,27 @@ signs ts b x =
     let tokens : ts ≡ sign_at x.place minus_sign ∷ y.front = x.tokens ∙ ap (λ xs. sign_at x.place minus_sign ∷ xs) (only_front x.rest y.front y.rest y.tokens y.second.none) in
     subst (SpellsUnary ts) y.second.same (subst (λ xs. SpellsUnary xs (negative x.place y.middle)) (sym tokens) (minus_unary x.place y.front y.middle y.first))
 
+-- the token that opens a nesting, and something behind it
+abbrev pub opens_parenthesis : (i : ℕ) → Filled ExpressionSyntax SpellsPrimary
+opens_parenthesis i = record { tokens = sign_at i open_parenthesis ∷ (nought ++ sign_at 0 close_parenthesis ∷ []); value = number_literal 0; spelled = in_parentheses i 0 nought (number_literal 0) fills_expression.spelled }
+
+abbrev pub opens_not : (i : ℕ) → Filled ExpressionSyntax SpellsNot
+opens_not i = record { tokens = word_at i not_word ∷ nought; value = negation i (number_literal 0); spelled = not_not i nought (number_literal 0) a_not.spelled }
+
+abbrev pub opens_sign : (i : ℕ) → Filled ExpressionSyntax SpellsUnary
+opens_sign i = record { tokens = sign_at i minus_sign ∷ nought; value = negative i (number_literal 0); spelled = minus_unary i nought (number_literal 0) a_unary.spelled }
+
+one_first : (t : QueryToken) (u : Unread) (first : PlacedToken) (rest vs : List PlacedToken) → u.tokens ≡ first ∷ rest → first.token ≡ t → OneFirst u.tokens (placed first.place t ∷ vs)
+one_first t u first rest vs e h = (first, rest, vs, e, ap (λ k. placed first.place k ∷ vs) (sym h))
+
+too_deep_goes : (o : Nesting) (u : Unread) → Opens o u → Outcome ExpressionSyntax (SpellsNested o) u (problem_here too_deep u)
+too_deep_goes parenthesized u h = stops_here SpellsPrimary too_deep u (opens_parenthesis h.first.place)
+    (one_first (sign open_parenthesis) u h.first h.rest (nought ++ sign_at 0 close_parenthesis ∷ []) h.tokens (sign_is_this open_parenthesis h.first.token h.passes_it))
+too_deep_goes negated u h = stops_here SpellsNot too_deep u (opens_not h.first.place) (one_first (reserved not_word) u h.first h.rest nought h.tokens (word_is not_word h.first.token h.passes_it))
+too_deep_goes signed u h = stops_here SpellsUnary too_deep u (opens_sign h.first.place) (one_first (sign minus_sign) u h.first h.rest nought h.tokens (sign_is_this minus_sign h.first.token h.passes_it))
+
 pub nested_goes : (n : ℕ) → InnerGoes (nested n)
-nested_goes zero o u h = stops_here (SpellsNested o) too_deep u (fills_nested o)
+nested_goes zero o u h = too_deep_goes o u h
 nested_goes (suc n) parenthesized u h = weaker (Behind ExpressionSyntax (sign open_parenthesis) Inside) SpellsPrimary u (nested (suc n) parenthesized u) enclosed
     (one_seq (sign open_parenthesis) Inside u (any_token u) (λ _. expression_of (nested n) >>= (λ e. mark close_parenthesis >>= (λ _. give e)))
     (λ i. fills_seq SpellsExpression Closed fills_expression fills_closed)

@@ -1,11 +1,11 @@
 -- A text leads to a group exactly where it is on the way to a leaf; to no field exactly where it neither names one nor is on the way to one.
-use Rattle.std.proofs.Common.{◌≡◌, ℕ, zero, suc, List, [], ◌∷◌, ◌++◌, map, Bool, true, false, Option, Some, None, refl, sym, ap, ◌∙◌, subst, true≢false}
-use Rattle.std.specs.Prelude.{◌==◌, ◌↔◌, if◌then◌else◌, bytes_eq, option_map, option_and_then, Result, Ok, Err}
+use Rattle.std.proofs.Common.{◌≡◌, ℕ, suc, List, [], ◌∷◌, ◌++◌, map, Bool, true, false, Option, Some, None, refl, sym, ap, ◌∙◌, subst, true≢false}
+use Rattle.std.specs.Prelude.{◌==◌, if◌then◌else◌, bytes_eq, option_map, option_and_then, Result, Ok, Err}
 use Rattle.std.specs.List.{slice_get, join_with_byte}
 use Rattle.std.proofs.lemmas.Bool.{and_parts}
-use Rattle.dr_meaning.specs.Schema.{Repetition, Kind, Fields, no_fields, field, Shape, leaf, group, fields_of, is_group, is_shape, is_nonempty}
+use Rattle.dr_meaning.specs.Schema.{Kind, Fields, no_fields, field, Shape, leaf, group, fields_of, is_group, is_shape, is_nonempty}
 use Rattle.dr_meaning.specs.Path.{Step, Leaf, Found, named_field, found_below, resolve, find_path, onto_first, cut_at_dots, leaf_at, found_leaf, find_leaf}
-use Rattle.dr_meaning.specs.Path.{PathFault, unknown_field, not_a_leaf, leaf_below, leaves_from, shape_leaves, leaves}
+use Rattle.dr_meaning.specs.Path.{PathFault, unknown_field, not_a_leaf, leaf_below, leaves_from, shape_leaves}
 use Rattle.dr_meaning.specs.PathLaws.{IsNamedLeaf}
 use Rattle.dr_meaning.proofs.SchemaReadsBack.{FirstField, first_of_group}
 use Rattle.dr_meaning.proofs.FindingLemmas.{find_leaf_is_exact}

@@ -2,7 +2,6 @@ pub mod Outcomes
 pub mod FindRefusals
 pub mod ExpressionsGoOn
 pub mod QueriesGoOn
-pub mod LeavesOnce
 pub mod OperatorsCounted
 pub mod OperatorsOfQueries
 pub mod ElementsCounted
@@ -15,3 +14,24 @@ pub mod StackRead
 pub mod StackOfQueries
 pub mod WorkedLimits
 pub mod WorkedNestings
+pub mod RulesOfExpressions
+pub mod RulesOfQueries
+pub mod Earlier
+pub mod RulesOfPaths
+pub mod RulesOfItems
+pub mod RulesOfNames
+pub mod AllRules
+pub mod DeepestLevels
+-- texts one behind another, and their tokens
+pub mod Lexing
+pub mod WrittenNames
+pub mod Writable
+pub mod WrittenExpressions
+pub mod WrittenItems
+pub mod BoundItems
+pub mod WrittenQueries
+pub mod Relations
+pub mod WholeBinding
+-- worked examples
+pub mod WorkedRules
+pub mod WorkedReadBack

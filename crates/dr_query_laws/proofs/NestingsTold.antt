@@ -61,7 +61,7 @@ further E u v ts _ e (stopped f h) = stopped f (λ d.
 pub tell_on : {A B : Type 0} (S : List PlacedToken → A → Type 0) (E : Sayings) (u : Unread) (p : Parsed A) (next : A → Production B) → Outcome A S u p → Tells A E u p
     → ((a : A) (v : Unread) (ts : List PlacedToken) → S ts a → Tells B (With ts E) v (next a v)) → Tells B E u (goes_on p next)
 tell_on S E u _ next (reads ts v a e z s) t step = further E u v ts (next a v) e (step a v ts s)
-tell_on S E u _ next (stops ts rest more a f e z s) (stopped _ h) step = stopped f h
+tell_on S E u _ next (stops ts rest more a f e z s k) (stopped _ h) step = stopped f h
 
 -- behind one token
 pub tell_behind : {B : Type 0} (k : QueryToken) (E : Sayings) (u : Unread) (p : Parsed ℕ) (next : ℕ → Production B) → Outcome ℕ (One k) u p → NotDeep ℕ p

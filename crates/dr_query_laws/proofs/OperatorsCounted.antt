@@ -8,6 +8,7 @@ use Rattle.dr_meaning.specs.Parse.{syntax, too_many, too_deep, next_is, either, 
 use Rattle.dr_meaning.specs.Parse.{word, mark, name, quoted_text, is_the_word, is_the_sign, name_in, text_in, here}
 use Rattle.dr_meaning.proofs.SyntaxReading.{NextToken, next_token, NextMeaning, next_meaning, word_is, sign_is_this}
 use Rattle.dr_query_laws.specs.LimitLaws.{is_operator, operators_in, TooManyStandsAt}
+use Rattle.dr_query_laws.specs.FaultLaws.{StandsFirst, FewOperatorsBefore}
 use Rattle.dr_query_laws.proofs.Outcomes.{Outcome, reads, stops}
 
 -- what is left behind some tokens of a text, whose operators were counted
@@ -17,9 +18,16 @@ pub record Counted (all : List PlacedToken) (u : Unread) : Type 0 where
   pub count : operators_in before ≡ u.operators
   pub few : nat_le u.operators 512 ≡ true
 
--- what a fault tells, where it is TooMany
+-- what a fault tells: its token, where it is TooMany, and that few operators stand before it
 abbrev pub Told : List PlacedToken → QueryFault → Type 0
-Told all f = f.problem ≡ too_many → TooManyStandsAt all f.place
+Told all f = (f.problem ≡ too_many → TooManyStandsAt all f.place) × FewOperatorsBefore all f.place
+
+pub stands_first : (n : ℕ) (ts : List PlacedToken) → StandsFirst (first_place n ts) ts
+stands_first n [] = tt
+stands_first n (t ∷ ts) = refl
+
+pub few_before : (all : List PlacedToken) (u : Unread) → Counted all u → FewOperatorsBefore all (first_place u.size u.tokens)
+few_before all u c = (c.before, (u.tokens, c.tokens, stands_first u.size u.tokens), ap (λ n. nat_le n 512) c.count ∙ c.few)
 
 -- what was read leaves J; or the fault is where it is told to be
 pub data Reads (A : Type 0) (J : Unread → Type 0) (all : List PlacedToken) : Parsed A → Type 0 where
@@ -39,7 +47,7 @@ bind J K all _ next (stopped f t) step = stopped f t
 pub bind_both : {A B : Type 0} (S : List PlacedToken → A → Type 0) (J K : Unread → Type 0) (all : List PlacedToken) (u : Unread) (p : Parsed A) (next : A → Production B) → Outcome A S u p
     → Reads A J all p → ((a : A) (v : Unread) (ts : List PlacedToken) → u.tokens ≡ ts ++ v.tokens → S ts a → J v → Reads B K all (next a v)) → Reads B K all (goes_on p next)
 bind_both S J K all u _ next (reads ts v a e z s) (went _ _ c) step = step a v ts e s c
-bind_both S J K all u _ next (stops ts rest more a f e z s) (stopped _ t) step = stopped f t
+bind_both S J K all u _ next (stops ts rest more a f e z s k) (stopped _ t) step = stopped f t
 
 pub one_by_one : {A B : Type 0} (all : List PlacedToken) (p : Production A) (next : A → Production B) → Keeps all A p → ((a : A) → Keeps all B (next a)) → Keeps all B (p >>= next)
 one_by_one all p next first step u c = bind (Counted all) (Counted all) all (p u) next (first u c) (λ a v d. step a v d)
@@ -52,7 +60,7 @@ here_counted all u c = went (place_of u) u c
 
 -- a fault of another kind tells nothing
 pub no_limit : {A : Type 0} (all : List PlacedToken) (p : QueryProblem) → (p ≡ too_many → ⊥) → Keeps all A (problem_here p)
-no_limit all p other u c = stopped (record { place = first_place u.size u.tokens; problem = p }) (λ e. absurd (other e))
+no_limit all p other u c = stopped (record { place = first_place u.size u.tokens; problem = p }) ((λ e. absurd (other e)), few_before all u c)
 
 pub not_syntax : syntax ≡ too_many → ⊥
 not_syntax e = absurd (cc e)
@@ -161,4 +169,4 @@ operator_counted all u first rest e o c = by_room (nat_lt u.operators most_opera
       few = h;
     })
     by_room false h = stopped (record { place = first_place u.size u.tokens; problem = too_many })
-        (λ _. (c.before, first, rest, c.tokens ∙ ap (λ xs. c.before ++ xs) e, sym (ap (first_place u.size) e), inl (o, c.count ∙ at_most u.operators 512 c.few h)))
+        ((λ _. (c.before, first, rest, c.tokens ∙ ap (λ xs. c.before ++ xs) e, sym (ap (first_place u.size) e), inl (o, c.count ∙ at_most u.operators 512 c.few h))), few_before all u c)

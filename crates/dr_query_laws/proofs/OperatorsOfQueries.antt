@@ -21,11 +21,12 @@ use Rattle.dr_meaning.specs.Parse.{as_part, item, items, table_name, where_part,
 use Rattle.dr_meaning.specs.QueryGrammar.{word_at, sign_at, name_at, SpellsPath, SpellsItem, Separated, alone, and_one, SpellsWhere}
 use Rattle.dr_meaning.proofs.SyntaxReading.{NextToken, next_token, sign_is_this}
 use Rattle.dr_query_laws.specs.LimitLaws.{is_operator, operators_in, BeforeItem, before_further_item, BeforeKeys, before_keys, BeforeKey, before_further_key}
+use Rattle.dr_query_laws.specs.FaultLaws.{IsAtToken, FewOperatorsBefore, FewOperatorsBeforeFault}
 use Rattle.dr_query_laws.specs.LimitLaws.{IsExtraOperator, BeginsExtraItem, BeginsExtraKey, TooManyStandsAt, TooManyStandsAtItsToken, AcceptedHasFewOperators}
 use Rattle.dr_query_laws.proofs.Outcomes.{Outcome, behind, One, known_word, known_sign, word_outcome}
 use Rattle.dr_query_laws.proofs.ExpressionsGoOn.{path_outcome}
 use Rattle.dr_query_laws.proofs.QueriesGoOn.{TableIs, table_goes, item_goes, items_go, where_goes}
-use Rattle.dr_query_laws.proofs.OperatorsCounted.{Counted, Reads, went, stopped, Keeps, bind, bind_both, one_by_one, gives_counted, here_counted, no_limit, not_syntax, not_deep, if_counted, by_counted}
+use Rattle.dr_query_laws.proofs.OperatorsCounted.{Counted, few_before, Reads, went, stopped, Keeps, bind, bind_both, one_by_one, gives_counted, here_counted, no_limit, not_syntax, not_deep, if_counted, by_counted}
 use Rattle.dr_query_laws.proofs.OperatorsCounted.{behind_counted, skip_word, skip_sign, word_counted, mark_counted, name_counted, text_counted, operator_counted}
 
 -- a token is skipped, and a production keeps the count behind it
@@ -305,7 +306,7 @@ comma_behind {A} {B} all S begins front ts xs tells s full u n z c = by_test (ne
         let here : all ≡ before ++ v.tokens = behind all (ts ++ u.tokens) (ts ++ sign_at n.first.place comma ∷ []) front v.tokens z
         (behind (ts ++ u.tokens) u.tokens (sign_at n.first.place comma ∷ []) ts v.tokens refl tokens) in
         stopped (record { place = first_place v.size v.tokens; problem = too_many })
-        (λ _. (before, m.first, m.rest, here ∙ ap (λ xs. before ++ xs) m.tokens, sym (ap (first_place v.size) m.tokens), tells n.first.place ts xs m.first s full m.passes_it))
+        ((λ _. (before, m.first, m.rest, here ∙ ap (λ xs. before ++ xs) m.tokens, sym (ap (first_place v.size) m.tokens), tells n.first.place ts xs m.first s full m.passes_it)), few_before all v d)
     by_test false e = no_limit all syntax not_syntax v d
 
 one_fewer : {A : Type 0} (xs : List A) (x : A) (k : ℕ) → length xs + suc k ≡ 256 → length (xs ++ x ∷ []) + k ≡ 256
@@ -427,7 +428,8 @@ ended_by : (all : List PlacedToken) (ts : List PlacedToken) (n k : ℕ) → Coun
     → Reads ℕ (Ended all) all (text_end (record { tokens = ts; size = n; operators = k }))
 ended_by all [] n k c = went n (record { tokens = []; size = n; operators = k })
     (record { few = ap (λ m. nat_le m 512) (ap operators_in (c.tokens ∙ append-nil c.before) ∙ c.count) ∙ c.few })
-ended_by all (t ∷ ts) n k c = stopped (record { place = t.place; problem = syntax }) (λ e. absurd (not_syntax e))
+ended_by all (t ∷ ts) n k c = stopped (record { place = t.place; problem = syntax })
+    ((λ e. absurd (not_syntax e)), few_before all (record { tokens = t ∷ ts; size = n; operators = k }) c)
 
 text_end_counted : (all : List PlacedToken) (u : Unread) → Counted all u → Reads ℕ (Ended all) all (text_end u)
 text_end_counted all u c = ended_by all u.tokens u.size u.operators c
@@ -502,7 +504,7 @@ told_of : (all : List PlacedToken) (p : Parsed QuerySyntax) (i : ℕ) → Reads 
 told_of all _ i (went a v e) h = absurd (cc h)
 told_of all _ i (stopped f t) h =
     let k : f ≡ record { place = i; problem = too_many } = cc in
-    subst (TooManyStandsAt all) (ap (λ (x : QueryFault). x.place) k) (t (ap (λ (x : QueryFault). x.problem) k))
+    subst (TooManyStandsAt all) (ap (λ (x : QueryFault). x.place) k) (t.0 (ap (λ (x : QueryFault). x.problem) k))
 
 few_of : (all : List PlacedToken) (p : Parsed QuerySyntax) (q : QuerySyntax) → Reads QuerySyntax (Ended all) all p → result_of p ≡ Ok q → nat_le (operators_in all) 512 ≡ true
 few_of all _ q (went a v e) h = e.few
@@ -533,3 +535,15 @@ few_operators bytes q h = by_length (nat_lt longest_query (length bytes)) h
         → nat_le (operators_in (query_tokens bytes)) 512 ≡ true
     by_length true g = absurd (cc g)
     by_length false g = few_of (query_tokens bytes) (query (unread_text bytes)) q (query_counted (query_tokens bytes) (unread_text bytes) refl (nothing_read bytes)) g
+
+before_of : (all : List PlacedToken) (p : Parsed QuerySyntax) (f : QueryFault) → Reads QuerySyntax (Ended all) all p → result_of p ≡ Err f → FewOperatorsBefore all f.place
+before_of all _ f (went a v e) h = absurd (cc h)
+before_of all _ f (stopped g t) h = let k : g ≡ f = cc in subst (FewOperatorsBefore all) (ap (λ (x : QueryFault). x.place) k) t.1
+
+pub few_operators_before : FewOperatorsBeforeFault
+unfolding parse_query
+few_operators_before bytes f a h = by_length (nat_lt longest_query (length bytes)) h
+  where
+    by_length : (b : Bool) → (if b then Err (record { place = longest_query; problem = too_long }) else result_of (query (unread_text bytes))) ≡ Err f → FewOperatorsBefore (query_tokens bytes) f.place
+    by_length true g = absurd (subst IsAtToken (sym (ap problem_in g)) a)
+    by_length false g = before_of (query_tokens bytes) (query (unread_text bytes)) f (query_counted (query_tokens bytes) (unread_text bytes) refl (nothing_read bytes)) g

@@ -3,7 +3,7 @@ use Rattle.std.specs.Prelude.{◌≡◌, ℕ, suc, List, [], ◌∷◌, ◌++◌
 use Rattle.std.proofs.Common.{refl, sym, ap, subst, ◌∙◌, append_assoc}
 use Rattle.dr_meaning.specs.Tokens.{Word, Sign, QueryToken, reserved, identifier, text, sign, PlacedToken, placed}
 use Rattle.dr_meaning.specs.Parse.{Unread, Parsed, got, refused, QueryFault, QueryProblem, Production, give, goes_on, place_of, first_place, first_token, problem_here}
-use Rattle.dr_meaning.specs.Parse.{syntax, too_many, next_is, either, if_next, for_some, by_next, any_token, operator, counted, most_operators, behind_token}
+use Rattle.dr_meaning.specs.Parse.{too_long, syntax, too_deep, too_many, next_is, either, if_next, for_some, by_next, any_token, operator, counted, most_operators, behind_token}
 use Rattle.dr_meaning.specs.Parse.{word, mark, name, quoted_text, is_the_word, is_the_sign, name_in, text_in}
 use Rattle.dr_meaning.specs.QueryGrammar.{word_at, sign_at, name_at, text_at, BeginsAt}
 use Rattle.dr_meaning.proofs.SyntaxReading.{NextToken, next_token, NextMeaning, next_meaning, word_is, sign_is_this}
@@ -14,17 +14,32 @@ pub record Filled (A : Type 0) (S : List PlacedToken → A → Type 0) : Type 0 
   pub value : A
   pub spelled : S tokens value
 
--- what was read spells a value; or the tokens before the fault begin to spell one
+-- something is spelled so that this token begins it
+abbrev pub BegunWith : (A : Type 0) → (List PlacedToken → A → Type 0) → PlacedToken → Type 0
+BegunWith A S t = (x : Filled A S) × (vs : List PlacedToken) × (x.tokens ≡ t ∷ vs)
+
+-- some tokens, and others that could stand there, begin with the same one
+abbrev pub OneFirst : List PlacedToken → List PlacedToken → Type 0
+OneFirst rest more = (t : PlacedToken) × (us : List PlacedToken) × (vs : List PlacedToken) × (rest ≡ t ∷ us) × (more ≡ t ∷ vs)
+
+-- so it is at a fault of a limit
+abbrev pub Shared : QueryProblem → List PlacedToken → List PlacedToken → Type 0
+Shared too_long rest more = OneFirst rest more
+Shared syntax rest more = Unit {0}
+Shared too_deep rest more = OneFirst rest more
+Shared too_many rest more = OneFirst rest more
+
+-- what was read spells a value; or the tokens before the fault begin to spell one, and so do they with the token that passes a limit
 pub data Outcome (A : Type 0) (S : List PlacedToken → A → Type 0) (u : Unread) : Parsed A → Type 0 where
   reads : (ts : List PlacedToken) (v : Unread) (a : A) → u.tokens ≡ ts ++ v.tokens → v.size ≡ u.size → S ts a → Outcome A S u (got a v)
   stops : (ts rest more : List PlacedToken) (a : A) (f : QueryFault) → u.tokens ≡ ts ++ rest → first_place u.size rest ≡ f.place → S (ts ++ more) a
-      → Outcome A S u (refused f)
+      → Shared f.problem rest more → Outcome A S u (refused f)
 
 -- the same, where another relation follows
 pub weaker : {A : Type 0} (R S : List PlacedToken → A → Type 0) (u : Unread) (p : Parsed A) → ((ts : List PlacedToken) (a : A) → R ts a → S ts a)
     → Outcome A R u p → Outcome A S u p
 weaker R S u _ f (reads ts v a e z s) = reads ts v a e z (f ts a s)
-weaker R S u _ f (stops ts rest more a g e z s) = stops ts rest more a g e z (f (ts ++ more) a s)
+weaker R S u _ f (stops ts rest more a g e z s k) = stops ts rest more a g e z (f (ts ++ more) a s) k
 
 -- ---- one behind another
 
@@ -44,17 +59,26 @@ next_outcome : {A B : Type 0} (S : List PlacedToken → A → Type 0) (T : A →
     → u.tokens ≡ ts ++ v.tokens → v.size ≡ u.size → S ts a → Outcome B (T a) v q → Outcome B (Seq A B S T) u q
 next_outcome S T u v ts a _ e z s (reads ws w b g y t) =
     reads (ts ++ ws) w b (behind u.tokens v.tokens ws ts w.tokens e g) (y ∙ z) (record { front = ts; rest = ws; middle = a; tokens = refl; first = s; second = t })
-next_outcome S T u v ts a _ e z s (stops ws rest more b f g y t) =
+next_outcome S T u v ts a _ e z s (stops ws rest more b f g y t k) =
     stops (ts ++ ws) rest more b f (behind u.tokens v.tokens ws ts rest e g) (ap (λ n. first_place n rest) (sym z) ∙ y)
-    (record { front = ts; rest = ws ++ more; middle = a; tokens = append_assoc ts ws more; first = s; second = t })
+    (record { front = ts; rest = ws ++ more; middle = a; tokens = append_assoc ts ws more; first = s; second = t }) k
+
+one_first_more : (rest more ws : List PlacedToken) → OneFirst rest more → OneFirst rest (more ++ ws)
+one_first_more rest more ws k = (k.0, k.1, k.2 ++ ws, k.3, ap (λ xs. xs ++ ws) k.4)
+
+shared_more : (p : QueryProblem) (rest more ws : List PlacedToken) → Shared p rest more → Shared p rest (more ++ ws)
+shared_more too_long rest more ws k = one_first_more rest more ws k
+shared_more syntax rest more ws k = tt
+shared_more too_deep rest more ws k = one_first_more rest more ws k
+shared_more too_many rest more ws k = one_first_more rest more ws k
 
 pub seq : {A B : Type 0} (S : List PlacedToken → A → Type 0) (T : A → List PlacedToken → B → Type 0) (u : Unread) (p : Parsed A) (next : A → Production B)
     → ((a : A) → Filled B (T a)) → ((a : A) (v : Unread) → Outcome B (T a) v (next a v)) → Outcome A S u p → Outcome B (Seq A B S T) u (goes_on p next)
 seq S T u _ next fill step (reads ts v a e z s) = next_outcome S T u v ts a (next a v) e z s (step a v)
-seq S T u _ next fill step (stops ts rest more a f e z s) =
+seq S T u _ next fill step (stops ts rest more a f e z s k) =
     let x = fill a in
     stops ts rest (more ++ x.tokens) x.value f e z
-    (record { front = ts ++ more; rest = x.tokens; middle = a; tokens = sym (append_assoc ts more x.tokens); first = s; second = x.spelled })
+    (record { front = ts ++ more; rest = x.tokens; middle = a; tokens = sym (append_assoc ts more x.tokens); first = s; second = x.spelled }) (shared_more f.problem rest more x.tokens k)
 
 -- ---- nothing read
 
@@ -69,8 +93,9 @@ gives a u = reads [] u a refl refl (record { none = refl; same = refl })
 pub fills_nothing : {A : Type 0} (a : A) → Filled A (Nothing A a)
 fills_nothing a = record { tokens = []; value = a; spelled = record { none = refl; same = refl } }
 
-pub stops_here : {A : Type 0} (S : List PlacedToken → A → Type 0) (p : QueryProblem) (u : Unread) → Filled A S → Outcome A S u (problem_here p u)
-stops_here S p u x = stops [] u.tokens x.tokens x.value (record { place = first_place u.size u.tokens; problem = p }) refl refl x.spelled
+pub stops_here : {A : Type 0} (S : List PlacedToken → A → Type 0) (p : QueryProblem) (u : Unread) (x : Filled A S) → Shared p u.tokens x.tokens
+    → Outcome A S u (problem_here p u)
+stops_here S p u x k = stops [] u.tokens x.tokens x.value (record { place = first_place u.size u.tokens; problem = p }) refl refl x.spelled k
 
 -- ---- choices
 
@@ -110,7 +135,7 @@ operator_of_first : (n k : ℕ) (first : PlacedToken) (rest : List PlacedToken) 
     → Outcome ℕ (One first.token) (at_front (first ∷ rest) n k) (either b counted (problem_here too_many) (at_front (first ∷ rest) n k))
 operator_of_first n k first rest true = reads (first ∷ []) (at_front rest n (suc k)) first.place refl refl refl
 operator_of_first n k first rest false =
-    stops_here (One first.token) too_many (at_front (first ∷ rest) n k) (record { tokens = first ∷ []; value = first.place; spelled = refl })
+    stops_here (One first.token) too_many (at_front (first ∷ rest) n k) (record { tokens = first ∷ []; value = first.place; spelled = refl }) (first, rest, [], refl, refl)
 
 pub operator_of : (u : Unread) (first : PlacedToken) (rest : List PlacedToken) → u.tokens ≡ first ∷ rest → Outcome ℕ (One first.token) u (operator u)
 operator_of u first rest e = subst (λ ts. Outcome ℕ (One first.token) (at_front ts u.size u.operators) (operator (at_front ts u.size u.operators))) (sym e)
@@ -135,11 +160,11 @@ known_operator s u n = weaker (One n.first.token) (One (sign s)) u (operator u) 
 
 pub word_outcome : (w : Word) (u : Unread) → Outcome ℕ (One (reserved w)) u (word w u)
 word_outcome w u = if_outcome (One (reserved w)) (is_the_word w) any_token (problem_here syntax) u (known_word w u)
-    (stops_here (One (reserved w)) syntax u (record { tokens = word_at 0 w ∷ []; value = 0; spelled = refl }))
+    (stops_here (One (reserved w)) syntax u (record { tokens = word_at 0 w ∷ []; value = 0; spelled = refl }) tt)
 
 pub mark_outcome : (s : Sign) (u : Unread) → Outcome ℕ (One (sign s)) u (mark s u)
 mark_outcome s u = if_outcome (One (sign s)) (is_the_sign s) any_token (problem_here syntax) u (known_sign s u)
-    (stops_here (One (sign s)) syntax u (record { tokens = sign_at 0 s ∷ []; value = 0; spelled = refl }))
+    (stops_here (One (sign s)) syntax u (record { tokens = sign_at 0 s ∷ []; value = 0; spelled = refl }) tt)
 
 -- a name, a text
 pub record IsName (ts : List PlacedToken) (n : List ℕ) : Type 0 where
@@ -170,12 +195,12 @@ got_of {A} S a u first rest e s =
 pub name_outcome : (u : Unread) → Outcome (List ℕ) IsName u (name u)
 name_outcome u = by_outcome IsName name_in (λ n v. got n (behind_token v)) (problem_here syntax) u
     (λ n m. got_of IsName n u m.first m.rest m.tokens (record { place = m.first.place; tokens = ap (λ t. placed m.first.place t ∷ []) (name_token_is n m.first.token m.means) }))
-    (stops_here IsName syntax u (record { tokens = name_at 0 (97 ∷ []) ∷ []; value = 97 ∷ []; spelled = record { place = 0; tokens = refl } }))
+    (stops_here IsName syntax u (record { tokens = name_at 0 (97 ∷ []) ∷ []; value = 97 ∷ []; spelled = record { place = 0; tokens = refl } }) tt)
 
 pub text_outcome : (u : Unread) → Outcome (List ℕ) IsText u (quoted_text u)
 text_outcome u = by_outcome IsText text_in (λ t v. got t (behind_token v)) (problem_here syntax) u
     (λ t m. got_of IsText t u m.first m.rest m.tokens (record { place = m.first.place; tokens = ap (λ x. placed m.first.place x ∷ []) (text_token_is t m.first.token m.means) }))
-    (stops_here IsText syntax u (record { tokens = text_at 0 [] ∷ []; value = []; spelled = record { place = 0; tokens = refl } }))
+    (stops_here IsText syntax u (record { tokens = text_at 0 [] ∷ []; value = []; spelled = record { place = 0; tokens = refl } }) tt)
 
 -- ---- a token and what stands behind it
 
@@ -195,7 +220,7 @@ one_seq {B} t T u p next fill step o = weaker (Seq ℕ B (One t) T) (Behind B t 
 pub fills_one : {B : Type 0} (t : QueryToken) (T : ℕ → List PlacedToken → B → Type 0) → Filled B (T 0) → Filled B (Behind B t T)
 fills_one t T x = record { tokens = placed 0 t ∷ x.tokens; value = x.value; spelled = record { place = 0; rest = x.tokens; tokens = refl; second = x.spelled } }
 
-pub fills_seq : {A B : Type 0} (S : List PlacedToken → A → Type 0) (T : A → List PlacedToken → B → Type 0) → Filled A S → ((a : A) → Filled B (T a)) → Filled B (Seq A B S T)
+abbrev pub fills_seq : {A B : Type 0} (S : List PlacedToken → A → Type 0) (T : A → List PlacedToken → B → Type 0) → Filled A S → ((a : A) → Filled B (T a)) → Filled B (Seq A B S T)
 fills_seq S T x fill =
     let y = fill x.value in
     record {
@@ -220,7 +245,7 @@ begun P R some replaced makes u _ (reads ts v a e z s) =
     let b = some (place_of u) ts a s in
     let place : b.first.place ≡ place_of u = sym (ap (first_place u.size) (e ∙ ap (λ xs. xs ++ v.tokens) b.tokens)) in
     reads ts v a e z (makes (place_of u) ts a (b.first, b.others, b.tokens, place) s)
-begun P R some replaced makes u _ (stops ts rest more a f e z s) =
+begun P R some replaced makes u _ (stops ts rest more a f e z s k) =
     let b = some (place_of u) (ts ++ more) a s in
     let r = replaced (place_of u) b.first.place (ts ++ more) a s in
-    stops ts rest more r.0 f e z (makes b.first.place (ts ++ more) r.0 (b.first, b.others, b.tokens, refl) r.1)
+    stops ts rest more r.0 f e z (makes b.first.place (ts ++ more) r.0 (b.first, b.others, b.tokens, refl) r.1) k

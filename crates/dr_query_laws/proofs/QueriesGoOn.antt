@@ -2,26 +2,26 @@
 use Rattle.std.specs.Prelude.{◌≡◌, ℕ, zero, suc, List, [], ◌∷◌, ◌++◌, length, Bool, true, false, nat_lt, Option, Some, None, Err, if◌then◌else◌, ◌-◌}
 use Rattle.std.proofs.Common.{refl, sym, ap, ap₂, subst, ◌∙◌, append_assoc, append-nil}
 use Rattle.dr_meaning.specs.Tokens.{select_word, from_word, where_word, group_word, by_word, as_word, within_word, record_word, count_word, sum_word, min_word, max_word}
-use Rattle.dr_meaning.specs.Tokens.{comma, open_parenthesis, close_parenthesis, star, semicolon, Word, QueryToken, reserved, sign, PlacedToken, placed, query_tokens, longest_query}
+use Rattle.dr_meaning.specs.Tokens.{comma, open_parenthesis, close_parenthesis, minus_sign, star, semicolon, Word, QueryToken, reserved, identifier, number, text, sign, bad, true_word, false_word, not_word, PlacedToken, placed, query_tokens, longest_query}
 use Rattle.dr_meaning.specs.Query.{Aggregate, count, sum, least, greatest}
 use Rattle.dr_meaning.specs.Syntax.{NameSyntax, PathSyntax, ExpressionSyntax, WithinSyntax, TermSyntax, expression, count_rows, aggregate, whole_record, node, ItemSyntax}
-use Rattle.dr_meaning.specs.Syntax.{ConditionSyntax, QuerySyntax}
-use Rattle.dr_meaning.specs.Parse.{Unread, Parsed, got, refused, QueryFault, Production, give, ◌>>=◌, first_place, place_of, here, problem_here, syntax, too_many, too_long}
+use Rattle.dr_meaning.specs.Syntax.{number_literal, text_literal, truth_literal, path, ConditionSyntax, QuerySyntax}
+use Rattle.dr_meaning.specs.Parse.{Unread, Parsed, got, refused, QueryProblem, QueryFault, Production, give, ◌>>=◌, first_place, place_of, here, problem_here, syntax, too_deep, too_many, too_long}
 use Rattle.dr_meaning.specs.Parse.{if_next, any_token, operator, word, mark, name, is_the_word, is_the_sign, aggregate_in, path_names, too_many_of, further_elements}
 use Rattle.dr_meaning.specs.Parse.{elements, within_record, within_path, within_part, counts_rows, rows_argument, argument, expression_argument, aggregate_term, whole_expression}
 use Rattle.dr_meaning.specs.Parse.{expression_term, item_term, as_part, item, items, table_name, where_part, keys, group_part, text_end, end_part, query, begins_item, begins_key}
 use Rattle.dr_meaning.specs.Parse.{result_of, unread_text, parse_query, greatest_nesting, most_items}
-use Rattle.dr_meaning.specs.QueryGrammar.{word_at, sign_at, name_at, BeginsAt, SpellsPath, SpellsExpression, one_and, or_and, SpellsAnd, one_not, and_not, SpellsNot, not_not, one_test}
+use Rattle.dr_meaning.specs.QueryGrammar.{word_at, sign_at, name_at, BeginsAt, first_name, SpellsPath, SpellsExpression, one_and, or_and, SpellsAnd, one_not, and_not, SpellsNot, not_not, one_test}
 use Rattle.dr_meaning.specs.QueryGrammar.{SpellsTest, one_sum, compared_sums, like_text, not_like_text, contains_text, not_contains_text, is_null_word, is_not_null, SpellsSum}
 use Rattle.dr_meaning.specs.QueryGrammar.{one_product, plus_product, minus_product, SpellsProduct, one_unary, times_unary, SpellsUnary, minus_unary, one_primary, SpellsPrimary}
 use Rattle.dr_meaning.specs.QueryGrammar.{a_number, a_text, a_true, a_false, a_path, in_parentheses, SpellsWithin, no_within, within_the_record, within_a_path, IsAggregate, is_count}
 use Rattle.dr_meaning.specs.QueryGrammar.{is_sum, is_least, is_greatest, SpellsTerm, counted_rows, aggregated, an_expression, SpellsAs, no_as, as_name, SpellsItem, Separated, alone}
 use Rattle.dr_meaning.specs.QueryGrammar.{and_one, SpellsWhere, no_where, where_expression, SpellsGroup, no_group, group_by, SpellsEnd, no_semicolon, a_semicolon, SpellsQuery, a_query}
 use Rattle.dr_meaning.proofs.SyntaxReading.{NextToken}
-use Rattle.dr_query_laws.specs.FaultLaws.{IsAtToken, TokensBeforeFaultGoOn}
-use Rattle.dr_query_laws.proofs.Outcomes.{Filled, Outcome, reads, stops, weaker, Seq, seq, Nothing, gives, fills_nothing, stops_here, if_outcome, by_outcome, any_of}
+use Rattle.dr_query_laws.specs.FaultLaws.{IsAtToken, TokensBeforeFaultGoOn, IsLimitAtToken, LimitIsNoDeadEnd}
+use Rattle.dr_query_laws.proofs.Outcomes.{Filled, BegunWith, OneFirst, Shared, Outcome, reads, stops, weaker, Seq, seq, Nothing, gives, fills_nothing, stops_here, if_outcome, by_outcome, any_of}
 use Rattle.dr_query_laws.proofs.Outcomes.{known_word, known_sign, known_operator, word_outcome, mark_outcome, IsName, name_outcome, Behind, one_seq, fills_one, fills_seq, Begun, begun}
-use Rattle.dr_query_laws.proofs.ExpressionsGoOn.{path_outcome, fills_path, fills_expression, nested_expression_goes}
+use Rattle.dr_query_laws.proofs.ExpressionsGoOn.{path_of, path_outcome, fills_path, fills_expression, opens_parenthesis, opens_not, opens_sign, nested_expression_goes}
 
 only_front : (ts us vs : List PlacedToken) → ts ≡ us ++ vs → vs ≡ [] → ts ≡ us
 only_front ts us vs e f = e ∙ (ap (λ xs. us ++ xs) f ∙ append-nil us)
@@ -323,6 +323,68 @@ fills_item =
       spelled = (e.tokens, [], sym (append-nil e.tokens), (b.first, b.others, b.tokens, refl), an_expression e.tokens e.value e.spelled, no_as);
     }
 
+-- an item that this token begins
+expression_begun : (t : PlacedToken) (vs : List PlacedToken) (e : ExpressionSyntax) → SpellsExpression (t ∷ vs) e → BegunWith ItemSyntax SpellsItem t
+expression_begun t vs e s = (
+  record {
+    tokens = t ∷ vs;
+    value = item_of t.place (expression e) None;
+    spelled = (t ∷ vs, [], sym (append-nil (t ∷ vs)), (t, vs, refl, refl), an_expression (t ∷ vs) e s, no_as);
+  },
+  vs,
+  refl,
+)
+
+of_not : (ts : List PlacedToken) (e : ExpressionSyntax) → SpellsNot ts e → SpellsExpression ts e
+of_not ts e s = one_and ts e (one_not ts e s)
+
+of_unary : (ts : List PlacedToken) (e : ExpressionSyntax) → SpellsUnary ts e → SpellsExpression ts e
+of_unary ts e s = of_not ts e (one_test ts e (one_sum ts e (one_product ts e (one_unary ts e s))))
+
+primary_begun : (t : PlacedToken) (vs : List PlacedToken) (e : ExpressionSyntax) → SpellsPrimary (t ∷ vs) e → BegunWith ItemSyntax SpellsItem t
+primary_begun t vs e s = expression_begun t vs e (of_unary (t ∷ vs) e (one_primary (t ∷ vs) e s))
+
+aggregate_begun : (i : ℕ) (w : Word) (a : Aggregate) → IsAggregate w a → BegunWith ItemSyntax SpellsItem (word_at i w)
+aggregate_begun i w a h =
+    let e = fills_expression in
+    let vs : List PlacedToken = sign_at 0 open_parenthesis ∷ (e.tokens ++ sign_at 0 close_parenthesis ∷ []) in (
+      record {
+        tokens = word_at i w ∷ vs;
+        value = item_of i (aggregate a e.value None) None;
+        spelled = (word_at i w ∷ vs, [], sym (append-nil (word_at i w ∷ vs)), (word_at i w, vs, refl, refl), aggregated i 0 0 w a e.tokens [] e.value None h e.spelled no_within, no_as);
+      },
+      vs,
+      refl,
+    )
+
+token_begun : (i : ℕ) (t : QueryToken) → begins_item t ≡ true → BegunWith ItemSyntax SpellsItem (placed i t)
+token_begun i (number n) h = primary_begun (placed i (number n)) [] (number_literal n) (a_number i n)
+token_begun i (text s) h = primary_begun (placed i (text s)) [] (text_literal s) (a_text i s)
+token_begun i (identifier n) h = primary_begun (name_at i n) [] (path (path_of i (n ∷ []))) (a_path (name_at i n ∷ []) (path_of i (n ∷ [])) ((name_at i n, [], refl, refl), first_name i n))
+token_begun i (reserved true_word) h = primary_begun (word_at i true_word) [] (truth_literal true) (a_true i)
+token_begun i (reserved false_word) h = primary_begun (word_at i false_word) [] (truth_literal false) (a_false i)
+token_begun i (reserved not_word) h = let x = opens_not i in expression_begun (word_at i not_word) _ x.value (of_not x.tokens x.value x.spelled)
+token_begun i (reserved count_word) h = aggregate_begun i count_word count is_count
+token_begun i (reserved sum_word) h = aggregate_begun i sum_word sum is_sum
+token_begun i (reserved min_word) h = aggregate_begun i min_word least is_least
+token_begun i (reserved max_word) h = aggregate_begun i max_word greatest is_greatest
+token_begun i (reserved w) h = absurd (cc h)
+token_begun i (sign open_parenthesis) h = let x = opens_parenthesis i in primary_begun (sign_at i open_parenthesis) _ x.value x.spelled
+token_begun i (sign minus_sign) h = let x = opens_sign i in expression_begun (sign_at i minus_sign) _ x.value (of_unary x.tokens x.value x.spelled)
+token_begun i (sign g) h = absurd (cc h)
+token_begun i bad h = absurd (cc h)
+
+item_begun : (t : PlacedToken) → begins_item t.token ≡ true → BegunWith ItemSyntax SpellsItem t
+item_begun t h = token_begun t.place t.token h
+
+-- a key that this token begins
+name_begun : (i : ℕ) (t : QueryToken) → begins_key t ≡ true → BegunWith PathSyntax SpellsPath (placed i t)
+name_begun i (identifier n) h = (record { tokens = name_at i n ∷ []; value = path_of i (n ∷ []); spelled = ((name_at i n, [], refl, refl), first_name i n) }, [], refl)
+name_begun i t h = absurd (cc h)
+
+key_begun : (t : PlacedToken) → begins_key t.token ≡ true → BegunWith PathSyntax SpellsPath t
+key_begun t h = name_begun t.place t.token h
+
 -- ---- lists
 
 abbrev ElementsMore : (A : Type 0) → (List PlacedToken → A → Type 0) → List A → List PlacedToken → List A → Type 0
@@ -331,7 +393,7 @@ ElementsMore A S xs ws ys = (us : List PlacedToken) → Separated A S us xs → 
 no_elements : (A : Type 0) (S : List PlacedToken → A → Type 0) (xs : List A) (ws : List PlacedToken) (ys : List A) → Nothing (List A) xs ws ys → ElementsMore A S xs ws ys
 no_elements A S xs ws ys x us s = subst (Separated A S (us ++ ws)) x.same (subst (λ zs. Separated A S zs xs) (sym (ap (λ zs. us ++ zs) x.none ∙ append-nil us)) s)
 
-fills_elements : (A : Type 0) (S : List PlacedToken → A → Type 0) (xs : List A) → Filled (List A) (ElementsMore A S xs)
+abbrev fills_elements : (A : Type 0) (S : List PlacedToken → A → Type 0) (xs : List A) → Filled (List A) (ElementsMore A S xs)
 fills_elements A S xs = record { tokens = []; value = xs; spelled = no_elements A S xs [] xs (record { none = refl; same = refl }) }
 
 abbrev ElementAndMore : (A : Type 0) → (List PlacedToken → A → Type 0) → List A → ℕ → List PlacedToken → List A → Type 0
@@ -345,42 +407,52 @@ comma_all A S xs ts ys x us s =
     let all = y.second (us ++ front) (and_one x.place us y.front xs y.middle s y.first) in
     subst (λ zs. Separated A S zs ys) (append_assoc us front y.rest ∙ ap (λ zs. us ++ zs) (sym tokens)) all
 
-fills_comma : (A : Type 0) (S : List PlacedToken → A → Type 0) → Filled A S → (xs : List A) (i : ℕ) → Filled (List A) (ElementAndMore A S xs i)
+abbrev fills_comma : (A : Type 0) (S : List PlacedToken → A → Type 0) → Filled A S → (xs : List A) (i : ℕ) → Filled (List A) (ElementAndMore A S xs i)
 fills_comma A S fill xs i = fills_seq S (λ x. ElementsMore A S (xs ++ x ∷ [])) fill (λ x. fills_elements A S (xs ++ x ∷ []))
 
-elements_go : (A : Type 0) (S : List PlacedToken → A → Type 0) (begins : QueryToken → Bool) (element : Production A) → Filled A S → ((u : Unread) → Outcome A S u (element u)) → (k : ℕ) (xs : List A)
+-- a token that begins an element
+abbrev Beginning : (A : Type 0) → (List PlacedToken → A → Type 0) → (QueryToken → Bool) → Type 0
+Beginning A S begins = (t : PlacedToken) → begins t.token ≡ true → BegunWith A S t
+
+too_many_elements : (A : Type 0) (S : List PlacedToken → A → Type 0) (begins : QueryToken → Bool) → Beginning A S begins → (xs : List A) (i : ℕ) (v : Unread) → NextToken begins v
+    → Outcome (List A) (ElementAndMore A S xs i) v (problem_here too_many v)
+too_many_elements A S begins some xs i v m =
+    let b = some m.first m.passes_it in
+    stops_here (ElementAndMore A S xs i) too_many v (fills_comma A S b.0 xs i) (m.first, m.rest, b.1 ++ [], m.tokens, ap (λ ws. ws ++ []) b.2)
+
+elements_go : (A : Type 0) (S : List PlacedToken → A → Type 0) (begins : QueryToken → Bool) (element : Production A) → Beginning A S begins → Filled A S → ((u : Unread) → Outcome A S u (element u)) → (k : ℕ) (xs : List A)
     (u : Unread) → Outcome (List A) (ElementsMore A S xs) u (further_elements begins element k xs u)
-elements_go A S begins element fill goes zero xs u =
+elements_go A S begins element some fill goes zero xs u =
     if_outcome (ElementsMore A S xs) (is_the_sign comma) (any_token >>= (λ _. too_many_of begins)) (give xs) u
     (λ n. weaker (Behind (List A) (sign comma) (ElementAndMore A S xs)) (ElementsMore A S xs) u ((any_token >>= (λ _. too_many_of begins)) u) (comma_all A S xs)
     (one_seq (sign comma) (ElementAndMore A S xs) u (any_token u) (λ _. too_many_of begins) (fills_comma A S fill xs)
-    (λ i v. if_outcome (ElementAndMore A S xs i) begins (problem_here too_many) (problem_here syntax) v (λ _. stops_here (ElementAndMore A S xs i) too_many v (fills_comma A S fill xs i))
-    (stops_here (ElementAndMore A S xs i) syntax v (fills_comma A S fill xs i)))
+    (λ i v. if_outcome (ElementAndMore A S xs i) begins (problem_here too_many) (problem_here syntax) v (too_many_elements A S begins some xs i v)
+    (stops_here (ElementAndMore A S xs i) syntax v (fills_comma A S fill xs i) tt))
     (known_sign comma u n)))
     (weaker (Nothing (List A) xs) (ElementsMore A S xs) u (give xs u) (no_elements A S xs) (gives xs u))
-elements_go A S begins element fill goes (suc k) xs u =
+elements_go A S begins element some fill goes (suc k) xs u =
     if_outcome (ElementsMore A S xs) (is_the_sign comma) (any_token >>= (λ _. element >>= (λ x. further_elements begins element k (xs ++ x ∷ [])))) (give xs) u
     (λ n. weaker (Behind (List A) (sign comma) (ElementAndMore A S xs)) (ElementsMore A S xs) u ((any_token >>= (λ _. element >>= (λ x. further_elements begins element k (xs ++ x ∷ [])))) u)
     (comma_all A S xs)
     (one_seq (sign comma) (ElementAndMore A S xs) u (any_token u) (λ _. element >>= (λ x. further_elements begins element k (xs ++ x ∷ []))) (fills_comma A S fill xs)
     (λ i v. seq S (λ x. ElementsMore A S (xs ++ x ∷ [])) v (element v) (λ x. further_elements begins element k (xs ++ x ∷ [])) (λ x. fills_elements A S (xs ++ x ∷ []))
-    (λ x w. elements_go A S begins element fill goes k (xs ++ x ∷ []) w) (goes v))
+    (λ x w. elements_go A S begins element some fill goes k (xs ++ x ∷ []) w) (goes v))
     (known_sign comma u n)))
     (weaker (Nothing (List A) xs) (ElementsMore A S xs) u (give xs u) (no_elements A S xs) (gives xs u))
 
-elements_outcome : (A : Type 0) (S : List PlacedToken → A → Type 0) (begins : QueryToken → Bool) (element : Production A) → Filled A S → ((u : Unread) → Outcome A S u (element u)) → (n : ℕ) (u : Unread)
+elements_outcome : (A : Type 0) (S : List PlacedToken → A → Type 0) (begins : QueryToken → Bool) (element : Production A) → Beginning A S begins → Filled A S → ((u : Unread) → Outcome A S u (element u)) → (n : ℕ) (u : Unread)
     → Outcome (List A) (Separated A S) u (elements begins element n u)
-elements_outcome A S begins element fill goes n u = weaker (Seq A (List A) S (λ x. ElementsMore A S (x ∷ []))) (Separated A S) u (elements begins element n u)
+elements_outcome A S begins element some fill goes n u = weaker (Seq A (List A) S (λ x. ElementsMore A S (x ∷ []))) (Separated A S) u (elements begins element n u)
     (λ ts ys x. subst (λ zs. Separated A S zs ys) (sym x.tokens) (x.second x.front (alone x.front x.middle x.first)))
-    (seq S (λ x. ElementsMore A S (x ∷ [])) u (element u) (λ x. further_elements begins element n (x ∷ [])) (λ x. fills_elements A S (x ∷ [])) (λ x v. elements_go A S begins element fill goes n (x ∷ []) v) (goes u))
+    (seq S (λ x. ElementsMore A S (x ∷ [])) u (element u) (λ x. further_elements begins element n (x ∷ [])) (λ x. fills_elements A S (x ∷ [])) (λ x v. elements_go A S begins element some fill goes n (x ∷ []) v) (goes u))
 
 pub items_go : (u : Unread) → Outcome (List ItemSyntax) (Separated ItemSyntax SpellsItem) u (items u)
 unfolding items
-items_go u = elements_outcome ItemSyntax SpellsItem begins_item item fills_item item_goes (most_items - 1) u
+items_go u = elements_outcome ItemSyntax SpellsItem begins_item item item_begun fills_item item_goes (most_items - 1) u
 
 keys_go : (u : Unread) → Outcome (List PathSyntax) (Separated PathSyntax SpellsPath) u (keys u)
 unfolding keys
-keys_go u = elements_outcome PathSyntax SpellsPath begins_key path_names fills_path path_outcome (most_items - 1) u
+keys_go u = elements_outcome PathSyntax SpellsPath begins_key path_names key_begun fills_path path_outcome (most_items - 1) u
 
 -- ---- clauses
 
@@ -485,7 +557,7 @@ TextEnds i ts j = ts ≡ []
 
 text_end_by : (ts : List PlacedToken) (n k i : ℕ) → Outcome ℕ (TextEnds i) (record { tokens = ts; size = n; operators = k }) (text_end (record { tokens = ts; size = n; operators = k }))
 text_end_by [] n k i = reads [] (record { tokens = []; size = n; operators = k }) n refl refl refl
-text_end_by (t ∷ ts) n k i = stops_here (TextEnds i) syntax (record { tokens = t ∷ ts; size = n; operators = k }) (record { tokens = []; value = 0; spelled = refl })
+text_end_by (t ∷ ts) n k i = stops_here (TextEnds i) syntax (record { tokens = t ∷ ts; size = n; operators = k }) (record { tokens = []; value = 0; spelled = refl }) tt
 
 text_end_goes : (i : ℕ) (u : Unread) → Outcome ℕ (TextEnds i) u (text_end u)
 text_end_goes i u = text_end_by u.tokens u.size u.operators i
@@ -593,12 +665,13 @@ record FaultAt (u : Unread) (f : QueryFault) : Type 0 where
   tokens : u.tokens ≡ before ++ rest
   place : first_place u.size rest ≡ f.place
   spelled : SpellsQuery (before ++ more) tree
+  shared : Shared f.problem rest more
 
 fault_at : (u : Unread) (p : Parsed QuerySyntax) (f : QueryFault) → Outcome QuerySyntax SpellsQuery u p → p ≡ refused f → FaultAt u f
 fault_at u _ f (reads ts v a e z s) h = absurd (cc h)
-fault_at u _ f (stops ts rest more a g e z s) h =
+fault_at u _ f (stops ts rest more a g e z s c) h =
     let k : g ≡ f = cc in
-    record { before = ts; rest = rest; more = more; tree = a; tokens = e; place = z ∙ ap (λ (x : QueryFault). x.place) k; spelled = s }
+    record { before = ts; rest = rest; more = more; tree = a; tokens = e; place = z ∙ ap (λ (x : QueryFault). x.place) k; spelled = s; shared = subst (λ (x : QueryFault). Shared x.problem rest more) k c }
 
 pub tokens_go_on : TokensBeforeFaultGoOn
 unfolding parse_query
@@ -617,4 +690,40 @@ tokens_go_on bytes f at h = by_length (nat_lt longest_query (length bytes)) h
 
     by_length : (b : Bool) → (if b then Err (record { place = longest_query; problem = too_long }) else result_of (query (unread_text bytes))) ≡ Err f → Goal
     by_length true g = let k : record { place = longest_query; problem = too_long } ≡ f = cc in absurd (subst (λ (x : QueryFault). IsAtToken x.problem) (sym k) at)
+    by_length false g = by_result (query (unread_text bytes)) refl g
+
+-- the token that passes a limit
+one_first_of : (p : QueryProblem) (rest more : List PlacedToken) → IsLimitAtToken p → Shared p rest more → OneFirst rest more
+one_first_of too_long rest more l k = absurd l
+one_first_of syntax rest more l k = absurd l
+one_first_of too_deep rest more l k = k
+one_first_of too_many rest more l k = k
+
+pub no_dead_end : LimitIsNoDeadEnd
+unfolding parse_query
+no_dead_end bytes f at h = by_length (nat_lt longest_query (length bytes)) h
+  where
+    Goal : Type 0
+    Goal = (before : List PlacedToken) × (t : PlacedToken) × (rest : List PlacedToken) × (query_tokens bytes ≡ before ++ t ∷ rest) × (t.place ≡ f.place)
+        × ((us : List PlacedToken) × (q : QuerySyntax) × SpellsQuery ((before ++ t ∷ []) ++ us) q)
+
+    by_fault : FaultAt (unread_text bytes) f → Goal
+    by_fault x =
+        let k = one_first_of f.problem x.rest x.more at x.shared in (
+          x.before,
+          k.0,
+          k.1,
+          x.tokens ∙ ap (λ ts. x.before ++ ts) k.3,
+          sym (ap (first_place (length bytes)) k.3) ∙ x.place,
+          (k.2, x.tree, subst (λ ts. SpellsQuery ts x.tree) (ap (λ ts. x.before ++ ts) k.4 ∙ sym (append_assoc x.before (k.0 ∷ []) k.2)) x.spelled),
+        )
+
+    by_result : (p : Parsed QuerySyntax) → query (unread_text bytes) ≡ p → result_of p ≡ Err f → Goal
+    by_result (got x v) e g = absurd (cc g)
+    by_result (refused r) e g =
+        let k : r ≡ f = cc in
+        by_fault (fault_at (unread_text bytes) (query (unread_text bytes)) f (query_goes (unread_text bytes)) (e ∙ ap refused k))
+
+    by_length : (b : Bool) → (if b then Err (record { place = longest_query; problem = too_long }) else result_of (query (unread_text bytes))) ≡ Err f → Goal
+    by_length true g = let k : record { place = longest_query; problem = too_long } ≡ f = cc in absurd (subst (λ (x : QueryFault). IsLimitAtToken x.problem) (sym k) at)
     by_length false g = by_result (query (unread_text bytes)) refl g

@@ -6,11 +6,11 @@ use Rattle.dr_meaning.specs.Schema.{Schema}
 use Rattle.dr_meaning.specs.Path.{Leaf}
 use Rattle.dr_meaning.specs.Record.{Node}
 use Rattle.dr_outside.specs.Link.{Files, LinkShown, Holds}
-use Rattle.dr_serving.specs.ServingLaws.{is_read}
+use Rattle.dr_reading.specs.Causes.{is_read}
 use Rattle.dr_reading.specs.Scan.{Copy}
 use Rattle.dr_reading.specs.Given.{IsFileThere, SomeIsFile}
-use Rattle.dr_reading.specs.Left.{Tried, LeftTablet, IsCauseAt, AreTried, LeavesJust, no_tablets, is_given, is_left}
-use Rattle.dr_reading.specs.Held.{EachHasFile, SomeFileFailed, EachReadFailed}
+use Rattle.dr_reading.specs.Left.{Tried, LeftTablet, IsCauseAt, AreTried, LeavesJust, no_tablets, is_answered, is_left}
+use Rattle.dr_reading.specs.Premises.{EachHasFile, SomeFileFailed, EachReadFailed}
 use Rattle.dr_reading.specs.ReadingLaws.{LeftFailedToRead, SteadyLeavesNone}
 use Rattle.dr_reading.proofs.ReadingLemmas.{left_holds_no_file}
 
@@ -39,7 +39,7 @@ module _ (s : Schema) (F : List Leaf) (link : LinkShown) (files : Files) (held :
 
   each_failed : (all before ts : List (List Copy)) (n : ℕ) (left : List LeftTablet) → all ≡ before ++ ts → n ≡ length before → EachHasFile s F files ts → LeavesJust s F link n ts left → EachReadFailed s F files all left
   each_failed all before [] n left e l h (no_tablets m) = tt
-  each_failed all before (cs ∷ rest) n left e l h (is_given m ds more ls R g k) =
+  each_failed all before (cs ∷ rest) n left e l h (is_answered m ds more ls g k) =
       each_failed all (before ++ cs ∷ []) rest (suc n) left (e ∙ sym (append_assoc before (cs ∷ []) rest)) (ap suc l ∙ sym (length_one before)) h.1 k
     where
       length_one : (b : List (List Copy)) → length (b ++ cs ∷ []) ≡ suc (length b)
@@ -71,7 +71,7 @@ module _ (s : Schema) (F : List Leaf) (link : LinkShown) (files : Files) (held :
 
     none_left : (ts : List (List Copy)) (n : ℕ) (left : List LeftTablet) → EachHasFile s F files ts → LeavesJust s F link n ts left → left ≡ []
     none_left [] n left h (no_tablets m) = refl
-    none_left (cs ∷ rest) n left h (is_given m ds more ls R g k) = none_left rest (suc n) left h.1 k
+    none_left (cs ∷ rest) n left h (is_answered m ds more ls g k) = none_left rest (suc n) left h.1 k
     none_left (cs ∷ rest) n left h (is_left m ds more ls tried a k) = absurd (none_failed cs tried h.0.0 a h.0.1)
 
 pub left_failed_to_read : LeftFailedToRead

@@ -1,5 +1,8 @@
 -- worked examples, by computation
 pub mod WorkedLeft
+pub mod WorkedCauses
+-- what files are, and what they aren't
+pub mod FileLemmas
 -- lemmas of the laws
 pub mod ReadingLemmas
 -- tablets of which a file is held

@@ -7,14 +7,12 @@ use Rattle.dr_meaning.specs.Path.{Leaf, is_leaf_path}
 use Rattle.dr_meaning.specs.Record.{Node, project}
 use Rattle.dr_formats.specs.File.{IsFileOf}
 use Rattle.dr_outside.specs.Link.{Files}
-use Rattle.dr_serving.specs.Held.{Held, present, held_file, held_at}
-use Rattle.dr_serving.specs.Premises.{TellsFiles, HoldsRecords, PathsHold, paths_of_leaves}
-use Rattle.dr_serving.specs.Causes.{IsJustified}
-use Rattle.dr_serving.proofs.ServingLemmas.{same_projections}
-use Rattle.dr_serving.proofs.PieceLemmas.{other_causes_hold_no_file}
-use Rattle.dr_reading.specs.Scan.{Copy, joined}
+use Rattle.dr_reading.specs.Held.{Held, present, held_file, held_at}
+use Rattle.dr_reading.specs.Premises.{TellsFiles, HoldsRecords, PathsHold, paths_of_leaves, TabletsHold}
+use Rattle.dr_reading.specs.Causes.{IsJustified}
+use Rattle.dr_reading.specs.Scan.{Copy, copy_paths, joined}
 use Rattle.dr_reading.specs.Given.{IsFileThere, SomeIsFile, AreGiven}
-use Rattle.dr_reading.specs.Held.{copy_paths, TabletsHold}
+use Rattle.dr_reading.proofs.FileLemmas.{same_projections, other_causes_hold_no_file}
 use Rattle.dr_reading.specs.ReadingLaws.{GivenAreProjected, ReadTextIsMeant, LeftHoldsNoFile}
 
 module _ (s : Schema) (F : List Leaf) (leaves : list_all (λ (l : Leaf). is_leaf_path s.fields l.path) F ≡ true) where

@@ -1,48 +1,37 @@
--- What has to hold of a link and of a table, so that what is read of the table is its records.
-use Rattle.std.specs.Prelude.{◌≡◌, ℕ, true, List, [], ◌∷◌, map, Option, Some, ⊤, ◌⊎◌}
-use Rattle.std.specs.List.{slice_get}
-use Rattle.dr_meaning.specs.Schema.{Schema}
-use Rattle.dr_meaning.specs.Path.{Leaf}
-use Rattle.dr_meaning.specs.Record.{Node, project}
+-- What links hold at the paths of a tablet, as far as they tell.
+use Rattle.std.specs.Prelude.{◌≡◌, List, [], ◌∷◌, ◌++◌, map, Option, Some, None, ◌⊎◌, ℕ}
 use Rattle.dr_outside.specs.Link.{Files}
-use Rattle.dr_serving.specs.Premises.{TellsFiles, PathsHold, paths_of_leaves}
-use Rattle.dr_serving.specs.ServingLaws.{is_read}
-use Rattle.dr_reading.specs.Scan.{Copy, Scan}
-use Rattle.dr_reading.specs.Given.{IsFileThere, SomeIsFile}
-use Rattle.dr_reading.specs.Left.{Tried, LeftTablet}
 
-abbrev pub copy_paths : List Copy → List (List ℕ)
-copy_paths cs = map (λ (c : Copy). c.path) cs
+-- what a link holds at a path: it doesn't tell; there is nothing; there are these bytes
+pub data Held : Type 0 where
+  untold : Held
+  absent : Held
+  present : List ℕ → Held
 
--- each copy of each tablet holds a file of the tablet's records for these leaves, or none of any records, or nothing
-abbrev pub TabletsHold : Schema → List Leaf → Files → List (List Copy) → List (List Node) → Type 0
-TabletsHold s F files [] [] = ⊤
-TabletsHold s F files (cs ∷ ts) (R ∷ Rs) = PathsHold s F R files (copy_paths cs) × TabletsHold s F files ts Rs
-TabletsHold s F files ts Rs = ⊥
+-- where the link tells
+abbrev pub held_file : Option (List ℕ) → Held
+held_file None = absent
+held_file (Some bytes) = present bytes
 
--- the link tells what it holds, and that is so of each tablet
-abbrev pub HoldsTable : Scan → Option Files → List (List Node) → Type 0
-HoldsTable s held Rs = (files : Files) × TellsFiles files held × TabletsHold s.schema s.leaves files s.tablets Rs
+abbrev pub held_at : Option Files → List ℕ → Held
+held_at None path = untold
+held_at (Some files) path = held_file (files path)
 
--- what is printed depends on the projections to the leaves alone
-abbrev pub SeesLeavesAlone : Scan → Type 0
-SeesLeavesAlone s = (R S : List Node) → map (project (paths_of_leaves s.leaves)) R ≡ map (project (paths_of_leaves s.leaves)) S → s.text R ≡ s.text S
+-- what a link holds at each of a tablet's leaves, by the paths of the tablet on them
+abbrev pub held_on : Option Files → List (List ℕ) → List Held
+held_on link paths = map (held_at link) paths
 
--- ---- where a file is held of each tablet
+-- what each link holds there
+abbrev pub held_by_all : List (Option Files) → List (List ℕ) → List Held
+held_by_all [] paths = []
+held_by_all (link ∷ links) paths = held_on link paths ++ held_by_all links paths
 
--- each tablet has a copy that is a file of some records
-abbrev pub EachHasFile : Schema → List Leaf → Files → List (List Copy) → Type 0
-EachHasFile s F files [] = ⊤
-EachHasFile s F files (cs ∷ ts) = ((R : List Node) × SomeIsFile s F files cs R) × EachHasFile s F files ts
+-- these bytes are held somewhere
+abbrev pub IsHeld : List ℕ → List Held → Type 0
+IsHeld bytes [] = ⊥
+IsHeld bytes (h ∷ hs) = (h ≡ present bytes) ⊎ IsHeld bytes hs
 
--- one of these copies is a file, and what was told of it is a failed read
-abbrev pub SomeFileFailed : Schema → List Leaf → Files → List Copy → List Tried → Type 0
-SomeFileFailed s F files [] ts = ⊥
-SomeFileFailed s F files (c ∷ cs) [] = ⊥
-SomeFileFailed s F files (c ∷ cs) (t ∷ ts) = (((R : List Node) × IsFileThere s F R (files c.path)) × (is_read t.cause ≡ true)) ⊎ SomeFileFailed s F files cs ts
-
--- that is so of each tablet that is left
-abbrev pub EachReadFailed : Schema → List Leaf → Files → List (List Copy) → List LeftTablet → Type 0
-EachReadFailed s F files ts [] = ⊤
-EachReadFailed s F files ts (l ∷ ls) =
-    ((cs : List Copy) × (slice_get ts l.tablet ≡ Some cs) × SomeFileFailed s F files cs l.tried) × EachReadFailed s F files ts ls
+-- a link doesn't tell what it holds
+abbrev pub IsUntold : List Held → Type 0
+IsUntold [] = ⊥
+IsUntold (h ∷ hs) = (h ≡ untold) ⊎ IsUntold hs

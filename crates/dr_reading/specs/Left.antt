@@ -6,9 +6,8 @@ use Rattle.dr_meaning.specs.Path.{Leaf}
 use Rattle.dr_meaning.specs.Record.{Node}
 use Rattle.dr_outside.specs.Link.{LinkShown, Holds}
 use Rattle.dr_outside.specs.declared.cause.Cause.{Cause}
-use Rattle.dr_serving.specs.Held.{held_at}
-use Rattle.dr_serving.specs.Causes.{IsJustified}
-use Rattle.dr_serving.specs.ServingLaws.{is_read}
+use Rattle.dr_reading.specs.Held.{held_at}
+use Rattle.dr_reading.specs.Causes.{IsJustified, is_read}
 use Rattle.dr_reading.specs.Scan.{Copy}
 use Rattle.dr_reading.specs.Given.{IsGiven}
 
@@ -32,14 +31,18 @@ AreTried s F link [] [] = ⊤
 AreTried s F link (c ∷ cs) (t ∷ ts) = (t.directory ≡ c.directory) × IsCauseAt s F link c.path t.cause × AreTried s F link cs ts
 AreTried s F link cs ts = ⊥
 
--- just these tablets are left: each tablet, the first of which is the tth, gives records, or is left with each of its copies tried
-pub data LeavesJust (s : Schema) (F : List Leaf) (link : LinkShown) : ℕ → List (List Copy) → List LeftTablet → Type 0 where
-  no_tablets : (t : ℕ) → LeavesJust s F link t [] []
-  is_given : (t : ℕ) (cs : List Copy) (rest : List (List Copy)) (left : List LeftTablet) (R : List Node)
-      → IsGiven s F link.held cs R → LeavesJust s F link (suc t) rest left → LeavesJust s F link t (cs ∷ rest) left
+-- just these tablets are left: each tablet, the first of which is the tth, has an answer, or is left with each of its copies tried
+pub data LeftUnanswered (s : Schema) (F : List Leaf) (link : LinkShown) (HasAnswer : List Copy → Type 0) : ℕ → List (List Copy) → List LeftTablet → Type 0 where
+  no_tablets : (t : ℕ) → LeftUnanswered s F link HasAnswer t [] []
+  is_answered : (t : ℕ) (cs : List Copy) (rest : List (List Copy)) (left : List LeftTablet)
+      → HasAnswer cs → LeftUnanswered s F link HasAnswer (suc t) rest left → LeftUnanswered s F link HasAnswer t (cs ∷ rest) left
   is_left : (t : ℕ) (cs : List Copy) (rest : List (List Copy)) (left : List LeftTablet) (tried : List Tried)
-      → AreTried s F link cs tried → LeavesJust s F link (suc t) rest left
-      → LeavesJust s F link t (cs ∷ rest) (record { tablet = t; tried = tried } ∷ left)
+      → AreTried s F link cs tried → LeftUnanswered s F link HasAnswer (suc t) rest left
+      → LeftUnanswered s F link HasAnswer t (cs ∷ rest) (record { tablet = t; tried = tried } ∷ left)
+
+-- just these tablets are left, and each other one gives some records
+abbrev pub LeavesJust : Schema → List Leaf → LinkShown → ℕ → List (List Copy) → List LeftTablet → Type 0
+LeavesJust s F link t tablets left = LeftUnanswered s F link (λ cs. (R : List Node) × IsGiven s F link.held cs R) t tablets left
 
 -- the causes, in the order in which they were met
 abbrev pub causes_of : List Tried → List Cause

@@ -1,20 +1,20 @@
 -- The lines that tell which tablets are left, and why.
-use Rattle.std.specs.Prelude.{ℕ, ◌==◌, List, map, filter}
+use Rattle.std.specs.Prelude.{ℕ, ◌==◌, List, map, filter, Option, Some, None}
 use Rattle.std.specs.List.{flat_map, range_with_len}
 use Rattle.dr_formats.specs.TableFile.{most_leaf_lines}
-use Rattle.dr_formats.specs.File.{bad_footer, bad_schema, bad_codec, bad_data}
+use Rattle.dr_formats.specs.File.{FileCause}
 use Rattle.dr_formats.specs.Reports.{LeafCause, read_failed, bad_file, LeftLeaf, left_tablet_text}
 use Rattle.dr_outside.specs.declared.cause.Cause.{Cause}
-use Rattle.dr_outside.specs.declared.cause.Cause.TheVariants.{ReadFailed, BadFooter, BadSchema, BadCodec, BadData}
+use Rattle.dr_reading.specs.Causes.{file_cause}
 use Rattle.dr_reading.specs.Left.{Tried, LeftTablet}
 
 -- a cause, as it is told
+abbrev pub told_as : Option FileCause → LeafCause
+told_as None = read_failed
+told_as (Some c) = bad_file c
+
 abbrev pub told_cause : Cause → LeafCause
-told_cause (ReadFailed before after) = read_failed
-told_cause BadFooter = bad_file bad_footer
-told_cause BadSchema = bad_file bad_schema
-told_cause BadCodec = bad_file bad_codec
-told_cause BadData = bad_file bad_data
+told_cause c = told_as (file_cause c)
 
 -- those of the copies that lie in one directory
 abbrev pub in_directory : List Tried → ℕ → List Tried

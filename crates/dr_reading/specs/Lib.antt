@@ -1,4 +1,7 @@
 -- The definitions of reading a table, in the order in which they build on one another.
+-- what links hold at paths, and why a copy gave nothing
+pub mod Held
+pub mod Causes
 -- what is read, and what is printed of it
 pub mod Scan
 -- what was given, and what is left
@@ -7,6 +10,6 @@ pub mod Left
 -- the lines that tell what is left
 pub mod LeftText
 -- what has to hold of links and tablets
-pub mod Held
+pub mod Premises
 -- laws, each proved on a law function of src/
 pub mod ReadingLaws

@@ -7,12 +7,12 @@ use Rattle.dr_meaning.specs.Record.{Node, project}
 use Rattle.dr_formats.specs.File.{IsFileOf}
 use Rattle.dr_outside.specs.Link.{Files, LinkShown}
 use Rattle.dr_outside.specs.declared.cause.Cause.{Cause}
-use Rattle.dr_serving.specs.Premises.{TellsFiles, paths_of_leaves}
-use Rattle.dr_serving.specs.ServingLaws.{is_read}
+use Rattle.dr_reading.specs.Premises.{TellsFiles, paths_of_leaves, TabletsHold, HoldsTable, SeesLeavesAlone, EachHasFile, EachReadFailed}
 use Rattle.dr_reading.specs.Scan.{Copy, Scan, joined}
 use Rattle.dr_reading.specs.Given.{AreGiven}
+use Rattle.dr_reading.specs.Held.{present}
+use Rattle.dr_reading.specs.Causes.{is_read, IsJustified}
 use Rattle.dr_reading.specs.Left.{LeftTablet, IsCauseAt, LeavesJust}
-use Rattle.dr_reading.specs.Held.{TabletsHold, HoldsTable, SeesLeavesAlone, EachHasFile, EachReadFailed}
 
 -- the records that are given have the projections of the tablets' records
 abbrev pub GivenAreProjected : Type 0
@@ -24,6 +24,11 @@ GivenAreProjected = (s : Schema) (F : List Leaf) (files : Files) (held : Option 
 abbrev pub ReadTextIsMeant : Type 0
 ReadTextIsMeant = (s : Scan) (held : Option Files) (Rs Ss : List (List Node)) → list_all (λ (l : Leaf). is_leaf_path s.schema.fields l.path) s.leaves ≡ true
     → SeesLeavesAlone s → HoldsTable s held Rs → AreGiven s.schema s.leaves held s.tablets Ss → s.text (joined Ss) ≡ s.text (joined Rs)
+
+-- bytes whose cause isn't a failed read are no file of any records
+abbrev pub OtherCausesHoldNoFile : Type 0
+OtherCausesHoldNoFile = (s : Schema) (F : List Leaf) (bytes : List ℕ) (c : Cause) (R : List Node) → is_read c ≡ false
+    → IsJustified s F (present bytes) c → IsFileOf bytes s F R → ⊥
 
 -- a copy whose cause isn't a failed read holds no file of any records
 abbrev pub LeftHoldsNoFile : Type 0

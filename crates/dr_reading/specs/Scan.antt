@@ -1,5 +1,5 @@
 -- A scan of a table: which leaves of its tablets are read, and what is printed of their records.
-use Rattle.std.specs.Prelude.{ℕ, zero, suc, List, [], ◌∷◌, ◌++◌, length}
+use Rattle.std.specs.Prelude.{ℕ, zero, suc, List, [], ◌∷◌, ◌++◌, length, map}
 use Rattle.dr_meaning.specs.Schema.{Schema}
 use Rattle.dr_meaning.specs.Path.{Leaf}
 use Rattle.dr_meaning.specs.Record.{Node}
@@ -10,6 +10,9 @@ use Rattle.dr_formats.specs.TableFile.{Table}
 pub record Copy : Type 0 where
   pub directory : ℕ
   pub path : List ℕ
+
+abbrev pub copy_paths : List Copy → List (List ℕ)
+copy_paths cs = map (λ (c : Copy). c.path) cs
 
 -- a scan: of each tablet its copies, in the order in which they are tried
 pub record Scan : Type 0 where

@@ -1,12 +1,17 @@
 // Laws of reading a table.
 
-ghost use Rattle.dr_reading.specs.ReadingLaws.{GivenAreProjected, ReadTextIsMeant, LeftHoldsNoFile, LeftFailedToRead, SteadyLeavesNone};
+ghost use Rattle.dr_reading.specs.ReadingLaws.{GivenAreProjected, ReadTextIsMeant, OtherCausesHoldNoFile, LeftHoldsNoFile, LeftFailedToRead, SteadyLeavesNone};
 
 /// Whatever copy of each tablet gave its records: where each copy holds a file of the tablet's records, or none of any, what is printed of
 /// the records that were given is what is to be printed of the tablets' records.
 pub fn read_text_is_meant()
     ensures given { GivenAreProjected }
     ensures text { ReadTextIsMeant }
+{}
+
+/// Bytes whose cause isn't a failed read are no file of any records.
+pub fn other_causes_hold_no_file()
+    ensures { OtherCausesHoldNoFile }
 {}
 
 /// A copy whose cause isn't a failed read holds no file of any records.

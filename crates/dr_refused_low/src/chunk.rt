@@ -7,7 +7,8 @@ ghost use Rattle.dr_levels.specs.Views.{column_view, column_form};
 ghost use Rattle.dr_outside.specs.Faults.{raised};
 ghost use Rattle.dr_page.specs.Reads.{Joins};
 ghost use Rattle.dr_chunk.specs.Takers.{leaf_form, IsLeafOf};
-ghost use Rattle.dr_chunk.specs.Telling.{Tells, Serves, AsksOnly, is_read_inside, inside};
+ghost use Rattle.dr_outside.specs.Telling.{Tells, Serves, AsksOnly};
+ghost use Rattle.dr_chunk.specs.Ranges.{is_read_inside, inside};
 
 use dr_chunk::{ByteRange, ChunkBuffers, ChunkFault, LeafShape, read_chunk};
 use dr_levels::Column;

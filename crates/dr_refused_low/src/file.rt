@@ -6,7 +6,8 @@ ghost use Rattle.dr_meaning.specs.Path.{Leaf, max_definition};
 ghost use Rattle.dr_formats.specs.File.{Footer, footer_of, most_triplets};
 ghost use Rattle.dr_formats.specs.Opening.{leaf_cause, leaf_ranges};
 ghost use Rattle.dr_levels.specs.Views.{column_view, column_form, form};
-ghost use Rattle.dr_chunk.specs.Telling.{Tells, Serves, AsksOnly, is_read_inside};
+ghost use Rattle.dr_outside.specs.Telling.{Tells, Serves, AsksOnly};
+ghost use Rattle.dr_chunk.specs.Ranges.{is_read_inside};
 ghost use Rattle.dr_file.specs.OpenedFiles.{IsOpened, IsColumnOf, IsColumnFault, HasCounts, is_read_fault, leaf_count, path_of};
 
 use dr_file::{FileFault, Opened};

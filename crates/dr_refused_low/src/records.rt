@@ -1,23 +1,22 @@
 //! The records of files.
 
-ghost use Rattle.std.specs.Prelude.{◌≡◌, ◌≢◌, ◌≤◌, ℕ, List, map, true, false, IfOk, IfErr, IsTrue, Err};
+ghost use Rattle.std.specs.Prelude.{◌≡◌, ◌≢◌, ◌≤◌, ℕ, List, map, true, false, IfOk, IfErr, IsTrue, Err, []};
 ghost use Rattle.dr_formats.specs.Opening.{reader_ranges};
 ghost use Rattle.dr_nested.specs.Views.{fields_view};
 ghost use Rattle.dr_nested.specs.SchemaView.{schema_view};
 ghost use Rattle.dr_nested.specs.PathView.{path_view};
 ghost use Rattle.dr_assemble.specs.Views.{nodes_view};
 ghost use Rattle.dr_outside.specs.Link.{Lacks};
-ghost use Rattle.dr_chunk.specs.Telling.{Tells, Serves, AsksOnly};
+ghost use Rattle.dr_outside.specs.Telling.{Tells, Serves, AsksOnly};
 ghost use Rattle.dr_file.specs.Asking.{is_request_for};
 ghost use Rattle.dr_file.specs.OpenedFiles.{HasCounts, is_read_fault};
-ghost use Rattle.dr_steps.specs.Counting.{counted};
-ghost use Rattle.dr_records.specs.FileRecords.{AreLeavesOf, AreOfFile, IsFaultOf, AreProjected, AreFew, triplets_at};
+ghost use Rattle.dr_tablets.specs.Counting.{counted};
+ghost use Rattle.dr_tablets.specs.FileRecords.{AreLeavesOf, AreOfFile, IsFaultOf, AreProjected, AreFew, triplets_at};
 
 use dr_file::FileFault;
 use dr_nested::{Node, Path, Schema};
 use dr_outside::Link;
-use dr_records::read_records;
-use dr_steps::Steps;
+use dr_tablets::{Steps, read_records};
 use std::alloc::Global;
 
 /// As `read_records`.
@@ -43,6 +42,8 @@ pub fn records_of<L: Link>(
     ensures asked { (bytes : List ℕ) → Tells (L.shows link.old) path.now bytes
         → AsksOnly (is_request_for path.now (reader_ranges bytes (map path_view fields.now))) (L.shows link.old).asked
         (L.shows link.new).asked }
+    ensures asked_absent { Lacks (L.shows link.old).held path.now
+        → AsksOnly (is_request_for path.now []) (L.shows link.old).asked (L.shows link.new).asked }
     ensures same { (L.shows link.new).held ≡ (L.shows link.old).held }
     ensures counts { IfErr result (HasCounts (L.shows link.old).faults (L.shows link.new).faults) }
     ensures calm { is_read_fault result ≡ false → (L.shows link.new).faults ≡ (L.shows link.old).faults }

@@ -2,12 +2,12 @@
 
 ghost use Rattle.std.specs.Prelude.{◌≡◌, IfOk};
 ghost use Rattle.dr_nested.specs.SchemaView.{schema_view};
-ghost use Rattle.dr_objects.specs.NamedLevels.{joined, levels_view};
+ghost use Rattle.dr_planning.specs.NamedLevels.{joined, levels_view};
 ghost use Rattle.dr_meaning.specs.Query as meant;
 
 use dr_memory::NoMemory;
 use dr_nested::Schema;
-use dr_objects::{Level, levels_of};
+use dr_planning::{Level, levels_of};
 use std::alloc::Global;
 
 /// As `levels_of`.

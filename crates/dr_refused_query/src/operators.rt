@@ -5,11 +5,11 @@ ghost use Rattle.dr_meaning.specs.Path.{Leaf};
 ghost use Rattle.dr_plan.specs.Views.{expr_view};
 ghost use Rattle.dr_plan.specs.Fitting.{expr_fits};
 ghost use Rattle.dr_bound_parts.specs.Bound.{type_of};
-ghost use Rattle.dr_operators.specs.Operators.{binary_type, binary_of};
+ghost use Rattle.dr_resolve.specs.Operators.{binary_type, binary_of};
 
 use dr_memory::NoMemory;
-use dr_operators::Binary;
 use dr_plan::Expr;
+use dr_resolve::Binary;
 use std::alloc::Global;
 
 /// As `Binary::apply`.

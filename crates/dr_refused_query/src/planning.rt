@@ -4,7 +4,7 @@ ghost use Rattle.std.specs.Prelude.{◌≡◌, map, IfOk};
 ghost use Rattle.dr_meaning.specs.Schema.{Fields};
 ghost use Rattle.dr_nested.specs.PathView.{path_view};
 ghost use Rattle.dr_plan.specs.Planned.{plan_view, planned};
-ghost use Rattle.dr_objects.specs.NamedLevels.{joined, levels_view};
+ghost use Rattle.dr_planning.specs.NamedLevels.{joined, levels_view};
 ghost use Rattle.dr_bound_parts.specs.Parts.{AreParts};
 ghost use Rattle.dr_meaning.specs.Query as query;
 ghost use Rattle.dr_meaning.specs.QueryLeaves as used;
@@ -14,9 +14,8 @@ ghost use Rattle.dr_planning.specs.Planning as plan;
 use dr_bound_parts::BoundParts;
 use dr_memory::NoMemory;
 use dr_nested::Path;
-use dr_objects::Level;
 use dr_plan::Plan;
-use dr_planning::plan_of;
+use dr_planning::{Level, plan_of};
 use std::alloc::Global;
 
 /// As `plan_of`.

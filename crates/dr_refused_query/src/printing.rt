@@ -6,7 +6,7 @@ ghost use Rattle.dr_meaning.specs.Print as print;
 
 use dr_cells::RowsOut;
 use dr_memory::NoMemory;
-use dr_result_text::result_text;
+use dr_print::result_text;
 use std::alloc::Global;
 
 /// As `result_text`.

@@ -1,6 +1,6 @@
 //! What serving trees gather.
 
-ghost use Rattle.std.specs.Prelude.{◌≡◌, ◌*◌, ℕ, IfOk, length, map};
+ghost use Rattle.std.specs.Prelude.{◌≡◌, ℕ, IfOk, length, map};
 ghost use Rattle.dr_meaning.specs.Schema.{Fields};
 ghost use Rattle.dr_meaning.specs.Query.{Query};
 ghost use Rattle.dr_partials.specs.Trees.{gathered, tablets_of};
@@ -31,7 +31,7 @@ pub fn gathered_of<R: Threads + Sync>(
     ensures of_plan { IfOk result (λ r. (p : Planned) → AreOfPlan p partials.items → IsPartialOf p r) }
     ensures bounded { IfOk result (λ r. (fs : Fields) (q : Query) (most : ℕ)
         → AreBounded fs q most (partials_view partials.items)
-        → IsBounded fs q (length partials.items * most) (partial_view r)) }
+        → IsBounded fs q most (partial_view r)) }
 {
     gather(rt, alloc, tree, partials)
 }

@@ -5,8 +5,10 @@ ghost use Rattle.dr_meaning.specs.QueryLeaves.{query_leaves};
 ghost use Rattle.dr_nested.specs.SchemaView.{schema_view};
 ghost use Rattle.dr_plan.specs.Planned.{IsOfSchema};
 ghost use Rattle.dr_table.specs.Views.{table_view};
+ghost use Rattle.dr_reading.specs.Scan.{tablets_of};
+ghost use Rattle.dr_tablets.specs.Asked.{AsksForTablets};
 ghost use Rattle.dr_tablets.specs.Tablets.{LeavesTablets};
-ghost use Rattle.dr_scan.specs.Plans.{ForQuery};
+ghost use Rattle.dr_plan.specs.PlanOf.{ForQuery};
 ghost use Rattle.dr_query.specs.Answers.{IsAnswerOf, WhereLeft, WhereText};
 
 use dr_memory::NoMemory;
@@ -33,6 +35,9 @@ pub fn answer_of<R: Threads + Sync, L: Link>(
     ensures left { ForQuery (schema_view (table.now).schema) plan.now
         (λ q. IfOk result (WhereLeft (λ left. LeavesTablets (table_view table.now)
         (query_leaves (table_view table.now).schema.fields q) left (L.shows link.old) (L.shows link.new)))) }
+    ensures asks { ForQuery (schema_view (table.now).schema) plan.now
+        (λ q. AsksForTablets (query_leaves (table_view table.now).schema.fields q) (tablets_of (table_view table.now))
+        (L.shows link.old) (L.shows link.new)) }
     ensures same { (L.shows link.new).held ≡ (L.shows link.old).held }
     ensures never_falls { (L.shows link.old).faults ≤ (L.shows link.new).faults }
     ensures stays_steady { IsTrue (L.shows link.old).is_steady → IsTrue (L.shows link.new).is_steady }

@@ -7,9 +7,9 @@ ghost use Rattle.dr_meaning.specs.Query.{Query};
 ghost use Rattle.dr_nested.specs.SchemaView.{schema_view};
 ghost use Rattle.dr_outside.specs.Faults.{raised};
 ghost use Rattle.dr_plan.specs.Planned.{IsOfSchema};
-ghost use Rattle.dr_scan.specs.Plans.{IsPlanOf};
+ghost use Rattle.dr_plan.specs.PlanOf.{IsPlanOf};
 ghost use Rattle.dr_load.specs.Faults.{refusal_of};
-ghost use Rattle.dr_load.specs.Records.{WhereTold};
+ghost use Rattle.dr_input.specs.Taken.{WhereTold, AcceptsRead};
 ghost use Rattle.dr_ask.specs.Asked.{IsAnswerTo};
 
 use dr_ask::ask_input;
@@ -40,6 +40,9 @@ pub fn answer_on<R: Threads + Sync, S: Source>(
     ensures refused { IfErr result (λ e. MatchOption (refusal_of e) ⊤
         (λ r. WhereTold (S.shows source.old).left (λ input. records_of (schema_view schema).fields (most_asked rows)
         input ≡ Err r))) }
+    ensures accepts { result ≡ Err LoadFault.ReadFault
+        → AcceptsRead (schema_view schema).fields (most_asked rows) 0 (S.shows source.old).left
+        (S.shows source.new).left }
     ensures source_cause { result ≡ Err LoadFault.ReadFault
         → (S.shows source.new).faults ≡ raised (S.shows source.old).faults }
     ensures source_calm { result ≢ Err LoadFault.ReadFault → (S.shows source.new).faults ≡ (S.shows source.old).faults }

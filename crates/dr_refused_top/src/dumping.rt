@@ -4,7 +4,9 @@ ghost use Rattle.std.specs.Prelude.{◌≡◌, ◌≤◌, map, IfOk, IsTrue};
 ghost use Rattle.dr_nested.specs.Views.{fields_view};
 ghost use Rattle.dr_nested.specs.PathView.{path_view};
 ghost use Rattle.dr_table.specs.Views.{table_view};
-ghost use Rattle.dr_records.specs.FileRecords.{AreLeavesOf};
+ghost use Rattle.dr_tablets.specs.FileRecords.{AreLeavesOf};
+ghost use Rattle.dr_reading.specs.Scan.{tablets_of};
+ghost use Rattle.dr_tablets.specs.Asked.{AsksForTablets};
 ghost use Rattle.dr_tablets.specs.Tablets.{LeavesTablets};
 ghost use Rattle.dr_dump.specs.Dumps.{AreLinesOf};
 ghost use Rattle.dr_dump.specs.Answers.{WhereLines, WhereLeft};
@@ -28,6 +30,8 @@ pub fn dumped<L: Link>(
         (L.shows link.old).held)) }
     ensures left { IfOk result (WhereLeft (λ left. LeavesTablets (table_view table.now) (map path_view fields.now) left
         (L.shows link.old) (L.shows link.new))) }
+    ensures asks { AsksForTablets (map path_view fields.now) (tablets_of (table_view table.now))
+        (L.shows link.old) (L.shows link.new) }
     ensures same { (L.shows link.new).held ≡ (L.shows link.old).held }
     ensures never_falls { (L.shows link.old).faults ≤ (L.shows link.new).faults }
     ensures stays_steady { IsTrue (L.shows link.old).is_steady → IsTrue (L.shows link.new).is_steady }

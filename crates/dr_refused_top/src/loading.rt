@@ -4,7 +4,7 @@ ghost use Rattle.std.specs.Prelude.{◌≡◌, ◌≢◌, [], Some, None, Err, M
 ghost use Rattle.dr_outside.specs.Faults.{raised};
 ghost use Rattle.dr_load.specs.Faults.{refusal_of};
 ghost use Rattle.dr_load.specs.Plans.{plan_view};
-ghost use Rattle.dr_load.specs.Records.{WhereTold};
+ghost use Rattle.dr_input.specs.Taken.{WhereTold, AcceptsRead};
 ghost use Rattle.dr_load.specs.Puts.{HasPut};
 ghost use Rattle.dr_load.specs.Loads.{LeavesPuts, LoadsTable};
 ghost use Rattle.dr_formats.specs.Loading as meant;
@@ -27,8 +27,7 @@ pub fn loaded<S: Source, K: Keeper>(
     ensures records { IfOk result (λ l. WhereTold (S.shows source.old).left
         (λ input. l.records ≡ (meant.load (plan_view plan.now) input).records)) }
     ensures puts { OnOk result (WhereTold (S.shows source.old).left
-        (λ input. HasPut (meant.load (plan_view plan.now) input).puts (K.shows keeper.old).held
-        (K.shows keeper.new).held)) }
+        (λ input. HasPut (meant.load (plan_view plan.now) input).puts (K.shows keeper.old) (K.shows keeper.new))) }
     ensures table { IfOk result (λ l. LoadsTable (plan_view plan.now) (plan_view plan.now).table l.tablets
         (S.shows source.old).left (K.shows keeper.old).held (K.shows keeper.new).held) }
     ensures end { OnOk result (WhereTold (S.shows source.old).left (λ _. (S.shows source.new).left ≡ Some [])) }
@@ -36,8 +35,11 @@ pub fn loaded<S: Source, K: Keeper>(
     ensures refused { IfErr result (λ e. MatchOption (refusal_of e) ⊤
         (λ r. WhereTold (S.shows source.old).left (λ input. (meant.load (plan_view plan.now) input).refusal ≡ Some r))) }
     ensures stands { IfErr result (λ e. WhereTold (S.shows source.old).left
-        (λ input. LeavesPuts (plan_view plan.now) input (K.shows keeper.old).held (K.shows keeper.new).held e)) }
+        (λ input. LeavesPuts (plan_view plan.now) input (K.shows keeper.old) (K.shows keeper.new) e)) }
 
+    ensures accepts { result ≡ Err LoadFault.ReadFault
+        → AcceptsRead (plan_view plan.now).schema.fields (meant.most_loaded (plan.now).rows) 0
+        (S.shows source.old).left (S.shows source.new).left }
     ensures source_cause { result ≡ Err LoadFault.ReadFault
         → (S.shows source.new).faults ≡ raised (S.shows source.old).faults }
     ensures source_calm { result ≢ Err LoadFault.ReadFault → (S.shows source.new).faults ≡ (S.shows source.old).faults }

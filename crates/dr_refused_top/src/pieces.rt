@@ -7,12 +7,13 @@ ghost use Rattle.dr_table.specs.Views.{table_view};
 ghost use Rattle.dr_partials.specs.PartialTypes.{is_partial};
 ghost use Rattle.dr_partials.specs.PartialBounds.{PartialCanBeOf};
 ghost use Rattle.dr_partials.specs.Rewriting.{leaf_query};
-ghost use Rattle.dr_plan.specs.Planned.{IsOfSchema, plan_view};
+ghost use Rattle.dr_plan.specs.Planned.{IsOfSchema, plan_leaves, plan_view};
 ghost use Rattle.dr_group.specs.Partials.{IsPartialOf, partial_view};
 ghost use Rattle.dr_serving.specs.Truth.{most_values};
 ghost use Rattle.dr_reading.specs.Scan.{tablets_of};
+ghost use Rattle.dr_tablets.specs.Asked.{AsksForTablets};
 ghost use Rattle.dr_tablets.specs.Tablets.{LeavesTablets};
-ghost use Rattle.dr_scan.specs.Plans.{ForQuery};
+ghost use Rattle.dr_plan.specs.PlanOf.{ForQuery};
 ghost use Rattle.dr_scan.specs.Tables.{OfEach, StandForTablets, WhereGiven, WhereLeft};
 
 use dr_memory::NoMemory;
@@ -41,6 +42,8 @@ pub fn pieces_of<L: Link>(
     ensures left { ForQuery (schema_view (table.now).schema) plan.now
         (λ q. IfOk result (WhereLeft (λ left. LeavesTablets (table_view table.now)
         (query_leaves (table_view table.now).schema.fields q) left (L.shows link.old) (L.shows link.new)))) }
+    ensures asks { AsksForTablets (plan_leaves plan.now) (tablets_of (table_view table.now))
+        (L.shows link.old) (L.shows link.new) }
     ensures same { (L.shows link.new).held ≡ (L.shows link.old).held }
     ensures never_falls { (L.shows link.old).faults ≤ (L.shows link.new).faults }
     ensures stays_steady { IsTrue (L.shows link.old).is_steady → IsTrue (L.shows link.new).is_steady }

@@ -3,7 +3,7 @@
 ghost use Rattle.std.specs.Prelude.{◌≡◌, ◌≢◌, ◌≤◌, ◌⊎◌, length, map, string_bytes};
 ghost use Rattle.dr_commands.specs.Commands.{Taken, meant};
 ghost use Rattle.dr_top.specs.World.{world};
-ghost use Rattle.dr_top.specs.Ends.{Holds, Prints, IsUsage, IsRefused, IsLeft, IsOutside, IsMemory, SameCounts, LeavesInput, LeavesFiles, AsksKeeper, LeavesLinks, IsComplete, IsServed};
+ghost use Rattle.dr_top.specs.Ends.{Holds, Prints, IsUsage, IsRefused, IsLeft, IsOutside, IsMemory, SameCounts, LeavesInput, LeavesFiles, AsksKeeper, AsksLinks, LeavesLinks, IsComplete, IsServed};
 
 use dr_outside::{Gate, Keeper, Link, Sink, Source};
 use dr_top::run;
@@ -66,6 +66,9 @@ pub fn status_of<
         (world (S.shows source.old) (O.shows out.old) (E.shows err.old) (K.shows keeper.old) (map L.shows links.old))
         (world (S.shows source.new) (O.shows out.new) (E.shows err.new) (K.shows keeper.new) (map L.shows links.new)) }
     ensures links { LeavesLinks (meant (map string_bytes words.now))
+        (world (S.shows source.old) (O.shows out.old) (E.shows err.old) (K.shows keeper.old) (map L.shows links.old))
+        (world (S.shows source.new) (O.shows out.new) (E.shows err.new) (K.shows keeper.new) (map L.shows links.new)) }
+    ensures reads { AsksLinks (meant (map string_bytes words.now))
         (world (S.shows source.old) (O.shows out.old) (E.shows err.old) (K.shows keeper.old) (map L.shows links.old))
         (world (S.shows source.new) (O.shows out.new) (E.shows err.new) (K.shows keeper.new) (map L.shows links.new)) }
     ensures served { IsServed (meant (map string_bytes words.now)) result

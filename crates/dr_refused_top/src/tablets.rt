@@ -1,13 +1,14 @@
 //! The records of tablets.
 
-ghost use Rattle.std.specs.Prelude.{◌≡◌, ◌≤◌, map, IfOk, IsTrue};
+ghost use Rattle.std.specs.Prelude.{◌≡◌, ◌≤◌, [], ◌∷◌, map, IfOk, IsTrue};
 ghost use Rattle.dr_nested.specs.Views.{fields_view};
 ghost use Rattle.dr_nested.specs.SchemaView.{schema_view};
 ghost use Rattle.dr_nested.specs.PathView.{path_view};
 ghost use Rattle.dr_table.specs.Views.{table_view};
-ghost use Rattle.dr_records.specs.FileRecords.{AreLeavesOf};
-ghost use Rattle.dr_serving.specs.Causes.{RisesApart};
+ghost use Rattle.dr_tablets.specs.FileRecords.{AreLeavesOf};
+ghost use Rattle.dr_reading.specs.Causes.{RisesApart};
 ghost use Rattle.dr_reading.specs.Scan.{copies_from};
+ghost use Rattle.dr_tablets.specs.Asked.{AsksForTablets};
 ghost use Rattle.dr_tablets.specs.Tablets.{IsReadAs, causes_in};
 
 use dr_memory::NoMemory;
@@ -29,6 +30,9 @@ pub fn tablet_of<L: Link>(
     ensures read { IfOk result (IsReadAs (schema_view (table.now).schema) (map path_view fields.now) (L.shows link.old)
         (copies_from (table_view table.now).leaves tablet 0 (table.now).copies)) }
     ensures rises { IfOk result (λ t. RisesApart (L.shows link.old).faults (causes_in t) (L.shows link.new).faults) }
+    ensures asks { AsksForTablets (map path_view fields.now)
+        (copies_from (table_view table.now).leaves tablet 0 (table.now).copies ∷ [])
+        (L.shows link.old) (L.shows link.new) }
     ensures same { (L.shows link.new).held ≡ (L.shows link.old).held }
     ensures never_falls { (L.shows link.old).faults ≤ (L.shows link.new).faults }
     ensures stays_steady { IsTrue (L.shows link.old).is_steady → IsTrue (L.shows link.new).is_steady }

@@ -16,12 +16,12 @@ use Rattle.dr_plan.specs.declared.expression.Expr.{Expr}
 use Rattle.dr_bound_parts.specs.Faults.{earlier}
 use Rattle.dr_bound_parts.specs.Bound.{Covers, is_path_value, type_of, Means, IsExpression}
 use Rattle.dr_resolve.specs.Outcomes.{Came, MadeAt}
-use Rattle.dr_operators.specs.Operators.{unary_of, binary_of}
-use Rattle.dr_chains.specs.declared.bound.BoundPath.{BoundPath}
-use Rattle.dr_chains.specs.Views.{bound_path_view}
+use Rattle.dr_resolve.specs.Operators.{unary_of, binary_of}
+use Rattle.dr_paths.specs.declared.bound.BoundPath.{BoundPath}
+use Rattle.dr_paths.specs.Views.{bound_path_view}
 use Rattle.dr_bound_parts.specs.declared.parts.BoundExpression.{BoundExpression}
-use Rattle.dr_operators.specs.declared.operators.Unary.{Unary}
-use Rattle.dr_operators.specs.declared.operators.Binary.{Binary}
+use Rattle.dr_resolve.specs.declared.operators.Unary.{Unary}
+use Rattle.dr_resolve.specs.declared.operators.Binary.{Binary}
 use Rattle.dr_bound_parts.proofs.FaultLemmas.{noted_behind}
 use Rattle.dr_bound_parts.proofs.BoundLemmas.{covers_parts, real_joined}
 

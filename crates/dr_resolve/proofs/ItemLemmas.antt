@@ -9,17 +9,18 @@ use Rattle.dr_meaning.specs.Path.{Leaf}
 use Rattle.dr_meaning.specs.BoundExpression as meant
 use Rattle.dr_meaning.specs.BoundExpression.{BindFault, Checked, passes, fails, bind_path}
 use Rattle.dr_meaning.specs.Binding as binding
-use Rattle.dr_meaning.specs.Binding.{first_fault, faults_in, passing, bind_item, bind_items}
+use Rattle.dr_meaning.specs.Binding.{first_fault, faults_in, passing, bind_item, bind_items, argument_alone, arguments_alone}
 use Rattle.dr_sql.specs.Views as syntax
 use Rattle.dr_sql.specs.declared.query.Item.{Item}
 use Rattle.dr_sql.specs.declared.expression.Path.{Path}
-use Rattle.dr_chains.specs.declared.bound.BoundPath.{BoundPath}
-use Rattle.dr_chains.specs.Views.{bound_path_view}
+use Rattle.dr_paths.specs.declared.bound.BoundPath.{BoundPath}
+use Rattle.dr_paths.specs.Views.{bound_path_view}
 use Rattle.dr_bound_parts.specs.Faults.{earlier}
 use Rattle.dr_resolve.specs.Resolved.{lent}
-use Rattle.dr_resolve.specs.Outcomes.{Came, IsPath}
-use Rattle.dr_bound_parts.specs.Items.{AreItems, IsItem}
+use Rattle.dr_resolve.specs.Outcomes.{Appends, Came, IsPath}
+use Rattle.dr_bound_parts.specs.Items.{AreExpressions, AreItems, IsItem}
 use Rattle.dr_resolve.specs.Outcomes.{present}
+use Rattle.dr_bound_parts.specs.declared.parts.BoundExpression.{BoundExpression}
 use Rattle.dr_bound_parts.specs.declared.parts.BoundItem.{BoundItem}
 use Rattle.dr_bound_parts.proofs.FaultLemmas.{earlier_assoc, first_fault-append}
 
@@ -71,6 +72,39 @@ item_faults_more fs ls n items x before now whole o l e h w =
 -- no items are left
 pub none_left : (fs : Fields) (ls : List Leaf) (all : List (Checked binding.BoundItem)) (bound : List BoundItem) → GoesOn fs ls [] all bound → AreItems fs ls (passing all) bound
 none_left fs ls all bound g = subst (AreItems fs ls (passing all)) (append-nil bound) (g [] tt)
+
+-- ---- arguments that stand alone
+
+-- those of the items from a place on
+abbrev pub alone_from : Fields → ℕ → List Item → List meant.BoundExpression
+alone_from fs n items = arguments_alone fs (map syntax.item_view (drop n items))
+
+alone_cut : (fs : Fields) (n : ℕ) (items : List Item) (x : Item) → n < length items → x ≡ get_or items n x → alone_from fs n items ≡ argument_alone fs x.place (syntax.term_view x.term) ++ alone_from fs (n + 1) items
+alone_cut fs n items x l e =
+    ap (λ xs. arguments_alone fs (map syntax.item_view xs)) (drop_more items n x l)
+    ∙ ap (λ (y : Item). argument_alone fs y.place (syntax.term_view y.term) ++ alone_from fs (n + 1) items) (sym e)
+
+-- whatever stood there before, some of all have been appended, and the others are those behind
+abbrev pub AloneSoFar : Fields → List Leaf → List meant.BoundExpression → List meant.BoundExpression → List BoundExpression → List BoundExpression → Type 0
+AloneSoFar fs ls rest all before now =
+    (bs : List meant.BoundExpression) → AreExpressions fs ls bs before → (done : List meant.BoundExpression) × AreExpressions fs ls (bs ++ done) now × (done ++ rest ≡ all)
+
+pub none_so_far : (fs : Fields) (ls : List Leaf) (all : List meant.BoundExpression) (xs : List BoundExpression) → AloneSoFar fs ls all all xs xs
+none_so_far fs ls all xs bs h = ([], subst (λ cs. AreExpressions fs ls cs xs) (sym (append-nil bs)) h, refl)
+
+pub alone_more : (fs : Fields) (ls : List Leaf) (n : ℕ) (items : List Item) (x : Item) (all : List meant.BoundExpression) (start before now : List BoundExpression) → n < length items → x ≡ get_or items n x
+    → Appends fs ls (argument_alone fs x.place (syntax.term_view x.term)) before now → AloneSoFar fs ls (alone_from fs n items) all start before → AloneSoFar fs ls (alone_from fs (n + 1) items) all start now
+alone_more fs ls n items x all start before now l e a g bs h =
+    let own : List meant.BoundExpression = argument_alone fs x.place (syntax.term_view x.term) in
+    let r = g bs h in (
+      r.0 ++ own,
+      subst (λ cs. AreExpressions fs ls cs now) (append_assoc bs r.0 own) (a (bs ++ r.0) r.1),
+      append_assoc r.0 own (alone_from fs (n + 1) items) ∙ ap (λ cs. r.0 ++ cs) (sym (alone_cut fs n items x l e)) ∙ r.2,
+    )
+
+-- no items are left
+pub all_alone : (fs : Fields) (ls : List Leaf) (all : List meant.BoundExpression) (start now : List BoundExpression) → AloneSoFar fs ls [] all start now → Appends fs ls all start now
+all_alone fs ls all start now g bs h = let r = g bs h in subst (λ cs. AreExpressions fs ls (bs ++ cs) now) (sym (append-nil r.0) ∙ r.2) r.1
 
 -- ---- keys
 

@@ -12,3 +12,5 @@ pub mod PathLemmas
 pub mod ItemLemmas
 -- the parts of a query
 pub mod PartLemmas
+-- operands of unlike types
+pub mod UnlikeLemmas

@@ -16,8 +16,8 @@ use Rattle.dr_nested.specs.declared.path.Step.{Step as CodeStep}
 use Rattle.dr_nested.proofs.DepthLemmas.{steps_within}
 use Rattle.dr_plan.specs.Views.{expr_view}
 use Rattle.dr_plan.specs.Fitting.{expr_fits}
-use Rattle.dr_chains.specs.declared.bound.BoundPath.{BoundPath}
-use Rattle.dr_chains.specs.Views.{bound_path_view}
+use Rattle.dr_paths.specs.declared.bound.BoundPath.{BoundPath}
+use Rattle.dr_paths.specs.Views.{bound_path_view}
 use Rattle.dr_bound_parts.specs.Bound.{IsAmong, Covers, Means, IsExpression, type_of}
 use Rattle.dr_resolve.specs.Outcomes.{Came, IsPath}
 use Rattle.dr_bound_parts.specs.declared.parts.BoundExpression.{BoundExpression}

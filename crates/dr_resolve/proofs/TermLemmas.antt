@@ -1,6 +1,6 @@
 -- The condition and what items give.
-use Rattle.std.proofs.Common.{◌≡◌, ℕ, List, ◌∷◌, map, true, false, Option, Some, None, refl, sym, ap, ◌∙◌}
-use Rattle.std.specs.Prelude.{Vec}
+use Rattle.std.proofs.Common.{◌≡◌, ℕ, List, [], ◌∷◌, ◌++◌, map, true, false, Option, Some, None, refl, sym, ap, ◌∙◌, subst, append-nil}
+use Rattle.std.specs.Prelude.{Vec, Result, Ok, Err, OnOk}
 use Rattle.std.specs.declared.alloc.Global.{Global}
 use Rattle.dr_meaning.specs.Schema.{Fields}
 use Rattle.dr_meaning.specs.Path.{Leaf}
@@ -16,10 +16,10 @@ use Rattle.dr_plan.specs.Views.{fold_view, expr_view}
 use Rattle.dr_plan.specs.Fitting.{expr_fits}
 use Rattle.dr_bound_parts.specs.Faults.{earlier}
 use Rattle.dr_bound_parts.specs.Bound.{type_of, IsExpression}
-use Rattle.dr_resolve.specs.Outcomes.{Came}
-use Rattle.dr_chains.specs.declared.bound.BoundPath.{BoundPath}
-use Rattle.dr_chains.specs.Views.{bound_path_view}
-use Rattle.dr_bound_parts.specs.Items.{IsTruth, IsWithin, IsTerm}
+use Rattle.dr_resolve.specs.Outcomes.{Appends, Came}
+use Rattle.dr_paths.specs.declared.bound.BoundPath.{BoundPath}
+use Rattle.dr_paths.specs.Views.{bound_path_view}
+use Rattle.dr_bound_parts.specs.Items.{AreExpressions, IsTruth, IsWithin, IsTerm}
 use Rattle.dr_bound_parts.specs.declared.parts.BoundExpression.{BoundExpression}
 use Rattle.dr_bound_parts.specs.declared.parts.BoundCondition.{BoundCondition}
 use Rattle.dr_bound_parts.specs.declared.parts.BoundWithin.{BoundWithin}
@@ -95,3 +95,41 @@ pub both_bound : (fs : Fields) (ls : List Leaf) (f : Fold) (c : Checked meant.Bo
 both_bound fs ls f (fails e es) d before between now x w h k = absurd h
 both_bound fs ls f (passes b) (fails g gs) before between now x w h k = absurd k
 both_bound fs ls f (passes b) (passes v) before between now x w h k = (k.0 ∙ h.0, (refl, h.1, k.1))
+
+-- ---- arguments that stand alone
+
+pub expressions_more : (fs : Fields) (ls : List Leaf) (bs : List meant.BoundExpression) (xs : List BoundExpression) (b : meant.BoundExpression) (x : BoundExpression) → AreExpressions fs ls bs xs → IsExpression fs ls b x
+    → AreExpressions fs ls (bs ++ b ∷ []) (xs ++ x ∷ [])
+expressions_more fs ls [] [] b x h k = (k, tt)
+expressions_more fs ls [] (y ∷ ys) b x h k = absurd h
+expressions_more fs ls (c ∷ cs) [] b x h k = absurd h
+expressions_more fs ls (c ∷ cs) (y ∷ ys) b x h k = (h.0, expressions_more fs ls cs ys b x h.1 k)
+
+-- none more
+pub nothing_more : (fs : Fields) (ls : List Leaf) (xs : List BoundExpression) → Appends fs ls [] xs xs
+nothing_more fs ls xs bs h = subst (λ cs. AreExpressions fs ls cs xs) (sym (append-nil bs)) h
+
+-- beside an argument that fails
+pub alone_without : (fs : Fields) (ls : List Leaf) (c : Checked meant.BoundExpression) (d : Checked (Option binding.BoundWithin)) (before between : Option BindFault) (xs : List BoundExpression)
+    → Came (IsExpression fs ls) before between c None → Appends fs ls (binding.alone c d) xs xs
+alone_without fs ls (passes b) d before between xs h = absurd h
+alone_without fs ls (fails e es) d before between xs h = nothing_more fs ls xs
+
+-- beside a WITHIN that passes
+pub alone_with_node : (fs : Fields) (ls : List Leaf) (c : Checked meant.BoundExpression) (d : Checked (Option binding.BoundWithin)) (between now : Option BindFault) (w : Option BoundWithin) (xs : List BoundExpression)
+    → Came IsWithin between now d (Some w) → Appends fs ls (binding.alone c d) xs xs
+alone_with_node fs ls (passes b) (passes v) between now w xs h = nothing_more fs ls xs
+alone_with_node fs ls (fails e es) (passes v) between now w xs h = nothing_more fs ls xs
+alone_with_node fs ls c (fails g gs) between now w xs h = absurd h
+
+-- an argument that passes beside a WITHIN that doesn't
+pub alone_here : (fs : Fields) (ls : List Leaf) (c : Checked meant.BoundExpression) (d : Checked (Option binding.BoundWithin)) (before between now : Option BindFault) (x : BoundExpression) (xs ys : List BoundExpression)
+    → ys ≡ xs ++ x ∷ [] → Came (IsExpression fs ls) before between c (Some x) → Came IsWithin between now d None → Appends fs ls (binding.alone c d) xs ys
+alone_here fs ls (fails e es) d before between now x xs ys p h k = absurd h
+alone_here fs ls (passes b) (passes v) before between now x xs ys p h k = absurd k
+alone_here fs ls (passes b) (fails g gs) before between now x xs ys p h k = λ bs r. subst (AreExpressions fs ls (bs ++ b ∷ [])) (sym p) (expressions_more fs ls bs xs b x r h.1)
+
+-- of an answer without a value what follows
+pub on_ok_weaker : {A E : Type 0} (r : Result A E) (P Q : Type 0) → (P → Q) → OnOk r P → OnOk r Q
+on_ok_weaker (Ok a) P Q f h = f h
+on_ok_weaker (Err e) P Q f h = tt

@@ -1,5 +1,5 @@
 -- What comes of binding a part of a query, against what the definitions make of it.
-use Rattle.std.specs.Prelude.{◌≡◌, ℕ, List, [], ◌∷◌, map, false, Option, Some, None, Vec}
+use Rattle.std.specs.Prelude.{◌≡◌, ℕ, List, [], ◌∷◌, ◌++◌, map, false, Option, Some, None, Vec}
 use Rattle.std.specs.declared.alloc.Global.{Global}
 use Rattle.dr_meaning.specs.Schema.{Fields}
 use Rattle.dr_meaning.specs.Path.{Leaf}
@@ -9,12 +9,13 @@ use Rattle.dr_meaning.specs.Binding.{first_fault}
 use Rattle.dr_nested.specs.PathView.{path_view}
 use Rattle.dr_nested.specs.Views.{fields_view}
 use Rattle.dr_plan.specs.declared.expression.Expr.{Expr}
-use Rattle.dr_chains.specs.declared.bound.BoundPath.{BoundPath}
-use Rattle.dr_chains.specs.Views.{bound_path_view}
+use Rattle.dr_paths.specs.declared.bound.BoundPath.{BoundPath}
+use Rattle.dr_paths.specs.Views.{bound_path_view}
 use Rattle.dr_sql.specs.Views.{expression_view}
 use Rattle.dr_sql.specs.declared.expression.Expression.{Expression}
 use Rattle.dr_bound_parts.specs.Faults.{earlier}
 use Rattle.dr_bound_parts.specs.Bound.{IsExpression}
+use Rattle.dr_bound_parts.specs.Items.{AreExpressions}
 use Rattle.dr_bound_parts.specs.declared.parts.BoundExpression.{BoundExpression}
 use Rattle.dr_resolve.specs.declared.names.Binder.{Binder}
 
@@ -56,6 +57,10 @@ MadeAt i made paths before now None = (made ≡ None) × (now ≡ earlier before
 MadeAt i made paths before now (Some x) = (made ≡ Some x.expression) × (x.paths ≡ paths) × (now ≡ before) × (x.is_path ≡ false)
 
 -- ---- parts
+
+-- whatever the expressions before stood for, those after stand for the same and for these behind
+abbrev pub Appends : Fields → List Leaf → List meant.BoundExpression → List BoundExpression → List BoundExpression → Type 0
+Appends fs ls more before after = (bs : List meant.BoundExpression) → AreExpressions fs ls bs before → AreExpressions fs ls (bs ++ more) after
 
 -- a part, if it could be bound
 abbrev pub present : {A : Type 0} → Option A → List A

@@ -8,13 +8,13 @@ ghost use Rattle.dr_sql.specs.Views as syntax;
 ghost use Rattle.dr_bound_parts.specs.Faults.{first_view};
 ghost use Rattle.dr_bound_parts.specs.Bound.{IsExpression};
 ghost use Rattle.dr_resolve.specs.Outcomes.{Came, CameIn, MadeAt, bound_in, fields_in, leaves_in};
-ghost use Rattle.dr_operators.specs.Operators.{unary_type, unary_of, binary_type, binary_of};
+ghost use Rattle.dr_resolve.specs.Operators.{unary_type, unary_of, binary_type, binary_of};
 
 use crate::names::Binder;
+use crate::operators::{Binary, Unary};
 use dr_bound_parts::{BindProblem, BoundExpression, FirstFault};
-use dr_chains::BoundPath;
 use dr_memory::NoMemory;
-use dr_operators::{Binary, Unary};
+use dr_paths::BoundPath;
 use dr_plan::{Expr, Number, TextOf, Truth};
 use dr_sql::{Expression, unquoted};
 use std::alloc::Global;

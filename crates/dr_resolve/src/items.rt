@@ -7,15 +7,15 @@ ghost use Rattle.dr_meaning.specs.Binding as binding;
 ghost use Rattle.dr_sql.specs.Views as syntax;
 ghost use Rattle.dr_bound_parts.specs.Faults.{earlier, first_view};
 ghost use Rattle.dr_resolve.specs.Resolved.{lent};
-ghost use Rattle.dr_resolve.specs.Outcomes.{Came, fields_in, leaves_in};
-ghost use Rattle.dr_chains.specs.Views.{bound_path_view};
+ghost use Rattle.dr_resolve.specs.Outcomes.{Appends, Came, fields_in, leaves_in};
+ghost use Rattle.dr_paths.specs.Views.{bound_path_view};
 ghost use Rattle.dr_bound_parts.specs.Items.{AreItems, IsItem};
 ghost use Rattle.dr_resolve.specs.Outcomes.{present};
 
 use crate::names::Binder;
-use dr_bound_parts::{BoundItem, FirstFault};
-use dr_chains::BoundPath;
+use dr_bound_parts::{BoundExpression, BoundItem, FirstFault};
 use dr_memory::NoMemory;
+use dr_paths::BoundPath;
 use dr_sql::{Expression, Item, Path, Term};
 use std::alloc::Global;
 
@@ -84,19 +84,21 @@ fn push_bound<T: Drop>(bound: &mut Vec<T>, part: Option<T>) -> Result<(), NoMemo
 }
 
 impl Binder<'_> {
-    /// An item, which has a number among the items.
+    /// An item, which has a number among the items. An argument that fails by its WITHIN alone is appended to those that stand alone.
     ///
     /// Errors: want of memory alone.
     fn item(
         self,
         number: usize,
         item: &Item<'_>,
+        alone: &mut Vec<BoundExpression>,
         first: &mut FirstFault,
     ) -> Result<Option<BoundItem>, NoMemory>
-        ensures { IfOk result (λ o. Came (IsItem (fields_in self.entry) (leaves_in self.entry)) (first_view first.old) (first_view first.new) (binding.bind_item (fields_in self.entry) number (syntax.item_view item.now)) o) }
+        ensures alone { OnOk result (Appends (fields_in self.entry) (leaves_in self.entry) (binding.argument_alone (fields_in self.entry) (item.now).place (syntax.term_view (item.now).term)) (alone.old).items (alone.new).items) }
+        ensures item { IfOk result (λ o. Came (IsItem (fields_in self.entry) (leaves_in self.entry)) (first_view first.old) (first_view first.new) (binding.bind_item (fields_in self.entry) number (syntax.item_view item.now)) o) }
     {
         let place = item.place;
-        match self.term(place, &item.term, first)? {
+        match self.term(place, &item.term, alone, first)? {
             None => Ok(None),
             Some(term) => {
                 let name = item_name(self.alloc, number, item)?;
@@ -105,20 +107,22 @@ impl Binder<'_> {
         }
     }
 
-    /// The items that could be bound.
+    /// The items that could be bound. The arguments that fail by their WITHIN alone are appended to those that stand alone.
     ///
     /// Errors: want of memory alone.
     pub(crate) fn items(
         self,
         items: &[Item<'_>],
+        alone: &mut Vec<BoundExpression>,
         first: &mut FirstFault,
     ) -> Result<Vec<BoundItem>, NoMemory>
+        ensures alone { OnOk result (Appends (fields_in self.entry) (leaves_in self.entry) (binding.arguments_alone (fields_in self.entry) (map syntax.item_view items.now)) (alone.old).items (alone.new).items) }
         ensures items { IfOk result (λ v. AreItems (fields_in self.entry) (leaves_in self.entry) (binding.passing (binding.bind_items (fields_in self.entry) 0 (map syntax.item_view items.now))) v.items) }
         ensures first { IfOk result (λ v. first_view first.new ≡ earlier (first_view first.old) (binding.first_fault (flat_map binding.faults_in (binding.bind_items (fields_in self.entry) 0 (map syntax.item_view items.now))))) }
     {
         let mut bound = Vec::new(self.alloc);
         'items: for (number, item) in items.iter().enumerate() {
-            let item = self.item(number, item, first)?;
+            let item = self.item(number, item, alone, first)?;
             push_bound(&mut bound, item)?;
         }
         Ok(bound)

@@ -4,9 +4,11 @@
 mod expressions;
 mod items;
 mod names;
+mod operators;
 mod parts;
 mod paths;
 mod resolving;
 mod terms;
 
 pub use names::Binder;
+pub use operators::{Binary, Unary};

@@ -53,7 +53,8 @@ impl Binder<'_> {
         ensures first { IfOk result (λ p. first_view first.new ≡ earlier (first_view first.old) (binding.first_fault (binding.part_faults (binding.bind_parts (fields_in self.entry) (syntax.query_view query.now))))) }
     {
         let condition = self.condition(&query.condition, first)?;
-        let items = self.items(&query.items, first)?;
+        let mut arguments = Vec::new(self.alloc);
+        let items = self.items(&query.items, &mut arguments, first)?;
         let keys = self.keys(&query.keys, first)?;
         let has_all_keys = keys.len() == query.keys.len();
         let is_record_query = is_record_query(query);
@@ -61,6 +62,7 @@ impl Binder<'_> {
             is_record_query,
             condition,
             items,
+            arguments,
             keys,
             has_all_keys,
         })

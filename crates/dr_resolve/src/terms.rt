@@ -1,6 +1,6 @@
 //! Binding the condition and what items give.
 
-ghost use Rattle.std.specs.Prelude.{◌≡◌, IfOk, List, Option};
+ghost use Rattle.std.specs.Prelude.{◌≡◌, IfOk, OnOk, List, Option};
 ghost use Rattle.dr_meaning.specs.Schema.{Fields};
 ghost use Rattle.dr_meaning.specs.Path.{Leaf};
 ghost use Rattle.dr_meaning.specs.BoundExpression as meant;
@@ -10,7 +10,7 @@ ghost use Rattle.dr_sql.specs.Views as syntax;
 ghost use Rattle.dr_bound_parts.specs.Faults.{first_view};
 ghost use Rattle.dr_resolve.specs.Resolved.{found_view};
 ghost use Rattle.dr_bound_parts.specs.Bound.{IsExpression, type_of};
-ghost use Rattle.dr_resolve.specs.Outcomes.{Came, fields_in, leaves_in};
+ghost use Rattle.dr_resolve.specs.Outcomes.{Appends, Came, fields_in, leaves_in};
 ghost use Rattle.dr_bound_parts.specs.Items.{IsCondition, IsTerm, IsTruth, IsWithin};
 
 use crate::names::Binder;
@@ -18,9 +18,8 @@ use crate::resolving::{End, Found, resolve};
 use dr_bound_parts::{
     BindProblem, BoundCondition, BoundExpression, BoundTerm, BoundWithin, FirstFault,
 };
-use dr_chains::level;
 use dr_memory::NoMemory;
-use dr_objects::same_path;
+use dr_paths::{level, same_path};
 use dr_plan::{Expr, Fold};
 use dr_sql::{Aggregate, Condition, Expression, Node, Term, Within};
 
@@ -97,21 +96,31 @@ fn fold_of(aggregate: Aggregate) -> Fold
     }
 }
 
-/// An aggregate of an argument within a node, if both could be bound.
+/// An aggregate of an argument within a node, if both could be bound. An argument that could be, beside a WITHIN that could not, is appended to
+/// those that stand alone.
+///
+/// Errors: want of memory alone.
 fn aggregated(
     fold: Fold,
     argument: Option<BoundExpression>,
     within: Option<Option<BoundWithin>>,
-) -> Option<BoundTerm>
-    ensures { (fs : Fields) (ls : List Leaf) (c : meant.Checked meant.BoundExpression) (d : meant.Checked (Option binding.BoundWithin)) (before between now : Option meant.BindFault)
+    alone: &mut Vec<BoundExpression>,
+) -> Result<Option<BoundTerm>, NoMemory>
+    ensures term { IfOk result (λ o. (fs : Fields) (ls : List Leaf) (c : meant.Checked meant.BoundExpression) (d : meant.Checked (Option binding.BoundWithin)) (before between now : Option meant.BindFault)
         → Came (IsExpression fs ls) before between c argument → Came IsWithin between now d within
-        → Came (IsTerm fs ls) before now (meant.together (binding.aggregated (fold_view fold)) c d) result }
+        → Came (IsTerm fs ls) before now (meant.together (binding.aggregated (fold_view fold)) c d) o) }
+    ensures alone { OnOk result ((fs : Fields) (ls : List Leaf) (c : meant.Checked meant.BoundExpression) (d : meant.Checked (Option binding.BoundWithin)) (before between now : Option meant.BindFault)
+        → Came (IsExpression fs ls) before between c argument → Came IsWithin between now d within
+        → Appends fs ls (binding.alone c d) (alone.old).items (alone.new).items) }
 {
     match argument {
-        None => None,
+        None => Ok(None),
         Some(argument) => match within {
-            None => None,
-            Some(within) => Some(BoundTerm::Aggregated(fold, argument, within)),
+            None => {
+                alone.push(argument)?;
+                Ok(None)
+            }
+            Some(within) => Ok(Some(BoundTerm::Aggregated(fold, argument, within))),
         },
     }
 }
@@ -210,7 +219,7 @@ impl Binder<'_> {
         argument: &Expression<'_>,
         first: &mut FirstFault,
     ) -> Result<Option<BoundExpression>, NoMemory>
-        ensures { IfOk result (λ o. Came (IsExpression (fields_in self.entry) (leaves_in self.entry)) (first_view first.old) (first_view first.new) (meant.then_check (binding.argument_of (syntax.aggregate_view aggregate) place) (meant.bind_expression (fields_in self.entry) (syntax.expression_view argument.now))) o) }
+        ensures { IfOk result (λ o. Came (IsExpression (fields_in self.entry) (leaves_in self.entry)) (first_view first.old) (first_view first.new) (binding.bind_argument (fields_in self.entry) place (syntax.aggregate_view aggregate) (syntax.expression_view argument.now)) o) }
     {
         let argument = self.expression(argument, first)?;
         match aggregate {
@@ -219,16 +228,18 @@ impl Binder<'_> {
         }
     }
 
-    /// What the item at a place gives.
+    /// What the item at a place gives. An argument that fails by its WITHIN alone is appended to those that stand alone.
     ///
     /// Errors: want of memory alone.
     pub(crate) fn term(
         self,
         place: usize,
         term: &Term<'_>,
+        alone: &mut Vec<BoundExpression>,
         first: &mut FirstFault,
     ) -> Result<Option<BoundTerm>, NoMemory>
-        ensures { IfOk result (λ o. Came (IsTerm (fields_in self.entry) (leaves_in self.entry)) (first_view first.old) (first_view first.new) (binding.bind_term (fields_in self.entry) place (syntax.term_view term.now)) o) }
+        ensures term { IfOk result (λ o. Came (IsTerm (fields_in self.entry) (leaves_in self.entry)) (first_view first.old) (first_view first.new) (binding.bind_term (fields_in self.entry) place (syntax.term_view term.now)) o) }
+        ensures alone { OnOk result (Appends (fields_in self.entry) (leaves_in self.entry) (binding.argument_alone (fields_in self.entry) place (syntax.term_view term.now)) (alone.old).items (alone.new).items) }
     {
         match term {
             Term::Expression(expression) => match self.expression(expression, first)? {
@@ -242,7 +253,7 @@ impl Binder<'_> {
             Term::Aggregate(aggregate, argument, within) => {
                 let argument = self.argument(*aggregate, place, argument, first)?;
                 let within = self.within(within, first)?;
-                Ok(aggregated(fold_of(*aggregate), argument, within))
+                aggregated(fold_of(*aggregate), argument, within, alone)
             }
         }
     }

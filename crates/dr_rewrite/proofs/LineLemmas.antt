@@ -1,6 +1,6 @@
 -- The three lines that are written are those of the plan's query.
 use Rattle.std.proofs.Common.{◌≡◌, ℕ, ◌+◌, ◌<◌, ◌≤◌, List, [], ◌∷◌, ◌++◌, map, length, true, Vec, refl, sym, ap, ap₂, ◌∙◌, subst, arith}
-use Rattle.std.specs.Prelude.{codes}
+use Rattle.std.specs.Prelude.{codes, Option, option_map}
 use Rattle.std.specs.List.{list_all, slice_get}
 use Rattle.std.specs.declared.alloc.Global.{Global}
 use Rattle.std.proofs.lemmas.Bool.{and_parts}
@@ -11,13 +11,14 @@ use Rattle.dr_nested.specs.SchemaView.{schema_view}
 use Rattle.dr_partials.specs.PartialTypes.{aggregates_among}
 use Rattle.dr_partials.specs.Rewriting.{key_items, aggregate_items, merging_terms}
 use Rattle.dr_partials.specs.RewritingText.{nth_text, group_term_text, column_text, column_names, in_quotes, named, record_term_text, key_names as meant_names, select_text, leaf_text, inner_text, root_text, rewriting_text}
-use Rattle.dr_plan.specs.Conjuncts.{all_of}
+use Rattle.dr_plan.specs.Conjuncts.{condition_written}
 use Rattle.dr_plan.specs.declared.aggregate.Aggregate.{Aggregate}
 use Rattle.dr_plan.specs.declared.expression.Truth.{Truth}
+use Rattle.dr_plan.specs.declared.joining.Joining.{Joining}
 use Rattle.dr_plan.specs.declared.plan.GroupItem.{GroupItem}
 use Rattle.dr_plan.specs.declared.plan.Selection.{Selection}
 use Rattle.dr_plan.specs.Fitting.{are_numbered, has_key, selection_fits}
-use Rattle.dr_plan.specs.Views.{aggregate_view, group_item_view, path_of, record_item_view, selection_view, truth_view}
+use Rattle.dr_plan.specs.Views.{aggregate_view, group_item_view, path_of, joining_view, record_item_view, selection_view, truth_view}
 use Rattle.dr_rewrite.specs.Items.{indexed, key_name, aggregate_name, key_text, leaf_key, leaf_aggregate}
 use Rattle.dr_rewrite.specs.Lines.{key_names, leaf_line, inner_line, root_line, lines, tests_text}
 use Rattle.dr_rewrite.specs.Writing.{written_leaves, written_path}
@@ -71,13 +72,13 @@ leaf_items n keys all items w =
     (λ j k e. ap (nth_text texts) (no_shift j) ∙ (ap (λ ts. nth_text ts j) (map_map (written_path n) (λ k. path_of (slice_get ls k)) keys) ∙ nth_of (key_text n) keys j k e)))
     (ap (λ ts. written_items text (aggregate_items 0 ts)) w.among ∙ leaf_aggregates n texts 0 all))
 
-leaf_same : (n : Names) (tests : List Truth) (s : Selection) → selection_fits (written_leaves n) s ≡ true
-    → leaf_line n tests s ≡ leaf_text (written_path n) (all_of (map (truth_view (written_leaves n)) tests)) (selection_view (written_leaves n) s)
-leaf_same n tests (Selection.Objects items o) h =
-    ap (λ is. select_text is (codes "tablet") (tests_text n tests) [])
+leaf_same : (n : Names) (tests : List Truth) (joining : Option Joining) (s : Selection) → selection_fits (written_leaves n) s ≡ true
+    → leaf_line n tests joining s ≡ leaf_text (written_path n) (condition_written (map (truth_view (written_leaves n)) tests) (option_map joining_view joining)) (selection_view (written_leaves n) s)
+leaf_same n tests joining (Selection.Objects items o) h =
+    ap (λ is. select_text is (codes "tablet") (tests_text n tests joining) [])
     (sym (map_map (λ (i : query.RecordItem). named (record_term_text (written_path n) i.term) (in_quotes i.name)) (record_item_view (written_leaves n)) items.items))
-leaf_same n tests (Selection.Groups keys all items) h =
-    ap₂ (λ is ks. select_text is (codes "tablet") (tests_text n tests) ks) (leaf_items n keys.items all.items items.items (parts_of (written_leaves n) keys all items h))
+leaf_same n tests joining (Selection.Groups keys all items) h =
+    ap₂ (λ is ks. select_text is (codes "tablet") (tests_text n tests joining) ks) (leaf_items n keys.items all.items items.items (parts_of (written_leaves n) keys all items h))
     (sym (map_map (written_path n) (λ k. path_of (slice_get (written_leaves n) k)) keys.items))
 
 inner_same : (ls : List Leaf) (s : Selection) → selection_fits ls s ≡ true → inner_line s ≡ inner_text (selection_view ls s)
@@ -113,10 +114,10 @@ root_same ls (Selection.Groups keys all items) h =
     (subst (λ m. list_all (λ (x : GroupItem). has_key m x.term) items.items ≡ true) (sym many) w.keyed)))
     ks
 
-pub lines_are_rewriting : (n : Names) (tests : List Truth) (s : Selection) → selection_fits (written_leaves n) s ≡ true
-    → lines n tests s ≡ rewriting_text (schema_view n.schema.now).fields (record { condition = all_of (map (truth_view (written_leaves n)) tests); selection = selection_view (written_leaves n) s })
+pub lines_are_rewriting : (n : Names) (tests : List Truth) (joining : Option Joining) (s : Selection) → selection_fits (written_leaves n) s ≡ true
+    → lines n tests joining s ≡ rewriting_text (schema_view n.schema.now).fields (record { condition = condition_written (map (truth_view (written_leaves n)) tests) (option_map joining_view joining); selection = selection_view (written_leaves n) s })
 unfolding rewriting_text
-lines_are_rewriting n tests s h =
+lines_are_rewriting n tests joining s h =
     let ls = written_leaves n in
-    ap₂ (λ l r. codes "leaf: " ++ (l ++ r)) (leaf_same n tests s h)
+    ap₂ (λ l r. codes "leaf: " ++ (l ++ r)) (leaf_same n tests joining s h)
     (ap₂ (λ m r. codes "\ninner: " ++ (m ++ (codes "\nroot: " ++ (r ++ 10 ∷ [])))) (inner_same ls s h) (root_same ls s h))

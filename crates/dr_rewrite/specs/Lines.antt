@@ -1,28 +1,29 @@
 -- The lines that tell a plan's queries, by its parts.
-use Rattle.std.specs.Prelude.{ℕ, List, [], ◌∷◌, ◌++◌, codes, map}
+use Rattle.std.specs.Prelude.{ℕ, List, [], ◌∷◌, ◌++◌, codes, map, Option, option_map}
 use Rattle.dr_partials.specs.RewritingText.{select_text, where_text}
-use Rattle.dr_plan.specs.Conjuncts.{all_of}
-use Rattle.dr_plan.specs.Views.{truth_view}
+use Rattle.dr_plan.specs.Conjuncts.{condition_written}
+use Rattle.dr_plan.specs.Views.{joining_view, truth_view}
 use Rattle.dr_plan.specs.declared.expression.Truth.{Truth}
+use Rattle.dr_plan.specs.declared.joining.Joining.{Joining}
 use Rattle.dr_plan.specs.declared.plan.Selection.{Selection}
 use Rattle.dr_rewrite.specs.Items.{indexed, inner_aggregate, key_name, key_text, leaf_aggregate, leaf_key, record_item_text, root_item}
 use Rattle.dr_rewrite.specs.Writing.{written_leaves, written_path}
 use Rattle.dr_rewrite.specs.declared.paths.Names.{Names}
 
--- WHERE and the tests
-abbrev pub tests_text : Names → List Truth → List ℕ
-tests_text n tests = where_text (written_path n) (all_of (map (truth_view (written_leaves n)) tests))
+-- WHERE and the tests, joined so
+abbrev pub tests_text : Names → List Truth → Option Joining → List ℕ
+tests_text n tests joining = where_text (written_path n) (condition_written (map (truth_view (written_leaves n)) tests) (option_map joining_view joining))
 
 -- the names of keys
 abbrev pub key_names : List ℕ → List (List ℕ)
 key_names keys = indexed (λ (i k : ℕ). key_name i) 0 keys
 
 -- the leaf query
-abbrev pub leaf_line : Names → List Truth → Selection → List ℕ
-leaf_line n tests (Selection.Objects items o) = select_text (map (record_item_text n) items.items) (codes "tablet") (tests_text n tests) []
-leaf_line n tests (Selection.Groups keys aggregates items) =
+abbrev pub leaf_line : Names → List Truth → Option Joining → Selection → List ℕ
+leaf_line n tests joining (Selection.Objects items o) = select_text (map (record_item_text n) items.items) (codes "tablet") (tests_text n tests joining) []
+leaf_line n tests joining (Selection.Groups keys aggregates items) =
     select_text (indexed (leaf_key n) 0 keys.items ++ indexed (leaf_aggregate n) 0 aggregates.items)
-    (codes "tablet") (tests_text n tests) (map (key_text n) keys.items)
+    (codes "tablet") (tests_text n tests joining) (map (key_text n) keys.items)
 
 -- the inner query
 abbrev pub inner_line : Selection → List ℕ
@@ -36,5 +37,5 @@ root_line (Selection.Objects items o) = codes "CONCAT children"
 root_line (Selection.Groups keys aggregates items) = select_text (map (root_item aggregates.items) items.items) (codes "children") [] (key_names keys.items)
 
 -- the three lines
-abbrev pub lines : Names → List Truth → Selection → List ℕ
-lines n tests s = codes "leaf: " ++ (leaf_line n tests s ++ (codes "\ninner: " ++ (inner_line s ++ (codes "\nroot: " ++ (root_line s ++ 10 ∷ [])))))
+abbrev pub lines : Names → List Truth → Option Joining → Selection → List ℕ
+lines n tests joining s = codes "leaf: " ++ (leaf_line n tests joining s ++ (codes "\ninner: " ++ (inner_line s ++ (codes "\nroot: " ++ (root_line s ++ 10 ∷ [])))))

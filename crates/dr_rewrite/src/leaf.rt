@@ -31,12 +31,14 @@ pub fn leaf_of(alloc: Global, plan: Plan) -> Result<Plan, NoMemory>
     ensures query { IfOk result (λ p. planned_query (plan_view p) ≡ leaf_query (planned_query (plan_view plan))) }
     ensures leaves { IfOk result (λ p. (plan_view p).leaves ≡ (plan_view plan).leaves) }
     ensures tests { IfOk result (λ p. (plan_view p).conjuncts ≡ (plan_view plan).conjuncts) }
+    ensures joining { IfOk result (λ p. (plan_view p).joining ≡ (plan_view plan).joining) }
     ensures objects { IfOk result (λ p. (plan_view p).objects ≡ (plan_view plan).objects) }
 {
     let selection = leaf_selection(alloc, plan.selection)?;
     Ok(Plan {
         leaves: plan.leaves,
         test: plan.test,
+        joining: plan.joining,
         selection,
     })
 }

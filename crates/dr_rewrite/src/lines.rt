@@ -12,7 +12,7 @@ use crate::merging::{push_inner_aggregates, root_items};
 use crate::paths::Names;
 use crate::record_items::record_items;
 use dr_memory::NoMemory;
-use dr_plan::{Selection, Truth};
+use dr_plan::{Joining, Selection, Truth};
 use std::alloc::{AllocError, Global};
 
 /// Appends SELECT, items, and the table.
@@ -42,24 +42,25 @@ fn push_group_by(keys: &[String], out: &mut String) -> Result<(), AllocError>
 fn push_leaf_line(
     alloc: Global,
     tests: &[Truth],
+    joining: &Option<Joining>,
     selection: &Selection,
     names: &Names<'_>,
     out: &mut String,
 ) -> Result<(), NoMemory>
-    ensures { OnOk result (string_bytes out.new ≡ string_bytes out.old ++ written.leaf_line names.now tests.now selection.now) }
+    ensures { OnOk result (string_bytes out.new ≡ string_bytes out.old ++ written.leaf_line names.now tests.now joining.now selection.now) }
 {
     match selection {
         Selection::Objects(items, _) => {
             let texts = record_items(alloc, items, names)?;
             push_select(&texts, "tablet", out)?;
-            push_condition(tests, names, out)?;
+            push_condition(tests, joining, names, out)?;
             Ok(())
         }
         Selection::Groups(keys, aggregates, _) => {
             let texts = leaf_items(alloc, keys, aggregates, names)?;
             let paths = key_paths(alloc, keys, names)?;
             push_select(&texts, "tablet", out)?;
-            push_condition(tests, names, out)?;
+            push_condition(tests, joining, names, out)?;
             push_group_by(&paths, out)?;
             Ok(())
         }
@@ -109,14 +110,15 @@ fn push_root_line(alloc: Global, selection: &Selection, out: &mut String) -> Res
 pub(crate) fn lines(
     alloc: Global,
     tests: &[Truth],
+    joining: &Option<Joining>,
     selection: &Selection,
     names: &Names<'_>,
 ) -> Result<String, NoMemory>
-    ensures { IfOk result (λ s. string_bytes s ≡ written.lines names.now tests.now selection.now) }
+    ensures { IfOk result (λ s. string_bytes s ≡ written.lines names.now tests.now joining.now selection.now) }
 {
     let mut out = String::new(alloc);
     out.push_str("leaf: ")?;
-    push_leaf_line(alloc, tests, selection, names, &mut out)?;
+    push_leaf_line(alloc, tests, joining, selection, names, &mut out)?;
     out.push_str("\ninner: ")?;
     push_inner_line(alloc, selection, &mut out)?;
     out.push_str("\nroot: ")?;

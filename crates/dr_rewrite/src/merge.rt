@@ -55,6 +55,7 @@ fn merging_plan(
     Ok(Plan {
         leaves: columns,
         test: Vec::new(alloc),
+        joining: None,
         selection,
     })
 }

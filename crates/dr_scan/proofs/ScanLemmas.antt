@@ -10,8 +10,8 @@ use Rattle.dr_meaning.specs.Column.{Triplet, column}
 use Rattle.dr_meaning.specs.Query.{Query}
 use Rattle.dr_meaning.specs.QueryLeaves.{query_leaves}
 use Rattle.dr_formats.specs.File.{IsFileOf, most_triplets}
-use Rattle.dr_outside.specs.Link.{Files, Lacks}
-use Rattle.dr_chunk.specs.Telling.{TellsFile}
+use Rattle.dr_outside.specs.Link.{Files, LinkShown, Lacks}
+use Rattle.dr_outside.specs.Telling.{TellsFile}
 use Rattle.dr_nested.specs.Views.{node_view}
 use Rattle.dr_nested.specs.PathView.{path_view}
 use Rattle.dr_nested.specs.declared.path.Path.{Path}
@@ -32,11 +32,13 @@ use Rattle.dr_plan.specs.declared.plan.Plan.{Plan}
 use Rattle.dr_rows.specs.Views.{paths_view}
 use Rattle.dr_mean.specs.Answers.{Answers}
 use Rattle.dr_mean.proofs.GroupLawLemmas.{partials_rejoined}
-use Rattle.dr_records.specs.FileRecords.{AreLeavesOf, AreProjected, AreOfFile, AreFew, are_short, paths_of_leaves}
-use Rattle.dr_records.proofs.LeafLemmas.{used_are_leaves}
-use Rattle.dr_serving.specs.Held.{held_at, held_file, present}
+use Rattle.dr_tablets.specs.FileRecords.{AreLeavesOf, AreProjected, AreOfFile, AreFew, are_short, paths_of_leaves}
+use Rattle.dr_tablets.proofs.LeafLemmas.{used_are_leaves}
+use Rattle.dr_reading.specs.Held.{held_at, held_file, present}
+use Rattle.dr_reading.specs.Scan.{Copy}
+use Rattle.dr_tablets.specs.Asked.{AsksForTablets}
 use Rattle.dr_serving.specs.Truth.{StandsForFile, IsTrueOf, most_values}
-use Rattle.dr_scan.specs.Plans.{IsPlanOf}
+use Rattle.dr_plan.specs.PlanOf.{IsPlanOf}
 use Rattle.dr_scan.specs.Scans.{StandsForBytes, StandsForRecords, truth_at}
 use Rattle.dr_scan.proofs.ProjectionLemmas.{projections_twice}
 
@@ -44,6 +46,10 @@ use Rattle.dr_scan.proofs.ProjectionLemmas.{projections_twice}
 
 pub leaves_are : (s : Schema) (q : Query) (p : Plan) → IsPlanOf s q p → plan_leaves p ≡ query_leaves s.fields q
 leaves_are s q p h = ap (λ (x : Planned). x.leaves) h.2
+
+-- what is asked for the plan's leaves is asked for the query's
+pub asks_query : (s : Schema) (q : Query) (p : Plan) (ts : List (List Copy)) (l now : LinkShown) → IsPlanOf s q p → AsksForTablets (plan_leaves p) ts l now → AsksForTablets (query_leaves s.fields q) ts l now
+asks_query s q p ts l now is h = subst (λ (F : List Leaf). AsksForTablets F ts l now) (leaves_are s q p is) h
 
 -- they are leaves of the schema
 pub plan_has_leaves : (s : Schema) (p : Plan) (ls : List Path) → IsOfSchema s p → ls ≡ p.leaves.items → AreLeavesOf s.fields (map path_view ls)

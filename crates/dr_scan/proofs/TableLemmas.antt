@@ -12,9 +12,9 @@ use Rattle.dr_partials.specs.Partials.{Stands}
 use Rattle.dr_partials.specs.Rewriting.{leaf_query}
 use Rattle.dr_group.specs.Partials.{partial_view}
 use Rattle.dr_group.specs.declared.partial.Partial.{Partial}
-use Rattle.dr_records.specs.FileRecords.{paths_of_leaves}
+use Rattle.dr_tablets.specs.FileRecords.{paths_of_leaves}
 use Rattle.dr_formats.specs.TableFile.{Table}
-use Rattle.dr_serving.specs.Causes.{RisesApart}
+use Rattle.dr_reading.specs.Causes.{RisesApart}
 use Rattle.dr_reading.specs.Scan.{Copy, copies_from, tablets_from, tablets_of}
 use Rattle.dr_reading.specs.Given.{IsGiven, AreGiven}
 use Rattle.dr_reading.specs.Left.{LeftTablet, LeavesJust, causes_met}

@@ -9,7 +9,7 @@ use Rattle.dr_meaning.specs.QueryLeaves.{query_leaves}
 use Rattle.dr_formats.specs.Tablets.{placement}
 use Rattle.dr_outside.specs.Link.{Files, LinkShown, Lacks}
 use Rattle.dr_outside.specs.declared.cause.Cause.{Cause}
-use Rattle.dr_chunk.specs.Telling.{TellsFile}
+use Rattle.dr_outside.specs.Telling.{TellsFile}
 use Rattle.dr_file.specs.declared.file_fault.FileFault.{FileFault}
 use Rattle.dr_group.specs.declared.partial.Partial as code
 use Rattle.dr_partials.specs.Partials.{Partial, Stands}

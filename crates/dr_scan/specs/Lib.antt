@@ -1,5 +1,4 @@
--- the query of a plan, and the literals in it
-pub mod Plans
+-- the literals in a plan
 pub mod Literals
 -- what a file, a tablet and a table give
 pub mod Scans

@@ -9,7 +9,7 @@ use Rattle.dr_formats.specs.File.{IsFileOf}
 use Rattle.dr_outside.specs.Link.{Files}
 use Rattle.dr_partials.specs.Partials.{Partial, Stands}
 use Rattle.dr_partials.specs.Rewriting.{leaf_query}
-use Rattle.dr_serving.specs.Held.{held_at}
+use Rattle.dr_reading.specs.Held.{held_at}
 use Rattle.dr_serving.specs.Truth.{TabletTruth}
 
 -- a partial stands for the leaf query on some records of which the bytes are a file for the leaves that the query uses

@@ -7,13 +7,14 @@ ghost use Rattle.dr_table.specs.Views.{table_view};
 ghost use Rattle.dr_partials.specs.PartialTypes.{is_partial};
 ghost use Rattle.dr_partials.specs.PartialBounds.{PartialCanBeOf};
 ghost use Rattle.dr_partials.specs.Rewriting.{leaf_query};
-ghost use Rattle.dr_plan.specs.Planned.{IsOfSchema, plan_view};
+ghost use Rattle.dr_plan.specs.Planned.{IsOfSchema, plan_leaves, plan_view};
 ghost use Rattle.dr_group.specs.Partials.{IsPartialOf, partial_view};
 ghost use Rattle.dr_serving.specs.Truth.{most_values};
 ghost use Rattle.dr_reading.specs.Scan.{tablets_of};
 ghost use Rattle.dr_tablets.specs.Views.{all_left_view};
 ghost use Rattle.dr_tablets.specs.Tablets.{LeavesTablets};
-ghost use Rattle.dr_scan.specs.Plans.{ForQuery};
+ghost use Rattle.dr_plan.specs.PlanOf.{ForQuery};
+ghost use Rattle.dr_tablets.specs.Asked.{AsksForTablets};
 ghost use Rattle.dr_scan.specs.Tables.{OfEach, StandForTablets, TakesPiece, WhereGiven, WhereLeft, with_scanned};
 
 use crate::tablet::{Scanned, scan_tablet};
@@ -59,7 +60,8 @@ fn keep(
 }
 
 /// A plan's partial of the records of each tablet of a table, in the order of the tablets; or the tablets that are left, of which no copy
-/// gives records. The records of one tablet are in memory at a time.
+/// gives records. The records of one tablet are in memory at a time. The link is asked for no file but those of the table, and for no
+/// bytes of them but what the plan's leaves take.
 ///
 /// Errors: want of memory, or of room for a partial.
 pub fn scan_table<L: Link>(
@@ -74,6 +76,7 @@ pub fn scan_table<L: Link>(
     ensures bounded { IfOk result (WhereGiven (OfEach (λ p. PartialCanBeOf most_values (partial_view p)))) }
     ensures of_plan { IfOk result (WhereGiven (OfEach (IsPartialOf (plan_view plan.now)))) }
     ensures left { ForQuery (schema_view (table.now).schema) plan.now (λ q. IfOk result (WhereLeft (λ left. LeavesTablets (table_view table.now) (query_leaves (table_view table.now).schema.fields q) left (L.shows link.old) (L.shows link.new)))) }
+    ensures asks { AsksForTablets (plan_leaves plan.now) (tablets_of (table_view table.now)) (L.shows link.old) (L.shows link.new) }
     ensures same { (L.shows link.new).held ≡ (L.shows link.old).held }
     ensures never_falls { (L.shows link.old).faults ≤ (L.shows link.new).faults }
     ensures stays_steady { IsTrue (L.shows link.old).is_steady → IsTrue (L.shows link.new).is_steady }

@@ -1,23 +1,23 @@
 //! Scanning the file at a path.
 
-ghost use Rattle.std.specs.Prelude.{◌≡◌, ◌≢◌, ◌≤◌, ℕ, List, true, false, IfOk, IfErr, IsTrue, Err};
+ghost use Rattle.std.specs.Prelude.{◌≡◌, ◌≢◌, ◌≤◌, ℕ, List, [], true, false, IfOk, IfErr, IsTrue, Err};
 ghost use Rattle.dr_formats.specs.Opening.{reader_ranges};
 ghost use Rattle.dr_nested.specs.SchemaView.{schema_view};
 ghost use Rattle.dr_outside.specs.Link.{Lacks};
-ghost use Rattle.dr_chunk.specs.Telling.{Tells, Serves, AsksOnly};
+ghost use Rattle.dr_outside.specs.Telling.{Tells, Serves, AsksOnly};
 ghost use Rattle.dr_file.specs.Asking.{is_request_for};
 ghost use Rattle.dr_file.specs.OpenedFiles.{HasCounts, is_read_fault};
 ghost use Rattle.dr_meaning.specs.Record.{Node};
 ghost use Rattle.dr_formats.specs.File.{IsFileOf};
-ghost use Rattle.dr_steps.specs.Counting.{counted};
-ghost use Rattle.dr_records.specs.FileRecords.{IsFaultOf, triplets_at};
+ghost use Rattle.dr_tablets.specs.Counting.{counted};
+ghost use Rattle.dr_tablets.specs.FileRecords.{IsFaultOf, triplets_at};
 ghost use Rattle.dr_partials.specs.PartialTypes.{is_partial};
 ghost use Rattle.dr_partials.specs.PartialBounds.{PartialCanBeOf};
 ghost use Rattle.dr_partials.specs.Rewriting.{leaf_query};
 ghost use Rattle.dr_plan.specs.Planned.{IsOfSchema, plan_leaves, plan_view};
 ghost use Rattle.dr_group.specs.Partials.{IsPartialOf, partial_view};
 ghost use Rattle.dr_serving.specs.Truth.{IsTrueOf, most_values};
-ghost use Rattle.dr_scan.specs.Plans.{ForQuery};
+ghost use Rattle.dr_plan.specs.PlanOf.{ForQuery};
 ghost use Rattle.dr_scan.specs.Scans.{StandsForBytes, StandsForRecords, truth_at};
 
 use crate::literals::see_literals;
@@ -28,8 +28,7 @@ use dr_memory::NoMemory;
 use dr_nested::Schema;
 use dr_outside::Link;
 use dr_plan::Plan;
-use dr_records::read_records;
-use dr_steps::Steps;
+use dr_tablets::{Steps, read_records};
 use std::alloc::Global;
 
 /// A plan's partial of the records of the file at a path, of which the plan's leaves alone are read. The link is asked for the file's
@@ -54,6 +53,7 @@ pub fn scan<L: Link>(
     ensures truth { ForQuery (schema_view schema.now) plan.now (λ q. IfOk result (λ p. IsTrueOf (truth_at (schema_view schema.now) q (L.shows link.old).held path.now) (partial_view p))) }
     ensures cause { (bytes : List ℕ) → Tells (L.shows link.old) path.now bytes → IfErr result (IsFaultOf bytes (schema_view schema.now) (plan_leaves plan.now)) }
     ensures asked { (bytes : List ℕ) → Tells (L.shows link.old) path.now bytes → AsksOnly (is_request_for path.now (reader_ranges bytes (plan_leaves plan.now))) (L.shows link.old).asked (L.shows link.new).asked }
+    ensures asked_absent { Lacks (L.shows link.old).held path.now → AsksOnly (is_request_for path.now []) (L.shows link.old).asked (L.shows link.new).asked }
     ensures counted { (bytes : List ℕ) (R : List Node) → Tells (L.shows link.old) path.now bytes → IsFileOf bytes (schema_view schema.now) (plan_leaves plan.now) R → IfOk result (λ p. steps.new ≡ counted steps.old (triplets_at (plan_leaves plan.now) R)) }
     ensures uncounted { IfErr result (λ e. steps.new ≡ steps.old) }
     ensures same { (L.shows link.new).held ≡ (L.shows link.old).held }

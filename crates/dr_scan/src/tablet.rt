@@ -1,17 +1,18 @@
 //! Scanning a tablet of a table.
 
-ghost use Rattle.std.specs.Prelude.{◌≡◌, ◌≤◌, true, IfOk, IsTrue};
+ghost use Rattle.std.specs.Prelude.{◌≡◌, ◌≤◌, [], ◌∷◌, true, IfOk, IsTrue};
 ghost use Rattle.dr_nested.specs.SchemaView.{schema_view};
 ghost use Rattle.dr_table.specs.Views.{table_view};
 ghost use Rattle.dr_partials.specs.PartialTypes.{is_partial};
 ghost use Rattle.dr_partials.specs.PartialBounds.{PartialCanBeOf};
 ghost use Rattle.dr_partials.specs.Rewriting.{leaf_query};
-ghost use Rattle.dr_plan.specs.Planned.{IsOfSchema, plan_view};
+ghost use Rattle.dr_plan.specs.Planned.{IsOfSchema, plan_leaves, plan_view};
 ghost use Rattle.dr_group.specs.Partials.{IsPartialOf, partial_view};
-ghost use Rattle.dr_serving.specs.Causes.{RisesApart};
+ghost use Rattle.dr_reading.specs.Causes.{RisesApart};
 ghost use Rattle.dr_serving.specs.Truth.{most_values};
 ghost use Rattle.dr_reading.specs.Scan.{copies_from};
-ghost use Rattle.dr_scan.specs.Plans.{ForQuery};
+ghost use Rattle.dr_plan.specs.PlanOf.{ForQuery};
+ghost use Rattle.dr_tablets.specs.Asked.{AsksForTablets};
 ghost use Rattle.dr_scan.specs.Tablets.{IsScannedAs, WhereScanned, causes_in};
 
 use crate::scanning::scan;
@@ -20,9 +21,8 @@ use dr_group::Partial;
 use dr_memory::NoMemory;
 use dr_outside::Link;
 use dr_plan::Plan;
-use dr_steps::Steps;
 use dr_table::{Table, path_of, placement};
-use dr_tablets::Tried;
+use dr_tablets::{Steps, Tried};
 use std::alloc::Global;
 
 /// What is scanned of a tablet: a partial of its records, or the copies that were tried, which is each of them.
@@ -32,7 +32,8 @@ pub enum Scanned {
     Left(Vec<Tried>),
 }
 
-/// A plan's partial of the records of a tablet of a table, from the first of its copies that gives one; else why each of them gives none.
+/// A plan's partial of the records of a tablet of a table, from the first of its copies that gives one; else why each of them gives none. The
+/// link is asked for no file but those of the tablet's copies, and for no bytes of them but what the plan's leaves take.
 ///
 /// Errors: want of memory, or of room for the partial.
 pub fn scan_tablet<L: Link>(
@@ -48,6 +49,7 @@ pub fn scan_tablet<L: Link>(
     ensures bounded { IfOk result (WhereScanned (λ p. PartialCanBeOf most_values (partial_view p))) }
     ensures of_plan { IfOk result (WhereScanned (IsPartialOf (plan_view plan.now))) }
     ensures rises { IfOk result (λ t. RisesApart (L.shows link.old).faults (causes_in t) (L.shows link.new).faults) }
+    ensures asks { AsksForTablets (plan_leaves plan.now) (copies_from (table_view table.now).leaves tablet 0 (table.now).copies ∷ []) (L.shows link.old) (L.shows link.new) }
     ensures same { (L.shows link.new).held ≡ (L.shows link.old).held }
     ensures never_falls { (L.shows link.old).faults ≤ (L.shows link.new).faults }
     ensures stays_steady { IsTrue (L.shows link.old).is_steady → IsTrue (L.shows link.new).is_steady }

@@ -4,16 +4,14 @@ use Rattle.std.specs.Prelude.{◌⊎◌}
 use Rattle.std.specs.List.{list_all, range_with_len}
 use Rattle.std.proofs.lemmas.Bool.{and_parts}
 use Rattle.std.proofs.lemmas.List.Folds.{list_all-append}
-use Rattle.dr_meaning.specs.Schema.{Schema, Fields}
+use Rattle.dr_meaning.specs.Schema.{Fields}
 use Rattle.dr_meaning.specs.Path.{Step, Leaf, is_leaf_path}
 use Rattle.dr_meaning.specs.Record.{Node, is_record, project}
 use Rattle.dr_meaning.specs.Query.{GroupTerm, key, count_rows, aggregate, GroupItem, Selection, objects, groups, Query, meaning}
 use Rattle.dr_meaning.specs.MeaningLaws.{group_term_paths, covers}
-use Rattle.dr_meaning.specs.Column.{Triplet, column}
 use Rattle.dr_meaning.specs.QueryLeaves.{query_leaves}
-use Rattle.dr_meaning.proofs.ColumnLemmas.{columns_determine}
 use Rattle.dr_meaning.proofs.QueryLeavesLemmas.{query_leaves_are_leaves}
-use Rattle.dr_formats.specs.File.{Footer, footer_of, IsDataOf, IsFileOf}
+use Rattle.dr_formats.specs.File.{IsFileOf}
 use Rattle.dr_outside.specs.Link.{Files}
 use Rattle.dr_partials.specs.Partials.{Partial, partial_of, Stands, finished}
 use Rattle.dr_partials.specs.PartialTypes.{with_aggregate, aggregates_among}
@@ -26,37 +24,14 @@ use Rattle.dr_partials.proofs.ProjectedLemmas.{partial_of_projection}
 use Rattle.dr_partials.proofs.RewritingLemmas.{leaf_has_partials, leaf_uses_same_leaves, leaf_covered_alike}
 use Rattle.dr_partials.proofs.BoundLemmas.{bound_is_mergeable, bound_leaves_are_enough}
 use Rattle.dr_partials.proofs.TreeLemmas.{gathered_stands}
-use Rattle.dr_serving.specs.Held.{Held, present, held_file, held_on, held_by_all, IsHeld, IsUntold}
+use Rattle.dr_reading.specs.Held.{Held, present, held_file, held_on, held_by_all, IsHeld, IsUntold}
+use Rattle.dr_reading.specs.Scan.{Copy, copy_paths}
+use Rattle.dr_reading.specs.Premises.{TellsFiles, HoldsRecords, PathsHold, TabletsHold, paths_of_leaves}
+use Rattle.dr_reading.proofs.FileLemmas.{same_projections}
 use Rattle.dr_serving.specs.Truth.{TabletTruth, leaves_of, StandsForFile}
-use Rattle.dr_serving.specs.Outcome.{Serving, serving_leaves, truth_of, AreTrueFrom}
-use Rattle.dr_serving.specs.Premises.{TellsFiles, AllTell, HoldsRecords, PathsHold, TabletsHold, paths_of_leaves, ServesRecords, IsServable, all_records}
+use Rattle.dr_serving.specs.Outcome.{Serving, serving_leaves, held_by_links, truth_of, AreTrueFrom}
+use Rattle.dr_serving.specs.Premises.{AllTell, ServesRecords, IsServable, all_records}
 use Rattle.dr_serving.specs.ServingLaws.{HasEnoughLeaves, EachHolds, TrueOfTabletStands, FinishedMeansQuery, BoundIsServable}
-
--- ---- records of which the same bytes are a file have the same projections
-
-same_footer : (f g : Footer) (o : Option Footer) → o ≡ Some f → o ≡ Some g → f ≡ g
-same_footer f g o h k = let e = sym h ∙ k in cc
-
-strip : (x y : List Triplet) (xs ys : List (Option (List Triplet))) → Some x ∷ xs ≡ Some y ∷ ys → (x ≡ y) × (xs ≡ ys)
-strip x y xs ys h = (cc, cc)
-
-same_columns : (F : List Leaf) (R S : List Node) → map (λ (l : Leaf). Some (column l.path R)) F ≡ map (λ (l : Leaf). Some (column l.path S)) F
-    → map (λ (p : List Step). column p R) (paths_of_leaves F) ≡ map (λ (p : List Step). column p S) (paths_of_leaves F)
-same_columns [] R S h = refl
-same_columns (l ∷ F) R S h =
-    let k = strip (column l.path R) (column l.path S) (map (λ (l : Leaf). Some (column l.path R)) F) (map (λ (l : Leaf). Some (column l.path S)) F) h in
-    ap₂ (λ x xs. x ∷ xs) k.0 (same_columns F R S k.1)
-
-leaf_paths : (fs : Fields) (F : List Leaf) → list_all (λ (l : Leaf). is_leaf_path fs l.path) F ≡ true → list_all (is_leaf_path fs) (paths_of_leaves F) ≡ true
-leaf_paths fs [] h = refl
-leaf_paths fs (l ∷ F) h = let k = and_parts (is_leaf_path fs l.path) (list_all (λ (l : Leaf). is_leaf_path fs l.path) F) h in ap₂ (λ a b. a && b) k.0 (leaf_paths fs F k.1)
-
-pub same_projections : (bytes : List ℕ) (s : Schema) (F : List Leaf) (R S : List Node) → list_all (λ (l : Leaf). is_leaf_path s.fields l.path) F ≡ true → IsFileOf bytes s F R → IsFileOf bytes s F S
-    → map (project (paths_of_leaves F)) R ≡ map (project (paths_of_leaves F)) S
-same_projections bytes s F R S l a b =
-    let e : a.0 ≡ b.0 = same_footer a.0 b.0 (footer_of bytes) a.1 b.1 in
-    let d : IsDataOf bytes b.0 s F R = subst (λ (f : Footer). IsDataOf bytes f s F R) e a.4 in
-    columns_determine s.fields (paths_of_leaves F) (leaf_paths s.fields F l) R S d.3 b.4.3 (d.2 ∙ sym b.4.2) (same_columns F R S (sym d.4 ∙ b.4.4))
 
 -- ---- a true piece
 
@@ -114,13 +89,16 @@ all_hold truth R files (link ∷ links) paths t h = both_hold truth R (held_on l
 next_number : (t : ℕ) → t + 1 ≡ suc t
 next_number t = omega arith
 
-each_stands : (s : Serving) (R : ℕ → List Node) (v : IsServable s) (w : ServesRecords s R) (piece : ℕ → Partial) (t : ℕ) (tablets : List (List (List ℕ))) → TabletsHold s.schema (serving_leaves s) R w.files t tablets → AreTrueFrom s piece t tablets
+each_stands : (s : Serving) (R : ℕ → List Node) (v : IsServable s) (w : ServesRecords s R) (piece : ℕ → Partial) (t : ℕ) (tablets : List (List Copy))
+    → TabletsHold s.schema (serving_leaves s) w.files tablets (map R (range_with_len t (length tablets))) → AreTrueFrom s piece t tablets
     → StandsForEach s.schema.fields (leaf_query s.query) R piece (range_with_len t (length tablets))
 each_stands s R v w piece t [] h a = tt
-each_stands s R v w piece t (paths ∷ rest) h a =
-    let truth : TabletTruth = truth_of s paths in
-    let o : IsOfRecords truth (R t) (piece t) = by_file truth (R t) (piece t) v.enough (all_hold truth (R t) w.files (s.first_link ∷ s.other_links) paths w.told h.0) a.0.file in
-    (o.0, o.1, subst (λ u. StandsForEach s.schema.fields (leaf_query s.query) R piece (range_with_len u (length rest))) (sym (next_number t)) (each_stands s R v w piece (suc t) rest h.1 a.1))
+each_stands s R v w piece t (copies ∷ rest) h a =
+    let truth : TabletTruth = truth_of s copies in
+    let o : IsOfRecords truth (R t) (piece t) =
+    by_file truth (R t) (piece t) v.enough (all_hold truth (R t) w.files (held_by_links s) (copy_paths copies) w.told h.0) a.0.file in
+    let k = subst (λ u. TabletsHold s.schema (serving_leaves s) w.files rest (map R (range_with_len u (length rest)))) (next_number t) h.1 in
+    (o.0, o.1, subst (λ u. StandsForEach s.schema.fields (leaf_query s.query) R piece (range_with_len u (length rest))) (sym (next_number t)) (each_stands s R v w piece (suc t) rest k a.1))
 
 -- ---- the leaf query can be merged where the query can
 

@@ -1,79 +1,34 @@
--- Pieces, causes, outcomes and premises, by example: a table of one column, of which one file is held.
+-- Pieces, outcomes and premises, by example: a table of one column, of which one file is held.
 use Rattle.std.proofs.Common.{arith, lit≤}
-use Rattle.std.specs.Prelude.{◌≡◌, ℕ, ◌+◌, ◌-◌, ◌^◌, List, [], ◌∷◌, length, true, pos, Some, None, codes, refl, bytes_eq, if◌then◌else◌}
+use Rattle.std.specs.Prelude.{◌≡◌, ℕ, ◌+◌, ◌^◌, List, [], ◌∷◌, length, true, false, pos, Some, None, codes, refl}
 use Rattle.std.proofs.Common.{inl, inr, sym, ap, subst, ◌∙◌, true≢false}
-use Rattle.dr_meaning.specs.Path.{Step, Leaf}
-use Rattle.dr_meaning.specs.Schema.{required, int64_kind}
 use Rattle.dr_meaning.specs.Record.{int_value, Node}
 use Rattle.dr_meaning.specs.Expression.{path_value}
 use Rattle.dr_meaning.specs.Query.{sum, count_rows, aggregate, GroupItem, GroupTerm, Query, groups, cell, no_entries, meaning}
 use Rattle.dr_meaning.specs.QueryLeaves.{query_leaves}
-use Rattle.dr_formats.specs.File.{Footer, IsFileOf, footer_of, FileCause, bad_footer, bad_schema, bad_codec, bad_data, HasCause}
-use Rattle.dr_formats.proofs.FileLemmas.{one_cause}
-use Rattle.dr_formats.proofs.WorkedDamaged.{changed, double_type, other_codec, file_rows_disagree}
 use Rattle.dr_formats.specs.Writing.{file_bytes}
 use Rattle.dr_formats.proofs.WorkedFiles.{one_schema, one_record, one_file, one_file_is_written, one_file_fits}
 use Rattle.dr_formats.proofs.FileBack.{written_file_is_file}
-use Rattle.dr_outside.specs.Link.{Files}
-use Rattle.dr_outside.specs.declared.cause.Cause.{Cause}
-use Rattle.dr_outside.specs.declared.cause.Cause.TheVariants.{ReadFailed, BadFooter, BadSchema, BadCodec, BadData}
+use Rattle.dr_formats.specs.File.{Footer, IsFileOf}
+use Rattle.dr_outside.specs.Link.{LinkShown}
 use Rattle.dr_partials.specs.Accumulators.{Accumulator, counted, summed}
 use Rattle.dr_partials.specs.Partials.{Partial, lines, grouped, partial_of, Stands, merge, finished}
 use Rattle.dr_partials.specs.PartialTypes.{is_partial}
 use Rattle.dr_partials.specs.Trees.{of_fan}
 use Rattle.dr_partials.specs.Rewriting.{leaf_query}
-use Rattle.dr_serving.specs.Held.{Held, untold, absent, present, held_at, held_by_all, IsHeld, IsUntold}
+use Rattle.dr_reading.specs.Held.{Held, untold, absent, present, held_by_all, IsHeld}
+use Rattle.dr_reading.specs.Scan.{Copy}
+use Rattle.dr_reading.specs.Left.{AreTried, no_tablets, is_answered, is_left}
+use Rattle.dr_reading.specs.Premises.{HoldsRecords}
+use Rattle.dr_reading.proofs.WorkedCauses.{path_a, path_b, path_c, files, path_of_a, the_leaf, no_footer, copy, two_tablets, second}
 use Rattle.dr_serving.specs.Truth.{TabletTruth, IsTrueOf}
-use Rattle.dr_serving.specs.Causes.{IsJustified, AreJustified, RisesApart}
-use Rattle.dr_serving.specs.Outcome.{Serving, LeftTablet, no_tablets, has_piece, is_left, IsFinished, IsUnfinished}
-use Rattle.dr_serving.specs.Pieces.{TabletPiece, paths_at, IsTrueAt, kept_partial}
-use Rattle.dr_serving.specs.Premises.{AllTell, HoldsRecords, ServesRecords, IsServable}
+use Rattle.dr_serving.specs.Outcome.{Serving, IsFinished, IsUnfinished}
+use Rattle.dr_serving.specs.Pieces.{TabletPiece, copies_at, IsTrueAt, kept_partial}
+use Rattle.dr_serving.specs.Premises.{AllTell, ServesRecords, IsServable}
 use Rattle.dr_serving.specs.ServingLaws.{HasEnoughLeaves}
 use Rattle.dr_serving.proofs.ServingLemmas.{true_of_tablet_stands, finished_means_query}
 
--- ---- what is held
-
-abbrev path_a : List ℕ
-path_a = codes "a"
-
-abbrev path_b : List ℕ
-path_b = codes "b"
-
-abbrev path_c : List ℕ
-path_c = codes "c"
-
--- a file at a, no byte at b, nothing at c
-abbrev files : Files
-files path = if bytes_eq path path_a then Some one_file else (if bytes_eq path path_b then Some [] else None)
-
-pub held_alone : (held_at None path_a ≡ untold) × (held_at (Some files) path_a ≡ present one_file) × (held_at (Some files) path_b ≡ present []) × (held_at (Some files) path_c ≡ absent)
-held_alone = (refl, refl, refl, refl)
-
--- by links, each at its paths, in order
-pub held_by_two : held_by_all (Some files ∷ None ∷ []) (path_c ∷ path_a ∷ []) ≡ absent ∷ present one_file ∷ untold ∷ untold ∷ []
-held_by_two = refl
-
-pub held_there : IsHeld one_file (absent ∷ present one_file ∷ []) × (IsHeld one_file (absent ∷ untold ∷ present [] ∷ []) → ⊥)
-held_there = (inr (inl refl), not_there)
-  where
-    not_there : IsHeld one_file (absent ∷ untold ∷ present [] ∷ []) → ⊥
-    not_there (inl h) = cc
-    not_there (inr (inl h)) = cc
-    not_there (inr (inr (inl h))) = cc
-    not_there (inr (inr (inr h))) = h
-
-pub untold_there : IsUntold (absent ∷ untold ∷ []) × (IsUntold (absent ∷ present [] ∷ []) → ⊥)
-untold_there = (inr (inl refl), none)
-  where
-    none : IsUntold (absent ∷ present [] ∷ []) → ⊥
-    none (inl h) = cc
-    none (inr (inl h)) = cc
-    none (inr (inr h)) = h
-
 -- ---- pieces
-
-abbrev path_of_a : List Step
-path_of_a = record { place = 0; repetition = required } ∷ []
 
 abbrev item : List ℕ → GroupTerm → GroupItem
 item n t = record { name = n; term = t }
@@ -81,9 +36,6 @@ item n t = record { name = n; term = t }
 -- SELECT COUNT(*) AS n, SUM(a) AS s FROM T
 abbrev totals : Query
 totals = record { condition = None; selection = groups [] (item (codes "n") count_rows ∷ item (codes "s") (aggregate sum (path_value path_of_a)) ∷ []) }
-
-abbrev the_leaf : Leaf
-the_leaf = record { names = codes "a" ∷ []; path = path_of_a; kind = int64_kind }
 
 abbrev one : List Node
 one = one_record ∷ []
@@ -170,94 +122,31 @@ most_that_fit = record { partial = refl; bounded = ((lit≤ tt, (tt, tt)), tt); 
 pub too_many_values : IsTrueOf (truth_with (untold ∷ [])) (piece_of (counted (2 ^ 40 + 1) ∷ summed None ∷ [])) → ⊥
 too_many_values t = let n = t.bounded.0.0 in omega (arith, n)
 
--- ---- causes
-
-no_footer : footer_of [] ≡ None
-unfolding footer_of
-no_footer = refl
-
-abbrev justified : Held → Cause → Type 0
-justified h c = IsJustified one_schema (the_leaf ∷ []) h c
-
--- no byte has no footer; where nothing is held there are no bytes with a cause; where a link doesn't tell nothing is known
-pub footers : justified (present []) BadFooter × (justified absent BadFooter → ⊥) × justified untold BadFooter × (justified (present []) BadSchema → ⊥)
-footers = (no_footer, λ h. h, tt, λ h. let e = sym no_footer ∙ h.1 in cc)
-
--- one cause of bytes isn't another
-pub nor_others : (justified (present []) BadCodec → ⊥) × (justified (present []) BadData → ⊥)
-nor_others = (λ h. let e = sym no_footer ∙ h.1 in cc, λ h. let e = sym no_footer ∙ h.1 in cc)
-
--- a column of another type, another codec, other numbers of rows: each has its own cause, and no other
-other_cause : (bytes : List ℕ) (c d : FileCause) → HasCause bytes one_schema (the_leaf ∷ []) c → (c ≡ d → ⊥) → HasCause bytes one_schema (the_leaf ∷ []) d → ⊥
-other_cause bytes c d h n k = n (one_cause bytes one_schema (the_leaf ∷ []) c d h k)
-
-abbrev of_other_type : List ℕ
-of_other_type = changed 40 10 one_file
-
-abbrev of_other_codec : List ℕ
-of_other_codec = changed 67 2 one_file
-
-abbrev of_other_rows : List ℕ
-of_other_rows = changed 48 4 one_file
-
-pub type_cause : justified (present of_other_type) BadSchema × (justified (present of_other_type) BadFooter → ⊥) × (justified (present of_other_type) BadCodec → ⊥) × (justified (present of_other_type) BadData → ⊥)
-type_cause = (double_type, other_cause of_other_type bad_schema bad_footer double_type (λ h. cc), other_cause of_other_type bad_schema bad_codec double_type (λ h. cc), other_cause of_other_type bad_schema bad_data double_type (λ h. cc))
-
-pub codec_cause : justified (present of_other_codec) BadCodec × (justified (present of_other_codec) BadFooter → ⊥) × (justified (present of_other_codec) BadSchema → ⊥) × (justified (present of_other_codec) BadData → ⊥)
-codec_cause = (other_codec, other_cause of_other_codec bad_codec bad_footer other_codec (λ h. cc), other_cause of_other_codec bad_codec bad_schema other_codec (λ h. cc), other_cause of_other_codec bad_codec bad_data other_codec (λ h. cc))
-
-pub data_cause : justified (present of_other_rows) BadData × (justified (present of_other_rows) BadFooter → ⊥) × (justified (present of_other_rows) BadSchema → ⊥) × (justified (present of_other_rows) BadCodec → ⊥)
-data_cause = (file_rows_disagree, other_cause of_other_rows bad_data bad_footer file_rows_disagree (λ h. cc), other_cause of_other_rows bad_data bad_schema file_rows_disagree (λ h. cc), other_cause of_other_rows bad_data bad_codec file_rows_disagree (λ h. cc))
-
--- nothing is known where the link doesn't tell, and nothing that is absent has a cause
-pub untold_causes : justified untold BadSchema × justified untold BadCodec × justified untold BadData × (justified absent BadSchema → ⊥) × (justified absent BadCodec → ⊥) × (justified absent BadData → ⊥)
-untold_causes = (tt, tt, tt, λ h. h, λ h. h, λ h. h)
-
--- a failed read raised the count, or the count stands at its last value
-pub reads : justified absent (ReadFailed 3 4) × justified (present one_file) (ReadFailed 3 4) × (justified absent (ReadFailed 3 3) → ⊥) × justified absent (ReadFailed (2 ^ 64 - 1) (2 ^ 64 - 1))
-reads = (lit≤ tt, lit≤ tt, λ h. omega (arith, h), lit≤ tt)
-
--- a cause for each leaf
-pub for_each_leaf : AreJustified one_schema (the_leaf ∷ []) (present [] ∷ absent ∷ []) (BadFooter ∷ ReadFailed 0 1 ∷ []) × (AreJustified one_schema (the_leaf ∷ []) (present [] ∷ absent ∷ []) (BadFooter ∷ []) → ⊥)
-    × (AreJustified one_schema (the_leaf ∷ []) (present [] ∷ []) (BadFooter ∷ BadFooter ∷ []) → ⊥)
-for_each_leaf = ((no_footer, (lit≤ tt, tt)), λ h. h.1, λ h. h.1)
-
--- two failed reads have two rises
-pub rises : RisesApart 3 (ReadFailed 3 4 ∷ BadFooter ∷ ReadFailed 4 6 ∷ []) 6 × (RisesApart 3 (ReadFailed 3 4 ∷ ReadFailed 3 4 ∷ []) 9 → ⊥) × (RisesApart 3 (ReadFailed 2 4 ∷ []) 9 → ⊥) × (RisesApart 3 (ReadFailed 3 4 ∷ []) 3 → ⊥)
-    × RisesApart 3 (BadSchema ∷ BadCodec ∷ BadData ∷ []) 3 × (RisesApart 3 [] 2 → ⊥) × (RisesApart 3 (ReadFailed 3 3 ∷ []) 9 → ⊥)
-rises = (
-  (lit≤ tt, lit≤ tt, (lit≤ tt, lit≤ tt, lit≤ tt)),
-  λ h. let k = h.2.0 in omega (arith, k),
-  λ h. let k = h.0 in omega (arith, k),
-  λ h. let k = h.2 in omega (arith, k),
-  lit≤ tt,
-  λ h. omega (arith, h),
-  λ h. let k = h.1 in omega (arith, k),
-)
-
 -- ---- outcomes
 
-abbrev serving : List (List (List ℕ)) → Serving
-serving tablets = record { schema = one_schema; query = totals; first_link = Some files; other_links = Some files ∷ []; tablets = tablets }
+-- by two links, of which the first had five faults
+abbrev first_link : LinkShown
+first_link = record { held = Some files; asked = None; puts = None; faults = 5; is_steady = false }
 
--- tablet 0 at b and at a, tablet 1 at b and at c: the first has a piece, the second is left, where no byte and nothing are held
-abbrev two_tablets : List (List (List ℕ))
-two_tablets = (path_b ∷ path_a ∷ []) ∷ (path_b ∷ path_c ∷ []) ∷ []
+abbrev serving : List (List Copy) → Serving
+serving tablets = record { schema = one_schema; query = totals; first_link = first_link; other_links = Some files ∷ []; tablets = tablets }
 
-abbrev second : LeftTablet
-second = record { tablet = 1; causes = BadFooter ∷ ReadFailed 5 6 ∷ [] }
-
-pub second_is_left : IsUnfinished (serving two_tablets) 5 6 (second ∷ [])
+-- of two tablets the first has a piece, the second is left, where no byte and nothing are held
+pub second_is_left : IsUnfinished (serving two_tablets) 6 (second ∷ [])
 second_is_left = (
   λ h. cc,
-  has_piece 0 (path_b ∷ path_a ∷ []) ((path_b ∷ path_c ∷ []) ∷ []) (second ∷ []) one_piece (true_piece (held_by_all (Some files ∷ Some files ∷ []) (path_b ∷ path_a ∷ [])) (inr (inl refl)))
-      (is_left 1 (path_b ∷ path_c ∷ []) [] [] (BadFooter ∷ ReadFailed 5 6 ∷ []) (no_footer, (lit≤ tt, tt)) (no_tablets 2)),
+  is_answered 0 (copy 0 path_b ∷ copy 1 path_a ∷ []) ((copy 1 path_b ∷ copy 0 path_c ∷ []) ∷ []) (second ∷ [])
+      (one_piece, true_piece (held_by_all (Some files ∷ Some files ∷ []) (path_b ∷ path_a ∷ [])) (inr (inl refl)))
+      (is_left 1 (copy 1 path_b ∷ copy 0 path_c ∷ []) [] [] second.tried second_tried (no_tablets 2)),
   (lit≤ tt, lit≤ tt, lit≤ tt),
 )
+  where
+    second_tried : AreTried one_schema (query_leaves one_schema.fields (leaf_query totals)) first_link (copy 1 path_b ∷ copy 0 path_c ∷ []) second.tried
+    second_tried = (refl, (no_footer, λ h k. refl), (refl, (lit≤ tt, λ h k. absurd (true≢false (sym h))), tt))
 
 -- finished: a piece of each of two tablets of one record, gathered
-abbrev both_held : List (List (List ℕ))
-both_held = (path_b ∷ path_a ∷ []) ∷ (path_a ∷ []) ∷ []
+abbrev both_held : List (List Copy)
+both_held = (copy 0 path_b ∷ copy 1 path_a ∷ []) ∷ (copy 1 path_a ∷ []) ∷ []
 
 abbrev of_two : Partial
 of_two = piece_of (counted 2 ∷ summed (Some (pos 2)) ∷ [])
@@ -274,8 +163,8 @@ kept = record { tablet = 4; partial = one_piece } ∷ record { tablet = 2; parti
 pub kept_of_tablets : (kept_partial kept 2 ≡ of_two) × (kept_partial kept 4 ≡ one_piece) × (kept_partial kept 0 ≡ lines [])
 kept_of_tablets = (refl, refl, refl)
 
-pub paths_of_tablets : (paths_at two_tablets 1 ≡ path_b ∷ path_c ∷ []) × (paths_at two_tablets 0 ≡ path_b ∷ path_a ∷ []) × (paths_at two_tablets 2 ≡ [])
-paths_of_tablets = (refl, refl, refl)
+pub copies_of_tablets : (copies_at two_tablets 1 ≡ copy 1 path_b ∷ copy 0 path_c ∷ []) × (copies_at two_tablets 0 ≡ copy 0 path_b ∷ copy 1 path_a ∷ []) × (copies_at two_tablets 2 ≡ [])
+copies_of_tablets = (refl, refl, refl)
 
 -- the piece of one record is true of the first of the two tablets
 pub true_at_first : IsTrueAt (serving two_tablets) 0 (record { tablet = 0; partial = one_piece })

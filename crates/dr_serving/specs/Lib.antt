@@ -1,9 +1,6 @@
--- The definitions of serving a table, in the order in which they build on one another.
--- what links hold at a tablet's leaves; when a piece is true of a tablet
-pub mod Held
+-- The definitions of serving a table, in the order in which they build on one another. They build on those of reading one.
+-- when a piece is true of a tablet
 pub mod Truth
--- why a leaf gave no piece
-pub mod Causes
 -- what serving ends with
 pub mod Outcome
 pub mod Pieces

@@ -1,27 +1,22 @@
 -- Laws of serving.
-use Rattle.std.specs.Prelude.{◌≡◌, ℕ, ◌<◌, ⊤, Bool, true, false, List, [], ◌∷◌, length, Ok}
-use Rattle.dr_meaning.specs.Schema.{Schema}
-use Rattle.dr_meaning.specs.Path.{Leaf}
+use Rattle.std.specs.Prelude.{◌≡◌, ℕ, ◌<◌, ⊤, true, List, [], ◌∷◌, length, Ok}
 use Rattle.dr_meaning.specs.Record.{Node}
 use Rattle.dr_meaning.specs.Query.{meaning}
 use Rattle.dr_meaning.specs.MeaningLaws.{covers}
 use Rattle.dr_meaning.specs.Syntax.{QuerySyntax}
 use Rattle.dr_meaning.specs.Binding.{bind}
-use Rattle.dr_formats.specs.File.{IsFileOf}
-use Rattle.dr_outside.specs.declared.cause.Cause.{Cause}
-use Rattle.dr_outside.specs.declared.cause.Cause.TheVariants.{ReadFailed, BadFooter, BadSchema, BadCodec, BadData}
 use Rattle.dr_dispatch.specs.Job.{Job}
 use Rattle.dr_dispatch.specs.History.{has_answer}
 use Rattle.dr_dispatch.specs.Pieces.{KeepsPieces}
 use Rattle.dr_dispatch.specs.declared.event.Event.{Event}
 use Rattle.dr_partials.specs.Partials.{Partial, Stands, finished}
 use Rattle.dr_partials.specs.Trees.{Tree}
-use Rattle.dr_serving.specs.Held.{Held, present}
+use Rattle.dr_reading.specs.Held.{Held}
 use Rattle.dr_serving.specs.Truth.{TabletTruth, leaves_of, IsTrueOf}
-use Rattle.dr_serving.specs.Causes.{IsJustified}
 use Rattle.dr_serving.specs.Outcome.{Serving, AreTrueFrom, IsFinished}
 use Rattle.dr_serving.specs.Pieces.{TabletPiece, IsTrueAt, kept_partial}
-use Rattle.dr_serving.specs.Premises.{paths_of_leaves, HoldsRecords, ServesRecords, IsServable, all_records}
+use Rattle.dr_reading.specs.Premises.{paths_of_leaves, HoldsRecords}
+use Rattle.dr_serving.specs.Premises.{ServesRecords, IsServable, all_records}
 
 -- the leaves that a query uses are enough for it
 abbrev pub HasEnoughLeaves : TabletTruth → Type 0
@@ -48,19 +43,6 @@ abbrev pub KeptPiecesAreTrue : Type 0
 KeptPiecesAreTrue = (s : Serving) (j : Job) (history : List Event) (pieces : List TabletPiece)
     → KeepsPieces j (λ (p : TabletPiece). p.tablet) (IsTrueAt s) history pieces
     → ((t : ℕ) → t < length s.tablets → has_answer history t ≡ true) → AreTrueFrom s (kept_partial pieces) 0 s.tablets
-
--- whether a cause is a failed read
-abbrev pub is_read : Cause → Bool
-is_read (ReadFailed before after) = true
-is_read BadFooter = false
-is_read BadSchema = false
-is_read BadCodec = false
-is_read BadData = false
-
--- a leaf whose cause isn't a failed read holds no file of any records
-abbrev pub OtherCausesHoldNoFile : Type 0
-OtherCausesHoldNoFile = (s : Schema) (F : List Leaf) (bytes : List ℕ) (c : Cause) (R : List Node) → is_read c ≡ false
-    → IsJustified s F (present bytes) c → IsFileOf bytes s F R → ⊥
 
 -- a query that is bound can be served
 abbrev pub BoundIsServable : Type 0

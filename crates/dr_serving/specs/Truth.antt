@@ -9,7 +9,7 @@ use Rattle.dr_formats.specs.File.{IsFileOf}
 use Rattle.dr_partials.specs.Partials.{Partial, Stands}
 use Rattle.dr_partials.specs.PartialTypes.{is_partial}
 use Rattle.dr_partials.specs.PartialBounds.{PartialCanBeOf}
-use Rattle.dr_serving.specs.Held.{Held, IsHeld, IsUntold}
+use Rattle.dr_reading.specs.Held.{Held, IsHeld, IsUntold}
 
 pub record TabletTruth : Type 0 where
   -- the schema, and the query that is put to each tablet: the leaf query

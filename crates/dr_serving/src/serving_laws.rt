@@ -1,6 +1,6 @@
 // Laws of serving.
 
-ghost use Rattle.dr_serving.specs.ServingLaws.{TrueOfTabletStands, FinishedMeansQuery, KeptPiecesAreTrue, OtherCausesHoldNoFile, BoundIsServable};
+ghost use Rattle.dr_serving.specs.ServingLaws.{TrueOfTabletStands, FinishedMeansQuery, KeptPiecesAreTrue, BoundIsServable};
 
 /// Where all links tell what they hold, and each leaf of a tablet holds a file of its records, or none of any, a piece that is true of the
 /// tablet stands for the leaf query on its records.
@@ -16,11 +16,6 @@ pub fn finished_serving_means_query()
 /// Where the kept pieces of a history are true and each tablet has an answer, the piece that is kept of each is true of it.
 pub fn kept_pieces_are_true()
     ensures { KeptPiecesAreTrue }
-{}
-
-/// A leaf whose cause isn't a failed read holds no file of any records.
-pub fn other_causes_hold_no_file()
-    ensures { OtherCausesHoldNoFile }
 {}
 
 /// A query that is bound can be served.

@@ -10,13 +10,12 @@ use Rattle.dr_formats.specs.Tablets.{placement}
 use Rattle.dr_outside.specs.Faults.{raised, Rose}
 use Rattle.dr_outside.specs.Link.{Files, LinkShown, Holds, Lacks}
 use Rattle.dr_outside.specs.declared.cause.Cause.{Cause}
-use Rattle.dr_chunk.specs.Telling.{TellsFile}
+use Rattle.dr_outside.specs.Telling.{TellsFile}
 use Rattle.dr_file.specs.OpenedFiles.{HasCounts, is_link_fault}
 use Rattle.dr_file.specs.declared.file_fault.FileFault.{FileFault}
-use Rattle.dr_records.specs.FileRecords.{AreOfFile, AreProjected, IsFaultOf}
-use Rattle.dr_serving.specs.Held.{held_at, held_file}
-use Rattle.dr_serving.specs.Causes.{IsJustified, RisesApart}
-use Rattle.dr_serving.specs.ServingLaws.{is_read}
+use Rattle.dr_tablets.specs.FileRecords.{AreOfFile, AreProjected, IsFaultOf}
+use Rattle.dr_reading.specs.Held.{held_at, held_file}
+use Rattle.dr_reading.specs.Causes.{IsJustified, RisesApart, is_read}
 use Rattle.dr_reading.specs.Scan.{Copy, copy_in, copies_from}
 use Rattle.dr_reading.specs.Given.{IsFileThere, SomeIsFile}
 use Rattle.dr_reading.specs.Left.{Tried, IsCauseAt, AreTried}
@@ -45,7 +44,7 @@ copies_split ds t j (suc i) m k (suc n) e f = ap (λ cs. copy_in ds t (placement
 -- ---- what a copy gives
 
 there : (s : Schema) (F : List Leaf) (files : Files) (path : List ℕ) (P : List Node) (o : Option (List ℕ)) → files path ≡ o → ((bytes : List ℕ) → files path ≡ Some bytes → AreOfFile bytes s F P) → (files path ≡ None → ⊥)
-    → (R : List Node) × IsFileThere s F R o × (P ≡ map (Rattle.dr_meaning.specs.Record.project (Rattle.dr_records.specs.FileRecords.paths_of_leaves F)) R)
+    → (R : List Node) × IsFileThere s F R o × (P ≡ map (Rattle.dr_meaning.specs.Record.project (Rattle.dr_tablets.specs.FileRecords.paths_of_leaves F)) R)
 there s F files path P None e h none = absurd (none e)
 there s F files path P (Some bytes) e h none = h bytes e
 

@@ -7,12 +7,12 @@ use Rattle.dr_meaning.specs.Path.{Leaf}
 use Rattle.dr_meaning.specs.Record.{Node, project}
 use Rattle.dr_outside.specs.Link.{Files, LinkShown, Holds}
 use Rattle.dr_outside.specs.declared.cause.Cause.{Cause}
-use Rattle.dr_records.specs.FileRecords.{paths_of_leaves}
-use Rattle.dr_serving.specs.Held.{held_at}
-use Rattle.dr_serving.specs.Causes.{IsJustified, RisesApart}
+use Rattle.dr_tablets.specs.FileRecords.{paths_of_leaves}
+use Rattle.dr_reading.specs.Held.{held_at}
+use Rattle.dr_reading.specs.Causes.{IsJustified, RisesApart}
 use Rattle.dr_reading.specs.Scan.{Copy, copies_from, tablets_from, joined}
 use Rattle.dr_reading.specs.Given.{IsGiven, AreGiven}
-use Rattle.dr_reading.specs.Left.{Tried, LeftTablet, AreTried, LeavesJust, no_tablets, is_given, is_left, causes_of, causes_met}
+use Rattle.dr_reading.specs.Left.{Tried, LeftTablet, AreTried, LeavesJust, no_tablets, is_answered, is_left, causes_of, causes_met}
 use Rattle.dr_assemble.specs.Views.{nodes_view}
 use Rattle.dr_tablets.specs.Views.{all_tried_view, all_left_view}
 use Rattle.dr_tablets.specs.declared.left.LeftTablet as code
@@ -49,15 +49,15 @@ tried_at s F l now (c ∷ cs) (t ∷ ts) e w h = (
 
 module _ (s : Schema) (F : List Leaf) (l : LinkShown) where
   given_more : (t : ℕ) (ts : List (List Copy)) (left : List LeftTablet) (cs : List Copy) (R : List Node) → LeavesJust s F l t ts left → IsGiven s F l.held cs R → LeavesJust s F l t (ts ++ cs ∷ []) left
-  given_more t ts left cs R (no_tablets u) g = is_given t cs [] [] R g (no_tablets (suc t))
-  given_more t ts left cs R (is_given u xs rest more S h k) g = is_given t xs (rest ++ cs ∷ []) left S h (given_more (suc t) rest left cs R k g)
+  given_more t ts left cs R (no_tablets u) g = is_answered t cs [] [] (R, g) (no_tablets (suc t))
+  given_more t ts left cs R (is_answered u xs rest more h k) g = is_answered t xs (rest ++ cs ∷ []) left h (given_more (suc t) rest left cs R k g)
   given_more t ts left cs R (is_left u xs rest more tried h k) g = is_left t xs (rest ++ cs ∷ []) more tried h (given_more (suc t) rest more cs R k g)
 
   left_more : (t : ℕ) (ts : List (List Copy)) (left : List LeftTablet) (cs : List Copy) (tried : List Tried) (m : ℕ) → LeavesJust s F l t ts left → AreTried s F l cs tried → t + length ts ≡ m
       → LeavesJust s F l t (ts ++ cs ∷ []) (left ++ record { tablet = m; tried = tried } ∷ [])
   left_more t ts left cs tried m (no_tablets u) g e =
       subst (λ (n : ℕ). LeavesJust s F l t (cs ∷ []) (record { tablet = n; tried = tried } ∷ [])) (let q : t ≡ m = omega (arith, e) in q) (is_left t cs [] [] tried g (no_tablets (suc t)))
-  left_more t ts left cs tried m (is_given u xs rest more S h k) g e = is_given t xs (rest ++ cs ∷ []) _ S h (left_more (suc t) rest left cs tried m k g (omega (arith, e)))
+  left_more t ts left cs tried m (is_answered u xs rest more h k) g e = is_answered t xs (rest ++ cs ∷ []) _ h (left_more (suc t) rest left cs tried m k g (omega (arith, e)))
   left_more t ts left cs tried m (is_left u xs rest more us h k) g e = is_left t xs (rest ++ cs ∷ []) _ us h (left_more (suc t) rest more cs tried m k g (omega (arith, e)))
 
   -- with the link as it was later

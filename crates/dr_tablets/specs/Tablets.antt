@@ -6,9 +6,9 @@ use Rattle.dr_meaning.specs.Record.{Node, project}
 use Rattle.dr_outside.specs.Link.{Files, LinkShown}
 use Rattle.dr_outside.specs.declared.cause.Cause.{Cause}
 use Rattle.dr_assemble.specs.Views.{nodes_view}
-use Rattle.dr_records.specs.FileRecords.{paths_of_leaves}
+use Rattle.dr_tablets.specs.FileRecords.{paths_of_leaves}
 use Rattle.dr_formats.specs.TableFile.{Table}
-use Rattle.dr_serving.specs.Causes.{RisesApart}
+use Rattle.dr_reading.specs.Causes.{RisesApart}
 use Rattle.dr_reading.specs.Scan.{Copy, joined, tablets_of}
 use Rattle.dr_reading.specs.Given.{IsGiven, AreGiven}
 use Rattle.dr_reading.specs.Left as left

@@ -1,23 +1,24 @@
 //! Reading a tablet of a table.
 
-ghost use Rattle.std.specs.Prelude.{◌≡◌, ◌<◌, ◌≤◌, map, IfOk, IsTrue};
+ghost use Rattle.std.specs.Prelude.{◌≡◌, ◌<◌, ◌≤◌, [], ◌∷◌, map, IfOk, IsTrue};
 ghost use Rattle.dr_meaning.specs.Record as tree;
 ghost use Rattle.dr_nested.specs.Views.{fields_view};
 ghost use Rattle.dr_nested.specs.SchemaView.{schema_view};
 ghost use Rattle.dr_nested.specs.PathView.{path_view};
 ghost use Rattle.dr_table.specs.Views.{table_view};
-ghost use Rattle.dr_records.specs.FileRecords.{AreLeavesOf};
-ghost use Rattle.dr_serving.specs.Causes.{RisesApart};
+ghost use Rattle.dr_tablets.specs.FileRecords.{AreLeavesOf};
+ghost use Rattle.dr_reading.specs.Causes.{RisesApart};
 ghost use Rattle.dr_reading.specs.Scan.{copies_from};
 ghost use Rattle.dr_tablets.specs.Tablets.{IsReadAs, causes_in};
+ghost use Rattle.dr_tablets.specs.Asked.{AsksForTablets};
 
 use crate::left::Tried;
+use crate::records::read_records;
+use crate::steps::Steps;
 use dr_file::FileFault;
 use dr_memory::NoMemory;
 use dr_nested::{Node, Path};
 use dr_outside::Link;
-use dr_records::read_records;
-use dr_steps::Steps;
 use dr_table::{Table, path_of, placement};
 use std::alloc::Global;
 
@@ -29,7 +30,8 @@ pub enum Tablet {
 }
 
 /// The records of a tablet of a table, projected to these leaves of its schema, from the first of its copies that gives them; else why
-/// each of them gives none.
+/// each of them gives none. The link is asked for no file but those of the tablet's copies, and for no bytes of them but what the leaves
+/// take.
 ///
 /// Errors: want of memory alone.
 pub fn read_tablet<L: Link>(
@@ -42,6 +44,7 @@ pub fn read_tablet<L: Link>(
     requires leaves { AreLeavesOf (fields_view (table.now).schema.fields.items) (map path_view fields.now) }
     ensures read { IfOk result (IsReadAs (schema_view (table.now).schema) (map path_view fields.now) (L.shows link.old) (copies_from (table_view table.now).leaves tablet 0 (table.now).copies)) }
     ensures rises { IfOk result (λ t. RisesApart (L.shows link.old).faults (causes_in t) (L.shows link.new).faults) }
+    ensures asks { AsksForTablets (map path_view fields.now) (copies_from (table_view table.now).leaves tablet 0 (table.now).copies ∷ []) (L.shows link.old) (L.shows link.new) }
     ensures same { (L.shows link.new).held ≡ (L.shows link.old).held }
     ensures never_falls { (L.shows link.old).faults ≤ (L.shows link.new).faults }
     ensures stays_steady { IsTrue (L.shows link.old).is_steady → IsTrue (L.shows link.new).is_steady }

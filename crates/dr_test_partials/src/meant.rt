@@ -11,7 +11,7 @@ use dr_json::record_of;
 use dr_mean::mean;
 use dr_nested::{Node, Schema, is_record};
 use dr_plan::Plan;
-use dr_result_text::result_text;
+use dr_print::result_text;
 use std::alloc::Global;
 use std::test::Fail;
 

@@ -5,10 +5,10 @@ use dr_group::Partial;
 use dr_nested::parse_schema;
 use dr_outside::{MemLink, Shelf};
 use dr_plan::Plan;
-use dr_result_text::result_text;
+use dr_print::result_text;
 use dr_samples::DOCUMENT;
 use dr_scan::scan;
-use dr_steps::Steps;
+use dr_tablets::Steps;
 use std::alloc::Global;
 use std::test::Fail;
 

@@ -4,11 +4,11 @@ ghost use Rattle.std.specs.Prelude.{IfOk};
 ghost use Rattle.dr_nested.specs.SchemaView.{schema_view};
 ghost use Rattle.dr_plan.specs.Planned.{IsOfSchema};
 
+use dr_bind::read_query;
 use dr_load::{Plan as LoadPlan, load};
 use dr_nested::{Schema, parse_schema};
 use dr_outside::{MemSource, Shelf};
 use dr_plan::Plan;
-use dr_query::read_query;
 use dr_samples::{DOCUMENT, RECORDS};
 use std::alloc::Global;
 use std::test::Fail;

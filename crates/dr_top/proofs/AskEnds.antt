@@ -12,17 +12,19 @@ use Rattle.dr_formats.specs.Loading.{Put}
 use Rattle.dr_outside.specs.Faults.{raised}
 use Rattle.dr_outside.specs.Source.{SourceShown}
 use Rattle.dr_outside.specs.Link.{Files, LinkShown}
-use Rattle.dr_load.specs.Records.{WhereTold as WhereRead}
+use Rattle.dr_input.specs.Whole.{whole_lines}
+use Rattle.dr_input.specs.Taken.{WhereTold as WhereRead, WhereGiven, AcceptsRead}
 use Rattle.dr_load.specs.Faults.{refusal_of as line_refusal_of}
 use Rattle.dr_load.specs.declared.fault.LoadFault.{LoadFault}
-use Rattle.dr_query.specs.Faults.{IsRefusedAs, refusal_of}
-use Rattle.dr_query.specs.declared.fault.QueryFault.{QueryFault}
+use Rattle.dr_bind.specs.Faults.{IsRefusedAs, refusal_of}
+use Rattle.dr_bind.specs.declared.fault.QueryFault.{QueryFault}
 use Rattle.dr_commands.specs.Refusals.{Refusal as Refused, query_refused, line_refused}
 use Rattle.dr_commands.specs.Meaning.{Look, Outcome, plain, done, refused, IsEarly}
 use Rattle.dr_commands.specs.Ask.{AskWords, ask_meaning}
 use Rattle.dr_top.specs.World.{WhereTold, HasOutcome}
 use Rattle.dr_top.specs.Stops.{StopsPlain, IsFileSchema, query_stop, load_stop}
 use Rattle.dr_top.specs.declared.refusal.Refusal.{Refusal}
+use Rattle.dr_top.proofs.InputLemmas.{records_accepted}
 use Rattle.dr_top.proofs.OutcomeLemmas.{RefusesSchema, early_stop}
 
 pub ask_refuses_schema : (w : AskWords) → RefusesSchema (ask_meaning w)
@@ -56,13 +58,35 @@ late : (s : Schema) (q : Query) (recs : Result (List Node) line.Refusal) (r : Re
 late s q (Ok ns) r puts early e = cc
 late s q (Err x) r puts early e = let is : line_refused x ≡ r = cc in subst (λ (y : Refused). IsEarly y) (sym is) early
 
-opened : (w : AskWords) (held : Option Files) (path text : List ℕ) (s : Schema) (q : Query) → path ≡ w.schema → text ≡ w.query → IsFileSchema held path s → read_query s text ≡ Ok q
+pub opened : (w : AskWords) (held : Option Files) (path text : List ℕ) (s : Schema) (q : Query) → path ≡ w.schema → text ≡ w.query → IsFileSchema held path s → read_query s text ≡ Ok q
     → WhereTold held (λ fs. (file : List ℕ) × (fs w.schema ≡ Some file) × ((look : Look) (r : Refused) (puts : List Put) → look.file ≡ file → IsEarly r → plain (ask w.rows look.file w.query look.input) ≡ refused r puts → ⊥))
 opened w None path text s q p t f n = tt
 opened w (Some fs) path text s q p t f n = (
   f.0,
   ap fs (sym p) ∙ f.1,
   λ look r puts is early e. late s q (line.records_of s.fields (most_asked w.rows) look.input) r puts early (sym (by_query w path text s (Ok q) look f.0 t f.2 n is) ∙ e),
+)
+
+-- what the source gave is accepted
+none_refused : (s : Schema) (q : Query) (recs : Result (List Node) line.Refusal) (R : List Node) (r : Refused) (puts : List Put) → recs ≡ Ok R → plain (ask_records s q recs) ≡ refused r puts → ⊥
+none_refused s q (Ok ns) R r puts h e = cc
+none_refused s q (Err x) R r puts h e = cc
+
+accepts : (w : AskWords) (held : Option Files) (left now : Option (List ℕ)) (path text : List ℕ) (s : Schema) (q : Query) → path ≡ w.schema → text ≡ w.query → IsFileSchema held path s → read_query s text ≡ Ok q
+    → AcceptsRead s.fields (most_asked w.rows) 0 left now
+    → WhereTold held (λ fs. WhereGiven left now (λ read. (file : List ℕ) × (fs w.schema ≡ Some file) × ((r : Refused) (puts : List Put) → plain (ask w.rows file w.query (whole_lines read)) ≡ refused r puts → ⊥)))
+accepts w None left now path text s q p t f n a = tt
+accepts w (Some fs) None now path text s q p t f n a = tt
+accepts w (Some fs) (Some all) None path text s q p t f n a = absurd a
+accepts w (Some fs) (Some all) (Some rest) path text s q p t f n a = (
+  a.0,
+  a.1,
+  (
+    f.0,
+    ap fs (sym p) ∙ f.1,
+    λ r puts e. none_refused s q (line.records_of s.fields (most_asked w.rows) (whole_lines a.0)) (line.taken_from s.fields (most_asked w.rows) 1 (line.lines_of (whole_lines a.0))).records r puts (records_accepted s.fields (most_asked w.rows) (whole_lines a.0) a.2)
+        (sym (by_query w path text s (Ok q) (record { file = f.0; input = whole_lines a.0 }) f.0 t f.2 n refl) ∙ e),
+  ),
 )
 
 abbrev InputEnds : AskWords → Option Files → Option (List ℕ) → Outcome → Type 0
@@ -87,13 +111,14 @@ line_ends w k i path text s q e p t f n h =
 
 pub ask_load_stops : (w : AskWords) (k k1 : LinkShown) (i i1 : SourceShown) (path text : List ℕ) (s : Schema) (q : Query) (fault : LoadFault) → path ≡ w.schema → text ≡ w.query → IsFileSchema k.held path s → read_query s text ≡ Ok q
     → k1.faults ≡ k.faults → (fault ≡ LoadFault.ReadFault → i1.faults ≡ raised i.faults) → (fault ≢ LoadFault.ReadFault → i1.faults ≡ i.faults) → fault ≢ LoadFault.KeepFault
-    → MatchOption (line_refusal_of fault) ⊤ (λ r. WhereRead i.left (λ input. line.records_of s.fields (most_asked w.rows) input ≡ Err r)) → StopsPlain (ask_meaning w) k k1 i i1 (load_stop fault)
-ask_load_stops w k k1 i i1 path text s q LoadFault.NoMemory p t f n c sc sm never h = (c, sm (λ e. cc))
-ask_load_stops w k k1 i i1 path text s q LoadFault.KeepFault p t f n c sc sm never h = absurd (never refl)
-ask_load_stops w k k1 i i1 path text s q LoadFault.ReadFault p t f n c sc sm never h = (sc refl, c, opened w k.held path text s q p t f n)
-ask_load_stops w k k1 i i1 path text s q (LoadFault.BadLine m x) p t f n c sc sm never h = (c, sm (λ e. cc), line_ends w k i path text s q _ p t f n h, λ early. absurd early)
-ask_load_stops w k k1 i i1 path text s q (LoadFault.LineTooLong m) p t f n c sc sm never h = (c, sm (λ e. cc), line_ends w k i path text s q _ p t f n h, λ early. absurd early)
-ask_load_stops w k k1 i i1 path text s q (LoadFault.TooManyRecords m) p t f n c sc sm never h = (c, sm (λ e. cc), line_ends w k i path text s q _ p t f n h, λ early. absurd early)
+    → (fault ≡ LoadFault.ReadFault → AcceptsRead s.fields (most_asked w.rows) 0 i.left i1.left) → MatchOption (line_refusal_of fault) ⊤ (λ r. WhereRead i.left (λ input. line.records_of s.fields (most_asked w.rows) input ≡ Err r)) → StopsPlain (ask_meaning w) k k1 i i1 (load_stop fault)
+ask_load_stops w k k1 i i1 path text s q LoadFault.NoMemory p t f n c sc sm never a h = (c, sm (λ e. cc))
+ask_load_stops w k k1 i i1 path text s q LoadFault.KeepFault p t f n c sc sm never a h = absurd (never refl)
+ask_load_stops w k k1 i i1 path text s q LoadFault.ReadFault p t f n c sc sm never a h =
+    (sc refl, c, opened w k.held path text s q p t f n, accepts w k.held i.left i1.left path text s q p t f n (a refl))
+ask_load_stops w k k1 i i1 path text s q (LoadFault.BadLine m x) p t f n c sc sm never a h = (c, sm (λ e. cc), line_ends w k i path text s q _ p t f n h, λ early. absurd early)
+ask_load_stops w k k1 i i1 path text s q (LoadFault.LineTooLong m) p t f n c sc sm never a h = (c, sm (λ e. cc), line_ends w k i path text s q _ p t f n h, λ early. absurd early)
+ask_load_stops w k k1 i i1 path text s q (LoadFault.TooManyRecords m) p t f n c sc sm never a h = (c, sm (λ e. cc), line_ends w k i path text s q _ p t f n h, λ early. absurd early)
 
 -- ---- the text
 

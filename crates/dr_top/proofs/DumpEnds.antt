@@ -15,13 +15,16 @@ use Rattle.dr_tablets.specs.Tablets.{LeavesTablets}
 use Rattle.dr_dump.specs.Dumps.{AreLinesOf}
 use Rattle.dr_commands.specs.Meaning.{Look, Outcome, puts_in}
 use Rattle.dr_commands.specs.Dump.{DumpWords, dump_meaning, dump_table, dump_named}
-use Rattle.dr_top.specs.World.{WhereTold, WithOutcome}
+use Rattle.dr_reading.specs.Scan.{tablets_of}
+use Rattle.dr_tablets.specs.Asked.{AsksForTablets}
+use Rattle.dr_top.specs.Answers.{AsksLink}
+use Rattle.dr_top.specs.World.{WhereTold, WithOutcome, ForOutcome}
 use Rattle.dr_top.specs.Reading.{HasText, IsLeftWith}
-use Rattle.dr_top.specs.Stops.{StopsPlain, StopsWith, FieldStops, IsFileTable, field_stop}
+use Rattle.dr_top.specs.Stops.{IsUnput, StopsPlain, StopsWith, FieldStops, IsFileTable, field_stop}
 use Rattle.dr_top.specs.declared.refusal.Refusal.{Refusal}
 use Rattle.dr_top.specs.declared.field.FieldFault.{FieldFault}
 use Rattle.dr_top.specs.declared.stop.Stop.{Stop}
-use Rattle.dr_top.proofs.OutcomeLemmas.{RefusesTable, early_stop, always_with}
+use Rattle.dr_top.proofs.OutcomeLemmas.{RefusesTable, early_stop, always_with, with_for}
 
 pub dump_refuses_table : (w : DumpWords) → RefusesTable (dump_meaning w)
 dump_refuses_table w look e h = ap (dump_table w.fields) h
@@ -52,7 +55,7 @@ dump_text_ends w k i l ls path text texts t F p q f e h =
     always_with (dump_meaning w) w.table k i (λ o. HasText o (l ∷ ls) text) refl (named_ends w k.held path texts t (Ok F) (λ o. HasText o (l ∷ ls) text) p q f e h)
 
 pub dump_left : (w : DumpWords) (k k1 : LinkShown) (i : SourceShown) (l l1 : LinkShown) (ls : List LinkShown) (path : List ℕ) (texts : List (List ℕ)) (t : Table) (F : List Leaf) (left : Vec LeftTablet Global) → path ≡ w.table → texts ≡ w.fields
-    → IsFileTable k.held path t → named_leaves t.schema.fields [] 0 texts ≡ Ok F → k1.faults ≡ k.faults → k1.held ≡ k.held → LeavesTablets t F (all_left_view left.items) l l1
+    → IsFileTable k.held path t → named_leaves t.schema.fields [] 0 texts ≡ Ok F → k1.faults ≡ k.faults → IsUnput k k1 → LeavesTablets t F (all_left_view left.items) l l1
     → StopsWith (dump_meaning w) k k1 i i (l ∷ ls) (l1 ∷ ls) (Stop.Left left)
 dump_left w k k1 i l l1 ls path texts t F left p q f e c d h = (
   c,
@@ -62,6 +65,12 @@ dump_left w k k1 i l l1 ls path texts t F left p q f e c d h = (
   always_with (dump_meaning w) w.table k i (λ o. IsLeftWith o (l ∷ ls) (l1 ∷ ls) (all_left_view left.items)) refl
       (named_ends w k.held path texts t (Ok F) (λ o. IsLeftWith o (l ∷ ls) (l1 ∷ ls) (all_left_view left.items)) p q f e h),
 )
+
+pub dump_asks : (w : DumpWords) (k : LinkShown) (i : SourceShown) (l l1 : LinkShown) (path : List ℕ) (texts : List (List ℕ)) (t : Table) (F : List Leaf) → path ≡ w.table → texts ≡ w.fields → IsFileTable k.held path t
+    → named_leaves t.schema.fields [] 0 texts ≡ Ok F → AsksForTablets F (tablets_of t) l l1 → ForOutcome (dump_meaning w) k i (λ o. AsksLink o l l1)
+dump_asks w k i l l1 path texts t F p q f e h =
+    with_for (dump_meaning w) k i (λ o. AsksLink o l l1)
+    (always_with (dump_meaning w) w.table k i (λ o. AsksLink o l l1) refl (named_ends w k.held path texts t (Ok F) (λ o. AsksLink o l l1) p q f e h))
 
 -- ---- nothing is put
 

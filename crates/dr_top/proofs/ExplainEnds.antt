@@ -9,11 +9,12 @@ use Rattle.dr_meaning.specs.Refusals.{QueryRefusal}
 use Rattle.dr_outside.specs.Source.{SourceShown}
 use Rattle.dr_outside.specs.Link.{Files, LinkShown}
 use Rattle.dr_partials.specs.RewritingText.{rewriting_text}
-use Rattle.dr_plan.specs.Planned.{Planned, planned, planned_query}
-use Rattle.dr_query.specs.Faults.{IsRefusedAs, refusal_of}
-use Rattle.dr_query.specs.declared.fault.QueryFault.{QueryFault}
+use Rattle.dr_plan.specs.Planned.{Planned, planned, written_query}
+use Rattle.dr_plan.proofs.RejoiningLemmas.{plan_keeps_query}
+use Rattle.dr_bind.specs.Faults.{IsRefusedAs, refusal_of}
+use Rattle.dr_bind.specs.declared.fault.QueryFault.{QueryFault}
 use Rattle.dr_commands.specs.Meaning.{Look, plain, done}
-use Rattle.dr_commands.specs.Explain.{ExplainWords, explain_meaning, explain_schema, explain_query, explained, as_run}
+use Rattle.dr_commands.specs.Explain.{ExplainWords, explain_meaning, explain_schema, explain_query, explained}
 use Rattle.dr_top.specs.World.{WhereTold, HasOutcome}
 use Rattle.dr_top.specs.Stops.{StopsPlain, IsFileSchema, query_stop}
 use Rattle.dr_top.specs.declared.refusal.Refusal.{Refusal}
@@ -42,8 +43,8 @@ explain_query_stops w k k1 i path text s (QueryFault.Refused n x) p t f c h =
     early_stop (explain_meaning w) w.schema k k1 i (Refusal.Query n x) refl c (query_ends w k.held path text s (Err (refusal_of n x)) p t f h)
 
 pub explain_ends : (w : ExplainWords) (k : LinkShown) (i : SourceShown) (path text out : List ℕ) (s : Schema) (q : Query) (plan : Planned) → path ≡ w.schema → text ≡ w.query → IsFileSchema k.held path s
-    → read_query s text ≡ Ok q → plan ≡ planned s.fields q → out ≡ rewriting_text s.fields (planned_query plan) → HasOutcome (explain_meaning w) k i (done out [])
+    → read_query s text ≡ Ok q → plan ≡ planned s.fields q → out ≡ rewriting_text s.fields (written_query plan) → HasOutcome (explain_meaning w) k i (done out [])
 explain_ends w k i path text out s q plan p t f r is o =
-    let meant : out ≡ rewriting_text s.fields (as_run q) = o ∙ ap (λ (x : Planned). rewriting_text s.fields (planned_query x)) is in
+    let meant : out ≡ rewriting_text s.fields q = o ∙ (ap (λ (x : Planned). rewriting_text s.fields (written_query x)) is ∙ ap (rewriting_text s.fields) (plan_keeps_query s.fields q)) in
     subst (λ (x : List ℕ). HasOutcome (explain_meaning w) k i (done x [])) (sym meant)
-    (always_ends (explain_meaning w) w.schema k i (done (rewriting_text s.fields (as_run q)) []) refl (query_ends w k.held path text s (Ok q) p t f r))
+    (always_ends (explain_meaning w) w.schema k i (done (rewriting_text s.fields q) []) refl (query_ends w k.held path text s (Ok q) p t f r))

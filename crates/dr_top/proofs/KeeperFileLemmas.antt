@@ -1,7 +1,7 @@
 -- What the keeper is asked for, and a file that is too long.
-use Rattle.std.specs.Prelude.{◌≡◌, ◌≢◌, ◌<◌, ℕ, List, [], ◌∷◌, length, Option, Some, None, option_map, Result, Err}
-use Rattle.std.proofs.Common.{refl, sym, ap, ◌∙◌, append_assoc, append-nil, subst}
-use Rattle.dr_outside.specs.Link.{Files, LinkShown, Request, size_of, bytes_of, with_request, HasSize}
+use Rattle.std.specs.Prelude.{◌≡◌, ◌≢◌, ◌<◌, ◌+◌, ℕ, List, [], ◌∷◌, length, Option, Some, None, option_map, Result, Err}
+use Rattle.std.proofs.Common.{refl, sym, ap, ◌∙◌, append_assoc, append-nil, subst, arith}
+use Rattle.dr_outside.specs.Link.{Files, LinkShown, Request, size_of, bytes_of, with_request, Holds, HasSize, HasRange, Reaches}
 use Rattle.dr_outside.specs.declared.fault.Fault.{Fault}
 use Rattle.dr_top.specs.KeeperFile.{IsLongFile}
 use Rattle.dr_top.specs.Stops.{AsksForFile, with_requests}
@@ -41,6 +41,15 @@ pub asks_after_bytes : {A : Type 0} (path : List ℕ) (len : ℕ) (before middle
     → (r ≡ Err Fault.NoMemory → now.asked ≡ middle.asked) → AsksForFile path before now
 asks_after_bytes path len before middle now r Fault.Failed k e some none = asks_bytes path len before middle now e (some (λ j. cc))
 asks_after_bytes path len before middle now r Fault.NoMemory k e some none = asks_length path before now (none k ∙ e)
+
+-- all of a file whose length was told is there
+whole_there : (o : Option (List ℕ)) (n m : ℕ) → option_map length o ≡ Some n → m ≡ n → Reaches o (0 + m)
+whole_there None n m h e = let no : None ≡ Some n = h in absurd (cc)
+whole_there (Some bytes) n m h e = let is : length bytes ≡ n = cc in omega (arith, is, e)
+
+pub whole_file : (held : Option Files) (path : List ℕ) (n m : ℕ) → Holds held path → HasSize held path n → m ≡ n → HasRange held (record { path = path; start = 0; len = m })
+whole_file None path n m there h e = absurd there
+whole_file (Some fs) path n m there h e = whole_there (fs path) n m h e
 
 -- a file that is longer than it may be
 pub long_file : (held : Option Files) (path : List ℕ) (n longest : ℕ) → HasSize held path n → longest < n → IsLongFile held path longest

@@ -3,11 +3,10 @@ pub mod KeeperFileLemmas
 pub mod SchemaFileLemmas
 -- reading the records of the input
 pub mod InputLemmas
--- the record of a line has the form of its schema's records
-pub mod FormLemmas
 -- outcomes of commands, and of those that ask the first link
 pub mod OutcomeLemmas
 pub mod FirstLinkLemmas
+pub mod LinkLemmas
 -- single commands: their steps, and their answers
 pub mod AskEnds
 pub mod StripeLemmas

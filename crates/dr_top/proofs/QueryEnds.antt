@@ -13,16 +13,19 @@ use Rattle.dr_tablets.specs.Tablets.{LeavesTablets}
 use Rattle.dr_tablets.specs.Views.{all_left_view}
 use Rattle.dr_tablets.specs.declared.left.LeftTablet.{LeftTablet}
 use Rattle.dr_query.specs.Answers.{IsAnswerOf}
-use Rattle.dr_query.specs.Faults.{IsRefusedAs, refusal_of}
-use Rattle.dr_query.specs.declared.fault.QueryFault.{QueryFault}
+use Rattle.dr_bind.specs.Faults.{IsRefusedAs, refusal_of}
+use Rattle.dr_bind.specs.declared.fault.QueryFault.{QueryFault}
 use Rattle.dr_commands.specs.Meaning.{Look, Outcome, puts_in}
 use Rattle.dr_commands.specs.Query.{QueryWords, query_meaning, query_table, query_read}
-use Rattle.dr_top.specs.World.{WhereTold, WithOutcome}
+use Rattle.dr_reading.specs.Scan.{tablets_of}
+use Rattle.dr_tablets.specs.Asked.{AsksForTablets}
+use Rattle.dr_top.specs.Answers.{AsksLink}
+use Rattle.dr_top.specs.World.{WhereTold, WithOutcome, ForOutcome}
 use Rattle.dr_top.specs.Reading.{HasText, IsLeftWith}
-use Rattle.dr_top.specs.Stops.{StopsPlain, StopsWith, IsFileTable, query_stop}
+use Rattle.dr_top.specs.Stops.{IsUnput, StopsPlain, StopsWith, IsFileTable, query_stop}
 use Rattle.dr_top.specs.declared.refusal.Refusal.{Refusal}
 use Rattle.dr_top.specs.declared.stop.Stop.{Stop}
-use Rattle.dr_top.proofs.OutcomeLemmas.{RefusesTable, early_stop, always_with}
+use Rattle.dr_top.proofs.OutcomeLemmas.{RefusesTable, early_stop, always_with, with_for}
 
 pub query_refuses_table : (w : QueryWords) → RefusesTable (query_meaning w)
 query_refuses_table w look e h = ap (query_table w.query) h
@@ -53,7 +56,7 @@ query_text_ends w k i l ls path text out t q p e f r h =
     always_with (query_meaning w) w.table k i (λ o. HasText o (l ∷ ls) out) refl (read_ends w k.held path text t (Ok q) (λ o. HasText o (l ∷ ls) out) p e f r h)
 
 pub query_left : (w : QueryWords) (k k1 : LinkShown) (i : SourceShown) (l l1 : LinkShown) (ls : List LinkShown) (path text : List ℕ) (t : Table) (q : meant.Query) (left : Vec LeftTablet Global) → path ≡ w.table → text ≡ w.query
-    → IsFileTable k.held path t → read_query t.schema text ≡ Ok q → k1.faults ≡ k.faults → k1.held ≡ k.held → LeavesTablets t (query_leaves t.schema.fields q) (all_left_view left.items) l l1
+    → IsFileTable k.held path t → read_query t.schema text ≡ Ok q → k1.faults ≡ k.faults → IsUnput k k1 → LeavesTablets t (query_leaves t.schema.fields q) (all_left_view left.items) l l1
     → StopsWith (query_meaning w) k k1 i i (l ∷ ls) (l1 ∷ ls) (Stop.Left left)
 query_left w k k1 i l l1 ls path text t q left p e f r c d h = (
   c,
@@ -63,6 +66,12 @@ query_left w k k1 i l l1 ls path text t q left p e f r c d h = (
   always_with (query_meaning w) w.table k i (λ o. IsLeftWith o (l ∷ ls) (l1 ∷ ls) (all_left_view left.items)) refl
       (read_ends w k.held path text t (Ok q) (λ o. IsLeftWith o (l ∷ ls) (l1 ∷ ls) (all_left_view left.items)) p e f r h),
 )
+
+pub query_asks : (w : QueryWords) (k : LinkShown) (i : SourceShown) (l l1 : LinkShown) (path text : List ℕ) (t : Table) (q : meant.Query) → path ≡ w.table → text ≡ w.query → IsFileTable k.held path t
+    → read_query t.schema text ≡ Ok q → AsksForTablets (query_leaves t.schema.fields q) (tablets_of t) l l1 → ForOutcome (query_meaning w) k i (λ o. AsksLink o l l1)
+query_asks w k i l l1 path text t q p e f r h =
+    with_for (query_meaning w) k i (λ o. AsksLink o l l1)
+    (always_with (query_meaning w) w.table k i (λ o. AsksLink o l l1) refl (read_ends w k.held path text t (Ok q) (λ o. AsksLink o l l1) p e f r h))
 
 -- ---- nothing is put
 

@@ -1,5 +1,5 @@
 -- The ends of a run, from what the words are answered with.
-use Rattle.std.specs.Prelude.{◌≡◌, ℕ, List, codes, Option, Some, None, option_map, Result, Ok, Err, IfErr}
+use Rattle.std.specs.Prelude.{◌≡◌, ℕ, Bool, true, false, List, codes, Option, Some, None, option_map, Result, Ok, Err, IfErr, ⊤, ◌⊎◌}
 use Rattle.std.specs.declared.alloc.Global.{Global}
 use Rattle.std.proofs.Common.{refl, sym, ap, subst, inl, inr, Vec}
 use Rattle.dr_formats.specs.Loading.{Put}
@@ -13,13 +13,13 @@ use Rattle.dr_reading.specs.LeftText.{told_cause, left_text}
 use Rattle.dr_tablets.specs.Views.{all_left_view}
 use Rattle.dr_tablets.specs.declared.left.LeftTablet.{LeftTablet}
 use Rattle.dr_commands.specs.Refusals.{refusal_text}
-use Rattle.dr_commands.specs.Meaning.{Meaning, Outcome, refused}
+use Rattle.dr_commands.specs.Meaning.{Meaning, Outcome, refused, IsEarly}
 use Rattle.dr_commands.specs.Commands.{CommandWords, meaning_of}
 use Rattle.dr_commands.specs.declared.words_fault.WordsFault.{WordsFault}
-use Rattle.dr_top.specs.World.{world}
+use Rattle.dr_top.specs.World.{world, WithOutcome, RefusesEarly}
 use Rattle.dr_top.specs.Stops.{StopsWith, IsReadBy, IsRefusedSo, words_stop, refusal_view}
 use Rattle.dr_top.specs.Answers.{Finishes, StopsMeant}
-use Rattle.dr_top.specs.Ends.{ForMeant, Holds, Says, Prints, IsUsage, IsRefused, IsLeft, IsOutside, IsMemory, SameCounts, IsComplete}
+use Rattle.dr_top.specs.Ends.{ForMeant, Holds, Says, Prints, IsUsage, IsRefused, IsLeft, IsOutside, IsMemory, SameCounts, ByInput, IsComplete}
 use Rattle.dr_top.specs.declared.refusal.Refusal.{Refusal}
 use Rattle.dr_top.specs.declared.stop.Stop.{Stop}
 use Rattle.dr_top.proofs.OutcomeLemmas.{weaker, put_nothing}
@@ -29,7 +29,7 @@ use Rattle.dr_top.proofs.OutcomeLemmas.{weaker, put_nothing}
 pub words_stops : (o : Option CommandWords) (fault : WordsFault) (k : LinkShown) (i : SourceShown) (ls : List LinkShown) → (fault ≡ WordsFault.Usage → o ≡ None) → StopsMeant (option_map meaning_of o) k k i i ls ls (words_stop fault)
 words_stops o WordsFault.Usage k i ls h = subst (λ (x : Option CommandWords). StopsMeant (option_map meaning_of x) k k i i ls ls Stop.Usage) (sym (h refl)) (refl, refl, refl)
 words_stops None WordsFault.NoMemory k i ls h = (refl, refl, refl)
-words_stops (Some w) WordsFault.NoMemory k i ls h = (refl, refl, inl (put_nothing (meaning_of w) k k i refl))
+words_stops (Some w) WordsFault.NoMemory k i ls h = (refl, refl, inl (put_nothing (meaning_of w) k k i (record { held = refl; puts = refl })))
 
 pub stop_is_usage : (fault : WordsFault) → words_stop fault ≡ Stop.Usage → fault ≡ WordsFault.Usage
 stop_is_usage WordsFault.Usage e = refl
@@ -72,11 +72,11 @@ module _ (i i1 : SourceShown) (out out1 err err1 : SinkShown) (k k1 : LinkShown)
 
   pub source_failed : (o : Option Meaning) → StopsMeant o k k1 i i1 ls ls1 Stop.Source → out1 ≡ out → Says err err1 (codes "outside: source\n") → Holds o IsOutside (world i out err k ls) (world i1 out1 err1 k1 ls1)
   source_failed None h e s = absurd h
-  source_failed (Some m) h e s = inl (s, h.0, h.3, h.4, h.1, e, h.2)
+  source_failed (Some m) h e s = inl (s, h.0, h.3, h.4, h.5, h.1, e, h.2)
 
   pub keeper_failed : (o : Option Meaning) → StopsMeant o k k1 i i1 ls ls1 Stop.Keeper → out1 ≡ out → Says err err1 (codes "outside: keeper\n") → Holds o IsOutside (world i out err k ls) (world i1 out1 err1 k1 ls1)
   keeper_failed None h e s = absurd h
-  keeper_failed (Some m) h e s = inr (inl (s, h.0, h.3, h.1, e, h.2))
+  keeper_failed (Some m) h e s = inr (inl (s, h.0, h.3, h.4, h.1, e, h.2))
 
   pub refused_end : (o : Option Meaning) (r : Refusal) → StopsMeant o k k1 i i1 ls ls1 (Stop.Refused r) → out1 ≡ out → Says err err1 (refusal_text (refusal_view r))
       → Holds o IsRefused (world i out err k ls) (world i1 out1 err1 k1 ls1)
@@ -122,15 +122,23 @@ module _ (i i1 : SourceShown) (out out1 err err1 : SinkShown) (k k1 : LinkShown)
   keeper_incomplete None n h accepted calm = absurd h
   keeper_incomplete (Some m) n h accepted calm = absurd (calm.keeper h.0)
 
-  pub refused_incomplete : (o : Option Meaning) (n : ℕ) (r : Refusal) → StopsMeant o k k1 i i1 ls ls1 (Stop.Refused r) → IsComplete o n (world i out err k ls) (world i1 out1 err1 k1 ls1)
-  refused_incomplete None n r h accepted calm = absurd h
-  refused_incomplete (Some m) n r h accepted calm =
-      absurd (accepted (refusal_view r) (weaker m k i (IsRefusedSo (refusal_view r) k.held k1.held) (λ (x : Outcome). (puts : List Put) × (x ≡ refused (refusal_view r) puts)) (λ x p. (p.0, p.1)) h.3))
+  pub refused_incomplete : (o : Option Meaning) (r : Refusal) → StopsMeant o k k1 i i1 ls ls1 (Stop.Refused r) → IsComplete o 2 (world i out err k ls) (world i1 out1 err1 k1 ls1)
+  refused_incomplete None r h accepted calm = absurd h
+  refused_incomplete (Some m) r h accepted calm = by m.reads_input i.left (λ x. accepted (refusal_view r) x) 2 refl
+    where
+      told : WithOutcome m k i (λ (x : Outcome). (puts : List Put) × (x ≡ refused (refusal_view r) puts))
+      told = weaker m k i (IsRefusedSo (refusal_view r) k k1) (λ (x : Outcome). (puts : List Put) × (x ≡ refused (refusal_view r) puts)) (λ x p. (p.0, p.1)) h.3
+
+      by : (b : Bool) (left : Option (List ℕ)) → (ByInput b left (IsEarly (refusal_view r) × RefusesEarly m k (refusal_view r)) (WithOutcome m k i (λ (x : Outcome). (puts : List Put) × (x ≡ refused (refusal_view r) puts))) → ⊥)
+          → (status : ℕ) → status ≡ 2 → (status ≡ 0) ⊎ ((status ≡ 5) ⊎ (((status ≡ 3) × (m.asks_link ≡ true)) ⊎ ((status ≡ 2) × ByInput b left ⊤ ⊥)))
+      by true None n status e = inr (inr (inr (e, tt)))
+      by true (Some bytes) n status e = absurd (n told)
+      by false left n status e = absurd (n told)
 
   pub left_incomplete : (o : Option Meaning) (left : Vec LeftTablet Global) → StopsMeant o k k1 i i1 ls ls1 (Stop.Left left) → IsComplete o 3 (world i out err k ls) (world i1 out1 err1 k1 ls1)
   left_incomplete None left h accepted calm = absurd h
-  left_incomplete (Some m) left h accepted calm = inr (inr (refl, h.1))
+  left_incomplete (Some m) left h accepted calm = inr (inr (inl (refl, h.1)))
 
   pub file_incomplete : (o : Option Meaning) (c : Cause) → StopsMeant o k k1 i i1 ls ls1 (Stop.LeftFile c) → IsComplete o 3 (world i out err k ls) (world i1 out1 err1 k1 ls1)
   file_incomplete None c h accepted calm = absurd h
-  file_incomplete (Some m) c h accepted calm = inr (inr (refl, h.1))
+  file_incomplete (Some m) c h accepted calm = inr (inr (inl (refl, h.1)))

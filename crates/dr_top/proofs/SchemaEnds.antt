@@ -1,22 +1,23 @@
 -- The answer of `schema`, from its steps.
-use Rattle.std.specs.Prelude.{◌≡◌, ◌≢◌, ℕ, true, false, List, [], ◌∷◌, Option, Some, None, Result, Ok, Err}
+use Rattle.std.specs.Prelude.{◌≡◌, ◌≢◌, IsTrue, IsSome, ℕ, true, false, List, [], ◌∷◌, Option, Some, None, Result, Ok, Err}
 use Rattle.std.proofs.Common.{refl, sym, subst, ◌≤◌, true≢false, inl, arith}
 use Rattle.dr_meaning.specs.Schema.{Schema}
 use Rattle.dr_meaning.specs.SchemaText.{schema_text}
 use Rattle.dr_formats.specs.File.{FileCause, bad_footer, bad_schema, bad_codec, bad_data, schema_of_file}
 use Rattle.dr_outside.specs.Faults.{raised, Rose}
 use Rattle.dr_outside.specs.Source.{SourceShown}
-use Rattle.dr_outside.specs.Link.{Files, LinkShown, Lacks}
+use Rattle.dr_outside.specs.Link.{Files, LinkShown, Holds, Lacks}
 use Rattle.dr_outside.specs.declared.cause.Cause.{Cause}
-use Rattle.dr_chunk.specs.Telling.{TellsFile}
+use Rattle.dr_outside.specs.Telling.{TellsFile}
 use Rattle.dr_file.specs.Schemas.{cause_in}
 use Rattle.dr_file.specs.OpenedFiles.{IsCauseOf, HasCounts, is_link_fault}
 use Rattle.dr_file.specs.declared.file_fault.FileFault.{FileFault}
-use Rattle.dr_serving.specs.Held.{held_at, held_file}
+use Rattle.dr_reading.specs.Held.{held_at, held_file}
+use Rattle.dr_reading.specs.Causes.{is_read}
 use Rattle.dr_commands.specs.ShowSchema.{ShowSchemaWords, show_schema_meaning}
 use Rattle.dr_top.specs.Reading.{IsSchemaShown, IsSchemaCause, LeavesFile}
 use Rattle.dr_top.specs.Answers.{Finishes}
-use Rattle.dr_top.specs.Stops.{SchemaStops, StopsWith, file_stop}
+use Rattle.dr_top.specs.Stops.{IsUnput, SchemaStops, StopsWith, file_stop}
 use Rattle.dr_top.specs.declared.stop.Stop.{Stop}
 use Rattle.dr_tablets.proofs.CopyLemmas.{rises_more}
 use Rattle.dr_top.proofs.OutcomeLemmas.{put_nothing, put_none}
@@ -70,22 +71,39 @@ file_cause (Some files) path c old new n h none = go (files path) refl
     go None e = by_absence c old new n (none e)
     go (Some bytes) e = by_bytes bytes c old new n (h bytes e)
 
+not_read : (c : Cause) → is_link_fault (FileFault.Why c) ≡ false → is_read c ≡ false
+not_read (Cause.ReadFailed before after) h = absurd (true≢false h)
+not_read Cause.BadFooter h = refl
+not_read Cause.BadSchema h = refl
+not_read Cause.BadCodec h = refl
+not_read Cause.BadData h = refl
+
+held_bytes : (held : Option Files) (path : List ℕ) → Holds held path → (bytes : List ℕ) × TellsFile held path bytes
+held_bytes None path h = absurd h
+held_bytes (Some files) path h = go (files path) refl h
+  where
+    go : (o : Option (List ℕ)) → files path ≡ o → IsSome o → (bytes : List ℕ) × (files path ≡ Some bytes)
+    go None e i = absurd (true≢false (sym i))
+    go (Some bytes) e i = (bytes, e)
+
 pub file_left : (path : List ℕ) (c : Cause) (l l1 : LinkShown) → HasCounts l.faults l1.faults (FileFault.Why c) → ((bytes : List ℕ) → TellsFile l.held path bytes → IsCauseOf (FileFault.Why c) (cause_in (schema_of_file bytes)))
-    → (Lacks l.held path → is_link_fault (FileFault.Why c) ≡ true) → (is_link_fault (FileFault.Why c) ≡ false → l1.faults ≡ l.faults) → LeavesFile path c l l1
-file_left path c l l1 n h none calm =
-    (file_cause l.held path c l.faults l1.faults n h none, rises_more l.faults l.faults l1.faults [] (c ∷ []) c (let e : l.faults ≤ l.faults = omega arith in e) n calm refl)
+    → (Lacks l.held path → is_link_fault (FileFault.Why c) ≡ true) → (is_link_fault (FileFault.Why c) ≡ false → l1.faults ≡ l.faults)
+    → ((bytes : List ℕ) → IsTrue l.is_steady → TellsFile l.held path bytes → is_link_fault (FileFault.Why c) ≡ false) → LeavesFile path c l l1
+file_left path c l l1 n h none calm steady =
+    (file_cause l.held path c l.faults l1.faults n h none, (λ is holds. let b = held_bytes l.held path holds in not_read c (steady b.0 is b.1)), rises_more l.faults l.faults l1.faults [] (c ∷ []) c (let e : l.faults ≤ l.faults = omega arith in e) n calm refl)
 
 pub schema_faults : (path : List ℕ) (fault : FileFault) (l l1 : LinkShown) → HasCounts l.faults l1.faults fault → ((bytes : List ℕ) → TellsFile l.held path bytes → IsCauseOf fault (cause_in (schema_of_file bytes)))
-    → (Lacks l.held path → fault ≢ FileFault.NoMemory → is_link_fault fault ≡ true) → (is_link_fault fault ≡ false → l1.faults ≡ l.faults) → SchemaStops path l l1 (file_stop fault)
-schema_faults path FileFault.NoMemory l l1 n h none calm = tt
-schema_faults path (FileFault.Why c) l l1 n h none calm = file_left path c l l1 n h (λ lacks. none lacks (λ e. cc)) calm
+    → (Lacks l.held path → fault ≢ FileFault.NoMemory → is_link_fault fault ≡ true) → (is_link_fault fault ≡ false → l1.faults ≡ l.faults)
+    → ((bytes : List ℕ) → IsTrue l.is_steady → TellsFile l.held path bytes → is_link_fault fault ≡ false) → SchemaStops path l l1 (file_stop fault)
+schema_faults path FileFault.NoMemory l l1 n h none calm steady = tt
+schema_faults path (FileFault.Why c) l l1 n h none calm steady = file_left path c l l1 n h (λ lacks. none lacks (λ e. cc)) calm steady
 
 -- ---- in the program
 
-pub schema_finishes : (w : ShowSchemaWords) (k k1 : LinkShown) (i : SourceShown) (l : LinkShown) (ls : List LinkShown) (path text : List ℕ) → path ≡ w.file → k1.held ≡ k.held → IsSchemaShown (held_at l.held path) text → Finishes (show_schema_meaning w) k k1 i (l ∷ ls) text
-schema_finishes w k k1 i l ls path text p e h = ([], refl, (subst (λ (x : List ℕ). IsSchemaShown (held_at l.held x) text) p h, put_none k.held k1.held e))
+pub schema_finishes : (w : ShowSchemaWords) (k k1 : LinkShown) (i : SourceShown) (l : LinkShown) (ls : List LinkShown) (path text : List ℕ) → path ≡ w.file → IsUnput k k1 → IsSchemaShown (held_at l.held path) text → Finishes (show_schema_meaning w) k k1 i (l ∷ ls) text
+schema_finishes w k k1 i l ls path text p e h = (([], refl, (subst (λ (x : List ℕ). IsSchemaShown (held_at l.held x) text) p h, put_none k k1 e)), tt)
 
-pub schema_stop : (w : ShowSchemaWords) (k k1 : LinkShown) (i : SourceShown) (l l1 : LinkShown) (ls : List LinkShown) (path : List ℕ) (stop : Stop) → path ≡ w.file → k1.held ≡ k.held → k1.faults ≡ k.faults → SchemaStops path l l1 stop
+pub schema_stop : (w : ShowSchemaWords) (k k1 : LinkShown) (i : SourceShown) (l l1 : LinkShown) (ls : List LinkShown) (path : List ℕ) (stop : Stop) → path ≡ w.file → IsUnput k k1 → k1.faults ≡ k.faults → SchemaStops path l l1 stop
     → StopsWith (show_schema_meaning w) k k1 i i (l ∷ ls) (l1 ∷ ls) stop
 schema_stop w k k1 i l l1 ls path Stop.Usage p e f h = absurd h
 schema_stop w k k1 i l l1 ls path Stop.NoMemory p e f h = (f, refl, inl (put_nothing (show_schema_meaning w) k k1 i e))

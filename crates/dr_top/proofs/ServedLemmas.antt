@@ -1,12 +1,19 @@
 -- Where the first link is steady and tells that a copy of each tablet is a file, no tablet is left.
-use Rattle.std.proofs.Common.{◌≡◌, ◌∙◌, inl, inr, ℕ, Bool, false, List, [], ◌∷◌, Option, Some, None, refl, sym, ap, subst}
+use Rattle.std.proofs.Common.{◌≡◌, ◌∙◌, inl, inr, ℕ, Bool, true, false, true≢false, List, [], ◌∷◌, Option, Some, None, refl, sym, ap, subst}
+use Rattle.std.specs.Prelude.{◌⊎◌, IsTrue, IsSome, Ok, Err}
 use Rattle.dr_outside.specs.Source.{SourceShown}
 use Rattle.dr_outside.specs.Link.{Files, LinkShown}
+use Rattle.dr_outside.specs.Link as Link
+use Rattle.dr_outside.specs.declared.cause.Cause.{Cause}
+use Rattle.dr_meaning.specs.Schema.{Schema}
+use Rattle.dr_formats.specs.File.{FileCause, bad_footer, bad_schema, bad_codec, bad_data, schema_of_file}
+use Rattle.dr_reading.specs.Held.{Held, present, held_at, held_file}
+use Rattle.dr_reading.specs.Causes.{is_read}
 use Rattle.dr_reading.proofs.HeldFileLemmas.{steady_leaves_none}
 use Rattle.dr_commands.specs.Meaning.{Meaning, Outcome}
 use Rattle.dr_top.specs.World.{World, WithOutcome, WhereFile, WhereTold, WhereUsed, WithFirsts}
-use Rattle.dr_top.specs.Reading.{IsLeftWith, IsFileLeft, LeavesTablets}
-use Rattle.dr_top.specs.Ends.{Holds, IsLeft, IsComplete, IsHeldWhole, IsServed}
+use Rattle.dr_top.specs.Reading.{IsLeftWith, IsFileLeft, IsSchemaCause, LeavesTablets, LeavesFile}
+use Rattle.dr_top.specs.Ends.{Holds, IsLeft, IsComplete, IsHeldWhole, IsSchemaHeld, IsServed}
 
 -- what holds of the outcome of a command that reads no input, on the file that is there
 outcome_at : (m : Meaning) (k : LinkShown) (i : SourceShown) (P : Outcome → Type 0) (path file : List ℕ) (kept : Files) → m.file ≡ Some path → k.held ≡ Some kept → m.reads_input ≡ false
@@ -37,12 +44,55 @@ not_left m before after h (inr t) =
     subst (λ (o : Outcome). IsFileLeft o before.links after.links t.0) h.scans_it
     (outcome_at m before.keeper before.input (λ o. IsFileLeft o before.links after.links t.0) h.path h.file h.kept h.named h.keeps h.reads_nothing h.there t.3)
 
+-- nor is the file of `schema`
+no_cause : (path bytes : List ℕ) (s : Schema) (c : Cause) (l : LinkShown) (files : Files) → l.held ≡ Some files → IsTrue l.is_steady → files path ≡ Some bytes → schema_of_file bytes ≡ Ok s
+    → IsSchemaCause (held_at l.held path) c → (IsTrue l.is_steady → Link.Holds l.held path → is_read c ≡ false) → ⊥
+no_cause path bytes s c l files tells steady there shows h calm =
+    by_cause c (subst (λ (x : Held). IsSchemaCause x c) (ap (λ (x : Option Files). held_at x path) tells ∙ ap held_file there) h) (calm steady (subst (λ (x : Option Files). Link.Holds x path) (sym tells) (subst IsSome (sym there) refl)))
+  where
+    other : (e : FileCause) → schema_of_file bytes ≡ Err e → ⊥
+    other e k = let no : Ok s ≡ Err e = sym shows ∙ k in cc
+
+    by_cause : (c : Cause) → IsSchemaCause (present bytes) c → is_read c ≡ false → ⊥
+    by_cause (Cause.ReadFailed before after) k n = true≢false n
+    by_cause Cause.BadFooter k n = other bad_footer k
+    by_cause Cause.BadSchema k n = other bad_schema k
+    by_cause Cause.BadCodec k n = other bad_codec k
+    by_cause Cause.BadData k n = other bad_data k
+
+-- what holds of the outcome of a command that names no file and reads no input
+outcome_alone : (m : Meaning) (k : LinkShown) (i : SourceShown) (P : Outcome → Type 0) → m.file ≡ None → m.reads_input ≡ false → WithOutcome m k i P → P (m.outcome (record { file = []; input = [] }))
+outcome_alone m k i P named unread w =
+    let is : (List ℕ → Type 0) → Type 0 = λ IsIt. WhereUsed m.reads_input [] i.left (λ bytes. (f : List ℕ) × IsIt f × P (m.outcome (record { file = f; input = bytes }))) in
+    let a : is (λ f. f ≡ []) = subst (λ (o : Option (List ℕ)). WhereFile o k.held is) named w in
+    let b : (f : List ℕ) × (f ≡ []) × P (m.outcome (record { file = f; input = [] })) =
+    subst (λ (u : Bool). WhereUsed u [] i.left (λ bytes. (f : List ℕ) × (f ≡ []) × P (m.outcome (record { file = f; input = bytes })))) unread a in
+    subst (λ (f : List ℕ). P (m.outcome (record { file = f; input = [] }))) b.1 b.2
+
+file_not_left : (m : Meaning) (before after : World) → IsSchemaHeld m before → IsLeft m before after → ⊥
+file_not_left m before after h (inl t) =
+    subst (λ (o : Outcome). IsLeftWith o before.links after.links t.0) h.looks_at_it
+    (outcome_alone m before.keeper before.input (λ o. IsLeftWith o before.links after.links t.0) h.names_none h.reads_nothing t.3)
+file_not_left m before after h (inr t) = in_links after.links (subst (λ (ls : List LinkShown). WithFirsts ls after.links (LeavesFile h.path t.0)) h.links looked)
+  where
+    looked : WithFirsts before.links after.links (LeavesFile h.path t.0)
+    looked = subst (λ (o : Outcome). IsFileLeft o before.links after.links t.0) h.looks_at_it
+        (outcome_alone m before.keeper before.input (λ o. IsFileLeft o before.links after.links t.0) h.names_none h.reads_nothing t.3)
+
+    in_links : (now : List LinkShown) → WithFirsts (h.first ∷ h.others) now (LeavesFile h.path t.0) → ⊥
+    in_links [] w = w
+    in_links (k ∷ ks) w = no_cause h.path h.bytes h.schema t.0 h.first h.files h.tells h.steady h.there h.shows w.0 w.1
+
+none_left : (m : Meaning) (before after : World) → IsHeldWhole m before ⊎ IsSchemaHeld m before → IsLeft m before after → ⊥
+none_left m before after (inl h) t = not_left m before after h t
+none_left m before after (inr h) t = file_not_left m before after h t
+
 pub served_by : (o : Option Meaning) (before after : World) (status : ℕ) → Holds o IsLeft before after → IsServed o status before
 served_by None before after status h = absurd h
-served_by (Some m) before after status h = λ w. absurd (not_left m before after w h)
+served_by (Some m) before after status h = λ w. absurd (none_left m before after w h)
 
 -- where tablets or a file are left, the first link was asked
 pub left_complete : (o : Option Meaning) (before after : World) → Holds o IsLeft before after → IsComplete o 3 before after
 left_complete None before after h = absurd h
-left_complete (Some m) before after (inl t) = λ a b. inr (inr (refl, t.1))
-left_complete (Some m) before after (inr t) = λ a b. inr (inr (refl, t.1))
+left_complete (Some m) before after (inl t) = λ a b. inr (inr (inl (refl, t.1)))
+left_complete (Some m) before after (inr t) = λ a b. inr (inr (inl (refl, t.1)))

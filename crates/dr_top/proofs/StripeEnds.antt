@@ -11,9 +11,13 @@ use Rattle.dr_outside.specs.Source.{SourceShown}
 use Rattle.dr_outside.specs.Link.{Files, LinkShown}
 use Rattle.dr_commands.specs.Meaning.{Look, Outcome, plain, done, refused, IsEarly}
 use Rattle.dr_top.specs.World.{WhereTold, HasOutcome}
-use Rattle.dr_top.specs.Stops.{StopsPlain, InputStops, IsFileSchema, IsRefusedLine, input_stop, line_problem_view}
+use Rattle.dr_top.specs.Stops.{StopsPlain, InputStops, IsFileSchema, IsRefusedLine, input_stop}
 use Rattle.dr_top.specs.declared.refusal.Refusal.{Refusal}
-use Rattle.dr_top.specs.declared.input_records.InputFault.{InputFault}
+use Rattle.dr_input.specs.Whole.{whole_lines}
+use Rattle.dr_input.specs.Taken.{WhereGiven, AcceptsRead}
+use Rattle.dr_input.specs.Faults.{line_problem_view}
+use Rattle.dr_input.specs.declared.fault.InputFault.{InputFault}
+use Rattle.dr_top.proofs.InputLemmas.{records_accepted}
 use Rattle.dr_top.proofs.OutcomeLemmas.{RefusesSchema, early_stop}
 use Rattle.dr_meaning.specs.Path.{Leaf, PathFault, find_leaf}
 use Rattle.dr_meaning.specs.Column.{Triplet}
@@ -62,13 +66,35 @@ late : (l : Leaf) (recs : Result (List Node) line.Refusal) (r : Refused) (puts :
 late l (Ok ns) r puts early e = cc
 late l (Err x) r puts early e = let is : line_refused x ≡ r = cc in subst (λ (y : Refused). IsEarly y) (sym is) early
 
-opened : (w : StripeWords) (held : Option Files) (path text : List ℕ) (s : Schema) (l : Leaf) → path ≡ w.schema → text ≡ w.field → IsFileSchema held path s → find_leaf text s.fields ≡ Ok l
+pub opened : (w : StripeWords) (held : Option Files) (path text : List ℕ) (s : Schema) (l : Leaf) → path ≡ w.schema → text ≡ w.field → IsFileSchema held path s → find_leaf text s.fields ≡ Ok l
     → WhereTold held (λ fs. (file : List ℕ) × (fs w.schema ≡ Some file) × ((look : Look) (r : Refused) (puts : List Put) → look.file ≡ file → IsEarly r → plain (stripe look.file w.field look.input) ≡ refused r puts → ⊥))
 opened w None path text s l p t f n = tt
 opened w (Some fs) path text s l p t f n = (
   f.0,
   ap fs (sym p) ∙ f.1,
   λ look r puts is early e. late l (line.records_of s.fields most_striped look.input) r puts early (sym (ends_by_records w text s l look f.0 t f.2 n is) ∙ e),
+)
+
+-- what the source gave is accepted
+none_refused : (l : Leaf) (recs : Result (List Node) line.Refusal) (R : List Node) (r : Refused) (puts : List Put) → recs ≡ Ok R → plain (stripe_records l recs) ≡ refused r puts → ⊥
+none_refused l (Ok ns) R r puts h e = cc
+none_refused l (Err x) R r puts h e = cc
+
+accepts : (w : StripeWords) (held : Option Files) (left now : Option (List ℕ)) (path text : List ℕ) (s : Schema) (l : Leaf) → path ≡ w.schema → text ≡ w.field → IsFileSchema held path s → find_leaf text s.fields ≡ Ok l
+    → AcceptsRead s.fields most_striped 0 left now
+    → WhereTold held (λ fs. WhereGiven left now (λ read. (file : List ℕ) × (fs w.schema ≡ Some file) × ((r : Refused) (puts : List Put) → plain (stripe file w.field (whole_lines read)) ≡ refused r puts → ⊥)))
+accepts w None left now path text s l p t f n a = tt
+accepts w (Some fs) None now path text s l p t f n a = tt
+accepts w (Some fs) (Some all) None path text s l p t f n a = absurd a
+accepts w (Some fs) (Some all) (Some rest) path text s l p t f n a = (
+  a.0,
+  a.1,
+  (
+    f.0,
+    ap fs (sym p) ∙ f.1,
+    λ r puts e. none_refused l (line.records_of s.fields most_striped (whole_lines a.0)) (line.taken_from s.fields most_striped 1 (line.lines_of (whole_lines a.0))).records r puts (records_accepted s.fields most_striped (whole_lines a.0) a.2)
+        (sym (ends_by_records w text s l (record { file = f.0; input = whole_lines a.0 }) f.0 t f.2 n refl) ∙ e),
+  ),
 )
 
 abbrev InputEnds : StripeWords → Option Files → Option (List ℕ) → Outcome → Type 0
@@ -87,7 +113,8 @@ line_ends w (Some fs) (Some bytes) path text s l e p t f n h = (
 pub stripe_input_stops : (w : StripeWords) (k k1 : LinkShown) (i i1 : SourceShown) (path text : List ℕ) (s : Schema) (l : Leaf) (fault : InputFault) → path ≡ w.schema → text ≡ w.field → IsFileSchema k.held path s → find_leaf text s.fields ≡ Ok l
     → k1.faults ≡ k.faults → InputStops s.fields most_striped i i1 fault → StopsPlain (stripe_meaning w) k k1 i i1 (input_stop fault)
 stripe_input_stops w k k1 i i1 path text s l InputFault.NoMemory p t f n c h = (c, h)
-stripe_input_stops w k k1 i i1 path text s l InputFault.Source p t f n c h = (h, c, opened w k.held path text s l p t f n)
+stripe_input_stops w k k1 i i1 path text s l InputFault.Source p t f n c h =
+    (h.0, c, opened w k.held path text s l p t f n, accepts w k.held i.left i1.left path text s l p t f n h.1)
 stripe_input_stops w k k1 i i1 path text s l (InputFault.Refused m x) p t f n c h =
     (c, h.0, line_ends w k.held i.left path text s l (record { line = m; fault = line_problem_view x }) p t f n h.1, λ early. absurd early)
 

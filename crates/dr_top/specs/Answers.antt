@@ -1,21 +1,24 @@
 -- What the words of a command line are answered with.
-use Rattle.std.specs.Prelude.{◌≡◌, Bool, false, true, List, ℕ, Option, Some, None}
+use Rattle.std.specs.Prelude.{◌≡◌, Bool, false, true, List, [], ◌++◌, ℕ, Option, Some, None}
+use Rattle.dr_formats.specs.Opening.{Range, end_ranges, footer_ranges}
 use Rattle.dr_outside.specs.Source.{SourceShown}
 use Rattle.dr_outside.specs.Link.{LinkShown}
 use Rattle.dr_load.specs.Puts.{HasPut}
-use Rattle.dr_commands.specs.Meaning.{Meaning, Outcome, puts_in}
-use Rattle.dr_top.specs.World.{WithOutcome}
+use Rattle.dr_file.specs.Asking.{is_request_for}
+use Rattle.dr_tablets.specs.Asked.{AsksHeld, AsksForTablets}
+use Rattle.dr_commands.specs.Meaning.{Meaning, Outcome, done, refused, scans, looks_at, puts_in}
+use Rattle.dr_top.specs.World.{WithOutcome, ForOutcome, WithFirsts, OpensInput}
 use Rattle.dr_top.specs.Reading.{HasText, SameOthers}
-use Rattle.dr_top.specs.Stops.{StopsWith, AsksForFile}
+use Rattle.dr_top.specs.Stops.{IsUnput, StopsWith, AsksForFile}
 use Rattle.dr_top.specs.declared.stop.Stop.{Stop}
 
--- an outcome has this text, and its files are put
+-- an outcome has this text, and its files are put, in their order
 abbrev pub Gives : LinkShown → LinkShown → List LinkShown → List ℕ → Outcome → Type 0
-Gives keeper keeper_now links text o = HasText o links text × HasPut (puts_in o) keeper.held keeper_now.held
+Gives keeper keeper_now links text o = HasText o links text × HasPut (puts_in o) keeper keeper_now
 
--- what a command of this meaning gives
+-- what a command of this meaning gives; nothing that comes before an input that it reads is refused, also where that isn't told
 abbrev pub Finishes : Meaning → LinkShown → LinkShown → SourceShown → List LinkShown → List ℕ → Type 0
-Finishes m keeper keeper_now input links text = WithOutcome m keeper input (Gives keeper keeper_now links text)
+Finishes m keeper keeper_now input links text = WithOutcome m keeper input (Gives keeper keeper_now links text) × OpensInput m keeper
 
 -- what words of this meaning are stopped by; those that mean nothing leave all as it was
 abbrev pub StopsMeant : Option Meaning → LinkShown → LinkShown → SourceShown → SourceShown → List LinkShown → List LinkShown → Stop → Type 0
@@ -38,9 +41,9 @@ abbrev pub LeavesUnread : Option Meaning → SourceShown → SourceShown → Typ
 LeavesUnread (Some m) input input_now = m.reads_input ≡ false → input_now ≡ input
 LeavesUnread None input input_now = input_now ≡ input
 
--- a keeper to which nothing is put holds what it held
+-- a keeper to which nothing is put holds what it held, and is asked for no put
 abbrev pub LeavesUnput : Option Meaning → LinkShown → LinkShown → Type 0
-LeavesUnput (Some m) keeper keeper_now = m.puts_files ≡ false → keeper_now.held ≡ keeper.held
+LeavesUnput (Some m) keeper keeper_now = m.puts_files ≡ false → IsUnput keeper keeper_now
 LeavesUnput None keeper keeper_now = keeper_now ≡ keeper
 
 -- links that aren't asked stay; of those of which the first is asked, it holds what it held, and the others stay
@@ -51,3 +54,21 @@ LeavesLinksBy true links links_now = SameOthers links links_now
 abbrev pub LeavesUnasked : Option Meaning → List LinkShown → List LinkShown → Type 0
 LeavesUnasked (Some m) links links_now = LeavesLinksBy m.asks_link links links_now
 LeavesUnasked None links links_now = links_now ≡ links
+
+-- the ranges that show a file's schema; none where nothing is held
+abbrev pub schema_ranges : Option (List ℕ) → List Range
+schema_ranges None = []
+schema_ranges (Some bytes) = end_ranges bytes ++ footer_ranges bytes
+
+-- what a link that tells what it holds is asked for: by a scan for the files of its tablets, in the ranges of its leaves; by a look at a file for
+-- that file, in the ranges of its schema; else for nothing
+abbrev pub AsksLink : Outcome → LinkShown → LinkShown → Type 0
+AsksLink (scans s) link now = AsksForTablets s.leaves s.tablets link now
+AsksLink (looks_at path) link now = AsksHeld (λ files. is_request_for path (schema_ranges (files path))) link.held link.asked now.asked
+AsksLink (done text puts) link now = now.asked ≡ link.asked
+AsksLink (refused r puts) link now = now.asked ≡ link.asked
+
+-- the first link is asked for nothing else, whatever comes of it
+abbrev pub AsksFirst : Option Meaning → LinkShown → SourceShown → List LinkShown → List LinkShown → Type 0
+AsksFirst (Some m) keeper input links links_now = ForOutcome m keeper input (λ o. WithFirsts links links_now (AsksLink o))
+AsksFirst None keeper input links links_now = links_now ≡ links

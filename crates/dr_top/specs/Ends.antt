@@ -1,21 +1,24 @@
 -- How a run ends, in the world before and after it. What isn't said to change stays as it was.
-use Rattle.std.specs.Prelude.{◌≡◌, ◌≢◌, ℕ, true, false, IsTrue, List, [], ◌∷◌, codes, ◌⊎◌, ⊤, Option, Some, None}
+use Rattle.std.specs.Prelude.{◌≡◌, ◌≢◌, ℕ, true, false, IsTrue, List, [], ◌∷◌, codes, ◌⊎◌, ⊤, Option, Some, None, Ok, Bool}
+use Rattle.dr_meaning.specs.Schema.{Schema}
+use Rattle.dr_formats.specs.File.{schema_of_file}
 use Rattle.dr_formats.specs.Loading.{Put}
 use Rattle.dr_formats.specs.Reports.{left_file_text}
 use Rattle.dr_outside.specs.Faults.{raised}
+use Rattle.dr_load.specs.Puts.{HasPut}
 use Rattle.dr_outside.specs.Link.{Files, LinkShown}
 use Rattle.dr_outside.specs.Sink.{SinkShown, AddedWhole, AddedFront}
 use Rattle.dr_outside.specs.declared.cause.Cause.{Cause}
 use Rattle.dr_reading.specs.Scan.{Scan}
-use Rattle.dr_reading.specs.Held.{EachHasFile}
+use Rattle.dr_reading.specs.Premises.{EachHasFile}
 use Rattle.dr_reading.specs.Left.{LeftTablet}
 use Rattle.dr_reading.specs.LeftText.{told_cause, left_text}
 use Rattle.dr_commands.specs.Refusals.{Refusal, refusal_text}
-use Rattle.dr_commands.specs.Meaning.{Meaning, refused, scans, IsEarly}
-use Rattle.dr_top.specs.World.{World, WithOutcome, IsOpened}
+use Rattle.dr_commands.specs.Meaning.{Meaning, refused, scans, looks_at, IsEarly}
+use Rattle.dr_top.specs.World.{World, WithOutcome, IsOpened, OpensInput, AcceptsWhole, RefusesEarly}
 use Rattle.dr_top.specs.Reading.{IsLeftWith, IsFileLeft}
-use Rattle.dr_top.specs.Stops.{IsReadBy, IsRefusedSo, PutsSome, PutsBreak}
-use Rattle.dr_top.specs.Answers.{Finishes, AsksMeant, LeavesUnread, LeavesUnput, LeavesUnasked}
+use Rattle.dr_top.specs.Stops.{IsUnput, KeepsFile, IsReadBy, IsRefusedSo, PutsSome, PutsBeforeEnd, PutsBreak}
+use Rattle.dr_top.specs.Answers.{Finishes, AsksMeant, LeavesUnread, LeavesUnput, LeavesUnasked, AsksFirst}
 
 -- ---- words of the clauses
 
@@ -65,40 +68,44 @@ IsUsage meant before after = (meant ≡ None)
     × Says before.err after.err (codes "usage: dremel load|query|ask|dump|stripe|fsm|schema|explain|gen|trial ..\n")
     × (after.input ≡ before.input) × (after.out ≡ before.out) × (after.keeper ≡ before.keeper) × (after.links ≡ before.links)
 
--- 2: the first refusal, which err names; out and the links stay, and so does the input where it isn't one of its lines that is refused
+-- 2: the first refusal, which err names; out and the links stay. Where it isn't a line of the input that is refused, the refusal is that of
+-- the file and the words whatever the input, and the input and what the keeper holds stay
 abbrev pub IsRefused : Meaning → World → World → Type 0
 IsRefused m before after = (r : Refusal) × Says before.err after.err (refusal_text r)
-    × WithOutcome m before.keeper before.input (IsRefusedSo r before.keeper.held after.keeper.held)
+    × WithOutcome m before.keeper before.input (IsRefusedSo r before.keeper after.keeper)
     × (after.out ≡ before.out) × (after.links ≡ before.links)
-    × (IsEarly r → after.input ≡ before.input)
+    × (IsEarly r → (after.input ≡ before.input) × RefusesEarly m before.keeper r × HasPut [] before.keeper after.keeper)
 
 -- 3, tablets: the command asks the first link; just these are left, each with a cause for each of its copies, which err tells; all else stays
 abbrev pub TabletsLeft : Meaning → World → World → Type 0
 TabletsLeft m before after = (left : List LeftTablet) × (m.asks_link ≡ true) × Says before.err after.err (left_text left)
     × WithOutcome m before.keeper before.input (λ o. IsLeftWith o before.links after.links left)
-    × (after.out ≡ before.out) × (after.input ≡ before.input) × (after.keeper.held ≡ before.keeper.held)
+    × (after.out ≡ before.out) × (after.input ≡ before.input) × IsUnput before.keeper after.keeper
 
 -- 3, a file: the command asks the first link; its cause, which err tells; all else stays
 abbrev pub FileLeft : Meaning → World → World → Type 0
 FileLeft m before after = (c : Cause) × (m.asks_link ≡ true) × Says before.err after.err (left_file_text (told_cause c))
     × WithOutcome m before.keeper before.input (λ o. IsFileLeft o before.links after.links c)
-    × (after.out ≡ before.out) × (after.input ≡ before.input) × (after.keeper.held ≡ before.keeper.held)
+    × (after.out ≡ before.out) × (after.input ≡ before.input) × IsUnput before.keeper after.keeper
 
 abbrev pub IsLeft : Meaning → World → World → Type 0
 IsLeft m before after = TabletsLeft m before after ⊎ FileLeft m before after
 
--- 4, the input: nothing before it is refused, and of the files that are to be put those from the front on were put
+-- 4, the input: nothing before it is refused, nor is a whole line that the source gave; of the files that are to be put those from the front on were put,
+-- without the last one
 abbrev pub SourceFailed : Meaning → World → World → Type 0
 SourceFailed m before after = Says before.err after.err (codes "outside: source\n")
     × HasRisen before.input.faults after.input.faults
-    × IsOpened m before.keeper × PutsSome m before.keeper after.keeper before.input
+    × IsOpened m before.keeper × PutsBeforeEnd m before.keeper after.keeper before.input
+    × AcceptsWhole m before.keeper before.input after.input
     × (after.keeper.faults ≡ before.keeper.faults) × (after.out ≡ before.out) × (after.links ≡ before.links)
 
--- 4, the keeper: it failed as the file was read, and the input and what it holds stay, or at one of the files that are to be put
+-- 4, the keeper, which isn't steady with the file there: it failed as the file was read, and the input and what it holds stay, or at one of the
+-- files that are to be put, where nothing before the input is refused
 abbrev pub KeeperFailed : Meaning → World → World → Type 0
 KeeperFailed m before after = Says before.err after.err (codes "outside: keeper\n")
-    × HasRisen before.keeper.faults after.keeper.faults
-    × (((after.input ≡ before.input) × (after.keeper.held ≡ before.keeper.held)) ⊎ PutsBreak m before.keeper after.keeper before.input)
+    × HasRisen before.keeper.faults after.keeper.faults × (KeepsFile m before.keeper → ⊥)
+    × (((after.input ≡ before.input) × IsUnput before.keeper after.keeper) ⊎ (PutsBreak true m before.keeper after.keeper before.input × OpensInput m before.keeper))
     × (after.input.faults ≡ before.input.faults) × (after.out ≡ before.out) × (after.links ≡ before.links)
 
 -- 4, out: it holds a front of the text, and no more was asked of it than it took to find that
@@ -116,7 +123,7 @@ IsOutside m before after = SourceFailed m before after ⊎ (KeeperFailed m befor
 -- the files that words of this meaning put, where memory ran out: some from the front on, or one that may be broken off
 abbrev pub PutsMeant : Option Meaning → World → World → Type 0
 PutsMeant None before after = after.keeper ≡ before.keeper
-PutsMeant (Some m) before after = PutsSome m before.keeper after.keeper before.input ⊎ PutsBreak m before.keeper after.keeper before.input
+PutsMeant (Some m) before after = PutsSome m before.keeper after.keeper before.input ⊎ PutsBreak false m before.keeper after.keeper before.input
 
 -- 5: want of memory; nothing was printed
 abbrev pub IsMemory : Option Meaning → World → World → Type 0
@@ -124,15 +131,30 @@ IsMemory meant before after = Says before.err after.err (codes "no memory\n") ×
 
 -- ---- at every status
 
--- nothing that the command looks at is refused: its schema or table, its FIELDs, its directories, its query, the input's lines
+-- the first where the input is read and isn't told, else the second
+abbrev pub ByInput : Bool → Option (List ℕ) → Type 0 → Type 0 → Type 0
+ByInput true None untold told = untold
+ByInput true (Some bytes) untold told = told
+ByInput false left untold told = told
+
+-- the command has this refusal; of an input that is read and isn't told, it is one that comes before the input
+abbrev pub Refuses : World → Meaning → Refusal → Type 0
+Refuses before m r = ByInput m.reads_input before.input.left (IsEarly r × RefusesEarly m before.keeper r)
+    (WithOutcome m before.keeper before.input (λ o. (puts : List Put) × (o ≡ refused r puts)))
+
+-- nothing that the command looks at is refused: its schema or table, its FIELDs, its directories, its query, the input's lines where they are told
 abbrev pub IsAccepted : World → Meaning → Type 0
-IsAccepted before m = (r : Refusal) → WithOutcome m before.keeper before.input (λ o. (puts : List Put) × (o ≡ refused r puts)) → ⊥
+IsAccepted before m = (r : Refusal) → Refuses before m r → ⊥
+
+-- the input is read and isn't told: whether one of its lines is refused isn't known
+abbrev pub IsUntold : World → Meaning → Type 0
+IsUntold before m = ByInput m.reads_input before.input.left ⊤ ⊥
 
 -- an input that isn't read stays
 abbrev pub LeavesInput : Option Meaning → World → World → Type 0
 LeavesInput meant before after = LeavesUnread meant before.input after.input
 
--- a keeper to which nothing is put holds what it held
+-- a keeper to which nothing is put holds what it held, and is asked for no put
 abbrev pub LeavesFiles : Option Meaning → World → World → Type 0
 LeavesFiles meant before after = LeavesUnput meant before.keeper after.keeper
 
@@ -144,10 +166,15 @@ AsksKeeper meant before after = AsksMeant meant before.keeper after.keeper
 abbrev pub LeavesLinks : Option Meaning → World → World → Type 0
 LeavesLinks meant before after = LeavesUnasked meant before.links after.links
 
--- where the words mean something of which nothing is refused, and no count rises, the status is 0 or 5, or 3 where the first link is asked
+-- nor is that one asked for anything but what the command's scan, or its look at a file, needs
+abbrev pub AsksLinks : Option Meaning → World → World → Type 0
+AsksLinks meant before after = AsksFirst meant before.keeper before.input before.links after.links
+
+-- where the words mean something of which nothing is refused, and no count rises, the status is 0 or 5, or 3 where the first link is asked, or 2 where the
+-- input isn't told
 abbrev pub IsComplete : Option Meaning → ℕ → World → World → Type 0
 IsComplete meant status before after = ForMeant meant (IsAccepted before) → IsCalm before after
-    → (status ≡ 0) ⊎ ((status ≡ 5) ⊎ ((status ≡ 3) × ForMeant meant (λ m. m.asks_link ≡ true)))
+    → (status ≡ 0) ⊎ ((status ≡ 5) ⊎ (((status ≡ 3) × ForMeant meant (λ m. m.asks_link ≡ true)) ⊎ ((status ≡ 2) × ForMeant meant (IsUntold before))))
 
 -- the table file that the words name is there; the first link is steady, and tells that of each tablet that the command scans a copy is a file,
 -- for the leaves that it reads
@@ -169,7 +196,24 @@ pub record IsHeldWhole (m : Meaning) (w : World) : Type 0 where
   pub steady : IsTrue first.is_steady
   pub each : EachHasFile scan.schema scan.leaves files scan.tablets
 
--- then no tablet is left
+-- the command looks at a file alone; the first link is steady, and tells that this file has a schema
+pub record IsSchemaHeld (m : Meaning) (w : World) : Type 0 where
+  pub path : List ℕ
+  pub first : LinkShown
+  pub others : List LinkShown
+  pub files : Files
+  pub bytes : List ℕ
+  pub schema : Schema
+  pub names_none : m.file ≡ None
+  pub reads_nothing : m.reads_input ≡ false
+  pub looks_at_it : m.outcome (record { file = []; input = [] }) ≡ looks_at path
+  pub links : w.links ≡ first ∷ others
+  pub tells : first.held ≡ Some files
+  pub steady : IsTrue first.is_steady
+  pub there : files path ≡ Some bytes
+  pub shows : schema_of_file bytes ≡ Ok schema
+
+-- then neither a tablet nor that file is left
 abbrev pub IsServed : Option Meaning → ℕ → World → Type 0
 IsServed None status before = ⊤
-IsServed (Some m) status before = IsHeldWhole m before → status ≢ 3
+IsServed (Some m) status before = IsHeldWhole m before ⊎ IsSchemaHeld m before → status ≢ 3

@@ -9,9 +9,8 @@ pub mod KeeperFile
 pub mod SchemaFile
 pub mod TableFile
 pub mod Fields
--- reading the records of the input
+-- what was read of the records of the input
 pub mod Records
-pub mod Input
 -- what words are answered with
 pub mod Answers
 -- how a run ends

@@ -1,15 +1,15 @@
 -- What a command gives: its text, or what is left.
-use Rattle.std.specs.Prelude.{◌≡◌, ◌≢◌, ℕ, List, [], ◌∷◌, Option, Ok, Err, ⊤}
+use Rattle.std.specs.Prelude.{◌≡◌, ◌≢◌, ℕ, false, List, [], ◌∷◌, Option, Ok, Err, ⊤, IsTrue}
 use Rattle.dr_meaning.specs.SchemaText.{schema_text}
 use Rattle.dr_meaning.specs.Schema.{Schema}
 use Rattle.dr_meaning.specs.Record.{Node}
 use Rattle.dr_formats.specs.File.{FileCause, bad_footer, bad_schema, bad_codec, bad_data, schema_of_file}
-use Rattle.dr_outside.specs.Link.{Files, LinkShown}
+use Rattle.dr_outside.specs.Link.{Files, LinkShown, Holds}
 use Rattle.dr_outside.specs.Faults.{Rose}
 use Rattle.dr_outside.specs.declared.cause.Cause.{Cause}
 use Rattle.dr_outside.specs.declared.cause.Cause.TheVariants.{ReadFailed, BadFooter, BadSchema, BadCodec, BadData}
-use Rattle.dr_serving.specs.Held.{Held, untold, absent, present, held_at}
-use Rattle.dr_serving.specs.Causes.{RisesApart}
+use Rattle.dr_reading.specs.Held.{Held, untold, absent, present, held_at}
+use Rattle.dr_reading.specs.Causes.{RisesApart, is_read}
 use Rattle.dr_reading.specs.Scan.{Scan, joined}
 use Rattle.dr_reading.specs.Given.{AreGiven}
 use Rattle.dr_reading.specs.Left.{LeftTablet, LeavesJust, causes_met}
@@ -58,8 +58,9 @@ IsSchemaCause held BadSchema = HasSchemaCause bad_schema held
 IsSchemaCause held BadCodec = HasSchemaCause bad_codec held
 IsSchemaCause held BadData = HasSchemaCause bad_data held
 
+-- a steady link doesn't fail at a path that it holds
 abbrev pub LeavesFile : List ℕ → Cause → LinkShown → LinkShown → Type 0
-LeavesFile path c l now = IsSchemaCause (held_at l.held path) c × RisesApart l.faults (c ∷ []) now.faults
+LeavesFile path c l now = IsSchemaCause (held_at l.held path) c × (IsTrue l.is_steady → Holds l.held path → is_read c ≡ false) × RisesApart l.faults (c ∷ []) now.faults
 
 abbrev pub IsFileLeft : Outcome → List LinkShown → List LinkShown → Cause → Type 0
 IsFileLeft (looks_at path) links now c = WithFirsts links now (LeavesFile path c)

@@ -1,5 +1,5 @@
 -- What stops a command, and what each stop says of the keeper and of the input.
-use Rattle.std.specs.Prelude.{◌≡◌, ℕ, Bool, true, false, List, [], ◌∷◌, ◌++◌, Option, Some, option_map, Result, Ok, Err, ⊤, ◌⊎◌}
+use Rattle.std.specs.Prelude.{◌≡◌, ℕ, Bool, true, false, List, [], ◌∷◌, ◌++◌, Option, Some, option_map, Result, Ok, Err, ⊤, ◌⊎◌, IsTrue}
 use Rattle.dr_meaning.specs.Schema.{Fields, Schema}
 use Rattle.dr_meaning.specs.SchemaText.{SchemaFault, parse_schema}
 use Rattle.dr_meaning.specs.Lines as line
@@ -11,34 +11,44 @@ use Rattle.dr_file.specs.declared.file_fault.FileFault.{FileFault}
 use Rattle.dr_load.specs.declared.fault.LoadFault.{LoadFault}
 use Rattle.dr_load.specs.Puts.{HasPut, HasPutSome, BreaksOff}
 use Rattle.dr_nested.specs.Faults.{problem_view, path_problem_view}
-use Rattle.dr_json.specs.Faults.{record_problem_view}
+use Rattle.dr_input.specs.Taken.{AcceptsRead}
+use Rattle.dr_input.specs.Faults.{line_problem_view}
+use Rattle.dr_input.specs.declared.fault.LineProblem.{LineProblem}
+use Rattle.dr_input.specs.declared.fault.InputFault.{InputFault}
 use Rattle.dr_outside.specs.Faults.{raised}
 use Rattle.dr_outside.specs.Source.{SourceShown}
-use Rattle.dr_outside.specs.Link.{Files, LinkShown, Request, size_of, bytes_of}
+use Rattle.dr_outside.specs.Link.{Files, LinkShown, Request, Holds, size_of, bytes_of}
 use Rattle.dr_commands.specs.Refusals.{Refusal as Refused, schema_refused, table_refused, field_refused, words_refused, query_refused, line_refused}
-use Rattle.dr_commands.specs.Meaning.{Meaning, Outcome, refused, puts_in, IsEarly}
+use Rattle.dr_commands.specs.Meaning.{Meaning, Outcome, done, refused, scans, looks_at, puts_in, IsEarly}
 use Rattle.dr_commands.specs.declared.words_fault.WordsFault.{WordsFault}
-use Rattle.dr_top.specs.World.{WhereTold, WithOutcome, ForOutcome, HasOutcome, IsOpened}
+use Rattle.dr_top.specs.World.{WhereTold, WithOutcome, ForOutcome, HasOutcome, IsOpened, OpensInput, AcceptsWhole, RefusesEarly}
 use Rattle.dr_top.specs.Reading.{IsLeftWith, IsFileLeft, LeavesFile}
 use Rattle.dr_tablets.specs.Views.{all_left_view}
-use Rattle.dr_top.specs.declared.refusal.LineProblem.{LineProblem}
-use Rattle.dr_load_words.specs.Words.{words_problem_view}
-use Rattle.dr_load_words.specs.declared.words.WordsProblem.{WordsProblem}
-use Rattle.dr_query.specs.Faults.{refusal_of as query_refusal_of}
-use Rattle.dr_query.specs.declared.fault.QueryFault.{QueryFault}
+use Rattle.dr_load.specs.Words.{words_problem_view}
+use Rattle.dr_load.specs.declared.words.WordsProblem.{WordsProblem}
+use Rattle.dr_bind.specs.Faults.{refusal_of as query_refusal_of}
+use Rattle.dr_bind.specs.declared.fault.QueryFault.{QueryFault}
 use Rattle.dr_top.specs.declared.refusal.Refusal.{Refusal}
 use Rattle.dr_top.specs.declared.schema_file.SchemaFileFault.{SchemaFileFault}
 use Rattle.dr_top.specs.declared.table_file.TableFileFault.{TableFileFault}
 use Rattle.dr_top.specs.declared.field.FieldFault.{FieldFault}
-use Rattle.dr_top.specs.declared.input_records.InputFault.{InputFault}
 use Rattle.dr_top.specs.declared.stop.Stop.{Stop}
 
--- ---- refusals
+-- ---- the keeper
 
-abbrev pub line_problem_view : LineProblem → line.LineFault
-line_problem_view LineProblem.TooLong = line.line_too_long
-line_problem_view LineProblem.TooManyRecords = line.too_many_records
-line_problem_view (LineProblem.Record w) = line.no_record (record_problem_view w)
+-- the keeper holds what it held, and was asked for no put
+pub record IsUnput (before now : LinkShown) : Type 0 where
+  pub held : now.held ≡ before.held
+  pub puts : now.puts ≡ before.puts
+
+-- the keeper is steady, and tells that it holds the file that a command names
+pub record KeepsFile (m : Meaning) (keeper : LinkShown) : Type 0 where
+  pub path : List ℕ
+  pub named : m.file ≡ Some path
+  pub steady : IsTrue keeper.is_steady
+  pub holds : Holds keeper.held path
+
+-- ---- refusals
 
 abbrev pub refusal_view : Refusal → Refused
 refusal_view (Refusal.Schema p w) = schema_refused (record { place = p; problem = problem_view w })
@@ -74,7 +84,7 @@ AsksForFile path before now = (more : List Request) × (now.asked ≡ with_reque
 -- why a schema's file gives no schema
 abbrev pub SchemaFileStops : List ℕ → LinkShown → LinkShown → SchemaFileFault → Type 0
 SchemaFileStops path before now SchemaFileFault.NoMemory = now.faults ≡ before.faults
-SchemaFileStops path before now SchemaFileFault.Keeper = now.faults ≡ raised before.faults
+SchemaFileStops path before now SchemaFileFault.Keeper = (now.faults ≡ raised before.faults) × (IsTrue before.is_steady → Holds before.held path → ⊥)
 SchemaFileStops path before now (SchemaFileFault.Refused p w) =
     (now.faults ≡ before.faults) × IsRefusedSchema before.held path (record { place = p; problem = problem_view w })
 
@@ -91,7 +101,7 @@ IsRefusedTable files path e = WhereTold files (λ fs. (bytes : List ℕ) × (fs 
 -- why a table file gives no table
 abbrev pub TableFileStops : List ℕ → LinkShown → LinkShown → TableFileFault → Type 0
 TableFileStops path before now TableFileFault.NoMemory = now.faults ≡ before.faults
-TableFileStops path before now TableFileFault.Keeper = now.faults ≡ raised before.faults
+TableFileStops path before now TableFileFault.Keeper = (now.faults ≡ raised before.faults) × (IsTrue before.is_steady → Holds before.held path → ⊥)
 TableFileStops path before now (TableFileFault.Refused w) = (now.faults ≡ before.faults) × IsRefusedTable before.held path (table_problem_view w)
 
 -- ---- a FIELD
@@ -107,10 +117,10 @@ FieldStops meant (FieldFault.Refused n w) = meant ≡ Err (plain.field_refused n
 abbrev pub IsRefusedLine : Fields → ℕ → Option (List ℕ) → line.Refusal → Type 0
 IsRefusedLine fs most input e = WhereTold input (λ bytes. line.records_of fs most bytes ≡ Err e)
 
--- why an input gives no records
+-- why an input gives no records: memory was wanting; the source failed, and no whole line that it gave is refused; the first refused line
 abbrev pub InputStops : Fields → ℕ → SourceShown → SourceShown → InputFault → Type 0
 InputStops fs most before now InputFault.NoMemory = now.faults ≡ before.faults
-InputStops fs most before now InputFault.Source = now.faults ≡ raised before.faults
+InputStops fs most before now InputFault.Source = (now.faults ≡ raised before.faults) × AcceptsRead fs most 0 before.left now.left
 InputStops fs most before now (InputFault.Refused n w) =
     (now.faults ≡ before.faults) × IsRefusedLine fs most before.left (record { line = n; fault = line_problem_view w })
 
@@ -128,45 +138,64 @@ SchemaStops path link link_now stop = ⊥
 abbrev pub StopsPlain : Meaning → LinkShown → LinkShown → SourceShown → SourceShown → Stop → Type 0
 StopsPlain m keeper keeper_now input input_now Stop.Usage = ⊥
 StopsPlain m keeper keeper_now input input_now Stop.NoMemory = (keeper_now.faults ≡ keeper.faults) × (input_now.faults ≡ input.faults)
-StopsPlain m keeper keeper_now input input_now Stop.Keeper = (keeper_now.faults ≡ raised keeper.faults) × (input_now ≡ input)
-StopsPlain m keeper keeper_now input input_now Stop.Source = (input_now.faults ≡ raised input.faults) × (keeper_now.faults ≡ keeper.faults) × IsOpened m keeper
+StopsPlain m keeper keeper_now input input_now Stop.Keeper = (keeper_now.faults ≡ raised keeper.faults) × (input_now ≡ input) × (KeepsFile m keeper → ⊥)
+StopsPlain m keeper keeper_now input input_now Stop.Source =
+    (input_now.faults ≡ raised input.faults) × (keeper_now.faults ≡ keeper.faults) × IsOpened m keeper × AcceptsWhole m keeper input input_now
 StopsPlain m keeper keeper_now input input_now (Stop.Refused r) =
     (keeper_now.faults ≡ keeper.faults) × (input_now.faults ≡ input.faults) × HasOutcome m keeper input (refused (refusal_view r) [])
-    × (IsEarly (refusal_view r) → input_now ≡ input)
+    × (IsEarly (refusal_view r) → (input_now ≡ input) × RefusesEarly m keeper (refusal_view r))
 StopsPlain m keeper keeper_now input input_now (Stop.Left left) = ⊥
 StopsPlain m keeper keeper_now input input_now (Stop.LeftFile cause) = ⊥
 
--- a front of its puts was done, and no other
+-- without the last
+abbrev pub all_but_last : List Put → List Put
+all_but_last [] = []
+all_but_last (p ∷ []) = []
+all_but_last (p ∷ q ∷ ps) = p ∷ all_but_last (q ∷ ps)
+
+-- the files that a command puts before it is done: the last one of them says that all are there
+abbrev pub puts_before_end : Outcome → List Put
+puts_before_end (done text puts) = all_but_last puts
+puts_before_end (refused r puts) = puts
+puts_before_end (scans s) = []
+puts_before_end (looks_at path) = []
+
+-- a front of its puts was done, in their order, and no other was asked for
 abbrev pub PutsSome : Meaning → LinkShown → LinkShown → SourceShown → Type 0
-PutsSome m keeper keeper_now input = ForOutcome m keeper input (λ o. HasPutSome (puts_in o) keeper.held keeper_now.held)
+PutsSome m keeper keeper_now input = ForOutcome m keeper input (λ o. HasPutSome (puts_in o) keeper keeper_now)
 
--- one of its puts failed
-abbrev pub PutsBreak : Meaning → LinkShown → LinkShown → SourceShown → Type 0
-PutsBreak m keeper keeper_now input = ForOutcome m keeper input (λ o. BreaksOff (puts_in o) keeper.held keeper_now.held)
+-- the same of the puts before it is done
+abbrev pub PutsBeforeEnd : Meaning → LinkShown → LinkShown → SourceShown → Type 0
+PutsBeforeEnd m keeper keeper_now input = ForOutcome m keeper input (λ o. HasPutSome (puts_before_end o) keeper keeper_now)
 
--- its first refusal, before which it has put these files
-abbrev pub IsRefusedSo : Refused → Option Files → Option Files → Outcome → Type 0
-IsRefusedSo r held now o = (puts : List Put) × (o ≡ refused r puts) × HasPut puts held now
+-- one of its puts failed, which is told or not; those before it were done, in their order, and none behind it was asked for
+abbrev pub PutsBreak : Bool → Meaning → LinkShown → LinkShown → SourceShown → Type 0
+PutsBreak told m keeper keeper_now input = ForOutcome m keeper input (λ o. BreaksOff told (puts_in o) keeper keeper_now)
+
+-- its first refusal, before which it has put these files, in this order
+abbrev pub IsRefusedSo : Refused → LinkShown → LinkShown → Outcome → Type 0
+IsRefusedSo r keeper keeper_now o = (puts : List Put) × (o ≡ refused r puts) × HasPut puts keeper keeper_now
 
 -- what a command is stopped by, with what it leaves of the keeper, of the input and of the links
 abbrev pub StopsWith : Meaning → LinkShown → LinkShown → SourceShown → SourceShown → List LinkShown → List LinkShown → Stop → Type 0
 StopsWith m keeper keeper_now input input_now links links_now Stop.Usage = ⊥
 StopsWith m keeper keeper_now input input_now links links_now Stop.NoMemory =
-    (keeper_now.faults ≡ keeper.faults) × (input_now.faults ≡ input.faults) × (PutsSome m keeper keeper_now input ⊎ PutsBreak m keeper keeper_now input)
+    (keeper_now.faults ≡ keeper.faults) × (input_now.faults ≡ input.faults) × (PutsSome m keeper keeper_now input ⊎ PutsBreak false m keeper keeper_now input)
 StopsWith m keeper keeper_now input input_now links links_now Stop.Keeper =
-    (keeper_now.faults ≡ raised keeper.faults) × (input_now.faults ≡ input.faults) × (links_now ≡ links)
-    × (((input_now ≡ input) × (keeper_now.held ≡ keeper.held)) ⊎ PutsBreak m keeper keeper_now input)
+    (keeper_now.faults ≡ raised keeper.faults) × (input_now.faults ≡ input.faults) × (links_now ≡ links) × (KeepsFile m keeper → ⊥)
+    × (((input_now ≡ input) × IsUnput keeper keeper_now) ⊎ (PutsBreak true m keeper keeper_now input × OpensInput m keeper))
 StopsWith m keeper keeper_now input input_now links links_now Stop.Source =
     (input_now.faults ≡ raised input.faults) × (keeper_now.faults ≡ keeper.faults) × (links_now ≡ links)
-    × IsOpened m keeper × PutsSome m keeper keeper_now input
+    × IsOpened m keeper × PutsBeforeEnd m keeper keeper_now input × AcceptsWhole m keeper input input_now
 StopsWith m keeper keeper_now input input_now links links_now (Stop.Refused r) =
     (keeper_now.faults ≡ keeper.faults) × (input_now.faults ≡ input.faults) × (links_now ≡ links)
-    × WithOutcome m keeper input (IsRefusedSo (refusal_view r) keeper.held keeper_now.held) × (IsEarly (refusal_view r) → input_now ≡ input)
+    × WithOutcome m keeper input (IsRefusedSo (refusal_view r) keeper keeper_now)
+    × (IsEarly (refusal_view r) → (input_now ≡ input) × RefusesEarly m keeper (refusal_view r) × HasPut [] keeper keeper_now)
 StopsWith m keeper keeper_now input input_now links links_now (Stop.Left left) =
-    (keeper_now.faults ≡ keeper.faults) × (m.asks_link ≡ true) × (input_now ≡ input) × (keeper_now.held ≡ keeper.held)
+    (keeper_now.faults ≡ keeper.faults) × (m.asks_link ≡ true) × (input_now ≡ input) × IsUnput keeper keeper_now
     × WithOutcome m keeper input (λ o. IsLeftWith o links links_now (all_left_view left.items))
 StopsWith m keeper keeper_now input input_now links links_now (Stop.LeftFile cause) =
-    (keeper_now.faults ≡ keeper.faults) × (m.asks_link ≡ true) × (input_now ≡ input) × (keeper_now.held ≡ keeper.held)
+    (keeper_now.faults ≡ keeper.faults) × (m.asks_link ≡ true) × (input_now ≡ input) × IsUnput keeper keeper_now
     × WithOutcome m keeper input (λ o. IsFileLeft o links links_now cause)
 
 -- the input was read to its end, or left alone where it isn't read

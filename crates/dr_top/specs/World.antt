@@ -5,6 +5,8 @@ use Rattle.dr_outside.specs.Sink.{SinkShown}
 use Rattle.dr_outside.specs.Link.{LinkShown, Files}
 use Rattle.dr_formats.specs.Loading.{Put}
 use Rattle.dr_commands.specs.Refusals.{Refusal}
+use Rattle.dr_input.specs.Whole.{whole_lines}
+use Rattle.dr_input.specs.Taken.{WhereGiven}
 use Rattle.dr_commands.specs.Meaning.{Look, Meaning, Outcome, refused, IsEarly}
 
 -- what each thing outside shows at one moment
@@ -53,6 +55,25 @@ HasOutcome m keeper input o = WithOutcome m keeper input (λ x. x ≡ o)
 abbrev pub IsOpened : Meaning → LinkShown → Type 0
 IsOpened m keeper = WhereFile m.file keeper.held (λ IsIt. (file : List ℕ) × IsIt file
     × ((look : Look) (r : Refusal) (puts : List Put) → look.file ≡ file → IsEarly r → m.outcome look ≡ refused r puts → ⊥))
+
+-- so of an input that is read; nothing is said where none is
+abbrev pub IsOpenedBy : Bool → Meaning → LinkShown → Type 0
+IsOpenedBy false m keeper = ⊤
+IsOpenedBy true m keeper = IsOpened m keeper
+
+abbrev pub OpensInput : Meaning → LinkShown → Type 0
+OpensInput m keeper = IsOpenedBy m.reads_input m keeper
+
+-- whatever the input, the command has this refusal, and puts nothing
+abbrev pub RefusesEarly : Meaning → LinkShown → Refusal → Type 0
+RefusesEarly m keeper r = WhereFile m.file keeper.held (λ IsIt. (file : List ℕ) × IsIt file
+    × ((look : Look) → look.file ≡ file → m.outcome look ≡ refused r []))
+
+-- of the file, and of the whole lines alone that the source gave of the input, the command refuses nothing
+abbrev pub AcceptsWhole : Meaning → LinkShown → SourceShown → SourceShown → Type 0
+AcceptsWhole m keeper input input_now = WhereFile m.file keeper.held (λ IsIt. WhereGiven input.left input_now.left (λ read.
+    (file : List ℕ) × IsIt file
+    × ((r : Refusal) (puts : List Put) → m.outcome (record { file = file; input = whole_lines read }) ≡ refused r puts → ⊥)))
 
 -- P holds of the first link
 abbrev pub WithFirst : List LinkShown → (LinkShown → Type 0) → Type 0

@@ -3,8 +3,9 @@
 ghost use Rattle.std.specs.Prelude.{◌≡◌, ◌≢◌, ◌<◌, length, Err, false, map, string_bytes, IfOk, IfErr, OnOk};
 ghost use Rattle.dr_commands.specs.Commands.{Taken, meaning_of, meant};
 ghost use Rattle.dr_commands.specs.CommandView.{command_view};
-ghost use Rattle.dr_top.specs.Stops.{StopsWith, IsReadBy};
-ghost use Rattle.dr_top.specs.Answers.{Finishes, StopsMeant, AsksFor, AsksMeant, LeavesUnread, LeavesUnput, LeavesUnasked, LeavesLinksBy};
+ghost use Rattle.dr_top.specs.World.{ForOutcome, WithFirsts};
+ghost use Rattle.dr_top.specs.Stops.{IsUnput, StopsWith, IsReadBy};
+ghost use Rattle.dr_top.specs.Answers.{Finishes, StopsMeant, AsksFor, AsksMeant, LeavesUnread, LeavesUnput, LeavesUnasked, LeavesLinksBy, AsksFirst, AsksLink};
 ghost use Rattle.dr_top.specs.Ends.{ForMeant};
 
 mod ask;
@@ -39,10 +40,11 @@ fn command_answer<R: Threads + Sync, S: Source, K: Keeper, L: Link>(
     ensures source_calm { OnOk result ((S.shows source.new).faults ≡ (S.shows source.old).faults) }
     ensures keeper_calm { OnOk result ((K.shows keeper.new).faults ≡ (K.shows keeper.old).faults) }
     ensures stops { IfErr result (StopsWith (meaning_of (command_view command.now)) (K.shows keeper.old) (K.shows keeper.new) (S.shows source.old) (S.shows source.new) (map L.shows links.old) (map L.shows links.new)) }
-    ensures kept { (meaning_of (command_view command.now)).puts_files ≡ false → (K.shows keeper.new).held ≡ (K.shows keeper.old).held }
+    ensures kept { (meaning_of (command_view command.now)).puts_files ≡ false → IsUnput (K.shows keeper.old) (K.shows keeper.new) }
     ensures asks { AsksFor (meaning_of (command_view command.now)).file (K.shows keeper.old) (K.shows keeper.new) }
     ensures unread { (meaning_of (command_view command.now)).reads_input ≡ false → S.shows source.new ≡ S.shows source.old }
     ensures links { LeavesLinksBy (meaning_of (command_view command.now)).asks_link (map L.shows links.old) (map L.shows links.new) }
+    ensures reads { ForOutcome (meaning_of (command_view command.now)) (K.shows keeper.old) (S.shows source.old) (λ o. WithFirsts (map L.shows links.old) (map L.shows links.new) (AsksLink o)) }
 {
     match command {
         Command::Load(load) => load::answer(alloc, load, source, keeper),
@@ -78,6 +80,7 @@ pub fn answer<R: Threads + Sync, S: Source, K: Keeper, L: Link>(
     ensures taken { Taken (map string_bytes words.now) → result ≢ Err Stop.Usage }
     ensures unread { LeavesUnread (meant (map string_bytes words.now)) (S.shows source.old) (S.shows source.new) }
     ensures links { LeavesUnasked (meant (map string_bytes words.now)) (map L.shows links.old) (map L.shows links.new) }
+    ensures reads { AsksFirst (meant (map string_bytes words.now)) (K.shows keeper.old) (S.shows source.old) (map L.shows links.old) (map L.shows links.new) }
 {
     let command = read_words(alloc, words)?;
     command_answer(rt, alloc, &command, source, keeper, links)

@@ -1,9 +1,10 @@
 //! Whole files that the keeper holds.
 
-ghost use Rattle.std.specs.Prelude.{◌≡◌, ◌≢◌, ◌<◌, ◌^◌, Err, IfOk, IfSome, IfNone};
+ghost use Rattle.std.specs.Prelude.{◌≡◌, ◌≢◌, ◌<◌, ◌^◌, Err, IfOk, IfSome, IfNone, IsTrue};
 ghost use Rattle.dr_outside.specs.Faults.{raised};
+ghost use Rattle.dr_outside.specs.Link.{Holds};
 ghost use Rattle.dr_top.specs.KeeperFile.{IsFile, IsLongFile};
-ghost use Rattle.dr_top.specs.Stops.{AsksForFile};
+ghost use Rattle.dr_top.specs.Stops.{IsUnput, AsksForFile};
 
 use dr_outside::{Fault, Keeper};
 use std::alloc::Global;
@@ -23,7 +24,9 @@ pub fn read_file<K: Keeper>(
     ensures long { IfOk result (λ o. IfNone o (IsLongFile (K.shows keeper.old).held path.now longest)) }
     ensures calm { result ≢ Err Fault.Failed → (K.shows keeper.new).faults ≡ (K.shows keeper.old).faults }
     ensures cause { result ≡ Err Fault.Failed → (K.shows keeper.new).faults ≡ raised (K.shows keeper.old).faults }
-    ensures kept { (K.shows keeper.new).held ≡ (K.shows keeper.old).held }
+    ensures kept { IsUnput (K.shows keeper.old) (K.shows keeper.new) }
+    ensures steady { IsTrue (K.shows keeper.old).is_steady → Holds (K.shows keeper.old).held path.now → result ≢ Err Fault.Failed }
+    ensures stays_steady { IsTrue (K.shows keeper.old).is_steady → IsTrue (K.shows keeper.new).is_steady }
     ensures asks { AsksForFile path.now (K.shows keeper.old) (K.shows keeper.new) }
 {
     let size = keeper.size(path)?;

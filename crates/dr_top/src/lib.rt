@@ -4,7 +4,6 @@
 mod commands;
 mod field;
 mod fields;
-mod input_records;
 mod keeper_file;
 mod left_file;
 mod refusal;

@@ -7,28 +7,19 @@ ghost use Rattle.dr_json.specs.Faults.{record_problem_view};
 ghost use Rattle.dr_formats.specs.Reports.{table_fault_name, table_refusal_text, words_refusal_text};
 ghost use Rattle.dr_table.specs.Faults.{problem_view as table_problem_view};
 ghost use Rattle.dr_commands.specs.Refusals.{refusal_text};
-ghost use Rattle.dr_load_words.specs.Words.{words_problem_view};
-ghost use Rattle.dr_query.specs.Faults.{refusal_of as query_refusal_of};
-ghost use Rattle.dr_top.specs.Stops.{line_problem_view, refusal_view};
+ghost use Rattle.dr_load.specs.Words.{words_problem_view};
+ghost use Rattle.dr_bind.specs.Faults.{refusal_of as query_refusal_of};
+ghost use Rattle.dr_input.specs.Faults.{line_problem_view};
+ghost use Rattle.dr_top.specs.Stops.{refusal_view};
 
 use crate::report::Report;
+use dr_bind::QueryProblem;
+use dr_input::LineProblem;
 use dr_json::RecordProblem;
-use dr_load_words::WordsProblem;
+use dr_load::WordsProblem;
 use dr_nested::{PathProblem, SchemaProblem};
-use dr_query::QueryProblem;
 use dr_table::TableProblem;
 use itoa::Buffer;
-
-/// What is wrong with an input line.
-#[derive(Clone, Copy, PartialEq, Eq, Debug)]
-pub enum LineProblem {
-    /// It has more than 1,048,576 bytes.
-    TooLong,
-    /// It is past the greatest number of lines.
-    TooManyRecords,
-    /// It is no record of the schema.
-    Record(RecordProblem),
-}
 
 /// What is refused, in the order in which it is looked at.
 #[derive(Clone, Copy, PartialEq, Eq, Debug)]

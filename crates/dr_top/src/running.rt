@@ -3,7 +3,7 @@
 ghost use Rattle.std.specs.Prelude.{◌≡◌, ◌≢◌, ◌≤◌, ◌⊎◌, length, map, string_bytes};
 ghost use Rattle.dr_commands.specs.Commands.{Taken, meant};
 ghost use Rattle.dr_top.specs.World.{world};
-ghost use Rattle.dr_top.specs.Ends.{Says, Holds, Prints, IsUsage, IsRefused, IsLeft, IsOutside, IsMemory, SameCounts, LeavesInput, LeavesFiles, AsksKeeper, LeavesLinks, IsComplete, IsServed};
+ghost use Rattle.dr_top.specs.Ends.{Says, Holds, Prints, IsUsage, IsRefused, IsLeft, IsOutside, IsMemory, SameCounts, LeavesInput, LeavesFiles, AsksKeeper, AsksLinks, LeavesLinks, IsComplete, IsServed};
 
 use crate::commands::answer;
 use crate::left_file::left_file_report;
@@ -29,7 +29,7 @@ fn say<E: Sink>(err: &mut E, line: &[u8])
 /// keeper failed. 5: want of memory. What isn't 0 has a line on standard error.
 ///
 /// The clauses speak of what the things outside show before the call and after it. The gate is passed on to workers
-/// alone, and no command has any yet: the gate lets nobody through who isn't promised to be admitted.
+/// alone, and no command has any yet.
 pub fn run<
     R: Threads + Sync,
     S: Source,
@@ -85,6 +85,9 @@ pub fn run<
         (world (S.shows source.old) (O.shows out.old) (E.shows err.old) (K.shows keeper.old) (map L.shows links.old))
         (world (S.shows source.new) (O.shows out.new) (E.shows err.new) (K.shows keeper.new) (map L.shows links.new)) }
     ensures links { LeavesLinks (meant (map string_bytes words.now))
+        (world (S.shows source.old) (O.shows out.old) (E.shows err.old) (K.shows keeper.old) (map L.shows links.old))
+        (world (S.shows source.new) (O.shows out.new) (E.shows err.new) (K.shows keeper.new) (map L.shows links.new)) }
+    ensures reads { AsksLinks (meant (map string_bytes words.now))
         (world (S.shows source.old) (O.shows out.old) (E.shows err.old) (K.shows keeper.old) (map L.shows links.old))
         (world (S.shows source.new) (O.shows out.new) (E.shows err.new) (K.shows keeper.new) (map L.shows links.new)) }
     ensures served { IsServed (meant (map string_bytes words.now)) result

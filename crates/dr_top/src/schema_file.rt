@@ -1,11 +1,11 @@
 //! The schema of a file that the keeper holds.
 
-ghost use Rattle.std.specs.Prelude.{◌≡◌, IfOk, IfErr, OnOk};
+ghost use Rattle.std.specs.Prelude.{◌≡◌, IfOk, IfErr, OnOk, IsTrue};
 ghost use Rattle.dr_nested.specs.SchemaView.{schema_view};
 ghost use Rattle.dr_outside.specs.declared.fault.Fault.TheVariants as outside;
 ghost use Rattle.dr_nested.specs.declared.fault.SchemaFault.TheVariants as schema_fault;
 ghost use Rattle.dr_top.specs.SchemaFile.{file_fault, schema_fault_in};
-ghost use Rattle.dr_top.specs.Stops.{IsFileSchema, SchemaFileStops, AsksForFile};
+ghost use Rattle.dr_top.specs.Stops.{IsUnput, IsFileSchema, SchemaFileStops, AsksForFile};
 
 use crate::keeper_file::read_file;
 use dr_nested::{LONGEST_SCHEMA, Schema, SchemaFault, SchemaProblem, parse_schema};
@@ -61,7 +61,8 @@ pub fn read_schema<K: Keeper>(
     ensures schema { IfOk result (λ s. IsFileSchema (K.shows keeper.old).held path.now (schema_view s)) }
     ensures calm { OnOk result ((K.shows keeper.new).faults ≡ (K.shows keeper.old).faults) }
     ensures stops { IfErr result (SchemaFileStops path.now (K.shows keeper.old) (K.shows keeper.new)) }
-    ensures kept { (K.shows keeper.new).held ≡ (K.shows keeper.old).held }
+    ensures kept { IsUnput (K.shows keeper.old) (K.shows keeper.new) }
+    ensures stays_steady { IsTrue (K.shows keeper.old).is_steady → IsTrue (K.shows keeper.new).is_steady }
     ensures asks { AsksForFile path.now (K.shows keeper.old) (K.shows keeper.new) }
 {
     match read_file(alloc, keeper, path, LONGEST_SCHEMA)? {

@@ -5,17 +5,16 @@ ghost use Rattle.dr_top.specs.declared.stop.Stop.TheVariants as stops;
 ghost use Rattle.dr_top.specs.Stops.{words_stop, schema_file_stop, table_file_stop, words_problem_stop, field_stop, query_stop, input_stop, load_stop, file_stop};
 
 use crate::field::FieldFault;
-use crate::input_records::InputFault;
-use crate::refusal::{LineProblem, Refusal};
+use crate::refusal::Refusal;
 use crate::schema_file::SchemaFileFault;
 use crate::table_file::TableFileFault;
+use dr_bind::QueryFault;
 use dr_commands::WordsFault;
 use dr_file::FileFault;
-use dr_load::LoadFault;
-use dr_load_words::WordsProblem;
+use dr_input::{InputFault, LineProblem};
+use dr_load::{LoadFault, WordsProblem};
 use dr_memory::NoMemory;
 use dr_outside::Cause;
-use dr_query::QueryFault;
 use dr_tablets::LeftTablet;
 
 /// Why a command gives no text.
@@ -146,9 +145,10 @@ impl From<InputFault> for Stop {
         match fault {
             InputFault::NoMemory => Stop::NoMemory,
             InputFault::Source => Stop::Source,
-            InputFault::Refused { number, problem } => {
-                Stop::Refused(Refusal::Line { number, problem })
-            }
+            InputFault::Refused { line, problem } => Stop::Refused(Refusal::Line {
+                number: line,
+                problem,
+            }),
         }
     }
 }

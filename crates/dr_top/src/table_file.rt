@@ -1,9 +1,9 @@
 //! The table of a file that the keeper holds.
 
-ghost use Rattle.std.specs.Prelude.{◌≡◌, IfOk, IfErr, OnOk};
+ghost use Rattle.std.specs.Prelude.{◌≡◌, IfOk, IfErr, OnOk, IsTrue};
 ghost use Rattle.dr_table.specs.Views.{table_view};
 ghost use Rattle.dr_top.specs.TableFile.{file_fault, table_fault_in};
-ghost use Rattle.dr_top.specs.Stops.{IsFileTable, TableFileStops, AsksForFile};
+ghost use Rattle.dr_top.specs.Stops.{IsUnput, IsFileTable, TableFileStops, AsksForFile};
 
 use crate::keeper_file::read_file;
 use dr_outside::{Fault, Keeper};
@@ -53,7 +53,8 @@ pub fn read_table_file<K: Keeper>(
     ensures table { IfOk result (λ t. IsFileTable (K.shows keeper.old).held path.now (table_view t)) }
     ensures calm { OnOk result ((K.shows keeper.new).faults ≡ (K.shows keeper.old).faults) }
     ensures stops { IfErr result (TableFileStops path.now (K.shows keeper.old) (K.shows keeper.new)) }
-    ensures kept { (K.shows keeper.new).held ≡ (K.shows keeper.old).held }
+    ensures kept { IsUnput (K.shows keeper.old) (K.shows keeper.new) }
+    ensures stays_steady { IsTrue (K.shows keeper.old).is_steady → IsTrue (K.shows keeper.new).is_steady }
     ensures asks { AsksForFile path.now (K.shows keeper.old) (K.shows keeper.new) }
 {
     match read_file(alloc, keeper, path, LONGEST_TABLE)? {

@@ -1,5 +1,5 @@
 -- What is gathered of partials: of two lists of them, from what is gathered of each.
-use Rattle.std.specs.Prelude.{◌≡◌, ◌≤◌, ℕ, ◌+◌, ◌*◌, ◌^◌, ◌++◌, List, [], ◌∷◌, map, length, drop, get_or, Some, None}
+use Rattle.std.specs.Prelude.{◌≡◌, ◌≤◌, ℕ, ◌+◌, ◌^◌, ◌++◌, List, [], ◌∷◌, map, length, drop, get_or, Some, None}
 use Rattle.std.specs.List.{list_all}
 use Rattle.std.proofs.Common.{refl, sym, ap, ap₂, ◌∙◌, subst, arith, length-append}
 use Rattle.std.proofs.lemmas.Bool.{and_parts}
@@ -22,7 +22,7 @@ use Rattle.dr_tree.specs.Views.{tree_view, trees_view}
 use Rattle.dr_tree.specs.declared.tree.Tree as code
 use Rattle.dr_tree.specs.declared.tree.Tree.TheVariants as variants
 use Rattle.dr_tree.proofs.ViewLemmas.{view-leaf, tablets_apart, gathered_apart}
-use Rattle.dr_tree.specs.Together.{AllCanBe, AreBounded, AreOfPlan, IsBounded, IsGathered, IsMerged, Together, partials_view}
+use Rattle.dr_tree.specs.Together.{CanBeTogether, AreBounded, AreOfPlan, IsBounded, IsGathered, IsMerged, Together, partials_view}
 
 -- ---- a greater bound
 
@@ -51,40 +51,49 @@ of_plan_parts : (p : Planned) (ps qs : List Partial) → AreOfPlan p (ps ++ qs) 
 of_plan_parts p [] qs h = (tt, h)
 of_plan_parts p (r ∷ ps) qs h = let k = of_plan_parts p ps qs h.1 in ((h.0, k.0), k.1)
 
-bounded_parts : (m : ℕ) (ps qs : List meant.Partial) → AllCanBe m (ps ++ qs) → AllCanBe m ps × AllCanBe m qs
-bounded_parts m [] qs h = (tt, h)
-bounded_parts m (r ∷ ps) qs h = let k = bounded_parts m ps qs h.1 in ((h.0, k.0), k.1)
+bounded_parts : (n : ℕ) (ps qs : List meant.Partial) → CanBeTogether n (ps ++ qs) → (m : ℕ) × (k : ℕ) × (m + k ≤ n) × CanBeTogether m ps × CanBeTogether k qs
+bounded_parts n [] qs h = (0, n, omega arith, tt, h)
+bounded_parts n (r ∷ ps) qs h =
+    let k = bounded_parts h.1 ps qs h.4 in
+    (h.0 + k.0, k.1, omega (arith, h.2, k.2), (h.0, k.0, omega arith, h.3, k.3), k.4)
 
-pub are_bounded_parts : (fs : Fields) (q : Query) (m : ℕ) (ps qs : List Partial) → AreBounded fs q m (partials_view (ps ++ qs))
-    → AreBounded fs q m (partials_view ps) × AreBounded fs q m (partials_view qs)
-are_bounded_parts fs q m ps qs h =
+-- of two lists that can be of so many values together, each can be of a part of these
+abbrev Parts : Fields → Query → ℕ → List Partial → List Partial → Type 0
+Parts fs q n ps qs = (m : ℕ) × (k : ℕ) × (m + k ≤ n) × AreBounded fs q m (partials_view ps) × AreBounded fs q k (partials_view qs)
+
+pub are_bounded_parts : (fs : Fields) (q : Query) (n : ℕ) (ps qs : List Partial) → AreBounded fs q n (partials_view (ps ++ qs)) → Parts fs q n ps qs
+are_bounded_parts fs q n ps qs h =
     let e : partials_view (ps ++ qs) ≡ partials_view ps ++ partials_view qs = map-append partial_view ps qs in
     let all = and_parts _ _ (sym (list_all-append (is_partial fs q) (partials_view ps) (partials_view qs)) ∙ sym (ap (list_all (is_partial fs q)) e) ∙ h.partials) in
-    let bound = bounded_parts m (partials_view ps) (partials_view qs) (subst (AllCanBe m) e h.bounded) in
-    (record { partials = all.0; bounded = bound.0 }, record { partials = all.1; bounded = bound.1 })
+    let bound = bounded_parts n (partials_view ps) (partials_view qs) (subst (CanBeTogether n) e h.bounded) in
+    (bound.0, bound.1, bound.2, record { partials = all.0; bounded = bound.3 }, record { partials = all.1; bounded = bound.4 })
 
 -- those of one list go together where both do
 pub first_together : (ps qs : List Partial) → Together (ps ++ qs) → Together ps
-first_together ps qs h = record {
-  plan = h.plan;
-  of_plan = (of_plan_parts h.plan ps qs h.of_plan).0;
-  fields = h.fields;
-  query = h.query;
-  most = h.most;
-  bounds = (are_bounded_parts h.fields h.query h.most ps qs h.bounds).0;
-  room = let r = h.room in let e = ap (λ n. n * h.most) (length-append ps qs) in omega (arith, r, e);
-}
+first_together ps qs h =
+    let parts = are_bounded_parts h.fields h.query h.most ps qs h.bounds in
+    record {
+      plan = h.plan;
+      of_plan = (of_plan_parts h.plan ps qs h.of_plan).0;
+      fields = h.fields;
+      query = h.query;
+      most = parts.0;
+      bounds = parts.3;
+      room = let r = h.room in omega (arith, r, parts.2);
+    }
 
 pub second_together : (ps qs : List Partial) → Together (ps ++ qs) → Together qs
-second_together ps qs h = record {
-  plan = h.plan;
-  of_plan = (of_plan_parts h.plan ps qs h.of_plan).1;
-  fields = h.fields;
-  query = h.query;
-  most = h.most;
-  bounds = (are_bounded_parts h.fields h.query h.most ps qs h.bounds).1;
-  room = let r = h.room in let e = ap (λ n. n * h.most) (length-append ps qs) in omega (arith, r, e);
-}
+second_together ps qs h =
+    let parts = are_bounded_parts h.fields h.query h.most ps qs h.bounds in
+    record {
+      plan = h.plan;
+      of_plan = (of_plan_parts h.plan ps qs h.of_plan).1;
+      fields = h.fields;
+      query = h.query;
+      most = parts.1;
+      bounds = parts.4;
+      room = let r = h.room in omega (arith, r, parts.2);
+    }
 
 -- ---- what is gathered of each
 
@@ -94,7 +103,7 @@ pub gathered_alike : {ts us : List ℕ} {f g : (ℕ → meant.Partial) → meant
 gathered_alike ps qs a b h x y = let k = of_plan_parts h.plan ps qs h.of_plan in alike h.plan a b (x.of_plan h.plan k.0) (y.of_plan h.plan k.1)
 
 pub gathered_room : {ts : List ℕ} {f : (ℕ → meant.Partial) → meant.Partial} (ps : List Partial) (a : Partial) → Together ps → IsGathered ts f ps a → PartialCanBeOf (2 ^ 60) (partial_view a)
-gathered_room ps a h x = partial_more (length ps * h.most) (2 ^ 60) h.room (partial_view a) (x.bounded h.fields h.query h.most h.bounds).1
+gathered_room ps a h x = partial_more h.most (2 ^ 60) h.room (partial_view a) (x.bounded h.fields h.query h.most h.bounds).1
 
 -- a list of the same length is cut at the same place
 same_parts : {A : Type 0} (ws bs cs ds : List A) → length ws ≡ length cs → ws ++ bs ≡ cs ++ ds → (ws ≡ cs) × (bs ≡ ds)
@@ -118,16 +127,15 @@ merged_gathered ts us f g ps qs a b r l x y m = record { gathered = gathers; of_
     of_one : (p : Planned) → AreOfPlan p (ps ++ qs) → IsPartialOf p r
     of_one p h = m.of_plan p (x.of_plan p (of_plan_parts p ps qs h).0)
 
-    bound : (fs : Fields) (q : Query) (n : ℕ) → AreBounded fs q n (partials_view (ps ++ qs)) → IsBounded fs q (length (ps ++ qs) * n) (partial_view r)
+    bound : (fs : Fields) (q : Query) (n : ℕ) → AreBounded fs q n (partials_view (ps ++ qs)) → IsBounded fs q n (partial_view r)
     bound fs q n h =
         let parts = are_bounded_parts fs q n ps qs h in
-        let c = x.bounded fs q n parts.0 in
-        let d = y.bounded fs q n parts.1 in
-        let sizes : length ps * n + length qs * n ≡ length (ps ++ qs) * n = sym (ap (λ k. k * n) (length-append ps qs) ∙ omega arith) in
-        subst (IsBounded fs q (length (ps ++ qs) * n)) (sym m.partial) (
+        let c = x.bounded fs q parts.0 parts.3 in
+        let d = y.bounded fs q parts.1 parts.4 in
+        subst (IsBounded fs q n) (sym m.partial) (
           merged_is_partial fs q (partial_view a) (partial_view b) c.0 d.0,
-          subst (λ k. PartialCanBeOf k (meant.merge (partial_view a) (partial_view b))) sizes
-              (bounds_add_up fs q (length ps * n) (length qs * n) (partial_view a) (partial_view b) c.0 d.0 c.1 d.1),
+          partial_more (parts.0 + parts.1) n parts.2 (meant.merge (partial_view a) (partial_view b))
+              (bounds_add_up fs q parts.0 parts.1 (partial_view a) (partial_view b) c.0 d.0 c.1 d.1),
         )
 
 -- of one alone it is that one
@@ -135,11 +143,16 @@ only_gathered : (t : ℕ) (a : Partial) → IsGathered (t ∷ []) (λ piece. pie
 only_gathered t a = record {
   gathered = λ piece h. sym (ap (λ zs. get_or zs 0 (piece t)) h);
   of_plan = λ p h. h.0;
-  bounded = λ fs q m h. ((and_parts _ _ h.partials).0, partial_more m (1 * m) (omega arith) (partial_view a) h.bounded.0);
+  bounded = λ fs q m h. ((and_parts _ _ h.partials).0, let b = h.bounded in partial_more b.0 m (let le = b.2 in omega (arith, le)) (partial_view a) b.3);
 }
 
-pub one_gathered : (t : ℕ) (ps : List Partial) (a : Partial) → ps ≡ a ∷ [] → IsGathered (t ∷ []) (λ piece. piece t) ps a
+one_gathered : (t : ℕ) (ps : List Partial) (a : Partial) → ps ≡ a ∷ [] → IsGathered (t ∷ []) (λ piece. piece t) ps a
 one_gathered t ps a e = subst (λ (qs : List Partial). IsGathered (t ∷ []) (λ piece. piece t) qs a) (sym e) (only_gathered t a)
+
+-- the last of a list of one is the only one
+pub the_only : (t : ℕ) (ps rest : List Partial) (a : Partial) → length ps ≡ 1 → ps ≡ rest ++ a ∷ [] → IsGathered (t ∷ []) (λ piece. piece t) ps a
+the_only t ps [] a l e = one_gathered t ps a e
+the_only t ps (r ∷ rest) a l e = absurd (let n = ap length e in let m = length-append rest (a ∷ []) in omega (arith, l, n, m))
 
 -- of a leaf server it is the tablet's own
 pub leaf_gathered : (t : ℕ) (tree : code.Tree) (ps : List Partial) (r : Partial) → tree ≡ variants.Leaf t → IsGathered (t ∷ []) (λ piece. piece t) ps r
@@ -154,5 +167,5 @@ pub gathered_children : (first : List ℕ) (p : (ℕ → meant.Partial) → mean
 gathered_children first p rest front last ps qs all r e f h = record {
   gathered = λ piece k. h.gathered piece (ap (map piece) (sym (tablets_apart first rest front last e)) ∙ (k ∙ ap partials_view (sym f))) ∙ sym (gathered_apart piece (p piece) rest front last e);
   of_plan = λ q k. h.of_plan q (subst (AreOfPlan q) (sym f) k);
-  bounded = λ fs q m k. subst (λ xs. IsBounded fs q (length xs * m) (partial_view r)) f (h.bounded fs q m (subst (λ xs. AreBounded fs q m (partials_view xs)) (sym f) k));
+  bounded = λ fs q m k. h.bounded fs q m (subst (λ xs. AreBounded fs q m (partials_view xs)) (sym f) k);
 }

@@ -1,5 +1,5 @@
 -- Partials that are gathered together.
-use Rattle.std.specs.Prelude.{◌≡◌, ℕ, ◌*◌, ◌^◌, ◌≤◌, ⊤, true, List, [], ◌∷◌, map, length}
+use Rattle.std.specs.Prelude.{◌≡◌, ℕ, ◌+◌, ◌^◌, ◌≤◌, ⊤, true, List, [], ◌∷◌, map}
 use Rattle.std.specs.List.{list_all}
 use Rattle.dr_meaning.specs.Schema.{Fields}
 use Rattle.dr_meaning.specs.Query.{Query}
@@ -18,15 +18,15 @@ abbrev pub AreOfPlan : Planned → List Partial → Type 0
 AreOfPlan p [] = ⊤
 AreOfPlan p (r ∷ rs) = IsPartialOf p r × AreOfPlan p rs
 
--- each of them can be of so many values
-abbrev pub AllCanBe : ℕ → List meant.Partial → Type 0
-AllCanBe m [] = ⊤
-AllCanBe m (p ∷ ps) = PartialCanBeOf m p × AllCanBe m ps
+-- they can be of so many values together: the first of some, the others of the rest
+abbrev pub CanBeTogether : ℕ → List meant.Partial → Type 0
+CanBeTogether n [] = ⊤
+CanBeTogether n (p ∷ ps) = (m : ℕ) × (k : ℕ) × (m + k ≤ n) × PartialCanBeOf m p × CanBeTogether k ps
 
--- partials of one plan and of one query, each of which can be of so many values
+-- partials of one query, which can be of so many values together
 pub record AreBounded (fs : Fields) (q : Query) (most : ℕ) (ps : List meant.Partial) : Type 0 where
   pub partials : list_all (is_partial fs q) ps ≡ true
-  pub bounded : AllCanBe most ps
+  pub bounded : CanBeTogether most ps
 
 -- they can be merged, all together
 pub record Together (ps : List Partial) : Type 0 where
@@ -36,7 +36,7 @@ pub record Together (ps : List Partial) : Type 0 where
   pub query : Query
   pub most : ℕ
   pub bounds : AreBounded fields query most (partials_view ps)
-  pub room : length ps * most ≤ 2 ^ 60
+  pub room : most ≤ 2 ^ 60
 
 -- it is a partial of the query, and can be of so many values
 abbrev pub IsBounded : Fields → Query → ℕ → meant.Partial → Type 0
@@ -47,7 +47,7 @@ IsBounded fs q n p = (is_partial fs q p ≡ true) × PartialCanBeOf n p
 pub record IsGathered (tablets : List ℕ) (gathers : (ℕ → meant.Partial) → meant.Partial) (ps : List Partial) (r : Partial) : Type 0 where
   pub gathered : (piece : ℕ → meant.Partial) → map piece tablets ≡ partials_view ps → partial_view r ≡ gathers piece
   pub of_plan : (p : Planned) → AreOfPlan p ps → IsPartialOf p r
-  pub bounded : (fs : Fields) (q : Query) (most : ℕ) → AreBounded fs q most (partials_view ps) → IsBounded fs q (length ps * most) (partial_view r)
+  pub bounded : (fs : Fields) (q : Query) (most : ℕ) → AreBounded fs q most (partials_view ps) → IsBounded fs q most (partial_view r)
 
 -- two partials of one plan, merged
 pub record IsMerged (a b r : Partial) : Type 0 where

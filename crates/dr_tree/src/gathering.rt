@@ -1,6 +1,6 @@
 //! What a tree gathers of the partials of its tablets.
 
-ghost use Rattle.std.specs.Prelude.{◌≡◌, ◌++◌, ◌∷◌, [], ◌*◌, ◌^◌, ℕ, IfOk, length, map};
+ghost use Rattle.std.specs.Prelude.{◌≡◌, ◌++◌, ◌∷◌, [], ◌^◌, ℕ, IfOk, length, map};
 ghost use Rattle.dr_partials.specs.PartialBounds.{PartialCanBeOf};
 ghost use denote.Param.Send.{IsSync};
 ghost use Rattle.dr_meaning.specs.Schema.{Fields};
@@ -34,7 +34,7 @@ pub fn gather<R: Threads + Sync>(
         → partial_view r ≡ gathered piece (tree_view tree.now)) }
     ensures of_plan { IfOk result (λ r. (p : Planned) → AreOfPlan p partials.items → IsPartialOf p r) }
     ensures bounded { IfOk result (λ r. (fs : Fields) (q : Query) (most : ℕ) → AreBounded fs q most (partials_view partials.items)
-        → IsBounded fs q (length partials.items * most) (partial_view r)) }
+        → IsBounded fs q most (partial_view r)) }
 {
     gather_tree(rt, alloc, tree, partials)
 }

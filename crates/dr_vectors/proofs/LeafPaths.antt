@@ -1,7 +1,7 @@
 -- Paths, levels and orders of leaves, by computation.
 use Rattle.std.specs.Prelude.{◌≡◌, ℕ, List, [], ◌∷◌, map, Ok, codes, refl}
 use Rattle.dr_meaning.specs.Schema.{Repetition, Fields, no_fields, field, leaf, group, required, optional, repeated, bool_kind, int32_kind, int64_kind, text_kind}
-use Rattle.dr_meaning.specs.Path.{Step, Leaf, find_leaf, chain, level, common, max_repetition, max_definition, leaves}
+use Rattle.dr_meaning.specs.Path.{Step, find_leaf, chain, level, common, max_repetition, max_definition, leaves}
 use Rattle.dr_meaning.specs.Expression.{longest_level}
 use Rattle.dr_meaning.specs.Automaton.{schema_order, reading_order}
 use Rattle.dr_meaning.proofs.WorkedSchemas.{document}

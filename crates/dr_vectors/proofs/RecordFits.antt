@@ -1,5 +1,5 @@
 -- Nodes that are records of a schema, and nodes that are none, by computation.
-use Rattle.std.specs.Prelude.{◌≡◌, ℕ, List, [], ◌∷◌, map, Bool, true, false, ℤ, pos, neg_ℤ, codes, refl}
+use Rattle.std.specs.Prelude.{◌≡◌, ℕ, List, [], ◌∷◌, map, true, false, ℤ, pos, neg_ℤ, codes, refl}
 use Rattle.std.specs.Str.{is_utf8, chars}
 use Rattle.dr_meaning.specs.Schema.{Fields, no_fields, field, leaf, group, required, optional, repeated, int32_kind, text_kind}
 use Rattle.dr_meaning.specs.Record.{Node, no_slots, slot, gap, Instances, no_instances, instance, single, atom, inner, int_value, text_value, is_record, project}

@@ -1,14 +1,14 @@
--- The names that items put into objects, and the tree of a result's objects, by computation.
+-- The lists that lead from object to object, and the tree of a result's objects, by computation.
 use Rattle.std.specs.Prelude.{◌≡◌, ℕ, List, [], ◌∷◌, map, Bool, true, false, filter, codes, refl}
 use Rattle.std.specs.List.{list_any}
 use Rattle.dr_meaning.specs.Schema.{Fields, no_fields, field, leaf, group, required, optional, repeated, int64_kind, text_kind}
 use Rattle.dr_meaning.specs.Path.{Step, Leaf, begins_with, same_path, leaves}
 use Rattle.dr_meaning.specs.Query.{levels_of}
-use Rattle.dr_meaning.specs.Binding.{entry_name, is_named}
+use Rattle.dr_meaning.specs.Binding.{list_between, is_named}
 use Rattle.dr_meaning.specs.QueryLeaves.{in_reading_order}
 use Rattle.dr_plan.specs.Objects.{object_tree, no_lists, list_tree}
-use Rattle.dr_objects.specs.NamedLevels.{joined, no_named, named}
-use Rattle.dr_objects.specs.Trees.{named_object}
+use Rattle.dr_planning.specs.NamedLevels.{joined, no_named, named}
+use Rattle.dr_planning.specs.Trees.{named_object}
 use Rattle.dr_meaning.proofs.WorkedSchemas.{document}
 use Rattle.dr_meaning.proofs.WorkedPaths.{backward, forward, name, language_level}
 
@@ -20,18 +20,18 @@ document_levels = refl
 pub nested_levels : (begins_with name language_level ≡ true) × (begins_with language_level name ≡ false) × (same_path language_level language_level ≡ true)
 nested_levels = (refl, refl, refl)
 
--- whether an item of this name and level puts a name into the object of a level
-abbrev puts : List Step → List ℕ → List Step → List ℕ → Bool
-puts object item level wanted = is_named wanted (entry_name (levels_of document) object item level)
+-- whether a list of this name leads from the object of a level to an item of another one
+abbrev leads : List Step → List Step → List ℕ → Bool
+leads object level wanted = is_named wanted (list_between (levels_of document) object level)
 
--- the list on the way to the item's level, or in the object of that level its own name
-pub put_names : (puts [] (codes "Cnt") name (codes "Name") ≡ true) × (puts name (codes "Cnt") name (codes "Cnt") ≡ true)
-    × (puts name (codes "Code") language_level (codes "Language") ≡ true) × (puts [] (codes "b") backward (codes "Links.Backward") ≡ true)
-put_names = (refl, refl, refl, refl)
+-- the next list on the way
+pub lists_on_the_way : (leads [] name (codes "Name") ≡ true) × (leads [] language_level (codes "Name") ≡ true)
+    × (leads name language_level (codes "Language") ≡ true) × (leads [] backward (codes "Links.Backward") ≡ true)
+lists_on_the_way = (refl, refl, refl, refl)
 
-pub no_other_names : (puts [] (codes "Cnt") name (codes "Cnt") ≡ false) × (puts [] (codes "b") backward (codes "Links") ≡ false)
-    × (puts name (codes "b") backward (codes "Links.Backward") ≡ false) × (puts language_level (codes "Cnt") name (codes "Cnt") ≡ false)
-no_other_names = (refl, refl, refl, refl)
+pub no_lists_elsewhere : (leads name name (codes "Name") ≡ false) × (leads [] backward (codes "Links") ≡ false) × (leads name backward (codes "Links.Backward") ≡ false)
+    × (leads language_level name (codes "Name") ≡ false) × (leads [] language_level (codes "Language") ≡ false) × (leads [] [] (codes "Name") ≡ false)
+no_lists_elsewhere = (refl, refl, refl, refl, refl, refl)
 
 -- objects nest as levels: the items at the top, and each below the lists on the way to its level
 pub nested_objects : named_object (language_level ∷ [] ∷ forward ∷ [] ∷ backward ∷ []) (joined (levels_of document)) ≡

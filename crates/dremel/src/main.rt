@@ -4,11 +4,12 @@
 use dr_files::{DirKeeper, DirLink, Incoming, Outgoing};
 use dr_outside::OpenGate;
 use dr_top::run;
+use std::io::ErrorKind;
 use std::process::ExitCode;
 use std::{env, fs, io};
 
-/// The most leaves that a tree may have.
-const MOST_LEAVES: usize = 16;
+/// The number of links: each of at most so many workers reads by one of its own.
+const LINKS: usize = 16;
 
 /// The device that holds nothing.
 const NOTHING: &str = "/dev/null";
@@ -20,9 +21,14 @@ fn main(rt: HostRuntime) -> io::Result<ExitCode> {
     let _output = fs::open(&rt, NOTHING);
     let _error = fs::open(&rt, NOTHING);
     let alloc = rt.alloc();
-    let words: Vec<String> = env::args(&rt)?.collect(alloc)?;
+    let words: Vec<String> = match env::args(&rt) {
+        Ok(words) => words.collect(alloc)?,
+        // A word isn't UTF-8. No words ask for nothing.
+        Err(error) if error.kind() == ErrorKind::InvalidData => Vec::new(alloc),
+        Err(error) => return Err(error),
+    };
     let mut links = Vec::new(alloc);
-    'links: for _ in 0..MOST_LEAVES {
+    'links: for _ in 0..LINKS {
         links.push(DirLink::new(alloc, rt))?;
     }
     let status = run(

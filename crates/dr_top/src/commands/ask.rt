@@ -3,15 +3,15 @@
 ghost use Rattle.std.specs.Prelude.{◌≡◌, [], true, string_bytes, IfOk, IfErr, OnOk};
 ghost use Rattle.dr_commands.specs.Meaning.{done};
 ghost use Rattle.dr_commands.specs.Ask.{ask_meaning, ask_view};
-ghost use Rattle.dr_top.specs.World.{HasOutcome};
-ghost use Rattle.dr_top.specs.Stops.{StopsPlain, IsReadBy, AsksForFile};
+ghost use Rattle.dr_top.specs.World.{HasOutcome, IsOpened};
+ghost use Rattle.dr_top.specs.Stops.{IsUnput, StopsPlain, IsReadBy, AsksForFile};
 
 use crate::schema_file::read_schema;
 use crate::stop::Stop;
 use dr_ask::ask_input;
+use dr_bind::read_query;
 use dr_commands::Ask;
 use dr_outside::{Keeper, Source};
-use dr_query::read_query;
 use std::alloc::Global;
 use std::thread::Threads;
 
@@ -27,11 +27,12 @@ pub fn answer<R: Threads + Sync, S: Source, K: Keeper>(
     keeper: &mut K,
 ) -> Result<String, Stop>
     ensures text { IfOk result (λ t. HasOutcome (ask_meaning (ask_view words.now)) (K.shows keeper.old) (S.shows source.old) (done (string_bytes t) [])) }
+    ensures opened { OnOk result (IsOpened (ask_meaning (ask_view words.now)) (K.shows keeper.old)) }
     ensures read { OnOk result (IsReadBy true (S.shows source.old) (S.shows source.new)) }
     ensures source_calm { OnOk result ((S.shows source.new).faults ≡ (S.shows source.old).faults) }
     ensures keeper_calm { OnOk result ((K.shows keeper.new).faults ≡ (K.shows keeper.old).faults) }
     ensures stops { IfErr result (StopsPlain (ask_meaning (ask_view words.now)) (K.shows keeper.old) (K.shows keeper.new) (S.shows source.old) (S.shows source.new)) }
-    ensures kept { (K.shows keeper.new).held ≡ (K.shows keeper.old).held }
+    ensures kept { IsUnput (K.shows keeper.old) (K.shows keeper.new) }
     ensures asks { AsksForFile (string_bytes (words.now).schema) (K.shows keeper.old) (K.shows keeper.new) }
 {
     let schema = read_schema(alloc, keeper, words.schema.as_str())?;

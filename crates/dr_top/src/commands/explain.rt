@@ -5,13 +5,13 @@ ghost use Rattle.dr_outside.specs.Source.{SourceShown};
 ghost use Rattle.dr_commands.specs.Meaning.{done};
 ghost use Rattle.dr_commands.specs.Explain.{explain_meaning, explain_view};
 ghost use Rattle.dr_top.specs.World.{HasOutcome};
-ghost use Rattle.dr_top.specs.Stops.{StopsPlain, AsksForFile};
+ghost use Rattle.dr_top.specs.Stops.{IsUnput, StopsPlain, AsksForFile};
 
 use crate::schema_file::read_schema;
 use crate::stop::Stop;
+use dr_bind::read_query;
 use dr_commands::Explain;
 use dr_outside::Keeper;
-use dr_query::read_query;
 use dr_rewrite::rewriting_text;
 use std::alloc::Global;
 
@@ -22,7 +22,7 @@ pub fn answer<K: Keeper>(alloc: Global, words: &Explain, keeper: &mut K) -> Resu
     ensures text { (input : SourceShown) → IfOk result (λ t. HasOutcome (explain_meaning (explain_view words.now)) (K.shows keeper.old) input (done (string_bytes t) [])) }
     ensures keeper_calm { OnOk result ((K.shows keeper.new).faults ≡ (K.shows keeper.old).faults) }
     ensures stops { (input : SourceShown) → IfErr result (StopsPlain (explain_meaning (explain_view words.now)) (K.shows keeper.old) (K.shows keeper.new) input input) }
-    ensures kept { (K.shows keeper.new).held ≡ (K.shows keeper.old).held }
+    ensures kept { IsUnput (K.shows keeper.old) (K.shows keeper.new) }
     ensures asks { AsksForFile (string_bytes (words.now).schema) (K.shows keeper.old) (K.shows keeper.new) }
 {
     let schema = read_schema(alloc, keeper, words.schema.as_str())?;

@@ -8,7 +8,7 @@ ghost use Rattle.dr_outside.specs.Source.{SourceShown};
 ghost use Rattle.dr_commands.specs.Meaning.{done};
 ghost use Rattle.dr_commands.specs.Fsm.{fsm_meaning, fsm_view};
 ghost use Rattle.dr_top.specs.World.{HasOutcome};
-ghost use Rattle.dr_top.specs.Stops.{StopsPlain, AsksForFile};
+ghost use Rattle.dr_top.specs.Stops.{IsUnput, StopsPlain, AsksForFile};
 
 use crate::fields::find_fields;
 use crate::schema_file::read_schema;
@@ -36,7 +36,7 @@ pub fn answer<K: Keeper>(alloc: Global, fsm: &Fsm, keeper: &mut K) -> Result<Str
     ensures text { (input : SourceShown) → IfOk result (λ t. HasOutcome (fsm_meaning (fsm_view fsm.now)) (K.shows keeper.old) input (done (string_bytes t) [])) }
     ensures keeper_calm { OnOk result ((K.shows keeper.new).faults ≡ (K.shows keeper.old).faults) }
     ensures stops { (input : SourceShown) → IfErr result (StopsPlain (fsm_meaning (fsm_view fsm.now)) (K.shows keeper.old) (K.shows keeper.new) input input) }
-    ensures kept { (K.shows keeper.new).held ≡ (K.shows keeper.old).held }
+    ensures kept { IsUnput (K.shows keeper.old) (K.shows keeper.new) }
     ensures asks { AsksForFile (string_bytes (fsm.now).schema) (K.shows keeper.old) (K.shows keeper.new) }
 {
     let schema = read_schema(alloc, keeper, fsm.schema.as_str())?;

@@ -9,8 +9,7 @@ ghost use Rattle.dr_top.specs.Stops.{StopsWith, IsReadBy, AsksForFile};
 use crate::schema_file::read_schema;
 use crate::stop::Stop;
 use dr_commands::Load;
-use dr_load::{Plan, load};
-use dr_load_words::{check_words, loaded_line};
+use dr_load::{Plan, check_words, load, loaded_line};
 use dr_outside::{Keeper, Source};
 use std::alloc::Global;
 

@@ -4,15 +4,17 @@ ghost use Rattle.std.specs.Prelude.{◌≡◌, ◌∷◌, List, string_bytes, If
 ghost use Rattle.dr_outside.specs.Source.{SourceShown};
 ghost use Rattle.dr_outside.specs.Link.{LinkShown};
 ghost use Rattle.dr_commands.specs.Query.{query_meaning, query_view};
-ghost use Rattle.dr_top.specs.World.{WithOutcome};
+ghost use Rattle.dr_top.specs.World.{WithOutcome, ForOutcome};
+ghost use Rattle.dr_top.specs.Answers.{AsksLink};
 ghost use Rattle.dr_top.specs.Reading.{HasText};
-ghost use Rattle.dr_top.specs.Stops.{StopsWith, AsksForFile};
+ghost use Rattle.dr_top.specs.Stops.{IsUnput, StopsWith, AsksForFile};
 
 use crate::stop::Stop;
 use crate::table_file::read_table_file;
+use dr_bind::read_query;
 use dr_commands::Query;
 use dr_outside::{Keeper, Link};
-use dr_query::{Queried, query_table, read_query};
+use dr_query::{Queried, query_table};
 use std::alloc::Global;
 use std::thread::Threads;
 
@@ -29,8 +31,9 @@ pub fn answer<R: Threads + Sync, K: Keeper, L: Link>(
     ensures text { (input : SourceShown) (links : List LinkShown) → IfOk result (λ t. WithOutcome (query_meaning (query_view words.now)) (K.shows keeper.old) input (λ o. HasText o (L.shows link.old ∷ links) (string_bytes t))) }
     ensures keeper_calm { OnOk result ((K.shows keeper.new).faults ≡ (K.shows keeper.old).faults) }
     ensures stops { (input : SourceShown) (links : List LinkShown) → IfErr result (StopsWith (query_meaning (query_view words.now)) (K.shows keeper.old) (K.shows keeper.new) input input (L.shows link.old ∷ links) (L.shows link.new ∷ links)) }
-    ensures kept { (K.shows keeper.new).held ≡ (K.shows keeper.old).held }
+    ensures kept { IsUnput (K.shows keeper.old) (K.shows keeper.new) }
     ensures asks { AsksForFile (string_bytes (words.now).table) (K.shows keeper.old) (K.shows keeper.new) }
+    ensures reads { (input : SourceShown) → ForOutcome (query_meaning (query_view words.now)) (K.shows keeper.old) input (λ o. AsksLink o (L.shows link.old) (L.shows link.new)) }
     ensures same { (L.shows link.new).held ≡ (L.shows link.old).held }
     ensures stays_steady { IsTrue (L.shows link.old).is_steady → IsTrue (L.shows link.new).is_steady }
 {

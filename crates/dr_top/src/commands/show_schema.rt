@@ -1,7 +1,9 @@
 //! The answer of `schema`.
 
 ghost use Rattle.std.specs.Prelude.{◌≡◌, string_bytes, IfOk, IfErr, IsTrue};
-ghost use Rattle.dr_serving.specs.Held.{held_at};
+ghost use Rattle.dr_reading.specs.Held.{held_at};
+ghost use Rattle.dr_commands.specs.Meaning.{looks_at};
+ghost use Rattle.dr_top.specs.Answers.{AsksLink};
 ghost use Rattle.dr_top.specs.Reading.{IsSchemaShown};
 ghost use Rattle.dr_top.specs.Stops.{SchemaStops};
 
@@ -18,6 +20,7 @@ use std::alloc::Global;
 pub fn answer<L: Link>(alloc: Global, show: &ShowSchema, link: &mut L) -> Result<String, Stop>
     ensures text { IfOk result (λ t. IsSchemaShown (held_at (L.shows link.old).held (string_bytes (show.now).file)) (string_bytes t)) }
     ensures stops { IfErr result (SchemaStops (string_bytes (show.now).file) (L.shows link.old) (L.shows link.new)) }
+    ensures reads { AsksLink (looks_at (string_bytes (show.now).file)) (L.shows link.old) (L.shows link.new) }
     ensures same { (L.shows link.new).held ≡ (L.shows link.old).held }
     ensures stays_steady { IsTrue (L.shows link.old).is_steady → IsTrue (L.shows link.new).is_steady }
 {

@@ -9,17 +9,16 @@ ghost use Rattle.dr_striper.specs.Stripers.{striped, striped_leaves};
 ghost use Rattle.dr_striper.specs.Leaves.{is_leaf};
 ghost use Rattle.dr_commands.specs.Meaning.{done};
 ghost use Rattle.dr_commands.specs.Stripe.{stripe_meaning, stripe_view};
-ghost use Rattle.dr_top.specs.World.{HasOutcome, WhereTold};
-ghost use Rattle.dr_top.specs.Stops.{StopsPlain, InputStops, IsReadBy, AsksForFile};
+ghost use Rattle.dr_top.specs.World.{HasOutcome, IsOpened, WhereTold};
+ghost use Rattle.dr_top.specs.Stops.{IsUnput, StopsPlain, InputStops, IsReadBy, AsksForFile};
 ghost use Rattle.dr_top.specs.Records.{HasColumns};
 
 use crate::field::find_field;
-use crate::input_records::{InputFault, next_record};
 use crate::schema_file::read_schema;
 use crate::stop::Stop;
 use dr_commands::{MOST_STRIPED, Stripe};
+use dr_input::{InputFault, Records};
 use dr_levels::Column;
-use dr_lines::Lines;
 use dr_nested::{Path, Schema};
 use dr_outside::{Keeper, Source};
 use dr_print::column_text;
@@ -40,7 +39,7 @@ fn only_column(striper: Striper<'_>) -> Column
 
 /// The column of a leaf in the records of the input, which is read to its end.
 ///
-/// Errors: the first line that is refused; the source failed; want of memory.
+/// Errors: the first line that is refused; the source failed, and no whole line that it gave before is refused; want of memory.
 fn stripe_records<S: Source>(
     alloc: Global,
     schema: &Schema,
@@ -54,17 +53,8 @@ fn stripe_records<S: Source>(
     ensures stops { IfErr result (InputStops (fields_view (schema.now).fields.items) most_striped (S.shows source.old) (S.shows source.new)) }
 {
     let mut striper = Striper::new(alloc, slice::from_ref(field))?;
-    let mut lines = Lines::new(alloc)?;
-    let mut number = 0;
-    'records: while let Some(node) = next_record(
-        alloc,
-        schema,
-        &mut lines,
-        number,
-        MOST_STRIPED,
-        source,
-    )? {
-        number += 1;
+    let mut records = Records::new(alloc, schema, MOST_STRIPED)?;
+    'lines: while let Some(node) = records.next(source)? {
         striper.add(&node)?;
     }
     Ok(only_column(striper))
@@ -81,11 +71,12 @@ pub fn answer<S: Source, K: Keeper>(
     keeper: &mut K,
 ) -> Result<String, Stop>
     ensures text { IfOk result (λ t. HasOutcome (stripe_meaning (stripe_view stripe.now)) (K.shows keeper.old) (S.shows source.old) (done (string_bytes t) [])) }
+    ensures opened { OnOk result (IsOpened (stripe_meaning (stripe_view stripe.now)) (K.shows keeper.old)) }
     ensures read { OnOk result (IsReadBy true (S.shows source.old) (S.shows source.new)) }
     ensures source_calm { OnOk result ((S.shows source.new).faults ≡ (S.shows source.old).faults) }
     ensures keeper_calm { OnOk result ((K.shows keeper.new).faults ≡ (K.shows keeper.old).faults) }
     ensures stops { IfErr result (StopsPlain (stripe_meaning (stripe_view stripe.now)) (K.shows keeper.old) (K.shows keeper.new) (S.shows source.old) (S.shows source.new)) }
-    ensures kept { (K.shows keeper.new).held ≡ (K.shows keeper.old).held }
+    ensures kept { IsUnput (K.shows keeper.old) (K.shows keeper.new) }
     ensures asks { AsksForFile (string_bytes (stripe.now).schema) (K.shows keeper.old) (K.shows keeper.new) }
 {
     let schema = read_schema(alloc, keeper, stripe.schema.as_str())?;

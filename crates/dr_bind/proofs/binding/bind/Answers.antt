@@ -4,7 +4,7 @@ use Rattle.dr_meaning.specs.Binding as meant
 use Rattle.dr_meaning.specs.Schema.{Schema}
 use Rattle.dr_meaning.specs.Syntax.{QuerySyntax}
 use Rattle.dr_nested.specs.SchemaView.{schema_view}
-use Rattle.dr_objects.specs.NamedLevels.{levels_view}
+use Rattle.dr_planning.specs.NamedLevels.{levels_view}
 use Rattle.dr_sql.specs.Views as syntax
 use Rattle.dr_bound_parts.specs.Faults.{first_view, fault_view}
 use Rattle.dr_bind.proofs.BindLemmas.{all_noted, refused_with, bound_without_faults}

@@ -13,7 +13,7 @@ use denote.Ref.{Bor}
 use Rattle.std.specs.List.{filter, list_any}
 use Rattle.dr_plan.specs.declared.plan.Plan.{Plan}
 use Rattle.dr_plan.specs.Planned.{plan_view, planned}
-use Rattle.dr_objects.specs.NamedLevels.{levels_view, joined}
+use Rattle.dr_planning.specs.NamedLevels.{levels_view, joined}
 use Rattle.dr_meaning.specs.Query.{levels_of}
 use Rattle.dr_sql.specs.Views as syntax
 use Rattle.dr_bound_parts.specs.Parts.{AreParts}

@@ -2,7 +2,7 @@ use Rattle.std.proofs.Common.{◌≡◌, ◌+◌, map, drop}
 use Rattle.std.specs.Prelude.{option_map}
 use Rattle.dr_meaning.specs.Binding as binding
 use Rattle.dr_nested.specs.PathView.{step_view}
-use Rattle.dr_chains.specs.Views.{bound_path_view}
+use Rattle.dr_paths.specs.Views.{bound_path_view}
 use Rattle.dr_bound_parts.proofs.numbers.place_among.Given as goal
 
 -- the path is still to be found among the keys from this place on

@@ -6,7 +6,8 @@ use Rattle.dr_levels.specs.Views.{column_view, column_form}
 use Rattle.dr_chunk.specs.Steps.{behind}
 use Rattle.dr_chunk.specs.Stretches.{rest_in, path_of, range_of}
 use Rattle.dr_chunk.specs.Takers.{leaf_of, wanted_of, is_first_of, dictionary_of, IsLeafOf}
-use Rattle.dr_chunk.specs.Telling.{Tells, AsksOnly, is_read_inside, inside}
+use Rattle.dr_outside.specs.Telling.{Tells, AsksOnly}
+use Rattle.dr_chunk.specs.Ranges.{is_read_inside, inside}
 use Rattle.dr_chunk.proofs.chunk.read_chunk.Given as goal
 
 abbrev pub invariant-pages : goal.invariant-pages

@@ -1,7 +1,8 @@
 use Rattle.std.specs.Prelude.{IsTrue}
 use Rattle.std.proofs.Common.{◌≡◌, ◌≤◌, ◌<◌, ◌-◌, ◌∷◌, [], ℕ, List}
 use Rattle.dr_chunk.specs.Stretches.{rest_in, path_of, range_of, left_count}
-use Rattle.dr_chunk.specs.Telling.{Tells, AsksOnly, is_read_inside, inside}
+use Rattle.dr_outside.specs.Telling.{Tells, AsksOnly}
+use Rattle.dr_chunk.specs.Ranges.{is_read_inside, inside}
 use Rattle.dr_chunk.proofs.header.next_header.Given as goal
 
 abbrev pub invariant-tries : goal.invariant-tries

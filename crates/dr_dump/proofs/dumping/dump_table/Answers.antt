@@ -5,10 +5,12 @@ use Rattle.dr_nested.specs.SchemaView.{schema_view}
 use Rattle.dr_nested.specs.Views.{fields_view}
 use Rattle.dr_nested.specs.PathView.{path_view}
 use Rattle.dr_table.specs.Views.{table_view}
-use Rattle.dr_serving.specs.Causes.{RisesApart}
+use Rattle.dr_reading.specs.Causes.{RisesApart}
 use Rattle.dr_reading.specs.Left.{LeavesJust, no_tablets, causes_met}
 use Rattle.dr_tablets.specs.declared.left.LeftTablet.{LeftTablet}
 use Rattle.dr_tablets.specs.Views.{all_left_view}
+use Rattle.dr_reading.specs.Scan.{tablets_of}
+use Rattle.dr_tablets.proofs.AskedTablets.{asks_none, tablet_step}
 use Rattle.dr_tablets.proofs.TableLemmas.{takes_none, step_left, step_taken, step_rises, no_items}
 use Rattle.dr_dump.specs.Dumps.{HasLines}
 use Rattle.dr_dump.proofs.LineLemmas.{all_lines}
@@ -26,6 +28,7 @@ tablets-init g c =
       same = refl;
       never_falls = omega arith;
       stays_steady = λ is. is;
+      asks = asks_none F (tablets_of (table_view c.args.table.now)) link link refl;
     }
 
 pub tablets-preserved : goal.tablets-preserved
@@ -50,7 +53,22 @@ tablets-preserved g c =
       same = c.read_tablet.ensures.same ∙ was.same;
       never_falls = omega (arith, was.never_falls, c.read_tablet.ensures.never_falls);
       stays_steady = λ is. c.read_tablet.ensures.stays_steady (was.stays_steady is);
+      asks = tablet_step F link now (g.L.Link.shows c.read_tablet.new.link) ds k c.args.table.now.tablets n c.tablets-test.true was.same was.asks c.read_tablet.ensures.asks;
     }
+
+pub returns-in_err-read-clause-asks : goal.returns-in_err-read-clause-asks
+returns-in_err-read-clause-asks g c =
+    let F = map path_view c.args.fields.now in
+    let link = g.L.Link.shows c.args.link.now in
+    tablet_step F link (g.L.Link.shows c.tablets.link) (g.L.Link.shows c.read_tablet.new.link) (table_view c.args.table.now).leaves c.args.table.now.copies c.args.table.now.tablets c.tablets.tablet c.tablets-test.true
+    c.tablets.invariant.same c.tablets.invariant.asks c.read_tablet.ensures.asks
+
+pub returns-in_err-keep-clause-asks : goal.returns-in_err-keep-clause-asks
+returns-in_err-keep-clause-asks g c =
+    let F = map path_view c.args.fields.now in
+    let link = g.L.Link.shows c.args.link.now in
+    tablet_step F link (g.L.Link.shows c.tablets.link) (g.L.Link.shows c.read_tablet.new.link) (table_view c.args.table.now).leaves c.args.table.now.copies c.args.table.now.tablets c.tablets.tablet c.tablets-test.true
+    c.tablets.invariant.same c.tablets.invariant.asks c.read_tablet.ensures.asks
 
 pub returns-then-is_empty-clause-lines : goal.returns-then-is_empty-clause-lines
 returns-then-is_empty-clause-lines g c =

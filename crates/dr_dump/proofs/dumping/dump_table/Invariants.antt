@@ -4,11 +4,12 @@ use Rattle.dr_nested.specs.SchemaView.{schema_view}
 use Rattle.dr_nested.specs.Views.{fields_view}
 use Rattle.dr_nested.specs.PathView.{path_view}
 use Rattle.dr_table.specs.Views.{table_view}
-use Rattle.dr_serving.specs.Causes.{RisesApart}
-use Rattle.dr_reading.specs.Scan.{tablets_from}
+use Rattle.dr_reading.specs.Causes.{RisesApart}
+use Rattle.dr_reading.specs.Scan.{tablets_from, tablets_of}
 use Rattle.dr_reading.specs.Left.{LeavesJust, causes_met}
 use Rattle.dr_tablets.specs.Views.{all_left_view}
 use Rattle.dr_tablets.specs.Tablets.{TakesGiven}
+use Rattle.dr_tablets.specs.Asked.{AsksForTablets}
 use Rattle.dr_dump.specs.Dumps.{HasLines}
 use Rattle.dr_dump.proofs.dumping.dump_table.Given as goal
 
@@ -21,4 +22,5 @@ invariant-tablets g l = record {
   same : (g.L.Link.shows l.link).held ≡ (g.L.Link.shows l.initial.link).held;
   never_falls : (g.L.Link.shows l.initial.link).faults ≤ (g.L.Link.shows l.link).faults;
   stays_steady : IsTrue (g.L.Link.shows l.initial.link).is_steady → IsTrue (g.L.Link.shows l.link).is_steady;
+  asks : AsksForTablets (map path_view l.fields) (tablets_of (table_view l.table)) (g.L.Link.shows l.initial.link) (g.L.Link.shows l.link);
 }

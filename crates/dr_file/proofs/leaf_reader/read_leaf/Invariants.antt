@@ -3,7 +3,8 @@ use Rattle.std.proofs.Common.{◌≡◌, ◌+◌, ◌++◌, ◌≤◌, ℕ, List
 use Rattle.std.specs.List.{list_all, flat_map}
 use Rattle.dr_meaning.specs.Path.{Leaf}
 use Rattle.dr_levels.specs.Views.{column_view, column_form}
-use Rattle.dr_chunk.specs.Telling.{Tells, AsksOnly, is_read_inside}
+use Rattle.dr_outside.specs.Telling.{Tells, AsksOnly}
+use Rattle.dr_chunk.specs.Ranges.{is_read_inside}
 use Rattle.dr_file.specs.ChunkPlaces.{all_values}
 use Rattle.dr_file.specs.Openings.{chunk_place_view}
 use Rattle.dr_file.specs.LeafColumns.{is_good_chunk, chunks_triplets, shown_range, IsShownLeaf}

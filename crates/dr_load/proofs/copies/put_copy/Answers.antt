@@ -1,16 +1,19 @@
-use Rattle.std.proofs.Common.{◌∙◌, ◌∷◌, [], subst, ℕ, List}
-use Rattle.dr_load.specs.Puts.{HasPut, HasPutElsewhere}
-use Rattle.dr_load.proofs.PutLemmas.{one_put, same_elsewhere}
+use Rattle.std.proofs.Common.{◌∙◌, ◌∷◌, [], subst, refl, ℕ, List}
+use Rattle.std.specs.Prelude.{OnOk, IfErr}
+use Rattle.dr_load.specs.Faults.{is_told}
+use Rattle.dr_load.specs.Puts.{HasPut, HasFailed}
+use Rattle.dr_load.proofs.PutLemmas.{none_failed}
 use Rattle.dr_load.proofs.copies.put_copy.Goals as goal
 
-pub returns-in-Ok-put-clause-put : goal.returns-in-Ok-put-clause-put
-returns-in-Ok-put-clause-put g c =
-    subst (λ (path : List ℕ). HasPut (record { path = path; bytes = c.args.bytes.now } ∷ []) (g.K.Link.shows c.args.keeper.now).held (g.K.Link.shows c.put.new.self).held)
-    (c.as_str.ensures.value ∙ c.in-Ok.ensures)
-    (one_put (g.K.Link.shows c.args.keeper.now).held (g.K.Link.shows c.put.new.self).held c.as_str.result.now c.args.bytes.now c.in-Ok-put.ensures.placed c.in-Ok-put.ensures.others)
+pub returns-in-Err-clause-broken : goal.returns-in-Err-clause-broken
+returns-in-Err-clause-broken g c = none_failed (g.K.Link.shows c.args.keeper.now) (g.K.Link.shows c.args.keeper.now) _ refl refl
 
-pub returns-clause-broken : goal.returns-clause-broken
-returns-clause-broken g c =
-    subst (λ (path : List ℕ). HasPutElsewhere [] path (g.K.Link.shows c.args.keeper.now).held (g.K.Link.shows c.put.new.self).held)
-    (c.as_str.ensures.value ∙ c.in-Ok.ensures)
-    (same_elsewhere (g.K.Link.shows c.args.keeper.now).held (g.K.Link.shows c.put.new.self).held c.as_str.result.now c.in-Err-put.ensures.others)
+pub returns-in-Ok-clause-put : goal.returns-in-Ok-clause-put
+returns-in-Ok-clause-put g c =
+    subst (λ (path : List ℕ). OnOk c.put_file.result (HasPut (record { path = path; bytes = c.args.bytes.now } ∷ []) (g.K.Link.shows c.args.keeper.now) (g.K.Link.shows c.put_file.new.keeper)))
+    (c.as_str.ensures.value ∙ c.in-Ok.ensures) c.put_file.ensures.put
+
+pub returns-in-Ok-clause-broken : goal.returns-in-Ok-clause-broken
+returns-in-Ok-clause-broken g c =
+    subst (λ (path : List ℕ). IfErr c.put_file.result (λ e. HasFailed (is_told e) [] (record { path = path; bytes = c.args.bytes.now }) (g.K.Link.shows c.args.keeper.now) (g.K.Link.shows c.put_file.new.keeper)))
+    (c.as_str.ensures.value ∙ c.in-Ok.ensures) c.put_file.ensures.failed

@@ -1,44 +1,85 @@
-use Rattle.std.proofs.Common.{◌≡◌, ◌≤◌, ◌+◌, ◌∷◌, [], true, ℕ, subst, ◌∙◌, arith, rules}
+use Rattle.std.proofs.Common.{◌≡◌, ◌+◌, ◌∷◌, [], true, MatchOption, sym, ap, ◌∙◌, arith, rules}
+use Rattle.std.specs.Prelude.{⊤}
+use Rattle.dr_meaning.specs.Schema.{Fields}
 use Rattle.dr_meaning.specs.Record.{is_record}
 use Rattle.dr_formats.specs.WritingLaws.{is_limited}
-use Rattle.dr_nested.specs.Views.{fields_view, node_view}
+use Rattle.dr_nested.specs.Views.{node_view}
 use Rattle.dr_nested.specs.declared.record.Node.{Node}
-use Rattle.dr_lines.specs.Cutting.{rest_of}
 use Rattle.dr_striper.specs.Stripers.{striped, striped_leaves}
-use Rattle.dr_load.specs.Records.{HasTaken}
-use Rattle.dr_load.proofs.FillLemmas.{fills_none, fills_more, record_fits, some_of}
+use Rattle.dr_input.specs.Taken.{HasTaken}
+use Rattle.dr_input.specs.Stops.{NextStops}
+use Rattle.dr_input.specs.Records.{fields_of, most_of, number_of, left_of}
+use Rattle.dr_load.specs.Faults.{refusal_of}
+use Rattle.dr_load.specs.Filled.{RefusesWithin}
+use Rattle.dr_load.proofs.FillLemmas.{fills_none, fills_more, fill_refuses, fill_accepts, reader_stops, reader_takes, err_is, err_equal, record_fits, some_of}
 use Rattle.dr_load.proofs.filling.fill_tablet.Goals as goal
 
-pub records-init : goal.records-init
-records-init g c = record {
-  fills = fills_none (fields_view c.args.schema.now.fields.items) c.args.most c.args.number (rest_of c.args.lines.now (g.S.Source.shows c.args.source.now).left) c.args.fields.now (striped c.in-Ok.striper) c.requires.leaves c.in-Ok.ensures.columns;
-  leaves_are = c.in-Ok.ensures.leaves ∙ c.requires.leaves;
+pub lines-init : goal.lines-init
+lines-init g c = record {
+  fills = fills_none (fields_of c.args.records.now) (most_of c.args.records.now) (number_of c.args.records.now) (left_of c.args.records.now (g.S.Source.shows c.args.source.now).left) c.args.fields.now (striped c.in_ok-striper.striper) c.requires.leaves c.in_ok-striper.ensures.columns;
+  leaves_are = c.in_ok-striper.ensures.leaves ∙ c.requires.leaves;
+  same_fields = search rules;
+  same_most = search rules;
+  number_is = omega arith;
   going = c.requires.going;
-  within = omega arith;
+  within = c.args.records.now.within;
   calm = search rules;
 }
 
 pub add-requires : goal.add-requires
 add-requires g c =
-    let fs = fields_view c.args.schema.now.fields.items in
+    let read : is_record (fields_of c.args.records.now) (node_view c.in-Some.node) ≡ true =
+    ap (λ (x : Fields). is_record x (node_view c.in-Some.node)) (sym c.lines.invariant.same_fields) ∙ some_of (λ (m : Node). is_record (fields_of c.lines.records) (node_view m) ≡ true) c.in_ok-node.field-0 c.in-Some.node c.in-Some.is c.in_ok-node.ensures.form in
+    record { fits = record_fits (fields_of c.args.records.now) (striped_leaves c.lines.striper) (node_view c.in-Some.node) c.lines.invariant.leaves_are read }
+
+pub lines-preserved : goal.lines-preserved
+lines-preserved g c =
+    let fs = fields_of c.args.records.now in
+    let most = most_of c.args.records.now in
+    let number = number_of c.args.records.now in
+    let a = left_of c.args.records.now (g.S.Source.shows c.args.source.now).left in
+    let b = left_of c.lines.records (g.S.Source.shows c.lines.source).left in
+    let now = left_of c.next.new.self (g.S.Source.shows c.next.new.source).left in
+    let n = node_view c.in-Some.node in
+    let read : is_record (fields_of c.args.records.now) (node_view c.in-Some.node) ≡ true =
+    ap (λ (x : Fields). is_record x (node_view c.in-Some.node)) (sym c.lines.invariant.same_fields) ∙ some_of (λ (m : Node). is_record (fields_of c.lines.records) (node_view m) ≡ true) c.in_ok-node.field-0 c.in-Some.node c.in-Some.is c.in_ok-node.ensures.form in
+    let counts = some_of (λ (m : Node). number_of c.next.new.self ≡ number_of c.lines.records + 1) c.in_ok-node.field-0 c.in-Some.node c.in-Some.is c.in_ok-node.ensures.counts in
+    let taken = some_of (λ (m : Node). HasTaken (fields_of c.lines.records) (most_of c.lines.records) (number_of c.lines.records) (node_view m ∷ []) (left_of c.lines.records (g.S.Source.shows c.lines.source).left) (left_of c.next.new.self (g.S.Source.shows c.next.new.source).left)) c.in_ok-node.field-0 c.in-Some.node c.in-Some.is c.in_ok-node.ensures.record in
     record {
-      fits = record_fits (fields_view c.args.schema.now.fields.items) (striped_leaves c.records.striper) (node_view c.in-Ok-Some.node) c.records.invariant.leaves_are
-          (some_of (λ (m : Node). is_record (fields_view c.args.schema.now.fields.items) (node_view m) ≡ true) c.in-Ok-Some.field-0 c.in-Ok-Some.node c.in-Ok-Some.field-0-is c.in-Ok-Some.ensures.form);
+      fills = fills_more fs most number c.lines.count a b now c.lines.striper.fields.now (striped c.lines.striper) (striped c.add.new.self) n c.lines.invariant.fills c.lines.invariant.leaves_are c.in_ok-add-in-Some.ensures.columns read
+          (some_of (λ (m : Node). is_limited (node_view m) ≡ true) c.in_ok-node.field-0 c.in-Some.node c.in-Some.is c.in_ok-node.ensures.limited)
+          (reader_takes _ _ _ _ _ _ (n ∷ []) b now c.lines.invariant.same_fields c.lines.invariant.same_most c.lines.invariant.number_is taken);
+      leaves_are = c.in_ok-add-in-Some.ensures.leaves ∙ c.lines.invariant.leaves_are;
+      same_fields = c.in_ok-node.ensures.same_fields ∙ c.lines.invariant.same_fields;
+      same_most = c.in_ok-node.ensures.same_most ∙ c.lines.invariant.same_most;
+      number_is = omega (arith, counts, c.lines.invariant.number_is);
+      going = c.in_ok-node.ensures.goes_on;
+      within = c.in_ok-node.ensures.within;
+      calm = c.in_ok-node.ensures.calm ∙ c.lines.invariant.calm;
     }
 
-pub records-preserved : goal.records-preserved
-records-preserved g c =
-    let fs = fields_view c.args.schema.now.fields.items in
-    record {
-      fills = fills_more (fields_view c.args.schema.now.fields.items) c.args.most c.args.number c.records.count (rest_of c.args.lines.now (g.S.Source.shows c.args.source.now).left) (rest_of c.records.lines (g.S.Source.shows c.records.source).left) (rest_of c.next_record.new.lines (g.S.Source.shows c.next_record.new.source).left)
-          c.records.striper.fields.now (striped c.records.striper) (striped c.add.new.self) (node_view c.in-Ok-Some.node) c.records.invariant.fills c.records.invariant.leaves_are c.in-Ok-add.ensures.columns
-          (some_of (λ (m : Node). is_record (fields_view c.args.schema.now.fields.items) (node_view m) ≡ true) c.in-Ok-Some.field-0 c.in-Ok-Some.node c.in-Ok-Some.field-0-is c.in-Ok-Some.ensures.form)
-          (some_of (λ (m : Node). is_limited (node_view m) ≡ true) c.in-Ok-Some.field-0 c.in-Ok-Some.node c.in-Ok-Some.field-0-is c.in-Ok-Some.ensures.limited)
-          (subst (λ (j : ℕ). HasTaken (fields_view c.args.schema.now.fields.items) c.args.most (c.args.number + j) (node_view c.in-Ok-Some.node ∷ []) (rest_of c.records.lines (g.S.Source.shows c.records.source).left) (rest_of c.next_record.new.lines (g.S.Source.shows c.next_record.new.source).left)) c.from.ensures
-          (some_of (λ (m : Node). HasTaken (fields_view c.args.schema.now.fields.items) c.args.most (c.args.number + c.from.result) (node_view m ∷ []) (rest_of c.records.lines (g.S.Source.shows c.records.source).left) (rest_of c.next_record.new.lines (g.S.Source.shows c.next_record.new.source).left))
-          c.in-Ok-Some.field-0 c.in-Ok-Some.node c.in-Ok-Some.field-0-is c.in-Ok-Some.ensures.record));
-      leaves_are = c.in-Ok-add.ensures.leaves ∙ c.records.invariant.leaves_are;
-      going = c.in-Ok-Some.ensures.goes_on;
-      within = let w = some_of (λ (m : Node). (c.args.number + c.from.result) + 1 ≤ c.args.most) c.in-Ok-Some.field-0 c.in-Ok-Some.node c.in-Ok-Some.field-0-is c.in-Ok-Some.ensures.within in omega (arith, w, c.from.ensures);
-      calm = search rules;
-    }
+pub returns-in_err-node-clause-refuses : goal.returns-in_err-node-clause-refuses
+returns-in_err-node-clause-refuses g c =
+    let fs = fields_of c.args.records.now in
+    let most = most_of c.args.records.now in
+    let a = left_of c.args.records.now (g.S.Source.shows c.args.source.now).left in
+    let b = left_of c.lines.records (g.S.Source.shows c.lines.source).left in
+    let before = g.S.Source.shows c.lines.source in
+    let now = g.S.Source.shows c.next.new.source in
+    let stops : NextStops fs most (number_of c.lines.records) b before now c.in_err-node.field-0.0 =
+    reader_stops (fields_of c.lines.records) fs (most_of c.lines.records) most (number_of c.lines.records) b before now c.in_err-node.field-0.0 c.lines.invariant.same_fields c.lines.invariant.same_most (c.in_err-node.ensures.stops c.lines.invariant.going) in
+    err_is (λ x. MatchOption (refusal_of x) ⊤ (RefusesWithin fs most (number_of c.args.records.now) c.args.rows a)) _ _ c.from_residual-in_err-node.ensures.1
+    (fill_refuses fs most (number_of c.args.records.now) c.args.rows c.lines.count (number_of c.lines.records) a b (striped c.lines.striper) before now c.in_err-node.field-0.0 c.lines.invariant.fills (omega arith) c.lines.invariant.number_is stops)
+
+pub returns-in_err-node-clause-accepts : goal.returns-in_err-node-clause-accepts
+returns-in_err-node-clause-accepts g c = λ e.
+    let fs = fields_of c.args.records.now in
+    let most = most_of c.args.records.now in
+    let a = left_of c.args.records.now (g.S.Source.shows c.args.source.now).left in
+    let b = left_of c.lines.records (g.S.Source.shows c.lines.source).left in
+    let before = g.S.Source.shows c.lines.source in
+    let now = g.S.Source.shows c.next.new.source in
+    let stops : NextStops fs most (number_of c.lines.records) b before now c.in_err-node.field-0.0 =
+    reader_stops (fields_of c.lines.records) fs (most_of c.lines.records) most (number_of c.lines.records) b before now c.in_err-node.field-0.0 c.lines.invariant.same_fields c.lines.invariant.same_most (c.in_err-node.ensures.stops c.lines.invariant.going) in
+    fill_accepts fs most (number_of c.args.records.now) c.lines.count (number_of c.lines.records) a b (striped c.lines.striper) before now c.in_err-node.field-0.0 c.lines.invariant.fills c.lines.invariant.number_is stops
+    (err_equal _ _ _ c.from_residual-in_err-node.ensures.1 e)

@@ -1,7 +1,7 @@
 use Rattle.std.proofs.Common.{map, ap, ◌∙◌, List}
 use Rattle.dr_nested.specs.PathView.{path_view, step_view}
 use Rattle.dr_nested.specs.declared.path.Step.{Step}
-use Rattle.dr_used.specs.Numbers.{number_among}
+use Rattle.dr_paths.specs.Numbers.{number_among}
 use Rattle.dr_planning.proofs.PlanStepLemmas.{key_more}
 use Rattle.dr_planning.proofs.groups.key_leaves.Goals as goal
 

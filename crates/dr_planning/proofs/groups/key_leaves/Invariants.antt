@@ -1,6 +1,6 @@
 use Rattle.std.proofs.Common.{map, take}
 use Rattle.dr_nested.specs.PathView.{path_view}
-use Rattle.dr_chains.specs.Views.{bound_path_view}
+use Rattle.dr_paths.specs.Views.{bound_path_view}
 use Rattle.dr_planning.specs.Planning.{AreNumbers}
 use Rattle.dr_planning.proofs.groups.key_leaves.Given as goal
 

@@ -3,7 +3,7 @@ use denote.Ref.{Bor}
 use Rattle.dr_meaning.specs.Path.{Step as MeantStep}
 use Rattle.dr_nested.specs.PathView.{lent_path}
 use Rattle.dr_nested.specs.declared.path.Step.{Step}
-use Rattle.dr_chains.specs.declared.bound.BoundPath.{BoundPath}
+use Rattle.dr_paths.specs.declared.bound.BoundPath.{BoundPath}
 use Rattle.dr_planning.specs.Planning.{condition_paths, selection_paths, steps_at}
 use Rattle.dr_planning.proofs.PlanPathLemmas.{steps-append, parts_used}
 use Rattle.dr_planning.proofs.value_paths.used_paths.Goals as goal

@@ -4,7 +4,8 @@ use Rattle.dr_meaning.specs.Record.{Node}
 use Rattle.dr_meaning.specs.Print.{braced, record_members}
 use Rattle.dr_nested.specs.Views.{rep_view, field_view, fields_view, node_view, instances_view}
 use Rattle.dr_nested.proofs.ViewLemmas.{view-node}
-use Rattle.dr_print.specs.Members.{separated, held_text, texts_in}
+use Rattle.dr_print.specs.Members.{held_text, texts_in}
+use Rattle.dr_print.specs.Parts.{separated}
 use Rattle.dr_print.proofs.MemberLemmas.{closed, node_text, list_held, first_held, past_slots}
 use Rattle.dr_print.proofs.record_lines.+members.Goals as goal
 

@@ -5,10 +5,11 @@ use Rattle.dr_plan.specs.Planned.{plan_view}
 use Rattle.dr_table.specs.Views.{table_view}
 use Rattle.dr_meaning.specs.QueryLeaves.{query_leaves}
 use Rattle.dr_meaning.specs.Ask.{answer_text}
-use Rattle.dr_reading.specs.Scan.{joined}
+use Rattle.dr_reading.specs.Scan.{joined, tablets_of}
 use Rattle.dr_tablets.specs.Tablets.{LeavesTablets}
-use Rattle.dr_scan.specs.Plans.{IsPlanOf}
+use Rattle.dr_plan.specs.PlanOf.{IsPlanOf}
 use Rattle.dr_scan.specs.Tables.{WhereLeft}
+use Rattle.dr_scan.proofs.ScanLemmas.{asks_query}
 use Rattle.dr_query.proofs.GatheredLemmas.{given_as_many, given_together, given_answer}
 use Rattle.dr_query.proofs.answering.query_table.Goals as goal
 
@@ -37,3 +38,23 @@ returns-in_ok-text-in-Given-clause-text g c = λ q is.
     let t = table_view c.args.table.now in
     given_answer t q (g.L.Link.shows c.args.link.now).held c.in_ok-left.field-0 c.in-Given.partials (string_bytes c.in_ok-text-in-Given.text) c.in-Given.is (c.in_ok-left.ensures.given q is)
     (λ Rs all. IfOk-at_ok (λ s. string_bytes s ≡ answer_text t.schema q (joined Rs)) c.in_ok-text-in-Given.was (c.gathered_text.ensures t.schema q Rs is all))
+
+pub returns-in_err-left-clause-asks : goal.returns-in_err-left-clause-asks
+returns-in_err-left-clause-asks g c = λ q is.
+    let t = table_view c.args.table.now in
+    asks_query t.schema q c.args.plan.now (tablets_of t) (g.L.Link.shows c.args.link.now) (g.L.Link.shows c.scan_table.new.link) is c.scan_table.ensures.asks
+
+pub returns-in-Left-clause-asks : goal.returns-in-Left-clause-asks
+returns-in-Left-clause-asks g c = λ q is.
+    let t = table_view c.args.table.now in
+    asks_query t.schema q c.args.plan.now (tablets_of t) (g.L.Link.shows c.args.link.now) (g.L.Link.shows c.scan_table.new.link) is c.scan_table.ensures.asks
+
+pub returns-in_err-text-in-Given-clause-asks : goal.returns-in_err-text-in-Given-clause-asks
+returns-in_err-text-in-Given-clause-asks g c = λ q is.
+    let t = table_view c.args.table.now in
+    asks_query t.schema q c.args.plan.now (tablets_of t) (g.L.Link.shows c.args.link.now) (g.L.Link.shows c.scan_table.new.link) is c.scan_table.ensures.asks
+
+pub returns-in_ok-text-in-Given-clause-asks : goal.returns-in_ok-text-in-Given-clause-asks
+returns-in_ok-text-in-Given-clause-asks g c = λ q is.
+    let t = table_view c.args.table.now in
+    asks_query t.schema q c.args.plan.now (tablets_of t) (g.L.Link.shows c.args.link.now) (g.L.Link.shows c.scan_table.new.link) is c.scan_table.ensures.asks

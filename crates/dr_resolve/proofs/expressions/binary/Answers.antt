@@ -2,7 +2,7 @@ use Rattle.std.proofs.Common.{subst, sym, Option}
 use Rattle.dr_bound_parts.specs.Faults.{first_view}
 use Rattle.dr_bound_parts.specs.Bound.{IsExpression}
 use Rattle.dr_resolve.specs.Outcomes.{Came}
-use Rattle.dr_operators.specs.Operators.{binary_type, binary_of}
+use Rattle.dr_resolve.specs.Operators.{binary_type, binary_of}
 use Rattle.dr_bound_parts.specs.declared.parts.BoundExpression.{BoundExpression}
 use Rattle.dr_resolve.proofs.ExpressionLemmas.{no_pair, left_of_pair, right_of_pair, two_made, binary_joins, binary_is_no_path}
 use Rattle.dr_resolve.proofs.expressions.binary.Goals as goal

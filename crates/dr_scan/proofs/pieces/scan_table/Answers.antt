@@ -8,14 +8,15 @@ use Rattle.dr_table.specs.Views.{table_view}
 use Rattle.dr_partials.specs.PartialTypes.{is_partial}
 use Rattle.dr_partials.specs.PartialBounds.{PartialCanBeOf}
 use Rattle.dr_partials.specs.Rewriting.{leaf_query}
-use Rattle.dr_plan.specs.Planned.{plan_view}
+use Rattle.dr_plan.specs.Planned.{plan_leaves, plan_view}
 use Rattle.dr_group.specs.Partials.{IsPartialOf, partial_view}
-use Rattle.dr_serving.specs.Causes.{RisesApart}
+use Rattle.dr_reading.specs.Causes.{RisesApart}
 use Rattle.dr_serving.specs.Truth.{most_values}
-use Rattle.dr_reading.specs.Scan.{tablets_from}
+use Rattle.dr_reading.specs.Scan.{tablets_from, tablets_of}
 use Rattle.dr_reading.specs.Left.{LeavesJust, no_tablets, causes_met}
 use Rattle.dr_tablets.specs.Views.{all_left_view}
 use Rattle.dr_tablets.proofs.TableLemmas.{no_items}
+use Rattle.dr_tablets.proofs.AskedTablets.{asks_none, tablet_step}
 use Rattle.dr_scan.proofs.TableLemmas.{step_left, step_rises, step_each, step_stands, none_stand, none_each, all_stand}
 use Rattle.dr_scan.proofs.pieces.scan_table.Goals as goal
 
@@ -34,6 +35,7 @@ tablets-init g c =
       refl,
       omega arith,
       λ is. is,
+      asks_none (plan_leaves c.args.plan.now) (tablets_of (table_view c.args.table.now)) link link refl,
     )
 
 pub tablets-preserved : goal.tablets-preserved
@@ -63,7 +65,22 @@ tablets-preserved g c =
       c.scan_tablet.ensures.same ∙ c.tablets.invariant.6,
       omega (arith, c.tablets.invariant.7, c.scan_tablet.ensures.never_falls),
       λ is. c.scan_tablet.ensures.stays_steady (c.tablets.invariant.8 is),
+      tablet_step (plan_leaves c.args.plan.now) link now (g.L.Link.shows c.scan_tablet.new.link) ds k c.args.table.now.tablets n c.tablets-test.true c.tablets.invariant.6 c.tablets.invariant.9 c.scan_tablet.ensures.asks,
     )
+
+pub returns-in_err-scanned-clause-asks : goal.returns-in_err-scanned-clause-asks
+returns-in_err-scanned-clause-asks g c =
+    let F = plan_leaves c.args.plan.now in
+    let link = g.L.Link.shows c.args.link.now in
+    tablet_step F link (g.L.Link.shows c.tablets.link) (g.L.Link.shows c.scan_tablet.new.link) (table_view c.args.table.now).leaves c.args.table.now.copies c.args.table.now.tablets c.tablets.tablet c.tablets-test.true
+    c.tablets.invariant.6 c.tablets.invariant.9 c.scan_tablet.ensures.asks
+
+pub returns-in_err-keep-clause-asks : goal.returns-in_err-keep-clause-asks
+returns-in_err-keep-clause-asks g c =
+    let F = plan_leaves c.args.plan.now in
+    let link = g.L.Link.shows c.args.link.now in
+    tablet_step F link (g.L.Link.shows c.tablets.link) (g.L.Link.shows c.scan_tablet.new.link) (table_view c.args.table.now).leaves c.args.table.now.copies c.args.table.now.tablets c.tablets.tablet c.tablets-test.true
+    c.tablets.invariant.6 c.tablets.invariant.9 c.scan_tablet.ensures.asks
 
 pub returns-then-is_empty-clause-given : goal.returns-then-is_empty-clause-given
 returns-then-is_empty-clause-given g c = λ q is.

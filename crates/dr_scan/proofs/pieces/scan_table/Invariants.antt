@@ -6,14 +6,15 @@ use Rattle.dr_table.specs.Views.{table_view}
 use Rattle.dr_partials.specs.PartialTypes.{is_partial}
 use Rattle.dr_partials.specs.PartialBounds.{PartialCanBeOf}
 use Rattle.dr_partials.specs.Rewriting.{leaf_query}
-use Rattle.dr_plan.specs.Planned.{plan_view}
+use Rattle.dr_plan.specs.Planned.{plan_leaves, plan_view}
 use Rattle.dr_group.specs.Partials.{IsPartialOf, partial_view}
-use Rattle.dr_serving.specs.Causes.{RisesApart}
+use Rattle.dr_reading.specs.Causes.{RisesApart}
 use Rattle.dr_serving.specs.Truth.{most_values}
-use Rattle.dr_reading.specs.Scan.{tablets_from}
+use Rattle.dr_reading.specs.Scan.{tablets_from, tablets_of}
 use Rattle.dr_reading.specs.Left.{LeavesJust, causes_met}
 use Rattle.dr_tablets.specs.Views.{all_left_view}
-use Rattle.dr_scan.specs.Plans.{ForQuery}
+use Rattle.dr_tablets.specs.Asked.{AsksForTablets}
+use Rattle.dr_plan.specs.PlanOf.{ForQuery}
 use Rattle.dr_scan.specs.Tables.{OfEach, StandForTablets}
 use Rattle.dr_scan.proofs.pieces.scan_table.Given as goal
 
@@ -31,3 +32,4 @@ invariant-tablets g l =
     × ((g.L.Link.shows l.link).held ≡ (g.L.Link.shows l.initial.link).held)
     × ((g.L.Link.shows l.initial.link).faults ≤ (g.L.Link.shows l.link).faults)
     × (IsTrue (g.L.Link.shows l.initial.link).is_steady → IsTrue (g.L.Link.shows l.link).is_steady)
+    × AsksForTablets (plan_leaves l.plan) (tablets_of (table_view l.table)) (g.L.Link.shows l.initial.link) (g.L.Link.shows l.link)

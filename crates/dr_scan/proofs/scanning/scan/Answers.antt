@@ -1,19 +1,19 @@
 use Rattle.std.proofs.Common.{List, map, subst, sym, ap, ◌∙◌}
 use Rattle.dr_formats.specs.File.{IsFileOf}
 use Rattle.dr_assemble.specs.Views.{nodes_view}
-use Rattle.dr_records.specs.FileRecords.{triplets_at}
-use Rattle.dr_records.proofs.FewLemmas.{taken_counted}
-use Rattle.dr_records.proofs.RecordsLemmas.{file_triplets}
+use Rattle.dr_tablets.specs.FileRecords.{triplets_at}
+use Rattle.dr_tablets.proofs.FewLemmas.{taken_counted}
+use Rattle.dr_tablets.proofs.RecordsLemmas.{file_triplets}
 use Rattle.dr_formats.specs.Opening.{reader_ranges}
 use Rattle.dr_nested.specs.SchemaView.{schema_view}
 use Rattle.dr_nested.specs.PathView.{path_view}
 use Rattle.dr_nested.specs.declared.path.Path.{Path}
-use Rattle.dr_chunk.specs.Telling.{AsksOnly}
+use Rattle.dr_outside.specs.Telling.{AsksOnly}
 use Rattle.dr_file.specs.Asking.{is_request_for}
 use Rattle.dr_group.specs.Partials.{partial_view}
 use Rattle.dr_tablets.proofs.CopyLemmas.{not_absent}
 use Rattle.dr_scan.proofs.ScanLemmas.{plan_has_leaves, lent, answers_by, gives_partial, stands_for_records, stands_for_bytes, gives_few, truth_is}
-use Rattle.dr_steps.specs.Counting.{counted}
+use Rattle.dr_tablets.specs.Counting.{counted}
 use Rattle.dr_scan.proofs.scanning.scan.Goals as goal
 
 pub read_records-requires : goal.read_records-requires

@@ -3,17 +3,18 @@ use Rattle.std.proofs.lemmas.List.{map-append}
 use Rattle.dr_nested.specs.SchemaView.{schema_view}
 use Rattle.dr_table.specs.Views.{table_view}
 use Rattle.dr_outside.specs.Link.{Files, Lacks}
-use Rattle.dr_chunk.specs.Telling.{TellsFile}
+use Rattle.dr_outside.specs.Telling.{TellsFile}
 use Rattle.dr_formats.specs.Tablets.{placement}
 use Rattle.dr_file.specs.OpenedFiles.{HasCounts, is_link_fault}
 use Rattle.dr_file.specs.declared.file_fault.FileFault.{FileFault}
 use Rattle.dr_group.specs.Partials.{partial_view}
 use Rattle.dr_plan.specs.Planned.{plan_leaves}
-use Rattle.dr_records.specs.FileRecords.{IsFaultOf}
+use Rattle.dr_tablets.specs.FileRecords.{IsFaultOf}
 use Rattle.dr_reading.specs.Scan.{Copy, copy_in, copies_from}
 use Rattle.dr_reading.specs.Left.{Tried, IsCauseAt, AreTried, causes_of}
 use Rattle.dr_tablets.specs.Views.{tried_view, all_tried_view}
 use Rattle.dr_tablets.proofs.CopyLemmas.{copies_next, copy_cause, tried_more, rises_more, not_absent, told}
+use Rattle.dr_tablets.proofs.AskedTablets.{copy_step}
 use Rattle.dr_scan.proofs.ScanLemmas.{leaves_are}
 use Rattle.dr_scan.proofs.TabletLemmas.{first_stands, all_tried, no_memory}
 use Rattle.dr_scan.proofs.tablet.scan_tablet.Goals as goal
@@ -61,7 +62,17 @@ copies-preserved g c =
       c.scan.ensures.same ∙ c.copies.invariant.2,
       λ is. c.scan.ensures.stays_steady (c.copies.invariant.3 is),
       omega (arith, c.copies.invariant.4, c.scan.ensures.never_falls),
+      copy_step F link (g.L.Link.shows c.copies.link) (g.L.Link.shows c.scan.new.link) ds c.args.tablet c.args.table.now.copies c.copies.copy path c.copies-test.true at c.copies.invariant.2 c.copies.invariant.5 c.scan.ensures.asked
+          c.scan.ensures.asked_absent,
     )
+
+pub returns-in-Ok-clause-asks : goal.returns-in-Ok-clause-asks
+returns-in-Ok-clause-asks g c =
+    let ds = (table_view c.args.table.now).leaves in
+    let path = c.as_str.result.now in
+    let at : path ≡ (copy_in ds c.args.tablet (placement (length ds) c.args.tablet c.copies.copy)).path = c.as_str.ensures.value ∙ c.in_ok-path.ensures ∙ ap (λ (d : ℕ). (copy_in ds c.args.tablet d).path) c.placement-directory.ensures.leaf in
+    copy_step (plan_leaves c.args.plan.now) (g.L.Link.shows c.args.link.now) (g.L.Link.shows c.copies.link) (g.L.Link.shows c.scan.new.link) ds c.args.tablet c.args.table.now.copies c.copies.copy path c.copies-test.true at c.copies.invariant.2
+    c.copies.invariant.5 c.scan.ensures.asked c.scan.ensures.asked_absent
 
 pub returns-clause-read : goal.returns-clause-read
 returns-clause-read g c = λ q is.
@@ -69,3 +80,19 @@ returns-clause-read g c = λ q is.
     let all : c.copies.copy ≡ c.args.table.now.copies = omega (arith, c.copies-test.false, c.copies.auto.copy-end) in
     all_tried s q (plan_leaves c.args.plan.now) (g.L.Link.shows c.args.link.now) (table_view c.args.table.now).leaves c.args.tablet c.copies.copy c.args.table.now.copies (all_tried_view c.copies.tried.items) (leaves_are s q c.args.plan.now is) all
     c.copies.invariant.0
+
+pub returns-in-Err-NoMemory-clause-asks : goal.returns-in-Err-NoMemory-clause-asks
+returns-in-Err-NoMemory-clause-asks g c =
+    let ds = (table_view c.args.table.now).leaves in
+    let path = c.as_str.result.now in
+    let at : path ≡ (copy_in ds c.args.tablet (placement (length ds) c.args.tablet c.copies.copy)).path = c.as_str.ensures.value ∙ c.in_ok-path.ensures ∙ ap (λ (d : ℕ). (copy_in ds c.args.tablet d).path) c.placement-directory.ensures.leaf in
+    copy_step (plan_leaves c.args.plan.now) (g.L.Link.shows c.args.link.now) (g.L.Link.shows c.copies.link) (g.L.Link.shows c.scan.new.link) ds c.args.tablet c.args.table.now.copies c.copies.copy path c.copies-test.true at c.copies.invariant.2
+    c.copies.invariant.5 c.scan.ensures.asked c.scan.ensures.asked_absent
+
+pub returns-in_err-push-in-Err-Why-clause-asks : goal.returns-in_err-push-in-Err-Why-clause-asks
+returns-in_err-push-in-Err-Why-clause-asks g c =
+    let ds = (table_view c.args.table.now).leaves in
+    let path = c.as_str.result.now in
+    let at : path ≡ (copy_in ds c.args.tablet (placement (length ds) c.args.tablet c.copies.copy)).path = c.as_str.ensures.value ∙ c.in_ok-path.ensures ∙ ap (λ (d : ℕ). (copy_in ds c.args.tablet d).path) c.placement-directory.ensures.leaf in
+    copy_step (plan_leaves c.args.plan.now) (g.L.Link.shows c.args.link.now) (g.L.Link.shows c.copies.link) (g.L.Link.shows c.scan.new.link) ds c.args.tablet c.args.table.now.copies c.copies.copy path c.copies-test.true at c.copies.invariant.2
+    c.copies.invariant.5 c.scan.ensures.asked c.scan.ensures.asked_absent

@@ -5,15 +5,16 @@ use Rattle.dr_nested.specs.PathView.{path_view}
 use Rattle.dr_table.specs.Views.{table_view}
 use Rattle.dr_assemble.specs.Views.{nodes_view}
 use Rattle.dr_outside.specs.Link.{Files, Lacks}
-use Rattle.dr_chunk.specs.Telling.{TellsFile}
+use Rattle.dr_outside.specs.Telling.{TellsFile}
 use Rattle.dr_formats.specs.Tablets.{placement}
 use Rattle.dr_file.specs.OpenedFiles.{HasCounts, is_link_fault}
 use Rattle.dr_file.specs.declared.file_fault.FileFault.{FileFault}
-use Rattle.dr_records.specs.FileRecords.{IsFaultOf}
+use Rattle.dr_tablets.specs.FileRecords.{IsFaultOf}
 use Rattle.dr_reading.specs.Scan.{Copy, copy_in, copies_from}
 use Rattle.dr_reading.specs.Left.{Tried, IsCauseAt, AreTried, causes_of}
 use Rattle.dr_tablets.specs.Views.{tried_view, all_tried_view}
 use Rattle.dr_tablets.proofs.CopyLemmas.{copies_next, copy_gives, copy_cause, tried_more, rises_more, not_absent, no_memory, told}
+use Rattle.dr_tablets.proofs.AskedTablets.{copy_step}
 use Rattle.dr_tablets.proofs.reading.read_tablet.Goals as goal
 
 pub returns-in-Ok-clause-read : goal.returns-in-Ok-clause-read
@@ -58,4 +59,30 @@ copies-preserved g c =
       c.read_records.ensures.same ∙ c.copies.invariant.2,
       λ is. c.read_records.ensures.stays_steady (c.copies.invariant.3 is),
       omega (arith, c.copies.invariant.4, c.read_records.ensures.never_falls),
+      copy_step F link (g.L.Link.shows c.copies.link) (g.L.Link.shows c.read_records.new.link) ds c.args.tablet c.args.table.now.copies c.copies.copy path c.copies-test.true at c.copies.invariant.2 c.copies.invariant.5
+          c.read_records.ensures.asked c.read_records.ensures.asked_absent,
     )
+
+pub returns-in-Ok-clause-asks : goal.returns-in-Ok-clause-asks
+returns-in-Ok-clause-asks g c =
+    let ds = (table_view c.args.table.now).leaves in
+    let path = c.as_str.result.now in
+    let at : path ≡ (copy_in ds c.args.tablet (placement (length ds) c.args.tablet c.copies.copy)).path = c.as_str.ensures.value ∙ c.in_ok-path.ensures ∙ ap (λ (d : ℕ). (copy_in ds c.args.tablet d).path) c.placement-directory.ensures.leaf in
+    copy_step (map path_view c.args.fields.now) (g.L.Link.shows c.args.link.now) (g.L.Link.shows c.copies.link) (g.L.Link.shows c.read_records.new.link) ds c.args.tablet c.args.table.now.copies c.copies.copy path c.copies-test.true at
+    c.copies.invariant.2 c.copies.invariant.5 c.read_records.ensures.asked c.read_records.ensures.asked_absent
+
+pub returns-in-Err-NoMemory-clause-asks : goal.returns-in-Err-NoMemory-clause-asks
+returns-in-Err-NoMemory-clause-asks g c =
+    let ds = (table_view c.args.table.now).leaves in
+    let path = c.as_str.result.now in
+    let at : path ≡ (copy_in ds c.args.tablet (placement (length ds) c.args.tablet c.copies.copy)).path = c.as_str.ensures.value ∙ c.in_ok-path.ensures ∙ ap (λ (d : ℕ). (copy_in ds c.args.tablet d).path) c.placement-directory.ensures.leaf in
+    copy_step (map path_view c.args.fields.now) (g.L.Link.shows c.args.link.now) (g.L.Link.shows c.copies.link) (g.L.Link.shows c.read_records.new.link) ds c.args.tablet c.args.table.now.copies c.copies.copy path c.copies-test.true at
+    c.copies.invariant.2 c.copies.invariant.5 c.read_records.ensures.asked c.read_records.ensures.asked_absent
+
+pub returns-in_err-push-in-Err-Why-clause-asks : goal.returns-in_err-push-in-Err-Why-clause-asks
+returns-in_err-push-in-Err-Why-clause-asks g c =
+    let ds = (table_view c.args.table.now).leaves in
+    let path = c.as_str.result.now in
+    let at : path ≡ (copy_in ds c.args.tablet (placement (length ds) c.args.tablet c.copies.copy)).path = c.as_str.ensures.value ∙ c.in_ok-path.ensures ∙ ap (λ (d : ℕ). (copy_in ds c.args.tablet d).path) c.placement-directory.ensures.leaf in
+    copy_step (map path_view c.args.fields.now) (g.L.Link.shows c.args.link.now) (g.L.Link.shows c.copies.link) (g.L.Link.shows c.read_records.new.link) ds c.args.tablet c.args.table.now.copies c.copies.copy path c.copies-test.true at
+    c.copies.invariant.2 c.copies.invariant.5 c.read_records.ensures.asked c.read_records.ensures.asked_absent

@@ -1,12 +1,13 @@
-use Rattle.std.proofs.Common.{◌≡◌, ◌≤◌, map}
+use Rattle.std.proofs.Common.{◌≡◌, ◌≤◌, map, [], ◌∷◌}
 use Rattle.std.specs.Prelude.{IsTrue}
 use Rattle.dr_nested.specs.SchemaView.{schema_view}
 use Rattle.dr_nested.specs.PathView.{path_view}
 use Rattle.dr_table.specs.Views.{table_view}
-use Rattle.dr_serving.specs.Causes.{RisesApart}
+use Rattle.dr_reading.specs.Causes.{RisesApart}
 use Rattle.dr_reading.specs.Scan.{copies_from}
 use Rattle.dr_reading.specs.Left.{AreTried, causes_of}
 use Rattle.dr_tablets.specs.Views.{all_tried_view}
+use Rattle.dr_tablets.specs.Asked.{AsksForTablets}
 use Rattle.dr_tablets.proofs.reading.read_tablet.Given as goal
 
 -- the copies before this one were tried
@@ -17,3 +18,4 @@ invariant-copies g l =
     × ((g.L.Link.shows l.link).held ≡ (g.L.Link.shows l.initial.link).held)
     × (IsTrue (g.L.Link.shows l.initial.link).is_steady → IsTrue (g.L.Link.shows l.link).is_steady)
     × ((g.L.Link.shows l.initial.link).faults ≤ (g.L.Link.shows l.link).faults)
+    × AsksForTablets (map path_view l.fields) (copies_from (table_view l.table).leaves l.tablet 0 l.table.copies ∷ []) (g.L.Link.shows l.initial.link) (g.L.Link.shows l.link)

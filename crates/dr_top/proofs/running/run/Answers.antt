@@ -44,7 +44,7 @@ returns-in-Err-Refused-clause-refused g c = λ _.
 pub returns-in-Err-Refused-clause-complete : goal.returns-in-Err-Refused-clause-complete
 returns-in-Err-Refused-clause-complete g c =
     let stop : c.in-Err-Refused.field-0 ≡ Stop.Refused c.in-Err-Refused.refusal = cc (c.in-Err-Refused.field-0-is) in
-    refused_incomplete _ _ _ _ _ _ _ _ _ _ (meant (map string_bytes c.args.words.now)) 2 c.in-Err-Refused.refusal (subst (λ (s : Stop). StopsMeant (meant (map string_bytes c.args.words.now)) (g.K.Link.shows c.args.keeper.now) (g.K.Link.shows c.answer.new.keeper) (g.S.Source.shows c.args.source.now) (g.S.Source.shows c.answer.new.source) (map g.L.Link.shows c.args.links.now) (map g.L.Link.shows c.answer.new.links) s) stop c.in-Err-Refused.ensures.stops)
+    refused_incomplete _ _ _ _ _ _ _ _ _ _ (meant (map string_bytes c.args.words.now)) c.in-Err-Refused.refusal (subst (λ (s : Stop). StopsMeant (meant (map string_bytes c.args.words.now)) (g.K.Link.shows c.args.keeper.now) (g.K.Link.shows c.answer.new.keeper) (g.S.Source.shows c.args.source.now) (g.S.Source.shows c.answer.new.source) (map g.L.Link.shows c.args.links.now) (map g.L.Link.shows c.answer.new.links) s) stop c.in-Err-Refused.ensures.stops)
 
 pub returns-in-Err-Usage-clause-calm : goal.returns-in-Err-Usage-clause-calm
 returns-in-Err-Usage-clause-calm g c = λ _.

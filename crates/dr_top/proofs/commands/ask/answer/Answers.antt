@@ -2,7 +2,7 @@ use Rattle.std.proofs.Common.{ap, sym, string_bytes, Some}
 use Rattle.dr_nested.specs.SchemaView.{schema_view}
 use Rattle.dr_commands.specs.Ask.{ask_meaning, ask_view}
 use Rattle.dr_top.proofs.OutcomeLemmas.{err_is, schema_file_stops}
-use Rattle.dr_top.proofs.AskEnds.{ask_refuses_schema, ask_query_stops, ask_load_stops, ask_ends}
+use Rattle.dr_top.proofs.AskEnds.{ask_refuses_schema, ask_query_stops, ask_load_stops, ask_ends, opened}
 use Rattle.dr_top.proofs.commands.ask.answer.Goals as goal
 
 pub returns-in_err-schema-clause-stops : goal.returns-in_err-schema-clause-stops
@@ -24,7 +24,12 @@ returns-in_err-text-clause-stops g c =
     (ask_load_stops (ask_view c.args.words.now) (g.K.Link.shows c.args.keeper.now) (g.K.Link.shows c.read_schema.new.keeper) (g.S.Source.shows c.args.source.now) (g.S.Source.shows c.ask_input.new.source) c.as_str.result.now c.as_str-2.result.now
     (schema_view c.in_ok-schema.schema) read.0 c.in_err-text.field-0.0
     c.as_str.ensures.value c.as_str-2.ensures.value c.in_ok-schema.ensures.schema read.1 c.in_ok-schema.ensures.calm
-    (λ e. c.in_err-text.ensures.source_cause (cc)) (λ n. c.in_err-text.ensures.source_calm (λ e. n (cc))) (λ e. c.in_err-text.ensures.never_keeper (cc)) c.in_err-text.ensures.refused)
+    (λ e. c.in_err-text.ensures.source_cause (cc)) (λ n. c.in_err-text.ensures.source_calm (λ e. n (cc))) (λ e. c.in_err-text.ensures.never_keeper (cc)) (λ e. c.in_err-text.ensures.accepts (cc)) c.in_err-text.ensures.refused)
+
+pub returns-clause-opened : goal.returns-clause-opened
+returns-clause-opened g c =
+    let read = c.in_ok-plan.ensures.plan in
+    opened (ask_view c.args.words.now) (g.K.Link.shows c.args.keeper.now).held c.as_str.result.now c.as_str-2.result.now (schema_view c.in_ok-schema.schema) read.0 c.as_str.ensures.value c.as_str-2.ensures.value c.in_ok-schema.ensures.schema read.1
 
 pub returns-clause-text : goal.returns-clause-text
 returns-clause-text g c =

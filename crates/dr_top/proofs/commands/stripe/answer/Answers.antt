@@ -5,7 +5,7 @@ use Rattle.dr_levels.specs.Views.{column_view}
 use Rattle.dr_striper.proofs.FoundLemmas.{found_is_of}
 use Rattle.dr_commands.specs.Stripe.{stripe_meaning, stripe_view}
 use Rattle.dr_top.proofs.OutcomeLemmas.{err_is, schema_file_stops}
-use Rattle.dr_top.proofs.StripeEnds.{stripe_refuses_schema, stripe_field_stops, stripe_input_stops, stripe_ends}
+use Rattle.dr_top.proofs.StripeEnds.{stripe_refuses_schema, stripe_field_stops, stripe_input_stops, stripe_ends, opened}
 use Rattle.dr_top.proofs.commands.stripe.answer.Goals as goal
 
 pub returns-in_err-schema-clause-stops : goal.returns-in_err-schema-clause-stops
@@ -28,6 +28,10 @@ returns-in_err-column-clause-stops g c =
     err_is _ _ _ c.from_residual-in_err-column.ensures.1
     (stripe_input_stops (stripe_view c.args.stripe.now) (g.K.Link.shows c.args.keeper.now) (g.K.Link.shows c.read_schema.new.keeper) (g.S.Source.shows c.args.source.now) (g.S.Source.shows c.stripe_records.new.source) c.as_str.result.now c.as_str-2.result.now (schema_view c.in_ok-schema.schema) (path_view c.in_ok-field.field) c.in_err-column.field-0.0
     c.as_str.ensures.value c.as_str-2.ensures.value c.in_ok-schema.ensures.schema c.in_ok-field.ensures.leaf c.in_ok-schema.ensures.calm c.in_err-column.ensures.stops)
+
+pub returns-clause-opened : goal.returns-clause-opened
+returns-clause-opened g c =
+    opened (stripe_view c.args.stripe.now) (g.K.Link.shows c.args.keeper.now).held c.as_str.result.now c.as_str-2.result.now (schema_view c.in_ok-schema.schema) (path_view c.in_ok-field.field) c.as_str.ensures.value c.as_str-2.ensures.value c.in_ok-schema.ensures.schema c.in_ok-field.ensures.leaf
 
 pub returns-clause-text : goal.returns-clause-text
 returns-clause-text g c =

@@ -1,2 +1,0 @@
--- the rules above paths and operators
-pub mod RuleLemmas

@@ -1,4 +1,0 @@
--- levels of paths
-pub mod LevelLemmas
--- a level that stands for earlier paths
-pub mod RelatedLemmas

@@ -1,0 +1,2 @@
+pub mod StructFaultLaws
+pub mod TableFaultLaws

@@ -1,0 +1,36 @@
+-- Why the next line gives no record.
+use Rattle.std.specs.Prelude.{◌≡◌, ℕ, List, Option, Result, Ok, Err, ⊤}
+use Rattle.dr_meaning.specs.Schema.{Fields}
+use Rattle.dr_meaning.specs.Record as tree
+use Rattle.dr_meaning.specs.JsonRecord.{RecordFault}
+use Rattle.dr_nested.specs.Views.{node_view}
+use Rattle.dr_nested.specs.declared.record.Node.{Node}
+use Rattle.dr_json.specs.Faults.{record_problem_view}
+use Rattle.dr_lines.specs.Cutting.{BeginsLine}
+use Rattle.dr_lines.specs.declared.cutter.LineFault.{LineFault}
+use Rattle.dr_outside.specs.Faults.{raised}
+use Rattle.dr_outside.specs.Source.{SourceShown}
+use Rattle.dr_input.specs.Taken.{RefusesNext}
+use Rattle.dr_input.specs.Faults.{line_problem_view}
+use Rattle.dr_input.specs.declared.fault.LineProblem.{LineProblem}
+use Rattle.dr_input.specs.declared.fault.InputFault.{InputFault}
+
+-- a line's record, or the line is refused by this number; want of memory may come in place of either
+abbrev pub ReadsLine : Result tree.Node RecordFault → ℕ → Result Node InputFault → Type 0
+ReadsLine meant number (Ok n) = meant ≡ Ok (node_view n)
+ReadsLine meant number (Err InputFault.NoMemory) = ⊤
+ReadsLine meant number (Err InputFault.Source) = ⊥
+ReadsLine meant number (Err (InputFault.Refused n (LineProblem.Record w))) = (n ≡ number) × (meant ≡ Err (record_problem_view w))
+ReadsLine meant number (Err (InputFault.Refused n w)) = ⊥
+
+-- the fault of a line that isn't there
+abbrev pub line_fault_in : LineFault → ℕ → InputFault
+line_fault_in LineFault.ReadFault number = InputFault.Source
+line_fault_in LineFault.TooLong number = InputFault.Refused number LineProblem.TooLong
+
+-- why the next line gives no record, behind so many lines: memory was wanting; the source failed, and gave no whole line of what was left; the line is refused
+abbrev pub NextStops : Fields → ℕ → ℕ → Option (List ℕ) → SourceShown → SourceShown → InputFault → Type 0
+NextStops fs most number left before now InputFault.NoMemory = now.faults ≡ before.faults
+NextStops fs most number left before now InputFault.Source = (now.faults ≡ raised before.faults) × BeginsLine left now.left
+NextStops fs most number left before now (InputFault.Refused n w) =
+    (now.faults ≡ before.faults) × RefusesNext fs most number left (record { line = n; fault = line_problem_view w })

@@ -1,2 +1,0 @@
--- the leaves of the root are those of the schema
-pub mod WayLemmas

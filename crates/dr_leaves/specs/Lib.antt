@@ -1,2 +1,0 @@
--- the leaves below a way
-pub mod Ways

@@ -1,2 +1,0 @@
--- directories and copies that are refused
-pub mod WordLemmas

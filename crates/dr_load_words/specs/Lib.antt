@@ -1,2 +1,0 @@
--- what the problems of words stand for
-pub mod Words

@@ -1,5 +1,0 @@
-use Rattle.dr_loaded.proofs.LoadedLemmas.{loaded_records_are_held}
-use Rattle.dr_loaded.proofs.loaded_laws.loaded_records_are_held.Goals as goal
-
-pub returns : goal.returns
-returns c = loaded_records_are_held

@@ -1,5 +1,0 @@
-use Rattle.dr_loaded.proofs.LoadedLemmas.{loaded_copies_are_files, loaded_table_is_held}
-use Rattle.dr_loaded.proofs.loaded_laws.loaded_table_is_held.Goals as goal
-
-pub returns : goal.returns
-returns c = record { files = loaded_copies_are_files; held = loaded_table_is_held }

@@ -1,2 +1,0 @@
--- operands of unlike types
-pub mod UnlikeLemmas

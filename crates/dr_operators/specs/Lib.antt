@@ -1,2 +1,0 @@
--- what operators make
-pub mod Operators

@@ -1,0 +1,18 @@
+use Rattle.std.proofs.Common.{arith}
+use Rattle.std.specs.List.{flat_map}
+use Rattle.dr_meaning.specs.Binding as binding
+use Rattle.dr_bound_parts.specs.Faults.{earlier, first_view}
+use Rattle.dr_planning.proofs.RuleLemmas.{noted_item, noted_items}
+use Rattle.dr_planning.proofs.rules.note_unrelated_items.Goals as goal
+
+pub returns : goal.returns
+returns c = λ fs ls ks bs ch h.
+    let rule = λ (i : binding.BoundItem). binding.unrelated_in_term ks i.term in
+    noted_items fs ls rule bs c.args.items.now c.items.item-index (first_view c.items.first) (earlier (first_view c.args.first.now) (binding.first_fault (flat_map rule bs)))
+    h (omega arith) (c.items.invariant fs ls ks bs ch h)
+
+pub items-preserved : goal.items-preserved
+items-preserved c = λ fs ls ks bs ch h.
+    let rule = λ (i : binding.BoundItem). binding.unrelated_in_term ks i.term in
+    noted_item fs ls rule bs c.args.items.now c.items.item-index c.item-item.result (first_view c.items.first) (first_view c.note_unrelated_term.new.first) (earlier (first_view c.args.first.now) (binding.first_fault (flat_map rule bs)))
+    h (omega arith) c.item-item.is (λ b ib. c.note_unrelated_term.ensures fs ls ks b.term ch ib.term) (c.items.invariant fs ls ks bs ch h)

@@ -1,0 +1,109 @@
+//! The text of an object, read from cells.
+
+ghost use Rattle.std.specs.Prelude.{◌≡◌, ◌++◌, drop, map, string_bytes, IfOk, OnOk, false, ◌||◌, nat_lt};
+ghost use Rattle.dr_meaning.specs.Print as print;
+ghost use Rattle.dr_meaning.specs.Query.{objects_of};
+ghost use Rattle.dr_cells.specs.Results.{read_object, read_lists, read_times};
+ghost use Rattle.dr_cells.specs.Shapes.{shape_view, lists_view};
+ghost use Rattle.dr_cells.specs.Views.{cells_view};
+ghost use Rattle.dr_print.specs.Parts.{separated, value_members};
+
+use crate::cell_text::{count_at, push_value};
+use crate::parts::{push_comma, push_name};
+use crate::skipping::skip;
+use dr_cells::{Cells, ListShape, Shape};
+use std::alloc::{AllocError, Global};
+
+/// Appends the values of these names, which begin at a place.
+fn push_values(
+    alloc: Global,
+    text: &mut String,
+    names: &[String],
+    cells: &Cells,
+    at: usize,
+) -> Result<(), AllocError>
+    ensures { OnOk result (string_bytes text.new ≡ string_bytes text.old ++ separated false (value_members (map string_bytes names.now) (drop at (cells_view cells.now)))) }
+{
+    'names: for (number, name) in names.iter().enumerate() {
+        push_comma(text, number > 0)?;
+        push_name(alloc, text, name.as_str())?;
+        push_value(alloc, text, cells, skip(cells, at, number))?;
+    }
+    Ok(())
+}
+
+/// Whether something stands before the list of this number.
+fn stands_before(behind: bool, number: usize) -> bool
+    ensures { result ≡ (behind || nat_lt 0 number) }
+{
+    behind || number > 0
+}
+
+/// Appends the object that begins at a place, and tells the place behind it.
+#[cycle(objects)]
+pub fn push_object(
+    shape: &Shape,
+    alloc: Global,
+    text: &mut String,
+    cells: &Cells,
+    at: usize,
+) -> Result<usize, AllocError>
+    ensures text { OnOk result (string_bytes text.new ≡ string_bytes text.old ++ print.object_text (read_object (shape_view shape.now) (drop at (cells_view cells.now))).object) }
+    ensures place { IfOk result (λ end. drop end (cells_view cells.now) ≡ (read_object (shape_view shape.now) (drop at (cells_view cells.now))).rest) }
+{
+    text.push_str("{")?;
+    push_values(alloc, text, &shape.names, cells, at)?;
+    let counts = skip(cells, at, shape.names.len());
+    let inner = skip(cells, counts, shape.lists.len());
+    let behind = !shape.names.is_empty();
+    let end = push_lists(&shape.lists, alloc, text, cells, counts, inner, behind)?;
+    text.push_str("}")?;
+    Ok(end)
+}
+
+/// Appends lists, by the places of their counts and of their objects, and tells the place behind them.
+#[cycle(objects)]
+fn push_lists(
+    lists: &Vec<ListShape>,
+    alloc: Global,
+    text: &mut String,
+    cells: &Cells,
+    counts: usize,
+    at: usize,
+    behind: bool,
+) -> Result<usize, AllocError>
+    ensures text { OnOk result (string_bytes text.new ≡ string_bytes text.old ++ separated behind (print.entry_texts (read_lists (lists_view (lists.now).items) (drop counts (cells_view cells.now)) (drop at (cells_view cells.now))).object)) }
+    ensures place { IfOk result (λ end. drop end (cells_view cells.now) ≡ (read_lists (lists_view (lists.now).items) (drop counts (cells_view cells.now)) (drop at (cells_view cells.now))).rest) }
+{
+    let mut inner = at;
+    'lists: for (number, list) in lists.iter().enumerate() {
+        push_comma(text, stands_before(behind, number))?;
+        push_name(alloc, text, list.name.as_str())?;
+        let count = count_at(cells, skip(cells, counts, number));
+        text.push_str("[")?;
+        inner = push_objects(&list.shape, alloc, text, cells, count, inner)?;
+        text.push_str("]")?;
+    }
+    Ok(inner)
+}
+
+/// Appends so many objects, and tells the place behind them.
+#[cycle(objects)]
+fn push_objects(
+    shape: &Shape,
+    alloc: Global,
+    text: &mut String,
+    cells: &Cells,
+    count: u64,
+    at: usize,
+) -> Result<usize, AllocError>
+    ensures text { OnOk result (string_bytes text.new ≡ string_bytes text.old ++ separated false (print.object_texts (objects_of (read_times (read_object (shape_view shape.now)) count (drop at (cells_view cells.now))).objects))) }
+    ensures place { IfOk result (λ end. drop end (cells_view cells.now) ≡ (read_times (read_object (shape_view shape.now)) count (drop at (cells_view cells.now))).rest) }
+{
+    let mut next = at;
+    'objects: for number in 0..count {
+        push_comma(text, number > 0)?;
+        next = push_object(shape, alloc, text, cells, next)?;
+    }
+    Ok(next)
+}

@@ -1,5 +1,0 @@
-use Rattle.dr_query_laws.proofs.LeavesOnce.{leaves_come_once}
-use Rattle.dr_query_laws.proofs.leaf_laws.query_leaves_come_once.Goals as goal
-
-pub returns : goal.returns
-returns c = leaves_come_once

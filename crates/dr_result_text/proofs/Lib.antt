@@ -1,2 +1,0 @@
--- texts that grow part by part
-pub mod PartLemmas

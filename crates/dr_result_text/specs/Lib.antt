@@ -1,2 +1,0 @@
--- the parts of a text
-pub mod Parts

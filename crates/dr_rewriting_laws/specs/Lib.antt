@@ -1,2 +1,0 @@
--- the leaf line, read back
-pub mod ReadBack

@@ -1,6 +1,0 @@
-//! Steps of work, counted.
-#![tactic(auto)]
-
-mod steps;
-
-pub use steps::Steps;

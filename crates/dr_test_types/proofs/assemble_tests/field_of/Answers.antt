@@ -1,7 +1,0 @@
-use Rattle.dr_nested.specs.Views.{fields_view}
-use Rattle.dr_nested.specs.PathView.{path_view}
-use Rattle.dr_meaning.proofs.FoundLemmas.{found_is_leaf}
-use Rattle.dr_test_types.proofs.assemble_tests.field_of.Goals as goal
-
-pub returns-in-Ok : goal.returns-in-Ok
-returns-in-Ok c = found_is_leaf c.args.name.now (fields_view c.args.schema.now.fields.items) (path_view c.in-Ok.field) c.in-Ok.ensures

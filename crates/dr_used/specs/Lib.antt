@@ -1,2 +1,0 @@
--- the numbers of leaves among others
-pub mod Numbers
