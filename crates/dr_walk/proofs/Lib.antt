@@ -1,0 +1,23 @@
+-- a course laid out stands for its items
+pub mod FlatLemmas
+-- the leaves of a course's items
+pub mod LeafLemmas
+-- the selected leaves behind the fields of a group
+pub mod PickLemmas
+-- a group's fields, from one on
+pub mod FieldLemmas
+-- laying out, part by part
+pub mod LayingLemmas
+-- how many repeated fields and leaves there are
+pub mod SizeLemmas
+-- where a walk stands, by the item that is next
+pub mod SpotLemmas
+-- a walk over columns
+pub mod WalkLemmas
+-- what a walk's answers say of records
+pub mod AnswerLemmas
+-- how many moves there are at most
+pub mod BoundLemmas
+-- examples, by computation
+pub mod WorkedLaying
+pub mod WorkedWalking

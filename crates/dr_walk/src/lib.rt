@@ -1,0 +1,18 @@
+//! The walk of records over their columns, one move at a time: no record is made.
+#![tactic(auto)]
+
+mod counting;
+mod course;
+mod fault;
+mod heads;
+mod items;
+mod laying;
+mod level;
+mod picks;
+mod spot;
+mod turn;
+mod values;
+mod walk;
+
+pub use fault::AssembleFault;
+pub use walk::Walk;
