@@ -18,10 +18,11 @@ use dr_table::Table;
 use std::alloc::Global;
 use std::thread::Threads;
 
-/// What a plan's query prints of the records of a table, each copy of which is held as a file by a link that fails no more.
+/// What a plan's query prints of the records of a table, each copy of which is held as a file by a link that fails no
+/// more.
 ///
-/// Errors: want of memory alone. That a tablet is left, for which the body answers `KeepFault`, can't happen: the cause at a copy
-/// would be a failed read, or bytes that are no file.
+/// Errors: want of memory alone. That a tablet is left, for which the body answers `KeepFault`, can't happen: the cause
+/// at a copy would be a failed read, or bytes that are no file.
 pub(crate) fn answer_steady<R: Threads + Sync, L: Link>(
     rt: &R,
     alloc: Global,
@@ -34,7 +35,9 @@ pub(crate) fn answer_steady<R: Threads + Sync, L: Link>(
     requires fan { 1 ≤ fan }
     requires steady { IsTrue (L.shows link.old).is_steady }
     requires held { (R : List Node) × HoldsTableOf (table_view table.now) (L.shows link.old).held R }
-    ensures text { (R : List Node) → HoldsTableOf (table_view table.now) (L.shows link.old).held R → IfOk result (λ t. (q : Query) → IsPlanOf (schema_view (table.now).schema) q plan.now → string_bytes t ≡ answer_text (schema_view (table.now).schema) q R) }
+    ensures text { (R : List Node) → HoldsTableOf (table_view table.now) (L.shows link.old).held R
+        → IfOk result (λ t. (q : Query) → IsPlanOf (schema_view (table.now).schema) q plan.now → string_bytes t
+        ≡ answer_text (schema_view (table.now).schema) q R) }
     ensures memory { IfErr result (λ e. e ≡ LoadFault.NoMemory) }
 {
     match query_table(rt, alloc, link, table, plan, fan) {

@@ -31,11 +31,13 @@ fn one_leaf(alloc: Global) -> Result<Vec<String>, NoMemory>
     Ok(leaves)
 }
 
-/// What a plan's query prints of the records of an input, which is read to its end. They are loaded into memory as a table, `rows`
-/// of them to a tablet, and the answer is that of the table, whose serving tree has at most `fan` children to a server.
+/// What a plan's query prints of the records of an input, which is read to its end. They are loaded into memory as a
+/// table, `rows` of them to a tablet, and the answer is that of the table, whose serving tree has at most `fan`
+/// children to a server.
 ///
-/// Errors: the first line that is refused, as is each past 4,096 times `rows`; the source failed, and no whole line that it gave
-/// before is refused; want of memory. Nothing else: no tablet of the table is left, whether the source tells its bytes or not.
+/// Errors: the first line that is refused, as is each past 4,096 times `rows`; the source failed, and no whole line
+/// that it gave before is refused; want of memory. Nothing else: no tablet of the table is left, whether the source
+/// tells its bytes or not.
 pub fn ask_input<R: Threads + Sync, S: Source>(
     rt: &R,
     alloc: Global,
@@ -49,11 +51,17 @@ pub fn ask_input<R: Threads + Sync, S: Source>(
     requires has_rows { 0 < rows }
     requires few_rows { rows ≤ 1000000 }
     requires fan { 1 ≤ fan }
-    ensures text { IfOk result (λ t. (q : Query) → IsPlanOf (schema_view schema) q plan.now → WhereTold (S.shows source.old).left (IsAnswerTo (schema_view schema) q rows (string_bytes t))) }
+    ensures text { IfOk result (λ t. (q : Query) → IsPlanOf (schema_view schema) q plan.now
+        → WhereTold (S.shows source.old).left (IsAnswerTo (schema_view schema) q rows (string_bytes t))) }
     ensures end { OnOk result (WhereTold (S.shows source.old).left (λ _. (S.shows source.new).left ≡ Some [])) }
-    ensures refused { IfErr result (λ e. MatchOption (refusal_of e) ⊤ (λ r. WhereTold (S.shows source.old).left (λ input. records_of (schema_view schema).fields (most_asked rows) input ≡ Err r))) }
-    ensures accepts { result ≡ Err LoadFault.ReadFault → AcceptsRead (schema_view schema).fields (most_asked rows) 0 (S.shows source.old).left (S.shows source.new).left }
-    ensures source_cause { result ≡ Err LoadFault.ReadFault → (S.shows source.new).faults ≡ raised (S.shows source.old).faults }
+    ensures refused { IfErr result (λ e. MatchOption (refusal_of e) ⊤
+        (λ r. WhereTold (S.shows source.old).left
+        (λ input. records_of (schema_view schema).fields (most_asked rows) input ≡ Err r))) }
+    ensures accepts { result ≡ Err LoadFault.ReadFault
+        → AcceptsRead (schema_view schema).fields (most_asked rows) 0 (S.shows source.old).left
+        (S.shows source.new).left }
+    ensures source_cause { result ≡ Err LoadFault.ReadFault → (S.shows source.new).faults
+        ≡ raised (S.shows source.old).faults }
     ensures source_calm { result ≢ Err LoadFault.ReadFault → (S.shows source.new).faults ≡ (S.shows source.old).faults }
     ensures never_keeper { result ≢ Err LoadFault.KeepFault }
 {

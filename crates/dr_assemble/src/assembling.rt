@@ -30,7 +30,8 @@ fn strips_of<'a>(
 ) -> Result<Vec<Strip<'a>>, AllocError>
     requires lengths { length fields.now ≡ length columns.now }
     requires within { All (λ i. i < length fields.now) order.now }
-    ensures { IfOk result (λ v. strips_view v.items ≡ restoring.strips_at order.now (paths_view fields.now) (columns_view columns.now)) }
+    ensures { IfOk result (λ v. strips_view v.items
+        ≡ restoring.strips_at order.now (paths_view fields.now) (columns_view columns.now)) }
 {
     let mut strips = Vec::with_capacity(alloc, order.len())?;
     'order: for place in order {
@@ -60,7 +61,9 @@ fn restore_rows(
     rows: u64,
 ) -> Result<Vec<Node>, AssembleFault>
     requires { depth (fields_view (fields.now).items) ≤ greatest_depth }
-    ensures { Restores (λ v. nodes_view v.items) (restoring.restored_each (restoring.assembled (fields_view (fields.now).items) 0 0 0) 0 rows (strips_view strips.now)) result }
+    ensures { Restores (λ v. nodes_view v.items)
+        (restoring.restored_each (restoring.assembled (fields_view (fields.now).items) 0 0 0) 0 rows
+        (strips_view strips.now)) result }
 {
     let mut nodes = Vec::new(alloc);
     let mut left = copied(alloc, strips)?;
@@ -80,7 +83,8 @@ fn restore_records(
     rows: u64,
 ) -> Result<Vec<Node>, AssembleFault>
     requires { depth (fields_view (fields.now).items) ≤ greatest_depth }
-    ensures { Restores (λ v. nodes_view v.items) (restoring.assembled_records (fields_view (fields.now).items) rows (strips_view strips.now)) result }
+    ensures { Restores (λ v. nodes_view v.items)
+        (restoring.assembled_records (fields_view (fields.now).items) rows (strips_view strips.now)) result }
 {
     if has_rows(strips, rows) {
         restore_rows(alloc, fields, strips, rows)
@@ -98,7 +102,8 @@ fn with_columns(
     requires { length fields.now ≡ length columns.now }
     ensures same { IfOk result (λ v. v.items ≡ nodes.items) }
     ensures have { IfOk result (λ v. columns_at fields.now nodes.items ≡ columns_view columns.now) }
-    ensures others { IsErrOf result AssembleFault.BadData → columns_at fields.now nodes.items ≡ columns_view columns.now → ⊥ }
+    ensures others { IsErrOf result AssembleFault.BadData → columns_at fields.now nodes.items ≡ columns_view columns.now
+        → ⊥ }
 {
     if have_columns(fields, columns, &nodes) {
         Ok(nodes)
@@ -109,8 +114,8 @@ fn with_columns(
 
 /// The projections to the leaves of the fields of as many records of the schema as there are rows, which have these
 /// columns, one for each field. Nodes are restored of the columns as if they were some records', the fields in schema
-/// order, and what they give each column is then compared with it, triplet by triplet. The time is linear in the triplets
-/// and in the nodes' slots.
+/// order, and what they give each column is then compared with it, triplet by triplet. The time is linear in the
+/// triplets and in the nodes' slots.
 ///
 /// Errors: `BadData` exactly where no such records have these columns; want of memory.
 pub fn assemble(
@@ -121,9 +126,13 @@ pub fn assemble(
     rows: u64,
 ) -> Result<Vec<Node>, AssembleFault>
     requires { list_all (is_leaf_path (fields_view (schema.now).fields.items)) (paths_view fields.now) ≡ true }
-    ensures records { IfOk result (λ v. AreProjections (fields_view (schema.now).fields.items) (paths_view fields.now) (columns_view columns.now) rows (nodes_view v.items)) }
-    ensures each { (R : List record_tree.Node) → HasColumns (fields_view (schema.now).fields.items) (paths_view fields.now) (columns_view columns.now) rows R → IfOk result (λ v. nodes_view v.items ≡ map (project (paths_view fields.now)) R) }
-    ensures refused { IsErrOf result AssembleFault.BadData → NoneHas (fields_view (schema.now).fields.items) (paths_view fields.now) (columns_view columns.now) rows }
+    ensures records { IfOk result (λ v. AreProjections (fields_view (schema.now).fields.items) (paths_view fields.now)
+        (columns_view columns.now) rows (nodes_view v.items)) }
+    ensures each { (R : List record_tree.Node)
+        → HasColumns (fields_view (schema.now).fields.items) (paths_view fields.now) (columns_view columns.now) rows R
+        → IfOk result (λ v. nodes_view v.items ≡ map (project (paths_view fields.now)) R) }
+    ensures refused { IsErrOf result AssembleFault.BadData
+        → NoneHas (fields_view (schema.now).fields.items) (paths_view fields.now) (columns_view columns.now) rows }
 {
     if fields.len() != columns.len() {
         return Err(AssembleFault::BadData);

@@ -44,7 +44,8 @@ impl Place {
 
 /// Passes a triplet, where it is the next.
 fn pass_triplet(rest: &mut Triplets<'_>, begin: u8, definition: u8, value: Option<&Value>) -> bool
-    ensures { Passes (meant.triplet begin definition (option_map lent_value value.entry) ∷ []) (triplets_view rest.old) (triplets_view rest.new) result }
+    ensures { Passes (meant.triplet begin definition (option_map lent_value value.entry) ∷ []) (triplets_view rest.old)
+        (triplets_view rest.new) result }
 {
     let value = match value {
         Some(value) => Some(ValueRef::of(value)),
@@ -93,7 +94,8 @@ fn pass_instance(
 ) -> bool
     requires level { place.level + length steps.now ≤ greatest_depth }
     requires definition { place.definition + length steps.now ≤ greatest_depth }
-    ensures { Passes (meant.instance_column (map step_view steps.now) place.level place.definition begin (instance_view instance.now)) (triplets_view rest.old) (triplets_view rest.new) result }
+    ensures { Passes (meant.instance_column (map step_view steps.now) place.level place.definition begin
+        (instance_view instance.now)) (triplets_view rest.old) (triplets_view rest.new) result }
 {
     match steps {
         [] => pass_triplet(rest, begin, place.definition, value_in(instance)),
@@ -116,7 +118,8 @@ fn pass_field(
 ) -> bool
     requires level { place.level + length below.now + 1 ≤ greatest_depth }
     requires definition { place.definition + length below.now + 1 ≤ greatest_depth }
-    ensures { Passes (field_column (map step_view below.now) (step_view step.now) place.level place.definition begin (instances_view instances.now)) (triplets_view rest.old) (triplets_view rest.new) result }
+    ensures { Passes (field_column (map step_view below.now) (step_view step.now) place.level place.definition begin
+        (instances_view instances.now)) (triplets_view rest.old) (triplets_view rest.new) result }
 {
     let inner = place.below(step);
     match instances {
@@ -132,7 +135,8 @@ fn pass_field(
 fn pass_later(rest: &mut Triplets<'_>, steps: &[Step], place: Place, later: &[Instance]) -> bool
     requires level { place.level + length steps.now ≤ greatest_depth }
     requires definition { place.definition + length steps.now ≤ greatest_depth }
-    ensures { Passes (meant.each_later (meant.instance_column (map step_view steps.now) place.level place.definition) place.level (instances_view later.now)) (triplets_view rest.old) (triplets_view rest.new) result }
+    ensures { Passes (meant.each_later (meant.instance_column (map step_view steps.now) place.level place.definition)
+        place.level (instances_view later.now)) (triplets_view rest.old) (triplets_view rest.new) result }
 {
     'later: for instance in later {
         if !pass_instance(rest, steps, place, place.level, instance) {
@@ -144,7 +148,8 @@ fn pass_later(rest: &mut Triplets<'_>, steps: &[Step], place: Place, later: &[In
 
 /// Passes what a record gives a path.
 fn pass_record(rest: &mut Triplets<'_>, field: &Path, node: &Node) -> bool
-    ensures { Passes (meant.record_column (path_view field.now).path (node_view node.now)) (triplets_view rest.old) (triplets_view rest.new) result }
+    ensures { Passes (meant.record_column (path_view field.now).path (node_view node.now)) (triplets_view rest.old)
+        (triplets_view rest.new) result }
 {
     let root = Place {
         level: 0,
@@ -160,7 +165,8 @@ fn pass_record(rest: &mut Triplets<'_>, field: &Path, node: &Node) -> bool
 
 /// Whether nodes have this column.
 fn have_column(field: &Path, column: &Column, nodes: &[Node]) -> bool
-    ensures { IsTrue result ↔ (meant.column (path_view field.now).path (nodes_view nodes.now) ≡ column_view column.now) }
+    ensures { IsTrue result ↔ (meant.column (path_view field.now).path (nodes_view nodes.now)
+        ≡ column_view column.now) }
 {
     let mut rest = column.triplets();
     'nodes: for node in nodes {

@@ -85,7 +85,8 @@ fn restore_instance(
 ) -> Result<Instance, AssembleFault>
     requires levels { level + shape_depth (shape_view shape.now) ≤ greatest_depth }
     requires definitions { definition + shape_depth (shape_view shape.now) ≤ greatest_depth }
-    ensures { Restores instance_view (restoring.assembled_one (shape_view shape.now) level definition (strips_view strips.now)) result }
+    ensures { Restores instance_view (restoring.assembled_one (shape_view shape.now) level definition
+        (strips_view strips.now)) result }
 {
     match shape {
         Shape::Leaf(kind) => restore_atom(alloc, *kind, strips),
@@ -107,7 +108,9 @@ fn restore_single(
 ) -> Result<Vec<Instance>, AssembleFault>
     requires levels { level + shape_depth (shape_view shape.now) ≤ greatest_depth }
     requires definitions { definition + shape_depth (shape_view shape.now) ≤ greatest_depth }
-    ensures { Restores (λ v. map instance_view v.items) (option_map (λ x. x ∷ []) (restoring.assembled_one (shape_view shape.now) level definition (strips_view strips.now))) result }
+    ensures { Restores (λ v. map instance_view v.items)
+        (option_map (λ x. x ∷ []) (restoring.assembled_one (shape_view shape.now) level definition
+        (strips_view strips.now))) result }
 {
     let mut instances = Vec::with_capacity(alloc, 1)?;
     instances.push(restore_instance(alloc, shape, strips, level, definition)?)?;
@@ -126,7 +129,9 @@ fn restore_each(
 ) -> Result<Vec<Instance>, AssembleFault>
     requires levels { level + shape_depth (shape_view shape.now) ≤ greatest_depth }
     requires definitions { definition + shape_depth (shape_view shape.now) ≤ greatest_depth }
-    ensures { Restores (λ v. map instance_view v.items) (restoring.restored_each (restoring.assembled_one (shape_view shape.now) level definition) level count (strips_view strips.now)) result }
+    ensures { Restores (λ v. map instance_view v.items)
+        (restoring.restored_each (restoring.assembled_one (shape_view shape.now) level definition) level count
+        (strips_view strips.now)) result }
 {
     let mut instances = Vec::with_capacity(alloc, count)?;
     let mut left = copied(alloc, strips)?;
@@ -150,7 +155,9 @@ fn restore_instances(
 ) -> Result<Vec<Instance>, AssembleFault>
     requires levels { level + 1 + shape_depth (shape_view (field.now).shape) ≤ greatest_depth }
     requires definitions { definition + 1 + shape_depth (shape_view (field.now).shape) ≤ greatest_depth }
-    ensures { Restores (λ v. map instance_view v.items) (restoring.field_instances (rep_view (field.now).rep) (shape_view (field.now).shape) level definition (triplets_view lead.entry) (strips_view strips.now)) result }
+    ensures { Restores (λ v. map instance_view v.items)
+        (restoring.field_instances (rep_view (field.now).rep) (shape_view (field.now).shape) level definition
+        (triplets_view lead.entry) (strips_view strips.now)) result }
 {
     match field.rep {
         Rep::Required => restore_single(alloc, &field.shape, strips, level, definition),
@@ -181,7 +188,8 @@ fn restore_slot(
 ) -> Result<Slot, AssembleFault>
     requires levels { level + 1 + shape_depth (shape_view (field.now).shape) ≤ greatest_depth }
     requires definitions { definition + 1 + shape_depth (shape_view (field.now).shape) ≤ greatest_depth }
-    ensures { Restores slot_view (restoring.assembled_field (rep_view (field.now).rep) (shape_view (field.now).shape) level definition (strips_view strips.now)) result }
+    ensures { Restores slot_view (restoring.assembled_field (rep_view (field.now).rep)
+        (shape_view (field.now).shape) level definition (strips_view strips.now)) result }
 {
     match strips {
         [] => Ok(Slot::Gap),
@@ -205,7 +213,8 @@ pub fn restore_node(
 ) -> Result<Node, AssembleFault>
     requires levels { level + depth (fields_view (fields.now).items) ≤ greatest_depth }
     requires definitions { definition + depth (fields_view (fields.now).items) ≤ greatest_depth }
-    ensures { Restores node_view (restoring.assembled (fields_view (fields.now).items) 0 level definition (strips_view strips.now)) result }
+    ensures { Restores node_view (restoring.assembled (fields_view (fields.now).items) 0 level definition
+        (strips_view strips.now)) result }
 {
     let rests = without_steps(alloc, strips)?;
     let mut slots = Vec::with_capacity(alloc, fields.len())?;

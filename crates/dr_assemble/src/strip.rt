@@ -37,8 +37,10 @@ fn above_length(places: &[Levels], level: u32) -> usize
 /// this.
 fn first_length(triplets: Triplets<'_>, level: u32) -> usize
     ensures within { result ≤ length (triplets_view triplets.entry) }
-    ensures first { take result (triplets_view triplets.entry) ≡ restoring.first_piece level (triplets_view triplets.entry) }
-    ensures later { drop result (triplets_view triplets.entry) ≡ restoring.later_pieces level (triplets_view triplets.entry) }
+    ensures first { take result (triplets_view triplets.entry)
+        ≡ restoring.first_piece level (triplets_view triplets.entry) }
+    ensures later { drop result (triplets_view triplets.entry)
+        ≡ restoring.later_pieces level (triplets_view triplets.entry) }
 {
     match triplets.levels() {
         [] => 0,
@@ -127,7 +129,8 @@ impl<'a> Strip<'a> {
 /// How many strips at the front lead into the field at a place.
 pub fn front_length(strips: &[Strip], place: usize) -> usize
     ensures within { result ≤ length strips.now }
-    ensures front { map restoring.without_step (take result (strips_view strips.now)) ≡ restoring.front_at place (strips_view strips.now) }
+    ensures front { map restoring.without_step (take result (strips_view strips.now))
+        ≡ restoring.front_at place (strips_view strips.now) }
     ensures behind { drop result (strips_view strips.now) ≡ restoring.after_front place (strips_view strips.now) }
 {
     'strips: for (count, strip) in strips.iter().enumerate() {

@@ -22,14 +22,16 @@ use std::alloc::Global;
 
 /// Notes a table that isn't the schema's message.
 fn note_table(schema: &Schema, table: Table<'_>, first: &mut FirstFault)
-    ensures { first_view first.new ≡ earlier (first_view first.old) (meant.first_fault (meant.table_faults (schema_view schema.now).name (syntax.table_view table.entry))) }
+    ensures { first_view first.new ≡ earlier (first_view first.old)
+        (meant.first_fault (meant.table_faults (schema_view schema.now).name (syntax.table_view table.entry))) }
 {
     if table.name != schema.name.as_str() {
         first.note(table.place, BindProblem::UnknownTable);
     }
 }
 
-/// The plan of a query without faults, whose parts have been bound over no leaves: they are bound once more, over the leaves that they use.
+/// The plan of a query without faults, whose parts have been bound over no leaves: they are bound once more, over the
+/// leaves that they use.
 fn plan_without_faults(
     alloc: Global,
     schema: &Schema,
@@ -39,7 +41,8 @@ fn plan_without_faults(
 ) -> Result<Plan, NoMemory>
     requires levels { levels_view levels.now ≡ joined (levels_of (schema_view schema.now).fields) }
     requires parts { PartsOf (schema_view schema.now) (syntax.query_view query.now) parts.now }
-    ensures { IfOk result (λ p. plan_view p ≡ planned (schema_view schema.now).fields (meant.query_of (meant.bind_parts (schema_view schema.now).fields (syntax.query_view query.now)))) }
+    ensures { IfOk result (λ p. plan_view p ≡ planned (schema_view schema.now).fields
+        (meant.query_of (meant.bind_parts (schema_view schema.now).fields (syntax.query_view query.now)))) }
 {
     let used = used_paths(alloc, parts)?;
     let leaves = used_leaves(alloc, schema, &used)?;
@@ -57,8 +60,8 @@ fn plan_without_faults(
 
 /// The plan of a query over a schema: its names become leaves of the schema, and its expressions get types.
 ///
-/// Errors: the first fault of the query, by its byte place in the query's text, and at one place by the order of [`BindProblem`]; want of
-/// memory.
+/// Errors: the first fault of the query, by its byte place in the query's text, and at one place by the order of
+/// [`BindProblem`]; want of memory.
 pub fn bind(alloc: Global, schema: &Schema, query: &Query<'_>) -> Result<Plan, BindFault>
     ensures { BindsTo (schema_view schema.now) (syntax.query_view query.now) result }
 {

@@ -38,8 +38,8 @@ impl QueryProblem {
     }
 }
 
-/// Why a text gives no plan: the first fault of the text, or else the first of binding it to the schema, with its byte place; or
-/// want of memory.
+/// Why a text gives no plan: the first fault of the text, or else the first of binding it to the schema, with its byte
+/// place; or want of memory.
 #[derive(Clone, Copy, PartialEq, Eq, Debug)]
 pub enum QueryFault {
     NoMemory,

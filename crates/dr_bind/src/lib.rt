@@ -1,4 +1,5 @@
-//! Reading a query over a schema: its text becomes a tree, names become leaves, and the query a plan, or its first fault is told.
+//! Reading a query over a schema: its text becomes a tree, names become leaves, and the query a plan, or its first
+//! fault is told.
 #![tactic(auto)]
 
 mod binding;

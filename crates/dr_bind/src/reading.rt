@@ -15,10 +15,11 @@ use std::alloc::Global;
 
 /// The plan of a query's text over a schema.
 ///
-/// Errors: the first fault of the text, or else the first of binding it to the schema, with its byte place in the text; want of
-/// memory.
+/// Errors: the first fault of the text, or else the first of binding it to the schema, with its byte place in the text;
+/// want of memory.
 pub fn read_query(alloc: Global, schema: &Schema, text: &str) -> Result<Plan, QueryFault>
-    ensures plan { IfOk result (IsPlanMeant (schema_view schema.now) (meant.read_query (schema_view schema.now) text.now)) }
+    ensures plan { IfOk result (IsPlanMeant (schema_view schema.now)
+        (meant.read_query (schema_view schema.now) text.now)) }
     ensures refused { IfErr result (IsRefusedAs (meant.read_query (schema_view schema.now) text.now)) }
 {
     let query = parse(alloc, text)?;

@@ -50,8 +50,8 @@ pub struct Closing<P> {
 }
 
 impl<P: Piece + Drop, N: Naming<P>> Board<P, N> {
-    /// A board without events for the job that N names. It reserves room for three events a pair of a tablet and a leaf, and
-    /// for a piece a tablet.
+    /// A board without events for the job that N names. It reserves room for three events a pair of a tablet and a
+    /// leaf, and for a piece a tablet.
     ///
     /// Errors: want of memory alone.
     pub fn new(alloc: Global, job: &Job) -> Result<Self, NoMemory>
@@ -115,7 +115,8 @@ impl<P: Piece + Drop, N: Naming<P>> Board<P, N> {
         Told::Kept
     }
 
-    /// Records that the hand failed, where it was given and had no fault and its tablet no answer, and says whether it did.
+    /// Records that the hand failed, where it was given and had no fault and its tablet no answer, and says whether it
+    /// did.
     pub fn fault(&mut self, hand: Hand, cause: Cause) -> bool
         ensures told { result ≡ is_recorded N.job self.old.history (Event.Fault hand cause) }
         ensures history { self.new.history ≡ after_event N.job self.old.history (Event.Fault hand cause) }

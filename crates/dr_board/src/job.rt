@@ -7,8 +7,8 @@ use std::marker::Model;
 // The most pairs for whose events a vector can have room.
 const MOST_PAIRS: usize = 1 << 60;
 
-/// What there is to hand out: the leaves of each tablet, in the order in which they are tried, and after how many events a
-/// tablet that was handed out is handed out again. A tablet's number is its place, from 0.
+/// What there is to hand out: the leaves of each tablet, in the order in which they are tried, and after how many
+/// events a tablet that was handed out is handed out again. A tablet's number is its place, from 0.
 #[derive(Debug, Drop)]
 pub struct Job {
     pub leaves: Vec<Vec<u32>>,
@@ -24,7 +24,8 @@ impl Model for Job {
     ghost view = { λ j. record { leaves = map (λ v. v.items) j.leaves.items; lag = j.lag } };
 }
 
-// The number of pairs of a tablet and a leaf of it. Where three times that are no number of events, there is no room for them.
+// The number of pairs of a tablet and a leaf of it. Where three times that are no number of events, there is no room
+// for them.
 pub(crate) fn count_pairs(job: &Job) -> Result<usize, NoMemory>
     ensures count { IfOk result (λ n. n ≡ pairs job.now) }
     ensures bound { IfOk result (λ n. 3 * n < 2 ^ 63) }

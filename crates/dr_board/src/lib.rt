@@ -1,5 +1,5 @@
-//! The board of the dispatch machine: what was handed out, answered and failed so far, and the pieces that were kept. It is a
-//! value of one thread; each of its calls is one step of the machine.
+//! The board of the dispatch machine: what was handed out, answered and failed so far, and the pieces that were kept.
+//! It is a value of one thread; each of its calls is one step of the machine.
 #![tactic(auto)]
 
 mod board;

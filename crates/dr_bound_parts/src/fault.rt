@@ -111,7 +111,8 @@ impl FirstFault {
 
     /// One more fault, behind those so far.
     pub fn note(&mut self, place: usize, problem: BindProblem)
-        ensures { first_view self.new ≡ earlier (first_view self.old) (Some (record { place = place; problem = problem_view problem })) }
+        ensures { first_view self.new ≡ earlier (first_view self.old)
+            (Some (record { place = place; problem = problem_view problem })) }
     {
         let fault = Fault { place, problem };
         let first = match self.fault {

@@ -1,4 +1,5 @@
-//! The parts of a query whose names have become leaves of a schema, what they stand for, and the first fault of a query.
+//! The parts of a query whose names have become leaves of a schema, what they stand for, and the first fault of a
+//! query.
 #![tactic(auto)]
 
 mod fault;

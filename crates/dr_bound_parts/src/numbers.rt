@@ -11,7 +11,8 @@ use dr_paths::{BoundPath, same_path};
 
 /// The number of a path's leaf among some; of no use where it isn't among them, or has a number past 32 bits.
 pub fn leaf_number(leaves: &[Path], steps: &[Step]) -> u32
-    ensures { (i : ℕ) → number_among (map path_view leaves.now) (map step_view steps.now) ≡ Some i → i < 2 ^ 32 → result ≡ i }
+    ensures { (i : ℕ) → number_among (map path_view leaves.now) (map step_view steps.now) ≡ Some i → i < 2 ^ 32 → result
+        ≡ i }
 {
     'leaves: for (number, leaf) in leaves.iter().enumerate() {
         if same_path(&leaf.steps, steps) {

@@ -43,8 +43,9 @@ pub struct BoundItem {
     pub term: BoundTerm,
 }
 
-/// The parts of a query: whether it is a record query; the condition, if it could be bound; the items and keys that could be bound, and whether
-/// each key could be; of the items that could not, since WITHIN names no field, the arguments that could.
+/// The parts of a query: whether it is a record query; the condition, if it could be bound; the items and keys that
+/// could be bound, and whether each key could be; of the items that could not, since WITHIN names no field, the
+/// arguments that could.
 #[derive(Drop)]
 pub struct BoundParts {
     pub is_record_query: bool,

@@ -98,7 +98,8 @@ impl<'a> Cut<'a> {
         }
     }
 
-    /// The variable-length number that comes next (unsigned LEB128): any spelling of at most ten bytes of a number below 2^64.
+    /// The variable-length number that comes next (unsigned LEB128): any spelling of at most ten bytes of a number
+    /// below 2^64.
     ///
     /// Errors: the bytes end before; the spelling is too long.
     pub fn varint(&mut self) -> Result<u64, VarintFault>

@@ -1,5 +1,5 @@
-//! Numbers from bytes and to bytes: little-endian, variable-length (unsigned LEB128) and zigzag, as Apache Parquet and the
-//! Thrift compact protocol have them. No call takes memory.
+//! Numbers from bytes and to bytes: little-endian, variable-length (unsigned LEB128) and zigzag, as Apache Parquet and
+//! the Thrift compact protocol have them. No call takes memory.
 #![tactic(auto)]
 
 mod cut;

@@ -112,7 +112,8 @@ fn come_back(alloc: Global, width: u32, count: usize) -> Result<bool, Broken> {
     Ok(is_read && back == values)
 }
 
-/// `read_back WIDTH COUNT ..`: whether so many made values of a width are read of what is written for them, a word for each count.
+/// `read_back WIDTH COUNT ..`: whether so many made values of a width are read of what is written for them, a word for
+/// each count.
 pub fn read_back(alloc: Global, words: &[String]) -> Result<String, Broken> {
     let width = width_at(words, 0)?;
     let mut text = String::new(alloc);

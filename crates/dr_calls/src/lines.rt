@@ -48,8 +48,8 @@ fn next_text(
     }
 }
 
-/// `lines MOST CALLS FAILING ..`: what so many calls answer, a line each, where at most so many bytes come at once and reads of these numbers fail; then
-/// how many failed.
+/// `lines MOST CALLS FAILING ..`: what so many calls answer, a line each, where at most so many bytes come at once and
+/// reads of these numbers fail; then how many failed.
 pub fn lines_cut(alloc: Global, words: &[String], bytes: &[u8]) -> Result<String, Broken> {
     let most = count_of(argument(words, 0)?)?;
     let calls = number_at(words, 1)?;

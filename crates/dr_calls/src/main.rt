@@ -1,5 +1,5 @@
-//! Runs calls of the libraries over the cases of files, and prints those that answer in another way than they say: calls that no command
-//! shows.
+//! Runs calls of the libraries over the cases of files, and prints those that answer in another way than they say:
+//! calls that no command shows.
 #![tactic(auto)]
 
 mod calls;

@@ -52,7 +52,8 @@ pub fn plain_read(alloc: Global, words: &[String], bytes: &[u8]) -> Result<Strin
     }
 }
 
-/// `pick KIND COUNT INDEX ..`: the values at indices of a dictionary of so many, with which bytes begin, or their fault.
+/// `pick KIND COUNT INDEX ..`: the values at indices of a dictionary of so many, with which bytes begin, or their
+/// fault.
 pub fn picked(alloc: Global, words: &[String], bytes: &[u8]) -> Result<String, Broken> {
     let kind = kind_at(words, 0)?;
     let Ok(dictionary) = read_plain(alloc, kind, count_of(argument(words, 1)?)?, bytes) else {

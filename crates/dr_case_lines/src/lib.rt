@@ -1,4 +1,5 @@
-//! What programs that run cases of files share: the texts of lines, why a line can't be followed, and the count of cases.
+//! What programs that run cases of files share: the texts of lines, why a line can't be followed, and the count of
+//! cases.
 #![tactic(auto)]
 
 mod broken;

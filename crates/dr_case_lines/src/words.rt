@@ -29,7 +29,8 @@ pub fn push_bytes(text: &str, bytes: &mut Vec<u8>) -> Result<(), Broken> {
     Ok(())
 }
 
-/// Appends what a line of text writes: a line with its line feed, one without, or bytes. Says whether the word in front is one of these.
+/// Appends what a line of text writes: a line with its line feed, one without, or bytes. Says whether the word in front
+/// is one of these.
 pub fn push_text(head: &str, rest: &str, bytes: &mut Vec<u8>) -> Result<bool, Broken> {
     match head {
         "|" => {

@@ -29,8 +29,8 @@ impl Each {
         })
     }
 
-    /// Whether a run of this case ended so. With the status of the case it printed all; else nothing, or a beginning of it where a
-    /// write failed.
+    /// Whether a run of this case ended so. With the status of the case it printed all; else nothing, or a beginning of
+    /// it where a write failed.
     pub fn ends_so(&self, case: &Case, ended: &Ended) -> bool {
         ended.status == self.status && ended.err == self.err && self.prints_so(case, ended)
     }

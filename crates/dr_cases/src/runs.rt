@@ -70,7 +70,8 @@ fn numbers(alloc: Global, number: u64) -> Result<Vec<u64>, Broken> {
     Ok(numbers)
 }
 
-/// Has one call of a thing fail after another until the run makes no such call, and tells the first that ends in another way than is said.
+/// Has one call of a thing fail after another until the run makes no such call, and tells the first that ends in
+/// another way than is said.
 fn try_each<R: Threads + Sync>(
     rt: &R,
     alloc: Global,
@@ -99,8 +100,8 @@ fn try_each<R: Threads + Sync>(
     tally.fail(place, "calls never end")
 }
 
-/// Runs a case in a way, and tells where it ends in another way than it says. A query of which it isn't said what it prints says from here
-/// on what it printed.
+/// Runs a case in a way, and tells where it ends in another way than it says. A query of which it isn't said what it
+/// prints says from here on what it printed.
 pub fn try_case<R: Threads + Sync>(
     rt: &R,
     alloc: Global,

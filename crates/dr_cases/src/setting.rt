@@ -46,7 +46,8 @@ impl Setting {
         Ok(self.paths.push(String::from_str(self.alloc, path)?)?)
     }
 
-    /// Another keeper of the files that were put on this one, of which this call fails, counted from 1 behind those that put them; 0 is none.
+    /// Another keeper of the files that were put on this one, of which this call fails, counted from 1 behind those
+    /// that put them; 0 is none.
     pub fn keeper_of_same(&self, call: u64) -> Result<Shelf, Broken> {
         let puts = self.paths.len() as u64;
         let mut failing = Vec::new(self.alloc);

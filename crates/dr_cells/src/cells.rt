@@ -61,9 +61,11 @@ impl Cells {
 
     /// Appends a value, or NULL.
     ///
-    /// Errors: want of memory, or of room: the texts of a result have less than 4 GiB together. Nothing has changed then.
+    /// Errors: want of memory, or of room: the texts of a result have less than 4 GiB together. Nothing has changed
+    /// then.
     pub fn push(&mut self, value: Option<ValueRef<'_>>) -> Result<(), NoMemory>
-        ensures { Adds (cells_view self.old) (cells_view self.new) (value_cell (option_map lent_value value.entry) ∷ []) result }
+        ensures { Adds (cells_view self.old) (cells_view self.new)
+            (value_cell (option_map lent_value value.entry) ∷ []) result }
     {
         let cell = match value {
             None => Cell::Null,
@@ -79,7 +81,8 @@ impl Cells {
     ///
     /// Errors: want of memory alone. Nothing has changed then.
     pub fn push_whole(&mut self, whole: Option<i128>) -> Result<(), NoMemory>
-        ensures { Adds (cells_view self.old) (cells_view self.new) (value_cell (option_map int_value whole) ∷ []) result }
+        ensures { Adds (cells_view self.old) (cells_view self.new)
+            (value_cell (option_map int_value whole) ∷ []) result }
     {
         let cell = match whole {
             None => Cell::Null,
@@ -101,7 +104,8 @@ impl Cells {
 
     /// Appends a text.
     fn push_text(&mut self, text: &str) -> Result<(), NoMemory>
-        ensures { Adds (cells_view self.old) (cells_view self.new) (value_cell (Some (text_value text.now)) ∷ []) result }
+        ensures { Adds (cells_view self.old) (cells_view self.new)
+            (value_cell (Some (text_value text.now)) ∷ []) result }
     {
         let (Ok(start), Ok(length)) = (u32::try_from(self.bytes.len()), u32::try_from(text.len()))
         else {
@@ -115,10 +119,12 @@ impl Cells {
 
     /// Puts a value, or NULL, into the place of a cell.
     ///
-    /// Errors: want of memory, or of room: the texts of a result have less than 4 GiB together. Nothing has changed then.
+    /// Errors: want of memory, or of room: the texts of a result have less than 4 GiB together. Nothing has changed
+    /// then.
     pub fn set(&mut self, number: usize, value: Option<ValueRef<'_>>) -> Result<(), NoMemory>
         requires { number < length (cells_view self.old) }
-        ensures { Replaces (cells_view self.old) (cells_view self.new) number (value_cell (option_map lent_value value.entry)) result }
+        ensures { Replaces (cells_view self.old) (cells_view self.new) number
+            (value_cell (option_map lent_value value.entry)) result }
     {
         match value {
             None => {
@@ -157,7 +163,8 @@ impl Cells {
     /// Puts a text into the place of a cell.
     fn set_text(&mut self, number: usize, text: &str) -> Result<(), NoMemory>
         requires { number < length (cells_view self.old) }
-        ensures { Replaces (cells_view self.old) (cells_view self.new) number (value_cell (Some (text_value text.now))) result }
+        ensures { Replaces (cells_view self.old) (cells_view self.new) number
+            (value_cell (Some (text_value text.now))) result }
     {
         let (Ok(start), Ok(length)) = (u32::try_from(self.bytes.len()), u32::try_from(text.len()))
         else {
@@ -170,7 +177,8 @@ impl Cells {
 
     /// Appends the cells of another result.
     ///
-    /// Errors: want of memory, or of room: the texts of a result have less than 4 GiB together. Nothing has changed then.
+    /// Errors: want of memory, or of room: the texts of a result have less than 4 GiB together. Nothing has changed
+    /// then.
     pub fn append(&mut self, more: &Cells) -> Result<(), NoMemory>
         ensures { Adds (cells_view self.old) (cells_view self.new) (cells_view more.now) result }
     {

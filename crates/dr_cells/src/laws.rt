@@ -3,7 +3,8 @@
 ghost use Rattle.dr_cells.specs.Results.{ReadsBack, ReadsFitting};
 ghost use Rattle.dr_cells.specs.Shapes.{TreeObjectsFit, GroupRowsFit};
 
-/// From the cells of objects of a shape, whatever follows, exactly these objects are read; and what is read fits the shape.
+/// From the cells of objects of a shape, whatever follows, exactly these objects are read; and what is read fits the
+/// shape.
 pub fn objects_are_read_back()
     ensures back { ReadsBack }
     ensures fitting { ReadsFitting }

@@ -13,7 +13,8 @@ use dr_memory::NoMemory;
 use dr_plan::{GroupItem, ListPlan, ObjectPlan, Plan, RecordItem, Selection};
 use std::alloc::Global;
 
-/// The shape of a plan's result objects: of a record query each object's items and lists, of an aggregate query its items.
+/// The shape of a plan's result objects: of a record query each object's items and lists, of an aggregate query its
+/// items.
 ///
 /// Errors: want of memory alone.
 pub fn shape_of(alloc: Global, plan: &Plan) -> Result<Shape, NoMemory>
@@ -54,7 +55,8 @@ fn list_shapes(
     items: &[RecordItem],
     lists: &Vec<ListPlan>,
 ) -> Result<Vec<ListShape>, NoMemory>
-    ensures { IfOk result (λ v. lists_view v.items ≡ tree_list_shapes (item_names items.now) (plan_lists_view (lists.now).items)) }
+    ensures { IfOk result (λ v. lists_view v.items
+        ≡ tree_list_shapes (item_names items.now) (plan_lists_view (lists.now).items)) }
 {
     let mut shapes = Vec::with_capacity(alloc, lists.len())?;
     'lists: for list in lists {
@@ -83,7 +85,8 @@ fn push_name(
     place: usize,
     names: &mut Vec<String>,
 ) -> Result<(), NoMemory>
-    ensures { OnOk result (map string_bytes (names.new).items ≡ map string_bytes (names.old).items ++ with_name (slice_get (item_names items.now) place) []) }
+    ensures { OnOk result (map string_bytes (names.new).items
+        ≡ map string_bytes (names.old).items ++ with_name (slice_get (item_names items.now) place) []) }
 {
     match items.get(place) {
         Some(item) => {

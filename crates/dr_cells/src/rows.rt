@@ -41,7 +41,8 @@ impl RowsOut {
     pub fn of(shape: Shape, cells: Cells, count: u64) -> RowsOut
         requires { AreRows (shape_view shape) count (cells_view cells) }
         ensures read { rows_view result ≡ (read_rows (shape_view shape) count (cells_view cells)).objects }
-        ensures rows { (os : List Object) → AllFitShape (shape_view shape) os → cells_view cells ≡ result_cells os → count ≡ length os → rows_view result ≡ os }
+        ensures rows { (os : List Object) → AllFitShape (shape_view shape) os → cells_view cells ≡ result_cells os
+            → count ≡ length os → rows_view result ≡ os }
         ensures shape { rows_shape result ≡ shape_view shape }
     {
         RowsOut {
@@ -53,7 +54,8 @@ impl RowsOut {
 
     /// Appends the objects of another result of the same shape.
     ///
-    /// Errors: want of memory, or of room: the texts of a result have less than 4 GiB together. Nothing has changed then.
+    /// Errors: want of memory, or of room: the texts of a result have less than 4 GiB together. Nothing has changed
+    /// then.
     pub fn append(&mut self, more: &RowsOut) -> Result<(), NoMemory>
         requires { rows_shape more.now ≡ rows_shape self.old }
         ensures rows { Adds (rows_view self.old) (rows_view self.new) (rows_view more.now) result }

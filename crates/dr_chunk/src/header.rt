@@ -57,7 +57,8 @@ impl From<MetaFault> for HeaderFault {
 ///
 /// Errors: they begin with no struct, or with one that is no page header; want of memory.
 pub(crate) fn read_header(alloc: Global, bytes: &[u8]) -> Result<(PageHead, usize), HeaderFault>
-    ensures header { IfOk result (λ r. (more : List ℕ) → page_header (bytes.now ++ more) ≡ got (page_view r.0) (drop r.1 (bytes.now ++ more))) }
+    ensures header { IfOk result (λ r. (more : List ℕ) → page_header (bytes.now ++ more)
+        ≡ got (page_view r.0) (drop r.1 (bytes.now ++ more))) }
     ensures within { IfOk result (λ r. r.1 ≤ length bytes.now) }
     ensures fault { IfErr result (λ e. IsHeaderFault e bytes.now) }
 {
@@ -66,7 +67,8 @@ pub(crate) fn read_header(alloc: Global, bytes: &[u8]) -> Result<(PageHead, usiz
     Ok((head, size))
 }
 
-/// The page header with which bytes begin, and how many bytes spell it; none where more bytes, if there are any, may spell one.
+/// The page header with which bytes begin, and how many bytes spell it; none where more bytes, if there are any, may
+/// spell one.
 ///
 /// Errors: these bytes, which may be all that there are, begin with no page header; want of memory.
 fn header_ahead(
@@ -74,10 +76,12 @@ fn header_ahead(
     bytes: &[u8],
     are_all: bool,
 ) -> Result<Option<(PageHead, usize)>, ChunkFault>
-    ensures header { IfOk result (λ o. IfSome o (λ r. (more : List ℕ) → page_header (bytes.now ++ more) ≡ got (page_view r.0) (drop r.1 (bytes.now ++ more)))) }
+    ensures header { IfOk result (λ o. IfSome o (λ r. (more : List ℕ) → page_header (bytes.now ++ more)
+        ≡ got (page_view r.0) (drop r.1 (bytes.now ++ more)))) }
     ensures within { IfOk result (λ o. IfSome o (λ r. r.1 ≤ length bytes.now)) }
     ensures none { IfOk result (λ o. IfNone o (are_all ≡ false)) }
-    ensures bad { result ≡ Err ChunkFault.BadData → (more : List ℕ) → (are_all ≡ true → more ≡ []) → IsRefused (page_header (bytes.now ++ more)) }
+    ensures bad { result ≡ Err ChunkFault.BadData → (more : List ℕ) → (are_all ≡ true → more ≡ [])
+        → IsRefused (page_header (bytes.now ++ more)) }
     ensures calm { result ≢ Err ChunkFault.Failed }
 {
     match read_header(alloc, bytes) {
@@ -96,15 +100,19 @@ pub(crate) fn next_header<L: Link>(
     stretch: &mut Stretch<'_>,
     link: &mut L,
 ) -> Result<PageHead, ChunkFault>
-    ensures header { (bytes : List ℕ) → Tells (L.shows link.old) (path_of stretch.old) bytes → IfOk result (λ h. page_header (rest_in bytes stretch.old) ≡ got (page_view h) (rest_in bytes stretch.new)) }
-    ensures bad { (bytes : List ℕ) → Tells (L.shows link.old) (path_of stretch.old) bytes → result ≡ Err ChunkFault.BadData → IsRefused (page_header (rest_in bytes stretch.old)) }
+    ensures header { (bytes : List ℕ) → Tells (L.shows link.old) (path_of stretch.old) bytes
+        → IfOk result (λ h. page_header (rest_in bytes stretch.old) ≡ got (page_view h) (rest_in bytes stretch.new)) }
+    ensures bad { (bytes : List ℕ) → Tells (L.shows link.old) (path_of stretch.old) bytes → result
+        ≡ Err ChunkFault.BadData → IsRefused (page_header (rest_in bytes stretch.old)) }
     ensures path { path_of stretch.new ≡ path_of stretch.old }
     ensures range { range_of stretch.new ≡ range_of stretch.old }
     ensures same { (L.shows link.new).held ≡ (L.shows link.old).held }
-    ensures asked { AsksOnly (is_read_inside (path_of stretch.old) (inside (range_of stretch.old) ∷ [])) (L.shows link.old).asked (L.shows link.new).asked }
+    ensures asked { AsksOnly (is_read_inside (path_of stretch.old) (inside (range_of stretch.old) ∷ []))
+        (L.shows link.old).asked (L.shows link.new).asked }
     ensures cause { result ≡ Err ChunkFault.Failed → (L.shows link.new).faults ≡ raised (L.shows link.old).faults }
     ensures calm { result ≢ Err ChunkFault.Failed → (L.shows link.new).faults ≡ (L.shows link.old).faults }
-    ensures steady { (bytes : List ℕ) → Serves (L.shows link.old) (path_of stretch.old) bytes → (range_of stretch.old).start + (range_of stretch.old).size ≤ length bytes → result ≢ Err ChunkFault.Failed }
+    ensures steady { (bytes : List ℕ) → Serves (L.shows link.old) (path_of stretch.old) bytes
+        → (range_of stretch.old).start + (range_of stretch.old).size ≤ length bytes → result ≢ Err ChunkFault.Failed }
     ensures stays_steady { IsTrue (L.shows link.old).is_steady → IsTrue (L.shows link.new).is_steady }
 {
     let left = stretch.left();

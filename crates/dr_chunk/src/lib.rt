@@ -1,4 +1,5 @@
-//! The triplets of a column chunk of an Apache Parquet file (Apache Parquet, "Column chunks"), read page by page over a link.
+//! The triplets of a column chunk of an Apache Parquet file (Apache Parquet, "Column chunks"), read page by page over a
+//! link.
 #![tactic(auto)]
 
 mod buffers;

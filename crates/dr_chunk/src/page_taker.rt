@@ -27,7 +27,8 @@ const PLAIN_DICTIONARY: i64 = 2;
 
 /// What is known of a data page of a leaf before its body.
 fn shape_of(leaf: LeafShape, page: DataPage) -> Shape
-    ensures shape { shape_view result ≡ shape_with (data_page_view page) (kind_view leaf.kind) leaf.max_repetition leaf.max_definition }
+    ensures shape { shape_view result ≡ shape_with (data_page_view page)
+        (kind_view leaf.kind) leaf.max_repetition leaf.max_definition }
     ensures kind { result.kind ≡ leaf.kind }
     ensures definition { result.max_definition ≡ leaf.max_definition }
 {
@@ -42,7 +43,8 @@ fn shape_of(leaf: LeafShape, page: DataPage) -> Shape
     }
 }
 
-/// What is known between the pages of a chunk: how many of its triplets are still wanted, whether a page came before, and the dictionary.
+/// What is known between the pages of a chunk: how many of its triplets are still wanted, whether a page came before,
+/// and the dictionary.
 #[derive(Drop)]
 pub(crate) struct PageTaker {
     leaf: LeafShape,
@@ -94,9 +96,15 @@ impl PageTaker {
         out: &mut Column,
     ) -> Result<(), ChunkFault>
         requires { column_form out.old ≡ leaf_form (leaf_of self.old) }
-        ensures taken { (l : Leaf) → IsLeafOf l (leaf_of self.old) → OnOk result (Takes (page_taken l (wanted_of self.old) (is_first_of self.old) (dictionary_of self.old) (page_view head.now) body.now []) (column_view out.old) (column_view out.new) (wanted_of self.old) (wanted_of self.new) (dictionary_of self.new)) }
-        ensures bad { (l : Leaf) → IsLeafOf l (leaf_of self.old) → IfErr result (λ e. IsChunkFault e (page_taken l (wanted_of self.old) (is_first_of self.old) (dictionary_of self.old) (page_view head.now) body.now [])) }
-        ensures count { OnOk result (length (column_view out.new) + wanted_of self.new ≡ length (column_view out.old) + wanted_of self.old) }
+        ensures taken { (l : Leaf) → IsLeafOf l (leaf_of self.old)
+            → OnOk result (Takes (page_taken l (wanted_of self.old) (is_first_of self.old) (dictionary_of self.old)
+            (page_view head.now) body.now []) (column_view out.old) (column_view out.new) (wanted_of self.old)
+            (wanted_of self.new) (dictionary_of self.new)) }
+        ensures bad { (l : Leaf) → IsLeafOf l (leaf_of self.old)
+            → IfErr result (λ e. IsChunkFault e (page_taken l (wanted_of self.old) (is_first_of self.old)
+            (dictionary_of self.old) (page_view head.now) body.now [])) }
+        ensures count { OnOk result (length (column_view out.new) + wanted_of self.new
+            ≡ length (column_view out.old) + wanted_of self.old) }
         ensures first { OnOk result (is_first_of self.new ≡ false) }
         ensures leaf { leaf_of self.new ≡ leaf_of self.old }
         ensures form { column_form out.new ≡ column_form out.old }
@@ -123,9 +131,15 @@ impl PageTaker {
         out: &mut Column,
     ) -> Result<(), ChunkFault>
         requires { column_form out.old ≡ leaf_form (leaf_of self.old) }
-        ensures taken { (l : Leaf) → IsLeafOf l (leaf_of self.old) → OnOk result (Takes (data_page l (wanted_of self.old) (dictionary_of self.old) body.now (option_map data_page_view page) []) (column_view out.old) (column_view out.new) (wanted_of self.old) (wanted_of self.new) (dictionary_of self.new)) }
-        ensures bad { (l : Leaf) → IsLeafOf l (leaf_of self.old) → IfErr result (λ e. IsChunkFault e (data_page l (wanted_of self.old) (dictionary_of self.old) body.now (option_map data_page_view page) [])) }
-        ensures count { OnOk result (length (column_view out.new) + wanted_of self.new ≡ length (column_view out.old) + wanted_of self.old) }
+        ensures taken { (l : Leaf) → IsLeafOf l (leaf_of self.old)
+            → OnOk result (Takes (data_page l (wanted_of self.old) (dictionary_of self.old) body.now
+            (option_map data_page_view page) []) (column_view out.old) (column_view out.new) (wanted_of self.old)
+            (wanted_of self.new) (dictionary_of self.new)) }
+        ensures bad { (l : Leaf) → IsLeafOf l (leaf_of self.old)
+            → IfErr result (λ e. IsChunkFault e (data_page l (wanted_of self.old) (dictionary_of self.old) body.now
+            (option_map data_page_view page) [])) }
+        ensures count { OnOk result (length (column_view out.new) + wanted_of self.new
+            ≡ length (column_view out.old) + wanted_of self.old) }
         ensures leaf { leaf_of self.new ≡ leaf_of self.old }
         ensures first { is_first_of self.new ≡ is_first_of self.old }
         ensures form { column_form out.new ≡ column_form out.old }
@@ -146,15 +160,21 @@ impl PageTaker {
 
     /// Takes a dictionary page.
     ///
-    /// Errors: it has no header of its own, or isn't the first page, or its encoding isn't PLAIN, or it spells no values; want of memory.
+    /// Errors: it has no header of its own, or isn't the first page, or its encoding isn't PLAIN, or it spells no
+    /// values; want of memory.
     fn take_dictionary(
         &mut self,
         alloc: Global,
         page: Option<DictionaryPage>,
         body: &[u8],
     ) -> Result<(), ChunkFault>
-        ensures taken { (l : Leaf) → IsLeafOf l (leaf_of self.old) → OnOk result (Takes (dictionary_page l (is_first_of self.old) body.now (option_map dictionary_page_view page) []) [] [] (wanted_of self.old) (wanted_of self.new) (dictionary_of self.new)) }
-        ensures bad { (l : Leaf) → IsLeafOf l (leaf_of self.old) → IfErr result (λ e. IsChunkFault e (dictionary_page l (is_first_of self.old) body.now (option_map dictionary_page_view page) [])) }
+        ensures taken { (l : Leaf) → IsLeafOf l (leaf_of self.old)
+            → OnOk result (Takes (dictionary_page l (is_first_of self.old) body.now
+            (option_map dictionary_page_view page) []) [] [] (wanted_of self.old) (wanted_of self.new)
+            (dictionary_of self.new)) }
+        ensures bad { (l : Leaf) → IsLeafOf l (leaf_of self.old)
+            → IfErr result (λ e. IsChunkFault e (dictionary_page l (is_first_of self.old) body.now
+            (option_map dictionary_page_view page) [])) }
         ensures wanted { OnOk result (wanted_of self.new ≡ wanted_of self.old) }
         ensures leaf { leaf_of self.new ≡ leaf_of self.old }
         ensures first { is_first_of self.new ≡ is_first_of self.old }

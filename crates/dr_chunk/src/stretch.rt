@@ -8,8 +8,8 @@ ghost use Rattle.dr_chunk.specs.Ranges.{is_read_inside, inside};
 use crate::byte_range::ByteRange;
 use dr_outside::{Fault, Link};
 
-/// The bytes of a range of the file at a path, in order. Those read ahead, from `from` on in the buffer, are still to be taken;
-/// those from `at` on are still to be read.
+/// The bytes of a range of the file at a path, in order. Those read ahead, from `from` on in the buffer, are still to
+/// be taken; those from `at` on are still to be read.
 #[derive(Drop)]
 pub(crate) struct Stretch<'p> {
     path: &'p str,
@@ -77,17 +77,20 @@ impl<'p> Stretch<'p> {
     ///
     /// Errors: the link failed; want of memory.
     pub(crate) fn look_ahead<L: Link>(&mut self, link: &mut L, count: usize) -> Result<bool, Fault>
-        ensures rest { (bytes : List ℕ) → Tells (L.shows link.old) (path_of self.old) bytes → OnOk result (rest_in bytes self.new ≡ rest_in bytes self.old) }
+        ensures rest { (bytes : List ℕ) → Tells (L.shows link.old) (path_of self.old) bytes
+            → OnOk result (rest_in bytes self.new ≡ rest_in bytes self.old) }
         ensures enough { IfOk result (λ some. some ≡ true → count ≤ length (pending self.new)) }
         ensures short { IfOk result (λ some. some ≡ false → left_count self.old < count) }
         ensures left { OnOk result (left_count self.new ≡ left_count self.old) }
         ensures path { path_of self.new ≡ path_of self.old }
         ensures range { range_of self.new ≡ range_of self.old }
         ensures same { (L.shows link.new).held ≡ (L.shows link.old).held }
-        ensures asked { AsksOnly (is_read_inside (path_of self.old) (inside (range_of self.old) ∷ [])) (L.shows link.old).asked (L.shows link.new).asked }
+        ensures asked { AsksOnly (is_read_inside (path_of self.old) (inside (range_of self.old) ∷ []))
+            (L.shows link.old).asked (L.shows link.new).asked }
         ensures cause { result ≡ Err Fault.Failed → (L.shows link.new).faults ≡ raised (L.shows link.old).faults }
         ensures calm { result ≢ Err Fault.Failed → (L.shows link.new).faults ≡ (L.shows link.old).faults }
-        ensures steady { (bytes : List ℕ) → Serves (L.shows link.old) (path_of self.old) bytes → (range_of self.old).start + (range_of self.old).size ≤ length bytes → result ≢ Err Fault.Failed }
+        ensures steady { (bytes : List ℕ) → Serves (L.shows link.old) (path_of self.old) bytes
+            → (range_of self.old).start + (range_of self.old).size ≤ length bytes → result ≢ Err Fault.Failed }
         ensures stays_steady { IsTrue (L.shows link.old).is_steady → IsTrue (L.shows link.new).is_steady }
     {
         let have = self.buffer.len() - self.from;
@@ -123,16 +126,19 @@ impl<'p> Stretch<'p> {
     /// Errors: the link failed; want of memory.
     fn read_more<L: Link>(&mut self, link: &mut L, count: usize) -> Result<(), Fault>
         requires { self.old.at + count ≤ self.old.range.start + self.old.range.size }
-        ensures rest { (bytes : List ℕ) → Tells (L.shows link.old) (path_of self.old) bytes → OnOk result (rest_in bytes self.new ≡ rest_in bytes self.old) }
+        ensures rest { (bytes : List ℕ) → Tells (L.shows link.old) (path_of self.old) bytes
+            → OnOk result (rest_in bytes self.new ≡ rest_in bytes self.old) }
         ensures ahead { OnOk result (length (pending self.new) ≡ length (pending self.old) + count) }
         ensures left { OnOk result (left_count self.new ≡ left_count self.old) }
         ensures path { path_of self.new ≡ path_of self.old }
         ensures range { range_of self.new ≡ range_of self.old }
         ensures same { (L.shows link.new).held ≡ (L.shows link.old).held }
-        ensures asked { AsksOnly (is_read_inside (path_of self.old) (inside (range_of self.old) ∷ [])) (L.shows link.old).asked (L.shows link.new).asked }
+        ensures asked { AsksOnly (is_read_inside (path_of self.old) (inside (range_of self.old) ∷ []))
+            (L.shows link.old).asked (L.shows link.new).asked }
         ensures cause { result ≡ Err Fault.Failed → (L.shows link.new).faults ≡ raised (L.shows link.old).faults }
         ensures calm { result ≢ Err Fault.Failed → (L.shows link.new).faults ≡ (L.shows link.old).faults }
-        ensures steady { (bytes : List ℕ) → Serves (L.shows link.old) (path_of self.old) bytes → (range_of self.old).start + (range_of self.old).size ≤ length bytes → result ≢ Err Fault.Failed }
+        ensures steady { (bytes : List ℕ) → Serves (L.shows link.old) (path_of self.old) bytes
+            → (range_of self.old).start + (range_of self.old).size ≤ length bytes → result ≢ Err Fault.Failed }
         ensures stays_steady { IsTrue (L.shows link.old).is_steady → IsTrue (L.shows link.new).is_steady }
     {
         let have = self.buffer.len();

@@ -65,7 +65,8 @@ fn number_or(text: &str, low: u32, high: u32, other: u32) -> u32
     }
 }
 
-/// The number of an option between these bounds, or the other where it isn't given. clap takes no number out of the bounds.
+/// The number of an option between these bounds, or the other where it isn't given. clap takes no number out of the
+/// bounds.
 pub fn number_of(matches: &ArgMatches<'_>, name: &str, low: u32, high: u32, other: u32) -> u32
     ensures number { result ≡ number_in low high other (first_of name.now (rows_of (found_of matches.now))) }
     ensures within { low ≤ other → other ≤ high → (low ≤ result) × (result ≤ high) }

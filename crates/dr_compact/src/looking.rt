@@ -106,7 +106,9 @@ impl<'a> Item<'a> {
 
 /// The values of a list, if they are structs.
 fn structs_of<'t, 'a>(values: &'t Values<'a>) -> Option<&'t [Tree<'a>]>
-    ensures { option_map (λ ts. map tree_view ts.now) result ≡ metadata.as_structs (list_item (values_view values.now).element (items_from (values_view values.now).values)) }
+    ensures { option_map (λ ts. map tree_view ts.now) result
+        ≡ metadata.as_structs (list_item (values_view values.now).element
+        (items_from (values_view values.now).values)) }
 {
     match values {
         Values::Structs(structs) => Some(structs.as_slice()),
@@ -116,7 +118,9 @@ fn structs_of<'t, 'a>(values: &'t Values<'a>) -> Option<&'t [Tree<'a>]>
 
 /// The values of a list, if they are of the type i32.
 fn numbers_of<'t, 'a>(values: &'t Values<'a>) -> Option<&'t [i64]>
-    ensures { option_map (λ ns. ns.now) result ≡ metadata.as_numbers (list_item (values_view values.now).element (items_from (values_view values.now).values)) }
+    ensures { option_map (λ ns. ns.now) result
+        ≡ metadata.as_numbers (list_item (values_view values.now).element
+        (items_from (values_view values.now).values)) }
 {
     match values {
         Values::I32s(numbers) => Some(numbers.as_slice()),
@@ -126,7 +130,8 @@ fn numbers_of<'t, 'a>(values: &'t Values<'a>) -> Option<&'t [i64]>
 
 /// The values of a list, if they are of the type binary.
 fn names_of<'t, 'a>(values: &'t Values<'a>) -> Option<&'t [&'a [u8]]>
-    ensures { option_map (λ ns. map lent_bytes ns.now) result ≡ metadata.as_names (list_item (values_view values.now).element (items_from (values_view values.now).values)) }
+    ensures { option_map (λ ns. map lent_bytes ns.now) result
+        ≡ metadata.as_names (list_item (values_view values.now).element (items_from (values_view values.now).values)) }
 {
     match values {
         Values::Binaries(names) => Some(names.as_slice()),

@@ -144,7 +144,8 @@ fn read_element<'a>(
     depth: u32,
     values: Values<'a>,
 ) -> Result<Values<'a>, CompactFault>
-    ensures { Reads values_view (joined (values_view values.entry) (value_of depth (values_view values.entry).element (left cut.old))) (left cut.new) result }
+    ensures { Reads values_view (joined (values_view values.entry)
+        (value_of depth (values_view values.entry).element (left cut.old))) (left cut.new) result }
 {
     match values {
         Values::Truths(kind, mut truths) => {

@@ -12,8 +12,8 @@ use crate::tree::{Item, Map, Tree, Values};
 use crate::values::{count_of, element_of, type_of_item};
 use dr_memory::NoMemory;
 
-/// Appends the bytes of a struct: the shortest spellings of numbers, and the short form of a field's header where it fits.
-/// Nesting is not looked at: a tree in which a struct, list, set or map stands inside 32 others is not read back.
+/// Appends the bytes of a struct: the shortest spellings of numbers, and the short form of a field's header where it
+/// fits. Nesting is not looked at: a tree in which a struct, list, set or map stands inside 32 others is not read back.
 ///
 /// Errors: want of memory alone; the bytes are then as they were.
 pub fn write_struct(tree: &Tree<'_>, out: &mut Vec<u8>) -> Result<(), NoMemory>
@@ -45,7 +45,8 @@ fn write_tree(tree: &Tree<'_>, out: &mut Vec<u8>) -> Result<(), NoMemory>
 /// Appends the value of a field: nothing for a truth value, which its type tells.
 #[cycle(writing)]
 fn write_field_item(item: &Item<'_>, out: &mut Vec<u8>) -> Result<(), NoMemory>
-    ensures { Writes (in_field (item_view item.now) (item_bytes (item_view item.now))) (out.old).items (out.new).items result }
+    ensures { Writes (in_field (item_view item.now) (item_bytes (item_view item.now))) (out.old).items
+        (out.new).items result }
 {
     match item {
         Item::Truth(_) => Ok(()),

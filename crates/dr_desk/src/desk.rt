@@ -18,8 +18,8 @@ use std::alloc::Global;
 use std::marker::PhantomData;
 use std::sync::{Mutex, Wait};
 
-/// A board under a lock. Each call of a pass is at most one event, and tells the pass the history up to it. Its calls wait for
-/// the lock, and take no memory.
+/// A board under a lock. Each call of a pass is at most one event, and tells the pass the history up to it. Its calls
+/// wait for the lock, and take no memory.
 #[derive(Drop)]
 pub struct Desk<P: Piece + Drop, N: Naming<P>, B: Room> {
     table: SeatTable,
@@ -92,14 +92,16 @@ impl<P: Piece + Drop, N: Naming<P>, B: Room> Desk<P, N, B> {
             .answer(&self.table.shared, pass, hand, piece)
     }
 
-    /// Records that the hand failed, where it was given and had no fault and its tablet no answer, and says whether it did.
+    /// Records that the hand failed, where it was given and had no fault and its tablet no answer, and says whether it
+    /// did.
     pub fn fault<R: Wait>(&self, rt: &R, pass: &mut Pass<B>, hand: Hand, cause: Cause) -> bool
         ensures earlier { IsPrefix pass.old.seen pass.new.seen }
         ensures recorded { is_history N.job pass.new.seen ≡ true }
         ensures told { IsFaultTold N.job hand cause pass.old pass.new result }
 
         // What follows from that.
-        ensures settled { has_give pass.old.seen hand ≡ true → (has_fault pass.new.seen hand || has_answer pass.new.seen hand.tablet) ≡ true }
+        ensures settled { has_give pass.old.seen hand ≡ true
+            → (has_fault pass.new.seen hand || has_answer pass.new.seen hand.tablet) ≡ true }
     {
         self.lock
             .lock(rt)

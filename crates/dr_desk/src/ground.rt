@@ -5,8 +5,8 @@ use dr_board::NoMemory;
 use std::alloc::Global;
 use std::marker::Model;
 
-/// What a desk is made on: the table beside its lock, with the seat of its keeper. It is made first, since the lock's value
-/// names the table.
+/// What a desk is made on: the table beside its lock, with the seat of its keeper. It is made first, since the lock's
+/// value names the table.
 #[derive(Drop)]
 pub struct Ground {
     pub(crate) table: SeatTable,

@@ -1,5 +1,6 @@
-//! The desk: a board under one lock, and passes with which threads call it. Each call is at most one event of the dispatch
-//! machine. A pass carries what its thread knows: a history that it has seen, which only grows, and its own events in it.
+//! The desk: a board under one lock, and passes with which threads call it. Each call is at most one event of the
+//! dispatch machine. A pass carries what its thread knows: a history that it has seen, which only grows, and its own
+//! events in it.
 #![tactic(auto)]
 
 mod desk;

@@ -73,7 +73,8 @@ impl<P: Piece + Drop, N: Naming<P>, B: Room> Locked<P, N, B> {
         ensures pieces { self.new.pieces ≡ pieces_after self.old hand.tablet piece }
         ensures recorded { is_history N.job self.new.history ≡ true }
         ensures earlier { IsPrefix pass.old.seen self.old.history }
-        ensures kept { has_answer self.old.history hand.tablet ≡ false → pass.new ≡ adds self.old.history (Event.Answer hand) pass.old }
+        ensures kept { has_answer self.old.history hand.tablet ≡ false → pass.new
+            ≡ adds self.old.history (Event.Answer hand) pass.old }
         ensures spare { has_answer self.old.history hand.tablet ≡ true → pass.new ≡ looks self.old.history pass.old }
     {
         let Some(keeper) = self.keeper.take() else {
@@ -102,7 +103,8 @@ impl<P: Piece + Drop, N: Naming<P>, B: Room> Locked<P, N, B> {
         ensures pieces { self.new.pieces ≡ self.old.pieces }
         ensures recorded { is_history N.job self.new.history ≡ true }
         ensures earlier { IsPrefix pass.old.seen self.old.history }
-        ensures pass { pass.new ≡ (if result then adds self.old.history (Event.Fault hand cause) pass.old else looks self.old.history pass.old) }
+        ensures pass { pass.new ≡ (if result then adds self.old.history (Event.Fault hand cause) pass.old
+            else looks self.old.history pass.old) }
     {
         let Some(keeper) = self.keeper.take() else {
             unreachable!();

@@ -2,7 +2,8 @@ use crate::room::Room;
 use crate::rule::Place;
 use std::marker::{Model, PhantomData};
 
-/// What a thread calls a desk with. A contract sees it as a history that it has seen, and the places of its own events there.
+/// What a thread calls a desk with. A contract sees it as a history that it has seen, and the places of its own events
+/// there.
 #[derive(Drop)]
 pub struct Pass<B: Room> {
     // Which of the desk's passes it is, from 0. With it a pass has bytes, so that passes can lie side by side.

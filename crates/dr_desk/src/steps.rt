@@ -23,7 +23,8 @@ pub(crate) fn look(seats: &Seats, seat: &mut Place)
 // The keeper's seat joins a pass's, which learns that what it has seen begins the history.
 pub(crate) fn enter(seats: &Seats, seat: &mut Place, keeper: Place)
     requires seat { (seat.old.table_id ≡ seats.now.table_id) × (0 < seats.now.table_id.words) }
-    requires keeper { (keeper.table_id ≡ seats.now.table_id) × (keeper.me.1 ≡ []) × (keeper.me.0.keeps ≡ true) × (keeper.me.0.own ≡ []) }
+    requires keeper { (keeper.table_id ≡ seats.now.table_id) × (keeper.me.1 ≡ []) × (keeper.me.0.keeps ≡ true)
+        × (keeper.me.0.own ≡ []) }
     requires ordered { Ascends 0 seat.old.me.0.own (length seat.old.me.0.seen) }
     ensures seat { seat.new.table_id ≡ seat.old.table_id }
     ensures view { seat.new.me ≡ (looked (handed seat.old.me.0 keeper.me.0), seat.old.me.1) }

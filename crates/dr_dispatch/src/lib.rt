@@ -1,5 +1,5 @@
-//! The definitions of dispatch: which tablet is handed out next and on which leaf, and what is recorded of it. specs/Lib.antt is
-//! their table of contents; the functions here have empty bodies, and their contracts are laws.
+//! The definitions of dispatch: which tablet is handed out next and on which leaf, and what is recorded of it.
+//! specs/Lib.antt is their table of contents; the functions here have empty bodies, and their contracts are laws.
 #![tactic(auto)]
 
 pub mod choice_laws;

@@ -37,7 +37,8 @@ fn push_lines(
     schema: &Schema,
     records: &[Node],
 ) -> Result<(), NoMemory>
-    ensures { OnOk result (string_bytes text.new ≡ string_bytes text.old ++ lines_text (fields_view (schema.now).fields.items) (nodes_view records.now)) }
+    ensures { OnOk result (string_bytes text.new
+        ≡ string_bytes text.old ++ lines_text (fields_view (schema.now).fields.items) (nodes_view records.now)) }
 {
     'records: for record in records {
         push_record_text(alloc, text, schema, record)?;
@@ -45,7 +46,8 @@ fn push_lines(
     Ok(())
 }
 
-/// Keeps what was read of a tablet: it joins those that are left, or its records are printed, unless some tablet is left.
+/// Keeps what was read of a tablet: it joins those that are left, or its records are printed, unless some tablet is
+/// left.
 fn keep(
     alloc: Global,
     left: &mut Vec<LeftTablet>,
@@ -54,8 +56,10 @@ fn keep(
     tablet: u32,
     read: Tablet,
 ) -> Result<(), NoMemory>
-    ensures left { OnOk result (all_left_view (left.new).items ≡ with_tablet tablet read (all_left_view (left.old).items)) }
-    ensures lines { OnOk result ((left.new).items ≡ [] → TakesTablet (HasLines (fields_view (schema.now).fields.items)) read text.old text.new) }
+    ensures left { OnOk result (all_left_view (left.new).items
+        ≡ with_tablet tablet read (all_left_view (left.old).items)) }
+    ensures lines { OnOk result ((left.new).items ≡ []
+        → TakesTablet (HasLines (fields_view (schema.now).fields.items)) read text.old text.new) }
 {
     match read {
         Tablet::Left(tried) => {
@@ -71,9 +75,9 @@ fn keep(
     }
 }
 
-/// The lines of the records of a table, projected to these leaves of its schema, in the order of the tablets; or the tablets that are
-/// left, of which no copy gives records. The link is asked for no file but those of the table, and for no bytes of them but what the
-/// leaves take.
+/// The lines of the records of a table, projected to these leaves of its schema, in the order of the tablets; or the
+/// tablets that are left, of which no copy gives records. The link is asked for no file but those of the table, and for
+/// no bytes of them but what the leaves take.
 ///
 /// Errors: want of memory alone.
 pub fn dump_table<L: Link>(
@@ -83,9 +87,12 @@ pub fn dump_table<L: Link>(
     fields: &[Path],
 ) -> Result<Dumped, NoMemory>
     requires leaves { AreLeavesOf (fields_view (table.now).schema.fields.items) (map path_view fields.now) }
-    ensures lines { IfOk result (WhereLines (AreLinesOf (table_view table.now) (map path_view fields.now) (L.shows link.old).held)) }
-    ensures left { IfOk result (WhereLeft (λ left. LeavesTablets (table_view table.now) (map path_view fields.now) left (L.shows link.old) (L.shows link.new))) }
-    ensures asks { AsksForTablets (map path_view fields.now) (tablets_of (table_view table.now)) (L.shows link.old) (L.shows link.new) }
+    ensures lines { IfOk result (WhereLines (AreLinesOf (table_view table.now) (map path_view fields.now)
+        (L.shows link.old).held)) }
+    ensures left { IfOk result (WhereLeft (λ left. LeavesTablets (table_view table.now) (map path_view fields.now) left
+        (L.shows link.old) (L.shows link.new))) }
+    ensures asks { AsksForTablets (map path_view fields.now) (tablets_of (table_view table.now)) (L.shows link.old)
+        (L.shows link.new) }
     ensures same { (L.shows link.new).held ≡ (L.shows link.old).held }
     ensures never_falls { (L.shows link.old).faults ≤ (L.shows link.new).faults }
     ensures stays_steady { IsTrue (L.shows link.old).is_steady → IsTrue (L.shows link.new).is_steady }

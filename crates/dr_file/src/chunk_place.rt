@@ -28,7 +28,8 @@ impl ChunkPlace {
 
     /// Its bytes, if they lie between the magic and the footer, which begins at this byte offset.
     pub(crate) fn range_before(self, footer: u64) -> Option<ByteRange>
-        ensures some { IfSome result (λ r. (lies_before footer (chunk_place_view self) ≡ true) × (inside r ≡ range self.start self.size)) }
+        ensures some { IfSome result (λ r. (lies_before footer (chunk_place_view self) ≡ true)
+            × (inside r ≡ range self.start self.size)) }
         ensures none { IfNone result (lies_before footer (chunk_place_view self) ≡ false) }
     {
         if self.start >= 4 && self.start + self.size <= footer {

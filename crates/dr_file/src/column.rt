@@ -33,10 +33,11 @@ impl Opened {
     ghost use Rattle.dr_chunk.specs.Ranges.{is_read_inside};
     ghost use Rattle.dr_file.specs.OpenedFiles.{IsOpened, IsColumnOf, IsColumnFault, HasCounts, is_read_fault, leaf_count, path_of};
 
-    /// The column of the leaf at an index of those that the file was opened for. The link is asked for bytes of the leaf's own chunks.
+    /// The column of the leaf at an index of those that the file was opened for. The link is asked for bytes of the
+    /// leaf's own chunks.
     ///
-    /// Errors: the link failed, with its counts of faults before and after this call; `BadData` where the leaf's chunks spell no column of
-    /// any records; want of memory.
+    /// Errors: the link failed, with its counts of faults before and after this call; `BadData` where the leaf's chunks
+    /// spell no column of any records; want of memory.
     pub fn column<L: Link>(
         &self,
         alloc: Global,
@@ -44,15 +45,24 @@ impl Opened {
         index: usize,
     ) -> Result<Column, FileFault>
         requires { index < leaf_count self.now }
-        ensures column { (bytes : List ℕ) (F : List Leaf) (l : Leaf) → IsOpened bytes F self.now → slice_get F index ≡ Some l → Tells (L.shows link.old) (path_of self.now) bytes → IfOk result (λ c. IsColumnOf bytes l (column_view c)) }
-        ensures cause { (bytes : List ℕ) (F : List Leaf) (l : Leaf) → IsOpened bytes F self.now → slice_get F index ≡ Some l → Tells (L.shows link.old) (path_of self.now) bytes → IfErr result (λ e. IsColumnFault e (leaf_cause bytes l)) }
+        ensures column { (bytes : List ℕ) (F : List Leaf) (l : Leaf) → IsOpened bytes F self.now → slice_get F index
+            ≡ Some l → Tells (L.shows link.old) (path_of self.now) bytes
+            → IfOk result (λ c. IsColumnOf bytes l (column_view c)) }
+        ensures cause { (bytes : List ℕ) (F : List Leaf) (l : Leaf) → IsOpened bytes F self.now → slice_get F index
+            ≡ Some l → Tells (L.shows link.old) (path_of self.now) bytes
+            → IfErr result (λ e. IsColumnFault e (leaf_cause bytes l)) }
         ensures few { IfOk result (λ c. length (column_view c) ≤ most_triplets) }
-        ensures form { (bytes : List ℕ) (F : List Leaf) (l : Leaf) → IsOpened bytes F self.now → slice_get F index ≡ Some l → IfOk result (λ c. column_form c ≡ form l.kind (max_definition l.path)) }
-        ensures asked { (bytes : List ℕ) (F : List Leaf) (l : Leaf) (f : Footer) → IsOpened bytes F self.now → slice_get F index ≡ Some l → footer_of bytes ≡ Some f → AsksOnly (is_read_inside (path_of self.now) (leaf_ranges f l)) (L.shows link.old).asked (L.shows link.new).asked }
+        ensures form { (bytes : List ℕ) (F : List Leaf) (l : Leaf) → IsOpened bytes F self.now → slice_get F index
+            ≡ Some l → IfOk result (λ c. column_form c ≡ form l.kind (max_definition l.path)) }
+        ensures asked { (bytes : List ℕ) (F : List Leaf) (l : Leaf) (f : Footer) → IsOpened bytes F self.now
+            → slice_get F index ≡ Some l → footer_of bytes ≡ Some f
+            → AsksOnly (is_read_inside (path_of self.now) (leaf_ranges f l)) (L.shows link.old).asked
+            (L.shows link.new).asked }
         ensures same { (L.shows link.new).held ≡ (L.shows link.old).held }
         ensures counts { IfErr result (HasCounts (L.shows link.old).faults (L.shows link.new).faults) }
         ensures calm { is_read_fault result ≡ false → (L.shows link.new).faults ≡ (L.shows link.old).faults }
-        ensures steady { (bytes : List ℕ) (F : List Leaf) → IsOpened bytes F self.now → Serves (L.shows link.old) (path_of self.now) bytes → is_read_fault result ≡ false }
+        ensures steady { (bytes : List ℕ) (F : List Leaf) → IsOpened bytes F self.now
+            → Serves (L.shows link.old) (path_of self.now) bytes → is_read_fault result ≡ false }
         ensures stays_steady { IsTrue (L.shows link.old).is_steady → IsTrue (L.shows link.new).is_steady }
     {
         let before = link.faults();

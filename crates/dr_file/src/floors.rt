@@ -7,8 +7,8 @@ use dr_memory::NoMemory;
 use dr_nested::{Rep, Step};
 use std::alloc::Global;
 
-/// For each repeated field on a leaf's path, outermost first, the definition level that its instances have at least; and the leaf's
-/// greatest definition level.
+/// For each repeated field on a leaf's path, outermost first, the definition level that its instances have at least;
+/// and the leaf's greatest definition level.
 #[derive(Debug, Drop)]
 pub(crate) struct Floors {
     levels: Vec<u8>,
@@ -76,7 +76,8 @@ impl Floors {
 
     /// Whether these levels may follow those of a triplet of this definition level.
     fn may_follow(&self, before: u8, levels: Levels) -> bool
-        ensures { (p : List MeantStep) → AreFloorsOf p self.now → result ≡ may_follow p before levels.definition levels.repetition }
+        ensures { (p : List MeantStep) → AreFloorsOf p self.now → result
+            ≡ may_follow p before levels.definition levels.repetition }
     {
         if levels.repetition == 0 {
             return true;
@@ -85,11 +86,14 @@ impl Floors {
         floor <= before && floor <= levels.definition
     }
 
-    /// How many of these levels begin a record, where each may follow the one before it, and the first a triplet of this definition level;
-    /// none where one may not.
+    /// How many of these levels begin a record, where each may follow the one before it, and the first a triplet of
+    /// this definition level; none where one may not.
     fn count_starts(&self, before: u8, levels: &[Levels]) -> Option<usize>
-        ensures some { (p : List MeantStep) → AreFloorsOf p self.now → IfSome result (λ n. (all_follow p (triplet 0 before None) (map bare levels.now) ≡ true) × (n ≡ starts (map bare levels.now))) }
-        ensures none { (p : List MeantStep) → AreFloorsOf p self.now → IfNone result (all_follow p (triplet 0 before None) (map bare levels.now) ≡ false) }
+        ensures some { (p : List MeantStep) → AreFloorsOf p self.now
+            → IfSome result (λ n. (all_follow p (triplet 0 before None) (map bare levels.now) ≡ true)
+            × (n ≡ starts (map bare levels.now))) }
+        ensures none { (p : List MeantStep) → AreFloorsOf p self.now
+            → IfNone result (all_follow p (triplet 0 before None) (map bare levels.now) ≡ false) }
         ensures within { IfSome result (λ n. n ≤ length levels.now) }
     {
         let mut last = before;
@@ -104,9 +108,12 @@ impl Floors {
         Some(count)
     }
 
-    /// Whether triplets of these levels, none of them above the greatest, are whole records, so many of them, each triplet where it may be.
+    /// Whether triplets of these levels, none of them above the greatest, are whole records, so many of them, each
+    /// triplet where it may be.
     pub(crate) fn are_rows(&self, levels: &[Levels], rows: u64) -> bool
-        ensures { (p : List MeantStep) → AreFloorsOf p self.now → list_all (λ (t : Triplet). nat_le t.repetition (max_repetition p)) (map bare levels.now) ≡ true → result ≡ (is_in_order p (map bare levels.now) && (starts (map bare levels.now) == rows)) }
+        ensures { (p : List MeantStep) → AreFloorsOf p self.now
+            → list_all (λ (t : Triplet). nat_le t.repetition (max_repetition p)) (map bare levels.now) ≡ true → result
+            ≡ (is_in_order p (map bare levels.now) && (starts (map bare levels.now) == rows)) }
     {
         if self.levels.is_empty() {
             return levels.len() as u64 == rows;

@@ -29,15 +29,21 @@ pub(crate) fn read_footer<L: Link>(
     link: &mut L,
     path: &str,
 ) -> Result<FooterBytes, FooterFault>
-    ensures footer { (bytes : List ℕ) → Tells (L.shows link.old) path.now bytes → IfOk result (λ f. IsFooter bytes f.place f.bytes.items) }
-    ensures bad { (bytes : List ℕ) → Tells (L.shows link.old) path.now bytes → result ≡ Err FooterFault.BadFooter → is_framed bytes ≡ false }
-    ensures asked { (bytes : List ℕ) → Tells (L.shows link.old) path.now bytes → AsksOnly (is_request_for path.now (end_ranges bytes ++ footer_ranges bytes)) (L.shows link.old).asked (L.shows link.new).asked }
-    ensures asked_absent { Lacks (L.shows link.old).held path.now → AsksOnly (is_request_for path.now []) (L.shows link.old).asked (L.shows link.new).asked }
+    ensures footer { (bytes : List ℕ) → Tells (L.shows link.old) path.now bytes
+        → IfOk result (λ f. IsFooter bytes f.place f.bytes.items) }
+    ensures bad { (bytes : List ℕ) → Tells (L.shows link.old) path.now bytes → result ≡ Err FooterFault.BadFooter
+        → is_framed bytes ≡ false }
+    ensures asked { (bytes : List ℕ) → Tells (L.shows link.old) path.now bytes
+        → AsksOnly (is_request_for path.now (end_ranges bytes ++ footer_ranges bytes)) (L.shows link.old).asked
+        (L.shows link.new).asked }
+    ensures asked_absent { Lacks (L.shows link.old).held path.now
+        → AsksOnly (is_request_for path.now []) (L.shows link.old).asked (L.shows link.new).asked }
     ensures same { (L.shows link.new).held ≡ (L.shows link.old).held }
     ensures cause { result ≡ Err FooterFault.Failed → (L.shows link.new).faults ≡ raised (L.shows link.old).faults }
     ensures calm { result ≢ Err FooterFault.Failed → (L.shows link.new).faults ≡ (L.shows link.old).faults }
     ensures steady { (bytes : List ℕ) → Serves (L.shows link.old) path.now bytes → result ≢ Err FooterFault.Failed }
-    ensures absent { Lacks (L.shows link.old).held path.now → result ≢ Err FooterFault.NoMemory → result ≡ Err FooterFault.Failed }
+    ensures absent { Lacks (L.shows link.old).held path.now → result ≢ Err FooterFault.NoMemory → result
+        ≡ Err FooterFault.Failed }
     ensures stays_steady { IsTrue (L.shows link.old).is_steady → IsTrue (L.shows link.new).is_steady }
 {
     let frame = read_frame(link, path)?;

@@ -58,12 +58,13 @@ pub(crate) struct Frame {
     pub(crate) length: usize,
 }
 
-/// Where a footer lies in a file of so many bytes, by its first four bytes and its last eight: the latter are the footer's length and
-/// the magic. None where they are no ends of a file with a footer of this length.
+/// Where a footer lies in a file of so many bytes, by its first four bytes and its last eight: the latter are the
+/// footer's length and the magic. None where they are no ends of a file with a footer of this length.
 fn frame_of(size: u64, front: &[u8], end: &[u8]) -> Option<Frame>
     requires size { 12 ≤ size }
     requires eight { length end.now ≡ 8 }
-    ensures some { IfSome result (λ f. (are_ends size front.now end.now ≡ true) × (f.length ≡ little_endian (take 4 end.now)) × (f.place ≡ size - 8 - little_endian (take 4 end.now))) }
+    ensures some { IfSome result (λ f. (are_ends size front.now end.now ≡ true)
+        × (f.length ≡ little_endian (take 4 end.now)) × (f.place ≡ size - 8 - little_endian (take 4 end.now))) }
     ensures none { IfNone result (are_ends size front.now end.now ≡ false) }
 {
     let mut cut = Cut::new(end);
@@ -85,15 +86,20 @@ fn frame_of(size: u64, front: &[u8], end: &[u8]) -> Option<Frame>
 ///
 /// Errors: the file's ends are no ends of a file with a footer; the link failed; want of memory.
 pub(crate) fn read_frame<L: Link>(link: &mut L, path: &str) -> Result<Frame, FooterFault>
-    ensures frame { (bytes : List ℕ) → Tells (L.shows link.old) path.now bytes → IfOk result (λ f. IsFrame bytes f.place f.length) }
-    ensures bad { (bytes : List ℕ) → Tells (L.shows link.old) path.now bytes → result ≡ Err FooterFault.BadFooter → is_framed bytes ≡ false }
-    ensures asked { (bytes : List ℕ) → Tells (L.shows link.old) path.now bytes → AsksOnly (is_request_for path.now (end_ranges bytes)) (L.shows link.old).asked (L.shows link.new).asked }
-    ensures asked_absent { Lacks (L.shows link.old).held path.now → AsksOnly (is_request_for path.now []) (L.shows link.old).asked (L.shows link.new).asked }
+    ensures frame { (bytes : List ℕ) → Tells (L.shows link.old) path.now bytes
+        → IfOk result (λ f. IsFrame bytes f.place f.length) }
+    ensures bad { (bytes : List ℕ) → Tells (L.shows link.old) path.now bytes → result ≡ Err FooterFault.BadFooter
+        → is_framed bytes ≡ false }
+    ensures asked { (bytes : List ℕ) → Tells (L.shows link.old) path.now bytes
+        → AsksOnly (is_request_for path.now (end_ranges bytes)) (L.shows link.old).asked (L.shows link.new).asked }
+    ensures asked_absent { Lacks (L.shows link.old).held path.now
+        → AsksOnly (is_request_for path.now []) (L.shows link.old).asked (L.shows link.new).asked }
     ensures same { (L.shows link.new).held ≡ (L.shows link.old).held }
     ensures cause { result ≡ Err FooterFault.Failed → (L.shows link.new).faults ≡ raised (L.shows link.old).faults }
     ensures calm { result ≢ Err FooterFault.Failed → (L.shows link.new).faults ≡ (L.shows link.old).faults }
     ensures steady { (bytes : List ℕ) → Serves (L.shows link.old) path.now bytes → result ≢ Err FooterFault.Failed }
-    ensures absent { Lacks (L.shows link.old).held path.now → result ≢ Err FooterFault.NoMemory → result ≡ Err FooterFault.Failed }
+    ensures absent { Lacks (L.shows link.old).held path.now → result ≢ Err FooterFault.NoMemory → result
+        ≡ Err FooterFault.Failed }
     ensures stays_steady { IsTrue (L.shows link.old).is_steady → IsTrue (L.shows link.new).is_steady }
 {
     let size = link.size(path)?;

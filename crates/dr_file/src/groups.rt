@@ -49,8 +49,8 @@ fn are_whole(groups: &[GroupMeta<'_, '_>], leaves: usize) -> bool
     true
 }
 
-/// How many leaves a file of this metadata has: its elements are one tree, and each row group has a column for each of them, none in another
-/// file.
+/// How many leaves a file of this metadata has: its elements are one tree, and each row group has a column for each of
+/// them, none in another file.
 ///
 /// Errors: the metadata is that of no footer; want of memory.
 pub(crate) fn whole_leaves(alloc: Global, meta: &FileMeta<'_, '_>) -> Result<usize, OpenFault>

@@ -16,7 +16,8 @@ use dr_meta::{ColumnMeta, GroupMeta};
 use dr_nested::Path;
 use std::alloc::Global;
 
-/// The byte offset at which a chunk begins: that of its dictionary page, where that is above 0 and before the data, else that of its data.
+/// The byte offset at which a chunk begins: that of its dictionary page, where that is above 0 and before the data,
+/// else that of its data.
 fn start_of(chunk: &ColumnMeta<'_, '_>) -> u64
     ensures start { result ≡ chunk_start (column_view chunk.now) }
     ensures within { result < 2 ^ 63 }
@@ -49,7 +50,8 @@ fn chunk_places(
     place: usize,
 ) -> Result<Vec<ChunkPlace>, NoMemory>
     requires { list_all (λ g. is_some (chunk_of place g)) (map group_view groups.now) ≡ true }
-    ensures { IfOk result (λ v. map (λ c. Some (chunk_place_view c)) v.items ≡ shown_chunks place (map group_view groups.now)) }
+    ensures { IfOk result (λ v. map (λ c. Some (chunk_place_view c)) v.items
+        ≡ shown_chunks place (map group_view groups.now)) }
 {
     let mut chunks = Vec::with_capacity(alloc, groups.len())?;
     'groups: for group in groups {
@@ -92,9 +94,11 @@ pub(crate) fn open_leaves(
     places: &[usize],
 ) -> Result<Vec<OpenedLeaf>, NoMemory>
     requires as_many { length paths.now ≡ length places.now }
-    requires there { list_all (λ i. list_all (λ g. is_some (chunk_of i g)) (map group_view groups.now)) places.now ≡ true }
+    requires there { list_all (λ i. list_all (λ g. is_some (chunk_of i g)) (map group_view groups.now)) places.now
+        ≡ true }
     requires triplets { list_all (λ i. are_triplets (map group_view groups.now) i) places.now ≡ true }
-    ensures shown { IfOk result (λ v. map opened_leaf_view v.items ≡ shown_at_each (map group_view groups.now) (map path_view paths.now) places.now) }
+    ensures shown { IfOk result (λ v. map opened_leaf_view v.items
+        ≡ shown_at_each (map group_view groups.now) (map path_view paths.now) places.now) }
     ensures count { IfOk result (λ v. length v.items ≡ length paths.now) }
 {
     let mut leaves = Vec::with_capacity(alloc, paths.len())?;

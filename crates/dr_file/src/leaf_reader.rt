@@ -19,7 +19,8 @@ use dr_levels::Column;
 use dr_outside::Link;
 use std::alloc::Global;
 
-/// What the chunks of a leaf are read with: where the file is, where its footer begins, and what the leaf's triplets have to be.
+/// What the chunks of a leaf are read with: where the file is, where its footer begins, and what the leaf's triplets
+/// have to be.
 #[derive(Drop)]
 pub(crate) struct LeafReader<'p> {
     path: &'p str,
@@ -64,7 +65,8 @@ impl<'p> LeafReader<'p> {
 
     /// Appends the triplets of a chunk to the column of the leaf.
     ///
-    /// Errors: the chunk doesn't lie before the footer, or doesn't spell a column of its row group's rows; the link failed; want of memory.
+    /// Errors: the chunk doesn't lie before the footer, or doesn't spell a column of its row group's rows; the link
+    /// failed; want of memory.
     fn read_group<L: Link>(
         &self,
         alloc: Global,
@@ -74,16 +76,27 @@ impl<'p> LeafReader<'p> {
         column: &mut Column,
     ) -> Result<(), ChunkFault>
         requires { column_form column.old ≡ reader_form self.now }
-        ensures good { (bytes : List ℕ) (l : Leaf) → IsReaderOf l self.now → Tells (L.shows link.old) (file_of self.now) bytes → footer_of_file self.now ≤ length bytes → OnOk result (is_good_chunk bytes (footer_of_file self.now) l (chunk_place_view chunk) ≡ true) }
-        ensures read { (bytes : List ℕ) (l : Leaf) → IsReaderOf l self.now → Tells (L.shows link.old) (file_of self.now) bytes → footer_of_file self.now ≤ length bytes → OnOk result (column_view column.new ≡ column_view column.old ++ triplets_given (shown_triplets bytes (footer_of_file self.now) l (chunk_place_view chunk))) }
-        ensures bad { (bytes : List ℕ) (l : Leaf) → IsReaderOf l self.now → Tells (L.shows link.old) (file_of self.now) bytes → footer_of_file self.now ≤ length bytes → result ≡ Err ChunkFault.BadData → is_good_chunk bytes (footer_of_file self.now) l (chunk_place_view chunk) ≡ false }
+        ensures good { (bytes : List ℕ) (l : Leaf) → IsReaderOf l self.now
+            → Tells (L.shows link.old) (file_of self.now) bytes → footer_of_file self.now ≤ length bytes
+            → OnOk result (is_good_chunk bytes (footer_of_file self.now) l (chunk_place_view chunk) ≡ true) }
+        ensures read { (bytes : List ℕ) (l : Leaf) → IsReaderOf l self.now
+            → Tells (L.shows link.old) (file_of self.now) bytes → footer_of_file self.now ≤ length bytes
+            → OnOk result (column_view column.new ≡ column_view column.old
+            ++ triplets_given (shown_triplets bytes (footer_of_file self.now) l (chunk_place_view chunk))) }
+        ensures bad { (bytes : List ℕ) (l : Leaf) → IsReaderOf l self.now
+            → Tells (L.shows link.old) (file_of self.now) bytes → footer_of_file self.now ≤ length bytes → result
+            ≡ Err ChunkFault.BadData → is_good_chunk bytes (footer_of_file self.now) l (chunk_place_view chunk)
+            ≡ false }
         ensures count { OnOk result (length (column_view column.new) ≡ length (column_view column.old) + chunk.values) }
         ensures form { column_form column.new ≡ column_form column.old }
         ensures same { (L.shows link.new).held ≡ (L.shows link.old).held }
-        ensures asked { AsksOnly (is_read_inside (file_of self.now) (shown_range (footer_of_file self.now) (chunk_place_view chunk))) (L.shows link.old).asked (L.shows link.new).asked }
+        ensures asked { AsksOnly (is_read_inside (file_of self.now)
+            (shown_range (footer_of_file self.now) (chunk_place_view chunk))) (L.shows link.old).asked
+            (L.shows link.new).asked }
         ensures cause { result ≡ Err ChunkFault.Failed → (L.shows link.new).faults ≡ raised (L.shows link.old).faults }
         ensures calm { result ≢ Err ChunkFault.Failed → (L.shows link.new).faults ≡ (L.shows link.old).faults }
-        ensures steady { (bytes : List ℕ) → Serves (L.shows link.old) (file_of self.now) bytes → footer_of_file self.now ≤ length bytes → result ≢ Err ChunkFault.Failed }
+        ensures steady { (bytes : List ℕ) → Serves (L.shows link.old) (file_of self.now) bytes → footer_of_file self.now
+            ≤ length bytes → result ≢ Err ChunkFault.Failed }
         ensures stays_steady { IsTrue (L.shows link.old).is_steady → IsTrue (L.shows link.new).is_steady }
     {
         let Some(range) = chunk.range_before(self.footer) else {
@@ -112,8 +125,8 @@ impl<'p> LeafReader<'p> {
 
 /// The column of a leaf of the file at this path, whose footer begins at this byte offset.
 ///
-/// Errors: a chunk of the leaf doesn't lie before the footer, or doesn't spell a column of its row group's rows; the link failed; want of
-/// memory.
+/// Errors: a chunk of the leaf doesn't lie before the footer, or doesn't spell a column of its row group's rows; the
+/// link failed; want of memory.
 pub(crate) fn read_leaf<L: Link>(
     alloc: Global,
     link: &mut L,
@@ -121,16 +134,26 @@ pub(crate) fn read_leaf<L: Link>(
     footer: u64,
     leaf: &OpenedLeaf,
 ) -> Result<Column, ChunkFault>
-    ensures good { (bytes : List ℕ) (l : Leaf) → IsShownLeaf l leaf.now → Tells (L.shows link.old) path.now bytes → footer ≤ length bytes → OnOk result (list_all (is_good_chunk bytes footer l) (map chunk_place_view (leaf.now).chunks.items) ≡ true) }
-    ensures read { (bytes : List ℕ) (l : Leaf) → IsShownLeaf l leaf.now → Tells (L.shows link.old) path.now bytes → footer ≤ length bytes → IfOk result (λ c. column_view c ≡ chunks_triplets bytes footer l (map chunk_place_view (leaf.now).chunks.items)) }
-    ensures bad { (bytes : List ℕ) (l : Leaf) → IsShownLeaf l leaf.now → Tells (L.shows link.old) path.now bytes → footer ≤ length bytes → result ≡ Err ChunkFault.BadData → list_all (is_good_chunk bytes footer l) (map chunk_place_view (leaf.now).chunks.items) ≡ false }
+    ensures good { (bytes : List ℕ) (l : Leaf) → IsShownLeaf l leaf.now → Tells (L.shows link.old) path.now bytes
+        → footer ≤ length bytes → OnOk result (list_all (is_good_chunk bytes footer l)
+        (map chunk_place_view (leaf.now).chunks.items) ≡ true) }
+    ensures read { (bytes : List ℕ) (l : Leaf) → IsShownLeaf l leaf.now → Tells (L.shows link.old) path.now bytes
+        → footer ≤ length bytes → IfOk result (λ c. column_view c
+        ≡ chunks_triplets bytes footer l (map chunk_place_view (leaf.now).chunks.items)) }
+    ensures bad { (bytes : List ℕ) (l : Leaf) → IsShownLeaf l leaf.now → Tells (L.shows link.old) path.now bytes
+        → footer ≤ length bytes → result ≡ Err ChunkFault.BadData
+        → list_all (is_good_chunk bytes footer l) (map chunk_place_view (leaf.now).chunks.items) ≡ false }
     ensures few { IfOk result (λ c. length (column_view c) ≤ most_triplets) }
-    ensures form { (l : Leaf) → IsShownLeaf l leaf.now → IfOk result (λ c. column_form c ≡ form l.kind (max_definition l.path)) }
+    ensures form { (l : Leaf) → IsShownLeaf l leaf.now
+        → IfOk result (λ c. column_form c ≡ form l.kind (max_definition l.path)) }
     ensures same { (L.shows link.new).held ≡ (L.shows link.old).held }
-    ensures asked { AsksOnly (is_read_inside path.now (flat_map (shown_range footer) (map chunk_place_view (leaf.now).chunks.items))) (L.shows link.old).asked (L.shows link.new).asked }
+    ensures asked { AsksOnly (is_read_inside path.now
+        (flat_map (shown_range footer) (map chunk_place_view (leaf.now).chunks.items))) (L.shows link.old).asked
+        (L.shows link.new).asked }
     ensures cause { result ≡ Err ChunkFault.Failed → (L.shows link.new).faults ≡ raised (L.shows link.old).faults }
     ensures calm { result ≢ Err ChunkFault.Failed → (L.shows link.new).faults ≡ (L.shows link.old).faults }
-    ensures steady { (bytes : List ℕ) → Serves (L.shows link.old) path.now bytes → footer ≤ length bytes → result ≢ Err ChunkFault.Failed }
+    ensures steady { (bytes : List ℕ) → Serves (L.shows link.old) path.now bytes → footer ≤ length bytes → result
+        ≢ Err ChunkFault.Failed }
     ensures stays_steady { IsTrue (L.shows link.old).is_steady → IsTrue (L.shows link.new).is_steady }
 {
     let reader = LeafReader::new(alloc, path, footer, leaf)?;

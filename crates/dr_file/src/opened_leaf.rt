@@ -8,7 +8,8 @@ ghost use Rattle.dr_file.specs.ChunkPlaces.{all_values};
 use crate::chunk_place::ChunkPlace;
 use dr_nested::{Kind, Step};
 
-/// A leaf of an opened file: its path, its kind, and its chunks, one of each row group, which have not too many triplets together.
+/// A leaf of an opened file: its path, its kind, and its chunks, one of each row group, which have not too many
+/// triplets together.
 #[derive(Debug, Drop)]
 pub(crate) struct OpenedLeaf {
     pub(crate) steps: Vec<Step>,

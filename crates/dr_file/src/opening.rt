@@ -30,8 +30,11 @@ fn open_meta(
     meta: &FileMeta<'_, '_>,
     fields: &[Path],
 ) -> Result<Vec<OpenedLeaf>, OpenFault>
-    ensures opened { (place : ℕ) → IfOk result (λ v. IsOpenedAs (footer_with place (file_view meta.now)) (map path_view fields.now) (file_view meta.now).rows (map opened_leaf_view v.items)) }
-    ensures fault { (place : ℕ) → IfErr result (λ e. IsOpenFault e (footer_cause (map path_view fields.now) (footer_with place (file_view meta.now)))) }
+    ensures opened { (place : ℕ) → IfOk result
+        (λ v. IsOpenedAs (footer_with place (file_view meta.now)) (map path_view fields.now) (file_view meta.now).rows
+        (map opened_leaf_view v.items)) }
+    ensures fault { (place : ℕ) → IfErr result
+        (λ e. IsOpenFault e (footer_cause (map path_view fields.now) (footer_with place (file_view meta.now)))) }
     ensures rows { OnOk result ((file_view meta.now).rows ≤ most_rows) }
     ensures count { IfOk result (λ v. length v.items ≡ length fields.now) }
 {
@@ -53,10 +56,14 @@ fn open_places(
     places: &[usize],
 ) -> Result<Vec<OpenedLeaf>, OpenFault>
     requires as_many { length fields.now ≡ length places.now }
-    requires there { list_all (λ i. list_all (λ g. is_some (chunk_of i g)) (map group_view groups.now)) places.now ≡ true }
-    ensures shown { IfOk result (λ v. map opened_leaf_view v.items ≡ shown_at_each (map group_view groups.now) (map path_view fields.now) places.now) }
-    ensures good { OnOk result ((are_uncompressed_at (map group_view groups.now) places.now ≡ true) × (are_numbers_at (map group_view groups.now) rows places.now ≡ true)) }
-    ensures fault { IfErr result (λ e. IsPlacesFault e (are_uncompressed_at (map group_view groups.now) places.now) (are_numbers_at (map group_view groups.now) rows places.now)) }
+    requires there { list_all (λ i. list_all (λ g. is_some (chunk_of i g)) (map group_view groups.now)) places.now
+        ≡ true }
+    ensures shown { IfOk result (λ v. map opened_leaf_view v.items
+        ≡ shown_at_each (map group_view groups.now) (map path_view fields.now) places.now) }
+    ensures good { OnOk result ((are_uncompressed_at (map group_view groups.now) places.now ≡ true)
+        × (are_numbers_at (map group_view groups.now) rows places.now ≡ true)) }
+    ensures fault { IfErr result (λ e. IsPlacesFault e (are_uncompressed_at (map group_view groups.now) places.now)
+        (are_numbers_at (map group_view groups.now) rows places.now)) }
     ensures count { IfOk result (λ v. length v.items ≡ length fields.now) }
 {
     if !all_uncompressed(groups, places) {
@@ -79,8 +86,12 @@ fn open_tree(
     tree: &Tree<'_>,
     fields: &[Path],
 ) -> Result<(u64, Vec<OpenedLeaf>), OpenFault>
-    ensures opened { (place : ℕ) → IfOk result (λ r. IsOpenedAs (footer_in place (meta_of (file_viewed (tree_view tree.now)))) (map path_view fields.now) r.0 (map opened_leaf_view (r.1).items)) }
-    ensures fault { (place : ℕ) → IfErr result (λ e. IsOpenFault e (footer_cause (map path_view fields.now) (footer_in place (meta_of (file_viewed (tree_view tree.now)))))) }
+    ensures opened { (place : ℕ) → IfOk result
+        (λ r. IsOpenedAs (footer_in place (meta_of (file_viewed (tree_view tree.now)))) (map path_view fields.now) r.0
+        (map opened_leaf_view (r.1).items)) }
+    ensures fault { (place : ℕ) → IfErr result
+        (λ e. IsOpenFault e (footer_cause (map path_view fields.now)
+        (footer_in place (meta_of (file_viewed (tree_view tree.now)))))) }
     ensures rows { IfOk result (λ r. r.0 ≤ most_rows) }
     ensures count { IfOk result (λ r. length (r.1).items ≡ length fields.now) }
 {
@@ -97,8 +108,12 @@ pub(crate) fn open_footer(
     footer: &FooterBytes,
     fields: &[Path],
 ) -> Result<(u64, Vec<OpenedLeaf>), OpenFault>
-    ensures opened { IfOk result (λ r. IsOpenedAs (footer_in footer.now.place (meta_read (struct_read footer.now.bytes.items))) (map path_view fields.now) r.0 (map opened_leaf_view (r.1).items)) }
-    ensures fault { IfErr result (λ e. IsOpenFault e (footer_cause (map path_view fields.now) (footer_in footer.now.place (meta_read (struct_read footer.now.bytes.items))))) }
+    ensures opened { IfOk result (λ r. IsOpenedAs
+        (footer_in footer.now.place (meta_read (struct_read footer.now.bytes.items))) (map path_view fields.now) r.0
+        (map opened_leaf_view (r.1).items)) }
+    ensures fault { IfErr result (λ e. IsOpenFault e
+        (footer_cause (map path_view fields.now)
+        (footer_in footer.now.place (meta_read (struct_read footer.now.bytes.items))))) }
     ensures rows { IfOk result (λ r. r.0 ≤ most_rows) }
     ensures count { IfOk result (λ r. length (r.1).items ≡ length fields.now) }
 {

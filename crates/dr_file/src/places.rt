@@ -25,8 +25,12 @@ pub(crate) fn find_places(
     fields: &[Path],
 ) -> Result<Option<Vec<usize>>, NoMemory>
     requires { IsSome (file_schema (map item_view items.now)) }
-    ensures found { IfOk result (λ o. IfSome o (λ v. map (λ l. place_in_file l (file_schema (map item_view items.now))) (map path_view fields.now) ≡ map (λ i. Some i) v.items)) }
-    ensures none { IfOk result (λ o. IfNone o (list_all (λ l. is_found (place_in_file l (file_schema (map item_view items.now)))) (map path_view fields.now) ≡ false)) }
+    ensures found { IfOk result (λ o. IfSome o
+        (λ v. map (λ l. place_in_file l (file_schema (map item_view items.now))) (map path_view fields.now)
+        ≡ map (λ i. Some i) v.items)) }
+    ensures none { IfOk result (λ o. IfNone o
+        (list_all (λ l. is_found (place_in_file l (file_schema (map item_view items.now)))) (map path_view fields.now)
+        ≡ false)) }
 {
     let mut places = Vec::with_capacity(alloc, fields.len())?;
     'fields: for field in fields {

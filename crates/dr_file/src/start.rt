@@ -43,17 +43,23 @@ fn open<L: Link>(
     path: &str,
     fields: &[Path],
 ) -> Result<Opened, OpenFault>
-    ensures opened { (bytes : List ℕ) → Tells (L.shows link.old) path.now bytes → IfOk result (λ o. IsOpened bytes (map path_view fields.now) o) }
-    ensures cause { (bytes : List ℕ) → Tells (L.shows link.old) path.now bytes → result ≢ Err OpenFault.Failed → IfErr result (λ e. IsOpenFault e (opening_cause bytes (map path_view fields.now))) }
+    ensures opened { (bytes : List ℕ) → Tells (L.shows link.old) path.now bytes
+        → IfOk result (λ o. IsOpened bytes (map path_view fields.now) o) }
+    ensures cause { (bytes : List ℕ) → Tells (L.shows link.old) path.now bytes → result ≢ Err OpenFault.Failed
+        → IfErr result (λ e. IsOpenFault e (opening_cause bytes (map path_view fields.now))) }
     ensures path { IfOk result (λ o. path_of o ≡ path.now) }
     ensures count { IfOk result (λ o. leaf_count o ≡ length fields.now) }
-    ensures asked { (bytes : List ℕ) → Tells (L.shows link.old) path.now bytes → AsksOnly (is_request_for path.now (end_ranges bytes ++ footer_ranges bytes)) (L.shows link.old).asked (L.shows link.new).asked }
-    ensures asked_absent { Lacks (L.shows link.old).held path.now → AsksOnly (is_request_for path.now []) (L.shows link.old).asked (L.shows link.new).asked }
+    ensures asked { (bytes : List ℕ) → Tells (L.shows link.old) path.now bytes
+        → AsksOnly (is_request_for path.now (end_ranges bytes ++ footer_ranges bytes)) (L.shows link.old).asked
+        (L.shows link.new).asked }
+    ensures asked_absent { Lacks (L.shows link.old).held path.now
+        → AsksOnly (is_request_for path.now []) (L.shows link.old).asked (L.shows link.new).asked }
     ensures same { (L.shows link.new).held ≡ (L.shows link.old).held }
     ensures rose { result ≡ Err OpenFault.Failed → (L.shows link.new).faults ≡ raised (L.shows link.old).faults }
     ensures calm { result ≢ Err OpenFault.Failed → (L.shows link.new).faults ≡ (L.shows link.old).faults }
     ensures steady { (bytes : List ℕ) → Serves (L.shows link.old) path.now bytes → result ≢ Err OpenFault.Failed }
-    ensures absent { Lacks (L.shows link.old).held path.now → result ≢ Err OpenFault.NoMemory → result ≡ Err OpenFault.Failed }
+    ensures absent { Lacks (L.shows link.old).held path.now → result ≢ Err OpenFault.NoMemory → result
+        ≡ Err OpenFault.Failed }
     ensures stays_steady { IsTrue (L.shows link.old).is_steady → IsTrue (L.shows link.new).is_steady }
 {
     let footer = read_footer(alloc, link, path)?;
@@ -68,29 +74,35 @@ fn open<L: Link>(
 }
 
 impl Opened {
-    /// The file at a path, opened for these leaves of a schema: its footer is read, and nothing of its chunks. The link is asked for the
-    /// file's size, its two ends, and the footer.
+    /// The file at a path, opened for these leaves of a schema: its footer is read, and nothing of its chunks. The link
+    /// is asked for the file's size, its two ends, and the footer.
     ///
-    /// Errors: the link failed, with its counts of faults before and after this call; else the first cause that the footer shows
-    /// (`BadFooter`, `BadSchema`, `BadCodec`, or `BadData` where the numbers of rows or of triplets disagree or are too great); want of
-    /// memory.
+    /// Errors: the link failed, with its counts of faults before and after this call; else the first cause that the
+    /// footer shows (`BadFooter`, `BadSchema`, `BadCodec`, or `BadData` where the numbers of rows or of triplets
+    /// disagree or are too great); want of memory.
     pub fn start<L: Link>(
         alloc: Global,
         link: &mut L,
         path: &str,
         fields: &[Path],
     ) -> Result<Opened, FileFault>
-        ensures opened { (bytes : List ℕ) → Tells (L.shows link.old) path.now bytes → IfOk result (λ o. IsOpened bytes (map path_view fields.now) o) }
-        ensures cause { (bytes : List ℕ) → Tells (L.shows link.old) path.now bytes → IfErr result (λ e. IsCauseOf e (opening_cause bytes (map path_view fields.now))) }
+        ensures opened { (bytes : List ℕ) → Tells (L.shows link.old) path.now bytes
+            → IfOk result (λ o. IsOpened bytes (map path_view fields.now) o) }
+        ensures cause { (bytes : List ℕ) → Tells (L.shows link.old) path.now bytes
+            → IfErr result (λ e. IsCauseOf e (opening_cause bytes (map path_view fields.now))) }
         ensures path { IfOk result (λ o. path_of o ≡ path.now) }
         ensures count { IfOk result (λ o. leaf_count o ≡ length fields.now) }
-        ensures asked { (bytes : List ℕ) → Tells (L.shows link.old) path.now bytes → AsksOnly (is_request_for path.now (end_ranges bytes ++ footer_ranges bytes)) (L.shows link.old).asked (L.shows link.new).asked }
-        ensures asked_absent { Lacks (L.shows link.old).held path.now → AsksOnly (is_request_for path.now []) (L.shows link.old).asked (L.shows link.new).asked }
+        ensures asked { (bytes : List ℕ) → Tells (L.shows link.old) path.now bytes
+            → AsksOnly (is_request_for path.now (end_ranges bytes ++ footer_ranges bytes)) (L.shows link.old).asked
+            (L.shows link.new).asked }
+        ensures asked_absent { Lacks (L.shows link.old).held path.now
+            → AsksOnly (is_request_for path.now []) (L.shows link.old).asked (L.shows link.new).asked }
         ensures same { (L.shows link.new).held ≡ (L.shows link.old).held }
         ensures counts { IfErr result (HasCounts (L.shows link.old).faults (L.shows link.new).faults) }
         ensures calm { is_read_fault result ≡ false → (L.shows link.new).faults ≡ (L.shows link.old).faults }
         ensures steady { (bytes : List ℕ) → Serves (L.shows link.old) path.now bytes → is_read_fault result ≡ false }
-        ensures absent { Lacks (L.shows link.old).held path.now → result ≢ Err FileFault.NoMemory → is_read_fault result ≡ true }
+        ensures absent { Lacks (L.shows link.old).held path.now → result ≢ Err FileFault.NoMemory → is_read_fault result
+            ≡ true }
         ensures stays_steady { IsTrue (L.shows link.old).is_steady → IsTrue (L.shows link.new).is_steady }
     {
         let before = link.faults();

@@ -14,8 +14,8 @@ use std::os::unix::fs::FileExt;
 use std::rt::Files;
 use std::{fs, io};
 
-/// The files that are named by their paths. It keeps the file open that it read last. One that doesn't tell its size, as a pipe,
-/// is read whole at its first use, at most 256 MiB of it, and served from memory from then on.
+/// The files that are named by their paths. It keeps the file open that it read last. One that doesn't tell its size,
+/// as a pipe, is read whole at its first use, at most 256 MiB of it, and served from memory from then on.
 #[derive(Drop)]
 pub struct DirLink<R: Files> {
     alloc: Global,
@@ -123,8 +123,10 @@ where
 
     fn read_range(&mut self, path: &str, at: u64, buf: &mut [u8]) -> io::Result<()>
         ensures faults { self.new.faults ≡ self.old.faults }
-        ensures part { IfSome (get_by_text self.old.whole path.now) (λ bytes. OnOk result (IsPartAt (Some bytes.items) at buf.new)) }
-        ensures short { IfSome (get_by_text self.old.whole path.now) (λ bytes. OnErr result (FallsShort (Some bytes.items) (at + length buf.old))) }
+        ensures part { IfSome (get_by_text self.old.whole path.now)
+            (λ bytes. OnOk result (IsPartAt (Some bytes.items) at buf.new)) }
+        ensures short { IfSome (get_by_text self.old.whole path.now)
+            (λ bytes. OnErr result (FallsShort (Some bytes.items) (at + length buf.old))) }
         ensures stays { IsSome (get_by_text self.old.whole path.now) → self.new.whole ≡ self.old.whole }
     {
         self.reach(path)?;

@@ -10,7 +10,8 @@ use std::io::{ErrorKind, Read};
 /// The most bytes that are read of a file whose size isn't told: 256 MiB.
 const LONGEST_WHOLE: u64 = 268_435_456;
 
-/// Whether a file tells its size. A pipe and a device tell none, and files that the system makes up, as those of `/proc`, tell 0.
+/// Whether a file tells its size. A pipe and a device tell none, and files that the system makes up, as those of
+/// `/proc`, tell 0.
 pub fn tells_size<F: OpenFile>(file: &F) -> io::Result<bool> {
     let metadata = file.metadata()?;
     Ok(metadata.is_file() && metadata.len() > 0)

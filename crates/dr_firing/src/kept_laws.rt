@@ -8,7 +8,8 @@ pub fn walk_is_tour()
     ensures { WalkIsTour }
 {}
 
-/// A record, or an instance on the condition's chain, is kept exactly where one of its rows is true, and exactly where its moves have a true row.
+/// A record, or an instance on the condition's chain, is kept exactly where one of its rows is true, and exactly where
+/// its moves have a true row.
 pub fn true_row_keeps()
     ensures rows { KeptWhereAnyRow }
     ensures records { TrueRowKeeps }

@@ -1,4 +1,5 @@
-//! Laws of the definitions of files that no other crate rests on. Each function has an empty body, and its contract is a law.
+//! Laws of the definitions of files that no other crate rests on. Each function has an empty body, and its contract is
+//! a law.
 #![tactic(auto)]
 
 pub mod struct_fault_laws;

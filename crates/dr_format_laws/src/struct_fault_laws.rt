@@ -9,8 +9,8 @@ pub fn bytes_before_struct_fault_go_on()
     ensures deeper { BytesGoOnOneDeeper }
 {}
 
-/// With a malformed byte no struct goes on, however deep it nests, and no greater limit of nesting mends it; the bytes before a value that
-/// is too deep begin none within the limit.
+/// With a malformed byte no struct goes on, however deep it nests, and no greater limit of nesting mends it; the bytes
+/// before a value that is too deep begin none within the limit.
 pub fn struct_fault_ends_structs()
     ensures malformed { MalformedEndsStructs }
     ensures stays { MalformedStays }

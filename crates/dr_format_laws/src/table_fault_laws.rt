@@ -2,7 +2,8 @@
 
 ghost use Rattle.dr_format_laws.specs.TableFaultLaws.{OneTableFault, TableFaultIsTold, TableOrFault};
 
-/// A fault of a table text is told exactly where the text has it: the lines before are as they should be, and the fault's line isn't.
+/// A fault of a table text is told exactly where the text has it: the lines before are as they should be, and the
+/// fault's line isn't.
 pub fn table_fault_is_told()
     ensures { TableFaultIsTold }
 {}

@@ -18,8 +18,8 @@ pub fn front_spells_one_struct()
     ensures { FrontSpellsOneStruct }
 {}
 
-/// A fault stands at the first byte that is at fault: the bytes before it are at fault only in that they end there, and with it no
-/// struct goes on.
+/// A fault stands at the first byte that is at fault: the bytes before it are at fault only in that they end there, and
+/// with it no struct goes on.
 pub fn fault_is_first()
     ensures { FaultIsFirst }
 {}

@@ -4,8 +4,8 @@ ghost use Rattle.dr_formats.specs.FileLaws.{CauseIsKnown, FileHasNoCause, KnownC
 ghost use Rattle.dr_formats.specs.OpenSchemaLaws.{OpenPartHasOpenLeaves, OpenPartIsSchema, WrittenSchemaIsRead};
 ghost use Rattle.dr_formats.specs.Opening.{LeafCauseIsExact, NoFileHasCause, NoLeafCauseIsFile, OpeningCauseHolds, RangesAreInFile};
 
-/// The cause that the test knows of bytes holds; a cause that holds is the one that it knows, but for causes of data that need records
-/// to be seen.
+/// The cause that the test knows of bytes holds; a cause that holds is the one that it knows, but for causes of data
+/// that need records to be seen.
 pub fn known_cause_holds()
     ensures holds { KnownCauseHolds }
     ensures known { CauseIsKnown }
@@ -31,8 +31,8 @@ pub fn opening_cause_holds()
     ensures { OpeningCauseHolds }
 {}
 
-/// Of one leaf alone the cause is a test of the bytes: it tells the cause that holds, and none exactly where the bytes are a file of some
-/// records for this leaf.
+/// Of one leaf alone the cause is a test of the bytes: it tells the cause that holds, and none exactly where the bytes
+/// are a file of some records for this leaf.
 pub fn leaf_cause_is_exact()
     ensures cause { LeafCauseIsExact }
     ensures file { NoLeafCauseIsFile }
@@ -49,7 +49,8 @@ pub fn open_part_is_schema()
     ensures written { WrittenSchemaIsRead }
 {}
 
-/// The leaves of the open part of a file's schema are the first open leaves of the file, and there is no open part where no leaf is open.
+/// The leaves of the open part of a file's schema are the first open leaves of the file, and there is no open part
+/// where no leaf is open.
 pub fn open_part_has_open_leaves()
     ensures { OpenPartHasOpenLeaves }
 {}

@@ -2,7 +2,8 @@
 
 ghost use Rattle.dr_formats.specs.TabletLaws.{PathsDiffer, PlacementIsLeaf, PlacementsDiffer, TabletsAreFull, TabletsAreNotEmpty, TabletsHoldRecords};
 
-/// Tablets hold the records in order, so many to a tablet, and there is at least one; none is empty, but for the one of no records.
+/// Tablets hold the records in order, so many to a tablet, and there is at least one; none is empty, but for the one of
+/// no records.
 pub fn tablets_hold_records()
     ensures records { TabletsHoldRecords }
     ensures full { TabletsAreFull }

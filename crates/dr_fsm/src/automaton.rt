@@ -7,7 +7,8 @@ use crate::state::State;
 
 mod building;
 
-/// The order in which an automaton has its leaves: that of the schema, depth first, or the reading order, level by level.
+/// The order in which an automaton has its leaves: that of the schema, depth first, or the reading order, level by
+/// level.
 #[derive(Clone, Copy, PartialEq, Eq, Debug)]
 pub enum Order {
     BySchema,

@@ -73,7 +73,8 @@ fn leaves_at<'a>(
     order: &[usize],
 ) -> Result<Vec<&'a Path>, AllocError>
     requires within { All (λ i. i < length fields.now) order.now }
-    ensures { IfOk result (λ v. map lent_leaf v.items ≡ paths_at (map (λ (p : Path). (path_view p).path) fields.now) order.now) }
+    ensures { IfOk result (λ v. map lent_leaf v.items
+        ≡ paths_at (map (λ (p : Path). (path_view p).path) fields.now) order.now) }
 {
     let mut leaves = Vec::with_capacity(alloc, order.len())?;
     'order: for index in order {
@@ -90,7 +91,8 @@ pub fn table_of(
 ) -> Result<Vec<Vec<State>>, AllocError>
     requires within { All (λ i. i < length fields.now) order.now }
     requires few { length order.now < 2 ^ 32 }
-    ensures { IfOk result (λ v. (i l : ℕ) → table_at v.items i l ≡ meant.transition (paths_at (map (λ (p : Path). (path_view p).path) fields.now) order.now) i l) }
+    ensures { IfOk result (λ v. (i l : ℕ) → table_at v.items i l
+        ≡ meant.transition (paths_at (map (λ (p : Path). (path_view p).path) fields.now) order.now) i l) }
 {
     let leaves = leaves_at(alloc, fields, order)?;
     rows_of(alloc, &leaves)

@@ -15,8 +15,8 @@ use dr_nested::Value;
 use dr_plan::Fold;
 use std::alloc::Global;
 
-/// What an aggregate has gathered: how many, the exact sum, the least or the greatest value; the last three have none where
-/// there was no value.
+/// What an aggregate has gathered: how many, the exact sum, the least or the greatest value; the last three have none
+/// where there was no value.
 #[derive(Debug, Drop)]
 pub enum Accumulator {
     Count(u64),
@@ -47,7 +47,8 @@ impl Accumulator {
         gathering: Gathering,
         value: Option<ValueRef<'_>>,
     ) -> Result<(), NoMemory>
-        ensures { Becomes (accumulator_view self.old) (accumulator_view self.new) (take_by gathering (lent_cell value.entry) (accumulator_view self.old)) result }
+        ensures { Becomes (accumulator_view self.old) (accumulator_view self.new)
+            (take_by gathering (lent_cell value.entry) (accumulator_view self.old)) result }
     {
         match (gathering, value) {
             (Gathering::Rows, _) => self.take_row(),
@@ -58,7 +59,8 @@ impl Accumulator {
 
     /// Takes a row, whatever is in it.
     fn take_row(&mut self) -> Result<(), NoMemory>
-        ensures { Becomes (accumulator_view self.old) (accumulator_view self.new) (take_row (accumulator_view self.old)) result }
+        ensures { Becomes (accumulator_view self.old) (accumulator_view self.new)
+            (take_row (accumulator_view self.old)) result }
     {
         if let Accumulator::Count(count) = self {
             let Some(more) = count.checked_add(1) else {
@@ -71,7 +73,8 @@ impl Accumulator {
 
     /// Takes a value.
     fn take_value(&mut self, alloc: Global, value: ValueRef<'_>) -> Result<(), NoMemory>
-        ensures { Becomes (accumulator_view self.old) (accumulator_view self.new) (take_value (accumulator_view self.old) (Some (lent_value value.entry))) result }
+        ensures { Becomes (accumulator_view self.old) (accumulator_view self.new)
+            (take_value (accumulator_view self.old) (Some (lent_value value.entry))) result }
     {
         match self {
             Accumulator::Count(_) => self.take_row(),
@@ -84,7 +87,8 @@ impl Accumulator {
 
 /// Adds a number to a sum; what is no number counts as 0.
 fn add_number(sum: &mut Option<i128>, value: ValueRef<'_>) -> Result<(), NoMemory>
-    ensures { Becomes sum.old sum.new (join_options (λ x y. x +ℤ y) sum.old (Some (integer_sum (lent_value value.entry ∷ [])))) result }
+    ensures { Becomes sum.old sum.new (join_options (λ x y. x +ℤ y) sum.old
+        (Some (integer_sum (lent_value value.entry ∷ [])))) result }
 {
     let number = match value {
         ValueRef::Int(number) => i128::from(number),
@@ -104,7 +108,8 @@ fn add_number(sum: &mut Option<i128>, value: ValueRef<'_>) -> Result<(), NoMemor
 
 /// Keeps a value where it is less than the one that is held.
 fn keep_least(alloc: Global, least: &mut Option<Value>, value: ValueRef<'_>) -> Result<(), NoMemory>
-    ensures { Becomes (cell_view least.old) (cell_view least.new) (join_options smaller (cell_view least.old) (Some (lent_value value.entry))) result }
+    ensures { Becomes (cell_view least.old) (cell_view least.new)
+        (join_options smaller (cell_view least.old) (Some (lent_value value.entry))) result }
 {
     if is_less(least, value) {
         *least = Some(value.to_value(alloc)?);
@@ -118,7 +123,8 @@ fn keep_greatest(
     greatest: &mut Option<Value>,
     value: ValueRef<'_>,
 ) -> Result<(), NoMemory>
-    ensures { Becomes (cell_view greatest.old) (cell_view greatest.new) (join_options larger (cell_view greatest.old) (Some (lent_value value.entry))) result }
+    ensures { Becomes (cell_view greatest.old) (cell_view greatest.new)
+        (join_options larger (cell_view greatest.old) (Some (lent_value value.entry))) result }
 {
     if is_greater(greatest, value) {
         *greatest = Some(value.to_value(alloc)?);
@@ -128,7 +134,8 @@ fn keep_greatest(
 
 /// Whether a value is less than the one that is held, if one is.
 fn is_less(held: &Option<Value>, value: ValueRef<'_>) -> bool
-    ensures { join_options smaller (cell_view held.now) (Some (lent_value value.entry)) ≡ (if result then Some (lent_value value.entry) else cell_view held.now) }
+    ensures { join_options smaller (cell_view held.now) (Some (lent_value value.entry))
+        ≡ (if result then Some (lent_value value.entry) else cell_view held.now) }
 {
     match held {
         None => true,
@@ -138,7 +145,8 @@ fn is_less(held: &Option<Value>, value: ValueRef<'_>) -> bool
 
 /// Whether a value is greater than the one that is held, if one is.
 fn is_greater(held: &Option<Value>, value: ValueRef<'_>) -> bool
-    ensures { join_options larger (cell_view held.now) (Some (lent_value value.entry)) ≡ (if result then Some (lent_value value.entry) else cell_view held.now) }
+    ensures { join_options larger (cell_view held.now) (Some (lent_value value.entry))
+        ≡ (if result then Some (lent_value value.entry) else cell_view held.now) }
 {
     match held {
         None => true,

@@ -24,7 +24,8 @@ impl GroupMap {
     ///
     /// Errors: want of memory, or of room for texts.
     pub(crate) fn push_rows(&self, items: &[GroupItem], cells: &mut Cells) -> Result<(), NoMemory>
-        ensures { OnOk result (cells_view cells.new ≡ cells_view cells.old ++ all_row_cells items.now (groups_view self.now)) }
+        ensures { OnOk result (cells_view cells.new
+            ≡ cells_view cells.old ++ all_row_cells items.now (groups_view self.now)) }
     {
         'groups: for number in &self.sorted {
             push_row(&self.groups[*number as usize], items, cells)?;
@@ -35,7 +36,8 @@ impl GroupMap {
 
 /// Appends the cells of a group's row.
 fn push_row(group: &Group, items: &[GroupItem], cells: &mut Cells) -> Result<(), NoMemory>
-    ensures { OnOk result (cells_view cells.new ≡ cells_view cells.old ++ group_cells items.now (group_view group.now)) }
+    ensures { OnOk result (cells_view cells.new
+        ≡ cells_view cells.old ++ group_cells items.now (group_view group.now)) }
 {
     let mut next = 0;
     'items: for item in items {
@@ -44,15 +46,19 @@ fn push_row(group: &Group, items: &[GroupItem], cells: &mut Cells) -> Result<(),
     Ok(())
 }
 
-/// Appends a key, or what the accumulator of this number has gathered, and tells the number of the accumulator that is next.
+/// Appends a key, or what the accumulator of this number has gathered, and tells the number of the accumulator that is
+/// next.
 fn push_item(
     term: GroupTerm,
     group: &Group,
     next: usize,
     cells: &mut Cells,
 ) -> Result<usize, NoMemory>
-    ensures cells { OnOk result (cells_view cells.new ≡ cells_view cells.old ++ value_cell (value_of_term term (group_view group.now).keys (drop next (group_view group.now).accumulators)) ∷ []) }
-    ensures next { IfOk result (λ n. drop n (group_view group.now).accumulators ≡ behind_term term (drop next (group_view group.now).accumulators)) }
+    ensures cells { OnOk result (cells_view cells.new
+        ≡ cells_view cells.old ++ value_cell (value_of_term term (group_view group.now).keys
+        (drop next (group_view group.now).accumulators)) ∷ []) }
+    ensures next { IfOk result (λ n. drop n (group_view group.now).accumulators
+        ≡ behind_term term (drop next (group_view group.now).accumulators)) }
 {
     match term {
         GroupTerm::Key(key) => {
@@ -68,7 +74,8 @@ fn push_item(
 
 /// The number behind a number, or how many there are.
 fn number_behind(accumulators: &[Accumulator], number: usize) -> usize
-    ensures { drop result (accumulators_view accumulators.now) ≡ drop 1 (drop number (accumulators_view accumulators.now)) }
+    ensures { drop result (accumulators_view accumulators.now)
+        ≡ drop 1 (drop number (accumulators_view accumulators.now)) }
 {
     if number < accumulators.len() {
         number + 1
@@ -79,7 +86,8 @@ fn number_behind(accumulators: &[Accumulator], number: usize) -> usize
 
 /// Appends the key of a number, or NULL.
 fn push_key(keys: &[Option<Value>], number: usize, cells: &mut Cells) -> Result<(), NoMemory>
-    ensures { OnOk result (cells_view cells.new ≡ cells_view cells.old ++ value_cell (nth_value (map cell_view keys.now) number) ∷ []) }
+    ensures { OnOk result (cells_view cells.new
+        ≡ cells_view cells.old ++ value_cell (nth_value (map cell_view keys.now) number) ∷ []) }
 {
     if number < keys.len() {
         push_held(&keys[number], cells)
@@ -100,7 +108,8 @@ fn push_held(value: &Option<Value>, cells: &mut Cells) -> Result<(), NoMemory>
 
 /// Appends what the accumulator of a number has gathered, or NULL.
 fn push_next(accumulators: &[Accumulator], number: usize, cells: &mut Cells) -> Result<(), NoMemory>
-    ensures { OnOk result (cells_view cells.new ≡ cells_view cells.old ++ value_cell (first_result (drop number (accumulators_view accumulators.now))) ∷ []) }
+    ensures { OnOk result (cells_view cells.new
+        ≡ cells_view cells.old ++ value_cell (first_result (drop number (accumulators_view accumulators.now))) ∷ []) }
 {
     if number < accumulators.len() {
         push_result(&accumulators[number], cells)
@@ -111,7 +120,8 @@ fn push_next(accumulators: &[Accumulator], number: usize, cells: &mut Cells) -> 
 
 /// Appends what an accumulator has gathered.
 fn push_result(accumulator: &Accumulator, cells: &mut Cells) -> Result<(), NoMemory>
-    ensures { OnOk result (cells_view cells.new ≡ cells_view cells.old ++ value_cell (result_of (accumulator_view accumulator.now)) ∷ []) }
+    ensures { OnOk result (cells_view cells.new
+        ≡ cells_view cells.old ++ value_cell (result_of (accumulator_view accumulator.now)) ∷ []) }
 {
     match accumulator {
         Accumulator::Count(count) => cells.push_whole(Some(i128::from(*count))),

@@ -35,7 +35,9 @@ pub fn take_into(
     accumulators: &mut Vec<Accumulator>,
     taken: Option<Taken<'_>>,
 ) -> Result<(), NoMemory>
-    ensures { Becomes (accumulators_view (accumulators.old).items) (accumulators_view (accumulators.new).items) (taken_by gatherings.now (option_map taken_view taken.entry) (accumulators_view (accumulators.old).items)) result }
+    ensures { Becomes (accumulators_view (accumulators.old).items) (accumulators_view (accumulators.new).items)
+        (taken_by gatherings.now (option_map taken_view taken.entry) (accumulators_view (accumulators.old).items))
+        result }
 {
     let Some(taken) = taken else {
         return Ok(());

@@ -9,8 +9,8 @@ ghost use Rattle.dr_group.specs.Groups.{picked};
 use crate::gathering::Gathering;
 use crate::group::Group;
 
-/// The groups, each key tuple once: the groups in any order, and their numbers in the order of their key tuples. Only numbers move
-/// where a group is put between others.
+/// The groups, each key tuple once: the groups in any order, and their numbers in the order of their key tuples. Only
+/// numbers move where a group is put between others.
 #[derive(Debug, Drop)]
 pub struct GroupMap {
     pub(crate) gatherings: Vec<Gathering>,

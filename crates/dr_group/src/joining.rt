@@ -66,7 +66,8 @@ fn sum_of(left: Option<i128>, right: Option<i128>) -> Option<i128>
 }
 
 fn join_least(mine: &mut Accumulator, theirs: &mut Option<Value>)
-    ensures { accumulator_view mine.new ≡ meant.join (accumulator_view mine.old) (meant.least_of (cell_view theirs.old)) }
+    ensures { accumulator_view mine.new ≡ meant.join (accumulator_view mine.old)
+        (meant.least_of (cell_view theirs.old)) }
 {
     match mine {
         Accumulator::Least(value) => keep_smaller(value, theirs),
@@ -75,7 +76,8 @@ fn join_least(mine: &mut Accumulator, theirs: &mut Option<Value>)
 }
 
 fn join_greatest(mine: &mut Accumulator, theirs: &mut Option<Value>)
-    ensures { accumulator_view mine.new ≡ meant.join (accumulator_view mine.old) (meant.greatest_of (cell_view theirs.old)) }
+    ensures { accumulator_view mine.new ≡ meant.join (accumulator_view mine.old)
+        (meant.greatest_of (cell_view theirs.old)) }
 {
     match mine {
         Accumulator::Greatest(value) => keep_larger(value, theirs),
@@ -101,7 +103,8 @@ fn keep_larger(mine: &mut Option<Value>, theirs: &mut Option<Value>)
 
 /// Whether the other value takes the place of this one as the least.
 fn is_smaller(mine: &Option<Value>, theirs: &Option<Value>) -> bool
-    ensures { meant.join_options smaller (cell_view mine.now) (cell_view theirs.now) ≡ (if result then cell_view theirs.now else cell_view mine.now) }
+    ensures { meant.join_options smaller (cell_view mine.now) (cell_view theirs.now)
+        ≡ (if result then cell_view theirs.now else cell_view mine.now) }
 {
     match mine {
         None => true,
@@ -114,7 +117,8 @@ fn is_smaller(mine: &Option<Value>, theirs: &Option<Value>) -> bool
 
 /// Whether the other value takes the place of this one as the greatest.
 fn is_larger(mine: &Option<Value>, theirs: &Option<Value>) -> bool
-    ensures { meant.join_options larger (cell_view mine.now) (cell_view theirs.now) ≡ (if result then cell_view theirs.now else cell_view mine.now) }
+    ensures { meant.join_options larger (cell_view mine.now) (cell_view theirs.now)
+        ≡ (if result then cell_view theirs.now else cell_view mine.now) }
 {
     match mine {
         None => true,
@@ -129,7 +133,8 @@ fn is_larger(mine: &Option<Value>, theirs: &Option<Value>) -> bool
 pub fn join_each(mine: &mut Vec<Accumulator>, theirs: &mut Vec<Accumulator>)
     requires mine { AllCanBeOf (2 ^ 60) (accumulators_view (mine.old).items) }
     requires theirs { AllCanBeOf (2 ^ 60) (accumulators_view (theirs.old).items) }
-    ensures { accumulators_view (mine.new).items ≡ join_all (accumulators_view (mine.old).items) (accumulators_view (theirs.old).items) }
+    ensures { accumulators_view (mine.new).items
+        ≡ join_all (accumulators_view (mine.old).items) (accumulators_view (theirs.old).items) }
 {
     mine.truncate(theirs.len());
     'places: for place in 0..mine.len() {

@@ -23,7 +23,8 @@ impl GroupMap {
         has_keys: bool,
         gatherings: Vec<Gathering>,
     ) -> Result<GroupMap, NoMemory>
-        ensures groups { IfOk result (λ m. groups_view m ≡ (if has_keys then [] else keyless_group (map empty_of gatherings.items) ∷ [])) }
+        ensures groups { IfOk result (λ m. groups_view m
+            ≡ (if has_keys then [] else keyless_group (map empty_of gatherings.items) ∷ [])) }
         ensures gatherings { IfOk result (λ m. gatherings_view m ≡ map gathering_view gatherings.items) }
     {
         let mut groups = Vec::new(alloc);
@@ -66,7 +67,8 @@ fn push_gathering(
     aggregates: &[Aggregate],
     gatherings: &mut Vec<Gathering>,
 ) -> Result<(), NoMemory>
-    ensures { OnOk result (map gathering_view (gatherings.new).items ≡ map gathering_view (gatherings.old).items ++ with_gathering aggregates.now term []) }
+    ensures { OnOk result (map gathering_view (gatherings.new).items
+        ≡ map gathering_view (gatherings.old).items ++ with_gathering aggregates.now term []) }
 {
     match term {
         GroupTerm::Key(_) => Ok(()),

@@ -18,7 +18,8 @@ impl GroupMap {
     pub fn merge(&mut self, alloc: Global, other: GroupMap) -> Result<(), NoMemory>
         requires mine { GroupsCanBeOf (2 ^ 60) (groups_view self.old) }
         requires theirs { GroupsCanBeOf (2 ^ 60) (groups_view other) }
-        ensures groups { Becomes (groups_view self.old) (groups_view self.new) (merge_groups (groups_view self.old) (groups_view other)) result }
+        ensures groups { Becomes (groups_view self.old) (groups_view self.new)
+            (merge_groups (groups_view self.old) (groups_view other)) result }
         ensures gatherings { gatherings_view self.new ≡ gatherings_view self.old }
     {
         let GroupMap {

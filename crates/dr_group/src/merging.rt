@@ -58,7 +58,8 @@ fn move_first(alloc: Global, from: &mut Vec<Group>, order: &[u32], merged: &mut 
     requires numbers { are_numbers (from.old).items order.now ≡ true }
     requires ascending { AreAscending (picked (from.old).items order.now) }
     requires room { vec_len merged.old < vec_capacity merged.old }
-    ensures merged { map group_view (merged.new).items ≡ map group_view (merged.old).items ++ take 1 (picked (from.old).items order.now) }
+    ensures merged { map group_view (merged.new).items
+        ≡ map group_view (merged.old).items ++ take 1 (picked (from.old).items order.now) }
     ensures left { picked (from.new).items (drop 1 order.now) ≡ drop 1 (picked (from.old).items order.now) }
     ensures length { length (from.new).items ≡ length (from.old).items }
     ensures len { vec_len merged.new ≡ vec_len merged.old + 1 }
@@ -86,9 +87,12 @@ fn move_joined(
     requires their_ascending { AreAscending (picked (theirs.old).items their_order.now) }
     requires their_bound { GroupsCanBeOf (2 ^ 60) (picked (theirs.old).items their_order.now) }
     requires room { vec_len merged.old < vec_capacity merged.old }
-    ensures merged { map group_view (merged.new).items ≡ map group_view (merged.old).items ++ join_firsts (picked (mine.old).items my_order.now) (picked (theirs.old).items their_order.now) }
+    ensures merged { map group_view (merged.new).items
+        ≡ map group_view (merged.old).items ++ join_firsts (picked (mine.old).items my_order.now)
+        (picked (theirs.old).items their_order.now) }
     ensures mine { picked (mine.new).items (drop 1 my_order.now) ≡ drop 1 (picked (mine.old).items my_order.now) }
-    ensures theirs { picked (theirs.new).items (drop 1 their_order.now) ≡ drop 1 (picked (theirs.old).items their_order.now) }
+    ensures theirs { picked (theirs.new).items (drop 1 their_order.now)
+        ≡ drop 1 (picked (theirs.old).items their_order.now) }
     ensures my_length { length (mine.new).items ≡ length (mine.old).items }
     ensures their_length { length (theirs.new).items ≡ length (theirs.old).items }
     ensures len { vec_len merged.new ≡ vec_len merged.old + 1 }
@@ -116,7 +120,9 @@ pub fn merge_into(
     requires their_ascending { AreAscending (picked (theirs.old).items their_order.now) }
     requires their_bound { GroupsCanBeOf (2 ^ 60) (picked (theirs.old).items their_order.now) }
     requires room { vec_len merged.old + length my_order.now + length their_order.now ≤ vec_capacity merged.old }
-    ensures merged { map group_view (merged.new).items ≡ map group_view (merged.old).items ++ merge_groups (picked (mine.old).items my_order.now) (picked (theirs.old).items their_order.now) }
+    ensures merged { map group_view (merged.new).items
+        ≡ map group_view (merged.old).items ++ merge_groups (picked (mine.old).items my_order.now)
+        (picked (theirs.old).items their_order.now) }
     ensures len { vec_len merged.new ≤ vec_len merged.old + length my_order.now + length their_order.now }
 {
     let mut my_rest = my_order;

@@ -53,8 +53,8 @@ impl Partial {
         }
     }
 
-    /// Puts a key tuple into the groups, which makes its group where there is none, and takes a value into it, if one is given.
-    /// Lines take nothing so.
+    /// Puts a key tuple into the groups, which makes its group where there is none, and takes a value into it, if one
+    /// is given. Lines take nothing so.
     ///
     /// Errors: want of memory, or of room for a count, a sum or a number of a group. Nothing has changed then.
     pub fn put(
@@ -63,7 +63,9 @@ impl Partial {
         key: &[Option<ValueRef<'_>>],
         taken: Option<Taken<'_>>,
     ) -> Result<(), NoMemory>
-        ensures partial { (p : Planned) → IsPartialOf p self.old → Becomes (partial_view self.old) (partial_view self.new) (putting.put (planned_query p) (put_view key.now taken.entry) (partial_view self.old)) result }
+        ensures partial { (p : Planned) → IsPartialOf p self.old
+            → Becomes (partial_view self.old) (partial_view self.new)
+            (putting.put (planned_query p) (put_view key.now taken.entry) (partial_view self.old)) result }
         ensures of_plan { (p : Planned) → IsPartialOf p self.old → IsPartialOf p self.new }
     {
         match self {
@@ -79,7 +81,8 @@ impl Partial {
         requires alike { AreAlike self.old other }
         requires mine { PartialCanBeOf (2 ^ 60) (partial_view self.old) }
         requires theirs { PartialCanBeOf (2 ^ 60) (partial_view other) }
-        ensures partial { Becomes (partial_view self.old) (partial_view self.new) (meant.merge (partial_view self.old) (partial_view other)) result }
+        ensures partial { Becomes (partial_view self.old) (partial_view self.new)
+            (meant.merge (partial_view self.old) (partial_view other)) result }
         ensures of_plan { (p : Planned) → IsPartialOf p self.old → IsPartialOf p self.new }
     {
         match self {
@@ -98,8 +101,10 @@ impl Partial {
     ///
     /// Errors: want of memory, or of room: the texts of a result have less than 4 GiB together.
     pub fn finish(self, alloc: Global, plan: &Plan) -> Result<RowsOut, NoMemory>
-        ensures rows { IfOk result (λ r. rows_view r ≡ meant.finished (planned_query (plan_view plan.now)) (partial_view self)) }
-        ensures shape { IsPartialOf (plan_view plan.now) self → IfOk result (λ r. rows_shape r ≡ plan_shape (plan_view plan.now)) }
+        ensures rows { IfOk result (λ r. rows_view r
+            ≡ meant.finished (planned_query (plan_view plan.now)) (partial_view self)) }
+        ensures shape { IsPartialOf (plan_view plan.now) self
+            → IfOk result (λ r. rows_shape r ≡ plan_shape (plan_view plan.now)) }
     {
         match self {
             Partial::Lines(rows) => Ok(rows),
@@ -110,7 +115,8 @@ impl Partial {
 
 /// The rows of groups, by a plan's items.
 fn finish_groups(groups: &GroupMap, alloc: Global, plan: &Plan) -> Result<RowsOut, NoMemory>
-    ensures rows { IfOk result (λ r. rows_view r ≡ meant.finished (planned_query (plan_view plan.now)) (meant.grouped (groups_view groups.now))) }
+    ensures rows { IfOk result (λ r. rows_view r
+        ≡ meant.finished (planned_query (plan_view plan.now)) (meant.grouped (groups_view groups.now))) }
     ensures shape { IfOk result (λ r. rows_shape r ≡ plan_shape (plan_view plan.now)) }
 {
     let shape = shape_of(alloc, plan)?;
@@ -128,7 +134,8 @@ fn rows_of(
     items: &[GroupItem],
 ) -> Result<RowsOut, NoMemory>
     requires { shape_view shape ≡ shape_tree (row_names items.now) no_list_shapes }
-    ensures rows { IfOk result (λ r. (ts : List GroupTerm) → AllAggregates ts → rows_view r ≡ group_rows ts items.now (groups_view groups.now)) }
+    ensures rows { IfOk result (λ r. (ts : List GroupTerm) → AllAggregates ts → rows_view r
+        ≡ group_rows ts items.now (groups_view groups.now)) }
     ensures shape { IfOk result (λ r. rows_shape r ≡ shape_view shape) }
 {
     let mut cells = Cells::new(alloc);

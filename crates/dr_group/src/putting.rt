@@ -78,7 +78,9 @@ impl GroupMap {
         key: &[Option<ValueRef<'_>>],
         taken: Option<Taken<'_>>,
     ) -> Result<(), NoMemory>
-        ensures groups { (items : List GroupItem) → gatherings_of items ≡ gatherings_view self.old → Becomes (groups_view self.old) (groups_view self.new) (put_group items (put_view key.now taken.entry) (groups_view self.old)) result }
+        ensures groups { (items : List GroupItem) → gatherings_of items ≡ gatherings_view self.old
+            → Becomes (groups_view self.old) (groups_view self.new)
+            (put_group items (put_view key.now taken.entry) (groups_view self.old)) result }
         ensures gatherings { gatherings_view self.new ≡ gatherings_view self.old }
     {
         let place = self.place_of(key);
@@ -95,7 +97,9 @@ impl GroupMap {
         taken: Option<Taken<'_>>,
     ) -> Result<(), NoMemory>
         requires { IsPlace (map lent_cell key.now) (groups_view self.old) place }
-        ensures groups { (items : List GroupItem) → gatherings_of items ≡ gatherings_view self.old → Becomes (groups_view self.old) (groups_view self.new) (put_group items (put_view key.now taken.entry) (groups_view self.old)) result }
+        ensures groups { (items : List GroupItem) → gatherings_of items ≡ gatherings_view self.old
+            → Becomes (groups_view self.old) (groups_view self.new)
+            (put_group items (put_view key.now taken.entry) (groups_view self.old)) result }
         ensures gatherings { gatherings_view self.new ≡ gatherings_view self.old }
     {
         match place {
@@ -112,7 +116,9 @@ impl GroupMap {
         taken: Option<Taken<'_>>,
     ) -> Result<(), NoMemory>
         requires { place < length (groups_view self.old) }
-        ensures groups { Becomes (groups_view self.old) (groups_view self.new) (taken_at (self.old).gatherings.items place (option_map taken_view taken.entry) (groups_view self.old)) result }
+        ensures groups { Becomes (groups_view self.old) (groups_view self.new)
+            (taken_at (self.old).gatherings.items place (option_map taken_view taken.entry) (groups_view self.old))
+            result }
         ensures gatherings { (self.new).gatherings ≡ (self.old).gatherings }
     {
         let number = self.sorted[place] as usize;
@@ -129,7 +135,9 @@ impl GroupMap {
         taken: Option<Taken<'_>>,
     ) -> Result<(), NoMemory>
         requires { IsPlace (map lent_cell key.now) (groups_view self.old) (Place.Before place) }
-        ensures groups { Becomes (groups_view self.old) (groups_view self.new) (insert (groups_view self.old) place (new_group_by (self.old).gatherings.items (put_view key.now taken.entry))) result }
+        ensures groups { Becomes (groups_view self.old) (groups_view self.new)
+            (insert (groups_view self.old) place (new_group_by (self.old).gatherings.items
+            (put_view key.now taken.entry))) result }
         ensures gatherings { (self.new).gatherings ≡ (self.old).gatherings }
     {
         let Ok(number) = u32::try_from(self.groups.len()) else {

@@ -36,7 +36,8 @@ pub fn next_turn(mine: &[Group], my_order: &[u32], theirs: &[Group], their_order
 
 /// Whose group is next, of two.
 fn turn_by(mine: &Group, theirs: &Group) -> Turn
-    ensures { result ≡ match_ordering (tuple_order (group_view mine.now).keys (group_view theirs.now).keys) Turn.Mine Turn.Both Turn.Theirs }
+    ensures { result ≡ match_ordering (tuple_order (group_view mine.now).keys (group_view theirs.now).keys) Turn.Mine
+        Turn.Both Turn.Theirs }
 {
     match held_order(&mine.keys, &theirs.keys) {
         Ordering::Less => Turn::Mine,

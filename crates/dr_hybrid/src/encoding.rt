@@ -1,5 +1,5 @@
-//! Values as hybrid data: where at least eight equal values follow, or nothing but equal values, a repeat of them; else one
-//! packed group of the next eight, padded with 0.
+//! Values as hybrid data: where at least eight equal values follow, or nothing but equal values, a repeat of them; else
+//! one packed group of the next eight, padded with 0.
 
 ghost use Rattle.std.specs.Prelude.{◌≡◌, ◌≤◌, ◌<◌, ◌^◌, ◌++◌, length, slice_index, OnOk, OnErr};
 ghost use Rattle.dr_formats.specs.Hybrid.{hybrid_bytes, runs_behind, equal_front, group_of};

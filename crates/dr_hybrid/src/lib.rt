@@ -1,5 +1,5 @@
-//! The RLE / bit-packing hybrid of Apache Parquet (Encodings, "Run Length Encoding / Bit-Packing Hybrid"), without the length
-//! before it: levels and dictionary indices, read and written in bulk.
+//! The RLE / bit-packing hybrid of Apache Parquet (Encodings, "Run Length Encoding / Bit-Packing Hybrid"), without the
+//! length before it: levels and dictionary indices, read and written in bulk.
 #![tactic(auto)]
 
 mod decoding;

@@ -113,11 +113,13 @@ impl<'a> Runs<'a> {
         }
     }
 
-    /// The next run, where so many values are wanted: those of its values that are wanted, and as few bytes as they need. It may have none.
+    /// The next run, where so many values are wanted: those of its values that are wanted, and as few bytes as they
+    /// need. It may have none.
     ///
     /// Errors: the bytes begin with no run for them; the place is then as it was.
     pub fn next(&mut self, wanted: usize) -> Result<Run<'a>, Short>
-        ensures read { IfOk result (λ r. run_ahead (width_of self.old) wanted (left_of self.old) ≡ got (values_of r) (left_of self.new)) }
+        ensures read { IfOk result (λ r. run_ahead (width_of self.old) wanted (left_of self.old)
+            ≡ got (values_of r) (left_of self.new)) }
         ensures kind { IfOk result (λ r. IsOfWidth (width_of self.old) r) }
         ensures short { OnErr result (IsFault short (run_ahead (width_of self.old) wanted (left_of self.old))) }
         ensures wanted { IfOk result (λ r. length (values_of r) ≤ wanted) }

@@ -58,7 +58,8 @@ fn next_record<S: Source>(
     requires going { line_fault_of lines.old ≡ None }
     requires few { number < 2 ^ 63 }
     ensures record { IfOk result (λ o. IfSome o (λ n. HasTaken (fields_view (schema.now).fields.items) most number
-        (node_view n ∷ []) (rest_of lines.old (S.shows source.old).left) (rest_of lines.new (S.shows source.new).left))) }
+        (node_view n ∷ []) (rest_of lines.old (S.shows source.old).left) (rest_of lines.new
+        (S.shows source.new).left))) }
     ensures form { IfOk result (λ o. IfSome o
         (λ n. is_record (fields_view (schema.now).fields.items) (node_view n) ≡ true)) }
     ensures limited { IfOk result (λ o. IfSome o (λ n. is_limited (node_view n) ≡ true)) }
@@ -109,11 +110,13 @@ impl<'s> Records<'s> {
 
     /// The record of the next line; none where no line is left.
     ///
-    /// The source is the same at each call. Errors: the next line is refused; the source failed, and each whole line that it
-    /// gave before is a record; want of memory. After an error it is repeated.
+    /// The source is the same at each call. Errors: the next line is refused; the source failed, and each whole line
+    /// that it gave before is a record; want of memory. After an error it is repeated.
     pub fn next<S: Source>(&mut self, source: &mut S) -> Result<Option<Node>, InputFault>
-        ensures record { IfOk result (λ o. IfSome o (λ n. HasTaken (fields_of self.old) (most_of self.old) (number_of self.old)
-            (node_view n ∷ []) (left_of self.old (S.shows source.old).left) (left_of self.new (S.shows source.new).left))) }
+        ensures record { IfOk result (λ o. IfSome o
+            (λ n. HasTaken (fields_of self.old) (most_of self.old) (number_of self.old)
+            (node_view n ∷ []) (left_of self.old (S.shows source.old).left) (left_of self.new
+            (S.shows source.new).left))) }
         ensures counts { IfOk result (λ o. IfSome o (λ n. number_of self.new ≡ number_of self.old + 1)) }
         ensures form { IfOk result (λ o. IfSome o (λ n. is_record (fields_of self.old) (node_view n) ≡ true)) }
         ensures limited { IfOk result (λ o. IfSome o (λ n. is_limited (node_view n) ≡ true)) }
@@ -122,7 +125,8 @@ impl<'s> Records<'s> {
         ensures same_number { IfOk result (λ o. IfNone o (number_of self.new ≡ number_of self.old)) }
         ensures calm { OnOk result ((S.shows source.new).faults ≡ (S.shows source.old).faults) }
         ensures stops { fault_of self.old ≡ None → IfErr result (NextStops (fields_of self.old) (most_of self.old)
-            (number_of self.old) (left_of self.old (S.shows source.old).left) (S.shows source.old) (S.shows source.new)) }
+            (number_of self.old) (left_of self.old (S.shows source.old).left) (S.shows source.old) (S.shows
+            source.new)) }
         ensures same_fields { fields_of self.new ≡ fields_of self.old }
         ensures same_most { most_of self.new ≡ most_of self.old }
         ensures within { number_of self.new ≤ most_of self.new }

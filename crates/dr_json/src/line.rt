@@ -28,9 +28,9 @@ pub fn record_limits_are_as_defined()
     ensures texts { MOST_TEXT_BYTES ≡ most_text_bytes }
 {}
 
-/// The record that a line reads as under a schema, or its first fault. An object's unknown key comes before the faults of
-/// its fields, these come in schema order, and a record that is too large comes last. A number that `serde_json` holds as
-/// a float, as `1.0`, `-0` or a whole number that fits neither `i64` nor `u64`, is a value of another kind.
+/// The record that a line reads as under a schema, or its first fault. An object's unknown key comes before the faults
+/// of its fields, these come in schema order, and a record that is too large comes last. A number that `serde_json`
+/// holds as a float, as `1.0`, `-0` or a whole number that fits neither `i64` nor `u64`, is a value of another kind.
 pub fn record_of(alloc: Global, schema: &Schema, line: &[u8]) -> Result<Node, RecordFault>
     ensures { Gives node_view record_fault_view (record_of_line (fields_view schema.now.fields.items) line.now) result }
 {
@@ -43,7 +43,8 @@ pub fn record_of(alloc: Global, schema: &Schema, line: &[u8]) -> Result<Node, Re
 
 fn record_of_value(alloc: Global, fields: &[Field], value: &Json) -> Result<Node, RecordFault>
     requires { is_group (fields_view fields.now) ≡ true }
-    ensures { Gives node_view record_fault_view (meant.record_of_value (fields_view fields.now) (view value.now)) result }
+    ensures { Gives node_view record_fault_view
+        (meant.record_of_value (fields_view fields.now) (view value.now)) result }
 {
     match value.as_object() {
         Some(object) => within_limits(node_of(alloc, fields, object)?),

@@ -27,7 +27,8 @@ pub fn node_of(
     object: &Map<String, Json>,
 ) -> Result<Node, RecordFault>
     requires { is_group (fields_view fields.now) ≡ true }
-    ensures { Gives node_view record_fault_view (members_node (fields_view fields.now) (members_view object.now.entries)) result }
+    ensures { Gives node_view record_fault_view
+        (members_node (fields_view fields.now) (members_view object.now.entries)) result }
 {
     if !has_only_known_keys(fields, object) {
         return Err(RecordFault::Refused(RecordProblem::UnknownField));
@@ -44,7 +45,8 @@ fn slots_of(
     object: &Map<String, Json>,
 ) -> Result<Vec<Slot>, RecordFault>
     requires { is_group (fields_view fields.now) ≡ true }
-    ensures { Gives (λ v. slots_view v.items) record_fault_view (line.slots_of (fields_view fields.now) (members_view object.now.entries)) result }
+    ensures { Gives (λ v. slots_view v.items) record_fault_view
+        (line.slots_of (fields_view fields.now) (members_view object.now.entries)) result }
 {
     let mut slots = Vec::with_capacity(alloc, fields.len())?;
     for field in fields {
@@ -80,7 +82,9 @@ fn instances_of(
     found: Option<&Json>,
 ) -> Result<Vec<Instance>, RecordFault>
     requires { is_shape (shape_view (field.now).shape) ≡ true }
-    ensures { Gives (λ v. instances_view v.items) record_fault_view (field_instances (rep_view (field.now).rep) (line.instance_of (shape_view (field.now).shape)) (option_map (λ v. view v.now) found.entry)) result }
+    ensures { Gives (λ v. instances_view v.items) record_fault_view
+        (field_instances (rep_view (field.now).rep) (line.instance_of (shape_view (field.now).shape))
+        (option_map (λ v. view v.now) found.entry)) result }
 {
     match (field.rep, found) {
         (Rep::Required, None) => Err(RecordFault::Refused(RecordProblem::MissingField)),
@@ -97,7 +101,8 @@ fn instances_of(
 #[cycle(reading)]
 fn one_instance(alloc: Global, shape: &Shape, value: &Json) -> Result<Vec<Instance>, RecordFault>
     requires { is_shape (shape_view shape.now) ≡ true }
-    ensures { Gives (λ v. instances_view v.items) record_fault_view (line.then_give single (line.instance_of (shape_view shape.now) (view value.now))) result }
+    ensures { Gives (λ v. instances_view v.items) record_fault_view
+        (line.then_give single (line.instance_of (shape_view shape.now) (view value.now))) result }
 {
     let mut instances = Vec::with_capacity(alloc, 1)?;
     instances.push(instance_of(alloc, shape, value)?)?;
@@ -108,7 +113,8 @@ fn one_instance(alloc: Global, shape: &Shape, value: &Json) -> Result<Vec<Instan
 #[cycle(reading)]
 fn elements_of(alloc: Global, shape: &Shape, items: &[Json]) -> Result<Vec<Instance>, RecordFault>
     requires { is_shape (shape_view shape.now) ≡ true }
-    ensures { Gives (λ v. instances_view v.items) record_fault_view (each_element (line.instance_of (shape_view shape.now)) (items_view items.now)) result }
+    ensures { Gives (λ v. instances_view v.items) record_fault_view
+        (each_element (line.instance_of (shape_view shape.now)) (items_view items.now)) result }
 {
     let mut instances = Vec::with_capacity(alloc, items.len())?;
     for item in items {

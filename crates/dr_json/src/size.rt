@@ -7,8 +7,8 @@ ghost use Rattle.dr_json.specs.Size.{capped};
 
 use dr_nested::{Instance, Node, Slot, Value};
 
-/// How many instances of fields there are, and how many bytes their texts have together; the greatest number where there
-/// are more.
+/// How many instances of fields there are, and how many bytes their texts have together; the greatest number where
+/// there are more.
 #[derive(Clone, Copy, Debug, PartialEq, Eq)]
 pub struct Size {
     pub instances: u64,

@@ -1,4 +1,5 @@
-//! Laws of the rows of what a condition keeps, and of what fires over moves. Each function has an empty body, and its contract is a law.
+//! Laws of the rows of what a condition keeps, and of what fires over moves. Each function has an empty body, and its
+//! contract is a law.
 
 ghost use Rattle.dr_kept_laws.specs.GroupFlowLaws.{AllFiredTogether, FiredOfAll, FiredOfKept, FiredTogether};
 ghost use Rattle.dr_kept_laws.specs.ObjectsOfKeptLaws.{ObjectOfKept};
@@ -43,7 +44,8 @@ pub fn object_of_kept()
     ensures { ObjectOfKept }
 {}
 
-/// What fires at a leaf's triplets over moves that a condition cuts is what the rows of what is kept have, as values of leaves.
+/// What fires at a leaf's triplets over moves that a condition cuts is what the rows of what is kept have, as values of
+/// leaves.
 pub fn fired_of_kept()
     ensures values { FiredOfKept (List (Option Value)) }
     ensures puts { FiredOfKept Put }

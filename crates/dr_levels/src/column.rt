@@ -12,8 +12,8 @@ use crate::values::Values;
 use dr_nested::{Kind, NoMemory};
 use std::alloc::Global;
 
-/// The triplets of one leaf, in the order of the records: their levels, and beside them the values that are there, in one
-/// vector of the leaf's kind. A value is there exactly where the definition level is the leaf's greatest.
+/// The triplets of one leaf, in the order of the records: their levels, and beside them the values that are there, in
+/// one vector of the leaf's kind. A value is there exactly where the definition level is the leaf's greatest.
 #[derive(Debug, Drop)]
 pub struct Column {
     pub(crate) kind: Kind,
@@ -114,7 +114,8 @@ impl Column {
     /// Errors: want of memory alone. Nothing has changed then.
     pub fn push_nulls(&mut self, levels: Levels, count: usize) -> Result<(), NoMemory>
         requires { levels.definition ≢ (column_form self.old).greatest }
-        ensures triplets { Adds (column_view self.old) (column_view self.new) (replicate count (triplet levels.repetition levels.definition None)) result }
+        ensures triplets { Adds (column_view self.old) (column_view self.new)
+            (replicate count (triplet levels.repetition levels.definition None)) result }
         ensures form { column_form self.new ≡ column_form self.old }
     {
         repeat_levels(&mut self.levels, levels, count)
@@ -126,7 +127,8 @@ impl Column {
     pub fn extend_bools(&mut self, levels: &[Levels], values: &[bool]) -> Result<(), NoMemory>
         requires kind { (column_form self.old).kind ≡ tree.bool_kind }
         requires as_many { present (column_form self.old).greatest levels.now ≡ length values.now }
-        ensures triplets { Adds (column_view self.old) (column_view self.new) (joined (column_form self.old).greatest levels.now (map bool_value values.now)) result }
+        ensures triplets { Adds (column_view self.old) (column_view self.new)
+            (joined (column_form self.old).greatest levels.now (map bool_value values.now)) result }
         ensures form { column_form self.new ≡ column_form self.old }
     {
         self.levels.reserve(levels.len())?;
@@ -141,7 +143,8 @@ impl Column {
     pub fn extend_integers(&mut self, levels: &[Levels], values: &[i64]) -> Result<(), NoMemory>
         requires kind { is_integer_kind (column_form self.old).kind ≡ true }
         requires as_many { present (column_form self.old).greatest levels.now ≡ length values.now }
-        ensures triplets { Adds (column_view self.old) (column_view self.new) (joined (column_form self.old).greatest levels.now (map int_value values.now)) result }
+        ensures triplets { Adds (column_view self.old) (column_view self.new)
+            (joined (column_form self.old).greatest levels.now (map int_value values.now)) result }
         ensures form { column_form self.new ≡ column_form self.old }
     {
         self.levels.reserve(levels.len())?;
@@ -150,8 +153,8 @@ impl Column {
         Ok(())
     }
 
-    /// Appends triplets of these levels, with the texts at these places of a buffer at the places that have a value. The
-    /// buffer is copied in one piece, or where it is longer than the texts with a length before each, text by text.
+    /// Appends triplets of these levels, with the texts at these places of a buffer at the places that have a value.
+    /// The buffer is copied in one piece, or where it is longer than the texts with a length before each, text by text.
     ///
     /// Errors: want of memory, or of room: a column's texts have less than 4 GiB together. Nothing has changed then.
     pub fn extend_texts(
@@ -163,7 +166,8 @@ impl Column {
         requires kind { (column_form self.old).kind ≡ tree.text_kind }
         requires texts { list_all (is_text bytes.now) places.now ≡ true }
         requires as_many { present (column_form self.old).greatest levels.now ≡ length places.now }
-        ensures triplets { Adds (column_view self.old) (column_view self.new) (joined (column_form self.old).greatest levels.now (text_values bytes.now places.now)) result }
+        ensures triplets { Adds (column_view self.old) (column_view self.new)
+            (joined (column_form self.old).greatest levels.now (text_values bytes.now places.now)) result }
         ensures form { column_form self.new ≡ column_form self.old }
     {
         self.levels.reserve(levels.len())?;

@@ -12,8 +12,8 @@ pub enum Branch {
     Undecided,
 }
 
-/// What is not kept of the open branches, the outermost first: bit i of each mask is for the branch at place i. A branch
-/// with neither bit is kept; one that is undecided is not dropped yet, whatever its other bit.
+/// What is not kept of the open branches, the outermost first: bit i of each mask is for the branch at place i. A
+/// branch with neither bit is kept; one that is undecided is not dropped yet, whatever its other bit.
 #[derive(Clone, Copy, PartialEq, Eq, Debug)]
 pub struct Kept {
     pub undecided: u64,

@@ -17,7 +17,8 @@ struct Pick<'a> {
 }
 
 fn picks_of(alloc: Global, fields: &[Path]) -> Result<Vec<Pick<'_>>, AllocError>
-    ensures { IfOk result (λ v. map pick_view v.items ≡ automaton.picks (map (λ (p : Path). (path_view p).path) fields.now)) }
+    ensures { IfOk result (λ v. map pick_view v.items
+        ≡ automaton.picks (map (λ (p : Path). (path_view p).path) fields.now)) }
 {
     let mut picks = Vec::with_capacity(alloc, fields.len())?;
     'fields: for (index, field) in fields.iter().enumerate() {
@@ -67,7 +68,8 @@ fn add_group_by_schema(
     picks: &[Pick],
     order: &mut Vec<usize>,
 ) -> Result<(), AllocError>
-    ensures { OnOk result ((order.new).items ≡ (order.old).items ++ automaton.schema_order_in (fields_view (fields.now).items) (map pick_view picks.now)) }
+    ensures { OnOk result ((order.new).items
+        ≡ (order.old).items ++ automaton.schema_order_in (fields_view (fields.now).items) (map pick_view picks.now)) }
 {
     'fields: for (place, field) in fields.iter().enumerate() {
         let behind = picks_behind(alloc, picks, place)?;
@@ -83,7 +85,8 @@ fn add_by_schema(
     picks: &[Pick],
     order: &mut Vec<usize>,
 ) -> Result<(), AllocError>
-    ensures { OnOk result ((order.new).items ≡ (order.old).items ++ automaton.shape_schema_order (shape_view shape.now) (map pick_view picks.now)) }
+    ensures { OnOk result ((order.new).items
+        ≡ (order.old).items ++ automaton.shape_schema_order (shape_view shape.now) (map pick_view picks.now)) }
 {
     match shape {
         Shape::Leaf(_) => add_indexes(picks, order),
@@ -99,7 +102,8 @@ fn add_group_near(
     picks: &[Pick],
     order: &mut Vec<usize>,
 ) -> Result<(), AllocError>
-    ensures { OnOk result ((order.new).items ≡ (order.old).items ++ automaton.near_order (fields_view (fields.now).items) (map pick_view picks.now)) }
+    ensures { OnOk result ((order.new).items
+        ≡ (order.old).items ++ automaton.near_order (fields_view (fields.now).items) (map pick_view picks.now)) }
 {
     'fields: for (place, field) in fields.iter().enumerate() {
         let behind = picks_behind(alloc, picks, place)?;
@@ -115,7 +119,9 @@ fn add_unless_repeated(
     picks: &[Pick],
     order: &mut Vec<usize>,
 ) -> Result<(), AllocError>
-    ensures { OnOk result ((order.new).items ≡ (order.old).items ++ automaton.unless_repeated (rep_view (field.now).rep) (automaton.shape_near_order (shape_view (field.now).shape) (map pick_view picks.now))) }
+    ensures { OnOk result ((order.new).items
+        ≡ (order.old).items ++ automaton.unless_repeated (rep_view (field.now).rep)
+        (automaton.shape_near_order (shape_view (field.now).shape) (map pick_view picks.now))) }
 {
     match field.rep {
         Rep::Required | Rep::Optional => add_near(alloc, &field.shape, picks, order),
@@ -130,7 +136,8 @@ fn add_near(
     picks: &[Pick],
     order: &mut Vec<usize>,
 ) -> Result<(), AllocError>
-    ensures { OnOk result ((order.new).items ≡ (order.old).items ++ automaton.shape_near_order (shape_view shape.now) (map pick_view picks.now)) }
+    ensures { OnOk result ((order.new).items
+        ≡ (order.old).items ++ automaton.shape_near_order (shape_view shape.now) (map pick_view picks.now)) }
 {
     match shape {
         Shape::Leaf(_) => add_indexes(picks, order),
@@ -144,7 +151,9 @@ fn add_where_repeated(
     picks: &[Pick],
     order: &mut Vec<usize>,
 ) -> Result<(), AllocError>
-    ensures { OnOk result ((order.new).items ≡ (order.old).items ++ automaton.where_repeated (rep_view (field.now).rep) (automaton.shape_near_order (shape_view (field.now).shape) (map pick_view picks.now))) }
+    ensures { OnOk result ((order.new).items
+        ≡ (order.old).items ++ automaton.where_repeated (rep_view (field.now).rep)
+        (automaton.shape_near_order (shape_view (field.now).shape) (map pick_view picks.now))) }
 {
     match field.rep {
         Rep::Required | Rep::Optional => Ok(()),
@@ -160,7 +169,8 @@ fn add_group_far(
     picks: &[Pick],
     order: &mut Vec<usize>,
 ) -> Result<(), AllocError>
-    ensures { OnOk result ((order.new).items ≡ (order.old).items ++ automaton.far_order (fields_view (fields.now).items) (map pick_view picks.now)) }
+    ensures { OnOk result ((order.new).items
+        ≡ (order.old).items ++ automaton.far_order (fields_view (fields.now).items) (map pick_view picks.now)) }
 {
     'fields: for (place, field) in fields.iter().enumerate() {
         let behind = picks_behind(alloc, picks, place)?;
@@ -177,7 +187,8 @@ fn add_far(
     picks: &[Pick],
     order: &mut Vec<usize>,
 ) -> Result<(), AllocError>
-    ensures { OnOk result ((order.new).items ≡ (order.old).items ++ automaton.shape_far_order (shape_view shape.now) (map pick_view picks.now)) }
+    ensures { OnOk result ((order.new).items
+        ≡ (order.old).items ++ automaton.shape_far_order (shape_view shape.now) (map pick_view picks.now)) }
 {
     match shape {
         Shape::Leaf(_) => Ok(()),
@@ -190,7 +201,8 @@ fn places_by_schema(
     schema: &Schema,
     fields: &[Path],
 ) -> Result<Vec<usize>, AllocError>
-    ensures { IfOk result (λ v. v.items ≡ automaton.schema_order (fields_view (schema.now).fields.items) (map (λ (p : Path). (path_view p).path) fields.now)) }
+    ensures { IfOk result (λ v. v.items ≡ automaton.schema_order (fields_view (schema.now).fields.items)
+        (map (λ (p : Path). (path_view p).path) fields.now)) }
 {
     let picks = picks_of(alloc, fields)?;
     let mut order = Vec::with_capacity(alloc, fields.len())?;
@@ -203,7 +215,8 @@ fn places_by_level(
     schema: &Schema,
     fields: &[Path],
 ) -> Result<Vec<usize>, AllocError>
-    ensures { IfOk result (λ v. v.items ≡ automaton.reading_order (fields_view (schema.now).fields.items) (map (λ (p : Path). (path_view p).path) fields.now)) }
+    ensures { IfOk result (λ v. v.items ≡ automaton.reading_order (fields_view (schema.now).fields.items)
+        (map (λ (p : Path). (path_view p).path) fields.now)) }
 {
     let picks = picks_of(alloc, fields)?;
     let mut order = Vec::with_capacity(alloc, fields.len())?;
@@ -216,7 +229,9 @@ fn places_by_level(
 ///
 /// Errors: want of memory alone.
 pub fn schema_order(alloc: Global, schema: &Schema, fields: &[Path]) -> Result<Vec<usize>, NoMemory>
-    ensures order { IfOk result (λ v. v.items ≡ automaton.schema_order (fields_view (schema.now).fields.items) (map (λ (p : Path). (path_view p).path) fields.now)) }
+    ensures order { IfOk result (λ v. v.items
+        ≡ automaton.schema_order (fields_view (schema.now).fields.items)
+        (map (λ (p : Path). (path_view p).path) fields.now)) }
     ensures within { IfOk result (λ v. All (λ i. i < length fields.now) v.items) }
 {
     match places_by_schema(alloc, schema, fields) {
@@ -234,7 +249,9 @@ pub fn reading_order(
     schema: &Schema,
     fields: &[Path],
 ) -> Result<Vec<usize>, NoMemory>
-    ensures order { IfOk result (λ v. v.items ≡ automaton.reading_order (fields_view (schema.now).fields.items) (map (λ (p : Path). (path_view p).path) fields.now)) }
+    ensures order { IfOk result (λ v. v.items
+        ≡ automaton.reading_order (fields_view (schema.now).fields.items)
+        (map (λ (p : Path). (path_view p).path) fields.now)) }
     ensures within { IfOk result (λ v. All (λ i. i < length fields.now) v.items) }
 {
     match places_by_level(alloc, schema, fields) {

@@ -79,8 +79,8 @@ impl Texts {
         Ok(())
     }
 
-    /// Appends texts that lie at places of a buffer. The buffer is copied in one piece, or where it is longer than the texts with a
-    /// length before each, text by text.
+    /// Appends texts that lie at places of a buffer. The buffer is copied in one piece, or where it is longer than the
+    /// texts with a length before each, text by text.
     ///
     /// Errors: want of memory, or of room: a buffer has less than 4 GiB.
     pub fn extend(&mut self, bytes: &[u8], places: &[TextPlace]) -> Result<(), NoMemory>

@@ -85,7 +85,8 @@ impl Values {
     pub fn push(&mut self, kind: Kind, value: Option<ValueRef<'_>>) -> Result<(), NoMemory>
         requires kinds { holds_kind (kind_view kind) self.old ≡ true }
         requires fits { IfSome value (λ v. is_held (kind_view kind) (lent_value v) ≡ true) }
-        ensures values { Adds (values_view self.old) (values_view self.new) (value_list (option_map lent_value value.entry)) result }
+        ensures values { Adds (values_view self.old) (values_view self.new)
+            (value_list (option_map lent_value value.entry)) result }
         ensures kinds { (k : tree.Kind) → holds_kind k self.old ≡ true → holds_kind k self.new ≡ true }
     {
         match (self, value) {

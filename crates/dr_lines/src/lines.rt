@@ -54,14 +54,19 @@ impl Lines {
     /// The source is the same at each call. Errors: the line has more than 1,048,576 bytes; the source failed. After an
     /// error it is repeated.
     pub fn next<S: Source>(&mut self, source: &mut S) -> Result<bool, LineFault>
-        ensures cuts { IfOk result (λ more. more ≡ true → CutsLine (rest_of self.old (S.shows source.old).left) (last_line self.new) (rest_of self.new (S.shows source.new).left)) }
+        ensures cuts { IfOk result (λ more. more ≡ true
+            → CutsLine (rest_of self.old (S.shows source.old).left) (last_line self.new)
+            (rest_of self.new (S.shows source.new).left)) }
         ensures bytes { IfOk result (λ more. more ≡ true → CutsBytes (rest_of self.old (S.shows source.old).left)
             (last_line self.new) (rest_of self.new (S.shows source.new).left)) }
         ensures short { IfOk result (λ more. more ≡ true → length (last_line self.new) ≤ longest_line) }
-        ensures end { IfOk result (λ more. more ≡ false → IsEnd (rest_of self.old (S.shows source.old).left) (rest_of self.new (S.shows source.new).left)) }
+        ensures end { IfOk result (λ more. more ≡ false
+            → IsEnd (rest_of self.old (S.shows source.old).left) (rest_of self.new (S.shows source.new).left)) }
         ensures no_line { IfOk result (λ more. more ≡ false → last_line self.new ≡ []) }
-        ensures long { fault_of self.old ≡ None → result ≡ Err LineFault.TooLong → IsTooLong (rest_of self.old (S.shows source.old).left) }
-        ensures cause { fault_of self.old ≡ None → result ≡ Err LineFault.ReadFault → (S.shows source.new).faults ≡ raised (S.shows source.old).faults }
+        ensures long { fault_of self.old ≡ None → result ≡ Err LineFault.TooLong
+            → IsTooLong (rest_of self.old (S.shows source.old).left) }
+        ensures cause { fault_of self.old ≡ None → result ≡ Err LineFault.ReadFault → (S.shows source.new).faults
+            ≡ raised (S.shows source.old).faults }
         ensures calm { result ≢ Err LineFault.ReadFault → (S.shows source.new).faults ≡ (S.shows source.old).faults }
 
         // Where a whole line is read ahead, the source isn't asked.
@@ -90,13 +95,17 @@ impl Lines {
     /// Cuts the next line off, behind what is already in the line.
     fn cut<S: Source>(&mut self, source: &mut S) -> Result<bool, LineFault>
         requires { last_line self.old ≡ [] }
-        ensures cuts { IfOk result (λ more. more ≡ true → CutsLine (rest_of self.old (S.shows source.old).left) (last_line self.new) (rest_of self.new (S.shows source.new).left)) }
+        ensures cuts { IfOk result (λ more. more ≡ true
+            → CutsLine (rest_of self.old (S.shows source.old).left) (last_line self.new)
+            (rest_of self.new (S.shows source.new).left)) }
         ensures bytes { IfOk result (λ more. more ≡ true → CutsBytes (rest_of self.old (S.shows source.old).left)
             (last_line self.new) (rest_of self.new (S.shows source.new).left)) }
-        ensures end { IfOk result (λ more. more ≡ false → IsEnd (rest_of self.old (S.shows source.old).left) (rest_of self.new (S.shows source.new).left)) }
+        ensures end { IfOk result (λ more. more ≡ false
+            → IsEnd (rest_of self.old (S.shows source.old).left) (rest_of self.new (S.shows source.new).left)) }
         ensures long { result ≡ Err LineFault.TooLong → IsTooLong (rest_of self.old (S.shows source.old).left) }
         ensures no_line { IfOk result (λ more. more ≡ false → last_line self.new ≡ []) }
-        ensures cause { result ≡ Err LineFault.ReadFault → (S.shows source.new).faults ≡ raised (S.shows source.old).faults }
+        ensures cause { result ≡ Err LineFault.ReadFault → (S.shows source.new).faults
+            ≡ raised (S.shows source.old).faults }
         ensures calm { result ≢ Err LineFault.ReadFault → (S.shows source.new).faults ≡ (S.shows source.old).faults }
         ensures ahead { no_lf (pending self.old) ≡ false → source.new ≡ source.old }
         ensures waits { result ≡ Err LineFault.ReadFault → no_lf (pending self.old) ≡ true }
@@ -116,9 +125,11 @@ impl Lines {
 
     /// Sees that something is read ahead; false at the input's end.
     fn look_ahead<S: Source>(&mut self, source: &mut S) -> Result<bool, LineFault>
-        ensures more { IfOk result (λ some. some ≡ true → Keeps (rest_of self.old (S.shows source.old).left) (rest_of self.new (S.shows source.new).left)) }
+        ensures more { IfOk result (λ some. some ≡ true
+            → Keeps (rest_of self.old (S.shows source.old).left) (rest_of self.new (S.shows source.new).left)) }
         ensures some { IfOk result (λ some. some ≡ true → 0 < length (pending self.new)) }
-        ensures end { IfOk result (λ some. some ≡ false → IsEnd (rest_of self.old (S.shows source.old).left) (rest_of self.new (S.shows source.new).left)) }
+        ensures end { IfOk result (λ some. some ≡ false
+            → IsEnd (rest_of self.old (S.shows source.old).left) (rest_of self.new (S.shows source.new).left)) }
         ensures line { last_line self.new ≡ last_line self.old }
         ensures fault { fault_of self.new ≡ fault_of self.old }
         ensures read { IfErr result (λ e. e ≡ LineFault.ReadFault) }
@@ -139,9 +150,11 @@ impl Lines {
     /// Reads ahead, where nothing is; false at the input's end.
     fn fill<S: Source>(&mut self, source: &mut S) -> Result<bool, LineFault>
         requires { pending self.old ≡ [] }
-        ensures more { IfOk result (λ some. some ≡ true → Keeps (S.shows source.old).left (rest_of self.new (S.shows source.new).left)) }
+        ensures more { IfOk result (λ some. some ≡ true
+            → Keeps (S.shows source.old).left (rest_of self.new (S.shows source.new).left)) }
         ensures some { IfOk result (λ some. some ≡ true → 0 < length (pending self.new)) }
-        ensures end { IfOk result (λ some. some ≡ false → IsEnd (S.shows source.old).left (S.shows source.new).left × (pending self.new ≡ [])) }
+        ensures end { IfOk result (λ some. some ≡ false → IsEnd (S.shows source.old).left (S.shows source.new).left
+            × (pending self.new ≡ [])) }
         ensures line { last_line self.new ≡ last_line self.old }
         ensures fault { fault_of self.new ≡ fault_of self.old }
         ensures read { IfErr result (λ e. e ≡ LineFault.ReadFault) }
@@ -157,9 +170,13 @@ impl Lines {
 
     /// Moves bytes read ahead to the line, up to the first LF, which is dropped; false where there is none.
     fn take_piece(&mut self) -> Result<bool, LineFault>
-        ensures found { IfOk result (λ f. f ≡ true → (piece : List ℕ) × (pending self.old ≡ piece ++ 10 ∷ pending self.new) × (last_line self.new ≡ last_line self.old ++ piece) × (no_lf piece ≡ true)) }
-        ensures all { IfOk result (λ f. f ≡ false → (pending self.new ≡ []) × (last_line self.new ≡ last_line self.old ++ pending self.old) × (no_lf (pending self.old) ≡ true)) }
-        ensures long { OnErr result ((piece : List ℕ) × (rest : List ℕ) × (pending self.old ≡ piece ++ rest) × (no_lf piece ≡ true) × (longest_line < length (last_line self.old ++ piece))) }
+        ensures found { IfOk result (λ f. f ≡ true → (piece : List ℕ)
+            × (pending self.old ≡ piece ++ 10 ∷ pending self.new) × (last_line self.new ≡ last_line self.old ++ piece)
+            × (no_lf piece ≡ true)) }
+        ensures all { IfOk result (λ f. f ≡ false → (pending self.new ≡ [])
+            × (last_line self.new ≡ last_line self.old ++ pending self.old) × (no_lf (pending self.old) ≡ true)) }
+        ensures long { OnErr result ((piece : List ℕ) × (rest : List ℕ) × (pending self.old ≡ piece ++ rest)
+            × (no_lf piece ≡ true) × (longest_line < length (last_line self.old ++ piece))) }
         ensures fault { fault_of self.new ≡ fault_of self.old }
         ensures kind { IfErr result (λ e. e ≡ LineFault.TooLong) }
     {

@@ -33,9 +33,17 @@ fn put_copy<K: Keeper>(
 ) -> Result<(), LoadFault>
     requires has_leaf { 0 < length leaves.now }
     requires few_leaves { length leaves.now ≤ 64 }
-    ensures put { OnOk result (HasPut (record { path = copy_path (map string_bytes leaves.now) tablet copy; bytes = bytes.now } ∷ []) (K.shows keeper.old) (K.shows keeper.new)) }
-    ensures broken { IfErr result (λ e. HasFailed (is_told e) [] (record { path = copy_path (map string_bytes leaves.now) tablet copy; bytes = bytes.now }) (K.shows keeper.old) (K.shows keeper.new)) }
-    ensures cause { result ≡ Err LoadFault.KeepFault → (K.shows keeper.new).faults ≡ raised (K.shows keeper.old).faults }
+    ensures put { OnOk result (HasPut (record {
+      path = copy_path
+          (map string_bytes leaves.now) tablet copy;
+      bytes = bytes.now;
+    } ∷ []) (K.shows keeper.old)
+        (K.shows keeper.new)) }
+    ensures broken { IfErr result (λ e. HasFailed (is_told e) []
+        (record { path = copy_path (map string_bytes leaves.now) tablet copy; bytes = bytes.now }) (K.shows keeper.old)
+        (K.shows keeper.new)) }
+    ensures cause { result ≡ Err LoadFault.KeepFault → (K.shows keeper.new).faults
+        ≡ raised (K.shows keeper.old).faults }
     ensures calm { result ≢ Err LoadFault.KeepFault → (K.shows keeper.new).faults ≡ (K.shows keeper.old).faults }
     ensures read { result ≢ Err LoadFault.ReadFault }
     ensures line { IfErr result (λ e. refusal_of e ≡ None) }
@@ -60,9 +68,12 @@ pub(crate) fn put_copies<K: Keeper>(
 ) -> Result<(), LoadFault>
     requires has_leaf { 0 < length leaves.now }
     requires few_leaves { length leaves.now ≤ 64 }
-    ensures put { OnOk result (HasPut (copies_of (map string_bytes leaves.now) copies tablet bytes.now) (K.shows keeper.old) (K.shows keeper.new)) }
-    ensures broken { IfErr result (λ e. BreaksOff (is_told e) (copies_of (map string_bytes leaves.now) copies tablet bytes.now) (K.shows keeper.old) (K.shows keeper.new)) }
-    ensures cause { result ≡ Err LoadFault.KeepFault → (K.shows keeper.new).faults ≡ raised (K.shows keeper.old).faults }
+    ensures put { OnOk result (HasPut (copies_of (map string_bytes leaves.now) copies tablet bytes.now)
+        (K.shows keeper.old) (K.shows keeper.new)) }
+    ensures broken { IfErr result (λ e. BreaksOff (is_told e)
+        (copies_of (map string_bytes leaves.now) copies tablet bytes.now) (K.shows keeper.old) (K.shows keeper.new)) }
+    ensures cause { result ≡ Err LoadFault.KeepFault → (K.shows keeper.new).faults
+        ≡ raised (K.shows keeper.old).faults }
     ensures calm { result ≢ Err LoadFault.KeepFault → (K.shows keeper.new).faults ≡ (K.shows keeper.old).faults }
     ensures read { result ≢ Err LoadFault.ReadFault }
     ensures line { IfErr result (λ e. refusal_of e ≡ None) }

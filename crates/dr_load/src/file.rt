@@ -12,9 +12,12 @@ use dr_outside::Keeper;
 ///
 /// Errors: the keeper failed; want of memory. In both the path may hold any bytes, or none.
 pub(crate) fn put_file<K: Keeper>(keeper: &mut K, path: &str, bytes: &[u8]) -> Result<(), LoadFault>
-    ensures put { OnOk result (HasPut (record { path = path.now; bytes = bytes.now } ∷ []) (K.shows keeper.old) (K.shows keeper.new)) }
-    ensures failed { IfErr result (λ e. HasFailed (is_told e) [] (record { path = path.now; bytes = bytes.now }) (K.shows keeper.old) (K.shows keeper.new)) }
-    ensures cause { result ≡ Err LoadFault.KeepFault → (K.shows keeper.new).faults ≡ raised (K.shows keeper.old).faults }
+    ensures put { OnOk result (HasPut (record { path = path.now; bytes = bytes.now } ∷ []) (K.shows keeper.old)
+        (K.shows keeper.new)) }
+    ensures failed { IfErr result (λ e. HasFailed (is_told e) [] (record { path = path.now; bytes = bytes.now })
+        (K.shows keeper.old) (K.shows keeper.new)) }
+    ensures cause { result ≡ Err LoadFault.KeepFault → (K.shows keeper.new).faults
+        ≡ raised (K.shows keeper.old).faults }
     ensures calm { result ≢ Err LoadFault.KeepFault → (K.shows keeper.new).faults ≡ (K.shows keeper.old).faults }
     ensures read { result ≢ Err LoadFault.ReadFault }
     ensures line { IfErr result (λ e. refusal_of e ≡ None) }

@@ -1,5 +1,6 @@
-//! Loading a table: its words, the records of an input striped into tablets, each put on its leaves, and the line that tells what was
-//! loaded. What a load has put is a table of its records: each function of `loaded_laws` has an empty body, and its contract is a law.
+//! Loading a table: its words, the records of an input striped into tablets, each put on its leaves, and the line that
+//! tells what was loaded. What a load has put is a table of its records: each function of `loaded_laws` has an empty
+//! body, and its contract is a law.
 #![tactic(auto)]
 
 mod copies;

@@ -22,31 +22,43 @@ use dr_paths::leaf_paths;
 use dr_table::{MOST_TABLETS, table_text_of};
 use std::alloc::Global;
 
-/// Loads the records of an input, which is read to its end: each tablet is put on the leaf of each of its copies in order,
-/// a full one before the next line is read, and the table file last.
+/// Loads the records of an input, which is read to its end: each tablet is put on the leaf of each of its copies in
+/// order, a full one before the next line is read, and the table file last.
 ///
-/// Errors: the first line that is refused, and then the full tablets before it are put, and no table file; the source failed,
-/// and no whole line that it gave before is refused; the keeper failed; want of memory.
+/// Errors: the first line that is refused, and then the full tablets before it are put, and no table file; the source
+/// failed, and no whole line that it gave before is refused; the keeper failed; want of memory.
 pub fn load<S: Source, K: Keeper>(
     alloc: Global,
     plan: &Plan<'_, '_, '_>,
     source: &mut S,
     keeper: &mut K,
 ) -> Result<Loaded, LoadFault>
-    ensures accepted { OnOk result (WhereTold (S.shows source.old).left (λ input. (meant.load (plan_view plan.now) input).refusal ≡ None)) }
-    ensures tablets { IfOk result (λ l. WhereTold (S.shows source.old).left (λ input. l.tablets ≡ (meant.load (plan_view plan.now) input).tablets)) }
-    ensures records { IfOk result (λ l. WhereTold (S.shows source.old).left (λ input. l.records ≡ (meant.load (plan_view plan.now) input).records)) }
-    ensures puts { OnOk result (WhereTold (S.shows source.old).left (λ input. HasPut (meant.load (plan_view plan.now) input).puts (K.shows keeper.old) (K.shows keeper.new))) }
-    ensures table { IfOk result (λ l. LoadsTable (plan_view plan.now) (plan_view plan.now).table l.tablets (S.shows source.old).left (K.shows keeper.old).held (K.shows keeper.new).held) }
+    ensures accepted { OnOk result (WhereTold (S.shows source.old).left
+        (λ input. (meant.load (plan_view plan.now) input).refusal ≡ None)) }
+    ensures tablets { IfOk result (λ l. WhereTold (S.shows source.old).left (λ input. l.tablets
+        ≡ (meant.load (plan_view plan.now) input).tablets)) }
+    ensures records { IfOk result (λ l. WhereTold (S.shows source.old).left (λ input. l.records
+        ≡ (meant.load (plan_view plan.now) input).records)) }
+    ensures puts { OnOk result (WhereTold (S.shows source.old).left
+        (λ input. HasPut (meant.load (plan_view plan.now) input).puts (K.shows keeper.old) (K.shows keeper.new))) }
+    ensures table { IfOk result (λ l. LoadsTable (plan_view plan.now) (plan_view plan.now).table l.tablets
+        (S.shows source.old).left (K.shows keeper.old).held (K.shows keeper.new).held) }
     ensures end { OnOk result (WhereTold (S.shows source.old).left (λ _. (S.shows source.new).left ≡ Some [])) }
 
-    ensures refused { IfErr result (λ e. MatchOption (refusal_of e) ⊤ (λ r. WhereTold (S.shows source.old).left (λ input. (meant.load (plan_view plan.now) input).refusal ≡ Some r))) }
-    ensures stands { IfErr result (λ e. WhereTold (S.shows source.old).left (λ input. LeavesPuts (plan_view plan.now) input (K.shows keeper.old) (K.shows keeper.new) e)) }
+    ensures refused { IfErr result (λ e. MatchOption (refusal_of e) ⊤
+        (λ r. WhereTold (S.shows source.old).left (λ input. (meant.load (plan_view plan.now) input).refusal
+        ≡ Some r))) }
+    ensures stands { IfErr result (λ e. WhereTold (S.shows source.old).left
+        (λ input. LeavesPuts (plan_view plan.now) input (K.shows keeper.old) (K.shows keeper.new) e)) }
 
-    ensures accepts { result ≡ Err LoadFault.ReadFault → AcceptsRead (plan_view plan.now).schema.fields (meant.most_loaded (plan.now).rows) 0 (S.shows source.old).left (S.shows source.new).left }
-    ensures source_cause { result ≡ Err LoadFault.ReadFault → (S.shows source.new).faults ≡ raised (S.shows source.old).faults }
+    ensures accepts { result ≡ Err LoadFault.ReadFault
+        → AcceptsRead (plan_view plan.now).schema.fields (meant.most_loaded (plan.now).rows) 0 (S.shows source.old).left
+        (S.shows source.new).left }
+    ensures source_cause { result ≡ Err LoadFault.ReadFault → (S.shows source.new).faults
+        ≡ raised (S.shows source.old).faults }
     ensures source_calm { result ≢ Err LoadFault.ReadFault → (S.shows source.new).faults ≡ (S.shows source.old).faults }
-    ensures keeper_cause { result ≡ Err LoadFault.KeepFault → (K.shows keeper.new).faults ≡ raised (K.shows keeper.old).faults }
+    ensures keeper_cause { result ≡ Err LoadFault.KeepFault → (K.shows keeper.new).faults
+        ≡ raised (K.shows keeper.old).faults }
     ensures keeper_calm { result ≢ Err LoadFault.KeepFault → (K.shows keeper.new).faults ≡ (K.shows keeper.old).faults }
     ensures asked { (K.shows keeper.new).asked ≡ (K.shows keeper.old).asked }
     ensures steady { IsTrue (K.shows keeper.old).is_steady → result ≢ Err LoadFault.KeepFault }
@@ -72,9 +84,16 @@ fn put_table<K: Keeper>(
     tablets: u32,
     path: &str,
 ) -> Result<(), LoadFault>
-    ensures put { OnOk result (HasPut (record { path = path.now; bytes = table_text (meant.table_of (plan_view plan.now) tablets) } ∷ []) (K.shows keeper.old) (K.shows keeper.new)) }
-    ensures broken { IfErr result (λ e. HasFailed (is_told e) [] (record { path = path.now; bytes = table_text (meant.table_of (plan_view plan.now) tablets) }) (K.shows keeper.old) (K.shows keeper.new)) }
-    ensures cause { result ≡ Err LoadFault.KeepFault → (K.shows keeper.new).faults ≡ raised (K.shows keeper.old).faults }
+    ensures put { OnOk result (HasPut (record {
+      path = path.now;
+      bytes = table_text
+          (meant.table_of (plan_view plan.now) tablets);
+    } ∷ []) (K.shows keeper.old) (K.shows keeper.new)) }
+    ensures broken { IfErr result (λ e. HasFailed (is_told e) []
+        (record { path = path.now; bytes = table_text (meant.table_of (plan_view plan.now) tablets) })
+        (K.shows keeper.old) (K.shows keeper.new)) }
+    ensures cause { result ≡ Err LoadFault.KeepFault → (K.shows keeper.new).faults
+        ≡ raised (K.shows keeper.old).faults }
     ensures calm { result ≢ Err LoadFault.KeepFault → (K.shows keeper.new).faults ≡ (K.shows keeper.old).faults }
     ensures read { result ≢ Err LoadFault.ReadFault }
     ensures line { IfErr result (λ e. refusal_of e ≡ None) }
@@ -95,18 +114,30 @@ fn load_tablets<S: Source, K: Keeper>(
     source: &mut S,
     keeper: &mut K,
 ) -> Result<Loaded, LoadFault>
-    ensures accepted { OnOk result (WhereTold (S.shows source.old).left (λ input. (meant.load (plan_view plan.now) input).refusal ≡ None)) }
-    ensures tablets { IfOk result (λ l. WhereTold (S.shows source.old).left (λ input. l.tablets ≡ (meant.load (plan_view plan.now) input).tablets)) }
-    ensures records { IfOk result (λ l. WhereTold (S.shows source.old).left (λ input. l.records ≡ (meant.load (plan_view plan.now) input).records)) }
-    ensures puts { OnOk result (WhereTold (S.shows source.old).left (λ input. HasPut (tablet_part (plan_view plan.now) input) (K.shows keeper.old) (K.shows keeper.new))) }
-    ensures table { IfOk result (λ l. LoadsTable (plan_view plan.now) None l.tablets (S.shows source.old).left (K.shows keeper.old).held (K.shows keeper.new).held) }
+    ensures accepted { OnOk result (WhereTold (S.shows source.old).left
+        (λ input. (meant.load (plan_view plan.now) input).refusal ≡ None)) }
+    ensures tablets { IfOk result (λ l. WhereTold (S.shows source.old).left (λ input. l.tablets
+        ≡ (meant.load (plan_view plan.now) input).tablets)) }
+    ensures records { IfOk result (λ l. WhereTold (S.shows source.old).left (λ input. l.records
+        ≡ (meant.load (plan_view plan.now) input).records)) }
+    ensures puts { OnOk result (WhereTold (S.shows source.old).left
+        (λ input. HasPut (tablet_part (plan_view plan.now) input) (K.shows keeper.old) (K.shows keeper.new))) }
+    ensures table { IfOk result (λ l. LoadsTable (plan_view plan.now) None l.tablets (S.shows source.old).left
+        (K.shows keeper.old).held (K.shows keeper.new).held) }
     ensures end { OnOk result (WhereTold (S.shows source.old).left (λ _. (S.shows source.new).left ≡ Some [])) }
-    ensures refused { IfErr result (λ e. MatchOption (refusal_of e) ⊤ (λ r. WhereTold (S.shows source.old).left (λ input. (meant.load (plan_view plan.now) input).refusal ≡ Some r))) }
-    ensures stands { IfErr result (λ e. WhereTold (S.shows source.old).left (λ input. LeavesPuts (plan_view plan.now) input (K.shows keeper.old) (K.shows keeper.new) e)) }
-    ensures accepts { result ≡ Err LoadFault.ReadFault → AcceptsRead (plan_view plan.now).schema.fields (meant.most_loaded (plan.now).rows) 0 (S.shows source.old).left (S.shows source.new).left }
-    ensures source_cause { result ≡ Err LoadFault.ReadFault → (S.shows source.new).faults ≡ raised (S.shows source.old).faults }
+    ensures refused { IfErr result (λ e. MatchOption (refusal_of e) ⊤
+        (λ r. WhereTold (S.shows source.old).left (λ input. (meant.load (plan_view plan.now) input).refusal
+        ≡ Some r))) }
+    ensures stands { IfErr result (λ e. WhereTold (S.shows source.old).left
+        (λ input. LeavesPuts (plan_view plan.now) input (K.shows keeper.old) (K.shows keeper.new) e)) }
+    ensures accepts { result ≡ Err LoadFault.ReadFault
+        → AcceptsRead (plan_view plan.now).schema.fields (meant.most_loaded (plan.now).rows) 0 (S.shows source.old).left
+        (S.shows source.new).left }
+    ensures source_cause { result ≡ Err LoadFault.ReadFault → (S.shows source.new).faults
+        ≡ raised (S.shows source.old).faults }
     ensures source_calm { result ≢ Err LoadFault.ReadFault → (S.shows source.new).faults ≡ (S.shows source.old).faults }
-    ensures keeper_cause { result ≡ Err LoadFault.KeepFault → (K.shows keeper.new).faults ≡ raised (K.shows keeper.old).faults }
+    ensures keeper_cause { result ≡ Err LoadFault.KeepFault → (K.shows keeper.new).faults
+        ≡ raised (K.shows keeper.old).faults }
     ensures keeper_calm { result ≢ Err LoadFault.KeepFault → (K.shows keeper.new).faults ≡ (K.shows keeper.old).faults }
     ensures asked { (K.shows keeper.new).asked ≡ (K.shows keeper.old).asked }
     ensures steady { IsTrue (K.shows keeper.old).is_steady → result ≢ Err LoadFault.KeepFault }

@@ -29,9 +29,15 @@ pub(crate) fn put_tablet<K: Keeper>(
     filled: &Filled,
 ) -> Result<(), LoadFault>
     requires { AreColumnsFor (plan_view plan.now).schema (filled.now).columns.items }
-    ensures put { (R : List Node) → HaveColumns (plan_view plan.now).schema R (columns_view (filled.now).columns.items) → length R ≡ (filled.now).records → OnOk result (HasPut (tablet_puts (plan_view plan.now) tablet R) (K.shows keeper.old) (K.shows keeper.new)) }
-    ensures stops { (R : List Node) → HaveColumns (plan_view plan.now).schema R (columns_view (filled.now).columns.items) → length R ≡ (filled.now).records → IfErr result (StopsPutting (tablet_puts (plan_view plan.now) tablet R) (K.shows keeper.old) (K.shows keeper.new)) }
-    ensures cause { result ≡ Err LoadFault.KeepFault → (K.shows keeper.new).faults ≡ raised (K.shows keeper.old).faults }
+    ensures put { (R : List Node) → HaveColumns (plan_view plan.now).schema R (columns_view (filled.now).columns.items)
+        → length R ≡ (filled.now).records → OnOk result
+        (HasPut (tablet_puts (plan_view plan.now) tablet R) (K.shows keeper.old) (K.shows keeper.new)) }
+    ensures stops { (R : List Node) → HaveColumns (plan_view plan.now).schema R
+        (columns_view (filled.now).columns.items) → length R ≡ (filled.now).records
+        → IfErr result (StopsPutting (tablet_puts (plan_view plan.now) tablet R) (K.shows keeper.old)
+        (K.shows keeper.new)) }
+    ensures cause { result ≡ Err LoadFault.KeepFault → (K.shows keeper.new).faults
+        ≡ raised (K.shows keeper.old).faults }
     ensures calm { result ≢ Err LoadFault.KeepFault → (K.shows keeper.new).faults ≡ (K.shows keeper.old).faults }
     ensures read { result ≢ Err LoadFault.ReadFault }
     ensures line { IfErr result (λ e. refusal_of e ≡ None) }
@@ -50,7 +56,8 @@ pub(crate) fn put_tablet<K: Keeper>(
     }
 }
 
-/// Puts what is left where the input ends behind so many tablets: the last tablet, if it has records or is the only one.
+/// Puts what is left where the input ends behind so many tablets: the last tablet, if it has records or is the only
+/// one.
 pub(crate) fn put_last<K: Keeper>(
     alloc: Global,
     plan: &Plan<'_, '_, '_>,
@@ -61,11 +68,19 @@ pub(crate) fn put_last<K: Keeper>(
     requires columns { AreColumnsFor (plan_view plan.now).schema (filled.now).columns.items }
     requires few_tablets { loaded.tablets ≤ 4096 }
     requires few_records { loaded.records ≤ 4096000000 }
-    ensures put { (R : List Node) → HaveColumns (plan_view plan.now).schema R (columns_view (filled.now).columns.items) → length R ≡ (filled.now).records → OnOk result (HasPut (puts_from (plan_view plan.now) loaded.tablets (last_tablets loaded.tablets R)) (K.shows keeper.old) (K.shows keeper.new)) }
-    ensures stops { (R : List Node) → HaveColumns (plan_view plan.now).schema R (columns_view (filled.now).columns.items) → length R ≡ (filled.now).records → IfErr result (StopsPutting (puts_from (plan_view plan.now) loaded.tablets (last_tablets loaded.tablets R)) (K.shows keeper.old) (K.shows keeper.new)) }
-    ensures tablets { (R : List Node) → length R ≡ (filled.now).records → IfOk result (λ l. l.tablets ≡ loaded.tablets + length (last_tablets loaded.tablets R)) }
+    ensures put { (R : List Node) → HaveColumns (plan_view plan.now).schema R (columns_view (filled.now).columns.items)
+        → length R ≡ (filled.now).records → OnOk result
+        (HasPut (puts_from (plan_view plan.now) loaded.tablets (last_tablets loaded.tablets R)) (K.shows keeper.old)
+        (K.shows keeper.new)) }
+    ensures stops { (R : List Node) → HaveColumns (plan_view plan.now).schema R
+        (columns_view (filled.now).columns.items) → length R ≡ (filled.now).records
+        → IfErr result (StopsPutting (puts_from (plan_view plan.now) loaded.tablets (last_tablets loaded.tablets R))
+        (K.shows keeper.old) (K.shows keeper.new)) }
+    ensures tablets { (R : List Node) → length R ≡ (filled.now).records
+        → IfOk result (λ l. l.tablets ≡ loaded.tablets + length (last_tablets loaded.tablets R)) }
     ensures records { IfOk result (λ l. l.records ≡ loaded.records + (filled.now).records) }
-    ensures cause { result ≡ Err LoadFault.KeepFault → (K.shows keeper.new).faults ≡ raised (K.shows keeper.old).faults }
+    ensures cause { result ≡ Err LoadFault.KeepFault → (K.shows keeper.new).faults
+        ≡ raised (K.shows keeper.old).faults }
     ensures calm { result ≢ Err LoadFault.KeepFault → (K.shows keeper.new).faults ≡ (K.shows keeper.old).faults }
     ensures read { result ≢ Err LoadFault.ReadFault }
     ensures line { IfErr result (λ e. refusal_of e ≡ None) }

@@ -29,12 +29,14 @@ fn is_directory(text: &str) -> bool
     !text.is_empty() && is_one_line(text.as_bytes())
 }
 
-/// Whether tablets may be loaded onto these directories, with so many copies of each. A directory is refused before the number of copies.
+/// Whether tablets may be loaded onto these directories, with so many copies of each. A directory is refused before the
+/// number of copies.
 ///
 /// Errors: the first directory that is empty or has a line feed; else more copies than directories.
 pub fn check_words(directories: &[String], copies: u32) -> Result<(), WordsProblem>
     ensures taken { OnOk result (words_refusal (map string_bytes directories.now) copies ≡ None) }
-    ensures refused { IfErr result (λ p. words_refusal (map string_bytes directories.now) copies ≡ Some (words_problem_view p)) }
+    ensures refused { IfErr result (λ p. words_refusal (map string_bytes directories.now) copies
+        ≡ Some (words_problem_view p)) }
 {
     'directories: for (number, directory) in directories.iter().enumerate() {
         if !is_directory(directory.as_str()) {

@@ -40,7 +40,8 @@ fn number_of(place: usize) -> Result<u32, NoMemory>
     Ok(number)
 }
 
-/// Puts the values of an expression for the aggregate of a number: those in the rows of the longer of its level and the keys'.
+/// Puts the values of an expression for the aggregate of a number: those in the rows of the longer of its level and the
+/// keys'.
 fn put_values(
     alloc: Global,
     groups: Grouping<'_>,
@@ -49,10 +50,13 @@ fn put_values(
     whole: &Node,
     partial: &mut Partial,
 ) -> Result<(), NoMemory>
-    ensures puts { OnOk result ((p : Planned) → IsPartialOf p partial.old → IsTyped groups.entry.leaves.now (node_view whole.now)
+    ensures puts { OnOk result ((p : Planned) → IsPartialOf p partial.old
+        → IsTyped groups.entry.leaves.now (node_view whole.now)
         → expr_fits (map path_view groups.entry.leaves.now) expression.now ≡ true
-        → partial_view partial.new ≡ put_all (planned_query p) (expression_puts (key_paths (map path_view groups.entry.leaves.now) groups.entry.keys.now) number
-        (expr_view (map path_view groups.entry.leaves.now) expression.now) (node_view whole.now)) (partial_view partial.old)) }
+        → partial_view partial.new ≡ put_all (planned_query p) (expression_puts
+        (key_paths (map path_view groups.entry.leaves.now) groups.entry.keys.now) number
+        (expr_view (map path_view groups.entry.leaves.now)
+        expression.now) (node_view whole.now)) (partial_view partial.old)) }
     ensures of_plan { (p : Planned) → IsPartialOf p partial.old → IsPartialOf p partial.new }
 {
     let level = longer(
@@ -79,11 +83,14 @@ fn put_aggregate(
     whole: &Node,
     partial: &mut Partial,
 ) -> Result<(), NoMemory>
-    ensures puts { OnOk result ((p : Planned) → IsPartialOf p partial.old → IsTyped groups.entry.leaves.now (node_view whole.now)
+    ensures puts { OnOk result ((p : Planned) → IsPartialOf p partial.old
+        → IsTyped groups.entry.leaves.now (node_view whole.now)
         → aggregate_fits (map path_view groups.entry.leaves.now) aggregate.now ≡ true
         → AreKeyRows groups.entry.leaves.now groups.entry.keys.now (node_view whole.now) (rows_view key_rows.now)
-        → partial_view partial.new ≡ put_all (planned_query p) (aggregate_puts (key_paths (map path_view groups.entry.leaves.now) groups.entry.keys.now) place
-        (aggregate_view (map path_view groups.entry.leaves.now) aggregate.now) (node_view whole.now)) (partial_view partial.old)) }
+        → partial_view partial.new ≡ put_all (planned_query p) (aggregate_puts
+        (key_paths (map path_view groups.entry.leaves.now) groups.entry.keys.now) place
+        (aggregate_view (map path_view groups.entry.leaves.now)
+        aggregate.now) (node_view whole.now)) (partial_view partial.old)) }
     ensures of_plan { (p : Planned) → IsPartialOf p partial.old → IsPartialOf p partial.new }
 {
     let number = number_of(place)?;
@@ -103,10 +110,13 @@ fn put_aggregates(
     whole: &Node,
     partial: &mut Partial,
 ) -> Result<(), NoMemory>
-    ensures puts { OnOk result ((p : Planned) → IsPartialOf p partial.old → IsTyped groups.entry.leaves.now (node_view whole.now)
+    ensures puts { OnOk result ((p : Planned) → IsPartialOf p partial.old
+        → IsTyped groups.entry.leaves.now (node_view whole.now)
         → AreKeyRows groups.entry.leaves.now groups.entry.keys.now (node_view whole.now) (rows_view key_rows.now)
-        → partial_view partial.new ≡ put_all (planned_query p) (term_puts (key_paths (map path_view groups.entry.leaves.now) groups.entry.keys.now) 0
-        (map (aggregate_view (map path_view groups.entry.leaves.now)) groups.entry.aggregates.now) (node_view whole.now)) (partial_view partial.old)) }
+        → partial_view partial.new ≡ put_all (planned_query p) (term_puts
+        (key_paths (map path_view groups.entry.leaves.now) groups.entry.keys.now) 0
+        (map (aggregate_view (map path_view groups.entry.leaves.now))
+        groups.entry.aggregates.now) (node_view whole.now)) (partial_view partial.old)) }
     ensures of_plan { (p : Planned) → IsPartialOf p partial.old → IsPartialOf p partial.new }
 {
     let mut place = 0;
@@ -124,9 +134,12 @@ fn put_whole(
     whole: &Node,
     partial: &mut Partial,
 ) -> Result<(), NoMemory>
-    ensures puts { OnOk result ((p : Planned) → IsPartialOf p partial.old → IsTyped groups.entry.leaves.now (node_view whole.now)
-        → partial_view partial.new ≡ put_all (planned_query p) (record_puts (key_paths (map path_view groups.entry.leaves.now) groups.entry.keys.now)
-        (map (aggregate_view (map path_view groups.entry.leaves.now)) groups.entry.aggregates.now) (Some (node_view whole.now))) (partial_view partial.old)) }
+    ensures puts { OnOk result ((p : Planned) → IsPartialOf p partial.old
+        → IsTyped groups.entry.leaves.now (node_view whole.now)
+        → partial_view partial.new ≡ put_all (planned_query p) (record_puts
+        (key_paths (map path_view groups.entry.leaves.now) groups.entry.keys.now)
+        (map (aggregate_view (map path_view groups.entry.leaves.now))
+        groups.entry.aggregates.now) (Some (node_view whole.now))) (partial_view partial.old)) }
     ensures of_plan { (p : Planned) → IsPartialOf p partial.old → IsPartialOf p partial.new }
 {
     let level = keys_level(groups.leaves, groups.keys);
@@ -142,9 +155,13 @@ fn put_kept(
     whole: &mut Node,
     partial: &mut Partial,
 ) -> Result<(), NoMemory>
-    ensures puts { OnOk result ((p : Planned) → IsPartialOf p partial.old → IsTyped groups.entry.leaves.now (node_view whole.old)
-        → partial_view partial.new ≡ put_all (planned_query p) (record_puts (key_paths (map path_view groups.entry.leaves.now) groups.entry.keys.now)
-        (map (aggregate_view (map path_view groups.entry.leaves.now)) groups.entry.aggregates.now) (plan_kept groups.entry.plan.now (node_view whole.old))) (partial_view partial.old)) }
+    ensures puts { OnOk result ((p : Planned) → IsPartialOf p partial.old
+        → IsTyped groups.entry.leaves.now (node_view whole.old)
+        → partial_view partial.new ≡ put_all (planned_query p) (record_puts
+        (key_paths (map path_view groups.entry.leaves.now) groups.entry.keys.now)
+        (map (aggregate_view (map path_view groups.entry.leaves.now))
+        groups.entry.aggregates.now) (plan_kept groups.entry.plan.now (node_view whole.old)))
+        (partial_view partial.old)) }
     ensures of_plan { (p : Planned) → IsPartialOf p partial.old → IsPartialOf p partial.new }
 {
     if !keep(alloc, groups.plan, whole)? {
@@ -160,10 +177,13 @@ fn put_record(
     whole: &Node,
     partial: &mut Partial,
 ) -> Result<(), NoMemory>
-    ensures puts { OnOk result ((p : Planned) → IsPartialOf p partial.old → IsTyped groups.entry.leaves.now (meant_project (paths_view groups.entry.leaves.now) (node_view whole.now))
-        → partial_view partial.new ≡ put_all (planned_query p) (record_puts (key_paths (map path_view groups.entry.leaves.now) groups.entry.keys.now)
+    ensures puts { OnOk result ((p : Planned) → IsPartialOf p partial.old
+        → IsTyped groups.entry.leaves.now (meant_project (paths_view groups.entry.leaves.now) (node_view whole.now))
+        → partial_view partial.new ≡ put_all (planned_query p) (record_puts
+        (key_paths (map path_view groups.entry.leaves.now) groups.entry.keys.now)
         (map (aggregate_view (map path_view groups.entry.leaves.now)) groups.entry.aggregates.now)
-        (plan_kept groups.entry.plan.now (meant_project (paths_view groups.entry.leaves.now) (node_view whole.now)))) (partial_view partial.old)) }
+        (plan_kept groups.entry.plan.now (meant_project (paths_view groups.entry.leaves.now)
+        (node_view whole.now)))) (partial_view partial.old)) }
     ensures of_plan { (p : Planned) → IsPartialOf p partial.old → IsPartialOf p partial.new }
 {
     let mut projected = project(alloc, groups.leaves, whole)?;
@@ -179,9 +199,13 @@ pub fn put_records(
     records: &[Node],
     partial: &mut Partial,
 ) -> Result<(), NoMemory>
-    ensures puts { OnOk result ((p : Planned) → IsPartialOf p partial.old → AreTyped groups.entry.leaves.now (projections groups.entry.leaves.now records.now)
-        → partial_view partial.new ≡ put_all (planned_query p) (records_puts groups.entry.plan.now (key_paths (map path_view groups.entry.leaves.now) groups.entry.keys.now)
-        (map (aggregate_view (map path_view groups.entry.leaves.now)) groups.entry.aggregates.now) (projections groups.entry.leaves.now records.now)) (partial_view partial.old)) }
+    ensures puts { OnOk result ((p : Planned) → IsPartialOf p partial.old
+        → AreTyped groups.entry.leaves.now (projections groups.entry.leaves.now records.now)
+        → partial_view partial.new ≡ put_all (planned_query p) (records_puts groups.entry.plan.now
+        (key_paths (map path_view groups.entry.leaves.now) groups.entry.keys.now)
+        (map (aggregate_view (map path_view groups.entry.leaves.now))
+        groups.entry.aggregates.now) (projections groups.entry.leaves.now records.now))
+        (partial_view partial.old)) }
     ensures of_plan { (p : Planned) → IsPartialOf p partial.old → IsPartialOf p partial.new }
 {
     'records: for whole in records {

@@ -14,5 +14,6 @@ use dr_plan::RecordItem;
 pub struct Items<'p> {
     pub leaves: &'p [Path],
     pub items: &'p [RecordItem],
-    pub ghost fit: { list_all (λ (i : RecordItem). record_term_fits (map path_view leaves.now) i.term) items.now ≡ true },
+    pub ghost fit: { list_all (λ (i : RecordItem). record_term_fits (map path_view leaves.now) i.term) items.now
+        ≡ true },
 }

@@ -44,19 +44,21 @@ fn answers_of(
     whole: &Node,
 ) -> Result<Vec<bool>, NoMemory>
     ensures { IfOk result (λ v. IsTyped (plan.now).leaves.items (node_view whole.now)
-        → v.items ≡ map (all_true (plan_tests plan.now)) (rows_meaning.rows (map step_view level.now) (node_view whole.now))) }
+        → v.items ≡ map (all_true (plan_tests plan.now)) (rows_meaning.rows (map step_view level.now)
+        (node_view whole.now))) }
 {
     let rows = rows_of(alloc, &plan.leaves, level, whole)?;
     answer_rows(alloc, plan, &rows)
 }
 
-/// What the condition of a plan leaves of a record: the branches with a row that passes. Tells whether anything is left;
-/// where nothing is, the record isn't used any more. The record is one of the schema to which the plan is bound, or a
-/// projection of one to the plan's leaves.
+/// What the condition of a plan leaves of a record: the branches with a row that passes. Tells whether anything is
+/// left; where nothing is, the record isn't used any more. The record is one of the schema to which the plan is bound,
+/// or a projection of one to the plan's leaves.
 ///
 /// Errors: want of memory alone.
 pub fn keep(alloc: Global, plan: &Plan, whole: &mut Node) -> Result<bool, NoMemory>
-    ensures { IfOk result (λ b. IsTyped (plan.now).leaves.items (node_view whole.old) → kept_if b (node_view whole.new) ≡ plan_kept plan.now (node_view whole.old)) }
+    ensures { IfOk result (λ b. IsTyped (plan.now).leaves.items (node_view whole.old) → kept_if b (node_view whole.new)
+        ≡ plan_kept plan.now (node_view whole.old)) }
 {
     if plan.test.is_empty() {
         return Ok(true);

@@ -32,7 +32,8 @@ pub fn key_of<'n>(
     row: &[Option<ValueRef<'n>>],
     key: &mut Vec<Option<ValueRef<'n>>>,
 ) -> Result<(), NoMemory>
-    ensures { OnOk result ((ls : List Leaf) (r : record_tree.Node) → AreValues ls row.now r → are_leaves ls keys.now ≡ true
+    ensures { OnOk result ((ls : List Leaf) (r : record_tree.Node) → AreValues ls row.now r → are_leaves ls keys.now
+        ≡ true
         → lent_cells (key.new).items ≡ key_tuple (map (λ k. path_of (slice_get ls k)) keys.now) r) }
 {
     key.clear();

@@ -100,7 +100,8 @@ pub fn tests_level<'p>(leaves: &'p [Path], tests: &[Truth]) -> &'p [Step]
 
 /// The level of keys, each the number of a leaf: the longest chain among them.
 pub fn keys_level<'p>(leaves: &'p [Path], keys: &[u32]) -> &'p [Step]
-    ensures { map step_view result.now ≡ meant.longest_level (map (λ k. path_of (slice_get (map path_view leaves.now) k)) keys.now) }
+    ensures { map step_view result.now ≡ meant.longest_level
+        (map (λ k. path_of (slice_get (map path_view leaves.now) k)) keys.now) }
 {
     let mut longest: &[Step] = &[];
     'keys: for key in keys {

@@ -36,8 +36,10 @@ fn push_whole(
     whole: &Node,
     cells: &mut Cells,
 ) -> Result<(), NoMemory>
-    ensures { OnOk result ((plan : MeantPlan) → Selects plan items.entry.leaves.now items.entry.items.now (object_view object.now) (node_view whole.now ∷ [])
-        → cells_view cells.new ≡ cells_view cells.old ++ kept_cells (items_view items.entry.leaves.now items.entry.items.now) (object_view object.now) (Some (node_view whole.now))) }
+    ensures { OnOk result ((plan : MeantPlan)
+        → Selects plan items.entry.leaves.now items.entry.items.now (object_view object.now) (node_view whole.now ∷ [])
+        → cells_view cells.new ≡ cells_view cells.old ++ kept_cells (items_view items.entry.leaves.now
+        items.entry.items.now) (object_view object.now) (Some (node_view whole.now))) }
 {
     let rows = rows_of(alloc, items.leaves, &[], whole)?;
     push_object(alloc, items, object, 0, rows.row(0), cells)
@@ -52,10 +54,13 @@ fn push_kept(
     whole: &mut Node,
     cells: &mut Cells,
 ) -> Result<bool, NoMemory>
-    ensures kept { IfOk result (λ b. Selects plan.now items.entry.leaves.now items.entry.items.now (object_view object.now) (node_view whole.old ∷ [])
+    ensures kept { IfOk result (λ b. Selects plan.now items.entry.leaves.now items.entry.items.now
+        (object_view object.now) (node_view whole.old ∷ [])
         → b ≡ is_some (plan_kept plan.now (node_view whole.old))) }
-    ensures cells { OnOk result (Selects plan.now items.entry.leaves.now items.entry.items.now (object_view object.now) (node_view whole.old ∷ [])
-        → cells_view cells.new ≡ cells_view cells.old ++ kept_cells (items_view items.entry.leaves.now items.entry.items.now) (object_view object.now) (plan_kept plan.now (node_view whole.old))) }
+    ensures cells { OnOk result (Selects plan.now items.entry.leaves.now items.entry.items.now (object_view object.now)
+        (node_view whole.old ∷ [])
+        → cells_view cells.new ≡ cells_view cells.old ++ kept_cells (items_view items.entry.leaves.now
+        items.entry.items.now) (object_view object.now) (plan_kept plan.now (node_view whole.old))) }
 {
     if !keep(alloc, plan, whole)? {
         return Ok(false);
@@ -73,10 +78,13 @@ fn push_record(
     whole: &Node,
     cells: &mut Cells,
 ) -> Result<bool, NoMemory>
-    ensures kept { IfOk result (λ b. Selects plan.now items.entry.leaves.now items.entry.items.now (object_view object.now) (plan_projections plan.now (whole.now ∷ []))
+    ensures kept { IfOk result (λ b. Selects plan.now items.entry.leaves.now items.entry.items.now
+        (object_view object.now) (plan_projections plan.now (whole.now ∷ []))
         → b ≡ is_some (plan_kept plan.now (meant_project (paths_view (plan.now).leaves.items) (node_view whole.now)))) }
-    ensures cells { OnOk result (Selects plan.now items.entry.leaves.now items.entry.items.now (object_view object.now) (plan_projections plan.now (whole.now ∷ []))
-        → cells_view cells.new ≡ cells_view cells.old ++ kept_cells (items_view items.entry.leaves.now items.entry.items.now) (object_view object.now)
+    ensures cells { OnOk result (Selects plan.now items.entry.leaves.now items.entry.items.now (object_view object.now)
+        (plan_projections plan.now (whole.now ∷ []))
+        → cells_view cells.new ≡ cells_view cells.old ++ kept_cells (items_view items.entry.leaves.now
+        items.entry.items.now) (object_view object.now)
         (plan_kept plan.now (meant_project (paths_view (plan.now).leaves.items) (node_view whole.now)))) }
 {
     let mut projected = project(alloc, &plan.leaves, whole)?;
@@ -99,10 +107,13 @@ fn push_records(
     records: &[Node],
     cells: &mut Cells,
 ) -> Result<u64, NoMemory>
-    ensures count { IfOk result (λ n. Selects plan.now items.entry.leaves.now items.entry.items.now (object_view object.now) (plan_projections plan.now records.now)
+    ensures count { IfOk result (λ n. Selects plan.now items.entry.leaves.now items.entry.items.now
+        (object_view object.now) (plan_projections plan.now records.now)
         → n ≡ length (filter_map (plan_kept plan.now) (plan_projections plan.now records.now))) }
-    ensures cells { OnOk result (Selects plan.now items.entry.leaves.now items.entry.items.now (object_view object.now) (plan_projections plan.now records.now)
-        → cells_view cells.new ≡ cells_view cells.old ++ result_cells (map (tree_object (items_view items.entry.leaves.now items.entry.items.now) (object_view object.now))
+    ensures cells { OnOk result (Selects plan.now items.entry.leaves.now items.entry.items.now (object_view object.now)
+        (plan_projections plan.now records.now)
+        → cells_view cells.new ≡ cells_view cells.old ++ result_cells (map
+        (tree_object (items_view items.entry.leaves.now items.entry.items.now) (object_view object.now))
         (filter_map (plan_kept plan.now) (plan_projections plan.now records.now)))) }
 {
     let mut count = 0;
@@ -113,9 +124,9 @@ fn push_records(
     Ok(count)
 }
 
-/// The result of a record query on records: the object of what the condition leaves of each, in order. The records are of
-/// the schema to which the plan is bound, or projections of such records to the plan's leaves; the items and the object are
-/// the plan's.
+/// The result of a record query on records: the object of what the condition leaves of each, in order. The records are
+/// of the schema to which the plan is bound, or projections of such records to the plan's leaves; the items and the
+/// object are the plan's.
 ///
 /// Errors: want of memory, or of room: the texts of a result have less than 4 GiB together.
 pub fn mean_objects(
@@ -127,7 +138,8 @@ pub fn mean_objects(
 ) -> Result<RowsOut, NoMemory>
     requires selection { (plan.now).selection ≡ Objects items.now object.now }
     requires answers { Answers plan.now records.now }
-    ensures rows { IfOk result (λ r. (a : Answers plan.now records.now) → rows_view r ≡ meaning a.schema.fields a.bound a.records) }
+    ensures rows { IfOk result (λ r. (a : Answers plan.now records.now) → rows_view r
+        ≡ meaning a.schema.fields a.bound a.records) }
     ensures shape { IfOk result (λ r. rows_shape r ≡ plan_shape (plan_view plan.now)) }
 {
     let shape = shape_of(alloc, plan)?;

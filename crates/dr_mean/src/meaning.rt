@@ -31,7 +31,8 @@ fn groups_of(
 ) -> Result<Partial, NoMemory>
     requires selection { (plan.now).selection ≡ Selected.Groups keys.now aggregates.now items.now }
     requires answers { Answers plan.now records.now }
-    ensures partial { IfOk result (λ p. (a : Answers plan.now records.now) → partial_view p ≡ partials.partial_of a.schema.fields (planned_query (plan_view plan.now)) a.records) }
+    ensures partial { IfOk result (λ p. (a : Answers plan.now records.now) → partial_view p
+        ≡ partials.partial_of a.schema.fields (planned_query (plan_view plan.now)) a.records) }
     ensures of_plan { IfOk result (λ p. IsPartialOf (plan_view plan.now) p) }
 {
     let groups = Grouping {
@@ -45,14 +46,15 @@ fn groups_of(
     Ok(partial)
 }
 
-/// A plan's partial of records: the lines of a record query, or the groups of an aggregate query. The records are of the
-/// schema to which the plan is bound, or projections of such records to the plan's leaves.
+/// A plan's partial of records: the lines of a record query, or the groups of an aggregate query. The records are of
+/// the schema to which the plan is bound, or projections of such records to the plan's leaves.
 ///
-/// Errors: want of memory, or of room: the texts of lines have less than 4 GiB together, and a count, a sum and the number
-/// of groups are bounded.
+/// Errors: want of memory, or of room: the texts of lines have less than 4 GiB together, and a count, a sum and the
+/// number of groups are bounded.
 pub fn partial_of(alloc: Global, plan: &Plan, records: &[Node]) -> Result<Partial, NoMemory>
     requires answers { Answers plan.now records.now }
-    ensures partial { IfOk result (λ p. (a : Answers plan.now records.now) → partial_view p ≡ partials.partial_of a.schema.fields (planned_query (plan_view plan.now)) a.records) }
+    ensures partial { IfOk result (λ p. (a : Answers plan.now records.now) → partial_view p
+        ≡ partials.partial_of a.schema.fields (planned_query (plan_view plan.now)) a.records) }
     ensures of_plan { IfOk result (λ p. IsPartialOf (plan_view plan.now) p) }
 {
     match &plan.selection {
@@ -73,7 +75,8 @@ pub fn partial_of(alloc: Global, plan: &Plan, records: &[Node]) -> Result<Partia
 /// number of groups are bounded.
 pub fn mean(alloc: Global, plan: &Plan, records: &[Node]) -> Result<RowsOut, NoMemory>
     requires answers { Answers plan.now records.now }
-    ensures rows { IfOk result (λ r. (a : Answers plan.now records.now) → rows_view r ≡ meaning a.schema.fields a.bound a.records) }
+    ensures rows { IfOk result (λ r. (a : Answers plan.now records.now) → rows_view r
+        ≡ meaning a.schema.fields a.bound a.records) }
     ensures shape { IfOk result (λ r. rows_shape r ≡ plan_shape (plan_view plan.now)) }
 {
     partial_of(alloc, plan, records)?.finish(alloc, plan)

@@ -38,8 +38,10 @@ fn rows_at<'n>(
 ) -> Result<Rows<'n>, NoMemory>
     requires values { length row.values.now ≡ length leaves.now }
     ensures width { IfOk result (λ t. rows_width t ≡ length leaves.now) }
-    ensures rows { IfOk result (λ t. (p : List MeantStep) (whole : record_tree.Node) → IsRow leaves.now p (row_view row.entry) whole → length p ≡ depth
-        → begins_with p (map step_view level.now) ≡ true → rows_view t ≡ map (known (paths_view leaves.now) (map step_view level.now)) (rows_meaning.rows (map step_view level.now) whole)) }
+    ensures rows { IfOk result (λ t. (p : List MeantStep) (whole : record_tree.Node)
+        → IsRow leaves.now p (row_view row.entry) whole → length p ≡ depth
+        → begins_with p (map step_view level.now) ≡ true → rows_view t ≡ map (known (paths_view leaves.now)
+        (map step_view level.now)) (rows_meaning.rows (map step_view level.now) whole)) }
 {
     rows_within(alloc, leaves, level, depth.min(level.len()), row)
 }
@@ -54,9 +56,12 @@ fn push_term(
     cells: &mut Cells,
 ) -> Result<(), NoMemory>
     requires values { length row.values.now ≡ length leaves.now }
-    ensures { OnOk result ((p : List MeantStep) (whole : record_tree.Node) → IsRow leaves.now p (row_view row.entry) whole → length p ≡ depth
-        → record_term_fits (map path_view leaves.now) term.now ≡ true → term_is_below p (record_term_view (map path_view leaves.now) term.now) ≡ true
-        → cells_view cells.new ≡ cells_view cells.old ++ value_cell (term_value (record_term_view (map path_view leaves.now) term.now) whole) ∷ []) }
+    ensures { OnOk result ((p : List MeantStep) (whole : record_tree.Node)
+        → IsRow leaves.now p (row_view row.entry) whole → length p ≡ depth
+        → record_term_fits (map path_view leaves.now) term.now ≡ true → term_is_below p (record_term_view (map path_view
+        leaves.now) term.now) ≡ true
+        → cells_view cells.new ≡ cells_view cells.old ++ value_cell (term_value
+        (record_term_view (map path_view leaves.now) term.now) whole) ∷ []) }
 {
     match term {
         RecordTerm::Value(expression) => push_value(alloc, expression, row.values, cells),
@@ -87,9 +92,11 @@ fn push_items(
     cells: &mut Cells,
 ) -> Result<(), NoMemory>
     requires values { length row.values.now ≡ length items.leaves.now }
-    ensures { OnOk result ((p : List MeantStep) (whole : record_tree.Node) → IsRow items.entry.leaves.now p (row_view row.entry) whole → length p ≡ depth
+    ensures { OnOk result ((p : List MeantStep) (whole : record_tree.Node)
+        → IsRow items.entry.leaves.now p (row_view row.entry) whole → length p ≡ depth
         → items_are_below (items_view items.entry.leaves.now items.entry.items.now) p places.now ≡ true
-        → cells_view cells.new ≡ cells_view cells.old ++ items_cells (items_view items.entry.leaves.now items.entry.items.now) places.now whole) }
+        → cells_view cells.new ≡ cells_view cells.old ++ items_cells (items_view items.entry.leaves.now
+        items.entry.items.now) places.now whole) }
 {
     'places: for place in places {
         push_item(alloc, items, *place as usize, depth, row, cells)?;
@@ -107,9 +114,11 @@ fn push_item(
     cells: &mut Cells,
 ) -> Result<(), NoMemory>
     requires values { length row.values.now ≡ length items.leaves.now }
-    ensures { OnOk result ((p : List MeantStep) (whole : record_tree.Node) → IsRow items.entry.leaves.now p (row_view row.entry) whole → length p ≡ depth
+    ensures { OnOk result ((p : List MeantStep) (whole : record_tree.Node)
+        → IsRow items.entry.leaves.now p (row_view row.entry) whole → length p ≡ depth
         → item_is_below p (slice_get (items_view items.entry.leaves.now items.entry.items.now) place) ≡ true
-        → cells_view cells.new ≡ cells_view cells.old ++ item_cells (slice_get (items_view items.entry.leaves.now items.entry.items.now) place) whole) }
+        → cells_view cells.new ≡ cells_view cells.old ++ item_cells (slice_get (items_view items.entry.leaves.now
+        items.entry.items.now) place) whole) }
 {
     match items.items.get(place) {
         Some(item) => push_term(alloc, items.leaves, &item.term, depth, row, cells),
@@ -127,9 +136,11 @@ fn push_counts(
     cells: &mut Cells,
 ) -> Result<(), NoMemory>
     requires values { length row.values.now ≡ length leaves.now }
-    ensures { OnOk result ((items : List MeantItem) (p : List MeantStep) (whole : record_tree.Node) → IsRow leaves.now p (row_view row.entry) whole → length p ≡ depth
+    ensures { OnOk result ((items : List MeantItem) (p : List MeantStep) (whole : record_tree.Node)
+        → IsRow leaves.now p (row_view row.entry) whole → length p ≡ depth
         → are_nested items p (plan_lists_view (lists.now).items) ≡ true
-        → cells_view cells.new ≡ cells_view cells.old ++ own_counts (tree_lists items (plan_lists_view (lists.now).items) whole)) }
+        → cells_view cells.new ≡ cells_view cells.old ++ own_counts (tree_lists items
+        (plan_lists_view (lists.now).items) whole)) }
 {
     'lists: for list in lists {
         let rows = rows_at(alloc, leaves, &list.level, depth, row)?;
@@ -138,8 +149,8 @@ fn push_counts(
     Ok(())
 }
 
-/// Appends the object of a row, where an instance stands at the end of its level: its items, how many objects each of its
-/// lists has, and then those objects.
+/// Appends the object of a row, where an instance stands at the end of its level: its items, how many objects each of
+/// its lists has, and then those objects.
 ///
 /// Errors: want of memory, or of room.
 #[cycle(objects)]
@@ -152,9 +163,11 @@ pub fn push_object(
     cells: &mut Cells,
 ) -> Result<(), NoMemory>
     requires values { length row.values.now ≡ length items.leaves.now }
-    ensures { OnOk result ((p : List MeantStep) (whole : record_tree.Node) → IsRow items.entry.leaves.now p (row_view row.entry) whole → length p ≡ depth
+    ensures { OnOk result ((p : List MeantStep) (whole : record_tree.Node)
+        → IsRow items.entry.leaves.now p (row_view row.entry) whole → length p ≡ depth
         → is_nested (items_view items.entry.leaves.now items.entry.items.now) p (object_view object.now) ≡ true
-        → cells_view cells.new ≡ cells_view cells.old ++ instance_cells (items_view items.entry.leaves.now items.entry.items.now) p (object_view object.now) whole) }
+        → cells_view cells.new ≡ cells_view cells.old ++ instance_cells (items_view items.entry.leaves.now
+        items.entry.items.now) p (object_view object.now) whole) }
 {
     if row.end.is_none() {
         return Ok(());
@@ -175,9 +188,12 @@ fn push_lists(
     cells: &mut Cells,
 ) -> Result<(), NoMemory>
     requires values { length row.values.now ≡ length items.leaves.now }
-    ensures { OnOk result ((p : List MeantStep) (whole : record_tree.Node) → IsRow items.entry.leaves.now p (row_view row.entry) whole → length p ≡ depth
-        → are_nested (items_view items.entry.leaves.now items.entry.items.now) p (plan_lists_view (lists.now).items) ≡ true
-        → cells_view cells.new ≡ cells_view cells.old ++ inner_cells (tree_lists (items_view items.entry.leaves.now items.entry.items.now) (plan_lists_view (lists.now).items) whole)) }
+    ensures { OnOk result ((p : List MeantStep) (whole : record_tree.Node)
+        → IsRow items.entry.leaves.now p (row_view row.entry) whole → length p ≡ depth
+        → are_nested (items_view items.entry.leaves.now
+        items.entry.items.now) p (plan_lists_view (lists.now).items) ≡ true
+        → cells_view cells.new ≡ cells_view cells.old ++ inner_cells (tree_lists (items_view items.entry.leaves.now
+        items.entry.items.now) (plan_lists_view (lists.now).items) whole)) }
 {
     'lists: for list in lists {
         push_list(alloc, items, list, depth, row, cells)?;
@@ -196,10 +212,13 @@ fn push_list(
     cells: &mut Cells,
 ) -> Result<(), NoMemory>
     requires values { length row.values.now ≡ length items.leaves.now }
-    ensures { OnOk result ((p : List MeantStep) (whole : record_tree.Node) → IsRow items.entry.leaves.now p (row_view row.entry) whole → length p ≡ depth
+    ensures { OnOk result ((p : List MeantStep) (whole : record_tree.Node)
+        → IsRow items.entry.leaves.now p (row_view row.entry) whole → length p ≡ depth
         → begins_with p (plan_list_view list.now).level ≡ true
-        → is_nested (items_view items.entry.leaves.now items.entry.items.now) (plan_list_view list.now).level (plan_list_view list.now).object ≡ true
-        → cells_view cells.new ≡ cells_view cells.old ++ flat_map (instance_cells (items_view items.entry.leaves.now items.entry.items.now) (plan_list_view list.now).level (plan_list_view list.now).object)
+        → is_nested (items_view items.entry.leaves.now
+        items.entry.items.now) (plan_list_view list.now).level (plan_list_view list.now).object ≡ true
+        → cells_view cells.new ≡ cells_view cells.old ++ flat_map (instance_cells (items_view items.entry.leaves.now
+        items.entry.items.now) (plan_list_view list.now).level (plan_list_view list.now).object)
         (rows_meaning.rows (plan_list_view list.now).level whole)) }
 {
     let rows = rows_at(alloc, items.leaves, &list.level, depth, row)?;

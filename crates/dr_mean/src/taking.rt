@@ -44,7 +44,8 @@ fn value_of<'v>(
     taking: Taking<'v>,
     row: &[Option<ValueRef<'v>>],
 ) -> Result<Option<Evaluated<'v>>, NoMemory>
-    ensures { IfOk result (λ v. (ls : List Leaf) (r : record_tree.Node) → AreValues ls row.now r → taking_fits ls taking.entry ≡ true
+    ensures { IfOk result (λ v. (ls : List Leaf) (r : record_tree.Node) → AreValues ls row.now r
+        → taking_fits ls taking.entry ≡ true
         → option_map evaluated_view v ≡ value_taken ls taking.entry r) }
 {
     match taking {
@@ -85,9 +86,11 @@ fn put_row<'n>(
     key: &mut Vec<Option<ValueRef<'n>>>,
     partial: &mut Partial,
 ) -> Result<(), NoMemory>
-    ensures puts { OnOk result ((p : Planned) (r : record_tree.Node) → IsPartialOf p partial.old → AreValues (map path_view groups.entry.leaves.now) row.now r
+    ensures puts { OnOk result ((p : Planned) (r : record_tree.Node) → IsPartialOf p partial.old
+        → AreValues (map path_view groups.entry.leaves.now) row.now r
         → taking_fits (map path_view groups.entry.leaves.now) taking.entry ≡ true
-        → partial_view partial.new ≡ put (planned_query p) (put_of (map path_view groups.entry.leaves.now) groups.entry.keys.now taking.entry r) (partial_view partial.old)) }
+        → partial_view partial.new ≡ put (planned_query p) (put_of (map path_view groups.entry.leaves.now)
+        groups.entry.keys.now taking.entry r) (partial_view partial.old)) }
     ensures of_plan { (p : Planned) → IsPartialOf p partial.old → IsPartialOf p partial.new }
 {
     key_of(groups.keys, row, key)?;
@@ -105,10 +108,12 @@ pub fn put_rows(
     rows: &Rows<'_>,
     partial: &mut Partial,
 ) -> Result<(), NoMemory>
-    ensures puts { OnOk result ((p : Planned) (level : List MeantStep) (whole : record_tree.Node) → IsPartialOf p partial.old → IsTyped groups.entry.leaves.now whole
+    ensures puts { OnOk result ((p : Planned) (level : List MeantStep) (whole : record_tree.Node)
+        → IsPartialOf p partial.old → IsTyped groups.entry.leaves.now whole
         → taking_fits (map path_view groups.entry.leaves.now) taking.entry ≡ true
         → rows_view rows.now ≡ map (known (paths_view groups.entry.leaves.now) level) (rows_meaning.rows level whole)
-        → partial_view partial.new ≡ put_all (planned_query p) (map (put_of (map path_view groups.entry.leaves.now) groups.entry.keys.now taking.entry) (rows_meaning.rows level whole)) (partial_view partial.old)) }
+        → partial_view partial.new ≡ put_all (planned_query p) (map (put_of (map path_view groups.entry.leaves.now)
+        groups.entry.keys.now taking.entry) (rows_meaning.rows level whole)) (partial_view partial.old)) }
     ensures of_plan { (p : Planned) → IsPartialOf p partial.old → IsPartialOf p partial.new }
 {
     let mut key = Vec::new(alloc);

@@ -36,7 +36,8 @@ pub fn push_value(
     row: &[Option<ValueRef<'_>>],
     cells: &mut Cells,
 ) -> Result<(), NoMemory>
-    ensures { OnOk result ((ls : List Leaf) (r : record_tree.Node) → AreValues ls row.now r → expr_fits ls expression.now ≡ true
+    ensures { OnOk result ((ls : List Leaf) (r : record_tree.Node) → AreValues ls row.now r
+        → expr_fits ls expression.now ≡ true
         → cells_view cells.new ≡ cells_view cells.old ++ value_cell (evaluate (expr_view ls expression.now) r) ∷ []) }
 {
     match eval(alloc, expression, row)? {
@@ -53,8 +54,10 @@ fn take(
     expression: &Expr,
     row: &[Option<ValueRef<'_>>],
 ) -> Result<(), NoMemory>
-    ensures { OnOk result ((ls : List Leaf) (r : record_tree.Node) → AreValues ls row.now r → expr_fits ls expression.now ≡ true
-        → accumulator_view gathered.new ≡ take_value (accumulator_view gathered.old) (evaluate (expr_view ls expression.now) r)) }
+    ensures { OnOk result ((ls : List Leaf) (r : record_tree.Node) → AreValues ls row.now r
+        → expr_fits ls expression.now ≡ true
+        → accumulator_view gathered.new ≡ take_value (accumulator_view gathered.old) (evaluate (expr_view ls
+        expression.now) r)) }
 {
     match eval(alloc, expression, row)? {
         Some(value) => gathered.take(alloc, Gathering::Values(fold), Some(value.lend())),
@@ -64,7 +67,8 @@ fn take(
 
 /// Appends what an aggregate has gathered.
 fn push_gathered(gathered: &Accumulator, cells: &mut Cells) -> Result<(), NoMemory>
-    ensures { OnOk result (cells_view cells.new ≡ cells_view cells.old ++ value_cell (result_of (accumulator_view gathered.now)) ∷ []) }
+    ensures { OnOk result (cells_view cells.new
+        ≡ cells_view cells.old ++ value_cell (result_of (accumulator_view gathered.now)) ∷ []) }
 {
     match gathered {
         Accumulator::Count(count) => cells.push_whole(Some(i128::from(*count))),
@@ -83,9 +87,11 @@ fn gather(
     expression: &Expr,
     rows: &Rows<'_>,
 ) -> Result<Accumulator, NoMemory>
-    ensures { IfOk result (λ a. (leaves : List Path) (level : List MeantStep) (whole : record_tree.Node) → IsTyped leaves whole → expr_fits (map path_view leaves) expression.now ≡ true
+    ensures { IfOk result (λ a. (leaves : List Path) (level : List MeantStep) (whole : record_tree.Node)
+        → IsTyped leaves whole → expr_fits (map path_view leaves) expression.now ≡ true
         → rows_view rows.now ≡ map (known (paths_view leaves) level) (rows_meaning.rows level whole)
-        → accumulator_view a ≡ accumulated (fold_view fold) (map (evaluate (expr_view (map path_view leaves) expression.now)) (rows_meaning.rows level whole))) }
+        → accumulator_view a ≡ accumulated (fold_view fold) (map
+        (evaluate (expr_view (map path_view leaves) expression.now)) (rows_meaning.rows level whole))) }
 {
     let mut gathered = Accumulator::new(Gathering::Values(fold));
     'rows: for number in 0..rows.len() {
@@ -95,7 +101,8 @@ fn gather(
     Ok(gathered)
 }
 
-/// Appends what an aggregate gives of an expression's values in the rows within a row, of which the level has so many steps.
+/// Appends what an aggregate gives of an expression's values in the rows within a row, of which the level has so many
+/// steps.
 ///
 /// Errors: want of memory, or of room.
 pub fn push_aggregate(
@@ -107,10 +114,14 @@ pub fn push_aggregate(
     cells: &mut Cells,
 ) -> Result<(), NoMemory>
     requires values { length row.values.now ≡ length leaves.now }
-    ensures { OnOk result ((level : List MeantStep) (whole : record_tree.Node) → IsRow leaves.now level (row_view row.entry) whole → length level ≡ depth
-        → expr_fits (map path_view leaves.now) (within.now).argument ≡ true → begins_with level (expression_level (expr_view (map path_view leaves.now) (within.now).argument)) ≡ true
-        → cells_view cells.new ≡ cells_view cells.old ++ value_cell (over_rows (fold_view (within.now).fold) (expr_view (map path_view leaves.now) (within.now).argument)
-        (rows_meaning.rows (expression_level (expr_view (map path_view leaves.now) (within.now).argument)) whole)) ∷ []) }
+    ensures { OnOk result ((level : List MeantStep) (whole : record_tree.Node)
+        → IsRow leaves.now level (row_view row.entry) whole → length level ≡ depth
+        → expr_fits (map path_view leaves.now) (within.now).argument ≡ true → begins_with level (expression_level
+        (expr_view (map path_view leaves.now) (within.now).argument)) ≡ true
+        → cells_view cells.new ≡ cells_view cells.old ++ value_cell (over_rows (fold_view (within.now).fold)
+        (expr_view (map path_view leaves.now) (within.now).argument)
+        (rows_meaning.rows (expression_level (expr_view (map path_view leaves.now) (within.now).argument))
+        whole)) ∷ []) }
 {
     let level = expression_level(leaves, &within.argument);
     let rows = rows_within(alloc, leaves, level, depth.min(level.len()), row)?;

@@ -9,7 +9,8 @@ pub fn first_fault_is_told()
     ensures bound { BoundWithoutFault }
 {}
 
-/// A bound query has each item of its syntax tree, in order, under its name, and a condition exactly if the tree has one.
+/// A bound query has each item of its syntax tree, in order, under its name, and a condition exactly if the tree has
+/// one.
 pub fn bound_query_keeps_syntax()
     ensures items { ItemsAreKept }
     ensures condition { ConditionIsKept }

@@ -8,7 +8,8 @@ pub fn columns_determine_projection()
     ensures { ColumnsDetermineProjection }
 {}
 
-/// Triplets are the column of a leaf of some records of a schema exactly if they pass a test on each triplet and the one before it.
+/// Triplets are the column of a leaf of some records of a schema exactly if they pass a test on each triplet and the
+/// one before it.
 pub fn columns_are_recognized()
     ensures { ColumnsAreRecognized }
 {}

@@ -2,7 +2,8 @@
 
 ghost use Rattle.dr_meaning.specs.MeaningLaws.{ColumnsOfProjection, MeaningOfProjection};
 
-/// A query means on the projections of records what it means on the records, where each of its paths leads on to a leaf of the projection.
+/// A query means on the projections of records what it means on the records, where each of its paths leads on to a leaf
+/// of the projection.
 pub fn projection_keeps_meaning()
     ensures { MeaningOfProjection }
 {}

@@ -8,8 +8,8 @@ pub fn accepted_schema_text_is_spelled()
     ensures { AcceptedIsSpelled }
 {}
 
-/// The faults `syntax`, `float_kind` and `empty_group` stand at the first token with which no schema goes on, or `syntax` at the end of a text that
-/// ends too early.
+/// The faults `syntax`, `float_kind` and `empty_group` stand at the first token with which no schema goes on, or
+/// `syntax` at the end of a text that ends too early.
 pub fn syntax_fault_is_first_dead_end()
     ensures syntax { SyntaxIsDeadEnd }
     ensures float { FloatIsDeadEnd }
@@ -26,7 +26,8 @@ pub fn canonical_schema_text_reads_back()
     ensures { CanonicalReadsBack }
 {}
 
-/// Exactly the texts are accepted as a schema that are not too long and spell a schema that keeps the rules of names and the limits.
+/// Exactly the texts are accepted as a schema that are not too long and spell a schema that keeps the rules of names
+/// and the limits.
 pub fn schema_texts_are_accepted_exactly()
     ensures { AcceptedExactly }
 {}

@@ -12,7 +12,8 @@ use dr_memory::NoMemory;
 use std::alloc::{AllocError, Global};
 
 pub(crate) fn put<'a>(fields: &mut Vec<Field<'a>>, id: u8, item: Item<'a>) -> Result<(), NoMemory>
-    ensures { OnOk result ((rest : Struct) → struct_onto (map field_view (fields.new).items) rest ≡ struct_onto (map field_view (fields.old).items) (struct_field (pos id) (item_view item.entry) rest)) }
+    ensures { OnOk result ((rest : Struct) → struct_onto (map field_view (fields.new).items) rest
+        ≡ struct_onto (map field_view (fields.old).items) (struct_field (pos id) (item_view item.entry) rest)) }
 {
     fields.push(Field {
         id: i16::from(id),
@@ -22,7 +23,8 @@ pub(crate) fn put<'a>(fields: &mut Vec<Field<'a>>, id: u8, item: Item<'a>) -> Re
 }
 
 pub(crate) fn put_i32<'a>(fields: &mut Vec<Field<'a>>, id: u8, number: i64) -> Result<(), NoMemory>
-    ensures { OnOk result ((rest : Struct) → struct_onto (map field_view (fields.new).items) rest ≡ struct_onto (map field_view (fields.old).items) (struct_field (pos id) (i32_item number) rest)) }
+    ensures { OnOk result ((rest : Struct) → struct_onto (map field_view (fields.new).items) rest
+        ≡ struct_onto (map field_view (fields.old).items) (struct_field (pos id) (i32_item number) rest)) }
 {
     put(fields, id, Item::I32(number))
 }
@@ -32,7 +34,8 @@ pub(crate) fn put_count32<'a>(
     id: u8,
     count: Count,
 ) -> Result<(), NoMemory>
-    ensures { OnOk result ((rest : Struct) → struct_onto (map field_view (fields.new).items) rest ≡ struct_onto (map field_view (fields.old).items) (count_i32 id count.number rest)) }
+    ensures { OnOk result ((rest : Struct) → struct_onto (map field_view (fields.new).items) rest
+        ≡ struct_onto (map field_view (fields.old).items) (count_i32 id count.number rest)) }
 {
     put(fields, id, Item::I32(count.get() as i64))
 }
@@ -42,7 +45,8 @@ pub(crate) fn put_count64<'a>(
     id: u8,
     count: Count,
 ) -> Result<(), NoMemory>
-    ensures { OnOk result ((rest : Struct) → struct_onto (map field_view (fields.new).items) rest ≡ struct_onto (map field_view (fields.old).items) (count_i64 id count.number rest)) }
+    ensures { OnOk result ((rest : Struct) → struct_onto (map field_view (fields.new).items) rest
+        ≡ struct_onto (map field_view (fields.old).items) (count_i64 id count.number rest)) }
 {
     put(fields, id, Item::I64(count.get() as i64))
 }
@@ -54,7 +58,8 @@ pub(crate) fn put_some_i32<'a>(
     id: u8,
     number: Option<i64>,
 ) -> Result<(), NoMemory>
-    ensures { OnOk result ((rest : Struct) → struct_onto (map field_view (fields.new).items) rest ≡ struct_onto (map field_view (fields.old).items) (with_i32 id number rest)) }
+    ensures { OnOk result ((rest : Struct) → struct_onto (map field_view (fields.new).items) rest
+        ≡ struct_onto (map field_view (fields.old).items) (with_i32 id number rest)) }
 {
     match number {
         Some(number) => put(fields, id, Item::I32(number)),
@@ -67,7 +72,8 @@ pub(crate) fn put_some_i64<'a>(
     id: u8,
     number: Option<i64>,
 ) -> Result<(), NoMemory>
-    ensures { OnOk result ((rest : Struct) → struct_onto (map field_view (fields.new).items) rest ≡ struct_onto (map field_view (fields.old).items) (with_i64 id number rest)) }
+    ensures { OnOk result ((rest : Struct) → struct_onto (map field_view (fields.new).items) rest
+        ≡ struct_onto (map field_view (fields.old).items) (with_i64 id number rest)) }
 {
     match number {
         Some(number) => put(fields, id, Item::I64(number)),
@@ -80,7 +86,8 @@ pub(crate) fn put_some_truth<'a>(
     id: u8,
     truth: Option<bool>,
 ) -> Result<(), NoMemory>
-    ensures { OnOk result ((rest : Struct) → struct_onto (map field_view (fields.new).items) rest ≡ struct_onto (map field_view (fields.old).items) (with_field id truth_item truth rest)) }
+    ensures { OnOk result ((rest : Struct) → struct_onto (map field_view (fields.new).items) rest
+        ≡ struct_onto (map field_view (fields.old).items) (with_field id truth_item truth rest)) }
 {
     match truth {
         Some(truth) => put(fields, id, Item::Truth(truth)),
@@ -93,7 +100,9 @@ pub(crate) fn put_some_binary<'a>(
     id: u8,
     bytes: Option<&'a [u8]>,
 ) -> Result<(), NoMemory>
-    ensures { OnOk result ((rest : Struct) → struct_onto (map field_view (fields.new).items) rest ≡ struct_onto (map field_view (fields.old).items) (with_field id binary_item (option_map lent bytes.entry) rest)) }
+    ensures { OnOk result ((rest : Struct) → struct_onto (map field_view (fields.new).items) rest
+        ≡ struct_onto (map field_view (fields.old).items)
+        (with_field id binary_item (option_map lent bytes.entry) rest)) }
 {
     match bytes {
         Some(bytes) => put(fields, id, Item::Binary(bytes)),
@@ -114,7 +123,9 @@ pub(crate) fn put_some_numbers<'a>(
     id: u8,
     numbers: Option<&[i64]>,
 ) -> Result<(), NoMemory>
-    ensures { OnOk result ((rest : Struct) → struct_onto (map field_view (fields.new).items) rest ≡ struct_onto (map field_view (fields.old).items) (with_field id (λ es. list_item i32_type (items_of i32_item es)) (option_map lent numbers.entry) rest)) }
+    ensures { OnOk result ((rest : Struct) → struct_onto (map field_view (fields.new).items) rest
+        ≡ struct_onto (map field_view (fields.old).items)
+        (with_field id (λ es. list_item i32_type (items_of i32_item es)) (option_map lent numbers.entry) rest)) }
 {
     match numbers {
         Some(numbers) => put(
@@ -132,7 +143,10 @@ pub(crate) fn put_some_names<'a>(
     id: u8,
     names: Option<&[&'a [u8]]>,
 ) -> Result<(), NoMemory>
-    ensures { OnOk result ((rest : Struct) → struct_onto (map field_view (fields.new).items) rest ≡ struct_onto (map field_view (fields.old).items) (with_field id (λ ns. list_item binary_type (items_of binary_item ns)) (option_map lent_names names.entry) rest)) }
+    ensures { OnOk result ((rest : Struct) → struct_onto (map field_view (fields.new).items) rest
+        ≡ struct_onto (map field_view (fields.old).items)
+        (with_field id (λ ns. list_item binary_type (items_of binary_item ns))
+        (option_map lent_names names.entry) rest)) }
 {
     match names {
         Some(names) => put(
@@ -149,7 +163,9 @@ pub(crate) fn put_some_struct<'a>(
     id: u8,
     tree: Option<Tree<'a>>,
 ) -> Result<(), NoMemory>
-    ensures { OnOk result ((rest : Struct) → struct_onto (map field_view (fields.new).items) rest ≡ struct_onto (map field_view (fields.old).items) (with_field id struct_item (option_map tree_view tree.entry) rest)) }
+    ensures { OnOk result ((rest : Struct) → struct_onto (map field_view (fields.new).items) rest
+        ≡ struct_onto (map field_view (fields.old).items)
+        (with_field id struct_item (option_map tree_view tree.entry) rest)) }
 {
     match tree {
         Some(tree) => put(fields, id, Item::Struct(tree)),
@@ -162,7 +178,9 @@ pub(crate) fn put_structs<'a>(
     id: u8,
     trees: Vec<Tree<'a>>,
 ) -> Result<(), NoMemory>
-    ensures { OnOk result ((rest : Struct) → struct_onto (map field_view (fields.new).items) rest ≡ struct_onto (map field_view (fields.old).items) (struct_field (pos id) (structs (λ s. s) (map tree_view (trees.entry).items)) rest)) }
+    ensures { OnOk result ((rest : Struct) → struct_onto (map field_view (fields.new).items) rest
+        ≡ struct_onto (map field_view (fields.old).items)
+        (struct_field (pos id) (structs (λ s. s) (map tree_view (trees.entry).items)) rest)) }
 {
     put(fields, id, Item::List(Values::Structs(trees)))
 }

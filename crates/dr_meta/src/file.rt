@@ -1,5 +1,5 @@
-//! The metadata of a file. Numbers of 32 bits are kept in 64, as they are read; lists are lent from the tree (`'t`), names from
-//! the bytes that it was read from (`'a`).
+//! The metadata of a file. Numbers of 32 bits are kept in 64, as they are read; lists are lent from the tree (`'t`),
+//! names from the bytes that it was read from (`'a`).
 
 use crate::count::Count;
 

@@ -1,5 +1,5 @@
-//! The list of a file's schema elements as one tree, in depth-first order. No group is entered by recursion, so a list may
-//! nest as deep as it is long.
+//! The list of a file's schema elements as one tree, in depth-first order. No group is entered by recursion, so a list
+//! may nest as deep as it is long.
 
 ghost use Rattle.std.specs.Prelude.{◌≡◌, ◌≤◌, ◌∷◌, List, map, option_map, OnOk, IfOk, IfSome, Some, None, true, false};
 ghost use Rattle.dr_meaning.specs.Schema.{Repetition};
@@ -15,8 +15,9 @@ use dr_memory::NoMemory;
 use std::alloc::Global;
 
 /// How many leaves the schema has that a list of elements is; none where it is not one tree. The first element is the
-/// root, which has no type; an element with a type is a leaf, any other a group of so many fields; each but the root has
-/// a repetition 0, 1 or 2; and no element is left over. It takes time linear in the list, and no stack by its nesting.
+/// root, which has no type; an element with a type is a leaf, any other a group of so many fields; each but the root
+/// has a repetition 0, 1 or 2; and no element is left over. It takes time linear in the list, and no stack by its
+/// nesting.
 ///
 /// Errors: want of memory alone.
 pub fn count_leaves(alloc: Global, items: &[SchemaItem<'_>]) -> Result<Option<usize>, NoMemory>
@@ -34,7 +35,8 @@ fn leaves_below(
     root: &SchemaItem<'_>,
     rest: &[SchemaItem<'_>],
 ) -> Result<Option<usize>, NoMemory>
-    ensures { IfOk result (λ n. n ≡ option_map one_tree.count_leaves (file_schema (item_view root.now ∷ map item_view rest.now))) }
+    ensures { IfOk result (λ n. n ≡ option_map one_tree.count_leaves
+        (file_schema (item_view root.now ∷ map item_view rest.now))) }
 {
     let Some(fields) = group_size(root) else {
         return Ok(None);
@@ -79,7 +81,8 @@ fn is_repetition(repetition: Option<i64>) -> bool
 /// Opens a group of so many fields; one without fields is closed at once. Of each open group is kept how many fields it
 /// has besides the next.
 fn open_group(groups: &mut Vec<u64>, fields: u64) -> Result<(), NoMemory>
-    ensures { OnOk result ((es : List SchemaElement) → leaves_left (still_open groups.new.items) es ≡ leaves_left (fields ∷ still_open groups.old.items) es) }
+    ensures { OnOk result ((es : List SchemaElement) → leaves_left (still_open groups.new.items) es
+        ≡ leaves_left (fields ∷ still_open groups.old.items) es) }
 {
     if fields > 0 {
         groups.push(fields - 1)?;
@@ -89,7 +92,9 @@ fn open_group(groups: &mut Vec<u64>, fields: u64) -> Result<(), NoMemory>
 
 /// Takes the next element: how many leaves it is, one or none; or nothing, where no tree goes on with it.
 fn enter(groups: &mut Vec<u64>, item: &SchemaItem<'_>) -> Result<Option<usize>, NoMemory>
-    ensures step { IfOk result (λ o. (es : List SchemaElement) → leaves_left (still_open groups.old.items) (item_view item.now ∷ es) ≡ and_leaves o (leaves_left (still_open groups.new.items) es)) }
+    ensures step { IfOk result (λ o. (es : List SchemaElement)
+        → leaves_left (still_open groups.old.items) (item_view item.now ∷ es)
+        ≡ and_leaves o (leaves_left (still_open groups.new.items) es)) }
     ensures one { IfOk result (λ o. IfSome o (λ k. k ≤ 1)) }
 {
     let Some(left) = groups.pop() else {

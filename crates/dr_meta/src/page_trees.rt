@@ -70,7 +70,8 @@ fn tree_of_dictionary_page(
     alloc: Global,
     page: Option<DictionaryPage>,
 ) -> Result<Option<Tree<'static>>, NoMemory>
-    ensures { IfOk result (λ o. option_map tree_view o ≡ option_map (λ p. dictionary_header_tree (dictionary_page_view p)) page) }
+    ensures { IfOk result (λ o. option_map tree_view o
+        ≡ option_map (λ p. dictionary_header_tree (dictionary_page_view p)) page) }
 {
     let Some(page) = page else {
         return Ok(None);
@@ -85,7 +86,8 @@ fn tree_of_data_page_v2(
     alloc: Global,
     page: Option<DataPageV2>,
 ) -> Result<Option<Tree<'static>>, NoMemory>
-    ensures { IfOk result (λ o. option_map tree_view o ≡ option_map (λ p. data_header_v2_tree (data_page_v2_view p)) page) }
+    ensures { IfOk result (λ o. option_map tree_view o
+        ≡ option_map (λ p. data_header_v2_tree (data_page_v2_view p)) page) }
 {
     let Some(page) = page else {
         return Ok(None);
@@ -109,8 +111,8 @@ fn tree_of_data_page_v2(
     Ok(Some(Tree { fields }))
 }
 
-/// What `tree_of_page` makes is viewed as that header, and without a data page of the second version it is what files are
-/// written with.
+/// What `tree_of_page` makes is viewed as that header, and without a data page of the second version it is what files
+/// are written with.
 pub fn head_is_viewed()
     ensures viewed { HeadIsViewed }
     ensures files { HeadIsThatOfFiles }

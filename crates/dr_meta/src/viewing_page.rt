@@ -15,7 +15,8 @@ use dr_compact::Tree;
 
 /// The page header that a struct holds. Whichever header structs of a type it has must be complete.
 ///
-/// Errors: the first needed field that is missing or out of range, a struct's own before those of the structs inside it.
+/// Errors: the first needed field that is missing or out of range, a struct's own before those of the structs inside
+/// it.
 pub fn view_page(tree: &Tree<'_>) -> Result<PageHead, MetaFault>
     ensures { Gives page_view (metadata.view_page (tree_view tree.now)) result }
 {
@@ -36,7 +37,8 @@ pub fn view_page(tree: &Tree<'_>) -> Result<PageHead, MetaFault>
 }
 
 fn view_data_page(tree: Option<&Tree<'_>>) -> Result<Option<DataPage>, MetaFault>
-    ensures { Gives (option_map data_page_view) (where_there view_data_header (option_map (λ t. tree_view t.now) tree.entry)) result }
+    ensures { Gives (option_map data_page_view)
+        (where_there view_data_header (option_map (λ t. tree_view t.now) tree.entry)) result }
 {
     let Some(tree) = tree else {
         return Ok(None);
@@ -54,7 +56,8 @@ fn view_data_page(tree: Option<&Tree<'_>>) -> Result<Option<DataPage>, MetaFault
 }
 
 fn view_dictionary_page(tree: Option<&Tree<'_>>) -> Result<Option<DictionaryPage>, MetaFault>
-    ensures { Gives (option_map dictionary_page_view) (where_there view_dictionary_header (option_map (λ t. tree_view t.now) tree.entry)) result }
+    ensures { Gives (option_map dictionary_page_view)
+        (where_there view_dictionary_header (option_map (λ t. tree_view t.now) tree.entry)) result }
 {
     let Some(tree) = tree else {
         return Ok(None);
@@ -65,7 +68,8 @@ fn view_dictionary_page(tree: Option<&Tree<'_>>) -> Result<Option<DictionaryPage
 }
 
 fn view_data_page_v2(tree: Option<&Tree<'_>>) -> Result<Option<DataPageV2>, MetaFault>
-    ensures { Gives (option_map data_page_v2_view) (where_there view_data_header_v2 (option_map (λ t. tree_view t.now) tree.entry)) result }
+    ensures { Gives (option_map data_page_v2_view)
+        (where_there view_data_header_v2 (option_map (λ t. tree_view t.now) tree.entry)) result }
 {
     let Some(tree) = tree else {
         return Ok(None);

@@ -16,7 +16,8 @@ use std::alloc::{AllocError, Global};
 
 /// A text before and behind its first dot, if it has one.
 fn cut_once(text: &str) -> Option<(&str, &str)>
-    ensures cut { MatchOption result (path_meaning.cut_at_dots text.now ≡ text.now ∷ []) (λ x. path_meaning.cut_at_dots text.now ≡ x.0.now ∷ path_meaning.cut_at_dots x.1.now) }
+    ensures cut { MatchOption result (path_meaning.cut_at_dots text.now ≡ text.now ∷ [])
+        (λ x. path_meaning.cut_at_dots text.now ≡ x.0.now ∷ path_meaning.cut_at_dots x.1.now) }
     ensures shorter { IfSome result (λ x. length x.1.now < length text.now) }
 {
     text.split_once('.')
@@ -38,7 +39,9 @@ fn cut_at_dots(alloc: Global, text: &str) -> Result<Vec<String>, AllocError>
 
 /// The field of a name in a group, with its place.
 fn find_field<'a>(fields: &'a Vec<Field>, name: &str) -> Option<(usize, &'a Field)>
-    ensures { MatchOption result (path_meaning.named_field name.now 0 (fields_view (fields.now).items) ≡ None) (λ f. path_meaning.named_field name.now 0 (fields_view (fields.now).items) ≡ Some (found_at f.0 (field_view f.1.now))) }
+    ensures { MatchOption result (path_meaning.named_field name.now 0 (fields_view (fields.now).items) ≡ None)
+        (λ f. path_meaning.named_field name.now 0 (fields_view (fields.now).items)
+        ≡ Some (found_at f.0 (field_view f.1.now))) }
 {
     'fields: for (place, field) in fields.iter().enumerate() {
         if name == field.name.as_str() {
@@ -54,7 +57,9 @@ fn enter<'a>(
     name: &str,
     steps: &mut Vec<Step>,
 ) -> Result<&'a Shape, PathFault>
-    ensures { Enters (map step_view (steps.old).items) (path_meaning.named_field name.now 0 (fields_view (fields.now).items)) (map step_view (steps.new).items) result }
+    ensures { Enters (map step_view (steps.old).items)
+        (path_meaning.named_field name.now 0 (fields_view (fields.now).items))
+        (map step_view (steps.new).items) result }
 {
     match find_field(fields, name) {
         None => Err(PathFault::Refused(PathProblem::UnknownField)),
@@ -68,7 +73,9 @@ fn enter<'a>(
 
 /// Goes along the parts of a text below a group: the kind of the leaf there, whose steps join those so far.
 fn walk(fields: &Vec<Field>, text: &str, steps: &mut Vec<Step>) -> Result<Kind, PathFault>
-    ensures { Leads (map step_view (steps.old).items) (path_meaning.find_path (path_meaning.cut_at_dots text.now) (fields_view (fields.now).items)) (map step_view (steps.new).items) result }
+    ensures { Leads (map step_view (steps.old).items)
+        (path_meaning.find_path (path_meaning.cut_at_dots text.now) (fields_view (fields.now).items))
+        (map step_view (steps.new).items) result }
 {
     match cut_once(text) {
         None => {
@@ -92,7 +99,8 @@ fn walk(fields: &Vec<Field>, text: &str, steps: &mut Vec<Step>) -> Result<Kind, 
 ///
 /// Errors: the text, cut at its dots, leads to no field, or to a group; want of memory.
 pub fn find(alloc: Global, schema: &Schema, text: &str) -> Result<Path, PathFault>
-    ensures { Gives path_view path_fault_view (path_meaning.find_leaf text.now (fields_view (schema.now).fields.items)) result }
+    ensures { Gives path_view path_fault_view
+        (path_meaning.find_leaf text.now (fields_view (schema.now).fields.items)) result }
 {
     let mut steps = Vec::new(alloc);
     let kind = walk(&schema.fields, text, &mut steps)?;

@@ -72,7 +72,8 @@ fn is_instance(instance: &Instance, shape: &Shape) -> bool
 /// Whether all of a field's instances are of its shape.
 #[cycle(fitting)]
 fn are_instances(instances: &Vec<Instance>, shape: &Shape) -> bool
-    ensures { result ≡ record_tree.all_instances (record_tree.is_instance (shape_view shape.now)) (instances_view (instances.now).items) }
+    ensures { result ≡ record_tree.all_instances (record_tree.is_instance (shape_view shape.now))
+        (instances_view (instances.now).items) }
 {
     'instances: for instance in instances {
         if !is_instance(instance, shape) {

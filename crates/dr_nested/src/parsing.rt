@@ -46,7 +46,8 @@ fn read_word(
 ) -> Result<(), SchemaFault>
     requires name { list_all tree.continues_name word.now ≡ true }
     requires within { length word.now ≤ end }
-    ensures { ReadsPiece (text_meaning.with_word end word.now) (reading_view reading.old) (reading_view reading.new) result }
+    ensures { ReadsPiece (text_meaning.with_word end word.now) (reading_view reading.old)
+        (reading_view reading.new) result }
 {
     if word.is_empty() {
         return Ok(());
@@ -67,7 +68,8 @@ fn read_byte(
     byte: u8,
     offset: usize,
 ) -> Result<(), SchemaFault>
-    ensures { ReadsPiece (text_meaning.with_byte offset byte) (reading_view reading.old) (reading_view reading.new) result }
+    ensures { ReadsPiece (text_meaning.with_byte offset byte) (reading_view reading.old)
+        (reading_view reading.new) result }
 {
     let outcome = match byte {
         b' ' | b'\t' | b'\r' | b'\n' => return Ok(()),
@@ -92,7 +94,8 @@ fn read_piece(
 ) -> Result<(), SchemaFault>
     requires name { list_all tree.continues_name word.now ≡ true }
     requires within { length word.now ≤ offset }
-    ensures { ReadsPiece (λ ts. text_meaning.with_word offset word.now (text_meaning.with_byte offset byte ts)) (reading_view reading.old) (reading_view reading.new) result }
+    ensures { ReadsPiece (λ ts. text_meaning.with_word offset word.now (text_meaning.with_byte offset byte ts))
+        (reading_view reading.old) (reading_view reading.new) result }
 {
     match read_word(alloc, reading, word, offset) {
         Ok(()) => read_byte(alloc, reading, byte, offset),

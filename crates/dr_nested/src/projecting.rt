@@ -34,7 +34,8 @@ fn project_instances(
     instances: &Vec<Instance>,
     selected: &Selection,
 ) -> Result<Vec<Instance>, AllocError>
-    ensures { IfOk result (λ v. instances_view v.items ≡ kept_all (selection_view selected.now) (instances_view (instances.now).items)) }
+    ensures { IfOk result (λ v. instances_view v.items
+        ≡ kept_all (selection_view selected.now) (instances_view (instances.now).items)) }
 {
     let mut kept = Vec::with_capacity(alloc, instances.len())?;
     'instances: for instance in instances {
@@ -50,7 +51,8 @@ fn project_slot(
     slot: &Slot,
     selected: Option<&Selection>,
 ) -> Result<Slot, AllocError>
-    ensures { IfOk result (λ s. slot_view s ≡ kept_slot (option_map lent_selection selected.entry) (slot_view slot.now)) }
+    ensures { IfOk result (λ s. slot_view s ≡ kept_slot (option_map lent_selection selected.entry)
+        (slot_view slot.now)) }
 {
     match (slot, selected) {
         (Slot::Held(instances), Some(selected)) => {
@@ -77,7 +79,8 @@ fn project_node(alloc: Global, node: &Node, selected: &Selection) -> Result<Node
 ///
 /// Errors: want of memory alone.
 pub fn project(alloc: Global, fields: &[Path], node: &Node) -> Result<Node, NoMemory>
-    ensures { IfOk result (λ n. node_view n ≡ record_tree.project (map (λ (p : Path). (path_view p).path) fields.now) (node_view node.now)) }
+    ensures { IfOk result (λ n. node_view n ≡ record_tree.project (map (λ (p : Path). (path_view p).path) fields.now)
+        (node_view node.now)) }
 {
     let selected = select(alloc, fields)?;
     Ok(project_node(alloc, node, &selected)?)

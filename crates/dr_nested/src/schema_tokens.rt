@@ -59,7 +59,8 @@ impl Reading {
     }
 
     fn on_repetition(&mut self, word: &str) -> Result<(), Stop>
-        ensures { Steps (on_repetition (reading_view self.old) (repetition_of word.now)) (reading_view self.new) result }
+        ensures { Steps (on_repetition (reading_view self.old) (repetition_of word.now))
+            (reading_view self.new) result }
     {
         self.expected = if word == "required" {
             Expected::KindOrGroup(Rep::Required)
@@ -74,7 +75,8 @@ impl Reading {
     }
 
     fn on_kind(&mut self, rep: Rep, word: &str) -> Result<(), Stop>
-        ensures { Steps (on_kind (reading_view self.old) (rep_view rep) word.now (kind_of word.now)) (reading_view self.new) result }
+        ensures { Steps (on_kind (reading_view self.old) (rep_view rep) word.now (kind_of word.now))
+            (reading_view self.new) result }
     {
         self.expected = if word == "boolean" {
             Expected::LeafName(rep, Kind::Bool)
@@ -110,7 +112,8 @@ impl Reading {
     }
 
     fn on_leaf_name(&mut self, alloc: Global, rep: Rep, kind: Kind, word: &str) -> Result<(), Stop>
-        ensures { Steps (on_name (text.leaf_name (rep_view rep) (kind_view kind)) (reading_view self.old) word.now) (reading_view self.new) result }
+        ensures { Steps (on_name (text.leaf_name (rep_view rep) (kind_view kind)) (reading_view self.old) word.now)
+            (reading_view self.new) result }
     {
         if let Some(problem) = self.name_problem(word) {
             return Err(Stop::Problem(problem));
@@ -129,7 +132,8 @@ impl Reading {
     }
 
     fn on_group_name(&mut self, alloc: Global, rep: Rep, word: &str) -> Result<(), Stop>
-        ensures { Steps (on_name (text.group_name (rep_view rep)) (reading_view self.old) word.now) (reading_view self.new) result }
+        ensures { Steps (on_name (text.group_name (rep_view rep)) (reading_view self.old) word.now)
+            (reading_view self.new) result }
     {
         if let Some(problem) = self.name_problem(word) {
             return Err(Stop::Problem(problem));
@@ -165,7 +169,8 @@ impl Reading {
     }
 
     fn begin_group(&mut self, alloc: Global, rep: Rep) -> Result<(), Stop>
-        ensures { Steps (text.begin_group (rep_view rep) (string_bytes (self.old).name) (reading_view self.old)) (reading_view self.new) result }
+        ensures { Steps (text.begin_group (rep_view rep) (string_bytes (self.old).name) (reading_view self.old))
+            (reading_view self.new) result }
     {
         let group = OpenGroup {
             before: mem::replace(&mut self.fields, Vec::new(alloc)),
@@ -196,7 +201,8 @@ impl Reading {
     }
 
     fn end_group(&mut self) -> Result<(), Stop>
-        ensures { Steps (text.end_group (reading_view self.old) ((reading_view self.old).groups)) (reading_view self.new) result }
+        ensures { Steps (text.end_group (reading_view self.old) ((reading_view self.old).groups))
+            (reading_view self.new) result }
     {
         match self.groups.pop() {
             None => {
@@ -234,7 +240,8 @@ impl Reading {
 
     fn add_leaf(&mut self, alloc: Global, rep: Rep, kind: Kind) -> Result<(), Stop>
         requires { (self.old).leaves < 1024 }
-        ensures { Steps (text.add_leaf (rep_view rep) (kind_view kind) (string_bytes (self.old).name) (reading_view self.old)) (reading_view self.new) result }
+        ensures { Steps (text.add_leaf (rep_view rep) (kind_view kind) (string_bytes (self.old).name)
+            (reading_view self.old)) (reading_view self.new) result }
     {
         let name = mem::replace(&mut self.name, String::new(alloc));
         match push_field(
@@ -272,7 +279,8 @@ impl Reading {
 /// Adds a field to a group.
 #[tactic(auto, using(crate::proofs::ViewLemmas::fields_view_append))]
 fn push_field(fields: &mut Vec<Field>, field: Field) -> Result<(), Stop>
-    ensures added { OnOk result (fields_view (fields.new).items ≡ append_fields (fields_view (fields.old).items) (fields_view (field ∷ []))) }
+    ensures added { OnOk result (fields_view (fields.new).items
+        ≡ append_fields (fields_view (fields.old).items) (fields_view (field ∷ []))) }
     ensures memory { IfErr result (λ e. e ≡ Stop.NoMemory) }
 {
     fields.push(field).map_err(|_| Stop::NoMemory)

@@ -38,7 +38,9 @@ fn reach(fields: &mut Vec<Choice>, place: usize) -> Result<(), AllocError>
 /// Takes out what is selected in the field at a place.
 fn take_below(alloc: Global, fields: &mut Vec<Choice>, place: usize) -> Selection
     requires { place < length fields.old.items }
-    ensures below { (F : List (List leads.Step)) → SelectsFirst (choice_view (get_or fields.old.items place Choice.Skipped)) F → Selects (selection_view result) F }
+    ensures below { (F : List (List leads.Step))
+        → SelectsFirst (choice_view (get_or fields.old.items place Choice.Skipped)) F
+        → Selects (selection_view result) F }
     ensures others { fields.new.items ≡ set fields.old.items place Choice.Skipped }
 {
     match mem::replace(&mut fields[place], Choice::Skipped) {
@@ -59,7 +61,8 @@ impl Selection {
 
     /// With one more leaf, by its path.
     fn with_path(self, alloc: Global, path: &[Step]) -> Result<Selection, AllocError>
-        ensures { IfOk result (λ s. (F : List (List leads.Step)) → Selects (selection_view self) F → Selects (selection_view s) (map step_view path.now ∷ F)) }
+        ensures { IfOk result (λ s. (F : List (List leads.Step)) → Selects (selection_view self) F
+            → Selects (selection_view s) (map step_view path.now ∷ F)) }
     {
         let [first, rest @ ..] = path else {
             return Ok(self);

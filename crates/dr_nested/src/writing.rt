@@ -43,7 +43,8 @@ fn write_word(out: &mut String, word: &str) -> Result<(), AllocError>
 /// Appends what follows a field's repetition.
 #[cycle(writing)]
 fn write_shape(out: &mut String, name: &str, shape: &Shape) -> Result<(), AllocError>
-    ensures { OnOk result ((ts : List Token) → string_bytes out.new ++ separated ts ≡ string_bytes out.old ++ separated (shape_tokens (shape_view shape.now) name.now ++ ts)) }
+    ensures { OnOk result ((ts : List Token) → string_bytes out.new ++ separated ts
+        ≡ string_bytes out.old ++ separated (shape_tokens (shape_view shape.now) name.now ++ ts)) }
 {
     match shape {
         Shape::Leaf(kind) => {
@@ -65,7 +66,8 @@ fn write_shape(out: &mut String, name: &str, shape: &Shape) -> Result<(), AllocE
 /// Appends the fields of a group.
 #[cycle(writing)]
 fn write_fields(out: &mut String, fields: &Vec<Field>) -> Result<(), AllocError>
-    ensures { OnOk result ((ts : List Token) → string_bytes out.new ++ separated ts ≡ string_bytes out.old ++ separated (field_tokens (fields_view (fields.now).items) ++ ts)) }
+    ensures { OnOk result ((ts : List Token) → string_bytes out.new ++ separated ts
+        ≡ string_bytes out.old ++ separated (field_tokens (fields_view (fields.now).items) ++ ts)) }
 {
     'fields: for field in fields {
         write_word(out, rep_word(field.rep))?;
@@ -89,7 +91,8 @@ pub fn schema_text(alloc: Global, schema: &Schema) -> Result<String, NoMemory>
 }
 
 fn write_message(out: &mut String, schema: &Schema) -> Result<(), AllocError>
-    ensures { OnOk result (string_bytes out.new ≡ string_bytes out.old ++ text_meaning.schema_text (schema_view schema.now)) }
+    ensures { OnOk result (string_bytes out.new
+        ≡ string_bytes out.old ++ text_meaning.schema_text (schema_view schema.now)) }
 {
     out.push_str("message")?;
     write_word(out, schema.name.as_str())?;

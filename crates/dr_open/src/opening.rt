@@ -1,5 +1,5 @@
-//! The open part of a file's schema. Groups are entered by recursion down to the greatest depth of a path; what is closed is
-//! passed without.
+//! The open part of a file's schema. Groups are entered by recursion down to the greatest depth of a path; what is
+//! closed is passed without.
 
 ghost use Rattle.std.specs.Prelude.{◌≡◌, ◌≤◌, [], ◌∷◌, ◌++◌, List, ℕ, map, length, Some, option_map, option_and_then, OnOk, IfOk, IfSome, IsSome};
 ghost use Rattle.std.specs.Option.{is_some, option_to_list};
@@ -53,9 +53,11 @@ fn fresh_name<'a>(
     earlier: &mut BTreeSet<&'a str>,
     name: &'a [u8],
 ) -> Result<Option<&'a str>, NoMemory>
-    ensures fresh { IfOk result (λ o. (names : List (List ℕ)) → HoldsNames earlier.old names → is_some o ≡ file.is_open_name names name.now) }
+    ensures fresh { IfOk result (λ o. (names : List (List ℕ)) → HoldsNames earlier.old names → is_some o
+        ≡ file.is_open_name names name.now) }
     ensures text { IfOk result (λ o. IfSome o (λ n. n.now ≡ name.now)) }
-    ensures names { OnOk result ((names : List (List ℕ)) → HoldsNames earlier.old names → HoldsNames earlier.new (name.now ∷ names)) }
+    ensures names { OnOk result ((names : List (List ℕ)) → HoldsNames earlier.old names
+        → HoldsNames earlier.new (name.now ∷ names)) }
 {
     match short_name(name) {
         Some(short) => {
@@ -68,7 +70,8 @@ fn fresh_name<'a>(
 
 /// A leaf, if it is open and may still come.
 fn open_leaf(item: &SchemaItem<'_>, room: usize) -> OpenedShape
-    ensures shape { option_map shape_view result.shape ≡ (file.open_leaf (element_kind (item_view item.now)) room).shape }
+    ensures shape { option_map shape_view result.shape
+        ≡ (file.open_leaf (element_kind (item_view item.now)) room).shape }
     ensures left { result.left ≡ (file.open_leaf (element_kind (item_view item.now)) room).left }
     ensures elements { result.elements ≡ 0 }
 {
@@ -117,7 +120,8 @@ fn named(
     rep: Rep,
     shape: Option<Shape>,
 ) -> Result<Option<Field>, AllocError>
-    ensures { IfOk result (λ f. option_map field_view f ≡ named_shape name.now (rep_view rep) (option_map shape_view shape)) }
+    ensures { IfOk result (λ f. option_map field_view f
+        ≡ named_shape name.now (rep_view rep) (option_map shape_view shape)) }
 {
     match shape {
         Some(shape) => {
@@ -130,7 +134,8 @@ fn named(
 
 /// A field behind others, if there is one.
 fn put_field(fields: &mut Vec<Field>, field: Option<Field>) -> Result<(), NoMemory>
-    ensures { OnOk result (map field_view fields.new.items ≡ map field_view fields.old.items ++ option_to_list (option_map field_view field)) }
+    ensures { OnOk result (map field_view fields.new.items
+        ≡ map field_view fields.old.items ++ option_to_list (option_map field_view field)) }
 {
     if let Some(field) = field {
         fields.push(field)?;
@@ -138,7 +143,8 @@ fn put_field(fields: &mut Vec<Field>, field: Option<Field>) -> Result<(), NoMemo
     Ok(())
 }
 
-/// The open part of an element's shape, of paths of at most so many parts from its field on, and of at most so many leaves.
+/// The open part of an element's shape, of paths of at most so many parts from its field on, and of at most so many
+/// leaves.
 #[cycle(opening)]
 fn open_shape(
     alloc: Global,
@@ -148,7 +154,8 @@ fn open_shape(
     room: usize,
 ) -> Result<OpenedShape, NoMemory>
     requires { IsSome (shape_from (item_view item.now) (map item_view behind.now)) }
-    ensures part { IfOk result (λ o. shape_part depth room (item_view item.now) (map item_view behind.now) ≡ Some (shape_part_view o behind.now)) }
+    ensures part { IfOk result (λ o. shape_part depth room (item_view item.now) (map item_view behind.now)
+        ≡ Some (shape_part_view o behind.now)) }
     ensures within { IfOk result (λ o. o.elements ≤ length behind.now) }
 {
     if depth == 0 {
@@ -212,7 +219,8 @@ fn open_fields(
     room: usize,
 ) -> Result<OpenedFields, NoMemory>
     requires { IsSome (passed fields (map item_view items.now)) }
-    ensures part { IfOk result (λ o. fields_part [] depth room fields (map item_view items.now) ≡ Some (fields_part_view o items.now)) }
+    ensures part { IfOk result (λ o. fields_part [] depth room fields (map item_view items.now)
+        ≡ Some (fields_part_view o items.now)) }
     ensures within { IfOk result (λ o. o.elements ≤ length items.now) }
 {
     let mut earlier = BTreeSet::new(alloc);
@@ -240,20 +248,22 @@ fn open_fields(
     })
 }
 
-/// The open part of a file's schema, whose schema elements these are, as a schema: the first 1,024 open leaves in depth-first
-/// order, and the groups that hold one of them, none of them empty; none where no leaf is open. A leaf is open by its type
-/// (BOOLEAN, INT32, INT64, BYTE_ARRAY), its converted type (none of DECIMAL, UINT_32, UINT_64, BSON and INTERVAL), the names on
-/// its path (a letter or `_` and then letters, digits and `_`, at most 64 bytes, each the first of its name in its group), and
-/// its depth (at most 32 parts). The schema's name is that of the root, or `Records` where that is no such name.
+/// The open part of a file's schema, whose schema elements these are, as a schema: the first 1,024 open leaves in
+/// depth-first order, and the groups that hold one of them, none of them empty; none where no leaf is open. A leaf is
+/// open by its type (BOOLEAN, INT32, INT64, BYTE_ARRAY), its converted type (none of DECIMAL, UINT_32, UINT_64, BSON
+/// and INTERVAL), the names on its path (a letter or `_` and then letters, digits and `_`, at most 64 bytes, each the
+/// first of its name in its group), and its depth (at most 32 parts). The schema's name is that of the root, or
+/// `Records` where that is no such name.
 ///
-/// The list is gone through once, with a look-up for each name; the recursion is as deep as a path of 32 parts, since what is
-/// closed is passed without.
+/// The list is gone through once, with a look-up for each name; the recursion is as deep as a path of 32 parts, since
+/// what is closed is passed without.
 ///
 /// Errors: want of memory alone.
 pub fn open_schema(alloc: Global, items: &[SchemaItem<'_>]) -> Result<Option<Schema>, NoMemory>
     // The elements are one tree, as where `dr_meta::count_leaves` gives a number.
     requires { IsSome (file.file_schema (map item_view items.now)) }
-    ensures { IfOk result (λ s. option_map schema_view s ≡ option_and_then file.open_schema (file.file_schema (map item_view items.now))) }
+    ensures { IfOk result (λ s. option_map schema_view s
+        ≡ option_and_then file.open_schema (file.file_schema (map item_view items.now))) }
 {
     let Some((root, rest)) = items.split_first() else {
         return Ok(None);

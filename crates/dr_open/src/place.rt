@@ -24,7 +24,8 @@ fn is_here(item: &SchemaItem<'_>, names: &[String], steps: &[Step], kind: Kind) 
 
 /// Whether a path goes on at the first field of this name: the name is open, and the repetition the same.
 fn is_on_way(item: &SchemaItem<'_>, name: &[u8], rep: Rep) -> bool
-    ensures { result ≡ (tree.is_short_name name.now && is_repetition (rep_view rep) (repetition_from item.now.repetition)) }
+    ensures { result ≡ (tree.is_short_name name.now && is_repetition (rep_view rep)
+        (repetition_from item.now.repetition)) }
 {
     is_short_name(name) && has_repetition(item, rep)
 }
@@ -39,7 +40,8 @@ fn place_below(
     kind: Kind,
 ) -> Option<usize>
     requires { IsSome (shape_from (item_view item.now) (map item_view behind.now)) }
-    ensures place { result ≡ place_in_shape (leaf_view names.now steps.now kind) (item_view item.now) (map item_view behind.now) }
+    ensures place { result ≡ place_in_shape (leaf_view names.now steps.now kind) (item_view item.now)
+        (map item_view behind.now) }
     ensures within { IfSome result (λ i. i ≤ length behind.now) }
 {
     match group_size(item) {
@@ -73,9 +75,9 @@ fn place_in_group(
     Some(found.before + inside)
 }
 
-/// The place of a schema's leaf among the leaves of a file, whose schema elements these are: from 0, in depth-first order. It
-/// is the leaf of the same names on its path, with the same repetition at each, and of the same kind; in each group on the way
-/// only the first field of a name is open, so there is one at most. None where there is no such leaf.
+/// The place of a schema's leaf among the leaves of a file, whose schema elements these are: from 0, in depth-first
+/// order. It is the leaf of the same names on its path, with the same repetition at each, and of the same kind; in each
+/// group on the way only the first field of a name is open, so there is one at most. None where there is no such leaf.
 ///
 /// The list is gone through once, up to the leaf; of the path's parts, at most 32, each is one level of recursion.
 pub fn leaf_place(items: &[SchemaItem<'_>], path: &Path) -> Option<usize>

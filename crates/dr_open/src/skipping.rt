@@ -47,7 +47,8 @@ pub(crate) fn skip_fields(fields: u64, items: &[SchemaItem<'_>]) -> Skipped
 /// How many elements are below an element: those of its fields, where it is a group.
 pub(crate) fn elements_below(item: &SchemaItem<'_>, behind: &[SchemaItem<'_>]) -> usize
     requires { IsSome (shape_from (item_view item.now) (map item_view behind.now)) }
-    ensures behind { behind_shape (item_view item.now) (map item_view behind.now) ≡ Some (map item_view (drop result behind.now)) }
+    ensures behind { behind_shape (item_view item.now) (map item_view behind.now)
+        ≡ Some (map item_view (drop result behind.now)) }
     ensures within { result ≤ length behind.now }
 {
     match group_size(item) {
@@ -65,7 +66,8 @@ pub(crate) fn field_named<'t, 'a>(
     requires { IsSome (passed fields (map item_view items.now)) }
 
     ensures none { IfNone result (HasNoLeaf name.now fields (map item_view items.now)) }
-    ensures some { IfSome result (λ f. HasLeavesIn name.now fields (map item_view items.now) f.before (item_view f.item.now) (map item_view f.behind.now)) }
+    ensures some { IfSome result (λ f. HasLeavesIn name.now fields (map item_view items.now) f.before
+        (item_view f.item.now) (map item_view f.behind.now)) }
     ensures name { IfSome result (λ f. f.item.now.name.now ≡ name.now) }
     ensures shape { IfSome result (λ f. IsSome (shape_from (item_view f.item.now) (map item_view f.behind.now))) }
     ensures within { IfSome result (λ f. f.before + length f.behind.now < length items.now) }

@@ -6,13 +6,16 @@ use crate::{Fault, Link};
 
 /// Files that are read by ranges, and replaced as a whole.
 pub trait Keeper: Link {
-    /// Replaces the bytes at a path. After a refusal that path may hold any bytes, or none. Where memory is wanting, it isn't told as a put.
+    /// Replaces the bytes at a path. After a refusal that path may hold any bytes, or none. Where memory is wanting, it
+    /// isn't told as a put.
     fn put(&mut self, path: &str, bytes: &[u8]) -> Result<(), Fault>
-        ensures placed { OnOk result (HasFile (Self.shows self.old).held (Self.shows self.new).held path.now bytes.now) }
+        ensures placed { OnOk result (HasFile (Self.shows self.old).held
+            (Self.shows self.new).held path.now bytes.now) }
         ensures others { SameElsewhere (Self.shows self.old).held (Self.shows self.new).held path.now }
         ensures steady { IsTrue (Self.shows self.old).is_steady → result ≢ Err Fault.Failed }
 
-        ensures put { result ≢ Err Fault.NoMemory → (Self.shows self.new).puts ≡ with_put (Self.shows self.old).puts (record { path = path.now; bytes = bytes.now }) }
+        ensures put { result ≢ Err Fault.NoMemory → (Self.shows self.new).puts
+            ≡ with_put (Self.shows self.old).puts (record { path = path.now; bytes = bytes.now }) }
         ensures not_put { result ≡ Err Fault.NoMemory → (Self.shows self.new).puts ≡ (Self.shows self.old).puts }
         ensures asked { (Self.shows self.new).asked ≡ (Self.shows self.old).asked }
         ensures cause { result ≡ Err Fault.Failed → (Self.shows self.new).faults ≡ raised (Self.shows self.old).faults }

@@ -69,7 +69,8 @@ impl<'a> MemLink<'a> {
 
     // Notes that a range was asked for.
     fn note_range(&mut self, path: &str, start: u64, len: usize) -> Result<(), AllocError>
-        ensures noted { OnOk result (requests_of self.new ≡ requests_of self.old ++ bytes_of (record { path = path.now; start = start; len = len }) ∷ []) }
+        ensures noted { OnOk result (requests_of self.new
+            ≡ requests_of self.old ++ bytes_of (record { path = path.now; start = start; len = len }) ∷ []) }
         ensures stays { OnErr result (requests_of self.new ≡ requests_of self.old) }
         ensures shelf { shelf_of self.new ≡ shelf_of self.old }
         ensures failing { link_failing self.new ≡ link_failing self.old }
@@ -93,21 +94,28 @@ impl Link for MemLink<'_> {
     /// Fails exactly at the listed calls and where the path isn't held.
     fn size(&mut self, path: &str) -> Result<u64, Fault>
         ensures bytes { IfOk result (λ n. HasSize (Some (files_of (shelf_of self.old))) path.now n) }
-        ensures absent { Lacks (Some (files_of (shelf_of self.old))) path.now → result ≢ Err Fault.NoMemory → result ≡ Err Fault.Failed }
-        ensures steady { IsTrue (is_quiet (link_failing self.old)) → Holds (Some (files_of (shelf_of self.old))) path.now → result ≢ Err Fault.Failed }
+        ensures absent { Lacks (Some (files_of (shelf_of self.old))) path.now → result ≢ Err Fault.NoMemory → result
+            ≡ Err Fault.Failed }
+        ensures steady { IsTrue (is_quiet (link_failing self.old))
+            → Holds (Some (files_of (shelf_of self.old))) path.now → result ≢ Err Fault.Failed }
         ensures same { (Some (files_of (shelf_of self.new))) ≡ (Some (files_of (shelf_of self.old))) }
         ensures puts { no_puts ≡ no_puts }
-        ensures asked { result ≢ Err Fault.NoMemory → (Some (requests_of self.new)) ≡ with_request (Some (requests_of self.old)) (size_of path.now) }
-        ensures not_asked { result ≡ Err Fault.NoMemory → (Some (requests_of self.new)) ≡ (Some (requests_of self.old)) }
-        ensures cause { result ≡ Err Fault.Failed → (link_failing self.new).faults ≡ raised (link_failing self.old).faults }
+        ensures asked { result ≢ Err Fault.NoMemory → (Some (requests_of self.new))
+            ≡ with_request (Some (requests_of self.old)) (size_of path.now) }
+        ensures not_asked { result ≡ Err Fault.NoMemory → (Some (requests_of self.new))
+            ≡ (Some (requests_of self.old)) }
+        ensures cause { result ≡ Err Fault.Failed → (link_failing self.new).faults
+            ≡ raised (link_failing self.old).faults }
         ensures calm { result ≢ Err Fault.Failed → (link_failing self.new).faults ≡ (link_failing self.old).faults }
         ensures never_falls { (link_failing self.old).faults ≤ (link_failing self.new).faults }
         ensures stays_steady { IsTrue (is_quiet (link_failing self.old)) → IsTrue (is_quiet (link_failing self.new)) }
 
         // What is said of this link alone.
         ensures due { is_due (link_failing self.old) ≡ true → result ≢ Err Fault.NoMemory → result ≡ Err Fault.Failed }
-        ensures spared { is_due (link_failing self.old) ≡ false → Holds (Some (files_of (shelf_of self.old))) path.now → result ≢ Err Fault.Failed }
-        ensures called { result ≢ Err Fault.NoMemory → (link_failing self.new).calls ≡ raised (link_failing self.old).calls }
+        ensures spared { is_due (link_failing self.old) ≡ false → Holds (Some (files_of (shelf_of self.old))) path.now
+            → result ≢ Err Fault.Failed }
+        ensures called { result ≢ Err Fault.NoMemory → (link_failing self.new).calls
+            ≡ raised (link_failing self.old).calls }
         ensures listed { (link_failing self.new).listed ≡ (link_failing self.old).listed }
     {
         self.note_size(path)?;
@@ -126,21 +134,32 @@ impl Link for MemLink<'_> {
     /// Fails exactly at the listed calls and where the range isn't held.
     fn read_at(&mut self, path: &str, at: u64, buf: &mut [u8]) -> Result<(), Fault>
         ensures bytes { OnOk result (HasBytes (Some (files_of (shelf_of self.old))) path.now at buf.new) }
-        ensures absent { LacksRange (Some (files_of (shelf_of self.old))) (record { path = path.now; start = at; len = length buf.old }) → result ≢ Err Fault.NoMemory → result ≡ Err Fault.Failed }
-        ensures steady { IsTrue (is_quiet (link_failing self.old)) → HasRange (Some (files_of (shelf_of self.old))) (record { path = path.now; start = at; len = length buf.old }) → result ≢ Err Fault.Failed }
+        ensures absent { LacksRange (Some (files_of (shelf_of self.old)))
+            (record { path = path.now; start = at; len = length buf.old }) → result ≢ Err Fault.NoMemory → result
+            ≡ Err Fault.Failed }
+        ensures steady { IsTrue (is_quiet (link_failing self.old))
+            → HasRange (Some (files_of (shelf_of self.old)))
+            (record { path = path.now; start = at; len = length buf.old }) → result ≢ Err Fault.Failed }
         ensures same { (Some (files_of (shelf_of self.new))) ≡ (Some (files_of (shelf_of self.old))) }
         ensures puts { no_puts ≡ no_puts }
-        ensures asked { result ≢ Err Fault.NoMemory → (Some (requests_of self.new)) ≡ with_request (Some (requests_of self.old)) (bytes_of (record { path = path.now; start = at; len = length buf.old })) }
-        ensures not_asked { result ≡ Err Fault.NoMemory → (Some (requests_of self.new)) ≡ (Some (requests_of self.old)) }
-        ensures cause { result ≡ Err Fault.Failed → (link_failing self.new).faults ≡ raised (link_failing self.old).faults }
+        ensures asked { result ≢ Err Fault.NoMemory → (Some (requests_of self.new))
+            ≡ with_request (Some (requests_of self.old))
+            (bytes_of (record { path = path.now; start = at; len = length buf.old })) }
+        ensures not_asked { result ≡ Err Fault.NoMemory → (Some (requests_of self.new))
+            ≡ (Some (requests_of self.old)) }
+        ensures cause { result ≡ Err Fault.Failed → (link_failing self.new).faults
+            ≡ raised (link_failing self.old).faults }
         ensures calm { result ≢ Err Fault.Failed → (link_failing self.new).faults ≡ (link_failing self.old).faults }
         ensures never_falls { (link_failing self.old).faults ≤ (link_failing self.new).faults }
         ensures stays_steady { IsTrue (is_quiet (link_failing self.old)) → IsTrue (is_quiet (link_failing self.new)) }
 
         // What is said of this link alone.
         ensures due { is_due (link_failing self.old) ≡ true → result ≢ Err Fault.NoMemory → result ≡ Err Fault.Failed }
-        ensures spared { is_due (link_failing self.old) ≡ false → HasRange (Some (files_of (shelf_of self.old))) (record { path = path.now; start = at; len = length buf.old }) → result ≢ Err Fault.Failed }
-        ensures called { result ≢ Err Fault.NoMemory → (link_failing self.new).calls ≡ raised (link_failing self.old).calls }
+        ensures spared { is_due (link_failing self.old) ≡ false
+            → HasRange (Some (files_of (shelf_of self.old)))
+            (record { path = path.now; start = at; len = length buf.old }) → result ≢ Err Fault.Failed }
+        ensures called { result ≢ Err Fault.NoMemory → (link_failing self.new).calls
+            ≡ raised (link_failing self.old).calls }
         ensures listed { (link_failing self.new).listed ≡ (link_failing self.old).listed }
     {
         self.note_range(path, at, buf.len())?;

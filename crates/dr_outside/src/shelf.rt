@@ -112,21 +112,26 @@ impl Link for Shelf {
     /// Fails exactly at the listed calls and where the path isn't held.
     fn size(&mut self, path: &str) -> Result<u64, Fault>
         ensures bytes { IfOk result (λ n. HasSize (Some (files_of self.old)) path.now n) }
-        ensures absent { Lacks (Some (files_of self.old)) path.now → result ≢ Err Fault.NoMemory → result ≡ Err Fault.Failed }
-        ensures steady { IsTrue (is_quiet (shelf_failing self.old)) → Holds (Some (files_of self.old)) path.now → result ≢ Err Fault.Failed }
+        ensures absent { Lacks (Some (files_of self.old)) path.now → result ≢ Err Fault.NoMemory → result
+            ≡ Err Fault.Failed }
+        ensures steady { IsTrue (is_quiet (shelf_failing self.old)) → Holds (Some (files_of self.old)) path.now → result
+            ≢ Err Fault.Failed }
         ensures same { (Some (files_of self.new)) ≡ (Some (files_of self.old)) }
         ensures puts { Some (puts_of self.new) ≡ Some (puts_of self.old) }
         ensures asked { result ≢ Err Fault.NoMemory → unknown ≡ with_request unknown (size_of path.now) }
         ensures not_asked { result ≡ Err Fault.NoMemory → unknown ≡ unknown }
-        ensures cause { result ≡ Err Fault.Failed → (shelf_failing self.new).faults ≡ raised (shelf_failing self.old).faults }
+        ensures cause { result ≡ Err Fault.Failed → (shelf_failing self.new).faults
+            ≡ raised (shelf_failing self.old).faults }
         ensures calm { result ≢ Err Fault.Failed → (shelf_failing self.new).faults ≡ (shelf_failing self.old).faults }
         ensures never_falls { (shelf_failing self.old).faults ≤ (shelf_failing self.new).faults }
         ensures stays_steady { IsTrue (is_quiet (shelf_failing self.old)) → IsTrue (is_quiet (shelf_failing self.new)) }
 
         // What is said of this shelf alone.
         ensures due { is_due (shelf_failing self.old) ≡ true → result ≢ Err Fault.NoMemory → result ≡ Err Fault.Failed }
-        ensures spared { is_due (shelf_failing self.old) ≡ false → Holds (Some (files_of self.old)) path.now → result ≢ Err Fault.Failed }
-        ensures called { result ≢ Err Fault.NoMemory → (shelf_failing self.new).calls ≡ raised (shelf_failing self.old).calls }
+        ensures spared { is_due (shelf_failing self.old) ≡ false → Holds (Some (files_of self.old)) path.now → result
+            ≢ Err Fault.Failed }
+        ensures called { result ≢ Err Fault.NoMemory → (shelf_failing self.new).calls
+            ≡ raised (shelf_failing self.old).calls }
         ensures listed { (shelf_failing self.new).listed ≡ (shelf_failing self.old).listed }
         ensures memory { result ≢ Err Fault.NoMemory }
     {
@@ -145,21 +150,30 @@ impl Link for Shelf {
     /// Fails exactly at the listed calls and where the range isn't held.
     fn read_at(&mut self, path: &str, at: u64, buf: &mut [u8]) -> Result<(), Fault>
         ensures bytes { OnOk result (HasBytes (Some (files_of self.old)) path.now at buf.new) }
-        ensures absent { LacksRange (Some (files_of self.old)) (record { path = path.now; start = at; len = length buf.old }) → result ≢ Err Fault.NoMemory → result ≡ Err Fault.Failed }
-        ensures steady { IsTrue (is_quiet (shelf_failing self.old)) → HasRange (Some (files_of self.old)) (record { path = path.now; start = at; len = length buf.old }) → result ≢ Err Fault.Failed }
+        ensures absent { LacksRange (Some (files_of self.old))
+            (record { path = path.now; start = at; len = length buf.old }) → result ≢ Err Fault.NoMemory → result
+            ≡ Err Fault.Failed }
+        ensures steady { IsTrue (is_quiet (shelf_failing self.old))
+            → HasRange (Some (files_of self.old)) (record { path = path.now; start = at; len = length buf.old })
+            → result ≢ Err Fault.Failed }
         ensures same { (Some (files_of self.new)) ≡ (Some (files_of self.old)) }
         ensures puts { Some (puts_of self.new) ≡ Some (puts_of self.old) }
-        ensures asked { result ≢ Err Fault.NoMemory → unknown ≡ with_request unknown (bytes_of (record { path = path.now; start = at; len = length buf.old })) }
+        ensures asked { result ≢ Err Fault.NoMemory → unknown
+            ≡ with_request unknown (bytes_of (record { path = path.now; start = at; len = length buf.old })) }
         ensures not_asked { result ≡ Err Fault.NoMemory → unknown ≡ unknown }
-        ensures cause { result ≡ Err Fault.Failed → (shelf_failing self.new).faults ≡ raised (shelf_failing self.old).faults }
+        ensures cause { result ≡ Err Fault.Failed → (shelf_failing self.new).faults
+            ≡ raised (shelf_failing self.old).faults }
         ensures calm { result ≢ Err Fault.Failed → (shelf_failing self.new).faults ≡ (shelf_failing self.old).faults }
         ensures never_falls { (shelf_failing self.old).faults ≤ (shelf_failing self.new).faults }
         ensures stays_steady { IsTrue (is_quiet (shelf_failing self.old)) → IsTrue (is_quiet (shelf_failing self.new)) }
 
         // What is said of this shelf alone.
         ensures due { is_due (shelf_failing self.old) ≡ true → result ≢ Err Fault.NoMemory → result ≡ Err Fault.Failed }
-        ensures spared { is_due (shelf_failing self.old) ≡ false → HasRange (Some (files_of self.old)) (record { path = path.now; start = at; len = length buf.old }) → result ≢ Err Fault.Failed }
-        ensures called { result ≢ Err Fault.NoMemory → (shelf_failing self.new).calls ≡ raised (shelf_failing self.old).calls }
+        ensures spared { is_due (shelf_failing self.old) ≡ false
+            → HasRange (Some (files_of self.old)) (record { path = path.now; start = at; len = length buf.old })
+            → result ≢ Err Fault.Failed }
+        ensures called { result ≢ Err Fault.NoMemory → (shelf_failing self.new).calls
+            ≡ raised (shelf_failing self.old).calls }
         ensures listed { (shelf_failing self.new).listed ≡ (shelf_failing self.old).listed }
         ensures memory { result ≢ Err Fault.NoMemory }
     {
@@ -192,13 +206,16 @@ impl Keeper for Shelf {
 
     /// Fails exactly at the listed calls.
     fn put(&mut self, path: &str, bytes: &[u8]) -> Result<(), Fault>
-        ensures placed { OnOk result (HasFile (Some (files_of self.old)) (Some (files_of self.new)) path.now bytes.now) }
+        ensures placed { OnOk result (HasFile (Some (files_of self.old))
+            (Some (files_of self.new)) path.now bytes.now) }
         ensures others { SameElsewhere (Some (files_of self.old)) (Some (files_of self.new)) path.now }
         ensures steady { IsTrue (is_quiet (shelf_failing self.old)) → result ≢ Err Fault.Failed }
-        ensures put { result ≢ Err Fault.NoMemory → Some (puts_of self.new) ≡ with_put (Some (puts_of self.old)) (record { path = path.now; bytes = bytes.now }) }
+        ensures put { result ≢ Err Fault.NoMemory → Some (puts_of self.new)
+            ≡ with_put (Some (puts_of self.old)) (record { path = path.now; bytes = bytes.now }) }
         ensures not_put { result ≡ Err Fault.NoMemory → Some (puts_of self.new) ≡ Some (puts_of self.old) }
         ensures asked { unknown ≡ unknown }
-        ensures cause { result ≡ Err Fault.Failed → (shelf_failing self.new).faults ≡ raised (shelf_failing self.old).faults }
+        ensures cause { result ≡ Err Fault.Failed → (shelf_failing self.new).faults
+            ≡ raised (shelf_failing self.old).faults }
         ensures calm { result ≢ Err Fault.Failed → (shelf_failing self.new).faults ≡ (shelf_failing self.old).faults }
         ensures never_falls { (shelf_failing self.old).faults ≤ (shelf_failing self.new).faults }
         ensures stays_steady { IsTrue (is_quiet (shelf_failing self.old)) → IsTrue (is_quiet (shelf_failing self.new)) }
@@ -207,7 +224,8 @@ impl Keeper for Shelf {
         ensures due { is_due (shelf_failing self.old) ≡ true → result ≢ Err Fault.NoMemory → result ≡ Err Fault.Failed }
         ensures spared { is_due (shelf_failing self.old) ≡ false → result ≢ Err Fault.Failed }
         ensures counted { result ≢ Err Fault.NoMemory → shelf_failing self.new ≡ after_call (shelf_failing self.old) }
-        ensures stays { result ≡ Err Fault.NoMemory → (other : List ℕ) → files_of self.new other ≡ files_of self.old other }
+        ensures stays { result ≡ Err Fault.NoMemory → (other : List ℕ) → files_of self.new other
+            ≡ files_of self.old other }
     {
         let key = String::from_str(self.alloc, path)?;
         let put = Put {

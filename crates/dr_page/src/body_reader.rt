@@ -43,10 +43,11 @@ impl BodyReader {
         }
     }
 
-    /// Appends the triplets that the body of a data page spells to a column of its leaf; bytes behind the needed ones are ignored. The
-    /// number of triplets that the shape tells is believed only as far as the bytes spell it.
+    /// Appends the triplets that the body of a data page spells to a column of its leaf; bytes behind the needed ones
+    /// are ignored. The number of triplets that the shape tells is believed only as far as the bytes spell it.
     ///
-    /// Errors: the bytes spell no triplets of the shape; want of memory, or of room for texts. The column is then as it was.
+    /// Errors: the bytes spell no triplets of the shape; want of memory, or of room for texts. The column is then as it
+    /// was.
     pub fn read(
         &mut self,
         shape: &Shape,
@@ -56,8 +57,10 @@ impl BodyReader {
     ) -> Result<(), PageFault>
         requires form { column_form out.old ≡ shape_form shape.now }
         requires dictionary { is_dictionary_of (kind_view (shape.now).kind) dictionary.now ≡ true }
-        ensures read { OnOk result (Joins (page_triplets (shape_view shape.now) (dictionary_view dictionary.now) bytes.now) (column_view out.old) (column_view out.new)) }
-        ensures bad { IfErr result (λ e. WhereNone e (page_triplets (shape_view shape.now) (dictionary_view dictionary.now) bytes.now)) }
+        ensures read { OnOk result (Joins (page_triplets (shape_view shape.now)
+            (dictionary_view dictionary.now) bytes.now) (column_view out.old) (column_view out.new)) }
+        ensures bad { IfErr result (λ e. WhereNone e
+            (page_triplets (shape_view shape.now) (dictionary_view dictionary.now) bytes.now)) }
         ensures stays { OnErr result (column_view out.new ≡ column_view out.old) }
         ensures form { column_form out.new ≡ column_form out.old }
     {
@@ -81,8 +84,11 @@ impl BodyReader {
         requires form { column_form out.old ≡ shape_form shape.now }
         requires dictionary { is_dictionary_of (kind_view (shape.now).kind) dictionary.now ≡ true }
         requires levels { AreLevels shape.now self.old }
-        ensures read { OnOk result (Joins (triplets_behind (shape_view shape.now) (dictionary_view dictionary.now) (reader_levels shape.now self.old) bytes.now) (column_view out.old) (column_view out.new)) }
-        ensures bad { IfErr result (λ e. WhereNone e (triplets_behind (shape_view shape.now) (dictionary_view dictionary.now) (reader_levels shape.now self.old) bytes.now)) }
+        ensures read { OnOk result (Joins (triplets_behind (shape_view shape.now) (dictionary_view dictionary.now)
+            (reader_levels shape.now self.old) bytes.now) (column_view out.old) (column_view out.new)) }
+        ensures bad { IfErr result (λ e. WhereNone e
+            (triplets_behind (shape_view shape.now) (dictionary_view dictionary.now)
+            (reader_levels shape.now self.old) bytes.now)) }
         ensures stays { OnErr result (column_view out.new ≡ column_view out.old) }
         ensures form { column_form out.new ≡ column_form out.old }
     {
@@ -111,8 +117,11 @@ impl BodyReader {
         requires form { column_form out.old ≡ shape_form shape.now }
         requires dictionary { is_dictionary_of (kind_view (shape.now).kind) dictionary.now ≡ true }
         requires levels { AreLevels shape.now self.old }
-        ensures read { OnOk result (Joins (triplets_behind (shape_view shape.now) (dictionary_view dictionary.now) (reader_levels shape.now self.old) bytes.now) (column_view out.old) (column_view out.new)) }
-        ensures bad { IfErr result (λ e. WhereNone e (triplets_behind (shape_view shape.now) (dictionary_view dictionary.now) (reader_levels shape.now self.old) bytes.now)) }
+        ensures read { OnOk result (Joins (triplets_behind (shape_view shape.now) (dictionary_view dictionary.now)
+            (reader_levels shape.now self.old) bytes.now) (column_view out.old) (column_view out.new)) }
+        ensures bad { IfErr result (λ e. WhereNone e
+            (triplets_behind (shape_view shape.now) (dictionary_view dictionary.now)
+            (reader_levels shape.now self.old) bytes.now)) }
         ensures stays { OnErr result (column_view out.new ≡ column_view out.old) }
         ensures form { column_form out.new ≡ column_form out.old }
     {
@@ -142,8 +151,11 @@ impl BodyReader {
         requires form { column_form out.old ≡ shape_form shape.now }
         requires dictionary { is_dictionary_of (kind_view (shape.now).kind) dictionary.now ≡ true }
         requires levels { AreLevels shape.now self.old }
-        ensures read { OnOk result (Joins (triplets_behind (shape_view shape.now) (dictionary_view dictionary.now) (reader_levels shape.now self.old) bytes.now) (column_view out.old) (column_view out.new)) }
-        ensures bad { IfErr result (λ e. WhereNone e (triplets_behind (shape_view shape.now) (dictionary_view dictionary.now) (reader_levels shape.now self.old) bytes.now)) }
+        ensures read { OnOk result (Joins (triplets_behind (shape_view shape.now) (dictionary_view dictionary.now)
+            (reader_levels shape.now self.old) bytes.now) (column_view out.old) (column_view out.new)) }
+        ensures bad { IfErr result (λ e. WhereNone e
+            (triplets_behind (shape_view shape.now) (dictionary_view dictionary.now)
+            (reader_levels shape.now self.old) bytes.now)) }
         ensures stays { OnErr result (column_view out.new ≡ column_view out.old) }
         ensures form { column_form out.new ≡ column_form out.old }
     {

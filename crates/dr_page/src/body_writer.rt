@@ -25,8 +25,8 @@ impl BodyWriter {
         }
     }
 
-    /// Appends the body that is written for a stretch of a column's triplets, whose leaf has this greatest repetition level: level parts in
-    /// hybrid data, values in PLAIN.
+    /// Appends the body that is written for a stretch of a column's triplets, whose leaf has this greatest repetition
+    /// level: level parts in hybrid data, values in PLAIN.
     ///
     /// Errors: want of memory alone; the bytes are then as they were.
     pub fn write(
@@ -38,7 +38,9 @@ impl BodyWriter {
         requires repetition { max_repetition ≤ 32 }
         requires definition { (triplets_form triplets).greatest ≤ 32 }
         requires writable { AreWritable max_repetition triplets }
-        ensures written { OnOk result ((out.new).items ≡ (out.old).items ++ body_bytes (triplets_form triplets.entry).kind max_repetition (triplets_form triplets.entry).greatest (triplets_view triplets.entry)) }
+        ensures written { OnOk result ((out.new).items
+            ≡ (out.old).items ++ body_bytes (triplets_form triplets.entry).kind max_repetition
+            (triplets_form triplets.entry).greatest (triplets_view triplets.entry)) }
         ensures stays { OnErr result ((out.new).items ≡ (out.old).items) }
     {
         let start = out.len();
@@ -59,7 +61,9 @@ impl BodyWriter {
         requires repetition { max_repetition ≤ 32 }
         requires definition { (triplets_form triplets).greatest ≤ 32 }
         requires writable { AreWritable max_repetition triplets }
-        ensures { Writes (body_bytes (triplets_form triplets.entry).kind max_repetition (triplets_form triplets.entry).greatest (triplets_view triplets.entry)) (out.old).items (out.new).items result }
+        ensures { Writes (body_bytes (triplets_form triplets.entry).kind max_repetition
+            (triplets_form triplets.entry).greatest (triplets_view triplets.entry)) (out.old).items
+            (out.new).items result }
     {
         let levels = triplets.levels();
         let greatest = triplets.greatest_definition();

@@ -27,7 +27,8 @@ pub(crate) enum Entries {
     Texts(Texts),
 }
 
-/// The values of a chunk's dictionary, to which its pages refer by their places (Apache Parquet, "Dictionary Encoding").
+/// The values of a chunk's dictionary, to which its pages refer by their places (Apache Parquet, "Dictionary
+/// Encoding").
 #[derive(Debug, Drop)]
 pub struct Dictionary {
     pub(crate) entries: Entries,
@@ -59,7 +60,8 @@ impl Dictionary {
         Dictionary { entries }
     }
 
-    /// The dictionary of so many values of a kind that the body of a dictionary page spells, in PLAIN. It keeps the body.
+    /// The dictionary of so many values of a kind that the body of a dictionary page spells, in PLAIN. It keeps the
+    /// body.
     ///
     /// Errors: the body begins with no such values; want of memory.
     pub fn read(

@@ -9,8 +9,8 @@ use crate::fault::PageFault;
 use crate::run_appending::append_values;
 use dr_hybrid::{GREATEST_WIDTH, Runs};
 
-/// Puts the indices with which bytes begin into the place of others, as many as are wanted: a byte of width and hybrid data. Where none
-/// is wanted no byte is needed.
+/// Puts the indices with which bytes begin into the place of others, as many as are wanted: a byte of width and hybrid
+/// data. Where none is wanted no byte is needed.
 pub(crate) fn read_indices(bytes: &[u8], count: usize, out: &mut Vec<u32>) -> Result<(), PageFault>
     ensures { Reads (indices_ahead count bytes.now) (out.new).items result }
 {
@@ -26,7 +26,8 @@ pub(crate) fn read_indices(bytes: &[u8], count: usize, out: &mut Vec<u32>) -> Re
     }
 }
 
-/// Puts the values of a width of at most 32 bits with which bytes begin into the place of others, as many as are wanted.
+/// Puts the values of a width of at most 32 bits with which bytes begin into the place of others, as many as are
+/// wanted.
 fn read_runs(bytes: &[u8], width: u32, count: usize, out: &mut Vec<u32>) -> Result<(), PageFault>
     requires { width ≤ 32 }
     ensures { Reads (hybrid width count bytes.now) (out.new).items result }

@@ -16,8 +16,8 @@ use dr_bytes::Cut;
 /// The bytes of the length before a part.
 pub(crate) const LENGTH_BYTES: usize = 4;
 
-/// Puts the levels with which a body goes on into the place of others, and answers the bytes behind them. Where the greatest level is 0
-/// there are no bytes of them, and they are left out: all would be 0.
+/// Puts the levels with which a body goes on into the place of others, and answers the bytes behind them. Where the
+/// greatest level is 0 there are no bytes of them, and they are left out: all would be 0.
 pub(crate) fn read_levels<'a>(
     bytes: &'a [u8],
     greatest: u8,
@@ -26,7 +26,8 @@ pub(crate) fn read_levels<'a>(
     out: &mut Vec<u8>,
 ) -> Result<&'a [u8], PageFault>
     requires { greatest ≤ 32 }
-    ensures read { IfOk result (λ rest. page.levels greatest encoding count bytes.now ≡ got (expanded greatest count (out.new).items) rest.now) }
+    ensures read { IfOk result (λ rest. page.levels greatest encoding count bytes.now
+        ≡ got (expanded greatest count (out.new).items) rest.now) }
     ensures bad { IfErr result (λ e. WhereBad e (page.levels greatest encoding count bytes.now)) }
     ensures count { OnOk result (length (expanded greatest count (out.new).items) ≡ count) }
 {

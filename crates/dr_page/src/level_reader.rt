@@ -16,8 +16,8 @@ use dr_levels::Levels;
 use dr_memory::NoMemory;
 use std::alloc::Global;
 
-/// The levels of a page, in vectors that are used again page after page. Where the greatest level is 0, levels are left out until
-/// the pairs are made.
+/// The levels of a page, in vectors that are used again page after page. Where the greatest level is 0, levels are left
+/// out until the pairs are made.
 #[derive(Debug, Drop)]
 pub(crate) struct LevelReader {
     repetitions: Vec<u8>,
@@ -37,7 +37,8 @@ impl LevelReader {
 
     /// Reads the levels with which a body begins, and answers the bytes behind them.
     pub(crate) fn read<'a>(&mut self, shape: &Shape, bytes: &'a [u8]) -> Result<&'a [u8], PageFault>
-        ensures read { IfOk result (λ rest. level_parts (shape_view shape.now) bytes.now ≡ got (levels_view shape.now self.new) rest.now) }
+        ensures read { IfOk result (λ rest. level_parts (shape_view shape.now) bytes.now
+            ≡ got (levels_view shape.now self.new) rest.now) }
         ensures bad { IfErr result (λ e. WhereBad e (level_parts (shape_view shape.now) bytes.now)) }
         ensures repetitions { OnOk result (length (levels_view shape.now self.new).0 ≡ (shape.now).triplets) }
         ensures definitions { OnOk result (length (levels_view shape.now self.new).1 ≡ (shape.now).triplets) }
@@ -73,7 +74,8 @@ impl LevelReader {
     /// Makes pairs of the levels.
     pub(crate) fn pair(&mut self, shape: &Shape) -> Result<(), NoMemory>
         requires { length (levels_view shape.now self.old).0 ≡ length (levels_view shape.now self.old).1 }
-        ensures { OnOk result (PairsOf (levels_view shape.now self.old).0 (levels_view shape.now self.old).1 (pairs_of self.new)) }
+        ensures { OnOk result (PairsOf (levels_view shape.now self.old).0 (levels_view shape.now self.old).1
+            (pairs_of self.new)) }
     {
         let count = shape.triplets as usize;
         expand(shape.max_repetition, count, &mut self.repetitions)?;

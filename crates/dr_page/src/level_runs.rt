@@ -8,7 +8,8 @@ use crate::fault::PageFault;
 use crate::run_appending::append_levels;
 use dr_hybrid::Runs;
 
-/// Puts the levels of a width of at most eight bits with which bytes begin into the place of others, as many as are wanted.
+/// Puts the levels of a width of at most eight bits with which bytes begin into the place of others, as many as are
+/// wanted.
 pub(crate) fn read_runs(
     bytes: &[u8],
     width: u32,

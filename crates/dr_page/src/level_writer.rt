@@ -34,7 +34,8 @@ impl LevelWriter {
     ) -> Result<(), NoMemory>
         requires narrow { greatest ≤ 32 }
         requires most { list_all (λ l. nat_le l greatest) (map (λ (l : Levels). l.repetition) levels.now) ≡ true }
-        ensures { Writes (level_bytes greatest (map (λ (l : Levels). l.repetition) levels.now)) (out.old).items (out.new).items result }
+        ensures { Writes (level_bytes greatest (map (λ (l : Levels). l.repetition) levels.now)) (out.old).items
+            (out.new).items result }
     {
         if greatest == 0 {
             return Ok(());
@@ -56,7 +57,8 @@ impl LevelWriter {
     ) -> Result<(), NoMemory>
         requires narrow { greatest ≤ 32 }
         requires most { list_all (λ l. nat_le l greatest) (map (λ (l : Levels). l.definition) levels.now) ≡ true }
-        ensures { Writes (level_bytes greatest (map (λ (l : Levels). l.definition) levels.now)) (out.old).items (out.new).items result }
+        ensures { Writes (level_bytes greatest (map (λ (l : Levels). l.definition) levels.now)) (out.old).items
+            (out.new).items result }
     {
         if greatest == 0 {
             return Ok(());

@@ -1,5 +1,5 @@
-//! Bodies of data pages of Apache Parquet ("Data Pages"): repetition levels, definition levels and values, read into columns and
-//! written from them in bulk.
+//! Bodies of data pages of Apache Parquet ("Data Pages"): repetition levels, definition levels and values, read into
+//! columns and written from them in bulk.
 #![tactic(auto)]
 
 mod body_reader;

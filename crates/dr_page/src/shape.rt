@@ -7,8 +7,8 @@ use dr_nested::Kind;
 /// The greatest level of a leaf that a page may have.
 pub const GREATEST_LEVEL: u8 = 32;
 
-/// What is known of a data page before its body: what its header says of it, and the leaf that its chunk is of. Encodings are the
-/// numbers of the format.
+/// What is known of a data page before its body: what its header says of it, and the leaf that its chunk is of.
+/// Encodings are the numbers of the format.
 #[derive(Clone, Copy, Debug)]
 pub struct Shape {
     /// How many triplets it is said to have.

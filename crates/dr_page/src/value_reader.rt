@@ -29,7 +29,8 @@ pub(crate) fn read_bools(
     indices: &mut Vec<u32>,
     out: &mut Vec<bool>,
 ) -> Result<(), PageFault>
-    ensures { Reads (encoded_values encoding tree.bool_kind (map bool_value dictionary.now) count bytes.now) (map bool_value (out.new).items) result }
+    ensures { Reads (encoded_values encoding tree.bool_kind (map bool_value dictionary.now) count bytes.now)
+        (map bool_value (out.new).items) result }
 {
     match value_encoding(encoding) {
         Some(ValueEncoding::Plain) => {
@@ -53,7 +54,8 @@ pub(crate) fn read_integers(
     out: &mut Vec<i64>,
 ) -> Result<(), PageFault>
     requires { is_integer_kind (kind_view kind) ≡ true }
-    ensures { Reads (encoded_values encoding (kind_view kind) (map int_value dictionary.now) count bytes.now) (map int_value (out.new).items) result }
+    ensures { Reads (encoded_values encoding (kind_view kind) (map int_value dictionary.now) count bytes.now)
+        (map int_value (out.new).items) result }
 {
     match value_encoding(encoding) {
         Some(ValueEncoding::Plain) => read_plain_integers(kind, count, bytes, out),
@@ -81,8 +83,8 @@ fn read_plain_integers(
     Ok(())
 }
 
-/// Puts the places of the texts with which bytes begin into the place of others, as many as are wanted, and answers the buffer that
-/// they are places of.
+/// Puts the places of the texts with which bytes begin into the place of others, as many as are wanted, and answers the
+/// buffer that they are places of.
 pub(crate) fn read_texts<'a>(
     encoding: i64,
     dictionary: &'a Texts,
@@ -92,8 +94,12 @@ pub(crate) fn read_texts<'a>(
     texts: &mut Vec<dr_plain::TextPlace>,
     out: &mut Vec<TextPlace>,
 ) -> Result<&'a [u8], PageFault>
-    ensures read { IfOk result (λ b. encoded_values encoding tree.text_kind (text_values (dictionary.now).bytes.items (dictionary.now).places.items) count bytes.now ≡ Some (text_values b.now (out.new).items)) }
-    ensures bad { IfErr result (λ e. WhereNone e (encoded_values encoding tree.text_kind (text_values (dictionary.now).bytes.items (dictionary.now).places.items) count bytes.now)) }
+    ensures read { IfOk result (λ b. encoded_values encoding tree.text_kind
+        (text_values (dictionary.now).bytes.items (dictionary.now).places.items) count bytes.now
+        ≡ Some (text_values b.now (out.new).items)) }
+    ensures bad { IfErr result (λ e. WhereNone e
+        (encoded_values encoding tree.text_kind (text_values (dictionary.now).bytes.items (dictionary.now).places.items)
+        count bytes.now)) }
     ensures texts { IfOk result (λ b. list_all (is_text b.now) (out.new).items ≡ true) }
 {
     match value_encoding(encoding) {

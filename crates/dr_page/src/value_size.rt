@@ -10,10 +10,11 @@ use crate::level_part::LENGTH_BYTES;
 use dr_levels::{TextPlace, Triplets, ValuesRef};
 use dr_nested::Kind;
 
-/// How many bytes the values of a stretch of triplets take in PLAIN; 2^64 - 1 where they take more. Of whole numbers and truth values
-/// none is looked at.
+/// How many bytes the values of a stretch of triplets take in PLAIN; 2^64 - 1 where they take more. Of whole numbers
+/// and truth values none is looked at.
 pub fn plain_size(triplets: Triplets<'_>) -> u64
-    ensures { result ≡ min (length (plain_bytes (triplets_form triplets.entry).kind (column_values (triplets_view triplets.entry)))) (2 ^ 64 - 1) }
+    ensures { result ≡ min (length (plain_bytes (triplets_form triplets.entry).kind
+        (column_values (triplets_view triplets.entry)))) (2 ^ 64 - 1) }
 {
     match (triplets.kind(), triplets.values()) {
         (Kind::Bool, ValuesRef::Bools(truths)) => truths_size(truths),

@@ -2,7 +2,8 @@
 
 ghost use Rattle.dr_partials.specs.AccumulatorLaws.{JoinOfBoth, GivesAggregate, JoinIsAssociative, JoinIsCommutative, EmptyIsNeutral, TakesNextValue};
 
-/// What is gathered of values is joined from what is gathered of a front of them and of the rest; one more value is taken by itself.
+/// What is gathered of values is joined from what is gathered of a front of them and of the rest; one more value is
+/// taken by itself.
 pub fn gathered_values_are_joined()
     ensures joins { JoinOfBoth }
     ensures takes { TakesNextValue }

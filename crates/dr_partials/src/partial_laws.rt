@@ -20,15 +20,15 @@ pub fn records_have_partials()
     ensures { RecordsHavePartials }
 {}
 
-/// A partial that stands for records, merged with one that stands for others, stands for both, one behind another. The empty partial
-/// stands for none.
+/// A partial that stands for records, merged with one that stands for others, stands for both, one behind another. The
+/// empty partial stands for none.
 pub fn merged_partials_stand()
     ensures merged { MergedStands }
     ensures empty { EmptyStandsForNone }
 {}
 
-/// Partials of one query are merged in any grouping, groups also in any order; the empty one adds nothing, and what is merged is a partial
-/// of the query.
+/// Partials of one query are merged in any grouping, groups also in any order; the empty one adds nothing, and what is
+/// merged is a partial of the query.
 pub fn partials_of_one_query_merge()
     ensures associative { MergeIsAssociative }
     ensures commutative { MergeIsCommutative }
@@ -43,7 +43,8 @@ pub fn bound_queries_are_mergeable()
     ensures leaves { BoundLeavesAreEnough }
 {}
 
-/// Without GROUP BY there is exactly one group, and what a COUNT has gathered is a whole number: 0 of nothing, and never NULL.
+/// Without GROUP BY there is exactly one group, and what a COUNT has gathered is a whole number: 0 of nothing, and
+/// never NULL.
 pub fn count_is_never_null()
     ensures group { OneGroupWithoutKeys }
     ensures number { CountIsNumber }

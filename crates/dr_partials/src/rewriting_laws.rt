@@ -10,7 +10,8 @@ pub fn leaf_query_has_partials()
     ensures enough { LeafCoveredAlike }
 {}
 
-/// Whatever the tree, the root query over the inner queries over the leaf query gives what the query means on the records of all tablets.
+/// Whatever the tree, the root query over the inner queries over the leaf query gives what the query means on the
+/// records of all tablets.
 pub fn root_query_means_query()
     ensures { RootMeansQuery }
 {}

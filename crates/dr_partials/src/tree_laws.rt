@@ -2,14 +2,15 @@
 
 ghost use Rattle.dr_partials.specs.TreeLaws.{GatheredStands, GatheredMeansQuery, GatheredIsPartial, GatheredIsBounded, TreesGatherAlike, FanHasAllTablets, FanIsKept};
 
-/// Whatever the tree, what it gathers of pieces that stand for their tablets' records stands for the records of all its tablets, in order:
-/// finished, it is what the query means on them.
+/// Whatever the tree, what it gathers of pieces that stand for their tablets' records stands for the records of all its
+/// tablets, in order: finished, it is what the query means on them.
 pub fn tree_gathers_all_records()
     ensures stands { GatheredStands }
     ensures means { GatheredMeansQuery }
 {}
 
-/// A tree gathers a partial of the query, of as many values as its pieces together, and trees with the same tablets gather the same.
+/// A tree gathers a partial of the query, of as many values as its pieces together, and trees with the same tablets
+/// gather the same.
 pub fn trees_gather_alike()
     ensures partial { GatheredIsPartial }
     ensures bounded { GatheredIsBounded }

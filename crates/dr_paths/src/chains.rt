@@ -68,7 +68,8 @@ fn deeper<'p>(one: &'p [Step], other: &'p [Step]) -> &'p [Step]
     }
 }
 
-/// The level with the most repeated fields of paths that need not be related, the first of those with as many: none where there are no paths.
+/// The level with the most repeated fields of paths that need not be related, the first of those with as many: none
+/// where there are no paths.
 pub fn deepest_level(paths: &[BoundPath]) -> &[Step]
     ensures { map step_view result.now ≡ binding.deepest_level (paths_at (map bound_path_view paths.now)) }
 {

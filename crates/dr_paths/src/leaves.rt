@@ -33,7 +33,8 @@ fn push_fields(
     paths: &mut Vec<Path>,
 ) -> Result<(), NoMemory>
     requires { length (way.now).steps.items + depth (fields_view (fields.now).items) ≤ greatest_depth }
-    ensures { OnOk result (map path_view (paths.new).items ≡ map path_view (paths.old).items ++ fields_leaves (way_view way.now) (fields_view (fields.now).items) 0) }
+    ensures { OnOk result (map path_view (paths.new).items
+        ≡ map path_view (paths.old).items ++ fields_leaves (way_view way.now) (fields_view (fields.now).items) 0) }
 {
     'fields: for (place, field) in fields.iter().enumerate() {
         let rep = field.rep;
@@ -47,7 +48,8 @@ fn push_fields(
 #[cycle(leaves)]
 fn push_shape(alloc: Global, way: Way, shape: &Shape, paths: &mut Vec<Path>) -> Result<(), NoMemory>
     requires { length way.steps.items + shape_depth (shape_view shape.now) ≤ greatest_depth }
-    ensures { OnOk result (map path_view (paths.new).items ≡ map path_view (paths.old).items ++ shape_leaves (way_view way) (shape_view shape.now)) }
+    ensures { OnOk result (map path_view (paths.new).items
+        ≡ map path_view (paths.old).items ++ shape_leaves (way_view way) (shape_view shape.now)) }
 {
     match shape {
         Shape::Leaf(kind) => {

@@ -1,5 +1,5 @@
-//! Paths of a schema: its leaves, the chains of repeated fields on paths, which path is unrelated to an earlier one, and the leaves that
-//! a query uses.
+//! Paths of a schema: its leaves, the chains of repeated fields on paths, which path is unrelated to an earlier one,
+//! and the leaves that a query uses.
 #![tactic(auto)]
 
 mod bound;

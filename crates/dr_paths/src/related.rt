@@ -17,10 +17,14 @@ use dr_nested::Step;
 ///
 /// Errors: the place of the first path that isn't related to an earlier one.
 pub fn first_unrelated<'p>(longest: &'p [Step], paths: &'p [BoundPath]) -> Result<&'p [Step], usize>
-    ensures related { IfOk result (λ l. (earlier : List (List path_meaning.Step)) → Spans earlier (map step_view longest.now)
-        → (meant.unrelated_after earlier (map bound_path_view paths.now) ≡ []) × Spans (joined_before earlier (map bound_path_view paths.now)) (map step_view l.now)) }
-    ensures unrelated { IfErr result (λ place. (earlier : List (List path_meaning.Step)) → Spans earlier (map step_view longest.now)
-        → meant.unrelated_after earlier (map bound_path_view paths.now) ≡ meant.fault_at place meant.BindProblem.unrelated) }
+    ensures related { IfOk result (λ l. (earlier : List (List path_meaning.Step))
+        → Spans earlier (map step_view longest.now)
+        → (meant.unrelated_after earlier (map bound_path_view paths.now)
+        ≡ []) × Spans (joined_before earlier (map bound_path_view paths.now)) (map step_view l.now)) }
+    ensures unrelated { IfErr result (λ place. (earlier : List (List path_meaning.Step))
+        → Spans earlier (map step_view longest.now)
+        → meant.unrelated_after earlier (map bound_path_view
+        paths.now) ≡ meant.fault_at place meant.BindProblem.unrelated) }
 {
     let mut known = longest;
     'paths: for path in paths {

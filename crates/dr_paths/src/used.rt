@@ -19,7 +19,10 @@ use std::alloc::Global;
 ///
 /// Errors: want of memory alone.
 pub fn used_leaves(alloc: Global, schema: &Schema, used: &[&[Step]]) -> Result<Vec<Path>, NoMemory>
-    ensures { IfOk result (λ v. map path_view v.items ≡ in_reading_order (schema_view schema.now).fields (filter (λ (l : path_meaning.Leaf). list_any (path_meaning.same_path l.path) (map lent_path used.now)) (path_meaning.leaves (schema_view schema.now).fields))) }
+    ensures { IfOk result (λ v. map path_view v.items
+        ≡ in_reading_order (schema_view schema.now).fields
+        (filter (λ (l : path_meaning.Leaf). list_any (path_meaning.same_path l.path) (map lent_path used.now))
+        (path_meaning.leaves (schema_view schema.now).fields))) }
 {
     let mut paths = leaf_paths(alloc, schema)?;
     keep_used(&mut paths, used);
@@ -29,7 +32,9 @@ pub fn used_leaves(alloc: Global, schema: &Schema, used: &[&[Step]]) -> Result<V
 
 /// Keeps the paths that are the same as some path of the list.
 fn keep_used(paths: &mut Vec<Path>, used: &[&[Step]])
-    ensures { map path_view (paths.new).items ≡ filter (λ (l : path_meaning.Leaf). list_any (path_meaning.same_path l.path) (map lent_path used.now)) (map path_view (paths.old).items) }
+    ensures { map path_view (paths.new).items
+        ≡ filter (λ (l : path_meaning.Leaf). list_any (path_meaning.same_path l.path) (map lent_path used.now))
+        (map path_view (paths.old).items) }
 {
     paths.retain(|path| is_used(&path.steps, used));
 }

@@ -1,5 +1,5 @@
-//! Values of a column's leaf in the encodings PLAIN and RLE_DICTIONARY of Apache Parquet (Encodings, "Plain", "Dictionary
-//! Encoding"): dense vectors of their kind.
+//! Values of a column's leaf in the encodings PLAIN and RLE_DICTIONARY of Apache Parquet (Encodings, "Plain",
+//! "Dictionary Encoding"): dense vectors of their kind.
 #![tactic(auto)]
 
 mod picking;

@@ -12,9 +12,11 @@ use std::alloc::Global;
 ///
 /// Errors: an index is not below the dictionary's size; want of memory.
 pub fn pick(alloc: Global, dictionary: &Values, indices: &[u32]) -> Result<Values, PickFault>
-    ensures picked { IfOk result (λ v. (bytes : List ℕ) → plain.pick (values_view bytes dictionary.now) indices.now ≡ Some (values_view bytes v)) }
+    ensures picked { IfOk result (λ v. (bytes : List ℕ) → plain.pick (values_view bytes dictionary.now) indices.now
+        ≡ Some (values_view bytes v)) }
     ensures texts { IfOk result (λ v. (bytes : List ℕ) → HasTexts bytes dictionary.now → HasTexts bytes v) }
-    ensures bad { result ≡ Err PickFault.BadIndex → (bytes : List ℕ) → plain.pick (values_view bytes dictionary.now) indices.now ≡ None }
+    ensures bad { result ≡ Err PickFault.BadIndex → (bytes : List ℕ)
+        → plain.pick (values_view bytes dictionary.now) indices.now ≡ None }
 {
     match dictionary {
         Values::Bools(bools) => Ok(Values::Bools(items_at(alloc, bools, indices)?)),

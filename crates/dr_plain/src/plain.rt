@@ -63,7 +63,8 @@ pub fn write_plain(
     requires kind { IsOfKind kind values.now }
     requires texts { HasTexts bytes.now values.now }
     requires writable { list_all (is_writable (kind_view kind)) (values_view bytes.now values.now) ≡ true }
-    ensures written { OnOk result ((out.new).items ≡ (out.old).items ++ plain_bytes (kind_view kind) (values_view bytes.now values.now)) }
+    ensures written { OnOk result ((out.new).items
+        ≡ (out.old).items ++ plain_bytes (kind_view kind) (values_view bytes.now values.now)) }
     ensures stays { OnErr result ((out.new).items ≡ (out.old).items) }
 {
     match (kind, values) {

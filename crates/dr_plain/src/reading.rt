@@ -12,7 +12,8 @@ use crate::values::PlainFault;
 ///
 /// Errors: the bytes end before; want of memory. The values are then as they were.
 pub fn append_bools(bytes: &[u8], count: usize, out: &mut Vec<bool>) -> Result<(), PlainFault>
-    ensures read { OnOk result (Appends (plain_values bool_kind count bytes.now) (map bool_value (out.old).items) (map bool_value (out.new).items)) }
+    ensures read { OnOk result (Appends (plain_values bool_kind count bytes.now) (map bool_value (out.old).items)
+        (map bool_value (out.new).items)) }
     ensures fault { IfErr result (λ e. IsFaultOf e (plain bool_kind count bytes.now)) }
     ensures stays { OnErr result ((out.new).items ≡ (out.old).items) }
 {
@@ -34,7 +35,8 @@ pub fn append_bools(bytes: &[u8], count: usize, out: &mut Vec<bool>) -> Result<(
 ///
 /// Errors: the bytes end before; want of memory. The values are then as they were.
 pub fn append_int32s(bytes: &[u8], count: usize, out: &mut Vec<i64>) -> Result<(), PlainFault>
-    ensures read { OnOk result (Appends (plain_values int32_kind count bytes.now) (map int_value (out.old).items) (map int_value (out.new).items)) }
+    ensures read { OnOk result (Appends (plain_values int32_kind count bytes.now) (map int_value (out.old).items)
+        (map int_value (out.new).items)) }
     ensures fault { IfErr result (λ e. IsFaultOf e (plain int32_kind count bytes.now)) }
     ensures stays { OnErr result ((out.new).items ≡ (out.old).items) }
 {
@@ -55,7 +57,8 @@ pub fn append_int32s(bytes: &[u8], count: usize, out: &mut Vec<i64>) -> Result<(
 ///
 /// Errors: the bytes end before; want of memory. The values are then as they were.
 pub fn append_int64s(bytes: &[u8], count: usize, out: &mut Vec<i64>) -> Result<(), PlainFault>
-    ensures read { OnOk result (Appends (plain_values int64_kind count bytes.now) (map int_value (out.old).items) (map int_value (out.new).items)) }
+    ensures read { OnOk result (Appends (plain_values int64_kind count bytes.now) (map int_value (out.old).items)
+        (map int_value (out.new).items)) }
     ensures fault { IfErr result (λ e. IsFaultOf e (plain int64_kind count bytes.now)) }
     ensures stays { OnErr result ((out.new).items ≡ (out.old).items) }
 {

@@ -14,9 +14,11 @@ use dr_bytes::Cut;
 
 /// Appends the places of the texts with which bytes begin, each behind its length in four bytes.
 ///
-/// Errors: the bytes end before, or a text is not UTF-8, whichever comes first; want of memory. The places are then as they were.
+/// Errors: the bytes end before, or a text is not UTF-8, whichever comes first; want of memory. The places are then as
+/// they were.
 pub fn append_texts(bytes: &[u8], count: usize, out: &mut Vec<TextPlace>) -> Result<(), PlainFault>
-    ensures read { OnOk result (Appends (plain_values text_kind count bytes.now) (text_values bytes.now (out.old).items) (text_values bytes.now (out.new).items)) }
+    ensures read { OnOk result (Appends (plain_values text_kind count bytes.now) (text_values bytes.now (out.old).items)
+        (text_values bytes.now (out.new).items)) }
     ensures texts { OnOk result (AreTexts bytes.now (out.old).items → AreTexts bytes.now (out.new).items) }
     ensures fault { IfErr result (λ e. IsFaultOf e (plain text_kind count bytes.now)) }
     ensures stays { OnErr result ((out.new).items ≡ (out.old).items) }
@@ -31,7 +33,8 @@ pub fn append_texts(bytes: &[u8], count: usize, out: &mut Vec<TextPlace>) -> Res
 
 /// Appends the places, as far as there are texts.
 fn push_texts(bytes: &[u8], count: usize, out: &mut Vec<TextPlace>) -> Result<(), PlainFault>
-    ensures read { OnOk result (Appends (plain_values text_kind count bytes.now) (text_values bytes.now (out.old).items) (text_values bytes.now (out.new).items)) }
+    ensures read { OnOk result (Appends (plain_values text_kind count bytes.now) (text_values bytes.now (out.old).items)
+        (text_values bytes.now (out.new).items)) }
     ensures texts { OnOk result (AreTexts bytes.now (out.old).items → AreTexts bytes.now (out.new).items) }
     ensures fault { IfErr result (λ e. IsFaultOf e (plain text_kind count bytes.now)) }
     ensures begins { BeginsWith (out.old).items (out.new).items }
@@ -52,7 +55,8 @@ fn next_text(bytes: &[u8], all: Option<&str>, cut: &mut Cut<'_>) -> Result<TextP
     requires same { whole cut.old ≡ bytes.now }
     requires all { IfSome all (λ t. t.now ≡ bytes.now) }
     requires utf8 { IfSome all (λ t. IsUtf8 bytes.now) }
-    ensures read { IfOk result (λ p. plain_text (left cut.old) ≡ got (text_value (text_at bytes.now p)) (left cut.new)) }
+    ensures read { IfOk result (λ p. plain_text (left cut.old)
+        ≡ got (text_value (text_at bytes.now p)) (left cut.new)) }
     ensures text { IfOk result (λ p. IsText bytes.now p) }
     ensures fault { IfErr result (λ e. IsFaultOf e (plain_text (left cut.old))) }
     ensures same { whole cut.new ≡ bytes.now }

@@ -15,7 +15,8 @@ use dr_nested::NoMemory;
 ///
 /// Errors: want of memory alone; the bytes are then as they were.
 pub fn write_bools(values: &[bool], out: &mut Vec<u8>) -> Result<(), NoMemory>
-    ensures written { OnOk result ((out.new).items ≡ (out.old).items ++ plain_bytes bool_kind (map bool_value values.now)) }
+    ensures written { OnOk result ((out.new).items
+        ≡ (out.old).items ++ plain_bytes bool_kind (map bool_value values.now)) }
     ensures stays { OnErr result ((out.new).items ≡ (out.old).items) }
 {
     let length = values.len() / 8 + usize::from(values.len() % 8 > 0);
@@ -46,7 +47,8 @@ fn byte_of(values: &[bool]) -> u8
 /// Errors: want of memory alone; the bytes are then as they were.
 pub fn write_int32s(values: &[i64], out: &mut Vec<u8>) -> Result<(), NoMemory>
     requires { list_all (is_writable int32_kind) (map int_value values.now) ≡ true }
-    ensures written { OnOk result ((out.new).items ≡ (out.old).items ++ plain_bytes int32_kind (map int_value values.now)) }
+    ensures written { OnOk result ((out.new).items
+        ≡ (out.old).items ++ plain_bytes int32_kind (map int_value values.now)) }
     ensures stays { OnErr result ((out.new).items ≡ (out.old).items) }
 {
     let start = out.len();
@@ -64,7 +66,8 @@ pub fn write_int32s(values: &[i64], out: &mut Vec<u8>) -> Result<(), NoMemory>
 ///
 /// Errors: want of memory alone; the bytes are then as they were.
 pub fn write_int64s(values: &[i64], out: &mut Vec<u8>) -> Result<(), NoMemory>
-    ensures written { OnOk result ((out.new).items ≡ (out.old).items ++ plain_bytes int64_kind (map int_value values.now)) }
+    ensures written { OnOk result ((out.new).items
+        ≡ (out.old).items ++ plain_bytes int64_kind (map int_value values.now)) }
     ensures stays { OnErr result ((out.new).items ≡ (out.old).items) }
 {
     let start = out.len();
@@ -98,7 +101,8 @@ pub fn write_text(text: &[u8], out: &mut Vec<u8>) -> Result<(), NoMemory>
 pub fn write_texts(texts: &[TextPlace], bytes: &[u8], out: &mut Vec<u8>) -> Result<(), NoMemory>
     requires places { AreTexts bytes.now texts.now }
     requires short { list_all (is_writable text_kind) (text_values bytes.now texts.now) ≡ true }
-    ensures written { OnOk result ((out.new).items ≡ (out.old).items ++ plain_bytes text_kind (text_values bytes.now texts.now)) }
+    ensures written { OnOk result ((out.new).items
+        ≡ (out.old).items ++ plain_bytes text_kind (text_values bytes.now texts.now)) }
     ensures stays { OnErr result ((out.new).items ≡ (out.old).items) }
 {
     let start = out.len();

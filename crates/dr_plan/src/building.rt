@@ -15,7 +15,8 @@ impl Number {
     ///
     /// Errors: want of memory alone.
     pub fn negative(alloc: Global, operand: Number) -> Result<Number, NoMemory>
-        ensures view { IfOk result (λ e. (ls : List Leaf) → number_view ls e ≡ meant.negative (number_view ls operand)) }
+        ensures view { IfOk result (λ e. (ls : List Leaf) → number_view ls e
+            ≡ meant.negative (number_view ls operand)) }
         ensures fits { IfOk result (λ e. (ls : List Leaf) → number_fits ls e ≡ number_fits ls operand) }
     {
         Ok(Number::Negative(Box::new(alloc, operand)?))
@@ -25,8 +26,10 @@ impl Number {
     ///
     /// Errors: want of memory alone.
     pub fn add(alloc: Global, left: Number, right: Number) -> Result<Number, NoMemory>
-        ensures view { IfOk result (λ e. (ls : List Leaf) → number_view ls e ≡ meant.arithmetic meant.plus (number_view ls left) (number_view ls right)) }
-        ensures fits { IfOk result (λ e. (ls : List Leaf) → number_fits ls e ≡ (number_fits ls left && number_fits ls right)) }
+        ensures view { IfOk result (λ e. (ls : List Leaf) → number_view ls e
+            ≡ meant.arithmetic meant.plus (number_view ls left) (number_view ls right)) }
+        ensures fits { IfOk result (λ e. (ls : List Leaf) → number_fits ls e
+            ≡ (number_fits ls left && number_fits ls right)) }
     {
         let left = Box::new(alloc, left)?;
         let right = Box::new(alloc, right)?;
@@ -37,8 +40,10 @@ impl Number {
     ///
     /// Errors: want of memory alone.
     pub fn subtract(alloc: Global, left: Number, right: Number) -> Result<Number, NoMemory>
-        ensures view { IfOk result (λ e. (ls : List Leaf) → number_view ls e ≡ meant.arithmetic meant.minus (number_view ls left) (number_view ls right)) }
-        ensures fits { IfOk result (λ e. (ls : List Leaf) → number_fits ls e ≡ (number_fits ls left && number_fits ls right)) }
+        ensures view { IfOk result (λ e. (ls : List Leaf) → number_view ls e
+            ≡ meant.arithmetic meant.minus (number_view ls left) (number_view ls right)) }
+        ensures fits { IfOk result (λ e. (ls : List Leaf) → number_fits ls e
+            ≡ (number_fits ls left && number_fits ls right)) }
     {
         let left = Box::new(alloc, left)?;
         let right = Box::new(alloc, right)?;
@@ -49,8 +54,10 @@ impl Number {
     ///
     /// Errors: want of memory alone.
     pub fn multiply(alloc: Global, left: Number, right: Number) -> Result<Number, NoMemory>
-        ensures view { IfOk result (λ e. (ls : List Leaf) → number_view ls e ≡ meant.arithmetic meant.times (number_view ls left) (number_view ls right)) }
-        ensures fits { IfOk result (λ e. (ls : List Leaf) → number_fits ls e ≡ (number_fits ls left && number_fits ls right)) }
+        ensures view { IfOk result (λ e. (ls : List Leaf) → number_view ls e
+            ≡ meant.arithmetic meant.times (number_view ls left) (number_view ls right)) }
+        ensures fits { IfOk result (λ e. (ls : List Leaf) → number_fits ls e
+            ≡ (number_fits ls left && number_fits ls right)) }
     {
         let left = Box::new(alloc, left)?;
         let right = Box::new(alloc, right)?;
@@ -63,8 +70,10 @@ impl TextOf {
     ///
     /// Errors: want of memory alone.
     pub fn join(alloc: Global, left: TextOf, right: TextOf) -> Result<TextOf, NoMemory>
-        ensures view { IfOk result (λ e. (ls : List Leaf) → text_view ls e ≡ meant.arithmetic meant.plus (text_view ls left) (text_view ls right)) }
-        ensures fits { IfOk result (λ e. (ls : List Leaf) → text_fits ls e ≡ (text_fits ls left && text_fits ls right)) }
+        ensures view { IfOk result (λ e. (ls : List Leaf) → text_view ls e
+            ≡ meant.arithmetic meant.plus (text_view ls left) (text_view ls right)) }
+        ensures fits { IfOk result (λ e. (ls : List Leaf) → text_fits ls e
+            ≡ (text_fits ls left && text_fits ls right)) }
     {
         let left = Box::new(alloc, left)?;
         let right = Box::new(alloc, right)?;
@@ -87,8 +96,10 @@ impl Truth {
     ///
     /// Errors: want of memory alone.
     pub fn conjunction(alloc: Global, left: Truth, right: Truth) -> Result<Truth, NoMemory>
-        ensures view { IfOk result (λ e. (ls : List Leaf) → truth_view ls e ≡ meant.conjunction (truth_view ls left) (truth_view ls right)) }
-        ensures fits { IfOk result (λ e. (ls : List Leaf) → truth_fits ls e ≡ (truth_fits ls left && truth_fits ls right)) }
+        ensures view { IfOk result (λ e. (ls : List Leaf) → truth_view ls e
+            ≡ meant.conjunction (truth_view ls left) (truth_view ls right)) }
+        ensures fits { IfOk result (λ e. (ls : List Leaf) → truth_fits ls e
+            ≡ (truth_fits ls left && truth_fits ls right)) }
     {
         let left = Box::new(alloc, left)?;
         let right = Box::new(alloc, right)?;
@@ -99,8 +110,10 @@ impl Truth {
     ///
     /// Errors: want of memory alone.
     pub fn disjunction(alloc: Global, left: Truth, right: Truth) -> Result<Truth, NoMemory>
-        ensures view { IfOk result (λ e. (ls : List Leaf) → truth_view ls e ≡ meant.disjunction (truth_view ls left) (truth_view ls right)) }
-        ensures fits { IfOk result (λ e. (ls : List Leaf) → truth_fits ls e ≡ (truth_fits ls left && truth_fits ls right)) }
+        ensures view { IfOk result (λ e. (ls : List Leaf) → truth_view ls e
+            ≡ meant.disjunction (truth_view ls left) (truth_view ls right)) }
+        ensures fits { IfOk result (λ e. (ls : List Leaf) → truth_fits ls e
+            ≡ (truth_fits ls left && truth_fits ls right)) }
     {
         let left = Box::new(alloc, left)?;
         let right = Box::new(alloc, right)?;
@@ -116,8 +129,10 @@ impl Truth {
         left: Truth,
         right: Truth,
     ) -> Result<Truth, NoMemory>
-        ensures view { IfOk result (λ e. (ls : List Leaf) → truth_view ls e ≡ meant.comparison (comparison_view operator) (truth_view ls left) (truth_view ls right)) }
-        ensures fits { IfOk result (λ e. (ls : List Leaf) → truth_fits ls e ≡ (truth_fits ls left && truth_fits ls right)) }
+        ensures view { IfOk result (λ e. (ls : List Leaf) → truth_view ls e
+            ≡ meant.comparison (comparison_view operator) (truth_view ls left) (truth_view ls right)) }
+        ensures fits { IfOk result (λ e. (ls : List Leaf) → truth_fits ls e
+            ≡ (truth_fits ls left && truth_fits ls right)) }
     {
         let left = Box::new(alloc, left)?;
         let right = Box::new(alloc, right)?;

@@ -7,8 +7,8 @@ ghost use Rattle.dr_plan.specs.Views.{joining_view};
 use dr_memory::NoMemory;
 use std::alloc::Global;
 
-/// How the conjuncts of a condition, by their numbers from 0 on, are joined by AND, as it was written. A number without a conjunct
-/// stands for TRUE.
+/// How the conjuncts of a condition, by their numbers from 0 on, are joined by AND, as it was written. A number without
+/// a conjunct stands for TRUE.
 #[derive(Debug, Drop)]
 pub enum Joining {
     Conjunct(usize),

@@ -4,8 +4,8 @@ ghost use Rattle.dr_plan.specs.Conjuncts.{ConjunctsHavePaths, RejoinedIsSame, Re
 ghost use Rattle.dr_plan.specs.Objects.{TreeMakesObject};
 ghost use Rattle.dr_plan.specs.Planned.{PlanKeepsQuery, PlanMeansQuery};
 
-/// A condition is true exactly if each of its conjuncts is; they have its paths; joined again from the left they mean the same, and
-/// joined as the condition joins them they are the condition itself.
+/// A condition is true exactly if each of its conjuncts is; they have its paths; joined again from the left they mean
+/// the same, and joined as the condition joins them they are the condition itself.
 pub fn conjuncts_are_condition()
     ensures each { TrueWhereEachIs }
     ensures paths { ConjunctsHavePaths }

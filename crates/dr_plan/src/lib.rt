@@ -1,4 +1,5 @@
-//! Plans: queries whose names have become leaves of a schema, in the form in which they are run (Dremel 2010, section 5).
+//! Plans: queries whose names have become leaves of a schema, in the form in which they are run (Dremel 2010, section
+//! 5).
 #![tactic(auto)]
 
 mod aggregate;

@@ -10,7 +10,8 @@ pub struct ObjectPlan {
     pub lists: Vec<ListPlan>,
 }
 
-/// A list in an object: its name, the path of the repeated field of whose instances it has an object each, and that object.
+/// A list in an object: its name, the path of the repeated field of whose instances it has an object each, and that
+/// object.
 #[cycle(object)]
 #[derive(Debug, Drop)]
 pub struct ListPlan {

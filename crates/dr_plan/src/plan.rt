@@ -48,8 +48,9 @@ pub enum Selection {
     Groups(Vec<u32>, Vec<Aggregate>, Vec<GroupItem>),
 }
 
-/// A query whose names are bound to a schema. Each number in it is that of a leaf, a key or an aggregate that it has; each leaf is of the
-/// type of its place; SUM is of numbers; the aggregates of groups are numbered in the order of the items that give them.
+/// A query whose names are bound to a schema. Each number in it is that of a leaf, a key or an aggregate that it has;
+/// each leaf is of the type of its place; SUM is of numbers; the aggregates of groups are numbered in the order of the
+/// items that give them.
 #[derive(Debug, Drop)]
 pub struct Plan {
     /// The leaves that it uses, each once, in reading order.

@@ -80,7 +80,8 @@ fn push_grouped(
     items: &mut Vec<GroupItem>,
 ) -> Result<(), NoMemory>
     ensures aggregates { OnOk result ((aggregates.new).items ≡ (aggregates.old).items ++ plan.with_aggregate term []) }
-    ensures items { OnOk result ((items.new).items ≡ (items.old).items ++ plan.with_group_item (length (aggregates.old).items) name term (λ _. [])) }
+    ensures items { OnOk result ((items.new).items
+        ≡ (items.old).items ++ plan.with_group_item (length (aggregates.old).items) name term (λ _. [])) }
 {
     match term {
         None => Ok(()),

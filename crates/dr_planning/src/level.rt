@@ -2,7 +2,8 @@
 
 use dr_nested::Step;
 
-/// A repeated field: its name from the level above, the names on the way joined by dots; its path; and the levels next below it.
+/// A repeated field: its name from the level above, the names on the way joined by dots; its path; and the levels next
+/// below it.
 #[derive(Debug, Drop)]
 pub struct Level {
     pub name: String,

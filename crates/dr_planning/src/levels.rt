@@ -42,7 +42,8 @@ fn with_step(alloc: Global, path: &[Step], step: Step) -> Result<Vec<Step>, NoMe
     Ok(steps)
 }
 
-/// Appends the next levels in a group below a path, where a text holds the names since the level above, with a dot behind each.
+/// Appends the next levels in a group below a path, where a text holds the names since the level above, with a dot
+/// behind each.
 #[cycle(levels)]
 fn push_fields(
     alloc: Global,
@@ -51,7 +52,9 @@ fn push_fields(
     fields: &Vec<Field>,
     levels: &mut Vec<Level>,
 ) -> Result<(), NoMemory>
-    ensures { OnOk result (levels_view (levels.new).items ≡ append_named (levels_view (levels.old).items) (fields_named (fields_view (fields.now).items) 0 names.now (map step_view path.now))) }
+    ensures { OnOk result (levels_view (levels.new).items
+        ≡ append_named (levels_view (levels.old).items)
+        (fields_named (fields_view (fields.now).items) 0 names.now (map step_view path.now))) }
 {
     'fields: for (place, field) in fields.iter().enumerate() {
         let rep = field.rep;
@@ -72,7 +75,9 @@ fn push_field(
     shape: &Shape,
     levels: &mut Vec<Level>,
 ) -> Result<(), NoMemory>
-    ensures { OnOk result (levels_view (levels.new).items ≡ append_named (levels_view (levels.old).items) (field_named (rep_view rep) (shape_view shape.now) (string_bytes name) (map step_view path.items))) }
+    ensures { OnOk result (levels_view (levels.new).items
+        ≡ append_named (levels_view (levels.old).items)
+        (field_named (rep_view rep) (shape_view shape.now) (string_bytes name) (map step_view path.items))) }
 {
     match rep {
         Rep::Required | Rep::Optional => {
@@ -97,7 +102,9 @@ fn push_shape(
     shape: &Shape,
     levels: &mut Vec<Level>,
 ) -> Result<(), NoMemory>
-    ensures { OnOk result (levels_view (levels.new).items ≡ append_named (levels_view (levels.old).items) (shape_named (shape_view shape.now) names.now (map step_view path.now))) }
+    ensures { OnOk result (levels_view (levels.new).items
+        ≡ append_named (levels_view (levels.old).items)
+        (shape_named (shape_view shape.now) names.now (map step_view path.now))) }
 {
     match shape {
         Shape::Leaf(_) => Ok(()),

@@ -1,5 +1,5 @@
-//! The plan of a query's bound parts: the rules above its paths and operators, the levels of a schema, the objects of a result with their
-//! names, and the paths whose values a query uses.
+//! The plan of a query's bound parts: the rules above its paths and operators, the levels of a schema, the objects of a
+//! result with their names, and the paths whose values a query uses.
 #![tactic(auto)]
 
 mod groups;

@@ -11,10 +11,13 @@ use crate::level::Level;
 use dr_nested::Step;
 use dr_paths::{begins_with, same_path};
 
-/// Whether the list that leads from the object at a level to an item of another level, if one does, has the wanted name.
+/// Whether the list that leads from the object at a level to an item of another level, if one does, has the wanted
+/// name.
 pub fn is_list_between(levels: &[Level], object: &[Step], level: &[Step], wanted: &str) -> bool
-    ensures named { result ≡ binding.is_named wanted.now (entries.named_between (levels_view levels.now) (map step_view object.now) (map step_view level.now)) }
-    ensures meant { (ls : Levels) → levels_view levels.now ≡ joined ls → result ≡ binding.is_named wanted.now (binding.list_between ls (map step_view object.now) (map step_view level.now)) }
+    ensures named { result ≡ binding.is_named wanted.now
+        (entries.named_between (levels_view levels.now) (map step_view object.now) (map step_view level.now)) }
+    ensures meant { (ls : Levels) → levels_view levels.now ≡ joined ls → result
+        ≡ binding.is_named wanted.now (binding.list_between ls (map step_view object.now) (map step_view level.now)) }
 {
     match list_between(levels, object, level) {
         None => false,
@@ -24,7 +27,8 @@ pub fn is_list_between(levels: &[Level], object: &[Step], level: &[Step], wanted
 
 /// The name of the list that leads from the object at a level to an item of another level, if one does.
 fn list_between<'a>(levels: &'a [Level], object: &[Step], level: &[Step]) -> Option<&'a str>
-    ensures { option_copied result ≡ entries.named_between (levels_view levels.now) (map step_view object.now) (map step_view level.now) }
+    ensures { option_copied result ≡ entries.named_between (levels_view levels.now) (map step_view object.now)
+        (map step_view level.now) }
 {
     if same_path(object, level) {
         return None;
@@ -49,7 +53,8 @@ fn list_name<'a>(levels: &'a [Level], level: &[Step]) -> Option<&'a str>
 
 /// The same among the lists of the object at a level that is one of these or inside one of them.
 fn list_inside<'a>(levels: &'a [Level], object: &[Step], level: &[Step]) -> Option<&'a str>
-    ensures { option_copied result ≡ entries.list_inside (map step_view object.now) (map step_view level.now) (levels_view levels.now) }
+    ensures { option_copied result ≡ entries.list_inside (map step_view object.now) (map step_view level.now)
+        (levels_view levels.now) }
 {
     'levels: for next in levels {
         if same_path(object, &next.path) {

@@ -27,8 +27,10 @@ pub fn object_plan(
 ) -> Result<ObjectPlan, NoMemory>
     requires { length items.now < 2 ^ 32 }
     ensures tree { IfOk result (λ o. object_view o ≡ named_object (map lent_path items.now) (levels_view levels.now)) }
-    ensures meant { IfOk result (λ o. (fs : Fields) (its : List meant.RecordItem) → levels_view levels.now ≡ joined (meant.levels_of fs)
-        → map (λ (i : meant.RecordItem). meant.term_level i.term) its ≡ map lent_path items.now → object_view o ≡ object_tree_of fs its) }
+    ensures meant { IfOk result (λ o. (fs : Fields) (its : List meant.RecordItem) → levels_view levels.now
+        ≡ joined (meant.levels_of fs)
+        → map (λ (i : meant.RecordItem). meant.term_level
+        i.term) its ≡ map lent_path items.now → object_view o ≡ object_tree_of fs its) }
 {
     object_at(alloc, levels, &[], items)
 }
@@ -42,7 +44,9 @@ fn object_at(
     items: &[&[Step]],
 ) -> Result<ObjectPlan, NoMemory>
     requires { length items.now < 2 ^ 32 }
-    ensures { IfOk result (λ o. object_view o ≡ object_tree (numbers_at 0 (map lent_path items.now) (map step_view level.now)) (named_trees (map lent_path items.now) (levels_view below.now))) }
+    ensures { IfOk result (λ o. object_view o
+        ≡ object_tree (numbers_at 0 (map lent_path items.now) (map step_view level.now))
+        (named_trees (map lent_path items.now) (levels_view below.now))) }
 {
     let own = numbers_of(alloc, items, level)?;
     let mut lists = Vec::new(alloc);
@@ -61,7 +65,9 @@ fn push_list(
     lists: &mut Vec<ListPlan>,
 ) -> Result<(), NoMemory>
     requires { length items.now < 2 ^ 32 }
-    ensures { OnOk result (lists_view (lists.new).items ≡ append_lists (lists_view (lists.old).items) (named_trees (map lent_path items.now) (levels_view (level.now ∷ [])))) }
+    ensures { OnOk result (lists_view (lists.new).items
+        ≡ append_lists (lists_view (lists.old).items)
+        (named_trees (map lent_path items.now) (levels_view (level.now ∷ [])))) }
 {
     if !leads_to(items, &level.path) {
         return Ok(());
@@ -73,7 +79,8 @@ fn push_list(
 
 /// The list of a level, with an object for each instance.
 fn list_of(alloc: Global, level: &Level, object: ObjectPlan) -> Result<ListPlan, NoMemory>
-    ensures { IfOk result (λ l. list_view l ≡ record { name = (level_view level.now).name; level = (level_view level.now).path; object = object_view object }) }
+    ensures { IfOk result (λ l. list_view l ≡ record
+        { name = (level_view level.now).name; level = (level_view level.now).path; object = object_view object }) }
 {
     Ok(ListPlan {
         name: String::from_str(alloc, level.name.as_str())?,

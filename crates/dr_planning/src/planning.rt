@@ -41,9 +41,12 @@ fn cut_condition(
     alloc: Global,
     condition: Option<Option<BoundCondition>>,
 ) -> Result<CutCondition, NoMemory>
-    ensures view { IfOk result (λ c. (ls : List path_meaning.Leaf) → map (truth_view ls) c.test.items ≡ plan.condition_conjuncts ls condition) }
-    ensures fits { IfOk result (λ c. (ls : List path_meaning.Leaf) → plan.condition_fits ls condition ≡ true → list_all (truth_fits ls) c.test.items ≡ true) }
-    ensures joining { IfOk result (λ c. (ls : List path_meaning.Leaf) → option_map joining_view c.joining ≡ plan.condition_joining ls condition) }
+    ensures view { IfOk result (λ c. (ls : List path_meaning.Leaf) → map (truth_view ls) c.test.items
+        ≡ plan.condition_conjuncts ls condition) }
+    ensures fits { IfOk result (λ c. (ls : List path_meaning.Leaf) → plan.condition_fits ls condition ≡ true
+        → list_all (truth_fits ls) c.test.items ≡ true) }
+    ensures joining { IfOk result (λ c. (ls : List path_meaning.Leaf) → option_map joining_view c.joining
+        ≡ plan.condition_joining ls condition) }
 {
     match condition {
         None => Ok(without_condition(alloc)),
@@ -63,7 +66,8 @@ fn selected(
     keys: &[BoundPath],
     items: Vec<BoundItem>,
 ) -> Result<Selection, NoMemory>
-    ensures { IfOk result (λ s. plan.Selects is_record_query (levels_view levels.now) (map path_view leaves.now) keys.now items.items s) }
+    ensures { IfOk result (λ s. plan.Selects is_record_query (levels_view levels.now)
+        (map path_view leaves.now) keys.now items.items s) }
 {
     if is_record_query {
         selected_objects(alloc, levels, items)
@@ -82,8 +86,10 @@ pub fn plan_of(
     parts: BoundParts,
 ) -> Result<Plan, NoMemory>
     requires { plan.CanBePlanned (map path_view leaves.items) parts }
-    ensures { IfOk result (λ p. (fs : Fields) (b : binding.BoundParts) → AreParts fs (map path_view leaves.items) b parts → levels_view levels.now ≡ joined (query.levels_of fs)
-        → map path_view leaves.items ≡ used.query_leaves fs (binding.query_of b) → plan_view p ≡ planned fs (binding.query_of b)) }
+    ensures { IfOk result (λ p. (fs : Fields) (b : binding.BoundParts)
+        → AreParts fs (map path_view leaves.items) b parts → levels_view levels.now ≡ joined (query.levels_of fs)
+        → map path_view leaves.items ≡ used.query_leaves fs (binding.query_of
+        b) → plan_view p ≡ planned fs (binding.query_of b)) }
 {
     let is_record_query = parts.is_record_query;
     let keys = parts.keys;

@@ -29,8 +29,8 @@ use dr_paths::{
     BoundPath, begins_with, deepest_level, first_unrelated, level, longest_level, same_path,
 };
 
-/// What the keys say of the paths behind them: nothing, where one of them couldn't be bound; their longest level; or the place of the first that
-/// isn't related to an earlier one.
+/// What the keys say of the paths behind them: nothing, where one of them couldn't be bound; their longest level; or
+/// the place of the first that isn't related to an earlier one.
 #[derive(Clone, Copy)]
 enum KeyChain<'k> {
     Unbound,
@@ -40,8 +40,11 @@ enum KeyChain<'k> {
 
 /// Notes the faults of all rules above paths and operators.
 pub fn note_rules(levels: &[Level], parts: &BoundParts, first: &mut FirstFault)
-    ensures { (fs : Fields) (ls : List Leaf) (b : binding.BoundParts) → AreParts fs ls b parts.now → levels_view levels.now ≡ joined (query.levels_of fs)
-        → first_view first.new ≡ earlier (first_view first.old) (binding.first_fault (binding.unrelated_faults b ++ (binding.item_faults b ++ binding.duplicate_faults (query.levels_of fs) b.is_record_query (binding.passing b.items)))) }
+    ensures { (fs : Fields) (ls : List Leaf) (b : binding.BoundParts) → AreParts fs ls b parts.now
+        → levels_view levels.now ≡ joined (query.levels_of fs)
+        → first_view first.new ≡ earlier (first_view first.old) (binding.first_fault (binding.unrelated_faults b
+        ++ (binding.item_faults b ++ binding.duplicate_faults (query.levels_of fs) b.is_record_query
+        (binding.passing b.items)))) }
 {
     note_unrelated(parts, first);
     note_item_rules(parts, first);
@@ -53,7 +56,8 @@ pub fn note_rules(levels: &[Level], parts: &BoundParts, first: &mut FirstFault)
 /// Notes the first of some paths that isn't related to an earlier one, behind paths of which this is the longest level.
 fn note_paths(longest: &[Step], paths: &[BoundPath], first: &mut FirstFault)
     ensures { (before : List (List path_meaning.Step)) → Spans before (map step_view longest.now)
-        → first_view first.new ≡ earlier (first_view first.old) (binding.first_fault (meant.unrelated_after before (map bound_path_view paths.now))) }
+        → first_view first.new ≡ earlier (first_view first.old) (binding.first_fault (meant.unrelated_after before
+        (map bound_path_view paths.now))) }
 {
     match first_unrelated(longest, paths) {
         Ok(_) => {}
@@ -63,8 +67,11 @@ fn note_paths(longest: &[Step], paths: &[BoundPath], first: &mut FirstFault)
 
 /// Notes the first path of the condition that isn't related to an earlier one.
 fn note_condition(condition: &Option<Option<BoundCondition>>, first: &mut FirstFault)
-    ensures { (fs : Fields) (ls : List Leaf) (c : meant.Checked (Option meant.BoundExpression)) → IsCheckedCondition fs ls c condition.now
-        → first_view first.new ≡ earlier (first_view first.old) (binding.first_fault (binding.where_passed (λ (o : Option meant.BoundExpression). meant.unrelated_among (binding.paths_of_condition o)) c)) }
+    ensures { (fs : Fields) (ls : List Leaf) (c : meant.Checked (Option meant.BoundExpression))
+        → IsCheckedCondition fs ls c condition.now
+        → first_view first.new ≡ earlier (first_view first.old) (binding.first_fault
+        (binding.where_passed (λ (o : Option meant.BoundExpression). meant.unrelated_among
+        (binding.paths_of_condition o)) c)) }
 {
     match condition {
         None => {}
@@ -77,7 +84,8 @@ fn note_condition(condition: &Option<Option<BoundCondition>>, first: &mut FirstF
 
 /// What the keys say of paths behind them.
 fn key_chain(parts: &BoundParts) -> KeyChain<'_>
-    ensures { (fs : Fields) (ls : List Leaf) (b : binding.BoundParts) → AreParts fs ls b parts.now → IsChain (binding.all_passed b.keys) result }
+    ensures { (fs : Fields) (ls : List Leaf) (b : binding.BoundParts) → AreParts fs ls b parts.now
+        → IsChain (binding.all_passed b.keys) result }
 {
     if !parts.has_all_keys {
         return KeyChain::Unbound;
@@ -91,7 +99,8 @@ fn key_chain(parts: &BoundParts) -> KeyChain<'_>
 /// Notes the first key that isn't related to an earlier one.
 fn note_keys(chain: KeyChain<'_>, first: &mut FirstFault)
     ensures { (ks : meant.Checked (List meant.BoundPath)) → IsChain ks chain.entry
-        → first_view first.new ≡ earlier (first_view first.old) (binding.first_fault (binding.where_passed meant.unrelated_among ks)) }
+        → first_view first.new ≡ earlier (first_view first.old) (binding.first_fault
+        (binding.where_passed meant.unrelated_among ks)) }
 {
     match chain {
         KeyChain::Unbound => {}
@@ -103,7 +112,9 @@ fn note_keys(chain: KeyChain<'_>, first: &mut FirstFault)
 /// Notes the first of the keys, and of some paths behind them, that isn't related to an earlier one.
 fn note_behind_keys(chain: KeyChain<'_>, paths: &[BoundPath], first: &mut FirstFault)
     ensures { (ks : meant.Checked (List meant.BoundPath)) → IsChain ks chain.entry
-        → first_view first.new ≡ earlier (first_view first.old) (binding.first_fault (binding.where_passed (λ (qs : List meant.BoundPath). meant.unrelated_among (qs ++ map bound_path_view paths.now)) ks)) }
+        → first_view first.new ≡ earlier (first_view first.old) (binding.first_fault
+        (binding.where_passed (λ (qs : List meant.BoundPath). meant.unrelated_among
+        (qs ++ map bound_path_view paths.now)) ks)) }
 {
     match chain {
         KeyChain::Unbound => {}
@@ -114,7 +125,8 @@ fn note_behind_keys(chain: KeyChain<'_>, paths: &[BoundPath], first: &mut FirstF
 
 /// Notes the first path of an item that isn't related to an earlier one; those of an aggregate stand behind the keys.
 fn note_unrelated_term(chain: KeyChain<'_>, term: &BoundTerm, first: &mut FirstFault)
-    ensures { (fs : Fields) (ls : List Leaf) (ks : meant.Checked (List meant.BoundPath)) (t : binding.BoundTerm) → IsChain ks chain.entry → IsTerm fs ls t term.now
+    ensures { (fs : Fields) (ls : List Leaf) (ks : meant.Checked (List meant.BoundPath)) (t : binding.BoundTerm)
+        → IsChain ks chain.entry → IsTerm fs ls t term.now
         → first_view first.new ≡ earlier (first_view first.old) (binding.first_fault (binding.unrelated_in_term ks t)) }
 {
     match term {
@@ -126,8 +138,10 @@ fn note_unrelated_term(chain: KeyChain<'_>, term: &BoundTerm, first: &mut FirstF
 
 /// The same for each item.
 fn note_unrelated_items(chain: KeyChain<'_>, items: &[BoundItem], first: &mut FirstFault)
-    ensures { (fs : Fields) (ls : List Leaf) (ks : meant.Checked (List meant.BoundPath)) (bs : List binding.BoundItem) → IsChain ks chain.entry → AreItems fs ls bs items.now
-        → first_view first.new ≡ earlier (first_view first.old) (binding.first_fault (flat_map (λ (i : binding.BoundItem). binding.unrelated_in_term ks i.term) bs)) }
+    ensures { (fs : Fields) (ls : List Leaf) (ks : meant.Checked (List meant.BoundPath)) (bs : List binding.BoundItem)
+        → IsChain ks chain.entry → AreItems fs ls bs items.now
+        → first_view first.new ≡ earlier (first_view first.old) (binding.first_fault
+        (flat_map (λ (i : binding.BoundItem). binding.unrelated_in_term ks i.term) bs)) }
 {
     'items: for item in items {
         note_unrelated_term(chain, &item.term, first);
@@ -140,15 +154,18 @@ fn note_unrelated_arguments(
     arguments: &[BoundExpression],
     first: &mut FirstFault,
 )
-    ensures { (fs : Fields) (ls : List Leaf) (ks : meant.Checked (List meant.BoundPath)) (bs : List meant.BoundExpression) → IsChain ks chain.entry → AreExpressions fs ls bs arguments.now
-        → first_view first.new ≡ earlier (first_view first.old) (binding.first_fault (flat_map (binding.unrelated_behind ks) bs)) }
+    ensures { (fs : Fields) (ls : List Leaf) (ks : meant.Checked (List meant.BoundPath))
+        (bs : List meant.BoundExpression) → IsChain ks chain.entry → AreExpressions fs ls bs arguments.now
+        → first_view first.new ≡ earlier (first_view first.old) (binding.first_fault
+        (flat_map (binding.unrelated_behind ks) bs)) }
 {
     'arguments: for argument in arguments {
         note_behind_keys(chain, &argument.paths, first);
     }
 }
 
-/// Notes the paths that aren't related to earlier ones: of the condition, of each item, of each argument that stands alone, of the keys.
+/// Notes the paths that aren't related to earlier ones: of the condition, of each item, of each argument that stands
+/// alone, of the keys.
 fn note_unrelated(parts: &BoundParts, first: &mut FirstFault)
     ensures { (fs : Fields) (ls : List Leaf) (b : binding.BoundParts) → AreParts fs ls b parts.now
         → first_view first.new ≡ earlier (first_view first.old) (binding.first_fault (binding.unrelated_faults b)) }
@@ -164,7 +181,8 @@ fn note_unrelated(parts: &BoundParts, first: &mut FirstFault)
 
 /// Whether a node holds the rows of an aggregate's argument.
 fn holds_rows(argument: &BoundExpression, within: &BoundWithin) -> bool
-    ensures { (fs : Fields) (ls : List Leaf) (e : meant.BoundExpression) → IsExpression fs ls e argument.now → result ≡ binding.holds_rows e.expression (within_view within.now) }
+    ensures { (fs : Fields) (ls : List Leaf) (e : meant.BoundExpression) → IsExpression fs ls e argument.now → result
+        ≡ binding.holds_rows e.expression (within_view within.now) }
 {
     within.is_whole && begins_with(&within.node, longest_level(&argument.paths))
 }
@@ -194,7 +212,8 @@ fn note_within_term(term: &BoundTerm, first: &mut FirstFault)
 /// The same for each item.
 fn note_within(items: &[BoundItem], first: &mut FirstFault)
     ensures { (fs : Fields) (ls : List Leaf) (bs : List binding.BoundItem) → AreItems fs ls bs items.now
-        → first_view first.new ≡ earlier (first_view first.old) (binding.first_fault (flat_map (λ (i : binding.BoundItem). binding.within_faults i.term) bs)) }
+        → first_view first.new ≡ earlier (first_view first.old) (binding.first_fault
+        (flat_map (λ (i : binding.BoundItem). binding.within_faults i.term) bs)) }
 {
     'items: for item in items {
         note_within_term(&item.term, first);
@@ -203,7 +222,8 @@ fn note_within(items: &[BoundItem], first: &mut FirstFault)
 
 /// The place of the key that a value is: it has to be a path.
 fn key_place(keys: &[BoundPath], value: &BoundExpression) -> Option<usize>
-    ensures { (fs : Fields) (ls : List Leaf) (ks : List meant.BoundPath) (e : meant.BoundExpression) → IsExpression fs ls e value.now → map bound_path_view keys.now ≡ ks
+    ensures { (fs : Fields) (ls : List Leaf) (ks : List meant.BoundPath) (e : meant.BoundExpression)
+        → IsExpression fs ls e value.now → map bound_path_view keys.now ≡ ks
         → result ≡ binding.key_of ks e.expression }
 {
     if !value.is_path {
@@ -217,7 +237,8 @@ fn key_place(keys: &[BoundPath], value: &BoundExpression) -> Option<usize>
 
 /// Whether an item of an aggregate query has a term there: it is a key, or an aggregate without WITHIN.
 fn is_grouped(keys: &[BoundPath], term: &BoundTerm) -> bool
-    ensures { (fs : Fields) (ls : List Leaf) (ks : List meant.BoundPath) (t : binding.BoundTerm) → IsTerm fs ls t term.now → map bound_path_view keys.now ≡ ks
+    ensures { (fs : Fields) (ls : List Leaf) (ks : List meant.BoundPath) (t : binding.BoundTerm)
+        → IsTerm fs ls t term.now → map bound_path_view keys.now ≡ ks
         → result ≡ is_some (binding.group_term ks t) }
 {
     match term {
@@ -229,7 +250,8 @@ fn is_grouped(keys: &[BoundPath], term: &BoundTerm) -> bool
 
 /// Notes an item of an aggregate query that has no term there.
 fn note_grouping_item(keys: &[BoundPath], item: &BoundItem, first: &mut FirstFault)
-    ensures { (fs : Fields) (ls : List Leaf) (ks : List meant.BoundPath) (b : binding.BoundItem) → IsItem fs ls b item.now → map bound_path_view keys.now ≡ ks
+    ensures { (fs : Fields) (ls : List Leaf) (ks : List meant.BoundPath) (b : binding.BoundItem)
+        → IsItem fs ls b item.now → map bound_path_view keys.now ≡ ks
         → first_view first.new ≡ earlier (first_view first.old) (binding.first_fault (binding.grouping_faults ks b)) }
 {
     if !is_grouped(keys, &item.term) {
@@ -239,8 +261,10 @@ fn note_grouping_item(keys: &[BoundPath], item: &BoundItem, first: &mut FirstFau
 
 /// The same for each item.
 fn note_grouping(keys: &[BoundPath], items: &[BoundItem], first: &mut FirstFault)
-    ensures { (fs : Fields) (ls : List Leaf) (ks : List meant.BoundPath) (bs : List binding.BoundItem) → AreItems fs ls bs items.now → map bound_path_view keys.now ≡ ks
-        → first_view first.new ≡ earlier (first_view first.old) (binding.first_fault (flat_map (binding.grouping_faults ks) bs)) }
+    ensures { (fs : Fields) (ls : List Leaf) (ks : List meant.BoundPath) (bs : List binding.BoundItem)
+        → AreItems fs ls bs items.now → map bound_path_view keys.now ≡ ks
+        → first_view first.new ≡ earlier (first_view first.old) (binding.first_fault
+        (flat_map (binding.grouping_faults ks) bs)) }
 {
     'items: for item in items {
         note_grouping_item(keys, item, first);
@@ -272,7 +296,8 @@ fn within_level(within: &Option<BoundWithin>) -> &[Step]
 
 /// The level of the object in which an item of a record query stands.
 fn item_level(term: &BoundTerm) -> &[Step]
-    ensures { (fs : Fields) (ls : List Leaf) (t : binding.BoundTerm) → IsTerm fs ls t term.now → map step_view result.now ≡ binding.item_level t }
+    ensures { (fs : Fields) (ls : List Leaf) (t : binding.BoundTerm) → IsTerm fs ls t term.now
+        → map step_view result.now ≡ binding.item_level t }
 {
     match term {
         BoundTerm::Value(value) => deepest_level(&value.paths),
@@ -283,7 +308,8 @@ fn item_level(term: &BoundTerm) -> &[Step]
 
 /// The level of the object in which an item stands: those of an aggregate query stand in one.
 fn object_of(is_record_query: bool, item: &BoundItem) -> &[Step]
-    ensures { (fs : Fields) (ls : List Leaf) (b : binding.BoundItem) → IsItem fs ls b item.now → map step_view result.now ≡ binding.object_of is_record_query b }
+    ensures { (fs : Fields) (ls : List Leaf) (b : binding.BoundItem) → IsItem fs ls b item.now
+        → map step_view result.now ≡ binding.object_of is_record_query b }
 {
     if is_record_query {
         item_level(&item.term)
@@ -294,7 +320,8 @@ fn object_of(is_record_query: bool, item: &BoundItem) -> &[Step]
 
 /// Whether two items of one object have one name.
 fn has_name_of(is_record_query: bool, item: &BoundItem, other: &BoundItem) -> bool
-    ensures { (fs : Fields) (ls : List Leaf) (b d : binding.BoundItem) → IsItem fs ls b item.now → IsItem fs ls d other.now
+    ensures { (fs : Fields) (ls : List Leaf) (b d : binding.BoundItem) → IsItem fs ls b item.now
+        → IsItem fs ls d other.now
         → result ≡ binding.has_name_of is_record_query b d }
 {
     let object = object_of(is_record_query, item);
@@ -309,7 +336,8 @@ fn has_name_of_list(
     item: &BoundItem,
     other: &BoundItem,
 ) -> bool
-    ensures { (fs : Fields) (ls : List Leaf) (tree : query.Levels) (b d : binding.BoundItem) → levels_view levels.now ≡ joined tree → IsItem fs ls b item.now → IsItem fs ls d other.now
+    ensures { (fs : Fields) (ls : List Leaf) (tree : query.Levels) (b d : binding.BoundItem) → levels_view levels.now
+        ≡ joined tree → IsItem fs ls b item.now → IsItem fs ls d other.now
         → result ≡ binding.has_name_of_list tree is_record_query b d }
 {
     is_list_between(
@@ -322,7 +350,8 @@ fn has_name_of_list(
 
 /// Whether an item has the name of one of some others of its object.
 fn is_item_name(is_record_query: bool, item: &BoundItem, others: &[BoundItem]) -> bool
-    ensures { (fs : Fields) (ls : List Leaf) (b : binding.BoundItem) (ds : List binding.BoundItem) → IsItem fs ls b item.now → AreItems fs ls ds others.now
+    ensures { (fs : Fields) (ls : List Leaf) (b : binding.BoundItem) (ds : List binding.BoundItem)
+        → IsItem fs ls b item.now → AreItems fs ls ds others.now
         → result ≡ list_any (binding.has_name_of is_record_query b) ds }
 {
     'others: for other in others {
@@ -340,7 +369,8 @@ fn is_list_name(
     item: &BoundItem,
     others: &[BoundItem],
 ) -> bool
-    ensures { (fs : Fields) (ls : List Leaf) (tree : query.Levels) (b : binding.BoundItem) (ds : List binding.BoundItem) → levels_view levels.now ≡ joined tree → IsItem fs ls b item.now
+    ensures { (fs : Fields) (ls : List Leaf) (tree : query.Levels) (b : binding.BoundItem) (ds : List binding.BoundItem)
+        → levels_view levels.now ≡ joined tree → IsItem fs ls b item.now
         → AreItems fs ls ds others.now → result ≡ list_any (binding.has_name_of_list tree is_record_query b) ds }
 {
     'others: for other in others {
@@ -359,7 +389,8 @@ fn is_name_taken(
     before: &[BoundItem],
     all: &[BoundItem],
 ) -> bool
-    ensures { (fs : Fields) (ls : List Leaf) (tree : query.Levels) (b : binding.BoundItem) (ds bs : List binding.BoundItem) → levels_view levels.now ≡ joined tree → IsItem fs ls b item.now
+    ensures { (fs : Fields) (ls : List Leaf) (tree : query.Levels) (b : binding.BoundItem)
+        (ds bs : List binding.BoundItem) → levels_view levels.now ≡ joined tree → IsItem fs ls b item.now
         → AreItems fs ls ds before.now → AreItems fs ls bs all.now → result ≡ name_taken tree is_record_query bs ds b }
 {
     is_item_name(is_record_query, item, before) || is_list_name(levels, is_record_query, item, all)
@@ -374,9 +405,11 @@ fn note_name(
     all: &[BoundItem],
     first: &mut FirstFault,
 )
-    ensures { (fs : Fields) (ls : List Leaf) (tree : query.Levels) (b : binding.BoundItem) (ds bs : List binding.BoundItem) → levels_view levels.now ≡ joined tree → IsItem fs ls b item.now
+    ensures { (fs : Fields) (ls : List Leaf) (tree : query.Levels) (b : binding.BoundItem)
+        (ds bs : List binding.BoundItem) → levels_view levels.now ≡ joined tree → IsItem fs ls b item.now
         → AreItems fs ls ds before.now → AreItems fs ls bs all.now
-        → first_view first.new ≡ earlier (first_view first.old) (binding.first_fault (binding.name_faults tree is_record_query bs ds b)) }
+        → first_view first.new ≡ earlier (first_view first.old) (binding.first_fault (binding.name_faults tree
+        is_record_query bs ds b)) }
 {
     if is_name_taken(levels, is_record_query, item, before, all) {
         first.note(item.place, BindProblem::DuplicateName);
@@ -390,8 +423,10 @@ fn note_duplicates(
     items: &[BoundItem],
     first: &mut FirstFault,
 )
-    ensures { (fs : Fields) (ls : List Leaf) (tree : query.Levels) (bs : List binding.BoundItem) → levels_view levels.now ≡ joined tree → AreItems fs ls bs items.now
-        → first_view first.new ≡ earlier (first_view first.old) (binding.first_fault (binding.duplicate_faults tree is_record_query bs)) }
+    ensures { (fs : Fields) (ls : List Leaf) (tree : query.Levels) (bs : List binding.BoundItem)
+        → levels_view levels.now ≡ joined tree → AreItems fs ls bs items.now
+        → first_view first.new ≡ earlier (first_view first.old) (binding.first_fault (binding.duplicate_faults tree
+        is_record_query bs)) }
 {
     'items: for (number, item) in items.iter().enumerate() {
         note_name(

@@ -68,7 +68,8 @@ fn push_paths<'p>(paths: &'p [BoundPath], used: &mut Vec<&'p [Step]>) -> Result<
 
 /// Appends the paths of the items of a record query.
 fn push_record_paths<'p>(items: &'p [BoundItem], used: &mut Vec<&'p [Step]>) -> Result<(), NoMemory>
-    ensures { OnOk result (map lent_path (used.new).items ≡ map lent_path (used.old).items ++ plan.steps_at (plan.record_item_paths items.now)) }
+    ensures { OnOk result (map lent_path (used.new).items
+        ≡ map lent_path (used.old).items ++ plan.steps_at (plan.record_item_paths items.now)) }
 {
     'items: for item in items {
         push_paths(record_paths(&item.term), used)?;
@@ -78,7 +79,8 @@ fn push_record_paths<'p>(items: &'p [BoundItem], used: &mut Vec<&'p [Step]>) -> 
 
 /// Appends the paths of the items of an aggregate query, apart from its keys.
 fn push_group_paths<'p>(items: &'p [BoundItem], used: &mut Vec<&'p [Step]>) -> Result<(), NoMemory>
-    ensures { OnOk result (map lent_path (used.new).items ≡ map lent_path (used.old).items ++ plan.steps_at (plan.group_item_paths items.now)) }
+    ensures { OnOk result (map lent_path (used.new).items
+        ≡ map lent_path (used.old).items ++ plan.steps_at (plan.group_item_paths items.now)) }
 {
     'items: for item in items {
         push_paths(group_paths(&item.term), used)?;
@@ -91,7 +93,9 @@ fn push_selection_paths<'p>(
     parts: &'p BoundParts,
     used: &mut Vec<&'p [Step]>,
 ) -> Result<(), NoMemory>
-    ensures { OnOk result (map lent_path (used.new).items ≡ map lent_path (used.old).items ++ plan.steps_at (plan.selection_paths (parts.now).is_record_query (parts.now).keys.items (parts.now).items.items)) }
+    ensures { OnOk result (map lent_path (used.new).items
+        ≡ map lent_path (used.old).items ++ plan.steps_at
+        (plan.selection_paths (parts.now).is_record_query (parts.now).keys.items (parts.now).items.items)) }
 {
     if parts.is_record_query {
         push_record_paths(parts.items.as_slice(), used)
@@ -105,7 +109,8 @@ fn push_selection_paths<'p>(
 ///
 /// Errors: want of memory alone.
 pub fn used_paths(alloc: Global, parts: &BoundParts) -> Result<Vec<&[Step]>, NoMemory>
-    ensures { IfOk result (λ v. (fs : Fields) (ls : List path_meaning.Leaf) (b : binding.BoundParts) → AreParts fs ls b parts.now → map lent_path v.items ≡ used.used_paths (binding.query_of b)) }
+    ensures { IfOk result (λ v. (fs : Fields) (ls : List path_meaning.Leaf) (b : binding.BoundParts)
+        → AreParts fs ls b parts.now → map lent_path v.items ≡ used.used_paths (binding.query_of b)) }
 {
     let mut used = Vec::new(alloc);
     push_paths(condition_paths(&parts.condition), &mut used)?;

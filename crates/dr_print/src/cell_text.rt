@@ -21,7 +21,8 @@ fn push_whole(text: &mut String, number: i128) -> Result<(), AllocError>
 
 /// Appends the value of a cell, or `null`.
 fn push_cell(alloc: Global, text: &mut String, cell: CellRef<'_>) -> Result<(), AllocError>
-    ensures { OnOk result (string_bytes text.new ≡ string_bytes text.old ++ print.cell_text (own_value (lent_cell cell.entry))) }
+    ensures { OnOk result (string_bytes text.new
+        ≡ string_bytes text.old ++ print.cell_text (own_value (lent_cell cell.entry))) }
 {
     match cell {
         CellRef::Null | CellRef::Count(_) => text.push_str("null"),
@@ -39,7 +40,8 @@ pub fn push_value(
     cells: &Cells,
     at: usize,
 ) -> Result<(), AllocError>
-    ensures { OnOk result (string_bytes text.new ≡ string_bytes text.old ++ print.cell_text (first_value (drop at (cells_view cells.now)))) }
+    ensures { OnOk result (string_bytes text.new
+        ≡ string_bytes text.old ++ print.cell_text (first_value (drop at (cells_view cells.now)))) }
 {
     if at < cells.len() {
         push_cell(alloc, text, cells.get(at))

@@ -22,7 +22,9 @@ fn push_values(
     cells: &Cells,
     at: usize,
 ) -> Result<(), AllocError>
-    ensures { OnOk result (string_bytes text.new ≡ string_bytes text.old ++ separated false (value_members (map string_bytes names.now) (drop at (cells_view cells.now)))) }
+    ensures { OnOk result (string_bytes text.new
+        ≡ string_bytes text.old ++ separated false
+        (value_members (map string_bytes names.now) (drop at (cells_view cells.now)))) }
 {
     'names: for (number, name) in names.iter().enumerate() {
         push_comma(text, number > 0)?;
@@ -48,8 +50,11 @@ pub fn push_object(
     cells: &Cells,
     at: usize,
 ) -> Result<usize, AllocError>
-    ensures text { OnOk result (string_bytes text.new ≡ string_bytes text.old ++ print.object_text (read_object (shape_view shape.now) (drop at (cells_view cells.now))).object) }
-    ensures place { IfOk result (λ end. drop end (cells_view cells.now) ≡ (read_object (shape_view shape.now) (drop at (cells_view cells.now))).rest) }
+    ensures text { OnOk result (string_bytes text.new
+        ≡ string_bytes text.old ++ print.object_text
+        (read_object (shape_view shape.now) (drop at (cells_view cells.now))).object) }
+    ensures place { IfOk result (λ end. drop end (cells_view cells.now)
+        ≡ (read_object (shape_view shape.now) (drop at (cells_view cells.now))).rest) }
 {
     text.push_str("{")?;
     push_values(alloc, text, &shape.names, cells, at)?;
@@ -72,8 +77,13 @@ fn push_lists(
     at: usize,
     behind: bool,
 ) -> Result<usize, AllocError>
-    ensures text { OnOk result (string_bytes text.new ≡ string_bytes text.old ++ separated behind (print.entry_texts (read_lists (lists_view (lists.now).items) (drop counts (cells_view cells.now)) (drop at (cells_view cells.now))).object)) }
-    ensures place { IfOk result (λ end. drop end (cells_view cells.now) ≡ (read_lists (lists_view (lists.now).items) (drop counts (cells_view cells.now)) (drop at (cells_view cells.now))).rest) }
+    ensures text { OnOk result (string_bytes text.new
+        ≡ string_bytes text.old ++ separated behind
+        (print.entry_texts (read_lists (lists_view (lists.now).items) (drop counts (cells_view cells.now))
+        (drop at (cells_view cells.now))).object)) }
+    ensures place { IfOk result (λ end. drop end (cells_view cells.now)
+        ≡ (read_lists (lists_view (lists.now).items) (drop counts (cells_view cells.now))
+        (drop at (cells_view cells.now))).rest) }
 {
     let mut inner = at;
     'lists: for (number, list) in lists.iter().enumerate() {
@@ -97,8 +107,12 @@ fn push_objects(
     count: u64,
     at: usize,
 ) -> Result<usize, AllocError>
-    ensures text { OnOk result (string_bytes text.new ≡ string_bytes text.old ++ separated false (print.object_texts (objects_of (read_times (read_object (shape_view shape.now)) count (drop at (cells_view cells.now))).objects))) }
-    ensures place { IfOk result (λ end. drop end (cells_view cells.now) ≡ (read_times (read_object (shape_view shape.now)) count (drop at (cells_view cells.now))).rest) }
+    ensures text { OnOk result (string_bytes text.new
+        ≡ string_bytes text.old ++ separated false
+        (print.object_texts (objects_of (read_times (read_object (shape_view shape.now)) count
+        (drop at (cells_view cells.now))).objects))) }
+    ensures place { IfOk result (λ end. drop end (cells_view cells.now)
+        ≡ (read_times (read_object (shape_view shape.now)) count (drop at (cells_view cells.now))).rest) }
 {
     let mut next = at;
     'objects: for number in 0..count {

@@ -41,7 +41,8 @@ fn push_instance(
     instance: &Instance,
     shape: &Shape,
 ) -> Result<(), AllocError>
-    ensures { OnOk result (string_bytes text.new ≡ string_bytes text.old ++ print.shape_text (shape_view shape.now) (instance_view instance.now)) }
+    ensures { OnOk result (string_bytes text.new
+        ≡ string_bytes text.old ++ print.shape_text (shape_view shape.now) (instance_view instance.now)) }
 {
     match shape {
         Shape::Leaf(_) => match instance {
@@ -63,7 +64,9 @@ fn push_instances(
     instances: &Vec<Instance>,
     shape: &Shape,
 ) -> Result<(), AllocError>
-    ensures { OnOk result (string_bytes text.new ≡ string_bytes text.old ++ separated false (print.instance_texts (print.shape_text (shape_view shape.now)) (instances_view (instances.now).items))) }
+    ensures { OnOk result (string_bytes text.new
+        ≡ string_bytes text.old ++ separated false
+        (print.instance_texts (print.shape_text (shape_view shape.now)) (instances_view (instances.now).items))) }
 {
     let mut behind = false;
     'instances: for instance in instances {
@@ -82,7 +85,9 @@ fn push_held(
     instances: &Vec<Instance>,
     field: &Field,
 ) -> Result<(), AllocError>
-    ensures { OnOk result (string_bytes text.new ≡ string_bytes text.old ++ held_text (rep_view (field.now).rep) (texts_in (field_view field.now) (instances_view (instances.now).items))) }
+    ensures { OnOk result (string_bytes text.new
+        ≡ string_bytes text.old ++ held_text (rep_view (field.now).rep)
+        (texts_in (field_view field.now) (instances_view (instances.now).items))) }
 {
     match field.rep {
         Rep::Repeated => {
@@ -106,8 +111,10 @@ fn push_slot(
     field: &Field,
     behind: bool,
 ) -> Result<bool, AllocError>
-    ensures text { OnOk result (string_bytes text.new ≡ string_bytes text.old ++ separated behind (members_in (field_view field.now) (slot_view slot.now))) }
-    ensures behind { IfOk result (λ b. b ≡ (behind || has_parts (members_in (field_view field.now) (slot_view slot.now)))) }
+    ensures text { OnOk result (string_bytes text.new
+        ≡ string_bytes text.old ++ separated behind (members_in (field_view field.now) (slot_view slot.now))) }
+    ensures behind { IfOk result (λ b. b ≡ (behind || has_parts
+        (members_in (field_view field.now) (slot_view slot.now)))) }
 {
     match slot {
         Slot::Gap => Ok(behind),
@@ -131,7 +138,9 @@ fn push_members(
     node: &Node,
     fields: &Vec<Field>,
 ) -> Result<(), AllocError>
-    ensures { OnOk result (string_bytes text.new ≡ string_bytes text.old ++ separated false (print.record_members (fields_view (fields.now).items) (node_view node.now))) }
+    ensures { OnOk result (string_bytes text.new
+        ≡ string_bytes text.old ++ separated false
+        (print.record_members (fields_view (fields.now).items) (node_view node.now))) }
 {
     let mut behind = false;
     'slots: for (place, slot) in node.slots.iter().enumerate() {
@@ -151,7 +160,9 @@ fn push_node(
     node: &Node,
     fields: &Vec<Field>,
 ) -> Result<(), AllocError>
-    ensures { OnOk result (string_bytes text.new ≡ string_bytes text.old ++ print.braced (print.record_members (fields_view (fields.now).items) (node_view node.now))) }
+    ensures { OnOk result (string_bytes text.new
+        ≡ string_bytes text.old ++ print.braced (print.record_members (fields_view (fields.now).items)
+        (node_view node.now))) }
 {
     text.push_str("{")?;
     push_members(alloc, text, node, fields)?;
@@ -168,7 +179,8 @@ pub fn push_record_text(
     schema: &Schema,
     node: &Node,
 ) -> Result<(), NoMemory>
-    ensures { OnOk result (string_bytes text.new ≡ string_bytes text.old ++ print.record_text (fields_view (schema.now).fields.items) (node_view node.now)) }
+    ensures { OnOk result (string_bytes text.new
+        ≡ string_bytes text.old ++ print.record_text (fields_view (schema.now).fields.items) (node_view node.now)) }
 {
     push_node(alloc, text, node, &schema.fields)?;
     text.push_str("\n")?;
@@ -179,7 +191,8 @@ pub fn push_record_text(
 ///
 /// Errors: want of memory alone.
 pub fn record_text(alloc: Global, schema: &Schema, node: &Node) -> Result<String, NoMemory>
-    ensures { IfOk result (λ s. string_bytes s ≡ print.record_text (fields_view (schema.now).fields.items) (node_view node.now)) }
+    ensures { IfOk result (λ s. string_bytes s
+        ≡ print.record_text (fields_view (schema.now).fields.items) (node_view node.now)) }
 {
     let mut text = String::new(alloc);
     push_record_text(alloc, &mut text, schema, node)?;

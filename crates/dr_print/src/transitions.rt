@@ -40,7 +40,8 @@ fn push_leaf_name(text: &mut String, leaf: &Path) -> Result<(), AllocError>
 
 /// Appends the name of the leaf that a state is, or `end`.
 fn push_target(text: &mut String, leaves: &[&Path], state: State) -> Result<(), AllocError>
-    ensures { OnOk result (string_bytes text.new ≡ string_bytes text.old ++ meant.target_name (lent_leaves leaves.now) (state_view state)) }
+    ensures { OnOk result (string_bytes text.new
+        ≡ string_bytes text.old ++ meant.target_name (lent_leaves leaves.now) (state_view state)) }
 {
     match state {
         State::End => text.push_str("end"),
@@ -59,7 +60,8 @@ fn push_transition(
     level: u32,
     state: State,
 ) -> Result<(), AllocError>
-    ensures { OnOk result (string_bytes text.new ≡ string_bytes text.old ++ line_to (lent_leaves leaves.now) (path_view leaf.now) level (state_view state)) }
+    ensures { OnOk result (string_bytes text.new
+        ≡ string_bytes text.old ++ line_to (lent_leaves leaves.now) (path_view leaf.now) level (state_view state)) }
 {
     push_leaf_name(text, leaf)?;
     text.push_str(" ")?;
@@ -78,7 +80,8 @@ fn push_leaf(
     place: u32,
 ) -> Result<(), AllocError>
     requires next { IsAutomatonOf automaton.now (paths_of (lent_leaves leaves.now)) }
-    ensures { OnOk result (string_bytes text.new ≡ string_bytes text.old ++ meant.leaf_lines (lent_leaves leaves.now) (path_view leaf.now) place) }
+    ensures { OnOk result (string_bytes text.new
+        ≡ string_bytes text.old ++ meant.leaf_lines (lent_leaves leaves.now) (path_view leaf.now) place) }
 {
     'levels: for level in 0..=max_r(leaf) {
         push_transition(text, leaves, leaf, level, automaton.next(place, level))?;
@@ -90,7 +93,8 @@ fn push_leaf(
 fn push_leaves(text: &mut String, leaves: &[&Path], automaton: &Automaton) -> Result<(), AllocError>
     requires next { IsAutomatonOf automaton.now (paths_of (lent_leaves leaves.now)) }
     requires few { length leaves.now < 2 ^ 32 }
-    ensures { OnOk result (string_bytes text.new ≡ string_bytes text.old ++ meant.automaton_text (lent_leaves leaves.now)) }
+    ensures { OnOk result (string_bytes text.new
+        ≡ string_bytes text.old ++ meant.automaton_text (lent_leaves leaves.now)) }
 {
     'leaves: for place in 0..leaves.len() {
         push_leaf(text, leaves, automaton, leaves[place], place as u32)?;
@@ -114,9 +118,9 @@ fn leaves_at<'a>(
     Ok(leaves)
 }
 
-/// An automaton as text: a line `LEAF LEVEL NEXT` or `LEAF LEVEL end` for each leaf in the automaton's order and each of
-/// its levels, which ascend. A leaf is written as its names, joined by dots. The selection is that of which the automaton
-/// was built.
+/// An automaton as text: a line `LEAF LEVEL NEXT` or `LEAF LEVEL end` for each leaf in the automaton's order and each
+/// of its levels, which ascend. A leaf is written as its names, joined by dots. The selection is that of which the
+/// automaton was built.
 ///
 /// Errors: want of memory, also where there are more than 4,294,967,295 leaves, as no schema has.
 pub fn automaton_text(
@@ -124,9 +128,11 @@ pub fn automaton_text(
     fields: &[Path],
     automaton: &Automaton,
 ) -> Result<String, NoMemory>
-    requires next { IsAutomatonOf automaton.now (paths_at (map (λ (p : Path). (path_view p).path) fields.now) (leaves_of automaton.now)) }
+    requires next { IsAutomatonOf automaton.now
+        (paths_at (map (λ (p : Path). (path_view p).path) fields.now) (leaves_of automaton.now)) }
     requires within { All (λ i. i < length fields.now) (leaves_of automaton.now) }
-    ensures { IfOk result (λ s. string_bytes s ≡ meant.automaton_text (fsm.leaves_at (map path_view fields.now) (leaves_of automaton.now))) }
+    ensures { IfOk result (λ s. string_bytes s
+        ≡ meant.automaton_text (fsm.leaves_at (map path_view fields.now) (leaves_of automaton.now))) }
 {
     let places = automaton.leaves();
     if places.len() > u32::MAX as usize {

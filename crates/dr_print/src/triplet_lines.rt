@@ -33,7 +33,8 @@ fn push_value(
     text: &mut String,
     value: Option<ValueRef<'_>>,
 ) -> Result<(), AllocError>
-    ensures { OnOk result (string_bytes text.new ≡ string_bytes text.old ++ stripe.value_or_null (option_map lent_value value.entry)) }
+    ensures { OnOk result (string_bytes text.new
+        ≡ string_bytes text.old ++ stripe.value_or_null (option_map lent_value value.entry)) }
 {
     match value {
         None => text.push_str("NULL"),
@@ -46,7 +47,8 @@ fn push_value(
 
 /// Appends a triplet's line.
 fn push_triplet(alloc: Global, text: &mut String, triplet: Triplet<'_>) -> Result<(), AllocError>
-    ensures { OnOk result (string_bytes text.new ≡ string_bytes text.old ++ stripe.triplet_text (triplet_view triplet.entry)) }
+    ensures { OnOk result (string_bytes text.new
+        ≡ string_bytes text.old ++ stripe.triplet_text (triplet_view triplet.entry)) }
 {
     push_value(alloc, text, triplet.value)?;
     text.push_str(" ")?;
@@ -69,7 +71,8 @@ pub fn triplet_text(alloc: Global, triplet: Triplet<'_>) -> Result<String, NoMem
 
 /// Appends the lines of the triplets that are left.
 fn push_triplets(alloc: Global, text: &mut String, rest: Triplets<'_>) -> Result<(), AllocError>
-    ensures { OnOk result (string_bytes text.new ≡ string_bytes text.old ++ stripe.column_text (triplets_view rest.entry)) }
+    ensures { OnOk result (string_bytes text.new
+        ≡ string_bytes text.old ++ stripe.column_text (triplets_view rest.entry)) }
 {
     let mut rest = rest;
     'triplets: loop {

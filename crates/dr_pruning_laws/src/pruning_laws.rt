@@ -80,7 +80,8 @@ pub fn frames_make_flow()
     ensures puts { FramesMakeFlow Put }
 {}
 
-/// What the kept moves make depends on the condition by the branches that the query drops alone: of values, and of puts.
+/// What the kept moves make depends on the condition by the branches that the query drops alone: of values, and of
+/// puts.
 pub fn flow_is_kept()
     ensures values { FlowIsKept (Option Value) }
     ensures puts { FlowIsKept Put }

@@ -38,11 +38,13 @@ pub enum Queried {
     Left(Vec<LeftTablet>),
 }
 
-/// What a plan's query prints of the records of a table. Of each tablet the plan's leaves alone are read, from the first of its copies
-/// that gives records, and become a partial answer; a serving tree with so many children to a server at most gathers the partials, and
-/// its root gives the result, which doesn't depend on the tree. Or the tablets that are left, of which no copy gives records.
+/// What a plan's query prints of the records of a table. Of each tablet the plan's leaves alone are read, from the
+/// first of its copies that gives records, and become a partial answer; a serving tree with so many children to a
+/// server at most gathers the partials, and its root gives the result, which doesn't depend on the tree. Or the tablets
+/// that are left, of which no copy gives records.
 ///
-/// Errors: want of memory, or of room: the texts of a result have less than 4 GiB together, and the number of groups is bounded.
+/// Errors: want of memory, or of room: the texts of a result have less than 4 GiB together, and the number of groups is
+/// bounded.
 pub fn query_table<R: Threads + Sync, L: Link>(
     rt: &R,
     alloc: Global,
@@ -53,9 +55,14 @@ pub fn query_table<R: Threads + Sync, L: Link>(
 ) -> Result<Queried, NoMemory>
     requires planned { IsOfSchema (schema_view (table.now).schema) plan.now }
     requires fan { 1 ≤ fan }
-    ensures text { ForQuery (schema_view (table.now).schema) plan.now (λ q. IfOk result (WhereText (IsAnswerOf (table_view table.now) q (L.shows link.old).held))) }
-    ensures left { ForQuery (schema_view (table.now).schema) plan.now (λ q. IfOk result (WhereLeft (λ left. LeavesTablets (table_view table.now) (query_leaves (table_view table.now).schema.fields q) left (L.shows link.old) (L.shows link.new)))) }
-    ensures asks { ForQuery (schema_view (table.now).schema) plan.now (λ q. AsksForTablets (query_leaves (table_view table.now).schema.fields q) (tablets_of (table_view table.now)) (L.shows link.old) (L.shows link.new)) }
+    ensures text { ForQuery (schema_view (table.now).schema) plan.now
+        (λ q. IfOk result (WhereText (IsAnswerOf (table_view table.now) q (L.shows link.old).held))) }
+    ensures left { ForQuery (schema_view (table.now).schema) plan.now
+        (λ q. IfOk result (WhereLeft (λ left. LeavesTablets (table_view table.now)
+        (query_leaves (table_view table.now).schema.fields q) left (L.shows link.old) (L.shows link.new)))) }
+    ensures asks { ForQuery (schema_view (table.now).schema) plan.now
+        (λ q. AsksForTablets (query_leaves (table_view table.now).schema.fields q) (tablets_of (table_view table.now))
+        (L.shows link.old) (L.shows link.new)) }
     ensures same { (L.shows link.new).held ≡ (L.shows link.old).held }
     ensures never_falls { (L.shows link.old).faults ≤ (L.shows link.new).faults }
     ensures stays_steady { IsTrue (L.shows link.old).is_steady → IsTrue (L.shows link.new).is_steady }

@@ -2,19 +2,21 @@
 
 ghost use Rattle.dr_query_laws.specs.FaultLaws.{FewOperatorsBeforeFault, LimitIsNoDeadEnd, LittleNestedBeforeFault, TokensBeforeFaultGoOn};
 
-/// The tokens before a fault of a query text, of syntax or of a limit, begin a query: it goes on with none of them for sure only from the
-/// fault on.
+/// The tokens before a fault of a query text, of syntax or of a limit, begin a query: it goes on with none of them for
+/// sure only from the fault on.
 pub fn tokens_before_query_fault_go_on()
     ensures { TokensBeforeFaultGoOn }
 {}
 
-/// No token before a fault of a query text, of syntax or of a limit, is the 513th among + - * AND OR, and none opens a nesting where 32 are open.
+/// No token before a fault of a query text, of syntax or of a limit, is the 513th among + - * AND OR, and none opens a
+/// nesting where 32 are open.
 pub fn no_limit_is_passed_before_query_fault()
     ensures operators { FewOperatorsBeforeFault }
     ensures nestings { LittleNestedBeforeFault }
 {}
 
-/// The token with which a query text has too many or is too deep could stand there: the tokens before it and it begin a query.
+/// The token with which a query text has too many or is too deep could stand there: the tokens before it and it begin a
+/// query.
 pub fn query_limit_is_no_dead_end()
     ensures { LimitIsNoDeadEnd }
 {}

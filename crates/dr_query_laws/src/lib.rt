@@ -1,4 +1,5 @@
-//! Laws of the query language and of its rewriting that no other crate rests on. Each function has an empty body, and its contract is a law.
+//! Laws of the query language and of its rewriting that no other crate rests on. Each function has an empty body, and
+//! its contract is a law.
 #![tactic(auto)]
 
 pub mod binding_laws;

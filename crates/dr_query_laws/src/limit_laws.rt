@@ -2,7 +2,8 @@
 
 ghost use Rattle.dr_query_laws.specs.LimitLaws.{TooManyStandsAtItsToken, AcceptedHasFewOperators, AcceptedHasFewItems, AcceptedHasFewKeys};
 
-/// A query text that has too many stops at the 513th token among + - * AND OR, or at the first token of the 257th item or of the 257th key.
+/// A query text that has too many stops at the 513th token among + - * AND OR, or at the first token of the 257th item
+/// or of the 257th key.
 pub fn too_many_stands_at_its_token()
     ensures { TooManyStandsAtItsToken }
 {}

@@ -2,7 +2,8 @@
 
 ghost use Rattle.dr_query_laws.specs.NestingLaws.{TooDeepStandsAtItsToken, OneNumberIsOpen, AcceptedNestsLittle};
 
-/// A query text that is too deep stops at a token that opens a nesting, a parenthesis, a NOT or a minus sign, where exactly 32 are open.
+/// A query text that is too deep stops at a token that opens a nesting, a parenthesis, a NOT or a minus sign, where
+/// exactly 32 are open.
 pub fn too_deep_stands_at_its_token()
     ensures { TooDeepStandsAtItsToken }
 {}

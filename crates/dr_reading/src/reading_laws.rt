@@ -2,8 +2,8 @@
 
 ghost use Rattle.dr_reading.specs.ReadingLaws.{GivenAreProjected, ReadTextIsMeant, OtherCausesHoldNoFile, LeftHoldsNoFile, LeftFailedToRead, SteadyLeavesNone};
 
-/// Whatever copy of each tablet gave its records: where each copy holds a file of the tablet's records, or none of any, what is printed of
-/// the records that were given is what is to be printed of the tablets' records.
+/// Whatever copy of each tablet gave its records: where each copy holds a file of the tablet's records, or none of any,
+/// what is printed of the records that were given is what is to be printed of the tablets' records.
 pub fn read_text_is_meant()
     ensures given { GivenAreProjected }
     ensures text { ReadTextIsMeant }
@@ -19,7 +19,8 @@ pub fn left_holds_no_file()
     ensures { LeftHoldsNoFile }
 {}
 
-/// Where each tablet has a copy that is a file, a tablet is left only where the read of such a copy failed, and none where the link is steady.
+/// Where each tablet has a copy that is a file, a tablet is left only where the read of such a copy failed, and none
+/// where the link is steady.
 pub fn held_files_are_read()
     ensures failed { LeftFailedToRead }
     ensures steady { SteadyLeavesNone }

@@ -1,6 +1,6 @@
-//! Public calls of the crates that read, bind, plan and run queries, each once more under the promises that it makes there.
-//! That a call's own promises give these is proved here; so a wrong body that these refuse is refused by the call's own
-//! crate, too. The wrong bodies stand in must-fail/, one line each.
+//! Public calls of the crates that read, bind, plan and run queries, each once more under the promises that it makes
+//! there. That a call's own promises give these is proved here; so a wrong body that these refuse is refused by the
+//! call's own crate, too. The wrong bodies stand in must-fail/, one line each.
 #![tactic(auto)]
 
 pub mod cells;

@@ -33,7 +33,8 @@ pub fn loaded<S: Source, K: Keeper>(
     ensures end { OnOk result (WhereTold (S.shows source.old).left (λ _. (S.shows source.new).left ≡ Some [])) }
 
     ensures refused { IfErr result (λ e. MatchOption (refusal_of e) ⊤
-        (λ r. WhereTold (S.shows source.old).left (λ input. (meant.load (plan_view plan.now) input).refusal ≡ Some r))) }
+        (λ r. WhereTold (S.shows source.old).left (λ input. (meant.load (plan_view plan.now) input).refusal
+        ≡ Some r))) }
     ensures stands { IfErr result (λ e. WhereTold (S.shows source.old).left
         (λ input. LeavesPuts (plan_view plan.now) input (K.shows keeper.old) (K.shows keeper.new) e)) }
 

@@ -32,7 +32,8 @@ fn literal(alloc: Global, expression: Expr) -> BoundExpression
     }
 }
 
-/// What an operator at a place has made of its operands, whose paths these are. Where they are of wrong types, that is noted.
+/// What an operator at a place has made of its operands, whose paths these are. Where they are of wrong types, that is
+/// noted.
 fn made_at(
     place: usize,
     made: Option<Expr>,
@@ -74,9 +75,11 @@ fn unary(
     operand: Option<BoundExpression>,
     first: &mut FirstFault,
 ) -> Result<Option<BoundExpression>, NoMemory>
-    ensures { IfOk result (λ o. (fs : Fields) (ls : List Leaf) (c : meant.Checked meant.BoundExpression) (before : Option meant.BindFault)
+    ensures { IfOk result (λ o. (fs : Fields) (ls : List Leaf) (c : meant.Checked meant.BoundExpression)
+        (before : Option meant.BindFault)
         → Came (IsExpression fs ls) before (first_view first.old) c operand
-        → Came (IsExpression fs ls) before (first_view first.new) (meant.one_operand place (unary_type operator.entry) (unary_of operator.entry) c) o) }
+        → Came (IsExpression fs ls) before (first_view first.new) (meant.one_operand place (unary_type operator.entry)
+        (unary_of operator.entry) c) o) }
 {
     match operand {
         None => Ok(None),
@@ -98,9 +101,12 @@ fn binary(
     right: Option<BoundExpression>,
     first: &mut FirstFault,
 ) -> Result<Option<BoundExpression>, NoMemory>
-    ensures { IfOk result (λ o. (fs : Fields) (ls : List Leaf) (c d : meant.Checked meant.BoundExpression) (before between : Option meant.BindFault)
-        → Came (IsExpression fs ls) before between c left → Came (IsExpression fs ls) between (first_view first.old) d right
-        → Came (IsExpression fs ls) before (first_view first.new) (meant.two_operands place (binary_type operator) (binary_of operator) c d) o) }
+    ensures { IfOk result (λ o. (fs : Fields) (ls : List Leaf) (c d : meant.Checked meant.BoundExpression)
+        (before between : Option meant.BindFault)
+        → Came (IsExpression fs ls) before between c left → Came (IsExpression fs
+        ls) between (first_view first.old) d right
+        → Came (IsExpression fs ls) before (first_view first.new) (meant.two_operands place (binary_type operator)
+        (binary_of operator) c d) o) }
 {
     let Some((left, right)) = left.zip(right) else {
         return Ok(None);
@@ -120,7 +126,9 @@ impl Binder<'_> {
         expression: &Expression<'_>,
         first: &mut FirstFault,
     ) -> Result<Option<BoundExpression>, NoMemory>
-        ensures { IfOk result (λ o. Came (IsExpression (fields_in self.entry) (leaves_in self.entry)) (first_view first.old) (first_view first.new) (meant.bind_expression (fields_in self.entry) (syntax.expression_view expression.now)) o) }
+        ensures { IfOk result (λ o. Came (IsExpression (fields_in self.entry) (leaves_in self.entry))
+            (first_view first.old) (first_view first.new)
+            (meant.bind_expression (fields_in self.entry) (syntax.expression_view expression.now)) o) }
     {
         match expression {
             Expression::Number(number) => {
@@ -174,7 +182,10 @@ impl Binder<'_> {
         operand: &Expression<'_>,
         first: &mut FirstFault,
     ) -> Result<Option<BoundExpression>, NoMemory>
-        ensures { IfOk result (λ o. Came (IsExpression (fields_in self.entry) (leaves_in self.entry)) (first_view first.old) (first_view first.new) (meant.one_operand place (unary_type operator.entry) (unary_of operator.entry) (meant.bind_expression (fields_in self.entry) (syntax.expression_view operand.now))) o) }
+        ensures { IfOk result (λ o. Came (IsExpression (fields_in self.entry) (leaves_in self.entry))
+            (first_view first.old) (first_view first.new)
+            (meant.one_operand place (unary_type operator.entry) (unary_of operator.entry)
+            (meant.bind_expression (fields_in self.entry) (syntax.expression_view operand.now))) o) }
     {
         let operand = self.expression(operand, first)?;
         unary(self.alloc, place, operator, operand, first)
@@ -190,7 +201,8 @@ impl Binder<'_> {
         first: &mut FirstFault,
     ) -> Result<Option<BoundExpression>, NoMemory>
         ensures { IfOk result (CameIn self.entry (first_view first.old) (first_view first.new)
-            (meant.two_operands place (binary_type operator) (binary_of operator) (bound_in self.entry left.now) (bound_in self.entry right.now))) }
+            (meant.two_operands place (binary_type operator) (binary_of operator) (bound_in self.entry left.now)
+            (bound_in self.entry right.now))) }
     {
         let left = self.expression(left, first)?;
         let right = self.expression(right, first)?;

@@ -62,7 +62,8 @@ fn own_name(alloc: Global, number: usize, term: &Term<'_>) -> Result<String, NoM
 
 /// The name that AS gives an item, or its own.
 fn item_name(alloc: Global, number: usize, item: &Item<'_>) -> Result<String, NoMemory>
-    ensures { IfOk result (λ s. string_bytes s ≡ binding.item_name number (syntax.term_view (item.now).term) (syntax.maybe_lent (item.now).name)) }
+    ensures { IfOk result (λ s. string_bytes s
+        ≡ binding.item_name number (syntax.term_view (item.now).term) (syntax.maybe_lent (item.now).name)) }
 {
     match item.name {
         Some(name) => Ok(String::from_str(alloc, name)?),
@@ -84,7 +85,8 @@ fn push_bound<T: Drop>(bound: &mut Vec<T>, part: Option<T>) -> Result<(), NoMemo
 }
 
 impl Binder<'_> {
-    /// An item, which has a number among the items. An argument that fails by its WITHIN alone is appended to those that stand alone.
+    /// An item, which has a number among the items. An argument that fails by its WITHIN alone is appended to those
+    /// that stand alone.
     ///
     /// Errors: want of memory alone.
     fn item(
@@ -94,8 +96,12 @@ impl Binder<'_> {
         alone: &mut Vec<BoundExpression>,
         first: &mut FirstFault,
     ) -> Result<Option<BoundItem>, NoMemory>
-        ensures alone { OnOk result (Appends (fields_in self.entry) (leaves_in self.entry) (binding.argument_alone (fields_in self.entry) (item.now).place (syntax.term_view (item.now).term)) (alone.old).items (alone.new).items) }
-        ensures item { IfOk result (λ o. Came (IsItem (fields_in self.entry) (leaves_in self.entry)) (first_view first.old) (first_view first.new) (binding.bind_item (fields_in self.entry) number (syntax.item_view item.now)) o) }
+        ensures alone { OnOk result (Appends (fields_in self.entry) (leaves_in self.entry)
+            (binding.argument_alone (fields_in self.entry) (item.now).place (syntax.term_view (item.now).term))
+            (alone.old).items (alone.new).items) }
+        ensures item { IfOk result (λ o. Came (IsItem (fields_in self.entry) (leaves_in self.entry))
+            (first_view first.old) (first_view first.new)
+            (binding.bind_item (fields_in self.entry) number (syntax.item_view item.now)) o) }
     {
         let place = item.place;
         match self.term(place, &item.term, alone, first)? {
@@ -107,7 +113,8 @@ impl Binder<'_> {
         }
     }
 
-    /// The items that could be bound. The arguments that fail by their WITHIN alone are appended to those that stand alone.
+    /// The items that could be bound. The arguments that fail by their WITHIN alone are appended to those that stand
+    /// alone.
     ///
     /// Errors: want of memory alone.
     pub(crate) fn items(
@@ -116,9 +123,14 @@ impl Binder<'_> {
         alone: &mut Vec<BoundExpression>,
         first: &mut FirstFault,
     ) -> Result<Vec<BoundItem>, NoMemory>
-        ensures alone { OnOk result (Appends (fields_in self.entry) (leaves_in self.entry) (binding.arguments_alone (fields_in self.entry) (map syntax.item_view items.now)) (alone.old).items (alone.new).items) }
-        ensures items { IfOk result (λ v. AreItems (fields_in self.entry) (leaves_in self.entry) (binding.passing (binding.bind_items (fields_in self.entry) 0 (map syntax.item_view items.now))) v.items) }
-        ensures first { IfOk result (λ v. first_view first.new ≡ earlier (first_view first.old) (binding.first_fault (flat_map binding.faults_in (binding.bind_items (fields_in self.entry) 0 (map syntax.item_view items.now))))) }
+        ensures alone { OnOk result (Appends (fields_in self.entry) (leaves_in self.entry)
+            (binding.arguments_alone (fields_in self.entry) (map syntax.item_view items.now)) (alone.old).items
+            (alone.new).items) }
+        ensures items { IfOk result (λ v. AreItems (fields_in self.entry) (leaves_in self.entry)
+            (binding.passing (binding.bind_items (fields_in self.entry) 0 (map syntax.item_view items.now))) v.items) }
+        ensures first { IfOk result (λ v. first_view first.new
+            ≡ earlier (first_view first.old) (binding.first_fault (flat_map binding.faults_in
+            (binding.bind_items (fields_in self.entry) 0 (map syntax.item_view items.now))))) }
     {
         let mut bound = Vec::new(self.alloc);
         'items: for (number, item) in items.iter().enumerate() {
@@ -136,8 +148,11 @@ impl Binder<'_> {
         keys: &[Path<'_>],
         first: &mut FirstFault,
     ) -> Result<Vec<BoundPath>, NoMemory>
-        ensures keys { IfOk result (λ v. map bound_path_view v.items ≡ binding.passing (map (meant.bind_path (fields_in self.entry)) (map syntax.path_view keys.now))) }
-        ensures first { IfOk result (λ v. first_view first.new ≡ earlier (first_view first.old) (binding.first_fault (flat_map binding.faults_in (map (meant.bind_path (fields_in self.entry)) (map syntax.path_view keys.now))))) }
+        ensures keys { IfOk result (λ v. map bound_path_view v.items
+            ≡ binding.passing (map (meant.bind_path (fields_in self.entry)) (map syntax.path_view keys.now))) }
+        ensures first { IfOk result (λ v. first_view first.new
+            ≡ earlier (first_view first.old) (binding.first_fault (flat_map binding.faults_in
+            (map (meant.bind_path (fields_in self.entry)) (map syntax.path_view keys.now))))) }
     {
         let mut bound = Vec::new(self.alloc);
         'keys: for key in keys {

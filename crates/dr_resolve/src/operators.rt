@@ -39,7 +39,8 @@ impl Unary<'_> {
     /// Errors: want of memory alone.
     pub fn apply(self, alloc: Global, operand: Expr) -> Result<Option<Expr>, NoMemory>
         ensures typed { IfOk result (λ o. option_map type_of o ≡ unary_type self.entry (type_of operand)) }
-        ensures view { IfOk result (λ o. IfSome o (λ e. (ls : List Leaf) → expr_view ls e ≡ unary_of self.entry (expr_view ls operand))) }
+        ensures view { IfOk result (λ o. IfSome o (λ e. (ls : List Leaf) → expr_view ls e
+            ≡ unary_of self.entry (expr_view ls operand))) }
         ensures fits { IfOk result (λ o. IfSome o (λ e. (ls : List Leaf) → expr_fits ls e ≡ expr_fits ls operand)) }
     {
         match operand {
@@ -102,8 +103,10 @@ impl Binary {
     /// Errors: want of memory alone.
     pub fn apply(self, alloc: Global, left: Expr, right: Expr) -> Result<Option<Expr>, NoMemory>
         ensures typed { IfOk result (λ o. option_map type_of o ≡ binary_type self (type_of left) (type_of right)) }
-        ensures view { IfOk result (λ o. IfSome o (λ e. (ls : List Leaf) → expr_view ls e ≡ binary_of self (expr_view ls left) (expr_view ls right))) }
-        ensures fits { IfOk result (λ o. IfSome o (λ e. (ls : List Leaf) → expr_fits ls e ≡ (expr_fits ls left && expr_fits ls right))) }
+        ensures view { IfOk result (λ o. IfSome o (λ e. (ls : List Leaf) → expr_view ls e
+            ≡ binary_of self (expr_view ls left) (expr_view ls right))) }
+        ensures fits { IfOk result (λ o. IfSome o (λ e. (ls : List Leaf) → expr_fits ls e
+            ≡ (expr_fits ls left && expr_fits ls right))) }
     {
         match left {
             Expr::Truth(left) => match right {

@@ -49,8 +49,11 @@ impl Binder<'_> {
     ///
     /// Errors: want of memory alone.
     pub fn parts(self, query: &Query<'_>, first: &mut FirstFault) -> Result<BoundParts, NoMemory>
-        ensures parts { IfOk result (λ p. AreParts (fields_in self.entry) (leaves_in self.entry) (binding.bind_parts (fields_in self.entry) (syntax.query_view query.now)) p) }
-        ensures first { IfOk result (λ p. first_view first.new ≡ earlier (first_view first.old) (binding.first_fault (binding.part_faults (binding.bind_parts (fields_in self.entry) (syntax.query_view query.now))))) }
+        ensures parts { IfOk result (λ p. AreParts (fields_in self.entry) (leaves_in self.entry)
+            (binding.bind_parts (fields_in self.entry) (syntax.query_view query.now)) p) }
+        ensures first { IfOk result (λ p. first_view first.new
+            ≡ earlier (first_view first.old) (binding.first_fault
+            (binding.part_faults (binding.bind_parts (fields_in self.entry) (syntax.query_view query.now))))) }
     {
         let condition = self.condition(&query.condition, first)?;
         let mut arguments = Vec::new(self.alloc);

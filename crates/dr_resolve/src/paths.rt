@@ -40,7 +40,8 @@ fn kept_names(alloc: Global, names: &[&str]) -> Result<Vec<String>, NoMemory>
 fn value_of_leaf(kind: Kind, number: u32) -> Expr
     ensures typed { type_of result ≡ meant.kind_type (kind_view kind) }
     ensures view { (ls : List Leaf) → expr_view ls result ≡ leaf_value ls number }
-    ensures fits { (ls : List Leaf) → expr_fits ls result ≡ leaf_has_type (meant.kind_type (kind_view kind)) (slice_get ls number) }
+    ensures fits { (ls : List Leaf) → expr_fits ls result
+        ≡ leaf_has_type (meant.kind_type (kind_view kind)) (slice_get ls number) }
 {
     match kind {
         Kind::Bool => Expr::Truth(Truth::Leaf(number)),
@@ -58,7 +59,8 @@ impl Binder<'_> {
         path: &dr_sql::Path<'_>,
         first: &mut FirstFault,
     ) -> Result<Option<BoundPath>, NoMemory>
-        ensures { IfOk result (λ o. Came IsPath (first_view first.old) (first_view first.new) (meant.bind_path (fields_in self.entry) (syntax.path_view path.now)) o) }
+        ensures { IfOk result (λ o. Came IsPath (first_view first.old) (first_view first.new)
+            (meant.bind_path (fields_in self.entry) (syntax.path_view path.now)) o) }
     {
         let place = path.place;
         let Some(found) = resolve(self.alloc, &self.schema.fields, &path.names)? else {
@@ -86,8 +88,10 @@ impl Binder<'_> {
         ensures gives { IfOk result (λ x. type_of x.expression ≡ meant.kind_type (path_view path.leaf).kind) }
         ensures alone { IfOk result (λ x. x.is_path ≡ true) }
         ensures paths { IfOk result (λ x. map bound_path_view x.paths.items ≡ bound_path_view path ∷ []) }
-        ensures view { IfOk result (λ x. IsAmong (leaves_in self.entry) (path_view path.leaf) → expr_view (leaves_in self.entry) x.expression ≡ path_value (path_view path.leaf).path) }
-        ensures fits { IfOk result (λ x. IsAmong (leaves_in self.entry) (path_view path.leaf) → expr_fits (leaves_in self.entry) x.expression ≡ true) }
+        ensures view { IfOk result (λ x. IsAmong (leaves_in self.entry) (path_view path.leaf)
+            → expr_view (leaves_in self.entry) x.expression ≡ path_value (path_view path.leaf).path) }
+        ensures fits { IfOk result (λ x. IsAmong (leaves_in self.entry) (path_view path.leaf)
+            → expr_fits (leaves_in self.entry) x.expression ≡ true) }
     {
         let number = leaf_number(self.leaves, &path.leaf.steps);
         let expression = value_of_leaf(path.leaf.kind, number);

@@ -25,7 +25,9 @@ pub(crate) struct Found<'a> {
 
 /// The field of a name in a group, with its place.
 fn find_field<'a>(fields: &'a Vec<Field>, name: &str) -> Option<(usize, &'a Field)>
-    ensures { MatchOption result (paths.named_field name.now 0 (fields_view (fields.now).items) ≡ None) (λ f. paths.named_field name.now 0 (fields_view (fields.now).items) ≡ Some (found_at f.0 (field_view f.1.now))) }
+    ensures { MatchOption result (paths.named_field name.now 0 (fields_view (fields.now).items) ≡ None)
+        (λ f. paths.named_field name.now 0 (fields_view (fields.now).items)
+        ≡ Some (found_at f.0 (field_view f.1.now))) }
 {
     'fields: for (place, field) in fields.iter().enumerate() {
         if name == field.name.as_str() {
@@ -51,7 +53,8 @@ pub(crate) fn resolve<'a>(
     fields: &'a Vec<Field>,
     names: &[&str],
 ) -> Result<Option<Found<'a>>, AllocError>
-    ensures { IfOk result (λ o. option_map found_view o ≡ paths.find_path (map lent names.now) (fields_view (fields.now).items)) }
+    ensures { IfOk result (λ o. option_map found_view o
+        ≡ paths.find_path (map lent names.now) (fields_view (fields.now).items)) }
 {
     let mut steps = Vec::new(alloc);
     let mut end = End::Group(fields);

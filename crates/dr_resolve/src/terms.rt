@@ -36,8 +36,10 @@ fn number_at(
     value: Option<BoundExpression>,
     first: &mut FirstFault,
 ) -> Option<BoundExpression>
-    ensures { (fs : Fields) (ls : List Leaf) (c : meant.Checked meant.BoundExpression) (before : Option meant.BindFault) → Came (IsExpression fs ls) before (first_view first.old) c value
-        → Came (IsExpression fs ls) before (first_view first.new) (meant.then_check (meant.of_type meant.number_type place) c) result }
+    ensures { (fs : Fields) (ls : List Leaf) (c : meant.Checked meant.BoundExpression) (before : Option meant.BindFault)
+        → Came (IsExpression fs ls) before (first_view first.old) c value
+        → Came (IsExpression fs ls) before (first_view first.new) (meant.then_check (meant.of_type meant.number_type
+        place) c) result }
 {
     match value {
         None => None,
@@ -58,8 +60,10 @@ fn truth_at(
     value: Option<BoundExpression>,
     first: &mut FirstFault,
 ) -> Option<BoundCondition>
-    ensures { (fs : Fields) (ls : List Leaf) (c : meant.Checked meant.BoundExpression) (before : Option meant.BindFault) → Came (IsExpression fs ls) before (first_view first.old) c value
-        → Came (IsTruth fs ls) before (first_view first.new) (meant.then_check (meant.of_type meant.truth_type place) c) result }
+    ensures { (fs : Fields) (ls : List Leaf) (c : meant.Checked meant.BoundExpression) (before : Option meant.BindFault)
+        → Came (IsExpression fs ls) before (first_view first.old) c value
+        → Came (IsTruth fs ls) before (first_view first.new) (meant.then_check (meant.of_type meant.truth_type place)
+        c) result }
 {
     match value {
         None => None,
@@ -96,8 +100,8 @@ fn fold_of(aggregate: Aggregate) -> Fold
     }
 }
 
-/// An aggregate of an argument within a node, if both could be bound. An argument that could be, beside a WITHIN that could not, is appended to
-/// those that stand alone.
+/// An aggregate of an argument within a node, if both could be bound. An argument that could be, beside a WITHIN that
+/// could not, is appended to those that stand alone.
 ///
 /// Errors: want of memory alone.
 fn aggregated(
@@ -106,10 +110,12 @@ fn aggregated(
     within: Option<Option<BoundWithin>>,
     alone: &mut Vec<BoundExpression>,
 ) -> Result<Option<BoundTerm>, NoMemory>
-    ensures term { IfOk result (λ o. (fs : Fields) (ls : List Leaf) (c : meant.Checked meant.BoundExpression) (d : meant.Checked (Option binding.BoundWithin)) (before between now : Option meant.BindFault)
+    ensures term { IfOk result (λ o. (fs : Fields) (ls : List Leaf) (c : meant.Checked meant.BoundExpression)
+        (d : meant.Checked (Option binding.BoundWithin)) (before between now : Option meant.BindFault)
         → Came (IsExpression fs ls) before between c argument → Came IsWithin between now d within
         → Came (IsTerm fs ls) before now (meant.together (binding.aggregated (fold_view fold)) c d) o) }
-    ensures alone { OnOk result ((fs : Fields) (ls : List Leaf) (c : meant.Checked meant.BoundExpression) (d : meant.Checked (Option binding.BoundWithin)) (before between now : Option meant.BindFault)
+    ensures alone { OnOk result ((fs : Fields) (ls : List Leaf) (c : meant.Checked meant.BoundExpression)
+        (d : meant.Checked (Option binding.BoundWithin)) (before between now : Option meant.BindFault)
         → Came (IsExpression fs ls) before between c argument → Came IsWithin between now d within
         → Appends fs ls (binding.alone c d) (alone.old).items (alone.new).items) }
 {
@@ -144,7 +150,9 @@ impl Binder<'_> {
         condition: &Option<Condition<'_>>,
         first: &mut FirstFault,
     ) -> Result<Option<Option<BoundCondition>>, NoMemory>
-        ensures { IfOk result (λ o. Came (IsCondition (fields_in self.entry) (leaves_in self.entry)) (first_view first.old) (first_view first.new) (binding.bind_condition (fields_in self.entry) (syntax.maybe_condition condition.now)) o) }
+        ensures { IfOk result (λ o. Came (IsCondition (fields_in self.entry) (leaves_in self.entry))
+            (first_view first.old) (first_view first.new)
+            (binding.bind_condition (fields_in self.entry) (syntax.maybe_condition condition.now)) o) }
     {
         match condition {
             None => Ok(Some(None)),
@@ -166,7 +174,8 @@ impl Binder<'_> {
         within: &Option<Within<'_>>,
         first: &mut FirstFault,
     ) -> Result<Option<Option<BoundWithin>>, NoMemory>
-        ensures { IfOk result (λ o. Came IsWithin (first_view first.old) (first_view first.new) (binding.bind_within (fields_in self.entry) (syntax.maybe_within within.now)) o) }
+        ensures { IfOk result (λ o. Came IsWithin (first_view first.old) (first_view first.new)
+            (binding.bind_within (fields_in self.entry) (syntax.maybe_within within.now)) o) }
     {
         match within {
             None => Ok(Some(None)),
@@ -183,7 +192,8 @@ impl Binder<'_> {
         node: &Node<'_>,
         first: &mut FirstFault,
     ) -> Result<Option<Option<BoundWithin>>, NoMemory>
-        ensures { IfOk result (λ o. Came IsWithin (first_view first.old) (first_view first.new) (binding.bind_node (fields_in self.entry) place (syntax.node_view node.now)) o) }
+        ensures { IfOk result (λ o. Came IsWithin (first_view first.old) (first_view first.new)
+            (binding.bind_node (fields_in self.entry) place (syntax.node_view node.now)) o) }
     {
         match node {
             Node::Record => Ok(Some(Some(BoundWithin {
@@ -219,7 +229,10 @@ impl Binder<'_> {
         argument: &Expression<'_>,
         first: &mut FirstFault,
     ) -> Result<Option<BoundExpression>, NoMemory>
-        ensures { IfOk result (λ o. Came (IsExpression (fields_in self.entry) (leaves_in self.entry)) (first_view first.old) (first_view first.new) (binding.bind_argument (fields_in self.entry) place (syntax.aggregate_view aggregate) (syntax.expression_view argument.now)) o) }
+        ensures { IfOk result (λ o. Came (IsExpression (fields_in self.entry) (leaves_in self.entry))
+            (first_view first.old) (first_view first.new)
+            (binding.bind_argument (fields_in self.entry) place (syntax.aggregate_view aggregate)
+            (syntax.expression_view argument.now)) o) }
     {
         let argument = self.expression(argument, first)?;
         match aggregate {
@@ -228,7 +241,8 @@ impl Binder<'_> {
         }
     }
 
-    /// What the item at a place gives. An argument that fails by its WITHIN alone is appended to those that stand alone.
+    /// What the item at a place gives. An argument that fails by its WITHIN alone is appended to those that stand
+    /// alone.
     ///
     /// Errors: want of memory alone.
     pub(crate) fn term(
@@ -238,8 +252,12 @@ impl Binder<'_> {
         alone: &mut Vec<BoundExpression>,
         first: &mut FirstFault,
     ) -> Result<Option<BoundTerm>, NoMemory>
-        ensures term { IfOk result (λ o. Came (IsTerm (fields_in self.entry) (leaves_in self.entry)) (first_view first.old) (first_view first.new) (binding.bind_term (fields_in self.entry) place (syntax.term_view term.now)) o) }
-        ensures alone { OnOk result (Appends (fields_in self.entry) (leaves_in self.entry) (binding.argument_alone (fields_in self.entry) place (syntax.term_view term.now)) (alone.old).items (alone.new).items) }
+        ensures term { IfOk result (λ o. Came (IsTerm (fields_in self.entry) (leaves_in self.entry))
+            (first_view first.old) (first_view first.new)
+            (binding.bind_term (fields_in self.entry) place (syntax.term_view term.now)) o) }
+        ensures alone { OnOk result (Appends (fields_in self.entry) (leaves_in self.entry)
+            (binding.argument_alone (fields_in self.entry) place (syntax.term_view term.now)) (alone.old).items
+            (alone.new).items) }
     {
         match term {
             Term::Expression(expression) => match self.expression(expression, first)? {

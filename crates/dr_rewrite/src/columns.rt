@@ -43,7 +43,8 @@ pub(crate) fn aggregate_name(alloc: Global, number: usize) -> Result<String, NoM
 
 /// What servers call the keys.
 pub(crate) fn key_names(alloc: Global, keys: &[u32]) -> Result<Vec<String>, NoMemory>
-    ensures { IfOk result (λ v. map string_bytes v.items ≡ written.indexed (λ (i k : ℕ). written.key_name i) 0 keys.now) }
+    ensures { IfOk result (λ v. map string_bytes v.items
+        ≡ written.indexed (λ (i k : ℕ). written.key_name i) 0 keys.now) }
 {
     let mut texts = Vec::with_capacity(alloc, keys.len())?;
     'keys: for (place, _) in keys.iter().enumerate() {

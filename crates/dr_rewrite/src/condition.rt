@@ -13,14 +13,18 @@ use crate::paths::Names;
 use dr_plan::{Joining, Truth};
 use std::alloc::AllocError;
 
-/// Appends WHERE with a condition as it was written, given its conjuncts and how it joins them; nothing where there is none.
+/// Appends WHERE with a condition as it was written, given its conjuncts and how it joins them; nothing where there is
+/// none.
 pub(crate) fn push_condition(
     tests: &[Truth],
     joining: &Option<Joining>,
     names: &Names<'_>,
     out: &mut String,
 ) -> Result<(), AllocError>
-    ensures { OnOk result (string_bytes out.new ≡ string_bytes out.old ++ meant.where_text (written_path names.now) (condition_written (map (truth_view (written_leaves names.now)) tests.now) (option_map joining_view joining.now))) }
+    ensures { OnOk result (string_bytes out.new
+        ≡ string_bytes out.old ++ meant.where_text (written_path names.now)
+        (condition_written (map (truth_view (written_leaves names.now)) tests.now)
+        (option_map joining_view joining.now))) }
 {
     match joining {
         None => Ok(()),
@@ -38,7 +42,9 @@ fn push_joined(
     names: &Names<'_>,
     out: &mut String,
 ) -> Result<(), AllocError>
-    ensures { OnOk result (string_bytes out.new ≡ string_bytes out.old ++ meant.expression_text (written_path names.now) (rejoined (map (truth_view (written_leaves names.now)) tests.now) (joining_view joining.now))) }
+    ensures { OnOk result (string_bytes out.new
+        ≡ string_bytes out.old ++ meant.expression_text (written_path names.now)
+        (rejoined (map (truth_view (written_leaves names.now)) tests.now) (joining_view joining.now))) }
 {
     match joining {
         Joining::Conjunct(number) => push_conjunct(*number, tests, names, out),
@@ -59,7 +65,9 @@ fn push_conjunct(
     names: &Names<'_>,
     out: &mut String,
 ) -> Result<(), AllocError>
-    ensures { OnOk result (string_bytes out.new ≡ string_bytes out.old ++ meant.expression_text (written_path names.now) (or_true (slice_get (map (truth_view (written_leaves names.now)) tests.now) number))) }
+    ensures { OnOk result (string_bytes out.new
+        ≡ string_bytes out.old ++ meant.expression_text (written_path names.now)
+        (or_true (slice_get (map (truth_view (written_leaves names.now)) tests.now) number))) }
 {
     match tests.get(number) {
         Some(test) => push_truth_of(test, names, out),

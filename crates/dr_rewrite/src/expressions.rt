@@ -14,7 +14,9 @@ use std::alloc::AllocError;
 /// Appends a number's expression.
 #[cycle(numbers)]
 fn push_number_of(number: &Number, names: &Names<'_>, out: &mut String) -> Result<(), AllocError>
-    ensures { OnOk result (string_bytes out.new ≡ string_bytes out.old ++ meant.expression_text (written_path names.now) (number_view (written_leaves names.now) number.now)) }
+    ensures { OnOk result (string_bytes out.new
+        ≡ string_bytes out.old ++ meant.expression_text (written_path names.now)
+        (number_view (written_leaves names.now) number.now)) }
 {
     match number {
         Number::Literal(value) => push_number(*value, out),
@@ -39,7 +41,11 @@ fn push_operation(
     names: &Names<'_>,
     out: &mut String,
 ) -> Result<(), AllocError>
-    ensures { OnOk result (string_bytes out.new ≡ string_bytes out.old ++ meant.in_parentheses (meant.expression_text (written_path names.now) (number_view (written_leaves names.now) left.now) ++ (sign.now ++ meant.expression_text (written_path names.now) (number_view (written_leaves names.now) right.now)))) }
+    ensures { OnOk result (string_bytes out.new
+        ≡ string_bytes out.old ++ meant.in_parentheses
+        (meant.expression_text (written_path names.now) (number_view (written_leaves names.now) left.now)
+        ++ (sign.now ++ meant.expression_text (written_path names.now)
+        (number_view (written_leaves names.now) right.now)))) }
 {
     out.push_str("(")?;
     push_number_of(left, names, out)?;
@@ -50,7 +56,9 @@ fn push_operation(
 
 /// Appends a text's expression.
 fn push_text_of(text: &TextOf, names: &Names<'_>, out: &mut String) -> Result<(), AllocError>
-    ensures { OnOk result (string_bytes out.new ≡ string_bytes out.old ++ meant.expression_text (written_path names.now) (text_view (written_leaves names.now) text.now)) }
+    ensures { OnOk result (string_bytes out.new
+        ≡ string_bytes out.old ++ meant.expression_text (written_path names.now)
+        (text_view (written_leaves names.now) text.now)) }
 {
     match text {
         TextOf::Literal(value) => push_text(value.as_str(), out),
@@ -72,7 +80,9 @@ pub(crate) fn push_truth_of(
     names: &Names<'_>,
     out: &mut String,
 ) -> Result<(), AllocError>
-    ensures { OnOk result (string_bytes out.new ≡ string_bytes out.old ++ meant.expression_text (written_path names.now) (truth_view (written_leaves names.now) truth.now)) }
+    ensures { OnOk result (string_bytes out.new
+        ≡ string_bytes out.old ++ meant.expression_text (written_path names.now)
+        (truth_view (written_leaves names.now) truth.now)) }
 {
     match truth {
         Truth::Literal(value) => push_truth(*value, out),
@@ -126,7 +136,11 @@ fn push_joined(
     names: &Names<'_>,
     out: &mut String,
 ) -> Result<(), AllocError>
-    ensures { OnOk result (string_bytes out.new ≡ string_bytes out.old ++ meant.in_parentheses (meant.expression_text (written_path names.now) (truth_view (written_leaves names.now) left.now) ++ (word.now ++ meant.expression_text (written_path names.now) (truth_view (written_leaves names.now) right.now)))) }
+    ensures { OnOk result (string_bytes out.new
+        ≡ string_bytes out.old ++ meant.in_parentheses
+        (meant.expression_text (written_path names.now) (truth_view (written_leaves names.now) left.now)
+        ++ (word.now ++ meant.expression_text (written_path names.now)
+        (truth_view (written_leaves names.now) right.now)))) }
 {
     out.push_str("(")?;
     push_truth_of(left, names, out)?;
@@ -141,7 +155,9 @@ pub(crate) fn push_expression(
     names: &Names<'_>,
     out: &mut String,
 ) -> Result<(), AllocError>
-    ensures { OnOk result (string_bytes out.new ≡ string_bytes out.old ++ meant.expression_text (written_path names.now) (expr_view (written_leaves names.now) expression.now)) }
+    ensures { OnOk result (string_bytes out.new
+        ≡ string_bytes out.old ++ meant.expression_text (written_path names.now)
+        (expr_view (written_leaves names.now) expression.now)) }
 {
     match expression {
         Expr::Truth(truth) => push_truth_of(truth, names, out),
@@ -172,7 +188,10 @@ fn push_compared_numbers(
     names: &Names<'_>,
     out: &mut String,
 ) -> Result<(), AllocError>
-    ensures { OnOk result (string_bytes out.new ≡ string_bytes out.old ++ meant.expression_text (written_path names.now) (language.comparison (comparison_view comparison) (number_view (written_leaves names.now) left.now) (number_view (written_leaves names.now) right.now))) }
+    ensures { OnOk result (string_bytes out.new
+        ≡ string_bytes out.old ++ meant.expression_text (written_path names.now)
+        (language.comparison (comparison_view comparison) (number_view (written_leaves names.now) left.now)
+        (number_view (written_leaves names.now) right.now))) }
 {
     out.push_str("(")?;
     push_number_of(left, names, out)?;
@@ -189,7 +208,10 @@ fn push_compared_texts(
     names: &Names<'_>,
     out: &mut String,
 ) -> Result<(), AllocError>
-    ensures { OnOk result (string_bytes out.new ≡ string_bytes out.old ++ meant.expression_text (written_path names.now) (language.comparison (comparison_view comparison) (text_view (written_leaves names.now) left.now) (text_view (written_leaves names.now) right.now))) }
+    ensures { OnOk result (string_bytes out.new
+        ≡ string_bytes out.old ++ meant.expression_text (written_path names.now)
+        (language.comparison (comparison_view comparison) (text_view (written_leaves names.now) left.now)
+        (text_view (written_leaves names.now) right.now))) }
 {
     out.push_str("(")?;
     push_text_of(left, names, out)?;
@@ -206,7 +228,10 @@ fn push_text_test(
     names: &Names<'_>,
     out: &mut String,
 ) -> Result<(), AllocError>
-    ensures { OnOk result (string_bytes out.new ≡ string_bytes out.old ++ meant.in_parentheses (meant.expression_text (written_path names.now) (text_view (written_leaves names.now) text.now) ++ (word.now ++ meant.text_literal literal.now))) }
+    ensures { OnOk result (string_bytes out.new
+        ≡ string_bytes out.old ++ meant.in_parentheses
+        (meant.expression_text (written_path names.now) (text_view (written_leaves names.now) text.now)
+        ++ (word.now ++ meant.text_literal literal.now))) }
 {
     out.push_str("(")?;
     push_text_of(text, names, out)?;

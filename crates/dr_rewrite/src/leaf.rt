@@ -23,8 +23,8 @@ fn leaf_selection(alloc: Global, selection: Selection) -> Result<Selection, NoMe
     }
 }
 
-/// The plan by which a leaf server runs a plan on a tablet: it gives each key, then each aggregate, as k0, .., a0, ..; one that lists objects is run
-/// as it is.
+/// The plan by which a leaf server runs a plan on a tablet: it gives each key, then each aggregate, as k0, .., a0, ..;
+/// one that lists objects is run as it is.
 ///
 /// Errors: want of memory alone.
 pub fn leaf_of(alloc: Global, plan: Plan) -> Result<Plan, NoMemory>

@@ -68,7 +68,9 @@ pub(crate) fn leaf_items(
     aggregates: &[Aggregate],
     names: &Names<'_>,
 ) -> Result<Vec<String>, NoMemory>
-    ensures { IfOk result (λ v. map string_bytes v.items ≡ written.indexed (written.leaf_key names.now) 0 keys.now ++ written.indexed (written.leaf_aggregate names.now) 0 aggregates.now) }
+    ensures { IfOk result (λ v. map string_bytes v.items
+        ≡ written.indexed (written.leaf_key names.now) 0 keys.now
+        ++ written.indexed (written.leaf_aggregate names.now) 0 aggregates.now) }
 {
     let mut texts = Vec::new(alloc);
     'keys: for (place, key) in keys.iter().enumerate() {
@@ -85,7 +87,8 @@ fn push_leaf_aggregates(
     names: &Names<'_>,
     texts: &mut Vec<String>,
 ) -> Result<(), NoMemory>
-    ensures { OnOk result (map string_bytes (texts.new).items ≡ map string_bytes (texts.old).items ++ written.indexed (written.leaf_aggregate names.now) 0 aggregates.now) }
+    ensures { OnOk result (map string_bytes (texts.new).items
+        ≡ map string_bytes (texts.old).items ++ written.indexed (written.leaf_aggregate names.now) 0 aggregates.now) }
 {
     'aggregates: for (place, aggregate) in aggregates.iter().enumerate() {
         texts.push(leaf_aggregate(alloc, place, aggregate, names)?)?;

@@ -17,7 +17,9 @@ use std::alloc::{AllocError, Global};
 
 /// Appends SELECT, items, and the table.
 fn push_select(items: &[String], table: &str, out: &mut String) -> Result<(), AllocError>
-    ensures { OnOk result (string_bytes out.new ≡ string_bytes out.old ++ (codes "SELECT " ++ (meant.commas (map string_bytes items.now) ++ (codes " FROM " ++ table.now)))) }
+    ensures { OnOk result (string_bytes out.new
+        ≡ string_bytes out.old ++ (codes "SELECT "
+        ++ (meant.commas (map string_bytes items.now) ++ (codes " FROM " ++ table.now)))) }
 {
     out.push_str("SELECT ")?;
     push_listed(items, out)?;
@@ -27,7 +29,8 @@ fn push_select(items: &[String], table: &str, out: &mut String) -> Result<(), Al
 
 /// Appends GROUP BY and keys, where there are any.
 fn push_group_by(keys: &[String], out: &mut String) -> Result<(), AllocError>
-    ensures { OnOk result (string_bytes out.new ≡ string_bytes out.old ++ meant.group_by_text (map string_bytes keys.now)) }
+    ensures { OnOk result (string_bytes out.new
+        ≡ string_bytes out.old ++ meant.group_by_text (map string_bytes keys.now)) }
 {
     match keys {
         [] => Ok(()),
@@ -47,7 +50,8 @@ fn push_leaf_line(
     names: &Names<'_>,
     out: &mut String,
 ) -> Result<(), NoMemory>
-    ensures { OnOk result (string_bytes out.new ≡ string_bytes out.old ++ written.leaf_line names.now tests.now joining.now selection.now) }
+    ensures { OnOk result (string_bytes out.new
+        ≡ string_bytes out.old ++ written.leaf_line names.now tests.now joining.now selection.now) }
 {
     match selection {
         Selection::Objects(items, _) => {

@@ -34,7 +34,8 @@ pub(crate) fn push_truth(truth: bool, out: &mut String) -> Result<(), AllocError
 
 /// A text before and behind its first single quote, if it has one.
 fn cut_at_quote(text: &str) -> Option<(&str, &str)>
-    ensures cut { MatchOption result (doubled text.now ≡ text.now) (λ x. doubled text.now ≡ x.0.now ++ 39 ∷ 39 ∷ doubled x.1.now) }
+    ensures cut { MatchOption result (doubled text.now ≡ text.now) (λ x. doubled text.now
+        ≡ x.0.now ++ 39 ∷ 39 ∷ doubled x.1.now) }
     ensures shorter { IfSome result (λ x. length x.1.now < length text.now) }
 {
     text.split_once('\'')

@@ -16,7 +16,8 @@ use dr_nested::Path;
 use dr_plan::{Aggregate, GroupItem, Plan, Selection};
 use std::alloc::Global;
 
-/// What is made of the results of children: they stand one behind another, or a query is run over their rows, whose leaves are the rows' columns.
+/// What is made of the results of children: they stand one behind another, or a query is run over their rows, whose
+/// leaves are the rows' columns.
 #[derive(Debug, Drop)]
 pub enum Merge {
     Concatenate,
@@ -60,8 +61,8 @@ fn merging_plan(
     })
 }
 
-/// What an intermediate server makes of its children's results: it groups them by their keys again, and merges each aggregate's column; those of a plan
-/// that lists objects stand one behind another.
+/// What an intermediate server makes of its children's results: it groups them by their keys again, and merges each
+/// aggregate's column; those of a plan that lists objects stand one behind another.
 ///
 /// Errors: want of memory alone.
 pub fn inner_of(alloc: Global, plan: &Plan) -> Result<Merge, NoMemory>
@@ -78,7 +79,8 @@ pub fn inner_of(alloc: Global, plan: &Plan) -> Result<Merge, NoMemory>
     }
 }
 
-/// What the root makes of its children's results: as an intermediate server, but with the plan's items, their names and their order.
+/// What the root makes of its children's results: as an intermediate server, but with the plan's items, their names and
+/// their order.
 ///
 /// Errors: want of memory alone.
 pub fn root_of(alloc: Global, plan: &Plan) -> Result<Merge, NoMemory>

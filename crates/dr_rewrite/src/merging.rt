@@ -14,7 +14,8 @@ use std::alloc::{AllocError, Global};
 
 /// Appends the aggregate that merges what another has gathered, by the other's word and number.
 fn push_merging(word: &str, number: usize, out: &mut String) -> Result<(), AllocError>
-    ensures { OnOk result (string_bytes out.new ≡ string_bytes out.old ++ (word.now ++ in_parentheses (written.aggregate_name number))) }
+    ensures { OnOk result (string_bytes out.new
+        ≡ string_bytes out.old ++ (word.now ++ in_parentheses (written.aggregate_name number))) }
 {
     out.push_str(word)?;
     out.push_str("(")?;
@@ -39,7 +40,8 @@ pub(crate) fn push_inner_aggregates(
     aggregates: &[Aggregate],
     texts: &mut Vec<String>,
 ) -> Result<(), NoMemory>
-    ensures { OnOk result (map string_bytes (texts.new).items ≡ map string_bytes (texts.old).items ++ written.indexed written.inner_aggregate 0 aggregates.now) }
+    ensures { OnOk result (map string_bytes (texts.new).items
+        ≡ map string_bytes (texts.old).items ++ written.indexed written.inner_aggregate 0 aggregates.now) }
 {
     'aggregates: for (place, aggregate) in aggregates.iter().enumerate() {
         texts.push(inner_aggregate(alloc, place, aggregate)?)?;

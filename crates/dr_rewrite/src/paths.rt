@@ -34,7 +34,9 @@ fn push_names(
     before: &str,
     out: &mut String,
 ) -> Result<(), AllocError>
-    ensures { OnOk result (string_bytes out.new ≡ string_bytes out.old ++ dotted before.now (meant.path_names (map step_view steps.now) (group (fields_view (fields.now).items)))) }
+    ensures { OnOk result (string_bytes out.new
+        ≡ string_bytes out.old ++ dotted before.now
+        (meant.path_names (map step_view steps.now) (group (fields_view (fields.now).items)))) }
 {
     match steps {
         [] => Ok(()),
@@ -58,14 +60,16 @@ pub(crate) fn push_path(
     steps: &[Step],
     out: &mut String,
 ) -> Result<(), AllocError>
-    ensures { OnOk result (string_bytes out.new ≡ string_bytes out.old ++ written_path names.now (map step_view steps.now)) }
+    ensures { OnOk result (string_bytes out.new
+        ≡ string_bytes out.old ++ written_path names.now (map step_view steps.now)) }
 {
     push_names(&names.schema.fields, steps, "", out)
 }
 
 /// Appends the path of the leaf of this number.
 pub(crate) fn push_leaf(leaf: u32, names: &Names<'_>, out: &mut String) -> Result<(), AllocError>
-    ensures { OnOk result (string_bytes out.new ≡ string_bytes out.old ++ written_path names.now (path_of (slice_get (written_leaves names.now) leaf))) }
+    ensures { OnOk result (string_bytes out.new
+        ≡ string_bytes out.old ++ written_path names.now (path_of (slice_get (written_leaves names.now) leaf))) }
 {
     match names.leaves.get(leaf as usize) {
         Some(path) => push_path(names, &path.steps, out),

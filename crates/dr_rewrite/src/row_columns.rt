@@ -48,7 +48,8 @@ fn value_kind(expression: &Expr) -> Kind
     }
 }
 
-/// The kind of a column that has an aggregate's values: a count and a sum are numbers, a least and a greatest value are as the argument's are.
+/// The kind of a column that has an aggregate's values: a count and a sum are numbers, a least and a greatest value are
+/// as the argument's are.
 pub(crate) fn aggregate_kind(aggregate: &Aggregate) -> Kind
     ensures { result ≡ meant.aggregate_kind aggregate.now }
 {
@@ -90,7 +91,8 @@ pub(crate) fn row_columns(
     keys: &[u32],
     aggregates: &[Aggregate],
 ) -> Result<Vec<Path>, NoMemory>
-    ensures { IfOk result (λ v. map path_view v.items ≡ meant.row_columns (map path_view leaves.now) keys.now aggregates.now) }
+    ensures { IfOk result (λ v. map path_view v.items
+        ≡ meant.row_columns (map path_view leaves.now) keys.now aggregates.now) }
 {
     let mut columns = Vec::new(alloc);
     'keys: for (place, key) in keys.iter().enumerate() {
@@ -107,7 +109,8 @@ fn push_aggregate_columns(
     aggregates: &[Aggregate],
     columns: &mut Vec<Path>,
 ) -> Result<(), NoMemory>
-    ensures { OnOk result (map path_view (columns.new).items ≡ map path_view (columns.old).items ++ indexed (meant.aggregate_column keys) 0 aggregates.now) }
+    ensures { OnOk result (map path_view (columns.new).items
+        ≡ map path_view (columns.old).items ++ indexed (meant.aggregate_column keys) 0 aggregates.now) }
 {
     'aggregates: for (place, aggregate) in aggregates.iter().enumerate() {
         columns.push(aggregate_column(alloc, keys, place, aggregate)?)?;

@@ -55,7 +55,8 @@ fn push_aggregate_items(
     aggregates: &[Aggregate],
     items: &mut Vec<GroupItem>,
 ) -> Result<(), NoMemory>
-    ensures { OnOk result (map meant.titled (items.new).items ≡ map meant.titled (items.old).items ++ meant.titled_aggregates aggregates.now) }
+    ensures { OnOk result (map meant.titled (items.new).items
+        ≡ map meant.titled (items.old).items ++ meant.titled_aggregates aggregates.now) }
 {
     'aggregates: for (place, _) in aggregates.iter().enumerate() {
         items.push(aggregate_item(alloc, place)?)?;

@@ -43,7 +43,9 @@ fn push_fold(
     names: &Names<'_>,
     out: &mut String,
 ) -> Result<(), AllocError>
-    ensures { OnOk result (string_bytes out.new ≡ string_bytes out.old ++ meant.aggregate_text (written_path names.now) (fold_view fold) (expr_view (written_leaves names.now) argument.now)) }
+    ensures { OnOk result (string_bytes out.new
+        ≡ string_bytes out.old ++ meant.aggregate_text (written_path names.now) (fold_view fold)
+        (expr_view (written_leaves names.now) argument.now)) }
 {
     out.push_str(word_of(fold))?;
     out.push_str("(")?;
@@ -57,7 +59,9 @@ pub(crate) fn push_aggregate(
     names: &Names<'_>,
     out: &mut String,
 ) -> Result<(), AllocError>
-    ensures { OnOk result (string_bytes out.new ≡ string_bytes out.old ++ meant.group_term_text (written_path names.now) [] (aggregate_view (written_leaves names.now) aggregate.now)) }
+    ensures { OnOk result (string_bytes out.new
+        ≡ string_bytes out.old ++ meant.group_term_text (written_path names.now) []
+        (aggregate_view (written_leaves names.now) aggregate.now)) }
 {
     match aggregate {
         Aggregate::Rows => out.push_str("COUNT(*)"),
@@ -67,7 +71,8 @@ pub(crate) fn push_aggregate(
 
 /// Appends the node of WITHIN.
 fn push_node(node: &[Step], names: &Names<'_>, out: &mut String) -> Result<(), AllocError>
-    ensures { OnOk result (string_bytes out.new ≡ string_bytes out.old ++ meant.node_text (written_path names.now) (map step_view node.now)) }
+    ensures { OnOk result (string_bytes out.new
+        ≡ string_bytes out.old ++ meant.node_text (written_path names.now) (map step_view node.now)) }
 {
     match node {
         [] => out.push_str("RECORD"),
@@ -81,7 +86,9 @@ pub(crate) fn push_record_term(
     names: &Names<'_>,
     out: &mut String,
 ) -> Result<(), AllocError>
-    ensures { OnOk result (string_bytes out.new ≡ string_bytes out.old ++ meant.record_term_text (written_path names.now) (record_term_view (written_leaves names.now) term.now)) }
+    ensures { OnOk result (string_bytes out.new
+        ≡ string_bytes out.old ++ meant.record_term_text (written_path names.now)
+        (record_term_view (written_leaves names.now) term.now)) }
 {
     match term {
         RecordTerm::Value(value) => push_expression(value, names, out),

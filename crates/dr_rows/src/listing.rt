@@ -26,7 +26,9 @@ pub fn rows_of<'n>(
     whole: &'n Node,
 ) -> Result<Rows<'n>, NoMemory>
     ensures width { IfOk result (λ t. rows_width t ≡ length leaves.now) }
-    ensures rows { IfOk result (λ t. rows_view t ≡ map (known (paths_view leaves.now) (map step_view level.now)) (rows_meaning.rows (map step_view level.now) (node_view whole.now))) }
+    ensures rows { IfOk result (λ t. rows_view t
+        ≡ map (known (paths_view leaves.now) (map step_view level.now))
+        (rows_meaning.rows (map step_view level.now) (node_view whole.now))) }
 {
     let mut values = Vec::new(alloc);
     values.resize(leaves.len(), None)?;
@@ -42,8 +44,8 @@ pub fn rows_of<'n>(
     Ok(rows)
 }
 
-/// The rows of a level within a row that is cut along the level's first steps, in order: where these end nowhere, the row
-/// itself. Nothing of the record is copied.
+/// The rows of a level within a row that is cut along the level's first steps, in order: where these end nowhere, the
+/// row itself. Nothing of the record is copied.
 ///
 /// Errors: want of memory alone.
 pub fn rows_within<'n>(
@@ -56,9 +58,11 @@ pub fn rows_within<'n>(
     requires depth { depth ≤ length level.now }
     requires values { length row.values.now ≡ length leaves.now }
     ensures width { IfOk result (λ t. rows_width t ≡ length leaves.now) }
-    ensures rows { IfOk result (λ t. (whole : record_tree.Node) → is_cut (map step_view (take depth level.now)) whole ≡ true
+    ensures rows { IfOk result (λ t. (whole : record_tree.Node) → is_cut (map step_view (take depth level.now)) whole
+        ≡ true
         → row_view row.entry ≡ known (paths_view leaves.now) (map step_view (take depth level.now)) whole
-        → rows_view t ≡ map (known (paths_view leaves.now) (map step_view level.now)) (rows_meaning.rows (map step_view level.now) whole)) }
+        → rows_view t ≡ map (known (paths_view leaves.now)
+        (map step_view level.now)) (rows_meaning.rows (map step_view level.now) whole)) }
 {
     let mut values = Vec::from_slice(alloc, row.values)?;
     let mut rows = Rows::new(alloc, leaves.len());

@@ -53,7 +53,9 @@ fn value_of<'n>(
     instance: InstanceRef<'n>,
     value: Option<ValueRef<'n>>,
 ) -> Option<ValueRef<'n>>
-    ensures { option_map lent_value result ≡ filled_one (behind (map step_view front.now) (map step_view (leaf.now).steps.items)) (lent_instance instance.entry) (option_map lent_value value.entry) }
+    ensures { option_map lent_value result ≡ filled_one
+        (behind (map step_view front.now) (map step_view (leaf.now).steps.items)) (lent_instance instance.entry)
+        (option_map lent_value value.entry) }
 {
     match steps_behind(front, &leaf.steps) {
         Some(rest) => value_below(rest, instance),
@@ -69,7 +71,8 @@ pub fn fill<'n>(
     values: &mut [Option<ValueRef<'n>>],
 )
     requires { length values.old ≡ length leaves.now }
-    ensures { lent_cells values.new ≡ filled (map step_view front.now) (lent_instance instance.entry) (paths_view leaves.now) (lent_cells values.old) }
+    ensures { lent_cells values.new ≡ filled (map step_view front.now) (lent_instance instance.entry)
+        (paths_view leaves.now) (lent_cells values.old) }
 {
     'leaves: for number in 0..leaves.len() {
         let value = values[number];

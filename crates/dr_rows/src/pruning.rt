@@ -16,8 +16,10 @@ use dr_nested::{Instance, Node, Slot, Step};
 /// Whether a node is kept along a level.
 #[cycle(pruning)]
 fn prune_node(node: &mut Node, level: &[Step], answers: &mut Answers<'_>) -> bool
-    ensures kept { kept_if result (node_view node.new) ≡ (pruned_along (map step_view level.now) (node_view node.old) (answers.old).rest.now).kept }
-    ensures left { (answers.new).rest.now ≡ (pruned_along (map step_view level.now) (node_view node.old) (answers.old).rest.now).left }
+    ensures kept { kept_if result (node_view node.new)
+        ≡ (pruned_along (map step_view level.now) (node_view node.old) (answers.old).rest.now).kept }
+    ensures left { (answers.new).rest.now ≡ (pruned_along (map step_view level.now) (node_view node.old)
+        (answers.old).rest.now).left }
 {
     match level {
         [] => answers.next(),
@@ -29,8 +31,11 @@ fn prune_node(node: &mut Node, level: &[Step], answers: &mut Answers<'_>) -> boo
 #[cycle(pruning)]
 fn prune_field(node: &mut Node, place: usize, level: &[Step], answers: &mut Answers<'_>) -> bool
     ensures kept { kept_if result (node_view node.new)
-        ≡ option_map (λ xs. put_at place xs (node_view node.old)) (pruned_field (pruned_instance (pruned_along (map step_view level.now))) (instances_at place (node_view node.old)) (answers.old).rest.now).kept }
-    ensures left { (answers.new).rest.now ≡ (pruned_field (pruned_instance (pruned_along (map step_view level.now))) (instances_at place (node_view node.old)) (answers.old).rest.now).left }
+        ≡ option_map (λ xs. put_at place xs (node_view node.old)) (pruned_field
+        (pruned_instance (pruned_along (map step_view level.now))) (instances_at place (node_view node.old))
+        (answers.old).rest.now).kept }
+    ensures left { (answers.new).rest.now ≡ (pruned_field (pruned_instance (pruned_along (map step_view level.now)))
+        (instances_at place (node_view node.old)) (answers.old).rest.now).left }
 {
     match node.slots.get_mut(place) {
         Some(slot) => prune_slot(slot, level, answers),
@@ -41,8 +46,11 @@ fn prune_field(node: &mut Node, place: usize, level: &[Step], answers: &mut Answ
 #[cycle(pruning)]
 fn prune_slot(slot: &mut Slot, level: &[Step], answers: &mut Answers<'_>) -> bool
     ensures kept { kept_if result (slot_view slot.new)
-        ≡ option_map (slot_with (slot_view slot.old)) (pruned_field (pruned_instance (pruned_along (map step_view level.now))) (slot_instances (slot_view slot.old)) (answers.old).rest.now).kept }
-    ensures left { (answers.new).rest.now ≡ (pruned_field (pruned_instance (pruned_along (map step_view level.now))) (slot_instances (slot_view slot.old)) (answers.old).rest.now).left }
+        ≡ option_map (slot_with (slot_view slot.old)) (pruned_field
+        (pruned_instance (pruned_along (map step_view level.now))) (slot_instances (slot_view slot.old))
+        (answers.old).rest.now).kept }
+    ensures left { (answers.new).rest.now ≡ (pruned_field (pruned_instance (pruned_along (map step_view level.now)))
+        (slot_instances (slot_view slot.old)) (answers.old).rest.now).left }
 {
     match slot {
         Slot::Gap => answers.next(),
@@ -53,8 +61,11 @@ fn prune_slot(slot: &mut Slot, level: &[Step], answers: &mut Answers<'_>) -> boo
 /// Whether any of a field's instances is kept; where there is none, whether the field is.
 #[cycle(pruning)]
 fn prune_held(instances: &mut Vec<Instance>, level: &[Step], answers: &mut Answers<'_>) -> bool
-    ensures kept { kept_if result (instances_view (instances.new).items) ≡ (pruned_field (pruned_instance (pruned_along (map step_view level.now))) (instances_view (instances.old).items) (answers.old).rest.now).kept }
-    ensures left { (answers.new).rest.now ≡ (pruned_field (pruned_instance (pruned_along (map step_view level.now))) (instances_view (instances.old).items) (answers.old).rest.now).left }
+    ensures kept { kept_if result (instances_view (instances.new).items)
+        ≡ (pruned_field (pruned_instance (pruned_along (map step_view level.now)))
+        (instances_view (instances.old).items) (answers.old).rest.now).kept }
+    ensures left { (answers.new).rest.now ≡ (pruned_field (pruned_instance (pruned_along (map step_view level.now)))
+        (instances_view (instances.old).items) (answers.old).rest.now).left }
 {
     if instances.is_empty() {
         return answers.next();
@@ -66,8 +77,11 @@ fn prune_held(instances: &mut Vec<Instance>, level: &[Step], answers: &mut Answe
 /// Leaves only the instances that are kept.
 #[cycle(pruning)]
 fn prune_instances(instances: &mut Vec<Instance>, level: &[Step], answers: &mut Answers<'_>)
-    ensures kept { instances_view (instances.new).items ≡ (pruned_each (pruned_instance (pruned_along (map step_view level.now))) (instances_view (instances.old).items) (answers.old).rest.now).kept }
-    ensures left { (answers.new).rest.now ≡ (pruned_each (pruned_instance (pruned_along (map step_view level.now))) (instances_view (instances.old).items) (answers.old).rest.now).left }
+    ensures kept { instances_view (instances.new).items
+        ≡ (pruned_each (pruned_instance (pruned_along (map step_view level.now))) (instances_view (instances.old).items)
+        (answers.old).rest.now).kept }
+    ensures left { (answers.new).rest.now ≡ (pruned_each (pruned_instance (pruned_along (map step_view level.now)))
+        (instances_view (instances.old).items) (answers.old).rest.now).left }
 {
     let mut kept = 0;
     'instances: for number in 0..instances.len() {
@@ -79,8 +93,11 @@ fn prune_instances(instances: &mut Vec<Instance>, level: &[Step], answers: &mut 
 
 #[cycle(pruning)]
 fn prune_instance(instance: &mut Instance, level: &[Step], answers: &mut Answers<'_>) -> bool
-    ensures kept { kept_if result (instance_view instance.new) ≡ (pruned_instance (pruned_along (map step_view level.now)) (instance_view instance.old) (answers.old).rest.now).kept }
-    ensures left { (answers.new).rest.now ≡ (pruned_instance (pruned_along (map step_view level.now)) (instance_view instance.old) (answers.old).rest.now).left }
+    ensures kept { kept_if result (instance_view instance.new)
+        ≡ (pruned_instance (pruned_along (map step_view level.now)) (instance_view instance.old)
+        (answers.old).rest.now).kept }
+    ensures left { (answers.new).rest.now ≡ (pruned_instance (pruned_along (map step_view level.now))
+        (instance_view instance.old) (answers.old).rest.now).left }
 {
     match instance {
         Instance::Atom(_) => answers.next(),
@@ -88,10 +105,11 @@ fn prune_instance(instance: &mut Instance, level: &[Step], answers: &mut Answers
     }
 }
 
-/// What a test of a level's rows leaves of a record: the branches with a row that passes. The answers are the test's of the
-/// record's rows, in order. Tells whether anything is left; where nothing is, the record isn't used any more.
+/// What a test of a level's rows leaves of a record: the branches with a row that passes. The answers are the test's of
+/// the record's rows, in order. Tells whether anything is left; where nothing is, the record isn't used any more.
 pub fn prune(whole: &mut Node, level: &[Step], answers: &[bool]) -> bool
-    ensures { (test : record_tree.Node → Bool) → answers.now ≡ map test (rows (map step_view level.now) (node_view whole.old))
+    ensures { (test : record_tree.Node → Bool) → answers.now
+        ≡ map test (rows (map step_view level.now) (node_view whole.old))
         → kept_if result (node_view whole.new) ≡ kept_along (map step_view level.now) test (node_view whole.old) }
 {
     let mut answers = Answers { rest: answers };

@@ -8,7 +8,8 @@ use dr_nested::Instance;
 pub fn settle(instances: &mut Vec<Instance>, kept: usize, number: usize, passes: bool) -> usize
     requires before { kept ≤ number }
     requires there { number < length (instances.old).items }
-    ensures front { take result (instances.new).items ≡ take kept (instances.old).items ++ (if passes then take 1 (drop number (instances.old).items) else []) }
+    ensures front { take result (instances.new).items
+        ≡ take kept (instances.old).items ++ (if passes then take 1 (drop number (instances.old).items) else []) }
     ensures rest { drop (number + 1) (instances.new).items ≡ drop (number + 1) (instances.old).items }
     ensures length { length (instances.new).items ≡ length (instances.old).items }
     ensures within { result ≤ number + 1 }

@@ -9,7 +9,8 @@ use dr_levels::ValueRef;
 use dr_nested::NoMemory;
 use std::alloc::Global;
 
-/// Rows, in order: the values of the same leaves in each, one row behind another, and beside them the instances at their ends.
+/// Rows, in order: the values of the same leaves in each, one row behind another, and beside them the instances at
+/// their ends.
 #[derive(Drop)]
 pub struct Rows<'n> {
     pub(crate) width: usize,
@@ -83,7 +84,9 @@ impl<'n> Rows<'n> {
         end: Option<InstanceRef<'n>>,
     ) -> Result<(), NoMemory>
         requires { length values.now ≡ rows_width self.old }
-        ensures row { OnOk result (rows_view self.new ≡ rows_view self.old ++ record { values = lent_cells values.now; end = option_map lent_instance end.entry } ∷ []) }
+        ensures row { OnOk result (rows_view self.new
+            ≡ rows_view self.old ++ record { values = lent_cells values.now; end = option_map lent_instance end.entry }
+            ∷ []) }
         ensures width { rows_width self.new ≡ rows_width self.old }
     {
         self.ends.reserve(1)?;

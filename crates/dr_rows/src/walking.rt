@@ -14,14 +14,16 @@ use dr_nested::{NoMemory, Path, Step};
 /// The step of a level at a depth.
 fn step_at(level: &[Step], depth: usize) -> Step
     requires { depth < length level.now }
-    ensures front { map step_view (take (depth + 1) level.now) ≡ map step_view (take depth level.now) ++ step_view result ∷ [] }
-    ensures rest { map step_view (drop depth level.now) ≡ step_view result ∷ map step_view (drop (depth + 1) level.now) }
+    ensures front { map step_view (take (depth + 1) level.now)
+        ≡ map step_view (take depth level.now) ++ step_view result ∷ [] }
+    ensures rest { map step_view (drop depth level.now)
+        ≡ step_view result ∷ map step_view (drop (depth + 1) level.now) }
 {
     level[depth]
 }
 
-/// Appends the rows of a level below an instance that stands at the end of the level's first steps. The values are those of
-/// the leaves in the row at hand: afterwards only those below that instance may be others.
+/// Appends the rows of a level below an instance that stands at the end of the level's first steps. The values are
+/// those of the leaves in the row at hand: afterwards only those below that instance may be others.
 ///
 /// Errors: want of memory alone.
 pub fn walk<'n>(
@@ -36,8 +38,10 @@ pub fn walk<'n>(
     requires values { length values.old ≡ length leaves.now }
     requires width { rows_width rows.old ≡ length leaves.now }
     ensures rows { OnOk result (rows_view rows.new ≡ rows_view rows.old ++ rows_below (paths_view leaves.now)
-        (map step_view (take depth level.now)) (map step_view (drop depth level.now)) (lent_instance instance.entry) (lent_cells values.old)) }
-    ensures others { OnOk result (Keeps (paths_view leaves.now) (map step_view (take depth level.now)) (lent_cells values.old) (lent_cells values.new)) }
+        (map step_view (take depth level.now)) (map step_view
+        (drop depth level.now)) (lent_instance instance.entry) (lent_cells values.old)) }
+    ensures others { OnOk result (Keeps (paths_view leaves.now) (map step_view (take depth level.now))
+        (lent_cells values.old) (lent_cells values.new)) }
     ensures width { rows_width rows.new ≡ rows_width rows.old }
 {
     fill(leaves, &level[..depth], instance, values);
@@ -77,7 +81,8 @@ pub fn walk_from_end<'n>(
     requires width { rows_width rows.old ≡ length leaves.now }
     ensures width { rows_width rows.new ≡ rows_width rows.old }
     ensures rows { OnOk result (rows_view rows.new ≡ rows_view rows.old ++ rows_from_end (paths_view leaves.now)
-        (map step_view (take depth level.now)) (map step_view (drop depth level.now)) (lent_cells values.old) (option_map lent_instance end.entry)) }
+        (map step_view (take depth level.now)) (map step_view
+        (drop depth level.now)) (lent_cells values.old) (option_map lent_instance end.entry)) }
 {
     match end {
         Some(instance) => walk(leaves, level, depth, instance, values, rows),

@@ -14,7 +14,8 @@ pub(crate) fn compare_numbers(
     left: Option<i64>,
     right: Option<i64>,
 ) -> Option<bool>
-    ensures { option_map bool_value result ≡ meant.on_both (meant.compared (comparison_view comparison)) (option_map int_value left) (option_map int_value right) }
+    ensures { option_map bool_value result ≡ meant.on_both (meant.compared (comparison_view comparison))
+        (option_map int_value left) (option_map int_value right) }
 {
     Some(holds(comparison, left?.cmp(&right?)))
 }
@@ -25,14 +26,16 @@ pub(crate) fn compare_truths(
     left: Option<bool>,
     right: Option<bool>,
 ) -> Option<bool>
-    ensures { option_map bool_value result ≡ meant.on_both (meant.compared (comparison_view comparison)) (option_map bool_value left) (option_map bool_value right) }
+    ensures { option_map bool_value result ≡ meant.on_both (meant.compared (comparison_view comparison))
+        (option_map bool_value left) (option_map bool_value right) }
 {
     Some(holds(comparison, left?.cmp(&right?)))
 }
 
 /// What a comparison of two texts gives, by their bytes.
 pub(crate) fn compare_texts(comparison: Comparison, left: &str, right: &str) -> bool
-    ensures { result ≡ meant.is_true (meant.compared (comparison_view comparison) (text_value left.now) (text_value right.now)) }
+    ensures { result ≡ meant.is_true (meant.compared (comparison_view comparison) (text_value left.now)
+        (text_value right.now)) }
 {
     holds(comparison, left.cmp(right))
 }

@@ -30,14 +30,16 @@ pub fn eval<'v>(
     expression: &'v Expr,
     row: &[Option<ValueRef<'v>>],
 ) -> Result<Option<Evaluated<'v>>, NoMemory>
-    ensures { IfOk result (λ v. (ls : List Leaf) (r : Node) → AreValues ls row.now r → expr_fits ls expression.now ≡ true → option_map evaluated_view v ≡ evaluate (expr_view ls expression.now) r) }
+    ensures { IfOk result (λ v. (ls : List Leaf) (r : Node) → AreValues ls row.now r → expr_fits ls expression.now
+        ≡ true → option_map evaluated_view v ≡ evaluate (expr_view ls expression.now) r) }
 {
     value_of(alloc, expression, row)
 }
 
 /// A number's value, where it isn't NULL.
 pub fn number(number: &Number, row: &[Option<ValueRef<'_>>]) -> Option<i64>
-    ensures { (ls : List Leaf) (r : Node) → AreValues ls row.now r → number_fits ls number.now ≡ true → option_map int_value result ≡ evaluate (number_view ls number.now) r }
+    ensures { (ls : List Leaf) (r : Node) → AreValues ls row.now r → number_fits ls number.now ≡ true
+        → option_map int_value result ≡ evaluate (number_view ls number.now) r }
 {
     number_of(number, row)
 }
@@ -50,7 +52,8 @@ pub fn text<'v>(
     text: &'v TextOf,
     row: &[Option<ValueRef<'v>>],
 ) -> Result<Option<CowStr<'v, Global>>, NoMemory>
-    ensures { IfOk result (λ v. (ls : List Leaf) (r : Node) → AreValues ls row.now r → text_fits ls text.now ≡ true → option_map text_value_view v ≡ evaluate (text_view ls text.now) r) }
+    ensures { IfOk result (λ v. (ls : List Leaf) (r : Node) → AreValues ls row.now r → text_fits ls text.now ≡ true
+        → option_map text_value_view v ≡ evaluate (text_view ls text.now) r) }
 {
     text_of(alloc, text, row)
 }
@@ -63,7 +66,8 @@ pub fn truth(
     truth: &Truth,
     row: &[Option<ValueRef<'_>>],
 ) -> Result<Option<bool>, NoMemory>
-    ensures { IfOk result (λ v. (ls : List Leaf) (r : Node) → AreValues ls row.now r → truth_fits ls truth.now ≡ true → option_map bool_value v ≡ evaluate (truth_view ls truth.now) r) }
+    ensures { IfOk result (λ v. (ls : List Leaf) (r : Node) → AreValues ls row.now r → truth_fits ls truth.now ≡ true
+        → option_map bool_value v ≡ evaluate (truth_view ls truth.now) r) }
 {
     truth_of(alloc, truth, row)
 }
@@ -76,8 +80,11 @@ pub fn passes(
     tests: &[Truth],
     row: &[Option<ValueRef<'_>>],
 ) -> Result<bool, NoMemory>
-    ensures each { IfOk result (λ b. (ls : List Leaf) (r : Node) → AreValues ls row.now r → list_all (truth_fits ls) tests.now ≡ true → b ≡ all_true (map (truth_view ls) tests.now) r) }
-    ensures condition { IfOk result (λ b. (ls : List Leaf) (r : Node) (c : Expression) → AreValues ls row.now r → list_all (truth_fits ls) tests.now ≡ true → map (truth_view ls) tests.now ≡ conjuncts c → b ≡ is_true (evaluate c r)) }
+    ensures each { IfOk result (λ b. (ls : List Leaf) (r : Node) → AreValues ls row.now r
+        → list_all (truth_fits ls) tests.now ≡ true → b ≡ all_true (map (truth_view ls) tests.now) r) }
+    ensures condition { IfOk result (λ b. (ls : List Leaf) (r : Node) (c : Expression) → AreValues ls row.now r
+        → list_all (truth_fits ls) tests.now ≡ true → map (truth_view ls) tests.now ≡ conjuncts c → b
+        ≡ is_true (evaluate c r)) }
 {
     all_are_true(alloc, tests, row)
 }

@@ -29,8 +29,8 @@ pub(crate) fn is_like(pattern: &str, text: &str) -> bool
     }
 }
 
-/// Whether a text, or a text that ends it, matches the pattern. Where the pattern leads from a place to a `%`, that place is
-/// as good as any later one, so it is never gone back to.
+/// Whether a text, or a text that ends it, matches the pattern. Where the pattern leads from a place to a `%`, that
+/// place is as good as any later one, so it is never gone back to.
 fn some_end_is_like(pattern: &str, text: &str) -> bool
     ensures { result ≡ some_end (matches (chars pattern.now)) (chars text.now) }
 {
@@ -49,8 +49,8 @@ fn some_end_is_like(pattern: &str, text: &str) -> bool
     true
 }
 
-/// How far the pattern leads from the first place in the text from which it leads on. Only places at which its literal front
-/// occurs are tried.
+/// How far the pattern leads from the first place in the text from which it leads on. Only places at which its literal
+/// front occurs are tried.
 fn halt_from_first_place<'p, 't>(pattern: &'p str, text: &'t str) -> Halt<'p, 't>
     ensures { halt_view result ≡ first_reach (chars pattern.now) (chars text.now) }
 {

@@ -56,7 +56,8 @@ fn push_text(
     row: &[Option<ValueRef<'_>>],
     all: &mut String,
 ) -> Result<bool, NoMemory>
-    ensures { IfOk result (λ there. Appends (text_over row.now text.now) (string_bytes all.old) (string_bytes all.new) there) }
+    ensures { IfOk result (λ there. Appends (text_over row.now text.now) (string_bytes all.old)
+        (string_bytes all.new) there) }
 {
     match text {
         TextOf::Literal(literal) => {

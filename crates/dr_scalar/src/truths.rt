@@ -89,7 +89,8 @@ fn negated(truth: Option<bool>) -> Option<bool>
 
 /// AND: false where one is false, else NULL where one is NULL.
 fn both(left: Option<bool>, right: Option<bool>) -> Option<bool>
-    ensures { option_map bool_value result ≡ meant.and_values (option_map bool_value left) (option_map bool_value right) }
+    ensures { option_map bool_value result ≡ meant.and_values (option_map bool_value left)
+        (option_map bool_value right) }
 {
     match (left, right) {
         (Some(false), _) | (_, Some(false)) => Some(false),
@@ -100,7 +101,8 @@ fn both(left: Option<bool>, right: Option<bool>) -> Option<bool>
 
 /// OR: true where one is true, else NULL where one is NULL.
 fn either(left: Option<bool>, right: Option<bool>) -> Option<bool>
-    ensures { option_map bool_value result ≡ meant.or_values (option_map bool_value left) (option_map bool_value right) }
+    ensures { option_map bool_value result ≡ meant.or_values (option_map bool_value left)
+        (option_map bool_value right) }
 {
     match (left, right) {
         (Some(true), _) | (_, Some(true)) => Some(true),
@@ -117,7 +119,9 @@ fn texts_compared(
     right: &TextOf,
     row: &[Option<ValueRef<'_>>],
 ) -> Result<Option<bool>, NoMemory>
-    ensures { IfOk result (λ v. option_map bool_value v ≡ meant.on_both (meant.compared (comparison_view comparison)) (text_over row.now left.now) (text_over row.now right.now)) }
+    ensures { IfOk result (λ v. option_map bool_value v
+        ≡ meant.on_both (meant.compared (comparison_view comparison)) (text_over row.now left.now)
+        (text_over row.now right.now)) }
 {
     let Some(left) = text_of(alloc, left, row)? else {
         return Ok(None);
@@ -135,7 +139,8 @@ fn text_like(
     pattern: &str,
     row: &[Option<ValueRef<'_>>],
 ) -> Result<Option<bool>, NoMemory>
-    ensures { IfOk result (λ v. option_map bool_value v ≡ meant.on_text (λ t. meant.matches (chars pattern.now) (chars t)) (text_over row.now text.now)) }
+    ensures { IfOk result (λ v. option_map bool_value v
+        ≡ meant.on_text (λ t. meant.matches (chars pattern.now) (chars t)) (text_over row.now text.now)) }
 {
     let Some(text) = text_of(alloc, text, row)? else {
         return Ok(None);
@@ -150,7 +155,8 @@ fn text_contains(
     part: &str,
     row: &[Option<ValueRef<'_>>],
 ) -> Result<Option<bool>, NoMemory>
-    ensures { IfOk result (λ v. option_map bool_value v ≡ meant.on_text (meant.occurs_in part.now) (text_over row.now text.now)) }
+    ensures { IfOk result (λ v. option_map bool_value v
+        ≡ meant.on_text (meant.occurs_in part.now) (text_over row.now text.now)) }
 {
     let Some(text) = text_of(alloc, text, row)? else {
         return Ok(None);

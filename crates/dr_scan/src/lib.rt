@@ -1,4 +1,5 @@
-//! Scans: a tablet's records as a partial of a query, from the file at a path, or from the first of the tablet's copies that gives one.
+//! Scans: a tablet's records as a partial of a query, from the file at a path, or from the first of the tablet's copies
+//! that gives one.
 #![tactic(auto)]
 
 pub mod laws;

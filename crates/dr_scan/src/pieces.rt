@@ -35,14 +35,16 @@ pub enum Pieces {
     Left(Vec<LeftTablet>),
 }
 
-/// Keeps what was scanned of a tablet: it joins those that are left, or its partial joins the others, unless some tablet is left.
+/// Keeps what was scanned of a tablet: it joins those that are left, or its partial joins the others, unless some
+/// tablet is left.
 fn keep(
     left: &mut Vec<LeftTablet>,
     pieces: &mut Vec<Partial>,
     tablet: u32,
     scanned: Scanned,
 ) -> Result<(), NoMemory>
-    ensures left { OnOk result (all_left_view (left.new).items ≡ with_scanned tablet scanned (all_left_view (left.old).items)) }
+    ensures left { OnOk result (all_left_view (left.new).items
+        ≡ with_scanned tablet scanned (all_left_view (left.old).items)) }
     ensures taken { OnOk result ((left.new).items ≡ [] → TakesPiece scanned (pieces.old).items (pieces.new).items) }
 {
     match scanned {
@@ -59,9 +61,9 @@ fn keep(
     }
 }
 
-/// A plan's partial of the records of each tablet of a table, in the order of the tablets; or the tablets that are left, of which no copy
-/// gives records. The records of one tablet are in memory at a time. The link is asked for no file but those of the table, and for no
-/// bytes of them but what the plan's leaves take.
+/// A plan's partial of the records of each tablet of a table, in the order of the tablets; or the tablets that are
+/// left, of which no copy gives records. The records of one tablet are in memory at a time. The link is asked for no
+/// file but those of the table, and for no bytes of them but what the plan's leaves take.
 ///
 /// Errors: want of memory, or of room for a partial.
 pub fn scan_table<L: Link>(
@@ -71,12 +73,19 @@ pub fn scan_table<L: Link>(
     plan: &Plan,
 ) -> Result<Pieces, NoMemory>
     requires planned { IsOfSchema (schema_view (table.now).schema) plan.now }
-    ensures given { ForQuery (schema_view (table.now).schema) plan.now (λ q. IfOk result (WhereGiven (StandForTablets (schema_view (table.now).schema) q (L.shows link.old).held (tablets_of (table_view table.now))))) }
-    ensures partial { ForQuery (schema_view (table.now).schema) plan.now (λ q. IfOk result (WhereGiven (OfEach (λ p. is_partial (schema_view (table.now).schema).fields (leaf_query q) (partial_view p) ≡ true)))) }
+    ensures given { ForQuery (schema_view (table.now).schema) plan.now
+        (λ q. IfOk result (WhereGiven (StandForTablets (schema_view (table.now).schema) q (L.shows link.old).held
+        (tablets_of (table_view table.now))))) }
+    ensures partial { ForQuery (schema_view (table.now).schema) plan.now
+        (λ q. IfOk result (WhereGiven (OfEach (λ p. is_partial (schema_view (table.now).schema).fields (leaf_query q)
+        (partial_view p) ≡ true)))) }
     ensures bounded { IfOk result (WhereGiven (OfEach (λ p. PartialCanBeOf most_values (partial_view p)))) }
     ensures of_plan { IfOk result (WhereGiven (OfEach (IsPartialOf (plan_view plan.now)))) }
-    ensures left { ForQuery (schema_view (table.now).schema) plan.now (λ q. IfOk result (WhereLeft (λ left. LeavesTablets (table_view table.now) (query_leaves (table_view table.now).schema.fields q) left (L.shows link.old) (L.shows link.new)))) }
-    ensures asks { AsksForTablets (plan_leaves plan.now) (tablets_of (table_view table.now)) (L.shows link.old) (L.shows link.new) }
+    ensures left { ForQuery (schema_view (table.now).schema) plan.now
+        (λ q. IfOk result (WhereLeft (λ left. LeavesTablets (table_view table.now)
+        (query_leaves (table_view table.now).schema.fields q) left (L.shows link.old) (L.shows link.new)))) }
+    ensures asks { AsksForTablets (plan_leaves plan.now) (tablets_of (table_view table.now)) (L.shows link.old)
+        (L.shows link.new) }
     ensures same { (L.shows link.new).held ≡ (L.shows link.old).held }
     ensures never_falls { (L.shows link.old).faults ≤ (L.shows link.new).faults }
     ensures stays_steady { IsTrue (L.shows link.old).is_steady → IsTrue (L.shows link.new).is_steady }

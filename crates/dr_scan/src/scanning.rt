@@ -31,11 +31,12 @@ use dr_plan::Plan;
 use dr_tablets::{Steps, read_records};
 use std::alloc::Global;
 
-/// A plan's partial of the records of the file at a path, of which the plan's leaves alone are read. The link is asked for the file's
-/// size, its two ends, the footer, and the chunks of these leaves. A step is a triplet of one of these leaves.
+/// A plan's partial of the records of the file at a path, of which the plan's leaves alone are read. The link is asked
+/// for the file's size, its two ends, the footer, and the chunks of these leaves. A step is a triplet of one of these
+/// leaves.
 ///
-/// Errors, at which no step is counted: the link failed, with its counts of faults before and after this call; else the first cause for
-/// which the file is none of any records for these leaves; want of memory, or of room for the partial.
+/// Errors, at which no step is counted: the link failed, with its counts of faults before and after this call; else the
+/// first cause for which the file is none of any records for these leaves; want of memory, or of room for the partial.
 pub fn scan<L: Link>(
     alloc: Global,
     plan: &Plan,
@@ -45,22 +46,35 @@ pub fn scan<L: Link>(
     steps: &mut Steps,
 ) -> Result<Partial, FileFault>
     requires planned { IsOfSchema (schema_view schema.now) plan.now }
-    ensures partial { ForQuery (schema_view schema.now) plan.now (λ q. IfOk result (λ p. is_partial (schema_view schema.now).fields (leaf_query q) (partial_view p) ≡ true)) }
+    ensures partial { ForQuery (schema_view schema.now) plan.now
+        (λ q. IfOk result (λ p. is_partial (schema_view schema.now).fields (leaf_query q) (partial_view p) ≡ true)) }
     ensures bounded { IfOk result (λ p. PartialCanBeOf most_values (partial_view p)) }
     ensures of_plan { IfOk result (IsPartialOf (plan_view plan.now)) }
-    ensures records { ForQuery (schema_view schema.now) plan.now (λ q. IfOk result (λ p. StandsForRecords (schema_view schema.now) q (partial_view p))) }
-    ensures stands { (bytes : List ℕ) → Tells (L.shows link.old) path.now bytes → ForQuery (schema_view schema.now) plan.now (λ q. IfOk result (λ p. StandsForBytes (schema_view schema.now) q bytes (partial_view p))) }
-    ensures truth { ForQuery (schema_view schema.now) plan.now (λ q. IfOk result (λ p. IsTrueOf (truth_at (schema_view schema.now) q (L.shows link.old).held path.now) (partial_view p))) }
-    ensures cause { (bytes : List ℕ) → Tells (L.shows link.old) path.now bytes → IfErr result (IsFaultOf bytes (schema_view schema.now) (plan_leaves plan.now)) }
-    ensures asked { (bytes : List ℕ) → Tells (L.shows link.old) path.now bytes → AsksOnly (is_request_for path.now (reader_ranges bytes (plan_leaves plan.now))) (L.shows link.old).asked (L.shows link.new).asked }
-    ensures asked_absent { Lacks (L.shows link.old).held path.now → AsksOnly (is_request_for path.now []) (L.shows link.old).asked (L.shows link.new).asked }
-    ensures counted { (bytes : List ℕ) (R : List Node) → Tells (L.shows link.old) path.now bytes → IsFileOf bytes (schema_view schema.now) (plan_leaves plan.now) R → IfOk result (λ p. steps.new ≡ counted steps.old (triplets_at (plan_leaves plan.now) R)) }
+    ensures records { ForQuery (schema_view schema.now) plan.now
+        (λ q. IfOk result (λ p. StandsForRecords (schema_view schema.now) q (partial_view p))) }
+    ensures stands { (bytes : List ℕ) → Tells (L.shows link.old) path.now bytes
+        → ForQuery (schema_view schema.now) plan.now
+        (λ q. IfOk result (λ p. StandsForBytes (schema_view schema.now) q bytes (partial_view p))) }
+    ensures truth { ForQuery (schema_view schema.now) plan.now
+        (λ q. IfOk result (λ p. IsTrueOf (truth_at (schema_view schema.now) q (L.shows link.old).held path.now)
+        (partial_view p))) }
+    ensures cause { (bytes : List ℕ) → Tells (L.shows link.old) path.now bytes
+        → IfErr result (IsFaultOf bytes (schema_view schema.now) (plan_leaves plan.now)) }
+    ensures asked { (bytes : List ℕ) → Tells (L.shows link.old) path.now bytes
+        → AsksOnly (is_request_for path.now (reader_ranges bytes (plan_leaves plan.now))) (L.shows link.old).asked
+        (L.shows link.new).asked }
+    ensures asked_absent { Lacks (L.shows link.old).held path.now
+        → AsksOnly (is_request_for path.now []) (L.shows link.old).asked (L.shows link.new).asked }
+    ensures counted { (bytes : List ℕ) (R : List Node) → Tells (L.shows link.old) path.now bytes
+        → IsFileOf bytes (schema_view schema.now) (plan_leaves plan.now) R
+        → IfOk result (λ p. steps.new ≡ counted steps.old (triplets_at (plan_leaves plan.now) R)) }
     ensures uncounted { IfErr result (λ e. steps.new ≡ steps.old) }
     ensures same { (L.shows link.new).held ≡ (L.shows link.old).held }
     ensures counts { IfErr result (HasCounts (L.shows link.old).faults (L.shows link.new).faults) }
     ensures calm { is_read_fault result ≡ false → (L.shows link.new).faults ≡ (L.shows link.old).faults }
     ensures steady { (bytes : List ℕ) → Serves (L.shows link.old) path.now bytes → is_read_fault result ≡ false }
-    ensures absent { Lacks (L.shows link.old).held path.now → result ≢ Err FileFault.NoMemory → is_read_fault result ≡ true }
+    ensures absent { Lacks (L.shows link.old).held path.now → result ≢ Err FileFault.NoMemory → is_read_fault result
+        ≡ true }
     ensures never_falls { (L.shows link.old).faults ≤ (L.shows link.new).faults }
     ensures stays_steady { IsTrue (L.shows link.old).is_steady → IsTrue (L.shows link.new).is_steady }
 {

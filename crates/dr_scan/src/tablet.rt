@@ -32,8 +32,9 @@ pub enum Scanned {
     Left(Vec<Tried>),
 }
 
-/// A plan's partial of the records of a tablet of a table, from the first of its copies that gives one; else why each of them gives none. The
-/// link is asked for no file but those of the tablet's copies, and for no bytes of them but what the plan's leaves take.
+/// A plan's partial of the records of a tablet of a table, from the first of its copies that gives one; else why each
+/// of them gives none. The link is asked for no file but those of the tablet's copies, and for no bytes of them but
+/// what the plan's leaves take.
 ///
 /// Errors: want of memory, or of room for the partial.
 pub fn scan_tablet<L: Link>(
@@ -44,12 +45,18 @@ pub fn scan_tablet<L: Link>(
     tablet: u32,
 ) -> Result<Scanned, NoMemory>
     requires planned { IsOfSchema (schema_view (table.now).schema) plan.now }
-    ensures read { ForQuery (schema_view (table.now).schema) plan.now (λ q. IfOk result (IsScannedAs (schema_view (table.now).schema) q (L.shows link.old) (copies_from (table_view table.now).leaves tablet 0 (table.now).copies))) }
-    ensures partial { ForQuery (schema_view (table.now).schema) plan.now (λ q. IfOk result (WhereScanned (λ p. is_partial (schema_view (table.now).schema).fields (leaf_query q) (partial_view p) ≡ true))) }
+    ensures read { ForQuery (schema_view (table.now).schema) plan.now
+        (λ q. IfOk result (IsScannedAs (schema_view (table.now).schema) q (L.shows link.old)
+        (copies_from (table_view table.now).leaves tablet 0 (table.now).copies))) }
+    ensures partial { ForQuery (schema_view (table.now).schema) plan.now
+        (λ q. IfOk result (WhereScanned (λ p. is_partial (schema_view (table.now).schema).fields (leaf_query q)
+        (partial_view p) ≡ true))) }
     ensures bounded { IfOk result (WhereScanned (λ p. PartialCanBeOf most_values (partial_view p))) }
     ensures of_plan { IfOk result (WhereScanned (IsPartialOf (plan_view plan.now))) }
     ensures rises { IfOk result (λ t. RisesApart (L.shows link.old).faults (causes_in t) (L.shows link.new).faults) }
-    ensures asks { AsksForTablets (plan_leaves plan.now) (copies_from (table_view table.now).leaves tablet 0 (table.now).copies ∷ []) (L.shows link.old) (L.shows link.new) }
+    ensures asks { AsksForTablets (plan_leaves plan.now)
+        (copies_from (table_view table.now).leaves tablet 0 (table.now).copies ∷ []) (L.shows link.old)
+        (L.shows link.new) }
     ensures same { (L.shows link.new).held ≡ (L.shows link.old).held }
     ensures never_falls { (L.shows link.old).faults ≤ (L.shows link.new).faults }
     ensures stays_steady { IsTrue (L.shows link.old).is_steady → IsTrue (L.shows link.new).is_steady }

@@ -2,8 +2,8 @@
 
 ghost use Rattle.dr_serving.specs.ServingLaws.{TrueOfTabletStands, FinishedMeansQuery, KeptPiecesAreTrue, BoundIsServable};
 
-/// Where all links tell what they hold, and each leaf of a tablet holds a file of its records, or none of any, a piece that is true of the
-/// tablet stands for the leaf query on its records.
+/// Where all links tell what they hold, and each leaf of a tablet holds a file of its records, or none of any, a piece
+/// that is true of the tablet stands for the leaf query on its records.
 pub fn true_piece_stands_for_records()
     ensures { TrueOfTabletStands }
 {}
@@ -13,7 +13,8 @@ pub fn finished_serving_means_query()
     ensures { FinishedMeansQuery }
 {}
 
-/// Where the kept pieces of a history are true and each tablet has an answer, the piece that is kept of each is true of it.
+/// Where the kept pieces of a history are true and each tablet has an answer, the piece that is kept of each is true of
+/// it.
 pub fn kept_pieces_are_true()
     ensures { KeptPiecesAreTrue }
 {}

@@ -29,7 +29,9 @@ impl<'a> Expression<'a> {
         left: Expression<'a>,
         right: Expression<'a>,
     ) -> Result<Expression<'a>, NoMemory>
-        ensures { IfOk result (λ e. expression_view e ≡ syntax.arithmetic place (arithmetic_view operator) (expression_view left.entry) (expression_view right.entry)) }
+        ensures { IfOk result (λ e. expression_view e
+            ≡ syntax.arithmetic place (arithmetic_view operator) (expression_view left.entry)
+            (expression_view right.entry)) }
     {
         let left = Box::new(alloc, left)?;
         let right = Box::new(alloc, right)?;
@@ -43,7 +45,9 @@ impl<'a> Expression<'a> {
         left: Expression<'a>,
         right: Expression<'a>,
     ) -> Result<Expression<'a>, NoMemory>
-        ensures { IfOk result (λ e. expression_view e ≡ syntax.comparison place (comparison_view operator) (expression_view left.entry) (expression_view right.entry)) }
+        ensures { IfOk result (λ e. expression_view e
+            ≡ syntax.comparison place (comparison_view operator) (expression_view left.entry)
+            (expression_view right.entry)) }
     {
         let left = Box::new(alloc, left)?;
         let right = Box::new(alloc, right)?;
@@ -56,7 +60,8 @@ impl<'a> Expression<'a> {
         operand: Expression<'a>,
         pattern: &'a str,
     ) -> Result<Expression<'a>, NoMemory>
-        ensures { IfOk result (λ e. expression_view e ≡ syntax.like place (expression_view operand.entry) (undoubled pattern.now)) }
+        ensures { IfOk result (λ e. expression_view e
+            ≡ syntax.like place (expression_view operand.entry) (undoubled pattern.now)) }
     {
         Ok(Expression::Like(place, Box::new(alloc, operand)?, pattern))
     }
@@ -67,7 +72,8 @@ impl<'a> Expression<'a> {
         operand: Expression<'a>,
         part: &'a str,
     ) -> Result<Expression<'a>, NoMemory>
-        ensures { IfOk result (λ e. expression_view e ≡ syntax.contains place (expression_view operand.entry) (undoubled part.now)) }
+        ensures { IfOk result (λ e. expression_view e
+            ≡ syntax.contains place (expression_view operand.entry) (undoubled part.now)) }
     {
         Ok(Expression::Contains(place, Box::new(alloc, operand)?, part))
     }
@@ -98,7 +104,8 @@ impl<'a> Expression<'a> {
         left: Expression<'a>,
         right: Expression<'a>,
     ) -> Result<Expression<'a>, NoMemory>
-        ensures { IfOk result (λ e. expression_view e ≡ syntax.conjunction place (expression_view left.entry) (expression_view right.entry)) }
+        ensures { IfOk result (λ e. expression_view e
+            ≡ syntax.conjunction place (expression_view left.entry) (expression_view right.entry)) }
     {
         let left = Box::new(alloc, left)?;
         let right = Box::new(alloc, right)?;
@@ -111,7 +118,8 @@ impl<'a> Expression<'a> {
         left: Expression<'a>,
         right: Expression<'a>,
     ) -> Result<Expression<'a>, NoMemory>
-        ensures { IfOk result (λ e. expression_view e ≡ syntax.disjunction place (expression_view left.entry) (expression_view right.entry)) }
+        ensures { IfOk result (λ e. expression_view e
+            ≡ syntax.disjunction place (expression_view left.entry) (expression_view right.entry)) }
     {
         let left = Box::new(alloc, left)?;
         let right = Box::new(alloc, right)?;

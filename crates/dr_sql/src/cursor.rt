@@ -63,7 +63,8 @@ impl<'a> Cursor<'_, 'a> {
 
     /// The fault of an item or key too many, where the next token begins one, or else that it begins none.
     pub fn one_too_many(&self, begins: bool) -> QueryFault
-        ensures { result ≡ QueryFault.Refused (parse.place_of (unread self.now)) (if begins then QueryProblem.TooMany else QueryProblem.Syntax) }
+        ensures { result ≡ QueryFault.Refused (parse.place_of (unread self.now))
+            (if begins then QueryProblem.TooMany else QueryProblem.Syntax) }
     {
         if begins {
             self.fault(QueryProblem::TooMany)

@@ -29,8 +29,8 @@ pub enum Comparison {
     AtLeast,
 }
 
-/// An expression. Each operator begins with its place, that of its sign or word. A text keeps `''` for each quote in it.
-/// Parentheses leave nothing but the tree's shape.
+/// An expression. Each operator begins with its place, that of its sign or word. A text keeps `''` for each quote in
+/// it. Parentheses leave nothing but the tree's shape.
 #[derive(Debug, Drop)]
 pub enum Expression<'a> {
     Number(Numeral),

@@ -18,7 +18,8 @@ use std::alloc::Global;
 
 /// The aggregate that the next token is.
 fn next_aggregate(cursor: &Cursor<'_, '_>) -> Option<Aggregate>
-    ensures { option_map aggregate_view result ≡ option_and_then parse.aggregate_in (parse.first_token (unread cursor.now).tokens) }
+    ensures { option_map aggregate_view result
+        ≡ option_and_then parse.aggregate_in (parse.first_token (unread cursor.now).tokens) }
 {
     match cursor.next() {
         Some(Token::Word(Word::Count)) => Some(Aggregate::Count),
@@ -94,7 +95,8 @@ fn expression_argument<'a>(
     cursor: &mut Cursor<'_, 'a>,
     aggregate: Aggregate,
 ) -> Result<Term<'a>, QueryFault>
-    ensures { Reads term_view (parse.expression_argument (aggregate_view aggregate) (unread cursor.old)) (unread cursor.new) result }
+    ensures { Reads term_view (parse.expression_argument (aggregate_view aggregate) (unread cursor.old))
+        (unread cursor.new) result }
 {
     let argument = argument(alloc, cursor)?;
     cursor.sign(Sign::Close)?;
@@ -108,7 +110,8 @@ fn aggregate_term<'a>(
     cursor: &mut Cursor<'_, 'a>,
     aggregate: Aggregate,
 ) -> Result<Term<'a>, QueryFault>
-    ensures { Reads term_view (parse.aggregate_term (aggregate_view aggregate) (unread cursor.old)) (unread cursor.new) result }
+    ensures { Reads term_view (parse.aggregate_term (aggregate_view aggregate) (unread cursor.old))
+        (unread cursor.new) result }
 {
     cursor.advance();
     cursor.sign(Sign::Open)?;

@@ -1,5 +1,5 @@
-//! Reading expressions, by the productions of the grammar; those that join operands are one function, by levels. `depth`
-//! says how many nestings may still be opened.
+//! Reading expressions, by the productions of the grammar; those that join operands are one function, by levels.
+//! `depth` says how many nestings may still be opened.
 
 ghost use Rattle.std.specs.Prelude.{◌≡◌, suc, IfOk, IfErr};
 ghost use Rattle.dr_meaning.specs.Parse as parse;
@@ -23,7 +23,8 @@ use std::alloc::Global;
 /// Errors: none may be opened.
 fn deeper(cursor: &Cursor<'_, '_>, depth: u32) -> Result<u32, QueryFault>
     ensures inside { IfOk result (λ n. depth ≡ suc n) }
-    ensures none { IfErr result (λ e. (e ≡ QueryFault.Refused (parse.place_of (unread cursor.now)) QueryProblem.TooDeep)) }
+    ensures none { IfErr result (λ e. (e ≡ QueryFault.Refused
+        (parse.place_of (unread cursor.now)) QueryProblem.TooDeep)) }
     ensures fault { IfErr result (λ e. depth ≡ 0) }
 {
     match depth.checked_sub(1) {
@@ -38,7 +39,8 @@ pub fn expression<'a>(
     cursor: &mut Cursor<'_, 'a>,
     depth: u32,
 ) -> Result<Expression<'a>, QueryFault>
-    ensures { Reads expression_view (parse.expression_of (parse.nested depth) (unread cursor.old)) (unread cursor.new) result }
+    ensures { Reads expression_view (parse.expression_of (parse.nested depth) (unread cursor.old))
+        (unread cursor.new) result }
 {
     joined(alloc, cursor, Level::Or, depth)
 }
@@ -52,7 +54,8 @@ fn joined<'a>(
     level: Level,
     depth: u32,
 ) -> Result<Expression<'a>, QueryFault>
-    ensures { Reads expression_view (level_of level (parse.nested depth) (unread cursor.old)) (unread cursor.new) result }
+    ensures { Reads expression_view (level_of level (parse.nested depth) (unread cursor.old))
+        (unread cursor.new) result }
 {
     let mut left = operand(alloc, cursor, level, depth)?;
     'operators: for _ in 0..cursor.left() {
@@ -74,7 +77,8 @@ fn operand<'a>(
     level: Level,
     depth: u32,
 ) -> Result<Expression<'a>, QueryFault>
-    ensures { Reads expression_view (operand_of level (parse.nested depth) (unread cursor.old)) (unread cursor.new) result }
+    ensures { Reads expression_view (operand_of level (parse.nested depth) (unread cursor.old))
+        (unread cursor.new) result }
 {
     match level {
         Level::Or => joined(alloc, cursor, Level::And, depth),
@@ -109,7 +113,8 @@ fn test<'a>(
     cursor: &mut Cursor<'_, 'a>,
     depth: u32,
 ) -> Result<Expression<'a>, QueryFault>
-    ensures { Reads expression_view (parse.test_of (parse.nested depth) (unread cursor.old)) (unread cursor.new) result }
+    ensures { Reads expression_view (parse.test_of (parse.nested depth) (unread cursor.old))
+        (unread cursor.new) result }
 {
     let left = joined(alloc, cursor, Level::Sum, depth)?;
     match next_comparison(cursor) {
@@ -147,7 +152,8 @@ fn primary<'a>(
     cursor: &mut Cursor<'_, 'a>,
     depth: u32,
 ) -> Result<Expression<'a>, QueryFault>
-    ensures { Reads expression_view (parse.primary (parse.nested depth) (unread cursor.old)) (unread cursor.new) result }
+    ensures { Reads expression_view (parse.primary (parse.nested depth) (unread cursor.old))
+        (unread cursor.new) result }
 {
     match cursor.next() {
         Some(Token::Number(number)) => {
@@ -179,7 +185,8 @@ fn parenthesized<'a>(
     cursor: &mut Cursor<'_, 'a>,
     depth: u32,
 ) -> Result<Expression<'a>, QueryFault>
-    ensures { Reads expression_view (parse.nested depth parse.parenthesized (unread cursor.old)) (unread cursor.new) result }
+    ensures { Reads expression_view (parse.nested depth parse.parenthesized (unread cursor.old))
+        (unread cursor.new) result }
 {
     let inside = deeper(cursor, depth)?;
     cursor.advance();

@@ -13,7 +13,8 @@ use crate::word::Sign;
 
 /// The comparison that the next token is.
 pub fn next_comparison(cursor: &Cursor<'_, '_>) -> Option<Comparison>
-    ensures { option_map comparison_view result ≡ option_and_then parse.comparison_in (parse.first_token (unread cursor.now).tokens) }
+    ensures { option_map comparison_view result
+        ≡ option_and_then parse.comparison_in (parse.first_token (unread cursor.now).tokens) }
 {
     match cursor.next() {
         Some(Token::Sign(Sign::Equal)) => Some(Comparison::Equal),
@@ -28,7 +29,8 @@ pub fn next_comparison(cursor: &Cursor<'_, '_>) -> Option<Comparison>
 
 /// The sign of a sum that the next token is.
 pub fn next_of_sum(cursor: &Cursor<'_, '_>) -> Option<Arithmetic>
-    ensures { option_map (λ o (i : ℕ). syntax.arithmetic i (arithmetic_view o)) result ≡ option_and_then parse.sum_in (parse.first_token (unread cursor.now).tokens) }
+    ensures { option_map (λ o (i : ℕ). syntax.arithmetic i (arithmetic_view o)) result
+        ≡ option_and_then parse.sum_in (parse.first_token (unread cursor.now).tokens) }
 {
     match cursor.next() {
         Some(Token::Sign(Sign::Plus)) => Some(Arithmetic::Plus),

@@ -16,8 +16,8 @@ use std::alloc::Global;
 ///
 /// The language is a small SQL: items with COUNT, SUM, MIN and MAX, WITHIN, WHERE and GROUP BY; docs/QUERY.md shows it.
 ///
-/// Errors: the fault at the lowest byte place. At one place Syntax is told before TooDeep, and that before TooMany. A text
-/// of more than 65,536 bytes is TooLong whatever it says. Want of memory.
+/// Errors: the fault at the lowest byte place. At one place Syntax is told before TooDeep, and that before TooMany. A
+/// text of more than 65,536 bytes is TooLong whatever it says. Want of memory.
 pub fn parse<'a>(alloc: Global, text: &'a str) -> Result<Query<'a>, QueryFault>
     ensures { Gives query_view (parse_query text.now) result }
 {

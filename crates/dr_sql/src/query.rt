@@ -1,4 +1,5 @@
-//! Queries as their text has them, before names are looked up. Places are byte places in the text; names are lent from it.
+//! Queries as their text has them, before names are looked up. Places are byte places in the text; names are lent from
+//! it.
 
 use crate::expression::{Expression, Path};
 

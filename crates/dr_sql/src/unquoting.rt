@@ -8,7 +8,8 @@ use std::alloc::Global;
 
 /// A text before and behind its first single quote, if it has one.
 fn cut_at_quote(text: &str) -> Option<(&str, &str)>
-    ensures cut { MatchOption result (undoubled text.now ≡ text.now) (λ x. undoubled text.now ≡ x.0.now ++ 39 ∷ undoubled_from true x.1.now) }
+    ensures cut { MatchOption result (undoubled text.now ≡ text.now) (λ x. undoubled text.now
+        ≡ x.0.now ++ 39 ∷ undoubled_from true x.1.now) }
     ensures shorter { IfSome result (λ x. length x.1.now < length text.now) }
 {
     text.split_once('\'')

@@ -36,7 +36,8 @@ fn like<'a>(
     operand: Expression<'a>,
     denied: bool,
 ) -> Result<Expression<'a>, QueryFault>
-    ensures { Reads expression_view (parse.like_test (shape denied) (expression_view operand.entry) (unread cursor.old)) (unread cursor.new) result }
+    ensures { Reads expression_view (parse.like_test (shape denied) (expression_view operand.entry) (unread cursor.old))
+        (unread cursor.new) result }
 {
     let place = cursor.advance();
     let pattern = cursor.text()?;
@@ -51,7 +52,8 @@ fn contains<'a>(
     operand: Expression<'a>,
     denied: bool,
 ) -> Result<Expression<'a>, QueryFault>
-    ensures { Reads expression_view (parse.contains_test (shape denied) (expression_view operand.entry) (unread cursor.old)) (unread cursor.new) result }
+    ensures { Reads expression_view (parse.contains_test (shape denied) (expression_view operand.entry)
+        (unread cursor.old)) (unread cursor.new) result }
 {
     let place = cursor.advance();
     let part = cursor.text()?;
@@ -65,7 +67,8 @@ fn denied_test<'a>(
     cursor: &mut Cursor<'_, 'a>,
     operand: Expression<'a>,
 ) -> Result<Expression<'a>, QueryFault>
-    ensures { Reads expression_view (parse.denied_test (expression_view operand.entry) (unread cursor.old)) (unread cursor.new) result }
+    ensures { Reads expression_view (parse.denied_test (expression_view operand.entry) (unread cursor.old))
+        (unread cursor.new) result }
 {
     cursor.advance();
     if cursor.next_is_word(Word::Like) {
@@ -83,7 +86,8 @@ fn null_test<'a>(
     cursor: &mut Cursor<'_, 'a>,
     operand: Expression<'a>,
 ) -> Result<Expression<'a>, QueryFault>
-    ensures { Reads expression_view (parse.null_test (expression_view operand.entry) (unread cursor.old)) (unread cursor.new) result }
+    ensures { Reads expression_view (parse.null_test (expression_view operand.entry) (unread cursor.old))
+        (unread cursor.new) result }
 {
     let place = cursor.advance();
     let denied = cursor.next_is_word(Word::Not);
@@ -101,7 +105,8 @@ fn text_test<'a>(
     cursor: &mut Cursor<'_, 'a>,
     operand: Expression<'a>,
 ) -> Result<Expression<'a>, QueryFault>
-    ensures { Reads expression_view (parse.text_test parse.plain (expression_view operand.entry) (parse.give (expression_view operand.entry)) (unread cursor.old)) (unread cursor.new) result }
+    ensures { Reads expression_view (parse.text_test parse.plain (expression_view operand.entry)
+        (parse.give (expression_view operand.entry)) (unread cursor.old)) (unread cursor.new) result }
 {
     if cursor.next_is_word(Word::Like) {
         like(alloc, cursor, operand, false)
@@ -118,7 +123,8 @@ pub fn word_test<'a>(
     cursor: &mut Cursor<'_, 'a>,
     operand: Expression<'a>,
 ) -> Result<Expression<'a>, QueryFault>
-    ensures { Reads expression_view (parse.word_test (expression_view operand.entry) (unread cursor.old)) (unread cursor.new) result }
+    ensures { Reads expression_view (parse.word_test (expression_view operand.entry) (unread cursor.old))
+        (unread cursor.new) result }
 {
     if cursor.next_is_word(Word::Not) {
         denied_test(alloc, cursor, operand)

@@ -19,7 +19,8 @@ fn spells(name: &str, capitals: &str) -> bool
 
 /// The reserved word that a name is.
 pub fn word_of(name: &str) -> Option<Word>
-    ensures { MatchOption result (language.name_token name.now ≡ language.identifier name.now) (λ w. language.name_token name.now ≡ language.reserved (word_view w)) }
+    ensures { MatchOption result (language.name_token name.now ≡ language.identifier name.now)
+        (λ w. language.name_token name.now ≡ language.reserved (word_view w)) }
 {
     if spells(name, "SELECT") {
         Some(Word::Select)

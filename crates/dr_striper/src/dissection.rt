@@ -97,7 +97,8 @@ fn is_same(one: Rep, other: Rep) -> bool
 
 /// Whether a path goes on by a step behind so many.
 fn goes_on(field: &Path, depth: usize, step: Step) -> bool
-    ensures { result ≡ true → drop depth (path_view field.now).path ≡ step_view step ∷ drop (depth + 1) (path_view field.now).path }
+    ensures { result ≡ true → drop depth (path_view field.now).path
+        ≡ step_view step ∷ drop (depth + 1) (path_view field.now).path }
 {
     match field.steps.get(depth) {
         Some(next) => next.place == step.place && is_same(next.rep, step.rep),
@@ -120,8 +121,10 @@ fn run_length(fields: &[Path], depth: usize, step: Step) -> usize
 
 /// Appends a triplet of a place to a column.
 fn push_one(column: &mut Column, place: Place, value: Option<&Value>) -> Result<(), NoMemory>
-    requires { takes (column_form column.old) (triplet place.begin place.definition (option_map lent_value value)) ≡ true }
-    ensures triplet { Adds (column_view column.old) (column_view column.new) (triplet place.begin place.definition (option_map lent_value value.entry) ∷ []) result }
+    requires { takes (column_form column.old) (triplet place.begin place.definition (option_map lent_value value))
+        ≡ true }
+    ensures triplet { Adds (column_view column.old) (column_view column.new)
+        (triplet place.begin place.definition (option_map lent_value value.entry) ∷ []) result }
     ensures form { column_form column.new ≡ column_form column.old }
 {
     let value = match value {
@@ -137,8 +140,10 @@ fn push_one(column: &mut Column, place: Place, value: Option<&Value>) -> Result<
 
 /// Appends a triplet of a place to each column.
 fn push_all(columns: &mut [Column], place: Place, value: Option<&Value>) -> Result<(), NoMemory>
-    requires { list_all (λ f. takes f (triplet place.begin place.definition (option_map lent_value value))) (forms_view columns.old) ≡ true }
-    ensures columns { Appends (triplet place.begin place.definition (option_map lent_value value.entry)) (columns_view columns.old) (columns_view columns.new) result }
+    requires { list_all (λ f. takes f (triplet place.begin place.definition (option_map lent_value value)))
+        (forms_view columns.old) ≡ true }
+    ensures columns { Appends (triplet place.begin place.definition (option_map lent_value value.entry))
+        (columns_view columns.old) (columns_view columns.new) result }
     ensures forms { forms_view columns.new ≡ forms_view columns.old }
 {
     'columns: for column in columns.iter_mut() {
@@ -159,8 +164,12 @@ fn stripe_instances(
 ) -> Result<(), NoMemory>
     requires as_many { length fields.now ≡ length columns.old }
     requires within { IsWithin place (greatest_depth - 1) }
-    requires takes { Takes (field_column place (step_view step) (record_tree.instance (instance_view first.now) (instances_view later.now))) (paths_of fields.now) (forms_view columns.old) }
-    ensures columns { Stripes (field_column place (step_view step) (record_tree.instance (instance_view first.now) (instances_view later.now))) (paths_of fields.now) (columns_view columns.old) (columns_view columns.new) result }
+    requires takes { Takes (field_column place (step_view step)
+        (record_tree.instance (instance_view first.now) (instances_view later.now))) (paths_of fields.now)
+        (forms_view columns.old) }
+    ensures columns { Stripes (field_column place (step_view step)
+        (record_tree.instance (instance_view first.now) (instances_view later.now))) (paths_of fields.now)
+        (columns_view columns.old) (columns_view columns.new) result }
     ensures forms { forms_view columns.new ≡ forms_view columns.old }
 {
     let below = place.below(step);
@@ -186,8 +195,10 @@ fn stripe_field(
 ) -> Result<(), NoMemory>
     requires as_many { length fields.now ≡ length columns.old }
     requires within { IsWithin place (greatest_depth - 1) }
-    requires takes { Takes (field_column place (step_view step) (instances_view instances.now)) (paths_of fields.now) (forms_view columns.old) }
-    ensures columns { Stripes (field_column place (step_view step) (instances_view instances.now)) (paths_of fields.now) (columns_view columns.old) (columns_view columns.new) result }
+    requires takes { Takes (field_column place (step_view step) (instances_view instances.now)) (paths_of fields.now)
+        (forms_view columns.old) }
+    ensures columns { Stripes (field_column place (step_view step) (instances_view instances.now)) (paths_of fields.now)
+        (columns_view columns.old) (columns_view columns.new) result }
     ensures forms { forms_view columns.new ≡ forms_view columns.old }
 {
     match instances {
@@ -207,7 +218,8 @@ pub fn stripe_inside(
     requires as_many { length fields.now ≡ length columns.old }
     requires within { IsWithin place greatest_depth }
     requires takes { Takes (path_column place (inside_view inside)) (paths_of fields.now) (forms_view columns.old) }
-    ensures columns { Stripes (path_column place (inside_view inside.entry)) (paths_of fields.now) (columns_view columns.old) (columns_view columns.new) result }
+    ensures columns { Stripes (path_column place (inside_view inside.entry)) (paths_of fields.now)
+        (columns_view columns.old) (columns_view columns.new) result }
     ensures forms { forms_view columns.new ≡ forms_view columns.old }
 {
     let [head, others @ ..] = fields else {

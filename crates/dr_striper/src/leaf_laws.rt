@@ -2,8 +2,8 @@
 
 ghost use Rattle.dr_striper.specs.Leaves.{RecordsFitLeaves, FormsFitLeaves, FoundLeavesHaveKinds, SchemaLeavesHaveKinds};
 
-/// Each leaf of a schema takes what a record of the schema gives it: a value of its kind exactly where nothing on its path
-/// is absent.
+/// Each leaf of a schema takes what a record of the schema gives it: a value of its kind exactly where nothing on its
+/// path is absent.
 pub fn records_fit_leaves()
     ensures { RecordsFitLeaves }
 {}

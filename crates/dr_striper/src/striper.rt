@@ -46,7 +46,8 @@ fn stripe_record(
     requires fitted { forms_view columns.old ≡ forms_of (leaves_of fields.now) }
     requires noted { lengths.now ≡ map length (columns_view columns.old) }
     requires fits { list_all (fits_leaf (node_view node.now)) (leaves_of fields.now) ≡ true }
-    ensures columns { AddsRecord (node_view node.now) (paths_of fields.now) (columns_view columns.old) (columns_view columns.new) result }
+    ensures columns { AddsRecord (node_view node.now) (paths_of fields.now) (columns_view columns.old)
+        (columns_view columns.new) result }
     ensures forms { forms_view columns.new ≡ forms_view columns.old }
 {
     let root = Place {
@@ -101,14 +102,15 @@ impl<'a> Striper<'a> {
         })
     }
 
-    /// Appends what a record gives to each leaf's column, in one pass through the record. Each leaf takes what the record
-    /// gives it: a value of its kind exactly where nothing on its path is absent. A record of a schema does so at the
-    /// schema's leaves.
+    /// Appends what a record gives to each leaf's column, in one pass through the record. Each leaf takes what the
+    /// record gives it: a value of its kind exactly where nothing on its path is absent. A record of a schema does so
+    /// at the schema's leaves.
     ///
     /// Errors: want of memory, or of room for texts; the columns are then as they were.
     pub fn add(&mut self, node: &Node) -> Result<(), NoMemory>
         requires fits { list_all (fits_leaf (node_view node.now)) (striped_leaves self.old) ≡ true }
-        ensures columns { AddsRecord (node_view node.now) (striped_paths self.old) (striped self.old) (striped self.new) result }
+        ensures columns { AddsRecord (node_view node.now) (striped_paths self.old) (striped self.old)
+            (striped self.new) result }
         ensures leaves { striped_leaves self.new ≡ striped_leaves self.old }
     {
         stripe_record(self.fields, &mut self.columns, &self.lengths, node)?;

@@ -84,7 +84,8 @@ fn read_leaves(alloc: Global, text: &str, tablets: u32, copies: u32) -> Result<T
     requires has_tablet { 0 < tablets }
     requires few_tablets { tablets ≤ 4096 }
     requires has_copy { 0 < copies }
-    ensures { Gives table_view fault_view (meant.leaf_lines meant.most_leaf_lines tablets copies [] (meant.first_line text.now)) result }
+    ensures { Gives table_view fault_view (meant.leaf_lines meant.most_leaf_lines tablets copies []
+        (meant.first_line text.now)) result }
 {
     let mut leaves = Vec::new(alloc);
     let mut rest = text;
@@ -117,7 +118,8 @@ fn read_schema_line(
     requires few_tablets { tablets ≤ 4096 }
     requires has_copy { 0 < copies }
     requires few_leaves { length leaves.items ≤ 64 }
-    ensures { Gives table_view fault_view (at_last_line tablets copies (map string_bytes leaves.items) behind.now (meant.is_schema_line (map string_bytes leaves.items) line.now)) result }
+    ensures { Gives table_view fault_view (at_last_line tablets copies (map string_bytes leaves.items) behind.now
+        (meant.is_schema_line (map string_bytes leaves.items) line.now)) result }
 {
     if leaves.is_empty() || line != SCHEMA {
         return Err(TableFault::Refused(TableProblem::Leaf(leaves.len())));
@@ -138,7 +140,8 @@ fn read_schema(
     requires has_copy { 0 < copies }
     requires has_leaf { 0 < length leaves.items }
     requires few_leaves { length leaves.items ≤ 64 }
-    ensures { Gives table_view fault_view (meant.at_schema tablets copies (map string_bytes leaves.items) text.now) result }
+    ensures { Gives table_view fault_view (meant.at_schema tablets copies (map string_bytes leaves.items) text.now)
+        result }
 {
     if copies as usize > leaves.len() {
         return Err(TableFault::Refused(TableProblem::Copies));

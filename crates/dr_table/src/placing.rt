@@ -30,7 +30,8 @@ pub fn placement_among(leaves: u32, tablet: u32, copy: u32) -> u32
 /// Errors: want of memory alone.
 pub fn path_of(alloc: Global, table: &Table, leaf: u32, tablet: u32) -> Result<String, NoMemory>
     requires { leaf < length (table_view table.now).leaves }
-    ensures { IfOk result (λ s. string_bytes s ≡ meant.tablet_path (meant.nth_directory (table_view table.now).leaves leaf) tablet) }
+    ensures { IfOk result (λ s. string_bytes s
+        ≡ meant.tablet_path (meant.nth_directory (table_view table.now).leaves leaf) tablet) }
 {
     tablet_path(alloc, table.leaves[leaf as usize].as_str(), tablet)
 }

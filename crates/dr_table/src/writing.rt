@@ -36,7 +36,14 @@ pub fn table_text_of(
     copies: u32,
     tablets: u32,
 ) -> Result<String, NoMemory>
-    ensures { IfOk result (λ s. string_bytes s ≡ meant.table_text (record { schema = schema_view schema.now; leaves = map string_bytes leaves.now; copies = copies; tablets = tablets })) }
+    ensures { IfOk result (λ s. string_bytes s
+        ≡ meant.table_text (record {
+          schema = schema_view schema.now;
+          leaves = map string_bytes leaves.now;
+          copies
+              = copies;
+          tablets = tablets;
+        })) }
 {
     let schema = schema_text(alloc, schema)?;
     let mut text = String::new(alloc);
@@ -56,7 +63,8 @@ fn write_head(text: &mut String, copies: u32, tablets: u32) -> Result<(), AllocE
 
 /// Appends the leaf lines.
 fn write_leaves(text: &mut String, leaves: &[String]) -> Result<(), AllocError>
-    ensures { OnOk result (string_bytes text.new ≡ string_bytes text.old ++ leaf_lines_text (map string_bytes leaves.now)) }
+    ensures { OnOk result (string_bytes text.new
+        ≡ string_bytes text.old ++ leaf_lines_text (map string_bytes leaves.now)) }
 {
     'leaves: for leaf in leaves {
         write_leaf(text, leaf.as_str())?;

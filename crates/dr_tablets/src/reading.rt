@@ -22,16 +22,17 @@ use dr_outside::Link;
 use dr_table::{Table, path_of, placement};
 use std::alloc::Global;
 
-/// What is read of a tablet: its records, projected to the leaves, or the copies that were tried, which is each of them.
+/// What is read of a tablet: its records, projected to the leaves, or the copies that were tried, which is each of
+/// them.
 #[derive(Debug, Drop)]
 pub enum Tablet {
     Given(Vec<Node>),
     Left(Vec<Tried>),
 }
 
-/// The records of a tablet of a table, projected to these leaves of its schema, from the first of its copies that gives them; else why
-/// each of them gives none. The link is asked for no file but those of the tablet's copies, and for no bytes of them but what the leaves
-/// take.
+/// The records of a tablet of a table, projected to these leaves of its schema, from the first of its copies that gives
+/// them; else why each of them gives none. The link is asked for no file but those of the tablet's copies, and for no
+/// bytes of them but what the leaves take.
 ///
 /// Errors: want of memory alone.
 pub fn read_tablet<L: Link>(
@@ -42,9 +43,12 @@ pub fn read_tablet<L: Link>(
     tablet: u32,
 ) -> Result<Tablet, NoMemory>
     requires leaves { AreLeavesOf (fields_view (table.now).schema.fields.items) (map path_view fields.now) }
-    ensures read { IfOk result (IsReadAs (schema_view (table.now).schema) (map path_view fields.now) (L.shows link.old) (copies_from (table_view table.now).leaves tablet 0 (table.now).copies)) }
+    ensures read { IfOk result (IsReadAs (schema_view (table.now).schema) (map path_view fields.now) (L.shows link.old)
+        (copies_from (table_view table.now).leaves tablet 0 (table.now).copies)) }
     ensures rises { IfOk result (λ t. RisesApart (L.shows link.old).faults (causes_in t) (L.shows link.new).faults) }
-    ensures asks { AsksForTablets (map path_view fields.now) (copies_from (table_view table.now).leaves tablet 0 (table.now).copies ∷ []) (L.shows link.old) (L.shows link.new) }
+    ensures asks { AsksForTablets (map path_view fields.now)
+        (copies_from (table_view table.now).leaves tablet 0 (table.now).copies ∷ []) (L.shows link.old)
+        (L.shows link.new) }
     ensures same { (L.shows link.new).held ≡ (L.shows link.old).held }
     ensures never_falls { (L.shows link.old).faults ≤ (L.shows link.new).faults }
     ensures stays_steady { IsTrue (L.shows link.old).is_steady → IsTrue (L.shows link.new).is_steady }

@@ -28,8 +28,8 @@ use std::alloc::Global;
 
 /// The columns of all leaves that a file was opened for. A step is a triplet.
 ///
-/// Errors: the link failed, with its counts of faults before and after this call; `BadData` where one leaf's chunks spell no column of any
-/// records; want of memory.
+/// Errors: the link failed, with its counts of faults before and after this call; `BadData` where one leaf's chunks
+/// spell no column of any records; want of memory.
 fn read_columns<L: Link>(
     alloc: Global,
     link: &mut L,
@@ -38,15 +38,21 @@ fn read_columns<L: Link>(
     steps: &mut Steps,
 ) -> Result<Vec<Column>, FileFault>
     requires { leaves ≡ leaf_count opened.now }
-    ensures columns { (bytes : List ℕ) (F : List Leaf) → IsOpened bytes F opened.now → length F ≡ leaves → Tells (L.shows link.old) (path_of opened.now) bytes → IfOk result (λ v. AreColumnsOf bytes F (columns_view v.items)) }
-    ensures cause { (bytes : List ℕ) (F : List Leaf) → IsOpened bytes F opened.now → length F ≡ leaves → Tells (L.shows link.old) (path_of opened.now) bytes → IfErr result (IsColumnsFault bytes F) }
+    ensures columns { (bytes : List ℕ) (F : List Leaf) → IsOpened bytes F opened.now → length F ≡ leaves
+        → Tells (L.shows link.old) (path_of opened.now) bytes
+        → IfOk result (λ v. AreColumnsOf bytes F (columns_view v.items)) }
+    ensures cause { (bytes : List ℕ) (F : List Leaf) → IsOpened bytes F opened.now → length F ≡ leaves
+        → Tells (L.shows link.old) (path_of opened.now) bytes → IfErr result (IsColumnsFault bytes F) }
     ensures few { IfOk result (λ v. are_short (columns_view v.items) ≡ true) }
     ensures counted { IfOk result (λ v. steps.new ≡ counted steps.old (triplets_in (columns_view v.items))) }
-    ensures asked { (bytes : List ℕ) (F : List Leaf) (f : Footer) → IsOpened bytes F opened.now → length F ≡ leaves → footer_of bytes ≡ Some f → AsksOnly (is_read_inside (path_of opened.now) (flat_map (leaf_ranges f) F)) (L.shows link.old).asked (L.shows link.new).asked }
+    ensures asked { (bytes : List ℕ) (F : List Leaf) (f : Footer) → IsOpened bytes F opened.now → length F ≡ leaves
+        → footer_of bytes ≡ Some f → AsksOnly (is_read_inside (path_of opened.now) (flat_map (leaf_ranges f) F))
+        (L.shows link.old).asked (L.shows link.new).asked }
     ensures same { (L.shows link.new).held ≡ (L.shows link.old).held }
     ensures counts { IfErr result (HasCounts (L.shows link.old).faults (L.shows link.new).faults) }
     ensures calm { is_read_fault result ≡ false → (L.shows link.new).faults ≡ (L.shows link.old).faults }
-    ensures steady { (bytes : List ℕ) (F : List Leaf) → IsOpened bytes F opened.now → Serves (L.shows link.old) (path_of opened.now) bytes → is_read_fault result ≡ false }
+    ensures steady { (bytes : List ℕ) (F : List Leaf) → IsOpened bytes F opened.now
+        → Serves (L.shows link.old) (path_of opened.now) bytes → is_read_fault result ≡ false }
     ensures stays_steady { IsTrue (L.shows link.old).is_steady → IsTrue (L.shows link.new).is_steady }
 {
     let mut columns = Vec::new(alloc);
@@ -73,11 +79,11 @@ fn file_fault(fault: AssembleFault) -> FileFault
     }
 }
 
-/// The records of the file at a path, projected to these leaves of the schema. The link is asked for the file's size, its two ends, the
-/// footer, and the chunks of these leaves. A step is a triplet of one of these leaves.
+/// The records of the file at a path, projected to these leaves of the schema. The link is asked for the file's size,
+/// its two ends, the footer, and the chunks of these leaves. A step is a triplet of one of these leaves.
 ///
-/// Errors, at which no step is counted: the link failed, with its counts of faults before and after this call; else the first cause for
-/// which the file is none of any records for these leaves; want of memory.
+/// Errors, at which no step is counted: the link failed, with its counts of faults before and after this call; else the
+/// first cause for which the file is none of any records for these leaves; want of memory.
 pub fn read_records<L: Link>(
     alloc: Global,
     link: &mut L,
@@ -87,19 +93,27 @@ pub fn read_records<L: Link>(
     steps: &mut Steps,
 ) -> Result<Vec<Node>, FileFault>
     requires { AreLeavesOf (fields_view (schema.now).fields.items) (map path_view fields.now) }
-    ensures records { (bytes : List ℕ) → Tells (L.shows link.old) path.now bytes → IfOk result (λ v. AreOfFile bytes (schema_view schema.now) (map path_view fields.now) (nodes_view v.items)) }
-    ensures form { IfOk result (λ v. AreProjected (schema_view schema.now) (map path_view fields.now) (nodes_view v.items)) }
-    ensures cause { (bytes : List ℕ) → Tells (L.shows link.old) path.now bytes → IfErr result (IsFaultOf bytes (schema_view schema.now) (map path_view fields.now)) }
+    ensures records { (bytes : List ℕ) → Tells (L.shows link.old) path.now bytes
+        → IfOk result (λ v. AreOfFile bytes (schema_view schema.now) (map path_view fields.now) (nodes_view v.items)) }
+    ensures form { IfOk result (λ v. AreProjected (schema_view schema.now) (map path_view fields.now)
+        (nodes_view v.items)) }
+    ensures cause { (bytes : List ℕ) → Tells (L.shows link.old) path.now bytes
+        → IfErr result (IsFaultOf bytes (schema_view schema.now) (map path_view fields.now)) }
     ensures few { IfOk result (λ v. AreFew (map path_view fields.now) (nodes_view v.items)) }
-    ensures counted { IfOk result (λ v. steps.new ≡ counted steps.old (triplets_at (map path_view fields.now) (nodes_view v.items))) }
+    ensures counted { IfOk result (λ v. steps.new
+        ≡ counted steps.old (triplets_at (map path_view fields.now) (nodes_view v.items))) }
     ensures uncounted { IfErr result (λ e. steps.new ≡ steps.old) }
-    ensures asked { (bytes : List ℕ) → Tells (L.shows link.old) path.now bytes → AsksOnly (is_request_for path.now (reader_ranges bytes (map path_view fields.now))) (L.shows link.old).asked (L.shows link.new).asked }
-    ensures asked_absent { Lacks (L.shows link.old).held path.now → AsksOnly (is_request_for path.now []) (L.shows link.old).asked (L.shows link.new).asked }
+    ensures asked { (bytes : List ℕ) → Tells (L.shows link.old) path.now bytes
+        → AsksOnly (is_request_for path.now (reader_ranges bytes (map path_view fields.now))) (L.shows link.old).asked
+        (L.shows link.new).asked }
+    ensures asked_absent { Lacks (L.shows link.old).held path.now
+        → AsksOnly (is_request_for path.now []) (L.shows link.old).asked (L.shows link.new).asked }
     ensures same { (L.shows link.new).held ≡ (L.shows link.old).held }
     ensures counts { IfErr result (HasCounts (L.shows link.old).faults (L.shows link.new).faults) }
     ensures calm { is_read_fault result ≡ false → (L.shows link.new).faults ≡ (L.shows link.old).faults }
     ensures steady { (bytes : List ℕ) → Serves (L.shows link.old) path.now bytes → is_read_fault result ≡ false }
-    ensures absent { Lacks (L.shows link.old).held path.now → result ≢ Err FileFault.NoMemory → is_read_fault result ≡ true }
+    ensures absent { Lacks (L.shows link.old).held path.now → result ≢ Err FileFault.NoMemory → is_read_fault result
+        ≡ true }
     ensures never_falls { (L.shows link.old).faults ≤ (L.shows link.new).faults }
     ensures stays_steady { IsTrue (L.shows link.old).is_steady → IsTrue (L.shows link.new).is_steady }
 {

@@ -39,7 +39,8 @@ fn push_directory(
     directory: u32,
     first: bool,
 ) -> Result<bool, AllocError>
-    ensures text { OnOk result (string_bytes text.new ≡ string_bytes text.old ++ leaves_text first (in_directory (all_tried_view tried.now) directory)) }
+    ensures text { OnOk result (string_bytes text.new
+        ≡ string_bytes text.old ++ leaves_text first (in_directory (all_tried_view tried.now) directory)) }
     ensures first { IfOk result (λ now. now ≡ still first (in_directory (all_tried_view tried.now) directory)) }
 {
     let mut first = first;
@@ -54,7 +55,8 @@ fn push_directory(
 
 /// Appends the copies that were tried, by ascending directory.
 fn push_leaves(text: &mut String, tried: &[Tried]) -> Result<(), AllocError>
-    ensures { OnOk result (string_bytes text.new ≡ string_bytes text.old ++ left_leaves_text (map told_leaf (ascending (all_tried_view tried.now)))) }
+    ensures { OnOk result (string_bytes text.new
+        ≡ string_bytes text.old ++ left_leaves_text (map told_leaf (ascending (all_tried_view tried.now)))) }
 {
     let mut first = true;
     'directories: for directory in 0..MOST_LEAF_LINES as u32 {
@@ -73,7 +75,8 @@ fn push_line(alloc: Global, text: &mut String, left: &LeftTablet) -> Result<(), 
     text.push_str("\n")
 }
 
-/// The lines that tell which tablets are left: `left tNNNNNN: L CAUSE; L CAUSE`, a line for each, its copies by ascending directory.
+/// The lines that tell which tablets are left: `left tNNNNNN: L CAUSE; L CAUSE`, a line for each, its copies by
+/// ascending directory.
 ///
 /// Errors: want of memory alone.
 pub fn left_text(alloc: Global, left: &[LeftTablet]) -> Result<String, NoMemory>

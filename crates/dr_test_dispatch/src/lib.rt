@@ -1,4 +1,5 @@
-//! Tests of dispatch: a board, and a desk that threads share. What they show of each public call beside its contract: that it answers with ample memory.
+//! Tests of dispatch: a board, and a desk that threads share. What they show of each public call beside its contract:
+//! that it answers with ample memory.
 #![tactic(auto)]
 
 #[cfg(test)]

@@ -1,4 +1,5 @@
-//! Queries of records that look random: wherever the records are cut in two, the text that is printed is what the plan means on all of them.
+//! Queries of records that look random: wherever the records are cut in two, the text that is printed is what the plan
+//! means on all of them.
 
 ghost use Rattle.dr_nested.specs.SchemaView.{schema_view};
 ghost use Rattle.dr_plan.specs.Planned.{IsOfSchema};

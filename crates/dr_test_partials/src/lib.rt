@@ -1,4 +1,5 @@
-//! Tests of scans, serving trees and partials. What they show of each public call beside its contract: that it answers with ample memory.
+//! Tests of scans, serving trees and partials. What they show of each public call beside its contract: that it answers
+//! with ample memory.
 #![tactic(auto)]
 
 #[cfg(test)]

@@ -24,7 +24,8 @@ fn printed(alloc: Global, plan: &Plan, partial: Partial) -> Result<String, Fail>
     Ok(result_text(alloc, &rows)?)
 }
 
-/// What a scan of the file at a path prints where this call of the link fails, or why it gives nothing; and how often the link was asked.
+/// What a scan of the file at a path prints where this call of the link fails, or why it gives nothing; and how often
+/// the link was asked.
 fn file_scanned(
     alloc: Global,
     shelf: &Shelf,

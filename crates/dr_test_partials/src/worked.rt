@@ -22,7 +22,8 @@ pub fn text_of(alloc: Global, lines: &[String]) -> Result<String, Fail> {
     Ok(text)
 }
 
-/// Loads lines as a table of documents, so many to a tablet, with a copy in each of some directories, which have a space between each two.
+/// Loads lines as a table of documents, so many to a tablet, with a copy in each of some directories, which have a
+/// space between each two.
 pub fn load_lines(
     alloc: Global,
     shelf: &mut Shelf,

@@ -13,7 +13,8 @@ const QUERIES: [&str; 2] = [
     "SELECT a, COUNT(b) WITHIN RECORD AS c FROM T WHERE a <= 20",
 ];
 
-/// No command makes the plans of inner and root servers: that there are some. The queries that they are stand among the vectors.
+/// No command makes the plans of inner and root servers: that there are some. The queries that they are stand among the
+/// vectors.
 #[test]
 fn each_server_has_a_plan(rt: HostRuntime) -> Result<(), Fail> {
     let alloc = rt.alloc();

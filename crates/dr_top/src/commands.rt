@@ -35,16 +35,24 @@ fn command_answer<R: Threads + Sync, S: Source, K: Keeper, L: Link>(
     links: &mut [L],
 ) -> Result<String, Stop>
     requires link { 0 < length links.old }
-    ensures text { IfOk result (λ t. Finishes (meaning_of (command_view command.now)) (K.shows keeper.old) (K.shows keeper.new) (S.shows source.old) (map L.shows links.old) (string_bytes t)) }
-    ensures read { OnOk result (IsReadBy (meaning_of (command_view command.now)).reads_input (S.shows source.old) (S.shows source.new)) }
+    ensures text { IfOk result (λ t. Finishes (meaning_of (command_view command.now)) (K.shows keeper.old)
+        (K.shows keeper.new) (S.shows source.old) (map L.shows links.old) (string_bytes t)) }
+    ensures read { OnOk result (IsReadBy (meaning_of (command_view command.now)).reads_input (S.shows source.old)
+        (S.shows source.new)) }
     ensures source_calm { OnOk result ((S.shows source.new).faults ≡ (S.shows source.old).faults) }
     ensures keeper_calm { OnOk result ((K.shows keeper.new).faults ≡ (K.shows keeper.old).faults) }
-    ensures stops { IfErr result (StopsWith (meaning_of (command_view command.now)) (K.shows keeper.old) (K.shows keeper.new) (S.shows source.old) (S.shows source.new) (map L.shows links.old) (map L.shows links.new)) }
-    ensures kept { (meaning_of (command_view command.now)).puts_files ≡ false → IsUnput (K.shows keeper.old) (K.shows keeper.new) }
+    ensures stops { IfErr result (StopsWith (meaning_of (command_view command.now)) (K.shows keeper.old)
+        (K.shows keeper.new) (S.shows source.old) (S.shows source.new) (map L.shows links.old)
+        (map L.shows links.new)) }
+    ensures kept { (meaning_of (command_view command.now)).puts_files ≡ false
+        → IsUnput (K.shows keeper.old) (K.shows keeper.new) }
     ensures asks { AsksFor (meaning_of (command_view command.now)).file (K.shows keeper.old) (K.shows keeper.new) }
-    ensures unread { (meaning_of (command_view command.now)).reads_input ≡ false → S.shows source.new ≡ S.shows source.old }
-    ensures links { LeavesLinksBy (meaning_of (command_view command.now)).asks_link (map L.shows links.old) (map L.shows links.new) }
-    ensures reads { ForOutcome (meaning_of (command_view command.now)) (K.shows keeper.old) (S.shows source.old) (λ o. WithFirsts (map L.shows links.old) (map L.shows links.new) (AsksLink o)) }
+    ensures unread { (meaning_of (command_view command.now)).reads_input ≡ false → S.shows source.new
+        ≡ S.shows source.old }
+    ensures links { LeavesLinksBy (meaning_of (command_view command.now)).asks_link (map L.shows links.old)
+        (map L.shows links.new) }
+    ensures reads { ForOutcome (meaning_of (command_view command.now)) (K.shows keeper.old) (S.shows source.old)
+        (λ o. WithFirsts (map L.shows links.old) (map L.shows links.new) (AsksLink o)) }
 {
     match command {
         Command::Load(load) => load::answer(alloc, load, source, keeper),
@@ -60,7 +68,8 @@ fn command_answer<R: Threads + Sync, S: Source, K: Keeper, L: Link>(
 
 /// The text that the words ask for.
 ///
-/// Errors: the words ask for nothing; the command's first refusal; the keeper or the source failed; what is left; want of memory.
+/// Errors: the words ask for nothing; the command's first refusal; the keeper or the source failed; what is left; want
+/// of memory.
 pub fn answer<R: Threads + Sync, S: Source, K: Keeper, L: Link>(
     rt: &R,
     alloc: Global,
@@ -70,17 +79,23 @@ pub fn answer<R: Threads + Sync, S: Source, K: Keeper, L: Link>(
     links: &mut [L],
 ) -> Result<String, Stop>
     requires link { 0 < length links.old }
-    ensures text { IfOk result (λ t. ForMeant (meant (map string_bytes words.now)) (λ m. Finishes m (K.shows keeper.old) (K.shows keeper.new) (S.shows source.old) (map L.shows links.old) (string_bytes t))) }
-    ensures read { OnOk result (ForMeant (meant (map string_bytes words.now)) (λ m. IsReadBy m.reads_input (S.shows source.old) (S.shows source.new))) }
+    ensures text { IfOk result (λ t. ForMeant (meant (map string_bytes words.now))
+        (λ m. Finishes m (K.shows keeper.old) (K.shows keeper.new) (S.shows source.old) (map L.shows links.old)
+        (string_bytes t))) }
+    ensures read { OnOk result (ForMeant (meant (map string_bytes words.now))
+        (λ m. IsReadBy m.reads_input (S.shows source.old) (S.shows source.new))) }
     ensures source_calm { OnOk result ((S.shows source.new).faults ≡ (S.shows source.old).faults) }
     ensures keeper_calm { OnOk result ((K.shows keeper.new).faults ≡ (K.shows keeper.old).faults) }
-    ensures stops { IfErr result (StopsMeant (meant (map string_bytes words.now)) (K.shows keeper.old) (K.shows keeper.new) (S.shows source.old) (S.shows source.new) (map L.shows links.old) (map L.shows links.new)) }
+    ensures stops { IfErr result (StopsMeant (meant (map string_bytes words.now)) (K.shows keeper.old)
+        (K.shows keeper.new) (S.shows source.old) (S.shows source.new) (map L.shows links.old)
+        (map L.shows links.new)) }
     ensures kept { LeavesUnput (meant (map string_bytes words.now)) (K.shows keeper.old) (K.shows keeper.new) }
     ensures asks { AsksMeant (meant (map string_bytes words.now)) (K.shows keeper.old) (K.shows keeper.new) }
     ensures taken { Taken (map string_bytes words.now) → result ≢ Err Stop.Usage }
     ensures unread { LeavesUnread (meant (map string_bytes words.now)) (S.shows source.old) (S.shows source.new) }
     ensures links { LeavesUnasked (meant (map string_bytes words.now)) (map L.shows links.old) (map L.shows links.new) }
-    ensures reads { AsksFirst (meant (map string_bytes words.now)) (K.shows keeper.old) (S.shows source.old) (map L.shows links.old) (map L.shows links.new) }
+    ensures reads { AsksFirst (meant (map string_bytes words.now)) (K.shows keeper.old) (S.shows source.old)
+        (map L.shows links.old) (map L.shows links.new) }
 {
     let command = read_words(alloc, words)?;
     command_answer(rt, alloc, &command, source, keeper, links)

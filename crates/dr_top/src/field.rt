@@ -45,7 +45,8 @@ pub fn find_field(
     number: usize,
 ) -> Result<Path, FieldFault>
     ensures leaf { IfOk result (λ p. find_leaf text.now (fields_view (schema.now).fields.items) ≡ Ok (path_view p)) }
-    ensures refused { IfErr result (IsRefusedField (find_leaf text.now (fields_view (schema.now).fields.items)) number) }
+    ensures refused { IfErr result (IsRefusedField (find_leaf text.now (fields_view (schema.now).fields.items))
+        number) }
 {
     match find(alloc, schema, text) {
         Ok(path) => Ok(path),

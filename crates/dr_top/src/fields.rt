@@ -17,7 +17,8 @@ use std::alloc::Global;
 
 /// Whether a leaf is among others.
 fn is_among(leaves: &[Path], leaf: &Path) -> bool
-    ensures { result ≡ list_any (λ (m : Path). path_meaning.same_path (path_view leaf.now).path (path_view m).path) leaves.now }
+    ensures { result ≡ list_any (λ (m : Path). path_meaning.same_path (path_view leaf.now).path (path_view m).path)
+        leaves.now }
 {
     leaves
         .iter()
@@ -26,7 +27,8 @@ fn is_among(leaves: &[Path], leaf: &Path) -> bool
 
 /// Appends a leaf, unless it is there.
 fn add_leaf(leaves: &mut Vec<Path>, leaf: Path) -> Result<(), NoMemory>
-    ensures { OnOk result (map path_view (leaves.new).items ≡ with_leaf (map path_view (leaves.old).items) (path_view leaf)) }
+    ensures { OnOk result (map path_view (leaves.new).items
+        ≡ with_leaf (map path_view (leaves.old).items) (path_view leaf)) }
 {
     if is_among(leaves, &leaf) {
         return Ok(());
@@ -43,8 +45,10 @@ pub fn find_fields(
     schema: &Schema,
     texts: &[String],
 ) -> Result<Vec<Path>, FieldFault>
-    ensures leaves { IfOk result (λ v. named_leaves (fields_view (schema.now).fields.items) [] 0 (map string_bytes texts.now) ≡ Ok (map path_view v.items)) }
-    ensures stops { IfErr result (FieldStops (named_leaves (fields_view (schema.now).fields.items) [] 0 (map string_bytes texts.now))) }
+    ensures leaves { IfOk result (λ v. named_leaves (fields_view (schema.now).fields.items) [] 0
+        (map string_bytes texts.now) ≡ Ok (map path_view v.items)) }
+    ensures stops { IfErr result (FieldStops (named_leaves (fields_view (schema.now).fields.items) [] 0
+        (map string_bytes texts.now))) }
 {
     let mut leaves = Vec::new(alloc);
     'texts: for (number, text) in texts.iter().enumerate() {

@@ -9,8 +9,8 @@ ghost use Rattle.dr_top.specs.Stops.{IsUnput, AsksForFile};
 use dr_outside::{Fault, Keeper};
 use std::alloc::Global;
 
-/// The bytes of the file at a path; none where it has more than so many. The keeper is asked for the file's length and then for its
-/// bytes, each once.
+/// The bytes of the file at a path; none where it has more than so many. The keeper is asked for the file's length and
+/// then for its bytes, each once.
 ///
 /// Errors: the keeper failed; want of memory.
 pub fn read_file<K: Keeper>(
@@ -25,7 +25,8 @@ pub fn read_file<K: Keeper>(
     ensures calm { result ≢ Err Fault.Failed → (K.shows keeper.new).faults ≡ (K.shows keeper.old).faults }
     ensures cause { result ≡ Err Fault.Failed → (K.shows keeper.new).faults ≡ raised (K.shows keeper.old).faults }
     ensures kept { IsUnput (K.shows keeper.old) (K.shows keeper.new) }
-    ensures steady { IsTrue (K.shows keeper.old).is_steady → Holds (K.shows keeper.old).held path.now → result ≢ Err Fault.Failed }
+    ensures steady { IsTrue (K.shows keeper.old).is_steady → Holds (K.shows keeper.old).held path.now → result
+        ≢ Err Fault.Failed }
     ensures stays_steady { IsTrue (K.shows keeper.old).is_steady → IsTrue (K.shows keeper.new).is_steady }
     ensures asks { AsksForFile path.now (K.shows keeper.old) (K.shows keeper.new) }
 {

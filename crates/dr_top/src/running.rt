@@ -24,9 +24,9 @@ fn say<E: Sink>(err: &mut E, line: &[u8])
 /// Does what the words ask, of which the first is the program's name, and answers the program's status.
 ///
 /// 0: the whole text was written, and the input was read to its end, where the command reads it. 1: the words ask for
-/// nothing. 2: the schema, the table, a FIELD, the directories, the query or a line of the input is refused, the first that the
-/// command looks at. 3: tablets of a table are left, or the file of `schema`, each with its cause. 4: the source, the sink or the
-/// keeper failed. 5: want of memory. What isn't 0 has a line on standard error.
+/// nothing. 2: the schema, the table, a FIELD, the directories, the query or a line of the input is refused, the first
+/// that the command looks at. 3: tablets of a table are left, or the file of `schema`, each with its cause. 4: the
+/// source, the sink or the keeper failed. 5: want of memory. What isn't 0 has a line on standard error.
 ///
 /// The clauses speak of what the things outside show before the call and after it. The gate is passed on to workers
 /// alone, and no command has any yet.

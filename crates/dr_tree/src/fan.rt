@@ -11,7 +11,8 @@ use dr_memory::NoMemory;
 use std::alloc::Global;
 use std::collections::VecDeque;
 
-/// The tree of the tablets 0 to n - 1, of one at least: level by level, `fan` neighbours come below one server, until one server is left.
+/// The tree of the tablets 0 to n - 1, of one at least: level by level, `fan` neighbours come below one server, until
+/// one server is left.
 ///
 /// Errors: want of memory alone.
 pub fn of_fan(alloc: Global, n: u32, fan: u32) -> Result<Tree, NoMemory>
@@ -67,7 +68,8 @@ fn next_server(
     trees: &mut VecDeque<Tree>,
     more: usize,
 ) -> Result<Option<Tree>, NoMemory>
-    ensures servers { IfOk result (λ s. servers_of more (all_views (trees.old).items) ≡ server_before s (servers_of more (all_views (trees.new).items))) }
+    ensures servers { IfOk result (λ s. servers_of more (all_views (trees.old).items)
+        ≡ server_before s (servers_of more (all_views (trees.new).items))) }
     ensures fewer { OnOk result (length (trees.new).items ≤ length (trees.old).items - 1) }
 {
     let Some(first) = trees.pop_front() else {

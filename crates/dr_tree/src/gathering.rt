@@ -18,10 +18,11 @@ use dr_memory::NoMemory;
 use std::alloc::Global;
 use std::thread::{Threads, join};
 
-/// What a tree gathers of the partials of its tablets, given in the order of its leaf servers: an intermediate server merges what its
-/// children gather, in their order. Children that are intermediate servers gather at the same time.
+/// What a tree gathers of the partials of its tablets, given in the order of its leaf servers: an intermediate server
+/// merges what its children gather, in their order. Children that are intermediate servers gather at the same time.
 ///
-/// Errors: want of memory, or of room: the texts of lines have less than 4 GiB together, and the number of groups is bounded.
+/// Errors: want of memory, or of room: the texts of lines have less than 4 GiB together, and the number of groups is
+/// bounded.
 pub fn gather<R: Threads + Sync>(
     rt: &R,
     alloc: Global,
@@ -30,10 +31,12 @@ pub fn gather<R: Threads + Sync>(
 ) -> Result<Partial, NoMemory>
     requires tablets { length partials.items ≡ length (tablets_of (tree_view tree.now)) }
     requires together { Together partials.items }
-    ensures gathered { IfOk result (λ r. (piece : ℕ → meant.Partial) → map piece (tablets_of (tree_view tree.now)) ≡ partials_view partials.items
+    ensures gathered { IfOk result (λ r. (piece : ℕ → meant.Partial) → map piece (tablets_of (tree_view tree.now))
+        ≡ partials_view partials.items
         → partial_view r ≡ gathered piece (tree_view tree.now)) }
     ensures of_plan { IfOk result (λ r. (p : Planned) → AreOfPlan p partials.items → IsPartialOf p r) }
-    ensures bounded { IfOk result (λ r. (fs : Fields) (q : Query) (most : ℕ) → AreBounded fs q most (partials_view partials.items)
+    ensures bounded { IfOk result (λ r. (fs : Fields) (q : Query) (most : ℕ)
+        → AreBounded fs q most (partials_view partials.items)
         → IsBounded fs q most (partial_view r)) }
 {
     gather_tree(rt, alloc, tree, partials)
@@ -49,7 +52,8 @@ fn gather_tree<R: Threads + Sync>(
 ) -> Result<Partial, NoMemory>
     requires tablets { length partials.items ≡ length (tablets_of (tree_view tree.now)) }
     requires together { Together partials.items }
-    ensures { IfOk result (IsGathered (tablets_of (tree_view tree.now)) (λ piece. gathered piece (tree_view tree.now)) partials.items) }
+    ensures { IfOk result (IsGathered (tablets_of (tree_view tree.now))
+        (λ piece. gathered piece (tree_view tree.now)) partials.items) }
 {
     match tree {
         Tree::Leaf(_) => only(partials),
@@ -78,9 +82,11 @@ fn gather_children<R: Threads + Sync>(
     rest: &[Tree],
     partials: Vec<Partial>,
 ) -> Result<Partial, NoMemory>
-    requires tablets { length partials.items ≡ length (tablets_of (tree_view first.now) ++ tablets_of_all (trees_view rest.now)) }
+    requires tablets { length partials.items
+        ≡ length (tablets_of (tree_view first.now) ++ tablets_of_all (trees_view rest.now)) }
     requires together { Together partials.items }
-    ensures { IfOk result (IsGathered (tablets_of (tree_view first.now) ++ tablets_of_all (trees_view rest.now)) (λ piece. gathered_behind piece (gathered piece (tree_view first.now)) (trees_view rest.now)) partials.items) }
+    ensures { IfOk result (IsGathered (tablets_of (tree_view first.now) ++ tablets_of_all (trees_view rest.now))
+        (λ piece. gathered_behind piece (gathered piece (tree_view first.now)) (trees_view rest.now)) partials.items) }
 {
     match rest.split_last() {
         None => gather_tree(rt, alloc, first, partials),
@@ -104,11 +110,14 @@ fn gather_last<R: Threads + Sync>(
     last: &Tree,
     behind: Vec<Partial>,
 ) -> Result<Partial, NoMemory>
-    requires front { length partials.items ≡ length (tablets_of (tree_view first.now) ++ tablets_of_all (trees_view front.now)) }
+    requires front { length partials.items ≡ length
+        (tablets_of (tree_view first.now) ++ tablets_of_all (trees_view front.now)) }
     requires last { length behind.items ≡ length (tablets_of (tree_view last.now)) }
     requires together { Together (partials.items ++ behind.items) }
-    ensures { IfOk result (IsGathered ((tablets_of (tree_view first.now) ++ tablets_of_all (trees_view front.now)) ++ tablets_of (tree_view last.now))
-        (λ piece. meant.merge (gathered_behind piece (gathered piece (tree_view first.now)) (trees_view front.now)) (gathered piece (tree_view last.now))) (partials.items ++ behind.items)) }
+    ensures { IfOk result (IsGathered ((tablets_of (tree_view first.now) ++ tablets_of_all (trees_view front.now))
+        ++ tablets_of (tree_view last.now))
+        (λ piece. meant.merge (gathered_behind piece (gathered piece (tree_view first.now)) (trees_view front.now))
+        (gathered piece (tree_view last.now))) (partials.items ++ behind.items)) }
 {
     if let Tree::Leaf(_) = last {
         let mine = gather_children(rt, alloc, first, front, partials)?;
@@ -116,13 +125,19 @@ fn gather_last<R: Threads + Sync>(
         return merged(alloc, mine, theirs);
     }
     let mine = move || -> Result<Partial, NoMemory>
-        requires { IsSync R.row × (length partials.items ≡ length (tablets_of (tree_view first.now) ++ tablets_of_all (trees_view front.now))) × Together partials.items }
-        ensures { IfOk result (IsGathered (tablets_of (tree_view first.entry.now) ++ tablets_of_all (trees_view front.entry.now))
-            (λ piece. gathered_behind piece (gathered piece (tree_view first.entry.now)) (trees_view front.entry.now)) partials.items) }
+        requires { IsSync R.row × (length partials.items
+            ≡ length (tablets_of (tree_view first.now) ++ tablets_of_all (trees_view front.now)))
+            × Together partials.items }
+        ensures { IfOk result (IsGathered (tablets_of (tree_view first.entry.now)
+            ++ tablets_of_all (trees_view front.entry.now))
+            (λ piece. gathered_behind piece (gathered piece (tree_view first.entry.now))
+            (trees_view front.entry.now)) partials.items) }
     { gather_children(rt, alloc, first, front, partials) };
     let theirs = move || -> Result<Partial, NoMemory>
-        requires { IsSync R.row × (length behind.items ≡ length (tablets_of (tree_view last.now))) × Together behind.items }
-        ensures { IfOk result (IsGathered (tablets_of (tree_view last.entry.now)) (λ piece. gathered piece (tree_view last.entry.now)) behind.items) }
+        requires { IsSync R.row × (length behind.items ≡ length (tablets_of (tree_view last.now)))
+            × Together behind.items }
+        ensures { IfOk result (IsGathered (tablets_of (tree_view last.entry.now))
+            (λ piece. gathered piece (tree_view last.entry.now)) behind.items) }
     { gather_tree(rt, alloc, last, behind) };
     let (mine, theirs) = join(rt, mine, theirs);
     merged(alloc, mine?, theirs?)

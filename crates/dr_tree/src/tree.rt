@@ -4,7 +4,8 @@ ghost use Rattle.std.specs.Prelude.{◌≡◌, ◌^◌, ◌<◌, length};
 ghost use Rattle.dr_partials.specs.Trees.{tablets_of, tablets_of_all};
 ghost use Rattle.dr_tree.specs.Views.{tree_view, trees_view};
 
-/// A serving tree: a leaf server with the tablet of a number, or an intermediate server with its children, of which the first stands apart.
+/// A serving tree: a leaf server with the tablet of a number, or an intermediate server with its children, of which the
+/// first stands apart.
 #[cycle(tree)]
 #[derive(Debug, Drop)]
 pub enum Tree {

@@ -1,4 +1,5 @@
-//! The items of a course, laid out in one array: what is gone through in a record, and in each instance of a repeated field.
+//! The items of a course, laid out in one array: what is gone through in a record, and in each instance of a repeated
+//! field.
 
 use dr_levels::Levels;
 use dr_nested::Kind;
@@ -10,8 +11,8 @@ pub struct Gate {
     pub definition: u8,
 }
 
-/// A leaf of a level: its definition level where it is absent, and where it is there. Where it stands behind gates, these
-/// were looked at when the level began.
+/// A leaf of a level: its definition level where it is absent, and where it is there. Where it stands behind gates,
+/// these were looked at when the level began.
 #[derive(Clone, Copy, PartialEq, Eq, Debug)]
 pub struct Give {
     pub leaf: u32,
@@ -21,8 +22,9 @@ pub struct Give {
     pub gated: bool,
 }
 
-/// A next repeated field: its number, one of the leaves below it, the definition level where it is absent, and whether it
-/// stands behind gates. So many NULLs come behind it, for where it is absent; the items of an instance begin at `body`.
+/// A next repeated field: its number, one of the leaves below it, the definition level where it is absent, and whether
+/// it stands behind gates. So many NULLs come behind it, for where it is absent; the items of an instance begin at
+/// `body`.
 #[derive(Clone, Copy, PartialEq, Eq, Debug)]
 pub struct Visit {
     pub number: u32,
@@ -33,8 +35,8 @@ pub struct Visit {
     pub body: usize,
 }
 
-/// A repeated field at the end of an instance: its number, the repetition level with which a later instance begins, one of
-/// the leaves below it, and where the items of an instance begin.
+/// A repeated field at the end of an instance: its number, the repetition level with which a later instance begins, one
+/// of the leaves below it, and where the items of an instance begin.
 #[derive(Clone, Copy, PartialEq, Eq, Debug)]
 pub struct Lap {
     pub number: u32,
@@ -106,8 +108,8 @@ impl Visit {
     ghost use Rattle.std.specs.Prelude.{◌≡◌};
     ghost use Rattle.dr_walk.specs.Seen.{absent_level as meant_absent};
 
-    /// The definition level of the NULLs of its leaves, where it is absent; none where it is there. This was seen of its
-    /// gates, and this is the next definition level of its leaf.
+    /// The definition level of the NULLs of its leaves, where it is absent; none where it is there. This was seen of
+    /// its gates, and this is the next definition level of its leaf.
     pub fn absent_level(&self, seen: Option<u8>, definition: u8) -> Option<u8>
         ensures { result ≡ meant_absent self.now.low seen definition }
     {

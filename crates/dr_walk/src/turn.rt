@@ -3,8 +3,8 @@
 use dr_levels::Levels;
 use dr_nested::Kind;
 
-/// A turn: into an instance of a repeated field or a record, a leaf's next triplet, or out of it; none yet; all was gone
-/// through; or no records have these levels.
+/// A turn: into an instance of a repeated field or a record, a leaf's next triplet, or out of it; none yet; all was
+/// gone through; or no records have these levels.
 #[derive(Clone, Copy, PartialEq, Eq, Debug)]
 pub enum Turn {
     Enters(u32),

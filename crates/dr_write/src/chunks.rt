@@ -24,7 +24,8 @@ const ENCODINGS: [i64; 2] = [PLAIN, RLE];
 /// That nothing is compressed.
 const UNCOMPRESSED: i64 = 0;
 
-/// Appends the row groups of columns: none without rows, else one with a chunk for each leaf. Answers what the footer says of them.
+/// Appends the row groups of columns: none without rows, else one with a chunk for each leaf. Answers what the footer
+/// says of them.
 ///
 /// Errors: want of memory alone; some bytes may have joined then.
 pub(crate) fn append_groups<'t, 'a>(
@@ -35,8 +36,12 @@ pub(crate) fn append_groups<'t, 'a>(
     out: &mut Vec<u8>,
 ) -> Result<Vec<GroupMeta<'t, 'a>>, NoMemory>
     requires { AreFor (leaves_view leaves.now) columns.now }
-    ensures bytes { OnOk result ((out.new).items ≡ (out.old).items ++ (chunks_in_rows rows.number (leaves_view leaves.now) (columns_view columns.now) (length (out.old).items)).bytes) }
-    ensures groups { IfOk result (λ v. groups_view v ≡ groups_in_rows rows.number (chunks_in_rows rows.number (leaves_view leaves.now) (columns_view columns.now) (length (out.old).items))) }
+    ensures bytes { OnOk result ((out.new).items
+        ≡ (out.old).items ++ (chunks_in_rows rows.number (leaves_view leaves.now) (columns_view columns.now)
+        (length (out.old).items)).bytes) }
+    ensures groups { IfOk result (λ v. groups_view v
+        ≡ groups_in_rows rows.number (chunks_in_rows rows.number (leaves_view leaves.now) (columns_view columns.now)
+        (length (out.old).items))) }
 {
     let mut groups = Vec::new(alloc);
     if rows.get() == 0 {
@@ -61,8 +66,11 @@ fn append_chunks<'t, 'a>(
     out: &mut Vec<u8>,
 ) -> Result<Vec<ChunkMeta<'t, 'a>>, NoMemory>
     requires { AreFor (leaves_view leaves.now) columns.now }
-    ensures bytes { OnOk result ((out.new).items ≡ (out.old).items ++ (chunks_of (leaves_view leaves.now) (columns_view columns.now) (length (out.old).items)).bytes) }
-    ensures chunks { IfOk result (λ v. chunks_view v ≡ (chunks_of (leaves_view leaves.now) (columns_view columns.now) (length (out.old).items)).columns) }
+    ensures bytes { OnOk result ((out.new).items
+        ≡ (out.old).items ++ (chunks_of (leaves_view leaves.now) (columns_view columns.now)
+        (length (out.old).items)).bytes) }
+    ensures chunks { IfOk result (λ v. chunks_view v
+        ≡ (chunks_of (leaves_view leaves.now) (columns_view columns.now) (length (out.old).items)).columns) }
 {
     let mut pages = PageWriter::new(alloc);
     let mut chunks = Vec::with_capacity(alloc, leaves.len())?;
@@ -113,8 +121,11 @@ fn append_chunk(
 ) -> Result<(), NoMemory>
     requires repetition { max_repetition ≤ 32 }
     requires definition { (column_form column.now).greatest ≤ 32 }
-    requires writable { list_all (is_triplet (column_form column.now).kind max_repetition (column_form column.now).greatest) (column_view column.now) ≡ true }
-    ensures { OnOk result ((out.new).items ≡ (out.old).items ++ chunk_of (column_form column.now).kind max_repetition (column_form column.now).greatest (column_view column.now)) }
+    requires writable { list_all (is_triplet (column_form column.now).kind max_repetition
+        (column_form column.now).greatest) (column_view column.now) ≡ true }
+    ensures { OnOk result ((out.new).items ≡ (out.old).items
+        ++ chunk_of (column_form column.now).kind max_repetition (column_form column.now).greatest
+        (column_view column.now)) }
 {
     let mut rest = column.triplets();
     'pages: while rest.len() > 0 {

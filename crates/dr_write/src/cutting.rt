@@ -20,11 +20,13 @@ const ENOUGH_BYTES: u64 = 1 << 20;
 /// The bytes of the length before a text.
 const LENGTH_BYTES: u64 = 4;
 
-/// How many triplets the first page has, of the pages into which these triplets are cut: it closes at the first record's end at
-/// which it is full, and at the last.
+/// How many triplets the first page has, of the pages into which these triplets are cut: it closes at the first
+/// record's end at which it is full, and at the last.
 pub(crate) fn page_length(triplets: Triplets<'_>) -> usize
     requires { 0 < length (triplets_view triplets) }
-    ensures page { cut_pages (triplets_form triplets.entry).kind [] (records_of (triplets_view triplets.entry)) ≡ take result (triplets_view triplets.entry) ∷ cut_pages (triplets_form triplets.entry).kind [] (records_of (drop result (triplets_view triplets.entry))) }
+    ensures page { cut_pages (triplets_form triplets.entry).kind [] (records_of (triplets_view triplets.entry))
+        ≡ take result (triplets_view triplets.entry)
+        ∷ cut_pages (triplets_form triplets.entry).kind [] (records_of (drop result (triplets_view triplets.entry))) }
     ensures some { 0 < result }
     ensures within { result ≤ length (triplets_view triplets.entry) }
 {

@@ -107,7 +107,8 @@ fn push_shape<'a>(
     shape: &'a Shape,
     items: &mut Vec<SchemaItem<'a>>,
 ) -> Result<(), NoMemory>
-    ensures { OnOk result (items_view items.new ≡ items_view items.old ++ shape_elements name.now (rep_view rep) (shape_view shape.now)) }
+    ensures { OnOk result (items_view items.new
+        ≡ items_view items.old ++ shape_elements name.now (rep_view rep) (shape_view shape.now)) }
 {
     match shape {
         Shape::Leaf(kind) => {

@@ -16,7 +16,8 @@ use dr_memory::NoMemory;
 use dr_nested::Schema;
 use std::alloc::Global;
 
-/// The bytes of the file of so many records of a schema, from the columns that they have at its leaves, in schema order.
+/// The bytes of the file of so many records of a schema, from the columns that they have at its leaves, in schema
+/// order.
 ///
 /// Errors: want of memory alone.
 pub fn write_file(
@@ -26,7 +27,8 @@ pub fn write_file(
     rows: u64,
 ) -> Result<Vec<u8>, NoMemory>
     requires columns { AreColumnsFor (schema_view schema.now) columns.now }
-    ensures bytes { (R : List Node) → HaveColumns (schema_view schema.now) R (columns_view columns.now) → length R ≡ rows → IfOk result (λ b. b.items ≡ file_bytes (schema_view schema.now) R) }
+    ensures bytes { (R : List Node) → HaveColumns (schema_view schema.now) R (columns_view columns.now) → length R
+        ≡ rows → IfOk result (λ b. b.items ≡ file_bytes (schema_view schema.now) R) }
 {
     let rows = count_of(rows)?;
     let leaves = schema_leaves(alloc, schema)?;

@@ -34,7 +34,8 @@ pub(crate) fn append_footer<'t, 'a>(
     groups: Vec<GroupMeta<'t, 'a>>,
     out: &mut Vec<u8>,
 ) -> Result<(), NoMemory>
-    ensures { OnOk result ((out.new).items ≡ (out.old).items ++ file_end (footer_of (schema_view schema.now) rows.number (groups_view groups.entry))) }
+    ensures { OnOk result ((out.new).items ≡ (out.old).items
+        ++ file_end (footer_of (schema_view schema.now) rows.number (groups_view groups.entry))) }
 {
     let meta = FileMeta {
         version: Some(VERSION),

@@ -14,7 +14,8 @@ use dr_memory::NoMemory;
 use dr_nested::{Field, Rep, Schema, Shape};
 use std::alloc::Global;
 
-/// The way from the root to a field: the names on it, how many of its fields are repeated, and how many need not be there.
+/// The way from the root to a field: the names on it, how many of its fields are repeated, and how many need not be
+/// there.
 #[derive(Drop)]
 struct Way<'a> {
     names: Vec<&'a [u8]>,
@@ -78,7 +79,8 @@ pub(crate) fn schema_leaves<'a>(
     alloc: Global,
     schema: &'a Schema,
 ) -> Result<Vec<Leaf<'a>>, NoMemory>
-    ensures { IfOk result (λ v. leaves_view v.items ≡ map written_leaf (path_meaning.leaves (schema_view schema.now).fields)) }
+    ensures { IfOk result (λ v. leaves_view v.items
+        ≡ map written_leaf (path_meaning.leaves (schema_view schema.now).fields)) }
 {
     let mut leaves = Vec::new(alloc);
     push_fields(alloc, &Way::root(alloc), &schema.fields, &mut leaves)?;
@@ -95,7 +97,8 @@ fn push_fields<'a>(
 ) -> Result<(), NoMemory>
     requires repetition { (way.now).repetition + depth (fields_view (fields.now).items) ≤ 32 }
     requires definition { (way.now).definition + depth (fields_view (fields.now).items) ≤ 32 }
-    ensures { OnOk result (leaves_view (leaves.new).items ≡ leaves_view (leaves.old).items ++ fields_leaves (way_view way.now) (fields_view (fields.now).items)) }
+    ensures { OnOk result (leaves_view (leaves.new).items
+        ≡ leaves_view (leaves.old).items ++ fields_leaves (way_view way.now) (fields_view (fields.now).items)) }
 {
     'fields: for field in fields {
         let below = way.below(alloc, field.name.as_str(), field.rep)?;
@@ -114,7 +117,8 @@ fn push_shape<'a>(
 ) -> Result<(), NoMemory>
     requires repetition { way.repetition + shape_depth (shape_view shape.now) ≤ 32 }
     requires definition { way.definition + shape_depth (shape_view shape.now) ≤ 32 }
-    ensures { OnOk result (leaves_view (leaves.new).items ≡ leaves_view (leaves.old).items ++ shape_leaves (way_view way.entry) (shape_view shape.now)) }
+    ensures { OnOk result (leaves_view (leaves.new).items
+        ≡ leaves_view (leaves.old).items ++ shape_leaves (way_view way.entry) (shape_view shape.now)) }
 {
     match shape {
         Shape::Leaf(kind) => {

@@ -54,7 +54,9 @@ impl PageWriter {
         requires repetition { max_repetition ≤ 32 }
         requires definition { (triplets_form triplets).greatest ≤ 32 }
         requires writable { AreWritable max_repetition triplets }
-        ensures { OnOk result ((out.new).items ≡ (out.old).items ++ page_of (triplets_form triplets.entry).kind max_repetition (triplets_form triplets.entry).greatest (triplets_view triplets.entry)) }
+        ensures { OnOk result ((out.new).items ≡ (out.old).items
+            ++ page_of (triplets_form triplets.entry).kind max_repetition (triplets_form triplets.entry).greatest
+            (triplets_view triplets.entry)) }
     {
         self.body.clear();
         self.bodies.write(triplets, max_repetition, &mut self.body)?;

@@ -30,7 +30,8 @@ fn is_writable(alloc: Global, kind: Kind, value: ValueRef<'_>) -> Result<bool, F
 }
 
 fn is_triplet(alloc: Global, leaf: &Leaf<'_>, triplet: Triplet<'_>) -> Result<bool, Fail>
-    ensures { IfOk result (λ b. b ≡ true → is_triplet (leaf_view leaf.now).kind (leaf_view leaf.now).max_repetition (leaf_view leaf.now).max_definition (triplet_view triplet.entry) ≡ true) }
+    ensures { IfOk result (λ b. b ≡ true → is_triplet (leaf_view leaf.now).kind (leaf_view leaf.now).max_repetition
+        (leaf_view leaf.now).max_definition (triplet_view triplet.entry) ≡ true) }
 {
     if triplet.repetition > leaf.max_repetition || triplet.definition > leaf.max_definition {
         return Ok(false);
@@ -167,7 +168,8 @@ const ONE_FILE: [u8; 109] = [
 const EACH: &str =
     "message T { required boolean b; optional int32 i; repeated string s; optional group g { repeated int64 n; required string t; } }";
 
-// The file of {"b":true,"i":-2,"s":["a","é"],"g":{"n":[1,-1],"t":""}}, {"b":false} and {"b":true,"i":7,"s":["xyz"],"g":{"t":"q"}}.
+// The file of {"b":true,"i":-2,"s":["a","é"],"g":{"n":[1,-1],"t":""}}, {"b":false} and
+// {"b":true,"i":7,"s":["xyz"],"g":{"t":"q"}}.
 const EACH_FILE: [u8; 411] = [
     0x50, 0x41, 0x52, 0x31, 0x15, 0, 0x15, 2, 0x15, 2, 0x2c, 0x15, 6, 0x15, 0, 0x15, 6, 0x15, 6, 0,
     0, 5, 0x15, 0, 0x15, 0x1c, 0x15, 0x1c, 0x2c, 0x15, 6, 0x15, 0, 0x15, 6, 0x15, 6, 0, 0, 2, 0, 0,

@@ -15,8 +15,8 @@ const LINKS: usize = 16;
 const NOTHING: &str = "/dev/null";
 
 fn main(rt: HostRuntime) -> io::Result<ExitCode> {
-    // The lowest free descriptors are taken first: a standard stream that is closed at the start is this device from here
-    // on, and no file that is opened later is taken for it.
+    // The lowest free descriptors are taken first: a standard stream that is closed at the start is this device from
+    // here on, and no file that is opened later is taken for it.
     let _input = fs::open(&rt, NOTHING);
     let _output = fs::open(&rt, NOTHING);
     let _error = fs::open(&rt, NOTHING);

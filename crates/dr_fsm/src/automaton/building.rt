@@ -19,7 +19,8 @@ fn leaf_order(
     fields: &[Path],
     order: Order,
 ) -> Result<Vec<usize>, NoMemory>
-    ensures order { IfOk result (λ v. v.items ≡ order_of order (fields_view (schema.now).fields.items) (map (λ (p : Path). (path_view p).path) fields.now)) }
+    ensures order { IfOk result (λ v. v.items
+        ≡ order_of order (fields_view (schema.now).fields.items) (map (λ (p : Path). (path_view p).path) fields.now)) }
     ensures within { IfOk result (λ v. All (λ i. i < length fields.now) v.items) }
 {
     match order {
@@ -38,9 +39,13 @@ impl Automaton {
         fields: &[Path],
         order: Order,
     ) -> Result<Automaton, NoMemory>
-        ensures order { IfOk result (λ a. leaves_of a ≡ order_of order (fields_view (schema.now).fields.items) (map (λ (p : Path). (path_view p).path) fields.now)) }
-        ensures next { IfOk result (λ a. IsAutomatonOf a (paths_at (map (λ (p : Path). (path_view p).path) fields.now) (leaves_of a))) }
-        ensures ends { IfOk result (λ a. EndsBehindLast a (paths_at (map (λ (p : Path). (path_view p).path) fields.now) (leaves_of a))) }
+        ensures order { IfOk result (λ a. leaves_of a
+            ≡ order_of order (fields_view (schema.now).fields.items)
+            (map (λ (p : Path). (path_view p).path) fields.now)) }
+        ensures next { IfOk result (λ a. IsAutomatonOf a
+            (paths_at (map (λ (p : Path). (path_view p).path) fields.now) (leaves_of a))) }
+        ensures ends { IfOk result (λ a. EndsBehindLast a
+            (paths_at (map (λ (p : Path). (path_view p).path) fields.now) (leaves_of a))) }
         ensures within { IfOk result (λ a. All (λ i. i < length fields.now) (leaves_of a)) }
     {
         let order = leaf_order(alloc, schema, fields, order)?;
@@ -60,8 +65,8 @@ impl Automaton {
         self.order.as_slice()
     }
 
-    /// Where a level leads from a leaf. From a leaf that isn't there, and by a level above the leaf's greatest repetition
-    /// level, it is the end.
+    /// Where a level leads from a leaf. From a leaf that isn't there, and by a level above the leaf's greatest
+    /// repetition level, it is the end.
     pub fn next(&self, leaf: u32, level: u32) -> State
         ensures state { state_view result ≡ follow self.now leaf level }
         ensures within { (j : ℕ) → state_view result ≡ Some j → j < length (leaves_of self.now) }

@@ -26,12 +26,14 @@ pub fn answer<R: Threads + Sync, S: Source, K: Keeper>(
     source: &mut S,
     keeper: &mut K,
 ) -> Result<String, Stop>
-    ensures text { IfOk result (λ t. HasOutcome (ask_meaning (ask_view words.now)) (K.shows keeper.old) (S.shows source.old) (done (string_bytes t) [])) }
+    ensures text { IfOk result (λ t. HasOutcome (ask_meaning (ask_view words.now)) (K.shows keeper.old)
+        (S.shows source.old) (done (string_bytes t) [])) }
     ensures opened { OnOk result (IsOpened (ask_meaning (ask_view words.now)) (K.shows keeper.old)) }
     ensures read { OnOk result (IsReadBy true (S.shows source.old) (S.shows source.new)) }
     ensures source_calm { OnOk result ((S.shows source.new).faults ≡ (S.shows source.old).faults) }
     ensures keeper_calm { OnOk result ((K.shows keeper.new).faults ≡ (K.shows keeper.old).faults) }
-    ensures stops { IfErr result (StopsPlain (ask_meaning (ask_view words.now)) (K.shows keeper.old) (K.shows keeper.new) (S.shows source.old) (S.shows source.new)) }
+    ensures stops { IfErr result (StopsPlain (ask_meaning (ask_view words.now)) (K.shows keeper.old)
+        (K.shows keeper.new) (S.shows source.old) (S.shows source.new)) }
     ensures kept { IsUnput (K.shows keeper.old) (K.shows keeper.new) }
     ensures asks { AsksForFile (string_bytes (words.now).schema) (K.shows keeper.old) (K.shows keeper.new) }
 {

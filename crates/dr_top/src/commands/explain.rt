@@ -19,9 +19,12 @@ use std::alloc::Global;
 ///
 /// Errors: the first refusal: the schema, then the query; the keeper failed; want of memory.
 pub fn answer<K: Keeper>(alloc: Global, words: &Explain, keeper: &mut K) -> Result<String, Stop>
-    ensures text { (input : SourceShown) → IfOk result (λ t. HasOutcome (explain_meaning (explain_view words.now)) (K.shows keeper.old) input (done (string_bytes t) [])) }
+    ensures text { (input : SourceShown) → IfOk result
+        (λ t. HasOutcome (explain_meaning (explain_view words.now)) (K.shows keeper.old) input
+        (done (string_bytes t) [])) }
     ensures keeper_calm { OnOk result ((K.shows keeper.new).faults ≡ (K.shows keeper.old).faults) }
-    ensures stops { (input : SourceShown) → IfErr result (StopsPlain (explain_meaning (explain_view words.now)) (K.shows keeper.old) (K.shows keeper.new) input input) }
+    ensures stops { (input : SourceShown) → IfErr result
+        (StopsPlain (explain_meaning (explain_view words.now)) (K.shows keeper.old) (K.shows keeper.new) input input) }
     ensures kept { IsUnput (K.shows keeper.old) (K.shows keeper.new) }
     ensures asks { AsksForFile (string_bytes (words.now).schema) (K.shows keeper.old) (K.shows keeper.new) }
 {

@@ -23,7 +23,8 @@ use std::alloc::Global;
 
 /// The text of the automaton of leaves in schema order.
 fn leaves_text(alloc: Global, schema: &Schema, leaves: &[Path]) -> Result<String, NoMemory>
-    ensures { IfOk result (λ t. string_bytes t ≡ fsm_leaves (fields_view (schema.now).fields.items) (map path_view leaves.now)) }
+    ensures { IfOk result (λ t. string_bytes t
+        ≡ fsm_leaves (fields_view (schema.now).fields.items) (map path_view leaves.now)) }
 {
     let automaton = Automaton::build(alloc, schema, leaves, Order::BySchema)?;
     automaton_text(alloc, leaves, &automaton)
@@ -33,9 +34,11 @@ fn leaves_text(alloc: Global, schema: &Schema, leaves: &[Path]) -> Result<String
 ///
 /// Errors: the first refusal: the schema, then the FIELD words in order; the keeper failed; want of memory.
 pub fn answer<K: Keeper>(alloc: Global, fsm: &Fsm, keeper: &mut K) -> Result<String, Stop>
-    ensures text { (input : SourceShown) → IfOk result (λ t. HasOutcome (fsm_meaning (fsm_view fsm.now)) (K.shows keeper.old) input (done (string_bytes t) [])) }
+    ensures text { (input : SourceShown) → IfOk result
+        (λ t. HasOutcome (fsm_meaning (fsm_view fsm.now)) (K.shows keeper.old) input (done (string_bytes t) [])) }
     ensures keeper_calm { OnOk result ((K.shows keeper.new).faults ≡ (K.shows keeper.old).faults) }
-    ensures stops { (input : SourceShown) → IfErr result (StopsPlain (fsm_meaning (fsm_view fsm.now)) (K.shows keeper.old) (K.shows keeper.new) input input) }
+    ensures stops { (input : SourceShown) → IfErr result
+        (StopsPlain (fsm_meaning (fsm_view fsm.now)) (K.shows keeper.old) (K.shows keeper.new) input input) }
     ensures kept { IsUnput (K.shows keeper.old) (K.shows keeper.new) }
     ensures asks { AsksForFile (string_bytes (fsm.now).schema) (K.shows keeper.old) (K.shows keeper.new) }
 {

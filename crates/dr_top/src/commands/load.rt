@@ -15,19 +15,23 @@ use std::alloc::Global;
 
 /// The text that `load` prints. The files are put before it.
 ///
-/// Errors: the first refusal: the schema, the directories, the number of copies, then the input's lines; the keeper or the source
-/// failed; want of memory.
+/// Errors: the first refusal: the schema, the directories, the number of copies, then the input's lines; the keeper or
+/// the source failed; want of memory.
 pub fn answer<S: Source, K: Keeper>(
     alloc: Global,
     words: &Load,
     source: &mut S,
     keeper: &mut K,
 ) -> Result<String, Stop>
-    ensures text { (links : List LinkShown) → IfOk result (λ t. Finishes (load_meaning (load_view words.now)) (K.shows keeper.old) (K.shows keeper.new) (S.shows source.old) links (string_bytes t)) }
+    ensures text { (links : List LinkShown) → IfOk result
+        (λ t. Finishes (load_meaning (load_view words.now)) (K.shows keeper.old) (K.shows keeper.new)
+        (S.shows source.old) links (string_bytes t)) }
     ensures read { OnOk result (IsReadBy true (S.shows source.old) (S.shows source.new)) }
     ensures source_calm { OnOk result ((S.shows source.new).faults ≡ (S.shows source.old).faults) }
     ensures keeper_calm { OnOk result ((K.shows keeper.new).faults ≡ (K.shows keeper.old).faults) }
-    ensures stops { (links : List LinkShown) → IfErr result (StopsWith (load_meaning (load_view words.now)) (K.shows keeper.old) (K.shows keeper.new) (S.shows source.old) (S.shows source.new) links links) }
+    ensures stops { (links : List LinkShown)
+        → IfErr result (StopsWith (load_meaning (load_view words.now)) (K.shows keeper.old) (K.shows keeper.new)
+        (S.shows source.old) (S.shows source.new) links links) }
     ensures asks { AsksForFile (string_bytes (words.now).schema) (K.shows keeper.old) (K.shows keeper.new) }
 {
     let schema = read_schema(alloc, keeper, words.schema.as_str())?;

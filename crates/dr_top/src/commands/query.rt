@@ -28,12 +28,17 @@ pub fn answer<R: Threads + Sync, K: Keeper, L: Link>(
     keeper: &mut K,
     link: &mut L,
 ) -> Result<String, Stop>
-    ensures text { (input : SourceShown) (links : List LinkShown) → IfOk result (λ t. WithOutcome (query_meaning (query_view words.now)) (K.shows keeper.old) input (λ o. HasText o (L.shows link.old ∷ links) (string_bytes t))) }
+    ensures text { (input : SourceShown) (links : List LinkShown)
+        → IfOk result (λ t. WithOutcome (query_meaning (query_view words.now)) (K.shows keeper.old) input
+        (λ o. HasText o (L.shows link.old ∷ links) (string_bytes t))) }
     ensures keeper_calm { OnOk result ((K.shows keeper.new).faults ≡ (K.shows keeper.old).faults) }
-    ensures stops { (input : SourceShown) (links : List LinkShown) → IfErr result (StopsWith (query_meaning (query_view words.now)) (K.shows keeper.old) (K.shows keeper.new) input input (L.shows link.old ∷ links) (L.shows link.new ∷ links)) }
+    ensures stops { (input : SourceShown) (links : List LinkShown)
+        → IfErr result (StopsWith (query_meaning (query_view words.now)) (K.shows keeper.old)
+        (K.shows keeper.new) input input (L.shows link.old ∷ links) (L.shows link.new ∷ links)) }
     ensures kept { IsUnput (K.shows keeper.old) (K.shows keeper.new) }
     ensures asks { AsksForFile (string_bytes (words.now).table) (K.shows keeper.old) (K.shows keeper.new) }
-    ensures reads { (input : SourceShown) → ForOutcome (query_meaning (query_view words.now)) (K.shows keeper.old) input (λ o. AsksLink o (L.shows link.old) (L.shows link.new)) }
+    ensures reads { (input : SourceShown) → ForOutcome (query_meaning (query_view words.now)) (K.shows keeper.old) input
+        (λ o. AsksLink o (L.shows link.old) (L.shows link.new)) }
     ensures same { (L.shows link.new).held ≡ (L.shows link.old).held }
     ensures stays_steady { IsTrue (L.shows link.old).is_steady → IsTrue (L.shows link.new).is_steady }
 {

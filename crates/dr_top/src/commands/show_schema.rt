@@ -18,7 +18,8 @@ use std::alloc::Global;
 ///
 /// Errors: the cause for which the file gives no schema; want of memory.
 pub fn answer<L: Link>(alloc: Global, show: &ShowSchema, link: &mut L) -> Result<String, Stop>
-    ensures text { IfOk result (λ t. IsSchemaShown (held_at (L.shows link.old).held (string_bytes (show.now).file)) (string_bytes t)) }
+    ensures text { IfOk result (λ t. IsSchemaShown (held_at (L.shows link.old).held (string_bytes (show.now).file))
+        (string_bytes t)) }
     ensures stops { IfErr result (SchemaStops (string_bytes (show.now).file) (L.shows link.old) (L.shows link.new)) }
     ensures reads { AsksLink (looks_at (string_bytes (show.now).file)) (L.shows link.old) (L.shows link.new) }
     ensures same { (L.shows link.new).held ≡ (L.shows link.old).held }

@@ -39,7 +39,8 @@ fn only_column(striper: Striper<'_>) -> Column
 
 /// The column of a leaf in the records of the input, which is read to its end.
 ///
-/// Errors: the first line that is refused; the source failed, and no whole line that it gave before is refused; want of memory.
+/// Errors: the first line that is refused; the source failed, and no whole line that it gave before is refused; want of
+/// memory.
 fn stripe_records<S: Source>(
     alloc: Global,
     schema: &Schema,
@@ -47,10 +48,12 @@ fn stripe_records<S: Source>(
     source: &mut S,
 ) -> Result<Column, InputFault>
     requires { is_leaf (fields_view (schema.now).fields.items) (path_view field.now) ≡ true }
-    ensures columns { IfOk result (λ c. HasColumns (fields_view (schema.now).fields.items) ((path_view field.now).path ∷ []) (S.shows source.old).left (column_view c ∷ [])) }
+    ensures columns { IfOk result (λ c. HasColumns (fields_view (schema.now).fields.items)
+        ((path_view field.now).path ∷ []) (S.shows source.old).left (column_view c ∷ [])) }
     ensures end { OnOk result (WhereTold (S.shows source.old).left (λ _. (S.shows source.new).left ≡ Some [])) }
     ensures calm { OnOk result ((S.shows source.new).faults ≡ (S.shows source.old).faults) }
-    ensures stops { IfErr result (InputStops (fields_view (schema.now).fields.items) most_striped (S.shows source.old) (S.shows source.new)) }
+    ensures stops { IfErr result (InputStops (fields_view (schema.now).fields.items) most_striped (S.shows source.old)
+        (S.shows source.new)) }
 {
     let mut striper = Striper::new(alloc, slice::from_ref(field))?;
     let mut records = Records::new(alloc, schema, MOST_STRIPED)?;
@@ -70,12 +73,14 @@ pub fn answer<S: Source, K: Keeper>(
     source: &mut S,
     keeper: &mut K,
 ) -> Result<String, Stop>
-    ensures text { IfOk result (λ t. HasOutcome (stripe_meaning (stripe_view stripe.now)) (K.shows keeper.old) (S.shows source.old) (done (string_bytes t) [])) }
+    ensures text { IfOk result (λ t. HasOutcome (stripe_meaning (stripe_view stripe.now)) (K.shows keeper.old)
+        (S.shows source.old) (done (string_bytes t) [])) }
     ensures opened { OnOk result (IsOpened (stripe_meaning (stripe_view stripe.now)) (K.shows keeper.old)) }
     ensures read { OnOk result (IsReadBy true (S.shows source.old) (S.shows source.new)) }
     ensures source_calm { OnOk result ((S.shows source.new).faults ≡ (S.shows source.old).faults) }
     ensures keeper_calm { OnOk result ((K.shows keeper.new).faults ≡ (K.shows keeper.old).faults) }
-    ensures stops { IfErr result (StopsPlain (stripe_meaning (stripe_view stripe.now)) (K.shows keeper.old) (K.shows keeper.new) (S.shows source.old) (S.shows source.new)) }
+    ensures stops { IfErr result (StopsPlain (stripe_meaning (stripe_view stripe.now)) (K.shows keeper.old)
+        (K.shows keeper.new) (S.shows source.old) (S.shows source.new)) }
     ensures kept { IsUnput (K.shows keeper.old) (K.shows keeper.new) }
     ensures asks { AsksForFile (string_bytes (stripe.now).schema) (K.shows keeper.old) (K.shows keeper.new) }
 {
