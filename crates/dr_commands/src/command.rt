@@ -11,12 +11,15 @@ use crate::ask_words::{ask_command, ask_of};
 use crate::dump::{Dump, dump_command, dump_of};
 use crate::explain::{Explain, explain_command, explain_of};
 use crate::fsm::{Fsm, fsm_command, fsm_of};
+use crate::gen_words::{Gen, gen_command, gen_of};
 use crate::load::Load;
 use crate::load_words::{load_command, load_of};
 use crate::query::Query;
 use crate::query_words::{query_command, query_of};
 use crate::show_schema::{ShowSchema, show_schema_command, show_schema_of};
 use crate::stripe::{Stripe, stripe_command, stripe_of};
+use crate::trial::Trial;
+use crate::trial_words::{trial_command, trial_of};
 use crate::words_fault::WordsFault;
 use clap::ArgMatches;
 use std::alloc::{AllocError, Global};
@@ -32,6 +35,8 @@ pub enum Command {
     Fsm(Fsm),
     ShowSchema(ShowSchema),
     Explain(Explain),
+    Gen(Gen),
+    Trial(Trial),
 }
 
 /// The command before its subcommands join it. No word asks for help: those that would are refused as unknown.
@@ -56,7 +61,9 @@ pub fn dremel_command<'a>(alloc: Global) -> Result<clap::Command<'a>, AllocError
         .subcommand(stripe_command(alloc)?)?
         .subcommand(fsm_command(alloc)?)?
         .subcommand(show_schema_command(alloc)?)?
-        .subcommand(explain_command(alloc)?)
+        .subcommand(explain_command(alloc)?)?
+        .subcommand(gen_command(alloc)?)?
+        .subcommand(trial_command(alloc)?)
 }
 
 /// The subcommand that clap met, with its values.
@@ -72,6 +79,8 @@ pub fn command_of(alloc: Global, matches: &ArgMatches<'_>) -> Result<Command, Wo
         Some(("fsm", values)) => Ok(Command::Fsm(fsm_of(alloc, values)?)),
         Some(("schema", values)) => Ok(Command::ShowSchema(show_schema_of(alloc, values)?)),
         Some(("explain", values)) => Ok(Command::Explain(explain_of(alloc, values)?)),
+        Some(("gen", values)) => Ok(Command::Gen(gen_of(values))),
+        Some(("trial", values)) => Ok(Command::Trial(trial_of(values))),
         _ => Err(WordsFault::Usage),
     }
 }
