@@ -1,0 +1,10 @@
+-- what is to be done, and when what a worker finds is true
+pub mod Working
+-- what a pass knows of the work that was done with it
+pub mod Ends
+-- what the closing round gives
+pub mod Closing
+-- what serving ends with
+pub mod Serving
+-- what a link shows after work
+pub mod Links
