@@ -20,7 +20,10 @@ use Rattle.dr_tablets.specs.FileRecords.{AreLeavesOf}
 use Rattle.dr_tablets.proofs.LeafLemmas.{used_are_leaves}
 use Rattle.dr_reading.specs.Premises.{paths_of_leaves}
 use Rattle.dr_reading.specs.Scan.{joined, tablets_of}
+use Rattle.dr_reading.specs.Given.{AreGiven}
 use Rattle.dr_reading.specs.Left.{LeftTablet}
+use Rattle.dr_reading.specs.InTurn.{left_from}
+use Rattle.dr_reading.proofs.InTurnLemmas.{read_in_turn_is_given, read_in_turn_leaves_just}
 use Rattle.dr_reading.proofs.ReadingLemmas.{given_are_projected}
 use Rattle.dr_tablets.specs.Tablets.{LeavesTablets}
 use Rattle.dr_plan.specs.declared.plan.Plan.{Plan}
@@ -64,18 +67,26 @@ unfolding answer_text
 same_answers s q p R S b e = ap result_text (sym (leaves_are_enough s b.0 q R b.1) ∙ ap (meaning s.fields q) e ∙ leaves_are_enough s b.0 q S b.1)
 
 -- the answer of the table is that of its records
-pub answer_is : (t : Table) (q : Query) (p : Plan) (held : Option Files) (R : List Node) (text : List ℕ) → HoldsTableOf t held R → IsPlanOf t.schema q p → IsAnswerOf t q held text → text ≡ answer_text t.schema q R
-answer_is t q p None R text h b a = absurd h
-answer_is t q p (Some files) R text h b a =
+answer_is_of : (t : Table) (q : Query) (p : Plan) (held : Option Files) (R : List Node) (text : List ℕ) → HoldsTableOf t held R → IsPlanOf t.schema q p
+    → (a : (Rs : List (List Node)) × AreGiven t.schema (query_leaves t.schema.fields q) held (tablets_of t) Rs × (text ≡ answer_text t.schema q (joined Rs))) → text ≡ answer_text t.schema q R
+answer_is_of t q p None R text h b a = absurd h
+answer_is_of t q p (Some files) R text h b a =
     let F : List Leaf = query_leaves t.schema.fields q in
     let f : TabletsAreFiles t.schema F files (tablets_of t) h.0 = h.2 F (query_among t.schema q) in
     a.2 ∙ same_answers t.schema q p (joined a.0) (joined h.0) b
     (given_are_projected t.schema F files (Some files) (tablets_of t) h.0 a.0 (all_leaf_paths t.schema F (query_among t.schema q)) (λ path. refl) (files_are_held t.schema F files (tablets_of t) h.0 f) a.1)
     ∙ ap (answer_text t.schema q) h.1
 
+pub answer_is : (t : Table) (q : Query) (p : Plan) (l now : LinkShown) (R : List Node) (text : List ℕ) → HoldsTableOf t l.held R → IsPlanOf t.schema q p → IsAnswerOf t q l now text → text ≡ answer_text t.schema q R
+answer_is t q p l now R text h b a =
+    let F : List Leaf = query_leaves t.schema.fields q in
+    let Rs : AreGiven t.schema F l.held (tablets_of t) a.0 = subst (AreGiven t.schema F l.held (tablets_of t)) a.1.3 (read_in_turn_is_given t.schema F l (tablets_of t) a.1.0 a.1.1.each a.1.2) in
+    answer_is_of t q p l.held R text h b (a.0, Rs, a.2)
+
 -- no tablet is left
 pub nothing_left : (t : Table) (q : Query) (link now : LinkShown) (o : Option Files) (R : List Node) (left : List LeftTablet) → link.held ≡ o → 0 < t.copies → IsTrue link.is_steady → HoldsTableOf t o R
     → LeavesTablets t (query_leaves t.schema.fields q) left link now → ⊥
 nothing_left t q link now None R left e c s h l = h
 nothing_left t q link now (Some files) R left e c s h l =
-    l.0 (none_left t.schema (query_leaves t.schema.fields q) link files e s 0 (tablets_of t) left h.0 (have_copies t.leaves t.copies 0 t.tablets c) (h.2 (query_leaves t.schema.fields q) (query_among t.schema q)) l.1)
+    let F : List Leaf = query_leaves t.schema.fields q in
+    l.3 (sym l.2 ∙ none_left t.schema F link files e s 0 (tablets_of t) (left_from 0 l.0) h.0 (have_copies t.leaves t.copies 0 t.tablets c) (h.2 F (query_among t.schema q)) (read_in_turn_leaves_just t.schema F link (tablets_of t) l.0 l.1.each))

@@ -4,6 +4,7 @@ use crate::cuts::cut_up;
 use crate::hybrids::{decoded, decoded_levels, encoded_levels, read_back};
 use crate::leaves::{leaves_counted, place_found};
 use crate::lines::lines_cut;
+use crate::made::{lines_made, record_made};
 use crate::numbers::{signed, turned, varint_read, varint_written};
 use crate::records::record_read;
 use crate::runs::runs_read;
@@ -47,6 +48,8 @@ fn answer_more(
         "lines" => lines_cut(alloc, words, bytes),
         "count_leaves" => leaves_counted(alloc, bytes),
         "leaf_place" => place_found(alloc, words, bytes),
+        "made" => lines_made(alloc, words),
+        "made_record" => record_made(alloc, words),
         _ => Err(Broken::Form),
     }
 }

@@ -7,6 +7,7 @@ mod cuts;
 mod hybrids;
 mod leaves;
 mod lines;
+mod made;
 mod numbers;
 mod records;
 mod runs;

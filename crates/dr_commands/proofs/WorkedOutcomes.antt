@@ -53,33 +53,33 @@ load_words directories copies = record { schema = codes "s"; table = codes "t"; 
 
 -- ---- what a command looks at
 
--- the file that it reads; whether it reads the input, whether it puts files, whether it asks the first link
-abbrev Looks : Meaning → Option (List ℕ) → List Bool → Type 0
-Looks m file does = (m.file ≡ file) × ((m.reads_input ∷ m.puts_files ∷ m.asks_link ∷ []) ≡ does)
+-- the file that it reads; whether it reads the input, and whether it puts files; how many links it may ask
+abbrev Looks : Meaning → Option (List ℕ) → List Bool → ℕ → Type 0
+Looks m file does n = (m.file ≡ file) × ((m.reads_input ∷ m.puts_files ∷ []) ≡ does) × (m.links ≡ n)
 
-pub load_looks : Looks (load_meaning (load_words (codes "d" ∷ []) 1)) (Some (codes "s")) (true ∷ true ∷ false ∷ [])
-load_looks = (refl, refl)
+pub load_looks : Looks (load_meaning (load_words (codes "d" ∷ []) 1)) (Some (codes "s")) (true ∷ true ∷ []) 0
+load_looks = (refl, refl, refl)
 
-pub query_looks : Looks (query_meaning (record { table = codes "t"; fan = 8; query = url_count })) (Some (codes "t")) (false ∷ false ∷ true ∷ [])
-query_looks = (refl, refl)
+pub query_looks : Looks (query_meaning (record { table = codes "t"; fan = 8; query = url_count })) (Some (codes "t")) (false ∷ false ∷ []) 1
+query_looks = (refl, refl, refl)
 
-pub ask_looks : Looks (ask_meaning (record { schema = codes "s"; rows = 2; fan = 8; query = url_count })) (Some (codes "s")) (true ∷ false ∷ false ∷ [])
-ask_looks = (refl, refl)
+pub ask_looks : Looks (ask_meaning (record { schema = codes "s"; rows = 2; fan = 8; query = url_count })) (Some (codes "s")) (true ∷ false ∷ []) 0
+ask_looks = (refl, refl, refl)
 
-pub dump_looks : Looks (dump_meaning (record { table = codes "t"; fields = codes "DocId" ∷ [] })) (Some (codes "t")) (false ∷ false ∷ true ∷ [])
-dump_looks = (refl, refl)
+pub dump_looks : Looks (dump_meaning (record { table = codes "t"; fields = codes "DocId" ∷ [] })) (Some (codes "t")) (false ∷ false ∷ []) 1
+dump_looks = (refl, refl, refl)
 
-pub stripe_looks : Looks (stripe_meaning (record { schema = codes "s"; field = codes "DocId" })) (Some (codes "s")) (true ∷ false ∷ false ∷ [])
-stripe_looks = (refl, refl)
+pub stripe_looks : Looks (stripe_meaning (record { schema = codes "s"; field = codes "DocId" })) (Some (codes "s")) (true ∷ false ∷ []) 0
+stripe_looks = (refl, refl, refl)
 
-pub fsm_looks : Looks (fsm_meaning (record { schema = codes "s"; fields = codes "DocId" ∷ [] })) (Some (codes "s")) (false ∷ false ∷ false ∷ [])
-fsm_looks = (refl, refl)
+pub fsm_looks : Looks (fsm_meaning (record { schema = codes "s"; fields = codes "DocId" ∷ [] })) (Some (codes "s")) (false ∷ false ∷ []) 0
+fsm_looks = (refl, refl, refl)
 
-pub schema_looks : Looks (show_schema_meaning (record { file = codes "f" })) None (false ∷ false ∷ true ∷ [])
-schema_looks = (refl, refl)
+pub schema_looks : Looks (show_schema_meaning (record { file = codes "f" })) None (false ∷ false ∷ []) 1
+schema_looks = (refl, refl, refl)
 
-pub explain_looks : Looks (explain_meaning (record { schema = codes "s"; query = url_count })) (Some (codes "s")) (false ∷ false ∷ false ∷ [])
-explain_looks = (refl, refl)
+pub explain_looks : Looks (explain_meaning (record { schema = codes "s"; query = url_count })) (Some (codes "s")) (false ∷ false ∷ []) 0
+explain_looks = (refl, refl, refl)
 
 -- ---- commands that print the text of what they read
 

@@ -42,6 +42,6 @@ ask_meaning w = record {
   file = Some w.schema;
   reads_input = true;
   puts_files = false;
-  asks_link = false;
+  links = 0;
   outcome = λ look. plain (meant.ask w.rows look.file w.query look.input);
 }

@@ -56,6 +56,6 @@ dump_meaning w = record {
   file = Some w.table;
   reads_input = false;
   puts_files = false;
-  asks_link = true;
+  links = 1;
   outcome = λ look. dump_table w.fields (parse_table look.file);
 }

@@ -47,6 +47,6 @@ explain_meaning w = record {
   file = Some w.schema;
   reads_input = false;
   puts_files = false;
-  asks_link = false;
+  links = 0;
   outcome = λ look. plain (explained look.file w.query);
 }

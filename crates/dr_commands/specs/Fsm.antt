@@ -29,6 +29,6 @@ fsm_meaning w = record {
   file = Some w.schema;
   reads_input = false;
   puts_files = false;
-  asks_link = false;
+  links = 0;
   outcome = λ look. plain (meant.fsm look.file w.fields);
 }

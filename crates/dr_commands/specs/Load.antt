@@ -79,6 +79,6 @@ load_meaning w = record {
   file = Some w.schema;
   reads_input = true;
   puts_files = true;
-  asks_link = false;
+  links = 0;
   outcome = λ look. load_schema w look.input (parse_schema look.file);
 }

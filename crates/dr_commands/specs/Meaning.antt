@@ -37,10 +37,11 @@ puts_in (looks_at path) = []
 pub record Meaning : Type 0 where
   -- the path of the file that it reads through the keeper, if it reads one
   pub file : Option (List ℕ)
-  -- whether it reads the input, whether it puts files, and whether it asks the first link
+  -- whether it reads the input, and whether it puts files
   pub reads_input : Bool
   pub puts_files : Bool
-  pub asks_link : Bool
+  -- how many links it may ask, from the first on
+  pub links : ℕ
   pub outcome : Look → Outcome
 
 -- a refusal that is found before the input is read: all but those of its lines

@@ -58,6 +58,6 @@ query_meaning w = record {
   file = Some w.table;
   reads_input = false;
   puts_files = false;
-  asks_link = true;
+  links = 1;
   outcome = λ look. query_table w.query (parse_table look.file);
 }

@@ -29,6 +29,6 @@ stripe_meaning w = record {
   file = Some w.schema;
   reads_input = true;
   puts_files = false;
-  asks_link = false;
+  links = 0;
   outcome = λ look. plain (meant.stripe look.file w.field look.input);
 }

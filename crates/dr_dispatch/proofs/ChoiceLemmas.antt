@@ -34,16 +34,16 @@ pub first_open_some : (es : List Event) (t : ℕ) (leaves : List ℕ) (h : Hand)
 first_open_some es t [] h e = absurd (cc e)
 first_open_some es t (l ∷ leaves) h e = open_here es t l leaves h (first_open_some es t leaves h) (has_give es (hand t l)) refl e
 
-abbrev is_none : Option Hand → Bool
+abbrev pub is_none : Option Hand → Bool
 is_none None = true
 is_none (Some h) = false
 
-none_at : (b : Bool) (rest : Option Hand) (h : Hand) → is_none (if b then rest else Some h) ≡ (b && is_none rest)
+pub none_at : (b : Bool) (rest : Option Hand) (h : Hand) → is_none (if b then rest else Some h) ≡ (b && is_none rest)
 none_at true rest h = refl
 none_at false rest h = refl
 
 -- no leaf is open exactly where all were given
-first_open-none : (es : List Event) (t : ℕ) (leaves : List ℕ) → is_none (first_open es t leaves) ≡ all_given es t leaves
+pub first_open-none : (es : List Event) (t : ℕ) (leaves : List ℕ) → is_none (first_open es t leaves) ≡ all_given es t leaves
 first_open-none es t [] = refl
 first_open-none es t (l ∷ leaves) =
     none_at (has_give es (hand t l)) (first_open es t leaves) (hand t l) ∙ ap (λ b. has_give es (hand t l) && b) (first_open-none es t leaves)
@@ -73,26 +73,26 @@ module _ (pick : ℕ → List ℕ → Option Hand) where
   lowest_some base [] h e = absurd (cc e)
   lowest_some base (leaves ∷ rest) h e = picks_at base leaves rest h (lowest_some (suc base) rest h) (pick base leaves) refl e
 
-  or_else_none : (a b : Option Hand) → or_else a b ≡ None → (a ≡ None) × (b ≡ None)
+  pub or_else_none : (a b : Option Hand) → or_else a b ≡ None → (a ≡ None) × (b ≡ None)
   or_else_none None b e = (refl, e)
   or_else_none (Some h) b e = absurd (cc e)
 
-  lowest_none : (base place t : ℕ) (rows : List (List ℕ)) → base + place ≡ t → place < length rows → lowest pick base rows ≡ None → pick t (leaves_at rows place) ≡ None
+  pub lowest_none : (base place t : ℕ) (rows : List (List ℕ)) → base + place ≡ t → place < length rows → lowest pick base rows ≡ None → pick t (leaves_at rows place) ≡ None
   lowest_none base place t [] n w e = absurd (omega arith)
   lowest_none base zero t (leaves ∷ rest) n w e = subst (λ (u : ℕ). pick u leaves ≡ None) (omega (arith, n)) (or_else_none (pick base leaves) (lowest pick (suc base) rest) e).0
   lowest_none base (suc place) t (leaves ∷ rest) n w e =
       lowest_none (suc base) place t rest (omega (arith, n)) (omega arith) (or_else_none (pick base leaves) (lowest pick (suc base) rest) e).1
 
-  all_none : (base : ℕ) (rows : List (List ℕ)) → ((place t : ℕ) → base + place ≡ t → place < length rows → pick t (leaves_at rows place) ≡ None) → lowest pick base rows ≡ None
+  pub all_none : (base : ℕ) (rows : List (List ℕ)) → ((place t : ℕ) → base + place ≡ t → place < length rows → pick t (leaves_at rows place) ≡ None) → lowest pick base rows ≡ None
   all_none base [] each = refl
   all_none base (leaves ∷ rest) each =
       ap₂ or_else (each 0 base (add-zero base) (omega arith)) (all_none (suc base) rest (λ place t n w. each (suc place) t (omega (arith, n)) (omega (arith, w))))
 
-or_else_some : (a b : Option Hand) (h : Hand) → or_else a b ≡ Some h → (a ≡ Some h) ⊎ (b ≡ Some h)
+pub or_else_some : (a b : Option Hand) (h : Hand) → or_else a b ≡ Some h → (a ≡ Some h) ⊎ (b ≡ Some h)
 or_else_some None b h e = inr e
 or_else_some (Some g) b h e = inl e
 
-if_some : (b : Bool) (o : Option Hand) (h : Hand) → (if b then o else None) ≡ Some h → (b ≡ true) × (o ≡ Some h)
+pub if_some : (b : Bool) (o : Option Hand) (h : Hand) → (if b then o else None) ≡ Some h → (b ≡ true) × (o ≡ Some h)
 if_some true o h e = (refl, e)
 if_some false o h e = absurd (cc e)
 
@@ -132,7 +132,7 @@ answered_is_not_chosen j es h e = (choice_is_open j es h e).unanswered
 abbrev passes : Bool → Bool → Bool → Bool → Bool
 passes answer given failed near = answer || given || (not failed && near)
 
-if_none : (b : Bool) (o : Option Hand) → (if b then o else None) ≡ None → (b ≡ false) ⊎ (o ≡ None)
+pub if_none : (b : Bool) (o : Option Hand) → (if b then o else None) ≡ None → (b ≡ false) ⊎ (o ≡ None)
 if_none true o e = inr e
 if_none false o e = inl refl
 

@@ -6,5 +6,6 @@ pub mod WorkedSeats
 pub mod HistoryLemmas
 pub mod BoundLemmas
 pub mod ChoiceLemmas
+pub mod NextLemmas
 pub mod Prefixes
 pub mod SeatLemmas

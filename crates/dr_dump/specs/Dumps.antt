@@ -1,5 +1,5 @@
 -- What is printed of a table's records, and which of its tablets are left.
-use Rattle.std.specs.Prelude.{◌≡◌, ℕ, List, Option, String, string_bytes}
+use Rattle.std.specs.Prelude.{◌≡◌, ℕ, List, String, string_bytes}
 use Rattle.std.specs.List.{flat_map}
 use Rattle.std.specs.declared.alloc.Global.{Global}
 use Rattle.dr_meaning.specs.Schema.{Fields}
@@ -7,10 +7,10 @@ use Rattle.dr_meaning.specs.Path.{Leaf}
 use Rattle.dr_meaning.specs.Record.{Node, project}
 use Rattle.dr_meaning.specs.Print.{record_text}
 use Rattle.dr_formats.specs.TableFile.{Table}
-use Rattle.dr_outside.specs.Link.{Files}
+use Rattle.dr_outside.specs.Link.{LinkShown}
 use Rattle.dr_reading.specs.Premises.{paths_of_leaves}
 use Rattle.dr_reading.specs.Scan.{joined, tablets_of}
-use Rattle.dr_reading.specs.Given.{AreGiven}
+use Rattle.dr_reading.specs.InTurn.{GiveInTurn}
 
 -- the lines of records
 abbrev pub lines_text : Fields → List Node → List ℕ
@@ -24,6 +24,6 @@ HasLines fs text R = string_bytes text ≡ lines_text fs R
 abbrev pub dump_text : Fields → List Leaf → List Node → List ℕ
 dump_text fs F R = flat_map (λ n. record_text fs (project (paths_of_leaves F) n)) R
 
--- a text is the lines of the records of a table, of which each tablet gives its own
-abbrev pub AreLinesOf : Table → List Leaf → Option Files → List ℕ → Type 0
-AreLinesOf t F held text = (Rs : List (List Node)) × AreGiven t.schema F held (tablets_of t) Rs × (text ≡ dump_text t.schema.fields F (joined Rs))
+-- a text is the lines of the records of a table, of which a link that reads its tablets in turn gives them
+abbrev pub AreLinesOf : Table → List Leaf → LinkShown → LinkShown → List ℕ → Type 0
+AreLinesOf t F link now text = (Rs : List (List Node)) × GiveInTurn t.schema F link now (tablets_of t) Rs × (text ≡ dump_text t.schema.fields F (joined Rs))

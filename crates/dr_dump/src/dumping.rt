@@ -76,8 +76,8 @@ fn keep(
 }
 
 /// The lines of the records of a table, projected to these leaves of its schema, in the order of the tablets; or the
-/// tablets that are left, of which no copy gives records. The link is asked for no file but those of the table, and for
-/// no bytes of them but what the leaves take.
+/// tablets that are left, of which no copy gives records. The link is asked for no file but those of the table, and,
+/// where it tells what it holds, for no bytes of them but what the leaves take.
 ///
 /// Errors: want of memory alone.
 pub fn dump_table<L: Link>(
@@ -88,7 +88,7 @@ pub fn dump_table<L: Link>(
 ) -> Result<Dumped, NoMemory>
     requires leaves { AreLeavesOf (fields_view (table.now).schema.fields.items) (map path_view fields.now) }
     ensures lines { IfOk result (WhereLines (AreLinesOf (table_view table.now) (map path_view fields.now)
-        (L.shows link.old).held)) }
+        (L.shows link.old) (L.shows link.new))) }
     ensures left { IfOk result (WhereLeft (λ left. LeavesTablets (table_view table.now) (map path_view fields.now) left
         (L.shows link.old) (L.shows link.new))) }
     ensures asks { AsksForTablets (map path_view fields.now) (tablets_of (table_view table.now)) (L.shows link.old)

@@ -1,5 +1,5 @@
 -- What a link is asked for, call by call.
-use Rattle.std.proofs.Common.{◌≡◌, ◌≢◌, ℕ, ◌+◌, ◌-◌, ◌≤◌, List, [], ◌∷◌, ◌++◌, length, Bool, true, false, refl, sym, ap, ap₂, ◌∙◌, arith}
+use Rattle.std.proofs.Common.{◌≡◌, ◌≢◌, ℕ, ◌+◌, ◌-◌, ◌≤◌, List, [], ◌∷◌, ◌++◌, length, Bool, true, false, refl, sym, ap, ap₂, ◌∙◌, subst, arith}
 use Rattle.std.specs.Prelude.{Option, Some, None, Result, Err, ◌&&◌, ◌||◌, bytes_eq, if◌then◌else◌}
 use Rattle.std.specs.List.{list_any, list_all}
 use Rattle.std.proofs.lemmas.List.{append-nil}
@@ -11,7 +11,8 @@ use Rattle.dr_outside.specs.declared.fault.Fault.{Fault}
 use Rattle.dr_formats.specs.Opening.{Range, range, is_inside, end_ranges, footer_ranges}
 use Rattle.dr_formats.specs.File.{is_framed, footer_place, footer_length}
 use Rattle.dr_outside.specs.Telling.{AsksOnly}
-use Rattle.dr_file.specs.Asking.{is_request_for}
+use Rattle.dr_chunk.specs.Ranges.{is_read_inside}
+use Rattle.dr_file.specs.Asking.{is_for_path, is_request_for}
 
 -- nothing was asked
 pub asks_nothing : (test : Request → Bool) (before after : Option (List Request)) → after ≡ before → AsksOnly test before after
@@ -35,6 +36,13 @@ same_bytes xs = (bytes_eq-Decides xs xs).1 refl
 -- the size of the file at the path may be asked for
 pub size_is_asked : (path : List ℕ) (rs : List Range) → is_request_for path rs (size_of path) ≡ true
 size_is_asked path rs = same_bytes path
+
+-- both the size and any bytes are asked for at the path
+pub size_is_there : (path : List ℕ) → is_for_path path (size_of path) ≡ true
+size_is_there path = same_bytes path
+
+pub range_is_there : (path : List ℕ) (a b : ℕ) → is_for_path path (bytes_of (record { path = path; start = a; len = b })) ≡ true
+range_is_there path a b = same_bytes path
 
 within_itself : (a b : ℕ) → is_inside (range a b) (range a b) ≡ true
 within_itself a b = ap₂ (λ x y. x && y) (le-leb a a (omega arith)) (le-leb (a + b) (a + b) (omega arith))
@@ -83,6 +91,15 @@ asks_weaker p q (Some rs) after f h = (h.0, h.1, all_weaker p q h.0 f h.2)
 
 pub asks_with_more : (path : List ℕ) (rs ss : List Range) (before after : Option (List Request)) → AsksOnly (is_request_for path rs) before after → AsksOnly (is_request_for path (rs ++ ss)) before after
 asks_with_more path rs ss before after h = asks_weaker (is_request_for path rs) (is_request_for path (rs ++ ss)) before after (more_ranges path rs ss) h
+
+-- bytes of the file at a path are asked for at that path
+read_is_there : (path : List ℕ) (rs : List Range) (r : Request) → is_read_inside path rs r ≡ true → is_for_path path r ≡ true
+read_is_there path rs (size_of p) h = absurd (cc)
+read_is_there path rs (bytes_of r) h = (and_parts (bytes_eq r.path path) (list_any (is_inside (range r.start r.len)) rs) h).0
+
+pub reads_are_there : (path file : List ℕ) (rs : List Range) (before after : Option (List Request)) → file ≡ path → AsksOnly (is_read_inside file rs) before after → AsksOnly (is_for_path path) before after
+reads_are_there path file rs before after e h =
+    subst (λ (x : List ℕ). AsksOnly (is_for_path x) before after) e (asks_weaker (is_read_inside file rs) (is_for_path file) before after (read_is_there file rs) h)
 
 -- where the footer may be read
 footer_there : (bytes : List ℕ) → is_framed bytes ≡ true → footer_ranges bytes ≡ range (footer_place bytes) (footer_length bytes) ∷ []

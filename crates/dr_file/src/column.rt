@@ -31,6 +31,7 @@ impl Opened {
     ghost use Rattle.dr_levels.specs.Views.{column_view, column_form, form};
     ghost use Rattle.dr_outside.specs.Telling.{Tells, Serves, AsksOnly};
     ghost use Rattle.dr_chunk.specs.Ranges.{is_read_inside};
+    ghost use Rattle.dr_file.specs.Asking.{is_for_path};
     ghost use Rattle.dr_file.specs.OpenedFiles.{IsOpened, IsColumnOf, IsColumnFault, HasCounts, is_read_fault, leaf_count, path_of};
 
     /// The column of the leaf at an index of those that the file was opened for. The link is asked for bytes of the
@@ -58,6 +59,7 @@ impl Opened {
             → slice_get F index ≡ Some l → footer_of bytes ≡ Some f
             → AsksOnly (is_read_inside (path_of self.now) (leaf_ranges f l)) (L.shows link.old).asked
             (L.shows link.new).asked }
+        ensures paths { AsksOnly (is_for_path (path_of self.now)) (L.shows link.old).asked (L.shows link.new).asked }
         ensures same { (L.shows link.new).held ≡ (L.shows link.old).held }
         ensures counts { IfErr result (HasCounts (L.shows link.old).faults (L.shows link.new).faults) }
         ensures calm { is_read_fault result ≡ false → (L.shows link.new).faults ≡ (L.shows link.old).faults }

@@ -5,7 +5,7 @@ ghost use Rattle.dr_formats.specs.File.{is_framed};
 ghost use Rattle.dr_formats.specs.Opening.{end_ranges, footer_ranges};
 ghost use Rattle.dr_outside.specs.Faults.{raised};
 ghost use Rattle.dr_outside.specs.Telling.{Tells, AsksOnly, Serves};
-ghost use Rattle.dr_file.specs.Asking.{is_request_for};
+ghost use Rattle.dr_file.specs.Asking.{is_for_path, is_request_for};
 ghost use Rattle.dr_file.specs.Frames.{IsFooter};
 ghost use Rattle.dr_outside.specs.Link.{Lacks};
 
@@ -38,6 +38,7 @@ pub(crate) fn read_footer<L: Link>(
         (L.shows link.new).asked }
     ensures asked_absent { Lacks (L.shows link.old).held path.now
         → AsksOnly (is_request_for path.now []) (L.shows link.old).asked (L.shows link.new).asked }
+    ensures paths { AsksOnly (is_for_path path.now) (L.shows link.old).asked (L.shows link.new).asked }
     ensures same { (L.shows link.new).held ≡ (L.shows link.old).held }
     ensures cause { result ≡ Err FooterFault.Failed → (L.shows link.new).faults ≡ raised (L.shows link.old).faults }
     ensures calm { result ≢ Err FooterFault.Failed → (L.shows link.new).faults ≡ (L.shows link.old).faults }

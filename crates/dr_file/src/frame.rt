@@ -6,7 +6,7 @@ ghost use Rattle.dr_formats.specs.File.{is_framed};
 ghost use Rattle.dr_formats.specs.Opening.{end_ranges};
 ghost use Rattle.dr_outside.specs.Faults.{raised};
 ghost use Rattle.dr_outside.specs.Telling.{Tells, AsksOnly, Serves};
-ghost use Rattle.dr_file.specs.Asking.{is_request_for};
+ghost use Rattle.dr_file.specs.Asking.{is_for_path, is_request_for};
 ghost use Rattle.dr_file.specs.Frames.{IsFrame, are_ends, outside_fault};
 ghost use Rattle.dr_file.specs.declared.frame.FooterFault.TheVariants.{NoMemory as WantOfMemory};
 ghost use Rattle.dr_outside.specs.Link.{Lacks};
@@ -94,6 +94,7 @@ pub(crate) fn read_frame<L: Link>(link: &mut L, path: &str) -> Result<Frame, Foo
         → AsksOnly (is_request_for path.now (end_ranges bytes)) (L.shows link.old).asked (L.shows link.new).asked }
     ensures asked_absent { Lacks (L.shows link.old).held path.now
         → AsksOnly (is_request_for path.now []) (L.shows link.old).asked (L.shows link.new).asked }
+    ensures paths { AsksOnly (is_for_path path.now) (L.shows link.old).asked (L.shows link.new).asked }
     ensures same { (L.shows link.new).held ≡ (L.shows link.old).held }
     ensures cause { result ≡ Err FooterFault.Failed → (L.shows link.new).faults ≡ raised (L.shows link.old).faults }
     ensures calm { result ≢ Err FooterFault.Failed → (L.shows link.new).faults ≡ (L.shows link.old).faults }

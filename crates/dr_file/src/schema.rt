@@ -10,7 +10,7 @@ ghost use Rattle.dr_meta.specs.Views.{file_view};
 ghost use Rattle.dr_nested.specs.SchemaView.{schema_view};
 ghost use Rattle.dr_outside.specs.Faults.{raised};
 ghost use Rattle.dr_outside.specs.Telling.{Tells, AsksOnly, Serves};
-ghost use Rattle.dr_file.specs.Asking.{is_request_for};
+ghost use Rattle.dr_file.specs.Asking.{is_for_path, is_request_for};
 ghost use Rattle.dr_file.specs.Openings.{footer_with, footer_in, IsOpenFault};
 ghost use Rattle.dr_file.specs.OpenedFiles.{IsCauseOf, is_read_fault, HasCounts};
 ghost use Rattle.dr_file.specs.Schemas.{cause_in};
@@ -84,6 +84,7 @@ fn read_schema<L: Link>(alloc: Global, link: &mut L, path: &str) -> Result<Schem
         (L.shows link.new).asked }
     ensures asked_absent { Lacks (L.shows link.old).held path.now
         → AsksOnly (is_request_for path.now []) (L.shows link.old).asked (L.shows link.new).asked }
+    ensures paths { AsksOnly (is_for_path path.now) (L.shows link.old).asked (L.shows link.new).asked }
     ensures same { (L.shows link.new).held ≡ (L.shows link.old).held }
     ensures rose { result ≡ Err OpenFault.Failed → (L.shows link.new).faults ≡ raised (L.shows link.old).faults }
     ensures calm { result ≢ Err OpenFault.Failed → (L.shows link.new).faults ≡ (L.shows link.old).faults }
@@ -111,6 +112,7 @@ pub fn schema_of<L: Link>(alloc: Global, link: &mut L, path: &str) -> Result<Sch
         (L.shows link.new).asked }
     ensures asked_absent { Lacks (L.shows link.old).held path.now
         → AsksOnly (is_request_for path.now []) (L.shows link.old).asked (L.shows link.new).asked }
+    ensures paths { AsksOnly (is_for_path path.now) (L.shows link.old).asked (L.shows link.new).asked }
     ensures same { (L.shows link.new).held ≡ (L.shows link.old).held }
     ensures counts { IfErr result (HasCounts (L.shows link.old).faults (L.shows link.new).faults) }
     ensures calm { is_read_fault result ≡ false → (L.shows link.new).faults ≡ (L.shows link.old).faults }

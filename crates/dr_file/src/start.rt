@@ -6,7 +6,7 @@ ghost use Rattle.dr_formats.specs.Opening.{opening_cause, end_ranges, footer_ran
 ghost use Rattle.dr_outside.specs.Faults.{raised};
 ghost use Rattle.dr_nested.specs.PathView.{path_view};
 ghost use Rattle.dr_outside.specs.Telling.{Tells, AsksOnly, Serves};
-ghost use Rattle.dr_file.specs.Asking.{is_request_for};
+ghost use Rattle.dr_file.specs.Asking.{is_for_path, is_request_for};
 ghost use Rattle.dr_file.specs.Openings.{IsOpenFault};
 ghost use Rattle.dr_file.specs.OpenedFiles.{IsOpened, IsCauseOf, is_read_fault, told_fault, HasCounts, rows_of, path_of, leaf_count};
 ghost use Rattle.dr_outside.specs.Link.{Lacks};
@@ -54,6 +54,7 @@ fn open<L: Link>(
         (L.shows link.new).asked }
     ensures asked_absent { Lacks (L.shows link.old).held path.now
         → AsksOnly (is_request_for path.now []) (L.shows link.old).asked (L.shows link.new).asked }
+    ensures paths { AsksOnly (is_for_path path.now) (L.shows link.old).asked (L.shows link.new).asked }
     ensures same { (L.shows link.new).held ≡ (L.shows link.old).held }
     ensures rose { result ≡ Err OpenFault.Failed → (L.shows link.new).faults ≡ raised (L.shows link.old).faults }
     ensures calm { result ≢ Err OpenFault.Failed → (L.shows link.new).faults ≡ (L.shows link.old).faults }
@@ -97,6 +98,7 @@ impl Opened {
             (L.shows link.new).asked }
         ensures asked_absent { Lacks (L.shows link.old).held path.now
             → AsksOnly (is_request_for path.now []) (L.shows link.old).asked (L.shows link.new).asked }
+        ensures paths { AsksOnly (is_for_path path.now) (L.shows link.old).asked (L.shows link.new).asked }
         ensures same { (L.shows link.new).held ≡ (L.shows link.old).held }
         ensures counts { IfErr result (HasCounts (L.shows link.old).faults (L.shows link.new).faults) }
         ensures calm { is_read_fault result ≡ false → (L.shows link.new).faults ≡ (L.shows link.old).faults }

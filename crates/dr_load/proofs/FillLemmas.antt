@@ -26,7 +26,7 @@ use Rattle.dr_input.specs.declared.fault.LineProblem.{LineProblem}
 use Rattle.dr_input.proofs.TakenLemmas.{nothing_taken, taken_more, taken_ended, refused_behind, accepts_begun, accepts_behind}
 use Rattle.dr_load.specs.declared.fault.LoadFault.{LoadFault}
 use Rattle.dr_load.specs.Faults.{refusal_of, of_input}
-use Rattle.dr_load.specs.Filled.{HasColumnsOf, RefusesWithin}
+use Rattle.dr_load.specs.Filled.{HasColumnsOf, RefusesWithin, FailsWithin}
 
 -- ---- a line is refused
 
@@ -52,6 +52,13 @@ module _ (fs : Fields) (most number rows : ℕ) (R : List Node) (a b : Option (L
   stops_accepts (InputFault.Refused n LineProblem.TooManyRecords) s e = cc
   stops_accepts (InputFault.Refused n (LineProblem.Record w)) s e = cc
 
+  stops_fails : (place : ℕ) (cause : InputFault) → length R < rows → NextStops fs most place b before now cause → of_input cause ≡ LoadFault.ReadFault → FailsWithin fs most number rows a now.left
+  stops_fails place InputFault.NoMemory l s e = cc
+  stops_fails place InputFault.Source l s e = (R, b, l, t, s.1)
+  stops_fails place (InputFault.Refused n LineProblem.TooLong) l s e = cc
+  stops_fails place (InputFault.Refused n LineProblem.TooManyRecords) l s e = cc
+  stops_fails place (InputFault.Refused n (LineProblem.Record w)) l s e = cc
+
 -- of a tablet of which so many records are there
 pub fill_refuses : (fs : Fields) (most number rows count place : ℕ) (a b : Option (List ℕ)) (columns : List (List Triplet)) (before now : SourceShown) (cause : InputFault) → HasColumnsOf fs most number a b columns count → count < rows → place ≡ number + count
     → NextStops fs most place b before now cause → MatchOption (refusal_of (of_input cause)) ⊤ (RefusesWithin fs most number rows a)
@@ -64,6 +71,11 @@ pub fill_accepts : (fs : Fields) (most number count place : ℕ) (a b : Option (
 fill_accepts fs most number count place a b columns before now cause h p s e =
     stops_accepts fs most number 0 h.records a b before now h.taken cause
     (subst (λ (j : ℕ). NextStops fs most j b before now cause) (p ∙ ap (λ (j : ℕ). number + j) (sym h.number_of)) s) e
+
+pub fill_fails : (fs : Fields) (most number rows count place : ℕ) (a b : Option (List ℕ)) (columns : List (List Triplet)) (before now : SourceShown) (cause : InputFault) → HasColumnsOf fs most number a b columns count → count < rows
+    → NextStops fs most place b before now cause → of_input cause ≡ LoadFault.ReadFault → FailsWithin fs most number rows a now.left
+fill_fails fs most number rows count place a b columns before now cause h l s e =
+    stops_fails fs most number rows h.records a b before now h.taken place cause (omega (arith, l, h.number_of)) s e
 
 -- of a reader of these fields and of so many lines
 pub reader_stops : (fs gs : Fields) (most many number : ℕ) (b : Option (List ℕ)) (before now : SourceShown) (cause : InputFault) → fs ≡ gs → most ≡ many → NextStops fs most number b before now cause → NextStops gs many number b before now cause

@@ -7,6 +7,8 @@ pub mod FillLemmas
 pub mod TabletLemmas
 -- tablets that are loaded one after another
 pub mod LoadLemmas
+-- what the source gave before it failed
+pub mod GivenLemmas
 -- directories and copies that are refused
 pub mod WordLemmas
 -- a worked example, by computation

@@ -143,7 +143,7 @@ loaded_none p input left held e = record {
   put = nothing_put held held refl refl;
 }
 
-taken_behind : (p : Plan) (m : ℕ) (R S : List Node) (a b c : Option (List ℕ)) → length R ≡ m → HasTaken p.schema.fields (most_loaded p.rows) 0 R a b → HasTaken p.schema.fields (most_loaded p.rows) m S b c → HasTaken p.schema.fields (most_loaded p.rows) 0 (R ++ S) a c
+pub taken_behind : (p : Plan) (m : ℕ) (R S : List Node) (a b c : Option (List ℕ)) → length R ≡ m → HasTaken p.schema.fields (most_loaded p.rows) 0 R a b → HasTaken p.schema.fields (most_loaded p.rows) m S b c → HasTaken p.schema.fields (most_loaded p.rows) 0 (R ++ S) a c
 taken_behind p m R S a b c e h k =
     let z : m ≡ 0 + length R = omega (arith, e) in
     taken_more p.schema.fields (most_loaded p.rows) 0 R S a b c h (subst (λ (j : ℕ). HasTaken p.schema.fields (most_loaded p.rows) j S b c) z k)

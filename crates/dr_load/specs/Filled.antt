@@ -7,6 +7,7 @@ use Rattle.dr_meaning.specs.Record.{Node, is_record}
 use Rattle.dr_meaning.specs.Column.{Triplet, column}
 use Rattle.dr_meaning.specs.Lines.{Refusal, lines_of, taken_from}
 use Rattle.dr_formats.specs.WritingLaws.{is_limited}
+use Rattle.dr_lines.specs.Cutting.{BeginsLine}
 use Rattle.dr_levels.specs.Views.{columns_view}
 use Rattle.dr_load.specs.declared.filled.Filled.{Filled}
 use Rattle.dr_input.specs.Taken.{WhereTold, HasTaken}
@@ -27,3 +28,7 @@ FillsTablet fs most number before now f = HasColumnsOf fs most number before now
 abbrev pub RefusesWithin : Fields → ℕ → ℕ → ℕ → Option (List ℕ) → Refusal → Type 0
 RefusesWithin fs most number rows left e =
     WhereTold left (λ all. (R : List Node) × (length R < rows) × (taken_from fs most (suc number) (lines_of all) ≡ record { records = R; refusal = Some e }))
+
+-- behind so many lines, the source failed: fewer records than this were taken of what was left, and of the line behind them no more than a part was read
+abbrev pub FailsWithin : Fields → ℕ → ℕ → ℕ → Option (List ℕ) → Option (List ℕ) → Type 0
+FailsWithin fs most number rows before now = (R : List Node) × (left : Option (List ℕ)) × (length R < rows) × HasTaken fs most number R before left × BeginsLine left now

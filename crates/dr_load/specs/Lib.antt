@@ -8,6 +8,8 @@ pub mod Puts
 pub mod Filled
 -- what a load puts, counts and leaves
 pub mod Loads
+-- what the source gave before it failed
+pub mod Given
 -- what the problems of words stand for
 pub mod Words
 -- what may be loaded, and which files copies hold

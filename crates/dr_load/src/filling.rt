@@ -8,7 +8,7 @@ ghost use Rattle.dr_outside.specs.Faults.{raised};
 ghost use Rattle.dr_input.specs.Taken.{WhereTold, AcceptsRead};
 ghost use Rattle.dr_input.specs.Records.{fields_of, most_of, number_of, fault_of, left_of};
 ghost use Rattle.dr_load.specs.Faults.{refusal_of};
-ghost use Rattle.dr_load.specs.Filled.{FillsTablet, RefusesWithin};
+ghost use Rattle.dr_load.specs.Filled.{FillsTablet, RefusesWithin, FailsWithin};
 
 use crate::fault::LoadFault;
 use crate::filled::Filled;
@@ -46,6 +46,9 @@ pub(crate) fn fill_tablet<S: Source>(
         (left_of records.old (S.shows source.old).left))) }
     ensures accepts { result ≡ Err LoadFault.ReadFault
         → AcceptsRead (fields_of records.old) (most_of records.old) (number_of records.old)
+        (left_of records.old (S.shows source.old).left) (S.shows source.new).left }
+    ensures fails { result ≡ Err LoadFault.ReadFault
+        → FailsWithin (fields_of records.old) (most_of records.old) (number_of records.old) rows
         (left_of records.old (S.shows source.old).left) (S.shows source.new).left }
     ensures cause { result ≡ Err LoadFault.ReadFault → (S.shows source.new).faults
         ≡ raised (S.shows source.old).faults }

@@ -8,6 +8,7 @@ ghost use Rattle.dr_load.specs.Faults.{refusal_of, is_told};
 ghost use Rattle.dr_load.specs.Plans.{plan_view};
 ghost use Rattle.dr_input.specs.Taken.{WhereTold, AcceptsRead};
 ghost use Rattle.dr_load.specs.Puts.{HasPut, HasFailed};
+ghost use Rattle.dr_load.specs.Given.{HasPutFull};
 ghost use Rattle.dr_load.specs.Loads.{LeavesPuts, LoadsTable, tablet_part};
 
 use crate::fault::LoadFault;
@@ -26,7 +27,8 @@ use std::alloc::Global;
 /// order, a full one before the next line is read, and the table file last.
 ///
 /// Errors: the first line that is refused, and then the full tablets before it are put, and no table file; the source
-/// failed, and no whole line that it gave before is refused; the keeper failed; want of memory.
+/// failed, and then no line that it gave before is refused, and their full tablets are put; the keeper failed; want of
+/// memory.
 pub fn load<S: Source, K: Keeper>(
     alloc: Global,
     plan: &Plan<'_, '_, '_>,
@@ -54,6 +56,8 @@ pub fn load<S: Source, K: Keeper>(
     ensures accepts { result ≡ Err LoadFault.ReadFault
         → AcceptsRead (plan_view plan.now).schema.fields (meant.most_loaded (plan.now).rows) 0 (S.shows source.old).left
         (S.shows source.new).left }
+    ensures given { result ≡ Err LoadFault.ReadFault → HasPutFull (plan_view plan.now) (S.shows source.old).left
+        (S.shows source.new).left (K.shows keeper.old) (K.shows keeper.new) }
     ensures source_cause { result ≡ Err LoadFault.ReadFault → (S.shows source.new).faults
         ≡ raised (S.shows source.old).faults }
     ensures source_calm { result ≢ Err LoadFault.ReadFault → (S.shows source.new).faults ≡ (S.shows source.old).faults }
@@ -133,6 +137,8 @@ fn load_tablets<S: Source, K: Keeper>(
     ensures accepts { result ≡ Err LoadFault.ReadFault
         → AcceptsRead (plan_view plan.now).schema.fields (meant.most_loaded (plan.now).rows) 0 (S.shows source.old).left
         (S.shows source.new).left }
+    ensures given { result ≡ Err LoadFault.ReadFault → HasPutFull (plan_view plan.now) (S.shows source.old).left
+        (S.shows source.new).left (K.shows keeper.old) (K.shows keeper.new) }
     ensures source_cause { result ≡ Err LoadFault.ReadFault → (S.shows source.new).faults
         ≡ raised (S.shows source.old).faults }
     ensures source_calm { result ≢ Err LoadFault.ReadFault → (S.shows source.new).faults ≡ (S.shows source.old).faults }

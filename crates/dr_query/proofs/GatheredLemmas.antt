@@ -1,5 +1,5 @@
 -- The partials of all tablets, gathered: what they give is what the query means on the records of all tablets.
-use Rattle.std.proofs.Common.{◌≡◌, ◌≤◌, ◌∙◌, ℕ, zero, suc, ◌+◌, ◌*◌, ◌&&◌, List, [], ◌∷◌, ◌++◌, map, length, get_or, true, Option, Vec, refl, sym, ap, ap₂, subst, arith, append_assoc}
+use Rattle.std.proofs.Common.{◌≡◌, ◌≤◌, ◌∙◌, ℕ, zero, suc, ◌+◌, ◌*◌, ◌&&◌, List, [], ◌∷◌, ◌++◌, map, length, get_or, true, Vec, refl, sym, ap, ap₂, subst, arith, append_assoc}
 use Rattle.std.specs.List.{list_all, flat_map, range_with_len}
 use Rattle.std.proofs.lemmas.List.{length-map}
 use Rattle.std.proofs.lemmas.List.FromFn.{length-range_with_len}
@@ -10,7 +10,7 @@ use Rattle.dr_meaning.specs.Query.{Query, Object, meaning}
 use Rattle.dr_meaning.specs.Print.{result_text}
 use Rattle.dr_meaning.specs.Ask.{answer_text}
 use Rattle.dr_formats.specs.TableFile.{Table}
-use Rattle.dr_outside.specs.Link.{Files}
+use Rattle.dr_outside.specs.Link.{LinkShown}
 use Rattle.dr_partials.specs.Partials as meant
 use Rattle.dr_partials.specs.Partials.{Stands, finished, lines}
 use Rattle.dr_partials.specs.PartialTypes.{is_partial}
@@ -27,7 +27,8 @@ use Rattle.dr_group.specs.Partials.{partial_view, IsPartialOf}
 use Rattle.dr_group.specs.declared.partial.Partial.{Partial}
 use Rattle.dr_serving.specs.Truth.{most_values}
 use Rattle.dr_reading.specs.Scan.{Copy, joined, tablets_from, tablets_of}
-use Rattle.dr_reading.specs.Given.{AreGiven}
+use Rattle.dr_reading.specs.InTurn.{TabletRead, read_given, read_left, left_from, records_in, GiveInTurn}
+use Rattle.dr_reading.proofs.InTurnLemmas.{as_many_read}
 use Rattle.dr_plan.specs.PlanOf.{IsPlanOf}
 use Rattle.dr_meaning.specs.QueryLeaves.{query_leaves}
 use Rattle.std.specs.declared.alloc.Global.{Global}
@@ -159,14 +160,17 @@ count_from : (leaves : List (List ℕ)) (copies t n : ℕ) → length (tablets_f
 count_from leaves copies t zero = refl
 count_from leaves copies t (suc n) = ap suc (count_from leaves copies (suc t) n)
 
-as_many : (s : Schema) (F : List Leaf) (held : Option Files) (ts : List (List Copy)) (Rs : List (List Node)) → AreGiven s F held ts Rs → length Rs ≡ length ts
-as_many s F held [] [] h = refl
-as_many s F held [] (R ∷ Rs) h = absurd h
-as_many s F held (c ∷ ts) [] h = absurd h
-as_many s F held (c ∷ ts) (R ∷ Rs) h = ap suc (as_many s F held ts Rs h.1)
+-- as many lists of records as there are tablets, where none is left
+as_many_given : (t : ℕ) (rs : List TabletRead) → left_from t rs ≡ [] → length (records_in rs) ≡ length rs
+as_many_given t [] e = refl
+as_many_given t (read_given ts R ∷ rs) e = ap suc (as_many_given (suc t) rs e)
+as_many_given t (read_left ts ∷ rs) e = cc
 
-pub one_for_each : (t : Table) (q : Query) (F : List Leaf) (held : Option Files) (ps : List Partial) → (Rs : List (List Node)) → AreGiven t.schema F held (tablets_of t) Rs → AllStand t.schema q Rs ps → length ps ≡ t.tablets
-one_for_each t q F held ps Rs g a = sym (same_length t.schema q Rs ps a) ∙ (as_many t.schema F held (tablets_of t) Rs g ∙ count_from t.leaves t.copies 0 t.tablets)
+as_many : (s : Schema) (F : List Leaf) (l now : LinkShown) (ts : List (List Copy)) (Rs : List (List Node)) → GiveInTurn s F l now ts Rs → length Rs ≡ length ts
+as_many s F l now ts Rs h = ap length (sym h.3) ∙ (as_many_given 0 h.0 h.2 ∙ as_many_read s F l ts h.0 h.1.each)
+
+pub one_for_each : (t : Table) (q : Query) (F : List Leaf) (l now : LinkShown) (ps : List Partial) → (Rs : List (List Node)) → GiveInTurn t.schema F l now (tablets_of t) Rs → AllStand t.schema q Rs ps → length ps ≡ t.tablets
+one_for_each t q F l now ps Rs g a = sym (same_length t.schema q Rs ps a) ∙ (as_many t.schema F l now (tablets_of t) Rs g ∙ count_from t.leaves t.copies 0 t.tablets)
 
 -- the tree of a fan has as many tablets
 pub fan_has_as_many : (n fan : ℕ) (tree : Tree) (ps : List Partial) → 1 ≤ n → tree ≡ of_fan n fan → length ps ≡ n → length ps ≡ length (tablets_in tree)
@@ -175,20 +179,20 @@ fan_has_as_many n fan tree ps positive grows each =
 
 -- ---- what a scan gives
 
-pub given_as_many : (t : Table) (q : Query) (held : Option Files) (v : Pieces) (w : Vec Partial Global) → v ≡ Pieces.Given w → WhereGiven (StandForTablets t.schema q held (tablets_of t)) v → length w.items ≡ t.tablets
-given_as_many t q held v w e h =
-    let g = subst (WhereGiven (StandForTablets t.schema q held (tablets_of t))) e h in
-    one_for_each t q (query_leaves t.schema.fields q) held w.items g.0 g.1 g.2
+pub given_as_many : (t : Table) (q : Query) (l now : LinkShown) (v : Pieces) (w : Vec Partial Global) → v ≡ Pieces.Given w → WhereGiven (StandForTablets t.schema q l now (tablets_of t)) v → length w.items ≡ t.tablets
+given_as_many t q l now v w e h =
+    let g = subst (WhereGiven (StandForTablets t.schema q l now (tablets_of t))) e h in
+    one_for_each t q (query_leaves t.schema.fields q) l now w.items g.0 g.1 g.2
 
-pub given_together : (t : Table) (q : Query) (p : Planned) (held : Option Files) (v : Pieces) (w : Vec Partial Global) → v ≡ Pieces.Given w → t.tablets ≤ 4096 → WhereGiven (StandForTablets t.schema q held (tablets_of t)) v
+pub given_together : (t : Table) (q : Query) (p : Planned) (l now : LinkShown) (v : Pieces) (w : Vec Partial Global) → v ≡ Pieces.Given w → t.tablets ≤ 4096 → WhereGiven (StandForTablets t.schema q l now (tablets_of t)) v
     → WhereGiven (OfEach (IsPartialOf p)) v → WhereGiven (OfEach (λ r. is_partial t.schema.fields (leaf_query q) (partial_view r) ≡ true)) v
     → WhereGiven (OfEach (λ r. PartialCanBeOf most_values (partial_view r))) v → Together w.items
-given_together t q p held v w e few h a b c =
-    let n = given_as_many t q held v w e h in
+given_together t q p l now v w e few h a b c =
+    let n = given_as_many t q l now v w e h in
     go_together t.schema (leaf_query q) p w.items (subst (WhereGiven (OfEach (IsPartialOf p))) e a)
     (subst (WhereGiven (OfEach (λ (r : Partial). is_partial t.schema.fields (leaf_query q) (partial_view r) ≡ true))) e b)
     (subst (WhereGiven (OfEach (λ (r : Partial). PartialCanBeOf most_values (partial_view r)))) e c) (omega (arith, few, n))
 
-pub given_answer : (t : Table) (q : Query) (held : Option Files) (v : Pieces) (w : Vec Partial Global) (text : List ℕ) → v ≡ Pieces.Given w → WhereGiven (StandForTablets t.schema q held (tablets_of t)) v
-    → ((Rs : List (List Node)) → AllStand t.schema q Rs w.items → text ≡ answer_text t.schema q (joined Rs)) → IsAnswerOf t q held text
-given_answer t q held v w text e h prints = let g = subst (WhereGiven (StandForTablets t.schema q held (tablets_of t))) e h in (g.0, g.1, prints g.0 g.2)
+pub given_answer : (t : Table) (q : Query) (l now : LinkShown) (v : Pieces) (w : Vec Partial Global) (text : List ℕ) → v ≡ Pieces.Given w → WhereGiven (StandForTablets t.schema q l now (tablets_of t)) v
+    → ((Rs : List (List Node)) → AllStand t.schema q Rs w.items → text ≡ answer_text t.schema q (joined Rs)) → IsAnswerOf t q l now text
+given_answer t q l now v w text e h prints = let g = subst (WhereGiven (StandForTablets t.schema q l now (tablets_of t))) e h in (g.0, g.1, prints g.0 g.2)

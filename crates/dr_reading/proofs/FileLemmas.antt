@@ -1,5 +1,5 @@
 -- Files: of the same bytes the projections of the records are the same; bytes with a cause of their own are no file.
-use Rattle.std.proofs.Common.{◌≡◌, ℕ, List, [], ◌∷◌, map, Bool, true, false, ◌&&◌, Option, Some, refl, sym, ap₂, ◌∙◌, subst, true≢false}
+use Rattle.std.proofs.Common.{◌≡◌, ℕ, List, [], ◌∷◌, map, true, ◌&&◌, Option, Some, refl, sym, ap₂, ◌∙◌, subst, true≢false}
 use Rattle.std.specs.List.{list_all}
 use Rattle.std.proofs.lemmas.Bool.{and_parts}
 use Rattle.dr_meaning.specs.Schema.{Schema, Fields}

@@ -7,3 +7,5 @@ pub mod FileLemmas
 pub mod ReadingLemmas
 -- tablets of which a file is held
 pub mod HeldFileLemmas
+-- what one link reads in turn
+pub mod InTurnLemmas

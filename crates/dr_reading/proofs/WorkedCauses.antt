@@ -12,10 +12,12 @@ use Rattle.dr_outside.specs.Link.{Files, LinkShown}
 use Rattle.dr_outside.specs.declared.cause.Cause.{Cause}
 use Rattle.dr_outside.specs.declared.cause.Cause.TheVariants.{ReadFailed, BadFooter, BadSchema, BadCodec, BadData}
 use Rattle.dr_reading.specs.Held.{Held, untold, absent, present, held_at, held_by_all, IsHeld, IsUntold}
-use Rattle.dr_reading.specs.Causes.{IsJustified, RisesApart}
+use Rattle.dr_reading.specs.Causes.{IsJustified, RisesApart, LeadTo}
 use Rattle.dr_reading.specs.Scan.{Copy}
 use Rattle.dr_reading.specs.Given.{SomeIsFile}
 use Rattle.dr_reading.specs.Left.{Tried, LeftTablet, AreTried, LeavesJust, no_tablets, is_answered, is_left}
+use Rattle.dr_reading.specs.InTurn.{TabletRead, read_given, read_left, FirstGives, AreRead, causes_in, left_from, records_in, ReadsInTurn}
+use Rattle.dr_meaning.specs.Record.{Node}
 
 -- ---- what is held
 
@@ -186,3 +188,55 @@ some_is_left (is_answered t cs rest left g k) = none_there g.1
     none_there : SomeIsFile one_schema (the_leaf ∷ []) files (copy 1 path_c ∷ []) g.0 → ⊥
     none_there (inl h) = h
     none_there (inr h) = h
+
+-- ---- one link reads them in turn
+
+-- each failed read leads to the next number, and no other cause anywhere
+pub counts : LeadTo 3 (ReadFailed 3 4 ∷ BadFooter ∷ ReadFailed 4 5 ∷ []) 5 × LeadTo 3 (BadFooter ∷ BadSchema ∷ BadCodec ∷ BadData ∷ []) 3 × LeadTo 3 [] 3 × LeadTo (2 ^ 64 - 1) (ReadFailed (2 ^ 64 - 1) (2 ^ 64 - 1) ∷ []) (2 ^ 64 - 1)
+counts = ((refl, refl, (refl, refl, refl)), refl, refl, (refl, refl, refl))
+
+pub other_counts : (LeadTo 3 [] 4 → ⊥) × (LeadTo 3 (ReadFailed 3 4 ∷ []) 3 → ⊥) × (LeadTo 3 (ReadFailed 3 4 ∷ []) 5 → ⊥) × (LeadTo 3 (ReadFailed 3 5 ∷ []) 5 → ⊥) × (LeadTo 3 (ReadFailed 4 5 ∷ []) 5 → ⊥)
+    × (LeadTo 3 (ReadFailed 3 4 ∷ ReadFailed 3 4 ∷ []) 4 → ⊥) × (LeadTo 3 (BadFooter ∷ []) 4 → ⊥) × (LeadTo 3 (BadSchema ∷ []) 4 → ⊥) × (LeadTo 3 (BadCodec ∷ []) 4 → ⊥) × (LeadTo 3 (BadData ∷ []) 4 → ⊥)
+other_counts = (λ h. cc, λ h. let e = h.2 in cc, λ h. let e = h.2 in cc, λ h. let e = h.1 in cc, λ h. let e = h.0 in cc, λ h. let e = h.2.0 in cc, λ h. cc, λ h. cc, λ h. cc, λ h. cc)
+
+-- the second copy of tablet 0 gives its record, behind the first, where no byte is held: not the first one, and none where the first isn't told
+abbrev gives : List Copy → List Tried → List Node → Type 0
+gives cs ts R = FirstGives one_schema (the_leaf ∷ []) (shown false) cs ts R
+
+pub second_copy_gives : gives (copy 0 path_b ∷ copy 1 path_a ∷ []) (tried 0 BadFooter ∷ []) (one_record ∷ [])
+second_copy_gives = (refl, (no_footer, λ h k. refl), inl one_is_file)
+
+pub first_copy_gives : gives (copy 1 path_a ∷ copy 0 path_b ∷ []) [] (one_record ∷ [])
+first_copy_gives = inl one_is_file
+
+pub others_give_nothing : (gives (copy 0 path_b ∷ copy 1 path_a ∷ []) [] (one_record ∷ []) → ⊥) × (gives (copy 0 path_b ∷ copy 1 path_a ∷ []) (tried 1 BadFooter ∷ []) (one_record ∷ []) → ⊥)
+    × (gives (copy 0 path_b ∷ copy 1 path_a ∷ []) (tried 0 BadFooter ∷ tried 1 BadFooter ∷ []) (one_record ∷ []) → ⊥) × (gives [] [] [] → ⊥)
+others_give_nothing = (λ h. not_b h, λ h. let e = h.0 in cc, λ h. h.2.2, λ h. h)
+  where
+    not_b : (gives (copy 0 path_b ∷ copy 1 path_a ∷ []) [] (one_record ∷ [])) → ⊥
+    not_b (inl h) = let e = sym no_footer ∙ h.1 in cc
+    not_b (inr h) = h
+
+-- what was read of three tablets: what is left by its number, the records of the others, and all causes, also of what was tried before a copy gave
+abbrev three : List TabletRead
+three = read_given (tried 0 BadFooter ∷ tried 1 (ReadFailed 0 1) ∷ []) (one_record ∷ one_record ∷ []) ∷ read_left (tried 2 BadData ∷ tried 0 (ReadFailed 1 2) ∷ []) ∷ read_given [] [] ∷ read_left (tried 1 BadCodec ∷ []) ∷ []
+
+pub parts_of_three : (left_from 0 three ≡ record { tablet = 1; tried = tried 2 BadData ∷ tried 0 (ReadFailed 1 2) ∷ [] } ∷ record { tablet = 3; tried = tried 1 BadCodec ∷ [] } ∷ [])
+    × (records_in three ≡ (one_record ∷ one_record ∷ []) ∷ [] ∷ []) × (causes_in three ≡ BadFooter ∷ ReadFailed 0 1 ∷ BadData ∷ ReadFailed 1 2 ∷ BadCodec ∷ [])
+parts_of_three = (refl, refl, refl)
+
+-- the two tablets, from a count of 1 to one of 2
+abbrev at_count : ℕ → LinkShown
+at_count n = record { held = Some files; asked = None; puts = None; faults = n; is_steady = false }
+
+abbrev two_reads : List TabletRead
+two_reads = read_given (tried 0 BadFooter ∷ []) (one_record ∷ []) ∷ read_left (tried 1 BadFooter ∷ tried 0 (ReadFailed 1 2) ∷ []) ∷ []
+
+pub two_are_read : ReadsInTurn one_schema (the_leaf ∷ []) (at_count 1) (at_count 2) two_tablets two_reads
+two_are_read = record {
+  each = ((refl, (no_footer, λ h k. refl), inl one_is_file), ((refl, (no_footer, λ h k. refl), (refl, (lit≤ tt, λ h k. absurd (true≢false (sym h))), tt)), tt));
+  counts = (refl, refl, refl);
+}
+
+pub not_all_are_read : (AreRead one_schema (the_leaf ∷ []) (at_count 1) two_tablets (read_left (tried 1 BadFooter ∷ []) ∷ []) → ⊥) × (AreRead one_schema (the_leaf ∷ []) (at_count 1) [] two_reads → ⊥)
+not_all_are_read = (λ h. h.1, λ h. h)

@@ -1,18 +1,16 @@
 -- Scans and what they leave, by computation.
-use Rattle.std.specs.Prelude.{◌≡◌, ℕ, ◌+◌, List, [], ◌∷◌, ◌++◌, map, pos, Option, Some, None, codes, refl}
+use Rattle.std.specs.Prelude.{◌≡◌, ℕ, ◌+◌, List, [], ◌∷◌, ◌++◌, map, pos, None, codes, refl}
 use Rattle.std.specs.Fmt.{digits}
 use Rattle.std.proofs.Common.{true≢false, sym}
-use Rattle.dr_meaning.specs.Schema.{Schema}
-use Rattle.dr_meaning.specs.Path.{Leaf}
-use Rattle.dr_meaning.specs.Record.{Node, no_slots, slot, single, atom, int_value, is_record}
+use Rattle.dr_meaning.specs.Record.{Node, no_slots, slot, single, atom, int_value}
 use Rattle.dr_formats.specs.TableFile.{Table}
 use Rattle.dr_outside.specs.declared.cause.Cause.{Cause}
 use Rattle.dr_outside.specs.declared.cause.Cause.TheVariants.{ReadFailed, BadFooter, BadSchema, BadCodec, BadData}
 use Rattle.dr_formats.proofs.WorkedFiles.{one_schema, one_record}
 use Rattle.dr_reading.specs.Scan.{Copy, tablets_of, joined}
 use Rattle.dr_reading.specs.Given.{IsGiven, AreGiven}
-use Rattle.dr_reading.specs.Left.{Tried, LeftTablet, causes_of, causes_met}
-use Rattle.dr_reading.specs.LeftText.{told_cause, ascending, left_line, left_text}
+use Rattle.dr_reading.specs.Left.{Tried, LeftTablet, causes_met}
+use Rattle.dr_reading.specs.LeftText.{ascending, left_text}
 
 -- ---- scans
 

@@ -1,9 +1,9 @@
 -- Why a copy of a tablet gave nothing: which cause is justified by what the link holds there, or by its count of faults.
-use Rattle.std.specs.Prelude.{ℕ, ◌≤◌, ⊤, Bool, List, [], ◌∷◌, Option, Some, None, is_none}
+use Rattle.std.specs.Prelude.{◌≡◌, ℕ, ◌≤◌, ⊤, Bool, List, [], ◌∷◌, Option, Some, None, is_none}
 use Rattle.dr_meaning.specs.Schema.{Schema}
 use Rattle.dr_meaning.specs.Path.{Leaf}
 use Rattle.dr_formats.specs.File.{FileCause, bad_footer, bad_schema, bad_codec, bad_data, HasCause}
-use Rattle.dr_outside.specs.Faults.{Rose}
+use Rattle.dr_outside.specs.Faults.{raised, Rose}
 use Rattle.dr_outside.specs.declared.cause.Cause.{Cause}
 use Rattle.dr_outside.specs.declared.cause.Cause.TheVariants.{ReadFailed, BadFooter, BadSchema, BadCodec, BadData}
 use Rattle.dr_reading.specs.Held.{Held, untold, absent, present}
@@ -39,3 +39,10 @@ abbrev pub RisesApart : ℕ → List Cause → ℕ → Type 0
 RisesApart start [] end = start ≤ end
 RisesApart start (ReadFailed before after ∷ cs) end = (start ≤ before) × Rose before after × RisesApart after cs end
 RisesApart start (c ∷ cs) end = RisesApart start cs end
+
+-- the causes, in the order in which they were met, lead the count of faults from one number to another: each failed read to the next one, as it
+-- tells, and no other cause anywhere
+abbrev pub LeadTo : ℕ → List Cause → ℕ → Type 0
+LeadTo start [] end = end ≡ start
+LeadTo start (ReadFailed before after ∷ cs) end = (before ≡ start) × (after ≡ raised start) × LeadTo after cs end
+LeadTo start (c ∷ cs) end = LeadTo start cs end

@@ -7,6 +7,8 @@ pub mod Scan
 -- what was given, and what is left
 pub mod Given
 pub mod Left
+-- what one link reads of all tablets, and how its count moves
+pub mod InTurn
 -- the lines that tell what is left
 pub mod LeftText
 -- what has to hold of links and tablets

@@ -11,8 +11,9 @@ use Rattle.dr_reading.specs.Premises.{TellsFiles, paths_of_leaves, TabletsHold, 
 use Rattle.dr_reading.specs.Scan.{Copy, Scan, joined}
 use Rattle.dr_reading.specs.Given.{AreGiven}
 use Rattle.dr_reading.specs.Held.{present}
-use Rattle.dr_reading.specs.Causes.{is_read, IsJustified}
-use Rattle.dr_reading.specs.Left.{LeftTablet, IsCauseAt, LeavesJust}
+use Rattle.dr_reading.specs.Causes.{is_read, IsJustified, RisesApart}
+use Rattle.dr_reading.specs.Left.{LeftTablet, IsCauseAt, LeavesJust, causes_met}
+use Rattle.dr_reading.specs.InTurn.{TabletRead, AreRead, ReadsInTurn, left_from, records_in}
 
 -- the records that are given have the projections of the tablets' records
 abbrev pub GivenAreProjected : Type 0
@@ -44,3 +45,20 @@ LeftFailedToRead = (s : Schema) (F : List Leaf) (link : LinkShown) (files : File
 abbrev pub SteadyLeavesNone : Type 0
 SteadyLeavesNone = (s : Schema) (F : List Leaf) (link : LinkShown) (files : Files) (ts : List (List Copy)) (left : List LeftTablet) → link.held ≡ Some files
     → IsTrue link.is_steady → EachHasFile s F files ts → LeavesJust s F link 0 ts left → left ≡ []
+
+-- ---- what one link reads in turn
+
+-- where none of the tablets is left, each gives its records
+abbrev pub ReadInTurnIsGiven : Type 0
+ReadInTurnIsGiven = (s : Schema) (F : List Leaf) (link : LinkShown) (ts : List (List Copy)) (rs : List TabletRead) → AreRead s F link ts rs
+    → left_from 0 rs ≡ [] → AreGiven s F link.held ts (records_in rs)
+
+-- just those that are left are left, and each other one gives some records
+abbrev pub ReadInTurnLeavesJust : Type 0
+ReadInTurnLeavesJust = (s : Schema) (F : List Leaf) (link : LinkShown) (ts : List (List Copy)) (rs : List TabletRead) → AreRead s F link ts rs
+    → LeavesJust s F link 0 ts (left_from 0 rs)
+
+-- each failed read among the causes of the tablets that are left has a rise of its own
+abbrev pub LeftRiseApart : Type 0
+LeftRiseApart = (s : Schema) (F : List Leaf) (link now : LinkShown) (ts : List (List Copy)) (rs : List TabletRead) → ReadsInTurn s F link now ts rs
+    → RisesApart link.faults (causes_met (left_from 0 rs)) now.faults

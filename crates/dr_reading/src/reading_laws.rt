@@ -1,6 +1,6 @@
 // Laws of reading a table.
 
-ghost use Rattle.dr_reading.specs.ReadingLaws.{GivenAreProjected, ReadTextIsMeant, OtherCausesHoldNoFile, LeftHoldsNoFile, LeftFailedToRead, SteadyLeavesNone};
+ghost use Rattle.dr_reading.specs.ReadingLaws.{GivenAreProjected, ReadTextIsMeant, OtherCausesHoldNoFile, LeftHoldsNoFile, LeftFailedToRead, SteadyLeavesNone, ReadInTurnIsGiven, ReadInTurnLeavesJust, LeftRiseApart};
 
 /// Whatever copy of each tablet gave its records: where each copy holds a file of the tablet's records, or none of any,
 /// what is printed of the records that were given is what is to be printed of the tablets' records.
@@ -24,4 +24,12 @@ pub fn left_holds_no_file()
 pub fn held_files_are_read()
     ensures failed { LeftFailedToRead }
     ensures steady { SteadyLeavesNone }
+{}
+
+/// What one link reads of a table in turn: the records that are given where no tablet is left, and otherwise just the
+/// tablets that are left, among whose causes each failed read has a rise of the link's count of its own.
+pub fn read_in_turn_is_given_or_left()
+    ensures given { ReadInTurnIsGiven }
+    ensures left { ReadInTurnLeavesJust }
+    ensures apart { LeftRiseApart }
 {}

@@ -8,6 +8,7 @@ ghost use Rattle.dr_formats.specs.Opening.{leaf_cause, leaf_ranges};
 ghost use Rattle.dr_levels.specs.Views.{column_view, column_form, form};
 ghost use Rattle.dr_outside.specs.Telling.{Tells, Serves, AsksOnly};
 ghost use Rattle.dr_chunk.specs.Ranges.{is_read_inside};
+ghost use Rattle.dr_file.specs.Asking.{is_for_path};
 ghost use Rattle.dr_file.specs.OpenedFiles.{IsOpened, IsColumnOf, IsColumnFault, HasCounts, is_read_fault, leaf_count, path_of};
 
 use dr_file::{FileFault, Opened};
@@ -36,6 +37,7 @@ pub fn column_of<L: Link>(
         → slice_get F index ≡ Some l → footer_of bytes ≡ Some f
         → AsksOnly (is_read_inside (path_of opened.now) (leaf_ranges f l)) (L.shows link.old).asked
         (L.shows link.new).asked }
+    ensures paths { AsksOnly (is_for_path (path_of opened.now)) (L.shows link.old).asked (L.shows link.new).asked }
     ensures same { (L.shows link.new).held ≡ (L.shows link.old).held }
     ensures counts { IfErr result (HasCounts (L.shows link.old).faults (L.shows link.new).faults) }
     ensures calm { is_read_fault result ≡ false → (L.shows link.new).faults ≡ (L.shows link.old).faults }

@@ -8,7 +8,7 @@ ghost use Rattle.dr_nested.specs.PathView.{path_view};
 ghost use Rattle.dr_assemble.specs.Views.{nodes_view};
 ghost use Rattle.dr_outside.specs.Link.{Lacks};
 ghost use Rattle.dr_outside.specs.Telling.{Tells, Serves, AsksOnly};
-ghost use Rattle.dr_file.specs.Asking.{is_request_for};
+ghost use Rattle.dr_file.specs.Asking.{is_for_path, is_request_for};
 ghost use Rattle.dr_file.specs.OpenedFiles.{HasCounts, is_read_fault};
 ghost use Rattle.dr_tablets.specs.Counting.{counted};
 ghost use Rattle.dr_tablets.specs.FileRecords.{AreLeavesOf, AreOfFile, IsFaultOf, AreProjected, AreFew, triplets_at};
@@ -44,6 +44,7 @@ pub fn records_of<L: Link>(
         (L.shows link.new).asked }
     ensures asked_absent { Lacks (L.shows link.old).held path.now
         → AsksOnly (is_request_for path.now []) (L.shows link.old).asked (L.shows link.new).asked }
+    ensures paths { AsksOnly (is_for_path path.now) (L.shows link.old).asked (L.shows link.new).asked }
     ensures same { (L.shows link.new).held ≡ (L.shows link.old).held }
     ensures counts { IfErr result (HasCounts (L.shows link.old).faults (L.shows link.new).faults) }
     ensures calm { is_read_fault result ≡ false → (L.shows link.new).faults ≡ (L.shows link.old).faults }

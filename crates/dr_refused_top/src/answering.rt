@@ -31,7 +31,7 @@ pub fn answer_of<R: Threads + Sync, L: Link>(
     requires planned { IsOfSchema (schema_view (table.now).schema) plan.now }
     requires fan { 1 ≤ fan }
     ensures text { ForQuery (schema_view (table.now).schema) plan.now
-        (λ q. IfOk result (WhereText (IsAnswerOf (table_view table.now) q (L.shows link.old).held))) }
+        (λ q. IfOk result (WhereText (IsAnswerOf (table_view table.now) q (L.shows link.old) (L.shows link.new)))) }
     ensures left { ForQuery (schema_view (table.now).schema) plan.now
         (λ q. IfOk result (WhereLeft (λ left. LeavesTablets (table_view table.now)
         (query_leaves (table_view table.now).schema.fields q) left (L.shows link.old) (L.shows link.new)))) }

@@ -27,7 +27,7 @@ pub fn dumped<L: Link>(
 ) -> Result<Dumped, NoMemory>
     requires leaves { AreLeavesOf (fields_view (table.now).schema.fields.items) (map path_view fields.now) }
     ensures lines { IfOk result (WhereLines (AreLinesOf (table_view table.now) (map path_view fields.now)
-        (L.shows link.old).held)) }
+        (L.shows link.old) (L.shows link.new))) }
     ensures left { IfOk result (WhereLeft (λ left. LeavesTablets (table_view table.now) (map path_view fields.now) left
         (L.shows link.old) (L.shows link.new))) }
     ensures asks { AsksForTablets (map path_view fields.now) (tablets_of (table_view table.now))

@@ -6,6 +6,7 @@ ghost use Rattle.dr_load.specs.Faults.{refusal_of};
 ghost use Rattle.dr_load.specs.Plans.{plan_view};
 ghost use Rattle.dr_input.specs.Taken.{WhereTold, AcceptsRead};
 ghost use Rattle.dr_load.specs.Puts.{HasPut};
+ghost use Rattle.dr_load.specs.Given.{HasPutFull};
 ghost use Rattle.dr_load.specs.Loads.{LeavesPuts, LoadsTable};
 ghost use Rattle.dr_formats.specs.Loading as meant;
 
@@ -41,6 +42,8 @@ pub fn loaded<S: Source, K: Keeper>(
     ensures accepts { result ≡ Err LoadFault.ReadFault
         → AcceptsRead (plan_view plan.now).schema.fields (meant.most_loaded (plan.now).rows) 0
         (S.shows source.old).left (S.shows source.new).left }
+    ensures given { result ≡ Err LoadFault.ReadFault → HasPutFull (plan_view plan.now) (S.shows source.old).left
+        (S.shows source.new).left (K.shows keeper.old) (K.shows keeper.new) }
     ensures source_cause { result ≡ Err LoadFault.ReadFault
         → (S.shows source.new).faults ≡ raised (S.shows source.old).faults }
     ensures source_calm { result ≢ Err LoadFault.ReadFault → (S.shows source.new).faults ≡ (S.shows source.old).faults }

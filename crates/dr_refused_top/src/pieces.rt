@@ -32,8 +32,8 @@ pub fn pieces_of<L: Link>(
 ) -> Result<Pieces, NoMemory>
     requires planned { IsOfSchema (schema_view (table.now).schema) plan.now }
     ensures given { ForQuery (schema_view (table.now).schema) plan.now
-        (λ q. IfOk result (WhereGiven (StandForTablets (schema_view (table.now).schema) q (L.shows link.old).held
-        (tablets_of (table_view table.now))))) }
+        (λ q. IfOk result (WhereGiven (StandForTablets (schema_view (table.now).schema) q (L.shows link.old)
+        (L.shows link.new) (tablets_of (table_view table.now))))) }
     ensures partial { ForQuery (schema_view (table.now).schema) plan.now
         (λ q. IfOk result (WhereGiven (OfEach (λ p. is_partial (schema_view (table.now).schema).fields (leaf_query q)
         (partial_view p) ≡ true)))) }

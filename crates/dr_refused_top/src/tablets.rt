@@ -6,10 +6,9 @@ ghost use Rattle.dr_nested.specs.SchemaView.{schema_view};
 ghost use Rattle.dr_nested.specs.PathView.{path_view};
 ghost use Rattle.dr_table.specs.Views.{table_view};
 ghost use Rattle.dr_tablets.specs.FileRecords.{AreLeavesOf};
-ghost use Rattle.dr_reading.specs.Causes.{RisesApart};
 ghost use Rattle.dr_reading.specs.Scan.{copies_from};
 ghost use Rattle.dr_tablets.specs.Asked.{AsksForTablets};
-ghost use Rattle.dr_tablets.specs.Tablets.{IsReadAs, causes_in};
+ghost use Rattle.dr_tablets.specs.Tablets.{IsReadAs};
 
 use dr_memory::NoMemory;
 use dr_nested::Path;
@@ -28,8 +27,7 @@ pub fn tablet_of<L: Link>(
 ) -> Result<Tablet, NoMemory>
     requires leaves { AreLeavesOf (fields_view (table.now).schema.fields.items) (map path_view fields.now) }
     ensures read { IfOk result (IsReadAs (schema_view (table.now).schema) (map path_view fields.now) (L.shows link.old)
-        (copies_from (table_view table.now).leaves tablet 0 (table.now).copies)) }
-    ensures rises { IfOk result (λ t. RisesApart (L.shows link.old).faults (causes_in t) (L.shows link.new).faults) }
+        (L.shows link.new) (copies_from (table_view table.now).leaves tablet 0 (table.now).copies)) }
     ensures asks { AsksForTablets (map path_view fields.now)
         (copies_from (table_view table.now).leaves tablet 0 (table.now).copies ∷ [])
         (L.shows link.old) (L.shows link.new) }

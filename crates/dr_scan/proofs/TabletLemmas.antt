@@ -17,9 +17,9 @@ use Rattle.dr_partials.specs.Rewriting.{leaf_query}
 use Rattle.dr_reading.specs.Scan.{Copy, copy_in, copies_from}
 use Rattle.dr_reading.specs.Given.{IsFileThere, SomeIsFile, IsGiven}
 use Rattle.dr_reading.specs.Left.{Tried, AreTried}
-use Rattle.dr_tablets.proofs.CopyLemmas.{copies_split, given_among}
+use Rattle.dr_tablets.proofs.CopyLemmas.{copies_split, first_behind}
 use Rattle.dr_scan.specs.Scans.{StandsForBytes, StandsForRecords}
-use Rattle.dr_scan.specs.Tablets.{FirstStands}
+use Rattle.dr_reading.specs.InTurn.{FirstGives}
 
 -- ---- what is given are records
 
@@ -57,34 +57,25 @@ gives_standing s q (Some files) path c x p r h none = by_bytes (files path) refl
 -- the copies before it were tried
 pub first_stands : (s : Schema) (q : Query) (F : List Leaf) (link : LinkShown) (ds : List (List ℕ)) (t n i : ℕ) (path : List ℕ) (x : Partial) (tried : List Tried) → F ≡ query_leaves s.fields q → i < n
     → path ≡ (copy_in ds t (placement (length ds) t i)).path → AreTried s F link (copies_from ds t 0 i) tried → StandsForRecords s q x
-    → ((bytes : List ℕ) → TellsFile link.held path bytes → StandsForBytes s q bytes x) → (Lacks link.held path → ⊥) → FirstStands s q link (copies_from ds t 0 n) x
+    → ((bytes : List ℕ) → TellsFile link.held path bytes → StandsForBytes s q bytes x) → (Lacks link.held path → ⊥)
+    → (R : List Node) × FirstGives s (query_leaves s.fields q) link (copies_from ds t 0 n) tried R × Stands s.fields (leaf_query q) R x
 first_stands s q F link ds t n i path x tried same l p before r h none =
     let c : Copy = copy_in ds t (placement (length ds) t i) in
     let k : ℕ = n - suc i in
     let g = gives_standing s q link.held path c x p r h none in
     let at : n ≡ i + suc k = omega (arith, l) in
-    record {
-      before = copies_from ds t 0 i;
-      giving = c;
-      behind = copies_from ds t (suc i) k;
-      copies = copies_split ds t 0 i i k n (omega arith) at;
-      tried = tried;
-      are_tried = subst (λ (G : List Leaf). AreTried s G link (copies_from ds t 0 i) tried) same before;
-      records = g.0;
-      given = g.1;
-      stands = g.2;
-    }
+    let own : AreTried s (query_leaves s.fields q) link (copies_from ds t 0 i) tried = subst (λ (G : List Leaf). AreTried s G link (copies_from ds t 0 i) tried) same before in (
+      g.0,
+      subst (λ (cs : List Copy). FirstGives s (query_leaves s.fields q) link cs tried g.0) (sym (copies_split ds t 0 i i k n (omega arith) at))
+          (first_behind s (query_leaves s.fields q) link (copies_from ds t 0 i) tried c (copies_from ds t (suc i) k) g.0 own g.1),
+      g.2,
+    )
 
 -- each copy was tried
 pub all_tried : (s : Schema) (q : Query) (F : List Leaf) (link : LinkShown) (ds : List (List ℕ)) (t n m : ℕ) (tried : List Tried) → F ≡ query_leaves s.fields q → n ≡ m → AreTried s F link (copies_from ds t 0 n) tried
     → AreTried s (query_leaves s.fields q) link (copies_from ds t 0 m) tried
 all_tried s q F link ds t n m tried same e h =
     subst (λ (G : List Leaf). AreTried s G link (copies_from ds t 0 m) tried) same (subst (λ (k : ℕ). AreTried s F link (copies_from ds t 0 k) tried) e h)
-
--- the records that the first of the copies gives the tablet gives
-pub tablet_gives : (s : Schema) (q : Query) (link : LinkShown) (cs : List Copy) (x : Partial) (g : FirstStands s q link cs x) → IsGiven s (query_leaves s.fields q) link.held cs g.records
-tablet_gives s q link cs x g =
-    subst (λ (y : List Copy). IsGiven s (query_leaves s.fields q) link.held y g.records) (sym g.copies) (given_among s (query_leaves s.fields q) link.held g.records g.before g.giving g.behind g.given)
 
 abbrev fails : FileFault → Result code.Partial FileFault
 fails e = Err e

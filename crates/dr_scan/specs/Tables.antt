@@ -1,17 +1,17 @@
 -- What is scanned of a table: a partial of each of its tablets, or the tablets that are left.
-use Rattle.std.specs.Prelude.{◌≡◌, ℕ, true, List, [], ◌∷◌, ◌++◌, Option, ⊤}
+use Rattle.std.specs.Prelude.{◌≡◌, ℕ, true, List, [], ◌∷◌, ◌++◌, ⊤}
 use Rattle.std.specs.List.{list_all}
 use Rattle.dr_meaning.specs.Schema.{Schema}
 use Rattle.dr_meaning.specs.Record.{Node, is_record}
 use Rattle.dr_meaning.specs.Query.{Query}
 use Rattle.dr_meaning.specs.QueryLeaves.{query_leaves}
-use Rattle.dr_outside.specs.Link.{Files}
+use Rattle.dr_outside.specs.Link.{LinkShown}
 use Rattle.dr_partials.specs.Partials.{Stands}
 use Rattle.dr_partials.specs.Rewriting.{leaf_query}
 use Rattle.dr_group.specs.Partials.{partial_view}
 use Rattle.dr_group.specs.declared.partial.Partial.{Partial}
 use Rattle.dr_reading.specs.Scan.{Copy}
-use Rattle.dr_reading.specs.Given.{AreGiven}
+use Rattle.dr_reading.specs.InTurn.{GiveInTurn}
 use Rattle.dr_reading.specs.Left.{LeftTablet}
 use Rattle.dr_tablets.specs.Views.{all_tried_view, all_left_view}
 use Rattle.dr_scan.specs.declared.tablet.Scanned.{Scanned}
@@ -23,9 +23,9 @@ AllStand s q [] [] = ⊤
 AllStand s q (R ∷ Rs) (p ∷ ps) = (list_all (is_record s.fields) R ≡ true) × Stands s.fields (leaf_query q) R (partial_view p) × AllStand s q Rs ps
 AllStand s q Rs ps = ⊥
 
--- the partials of tablets, one for each: there are records that the tablets give, for which they stand
-abbrev pub StandForTablets : Schema → Query → Option Files → List (List Copy) → List Partial → Type 0
-StandForTablets s q held ts ps = (Rs : List (List Node)) × AreGiven s (query_leaves s.fields q) held ts Rs × AllStand s q Rs ps
+-- the partials of tablets, one for each: they stand for the records that a link which reads the tablets in turn gives
+abbrev pub StandForTablets : Schema → Query → LinkShown → LinkShown → List (List Copy) → List Partial → Type 0
+StandForTablets s q link now ts ps = (Rs : List (List Node)) × GiveInTurn s (query_leaves s.fields q) link now ts Rs × AllStand s q Rs ps
 
 -- this holds of each partial
 abbrev pub OfEach : (Partial → Type 0) → List Partial → Type 0

@@ -63,7 +63,8 @@ fn keep(
 
 /// A plan's partial of the records of each tablet of a table, in the order of the tablets; or the tablets that are
 /// left, of which no copy gives records. The records of one tablet are in memory at a time. The link is asked for no
-/// file but those of the table, and for no bytes of them but what the plan's leaves take.
+/// file but those of the table, and, where it tells what it holds, for no bytes of them but what the plan's leaves
+/// take.
 ///
 /// Errors: want of memory, or of room for a partial.
 pub fn scan_table<L: Link>(
@@ -74,8 +75,8 @@ pub fn scan_table<L: Link>(
 ) -> Result<Pieces, NoMemory>
     requires planned { IsOfSchema (schema_view (table.now).schema) plan.now }
     ensures given { ForQuery (schema_view (table.now).schema) plan.now
-        (λ q. IfOk result (WhereGiven (StandForTablets (schema_view (table.now).schema) q (L.shows link.old).held
-        (tablets_of (table_view table.now))))) }
+        (λ q. IfOk result (WhereGiven (StandForTablets (schema_view (table.now).schema) q (L.shows link.old)
+        (L.shows link.new) (tablets_of (table_view table.now))))) }
     ensures partial { ForQuery (schema_view (table.now).schema) plan.now
         (λ q. IfOk result (WhereGiven (OfEach (λ p. is_partial (schema_view (table.now).schema).fields (leaf_query q)
         (partial_view p) ≡ true)))) }

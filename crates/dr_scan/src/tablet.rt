@@ -8,12 +8,11 @@ ghost use Rattle.dr_partials.specs.PartialBounds.{PartialCanBeOf};
 ghost use Rattle.dr_partials.specs.Rewriting.{leaf_query};
 ghost use Rattle.dr_plan.specs.Planned.{IsOfSchema, plan_leaves, plan_view};
 ghost use Rattle.dr_group.specs.Partials.{IsPartialOf, partial_view};
-ghost use Rattle.dr_reading.specs.Causes.{RisesApart};
 ghost use Rattle.dr_serving.specs.Truth.{most_values};
 ghost use Rattle.dr_reading.specs.Scan.{copies_from};
 ghost use Rattle.dr_plan.specs.PlanOf.{ForQuery};
 ghost use Rattle.dr_tablets.specs.Asked.{AsksForTablets};
-ghost use Rattle.dr_scan.specs.Tablets.{IsScannedAs, WhereScanned, causes_in};
+ghost use Rattle.dr_scan.specs.Tablets.{IsScannedAs, WhereScanned};
 
 use crate::scanning::scan;
 use dr_file::FileFault;
@@ -33,8 +32,8 @@ pub enum Scanned {
 }
 
 /// A plan's partial of the records of a tablet of a table, from the first of its copies that gives one; else why each
-/// of them gives none. The link is asked for no file but those of the tablet's copies, and for no bytes of them but
-/// what the plan's leaves take.
+/// of them gives none. The link is asked for no file but those of the tablet's copies, and, where it tells what it
+/// holds, for no bytes of them but what the plan's leaves take.
 ///
 /// Errors: want of memory, or of room for the partial.
 pub fn scan_tablet<L: Link>(
@@ -46,14 +45,13 @@ pub fn scan_tablet<L: Link>(
 ) -> Result<Scanned, NoMemory>
     requires planned { IsOfSchema (schema_view (table.now).schema) plan.now }
     ensures read { ForQuery (schema_view (table.now).schema) plan.now
-        (λ q. IfOk result (IsScannedAs (schema_view (table.now).schema) q (L.shows link.old)
+        (λ q. IfOk result (IsScannedAs (schema_view (table.now).schema) q (L.shows link.old) (L.shows link.new)
         (copies_from (table_view table.now).leaves tablet 0 (table.now).copies))) }
     ensures partial { ForQuery (schema_view (table.now).schema) plan.now
         (λ q. IfOk result (WhereScanned (λ p. is_partial (schema_view (table.now).schema).fields (leaf_query q)
         (partial_view p) ≡ true))) }
     ensures bounded { IfOk result (WhereScanned (λ p. PartialCanBeOf most_values (partial_view p))) }
     ensures of_plan { IfOk result (WhereScanned (IsPartialOf (plan_view plan.now))) }
-    ensures rises { IfOk result (λ t. RisesApart (L.shows link.old).faults (causes_in t) (L.shows link.new).faults) }
     ensures asks { AsksForTablets (plan_leaves plan.now)
         (copies_from (table_view table.now).leaves tablet 0 (table.now).copies ∷ []) (L.shows link.old)
         (L.shows link.new) }

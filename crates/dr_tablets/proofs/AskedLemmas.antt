@@ -10,7 +10,7 @@ use Rattle.dr_outside.specs.Link.{Request, size_of, bytes_of}
 use Rattle.dr_outside.specs.Telling.{AsksOnly}
 use Rattle.dr_chunk.specs.Ranges.{is_read_inside}
 use Rattle.dr_chunk.proofs.AskLemmas.{asks_then}
-use Rattle.dr_file.specs.Asking.{is_request_for}
+use Rattle.dr_file.specs.Asking.{is_for_path, is_request_for}
 use Rattle.dr_file.proofs.AskLemmas.{asks_weaker}
 
 and_weaker : (a b c : Bool) → (b ≡ true → c ≡ true) → (a && b) ≡ true → (a && c) ≡ true
@@ -86,3 +86,7 @@ pub file_asked : (path own bytes : List ℕ) (F : List Leaf) (f : Footer) (a b c
     → AsksOnly (is_read_inside own (flat_map (leaf_ranges f) F)) b c → AsksOnly (is_request_for path (reader_ranges bytes F)) a c
 file_asked path own bytes F f a b c p e h k =
     asks_then (is_request_for path (reader_ranges bytes F)) a b c (opening_asked path bytes F a b h) (columns_asked path own bytes F f b c p e k)
+
+-- whatever is held, both are at the same path
+pub columns_there : (path own : List ℕ) (a b c : Option (List Request)) → own ≡ path → AsksOnly (is_for_path path) a b → AsksOnly (is_for_path own) b c → AsksOnly (is_for_path path) a c
+columns_there path own a b c p h k = asks_then (is_for_path path) a b c h (subst (λ (x : List ℕ). AsksOnly (is_for_path x) b c) p k)

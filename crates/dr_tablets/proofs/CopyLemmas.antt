@@ -5,7 +5,7 @@ use Rattle.std.proofs.Common.{Vec, Global}
 use Rattle.dr_nested.specs.declared.record.Node as code
 use Rattle.dr_meaning.specs.Schema.{Schema}
 use Rattle.dr_meaning.specs.Path.{Leaf}
-use Rattle.dr_meaning.specs.Record.{Node}
+use Rattle.dr_meaning.specs.Record.{Node, project}
 use Rattle.dr_formats.specs.Tablets.{placement}
 use Rattle.dr_outside.specs.Faults.{raised, Rose}
 use Rattle.dr_outside.specs.Link.{Files, LinkShown, Holds, Lacks}
@@ -13,14 +13,15 @@ use Rattle.dr_outside.specs.declared.cause.Cause.{Cause}
 use Rattle.dr_outside.specs.Telling.{TellsFile}
 use Rattle.dr_file.specs.OpenedFiles.{HasCounts, is_link_fault}
 use Rattle.dr_file.specs.declared.file_fault.FileFault.{FileFault}
-use Rattle.dr_tablets.specs.FileRecords.{AreOfFile, AreProjected, IsFaultOf}
+use Rattle.dr_tablets.specs.FileRecords.{AreOfFile, AreProjected, IsFaultOf, paths_of_leaves}
 use Rattle.dr_reading.specs.Held.{held_at, held_file}
-use Rattle.dr_reading.specs.Causes.{IsJustified, RisesApart, is_read}
+use Rattle.dr_reading.specs.Causes.{IsJustified, LeadTo, is_read}
 use Rattle.dr_reading.specs.Scan.{Copy, copy_in, copies_from}
 use Rattle.dr_reading.specs.Given.{IsFileThere, SomeIsFile}
 use Rattle.dr_reading.specs.Left.{Tried, IsCauseAt, AreTried}
 use Rattle.dr_reading.specs.Given.{IsGiven}
-use Rattle.dr_tablets.specs.Tablets.{AreGivenBy, FirstGives}
+use Rattle.dr_reading.specs.InTurn.{FirstGives}
+use Rattle.dr_reading.proofs.InTurnLemmas.{lead_join}
 
 -- ---- the copies
 
@@ -43,50 +44,42 @@ copies_split ds t j (suc i) m k (suc n) e f = ap (λ cs. copy_in ds t (placement
 
 -- ---- what a copy gives
 
+-- records that copies give, with their projections
+abbrev GivenBy : Schema → List Leaf → Option Files → List Copy → List Node → Type 0
+GivenBy s F held cs P = (R : List Node) × IsGiven s F held cs R × (P ≡ map (project (paths_of_leaves F)) R)
+
 there : (s : Schema) (F : List Leaf) (files : Files) (path : List ℕ) (P : List Node) (o : Option (List ℕ)) → files path ≡ o → ((bytes : List ℕ) → files path ≡ Some bytes → AreOfFile bytes s F P) → (files path ≡ None → ⊥)
-    → (R : List Node) × IsFileThere s F R o × (P ≡ map (Rattle.dr_meaning.specs.Record.project (Rattle.dr_tablets.specs.FileRecords.paths_of_leaves F)) R)
+    → (R : List Node) × IsFileThere s F R o × (P ≡ map (project (paths_of_leaves F)) R)
 there s F files path P None e h none = absurd (none e)
 there s F files path P (Some bytes) e h none = h bytes e
 
 gives : (s : Schema) (F : List Leaf) (held : Option Files) (path : List ℕ) (c : Copy) (P : List Node) → path ≡ c.path
-    → AreProjected s F P → ((bytes : List ℕ) → TellsFile held path bytes → AreOfFile bytes s F P) → (Lacks held path → ⊥) → AreGivenBy s F held (c ∷ []) P
+    → AreProjected s F P → ((bytes : List ℕ) → TellsFile held path bytes → AreOfFile bytes s F P) → (Lacks held path → ⊥) → GivenBy s F held (c ∷ []) P
 gives s F None path c P p a h none = (a.0, a.1, a.2)
 gives s F (Some files) path c P p a h none =
     let g = there s F files path P (files path) refl h none in
     (g.0, inl (subst (λ (q : List ℕ). IsFileThere s F g.0 (files q)) p g.1), g.2)
 
 -- the copies before it were tried
+pub first_behind : (s : Schema) (F : List Leaf) (link : LinkShown) (before : List Copy) (ts : List Tried) (c : Copy) (behind : List Copy) (R : List Node) → AreTried s F link before ts → IsGiven s F link.held (c ∷ []) R
+    → FirstGives s F link (before ++ c ∷ behind) ts R
+first_behind s F link [] [] c behind R h g = g
+first_behind s F link [] (t ∷ ts) c behind R h g = absurd h
+first_behind s F link (b ∷ before) [] c behind R h g = absurd h
+first_behind s F link (b ∷ before) (t ∷ ts) c behind R h g = (h.0, h.1, first_behind s F link before ts c behind R h.2 g)
+
 pub copy_gives : (s : Schema) (F : List Leaf) (link : LinkShown) (ds : List (List ℕ)) (t n i : ℕ) (path : List ℕ) (P : List Node) (tried : List Tried) → i < n → path ≡ (copy_in ds t (placement (length ds) t i)).path
-    → AreTried s F link (copies_from ds t 0 i) tried → AreProjected s F P → ((bytes : List ℕ) → TellsFile link.held path bytes → AreOfFile bytes s F P) → (Lacks link.held path → ⊥) → FirstGives s F link (copies_from ds t 0 n) P
+    → AreTried s F link (copies_from ds t 0 i) tried → AreProjected s F P → ((bytes : List ℕ) → TellsFile link.held path bytes → AreOfFile bytes s F P) → (Lacks link.held path → ⊥)
+    → (R : List Node) × FirstGives s F link (copies_from ds t 0 n) tried R × (P ≡ map (project (paths_of_leaves F)) R)
 copy_gives s F link ds t n i path P tried l p before a h none =
     let c : Copy = copy_in ds t (placement (length ds) t i) in
     let k : ℕ = n - suc i in
     let g = gives s F link.held path c P p a h none in
-    let at : n ≡ i + suc k = omega (arith, l) in
-    record {
-      before = copies_from ds t 0 i;
-      giving = c;
-      behind = copies_from ds t (suc i) k;
-      copies = copies_split ds t 0 i i k n (omega arith) at;
-      tried = tried;
-      are_tried = before;
-      records = g.0;
-      given = g.1;
-      projected = g.2;
-    }
-
-some_behind : (s : Schema) (F : List Leaf) (files : Files) (R : List Node) (before : List Copy) (c : Copy) (behind : List Copy) → SomeIsFile s F files (c ∷ []) R → SomeIsFile s F files (before ++ c ∷ behind) R
-some_behind s F files R [] c behind (inl h) = inl h
-some_behind s F files R [] c behind (inr h) = absurd h
-some_behind s F files R (x ∷ before) c behind h = inr (some_behind s F files R before c behind h)
-
-pub given_among : (s : Schema) (F : List Leaf) (held : Option Files) (R : List Node) (before : List Copy) (c : Copy) (behind : List Copy) → IsGiven s F held (c ∷ []) R → IsGiven s F held (before ++ c ∷ behind) R
-given_among s F None R before c behind h = h
-given_among s F (Some files) R before c behind h = some_behind s F files R before c behind h
-
--- what the first of the copies gives the tablet gives
-pub first_gives : (s : Schema) (F : List Leaf) (link : LinkShown) (cs : List Copy) (P : List Node) → FirstGives s F link cs P → AreGivenBy s F link.held cs P
-first_gives s F link cs P g = (g.records, subst (λ (x : List Copy). IsGiven s F link.held x g.records) (sym g.copies) (given_among s F link.held g.records g.before g.giving g.behind g.given), g.projected)
+    let at : n ≡ i + suc k = omega (arith, l) in (
+      g.0,
+      subst (λ (cs : List Copy). FirstGives s F link cs tried g.0) (sym (copies_split ds t 0 i i k n (omega arith) at)) (first_behind s F link (copies_from ds t 0 i) tried c (copies_from ds t (suc i) k) g.0 before g.1),
+      g.2,
+    )
 
 -- ---- why a copy gives nothing
 
@@ -155,33 +148,16 @@ tried_more s F link cs ts us c t h d k e = subst (AreTried s F link (cs ++ c ∷
     go (x ∷ xs) [] h = absurd h
     go (x ∷ xs) (u ∷ us) h = (h.0, h.1, go xs us h.2)
 
-last_rise : (start old new : ℕ) (c : Cause) → start ≤ old → HasCounts old new (FileFault.Why c) → (is_link_fault (FileFault.Why c) ≡ false → new ≡ old) → RisesApart start (c ∷ []) new
-last_rise start old new (Cause.ReadFailed before after) l h calm = (omega (arith, l, h.0), rose old new before after h, omega (arith, h.1))
-last_rise start old new Cause.BadFooter l h calm = omega (arith, l, calm refl)
-last_rise start old new Cause.BadSchema l h calm = omega (arith, l, calm refl)
-last_rise start old new Cause.BadCodec l h calm = omega (arith, l, calm refl)
-last_rise start old new Cause.BadData l h calm = omega (arith, l, calm refl)
+-- one cause leads from the count before the copy was tried to the count behind it
+one_leads : (old new : ℕ) (c : Cause) → HasCounts old new (FileFault.Why c) → (is_link_fault (FileFault.Why c) ≡ false → new ≡ old) → LeadTo old (c ∷ []) new
+one_leads old new (Cause.ReadFailed before after) h calm = (h.0, h.1 ∙ h.2, sym h.1)
+one_leads old new Cause.BadFooter h calm = calm refl
+one_leads old new Cause.BadSchema h calm = calm refl
+one_leads old new Cause.BadCodec h calm = calm refl
+one_leads old new Cause.BadData h calm = calm refl
 
-pub rises_join : (start middle end : ℕ) (cs ds : List Cause) → RisesApart start cs middle → RisesApart middle ds end → ((a : ℕ) → a ≤ middle → RisesApart a ds end) → RisesApart start (cs ++ ds) end
-rises_join start middle end [] ds h k w = w start h
-rises_join start middle end (Cause.ReadFailed before after ∷ cs) ds h k w = (h.0, h.1, rises_join after middle end cs ds h.2 k w)
-rises_join start middle end (Cause.BadFooter ∷ cs) ds h k w = rises_join start middle end cs ds h k w
-rises_join start middle end (Cause.BadSchema ∷ cs) ds h k w = rises_join start middle end cs ds h k w
-rises_join start middle end (Cause.BadCodec ∷ cs) ds h k w = rises_join start middle end cs ds h k w
-rises_join start middle end (Cause.BadData ∷ cs) ds h k w = rises_join start middle end cs ds h k w
-
--- an earlier start
-pub rises_from : (a start end : ℕ) (cs : List Cause) → a ≤ start → RisesApart start cs end → RisesApart a cs end
-rises_from a start end [] l h = omega (arith, l, h)
-rises_from a start end (Cause.ReadFailed before after ∷ cs) l h = (omega (arith, l, h.0), h.1, h.2)
-rises_from a start end (Cause.BadFooter ∷ cs) l h = rises_from a start end cs l h
-rises_from a start end (Cause.BadSchema ∷ cs) l h = rises_from a start end cs l h
-rises_from a start end (Cause.BadCodec ∷ cs) l h = rises_from a start end cs l h
-rises_from a start end (Cause.BadData ∷ cs) l h = rises_from a start end cs l h
-
-pub rises_more : (start old new : ℕ) (cs ds : List Cause) (c : Cause) → RisesApart start cs old → HasCounts old new (FileFault.Why c) → (is_link_fault (FileFault.Why c) ≡ false → new ≡ old) → ds ≡ cs ++ c ∷ [] → RisesApart start ds new
-rises_more start old new cs ds c h n calm e =
-    subst (λ (x : List Cause). RisesApart start x new) (sym e) (rises_join start old new cs (c ∷ []) h (last_rise old old new c (omega arith) n calm) (λ a l. last_rise a old new c l n calm))
+pub leads_more : (start old new : ℕ) (cs ds : List Cause) (c : Cause) → LeadTo start cs old → HasCounts old new (FileFault.Why c) → (is_link_fault (FileFault.Why c) ≡ false → new ≡ old) → ds ≡ cs ++ c ∷ [] → LeadTo start ds new
+leads_more start old new cs ds c h n calm e = subst (λ (x : List Cause). LeadTo start x new) (sym e) (lead_join start old new cs (c ∷ []) h (one_leads old new c n calm))
 
 -- what was given wasn't absent
 pub not_absent : false ≡ true → ⊥

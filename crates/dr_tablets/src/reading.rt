@@ -7,9 +7,8 @@ ghost use Rattle.dr_nested.specs.SchemaView.{schema_view};
 ghost use Rattle.dr_nested.specs.PathView.{path_view};
 ghost use Rattle.dr_table.specs.Views.{table_view};
 ghost use Rattle.dr_tablets.specs.FileRecords.{AreLeavesOf};
-ghost use Rattle.dr_reading.specs.Causes.{RisesApart};
 ghost use Rattle.dr_reading.specs.Scan.{copies_from};
-ghost use Rattle.dr_tablets.specs.Tablets.{IsReadAs, causes_in};
+ghost use Rattle.dr_tablets.specs.Tablets.{IsReadAs};
 ghost use Rattle.dr_tablets.specs.Asked.{AsksForTablets};
 
 use crate::left::Tried;
@@ -31,8 +30,8 @@ pub enum Tablet {
 }
 
 /// The records of a tablet of a table, projected to these leaves of its schema, from the first of its copies that gives
-/// them; else why each of them gives none. The link is asked for no file but those of the tablet's copies, and for no
-/// bytes of them but what the leaves take.
+/// them; else why each of them gives none. The link is asked for no file but those of the tablet's copies, and, where
+/// it tells what it holds, for no bytes of them but what the leaves take.
 ///
 /// Errors: want of memory alone.
 pub fn read_tablet<L: Link>(
@@ -44,8 +43,7 @@ pub fn read_tablet<L: Link>(
 ) -> Result<Tablet, NoMemory>
     requires leaves { AreLeavesOf (fields_view (table.now).schema.fields.items) (map path_view fields.now) }
     ensures read { IfOk result (IsReadAs (schema_view (table.now).schema) (map path_view fields.now) (L.shows link.old)
-        (copies_from (table_view table.now).leaves tablet 0 (table.now).copies)) }
-    ensures rises { IfOk result (λ t. RisesApart (L.shows link.old).faults (causes_in t) (L.shows link.new).faults) }
+        (L.shows link.new) (copies_from (table_view table.now).leaves tablet 0 (table.now).copies)) }
     ensures asks { AsksForTablets (map path_view fields.now)
         (copies_from (table_view table.now).leaves tablet 0 (table.now).copies ∷ []) (L.shows link.old)
         (L.shows link.new) }

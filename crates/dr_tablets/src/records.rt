@@ -13,7 +13,7 @@ ghost use Rattle.dr_assemble.specs.Views.{nodes_view};
 ghost use Rattle.dr_outside.specs.Link.{Lacks};
 ghost use Rattle.dr_outside.specs.Telling.{Tells, Serves, AsksOnly};
 ghost use Rattle.dr_chunk.specs.Ranges.{is_read_inside};
-ghost use Rattle.dr_file.specs.Asking.{is_request_for};
+ghost use Rattle.dr_file.specs.Asking.{is_for_path, is_request_for};
 ghost use Rattle.dr_file.specs.OpenedFiles.{IsOpened, HasCounts, is_read_fault, leaf_count, path_of};
 ghost use Rattle.dr_tablets.specs.Counting.{counted};
 ghost use Rattle.dr_tablets.specs.FileRecords.{AreLeavesOf, AreOfFile, IsFaultOf, AreProjected, AreFew, AreColumnsOf, IsColumnsFault, are_short, assemble_fault, triplets_in, triplets_at};
@@ -48,6 +48,7 @@ fn read_columns<L: Link>(
     ensures asked { (bytes : List ℕ) (F : List Leaf) (f : Footer) → IsOpened bytes F opened.now → length F ≡ leaves
         → footer_of bytes ≡ Some f → AsksOnly (is_read_inside (path_of opened.now) (flat_map (leaf_ranges f) F))
         (L.shows link.old).asked (L.shows link.new).asked }
+    ensures paths { AsksOnly (is_for_path (path_of opened.now)) (L.shows link.old).asked (L.shows link.new).asked }
     ensures same { (L.shows link.new).held ≡ (L.shows link.old).held }
     ensures counts { IfErr result (HasCounts (L.shows link.old).faults (L.shows link.new).faults) }
     ensures calm { is_read_fault result ≡ false → (L.shows link.new).faults ≡ (L.shows link.old).faults }
@@ -108,6 +109,7 @@ pub fn read_records<L: Link>(
         (L.shows link.new).asked }
     ensures asked_absent { Lacks (L.shows link.old).held path.now
         → AsksOnly (is_request_for path.now []) (L.shows link.old).asked (L.shows link.new).asked }
+    ensures paths { AsksOnly (is_for_path path.now) (L.shows link.old).asked (L.shows link.new).asked }
     ensures same { (L.shows link.new).held ≡ (L.shows link.old).held }
     ensures counts { IfErr result (HasCounts (L.shows link.old).faults (L.shows link.new).faults) }
     ensures calm { is_read_fault result ≡ false → (L.shows link.new).faults ≡ (L.shows link.old).faults }

@@ -25,7 +25,7 @@ use Rattle.dr_top.specs.World.{WhereTold, HasOutcome}
 use Rattle.dr_top.specs.Stops.{StopsPlain, IsFileSchema, query_stop, load_stop}
 use Rattle.dr_top.specs.declared.refusal.Refusal.{Refusal}
 use Rattle.dr_top.proofs.InputLemmas.{records_accepted}
-use Rattle.dr_top.proofs.OutcomeLemmas.{RefusesSchema, early_stop}
+use Rattle.dr_top.proofs.OutcomeLemmas.{RefusesSchema, early_stop, plain_puts}
 
 pub ask_refuses_schema : (w : AskWords) → RefusesSchema (ask_meaning w)
 unfolding ask
@@ -115,7 +115,7 @@ pub ask_load_stops : (w : AskWords) (k k1 : LinkShown) (i i1 : SourceShown) (pat
 ask_load_stops w k k1 i i1 path text s q LoadFault.NoMemory p t f n c sc sm never a h = (c, sm (λ e. cc))
 ask_load_stops w k k1 i i1 path text s q LoadFault.KeepFault p t f n c sc sm never a h = absurd (never refl)
 ask_load_stops w k k1 i i1 path text s q LoadFault.ReadFault p t f n c sc sm never a h =
-    (sc refl, c, opened w k.held path text s q p t f n, accepts w k.held i.left i1.left path text s q p t f n (a refl))
+    (sc refl, c, opened w k.held path text s q p t f n, accepts w k.held i.left i1.left path text s q p t f n (a refl), λ look. plain_puts (ask w.rows look.file w.query look.input))
 ask_load_stops w k k1 i i1 path text s q (LoadFault.BadLine m x) p t f n c sc sm never a h = (c, sm (λ e. cc), line_ends w k i path text s q _ p t f n h, λ early. absurd early)
 ask_load_stops w k k1 i i1 path text s q (LoadFault.LineTooLong m) p t f n c sc sm never a h = (c, sm (λ e. cc), line_ends w k i path text s q _ p t f n h, λ early. absurd early)
 ask_load_stops w k k1 i i1 path text s q (LoadFault.TooManyRecords m) p t f n c sc sm never a h = (c, sm (λ e. cc), line_ends w k i path text s q _ p t f n h, λ early. absurd early)

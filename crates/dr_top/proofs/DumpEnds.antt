@@ -1,7 +1,7 @@
 -- The answer of `dump`, from its steps.
 use Rattle.std.specs.Prelude.{◌≡◌, ℕ, List, [], ◌∷◌, Option, Some, None, Result, Ok, Err}
 use Rattle.std.specs.declared.alloc.Global.{Global}
-use Rattle.std.proofs.Common.{refl, sym, ap, ◌∙◌, subst, Vec}
+use Rattle.std.proofs.Common.{refl, sym, ap, ◌∙◌, subst, Vec, arith}
 use Rattle.dr_meaning.specs.Path.{Leaf}
 use Rattle.dr_meaning.specs.Fsm.{named_leaves}
 use Rattle.dr_meaning.specs.Refusals.{CommandRefusal, field_refused}
@@ -49,17 +49,17 @@ dump_field_stops w k k1 i path texts t (FieldFault.Refused n x) p q f c h =
     early_stop (dump_meaning w) w.table k k1 i (Refusal.Field n x) refl c
     (named_ends w k.held path texts t (Err (field_refused n (path_problem_view x))) (λ o. o ≡ dump_named t (Err (field_refused n (path_problem_view x)))) p q f h refl)
 
-pub dump_text_ends : (w : DumpWords) (k : LinkShown) (i : SourceShown) (l : LinkShown) (ls : List LinkShown) (path text : List ℕ) (texts : List (List ℕ)) (t : Table) (F : List Leaf) → path ≡ w.table → texts ≡ w.fields → IsFileTable k.held path t
-    → named_leaves t.schema.fields [] 0 texts ≡ Ok F → AreLinesOf t F l.held text → WithOutcome (dump_meaning w) k i (λ o. HasText o (l ∷ ls) text)
-dump_text_ends w k i l ls path text texts t F p q f e h =
-    always_with (dump_meaning w) w.table k i (λ o. HasText o (l ∷ ls) text) refl (named_ends w k.held path texts t (Ok F) (λ o. HasText o (l ∷ ls) text) p q f e h)
+pub dump_text_ends : (w : DumpWords) (k : LinkShown) (i : SourceShown) (l l1 : LinkShown) (ls : List LinkShown) (path text : List ℕ) (texts : List (List ℕ)) (t : Table) (F : List Leaf) → path ≡ w.table → texts ≡ w.fields → IsFileTable k.held path t
+    → named_leaves t.schema.fields [] 0 texts ≡ Ok F → AreLinesOf t F l l1 text → WithOutcome (dump_meaning w) k i (λ o. HasText o (l ∷ ls) (l1 ∷ ls) text)
+dump_text_ends w k i l l1 ls path text texts t F p q f e h =
+    always_with (dump_meaning w) w.table k i (λ o. HasText o (l ∷ ls) (l1 ∷ ls) text) refl (named_ends w k.held path texts t (Ok F) (λ o. HasText o (l ∷ ls) (l1 ∷ ls) text) p q f e h)
 
 pub dump_left : (w : DumpWords) (k k1 : LinkShown) (i : SourceShown) (l l1 : LinkShown) (ls : List LinkShown) (path : List ℕ) (texts : List (List ℕ)) (t : Table) (F : List Leaf) (left : Vec LeftTablet Global) → path ≡ w.table → texts ≡ w.fields
     → IsFileTable k.held path t → named_leaves t.schema.fields [] 0 texts ≡ Ok F → k1.faults ≡ k.faults → IsUnput k k1 → LeavesTablets t F (all_left_view left.items) l l1
     → StopsWith (dump_meaning w) k k1 i i (l ∷ ls) (l1 ∷ ls) (Stop.Left left)
 dump_left w k k1 i l l1 ls path texts t F left p q f e c d h = (
   c,
-  refl,
+  omega arith,
   refl,
   d,
   always_with (dump_meaning w) w.table k i (λ o. IsLeftWith o (l ∷ ls) (l1 ∷ ls) (all_left_view left.items)) refl

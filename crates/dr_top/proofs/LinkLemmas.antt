@@ -6,7 +6,7 @@ use Rattle.dr_formats.specs.Opening.{end_ranges, footer_ranges}
 use Rattle.dr_outside.specs.Source.{SourceShown}
 use Rattle.dr_outside.specs.Link.{LinkShown, Lacks}
 use Rattle.dr_outside.specs.Telling.{TellsFile, AsksOnly}
-use Rattle.dr_file.specs.Asking.{is_request_for}
+use Rattle.dr_file.specs.Asking.{is_for_path, is_request_for}
 use Rattle.dr_tablets.proofs.AskedTablets.{asks_none, held_nothing, path_asks}
 use Rattle.dr_commands.specs.Meaning.{Meaning, Outcome, done, refused, scans, looks_at}
 use Rattle.dr_commands.specs.ShowSchema.{ShowSchemaWords, show_schema_meaning}
@@ -20,7 +20,7 @@ unasked : (o : Outcome) (l : LinkShown) → AsksLink o l l
 unasked (done text puts) l = refl
 unasked (refused r puts) l = refl
 unasked (scans s) l = asks_none s.leaves s.tablets l l refl
-unasked (looks_at path) l = held_nothing (λ files. is_request_for path (schema_ranges (files path))) l.held l.asked l.asked refl
+unasked (looks_at path) l = held_nothing (is_for_path path) (λ files. is_request_for path (schema_ranges (files path))) l.held l.asked l.asked refl
 
 first_unasked : (ls : List LinkShown) (o : Outcome) → WithFirsts ls ls (AsksLink o)
 first_unasked [] o = tt
@@ -44,8 +44,8 @@ first_asked m k i shows (l ∷ ls) d y n h = h
 
 -- the file of `schema`
 pub schema_asks : (path own : List ℕ) (l now : LinkShown) → path ≡ own → ((bytes : List ℕ) → TellsFile l.held path bytes → AsksOnly (is_request_for path (end_ranges bytes ++ footer_ranges bytes)) l.asked now.asked)
-    → (Lacks l.held path → AsksOnly (is_request_for path []) l.asked now.asked) → AsksLink (looks_at own) l now
-schema_asks path own l now p h none = path_asks schema_ranges l.held path own l.asked now.asked p h none
+    → (Lacks l.held path → AsksOnly (is_request_for path []) l.asked now.asked) → AsksOnly (is_for_path path) l.asked now.asked → AsksLink (looks_at own) l now
+schema_asks path own l now p h none there = path_asks schema_ranges l.held path own l.asked now.asked p there h none
 
 pub schema_asked : (w : ShowSchemaWords) (k : LinkShown) (i : SourceShown) (l now : LinkShown) → AsksLink (looks_at w.file) l now → ForOutcome (show_schema_meaning w) k i (λ o. AsksLink o l now)
 schema_asked w k i l now h = λ file is. h

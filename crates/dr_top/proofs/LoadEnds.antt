@@ -17,7 +17,9 @@ use Rattle.dr_input.specs.Whole.{whole_lines}
 use Rattle.dr_input.specs.Taken.{WhereTold as WhereLoaded, WhereGiven, AcceptsRead}
 use Rattle.dr_load.specs.Puts.{HasPut, HasPutSome, BreaksOff}
 use Rattle.dr_load.specs.Loads.{LeavesPuts, HasPutTablets, tablets_put, tablet_part, taken_of}
+use Rattle.dr_load.specs.Given.{WhereLines, full_puts, HasPutFull}
 use Rattle.dr_load.specs.declared.fault.LoadFault.{LoadFault}
+use Rattle.dr_load.proofs.GivenLemmas.{puts_refused}
 use Rattle.dr_load.proofs.PutLemmas.{nothing_put, put_more, breaks_behind}
 use Rattle.dr_load.specs.Words.{words_problem_view}
 use Rattle.dr_load.specs.declared.words.WordsProblem.{WordsProblem}
@@ -218,6 +220,22 @@ accepts w s p path (Some fs) (Some all) (Some rest) b a = (
   ),
 )
 
+-- the full tablets of the lines that were given
+given : (w : LoadWords) (s : Schema) (p : Plan) (path : List ℕ) (held : Option Files) (left now : Option (List ℕ)) (k k1 : LinkShown) → Begun w s p path held → HasPutFull p left now k k1
+    → WhereTold held (λ fs. WhereLines left now (λ lines. (file : List ℕ) × (fs w.schema ≡ Some file) × HasPut (puts_in (load_schema w (lines ++ 10 ∷ []) (parse_schema file))) k k1))
+given w s p path None left now k k1 b h = tt
+given w s p path (Some fs) None now k k1 b h = tt
+given w s p path (Some fs) (Some all) None k k1 b h = absurd h
+given w s p path (Some fs) (Some all) (Some rest) k k1 b h =
+    let full : puts_in (load_schema w (h.1 ++ 10 ∷ []) (parse_schema b.file.0)) ≡ full_puts p h.4.0 =
+    puts_of_outcome w s p b.file.0 (h.1 ++ 10 ∷ []) b.is b.file.2 b.words ∙ puts_refused p h.1 h.0 rest h.4.0 h.3 h.4.1 in (
+      h.0,
+      h.1,
+      h.2,
+      h.3,
+      (b.file.0, ap fs (sym b.at) ∙ b.file.1, subst (λ (ps : List Put). HasPut ps k k1) (sym full) h.4.2),
+    )
+
 refused_on : (w : LoadWords) (s : Schema) (p : Plan) (path : List ℕ) (held : Option Files) (k k1 : LinkShown) (left : Option (List ℕ)) (e : line.Refusal) → Begun w s p path held
     → WhereTold left (λ input. (load p input).refusal ≡ Some e) → WhereTold left (λ input. HasPut (load p input).puts k k1)
     → WhereTold held (λ fs. WhereTold left (λ input. (file : List ℕ) × (fs w.schema ≡ Some file) × IsRefusedSo (line_refused e) k k1 (load_schema w input (parse_schema file))))
@@ -236,36 +254,37 @@ told (Some input) P h = h
 pub load_stops : (w : LoadWords) (s : Schema) (p : Plan) (path : List ℕ) (k k1 : LinkShown) (i i1 : SourceShown) (ls : List LinkShown) (fault : LoadFault) → Begun w s p path k.held
     → (fault ≡ LoadFault.ReadFault → i1.faults ≡ raised i.faults) → (fault ≢ LoadFault.ReadFault → i1.faults ≡ i.faults)
     → (fault ≡ LoadFault.KeepFault → k1.faults ≡ raised k.faults) → (fault ≢ LoadFault.KeepFault → k1.faults ≡ k.faults) → (fault ≡ LoadFault.KeepFault → IsTrue k.is_steady → ⊥)
-    → (fault ≡ LoadFault.ReadFault → AcceptsRead p.schema.fields (most_loaded p.rows) 0 i.left i1.left)
+    → (fault ≡ LoadFault.ReadFault → AcceptsRead p.schema.fields (most_loaded p.rows) 0 i.left i1.left) → (fault ≡ LoadFault.ReadFault → HasPutFull p i.left i1.left k k1)
     → MatchOption (refusal_of fault) ⊤ (λ r. WhereLoaded i.left (λ input. (load p input).refusal ≡ Some r))
     → WhereLoaded i.left (λ input. LeavesPuts p input k k1 fault)
     → StopsWith (load_meaning w) k k1 i i1 ls ls (load_stop fault)
-load_stops w s p path k k1 i i1 ls LoadFault.NoMemory b sc sm kc km ks a r h = (km (λ e. cc), sm (λ e. cc), memory w s p path k k1 i i1 ls b (either p i.left k k1 h))
-load_stops w s p path k k1 i i1 ls LoadFault.KeepFault b sc sm kc km ks a r h =
+load_stops w s p path k k1 i i1 ls LoadFault.NoMemory b sc sm kc km ks a g r h = (km (λ e. cc), sm (λ e. cc), memory w s p path k k1 i i1 ls b (either p i.left k k1 h))
+load_stops w s p path k k1 i i1 ls LoadFault.KeepFault b sc sm kc km ks a g r h =
     (kc refl, sm (λ e. cc), refl, (λ kept. ks refl kept.steady), inr (break_off w s p path k k1 i i1 ls b true (stands p i.left k k1 LoadFault.KeepFault (λ input. BreaksOff true (load p input).puts k k1) (λ input x. x) h), opened w s path k.held b.at b.file b.words))
-load_stops w s p path k k1 i i1 ls LoadFault.ReadFault b sc sm kc km ks a r h = (
+load_stops w s p path k k1 i i1 ls LoadFault.ReadFault b sc sm kc km ks a g r h = (
   sc refl,
   km (λ e. cc),
   refl,
   opened w s path k.held b.at b.file b.words,
   before_end w s p path k k1 i i1 ls b (stands p i.left k k1 LoadFault.ReadFault (λ input. HasPutTablets p input k k1) (λ input x. x) h),
   accepts w s p path k.held i.left i1.left b (a refl),
+  given w s p path k.held i.left i1.left k k1 b (g refl),
 )
-load_stops w s p path k k1 i i1 ls (LoadFault.BadLine n x) b sc sm kc km ks a r h = (
+load_stops w s p path k k1 i i1 ls (LoadFault.BadLine n x) b sc sm kc km ks a g r h = (
   km (λ e. cc),
   sm (λ e. cc),
   refl,
   refused_on w s p path k.held k k1 i.left _ b (told i.left _ r) (stands p i.left k k1 (LoadFault.BadLine n x) (λ input. HasPut (load p input).puts k k1) (λ input y. y) h),
   λ early. absurd early,
 )
-load_stops w s p path k k1 i i1 ls (LoadFault.LineTooLong n) b sc sm kc km ks a r h = (
+load_stops w s p path k k1 i i1 ls (LoadFault.LineTooLong n) b sc sm kc km ks a g r h = (
   km (λ e. cc),
   sm (λ e. cc),
   refl,
   refused_on w s p path k.held k k1 i.left _ b (told i.left _ r) (stands p i.left k k1 (LoadFault.LineTooLong n) (λ input. HasPut (load p input).puts k k1) (λ input y. y) h),
   λ early. absurd early,
 )
-load_stops w s p path k k1 i i1 ls (LoadFault.TooManyRecords n) b sc sm kc km ks a r h = (
+load_stops w s p path k k1 i i1 ls (LoadFault.TooManyRecords n) b sc sm kc km ks a g r h = (
   km (λ e. cc),
   sm (λ e. cc),
   refl,
@@ -277,19 +296,19 @@ finishes_on : (w : LoadWords) (s : Schema) (p : Plan) (path text : List ℕ) (he
     → WhereLoaded left (λ input. (load p input).refusal ≡ None) → WhereLoaded left (λ input. records ≡ (load p input).records) → WhereLoaded left (λ input. tablets ≡ (load p input).tablets)
     → WhereLoaded left (λ input. HasPut (load p input).puts k k1) → text ≡ loaded_text records tablets
     → WhereTold held (λ fs. WhereTold left (λ input. (file : List ℕ) × (fs w.schema ≡ Some file)
-    × (HasText (load_schema w input (parse_schema file)) ls text × HasPut (puts_in (load_schema w input (parse_schema file))) k k1)))
+    × (HasText (load_schema w input (parse_schema file)) ls ls text × HasPut (puts_in (load_schema w input (parse_schema file))) k k1)))
 finishes_on w s p path text None k k1 left ls records tablets b a r t h e = tt
 finishes_on w s p path text (Some fs) k k1 None ls records tablets b a r t h e = tt
 finishes_on w s p path text (Some fs) k k1 (Some input) ls records tablets b a r t h e = (
   b.file.0,
   ap fs (sym b.at) ∙ b.file.1,
-  subst (λ (o : Outcome). HasText o ls text × HasPut (puts_in o) k k1) (sym (outcome_is w s p b.file.0 input b.is b.file.2 b.words ∙ ap (loaded_outcome (load p input)) a))
+  subst (λ (o : Outcome). HasText o ls ls text × HasPut (puts_in o) k k1) (sym (outcome_is w s p b.file.0 input b.is b.file.2 b.words ∙ ap (loaded_outcome (load p input)) a))
       (e ∙ ap₂ loaded_text r t, h),
 )
 
 pub load_finishes : (w : LoadWords) (s : Schema) (p : Plan) (path text : List ℕ) (k k1 : LinkShown) (i : SourceShown) (ls : List LinkShown) (records tablets : ℕ) → Begun w s p path k.held
     → WhereLoaded i.left (λ input. (load p input).refusal ≡ None) → WhereLoaded i.left (λ input. records ≡ (load p input).records) → WhereLoaded i.left (λ input. tablets ≡ (load p input).tablets)
-    → WhereLoaded i.left (λ input. HasPut (load p input).puts k k1) → text ≡ loaded_text records tablets → Finishes (load_meaning w) k k1 i ls text
+    → WhereLoaded i.left (λ input. HasPut (load p input).puts k k1) → text ≡ loaded_text records tablets → Finishes (load_meaning w) k k1 i ls ls text
 load_finishes w s p path text k k1 i ls records tablets b a r t h e = (finishes_on w s p path text k.held k k1 i.left ls records tablets b a r t h e, opened w s path k.held b.at b.file b.words)
 
 -- ---- over a keeper of which the schema was read
@@ -326,20 +345,25 @@ where_loaded : (left : Option (List ℕ)) (P Q : List ℕ → Type 0) → ((inpu
 where_loaded None P Q f h = tt
 where_loaded (Some input) P Q f h = f input h
 
+full_later : (p : Plan) (left now : Option (List ℕ)) (k k1 k2 : LinkShown) → IsUnput k k1 → HasPutFull p left now k1 k2 → HasPutFull p left now k k2
+full_later p None now k k1 k2 e h = tt
+full_later p (Some all) None k k1 k2 e h = absurd h
+full_later p (Some all) (Some rest) k k1 k2 e h = (h.0, h.1, h.2, h.3, (h.4.0, h.4.1, put_later (full_puts p h.4.0) k k1 k2 e h.4.2))
+
 pub stops_later : (w : LoadWords) (s : Schema) (p : Plan) (path : List ℕ) (k k1 k2 : LinkShown) (i i1 : SourceShown) (ls : List LinkShown) (fault : LoadFault) → Begun w s p path k.held → IsUnput k k1 → k1.faults ≡ k.faults
     → (fault ≡ LoadFault.ReadFault → i1.faults ≡ raised i.faults) → (fault ≢ LoadFault.ReadFault → i1.faults ≡ i.faults)
     → (fault ≡ LoadFault.KeepFault → k2.faults ≡ raised k1.faults) → (fault ≢ LoadFault.KeepFault → k2.faults ≡ k1.faults) → (fault ≡ LoadFault.KeepFault → IsTrue k.is_steady → ⊥)
-    → (fault ≡ LoadFault.ReadFault → AcceptsRead p.schema.fields (most_loaded p.rows) 0 i.left i1.left)
+    → (fault ≡ LoadFault.ReadFault → AcceptsRead p.schema.fields (most_loaded p.rows) 0 i.left i1.left) → (fault ≡ LoadFault.ReadFault → HasPutFull p i.left i1.left k1 k2)
     → MatchOption (refusal_of fault) ⊤ (λ r. WhereLoaded i.left (λ input. (load p input).refusal ≡ Some r))
     → WhereLoaded i.left (λ input. LeavesPuts p input k1 k2 fault)
     → StopsWith (load_meaning w) k k2 i i1 ls ls (load_stop fault)
-stops_later w s p path k k1 k2 i i1 ls fault b e c sc sm kc km ks a r h =
-    load_stops w s p path k k2 i i1 ls fault b sc sm (λ x. kc x ∙ ap raised c) (λ x. km x ∙ c) ks a r
+stops_later w s p path k k1 k2 i i1 ls fault b e c sc sm kc km ks a g r h =
+    load_stops w s p path k k2 i i1 ls fault b sc sm (λ x. kc x ∙ ap raised c) (λ x. km x ∙ c) ks a (λ x. full_later p i.left i1.left k k1 k2 e (g x)) r
     (where_loaded i.left _ _ (λ input. leaves_later p input k k1 k2 fault e) h)
 
 pub finishes_later : (w : LoadWords) (s : Schema) (p : Plan) (path text : List ℕ) (k k1 k2 : LinkShown) (i : SourceShown) (ls : List LinkShown) (records tablets : ℕ) → Begun w s p path k.held → IsUnput k k1
     → WhereLoaded i.left (λ input. (load p input).refusal ≡ None) → WhereLoaded i.left (λ input. records ≡ (load p input).records) → WhereLoaded i.left (λ input. tablets ≡ (load p input).tablets)
-    → WhereLoaded i.left (λ input. HasPut (load p input).puts k1 k2) → text ≡ loaded_text records tablets → Finishes (load_meaning w) k k2 i ls text
+    → WhereLoaded i.left (λ input. HasPut (load p input).puts k1 k2) → text ≡ loaded_text records tablets → Finishes (load_meaning w) k k2 i ls ls text
 finishes_later w s p path text k k1 k2 i ls records tablets b e a r t h q =
     load_finishes w s p path text k k2 i ls records tablets b a r t (where_loaded i.left _ _ (λ input. put_later (load p input).puts k k1 k2 e) h) q
 

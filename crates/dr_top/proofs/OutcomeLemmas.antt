@@ -2,20 +2,25 @@
 use Rattle.std.specs.Prelude.{◌≡◌, IsTrue, ℕ, Bool, true, false, List, [], Option, Some, None, Result, Ok, Err, IsErrAnd, IfOk, IfErr, String, string_bytes, OnOk}
 use Rattle.std.specs.declared.alloc.Global.{Global}
 use Rattle.std.proofs.Common.{refl, sym, ap, ◌∙◌, subst, inl}
+use Rattle.std.specs.Prelude.{◌∷◌, ◌++◌}
+use Rattle.dr_meaning.specs.Refusals.{CommandRefusal}
 use Rattle.dr_meaning.specs.SchemaText.{SchemaFault, parse_schema}
 use Rattle.dr_formats.specs.Loading.{Put}
 use Rattle.dr_formats.specs.TableFile.{TableFault as TableProblem, parse_table}
 use Rattle.dr_nested.specs.Faults.{problem_view}
 use Rattle.dr_table.specs.Faults.{problem_view as table_problem_view}
 use Rattle.dr_load.specs.Puts.{HasPut, HasPutSome}
+use Rattle.dr_input.specs.Whole.{whole_lines}
+use Rattle.dr_input.specs.Taken.{WhereGiven}
+use Rattle.dr_load.specs.Given.{WhereLines}
 use Rattle.dr_load.proofs.PutLemmas.{nothing_put}
 use Rattle.dr_outside.specs.Source.{SourceShown}
 use Rattle.dr_outside.specs.Link.{Files, LinkShown, Holds}
 use Rattle.dr_commands.specs.Refusals.{schema_refused, table_refused, Refusal as Refused}
-use Rattle.dr_commands.specs.Meaning.{Look, Meaning, Outcome, done, refused, puts_in}
-use Rattle.dr_top.specs.World.{WhereTold, WhereUsed, WhereFile, WithOutcome, ForOutcome, HasOutcome, OpensInput, RefusesEarly}
+use Rattle.dr_commands.specs.Meaning.{Look, Meaning, Outcome, done, refused, plain, puts_in}
+use Rattle.dr_top.specs.World.{WhereTold, WhereUsed, WhereFile, WithOutcome, ForOutcome, HasOutcome, OpensInput, RefusesEarly, AcceptsWhole}
 use Rattle.dr_top.specs.Answers.{Gives, Finishes}
-use Rattle.dr_top.specs.Stops.{IsUnput, KeepsFile, SchemaFileStops, TableFileStops, StopsPlain, StopsWith, PutsSome, PutsBeforeEnd, puts_before_end, IsRefusedSchema, IsRefusedTable, IsRefusedSo, schema_file_stop, table_file_stop, refusal_view}
+use Rattle.dr_top.specs.Stops.{IsUnput, KeepsFile, SchemaFileStops, TableFileStops, StopsPlain, StopsWith, PutsSome, PutsBeforeEnd, PutsGiven, puts_before_end, IsRefusedSchema, IsRefusedTable, IsRefusedSo, schema_file_stop, table_file_stop, refusal_view}
 use Rattle.dr_top.specs.declared.refusal.Refusal.{Refusal}
 use Rattle.dr_top.specs.declared.schema_file.SchemaFileFault.{SchemaFileFault}
 use Rattle.dr_top.specs.declared.table_file.TableFileFault.{TableFileFault}
@@ -107,12 +112,28 @@ put_nothing m k k1 i e = of_each m k i (λ o. HasPutSome (puts_in o) k k1) (λ o
 put_nothing_yet : (m : Meaning) (k k1 : LinkShown) (i : SourceShown) → IsUnput k k1 → PutsBeforeEnd m k k1 i
 put_nothing_yet m k k1 i e = of_each m k i (λ o. HasPutSome (puts_before_end o) k k1) (λ o. some_of_none (puts_before_end o) k k1 e)
 
-pub plain_finishes : (m : Meaning) (k k1 : LinkShown) (i : SourceShown) (ls : List LinkShown) (text : List ℕ) → IsUnput k k1 → HasOutcome m k i (done text []) → OpensInput m k → Finishes m k k1 i ls text
+pub plain_puts : (r : Result (List ℕ) CommandRefusal) → puts_in (plain r) ≡ []
+plain_puts (Ok text) = refl
+plain_puts (Err r) = refl
+
+lines_given : (left now : Option (List ℕ)) (P : List ℕ → Type 0) (Q : List ℕ → Type 0) → ((read : List ℕ) → P read → (lines : List ℕ) → Q lines) → WhereGiven left now P → WhereLines left now Q
+lines_given None now P Q w h = tt
+lines_given (Some all) None P Q w h = absurd h
+lines_given (Some all) (Some rest) P Q w h = (h.0, whole_lines h.0, h.1, inl refl, w h.0 h.2 (whole_lines h.0))
+
+put_none_given : (m : Meaning) (k k1 : LinkShown) (i i1 : SourceShown) → IsUnput k k1 → ((look : Look) → puts_in (m.outcome look) ≡ []) → AcceptsWhole m k i i1 → PutsGiven m k k1 i i1
+put_none_given m k k1 i i1 e n h = weaker_file m.file k.held _ _ (λ IsIt. lines_given i.left i1.left _ _ (λ read g lines. (
+  g.0,
+  g.1,
+  subst (λ (ps : List Put). HasPut ps k k1) (sym (n (record { file = g.0; input = lines ++ 10 ∷ [] }))) (put_none k k1 e),
+))) h
+
+pub plain_finishes : (m : Meaning) (k k1 : LinkShown) (i : SourceShown) (ls : List LinkShown) (text : List ℕ) → IsUnput k k1 → HasOutcome m k i (done text []) → OpensInput m k → Finishes m k k1 i ls ls text
 plain_finishes m k k1 i ls text e h q =
-    (weaker m k i (λ o. o ≡ done text []) (Gives k k1 ls text) (λ o is. subst (Gives k k1 ls text) (sym is) (refl, put_none k k1 e)) h, q)
+    (weaker m k i (λ o. o ≡ done text []) (Gives k k1 ls ls text) (λ o is. subst (Gives k k1 ls ls text) (sym is) (refl, put_none k k1 e)) h, q)
 
 pub plain_answer : {E : Type 0} (m : Meaning) (k k1 : LinkShown) (i : SourceShown) (ls : List LinkShown) (r : Result (String Global) E) → IsUnput k k1 → IfOk r (λ t. HasOutcome m k i (done (string_bytes t) []))
-    → OnOk r (OpensInput m k) → IfOk r (λ t. Finishes m k k1 i ls (string_bytes t))
+    → OnOk r (OpensInput m k) → IfOk r (λ t. Finishes m k k1 i ls ls (string_bytes t))
 plain_answer m k k1 i ls (Ok t) e h q = plain_finishes m k k1 i ls (string_bytes t) e h q
 plain_answer m k k1 i ls (Err x) e h q = tt
 
@@ -125,7 +146,7 @@ pub plain_stop : (m : Meaning) (k k1 : LinkShown) (i i1 : SourceShown) (ls : Lis
 plain_stop m k k1 i i1 ls Stop.Usage e h = absurd h
 plain_stop m k k1 i i1 ls Stop.NoMemory e h = (h.0, h.1, inl (put_nothing m k k1 i e))
 plain_stop m k k1 i i1 ls Stop.Keeper e h = (h.0, ap (λ (x : SourceShown). x.faults) h.1, refl, h.2, inl (h.1, e))
-plain_stop m k k1 i i1 ls Stop.Source e h = (h.0, h.1, refl, h.2, put_nothing_yet m k k1 i e, h.3)
+plain_stop m k k1 i i1 ls Stop.Source e h = (h.0, h.1, refl, h.2, put_nothing_yet m k k1 i e, h.3, put_none_given m k k1 i i1 e h.4 h.3)
 plain_stop m k k1 i i1 ls (Stop.Refused r) e h = (
   h.0,
   h.1,

@@ -1,7 +1,7 @@
 -- The answer of `query`, from its steps.
 use Rattle.std.specs.Prelude.{◌≡◌, ℕ, List, [], ◌∷◌, Option, Some, None, Result, Ok, Err}
 use Rattle.std.specs.declared.alloc.Global.{Global}
-use Rattle.std.proofs.Common.{refl, sym, ap, ◌∙◌, subst, Vec}
+use Rattle.std.proofs.Common.{refl, sym, ap, ◌∙◌, subst, Vec, arith}
 use Rattle.dr_meaning.specs.Query as meant
 use Rattle.dr_meaning.specs.QueryLeaves.{query_leaves}
 use Rattle.dr_meaning.specs.Ask.{read_query}
@@ -50,17 +50,17 @@ query_read_stops w k k1 i path text t (QueryFault.Refused n x) p q f c h =
     early_stop (query_meaning w) w.table k k1 i (Refusal.Query n x) refl c
     (read_ends w k.held path text t (Err (refusal_of n x)) (λ o. o ≡ query_read t (Err (refusal_of n x))) p q f h refl)
 
-pub query_text_ends : (w : QueryWords) (k : LinkShown) (i : SourceShown) (l : LinkShown) (ls : List LinkShown) (path text out : List ℕ) (t : Table) (q : meant.Query) → path ≡ w.table → text ≡ w.query → IsFileTable k.held path t
-    → read_query t.schema text ≡ Ok q → IsAnswerOf t q l.held out → WithOutcome (query_meaning w) k i (λ o. HasText o (l ∷ ls) out)
-query_text_ends w k i l ls path text out t q p e f r h =
-    always_with (query_meaning w) w.table k i (λ o. HasText o (l ∷ ls) out) refl (read_ends w k.held path text t (Ok q) (λ o. HasText o (l ∷ ls) out) p e f r h)
+pub query_text_ends : (w : QueryWords) (k : LinkShown) (i : SourceShown) (l l1 : LinkShown) (ls : List LinkShown) (path text out : List ℕ) (t : Table) (q : meant.Query) → path ≡ w.table → text ≡ w.query → IsFileTable k.held path t
+    → read_query t.schema text ≡ Ok q → IsAnswerOf t q l l1 out → WithOutcome (query_meaning w) k i (λ o. HasText o (l ∷ ls) (l1 ∷ ls) out)
+query_text_ends w k i l l1 ls path text out t q p e f r h =
+    always_with (query_meaning w) w.table k i (λ o. HasText o (l ∷ ls) (l1 ∷ ls) out) refl (read_ends w k.held path text t (Ok q) (λ o. HasText o (l ∷ ls) (l1 ∷ ls) out) p e f r h)
 
 pub query_left : (w : QueryWords) (k k1 : LinkShown) (i : SourceShown) (l l1 : LinkShown) (ls : List LinkShown) (path text : List ℕ) (t : Table) (q : meant.Query) (left : Vec LeftTablet Global) → path ≡ w.table → text ≡ w.query
     → IsFileTable k.held path t → read_query t.schema text ≡ Ok q → k1.faults ≡ k.faults → IsUnput k k1 → LeavesTablets t (query_leaves t.schema.fields q) (all_left_view left.items) l l1
     → StopsWith (query_meaning w) k k1 i i (l ∷ ls) (l1 ∷ ls) (Stop.Left left)
 query_left w k k1 i l l1 ls path text t q left p e f r c d h = (
   c,
-  refl,
+  omega arith,
   refl,
   d,
   always_with (query_meaning w) w.table k i (λ o. IsLeftWith o (l ∷ ls) (l1 ∷ ls) (all_left_view left.items)) refl

@@ -1,5 +1,5 @@
 -- The ends of a run, from what the words are answered with.
-use Rattle.std.specs.Prelude.{◌≡◌, ℕ, Bool, true, false, List, codes, Option, Some, None, option_map, Result, Ok, Err, IfErr, ⊤, ◌⊎◌}
+use Rattle.std.specs.Prelude.{◌≡◌, ◌<◌, ℕ, Bool, true, false, List, codes, Option, Some, None, option_map, Result, Ok, Err, IfErr, ⊤, ◌⊎◌}
 use Rattle.std.specs.declared.alloc.Global.{Global}
 use Rattle.std.proofs.Common.{refl, sym, ap, subst, inl, inr, Vec}
 use Rattle.dr_formats.specs.Loading.{Put}
@@ -43,12 +43,12 @@ no_usage m k k1 i i1 ls ls1 (Err stop) h e = let is : stop ≡ Stop.Usage = cc i
 -- ---- the statuses
 
 module _ (i i1 : SourceShown) (out out1 err err1 : SinkShown) (k k1 : LinkShown) (ls ls1 : List LinkShown) where
-  pub prints_end : (o : Option Meaning) (text : List ℕ) → ForMeant o (λ m. Finishes m k k1 i ls text) → ForMeant o (λ m. IsReadBy m.reads_input i i1) → AddedWhole out out1 text → err1 ≡ err
+  pub prints_end : (o : Option Meaning) (text : List ℕ) → ForMeant o (λ m. Finishes m k k1 i ls ls1 text) → ForMeant o (λ m. IsReadBy m.reads_input i i1) → AddedWhole out out1 text → err1 ≡ err
       → Holds o Prints (world i out err k ls) (world i1 out1 err1 k1 ls1)
   prints_end None text f r a q = absurd f
   prints_end (Some m) text f r a q = (text, a, f, r, q)
 
-  pub out_failed : (o : Option Meaning) (text : List ℕ) → ForMeant o (λ m. Finishes m k k1 i ls text) → ForMeant o (λ m. IsReadBy m.reads_input i i1) → AddedFront out out1 text
+  pub out_failed : (o : Option Meaning) (text : List ℕ) → ForMeant o (λ m. Finishes m k k1 i ls ls1 text) → ForMeant o (λ m. IsReadBy m.reads_input i i1) → AddedFront out out1 text
       → out1.faults ≡ raised out.faults → k1.faults ≡ k.faults → i1.faults ≡ i.faults → Says err err1 (codes "outside: out\n") → Holds o IsOutside (world i out err k ls) (world i1 out1 err1 k1 ls1)
   out_failed None text f r a u kf g s = absurd f
   out_failed (Some m) text f r a u kf g s = inr (inr (text, s, f, u, a, r, kf, g))
@@ -72,7 +72,7 @@ module _ (i i1 : SourceShown) (out out1 err err1 : SinkShown) (k k1 : LinkShown)
 
   pub source_failed : (o : Option Meaning) → StopsMeant o k k1 i i1 ls ls1 Stop.Source → out1 ≡ out → Says err err1 (codes "outside: source\n") → Holds o IsOutside (world i out err k ls) (world i1 out1 err1 k1 ls1)
   source_failed None h e s = absurd h
-  source_failed (Some m) h e s = inl (s, h.0, h.3, h.4, h.5, h.1, e, h.2)
+  source_failed (Some m) h e s = inl (s, h.0, h.3, h.4, h.5, h.6, h.1, e, h.2)
 
   pub keeper_failed : (o : Option Meaning) → StopsMeant o k k1 i i1 ls ls1 Stop.Keeper → out1 ≡ out → Says err err1 (codes "outside: keeper\n") → Holds o IsOutside (world i out err k ls) (world i1 out1 err1 k1 ls1)
   keeper_failed None h e s = absurd h
@@ -130,7 +130,7 @@ module _ (i i1 : SourceShown) (out out1 err err1 : SinkShown) (k k1 : LinkShown)
       told = weaker m k i (IsRefusedSo (refusal_view r) k k1) (λ (x : Outcome). (puts : List Put) × (x ≡ refused (refusal_view r) puts)) (λ x p. (p.0, p.1)) h.3
 
       by : (b : Bool) (left : Option (List ℕ)) → (ByInput b left (IsEarly (refusal_view r) × RefusesEarly m k (refusal_view r)) (WithOutcome m k i (λ (x : Outcome). (puts : List Put) × (x ≡ refused (refusal_view r) puts))) → ⊥)
-          → (status : ℕ) → status ≡ 2 → (status ≡ 0) ⊎ ((status ≡ 5) ⊎ (((status ≡ 3) × (m.asks_link ≡ true)) ⊎ ((status ≡ 2) × ByInput b left ⊤ ⊥)))
+          → (status : ℕ) → status ≡ 2 → (status ≡ 0) ⊎ ((status ≡ 5) ⊎ (((status ≡ 3) × (0 < m.links)) ⊎ ((status ≡ 2) × ByInput b left ⊤ ⊥)))
       by true None n status e = inr (inr (inr (e, tt)))
       by true (Some bytes) n status e = absurd (n told)
       by false left n status e = absurd (n told)

@@ -15,11 +15,11 @@ use Rattle.dr_file.specs.declared.file_fault.FileFault.{FileFault}
 use Rattle.dr_reading.specs.Held.{held_at, held_file}
 use Rattle.dr_reading.specs.Causes.{is_read}
 use Rattle.dr_commands.specs.ShowSchema.{ShowSchemaWords, show_schema_meaning}
-use Rattle.dr_top.specs.Reading.{IsSchemaShown, IsSchemaCause, LeavesFile}
+use Rattle.dr_top.specs.Reading.{IsLookedAt, IsSchemaShown, IsSchemaCause, LeavesFile}
 use Rattle.dr_top.specs.Answers.{Finishes}
 use Rattle.dr_top.specs.Stops.{IsUnput, SchemaStops, StopsWith, file_stop}
 use Rattle.dr_top.specs.declared.stop.Stop.{Stop}
-use Rattle.dr_tablets.proofs.CopyLemmas.{rises_more}
+use Rattle.dr_tablets.proofs.CopyLemmas.{leads_more}
 use Rattle.dr_top.proofs.OutcomeLemmas.{put_nothing, put_none}
 
 -- ---- the text
@@ -90,7 +90,7 @@ pub file_left : (path : List ℕ) (c : Cause) (l l1 : LinkShown) → HasCounts l
     → (Lacks l.held path → is_link_fault (FileFault.Why c) ≡ true) → (is_link_fault (FileFault.Why c) ≡ false → l1.faults ≡ l.faults)
     → ((bytes : List ℕ) → IsTrue l.is_steady → TellsFile l.held path bytes → is_link_fault (FileFault.Why c) ≡ false) → LeavesFile path c l l1
 file_left path c l l1 n h none calm steady =
-    (file_cause l.held path c l.faults l1.faults n h none, (λ is holds. let b = held_bytes l.held path holds in not_read c (steady b.0 is b.1)), rises_more l.faults l.faults l1.faults [] (c ∷ []) c (let e : l.faults ≤ l.faults = omega arith in e) n calm refl)
+    (file_cause l.held path c l.faults l1.faults n h none, (λ is holds. let b = held_bytes l.held path holds in not_read c (steady b.0 is b.1)), leads_more l.faults l.faults l1.faults [] (c ∷ []) c refl n calm refl)
 
 pub schema_faults : (path : List ℕ) (fault : FileFault) (l l1 : LinkShown) → HasCounts l.faults l1.faults fault → ((bytes : List ℕ) → TellsFile l.held path bytes → IsCauseOf fault (cause_in (schema_of_file bytes)))
     → (Lacks l.held path → fault ≢ FileFault.NoMemory → is_link_fault fault ≡ true) → (is_link_fault fault ≡ false → l1.faults ≡ l.faults)
@@ -100,8 +100,8 @@ schema_faults path (FileFault.Why c) l l1 n h none calm steady = file_left path 
 
 -- ---- in the program
 
-pub schema_finishes : (w : ShowSchemaWords) (k k1 : LinkShown) (i : SourceShown) (l : LinkShown) (ls : List LinkShown) (path text : List ℕ) → path ≡ w.file → IsUnput k k1 → IsSchemaShown (held_at l.held path) text → Finishes (show_schema_meaning w) k k1 i (l ∷ ls) text
-schema_finishes w k k1 i l ls path text p e h = (([], refl, (subst (λ (x : List ℕ). IsSchemaShown (held_at l.held x) text) p h, put_none k k1 e)), tt)
+pub schema_finishes : (w : ShowSchemaWords) (k k1 : LinkShown) (i : SourceShown) (l l1 : LinkShown) (ls : List LinkShown) (path text : List ℕ) → path ≡ w.file → IsUnput k k1 → IsLookedAt path l l1 text → Finishes (show_schema_meaning w) k k1 i (l ∷ ls) (l1 ∷ ls) text
+schema_finishes w k k1 i l l1 ls path text p e h = (([], refl, (subst (λ (x : List ℕ). IsLookedAt x l l1 text) p h, put_none k k1 e)), tt)
 
 pub schema_stop : (w : ShowSchemaWords) (k k1 : LinkShown) (i : SourceShown) (l l1 : LinkShown) (ls : List LinkShown) (path : List ℕ) (stop : Stop) → path ≡ w.file → IsUnput k k1 → k1.faults ≡ k.faults → SchemaStops path l l1 stop
     → StopsWith (show_schema_meaning w) k k1 i i (l ∷ ls) (l1 ∷ ls) stop
@@ -111,4 +111,4 @@ schema_stop w k k1 i l l1 ls path Stop.Source p e f h = absurd h
 schema_stop w k k1 i l l1 ls path Stop.Keeper p e f h = absurd h
 schema_stop w k k1 i l l1 ls path (Stop.Refused r) p e f h = absurd h
 schema_stop w k k1 i l l1 ls path (Stop.Left left) p e f h = absurd h
-schema_stop w k k1 i l l1 ls path (Stop.LeftFile c) p e f h = (f, refl, refl, e, ([], refl, subst (λ (x : List ℕ). LeavesFile x c l l1) p h))
+schema_stop w k k1 i l l1 ls path (Stop.LeftFile c) p e f h = (f, omega arith, refl, e, ([], refl, subst (λ (x : List ℕ). LeavesFile x c l l1) p h))

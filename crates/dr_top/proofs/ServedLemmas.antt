@@ -9,7 +9,9 @@ use Rattle.dr_meaning.specs.Schema.{Schema}
 use Rattle.dr_formats.specs.File.{FileCause, bad_footer, bad_schema, bad_codec, bad_data, schema_of_file}
 use Rattle.dr_reading.specs.Held.{Held, present, held_at, held_file}
 use Rattle.dr_reading.specs.Causes.{is_read}
+use Rattle.dr_reading.specs.InTurn.{left_from}
 use Rattle.dr_reading.proofs.HeldFileLemmas.{steady_leaves_none}
+use Rattle.dr_reading.proofs.InTurnLemmas.{read_in_turn_leaves_just}
 use Rattle.dr_commands.specs.Meaning.{Meaning, Outcome}
 use Rattle.dr_top.specs.World.{World, WithOutcome, WhereFile, WhereTold, WhereUsed, WithFirsts}
 use Rattle.dr_top.specs.Reading.{IsLeftWith, IsFileLeft, IsSchemaCause, LeavesTablets, LeavesFile}
@@ -39,7 +41,9 @@ not_left m before after h (inl t) = in_links after.links (subst (λ (ls : List L
 
     in_links : (now : List LinkShown) → WithFirsts (h.first ∷ h.others) now (LeavesTablets h.scan t.0) → ⊥
     in_links [] w = w
-    in_links (k ∷ ks) w = w.0 (steady_leaves_none h.scan.schema h.scan.leaves h.first h.files h.scan.tablets t.0 h.tells h.steady h.each w.1)
+    in_links (k ∷ ks) w =
+        w.3 (sym w.2 ∙ steady_leaves_none h.scan.schema h.scan.leaves h.first h.files h.scan.tablets (left_from 0 w.0) h.tells h.steady h.each
+        (read_in_turn_leaves_just h.scan.schema h.scan.leaves h.first h.scan.tablets w.0 w.1.each))
 not_left m before after h (inr t) =
     subst (λ (o : Outcome). IsFileLeft o before.links after.links t.0) h.scans_it
     (outcome_at m before.keeper before.input (λ o. IsFileLeft o before.links after.links t.0) h.path h.file h.kept h.named h.keeps h.reads_nothing h.there t.3)

@@ -18,7 +18,7 @@ use Rattle.dr_input.specs.Taken.{WhereGiven, AcceptsRead}
 use Rattle.dr_input.specs.Faults.{line_problem_view}
 use Rattle.dr_input.specs.declared.fault.InputFault.{InputFault}
 use Rattle.dr_top.proofs.InputLemmas.{records_accepted}
-use Rattle.dr_top.proofs.OutcomeLemmas.{RefusesSchema, early_stop}
+use Rattle.dr_top.proofs.OutcomeLemmas.{RefusesSchema, early_stop, plain_puts}
 use Rattle.dr_meaning.specs.Path.{Leaf, PathFault, find_leaf}
 use Rattle.dr_meaning.specs.Column.{Triplet}
 use Rattle.dr_meaning.specs.Stripe.{stripe, stripe_schema, stripe_field, stripe_records, column_text, most_striped}
@@ -114,7 +114,7 @@ pub stripe_input_stops : (w : StripeWords) (k k1 : LinkShown) (i i1 : SourceShow
     → k1.faults ≡ k.faults → InputStops s.fields most_striped i i1 fault → StopsPlain (stripe_meaning w) k k1 i i1 (input_stop fault)
 stripe_input_stops w k k1 i i1 path text s l InputFault.NoMemory p t f n c h = (c, h)
 stripe_input_stops w k k1 i i1 path text s l InputFault.Source p t f n c h =
-    (h.0, c, opened w k.held path text s l p t f n, accepts w k.held i.left i1.left path text s l p t f n h.1)
+    (h.0, c, opened w k.held path text s l p t f n, accepts w k.held i.left i1.left path text s l p t f n h.1, λ look. plain_puts (stripe look.file w.field look.input))
 stripe_input_stops w k k1 i i1 path text s l (InputFault.Refused m x) p t f n c h =
     (c, h.0, line_ends w k.held i.left path text s l (record { line = m; fault = line_problem_view x }) p t f n h.1, λ early. absurd early)
 

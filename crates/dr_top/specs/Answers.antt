@@ -1,24 +1,25 @@
 -- What the words of a command line are answered with.
-use Rattle.std.specs.Prelude.{◌≡◌, Bool, false, true, List, [], ◌++◌, ℕ, Option, Some, None}
+use Rattle.std.specs.Prelude.{◌≡◌, false, List, [], ◌∷◌, ◌++◌, ℕ, zero, suc, ⊤, Option, Some, None}
 use Rattle.dr_formats.specs.Opening.{Range, end_ranges, footer_ranges}
 use Rattle.dr_outside.specs.Source.{SourceShown}
 use Rattle.dr_outside.specs.Link.{LinkShown}
 use Rattle.dr_load.specs.Puts.{HasPut}
-use Rattle.dr_file.specs.Asking.{is_request_for}
+use Rattle.dr_file.specs.Asking.{is_for_path, is_request_for}
 use Rattle.dr_tablets.specs.Asked.{AsksHeld, AsksForTablets}
 use Rattle.dr_commands.specs.Meaning.{Meaning, Outcome, done, refused, scans, looks_at, puts_in}
 use Rattle.dr_top.specs.World.{WithOutcome, ForOutcome, WithFirsts, OpensInput}
-use Rattle.dr_top.specs.Reading.{HasText, SameOthers}
+use Rattle.dr_top.specs.Reading.{HasText}
 use Rattle.dr_top.specs.Stops.{IsUnput, StopsWith, AsksForFile}
 use Rattle.dr_top.specs.declared.stop.Stop.{Stop}
 
 -- an outcome has this text, and its files are put, in their order
-abbrev pub Gives : LinkShown → LinkShown → List LinkShown → List ℕ → Outcome → Type 0
-Gives keeper keeper_now links text o = HasText o links text × HasPut (puts_in o) keeper keeper_now
+abbrev pub Gives : LinkShown → LinkShown → List LinkShown → List LinkShown → List ℕ → Outcome → Type 0
+Gives keeper keeper_now links links_now text o = HasText o links links_now text × HasPut (puts_in o) keeper keeper_now
 
 -- what a command of this meaning gives; nothing that comes before an input that it reads is refused, also where that isn't told
-abbrev pub Finishes : Meaning → LinkShown → LinkShown → SourceShown → List LinkShown → List ℕ → Type 0
-Finishes m keeper keeper_now input links text = WithOutcome m keeper input (Gives keeper keeper_now links text) × OpensInput m keeper
+abbrev pub Finishes : Meaning → LinkShown → LinkShown → SourceShown → List LinkShown → List LinkShown → List ℕ → Type 0
+Finishes m keeper keeper_now input links links_now text =
+    WithOutcome m keeper input (Gives keeper keeper_now links links_now text) × OpensInput m keeper
 
 -- what words of this meaning are stopped by; those that mean nothing leave all as it was
 abbrev pub StopsMeant : Option Meaning → LinkShown → LinkShown → SourceShown → SourceShown → List LinkShown → List LinkShown → Stop → Type 0
@@ -46,13 +47,15 @@ abbrev pub LeavesUnput : Option Meaning → LinkShown → LinkShown → Type 0
 LeavesUnput (Some m) keeper keeper_now = m.puts_files ≡ false → IsUnput keeper keeper_now
 LeavesUnput None keeper keeper_now = keeper_now ≡ keeper
 
--- links that aren't asked stay; of those of which the first is asked, it holds what it held, and the others stay
-abbrev pub LeavesLinksBy : Bool → List LinkShown → List LinkShown → Type 0
-LeavesLinksBy false links links_now = links_now ≡ links
-LeavesLinksBy true links links_now = SameOthers links links_now
+-- the first links, so many, hold what they held, and the others are as they were
+abbrev pub LeavesLinksBy : ℕ → List LinkShown → List LinkShown → Type 0
+LeavesLinksBy zero links links_now = links_now ≡ links
+LeavesLinksBy (suc n) [] [] = ⊤
+LeavesLinksBy (suc n) (l ∷ ls) (k ∷ ks) = (k.held ≡ l.held) × LeavesLinksBy n ls ks
+LeavesLinksBy (suc n) links links_now = ⊥
 
 abbrev pub LeavesUnasked : Option Meaning → List LinkShown → List LinkShown → Type 0
-LeavesUnasked (Some m) links links_now = LeavesLinksBy m.asks_link links links_now
+LeavesUnasked (Some m) links links_now = LeavesLinksBy m.links links links_now
 LeavesUnasked None links links_now = links_now ≡ links
 
 -- the ranges that show a file's schema; none where nothing is held
@@ -60,11 +63,11 @@ abbrev pub schema_ranges : Option (List ℕ) → List Range
 schema_ranges None = []
 schema_ranges (Some bytes) = end_ranges bytes ++ footer_ranges bytes
 
--- what a link that tells what it holds is asked for: by a scan for the files of its tablets, in the ranges of its leaves; by a look at a file for
--- that file, in the ranges of its schema; else for nothing
+-- what a link is asked for: by a scan for the files of its tablets, in the ranges of its leaves; by a look at a file for that file, in the ranges of its
+-- schema; else for nothing. Of a link that doesn't tell what it holds, the files alone are said
 abbrev pub AsksLink : Outcome → LinkShown → LinkShown → Type 0
 AsksLink (scans s) link now = AsksForTablets s.leaves s.tablets link now
-AsksLink (looks_at path) link now = AsksHeld (λ files. is_request_for path (schema_ranges (files path))) link.held link.asked now.asked
+AsksLink (looks_at path) link now = AsksHeld (is_for_path path) (λ files. is_request_for path (schema_ranges (files path))) link.held link.asked now.asked
 AsksLink (done text puts) link now = now.asked ≡ link.asked
 AsksLink (refused r puts) link now = now.asked ≡ link.asked
 

@@ -1,5 +1,5 @@
 -- How a run ends, in the world before and after it. What isn't said to change stays as it was.
-use Rattle.std.specs.Prelude.{◌≡◌, ◌≢◌, ℕ, true, false, IsTrue, List, [], ◌∷◌, codes, ◌⊎◌, ⊤, Option, Some, None, Ok, Bool}
+use Rattle.std.specs.Prelude.{◌≡◌, ◌≢◌, ◌<◌, ℕ, true, false, IsTrue, List, [], ◌∷◌, codes, ◌⊎◌, ⊤, Option, Some, None, Ok, Bool}
 use Rattle.dr_meaning.specs.Schema.{Schema}
 use Rattle.dr_formats.specs.File.{schema_of_file}
 use Rattle.dr_formats.specs.Loading.{Put}
@@ -17,7 +17,7 @@ use Rattle.dr_commands.specs.Refusals.{Refusal, refusal_text}
 use Rattle.dr_commands.specs.Meaning.{Meaning, refused, scans, looks_at, IsEarly}
 use Rattle.dr_top.specs.World.{World, WithOutcome, IsOpened, OpensInput, AcceptsWhole, RefusesEarly}
 use Rattle.dr_top.specs.Reading.{IsLeftWith, IsFileLeft}
-use Rattle.dr_top.specs.Stops.{IsUnput, KeepsFile, IsReadBy, IsRefusedSo, PutsSome, PutsBeforeEnd, PutsBreak}
+use Rattle.dr_top.specs.Stops.{IsUnput, KeepsFile, IsReadBy, IsRefusedSo, PutsSome, PutsBeforeEnd, PutsGiven, PutsBreak}
 use Rattle.dr_top.specs.Answers.{Finishes, AsksMeant, LeavesUnread, LeavesUnput, LeavesUnasked, AsksFirst}
 
 -- ---- words of the clauses
@@ -58,7 +58,7 @@ pub record IsCalm (before after : World) : Type 0 where
 -- 0: the whole text was written, the input read to its end or left alone, and the files put; nothing was said
 abbrev pub Prints : Meaning → World → World → Type 0
 Prints m before after = (text : List ℕ) × AddedWhole before.out after.out text
-    × Finishes m before.keeper after.keeper before.input before.links text
+    × Finishes m before.keeper after.keeper before.input before.links after.links text
     × IsReadBy m.reads_input before.input after.input
     × (after.err ≡ before.err)
 
@@ -76,15 +76,15 @@ IsRefused m before after = (r : Refusal) × Says before.err after.err (refusal_t
     × (after.out ≡ before.out) × (after.links ≡ before.links)
     × (IsEarly r → (after.input ≡ before.input) × RefusesEarly m before.keeper r × HasPut [] before.keeper after.keeper)
 
--- 3, tablets: the command asks the first link; just these are left, each with a cause for each of its copies, which err tells; all else stays
+-- 3, tablets: the command asks a link; just these are left, each with a cause for each of its copies, which err tells; all else stays
 abbrev pub TabletsLeft : Meaning → World → World → Type 0
-TabletsLeft m before after = (left : List LeftTablet) × (m.asks_link ≡ true) × Says before.err after.err (left_text left)
+TabletsLeft m before after = (left : List LeftTablet) × (0 < m.links) × Says before.err after.err (left_text left)
     × WithOutcome m before.keeper before.input (λ o. IsLeftWith o before.links after.links left)
     × (after.out ≡ before.out) × (after.input ≡ before.input) × IsUnput before.keeper after.keeper
 
--- 3, a file: the command asks the first link; its cause, which err tells; all else stays
+-- 3, a file: the command asks a link; its cause, which err tells; all else stays
 abbrev pub FileLeft : Meaning → World → World → Type 0
-FileLeft m before after = (c : Cause) × (m.asks_link ≡ true) × Says before.err after.err (left_file_text (told_cause c))
+FileLeft m before after = (c : Cause) × (0 < m.links) × Says before.err after.err (left_file_text (told_cause c))
     × WithOutcome m before.keeper before.input (λ o. IsFileLeft o before.links after.links c)
     × (after.out ≡ before.out) × (after.input ≡ before.input) × IsUnput before.keeper after.keeper
 
@@ -92,12 +92,13 @@ abbrev pub IsLeft : Meaning → World → World → Type 0
 IsLeft m before after = TabletsLeft m before after ⊎ FileLeft m before after
 
 -- 4, the input: nothing before it is refused, nor is a whole line that the source gave; of the files that are to be put those from the front on were put,
--- without the last one
+-- without the last one, and just those that are put before the line behind those that the source gave
 abbrev pub SourceFailed : Meaning → World → World → Type 0
 SourceFailed m before after = Says before.err after.err (codes "outside: source\n")
     × HasRisen before.input.faults after.input.faults
     × IsOpened m before.keeper × PutsBeforeEnd m before.keeper after.keeper before.input
     × AcceptsWhole m before.keeper before.input after.input
+    × PutsGiven m before.keeper after.keeper before.input after.input
     × (after.keeper.faults ≡ before.keeper.faults) × (after.out ≡ before.out) × (after.links ≡ before.links)
 
 -- 4, the keeper, which isn't steady with the file there: it failed as the file was read, and the input and what it holds stay, or at one of the
@@ -111,7 +112,7 @@ KeeperFailed m before after = Says before.err after.err (codes "outside: keeper\
 -- 4, out: it holds a front of the text, and no more was asked of it than it took to find that
 abbrev pub OutFailed : Meaning → World → World → Type 0
 OutFailed m before after = (text : List ℕ) × Says before.err after.err (codes "outside: out\n")
-    × Finishes m before.keeper after.keeper before.input before.links text
+    × Finishes m before.keeper after.keeper before.input before.links after.links text
     × HasRisen before.out.faults after.out.faults
     × AddedFront before.out after.out text
     × IsReadBy m.reads_input before.input after.input
@@ -162,7 +163,7 @@ LeavesFiles meant before after = LeavesUnput meant before.keeper after.keeper
 abbrev pub AsksKeeper : Option Meaning → World → World → Type 0
 AsksKeeper meant before after = AsksMeant meant before.keeper after.keeper
 
--- links that aren't asked stay; no command asks another than the first, which holds what it held
+-- links that the command doesn't ask stay as they were, and those that it asks, the first ones, hold what they held
 abbrev pub LeavesLinks : Option Meaning → World → World → Type 0
 LeavesLinks meant before after = LeavesUnasked meant before.links after.links
 
@@ -170,11 +171,11 @@ LeavesLinks meant before after = LeavesUnasked meant before.links after.links
 abbrev pub AsksLinks : Option Meaning → World → World → Type 0
 AsksLinks meant before after = AsksFirst meant before.keeper before.input before.links after.links
 
--- where the words mean something of which nothing is refused, and no count rises, the status is 0 or 5, or 3 where the first link is asked, or 2 where the
+-- where the words mean something of which nothing is refused, and no count rises, the status is 0 or 5, or 3 where a link is asked, or 2 where the
 -- input isn't told
 abbrev pub IsComplete : Option Meaning → ℕ → World → World → Type 0
 IsComplete meant status before after = ForMeant meant (IsAccepted before) → IsCalm before after
-    → (status ≡ 0) ⊎ ((status ≡ 5) ⊎ (((status ≡ 3) × ForMeant meant (λ m. m.asks_link ≡ true)) ⊎ ((status ≡ 2) × ForMeant meant (IsUntold before))))
+    → (status ≡ 0) ⊎ ((status ≡ 5) ⊎ (((status ≡ 3) × ForMeant meant (λ m. 0 < m.links)) ⊎ ((status ≡ 2) × ForMeant meant (IsUntold before))))
 
 -- the table file that the words name is there; the first link is steady, and tells that of each tablet that the command scans a copy is a file,
 -- for the leaves that it reads

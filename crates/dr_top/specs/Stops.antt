@@ -1,5 +1,5 @@
 -- What stops a command, and what each stop says of the keeper and of the input.
-use Rattle.std.specs.Prelude.{◌≡◌, ℕ, Bool, true, false, List, [], ◌∷◌, ◌++◌, Option, Some, option_map, Result, Ok, Err, ⊤, ◌⊎◌, IsTrue}
+use Rattle.std.specs.Prelude.{◌≡◌, ◌<◌, ℕ, Bool, true, false, List, [], ◌∷◌, ◌++◌, Option, Some, option_map, Result, Ok, Err, ⊤, ◌⊎◌, IsTrue}
 use Rattle.dr_meaning.specs.Schema.{Fields, Schema}
 use Rattle.dr_meaning.specs.SchemaText.{SchemaFault, parse_schema}
 use Rattle.dr_meaning.specs.Lines as line
@@ -10,6 +10,7 @@ use Rattle.dr_table.specs.Faults.{problem_view as table_problem_view}
 use Rattle.dr_file.specs.declared.file_fault.FileFault.{FileFault}
 use Rattle.dr_load.specs.declared.fault.LoadFault.{LoadFault}
 use Rattle.dr_load.specs.Puts.{HasPut, HasPutSome, BreaksOff}
+use Rattle.dr_load.specs.Given.{WhereLines}
 use Rattle.dr_nested.specs.Faults.{problem_view, path_problem_view}
 use Rattle.dr_input.specs.Taken.{AcceptsRead}
 use Rattle.dr_input.specs.Faults.{line_problem_view}
@@ -19,9 +20,9 @@ use Rattle.dr_outside.specs.Faults.{raised}
 use Rattle.dr_outside.specs.Source.{SourceShown}
 use Rattle.dr_outside.specs.Link.{Files, LinkShown, Request, Holds, size_of, bytes_of}
 use Rattle.dr_commands.specs.Refusals.{Refusal as Refused, schema_refused, table_refused, field_refused, words_refused, query_refused, line_refused}
-use Rattle.dr_commands.specs.Meaning.{Meaning, Outcome, done, refused, scans, looks_at, puts_in, IsEarly}
+use Rattle.dr_commands.specs.Meaning.{Look, Meaning, Outcome, done, refused, scans, looks_at, puts_in, IsEarly}
 use Rattle.dr_commands.specs.declared.words_fault.WordsFault.{WordsFault}
-use Rattle.dr_top.specs.World.{WhereTold, WithOutcome, ForOutcome, HasOutcome, IsOpened, OpensInput, AcceptsWhole, RefusesEarly}
+use Rattle.dr_top.specs.World.{WhereTold, WhereFile, WithOutcome, ForOutcome, HasOutcome, IsOpened, OpensInput, AcceptsWhole, RefusesEarly}
 use Rattle.dr_top.specs.Reading.{IsLeftWith, IsFileLeft, LeavesFile}
 use Rattle.dr_tablets.specs.Views.{all_left_view}
 use Rattle.dr_load.specs.Words.{words_problem_view}
@@ -141,6 +142,7 @@ StopsPlain m keeper keeper_now input input_now Stop.NoMemory = (keeper_now.fault
 StopsPlain m keeper keeper_now input input_now Stop.Keeper = (keeper_now.faults ≡ raised keeper.faults) × (input_now ≡ input) × (KeepsFile m keeper → ⊥)
 StopsPlain m keeper keeper_now input input_now Stop.Source =
     (input_now.faults ≡ raised input.faults) × (keeper_now.faults ≡ keeper.faults) × IsOpened m keeper × AcceptsWhole m keeper input input_now
+    × ((look : Look) → puts_in (m.outcome look) ≡ [])
 StopsPlain m keeper keeper_now input input_now (Stop.Refused r) =
     (keeper_now.faults ≡ keeper.faults) × (input_now.faults ≡ input.faults) × HasOutcome m keeper input (refused (refusal_view r) [])
     × (IsEarly (refusal_view r) → (input_now ≡ input) × RefusesEarly m keeper (refusal_view r))
@@ -168,6 +170,11 @@ PutsSome m keeper keeper_now input = ForOutcome m keeper input (λ o. HasPutSome
 abbrev pub PutsBeforeEnd : Meaning → LinkShown → LinkShown → SourceShown → Type 0
 PutsBeforeEnd m keeper keeper_now input = ForOutcome m keeper input (λ o. HasPutSome (puts_before_end o) keeper keeper_now)
 
+-- it has put just what it puts where an empty line, which is refused, comes behind the lines that the source gave: each full tablet, before it asked for the next line
+abbrev pub PutsGiven : Meaning → LinkShown → LinkShown → SourceShown → SourceShown → Type 0
+PutsGiven m keeper keeper_now input input_now = WhereFile m.file keeper.held (λ IsIt. WhereLines input.left input_now.left (λ lines.
+    (file : List ℕ) × IsIt file × HasPut (puts_in (m.outcome (record { file = file; input = lines ++ 10 ∷ [] }))) keeper keeper_now))
+
 -- one of its puts failed, which is told or not; those before it were done, in their order, and none behind it was asked for
 abbrev pub PutsBreak : Bool → Meaning → LinkShown → LinkShown → SourceShown → Type 0
 PutsBreak told m keeper keeper_now input = ForOutcome m keeper input (λ o. BreaksOff told (puts_in o) keeper keeper_now)
@@ -187,15 +194,16 @@ StopsWith m keeper keeper_now input input_now links links_now Stop.Keeper =
 StopsWith m keeper keeper_now input input_now links links_now Stop.Source =
     (input_now.faults ≡ raised input.faults) × (keeper_now.faults ≡ keeper.faults) × (links_now ≡ links)
     × IsOpened m keeper × PutsBeforeEnd m keeper keeper_now input × AcceptsWhole m keeper input input_now
+    × PutsGiven m keeper keeper_now input input_now
 StopsWith m keeper keeper_now input input_now links links_now (Stop.Refused r) =
     (keeper_now.faults ≡ keeper.faults) × (input_now.faults ≡ input.faults) × (links_now ≡ links)
     × WithOutcome m keeper input (IsRefusedSo (refusal_view r) keeper keeper_now)
     × (IsEarly (refusal_view r) → (input_now ≡ input) × RefusesEarly m keeper (refusal_view r) × HasPut [] keeper keeper_now)
 StopsWith m keeper keeper_now input input_now links links_now (Stop.Left left) =
-    (keeper_now.faults ≡ keeper.faults) × (m.asks_link ≡ true) × (input_now ≡ input) × IsUnput keeper keeper_now
+    (keeper_now.faults ≡ keeper.faults) × (0 < m.links) × (input_now ≡ input) × IsUnput keeper keeper_now
     × WithOutcome m keeper input (λ o. IsLeftWith o links links_now (all_left_view left.items))
 StopsWith m keeper keeper_now input input_now links links_now (Stop.LeftFile cause) =
-    (keeper_now.faults ≡ keeper.faults) × (m.asks_link ≡ true) × (input_now ≡ input) × IsUnput keeper keeper_now
+    (keeper_now.faults ≡ keeper.faults) × (0 < m.links) × (input_now ≡ input) × IsUnput keeper keeper_now
     × WithOutcome m keeper input (λ o. IsFileLeft o links links_now cause)
 
 -- the input was read to its end, or left alone where it isn't read

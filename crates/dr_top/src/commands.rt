@@ -36,7 +36,7 @@ fn command_answer<R: Threads + Sync, S: Source, K: Keeper, L: Link>(
 ) -> Result<String, Stop>
     requires link { 0 < length links.old }
     ensures text { IfOk result (λ t. Finishes (meaning_of (command_view command.now)) (K.shows keeper.old)
-        (K.shows keeper.new) (S.shows source.old) (map L.shows links.old) (string_bytes t)) }
+        (K.shows keeper.new) (S.shows source.old) (map L.shows links.old) (map L.shows links.new) (string_bytes t)) }
     ensures read { OnOk result (IsReadBy (meaning_of (command_view command.now)).reads_input (S.shows source.old)
         (S.shows source.new)) }
     ensures source_calm { OnOk result ((S.shows source.new).faults ≡ (S.shows source.old).faults) }
@@ -49,7 +49,7 @@ fn command_answer<R: Threads + Sync, S: Source, K: Keeper, L: Link>(
     ensures asks { AsksFor (meaning_of (command_view command.now)).file (K.shows keeper.old) (K.shows keeper.new) }
     ensures unread { (meaning_of (command_view command.now)).reads_input ≡ false → S.shows source.new
         ≡ S.shows source.old }
-    ensures links { LeavesLinksBy (meaning_of (command_view command.now)).asks_link (map L.shows links.old)
+    ensures links { LeavesLinksBy (meaning_of (command_view command.now)).links (map L.shows links.old)
         (map L.shows links.new) }
     ensures reads { ForOutcome (meaning_of (command_view command.now)) (K.shows keeper.old) (S.shows source.old)
         (λ o. WithFirsts (map L.shows links.old) (map L.shows links.new) (AsksLink o)) }
@@ -81,7 +81,7 @@ pub fn answer<R: Threads + Sync, S: Source, K: Keeper, L: Link>(
     requires link { 0 < length links.old }
     ensures text { IfOk result (λ t. ForMeant (meant (map string_bytes words.now))
         (λ m. Finishes m (K.shows keeper.old) (K.shows keeper.new) (S.shows source.old) (map L.shows links.old)
-        (string_bytes t))) }
+        (map L.shows links.new) (string_bytes t))) }
     ensures read { OnOk result (ForMeant (meant (map string_bytes words.now))
         (λ m. IsReadBy m.reads_input (S.shows source.old) (S.shows source.new))) }
     ensures source_calm { OnOk result ((S.shows source.new).faults ≡ (S.shows source.old).faults) }

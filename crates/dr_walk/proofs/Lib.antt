@@ -18,6 +18,9 @@ pub mod WalkLemmas
 pub mod AnswerLemmas
 -- how many moves there are at most
 pub mod BoundLemmas
+-- a walk over columns of which so much is left
+pub mod CheckingLemmas
 -- examples, by computation
 pub mod WorkedLaying
 pub mod WorkedWalking
+pub mod WorkedColumns

@@ -1,6 +1,6 @@
 -- A walk over columns: what it knows, what it takes, what it gives.
 use Rattle.std.proofs.Common.{◌≡◌, ◌≢◌, ◌⊎◌, inl, inr, ℕ, zero, suc, ◌+◌, ◌-◌, ◌^◌, ◌<◌, ◌≤◌, min, List, [], ◌∷◌, ◌++◌, length, get_or, Bool, true, false, ◌&&◌, Option, Some, None, refl, sym, ap, ap₂, subst, ◌∙◌, append-nil, true≢false, arith}
-use Rattle.std.specs.Prelude.{not, ◌==◌, nat_lt, if◌then◌else◌, option_map, replicate}
+use Rattle.std.specs.Prelude.{not, ◌==◌, nat_lt, if◌then◌else◌, option_map, replicate, IfOk}
 use Rattle.std.proofs.lemmas.List.{get_or_past, get_or-replicate, length-replicate}
 use Rattle.std.proofs.lemmas.Bool.{eqb-true, ne_eqb, ltb-true}
 use Rattle.std.proofs.lemmas.Bool.Decides.{nat_tests}
@@ -27,7 +27,7 @@ use Rattle.dr_walk.specs.Views.{items_view}
 use Rattle.dr_walk.specs.declared.course.Course.{Course}
 use Rattle.dr_walk.specs.declared.fault.AssembleFault.{AssembleFault}
 use Rattle.dr_walk.specs.Standing.{Stands, GoesOn, stays_here, goes_further, GivesLeaf, fits}
-use Rattle.dr_walk.specs.Walking.{with_value, pending, is_known, wanted_behind, triplet_count, count_one, count_some, first_wanted, given_move, LastGives, Goes, IsAt}
+use Rattle.dr_walk.specs.Walking.{with_value, pending, is_known, wanted_behind, triplet_count, count_one, count_some, first_wanted, given_move, LastGives, Goes, IsAt, Wants}
 use Rattle.dr_walk.specs.declared.walk.Walk.{Walk}
 
 -- ---- levels, of what is pending
@@ -104,15 +104,15 @@ count_changes P Q (suc n) i l h = by_bit (i == n) refl (λ m. count_changes P Q 
 
 -- ---- what is known once a leaf's next triplet was taken
 
-abbrev is_known_by : Bool → Option ℕ → ℕ → Bool
+abbrev pub is_known_by : Bool → Option ℕ → ℕ → Bool
 is_known_by b None i = true
 is_known_by b (Some j) i = if b then nat_lt i j else not (i == j)
 
-known_is : (o : Option ℕ) (given i : ℕ) → is_known o given i ≡ is_known_by (given == 0) o i
+pub known_is : (o : Option ℕ) (given i : ℕ) → is_known o given i ≡ is_known_by (given == 0) o i
 known_is None given i = refl
 known_is (Some j) given i = refl
 
-not_known : (given leaf : ℕ) → is_known (Some leaf) given leaf ≡ false
+pub not_known : (given leaf : ℕ) → is_known (Some leaf) given leaf ≡ false
 not_known given leaf = by_bit (given == 0)
   where
     no_less : (x : ℕ) → nat_lt x x ≡ false
@@ -125,7 +125,7 @@ not_known given leaf = by_bit (given == 0)
     by_bit true = no_less leaf
     by_bit false = same leaf
 
-known_before : (given n leaf i : ℕ) → i ≢ leaf → is_known (wanted_behind given n leaf) given i ≡ true → (is_known (Some leaf) given i ≡ true) ⊎ (n ≤ i)
+pub known_before : (given n leaf i : ℕ) → i ≢ leaf → is_known (wanted_behind given n leaf) given i ≡ true → (is_known (Some leaf) given i ≡ true) ⊎ (n ≤ i)
 known_before given n leaf i d k = by_first (given == 0) (nat_lt (leaf + 1) n) refl (sym (known_is (wanted_behind given n leaf) given i) ∙ k)
   where
     differs : not (i == leaf) ≡ true
@@ -146,7 +146,7 @@ known_before given n leaf i d k = by_first (given == 0) (nat_lt (leaf + 1) n) re
     by_first true false e k = by_later (nat_lt i leaf) refl e
     by_first false c e k = inl differs
 
-unknown_before : (given n leaf i : ℕ) → is_known (wanted_behind given n leaf) given i ≡ false → (i ≢ leaf) × (is_known (Some leaf) given i ≡ false)
+pub unknown_before : (given n leaf i : ℕ) → is_known (wanted_behind given n leaf) given i ≡ false → (i ≢ leaf) × (is_known (Some leaf) given i ≡ false)
 unknown_before given n leaf i k = by_first (given == 0) (nat_lt (leaf + 1) n) (sym (known_is (wanted_behind given n leaf) given i) ∙ k)
   where
     apart : (i leaf : ℕ) → nat_lt i (leaf + 1) ≡ false → i ≢ leaf
@@ -201,7 +201,7 @@ wanted_other given n leaf i q e = by_bit (given == 0) (nat_lt (leaf + 1) n) e
 -- a walk that took what comes of the leaf that it wants
 pub taken_at : (fs : Fields) (F : List (List Step)) (rows : ℕ) (C : List (List Triplet)) (ms : List Move) (left : Left) (old new : Walk) (leaf : ℕ) (t : Option Triplet) → IsAt fs F rows C ms left old → old.wanted ≡ Some leaf → t ≡ head_of (left leaf)
     → pending new leaf ≡ t → ((i : ℕ) → i ≢ leaf → pending new i ≡ pending old i) → length new.course.heads.items ≡ length old.course.heads.items → length new.values.items ≡ length old.values.items
-    → ((top : Items) (S : Stack) → Stands top old.course S → Stands top new.course S) → new.wanted ≡ wanted_behind old.given (length old.course.heads.items) leaf → new.failed ≡ old.failed → new.given ≡ old.given → new.taken ≡ old.taken + count_one t
+    → ((top : Items) (S : Stack) → Stands top old.course S → Stands top new.course S) → new.wanted ≡ wanted_behind old.given (length old.course.heads.items) leaf → new.failed ≡ old.failed → new.given ≡ old.given → new.taken ≡ min (old.taken + count_one t) (2 ^ 64 - 1)
     → IsAt fs F rows C ms left new
 taken_at fs F rows C ms left old new leaf t at w e here others hs vs st nw nf ng nt =
     let n = length old.course.heads.items in
@@ -540,3 +540,12 @@ wants_leaf leaf i l v false before after result w n g a k = absurd (none_is_some
   where
     none_is_some : None ≡ Some i → ⊥
     none_is_some q = cc
+
+-- and what a call leaves wanted
+pub gives_wanted : (leaf : ℕ) (l : Levels) (v : Option ValueRef) (b : Bool) (after : Option ℕ) (result : Result (Option CodeMove) AssembleFault) → (b ≡ false → result ≡ Err AssembleFault.BadData)
+    → (b ≡ true → result ≡ Ok (Some (given_move leaf l v))) → (b ≡ true → after ≡ Some leaf) → IfOk result (λ m. Wants m None after)
+gives_wanted leaf l v true after result r g a = subst (λ (x : Result (Option CodeMove) AssembleFault). IfOk x (λ m. Wants m None after)) (sym (g refl)) (refl, a refl)
+gives_wanted leaf l v false after result r g a = subst (λ (x : Result (Option CodeMove) AssembleFault). IfOk x (λ m. Wants m None after)) (sym (r refl)) tt
+
+pub wants_on : (m : Option CodeMove) (o p after : Option ℕ) → o ≡ p → Wants m o after → Wants m p after
+wants_on m o p after e h = subst (λ (q : Option ℕ). Wants m q after) e h

@@ -11,3 +11,5 @@ pub mod Flat
 pub mod Standing
 -- a walk over columns, and its promises
 pub mod Walking
+-- a walk over columns of which so much is left
+pub mod Checking

@@ -55,6 +55,11 @@ first_wanted (suc n) = Some 0
 abbrev pub wanted_behind : ℕ → ℕ → ℕ → Option ℕ
 wanted_behind given n leaf = if (given == 0) && nat_lt (leaf + 1) n then Some (leaf + 1) else None
 
+-- the leaf that is wanted once what was wanted came
+abbrev pub then_wanted : ℕ → ℕ → Option ℕ → Option ℕ
+then_wanted given n None = None
+then_wanted given n (Some leaf) = wanted_behind given n leaf
+
 -- whether a walk knows what comes next of a leaf: of the one that it wants it doesn't, nor before the first move of those behind that one
 abbrev pub is_known : Option ℕ → ℕ → ℕ → Bool
 is_known None given i = true
@@ -103,7 +108,7 @@ pub record IsAt (fs : Fields) (F : List (List Step)) (rows : ℕ) (C : List (Lis
   pub asks : (i : ℕ) → w.wanted ≡ Some i → (w.given ≡ 0) ⊎ LastGives i ms
   pub goes_on : w.failed ≡ None
   pub gave : w.given ≡ min (length ms) (2 ^ 64 - 1)
-  pub took : w.taken ≡ triplet_count ms + count_some (pending w) (length F)
+  pub took : w.taken ≡ min (triplet_count ms + count_some (pending w) (length F)) (2 ^ 64 - 1)
 
 -- where a leaf is wanted, its column's next triplet comes, none at its end
 abbrev pub Comes : Left → Option ℕ → Option code_triplet.Triplet → Type 0
@@ -119,6 +124,17 @@ OverColumns w more says = (F : List (List Step)) (fs : Fields) (rows : ℕ) (C :
 -- a leaf's triplet of these levels, with this value
 abbrev pub given_move : ℕ → Levels → Option ValueRef → CodeMove
 given_move i l v = CodeMove.Leaf i (record { repetition = l.repetition; definition = l.definition; value = v })
+
+-- the leaf whose triplet a move gives
+abbrev pub leaf_of : CodeMove → Option ℕ
+leaf_of (CodeMove.Enter k) = None
+leaf_of (CodeMove.Leaf i t) = Some i
+leaf_of (CodeMove.Leave k) = None
+
+-- what is wanted after a call, where this was once what was wanted came: a move comes only where nothing was
+abbrev pub Wants : Option CodeMove → Option ℕ → Option ℕ → Type 0
+Wants None before after = after ≡ before
+Wants (Some m) before after = (before ≡ None) × (after ≡ leaf_of m)
 
 -- the move that it gives, if any
 abbrev pub moves_of : Option CodeMove → List Move

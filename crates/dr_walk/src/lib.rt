@@ -1,6 +1,7 @@
 //! The walk of records over their columns, one move at a time: no record is made.
 #![tactic(auto)]
 
+mod checking;
 mod counting;
 mod course;
 mod fault;
@@ -14,5 +15,6 @@ mod turn;
 mod values;
 mod walk;
 
+pub use checking::check_columns;
 pub use fault::AssembleFault;
 pub use walk::Walk;

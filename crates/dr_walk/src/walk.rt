@@ -16,7 +16,7 @@ ghost use Rattle.dr_walk.specs.Standing.{fits as meant_fits};
 ghost use Rattle.dr_walk.specs.Seen.{levels_at};
 ghost use Rattle.dr_walk.specs.Walking.{given_move, first_wanted};
 ghost use Rattle.dr_levels.specs.Views.{levels_pair, triplet_levels, triplet_view, lent_value};
-ghost use Rattle.dr_walk.specs.Walking.{meant_value};
+ghost use Rattle.dr_walk.specs.Walking.{meant_value, count_one};
 ghost use Rattle.dr_course.specs.Leading.{Left, columns_of};
 ghost use Rattle.dr_course.specs.Selection.{all_differ};
 ghost use Rattle.dr_walk.specs.Views.{paths_view};
@@ -84,6 +84,16 @@ fn value_of<'a>(triplet: Option<Triplet<'a>>) -> Option<ValueRef<'a>>
     }
 }
 
+/// How many triplets come, one or none.
+fn count_of(triplet: Option<Triplet<'_>>) -> u64
+    ensures { result ≡ count_one (option_map triplet_view triplet.entry) }
+{
+    match triplet {
+        Some(_) => 1,
+        None => 0,
+    }
+}
+
 /// The value that comes next of a leaf.
 fn value_at<'a>(values: &[Option<ValueRef<'a>>], leaf: u32) -> Option<ValueRef<'a>>
     ensures { result ≡ get_or values.now leaf None }
@@ -106,7 +116,7 @@ fn set_value<'a>(values: &mut Vec<Option<ValueRef<'a>>>, leaf: u32, value: Optio
 }
 
 impl<'a> Walk<'a> {
-    ghost use Rattle.dr_walk.specs.Walking.{OverColumns, IsAt, Comes, HasColumns, NoneHas, Goes, moves_of, left_behind, pending, count_one, wanted_behind as meant_behind};
+    ghost use Rattle.dr_walk.specs.Walking.{OverColumns, IsAt, Comes, HasColumns, NoneHas, Goes, moves_of, left_behind, pending, count_one, wanted_behind as meant_behind, then_wanted, Wants};
     ghost use Rattle.dr_walk.specs.Standing.{Stands};
     ghost use Rattle.dr_course.specs.Course.{Items};
     ghost use Rattle.dr_course.specs.Turning.{Stack};
@@ -120,12 +130,12 @@ impl<'a> Walk<'a> {
         fields: &[Path],
         rows: u64,
     ) -> Result<Walk<'a>, NoMemory>
-        requires few { rows ≤ 1000000000 }
         requires leaves { list_all (is_leaf_path (fields_view (schema.now).fields.items)) (paths_view fields.now)
             ≡ true }
         requires differ { all_differ (paths_view fields.now) ≡ true }
-        ensures { IfOk result (λ w. (C : List (List meant_column.Triplet)) → length C ≡ length fields.now
+        ensures at { IfOk result (λ w. (C : List (List meant_column.Triplet)) → length C ≡ length fields.now
             → IsAt (fields_view (schema.now).fields.items) (paths_view fields.now) rows C [] (columns_of C) w) }
+        ensures wants { IfOk result (λ w. w.wanted ≡ first_wanted (length fields.now)) }
     {
         let table = table_of(alloc, schema, fields)?;
         let course = Course::start(alloc, table, fields.len(), rows)?;
@@ -167,7 +177,6 @@ impl<'a> Walk<'a> {
     /// Errors: no records have columns that go on so; want of memory. A walk repeats its refusal from then on.
     pub fn next(&mut self, more: Option<Triplet<'a>>) -> Result<Option<Move<'a>>, AssembleFault>
         requires more { self.old.wanted ≡ None → more ≡ None }
-        requires few { is_some more ≡ true → self.old.taken < 2 ^ 50 }
         // Where it stood over columns, it goes on over them.
         ensures on { OverColumns self.old more.entry (λ fs F rows C ms left.
             IfOk result (λ m. IsAt fs F rows C (ms ++ moves_of m) (left_behind m left) self.new)) }
@@ -187,6 +196,9 @@ impl<'a> Walk<'a> {
             → IfOk result (λ m. m ≡ None)) }
         // Where a leaf is wanted after it, none is given only where this call took what was wanted.
         ensures asked { (i : ℕ) → result ≡ Ok None → self.new.wanted ≡ Some i → (j : ℕ) × (self.old.wanted ≡ Some j) }
+        // A leaf is wanted before the first move, each in turn, and where the last move gave its triplet.
+        ensures wants { OverColumns self.old more.entry (λ fs F rows C ms left. IfOk result (λ m. Wants m
+            (then_wanted self.old.given (length self.old.course.heads.items) self.old.wanted) self.new.wanted)) }
         // No leaf is wanted after its end.
         ensures ended { OverColumns self.old more.entry (λ fs F rows C ms left. (i : ℕ)
             → self.old.wanted ≡ Some i → more.entry ≡ None → self.new.wanted ≡ Some i → ⊥) }
@@ -219,11 +231,12 @@ impl<'a> Walk<'a> {
 
     /// Takes what comes of the leaf that is wanted, if one is.
     fn take(&mut self, more: Option<Triplet<'a>>)
-        requires few { is_some more ≡ true → self.old.taken < 2 ^ 50 }
         ensures at { OverColumns self.old more.entry (λ fs F rows C ms left. IsAt fs F rows C ms left self.new) }
         ensures idle { self.old.wanted ≡ None → self.new.wanted ≡ None }
         ensures other { (i : ℕ) → self.old.wanted ≡ Some i → self.new.wanted ≡ Some i → ⊥ }
         ensures failed { self.new.failed ≡ self.old.failed }
+        ensures next { OverColumns self.old more.entry (λ fs F rows C ms left.
+            self.new.wanted ≡ then_wanted self.old.given (length self.old.course.heads.items) self.old.wanted) }
     {
         if let Some(leaf) = self.wanted {
             self.keep(leaf, more);
@@ -233,7 +246,6 @@ impl<'a> Walk<'a> {
 
     /// Keeps what comes of a leaf.
     fn keep(&mut self, leaf: u32, more: Option<Triplet<'a>>)
-        requires few { is_some more ≡ true → self.old.taken < 2 ^ 50 }
         ensures here { leaf < length self.old.course.heads.items → leaf < length self.old.values.items
             → pending self.new leaf ≡ option_map triplet_view more.entry }
         ensures others { (i : ℕ) → i ≢ leaf → pending self.new i ≡ pending self.old i }
@@ -243,11 +255,10 @@ impl<'a> Walk<'a> {
         ensures wanted { self.new.wanted ≡ self.old.wanted }
         ensures failed { self.new.failed ≡ self.old.failed }
         ensures given { self.new.given ≡ self.old.given }
-        ensures taken { self.new.taken ≡ self.old.taken + count_one (option_map triplet_view more.entry) }
+        ensures taken { self.new.taken ≡ min (self.old.taken + count_one (option_map triplet_view more.entry))
+            (2 ^ 64 - 1) }
     {
-        if more.is_some() {
-            self.taken += 1;
-        }
+        self.taken = self.taken.saturating_add(count_of(more));
         self.course.hear(leaf, levels_of(more));
         set_value(&mut self.values, leaf, value_of(more));
     }
@@ -275,6 +286,7 @@ impl<'a> Walk<'a> {
         ensures rests { result ≡ Ok None → self.new.wanted ≡ self.old.wanted }
         ensures wants { (i : ℕ) → self.old.wanted ≡ None → self.new.wanted ≡ Some i → (t : MeantTriplet) × (result
             ≡ Ok (Some (MeantMove.Leaf i t))) }
+        ensures turns { self.old.wanted ≡ None → IfOk result (λ m. Wants m None self.new.wanted) }
     {
         match self.course.step()? {
             Turn::Enters(number) => {

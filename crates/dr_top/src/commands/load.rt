@@ -25,7 +25,7 @@ pub fn answer<S: Source, K: Keeper>(
 ) -> Result<String, Stop>
     ensures text { (links : List LinkShown) → IfOk result
         (λ t. Finishes (load_meaning (load_view words.now)) (K.shows keeper.old) (K.shows keeper.new)
-        (S.shows source.old) links (string_bytes t)) }
+        (S.shows source.old) links links (string_bytes t)) }
     ensures read { OnOk result (IsReadBy true (S.shows source.old) (S.shows source.new)) }
     ensures source_calm { OnOk result ((S.shows source.new).faults ≡ (S.shows source.old).faults) }
     ensures keeper_calm { OnOk result ((K.shows keeper.new).faults ≡ (K.shows keeper.old).faults) }

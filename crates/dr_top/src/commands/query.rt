@@ -30,7 +30,7 @@ pub fn answer<R: Threads + Sync, K: Keeper, L: Link>(
 ) -> Result<String, Stop>
     ensures text { (input : SourceShown) (links : List LinkShown)
         → IfOk result (λ t. WithOutcome (query_meaning (query_view words.now)) (K.shows keeper.old) input
-        (λ o. HasText o (L.shows link.old ∷ links) (string_bytes t))) }
+        (λ o. HasText o (L.shows link.old ∷ links) (L.shows link.new ∷ links) (string_bytes t))) }
     ensures keeper_calm { OnOk result ((K.shows keeper.new).faults ≡ (K.shows keeper.old).faults) }
     ensures stops { (input : SourceShown) (links : List LinkShown)
         → IfErr result (StopsWith (query_meaning (query_view words.now)) (K.shows keeper.old)

@@ -1,10 +1,9 @@
 //! The answer of `schema`.
 
 ghost use Rattle.std.specs.Prelude.{◌≡◌, string_bytes, IfOk, IfErr, IsTrue};
-ghost use Rattle.dr_reading.specs.Held.{held_at};
 ghost use Rattle.dr_commands.specs.Meaning.{looks_at};
 ghost use Rattle.dr_top.specs.Answers.{AsksLink};
-ghost use Rattle.dr_top.specs.Reading.{IsSchemaShown};
+ghost use Rattle.dr_top.specs.Reading.{IsLookedAt};
 ghost use Rattle.dr_top.specs.Stops.{SchemaStops};
 
 use crate::stop::Stop;
@@ -18,7 +17,7 @@ use std::alloc::Global;
 ///
 /// Errors: the cause for which the file gives no schema; want of memory.
 pub fn answer<L: Link>(alloc: Global, show: &ShowSchema, link: &mut L) -> Result<String, Stop>
-    ensures text { IfOk result (λ t. IsSchemaShown (held_at (L.shows link.old).held (string_bytes (show.now).file))
+    ensures text { IfOk result (λ t. IsLookedAt (string_bytes (show.now).file) (L.shows link.old) (L.shows link.new)
         (string_bytes t)) }
     ensures stops { IfErr result (SchemaStops (string_bytes (show.now).file) (L.shows link.old) (L.shows link.new)) }
     ensures reads { AsksLink (looks_at (string_bytes (show.now).file)) (L.shows link.old) (L.shows link.new) }

@@ -10,8 +10,9 @@ use Rattle.dr_ask.proofs.answering.answer_steady.Goals as goal
 pub returns-in-Ok-Text-clause-text : goal.returns-in-Ok-Text-clause-text
 returns-in-Ok-Text-clause-text g c =
     let t = table_view c.args.table.now in
-    let held = (g.L.Link.shows c.args.link.now).held in
-    λ R h q b. answer_is t q c.args.plan.now held R (string_bytes c.in-Ok-Text.text) h b (subst (WhereText (IsAnswerOf t q held)) c.in-Ok-Text.field-0-is (c.in-Ok-Text.ensures.text q b))
+    let link = g.L.Link.shows c.args.link.now in
+    let now = g.L.Link.shows c.query_table.new.link in
+    λ R h q b. answer_is t q c.args.plan.now link now R (string_bytes c.in-Ok-Text.text) h b (subst (WhereText (IsAnswerOf t q link now)) c.in-Ok-Text.field-0-is (c.in-Ok-Text.ensures.text q b))
 
 -- a query has this plan, and of its table no tablet is left
 pub returns-in-Ok-Left-clause-memory : goal.returns-in-Ok-Left-clause-memory

@@ -6,8 +6,8 @@ use Rattle.dr_formats.specs.File.{footer_length}
 use Rattle.dr_formats.specs.Opening.{end_ranges, footer_ranges}
 use Rattle.dr_chunk.proofs.AskLemmas.{asks_then}
 use Rattle.dr_chunk.proofs.HeaderLemmas.{tells_same}
-use Rattle.dr_file.specs.Asking.{is_request_for}
-use Rattle.dr_file.proofs.AskLemmas.{asks_one, asks_one_at_most, asks_with_more, footer_is_asked}
+use Rattle.dr_file.specs.Asking.{is_for_path, is_request_for}
+use Rattle.dr_file.proofs.AskLemmas.{asks_one, asks_one_at_most, asks_with_more, footer_is_asked, range_is_there}
 use Rattle.dr_file.proofs.FrameLemmas.{part_told, not_bad, footer_within, range_had, failed_only}
 use Rattle.dr_file.proofs.footer.read_footer.Goals as goal
 
@@ -56,3 +56,16 @@ returns-in_err-read_at-clause-steady g c = λ bytes serves h.
     let x = failed_only c.in_err-read_at.field-0.0 (cc (p.1, p.2, h)) in
     c.read_at.ensures.steady (c.read_frame.ensures.stays_steady serves.0)
     (range_had _ path bytes _ _ t (omega (arith, f.1, f.2, footer_within bytes f.0, c.deref_mut.ensures.len, c.in_ok-bytes.ensures.len))) (c.in_err-read_at.was ∙ ap (λ e. Err e) x)
+
+pub returns-in_err-read_at-clause-paths : goal.returns-in_err-read_at-clause-paths
+returns-in_err-read_at-clause-paths g c =
+    let path = c.args.path.now in
+    let test = is_for_path path in
+    asks_then test _ _ _ c.in_ok-frame.ensures.paths
+    (asks_one_at_most test _ _ _ c.read_at.result c.in_err-read_at.field-0.0 (range_is_there path 0 0) c.in_err-read_at.was c.read_at.ensures.asked c.read_at.ensures.not_asked)
+
+pub returns-clause-paths : goal.returns-clause-paths
+returns-clause-paths g c =
+    let path = c.args.path.now in
+    let test = is_for_path path in
+    asks_then test _ _ _ c.in_ok-frame.ensures.paths (asks_one test _ _ _ (range_is_there path 0 0) (c.in_ok-read_at.ensures.asked (λ h. cc)))

@@ -11,7 +11,7 @@ use Rattle.dr_input.specs.Stops.{NextStops}
 use Rattle.dr_input.specs.Records.{fields_of, most_of, number_of, left_of}
 use Rattle.dr_load.specs.Faults.{refusal_of}
 use Rattle.dr_load.specs.Filled.{RefusesWithin}
-use Rattle.dr_load.proofs.FillLemmas.{fills_none, fills_more, fill_refuses, fill_accepts, reader_stops, reader_takes, err_is, err_equal, record_fits, some_of}
+use Rattle.dr_load.proofs.FillLemmas.{fills_none, fills_more, fill_refuses, fill_accepts, fill_fails, reader_stops, reader_takes, err_is, err_equal, record_fits, some_of}
 use Rattle.dr_load.proofs.filling.fill_tablet.Goals as goal
 
 pub lines-init : goal.lines-init
@@ -82,4 +82,17 @@ returns-in_err-node-clause-accepts g c = λ e.
     let stops : NextStops fs most (number_of c.lines.records) b before now c.in_err-node.field-0.0 =
     reader_stops (fields_of c.lines.records) fs (most_of c.lines.records) most (number_of c.lines.records) b before now c.in_err-node.field-0.0 c.lines.invariant.same_fields c.lines.invariant.same_most (c.in_err-node.ensures.stops c.lines.invariant.going) in
     fill_accepts fs most (number_of c.args.records.now) c.lines.count (number_of c.lines.records) a b (striped c.lines.striper) before now c.in_err-node.field-0.0 c.lines.invariant.fills c.lines.invariant.number_is stops
+    (err_equal _ _ _ c.from_residual-in_err-node.ensures.1 e)
+
+pub returns-in_err-node-clause-fails : goal.returns-in_err-node-clause-fails
+returns-in_err-node-clause-fails g c = λ e.
+    let fs = fields_of c.args.records.now in
+    let most = most_of c.args.records.now in
+    let a = left_of c.args.records.now (g.S.Source.shows c.args.source.now).left in
+    let b = left_of c.lines.records (g.S.Source.shows c.lines.source).left in
+    let before = g.S.Source.shows c.lines.source in
+    let now = g.S.Source.shows c.next.new.source in
+    let stops : NextStops fs most (number_of c.lines.records) b before now c.in_err-node.field-0.0 =
+    reader_stops (fields_of c.lines.records) fs (most_of c.lines.records) most (number_of c.lines.records) b before now c.in_err-node.field-0.0 c.lines.invariant.same_fields c.lines.invariant.same_most (c.in_err-node.ensures.stops c.lines.invariant.going) in
+    fill_fails fs most (number_of c.args.records.now) c.args.rows c.lines.count (number_of c.lines.records) a b (striped c.lines.striper) before now c.in_err-node.field-0.0 c.lines.invariant.fills (omega arith) stops
     (err_equal _ _ _ c.from_residual-in_err-node.ensures.1 e)

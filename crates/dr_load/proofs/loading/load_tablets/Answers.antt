@@ -9,10 +9,11 @@ use Rattle.dr_input.specs.Taken.{AcceptsRead}
 use Rattle.dr_input.specs.Records.{left_of}
 use Rattle.dr_load.specs.Faults.{refusal_of}
 use Rattle.dr_load.specs.Plans.{plan_view}
-use Rattle.dr_load.specs.Filled.{HasColumnsOf, RefusesWithin}
+use Rattle.dr_load.specs.Filled.{HasColumnsOf, RefusesWithin, FailsWithin}
 use Rattle.dr_load.specs.Loads.{HasLoaded}
 use Rattle.dr_load.proofs.FillLemmas.{err_is, fills_same}
 use Rattle.dr_load.proofs.LoadLemmas.{stands_unbegun, of_reader, accepts_loading, have_columns, columns_fit, loaded_none, loaded_more, few_tablets, refused_line, stands_reading, stands_putting, last_accepted, last_table, last_records, last_counted, last_put, last_stands, last_end}
+use Rattle.dr_load.proofs.GivenLemmas.{fails_full}
 use Rattle.dr_load.proofs.loading.load_tablets.Goals as goal
 
 pub returns-in-Err-clause-refused : goal.returns-in-Err-clause-refused
@@ -310,3 +311,11 @@ returns-in-Err-clause-accepts g c = λ e.
 pub returns-in_err-records-clause-stands : goal.returns-in_err-records-clause-stands
 returns-in_err-records-clause-stands g c =
     err_is _ _ _ c.from_residual-in_err-records.ensures.1 (stands_unbegun (plan_view c.args.plan.now) (g.S.Source.shows c.args.source.now).left (g.K.Link.shows c.args.keeper.now))
+
+pub returns-in-Err-clause-given : goal.returns-in-Err-clause-given
+returns-in-Err-clause-given g c = λ e.
+    let p = plan_view c.args.plan.now in
+    let fails = of_reader (λ (fs : Fields) (most number : ℕ). FailsWithin fs most number c.args.plan.now.rows (left_of c.tablets.records (g.S.Source.shows c.tablets.source).left) (g.S.Source.shows c.fill_tablet.new.source).left) _ _ _ _ _ _ c.tablets.invariant.fields_are c.tablets.invariant.most_is c.tablets.invariant.number_is
+    (c.in-Err.ensures.fails (cc)) in
+    fails_full p c.tablets.loaded.tablets c.tablets.loaded.records (g.S.Source.shows c.args.source.now).left (left_of c.tablets.records (g.S.Source.shows c.tablets.source).left) (g.S.Source.shows c.fill_tablet.new.source).left (g.K.Link.shows c.args.keeper.now) (g.K.Link.shows c.tablets.keeper)
+    c.args.plan.now.has_rows c.tablets.invariant.loaded fails

@@ -18,14 +18,14 @@ gathered_text-requires-clause-each g c κs within =
     let t = table_view c.args.table.now in
     let h = c.requires.planned in
     let is : IsPlanOf t.schema h.1 c.args.plan.now = (h.0, h.2, h.3) in
-    given_as_many t h.1 (g.L.Link.shows c.args.link.now).held c.in_ok-left.field-0 c.in-Given.partials c.in-Given.is (c.in_ok-left.ensures.given h.1 is)
+    given_as_many t h.1 (g.L.Link.shows c.args.link.now) (g.L.Link.shows c.scan_table.new.link) c.in_ok-left.field-0 c.in-Given.partials c.in-Given.is (c.in_ok-left.ensures.given h.1 is)
 
 pub gathered_text-requires-clause-together : goal.gathered_text-requires-clause-together
 gathered_text-requires-clause-together g c κs within =
     let t = table_view c.args.table.now in
     let h = c.requires.planned in
     let is : IsPlanOf t.schema h.1 c.args.plan.now = (h.0, h.2, h.3) in
-    given_together t h.1 (plan_view c.args.plan.now) (g.L.Link.shows c.args.link.now).held c.in_ok-left.field-0 c.in-Given.partials c.in-Given.is c.args.table.now.few_tablets
+    given_together t h.1 (plan_view c.args.plan.now) (g.L.Link.shows c.args.link.now) (g.L.Link.shows c.scan_table.new.link) c.in_ok-left.field-0 c.in-Given.partials c.in-Given.is c.args.table.now.few_tablets
     (c.in_ok-left.ensures.given h.1 is) c.in_ok-left.ensures.of_plan (c.in_ok-left.ensures.partial h.1 is) c.in_ok-left.ensures.bounded
 
 pub returns-in-Left-clause-left : goal.returns-in-Left-clause-left
@@ -36,7 +36,7 @@ returns-in-Left-clause-left g c = λ q is.
 pub returns-in_ok-text-in-Given-clause-text : goal.returns-in_ok-text-in-Given-clause-text
 returns-in_ok-text-in-Given-clause-text g c = λ q is.
     let t = table_view c.args.table.now in
-    given_answer t q (g.L.Link.shows c.args.link.now).held c.in_ok-left.field-0 c.in-Given.partials (string_bytes c.in_ok-text-in-Given.text) c.in-Given.is (c.in_ok-left.ensures.given q is)
+    given_answer t q (g.L.Link.shows c.args.link.now) (g.L.Link.shows c.scan_table.new.link) c.in_ok-left.field-0 c.in-Given.partials (string_bytes c.in_ok-text-in-Given.text) c.in-Given.is (c.in_ok-left.ensures.given q is)
     (λ Rs all. IfOk-at_ok (λ s. string_bytes s ≡ answer_text t.schema q (joined Rs)) c.in_ok-text-in-Given.was (c.gathered_text.ensures t.schema q Rs is all))
 
 pub returns-in_err-left-clause-asks : goal.returns-in_err-left-clause-asks

@@ -10,14 +10,12 @@ use Rattle.dr_partials.specs.PartialBounds.{PartialCanBeOf}
 use Rattle.dr_partials.specs.Rewriting.{leaf_query}
 use Rattle.dr_plan.specs.Planned.{plan_leaves, plan_view}
 use Rattle.dr_group.specs.Partials.{IsPartialOf, partial_view}
-use Rattle.dr_reading.specs.Causes.{RisesApart}
 use Rattle.dr_serving.specs.Truth.{most_values}
 use Rattle.dr_reading.specs.Scan.{tablets_from, tablets_of}
-use Rattle.dr_reading.specs.Left.{LeavesJust, no_tablets, causes_met}
 use Rattle.dr_tablets.specs.Views.{all_left_view}
 use Rattle.dr_tablets.proofs.TableLemmas.{no_items}
 use Rattle.dr_tablets.proofs.AskedTablets.{asks_none, tablet_step}
-use Rattle.dr_scan.proofs.TableLemmas.{step_left, step_rises, step_each, step_stands, none_stand, none_each, all_stand}
+use Rattle.dr_scan.proofs.TableLemmas.{HasScanned, has_none, step_scanned, step_each, none_each, all_stand, all_left}
 use Rattle.dr_scan.proofs.pieces.scan_table.Goals as goal
 
 pub tablets-init : goal.tablets-init
@@ -26,12 +24,10 @@ tablets-init g c =
     let link = g.L.Link.shows c.args.link.now in
     let ps = c.new-pieces.result.items in
     let none = c.new-pieces.ensures.items in (
-      λ q is. subst (λ ls. LeavesJust s (query_leaves s.fields q) link 0 [] (all_left_view ls)) (sym c.new-left.ensures.items) (no_tablets 0),
-      λ q is e. none_stand s q link.held ps none,
+      λ q is. subst (λ ls. HasScanned s q link link [] (all_left_view ls) ps) (sym c.new-left.ensures.items) (has_none s q link ps none),
       λ q is e. none_each (λ p. is_partial s.fields (leaf_query q) (partial_view p) ≡ true) ps none,
       λ e. none_each (λ p. PartialCanBeOf most_values (partial_view p)) ps none,
       λ e. none_each (IsPartialOf (plan_view c.args.plan.now)) ps none,
-      subst (λ ls. RisesApart link.faults (causes_met (all_left_view ls)) link.faults) (sym c.new-left.ensures.items) (omega arith),
       refl,
       omega arith,
       λ is. is,
@@ -52,20 +48,18 @@ tablets-preserved g c =
     let before = c.tablets.pieces.items in
     let after = c.keep.new.pieces.items in
     let more = c.in_ok-keep.ensures.left in (
-      λ q is. step_left s q link now ds k n scanned (all_left_view old) (all_left_view new) c.tablets.invariant.6 c.tablets.invariant.8 (c.tablets.invariant.0 q is) (c.in_ok-scanned.ensures.read q is) more,
-      λ q is e. step_stands s q link.held now ds k n scanned (all_left_view old) (all_left_view new) before after c.tablets.invariant.6 (λ w. c.tablets.invariant.1 q is (no_items old w)) (c.in_ok-scanned.ensures.read q is) more
-          (ap all_left_view e) (c.in_ok-keep.ensures.taken e),
-      λ q is e. step_each (λ p. is_partial s.fields (leaf_query q) (partial_view p) ≡ true) n scanned (all_left_view old) (all_left_view new) before after (λ w. c.tablets.invariant.2 q is (no_items old w))
+      λ q is. step_scanned s q link now (g.L.Link.shows c.scan_tablet.new.link) ds k n (all_left_view old) (all_left_view new) before after scanned c.tablets.invariant.4 c.tablets.invariant.6 (c.tablets.invariant.0 q is) (c.in_ok-scanned.ensures.read q is) more
+          (λ none. c.in_ok-keep.ensures.taken (no_items new none)),
+      λ q is e. step_each (λ p. is_partial s.fields (leaf_query q) (partial_view p) ≡ true) n scanned (all_left_view old) (all_left_view new) before after (λ w. c.tablets.invariant.1 q is (no_items old w))
           (c.in_ok-scanned.ensures.partial q is) more (ap all_left_view e) (c.in_ok-keep.ensures.taken e),
-      λ e. step_each (λ p. PartialCanBeOf most_values (partial_view p)) n scanned (all_left_view old) (all_left_view new) before after (λ w. c.tablets.invariant.3 (no_items old w)) c.in_ok-scanned.ensures.bounded more (ap all_left_view e)
+      λ e. step_each (λ p. PartialCanBeOf most_values (partial_view p)) n scanned (all_left_view old) (all_left_view new) before after (λ w. c.tablets.invariant.2 (no_items old w)) c.in_ok-scanned.ensures.bounded more (ap all_left_view e)
           (c.in_ok-keep.ensures.taken e),
-      λ e. step_each (IsPartialOf (plan_view c.args.plan.now)) n scanned (all_left_view old) (all_left_view new) before after (λ w. c.tablets.invariant.4 (no_items old w)) c.in_ok-scanned.ensures.of_plan more (ap all_left_view e)
+      λ e. step_each (IsPartialOf (plan_view c.args.plan.now)) n scanned (all_left_view old) (all_left_view new) before after (λ w. c.tablets.invariant.3 (no_items old w)) c.in_ok-scanned.ensures.of_plan more (ap all_left_view e)
           (c.in_ok-keep.ensures.taken e),
-      step_rises link.faults now.faults (g.L.Link.shows c.scan_tablet.new.link).faults n scanned (all_left_view old) (all_left_view new) c.tablets.invariant.5 c.in_ok-scanned.ensures.rises more,
-      c.scan_tablet.ensures.same ∙ c.tablets.invariant.6,
-      omega (arith, c.tablets.invariant.7, c.scan_tablet.ensures.never_falls),
-      λ is. c.scan_tablet.ensures.stays_steady (c.tablets.invariant.8 is),
-      tablet_step (plan_leaves c.args.plan.now) link now (g.L.Link.shows c.scan_tablet.new.link) ds k c.args.table.now.tablets n c.tablets-test.true c.tablets.invariant.6 c.tablets.invariant.9 c.scan_tablet.ensures.asks,
+      c.scan_tablet.ensures.same ∙ c.tablets.invariant.4,
+      omega (arith, c.tablets.invariant.5, c.scan_tablet.ensures.never_falls),
+      λ is. c.scan_tablet.ensures.stays_steady (c.tablets.invariant.6 is),
+      tablet_step (plan_leaves c.args.plan.now) link now (g.L.Link.shows c.scan_tablet.new.link) ds k c.args.table.now.tablets n c.tablets-test.true c.tablets.invariant.4 c.tablets.invariant.7 c.scan_tablet.ensures.asks,
     )
 
 pub returns-in_err-scanned-clause-asks : goal.returns-in_err-scanned-clause-asks
@@ -73,14 +67,14 @@ returns-in_err-scanned-clause-asks g c =
     let F = plan_leaves c.args.plan.now in
     let link = g.L.Link.shows c.args.link.now in
     tablet_step F link (g.L.Link.shows c.tablets.link) (g.L.Link.shows c.scan_tablet.new.link) (table_view c.args.table.now).leaves c.args.table.now.copies c.args.table.now.tablets c.tablets.tablet c.tablets-test.true
-    c.tablets.invariant.6 c.tablets.invariant.9 c.scan_tablet.ensures.asks
+    c.tablets.invariant.4 c.tablets.invariant.7 c.scan_tablet.ensures.asks
 
 pub returns-in_err-keep-clause-asks : goal.returns-in_err-keep-clause-asks
 returns-in_err-keep-clause-asks g c =
     let F = plan_leaves c.args.plan.now in
     let link = g.L.Link.shows c.args.link.now in
     tablet_step F link (g.L.Link.shows c.tablets.link) (g.L.Link.shows c.scan_tablet.new.link) (table_view c.args.table.now).leaves c.args.table.now.copies c.args.table.now.tablets c.tablets.tablet c.tablets-test.true
-    c.tablets.invariant.6 c.tablets.invariant.9 c.scan_tablet.ensures.asks
+    c.tablets.invariant.4 c.tablets.invariant.7 c.scan_tablet.ensures.asks
 
 pub returns-then-is_empty-clause-given : goal.returns-then-is_empty-clause-given
 returns-then-is_empty-clause-given g c = λ q is.
@@ -88,25 +82,26 @@ returns-then-is_empty-clause-given g c = λ q is.
     let zero : vec_len left ≡ 0 = eqb-true (vec_len left) 0 (sym c.is_empty.ensures ∙ c.if-is_empty.true) in
     let none : left.items ≡ [] = nil_from_length left.items (omega (arith, zero, left.ok.0)) in
     let all : c.tablets.tablet ≡ c.args.table.now.tablets = omega (arith, c.tablets-test.false, c.tablets.auto.tablet-end) in
-    all_stand (schema_view c.args.table.now.schema) q (g.L.Link.shows c.args.link.now).held (table_view c.args.table.now) c.tablets.tablet c.tablets.pieces.items all (c.tablets.invariant.1 q is none)
+    let s = schema_view c.args.table.now.schema in
+    let link = g.L.Link.shows c.args.link.now in
+    let now = g.L.Link.shows c.tablets.link in
+    let ts = tablets_from (table_view c.args.table.now).leaves c.args.table.now.copies 0 c.tablets.tablet in
+    all_stand s q link now (table_view c.args.table.now) c.tablets.tablet c.tablets.pieces.items all
+    (subst (λ ls. HasScanned s q link now ts (all_left_view ls) c.tablets.pieces.items) none (c.tablets.invariant.0 q is))
 
 pub returns-then-is_empty-clause-partial : goal.returns-then-is_empty-clause-partial
 returns-then-is_empty-clause-partial g c = λ q is.
     let left = c.tablets.left in
     let zero : vec_len left ≡ 0 = eqb-true (vec_len left) 0 (sym c.is_empty.ensures ∙ c.if-is_empty.true) in
-    c.tablets.invariant.2 q is (nil_from_length left.items (omega (arith, zero, left.ok.0)))
+    c.tablets.invariant.1 q is (nil_from_length left.items (omega (arith, zero, left.ok.0)))
 
 pub returns-else-is_empty-clause-left : goal.returns-else-is_empty-clause-left
 returns-else-is_empty-clause-left g c = λ q is.
-    let s = schema_view c.args.table.now.schema in
-    let ds = (table_view c.args.table.now).leaves in
-    let link = g.L.Link.shows c.args.link.now in
     let left = c.tablets.left in
     let some : (vec_len left == 0) ≡ false = sym c.is_empty.ensures ∙ c.if-is_empty.false in
-    let all : c.tablets.tablet ≡ c.args.table.now.tablets = omega (arith, c.tablets-test.false, c.tablets.auto.tablet-end) in (
-      λ e.
-          let zero : vec_len left ≡ 0 = omega (arith, ap length (no_items left.items e), left.ok.0) in
-          true≢false (sym (ap (λ (n : ℕ). n == 0) zero) ∙ some),
-      subst (λ (m : ℕ). LeavesJust s (query_leaves s.fields q) link 0 (tablets_from ds c.args.table.now.copies 0 m) (all_left_view left.items)) all (c.tablets.invariant.0 q is),
-      c.tablets.invariant.5,
-    )
+    let all : c.tablets.tablet ≡ c.args.table.now.tablets = omega (arith, c.tablets-test.false, c.tablets.auto.tablet-end) in
+    all_left (table_view c.args.table.now) q (g.L.Link.shows c.args.link.now) (g.L.Link.shows c.tablets.link) c.tablets.tablet (all_left_view left.items) c.tablets.pieces.items all
+    (λ e.
+    let zero : vec_len left ≡ 0 = omega (arith, ap length (no_items left.items e), left.ok.0) in
+    true≢false (sym (ap (λ (n : ℕ). n == 0) zero) ∙ some))
+    (c.tablets.invariant.0 q is)

@@ -60,6 +60,11 @@ returns-in-Ok-clause-truth g c = λ q is.
     (λ bytes tells. stands_for_bytes s q p ls ns ms x bytes is l (c.in_ok-records.ensures.records bytes tells) c.in-Ok.ensures.partial)
     (λ lacks. not_absent (c.in_ok-records.ensures.absent lacks (λ e. cc)))
 
+pub returns-in_err-records-clause-asked : goal.returns-in_err-records-clause-asked
+returns-in_err-records-clause-asked g c = λ bytes tells.
+    subst (λ (ls : List Path). AsksOnly (is_request_for c.args.path.now (reader_ranges bytes (map path_view ls))) (g.L.Link.shows c.args.link.now).asked (g.L.Link.shows c.read_records.new.link).asked) c.deref.ensures.value
+    (c.read_records.ensures.asked bytes tells)
+
 pub returns-in-Ok-clause-asked : goal.returns-in-Ok-clause-asked
 returns-in-Ok-clause-asked g c = λ bytes tells.
     subst (λ (ls : List Path). AsksOnly (is_request_for c.args.path.now (reader_ranges bytes (map path_view ls))) (g.L.Link.shows c.args.link.now).asked (g.L.Link.shows c.read_records.new.link).asked) c.deref.ensures.value

@@ -3,7 +3,7 @@ use Rattle.std.specs.Prelude.{IsTrue}
 use Rattle.dr_nested.specs.SchemaView.{schema_view}
 use Rattle.dr_nested.specs.PathView.{path_view}
 use Rattle.dr_table.specs.Views.{table_view}
-use Rattle.dr_reading.specs.Causes.{RisesApart}
+use Rattle.dr_reading.specs.Causes.{LeadTo}
 use Rattle.dr_reading.specs.Scan.{copies_from}
 use Rattle.dr_reading.specs.Left.{AreTried, causes_of}
 use Rattle.dr_tablets.specs.Views.{all_tried_view}
@@ -14,7 +14,7 @@ use Rattle.dr_tablets.proofs.reading.read_tablet.Given as goal
 abbrev pub invariant-copies : goal.invariant-copies
 invariant-copies g l =
     AreTried (schema_view l.table.schema) (map path_view l.fields) (g.L.Link.shows l.initial.link) (copies_from (table_view l.table).leaves l.tablet 0 l.copy) (all_tried_view l.tried.items)
-    × RisesApart (g.L.Link.shows l.initial.link).faults (causes_of (all_tried_view l.tried.items)) (g.L.Link.shows l.link).faults
+    × LeadTo (g.L.Link.shows l.initial.link).faults (causes_of (all_tried_view l.tried.items)) (g.L.Link.shows l.link).faults
     × ((g.L.Link.shows l.link).held ≡ (g.L.Link.shows l.initial.link).held)
     × (IsTrue (g.L.Link.shows l.initial.link).is_steady → IsTrue (g.L.Link.shows l.link).is_steady)
     × ((g.L.Link.shows l.initial.link).faults ≤ (g.L.Link.shows l.link).faults)

@@ -10,6 +10,7 @@ use Rattle.dr_chunk.specs.Ranges.{is_read_inside}
 use Rattle.dr_chunk.proofs.AskLemmas.{asks_then}
 use Rattle.dr_tablets.proofs.FewLemmas.{one_more_short, one_more_counted, taken_counted}
 use Rattle.dr_tablets.proofs.AskedLemmas.{leaf_asked}
+use Rattle.dr_file.specs.Asking.{is_for_path}
 use Rattle.dr_file.specs.OpenedFiles.{path_of}
 use Rattle.dr_tablets.specs.FileRecords.{IsColumnsFault}
 use Rattle.dr_tablets.proofs.ColumnsLemmas.{leaf_there, one_more, all_columns, one_fault, err_is, no_read_fault}
@@ -43,6 +44,7 @@ leaves-preserved g c = (
       asks_then (is_read_inside (path_of c.args.opened.now) (flat_map (leaf_ranges f) F)) _ _ _ (c.leaves.invariant.5 bytes F f o n e)
       (leaf_asked (path_of c.args.opened.now) f F c.leaves.index l.0 _ _ l.1 (c.column.ensures.asked bytes F l.0 f o l.1 e)),
   one_more_counted _ _ (column_view c.in_ok-column.column) _ _ _ c.leaves.invariant.6 (c.saturating_add-triplets.ensures ∙ ap (counted c.leaves.triplets) c.len.ensures) (ap (map column_view) c.in-Ok.ensures.items ∙ map-append column_view c.leaves.columns.items (c.in_ok-column.column ∷ [])),
+  asks_then (is_for_path (path_of c.args.opened.now)) _ _ _ c.leaves.invariant.7 c.column.ensures.paths,
 )
 
 pub returns-clause-columns : goal.returns-clause-columns
@@ -62,3 +64,9 @@ returns-in-Err-clause-asked g c = λ bytes F f o n e.
 
 pub returns-clause-counted : goal.returns-clause-counted
 returns-clause-counted g c = taken_counted _ _ _ _ c.add.ensures c.leaves.invariant.6
+
+pub returns-in_err-column-clause-paths : goal.returns-in_err-column-clause-paths
+returns-in_err-column-clause-paths g c = asks_then (is_for_path (path_of c.args.opened.now)) _ _ _ c.leaves.invariant.7 c.column.ensures.paths
+
+pub returns-in-Err-clause-paths : goal.returns-in-Err-clause-paths
+returns-in-Err-clause-paths g c = asks_then (is_for_path (path_of c.args.opened.now)) _ _ _ c.leaves.invariant.7 c.column.ensures.paths

@@ -7,6 +7,7 @@ use Rattle.dr_formats.specs.File.{Footer, footer_of}
 use Rattle.dr_formats.specs.Opening.{leaf_ranges}
 use Rattle.dr_outside.specs.Telling.{Tells, AsksOnly}
 use Rattle.dr_chunk.specs.Ranges.{is_read_inside}
+use Rattle.dr_file.specs.Asking.{is_for_path}
 use Rattle.dr_file.specs.OpenedFiles.{IsOpened, path_of}
 use Rattle.dr_tablets.specs.FileRecords.{AreColumnsOf, are_short, triplets_in}
 use Rattle.dr_tablets.specs.Counting.{counted}
@@ -22,3 +23,4 @@ invariant-leaves g l =
     × ((bytes : List ℕ) (F : List Leaf) (f : Footer) → IsOpened bytes F l.opened → length F ≡ l.leaves → footer_of bytes ≡ Some f
     → AsksOnly (is_read_inside (path_of l.opened) (flat_map (leaf_ranges f) F)) (g.L.Link.shows l.initial.link).asked (g.L.Link.shows l.link).asked)
     × (l.triplets ≡ counted 0 (triplets_in (columns_view l.columns.items)))
+    × AsksOnly (is_for_path (path_of l.opened)) (g.L.Link.shows l.initial.link).asked (g.L.Link.shows l.link).asked

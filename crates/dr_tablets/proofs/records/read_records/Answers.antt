@@ -9,7 +9,7 @@ use Rattle.dr_outside.specs.Telling.{TellsFile}
 use Rattle.dr_tablets.specs.FileRecords.{IsFaultOf, triplets_in}
 use Rattle.dr_nested.specs.Views.{fields_view}
 use Rattle.dr_tablets.proofs.FewLemmas.{few_assembled, counted_assembled, taken_counted}
-use Rattle.dr_tablets.proofs.AskedLemmas.{opening_asked, file_asked}
+use Rattle.dr_tablets.proofs.AskedLemmas.{opening_asked, file_asked, columns_there}
 use Rattle.dr_tablets.proofs.ColumnsLemmas.{err_is, no_read_fault, never_falls}
 use Rattle.dr_tablets.proofs.RecordsLemmas.{have_leaf_paths, columns_fault, records_given, projected_given, assembled_fault}
 use Rattle.dr_tablets.specs.Counting.{counted}
@@ -117,3 +117,12 @@ returns-clause-never_falls g c = omega (
   never_falls (g.L.Link.shows c.args.link.now).faults (g.L.Link.shows c.start.new.link).faults c.start.result c.start.ensures.counts c.start.ensures.calm,
   never_falls (g.L.Link.shows c.start.new.link).faults (g.L.Link.shows c.read_columns.new.link).faults c.read_columns.result c.read_columns.ensures.counts c.read_columns.ensures.calm,
 )
+
+pub returns-in_err-columns-clause-paths : goal.returns-in_err-columns-clause-paths
+returns-in_err-columns-clause-paths g c = columns_there c.args.path.now _ _ _ _ c.in_ok-opened.ensures.path c.start.ensures.paths c.read_columns.ensures.paths
+
+pub returns-in-Ok-clause-paths : goal.returns-in-Ok-clause-paths
+returns-in-Ok-clause-paths g c = columns_there c.args.path.now _ _ _ _ c.in_ok-opened.ensures.path c.start.ensures.paths c.read_columns.ensures.paths
+
+pub returns-clause-paths : goal.returns-clause-paths
+returns-clause-paths g c = columns_there c.args.path.now _ _ _ _ c.in_ok-opened.ensures.path c.start.ensures.paths c.read_columns.ensures.paths

@@ -21,7 +21,7 @@ use Rattle.dr_top.proofs.commands.command_answer.Goals as goal
 
 pub returns-in-Load-clause-text : goal.returns-in-Load-clause-text
 returns-in-Load-clause-text g c =
-    subst (λ (w : CommandWords). IfOk c.answer.result (λ t. Finishes (meaning_of w) (g.K.Link.shows c.args.keeper.now) (g.K.Link.shows c.answer.new.keeper) (g.S.Source.shows c.args.source.now) (map g.L.Link.shows c.args.links.now) (string_bytes t))) (sym (ap command_view c.in-Load.is))
+    subst (λ (w : CommandWords). IfOk c.answer.result (λ t. Finishes (meaning_of w) (g.K.Link.shows c.args.keeper.now) (g.K.Link.shows c.answer.new.keeper) (g.S.Source.shows c.args.source.now) (map g.L.Link.shows c.args.links.now) (map g.L.Link.shows c.args.links.now) (string_bytes t))) (sym (ap command_view c.in-Load.is))
     (c.answer.ensures.text (map g.L.Link.shows c.args.links.now))
 
 pub returns-in-Load-clause-stops : goal.returns-in-Load-clause-stops
@@ -31,8 +31,8 @@ returns-in-Load-clause-stops g c =
 
 pub returns-in-Query-clause-text : goal.returns-in-Query-clause-text
 returns-in-Query-clause-text g c =
-    subst (λ (w : CommandWords). IfOk c.answer-in-Query.result (λ t. Finishes (meaning_of w) (g.K.Link.shows c.args.keeper.now) (g.K.Link.shows c.answer-in-Query.new.keeper) (g.S.Source.shows c.args.source.now) (map g.L.Link.shows c.args.links.now) (string_bytes t))) (sym (ap command_view c.in-Query.is))
-    (first_answer (query_meaning (query_view c.in-Query.query)) (g.K.Link.shows c.args.keeper.now) (g.K.Link.shows c.answer-in-Query.new.keeper) (g.S.Source.shows c.args.source.now) g.L.Link.shows c.args.links.now c.index-links-0.result c.answer-in-Query.result
+    subst (λ (w : CommandWords). IfOk c.answer-in-Query.result (λ t. Finishes (meaning_of w) (g.K.Link.shows c.args.keeper.now) (g.K.Link.shows c.answer-in-Query.new.keeper) (g.S.Source.shows c.args.source.now) (map g.L.Link.shows c.args.links.now) (map g.L.Link.shows (slice_set c.args.links.now 0 c.answer-in-Query.new.link)) (string_bytes t))) (sym (ap command_view c.in-Query.is))
+    (first_answer (query_meaning (query_view c.in-Query.query)) (g.K.Link.shows c.args.keeper.now) (g.K.Link.shows c.answer-in-Query.new.keeper) (g.S.Source.shows c.args.source.now) g.L.Link.shows c.args.links.now c.index-links-0.result c.answer-in-Query.new.link c.answer-in-Query.result
     (query_puts (query_view c.in-Query.query)) c.requires.link c.answer-in-Query.ensures.kept tt c.answer-in-Query.ensures.text)
 
 pub returns-in-Query-clause-stops : goal.returns-in-Query-clause-stops
@@ -44,8 +44,8 @@ returns-in-Query-clause-stops g c =
 
 pub returns-in-Dump-clause-text : goal.returns-in-Dump-clause-text
 returns-in-Dump-clause-text g c =
-    subst (λ (w : CommandWords). IfOk c.answer-in-Dump.result (λ t. Finishes (meaning_of w) (g.K.Link.shows c.args.keeper.now) (g.K.Link.shows c.answer-in-Dump.new.keeper) (g.S.Source.shows c.args.source.now) (map g.L.Link.shows c.args.links.now) (string_bytes t))) (sym (ap command_view c.in-Dump.is))
-    (first_answer (dump_meaning (dump_view c.in-Dump.dump)) (g.K.Link.shows c.args.keeper.now) (g.K.Link.shows c.answer-in-Dump.new.keeper) (g.S.Source.shows c.args.source.now) g.L.Link.shows c.args.links.now c.index-links-0-in-Dump.result c.answer-in-Dump.result
+    subst (λ (w : CommandWords). IfOk c.answer-in-Dump.result (λ t. Finishes (meaning_of w) (g.K.Link.shows c.args.keeper.now) (g.K.Link.shows c.answer-in-Dump.new.keeper) (g.S.Source.shows c.args.source.now) (map g.L.Link.shows c.args.links.now) (map g.L.Link.shows (slice_set c.args.links.now 0 c.answer-in-Dump.new.link)) (string_bytes t))) (sym (ap command_view c.in-Dump.is))
+    (first_answer (dump_meaning (dump_view c.in-Dump.dump)) (g.K.Link.shows c.args.keeper.now) (g.K.Link.shows c.answer-in-Dump.new.keeper) (g.S.Source.shows c.args.source.now) g.L.Link.shows c.args.links.now c.index-links-0-in-Dump.result c.answer-in-Dump.new.link c.answer-in-Dump.result
     (dump_puts (dump_view c.in-Dump.dump)) c.requires.link c.answer-in-Dump.ensures.kept tt c.answer-in-Dump.ensures.text)
 
 pub returns-in-Dump-clause-stops : goal.returns-in-Dump-clause-stops
@@ -57,7 +57,7 @@ returns-in-Dump-clause-stops g c =
 
 pub returns-in-Fsm-clause-text : goal.returns-in-Fsm-clause-text
 returns-in-Fsm-clause-text g c =
-    subst (λ (w : CommandWords). IfOk c.answer-in-Fsm.result (λ t. Finishes (meaning_of w) (g.K.Link.shows c.args.keeper.now) (g.K.Link.shows c.answer-in-Fsm.new.keeper) (g.S.Source.shows c.args.source.now) (map g.L.Link.shows c.args.links.now) (string_bytes t))) (sym (ap command_view c.in-Fsm.is))
+    subst (λ (w : CommandWords). IfOk c.answer-in-Fsm.result (λ t. Finishes (meaning_of w) (g.K.Link.shows c.args.keeper.now) (g.K.Link.shows c.answer-in-Fsm.new.keeper) (g.S.Source.shows c.args.source.now) (map g.L.Link.shows c.args.links.now) (map g.L.Link.shows c.args.links.now) (string_bytes t))) (sym (ap command_view c.in-Fsm.is))
     (plain_answer (fsm_meaning (fsm_view c.in-Fsm.fsm)) (g.K.Link.shows c.args.keeper.now) (g.K.Link.shows c.answer-in-Fsm.new.keeper) (g.S.Source.shows c.args.source.now) (map g.L.Link.shows c.args.links.now) c.answer-in-Fsm.result c.answer-in-Fsm.ensures.kept
     (c.answer-in-Fsm.ensures.text (g.S.Source.shows c.args.source.now)) (on_ok _ _ tt))
 
@@ -70,7 +70,7 @@ returns-in-Fsm-clause-stops g c =
 
 pub returns-in-Explain-clause-text : goal.returns-in-Explain-clause-text
 returns-in-Explain-clause-text g c =
-    subst (λ (w : CommandWords). IfOk c.answer-in-Explain.result (λ t. Finishes (meaning_of w) (g.K.Link.shows c.args.keeper.now) (g.K.Link.shows c.answer-in-Explain.new.keeper) (g.S.Source.shows c.args.source.now) (map g.L.Link.shows c.args.links.now) (string_bytes t))) (sym (ap command_view c.in-Explain.is))
+    subst (λ (w : CommandWords). IfOk c.answer-in-Explain.result (λ t. Finishes (meaning_of w) (g.K.Link.shows c.args.keeper.now) (g.K.Link.shows c.answer-in-Explain.new.keeper) (g.S.Source.shows c.args.source.now) (map g.L.Link.shows c.args.links.now) (map g.L.Link.shows c.args.links.now) (string_bytes t))) (sym (ap command_view c.in-Explain.is))
     (plain_answer (explain_meaning (explain_view c.in-Explain.explain)) (g.K.Link.shows c.args.keeper.now) (g.K.Link.shows c.answer-in-Explain.new.keeper) (g.S.Source.shows c.args.source.now) (map g.L.Link.shows c.args.links.now) c.answer-in-Explain.result c.answer-in-Explain.ensures.kept
     (c.answer-in-Explain.ensures.text (g.S.Source.shows c.args.source.now)) (on_ok _ _ tt))
 
@@ -119,13 +119,13 @@ returns-in-ShowSchema-clause-reads g c =
 
 pub returns-in-Ask-clause-text : goal.returns-in-Ask-clause-text
 returns-in-Ask-clause-text g c =
-    subst (λ (w : CommandWords). IfOk c.answer-in-Ask.result (λ t. Finishes (meaning_of w) (g.K.Link.shows c.args.keeper.now) (g.K.Link.shows c.answer-in-Ask.new.keeper) (g.S.Source.shows c.args.source.now) (map g.L.Link.shows c.args.links.now) (string_bytes t))) (sym (ap command_view c.in-Ask.is))
+    subst (λ (w : CommandWords). IfOk c.answer-in-Ask.result (λ t. Finishes (meaning_of w) (g.K.Link.shows c.args.keeper.now) (g.K.Link.shows c.answer-in-Ask.new.keeper) (g.S.Source.shows c.args.source.now) (map g.L.Link.shows c.args.links.now) (map g.L.Link.shows c.args.links.now) (string_bytes t))) (sym (ap command_view c.in-Ask.is))
     (plain_answer (ask_meaning (ask_view c.in-Ask.ask)) (g.K.Link.shows c.args.keeper.now) (g.K.Link.shows c.answer-in-Ask.new.keeper) (g.S.Source.shows c.args.source.now) (map g.L.Link.shows c.args.links.now) c.answer-in-Ask.result c.answer-in-Ask.ensures.kept
     c.answer-in-Ask.ensures.text c.answer-in-Ask.ensures.opened)
 
 pub returns-in-Stripe-clause-text : goal.returns-in-Stripe-clause-text
 returns-in-Stripe-clause-text g c =
-    subst (λ (w : CommandWords). IfOk c.answer-in-Stripe.result (λ t. Finishes (meaning_of w) (g.K.Link.shows c.args.keeper.now) (g.K.Link.shows c.answer-in-Stripe.new.keeper) (g.S.Source.shows c.args.source.now) (map g.L.Link.shows c.args.links.now) (string_bytes t))) (sym (ap command_view c.in-Stripe.is))
+    subst (λ (w : CommandWords). IfOk c.answer-in-Stripe.result (λ t. Finishes (meaning_of w) (g.K.Link.shows c.args.keeper.now) (g.K.Link.shows c.answer-in-Stripe.new.keeper) (g.S.Source.shows c.args.source.now) (map g.L.Link.shows c.args.links.now) (map g.L.Link.shows c.args.links.now) (string_bytes t))) (sym (ap command_view c.in-Stripe.is))
     (plain_answer (stripe_meaning (stripe_view c.in-Stripe.stripe)) (g.K.Link.shows c.args.keeper.now) (g.K.Link.shows c.answer-in-Stripe.new.keeper) (g.S.Source.shows c.args.source.now) (map g.L.Link.shows c.args.links.now) c.answer-in-Stripe.result c.answer-in-Stripe.ensures.kept
     c.answer-in-Stripe.ensures.text c.answer-in-Stripe.ensures.opened)
 

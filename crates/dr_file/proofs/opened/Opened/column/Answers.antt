@@ -1,6 +1,7 @@
 use Rattle.std.proofs.Common.{refl}
 use Rattle.dr_formats.specs.Opening.{leaf_cause}
 use Rattle.dr_chunk.proofs.HeaderLemmas.{tells_same}
+use Rattle.dr_file.proofs.AskLemmas.{reads_are_there}
 use Rattle.dr_file.proofs.ColumnLemmas.{kept, column_good, column_bad, asks_kept, chunk_cause_told}
 use Rattle.dr_file.proofs.opened.Opened.column.Goals as goal
 
@@ -30,3 +31,9 @@ pub returns-in-Err-clause-asked : goal.returns-in-Err-clause-asked
 returns-in-Err-clause-asked g c = λ bytes F l f opened at is.
     let k = kept bytes F c.args.self.now c.args.index c.index.result.now l opened at c.index.ensures in
     asks_kept bytes c.args.self.now c.index.result.now l f _ _ _ _ k is c.deref.ensures c.in-Err.ensures.asked
+
+pub returns-in-Ok-clause-paths : goal.returns-in-Ok-clause-paths
+returns-in-Ok-clause-paths g c = reads_are_there _ _ _ _ _ c.deref.ensures c.in-Ok.ensures.asked
+
+pub returns-in-Err-clause-paths : goal.returns-in-Err-clause-paths
+returns-in-Err-clause-paths g c = reads_are_there _ _ _ _ _ c.deref.ensures c.in-Err.ensures.asked

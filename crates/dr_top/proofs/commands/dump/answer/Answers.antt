@@ -27,9 +27,9 @@ dump_table-requires g c = record {
 
 pub returns-in-Lines-clause-text : goal.returns-in-Lines-clause-text
 returns-in-Lines-clause-text g c = λ input links.
-    dump_text_ends (dump_view c.args.words.now) (g.K.Link.shows c.args.keeper.now) input (g.L.Link.shows c.args.link.now) links c.as_str.result.now (string_bytes c.in-Lines.text) (map string_bytes c.deref.result.now) (table_view c.in_ok-table.table) (map path_view c.deref-2.result.now)
+    dump_text_ends (dump_view c.args.words.now) (g.K.Link.shows c.args.keeper.now) input (g.L.Link.shows c.args.link.now) (g.L.Link.shows c.dump_table.new.link) links c.as_str.result.now (string_bytes c.in-Lines.text) (map string_bytes c.deref.result.now) (table_view c.in_ok-table.table) (map path_view c.deref-2.result.now)
     c.as_str.ensures.value (ap (map string_bytes) c.deref.ensures.value) c.in_ok-table.ensures.table (c.in_ok-fields.ensures.leaves ∙ ap (λ (ps : List Path). Ok (map path_view ps)) (sym c.deref-2.ensures.value))
-    (subst (WhereLines (AreLinesOf (table_view c.in_ok-table.table) (map path_view c.deref-2.result.now) (g.L.Link.shows c.args.link.now).held)) c.in-Lines.is c.in_ok-text.ensures.lines)
+    (subst (WhereLines (AreLinesOf (table_view c.in_ok-table.table) (map path_view c.deref-2.result.now) (g.L.Link.shows c.args.link.now) (g.L.Link.shows c.dump_table.new.link))) c.in-Lines.is c.in_ok-text.ensures.lines)
 
 pub returns-clause-stops : goal.returns-clause-stops
 returns-clause-stops g c = λ input links.

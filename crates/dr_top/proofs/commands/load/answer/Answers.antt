@@ -22,7 +22,7 @@ returns-in_err-loaded-clause-stops g c = λ links.
     c.as_str.ensures.value (ap (map string_bytes) c.deref.ensures.value) (ap (map string_bytes) c.deref-2.ensures.value) c.as_str-2.ensures.value c.in_ok-schema.ensures.schema c.in_ok-check_words.ensures.taken)
     c.in_ok-schema.ensures.kept c.in_ok-schema.ensures.calm (λ e. c.in_err-loaded.ensures.source_cause (cc)) (λ n. c.in_err-loaded.ensures.source_calm (λ e. n (cc))) (λ e. c.in_err-loaded.ensures.keeper_cause (cc)) (λ n. c.in_err-loaded.ensures.keeper_calm (λ e. n (cc)))
     (λ e is. c.in_err-loaded.ensures.steady (c.read_schema.ensures.stays_steady is) (cc))
-    (λ e. c.in_err-loaded.ensures.accepts (cc)) c.in_err-loaded.ensures.refused c.in_err-loaded.ensures.stands)
+    (λ e. c.in_err-loaded.ensures.accepts (cc)) (λ e. c.in_err-loaded.ensures.given (cc)) c.in_err-loaded.ensures.refused c.in_err-loaded.ensures.stands)
 
 pub returns-in_err-line-clause-stops : goal.returns-in_err-line-clause-stops
 returns-in_err-line-clause-stops g c = λ links.

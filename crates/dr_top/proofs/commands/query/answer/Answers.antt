@@ -21,9 +21,9 @@ pub returns-in-Text-clause-text : goal.returns-in-Text-clause-text
 returns-in-Text-clause-text g c = λ input links.
     let t = table_view c.in_ok-table.table in
     let read = c.in_ok-plan.ensures.plan in
-    query_text_ends (query_view c.args.words.now) (g.K.Link.shows c.args.keeper.now) input (g.L.Link.shows c.args.link.now) links c.as_str.result.now c.as_str-2.result.now (string_bytes c.in-Text.text) t read.0
+    query_text_ends (query_view c.args.words.now) (g.K.Link.shows c.args.keeper.now) input (g.L.Link.shows c.args.link.now) (g.L.Link.shows c.query_table.new.link) links c.as_str.result.now c.as_str-2.result.now (string_bytes c.in-Text.text) t read.0
     c.as_str.ensures.value c.as_str-2.ensures.value c.in_ok-table.ensures.table read.1
-    (subst (WhereText (IsAnswerOf t read.0 (g.L.Link.shows c.args.link.now).held)) c.in-Text.is (c.in_ok-text.ensures.text read.0 read.2))
+    (subst (WhereText (IsAnswerOf t read.0 (g.L.Link.shows c.args.link.now) (g.L.Link.shows c.query_table.new.link))) c.in-Text.is (c.in_ok-text.ensures.text read.0 read.2))
 
 pub returns-clause-stops : goal.returns-clause-stops
 returns-clause-stops g c = λ input links.

@@ -13,10 +13,10 @@ returns-in_err-schema-clause-stops g c =
     (λ lacks n. c.in_err-schema.ensures.absent lacks (λ e. n (cc))) c.in_err-schema.ensures.calm (λ bytes is tells. c.in_err-schema.ensures.steady bytes (is, tells))))
 
 pub returns-in_err-schema-clause-reads : goal.returns-in_err-schema-clause-reads
-returns-in_err-schema-clause-reads g c = schema_asks c.as_str.result.now _ (g.L.Link.shows c.args.link.now) (g.L.Link.shows c.schema_of.new.link) c.as_str.ensures.value c.schema_of.ensures.asked c.schema_of.ensures.asked_absent
+returns-in_err-schema-clause-reads g c = schema_asks c.as_str.result.now _ (g.L.Link.shows c.args.link.now) (g.L.Link.shows c.schema_of.new.link) c.as_str.ensures.value c.schema_of.ensures.asked c.schema_of.ensures.asked_absent c.schema_of.ensures.paths
 
 pub returns-clause-reads : goal.returns-clause-reads
-returns-clause-reads g c = schema_asks c.as_str.result.now _ (g.L.Link.shows c.args.link.now) (g.L.Link.shows c.schema_of.new.link) c.as_str.ensures.value c.schema_of.ensures.asked c.schema_of.ensures.asked_absent
+returns-clause-reads g c = schema_asks c.as_str.result.now _ (g.L.Link.shows c.args.link.now) (g.L.Link.shows c.schema_of.new.link) c.as_str.ensures.value c.schema_of.ensures.asked c.schema_of.ensures.asked_absent c.schema_of.ensures.paths
 
 pub returns-in_err-schema_text-clause-reads : goal.returns-in_err-schema_text-clause-reads
-returns-in_err-schema_text-clause-reads g c = schema_asks c.as_str.result.now _ (g.L.Link.shows c.args.link.now) (g.L.Link.shows c.schema_of.new.link) c.as_str.ensures.value c.schema_of.ensures.asked c.schema_of.ensures.asked_absent
+returns-in_err-schema_text-clause-reads g c = schema_asks c.as_str.result.now _ (g.L.Link.shows c.args.link.now) (g.L.Link.shows c.schema_of.new.link) c.as_str.ensures.value c.schema_of.ensures.asked c.schema_of.ensures.asked_absent c.schema_of.ensures.paths

@@ -6,7 +6,7 @@ use Rattle.dr_course.specs.Leading.{columns_of, heads as next_of}
 use Rattle.dr_walk.specs.Standing.{IsStep, fits}
 use Rattle.dr_nested.specs.Views.{kind_view}
 use Rattle.dr_levels.specs.Views.{lent_value}
-use Rattle.dr_walk.proofs.WalkLemmas.{moved_at, goes_leaf, goes_end, leads_to, all_known, known_levels, wants_leaf}
+use Rattle.dr_walk.proofs.WalkLemmas.{moved_at, goes_leaf, goes_end, leads_to, all_known, known_levels, wants_leaf, gives_wanted}
 use Rattle.dr_walk.proofs.walk.Walk.go_on.Goals as goal
 
 pub returns-in-Enters-clause-goes : goal.returns-in-Enters-clause-goes
@@ -57,3 +57,9 @@ returns-in-Gives-clause-wants c = λ i w n.
     let x = c.give_leaf.ensures in
     let V = get_or c.args.self.now.values.items c.in-Gives.leaf None in
     wants_leaf c.in-Gives.leaf i c.in-Gives.levels V (fits (option_map kind_view c.in-Gives.kind) (option_map lent_value V)) c.args.self.now.wanted c.give_leaf.new.self.wanted c.give_leaf.result w n x.gives x.wanted x.kept
+
+pub returns-in-Gives-clause-turns : goal.returns-in-Gives-clause-turns
+returns-in-Gives-clause-turns c = λ w.
+    let x = c.give_leaf.ensures in
+    let V = get_or c.args.self.now.values.items c.in-Gives.leaf None in
+    gives_wanted c.in-Gives.leaf c.in-Gives.levels V (fits (option_map kind_view c.in-Gives.kind) (option_map lent_value V)) c.give_leaf.new.self.wanted c.give_leaf.result x.refused x.gives x.wanted

@@ -1,12 +1,13 @@
 use Rattle.std.proofs.Common.{rules, ◌≡◌, [], ◌++◌, Some, None, sym, ap, subst, ◌∙◌}
-use Rattle.std.specs.Prelude.{option_map}
+use Rattle.std.specs.Prelude.{option_map, IfOk}
 use Rattle.dr_levels.specs.Views.{triplet_view}
 use Rattle.dr_levels.specs.declared.moves.Move.{Move as CodeMove}
 use Rattle.dr_course.specs.Leading.{head_of}
-use Rattle.dr_walk.specs.Walking.{Goes, Comes, moves_of, left_behind}
+use Rattle.dr_walk.specs.Walking.{Goes, Comes, moves_of, left_behind, Wants}
 use Rattle.dr_walk.specs.declared.fault.AssembleFault.{AssembleFault}
 use Rattle.dr_walk.proofs.AnswerLemmas.{front_of, none_has, whole_walk, nests, at_same, at_next, at_end, at_fault, none_comes, not_behind_end, ok_is, ok_is_not}
 use Rattle.dr_walk.proofs.BoundLemmas.{few_moves}
+use Rattle.dr_walk.proofs.WalkLemmas.{wants_on}
 use Rattle.dr_walk.proofs.walk.Walk.next.Goals as goal
 
 pub returns-then-is_some-clause-front : goal.returns-then-is_some-clause-front
@@ -73,3 +74,10 @@ returns-in-Ok-clause-bound c = λ F fs rows C ms left at comes p.
     let w : c.take.new.self.wanted ≡ None = search rules in
     let g = subst (Goes fs F rows C ms left c.go_on.new.self) c.in-Ok.is (c.go_on.ensures.goes F fs rows C ms left (c.take.ensures.at F fs rows C ms left at comes) w) in
     few_moves fs F rows C (ms ++ moves_of c.in-Ok.step) (left_behind c.in-Ok.step left) c.go_on.new.self (at_next fs F rows C ms left c.go_on.new.self c.in-Ok.step g) p
+
+pub returns-in-Ok-clause-wants : goal.returns-in-Ok-clause-wants
+returns-in-Ok-clause-wants c = λ F fs rows C ms left at comes.
+    let w : c.take.new.self.wanted ≡ None = search rules in
+    let n = c.take.ensures.next F fs rows C ms left at comes in
+    let g : Wants c.in-Ok.step None c.go_on.new.self.wanted = subst (λ r. IfOk r (λ m. Wants m None c.go_on.new.self.wanted)) c.in-Ok.is (c.go_on.ensures.turns w) in
+    wants_on c.in-Ok.step None _ c.go_on.new.self.wanted (sym w ∙ n) g

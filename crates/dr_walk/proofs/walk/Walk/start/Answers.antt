@@ -17,8 +17,8 @@ table_of-requires c =
     let m = length-map c.args.fields.now (λ (p : Path). (path_view p).path) in
     omega (arith, l.leaves, s, m)
 
-pub returns : goal.returns
-returns c = λ C e.
+pub returns-clause-at : goal.returns-clause-at
+returns-clause-at c = λ C e.
     let fs = fields_view c.args.schema.now.fields.items in
     let F = paths_view c.args.fields.now in
     let l = limits (record { name = string_bytes c.args.schema.now.name; fields = fs }) c.args.schema.now.valid in

@@ -1,6 +1,6 @@
-use Rattle.std.proofs.Common.{◌<◌, length, option_map, ap₂, subst, ◌∙◌, arith}
+use Rattle.std.proofs.Common.{◌<◌, length, option_map, sym, ap, ap₂, subst, ◌∙◌, arith}
 use Rattle.dr_levels.specs.Views.{triplet_view}
-use Rattle.dr_walk.specs.Walking.{Comes, wanted_behind}
+use Rattle.dr_walk.specs.Walking.{Comes, wanted_behind, then_wanted}
 use Rattle.dr_walk.proofs.WalkLemmas.{taken_at}
 use Rattle.dr_walk.proofs.walk.Walk.take.Goals as goal
 
@@ -15,3 +15,11 @@ returns-in-Some-clause-at c = λ F fs rows C ms left at comes.
     taken_at fs F rows C ms left old _ leaf t at c.in-Some.is next
     (k.here (omega (arith, within, at.heads)) (omega (arith, within, at.values))) k.others k.heads k.values k.stands
     (c.wanted_behind-self.ensures.next (omega (arith, within, at.few)) ∙ ap₂ (λ g n. wanted_behind g n leaf) k.given k.heads) k.failed k.given k.taken
+
+pub returns-in-Some-clause-next : goal.returns-in-Some-clause-next
+returns-in-Some-clause-next c = λ F fs rows C ms left at comes.
+    let leaf = c.in-Some.leaf in
+    let k = c.keep.ensures in
+    let within : leaf < length F = at.wants leaf c.in-Some.is in
+    c.wanted_behind-self.ensures.next (omega (arith, within, at.few)) ∙ ap₂ (λ g n. wanted_behind g n leaf) k.given k.heads
+    ∙ ap (then_wanted c.args.self.now.given (length c.args.self.now.course.heads.items)) (sym c.in-Some.is)

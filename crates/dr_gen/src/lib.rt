@@ -1,0 +1,11 @@
+//! Made records: each from a number, the same each time, and a source of their lines.
+#![tactic(auto)]
+
+mod line;
+mod reading;
+mod record;
+mod source;
+
+pub use dr_memory::NoMemory;
+pub use record::node_of;
+pub use source::GenSource;

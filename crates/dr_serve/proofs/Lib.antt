@@ -1,0 +1,5 @@
+pub mod EndLemmas
+pub mod LeafLemmas
+pub mod LinkLemmas
+pub mod TruthLemmas
+pub mod TurnLemmas

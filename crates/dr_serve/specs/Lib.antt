@@ -1,0 +1,6 @@
+-- what is to be done, and when what a worker finds is true
+pub mod Working
+-- what a pass knows of the work that was done with it
+pub mod Ends
+-- what a link shows after work
+pub mod Links
