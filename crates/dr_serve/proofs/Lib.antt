@@ -1,5 +1,10 @@
+pub mod CloseLemmas
 pub mod EndLemmas
+pub mod FinishLemmas
 pub mod LeafLemmas
 pub mod LinkLemmas
+pub mod OutcomeLemmas
+pub mod PlaceLemmas
+pub mod ServingLemmas
 pub mod TruthLemmas
 pub mod TurnLemmas
