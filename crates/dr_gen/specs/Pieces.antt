@@ -7,16 +7,6 @@ use Rattle.dr_meaning.specs.Print.{atom_text, instance_texts, shape_text}
 use Rattle.dr_gen.specs.Document.{language_fields, name_fields, links_fields}
 use Rattle.dr_gen.specs.Generator.{several, number, links}
 
--- a comma, where something stands before
-abbrev pub comma_if : Bool → List ℕ
-comma_if true = 44 ∷ []
-comma_if false = []
-
--- parts separated by commas; where something stands before them, with a comma before the first too
-abbrev pub separated : Bool → List (List ℕ) → List ℕ
-separated behind [] = []
-separated behind (p ∷ ps) = comma_if behind ++ (p ++ separated true ps)
-
 -- so many instances, separated by commas
 abbrev pub several_text : (Instance → List ℕ) → ℕ → (ℕ → Instance) → List ℕ
 several_text text n f = join_with_byte 44 (instance_texts text (several n f))
