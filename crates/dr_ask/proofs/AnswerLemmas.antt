@@ -4,7 +4,7 @@ use Rattle.std.specs.List.{list_all, slice_get}
 use Rattle.std.proofs.Common.{refl, sym, ap, ◌∙◌, subst}
 use Rattle.std.proofs.lemmas.Bool.{and_from}
 use Rattle.dr_meaning.specs.Schema.{Schema}
-use Rattle.dr_meaning.specs.Path.{Leaf, leaves, is_leaf_path}
+use Rattle.dr_meaning.specs.Path.{Leaf, leaves, is_leaf_path, paths_of_leaves}
 use Rattle.dr_meaning.specs.Record.{Node, project}
 use Rattle.dr_meaning.specs.Query.{Query, meaning}
 use Rattle.dr_meaning.specs.QueryLeaves.{query_leaves}
@@ -18,7 +18,6 @@ use Rattle.dr_formats.proofs.ColumnsFit.{EachLeaf}
 use Rattle.dr_outside.specs.Link.{Files, LinkShown}
 use Rattle.dr_tablets.specs.FileRecords.{AreLeavesOf}
 use Rattle.dr_tablets.proofs.LeafLemmas.{used_are_leaves}
-use Rattle.dr_reading.specs.Premises.{paths_of_leaves}
 use Rattle.dr_reading.specs.Scan.{joined, tablets_of}
 use Rattle.dr_reading.specs.Given.{AreGiven}
 use Rattle.dr_reading.specs.Left.{LeftTablet}

@@ -9,35 +9,32 @@ use Rattle.dr_meaning.specs.Record as record_tree
 use Rattle.dr_meaning.specs.Record.{Value, bool_value, int_value, text_value, Node, no_slots, slot, Instances, no_instances, instance, Instance, atom, inner, is_of_kind, count_instances, fits_repetition, all_instances, is_record, is_instance, slot_for, project, project_all, project_one}
 use Rattle.dr_meaning.specs.Column.{Triplet}
 use Rattle.dr_nested.specs.Views.{instances_of}
-use Rattle.dr_assemble.specs.Restoring.{Strip, count_pieces, first_pieces, other_pieces, before, restored_each, first_definition, first_strip_value, restored_instances, restored_slot, onto_node, slot_before, restored_atom, has_rows}
+use Rattle.dr_assemble.specs.Restoring.{Strip, count_pieces, first_pieces, other_pieces, before, restored_each, first_definition, first_strip_value, restored_instances, restored_slot, onto_node, slot_before, restored_atom, has_rows, rests}
 use Rattle.dr_assemble.proofs.ByPaths.{here_if, here_strip, strips_here, there_if, there_strip, strips_there, restored, restored_one, restored_records}
 
 -- ---- the paths of strips
 
-abbrev pub rests : List Strip → List (List Step)
-rests S = map (λ (g : Strip). g.rest) S
-
-rests-here_if : (i : ℕ) (p : List Step) (ts : List Triplet) (S : List Strip) (F : List (List Step)) → rests S ≡ F → rests (here_if i p ts S) ≡ record_tree.here_if i p F
+rests-here_if : (i : ℕ) (p : List Step) (ts : List Triplet) (S : List Strip) (F : List (List Step)) → rests S ≡ F → rests (here_if i p ts S) ≡ record_tree.through_first_if i p F
 rests-here_if zero p ts S F e = ap (λ (G : List (List Step)). p ∷ G) e
 rests-here_if (suc i) p ts S F e = e
 
-rests-here_strip : (p : List Step) (ts : List Triplet) (S : List Strip) (F : List (List Step)) → rests S ≡ record_tree.here F → rests (here_strip p ts S) ≡ record_tree.here (p ∷ F)
+rests-here_strip : (p : List Step) (ts : List Triplet) (S : List Strip) (F : List (List Step)) → rests S ≡ record_tree.through_first F → rests (here_strip p ts S) ≡ record_tree.through_first (p ∷ F)
 rests-here_strip [] ts S F e = e
-rests-here_strip (s ∷ p) ts S F e = rests-here_if s.place p ts S (record_tree.here F) e
+rests-here_strip (s ∷ p) ts S F e = rests-here_if s.place p ts S (record_tree.through_first F) e
 
-pub rests-here : (S : List Strip) → rests (strips_here S) ≡ record_tree.here (rests S)
+pub rests-here : (S : List Strip) → rests (strips_here S) ≡ record_tree.through_first (rests S)
 rests-here [] = refl
 rests-here (g ∷ S) = rests-here_strip g.rest g.triplets (strips_here S) (rests S) (rests-here S)
 
-rests-there_if : (i : ℕ) (s : Step) (p : List Step) (ts : List Triplet) (S : List Strip) (F : List (List Step)) → rests S ≡ F → rests (there_if i s p ts S) ≡ record_tree.there_if i s p F
+rests-there_if : (i : ℕ) (s : Step) (p : List Step) (ts : List Triplet) (S : List Strip) (F : List (List Step)) → rests S ≡ F → rests (there_if i s p ts S) ≡ record_tree.through_later_if i s p F
 rests-there_if zero s p ts S F e = e
 rests-there_if (suc i) s p ts S F e = ap (λ (G : List (List Step)). (record { place = i; repetition = s.repetition } ∷ p) ∷ G) e
 
-rests-there_strip : (p : List Step) (ts : List Triplet) (S : List Strip) (F : List (List Step)) → rests S ≡ record_tree.there F → rests (there_strip p ts S) ≡ record_tree.there (p ∷ F)
+rests-there_strip : (p : List Step) (ts : List Triplet) (S : List Strip) (F : List (List Step)) → rests S ≡ record_tree.through_later F → rests (there_strip p ts S) ≡ record_tree.through_later (p ∷ F)
 rests-there_strip [] ts S F e = e
-rests-there_strip (s ∷ p) ts S F e = rests-there_if s.place s p ts S (record_tree.there F) e
+rests-there_strip (s ∷ p) ts S F e = rests-there_if s.place s p ts S (record_tree.through_later F) e
 
-pub rests-there : (S : List Strip) → rests (strips_there S) ≡ record_tree.there (rests S)
+pub rests-there : (S : List Strip) → rests (strips_there S) ≡ record_tree.through_later (rests S)
 rests-there [] = refl
 rests-there (g ∷ S) = rests-there_strip g.rest g.triplets (strips_there S) (rests S) (rests-there S)
 

@@ -6,8 +6,10 @@ mod FillingLemmas
 mod AssemblyLemmas
 -- what the loops restore
 mod LoopLemmas
--- columns compared
-mod ComparingLemmas
+-- strips of leaves that come once each
+pub mod KeepingLemmas
+pub mod DistinctLemmas
+pub mod JudgingLemmas
 -- paths that are found
 pub mod PushLemmas
 -- worked examples, by computation
@@ -21,3 +23,4 @@ pub mod CuttingLemmas
 pub mod OrderedLemmas
 pub mod SelectionOrder
 pub mod OrderedAssembly
+pub mod AnswerLemmas

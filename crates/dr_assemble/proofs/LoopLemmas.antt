@@ -12,7 +12,7 @@ use Rattle.dr_nested.specs.Views.{fields_view, shape_view, rep_view, slots_of}
 use Rattle.dr_nested.proofs.ViewLemmas.{view-field}
 use Rattle.dr_assemble.specs.Restoring.{Strip, front_at, after_front, first_pieces, other_pieces, before, restored_each, first_definition, count_pieces, onto_node, slot_before, assembled, assembled_one, assembled_field, field_instances}
 use Rattle.dr_assemble.specs.Views.{Restores}
-use Rattle.dr_assemble.specs.declared.fault.AssembleFault.{AssembleFault}
+use Rattle.dr_walk.specs.declared.fault.AssembleFault.{AssembleFault}
 
 -- ---- one instance after another
 

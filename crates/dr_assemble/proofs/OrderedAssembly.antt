@@ -1,5 +1,6 @@
--- Assembling in schema order: what is assembled, where it has the given columns, are the projections of the records that have them.
-use Rattle.std.proofs.Common.{◌≡◌, ℕ, List, [], ◌∷◌, map, get_or, Bool, true, ◌&&◌, inl, inr, Some, None, refl, sym, ap, ap₂, ◌∙◌, subst}
+-- Assembling in schema order: of the columns of records their projections are restored.
+use Rattle.std.proofs.Common.{◌≡◌, ℕ, List, [], ◌∷◌, map, length, get_or, Bool, true, false, ◌&&◌, inl, inr, Some, None, refl, sym, ap, ap₂, ◌∙◌, subst}
+use Rattle.std.specs.Prelude.{if◌then◌else◌}
 use Rattle.std.specs.List.{list_all}
 use Rattle.std.proofs.lemmas.Bool.{and_parts}
 use Rattle.dr_meaning.specs.Schema.{Fields, group}
@@ -7,15 +8,14 @@ use Rattle.dr_meaning.specs.Path.{Step, is_leaf_path}
 use Rattle.dr_meaning.specs.Record.{Node, project}
 use Rattle.dr_meaning.specs.Column.{Triplet, column}
 use Rattle.dr_meaning.specs.Automaton.{schema_order}
-use Rattle.dr_meaning.specs.ProjectionLaws.{leads}
 use Rattle.dr_meaning.proofs.OrderLemmas.{orders_have_each_once}
-use Rattle.dr_assemble.specs.Restoring.{Strip, strip, strips, strips_at, assembled_records}
-use Rattle.dr_assemble.specs.Assembly.{HasColumns}
+use Rattle.dr_assemble.specs.Restoring.{Strip, strip, strips, strips_at, has_rows, assembled, restored_each, assembled_records, rests, columns_of}
 use Rattle.dr_assemble.proofs.ByPaths.{restored_records}
-use Rattle.dr_assemble.proofs.FillingLemmas.{rests}
-use Rattle.dr_assemble.proofs.OrderedLemmas.{OrderedIn, records_agree}
-use Rattle.dr_assemble.proofs.SelectionOrder.{Among, Within, path_at, ordered_in_schema_order, projects_same, order_within, within_order, columns_of_order}
-use Rattle.dr_assemble.proofs.AssemblyLemmas.{restored_has_columns, columns_restored, columns-of_projections, leads_first, leads_later, AllLead, some_same, columns_kept}
+use Rattle.dr_assemble.proofs.OrderedLemmas.{records_agree}
+use Rattle.dr_assemble.proofs.SelectionOrder.{Among, Within, path_at, ordered_in_schema_order, projects_same, order_within, within_order, columns_of_order, columns_from_order}
+use Rattle.dr_assemble.proofs.AssemblyLemmas.{columns_restored}
+use Rattle.dr_assemble.specs.Ordered.{OrderedIn}
+use Rattle.dr_walk.specs.Walking.{HasColumns}
 
 -- the paths in schema order, and their columns
 abbrev pub paths_in_order : Fields → List (List Step) → List (List Step)
@@ -32,15 +32,6 @@ rests_at : (js : List ℕ) (F : List (List Step)) (C : List (List Triplet)) → 
 rests_at [] F C = refl
 rests_at (j ∷ js) F C = ap (λ (G : List (List Step)). get_or F j [] ∷ G) (rests_at js F C)
 
-leads_among : (p : List Step) (G : List (List Step)) → Among p G → leads p G ≡ true
-leads_among p [] h = absurd h
-leads_among p (q ∷ G) (inl h) = ap (λ (o : List Step). leads o (q ∷ G)) (sym h) ∙ leads_first q G
-leads_among p (q ∷ G) (inr h) = leads_later p q G (leads_among p G h)
-
-all_lead_among : (F G : List (List Step)) → Within F G → AllLead F G
-all_lead_among [] G h = tt
-all_lead_among (p ∷ F) G h = (leads_among p G (h p (inl refl)), all_lead_among F G (λ (q : List Step) (a : Among q F). h q (inr a)))
-
 among_all : (f : List Step → Bool) (p : List Step) (F : List (List Step)) → Among p F → list_all f F ≡ true → f p ≡ true
 among_all f p [] h e = absurd h
 among_all f p (q ∷ F) (inl h) e = ap f (sym h) ∙ (and_parts (f q) (list_all f F) e).0
@@ -50,12 +41,23 @@ all_among : (f : List Step → Bool) (F G : List (List Step)) → Within F G →
 all_among f [] G h e = refl
 all_among f (p ∷ F) G h e = ap₂ (λ a b. a && b) (among_all f p G (h p (inl refl)) e) (all_among f F G (λ (q : List Step) (a : Among q F). h q (inr a)) e)
 
+columns_at : (js : List ℕ) (F : List (List Step)) (C : List (List Triplet)) → columns_of (strips_at js F C) ≡ map (λ i. get_or C i []) js
+columns_at [] F C = refl
+columns_at (j ∷ js) F C = ap (λ (D : List (List Triplet)). get_or C j [] ∷ D) (columns_at js F C)
+
 -- what is assembled in schema order is what is restored of the columns in that order
 in_order : (fs : Fields) (F : List (List Step)) (C : List (List Triplet)) (rows : ℕ)
     → assembled_records fs rows (strips_at (schema_order fs F) F C) ≡ restored_records fs rows (strips (paths_in_order fs F) (columns_in_order fs F C))
 in_order fs F C rows =
     records_agree fs rows (strips_at (schema_order fs F) F C) (subst (OrderedIn (group fs)) (sym (rests_at (schema_order fs F) F C)) (ordered_in_schema_order fs F))
     ∙ ap (restored_records fs rows) (strips_at-is (schema_order fs F) F C)
+
+each_restored : (fs : Fields) (rows : ℕ) (S : List Strip) (P : List Node) → assembled_records fs rows S ≡ Some P → restored_each (assembled fs 0 0 0) 0 rows S ≡ Some P
+each_restored fs rows S P e = by_rows (has_rows rows S) e
+  where
+    by_rows : (b : Bool) → (if b then restored_each (assembled fs 0 0 0) 0 rows S else None) ≡ Some P → restored_each (assembled fs 0 0 0) 0 rows S ≡ Some P
+    by_rows true h = h
+    by_rows false h = absurd (cc)
 
 module _ (fs : Fields) (F : List (List Step)) (C : List (List Triplet)) (rows : ℕ) (leaves : list_all (is_leaf_path fs) F ≡ true) where
   all_there : Within F (paths_in_order fs F)
@@ -76,22 +78,27 @@ module _ (fs : Fields) (F : List (List Step)) (C : List (List Triplet)) (rows : 
       in_order fs F C rows ∙ columns_restored fs (paths_in_order fs F) (columns_in_order fs F C) rows R leaves_in_order (has_in_order R h)
       ∙ ap Some (same_projections R)
 
-  -- what is assembled of columns and has them is the projection of records that have them
-  pub assembled_has_columns : (P : List Node) → assembled_records fs rows (strips_at (schema_order fs F) F C) ≡ Some P → map (λ (p : List Step). column p P) F ≡ C
-      → (R : List Node) × HasColumns fs F C rows R × (P ≡ map (project F) R)
-  assembled_has_columns P e h =
-      let r : (R : List Node) × HasColumns fs (paths_in_order fs F) (columns_in_order fs F C) rows R × (P ≡ map (project (paths_in_order fs F)) R) =
-      restored_has_columns fs (paths_in_order fs F) (columns_in_order fs F C) rows P (sym (in_order fs F C rows) ∙ e) (columns_of_order (λ (p : List Step). column p P) fs F C h) in
-      let k : map (λ (p : List Step). column p r.0) F ≡ C =
-      sym (columns-of_projections (paths_in_order fs F) F r.0 (all_lead_among F (paths_in_order fs F) all_there)) ∙ ap (λ (Q : List Node). map (λ (p : List Step). column p Q) F) (sym r.2) ∙ h in
-      (r.0, (r.1.0, r.1.1, k), r.2 ∙ same_projections r.0)
+  -- records that have the columns in schema order have all columns
+  pub has_from_order : length C ≡ length F → (R : List Node) → HasColumns fs (rests (strips_at (schema_order fs F) F C)) (columns_of (strips_at (schema_order fs F) F C)) rows R → HasColumns fs F C rows R
+  has_from_order e R h = (
+    h.0,
+    h.1,
+    columns_from_order (λ (p : List Step). column p R) fs F C leaves orders_have_each_once e
+        (ap (map (λ (p : List Step). column p R)) (sym (rests_at (schema_order fs F) F C)) ∙ (h.2 ∙ columns_at (schema_order fs F) F C)),
+  )
 
-  -- nothing is assembled: no records have these columns
-  pub none_assembled : assembled_records fs rows (strips_at (schema_order fs F) F C) ≡ None → (R : List Node) → HasColumns fs F C rows R → ⊥
-  none_assembled e R h = let k : assembled_records fs rows (strips_at (schema_order fs F) F C) ≡ Some (map (project F) R) = columns_assembled R h in cc
+  -- and the other way round
+  pub has_by_order : (R : List Node) → HasColumns fs F C rows R → HasColumns fs (rests (strips_at (schema_order fs F) F C)) (columns_of (strips_at (schema_order fs F) F C)) rows R
+  has_by_order R h =
+      let x = has_in_order R h in
+      (x.0, x.1, ap (map (λ (p : List Step). column p R)) (rests_at (schema_order fs F) F C) ∙ (x.2 ∙ sym (columns_at (schema_order fs F) F C)))
 
-  -- what is assembled hasn't these columns: no records have them
-  pub others_assembled : (P : List Node) → assembled_records fs rows (strips_at (schema_order fs F) F C) ≡ Some P → (map (λ (p : List Step). column p P) F ≡ C → ⊥) → (R : List Node) → HasColumns fs F C rows R → ⊥
-  others_assembled P e g R h =
-      let q : P ≡ map (project F) R = some_same P (map (project F) R) (sym e ∙ columns_assembled R h) in
-      g (ap (λ (Q : List Node). map (λ (p : List Step). column p Q) F) q ∙ columns_kept F R ∙ h.2)
+  pub strips_are_leaves : list_all (is_leaf_path fs) (rests (strips_at (schema_order fs F) F C)) ≡ true
+  strips_are_leaves = ap (list_all (is_leaf_path fs)) (rests_at (schema_order fs F) F C) ∙ leaves_in_order
+
+  pub strips_are_ordered : OrderedIn (group fs) (rests (strips_at (schema_order fs F) F C))
+  strips_are_ordered = subst (OrderedIn (group fs)) (sym (rests_at (schema_order fs F) F C)) (ordered_in_schema_order fs F)
+
+  -- what is restored of the columns of records is their projection
+  pub columns_restored_each : (R : List Node) → HasColumns fs F C rows R → restored_each (assembled fs 0 0 0) 0 rows (strips_at (schema_order fs F) F C) ≡ Some (map (project F) R)
+  columns_restored_each R h = each_restored fs rows (strips_at (schema_order fs F) F C) (map (project F) R) (columns_assembled R h)

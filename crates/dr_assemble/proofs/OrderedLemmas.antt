@@ -4,31 +4,15 @@ use Rattle.std.specs.Prelude.{◌==◌, if◌then◌else◌, option_map}
 use Rattle.std.proofs.lemmas.Bool.Decides.{nat_tests}
 use Rattle.dr_meaning.specs.Schema.{Repetition, required, optional, repeated, Fields, no_fields, field, Shape, leaf, group, repetition_count, definition_count}
 use Rattle.dr_meaning.specs.Path.{Step}
-use Rattle.dr_meaning.specs.Record as record_tree
-use Rattle.dr_meaning.specs.Record.{Node, Instance, inner, here, there}
+use Rattle.dr_meaning.specs.Record.{Node, Instance, inner}
 use Rattle.dr_meaning.specs.Column.{Triplet}
-use Rattle.dr_assemble.specs.Restoring.{Strip, strip, front_if, front_at, after_if, after_front, first_pieces, other_pieces, before, restored_each, unless_absent, restored_instances, restored_slot, slot_before, assembled, assembled_one, has_rows, assembled_records}
+use Rattle.dr_assemble.specs.Restoring.{Strip, strip, front_if, front_at, after_if, after_front, first_pieces, other_pieces, before, restored_each, unless_absent, restored_instances, restored_slot, slot_before, assembled, assembled_one, has_rows, assembled_records, rests}
 use Rattle.dr_assemble.proofs.ByPaths.{strips_here, strips_there, restored, restored_one, restored_records}
 use Rattle.dr_assemble.proofs.PlaceLemmas.{at_if, at_place, shifted, here_shifted}
-use Rattle.dr_assemble.proofs.FillingLemmas.{rests, rests-here, rests-there, rests-first, rests-other}
+use Rattle.dr_assemble.proofs.FillingLemmas.{rests-here, rests-there, rests-first, rests-other}
+use Rattle.dr_assemble.specs.Ordered.{HeadsFrom, EachOrdered, OrderedIn}
 
 -- ---- paths in order
-
--- the places of the first steps ascend, from b on
-abbrev pub HeadsFrom : ℕ → List (List Step) → Type 0
-HeadsFrom b [] = Unit {0}
-HeadsFrom b ([] ∷ F) = ⊥
-HeadsFrom b ((s ∷ p) ∷ F) = (b ≤ s.place) × HeadsFrom s.place F
-
--- so they do in each group below
-abbrev mutual
-  pub EachOrdered : Fields → List (List Step) → Type 0
-  EachOrdered no_fields F = Unit {0}
-  EachOrdered (field m r s fs) F = OrderedIn s (here F) × EachOrdered fs (there F)
-
-  pub OrderedIn : Shape → List (List Step) → Type 0
-  OrderedIn (leaf k) F = Unit {0}
-  OrderedIn (group fs) F = HeadsFrom 0 F × EachOrdered fs F
 
 pub heads_weaken : (b c : ℕ) (F : List (List Step)) → b ≤ c → HeadsFrom c F → HeadsFrom b F
 heads_weaken b c [] h g = tt

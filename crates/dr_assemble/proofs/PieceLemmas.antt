@@ -1,8 +1,7 @@
 -- The pieces of triplets, by their repetition levels.
 use Rattle.std.specs.Prelude.{◌≡◌, ◌≤◌, ◌<◌, ℕ, suc, ◌+◌, ◌-◌, List, [], ◌∷◌, length, map, take, drop, Bool, true, false, nat_lt, ◌==◌, IsTrue, if◌then◌else◌}
-use Rattle.std.proofs.Common.{true≢false, ◌++◌}
+use Rattle.std.proofs.Common.{true≢false}
 use Rattle.std.proofs.lemmas.Bool.Decides.{nat_tests}
-use Rattle.dr_assemble.proofs.ComparingLemmas.{none_left}
 use Rattle.std.proofs.Common.{refl, sym, ap, ◌∙◌, arith}
 use Rattle.std.proofs.lemmas.List.{take_all, length-map}
 use Rattle.dr_meaning.specs.Column.{Triplet}
@@ -98,14 +97,9 @@ none_there (x ∷ ls) ts e h = absurd (omega (arith, h))
 not_zero : (n : ℕ) → (suc n == 0) ≡ false
 not_zero n = grind (arith, nat_tests)
 
-some_left : {t : Triplet} {ts : List Triplet} → t ∷ ts ≡ [] → ⊥
-some_left e = absurd (cc)
-
--- all has been passed exactly where no levels are left
-pub all_passed : (ls : List Levels) (rest ts us : List Triplet) (b : Bool) → map levels_pair ls ≡ map triplet_levels rest → b ≡ (length ls == 0) → us ≡ ts ++ rest → (IsTrue b → ts ≡ us) × (ts ≡ us → IsTrue b)
-all_passed [] [] ts us b e h w = (λ g. (none_left ts us [] w).0 refl, λ g. h)
-all_passed [] (t ∷ rest) ts us b e h w = absurd (cc)
-all_passed (l ∷ ls) [] ts us b e h w = absurd (cc)
-all_passed (l ∷ ls) (t ∷ rest) ts us b e h w =
-    let z : length (l ∷ ls) ≡ suc (length ls) = refl in
-    (λ g. absurd (true≢false (sym g ∙ h ∙ not_zero (length ls))), λ g. absurd (some_left ((none_left ts us (t ∷ rest) w).1 g)))
+-- none are left exactly where no levels are
+pub none_left : (ls : List Levels) (ts : List Triplet) (b : Bool) → map levels_pair ls ≡ map triplet_levels ts → b ≡ (length ls == 0) → (IsTrue b → ts ≡ []) × (ts ≡ [] → IsTrue b)
+none_left [] [] b e h = (λ g. refl, λ g. h)
+none_left [] (t ∷ ts) b e h = absurd (cc)
+none_left (l ∷ ls) [] b e h = absurd (cc)
+none_left (l ∷ ls) (t ∷ ts) b e h = (λ g. absurd (true≢false (sym g ∙ h ∙ not_zero (length ls))), λ g. absurd (cc))

@@ -6,7 +6,7 @@ use Rattle.std.proofs.lemmas.Bool.{and_parts, eqb-true, leb-true}
 use Rattle.std.proofs.lemmas.Bool.Decides.{nat_tests}
 use Rattle.dr_meaning.specs.Schema.{Repetition, required, optional, repeated, Kind, Fields, no_fields, field, Shape, leaf, group, repetition_count, definition_count}
 use Rattle.dr_meaning.specs.Path.{Step, is_leaf_path, is_shape_path}
-use Rattle.dr_meaning.specs.Record.{Value, Node, no_slots, slot, Instances, no_instances, instance, Instance, atom, inner, is_of_kind, count_instances, fits_repetition, all_instances, is_record, is_instance, here, there, slot_for, project, project_all, project_one}
+use Rattle.dr_meaning.specs.Record.{Value, Node, no_slots, slot, Instances, no_instances, instance, Instance, atom, inner, is_of_kind, count_instances, fits_repetition, all_instances, is_record, is_instance, through_first, through_later, slot_for, project, project_all, project_one}
 use Rattle.dr_meaning.specs.Column.{Triplet, triplet, each_later, spread, instance_column, record_column, column}
 use Rattle.dr_meaning.proofs.Blocks.{BeginsBelow, IsBlock, block_begins, block-instance, and₃_parts}
 use Rattle.dr_nested.specs.Views.{instances_of}
@@ -144,9 +144,9 @@ mutual
       let k : (fits_repetition r (count_instances xs) ≡ true) × (all_instances (is_instance s) xs ≡ true) × (is_record fs n ≡ true) = and₃_parts _ _ _ v in
       ap₂ slot_before
       (ap (restored_slot r (restored_one s (l + repetition_count r) (d + definition_count r)) (l + repetition_count r) d) (here-strips m r s fs xs n l d q F h)
-      ∙ restored-field r s l d q (here F) xs (λ (p : List Step) (H : List (List Step)) (x : Instance) (j : ℕ). restored-instance s p H x (l + repetition_count r) (d + definition_count r) j) (here-all m r s fs F h) k.0 k.1)
-      (ap (restored fs l d) (there-strips xs n l d q F) ∙ restored-node fs (there F) n l d q (there-all m r s fs F h) k.2)
-      ∙ ap (λ (x : Node). Some x) (onto_projected (here F) xs (project (there F) n))
+      ∙ restored-field r s l d q (through_first F) xs (λ (p : List Step) (H : List (List Step)) (x : Instance) (j : ℕ). restored-instance s p H x (l + repetition_count r) (d + definition_count r) j) (here-all m r s fs F h) k.0 k.1)
+      (ap (restored fs l d) (there-strips xs n l d q F) ∙ restored-node fs (through_later F) n l d q (there-all m r s fs F h) k.2)
+      ∙ ap (λ (x : Node). Some x) (onto_projected (through_first F) xs (project (through_later F) n))
   restored-node (field m r s fs) F n l d q h v = absurd (true≢false (sym v))
 
   restored-instance : (s : Shape) (p : List Step) (H : List (List Step)) (x : Instance) (l d q : ℕ) → list_all (is_shape_path s) (p ∷ H) ≡ true → is_instance s x ≡ true

@@ -6,11 +6,12 @@ use Rattle.std.proofs.lemmas.Bool.{and_parts}
 use Rattle.std.proofs.lemmas.Bool.Decides.{nat_tests}
 use Rattle.dr_meaning.specs.Schema.{Repetition, Fields, no_fields, field, Shape, leaf, group}
 use Rattle.dr_meaning.specs.Path.{Step, is_leaf_path}
-use Rattle.dr_meaning.specs.Record.{Node, no_slots, slot, gap, Instances, no_instances, instance, Instance, atom, inner, here, here_if, there, there_if, slot_for, project, project_all, project_one}
-use Rattle.dr_meaning.specs.Automaton.{Pick, picks, picks_from, behind, behind_if, behind_pick, beside, beside_if, beside_pick, indexes, schema_order, schema_order_in, shape_schema_order}
+use Rattle.dr_meaning.specs.Record.{Node, no_slots, slot, gap, Instances, no_instances, instance, Instance, atom, inner, through_first, through_first_if, through_later, through_later_if, slot_for, project, project_all, project_one}
+use Rattle.dr_meaning.specs.Automaton.{Pick, picks, picks_from, first_picks, first_picks_if, first_picks_and, later_picks, later_picks_if, later_picks_and, indexes, schema_order, schema_order_in, shape_schema_order}
 use Rattle.dr_meaning.specs.OrderLaws.{times, OrdersHaveEachOnce}
 use Rattle.dr_assemble.specs.Restoring.{behind_step}
-use Rattle.dr_assemble.proofs.OrderedLemmas.{HeadsFrom, heads_weaken, EachOrdered, OrderedIn}
+use Rattle.dr_assemble.proofs.OrderedLemmas.{heads_weaken}
+use Rattle.dr_assemble.specs.Ordered.{HeadsFrom, EachOrdered, OrderedIn}
 
 -- ---- what holds of each place of an order
 
@@ -26,29 +27,29 @@ abbrev EachPick : (ℕ → Type 0) → List Pick → Type 0
 EachPick P [] = Unit {0}
 EachPick P (f ∷ G) = P f.index × EachPick P G
 
-each_behind_if : (P : ℕ → Type 0) (k : ℕ) (p : List Step) (i : ℕ) (G : List Pick) → P i → EachPick P G → EachPick P (behind_if k p i G)
+each_behind_if : (P : ℕ → Type 0) (k : ℕ) (p : List Step) (i : ℕ) (G : List Pick) → P i → EachPick P G → EachPick P (first_picks_if k p i G)
 each_behind_if P zero p i G h g = (h, g)
 each_behind_if P (suc k) p i G h g = g
 
-each_behind_pick : (P : ℕ → Type 0) (p : List Step) (i : ℕ) (G : List Pick) → P i → EachPick P G → EachPick P (behind_pick p i G)
+each_behind_pick : (P : ℕ → Type 0) (p : List Step) (i : ℕ) (G : List Pick) → P i → EachPick P G → EachPick P (first_picks_and p i G)
 each_behind_pick P [] i G h g = g
 each_behind_pick P (s ∷ p) i G h g = each_behind_if P s.place p i G h g
 
-each_behind : (P : ℕ → Type 0) (G : List Pick) → EachPick P G → EachPick P (behind G)
+each_behind : (P : ℕ → Type 0) (G : List Pick) → EachPick P G → EachPick P (first_picks G)
 each_behind P [] h = tt
-each_behind P (f ∷ G) h = each_behind_pick P f.rest f.index (behind G) h.0 (each_behind P G h.1)
+each_behind P (f ∷ G) h = each_behind_pick P f.rest f.index (first_picks G) h.0 (each_behind P G h.1)
 
-each_beside_if : (P : ℕ → Type 0) (k : ℕ) (s : Step) (p : List Step) (i : ℕ) (G : List Pick) → P i → EachPick P G → EachPick P (beside_if k s p i G)
+each_beside_if : (P : ℕ → Type 0) (k : ℕ) (s : Step) (p : List Step) (i : ℕ) (G : List Pick) → P i → EachPick P G → EachPick P (later_picks_if k s p i G)
 each_beside_if P zero s p i G h g = g
 each_beside_if P (suc k) s p i G h g = (h, g)
 
-each_beside_pick : (P : ℕ → Type 0) (p : List Step) (i : ℕ) (G : List Pick) → P i → EachPick P G → EachPick P (beside_pick p i G)
+each_beside_pick : (P : ℕ → Type 0) (p : List Step) (i : ℕ) (G : List Pick) → P i → EachPick P G → EachPick P (later_picks_and p i G)
 each_beside_pick P [] i G h g = g
 each_beside_pick P (s ∷ p) i G h g = each_beside_if P s.place s p i G h g
 
-each_beside : (P : ℕ → Type 0) (G : List Pick) → EachPick P G → EachPick P (beside G)
+each_beside : (P : ℕ → Type 0) (G : List Pick) → EachPick P G → EachPick P (later_picks G)
 each_beside P [] h = tt
-each_beside P (f ∷ G) h = each_beside_pick P f.rest f.index (beside G) h.0 (each_beside P G h.1)
+each_beside P (f ∷ G) h = each_beside_pick P f.rest f.index (later_picks G) h.0 (each_beside P G h.1)
 
 each_index : (P : ℕ → Type 0) (G : List Pick) → EachPick P G → Each P (indexes G)
 each_index P [] h = tt
@@ -57,7 +58,7 @@ each_index P (f ∷ G) h = (h.0, each_index P G h.1)
 mutual
   each_in_schema : (P : ℕ → Type 0) (fs : Fields) (G : List Pick) → EachPick P G → Each P (schema_order_in fs G)
   each_in_schema P no_fields G h = tt
-  each_in_schema P (field m r s fs) G h = each-append P _ _ (each_in_shape P s (behind G) (each_behind P G h)) (each_in_schema P fs (beside G) (each_beside P G h))
+  each_in_schema P (field m r s fs) G h = each-append P _ _ (each_in_shape P s (first_picks G) (each_behind P G h)) (each_in_schema P fs (later_picks G) (each_beside P G h))
 
   each_in_shape : (P : ℕ → Type 0) (s : Shape) (G : List Pick) → EachPick P G → Each P (shape_schema_order s G)
   each_in_shape P (leaf k) G h = each_index P G h
@@ -95,19 +96,19 @@ abbrev AllAt : (ℕ → List Step) → List Pick → Type 0
 AllAt look [] = Unit {0}
 AllAt look (f ∷ G) = (look f.index ≡ f.rest) × AllAt look G
 
-here_if-first : (k : ℕ) (p : List Step) (F : List (List Step)) → IsZero k → here_if k p F ≡ p ∷ F
+here_if-first : (k : ℕ) (p : List Step) (F : List (List Step)) → IsZero k → through_first_if k p F ≡ p ∷ F
 here_if-first zero p F h = refl
 here_if-first (suc k) p F h = absurd h
 
-here_if-later : (k : ℕ) (p : List Step) (F : List (List Step)) → IsAbove k → here_if k p F ≡ F
+here_if-later : (k : ℕ) (p : List Step) (F : List (List Step)) → IsAbove k → through_first_if k p F ≡ F
 here_if-later zero p F h = absurd h
 here_if-later (suc k) p F h = refl
 
-there_if-first : (k : ℕ) (s : Step) (p : List Step) (F : List (List Step)) → IsZero k → there_if k s p F ≡ F
+there_if-first : (k : ℕ) (s : Step) (p : List Step) (F : List (List Step)) → IsZero k → through_later_if k s p F ≡ F
 there_if-first zero s p F h = refl
 there_if-first (suc k) s p F h = absurd h
 
-there_if-later : (k : ℕ) (s : Step) (p : List Step) (F : List (List Step)) → IsAbove k → there_if k s p F ≡ lowered_if k s.repetition p ∷ F
+there_if-later : (k : ℕ) (s : Step) (p : List Step) (F : List (List Step)) → IsAbove k → through_later_if k s p F ≡ lowered_if k s.repetition p ∷ F
 there_if-later zero s p F h = absurd h
 there_if-later (suc k) s p F h = refl
 
@@ -116,105 +117,105 @@ zero_least zero b h = omega arith
 zero_least (suc k) b h = absurd h
 
 module _ (look : ℕ → List Step) where
-  at_behind_if : (k : ℕ) (r : Repetition) (p : List Step) (i : ℕ) (G : List Pick) → look i ≡ record { place = k; repetition = r } ∷ p → AllAt (λ i. behind_step (look i)) G → AllAt (λ i. behind_step (look i)) (behind_if k p i G)
+  at_behind_if : (k : ℕ) (r : Repetition) (p : List Step) (i : ℕ) (G : List Pick) → look i ≡ record { place = k; repetition = r } ∷ p → AllAt (λ i. behind_step (look i)) G → AllAt (λ i. behind_step (look i)) (first_picks_if k p i G)
   at_behind_if zero r p i G h g = (ap behind_step h, g)
   at_behind_if (suc k) r p i G h g = g
 
-  at_behind_pick : (p : List Step) (i : ℕ) (G : List Pick) → look i ≡ p → AllAt (λ i. behind_step (look i)) G → AllAt (λ i. behind_step (look i)) (behind_pick p i G)
+  at_behind_pick : (p : List Step) (i : ℕ) (G : List Pick) → look i ≡ p → AllAt (λ i. behind_step (look i)) G → AllAt (λ i. behind_step (look i)) (first_picks_and p i G)
   at_behind_pick [] i G h g = g
   at_behind_pick (s ∷ p) i G h g = at_behind_if s.place s.repetition p i G h g
 
-  at_behind : (G : List Pick) → AllAt look G → AllAt (λ i. behind_step (look i)) (behind G)
+  at_behind : (G : List Pick) → AllAt look G → AllAt (λ i. behind_step (look i)) (first_picks G)
   at_behind [] h = tt
-  at_behind (f ∷ G) h = at_behind_pick f.rest f.index (behind G) h.0 (at_behind G h.1)
+  at_behind (f ∷ G) h = at_behind_pick f.rest f.index (first_picks G) h.0 (at_behind G h.1)
 
-  first_behind_if : (k : ℕ) (r : Repetition) (p : List Step) (i : ℕ) (G : List Pick) → look i ≡ record { place = k; repetition = r } ∷ p → EachPick (λ i. IsFirst (look i)) G → EachPick (λ i. IsFirst (look i)) (behind_if k p i G)
+  first_behind_if : (k : ℕ) (r : Repetition) (p : List Step) (i : ℕ) (G : List Pick) → look i ≡ record { place = k; repetition = r } ∷ p → EachPick (λ i. IsFirst (look i)) G → EachPick (λ i. IsFirst (look i)) (first_picks_if k p i G)
   first_behind_if zero r p i G h g = (subst IsFirst (sym h) tt, g)
   first_behind_if (suc k) r p i G h g = g
 
-  first_behind_pick : (p : List Step) (i : ℕ) (G : List Pick) → look i ≡ p → EachPick (λ i. IsFirst (look i)) G → EachPick (λ i. IsFirst (look i)) (behind_pick p i G)
+  first_behind_pick : (p : List Step) (i : ℕ) (G : List Pick) → look i ≡ p → EachPick (λ i. IsFirst (look i)) G → EachPick (λ i. IsFirst (look i)) (first_picks_and p i G)
   first_behind_pick [] i G h g = g
   first_behind_pick (s ∷ p) i G h g = first_behind_if s.place s.repetition p i G h g
 
-  first_behind : (G : List Pick) → AllAt look G → EachPick (λ i. IsFirst (look i)) (behind G)
+  first_behind : (G : List Pick) → AllAt look G → EachPick (λ i. IsFirst (look i)) (first_picks G)
   first_behind [] h = tt
-  first_behind (f ∷ G) h = first_behind_pick f.rest f.index (behind G) h.0 (first_behind G h.1)
+  first_behind (f ∷ G) h = first_behind_pick f.rest f.index (first_picks G) h.0 (first_behind G h.1)
 
-  at_beside_if : (k : ℕ) (s : Step) (p : List Step) (i : ℕ) (G : List Pick) → look i ≡ record { place = k; repetition = s.repetition } ∷ p → AllAt (λ i. lowered (look i)) G → AllAt (λ i. lowered (look i)) (beside_if k s p i G)
+  at_beside_if : (k : ℕ) (s : Step) (p : List Step) (i : ℕ) (G : List Pick) → look i ≡ record { place = k; repetition = s.repetition } ∷ p → AllAt (λ i. lowered (look i)) G → AllAt (λ i. lowered (look i)) (later_picks_if k s p i G)
   at_beside_if zero s p i G h g = g
   at_beside_if (suc k) s p i G h g = (ap lowered h, g)
 
-  at_beside_pick : (p : List Step) (i : ℕ) (G : List Pick) → look i ≡ p → AllAt (λ i. lowered (look i)) G → AllAt (λ i. lowered (look i)) (beside_pick p i G)
+  at_beside_pick : (p : List Step) (i : ℕ) (G : List Pick) → look i ≡ p → AllAt (λ i. lowered (look i)) G → AllAt (λ i. lowered (look i)) (later_picks_and p i G)
   at_beside_pick [] i G h g = g
   at_beside_pick (s ∷ p) i G h g = at_beside_if s.place s p i G h g
 
-  at_beside : (G : List Pick) → AllAt look G → AllAt (λ i. lowered (look i)) (beside G)
+  at_beside : (G : List Pick) → AllAt look G → AllAt (λ i. lowered (look i)) (later_picks G)
   at_beside [] h = tt
-  at_beside (f ∷ G) h = at_beside_pick f.rest f.index (beside G) h.0 (at_beside G h.1)
+  at_beside (f ∷ G) h = at_beside_pick f.rest f.index (later_picks G) h.0 (at_beside G h.1)
 
-  later_beside_if : (k : ℕ) (s : Step) (p : List Step) (i : ℕ) (G : List Pick) → look i ≡ record { place = k; repetition = s.repetition } ∷ p → EachPick (λ i. IsLater (look i)) G → EachPick (λ i. IsLater (look i)) (beside_if k s p i G)
+  later_beside_if : (k : ℕ) (s : Step) (p : List Step) (i : ℕ) (G : List Pick) → look i ≡ record { place = k; repetition = s.repetition } ∷ p → EachPick (λ i. IsLater (look i)) G → EachPick (λ i. IsLater (look i)) (later_picks_if k s p i G)
   later_beside_if zero s p i G h g = g
   later_beside_if (suc k) s p i G h g = (subst IsLater (sym h) tt, g)
 
-  later_beside_pick : (p : List Step) (i : ℕ) (G : List Pick) → look i ≡ p → EachPick (λ i. IsLater (look i)) G → EachPick (λ i. IsLater (look i)) (beside_pick p i G)
+  later_beside_pick : (p : List Step) (i : ℕ) (G : List Pick) → look i ≡ p → EachPick (λ i. IsLater (look i)) G → EachPick (λ i. IsLater (look i)) (later_picks_and p i G)
   later_beside_pick [] i G h g = g
   later_beside_pick (s ∷ p) i G h g = later_beside_if s.place s p i G h g
 
-  later_beside : (G : List Pick) → AllAt look G → EachPick (λ i. IsLater (look i)) (beside G)
+  later_beside : (G : List Pick) → AllAt look G → EachPick (λ i. IsLater (look i)) (later_picks G)
   later_beside [] h = tt
-  later_beside (f ∷ G) h = later_beside_pick f.rest f.index (beside G) h.0 (later_beside G h.1)
+  later_beside (f ∷ G) h = later_beside_pick f.rest f.index (later_picks G) h.0 (later_beside G h.1)
 
   -- ---- paths through the first field, and then paths through later ones
 
-  here_first : (p : List Step) (F : List (List Step)) → IsFirst p → here (p ∷ F) ≡ behind_step p ∷ here F
+  here_first : (p : List Step) (F : List (List Step)) → IsFirst p → through_first (p ∷ F) ≡ behind_step p ∷ through_first F
   here_first [] F h = absurd h
-  here_first (s ∷ p) F h = here_if-first s.place p (here F) h
+  here_first (s ∷ p) F h = here_if-first s.place p (through_first F) h
 
-  here_later : (p : List Step) (F : List (List Step)) → IsLater p → here (p ∷ F) ≡ here F
+  here_later : (p : List Step) (F : List (List Step)) → IsLater p → through_first (p ∷ F) ≡ through_first F
   here_later [] F h = absurd h
-  here_later (s ∷ p) F h = here_if-later s.place p (here F) h
+  here_later (s ∷ p) F h = here_if-later s.place p (through_first F) h
 
-  there_first : (p : List Step) (F : List (List Step)) → IsFirst p → there (p ∷ F) ≡ there F
+  there_first : (p : List Step) (F : List (List Step)) → IsFirst p → through_later (p ∷ F) ≡ through_later F
   there_first [] F h = absurd h
-  there_first (s ∷ p) F h = there_if-first s.place s p (there F) h
+  there_first (s ∷ p) F h = there_if-first s.place s p (through_later F) h
 
-  there_later : (p : List Step) (F : List (List Step)) → IsLater p → there (p ∷ F) ≡ lowered p ∷ there F
+  there_later : (p : List Step) (F : List (List Step)) → IsLater p → through_later (p ∷ F) ≡ lowered p ∷ through_later F
   there_later [] F h = absurd h
-  there_later (s ∷ p) F h = there_if-later s.place s p (there F) h
+  there_later (s ∷ p) F h = there_if-later s.place s p (through_later F) h
 
   heads_first : (p : List Step) (F : List (List Step)) → IsFirst p → HeadsFrom 0 F → HeadsFrom 0 (p ∷ F)
   heads_first [] F h g = absurd h
   heads_first (s ∷ p) F h g = (omega arith, heads_weaken s.place 0 F (zero_least s.place 0 h) g)
 
-  heads_lifted_if : (b k : ℕ) (r : Repetition) (p : List Step) (F : List (List Step)) → IsAbove k → ((c : ℕ) → b ≤ c → HeadsFrom c (there F) → HeadsFrom (suc c) F)
-      → HeadsFrom b (lowered_if k r p ∷ there F) → (suc b ≤ k) × HeadsFrom k F
+  heads_lifted_if : (b k : ℕ) (r : Repetition) (p : List Step) (F : List (List Step)) → IsAbove k → ((c : ℕ) → b ≤ c → HeadsFrom c (through_later F) → HeadsFrom (suc c) F)
+      → HeadsFrom b (lowered_if k r p ∷ through_later F) → (suc b ≤ k) × HeadsFrom k F
   heads_lifted_if b zero r p F h f g = absurd h
   heads_lifted_if b (suc k) r p F h f g = let less : suc b ≤ suc k = omega (arith, g.0) in (less, f k g.0 g.1)
 
-  heads_lifted : (b : ℕ) (p : List Step) (F : List (List Step)) → IsLater p → ((c : ℕ) → b ≤ c → HeadsFrom c (there F) → HeadsFrom (suc c) F) → HeadsFrom b (lowered p ∷ there F) → HeadsFrom (suc b) (p ∷ F)
+  heads_lifted : (b : ℕ) (p : List Step) (F : List (List Step)) → IsLater p → ((c : ℕ) → b ≤ c → HeadsFrom c (through_later F) → HeadsFrom (suc c) F) → HeadsFrom b (lowered p ∷ through_later F) → HeadsFrom (suc b) (p ∷ F)
   heads_lifted b [] F h f g = absurd h
   heads_lifted b (s ∷ p) F h f g = heads_lifted_if b s.place s.repetition p F h f g
 
-  here_of_later : (js : List ℕ) → Each (λ i. IsLater (look i)) js → here (map look js) ≡ []
+  here_of_later : (js : List ℕ) → Each (λ i. IsLater (look i)) js → through_first (map look js) ≡ []
   here_of_later [] h = refl
   here_of_later (j ∷ js) h = here_later (look j) (map look js) h.0 ∙ here_of_later js h.1
 
-  there_of_later : (js : List ℕ) → Each (λ i. IsLater (look i)) js → there (map look js) ≡ map (λ i. lowered (look i)) js
+  there_of_later : (js : List ℕ) → Each (λ i. IsLater (look i)) js → through_later (map look js) ≡ map (λ i. lowered (look i)) js
   there_of_later [] h = refl
   there_of_later (j ∷ js) h = there_later (look j) (map look js) h.0 ∙ ap (λ (F : List (List Step)). lowered (look j) ∷ F) (there_of_later js h.1)
 
-  here_of_both : (is js : List ℕ) → Each (λ i. IsFirst (look i)) is → Each (λ i. IsLater (look i)) js → here (map look (is ++ js)) ≡ map (λ i. behind_step (look i)) is
+  here_of_both : (is js : List ℕ) → Each (λ i. IsFirst (look i)) is → Each (λ i. IsLater (look i)) js → through_first (map look (is ++ js)) ≡ map (λ i. behind_step (look i)) is
   here_of_both [] js h g = here_of_later js g
   here_of_both (i ∷ is) js h g = here_first (look i) (map look (is ++ js)) h.0 ∙ ap (λ (F : List (List Step)). behind_step (look i) ∷ F) (here_of_both is js h.1 g)
 
-  there_of_both : (is js : List ℕ) → Each (λ i. IsFirst (look i)) is → Each (λ i. IsLater (look i)) js → there (map look (is ++ js)) ≡ map (λ i. lowered (look i)) js
+  there_of_both : (is js : List ℕ) → Each (λ i. IsFirst (look i)) is → Each (λ i. IsLater (look i)) js → through_later (map look (is ++ js)) ≡ map (λ i. lowered (look i)) js
   there_of_both [] js h g = there_of_later js g
   there_of_both (i ∷ is) js h g = there_first (look i) (map look (is ++ js)) h.0 ∙ there_of_both is js h.1 g
 
-  heads_of_later : (b : ℕ) (js : List ℕ) → Each (λ i. IsLater (look i)) js → HeadsFrom b (there (map look js)) → HeadsFrom (suc b) (map look js)
+  heads_of_later : (b : ℕ) (js : List ℕ) → Each (λ i. IsLater (look i)) js → HeadsFrom b (through_later (map look js)) → HeadsFrom (suc b) (map look js)
   heads_of_later b [] h g = tt
   heads_of_later b (j ∷ js) h g =
-      heads_lifted b (look j) (map look js) h.0 (λ (c : ℕ) (less : b ≤ c) (k : HeadsFrom c (there (map look js))). heads_of_later c js h.1 k)
+      heads_lifted b (look j) (map look js) h.0 (λ (c : ℕ) (less : b ≤ c) (k : HeadsFrom c (through_later (map look js))). heads_of_later c js h.1 k)
       (subst (HeadsFrom b) (there_later (look j) (map look js) h.0) g)
 
   heads_from_zero : (F : List (List Step)) → HeadsFrom 1 F → HeadsFrom 0 F
@@ -222,7 +223,7 @@ module _ (look : ℕ → List Step) where
   heads_from_zero ([] ∷ F) h = absurd h
   heads_from_zero ((s ∷ p) ∷ F) h = (omega arith, h.1)
 
-  heads_of_both : (is js : List ℕ) → Each (λ i. IsFirst (look i)) is → Each (λ i. IsLater (look i)) js → HeadsFrom 0 (there (map look js)) → HeadsFrom 0 (map look (is ++ js))
+  heads_of_both : (is js : List ℕ) → Each (λ i. IsFirst (look i)) is → Each (λ i. IsLater (look i)) js → HeadsFrom 0 (through_later (map look js)) → HeadsFrom 0 (map look (is ++ js))
   heads_of_both [] js h g k = heads_from_zero (map look js) (heads_of_later 0 js g k)
   heads_of_both (i ∷ is) js h g k = heads_first (look i) (map look (is ++ js)) h.0 (heads_of_both is js h.1 g k)
 
@@ -230,12 +231,12 @@ mutual
   schema_ordered : (look : ℕ → List Step) (fs : Fields) (G : List Pick) → AllAt look G → OrderedIn (group fs) (map look (schema_order_in fs G))
   schema_ordered look no_fields G h = (tt, tt)
   schema_ordered look (field m r s fs) G h =
-      let is : List ℕ = shape_schema_order s (behind G) in
-      let js : List ℕ = schema_order_in fs (beside G) in
-      let firsts : Each (λ i. IsFirst (look i)) is = each_in_shape (λ i. IsFirst (look i)) s (behind G) (first_behind look G h) in
-      let laters : Each (λ i. IsLater (look i)) js = each_in_schema (λ i. IsLater (look i)) fs (beside G) (later_beside look G h) in
-      let below : OrderedIn s (map (λ i. behind_step (look i)) is) = shape_ordered (λ i. behind_step (look i)) s (behind G) (at_behind look G h) in
-      let later : OrderedIn (group fs) (map (λ i. lowered (look i)) js) = schema_ordered (λ i. lowered (look i)) fs (beside G) (at_beside look G h) in (
+      let is : List ℕ = shape_schema_order s (first_picks G) in
+      let js : List ℕ = schema_order_in fs (later_picks G) in
+      let firsts : Each (λ i. IsFirst (look i)) is = each_in_shape (λ i. IsFirst (look i)) s (first_picks G) (first_behind look G h) in
+      let laters : Each (λ i. IsLater (look i)) js = each_in_schema (λ i. IsLater (look i)) fs (later_picks G) (later_beside look G h) in
+      let below : OrderedIn s (map (λ i. behind_step (look i)) is) = shape_ordered (λ i. behind_step (look i)) s (first_picks G) (at_behind look G h) in
+      let later : OrderedIn (group fs) (map (λ i. lowered (look i)) js) = schema_ordered (λ i. lowered (look i)) fs (later_picks G) (at_beside look G h) in (
         heads_of_both look is js firsts laters (subst (HeadsFrom 0) (sym (there_of_later look js laters)) later.0),
         (
           subst (OrderedIn s) (sym (here_of_both look is js firsts laters)) below,
@@ -270,15 +271,15 @@ Among p (q ∷ F) = (q ≡ p) ⊎ Among p F
 abbrev pub Within : List (List Step) → List (List Step) → Type 0
 Within F G = (p : List Step) → Among p F → Among p G
 
-keep_here : (k : ℕ) (o p : List Step) (G : List (List Step)) → Among p G → Among p (here_if k o G)
+keep_here : (k : ℕ) (o p : List Step) (G : List (List Step)) → Among p G → Among p (through_first_if k o G)
 keep_here zero o p G h = inr h
 keep_here (suc k) o p G h = h
 
-keep_there : (k : ℕ) (s : Step) (o p : List Step) (G : List (List Step)) → Among p G → Among p (there_if k s o G)
+keep_there : (k : ℕ) (s : Step) (o p : List Step) (G : List (List Step)) → Among p G → Among p (through_later_if k s o G)
 keep_there zero s o p G h = h
 keep_there (suc k) s o p G h = inr h
 
-from_here : (k : ℕ) (o p : List Step) (G : List (List Step)) → Among p (here_if k o G) → ((k ≡ 0) × (o ≡ p)) ⊎ Among p G
+from_here : (k : ℕ) (o p : List Step) (G : List (List Step)) → Among p (through_first_if k o G) → ((k ≡ 0) × (o ≡ p)) ⊎ Among p G
 from_here zero o p G (inl h) = inl (refl, h)
 from_here zero o p G (inr h) = inr h
 from_here (suc k) o p G h = inr h
@@ -288,7 +289,7 @@ abbrev raised : List Step → List Step
 raised [] = []
 raised (s ∷ p) = record { place = suc s.place; repetition = s.repetition } ∷ p
 
-from_there : (k : ℕ) (s : Step) (o p : List Step) (G : List (List Step)) → Among p (there_if k s o G) → (record { place = k; repetition = s.repetition } ∷ o ≡ raised p) ⊎ Among p G
+from_there : (k : ℕ) (s : Step) (o p : List Step) (G : List (List Step)) → Among p (through_later_if k s o G) → (record { place = k; repetition = s.repetition } ∷ o ≡ raised p) ⊎ Among p G
 from_there zero s o p G h = inr h
 from_there (suc k) s o p G (inl h) = inl (ap raised h)
 from_there (suc k) s o p G (inr h) = inr h
@@ -299,57 +300,57 @@ first_step s t o p e = cc
 later_steps : (s t : Step) (o p : List Step) → s ∷ o ≡ t ∷ p → o ≡ p
 later_steps s t o p e = cc
 
-among_first : (r : Repetition) (p : List Step) (F : List (List Step)) → Among (record { place = zero; repetition = r } ∷ p) F → Among p (here F)
+among_first : (r : Repetition) (p : List Step) (F : List (List Step)) → Among (record { place = zero; repetition = r } ∷ p) F → Among p (through_first F)
 among_first r p [] h = h
 among_first r p ([] ∷ F) (inl h) = absurd (cc)
 among_first r p ([] ∷ F) (inr h) = among_first r p F h
 among_first r p ((s ∷ o) ∷ F) (inl h) =
     let e : s ≡ record { place = zero; repetition = r } = first_step s (record { place = zero; repetition = r }) o p h in
-    subst (λ (t : Step). Among p (here_if t.place o (here F))) (sym e) (inl (later_steps s (record { place = zero; repetition = r }) o p h))
-among_first r p ((s ∷ o) ∷ F) (inr h) = keep_here s.place o p (here F) (among_first r p F h)
+    subst (λ (t : Step). Among p (through_first_if t.place o (through_first F))) (sym e) (inl (later_steps s (record { place = zero; repetition = r }) o p h))
+among_first r p ((s ∷ o) ∷ F) (inr h) = keep_here s.place o p (through_first F) (among_first r p F h)
 
 first_of_either : (s : Step) (o p : List Step) (F G : List (List Step)) → ((s.place ≡ 0) × (o ≡ p)) ⊎ Among p G → (Among p G → (r : Repetition) × Among (record { place = zero; repetition = r } ∷ p) F)
     → (r : Repetition) × Among (record { place = zero; repetition = r } ∷ p) ((s ∷ o) ∷ F)
 first_of_either s o p F G (inl h) f = (s.repetition, inl (ap₂ (λ (k : ℕ) (q : List Step). record { place = k; repetition = s.repetition } ∷ q) h.0 h.1))
 first_of_either s o p F G (inr h) f = let k : (r : Repetition) × Among (record { place = zero; repetition = r } ∷ p) F = f h in (k.0, inr k.1)
 
-first_among : (p : List Step) (F : List (List Step)) → Among p (here F) → (r : Repetition) × Among (record { place = zero; repetition = r } ∷ p) F
+first_among : (p : List Step) (F : List (List Step)) → Among p (through_first F) → (r : Repetition) × Among (record { place = zero; repetition = r } ∷ p) F
 first_among p [] h = absurd h
 first_among p ([] ∷ F) h = let k : (r : Repetition) × Among (record { place = zero; repetition = r } ∷ p) F = first_among p F h in (k.0, inr k.1)
-first_among p ((s ∷ o) ∷ F) h = first_of_either s o p F (here F) (from_here s.place o p (here F) h) (first_among p F)
+first_among p ((s ∷ o) ∷ F) h = first_of_either s o p F (through_first F) (from_here s.place o p (through_first F) h) (first_among p F)
 
-among_later : (k : ℕ) (r : Repetition) (p : List Step) (F : List (List Step)) → Among (record { place = suc k; repetition = r } ∷ p) F → Among (record { place = k; repetition = r } ∷ p) (there F)
+among_later : (k : ℕ) (r : Repetition) (p : List Step) (F : List (List Step)) → Among (record { place = suc k; repetition = r } ∷ p) F → Among (record { place = k; repetition = r } ∷ p) (through_later F)
 among_later k r p [] h = h
 among_later k r p ([] ∷ F) (inl h) = absurd (cc)
 among_later k r p ([] ∷ F) (inr h) = among_later k r p F h
 among_later k r p ((s ∷ o) ∷ F) (inl h) =
     let e : s ≡ record { place = suc k; repetition = r } = first_step s (record { place = suc k; repetition = r }) o p h in
-    subst (λ (t : Step). Among (record { place = k; repetition = r } ∷ p) (there_if t.place t o (there F))) (sym e)
+    subst (λ (t : Step). Among (record { place = k; repetition = r } ∷ p) (through_later_if t.place t o (through_later F))) (sym e)
     (inl (ap (λ (q : List Step). record { place = k; repetition = r } ∷ q) (later_steps s (record { place = suc k; repetition = r }) o p h)))
-among_later k r p ((s ∷ o) ∷ F) (inr h) = keep_there s.place s o (record { place = k; repetition = r } ∷ p) (there F) (among_later k r p F h)
+among_later k r p ((s ∷ o) ∷ F) (inr h) = keep_there s.place s o (record { place = k; repetition = r } ∷ p) (through_later F) (among_later k r p F h)
 
-either_later : (s : Step) (o p : List Step) (F : List (List Step)) → (s ∷ o ≡ raised p) ⊎ Among p (there F) → (Among p (there F) → Among (raised p) F) → Among (raised p) ((s ∷ o) ∷ F)
+either_later : (s : Step) (o p : List Step) (F : List (List Step)) → (s ∷ o ≡ raised p) ⊎ Among p (through_later F) → (Among p (through_later F) → Among (raised p) F) → Among (raised p) ((s ∷ o) ∷ F)
 either_later s o p F (inl h) f = inl h
 either_later s o p F (inr h) f = inr (f h)
 
-later_among : (p : List Step) (F : List (List Step)) → Among p (there F) → Among (raised p) F
+later_among : (p : List Step) (F : List (List Step)) → Among p (through_later F) → Among (raised p) F
 later_among p [] h = absurd h
 later_among p ([] ∷ F) h = inr (later_among p F h)
-later_among p ((s ∷ o) ∷ F) h = either_later s o p F (from_there s.place s o p (there F) h) (later_among p F)
+later_among p ((s ∷ o) ∷ F) h = either_later s o p F (from_there s.place s o p (through_later F) h) (later_among p F)
 
-within_here : (F G : List (List Step)) → Within F G → Within (here F) (here G)
+within_here : (F G : List (List Step)) → Within F G → Within (through_first F) (through_first G)
 within_here F G h p a = let k : (r : Repetition) × Among (record { place = zero; repetition = r } ∷ p) F = first_among p F a in among_first k.0 p G (h _ k.1)
 
 none_raised : (s : Step) (o : List Step) (G : List (List Step)) → (s ∷ o ≡ []) ⊎ Among [] G → (Among [] G → ⊥) → ⊥
 none_raised s o G (inl h) f = cc
 none_raised s o G (inr h) f = f h
 
-none_there : (F : List (List Step)) → Among [] (there F) → ⊥
+none_there : (F : List (List Step)) → Among [] (through_later F) → ⊥
 none_there [] h = h
 none_there ([] ∷ F) h = none_there F h
-none_there ((s ∷ o) ∷ F) h = none_raised s o (there F) (from_there s.place s o [] (there F) h) (none_there F)
+none_there ((s ∷ o) ∷ F) h = none_raised s o (through_later F) (from_there s.place s o [] (through_later F) h) (none_there F)
 
-within_there : (F G : List (List Step)) → Within F G → Within (there F) (there G)
+within_there : (F G : List (List Step)) → Within F G → Within (through_later F) (through_later G)
 within_there F G h [] a = absurd (none_there F a)
 within_there F G h (s ∷ p) a = among_later s.place s.repetition p G (h _ (later_among (s ∷ p) F a))
 
@@ -367,9 +368,9 @@ mutual
   pub project_same : (F G : List (List Step)) (n : Node) → Within F G → Within G F → project F n ≡ project G n
   project_same F G no_slots f g = refl
   project_same F G (slot xs n) f g =
-      slot_same (here F) (here G) (project_all (here F) xs) (project_all (here G) xs) (project (there F) n) (project (there G) n) (within_here F G f) (within_here G F g)
-      (all_same (here F) (here G) xs (within_here F G f) (within_here G F g)) (project_same (there F) (there G) n (within_there F G f) (within_there G F g))
-  project_same F G (gap n) f g = ap gap (project_same (there F) (there G) n (within_there F G f) (within_there G F g))
+      slot_same (through_first F) (through_first G) (project_all (through_first F) xs) (project_all (through_first G) xs) (project (through_later F) n) (project (through_later G) n) (within_here F G f) (within_here G F g)
+      (all_same (through_first F) (through_first G) xs (within_here F G f) (within_here G F g)) (project_same (through_later F) (through_later G) n (within_there F G f) (within_there G F g))
+  project_same F G (gap n) f g = ap gap (project_same (through_later F) (through_later G) n (within_there F G f) (within_there G F g))
 
   all_same : (F G : List (List Step)) (xs : Instances) → Within F G → Within G F → project_all F xs ≡ project_all G xs
   all_same F G no_instances f g = refl
@@ -455,3 +456,42 @@ columns_in_order g F (j ∷ js) h = ap₂ (λ x xs. x ∷ xs) (sym (column_at g 
 pub columns_of_order : {B : Type 0} (g : List Step → List B) (fs : Fields) (F : List (List Step)) (C : List (List B)) → map g F ≡ C
     → map g (map (path_at F) (schema_order fs F)) ≡ map (λ i. get_or C i []) (schema_order fs F)
 columns_of_order g fs F C e = columns_in_order g F (schema_order fs F) (order_below fs F) ∙ ap (λ (D : List _). map (λ i. get_or D i []) (schema_order fs F)) e
+
+-- ---- and back
+
+maps_at : {B : Type 0} (g : List Step → List B) (F : List (List Step)) (js : List ℕ) → map g (map (path_at F) js) ≡ map (λ i. g (path_at F i)) js
+maps_at g F [] = refl
+maps_at g F (j ∷ js) = ap (λ (xs : List _). g (path_at F j) ∷ xs) (maps_at g F js)
+
+-- what is the same along places is the same at each of them
+same_at_each : {B : Type 0} (g h : ℕ → List B) (js : List ℕ) (i n : ℕ) → map g js ≡ map h js → times i js ≡ suc n → g i ≡ h i
+same_at_each g h [] i n e t = absurd (omega (arith, t))
+same_at_each g h (j ∷ js) i n e t = by_place (j == i) refl (λ (b : (j == i) ≡ false). same_at_each g h js i n others (again b))
+  where
+    first : g j ≡ h j
+    first = cc
+
+    others : map g js ≡ map h js
+    others = cc
+
+    again : (j == i) ≡ false → times i js ≡ suc n
+    again b = omega (arith, rw b at t)
+
+    by_place : (b : Bool) → (j == i) ≡ b → ((j == i) ≡ false → g i ≡ h i) → g i ≡ h i
+    by_place true b later = let same : j ≡ i = same_number j i b in ap g (sym same) ∙ (first ∙ ap h same)
+    by_place false b later = later b
+
+same_everywhere : {B : Type 0} (g : List Step → List B) (F : List (List Step)) (C : List (List B)) → length C ≡ length F → ((i : ℕ) → i < length F → g (get_or F i []) ≡ get_or C i []) → map g F ≡ C
+same_everywhere g [] [] e h = refl
+same_everywhere g [] (c ∷ C) e h = absurd (omega (arith, e))
+same_everywhere g (p ∷ F) [] e h = absurd (omega (arith, e))
+same_everywhere g (p ∷ F) (c ∷ C) e h =
+    ap₂ (λ x xs. x ∷ xs) (h 0 (omega arith)) (same_everywhere g F C (omega (arith, e)) (λ (i : ℕ) (l : i < length F). h (suc i) (omega (arith, l))))
+
+-- the columns of the paths in schema order are those of all paths
+pub columns_from_order : {B : Type 0} (g : List Step → List B) (fs : Fields) (F : List (List Step)) (C : List (List B)) → list_all (is_leaf_path fs) F ≡ true → OrdersHaveEachOnce → length C ≡ length F
+    → map g (map (path_at F) (schema_order fs F)) ≡ map (λ i. get_or C i []) (schema_order fs F) → map g F ≡ C
+columns_from_order g fs F C leaves once e h =
+    same_everywhere g F C e (λ (i : ℕ) (l : i < length F).
+    same_at_each (λ i. g (path_at F i)) (λ i. get_or C i []) (schema_order fs F) i 0 (sym (maps_at g F (schema_order fs F)) ∙ h)
+    (once fs F i (get_or F i []) (slice_get_get F i l) (leaf_at (is_leaf_path fs) F i l leaves)).0)

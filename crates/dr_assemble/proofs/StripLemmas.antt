@@ -41,60 +41,60 @@ field_column r l d q xs p = spread (instance_column p (l + repetition_count r) (
 
 here_if-strips : (m : List ℕ) (r : Repetition) (s : Shape) (fs : Fields) (xs : Instances) (n : Node) (l d q i : ℕ) (t : Repetition) (p : List Step) (F : List (List Step)) (S : List Strip)
     → is_leaf_path (field m r s fs) (step i t ∷ p) ≡ true → S ≡ strips_of (field_column r l d q xs) F
-    → here_if i p (instance_column (step i t ∷ p) l d q (inner (slot xs n))) S ≡ strips_of (field_column r l d q xs) (record_tree.here_if i p F)
+    → here_if i p (instance_column (step i t ∷ p) l d q (inner (slot xs n))) S ≡ strips_of (field_column r l d q xs) (record_tree.through_first_if i p F)
 here_if-strips m r s fs xs n l d q zero t p F S h e =
     let w : (same_repetition t r ≡ true) × (is_shape_path s p ≡ true) = and_parts _ _ h in
     ap₂ (λ (u : Repetition) (T : List Strip). strip p (field_column u l d q xs p) ∷ T) (same_repetition-true t r w.0) e
 here_if-strips m r s fs xs n l d q (suc i) t p F S h e = e
 
 pub here-strips : (m : List ℕ) (r : Repetition) (s : Shape) (fs : Fields) (xs : Instances) (n : Node) (l d q : ℕ) (F : List (List Step)) → list_all (is_leaf_path (field m r s fs)) F ≡ true
-    → strips_here (strips_of (λ (p : List Step). instance_column p l d q (inner (slot xs n))) F) ≡ strips_of (field_column r l d q xs) (record_tree.here F)
+    → strips_here (strips_of (λ (p : List Step). instance_column p l d q (inner (slot xs n))) F) ≡ strips_of (field_column r l d q xs) (record_tree.through_first F)
 here-strips m r s fs xs n l d q [] h = refl
 here-strips m r s fs xs n l d q ([] ∷ F) h = absurd (true≢false (sym h))
 here-strips m r s fs xs n l d q ((t ∷ p) ∷ F) h =
     let k : (is_leaf_path (field m r s fs) (t ∷ p) ≡ true) × (list_all (is_leaf_path (field m r s fs)) F ≡ true) = and_parts _ _ h in
-    here_if-strips m r s fs xs n l d q t.place t.repetition p (record_tree.here F) (strips_here (strips_of (λ (p : List Step). instance_column p l d q (inner (slot xs n))) F)) k.0 (here-strips m r s fs xs n l d q F k.1)
+    here_if-strips m r s fs xs n l d q t.place t.repetition p (record_tree.through_first F) (strips_here (strips_of (λ (p : List Step). instance_column p l d q (inner (slot xs n))) F)) k.0 (here-strips m r s fs xs n l d q F k.1)
 
 there_if-strips : (xs : Instances) (n : Node) (l d q i : ℕ) (t : Repetition) (p : List Step) (F : List (List Step)) (S : List Strip)
     → S ≡ strips_of (λ (o : List Step). instance_column o l d q (inner n)) F
-    → there_if i (step i t) p (instance_column (step i t ∷ p) l d q (inner (slot xs n))) S ≡ strips_of (λ (o : List Step). instance_column o l d q (inner n)) (record_tree.there_if i (step i t) p F)
+    → there_if i (step i t) p (instance_column (step i t ∷ p) l d q (inner (slot xs n))) S ≡ strips_of (λ (o : List Step). instance_column o l d q (inner n)) (record_tree.through_later_if i (step i t) p F)
 there_if-strips xs n l d q zero t p F S e = e
 there_if-strips xs n l d q (suc i) t p F S e = ap (λ (T : List Strip). strip (step i t ∷ p) (instance_column (step i t ∷ p) l d q (inner n)) ∷ T) e
 
 pub there-strips : (xs : Instances) (n : Node) (l d q : ℕ) (F : List (List Step))
-    → strips_there (strips_of (λ (p : List Step). instance_column p l d q (inner (slot xs n))) F) ≡ strips_of (λ (p : List Step). instance_column p l d q (inner n)) (record_tree.there F)
+    → strips_there (strips_of (λ (p : List Step). instance_column p l d q (inner (slot xs n))) F) ≡ strips_of (λ (p : List Step). instance_column p l d q (inner n)) (record_tree.through_later F)
 there-strips xs n l d q [] = refl
 there-strips xs n l d q ([] ∷ F) = there-strips xs n l d q F
 there-strips xs n l d q ((t ∷ p) ∷ F) =
-    there_if-strips xs n l d q t.place t.repetition p (record_tree.there F) (strips_there (strips_of (λ (o : List Step). instance_column o l d q (inner (slot xs n))) F)) (there-strips xs n l d q F)
+    there_if-strips xs n l d q t.place t.repetition p (record_tree.through_later F) (strips_there (strips_of (λ (o : List Step). instance_column o l d q (inner (slot xs n))) F)) (there-strips xs n l d q F)
 
 -- ---- the paths of a field
 
 here_if-all : (m : List ℕ) (r : Repetition) (s : Shape) (fs : Fields) (i : ℕ) (t : Repetition) (p : List Step) (F : List (List Step))
-    → is_leaf_path (field m r s fs) (step i t ∷ p) ≡ true → list_all (is_shape_path s) F ≡ true → list_all (is_shape_path s) (record_tree.here_if i p F) ≡ true
+    → is_leaf_path (field m r s fs) (step i t ∷ p) ≡ true → list_all (is_shape_path s) F ≡ true → list_all (is_shape_path s) (record_tree.through_first_if i p F) ≡ true
 here_if-all m r s fs zero t p F h e =
     let w : (same_repetition t r ≡ true) × (is_shape_path s p ≡ true) = and_parts _ _ h in
     ap₂ (λ a b. a && b) w.1 e
 here_if-all m r s fs (suc i) t p F h e = e
 
-pub here-all : (m : List ℕ) (r : Repetition) (s : Shape) (fs : Fields) (F : List (List Step)) → list_all (is_leaf_path (field m r s fs)) F ≡ true → list_all (is_shape_path s) (record_tree.here F) ≡ true
+pub here-all : (m : List ℕ) (r : Repetition) (s : Shape) (fs : Fields) (F : List (List Step)) → list_all (is_leaf_path (field m r s fs)) F ≡ true → list_all (is_shape_path s) (record_tree.through_first F) ≡ true
 here-all m r s fs [] h = refl
 here-all m r s fs ([] ∷ F) h = absurd (true≢false (sym h))
 here-all m r s fs ((t ∷ p) ∷ F) h =
     let k : (is_leaf_path (field m r s fs) (t ∷ p) ≡ true) × (list_all (is_leaf_path (field m r s fs)) F ≡ true) = and_parts _ _ h in
-    here_if-all m r s fs t.place t.repetition p (record_tree.here F) k.0 (here-all m r s fs F k.1)
+    here_if-all m r s fs t.place t.repetition p (record_tree.through_first F) k.0 (here-all m r s fs F k.1)
 
 there_if-all : (m : List ℕ) (r : Repetition) (s : Shape) (fs : Fields) (i : ℕ) (t : Repetition) (p : List Step) (F : List (List Step))
-    → is_leaf_path (field m r s fs) (step i t ∷ p) ≡ true → list_all (is_leaf_path fs) F ≡ true → list_all (is_leaf_path fs) (record_tree.there_if i (step i t) p F) ≡ true
+    → is_leaf_path (field m r s fs) (step i t ∷ p) ≡ true → list_all (is_leaf_path fs) F ≡ true → list_all (is_leaf_path fs) (record_tree.through_later_if i (step i t) p F) ≡ true
 there_if-all m r s fs zero t p F h e = e
 there_if-all m r s fs (suc i) t p F h e = ap₂ (λ a b. a && b) h e
 
-pub there-all : (m : List ℕ) (r : Repetition) (s : Shape) (fs : Fields) (F : List (List Step)) → list_all (is_leaf_path (field m r s fs)) F ≡ true → list_all (is_leaf_path fs) (record_tree.there F) ≡ true
+pub there-all : (m : List ℕ) (r : Repetition) (s : Shape) (fs : Fields) (F : List (List Step)) → list_all (is_leaf_path (field m r s fs)) F ≡ true → list_all (is_leaf_path fs) (record_tree.through_later F) ≡ true
 there-all m r s fs [] h = refl
 there-all m r s fs ([] ∷ F) h = absurd (true≢false (sym h))
 there-all m r s fs ((t ∷ p) ∷ F) h =
     let k : (is_leaf_path (field m r s fs) (t ∷ p) ≡ true) × (list_all (is_leaf_path (field m r s fs)) F ≡ true) = and_parts _ _ h in
-    there_if-all m r s fs t.place t.repetition p (record_tree.there F) k.0 (there-all m r s fs F k.1)
+    there_if-all m r s fs t.place t.repetition p (record_tree.through_later F) k.0 (there-all m r s fs F k.1)
 
 -- ---- the pieces of blocks
 

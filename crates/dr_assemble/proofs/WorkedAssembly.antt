@@ -2,15 +2,13 @@
 use Rattle.std.specs.Prelude.{◌≡◌, List, [], ◌∷◌, map, pos, Some, None, codes, refl}
 use Rattle.std.specs.Str.{is_utf8, chars}
 use Rattle.dr_meaning.specs.Path.{Step}
-use Rattle.dr_meaning.specs.Record.{int_value, text_value, Node, no_slots, slot, gap, no_instances, instance, inner, project}
+use Rattle.dr_meaning.specs.Record.{int_value, text_value, Node, no_slots, slot, gap, no_instances, project}
 use Rattle.dr_meaning.specs.Column.{Triplet, triplet, column}
 use Rattle.dr_meaning.proofs.WorkedSchemas.{document}
 use Rattle.dr_meaning.proofs.WorkedRecords.{record_10, record_20, numbers}
 use Rattle.dr_meaning.proofs.WorkedPaths.{doc_id, backward, forward, code, country, url}
 use Rattle.dr_assemble.specs.Restoring.{strips}
 use Rattle.dr_assemble.proofs.ByPaths.{restored_records}
-use Rattle.dr_assemble.specs.Assembly.{HasColumns}
-use Rattle.dr_assemble.proofs.AssemblyLemmas.{none_restored, others_restored}
 
 abbrev records : List Node
 records = record_10 ∷ record_20 ∷ []
@@ -49,28 +47,6 @@ no_names = slot (numbers (10 ∷ [])) (gap (slot no_instances no_slots))
 
 pub no_name : restored_records document 1 (strips id_and_url (ten ∷ (null ∷ []) ∷ [])) ≡ Some (no_names ∷ [])
 no_name = refl
-
--- no one record has two nulls of Url
-pub a_null_more : (R : List Node) → HasColumns document id_and_url (ten ∷ (null ∷ null ∷ []) ∷ []) 1 R → ⊥
-a_null_more R h = others_restored document id_and_url (ten ∷ (null ∷ null ∷ []) ∷ []) 1 (no_names ∷ []) refl refl (λ e. cc) R h
-
--- no record has a column without a triplet
-pub a_column_too_short : (R : List Node) → HasColumns document id_and_url (ten ∷ [] ∷ []) 1 R → ⊥
-a_column_too_short R h = others_restored document id_and_url (ten ∷ [] ∷ []) 1 (no_names ∷ []) refl refl (λ e. cc) R h
-
--- the first column says how many records there are
-pub a_row_too_many : (R : List Node) → HasColumns document id_and_url (ten ∷ (null ∷ []) ∷ []) 2 R → ⊥
-a_row_too_many R h = none_restored document id_and_url (ten ∷ (null ∷ []) ∷ []) 2 refl refl R h
-
--- a required leaf has a value
-pub a_value_missing : (R : List Node) → HasColumns document (doc_id ∷ []) ((null ∷ []) ∷ []) 1 R → ⊥
-a_value_missing R h = none_restored document (doc_id ∷ []) ((null ∷ []) ∷ []) 1 refl refl R h
-
--- two columns that disagree on the instances of a group that they share
-pub instances_disagree : (R : List Node) → HasColumns document (code ∷ url ∷ []) ((triplet 0 1 None ∷ triplet 1 1 None ∷ []) ∷ (triplet 0 1 None ∷ []) ∷ []) 1 R → ⊥
-instances_disagree R h =
-    others_restored document (code ∷ url ∷ []) ((triplet 0 1 None ∷ triplet 1 1 None ∷ []) ∷ (triplet 0 1 None ∷ []) ∷ []) 1
-    (gap (gap (slot (instance (inner (slot no_instances (slot no_instances no_slots))) (instance (inner (slot no_instances (slot no_instances no_slots))) no_instances)) no_slots)) ∷ []) refl refl (λ e. cc) R h
 
 -- no rows; no columns
 pub nothing : (restored_records document 0 (strips two ([] ∷ [] ∷ [])) ≡ Some []) × (restored_records document 2 [] ≡ Some (gap (gap (gap no_slots)) ∷ gap (gap (gap no_slots)) ∷ []))

@@ -1,23 +1,22 @@
--- Passing triplets that come next.
-use Rattle.std.specs.Prelude.{◌≡◌, ℕ, ◌+◌, List, ◌++◌, Bool, true, false}
-use denote.Ref.{Bor}
-use Rattle.dr_meaning.specs.Record as tree
-use Rattle.dr_meaning.specs.Column.{Triplet, instance_column, spread}
-use Rattle.dr_meaning.specs.Path.{Step}
-use Rattle.dr_meaning.specs.Schema.{repetition_count, definition_count}
-use Rattle.dr_nested.specs.Views.{value_view}
-use Rattle.dr_nested.specs.declared.record.Value.{Value}
-
-abbrev pub lent_value : Bor Value → tree.Value
-lent_value v = value_view v.now
+-- Comparing strips of one leaf.
+use Rattle.std.specs.Prelude.{◌≡◌, List, ◌++◌, Bool, true, false, Option, Some, None}
+use Rattle.dr_meaning.specs.Path.{same_path}
+use Rattle.dr_meaning.specs.Column.{Triplet}
+use Rattle.dr_assemble.specs.Restoring.{Strip}
+use Rattle.dr_assemble.specs.declared.distinct.Beside.{Beside}
 
 -- these came next and have been passed; or they don't come next
 abbrev pub Passes : List Triplet → List Triplet → List Triplet → Bool → Type 0
 Passes ts before after true = before ≡ ts ++ after
 Passes ts before after false = (us : List Triplet) → before ≡ ts ++ us → ⊥
 
--- what the instances of a field give a path that goes on by its step
-abbrev pub field_column : List Step → Step → ℕ → ℕ → ℕ → tree.Instances → List Triplet
-field_column p s level d r xs =
-    spread (instance_column p (level + repetition_count s.repetition) (d + definition_count s.repetition))
-    (level + repetition_count s.repetition) d r xs
+-- of a strip that is of the same leaf as the last that was kept
+abbrev pub IsBeside : Strip → Strip → Beside → Type 0
+IsBeside k s Beside.New = same_path k.rest s.rest ≡ false
+IsBeside k s Beside.Same = (same_path k.rest s.rest ≡ true) × (k.triplets ≡ s.triplets)
+IsBeside k s Beside.Other = (same_path k.rest s.rest ≡ true) × (k.triplets ≡ s.triplets → ⊥)
+
+-- what a strip is beside the last that was kept, if any was
+abbrev pub Compares : Option Strip → Strip → Beside → Type 0
+Compares None s b = b ≡ Beside.New
+Compares (Some k) s b = IsBeside k s b

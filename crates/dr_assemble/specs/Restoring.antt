@@ -1,4 +1,4 @@
--- Restoring nodes of the triplets of their leaves. Whether what is restored has these triplets for its columns is left to a comparison.
+-- Restoring nodes of the triplets of their leaves, which are those of records.
 use Rattle.std.specs.Prelude.{ℕ, zero, suc, ◌+◌, List, [], ◌∷◌, map, Bool, true, ◌==◌}
 use Rattle.std.specs.Prelude.{nat_lt, if◌then◌else◌, get_or, Option, Some, None, option_map, option_and_then}
 use Rattle.dr_meaning.specs.Schema.{Repetition, required, optional, repeated, Kind, Fields, no_fields}
@@ -15,6 +15,13 @@ pub record Strip : Type 0 where
 
 abbrev pub strip : List Step → List Triplet → Strip
 strip p ts = record { rest = p; triplets = ts }
+
+-- the paths and the triplets of strips
+abbrev pub rests : List Strip → List (List Step)
+rests S = map (λ (g : Strip). g.rest) S
+
+abbrev pub columns_of : List Strip → List (List Triplet)
+columns_of S = map (λ (g : Strip). g.triplets) S
 
 -- ---- the strips of a group's fields, which come field after field
 

@@ -3,23 +3,20 @@ use Rattle.std.specs.Prelude.{◌≡◌, List, map, Option, Some, None, Result, 
 use Rattle.dr_meaning.specs.Path as path
 use Rattle.dr_meaning.specs.Record as record_tree
 use Rattle.dr_meaning.specs.Column.{Triplet, column}
-use Rattle.dr_nested.specs.PathView.{step_view, path_view}
+use Rattle.dr_nested.specs.PathView.{step_view, paths_view}
 use Rattle.dr_nested.specs.Views.{node_view}
 use Rattle.dr_nested.specs.declared.path.Path.{Path}
 use Rattle.dr_nested.specs.declared.record.Node.{Node}
 use Rattle.dr_levels.specs.Views.{triplets_view}
 use Rattle.dr_assemble.specs.Restoring as restoring
 use Rattle.dr_assemble.specs.declared.strip.Strip.{Strip}
-use Rattle.dr_assemble.specs.declared.fault.AssembleFault.{AssembleFault}
+use Rattle.dr_walk.specs.declared.fault.AssembleFault.{AssembleFault}
 
 abbrev pub strip_view : Strip → restoring.Strip
 strip_view s = record { rest = map step_view s.rest.now; triplets = triplets_view s.triplets }
 
 abbrev pub strips_view : List Strip → List restoring.Strip
 strips_view ss = map strip_view ss
-
-abbrev pub paths_view : List Path → List (List path.Step)
-paths_view ps = map (λ (p : Path). (path_view p).path) ps
 
 abbrev pub nodes_view : List Node → List record_tree.Node
 nodes_view ns = map node_view ns

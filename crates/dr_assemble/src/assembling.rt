@@ -1,7 +1,7 @@
 //! The records of columns.
 
 ghost use Rattle.std.specs.Prelude.{◌≡◌, ◌≤◌, ◌<◌, All, List, length, map, true, IfOk, IsErrOf};
-ghost use Rattle.dr_assemble.specs.declared.fault.AssembleFault.{AssembleFault};
+ghost use Rattle.dr_walk.specs.declared.fault.AssembleFault.{AssembleFault};
 ghost use Rattle.std.specs.List.{list_all};
 ghost use Rattle.dr_meaning.specs.Schema.{depth, greatest_depth};
 ghost use Rattle.dr_meaning.specs.Path.{is_leaf_path};
@@ -10,15 +10,17 @@ ghost use Rattle.dr_meaning.specs.Record.{project};
 ghost use Rattle.dr_nested.specs.Views.{fields_view};
 ghost use Rattle.dr_levels.specs.Views.{columns_view};
 ghost use Rattle.dr_assemble.specs.Restoring as restoring;
-ghost use Rattle.dr_assemble.specs.Assembly.{HasColumns, AreProjections, NoneHas};
-ghost use Rattle.dr_assemble.specs.Views.{strips_view, paths_view, nodes_view, columns_at, Restores};
+ghost use Rattle.dr_assemble.specs.Assembly.{AreProjections};
+ghost use Rattle.dr_assemble.specs.Views.{strips_view, nodes_view, Restores};
+ghost use Rattle.dr_nested.specs.PathView.{paths_view};
+ghost use Rattle.dr_walk.specs.Walking.{HasColumns, NoneHas};
 
-use crate::comparing::have_columns;
-use crate::fault::AssembleFault;
+use crate::judging::judge;
 use crate::restoring::restore_node;
-use crate::strip::{Strip, copied, count_pieces, cut};
+use crate::strip::{Strip, copied, cut};
 use dr_levels::{Column, schema_order};
 use dr_nested::{Field, Node, Path, Schema};
+use dr_walk::AssembleFault;
 use std::alloc::{AllocError, Global};
 
 /// The fields' paths with their columns, in this order.
@@ -43,16 +45,6 @@ fn strips_of<'a>(
     Ok(strips)
 }
 
-/// Whether the first strip has as many pieces as there are rows.
-fn has_rows(strips: &[Strip], rows: u64) -> bool
-    ensures { result ≡ restoring.has_rows rows (strips_view strips.now) }
-{
-    match strips {
-        [first, ..] => count_pieces(first.triplets, 0) as u64 == rows,
-        [] => true,
-    }
-}
-
 /// So many nodes, each of the first pieces of what the earlier ones left.
 fn restore_rows(
     alloc: Global,
@@ -75,47 +67,9 @@ fn restore_rows(
     Ok(nodes)
 }
 
-/// So many nodes of whole columns.
-fn restore_records(
-    alloc: Global,
-    fields: &Vec<Field>,
-    strips: &[Strip],
-    rows: u64,
-) -> Result<Vec<Node>, AssembleFault>
-    requires { depth (fields_view (fields.now).items) ≤ greatest_depth }
-    ensures { Restores (λ v. nodes_view v.items)
-        (restoring.assembled_records (fields_view (fields.now).items) rows (strips_view strips.now)) result }
-{
-    if has_rows(strips, rows) {
-        restore_rows(alloc, fields, strips, rows)
-    } else {
-        Err(AssembleFault::BadData)
-    }
-}
-
-/// Nodes that have these columns, one for each field.
-fn with_columns(
-    fields: &[Path],
-    columns: &[Column],
-    nodes: Vec<Node>,
-) -> Result<Vec<Node>, AssembleFault>
-    requires { length fields.now ≡ length columns.now }
-    ensures same { IfOk result (λ v. v.items ≡ nodes.items) }
-    ensures have { IfOk result (λ v. columns_at fields.now nodes.items ≡ columns_view columns.now) }
-    ensures others { IsErrOf result AssembleFault.BadData → columns_at fields.now nodes.items ≡ columns_view columns.now
-        → ⊥ }
-{
-    if have_columns(fields, columns, &nodes) {
-        Ok(nodes)
-    } else {
-        Err(AssembleFault::BadData)
-    }
-}
-
 /// The projections to the leaves of the fields of as many records of the schema as there are rows, which have these
-/// columns, one for each field. Nodes are restored of the columns as if they were some records', the fields in schema
-/// order, and what they give each column is then compared with it, triplet by triplet. The time is linear in the
-/// triplets and in the nodes' slots.
+/// columns, one for each field: a walk over the columns judges them, and then the nodes are restored of the columns, the
+/// fields in schema order. The time is linear in the triplets and in the nodes' slots.
 ///
 /// Errors: `BadData` exactly where no such records have these columns; want of memory.
 pub fn assemble(
@@ -139,8 +93,6 @@ pub fn assemble(
     }
     let order = schema_order(alloc, schema, fields)?;
     let strips = strips_of(alloc, fields, columns, &order)?;
-    match restore_records(alloc, &schema.fields, &strips, rows) {
-        Ok(nodes) => with_columns(fields, columns, nodes),
-        Err(fault) => Err(fault),
-    }
+    judge(alloc, schema, &strips, rows)?;
+    restore_rows(alloc, &schema.fields, &strips, rows)
 }

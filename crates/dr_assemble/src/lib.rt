@@ -2,10 +2,10 @@
 #![tactic(auto)]
 
 mod assembling;
-mod comparing;
-mod fault;
+mod distinct;
+mod judging;
 mod restoring;
 mod strip;
 
 pub use assembling::assemble;
-pub use fault::AssembleFault;
+pub use dr_walk::AssembleFault;

@@ -8,10 +8,10 @@ ghost use Rattle.dr_levels.specs.Views.{lent_value, triplets_view};
 ghost use Rattle.dr_assemble.specs.Restoring as restoring;
 ghost use Rattle.dr_assemble.specs.Views.{strips_view, Restores};
 
-use crate::fault::AssembleFault;
 use crate::strip::{Strip, copied, count_pieces, cut, front_length, without_steps};
 use dr_levels::{Triplets, ValueRef};
 use dr_nested::{Field, Instance, Kind, Node, Rep, Shape, Slot, Value, is_of_kind};
+use dr_walk::AssembleFault;
 use std::alloc::Global;
 
 /// The value of the first triplet.

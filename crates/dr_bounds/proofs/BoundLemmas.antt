@@ -11,13 +11,13 @@ use Rattle.dr_meaning.specs.Path.{Step, Leaf, longer, begins_with}
 use Rattle.dr_meaning.specs.Record.{Value, Node, is_record, project}
 use Rattle.dr_meaning.specs.Rows.{rows}
 use Rattle.dr_meaning.specs.Column.{column}
-use Rattle.dr_meaning.specs.Expression.{Expression, evaluate, paths_of, expression_level, longest_level}
+use Rattle.dr_meaning.specs.Expression.{Expression, evaluate, paths_of, expression_chain, longest_chain}
 use Rattle.dr_meaning.specs.Kept.{kept}
 use Rattle.dr_meaning.specs.Query.{smaller, larger, Aggregate, count, sum, least, greatest, GroupTerm, key, count_rows, aggregate, GroupItem, Selection, objects, groups, Query, key_tuple, tuple_order, group_tuples, group_rows, Levels, levels_of}
 use Rattle.dr_meaning.specs.MeaningLaws.{condition_paths, group_term_paths, selection_paths, all_lead, covers}
 use Rattle.dr_meaning.specs.ProjectionLaws.{leads}
 use Rattle.dr_meaning.specs.QueryLeaves.{query_leaves}
-use Rattle.dr_meaning.proofs.MeaningLemmas.{both_lead, longer-leads, longest_level-leads, column_of_projections}
+use Rattle.dr_meaning.proofs.MeaningLemmas.{both_lead, longer-leads, longest_chain-leads, column_of_projections}
 use Rattle.dr_partials.specs.Accumulators.{Accumulator, counted, summed, least_of, greatest_of, join_options, join, accumulated}
 use Rattle.dr_partials.specs.Partials.{term_accumulator, group_of, selected_partial, partial_of}
 use Rattle.dr_partials.specs.PartialBounds.{CanBeOf, AllCanBeOf, GroupsCanBeOf, PartialCanBeOf, is_of_64_bits}
@@ -103,12 +103,12 @@ term_few : (n : ℕ) (F : List (List Step)) (ns : List Node) → Few n F ns → 
 unfolding AccumulatorFew
 term_few n F ns f keys k t (key i) l s = tt
 term_few n F ns f keys k t count_rows l s =
-    let p = longest_level keys in
-    omega (arith, filter_few (λ row. is_eq (tuple_order (key_tuple keys row) t)) (flat_map (rows p) ns), f.rows_few p (longest_level-leads keys F k))
+    let p = longest_chain keys in
+    omega (arith, filter_few (λ row. is_eq (tuple_order (key_tuple keys row) t)) (flat_map (rows p) ns), f.rows_few p (longest_chain-leads keys F k))
 term_few n F ns f keys k t (aggregate a e) l s =
-    let p = longer (longest_level keys) (expression_level e) in
+    let p = longer (longest_chain keys) (expression_chain e) in
     let ms : List Node = group_rows keys t p ns in
-    let few : length (flat_map (rows p) ns) ≤ n = f.rows_few p (longer-leads (longest_level keys) (expression_level e) F (longest_level-leads keys F k) (longest_level-leads (paths_of e) F l)) in
+    let few : length (flat_map (rows p) ns) ≤ n = f.rows_few p (longer-leads (longest_chain keys) (expression_chain e) F (longest_chain-leads keys F k) (longest_chain-leads (paths_of e) F l)) in
     let fewer : length ms ≤ length (flat_map (rows p) ns) = filter_few (λ row. is_eq (tuple_order (key_tuple keys row) t)) (flat_map (rows p) ns) in
     more (length (map (evaluate e) ms)) n (accumulated a (map (evaluate e) ms)) (omega (arith, few, fewer, length-map ms (evaluate e)))
     (gathered a e ms s (filter_small (λ row. is_eq (tuple_order (key_tuple keys row) t)) (flat_map (rows p) ns) (all_rows_small p ns f.small)))

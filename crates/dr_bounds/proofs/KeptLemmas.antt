@@ -6,7 +6,7 @@ use Rattle.std.proofs.lemmas.List.{length-append}
 use Rattle.dr_meaning.specs.Path.{Step}
 use Rattle.dr_meaning.specs.Record.{Node, no_slots, slot, gap, Instances, no_instances, instance, Instance, atom, inner, instances_at, put_at, single}
 use Rattle.dr_meaning.specs.Rows.{rows}
-use Rattle.dr_meaning.specs.Expression.{Expression, expression_level, evaluate, is_true}
+use Rattle.dr_meaning.specs.Expression.{Expression, expression_chain, evaluate, is_true}
 use Rattle.dr_meaning.specs.Kept.{with_kept, keep_each, if_some_kept, keep_below, keep_instance, kept_along, kept}
 use Rattle.dr_partials.proofs.RowLemmas.{Each}
 use Rattle.dr_bounds.proofs.SmallLemmas.{SmallNode, SmallAll, SmallOne, at_small, put_small}
@@ -97,7 +97,7 @@ along_kept (s ∷ p) test n = below_kept test (λ xs. put_at s.place xs n) (keep
 
 kept_part : (c : Option Expression) (n : Node) → KeptOf n (kept c n)
 kept_part None n = if_itself n true
-kept_part (Some e) n = along_kept (expression_level e) (λ row. is_true (evaluate e row)) n
+kept_part (Some e) n = along_kept (expression_chain e) (λ row. is_true (evaluate e row)) n
 
 -- ---- of records
 

@@ -10,6 +10,7 @@ use crate::records::record_read;
 use crate::runs::runs_read;
 use crate::structs::{file_again, page_again, struct_again};
 use crate::values::{picked, plain_read};
+use crate::walks::{columns_walked, records_walked};
 use dr_case_lines::Broken;
 use std::alloc::Global;
 
@@ -50,6 +51,8 @@ fn answer_more(
         "leaf_place" => place_found(alloc, words, bytes),
         "made" => lines_made(alloc, words),
         "made_record" => record_made(alloc, words),
+        "walk" => records_walked(alloc, words, bytes),
+        "walk_columns" => columns_walked(alloc, words, bytes),
         _ => Err(Broken::Form),
     }
 }

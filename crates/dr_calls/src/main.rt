@@ -14,7 +14,9 @@ mod runs;
 mod session;
 mod structs;
 mod texts;
+mod triplets;
 mod values;
+mod walks;
 
 use dr_case_lines::{Broken, Place, Tally};
 use session::Session;

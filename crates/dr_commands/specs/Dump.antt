@@ -2,13 +2,12 @@
 use Rattle.std.specs.Prelude.{true, false, List, [], ◌∷◌, Option, Some, Result, Ok, Err, map, codes, option_map, option_and_then, string_bytes}
 use Rattle.std.specs.List.{flat_map}
 use Rattle.clap.specs.Words.{App, Row, Text, all_of, first_of, new_rule}
-use Rattle.dr_meaning.specs.Path.{Leaf}
+use Rattle.dr_meaning.specs.Path.{Leaf, paths_of_leaves}
 use Rattle.dr_meaning.specs.Record.{project}
 use Rattle.dr_meaning.specs.Print.{record_text}
 use Rattle.dr_meaning.specs.Fsm.{named_leaves}
 use Rattle.dr_meaning.specs.Refusals.{CommandRefusal}
 use Rattle.dr_formats.specs.TableFile.{Table, TableFault, parse_table}
-use Rattle.dr_reading.specs.Premises.{paths_of_leaves}
 use Rattle.dr_reading.specs.Scan.{Scan, tablets_of}
 use Rattle.dr_commands.specs.Refusals.{table_refused, refusal_of}
 use Rattle.dr_commands.specs.Meaning.{Meaning, Outcome, refused, scans}

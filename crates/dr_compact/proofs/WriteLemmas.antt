@@ -11,9 +11,10 @@ use Rattle.dr_memory.specs.declared.NoMemory.{NoMemory}
 use Rattle.dr_compact.specs.declared.tree.Values.{Values}
 use Rattle.dr_compact.specs.declared.tree.Field.{Field}
 use Rattle.dr_compact.specs.Views.{SeenField, SeenValues, items_from, pairs_from, map_of_pairs, map_from, values_view, item_view, fields_view}
-use Rattle.dr_compact.specs.Writes.{BeginsWith, Writes, first_bytes, values_bytes, short_delta}
+use Rattle.dr_compact.specs.Writes.{Writes, first_bytes, values_bytes, short_delta}
 use Rattle.dr_compact.proofs.ViewLemmas.{view-field}
 use Rattle.dr_compact.proofs.ElementLemmas.{IsSeenAs}
+use Rattle.dr_meaning.specs.Lists.{BeginsWith}
 
 -- of all bytes, those before the rest have been joined
 abbrev pub Partly : List ℕ → List ℕ → List ℕ → List ℕ → Type 0

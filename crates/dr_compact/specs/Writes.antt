@@ -3,10 +3,7 @@ use Rattle.std.specs.Prelude.{◌≡◌, ℕ, zero, suc, ℤ, pos, negsuc, nat_l
 use Rattle.dr_formats.specs.Compact.{Item, item_bytes, items_bytes, list_header_bytes}
 use Rattle.dr_memory.specs.declared.NoMemory.{NoMemory}
 use Rattle.dr_compact.specs.Views.{SeenValues, items_from}
-
--- the bytes so far are still there, with others behind them
-abbrev pub BeginsWith : List ℕ → List ℕ → Type 0
-BeginsWith before now = (more : List ℕ) × (now ≡ before ++ more)
+use Rattle.dr_meaning.specs.Lists.{BeginsWith}
 
 -- the bytes were joined to those before; where memory ran out, some of them may have been
 abbrev pub Writes : List ℕ → List ℕ → List ℕ → Result (Unit {0}) NoMemory → Type 0

@@ -5,7 +5,7 @@ use Rattle.std.specs.List.{list_all}
 use Rattle.std.proofs.lemmas.Bool.{and_parts, eq-eqb, ne_eqb, eqb-true}
 use Rattle.dr_meaning.specs.Schema.{Repetition, Fields, no_fields, field, Shape, leaf, group}
 use Rattle.dr_meaning.specs.Path.{Step, same_path, begins_with, is_leaf_path, is_empty_path}
-use Rattle.dr_meaning.specs.Automaton.{Pick, picks, picks_from, behind_if, behind_pick, behind, beside_if, beside_pick, beside}
+use Rattle.dr_meaning.specs.Automaton.{Pick, picks, picks_from, first_picks_if, first_picks_and, first_picks, later_picks_if, later_picks_and, later_picks}
 use Rattle.dr_course.specs.Selection.{differs, all_differ}
 use Rattle.dr_course.proofs.Apart.{AtMostOne, Apart, ShapeApart}
 use Rattle.dr_course.proofs.FollowsWalk.{Paths, ShapePaths, field_paths}
@@ -32,51 +32,51 @@ same_behind k r t p q = rw (eq-eqb k k refl) refl
 same_beside : (j k : ℕ) (r t : Repetition) (p q : List Step) → same_path (record { place = suc j; repetition = r } ∷ p) (record { place = suc k; repetition = t } ∷ q) ≡ same_path (record { place = j; repetition = r } ∷ p) (record { place = k; repetition = t } ∷ q)
 same_beside j k r t p q = ap₂ (λ (x y : Bool). (x && begins_with p q) && (y && begins_with q p)) (suc_eqb j k) (suc_eqb k j)
 
-differs_behind : (r : Repetition) (p : List Step) (G : List Pick) → Differs (record { place = 0; repetition = r } ∷ p) G → Differs p (behind G)
+differs_behind : (r : Repetition) (p : List Step) (G : List Pick) → Differs (record { place = 0; repetition = r } ∷ p) G → Differs p (first_picks G)
 differs_behind r p [] h = tt
 differs_behind r p (g ∷ G) h = by_rest g.rest h.0 (differs_behind r p G h.1)
   where
-    by_rest : (q : List Step) → same_path (record { place = 0; repetition = r } ∷ p) q ≡ false → Differs p (behind G) → Differs p (behind_pick q g.index (behind G))
+    by_rest : (q : List Step) → same_path (record { place = 0; repetition = r } ∷ p) q ≡ false → Differs p (first_picks G) → Differs p (first_picks_and q g.index (first_picks G))
     by_rest [] e d = d
     by_rest (t ∷ q) e d = by_place t.place e
       where
-        by_place : (k : ℕ) → same_path (record { place = 0; repetition = r } ∷ p) (record { place = k; repetition = t.repetition } ∷ q) ≡ false → Differs p (behind_if k q g.index (behind G))
+        by_place : (k : ℕ) → same_path (record { place = 0; repetition = r } ∷ p) (record { place = k; repetition = t.repetition } ∷ q) ≡ false → Differs p (first_picks_if k q g.index (first_picks G))
         by_place zero e = (sym (same_behind 0 r t.repetition p q) ∙ e, d)
         by_place (suc k) e = d
 
-differs_beside : (j : ℕ) (r : Repetition) (p : List Step) (G : List Pick) → Differs (record { place = suc j; repetition = r } ∷ p) G → Differs (record { place = j; repetition = r } ∷ p) (beside G)
+differs_beside : (j : ℕ) (r : Repetition) (p : List Step) (G : List Pick) → Differs (record { place = suc j; repetition = r } ∷ p) G → Differs (record { place = j; repetition = r } ∷ p) (later_picks G)
 differs_beside j r p [] h = tt
 differs_beside j r p (g ∷ G) h = by_rest g.rest h.0 (differs_beside j r p G h.1)
   where
-    by_rest : (q : List Step) → same_path (record { place = suc j; repetition = r } ∷ p) q ≡ false → Differs (record { place = j; repetition = r } ∷ p) (beside G) → Differs (record { place = j; repetition = r } ∷ p) (beside_pick q g.index (beside G))
+    by_rest : (q : List Step) → same_path (record { place = suc j; repetition = r } ∷ p) q ≡ false → Differs (record { place = j; repetition = r } ∷ p) (later_picks G) → Differs (record { place = j; repetition = r } ∷ p) (later_picks_and q g.index (later_picks G))
     by_rest [] e d = d
     by_rest (t ∷ q) e d = by_place t.place e
       where
-        by_place : (k : ℕ) → same_path (record { place = suc j; repetition = r } ∷ p) (record { place = k; repetition = t.repetition } ∷ q) ≡ false → Differs (record { place = j; repetition = r } ∷ p) (beside_if k t q g.index (beside G))
+        by_place : (k : ℕ) → same_path (record { place = suc j; repetition = r } ∷ p) (record { place = k; repetition = t.repetition } ∷ q) ≡ false → Differs (record { place = j; repetition = r } ∷ p) (later_picks_if k t q g.index (later_picks G))
         by_place zero e = d
         by_place (suc k) e = (sym (same_beside j k r t.repetition p q) ∙ e, d)
 
-all_behind : (G : List Pick) → AllDiffer G → AllDiffer (behind G)
+all_behind : (G : List Pick) → AllDiffer G → AllDiffer (first_picks G)
 all_behind [] h = tt
 all_behind (g ∷ G) h = by_rest g.rest h.0 (all_behind G h.1)
   where
-    by_rest : (q : List Step) → Differs q G → AllDiffer (behind G) → AllDiffer (behind_pick q g.index (behind G))
+    by_rest : (q : List Step) → Differs q G → AllDiffer (first_picks G) → AllDiffer (first_picks_and q g.index (first_picks G))
     by_rest [] d a = a
     by_rest (t ∷ q) d a = by_place t.place d
       where
-        by_place : (k : ℕ) → Differs (record { place = k; repetition = t.repetition } ∷ q) G → AllDiffer (behind_if k q g.index (behind G))
+        by_place : (k : ℕ) → Differs (record { place = k; repetition = t.repetition } ∷ q) G → AllDiffer (first_picks_if k q g.index (first_picks G))
         by_place zero d = (differs_behind t.repetition q G d, a)
         by_place (suc k) d = a
 
-all_beside : (G : List Pick) → AllDiffer G → AllDiffer (beside G)
+all_beside : (G : List Pick) → AllDiffer G → AllDiffer (later_picks G)
 all_beside [] h = tt
 all_beside (g ∷ G) h = by_rest g.rest h.0 (all_beside G h.1)
   where
-    by_rest : (q : List Step) → Differs q G → AllDiffer (beside G) → AllDiffer (beside_pick q g.index (beside G))
+    by_rest : (q : List Step) → Differs q G → AllDiffer (later_picks G) → AllDiffer (later_picks_and q g.index (later_picks G))
     by_rest [] d a = a
     by_rest (t ∷ q) d a = by_place t.place d
       where
-        by_place : (k : ℕ) → Differs (record { place = k; repetition = t.repetition } ∷ q) G → AllDiffer (beside_if k t q g.index (beside G))
+        by_place : (k : ℕ) → Differs (record { place = k; repetition = t.repetition } ∷ q) G → AllDiffer (later_picks_if k t q g.index (later_picks G))
         by_place zero d = a
         by_place (suc k) d = (differs_beside k t.repetition q G d, a)
 
@@ -93,7 +93,7 @@ at_most_one k (f ∷ g ∷ G) u h = both f.rest g.rest u.0 u.1.0 h.0.0
 mutual
   fields_apart : (fs : Fields) (G : List Pick) → Paths fs G → AllDiffer G → Apart fs G
   fields_apart no_fields G u h = tt
-  fields_apart (field m c s fs) G u h = let q = field_paths m c s fs G u in (shape_apart s (behind G) q.first (all_behind G h), fields_apart fs (beside G) q.others (all_beside G h))
+  fields_apart (field m c s fs) G u h = let q = field_paths m c s fs G u in (shape_apart s (first_picks G) q.first (all_behind G h), fields_apart fs (later_picks G) q.others (all_beside G h))
 
   shape_apart : (s : Shape) (G : List Pick) → ShapePaths s G → AllDiffer G → ShapeApart s G
   shape_apart (leaf k) G u h = at_most_one k G u h

@@ -3,7 +3,7 @@ use Rattle.std.proofs.Common.{◌≡◌, ℕ, suc, ◌+◌, List, [], ◌∷◌,
 use Rattle.dr_meaning.specs.Schema.{Repetition, required, optional, repeated, Fields, no_fields, field, Shape, leaf, group, repetition_count, shape_repeated_fields}
 use Rattle.dr_meaning.specs.Record.{no_slots, no_instances}
 use Rattle.dr_meaning.specs.Column.{triplet}
-use Rattle.dr_meaning.specs.Automaton.{Pick, behind, beside, indexes, near_order, far_order, shape_near_order, shape_far_order, unless_repeated as order_unless_repeated, where_repeated}
+use Rattle.dr_meaning.specs.Automaton.{Pick, first_picks, later_picks, indexes, near_order, far_order, shape_near_order, shape_far_order, unless_repeated as order_unless_repeated, where_repeated}
 use Rattle.dr_meaning.specs.Walk.{Move, value, Depth, inside, begun_later, triplet_moves, unless_repeated, repeated_moves, by_repetition, where_selected, moves_in, near_moves, far_moves, shape_near_moves, shape_far_moves}
 use Rattle.dr_course.proofs.Made.{nulls}
 use Rattle.dr_course.proofs.GateLemmas.{nulls_append, no_shape_near_order, no_shape_far_order}
@@ -23,10 +23,10 @@ unless_part repeated x is r d h = refl
 mutual
   pub near_in_absent : (fs : Fields) (F : List Pick) (at : Depth) → near_moves fs F at no_slots ≡ nulls (near_order fs F) at.repetition at.definition
   near_in_absent no_fields F at = refl
-  near_in_absent (field n c h fs) F at = two_parts (unless_repeated c (shape_near_moves h (behind F) (inside c at None) None)) (near_moves fs (beside F) at no_slots)
-      (order_unless_repeated c (shape_near_order h (behind F))) (near_order fs (beside F)) at.repetition at.definition
-      (unless_part c (shape_near_moves h (behind F) (inside c at None) None) (shape_near_order h (behind F)) at.repetition at.definition (shape_near_in_absent h (behind F) (inside c at None)))
-      (near_in_absent fs (beside F) at)
+  near_in_absent (field n c h fs) F at = two_parts (unless_repeated c (shape_near_moves h (first_picks F) (inside c at None) None)) (near_moves fs (later_picks F) at no_slots)
+      (order_unless_repeated c (shape_near_order h (first_picks F))) (near_order fs (later_picks F)) at.repetition at.definition
+      (unless_part c (shape_near_moves h (first_picks F) (inside c at None) None) (shape_near_order h (first_picks F)) at.repetition at.definition (shape_near_in_absent h (first_picks F) (inside c at None)))
+      (near_in_absent fs (later_picks F) at)
 
   pub shape_near_in_absent : (h : Shape) (F : List Pick) (at : Depth) → shape_near_moves h F at None ≡ nulls (shape_near_order h F) at.repetition at.definition
   shape_near_in_absent (leaf k) F at = triplet_nulls (indexes F) at.repetition at.definition
@@ -48,9 +48,9 @@ field_absent repeated h (p ∷ F) k at f = two_parts _ _ (shape_near_order h (p 
 mutual
   pub far_in_absent : (fs : Fields) (F : List Pick) (k : ℕ) (at : Depth) → far_moves fs F k at no_slots ≡ nulls (far_order fs F) at.repetition at.definition
   far_in_absent no_fields F k at = refl
-  far_in_absent (field n c h fs) F k at = two_parts _ _ (where_repeated c (shape_near_order h (behind F)) ++ shape_far_order h (behind F)) (far_order fs (beside F)) at.repetition at.definition
-      (field_absent c h (behind F) k at (shape_far_in_absent h (behind F)))
-      (far_in_absent fs (beside F) (k + (repetition_count c + shape_repeated_fields h)) at)
+  far_in_absent (field n c h fs) F k at = two_parts _ _ (where_repeated c (shape_near_order h (first_picks F)) ++ shape_far_order h (first_picks F)) (far_order fs (later_picks F)) at.repetition at.definition
+      (field_absent c h (first_picks F) k at (shape_far_in_absent h (first_picks F)))
+      (far_in_absent fs (later_picks F) (k + (repetition_count c + shape_repeated_fields h)) at)
 
   pub shape_far_in_absent : (h : Shape) (F : List Pick) → ShapeAbsent h F
   shape_far_in_absent (leaf j) F k at = refl

@@ -6,7 +6,7 @@ use Rattle.dr_meaning.specs.Schema.{Repetition, Fields, field, Shape, repetition
 use Rattle.dr_meaning.specs.Path.{Step, is_leaf_path, is_shape_path, same_repetition, through}
 use Rattle.dr_meaning.specs.Record.{Node, slot, Instances, no_instances, instance, Instance, inner, is_instance, instances_at, instances_in}
 use Rattle.dr_meaning.specs.Column.{Triplet, triplet, value_of, each_later, spread, instance_column}
-use Rattle.dr_meaning.specs.Automaton.{Pick, behind_if, behind_pick, behind, beside_if, beside_pick, beside}
+use Rattle.dr_meaning.specs.Automaton.{Pick, first_picks_if, first_picks_and, first_picks, later_picks_if, later_picks_and, later_picks}
 use Rattle.dr_meaning.specs.Walk.{Move, enter, value, leave, Depth, moves_in, far_moves, shape_near_moves, shape_far_moves}
 use Rattle.dr_meaning.specs.WalkLaws.{triplets_of}
 use Rattle.dr_meaning.specs.AutomatonLaws.{next_level}
@@ -119,33 +119,33 @@ Low l (e ∷ E) ms = (next_level e.index ms ≤ l) × Low l E ms
 
 -- ---- behind the first field, and beside it
 
-pub all_only_behind : (E F : List Pick) → AllOnly E F → AllOnly (behind E) (behind F)
+pub all_only_behind : (E F : List Pick) → AllOnly E F → AllOnly (first_picks E) (first_picks F)
 all_only_behind [] F h = tt
 all_only_behind (e ∷ E) F h = by_rest e.rest e.index h.0 (all_only_behind E F h.1)
   where
-    by_rest : (p : List Step) (i : ℕ) → Only i p F → AllOnly (behind E) (behind F) → AllOnly (behind_pick p i (behind E)) (behind F)
+    by_rest : (p : List Step) (i : ℕ) → Only i p F → AllOnly (first_picks E) (first_picks F) → AllOnly (first_picks_and p i (first_picks E)) (first_picks F)
     by_rest [] i o q = q
     by_rest (s ∷ p) i o q = by_place s.place refl
       where
-        by_place : (k : ℕ) → s.place ≡ k → AllOnly (behind_if k p i (behind E)) (behind F)
+        by_place : (k : ℕ) → s.place ≡ k → AllOnly (first_picks_if k p i (first_picks E)) (first_picks F)
         by_place zero w = (only_behind i s.repetition p F (subst (λ (x : ℕ). Only i (record { place = x; repetition = s.repetition } ∷ p) F) w o), q)
         by_place (suc k) w = q
 
-pub all_only_beside : (E F : List Pick) → AllOnly E F → AllOnly (beside E) (beside F)
+pub all_only_beside : (E F : List Pick) → AllOnly E F → AllOnly (later_picks E) (later_picks F)
 all_only_beside [] F h = tt
 all_only_beside (e ∷ E) F h = by_rest e.rest e.index h.0 (all_only_beside E F h.1)
   where
-    by_rest : (p : List Step) (i : ℕ) → Only i p F → AllOnly (beside E) (beside F) → AllOnly (beside_pick p i (beside E)) (beside F)
+    by_rest : (p : List Step) (i : ℕ) → Only i p F → AllOnly (later_picks E) (later_picks F) → AllOnly (later_picks_and p i (later_picks E)) (later_picks F)
     by_rest [] i o q = q
     by_rest (s ∷ p) i o q = by_place s.place refl
       where
-        by_place : (k : ℕ) → s.place ≡ k → AllOnly (beside_if k s p i (beside E)) (beside F)
+        by_place : (k : ℕ) → s.place ≡ k → AllOnly (later_picks_if k s p i (later_picks E)) (later_picks F)
         by_place zero w = q
         by_place (suc k) w = (only_beside i k s.repetition p F (subst (λ (x : ℕ). Only i (record { place = x; repetition = s.repetition } ∷ p) F) w o), q)
 
 pub record FieldPaths (c : Repetition) (h : Shape) (fs : Fields) (F : List Pick) : Type 0 where
-  pub first : ShapePaths h (behind F)
-  pub others : Paths fs (beside F)
+  pub first : ShapePaths h (first_picks F)
+  pub others : Paths fs (later_picks F)
 
 pub field_paths : (m : List ℕ) (c : Repetition) (h : Shape) (fs : Fields) (F : List Pick) → Paths (field m c h fs) F → FieldPaths c h fs F
 field_paths m c h fs [] u = record { first = tt; others = tt }
@@ -160,55 +160,55 @@ field_paths m c h fs (e ∷ E) u = by_rest e.rest e.index u.0 (field_paths m c h
         by_place zero o = record { first = ((and_parts (same_repetition s.repetition c) (is_shape_path h p) o).1, q.first); others = q.others }
         by_place (suc k) o = record { first = q.first; others = (o, q.others) }
 
-pub heads_behind : (m : List ℕ) (c : Repetition) (h : Shape) (fs : Fields) (next : ℕ → ℕ) (F : List Pick) (d : ℕ) (xs : Instances) (n : Node) → Paths (field m c h fs) F → Heads next F d (inner (slot xs n)) → SlotHeads next (behind F) d (d + definition_count c) xs
+pub heads_behind : (m : List ℕ) (c : Repetition) (h : Shape) (fs : Fields) (next : ℕ → ℕ) (F : List Pick) (d : ℕ) (xs : Instances) (n : Node) → Paths (field m c h fs) F → Heads next F d (inner (slot xs n)) → SlotHeads next (first_picks F) d (d + definition_count c) xs
 heads_behind m c h fs next [] d no_instances n u a = tt
 heads_behind m c h fs next [] d (instance x xs) n u a = tt
 heads_behind m c h fs next (e ∷ E) d xs n u a = by_rest e.rest e.index u.0 a.0 (heads_behind m c h fs next E d xs n u.1 a.1)
   where
-    by_rest : (p : List Step) (i : ℕ) → is_leaf_path (field m c h fs) p ≡ true → next i ≡ first_def p d (inner (slot xs n)) → SlotHeads next (behind E) d (d + definition_count c) xs → SlotHeads next (behind_pick p i (behind E)) d (d + definition_count c) xs
+    by_rest : (p : List Step) (i : ℕ) → is_leaf_path (field m c h fs) p ≡ true → next i ≡ first_def p d (inner (slot xs n)) → SlotHeads next (first_picks E) d (d + definition_count c) xs → SlotHeads next (first_picks_and p i (first_picks E)) d (d + definition_count c) xs
     by_rest [] i o z q = absurd (true≢false (sym o))
     by_rest (s ∷ p) i o z q = by_place s.place xs o z q
       where
         by_place : (k : ℕ) (xs : Instances) → through k (same_repetition s.repetition c && is_shape_path h p) (λ (j : ℕ). is_leaf_path fs (record { place = j; repetition = s.repetition } ∷ p)) ≡ true
-            → next i ≡ at_first (first_def p (d + definition_count s.repetition)) d (instances_at k (slot xs n)) → SlotHeads next (behind E) d (d + definition_count c) xs → SlotHeads next (behind_if k p i (behind E)) d (d + definition_count c) xs
+            → next i ≡ at_first (first_def p (d + definition_count s.repetition)) d (instances_at k (slot xs n)) → SlotHeads next (first_picks E) d (d + definition_count c) xs → SlotHeads next (first_picks_if k p i (first_picks E)) d (d + definition_count c) xs
         by_place zero no_instances o z q = (z, q)
         by_place zero (instance x xs) o z q = let w = same_repetition-true s.repetition c (and_parts (same_repetition s.repetition c) (is_shape_path h p) o).0 in
             (z ∙ ap (λ (y : Repetition). first_def p (d + definition_count y) x) w, q)
         by_place (suc k) xs o z q = q
 
-pub heads_beside : (next : ℕ → ℕ) (F : List Pick) (d : ℕ) (xs : Instances) (n : Node) → Heads next F d (inner (slot xs n)) → Heads next (beside F) d (inner n)
+pub heads_beside : (next : ℕ → ℕ) (F : List Pick) (d : ℕ) (xs : Instances) (n : Node) → Heads next F d (inner (slot xs n)) → Heads next (later_picks F) d (inner n)
 heads_beside next [] d xs n a = tt
 heads_beside next (e ∷ E) d xs n a = by_rest e.rest e.index a.0 (heads_beside next E d xs n a.1)
   where
-    by_rest : (p : List Step) (i : ℕ) → next i ≡ first_def p d (inner (slot xs n)) → Heads next (beside E) d (inner n) → Heads next (beside_pick p i (beside E)) d (inner n)
+    by_rest : (p : List Step) (i : ℕ) → next i ≡ first_def p d (inner (slot xs n)) → Heads next (later_picks E) d (inner n) → Heads next (later_picks_and p i (later_picks E)) d (inner n)
     by_rest [] i z q = q
     by_rest (s ∷ p) i z q = by_place s.place z
       where
-        by_place : (k : ℕ) → next i ≡ at_first (first_def p (d + definition_count s.repetition)) d (instances_at k (slot xs n)) → Heads next (beside_if k s p i (beside E)) d (inner n)
+        by_place : (k : ℕ) → next i ≡ at_first (first_def p (d + definition_count s.repetition)) d (instances_at k (slot xs n)) → Heads next (later_picks_if k s p i (later_picks E)) d (inner n)
         by_place zero z = q
         by_place (suc k) z = (z, q)
 
-pub low_behind : (l : ℕ) (F : List Pick) (ms : List Move) → Low l F ms → Low l (behind F) ms
+pub low_behind : (l : ℕ) (F : List Pick) (ms : List Move) → Low l F ms → Low l (first_picks F) ms
 low_behind l [] ms h = tt
 low_behind l (e ∷ E) ms h = by_rest e.rest (low_behind l E ms h.1)
   where
-    by_rest : (p : List Step) → Low l (behind E) ms → Low l (behind_pick p e.index (behind E)) ms
+    by_rest : (p : List Step) → Low l (first_picks E) ms → Low l (first_picks_and p e.index (first_picks E)) ms
     by_rest [] q = q
     by_rest (s ∷ p) q = by_place s.place
       where
-        by_place : (k : ℕ) → Low l (behind_if k p e.index (behind E)) ms
+        by_place : (k : ℕ) → Low l (first_picks_if k p e.index (first_picks E)) ms
         by_place zero = (h.0, q)
         by_place (suc k) = q
 
-pub low_beside : (l : ℕ) (F : List Pick) (ms : List Move) → Low l F ms → Low l (beside F) ms
+pub low_beside : (l : ℕ) (F : List Pick) (ms : List Move) → Low l F ms → Low l (later_picks F) ms
 low_beside l [] ms h = tt
 low_beside l (e ∷ E) ms h = by_rest e.rest (low_beside l E ms h.1)
   where
-    by_rest : (p : List Step) → Low l (beside E) ms → Low l (beside_pick p e.index (beside E)) ms
+    by_rest : (p : List Step) → Low l (later_picks E) ms → Low l (later_picks_and p e.index (later_picks E)) ms
     by_rest [] q = q
     by_rest (s ∷ p) q = by_place s.place
       where
-        by_place : (k : ℕ) → Low l (beside_if k s p e.index (beside E)) ms
+        by_place : (k : ℕ) → Low l (later_picks_if k s p e.index (later_picks E)) ms
         by_place zero = q
         by_place (suc k) = (h.0, q)
 
@@ -217,15 +217,15 @@ abbrev pub AllWithout : List Pick → List Pick → Type 0
 AllWithout [] F = Unit {0}
 AllWithout (e ∷ E) F = Without e.index F × AllWithout E F
 
-pub behind_without : (E F : List Pick) → AllOnly E F → AllWithout (behind E) (beside F)
+pub behind_without : (E F : List Pick) → AllOnly E F → AllWithout (first_picks E) (later_picks F)
 behind_without [] F h = tt
 behind_without (e ∷ E) F h = by_rest e.rest e.index h.0 (behind_without E F h.1)
   where
-    by_rest : (p : List Step) (i : ℕ) → Only i p F → AllWithout (behind E) (beside F) → AllWithout (behind_pick p i (behind E)) (beside F)
+    by_rest : (p : List Step) (i : ℕ) → Only i p F → AllWithout (first_picks E) (later_picks F) → AllWithout (first_picks_and p i (first_picks E)) (later_picks F)
     by_rest [] i o q = q
     by_rest (s ∷ p) i o q = by_place s.place refl
       where
-        by_place : (k : ℕ) → s.place ≡ k → AllWithout (behind_if k p i (behind E)) (beside F)
+        by_place : (k : ℕ) → s.place ≡ k → AllWithout (first_picks_if k p i (first_picks E)) (later_picks F)
         by_place zero w = (beside_first i s.repetition p F (subst (λ (x : ℕ). Only i (record { place = x; repetition = s.repetition } ∷ p) F) w o), q)
         by_place (suc k) w = q
 

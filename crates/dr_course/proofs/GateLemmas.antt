@@ -5,7 +5,7 @@ use Rattle.std.proofs.lemmas.Bool.{and_parts, ne_eqb, eqb-true}
 use Rattle.dr_meaning.specs.Schema.{Repetition, required, optional, repeated, Kind, Fields, no_fields, field, Shape, leaf, group, repetition_count, definition_count, shape_repeated_fields}
 use Rattle.dr_meaning.specs.Record.{Value}
 use Rattle.dr_meaning.specs.Column.{Triplet, triplet}
-use Rattle.dr_meaning.specs.Automaton.{Pick, behind, beside, indexes, near_order, far_order, shape_near_order, shape_far_order, unless_repeated as order_unless_repeated, where_repeated}
+use Rattle.dr_meaning.specs.Automaton.{Pick, first_picks, later_picks, indexes, near_order, far_order, shape_near_order, shape_far_order, unless_repeated as order_unless_repeated, where_repeated}
 use Rattle.dr_meaning.specs.Walk.{Move, enter, value, leave}
 use Rattle.dr_course.specs.Course.{Gate, reach, are_open, comes_to, low_in, Give, Visit, Items, nothing, give, visit, followed_by, gated, give_each, unless_repeated, where_selected, by_repetition, visit_of, near_items, far_items, field_near_items, shape_near_items, shape_far_items}
 use Rattle.dr_course.specs.Turning.{has_its_value, is_no_value}
@@ -128,10 +128,10 @@ mutual
   pub near_dead : (fs : Fields) (F : List Pick) (G : List Gate) (d r : ℕ) (next : ℕ → ℕ) (e : ℕ) (a : List Move) → Shut next G e → e < d → Made (near_items fs F G d) r next a → a ≡ nulls (near_order fs F) r e
   near_dead no_fields F G d r next e a s l m = made_none r next a m
   near_dead (field n c h fs) F G d r next e a s l m =
-      let k = split (unless_repeated c (field_near_items c h (behind F) G d)) (near_items fs (beside F) G d) r next a m in
-      two_dead a [] k.front k.back (order_unless_repeated c (shape_near_order h (behind F))) (near_order fs (beside F)) r e k.both
-      (unless_dead c (field_near_items c h (behind F) G d) (shape_near_order h (behind F)) r next e k.front (λ b n. field_near_dead c h (behind F) G d r next e b s l n) k.first)
-      (near_dead fs (beside F) G d r next e k.back s l k.second)
+      let k = split (unless_repeated c (field_near_items c h (first_picks F) G d)) (near_items fs (later_picks F) G d) r next a m in
+      two_dead a [] k.front k.back (order_unless_repeated c (shape_near_order h (first_picks F))) (near_order fs (later_picks F)) r e k.both
+      (unless_dead c (field_near_items c h (first_picks F) G d) (shape_near_order h (first_picks F)) r next e k.front (λ b n. field_near_dead c h (first_picks F) G d r next e b s l n) k.first)
+      (near_dead fs (later_picks F) G d r next e k.back s l k.second)
 
   field_near_dead : (c : Repetition) (h : Shape) (F : List Pick) (G : List Gate) (d r : ℕ) (next : ℕ → ℕ) (e : ℕ) (a : List Move) → Shut next G e → e < d → Made (field_near_items c h F G d) r next a → a ≡ nulls (shape_near_order h F) r e
   field_near_dead c (leaf k) F G d r next e a s l m = dead_gives k F G (low_in c d) (d + definition_count c) r next e a s (omega (arith, l, low_above c d)) (omega (arith, l)) m
@@ -192,12 +192,12 @@ mutual
   pub far_dead : (fs : Fields) (F : List Pick) (r : ℕ) (next : ℕ → ℕ) (e : ℕ) (k l : ℕ) (G : List Gate) (d : ℕ) (a : List Move) → Shut next G e → e < d → Made (far_items fs F k l G d) r next a → a ≡ nulls (far_order fs F) r e
   far_dead no_fields F r next e k l G d a s b m = made_none r next a m
   far_dead (field n c h fs) F r next e k l G d a s b m =
-      let q = split (where_selected (behind F) (by_repetition c (visit (visit_of h (behind F) k l G d)
-      (followed_by (shape_near_items h (behind F) [] (d + definition_count c)) (shape_far_items h (behind F) (suc k) (l + repetition_count c) [] (d + definition_count c))) nothing)
-      (shape_far_items h (behind F) k (l + repetition_count c) (gated c (behind F) d G) (d + definition_count c)))) (far_items fs (beside F) (k + (repetition_count c + shape_repeated_fields h)) l G d) r next a m in
-      two_dead a [] q.front q.back (where_repeated c (shape_near_order h (behind F)) ++ shape_far_order h (behind F)) (far_order fs (beside F)) r e q.both
-      (field_dead c h (behind F) r next e (shape_far_dead h (behind F) r next e) k l (gated c (behind F) d G) G d (d + definition_count c) q.front (gated_shut next c (behind F) d G e s) s (omega (arith, b)) q.first)
-      (far_dead fs (beside F) r next e (k + (repetition_count c + shape_repeated_fields h)) l G d q.back s b q.second)
+      let q = split (where_selected (first_picks F) (by_repetition c (visit (visit_of h (first_picks F) k l G d)
+      (followed_by (shape_near_items h (first_picks F) [] (d + definition_count c)) (shape_far_items h (first_picks F) (suc k) (l + repetition_count c) [] (d + definition_count c))) nothing)
+      (shape_far_items h (first_picks F) k (l + repetition_count c) (gated c (first_picks F) d G) (d + definition_count c)))) (far_items fs (later_picks F) (k + (repetition_count c + shape_repeated_fields h)) l G d) r next a m in
+      two_dead a [] q.front q.back (where_repeated c (shape_near_order h (first_picks F)) ++ shape_far_order h (first_picks F)) (far_order fs (later_picks F)) r e q.both
+      (field_dead c h (first_picks F) r next e (shape_far_dead h (first_picks F) r next e) k l (gated c (first_picks F) d G) G d (d + definition_count c) q.front (gated_shut next c (first_picks F) d G e s) s (omega (arith, b)) q.first)
+      (far_dead fs (later_picks F) r next e (k + (repetition_count c + shape_repeated_fields h)) l G d q.back s b q.second)
 
   pub shape_far_dead : (h : Shape) (F : List Pick) (r : ℕ) (next : ℕ → ℕ) (e : ℕ) → ShapeIsDead h F r next e
   shape_far_dead (leaf j) F r next e k l G d a s b m = made_none r next a m

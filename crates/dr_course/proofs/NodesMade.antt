@@ -8,7 +8,7 @@ use Rattle.dr_meaning.specs.Schema.{Repetition, required, optional, repeated, Ki
 use Rattle.dr_meaning.specs.Path.{Step}
 use Rattle.dr_meaning.specs.Record.{Value, bool_value, int_value, text_value, Node, no_slots, slot, Instances, no_instances, instance, Instance, atom, inner, single, count_instances, fits_repetition, all_instances, is_record, is_instance, is_of_kind}
 use Rattle.dr_meaning.specs.Column.{Triplet, triplet}
-use Rattle.dr_meaning.specs.Automaton.{Pick, picks, behind, beside, shape_near_order, shape_far_order}
+use Rattle.dr_meaning.specs.Automaton.{Pick, picks, first_picks, later_picks, shape_near_order, shape_far_order}
 use Rattle.dr_meaning.specs.Walk.{Move, enter, value, leave, Depth, inside, begun_later, first_of, unless_repeated as walk_unless_repeated, enclosed, later_moves, repeated_moves, by_repetition as walk_by_repetition, where_selected as walk_where_selected, moves_in, near_moves, far_moves, shape_near_moves, shape_far_moves, walk}
 use Rattle.dr_course.specs.Course.{Gate, are_open, comes_to, Give, Visit, Items, nothing, visit, followed_by, first_index, gated, give_each, unless_repeated, where_selected, by_repetition, visit_of, near_items, far_items, field_near_items, shape_near_items, shape_far_items, course}
 use Rattle.dr_course.specs.Turning.{has_its_value, is_value_of, is_no_value}
@@ -238,11 +238,11 @@ mutual
       → NodeMade fs F k (depth l r d) a c
   node_made no_fields F u k l G d r next a c o m n = record { node = no_slots; is_node = refl; near = sym (made_none r next a m); far = sym (made_none r next c n) }
   node_made (field w c h fs) F u k l G d r next a b o m n =
-      let s = split (unless_repeated c (field_near_items c h (behind F) G d)) (near_items fs (beside F) G d) r next a m in
-      let t = split (where_selected (behind F) (by_repetition c (visit (visit_of h (behind F) k l G d) (body h (behind F) (suc k) (l + repetition_count c) (d + definition_count c)) nothing)
-      (shape_far_items h (behind F) k (l + repetition_count c) (gated c (behind F) d G) (d + definition_count c)))) (far_items fs (beside F) (k + (repetition_count c + shape_repeated_fields h)) l G d) r next b n in
-      let x = slot_made c h (behind F) u.0 (one_made h (behind F) u.0) k l G d r next s.front t.front o s.first t.first in
-      let y = node_made fs (beside F) u.1 (k + (repetition_count c + shape_repeated_fields h)) l G d r next s.back t.back o s.second t.second in
+      let s = split (unless_repeated c (field_near_items c h (first_picks F) G d)) (near_items fs (later_picks F) G d) r next a m in
+      let t = split (where_selected (first_picks F) (by_repetition c (visit (visit_of h (first_picks F) k l G d) (body h (first_picks F) (suc k) (l + repetition_count c) (d + definition_count c)) nothing)
+      (shape_far_items h (first_picks F) k (l + repetition_count c) (gated c (first_picks F) d G) (d + definition_count c)))) (far_items fs (later_picks F) (k + (repetition_count c + shape_repeated_fields h)) l G d) r next b n in
+      let x = slot_made c h (first_picks F) u.0 (one_made h (first_picks F) u.0) k l G d r next s.front t.front o s.first t.first in
+      let y = node_made fs (later_picks F) u.1 (k + (repetition_count c + shape_repeated_fields h)) l G d r next s.back t.back o s.second t.second in
       record {
         node = slot x.slots y.node;
         is_node = rw (x.fits, x.all, y.is_node) refl;

@@ -7,7 +7,7 @@ use Rattle.dr_meaning.specs.Schema.{Repetition, required, optional, repeated, Ki
 use Rattle.dr_meaning.specs.Path.{Step, is_leaf_path}
 use Rattle.dr_meaning.specs.Record.{Value, Node, no_slots, slot, gap, Instances, no_instances, instance, Instance, atom, inner, count_instances, fits_repetition, all_instances, is_record, is_instance, is_of_kind, is_atom_of}
 use Rattle.dr_meaning.specs.Column.{triplet}
-use Rattle.dr_meaning.specs.Automaton.{Pick, picks, picks_from, behind, beside, indexes, near_order, far_order, shape_near_order, shape_far_order, unless_repeated as order_unless_repeated, where_repeated}
+use Rattle.dr_meaning.specs.Automaton.{Pick, picks, picks_from, first_picks, later_picks, indexes, near_order, far_order, shape_near_order, shape_far_order, unless_repeated as order_unless_repeated, where_repeated}
 use Rattle.dr_meaning.specs.Walk.{Move, enter, leave, Depth, inside, first_of, first_slot, other_slots, node_of, triplet_moves, unless_repeated as walk_unless_repeated, enclosed, later_moves, moves_in, near_moves, far_moves, shape_near_moves, shape_far_moves, top, record_moves, walk}
 use Rattle.dr_meaning.specs.AutomatonLaws.{next_level}
 use Rattle.dr_meaning.proofs.Blocks.{and₃_parts}
@@ -98,10 +98,10 @@ module _ (T : Items) where
   mutual
     near_dead_goes : (fs : Fields) (F : List Pick) (G : List Gate) (d r : ℕ) (next : ℕ → ℕ) (e : ℕ) → Shut next G e → e < d → Goes (near_items fs F G d) r next (nulls (near_order fs F) r e)
     near_dead_goes no_fields F G d r next e s l = goes_nothing r next
-    near_dead_goes (field n c h fs) F G d r next e s l = subst (Goes (near_items (field n c h fs) F G d) r next) (sym (nulls_append (order_unless_repeated c (shape_near_order h (behind F))) (near_order fs (beside F)) r e))
-        (both_go (unless_repeated c (field_near_items c h (behind F) G d)) (near_items fs (beside F) G d) r next _ _
-        (unless_goes c (field_near_items c h (behind F) G d) (shape_near_order h (behind F)) r next e (field_near_dead_goes c h (behind F) G d r next e s l))
-        (near_dead_goes fs (beside F) G d r next e s l))
+    near_dead_goes (field n c h fs) F G d r next e s l = subst (Goes (near_items (field n c h fs) F G d) r next) (sym (nulls_append (order_unless_repeated c (shape_near_order h (first_picks F))) (near_order fs (later_picks F)) r e))
+        (both_go (unless_repeated c (field_near_items c h (first_picks F) G d)) (near_items fs (later_picks F) G d) r next _ _
+        (unless_goes c (field_near_items c h (first_picks F) G d) (shape_near_order h (first_picks F)) r next e (field_near_dead_goes c h (first_picks F) G d r next e s l))
+        (near_dead_goes fs (later_picks F) G d r next e s l))
 
     field_near_dead_goes : (c : Repetition) (h : Shape) (F : List Pick) (G : List Gate) (d r : ℕ) (next : ℕ → ℕ) (e : ℕ) → Shut next G e → e < d → Goes (field_near_items c h F G d) r next (nulls (shape_near_order h F) r e)
     field_near_dead_goes c (leaf k) F G d r next e s l = gives_dead k F G (low_in c d) (d + definition_count c) r next e s (omega (arith, l))
@@ -126,10 +126,10 @@ module _ (T : Items) where
   mutual
     far_dead_goes : (fs : Fields) (F : List Pick) (r : ℕ) (next : ℕ → ℕ) (e : ℕ) (k l : ℕ) (G : List Gate) (d : ℕ) → Shut next G e → e < d → Goes (far_items fs F k l G d) r next (nulls (far_order fs F) r e)
     far_dead_goes no_fields F r next e k l G d s b = goes_nothing r next
-    far_dead_goes (field n c h fs) F r next e k l G d s b = subst (Goes (far_items (field n c h fs) F k l G d) r next) (sym (nulls_append (where_repeated c (shape_near_order h (behind F)) ++ shape_far_order h (behind F)) (far_order fs (beside F)) r e))
-        (both_go _ (far_items fs (beside F) (k + (repetition_count c + shape_repeated_fields h)) l G d) r next _ _
-        (field_dead_goes c h (behind F) r next e (shape_far_dead_goes h (behind F) r next e) k l (gated c (behind F) d G) G d (d + definition_count c) (gated_shut next c (behind F) d G e s) s (omega (arith, b)))
-        (far_dead_goes fs (beside F) r next e (k + (repetition_count c + shape_repeated_fields h)) l G d s b))
+    far_dead_goes (field n c h fs) F r next e k l G d s b = subst (Goes (far_items (field n c h fs) F k l G d) r next) (sym (nulls_append (where_repeated c (shape_near_order h (first_picks F)) ++ shape_far_order h (first_picks F)) (far_order fs (later_picks F)) r e))
+        (both_go _ (far_items fs (later_picks F) (k + (repetition_count c + shape_repeated_fields h)) l G d) r next _ _
+        (field_dead_goes c h (first_picks F) r next e (shape_far_dead_goes h (first_picks F) r next e) k l (gated c (first_picks F) d G) G d (d + definition_count c) (gated_shut next c (first_picks F) d G e s) s (omega (arith, b)))
+        (far_dead_goes fs (later_picks F) r next e (k + (repetition_count c + shape_repeated_fields h)) l G d s b))
 
     shape_far_dead_goes : (h : Shape) (F : List Pick) (r : ℕ) (next : ℕ → ℕ) (e : ℕ) → ShapeDeadGoes h F r next e
     shape_far_dead_goes (leaf j) F r next e k l G d s b = goes_nothing r next
@@ -196,9 +196,9 @@ module _ (T : Items) where
     near_goes (field m c h fs) F w l G d r next (slot xs n) o a u =
         let t : (fits_repetition c (count_instances xs) ≡ true) × (all_instances (is_instance h) xs ≡ true) × (is_record fs n ≡ true) = and₃_parts _ _ _ u in
         let q = field_paths m c h fs F w in
-        both_go (unless_repeated c (field_near_items c h (behind F) G d)) (near_items fs (beside F) G d) r next _ _
-        (slot_near_goes c h (behind F) (shape_near_goes h (behind F) q.first) l G d r next xs o (heads_behind m c h fs next F d xs n w a) t.0 t.1)
-        (near_goes fs (beside F) q.others l G d r next n o (heads_beside next F d xs n a) t.2)
+        both_go (unless_repeated c (field_near_items c h (first_picks F) G d)) (near_items fs (later_picks F) G d) r next _ _
+        (slot_near_goes c h (first_picks F) (shape_near_goes h (first_picks F) q.first) l G d r next xs o (heads_behind m c h fs next F d xs n w a) t.0 t.1)
+        (near_goes fs (later_picks F) q.others l G d r next n o (heads_beside next F d xs n a) t.2)
 
     shape_near_goes : (h : Shape) (F : List Pick) → ShapePaths h F → NearGoes h F
     shape_near_goes (leaf k) F w l G d r next x o a u = leaf_goes k F l G d r next x o a u
@@ -300,13 +300,13 @@ module _ (T : Items) where
         let t : (fits_repetition c (count_instances xs) ≡ true) × (all_instances (is_instance h) xs ≡ true) × (is_record fs n ≡ true) = and₃_parts _ _ _ u in
         let q = field_paths m c h fs F w in
         let j = k + (repetition_count c + shape_repeated_fields h) in
-        let rest : Follows T (in_items (followed_by (far_items fs (beside F) j l G d) J) r next S) (far_moves fs (beside F) j (depth l r d) n ++ ms) =
-        far_goes fs (beside F) (all_only_beside F F z) q.others j l G d r next n o (heads_beside next F d xs n a) t.2 J S ms (low_beside l F ms low) y in
-        let first = slot_far_goes c h (behind F) (shape_near_goes h (behind F) q.first) (shape_far_goes h (behind F) (all_only_behind F F z) q.first) (all_only_behind F F z) q.first k l G d r next xs o (heads_behind m c h fs next F d xs n w a) t.0 t.1
-        (followed_by (far_items fs (beside F) j l G d) J) S (far_moves fs (beside F) j (depth l r d) n ++ ms) (low_past l (behind F) (beside F) fs j (depth l r d) n ms (behind_without F F z) (low_behind l F ms low)) rest in
+        let rest : Follows T (in_items (followed_by (far_items fs (later_picks F) j l G d) J) r next S) (far_moves fs (later_picks F) j (depth l r d) n ++ ms) =
+        far_goes fs (later_picks F) (all_only_beside F F z) q.others j l G d r next n o (heads_beside next F d xs n a) t.2 J S ms (low_beside l F ms low) y in
+        let first = slot_far_goes c h (first_picks F) (shape_near_goes h (first_picks F) q.first) (shape_far_goes h (first_picks F) (all_only_behind F F z) q.first) (all_only_behind F F z) q.first k l G d r next xs o (heads_behind m c h fs next F d xs n w a) t.0 t.1
+        (followed_by (far_items fs (later_picks F) j l G d) J) S (far_moves fs (later_picks F) j (depth l r d) n ++ ms) (low_past l (first_picks F) (later_picks F) fs j (depth l r d) n ms (behind_without F F z) (low_behind l F ms low)) rest in
         rw (
-          followed_assoc (where_selected (behind F) (by_repetition c (visit (visit_of h (behind F) k l G d) (body h (behind F) (suc k) (l + repetition_count c) (d + definition_count c)) nothing) (shape_far_items h (behind F) k (l + repetition_count c) (gated c (behind F) d G) (d + definition_count c)))) (far_items fs (beside F) j l G d) J,
-          append_assoc (slot_far c h (behind F) k (depth l r d) xs) (far_moves fs (beside F) j (depth l r d) n) ms,
+          followed_assoc (where_selected (first_picks F) (by_repetition c (visit (visit_of h (first_picks F) k l G d) (body h (first_picks F) (suc k) (l + repetition_count c) (d + definition_count c)) nothing) (shape_far_items h (first_picks F) k (l + repetition_count c) (gated c (first_picks F) d G) (d + definition_count c)))) (far_items fs (later_picks F) j l G d) J,
+          append_assoc (slot_far c h (first_picks F) k (depth l r d) xs) (far_moves fs (later_picks F) j (depth l r d) n) ms,
         ) first
 
     shape_far_goes : (h : Shape) (F : List Pick) → AllOnly F F → ShapePaths h F → FarGoes h F

@@ -2,7 +2,7 @@
 use Rattle.std.specs.Prelude.{ℕ, suc, ◌+◌, List, [], ◌∷◌, ◌++◌, Bool, true, ◌&&◌, ◌||◌, ◌==◌, nat_lt, if◌then◌else◌}
 use Rattle.dr_meaning.specs.Schema.{Repetition, required, optional, repeated, Kind, Fields, no_fields, field, Shape, leaf, group, repetition_count, definition_count, shape_repeated_fields}
 use Rattle.dr_meaning.specs.Path.{Step}
-use Rattle.dr_meaning.specs.Automaton.{Pick, picks, behind, beside, shape_near_order, shape_far_order}
+use Rattle.dr_meaning.specs.Automaton.{Pick, picks, first_picks, later_picks, shape_near_order, shape_far_order}
 
 -- an optional group on the way to a leaf: it is there where, as its level begins, the next triplet of a leaf below it has a greater definition level
 pub record Gate : Type 0 where
@@ -101,19 +101,19 @@ abbrev mutual
   pub near_items : Fields → List Pick → List Gate → ℕ → Items
   near_items no_fields F G d = nothing
   near_items (field m r s fs) F G d = followed_by
-      (unless_repeated r (field_near_items r s (behind F) G d))
-      (near_items fs (beside F) G d)
+      (unless_repeated r (field_near_items r s (first_picks F) G d))
+      (near_items fs (later_picks F) G d)
 
   -- its next repeated fields, the first of which has the number k; l is the level
   pub far_items : Fields → List Pick → ℕ → ℕ → List Gate → ℕ → Items
   far_items no_fields F k l G d = nothing
   far_items (field m r s fs) F k l G d = followed_by
-      (where_selected (behind F) (by_repetition r
-      (visit (visit_of s (behind F) k l G d)
-      (followed_by (shape_near_items s (behind F) [] (d + definition_count r)) (shape_far_items s (behind F) (suc k) (l + repetition_count r) [] (d + definition_count r)))
+      (where_selected (first_picks F) (by_repetition r
+      (visit (visit_of s (first_picks F) k l G d)
+      (followed_by (shape_near_items s (first_picks F) [] (d + definition_count r)) (shape_far_items s (first_picks F) (suc k) (l + repetition_count r) [] (d + definition_count r)))
       nothing)
-      (shape_far_items s (behind F) k (l + repetition_count r) (gated r (behind F) d G) (d + definition_count r))))
-      (far_items fs (beside F) (k + (repetition_count r + shape_repeated_fields s)) l G d)
+      (shape_far_items s (first_picks F) k (l + repetition_count r) (gated r (first_picks F) d G) (d + definition_count r))))
+      (far_items fs (later_picks F) (k + (repetition_count r + shape_repeated_fields s)) l G d)
 
   -- those of a field that isn't repeated, in a group with the definition level d
   pub field_near_items : Repetition → Shape → List Pick → List Gate → ℕ → Items

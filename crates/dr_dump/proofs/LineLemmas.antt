@@ -4,13 +4,11 @@ use Rattle.std.specs.Prelude.{String, string_bytes}
 use Rattle.std.specs.declared.alloc.Global.{Global}
 use Rattle.std.proofs.lemmas.List.Folds.{flat_map-map}
 use Rattle.dr_meaning.specs.Schema.{Fields}
-use Rattle.dr_meaning.specs.Path.{Leaf}
+use Rattle.dr_meaning.specs.Path.{Leaf, paths_of_leaves}
 use Rattle.dr_meaning.specs.Record.{Node, project}
 use Rattle.dr_meaning.specs.Print.{record_text}
 use Rattle.dr_formats.specs.TableFile.{Table}
 use Rattle.dr_outside.specs.Link.{LinkShown}
-use Rattle.dr_reading.specs.Premises.{paths_of_leaves}
-use Rattle.dr_tablets.specs.FileRecords as read
 use Rattle.dr_reading.specs.Scan.{tablets_from, joined}
 use Rattle.dr_reading.specs.Left.{LeftTablet}
 use Rattle.dr_reading.specs.InTurn.{ReadsInTurn, records_in}
@@ -18,12 +16,8 @@ use Rattle.dr_tablets.specs.Tablets.{LeavesTablets}
 use Rattle.dr_tablets.proofs.TableLemmas.{HasRead}
 use Rattle.dr_dump.specs.Dumps.{lines_text, dump_text, HasLines, AreLinesOf}
 
--- the leaves' paths, as they are read and as they are served
-pub same_paths : (F : List Leaf) → read.paths_of_leaves F ≡ paths_of_leaves F
-same_paths F = refl
-
 -- the lines of projections are what a dump prints
-pub dumped : (fs : Fields) (F : List Leaf) (R : List Node) → lines_text fs (map (project (read.paths_of_leaves F)) R) ≡ dump_text fs F R
+pub dumped : (fs : Fields) (F : List Leaf) (R : List Node) → lines_text fs (map (project (paths_of_leaves F)) R) ≡ dump_text fs F R
 dumped fs F R = flat_map-map (record_text fs) (project (paths_of_leaves F)) R
 
 -- what had no lines has those of the records that all tablets of a table give

@@ -4,7 +4,7 @@ use Rattle.std.specs.Prelude.{map}
 use Rattle.std.specs.List.{list_any}
 use Rattle.std.proofs.lemmas.List.{length-map}
 use Rattle.dr_meaning.specs.Schema.{Shape}
-use Rattle.dr_meaning.specs.Path.{Step, level, is_shape_path}
+use Rattle.dr_meaning.specs.Path.{Step, chain_end, is_shape_path}
 use Rattle.dr_meaning.specs.Record.{Value, Instance, is_instance}
 use Rattle.dr_meaning.specs.Rows.{value_in}
 use Rattle.dr_meaning.specs.Column.{Triplet}
@@ -54,33 +54,33 @@ module _ (i : ℕ) (h : Shape) (G : List Pick) (p : List Step) (c : Context) whe
     ms : List Move
     ms = moves_in (shape_near_moves h G) (shape_far_moves h G j) at (Some x)
 
-    below_reads : (k : ℕ) (q : List Step) → Only k q G → is_shape_path h q ≡ true → Together (k ≡ i) (Unit {0}) q p → map (λ (d : Context). d k) (contexts i c (moves_in (shape_near_moves h G) (shape_far_moves h G j) at (Some x))) ≡ map (value_in q) (irows (level p) x)
+    below_reads : (k : ℕ) (q : List Step) → Only k q G → is_shape_path h q ≡ true → Together (k ≡ i) (Unit {0}) q p → map (λ (d : Context). d k) (contexts i c (moves_in (shape_near_moves h G) (shape_far_moves h G j) at (Some x))) ≡ map (value_in q) (irows (chain_end p) x)
     below_reads k q o u t = contexts_read i k c (moves_in (shape_near_moves h G) (shape_far_moves h G j) at (Some x)) ∙ shape_reads (k ≡ i) (Unit {0}) i k (λ e. e) (λ y. counts i) h q p G o oi u ui t j at (Some x) (c k) z
 
-    as_many : length (contexts i c (moves_in (shape_near_moves h G) (shape_far_moves h G j) at (Some x))) ≡ length (irows (level p) x)
-    as_many = sym (length-map (contexts i c (moves_in (shape_near_moves h G) (shape_far_moves h G j) at (Some x))) (λ (d : Context). d i)) ∙ ap length (below_reads i p oi ui (with_itself (i ≡ i) (Unit {0}) refl p)) ∙ length-map (irows (level p) x) (value_in p)
+    as_many : length (contexts i c (moves_in (shape_near_moves h G) (shape_far_moves h G j) at (Some x))) ≡ length (irows (chain_end p) x)
+    as_many = sym (length-map (contexts i c (moves_in (shape_near_moves h G) (shape_far_moves h G j) at (Some x))) (λ (d : Context). d i)) ∙ ap length (below_reads i p oi ui (with_itself (i ≡ i) (Unit {0}) refl p)) ∙ length-map (irows (chain_end p) x) (value_in p)
 
-    outside_reads : (k : ℕ) → Without k G → map (λ (d : Context). d k) (contexts i c (moves_in (shape_near_moves h G) (shape_far_moves h G j) at (Some x))) ≡ map (λ (y : Instance). c k) (irows (level p) x)
+    outside_reads : (k : ℕ) → Without k G → map (λ (d : Context). d k) (contexts i c (moves_in (shape_near_moves h G) (shape_far_moves h G j) at (Some x))) ≡ map (λ (y : Instance). c k) (irows (chain_end p) x)
     outside_reads k w =
         let A = moves_in (shape_near_moves h G) (shape_far_moves h G j) at (Some x) in
         let n : triplets_of k A ≡ [] = of_append k (shape_near_moves h G at (Some x)) (shape_far_moves h G j at (Some x)) ∙ ap₂ (λ (a b : List Triplet). a ++ b) (shape_near_nothing k h G at (Some x) w) (shape_far_nothing k h G j at (Some x) w) in
-        let l : length (triplets_of i A) ≡ length (irows (level p) x) = sym (length-map (triplets_of i A) (λ (t : Triplet). c k)) ∙ ap length (sym (const_read i k (c k) A n) ∙ sym (contexts_read i k c A)) ∙ length-map (contexts i c A) (λ (d : Context). d k) ∙ as_many in
-        contexts_read i k c A ∙ const_read i k (c k) A n ∙ same_length_maps (c k) (triplets_of i A) (irows (level p) x) l
+        let l : length (triplets_of i A) ≡ length (irows (chain_end p) x) = sym (length-map (triplets_of i A) (λ (t : Triplet). c k)) ∙ ap length (sym (const_read i k (c k) A n) ∙ sym (contexts_read i k c A)) ∙ length-map (contexts i c A) (λ (d : Context). d k) ∙ as_many in
+        contexts_read i k c A ∙ const_read i k (c k) A n ∙ same_length_maps (c k) (triplets_of i A) (irows (chain_end p) x) l
 
-    all_paired : (K : List ℕ) (r : Readers i h G p K) → Paired (IsRowInside i h G p c K r) (contexts i c (moves_in (shape_near_moves h G) (shape_far_moves h G j) at (Some x))) (irows (level p) x)
-    all_paired _ no_reader = bare_pairs (contexts i c (moves_in (shape_near_moves h G) (shape_far_moves h G j) at (Some x))) (irows (level p) x) as_many
-    all_paired _ (below k q K o u t r) = add_pair (IsRowInside i h G p c K r) k (value_in q) (contexts i c (moves_in (shape_near_moves h G) (shape_far_moves h G j) at (Some x))) (irows (level p) x) (below_reads k q o u t) (all_paired K r)
-    all_paired _ (outside k K w r) = add_pair (IsRowInside i h G p c K r) k (λ y. c k) (contexts i c (moves_in (shape_near_moves h G) (shape_far_moves h G j) at (Some x))) (irows (level p) x) (outside_reads k w) (all_paired K r)
+    all_paired : (K : List ℕ) (r : Readers i h G p K) → Paired (IsRowInside i h G p c K r) (contexts i c (moves_in (shape_near_moves h G) (shape_far_moves h G j) at (Some x))) (irows (chain_end p) x)
+    all_paired _ no_reader = bare_pairs (contexts i c (moves_in (shape_near_moves h G) (shape_far_moves h G j) at (Some x))) (irows (chain_end p) x) as_many
+    all_paired _ (below k q K o u t r) = add_pair (IsRowInside i h G p c K r) k (value_in q) (contexts i c (moves_in (shape_near_moves h G) (shape_far_moves h G j) at (Some x))) (irows (chain_end p) x) (below_reads k q o u t) (all_paired K r)
+    all_paired _ (outside k K w r) = add_pair (IsRowInside i h G p c K r) k (λ y. c k) (contexts i c (moves_in (shape_near_moves h G) (shape_far_moves h G j) at (Some x))) (irows (chain_end p) x) (outside_reads k w) (all_paired K r)
 
     -- what depends on these leaves alone is at the triplets of leaf i in the instance what it is in the instance's rows
     pub rows_fire_inside : {X : Type 0} (K : List ℕ) (r : Readers i h G p K) (f : Context → X) (g : Instance → X) → ((d : Context) (y : Instance) → IsRowInside i h G p c K r d y → f d ≡ g y)
-        → map f (contexts i c (moves_in (shape_near_moves h G) (shape_far_moves h G j) at (Some x))) ≡ map g (irows (level p) x)
-    rows_fire_inside K r f g e = paired_map (IsRowInside i h G p c K r) f g e (contexts i c (moves_in (shape_near_moves h G) (shape_far_moves h G j) at (Some x))) (irows (level p) x) (all_paired K r)
+        → map f (contexts i c (moves_in (shape_near_moves h G) (shape_far_moves h G j) at (Some x))) ≡ map g (irows (chain_end p) x)
+    rows_fire_inside K r f g e = paired_map (IsRowInside i h G p c K r) f g e (contexts i c (moves_in (shape_near_moves h G) (shape_far_moves h G j) at (Some x))) (irows (chain_end p) x) (all_paired K r)
 
     -- an instance has a true row in the walk exactly where one of its rows is true
     pub true_row_inside : (K : List ℕ) (r : Readers i h G p K) (w : Watch) (test : Instance → Bool) (T : Tour) → w.last ≡ i → ((d : Context) (y : Instance) → IsRowInside i h G p c K r d y → w.test d ≡ test y)
-        → moves_of T ≡ moves_in (shape_near_moves h G) (shape_far_moves h G j) at (Some x) → some_true w c T ≡ list_any test (irows (level p) x)
+        → moves_of T ≡ moves_in (shape_near_moves h G) (shape_far_moves h G j) at (Some x) → some_true w c T ≡ list_any test (irows (chain_end p) x)
     true_row_inside K r w test T l e m =
         some_true_any w T c ∙ ap₂ (λ (a : ℕ) (b : List Move). list_any w.test (contexts a c b)) l m
         ∙ sym (any_of_map w.test (contexts i c (moves_in (shape_near_moves h G) (shape_far_moves h G j) at (Some x))))
-        ∙ ap (list_any (λ (b : Bool). b)) (rows_fire_inside K r w.test test e) ∙ any_of_map test (irows (level p) x)
+        ∙ ap (list_any (λ (b : Bool). b)) (rows_fire_inside K r w.test test e) ∙ any_of_map test (irows (chain_end p) x)

@@ -3,7 +3,7 @@ use Rattle.std.proofs.Common.{◌≡◌, ℕ, List, [], ◌∷◌, length, Bool,
 use Rattle.std.specs.Prelude.{map, ◌==◌, if◌then◌else◌}
 use Rattle.std.specs.List.{slice_get}
 use Rattle.std.proofs.lemmas.List.{length-map}
-use Rattle.dr_meaning.specs.Path.{Step, level}
+use Rattle.dr_meaning.specs.Path.{Step, chain_end}
 use Rattle.dr_meaning.specs.Record.{Value, Node}
 use Rattle.dr_meaning.specs.Rows.{rows, value_at}
 use Rattle.dr_meaning.specs.Walk.{Move, enter, value, leave, record_moves}
@@ -59,17 +59,17 @@ with_itself E B x [] = same_leaf x
 with_itself E B x (s ∷ p) = along s.place s.repetition s.repetition p p (with_itself E B x p)
 
 pub rows_fire : (X : Type 0) → RowsFire X
-rows_fire X fs F i p K n c f g h e z t y = rowed_map F K f g y (contexts i c (record_moves fs F n)) (rows (level p) n) (all_rowed K t)
+rows_fire X fs F i p K n c f g h e z t y = rowed_map F K f g y (contexts i c (record_moves fs F n)) (rows (chain_end p) n) (all_rowed K t)
   where
     cs : List Context
     cs = contexts i c (record_moves fs F n)
 
-    reads_of : (k : ℕ) (q : List Step) → slice_get F k ≡ Some q → Together (k ≡ i) (Unit {0}) q p → map (λ (d : Context). d k) (contexts i c (record_moves fs F n)) ≡ map (value_at q) (rows (level p) n)
+    reads_of : (k : ℕ) (q : List Step) → slice_get F k ≡ Some q → Together (k ≡ i) (Unit {0}) q p → map (λ (d : Context). d k) (contexts i c (record_moves fs F n)) ≡ map (value_at q) (rows (chain_end p) n)
     reads_of k q u w = contexts_read i k c (record_moves fs F n) ∙ record_reads fs F i k p q n (c k) e u (leaf_at fs F i p h e) (leaf_at fs F k q h u) z w
 
-    as_many : length (contexts i c (record_moves fs F n)) ≡ length (rows (level p) n)
-    as_many = sym (length-map (contexts i c (record_moves fs F n)) (λ (d : Context). d i)) ∙ ap length (reads_of i p e (with_itself (i ≡ i) (Unit {0}) refl p)) ∙ length-map (rows (level p) n) (value_at p)
+    as_many : length (contexts i c (record_moves fs F n)) ≡ length (rows (chain_end p) n)
+    as_many = sym (length-map (contexts i c (record_moves fs F n)) (λ (d : Context). d i)) ∙ ap length (reads_of i p e (with_itself (i ≡ i) (Unit {0}) refl p)) ∙ length-map (rows (chain_end p) n) (value_at p)
 
-    all_rowed : (K : List ℕ) → AllTogether F i p K → Rowed F K (contexts i c (record_moves fs F n)) (rows (level p) n)
-    all_rowed [] t = bare F (contexts i c (record_moves fs F n)) (rows (level p) n) as_many
-    all_rowed (k ∷ K) t = add_leaf F K k t.0.0 t.0.1 (contexts i c (record_moves fs F n)) (rows (level p) n) (reads_of k t.0.0 t.0.1 t.0.2) (all_rowed K t.1)
+    all_rowed : (K : List ℕ) → AllTogether F i p K → Rowed F K (contexts i c (record_moves fs F n)) (rows (chain_end p) n)
+    all_rowed [] t = bare F (contexts i c (record_moves fs F n)) (rows (chain_end p) n) as_many
+    all_rowed (k ∷ K) t = add_leaf F K k t.0.0 t.0.1 (contexts i c (record_moves fs F n)) (rows (chain_end p) n) (reads_of k t.0.0 t.0.1 t.0.2) (all_rowed K t.1)

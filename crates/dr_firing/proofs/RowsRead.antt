@@ -4,11 +4,11 @@ use Rattle.std.specs.Prelude.{map, ◌==◌}
 use Rattle.std.proofs.lemmas.Simd.{map-map}
 use Rattle.std.proofs.lemmas.Bool.{and_parts, eq-eqb, ne_eqb, eqb-true, leb-true}
 use Rattle.dr_meaning.specs.Schema.{Repetition, required, optional, repeated, Kind, Fields, no_fields, field, Shape, leaf, group, repetition_count, shape_repeated_fields, is_repeated}
-use Rattle.dr_meaning.specs.Path.{Step, is_leaf_path, is_shape_path, same_repetition, max_repetition, level, up_to}
+use Rattle.dr_meaning.specs.Path.{Step, is_leaf_path, is_shape_path, same_repetition, max_repetition, chain_end, up_to}
 use Rattle.dr_meaning.specs.Record.{Value, Node, no_slots, slot, gap, Instances, no_instances, instance, Instance, atom, inner, single, count_instances, fits_repetition, all_instances, is_record, is_instance, instances_at, put_at}
 use Rattle.dr_meaning.specs.Rows.{instance_rows, each_instance_rows, field_rows, rows, first_value, value_in, value_at}
 use Rattle.dr_meaning.specs.Column.{Triplet}
-use Rattle.dr_meaning.specs.Automaton.{Pick, picks, behind, beside}
+use Rattle.dr_meaning.specs.Automaton.{Pick, picks, first_picks, later_picks}
 use Rattle.std.specs.List.{slice_get}
 use Rattle.dr_meaning.specs.Walk.{Move, leave, Depth, inside, begun_later, first_of, first_slot, other_slots, enclosed, later_moves, moves_in, near_moves, far_moves, shape_near_moves, shape_far_moves, top, record_moves}
 use Rattle.dr_meaning.specs.WalkLaws.{triplets_of}
@@ -120,8 +120,8 @@ alone q (instance x no_instances) h = refl
 alone q (instance x (instance y ys)) h = absurd (omega (arith, h))
 
 level_rows : (j : ℕ) (c e : Repetition) (q p : List Step) (n : Node) → (instances_at j n ≡ no_instances) ⊎ (fits_repetition e (count_instances (instances_at j n)) ≡ true)
-    → map (value_at (step j c ∷ q)) (rows (level (step j e ∷ p)) n) ≡ slot_values q (level p) (instances_at j n)
-level_rows j c e q p n h = by_level (level p) e h
+    → map (value_at (step j c ∷ q)) (rows (chain_end (step j e ∷ p)) n) ≡ slot_values q (chain_end p) (instances_at j n)
+level_rows j c e q p n h = by_level (chain_end p) e h
   where
     by_level : (L : List Step) (e : Repetition) → (instances_at j n ≡ no_instances) ⊎ (fits_repetition e (count_instances (instances_at j n)) ≡ true) → map (value_at (step j c ∷ q)) (rows (up_to (step j e) L) n) ≡ slot_values q L (instances_at j n)
     by_level (u ∷ L) e h = slot_rows j c e q (u ∷ L) n
@@ -130,8 +130,8 @@ level_rows j c e q p n h = by_level (level p) e h
     by_level [] optional h = alone q (instances_at j n) (few optional (instances_at j n) refl h)
 
 -- in rows of another field the value is that of the node
-other_rows : (s t : Step) (q p : List Step) (n : Node) → (s.place == t.place) ≡ false → (v : Option Value) → value_at (s ∷ q) n ≡ v → map (value_at (s ∷ q)) (rows (level (t ∷ p)) n) ≡ map (λ (r : Node). v) (rows (level (t ∷ p)) n)
-other_rows s t q p n h v z = by_level (level p) t.repetition
+other_rows : (s t : Step) (q p : List Step) (n : Node) → (s.place == t.place) ≡ false → (v : Option Value) → value_at (s ∷ q) n ≡ v → map (value_at (s ∷ q)) (rows (chain_end (t ∷ p)) n) ≡ map (λ (r : Node). v) (rows (chain_end (t ∷ p)) n)
+other_rows s t q p n h v z = by_level (chain_end p) t.repetition
   where
     far : (L : List Step) → map (value_at (s ∷ q)) (rows (t ∷ L) n) ≡ map (λ (r : Node). v) (rows (t ∷ L) n)
     far L = map-map (value_at (s ∷ q)) (λ (xs : Instances). put_at t.place xs n) (field_rows (rows L) (instances_at t.place n))
@@ -148,7 +148,7 @@ other_rows s t q p n h v z = by_level (level p) t.repetition
 
 abbrev pub optional_rows : List Step → List Step → Option Instance → List (Option Value)
 optional_rows q p None = None ∷ []
-optional_rows q p (Some x) = map (value_in q) (irows (level p) x)
+optional_rows q p (Some x) = map (value_in q) (irows (chain_end p) x)
 
 abbrev pub ShapeReads : ℕ → ℕ → List Step → List Step → Shape → List Pick → Type 0
 ShapeReads i k q p h G = (j : ℕ) (at : Depth) (x : Option Instance) (v : Option Value) → IsThere h x → reads i k v (shape_near_moves h G at x ++ shape_far_moves h G j at x) ≡ optional_rows q p x
@@ -157,7 +157,7 @@ reads_enclosed : (i k j : ℕ) (v : Option Value) (ms : List Move) → reads i k
 reads_enclosed i k j v ms = reads_append i k v ms (leave j ∷ []) ∙ append-nil (reads i k v ms)
 
 later_reads : (i k : ℕ) (q p : List Step) (h : Shape) (G : List Pick) → ShapeReads i k q p h G → (j : ℕ) (at : Depth) (xs : Instances) (v : Option Value) → all_instances (is_instance h) xs ≡ true
-    → reads i k v (later_moves j (λ (x : Option Instance). moves_in (shape_near_moves h G) (shape_far_moves h G (suc j)) (inside repeated (begun_later at) x) x) xs) ≡ many_values q (level p) xs
+    → reads i k v (later_moves j (λ (x : Option Instance). moves_in (shape_near_moves h G) (shape_far_moves h G (suc j)) (inside repeated (begun_later at) x) x) xs) ≡ many_values q (chain_end p) xs
 later_reads i k q p h G f j at no_instances v a = refl
 later_reads i k q p h G f j at (instance x xs) v a =
     let b : (is_instance h x ≡ true) × (all_instances (is_instance h) xs ≡ true) = and_parts _ _ a in
@@ -166,16 +166,16 @@ later_reads i k q p h G f j at (instance x xs) v a =
     ∙ ap₂ (λ (x y : List (Option Value)). x ++ y) (reads_enclosed i k j v A ∙ f (suc j) (inside repeated (begun_later at) (Some x)) (Some x) v b.0) (later_reads i k q p h G f j at xs (last k v (enclosed j A)) b.1)
 
 field_reads : (i k : ℕ) (q p : List Step) (r : Repetition) (h : Shape) (G : List Pick) → Only i p G → ShapeReads i k q p h G → (j : ℕ) (at : Depth) (n : Node) (v : Option Value) (xs : Instances) → first_slot n ≡ xs
-    → (xs ≡ no_instances) ⊎ (fits_repetition r (count_instances xs) ≡ true) → all_instances (is_instance h) xs ≡ true → reads i k v (near_in r h G at n ++ far_in r h G j at n) ≡ slot_values q (level p) xs
+    → (xs ≡ no_instances) ⊎ (fits_repetition r (count_instances xs) ≡ true) → all_instances (is_instance h) xs ≡ true → reads i k v (near_in r h G at n ++ far_in r h G j at n) ≡ slot_values q (chain_end p) xs
 field_reads i k q p required h G o f j at n v no_instances e s a = rw (e, selected i p G (shape_far_moves h G j (inside required at None) None) o) (f j (inside required at None) None v tt)
 field_reads i k q p optional h G o f j at n v no_instances e s a = rw (e, selected i p G (shape_far_moves h G j (inside optional at None) None) o) (f j (inside optional at None) None v tt)
 field_reads i k q p repeated h G o f j at n v no_instances e s a =
     rw (e, selected i p G (moves_in (shape_near_moves h G) (shape_far_moves h G (suc j)) (inside repeated at None) None) o) (f (suc j) (inside repeated at None) None v tt)
 field_reads i k q p required h G o f j at n v (instance x no_instances) e s a =
-    rw (e, selected i p G (shape_far_moves h G j (inside required at (Some x)) (Some x)) o) (f j (inside required at (Some x)) (Some x) v (and_parts _ _ a).0 ∙ sym (append-nil (map (value_in q) (irows (level p) x))))
+    rw (e, selected i p G (shape_far_moves h G j (inside required at (Some x)) (Some x)) o) (f j (inside required at (Some x)) (Some x) v (and_parts _ _ a).0 ∙ sym (append-nil (map (value_in q) (irows (chain_end p) x))))
 field_reads i k q p required h G o f j at n v (instance x (instance y ys)) e s a = let w : suc (suc (count_instances ys)) ≤ 1 = few required (instance x (instance y ys)) refl s in absurd (omega (arith, w))
 field_reads i k q p optional h G o f j at n v (instance x no_instances) e s a =
-    rw (e, selected i p G (shape_far_moves h G j (inside optional at (Some x)) (Some x)) o) (f j (inside optional at (Some x)) (Some x) v (and_parts _ _ a).0 ∙ sym (append-nil (map (value_in q) (irows (level p) x))))
+    rw (e, selected i p G (shape_far_moves h G j (inside optional at (Some x)) (Some x)) o) (f j (inside optional at (Some x)) (Some x) v (and_parts _ _ a).0 ∙ sym (append-nil (map (value_in q) (irows (chain_end p) x))))
 field_reads i k q p optional h G o f j at n v (instance x (instance y ys)) e s a = let w : suc (suc (count_instances ys)) ≤ 1 = few optional (instance x (instance y ys)) refl s in absurd (omega (arith, w))
 field_reads i k q p repeated h G o f j at n v (instance x xs) e s a =
     let b : (is_instance h x ≡ true) × (all_instances (is_instance h) xs ≡ true) = and_parts _ _ a in
@@ -187,12 +187,12 @@ field_reads i k q p repeated h G o f j at n v (instance x xs) e s a =
 -- ---- two leaves that are read together
 
 abbrev pub FieldsRead : ℕ → ℕ → Step → List Step → Step → List Step → Fields → List Pick → Type 0
-FieldsRead i k s q t p fs G = (j : ℕ) (at : Depth) (n : Node) (v : Option Value) → IsNode fs n → reads i k v (near_moves fs G at n ++ far_moves fs G j at n) ≡ map (value_at (s ∷ q)) (rows (level (t ∷ p)) n)
+FieldsRead i k s q t p fs G = (j : ℕ) (at : Depth) (n : Node) (v : Option Value) → IsNode fs n → reads i k v (near_moves fs G at n ++ far_moves fs G j at n) ≡ map (value_at (s ∷ q)) (rows (chain_end (t ∷ p)) n)
 
 -- as many triplets as rows
 abbrev pub Counts : ℕ → Type 0
 Counts i = (fs : Fields) (b : ℕ) (e : Repetition) (p : List Step) (G : List Pick) → Only i (step b e ∷ p) G → is_leaf_path fs (step b e ∷ p) ≡ true → (j : ℕ) (at : Depth) (n : Node) → IsNode fs n
-    → length (triplets_of i (near_moves fs G at n ++ far_moves fs G j at n)) ≡ length (rows (level (step b e ∷ p)) n)
+    → length (triplets_of i (near_moves fs G at n ++ far_moves fs G j at n)) ≡ length (rows (chain_end (step b e ∷ p)) n)
 
 const_maps : {X Y : Type 0} (v : Option Value) (xs : List X) (ys : List Y) → length xs ≡ length ys → map (λ (x : X). v) xs ≡ map (λ (y : Y). v) ys
 const_maps v [] [] h = refl
@@ -212,34 +212,34 @@ far_apart i k count fs a b c e q p G ok oi uk ui z l g j at n v m =
     let r : triplets_of i F ≡ triplets_of i (N ++ F) = sym (of_append i N F ∙ ap (λ (x : List Triplet). x ++ triplets_of i F) y) in
     apart_read i k v N F y (fields_far_silent k fs c q l a G ok uk j at n)
     ∙ ap₂ (λ (x : Option Value) (y : List Triplet). map (λ (t : Triplet). x) y) x r
-    ∙ const_maps (value_at (step a c ∷ q) n) (triplets_of i (N ++ F)) (rows (level (step b e ∷ p)) n) (count fs b e p G oi ui j at n m)
+    ∙ const_maps (value_at (step a c ∷ q) n) (triplets_of i (N ++ F)) (rows (chain_end (step b e ∷ p)) n) (count fs b e p G oi ui j at n m)
     ∙ sym (other_rows (step a c) (step b e) q p n z (value_at (step a c ∷ q) n) refl)
 
 -- both are leaves of the level, in this order
 near_apart : (i k : ℕ) → Counts i → (m : List ℕ) (r : Repetition) (h : Shape) (fs : Fields) (b : ℕ) (c e : Repetition) (q p : List Step) (G : List Pick) → Only k (step 0 c ∷ q) G → Only i (step (suc b) e ∷ p) G
     → is_leaf_path (field m r h fs) (step 0 c ∷ q) ≡ true → is_leaf_path (field m r h fs) (step (suc b) e ∷ p) ≡ true → max_repetition (step 0 c ∷ q) ≡ 0 → FieldsRead i k (step 0 c) q (step (suc b) e) p (field m r h fs) G
 near_apart i k count m r h fs b c e q p G ok oi uk ui l j at n v z =
-    let A = near_in r h (behind G) at n in
-    let B = near_moves fs (beside G) at (other_slots n) in
+    let A = near_in r h (first_picks G) at n in
+    let B = near_moves fs (later_picks G) at (other_slots n) in
     let F = far_moves (field m r h fs) G j at n in
     let w = fields_once k (field m r h fs) c q l 0 G ok uk at n z in
-    let kB : triplets_of k B ≡ [] = near_nothing k fs (beside G) at (other_slots n) (beside_first k c q G ok) in
+    let kB : triplets_of k B ≡ [] = near_nothing k fs (later_picks G) at (other_slots n) (beside_first k c q G ok) in
     let kA : triplets_of k A ≡ w.given ∷ [] = sym (of_append k A B ∙ ap (λ (x : List Triplet). triplets_of k A ++ x) kB ∙ append-nil (triplets_of k A)) ∙ w.once in
     let kF : triplets_of k F ≡ [] = fields_far_silent k (field m r h fs) c q l 0 G ok uk j at n in
     let kY : triplets_of k (B ++ F) ≡ [] = of_append k B F ∙ ap₂ (λ (x y : List Triplet). x ++ y) kB kF in
-    let w0 : Without i (behind G) = behind_later i b e p G oi in
-    let iA : triplets_of i A ≡ [] = unless_nothing i r (shape_near_moves h (behind G) (inside r at (first_of (first_slot n))) (first_of (first_slot n))) (shape_near_nothing i h (behind G) (inside r at (first_of (first_slot n))) (first_of (first_slot n)) w0) in
+    let w0 : Without i (first_picks G) = behind_later i b e p G oi in
+    let iA : triplets_of i A ≡ [] = unless_nothing i r (shape_near_moves h (first_picks G) (inside r at (first_of (first_slot n))) (first_of (first_slot n))) (shape_near_nothing i h (first_picks G) (inside r at (first_of (first_slot n))) (first_of (first_slot n)) w0) in
     let x : last k v A ≡ value_at (step 0 c ∷ q) n = last_single k v A w.given kA ∙ w.with_value in
     let y : triplets_of i (B ++ F) ≡ triplets_of i ((A ++ B) ++ F) = sym (ap (triplets_of i) (append_assoc A B F) ∙ of_append i A (B ++ F) ∙ ap (λ (x : List Triplet). x ++ triplets_of i (B ++ F)) iA) in
     ap (reads i k v) (append_assoc A B F) ∙ apart_read i k v A (B ++ F) iA kY
     ∙ ap₂ (λ (x : Option Value) (y : List Triplet). map (λ (t : Triplet). x) y) x y
-    ∙ const_maps (value_at (step 0 c ∷ q) n) (triplets_of i ((A ++ B) ++ F)) (rows (level (step (suc b) e ∷ p)) n) (count (field m r h fs) (suc b) e p G oi ui j at n z)
+    ∙ const_maps (value_at (step 0 c ∷ q) n) (triplets_of i ((A ++ B) ++ F)) (rows (chain_end (step (suc b) e ∷ p)) n) (count (field m r h fs) (suc b) e p G oi ui j at n z)
     ∙ sym (other_rows (step 0 c) (step (suc b) e) q p n (ne_eqb 0 (suc b) (omega arith)) (value_at (step 0 c ∷ q) n) refl)
 
 -- ---- rows of the other slots
 
-shift_rows : (a b : ℕ) (c e : Repetition) (q p : List Step) (n : Node) → map (value_at (step a c ∷ q)) (rows (level (step b e ∷ p)) (other_slots n)) ≡ map (value_at (step (suc a) c ∷ q)) (rows (level (step (suc b) e ∷ p)) n)
-shift_rows a b c e q p n = by_level (level p) e n
+shift_rows : (a b : ℕ) (c e : Repetition) (q p : List Step) (n : Node) → map (value_at (step a c ∷ q)) (rows (chain_end (step b e ∷ p)) (other_slots n)) ≡ map (value_at (step (suc a) c ∷ q)) (rows (chain_end (step (suc b) e ∷ p)) n)
+shift_rows a b c e q p n = by_level (chain_end p) e n
   where
     far : (L : List Step) (n : Node) → map (value_at (step a c ∷ q)) (rows (step b e ∷ L) (other_slots n)) ≡ map (value_at (step (suc a) c ∷ q)) (rows (step (suc b) e ∷ L) n)
     far L no_slots = map-map (value_at (step a c ∷ q)) (λ (xs : Instances). put_at b xs no_slots) (field_rows (rows L) no_instances) ∙ sym (map-map (value_at (step (suc a) c ∷ q)) (λ (xs : Instances). put_at (suc b) xs no_slots) (field_rows (rows L) no_instances))
@@ -285,12 +285,12 @@ fields_through E B i k count m r h fs q p c e f g zero zero G ok oi uk ui (inl (
     let sk : (same_repetition c r ≡ true) × (is_shape_path h q ≡ true) = and_parts _ _ uk in
     let si : (same_repetition e r ≡ true) × (is_shape_path h p ≡ true) = and_parts _ _ ui in
     let s : FirstSlot r h fs n = first_of_node m r h fs n z in
-    let kB = near_nothing k fs (beside G) at (other_slots n) (beside_first k c q G ok) in
-    let iB = near_nothing i fs (beside G) at (other_slots n) (beside_first i e p G oi) in
-    let iD = far_nothing i fs (beside G) (j + (repetition_count r + shape_repeated_fields h)) at (other_slots n) (beside_first i e p G oi) in
-    first_read i k v (near_in r h (behind G) at n) (near_moves fs (beside G) at (other_slots n)) (far_in r h (behind G) j at n) (far_moves fs (beside G) (j + (repetition_count r + shape_repeated_fields h)) at (other_slots n)) iB kB iD
-    ∙ field_reads i k q p r h (behind G) (only_behind i e p G oi) (f (behind G) (only_behind k c q G ok) (only_behind i e p G oi) sk.1 si.1 t) j at n v (first_slot n) refl s.0 s.1
-    ∙ ap (slot_values q (level p)) (sym s.2)
+    let kB = near_nothing k fs (later_picks G) at (other_slots n) (beside_first k c q G ok) in
+    let iB = near_nothing i fs (later_picks G) at (other_slots n) (beside_first i e p G oi) in
+    let iD = far_nothing i fs (later_picks G) (j + (repetition_count r + shape_repeated_fields h)) at (other_slots n) (beside_first i e p G oi) in
+    first_read i k v (near_in r h (first_picks G) at n) (near_moves fs (later_picks G) at (other_slots n)) (far_in r h (first_picks G) j at n) (far_moves fs (later_picks G) (j + (repetition_count r + shape_repeated_fields h)) at (other_slots n)) iB kB iD
+    ∙ field_reads i k q p r h (first_picks G) (only_behind i e p G oi) (f (first_picks G) (only_behind k c q G ok) (only_behind i e p G oi) sk.1 si.1 t) j at n v (first_slot n) refl s.0 s.1
+    ∙ ap (slot_values q (chain_end p)) (sym s.2)
     ∙ sym (level_rows 0 c e q p n (by_slot (sym s.2) (subst (λ (y : Repetition). (first_slot n ≡ no_instances) ⊎ (fits_repetition y (count_instances (first_slot n)) ≡ true)) (sym (same_repetition-true e r si.0)) s.0)))
   where
     by_slot : first_slot n ≡ instances_at 0 n → (first_slot n ≡ no_instances) ⊎ (fits_repetition e (count_instances (first_slot n)) ≡ true) → (instances_at 0 n ≡ no_instances) ⊎ (fits_repetition e (count_instances (instances_at 0 n)) ≡ true)
@@ -310,15 +310,15 @@ fields_through E B i k count m r h fs q p c e f g (suc a) zero G ok oi uk ui (in
     by_case (inr w) = absurd (omega (arith, w.0))
 fields_through E B i k count m r h fs q p c e f g (suc a) (suc b) G ok oi uk ui x j at n v z =
     let s : FirstSlot r h fs n = first_of_node m r h fs n z in
-    let wk : Without k (behind G) = behind_later k a c q G ok in
-    let wi : Without i (behind G) = behind_later i b e p G oi in
+    let wk : Without k (first_picks G) = behind_later k a c q G ok in
+    let wi : Without i (first_picks G) = behind_later i b e p G oi in
     let x0 = first_of (first_slot n) in
-    later_read i k v (near_in r h (behind G) at n) (near_moves fs (beside G) at (other_slots n)) (far_in r h (behind G) j at n) (far_moves fs (beside G) (j + (repetition_count r + shape_repeated_fields h)) at (other_slots n))
-    (unless_nothing i r (shape_near_moves h (behind G) (inside r at x0) x0) (shape_near_nothing i h (behind G) (inside r at x0) x0 wi))
-    (unless_nothing k r (shape_near_moves h (behind G) (inside r at x0) x0) (shape_near_nothing k h (behind G) (inside r at x0) x0 wk))
-    (far_in_nothing i r h (behind G) j at n (λ d y. shape_near_nothing i h (behind G) d y wi) (λ l d y. shape_far_nothing i h (behind G) l d y wi))
-    (far_in_nothing k r h (behind G) j at n (λ d y. shape_near_nothing k h (behind G) d y wk) (λ l d y. shape_far_nothing k h (behind G) l d y wk))
-    ∙ g a b (beside G) (only_beside k a c q G ok) (only_beside i b e p G oi) uk ui (rel_below E B q p a b c e x) (j + (repetition_count r + shape_repeated_fields h)) at (other_slots n) v s.3
+    later_read i k v (near_in r h (first_picks G) at n) (near_moves fs (later_picks G) at (other_slots n)) (far_in r h (first_picks G) j at n) (far_moves fs (later_picks G) (j + (repetition_count r + shape_repeated_fields h)) at (other_slots n))
+    (unless_nothing i r (shape_near_moves h (first_picks G) (inside r at x0) x0) (shape_near_nothing i h (first_picks G) (inside r at x0) x0 wi))
+    (unless_nothing k r (shape_near_moves h (first_picks G) (inside r at x0) x0) (shape_near_nothing k h (first_picks G) (inside r at x0) x0 wk))
+    (far_in_nothing i r h (first_picks G) j at n (λ d y. shape_near_nothing i h (first_picks G) d y wi) (λ l d y. shape_far_nothing i h (first_picks G) l d y wi))
+    (far_in_nothing k r h (first_picks G) j at n (λ d y. shape_near_nothing k h (first_picks G) d y wk) (λ l d y. shape_far_nothing k h (first_picks G) l d y wk))
+    ∙ g a b (later_picks G) (only_beside k a c q G ok) (only_beside i b e p G oi) uk ui (rel_below E B q p a b c e x) (j + (repetition_count r + shape_repeated_fields h)) at (other_slots n) v s.3
     ∙ shift_rows a b c e q p n
 
 inner_rows : (s : Step) (q L : List Step) (n : Node) → map (value_in (s ∷ q)) (irows L (inner n)) ≡ map (value_at (s ∷ q)) (rows L n)
@@ -341,9 +341,9 @@ leaf_reads i k e w G o j at x v t = subst (λ (y : ℕ). reads i y v (shape_near
     own (Some (inner y)) t = absurd (true≢false (sym t))
 
 group_reads : (i k : ℕ) (s t : Step) (q p : List Step) (fs : Fields) (G : List Pick) → FieldsRead i k s q t p fs G → ShapeReads i k (s ∷ q) (t ∷ p) (group fs) G
-group_reads i k s t q p fs G f j at None v z = f j at no_slots v (inl refl) ∙ absent_rows s q (level (t ∷ p))
+group_reads i k s t q p fs G f j at None v z = f j at no_slots v (inl refl) ∙ absent_rows s q (chain_end (t ∷ p))
 group_reads i k s t q p fs G f j at (Some (atom w)) v z = absurd (true≢false (sym z))
-group_reads i k s t q p fs G f j at (Some (inner n)) v z = f j at n v (inr z) ∙ sym (inner_rows s q (level (t ∷ p)) n)
+group_reads i k s t q p fs G f j at (Some (inner n)) v z = f j at n v (inr z) ∙ sym (inner_rows s q (chain_end (t ∷ p)) n)
 
 mutual
   fields_read : (E B : Type 0) (i k : ℕ) → (E → k ≡ i) → (B → Counts i) → (fs : Fields) (q p : List Step) (c e : Repetition) → FieldsStep E B i k q p c e fs
@@ -368,8 +368,8 @@ own_together (s ∷ p) = along s.place s.repetition s.repetition p p (own_togeth
 pub counts : (i : ℕ) → Counts i
 counts i fs b e p G o u j at n z =
     let N = near_moves fs G at n ++ far_moves fs G j at n in
-    let r : reads i i None N ≡ map (value_at (step b e ∷ p)) (rows (level (step b e ∷ p)) n) = fields_read (Unit {0}) ⊥ i i (λ x. refl) (λ x. absurd x) fs p p e e b b G o o u u (inl (refl, own_together p)) j at n None z in
-    sym (length-map (triplets_of i N) (λ (t : Triplet). t.value)) ∙ ap length (sym (own_read i None N) ∙ r) ∙ length-map (rows (level (step b e ∷ p)) n) (value_at (step b e ∷ p))
+    let r : reads i i None N ≡ map (value_at (step b e ∷ p)) (rows (chain_end (step b e ∷ p)) n) = fields_read (Unit {0}) ⊥ i i (λ x. refl) (λ x. absurd x) fs p p e e b b G o o u u (inl (refl, own_together p)) j at n None z in
+    sym (length-map (triplets_of i N) (λ (t : Triplet). t.value)) ∙ ap length (sym (own_read i None N) ∙ r) ∙ length-map (rows (chain_end (step b e ∷ p)) n) (value_at (step b e ∷ p))
 
 rows_inner : (q L : List Step) (n : Node) → map (value_in q) (irows L (inner n)) ≡ map (value_at q) (rows L n)
 rows_inner q [] n = refl
@@ -377,13 +377,13 @@ rows_inner q (u ∷ L) n = map-map (value_in q) inner (rows (u ∷ L) n)
 
 -- wherever a triplet of leaf i is given in the walk of a record, what was read last of a leaf k that is read together with it is its value in the row there
 pub record_reads : (fs : Fields) (F : List (List Step)) (i k : ℕ) (p q : List Step) (n : Node) (v : Option Value) → slice_get F i ≡ Some p → slice_get F k ≡ Some q → is_leaf_path fs p ≡ true → is_leaf_path fs q ≡ true
-    → is_record fs n ≡ true → Together (k ≡ i) (Unit {0}) q p → reads i k v (record_moves fs F n) ≡ map (value_at q) (rows (level p) n)
+    → is_record fs n ≡ true → Together (k ≡ i) (Unit {0}) q p → reads i k v (record_moves fs F n) ≡ map (value_at q) (rows (chain_end p) n)
 record_reads fs F i k p q n v ei ek ui uk z t =
     let ok : Only k q (picks F) = subst (λ (x : ℕ). Only x q (picks F)) (no_shift k) (picks_only k 0 q F ek) in
     let oi : Only i p (picks F) = subst (λ (x : ℕ). Only x p (picks F)) (no_shift i) (picks_only i 0 p F ei) in
     reads_enclosed i k 0 v (near_moves fs (picks F) top n ++ far_moves fs (picks F) 1 top n)
     ∙ shape_reads (k ≡ i) (Unit {0}) i k (λ e. e) (λ x. counts i) (group fs) q p (picks F) ok oi uk ui t 1 top (Some (inner n)) v z
-    ∙ rows_inner q (level p) n
+    ∙ rows_inner q (chain_end p) n
   where
     no_shift : (n : ℕ) → 0 + n ≡ n
     no_shift n = omega arith

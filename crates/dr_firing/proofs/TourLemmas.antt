@@ -2,7 +2,7 @@
 use Rattle.std.proofs.Common.{◌≡◌, ℕ, List, [], ◌∷◌, ◌++◌, length, Bool, true, false, ◌&&◌, None, refl, sym, ap, ap₂, ◌∙◌, append_assoc}
 use Rattle.std.specs.Prelude.{map, ◌==◌, ◌||◌, if◌then◌else◌}
 use Rattle.std.specs.List.{list_any}
-use Rattle.dr_meaning.specs.Path.{level}
+use Rattle.dr_meaning.specs.Path.{chain_end}
 use Rattle.dr_meaning.specs.Rows.{rows}
 use Rattle.dr_meaning.specs.Column.{triplet}
 use Rattle.dr_meaning.specs.Walk.{Move, enter, value, leave, walk, record_moves}
@@ -103,4 +103,4 @@ true_row_keeps fs F w p K n c test T h e z t f m =
     some_true_any w T c ∙ ap (λ (x : List Move). list_any w.test (contexts w.last c x)) m
     ∙ sym (any_of_map w.test (contexts w.last c (record_moves fs F n)))
     ∙ ap (list_any (λ (b : Bool). b)) (rows_fire Bool fs F w.last p K n c w.test test h e z t f)
-    ∙ any_of_map test (rows (level p) n) ∙ sym (kept_any (level p) test n)
+    ∙ any_of_map test (rows (chain_end p) n) ∙ sym (kept_any (chain_end p) test n)

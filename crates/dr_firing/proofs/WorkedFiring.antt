@@ -1,9 +1,9 @@
 -- What a scan makes of a record's moves, by computation.
 use Rattle.std.proofs.Common.{◌≡◌, ◌⊎◌, inl, inr, ℕ, List, [], ◌∷◌, ◌++◌, refl, sym, ap, subst, true≢false, arith}
 use Rattle.std.specs.Prelude.{map, Bool, true, false, ◌==◌, if◌then◌else◌, Option, Some, None, pos, codes, bytes_eq}
-use Rattle.dr_meaning.specs.Path.{Step, level}
+use Rattle.dr_meaning.specs.Path.{Step, chain_end}
 use Rattle.dr_meaning.specs.Schema.{Shape, group, field, leaf, no_fields, repeated, optional, text_kind}
-use Rattle.dr_meaning.specs.Automaton.{Pick, picks, behind, beside}
+use Rattle.dr_meaning.specs.Automaton.{Pick, picks, first_picks, later_picks}
 use Rattle.dr_meaning.specs.Record.{Value, bool_value, int_value, text_value, Node, no_slots, slot, Instance, inner, single}
 use Rattle.dr_meaning.specs.Rows.{rows, value_at}
 use Rattle.dr_meaning.specs.Column.{triplet}
@@ -66,7 +66,7 @@ pub at_country : map three (contexts 1 start moves_10) ≡ four_rows
 at_country = refl
 
 -- these are the rows of the level of Country
-pub are_rows : map (λ (row : Node). value_at doc_id row ∷ value_at country row ∷ value_at url row ∷ []) (rows (level country) record_10) ≡ four_rows
+pub are_rows : map (λ (row : Node). value_at doc_id row ∷ value_at country row ∷ value_at url row ∷ []) (rows (chain_end country) record_10) ≡ four_rows
 are_rows = refl
 
 -- at each url the country that was read last, which is no leaf read together with it: that of the name before
@@ -105,7 +105,7 @@ not_selected h = let e : None ≡ Some h.0.0 = h.0.1 in absurd (cc)
 -- ---- rows
 
 abbrev first_row : Node
-first_row = first_or_none (rows (level country) record_10)
+first_row = first_or_none (rows (chain_end country) record_10)
   where
     first_or_none : List Node → Node
     first_or_none [] = no_slots
@@ -132,7 +132,7 @@ not_row = (λ h. true≢false (ap (is_word (codes "gb")) (h.0 country refl)), λ
 abbrev in_name : List Pick
 in_name = record { rest = step 0 repeated ∷ step 1 optional ∷ []; index = 1 } ∷ record { rest = step 1 optional ∷ []; index = 2 } ∷ []
 
-pub those_in_name : behind (beside (beside (picks F))) ≡ in_name
+pub those_in_name : first_picks (later_picks (later_picks (picks F))) ≡ in_name
 those_in_name = refl
 
 abbrev name_shape : Shape

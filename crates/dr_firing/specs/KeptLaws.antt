@@ -2,7 +2,7 @@
 use Rattle.std.specs.Prelude.{◌≡◌, ℕ, List, Bool, true, Some, is_some}
 use Rattle.std.specs.List.{list_all, list_any, slice_get}
 use Rattle.dr_meaning.specs.Schema.{Fields, Shape}
-use Rattle.dr_meaning.specs.Path.{Step, level, is_leaf_path, is_shape_path}
+use Rattle.dr_meaning.specs.Path.{Step, chain_end, is_leaf_path, is_shape_path}
 use Rattle.dr_meaning.specs.Record.{Node, Instances, Instance, single, is_record, is_instance}
 use Rattle.dr_meaning.specs.Rows.{rows}
 use Rattle.dr_meaning.specs.Kept.{keep_instance, kept_along}
@@ -22,7 +22,7 @@ KeptWhereAnyRow = (p : List Step) (test : Node → Bool) (n : Node) → is_some 
 abbrev pub TrueRowKeeps : Type 0
 TrueRowKeeps = (fs : Fields) (F : List (List Step)) (w : Watch) (p : List Step) (K : List ℕ) (n : Node) (c : Context) (test : Node → Bool) (T : Tour)
     → list_all (is_leaf_path fs) F ≡ true → slice_get F w.last ≡ Some p → is_record fs n ≡ true → AllTogether F w.last p K → ((d : Context) (row : Node) → IsRow F K d row → w.test d ≡ test row)
-    → moves_of T ≡ record_moves fs F n → some_true w c T ≡ is_some (kept_along (level p) test n)
+    → moves_of T ≡ record_moves fs F n → some_true w c T ≡ is_some (kept_along (chain_end p) test n)
 
 -- the same of an instance on the condition's chain: row is the whole row that an instance makes, and test the condition in it
 abbrev pub TrueRowKeepsInstance : Type 0
@@ -30,4 +30,4 @@ TrueRowKeepsInstance = (i : ℕ) (h : Shape) (G : List Pick) (p : List Step) (c 
     → (K : List ℕ) (r : Readers i h G p K) (w : Watch) (row : Instances → Node) (test : Node → Bool) (T : Tour) → w.last ≡ i
     → ((d : Context) (y : Instance) → IsRowInside i h G p c K r d y → w.test d ≡ test (row (single y)))
     → moves_of T ≡ moves_in (shape_near_moves h G) (shape_far_moves h G j) at (Some x)
-    → some_true w c T ≡ is_some (keep_instance (kept_along (level p)) (λ y. row (single y)) test x)
+    → some_true w c T ≡ is_some (keep_instance (kept_along (chain_end p)) (λ y. row (single y)) test x)

@@ -1,4 +1,4 @@
--- Leaves that are read together: in each row of the level of the second both stand, and the first is read before it, in reading order, or is it.
+-- Leaves that are read together: in each row of the chain of the second both stand, and the first is read before it, in reading order, or is it.
 use Rattle.std.specs.Prelude.{◌≡◌, ◌<◌, ◌⊎◌, ℕ, List, [], ◌∷◌, false, ◌==◌}
 use Rattle.dr_meaning.specs.Schema.{Repetition}
 use Rattle.dr_meaning.specs.Path.{Step, max_repetition}

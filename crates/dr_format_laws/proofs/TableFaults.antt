@@ -9,8 +9,7 @@ use Rattle.std.proofs.lemmas.List.{length-append}
 use Rattle.std.proofs.lemmas.Slice.Eq.{bytes_eq-Decides}
 use Rattle.dr_meaning.specs.Schema.{Schema}
 use Rattle.dr_meaning.specs.SchemaText.{SchemaFault, parse_schema}
-use Rattle.dr_formats.specs.TableFile.{Table, TableFault, table_too_long, bad_head, bad_tablets, bad_copies, bad_leaf, bad_table_schema, Line, first_line, leaf_line, at_schema, on_leaf, is_schema_line, leaf_lines, at_leaves, on_copies, at_copies, on_tablets, on_head, parse_table, leaf_texts, longest_table, most_tablets, most_leaf_lines}
-use Rattle.dr_formats.specs.TableLaws.{is_line_text}
+use Rattle.dr_formats.specs.TableFile.{Table, TableFault, table_too_long, bad_head, bad_tablets, bad_copies, bad_leaf, bad_table_schema, Line, first_line, leaf_line, at_schema, on_leaf, is_schema_line, leaf_lines, at_leaves, on_copies, at_copies, on_tablets, on_head, parse_table, leaf_texts, longest_table, most_tablets, most_leaf_lines, is_line_text}
 use Rattle.dr_formats.proofs.TableTextLemmas.{table_texts_are_accepted_exactly}
 use Rattle.dr_format_laws.specs.TableFaultLaws.{BeginsWith, IsHeadLine, IsTabletsLine, IsCopiesLine, IsLeafLine, IsSchemaLine, HasHead, HasTablets, HasCopies, HasLeaves, HasSchema, IsReadable, HasFault, IsTableText, TableFaultIsTold, OneTableFault, TableOrFault}
 use Rattle.dr_format_laws.proofs.TableLines.{line_is, line_back, decided, not_begun, numbered_line, head_read, schema_read, tablets_read, copies_read, reads_head, reads_schema, reads_tablets, reads_copies, reads_leaf, leaf_back}

@@ -9,10 +9,11 @@ use Rattle.std.proofs.lemmas.Fmt.{decimal-digits_value, decimal_is_IsNumeral, fi
 use Rattle.std.proofs.lemmas.Str.{digit_value_digit}
 use Rattle.std.proofs.lemmas.Str.Parse.{IsNumeralModel}
 use Rattle.std.proofs.lemmas.Slice.Eq.{bytes_eq-Decides}
-use Rattle.dr_formats.specs.TableFile.{Line, with_byte, first_line, behind_word, is_digit, digits_value, is_empty, begins_with_zero, number_text, at_most, number_behind, nonempty, leaf_line, most_tablets, most_leaf_lines}
-use Rattle.dr_formats.specs.TableLaws.{is_line_text}
+use Rattle.dr_formats.specs.TableFile.{Line, with_byte, first_line, behind_word, digits_value, begins_with_zero, number_text, at_most, number_behind, nonempty, leaf_line, most_tablets, most_leaf_lines, is_line_text}
 use Rattle.dr_formats.proofs.TableLemmas.{NoEnd, digits_are, same_value}
 use Rattle.dr_format_laws.specs.TableFaultLaws.{BeginsWith, IsHeadLine, IsTabletsLine, IsCopiesLine, IsLeafLine, IsSchemaLine}
+use Rattle.dr_meaning.specs.Lists.{is_empty}
+use Rattle.dr_meaning.specs.Tokens.{is_digit}
 
 -- ---- the first line
 

@@ -4,9 +4,9 @@ use Rattle.std.specs.List.{list_all}
 use Rattle.std.specs.Str.{is_utf8}
 use Rattle.std.specs.Fmt.{decimal}
 use Rattle.dr_meaning.specs.SchemaText.{parse_schema}
-use Rattle.dr_formats.specs.TableFile.{Table, TableFault, table_too_long, bad_head, bad_tablets, bad_copies, bad_leaf, bad_table_schema, parse_table}
+use Rattle.dr_formats.specs.TableFile.{Table, TableFault, table_too_long, bad_head, bad_tablets, bad_copies, bad_leaf, bad_table_schema, parse_table, is_line_text}
 use Rattle.dr_formats.specs.TableFile.{longest_table, most_tablets, most_leaf_lines, leaf_texts}
-use Rattle.dr_formats.specs.TableLaws.{is_line_text, IsWithinLimits, SpellsTable}
+use Rattle.dr_formats.specs.TableLaws.{IsWithinLimits, SpellsTable}
 
 -- ---- lines
 

@@ -5,11 +5,11 @@ use Rattle.std.specs.List.{list_any, list_all}
 use Rattle.std.proofs.lemmas.Bool.{and_parts, and_from, leb-true, le-leb, not-true, or_parts, or_from, not_from_false, and_left, and_right}
 use Rattle.std.proofs.lemmas.Slice.Eq.{bytes_eq-Decides}
 use Rattle.std.proofs.lemmas.List.{length-append, map-append}
-use Rattle.dr_meaning.specs.Schema.{Repetition, required, optional, repeated, Kind, bool_kind, int32_kind, int64_kind, text_kind, Fields, no_fields, field, Shape, leaf, group, Schema, field_names, is_short_name, is_group, is_shape, depth, shape_depth}
+use Rattle.dr_meaning.specs.Schema.{Repetition, required, optional, repeated, Kind, bool_kind, int32_kind, int64_kind, text_kind, Fields, no_fields, field, Shape, leaf, group, Schema, field_names, is_short_name, is_group, is_shape, depth, shape_depth, same_kind}
 use Rattle.dr_meaning.specs.Path.{Step, Leaf, same_repetition, leaf_below, leaves_from, shape_leaves, leaves}
 use Rattle.dr_meaning.proofs.SchemaReadsBack.{FirstField, first_of_group, other_way}
 use Rattle.dr_formats.specs.Metadata.{SchemaElement}
-use Rattle.dr_formats.specs.FileSchema.{FileFields, no_file_fields, file_field, FileShape, file_leaf, file_group, repetition_from, fields_read, file_schema, open_kind, is_open_name, leaf_under, leaves_under, shape_leaves_under, within_depth, file_leaves, same_kind, same_names, same_repetitions, is_leaf_for, place_of}
+use Rattle.dr_formats.specs.FileSchema.{FileFields, no_file_fields, file_field, FileShape, file_leaf, file_group, repetition_from, fields_read, file_schema, open_kind, is_open_name, leaf_under, leaves_under, shape_leaves_under, within_depth, file_leaves, same_names, same_repetitions, is_leaf_for, place_of}
 use Rattle.dr_formats.specs.OpenSchemaLaws.{file_leaf_of}
 use Rattle.dr_formats.specs.WritingLaws.{nth_leaf}
 use Rattle.dr_formats.specs.Writing.{type_from, repetition_number, converted_from, count_fields, elements, shape_elements, schema_elements}

@@ -13,8 +13,10 @@ use Rattle.std.proofs.lemmas.Str.Parse.{digit_from_value}
 use Rattle.dr_meaning.specs.Schema.{Repetition, required, optional, repeated, Kind, bool_kind, int32_kind, int64_kind, text_kind, Fields, no_fields, field, Shape, leaf, group, Schema, begins_name, continues_name, is_name, is_short_name, is_group, is_shape, is_nonempty, is_schema, depth, leaf_count, greatest_depth, most_leaves}
 use Rattle.dr_meaning.specs.SchemaText.{Token, name, open_brace, close_brace, semicolon, bad, repetition_word, kind_word, field_tokens, shape_tokens, token_text, before_token, separated, parse_schema, schema_text}
 use Rattle.dr_meaning.proofs.SchemaReadsBack.{FirstField, first_of_group, name_of_short, canonical_reads_back}
-use Rattle.dr_formats.specs.TableFile.{Table, first_line, behind_word, is_digit, digits_value, is_empty, number_text, number_behind, nonempty, leaf_lines, at_leaves, on_copies, at_copies, on_tablets, on_head, parse_table, leaf_texts, table_text, most_tablets, most_leaf_lines, longest_table}
-use Rattle.dr_formats.specs.TableLaws.{is_line_text, is_directory, IsTable, TableReadsBack, IsWithinLimits}
+use Rattle.dr_formats.specs.TableFile.{Table, first_line, behind_word, digits_value, number_text, number_behind, nonempty, leaf_lines, at_leaves, on_copies, at_copies, on_tablets, on_head, parse_table, leaf_texts, table_text, most_tablets, most_leaf_lines, longest_table, is_line_text}
+use Rattle.dr_formats.specs.TableLaws.{is_directory, IsTable, TableReadsBack, IsWithinLimits}
+use Rattle.dr_meaning.specs.Lists.{is_empty}
+use Rattle.dr_meaning.specs.Tokens.{is_digit}
 
 -- ---- lines
 

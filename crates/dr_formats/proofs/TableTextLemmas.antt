@@ -12,9 +12,11 @@ use Rattle.std.proofs.lemmas.Str.Parse.{IsNumeralModel}
 use Rattle.std.proofs.lemmas.Slice.Eq.{bytes_eq-Decides}
 use Rattle.dr_meaning.specs.Schema.{Schema}
 use Rattle.dr_meaning.specs.SchemaText.{SchemaFault, parse_schema}
-use Rattle.dr_formats.specs.TableFile.{Table, TableFault, Line, with_byte, first_line, behind_word, is_digit, digits_value, is_empty, begins_with_zero, number_text, at_most, number_behind, nonempty, leaf_line, checked_schema, at_schema, on_leaf, is_schema_line, leaf_lines, at_leaves, on_copies, at_copies, on_tablets, on_head, parse_table, leaf_texts, most_tablets, most_leaf_lines, longest_table, table_too_long, bad_head, bad_copies}
-use Rattle.dr_formats.specs.TableLaws.{is_line_text, IsWithinLimits, SpellsTable, TableTextsAreAcceptedExactly}
+use Rattle.dr_formats.specs.TableFile.{Table, TableFault, Line, with_byte, first_line, behind_word, digits_value, begins_with_zero, number_text, at_most, number_behind, nonempty, leaf_line, checked_schema, at_schema, on_leaf, is_schema_line, leaf_lines, at_leaves, on_copies, at_copies, on_tablets, on_head, parse_table, leaf_texts, most_tablets, most_leaf_lines, longest_table, table_too_long, bad_head, bad_copies, is_line_text}
+use Rattle.dr_formats.specs.TableLaws.{IsWithinLimits, SpellsTable, TableTextsAreAcceptedExactly}
 use Rattle.dr_formats.proofs.TableLemmas.{NoEnd, digits_are, same_value, lines_back}
+use Rattle.dr_meaning.specs.Lists.{is_empty}
+use Rattle.dr_meaning.specs.Tokens.{is_digit}
 
 -- ---- what a line, a word and a number are
 

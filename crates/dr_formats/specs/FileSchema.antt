@@ -2,7 +2,7 @@
 use Rattle.std.specs.Prelude.{ℕ, zero, suc, List, [], ◌∷◌, ◌++◌, map, length, Bool, true, false, not, ◌&&◌, ◌||◌, nat_le, if◌then◌else◌, bytes_eq}
 use Rattle.std.specs.Prelude.{codes, ℤ, pos, negsuc, Option, Some, None, option_map, option_and_then}
 use Rattle.std.specs.List.{list_any}
-use Rattle.dr_meaning.specs.Schema.{Repetition, required, optional, repeated, Kind, bool_kind, int32_kind, int64_kind, text_kind, Fields, no_fields}
+use Rattle.dr_meaning.specs.Schema.{Repetition, required, optional, repeated, Kind, bool_kind, int32_kind, int64_kind, text_kind, Fields, no_fields, same_kind}
 use Rattle.dr_meaning.specs.Schema.{field, Shape, leaf, group, Schema, is_short_name, greatest_depth, most_leaves}
 use Rattle.dr_meaning.specs.Path.{Step, Leaf, same_repetition}
 use Rattle.dr_formats.specs.Metadata.{SchemaElement}
@@ -147,14 +147,6 @@ abbrev pub file_leaves : FileFields → List FileLeaf
 file_leaves fs = map within_depth (leaves_under [] fs)
 
 -- ---- which leaf of the file is a leaf of a schema
-
--- whether two kinds are the same
-abbrev pub same_kind : Kind → Kind → Bool
-same_kind bool_kind bool_kind = true
-same_kind int32_kind int32_kind = true
-same_kind int64_kind int64_kind = true
-same_kind text_kind text_kind = true
-same_kind k l = false
 
 -- whether a leaf is open and of this kind
 abbrev pub is_kind : Kind → Option Kind → Bool

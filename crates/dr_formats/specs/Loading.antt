@@ -6,7 +6,8 @@ use Rattle.dr_meaning.specs.Record.{Node}
 use Rattle.dr_meaning.specs.Lines.{Refusal, lines_of, Taken, taken_from}
 use Rattle.dr_formats.specs.Writing.{file_bytes}
 use Rattle.dr_formats.specs.Tablets.{tablets, copy_paths}
-use Rattle.dr_formats.specs.TableFile.{Table, is_empty, most_tablets, table_text}
+use Rattle.dr_formats.specs.TableFile.{Table, most_tablets, table_text, is_line_text}
+use Rattle.dr_meaning.specs.Lists.{is_empty}
 
 -- ---- the limits
 
@@ -25,13 +26,10 @@ pub data WordsRefusal : Type 0 where
   leaf_refused : ℕ → WordsRefusal
   copies_refused : WordsRefusal
 
-abbrev pub is_directory_word : List ℕ → Bool
-is_directory_word d = not (is_empty d) && list_all (λ b. not (b == 10)) d
-
 -- the first directory that is refused, where the first of these has this number
 abbrev pub first_refused : ℕ → List (List ℕ) → Option ℕ
 first_refused n [] = None
-first_refused n (d ∷ ds) = if is_directory_word d then first_refused (suc n) ds else Some n
+first_refused n (d ∷ ds) = if is_line_text d then first_refused (suc n) ds else Some n
 
 abbrev pub or_copies : Bool → Option ℕ → Option WordsRefusal
 or_copies fits (Some n) = Some (leaf_refused n)

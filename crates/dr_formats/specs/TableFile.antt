@@ -6,6 +6,8 @@ use Rattle.std.specs.Str.{is_utf8}
 use Rattle.std.specs.Fmt.{decimal}
 use Rattle.dr_meaning.specs.Schema.{Schema}
 use Rattle.dr_meaning.specs.SchemaText.{SchemaFault, parse_schema, schema_text}
+use Rattle.dr_meaning.specs.Lists.{is_empty}
+use Rattle.dr_meaning.specs.Tokens.{is_digit}
 
 -- a table: its schema, the directories of its leaves, copies of each tablet, number of tablets
 pub record Table : Type 0 where
@@ -60,10 +62,6 @@ behind_word [] t = Some t
 behind_word (w ∷ ws) [] = None
 behind_word (w ∷ ws) (b ∷ bs) = if w == b then behind_word ws bs else None
 
--- 0 to 9
-abbrev pub is_digit : ℕ → Bool
-is_digit b = nat_le 48 b && nat_le b 57
-
 -- the number that digits write behind those of a number
 abbrev pub digits_value : ℕ → List ℕ → ℕ
 digits_value n [] = n
@@ -74,10 +72,9 @@ abbrev pub begins_with_zero : List ℕ → Bool
 begins_with_zero [] = false
 begins_with_zero (b ∷ bs) = b == 48
 
--- whether there is nothing
-abbrev pub is_empty : List ℕ → Bool
-is_empty [] = true
-is_empty (b ∷ bs) = false
+-- whether a text isn't empty and has no LF
+abbrev pub is_line_text : List ℕ → Bool
+is_line_text d = not (is_empty d) && list_all (λ b. not (b == 10)) d
 
 -- a number above 0 in decimal, without leading zeros
 abbrev pub number_text : List ℕ → Option ℕ

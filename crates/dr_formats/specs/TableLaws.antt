@@ -5,11 +5,8 @@ use Rattle.std.specs.Str.{is_utf8}
 use Rattle.std.specs.Fmt.{decimal}
 use Rattle.dr_meaning.specs.Schema.{is_schema}
 use Rattle.dr_meaning.specs.SchemaText.{schema_text, parse_schema, longest_schema}
-use Rattle.dr_formats.specs.TableFile.{Table, is_empty, most_tablets, most_leaf_lines, longest_table, leaf_texts, parse_table, table_text}
-
--- a text that isn't empty and has no LF; the same in UTF-8
-abbrev pub is_line_text : List ℕ → Bool
-is_line_text d = not (is_empty d) && list_all (λ b. not (b == 10)) d
+use Rattle.dr_formats.specs.TableFile.{Table, most_tablets, most_leaf_lines, longest_table, leaf_texts, parse_table, table_text, is_line_text}
+use Rattle.dr_meaning.specs.Lists.{is_empty}
 
 abbrev pub is_directory : List ℕ → Bool
 is_directory d = is_line_text d && is_utf8 d

@@ -1,6 +1,7 @@
 -- Tablets: the records of a table in pieces, where the copies lie, and their paths.
 use Rattle.std.specs.Prelude.{ℕ, zero, suc, ◌+◌, ◌-◌, ◌%◌, List, [], ◌∷◌, ◌++◌, length, replicate, codes}
 use Rattle.std.specs.Fmt.{decimal}
+use Rattle.dr_meaning.specs.Lists.{nth_text}
 
 -- the records in order, n to a tablet, where the tablet that is being filled holds these and has room for so many more
 abbrev pub tablets_from : {A : Type 0} → ℕ → ℕ → List A → List A → List (List A)
@@ -24,16 +25,10 @@ six_digits n = replicate (6 - length (decimal n)) 48 ++ decimal n
 abbrev pub tablet_path : List ℕ → ℕ → List ℕ
 tablet_path directory tablet = directory ++ (codes "/t" ++ (six_digits tablet ++ codes ".parquet"))
 
--- the directory of a leaf, from 0
-abbrev pub nth_directory : List (List ℕ) → ℕ → List ℕ
-nth_directory [] i = []
-nth_directory (d ∷ ds) zero = d
-nth_directory (d ∷ ds) (suc i) = nth_directory ds i
-
 -- the paths of so many copies of a tablet, from the jth on
 abbrev pub copy_paths_from : List (List ℕ) → ℕ → ℕ → ℕ → List (List ℕ)
 copy_paths_from directories tablet j zero = []
-copy_paths_from directories tablet j (suc k) = tablet_path (nth_directory directories (placement (length directories) tablet j)) tablet
+copy_paths_from directories tablet j (suc k) = tablet_path (nth_text directories (placement (length directories) tablet j)) tablet
     ∷ copy_paths_from directories tablet (suc j) k
 
 -- the paths of a tablet's copies, in order

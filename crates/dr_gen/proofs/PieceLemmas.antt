@@ -10,7 +10,8 @@ use Rattle.dr_meaning.specs.Record.{Instance, inner, slot, no_slots, Instances, 
 use Rattle.dr_meaning.specs.Print.{instance_texts, shape_text, record_text, atom_text}
 use Rattle.dr_gen.specs.Document.{document_fields, links_fields}
 use Rattle.dr_gen.specs.Generator.{is_even, number, numbered, given, several_from, several, language, name, links, record_of, line_of}
-use Rattle.dr_gen.specs.Pieces.{comma_if, separated, several_text, numbers_text, language_text, name_text, country_piece, url_piece, links_piece}
+use Rattle.dr_gen.specs.Pieces.{several_text, numbers_text, language_text, name_text, country_piece, url_piece, links_piece}
+use Rattle.dr_meaning.specs.Lists.{comma_if, separated}
 
 -- ---- parts separated by commas
 

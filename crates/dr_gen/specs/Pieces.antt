@@ -6,16 +6,7 @@ use Rattle.dr_meaning.specs.Record.{Instance}
 use Rattle.dr_meaning.specs.Print.{atom_text, instance_texts, shape_text}
 use Rattle.dr_gen.specs.Document.{language_fields, name_fields, links_fields}
 use Rattle.dr_gen.specs.Generator.{several, number, links}
-
--- a comma, where something stands before
-abbrev pub comma_if : Bool → List ℕ
-comma_if true = 44 ∷ []
-comma_if false = []
-
--- parts separated by commas; where something stands before them, with a comma before the first too
-abbrev pub separated : Bool → List (List ℕ) → List ℕ
-separated behind [] = []
-separated behind (p ∷ ps) = comma_if behind ++ (p ++ separated true ps)
+use Rattle.dr_meaning.specs.Lists.{comma_if}
 
 -- so many instances, separated by commas
 abbrev pub several_text : (Instance → List ℕ) → ℕ → (ℕ → Instance) → List ℕ

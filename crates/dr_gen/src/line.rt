@@ -2,7 +2,8 @@
 
 ghost use Rattle.std.specs.Prelude.{◌≡◌, ◌≤◌, ◌<◌, ◌^◌, ◌+◌, ◌%◌, ◌++◌, ◌==◌, true, not, length, vec_capacity, decimal};
 ghost use Rattle.dr_gen.specs.Generator.{is_even, language, name, line_of};
-ghost use Rattle.dr_gen.specs.Pieces.{comma_if, several_text, numbers_text, language_text, name_text, country_piece, url_piece, links_piece};
+ghost use Rattle.dr_gen.specs.Pieces.{several_text, numbers_text, language_text, name_text, country_piece, url_piece, links_piece};
+ghost use Rattle.dr_meaning.specs.Lists.{comma_if};
 
 use itoa::Buffer;
 

@@ -2,9 +2,10 @@
 use Rattle.std.specs.Prelude.{◌≡◌, ℕ, ◌==◌, List, [], ◌∷◌, ◌++◌, Bool, true, false, not}
 use Rattle.std.proofs.Common.{refl, sym, ap, ◌∙◌, true≢false}
 use Rattle.std.proofs.lemmas.Bool.{and_parts}
-use Rattle.dr_meaning.specs.Lines.{lines_of, onto_line}
+use Rattle.dr_meaning.specs.Lines.{lines_of}
 use Rattle.dr_lines.specs.Cutting.{no_lf}
 use Rattle.dr_input.specs.Whole.{before_whole, whole_lines}
+use Rattle.dr_meaning.specs.Lists.{onto_first}
 
 -- ---- one byte more
 
@@ -96,7 +97,7 @@ none_whole (x ∷ a) h =
 
 -- ---- their lines
 
-some_line : (b : ℕ) (ls : List (List ℕ)) → (l : List ℕ) × (ms : List (List ℕ)) × (onto_line b ls ≡ l ∷ ms)
+some_line : (b : ℕ) (ls : List (List ℕ)) → (l : List ℕ) × (ms : List (List ℕ)) × (onto_first b ls ≡ l ∷ ms)
 some_line b [] = (b ∷ [], [], refl)
 some_line b (l ∷ ls) = (b ∷ l, ls, refl)
 
@@ -107,13 +108,13 @@ has_line c cs = by (c == 10) refl
     by true e = ([], lines_of cs, rw e refl)
     by false e = let s = some_line c (lines_of cs) in (s.0, s.1, rw e s.2)
 
-onto_first : (x : ℕ) (ls ms : List (List ℕ)) (l : List ℕ) (others : List (List ℕ)) → ls ≡ l ∷ others → onto_line x (ls ++ ms) ≡ onto_line x ls ++ ms
-onto_first x [] ms l others e = cc
-onto_first x (k ∷ ks) ms l others e = refl
+onto_lists : (x : ℕ) (ls ms : List (List ℕ)) (l : List ℕ) (others : List (List ℕ)) → ls ≡ l ∷ others → onto_first x (ls ++ ms) ≡ onto_first x ls ++ ms
+onto_lists x [] ms l others e = cc
+onto_lists x (k ∷ ks) ms l others e = refl
 
-onto_lines : (x : ℕ) (a : List ℕ) (ms : List (List ℕ)) → before_whole x a ≡ x ∷ a → onto_line x (lines_of a ++ ms) ≡ onto_line x (lines_of a) ++ ms
+onto_lines : (x : ℕ) (a : List ℕ) (ms : List (List ℕ)) → before_whole x a ≡ x ∷ a → onto_first x (lines_of a ++ ms) ≡ onto_first x (lines_of a) ++ ms
 onto_lines x [] ms e = cc
-onto_lines x (c ∷ cs) ms e = let s = has_line c cs in onto_first x (lines_of (c ∷ cs)) ms s.0 s.1 s.2
+onto_lines x (c ∷ cs) ms e = let s = has_line c cs in onto_lists x (lines_of (c ∷ cs)) ms s.0 s.1 s.2
 
 -- of whole lines with bytes behind them
 pub lines_behind : (a b : List ℕ) → whole_lines a ≡ a → lines_of (a ++ b) ≡ lines_of a ++ lines_of b
@@ -125,4 +126,4 @@ lines_behind (x ∷ a) b h = by (x == 10) refl (λ k. lines_behind a b k)
     by false e ih =
         let g : before_whole x (whole_lines a) ≡ x ∷ a = sym (at_other x a e) ∙ h in
         let s : whole_lines a ≡ a = same_behind x (whole_lines a) a g in
-        rw e (ap (onto_line x) (ih s) ∙ onto_lines x a (lines_of b) (ap (before_whole x) (sym s) ∙ g))
+        rw e (ap (onto_first x) (ih s) ∙ onto_lines x a (lines_of b) (ap (before_whole x) (sym s) ∙ g))

@@ -5,7 +5,7 @@ use Rattle.std.proofs.lemmas.List.{map-append}
 use Rattle.std.proofs.lemmas.Simd.{map-map}
 use Rattle.std.proofs.lemmas.Bool.{eqb-true}
 use Rattle.dr_meaning.specs.Schema.{Fields, is_repeated}
-use Rattle.dr_meaning.specs.Path.{Step, level, begins_with}
+use Rattle.dr_meaning.specs.Path.{Step, chain_end, begins_with}
 use Rattle.dr_meaning.specs.Record.{Node, Instances, no_instances, instance, Instance, atom, inner, single, count_instances, is_record, instances_at, put_at}
 use Rattle.dr_meaning.specs.Rows.{instance_rows, each_instance_rows, field_rows, rows, first_value, value_in, value_at}
 use Rattle.dr_meaning.specs.Kept.{with_kept, keep_each, if_some_kept, keep_below, keep_instance, kept_along}
@@ -22,10 +22,10 @@ use Rattle.dr_firing.proofs.RowsRead.{map_same}
 -- ---- a value without repeated fields is the same in each row
 
 abbrev SameValue : Node → Node → Type 0
-SameValue n r = (q : List Step) → level q ≡ [] → FewOn q (inner n) → value_at q r ≡ value_at q n
+SameValue n r = (q : List Step) → chain_end q ≡ [] → FewOn q (inner n) → value_at q r ≡ value_at q n
 
 abbrev SameFirst : Instances → Instances → Type 0
-SameFirst xs zs = (u : Step) (q : List Step) → is_repeated u.repetition ≡ false → level q ≡ [] → FewIn u.repetition (FewOn q) xs → first_value (value_in q) zs ≡ first_value (value_in q) xs
+SameFirst xs zs = (u : Step) (q : List Step) → is_repeated u.repetition ≡ false → chain_end q ≡ [] → FewIn u.repetition (FewOn q) xs → first_value (value_in q) zs ≡ first_value (value_in q) xs
 
 alone_first : (p : List Step) → ((n : Node) → AllOf (SameValue n) (rows p n)) → (x : Instance) → AllOf (SameFirst (single x)) (instance_rows (rows p) x)
 alone_first p f (atom v) = ((λ u q r l w. refl), tt)
@@ -44,12 +44,12 @@ rows_same : (p : List Step) (n : Node) → AllOf (SameValue n) (rows p n)
 rows_same [] n = ((λ q l w. refl), tt)
 rows_same (s ∷ p) n = all_mapped (SameValue n) (SameFirst (instances_at s.place n)) (λ xs. put_at s.place xs n) in_row (field_rows (rows p) (instances_at s.place n)) (field_same p (rows_same p) (instances_at s.place n))
   where
-    by_place : (zs : Instances) → SameFirst (instances_at s.place n) zs → (u : Step) (q : List Step) → level (u ∷ q) ≡ [] → FewOn (u ∷ q) (inner n) → (b : Bool) → (u.place == s.place) ≡ b
+    by_place : (zs : Instances) → SameFirst (instances_at s.place n) zs → (u : Step) (q : List Step) → chain_end (u ∷ q) ≡ [] → FewOn (u ∷ q) (inner n) → (b : Bool) → (u.place == s.place) ≡ b
         → first_value (value_in q) (instances_at u.place (put_at s.place zs n)) ≡ first_value (value_in q) (instances_at u.place n)
     by_place zs h u q l w false e = ap (first_value (value_in q)) (put_apart u.place s.place zs n (not_same u.place s.place e))
     by_place zs h u q l w true e =
         let i : u.place ≡ s.place = eqb-true u.place s.place e in
-        let k : (is_repeated u.repetition ≡ false) × (level q ≡ []) = none_repeated u q l in
+        let k : (is_repeated u.repetition ≡ false) × (chain_end q ≡ []) = none_repeated u q l in
         ap (λ (j : ℕ). first_value (value_in q) (instances_at j (put_at s.place zs n))) i
         ∙ by_slot (put_either s.place zs n) (h u q k.0 k.1 (subst (λ (j : ℕ). FewIn u.repetition (FewOn q) (instances_at j n)) i w))
         ∙ ap (λ (j : ℕ). first_value (value_in q) (instances_at j n)) (sym i)
@@ -66,7 +66,7 @@ rows_same (s ∷ p) n = all_mapped (SameValue n) (SameFirst (instances_at s.plac
 -- ---- a test that depends on values alone whose repeated fields are on the chain
 
 abbrev pub IsLocal : List Step → (Node → Bool) → Node → Type 0
-IsLocal c test n = (a b : Node) → ((q : List Step) → begins_with (level q) c ≡ true → FewOn q (inner n) → value_at q a ≡ value_at q b) → test a ≡ test b
+IsLocal c test n = (a b : Node) → ((q : List Step) → begins_with (chain_end q) c ≡ true → FewOn q (inner n) → value_at q a ≡ value_at q b) → test a ≡ test b
 
 -- in an instance of the chain's field
 local_below : (t : Step) (c : List Step) (test : Node → Bool) (n : Node) (x : Instance) (xs : Instances) (m : Node) → instances_at t.place n ≡ instance x xs
@@ -74,7 +74,7 @@ local_below : (t : Step) (c : List Step) (test : Node → Bool) (n : Node) (x : 
     → IsLocal (t ∷ c) test n → IsLocal c (λ k. test (put_at t.place (single (inner k)) n)) m
 local_below t c test n x xs m e few h a b g = h (put_at t.place (single (inner a)) n) (put_at t.place (single (inner b)) n) same
   where
-    by_place : (u : Step) (q : List Step) → begins_with (level (u ∷ q)) (t ∷ c) ≡ true → FewOn (u ∷ q) (inner n) → (d : Bool) → (u.place == t.place) ≡ d
+    by_place : (u : Step) (q : List Step) → begins_with (chain_end (u ∷ q)) (t ∷ c) ≡ true → FewOn (u ∷ q) (inner n) → (d : Bool) → (u.place == t.place) ≡ d
         → value_at (u ∷ q) (put_at t.place (single (inner a)) n) ≡ value_at (u ∷ q) (put_at t.place (single (inner b)) n)
     by_place u q l w false d = ap (first_value (value_in q)) (put_apart u.place t.place (single (inner a)) n (not_same u.place t.place d)) ∙ sym (ap (first_value (value_in q)) (put_apart u.place t.place (single (inner b)) n (not_same u.place t.place d)))
     by_place u q l w true d =
@@ -86,7 +86,7 @@ local_below t c test n x xs m e few h a b g = h (put_at t.place (single (inner a
         ∙ sym (ap (first_value (value_in q)) (put_there t.place x xs (single (inner b)) n e))
         ∙ sym (ap (λ (j : ℕ). first_value (value_in q) (instances_at j (put_at t.place (single (inner b)) n))) i)
 
-    same : (q : List Step) → begins_with (level q) (t ∷ c) ≡ true → FewOn q (inner n) → value_at q (put_at t.place (single (inner a)) n) ≡ value_at q (put_at t.place (single (inner b)) n)
+    same : (q : List Step) → begins_with (chain_end q) (t ∷ c) ≡ true → FewOn q (inner n) → value_at q (put_at t.place (single (inner a)) n) ≡ value_at q (put_at t.place (single (inner b)) n)
     same [] l w = refl
     same (u ∷ q) l w = by_place u q l w (u.place == t.place) refl
 
@@ -95,13 +95,13 @@ local_below t c test n x xs m e few h a b g = h (put_at t.place (single (inner a
 -- one of the rows of a field beside the chain is put
 module _ (s t : Step) (c : List Step) (test : Node → Bool) (n : Node) (d : (s.place == t.place) ≡ false) (h : IsLocal (t ∷ c) test n) (zs : Instances) (z : SameFirst (instances_at s.place n) zs) where
   -- it changes nothing of which the test depends
-  beside_value : (ys : Instances) (u : Step) (q : List Step) → begins_with (level (u ∷ q)) (t ∷ c) ≡ true → FewOn (u ∷ q) (inner n) → (b : Bool) → (u.place == s.place) ≡ b
+  beside_value : (ys : Instances) (u : Step) (q : List Step) → begins_with (chain_end (u ∷ q)) (t ∷ c) ≡ true → FewOn (u ∷ q) (inner n) → (b : Bool) → (u.place == s.place) ≡ b
       → value_at (u ∷ q) (put_at s.place zs (put_at t.place ys n)) ≡ value_at (u ∷ q) (put_at t.place ys n)
   beside_value ys u q l w false e = ap (first_value (value_in q)) (put_apart u.place s.place zs (put_at t.place ys n) (not_same u.place s.place e))
   beside_value ys u q l w true e =
       let i : u.place ≡ s.place = eqb-true u.place s.place e in
       let a : (u.place == t.place) ≡ false = ap (λ (j : ℕ). j == t.place) i ∙ d in
-      let k : (is_repeated u.repetition ≡ false) × (level q ≡ []) = none_repeated u q (on_apart u t q c a l) in
+      let k : (is_repeated u.repetition ≡ false) × (chain_end q ≡ []) = none_repeated u q (on_apart u t q c a l) in
       let f : first_value (value_in q) zs ≡ first_value (value_in q) (instances_at s.place n) = z u q k.0 k.1 (subst (λ (j : ℕ). FewIn u.repetition (FewOn q) (instances_at j n)) i w) in
       let o : instances_at s.place (put_at t.place ys n) ≡ instances_at s.place n = put_apart s.place t.place ys n (not_same s.place t.place d) in
       ap (λ (j : ℕ). first_value (value_in q) (instances_at j (put_at s.place zs (put_at t.place ys n)))) i
@@ -117,7 +117,7 @@ module _ (s t : Step) (c : List Step) (test : Node → Bool) (n : Node) (d : (s.
   beside_test : (ys : Instances) → test (put_at s.place zs (put_at t.place ys n)) ≡ test (put_at t.place ys n)
   beside_test ys = h (put_at s.place zs (put_at t.place ys n)) (put_at t.place ys n) same
     where
-      same : (q : List Step) → begins_with (level q) (t ∷ c) ≡ true → FewOn q (inner n) → value_at q (put_at s.place zs (put_at t.place ys n)) ≡ value_at q (put_at t.place ys n)
+      same : (q : List Step) → begins_with (chain_end q) (t ∷ c) ≡ true → FewOn q (inner n) → value_at q (put_at s.place zs (put_at t.place ys n)) ≡ value_at q (put_at t.place ys n)
       same [] l w = refl
       same (u ∷ q) l w = beside_value ys u q l w (u.place == s.place) refl
 
@@ -249,7 +249,7 @@ ended_cut p c test n m e h = ap (map (kept_along c test)) (all_rows p c test n m
 whole_cut : (p : List Step) (test : Node → Bool) (n m : Node) → IsLocal [] test n → kept_along [] test n ≡ Some m → map (kept_along [] test) (rows p n) ≡ map (λ (r : Node). Some r) (rows p m)
 whole_cut p test n m h e =
     let k : (test n ≡ true) × (n ≡ m) = kept_same (test n) n m e in
-    map_where (SameValue n) (kept_along [] test) (λ (r : Node). Some r) (λ r s. ap (λ (b : Bool). if b then Some r else None) (h r n (λ q l w. s q (on_root (level q) l) w) ∙ k.0)) (rows p n) (rows_same p n)
+    map_where (SameValue n) (kept_along [] test) (λ (r : Node). Some r) (λ r s. ap (λ (b : Bool). if b then Some r else None) (h r n (λ q l w. s q (on_root (chain_end q) l) w) ∙ k.0)) (rows p n) (rows_same p n)
     ∙ ap (λ (m : Node). map (λ (r : Node). Some r) (rows p m)) k.1
 
 -- another field has what it had

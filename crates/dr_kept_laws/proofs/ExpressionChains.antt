@@ -4,7 +4,7 @@ use Rattle.std.specs.List.{list_all}
 use Rattle.std.proofs.Common.{refl, sym, ap, ap₂, ◌∙◌}
 use Rattle.std.proofs.lemmas.List.Folds.{list_all-append}
 use Rattle.std.proofs.lemmas.Bool.{and_parts}
-use Rattle.dr_meaning.specs.Path.{Step, is_leaf_path, level, begins_with}
+use Rattle.dr_meaning.specs.Path.{Step, is_leaf_path, chain_end, begins_with}
 use Rattle.dr_meaning.specs.Record.{Node}
 use Rattle.dr_meaning.specs.Rows.{value_at}
 use Rattle.dr_meaning.specs.Expression.{Expression, constant, path_value, negative, arithmetic, comparison, like, contains, is_null, negation, conjunction, disjunction, evaluate, paths_of, on_both, combine, compared, on_text, occurs_in, null_test, not_value, and_values, or_values}
@@ -29,4 +29,4 @@ module _ (test : List Step → Bool) (a b : Node) (same : (q : List Step) → te
 
 pub expressions_are_of_chains : ExpressionsAreOfChains
 expressions_are_of_chains fs c e h a b g =
-    same_evaluated (λ q. is_leaf_path fs q && begins_with (level q) c) a b (λ q t. let k = and_parts (is_leaf_path fs q) (begins_with (level q) c) t in g q k.0 k.1) e h
+    same_evaluated (λ q. is_leaf_path fs q && begins_with (chain_end q) c) a b (λ q t. let k = and_parts (is_leaf_path fs q) (begins_with (chain_end q) c) t in g q k.0 k.1) e h

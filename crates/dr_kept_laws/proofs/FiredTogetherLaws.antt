@@ -3,7 +3,7 @@ use Rattle.std.proofs.Common.{◌≡◌, ℕ, List, [], ◌∷◌, ◌++◌, Boo
 use Rattle.std.specs.Prelude.{map, not, ◌||◌, ◌==◌, if◌then◌else◌, is_some, IsPermutation}
 use Rattle.std.specs.List.{list_all, flat_map, filter_map}
 use Rattle.dr_meaning.specs.Schema.{Fields}
-use Rattle.dr_meaning.specs.Path.{Step, level, is_leaf_path}
+use Rattle.dr_meaning.specs.Path.{Step, chain_end, is_leaf_path}
 use Rattle.dr_meaning.specs.Record.{Node, is_record}
 use Rattle.dr_meaning.specs.Rows.{rows}
 use Rattle.dr_meaning.specs.Kept.{kept_along}
@@ -33,7 +33,7 @@ module _ (X : Type 0) where
   -- a reading without a leaf, in a record
   at_record : (fs : Fields) (F : List (List Step)) (w : Watch) (q : List Step) (K : List ℕ) (condition : Node → Bool) → StandsFor fs F w q K condition
       → (f : Context → X) (g : Node → X) → ((c : Context) (row : Node) → f c ≡ g row) → (n : Node) → is_record fs n ≡ true
-      → Firing X (λ k c. []) (left_with (λ c. f c ∷ [])) w (Some (0 ∷ w.chain)) (record_moves fs F n) (map g (rows_left [] (kept_along (level q) condition n)))
+      → Firing X (λ k c. []) (left_with (λ c. f c ∷ [])) w (Some (0 ∷ w.chain)) (record_moves fs F n) (map g (rows_left [] (kept_along (chain_end q) condition n)))
   at_record fs F w q K condition s f g e n z =
       let a = record_tour fs F n in
       record {
@@ -41,7 +41,7 @@ module _ (X : Type 0) where
         moves = a.moves;
         fires = λ c.
             ap (λ (made : List X). (if not (some_true w c a.within) then [] else made ++ f (after c a.within) ∷ []) ++ []) (nothing_seen X (λ c. f c ∷ []) w (Some w.chain) c a.within a.no_record)
-            ∙ by_kept (some_true w c a.within) (kept_along (level q) condition n) (after c a.within)
+            ∙ by_kept (some_true w c a.within) (kept_along (chain_end q) condition n) (after c a.within)
             (true_row_keeps fs F w q K n c condition (inside 0 a.within over) s.leaves s.last z s.together s.decides a.moves);
       }
     where
@@ -65,13 +65,13 @@ module _ (X : Type 0) where
 
   reading_firing : (fs : Fields) (F : List (List Step)) (w : Watch) (q : List Step) (K : List ℕ) (condition : Node → Bool) → StandsFor fs F w q K condition
       → (o : Option ℕ) (f : Context → X) (l : List Step) (g : Node → X) → MeansAt F o f l g → (n : Node) → is_record fs n ≡ true
-      → Firing X (fired_if o f) (left_with (left_if o f)) w (Some (0 ∷ w.chain)) (record_moves fs F n) (map g (rows_left l (kept_along (level q) condition n)))
+      → Firing X (fired_if o f) (left_with (left_if o f)) w (Some (0 ∷ w.chain)) (record_moves fs F n) (map g (rows_left l (kept_along (chain_end q) condition n)))
   reading_firing fs F w q K condition s None f l g t n z =
-      subst (λ (l : List Step). Firing X (λ k c. []) (left_with (λ c. f c ∷ [])) w (Some (0 ∷ w.chain)) (record_moves fs F n) (map g (rows_left l (kept_along (level q) condition n)))) (sym t.0)
+      subst (λ (l : List Step). Firing X (λ k c. []) (left_with (λ c. f c ∷ [])) w (Some (0 ∷ w.chain)) (record_moves fs F n) (map g (rows_left l (kept_along (chain_end q) condition n)))) (sym t.0)
       (at_record fs F w q K condition s f g t.1 n z)
   reading_firing fs F w q K condition s (Some i) f l g t n z =
-      subst (λ (left : ℕ → Context → List X → List X). Firing X (fired_if (Some i) f) left w (Some (0 ∷ w.chain)) (record_moves fs F n) (map g (rows_left l (kept_along (level q) condition n)))) nothing_more
-      (subst (λ (l : List Step). Firing X (fired_if (Some i) f) left_alone w (Some (0 ∷ w.chain)) (record_moves fs F n) (map g (rows_left l (kept_along (level q) condition n)))) t.1
+      subst (λ (left : ℕ → Context → List X → List X). Firing X (fired_if (Some i) f) left w (Some (0 ∷ w.chain)) (record_moves fs F n) (map g (rows_left l (kept_along (chain_end q) condition n)))) nothing_more
+      (subst (λ (l : List Step). Firing X (fired_if (Some i) f) left_alone w (Some (0 ∷ w.chain)) (record_moves fs F n) (map g (rows_left l (kept_along (chain_end q) condition n)))) t.1
       (record_firing X fs F w q K condition s i t.0 f g t.2 n z))
 
   whole_reading : (fs : Fields) (F : List (List Step)) (w : Watch) → list_all (is_leaf_path fs) F ≡ true → (o : Option ℕ) (f : Context → X) (l : List Step) (g : Node → X) → MeansAt F o f l g → (n : Node) → is_record fs n ≡ true
@@ -88,11 +88,11 @@ module _ (X : Type 0) where
   fired_together fs F w q K condition s xs t R T c v m =
       subst (IsPermutation (flow (all_fired xs) (left_with (all_left xs)) w (Some (0 ∷ w.chain)) c T)) (each xs t) (flows_of_each xs w (Some (0 ∷ w.chain)) c T)
     where
-      each : (xs : List (Reading X)) → AllMean F xs → flat_map (one_flow w (Some (0 ∷ w.chain)) c T) xs ≡ all_means xs (filter_map (kept_along (level q) condition) R)
+      each : (xs : List (Reading X)) → AllMean F xs → flat_map (one_flow w (Some (0 ∷ w.chain)) c T) xs ≡ all_means xs (filter_map (kept_along (chain_end q) condition) R)
       each [] t = refl
       each (x ∷ xs) t = ap₂ (λ (a b : List X). a ++ b)
-          (firing_of X (fired_if x.leaf x.fires) (left_with (left_if x.leaf x.fires)) w (Some (0 ∷ w.chain)) (walk fs F R) (map x.means (flat_map (rows x.level) (filter_map (kept_along (level q) condition) R)))
-          (walk_firing X (fired_if x.leaf x.fires) (left_with (left_if x.leaf x.fires)) w (Some (0 ∷ w.chain)) fs F x.level x.means (kept_along (level q) condition)
+          (firing_of X (fired_if x.leaf x.fires) (left_with (left_if x.leaf x.fires)) w (Some (0 ∷ w.chain)) (walk fs F R) (map x.means (flat_map (rows x.level) (filter_map (kept_along (chain_end q) condition) R)))
+          (walk_firing X (fired_if x.leaf x.fires) (left_with (left_if x.leaf x.fires)) w (Some (0 ∷ w.chain)) fs F x.level x.means (kept_along (chain_end q) condition)
           (λ n z. reading_firing fs F w q K condition s x.leaf x.fires x.level x.means t.0 n z) R v) T c m)
           (each xs t.1)
 

@@ -6,7 +6,7 @@ use Rattle.std.proofs.lemmas.List.{length-map, map-append}
 use Rattle.std.proofs.lemmas.Simd.{map-map}
 use Rattle.std.proofs.lemmas.Bool.{and_parts}
 use Rattle.dr_meaning.specs.Schema.{Repetition, Fields, no_fields, field, Shape, leaf, group}
-use Rattle.dr_meaning.specs.Path.{Step, level, up_to, begins_with, is_leaf_path, is_shape_path, same_repetition}
+use Rattle.dr_meaning.specs.Path.{Step, chain_end, up_to, begins_with, is_leaf_path, is_shape_path, same_repetition}
 use Rattle.dr_meaning.specs.Record.{Value, Node, Instances, inner, single, is_record}
 use Rattle.dr_meaning.specs.Rows.{rows, value_at}
 use Rattle.dr_meaning.specs.Kept.{kept_along}
@@ -51,14 +51,14 @@ same_field (field m r h fs) zero c e q p u v =
     record { same = same_repetition-true c r x.0 ∙ sym (same_repetition-true e r y.0); shape = h; first = x.1; second = y.1 }
 same_field (field m r h fs) (suc a) c e q p u v = same_field fs a c e q p u v
 
-together_level : (E B : Type 0) (h : Shape) (q p : List Step) → Together E B q p → is_shape_path h q ≡ true → is_shape_path h p ≡ true → begins_with (level q) (level p) ≡ true
+together_level : (E B : Type 0) (h : Shape) (q p : List Step) → Together E B q p → is_shape_path h q ≡ true → is_shape_path h p ≡ true → begins_with (chain_end q) (chain_end p) ≡ true
 together_level E B h _ _ (same_leaf x) u v = refl
 together_level E B (leaf k) _ _ (along a c e q p t) u v = absurd (true≢false (sym u))
 together_level E B (group fs) _ _ (along a c e q p t) u v =
     let x : SameField c e q p = same_field fs a c e q p u v in
-    ap (λ (r : Repetition). begins_with (up_to (step a c) (level q)) (up_to (step a r) (level p))) (sym x.same)
-    ∙ along_level a c (level q) (level p) (together_level E B x.shape q p t x.first x.second)
-together_level E B h _ _ (apart s t q p b x) u v = ap (λ (L : List Step). begins_with L (level (t ∷ p))) (no_level (s ∷ q) x.1)
+    ap (λ (r : Repetition). begins_with (up_to (step a c) (chain_end q)) (up_to (step a r) (chain_end p))) (sym x.same)
+    ∙ along_level a c (chain_end q) (chain_end p) (together_level E B x.shape q p t x.first x.second)
+together_level E B h _ _ (apart s t q p b x) u v = ap (λ (L : List Step). begins_with L (chain_end (t ∷ p))) (no_level (s ∷ q) x.1)
 
 -- ---- rows with the same values
 
@@ -95,20 +95,20 @@ add_pairs F K k q e _ _ h (one_pair c row cs rs x r) =
 
 module _ (fs : Fields) (F : List (List Step)) (i : ℕ) (p c : List Step) (test : Node → Bool) (n : Node) (h : list_all (is_leaf_path fs) F ≡ true) (z : is_record fs n ≡ true) (e : slice_get F i ≡ Some p) where
   abbrev kept_contexts : List Context
-  kept_contexts = map (row_context F) (kept_rows (level p) c test n)
+  kept_contexts = map (row_context F) (kept_rows (chain_end p) c test n)
 
   -- each leaf that is read together with leaf i has the same values in the rows of what is kept and in the kept rows
-  same_leaf_values : (k : ℕ) (q : List Step) → slice_get F k ≡ Some q → Together (k ≡ i) (Unit {0}) q p → map (value_at q) (rows_left (level p) (kept_along c test n)) ≡ map (value_at q) (kept_rows (level p) c test n)
+  same_leaf_values : (k : ℕ) (q : List Step) → slice_get F k ≡ Some q → Together (k ≡ i) (Unit {0}) q p → map (value_at q) (rows_left (chain_end p) (kept_along c test n)) ≡ map (value_at q) (kept_rows (chain_end p) c test n)
   same_leaf_values k q u t =
       let a : is_leaf_path fs q ≡ true = leaf_selected fs F k q h u in
-      rows_of_kept fs n (level p) c q test z a (together_level (k ≡ i) (Unit {0}) (group fs) q p t a (leaf_selected fs F i p h e))
+      rows_of_kept fs n (chain_end p) c q test z a (together_level (k ≡ i) (Unit {0}) (group fs) q p t a (leaf_selected fs F i p h e))
 
-  in_kept : (k : ℕ) (q : List Step) → slice_get F k ≡ Some q → map (λ (d : Context). d k) (map (row_context F) (kept_rows (level p) c test n)) ≡ map (value_at q) (kept_rows (level p) c test n)
-  in_kept k q u = map-map (λ (d : Context). d k) (row_context F) (kept_rows (level p) c test n) ∙ ap (λ (o : Option (List Step)). map (value_of_path o) (kept_rows (level p) c test n)) u
+  in_kept : (k : ℕ) (q : List Step) → slice_get F k ≡ Some q → map (λ (d : Context). d k) (map (row_context F) (kept_rows (chain_end p) c test n)) ≡ map (value_at q) (kept_rows (chain_end p) c test n)
+  in_kept k q u = map-map (λ (d : Context). d k) (row_context F) (kept_rows (chain_end p) c test n) ∙ ap (λ (o : Option (List Step)). map (value_of_path o) (kept_rows (chain_end p) c test n)) u
 
-  kept_paired : (K : List ℕ) → AllTogether F i p K → Paired F K (map (row_context F) (kept_rows (level p) c test n)) (kept_rows (level p) c test n)
-  kept_paired [] t = bare_pairs F (map (row_context F) (kept_rows (level p) c test n)) (kept_rows (level p) c test n) (length-map (kept_rows (level p) c test n) (row_context F))
-  kept_paired (k ∷ K) t = add_pairs F K k t.0.0 t.0.1 (map (row_context F) (kept_rows (level p) c test n)) (kept_rows (level p) c test n) (in_kept k t.0.0 t.0.1) (kept_paired K t.1)
+  kept_paired : (K : List ℕ) → AllTogether F i p K → Paired F K (map (row_context F) (kept_rows (chain_end p) c test n)) (kept_rows (chain_end p) c test n)
+  kept_paired [] t = bare_pairs F (map (row_context F) (kept_rows (chain_end p) c test n)) (kept_rows (chain_end p) c test n) (length-map (kept_rows (chain_end p) c test n) (row_context F))
+  kept_paired (k ∷ K) t = add_pairs F K k t.0.0 t.0.1 (map (row_context F) (kept_rows (chain_end p) c test n)) (kept_rows (chain_end p) c test n) (in_kept k t.0.0 t.0.1) (kept_paired K t.1)
 
   own : Together (i ≡ i) (Unit {0}) p p
   own = itself p
@@ -117,17 +117,17 @@ module _ (fs : Fields) (F : List (List Step)) (i : ℕ) (p c : List Step) (test 
       itself [] = same_leaf refl
       itself (s ∷ p) = along s.place s.repetition s.repetition p p (itself p)
 
-  left_paired : (K : List ℕ) → AllTogether F i p K → Paired F K (map (row_context F) (kept_rows (level p) c test n)) (rows_left (level p) (kept_along c test n))
-  left_paired [] t = bare_pairs F (map (row_context F) (kept_rows (level p) c test n)) (rows_left (level p) (kept_along c test n))
-      (length-map (kept_rows (level p) c test n) (row_context F) ∙ sym (length-map (kept_rows (level p) c test n) (value_at p)) ∙ ap length (sym (same_leaf_values i p e own)) ∙ length-map (rows_left (level p) (kept_along c test n)) (value_at p))
-  left_paired (k ∷ K) t = add_pairs F K k t.0.0 t.0.1 (map (row_context F) (kept_rows (level p) c test n)) (rows_left (level p) (kept_along c test n))
+  left_paired : (K : List ℕ) → AllTogether F i p K → Paired F K (map (row_context F) (kept_rows (chain_end p) c test n)) (rows_left (chain_end p) (kept_along c test n))
+  left_paired [] t = bare_pairs F (map (row_context F) (kept_rows (chain_end p) c test n)) (rows_left (chain_end p) (kept_along c test n))
+      (length-map (kept_rows (chain_end p) c test n) (row_context F) ∙ sym (length-map (kept_rows (chain_end p) c test n) (value_at p)) ∙ ap length (sym (same_leaf_values i p e own)) ∙ length-map (rows_left (chain_end p) (kept_along c test n)) (value_at p))
+  left_paired (k ∷ K) t = add_pairs F K k t.0.0 t.0.1 (map (row_context F) (kept_rows (chain_end p) c test n)) (rows_left (chain_end p) (kept_along c test n))
       (in_kept k t.0.0 t.0.1 ∙ sym (same_leaf_values k t.0.0 t.0.1 t.0.2)) (left_paired K t.1)
 
   -- what is told of the kept rows is told of the rows of what is kept
-  told_of_left : (X : Type 0) (f : Context → X) (g : Node → X) → IsTold X F i p f g → map g (kept_rows (level p) c test n) ≡ map g (rows_left (level p) (kept_along c test n))
+  told_of_left : (X : Type 0) (f : Context → X) (g : Node → X) → IsTold X F i p f g → map g (kept_rows (chain_end p) c test n) ≡ map g (rows_left (chain_end p) (kept_along c test n))
   told_of_left X f g t =
-      sym (paired_map F t.leaves f g t.same (map (row_context F) (kept_rows (level p) c test n)) (kept_rows (level p) c test n) (kept_paired t.leaves t.together))
-      ∙ paired_map F t.leaves f g t.same (map (row_context F) (kept_rows (level p) c test n)) (rows_left (level p) (kept_along c test n)) (left_paired t.leaves t.together)
+      sym (paired_map F t.leaves f g t.same (map (row_context F) (kept_rows (chain_end p) c test n)) (kept_rows (chain_end p) c test n) (kept_paired t.leaves t.together))
+      ∙ paired_map F t.leaves f g t.same (map (row_context F) (kept_rows (chain_end p) c test n)) (rows_left (chain_end p) (kept_along c test n)) (left_paired t.leaves t.together)
 
 -- ---- over a record's moves
 
@@ -138,12 +138,12 @@ record_row xs = node_of (first_of xs)
 -- the record's branch, on the chain
 record_always : (X : Type 0) (fs : Fields) (F : List (List Step)) (i : ℕ) (p q : List Step) (n : Node) (w : Watch) (test : Node → Bool) (f : Context → X) (g : Node → X)
     → list_all (is_leaf_path fs) F ≡ true → is_record fs n ≡ true → slice_get F i ≡ Some p → slice_get F w.last ≡ Some q
-    → Always X i f w (Some (0 ∷ shape_numbers (group fs) 1 q)) (record_moves fs F n) (instance_values (level p) record_row g (inner n)) (instance_values (level q) record_row test (inner n))
-    (map (λ ys. g (record_row ys)) (kept_instance_rows (kept_rows (level p) (level q)) (λ y. record_row (single y)) test (inner n)))
+    → Always X i f w (Some (0 ∷ shape_numbers (group fs) 1 q)) (record_moves fs F n) (instance_values (chain_end p) record_row g (inner n)) (instance_values (chain_end q) record_row test (inner n))
+    (map (λ ys. g (record_row ys)) (kept_instance_rows (kept_rows (chain_end p) (chain_end q)) (λ y. record_row (single y)) test (inner n)))
 record_always X fs F i p q n w test f g h z t s =
-    enclosed_always X i f w 0 (shape_numbers (group fs) 1 q) (near_moves fs (picks F) top n ++ far_moves fs (picks F) 1 top n) (instance_values (level p) record_row g (inner n)) (instance_values (level q) record_row test (inner n))
-    (map (λ ys. g (record_row ys)) (kept_instance_rows (kept_rows (level p) (level q)) (λ y. record_row (single y)) test (inner n)))
-    (λ y. ap (map (λ ys. g (record_row ys))) (none_true (level p) (level q) record_row test (inner n) y))
+    enclosed_always X i f w 0 (shape_numbers (group fs) 1 q) (near_moves fs (picks F) top n ++ far_moves fs (picks F) 1 top n) (instance_values (chain_end p) record_row g (inner n)) (instance_values (chain_end q) record_row test (inner n))
+    (map (λ ys. g (record_row ys)) (kept_instance_rows (kept_rows (chain_end p) (chain_end q)) (λ y. record_row (single y)) test (inner n)))
+    (λ y. ap (map (λ ys. g (record_row ys))) (none_true (chain_end p) (chain_end q) record_row test (inner n) y))
     (fires_in X i f w g test (group fs) p q (picks F) 1 top (inner n) record_row
     (selected_only F i p t) (selected_only F w.last q s)
     (leaf_selected fs F i p h t) (leaf_selected fs F w.last q h s) z)
@@ -157,22 +157,22 @@ pub record Firing (X : Type 0) (seen : ℕ → Context → List X) (left : ℕ �
 -- what fires over a record is what is told of the rows of what is kept
 pub record_firing : (X : Type 0) (fs : Fields) (F : List (List Step)) (w : Watch) (q : List Step) (K : List ℕ) (condition : Node → Bool) → StandsFor fs F w q K condition
     → (i : ℕ) (p : List Step) (f : Context → X) (g : Node → X) → IsTold X F i p f g → (n : Node) → is_record fs n ≡ true
-    → Firing X (fired_at i f) left_alone w (Some (0 ∷ w.chain)) (record_moves fs F n) (map g (rows_left (level p) (kept_along (level q) condition n)))
+    → Firing X (fired_at i f) left_alone w (Some (0 ∷ w.chain)) (record_moves fs F n) (map g (rows_left (chain_end p) (kept_along (chain_end q) condition n)))
 record_firing X fs F w q K condition s i p f g t n z =
     let a = record_always X fs F i p q n w condition f g s.leaves z t.path s.last in
     record {
       tour = a.tour;
       moves = a.moves;
       fires = λ c. ap (λ (N : List ℕ). flow (fired_at i f) left_alone w (Some (0 ∷ N)) c a.tour) s.chain
-          ∙ a.fires c (rows_fire X fs F i p t.leaves n c f g s.leaves t.path z t.together t.same ∙ sym (inner_values X g (level p) record_row n))
-          (rows_fire Bool fs F w.last q K n c w.test condition s.leaves s.last z s.together s.decides ∙ sym (inner_values Bool condition (level q) record_row n))
-          ∙ map-map (λ (ys : Instances). g (record_row ys)) (λ (r : Node). single (inner r)) (kept_rows (level p) (level q) condition n)
-          ∙ told_of_left fs F i p (level q) condition n s.leaves z t.path X f g t;
+          ∙ a.fires c (rows_fire X fs F i p t.leaves n c f g s.leaves t.path z t.together t.same ∙ sym (inner_values X g (chain_end p) record_row n))
+          (rows_fire Bool fs F w.last q K n c w.test condition s.leaves s.last z s.together s.decides ∙ sym (inner_values Bool condition (chain_end q) record_row n))
+          ∙ map-map (λ (ys : Instances). g (record_row ys)) (λ (r : Node). single (inner r)) (kept_rows (chain_end p) (chain_end q) condition n)
+          ∙ told_of_left fs F i p (chain_end q) condition n s.leaves z t.path X f g t;
     }
 
 -- without a condition it is what is told of all its rows
 pub whole_firing : (X : Type 0) (fs : Fields) (F : List (List Step)) (w : Watch) → list_all (is_leaf_path fs) F ≡ true → (i : ℕ) (p : List Step) (f : Context → X) (g : Node → X) → IsTold X F i p f g → (n : Node) → is_record fs n ≡ true
-    → Firing X (fired_at i f) left_alone w None (record_moves fs F n) (map g (rows (level p) n))
+    → Firing X (fired_at i f) left_alone w None (record_moves fs F n) (map g (rows (chain_end p) n))
 whole_firing X fs F w h i p f g t n z =
     let a = record_tour fs F n in
     record {
@@ -217,11 +217,11 @@ firing_of X seen left w r ms out a T c m = ap (flow seen left w r c) (one_tour T
 
 pub fired_of_kept : (X : Type 0) → FiredOfKept X
 fired_of_kept X fs F w q K condition s i p f g t R T c v m =
-    firing_of X (fired_at i f) left_alone w (Some (0 ∷ w.chain)) (walk fs F R) (map g (flat_map (rows (level p)) (filter_map (kept_along (level q) condition) R)))
-    (walk_firing X (fired_at i f) left_alone w (Some (0 ∷ w.chain)) fs F (level p) g (kept_along (level q) condition) (λ n z. record_firing X fs F w q K condition s i p f g t n z) R v) T c m
+    firing_of X (fired_at i f) left_alone w (Some (0 ∷ w.chain)) (walk fs F R) (map g (flat_map (rows (chain_end p)) (filter_map (kept_along (chain_end q) condition) R)))
+    (walk_firing X (fired_at i f) left_alone w (Some (0 ∷ w.chain)) fs F (chain_end p) g (kept_along (chain_end q) condition) (λ n z. record_firing X fs F w q K condition s i p f g t n z) R v) T c m
 
 pub fired_of_all : (X : Type 0) → FiredOfAll X
 fired_of_all X fs F i p f g h t R T c w v m =
-    firing_of X (fired_at i f) left_alone w None (walk fs F R) (map g (flat_map (rows (level p)) (filter_map (λ (n : Node). Some n) R)))
-    (walk_firing X (fired_at i f) left_alone w None fs F (level p) g (λ (n : Node). Some n) (λ n z. whole_firing X fs F w h i p f g t n z) R v) T c m
-    ∙ ap (λ (ns : List Node). map g (flat_map (rows (level p)) ns)) (all_some R)
+    firing_of X (fired_at i f) left_alone w None (walk fs F R) (map g (flat_map (rows (chain_end p)) (filter_map (λ (n : Node). Some n) R)))
+    (walk_firing X (fired_at i f) left_alone w None fs F (chain_end p) g (λ (n : Node). Some n) (λ n z. whole_firing X fs F w h i p f g t n z) R v) T c m
+    ∙ ap (λ (ns : List Node). map g (flat_map (rows (chain_end p)) ns)) (all_some R)

@@ -6,10 +6,10 @@ use Rattle.std.proofs.lemmas.List.{map-append}
 use Rattle.std.proofs.lemmas.Simd.{map-map}
 use Rattle.std.proofs.lemmas.Bool.{and_parts, eqb-true}
 use Rattle.dr_meaning.specs.Schema.{Repetition, required, optional, repeated, Fields, no_fields, field, Shape, leaf, group, repetition_count, repeated_fields, shape_repeated_fields}
-use Rattle.dr_meaning.specs.Path.{Step, level, is_leaf_path, is_shape_path, same_repetition, max_repetition}
+use Rattle.dr_meaning.specs.Path.{Step, chain_end, is_leaf_path, is_shape_path, same_repetition, max_repetition}
 use Rattle.dr_meaning.specs.Record.{Node, Instances, no_instances, instance, Instance, atom, inner, single, count_instances, fits_repetition, all_instances, is_instance, instances_at, put_at}
 use Rattle.dr_meaning.specs.Rows.{rows}
-use Rattle.dr_meaning.specs.Automaton.{Pick, behind, beside}
+use Rattle.dr_meaning.specs.Automaton.{Pick, first_picks, later_picks}
 use Rattle.dr_meaning.specs.Walk.{Move, Depth, inside, begun_later, first_slot, other_slots, enclosed, later_moves, repeated_moves, by_repetition, moves_in, far_moves, shape_near_moves, shape_far_moves}
 use Rattle.dr_meaning.specs.WalkLaws.{triplets_of}
 use Rattle.dr_meaning.proofs.ProjectionLemmas.{step}
@@ -85,18 +85,18 @@ module _ (X : Type 0) (i : ℕ) (f : Context → X) (w : Watch) (g : Node → X)
   -- of an instance, with its own leaves; of its repeated fields alone, where both leaves are below some
   abbrev InstanceFires : Shape → List Step → List Step → Type 0
   InstanceFires h p q = (G : List Pick) (k : ℕ) (at : Depth) (x : Instance) (row : Instances → Node) → Only i p G → Only w.last q G → is_shape_path h p ≡ true → is_shape_path h q ≡ true → is_instance h x ≡ true
-      → Fires X i f w (Some (shape_numbers h k q)) (moves_in (shape_near_moves h G) (shape_far_moves h G k) at (Some x)) (instance_values (level p) row g x) (instance_values (level q) row test x) (instance_out (level p) (level q) row x)
+      → Fires X i f w (Some (shape_numbers h k q)) (moves_in (shape_near_moves h G) (shape_far_moves h G k) at (Some x)) (instance_values (chain_end p) row g x) (instance_values (chain_end q) row test x) (instance_out (chain_end p) (chain_end q) row x)
 
   abbrev FarFires : Shape → List Step → List Step → Type 0
   FarFires h p q = (G : List Pick) (k : ℕ) (at : Depth) (x : Instance) (row : Instances → Node) (a b : ℕ) → Only i p G → Only w.last q G → is_shape_path h p ≡ true → is_shape_path h q ≡ true → is_instance h x ≡ true
       → max_repetition p ≡ suc a → max_repetition q ≡ suc b
-      → Fires X i f w (Some (shape_numbers h k q)) (shape_far_moves h G k at (Some x)) (instance_values (level p) row g x) (instance_values (level q) row test x) (instance_out (level p) (level q) row x)
+      → Fires X i f w (Some (shape_numbers h k q)) (shape_far_moves h G k at (Some x)) (instance_values (chain_end p) row g x) (instance_values (chain_end q) row test x) (instance_out (chain_end p) (chain_end q) row x)
 
   -- of the field through which both go
   abbrev FieldFires : Fields → Repetition → Repetition → List Step → List Step → Type 0
   FieldFires fs c e p q = (j : ℕ) (G : List Pick) (k : ℕ) (at : Depth) (n : Node) (row : Instances → Node) (a b : ℕ) → Only i (step j c ∷ p) G → Only w.last (step j e ∷ q) G
       → is_leaf_path fs (step j c ∷ p) ≡ true → is_leaf_path fs (step j e ∷ q) ≡ true → max_repetition (step j c ∷ p) ≡ suc a → max_repetition (step j e ∷ q) ≡ suc b → IsNode fs n
-      → Fires X i f w (Some (numbers_in fs k (step j e ∷ q))) (far_moves fs G k at n) (field_values (level p) row g (instances_at j n)) (field_values (level q) row test (instances_at j n)) (field_out (level p) (level q) row (instances_at j n))
+      → Fires X i f w (Some (numbers_in fs k (step j e ∷ q))) (far_moves fs G k at n) (field_values (chain_end p) row g (instances_at j n)) (field_values (chain_end q) row test (instances_at j n)) (field_out (chain_end p) (chain_end q) row (instances_at j n))
 
   -- ---- an instance from its repeated fields
 
@@ -107,20 +107,20 @@ module _ (X : Type 0) (i : ℕ) (f : Context → X) (w : Watch) (g : Node → X)
       N = shape_numbers h k q
 
       by_count : (a : ℕ) → max_repetition p ≡ a → (b : ℕ) → max_repetition q ≡ b
-          → Fires X i f w (Some (shape_numbers h k q)) (moves_in (shape_near_moves h G) (shape_far_moves h G k) at (Some x)) (instance_values (level p) row g x) (instance_values (level q) row test x) (instance_out (level p) (level q) row x)
+          → Fires X i f w (Some (shape_numbers h k q)) (moves_in (shape_near_moves h G) (shape_far_moves h G k) at (Some x)) (instance_values (chain_end p) row g x) (instance_values (chain_end q) row test x) (instance_out (chain_end p) (chain_end q) row x)
       by_count zero e b d =
-          whole_fires X i f w (Some (shape_numbers h k q)) (moves_in (shape_near_moves h G) (shape_far_moves h G k) at (Some x)) (instance_values (level p) row g x) (instance_values (level q) row test x) (instance_out (level p) (level q) row x)
-          (all_kept (level p) (level q) row x (λ t n y. ap (λ (L : List Step). kept_rows L (level q) t n) (no_level p e) ∙ some_rows [] (level q) t n y ∙ ap (λ (L : List Step). rows L n) (sym (no_level p e))))
+          whole_fires X i f w (Some (shape_numbers h k q)) (moves_in (shape_near_moves h G) (shape_far_moves h G k) at (Some x)) (instance_values (chain_end p) row g x) (instance_values (chain_end q) row test x) (instance_out (chain_end p) (chain_end q) row x)
+          (all_kept (chain_end p) (chain_end q) row x (λ t n y. ap (λ (L : List Step). kept_rows L (chain_end q) t n) (no_level p e) ∙ some_rows [] (chain_end q) t n y ∙ ap (λ (L : List Step). rows L n) (sym (no_level p e))))
           (both_whole X i f w (Some (shape_numbers h k q)) (shape_near_moves h G at (Some x)) (shape_far_moves h G k at (Some x))
           (bare_whole X i f w k k (Some (shape_numbers h k q)) (shape_near_moves h G at (Some x)) (shape_near_off k k h G at (Some x)))
           (silent_whole X i f w k (k + shape_repeated_fields h) (Some (shape_numbers h k q)) (shape_far_moves h G k at (Some x)) (instance_leavings h G k off (Some x)) (shape_far_silent i h p e G o u k at (Some x)) (far_part_off h G k at (Some x))))
       by_count (suc a) e zero d =
-          whole_fires X i f w (Some (shape_numbers h k q)) (moves_in (shape_near_moves h G) (shape_far_moves h G k) at (Some x)) (instance_values (level p) row g x) (instance_values (level q) row test x) (instance_out (level p) (level q) row x)
-          (all_kept (level p) (level q) row x (λ t n y. ap (λ (L : List Step). kept_rows (level p) L t n) (no_level q d) ∙ ended_kept (level p) t n ∙ some_rows (level p) [] t n (ap (λ (L : List Step). list_any t (rows L n)) (sym (no_level q d)) ∙ y)))
+          whole_fires X i f w (Some (shape_numbers h k q)) (moves_in (shape_near_moves h G) (shape_far_moves h G k) at (Some x)) (instance_values (chain_end p) row g x) (instance_values (chain_end q) row test x) (instance_out (chain_end p) (chain_end q) row x)
+          (all_kept (chain_end p) (chain_end q) row x (λ t n y. ap (λ (L : List Step). kept_rows (chain_end p) L t n) (no_level q d) ∙ ended_kept (chain_end p) t n ∙ some_rows (chain_end p) [] t n (ap (λ (L : List Step). list_any t (rows L n)) (sym (no_level q d)) ∙ y)))
           (subst (λ (M : List ℕ). Whole X i f w (Some M) (moves_in (shape_near_moves h G) (shape_far_moves h G k) at (Some x))) (sym (near_numbers h q k v d))
           (apart_whole X i f w k (k + shape_repeated_fields h) [] (moves_in (shape_near_moves h G) (shape_far_moves h G k) at (Some x)) (instance_leavings h G k off (Some x)) tt (instance_part_off h G k at (Some x))))
       by_count (suc a) e (suc b) d =
-          fires_behind X i f w (Some (shape_numbers h k q)) (shape_near_moves h G at (Some x)) (shape_far_moves h G k at (Some x)) (instance_values (level p) row g x) (instance_values (level q) row test x) (instance_out (level p) (level q) row x)
+          fires_behind X i f w (Some (shape_numbers h k q)) (shape_near_moves h G at (Some x)) (shape_far_moves h G k at (Some x)) (instance_values (chain_end p) row g x) (instance_values (chain_end q) row test x) (instance_out (chain_end p) (chain_end q) row x)
           (shape_near_silent i h p (omega (arith, e)) G o u at (Some x)) (shape_near_silent w.last h q (omega (arith, d)) G l v at (Some x))
           (bare_whole X i f w k k (Some (shape_numbers h k q)) (shape_near_moves h G at (Some x)) (shape_near_off k k h G at (Some x)))
           (far G k at x row a b o l u v z e d)
@@ -132,28 +132,28 @@ module _ (X : Type 0) (i : ℕ) (f : Context → X) (w : Watch) (g : Node → X)
   apart_fields (field m r h fs) zero zero c e p q G o d k at n = absurd (d refl)
   apart_fields (field m r h fs) zero (suc b) c e p q G o d k at n =
       let j = k + (repetition_count r + shape_repeated_fields h) in
-      let x : (ls : List Leaving) × Off k (k + (repetition_count r + shape_repeated_fields h)) (far_in r h (behind G) k at n) ls = field_part_off r h (behind G) k at n in
-      both_whole X i f w (Some (numbers_in fs j (step b e ∷ q))) (far_in r h (behind G) k at n) (far_moves fs (beside G) j at (other_slots n))
-      (apart_whole X i f w k j (numbers_in fs j (step b e ∷ q)) (far_in r h (behind G) k at n) x.0 (head_behind j (j + repeated_fields fs) k j (omega arith) (numbers_in fs j (step b e ∷ q)) (numbers_within fs j (step b e ∷ q))) x.1)
-      (silent_whole X i f w j (j + repeated_fields fs) (Some (numbers_in fs j (step b e ∷ q))) (far_moves fs (beside G) j at (other_slots n)) _
-      (far_nothing i fs (beside G) j at (other_slots n) (beside_first i c p G o)) (far_off fs (beside G) j at (other_slots n)))
+      let x : (ls : List Leaving) × Off k (k + (repetition_count r + shape_repeated_fields h)) (far_in r h (first_picks G) k at n) ls = field_part_off r h (first_picks G) k at n in
+      both_whole X i f w (Some (numbers_in fs j (step b e ∷ q))) (far_in r h (first_picks G) k at n) (far_moves fs (later_picks G) j at (other_slots n))
+      (apart_whole X i f w k j (numbers_in fs j (step b e ∷ q)) (far_in r h (first_picks G) k at n) x.0 (head_behind j (j + repeated_fields fs) k j (omega arith) (numbers_in fs j (step b e ∷ q)) (numbers_within fs j (step b e ∷ q))) x.1)
+      (silent_whole X i f w j (j + repeated_fields fs) (Some (numbers_in fs j (step b e ∷ q))) (far_moves fs (later_picks G) j at (other_slots n)) _
+      (far_nothing i fs (later_picks G) j at (other_slots n) (beside_first i c p G o)) (far_off fs (later_picks G) j at (other_slots n)))
   apart_fields (field m r h fs) (suc a) zero c e p q G o d k at n =
       let j = k + (repetition_count r + shape_repeated_fields h) in
-      let v : Without i (behind G) = behind_later i a c p G o in
-      let x : (ls : List Leaving) × Off k (k + (repetition_count r + shape_repeated_fields h)) (far_in r h (behind G) k at n) ls = field_part_off r h (behind G) k at n in
-      both_whole X i f w (Some (own_number r k (λ j. shape_numbers h j q))) (far_in r h (behind G) k at n) (far_moves fs (beside G) j at (other_slots n))
-      (silent_whole X i f w k j (Some (own_number r k (λ j. shape_numbers h j q))) (far_in r h (behind G) k at n) x.0
-      (far_in_nothing i r h (behind G) k at n (λ d y. shape_near_nothing i h (behind G) d y v) (λ l d y. shape_far_nothing i h (behind G) l d y v)) x.1)
-      (apart_whole X i f w j (j + repeated_fields fs) (own_number r k (λ j. shape_numbers h j q)) (far_moves fs (beside G) j at (other_slots n)) _
-      (head_before k j j (j + repeated_fields fs) (omega arith) (own_number r k (λ j. shape_numbers h j q)) (own_within r h k q (λ j. shape_numbers_within h j q))) (far_off fs (beside G) j at (other_slots n)))
+      let v : Without i (first_picks G) = behind_later i a c p G o in
+      let x : (ls : List Leaving) × Off k (k + (repetition_count r + shape_repeated_fields h)) (far_in r h (first_picks G) k at n) ls = field_part_off r h (first_picks G) k at n in
+      both_whole X i f w (Some (own_number r k (λ j. shape_numbers h j q))) (far_in r h (first_picks G) k at n) (far_moves fs (later_picks G) j at (other_slots n))
+      (silent_whole X i f w k j (Some (own_number r k (λ j. shape_numbers h j q))) (far_in r h (first_picks G) k at n) x.0
+      (far_in_nothing i r h (first_picks G) k at n (λ d y. shape_near_nothing i h (first_picks G) d y v) (λ l d y. shape_far_nothing i h (first_picks G) l d y v)) x.1)
+      (apart_whole X i f w j (j + repeated_fields fs) (own_number r k (λ j. shape_numbers h j q)) (far_moves fs (later_picks G) j at (other_slots n)) _
+      (head_before k j j (j + repeated_fields fs) (omega arith) (own_number r k (λ j. shape_numbers h j q)) (own_within r h k q (λ j. shape_numbers_within h j q))) (far_off fs (later_picks G) j at (other_slots n)))
   apart_fields (field m r h fs) (suc a) (suc b) c e p q G o d k at n =
       let j = k + (repetition_count r + shape_repeated_fields h) in
-      let v : Without i (behind G) = behind_later i a c p G o in
-      let x : (ls : List Leaving) × Off k (k + (repetition_count r + shape_repeated_fields h)) (far_in r h (behind G) k at n) ls = field_part_off r h (behind G) k at n in
-      both_whole X i f w (Some (numbers_in fs j (step b e ∷ q))) (far_in r h (behind G) k at n) (far_moves fs (beside G) j at (other_slots n))
-      (silent_whole X i f w k j (Some (numbers_in fs j (step b e ∷ q))) (far_in r h (behind G) k at n) x.0
-      (far_in_nothing i r h (behind G) k at n (λ d y. shape_near_nothing i h (behind G) d y v) (λ l d y. shape_far_nothing i h (behind G) l d y v)) x.1)
-      (apart_fields fs a b c e p q (beside G) (only_beside i a c p G o) (λ y. d (ap (λ (l : ℕ). suc l) y)) j at (other_slots n))
+      let v : Without i (first_picks G) = behind_later i a c p G o in
+      let x : (ls : List Leaving) × Off k (k + (repetition_count r + shape_repeated_fields h)) (far_in r h (first_picks G) k at n) ls = field_part_off r h (first_picks G) k at n in
+      both_whole X i f w (Some (numbers_in fs j (step b e ∷ q))) (far_in r h (first_picks G) k at n) (far_moves fs (later_picks G) j at (other_slots n))
+      (silent_whole X i f w k j (Some (numbers_in fs j (step b e ∷ q))) (far_in r h (first_picks G) k at n) x.0
+      (far_in_nothing i r h (first_picks G) k at n (λ d y. shape_near_nothing i h (first_picks G) d y v) (λ l d y. shape_far_nothing i h (first_picks G) l d y v)) x.1)
+      (apart_fields fs a b c e p q (later_picks G) (only_beside i a c p G o) (λ y. d (ap (λ (l : ℕ). suc l) y)) j at (other_slots n))
 
   -- ---- one field through which both go
 
@@ -176,30 +176,30 @@ module _ (X : Type 0) (i : ℕ) (f : Context → X) (w : Watch) (g : Node → X)
 
   -- one of the instances of a repeated field
   one_always : (h : Shape) (p q : List Step) → InstanceFires h p q → (G : List Pick) (k : ℕ) (at : Depth) (x : Instance) (row : Instances → Node) → Only i p G → Only w.last q G → is_shape_path h p ≡ true → is_shape_path h q ≡ true → is_instance h x ≡ true
-      → Always X i f w (Some (k ∷ shape_numbers h (suc k) q)) (enclosed k (moves_in (shape_near_moves h G) (shape_far_moves h G (suc k)) at (Some x))) (instance_values (level p) row g x) (instance_values (level q) row test x) (instance_out (level p) (level q) row x)
+      → Always X i f w (Some (k ∷ shape_numbers h (suc k) q)) (enclosed k (moves_in (shape_near_moves h G) (shape_far_moves h G (suc k)) at (Some x))) (instance_values (chain_end p) row g x) (instance_values (chain_end q) row test x) (instance_out (chain_end p) (chain_end q) row x)
   one_always h p q ih G k at x row o l u v z =
-      enclosed_always X i f w k (shape_numbers h (suc k) q) (moves_in (shape_near_moves h G) (shape_far_moves h G (suc k)) at (Some x)) (instance_values (level p) row g x) (instance_values (level q) row test x) (instance_out (level p) (level q) row x)
-      (λ y. ap (map (λ ys. g (row ys))) (none_true (level p) (level q) row test x y)) (ih G (suc k) at x row o l u v z)
+      enclosed_always X i f w k (shape_numbers h (suc k) q) (moves_in (shape_near_moves h G) (shape_far_moves h G (suc k)) at (Some x)) (instance_values (chain_end p) row g x) (instance_values (chain_end q) row test x) (instance_out (chain_end p) (chain_end q) row x)
+      (λ y. ap (map (λ ys. g (row ys))) (none_true (chain_end p) (chain_end q) row test x y)) (ih G (suc k) at x row o l u v z)
 
   one_count : (j : ℕ) (Y : Type 0) (y : Node → Y) (h : Shape) (p : List Step) (G : List Pick) (k : ℕ) (at : Depth) (x : Instance) (row : Instances → Node) → Only j p G → is_shape_path h p ≡ true → is_instance h x ≡ true
-      → length (triplets_of j (enclosed k (moves_in (shape_near_moves h G) (shape_far_moves h G (suc k)) at (Some x)))) ≡ length (instance_values (level p) row y x)
+      → length (triplets_of j (enclosed k (moves_in (shape_near_moves h G) (shape_far_moves h G (suc k)) at (Some x)))) ≡ length (instance_values (chain_end p) row y x)
   one_count j Y y h p G k at x row o u z = ap length (of_enclosed j k (moves_in (shape_near_moves h G) (shape_far_moves h G (suc k)) at (Some x))) ∙ value_count Y y j h p G o u (suc k) at x z row
 
   -- an instance before others
   more_always : (h : Shape) (p q : List Step) (G : List Pick) (k : ℕ) (at : Depth) (x : Instance) (xs : Instances) (row : Instances → Node) (ms : List Move)
-      → length (triplets_of i (enclosed k (moves_in (shape_near_moves h G) (shape_far_moves h G (suc k)) at (Some x)))) ≡ length (instance_values (level p) row g x)
-      → length (triplets_of w.last (enclosed k (moves_in (shape_near_moves h G) (shape_far_moves h G (suc k)) at (Some x)))) ≡ length (instance_values (level q) row test x)
-      → Always X i f w (Some (k ∷ shape_numbers h (suc k) q)) (enclosed k (moves_in (shape_near_moves h G) (shape_far_moves h G (suc k)) at (Some x))) (instance_values (level p) row g x) (instance_values (level q) row test x) (instance_out (level p) (level q) row x)
-      → Always X i f w (Some (k ∷ shape_numbers h (suc k) q)) ms (many_values (level p) row g xs) (many_values (level q) row test xs) (many_out (level p) (level q) row xs)
-      → Always X i f w (Some (k ∷ shape_numbers h (suc k) q)) (enclosed k (moves_in (shape_near_moves h G) (shape_far_moves h G (suc k)) at (Some x)) ++ ms) (many_values (level p) row g (instance x xs)) (many_values (level q) row test (instance x xs)) (many_out (level p) (level q) row (instance x xs))
+      → length (triplets_of i (enclosed k (moves_in (shape_near_moves h G) (shape_far_moves h G (suc k)) at (Some x)))) ≡ length (instance_values (chain_end p) row g x)
+      → length (triplets_of w.last (enclosed k (moves_in (shape_near_moves h G) (shape_far_moves h G (suc k)) at (Some x)))) ≡ length (instance_values (chain_end q) row test x)
+      → Always X i f w (Some (k ∷ shape_numbers h (suc k) q)) (enclosed k (moves_in (shape_near_moves h G) (shape_far_moves h G (suc k)) at (Some x))) (instance_values (chain_end p) row g x) (instance_values (chain_end q) row test x) (instance_out (chain_end p) (chain_end q) row x)
+      → Always X i f w (Some (k ∷ shape_numbers h (suc k) q)) ms (many_values (chain_end p) row g xs) (many_values (chain_end q) row test xs) (many_out (chain_end p) (chain_end q) row xs)
+      → Always X i f w (Some (k ∷ shape_numbers h (suc k) q)) (enclosed k (moves_in (shape_near_moves h G) (shape_far_moves h G (suc k)) at (Some x)) ++ ms) (many_values (chain_end p) row g (instance x xs)) (many_values (chain_end q) row test (instance x xs)) (many_out (chain_end p) (chain_end q) row (instance x xs))
   more_always h p q G k at x xs row ms m n a b =
-      subst (Always X i f w (Some (k ∷ shape_numbers h (suc k) q)) (enclosed k (moves_in (shape_near_moves h G) (shape_far_moves h G (suc k)) at (Some x)) ++ ms) (many_values (level p) row g (instance x xs)) (many_values (level q) row test (instance x xs)))
-      (sym (map-append (λ ys. g (row ys)) (kept_instance_rows (kept_rows (level p) (level q)) (λ y. row (single y)) test x) (each_kept_rows (kept_instance_rows (kept_rows (level p) (level q)) (λ y. row (single y)) test) xs)))
+      subst (Always X i f w (Some (k ∷ shape_numbers h (suc k) q)) (enclosed k (moves_in (shape_near_moves h G) (shape_far_moves h G (suc k)) at (Some x)) ++ ms) (many_values (chain_end p) row g (instance x xs)) (many_values (chain_end q) row test (instance x xs)))
+      (sym (map-append (λ ys. g (row ys)) (kept_instance_rows (kept_rows (chain_end p) (chain_end q)) (λ y. row (single y)) test x) (each_kept_rows (kept_instance_rows (kept_rows (chain_end p) (chain_end q)) (λ y. row (single y)) test) xs)))
       (both_always X i f w (Some (k ∷ shape_numbers h (suc k) q)) (enclosed k (moves_in (shape_near_moves h G) (shape_far_moves h G (suc k)) at (Some x))) ms
-      (instance_values (level p) row g x) (many_values (level p) row g xs) (instance_values (level q) row test x) (many_values (level q) row test xs) (instance_out (level p) (level q) row x) (many_out (level p) (level q) row xs) m n a b)
+      (instance_values (chain_end p) row g x) (many_values (chain_end p) row g xs) (instance_values (chain_end q) row test x) (many_values (chain_end q) row test xs) (instance_out (chain_end p) (chain_end q) row x) (many_out (chain_end p) (chain_end q) row xs) m n a b)
 
   later_always : (h : Shape) (p q : List Step) → InstanceFires h p q → (G : List Pick) (k : ℕ) (at : Depth) (row : Instances → Node) → Only i p G → Only w.last q G → is_shape_path h p ≡ true → is_shape_path h q ≡ true → (xs : Instances) → all_instances (is_instance h) xs ≡ true
-      → Always X i f w (Some (k ∷ shape_numbers h (suc k) q)) (later_moves k (λ x. moves_in (shape_near_moves h G) (shape_far_moves h G (suc k)) (inside repeated (begun_later at) x) x) xs) (many_values (level p) row g xs) (many_values (level q) row test xs) (many_out (level p) (level q) row xs)
+      → Always X i f w (Some (k ∷ shape_numbers h (suc k) q)) (later_moves k (λ x. moves_in (shape_near_moves h G) (shape_far_moves h G (suc k)) (inside repeated (begun_later at) x) x) xs) (many_values (chain_end p) row g xs) (many_values (chain_end q) row test xs) (many_out (chain_end p) (chain_end q) row xs)
   later_always h p q ih G k at row o l u v no_instances z = no_moves X i f w (Some (k ∷ shape_numbers h (suc k) q))
   later_always h p q ih G k at row o l u v (instance x xs) z =
       let b : (is_instance h x ≡ true) × (all_instances (is_instance h) xs ≡ true) = and_parts _ _ z in
@@ -210,27 +210,27 @@ module _ (X : Type 0) (i : ℕ) (f : Context → X) (w : Watch) (g : Node → X)
 
   field_fires : (r : Repetition) (h : Shape) (p q : List Step) → FarFires h p q → (G : List Pick) (k : ℕ) (at : Depth) (n : Node) (row : Instances → Node) (a b : ℕ) → Only i p G → Only w.last q G → is_shape_path h p ≡ true → is_shape_path h q ≡ true
       → repetition_count r + max_repetition p ≡ suc a → repetition_count r + max_repetition q ≡ suc b → (xs : Instances) → first_slot n ≡ xs → (xs ≡ no_instances) ⊎ (fits_repetition r (count_instances xs) ≡ true) → all_instances (is_instance h) xs ≡ true
-      → Fires X i f w (Some (own_number r k (λ j. shape_numbers h j q))) (far_in r h G k at n) (field_values (level p) row g xs) (field_values (level q) row test xs) (field_out (level p) (level q) row xs)
-  field_fires r h p q far G k at n row a b o l u v y z xs e s t = subst (λ (ms : List Move). Fires X i f w (Some (own_number r k (λ j. shape_numbers h j q))) ms (field_values (level p) row g xs) (field_values (level q) row test xs) (field_out (level p) (level q) row xs))
+      → Fires X i f w (Some (own_number r k (λ j. shape_numbers h j q))) (far_in r h G k at n) (field_values (chain_end p) row g xs) (field_values (chain_end q) row test xs) (field_out (chain_end p) (chain_end q) row xs)
+  field_fires r h p q far G k at n row a b o l u v y z xs e s t = subst (λ (ms : List Move). Fires X i f w (Some (own_number r k (λ j. shape_numbers h j q))) ms (field_values (chain_end p) row g xs) (field_values (chain_end q) row test xs) (field_out (chain_end p) (chain_end q) row xs))
       (far_in_moves r h p G o k at n xs e) (by_instances r y z xs s t)
     where
-      absent : (r : Option (List ℕ)) (ms : List Move) (low high : ℕ) → Off low high ms [] → Fires X i f w r ms (field_values (level p) row g no_instances) (field_values (level q) row test no_instances) (field_out (level p) (level q) row no_instances)
-      absent r ms low high x = whole_fires X i f w r ms (field_values (level p) row g no_instances) (field_values (level q) row test no_instances) (field_out (level p) (level q) row no_instances)
-          (none_out (level p) (level q) row) (bare_whole X i f w low high r ms x)
+      absent : (r : Option (List ℕ)) (ms : List Move) (low high : ℕ) → Off low high ms [] → Fires X i f w r ms (field_values (chain_end p) row g no_instances) (field_values (chain_end q) row test no_instances) (field_out (chain_end p) (chain_end q) row no_instances)
+      absent r ms low high x = whole_fires X i f w r ms (field_values (chain_end p) row g no_instances) (field_values (chain_end q) row test no_instances) (field_out (chain_end p) (chain_end q) row no_instances)
+          (none_out (chain_end p) (chain_end q) row) (bare_whole X i f w low high r ms x)
 
       alone : (x : Instance) (at : Depth) → max_repetition p ≡ suc a → max_repetition q ≡ suc b → is_instance h x ≡ true
-          → Fires X i f w (Some (shape_numbers h k q)) (shape_far_moves h G k at (Some x)) (field_values (level p) row g (single x)) (field_values (level q) row test (single x)) (field_out (level p) (level q) row (single x))
+          → Fires X i f w (Some (shape_numbers h k q)) (shape_far_moves h G k at (Some x)) (field_values (chain_end p) row g (single x)) (field_values (chain_end q) row test (single x)) (field_out (chain_end p) (chain_end q) row (single x))
       alone x at y z t = same_fires (Some (shape_numbers h k q)) (shape_far_moves h G k at (Some x)) (shape_far_moves h G k at (Some x))
-          (instance_values (level p) row g x) (field_values (level p) row g (single x)) (instance_values (level q) row test x) (field_values (level q) row test (single x))
-          (instance_out (level p) (level q) row x) (field_out (level p) (level q) row (single x))
-          refl (sym (append-nil (instance_values (level p) row g x))) (sym (append-nil (instance_values (level q) row test x)))
-          (ap (map (λ ys. g (row ys))) (sym (append-nil (kept_instance_rows (kept_rows (level p) (level q)) (λ y. row (single y)) test x))))
+          (instance_values (chain_end p) row g x) (field_values (chain_end p) row g (single x)) (instance_values (chain_end q) row test x) (field_values (chain_end q) row test (single x))
+          (instance_out (chain_end p) (chain_end q) row x) (field_out (chain_end p) (chain_end q) row (single x))
+          refl (sym (append-nil (instance_values (chain_end p) row g x))) (sym (append-nil (instance_values (chain_end q) row test x)))
+          (ap (map (λ ys. g (row ys))) (sym (append-nil (kept_instance_rows (kept_rows (chain_end p) (chain_end q)) (λ y. row (single y)) test x))))
           (far G k at x row a b o l u v t y z)
 
       by_instances : (r : Repetition) → repetition_count r + max_repetition p ≡ suc a → repetition_count r + max_repetition q ≡ suc b → (xs : Instances) → (xs ≡ no_instances) ⊎ (fits_repetition r (count_instances xs) ≡ true) → all_instances (is_instance h) xs ≡ true
           → Fires X i f w (Some (own_number r k (λ j. shape_numbers h j q)))
           (by_repetition r (repeated_moves k (λ x. moves_in (shape_near_moves h G) (shape_far_moves h G (suc k)) (inside r at x) x) (λ x. moves_in (shape_near_moves h G) (shape_far_moves h G (suc k)) (inside r (begun_later at) x) x))
-          (λ x. shape_far_moves h G k (inside r at x) x) xs) (field_values (level p) row g xs) (field_values (level q) row test xs) (field_out (level p) (level q) row xs)
+          (λ x. shape_far_moves h G k (inside r at x) x) xs) (field_values (chain_end p) row g xs) (field_values (chain_end q) row test xs) (field_out (chain_end p) (chain_end q) row xs)
       by_instances required y z no_instances s t = absent (Some (shape_numbers h k q)) (shape_far_moves h G k (inside required at None) None) k (k + shape_repeated_fields h)
           (same_off k (k + shape_repeated_fields h) (shape_far_moves h G k (inside required at None) None) (instance_leavings h G k off None) [] (no_leavings h G k off) (far_part_off h G k (inside required at None) None))
       by_instances optional y z no_instances s t = absent (Some (shape_numbers h k q)) (shape_far_moves h G k (inside optional at None) None) k (k + shape_repeated_fields h)
@@ -255,7 +255,7 @@ module _ (X : Type 0) (i : ℕ) (f : Context → X) (w : Watch) (g : Node → X)
           let d : Depth = inside repeated at (Some x) in
           let ih : InstanceFires h p q = instance_fires h p q far in
           always_fires X i f w (Some (k ∷ shape_numbers h (suc k) q)) (enclosed k (moves_in (shape_near_moves h G) (shape_far_moves h G (suc k)) d (Some x)) ++ later_moves k (λ x. moves_in (shape_near_moves h G) (shape_far_moves h G (suc k)) (inside repeated (begun_later at) x) x) xs)
-          (many_values (level p) row g (instance x xs)) (many_values (level q) row test (instance x xs)) (many_out (level p) (level q) row (instance x xs))
+          (many_values (chain_end p) row g (instance x xs)) (many_values (chain_end q) row test (instance x xs)) (many_out (chain_end p) (chain_end q) row (instance x xs))
           (more_always h p q G k d x xs row (later_moves k (λ x. moves_in (shape_near_moves h G) (shape_far_moves h G (suc k)) (inside repeated (begun_later at) x) x) xs)
           (one_count i X g h p G k d x row o u c.0) (one_count w.last Bool test h q G k d x row l v c.0)
           (one_always h p q ih G k d x row o l u v c.0) (later_always h p q ih G k at row o l u v xs c.1))
@@ -268,43 +268,43 @@ module _ (X : Type 0) (i : ℕ) (f : Context → X) (w : Watch) (g : Node → X)
       let sq : (same_repetition e r ≡ true) × (is_shape_path h q ≡ true) = and_parts _ _ v in
       let s : FirstSlot r h fs n = first_of_node m r h fs n t in
       let j = k + (repetition_count r + shape_repeated_fields h) in
-      let ni : triplets_of i (far_moves fs (beside G) j at (other_slots n)) ≡ [] = far_nothing i fs (beside G) j at (other_slots n) (beside_first i c p G o) in
-      let nl : triplets_of w.last (far_moves fs (beside G) j at (other_slots n)) ≡ [] = far_nothing w.last fs (beside G) j at (other_slots n) (beside_first w.last e q G l) in
+      let ni : triplets_of i (far_moves fs (later_picks G) j at (other_slots n)) ≡ [] = far_nothing i fs (later_picks G) j at (other_slots n) (beside_first i c p G o) in
+      let nl : triplets_of w.last (far_moves fs (later_picks G) j at (other_slots n)) ≡ [] = far_nothing w.last fs (later_picks G) j at (other_slots n) (beside_first w.last e q G l) in
       let N = own_number r k (λ j. shape_numbers h j q) in
-      let first : Fires X i f w (Some (own_number r k (λ j. shape_numbers h j q))) (far_in r h (behind G) k at n) (field_values (level p) row g (first_slot n)) (field_values (level q) row test (first_slot n)) (field_out (level p) (level q) row (first_slot n)) =
-      field_fires r h p q far (behind G) k at n row a b (only_behind i c p G o) (only_behind w.last e q G l) sp.1 sq.1
+      let first : Fires X i f w (Some (own_number r k (λ j. shape_numbers h j q))) (far_in r h (first_picks G) k at n) (field_values (chain_end p) row g (first_slot n)) (field_values (chain_end q) row test (first_slot n)) (field_out (chain_end p) (chain_end q) row (first_slot n)) =
+      field_fires r h p q far (first_picks G) k at n row a b (only_behind i c p G o) (only_behind w.last e q G l) sp.1 sq.1
       (subst (λ (x : Repetition). repetition_count x + max_repetition p ≡ suc a) (same_repetition-true c r sp.0) y) (subst (λ (x : Repetition). repetition_count x + max_repetition q ≡ suc b) (same_repetition-true e r sq.0) z)
       (first_slot n) refl s.0 s.1 in
-      subst (λ (xs : Instances). Fires X i f w (Some N) (far_in r h (behind G) k at n ++ far_moves fs (beside G) j at (other_slots n)) (field_values (level p) row g xs) (field_values (level q) row test xs) (field_out (level p) (level q) row xs)) (sym s.2)
-      (fires_before X i f w (Some N) (far_in r h (behind G) k at n) (far_moves fs (beside G) j at (other_slots n)) (field_values (level p) row g (first_slot n)) (field_values (level q) row test (first_slot n)) (field_out (level p) (level q) row (first_slot n)) ni nl first
-      (silent_whole X i f w j (j + repeated_fields fs) (Some N) (far_moves fs (beside G) j at (other_slots n)) _ ni (far_off fs (beside G) j at (other_slots n))))
+      subst (λ (xs : Instances). Fires X i f w (Some N) (far_in r h (first_picks G) k at n ++ far_moves fs (later_picks G) j at (other_slots n)) (field_values (chain_end p) row g xs) (field_values (chain_end q) row test xs) (field_out (chain_end p) (chain_end q) row xs)) (sym s.2)
+      (fires_before X i f w (Some N) (far_in r h (first_picks G) k at n) (far_moves fs (later_picks G) j at (other_slots n)) (field_values (chain_end p) row g (first_slot n)) (field_values (chain_end q) row test (first_slot n)) (field_out (chain_end p) (chain_end q) row (first_slot n)) ni nl first
+      (silent_whole X i f w j (j + repeated_fields fs) (Some N) (far_moves fs (later_picks G) j at (other_slots n)) _ ni (far_off fs (later_picks G) j at (other_slots n))))
   through_fires m r h fs c e p q far rest (suc i') G k at n row a b o l u v y z t =
       let s : FirstSlot r h fs n = first_of_node m r h fs n t in
       let j = k + (repetition_count r + shape_repeated_fields h) in
       let N = numbers_in fs j (step i' e ∷ q) in
-      let vi : Without i (behind G) = behind_later i i' c p G o in
-      let vl : Without w.last (behind G) = behind_later w.last i' e q G l in
-      let x : (ls : List Leaving) × Off k (k + (repetition_count r + shape_repeated_fields h)) (far_in r h (behind G) k at n) ls = field_part_off r h (behind G) k at n in
-      let ni : triplets_of i (far_in r h (behind G) k at n) ≡ [] = far_in_nothing i r h (behind G) k at n (λ d y. shape_near_nothing i h (behind G) d y vi) (λ l d y. shape_far_nothing i h (behind G) l d y vi) in
-      let nl : triplets_of w.last (far_in r h (behind G) k at n) ≡ [] = far_in_nothing w.last r h (behind G) k at n (λ d y. shape_near_nothing w.last h (behind G) d y vl) (λ l d y. shape_far_nothing w.last h (behind G) l d y vl) in
-      subst (λ (xs : Instances). Fires X i f w (Some N) (far_in r h (behind G) k at n ++ far_moves fs (beside G) j at (other_slots n)) (field_values (level p) row g xs) (field_values (level q) row test xs) (field_out (level p) (level q) row xs)) (sym (s.4 i'))
-      (fires_behind X i f w (Some N) (far_in r h (behind G) k at n) (far_moves fs (beside G) j at (other_slots n)) (field_values (level p) row g (instances_at i' (other_slots n))) (field_values (level q) row test (instances_at i' (other_slots n)))
-      (field_out (level p) (level q) row (instances_at i' (other_slots n))) ni nl
-      (silent_whole X i f w k j (Some N) (far_in r h (behind G) k at n) x.0 ni x.1)
-      (rest i' (beside G) j at (other_slots n) row a b (only_beside i i' c p G o) (only_beside w.last i' e q G l) u v y z s.3))
+      let vi : Without i (first_picks G) = behind_later i i' c p G o in
+      let vl : Without w.last (first_picks G) = behind_later w.last i' e q G l in
+      let x : (ls : List Leaving) × Off k (k + (repetition_count r + shape_repeated_fields h)) (far_in r h (first_picks G) k at n) ls = field_part_off r h (first_picks G) k at n in
+      let ni : triplets_of i (far_in r h (first_picks G) k at n) ≡ [] = far_in_nothing i r h (first_picks G) k at n (λ d y. shape_near_nothing i h (first_picks G) d y vi) (λ l d y. shape_far_nothing i h (first_picks G) l d y vi) in
+      let nl : triplets_of w.last (far_in r h (first_picks G) k at n) ≡ [] = far_in_nothing w.last r h (first_picks G) k at n (λ d y. shape_near_nothing w.last h (first_picks G) d y vl) (λ l d y. shape_far_nothing w.last h (first_picks G) l d y vl) in
+      subst (λ (xs : Instances). Fires X i f w (Some N) (far_in r h (first_picks G) k at n ++ far_moves fs (later_picks G) j at (other_slots n)) (field_values (chain_end p) row g xs) (field_values (chain_end q) row test xs) (field_out (chain_end p) (chain_end q) row xs)) (sym (s.4 i'))
+      (fires_behind X i f w (Some N) (far_in r h (first_picks G) k at n) (far_moves fs (later_picks G) j at (other_slots n)) (field_values (chain_end p) row g (instances_at i' (other_slots n))) (field_values (chain_end q) row test (instances_at i' (other_slots n)))
+      (field_out (chain_end p) (chain_end q) row (instances_at i' (other_slots n))) ni nl
+      (silent_whole X i f w k j (Some N) (far_in r h (first_picks G) k at n) x.0 ni x.1)
+      (rest i' (later_picks G) j at (other_slots n) row a b (only_beside i i' c p G o) (only_beside w.last i' e q G l) u v y z s.3))
 
   group_fires : (fs : Fields) (s t : Step) (p q : List Step) → FieldFires fs s.repetition t.repetition p q → FarFires (group fs) (s ∷ p) (t ∷ q)
   group_fires fs s t p q ih G k at (atom v) row a b o l u v' z y d = absurd (true≢false (sym z))
   group_fires fs s t p q ih G k at (inner n) row a b o l u v z y d = by_place (s.place == t.place) refl
     where
       by_place : (e : Bool) → (s.place == t.place) ≡ e
-          → Fires X i f w (Some (numbers_in fs k (t ∷ q))) (far_moves fs G k at n) (instance_values (level (s ∷ p)) row g (inner n)) (instance_values (level (t ∷ q)) row test (inner n)) (instance_out (level (s ∷ p)) (level (t ∷ q)) row (inner n))
+          → Fires X i f w (Some (numbers_in fs k (t ∷ q))) (far_moves fs G k at n) (instance_values (chain_end (s ∷ p)) row g (inner n)) (instance_values (chain_end (t ∷ q)) row test (inner n)) (instance_out (chain_end (s ∷ p)) (chain_end (t ∷ q)) row (inner n))
       by_place false e =
-          whole_fires X i f w (Some (numbers_in fs k (t ∷ q))) (far_moves fs G k at n) (instance_values (level (s ∷ p)) row g (inner n)) (instance_values (level (t ∷ q)) row test (inner n)) (instance_out (level (s ∷ p)) (level (t ∷ q)) row (inner n))
-          (all_kept (level (s ∷ p)) (level (t ∷ q)) row (inner n) (λ r m h.
+          whole_fires X i f w (Some (numbers_in fs k (t ∷ q))) (far_moves fs G k at n) (instance_values (chain_end (s ∷ p)) row g (inner n)) (instance_values (chain_end (t ∷ q)) row test (inner n)) (instance_out (chain_end (s ∷ p)) (chain_end (t ∷ q)) row (inner n))
+          (all_kept (chain_end (s ∷ p)) (chain_end (t ∷ q)) row (inner n) (λ r m h.
           ap₂ (λ (L M : List Step). kept_rows L M r m) (far_level s p a y) (far_level t q b d)
-          ∙ apart_kept s t (level p) (level q) r m e
-          ∙ some_rows (s ∷ level p) (t ∷ level q) r m (ap (λ (L : List Step). list_any r (rows L m)) (sym (far_level t q b d)) ∙ h)
+          ∙ apart_kept s t (chain_end p) (chain_end q) r m e
+          ∙ some_rows (s ∷ chain_end p) (t ∷ chain_end q) r m (ap (λ (L : List Step). list_any r (rows L m)) (sym (far_level t q b d)) ∙ h)
           ∙ ap (λ (L : List Step). rows L m) (sym (far_level s p a y))))
           (apart_fields fs s.place t.place s.repetition t.repetition p q G o (not_same s.place t.place e) k at n)
       by_place true e =
@@ -312,28 +312,28 @@ module _ (X : Type 0) (i : ℕ) (f : Context → X) (w : Watch) (g : Node → X)
           let whole : Node → Node = λ m. row (single (inner m)) in
           let below : Instances → Node = λ xs. row (single (inner (put_at t.place xs n))) in
           same_fires (Some (numbers_in fs k (t ∷ q))) (far_moves fs G k at n) (far_moves fs G k at n)
-          (field_values (level p) (λ xs. row (single (inner (put_at t.place xs n)))) g (instances_at t.place n)) (instance_values (level (s ∷ p)) row g (inner n))
-          (field_values (level q) (λ xs. row (single (inner (put_at t.place xs n)))) test (instances_at t.place n)) (instance_values (level (t ∷ q)) row test (inner n))
-          (field_out (level p) (level q) (λ xs. row (single (inner (put_at t.place xs n)))) (instances_at t.place n)) (instance_out (level (s ∷ p)) (level (t ∷ q)) row (inner n))
+          (field_values (chain_end p) (λ xs. row (single (inner (put_at t.place xs n)))) g (instances_at t.place n)) (instance_values (chain_end (s ∷ p)) row g (inner n))
+          (field_values (chain_end q) (λ xs. row (single (inner (put_at t.place xs n)))) test (instances_at t.place n)) (instance_values (chain_end (t ∷ q)) row test (inner n))
+          (field_out (chain_end p) (chain_end q) (λ xs. row (single (inner (put_at t.place xs n)))) (instances_at t.place n)) (instance_out (chain_end (s ∷ p)) (chain_end (t ∷ q)) row (inner n))
           refl
-          (sym (inner_values X g (level (s ∷ p)) row n ∙ ap (λ (L : List Step). map (λ (m : Node). g (row (single (inner m)))) (rows L n)) (far_level s p a y) ∙ node_values X g t.place s (level p) whole n j))
-          (sym (inner_values Bool test (level (t ∷ q)) row n ∙ ap (λ (L : List Step). map (λ (m : Node). test (row (single (inner m)))) (rows L n)) (far_level t q b d) ∙ node_values Bool test t.place t (level q) whole n refl))
+          (sym (inner_values X g (chain_end (s ∷ p)) row n ∙ ap (λ (L : List Step). map (λ (m : Node). g (row (single (inner m)))) (rows L n)) (far_level s p a y) ∙ node_values X g t.place s (chain_end p) whole n j))
+          (sym (inner_values Bool test (chain_end (t ∷ q)) row n ∙ ap (λ (L : List Step). map (λ (m : Node). test (row (single (inner m)))) (rows L n)) (far_level t q b d) ∙ node_values Bool test t.place t (chain_end q) whole n refl))
           (sym (ap₂ (λ (L M : List Step). instance_out L M row (inner n)) (far_level s p a y) (far_level t q b d) ∙ along_out (instances_at t.place n) refl))
           (ih t.place G k at n (λ xs. row (single (inner (put_at t.place xs n)))) a b
           (subst (λ (l : ℕ). Only i (step l s.repetition ∷ p) G) j o) l
           (subst (λ (l : ℕ). is_leaf_path fs (step l s.repetition ∷ p) ≡ true) j u) v y d (inr z))
         where
           by_slot : (xs : Instances) → instances_at t.place n ≡ xs
-              → map (λ xs. g (row (single (inner (put_at t.place xs n))))) (kept_field_rows (test (row (single (inner n)))) (kept_instance_rows (kept_rows (level p) (level q)) (λ x. put_at t.place (single x) n) (λ m. test (row (single (inner m))))) xs)
-              ≡ field_out (level p) (level q) (λ xs. row (single (inner (put_at t.place xs n)))) xs
+              → map (λ xs. g (row (single (inner (put_at t.place xs n))))) (kept_field_rows (test (row (single (inner n)))) (kept_instance_rows (kept_rows (chain_end p) (chain_end q)) (λ x. put_at t.place (single x) n) (λ m. test (row (single (inner m))))) xs)
+              ≡ field_out (chain_end p) (chain_end q) (λ xs. row (single (inner (put_at t.place xs n)))) xs
           by_slot no_instances h = ap (λ (m : Node). map (λ xs. g (row (single (inner (put_at t.place xs n))))) (if test (row (single (inner m))) then no_instances ∷ [] else [])) (sym (put_none t.place n h))
           by_slot (instance x xs) h = refl
 
-          along_out : (xs : Instances) → instances_at t.place n ≡ xs → instance_out (s ∷ level p) (t ∷ level q) row (inner n) ≡ field_out (level p) (level q) (λ xs. row (single (inner (put_at t.place xs n)))) (instances_at t.place n)
+          along_out : (xs : Instances) → instances_at t.place n ≡ xs → instance_out (s ∷ chain_end p) (t ∷ chain_end q) row (inner n) ≡ field_out (chain_end p) (chain_end q) (λ xs. row (single (inner (put_at t.place xs n)))) (instances_at t.place n)
           along_out xs h =
-              map-map (λ (ys : Instances). g (row ys)) (λ (m : Node). single (inner m)) (kept_rows (s ∷ level p) (t ∷ level q) (λ m. test (row (single (inner m)))) n)
-              ∙ ap (map (λ (m : Node). g (row (single (inner m))))) (along_kept s t (level p) (level q) (λ m. test (row (single (inner m)))) n e)
-              ∙ map-map (λ (m : Node). g (row (single (inner m)))) (λ (xs : Instances). put_at t.place xs n) (kept_field_rows (test (row (single (inner n)))) (kept_instance_rows (kept_rows (level p) (level q)) (λ x. put_at t.place (single x) n) (λ m. test (row (single (inner m))))) (instances_at t.place n))
+              map-map (λ (ys : Instances). g (row ys)) (λ (m : Node). single (inner m)) (kept_rows (s ∷ chain_end p) (t ∷ chain_end q) (λ m. test (row (single (inner m)))) n)
+              ∙ ap (map (λ (m : Node). g (row (single (inner m))))) (along_kept s t (chain_end p) (chain_end q) (λ m. test (row (single (inner m)))) n e)
+              ∙ map-map (λ (m : Node). g (row (single (inner m)))) (λ (xs : Instances). put_at t.place xs n) (kept_field_rows (test (row (single (inner n)))) (kept_instance_rows (kept_rows (chain_end p) (chain_end q)) (λ x. put_at t.place (single x) n) (λ m. test (row (single (inner m))))) (instances_at t.place n))
               ∙ by_slot (instances_at t.place n) refl
 
   mutual

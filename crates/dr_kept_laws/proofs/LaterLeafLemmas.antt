@@ -3,8 +3,8 @@ use Rattle.std.proofs.Common.{◌≡◌, ◌⊎◌, inl, inr, ℕ, zero, suc, �
 use Rattle.std.specs.Prelude.{◌==◌, ◌||◌, if◌then◌else◌}
 use Rattle.std.proofs.lemmas.Bool.{and_parts, eq-eqb, ne_eqb, eqb-true}
 use Rattle.dr_meaning.specs.Schema.{Repetition, required, optional, repeated, Fields, no_fields, field, Shape, leaf, group, repetition_count}
-use Rattle.dr_meaning.specs.Path.{Step, is_leaf_path, is_shape_path, same_repetition, max_repetition, level, up_to, begins_with}
-use Rattle.dr_meaning.specs.Automaton.{Pick, picks, behind, beside, indexes, unless_repeated, where_repeated, near_order, far_order, shape_near_order, shape_far_order}
+use Rattle.dr_meaning.specs.Path.{Step, is_leaf_path, is_shape_path, same_repetition, max_repetition, chain_end, up_to, begins_with}
+use Rattle.dr_meaning.specs.Automaton.{Pick, picks, first_picks, later_picks, indexes, unless_repeated, where_repeated, near_order, far_order, shape_near_order, shape_far_order}
 use Rattle.dr_meaning.proofs.ProjectionLemmas.{step}
 use Rattle.dr_meaning.proofs.Blocks.{same_repetition-true}
 use Rattle.dr_meaning.proofs.WalkLemmas.{Without, Only, without_behind, without_beside, only_behind, beside_first, only_beside, behind_later}
@@ -61,7 +61,7 @@ where_none i repeated xs h = h
 mutual
   near_none : (i : ℕ) (fs : Fields) (G : List Pick) → Without i G → HasNone i (near_order fs G)
   near_none i no_fields G h = tt
-  near_none i (field m r s fs) G h = none_append i (unless_repeated r (shape_near_order s (behind G))) (near_order fs (beside G)) (unless_none i r (shape_near_order s (behind G)) (shape_near_none i s (behind G) (without_behind i G h))) (near_none i fs (beside G) (without_beside i G h))
+  near_none i (field m r s fs) G h = none_append i (unless_repeated r (shape_near_order s (first_picks G))) (near_order fs (later_picks G)) (unless_none i r (shape_near_order s (first_picks G)) (shape_near_none i s (first_picks G) (without_behind i G h))) (near_none i fs (later_picks G) (without_beside i G h))
 
   shape_near_none : (i : ℕ) (s : Shape) (G : List Pick) → Without i G → HasNone i (shape_near_order s G)
   shape_near_none i (leaf k) G h = none_of_picks i G h
@@ -71,9 +71,9 @@ mutual
   far_none : (i : ℕ) (fs : Fields) (G : List Pick) → Without i G → HasNone i (far_order fs G)
   far_none i no_fields G h = tt
   far_none i (field m r s fs) G h =
-      none_append i (where_repeated r (shape_near_order s (behind G)) ++ shape_far_order s (behind G)) (far_order fs (beside G))
-      (none_append i (where_repeated r (shape_near_order s (behind G))) (shape_far_order s (behind G)) (where_none i r (shape_near_order s (behind G)) (shape_near_none i s (behind G) (without_behind i G h))) (shape_far_none i s (behind G) (without_behind i G h)))
-      (far_none i fs (beside G) (without_beside i G h))
+      none_append i (where_repeated r (shape_near_order s (first_picks G)) ++ shape_far_order s (first_picks G)) (far_order fs (later_picks G))
+      (none_append i (where_repeated r (shape_near_order s (first_picks G))) (shape_far_order s (first_picks G)) (where_none i r (shape_near_order s (first_picks G)) (shape_near_none i s (first_picks G) (without_behind i G h))) (shape_far_none i s (first_picks G) (without_behind i G h)))
+      (far_none i fs (later_picks G) (without_beside i G h))
 
   shape_far_none : (i : ℕ) (s : Shape) (G : List Pick) → Without i G → HasNone i (shape_far_order s G)
   shape_far_none i (leaf k) G h = tt
@@ -99,14 +99,14 @@ some_through : (i : ℕ) (m : List ℕ) (r : Repetition) (s : Shape) (fs : Field
     → (j : ℕ) (G : List Pick) → Only i (step j q ∷ p) G → is_leaf_path (field m r s fs) (step j q ∷ p) ≡ true → HasNone i (near_order (field m r s fs) G) → ⊥
 some_through i m r s fs q p z f g zero G o u h =
     let a : (same_repetition q r ≡ true) × (is_shape_path s p ≡ true) = and_parts _ _ u in
-    by_repetition r (subst (λ (x : Repetition). repetition_count x + max_repetition p ≡ 0) (same_repetition-true q r a.0) z) (none_first i (unless_repeated r (shape_near_order s (behind G))) (near_order fs (beside G)) h)
-    (f (behind G) (only_behind i q p G o) a.1)
+    by_repetition r (subst (λ (x : Repetition). repetition_count x + max_repetition p ≡ 0) (same_repetition-true q r a.0) z) (none_first i (unless_repeated r (shape_near_order s (first_picks G))) (near_order fs (later_picks G)) h)
+    (f (first_picks G) (only_behind i q p G o) a.1)
   where
-    by_repetition : (r : Repetition) → repetition_count r + max_repetition p ≡ 0 → HasNone i (unless_repeated r (shape_near_order s (behind G))) → (HasNone i (shape_near_order s (behind G)) → ⊥) → ⊥
+    by_repetition : (r : Repetition) → repetition_count r + max_repetition p ≡ 0 → HasNone i (unless_repeated r (shape_near_order s (first_picks G))) → (HasNone i (shape_near_order s (first_picks G)) → ⊥) → ⊥
     by_repetition required z h f = f h
     by_repetition optional z h f = f h
     by_repetition repeated z h f = omega (arith, z)
-some_through i m r s fs q p z f g (suc j) G o u h = g j (beside G) (only_beside i j q p G o) u (none_second i (unless_repeated r (shape_near_order s (behind G))) (near_order fs (beside G)) h)
+some_through i m r s fs q p z f g (suc j) G o u h = g j (later_picks G) (only_beside i j q p G o) u (none_second i (unless_repeated r (shape_near_order s (first_picks G))) (near_order fs (later_picks G)) h)
 
 mutual
   near_some : (i : ℕ) (fs : Fields) (q : Repetition) (p : List Step) → max_repetition (step 0 q ∷ p) ≡ 0 → (j : ℕ) (G : List Pick) → Only i (step j q ∷ p) G → is_leaf_path fs (step j q ∷ p) ≡ true → HasNone i (near_order fs G) → ⊥
@@ -127,27 +127,27 @@ field_order k i no_fields c e q p z a b G ok oi u l zs = absurd (true≢false (s
 field_order k i (field m r s fs) c e q p z zero b G ok oi u l zs = absurd (omega (arith, l))
 field_order k i (field m r s fs) c e q p z (suc a) zero G ok oi u l zs =
     let x : (same_repetition e r ≡ true) × (is_shape_path s p ≡ true) = and_parts _ _ u in
-    ap (comes_first k i) (append_assoc (unless_repeated r (shape_near_order s (behind G))) (near_order fs (beside G)) zs)
-    ∙ second_first k i (unless_repeated r (shape_near_order s (behind G))) (near_order fs (beside G) ++ zs)
-    (unless_none k r (shape_near_order s (behind G)) (shape_near_none k s (behind G) (behind_later k a c q G ok)))
-    (by_repetition r (subst (λ (y : Repetition). repetition_count y + max_repetition p ≡ 0) (same_repetition-true e r x.0) z) (shape_near_some i s p (omega (arith, z)) (behind G) (only_behind i e p G oi) x.1))
+    ap (comes_first k i) (append_assoc (unless_repeated r (shape_near_order s (first_picks G))) (near_order fs (later_picks G)) zs)
+    ∙ second_first k i (unless_repeated r (shape_near_order s (first_picks G))) (near_order fs (later_picks G) ++ zs)
+    (unless_none k r (shape_near_order s (first_picks G)) (shape_near_none k s (first_picks G) (behind_later k a c q G ok)))
+    (by_repetition r (subst (λ (y : Repetition). repetition_count y + max_repetition p ≡ 0) (same_repetition-true e r x.0) z) (shape_near_some i s p (omega (arith, z)) (first_picks G) (only_behind i e p G oi) x.1))
   where
-    by_repetition : (r : Repetition) → repetition_count r + max_repetition p ≡ 0 → (HasNone i (shape_near_order s (behind G)) → ⊥) → HasNone i (unless_repeated r (shape_near_order s (behind G))) → ⊥
+    by_repetition : (r : Repetition) → repetition_count r + max_repetition p ≡ 0 → (HasNone i (shape_near_order s (first_picks G)) → ⊥) → HasNone i (unless_repeated r (shape_near_order s (first_picks G))) → ⊥
     by_repetition required z f h = f h
     by_repetition optional z f h = f h
     by_repetition repeated z f h = omega (arith, z)
 field_order k i (field m r s fs) c e q p z (suc a) (suc b) G ok oi u l zs =
-    ap (comes_first k i) (append_assoc (unless_repeated r (shape_near_order s (behind G))) (near_order fs (beside G)) zs)
-    ∙ passed k i [] (unless_repeated r (shape_near_order s (behind G))) (near_order fs (beside G) ++ zs)
-    (unless_none k r (shape_near_order s (behind G)) (shape_near_none k s (behind G) (behind_later k a c q G ok)))
-    (unless_none i r (shape_near_order s (behind G)) (shape_near_none i s (behind G) (behind_later i b e p G oi)))
-    ∙ field_order k i fs c e q p z a b (beside G) (only_beside k a c q G ok) (only_beside i b e p G oi) u (omega (arith, l)) zs
+    ap (comes_first k i) (append_assoc (unless_repeated r (shape_near_order s (first_picks G))) (near_order fs (later_picks G)) zs)
+    ∙ passed k i [] (unless_repeated r (shape_near_order s (first_picks G))) (near_order fs (later_picks G) ++ zs)
+    (unless_none k r (shape_near_order s (first_picks G)) (shape_near_none k s (first_picks G) (behind_later k a c q G ok)))
+    (unless_none i r (shape_near_order s (first_picks G)) (shape_near_none i s (first_picks G) (behind_later i b e p G oi)))
+    ∙ field_order k i fs c e q p z a b (later_picks G) (only_beside k a c q G ok) (only_beside i b e p G oi) u (omega (arith, l)) zs
 
 -- ---- levels
 
 -- a level begins with the path's first step, or is the record's
-level_head : (t : Step) (p : List Step) → (level (t ∷ p) ≡ []) ⊎ ((M : List Step) × (level (t ∷ p) ≡ t ∷ M))
-level_head t p = by_level (level p) t.repetition
+level_head : (t : Step) (p : List Step) → (chain_end (t ∷ p) ≡ []) ⊎ ((M : List Step) × (chain_end (t ∷ p) ≡ t ∷ M))
+level_head t p = by_level (chain_end p) t.repetition
   where
     by_level : (L : List Step) (r : Repetition) → (up_to (record { place = t.place; repetition = r }) L ≡ []) ⊎ ((M : List Step) × (up_to (record { place = t.place; repetition = r }) L ≡ record { place = t.place; repetition = r } ∷ M))
     by_level (u ∷ L) r = inr (u ∷ L, refl)
@@ -155,15 +155,15 @@ level_head t p = by_level (level p) t.repetition
     by_level [] optional = inl refl
     by_level [] repeated = inr ([], refl)
 
-apart_level : (s t : Step) (q p : List Step) → (s.place == t.place) ≡ false → begins_with (level (s ∷ q)) (level (t ∷ p)) ≡ true → max_repetition (s ∷ q) ≡ 0
+apart_level : (s t : Step) (q p : List Step) → (s.place == t.place) ≡ false → begins_with (chain_end (s ∷ q)) (chain_end (t ∷ p)) ≡ true → max_repetition (s ∷ q) ≡ 0
 apart_level s t q p d h = level_none (s ∷ q) (by_head (level_head t p))
   where
-    by_head : (level (t ∷ p) ≡ []) ⊎ ((M : List Step) × (level (t ∷ p) ≡ t ∷ M)) → level (s ∷ q) ≡ []
-    by_head (inl e) = on_root (level (s ∷ q)) (ap (begins_with (level (s ∷ q))) (sym e) ∙ h)
-    by_head (inr e) = on_apart s t q e.0 d (ap (begins_with (level (s ∷ q))) (sym e.1) ∙ h)
+    by_head : (chain_end (t ∷ p) ≡ []) ⊎ ((M : List Step) × (chain_end (t ∷ p) ≡ t ∷ M)) → chain_end (s ∷ q) ≡ []
+    by_head (inl e) = on_root (chain_end (s ∷ q)) (ap (begins_with (chain_end (s ∷ q))) (sym e) ∙ h)
+    by_head (inr e) = on_apart s t q e.0 d (ap (begins_with (chain_end (s ∷ q))) (sym e.1) ∙ h)
 
-level_rest : (s t : Step) (q p : List Step) → begins_with (level (s ∷ q)) (level (t ∷ p)) ≡ true → begins_with (level q) (level p) ≡ true
-level_rest s t q p h = by_level (level q) (level p) t.repetition h
+level_rest : (s t : Step) (q p : List Step) → begins_with (chain_end (s ∷ q)) (chain_end (t ∷ p)) ≡ true → begins_with (chain_end q) (chain_end p) ≡ true
+level_rest s t q p h = by_level (chain_end q) (chain_end p) t.repetition h
   where
     by_level : (L M : List Step) (r : Repetition) → begins_with (up_to s L) (up_to (record { place = t.place; repetition = r }) M) ≡ true → begins_with L M ≡ true
     by_level [] M r h = refl
@@ -190,27 +190,27 @@ other_first k i U V NR FR a b c d = ap (comes_first k i) (append_assoc U NR (V +
 
 module _ (k i : ℕ) where
   abbrev ShapeTogether : Shape → List Step → List Step → Type 0
-  ShapeTogether h q p = (G : List Pick) → ShapeApart h G → Only k q G → Only i p G → is_shape_path h q ≡ true → is_shape_path h p ≡ true → begins_with (level q) (level p) ≡ true
+  ShapeTogether h q p = (G : List Pick) → ShapeApart h G → Only k q G → Only i p G → is_shape_path h q ≡ true → is_shape_path h p ≡ true → begins_with (chain_end q) (chain_end p) ≡ true
       → comes_first k i (shape_near_order h G ++ shape_far_order h G) ≡ true → Together (k ≡ i) (Unit {0}) q p
 
   abbrev FieldsTogether : Fields → Repetition → Repetition → List Step → List Step → Type 0
   FieldsTogether fs c e q p = (a : ℕ) (G : List Pick) → Apart fs G → Only k (step a c ∷ q) G → Only i (step a e ∷ p) G → is_leaf_path fs (step a c ∷ q) ≡ true → is_leaf_path fs (step a e ∷ p) ≡ true
-      → begins_with (level q) (level p) ≡ true → comes_first k i (near_order fs G ++ far_order fs G) ≡ true → Together (k ≡ i) (Unit {0}) q p
+      → begins_with (chain_end q) (chain_end p) ≡ true → comes_first k i (near_order fs G ++ far_order fs G) ≡ true → Together (k ≡ i) (Unit {0}) q p
 
   through_together : (m : List ℕ) (r : Repetition) (h : Shape) (fs : Fields) (c e : Repetition) (q p : List Step) → ShapeTogether h q p → FieldsTogether fs c e q p → FieldsTogether (field m r h fs) c e q p
   through_together m r h fs c e q p f g zero G d ok oi uk ui l w =
-      f (behind G) d.0 (only_behind k c q G ok) (only_behind i e p G oi) (and_parts _ _ uk).1 (and_parts _ _ ui).1 l
-      (sym (field_first k i r (shape_near_order h (behind G)) (shape_far_order h (behind G)) (near_order fs (beside G)) (far_order fs (beside G))
-      (near_none k fs (beside G) (beside_first k c q G ok)) (near_none i fs (beside G) (beside_first i e p G oi)) (far_none k fs (beside G) (beside_first k c q G ok)) (far_none i fs (beside G) (beside_first i e p G oi))) ∙ w)
+      f (first_picks G) d.0 (only_behind k c q G ok) (only_behind i e p G oi) (and_parts _ _ uk).1 (and_parts _ _ ui).1 l
+      (sym (field_first k i r (shape_near_order h (first_picks G)) (shape_far_order h (first_picks G)) (near_order fs (later_picks G)) (far_order fs (later_picks G))
+      (near_none k fs (later_picks G) (beside_first k c q G ok)) (near_none i fs (later_picks G) (beside_first i e p G oi)) (far_none k fs (later_picks G) (beside_first k c q G ok)) (far_none i fs (later_picks G) (beside_first i e p G oi))) ∙ w)
   through_together m r h fs c e q p f g (suc a) G d ok oi uk ui l w =
-      let N = shape_near_order h (behind G) in
-      let wk : Without k (behind G) = behind_later k a c q G ok in
-      let wi : Without i (behind G) = behind_later i a e p G oi in
-      g a (beside G) d.1 (only_beside k a c q G ok) (only_beside i a e p G oi) uk ui l
-      (sym (other_first k i (unless_repeated r (shape_near_order h (behind G))) (where_repeated r (shape_near_order h (behind G)) ++ shape_far_order h (behind G)) (near_order fs (beside G)) (far_order fs (beside G))
-      (unless_none k r N (shape_near_none k h (behind G) wk)) (unless_none i r N (shape_near_none i h (behind G) wi))
-      (none_append k (where_repeated r N) (shape_far_order h (behind G)) (where_none k r N (shape_near_none k h (behind G) wk)) (shape_far_none k h (behind G) wk))
-      (none_append i (where_repeated r N) (shape_far_order h (behind G)) (where_none i r N (shape_near_none i h (behind G) wi)) (shape_far_none i h (behind G) wi))) ∙ w)
+      let N = shape_near_order h (first_picks G) in
+      let wk : Without k (first_picks G) = behind_later k a c q G ok in
+      let wi : Without i (first_picks G) = behind_later i a e p G oi in
+      g a (later_picks G) d.1 (only_beside k a c q G ok) (only_beside i a e p G oi) uk ui l
+      (sym (other_first k i (unless_repeated r (shape_near_order h (first_picks G))) (where_repeated r (shape_near_order h (first_picks G)) ++ shape_far_order h (first_picks G)) (near_order fs (later_picks G)) (far_order fs (later_picks G))
+      (unless_none k r N (shape_near_none k h (first_picks G) wk)) (unless_none i r N (shape_near_none i h (first_picks G) wi))
+      (none_append k (where_repeated r N) (shape_far_order h (first_picks G)) (where_none k r N (shape_near_none k h (first_picks G) wk)) (shape_far_none k h (first_picks G) wk))
+      (none_append i (where_repeated r N) (shape_far_order h (first_picks G)) (where_none i r N (shape_near_none i h (first_picks G) wi)) (shape_far_none i h (first_picks G) wi))) ∙ w)
 
   compared : (a b : ℕ) → (a < b) ⊎ (b ≤ a)
   compared zero zero = inr (omega arith)
@@ -278,18 +278,18 @@ far_through : (k : ℕ) (m : List ℕ) (r : Repetition) (s : Shape) (fs : Fields
     → (j : ℕ) (G : List Pick) → Only k (step j c ∷ q) G → is_leaf_path (field m r s fs) (step j c ∷ q) ≡ true → HasNone k (near_order (field m r s fs) G)
 far_through k m r s fs c q z f g zero G o u =
     let a : (same_repetition c r ≡ true) × (is_shape_path s q ≡ true) = and_parts _ _ u in
-    none_append k (unless_repeated r (shape_near_order s (behind G))) (near_order fs (beside G))
-    (by_repetition r (subst (λ (x : Repetition). 0 < repetition_count x + max_repetition q) (same_repetition-true c r a.0) z) (f (behind G) (only_behind k c q G o) a.1))
-    (near_none k fs (beside G) (beside_first k c q G o))
+    none_append k (unless_repeated r (shape_near_order s (first_picks G))) (near_order fs (later_picks G))
+    (by_repetition r (subst (λ (x : Repetition). 0 < repetition_count x + max_repetition q) (same_repetition-true c r a.0) z) (f (first_picks G) (only_behind k c q G o) a.1))
+    (near_none k fs (later_picks G) (beside_first k c q G o))
   where
-    by_repetition : (r : Repetition) → 0 < repetition_count r + max_repetition q → (0 < max_repetition q → HasNone k (shape_near_order s (behind G))) → HasNone k (unless_repeated r (shape_near_order s (behind G)))
+    by_repetition : (r : Repetition) → 0 < repetition_count r + max_repetition q → (0 < max_repetition q → HasNone k (shape_near_order s (first_picks G))) → HasNone k (unless_repeated r (shape_near_order s (first_picks G)))
     by_repetition required z f = f (omega (arith, z))
     by_repetition optional z f = f (omega (arith, z))
     by_repetition repeated z f = tt
 far_through k m r s fs c q z f g (suc j) G o u =
-    none_append k (unless_repeated r (shape_near_order s (behind G))) (near_order fs (beside G))
-    (unless_none k r (shape_near_order s (behind G)) (shape_near_none k s (behind G) (behind_later k j c q G o)))
-    (g j (beside G) (only_beside k j c q G o) u)
+    none_append k (unless_repeated r (shape_near_order s (first_picks G))) (near_order fs (later_picks G))
+    (unless_none k r (shape_near_order s (first_picks G)) (shape_near_none k s (first_picks G) (behind_later k j c q G o)))
+    (g j (later_picks G) (only_beside k j c q G o) u)
 
 mutual
   far_not_near : (k : ℕ) (fs : Fields) (c : Repetition) (q : List Step) → 0 < max_repetition (step 0 c ∷ q) → (j : ℕ) (G : List Pick) → Only k (step j c ∷ q) G → is_leaf_path fs (step j c ∷ q) ≡ true → HasNone k (near_order fs G)
@@ -304,44 +304,44 @@ mutual
 
 module _ (k i : ℕ) where
   abbrev ShapeLonger : Shape → List Step → List Step → Type 0
-  ShapeLonger h q p = (G : List Pick) → Only k q G → Only i p G → is_shape_path h q ≡ true → is_shape_path h p ≡ true → begins_with (level p) (level q) ≡ true
-      → comes_first k i (shape_near_order h G ++ shape_far_order h G) ≡ true → begins_with (level q) (level p) ≡ true
+  ShapeLonger h q p = (G : List Pick) → Only k q G → Only i p G → is_shape_path h q ≡ true → is_shape_path h p ≡ true → begins_with (chain_end p) (chain_end q) ≡ true
+      → comes_first k i (shape_near_order h G ++ shape_far_order h G) ≡ true → begins_with (chain_end q) (chain_end p) ≡ true
 
   abbrev FieldsLonger : Fields → Repetition → Repetition → List Step → List Step → Type 0
   FieldsLonger fs c e q p = (a : ℕ) (G : List Pick) → Only k (step a c ∷ q) G → Only i (step a e ∷ p) G → is_leaf_path fs (step a c ∷ q) ≡ true → is_leaf_path fs (step a e ∷ p) ≡ true
-      → begins_with (level p) (level q) ≡ true → comes_first k i (near_order fs G ++ far_order fs G) ≡ true → (c ≡ e) × (begins_with (level q) (level p) ≡ true)
+      → begins_with (chain_end p) (chain_end q) ≡ true → comes_first k i (near_order fs G ++ far_order fs G) ≡ true → (c ≡ e) × (begins_with (chain_end q) (chain_end p) ≡ true)
 
   through_longer : (m : List ℕ) (r : Repetition) (h : Shape) (fs : Fields) (c e : Repetition) (q p : List Step) → ShapeLonger h q p → FieldsLonger fs c e q p → FieldsLonger (field m r h fs) c e q p
   through_longer m r h fs c e q p f g zero G ok oi uk ui l w =
       let x : (same_repetition c r ≡ true) × (is_shape_path h q ≡ true) = and_parts _ _ uk in
       let y : (same_repetition e r ≡ true) × (is_shape_path h p ≡ true) = and_parts _ _ ui in (
         same_repetition-true c r x.0 ∙ sym (same_repetition-true e r y.0),
-        f (behind G) (only_behind k c q G ok) (only_behind i e p G oi) x.1 y.1 l
-            (sym (field_first k i r (shape_near_order h (behind G)) (shape_far_order h (behind G)) (near_order fs (beside G)) (far_order fs (beside G))
-            (near_none k fs (beside G) (beside_first k c q G ok)) (near_none i fs (beside G) (beside_first i e p G oi)) (far_none k fs (beside G) (beside_first k c q G ok)) (far_none i fs (beside G) (beside_first i e p G oi))) ∙ w),
+        f (first_picks G) (only_behind k c q G ok) (only_behind i e p G oi) x.1 y.1 l
+            (sym (field_first k i r (shape_near_order h (first_picks G)) (shape_far_order h (first_picks G)) (near_order fs (later_picks G)) (far_order fs (later_picks G))
+            (near_none k fs (later_picks G) (beside_first k c q G ok)) (near_none i fs (later_picks G) (beside_first i e p G oi)) (far_none k fs (later_picks G) (beside_first k c q G ok)) (far_none i fs (later_picks G) (beside_first i e p G oi))) ∙ w),
       )
   through_longer m r h fs c e q p f g (suc a) G ok oi uk ui l w =
-      let N = shape_near_order h (behind G) in
-      let wk : Without k (behind G) = behind_later k a c q G ok in
-      let wi : Without i (behind G) = behind_later i a e p G oi in
-      g a (beside G) (only_beside k a c q G ok) (only_beside i a e p G oi) uk ui l
-      (sym (other_first k i (unless_repeated r (shape_near_order h (behind G))) (where_repeated r (shape_near_order h (behind G)) ++ shape_far_order h (behind G)) (near_order fs (beside G)) (far_order fs (beside G))
-      (unless_none k r N (shape_near_none k h (behind G) wk)) (unless_none i r N (shape_near_none i h (behind G) wi))
-      (none_append k (where_repeated r N) (shape_far_order h (behind G)) (where_none k r N (shape_near_none k h (behind G) wk)) (shape_far_none k h (behind G) wk))
-      (none_append i (where_repeated r N) (shape_far_order h (behind G)) (where_none i r N (shape_near_none i h (behind G) wi)) (shape_far_none i h (behind G) wi))) ∙ w)
+      let N = shape_near_order h (first_picks G) in
+      let wk : Without k (first_picks G) = behind_later k a c q G ok in
+      let wi : Without i (first_picks G) = behind_later i a e p G oi in
+      g a (later_picks G) (only_beside k a c q G ok) (only_beside i a e p G oi) uk ui l
+      (sym (other_first k i (unless_repeated r (shape_near_order h (first_picks G))) (where_repeated r (shape_near_order h (first_picks G)) ++ shape_far_order h (first_picks G)) (near_order fs (later_picks G)) (far_order fs (later_picks G))
+      (unless_none k r N (shape_near_none k h (first_picks G) wk)) (unless_none i r N (shape_near_none i h (first_picks G) wi))
+      (none_append k (where_repeated r N) (shape_far_order h (first_picks G)) (where_none k r N (shape_near_none k h (first_picks G) wk)) (shape_far_none k h (first_picks G) wk))
+      (none_append i (where_repeated r N) (shape_far_order h (first_picks G)) (where_none i r N (shape_near_none i h (first_picks G) wi)) (shape_far_none i h (first_picks G) wi))) ∙ w)
 
   group_longer : (fs : Fields) (s t : Step) (q p : List Step) → FieldsLonger fs s.repetition t.repetition q p → ShapeLonger (group fs) (s ∷ q) (t ∷ p)
   group_longer fs s t q p f G ok oi uk ui l w = by_place (s.place == t.place) refl
     where
-      by_count : (t.place == s.place) ≡ false → (a : ℕ) → max_repetition (s ∷ q) ≡ a → begins_with (level (s ∷ q)) (level (t ∷ p)) ≡ true
-      by_count d zero z = ap (λ (L : List Step). begins_with L (level (t ∷ p))) (no_level (s ∷ q) z)
+      by_count : (t.place == s.place) ≡ false → (a : ℕ) → max_repetition (s ∷ q) ≡ a → begins_with (chain_end (s ∷ q)) (chain_end (t ∷ p)) ≡ true
+      by_count d zero z = ap (λ (L : List Step). begins_with L (chain_end (t ∷ p))) (no_level (s ∷ q) z)
       by_count d (suc a) z = absurd (true≢false (sym w ∙ second_first k i (near_order fs G) (far_order fs G) (far_not_near k fs s.repetition q (omega (arith, z)) s.place G ok uk) (near_some i fs t.repetition p (apart_level t s p q d l) t.place G oi ui)))
 
-      by_place : (b : Bool) → (s.place == t.place) ≡ b → begins_with (level (s ∷ q)) (level (t ∷ p)) ≡ true
+      by_place : (b : Bool) → (s.place == t.place) ≡ b → begins_with (chain_end (s ∷ q)) (chain_end (t ∷ p)) ≡ true
       by_place true x =
           let e : s.place ≡ t.place = eqb-true s.place t.place x in
-          let y : (s.repetition ≡ t.repetition) × (begins_with (level q) (level p) ≡ true) = f s.place G ok (subst (λ (j : ℕ). Only i (step j t.repetition ∷ p) G) (sym e) oi) uk (subst (λ (j : ℕ). is_leaf_path fs (step j t.repetition ∷ p) ≡ true) (sym e) ui) (level_rest t s p q l) w in
-          ap₂ (λ (j : ℕ) (r : Repetition). begins_with (level (s ∷ q)) (level (step j r ∷ p))) (sym e) (sym y.0) ∙ along_level s.place s.repetition (level q) (level p) y.1
+          let y : (s.repetition ≡ t.repetition) × (begins_with (chain_end q) (chain_end p) ≡ true) = f s.place G ok (subst (λ (j : ℕ). Only i (step j t.repetition ∷ p) G) (sym e) oi) uk (subst (λ (j : ℕ). is_leaf_path fs (step j t.repetition ∷ p) ≡ true) (sym e) ui) (level_rest t s p q l) w in
+          ap₂ (λ (j : ℕ) (r : Repetition). begins_with (chain_end (s ∷ q)) (chain_end (step j r ∷ p))) (sym e) (sym y.0) ∙ along_level s.place s.repetition (chain_end q) (chain_end p) y.1
       by_place false x = by_count (ne_eqb t.place s.place (λ e. true≢false (sym (eq-eqb s.place t.place (sym e)) ∙ x))) (max_repetition (s ∷ q)) refl
 
   mutual
@@ -361,9 +361,9 @@ module _ (k i : ℕ) where
 pub later_reads_both : LaterReadsBoth
 later_reads_both fs F i k p q h d ei ek l w = (longer, shape_together k i (group fs) q p (picks F) (leaves_apart fs F h d) (selected_only F k q ek) (selected_only F i p ei) (leaf_selected fs F k q h ek) (leaf_selected fs F i p h ei) longer w)
   where
-    by_level : (b : Bool) → (b || begins_with (level p) (level q)) ≡ true → begins_with (level q) (level p) ≡ b → begins_with (level q) (level p) ≡ true
+    by_level : (b : Bool) → (b || begins_with (chain_end p) (chain_end q)) ≡ true → begins_with (chain_end q) (chain_end p) ≡ b → begins_with (chain_end q) (chain_end p) ≡ true
     by_level true l e = e
     by_level false l e = shape_longer k i (group fs) q p (picks F) (selected_only F k q ek) (selected_only F i p ei) (leaf_selected fs F k q h ek) (leaf_selected fs F i p h ei) l w
 
-    longer : begins_with (level q) (level p) ≡ true
-    longer = by_level (begins_with (level q) (level p)) l refl
+    longer : begins_with (chain_end q) (chain_end p) ≡ true
+    longer = by_level (begins_with (chain_end q) (chain_end p)) l refl

@@ -3,12 +3,12 @@ use Rattle.std.proofs.Common.{◌≡◌, List, [], ◌∷◌, Bool, true, false,
 use Rattle.std.specs.Prelude.{map, ◌==◌, if◌then◌else◌, filter}
 use Rattle.std.proofs.lemmas.Bool.{and_parts, eq-eqb, eqb-true}
 use Rattle.dr_meaning.specs.Schema.{Fields}
-use Rattle.dr_meaning.specs.Path.{Step, is_leaf_path, level, begins_with, same_path}
+use Rattle.dr_meaning.specs.Path.{Step, is_leaf_path, chain_end, begins_with, same_path}
 use Rattle.dr_meaning.specs.Record.{Value, Node, is_record}
 use Rattle.dr_meaning.specs.Rows.{rows, value_at, is_present}
 use Rattle.dr_meaning.specs.Kept.{kept_along}
-use Rattle.dr_meaning.specs.Expression.{Expression, evaluate, expression_level}
-use Rattle.dr_meaning.specs.Query.{Aggregate, RecordTerm, expression, within, RecordItem, Object, cell, objects_of, aggregated, present_values, over_rows, Levels, no_levels, deeper, term_level, term_value, with_cells, leads_to_items, with_list, instances_of, object_lists}
+use Rattle.dr_meaning.specs.Expression.{Expression, evaluate, expression_chain}
+use Rattle.dr_meaning.specs.Query.{Aggregate, RecordTerm, expression, within, RecordItem, Object, cell, objects_of, aggregated, present_values, over_rows, Levels, no_levels, deeper, term_chain, term_value, with_cells, leads_to_items, with_list, instances_of, object_lists}
 use Rattle.dr_kept_laws.specs.RowsOfKept.{kept_rows, rows_left}
 use Rattle.dr_kept_laws.specs.RowsOfKeptLaws.{IsOfChain}
 use Rattle.dr_kept_laws.specs.ObjectsOfKept.{kept_instances, kept_value, kept_cells, kept_lists}
@@ -46,11 +46,11 @@ two_filtered R f g h (x ∷ xs) (y ∷ ys) t = subst (λ (b : Bool). TwoOf R (if
 
 abbrev IsRowOf : Fields → List Step → (Node → Bool) → List Step → Node → Node → Type 0
 IsRowOf fs c test p a b = (kept_along c test b ≡ Some a) × (is_record fs b ≡ true) × (is_present p a ≡ is_present p b)
-    × ((q : List Step) → is_leaf_path fs q ≡ true → begins_with (level q) p ≡ true → value_at q a ≡ value_at q b)
+    × ((q : List Step) → is_leaf_path fs q ≡ true → begins_with (chain_end q) p ≡ true → value_at q a ≡ value_at q b)
 
 two_rows : (fs : Fields) (c : List Step) (test : Node → Bool) (p : List Step) (rs ks : List Node) → map (kept_along c test) ks ≡ map (λ (r : Node). Some r) rs → AllOf (λ (r : Node). is_record fs r ≡ true) ks
     → map (is_present p) rs ≡ map (is_present p) ks
-    → ((q : List Step) → is_leaf_path fs q ≡ true → begins_with (level q) p ≡ true → map (value_at q) rs ≡ map (value_at q) ks) → TwoOf (IsRowOf fs c test p) rs ks
+    → ((q : List Step) → is_leaf_path fs q ≡ true → begins_with (chain_end q) p ≡ true → map (value_at q) rs ≡ map (value_at q) ks) → TwoOf (IsRowOf fs c test p) rs ks
 two_rows fs c test p [] [] e z s v = tt
 two_rows fs c test p [] (k ∷ ks) e z s v = absurd (cc)
 two_rows fs c test p (r ∷ rs) [] e z s v = absurd (cc)
@@ -82,10 +82,10 @@ module _ (fs : Fields) (c : List Step) (test : Node → Bool) (local : IsOfChain
   instances_within p a b e z = two_filtered (IsRowOf fs c test p) (is_present p) (is_present p) (λ x y r. r.2) (rows p a) (kept_rows p c test b) (rows_within p a b e z)
 
   -- an aggregate over rows within
-  same_over_rows : (g : Aggregate) (e : Expression) → IsOfChain fs (expression_level e) (evaluate e) → (a b : Node) → kept_along c test b ≡ Some a → is_record fs b ≡ true
-      → over_rows g e (rows (expression_level e) a) ≡ over_rows g e (kept_rows (expression_level e) c test b)
+  same_over_rows : (g : Aggregate) (e : Expression) → IsOfChain fs (expression_chain e) (evaluate e) → (a b : Node) → kept_along c test b ≡ Some a → is_record fs b ≡ true
+      → over_rows g e (rows (expression_chain e) a) ≡ over_rows g e (kept_rows (expression_chain e) c test b)
   same_over_rows g e h a b k z = ap (λ (vs : List (Option Value)). aggregated g (present_values vs))
-      (two_mapped (IsRowOf fs c test (expression_level e)) (evaluate e) (evaluate e) (λ x y r. h x y r.3) (rows (expression_level e) a) (kept_rows (expression_level e) c test b) (rows_within (expression_level e) a b k z))
+      (two_mapped (IsRowOf fs c test (expression_chain e)) (evaluate e) (evaluate e) (λ x y r. h x y r.3) (rows (expression_chain e) a) (kept_rows (expression_chain e) c test b) (rows_within (expression_chain e) a b k z))
 
   -- ---- paths that go through the same places
 
@@ -100,16 +100,16 @@ module _ (fs : Fields) (c : List Step) (test : Node → Bool) (local : IsOfChain
 
   -- ---- cells
 
-  same_value : (t : RecordTerm) (p : List Step) (a b : Node) → same_path p (term_level t) ≡ true → IsOfChain fs (expression_level (term_expression t)) (evaluate (term_expression t)) → IsRowOf fs c test p a b
+  same_value : (t : RecordTerm) (p : List Step) (a b : Node) → same_path p (term_chain t) ≡ true → IsOfChain fs (expression_chain (term_expression t)) (evaluate (term_expression t)) → IsRowOf fs c test p a b
       → term_value t a ≡ kept_value c test t b
-  same_value (expression e) p a b s h r = h a b (λ q u l. r.3 q u (begins_more (level q) (expression_level e) p l (and_parts (begins_with p (expression_level e)) (begins_with (expression_level e) p) s).1))
+  same_value (expression e) p a b s h r = h a b (λ q u l. r.3 q u (begins_more (chain_end q) (expression_chain e) p l (and_parts (begins_with p (expression_chain e)) (begins_with (expression_chain e) p) s).1))
   same_value (within g e node) p a b s h r = same_over_rows g e h a b r.0 r.1
 
   same_cells : (items : List RecordItem) → AreOfChains fs items → (p : List Step) (a b : Node) → IsRowOf fs c test p a b → (x y : Object) → x ≡ y → with_cells items p a x ≡ kept_cells c test items p b y
   same_cells [] h p a b r x y e = e
-  same_cells (i ∷ is) h p a b r x y e = by_level (same_path p (term_level i.term)) refl (same_cells is h.1 p a b r x y e)
+  same_cells (i ∷ is) h p a b r x y e = by_level (same_path p (term_chain i.term)) refl (same_cells is h.1 p a b r x y e)
     where
-      by_level : (d : Bool) → same_path p (term_level i.term) ≡ d → with_cells is p a x ≡ kept_cells c test is p b y
+      by_level : (d : Bool) → same_path p (term_chain i.term) ≡ d → with_cells is p a x ≡ kept_cells c test is p b y
           → (if d then cell i.name (term_value i.term a) (with_cells is p a x) else with_cells is p a x) ≡ (if d then cell i.name (kept_value c test i.term b) (kept_cells c test is p b y) else kept_cells c test is p b y)
       by_level true d f = ap₂ (λ (v : Option Value) (o : Object). cell i.name v o) (same_value i.term p a b d h.0 r) f
       by_level false d f = f

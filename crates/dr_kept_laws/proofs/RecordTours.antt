@@ -6,7 +6,7 @@ use Rattle.dr_meaning.specs.Schema.{Repetition, required, optional, repeated, Fi
 use Rattle.dr_meaning.specs.Path.{Step}
 use Rattle.dr_meaning.specs.Record.{Node, Instances, no_instances, instance, Instance}
 use Rattle.dr_meaning.specs.Column.{Triplet, triplet}
-use Rattle.dr_meaning.specs.Automaton.{Pick, picks, behind, beside, indexes}
+use Rattle.dr_meaning.specs.Automaton.{Pick, picks, first_picks, later_picks, indexes}
 use Rattle.dr_meaning.specs.Walk.{Move, enter, value, leave, Depth, inside, begun_later, first_of, first_slot, other_slots, node_of, value_there, triplet_moves, unless_repeated, enclosed, later_moves, repeated_moves, by_repetition, where_selected, moves_in, near_moves, far_moves, shape_near_moves, shape_far_moves, top, record_moves}
 use Rattle.dr_meaning.proofs.WalkLemmas.{near_in, far_in}
 use Rattle.dr_pruning_laws.specs.Tours.{joined}
@@ -76,9 +76,9 @@ mutual
   near_no_record no_fields G at n = tt
   near_no_record (field m r s fs) G at n =
       let x = first_of (first_slot n) in
-      both_no_record (near_in r s (behind G) at n) (near_moves fs (beside G) at (other_slots n))
-      (unless_no_record r (shape_near_moves s (behind G) (inside r at (first_of (first_slot n))) (first_of (first_slot n))) (shape_near_no_record s (behind G) (inside r at (first_of (first_slot n))) (first_of (first_slot n))))
-      (near_no_record fs (beside G) at (other_slots n))
+      both_no_record (near_in r s (first_picks G) at n) (near_moves fs (later_picks G) at (other_slots n))
+      (unless_no_record r (shape_near_moves s (first_picks G) (inside r at (first_of (first_slot n))) (first_of (first_slot n))) (shape_near_no_record s (first_picks G) (inside r at (first_of (first_slot n))) (first_of (first_slot n))))
+      (near_no_record fs (later_picks G) at (other_slots n))
 
   shape_near_no_record : (s : Shape) (G : List Pick) (at : Depth) (x : Option Instance) → NoRecord (shape_near_moves s G at x)
   shape_near_no_record (leaf k) G at x = values_no_record (indexes G) (triplet at.repetition at.definition (value_there x))
@@ -88,16 +88,16 @@ mutual
   far_no_record : (fs : Fields) (G : List Pick) (k : ℕ) (at : Depth) (n : Node) → 0 < k → NoRecord (far_moves fs G k at n)
   far_no_record no_fields G k at n h = tt
   far_no_record (field m r s fs) G k at n h =
-      both_no_record (far_in r s (behind G) k at n) (far_moves fs (beside G) (k + (repetition_count r + shape_repeated_fields s)) at (other_slots n))
-      (where_no_record (behind G) _ (by_no_record r
-      (repeated_moves k (λ x. moves_in (shape_near_moves s (behind G)) (shape_far_moves s (behind G) (suc k)) (inside r at x) x) (λ x. moves_in (shape_near_moves s (behind G)) (shape_far_moves s (behind G) (suc k)) (inside r (begun_later at) x) x))
-      (λ x. shape_far_moves s (behind G) k (inside r at x) x)
-      (repeated_no_record k (λ x. moves_in (shape_near_moves s (behind G)) (shape_far_moves s (behind G) (suc k)) (inside r at x) x) (λ x. moves_in (shape_near_moves s (behind G)) (shape_far_moves s (behind G) (suc k)) (inside r (begun_later at) x) x) h
-      (λ x. both_no_record (shape_near_moves s (behind G) (inside r at x) x) (shape_far_moves s (behind G) (suc k) (inside r at x) x) (shape_near_no_record s (behind G) (inside r at x) x) (shape_far_no_record s (behind G) (suc k) (inside r at x) x (omega arith)))
-      (λ x. both_no_record (shape_near_moves s (behind G) (inside r (begun_later at) x) x) (shape_far_moves s (behind G) (suc k) (inside r (begun_later at) x) x) (shape_near_no_record s (behind G) (inside r (begun_later at) x) x) (shape_far_no_record s (behind G) (suc k) (inside r (begun_later at) x) x (omega arith))))
-      (λ x. shape_far_no_record s (behind G) k (inside r at x) x h)
+      both_no_record (far_in r s (first_picks G) k at n) (far_moves fs (later_picks G) (k + (repetition_count r + shape_repeated_fields s)) at (other_slots n))
+      (where_no_record (first_picks G) _ (by_no_record r
+      (repeated_moves k (λ x. moves_in (shape_near_moves s (first_picks G)) (shape_far_moves s (first_picks G) (suc k)) (inside r at x) x) (λ x. moves_in (shape_near_moves s (first_picks G)) (shape_far_moves s (first_picks G) (suc k)) (inside r (begun_later at) x) x))
+      (λ x. shape_far_moves s (first_picks G) k (inside r at x) x)
+      (repeated_no_record k (λ x. moves_in (shape_near_moves s (first_picks G)) (shape_far_moves s (first_picks G) (suc k)) (inside r at x) x) (λ x. moves_in (shape_near_moves s (first_picks G)) (shape_far_moves s (first_picks G) (suc k)) (inside r (begun_later at) x) x) h
+      (λ x. both_no_record (shape_near_moves s (first_picks G) (inside r at x) x) (shape_far_moves s (first_picks G) (suc k) (inside r at x) x) (shape_near_no_record s (first_picks G) (inside r at x) x) (shape_far_no_record s (first_picks G) (suc k) (inside r at x) x (omega arith)))
+      (λ x. both_no_record (shape_near_moves s (first_picks G) (inside r (begun_later at) x) x) (shape_far_moves s (first_picks G) (suc k) (inside r (begun_later at) x) x) (shape_near_no_record s (first_picks G) (inside r (begun_later at) x) x) (shape_far_no_record s (first_picks G) (suc k) (inside r (begun_later at) x) x (omega arith))))
+      (λ x. shape_far_no_record s (first_picks G) k (inside r at x) x h)
       (first_slot n)))
-      (far_no_record fs (beside G) (k + (repetition_count r + shape_repeated_fields s)) at (other_slots n) (omega (arith, h)))
+      (far_no_record fs (later_picks G) (k + (repetition_count r + shape_repeated_fields s)) at (other_slots n) (omega (arith, h)))
 
   shape_far_no_record : (s : Shape) (G : List Pick) (k : ℕ) (at : Depth) (x : Option Instance) → 0 < k → NoRecord (shape_far_moves s G k at x)
   shape_far_no_record (leaf j) G k at x h = tt

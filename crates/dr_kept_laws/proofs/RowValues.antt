@@ -7,7 +7,7 @@ use Rattle.std.proofs.lemmas.List.{map-append, length-map}
 use Rattle.std.proofs.lemmas.Bool.{eq-eqb}
 use Rattle.dr_meaning.proofs.ProjectionLemmas.{step}
 use Rattle.dr_meaning.specs.Schema.{Repetition, required, optional, repeated, Shape, repetition_count, is_repeated}
-use Rattle.dr_meaning.specs.Path.{Step, level, up_to, begins_with, max_repetition, is_shape_path}
+use Rattle.dr_meaning.specs.Path.{Step, chain_end, up_to, begins_with, max_repetition, is_shape_path}
 use Rattle.dr_meaning.specs.Record.{Node, Instances, no_instances, instance, Instance, inner, single, is_instance, instances_at, put_at}
 use Rattle.dr_meaning.specs.Rows.{instance_rows, each_instance_rows, field_rows, rows, value_in}
 use Rattle.dr_meaning.specs.Column.{Triplet}
@@ -61,19 +61,19 @@ module _ (Y : Type 0) (g : Node → Y) where
 
   -- a leaf has as many triplets in an instance as that has rows of its level
   pub value_count : (i : ℕ) (h : Shape) (p : List Step) (G : List Pick) → Only i p G → is_shape_path h p ≡ true → (j : ℕ) (at : Depth) (x : Instance) → is_instance h x ≡ true → (row : Instances → Node)
-      → length (triplets_of i (moves_in (shape_near_moves h G) (shape_far_moves h G j) at (Some x))) ≡ length (instance_values (level p) row g x)
+      → length (triplets_of i (moves_in (shape_near_moves h G) (shape_far_moves h G j) at (Some x))) ≡ length (instance_values (chain_end p) row g x)
   value_count i h p G o u j at x z row =
       let ms : List Move = moves_in (shape_near_moves h G) (shape_far_moves h G j) at (Some x) in
-      let r : reads i i None ms ≡ map (value_in p) (irows (level p) x) = shape_reads (Unit {0}) ⊥ i i (λ e. refl) (λ e. absurd e) h p p G o o u u (own_together p) j at (Some x) None z in
-      sym (length-map (triplets_of i ms) (λ (t : Triplet). t.value)) ∙ ap length (sym (own_read i None ms) ∙ r) ∙ length-map (irows (level p) x) (value_in p)
-      ∙ sym (length-map (irows (level p) x) (λ (y : Instance). g (row (single y))))
+      let r : reads i i None ms ≡ map (value_in p) (irows (chain_end p) x) = shape_reads (Unit {0}) ⊥ i i (λ e. refl) (λ e. absurd e) h p p G o o u u (own_together p) j at (Some x) None z in
+      sym (length-map (triplets_of i ms) (λ (t : Triplet). t.value)) ∙ ap length (sym (own_read i None ms) ∙ r) ∙ length-map (irows (chain_end p) x) (value_in p)
+      ∙ sym (length-map (irows (chain_end p) x) (λ (y : Instance). g (row (single y))))
 
 -- ---- levels
 
 abbrev step_of : Step → Repetition → Step
 step_of s r = record { place = s.place; repetition = r }
 
-pub no_level : (p : List Step) → max_repetition p ≡ 0 → level p ≡ []
+pub no_level : (p : List Step) → max_repetition p ≡ 0 → chain_end p ≡ []
 no_level [] h = refl
 no_level (s ∷ p) h = ap (up_to s) (no_level p (omega (arith, h))) ∙ by_repetition s.repetition h
   where
@@ -82,10 +82,10 @@ no_level (s ∷ p) h = ap (up_to s) (no_level p (omega (arith, h))) ∙ by_repet
     by_repetition optional h = refl
     by_repetition repeated h = absurd (omega (arith, h))
 
-pub level_none : (p : List Step) → level p ≡ [] → max_repetition p ≡ 0
+pub level_none : (p : List Step) → chain_end p ≡ [] → max_repetition p ≡ 0
 level_none [] h = refl
 level_none (s ∷ p) h =
-    let k : (is_repeated s.repetition ≡ false) × (level p ≡ []) = none_repeated s p h in
+    let k : (is_repeated s.repetition ≡ false) × (chain_end p ≡ []) = none_repeated s p h in
     omega (arith, no_count s.repetition k.0, level_none p k.1)
   where
     no_count : (r : Repetition) → is_repeated r ≡ false → repetition_count r ≡ 0
@@ -94,10 +94,10 @@ level_none (s ∷ p) h =
     no_count repeated h = absurd (cc)
 
 -- with a repeated field it begins with the first step
-pub far_level : (s : Step) (p : List Step) (a : ℕ) → max_repetition (s ∷ p) ≡ suc a → level (s ∷ p) ≡ s ∷ level p
-far_level s p a h = by_level (level p) refl s.repetition h
+pub far_level : (s : Step) (p : List Step) (a : ℕ) → max_repetition (s ∷ p) ≡ suc a → chain_end (s ∷ p) ≡ s ∷ chain_end p
+far_level s p a h = by_level (chain_end p) refl s.repetition h
   where
-    by_level : (L : List Step) → level p ≡ L → (r : Repetition) → repetition_count r + max_repetition p ≡ suc a → up_to (step_of s r) L ≡ step_of s r ∷ L
+    by_level : (L : List Step) → chain_end p ≡ L → (r : Repetition) → repetition_count r + max_repetition p ≡ suc a → up_to (step_of s r) L ≡ step_of s r ∷ L
     by_level (u ∷ L) e r h = refl
     by_level [] e required h = absurd (omega (arith, h, level_none p e))
     by_level [] e optional h = absurd (omega (arith, h, level_none p e))

@@ -4,7 +4,7 @@ use Rattle.std.specs.Prelude.{map, filter, if◌then◌else◌, ◌||◌, ◌&&�
 use Rattle.std.proofs.lemmas.List.Elements.{filter-append}
 use Rattle.std.proofs.lemmas.Bool.{eq-eqb}
 use Rattle.dr_meaning.specs.Schema.{repeated}
-use Rattle.dr_meaning.specs.Path.{Step, level, up_to, begins_with}
+use Rattle.dr_meaning.specs.Path.{Step, chain_end, up_to, begins_with}
 use Rattle.dr_meaning.specs.Record.{Value, Node, Instances, no_instances, instance, Instance, atom, inner, single, instances_at, instances_in, put_at}
 use Rattle.dr_meaning.specs.Rows.{instance_rows, each_instance_rows, field_rows, rows, first_value, value_in, value_at, first_present, is_present_in, is_present}
 use Rattle.dr_meaning.specs.Kept.{kept_along}
@@ -64,7 +64,7 @@ abbrev as_repeated : List Step → List Step
 as_repeated [] = []
 as_repeated (s ∷ p) = record { place = s.place; repetition = repeated } ∷ as_repeated p
 
-repeated_level : (p : List Step) → level (as_repeated p) ≡ as_repeated p
+repeated_level : (p : List Step) → chain_end (as_repeated p) ≡ as_repeated p
 repeated_level [] = refl
 repeated_level (s ∷ p) = ap (up_to (record { place = s.place; repetition = repeated })) (repeated_level p) ∙ by_rest (as_repeated p)
   where

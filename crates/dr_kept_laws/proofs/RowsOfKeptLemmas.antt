@@ -5,7 +5,7 @@ use Rattle.std.proofs.lemmas.List.{map-append, length-map}
 use Rattle.std.proofs.lemmas.Simd.{map-map}
 use Rattle.std.proofs.lemmas.Bool.{eqb-true}
 use Rattle.dr_meaning.specs.Schema.{Repetition, is_repeated}
-use Rattle.dr_meaning.specs.Path.{Step, level, begins_with}
+use Rattle.dr_meaning.specs.Path.{Step, chain_end, begins_with}
 use Rattle.dr_meaning.specs.Record.{Value, Node, Instances, no_instances, instance, Instance, atom, inner, single, count_instances, instances_at, instances_in, put_at}
 use Rattle.dr_meaning.specs.Rows.{each_instance_rows, field_rows, rows}
 use Rattle.dr_meaning.specs.Kept.{with_kept, keep_each, if_some_kept, keep_below, keep_instance, kept_along}
@@ -133,7 +133,7 @@ module _ (A : Type 0) (absent : A) (of_value : Value → A) (of_group : A) where
       by_kept None k e = absurd (cc)
       by_kept (Some z) k e = ap (look_first (look q)) (sym e) ∙ instance_same c q f row test x z w.0 k
 
-  same_below : (c q : List Step) → level q ≡ [] → SameBelow c q
+  same_below : (c q : List Step) → chain_end q ≡ [] → SameBelow c q
   same_below [] q l test n m w e = ap (λ (x : Node). look q (inner x)) (sym (kept_same (test n) n m e).1)
   same_below (t ∷ c) [] l test n m w e = refl
   same_below (t ∷ c) (s ∷ q) l test n m w e = by_slot (instances_at t.place n) refl e (same_below c q (none_repeated s q l).1)
@@ -163,12 +163,12 @@ module _ (A : Type 0) (absent : A) (of_value : Value → A) (of_group : A) where
   -- ---- in the rows of a path
 
   abbrev SameRows : List Step → List Step → Type 0
-  SameRows p c = (q : List Step) (test : Node → Bool) (n m : Node) → begins_with (level q) p ≡ true → FewOn q (inner n) → kept_along c test n ≡ Some m
+  SameRows p c = (q : List Step) (test : Node → Bool) (n m : Node) → begins_with (chain_end q) p ≡ true → FewOn q (inner n) → kept_along c test n ≡ Some m
       → map (λ (r : Node). look q (inner r)) (rows p m) ≡ map (λ (r : Node). look q (inner r)) (kept_rows p c test n)
 
   -- instances of another field were put
-  apart_rows : (s t : Step) (p q : List Step) (ys : Instances) (n : Node) → (s.place == t.place) ≡ false → begins_with (level q) (s ∷ p) ≡ true
-      → (level q ≡ [] → look q (inner (put_at t.place ys n)) ≡ look q (inner n))
+  apart_rows : (s t : Step) (p q : List Step) (ys : Instances) (n : Node) → (s.place == t.place) ≡ false → begins_with (chain_end q) (s ∷ p) ≡ true
+      → (chain_end q ≡ [] → look q (inner (put_at t.place ys n)) ≡ look q (inner n))
       → map (λ (r : Node). look q (inner r)) (rows (s ∷ p) (put_at t.place ys n)) ≡ map (λ (r : Node). look q (inner r)) (rows (s ∷ p) n)
   apart_rows s t p q ys n d h g =
       ap (λ (xs : Instances). map (λ (r : Node). look q (inner r)) (map (λ (zs : Instances). put_at s.place zs (put_at t.place ys n)) (field_rows (rows p) xs))) (put_apart s.place t.place ys n (not_same s.place t.place d))
@@ -176,7 +176,7 @@ module _ (A : Type 0) (absent : A) (of_value : Value → A) (of_group : A) where
       ∙ map_same (λ (zs : Instances). look q (inner (put_at s.place zs (put_at t.place ys n)))) (λ (zs : Instances). look q (inner (put_at s.place zs n))) (λ zs. in_row zs q h g) (field_rows (rows p) (instances_at s.place n))
       ∙ sym (map-map (λ (r : Node). look q (inner r)) (λ (zs : Instances). put_at s.place zs n) (field_rows (rows p) (instances_at s.place n)))
     where
-      in_row : (zs : Instances) (q : List Step) → begins_with (level q) (s ∷ p) ≡ true → (level q ≡ [] → look q (inner (put_at t.place ys n)) ≡ look q (inner n))
+      in_row : (zs : Instances) (q : List Step) → begins_with (chain_end q) (s ∷ p) ≡ true → (chain_end q ≡ [] → look q (inner (put_at t.place ys n)) ≡ look q (inner n))
           → look q (inner (put_at s.place zs (put_at t.place ys n))) ≡ look q (inner (put_at s.place zs n))
       in_row zs [] h g = refl
       in_row zs (u ∷ q) h g = by_place (u.place == s.place) refl
@@ -194,7 +194,7 @@ module _ (A : Type 0) (absent : A) (of_value : Value → A) (of_group : A) where
               ∙ sym (ap (look_first (look q)) (put_apart u.place s.place zs n (not_same u.place s.place a)))
 
   -- the rows of each kept instance, at a path within it
-  first_rows : (p c : List Step) → SameRows p c → (q : List Step) → begins_with (level q) p ≡ true → (row : Instance → Node) (test : Node → Bool) (x : Instance) → FewOn q x → (zs : Instances)
+  first_rows : (p c : List Step) → SameRows p c → (q : List Step) → begins_with (chain_end q) p ≡ true → (row : Instance → Node) (test : Node → Bool) (x : Instance) → FewOn q x → (zs : Instances)
       → map (look_first (look q)) (each_instance_rows (rows p) (with_kept (keep_instance (kept_along c) row test x) zs))
       ≡ map (look_first (look q)) (kept_instance_rows (kept_rows p c) row test x) ++ map (look_first (look q)) (each_instance_rows (rows p) zs)
   first_rows p c f q h row test (atom v) w zs = by_test (test (row (atom v)))
@@ -215,7 +215,7 @@ module _ (A : Type 0) (absent : A) (of_value : Value → A) (of_group : A) where
           (map-map (look_first (look q)) (λ (r : Node). single (inner r)) (rows p m) ∙ f q (λ m. test (row (inner m))) n m h w e
           ∙ sym (map-map (look_first (look q)) (λ (r : Node). single (inner r)) (kept_rows p c (λ m. test (row (inner m))) n)))
 
-  each_rows : (p c : List Step) → SameRows p c → (q : List Step) → begins_with (level q) p ≡ true → (row : Instance → Node) (test : Node → Bool) (xs : Instances) → EachInstance (FewOn q) xs
+  each_rows : (p c : List Step) → SameRows p c → (q : List Step) → begins_with (chain_end q) p ≡ true → (row : Instance → Node) (test : Node → Bool) (xs : Instances) → EachInstance (FewOn q) xs
       → map (look_first (look q)) (each_instance_rows (rows p) (keep_each (keep_instance (kept_along c) row test) xs)) ≡ map (look_first (look q)) (each_kept_rows (kept_instance_rows (kept_rows p c) row test) xs)
   each_rows p c f q h row test no_instances w = refl
   each_rows p c f q h row test (instance x xs) w =
@@ -225,8 +225,8 @@ module _ (A : Type 0) (absent : A) (of_value : Value → A) (of_group : A) where
 
   -- what is known of the rows of a field's instances serves the rows of the node
   through_field : (s : Step) (p : List Step) (j : ℕ) (n : Node) (x : Instance) (xs : Instances) (us vs : List Instances) → s.place ≡ j → instances_at j n ≡ instance x xs
-      → ((q : List Step) → begins_with (level q) p ≡ true → EachInstance (FewOn q) (instance x xs) → map (look_first (look q)) us ≡ map (look_first (look q)) vs)
-      → (q : List Step) → begins_with (level q) (s ∷ p) ≡ true → FewOn q (inner n)
+      → ((q : List Step) → begins_with (chain_end q) p ≡ true → EachInstance (FewOn q) (instance x xs) → map (look_first (look q)) us ≡ map (look_first (look q)) vs)
+      → (q : List Step) → begins_with (chain_end q) (s ∷ p) ≡ true → FewOn q (inner n)
       → map (λ (r : Node). look q (inner r)) (map (λ (zs : Instances). put_at j zs n) us) ≡ map (λ (r : Node). look q (inner r)) (map (λ (zs : Instances). put_at j zs n) vs)
   through_field s p j n x xs us vs i h g q b w =
       map-map (λ (r : Node). look q (inner r)) (λ (zs : Instances). put_at j zs n) us ∙ by_path q b w ∙ sym (map-map (λ (r : Node). look q (inner r)) (λ (zs : Instances). put_at j zs n) vs)
@@ -238,7 +238,7 @@ module _ (A : Type 0) (absent : A) (of_value : Value → A) (of_group : A) where
           → map (λ (zs : Instances). look q (inner (put_at j zs n))) us ≡ map (λ (zs : Instances). look q (inner (put_at j zs n))) vs
       constant q v e = map_same (λ zs. look q (inner (put_at j zs n))) (λ zs. v) e us ∙ constant_maps v us vs as_many ∙ sym (map_same (λ zs. look q (inner (put_at j zs n))) (λ zs. v) e vs)
 
-      by_place : (u : Step) (q : List Step) → begins_with (level (u ∷ q)) (s ∷ p) ≡ true → FewOn (u ∷ q) (inner n) → (b : Bool) → (u.place == j) ≡ b
+      by_place : (u : Step) (q : List Step) → begins_with (chain_end (u ∷ q)) (s ∷ p) ≡ true → FewOn (u ∷ q) (inner n) → (b : Bool) → (u.place == j) ≡ b
           → map (λ (zs : Instances). look (u ∷ q) (inner (put_at j zs n))) us ≡ map (λ (zs : Instances). look (u ∷ q) (inner (put_at j zs n))) vs
       by_place u q b w false a = constant (u ∷ q) (look (u ∷ q) (inner n)) (λ zs. ap (look_first (look q)) (put_apart u.place j zs n (not_same u.place j a)))
       by_place u q b w true a =
@@ -247,13 +247,13 @@ module _ (A : Type 0) (absent : A) (of_value : Value → A) (of_group : A) where
           let e : (zs : Instances) → look (u ∷ q) (inner (put_at j zs n)) ≡ look_first (look q) zs = λ zs. ap (λ (l : ℕ). look_first (look q) (instances_at l (put_at j zs n))) k ∙ ap (look_first (look q)) (put_there j x xs zs n h) in
           map_same (λ zs. look (u ∷ q) (inner (put_at j zs n))) (look_first (look q)) e us ∙ g q (on_below u s q p b) v.1 ∙ sym (map_same (λ zs. look (u ∷ q) (inner (put_at j zs n))) (look_first (look q)) e vs)
 
-      by_path : (q : List Step) → begins_with (level q) (s ∷ p) ≡ true → FewOn q (inner n)
+      by_path : (q : List Step) → begins_with (chain_end q) (s ∷ p) ≡ true → FewOn q (inner n)
           → map (λ (zs : Instances). look q (inner (put_at j zs n))) us ≡ map (λ (zs : Instances). look q (inner (put_at j zs n))) vs
       by_path [] b w = constant [] of_group (λ zs. refl)
       by_path (u ∷ q) b w = by_place u q b w (u.place == j) refl
 
   -- both go through the same field
-  along_rows : (s t : Step) (p c q : List Step) → SameRows p c → s.place ≡ t.place → (test : Node → Bool) (n m : Node) → begins_with (level q) (s ∷ p) ≡ true → FewOn q (inner n) → kept_along (t ∷ c) test n ≡ Some m
+  along_rows : (s t : Step) (p c q : List Step) → SameRows p c → s.place ≡ t.place → (test : Node → Bool) (n m : Node) → begins_with (chain_end q) (s ∷ p) ≡ true → FewOn q (inner n) → kept_along (t ∷ c) test n ≡ Some m
       → map (λ (r : Node). look q (inner r)) (rows (s ∷ p) m)
       ≡ map (λ (r : Node). look q (inner r)) (map (λ xs. put_at t.place xs n) (kept_field_rows (test n) (kept_instance_rows (kept_rows p c) (λ x. put_at t.place (single x) n) test) (instances_at t.place n)))
   along_rows s t p c q f i test n m b w e =
@@ -293,7 +293,7 @@ module _ (A : Type 0) (absent : A) (of_value : Value → A) (of_group : A) where
       → map (λ (r : Node). look q (inner r)) (rows p m) ≡ map (λ (r : Node). look q (inner r)) (rows_where_any p c test n)
   ended_rows p c q test n m e g = g ∙ ap (map (λ (r : Node). look q (inner r))) (sym (all_rows p c test n m e))
 
-  apart_same : (s t : Step) (p c q : List Step) (test : Node → Bool) (n m : Node) → (s.place == t.place) ≡ false → begins_with (level q) (s ∷ p) ≡ true → FewOn q (inner n) → kept_along (t ∷ c) test n ≡ Some m
+  apart_same : (s t : Step) (p c q : List Step) (test : Node → Bool) (n m : Node) → (s.place == t.place) ≡ false → begins_with (chain_end q) (s ∷ p) ≡ true → FewOn q (inner n) → kept_along (t ∷ c) test n ≡ Some m
       → map (λ (r : Node). look q (inner r)) (rows (s ∷ p) m) ≡ map (λ (r : Node). look q (inner r)) (rows (s ∷ p) n)
   apart_same s t p c q test n m d b w e = by_slot (instances_at t.place n) e
     where
@@ -311,7 +311,7 @@ module _ (A : Type 0) (absent : A) (of_value : Value → A) (of_group : A) where
 
   -- the rows of what is kept are the kept rows, as far as is looked by a path whose repeated fields are on theirs
   pub same_rows : (p c : List Step) → SameRows p c
-  same_rows [] c q test n m b w e = ended_rows [] c q test n m e (ap (λ (x : A). x ∷ []) (same_below c q (on_root (level q) b) test n m w e))
+  same_rows [] c q test n m b w e = ended_rows [] c q test n m e (ap (λ (x : A). x ∷ []) (same_below c q (on_root (chain_end q) b) test n m w e))
   same_rows (s ∷ p) [] q test n m b w e = ended_rows (s ∷ p) [] q test n m e (ap (λ (m : Node). map (λ (r : Node). look q (inner r)) (rows (s ∷ p) m)) (sym (kept_same (test n) n m e).1))
   same_rows (s ∷ p) (t ∷ c) q test n m b w e = by_place (s.place == t.place) refl (same_rows p c)
     where

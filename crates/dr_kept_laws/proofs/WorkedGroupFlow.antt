@@ -4,7 +4,7 @@ use Rattle.std.specs.Ordering.{int_cmp, is_gt}
 use Rattle.std.specs.List.{filter_map}
 use Rattle.std.specs.Prelude.{Bool, false}
 use Rattle.dr_meaning.specs.Schema.{required, optional, repeated, int64_kind, Repetition, Fields, no_fields, field, leaf, group}
-use Rattle.dr_meaning.specs.Path.{Step, level}
+use Rattle.dr_meaning.specs.Path.{Step, chain_end}
 use Rattle.dr_meaning.specs.Record.{Value, int_value}
 use Rattle.dr_meaning.specs.Rows.{value_at}
 use Rattle.dr_meaning.specs.Kept.{kept_along}
@@ -113,7 +113,7 @@ abbrev d_and_c : Reading (List (Option Value))
 d_and_c = record { leaf = Some 2; fires = λ r. r 3 ∷ r 2 ∷ []; level = c; means = λ row. value_at d row ∷ value_at c row ∷ [] }
 
 abbrev each_x : Reading (List (Option Value))
-each_x = record { leaf = Some 0; fires = λ r. r 0 ∷ []; level = level x; means = λ row. value_at x row ∷ [] }
+each_x = record { leaf = Some 0; fires = λ r. r 0 ∷ []; level = chain_end x; means = λ row. value_at x row ∷ [] }
 
 abbrev each_record : Reading (List (Option Value))
 each_record = record { leaf = None; fires = λ r. []; level = []; means = λ row. [] }
@@ -129,7 +129,7 @@ unfolding walk
 made_together = refl
 
 -- one reading after the other, in the rows of what is kept
-pub meant_together : all_means readings (filter_map (kept_along (level x) (λ row. is_above 5 (value_at x row))) (whole ∷ without_g ∷ []))
+pub meant_together : all_means readings (filter_map (kept_along (chain_end x) (λ row. is_above 5 (value_at x row))) (whole ∷ without_g ∷ []))
     ≡ (some_number 31 ∷ some_number 21 ∷ []) ∷ (some_number 31 ∷ some_number 22 ∷ []) ∷ (None ∷ None ∷ []) ∷ (some_number 31 ∷ some_number 21 ∷ []) ∷ (some_number 31 ∷ some_number 22 ∷ []) ∷ [] ∷ []
     ∷ (some_number 7 ∷ []) ∷ (some_number 8 ∷ []) ∷ (some_number 9 ∷ []) ∷ (some_number 7 ∷ []) ∷ []
 meant_together = refl

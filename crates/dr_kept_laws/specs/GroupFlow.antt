@@ -14,7 +14,7 @@ left_alone k c made = made
 
 -- ---- several things
 
--- one thing for each row of a level: what fires at the triplets of a leaf, or without one where a record is left; and what it means in the row
+-- one thing for each row of a chain: what fires at the triplets of a leaf, or without one where a record is left; and what it means in the row
 pub record Reading (X : Type 0) : Type 0 where
   pub leaf : Option ℕ
   pub fires : Context → X

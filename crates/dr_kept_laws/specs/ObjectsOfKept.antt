@@ -3,9 +3,9 @@ use Rattle.std.specs.Prelude.{List, [], ◌∷◌, map, Bool, if◌then◌else�
 use Rattle.dr_meaning.specs.Path.{Step, same_path}
 use Rattle.dr_meaning.specs.Record.{Value, Node}
 use Rattle.dr_meaning.specs.Rows.{is_present}
-use Rattle.dr_meaning.specs.Expression.{evaluate, expression_level}
+use Rattle.dr_meaning.specs.Expression.{evaluate, expression_chain}
 use Rattle.dr_meaning.specs.Query.{RecordTerm, expression, within, RecordItem, Object, no_entries, cell, objects_of, over_rows, Levels}
-use Rattle.dr_meaning.specs.Query.{no_levels, deeper, term_level, leads_to_items, with_list}
+use Rattle.dr_meaning.specs.Query.{no_levels, deeper, term_chain, leads_to_items, with_list}
 use Rattle.dr_kept_laws.specs.RowsOfKept.{kept_rows}
 
 -- the kept rows of a path within a row, without those in which its end is absent
@@ -15,12 +15,12 @@ kept_instances p c test row = filter (is_present p) (kept_rows p c test row)
 -- an aggregate within a node goes over the kept rows of its argument
 abbrev pub kept_value : List Step → (Node → Bool) → RecordTerm → Node → Option Value
 kept_value c test (expression e) row = evaluate e row
-kept_value c test (within a e node) row = over_rows a e (kept_rows (expression_level e) c test row)
+kept_value c test (within a e node) row = over_rows a e (kept_rows (expression_chain e) c test row)
 
 -- the items of a level before the rest of the object
 abbrev pub kept_cells : List Step → (Node → Bool) → List RecordItem → List Step → Node → Object → Object
 kept_cells c test [] p row rest = rest
-kept_cells c test (i ∷ is) p row rest = if same_path p (term_level i.term)
+kept_cells c test (i ∷ is) p row rest = if same_path p (term_chain i.term)
     then cell i.name (kept_value c test i.term row) (kept_cells c test is p row rest)
     else kept_cells c test is p row rest
 

@@ -3,7 +3,7 @@ use Rattle.std.specs.Prelude.{◌≡◌, List, [], ◌∷◌, Bool, true, Some}
 use Rattle.dr_meaning.specs.Schema.{Fields}
 use Rattle.dr_meaning.specs.Path.{Step}
 use Rattle.dr_meaning.specs.Record.{Node, is_record}
-use Rattle.dr_meaning.specs.Expression.{Expression, evaluate, expression_level}
+use Rattle.dr_meaning.specs.Expression.{Expression, evaluate, expression_chain}
 use Rattle.dr_meaning.specs.Kept.{kept_along}
 use Rattle.dr_meaning.specs.Query.{RecordTerm, expression, within, RecordItem, Levels, record_object}
 use Rattle.dr_kept_laws.specs.RowsOfKeptLaws.{IsOfChain}
@@ -17,7 +17,7 @@ term_expression (within a e node) = e
 -- the leaves of each item's expression have their repeated fields on its longest chain
 abbrev pub AreOfChains : Fields → List RecordItem → Type 0
 AreOfChains fs [] = Unit {0}
-AreOfChains fs (i ∷ is) = IsOfChain fs (expression_level (term_expression i.term)) (evaluate (term_expression i.term)) × AreOfChains fs is
+AreOfChains fs (i ∷ is) = IsOfChain fs (expression_chain (term_expression i.term)) (evaluate (term_expression i.term)) × AreOfChains fs is
 
 -- the object of what is kept of a record is told by the record
 abbrev pub ObjectOfKept : Type 0

@@ -3,7 +3,7 @@ use Rattle.std.specs.Prelude.{ℕ, zero, suc, ◌+◌, ◌<◌, ◌≤◌, List,
 use Rattle.std.proofs.Common.{arith}
 use Rattle.dr_meaning.specs.Path.{Step}
 use Rattle.dr_meaning.specs.Schema.{Repetition, required, optional, repeated, Fields, no_fields, field, Shape, leaf, group}
-use Rattle.dr_meaning.specs.Automaton.{Pick, picks_from, picks, behind, behind_if, behind_pick, beside, beside_if, beside_pick, indexes, schema_order_in, shape_schema_order, schema_order, near_order, shape_near_order, far_order, shape_far_order, reading_order, unless_repeated, where_repeated}
+use Rattle.dr_meaning.specs.Automaton.{Pick, picks_from, picks, first_picks, first_picks_if, first_picks_and, later_picks, later_picks_if, later_picks_and, indexes, schema_order_in, shape_schema_order, schema_order, near_order, shape_near_order, far_order, shape_far_order, reading_order, unless_repeated, where_repeated}
 
 abbrev Within : ℕ → List ℕ → Type 0
 Within n [] = Unit {0}
@@ -32,29 +32,29 @@ picks_within n i (p ∷ F) l = (omega (arith, l), picks_within n (suc i) F (omeg
 
 -- ---- behind and beside the first field of a group
 
-behind_if_within : (n j : ℕ) (p : List Step) (i : ℕ) (F : List Pick) → i < n → PicksWithin n F → PicksWithin n (behind_if j p i F)
+behind_if_within : (n j : ℕ) (p : List Step) (i : ℕ) (F : List Pick) → i < n → PicksWithin n F → PicksWithin n (first_picks_if j p i F)
 behind_if_within n zero p i F l w = (l, w)
 behind_if_within n (suc j) p i F l w = w
 
-behind_pick_within : (n : ℕ) (p : List Step) (i : ℕ) (F : List Pick) → i < n → PicksWithin n F → PicksWithin n (behind_pick p i F)
+behind_pick_within : (n : ℕ) (p : List Step) (i : ℕ) (F : List Pick) → i < n → PicksWithin n F → PicksWithin n (first_picks_and p i F)
 behind_pick_within n [] i F l w = w
 behind_pick_within n (s ∷ p) i F l w = behind_if_within n s.place p i F l w
 
-behind_within : (n : ℕ) (F : List Pick) → PicksWithin n F → PicksWithin n (behind F)
+behind_within : (n : ℕ) (F : List Pick) → PicksWithin n F → PicksWithin n (first_picks F)
 behind_within n [] w = tt
-behind_within n (f ∷ F) w = behind_pick_within n f.rest f.index (behind F) w.0 (behind_within n F w.1)
+behind_within n (f ∷ F) w = behind_pick_within n f.rest f.index (first_picks F) w.0 (behind_within n F w.1)
 
-beside_if_within : (n j : ℕ) (s : Step) (p : List Step) (i : ℕ) (F : List Pick) → i < n → PicksWithin n F → PicksWithin n (beside_if j s p i F)
+beside_if_within : (n j : ℕ) (s : Step) (p : List Step) (i : ℕ) (F : List Pick) → i < n → PicksWithin n F → PicksWithin n (later_picks_if j s p i F)
 beside_if_within n zero s p i F l w = w
 beside_if_within n (suc j) s p i F l w = (l, w)
 
-beside_pick_within : (n : ℕ) (p : List Step) (i : ℕ) (F : List Pick) → i < n → PicksWithin n F → PicksWithin n (beside_pick p i F)
+beside_pick_within : (n : ℕ) (p : List Step) (i : ℕ) (F : List Pick) → i < n → PicksWithin n F → PicksWithin n (later_picks_and p i F)
 beside_pick_within n [] i F l w = w
 beside_pick_within n (s ∷ p) i F l w = beside_if_within n s.place s p i F l w
 
-beside_within : (n : ℕ) (F : List Pick) → PicksWithin n F → PicksWithin n (beside F)
+beside_within : (n : ℕ) (F : List Pick) → PicksWithin n F → PicksWithin n (later_picks F)
 beside_within n [] w = tt
-beside_within n (f ∷ F) w = beside_pick_within n f.rest f.index (beside F) w.0 (beside_within n F w.1)
+beside_within n (f ∷ F) w = beside_pick_within n f.rest f.index (later_picks F) w.0 (beside_within n F w.1)
 
 -- ---- schema order
 
@@ -62,7 +62,7 @@ mutual
   schema_within : (n : ℕ) (fs : Fields) (F : List Pick) → PicksWithin n F → Within n (schema_order_in fs F)
   schema_within n no_fields F w = tt
   schema_within n (field m r s fs) F w =
-      append_within n (shape_schema_order s (behind F)) (schema_order_in fs (beside F)) (shape_schema_within n s (behind F) (behind_within n F w)) (schema_within n fs (beside F) (beside_within n F w))
+      append_within n (shape_schema_order s (first_picks F)) (schema_order_in fs (later_picks F)) (shape_schema_within n s (first_picks F) (behind_within n F w)) (schema_within n fs (later_picks F) (beside_within n F w))
 
   shape_schema_within : (n : ℕ) (s : Shape) (F : List Pick) → PicksWithin n F → Within n (shape_schema_order s F)
   shape_schema_within n (leaf k) F w = indexes_within n F w
@@ -87,9 +87,9 @@ mutual
   near_within : (n : ℕ) (fs : Fields) (F : List Pick) → PicksWithin n F → Within n (near_order fs F)
   near_within n no_fields F w = tt
   near_within n (field m r s fs) F w =
-      append_within n (unless_repeated r (shape_near_order s (behind F))) (near_order fs (beside F))
-      (unless_within n r (shape_near_order s (behind F)) (shape_near_within n s (behind F) (behind_within n F w)))
-      (near_within n fs (beside F) (beside_within n F w))
+      append_within n (unless_repeated r (shape_near_order s (first_picks F))) (near_order fs (later_picks F))
+      (unless_within n r (shape_near_order s (first_picks F)) (shape_near_within n s (first_picks F) (behind_within n F w)))
+      (near_within n fs (later_picks F) (beside_within n F w))
 
   shape_near_within : (n : ℕ) (s : Shape) (F : List Pick) → PicksWithin n F → Within n (shape_near_order s F)
   shape_near_within n (leaf k) F w = indexes_within n F w
@@ -99,11 +99,11 @@ mutual
   far_within : (n : ℕ) (fs : Fields) (F : List Pick) → PicksWithin n F → Within n (far_order fs F)
   far_within n no_fields F w = tt
   far_within n (field m r s fs) F w =
-      append_within n (where_repeated r (shape_near_order s (behind F)) ++ shape_far_order s (behind F)) (far_order fs (beside F))
-      (append_within n (where_repeated r (shape_near_order s (behind F))) (shape_far_order s (behind F))
-      (where_within n r (shape_near_order s (behind F)) (shape_near_within n s (behind F) (behind_within n F w)))
-      (shape_far_within n s (behind F) (behind_within n F w)))
-      (far_within n fs (beside F) (beside_within n F w))
+      append_within n (where_repeated r (shape_near_order s (first_picks F)) ++ shape_far_order s (first_picks F)) (far_order fs (later_picks F))
+      (append_within n (where_repeated r (shape_near_order s (first_picks F))) (shape_far_order s (first_picks F))
+      (where_within n r (shape_near_order s (first_picks F)) (shape_near_within n s (first_picks F) (behind_within n F w)))
+      (shape_far_within n s (first_picks F) (behind_within n F w)))
+      (far_within n fs (later_picks F) (beside_within n F w))
 
   shape_far_within : (n : ℕ) (s : Shape) (F : List Pick) → PicksWithin n F → Within n (shape_far_order s F)
   shape_far_within n (leaf k) F w = tt

@@ -6,8 +6,9 @@ use Rattle.std.proofs.lemmas.Bool.{and_parts, and_from}
 use Rattle.std.proofs.lemmas.Bool.Decides.{nat_tests}
 use Rattle.memchr.specs.Find.{Nowhere, Passes, is_byte}
 use Rattle.dr_outside.specs.Source.{Took}
-use Rattle.dr_meaning.specs.Lines.{lines_of, onto_line, longest_line}
+use Rattle.dr_meaning.specs.Lines.{lines_of, longest_line}
 use Rattle.dr_lines.specs.Cutting.{ahead, Keeps, CutsLine, CutsBytes, BeginsLine, IsEnd, IsTooLong, no_lf}
+use Rattle.dr_meaning.specs.Lists.{onto_first}
 
 pub took_ahead : (before after : Option (List ℕ)) (bytes piece : List ℕ) → piece ≡ bytes → Took before after bytes → Keeps before (ahead piece after)
 took_ahead None after bytes piece e h = tt
@@ -81,7 +82,7 @@ cut_at_lf [] rest h = refl
 cut_at_lf (b ∷ a) rest h =
     let p = and_parts (not (b == 10)) (no_lf a) h in
     let e : (b == 10) ≡ false = not_lf b p.0 in
-    rw e (ap (onto_line b) (cut_at_lf a rest p.1))
+    rw e (ap (onto_first b) (cut_at_lf a rest p.1))
 
 pub last_line_alone : (b : ℕ) (a : List ℕ) → no_lf (b ∷ a) ≡ true → lines_of (b ∷ a) ≡ (b ∷ a) ∷ []
 last_line_alone b [] h =
@@ -90,16 +91,16 @@ last_line_alone b [] h =
 last_line_alone b (c ∷ a) h =
     let p = and_parts (not (b == 10)) (no_lf (c ∷ a)) h in
     let e : (b == 10) ≡ false = not_lf b p.0 in
-    rw e (ap (onto_line b) (last_line_alone c a p.1))
+    rw e (ap (onto_first b) (last_line_alone c a p.1))
 
 -- a line at least as long as a front without LF
 abbrev pub HasLongLine : List ℕ → ℕ → Type 0
 HasLongLine all n = (line : List ℕ) × (others : List (List ℕ)) × (lines_of all ≡ line ∷ others) × (n ≤ length line)
 
 longer_by : (b : ℕ) (all : List ℕ) (n : ℕ) → (b == 10) ≡ false → HasLongLine all n → HasLongLine (b ∷ all) (suc n)
-longer_by b all n e h = (b ∷ h.0, h.1, rw e (ap (onto_line b) h.2), omega (arith, h.3))
+longer_by b all n e h = (b ∷ h.0, h.1, rw e (ap (onto_first b) h.2), omega (arith, h.3))
 
-one_byte : (b : ℕ) (ls : List (List ℕ)) → (line : List ℕ) × (others : List (List ℕ)) × (onto_line b ls ≡ line ∷ others) × (1 ≤ length line)
+one_byte : (b : ℕ) (ls : List (List ℕ)) → (line : List ℕ) × (others : List (List ℕ)) × (onto_first b ls ≡ line ∷ others) × (1 ≤ length line)
 one_byte b [] = (b ∷ [], [], refl, omega arith)
 one_byte b (l ∷ ls) = (b ∷ l, ls, refl, omega arith)
 

@@ -10,11 +10,11 @@ use Rattle.dr_meaning.specs.Record.{Node, is_record}
 use Rattle.dr_meaning.specs.Column.{Triplet, record_column, column}
 use Rattle.dr_meaning.specs.Lines.{Refusal}
 use Rattle.dr_formats.specs.WritingLaws.{is_limited}
-use Rattle.dr_nested.specs.PathView.{path_view}
+use Rattle.dr_nested.specs.PathView.{path_view, paths_view}
 use Rattle.dr_nested.specs.declared.path.Path.{Path}
 use Rattle.dr_lines.specs.Cutting.{IsEnd}
 use Rattle.dr_outside.specs.Source.{SourceShown}
-use Rattle.dr_striper.specs.Striping.{gained, paths_of, leaves_of}
+use Rattle.dr_striper.specs.Striping.{gained, leaves_of}
 use Rattle.dr_striper.specs.Stripers.{fits_leaf}
 use Rattle.dr_striper.proofs.GrowthLemmas.{columns-push}
 use Rattle.dr_striper.proofs.FitLemmas.{record_fits_all}
@@ -106,7 +106,7 @@ empty_columns : (ps : List Path) → replicate (length ps) [] ≡ map (λ (l : L
 empty_columns [] = refl
 empty_columns (p ∷ ps) = ap (λ (cs : List (List Triplet)). [] ∷ cs) (empty_columns ps)
 
-leaf_paths : (ps : List Path) → paths_of ps ≡ map (λ (l : Leaf). l.path) (leaves_of ps)
+leaf_paths : (ps : List Path) → paths_view ps ≡ map (λ (l : Leaf). l.path) (leaves_of ps)
 leaf_paths [] = refl
 leaf_paths (p ∷ ps) = ap (λ (qs : List (List Step)). (path_view p).path ∷ qs) (leaf_paths ps)
 
@@ -127,7 +127,7 @@ fills_none fs most number o ps columns l e = record {
 
 -- one record more
 pub fills_more : (fs : Fields) (most number count : ℕ) (a b c : Option (List ℕ)) (ps : List Path) (old new : List (List Triplet)) (n : Node) → HasColumnsOf fs most number a b old count → leaves_of ps ≡ leaves fs
-    → new ≡ gained (λ p. record_column p n) (paths_of ps) old → is_record fs n ≡ true → is_limited n ≡ true → HasTaken fs most (number + count) (n ∷ []) b c → HasColumnsOf fs most number a c new (count + 1)
+    → new ≡ gained (λ p. record_column p n) (paths_view ps) old → is_record fs n ≡ true → is_limited n ≡ true → HasTaken fs most (number + count) (n ∷ []) b c → HasColumnsOf fs most number a c new (count + 1)
 fills_more fs most number count a b c ps old new n h l e r t k = record {
   records = h.records ++ n ∷ [];
   are_records = all_push (is_record fs) h.records n h.are_records r;

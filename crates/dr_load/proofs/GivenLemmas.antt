@@ -6,7 +6,7 @@ use Rattle.serde_json.proofs.OnLiterals.{serde_json_on_literals}
 use Rattle.dr_meaning.specs.Schema.{Fields}
 use Rattle.dr_meaning.specs.Record.{Node}
 use Rattle.dr_meaning.specs.JsonRecord.{record_of_line, not_json}
-use Rattle.dr_meaning.specs.Lines.{Refusal, LineFault, no_record, too_many_records, Taken, lines_of, onto_line, longest_line, record_at, or_stop, taken_from}
+use Rattle.dr_meaning.specs.Lines.{Refusal, LineFault, no_record, too_many_records, Taken, lines_of, longest_line, record_at, or_stop, taken_from}
 use Rattle.dr_formats.specs.Tablets.{tablets}
 use Rattle.dr_formats.specs.TabletLaws.{all_records}
 use Rattle.dr_formats.specs.Loading.{Plan, Put, most_loaded, puts_from, puts_of, full_tablets, load}
@@ -22,6 +22,7 @@ use Rattle.dr_load.specs.Loads.{HasLoaded, taken_of}
 use Rattle.dr_load.specs.Given.{AreLinesOf, WhereLines, full_puts, HasPutFull}
 use Rattle.dr_load.proofs.TabletLemmas.{full_are}
 use Rattle.dr_load.proofs.LoadLemmas.{taken_behind}
+use Rattle.dr_meaning.specs.Lists.{onto_first}
 
 -- ---- the lines that were given
 
@@ -33,7 +34,7 @@ last_line_ends (x ∷ a) = by (x == 10) refl (last_line_ends a)
     more : (a : List ℕ) → (x == 10) ≡ false → (whole_lines a ≡ a) ⊎ (lines_of (a ++ 10 ∷ []) ≡ lines_of a) → (whole_lines (x ∷ a) ≡ x ∷ a) ⊎ (lines_of (x ∷ a ++ 10 ∷ []) ≡ lines_of (x ∷ a))
     more [] e h = inr (rw e refl)
     more (c ∷ cs) e (inl w) = inl (rw e (ap (before_whole x) w))
-    more (c ∷ cs) e (inr l) = inr (rw e (ap (onto_line x) l))
+    more (c ∷ cs) e (inr l) = inr (rw e (ap (onto_first x) l))
 
     by : (t : Bool) → (x == 10) ≡ t → (whole_lines a ≡ a) ⊎ (lines_of (a ++ 10 ∷ []) ≡ lines_of a) → (whole_lines (x ∷ a) ≡ x ∷ a) ⊎ (lines_of (x ∷ a ++ 10 ∷ []) ≡ lines_of (x ∷ a))
     by true e (inl w) = inl (rw e (ap (λ (y : List ℕ). x ∷ y) w))

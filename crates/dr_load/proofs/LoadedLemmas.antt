@@ -10,7 +10,7 @@ use Rattle.dr_meaning.proofs.LineLemmas.{taken_are_records}
 use Rattle.dr_formats.specs.File.{IsFileOf}
 use Rattle.dr_formats.specs.Loading.{Plan, Put, most_loaded, tablet_puts, puts_from, put_at, whole_puts, table_of}
 use Rattle.dr_formats.specs.TableFile.{table_text}
-use Rattle.dr_formats.specs.Tablets.{tablets, tablet_path, nth_directory}
+use Rattle.dr_formats.specs.Tablets.{tablets, tablet_path}
 use Rattle.dr_formats.specs.TabletLaws.{all_records}
 use Rattle.dr_formats.specs.Writing.{file_bytes}
 use Rattle.dr_formats.specs.WritingLaws.{AreAmong, is_limited}
@@ -28,6 +28,7 @@ use Rattle.dr_load.specs.Loaded.{IsPlan, AreLoadable, CopiesHold, TabletsAreFile
 use Rattle.dr_load.specs.LoadedLaws.{LoadedCopiesAreFiles, LoadedTableIsHeld, LoadedRecordsAreHeld, LoadedRecordsAreJoined}
 use Rattle.dr_load.proofs.LoadedTablets.{AllFit, all_fit, some_tablet}
 use Rattle.dr_load.proofs.LoadedPuts.{SomePut, put_there, some_front, some_back, AreFilesBy, whole_all, HoldTablets, copies_hold}
+use Rattle.dr_meaning.specs.Lists.{nth_text}
 
 -- ---- the file of each tablet, by its number
 
@@ -73,8 +74,8 @@ loaded_copies_are_files p R F before now s l a f h =
     let text : List ℕ = table_text (table_of p (length ts)) in
     let e : all_records ts ≡ R = tablets_hold_records p.rows R in
     let held : HoldTablets p (file_by p ts) (whole_puts p ts) now =
-    λ d i hd hi q. h (tablet_path (nth_directory p.directories d) i)
-    ∙ put_there (whole_puts p ts) before (tablet_path (nth_directory p.directories d) i) (file_by p ts i) (whole_all p (file_by p ts) ts text d i a hd hi l.few_tablets (are_files_by p ts)) (inr q) in
+    λ d i hd hi q. h (tablet_path (nth_text p.directories d) i)
+    ∙ put_there (whole_puts p ts) before (tablet_path (nth_text p.directories d) i) (file_by p ts i) (whole_all p (file_by p ts) ts text d i a hd hi l.few_tablets (are_files_by p ts)) (inr q) in
     files_from p F (file_by p ts) (whole_puts p ts) now 0 ts s f held (are_files_by p ts) (omega (arith, l.few_tablets))
     (all_fit p.rows (is_record p.schema.fields) ts (tablets_are_full p.rows R s.has_rows) (ap (list_all (is_record p.schema.fields)) e ∙ l.records))
     (all_fit p.rows is_limited ts (tablets_are_full p.rows R s.has_rows) (ap (list_all is_limited) e ∙ l.limited))

@@ -4,13 +4,14 @@ use Rattle.std.proofs.Common.{arith, refl, sym, ap, ◌∙◌, true≢false, inl
 use Rattle.std.proofs.lemmas.Slice.Eq.{bytes_eq-Decides}
 use Rattle.dr_meaning.specs.Record.{Node}
 use Rattle.dr_formats.specs.Loading.{Plan, Put, tablet_puts, puts_from, put_at}
-use Rattle.dr_formats.specs.Tablets.{placement, tablet_path, nth_directory, copy_paths_from}
+use Rattle.dr_formats.specs.Tablets.{placement, tablet_path, copy_paths_from}
 use Rattle.dr_formats.specs.Writing.{file_bytes}
 use Rattle.dr_formats.proofs.TabletLemmas.{placement_is_leaf, paths_differ}
 use Rattle.dr_outside.specs.Link.{Files}
 use Rattle.dr_reading.specs.Scan.{copies_from}
 use Rattle.dr_load.specs.Puts.{with_file, after_puts}
 use Rattle.dr_load.specs.Loaded.{IsApart, CopiesHold}
+use Rattle.dr_meaning.specs.Lists.{nth_text}
 
 -- ---- puts at one path
 
@@ -68,7 +69,7 @@ tablet_all : (directory : List ℕ) (i k : ℕ) (file : ℕ → List ℕ) (bytes
     → AllPut (tablet_path directory i) (file i) (map (put_of bytes) (copy_paths_from directories k j n))
 tablet_all directory i k file bytes directories j zero hi hk e = tt
 tablet_all directory i k file bytes directories j (suc n) hi hk e =
-    (λ h. sym e ∙ ap file (sym (paths_differ directory (nth_directory directories (placement (length directories) k j)) i k hi hk h).0), tablet_all directory i k file bytes directories (suc j) n hi hk e)
+    (λ h. sym e ∙ ap file (sym (paths_differ directory (nth_text directories (placement (length directories) k j)) i k hi hk h).0), tablet_all directory i k file bytes directories (suc j) n hi hk e)
 
 tablets_all : (p : Plan) (directory : List ℕ) (i k : ℕ) (file : ℕ → List ℕ) (ts : List (List Node)) → i < 1000000 → k + length ts ≤ 1000000 → AreFilesBy p file k ts
     → AllPut (tablet_path directory i) (file i) (puts_from p k ts)
@@ -79,29 +80,29 @@ tablets_all p directory i k file (t ∷ ts) hi hk a =
     (tablets_all p directory i (suc k) file ts hi (omega (arith, hk)) a.1)
 
 -- the put of a table file that lies apart
-table_all : (directories : List (List ℕ)) (table : Option (List ℕ)) (text bytes : List ℕ) (d i : ℕ) → IsApart directories table → d < length directories → i < 4096 → AllPut (tablet_path (nth_directory directories d) i) bytes (put_at table text)
+table_all : (directories : List (List ℕ)) (table : Option (List ℕ)) (text bytes : List ℕ) (d i : ℕ) → IsApart directories table → d < length directories → i < 4096 → AllPut (tablet_path (nth_text directories d) i) bytes (put_at table text)
 table_all directories None text bytes d i a hd hi = tt
 table_all directories (Some path) text bytes d i a hd hi = (λ h. absurd (a d i hd hi (sym h)), tt)
 
 -- at each tablet's path there is its file, in all puts of a table
 pub whole_all : (p : Plan) (file : ℕ → List ℕ) (ts : List (List Node)) (text : List ℕ) (d i : ℕ) → IsApart p.directories p.table → d < length p.directories → i < 4096 → length ts ≤ 4096 → AreFilesBy p file 0 ts
-    → AllPut (tablet_path (nth_directory p.directories d) i) (file i) (puts_from p 0 ts ++ put_at p.table text)
+    → AllPut (tablet_path (nth_text p.directories d) i) (file i) (puts_from p 0 ts ++ put_at p.table text)
 whole_all p file ts text d i a hd hi hk f =
-    all_append (tablet_path (nth_directory p.directories d) i) (file i) (puts_from p 0 ts) (put_at p.table text)
-    (tablets_all p (nth_directory p.directories d) i 0 file ts (omega (arith, hi)) (omega (arith, hk)) f)
+    all_append (tablet_path (nth_text p.directories d) i) (file i) (puts_from p 0 ts) (put_at p.table text)
+    (tablets_all p (nth_text p.directories d) i 0 file ts (omega (arith, hi)) (omega (arith, hk)) f)
     (table_all p.directories p.table text (file i) d i a hd hi)
 
 -- ---- the copies of tablets
 
 -- these files hold the file of each tablet, at each of its paths where it was put
 abbrev pub HoldTablets : Plan → (ℕ → List ℕ) → List Put → Files → Type 0
-HoldTablets p file ps files = (d i : ℕ) → d < length p.directories → i < 4096 → SomePut (tablet_path (nth_directory p.directories d) i) ps → files (tablet_path (nth_directory p.directories d) i) ≡ Some (file i)
+HoldTablets p file ps files = (d i : ℕ) → d < length p.directories → i < 4096 → SomePut (tablet_path (nth_text p.directories d) i) ps → files (tablet_path (nth_text p.directories d) i) ≡ Some (file i)
 
 pub copies_hold : (p : Plan) (file : ℕ → List ℕ) (ps : List Put) (files : Files) (bytes : List ℕ) (k j n : ℕ) → 0 < length p.directories → k < 4096 → file k ≡ bytes → HoldTablets p file ps files
     → ((path : List ℕ) → SomePut path (map (put_of bytes) (copy_paths_from p.directories k j n)) → SomePut path ps) → CopiesHold files bytes (copies_from p.directories k j n)
 copies_hold p file ps files bytes k j zero hd hk e h f = tt
 copies_hold p file ps files bytes k j (suc n) hd hk e h f =
     let d : ℕ = placement (length p.directories) k j in (
-      h d k (placement_is_leaf (length p.directories) k j hd) hk (f (tablet_path (nth_directory p.directories d) k) (inl refl)) ∙ ap (λ (x : List ℕ). Some x) e,
+      h d k (placement_is_leaf (length p.directories) k j hd) hk (f (tablet_path (nth_text p.directories d) k) (inl refl)) ∙ ap (λ (x : List ℕ). Some x) e,
       copies_hold p file ps files bytes k (suc j) n hd hk e h (λ path s. f path (inr s)),
     )

@@ -5,12 +5,13 @@ use Rattle.std.proofs.Common.{arith, refl, sym, ap, ◌∙◌, subst, true≢fal
 use Rattle.std.proofs.lemmas.List.{map-append, length-map}
 use Rattle.std.proofs.lemmas.Slice.Eq.{bytes_eq-Decides}
 use Rattle.dr_formats.specs.Loading.{Put}
-use Rattle.dr_formats.specs.Tablets.{copy_paths_from, placement, tablet_path, nth_directory}
+use Rattle.dr_formats.specs.Tablets.{copy_paths_from, placement, tablet_path}
 use Rattle.dr_table.proofs.PathLemmas.{directory_at}
 use Rattle.dr_outside.specs.declared.fault.Fault.{Fault}
 use Rattle.dr_outside.specs.Link.{Files, PutShown, LinkShown, HasFile, SameElsewhere, with_put}
 use Rattle.dr_load.specs.Faults.{is_told, of_outside}
 use Rattle.dr_load.specs.Puts.{copies_of, copy_path, with_file, after_puts, HoldsPut, HoldsPutElsewhere, shown, put_shown, AsksPuts, HasPut, if_told, HasFailed, BreaksOff}
+use Rattle.dr_meaning.specs.Lists.{nth_text}
 
 -- ---- files
 
@@ -163,4 +164,4 @@ pub path_is_copy : (leaves : List (String Global)) (tablet copy leaf : ℕ) (dir
     → leaf ≡ placement (length leaves) tablet copy → leaf < length leaves → tablet_path text tablet ≡ copy_path (map string_bytes leaves) tablet copy
 path_is_copy leaves tablet copy leaf directory text t d e l =
     ap (λ (x : List ℕ). tablet_path x tablet)
-    (t ∙ sym (directory_at leaves leaf directory l d) ∙ ap (nth_directory (map string_bytes leaves)) (e ∙ ap (λ (n : ℕ). placement n tablet copy) (sym (length-map leaves (string_bytes {Z = Global})))))
+    (t ∙ sym (directory_at leaves leaf directory l d) ∙ ap (nth_text (map string_bytes leaves)) (e ∙ ap (λ (n : ℕ). placement n tablet copy) (sym (length-map leaves (string_bytes {Z = Global})))))

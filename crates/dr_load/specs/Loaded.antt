@@ -7,11 +7,12 @@ use Rattle.dr_meaning.specs.Record.{Node, is_record}
 use Rattle.dr_formats.specs.File.{IsFileOf}
 use Rattle.dr_formats.specs.Loading.{Plan, most_tablet_rows}
 use Rattle.dr_formats.specs.TableFile.{most_tablets}
-use Rattle.dr_formats.specs.Tablets.{tablets, tablet_path, nth_directory}
+use Rattle.dr_formats.specs.Tablets.{tablets, tablet_path}
 use Rattle.dr_formats.specs.Writing.{file_bytes}
 use Rattle.dr_formats.specs.WritingLaws.{is_limited}
 use Rattle.dr_outside.specs.Link.{Files}
 use Rattle.dr_reading.specs.Scan.{Copy}
+use Rattle.dr_meaning.specs.Lists.{nth_text}
 
 -- a plan by which tables can be loaded: a schema, a directory at least, and at least one record to a tablet and at most 1,000,000
 pub record IsPlan (p : Plan) : Type 0 where
@@ -29,7 +30,7 @@ pub record AreLoadable (p : Plan) (R : List Node) : Type 0 where
 -- where a table file is put, its path is no tablet's in any of these directories
 abbrev pub IsApart : List (List ℕ) → Option (List ℕ) → Type 0
 IsApart directories None = ⊤
-IsApart directories (Some path) = (d tablet : ℕ) → d < length directories → tablet < most_tablets → path ≢ tablet_path (nth_directory directories d) tablet
+IsApart directories (Some path) = (d tablet : ℕ) → d < length directories → tablet < most_tablets → path ≢ tablet_path (nth_text directories d) tablet
 
 -- each of these copies holds these bytes
 abbrev pub CopiesHold : Files → List ℕ → List Copy → Type 0

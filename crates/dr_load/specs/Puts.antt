@@ -2,9 +2,10 @@
 use Rattle.std.specs.Prelude.{◌≡◌, ◌≢◌, ℕ, Bool, true, false, List, [], ◌∷◌, ◌++◌, map, bytes_eq, if◌then◌else◌, Option, Some, None, ⊤}
 use Rattle.std.specs.Option.{option_map}
 use Rattle.dr_formats.specs.Loading.{Put}
-use Rattle.dr_formats.specs.Tablets.{placement, tablet_path, nth_directory, copy_paths}
+use Rattle.dr_formats.specs.Tablets.{placement, tablet_path, copy_paths}
 use Rattle.std.specs.Prelude.{length}
 use Rattle.dr_outside.specs.Link.{Files, PutShown, LinkShown}
+use Rattle.dr_meaning.specs.Lists.{nth_text}
 
 -- a file on each copy of a tablet, in order
 abbrev pub copies_of : List (List ℕ) → ℕ → ℕ → List ℕ → List Put
@@ -12,7 +13,7 @@ copies_of directories copies tablet bytes = map (λ path. record { path = path; 
 
 -- where one copy of a tablet goes
 abbrev pub copy_path : List (List ℕ) → ℕ → ℕ → List ℕ
-copy_path directories tablet j = tablet_path (nth_directory directories (placement (length directories) tablet j)) tablet
+copy_path directories tablet j = tablet_path (nth_text directories (placement (length directories) tablet j)) tablet
 
 -- files with one put more
 abbrev pub with_file : Files → Put → Files

@@ -1,8 +1,9 @@
 //! Which words are refused.
 
 ghost use Rattle.std.specs.Prelude.{◌≡◌, map, string_bytes, IfErr, OnOk, None, Some};
-ghost use Rattle.dr_formats.specs.Loading.{is_directory_word, words_refusal};
+ghost use Rattle.dr_formats.specs.Loading.{words_refusal};
 ghost use Rattle.dr_load.specs.Words.{words_problem_view, no_lf};
+ghost use Rattle.dr_formats.specs.TableFile.{is_line_text};
 
 use memchr::memchr;
 
@@ -24,7 +25,7 @@ fn is_one_line(text: &[u8]) -> bool
 
 /// Whether a text can be a directory: it isn't empty and has no line feed.
 fn is_directory(text: &str) -> bool
-    ensures { result ≡ is_directory_word text.now }
+    ensures { result ≡ is_line_text text.now }
 {
     !text.is_empty() && is_one_line(text.as_bytes())
 }

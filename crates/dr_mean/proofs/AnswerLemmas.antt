@@ -12,7 +12,7 @@ use Rattle.dr_meaning.specs.Query.{RecordItem, Object, Selection, objects, level
 use Rattle.dr_meaning.specs.QueryLeaves.{query_leaves}
 use Rattle.dr_meaning.specs.BindingLaws.{has_shapes}
 use Rattle.dr_meaning.proofs.QueryLeavesLemmas.{leaves_are_enough}
-use Rattle.dr_nested.specs.PathView.{path_view}
+use Rattle.dr_nested.specs.PathView.{path_view, paths_view}
 use Rattle.dr_nested.specs.declared.record.Node.{Node as RecordNode}
 use Rattle.dr_plan.specs.Conjuncts.{all_of}
 use Rattle.dr_plan.specs.Objects.{ObjectTree, object_tree_of, tree_object}
@@ -20,7 +20,6 @@ use Rattle.dr_plan.specs.Planned.{Planned, plan_view, planned_query, objects_of_
 use Rattle.dr_plan.specs.declared.plan.Plan.{Plan}
 use Rattle.dr_plan.proofs.ConjunctLemmas.{rejoined_means_same}
 use Rattle.dr_plan.proofs.ObjectLemmas.{tree_makes_object}
-use Rattle.dr_rows.specs.Views.{paths_view}
 use Rattle.dr_mean.specs.Answers.{Answers}
 use Rattle.dr_mean.specs.Lines.{plan_kept, plan_projections}
 use Rattle.dr_mean.specs.Nested.{is_nested}

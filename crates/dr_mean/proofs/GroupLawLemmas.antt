@@ -10,13 +10,13 @@ use Rattle.dr_meaning.specs.Schema.{Fields}
 use Rattle.dr_meaning.specs.Path.{Step, longer}
 use Rattle.dr_meaning.specs.Record.{Value, Node, is_record, project}
 use Rattle.dr_meaning.specs.Rows.{rows}
-use Rattle.dr_meaning.specs.Expression.{Expression, constant, path_value, negative, arithmetic, comparison, like, contains, is_null, negation, conjunction, disjunction, paths_of, evaluate, is_true, expression_level, longest_level}
+use Rattle.dr_meaning.specs.Expression.{Expression, constant, path_value, negative, arithmetic, comparison, like, contains, is_null, negation, conjunction, disjunction, paths_of, evaluate, is_true, expression_chain, longest_chain}
 use Rattle.dr_meaning.specs.Kept.{kept, kept_along}
 use Rattle.dr_meaning.specs.Query.{GroupTerm, key, count_rows, aggregate, GroupItem, Selection, objects, groups, Query, key_tuple, levels_of}
 use Rattle.dr_meaning.specs.ProjectionLaws.{leads}
 use Rattle.dr_meaning.specs.MeaningLaws.{condition_paths, group_term_paths, all_lead, covers}
 use Rattle.dr_meaning.proofs.ProjectionLemmas.{rows_of_projection, values_of_projection}
-use Rattle.dr_meaning.proofs.MeaningLemmas.{evaluate-project, kept-project, longest_level-leads, longer-leads, both_lead}
+use Rattle.dr_meaning.proofs.MeaningLemmas.{evaluate-project, kept-project, longest_chain-leads, longer-leads, both_lead}
 use Rattle.dr_partials.specs.Partials.{Partial, grouped, partial_of, selected_partial, merge, Stands}
 use Rattle.dr_partials.specs.PartialLaws.{is_mergeable}
 use Rattle.dr_partials.specs.PartialTypes.{aggregates_among, with_aggregate, is_partial}
@@ -66,11 +66,11 @@ terms_put : (F : List (List Step)) (keys : List (List Step)) (i : ℕ) (ts : Lis
 terms_put F keys i [] ns h k = refl
 terms_put F keys i (key j ∷ ts) ns h k = terms_put F keys (suc i) ts ns h k
 terms_put F keys i (count_rows ∷ ts) ns h k =
-    ap₂ ◌++◌ (rows_put F keys i (λ row. None) (longest_level keys) ns h (longest_level-leads keys F h) (λ m. refl)) (terms_put F keys (suc i) ts ns h k)
+    ap₂ ◌++◌ (rows_put F keys i (λ row. None) (longest_chain keys) ns h (longest_chain-leads keys F h) (λ m. refl)) (terms_put F keys (suc i) ts ns h k)
 terms_put F keys i (aggregate a e ∷ ts) ns h k =
     let b = both_lead (paths_of e) (flat_map group_term_paths ts) F k in
     ap₂ ◌++◌
-    (rows_put F keys i (evaluate e) (longer (longest_level keys) (expression_level e)) ns h (longer-leads (longest_level keys) (expression_level e) F (longest_level-leads keys F h) (longest_level-leads (paths_of e) F b.0)) (λ m. evaluate-project F e m b.0))
+    (rows_put F keys i (evaluate e) (longer (longest_chain keys) (expression_chain e)) ns h (longer-leads (longest_chain keys) (expression_chain e) F (longest_chain-leads keys F h) (longest_chain-leads (paths_of e) F b.0)) (λ m. evaluate-project F e m b.0))
     (terms_put F keys (suc i) ts ns h b.1)
 
 -- the paths of the aggregates are among those of the items
@@ -101,8 +101,8 @@ selection_put F c (groups keys items) R h =
     let alone : Node → Put = λ (row : Node). record { keys = key_tuple keys row; taken = None } in
     ap (puts_of_selection (groups keys items)) (kept_projected F c k.0 R)
     ∙ ap₂ ◌++◌
-    (ap (map alone) (rows_projected F (longest_level keys) (longest_level-leads keys F l.0) ns)
-    ∙ map_projected F alone (λ (m : Node). ap (λ (t : List (Option Value)). record { keys = t; taken = None }) (tuple_projected F keys m l.0)) (flat_map (rows (longest_level keys)) ns))
+    (ap (map alone) (rows_projected F (longest_chain keys) (longest_chain-leads keys F l.0) ns)
+    ∙ map_projected F alone (λ (m : Node). ap (λ (t : List (Option Value)). record { keys = t; taken = None }) (tuple_projected F keys m l.0)) (flat_map (rows (longest_chain keys)) ns))
     (terms_put F keys 0 (aggregates_among items) ns l.0 (among_lead F items l.1))
 
 pub puts_of_projection : PutsOfProjection
@@ -132,7 +132,7 @@ kept_rejoined e [] n h = absurd (no_conjuncts e h)
 kept_rejoined e (f ∷ fs) n h =
     kept_by_all f fs n
     ∙ ap₂ (λ (p : List Step) (test : Node → Bool). kept_along p test n)
-    (ap longest_level (ap (flat_map paths_of) (sym h) ∙ conjuncts_have_paths e))
+    (ap longest_chain (ap (flat_map paths_of) (sym h) ∙ conjuncts_have_paths e))
     (fun_ext (λ row. ap (λ (es : List Expression). list_all (λ g. is_true (evaluate g row)) es) (sym h) ∙ sym (true_where_each_is e row)))
 
 condition_rejoined : (c : Option Expression) (n : Node) → kept (all_of (condition_conjuncts c)) n ≡ kept c n

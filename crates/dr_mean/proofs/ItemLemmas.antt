@@ -52,8 +52,8 @@ pub lists_next : (ls : List list_plans.ListPlan) (k : ℕ) (l : list_plans.ListP
     → plan_lists_view (drop k ls) ≡ list_tree (plan_list_view l).name (plan_list_view l).level (plan_list_view l).object (plan_lists_view (drop (k + 1) ls))
 lists_next ls k l h g = ap plan_lists_view (drop_more ls k l h ∙ ap (λ x. x ∷ drop (k + 1) ls) (sym g))
 
-pub list_level : (l : list_plans.ListPlan) → (plan_list_view l).level ≡ map step_view (list_plans.out-ListPlan l).level.items
-list_level l = ap (λ x. x.level) (view-list_plan l)
+pub list_chain : (l : list_plans.ListPlan) → (plan_list_view l).level ≡ map step_view (list_plans.out-ListPlan l).level.items
+list_chain l = ap (λ x. x.level) (view-list_plan l)
 
 pub list_object : (l : list_plans.ListPlan) → (plan_list_view l).object ≡ object_view (list_plans.out-ListPlan l).object
 list_object l = ap (λ x. x.object) (view-list_plan l)

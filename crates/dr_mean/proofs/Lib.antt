@@ -1,5 +1,5 @@
 -- lengths of chains
-pub mod LevelLemmas
+pub mod ChainLemmas
 -- levels of operands
 pub mod OperandLemmas
 -- conditions of several tests

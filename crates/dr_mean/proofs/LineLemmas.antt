@@ -20,10 +20,10 @@ use Rattle.dr_plan.specs.declared.plan.Plan.{Plan}
 use Rattle.dr_plan.specs.declared.plan.RecordItem.{RecordItem as PlanItem}
 use Rattle.dr_rows.specs.Known.{Known, known}
 use Rattle.dr_rows.specs.Pruning.{kept_if}
-use Rattle.dr_rows.specs.Views.{paths_view}
 use Rattle.dr_mean.specs.Condition.{plan_tests}
 use Rattle.dr_mean.specs.RowsOf.{IsTyped, IsRow}
 use Rattle.dr_mean.specs.Lines.{Selects, plan_kept, plan_projections, kept_cells}
+use Rattle.dr_nested.specs.PathView.{paths_view}
 
 pub alone : (fields : Fields) (n : Node) → list_all (has_shapes fields) (n ∷ []) ≡ true → has_shapes fields n ≡ true
 alone fields n h =

@@ -5,9 +5,9 @@ use Rattle.std.proofs.Common.{refl, sym, ap, ap₂, ◌∙◌, arith}
 use Rattle.std.proofs.lemmas.Bool.{and_parts}
 use Rattle.std.proofs.lemmas.Bool.Decides.{nat_tests}
 use Rattle.dr_meaning.specs.Schema.{Schema, Repetition, required, optional, repeated, Fields, no_fields, field, Shape, leaf, group}
-use Rattle.dr_meaning.specs.Path.{Step, begins_with, same_path, level}
-use Rattle.dr_meaning.specs.Expression.{Expression, expression_level}
-use Rattle.dr_meaning.specs.Query.{RecordTerm, expression, within, RecordItem, Selection, objects, groups, Query, Levels, no_levels, deeper, levels_of, levels_in, shape_levels, as_level, append_levels, term_level, leads_to_items}
+use Rattle.dr_meaning.specs.Path.{Step, begins_with, same_path, chain_end}
+use Rattle.dr_meaning.specs.Expression.{Expression, expression_chain}
+use Rattle.dr_meaning.specs.Query.{RecordTerm, expression, within, RecordItem, Selection, objects, groups, Query, Levels, no_levels, deeper, levels_of, levels_in, shape_levels, as_level, append_levels, term_chain, leads_to_items}
 use Rattle.dr_meaning.specs.Syntax.{QuerySyntax}
 use Rattle.dr_meaning.specs.BoundExpression.{bind_path, BoundPath, fault_at, bad_within}
 use Rattle.dr_meaning.specs.Binding.{BoundWithin, BoundTerm, plain, rows_counted, aggregated, BoundItem, is_record_syntax, bind_items, passing, within_faults, holds_rows, record_term, record_item, group_item, bind}
@@ -49,16 +49,16 @@ begins_longer (s ∷ p) (t ∷ q) r h =
 
 abbrev pub term_reaches : RecordTerm → Bool
 term_reaches (expression e) = true
-term_reaches (within a e node) = begins_with (level node) (expression_level e)
+term_reaches (within a e node) = begins_with (chain_end node) (expression_chain e)
 
 abbrev pub all_reach : List RecordItem → Bool
 all_reach items = list_all (λ (i : RecordItem). term_reaches i.term) items
 
-held_rows : (e : Expression) (w : BoundWithin) → (if holds_rows e w then [] else fault_at w.place bad_within) ≡ [] → begins_with w.node (expression_level e) ≡ true
+held_rows : (e : Expression) (w : BoundWithin) → (if holds_rows e w then [] else fault_at w.place bad_within) ≡ [] → begins_with w.node (expression_chain e) ≡ true
 held_rows e w h = by_test (holds_rows e w) refl h
   where
-    by_test : (b : Bool) → holds_rows e w ≡ b → (if b then [] else fault_at w.place bad_within) ≡ [] → begins_with w.node (expression_level e) ≡ true
-    by_test true k g = (and_parts w.is_whole (begins_with w.node (expression_level e)) k).1
+    by_test : (b : Bool) → holds_rows e w ≡ b → (if b then [] else fault_at w.place bad_within) ≡ [] → begins_with w.node (expression_chain e) ≡ true
+    by_test true k g = (and_parts w.is_whole (begins_with w.node (expression_chain e)) k).1
     by_test false k g = absurd (cc)
 
 items_reach : (vs : List BoundItem) → flat_map (λ (i : BoundItem). within_faults i.term) vs ≡ [] → all_reach (filter_map record_item vs) ≡ true
@@ -71,7 +71,7 @@ items_reach (v ∷ vs) w = let k = both_empty (within_faults v.term) (flat_map (
     by_term (rows_counted o) x r = r
     by_term (aggregated a e None) x r = r
     by_term (aggregated a e (Some o)) x r =
-        ap₂ ◌&&◌ (begins_along (level o.node) o.node (expression_level e.expression) (level-front o.node) (held_rows e.expression o x)) r
+        ap₂ ◌&&◌ (begins_along (chain_end o.node) o.node (expression_chain e.expression) (level-front o.node) (held_rows e.expression o x)) r
 
 abbrev selection_reaches : Selection → Bool
 selection_reaches (objects items) = all_reach items
@@ -106,22 +106,22 @@ one_later n k = omega arith
 no_shift : (k : ℕ) → 0 + k ≡ k
 no_shift k = omega arith
 
-term_below : (p : List Step) (t : RecordTerm) → same_path p (term_level t) ≡ true → term_reaches t ≡ true → term_is_below p t ≡ true
+term_below : (p : List Step) (t : RecordTerm) → same_path p (term_chain t) ≡ true → term_reaches t ≡ true → term_is_below p t ≡ true
 term_below p (expression e) h r = refl
 term_below p (within a e node) h r =
-    let b : (begins_with p (level node) ≡ true) × (begins_with (level node) p ≡ true) = and_parts _ _ h in
-    begins_along p (level node) (expression_level e) b.0 r
+    let b : (begins_with p (chain_end node) ≡ true) × (begins_with (chain_end node) p ≡ true) = and_parts _ _ h in
+    begins_along p (chain_end node) (expression_chain e) b.0 r
 
 places_below : (items : List RecordItem) (n : ℕ) (is : List RecordItem) (p : List Step) → From items n is → all_reach is ≡ true → items_are_below items p (places_at n is p) ≡ true
 places_below items n [] p h r = refl
 places_below items n (i ∷ is) p h r =
     let d : (term_reaches i.term ≡ true) × (all_reach is ≡ true) = and_parts _ _ r in
-    by_level (same_path p (term_level i.term)) refl d.0 (places_below items (suc n) is p (λ k j e. ap (slice_get items) (one_later n k) ∙ h (suc k) j e) d.1)
+    by_level (same_path p (term_chain i.term)) refl d.0 (places_below items (suc n) is p (λ k j e. ap (slice_get items) (one_later n k) ∙ h (suc k) j e) d.1)
   where
     here : slice_get items n ≡ Some i
     here = ap (slice_get items) (sym (at_zero n)) ∙ h 0 i refl
 
-    by_level : (b : Bool) → same_path p (term_level i.term) ≡ b → term_reaches i.term ≡ true → items_are_below items p (places_at (suc n) is p) ≡ true
+    by_level : (b : Bool) → same_path p (term_chain i.term) ≡ b → term_reaches i.term ≡ true → items_are_below items p (places_at (suc n) is p) ≡ true
         → items_are_below items p (if b then n ∷ places_at (suc n) is p else places_at (suc n) is p) ≡ true
     by_level true e t g = ap₂ ◌&&◌ (ap (item_is_below p) here ∙ term_below p i.term e t) g
     by_level false e t g = g

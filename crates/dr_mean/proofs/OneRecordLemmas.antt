@@ -8,7 +8,7 @@ use Rattle.std.proofs.lemmas.Bool.Decides.{nat_tests}
 use Rattle.dr_meaning.specs.Path.{Step, Leaf, longer}
 use Rattle.dr_meaning.specs.Record.{Node}
 use Rattle.dr_meaning.specs.Rows.{rows}
-use Rattle.dr_meaning.specs.Expression.{evaluate, expression_level, longest_level}
+use Rattle.dr_meaning.specs.Expression.{evaluate, expression_chain, longest_chain}
 use Rattle.dr_meaning.specs.Kept.{kept}
 use Rattle.dr_meaning.specs.Query.{GroupTerm, key, count_rows, aggregate, GroupItem, groups, objects, RecordItem, Selection, Levels, levels_of, selected, meaning, key_tuple}
 use Rattle.dr_partials.specs.Partials.{lines, partial_of, selected_partial}
@@ -29,9 +29,9 @@ rows_of_one p n = append-nil (rows p n)
 terms_of_one : (keys : List (List Step)) (i : ℕ) (ts : List GroupTerm) (n : Node) → puts_of_terms keys i ts (n ∷ []) ≡ term_puts keys i ts n
 terms_of_one keys i [] n = refl
 terms_of_one keys i (key j ∷ ts) n = terms_of_one keys (suc i) ts n
-terms_of_one keys i (count_rows ∷ ts) n = ap₂ ◌++◌ (ap (puts_of_rows keys i (λ row. None)) (rows_of_one (longest_level keys) n)) (terms_of_one keys (suc i) ts n)
+terms_of_one keys i (count_rows ∷ ts) n = ap₂ ◌++◌ (ap (puts_of_rows keys i (λ row. None)) (rows_of_one (longest_chain keys) n)) (terms_of_one keys (suc i) ts n)
 terms_of_one keys i (aggregate a e ∷ ts) n =
-    ap₂ ◌++◌ (ap (puts_of_rows keys i (evaluate e)) (rows_of_one (longer (longest_level keys) (expression_level e)) n)) (terms_of_one keys (suc i) ts n)
+    ap₂ ◌++◌ (ap (puts_of_rows keys i (evaluate e)) (rows_of_one (longer (longest_chain keys) (expression_chain e)) n)) (terms_of_one keys (suc i) ts n)
 
 terms_of_none : (keys : List (List Step)) (i : ℕ) (ts : List GroupTerm) → puts_of_terms keys i ts [] ≡ []
 terms_of_none keys i [] = refl
@@ -42,7 +42,7 @@ terms_of_none keys i (aggregate a e ∷ ts) = terms_of_none keys (suc i) ts
 by_kept : (keys : List (List Step)) (items : List GroupItem) (o : Option Node) → puts_of_selection (groups keys items) (cons_option o []) ≡ record_puts keys (aggregates_among items) o
 by_kept keys items None = terms_of_none keys 0 (aggregates_among items)
 by_kept keys items (Some n) =
-    ap₂ ◌++◌ (ap (map (λ (row : Node). record { keys = key_tuple keys row; taken = None })) (rows_of_one (longest_level keys) n)) (terms_of_one keys 0 (aggregates_among items) n)
+    ap₂ ◌++◌ (ap (map (λ (row : Node). record { keys = key_tuple keys row; taken = None })) (rows_of_one (longest_chain keys) n)) (terms_of_one keys 0 (aggregates_among items) n)
 
 pub puts_of_one : PutsOfOne
 puts_of_one c keys items n = by_kept keys items (kept c n)

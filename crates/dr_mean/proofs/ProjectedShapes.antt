@@ -5,7 +5,7 @@ use Rattle.std.proofs.Common.{refl, ap₂}
 use Rattle.std.proofs.lemmas.Bool.{and_parts}
 use Rattle.dr_meaning.specs.Schema.{Fields, no_fields, field, Shape, leaf, group}
 use Rattle.dr_meaning.specs.Path.{Step}
-use Rattle.dr_meaning.specs.Record.{Node, no_slots, slot, gap, Instances, no_instances, instance, Instance, atom, inner, all_instances, is_record, project, project_all, project_one, slot_for, here, there}
+use Rattle.dr_meaning.specs.Record.{Node, no_slots, slot, gap, Instances, no_instances, instance, Instance, atom, inner, all_instances, is_record, project, project_all, project_one, slot_for, through_first, through_later}
 use Rattle.dr_meaning.specs.BindingLaws.{has_shapes, has_shape, fits_first}
 use Rattle.dr_meaning.proofs.HasShapesLemmas.{records_have_shapes}
 
@@ -19,8 +19,8 @@ mutual
   projected_shapes no_slots (field m r s fs) F h = refl
   projected_shapes (slot xs n) (field m r s fs) F h =
       let b : (all_instances (has_shape s) xs ≡ true) × (has_shapes fs n ≡ true) = and_parts _ _ h in
-      slot_fits (has_shape s) (has_shapes fs) (here F) (project_all (here F) xs) (project (there F) n) (projected_all xs s (here F) b.0) (projected_shapes n fs (there F) b.1)
-  projected_shapes (gap n) (field m r s fs) F h = projected_shapes n fs (there F) h
+      slot_fits (has_shape s) (has_shapes fs) (through_first F) (project_all (through_first F) xs) (project (through_later F) n) (projected_all xs s (through_first F) b.0) (projected_shapes n fs (through_later F) b.1)
+  projected_shapes (gap n) (field m r s fs) F h = projected_shapes n fs (through_later F) h
 
   projected_all : (xs : Instances) (s : Shape) (F : List (List Step)) → all_instances (has_shape s) xs ≡ true → all_instances (has_shape s) (project_all F xs) ≡ true
   projected_all no_instances s F h = refl

@@ -21,13 +21,13 @@ use Rattle.dr_plan.specs.Planned.{Planned}
 use Rattle.dr_plan.specs.declared.plan.Plan.{Plan}
 use Rattle.dr_group.specs.Gathering.{Becomes}
 use Rattle.dr_rows.specs.Pruning.{kept_if}
-use Rattle.dr_rows.specs.Views.{paths_view}
 use Rattle.dr_mean.specs.Condition.{plan_tests}
 use Rattle.dr_mean.specs.GroupLaws.{term_puts, record_puts}
 use Rattle.dr_mean.specs.GroupPuts.{AreTyped, aggregate_puts, projections, records_puts}
 use Rattle.dr_mean.specs.Lines.{plan_kept}
 use Rattle.dr_mean.specs.RowsOf.{IsTyped}
 use Rattle.dr_mean.proofs.OneRecordLemmas.{put_in_parts}
+use Rattle.dr_nested.specs.PathView.{paths_view}
 
 -- what became so where nothing failed
 pub ok_each : (r : Result (Unit {0}) NoMemory) (before after : Partial) (I : Planned → Type 0) (meant : Planned → Partial) → ((p : Planned) → I p → Becomes before after (meant p) r) → OnOk r ((p : Planned) → I p → after ≡ meant p)

@@ -26,7 +26,6 @@ use Rattle.dr_plan.specs.declared.aggregate.Aggregate.{Aggregate}
 use Rattle.dr_plan.specs.declared.plan.Plan.{Plan}
 use Rattle.dr_plan.specs.declared.plan.GroupItem.{GroupItem as PlanItem}
 use Rattle.dr_plan.specs.declared.plan.Selection.{Selection as Selected}
-use Rattle.dr_rows.specs.Views.{paths_view}
 use Rattle.dr_mean.specs.Answers.{Answers}
 use Rattle.dr_mean.specs.GroupLaws.{record_puts}
 use Rattle.dr_mean.specs.GroupPuts.{projections, records_puts}
@@ -35,6 +34,7 @@ use Rattle.dr_mean.specs.Takings.{key_paths}
 use Rattle.dr_mean.proofs.AnswerLemmas.{plan_paths}
 use Rattle.dr_mean.proofs.GroupLawLemmas.{puts_of_projection, one_record_more, puts_rejoined, stands_is}
 use Rattle.dr_mean.proofs.OneRecordLemmas.{puts_of_one, put_in_parts, plan_aggregates}
+use Rattle.dr_nested.specs.PathView.{paths_view}
 
 -- an aggregate query that is bound, and leaves that are enough for it
 record Grouped : Type 0 where

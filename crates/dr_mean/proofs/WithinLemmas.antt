@@ -6,11 +6,10 @@ use Rattle.std.proofs.lemmas.Bool.Decides.{nat_tests}
 use Rattle.std.proofs.lemmas.List.{take-map, length-map}
 use Rattle.dr_meaning.specs.Path.{Step, begins_with, same_path}
 use Rattle.dr_meaning.specs.Record.{Node}
-use Rattle.dr_nested.specs.PathView.{step_view}
+use Rattle.dr_nested.specs.PathView.{step_view, paths_view}
 use Rattle.dr_nested.specs.declared.path.Path.{Path}
 use Rattle.dr_nested.specs.declared.path.Step as steps
 use Rattle.dr_rows.specs.Known.{Known, known, is_cut}
-use Rattle.dr_rows.specs.Views.{paths_view}
 use Rattle.dr_rows.proofs.RowLawLemmas.{places_tell}
 use Rattle.dr_mean.specs.RowsOf.{IsRow}
 
@@ -33,15 +32,15 @@ begins_short (s ∷ p) (t ∷ q) h =
     omega (arith, begins_short p q b.1)
 
 -- what is known of it is known at the first steps of the longer level, and it is cut along these
-pub row_within : (ls : List Path) (level : List Step) (longer : List steps.Step) (n : ℕ) (k : Known) (whole : Node) → IsRow ls level k whole → begins_with level (map step_view longer) ≡ true
-    → (length level ≤ length longer → n ≡ length level)
+pub row_within : (ls : List Path) (chain : List Step) (longer : List steps.Step) (n : ℕ) (k : Known) (whole : Node) → IsRow ls chain k whole → begins_with chain (map step_view longer) ≡ true
+    → (length chain ≤ length longer → n ≡ length chain)
     → (is_cut (map step_view (take n longer)) whole ≡ true) × (k ≡ known (paths_view ls) (map step_view (take n longer)) whole)
-row_within ls level longer n k whole r h m =
-    let short : length level ≤ length longer = omega (arith, begins_short level (map step_view longer) h, length-map longer step_view) in
-    let front : take (length level) (map step_view longer) ≡ map step_view (take n longer) =
-    take-map step_view (length level) longer ∙ ap (λ (i : ℕ). map step_view (take i longer)) (sym (m short)) in
-    let same : same_path level (map step_view (take n longer)) ≡ true = ap (same_path level) (sym front) ∙ begins_take level (map step_view longer) h in
-    let told = places_tell (paths_view ls) level (map step_view (take n longer)) whole same in
+row_within ls chain longer n k whole r h m =
+    let short : length chain ≤ length longer = omega (arith, begins_short chain (map step_view longer) h, length-map longer step_view) in
+    let front : take (length chain) (map step_view longer) ≡ map step_view (take n longer) =
+    take-map step_view (length chain) longer ∙ ap (λ (i : ℕ). map step_view (take i longer)) (sym (m short)) in
+    let same : same_path chain (map step_view (take n longer)) ≡ true = ap (same_path chain) (sym front) ∙ begins_take chain (map step_view longer) h in
+    let told = places_tell (paths_view ls) chain (map step_view (take n longer)) whole same in
     (sym told.2 ∙ r.cut, r.is ∙ told.1)
 
 pub on_ok_by : {A E : Type 0} (r : Result A E) (P Q : Type 0) → OnOk r P → (P → Q) → OnOk r Q

@@ -9,8 +9,8 @@ use Rattle.dr_meaning.specs.Binding.{bind}
 use Rattle.dr_nested.specs.declared.record.Node.{Node as RecordNode}
 use Rattle.dr_plan.specs.Planned.{plan_view, planned}
 use Rattle.dr_plan.specs.declared.plan.Plan.{Plan}
-use Rattle.dr_rows.specs.Views.{paths_view}
 use Rattle.dr_mean.specs.Lines.{plan_projections}
+use Rattle.dr_nested.specs.PathView.{paths_view}
 
 -- the plan is of a query bound to a schema; the records have the same projections to its leaves as some records of the schema: they are
 -- these records, or projections of them

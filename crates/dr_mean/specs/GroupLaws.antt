@@ -12,7 +12,7 @@ use Rattle.dr_partials.specs.Partials.{Group, Partial, lines, grouped, partial_o
 use Rattle.dr_partials.specs.Putting.{Put, puts_of, puts_of_rows, put_all}
 use Rattle.dr_meaning.specs.Kept.{kept}
 use Rattle.dr_meaning.specs.Rows.{rows}
-use Rattle.dr_meaning.specs.Expression.{Expression, evaluate, expression_level, longest_level}
+use Rattle.dr_meaning.specs.Expression.{Expression, evaluate, expression_chain, longest_chain}
 use Rattle.dr_meaning.specs.Query as query
 use Rattle.dr_partials.specs.PartialTypes.{aggregates_among}
 use Rattle.dr_plan.specs.Fitting.{aggregate_number, are_numbered}
@@ -39,15 +39,15 @@ OneRecordMore = (s : Schema) (q : QuerySyntax) (b : Query) (R : List Node) (r : 
 abbrev pub term_puts : List (List Step) → ℕ → List GroupTerm → Node → List Put
 term_puts keys i [] n = []
 term_puts keys i (key j ∷ ts) n = term_puts keys (suc i) ts n
-term_puts keys i (count_rows ∷ ts) n = puts_of_rows keys i (λ row. None) (rows (longest_level keys) n) ++ term_puts keys (suc i) ts n
+term_puts keys i (count_rows ∷ ts) n = puts_of_rows keys i (λ row. None) (rows (longest_chain keys) n) ++ term_puts keys (suc i) ts n
 term_puts keys i (aggregate a e ∷ ts) n =
-    puts_of_rows keys i (evaluate e) (rows (longer (longest_level keys) (expression_level e)) n) ++ term_puts keys (suc i) ts n
+    puts_of_rows keys i (evaluate e) (rows (longer (longest_chain keys) (expression_chain e)) n) ++ term_puts keys (suc i) ts n
 
 -- the key tuples of its rows, and then the aggregates
 abbrev pub record_puts : List (List Step) → List GroupTerm → Option Node → List Put
 record_puts keys ts None = []
 record_puts keys ts (Some n) =
-    map (λ (row : Node). record { keys = query.key_tuple keys row; taken = None }) (rows (longest_level keys) n) ++ term_puts keys 0 ts n
+    map (λ (row : Node). record { keys = query.key_tuple keys row; taken = None }) (rows (longest_chain keys) n) ++ term_puts keys 0 ts n
 
 -- these are what is put of the record
 abbrev pub PutsOfOne : Type 0

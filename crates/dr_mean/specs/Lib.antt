@@ -1,5 +1,5 @@
--- the levels of a plan's expressions
-pub mod Levels
+-- the chains of a plan's expressions
+pub mod Chains
 -- the condition of a plan
 pub mod Condition
 -- rows of records of a schema

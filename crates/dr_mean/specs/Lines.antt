@@ -7,13 +7,12 @@ use Rattle.dr_meaning.specs.Query.{Query, RecordItem}
 use Rattle.dr_meaning.specs.QueryLeaves.{query_leaves}
 use Rattle.dr_meaning.specs.BindingLaws.{has_shapes}
 use Rattle.dr_nested.specs.Views.{node_view}
-use Rattle.dr_nested.specs.PathView.{path_view}
+use Rattle.dr_nested.specs.PathView.{path_view, paths_view}
 use Rattle.dr_nested.specs.declared.path.Path.{Path}
 use Rattle.dr_nested.specs.declared.record.Node.{Node as RecordNode}
 use Rattle.dr_plan.specs.Objects.{ObjectTree, tree_object}
 use Rattle.dr_plan.specs.declared.plan.Plan.{Plan}
 use Rattle.dr_cells.specs.Results.{ResultCell, object_cells}
-use Rattle.dr_rows.specs.Views.{paths_view}
 pub use Rattle.dr_mean.specs.Condition.{plan_kept}
 use Rattle.dr_mean.specs.Nested.{is_nested}
 use Rattle.dr_mean.specs.ObjectCells.{items_view}

@@ -2,14 +2,14 @@
 use Rattle.std.specs.Prelude.{ℕ, List, [], ◌∷◌, Bool, true, ◌&&◌, Option, Some, None}
 use Rattle.std.specs.List.{slice_get}
 use Rattle.dr_meaning.specs.Path.{Step, begins_with}
-use Rattle.dr_meaning.specs.Expression.{expression_level}
+use Rattle.dr_meaning.specs.Expression.{expression_chain}
 use Rattle.dr_meaning.specs.Query.{RecordTerm, expression, within, RecordItem}
 use Rattle.dr_plan.specs.Objects.{ObjectTree, object_tree, ListTrees, no_lists, list_tree}
 
 -- an aggregate within the instances of a level goes over rows below them
 abbrev pub term_is_below : List Step → RecordTerm → Bool
 term_is_below p (expression e) = true
-term_is_below p (within a e node) = begins_with p (expression_level e)
+term_is_below p (within a e node) = begins_with p (expression_chain e)
 
 -- the same of an item, if there is one
 abbrev pub item_is_below : List Step → Option RecordItem → Bool

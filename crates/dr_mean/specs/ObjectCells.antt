@@ -26,6 +26,6 @@ abbrev pub items_cells : List RecordItem → List ℕ → Node → List ResultCe
 items_cells items [] row = []
 items_cells items (n ∷ ns) row = item_cells (slice_get items n) row ++ items_cells items ns row
 
--- the cells of the object of a row, where an instance stands at the end of its level
+-- the cells of the object of a row, where an instance stands at the end of its chain
 abbrev pub instance_cells : List RecordItem → List Step → ObjectTree → Node → List ResultCell
 instance_cells items p o row = if is_present p row then object_cells (tree_object items o row) else []

@@ -2,23 +2,23 @@
 
 ghost use Rattle.std.specs.Prelude.{◌≡◌, map, true, Some, IfOk, OnOk};
 ghost use Rattle.dr_meaning.specs.Record.{project as meant_project};
-ghost use Rattle.dr_nested.specs.PathView.{path_view};
+ghost use Rattle.dr_nested.specs.PathView.{path_view, paths_view};
 ghost use Rattle.dr_nested.specs.Views.{node_view};
 ghost use Rattle.dr_partials.specs.Putting.{put_all};
 ghost use Rattle.dr_plan.specs.Fitting.{aggregate_fits, expr_fits};
 ghost use Rattle.dr_plan.specs.Planned.{Planned, planned_query};
 ghost use Rattle.dr_plan.specs.Views.{aggregate_view, expr_view};
 ghost use Rattle.dr_group.specs.Partials.{partial_view, IsPartialOf};
-ghost use Rattle.dr_rows.specs.Views.{paths_view, rows_view};
+ghost use Rattle.dr_rows.specs.Views.{rows_view};
 ghost use Rattle.dr_mean.specs.GroupLaws.{record_puts, term_puts};
 ghost use Rattle.dr_mean.specs.GroupPuts.{AreKeyRows, AreTyped, aggregate_puts, expression_puts, projections, records_puts};
 ghost use Rattle.dr_mean.specs.Lines.{plan_kept};
 ghost use Rattle.dr_mean.specs.RowsOf.{IsTyped};
 ghost use Rattle.dr_mean.specs.Takings.{key_paths};
 
+use crate::chains::{expression_chain, keys_chain};
 use crate::grouping::Grouping;
 use crate::keeping::keep;
-use crate::levels::{expression_level, keys_level};
 use crate::taking::{Taking, put_rows};
 use dr_group::Partial;
 use dr_memory::NoMemory;
@@ -40,7 +40,7 @@ fn number_of(place: usize) -> Result<u32, NoMemory>
     Ok(number)
 }
 
-/// Puts the values of an expression for the aggregate of a number: those in the rows of the longer of its level and the
+/// Puts the values of an expression for the aggregate of a number: those in the rows of the longer of its chain and the
 /// keys'.
 fn put_values(
     alloc: Global,
@@ -59,11 +59,11 @@ fn put_values(
         expression.now) (node_view whole.now)) (partial_view partial.old)) }
     ensures of_plan { (p : Planned) → IsPartialOf p partial.old → IsPartialOf p partial.new }
 {
-    let level = longer(
-        keys_level(groups.leaves, groups.keys),
-        expression_level(groups.leaves, expression),
+    let chain = longer(
+        keys_chain(groups.leaves, groups.keys),
+        expression_chain(groups.leaves, expression),
     );
-    let rows = rows_of(alloc, groups.leaves, level, whole)?;
+    let rows = rows_of(alloc, groups.leaves, chain, whole)?;
     put_rows(
         alloc,
         groups,
@@ -73,7 +73,7 @@ fn put_values(
     )
 }
 
-/// Puts what the aggregate at a place takes of a record, of which some rows are those of the keys' level.
+/// Puts what the aggregate at a place takes of a record, of which some rows are those of the keys' chain.
 fn put_aggregate(
     alloc: Global,
     groups: Grouping<'_>,
@@ -102,7 +102,7 @@ fn put_aggregate(
     }
 }
 
-/// Puts what the aggregates take of a record, one after another. Some rows are those of the keys' level.
+/// Puts what the aggregates take of a record, one after another. Some rows are those of the keys' chain.
 fn put_aggregates(
     alloc: Global,
     groups: Grouping<'_>,
@@ -142,8 +142,8 @@ fn put_whole(
         groups.entry.aggregates.now) (Some (node_view whole.now))) (partial_view partial.old)) }
     ensures of_plan { (p : Planned) → IsPartialOf p partial.old → IsPartialOf p partial.new }
 {
-    let level = keys_level(groups.leaves, groups.keys);
-    let rows = rows_of(alloc, groups.leaves, level, whole)?;
+    let chain = keys_chain(groups.leaves, groups.keys);
+    let rows = rows_of(alloc, groups.leaves, chain, whole)?;
     put_rows(alloc, groups, Taking::Nothing, &rows, partial)?;
     put_aggregates(alloc, groups, &rows, whole, partial)
 }

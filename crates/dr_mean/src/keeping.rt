@@ -6,15 +6,15 @@ ghost use Rattle.dr_meaning.specs.Path.{Step as MeantStep};
 ghost use Rattle.dr_meaning.specs.Record as record_tree;
 ghost use Rattle.dr_meaning.specs.Rows as rows_meaning;
 ghost use Rattle.dr_nested.specs.Views.{node_view};
-ghost use Rattle.dr_nested.specs.PathView.{step_view};
+ghost use Rattle.dr_nested.specs.PathView.{step_view, paths_view};
 ghost use Rattle.dr_rows.specs.Known.{known};
 ghost use Rattle.dr_rows.specs.Pruning.{kept_if};
-ghost use Rattle.dr_rows.specs.Views.{paths_view, rows_view};
+ghost use Rattle.dr_rows.specs.Views.{rows_view};
 ghost use Rattle.dr_scalar.specs.Tests.{all_true};
 ghost use Rattle.dr_mean.specs.RowsOf.{IsTyped};
 ghost use Rattle.dr_mean.specs.Condition.{plan_kept, plan_tests};
 
-use crate::levels::tests_level;
+use crate::chains::tests_chain;
 use dr_memory::NoMemory;
 use dr_nested::{Node, Step};
 use dr_plan::Plan;
@@ -24,9 +24,9 @@ use std::alloc::Global;
 
 /// The answers of a plan's condition for rows, in order.
 fn answer_rows(alloc: Global, plan: &Plan, rows: &Rows<'_>) -> Result<Vec<bool>, NoMemory>
-    ensures { IfOk result (λ v. (level : List MeantStep) (n : record_tree.Node) → IsTyped (plan.now).leaves.items n
-        → rows_view rows.now ≡ map (known (paths_view (plan.now).leaves.items) level) (rows_meaning.rows level n)
-        → v.items ≡ map (all_true (plan_tests plan.now)) (rows_meaning.rows level n)) }
+    ensures { IfOk result (λ v. (chain : List MeantStep) (n : record_tree.Node) → IsTyped (plan.now).leaves.items n
+        → rows_view rows.now ≡ map (known (paths_view (plan.now).leaves.items) chain) (rows_meaning.rows chain n)
+        → v.items ≡ map (all_true (plan_tests plan.now)) (rows_meaning.rows chain n)) }
 {
     let mut answers = Vec::with_capacity(alloc, rows.len())?;
     'rows: for number in 0..rows.len() {
@@ -36,18 +36,18 @@ fn answer_rows(alloc: Global, plan: &Plan, rows: &Rows<'_>) -> Result<Vec<bool>,
     Ok(answers)
 }
 
-/// The answers of a plan's condition for the rows of a record at a level, in order.
+/// The answers of a plan's condition for the rows of a record of a chain, in order.
 fn answers_of(
     alloc: Global,
     plan: &Plan,
-    level: &[Step],
+    chain: &[Step],
     whole: &Node,
 ) -> Result<Vec<bool>, NoMemory>
     ensures { IfOk result (λ v. IsTyped (plan.now).leaves.items (node_view whole.now)
-        → v.items ≡ map (all_true (plan_tests plan.now)) (rows_meaning.rows (map step_view level.now)
+        → v.items ≡ map (all_true (plan_tests plan.now)) (rows_meaning.rows (map step_view chain.now)
         (node_view whole.now))) }
 {
-    let rows = rows_of(alloc, &plan.leaves, level, whole)?;
+    let rows = rows_of(alloc, &plan.leaves, chain, whole)?;
     answer_rows(alloc, plan, &rows)
 }
 
@@ -63,7 +63,7 @@ pub fn keep(alloc: Global, plan: &Plan, whole: &mut Node) -> Result<bool, NoMemo
     if plan.test.is_empty() {
         return Ok(true);
     }
-    let level = tests_level(&plan.leaves, &plan.test);
-    let answers = answers_of(alloc, plan, level, whole)?;
-    Ok(prune(whole, level, &answers))
+    let chain = tests_chain(&plan.leaves, &plan.test);
+    let answers = answers_of(alloc, plan, chain, whole)?;
+    Ok(prune(whole, chain, &answers))
 }

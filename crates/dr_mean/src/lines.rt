@@ -12,11 +12,11 @@ ghost use Rattle.dr_cells.specs.Results.{result_cells};
 ghost use Rattle.dr_cells.specs.Rows.{rows_shape, rows_view};
 ghost use Rattle.dr_cells.specs.Shapes.{plan_shape};
 ghost use Rattle.dr_cells.specs.Views.{cells_view};
-ghost use Rattle.dr_rows.specs.Views.{paths_view};
 ghost use Rattle.dr_plan.specs.declared.plan.Selection.TheVariants.{Objects};
 ghost use Rattle.dr_mean.specs.Answers.{Answers};
 ghost use Rattle.dr_mean.specs.Lines.{kept_cells, plan_kept, plan_projections, Selects};
 ghost use Rattle.dr_mean.specs.ObjectCells.{items_view};
+ghost use Rattle.dr_nested.specs.PathView.{paths_view};
 
 use crate::items::Items;
 use crate::keeping::keep;

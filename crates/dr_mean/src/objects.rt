@@ -6,7 +6,7 @@ ghost use Rattle.dr_meaning.specs.Path.{Step as MeantStep, begins_with};
 ghost use Rattle.dr_meaning.specs.Query.{RecordItem as MeantItem, term_value};
 ghost use Rattle.dr_meaning.specs.Record as record_tree;
 ghost use Rattle.dr_meaning.specs.Rows as rows_meaning;
-ghost use Rattle.dr_nested.specs.PathView.{path_view, step_view};
+ghost use Rattle.dr_nested.specs.PathView.{path_view, step_view, paths_view};
 ghost use Rattle.dr_plan.specs.Fitting.{record_term_fits};
 ghost use Rattle.dr_plan.specs.Objects.{object_view, tree_lists};
 ghost use Rattle.dr_plan.specs.Views.{record_term_view};
@@ -14,7 +14,7 @@ ghost use Rattle.dr_cells.specs.PlanShapes.{plan_list_view, plan_lists_view};
 ghost use Rattle.dr_cells.specs.Results.{inner_cells, own_counts, value_cell};
 ghost use Rattle.dr_cells.specs.Views.{cells_view};
 ghost use Rattle.dr_rows.specs.Known.{Known, known};
-ghost use Rattle.dr_rows.specs.Views.{paths_view, row_view, rows_view, rows_width};
+ghost use Rattle.dr_rows.specs.Views.{row_view, rows_view, rows_width};
 ghost use Rattle.dr_mean.specs.Nested.{are_nested, is_nested, item_is_below, items_are_below, term_is_below};
 ghost use Rattle.dr_mean.specs.ObjectCells.{instance_cells, item_cells, items_cells, items_view};
 ghost use Rattle.dr_mean.specs.RowsOf.{IsRow};
@@ -28,11 +28,11 @@ use dr_plan::{ListPlan, ObjectPlan, RecordTerm};
 use dr_rows::{Row, Rows, rows_within};
 use std::alloc::Global;
 
-/// The rows of a level within a row, of which the level has so many steps.
+/// The rows of a chain within a row, of which the chain has so many steps.
 fn rows_at<'n>(
     alloc: Global,
     leaves: &[Path],
-    level: &[Step],
+    chain: &[Step],
     depth: usize,
     row: Row<'_, 'n>,
 ) -> Result<Rows<'n>, NoMemory>
@@ -40,10 +40,10 @@ fn rows_at<'n>(
     ensures width { IfOk result (λ t. rows_width t ≡ length leaves.now) }
     ensures rows { IfOk result (λ t. (p : List MeantStep) (whole : record_tree.Node)
         → IsRow leaves.now p (row_view row.entry) whole → length p ≡ depth
-        → begins_with p (map step_view level.now) ≡ true → rows_view t ≡ map (known (paths_view leaves.now)
-        (map step_view level.now)) (rows_meaning.rows (map step_view level.now) whole)) }
+        → begins_with p (map step_view chain.now) ≡ true → rows_view t ≡ map (known (paths_view leaves.now)
+        (map step_view chain.now)) (rows_meaning.rows (map step_view chain.now) whole)) }
 {
-    rows_within(alloc, leaves, level, depth.min(level.len()), row)
+    rows_within(alloc, leaves, chain, depth.min(chain.len()), row)
 }
 
 /// Appends the value of an item in a row.
@@ -69,7 +69,7 @@ fn push_term(
     }
 }
 
-/// How many of some rows have an instance at the end of their level.
+/// How many of some rows have an instance at the end of their chain.
 fn count_present(rows: &Rows<'_>) -> usize
     ensures { result ≡ length (filter (λ (k : Known). is_some k.end) (rows_view rows.now)) }
 {
@@ -149,7 +149,7 @@ fn push_counts(
     Ok(())
 }
 
-/// Appends the object of a row, where an instance stands at the end of its level: its items, how many objects each of
+/// Appends the object of a row, where an instance stands at the end of its chain: its items, how many objects each of
 /// its lists has, and then those objects.
 ///
 /// Errors: want of memory, or of room.

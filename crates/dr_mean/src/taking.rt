@@ -4,13 +4,13 @@ ghost use Rattle.std.specs.Prelude.{◌≡◌, List, map, option_map, true, IfOk
 ghost use Rattle.dr_meaning.specs.Path.{Leaf, Step as MeantStep};
 ghost use Rattle.dr_meaning.specs.Record as record_tree;
 ghost use Rattle.dr_meaning.specs.Rows as rows_meaning;
-ghost use Rattle.dr_nested.specs.PathView.{path_view};
+ghost use Rattle.dr_nested.specs.PathView.{path_view, paths_view};
 ghost use Rattle.dr_partials.specs.Putting.{put, put_all};
 ghost use Rattle.dr_plan.specs.Planned.{Planned, planned_query};
 ghost use Rattle.dr_group.specs.Groups.{taken_view};
 ghost use Rattle.dr_group.specs.Partials.{partial_view, IsPartialOf};
 ghost use Rattle.dr_rows.specs.Known.{known};
-ghost use Rattle.dr_rows.specs.Views.{paths_view, rows_view};
+ghost use Rattle.dr_rows.specs.Views.{rows_view};
 ghost use Rattle.dr_scalar.specs.Slots.{AreValues};
 ghost use Rattle.dr_scalar.specs.Views.{evaluated_view};
 ghost use Rattle.dr_levels.specs.Views.{lent_value};
@@ -108,12 +108,12 @@ pub fn put_rows(
     rows: &Rows<'_>,
     partial: &mut Partial,
 ) -> Result<(), NoMemory>
-    ensures puts { OnOk result ((p : Planned) (level : List MeantStep) (whole : record_tree.Node)
+    ensures puts { OnOk result ((p : Planned) (chain : List MeantStep) (whole : record_tree.Node)
         → IsPartialOf p partial.old → IsTyped groups.entry.leaves.now whole
         → taking_fits (map path_view groups.entry.leaves.now) taking.entry ≡ true
-        → rows_view rows.now ≡ map (known (paths_view groups.entry.leaves.now) level) (rows_meaning.rows level whole)
+        → rows_view rows.now ≡ map (known (paths_view groups.entry.leaves.now) chain) (rows_meaning.rows chain whole)
         → partial_view partial.new ≡ put_all (planned_query p) (map (put_of (map path_view groups.entry.leaves.now)
-        groups.entry.keys.now taking.entry) (rows_meaning.rows level whole)) (partial_view partial.old)) }
+        groups.entry.keys.now taking.entry) (rows_meaning.rows chain whole)) (partial_view partial.old)) }
     ensures of_plan { (p : Planned) → IsPartialOf p partial.old → IsPartialOf p partial.new }
 {
     let mut key = Vec::new(alloc);

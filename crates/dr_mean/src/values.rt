@@ -1,10 +1,10 @@
 //! The values of a plan's expressions and aggregates, as cells of a result.
 
 ghost use Rattle.std.specs.Prelude.{◌≡◌, ◌++◌, ◌∷◌, [], List, length, map, true, IfOk, OnOk};
-ghost use Rattle.dr_meaning.specs.Expression.{evaluate, expression_level};
+ghost use Rattle.dr_meaning.specs.Expression.{evaluate, expression_chain};
 ghost use Rattle.dr_meaning.specs.Path.{Leaf, Step as MeantStep, begins_with};
 ghost use Rattle.dr_meaning.specs.Query.{over_rows};
-ghost use Rattle.dr_nested.specs.PathView.{path_view};
+ghost use Rattle.dr_nested.specs.PathView.{path_view, paths_view};
 ghost use Rattle.dr_meaning.specs.Record as record_tree;
 ghost use Rattle.dr_meaning.specs.Rows as rows_meaning;
 ghost use Rattle.dr_partials.specs.Accumulators.{accumulated, result_of, take_value};
@@ -14,11 +14,11 @@ ghost use Rattle.dr_cells.specs.Results.{value_cell};
 ghost use Rattle.dr_cells.specs.Views.{cells_view};
 ghost use Rattle.dr_group.specs.Views.{accumulator_view};
 ghost use Rattle.dr_rows.specs.Known.{known};
-ghost use Rattle.dr_rows.specs.Views.{paths_view, row_view, rows_view};
+ghost use Rattle.dr_rows.specs.Views.{row_view, rows_view};
 ghost use Rattle.dr_scalar.specs.Slots.{AreValues};
 ghost use Rattle.dr_mean.specs.RowsOf.{IsRow, IsTyped};
 
-use crate::levels::expression_level;
+use crate::chains::expression_chain;
 use dr_cells::Cells;
 use dr_group::{Accumulator, Gathering};
 use dr_levels::ValueRef;
@@ -87,11 +87,11 @@ fn gather(
     expression: &Expr,
     rows: &Rows<'_>,
 ) -> Result<Accumulator, NoMemory>
-    ensures { IfOk result (λ a. (leaves : List Path) (level : List MeantStep) (whole : record_tree.Node)
+    ensures { IfOk result (λ a. (leaves : List Path) (chain : List MeantStep) (whole : record_tree.Node)
         → IsTyped leaves whole → expr_fits (map path_view leaves) expression.now ≡ true
-        → rows_view rows.now ≡ map (known (paths_view leaves) level) (rows_meaning.rows level whole)
+        → rows_view rows.now ≡ map (known (paths_view leaves) chain) (rows_meaning.rows chain whole)
         → accumulator_view a ≡ accumulated (fold_view fold) (map
-        (evaluate (expr_view (map path_view leaves) expression.now)) (rows_meaning.rows level whole))) }
+        (evaluate (expr_view (map path_view leaves) expression.now)) (rows_meaning.rows chain whole))) }
 {
     let mut gathered = Accumulator::new(Gathering::Values(fold));
     'rows: for number in 0..rows.len() {
@@ -101,7 +101,7 @@ fn gather(
     Ok(gathered)
 }
 
-/// Appends what an aggregate gives of an expression's values in the rows within a row, of which the level has so many
+/// Appends what an aggregate gives of an expression's values in the rows within a row, of which the chain has so many
 /// steps.
 ///
 /// Errors: want of memory, or of room.
@@ -114,17 +114,17 @@ pub fn push_aggregate(
     cells: &mut Cells,
 ) -> Result<(), NoMemory>
     requires values { length row.values.now ≡ length leaves.now }
-    ensures { OnOk result ((level : List MeantStep) (whole : record_tree.Node)
-        → IsRow leaves.now level (row_view row.entry) whole → length level ≡ depth
-        → expr_fits (map path_view leaves.now) (within.now).argument ≡ true → begins_with level (expression_level
+    ensures { OnOk result ((chain : List MeantStep) (whole : record_tree.Node)
+        → IsRow leaves.now chain (row_view row.entry) whole → length chain ≡ depth
+        → expr_fits (map path_view leaves.now) (within.now).argument ≡ true → begins_with chain (expression_chain
         (expr_view (map path_view leaves.now) (within.now).argument)) ≡ true
         → cells_view cells.new ≡ cells_view cells.old ++ value_cell (over_rows (fold_view (within.now).fold)
         (expr_view (map path_view leaves.now) (within.now).argument)
-        (rows_meaning.rows (expression_level (expr_view (map path_view leaves.now) (within.now).argument))
+        (rows_meaning.rows (expression_chain (expr_view (map path_view leaves.now) (within.now).argument))
         whole)) ∷ []) }
 {
-    let level = expression_level(leaves, &within.argument);
-    let rows = rows_within(alloc, leaves, level, depth.min(level.len()), row)?;
+    let chain = expression_chain(leaves, &within.argument);
+    let rows = rows_within(alloc, leaves, chain, depth.min(chain.len()), row)?;
     let gathered = gather(alloc, within.fold, &within.argument, &rows)?;
     push_gathered(&gathered, cells)
 }

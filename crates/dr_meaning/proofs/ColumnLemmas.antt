@@ -4,7 +4,7 @@ use Rattle.std.specs.List.{list_all}
 use Rattle.std.proofs.lemmas.Bool.{and_parts, eqb-true}
 use Rattle.dr_meaning.specs.Schema.{Repetition, required, optional, repeated, Kind, Fields, no_fields, field, Shape, leaf, group, repetition_count, definition_count}
 use Rattle.dr_meaning.specs.Path.{Step, is_empty_path, is_leaf_path, is_shape_path, same_repetition}
-use Rattle.dr_meaning.specs.Record.{Value, Node, no_slots, slot, gap, Instances, no_instances, instance, Instance, atom, inner, count_instances, fits_repetition, all_instances, is_atom_of, is_record, is_instance, here, here_if, there, there_if, slot_for, project, project_all, project_one}
+use Rattle.dr_meaning.specs.Record.{Value, Node, no_slots, slot, gap, Instances, no_instances, instance, Instance, atom, inner, count_instances, fits_repetition, all_instances, is_atom_of, is_record, is_instance, through_first, through_first_if, through_later, through_later_if, slot_for, project, project_all, project_one}
 use Rattle.dr_meaning.specs.Column.{Triplet, triplet, each_later, spread, instance_column, record_column, column}
 use Rattle.dr_meaning.specs.ColumnLaws.{ColumnsDetermineProjection}
 use Rattle.dr_meaning.proofs.ProjectionLemmas.{step}
@@ -20,23 +20,23 @@ each_path_weaker : (P Q : List Step → Type 0) → ((p : List Step) → P p →
 each_path_weaker P Q f [] h = tt
 each_path_weaker P Q f (p ∷ F) h = (f p h.0, each_path_weaker P Q f F h.1)
 
-here_if-each : (P Q : List Step → Type 0) → ((r : Repetition) (p : List Step) → P (step 0 r ∷ p) → Q p) → (i : ℕ) (r : Repetition) (p : List Step) (G : List (List Step)) → P (step i r ∷ p) → EachPath Q G → EachPath Q (here_if i p G)
+here_if-each : (P Q : List Step → Type 0) → ((r : Repetition) (p : List Step) → P (step 0 r ∷ p) → Q p) → (i : ℕ) (r : Repetition) (p : List Step) (G : List (List Step)) → P (step i r ∷ p) → EachPath Q G → EachPath Q (through_first_if i p G)
 here_if-each P Q f zero r p G h g = (f r p h, g)
 here_if-each P Q f (suc i) r p G h g = g
 
-here-each : (P Q : List Step → Type 0) → ((r : Repetition) (p : List Step) → P (step 0 r ∷ p) → Q p) → (F : List (List Step)) → EachPath P F → EachPath Q (here F)
+here-each : (P Q : List Step → Type 0) → ((r : Repetition) (p : List Step) → P (step 0 r ∷ p) → Q p) → (F : List (List Step)) → EachPath P F → EachPath Q (through_first F)
 here-each P Q f [] h = tt
 here-each P Q f ([] ∷ F) h = here-each P Q f F h.1
-here-each P Q f ((s ∷ p) ∷ F) h = here_if-each P Q f s.place s.repetition p (here F) h.0 (here-each P Q f F h.1)
+here-each P Q f ((s ∷ p) ∷ F) h = here_if-each P Q f s.place s.repetition p (through_first F) h.0 (here-each P Q f F h.1)
 
-there_if-each : (P Q : List Step → Type 0) → ((i : ℕ) (r : Repetition) (p : List Step) → P (step (suc i) r ∷ p) → Q (step i r ∷ p)) → (i : ℕ) (r : Repetition) (p : List Step) (G : List (List Step)) → P (step i r ∷ p) → EachPath Q G → EachPath Q (there_if i (step i r) p G)
+there_if-each : (P Q : List Step → Type 0) → ((i : ℕ) (r : Repetition) (p : List Step) → P (step (suc i) r ∷ p) → Q (step i r ∷ p)) → (i : ℕ) (r : Repetition) (p : List Step) (G : List (List Step)) → P (step i r ∷ p) → EachPath Q G → EachPath Q (through_later_if i (step i r) p G)
 there_if-each P Q f zero r p G h g = g
 there_if-each P Q f (suc i) r p G h g = (f i r p h, g)
 
-there-each : (P Q : List Step → Type 0) → ((i : ℕ) (r : Repetition) (p : List Step) → P (step (suc i) r ∷ p) → Q (step i r ∷ p)) → (F : List (List Step)) → EachPath P F → EachPath Q (there F)
+there-each : (P Q : List Step → Type 0) → ((i : ℕ) (r : Repetition) (p : List Step) → P (step (suc i) r ∷ p) → Q (step i r ∷ p)) → (F : List (List Step)) → EachPath P F → EachPath Q (through_later F)
 there-each P Q f [] h = tt
 there-each P Q f ([] ∷ F) h = there-each P Q f F h.1
-there-each P Q f ((s ∷ p) ∷ F) h = there_if-each P Q f s.place s.repetition p (there F) h.0 (there-each P Q f F h.1)
+there-each P Q f ((s ∷ p) ∷ F) h = there_if-each P Q f s.place s.repetition p (through_later F) h.0 (there-each P Q f F h.1)
 
 -- of these paths, the two columns are equal
 abbrev pub Agree : (List Step → Bool) → (List Step → List Triplet) → (List Step → List Triplet) → List (List Step) → Type 0
@@ -124,7 +124,7 @@ field_column r l d q xs p = spread (instance_column p (l + repetition_count r) (
 
 here_agrees : (m : List ℕ) (r : Repetition) (s : Shape) (fs : Fields) (F : List (List Step)) (xs ys : Instances) (n k : Node) (l d q : ℕ)
     → Agree (is_leaf_path (field m r s fs)) (λ (p : List Step). instance_column p l d q (inner (slot xs n))) (λ (p : List Step). instance_column p l d q (inner (slot ys k))) F
-    → Agree (is_shape_path s) (field_column r l d q xs) (field_column r l d q ys) (here F)
+    → Agree (is_shape_path s) (field_column r l d q xs) (field_column r l d q ys) (through_first F)
 here_agrees m r s fs F xs ys n k l d q h =
     here-each (λ (p : List Step). (is_leaf_path (field m r s fs) p ≡ true) × (instance_column p l d q (inner (slot xs n)) ≡ instance_column p l d q (inner (slot ys k))))
     (λ (p : List Step). (is_shape_path s p ≡ true) × (field_column r l d q xs p ≡ field_column r l d q ys p))
@@ -135,7 +135,7 @@ here_agrees m r s fs F xs ys n k l d q h =
 
 there_agrees : (m : List ℕ) (r : Repetition) (s : Shape) (fs : Fields) (F : List (List Step)) (xs ys : Instances) (n k : Node) (l d q : ℕ)
     → Agree (is_leaf_path (field m r s fs)) (λ (p : List Step). instance_column p l d q (inner (slot xs n))) (λ (p : List Step). instance_column p l d q (inner (slot ys k))) F
-    → Agree (is_leaf_path fs) (λ (p : List Step). instance_column p l d q (inner n)) (λ (p : List Step). instance_column p l d q (inner k)) (there F)
+    → Agree (is_leaf_path fs) (λ (p : List Step). instance_column p l d q (inner n)) (λ (p : List Step). instance_column p l d q (inner k)) (through_later F)
 there_agrees m r s fs F xs ys n k l d q h =
     there-each (λ (p : List Step). (is_leaf_path (field m r s fs) p ≡ true) × (instance_column p l d q (inner (slot xs n)) ≡ instance_column p l d q (inner (slot ys k))))
     (λ (p : List Step). (is_leaf_path fs p ≡ true) × (instance_column p l d q (inner n) ≡ instance_column p l d q (inner k)))
@@ -173,11 +173,11 @@ mutual
   same_nodes (field m r s fs) F (slot xs n) (slot ys k) l d q v w h =
       let a : (fits_repetition r (count_instances xs) ≡ true) × (all_instances (is_instance s) xs ≡ true) × (is_record fs n ≡ true) = and₃_parts _ _ _ v in
       let b : (fits_repetition r (count_instances ys) ≡ true) × (all_instances (is_instance s) ys ≡ true) × (is_record fs k ≡ true) = and₃_parts _ _ _ w in
-      slot_for-same (λ (p : List Step). (is_shape_path s p ≡ true) × (field_column r l d q xs p ≡ field_column r l d q ys p)) (here F) xs ys (project (there F) n) (project (there F) k)
+      slot_for-same (λ (p : List Step). (is_shape_path s p ≡ true) × (field_column r l d q xs p ≡ field_column r l d q ys p)) (through_first F) xs ys (project (through_later F) n) (project (through_later F) k)
       (λ (p : List Step) (H : List (List Step)). same_field r s l d q p H xs ys
       (λ (x y : Instance) (j : ℕ). same_instance s p H x y (l + repetition_count r) (d + definition_count r) j) (a.0, a.1) (b.0, b.1))
       (here_agrees m r s fs F xs ys n k l d q h)
-      (same_nodes fs (there F) n k l d q a.2 b.2 (there_agrees m r s fs F xs ys n k l d q h))
+      (same_nodes fs (through_later F) n k l d q a.2 b.2 (there_agrees m r s fs F xs ys n k l d q h))
   same_nodes (field m r s fs) F (slot xs n) k l d q v w h = absurd (true≢false (sym w))
   same_nodes (field m r s fs) F n k l d q v w h = absurd (true≢false (sym v))
 

@@ -5,9 +5,10 @@ use Rattle.std.specs.List.{list_all, list_any, slice_get, join_with_byte}
 use Rattle.std.proofs.lemmas.Bool.{and_parts, or_parts, eqb-true}
 use Rattle.std.proofs.lemmas.Slice.Eq.{bytes_eq-Decides}
 use Rattle.dr_meaning.specs.Schema.{Repetition, Kind, Fields, no_fields, field, Shape, leaf, group, field_names, begins_name, continues_name, is_name, is_group, is_shape}
-use Rattle.dr_meaning.specs.Path.{Step, Leaf, Found, named_field, found_below, resolve, find_path, onto_first, cut_at_dots, leaf_at, found_leaf, find_leaf, leaf_below, leaves_from, shape_leaves, leaves}
+use Rattle.dr_meaning.specs.Path.{Step, Leaf, Found, named_field, found_below, resolve, find_path, cut_at_dots, leaf_at, found_leaf, find_leaf, leaf_below, leaves_from, shape_leaves, leaves}
 use Rattle.dr_meaning.specs.PathLaws.{IsNamedLeaf, FindLeafIsExact}
 use Rattle.dr_meaning.proofs.SchemaReadsBack.{FirstField, first_of_group, other_way}
+use Rattle.dr_meaning.specs.Lists.{onto_first}
 
 -- ---- among leaves
 

@@ -7,7 +7,7 @@ use Rattle.dr_meaning.specs.Schema.{Repetition, Kind, bool_kind, int32_kind, int
 use Rattle.dr_meaning.specs.Path.{Step, same_repetition}
 use Rattle.dr_meaning.specs.Record.{Value, bool_value, int_value, text_value, Node, no_slots, slot, gap, Instances, no_instances, instance, Instance, atom, inner, is_of_kind, count_instances, fits_repetition, all_instances, is_record, is_instance, instances_at, put_at, single}
 use Rattle.dr_meaning.specs.Rows.{instance_rows, each_instance_rows, field_rows, rows, first_value, value_in, value_at}
-use Rattle.dr_meaning.specs.Expression.{expression_level, evaluate, is_true}
+use Rattle.dr_meaning.specs.Expression.{expression_chain, evaluate, is_true}
 use Rattle.dr_meaning.specs.Kept.{with_kept, keep_each, if_some_kept, keep_below, keep_instance, kept_along, kept}
 use Rattle.dr_meaning.specs.BoundExpression.{kind_type}
 use Rattle.dr_meaning.specs.BindingLaws.{is_of_type, has_shapes, has_shape, RecordsHaveShapes, RowsHaveShapes, KeptHaveShapes}
@@ -166,7 +166,7 @@ some_is n m o h e = subst (KeptOf n) e h
 
 pub kept_have_shapes : KeptHaveShapes
 kept_have_shapes fs None n m e h = let q : n ≡ m = cc in subst (λ (x : Node). has_shapes fs x ≡ true) q h
-kept_have_shapes fs (Some c) n m e h = some_is n m (kept (Some c) n) (along_kept (expression_level c) (λ row. is_true (evaluate c row)) n) e fs h
+kept_have_shapes fs (Some c) n m e h = some_is n m (kept (Some c) n) (along_kept (expression_chain c) (λ row. is_true (evaluate c row)) n) e fs h
 
 -- ---- the values of leaves
 

@@ -10,12 +10,12 @@ use Rattle.std.proofs.lemmas.List.{map-append, length-map}
 use Rattle.std.proofs.lemmas.List.Folds.{list_all-append}
 use Rattle.std.proofs.lemmas.Simd.{map-map}
 use Rattle.dr_meaning.specs.Schema.{repetition_count, definition_count, is_repeated}
-use Rattle.dr_meaning.specs.Path.{same_path, Step, begins_with, level, up_to, longer, is_shorter}
+use Rattle.dr_meaning.specs.Path.{same_path, Step, begins_with, chain_end, up_to, longer, is_shorter}
 use Rattle.dr_meaning.specs.Record.{Value, Node, Instances, no_instances, instance, Instance, atom, inner, instances_at, put_at, project, project_all, project_one}
 use Rattle.dr_meaning.specs.Rows.{single, rows, is_present}
-use Rattle.dr_meaning.specs.Expression.{Expression, constant, path_value, negative, arithmetic, comparison, like, contains, is_null, negation, conjunction, disjunction, combine, compared, on_both, not_value, and_values, or_values, null_test, evaluate, is_true, paths_of, longest_level, expression_level}
+use Rattle.dr_meaning.specs.Expression.{Expression, constant, path_value, negative, arithmetic, comparison, like, contains, is_null, negation, conjunction, disjunction, combine, compared, on_both, not_value, and_values, or_values, null_test, evaluate, is_true, paths_of, longest_chain, expression_chain}
 use Rattle.dr_meaning.specs.Kept.{with_kept, keep_each, if_some_kept, keep_below, keep_instance, kept_along, kept}
-use Rattle.dr_meaning.specs.Query.{Aggregate, RecordTerm, expression, within, GroupTerm, key, count_rows, aggregate, RecordItem, GroupItem, Selection, objects, groups, Object, cell, Objects, present_values, aggregated, count_value, over_rows, Levels, no_levels, deeper, levels_of, term_level, term_value, with_cells, leads_to_items, with_list, objects_of, instances_of, object_lists, record_object, key_tuple, tuple_order, distinct_tuples, group_tuples, group_rows, group_value, group_cells, selected, meaning}
+use Rattle.dr_meaning.specs.Query.{Aggregate, RecordTerm, expression, within, GroupTerm, key, count_rows, aggregate, RecordItem, GroupItem, Selection, objects, groups, Object, cell, Objects, present_values, aggregated, count_value, over_rows, Levels, no_levels, deeper, levels_of, term_chain, term_value, with_cells, leads_to_items, with_list, objects_of, instances_of, object_lists, record_object, key_tuple, tuple_order, distinct_tuples, group_tuples, group_rows, group_value, group_cells, selected, meaning}
 use Rattle.dr_meaning.specs.Column.{Triplet, each_later, spread, instance_column, column}
 use Rattle.dr_meaning.specs.ProjectionLaws.{leads}
 use Rattle.dr_meaning.specs.MeaningLaws.{condition_paths, record_term_paths, group_term_paths, selection_paths, all_lead, MeaningOfProjection, ColumnsOfProjection}
@@ -63,9 +63,9 @@ up_to-front s [] p h = last (is_repeated s.repetition)
     last false = refl
 up_to-front s (t ∷ l) p h = rw (same_place s.place) h
 
-pub level-front : (p : List Step) → begins_with (level p) p ≡ true
+pub level-front : (p : List Step) → begins_with (chain_end p) p ≡ true
 level-front [] = refl
-level-front (s ∷ p) = up_to-front s (level p) p (level-front p)
+level-front (s ∷ p) = up_to-front s (chain_end p) p (level-front p)
 
 pub longer-leads : (p q : List Step) (F : List (List Step)) → leads p F ≡ true → leads q F ≡ true → leads (longer p q) F ≡ true
 longer-leads p q F h g = choice (is_shorter p q)
@@ -74,11 +74,11 @@ longer-leads p q F h g = choice (is_shorter p q)
     choice true = g
     choice false = h
 
-pub longest_level-leads : (ps : List (List Step)) (F : List (List Step)) → all_lead F ps ≡ true → leads (longest_level ps) F ≡ true
-longest_level-leads [] F h = refl
-longest_level-leads (p ∷ ps) F h =
+pub longest_chain-leads : (ps : List (List Step)) (F : List (List Step)) → all_lead F ps ≡ true → leads (longest_chain ps) F ≡ true
+longest_chain-leads [] F h = refl
+longest_chain-leads (p ∷ ps) F h =
     let k : (leads p F ≡ true) × (all_lead F ps ≡ true) = and_parts _ _ h in
-    longer-leads (level p) (longest_level ps) F (front-leads (level p) p F (level-front p) k.0) (longest_level-leads ps F k.1)
+    longer-leads (chain_end p) (longest_chain ps) F (front-leads (chain_end p) p F (level-front p) k.0) (longest_chain-leads ps F k.1)
 
 pub both_lead : (ps qs : List (List Step)) (F : List (List Step)) → all_lead F (ps ++ qs) ≡ true → (all_lead F ps ≡ true) × (all_lead F qs ≡ true)
 both_lead ps qs F h = and_parts _ _ (sym (list_all-append (λ (p : List Step). leads p F) ps qs) ∙ h)
@@ -184,19 +184,19 @@ kept_along-project F (s ∷ p) t u n l h =
 
 pub kept-project : (F : List (List Step)) (c : Option Expression) (n : Node) → all_lead F (condition_paths c) ≡ true → kept c (project F n) ≡ option_map (project F) (kept c n)
 kept-project F None n h = refl
-kept-project F (Some e) n h = kept_along-project F (expression_level e) _ _ n (longest_level-leads (paths_of e) F h) (λ (m : Node). ap is_true (evaluate-project F e m h))
+kept-project F (Some e) n h = kept_along-project F (expression_chain e) _ _ n (longest_chain-leads (paths_of e) F h) (λ (m : Node). ap is_true (evaluate-project F e m h))
 
 -- ---- record queries
 
-term_level-leads : (F : List (List Step)) (t : RecordTerm) → all_lead F (record_term_paths t) ≡ true → leads (term_level t) F ≡ true
-term_level-leads F (expression e) h = longest_level-leads (paths_of e) F h
-term_level-leads F (within a e node) h = (and_parts _ _ h).0
+term_chain-leads : (F : List (List Step)) (t : RecordTerm) → all_lead F (record_term_paths t) ≡ true → leads (term_chain t) F ≡ true
+term_chain-leads F (expression e) h = longest_chain-leads (paths_of e) F h
+term_chain-leads F (within a e node) h = (and_parts _ _ h).0
 
 term_value-project : (F : List (List Step)) (t : RecordTerm) (n : Node) → all_lead F (record_term_paths t) ≡ true → term_value t (project F n) ≡ term_value t n
 term_value-project F (expression e) n h = evaluate-project F e n h
 term_value-project F (within a e node) n h =
-    let k : (leads (level node) F ≡ true) × (all_lead F (paths_of e) ≡ true) = and_parts _ _ h in
-    ap (over_rows a e) (rows_of_projection F (expression_level e) n (longest_level-leads (paths_of e) F k.1)) ∙ over_rows-project F a e k.1 (rows (expression_level e) n)
+    let k : (leads (chain_end node) F ≡ true) × (all_lead F (paths_of e) ≡ true) = and_parts _ _ h in
+    ap (over_rows a e) (rows_of_projection F (expression_chain e) n (longest_chain-leads (paths_of e) F k.1)) ∙ over_rows-project F a e k.1 (rows (expression_chain e) n)
 
 abbrev item_paths : List RecordItem → List (List Step)
 item_paths items = flat_map (λ (i : RecordItem). record_term_paths i.term) items
@@ -205,14 +205,14 @@ with_cells-project : (F : List (List Step)) (items : List RecordItem) (p : List 
 with_cells-project F [] p n rest h = refl
 with_cells-project F (i ∷ is) p n rest h =
     let k = both_lead (record_term_paths i.term) (item_paths is) F h in
-    ap₂ (λ v o. if same_path p (term_level i.term) then cell i.name v o else o) (term_value-project F i.term n k.0) (with_cells-project F is p n rest k.1)
+    ap₂ (λ v o. if same_path p (term_chain i.term) then cell i.name v o else o) (term_value-project F i.term n k.0) (with_cells-project F is p n rest k.1)
 
 -- a level that leads to items leads on
-items_level-leads : (F : List (List Step)) (items : List RecordItem) (p : List Step) → all_lead F (item_paths items) ≡ true → leads_to_items items p ≡ true → leads p F ≡ true
-items_level-leads F [] p h g = absurd (true≢false (sym g))
-items_level-leads F (i ∷ is) p h g =
+items_chain-leads : (F : List (List Step)) (items : List RecordItem) (p : List Step) → all_lead F (item_paths items) ≡ true → leads_to_items items p ≡ true → leads p F ≡ true
+items_chain-leads F [] p h g = absurd (true≢false (sym g))
+items_chain-leads F (i ∷ is) p h g =
     let k = both_lead (record_term_paths i.term) (item_paths is) F h in
-    either_so _ _ _ (λ b. front-leads p (term_level i.term) F b (term_level-leads F i.term k.0)) (items_level-leads F is p k.1) g
+    either_so _ _ _ (λ b. front-leads p (term_chain i.term) F b (term_chain-leads F i.term k.0)) (items_chain-leads F is p k.1) g
 
 instances_of-project : (F : List (List Step)) (p : List Step) (n : Node) → leads p F ≡ true → instances_of p (project F n) ≡ map (project F) (instances_of p n)
 instances_of-project F p n l = ap (filter (is_present p)) (rows_of_projection F p n l) ∙ filter-project F (is_present p) (λ (m : Node). present_in_projection F p m l) (rows p n)
@@ -226,7 +226,7 @@ object_lists-project F items no_levels n h = refl
 object_lists-project F items (deeper names p inside beside) n h =
     let f : Node → Object = λ (m : Node). with_cells items p m (object_lists items inside m) in
     same_list (leads_to_items items p) names _ _ _ _
-    (λ g. let l = items_level-leads F items p h g in
+    (λ g. let l = items_chain-leads F items p h g in
     ap (λ ms. objects_of (map f ms)) (instances_of-project F p n l)
     ∙ ap objects_of (map-project F f (λ (m : Node). with_cells-project F items p m _ h ∙ ap (with_cells items p m) (object_lists-project F items inside m h)) (instances_of p n)))
     (object_lists-project F items beside n h)
@@ -245,8 +245,8 @@ key_tuple-project F (p ∷ ps) n h =
 group_tuples-project : (F : List (List Step)) (keys : List (List Step)) (ns : List Node) → all_lead F keys ≡ true → group_tuples keys (map (project F) ns) ≡ group_tuples keys ns
 group_tuples-project F [] ns h = refl
 group_tuples-project F (p ∷ ps) ns h =
-    ap (λ ms. distinct_tuples (map (key_tuple (p ∷ ps)) ms)) (flat_rows-project F (longest_level (p ∷ ps)) (longest_level-leads (p ∷ ps) F h) ns)
-    ∙ ap distinct_tuples (map-project F (key_tuple (p ∷ ps)) (λ (m : Node). key_tuple-project F (p ∷ ps) m h) (flat_map (rows (longest_level (p ∷ ps))) ns))
+    ap (λ ms. distinct_tuples (map (key_tuple (p ∷ ps)) ms)) (flat_rows-project F (longest_chain (p ∷ ps)) (longest_chain-leads (p ∷ ps) F h) ns)
+    ∙ ap distinct_tuples (map-project F (key_tuple (p ∷ ps)) (λ (m : Node). key_tuple-project F (p ∷ ps) m h) (flat_map (rows (longest_chain (p ∷ ps))) ns))
 
 group_rows-project : (F : List (List Step)) (keys : List (List Step)) (t : List (Option Value)) (p : List Step) (ns : List Node) → all_lead F keys ≡ true → leads p F ≡ true → group_rows keys t p (map (project F) ns) ≡ map (project F) (group_rows keys t p ns)
 group_rows-project F keys t p ns h l =
@@ -256,11 +256,11 @@ group_rows-project F keys t p ns h l =
 group_value-project : (F : List (List Step)) (keys : List (List Step)) (t : List (Option Value)) (ns : List Node) (g : GroupTerm) → all_lead F keys ≡ true → all_lead F (group_term_paths g) ≡ true → group_value keys t (map (project F) ns) g ≡ group_value keys t ns g
 group_value-project F keys t ns (key i) h k = refl
 group_value-project F keys t ns count_rows h k =
-    let p : List Step = longest_level keys in
-    ap (λ rs. count_value (length rs)) (group_rows-project F keys t p ns h (longest_level-leads keys F h)) ∙ ap count_value (length-map (group_rows keys t p ns) (project F))
+    let p : List Step = longest_chain keys in
+    ap (λ rs. count_value (length rs)) (group_rows-project F keys t p ns h (longest_chain-leads keys F h)) ∙ ap count_value (length-map (group_rows keys t p ns) (project F))
 group_value-project F keys t ns (aggregate a e) h k =
-    let p : List Step = longer (longest_level keys) (expression_level e) in
-    ap (over_rows a e) (group_rows-project F keys t p ns h (longer-leads _ _ F (longest_level-leads keys F h) (longest_level-leads (paths_of e) F k))) ∙ over_rows-project F a e k (group_rows keys t p ns)
+    let p : List Step = longer (longest_chain keys) (expression_chain e) in
+    ap (over_rows a e) (group_rows-project F keys t p ns h (longer-leads _ _ F (longest_chain-leads keys F h) (longest_chain-leads (paths_of e) F k))) ∙ over_rows-project F a e k (group_rows keys t p ns)
 
 abbrev group_item_paths : List GroupItem → List (List Step)
 group_item_paths items = flat_map (λ (i : GroupItem). group_term_paths i.term) items

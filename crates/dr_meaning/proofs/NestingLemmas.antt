@@ -8,7 +8,7 @@ use Rattle.dr_meaning.specs.Schema.{Repetition, required, optional, repeated, is
 use Rattle.dr_meaning.specs.Path.{Step, Leaf, same_repetition, begins_with, same_path, chain, leaves}
 use Rattle.dr_meaning.specs.Record.{Node, no_slots, slot, gap, Instances, no_instances, instance, Instance, atom, inner, is_of_kind, all_instances, is_record, is_instance}
 use Rattle.dr_meaning.specs.Column.{triplet}
-use Rattle.dr_meaning.specs.Automaton.{Pick, picks_from, picks, behind_if, behind_pick, behind, beside_if, beside_pick, beside, indexes}
+use Rattle.dr_meaning.specs.Automaton.{Pick, picks_from, picks, first_picks_if, first_picks_and, first_picks, later_picks_if, later_picks_and, later_picks, indexes}
 use Rattle.dr_meaning.specs.Walk.{Move, enter, leave, Depth, inside, begun_later, first_of, first_slot, other_slots, node_of, value_there, triplet_moves, unless_repeated, enclosed, later_moves, repeated_moves, by_repetition, where_selected, moves_in, near_moves, far_moves, shape_near_moves, shape_far_moves, top, record_moves, walk, own_path, repeated_paths_from, shape_repeated_paths, repeated_paths, Open, no_record, in_record, is_chain_front, is_same_chain, is_of_leaf, open_after}
 use Rattle.dr_meaning.specs.WalkLaws.{open_after_moves, WalkNests}
 use Rattle.dr_meaning.proofs.ProjectionLemmas.{step}
@@ -154,7 +154,7 @@ module _ (whole : Fields) (F : List Leaf) where
   picks_of_group q fs [] h = tt
   picks_of_group q fs (g ∷ G) h = ((h.0.0, h.0.1, h.0.2 ∙ ap (λ x. q ++ x) (sym (no_shift g.rest)), h.0.3), picks_of_group q fs G h.1)
 
-  pub add_behind : (q : List Step) (i : ℕ) (m : List ℕ) (r : Repetition) (s : Shape) (fs : Fields) (p : List Step) (j : ℕ) (B : List Pick) → FieldPick q i (field m r s fs) (record { rest = p; index = j }) → ShapePicks (q ++ step i r ∷ []) s B → ShapePicks (q ++ step i r ∷ []) s (behind_pick p j B)
+  pub add_behind : (q : List Step) (i : ℕ) (m : List ℕ) (r : Repetition) (s : Shape) (fs : Fields) (p : List Step) (j : ℕ) (B : List Pick) → FieldPick q i (field m r s fs) (record { rest = p; index = j }) → ShapePicks (q ++ step i r ∷ []) s B → ShapePicks (q ++ step i r ∷ []) s (first_picks_and p j B)
   add_behind q i m r s fs [] j B h b = b
   add_behind q i m r s fs (t ∷ p) j B h b = by_place t.place refl
     where
@@ -164,15 +164,15 @@ module _ (whole : Fields) (F : List Leaf) where
           let w : (same_repetition t.repetition r ≡ true) × (shape_kind s p ≡ Some h.0.kind) = kind_if_some _ _ _ k in
           (h.0, h.1, h.2 ∙ ap₂ (λ x y. q ++ step x y ∷ p) n (same_repetition-true t.repetition r w.0) ∙ sym (append_assoc q (step i r ∷ []) p), w.1)
 
-      by_place : (k : ℕ) → t.place ≡ k → ShapePicks (q ++ step i r ∷ []) s (behind_if k p j B)
+      by_place : (k : ℕ) → t.place ≡ k → ShapePicks (q ++ step i r ∷ []) s (first_picks_if k p j B)
       by_place zero e = (here e (subst (λ (x : ℕ). through_kind x (kind_if (same_repetition t.repetition r) (shape_kind s p)) (λ y. leaf_kind fs (step y t.repetition ∷ p)) ≡ Some h.0.kind) e h.3), b)
       by_place (suc k) e = b
 
-  pub picks_behind : (q : List Step) (i : ℕ) (m : List ℕ) (r : Repetition) (s : Shape) (fs : Fields) (G : List Pick) → FieldPicks q i (field m r s fs) G → ShapePicks (q ++ step i r ∷ []) s (behind G)
+  pub picks_behind : (q : List Step) (i : ℕ) (m : List ℕ) (r : Repetition) (s : Shape) (fs : Fields) (G : List Pick) → FieldPicks q i (field m r s fs) G → ShapePicks (q ++ step i r ∷ []) s (first_picks G)
   picks_behind q i m r s fs [] h = tt
-  picks_behind q i m r s fs (g ∷ G) h = add_behind q i m r s fs g.rest g.index (behind G) h.0 (picks_behind q i m r s fs G h.1)
+  picks_behind q i m r s fs (g ∷ G) h = add_behind q i m r s fs g.rest g.index (first_picks G) h.0 (picks_behind q i m r s fs G h.1)
 
-  pub add_beside : (q : List Step) (i : ℕ) (m : List ℕ) (r : Repetition) (s : Shape) (fs : Fields) (p : List Step) (j : ℕ) (B : List Pick) → FieldPick q i (field m r s fs) (record { rest = p; index = j }) → FieldPicks q (suc i) fs B → FieldPicks q (suc i) fs (beside_pick p j B)
+  pub add_beside : (q : List Step) (i : ℕ) (m : List ℕ) (r : Repetition) (s : Shape) (fs : Fields) (p : List Step) (j : ℕ) (B : List Pick) → FieldPick q i (field m r s fs) (record { rest = p; index = j }) → FieldPicks q (suc i) fs B → FieldPicks q (suc i) fs (later_picks_and p j B)
   add_beside q i m r s fs [] j B h b = b
   add_beside q i m r s fs (t ∷ p) j B h b = by_place t.place refl
     where
@@ -181,13 +181,13 @@ module _ (whole : Fields) (F : List Leaf) where
           let n : i + t.place ≡ suc i + k = omega (arith, e) in
           (h.0, h.1, h.2 ∙ ap (λ x. q ++ step x t.repetition ∷ p) n, a)
 
-      by_place : (k : ℕ) → t.place ≡ k → FieldPicks q (suc i) fs (beside_if k t p j B)
+      by_place : (k : ℕ) → t.place ≡ k → FieldPicks q (suc i) fs (later_picks_if k t p j B)
       by_place zero e = b
       by_place (suc k) e = (there k e (subst (λ (x : ℕ). through_kind x (kind_if (same_repetition t.repetition r) (shape_kind s p)) (λ y. leaf_kind fs (step y t.repetition ∷ p)) ≡ Some h.0.kind) e h.3), b)
 
-  pub picks_beside : (q : List Step) (i : ℕ) (m : List ℕ) (r : Repetition) (s : Shape) (fs : Fields) (G : List Pick) → FieldPicks q i (field m r s fs) G → FieldPicks q (suc i) fs (beside G)
+  pub picks_beside : (q : List Step) (i : ℕ) (m : List ℕ) (r : Repetition) (s : Shape) (fs : Fields) (G : List Pick) → FieldPicks q i (field m r s fs) G → FieldPicks q (suc i) fs (later_picks G)
   picks_beside q i m r s fs [] h = tt
-  picks_beside q i m r s fs (g ∷ G) h = add_beside q i m r s fs g.rest g.index (beside G) h.0 (picks_beside q i m r s fs G h.1)
+  picks_beside q i m r s fs (g ∷ G) h = add_beside q i m r s fs g.rest g.index (later_picks G) h.0 (picks_beside q i m r s fs G h.1)
 
   -- these repeated paths have numbers of the schema from n on
   abbrev pub Numbered : List Step → List (List Step) → ℕ → Type 0
@@ -298,9 +298,9 @@ module _ (whole : Fields) (F : List Leaf) where
     near no_fields G at n q i c h v o = refl
     near (field m r s fs) G at n q i c h v o =
         let w : (all_instances (is_instance s) (first_slot n) ≡ true) × ValidNode fs (other_slots n) = slot_valid m r s fs n v in
-        nests_append c (unless_repeated r (shape_near_moves s (behind G) (inside r at (first_of (first_slot n))) (first_of (first_slot n)))) (near_moves fs (beside G) at (other_slots n))
-        (nests_unless c r (shape_near_moves s (behind G) (inside r at (first_of (first_slot n))) (first_of (first_slot n))) (shape_near s (behind G) (inside r at (first_of (first_slot n))) (first_of (first_slot n)) (q ++ step i r ∷ []) c (picks_behind q i m r s fs G h) (first_valid s (first_slot n) w.0) (front_more c q (step i r) o)))
-        (near fs (beside G) at (other_slots n) q (suc i) c (picks_beside q i m r s fs G h) w.1 o)
+        nests_append c (unless_repeated r (shape_near_moves s (first_picks G) (inside r at (first_of (first_slot n))) (first_of (first_slot n)))) (near_moves fs (later_picks G) at (other_slots n))
+        (nests_unless c r (shape_near_moves s (first_picks G) (inside r at (first_of (first_slot n))) (first_of (first_slot n))) (shape_near s (first_picks G) (inside r at (first_of (first_slot n))) (first_of (first_slot n)) (q ++ step i r ∷ []) c (picks_behind q i m r s fs G h) (first_valid s (first_slot n) w.0) (front_more c q (step i r) o)))
+        (near fs (later_picks G) at (other_slots n) q (suc i) c (picks_beside q i m r s fs G h) w.1 o)
 
     pub shape_near : (s : Shape) (G : List Pick) (at : Depth) (x : Option Instance) (q : List Step) (c : List (List Step)) → ShapePicks q s G → ValidOne s x → IsOpenFront c q → Nests c (shape_near_moves s G at x)
     shape_near (leaf k) G at x q c h v o = nests_leaf c q k G at.repetition at.definition x h v o
@@ -311,15 +311,15 @@ module _ (whole : Fields) (F : List Leaf) where
     pub far_absent : (fs : Fields) (G : List Pick) (k : ℕ) (at : Depth) (q : List Step) (i : ℕ) (c : List (List Step)) → FieldPicks q i fs G → IsOpenFront c q → Nests c (far_moves fs G k at no_slots)
     far_absent no_fields G k at q i c h o = refl
     far_absent (field m r s fs) G k at q i c h o =
-        nests_append c (where_selected (behind G) (by_repetition r (repeated_moves k (λ x. moves_in (shape_near_moves s (behind G)) (shape_far_moves s (behind G) (suc k)) (inside r at x) x) (λ x. moves_in (shape_near_moves s (behind G)) (shape_far_moves s (behind G) (suc k)) (inside r (begun_later at) x) x)) (λ x. shape_far_moves s (behind G) k (inside r at x) x) no_instances)) (far_moves fs (beside G) (k + (repetition_count r + shape_repeated_fields s)) at no_slots)
-        (nests_where c (behind G) _ (by_kind r (λ d. shape_near s (behind G) d None (q ++ step i r ∷ []) c (picks_behind q i m r s fs G h) tt (front_more c q (step i r) o)) (λ j d. shape_far_absent s (behind G) j d (q ++ step i r ∷ []) c (picks_behind q i m r s fs G h) (front_more c q (step i r) o))))
-        (far_absent fs (beside G) (k + (repetition_count r + shape_repeated_fields s)) at q (suc i) c (picks_beside q i m r s fs G h) o)
+        nests_append c (where_selected (first_picks G) (by_repetition r (repeated_moves k (λ x. moves_in (shape_near_moves s (first_picks G)) (shape_far_moves s (first_picks G) (suc k)) (inside r at x) x) (λ x. moves_in (shape_near_moves s (first_picks G)) (shape_far_moves s (first_picks G) (suc k)) (inside r (begun_later at) x) x)) (λ x. shape_far_moves s (first_picks G) k (inside r at x) x) no_instances)) (far_moves fs (later_picks G) (k + (repetition_count r + shape_repeated_fields s)) at no_slots)
+        (nests_where c (first_picks G) _ (by_kind r (λ d. shape_near s (first_picks G) d None (q ++ step i r ∷ []) c (picks_behind q i m r s fs G h) tt (front_more c q (step i r) o)) (λ j d. shape_far_absent s (first_picks G) j d (q ++ step i r ∷ []) c (picks_behind q i m r s fs G h) (front_more c q (step i r) o))))
+        (far_absent fs (later_picks G) (k + (repetition_count r + shape_repeated_fields s)) at q (suc i) c (picks_beside q i m r s fs G h) o)
       where
-        by_kind : (r : Repetition) → ((d : Depth) → Nests c (shape_near_moves s (behind G) d None)) → ((j : ℕ) (d : Depth) → Nests c (shape_far_moves s (behind G) j d None))
-            → Nests c (by_repetition r (repeated_moves k (λ x. moves_in (shape_near_moves s (behind G)) (shape_far_moves s (behind G) (suc k)) (inside r at x) x) (λ x. moves_in (shape_near_moves s (behind G)) (shape_far_moves s (behind G) (suc k)) (inside r (begun_later at) x) x)) (λ x. shape_far_moves s (behind G) k (inside r at x) x) no_instances)
+        by_kind : (r : Repetition) → ((d : Depth) → Nests c (shape_near_moves s (first_picks G) d None)) → ((j : ℕ) (d : Depth) → Nests c (shape_far_moves s (first_picks G) j d None))
+            → Nests c (by_repetition r (repeated_moves k (λ x. moves_in (shape_near_moves s (first_picks G)) (shape_far_moves s (first_picks G) (suc k)) (inside r at x) x) (λ x. moves_in (shape_near_moves s (first_picks G)) (shape_far_moves s (first_picks G) (suc k)) (inside r (begun_later at) x) x)) (λ x. shape_far_moves s (first_picks G) k (inside r at x) x) no_instances)
         by_kind required f g = g k (inside required at None)
         by_kind optional f g = g k (inside optional at None)
-        by_kind repeated f g = nests_append c (shape_near_moves s (behind G) (inside repeated at None) None) (shape_far_moves s (behind G) (suc k) (inside repeated at None) None) (f (inside repeated at None)) (g (suc k) (inside repeated at None))
+        by_kind repeated f g = nests_append c (shape_near_moves s (first_picks G) (inside repeated at None) None) (shape_far_moves s (first_picks G) (suc k) (inside repeated at None) None) (f (inside repeated at None)) (g (suc k) (inside repeated at None))
 
     pub shape_far_absent : (s : Shape) (G : List Pick) (k : ℕ) (at : Depth) (q : List Step) (c : List (List Step)) → ShapePicks q s G → IsOpenFront c q → Nests c (shape_far_moves s G k at None)
     shape_far_absent (leaf j) G k at q c h o = refl
@@ -343,39 +343,39 @@ module _ (whole : Fields) (F : List Leaf) where
     far no_fields G k at n q i c h v u o = refl
     far (field m r s fs) G k at n q i c h v u o =
         let w : (all_instances (is_instance s) (first_slot n) ≡ true) × ValidNode fs (other_slots n) = slot_valid m r s fs n v in
-        let b : ShapePicks (q ++ step i r ∷ []) s (behind G) = picks_behind q i m r s fs G h in
+        let b : ShapePicks (q ++ step i r ∷ []) s (first_picks G) = picks_behind q i m r s fs G h in
         let ns : Numbered (q ++ step i r ∷ []) (shape_repeated_paths s) (k + repetition_count r) = numbered_shape q (step i r) r (shape_repeated_paths s) (repeated_paths_from fs (suc i)) k u in
         let nr : Numbered q (repeated_paths_from fs (suc i)) (k + (repetition_count r + shape_repeated_fields s)) = renumbered q (repeated_paths_from fs (suc i)) _ _ (ap (λ x. k + (repetition_count r + x)) (shape_length s)) (numbered_rest q (step i r) r (shape_repeated_paths s) (repeated_paths_from fs (suc i)) k u) in
-        nests_append c (where_selected (behind G) (by_repetition r (repeated_moves k (λ x. moves_in (shape_near_moves s (behind G)) (shape_far_moves s (behind G) (suc k)) (inside r at x) x) (λ x. moves_in (shape_near_moves s (behind G)) (shape_far_moves s (behind G) (suc k)) (inside r (begun_later at) x) x)) (λ x. shape_far_moves s (behind G) k (inside r at x) x) (first_slot n))) (far_moves fs (beside G) (k + (repetition_count r + shape_repeated_fields s)) at (other_slots n))
-        (nests_where c (behind G) _ (by_kind r (first_slot n) w.0 b ns u (λ j d x p e g y z. shape_far s (behind G) j d x p e g y z)))
-        (far fs (beside G) (k + (repetition_count r + shape_repeated_fields s)) at (other_slots n) q (suc i) c (picks_beside q i m r s fs G h) w.1 nr o)
+        nests_append c (where_selected (first_picks G) (by_repetition r (repeated_moves k (λ x. moves_in (shape_near_moves s (first_picks G)) (shape_far_moves s (first_picks G) (suc k)) (inside r at x) x) (λ x. moves_in (shape_near_moves s (first_picks G)) (shape_far_moves s (first_picks G) (suc k)) (inside r (begun_later at) x) x)) (λ x. shape_far_moves s (first_picks G) k (inside r at x) x) (first_slot n))) (far_moves fs (later_picks G) (k + (repetition_count r + shape_repeated_fields s)) at (other_slots n))
+        (nests_where c (first_picks G) _ (by_kind r (first_slot n) w.0 b ns u (λ j d x p e g y z. shape_far s (first_picks G) j d x p e g y z)))
+        (far fs (later_picks G) (k + (repetition_count r + shape_repeated_fields s)) at (other_slots n) q (suc i) c (picks_beside q i m r s fs G h) w.1 nr o)
       where
-        one : (xs : Instances) → all_instances (is_instance s) xs ≡ true → (r : Repetition) → repetition_count r ≡ 0 → ShapePicks (q ++ step i r ∷ []) s (behind G) → Numbered (q ++ step i r ∷ []) (shape_repeated_paths s) (k + repetition_count r) → Inner s (behind G) → Nests c (shape_far_moves s (behind G) k (inside r at (first_of xs)) (first_of xs))
+        one : (xs : Instances) → all_instances (is_instance s) xs ≡ true → (r : Repetition) → repetition_count r ≡ 0 → ShapePicks (q ++ step i r ∷ []) s (first_picks G) → Numbered (q ++ step i r ∷ []) (shape_repeated_paths s) (k + repetition_count r) → Inner s (first_picks G) → Nests c (shape_far_moves s (first_picks G) k (inside r at (first_of xs)) (first_of xs))
         one xs v r z b ns f = f k (inside r at (first_of xs)) (first_of xs) (q ++ step i r ∷ []) c b (first_valid s xs v) (renumbered (q ++ step i r ∷ []) (shape_repeated_paths s) (k + repetition_count r) k (omega (arith, z)) ns, chain_same c q (step i r) z o)
 
-        each : ShapePicks (q ++ step i repeated ∷ []) s (behind G) → Numbered (q ++ step i repeated ∷ []) (shape_repeated_paths s) (k + 1) → Numbered q (own_path (step i repeated) repeated (shape_repeated_paths s) ++ repeated_paths_from fs (suc i)) k → Inner s (behind G) → (d : Depth) (x : Instance) → is_instance s x ≡ true
-            → Nests c (enclosed k (moves_in (shape_near_moves s (behind G)) (shape_far_moves s (behind G) (suc k)) (inside repeated d (Some x)) (Some x)))
+        each : ShapePicks (q ++ step i repeated ∷ []) s (first_picks G) → Numbered (q ++ step i repeated ∷ []) (shape_repeated_paths s) (k + 1) → Numbered q (own_path (step i repeated) repeated (shape_repeated_paths s) ++ repeated_paths_from fs (suc i)) k → Inner s (first_picks G) → (d : Depth) (x : Instance) → is_instance s x ≡ true
+            → Nests c (enclosed k (moves_in (shape_near_moves s (first_picks G)) (shape_far_moves s (first_picks G) (suc k)) (inside repeated d (Some x)) (Some x)))
         each b ns u f d x v =
             let p : List Step = q ++ step i repeated ∷ [] in
             let e : IsOpenChain (p ∷ c) p = chain_entered c q i o in
             nests_enclosed c q (step i repeated) k _ (numbered_own q (step i repeated) (shape_repeated_paths s) (repeated_paths_from fs (suc i)) k u) e
-            (nests_append (p ∷ c) (shape_near_moves s (behind G) (inside repeated d (Some x)) (Some x)) (shape_far_moves s (behind G) (suc k) (inside repeated d (Some x)) (Some x))
-            (shape_near s (behind G) (inside repeated d (Some x)) (Some x) p (p ∷ c) b v (front_of_chain (p ∷ c) p e))
+            (nests_append (p ∷ c) (shape_near_moves s (first_picks G) (inside repeated d (Some x)) (Some x)) (shape_far_moves s (first_picks G) (suc k) (inside repeated d (Some x)) (Some x))
+            (shape_near s (first_picks G) (inside repeated d (Some x)) (Some x) p (p ∷ c) b v (front_of_chain (p ∷ c) p e))
             (f (suc k) (inside repeated d (Some x)) (Some x) p (p ∷ c) b v (renumbered p (shape_repeated_paths s) (k + 1) (suc k) (omega arith) ns, e)))
 
-        by_kind : (r : Repetition) (xs : Instances) → all_instances (is_instance s) xs ≡ true → ShapePicks (q ++ step i r ∷ []) s (behind G) → Numbered (q ++ step i r ∷ []) (shape_repeated_paths s) (k + repetition_count r) → Numbered q (own_path (step i r) r (shape_repeated_paths s) ++ repeated_paths_from fs (suc i)) k → Inner s (behind G)
-            → Nests c (by_repetition r (repeated_moves k (λ x. moves_in (shape_near_moves s (behind G)) (shape_far_moves s (behind G) (suc k)) (inside r at x) x) (λ x. moves_in (shape_near_moves s (behind G)) (shape_far_moves s (behind G) (suc k)) (inside r (begun_later at) x) x)) (λ x. shape_far_moves s (behind G) k (inside r at x) x) xs)
+        by_kind : (r : Repetition) (xs : Instances) → all_instances (is_instance s) xs ≡ true → ShapePicks (q ++ step i r ∷ []) s (first_picks G) → Numbered (q ++ step i r ∷ []) (shape_repeated_paths s) (k + repetition_count r) → Numbered q (own_path (step i r) r (shape_repeated_paths s) ++ repeated_paths_from fs (suc i)) k → Inner s (first_picks G)
+            → Nests c (by_repetition r (repeated_moves k (λ x. moves_in (shape_near_moves s (first_picks G)) (shape_far_moves s (first_picks G) (suc k)) (inside r at x) x) (λ x. moves_in (shape_near_moves s (first_picks G)) (shape_far_moves s (first_picks G) (suc k)) (inside r (begun_later at) x) x)) (λ x. shape_far_moves s (first_picks G) k (inside r at x) x) xs)
         by_kind required xs v b ns u f = one xs v required refl b ns f
         by_kind optional xs v b ns u f = one xs v optional refl b ns f
         by_kind repeated no_instances v b ns u f =
             let g : IsOpenFront c (q ++ step i repeated ∷ []) = front_more c q (step i repeated) (front_of_chain c q o) in
-            nests_append c (shape_near_moves s (behind G) (inside repeated at None) None) (shape_far_moves s (behind G) (suc k) (inside repeated at None) None)
-            (shape_near s (behind G) (inside repeated at None) None (q ++ step i repeated ∷ []) c b tt g) (shape_far_absent s (behind G) (suc k) (inside repeated at None) (q ++ step i repeated ∷ []) c b g)
+            nests_append c (shape_near_moves s (first_picks G) (inside repeated at None) None) (shape_far_moves s (first_picks G) (suc k) (inside repeated at None) None)
+            (shape_near s (first_picks G) (inside repeated at None) None (q ++ step i repeated ∷ []) c b tt g) (shape_far_absent s (first_picks G) (suc k) (inside repeated at None) (q ++ step i repeated ∷ []) c b g)
         by_kind repeated (instance x xs) v b ns u f =
             let w : (is_instance s x ≡ true) × (all_instances (is_instance s) xs ≡ true) = and_parts _ _ v in
-            nests_append c (enclosed k (moves_in (shape_near_moves s (behind G)) (shape_far_moves s (behind G) (suc k)) (inside repeated at (Some x)) (Some x))) (later_moves k (λ x. moves_in (shape_near_moves s (behind G)) (shape_far_moves s (behind G) (suc k)) (inside repeated (begun_later at) x) x) xs)
+            nests_append c (enclosed k (moves_in (shape_near_moves s (first_picks G)) (shape_far_moves s (first_picks G) (suc k)) (inside repeated at (Some x)) (Some x))) (later_moves k (λ x. moves_in (shape_near_moves s (first_picks G)) (shape_far_moves s (first_picks G) (suc k)) (inside repeated (begun_later at) x) x) xs)
             (each b ns u f at x w.0)
-            (nests_later s c q (step i repeated) k (λ x. moves_in (shape_near_moves s (behind G)) (shape_far_moves s (behind G) (suc k)) (inside repeated (begun_later at) x) x) (λ y z. each b ns u f (begun_later at) y z) xs w.1)
+            (nests_later s c q (step i repeated) k (λ x. moves_in (shape_near_moves s (first_picks G)) (shape_far_moves s (first_picks G) (suc k)) (inside repeated (begun_later at) x) x) (λ y z. each b ns u f (begun_later at) y z) xs w.1)
 
     pub shape_far : (s : Shape) (G : List Pick) (k : ℕ) (at : Depth) (x : Option Instance) (q : List Step) (c : List (List Step)) → ShapePicks q s G → ValidOne s x → Numbered q (shape_repeated_paths s) k × IsOpenChain c q → Nests c (shape_far_moves s G k at x)
     shape_far (leaf j) G k at x q c h v u = refl

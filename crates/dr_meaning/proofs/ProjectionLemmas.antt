@@ -7,7 +7,7 @@ use Rattle.std.proofs.lemmas.Simd.{map-map}
 use Rattle.std.proofs.Math.Dec.{eqb-suc-suc, eqb-zero-suc, eqb-suc-zero}
 use Rattle.dr_meaning.specs.Schema.{Repetition}
 use Rattle.dr_meaning.specs.Path.{Step, begins_with}
-use Rattle.dr_meaning.specs.Record.{Value, Node, no_slots, slot, gap, Instances, no_instances, instance, Instance, atom, inner, instances_at, put_at, here, here_if, there, there_if, slot_for, project, project_all, project_one}
+use Rattle.dr_meaning.specs.Record.{Value, Node, no_slots, slot, gap, Instances, no_instances, instance, Instance, atom, inner, instances_at, put_at, through_first, through_first_if, through_later, through_later_if, slot_for, project, project_all, project_one}
 use Rattle.dr_meaning.specs.Rows.{single, instance_rows, each_instance_rows, field_rows, rows, first_value, value_in, first_present, is_present_in}
 use Rattle.dr_meaning.specs.ProjectionLaws.{leads, RowsOfProjection, ValuesOfProjection, PresentInProjection}
 
@@ -18,15 +18,15 @@ step i r = record { place = i; repetition = r }
 
 -- the paths that begin with the field at this place, without that step
 abbrev pub below : ℕ → List (List Step) → List (List Step)
-below zero F = here F
-below (suc i) F = below i (there F)
+below zero F = through_first F
+below (suc i) F = below i (through_later F)
 
 -- one member of F more, at the place j
-leads-here_if : (q f : List Step) (G : List (List Step)) (j : ℕ) → ((0 == j) && begins_with q f) || list_any (begins_with q) G ≡ true → list_any (begins_with q) (here_if j f G) ≡ true
+leads-here_if : (q f : List Step) (G : List (List Step)) (j : ℕ) → ((0 == j) && begins_with q f) || list_any (begins_with q) G ≡ true → list_any (begins_with q) (through_first_if j f G) ≡ true
 leads-here_if q f G zero h = h
 leads-here_if q f G (suc j) h = rw eqb-zero-suc at h
 
-leads-there_if : (i : ℕ) (r t : Repetition) (q f : List Step) (G : List (List Step)) (j : ℕ) → ((suc i == j) && begins_with q f) || list_any (begins_with (step i r ∷ q)) G ≡ true → list_any (begins_with (step i r ∷ q)) (there_if j (step j t) f G) ≡ true
+leads-there_if : (i : ℕ) (r t : Repetition) (q f : List Step) (G : List (List Step)) (j : ℕ) → ((suc i == j) && begins_with q f) || list_any (begins_with (step i r ∷ q)) G ≡ true → list_any (begins_with (step i r ∷ q)) (through_later_if j (step j t) f G) ≡ true
 leads-there_if i r t q f G zero h = rw eqb-suc-zero at h
 leads-there_if i r t q f G (suc j) h = rw eqb-suc-suc at h
 
@@ -34,19 +34,19 @@ or_later : (a b c : Bool) → (b ≡ true → c ≡ true) → (a || b) ≡ true 
 or_later true b c f h = refl
 or_later false b c f h = f h
 
-leads-here : (r : Repetition) (q : List Step) (F : List (List Step)) → list_any (begins_with (step 0 r ∷ q)) F ≡ true → list_any (begins_with q) (here F) ≡ true
+leads-here : (r : Repetition) (q : List Step) (F : List (List Step)) → list_any (begins_with (step 0 r ∷ q)) F ≡ true → list_any (begins_with q) (through_first F) ≡ true
 leads-here r q [] h = h
 leads-here r q ([] ∷ F) h = leads-here r q F h
-leads-here r q ((s ∷ f) ∷ F) h = leads-here_if q f (here F) s.place (or_later _ _ _ (leads-here r q F) h)
+leads-here r q ((s ∷ f) ∷ F) h = leads-here_if q f (through_first F) s.place (or_later _ _ _ (leads-here r q F) h)
 
-leads-there : (i : ℕ) (r : Repetition) (q : List Step) (F : List (List Step)) → list_any (begins_with (step (suc i) r ∷ q)) F ≡ true → list_any (begins_with (step i r ∷ q)) (there F) ≡ true
+leads-there : (i : ℕ) (r : Repetition) (q : List Step) (F : List (List Step)) → list_any (begins_with (step (suc i) r ∷ q)) F ≡ true → list_any (begins_with (step i r ∷ q)) (through_later F) ≡ true
 leads-there i r q [] h = h
 leads-there i r q ([] ∷ F) h = leads-there i r q F h
-leads-there i r q ((s ∷ f) ∷ F) h = leads-there_if i r s.repetition q f (there F) s.place (or_later _ _ _ (leads-there i r q F) h)
+leads-there i r q ((s ∷ f) ∷ F) h = leads-there_if i r s.repetition q f (through_later F) s.place (or_later _ _ _ (leads-there i r q F) h)
 
 pub leads-below : (i : ℕ) (r : Repetition) (q : List Step) (F : List (List Step)) → list_any (begins_with (step i r ∷ q)) F ≡ true → list_any (begins_with q) (below i F) ≡ true
 leads-below zero r q F h = leads-here r q F h
-leads-below (suc i) r q F h = leads-below i r q (there F) (leads-there i r q F h)
+leads-below (suc i) r q F h = leads-below i r q (through_later F) (leads-there i r q F h)
 
 pub leads_from_front : (q : List Step) (G : List (List Step)) → list_any (begins_with q) G ≡ true → leads q G ≡ true
 leads_from_front [] G h = refl
@@ -65,10 +65,10 @@ later-slot_for i (f ∷ G) xs n = refl
 
 pub at-project : (i : ℕ) (q : List Step) (F : List (List Step)) (n : Node) → list_any (begins_with q) (below i F) ≡ true → instances_at i (project F n) ≡ project_all (below i F) (instances_at i n)
 at-project i q F no_slots h = refl
-at-project zero q F (slot xs n) h = ap (instances_at zero) (slot_for-kept q (here F) _ _ h)
-at-project (suc i) q F (slot xs n) h = later-slot_for i (here F) _ _ ∙ at-project i q (there F) n h
+at-project zero q F (slot xs n) h = ap (instances_at zero) (slot_for-kept q (through_first F) _ _ h)
+at-project (suc i) q F (slot xs n) h = later-slot_for i (through_first F) _ _ ∙ at-project i q (through_later F) n h
 at-project zero q F (gap n) h = refl
-at-project (suc i) q F (gap n) h = at-project i q (there F) n h
+at-project (suc i) q F (gap n) h = at-project i q (through_later F) n h
 
 put-slot_for : (G : List (List Step)) (xs ys : Instances) (n : Node) → put_at zero ys (slot_for G xs n) ≡ slot_for G ys n
 put-slot_for [] xs ys n = refl
@@ -80,10 +80,10 @@ put_later-slot_for i (f ∷ G) xs ys n = refl
 
 pub put-project : (i : ℕ) (F : List (List Step)) (xs : Instances) (n : Node) → put_at i (project_all (below i F) xs) (project F n) ≡ project F (put_at i xs n)
 put-project i F xs no_slots = refl
-put-project zero F xs (slot ys n) = put-slot_for (here F) _ _ _
-put-project (suc i) F xs (slot ys n) = put_later-slot_for i (here F) _ _ _ ∙ ap (slot_for (here F) (project_all (here F) ys)) (put-project i (there F) xs n)
+put-project zero F xs (slot ys n) = put-slot_for (through_first F) _ _ _
+put-project (suc i) F xs (slot ys n) = put_later-slot_for i (through_first F) _ _ _ ∙ ap (slot_for (through_first F) (project_all (through_first F) ys)) (put-project i (through_later F) xs n)
 put-project zero F xs (gap n) = refl
-put-project (suc i) F xs (gap n) = ap gap (put-project i (there F) xs n)
+put-project (suc i) F xs (gap n) = ap gap (put-project i (through_later F) xs n)
 
 -- ---- values and presence
 

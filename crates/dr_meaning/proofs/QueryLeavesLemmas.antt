@@ -6,8 +6,8 @@ use Rattle.std.proofs.lemmas.Bool.{and_parts, eqb-true}
 use Rattle.std.proofs.lemmas.Bool.Decides.{nat_tests}
 use Rattle.std.proofs.lemmas.List.Folds.{list_all-append}
 use Rattle.dr_meaning.specs.Schema.{Schema, Repetition, Kind, Fields, no_fields, field, Shape, leaf, group}
-use Rattle.dr_meaning.specs.Path.{Step, Leaf, level, begins_with, same_path, same_repetition, is_leaf_path, is_shape_path, leaves}
-use Rattle.dr_meaning.specs.Expression.{Expression, paths_of, expression_level}
+use Rattle.dr_meaning.specs.Path.{Step, Leaf, chain_end, begins_with, same_path, same_repetition, is_leaf_path, is_shape_path, leaves}
+use Rattle.dr_meaning.specs.Expression.{Expression, paths_of, expression_chain}
 use Rattle.dr_meaning.specs.Query.{RecordTerm, RecordItem, Selection, objects, groups, Query}
 use Rattle.dr_meaning.specs.MeaningLaws.{condition_paths, record_term_paths, selection_paths, query_paths, all_lead}
 use Rattle.dr_meaning.specs.ProjectionLaws.{leads}
@@ -21,7 +21,7 @@ use Rattle.dr_meaning.specs.BindingLaws.{LeavesAreEnough, QueryLeavesAreLeaves}
 use Rattle.dr_meaning.proofs.FindingLemmas.{In, in_at, at_in}
 use Rattle.dr_meaning.proofs.LeafKinds.{kind_if_some, leaf_kind, shape_kind, kind_of_leaf}
 use Rattle.dr_meaning.proofs.ProjectionLemmas.{step}
-use Rattle.dr_meaning.proofs.MeaningLemmas.{front-leads, level-front, longest_level-leads, both_lead, meaning_of_projection}
+use Rattle.dr_meaning.proofs.MeaningLemmas.{front-leads, level-front, longest_chain-leads, both_lead, meaning_of_projection}
 use Rattle.dr_meaning.proofs.OrderLemmas.{orders_have_each_once}
 use Rattle.dr_meaning.proofs.BindingFaultLemmas.{bound_is}
 use Rattle.dr_meaning.proofs.BindingLemmas.{LeafPaths}
@@ -112,16 +112,16 @@ used_lead fs all (p ∷ ps) h u =
 
 -- ---- the nodes of WITHIN
 
-held_rows : (e : Expression) (w : BoundWithin) → (if holds_rows e w then [] else fault_at w.place bad_within) ≡ [] → begins_with w.node (expression_level e) ≡ true
+held_rows : (e : Expression) (w : BoundWithin) → (if holds_rows e w then [] else fault_at w.place bad_within) ≡ [] → begins_with w.node (expression_chain e) ≡ true
 held_rows e w h = by_test (holds_rows e w) refl h
   where
-    by_test : (b : Bool) → holds_rows e w ≡ b → (if b then [] else fault_at w.place bad_within) ≡ [] → begins_with w.node (expression_level e) ≡ true
-    by_test true k g = (and_parts w.is_whole (begins_with w.node (expression_level e)) k).1
+    by_test : (b : Bool) → holds_rows e w ≡ b → (if b then [] else fault_at w.place bad_within) ≡ [] → begins_with w.node (expression_chain e) ≡ true
+    by_test true k g = (and_parts w.is_whole (begins_with w.node (expression_chain e)) k).1
     by_test false k g = absurd (cc)
 
 -- a node that holds the rows of an expression leads on where the expression's paths do
-node_leads : (F : List (List Step)) (e : Expression) (node : List Step) → begins_with node (expression_level e) ≡ true → all_lead F (paths_of e) ≡ true → leads (level node) F ≡ true
-node_leads F e node h k = front-leads (level node) node F (level-front node) (front-leads node (expression_level e) F h (longest_level-leads (paths_of e) F k))
+node_leads : (F : List (List Step)) (e : Expression) (node : List Step) → begins_with node (expression_chain e) ≡ true → all_lead F (paths_of e) ≡ true → leads (chain_end node) F ≡ true
+node_leads F e node h k = front-leads (chain_end node) node F (level-front node) (front-leads node (expression_chain e) F h (longest_chain-leads (paths_of e) F k))
 
 all_lead-append : (F ps qs : List (List Step)) → all_lead F ps ≡ true → all_lead F qs ≡ true → all_lead F (ps ++ qs) ≡ true
 all_lead-append F ps qs h k = list_all-append (λ (p : List Step). leads p F) ps qs ∙ ap₂ (λ a b. a && b) h k
@@ -144,7 +144,7 @@ record_paths-lead F (v ∷ vs) w h = let k = both_empty (within_faults v.term) (
     by_term (aggregated a e None) x k r = r k
     by_term (aggregated a e (Some o)) x k r =
         let q = both_lead (paths_of e.expression) (record_values vs) F k in
-        all_lead-append F (level o.node ∷ paths_of e.expression) (record_paths vs) (ap₂ (λ a b. a && b) (node_leads F e.expression o.node (held_rows e.expression o x) q.0) q.0) (r q.1)
+        all_lead-append F (chain_end o.node ∷ paths_of e.expression) (record_paths vs) (ap₂ (λ a b. a && b) (node_leads F e.expression o.node (held_rows e.expression o x) q.0) q.0) (r q.1)
 
 abbrev selection_of_kind : Bool → List BoundPath → List BoundItem → Selection
 selection_of_kind b keys vs = if b then objects (filter_map record_item vs) else groups (map (λ (k : BoundPath). k.leaf.path) keys) (filter_map (group_item keys) vs)

@@ -8,7 +8,7 @@ use Rattle.dr_meaning.specs.Schema.{Repetition, required, optional, repeated, Fi
 use Rattle.dr_meaning.specs.Path.{Step, common, max_repetition, is_leaf_path, is_shape_path, same_repetition}
 use Rattle.dr_meaning.specs.Record.{Value, Node, Instances, no_instances, instance, Instance}
 use Rattle.dr_meaning.specs.Column.{Triplet, triplet}
-use Rattle.dr_meaning.specs.Automaton.{Pick, picks, behind, beside, indexes, unless_repeated, where_repeated, near_order, far_order, shape_near_order, shape_far_order, first_common, transition, transition_by, counting}
+use Rattle.dr_meaning.specs.Automaton.{Pick, picks, first_picks, later_picks, indexes, unless_repeated, where_repeated, near_order, far_order, shape_near_order, shape_far_order, first_common, transition, transition_by, counting}
 use Rattle.dr_meaning.specs.Walk.{Move, value, leave, unless_repeated as moves_unless_repeated, Depth, inside, begun_later, first_of, first_slot, other_slots, node_of, value_there, triplet_moves, enclosed, later_moves, repeated_moves, by_repetition, where_selected, moves_in, near_moves, far_moves, shape_near_moves, shape_far_moves, top, record_moves}
 use Rattle.dr_meaning.specs.OrderLaws.{times}
 use Rattle.dr_meaning.specs.AutomatonLaws.{next_level, next_leaf, LeadsOn, AreInReadingOrder, first_leaf, AutomatonVisitsWalk}
@@ -237,10 +237,10 @@ module _ (F : List (List Step)) where
   abbrev SplitsShape : List Step → ℕ → Shape → List Pick → Type 0
   SplitsShape q m s G = (j : ℕ) (p : List Step) → slice_get F j ≡ Some p → InShape q s G j p ⊎ (Without j G × ((x : List Step) → common (q ++ x) p ≤ m))
 
-  splits_behind : (q : List Step) (i : ℕ) (m : List ℕ) (r : Repetition) (s : Shape) (fs : Fields) (G : List Pick) → SplitsFields q i (field m r s fs) G → SplitsShape (q ++ step i r ∷ []) (max_repetition q) s (behind G)
+  splits_behind : (q : List Step) (i : ℕ) (m : List ℕ) (r : Repetition) (s : Shape) (fs : Fields) (G : List Pick) → SplitsFields q i (field m r s fs) G → SplitsShape (q ++ step i r ∷ []) (max_repetition q) s (first_picks G)
   splits_behind q i m r s fs G h j p e = by_part (h j p e)
     where
-      by_place : (k : ℕ) (t : Repetition) (x : List Step) → Only j (step k t ∷ x) G → p ≡ q ++ shifted i (step k t ∷ x) → is_leaf_path (field m r s fs) (step k t ∷ x) ≡ true → InShape (q ++ step i r ∷ []) s (behind G) j p ⊎ (Without j (behind G) × ((y : List Step) → common ((q ++ step i r ∷ []) ++ y) p ≤ max_repetition q))
+      by_place : (k : ℕ) (t : Repetition) (x : List Step) → Only j (step k t ∷ x) G → p ≡ q ++ shifted i (step k t ∷ x) → is_leaf_path (field m r s fs) (step k t ∷ x) ≡ true → InShape (q ++ step i r ∷ []) s (first_picks G) j p ⊎ (Without j (first_picks G) × ((y : List Step) → common ((q ++ step i r ∷ []) ++ y) p ≤ max_repetition q))
       by_place zero t x o c l =
           let w : (same_repetition t r ≡ true) × (is_shape_path s x ≡ true) = and_parts _ _ l in
           let n : i + 0 ≡ i = omega arith in
@@ -251,19 +251,19 @@ module _ (F : List (List Step)) where
             ∙ common_front q (step i r ∷ y) (shifted i (step (suc k) t ∷ x)) ∙ ap (λ w. max_repetition q + w) (common_apart (step i r) (step (i + suc k) t) y x (ne_eqb i (i + suc k) (omega arith))) in omega (arith, z),
       )
 
-      by_part : InFields q i (field m r s fs) G j p ⊎ NotInFields q i G j p → InShape (q ++ step i r ∷ []) s (behind G) j p ⊎ (Without j (behind G) × ((x : List Step) → common ((q ++ step i r ∷ []) ++ x) p ≤ max_repetition q))
+      by_part : InFields q i (field m r s fs) G j p ⊎ NotInFields q i G j p → InShape (q ++ step i r ∷ []) s (first_picks G) j p ⊎ (Without j (first_picks G) × ((x : List Step) → common ((q ++ step i r ∷ []) ++ x) p ≤ max_repetition q))
       by_part (inl ([], o, c, l)) = absurd (true≢false (sym l))
       by_part (inl (t ∷ x, o, c, l)) = by_place t.place t.repetition x o c l
       by_part (inr (w, b)) = inr (without_behind j G w, λ x. let n : i + 0 ≡ i = omega arith in subst (λ z. common z p ≤ max_repetition q) (ap (λ y. q ++ step y r ∷ x) n ∙ sym (append_assoc q (step i r ∷ []) x)) (b (step 0 r ∷ x)))
 
-  splits_beside : (q : List Step) (i : ℕ) (m : List ℕ) (r : Repetition) (s : Shape) (fs : Fields) (G : List Pick) → SplitsFields q i (field m r s fs) G → SplitsFields q (suc i) fs (beside G)
+  splits_beside : (q : List Step) (i : ℕ) (m : List ℕ) (r : Repetition) (s : Shape) (fs : Fields) (G : List Pick) → SplitsFields q i (field m r s fs) G → SplitsFields q (suc i) fs (later_picks G)
   splits_beside q i m r s fs G h j p e = by_part (h j p e)
     where
       apart : (t : Repetition) (x y : List Step) → common (q ++ shifted (suc i) y) (q ++ step i t ∷ x) ≤ max_repetition q
       apart t x [] = omega (arith, common_front q [] (step i t ∷ x))
       apart t x (u ∷ y) = omega (arith, common_front q (step (suc i + u.place) u.repetition ∷ y) (step i t ∷ x), common_apart (step (suc i + u.place) u.repetition) (step i t) y x (ne_eqb (suc i + u.place) i (omega arith)))
 
-      by_place : (k : ℕ) (t : Repetition) (x : List Step) → Only j (step k t ∷ x) G → p ≡ q ++ shifted i (step k t ∷ x) → is_leaf_path (field m r s fs) (step k t ∷ x) ≡ true → InFields q (suc i) fs (beside G) j p ⊎ NotInFields q (suc i) (beside G) j p
+      by_place : (k : ℕ) (t : Repetition) (x : List Step) → Only j (step k t ∷ x) G → p ≡ q ++ shifted i (step k t ∷ x) → is_leaf_path (field m r s fs) (step k t ∷ x) ≡ true → InFields q (suc i) fs (later_picks G) j p ⊎ NotInFields q (suc i) (later_picks G) j p
       by_place zero t x o c l = let n : i + 0 ≡ i = omega arith in inr (beside_first j t x G o, λ y. subst (λ z. common (q ++ shifted (suc i) y) z ≤ max_repetition q) (sym (c ∙ ap (λ z. q ++ step z t ∷ x) n)) (apart t x y))
       by_place (suc k) t x o c l = let n : i + suc k ≡ suc i + k = omega arith in inl (step k t ∷ x, only_beside j k t x G o, c ∙ ap (λ z. q ++ step z t ∷ x) n, l)
 
@@ -271,7 +271,7 @@ module _ (F : List (List Step)) where
       later [] b = b []
       later (u ∷ y) b = let n : i + suc u.place ≡ suc i + u.place = omega arith in subst (λ z. common (q ++ step z u.repetition ∷ y) p ≤ max_repetition q) n (b (step (suc u.place) u.repetition ∷ y))
 
-      by_part : InFields q i (field m r s fs) G j p ⊎ NotInFields q i G j p → InFields q (suc i) fs (beside G) j p ⊎ NotInFields q (suc i) (beside G) j p
+      by_part : InFields q i (field m r s fs) G j p ⊎ NotInFields q i G j p → InFields q (suc i) fs (later_picks G) j p ⊎ NotInFields q (suc i) (later_picks G) j p
       by_part (inl ([], o, c, l)) = absurd (true≢false (sym l))
       by_part (inl (t ∷ x, o, c, l)) = by_place t.place t.repetition x o c l
       by_part (inr (w, b)) = inr (without_beside j G w, λ y. later y b)
@@ -398,17 +398,17 @@ module _ (F : List (List Step)) where
     near : (fs : Fields) (G : List Pick) (at : Depth) (n : Node) (q : List Step) (i a : ℕ) → SplitsFields q i fs G → max_repetition q ≡ at.level → IsRange a (near_order fs G) → Visits a (a + length (near_order fs G)) at.repetition at.level (near_moves fs G at n)
     near no_fields G at n q i a h e c = visits_nothing a (a + 0) at.repetition at.level (omega arith)
     near (field m r s fs) G at n q i a h e c =
-        let xs : List ℕ = unless_repeated r (shape_near_order s (behind G)) in
-        let ys : List ℕ = near_order fs (beside G) in
+        let xs : List ℕ = unless_repeated r (shape_near_order s (first_picks G)) in
+        let ys : List ℕ = near_order fs (later_picks G) in
         let d : (a + length xs) + length ys ≡ a + length (xs ++ ys) = omega (arith, length-append xs ys) in
         let x : Option Instance = first_of (first_slot n) in
-        visits_both a (a + length xs) (a + length (xs ++ ys)) at.repetition at.level (moves_unless_repeated r (shape_near_moves s (behind G) (inside r at x) x)) (near_moves fs (beside G) at (other_slots n)) (omega arith) (omega (arith, d))
+        visits_both a (a + length xs) (a + length (xs ++ ys)) at.repetition at.level (moves_unless_repeated r (shape_near_moves s (first_picks G) (inside r at x) x)) (near_moves fs (later_picks G) at (other_slots n)) (omega arith) (omega (arith, d))
         (subst (AreNear a (a + length (xs ++ ys))) e (in_fields q i (field m r s fs) G a (xs ++ ys) h c (λ j. omega arith)))
-        (by_kind r x (shape_near s (behind G) (inside r at x) x (q ++ step i r ∷ []) (max_repetition q) a (omega (arith, max_append q (step i r ∷ []))) (splits_behind q i m r s fs G h) (max_inside q i r at.level e)) (range_front a xs ys c))
-        (subst (λ z. Visits (a + length xs) z at.repetition at.level (near_moves fs (beside G) at (other_slots n))) d (near fs (beside G) at (other_slots n) q (suc i) (a + length xs) (splits_beside q i m r s fs G h) e (range_back a xs ys c)))
+        (by_kind r x (shape_near s (first_picks G) (inside r at x) x (q ++ step i r ∷ []) (max_repetition q) a (omega (arith, max_append q (step i r ∷ []))) (splits_behind q i m r s fs G h) (max_inside q i r at.level e)) (range_front a xs ys c))
+        (subst (λ z. Visits (a + length xs) z at.repetition at.level (near_moves fs (later_picks G) at (other_slots n))) d (near fs (later_picks G) at (other_slots n) q (suc i) (a + length xs) (splits_beside q i m r s fs G h) e (range_back a xs ys c)))
       where
-        by_kind : (r : Repetition) (x : Option Instance) → (IsRange a (shape_near_order s (behind G)) → Visits a (a + length (shape_near_order s (behind G))) (inside r at x).repetition (inside r at x).level (shape_near_moves s (behind G) (inside r at x) x))
-            → IsRange a (unless_repeated r (shape_near_order s (behind G))) → Visits a (a + length (unless_repeated r (shape_near_order s (behind G)))) at.repetition at.level (moves_unless_repeated r (shape_near_moves s (behind G) (inside r at x) x))
+        by_kind : (r : Repetition) (x : Option Instance) → (IsRange a (shape_near_order s (first_picks G)) → Visits a (a + length (shape_near_order s (first_picks G))) (inside r at x).repetition (inside r at x).level (shape_near_moves s (first_picks G) (inside r at x) x))
+            → IsRange a (unless_repeated r (shape_near_order s (first_picks G))) → Visits a (a + length (unless_repeated r (shape_near_order s (first_picks G)))) at.repetition at.level (moves_unless_repeated r (shape_near_moves s (first_picks G) (inside r at x) x))
         by_kind required x f c = visits_less a _ at.repetition (at.level + 0) at.level _ (omega arith) (f c)
         by_kind optional x f c = visits_less a _ at.repetition (at.level + 0) at.level _ (omega arith) (f c)
         by_kind repeated x f c = visits_nothing a (a + 0) at.repetition at.level (omega arith)
@@ -427,43 +427,43 @@ module _ (F : List (List Step)) where
     far : (fs : Fields) (G : List Pick) (k : ℕ) (at : Depth) (n : Node) (q : List Step) (i a : ℕ) → SplitsFields q i fs G → max_repetition q ≡ at.level → IsRange a (far_order fs G) → Visits a (a + length (far_order fs G)) at.repetition at.level (far_moves fs G k at n)
     far no_fields G k at n q i a h e c = visits_nothing a (a + 0) at.repetition at.level (omega arith)
     far (field m r s fs) G k at n q i a h e c =
-        let xs : List ℕ = far_places r s (behind G) in
-        let ys : List ℕ = far_order fs (beside G) in
+        let xs : List ℕ = far_places r s (first_picks G) in
+        let ys : List ℕ = far_order fs (later_picks G) in
         let d : (a + length xs) + length ys ≡ a + length (far_order (field m r s fs) G) = omega (arith, length-append xs ys) in
-        let moves : List Move = where_selected (behind G) (by_repetition r (repeated_moves k (λ x. moves_in (shape_near_moves s (behind G)) (shape_far_moves s (behind G) (suc k)) (inside r at x) x) (λ x. moves_in (shape_near_moves s (behind G)) (shape_far_moves s (behind G) (suc k)) (inside r (begun_later at) x) x)) (λ x. shape_far_moves s (behind G) k (inside r at x) x) (first_slot n)) in
-        visits_both a (a + length xs) (a + length (far_order (field m r s fs) G)) at.repetition at.level moves (far_moves fs (beside G) (k + (repetition_count r + shape_repeated_fields s)) at (other_slots n)) (omega arith) (omega (arith, d))
+        let moves : List Move = where_selected (first_picks G) (by_repetition r (repeated_moves k (λ x. moves_in (shape_near_moves s (first_picks G)) (shape_far_moves s (first_picks G) (suc k)) (inside r at x) x) (λ x. moves_in (shape_near_moves s (first_picks G)) (shape_far_moves s (first_picks G) (suc k)) (inside r (begun_later at) x) x)) (λ x. shape_far_moves s (first_picks G) k (inside r at x) x) (first_slot n)) in
+        visits_both a (a + length xs) (a + length (far_order (field m r s fs) G)) at.repetition at.level moves (far_moves fs (later_picks G) (k + (repetition_count r + shape_repeated_fields s)) at (other_slots n)) (omega arith) (omega (arith, d))
         (subst (AreNear a (a + length (far_order (field m r s fs) G))) e (in_fields q i (field m r s fs) G a (far_order (field m r s fs) G) h c (λ j. omega arith)))
-        (visits_where (behind G) a (a + length xs) at.repetition at.level _ (λ b. rw (b, no_shape_near s, none_repeated r, no_shape_far s) (omega arith))
+        (visits_where (first_picks G) a (a + length xs) at.repetition at.level _ (λ b. rw (b, no_shape_near s, none_repeated r, no_shape_far s) (omega arith))
         (by_kind r (first_slot n) (splits_behind q i m r s fs G h) (max_inside q i r at.level e) (range_front a xs ys c)
-        (λ j b x y z u v. shape_near s (behind G) b x (q ++ step i r ∷ []) y z u v) (λ j b x y z u v. shape_far s (behind G) j b x (q ++ step i r ∷ []) y z u v)))
-        (subst (λ z. Visits (a + length xs) z at.repetition at.level (far_moves fs (beside G) (k + (repetition_count r + shape_repeated_fields s)) at (other_slots n))) d (far fs (beside G) (k + (repetition_count r + shape_repeated_fields s)) at (other_slots n) q (suc i) (a + length xs) (splits_beside q i m r s fs G h) e (range_back a xs ys c)))
+        (λ j b x y z u v. shape_near s (first_picks G) b x (q ++ step i r ∷ []) y z u v) (λ j b x y z u v. shape_far s (first_picks G) j b x (q ++ step i r ∷ []) y z u v)))
+        (subst (λ z. Visits (a + length xs) z at.repetition at.level (far_moves fs (later_picks G) (k + (repetition_count r + shape_repeated_fields s)) at (other_slots n))) d (far fs (later_picks G) (k + (repetition_count r + shape_repeated_fields s)) at (other_slots n) q (suc i) (a + length xs) (splits_beside q i m r s fs G h) e (range_back a xs ys c)))
       where
-        by_kind : (r : Repetition) (xs : Instances) → SplitsShape (q ++ step i r ∷ []) (max_repetition q) s (behind G) → max_repetition (q ++ step i r ∷ []) ≡ at.level + repetition_count r → IsRange a (far_places r s (behind G))
-            → ((j : ℕ) (d : Depth) (x : Option Instance) (m a : ℕ) → m ≤ max_repetition (q ++ step i r ∷ []) → SplitsShape (q ++ step i r ∷ []) m s (behind G) → max_repetition (q ++ step i r ∷ []) ≡ d.level → IsRange a (shape_near_order s (behind G)) → Visits a (a + length (shape_near_order s (behind G))) d.repetition d.level (shape_near_moves s (behind G) d x))
-            → ((j : ℕ) (d : Depth) (x : Option Instance) (m a : ℕ) → m ≤ max_repetition (q ++ step i r ∷ []) → SplitsShape (q ++ step i r ∷ []) m s (behind G) → max_repetition (q ++ step i r ∷ []) ≡ d.level → IsRange a (shape_far_order s (behind G)) → Visits a (a + length (shape_far_order s (behind G))) d.repetition d.level (shape_far_moves s (behind G) j d x))
-            → Visits a (a + length (far_places r s (behind G))) at.repetition at.level (by_repetition r (repeated_moves k (λ x. moves_in (shape_near_moves s (behind G)) (shape_far_moves s (behind G) (suc k)) (inside r at x) x) (λ x. moves_in (shape_near_moves s (behind G)) (shape_far_moves s (behind G) (suc k)) (inside r (begun_later at) x) x)) (λ x. shape_far_moves s (behind G) k (inside r at x) x) xs)
+        by_kind : (r : Repetition) (xs : Instances) → SplitsShape (q ++ step i r ∷ []) (max_repetition q) s (first_picks G) → max_repetition (q ++ step i r ∷ []) ≡ at.level + repetition_count r → IsRange a (far_places r s (first_picks G))
+            → ((j : ℕ) (d : Depth) (x : Option Instance) (m a : ℕ) → m ≤ max_repetition (q ++ step i r ∷ []) → SplitsShape (q ++ step i r ∷ []) m s (first_picks G) → max_repetition (q ++ step i r ∷ []) ≡ d.level → IsRange a (shape_near_order s (first_picks G)) → Visits a (a + length (shape_near_order s (first_picks G))) d.repetition d.level (shape_near_moves s (first_picks G) d x))
+            → ((j : ℕ) (d : Depth) (x : Option Instance) (m a : ℕ) → m ≤ max_repetition (q ++ step i r ∷ []) → SplitsShape (q ++ step i r ∷ []) m s (first_picks G) → max_repetition (q ++ step i r ∷ []) ≡ d.level → IsRange a (shape_far_order s (first_picks G)) → Visits a (a + length (shape_far_order s (first_picks G))) d.repetition d.level (shape_far_moves s (first_picks G) j d x))
+            → Visits a (a + length (far_places r s (first_picks G))) at.repetition at.level (by_repetition r (repeated_moves k (λ x. moves_in (shape_near_moves s (first_picks G)) (shape_far_moves s (first_picks G) (suc k)) (inside r at x) x) (λ x. moves_in (shape_near_moves s (first_picks G)) (shape_far_moves s (first_picks G) (suc k)) (inside r (begun_later at) x) x)) (λ x. shape_far_moves s (first_picks G) k (inside r at x) x) xs)
         by_kind required xs h e c f g = visits_less a _ at.repetition (at.level + 0) at.level _ (omega arith) (g k (inside required at (first_of xs)) (first_of xs) (max_repetition q) a (omega (arith, max_append q (step i required ∷ []))) h e c)
         by_kind optional xs h e c f g = visits_less a _ at.repetition (at.level + 0) at.level _ (omega arith) (g k (inside optional at (first_of xs)) (first_of xs) (max_repetition q) a (omega (arith, max_append q (step i optional ∷ []))) h e c)
         by_kind repeated xs h e c f g =
-            let zs : List ℕ = shape_near_order s (behind G) in
-            let bs : List ℕ = shape_far_order s (behind G) in
+            let zs : List ℕ = shape_near_order s (first_picks G) in
+            let bs : List ℕ = shape_far_order s (first_picks G) in
             let b : ℕ = a + length (zs ++ bs) in
             let p : List Step = q ++ step i repeated ∷ [] in
             let l : max_repetition q < max_repetition p = omega (arith, max_append q (step i repeated ∷ [])) in
             let u : max_repetition q ≤ max_repetition p = omega (arith, l) in
-            let o : LoopsBack a b (at.level + 1) = subst (LoopsBack a b) e (loops_back p (max_repetition q) s (behind G) a (zs ++ bs) h c (λ j. times_append j zs bs) l) in
-            let n : AreNear a b (at.level + 1) = subst (AreNear a b) e (in_shape p (max_repetition q) s (behind G) a (zs ++ bs) h c (λ j. omega (arith, times_append j zs bs))) in
+            let o : LoopsBack a b (at.level + 1) = subst (LoopsBack a b) e (loops_back p (max_repetition q) s (first_picks G) a (zs ++ bs) h c (λ j. times_append j zs bs) l) in
+            let n : AreNear a b (at.level + 1) = subst (AreNear a b) e (in_shape p (max_repetition q) s (first_picks G) a (zs ++ bs) h c (λ j. omega (arith, times_append j zs bs))) in
             let d : (a + length zs) + length bs ≡ b = omega (arith, length-append zs bs) in
             let t : suc at.level ≡ at.level + 1 = omega arith in
             visits_less a b at.repetition (at.level + 1) at.level _ (omega arith)
             (visits_repeated a b at.repetition (at.level + 1) k _ _ o
-            (λ x. visits_both a (a + length zs) b at.repetition (at.level + 1) (shape_near_moves s (behind G) (inside repeated at x) x) (shape_far_moves s (behind G) (suc k) (inside repeated at x) x) (omega arith) (omega (arith, d)) n
+            (λ x. visits_both a (a + length zs) b at.repetition (at.level + 1) (shape_near_moves s (first_picks G) (inside repeated at x) x) (shape_far_moves s (first_picks G) (suc k) (inside repeated at x) x) (omega arith) (omega (arith, d)) n
             (f k (inside repeated at x) x (max_repetition q) a u h e (range_front a zs bs c))
-            (subst (λ z. Visits (a + length zs) z at.repetition (at.level + 1) (shape_far_moves s (behind G) (suc k) (inside repeated at x) x)) d (g (suc k) (inside repeated at x) x (max_repetition q) (a + length zs) u h e (range_back a zs bs c))))
-            (λ x. subst (λ y. Visits a b y (at.level + 1) (moves_in (shape_near_moves s (behind G)) (shape_far_moves s (behind G) (suc k)) (inside repeated (begun_later at) x) x)) t
-            (visits_both a (a + length zs) b (suc at.level) (at.level + 1) (shape_near_moves s (behind G) (inside repeated (begun_later at) x) x) (shape_far_moves s (behind G) (suc k) (inside repeated (begun_later at) x) x) (omega arith) (omega (arith, d)) n
+            (subst (λ z. Visits (a + length zs) z at.repetition (at.level + 1) (shape_far_moves s (first_picks G) (suc k) (inside repeated at x) x)) d (g (suc k) (inside repeated at x) x (max_repetition q) (a + length zs) u h e (range_back a zs bs c))))
+            (λ x. subst (λ y. Visits a b y (at.level + 1) (moves_in (shape_near_moves s (first_picks G)) (shape_far_moves s (first_picks G) (suc k)) (inside repeated (begun_later at) x) x)) t
+            (visits_both a (a + length zs) b (suc at.level) (at.level + 1) (shape_near_moves s (first_picks G) (inside repeated (begun_later at) x) x) (shape_far_moves s (first_picks G) (suc k) (inside repeated (begun_later at) x) x) (omega arith) (omega (arith, d)) n
             (f k (inside repeated (begun_later at) x) x (max_repetition q) a u h e (range_front a zs bs c))
-            (subst (λ z. Visits (a + length zs) z (suc at.level) (at.level + 1) (shape_far_moves s (behind G) (suc k) (inside repeated (begun_later at) x) x)) d (g (suc k) (inside repeated (begun_later at) x) x (max_repetition q) (a + length zs) u h e (range_back a zs bs c)))))
+            (subst (λ z. Visits (a + length zs) z (suc at.level) (at.level + 1) (shape_far_moves s (first_picks G) (suc k) (inside repeated (begun_later at) x) x)) d (g (suc k) (inside repeated (begun_later at) x) x (max_repetition q) (a + length zs) u h e (range_back a zs bs c)))))
             xs)
 
     shape_far : (s : Shape) (G : List Pick) (k : ℕ) (at : Depth) (x : Option Instance) (q : List Step) (m a : ℕ) → m ≤ max_repetition q → SplitsShape q m s G → max_repetition q ≡ at.level → IsRange a (shape_far_order s G) → Visits a (a + length (shape_far_order s G)) at.repetition at.level (shape_far_moves s G k at x)

@@ -7,7 +7,7 @@ use Rattle.dr_meaning.specs.Schema.{Repetition, required, optional, repeated, Ki
 use Rattle.dr_meaning.specs.Path.{Step, is_leaf_path, is_shape_path, same_repetition, through}
 use Rattle.dr_meaning.specs.Record.{Node, no_slots, slot, gap, Instances, no_instances, instance, Instance, atom, inner, count_instances, fits_repetition, all_instances, is_record, is_instance, instances_at}
 use Rattle.dr_meaning.specs.Column.{Triplet, triplet, each_later, spread, instance_column, record_column}
-use Rattle.dr_meaning.specs.Automaton.{Pick, picks_from, picks, behind_if, behind_pick, behind, beside_if, beside_pick, beside, indexes}
+use Rattle.dr_meaning.specs.Automaton.{Pick, picks_from, picks, first_picks_if, first_picks_and, first_picks, later_picks_if, later_picks_and, later_picks, indexes}
 use Rattle.dr_meaning.specs.Walk.{Move, enter, value, leave, Depth, inside, begun_later, definition_in, first_of, first_slot, other_slots, node_of, value_there, triplet_moves, unless_repeated, enclosed, later_moves, repeated_moves, by_repetition, where_selected, moves_in, near_moves, far_moves, shape_near_moves, shape_far_moves, top, record_moves, walk}
 use Rattle.dr_meaning.specs.WalkLaws.{triplets_of, WalkGivesColumns}
 use Rattle.dr_meaning.proofs.Blocks.{same_repetition-true, and₃_parts}
@@ -40,67 +40,67 @@ Only i p [] = ⊥
 Only i p (g ∷ G) = (((g.index == i) ≡ true) × (g.rest ≡ p) × Without i G) ⊎ (((g.index == i) ≡ false) × Only i p G)
 
 -- a pick before the others that are behind, or beside
-pub add_behind : (i : ℕ) (p : List Step) (j : ℕ) (B : List Pick) → (j == i) ≡ false → Without i B → Without i (behind_pick p j B)
+pub add_behind : (i : ℕ) (p : List Step) (j : ℕ) (B : List Pick) → (j == i) ≡ false → Without i B → Without i (first_picks_and p j B)
 add_behind i [] j B e h = h
 add_behind i (s ∷ p) j B e h = by_place s.place
   where
-    by_place : (k : ℕ) → Without i (behind_if k p j B)
+    by_place : (k : ℕ) → Without i (first_picks_if k p j B)
     by_place zero = (e, h)
     by_place (suc k) = h
 
-pub add_beside : (i : ℕ) (p : List Step) (j : ℕ) (B : List Pick) → (j == i) ≡ false → Without i B → Without i (beside_pick p j B)
+pub add_beside : (i : ℕ) (p : List Step) (j : ℕ) (B : List Pick) → (j == i) ≡ false → Without i B → Without i (later_picks_and p j B)
 add_beside i [] j B e h = h
 add_beside i (s ∷ p) j B e h = by_place s.place
   where
-    by_place : (k : ℕ) → Without i (beside_if k s p j B)
+    by_place : (k : ℕ) → Without i (later_picks_if k s p j B)
     by_place zero = h
     by_place (suc k) = (e, h)
 
-pub without_behind : (i : ℕ) (G : List Pick) → Without i G → Without i (behind G)
+pub without_behind : (i : ℕ) (G : List Pick) → Without i G → Without i (first_picks G)
 without_behind i [] h = tt
-without_behind i (g ∷ G) h = add_behind i g.rest g.index (behind G) h.0 (without_behind i G h.1)
+without_behind i (g ∷ G) h = add_behind i g.rest g.index (first_picks G) h.0 (without_behind i G h.1)
 
-pub without_beside : (i : ℕ) (G : List Pick) → Without i G → Without i (beside G)
+pub without_beside : (i : ℕ) (G : List Pick) → Without i G → Without i (later_picks G)
 without_beside i [] h = tt
-without_beside i (g ∷ G) h = add_beside i g.rest g.index (beside G) h.0 (without_beside i G h.1)
+without_beside i (g ∷ G) h = add_beside i g.rest g.index (later_picks G) h.0 (without_beside i G h.1)
 
-pub keep_behind : (i : ℕ) (q p : List Step) (j : ℕ) (B : List Pick) → (j == i) ≡ false → Only i q B → Only i q (behind_pick p j B)
+pub keep_behind : (i : ℕ) (q p : List Step) (j : ℕ) (B : List Pick) → (j == i) ≡ false → Only i q B → Only i q (first_picks_and p j B)
 keep_behind i q [] j B e h = h
 keep_behind i q (s ∷ p) j B e h = by_place s.place
   where
-    by_place : (k : ℕ) → Only i q (behind_if k p j B)
+    by_place : (k : ℕ) → Only i q (first_picks_if k p j B)
     by_place zero = inr (e, h)
     by_place (suc k) = h
 
-pub keep_beside : (i : ℕ) (q p : List Step) (j : ℕ) (B : List Pick) → (j == i) ≡ false → Only i q B → Only i q (beside_pick p j B)
+pub keep_beside : (i : ℕ) (q p : List Step) (j : ℕ) (B : List Pick) → (j == i) ≡ false → Only i q B → Only i q (later_picks_and p j B)
 keep_beside i q [] j B e h = h
 keep_beside i q (s ∷ p) j B e h = by_place s.place
   where
-    by_place : (k : ℕ) → Only i q (beside_if k s p j B)
+    by_place : (k : ℕ) → Only i q (later_picks_if k s p j B)
     by_place zero = h
     by_place (suc k) = inr (e, h)
 
 -- the pick goes through the first field
-pub only_behind : (i : ℕ) (r : Repetition) (p : List Step) (G : List Pick) → Only i (step 0 r ∷ p) G → Only i p (behind G)
+pub only_behind : (i : ℕ) (r : Repetition) (p : List Step) (G : List Pick) → Only i (step 0 r ∷ p) G → Only i p (first_picks G)
 only_behind i r p [] h = absurd h
-only_behind i r p (g ∷ G) (inl h) = subst (λ (x : List Step). Only i p (behind_pick x g.index (behind G))) (sym h.1) (inl (h.0, refl, without_behind i G h.2))
-only_behind i r p (g ∷ G) (inr h) = keep_behind i p g.rest g.index (behind G) h.0 (only_behind i r p G h.1)
+only_behind i r p (g ∷ G) (inl h) = subst (λ (x : List Step). Only i p (first_picks_and x g.index (first_picks G))) (sym h.1) (inl (h.0, refl, without_behind i G h.2))
+only_behind i r p (g ∷ G) (inr h) = keep_behind i p g.rest g.index (first_picks G) h.0 (only_behind i r p G h.1)
 
-pub beside_first : (i : ℕ) (r : Repetition) (p : List Step) (G : List Pick) → Only i (step 0 r ∷ p) G → Without i (beside G)
+pub beside_first : (i : ℕ) (r : Repetition) (p : List Step) (G : List Pick) → Only i (step 0 r ∷ p) G → Without i (later_picks G)
 beside_first i r p [] h = absurd h
-beside_first i r p (g ∷ G) (inl h) = subst (λ (x : List Step). Without i (beside_pick x g.index (beside G))) (sym h.1) (without_beside i G h.2)
-beside_first i r p (g ∷ G) (inr h) = add_beside i g.rest g.index (beside G) h.0 (beside_first i r p G h.1)
+beside_first i r p (g ∷ G) (inl h) = subst (λ (x : List Step). Without i (later_picks_and x g.index (later_picks G))) (sym h.1) (without_beside i G h.2)
+beside_first i r p (g ∷ G) (inr h) = add_beside i g.rest g.index (later_picks G) h.0 (beside_first i r p G h.1)
 
 -- or through a later one
-pub only_beside : (i j : ℕ) (r : Repetition) (p : List Step) (G : List Pick) → Only i (step (suc j) r ∷ p) G → Only i (step j r ∷ p) (beside G)
+pub only_beside : (i j : ℕ) (r : Repetition) (p : List Step) (G : List Pick) → Only i (step (suc j) r ∷ p) G → Only i (step j r ∷ p) (later_picks G)
 only_beside i j r p [] h = absurd h
-only_beside i j r p (g ∷ G) (inl h) = subst (λ (x : List Step). Only i (step j r ∷ p) (beside_pick x g.index (beside G))) (sym h.1) (inl (h.0, refl, without_beside i G h.2))
-only_beside i j r p (g ∷ G) (inr h) = keep_beside i (step j r ∷ p) g.rest g.index (beside G) h.0 (only_beside i j r p G h.1)
+only_beside i j r p (g ∷ G) (inl h) = subst (λ (x : List Step). Only i (step j r ∷ p) (later_picks_and x g.index (later_picks G))) (sym h.1) (inl (h.0, refl, without_beside i G h.2))
+only_beside i j r p (g ∷ G) (inr h) = keep_beside i (step j r ∷ p) g.rest g.index (later_picks G) h.0 (only_beside i j r p G h.1)
 
-pub behind_later : (i j : ℕ) (r : Repetition) (p : List Step) (G : List Pick) → Only i (step (suc j) r ∷ p) G → Without i (behind G)
+pub behind_later : (i j : ℕ) (r : Repetition) (p : List Step) (G : List Pick) → Only i (step (suc j) r ∷ p) G → Without i (first_picks G)
 behind_later i j r p [] h = absurd h
-behind_later i j r p (g ∷ G) (inl h) = subst (λ (x : List Step). Without i (behind_pick x g.index (behind G))) (sym h.1) (without_behind i G h.2)
-behind_later i j r p (g ∷ G) (inr h) = add_behind i g.rest g.index (behind G) h.0 (behind_later i j r p G h.1)
+behind_later i j r p (g ∷ G) (inl h) = subst (λ (x : List Step). Without i (first_picks_and x g.index (first_picks G))) (sym h.1) (without_behind i G h.2)
+behind_later i j r p (g ∷ G) (inr h) = add_behind i g.rest g.index (first_picks G) h.0 (behind_later i j r p G h.1)
 
 pub leaf_without : (i : ℕ) (G : List Pick) (t : Triplet) → Without i G → triplets_of i (triplet_moves (indexes G) t) ≡ []
 leaf_without i [] t h = refl
@@ -179,16 +179,16 @@ mutual
   pub near_nothing : (i : ℕ) (fs : Fields) (G : List Pick) (at : Depth) (n : Node) → Without i G → triplets_of i (near_moves fs G at n) ≡ []
   near_nothing i no_fields G at n h = refl
   near_nothing i (field m r s fs) G at n h =
-      nothing_before i (unless_repeated r (shape_near_moves s (behind G) (inside r at (first_of (first_slot n))) (first_of (first_slot n)))) (near_moves fs (beside G) at (other_slots n)) []
-      (unless_nothing i r (shape_near_moves s (behind G) (inside r at (first_of (first_slot n))) (first_of (first_slot n))) (shape_near_nothing i s (behind G) (inside r at (first_of (first_slot n))) (first_of (first_slot n)) (without_behind i G h)))
-      (near_nothing i fs (beside G) at (other_slots n) (without_beside i G h))
+      nothing_before i (unless_repeated r (shape_near_moves s (first_picks G) (inside r at (first_of (first_slot n))) (first_of (first_slot n)))) (near_moves fs (later_picks G) at (other_slots n)) []
+      (unless_nothing i r (shape_near_moves s (first_picks G) (inside r at (first_of (first_slot n))) (first_of (first_slot n))) (shape_near_nothing i s (first_picks G) (inside r at (first_of (first_slot n))) (first_of (first_slot n)) (without_behind i G h)))
+      (near_nothing i fs (later_picks G) at (other_slots n) (without_beside i G h))
 
   pub far_nothing : (i : ℕ) (fs : Fields) (G : List Pick) (k : ℕ) (at : Depth) (n : Node) → Without i G → triplets_of i (far_moves fs G k at n) ≡ []
   far_nothing i no_fields G k at n h = refl
   far_nothing i (field m r s fs) G k at n h =
-      nothing_before i (far_in r s (behind G) k at n) (far_moves fs (beside G) (k + (repetition_count r + shape_repeated_fields s)) at (other_slots n)) []
-      (far_in_nothing i r s (behind G) k at n (λ d x. shape_near_nothing i s (behind G) d x (without_behind i G h)) (λ j d x. shape_far_nothing i s (behind G) j d x (without_behind i G h)))
-      (far_nothing i fs (beside G) (k + (repetition_count r + shape_repeated_fields s)) at (other_slots n) (without_beside i G h))
+      nothing_before i (far_in r s (first_picks G) k at n) (far_moves fs (later_picks G) (k + (repetition_count r + shape_repeated_fields s)) at (other_slots n)) []
+      (far_in_nothing i r s (first_picks G) k at n (λ d x. shape_near_nothing i s (first_picks G) d x (without_behind i G h)) (λ j d x. shape_far_nothing i s (first_picks G) j d x (without_behind i G h)))
+      (far_nothing i fs (later_picks G) (k + (repetition_count r + shape_repeated_fields s)) at (other_slots n) (without_beside i G h))
 
   pub shape_near_nothing : (i : ℕ) (s : Shape) (G : List Pick) (at : Depth) (x : Option Instance) → Without i G → triplets_of i (shape_near_moves s G at x) ≡ []
   shape_near_nothing i (leaf k) G at x h = leaf_without i G (triplet at.repetition at.definition (value_there x)) h
@@ -276,25 +276,25 @@ abbrev pub FieldsGive : ℕ → Fields → ℕ → Repetition → List Step → 
 FieldsGive i fs j q p G = (k : ℕ) (at : Depth) (n : Node) → IsNode fs n
     → triplets_of i (near_moves fs G at n) ++ triplets_of i (far_moves fs G k at n) ≡ spread (instance_column p (at.level + repetition_count q) (at.definition + definition_count q)) (at.level + repetition_count q) at.definition at.repetition (instances_at j n)
 
-pub first_gives : (i : ℕ) (m : List ℕ) (r : Repetition) (s : Shape) (fs : Fields) (p : List Step) (G : List Pick) → Only i (step 0 r ∷ p) G → Gives i p s (behind G) → FieldsGive i (field m r s fs) 0 r p G
+pub first_gives : (i : ℕ) (m : List ℕ) (r : Repetition) (s : Shape) (fs : Fields) (p : List Step) (G : List Pick) → Only i (step 0 r ∷ p) G → Gives i p s (first_picks G) → FieldsGive i (field m r s fs) 0 r p G
 first_gives i m r s fs p G o g k at n h =
     let f : FirstSlot r s fs n = first_of_node m r s fs n h in
-    let w : Without i (beside G) = beside_first i r p G o in
+    let w : Without i (later_picks G) = beside_first i r p G o in
     ap₂ (λ a b. a ++ b)
-    (nothing_behind i (near_in r s (behind G) at n) (near_moves fs (beside G) at (other_slots n)) (triplets_of i (near_in r s (behind G) at n)) refl (near_nothing i fs (beside G) at (other_slots n) w))
-    (nothing_behind i (far_in r s (behind G) k at n) (far_moves fs (beside G) (k + (repetition_count r + shape_repeated_fields s)) at (other_slots n)) (triplets_of i (far_in r s (behind G) k at n)) refl (far_nothing i fs (beside G) (k + (repetition_count r + shape_repeated_fields s)) at (other_slots n) w))
-    ∙ field_gives i p r s (behind G) (only_behind i r p G o) g k at n (first_slot n) refl f.0 f.1
+    (nothing_behind i (near_in r s (first_picks G) at n) (near_moves fs (later_picks G) at (other_slots n)) (triplets_of i (near_in r s (first_picks G) at n)) refl (near_nothing i fs (later_picks G) at (other_slots n) w))
+    (nothing_behind i (far_in r s (first_picks G) k at n) (far_moves fs (later_picks G) (k + (repetition_count r + shape_repeated_fields s)) at (other_slots n)) (triplets_of i (far_in r s (first_picks G) k at n)) refl (far_nothing i fs (later_picks G) (k + (repetition_count r + shape_repeated_fields s)) at (other_slots n) w))
+    ∙ field_gives i p r s (first_picks G) (only_behind i r p G o) g k at n (first_slot n) refl f.0 f.1
     ∙ ap (spread (instance_column p (at.level + repetition_count r) (at.definition + definition_count r)) (at.level + repetition_count r) at.definition at.repetition) (sym f.2)
 
-pub later_field_gives : (i : ℕ) (m : List ℕ) (r : Repetition) (s : Shape) (fs : Fields) (j : ℕ) (q : Repetition) (p : List Step) (G : List Pick) → Only i (step (suc j) q ∷ p) G → FieldsGive i fs j q p (beside G) → FieldsGive i (field m r s fs) (suc j) q p G
+pub later_field_gives : (i : ℕ) (m : List ℕ) (r : Repetition) (s : Shape) (fs : Fields) (j : ℕ) (q : Repetition) (p : List Step) (G : List Pick) → Only i (step (suc j) q ∷ p) G → FieldsGive i fs j q p (later_picks G) → FieldsGive i (field m r s fs) (suc j) q p G
 later_field_gives i m r s fs j q p G o g k at n h =
     let f : FirstSlot r s fs n = first_of_node m r s fs n h in
-    let w : Without i (behind G) = behind_later i j q p G o in
+    let w : Without i (first_picks G) = behind_later i j q p G o in
     ap₂ (λ a b. a ++ b)
-    (nothing_before i (near_in r s (behind G) at n) (near_moves fs (beside G) at (other_slots n)) (triplets_of i (near_moves fs (beside G) at (other_slots n)))
-    (unless_nothing i r (shape_near_moves s (behind G) (inside r at (first_of (first_slot n))) (first_of (first_slot n))) (shape_near_nothing i s (behind G) (inside r at (first_of (first_slot n))) (first_of (first_slot n)) w)) refl)
-    (nothing_before i (far_in r s (behind G) k at n) (far_moves fs (beside G) (k + (repetition_count r + shape_repeated_fields s)) at (other_slots n)) (triplets_of i (far_moves fs (beside G) (k + (repetition_count r + shape_repeated_fields s)) at (other_slots n)))
-    (far_in_nothing i r s (behind G) k at n (λ d x. shape_near_nothing i s (behind G) d x w) (λ j d x. shape_far_nothing i s (behind G) j d x w)) refl)
+    (nothing_before i (near_in r s (first_picks G) at n) (near_moves fs (later_picks G) at (other_slots n)) (triplets_of i (near_moves fs (later_picks G) at (other_slots n)))
+    (unless_nothing i r (shape_near_moves s (first_picks G) (inside r at (first_of (first_slot n))) (first_of (first_slot n))) (shape_near_nothing i s (first_picks G) (inside r at (first_of (first_slot n))) (first_of (first_slot n)) w)) refl)
+    (nothing_before i (far_in r s (first_picks G) k at n) (far_moves fs (later_picks G) (k + (repetition_count r + shape_repeated_fields s)) at (other_slots n)) (triplets_of i (far_moves fs (later_picks G) (k + (repetition_count r + shape_repeated_fields s)) at (other_slots n)))
+    (far_in_nothing i r s (first_picks G) k at n (λ d x. shape_near_nothing i s (first_picks G) d x w) (λ j d x. shape_far_nothing i s (first_picks G) j d x w)) refl)
     ∙ g (k + (repetition_count r + shape_repeated_fields s)) at (other_slots n) f.3
     ∙ ap (spread (instance_column p (at.level + repetition_count q) (at.definition + definition_count q)) (at.level + repetition_count q) at.definition at.repetition) (sym (f.4 j))
 
@@ -314,8 +314,8 @@ pub through_gives : (i : ℕ) (m : List ℕ) (r : Repetition) (s : Shape) (fs : 
 through_gives i m r s fs q p f g zero G o h =
     let a : (same_repetition q r ≡ true) × (is_shape_path s p ≡ true) = and_parts _ _ h in
     let e : q ≡ r = same_repetition-true q r a.0 in
-    subst (λ (x : Repetition). FieldsGive i (field m r s fs) 0 x p G) (sym e) (first_gives i m r s fs p G (subst (λ (x : Repetition). Only i (step 0 x ∷ p) G) e o) (f (behind G) (only_behind i q p G o) a.1))
-through_gives i m r s fs q p f g (suc j) G o h = later_field_gives i m r s fs j q p G o (g j (beside G) (only_beside i j q p G o) h)
+    subst (λ (x : Repetition). FieldsGive i (field m r s fs) 0 x p G) (sym e) (first_gives i m r s fs p G (subst (λ (x : Repetition). Only i (step 0 x ∷ p) G) e o) (f (first_picks G) (only_behind i q p G o) a.1))
+through_gives i m r s fs q p f g (suc j) G o h = later_field_gives i m r s fs j q p G o (g j (later_picks G) (only_beside i j q p G o) h)
 
 mutual
   pub fields_give : (i : ℕ) (fs : Fields) (q : Repetition) (p : List Step) (j : ℕ) (G : List Pick) → Only i (step j q ∷ p) G → is_leaf_path fs (step j q ∷ p) ≡ true → FieldsGive i fs j q p G

@@ -1,10 +1,10 @@
 -- Expressions, by computation: arithmetic at the limits, comparisons, LIKE and CONTAINS, three-valued logic; rows and their values; paths and levels.
 use Rattle.std.specs.Prelude.{◌≡◌, ℕ, ◌-◌, ◌^◌, List, [], ◌∷◌, map, true, false, ℤ, pos, neg_ℤ, Option, Some, None, codes, refl}
 use Rattle.std.specs.Str.{chars}
-use Rattle.dr_meaning.specs.Path.{level, longer}
+use Rattle.dr_meaning.specs.Path.{chain_end, longer}
 use Rattle.dr_meaning.specs.Record.{Value, bool_value, int_value, text_value, no_slots}
 use Rattle.dr_meaning.specs.Rows.{rows, value_at, is_present}
-use Rattle.dr_meaning.specs.Expression.{Expression, constant, path_value, negative, arithmetic, comparison, like, contains, is_null, negation, conjunction, disjunction, Comparison, plus, minus, times, equal, unequal, less, at_most, greater, at_least, matches, evaluate, is_true, paths_of, longest_level, expression_level}
+use Rattle.dr_meaning.specs.Expression.{Expression, constant, path_value, negative, arithmetic, comparison, like, contains, is_null, negation, conjunction, disjunction, Comparison, plus, minus, times, equal, unequal, less, at_most, greater, at_least, matches, evaluate, is_true, paths_of, longest_chain, expression_chain}
 use Rattle.dr_meaning.proofs.WorkedRecords.{record_10, record_30}
 use Rattle.dr_meaning.proofs.WorkedPaths.{doc_id, backward, forward, name, language_level, code, country, url}
 
@@ -171,12 +171,12 @@ pub all_paths : paths_of (conjunction (negation (like (path_value url) (codes "x
 all_paths = refl
 
 -- the level of a leaf; the longer of two paths, and the first of two that are as long; the longest of several
-pub levels : (level url ≡ name) × (level code ≡ language_level) × (level name ≡ name) × (level doc_id ≡ []) × (level forward ≡ forward)
+pub levels : (chain_end url ≡ name) × (chain_end code ≡ language_level) × (chain_end name ≡ name) × (chain_end doc_id ≡ []) × (chain_end forward ≡ forward)
 levels = (refl, refl, refl, refl, refl)
 
 pub longest : (longer name country ≡ country) × (longer country name ≡ country) × (longer name doc_id ≡ name) × (longer doc_id name ≡ doc_id)
-    × (longest_level (doc_id ∷ code ∷ url ∷ []) ≡ language_level) × (longest_level (url ∷ code ∷ []) ≡ language_level) × (longest_level [] ≡ [])
+    × (longest_chain (doc_id ∷ code ∷ url ∷ []) ≡ language_level) × (longest_chain (url ∷ code ∷ []) ≡ language_level) × (longest_chain [] ≡ [])
 longest = (refl, refl, refl, refl, refl, refl, refl)
 
-pub levels_of_expressions : (expression_level (comparison equal (path_value url) (path_value code)) ≡ language_level) × (expression_level (number 1) ≡ []) × (expression_level (path_value backward) ≡ backward)
+pub levels_of_expressions : (expression_chain (comparison equal (path_value url) (path_value code)) ≡ language_level) × (expression_chain (number 1) ≡ []) × (expression_chain (path_value backward) ≡ backward)
 levels_of_expressions = (refl, refl, refl)

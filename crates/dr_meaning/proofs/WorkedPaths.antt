@@ -5,7 +5,7 @@ use Rattle.json.specs.Print.{escape_byte}
 use Rattle.std.specs.List.{list_all}
 use Rattle.std.specs.Str.{is_utf8, chars}
 use Rattle.dr_meaning.specs.Schema.{Repetition, text_kind, required, optional, repeated, is_schema}
-use Rattle.dr_meaning.specs.Path.{Step, Leaf, Found, find_path, find_leaf, unknown_field, not_a_leaf, cut_at_dots, chain, level, common, max_repetition, max_definition, is_leaf_path, leaves}
+use Rattle.dr_meaning.specs.Path.{Step, Leaf, Found, find_path, find_leaf, unknown_field, not_a_leaf, cut_at_dots, chain, chain_end, common, max_repetition, max_definition, is_leaf_path, leaves}
 use Rattle.dr_meaning.specs.Record.{is_record, project}
 use Rattle.dr_meaning.specs.Print.{record_text}
 use Rattle.dr_meaning.proofs.WorkedSchemas.{document, document_schema}
@@ -63,7 +63,7 @@ country_path = refl
 pub country_chain : chain country ≡ name ∷ language_level ∷ []
 country_chain = refl
 
-pub country_level : level country ≡ language_level
+pub country_level : chain_end country ≡ language_level
 country_level = refl
 
 pub country_levels : (max_repetition country ≡ 2) × (max_definition country ≡ 3) × (common country url ≡ 1) × (common country country ≡ 2) × (common country doc_id ≡ 0)

@@ -18,31 +18,31 @@ picks_from i (p ∷ F) = record { rest = p; index = i } ∷ picks_from (suc i) F
 abbrev pub picks : List (List Step) → List Pick
 picks F = picks_from 0 F
 
--- those that go through the first field of a group, behind it
-abbrev pub behind_if : ℕ → List Step → ℕ → List Pick → List Pick
-behind_if zero p i F = record { rest = p; index = i } ∷ F
-behind_if (suc k) p i F = F
+-- those that go through the first field of a group, with what is left of their paths behind it
+abbrev pub first_picks_if : ℕ → List Step → ℕ → List Pick → List Pick
+first_picks_if zero p i F = record { rest = p; index = i } ∷ F
+first_picks_if (suc k) p i F = F
 
-abbrev pub behind_pick : List Step → ℕ → List Pick → List Pick
-behind_pick [] i F = F
-behind_pick (s ∷ p) i F = behind_if s.place p i F
+abbrev pub first_picks_and : List Step → ℕ → List Pick → List Pick
+first_picks_and [] i F = F
+first_picks_and (s ∷ p) i F = first_picks_if s.place p i F
 
-abbrev pub behind : List Pick → List Pick
-behind [] = []
-behind (f ∷ F) = behind_pick f.rest f.index (behind F)
+abbrev pub first_picks : List Pick → List Pick
+first_picks [] = []
+first_picks (f ∷ F) = first_picks_and f.rest f.index (first_picks F)
 
 -- those that go through a later field, as the rest of the group counts its fields
-abbrev pub beside_if : ℕ → Step → List Step → ℕ → List Pick → List Pick
-beside_if zero s p i F = F
-beside_if (suc k) s p i F = record { rest = record { place = k; repetition = s.repetition } ∷ p; index = i } ∷ F
+abbrev pub later_picks_if : ℕ → Step → List Step → ℕ → List Pick → List Pick
+later_picks_if zero s p i F = F
+later_picks_if (suc k) s p i F = record { rest = record { place = k; repetition = s.repetition } ∷ p; index = i } ∷ F
 
-abbrev pub beside_pick : List Step → ℕ → List Pick → List Pick
-beside_pick [] i F = F
-beside_pick (s ∷ p) i F = beside_if s.place s p i F
+abbrev pub later_picks_and : List Step → ℕ → List Pick → List Pick
+later_picks_and [] i F = F
+later_picks_and (s ∷ p) i F = later_picks_if s.place s p i F
 
-abbrev pub beside : List Pick → List Pick
-beside [] = []
-beside (f ∷ F) = beside_pick f.rest f.index (beside F)
+abbrev pub later_picks : List Pick → List Pick
+later_picks [] = []
+later_picks (f ∷ F) = later_picks_and f.rest f.index (later_picks F)
 
 -- the places in the selection
 abbrev pub indexes : List Pick → List ℕ
@@ -53,7 +53,7 @@ indexes F = map (λ (f : Pick). f.index) F
 abbrev mutual
   pub schema_order_in : Fields → List Pick → List ℕ
   schema_order_in no_fields F = []
-  schema_order_in (field n r s fs) F = shape_schema_order s (behind F) ++ schema_order_in fs (beside F)
+  schema_order_in (field n r s fs) F = shape_schema_order s (first_picks F) ++ schema_order_in fs (later_picks F)
 
   pub shape_schema_order : Shape → List Pick → List ℕ
   shape_schema_order (leaf k) F = indexes F
@@ -79,12 +79,12 @@ abbrev mutual
   -- the leaves of this level
   pub near_order : Fields → List Pick → List ℕ
   near_order no_fields F = []
-  near_order (field n r s fs) F = unless_repeated r (shape_near_order s (behind F)) ++ near_order fs (beside F)
+  near_order (field n r s fs) F = unless_repeated r (shape_near_order s (first_picks F)) ++ near_order fs (later_picks F)
 
   -- the leaves below its next repeated fields
   pub far_order : Fields → List Pick → List ℕ
   far_order no_fields F = []
-  far_order (field n r s fs) F = where_repeated r (shape_near_order s (behind F)) ++ shape_far_order s (behind F) ++ far_order fs (beside F)
+  far_order (field n r s fs) F = where_repeated r (shape_near_order s (first_picks F)) ++ shape_far_order s (first_picks F) ++ far_order fs (later_picks F)
 
   pub shape_near_order : Shape → List Pick → List ℕ
   shape_near_order (leaf k) F = indexes F

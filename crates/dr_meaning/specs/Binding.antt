@@ -3,8 +3,8 @@ use Rattle.std.specs.Prelude.{ℕ, suc, List, [], ◌∷◌, ◌++◌, map, Bool
 use Rattle.std.specs.Prelude.{Option, Some, None, option_map, is_some, Result, Ok, Err, decimal}
 use Rattle.std.specs.List.{list_any, list_all, filter_map, flat_map, join_with_byte}
 use Rattle.dr_meaning.specs.Schema.{Schema, Fields, Shape, leaf, group}
-use Rattle.dr_meaning.specs.Path.{Step, Found, find_path, level, begins_with, same_path, max_repetition}
-use Rattle.dr_meaning.specs.Expression.{Expression, path_value, paths_of, expression_level}
+use Rattle.dr_meaning.specs.Path.{Step, Found, find_path, chain_end, begins_with, same_path, max_repetition}
+use Rattle.dr_meaning.specs.Expression.{Expression, path_value, paths_of, expression_chain}
 use Rattle.dr_meaning.specs.Query.{Aggregate, sum, RecordTerm, expression, within, GroupTerm, key, count_rows, aggregate, RecordItem, GroupItem}
 use Rattle.dr_meaning.specs.Query.{Selection, objects, groups, Query, Levels, no_levels, deeper, append_levels, levels_of}
 use Rattle.dr_meaning.specs.Syntax.{NameSyntax, PathSyntax, ExpressionSyntax, path, NodeSyntax, whole_record, node, WithinSyntax, TermSyntax, ConditionSyntax}
@@ -35,7 +35,7 @@ is_group_shape (group fs) = true
 
 -- a group whose path ends in a repeated field
 abbrev pub is_repeated_group : Found → Bool
-is_repeated_group f = is_group_shape f.shape && same_path (level f.path) f.path
+is_repeated_group f = is_group_shape f.shape && same_path (chain_end f.path) f.path
 
 -- the node of a WITHIN at place i, by a path at place j
 abbrev pub found_node : ℕ → ℕ → Option Found → Checked (Option BoundWithin)
@@ -183,7 +183,7 @@ unrelated_in_term keys (aggregated a e w) = unrelated_behind keys e
 -- whether a node holds the rows of an expression: it is whole, and the longest chain of the expression begins with it. The expression's paths
 -- are related: one that isn't has a fault before WITHIN
 abbrev pub holds_rows : Expression → BoundWithin → Bool
-holds_rows e w = w.is_whole && begins_with w.node (expression_level e)
+holds_rows e w = w.is_whole && begins_with w.node (expression_chain e)
 
 -- an aggregate WITHIN a node that doesn't hold its rows, and COUNT(*) WITHIN any
 abbrev pub within_faults : BoundTerm → List BindFault
@@ -217,28 +217,28 @@ grouping_faults keys i = if is_some (group_term keys i.term) then [] else fault_
 
 -- ---- names of one object
 
--- of two levels the one with more repeated fields, the first where they have as many
-abbrev pub deeper_level : List Step → List Step → List Step
-deeper_level p q = if nat_lt (max_repetition p) (max_repetition q) then q else p
+-- of two chains the one with more repeated fields, the first where they have as many
+abbrev pub deeper_chain : List Step → List Step → List Step
+deeper_chain p q = if nat_lt (max_repetition p) (max_repetition q) then q else p
 
--- the level of the path with the most repeated fields, the first of several such, also where the paths aren't related
-abbrev pub deepest_level : List (List Step) → List Step
-deepest_level [] = []
-deepest_level (p ∷ ps) = deeper_level (level p) (deepest_level ps)
+-- the chain with the most repeated fields, the first of several such, also where the paths aren't related
+abbrev pub deepest_chain : List (List Step) → List Step
+deepest_chain [] = []
+deepest_chain (p ∷ ps) = deeper_chain (chain_end p) (deepest_chain ps)
 
-abbrev pub within_level : Option BoundWithin → List Step
-within_level None = []
-within_level (Some w) = level w.node
+abbrev pub within_chain : Option BoundWithin → List Step
+within_chain None = []
+within_chain (Some w) = chain_end w.node
 
--- the level of the object in which an item of a record query stands
-abbrev pub item_level : BoundTerm → List Step
-item_level (plain e) = deepest_level (paths_of e.expression)
-item_level (rows_counted w) = within_level w
-item_level (aggregated a e w) = within_level w
+-- the chain of the object in which an item of a record query stands
+abbrev pub item_chain : BoundTerm → List Step
+item_chain (plain e) = deepest_chain (paths_of e.expression)
+item_chain (rows_counted w) = within_chain w
+item_chain (aggregated a e w) = within_chain w
 
 -- the items of an aggregate query stand in one object
 abbrev pub object_of : Bool → BoundItem → List Step
-object_of is_record_query i = if is_record_query then item_level i.term else []
+object_of is_record_query i = if is_record_query then item_chain i.term else []
 
 -- the levels next inside that at a path
 abbrev pub levels_inside : List Step → Levels → Levels

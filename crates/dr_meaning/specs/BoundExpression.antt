@@ -2,7 +2,7 @@
 use Rattle.std.specs.Prelude.{ℕ, List, [], ◌∷◌, ◌++◌, Bool, true, false, pos, if◌then◌else◌, ◌||◌, Option, Some, None, Result, Ok, Err}
 use Rattle.std.specs.List.{list_all}
 use Rattle.dr_meaning.specs.Schema.{Kind, bool_kind, int32_kind, int64_kind, text_kind, Fields}
-use Rattle.dr_meaning.specs.Path.{Step, Leaf, PathFault, unknown_field as no_field, not_a_leaf as no_leaf, find_path, found_leaf, level, begins_with}
+use Rattle.dr_meaning.specs.Path.{Step, Leaf, PathFault, unknown_field as no_field, not_a_leaf as no_leaf, find_path, found_leaf, chain_end, begins_with}
 use Rattle.dr_meaning.specs.Record.{bool_value, int_value, text_value}
 use Rattle.dr_meaning.specs.Expression.{Arithmetic, plus, Expression, constant, path_value, negative as negative_expression}
 use Rattle.dr_meaning.specs.Expression.{arithmetic as arithmetic_expression, comparison as comparison_expression, like as like_expression}
@@ -180,7 +180,7 @@ of_type wanted i e = if same_type e.gives wanted then passes e else fails_at i t
 
 -- whether the repeated fields on one path are the first of those on the other
 abbrev pub are_related : List Step → List Step → Bool
-are_related p q = begins_with (level p) (level q) || begins_with (level q) (level p)
+are_related p q = begins_with (chain_end p) (chain_end q) || begins_with (chain_end q) (chain_end p)
 
 -- the first path that isn't related to an earlier one, where there is one
 abbrev pub unrelated_after : List (List Step) → List BoundPath → List BindFault

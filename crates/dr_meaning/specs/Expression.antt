@@ -4,9 +4,10 @@ use Rattle.std.specs.Prelude.{None, option_map, chars}
 use Rattle.std.specs.Ordering.{is_eq, is_lt, is_le, is_gt, is_ge, is_ne, nat_cmp, int_cmp, bool_cmp}
 use Rattle.std.specs.declared.cmp.Ordering.{Ordering}
 use Rattle.std.specs.Cmp.Lexicographic.{slice_cmp}
-use Rattle.dr_meaning.specs.Path.{Step, longer, level}
+use Rattle.dr_meaning.specs.Path.{Step, longer, chain_end}
 use Rattle.dr_meaning.specs.Record.{Value, bool_value, int_value, text_value, Node, in_int64}
 use Rattle.dr_meaning.specs.Rows.{value_at}
+use Rattle.dr_meaning.specs.Lists.{is_empty}
 
 pub data Arithmetic : Type 0 where
   plus : Arithmetic
@@ -102,13 +103,9 @@ abbrev pub after_same : ℕ → (List ℕ → Bool) → List ℕ → Bool
 after_same p f [] = false
 after_same p f (c ∷ cs) = (p == c) && f cs
 
-abbrev pub is_empty_text : List ℕ → Bool
-is_empty_text [] = true
-is_empty_text (c ∷ cs) = false
-
 -- whether the whole text matches the pattern, both as characters
 unfoldable pub matches : List ℕ → List ℕ → Bool
-matches [] = is_empty_text
+matches [] = is_empty
 matches (p ∷ ps) = λ text. if p == 37 then some_end (matches ps) text else (if p == 95 then after_one (matches ps) text else after_same p (matches ps) text)
 
 abbrev pub begins_text : List ℕ → List ℕ → Bool
@@ -182,10 +179,10 @@ paths_of (disjunction a b) = paths_of a ++ paths_of b
 
 -- the longest chain among paths, as the path of its last repeated field: that with the most fields. In a query that is accepted the chains
 -- begin with one another, so that is the longest chain; of chains that are not related it would be only one of them
-abbrev pub longest_level : List (List Step) → List Step
-longest_level [] = []
-longest_level (p ∷ ps) = longer (level p) (longest_level ps)
+abbrev pub longest_chain : List (List Step) → List Step
+longest_chain [] = []
+longest_chain (p ∷ ps) = longer (chain_end p) (longest_chain ps)
 
--- an expression's level: the instances to which its values belong
-abbrev pub expression_level : Expression → List Step
-expression_level e = longest_level (paths_of e)
+-- an expression's chain: its values belong to the instances of the chain's end
+abbrev pub expression_chain : Expression → List Step
+expression_chain e = longest_chain (paths_of e)

@@ -1,4 +1,6 @@
 -- The definitions, from schemas to the first command, in the order in which they build on one another.
+-- words on lists and texts
+pub mod Lists
 -- schemas: trees of named fields; their text; paths and levels
 pub mod Schema
 pub mod SchemaText

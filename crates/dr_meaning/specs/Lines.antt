@@ -3,16 +3,12 @@ use Rattle.std.specs.Prelude.{◌≡◌, ℕ, suc, List, [], ◌∷◌, length, 
 use Rattle.dr_meaning.specs.Schema.{Fields}
 use Rattle.dr_meaning.specs.Record.{Node}
 use Rattle.dr_meaning.specs.JsonRecord.{RecordFault, record_of_line}
-
--- a byte before the first line
-abbrev pub onto_line : ℕ → List (List ℕ) → List (List ℕ)
-onto_line b [] = (b ∷ []) ∷ []
-onto_line b (l ∷ ls) = (b ∷ l) ∷ ls
+use Rattle.dr_meaning.specs.Lists.{onto_first}
 
 -- the lines of an input, without their LF; the last may lack it, and an empty rest after the last LF is no line
 abbrev pub lines_of : List ℕ → List (List ℕ)
 lines_of [] = []
-lines_of (b ∷ bs) = if b == 10 then [] ∷ lines_of bs else onto_line b (lines_of bs)
+lines_of (b ∷ bs) = if b == 10 then [] ∷ lines_of bs else onto_first b (lines_of bs)
 
 -- a line's greatest length
 abbrev pub longest_line : ℕ

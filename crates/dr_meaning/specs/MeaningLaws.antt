@@ -2,7 +2,7 @@
 use Rattle.std.specs.Prelude.{◌≡◌, List, [], ◌∷◌, ◌++◌, map, Bool, true, Option, Some, None}
 use Rattle.std.specs.List.{list_all, flat_map}
 use Rattle.dr_meaning.specs.Schema.{Fields}
-use Rattle.dr_meaning.specs.Path.{Step, level}
+use Rattle.dr_meaning.specs.Path.{Step, chain_end}
 use Rattle.dr_meaning.specs.Record.{Node, project}
 use Rattle.dr_meaning.specs.Expression.{Expression, paths_of}
 use Rattle.dr_meaning.specs.Query.{RecordTerm, expression, within, GroupTerm, key, count_rows, aggregate, RecordItem, GroupItem, Selection, objects}
@@ -19,7 +19,7 @@ condition_paths (Some e) = paths_of e
 -- an aggregate within a node also has the path of that node's instances
 abbrev pub record_term_paths : RecordTerm → List (List Step)
 record_term_paths (expression e) = paths_of e
-record_term_paths (within a e node) = level node ∷ paths_of e
+record_term_paths (within a e node) = chain_end node ∷ paths_of e
 
 abbrev pub group_term_paths : GroupTerm → List (List Step)
 group_term_paths (key i) = []

@@ -3,6 +3,7 @@ use Rattle.std.specs.Prelude.{ℕ, zero, suc, ◌+◌, List, [], ◌∷◌, ◌+
 use Rattle.std.specs.Prelude.{option_map, option_and_then, Result, Ok, Err}
 use Rattle.dr_meaning.specs.Schema.{Repetition, required, optional, repeated, Kind, Fields, no_fields, field, Shape, leaf, group, fields_of}
 use Rattle.dr_meaning.specs.Schema.{repetition_count, definition_count, is_repeated}
+use Rattle.dr_meaning.specs.Lists.{onto_first}
 
 -- one field on a path: its place in its group, counted from 0, and its repetition
 pub record Step : Type 0 where
@@ -14,6 +15,9 @@ pub record Leaf : Type 0 where
   pub names : List (List ℕ)
   pub path : List Step
   pub kind : Kind
+
+abbrev pub paths_of_leaves : List Leaf → List (List Step)
+paths_of_leaves ls = map (λ (l : Leaf). l.path) ls
 
 -- ---- from names to paths
 
@@ -39,11 +43,6 @@ resolve (n ∷ ns) s = option_and_then (λ (f : Found). option_map (found_below 
 abbrev pub find_path : List (List ℕ) → Fields → Option Found
 find_path ns fs = resolve ns (group fs)
 
--- a byte before the first of the parts
-abbrev pub onto_first : ℕ → List (List ℕ) → List (List ℕ)
-onto_first b [] = (b ∷ []) ∷ []
-onto_first b (n ∷ ns) = (b ∷ n) ∷ ns
-
 -- a text cut at its dots
 abbrev pub cut_at_dots : List ℕ → List (List ℕ)
 cut_at_dots [] = [] ∷ []
@@ -67,7 +66,7 @@ found_leaf ns (Some f) = leaf_at ns f.path f.shape
 abbrev pub find_leaf : List ℕ → Fields → Result Leaf PathFault
 find_leaf text fs = found_leaf (cut_at_dots text) (find_path (cut_at_dots text) fs)
 
--- ---- levels
+-- ---- levels and chains
 
 -- the greatest repetition level: the number of repeated fields on the path
 abbrev pub max_repetition : List Step → ℕ
@@ -89,9 +88,9 @@ up_to s [] = if is_repeated s.repetition then s ∷ [] else []
 up_to s (t ∷ p) = s ∷ t ∷ p
 
 -- the path of the last repeated field on it, or the empty path, the record's: the instances to which a value at this path belongs
-abbrev pub level : List Step → List Step
-level [] = []
-level (s ∷ p) = up_to s (level p)
+abbrev pub chain_end : List Step → List Step
+chain_end [] = []
+chain_end (s ∷ p) = up_to s (chain_end p)
 
 -- the common level of two paths: the number of repeated fields on their common front
 abbrev pub common : List Step → List Step → ℕ

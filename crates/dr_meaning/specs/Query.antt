@@ -6,10 +6,10 @@ use Rattle.std.specs.declared.cmp.Ordering.{Ordering}
 use Rattle.std.specs.declared.cmp.Ordering.TheVariants.{Less, Equal, Greater}
 use Rattle.std.specs.Cmp.Lexicographic.{slice_cmp}
 use Rattle.dr_meaning.specs.Schema.{Repetition, required, optional, repeated, Fields, no_fields, field, Shape, leaf, group}
-use Rattle.dr_meaning.specs.Path.{Step, begins_with, same_path, level, longer}
+use Rattle.dr_meaning.specs.Path.{Step, begins_with, same_path, chain_end, longer}
 use Rattle.dr_meaning.specs.Record.{Value, bool_value, int_value, text_value, Node}
 use Rattle.dr_meaning.specs.Rows.{rows, value_at, is_present}
-use Rattle.dr_meaning.specs.Expression.{Expression, evaluate, expression_level, longest_level}
+use Rattle.dr_meaning.specs.Expression.{Expression, evaluate, expression_chain, longest_chain}
 use Rattle.dr_meaning.specs.Kept.{kept}
 
 -- ---- queries
@@ -164,25 +164,25 @@ abbrev mutual
 abbrev pub levels_of : Fields → Levels
 levels_of fs = levels_in fs 0 [] []
 
--- the level to whose instances an item belongs: its longest chain, or that of its WITHIN node
-abbrev pub term_level : RecordTerm → List Step
-term_level (expression e) = expression_level e
-term_level (within a e node) = level node
+-- the chain to whose end's instances an item belongs: its longest, or that of its WITHIN node
+abbrev pub term_chain : RecordTerm → List Step
+term_chain (expression e) = expression_chain e
+term_chain (within a e node) = chain_end node
 
 -- an aggregate within a node goes over the rows of its argument below that instance
 abbrev pub term_value : RecordTerm → Node → Option Value
 term_value (expression e) row = evaluate e row
-term_value (within a e node) row = over_rows a e (rows (expression_level e) row)
+term_value (within a e node) row = over_rows a e (rows (expression_chain e) row)
 
 -- the items of a level, in SELECT order, before the rest of the object
 abbrev pub with_cells : List RecordItem → List Step → Node → Object → Object
 with_cells [] p row rest = rest
-with_cells (i ∷ is) p row rest = if same_path p (term_level i.term) then cell i.name (term_value i.term row) (with_cells is p row rest)
+with_cells (i ∷ is) p row rest = if same_path p (term_chain i.term) then cell i.name (term_value i.term row) (with_cells is p row rest)
     else with_cells is p row rest
 
 -- whether the level at a path leads to items
 abbrev pub leads_to_items : List RecordItem → List Step → Bool
-leads_to_items items p = list_any (λ (i : RecordItem). begins_with p (term_level i.term)) items
+leads_to_items items p = list_any (λ (i : RecordItem). begins_with p (term_chain i.term)) items
 
 -- the list of a level, where it leads to items, before the rest of the object
 abbrev pub with_list : Bool → List (List ℕ) → Objects → Object → Object
@@ -224,9 +224,9 @@ distinct_tuples (t ∷ ts) = insert_tuple t (distinct_tuples ts)
 -- the key tuples of the groups, ascending; without GROUP BY the one empty tuple
 abbrev pub group_tuples : List (List Step) → List Node → List (List (Option Value))
 group_tuples [] ns = [] ∷ []
-group_tuples (k ∷ ks) ns = distinct_tuples (map (key_tuple (k ∷ ks)) (flat_map (rows (longest_level (k ∷ ks))) ns))
+group_tuples (k ∷ ks) ns = distinct_tuples (map (key_tuple (k ∷ ks)) (flat_map (rows (longest_chain (k ∷ ks))) ns))
 
--- the rows at a level whose key tuple is the group's
+-- the rows of a chain whose key tuple is the group's
 abbrev pub group_rows : List (List Step) → List (Option Value) → List Step → List Node → List Node
 group_rows keys t p ns = filter (λ row. is_eq (tuple_order (key_tuple keys row) t)) (flat_map (rows p) ns)
 
@@ -238,8 +238,8 @@ nth_value (v ∷ vs) (suc i) = nth_value vs i
 -- an aggregate goes over the rows of the longer of the keys' chain and its argument's; COUNT(*) counts the rows of the keys' chain
 abbrev pub group_value : List (List Step) → List (Option Value) → List Node → GroupTerm → Option Value
 group_value keys t ns (key i) = nth_value t i
-group_value keys t ns count_rows = count_value (length (group_rows keys t (longest_level keys) ns))
-group_value keys t ns (aggregate a e) = over_rows a e (group_rows keys t (longer (longest_level keys) (expression_level e)) ns)
+group_value keys t ns count_rows = count_value (length (group_rows keys t (longest_chain keys) ns))
+group_value keys t ns (aggregate a e) = over_rows a e (group_rows keys t (longer (longest_chain keys) (expression_chain e)) ns)
 
 abbrev pub group_cells : List (List Step) → List (Option Value) → List Node → List GroupItem → Object
 group_cells keys t ns [] = no_entries

@@ -114,24 +114,24 @@ put_at (suc i) xs (gap n) = gap (put_at i xs n)
 -- ---- projection to a set of leaves, each given by its path
 
 -- the paths that begin with the first field of a group, without that step
-abbrev pub here_if : ℕ → List Step → List (List Step) → List (List Step)
-here_if zero p F = p ∷ F
-here_if (suc i) p F = F
+abbrev pub through_first_if : ℕ → List Step → List (List Step) → List (List Step)
+through_first_if zero p F = p ∷ F
+through_first_if (suc i) p F = F
 
-abbrev pub here : List (List Step) → List (List Step)
-here [] = []
-here ([] ∷ F) = here F
-here ((s ∷ p) ∷ F) = here_if s.place p (here F)
+abbrev pub through_first : List (List Step) → List (List Step)
+through_first [] = []
+through_first ([] ∷ F) = through_first F
+through_first ((s ∷ p) ∷ F) = through_first_if s.place p (through_first F)
 
 -- the paths that begin with a later field, as the rest of the group counts its fields
-abbrev pub there_if : ℕ → Step → List Step → List (List Step) → List (List Step)
-there_if zero s p F = F
-there_if (suc i) s p F = (record { place = i; repetition = s.repetition } ∷ p) ∷ F
+abbrev pub through_later_if : ℕ → Step → List Step → List (List Step) → List (List Step)
+through_later_if zero s p F = F
+through_later_if (suc i) s p F = (record { place = i; repetition = s.repetition } ∷ p) ∷ F
 
-abbrev pub there : List (List Step) → List (List Step)
-there [] = []
-there ([] ∷ F) = there F
-there ((s ∷ p) ∷ F) = there_if s.place s p (there F)
+abbrev pub through_later : List (List Step) → List (List Step)
+through_later [] = []
+through_later ([] ∷ F) = through_later F
+through_later ((s ∷ p) ∷ F) = through_later_if s.place s p (through_later F)
 
 -- a slot, or a gap where no path leads on
 abbrev pub slot_for : List (List Step) → Instances → Node → Node
@@ -142,8 +142,8 @@ slot_for (p ∷ F) xs n = slot xs n
 abbrev mutual
   pub project : List (List Step) → Node → Node
   project F no_slots = no_slots
-  project F (slot xs n) = slot_for (here F) (project_all (here F) xs) (project (there F) n)
-  project F (gap n) = gap (project (there F) n)
+  project F (slot xs n) = slot_for (through_first F) (project_all (through_first F) xs) (project (through_later F) n)
+  project F (gap n) = gap (project (through_later F) n)
 
   pub project_all : List (List Step) → Instances → Instances
   project_all F no_instances = no_instances

@@ -15,6 +15,14 @@ pub data Kind : Type 0 where
   int64_kind : Kind
   text_kind : Kind
 
+-- whether two kinds are the same
+abbrev pub same_kind : Kind → Kind → Bool
+same_kind bool_kind bool_kind = true
+same_kind int32_kind int32_kind = true
+same_kind int64_kind int64_kind = true
+same_kind text_kind text_kind = true
+same_kind k l = false
+
 mutual
   -- the fields of a group, in order: each has a name, a repetition and a shape
   pub data Fields : Type 0 where

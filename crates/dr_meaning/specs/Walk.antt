@@ -7,7 +7,7 @@ use Rattle.dr_meaning.specs.Path.{Step, Leaf, chain}
 pub use Rattle.dr_meaning.specs.Path.{same_path}
 use Rattle.dr_meaning.specs.Record.{Value, Node, no_slots, slot, gap, Instances, no_instances, instance, Instance, atom, inner, is_of_kind}
 use Rattle.dr_meaning.specs.Column.{Triplet, triplet, value_of}
-use Rattle.dr_meaning.specs.Automaton.{Pick, picks, behind, beside, indexes}
+use Rattle.dr_meaning.specs.Automaton.{Pick, picks, first_picks, later_picks, indexes}
 
 -- one move: into or out of the record (0) or an instance of the schema's nth repeated field, or a leaf's triplet, the leaf by its place in the selection
 pub data Move : Type 0 where
@@ -96,25 +96,34 @@ by_repetition repeated each only xs = each xs
 abbrev pub moves_in : (Depth → Option Instance → List Move) → (Depth → Option Instance → List Move) → Depth → Option Instance → List Move
 moves_in near far at x = near at x ++ far at x
 
+-- the moves in the first instance of a field, and in a later one, which begins with the level of its field
+abbrev pub first_instance_moves : (Depth → Option Instance → List Move) → (Depth → Option Instance → List Move) → Repetition → Depth
+    → Option Instance → List Move
+first_instance_moves near far r at x = moves_in near far (inside r at x) x
+
+abbrev pub later_instance_moves : (Depth → Option Instance → List Move) → (Depth → Option Instance → List Move) → Repetition → Depth
+    → Option Instance → List Move
+later_instance_moves near far r at x = moves_in near far (inside r (begun_later at) x) x
+
 abbrev mutual
   -- the moves of a level's own leaves
   pub near_moves : Fields → List Pick → Depth → Node → List Move
   near_moves no_fields F at n = []
   near_moves (field m r s fs) F at n =
-      unless_repeated r (shape_near_moves s (behind F) (inside r at (first_of (first_slot n))) (first_of (first_slot n)))
-      ++ near_moves fs (beside F) at (other_slots n)
+      unless_repeated r (shape_near_moves s (first_picks F) (inside r at (first_of (first_slot n))) (first_of (first_slot n)))
+      ++ near_moves fs (later_picks F) at (other_slots n)
 
   -- the moves of its next repeated fields, the first of which has the number k
   pub far_moves : Fields → List Pick → ℕ → Depth → Node → List Move
   far_moves no_fields F k at n = []
   far_moves (field m r s fs) F k at n =
-      where_selected (behind F) (by_repetition r
+      where_selected (first_picks F) (by_repetition r
       (repeated_moves k
-      (λ x. moves_in (shape_near_moves s (behind F)) (shape_far_moves s (behind F) (suc k)) (inside r at x) x)
-      (λ x. moves_in (shape_near_moves s (behind F)) (shape_far_moves s (behind F) (suc k)) (inside r (begun_later at) x) x))
-      (λ x. shape_far_moves s (behind F) k (inside r at x) x)
+      (first_instance_moves (shape_near_moves s (first_picks F)) (shape_far_moves s (first_picks F) (suc k)) r at)
+      (later_instance_moves (shape_near_moves s (first_picks F)) (shape_far_moves s (first_picks F) (suc k)) r at))
+      (λ x. shape_far_moves s (first_picks F) k (inside r at x) x)
       (first_slot n))
-      ++ far_moves fs (beside F) (k + (repetition_count r + shape_repeated_fields s)) at (other_slots n)
+      ++ far_moves fs (later_picks F) (k + (repetition_count r + shape_repeated_fields s)) at (other_slots n)
 
   pub shape_near_moves : Shape → List Pick → Depth → Option Instance → List Move
   shape_near_moves (leaf k) F at x = triplet_moves (indexes F) (triplet at.repetition at.definition (value_there x))

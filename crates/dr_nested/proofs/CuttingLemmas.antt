@@ -3,7 +3,8 @@ use Rattle.std.specs.Prelude.{◌≡◌, ◌≢◌, ℕ, suc, ◌<◌, List, [],
 use denote.Ref.{Bor}
 use Rattle.std.proofs.Common.{arith, refl, ap, ◌∙◌}
 use Rattle.std.proofs.lemmas.Bool.Decides.{nat_tests}
-use Rattle.dr_meaning.specs.Path.{cut_at_dots, onto_first}
+use Rattle.dr_meaning.specs.Path.{cut_at_dots}
+use Rattle.dr_meaning.specs.Lists.{onto_first}
 
 abbrev pub HasNoDot : List ℕ → Type 0
 HasNoDot w = (i : ℕ) → i < length w → get_or w i 0 ≢ 46

@@ -3,7 +3,7 @@ use Rattle.std.specs.Prelude.{◌≡◌, ℕ, ◌+◌, List, [], ◌∷◌, ◌+
 use Rattle.std.specs.declared.alloc.Global.{Global}
 use Rattle.std.proofs.Common.{refl, sym, ap, ◌∙◌, append_assoc, add-one}
 use Rattle.dr_meaning.specs.Schema as tree
-use Rattle.dr_meaning.specs.Path.{Step, Found, PathFault, unknown_field, named_field, found_below, resolve, find_path, found_leaf, cut_at_dots, onto_first}
+use Rattle.dr_meaning.specs.Path.{Step, Found, PathFault, unknown_field, named_field, found_below, resolve, find_path, found_leaf, cut_at_dots}
 use Rattle.dr_nested.specs.Views.{SeenField, field_view, fields_view, shape_view}
 use Rattle.dr_nested.specs.Faults.{path_fault_view, path_problem_view}
 use Rattle.dr_nested.specs.Finding.{found_at, behind, Leads}
@@ -12,6 +12,7 @@ use Rattle.dr_nested.specs.declared.shape.Shape as shapes
 use Rattle.dr_nested.specs.declared.shape.Kind.{Kind}
 use Rattle.dr_nested.specs.declared.fault.PathFault.{PathFault as Refusal}
 use Rattle.dr_nested.proofs.ViewLemmas.{view-field, view-leaf, view-group}
+use Rattle.dr_meaning.specs.Lists.{onto_first}
 
 -- ---- a field by its name
 

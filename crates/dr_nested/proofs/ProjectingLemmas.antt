@@ -2,7 +2,7 @@
 use Rattle.std.specs.Prelude.{◌≡◌, ℕ, zero, suc, ◌+◌, List, [], ◌∷◌, ◌++◌, map, Option, Some, None}
 use Rattle.std.proofs.Common.{refl, sym, ap, ap₂, ◌∙◌, add-one}
 use Rattle.dr_meaning.specs.Path.{Step}
-use Rattle.dr_meaning.specs.Record.{Node, no_slots, slot, gap, Instances, no_instances, instance, Instance, atom, inner, project, project_all, project_one, slot_for, here, there}
+use Rattle.dr_meaning.specs.Record.{Node, no_slots, slot, gap, Instances, no_instances, instance, Instance, atom, inner, project, project_all, project_one, slot_for, through_first, through_later}
 use Rattle.dr_nested.specs.declared.record.Instance as instances
 use Rattle.dr_nested.specs.Views.{slots_of, instances_of, instance_view, instances_view}
 use Rattle.dr_nested.specs.Selected.{Selected, none_selected, skipped, chosen, first_selected, later_selected, selected_at, AllEnd, IsSome, Selects, SelectsFirst, kept_or_gap, kept, kept_all, kept_one, kept_slot}
@@ -69,22 +69,22 @@ instances_kept s (x ∷ xs) = ap (instance (kept_one s (instance_view x))) (inst
 
 -- ---- what is kept is the projection to the paths on which it is selected
 
-pub all_end-here : (F : List (List Step)) → AllEnd F → here F ≡ []
+pub all_end-here : (F : List (List Step)) → AllEnd F → through_first F ≡ []
 all_end-here [] h = refl
 all_end-here ([] ∷ F) h = all_end-here F h
 all_end-here ((s ∷ p) ∷ F) h = absurd h
 
-pub all_end-there : (F : List (List Step)) → AllEnd F → AllEnd (there F)
+pub all_end-there : (F : List (List Step)) → AllEnd F → AllEnd (through_later F)
 all_end-there [] h = tt
 all_end-there ([] ∷ F) h = all_end-there F h
 all_end-there ((s ∷ p) ∷ F) h = absurd h
 
-pub selects-first : (s : Selected) (F : List (List Step)) → Selects s F → SelectsFirst (first_selected s) (here F)
+pub selects-first : (s : Selected) (F : List (List Step)) → Selects s F → SelectsFirst (first_selected s) (through_first F)
 selects-first none_selected F h = all_end-here F h
 selects-first (skipped s) F h = h.0
 selects-first (chosen b s) F h = (h.0, h.1)
 
-pub selects-later : (s : Selected) (F : List (List Step)) → Selects s F → Selects (later_selected s) (there F)
+pub selects-later : (s : Selected) (F : List (List Step)) → Selects s F → Selects (later_selected s) (through_later F)
 selects-later none_selected F h = all_end-there F h
 selects-later (skipped s) F h = h.1
 selects-later (chosen b s) F h = h.2
@@ -106,9 +106,9 @@ mutual
   pub kept_projects : (n : Node) (s : Selected) (F : List (List Step)) → Selects s F → kept s n ≡ project F n
   kept_projects no_slots s F h = refl
   kept_projects (slot xs n) s F h =
-      ap (kept_or_gap (first_selected s) (λ b. kept_all b xs)) (kept_projects n (later_selected s) (there F) (selects-later s F h))
-      ∙ kept_or_gap-projects (first_selected s) (here F) xs (project (there F) n) (selects-first s F h) (λ (b : Selected) (g : Selects b (here F)). all_kept_project xs b (here F) g)
-  kept_projects (gap n) s F h = ap gap (kept_projects n (later_selected s) (there F) (selects-later s F h))
+      ap (kept_or_gap (first_selected s) (λ b. kept_all b xs)) (kept_projects n (later_selected s) (through_later F) (selects-later s F h))
+      ∙ kept_or_gap-projects (first_selected s) (through_first F) xs (project (through_later F) n) (selects-first s F h) (λ (b : Selected) (g : Selects b (through_first F)). all_kept_project xs b (through_first F) g)
+  kept_projects (gap n) s F h = ap gap (kept_projects n (later_selected s) (through_later F) (selects-later s F h))
 
   all_kept_project : (xs : Instances) (s : Selected) (F : List (List Step)) → Selects s F → kept_all s xs ≡ project_all F xs
   all_kept_project no_instances s F h = refl

@@ -6,7 +6,7 @@ use Rattle.std.proofs.lemmas.List.{set-set, take_all}
 use Rattle.std.proofs.lemmas.Option.{slice_get-map, slice_get_read, slice_get_past}
 use Rattle.dr_meaning.specs.Schema.{Repetition}
 use Rattle.dr_meaning.specs.Path.{Step}
-use Rattle.dr_meaning.specs.Record.{here, there}
+use Rattle.dr_meaning.specs.Record.{through_first, through_later}
 use Rattle.dr_nested.specs.Selected.{Selected, none_selected, skipped, chosen, choices_of, first_selected, later_selected, selected_at, Selects, SelectsFirst}
 use Rattle.dr_nested.specs.SelectionView.{choice_view, choices_view, selection_view, padded}
 use Rattle.dr_nested.specs.PathView.{step_view}
@@ -26,8 +26,8 @@ view-chosen s = search (rules, choices.the_lemmas)
 
 -- the rests of the paths that go through the field at a place
 abbrev pub rests_at : ℕ → List (List Step) → List (List Step)
-rests_at zero F = here F
-rests_at (suc k) F = rests_at k (there F)
+rests_at zero F = through_first F
+rests_at (suc k) F = rests_at k (through_later F)
 
 -- ---- a path that ends here selects nothing more
 
@@ -46,15 +46,15 @@ choices_of-later : (c : Option Selected) (cs : List (Option Selected)) → later
 choices_of-later None cs = refl
 choices_of-later (Some b) cs = refl
 
-selects_by : (c : Option Selected) (cs : List (Option Selected)) (F : List (List Step)) → SelectsFirst c (here F) → Selects (choices_of cs) (there F) → Selects (choices_of (c ∷ cs)) F
+selects_by : (c : Option Selected) (cs : List (Option Selected)) (F : List (List Step)) → SelectsFirst c (through_first F) → Selects (choices_of cs) (through_later F) → Selects (choices_of (c ∷ cs)) F
 selects_by None cs F h g = (h, g)
 selects_by (Some b) cs F h g = (h.0, h.1, g)
 
-selects_first_of : (c : Option Selected) (cs : List (Option Selected)) (F : List (List Step)) → Selects (choices_of (c ∷ cs)) F → SelectsFirst c (here F)
+selects_first_of : (c : Option Selected) (cs : List (Option Selected)) (F : List (List Step)) → Selects (choices_of (c ∷ cs)) F → SelectsFirst c (through_first F)
 selects_first_of None cs F h = h.0
 selects_first_of (Some b) cs F h = (h.0, h.1)
 
-selects_later_of : (c : Option Selected) (cs : List (Option Selected)) (F : List (List Step)) → Selects (choices_of (c ∷ cs)) F → Selects (choices_of cs) (there F)
+selects_later_of : (c : Option Selected) (cs : List (Option Selected)) (F : List (List Step)) → Selects (choices_of (c ∷ cs)) F → Selects (choices_of cs) (through_later F)
 selects_later_of None cs F h = h.1
 selects_later_of (Some b) cs F h = h.2
 
@@ -64,10 +64,10 @@ skipped_first F h = rw view-skipped h
 -- ---- what is selected at a place is on the paths through it
 
 pub selects_at : (k : ℕ) (cs : List choices.Choice) (F : List (List Step)) → Selects (choices_view cs) F → SelectsFirst (choice_view (get_or (padded (suc k) cs) k choices.Skipped)) (rests_at k F)
-selects_at zero [] F h = skipped_first (here F) (all_end-here F h)
+selects_at zero [] F h = skipped_first (through_first F) (all_end-here F h)
 selects_at zero (c ∷ cs) F h = selects_first_of (choice_view c) (map choice_view cs) F h
-selects_at (suc k) [] F h = selects_at k [] (there F) (all_end-there F h)
-selects_at (suc k) (c ∷ cs) F h = selects_at k cs (there F) (selects_later_of (choice_view c) (map choice_view cs) F h)
+selects_at (suc k) [] F h = selects_at k [] (through_later F) (all_end-there F h)
+selects_at (suc k) (c ∷ cs) F h = selects_at k cs (through_later F) (selects_later_of (choice_view c) (map choice_view cs) F h)
 
 -- ---- one path more
 
@@ -78,10 +78,10 @@ selects_more zero [] c b r p F e h g = rw e (tt, g, all_end-there F h)
 selects_more zero (d ∷ cs) c b r p F e h g = rw e (tt, g, selects_later_of (choice_view d) (map choice_view cs) F h)
 selects_more (suc k) [] c b r p F e h g =
     selects_by (choice_view choices.Skipped) (map choice_view (set (padded (suc k) []) k c)) ((record { place = suc k; repetition = r } ∷ p) ∷ F)
-    (skipped_first (here F) (all_end-here F h)) (selects_more k [] c b r p (there F) e (all_end-there F h) g)
+    (skipped_first (through_first F) (all_end-here F h)) (selects_more k [] c b r p (through_later F) e (all_end-there F h) g)
 selects_more (suc k) (d ∷ cs) c b r p F e h g =
     selects_by (choice_view d) (map choice_view (set (padded (suc k) cs) k c)) ((record { place = suc k; repetition = r } ∷ p) ∷ F)
-    (selects_first_of (choice_view d) (map choice_view cs) F h) (selects_more k cs c b r p (there F) e (selects_later_of (choice_view d) (map choice_view cs) F h) g)
+    (selects_first_of (choice_view d) (map choice_view cs) F h) (selects_more k cs c b r p (through_later F) e (selects_later_of (choice_view d) (map choice_view cs) F h) g)
 
 -- ---- room for a place
 

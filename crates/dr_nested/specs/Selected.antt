@@ -1,7 +1,7 @@
 -- What is selected of a node: a tree of the fields on the way to some leaves.
 use Rattle.std.specs.Prelude.{◌≡◌, ℕ, zero, suc, List, [], ◌∷◌, Option, Some, None}
 use Rattle.dr_meaning.specs.Path.{Step}
-use Rattle.dr_meaning.specs.Record.{Node, no_slots, slot, gap, Instances, no_instances, instance, Instance, atom, inner, here, there}
+use Rattle.dr_meaning.specs.Record.{Node, no_slots, slot, gap, Instances, no_instances, instance, Instance, atom, inner, through_first, through_later}
 
 -- for each field of a group, in order, whether it is selected, and what is selected below it; no field is behind the last
 pub data Selected : Type 0 where
@@ -45,8 +45,8 @@ IsSome (p ∷ F) = Unit {0}
 -- exactly the fields on these paths are selected
 abbrev pub Selects : Selected → List (List Step) → Type 0
 Selects none_selected F = AllEnd F
-Selects (skipped s) F = (here F ≡ []) × Selects s (there F)
-Selects (chosen b s) F = IsSome (here F) × Selects b (here F) × Selects s (there F)
+Selects (skipped s) F = (through_first F ≡ []) × Selects s (through_later F)
+Selects (chosen b s) F = IsSome (through_first F) × Selects b (through_first F) × Selects s (through_later F)
 
 -- in a field exactly what is on these paths is selected, which go through it
 abbrev pub SelectsFirst : Option Selected → List (List Step) → Type 0

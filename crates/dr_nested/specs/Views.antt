@@ -1,5 +1,6 @@
 -- What the types of this crate stand for, in the definitions' words.
 use Rattle.std.specs.Prelude.{ℕ, List, [], ◌∷◌, map, string_bytes, Option, Some, None}
+use denote.Ref.{Bor}
 use Rattle.dr_meaning.specs.Schema as tree
 use Rattle.dr_meaning.specs.Record as record_tree
 use Rattle.dr_nested.specs.declared.shape.Rep.{Rep}
@@ -57,6 +58,10 @@ abbrev pub value_view : Value → record_tree.Value
 value_view (Value.Bool b) = record_tree.bool_value b
 value_view (Value.Int z) = record_tree.int_value z
 value_view (Value.Text s) = record_tree.text_value (string_bytes s)
+
+-- a value that is lent
+abbrev pub lent_value : Bor Value → record_tree.Value
+lent_value v = value_view v.now
 
 -- a slot whose instances have been seen; a gap is none
 abbrev pub slots_of : List (Option record_tree.Instances) → record_tree.Node

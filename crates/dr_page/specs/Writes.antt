@@ -5,10 +5,7 @@ use Rattle.dr_memory.specs.declared.NoMemory.{NoMemory}
 use Rattle.dr_formats.specs.Page.{is_triplet}
 use Rattle.dr_levels.specs.declared.triplets.Triplets.{Triplets}
 use Rattle.dr_levels.specs.Views.{triplets_view, triplets_form}
-
--- the bytes so far are still there, with others behind them
-abbrev pub BeginsWith : List ℕ → List ℕ → Type 0
-BeginsWith before now = (more : List ℕ) × (now ≡ before ++ more)
+use Rattle.dr_meaning.specs.Lists.{BeginsWith}
 
 -- the bytes joined those before; where memory ran out, some bytes may have
 abbrev pub Writes : List ℕ → List ℕ → List ℕ → Result (Unit {0}) NoMemory → Type 0

@@ -43,8 +43,8 @@ impl BodyReader {
         }
     }
 
-    /// Appends the triplets that the body of a data page spells to a column of its leaf; bytes behind the needed ones
-    /// are ignored. The number of triplets that the shape tells is believed only as far as the bytes spell it.
+    /// Appends the triplets that the body of a data page spells to a column of its leaf, as many as the shape tells;
+    /// there may be bytes behind them.
     ///
     /// Errors: the bytes spell no triplets of the shape; want of memory, or of room for texts. The column is then as it
     /// was.

@@ -6,7 +6,7 @@ use Rattle.std.proofs.lemmas.Bool.{and_parts}
 use Rattle.std.proofs.lemmas.List.{map-append}
 use Rattle.std.proofs.lemmas.List.Folds.{list_all-append}
 use Rattle.dr_meaning.specs.Schema.{Schema, Fields}
-use Rattle.dr_meaning.specs.Path.{Step, Leaf, same_path, leaves, is_leaf_path, level, begins_with}
+use Rattle.dr_meaning.specs.Path.{Step, Leaf, same_path, leaves, is_leaf_path, chain_end, begins_with}
 use Rattle.dr_meaning.specs.Expression.{Expression, paths_of, negative as negative_expression, is_null as is_null_expression, negation as negation_expression}
 use Rattle.dr_meaning.specs.Expression.{like as like_expression, contains as contains_expression, arithmetic as arithmetic_expression, comparison as comparison_expression}
 use Rattle.dr_meaning.specs.Expression.{conjunction as conjunction_expression, disjunction as disjunction_expression}
@@ -132,7 +132,7 @@ or_turned true false h = refl
 or_turned false b h = ap (λ c. c || false) h
 
 related_back : (p q : List Step) → are_related p q ≡ true → are_related q p ≡ true
-related_back p q h = or_turned (begins_with (level p) (level q)) (begins_with (level q) (level p)) h
+related_back p q h = or_turned (begins_with (chain_end p) (chain_end q)) (begins_with (chain_end q) (chain_end p)) h
 
 -- a path related to each of some is what each of these is related to
 all_back : (p : List Step) (before : List (List Step)) (ps : List (List Step)) → list_all (are_related p) before ≡ true → Each (λ (q : List Step). list_all (are_related q) ps ≡ true) before

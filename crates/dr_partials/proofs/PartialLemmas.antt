@@ -14,7 +14,7 @@ use Rattle.dr_meaning.specs.Schema.{Fields}
 use Rattle.dr_meaning.specs.Path.{Step, longer, is_leaf_path}
 use Rattle.dr_meaning.specs.Record.{Node}
 use Rattle.dr_meaning.specs.Rows.{rows}
-use Rattle.dr_meaning.specs.Expression.{paths_of, evaluate, expression_level, longest_level}
+use Rattle.dr_meaning.specs.Expression.{paths_of, evaluate, expression_chain, longest_chain}
 use Rattle.dr_meaning.specs.Kept.{kept}
 use Rattle.dr_meaning.specs.Query.{Aggregate, GroupTerm, key, count_rows, aggregate, GroupItem, Selection, objects, groups, Query, cell, nth_value, count_value, Levels, levels_of, record_object, key_tuple, tuple_order, distinct_tuples, group_tuples, group_rows, group_value, group_cells, selected, meaning}
 use Rattle.dr_meaning.specs.MeaningLaws.{group_term_paths}
@@ -39,8 +39,8 @@ row_is keys t ns (i ∷ items) = by_term i.term (row_is keys t ns items)
         → cell i.name (item_value g t (cons_option (term_accumulator keys t ns g) (accumulators_at keys items ns t))) (group_row items t (behind_item g (cons_option (term_accumulator keys t ns g) (accumulators_at keys items ns t))))
         ≡ cell i.name (group_value keys t ns g) (group_cells keys t ns items)
     by_term (key j) r = ap (cell i.name (nth_value t j)) r
-    by_term count_rows r = ap (cell i.name (count_value (length (group_rows keys t (longest_level keys) ns)))) r
-    by_term (aggregate a e) r = ap₂ (cell i.name) (gives_aggregate a (map (evaluate e) (group_rows keys t (longer (longest_level keys) (expression_level e)) ns))) r
+    by_term count_rows r = ap (cell i.name (count_value (length (group_rows keys t (longest_chain keys) ns)))) r
+    by_term (aggregate a e) r = ap₂ (cell i.name) (gives_aggregate a (map (evaluate e) (group_rows keys t (longer (longest_chain keys) (expression_chain e)) ns))) r
 
 finished_selected : (s : Selection) (ls : Levels) (ns : List Node) → finished_selection s (selected_partial s ls ns) ≡ selected s ls ns
 finished_selected (objects items) ls ns = refl
@@ -89,9 +89,9 @@ accumulators_append keys (i ∷ items) N M t = by_term i.term (accumulators_appe
         → cons_option (term_accumulator keys t (N ++ M) g) (accumulators_at keys items (N ++ M) t)
         ≡ join_all (cons_option (term_accumulator keys t N g) (accumulators_at keys items N t)) (cons_option (term_accumulator keys t M g) (accumulators_at keys items M t))
     by_term (key j) r = r
-    by_term count_rows r = ap₂ (λ x xs. x ∷ xs) (ap counted (ap length (rows_append keys t (longest_level keys) N M) ∙ length-append (group_rows keys t (longest_level keys) N) (group_rows keys t (longest_level keys) M))) r
+    by_term count_rows r = ap₂ (λ x xs. x ∷ xs) (ap counted (ap length (rows_append keys t (longest_chain keys) N M) ∙ length-append (group_rows keys t (longest_chain keys) N) (group_rows keys t (longest_chain keys) M))) r
     by_term (aggregate a e) r =
-        let p : List Step = longer (longest_level keys) (expression_level e) in
+        let p : List Step = longer (longest_chain keys) (expression_chain e) in
         ap₂ (λ x xs. x ∷ xs)
         (ap (accumulated a) (ap (map (evaluate e)) (rows_append keys t p N M) ∙ map-append (evaluate e) (group_rows keys t p N) (group_rows keys t p M))
         ∙ join_of_both a (map (evaluate e) (group_rows keys t p N)) (map (evaluate e) (group_rows keys t p M))) r
@@ -100,8 +100,8 @@ accumulators_append keys (i ∷ items) N M t = by_term i.term (accumulators_appe
 
 abbrev pub NoRows : List (List Step) → Tuple → List Node → GroupTerm → Type 0
 NoRows keys t ns (key j) = Unit {0}
-NoRows keys t ns count_rows = group_rows keys t (longest_level keys) ns ≡ []
-NoRows keys t ns (aggregate a e) = group_rows keys t (longer (longest_level keys) (expression_level e)) ns ≡ []
+NoRows keys t ns count_rows = group_rows keys t (longest_chain keys) ns ≡ []
+NoRows keys t ns (aggregate a e) = group_rows keys t (longer (longest_chain keys) (expression_chain e)) ns ≡ []
 
 abbrev pub empties : List GroupItem → List Accumulator
 empties items = filter_map (λ (i : GroupItem). empty_term i.term) items
@@ -123,9 +123,9 @@ empties_right keys (i ∷ items) ns t = by_term i.term (empties_right keys items
     by_term : (g : GroupTerm) → join_all (accumulators_at keys items ns t) (empties items) ≡ accumulators_at keys items ns t
         → join_all (cons_option (term_accumulator keys t ns g) (accumulators_at keys items ns t)) (cons_option (empty_term g) (empties items)) ≡ cons_option (term_accumulator keys t ns g) (accumulators_at keys items ns t)
     by_term (key j) r = r
-    by_term count_rows r = ap₂ (λ x xs. x ∷ xs) (empty_right Aggregate.count (counted (length (group_rows keys t (longest_level keys) ns))) refl) r
+    by_term count_rows r = ap₂ (λ x xs. x ∷ xs) (empty_right Aggregate.count (counted (length (group_rows keys t (longest_chain keys) ns))) refl) r
     by_term (aggregate a e) r =
-        let vs = map (evaluate e) (group_rows keys t (longer (longest_level keys) (expression_level e)) ns) in
+        let vs = map (evaluate e) (group_rows keys t (longer (longest_chain keys) (expression_chain e)) ns) in
         ap₂ (λ x xs. x ∷ xs) (empty_right a (accumulated a vs) (accumulated_aggregate a vs)) r
 
 pub empties_left : (keys : List (List Step)) (items : List GroupItem) (ns : List Node) (t : Tuple) → join_all (empties items) (accumulators_at keys items ns t) ≡ accumulators_at keys items ns t
@@ -135,14 +135,14 @@ empties_left keys (i ∷ items) ns t = by_term i.term (empties_left keys items n
     by_term : (g : GroupTerm) → join_all (empties items) (accumulators_at keys items ns t) ≡ accumulators_at keys items ns t
         → join_all (cons_option (empty_term g) (empties items)) (cons_option (term_accumulator keys t ns g) (accumulators_at keys items ns t)) ≡ cons_option (term_accumulator keys t ns g) (accumulators_at keys items ns t)
     by_term (key j) r = r
-    by_term count_rows r = ap₂ (λ x xs. x ∷ xs) (empty_left Aggregate.count (counted (length (group_rows keys t (longest_level keys) ns))) refl) r
+    by_term count_rows r = ap₂ (λ x xs. x ∷ xs) (empty_left Aggregate.count (counted (length (group_rows keys t (longest_chain keys) ns))) refl) r
     by_term (aggregate a e) r =
-        let vs = map (evaluate e) (group_rows keys t (longer (longest_level keys) (expression_level e)) ns) in
+        let vs = map (evaluate e) (group_rows keys t (longer (longest_chain keys) (expression_chain e)) ns) in
         ap₂ (λ x xs. x ∷ xs) (empty_left a (accumulated a vs) (accumulated_aggregate a vs)) r
 
 -- the items over whose rows the keys stand
 pub elsewhere : (keys : List (List Step)) (items : List GroupItem) → all_related keys ≡ true → list_all (λ (i : GroupItem). all_related (keys ++ group_term_paths i.term)) items ≡ true
-    → (ns : List Node) → Each (SingleAll keys) ns → (t : Tuple) → among t (tuples_of keys (longest_level keys) ns) ≡ false → Each (λ (i : GroupItem). NoRows keys t ns i.term) items
+    → (ns : List Node) → Each (SingleAll keys) ns → (t : Tuple) → among t (tuples_of keys (longest_chain keys) ns) ≡ false → Each (λ (i : GroupItem). NoRows keys t ns i.term) items
 elsewhere keys [] h g ns s t a = tt
 elsewhere keys (i ∷ items) h g ns s t a =
     let k = and_parts (all_related (keys ++ group_term_paths i.term)) (list_all (λ (i : GroupItem). all_related (keys ++ group_term_paths i.term)) items) g in
@@ -150,8 +150,8 @@ elsewhere keys (i ∷ items) h g ns s t a =
   where
     by_term : (g : GroupTerm) → all_related (keys ++ group_term_paths g) ≡ true → NoRows keys t ns g
     by_term (key j) r = tt
-    by_term count_rows r = no_rows_elsewhere keys (longest_level keys) (longest_level keys) (longest_itself keys) (chains_begin keys h) ns s t a
-    by_term (aggregate b e) r = no_rows_elsewhere keys (longest_level keys) (longer (longest_level keys) (expression_level e)) (longest_begins keys (paths_of e) r) (chains_begin keys h) ns s t a
+    by_term count_rows r = no_rows_elsewhere keys (longest_chain keys) (longest_chain keys) (longest_itself keys) (chains_begin keys h) ns s t a
+    by_term (aggregate b e) r = no_rows_elsewhere keys (longest_chain keys) (longer (longest_chain keys) (expression_chain e)) (longest_begins keys (paths_of e) r) (chains_begin keys h) ns s t a
 
 -- ---- the groups of records joined
 
@@ -168,31 +168,31 @@ tuples_append keys p N M = ap (map (key_tuple keys)) (flat_map-append (rows p) N
 
 groups_append : (keys : List (List Step)) (items : List GroupItem) → all_related keys ≡ true → list_all (λ (i : GroupItem). all_related (keys ++ group_term_paths i.term)) items ≡ true
     → (N M : List Node) → Each (SingleAll keys) N → Each (SingleAll keys) M
-    → groups_at (accumulators_at keys items (N ++ M)) (distinct_tuples (tuples_of keys (longest_level keys) (N ++ M)))
-    ≡ merge_groups (groups_at (accumulators_at keys items N) (distinct_tuples (tuples_of keys (longest_level keys) N))) (groups_at (accumulators_at keys items M) (distinct_tuples (tuples_of keys (longest_level keys) M)))
+    → groups_at (accumulators_at keys items (N ++ M)) (distinct_tuples (tuples_of keys (longest_chain keys) (N ++ M)))
+    ≡ merge_groups (groups_at (accumulators_at keys items N) (distinct_tuples (tuples_of keys (longest_chain keys) N))) (groups_at (accumulators_at keys items M) (distinct_tuples (tuples_of keys (longest_chain keys) M)))
 groups_append keys items h g N M n m =
-    found_alike _ _ (distinct_ascends (accumulators_at keys items (N ++ M)) (tuples_of keys (longest_level keys) (N ++ M)))
-    (merged_ascends (groups_of N) (groups_of M) (distinct_ascends (accumulators_at keys items M) (tuples_of keys (longest_level keys) M))) found
+    found_alike _ _ (distinct_ascends (accumulators_at keys items (N ++ M)) (tuples_of keys (longest_chain keys) (N ++ M)))
+    (merged_ascends (groups_of N) (groups_of M) (distinct_ascends (accumulators_at keys items M) (tuples_of keys (longest_chain keys) M))) found
   where
     groups_of : List Node → List Group
-    groups_of ns = groups_at (accumulators_at keys items ns) (distinct_tuples (tuples_of keys (longest_level keys) ns))
+    groups_of ns = groups_at (accumulators_at keys items ns) (distinct_tuples (tuples_of keys (longest_chain keys) ns))
 
-    at : (ns : List Node) (t : Tuple) → find t (groups_at (accumulators_at keys items ns) (distinct_tuples (tuples_of keys (longest_level keys) ns)))
-        ≡ (if among t (tuples_of keys (longest_level keys) ns) then Some (accumulators_at keys items ns t) else None)
-    at ns t = find_at (accumulators_at keys items ns) t (distinct_tuples (tuples_of keys (longest_level keys) ns))
-        ∙ ap (λ b. if b then Some (accumulators_at keys items ns t) else None) (among_distinct t (tuples_of keys (longest_level keys) ns))
+    at : (ns : List Node) (t : Tuple) → find t (groups_at (accumulators_at keys items ns) (distinct_tuples (tuples_of keys (longest_chain keys) ns)))
+        ≡ (if among t (tuples_of keys (longest_chain keys) ns) then Some (accumulators_at keys items ns t) else None)
+    at ns t = find_at (accumulators_at keys items ns) t (distinct_tuples (tuples_of keys (longest_chain keys) ns))
+        ∙ ap (λ b. if b then Some (accumulators_at keys items ns t) else None) (among_distinct t (tuples_of keys (longest_chain keys) ns))
 
-    found : (t : Tuple) → find t (groups_at (accumulators_at keys items (N ++ M)) (distinct_tuples (tuples_of keys (longest_level keys) (N ++ M))))
-        ≡ find t (merge_groups (groups_at (accumulators_at keys items N) (distinct_tuples (tuples_of keys (longest_level keys) N))) (groups_at (accumulators_at keys items M) (distinct_tuples (tuples_of keys (longest_level keys) M))))
+    found : (t : Tuple) → find t (groups_at (accumulators_at keys items (N ++ M)) (distinct_tuples (tuples_of keys (longest_chain keys) (N ++ M))))
+        ≡ find t (merge_groups (groups_at (accumulators_at keys items N) (distinct_tuples (tuples_of keys (longest_chain keys) N))) (groups_at (accumulators_at keys items M) (distinct_tuples (tuples_of keys (longest_chain keys) M))))
     found t =
         at (N ++ M) t
-        ∙ (ap (λ b. if b then Some (accumulators_at keys items (N ++ M) t) else None) (ap (among t) (tuples_append keys (longest_level keys) N M) ∙ list_any-append (same_tuple t) (tuples_of keys (longest_level keys) N) (tuples_of keys (longest_level keys) M))
-        ∙ (joined_at items (accumulators_at keys items N t) (accumulators_at keys items M t) (accumulators_at keys items (N ++ M) t) (among t (tuples_of keys (longest_level keys) N)) (among t (tuples_of keys (longest_level keys) M))
+        ∙ (ap (λ b. if b then Some (accumulators_at keys items (N ++ M) t) else None) (ap (among t) (tuples_append keys (longest_chain keys) N M) ∙ list_any-append (same_tuple t) (tuples_of keys (longest_chain keys) N) (tuples_of keys (longest_chain keys) M))
+        ∙ (joined_at items (accumulators_at keys items N t) (accumulators_at keys items M t) (accumulators_at keys items (N ++ M) t) (among t (tuples_of keys (longest_chain keys) N)) (among t (tuples_of keys (longest_chain keys) M))
         (accumulators_append keys items N M t)
         (λ e. no_rows keys items N t (elsewhere keys items h g N n t e)) (λ e. no_rows keys items M t (elsewhere keys items h g M m t e))
         (empties_left keys items M t) (empties_right keys items N t)
         ∙ (ap₂ (join_options join_all) (sym (at N t)) (sym (at M t))
-        ∙ sym (find_merged t _ _ (distinct_ascends (accumulators_at keys items N) (tuples_of keys (longest_level keys) N)) (distinct_ascends (accumulators_at keys items M) (tuples_of keys (longest_level keys) M))))))
+        ∙ sym (find_merged t _ _ (distinct_ascends (accumulators_at keys items N) (tuples_of keys (longest_chain keys) N)) (distinct_ascends (accumulators_at keys items M) (tuples_of keys (longest_chain keys) M))))))
 
 -- the paths of keys, of each of which a node has at most one instance where its fields aren't repeated
 abbrev pub key_paths : Selection → List (List Step)

@@ -11,13 +11,13 @@ use Rattle.dr_meaning.specs.Schema.{Fields}
 use Rattle.dr_meaning.specs.Path.{Step, longer}
 use Rattle.dr_meaning.specs.Record.{Node, project}
 use Rattle.dr_meaning.specs.Rows.{rows}
-use Rattle.dr_meaning.specs.Expression.{Expression, paths_of, evaluate, expression_level, longest_level}
+use Rattle.dr_meaning.specs.Expression.{Expression, paths_of, evaluate, expression_chain, longest_chain}
 use Rattle.dr_meaning.specs.Kept.{kept}
 use Rattle.dr_meaning.specs.Query.{GroupTerm, key, count_rows, aggregate, GroupItem, Selection, objects, groups, key_tuple, tuple_order, distinct_tuples, group_tuples, group_rows, meaning}
 use Rattle.dr_meaning.specs.ProjectionLaws.{leads}
 use Rattle.dr_meaning.specs.MeaningLaws.{condition_paths, group_term_paths, all_lead, covers}
 use Rattle.dr_meaning.proofs.ProjectionLemmas.{rows_of_projection, values_of_projection}
-use Rattle.dr_meaning.proofs.MeaningLemmas.{evaluate-project, kept-project, longest_level-leads, longer-leads, both_lead, meaning_of_projection}
+use Rattle.dr_meaning.proofs.MeaningLemmas.{evaluate-project, kept-project, longest_chain-leads, longer-leads, both_lead, meaning_of_projection}
 use Rattle.dr_partials.specs.Accumulators.{counted, accumulated}
 use Rattle.dr_partials.specs.Partials.{lines, grouped, term_accumulator, partial_of}
 use Rattle.dr_partials.specs.PartialLaws.{PartialOfProjection}
@@ -60,8 +60,8 @@ tuple_projected F (p ∷ ps) n h =
 tuples_projected : (F : List (List Step)) (keys : List (List Step)) (ns : List Node) → all_lead F keys ≡ true → group_tuples keys (map (project F) ns) ≡ group_tuples keys ns
 tuples_projected F [] ns h = refl
 tuples_projected F (p ∷ ps) ns h =
-    ap (λ ms. distinct_tuples (map (key_tuple (p ∷ ps)) ms)) (rows_projected F (longest_level (p ∷ ps)) (longest_level-leads (p ∷ ps) F h) ns)
-    ∙ ap distinct_tuples (map_projected F (key_tuple (p ∷ ps)) (λ (m : Node). tuple_projected F (p ∷ ps) m h) (flat_map (rows (longest_level (p ∷ ps))) ns))
+    ap (λ ms. distinct_tuples (map (key_tuple (p ∷ ps)) ms)) (rows_projected F (longest_chain (p ∷ ps)) (longest_chain-leads (p ∷ ps) F h) ns)
+    ∙ ap distinct_tuples (map_projected F (key_tuple (p ∷ ps)) (λ (m : Node). tuple_projected F (p ∷ ps) m h) (flat_map (rows (longest_chain (p ∷ ps))) ns))
 
 group_projected : (F : List (List Step)) (keys : List (List Step)) (t : Tuple) (p : List Step) (ns : List Node) → all_lead F keys ≡ true → leads p F ≡ true → group_rows keys t p (map (project F) ns) ≡ map (project F) (group_rows keys t p ns)
 group_projected F keys t p ns h l =
@@ -81,11 +81,11 @@ accumulators_projected F keys (i ∷ items) ns t h k =
     by_term : (g : GroupTerm) → all_lead F (group_term_paths g) ≡ true → term_accumulator keys t (map (project F) ns) g ≡ term_accumulator keys t ns g
     by_term (key j) l = refl
     by_term count_rows l =
-        let p : List Step = longest_level keys in
-        ap (λ rs. Some (counted (length rs))) (group_projected F keys t p ns h (longest_level-leads keys F h)) ∙ ap (λ n. Some (counted n)) (length-map (group_rows keys t p ns) (project F))
+        let p : List Step = longest_chain keys in
+        ap (λ rs. Some (counted (length rs))) (group_projected F keys t p ns h (longest_chain-leads keys F h)) ∙ ap (λ n. Some (counted n)) (length-map (group_rows keys t p ns) (project F))
     by_term (aggregate a e) l =
-        let p : List Step = longer (longest_level keys) (expression_level e) in
-        ap (λ rs. Some (accumulated a (map (evaluate e) rs))) (group_projected F keys t p ns h (longer-leads (longest_level keys) (expression_level e) F (longest_level-leads keys F h) (longest_level-leads (paths_of e) F l)))
+        let p : List Step = longer (longest_chain keys) (expression_chain e) in
+        ap (λ rs. Some (accumulated a (map (evaluate e) rs))) (group_projected F keys t p ns h (longer-leads (longest_chain keys) (expression_chain e) F (longest_chain-leads keys F h) (longest_chain-leads (paths_of e) F l)))
         ∙ ap (λ vs. Some (accumulated a vs)) (map_projected F (evaluate e) (λ (m : Node). evaluate-project F e m l) (group_rows keys t p ns))
 
 projected : (fs : Fields) (c : Option Expression) (s : Selection) (F : List (List Step)) (R : List Node) → covers F (record { condition = c; selection = s }) ≡ true

@@ -11,7 +11,7 @@ use Rattle.dr_meaning.specs.Schema.{Fields}
 use Rattle.dr_meaning.specs.Path.{Step, longer}
 use Rattle.dr_meaning.specs.Record.{Value, Node, is_record}
 use Rattle.dr_meaning.specs.Rows.{rows}
-use Rattle.dr_meaning.specs.Expression.{Expression, evaluate, expression_level, longest_level}
+use Rattle.dr_meaning.specs.Expression.{Expression, evaluate, expression_chain, longest_chain}
 use Rattle.dr_meaning.specs.Kept.{kept}
 use Rattle.dr_meaning.specs.Query.{Aggregate, count, GroupTerm, key, count_rows, aggregate, GroupItem, Selection, objects, groups, Query, key_tuple, tuple_order, distinct_tuples, group_rows}
 use Rattle.dr_partials.specs.Accumulators.{Accumulator, counted, summed, least_of, greatest_of, aggregate_of, accumulator_of_cell, join_options, join, take_value, take_row, accumulated}
@@ -179,19 +179,19 @@ sections_found items keys t ns front [] e g fx (x ∷ rx) l k = absurd (cc)
 sections_found items keys t ns front (term ∷ rest) e g fx [] l k = absurd (cc)
 sections_found items keys t ns front (key j ∷ rest) e g fx (x ∷ rx) l k = absurd g.0
 sections_found items keys t ns front (count_rows ∷ rest) e g fx (x ∷ rx) l k =
-    let rs : List Node = flat_map (rows (longest_level keys)) ns in
+    let rs : List Node = flat_map (rows (longest_chain keys)) ns in
     let q = term_kinds count_rows rest x rx k in
-    let y : Accumulator = join x (counted (length (group_rows keys t (longest_level keys) ns))) in
+    let y : Accumulator = join x (counted (length (group_rows keys t (longest_chain keys) ns))) in
     let s : found_after items t (puts_of_rows keys (length front) (λ row. None) rs) (Some (fx ++ x ∷ rx)) ≡ Some (fx ++ y ∷ rx) =
     section_found items keys t front rest count_rows e (λ row. None) rs fx rx x l
-    ∙ ap (λ z. Some (fx ++ z ∷ rx)) (rows_taken (map (λ row. None) (group_rows keys t (longest_level keys) ns)) x q.0 ∙ ap (λ n. join x (counted n)) (length-map (group_rows keys t (longest_level keys) ns) (λ (row : Node). None))) in
+    ∙ ap (λ z. Some (fx ++ z ∷ rx)) (rows_taken (map (λ row. None) (group_rows keys t (longest_chain keys) ns)) x q.0 ∙ ap (λ n. join x (counted n)) (length-map (group_rows keys t (longest_chain keys) ns) (λ (row : Node). None))) in
     after_append items t (puts_of_rows keys (length front) (λ row. None) rs) (puts_of_terms keys (suc (length front)) rest ns) (Some (fx ++ x ∷ rx))
     ∙ (ap (found_after items t (puts_of_terms keys (suc (length front)) rest ns)) (s ∙ ap Some (sym (append_assoc fx (y ∷ []) rx)))
     ∙ (ap (λ n. found_after items t (puts_of_terms keys n rest ns) (Some ((fx ++ y ∷ []) ++ rx))) (sym (next_length front count_rows))
     ∙ (sections_found items keys t ns (front ++ count_rows ∷ []) rest (e ∙ sym (append_assoc front (count_rows ∷ []) rest)) g.1 (fx ++ y ∷ []) rx (next_length fx y ∙ (ap suc l ∙ sym (next_length front count_rows))) q.1
     ∙ ap Some (append_assoc fx (y ∷ []) (join_all rx (terms_at keys t ns rest))))))
 sections_found items keys t ns front (aggregate a f ∷ rest) e g fx (x ∷ rx) l k =
-    let p : List Step = longer (longest_level keys) (expression_level f) in
+    let p : List Step = longer (longest_chain keys) (expression_chain f) in
     let rs : List Node = flat_map (rows p) ns in
     let q = term_kinds (aggregate a f) rest x rx k in
     let y : Accumulator = join x (accumulated a (map (evaluate f) (group_rows keys t p ns))) in
@@ -221,10 +221,10 @@ no_sections : (items : List GroupItem) (keys : List (List Step)) (t : Tuple) (ns
 no_sections items keys t ns i [] h = refl
 no_sections items keys t ns i (key j ∷ ts) h = no_sections items keys t ns (suc i) ts h.1
 no_sections items keys t ns i (count_rows ∷ ts) h =
-    after_append items t (puts_of_rows keys i (λ row. None) (flat_map (rows (longest_level keys)) ns)) (puts_of_terms keys (suc i) ts ns) None
-    ∙ (ap (found_after items t (puts_of_terms keys (suc i) ts ns)) (no_section items keys t i (λ row. None) (flat_map (rows (longest_level keys)) ns) h.0) ∙ no_sections items keys t ns (suc i) ts h.1)
+    after_append items t (puts_of_rows keys i (λ row. None) (flat_map (rows (longest_chain keys)) ns)) (puts_of_terms keys (suc i) ts ns) None
+    ∙ (ap (found_after items t (puts_of_terms keys (suc i) ts ns)) (no_section items keys t i (λ row. None) (flat_map (rows (longest_chain keys)) ns) h.0) ∙ no_sections items keys t ns (suc i) ts h.1)
 no_sections items keys t ns i (aggregate a e ∷ ts) h =
-    let rs : List Node = flat_map (rows (longer (longest_level keys) (expression_level e))) ns in
+    let rs : List Node = flat_map (rows (longer (longest_chain keys) (expression_chain e))) ns in
     after_append items t (puts_of_rows keys i (evaluate e) rs) (puts_of_terms keys (suc i) ts ns) None
     ∙ (ap (found_after items t (puts_of_terms keys (suc i) ts ns)) (no_section items keys t i (evaluate e) rs h.0) ∙ no_sections items keys t ns (suc i) ts h.1)
 
@@ -265,8 +265,8 @@ made_of_none items keys t (n ∷ ns) = by_test (same_tuple t (key_tuple keys n))
 put_there : (items : List GroupItem) (keys : List (List Step)) (t : Tuple) (ns : List Node) (xs : List Accumulator) → OfKinds (kinds_of items) xs
     → found_after items t (puts_of_selection (groups keys items) ns) (Some xs) ≡ Some (join_all xs (accumulators_at keys items ns t))
 put_there items keys t ns xs k =
-    after_append items t (made keys (flat_map (rows (longest_level keys)) ns)) (puts_of_terms keys 0 (aggregates_among items) ns) (Some xs)
-    ∙ (ap (found_after items t (puts_of_terms keys 0 (aggregates_among items) ns)) (made_there items keys t (flat_map (rows (longest_level keys)) ns) xs)
+    after_append items t (made keys (flat_map (rows (longest_chain keys)) ns)) (puts_of_terms keys 0 (aggregates_among items) ns) (Some xs)
+    ∙ (ap (found_after items t (puts_of_terms keys 0 (aggregates_among items) ns)) (made_there items keys t (flat_map (rows (longest_chain keys)) ns) xs)
     ∙ (sections_found items keys t ns [] (aggregates_among items) refl (among_are items) [] xs refl k
     ∙ ap (λ ys. Some (join_all xs ys)) (sym (items_terms keys items ns t))))
 
@@ -280,16 +280,16 @@ empty_kinds (i ∷ items) = by_term i.term (empty_kinds items)
     by_term (aggregate a e) r = ap₂ (λ k ks. k ∷ ks) (cell_aggregate a None) r
 
 -- one that isn't
-put_where_none : (items : List GroupItem) (keys : List (List Step)) (t : Tuple) (ns : List Node) → (among t (tuples_of keys (longest_level keys) ns) ≡ false → Each (λ (i : GroupItem). NoRows keys t ns i.term) items)
-    → found_after items t (puts_of_selection (groups keys items) ns) None ≡ (if among t (tuples_of keys (longest_level keys) ns) then Some (accumulators_at keys items ns t) else None)
+put_where_none : (items : List GroupItem) (keys : List (List Step)) (t : Tuple) (ns : List Node) → (among t (tuples_of keys (longest_chain keys) ns) ≡ false → Each (λ (i : GroupItem). NoRows keys t ns i.term) items)
+    → found_after items t (puts_of_selection (groups keys items) ns) None ≡ (if among t (tuples_of keys (longest_chain keys) ns) then Some (accumulators_at keys items ns t) else None)
 put_where_none items keys t ns h =
     after_append items t (made keys rs) (puts_of_terms keys 0 (aggregates_among items) ns) None
-    ∙ (ap (found_after items t (puts_of_terms keys 0 (aggregates_among items) ns)) (made_of_none items keys t rs) ∙ by_test (among t (tuples_of keys (longest_level keys) ns)) refl)
+    ∙ (ap (found_after items t (puts_of_terms keys 0 (aggregates_among items) ns)) (made_of_none items keys t rs) ∙ by_test (among t (tuples_of keys (longest_chain keys) ns)) refl)
   where
     rs : List Node
-    rs = flat_map (rows (longest_level keys)) ns
+    rs = flat_map (rows (longest_chain keys)) ns
 
-    by_test : (b : Bool) → among t (tuples_of keys (longest_level keys) ns) ≡ b
+    by_test : (b : Bool) → among t (tuples_of keys (longest_chain keys) ns) ≡ b
         → found_after items t (puts_of_terms keys 0 (aggregates_among items) ns) (if b then Some (empty_accumulators items) else None) ≡ (if b then Some (accumulators_at keys items ns t) else None)
     by_test true e = sections_found items keys t ns [] (aggregates_among items) refl (among_are items) [] (empty_accumulators items) refl (empty_kinds items)
         ∙ ap Some (ap (join_all (empty_accumulators items)) (sym (items_terms keys items ns t)) ∙ empties_left keys items ns t)
@@ -298,31 +298,31 @@ put_where_none items keys t ns h =
 -- ---- the groups that are put are the groups that are merged
 
 abbrev record_groups : List (List Step) → List GroupItem → List Node → List Group
-record_groups keys items ns = groups_at (accumulators_at keys items ns) (distinct_tuples (tuples_of keys (longest_level keys) ns))
+record_groups keys items ns = groups_at (accumulators_at keys items ns) (distinct_tuples (tuples_of keys (longest_chain keys) ns))
 
 found_groups : (keys : List (List Step)) (items : List GroupItem) (ns : List Node) (t : Tuple)
-    → find t (record_groups keys items ns) ≡ (if among t (tuples_of keys (longest_level keys) ns) then Some (accumulators_at keys items ns t) else None)
-found_groups keys items ns t = find_at (accumulators_at keys items ns) t (distinct_tuples (tuples_of keys (longest_level keys) ns))
-    ∙ ap (λ b. if b then Some (accumulators_at keys items ns t) else None) (among_distinct t (tuples_of keys (longest_level keys) ns))
+    → find t (record_groups keys items ns) ≡ (if among t (tuples_of keys (longest_chain keys) ns) then Some (accumulators_at keys items ns t) else None)
+found_groups keys items ns t = find_at (accumulators_at keys items ns) t (distinct_tuples (tuples_of keys (longest_chain keys) ns))
+    ∙ ap (λ b. if b then Some (accumulators_at keys items ns t) else None) (among_distinct t (tuples_of keys (longest_chain keys) ns))
 
 put_with_keys : (keys : List (List Step)) (items : List GroupItem) (ns : List Node) (gs : List Group) → Ascending gs → AllOfKinds (kinds_of items) gs
-    → ((t : Tuple) → among t (tuples_of keys (longest_level keys) ns) ≡ false → Each (λ (i : GroupItem). NoRows keys t ns i.term) items)
+    → ((t : Tuple) → among t (tuples_of keys (longest_chain keys) ns) ≡ false → Each (λ (i : GroupItem). NoRows keys t ns i.term) items)
     → put_groups items (puts_of_selection (groups keys items) ns) gs ≡ merge_groups gs (record_groups keys items ns)
 put_with_keys keys items ns gs a k h =
     found_alike _ (merge_groups gs (record_groups keys items ns)) (all_ascend items (puts_of_selection (groups keys items) ns) gs a) (merged_ascends gs (record_groups keys items ns) b)
     (λ t. find_after items t (puts_of_selection (groups keys items) ns) gs a ∙ (by_found t (find t gs) (found_kinds (kinds_of items) t gs k) ∙ sym (find_merged t gs (record_groups keys items ns) a b)))
   where
-    b : Ascending (groups_at (accumulators_at keys items ns) (distinct_tuples (tuples_of keys (longest_level keys) ns)))
-    b = distinct_ascends (accumulators_at keys items ns) (tuples_of keys (longest_level keys) ns)
+    b : Ascending (groups_at (accumulators_at keys items ns) (distinct_tuples (tuples_of keys (longest_chain keys) ns)))
+    b = distinct_ascends (accumulators_at keys items ns) (tuples_of keys (longest_chain keys) ns)
 
-    joined : (t : Tuple) (xs : List Accumulator) → OfKinds (kinds_of items) xs → (x : Bool) → among t (tuples_of keys (longest_level keys) ns) ≡ x
+    joined : (t : Tuple) (xs : List Accumulator) → OfKinds (kinds_of items) xs → (x : Bool) → among t (tuples_of keys (longest_chain keys) ns) ≡ x
         → Some (join_all xs (accumulators_at keys items ns t)) ≡ join_options join_all (Some xs) (if x then Some (accumulators_at keys items ns t) else None)
     joined t xs c true e = refl
     joined t xs c false e = ap Some (ap (join_all xs) (no_rows keys items ns t (h t e)) ∙ (empties_neutral items xs c).1)
 
-    by_found : (t : Tuple) (o : Option (List Accumulator)) → FoundOfKinds (kinds_of items) o → found_after items t (puts_of_selection (groups keys items) ns) o ≡ join_options join_all o (find t (groups_at (accumulators_at keys items ns) (distinct_tuples (tuples_of keys (longest_level keys) ns))))
+    by_found : (t : Tuple) (o : Option (List Accumulator)) → FoundOfKinds (kinds_of items) o → found_after items t (puts_of_selection (groups keys items) ns) o ≡ join_options join_all o (find t (groups_at (accumulators_at keys items ns) (distinct_tuples (tuples_of keys (longest_chain keys) ns))))
     by_found t None c = put_where_none items keys t ns (h t) ∙ sym (found_groups keys items ns t)
-    by_found t (Some xs) c = put_there items keys t ns xs c ∙ (joined t xs c (among t (tuples_of keys (longest_level keys) ns)) refl ∙ ap (join_options join_all (Some xs)) (sym (found_groups keys items ns t)))
+    by_found t (Some xs) c = put_there items keys t ns xs c ∙ (joined t xs c (among t (tuples_of keys (longest_chain keys) ns)) refl ∙ ap (join_options join_all (Some xs)) (sym (found_groups keys items ns t)))
 
 -- without keys there is one group, and each row has no keys
 abbrev the_group : List Accumulator → Group

@@ -4,8 +4,8 @@ use Rattle.std.specs.Prelude.{if◌then◌else◌, ◌==◌}
 use Rattle.std.specs.List.{list_all}
 use Rattle.std.proofs.lemmas.Bool.{and_parts, eqb-true}
 use Rattle.std.proofs.lemmas.Bool.Decides.{nat_tests}
-use Rattle.dr_meaning.specs.Path.{Step, begins_with, level, is_shorter, longer}
-use Rattle.dr_meaning.specs.Expression.{longest_level}
+use Rattle.dr_meaning.specs.Path.{Step, begins_with, chain_end, is_shorter, longer}
+use Rattle.dr_meaning.specs.Expression.{longest_chain}
 use Rattle.dr_meaning.specs.BoundExpression.{are_related}
 use Rattle.dr_partials.specs.PartialLaws.{all_related}
 use Rattle.dr_partials.proofs.RowLemmas.{Each}
@@ -86,26 +86,26 @@ one_of p q x h k = by_test (is_shorter p q)
     by_test false = h
 
 -- what is related to each of some paths is related to their longest chain
-longest_related : (x : List Step) (ps : List (List Step)) → list_all (are_related x) ps ≡ true → nested (level x) (longest_level ps) ≡ true
-longest_related x [] h = nested_back [] (level x) refl
+longest_related : (x : List Step) (ps : List (List Step)) → list_all (are_related x) ps ≡ true → nested (chain_end x) (longest_chain ps) ≡ true
+longest_related x [] h = nested_back [] (chain_end x) refl
 longest_related x (p ∷ ps) h =
     let k = and_parts (are_related x p) (list_all (are_related x) ps) h in
-    one_of (level p) (longest_level ps) (level x) k.0 (longest_related x ps k.1)
+    one_of (chain_end p) (longest_chain ps) (chain_end x) k.0 (longest_related x ps k.1)
 
 -- the longest chain of related paths begins with the chain of each
-each_within : (p q : List Step) (ps : List (List Step)) → begins_with p q ≡ true → Each (λ (k : List Step). begins_with (level k) p ≡ true) ps → Each (λ (k : List Step). begins_with (level k) q ≡ true) ps
+each_within : (p q : List Step) (ps : List (List Step)) → begins_with p q ≡ true → Each (λ (k : List Step). begins_with (chain_end k) p ≡ true) ps → Each (λ (k : List Step). begins_with (chain_end k) q ≡ true) ps
 each_within p q [] h w = tt
-each_within p q (k ∷ ks) h w = (begins_trans (level k) p q w.0 h, each_within p q ks h w.1)
+each_within p q (k ∷ ks) h w = (begins_trans (chain_end k) p q w.0 h, each_within p q ks h w.1)
 
-pub chains_begin : (ps : List (List Step)) → all_related ps ≡ true → Each (λ (k : List Step). begins_with (level k) (longest_level ps) ≡ true) ps
+pub chains_begin : (ps : List (List Step)) → all_related ps ≡ true → Each (λ (k : List Step). begins_with (chain_end k) (longest_chain ps) ≡ true) ps
 chains_begin [] h = tt
 chains_begin (p ∷ ps) h =
     let k = and_parts (list_all (are_related p) ps) (all_related ps) h in
     let n = longest_related p ps k.0 in
-    (first_begins (level p) (longest_level ps) n, each_within (longest_level ps) (longer (level p) (longest_level ps)) ps (second_begins (level p) (longest_level ps) n) (chains_begin ps k.1))
+    (first_begins (chain_end p) (longest_chain ps) n, each_within (longest_chain ps) (longer (chain_end p) (longest_chain ps)) ps (second_begins (chain_end p) (longest_chain ps) n) (chains_begin ps k.1))
 
 -- each of the first paths is related to each of the others
-both_related : (ps qs : List (List Step)) → all_related (ps ++ qs) ≡ true → Each (λ (p : List Step). nested (level p) (longest_level qs) ≡ true) ps
+both_related : (ps qs : List (List Step)) → all_related (ps ++ qs) ≡ true → Each (λ (p : List Step). nested (chain_end p) (longest_chain qs) ≡ true) ps
 both_related [] qs h = tt
 both_related (p ∷ ps) qs h =
     let k = and_parts (list_all (are_related p) (ps ++ qs)) (all_related (ps ++ qs)) h in
@@ -115,13 +115,13 @@ both_related (p ∷ ps) qs h =
     behind [] e = e
     behind (r ∷ rs) e = behind rs (and_parts (are_related p r) (list_all (are_related p) (rs ++ qs)) e).1
 
-longest_of : (ps : List (List Step)) (q : List Step) → Each (λ (p : List Step). nested (level p) q ≡ true) ps → nested (longest_level ps) q ≡ true
+longest_of : (ps : List (List Step)) (q : List Step) → Each (λ (p : List Step). nested (chain_end p) q ≡ true) ps → nested (longest_chain ps) q ≡ true
 longest_of [] q h = refl
-longest_of (p ∷ ps) q h = nested_back q (longer (level p) (longest_level ps)) (one_of (level p) (longest_level ps) q (nested_back (level p) q h.0) (nested_back (longest_level ps) q (longest_of ps q h.1)))
+longest_of (p ∷ ps) q h = nested_back q (longer (chain_end p) (longest_chain ps)) (one_of (chain_end p) (longest_chain ps) q (nested_back (chain_end p) q h.0) (nested_back (longest_chain ps) q (longest_of ps q h.1)))
 
 -- the longest chain of the first begins that of both
-pub longest_begins : (ps qs : List (List Step)) → all_related (ps ++ qs) ≡ true → begins_with (longest_level ps) (longer (longest_level ps) (longest_level qs)) ≡ true
-longest_begins ps qs h = first_begins (longest_level ps) (longest_level qs) (longest_of ps (longest_level qs) (both_related ps qs h))
+pub longest_begins : (ps qs : List (List Step)) → all_related (ps ++ qs) ≡ true → begins_with (longest_chain ps) (longer (longest_chain ps) (longest_chain qs)) ≡ true
+longest_begins ps qs h = first_begins (longest_chain ps) (longest_chain qs) (longest_of ps (longest_chain qs) (both_related ps qs h))
 
-pub longest_itself : (ps : List (List Step)) → begins_with (longest_level ps) (longest_level ps) ≡ true
-longest_itself ps = begins_itself (longest_level ps)
+pub longest_itself : (ps : List (List Step)) → begins_with (longest_chain ps) (longest_chain ps) ≡ true
+longest_itself ps = begins_itself (longest_chain ps)

@@ -13,7 +13,7 @@ use Rattle.dr_meaning.specs.Schema.{Fields}
 use Rattle.dr_meaning.specs.Path.{Step, Leaf, same_path, leaves, longer}
 use Rattle.dr_meaning.specs.Record.{Value, Node, no_slots, slot, inner}
 use Rattle.dr_meaning.specs.Rows.{rows, value_at}
-use Rattle.dr_meaning.specs.Expression.{path_value, evaluate, expression_level, longest_level}
+use Rattle.dr_meaning.specs.Expression.{path_value, evaluate, expression_chain, longest_chain}
 use Rattle.dr_meaning.specs.Kept.{kept}
 use Rattle.dr_meaning.specs.Query.{Aggregate, count, sum, least, greatest, GroupTerm, key, count_rows, aggregate, GroupItem, Selection, objects, groups, cell, nth_value, Levels, levels_of, key_tuple, tuple_order, insert_tuple, distinct_tuples, group_tuples, group_rows}
 use Rattle.dr_meaning.specs.MeaningLaws.{condition_paths, group_term_paths, selection_paths, all_lead}
@@ -171,7 +171,7 @@ terms_kinds keys t ns [] h = refl
 terms_kinds keys t ns (key i ∷ ts) h = absurd h.0
 terms_kinds keys t ns (count_rows ∷ ts) h = ap (λ ks. count ∷ ks) (terms_kinds keys t ns ts h.1)
 terms_kinds keys t ns (aggregate a e ∷ ts) h =
-    ap₂ (λ k ks. k ∷ ks) (accumulated_aggregate a (map (evaluate e) (group_rows keys t (longer (longest_level keys) (expression_level e)) ns))) (terms_kinds keys t ns ts h.1)
+    ap₂ (λ k ks. k ∷ ks) (accumulated_aggregate a (map (evaluate e) (group_rows keys t (longer (longest_chain keys) (expression_chain e)) ns))) (terms_kinds keys t ns ts h.1)
 
 -- a group of so many keys, and of these aggregates
 abbrev pub FitsTerms : List (List Step) → List GroupTerm → Group → Type 0
@@ -199,7 +199,7 @@ distinct_length keys (n ∷ ns) = inserted_length keys (key_tuple keys n) (disti
 
 tuples_length : (keys : List (List Step)) (ns : List Node) → Each (OfLength keys) (group_tuples keys ns)
 tuples_length [] ns = (refl, tt)
-tuples_length (k ∷ ks) ns = distinct_length (k ∷ ks) (flat_map (rows (longest_level (k ∷ ks))) ns)
+tuples_length (k ∷ ks) ns = distinct_length (k ∷ ks) (flat_map (rows (longest_chain (k ∷ ks))) ns)
 
 abbrev pub groups_in : List (List Step) → List GroupItem → List Node → List Group
 groups_in keys items ns = groups_at (accumulators_at keys items ns) (group_tuples keys ns)
@@ -216,7 +216,7 @@ OneOrAscending (k ∷ ks) gs = Ascending gs
 
 pub groups_one : (keys : List (List Step)) (items : List GroupItem) (ns : List Node) → OneOrAscending keys (groups_in keys items ns)
 groups_one [] items ns = refl
-groups_one (k ∷ ks) items ns = distinct_ascends (accumulators_at (k ∷ ks) items ns) (map (key_tuple (k ∷ ks)) (flat_map (rows (longest_level (k ∷ ks))) ns))
+groups_one (k ∷ ks) items ns = distinct_ascends (accumulators_at (k ∷ ks) items ns) (map (key_tuple (k ∷ ks)) (flat_map (rows (longest_chain (k ∷ ks))) ns))
 
 -- ---- rows as records
 
@@ -279,9 +279,9 @@ rows_columns keys ts h (g ∷ gs) f = ap₂ (λ n ns. n ∷ ns) (row_columns key
 
 -- ---- columns have no repeated fields
 
-columns_level : (is : List ℕ) → longest_level (map column is) ≡ []
-columns_level [] = refl
-columns_level (i ∷ is) = ap (longer []) (columns_level is)
+columns_chain : (is : List ℕ) → longest_chain (map column is) ≡ []
+columns_chain [] = refl
+columns_chain (i ∷ is) = ap (longer []) (columns_chain is)
 
 related_columns : (i : ℕ) (is : List ℕ) → list_all (are_related (column i)) (map column is) ≡ true
 related_columns i [] = refl
@@ -407,8 +407,8 @@ one_accumulators is u n all en ek i [] (x ∷ xs) f h k = absurd (cc)
 one_accumulators is u n all en ek i (t ∷ ts) [] f h k = absurd (cc)
 one_accumulators is u n all en ek i (t ∷ ts) (x ∷ xs) f h k =
     let a : Aggregate = merging_of t in
-    let e : longer (longest_level (map column is)) [] ≡ [] = ap (λ p. longer p []) (columns_level is) in
-    let r = one_row (map column is) u n ek (longer (longest_level (map column is)) []) e in
+    let e : longer (longest_chain (map column is)) [] ≡ [] = ap (λ p. longer p []) (columns_chain is) in
+    let r = one_row (map column is) u n ek (longer (longest_chain (map column is)) []) e in
     let v : value_at (column i) n ≡ result_of x = ap (value_at (column i)) en ∙ (column_value all i ∙ f 0 i (omega arith)) in
     ap (λ g. cons_option (term_accumulator (map column is) u (n ∷ []) g) (terms_at (map column is) u (n ∷ []) (merging_terms (suc i) ts))) (merging_gives i t h.0)
     ∙ ap₂ (λ y ys. y ∷ ys)
@@ -437,7 +437,7 @@ one_tuple : (keys : List (List Step)) (n : Node) (t : Tuple) → length t ≡ le
 one_tuple [] n [] l e = refl
 one_tuple [] n (v ∷ t) l e = absurd (omega (arith, l))
 one_tuple (k ∷ ks) n t l e =
-    ap (λ p. distinct_tuples (map (key_tuple (key_columns (k ∷ ks))) (flat_map (rows p) (n ∷ [])))) (columns_level (range_with_len 0 (length (k ∷ ks)))) ∙ ap (λ u. u ∷ []) e
+    ap (λ p. distinct_tuples (map (key_tuple (key_columns (k ∷ ks))) (flat_map (rows p) (n ∷ [])))) (columns_chain (range_with_len 0 (length (k ∷ ks)))) ∙ ap (λ u. u ∷ []) e
 
 one_partial : (keys : List (List Step)) (ts : List GroupTerm) (items : List GroupItem) → AreAggregates ts → aggregates_among items ≡ merging_terms (length keys) ts → (ls : Levels) (g : Group) → FitsTerms keys ts g
     → selected_partial (groups (key_columns keys) items) ls (group_record g ∷ []) ≡ grouped (merged_group g ∷ [])

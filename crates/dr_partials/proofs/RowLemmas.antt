@@ -6,10 +6,10 @@ use Rattle.std.specs.Ordering.{is_eq}
 use Rattle.std.proofs.lemmas.Bool.{and_parts, eqb-true}
 use Rattle.std.proofs.lemmas.Bool.Decides.{nat_tests}
 use Rattle.dr_meaning.specs.Schema.{Repetition, required, optional, repeated, Fields, no_fields, field, Shape, leaf, group, is_repeated}
-use Rattle.dr_meaning.specs.Path.{Step, begins_with, level, up_to, is_leaf_path, is_shape_path, same_repetition}
+use Rattle.dr_meaning.specs.Path.{Step, begins_with, chain_end, up_to, is_leaf_path, is_shape_path, same_repetition}
 use Rattle.dr_meaning.specs.Record.{Value, Node, no_slots, slot, gap, Instances, no_instances, instance, Instance, atom, inner, count_instances, fits_repetition, all_instances, is_record, is_instance, instances_at, instances_in, put_at, single}
 use Rattle.dr_meaning.specs.Rows.{instance_rows, each_instance_rows, field_rows, rows, first_value, value_in, value_at}
-use Rattle.dr_meaning.specs.Expression.{Expression, expression_level, evaluate, is_true}
+use Rattle.dr_meaning.specs.Expression.{Expression, expression_chain, evaluate, is_true}
 use Rattle.dr_meaning.specs.Kept.{with_kept, keep_each, if_some_kept, keep_below, keep_instance, kept_along, kept}
 use Rattle.dr_meaning.specs.Query.{key_tuple, tuple_order}
 use Rattle.dr_meaning.proofs.ProjectionLemmas.{step}
@@ -114,10 +114,10 @@ few_two optional x y xs h f = omega (arith, f)
 few_two repeated x y xs h f = true≢false h
 
 abbrev SameAbove : Node → Node → Type 0
-SameAbove n r = (k : List Step) → begins_with (level k) [] ≡ true → SingleIn k (inner n) → value_at k n ≡ value_at k r
+SameAbove n r = (k : List Step) → begins_with (chain_end k) [] ≡ true → SingleIn k (inner n) → value_at k n ≡ value_at k r
 
 abbrev CutSame : Instances → Instances → Type 0
-CutSame xs ys = (r : Repetition) (k : List Step) → is_repeated r ≡ false → begins_with (level k) [] ≡ true → FewAt r xs → EachIn (SingleIn k) xs
+CutSame xs ys = (r : Repetition) (k : List Step) → is_repeated r ≡ false → begins_with (chain_end k) [] ≡ true → FewAt r xs → EachIn (SingleIn k) xs
     → first_value (value_in k) xs ≡ first_value (value_in k) ys
 
 one_same : (f : Node → List Node) → ((n : Node) → Each (SameAbove n) (f n)) → (x : Instance) (xs : Instances) → Each (CutSame (instance x xs)) (instance_rows f x)
@@ -135,7 +135,7 @@ cuts_same f h (instance x xs) = each_append (CutSame (instance x xs)) (instance_
 put_same : (i : ℕ) (n : Node) (ys : Instances) → CutSame (instances_at i n) ys → SameAbove n (put_at i ys n)
 put_same i n ys h [] b s = refl
 put_same i n ys h (t ∷ k) b s =
-    let w = no_level t (level k) b in
+    let w = no_level t (chain_end k) b in
     first_kept (value_in k) i t.place ys n (λ e. h t.repetition k w.0 w.1 (subst (λ j. FewAt t.repetition (instances_at j n)) e s.0) (subst (λ j. EachIn (SingleIn k) (instances_at j n)) e s.1))
 
 rows_same : (q : List Step) (n : Node) → Each (SameAbove n) (rows q n)
@@ -146,10 +146,10 @@ rows_same (s ∷ q) n = each_map (CutSame (instances_at s.place n)) (SameAbove n
 -- ---- each row of a longer chain has above it a row of the shorter one, with the same values of paths within the shorter one
 
 abbrev RowAbove : List Step → Node → Node → Type 0
-RowAbove p n r = (u : Node) × In u (rows p n) × ((k : List Step) → begins_with (level k) p ≡ true → SingleIn k (inner n) → value_at k u ≡ value_at k r)
+RowAbove p n r = (u : Node) × In u (rows p n) × ((k : List Step) → begins_with (chain_end k) p ≡ true → SingleIn k (inner n) → value_at k u ≡ value_at k r)
 
 abbrev CutAbove : List Step → Instances → List Instances → Instances → Type 0
-CutAbove p xs among_them ys = (zs : Instances) × In zs among_them × ((k : List Step) → begins_with (level k) p ≡ true → EachIn (SingleIn k) xs → first_value (value_in k) zs ≡ first_value (value_in k) ys)
+CutAbove p xs among_them ys = (zs : Instances) × In zs among_them × ((k : List Step) → begins_with (chain_end k) p ≡ true → EachIn (SingleIn k) xs → first_value (value_in k) zs ≡ first_value (value_in k) ys)
 
 each_above : (p : List Step) (f : Node → List Node) → ((n : Node) → Each (RowAbove p n) (f n)) → (xs : Instances) → Each (CutAbove p xs (each_instance_rows (rows p) xs)) (each_instance_rows f xs)
 each_above p f h no_instances = tt
@@ -176,9 +176,9 @@ level_below t s (u ∷ l) p h = (and_parts (t.place == s.place) (begins_with (u 
 put_above : (s : Step) (p : List Step) (n : Node) (ys : Instances) → CutAbove p (instances_at s.place n) (field_rows (rows p) (instances_at s.place n)) ys → RowAbove (s ∷ p) n (put_at s.place ys n)
 put_above s p n ys c = (put_at s.place c.0 n, in_map (λ xs. put_at s.place xs n) c.0 (field_rows (rows p) (instances_at s.place n)) c.1, same)
   where
-    same : (k : List Step) → begins_with (level k) (s ∷ p) ≡ true → SingleIn k (inner n) → value_at k (put_at s.place c.0 n) ≡ value_at k (put_at s.place ys n)
+    same : (k : List Step) → begins_with (chain_end k) (s ∷ p) ≡ true → SingleIn k (inner n) → value_at k (put_at s.place c.0 n) ≡ value_at k (put_at s.place ys n)
     same [] b w = refl
-    same (t ∷ k) b w = first_put (value_in k) s.place t.place c.0 ys n (λ e. c.2 k (level_below t s (level k) p b) (subst (λ j. EachIn (SingleIn k) (instances_at j n)) e w.1))
+    same (t ∷ k) b w = first_put (value_in k) s.place t.place c.0 ys n (λ e. c.2 k (level_below t s (chain_end k) p b) (subst (λ j. EachIn (SingleIn k) (instances_at j n)) e w.1))
 
 abbrev rows_at : ℕ → List Step → Node → List Node
 rows_at i q n = map (λ xs. put_at i xs n) (field_rows (rows q) (instances_at i n))
@@ -195,9 +195,9 @@ rows_above (s ∷ p) (t ∷ q) h n =
 -- ---- key tuples
 
 abbrev WithinAll : List (List Step) → List Step → Type 0
-WithinAll ks p = Each (λ (k : List Step). begins_with (level k) p ≡ true) ks
+WithinAll ks p = Each (λ (k : List Step). begins_with (chain_end k) p ≡ true) ks
 
-same_keys : (p : List Step) (n u r : Node) → ((k : List Step) → begins_with (level k) p ≡ true → SingleIn k (inner n) → value_at k u ≡ value_at k r)
+same_keys : (p : List Step) (n u r : Node) → ((k : List Step) → begins_with (chain_end k) p ≡ true → SingleIn k (inner n) → value_at k u ≡ value_at k r)
     → (ks : List (List Step)) → WithinAll ks p → SingleAll ks n → key_tuple ks u ≡ key_tuple ks r
 same_keys p n u r h [] w s = refl
 same_keys p n u r h (k ∷ ks) w s = ap₂ (λ v vs. v ∷ vs) (h k w.0 s.0) (same_keys p n u r h ks w.1 s.1)
@@ -334,7 +334,7 @@ along_kept (s ∷ p) test n = below_kept test (λ xs. put_at s.place xs n) (keep
 
 kept_of : (c : Option Expression) (n : Node) → KeptOf n (kept c n)
 kept_of None n = λ k s. s
-kept_of (Some e) n = along_kept (expression_level e) (λ row. is_true (evaluate e row)) n
+kept_of (Some e) n = along_kept (expression_chain e) (λ row. is_true (evaluate e row)) n
 
 all_kept : (ks : List (List Step)) (n m : Node) → KeepsSingle n m → SingleAll ks n → SingleAll ks m
 all_kept [] n m h s = tt

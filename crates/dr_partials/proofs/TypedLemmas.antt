@@ -11,10 +11,10 @@ use Rattle.dr_meaning.specs.Schema.{Schema, Repetition, Kind, Fields, no_fields,
 use Rattle.dr_meaning.specs.Path.{Step, Leaf, longer, same_path, begins_with, same_repetition, leaves}
 use Rattle.dr_meaning.specs.Record.{Value, Node, Instances, no_instances, instance, Instance, is_record, instances_in, inner}
 use Rattle.dr_meaning.specs.Rows.{rows, first_value, value_in, value_at}
-use Rattle.dr_meaning.specs.Expression.{Arithmetic, plus, minus, times, Expression, evaluate, expression_level, longest_level, negative as negative_expression, is_null as is_null_expression, negation as negation_expression}
+use Rattle.dr_meaning.specs.Expression.{Arithmetic, plus, minus, times, Expression, evaluate, expression_chain, longest_chain, negative as negative_expression, is_null as is_null_expression, negation as negation_expression}
 use Rattle.dr_meaning.specs.Expression.{like as like_expression, contains as contains_expression, arithmetic as arithmetic_expression, comparison as comparison_expression, conjunction as conjunction_expression, disjunction as disjunction_expression}
 use Rattle.dr_meaning.specs.Kept.{kept}
-use Rattle.dr_meaning.specs.Query.{Aggregate, count, sum, least, greatest, GroupTerm, key, count_rows, aggregate, RecordItem, GroupItem, Selection, objects, groups, Query, Object, cell, Levels, no_levels, deeper, levels_of, term_level, term_value, with_cells, leads_to_items, with_list, objects_of, instances_of, object_lists, record_object, key_tuple, tuple_order, insert_tuple, distinct_tuples, group_tuples, group_rows}
+use Rattle.dr_meaning.specs.Query.{Aggregate, count, sum, least, greatest, GroupTerm, key, count_rows, aggregate, RecordItem, GroupItem, Selection, objects, groups, Query, Object, cell, Levels, no_levels, deeper, levels_of, term_chain, term_value, with_cells, leads_to_items, with_list, objects_of, instances_of, object_lists, record_object, key_tuple, tuple_order, insert_tuple, distinct_tuples, group_tuples, group_rows}
 use Rattle.dr_meaning.specs.MeaningLaws.{condition_paths, group_term_paths}
 use Rattle.dr_meaning.specs.Syntax.{PathSyntax, ExpressionSyntax, number_literal, text_literal, truth_literal, path, negative, arithmetic, comparison, like, contains, is_null, negation, conjunction, disjunction}
 use Rattle.dr_meaning.specs.Syntax.{TermSyntax, expression, count_rows as count_rows_syntax, aggregate as aggregate_syntax, ItemSyntax, QuerySyntax}
@@ -50,7 +50,7 @@ same_bytes (b ∷ bs) = ap₂ (λ x y. x && y) (same_number b) (same_bytes bs)
 
 cells_fit : (items : List RecordItem) (p : List Step) (row : Node) (rest : Object → Bool) (o : Object) → rest o ≡ true → has_cells items p rest (with_cells items p row o) ≡ true
 cells_fit [] p row rest o h = h
-cells_fit (i ∷ items) p row rest o h = by_test (same_path p (term_level i.term)) (cells_fit items p row rest o h)
+cells_fit (i ∷ items) p row rest o h = by_test (same_path p (term_chain i.term)) (cells_fit items p row rest o h)
   where
     by_test : (b : Bool) → has_cells items p rest (with_cells items p row o) ≡ true
         → (let e : Object = if b then cell i.name (term_value i.term row) (with_cells items p row o) else with_cells items p row o in
@@ -329,8 +329,8 @@ distinct_keys fs keys (u ∷ us) h = inserted_keys fs keys u (distinct_tuples us
 
 tuples_typed : (fs : Fields) (keys : List (List Step)) → LeafPaths fs keys → (ns : List Node) → Shaped fs ns → Each (AreKeys fs keys) (group_tuples keys ns)
 tuples_typed fs [] l ns h = (refl, tt)
-tuples_typed fs (k ∷ ks) l ns h = distinct_keys fs (k ∷ ks) (map (key_tuple (k ∷ ks)) (flat_map (rows (longest_level (k ∷ ks))) ns))
-    (each_map (λ (n : Node). has_shapes fs n ≡ true) (AreKeys fs (k ∷ ks)) (key_tuple (k ∷ ks)) (λ (n : Node) (s : has_shapes fs n ≡ true). keys_typed fs (k ∷ ks) l n s) (flat_map (rows (longest_level (k ∷ ks))) ns) (rows_shaped fs (longest_level (k ∷ ks)) ns h))
+tuples_typed fs (k ∷ ks) l ns h = distinct_keys fs (k ∷ ks) (map (key_tuple (k ∷ ks)) (flat_map (rows (longest_chain (k ∷ ks))) ns))
+    (each_map (λ (n : Node). has_shapes fs n ≡ true) (AreKeys fs (k ∷ ks)) (key_tuple (k ∷ ks)) (λ (n : Node) (s : has_shapes fs n ≡ true). keys_typed fs (k ∷ ks) l n s) (flat_map (rows (longest_chain (k ∷ ks))) ns) (rows_shaped fs (longest_chain (k ∷ ks)) ns h))
 
 -- ---- accumulators
 
@@ -370,7 +370,7 @@ accumulators_typed fs keys (i ∷ items) h ns s t = by_term i.term h.0 (accumula
     by_term (key j) y r = r
     by_term count_rows y r = r
     by_term (aggregate a e) y r =
-        let p : List Step = longer (longest_level keys) (expression_level e) in
+        let p : List Step = longer (longest_chain keys) (expression_chain e) in
         ap₂ (λ u v. u && v) (values_typed fs a e y (group_rows keys t p ns) (filter_shaped fs (λ row. is_eq (tuple_order (key_tuple keys row) t)) (flat_map (rows p) ns) (rows_shaped fs p ns s))) r
 
 groups_typed : (fs : Fields) (keys : List (List Step)) (items : List GroupItem) → Each (λ (i : GroupItem). TermTyped fs i.term) items → (ns : List Node) → Shaped fs ns → (us : List Tuple) → Each (AreKeys fs keys) us
@@ -389,7 +389,7 @@ selected_typed fs (objects items) h ns s = lines_fit items (levels_of fs) ns
 selected_typed fs (groups [] items) h ns s = ap (λ b. b && true && true) (groups_typed fs [] items h.1 ns s ([] ∷ []) (refl, tt))
 selected_typed fs (groups (k ∷ ks) items) h ns s =
     ap₂ (λ a b. a && b && true) (groups_typed fs (k ∷ ks) items h.1 ns s (group_tuples (k ∷ ks) ns) (tuples_typed fs (k ∷ ks) h.0 ns s))
-    (ascending_ascends (groups_at (accumulators_at (k ∷ ks) items ns) (group_tuples (k ∷ ks) ns)) (distinct_ascends (accumulators_at (k ∷ ks) items ns) (map (key_tuple (k ∷ ks)) (flat_map (rows (longest_level (k ∷ ks))) ns))))
+    (ascending_ascends (groups_at (accumulators_at (k ∷ ks) items ns) (group_tuples (k ∷ ks) ns)) (distinct_ascends (accumulators_at (k ∷ ks) items ns) (map (key_tuple (k ∷ ks)) (flat_map (rows (longest_chain (k ∷ ks))) ns))))
 
 -- ---- a bound query
 

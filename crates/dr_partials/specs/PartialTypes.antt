@@ -8,7 +8,7 @@ use Rattle.dr_meaning.specs.Record.{Value, bool_value, int_value, text_value}
 use Rattle.dr_meaning.specs.Expression.{plus, Expression, constant, path_value, negative, arithmetic, comparison, like, contains, is_null}
 use Rattle.dr_meaning.specs.Expression.{negation, conjunction, disjunction}
 use Rattle.dr_meaning.specs.Query.{count, sum, least, greatest, GroupTerm, key, count_rows, aggregate, RecordItem, GroupItem, Selection, objects, groups}
-use Rattle.dr_meaning.specs.Query.{Query, Object, no_entries, cell, list, Objects, no_objects, object, Levels, no_levels, deeper, levels_of, term_level}
+use Rattle.dr_meaning.specs.Query.{Query, Object, no_entries, cell, list, Objects, no_objects, object, Levels, no_levels, deeper, levels_of, term_chain}
 use Rattle.dr_meaning.specs.Query.{leads_to_items, tuple_order}
 use Rattle.dr_meaning.specs.BoundExpression.{ValueType, truth_type, number_type, text_type, kind_type}
 use Rattle.dr_meaning.specs.BindingLaws.{is_of_type}
@@ -120,7 +120,7 @@ is_end_of_object o = false
 -- the cells of a level's items, in order, before the rest
 abbrev pub has_cells : List RecordItem → List Step → (Object → Bool) → Object → Bool
 has_cells [] p rest o = rest o
-has_cells (i ∷ is) p rest o = if same_path p (term_level i.term) then begins_with_cell i.name (has_cells is p rest) o else has_cells is p rest o
+has_cells (i ∷ is) p rest o = if same_path p (term_chain i.term) then begins_with_cell i.name (has_cells is p rest) o else has_cells is p rest o
 
 -- for each level that leads to items a list of objects of that level
 abbrev pub has_lists : List RecordItem → Levels → Object → Bool

@@ -5,7 +5,7 @@ use Rattle.std.specs.Ordering.{match_ordering}
 use Rattle.dr_meaning.specs.Schema.{Fields}
 use Rattle.dr_meaning.specs.Path.{Step, longer}
 use Rattle.dr_meaning.specs.Record.{Value, Node}
-use Rattle.dr_meaning.specs.Expression.{evaluate, expression_level, longest_level}
+use Rattle.dr_meaning.specs.Expression.{evaluate, expression_chain, longest_chain}
 use Rattle.dr_meaning.specs.Kept.{kept}
 use Rattle.dr_meaning.specs.Query.{GroupTerm, key, count_rows, aggregate, GroupItem, Selection, objects, groups}
 use Rattle.dr_meaning.specs.Query.{Query, Object, no_entries, cell, Levels, levels_of}
@@ -27,9 +27,9 @@ pub data Partial : Type 0 where
 -- what an item gathers of the rows of a group; a key gathers nothing
 abbrev pub term_accumulator : List (List Step) → List (Option Value) → List Node → GroupTerm → Option Accumulator
 term_accumulator keys t ns (key i) = None
-term_accumulator keys t ns count_rows = Some (counted (length (group_rows keys t (longest_level keys) ns)))
+term_accumulator keys t ns count_rows = Some (counted (length (group_rows keys t (longest_chain keys) ns)))
 term_accumulator keys t ns (aggregate a e) =
-    Some (accumulated a (map (evaluate e) (group_rows keys t (longer (longest_level keys) (expression_level e)) ns)))
+    Some (accumulated a (map (evaluate e) (group_rows keys t (longer (longest_chain keys) (expression_chain e)) ns)))
 
 -- the group of a key tuple
 abbrev pub group_of : List (List Step) → List GroupItem → List Node → List (Option Value) → Group

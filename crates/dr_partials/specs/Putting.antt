@@ -6,7 +6,7 @@ use Rattle.dr_meaning.specs.Path.{Step, longer}
 use Rattle.dr_meaning.specs.Schema.{Fields}
 use Rattle.dr_meaning.specs.Record.{Value, Node, is_record}
 use Rattle.dr_meaning.specs.Rows.{rows}
-use Rattle.dr_meaning.specs.Expression.{evaluate, expression_level, longest_level}
+use Rattle.dr_meaning.specs.Expression.{evaluate, expression_chain, longest_chain}
 use Rattle.dr_meaning.specs.Kept.{kept}
 use Rattle.dr_meaning.specs.Query.{GroupTerm, key, count_rows, aggregate, GroupItem, Selection, objects, groups, Query, key_tuple, tuple_order}
 use Rattle.dr_partials.specs.Accumulators.{Accumulator, take_value, take_row}
@@ -78,15 +78,15 @@ puts_of_rows keys i value ns = map (λ (row : Node). record { keys = key_tuple k
 abbrev pub puts_of_terms : List (List Step) → ℕ → List GroupTerm → List Node → List Put
 puts_of_terms keys i [] ns = []
 puts_of_terms keys i (key j ∷ ts) ns = puts_of_terms keys (suc i) ts ns
-puts_of_terms keys i (count_rows ∷ ts) ns = puts_of_rows keys i (λ row. None) (flat_map (rows (longest_level keys)) ns) ++ puts_of_terms keys (suc i) ts ns
+puts_of_terms keys i (count_rows ∷ ts) ns = puts_of_rows keys i (λ row. None) (flat_map (rows (longest_chain keys)) ns) ++ puts_of_terms keys (suc i) ts ns
 puts_of_terms keys i (aggregate a e ∷ ts) ns =
-    puts_of_rows keys i (evaluate e) (flat_map (rows (longer (longest_level keys) (expression_level e))) ns) ++ puts_of_terms keys (suc i) ts ns
+    puts_of_rows keys i (evaluate e) (flat_map (rows (longer (longest_chain keys) (expression_chain e))) ns) ++ puts_of_terms keys (suc i) ts ns
 
 -- each row of the keys' chain makes its group; then come the aggregates
 abbrev pub puts_of_selection : Selection → List Node → List Put
 puts_of_selection (objects items) ns = []
 puts_of_selection (groups keys items) ns =
-    map (λ (row : Node). record { keys = key_tuple keys row; taken = None }) (flat_map (rows (longest_level keys)) ns)
+    map (λ (row : Node). record { keys = key_tuple keys row; taken = None }) (flat_map (rows (longest_chain keys)) ns)
     ++ puts_of_terms keys 0 (aggregates_among items) ns
 
 -- what is put of the records that the condition leaves

@@ -12,6 +12,7 @@ use Rattle.dr_meaning.specs.Query.{key, count_rows, aggregate, RecordItem, Group
 use Rattle.dr_meaning.specs.Tokens.{QueryToken, reserved, name_token}
 use Rattle.dr_partials.specs.PartialTypes.{aggregates_among}
 use Rattle.dr_partials.specs.Rewriting.{key_items, aggregate_items, merging_terms, root_items}
+use Rattle.dr_meaning.specs.Lists.{nth_text}
 
 -- ---- names and paths
 
@@ -48,11 +49,6 @@ path_names (t ∷ p) s = before_names (field_at t.place (fields_of s)) (path_nam
 
 abbrev pub path_text : Fields → List Step → List ℕ
 path_text fs p = join_with_byte 46 (map name_text (path_names p (group fs)))
-
-abbrev pub nth_text : List (List ℕ) → ℕ → List ℕ
-nth_text [] i = []
-nth_text (t ∷ ts) zero = t
-nth_text (t ∷ ts) (suc i) = nth_text ts i
 
 -- the name of a row's column, where these are the names of its columns
 abbrev pub column_text : List (List ℕ) → List Step → List ℕ

@@ -5,11 +5,11 @@ use Rattle.std.proofs.Common.{refl, sym, ap, ap₂, ◌∙◌, subst}
 use Rattle.std.proofs.Math.Bool.{and_comm}
 use Rattle.std.proofs.lemmas.Bool.{eqb-true, eq-eqb, and_parts, or_right, false≢true}
 use Rattle.std.proofs.lemmas.List.{drop_more}
-use Rattle.dr_meaning.specs.Path.{Step, level, begins_with}
+use Rattle.dr_meaning.specs.Path.{Step, chain_end, begins_with}
 use Rattle.dr_meaning.specs.BoundExpression.{BoundPath, BindFault, unrelated, fault_at, are_related, unrelated_after}
 use Rattle.dr_paths.specs.Views.{bound_path_view}
 use Rattle.dr_paths.specs.declared.bound.BoundPath as code
-use Rattle.dr_paths.specs.Related.{Spans, levels_related, joined_before}
+use Rattle.dr_paths.specs.Related.{Spans, chains_related, joined_before}
 
 -- ---- fronts of paths
 
@@ -29,7 +29,7 @@ begins_with-through (s ∷ a) (t ∷ b) (u ∷ c) h k =
     ap₂ ◌&&◌ (same_through s.place t.place u.place hs.0 ks.0) (begins_with-through a b c hs.1 ks.1)
 
 -- two fronts of one path
-fronts_related : (a b c : List Step) → begins_with a c ≡ true → begins_with b c ≡ true → levels_related a b ≡ true
+fronts_related : (a b c : List Step) → begins_with a c ≡ true → begins_with b c ≡ true → chains_related a b ≡ true
 fronts_related [] b c h k = refl
 fronts_related (s ∷ a) [] c h k = refl
 fronts_related (s ∷ a) (t ∷ b) [] h k = absurd (false≢true h)
@@ -40,9 +40,9 @@ fronts_related (s ∷ a) (t ∷ b) (u ∷ c) h k =
     ∙ fronts_related a b c hs.1 ks.1
 
 -- what is related to a level is related to its fronts
-related_to_front : (x a l : List Step) → begins_with a l ≡ true → levels_related x l ≡ true → levels_related x a ≡ true
+related_to_front : (x a l : List Step) → begins_with a l ≡ true → chains_related x l ≡ true → chains_related x a ≡ true
 related_to_front x a l h k =
-    elim (begins_with x l) as (λ b. begins_with x l ≡ b → (b || begins_with l x) ≡ true → levels_related x a ≡ true) [
+    elim (begins_with x l) as (λ b. begins_with x l ≡ b → (b || begins_with l x) ≡ true → chains_related x a ≡ true) [
       | true ↦ λ e _. fronts_related x a l e h
       | false ↦ λ _ e. or_right (begins_with x a) (begins_with a x) (begins_with-through a l x h e)
     ] refl k
@@ -53,23 +53,23 @@ true_with false false h = refl
 true_with false true h = absurd (false≢true (h refl))
 
 -- a front adds nothing
-front_with : (x a l : List Step) → begins_with a l ≡ true → (levels_related x a && levels_related x l) ≡ levels_related x l
-front_with x a l h = true_with (levels_related x a) (levels_related x l) (related_to_front x a l h)
+front_with : (x a l : List Step) → begins_with a l ≡ true → (chains_related x a && chains_related x l) ≡ chains_related x l
+front_with x a l h = true_with (chains_related x a) (chains_related x l) (related_to_front x a l h)
 
 -- ---- a level that stands for earlier paths
 
 pub spans_none : Spans [] []
-spans_none = record { alike = λ p. sym (or_right (begins_with (level p) []) true refl) }
+spans_none = record { alike = λ p. sym (or_right (begins_with (chain_end p) []) true refl) }
 
 -- a further path whose level is a front of the longest one
-pub spans_kept : (earlier : List (List Step)) (l p : List Step) → Spans earlier l → begins_with (level p) l ≡ true → Spans (p ∷ earlier) l
-spans_kept earlier l p s h = record { alike = λ q. ap (λ (b : Bool). are_related q p && b) (s.alike q) ∙ front_with (level q) (level p) l h }
+pub spans_kept : (earlier : List (List Step)) (l p : List Step) → Spans earlier l → begins_with (chain_end p) l ≡ true → Spans (p ∷ earlier) l
+spans_kept earlier l p s h = record { alike = λ q. ap (λ (b : Bool). are_related q p && b) (s.alike q) ∙ front_with (chain_end q) (chain_end p) l h }
 
 -- a further path whose level begins with the longest one
-pub spans_longer : (earlier : List (List Step)) (l p : List Step) → Spans earlier l → begins_with l (level p) ≡ true → Spans (p ∷ earlier) (level p)
+pub spans_longer : (earlier : List (List Step)) (l p : List Step) → Spans earlier l → begins_with l (chain_end p) ≡ true → Spans (p ∷ earlier) (chain_end p)
 spans_longer earlier l p s h = record {
   alike = λ q. ap (λ (b : Bool). are_related q p && b) (s.alike q)
-      ∙ and_comm (are_related q p) (levels_related (level q) l) ∙ front_with (level q) l (level p) h;
+      ∙ and_comm (are_related q p) (chains_related (chain_end q) l) ∙ front_with (chain_end q) l (chain_end p) h;
 }
 
 -- ---- paths behind others
@@ -99,7 +99,7 @@ unrelated_front earlier (p ∷ ps) qs i h =
 -- the longest level behind these paths too, or the place of the first that isn't related to an earlier one
 abbrev pub judged : List Step → List BoundPath → Result (List Step) ℕ
 judged l [] = Ok l
-judged l (p ∷ ps) = if begins_with l (level p.leaf.path) then judged (level p.leaf.path) ps else (if begins_with (level p.leaf.path) l then judged l ps else Err p.place)
+judged l (p ∷ ps) = if begins_with l (chain_end p.leaf.path) then judged (chain_end p.leaf.path) ps else (if begins_with (chain_end p.leaf.path) l then judged l ps else Err p.place)
 
 -- what that says of the faults, and of the paths joined
 abbrev pub Meets : List BindFault → List (List Step) → Result (List Step) ℕ → Type 0
@@ -124,18 +124,18 @@ judged_meant l (p ∷ ps) earlier s =
     let q : List Step = p.leaf.path in
     let fs : List BindFault = unrelated_after earlier (p ∷ ps) in
     let js : List (List Step) = joined_before earlier (p ∷ ps) in
-    elim (begins_with l (level q)) as (λ b. begins_with l (level q) ≡ b → Meets fs js (if b then judged (level q) ps else (if begins_with (level q) l then judged l ps else Err p.place))) [
-      | true ↦ λ h. Meets-more earlier p ps (judged (level q) ps) (s.alike q ∙ or_right (begins_with (level q) l) (begins_with l (level q)) h)
-          (judged_meant (level q) ps (q ∷ earlier) (spans_longer earlier l q s h))
-      | false ↦ λ h. elim (begins_with (level q) l) as (λ b. begins_with (level q) l ≡ b → Meets fs js (if b then judged l ps else Err p.place)) [
-        | true ↦ λ k. Meets-more earlier p ps (judged l ps) (s.alike q ∙ ap (λ (b : Bool). b || begins_with l (level q)) k)
+    elim (begins_with l (chain_end q)) as (λ b. begins_with l (chain_end q) ≡ b → Meets fs js (if b then judged (chain_end q) ps else (if begins_with (chain_end q) l then judged l ps else Err p.place))) [
+      | true ↦ λ h. Meets-more earlier p ps (judged (chain_end q) ps) (s.alike q ∙ or_right (begins_with (chain_end q) l) (begins_with l (chain_end q)) h)
+          (judged_meant (chain_end q) ps (q ∷ earlier) (spans_longer earlier l q s h))
+      | false ↦ λ h. elim (begins_with (chain_end q) l) as (λ b. begins_with (chain_end q) l ≡ b → Meets fs js (if b then judged l ps else Err p.place)) [
+        | true ↦ λ k. Meets-more earlier p ps (judged l ps) (s.alike q ∙ ap (λ (b : Bool). b || begins_with l (chain_end q)) k)
             (judged_meant l ps (q ∷ earlier) (spans_kept earlier l q s k))
-        | false ↦ λ k. sym (unrelated_step false earlier p ps (s.alike q ∙ none_related (begins_with (level q) l) (begins_with l (level q)) k h))
+        | false ↦ λ k. sym (unrelated_step false earlier p ps (s.alike q ∙ none_related (begins_with (chain_end q) l) (begins_with l (chain_end q)) k h))
       ] refl
     ] refl
 
-pub judged_refused : (l : List Step) (p : BoundPath) (ps : List BoundPath) → begins_with l (level p.leaf.path) ≡ false → begins_with (level p.leaf.path) l ≡ false → judged l (p ∷ ps) ≡ Err p.place
-judged_refused l p ps h k = ap₂ (λ (b c : Bool). if b then judged (level p.leaf.path) ps else (if c then judged l ps else Err p.place)) h k
+pub judged_refused : (l : List Step) (p : BoundPath) (ps : List BoundPath) → begins_with l (chain_end p.leaf.path) ≡ false → begins_with (chain_end p.leaf.path) l ≡ false → judged l (p ∷ ps) ≡ Err p.place
+judged_refused l p ps h k = ap₂ (λ (b c : Bool). if b then judged (chain_end p.leaf.path) ps else (if c then judged l ps else Err p.place)) h k
 
 pub paths_cut : (paths : List code.BoundPath) (k : ℕ) (p : code.BoundPath) → k < length paths → p ≡ get_or paths k p
     → map bound_path_view (drop k paths) ≡ bound_path_view p ∷ map bound_path_view (drop (k + 1) paths)

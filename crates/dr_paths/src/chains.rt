@@ -11,8 +11,8 @@ use crate::bound::BoundPath;
 use dr_nested::{Rep, Step};
 
 /// The steps of a path up to its last repeated field: none where no field is repeated.
-pub fn level(steps: &[Step]) -> &[Step]
-    ensures { map step_view result.now ≡ path_meaning.level (map step_view steps.now) }
+pub fn chain_end(steps: &[Step]) -> &[Step]
+    ensures { map step_view result.now ≡ path_meaning.chain_end (map step_view steps.now) }
 {
     let mut rest = steps.len();
     'steps: while rest > 0 {
@@ -31,15 +31,15 @@ pub fn longer<'p>(one: &'p [Step], other: &'p [Step]) -> &'p [Step]
     if one.len() < other.len() { other } else { one }
 }
 
-/// The longest level of paths, the first of those with as many steps: none where there are no paths.
-pub fn longest_level(paths: &[BoundPath]) -> &[Step]
-    ensures { map step_view result.now ≡ expression_meaning.longest_level (paths_at (map bound_path_view paths.now)) }
+/// The longest chain of paths, the first of those with as many steps: none where there are no paths.
+pub fn longest_chain(paths: &[BoundPath]) -> &[Step]
+    ensures { map step_view result.now ≡ expression_meaning.longest_chain (paths_at (map bound_path_view paths.now)) }
 {
     let mut longest: &[Step] = &[];
     let mut rest = paths.len();
     'paths: while rest > 0 {
         rest -= 1;
-        longest = longer(level(&paths[rest].leaf.steps), longest);
+        longest = longer(chain_end(&paths[rest].leaf.steps), longest);
     }
     longest
 }
@@ -57,9 +57,9 @@ fn repeated_fields(steps: &[Step]) -> usize
     count
 }
 
-/// The level with more repeated fields, the first where they have as many.
+/// The chain with more repeated fields, the first where they have as many.
 fn deeper<'p>(one: &'p [Step], other: &'p [Step]) -> &'p [Step]
-    ensures { map step_view result.now ≡ binding.deeper_level (map step_view one.now) (map step_view other.now) }
+    ensures { map step_view result.now ≡ binding.deeper_chain (map step_view one.now) (map step_view other.now) }
 {
     if repeated_fields(one) < repeated_fields(other) {
         other
@@ -68,16 +68,16 @@ fn deeper<'p>(one: &'p [Step], other: &'p [Step]) -> &'p [Step]
     }
 }
 
-/// The level with the most repeated fields of paths that need not be related, the first of those with as many: none
+/// The chain with the most repeated fields of paths that need not be related, the first of those with as many: none
 /// where there are no paths.
-pub fn deepest_level(paths: &[BoundPath]) -> &[Step]
-    ensures { map step_view result.now ≡ binding.deepest_level (paths_at (map bound_path_view paths.now)) }
+pub fn deepest_chain(paths: &[BoundPath]) -> &[Step]
+    ensures { map step_view result.now ≡ binding.deepest_chain (paths_at (map bound_path_view paths.now)) }
 {
     let mut deepest: &[Step] = &[];
     let mut rest = paths.len();
     'paths: while rest > 0 {
         rest -= 1;
-        deepest = deeper(level(&paths[rest].leaf.steps), deepest);
+        deepest = deeper(chain_end(&paths[rest].leaf.steps), deepest);
     }
     deepest
 }

@@ -13,7 +13,7 @@ mod used;
 mod way;
 
 pub use bound::BoundPath;
-pub use chains::{deepest_level, level, longer, longest_level};
+pub use chains::{chain_end, deepest_chain, longer, longest_chain};
 pub use leaves::leaf_paths;
 pub use paths::{begins_with, same_path};
 pub use related::first_unrelated;

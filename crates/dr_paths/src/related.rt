@@ -8,12 +8,12 @@ ghost use Rattle.dr_paths.specs.Views.{bound_path_view};
 ghost use Rattle.dr_nested.specs.PathView.{step_view};
 
 use crate::bound::BoundPath;
-use crate::chains::level;
+use crate::chains::chain_end;
 use crate::paths::begins_with;
 use dr_nested::Step;
 
-/// Goes through paths in order, from the longest level of the earlier ones.
-/// Returns the longest level with these paths too.
+/// Goes through paths in order, from the longest chain of the earlier ones.
+/// Returns the longest chain with these paths too.
 ///
 /// Errors: the place of the first path that isn't related to an earlier one.
 pub fn first_unrelated<'p>(longest: &'p [Step], paths: &'p [BoundPath]) -> Result<&'p [Step], usize>
@@ -28,7 +28,7 @@ pub fn first_unrelated<'p>(longest: &'p [Step], paths: &'p [BoundPath]) -> Resul
 {
     let mut known = longest;
     'paths: for path in paths {
-        let own = level(&path.leaf.steps);
+        let own = chain_end(&path.leaf.steps);
         if begins_with(known, own) {
             known = own;
         } else if !begins_with(own, known) {

@@ -5,7 +5,7 @@ use Rattle.std.proofs.Math.Path.{fun_ext}
 use Rattle.std.proofs.lemmas.List.Folds.{list_all-append}
 use Rattle.dr_meaning.specs.Path.{Step}
 use Rattle.dr_meaning.specs.Record.{Value, bool_value, int_value, text_value, Node}
-use Rattle.dr_meaning.specs.Expression.{Expression, constant, path_value, negative, arithmetic, comparison, like, contains, is_null, negation, conjunction, disjunction, and_values, evaluate, is_true, paths_of, longest_level}
+use Rattle.dr_meaning.specs.Expression.{Expression, constant, path_value, negative, arithmetic, comparison, like, contains, is_null, negation, conjunction, disjunction, and_values, evaluate, is_true, paths_of, longest_chain}
 use Rattle.dr_meaning.specs.Kept.{kept_along, kept}
 use Rattle.dr_meaning.specs.Query.{levels_of, selected, meaning}
 use Rattle.dr_plan.specs.Conjuncts.{conjuncts, condition_conjuncts, joined, all_of, TrueWhereEachIs, ConjunctsHavePaths, RejoinedMeansSame}
@@ -83,7 +83,7 @@ joined_true e (f ∷ fs) row =
     joined_true (conjunction e f) fs row ∙ ap (λ b. b && all_true fs row) (and_holds (evaluate e row) (evaluate f row)) ∙ and_assoc (is_true (evaluate e row)) (is_true (evaluate f row)) (all_true fs row)
 
 abbrev kept_by : List (List Step) → (Node → Bool) → Node → Option Node
-kept_by ps test n = kept_along (longest_level ps) test n
+kept_by ps test n = kept_along (longest_chain ps) test n
 
 no_conjuncts : (e : Expression) → conjuncts e ≡ [] → ⊥
 no_conjuncts (conjunction a b) h = by_first (conjuncts a) refl h (no_conjuncts a)

@@ -5,7 +5,7 @@ use Rattle.std.specs.List.{slice_get, join_with_byte}
 use Rattle.std.proofs.Math.Path.{fun_ext}
 use Rattle.dr_meaning.specs.Path.{Step, same_path}
 use Rattle.dr_meaning.specs.Record.{Node}
-use Rattle.dr_meaning.specs.Query.{RecordItem, Object, cell, list, objects_of, Levels, no_levels, deeper, levels_of, term_level, term_value, with_cells, with_list, leads_to_items, instances_of, object_lists}
+use Rattle.dr_meaning.specs.Query.{RecordItem, Object, cell, list, objects_of, Levels, no_levels, deeper, levels_of, term_chain, term_value, with_cells, with_list, leads_to_items, instances_of, object_lists}
 use Rattle.dr_plan.specs.Objects.{ObjectTree, ListTrees, object_tree, places_at, with_list_tree, list_trees, cell_of, tree_cells, tree_object, tree_lists, TreeMakesObject}
 
 -- items from the place n on are those at their places among all
@@ -20,7 +20,7 @@ one_later n k = omega arith
 
 cells_at : (items : List RecordItem) (n : ℕ) (is : List RecordItem) (p : List Step) (row : Node) (rest : Object) → From items n is → tree_cells items (places_at n is p) row rest ≡ with_cells is p row rest
 cells_at items n [] p row rest h = refl
-cells_at items n (i ∷ is) p row rest h = by_level (same_path p (term_level i.term)) (cells_at items (suc n) is p row rest (λ k j e. ap (slice_get items) (one_later n k) ∙ h (suc k) j e))
+cells_at items n (i ∷ is) p row rest h = by_level (same_path p (term_chain i.term)) (cells_at items (suc n) is p row rest (λ k j e. ap (slice_get items) (one_later n k) ∙ h (suc k) j e))
   where
     here : slice_get items n ≡ Some i
     here = ap (slice_get items) (sym (at_zero n)) ∙ h 0 i refl

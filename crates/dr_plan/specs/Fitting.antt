@@ -1,7 +1,9 @@
--- Whether the numbers in a plan are those of leaves, keys and aggregates that it has, and each leaf has the type of its place.
+-- Whether the numbers in a plan are those of leaves, keys and aggregates that it has, each leaf has the type of its place, and what was written
+-- is of 64 bits.
 use Rattle.std.specs.Prelude.{ℕ, suc, zero, List, [], ◌∷◌, length, Bool, true, false, ◌&&◌, nat_lt, Option, Some, None}
 use Rattle.std.specs.List.{list_all, slice_get, filter_map}
 use Rattle.dr_meaning.specs.Path.{Leaf}
+use Rattle.dr_meaning.specs.Record.{in_int64}
 use Rattle.dr_meaning.specs.BoundExpression.{ValueType, truth_type, number_type, text_type, kind_type, same_type}
 use Rattle.dr_plan.specs.declared.expression.Number.{Number, fold-Number}
 use Rattle.dr_plan.specs.declared.expression.Number.TheOpen.{Number-F}
@@ -22,10 +24,10 @@ abbrev pub leaf_has_type : ValueType → Option Leaf → Bool
 leaf_has_type t None = false
 leaf_has_type t (Some l) = same_type (kind_type l.kind) t
 
--- ---- expressions: each leaf is there, and of the type of its place
+-- ---- expressions: each leaf is there, and of the type of its place; each number that was written is of 64 bits
 
 abbrev pub number_fits_step : List Leaf → Number-F Bool → Bool
-number_fits_step ls (Number-F.Literal z) = true
+number_fits_step ls (Number-F.Literal z) = in_int64 z
 number_fits_step ls (Number-F.Leaf i) = leaf_has_type number_type (slice_get ls i)
 number_fits_step ls (Number-F.Negative a) = a.value
 number_fits_step ls (Number-F.Add a b) = a.value && b.value

@@ -4,7 +4,7 @@ use Rattle.std.specs.List.{slice_get, join_with_byte}
 use Rattle.dr_meaning.specs.Schema.{Fields}
 use Rattle.dr_meaning.specs.Path.{Step as MeantStep, same_path}
 use Rattle.dr_meaning.specs.Record.{Node}
-use Rattle.dr_meaning.specs.Query.{RecordItem, Object, no_entries, cell, list, objects_of, Levels, no_levels, deeper, levels_of, term_level, term_value}
+use Rattle.dr_meaning.specs.Query.{RecordItem, Object, no_entries, cell, list, objects_of, Levels, no_levels, deeper, levels_of, term_chain, term_value}
 use Rattle.dr_meaning.specs.Query.{leads_to_items, instances_of, record_object}
 use Rattle.dr_nested.specs.PathView.{step_view}
 use Rattle.dr_plan.specs.declared.objects.ObjectPlan.{ObjectPlan, fold-ObjectPlan}
@@ -25,7 +25,7 @@ mutual
 -- the places of the items that belong to a level, where the first has the place n
 abbrev pub places_at : ℕ → List RecordItem → List MeantStep → List ℕ
 places_at n [] p = []
-places_at n (i ∷ is) p = if same_path p (term_level i.term) then n ∷ places_at (suc n) is p else places_at (suc n) is p
+places_at n (i ∷ is) p = if same_path p (term_chain i.term) then n ∷ places_at (suc n) is p else places_at (suc n) is p
 
 abbrev pub with_list_tree : Bool → List ℕ → List MeantStep → ObjectTree → ListTrees → ListTrees
 with_list_tree true name p o ls = list_tree name p o ls

@@ -1,7 +1,7 @@
 -- What a plan stands for, and which plan is that of a query.
 use Rattle.std.specs.Prelude.{◌≡◌, List, map, Option, Some, None, option_map, Ok}
 use Rattle.dr_meaning.specs.Schema.{Schema, Fields}
-use Rattle.dr_meaning.specs.Path.{Step, Leaf}
+use Rattle.dr_meaning.specs.Path.{Step, Leaf, paths_of_leaves}
 use Rattle.dr_meaning.specs.Record.{Node, project}
 use Rattle.dr_meaning.specs.Expression.{Expression}
 use Rattle.dr_meaning.specs.Query.{Selection, objects, groups, Query, meaning}
@@ -64,9 +64,6 @@ written_query p = record { condition = condition_written p.conjuncts p.joining; 
 -- the plan is that of some query that is bound to the schema
 abbrev pub IsOfSchema : Schema → Plan → Type 0
 IsOfSchema s p = (q : QuerySyntax) × (b : Query) × (bind s q ≡ Ok b) × (plan_view p ≡ planned s.fields b)
-
-abbrev pub paths_of_leaves : List Leaf → List (List Step)
-paths_of_leaves ls = map (λ (l : Leaf). l.path) ls
 
 -- ---- the laws
 

@@ -5,7 +5,7 @@ use Rattle.std.specs.declared.alloc.Global.{Global}
 use Rattle.std.proofs.Common.{refl, sym, ap, ap₂, ◌∙◌, rules}
 use Rattle.dr_meaning.specs.Schema.{Fields}
 use Rattle.dr_meaning.specs.Path.{Step, begins_with, same_path}
-use Rattle.dr_meaning.specs.Query.{RecordItem, term_level, Levels, no_levels, deeper, levels_of, leads_to_items}
+use Rattle.dr_meaning.specs.Query.{RecordItem, term_chain, Levels, no_levels, deeper, levels_of, leads_to_items}
 use denote.Ref.{Bor}
 use Rattle.dr_nested.specs.PathView.{step_view, lent_path}
 use Rattle.dr_nested.specs.declared.path.Step as steps
@@ -40,26 +40,26 @@ lists_view-append (k ∷ ks) ls = ap (list_tree (list_view k).name (list_view k)
 
 -- ---- in the words of the definition
 
-abbrev pub item_levels : List RecordItem → List (List Step)
-item_levels its = map (λ (i : RecordItem). term_level i.term) its
+abbrev pub item_chains : List RecordItem → List (List Step)
+item_chains its = map (λ (i : RecordItem). term_chain i.term) its
 
-numbers-places : (its : List RecordItem) (n : ℕ) (p : List Step) → places_at n its p ≡ numbers_at n (item_levels its) p
+numbers-places : (its : List RecordItem) (n : ℕ) (p : List Step) → places_at n its p ≡ numbers_at n (item_chains its) p
 numbers-places [] n p = refl
-numbers-places (i ∷ its) n p = ap (λ (ns : List ℕ). if same_path p (term_level i.term) then n ∷ ns else ns) (numbers-places its (suc n) p)
+numbers-places (i ∷ its) n p = ap (λ (ns : List ℕ). if same_path p (term_chain i.term) then n ∷ ns else ns) (numbers-places its (suc n) p)
 
-leads-items : (its : List RecordItem) (p : List Step) → leads_to_items its p ≡ leads_to (item_levels its) p
+leads-items : (its : List RecordItem) (p : List Step) → leads_to_items its p ≡ leads_to (item_chains its) p
 leads-items [] p = refl
-leads-items (i ∷ its) p = ap (λ (b : Bool). begins_with p (term_level i.term) || b) (leads-items its p)
+leads-items (i ∷ its) p = ap (λ (b : Bool). begins_with p (term_chain i.term) || b) (leads-items its p)
 
-pub list_trees-joined : (its : List RecordItem) (ls : Levels) → named_trees (item_levels its) (joined ls) ≡ list_trees its ls
+pub list_trees-joined : (its : List RecordItem) (ls : Levels) → named_trees (item_chains its) (joined ls) ≡ list_trees its ls
 list_trees-joined its no_levels = refl
 list_trees-joined its (deeper ns p below others) =
     sym (ap₂ (λ (b : Bool) (rest : ListTrees). with_list_tree b (join_with_byte 46 ns) p (object_tree (places_at 0 its p) (list_trees its below)) rest) (leads-items its p) (sym (list_trees-joined its others))
-    ∙ ap₂ (λ (ms : List ℕ) (inner : ListTrees). with_list_tree (leads_to (item_levels its) p) (join_with_byte 46 ns) p (object_tree ms inner) (named_trees (item_levels its) (joined others)))
+    ∙ ap₂ (λ (ms : List ℕ) (inner : ListTrees). with_list_tree (leads_to (item_chains its) p) (join_with_byte 46 ns) p (object_tree ms inner) (named_trees (item_chains its) (joined others)))
     (numbers-places its 0 p) (sym (list_trees-joined its below)))
 
 -- the law: over the levels of a schema and the levels of items this is the definition's tree
-pub object_tree-named : (qs : List (List Step)) (ns : NamedLevels) (fs : Fields) (its : List RecordItem) → ns ≡ joined (levels_of fs) → item_levels its ≡ qs → named_object qs ns ≡ object_tree_of fs its
+pub object_tree-named : (qs : List (List Step)) (ns : NamedLevels) (fs : Fields) (its : List RecordItem) → ns ≡ joined (levels_of fs) → item_chains its ≡ qs → named_object qs ns ≡ object_tree_of fs its
 object_tree-named qs ns fs its e q =
     ap₂ named_object (sym q) e ∙ ap₂ object_tree (sym (numbers-places its 0 [])) (list_trees-joined its (levels_of fs))
 

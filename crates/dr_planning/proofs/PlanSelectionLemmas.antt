@@ -6,8 +6,8 @@ use Rattle.std.specs.List.{list_all, filter_map, cons_option, slice_get}
 use Rattle.std.proofs.lemmas.List.{map-append, length-map, length_push}
 use Rattle.std.proofs.lemmas.Bool.{lt-ltb, and_parts}
 use Rattle.dr_meaning.specs.Schema.{Fields}
-use Rattle.dr_meaning.specs.Path.{Step as MeantStep, Leaf, same_path, level}
-use Rattle.dr_meaning.specs.Expression.{Expression, path_value, paths_of, longest_level}
+use Rattle.dr_meaning.specs.Path.{Step as MeantStep, Leaf, same_path, chain_end}
+use Rattle.dr_meaning.specs.Expression.{Expression, path_value, paths_of, longest_chain}
 use Rattle.dr_meaning.specs.BoundExpression as meant
 use Rattle.dr_meaning.specs.BoundExpression.{Checked, passes, fails}
 use Rattle.dr_meaning.specs.Binding as binding
@@ -34,7 +34,7 @@ use Rattle.dr_bound_parts.specs.Bound.{Covers, is_path_value, Means, IsExpressio
 use Rattle.dr_bound_parts.specs.Items.{IsTerm, AreItems}
 use Rattle.dr_bound_parts.specs.Parts.{IsCheckedCondition}
 use Rattle.dr_planning.specs.Planning.{condition_paths, record_paths, group_paths, record_item_paths, group_item_paths, selection_paths, steps_at}
-use Rattle.dr_planning.specs.Planning.{condition_conjuncts, condition_joining, condition_fits, record_term_of, record_item_of, record_level, record_levels}
+use Rattle.dr_planning.specs.Planning.{condition_conjuncts, condition_joining, condition_fits, record_term_of, record_item_of, record_chain, record_chains}
 use Rattle.dr_planning.specs.Planning.{place_of_first, key_number, grouped_of, with_aggregate, aggregates_of, with_group_item, group_items_of, Selects}
 use Rattle.dr_planning.specs.Planning.{sums_numbers}
 use Rattle.dr_bound_parts.proofs.BoundLemmas.{covers_parts}
@@ -138,25 +138,25 @@ record_items_right fs ls (b ∷ bs) (x ∷ xs) h k s =
     let r = and_parts (sums_numbers x.term) (all_summed xs) s in
     record_term_right fs ls x.name (filter_map record_item_of xs) (record_items_right fs ls bs xs h.1 c.1 r.1) b.term x.term h.0.term c.0 r.0
 
-abbrev term_levels : List query.RecordItem → List (List MeantStep)
-term_levels is = map (λ (i : query.RecordItem). query.term_level i.term) is
+abbrev term_chains : List query.RecordItem → List (List MeantStep)
+term_chains is = map (λ (i : query.RecordItem). query.term_chain i.term) is
 
-record_term_level : (fs : Fields) (ls : List Leaf) (name : List ℕ) (zs : List query.RecordItem) (qs : List (List MeantStep)) → term_levels zs ≡ qs
-    → (t : binding.BoundTerm) (u : BoundTerm) → IsTerm fs ls t u → term_levels (cons_option (named_record name (binding.record_term t)) zs) ≡ cons_option (record_level u) qs
-record_term_level fs ls name zs qs ez =
-    let P : binding.BoundTerm → BoundTerm → Type 0 = λ t u. term_levels (cons_option (named_record name (binding.record_term t)) zs) ≡ cons_option (record_level u) qs in
+record_term_chain : (fs : Fields) (ls : List Leaf) (name : List ℕ) (zs : List query.RecordItem) (qs : List (List MeantStep)) → term_chains zs ≡ qs
+    → (t : binding.BoundTerm) (u : BoundTerm) → IsTerm fs ls t u → term_chains (cons_option (named_record name (binding.record_term t)) zs) ≡ cons_option (record_chain u) qs
+record_term_chain fs ls name zs qs ez =
+    let P : binding.BoundTerm → BoundTerm → Type 0 = λ t u. term_chains (cons_option (named_record name (binding.record_term t)) zs) ≡ cons_option (record_chain u) qs in
     term_cases fs ls P
-    (λ e x h. ap₂ (λ (rs : List (List MeantStep)) (r : List MeantStep). r ∷ rs) ez (ap longest_level (sym (expression_paths fs ls e x h))))
+    (λ e x h. ap₂ (λ (rs : List (List MeantStep)) (r : List MeantStep). r ∷ rs) ez (ap longest_chain (sym (expression_paths fs ls e x h))))
     ez
     (λ v. ez)
     (λ f e x h. ez)
-    (λ f e x v h. ap (λ (rs : List (List MeantStep)). level (map step_view v.node.items) ∷ rs) ez)
+    (λ f e x v h. ap (λ (rs : List (List MeantStep)). chain_end (map step_view v.node.items) ∷ rs) ez)
 
-record_items_levels : (fs : Fields) (ls : List Leaf) (bs : List binding.BoundItem) (xs : List BoundItem) → AreItems fs ls bs xs → term_levels (filter_map binding.record_item bs) ≡ record_levels xs
-record_items_levels fs ls [] [] h = refl
-record_items_levels fs ls [] (x ∷ xs) h = absurd h
-record_items_levels fs ls (b ∷ bs) [] h = absurd h
-record_items_levels fs ls (b ∷ bs) (x ∷ xs) h = record_term_level fs ls b.name (filter_map binding.record_item bs) (record_levels xs) (record_items_levels fs ls bs xs h.1) b.term x.term h.0.term
+record_items_chains : (fs : Fields) (ls : List Leaf) (bs : List binding.BoundItem) (xs : List BoundItem) → AreItems fs ls bs xs → term_chains (filter_map binding.record_item bs) ≡ record_chains xs
+record_items_chains fs ls [] [] h = refl
+record_items_chains fs ls [] (x ∷ xs) h = absurd h
+record_items_chains fs ls (b ∷ bs) [] h = absurd h
+record_items_chains fs ls (b ∷ bs) (x ∷ xs) h = record_term_chain fs ls b.name (filter_map binding.record_item bs) (record_chains xs) (record_items_chains fs ls bs xs h.1) b.term x.term h.0.term
 
 -- ---- the terms of aggregate queries
 
@@ -347,7 +347,7 @@ selection_seen fs levels ls false keys bs xs (Selection.Groups numbers aggregate
 
 pub objects_seen : (fs : Fields) (levels : NamedLevels) (ls : List Leaf) (r : Bool) (keys : List BoundPath) (bs : List binding.BoundItem) (xs : List BoundItem) (s : Selection)
     → AreItems fs ls bs xs → levels ≡ joined (query.levels_of fs) → Selects r levels ls keys xs s → objects_of_plan s ≡ objects_of_query fs (chosen r (map bound_path_view keys) bs)
-objects_seen fs levels ls true keys bs xs (Selection.Objects items o) h e w = ap (λ t. Some t) (w.1 fs (filter_map binding.record_item bs) e (record_items_levels fs ls bs xs h))
+objects_seen fs levels ls true keys bs xs (Selection.Objects items o) h e w = ap (λ t. Some t) (w.1 fs (filter_map binding.record_item bs) e (record_items_chains fs ls bs xs h))
 objects_seen fs levels ls true keys bs xs (Selection.Groups numbers aggregates items) h e w = absurd w
 objects_seen fs levels ls false keys bs xs (Selection.Objects items o) h e w = absurd w
 objects_seen fs levels ls false keys bs xs (Selection.Groups numbers aggregates items) h e w = refl

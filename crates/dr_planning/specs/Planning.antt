@@ -3,8 +3,8 @@ use Rattle.std.specs.Prelude.{◌≡◌, ℕ, suc, List, [], ◌∷◌, ◌++◌
 use Rattle.std.specs.List.{list_all, flat_map, filter_map, slice_get}
 use Rattle.std.specs.declared.alloc.Global.{Global}
 use Rattle.dr_meaning.specs.Schema.{Fields}
-use Rattle.dr_meaning.specs.Path.{Step, Leaf, level}
-use Rattle.dr_meaning.specs.Expression.{Expression, longest_level}
+use Rattle.dr_meaning.specs.Path.{Step, Leaf, chain_end}
+use Rattle.dr_meaning.specs.Expression.{Expression, longest_chain}
 use Rattle.dr_meaning.specs.BoundExpression as meant
 use Rattle.dr_meaning.specs.Binding as binding
 use Rattle.dr_meaning.specs.Query as query
@@ -101,23 +101,23 @@ record_term_of (BoundTerm.Aggregated f x (Some w)) = Some (RecordTerm.Within (re
 abbrev pub record_item_of : BoundItem → Option RecordItem
 record_item_of x = option_map (λ t. record { name = x.name; term = t }) (record_term_of x.term)
 
--- the level of the object in which a term of a record query stands
-abbrev pub record_level : BoundTerm → Option (List Step)
-record_level (BoundTerm.Value x) = Some (longest_level (steps_at x.paths.items))
-record_level (BoundTerm.Rows w) = None
-record_level (BoundTerm.Aggregated f x None) = None
-record_level (BoundTerm.Aggregated f x (Some w)) = Some (level (map step_view w.node.items))
+-- the chain of the object in which a term of a record query stands
+abbrev pub record_chain : BoundTerm → Option (List Step)
+record_chain (BoundTerm.Value x) = Some (longest_chain (steps_at x.paths.items))
+record_chain (BoundTerm.Rows w) = None
+record_chain (BoundTerm.Aggregated f x None) = None
+record_chain (BoundTerm.Aggregated f x (Some w)) = Some (chain_end (map step_view w.node.items))
 
-abbrev pub record_levels : List BoundItem → List (List Step)
-record_levels xs = filter_map (λ (x : BoundItem). record_level x.term) xs
+abbrev pub record_chains : List BoundItem → List (List Step)
+record_chains xs = filter_map (λ (x : BoundItem). record_chain x.term) xs
 
 -- the plan of the objects of items at these levels
 abbrev pub AreObjects : NamedLevels → List (List Step) → ObjectPlan → Type 0
 AreObjects levels qs o = (fs : Fields) (its : List query.RecordItem) → levels ≡ joined (query.levels_of fs)
-    → map (λ (i : query.RecordItem). query.term_level i.term) its ≡ qs → object_view o ≡ object_tree_of fs its
+    → map (λ (i : query.RecordItem). query.term_chain i.term) its ≡ qs → object_view o ≡ object_tree_of fs its
 
 abbrev pub SelectsObjects : NamedLevels → List BoundItem → Selection → Type 0
-SelectsObjects levels xs (Selection.Objects items o) = (items.items ≡ filter_map record_item_of xs) × AreObjects levels (record_levels xs) o
+SelectsObjects levels xs (Selection.Objects items o) = (items.items ≡ filter_map record_item_of xs) × AreObjects levels (record_chains xs) o
 SelectsObjects levels xs (Selection.Groups keys aggregates items) = ⊥
 
 -- ---- aggregate queries

@@ -8,7 +8,7 @@ use Rattle.dr_nested.specs.PathView.{step_view}
 use Rattle.dr_paths.specs.Related.{Spans, joined_before}
 use Rattle.dr_planning.specs.declared.rules.KeyChain.{KeyChain}
 
--- what keys that pass say of paths behind them: their longest level, or the place of the first that isn't related to an earlier one
+-- what keys that pass say of paths behind them: their longest chain, or the place of the first that isn't related to an earlier one
 abbrev pub IsChain : Checked (List BoundPath) → KeyChain → Type 0
 IsChain (passes ks) KeyChain.Unbound = ⊥
 IsChain (passes ks) (KeyChain.Related l) = (unrelated_among ks ≡ []) × Spans (joined_before [] ks) (map step_view l.now)

@@ -29,7 +29,7 @@ pub fn object_plan(
     ensures tree { IfOk result (λ o. object_view o ≡ named_object (map lent_path items.now) (levels_view levels.now)) }
     ensures meant { IfOk result (λ o. (fs : Fields) (its : List meant.RecordItem) → levels_view levels.now
         ≡ joined (meant.levels_of fs)
-        → map (λ (i : meant.RecordItem). meant.term_level
+        → map (λ (i : meant.RecordItem). meant.term_chain
         i.term) its ≡ map lent_path items.now → object_view o ≡ object_tree_of fs its) }
 {
     object_at(alloc, levels, &[], items)

@@ -11,7 +11,7 @@ use crate::objects::object_plan;
 use dr_bound_parts::{BoundItem, BoundTerm};
 use dr_memory::NoMemory;
 use dr_nested::Step;
-use dr_paths::{level, longest_level};
+use dr_paths::{chain_end, longest_chain};
 use dr_plan::{ObjectPlan, RecordItem, RecordTerm, Selection, Within};
 use std::alloc::Global;
 
@@ -59,26 +59,26 @@ fn record_items(alloc: Global, items: Vec<BoundItem>) -> Result<Vec<RecordItem>,
 }
 
 /// The level of the object in which a term of a record query stands.
-fn record_level(term: &BoundTerm) -> Option<&[Step]>
-    ensures { option_map lent_path result ≡ plan.record_level term.now }
+fn record_chain(term: &BoundTerm) -> Option<&[Step]>
+    ensures { option_map lent_path result ≡ plan.record_chain term.now }
 {
     match term {
-        BoundTerm::Value(value) => Some(longest_level(value.paths.as_slice())),
+        BoundTerm::Value(value) => Some(longest_chain(value.paths.as_slice())),
         BoundTerm::Rows(_) => None,
         BoundTerm::Aggregated(_, _, within) => match within {
             None => None,
-            Some(within) => Some(level(within.node.as_slice())),
+            Some(within) => Some(chain_end(within.node.as_slice())),
         },
     }
 }
 
 /// The levels of the objects in which the items of a record query stand.
-fn record_levels(alloc: Global, items: &[BoundItem]) -> Result<Vec<&[Step]>, NoMemory>
-    ensures { IfOk result (λ v. map lent_path v.items ≡ plan.record_levels items.now) }
+fn record_chains(alloc: Global, items: &[BoundItem]) -> Result<Vec<&[Step]>, NoMemory>
+    ensures { IfOk result (λ v. map lent_path v.items ≡ plan.record_chains items.now) }
 {
     let mut levels = Vec::new(alloc);
     'items: for item in items {
-        match record_level(&item.term) {
+        match record_chain(&item.term) {
             None => {}
             Some(level) => levels.push(level)?,
         }
@@ -88,9 +88,9 @@ fn record_levels(alloc: Global, items: &[BoundItem]) -> Result<Vec<&[Step]>, NoM
 
 /// The plan of the objects in which the items of a record query stand.
 fn objects_of(alloc: Global, levels: &[Level], items: &[BoundItem]) -> Result<ObjectPlan, NoMemory>
-    ensures { IfOk result (λ o. plan.AreObjects (levels_view levels.now) (plan.record_levels items.now) o) }
+    ensures { IfOk result (λ o. plan.AreObjects (levels_view levels.now) (plan.record_chains items.now) o) }
 {
-    let own = record_levels(alloc, items)?;
+    let own = record_chains(alloc, items)?;
     if own.len() > u32::MAX as usize {
         return Err(NoMemory);
     }

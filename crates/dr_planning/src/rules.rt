@@ -26,7 +26,7 @@ use dr_bound_parts::{
 };
 use dr_nested::Step;
 use dr_paths::{
-    BoundPath, begins_with, deepest_level, first_unrelated, level, longest_level, same_path,
+    BoundPath, begins_with, chain_end, deepest_chain, first_unrelated, longest_chain, same_path,
 };
 
 /// What the keys say of the paths behind them: nothing, where one of them couldn't be bound; their longest level; or
@@ -184,7 +184,7 @@ fn holds_rows(argument: &BoundExpression, within: &BoundWithin) -> bool
     ensures { (fs : Fields) (ls : List Leaf) (e : meant.BoundExpression) → IsExpression fs ls e argument.now → result
         ≡ binding.holds_rows e.expression (within_view within.now) }
 {
-    within.is_whole && begins_with(&within.node, longest_level(&argument.paths))
+    within.is_whole && begins_with(&within.node, longest_chain(&argument.paths))
 }
 
 /// Notes an aggregate WITHIN a node that doesn't hold its rows, and COUNT(*) WITHIN any.
@@ -285,24 +285,24 @@ fn note_item_rules(parts: &BoundParts, first: &mut FirstFault)
 // ---- names of one object
 
 /// The level of the node of a WITHIN.
-fn within_level(within: &Option<BoundWithin>) -> &[Step]
-    ensures { map step_view result.now ≡ binding.within_level (option_map within_view within.now) }
+fn within_chain(within: &Option<BoundWithin>) -> &[Step]
+    ensures { map step_view result.now ≡ binding.within_chain (option_map within_view within.now) }
 {
     match within {
         None => &[],
-        Some(within) => level(&within.node),
+        Some(within) => chain_end(&within.node),
     }
 }
 
 /// The level of the object in which an item of a record query stands.
-fn item_level(term: &BoundTerm) -> &[Step]
+fn item_chain(term: &BoundTerm) -> &[Step]
     ensures { (fs : Fields) (ls : List Leaf) (t : binding.BoundTerm) → IsTerm fs ls t term.now
-        → map step_view result.now ≡ binding.item_level t }
+        → map step_view result.now ≡ binding.item_chain t }
 {
     match term {
-        BoundTerm::Value(value) => deepest_level(&value.paths),
-        BoundTerm::Rows(within) => within_level(within),
-        BoundTerm::Aggregated(_, _, within) => within_level(within),
+        BoundTerm::Value(value) => deepest_chain(&value.paths),
+        BoundTerm::Rows(within) => within_chain(within),
+        BoundTerm::Aggregated(_, _, within) => within_chain(within),
     }
 }
 
@@ -312,7 +312,7 @@ fn object_of(is_record_query: bool, item: &BoundItem) -> &[Step]
         → map step_view result.now ≡ binding.object_of is_record_query b }
 {
     if is_record_query {
-        item_level(&item.term)
+        item_chain(&item.term)
     } else {
         &[]
     }

@@ -6,7 +6,7 @@ use Rattle.std.proofs.Common.{refl, sym, ap, ◌∙◌, arith, subst, add-one, a
 use Rattle.std.proofs.lemmas.List.{drop_more, take_all, length-map, map-append}
 use Rattle.std.proofs.lemmas.Option.{slice_get-get_or}
 use denote.Ref.{Bor}
-use Rattle.dr_meaning.specs.Path.{Step, Leaf, max_repetition}
+use Rattle.dr_meaning.specs.Path.{Step, Leaf, max_repetition, paths_of_leaves}
 use Rattle.dr_meaning.specs.Automaton.{leaf_name, target_name, transition, transition_line, counting, leaf_lines, automaton_lines, automaton_text}
 use Rattle.dr_meaning.specs.Fsm.{leaves_at}
 use Rattle.dr_nested.specs.PathView.{path_view}
@@ -15,8 +15,8 @@ use Rattle.dr_fsm.specs.declared.automaton.Automaton.{Automaton}
 use Rattle.dr_fsm.specs.Tables.{paths_at}
 use Rattle.dr_fsm.specs.Automata.{IsAutomatonOf}
 use Rattle.dr_fsm.proofs.RowLemmas.{read_map}
-use Rattle.dr_fsm.proofs.SelectionLemmas.{paths_of_leaves}
-use Rattle.dr_print.specs.Transitions.{lent_leaf, lent_leaves, paths_of, dotted, line_to}
+use Rattle.dr_fsm.proofs.SelectionLemmas.{paths_of_leaves as selected_paths}
+use Rattle.dr_print.specs.Transitions.{lent_leaf, lent_leaves, dotted, line_to}
 
 -- ---- texts that grow
 
@@ -83,7 +83,7 @@ lines_end ls f i k m h =
 abbrev pub Levels : List Leaf → Leaf → ℕ → ℕ → ℕ → List ℕ → List ℕ → Type 0
 Levels ls f i m k old new = new ++ lines_from ls f i k m ≡ old ++ lines_from ls f i 0 m
 
-pub one_level : (ls : List Leaf) (f : Leaf) (i m k : ℕ) (t : Option ℕ) (old mid new : List ℕ) → k ≤ m → t ≡ transition (paths_of ls) i k → new ≡ mid ++ line_to ls f k t → Levels ls f i m k old mid → Levels ls f i m (k + 1) old new
+pub one_level : (ls : List Leaf) (f : Leaf) (i m k : ℕ) (t : Option ℕ) (old mid new : List ℕ) → k ≤ m → t ≡ transition (paths_of_leaves ls) i k → new ≡ mid ++ line_to ls f k t → Levels ls f i m k old mid → Levels ls f i m (k + 1) old new
 one_level ls f i m k t old mid new h g e d =
     grown (old ++ lines_from ls f i 0 m) mid new (transition_line ls f i k) (lines_from ls f i (k + 1) m)
     (e ∙ ap (λ (s : Option ℕ). mid ++ line_to ls f k s) g)
@@ -146,12 +146,12 @@ all_there fields places w = subst (λ (n : ℕ). All (λ (i : ℕ). i < n) place
 
 -- leaves that were taken have the paths of the automaton's order
 pub same_paths : (fields : List Path) (places : List ℕ) (ls : List Leaf) → All (λ (i : ℕ). i < length fields) places → ls ≡ leaves_at (map path_view fields) places
-    → paths_of ls ≡ paths_at (map (λ (p : Path). (path_view p).path) fields) places
+    → paths_of_leaves ls ≡ paths_at (map (λ (p : Path). (path_view p).path) fields) places
 same_paths fields places ls w e =
-    ap paths_of e ∙ paths_of_leaves (map path_view fields) places (all_there fields places w) ∙ ap (λ (F : List (List Step)). paths_at F places) (each_path fields)
+    ap paths_of_leaves e ∙ selected_paths (map path_view fields) places (all_there fields places w) ∙ ap (λ (F : List (List Step)). paths_at F places) (each_path fields)
 
 pub automaton_of_leaves : (a : Automaton) (fields : List Path) (places : List ℕ) (ls : List Leaf) → All (λ (i : ℕ). i < length fields) places → ls ≡ leaves_at (map path_view fields) places
-    → IsAutomatonOf a (paths_at (map (λ (p : Path). (path_view p).path) fields) places) → IsAutomatonOf a (paths_of ls)
+    → IsAutomatonOf a (paths_at (map (λ (p : Path). (path_view p).path) fields) places) → IsAutomatonOf a (paths_of_leaves ls)
 automaton_of_leaves a fields places ls w e h = subst (λ (F : List (List Step)). IsAutomatonOf a F) (sym (same_paths fields places ls w e)) h
 
 -- there are as many as places

@@ -13,9 +13,9 @@ use Rattle.dr_nested.specs.declared.record.Instance as instances
 use Rattle.dr_nested.specs.declared.record.Slot as slots
 use Rattle.dr_nested.specs.Views.{SeenField, rep_view, shape_view, field_view, fields_view, instance_view, instances_view, slots_view}
 use Rattle.dr_nested.proofs.ViewLemmas.{view-field}
-use Rattle.dr_print.specs.Parts.{separated}
 use Rattle.dr_print.proofs.PartLemmas.{separated-all}
 use Rattle.dr_print.specs.Members.{has_parts, first_part, held_text, texts_in, members_in}
+use Rattle.dr_meaning.specs.Lists.{separated}
 
 -- ---- texts that grow
 

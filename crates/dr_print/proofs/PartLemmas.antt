@@ -12,7 +12,8 @@ use Rattle.dr_cells.specs.Results.{ResultCell, first_value, first_count, ShapeTr
 use Rattle.dr_cells.specs.Shapes.{shape_view, lists_view, SeenList}
 use Rattle.dr_cells.specs.declared.shape.ListShape as lists
 use Rattle.dr_cells.proofs.ShapeLemmas.{view-list_shape}
-use Rattle.dr_print.specs.Parts.{comma_if, separated, value_members}
+use Rattle.dr_print.specs.Parts.{value_members}
+use Rattle.dr_meaning.specs.Lists.{comma_if, separated}
 
 -- ---- parts
 

@@ -3,21 +3,12 @@ use Rattle.std.specs.Prelude.{ℕ, List, [], ◌∷◌, ◌++◌, drop, Bool, tr
 use Rattle.dr_meaning.specs.Record.{Value}
 use Rattle.dr_meaning.specs.Print.{member_text, cell_text}
 use Rattle.dr_cells.specs.Results.{ResultCell, value_cell, count_cell, first_value}
+use Rattle.dr_meaning.specs.Lists.{comma_if}
 
 -- the value of a cell
 abbrev pub own_value : ResultCell → Option Value
 own_value (value_cell v) = v
 own_value (count_cell n) = None
-
--- a comma, where something stands before
-abbrev pub comma_if : Bool → List ℕ
-comma_if true = 44 ∷ []
-comma_if false = []
-
--- parts separated by commas; where something stands before them, with a comma before the first too
-abbrev pub separated : Bool → List (List ℕ) → List ℕ
-separated behind [] = []
-separated behind (p ∷ ps) = comma_if behind ++ (p ++ separated true ps)
 
 -- the members of these names, by their cells
 abbrev pub value_members : List (List ℕ) → List ResultCell → List (List ℕ)

@@ -15,10 +15,6 @@ lent_leaf p = path_view p.now
 abbrev pub lent_leaves : List (Bor Path) → List Leaf
 lent_leaves ps = map lent_leaf ps
 
--- the paths of leaves
-abbrev pub paths_of : List Leaf → List (List Step)
-paths_of ls = map (λ (l : Leaf). l.path) ls
-
 -- names, with a dot before each
 abbrev pub dotted : List (List ℕ) → List ℕ
 dotted ns = flat_map (λ (n : List ℕ). 46 ∷ n) ns

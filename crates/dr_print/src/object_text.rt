@@ -6,7 +6,8 @@ ghost use Rattle.dr_meaning.specs.Query.{objects_of};
 ghost use Rattle.dr_cells.specs.Results.{read_object, read_lists, read_times};
 ghost use Rattle.dr_cells.specs.Shapes.{shape_view, lists_view};
 ghost use Rattle.dr_cells.specs.Views.{cells_view};
-ghost use Rattle.dr_print.specs.Parts.{separated, value_members};
+ghost use Rattle.dr_print.specs.Parts.{value_members};
+ghost use Rattle.dr_meaning.specs.Lists.{separated};
 
 use crate::cell_text::{count_at, push_value};
 use crate::parts::{push_comma, push_name};

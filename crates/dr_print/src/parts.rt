@@ -2,7 +2,7 @@
 
 ghost use Rattle.std.specs.Prelude.{◌≡◌, ◌++◌, ◌∷◌, [], string_bytes, OnOk};
 ghost use Rattle.json.specs.Print.{quoted};
-ghost use Rattle.dr_print.specs.Parts.{comma_if};
+ghost use Rattle.dr_meaning.specs.Lists.{comma_if};
 
 use std::alloc::{AllocError, Global};
 

@@ -4,7 +4,7 @@ ghost use Rattle.std.specs.Prelude.{◌≡◌, ◌++◌, ◌||◌, false, Some, 
 ghost use Rattle.dr_meaning.specs.Print as print;
 ghost use Rattle.dr_nested.specs.Views.{rep_view, field_view, shape_view, fields_view, value_view, instance_view, instances_view, slot_view, node_view};
 ghost use Rattle.dr_print.specs.Members.{has_parts, held_text, texts_in, members_in};
-ghost use Rattle.dr_print.specs.Parts.{separated};
+ghost use Rattle.dr_meaning.specs.Lists.{separated};
 
 use crate::parts::{push_comma, push_name, push_quoted};
 use crate::triplet_lines::push_int;

@@ -6,7 +6,8 @@ ghost use Rattle.dr_meaning.specs.Fsm as fsm;
 ghost use Rattle.dr_nested.specs.PathView.{path_view};
 ghost use Rattle.dr_fsm.specs.Tables.{paths_at, state_view};
 ghost use Rattle.dr_fsm.specs.Automata.{leaves_of, IsAutomatonOf};
-ghost use Rattle.dr_print.specs.Transitions.{lent_leaves, paths_of, dotted, line_to};
+ghost use Rattle.dr_print.specs.Transitions.{lent_leaves, dotted, line_to};
+ghost use Rattle.dr_meaning.specs.Path.{paths_of_leaves};
 
 use crate::triplet_lines::push_level;
 use dr_fsm::{Automaton, State};
@@ -79,7 +80,7 @@ fn push_leaf(
     leaf: &Path,
     place: u32,
 ) -> Result<(), AllocError>
-    requires next { IsAutomatonOf automaton.now (paths_of (lent_leaves leaves.now)) }
+    requires next { IsAutomatonOf automaton.now (paths_of_leaves (lent_leaves leaves.now)) }
     ensures { OnOk result (string_bytes text.new
         ≡ string_bytes text.old ++ meant.leaf_lines (lent_leaves leaves.now) (path_view leaf.now) place) }
 {
@@ -91,7 +92,7 @@ fn push_leaf(
 
 /// Appends the lines of all the automaton's leaves.
 fn push_leaves(text: &mut String, leaves: &[&Path], automaton: &Automaton) -> Result<(), AllocError>
-    requires next { IsAutomatonOf automaton.now (paths_of (lent_leaves leaves.now)) }
+    requires next { IsAutomatonOf automaton.now (paths_of_leaves (lent_leaves leaves.now)) }
     requires few { length leaves.now < 2 ^ 32 }
     ensures { OnOk result (string_bytes text.new
         ≡ string_bytes text.old ++ meant.automaton_text (lent_leaves leaves.now)) }
@@ -144,7 +145,7 @@ pub fn automaton_text(
 
 /// The lines of all the automaton's leaves.
 fn lines_of(alloc: Global, leaves: &[&Path], automaton: &Automaton) -> Result<String, NoMemory>
-    requires next { IsAutomatonOf automaton.now (paths_of (lent_leaves leaves.now)) }
+    requires next { IsAutomatonOf automaton.now (paths_of_leaves (lent_leaves leaves.now)) }
     requires few { length leaves.now < 2 ^ 32 }
     ensures { IfOk result (λ s. string_bytes s ≡ meant.automaton_text (lent_leaves leaves.now)) }
 {

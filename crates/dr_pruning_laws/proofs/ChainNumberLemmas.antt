@@ -4,7 +4,7 @@ use Rattle.std.specs.Prelude.{map}
 use Rattle.std.specs.List.{slice_get}
 use Rattle.std.proofs.lemmas.Bool.{and_parts}
 use Rattle.dr_meaning.specs.Schema.{Repetition, required, optional, repeated, Fields, no_fields, field, Shape, leaf, group, repetition_count, shape_repeated_fields}
-use Rattle.dr_meaning.specs.Path.{Step, chain, level, up_to, is_leaf_path, is_shape_path, same_repetition}
+use Rattle.dr_meaning.specs.Path.{Step, chain, chain_end, up_to, is_leaf_path, is_shape_path, same_repetition}
 use Rattle.dr_meaning.specs.Walk.{own_path, repeated_paths_from, shape_repeated_paths, repeated_paths}
 use Rattle.dr_meaning.proofs.ProjectionLemmas.{step}
 use Rattle.dr_meaning.proofs.Blocks.{same_repetition-true}
@@ -65,10 +65,10 @@ module _ (whole : Fields) where
 -- ---- the numbers of a path's level
 
 abbrev ShapeLevels : Shape → List Step → Type 0
-ShapeLevels s p = (k : ℕ) → is_shape_path s p ≡ true → shape_numbers s k (level p) ≡ shape_numbers s k p
+ShapeLevels s p = (k : ℕ) → is_shape_path s p ≡ true → shape_numbers s k (chain_end p) ≡ shape_numbers s k p
 
 abbrev FieldsLevel : Fields → Repetition → List Step → Type 0
-FieldsLevel fs e p = (j k : ℕ) → is_leaf_path fs (step j e ∷ p) ≡ true → numbers_in fs k (level (step j e ∷ p)) ≡ numbers_in fs k (step j e ∷ p)
+FieldsLevel fs e p = (j k : ℕ) → is_leaf_path fs (step j e ∷ p) ≡ true → numbers_in fs k (chain_end (step j e ∷ p)) ≡ numbers_in fs k (step j e ∷ p)
 
 no_numbers : (fs : Fields) (k : ℕ) → numbers_in fs k [] ≡ []
 no_numbers no_fields k = refl
@@ -81,7 +81,7 @@ nothing_numbered (group fs) k = no_numbers fs k
 through_level : (m : List ℕ) (r : Repetition) (s : Shape) (fs : Fields) (e : Repetition) (p : List Step) → ShapeLevels s p → FieldsLevel fs e p → FieldsLevel (field m r s fs) e p
 through_level m r s fs e p f g zero k h =
     let w : (same_repetition e r ≡ true) × (is_shape_path s p ≡ true) = and_parts _ _ h in
-    by_level (level p) e (same_repetition-true e r w.0) (λ j. f j w.1)
+    by_level (chain_end p) e (same_repetition-true e r w.0) (λ j. f j w.1)
   where
     by_own : (r : Repetition) (L : List Step) → ((j : ℕ) → shape_numbers s j L ≡ shape_numbers s j p) → own_number r k (λ j. shape_numbers s j L) ≡ own_number r k (λ j. shape_numbers s j p)
     by_own required L x = x k
@@ -96,7 +96,7 @@ through_level m r s fs e p f g zero k h =
     by_level : (L : List Step) (e : Repetition) → e ≡ r → ((j : ℕ) → shape_numbers s j L ≡ shape_numbers s j p) → numbers_in (field m r s fs) k (up_to (step 0 e) L) ≡ own_number r k (λ j. shape_numbers s j p)
     by_level [] e z x = by_end e z x
     by_level (t ∷ L) e z x = by_own r (t ∷ L) x
-through_level m r s fs e p f g (suc j) k h = by_level (level p) e (g j (k + (repetition_count r + shape_repeated_fields s)) h)
+through_level m r s fs e p f g (suc j) k h = by_level (chain_end p) e (g j (k + (repetition_count r + shape_repeated_fields s)) h)
   where
     by_end : (e : Repetition) (N : List ℕ) → numbers_in fs (k + (repetition_count r + shape_repeated_fields s)) (up_to (step j e) []) ≡ N → numbers_in (field m r s fs) k (up_to (step (suc j) e) []) ≡ N
     by_end required N x = sym (no_numbers fs (k + (repetition_count r + shape_repeated_fields s))) ∙ x

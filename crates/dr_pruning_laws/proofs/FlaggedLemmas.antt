@@ -4,12 +4,13 @@ use Rattle.std.specs.Prelude.{if◌then◌else◌}
 use Rattle.std.proofs.lemmas.List.{map-append}
 use Rattle.std.proofs.Math.Seq.{drop-append_seam}
 use Rattle.dr_pruning_laws.specs.Leavings.{Leaving, tour_leavings}
-use Rattle.dr_pruning_laws.specs.FlaggedFlow.{branch_count, first_flag, flagged_flow, flags_of, FlowIsKept}
+use Rattle.dr_pruning_laws.specs.FlaggedFlow.{branch_count, flagged_flow, flags_of, FlowIsKept}
 use Rattle.dr_pruning_laws.proofs.LeavingsKept.{leavings_are_kept}
 use Rattle.dr_firing.specs.Context.{Context, with_value}
 use Rattle.dr_firing.specs.Tour.{Tour, over, saw, inside, after}
 use Rattle.dr_firing.specs.Condition.{Watch, some_true, rest_below, is_dropped}
 use Rattle.dr_firing.specs.Cutting.{flow}
+use Rattle.dr_meaning.specs.Lists.{first_answer}
 
 -- one flag for each branch
 flag_count : (w : Watch) (r : Option (List ℕ)) (c : Context) (T : Tour) → length (flags_of (tour_leavings w r c T)) ≡ branch_count T
@@ -47,7 +48,7 @@ module _ {A : Type 0} (seen : ℕ → Context → List A) (left : ℕ → Contex
       let n : length inner ≡ branch_count B = flag_count w q c B in
       ap₂ (λ (x y : List A). (if d then [] else left k (after c B) x) ++ y) (flow_flagged q c B (d ∷ (others ++ more))) (flow_flagged r (after c B) T more)
       ∙ ap₂ (λ (x : Bool) (y : List Bool). (if x then [] else left k (after c B) (flagged_flow seen left (inner ++ d ∷ (others ++ more)) c B)) ++ flagged_flow seen left y (after c B) T)
-      (sym (ap first_flag (drop_front (branch_count B) inner (d ∷ (others ++ more)) n))) (sym (drop_next (branch_count B) inner d (others ++ more) n))
+      (sym (ap first_answer (drop_front (branch_count B) inner (d ∷ (others ++ more)) n))) (sym (drop_next (branch_count B) inner d (others ++ more) n))
       ∙ ap (λ (x : List Bool). flagged_flow seen left x c (inside k B T)) (sym all)
 
 pub flow_is_kept : (A : Type 0) → FlowIsKept A

@@ -6,7 +6,7 @@ use Rattle.dr_meaning.specs.Schema.{Repetition, required, optional, repeated, Ki
 use Rattle.dr_meaning.specs.Path.{Step, is_leaf_path, is_shape_path, same_repetition, max_repetition}
 use Rattle.dr_meaning.specs.Record.{Node, no_slots, Instance, atom, inner}
 use Rattle.dr_meaning.specs.Column.{triplet}
-use Rattle.dr_meaning.specs.Automaton.{Pick, behind, beside}
+use Rattle.dr_meaning.specs.Automaton.{Pick, first_picks, later_picks}
 use Rattle.dr_meaning.specs.Walk.{Depth, inside, first_of, first_slot, other_slots, value_there, near_moves, shape_near_moves}
 use Rattle.dr_meaning.proofs.ProjectionLemmas.{step}
 use Rattle.dr_meaning.proofs.Blocks.{same_repetition-true}
@@ -54,32 +54,32 @@ near_ends j k q p repeated h f G ok oj uk uj t zk zj at n x v = absurd (omega (a
 
 through_end : (j k : ℕ) (m : List ℕ) (r : Repetition) (h : Shape) (fs : Fields) (q p : List Step) (c e : Repetition) → ShapeEnds j k q p h → FieldsEnd j k q p c e fs → FieldsEnd j k q p c e (field m r h fs)
 through_end j k m r h fs q p c e f g zero zero G ok oj uk uj (inl x) zk zj at n z v =
-    let A = near_in r h (behind G) at n in
-    let B = near_moves fs (beside G) at (other_slots n) in
+    let A = near_in r h (first_picks G) at n in
+    let B = near_moves fs (later_picks G) at (other_slots n) in
     let sk : (same_repetition c r ≡ true) × (is_shape_path h q ≡ true) = and_parts _ _ uk in
     let sj : (same_repetition e r ≡ true) × (is_shape_path h p ≡ true) = and_parts _ _ uj in
     let s : FirstSlot r h fs n = first_of_node m r h fs n z in
     let zq : max_repetition q ≡ 0 = omega (arith, zk) in
-    after_append j k v A B ∙ untouched j k (fresh_after j k v A) B (near_nothing j fs (beside G) at (other_slots n) (beside_first j e p G oj)) (near_nothing k fs (beside G) at (other_slots n) (beside_first k c q G ok))
-    ∙ near_ends j k q p r h f (behind G) (only_behind k c q G ok) (only_behind j e p G oj) sk.1 sj.1 x.1 zq
+    after_append j k v A B ∙ untouched j k (fresh_after j k v A) B (near_nothing j fs (later_picks G) at (other_slots n) (beside_first j e p G oj)) (near_nothing k fs (later_picks G) at (other_slots n) (beside_first k c q G ok))
+    ∙ near_ends j k q p r h f (first_picks G) (only_behind k c q G ok) (only_behind j e p G oj) sk.1 sj.1 x.1 zq
     (subst (λ (y : Repetition). repetition_count y + max_repetition p ≡ 0) (same_repetition-true e r sj.0) zj) at n (first_there h (first_slot n) s.1) v
 through_end j k m r h fs q p c e f g zero zero G ok oj uk uj (inr x) zk zj at n z v = absurd (true≢false (sym (eq-eqb 0 0 refl) ∙ x.0))
 through_end j k m r h fs q p c e f g zero (suc b) G ok oj uk uj x zk zj at n z v =
-    let A = near_in r h (behind G) at n in
-    let B = near_moves fs (beside G) at (other_slots n) in
+    let A = near_in r h (first_picks G) at n in
+    let B = near_moves fs (later_picks G) at (other_slots n) in
     let s : FirstSlot r h fs n = first_of_node m r h fs n z in
-    let w = fields_once j fs e p zj b (beside G) (only_beside j b e p G oj) uj at (other_slots n) s.3 in
-    after_append j k v A B ∙ ends_fresh j k (fresh_after j k v A) B w.given w.once (inr (near_nothing k fs (beside G) at (other_slots n) (beside_first k c q G ok)))
+    let w = fields_once j fs e p zj b (later_picks G) (only_beside j b e p G oj) uj at (other_slots n) s.3 in
+    after_append j k v A B ∙ ends_fresh j k (fresh_after j k v A) B w.given w.once (inr (near_nothing k fs (later_picks G) at (other_slots n) (beside_first k c q G ok)))
 through_end j k m r h fs q p c e f g (suc a) zero G ok oj uk uj x zk zj at n z v = absurd (never (other_place (k ≡ j) q p (step (suc a) c) (step 0 e) (λ y. omega (arith, y)) x).2)
   where
     never : (0 < max_repetition (step 0 e ∷ p)) ⊎ ((suc a < 0) × (max_repetition (step 0 e ∷ p) ≡ 0)) → ⊥
     never (inl y) = omega (arith, y, zj)
     never (inr y) = omega (arith, y.0)
 through_end j k m r h fs q p c e f g (suc a) (suc b) G ok oj uk uj x zk zj at n z v =
-    let A = near_in r h (behind G) at n in
-    let B = near_moves fs (beside G) at (other_slots n) in
+    let A = near_in r h (first_picks G) at n in
+    let B = near_moves fs (later_picks G) at (other_slots n) in
     let s : FirstSlot r h fs n = first_of_node m r h fs n z in
-    after_append j k v A B ∙ g a b (beside G) (only_beside k a c q G ok) (only_beside j b e p G oj) uk uj (before_below (k ≡ j) q p a b c e x) zk zj at (other_slots n) s.3 (fresh_after j k v A)
+    after_append j k v A B ∙ g a b (later_picks G) (only_beside k a c q G ok) (only_beside j b e p G oj) uk uj (before_below (k ≡ j) q p a b c e x) zk zj at (other_slots n) s.3 (fresh_after j k v A)
 
 leaf_ends : (j k : ℕ) → k ≡ j → (w : Kind) → ShapeEnds j k [] [] (leaf w)
 leaf_ends j k e w G ok oj uk uj t zk zj at x z v = ends_fresh j k v (shape_near_moves (leaf w) G at x) (triplet at.repetition at.definition (value_there x)) (leaf_only j [] G (triplet at.repetition at.definition (value_there x)) oj) (inl e)

@@ -6,7 +6,7 @@ use Rattle.dr_meaning.specs.Schema.{Repetition, required, optional, repeated, Fi
 use Rattle.dr_meaning.specs.Path.{Step, is_leaf_path, is_shape_path, same_repetition, max_repetition}
 use Rattle.dr_meaning.specs.Record.{Node, no_slots, Instances, no_instances, instance, Instance, atom, inner, all_instances, is_record, is_instance}
 use Rattle.dr_meaning.specs.Column.{Triplet}
-use Rattle.dr_meaning.specs.Automaton.{Pick, picks, behind, beside}
+use Rattle.dr_meaning.specs.Automaton.{Pick, picks, first_picks, later_picks}
 use Rattle.dr_meaning.specs.Walk.{Move, enter, value, leave, Depth, inside, begun_later, first_of, first_slot, other_slots, unless_repeated, enclosed, later_moves, repeated_moves, by_repetition, where_selected, moves_in, near_moves, far_moves, shape_near_moves, shape_far_moves, top, record_moves, walk}
 use Rattle.dr_meaning.specs.WalkLaws.{triplets_of}
 use Rattle.dr_meaning.proofs.ProjectionLemmas.{step}
@@ -95,36 +95,36 @@ field_fresh i j k p repeated h (g ∷ G) o f l at (instance x xs) a v =
 
 module _ (m : List ℕ) (r : Repetition) (h : Shape) (fs : Fields) (G : List Pick) (l : ℕ) (at : Depth) (n : Node) where
   abbrev near_first : List Move
-  near_first = near_in r h (behind G) at n
+  near_first = near_in r h (first_picks G) at n
 
   abbrev near_others : List Move
-  near_others = near_moves fs (beside G) at (other_slots n)
+  near_others = near_moves fs (later_picks G) at (other_slots n)
 
   abbrev far_first : List Move
-  far_first = far_in r h (behind G) l at n
+  far_first = far_in r h (first_picks G) l at n
 
   abbrev far_others : List Move
-  far_others = far_moves fs (beside G) (l + (repetition_count r + shape_repeated_fields h)) at (other_slots n)
+  far_others = far_moves fs (later_picks G) (l + (repetition_count r + shape_repeated_fields h)) at (other_slots n)
 
   near_quiet : (x b : ℕ) (c : Repetition) (s : List Step) → Only x (step (suc b) c ∷ s) G → triplets_of x near_first ≡ []
-  near_quiet x b c s o = unless_nothing x r (shape_near_moves h (behind G) (inside r at (first_of (first_slot n))) (first_of (first_slot n)))
-      (shape_near_nothing x h (behind G) (inside r at (first_of (first_slot n))) (first_of (first_slot n)) (behind_later x b c s G o))
+  near_quiet x b c s o = unless_nothing x r (shape_near_moves h (first_picks G) (inside r at (first_of (first_slot n))) (first_of (first_slot n)))
+      (shape_near_nothing x h (first_picks G) (inside r at (first_of (first_slot n))) (first_of (first_slot n)) (behind_later x b c s G o))
 
   far_quiet : (x b : ℕ) (c : Repetition) (s : List Step) → Only x (step (suc b) c ∷ s) G → triplets_of x far_first ≡ []
-  far_quiet x b c s o = far_in_nothing x r h (behind G) l at n (λ d y. shape_near_nothing x h (behind G) d y (behind_later x b c s G o)) (λ e d y. shape_far_nothing x h (behind G) e d y (behind_later x b c s G o))
+  far_quiet x b c s o = far_in_nothing x r h (first_picks G) l at n (λ d y. shape_near_nothing x h (first_picks G) d y (behind_later x b c s G o)) (λ e d y. shape_far_nothing x h (first_picks G) e d y (behind_later x b c s G o))
 
   others_quiet : (x : ℕ) (c : Repetition) (s : List Step) → Only x (step 0 c ∷ s) G → (triplets_of x near_others ≡ []) × (triplets_of x far_others ≡ [])
-  others_quiet x c s o = (near_nothing x fs (beside G) at (other_slots n) (beside_first x c s G o), far_nothing x fs (beside G) (l + (repetition_count r + shape_repeated_fields h)) at (other_slots n) (beside_first x c s G o))
+  others_quiet x c s o = (near_nothing x fs (later_picks G) at (other_slots n) (beside_first x c s G o), far_nothing x fs (later_picks G) (l + (repetition_count r + shape_repeated_fields h)) at (other_slots n) (beside_first x c s G o))
 
   module _ (i j k : ℕ) (q s p : List Step) (ck cj ci : Repetition) (z : IsNode (field m r h fs) n) where
     -- all three go through the first field
     all_first : Only k (step 0 ck ∷ q) G → Only j (step 0 cj ∷ s) G → Only i (step 0 ci ∷ p) G
-        → ((l : ℕ) (at : Depth) (x : Option Instance) → IsThere h x → (v : Bool) → Fresh i j k v (moves_in (shape_near_moves h (behind G)) (shape_far_moves h (behind G) l) at x))
+        → ((l : ℕ) (at : Depth) (x : Option Instance) → IsThere h x → (v : Bool) → Fresh i j k v (moves_in (shape_near_moves h (first_picks G)) (shape_far_moves h (first_picks G) l) at x))
         → (v : Bool) → Fresh i j k v ((near_first ++ near_others) ++ (far_first ++ far_others))
     all_first ok oj oi f v =
         let w : FirstSlot r h fs n = first_of_node m r h fs n z in
         first_fresh i j k v near_first near_others far_first far_others (others_quiet i ci p oi).0 (others_quiet j cj s oj).0 (others_quiet k ck q ok).0 (others_quiet i ci p oi).1
-        (field_fresh i j k p r h (behind G) (only_behind i ci p G oi) f l at (first_slot n) w.1 v)
+        (field_fresh i j k p r h (first_picks G) (only_behind i ci p G oi) f l at (first_slot n) w.1 v)
 
     -- the last goes through a later one, the others are leaves of the level
     last_later : (d : ℕ) → Only k (step 0 ck ∷ q) G → Only j (step 0 cj ∷ s) G → Only i (step (suc d) ci ∷ p) G → is_leaf_path (field m r h fs) (step 0 ck ∷ q) ≡ true → is_leaf_path (field m r h fs) (step 0 cj ∷ s) ≡ true
@@ -135,7 +135,7 @@ module _ (m : List ℕ) (r : Repetition) (h : Shape) (fs : Fields) (G : List Pic
         let sj : (same_repetition cj r ≡ true) × (is_shape_path h s ≡ true) = and_parts _ _ uj in
         let zq : max_repetition q ≡ 0 = omega (arith, zk) in
         let zs : repetition_count r + max_repetition s ≡ 0 = subst (λ (y : Repetition). repetition_count y + max_repetition s ≡ 0) (same_repetition-true cj r sj.0) zj in
-        let e : fresh_after j k v near_first ≡ true = near_ends j k q s r h (shape_ends j k h q s) (behind G) (only_behind k ck q G ok) (only_behind j cj s G oj) sk.1 sj.1 t zq zs at n (first_there h (first_slot n) w.1) v in
+        let e : fresh_after j k v near_first ≡ true = near_ends j k q s r h (shape_ends j k h q s) (first_picks G) (only_behind k ck q G ok) (only_behind j cj s G oj) sk.1 sj.1 t zq zs at n (first_there h (first_slot n) w.1) v in
         let x : triplets_of k (near_others ++ (far_first ++ far_others)) ≡ [] = of_append k near_others (far_first ++ far_others) ∙ ap₂ (λ (a b : List Triplet). a ++ b) (others_quiet k ck q ok).0 (fields_far_silent k (field m r h fs) ck q zk 0 G ok uk l at n) in
         subst (Fresh i j k v) (sym (append_assoc near_first near_others (far_first ++ far_others)))
         (fresh_append i j k v near_first (near_others ++ (far_first ++ far_others)) (quiet_fresh i j k v near_first (near_quiet i d ci p oi))
@@ -156,14 +156,14 @@ module _ (m : List ℕ) (r : Repetition) (h : Shape) (fs : Fields) (G : List Pic
     -- the first is a leaf of the level in a later field, the others are below a repeated field
     first_later : (a : ℕ) → Only k (step (suc a) ck ∷ q) G → Only j (step 0 cj ∷ s) G → Only i (step 0 ci ∷ p) G → is_leaf_path (field m r h fs) (step (suc a) ck ∷ q) ≡ true → is_leaf_path (field m r h fs) (step 0 cj ∷ s) ≡ true
         → is_leaf_path (field m r h fs) (step 0 ci ∷ p) ≡ true → max_repetition (step (suc a) ck ∷ q) ≡ 0 → 0 < max_repetition (step 0 cj ∷ s) → 0 < max_repetition (step 0 ci ∷ p)
-        → ((l : ℕ) (at : Depth) (x : Option Instance) → IsThere h x → (v : Bool) → Fresh i j j v (moves_in (shape_near_moves h (behind G)) (shape_far_moves h (behind G) l) at x))
+        → ((l : ℕ) (at : Depth) (x : Option Instance) → IsThere h x → (v : Bool) → Fresh i j j v (moves_in (shape_near_moves h (first_picks G)) (shape_far_moves h (first_picks G) l) at x))
         → (v : Bool) → Fresh i j k v ((near_first ++ near_others) ++ (far_first ++ far_others))
     first_later a ok oj oi uk uj ui zk zj zi f v =
         let w : FirstSlot r h fs n = first_of_node m r h fs n z in
         let y = fresh_after j k v (near_first ++ near_others) in
         let jn : triplets_of j near_first ≡ [] = (both_silent j near_first near_others (fields_near_silent j (field m r h fs) cj s zj 0 G oj uj at n)).0 in
         let c : Fresh i j j y far_first = subst (λ (x : Bool). Fresh i j j x far_first) (untouched j j y near_first jn jn)
-        (fresh_rest i j j y near_first far_first (field_fresh i j j p r h (behind G) (only_behind i ci p G oi) f l at (first_slot n) w.1 y)) in
+        (fresh_rest i j j y near_first far_first (field_fresh i j j p r h (first_picks G) (only_behind i ci p G oi) f l at (first_slot n) w.1 y)) in
         fresh_append i j k v (near_first ++ near_others) (far_first ++ far_others) (quiet_fresh i j k v (near_first ++ near_others) (fields_near_silent i (field m r h fs) ci p zi 0 G oi ui at n))
         (fresh_append i j k y far_first far_others (own_fresh i j k y far_first (far_quiet k a ck q ok) c) (quiet_fresh i j k (fresh_after j k y far_first) far_others (others_quiet i ci p oi).1))
 
@@ -180,7 +180,7 @@ through_fresh : (i j : ℕ) (m : List ℕ) (r : Repetition) (h : Shape) (fs : Fi
     → (k : ℕ) (q : List Step) (ck : Repetition) → FieldsFresh i j k q s p ck cj ci (field m r h fs)
 through_fresh i j m r h fs s p cj ci f g k q ck zero zero zero G ok oj oi uk uj ui (inl x) (inl y) (inl t) l at n z v =
     all_first m r h fs G l at n i j k q s p ck cj ci z ok oj oi
-    (λ l at u b v. f k q (behind G) (only_behind k ck q G ok) (only_behind j cj s G oj) (only_behind i ci p G oi) (and_parts _ _ uk).1 (and_parts _ _ uj).1 (and_parts _ _ ui).1 x.1 y.1 t.1 l at u b v) v
+    (λ l at u b v. f k q (first_picks G) (only_behind k ck q G ok) (only_behind j cj s G oj) (only_behind i ci p G oi) (and_parts _ _ uk).1 (and_parts _ _ uj).1 (and_parts _ _ ui).1 x.1 y.1 t.1 l at u b v) v
 through_fresh i j m r h fs s p cj ci f g k q ck zero zero zero G ok oj oi uk uj ui (inr x) y t l at n z v = absurd (true≢false (sym (eq-eqb 0 0 refl) ∙ x.0))
 through_fresh i j m r h fs s p cj ci f g k q ck zero zero zero G ok oj oi uk uj ui (inl x) (inr y) t l at n z v = absurd (true≢false (sym (eq-eqb 0 0 refl) ∙ y.0))
 through_fresh i j m r h fs s p cj ci f g k q ck zero zero zero G ok oj oi uk uj ui (inl x) (inl y) (inr t) l at n z v = absurd (true≢false (sym (eq-eqb 0 0 refl) ∙ t.0))
@@ -197,13 +197,13 @@ through_fresh i j m r h fs s p cj ci f g k q ck zero (suc b) (suc d) G ok oj oi 
     let kj = other_place (k ≡ j) q s (step 0 ck) (step (suc b) cj) (λ e. omega (arith, e)) x in
     let near : (triplets_of k (far_first m r h fs G l at n) ≡ []) × (triplets_of k (near_others m r h fs G l at n ++ far_others m r h fs G l at n) ≡ []) = first_near m r h fs G l at n i j k q s p ck cj ci z ok uk kj.1 in
     two_later m r h fs G l at n i j k q s p ck cj ci z b d oj oi near.0
-    (λ v. own_fresh i j k v (near_others m r h fs G l at n ++ far_others m r h fs G l at n) near.1 (g j s cj b b d (beside G) (only_beside j b cj s G oj) (only_beside j b cj s G oj) (only_beside i d ci p G oi) uj uj ui
+    (λ v. own_fresh i j k v (near_others m r h fs G l at n ++ far_others m r h fs G l at n) near.1 (g j s cj b b d (later_picks G) (only_beside j b cj s G oj) (only_beside j b cj s G oj) (only_beside i d ci p G oi) uj uj ui
     (inl (refl, with_itself (j ≡ j) (Unit {0}) refl s)) (before_below (j ≡ i) s p b d cj ci y) (before_below (j ≡ i) s p b d cj ci y) (l + (repetition_count r + shape_repeated_fields h)) at (other_slots n) w.3 v)) v
 through_fresh i j m r h fs s p cj ci f g k q ck (suc a) zero zero G ok oj oi uk uj ui x (inl y) t l at n z v =
     let kj = other_place (k ≡ j) q s (step (suc a) ck) (step 0 cj) (λ e. omega (arith, e)) x in
     let ki = other_place (k ≡ i) q p (step (suc a) ck) (step 0 ci) (λ e. omega (arith, e)) t in
     first_later m r h fs G l at n i j k q s p ck cj ci z a ok oj oi uk uj ui kj.1 (far_of q s a 0 ck cj kj) (far_of q p a 0 ck ci ki)
-    (λ l at u b v. f j s (behind G) (only_behind j cj s G oj) (only_behind j cj s G oj) (only_behind i ci p G oi) (and_parts _ _ uj).1 (and_parts _ _ uj).1 (and_parts _ _ ui).1 (with_itself (j ≡ j) (Unit {0}) refl s) y.1 y.1 l at u b v) v
+    (λ l at u b v. f j s (first_picks G) (only_behind j cj s G oj) (only_behind j cj s G oj) (only_behind i ci p G oi) (and_parts _ _ uj).1 (and_parts _ _ uj).1 (and_parts _ _ ui).1 (with_itself (j ≡ j) (Unit {0}) refl s) y.1 y.1 l at u b v) v
 through_fresh i j m r h fs s p cj ci f g k q ck (suc a) zero zero G ok oj oi uk uj ui x (inr y) t l at n z v = absurd (true≢false (sym (eq-eqb 0 0 refl) ∙ y.0))
 through_fresh i j m r h fs s p cj ci f g k q ck (suc a) zero (suc d) G ok oj oi uk uj ui x y t l at n z v =
     let kj = other_place (k ≡ j) q s (step (suc a) ck) (step 0 cj) (λ e. omega (arith, e)) x in
@@ -217,7 +217,7 @@ through_fresh i j m r h fs s p cj ci f g k q ck (suc a) (suc b) zero G ok oj oi 
 through_fresh i j m r h fs s p cj ci f g k q ck (suc a) (suc b) (suc d) G ok oj oi uk uj ui x y t l at n z v =
     let w : FirstSlot r h fs n = first_of_node m r h fs n z in
     two_later m r h fs G l at n i j k q s p ck cj ci z b d oj oi (far_quiet m r h fs G l at n k a ck q ok)
-    (λ v. g k q ck a b d (beside G) (only_beside k a ck q G ok) (only_beside j b cj s G oj) (only_beside i d ci p G oi) uk uj ui (before_below (k ≡ j) q s a b ck cj x) (before_below (j ≡ i) s p b d cj ci y) (before_below (k ≡ i) q p a d ck ci t)
+    (λ v. g k q ck a b d (later_picks G) (only_beside k a ck q G ok) (only_beside j b cj s G oj) (only_beside i d ci p G oi) uk uj ui (before_below (k ≡ j) q s a b ck cj x) (before_below (j ≡ i) s p b d cj ci y) (before_below (k ≡ i) q p a d ck ci t)
     (l + (repetition_count r + shape_repeated_fields h)) at (other_slots n) w.3 v) v
 
 leaf_same : (E : Type 0) → Together E (Unit {0}) [] [] → E

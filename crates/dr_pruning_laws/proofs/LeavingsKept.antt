@@ -4,7 +4,7 @@ use Rattle.std.specs.Prelude.{map, not, is_some, option_map}
 use Rattle.std.specs.List.{list_all, flat_map, slice_get}
 use Rattle.std.proofs.lemmas.Bool.{and_parts}
 use Rattle.dr_meaning.specs.Schema.{Fields, group}
-use Rattle.dr_meaning.specs.Path.{Step, level, is_leaf_path}
+use Rattle.dr_meaning.specs.Path.{Step, chain_end, is_leaf_path}
 use Rattle.dr_meaning.specs.Record.{Node, Instances, inner, is_record}
 use Rattle.dr_meaning.specs.Rows.{rows}
 use Rattle.dr_meaning.specs.Kept.{kept_along}
@@ -45,11 +45,11 @@ unfolding node_in
 node_answers L condition n = inner_answers L node_in condition n
 
 record_told : (fs : Fields) (F : List (List Step)) (w : Watch) (p : List Step) (condition : Node → Bool) → is_leaf_path fs p ≡ true → slice_get F w.last ≡ Some p → (n : Node) → is_record fs n ≡ true
-    → Told w (Some (0 ∷ chain_numbers fs p)) (record_moves fs F n) (instance_answers (level p) node_in condition (inner n))
-    (instance_leavings (group fs) (picks F) 1 (on (level p) node_in condition) (Some (inner n)) ++ record { number = 0; dropped = is_left_out (on (level p) node_in condition) (inner n) } ∷ [])
+    → Told w (Some (0 ∷ chain_numbers fs p)) (record_moves fs F n) (instance_answers (chain_end p) node_in condition (inner n))
+    (instance_leavings (group fs) (picks F) 1 (on (chain_end p) node_in condition) (Some (inner n)) ++ record { number = 0; dropped = is_left_out (on (chain_end p) node_in condition) (inner n) } ∷ [])
 record_told fs F w p condition u e n v =
     let o : Only w.last p (picks F) = selected_only F w.last p e in
-    enclosed_told w 0 (chain_numbers fs p) (near_moves fs (picks F) top n ++ far_moves fs (picks F) 1 top n) (level p) node_in condition (inner n) _
+    enclosed_told w 0 (chain_numbers fs p) (near_moves fs (picks F) top n ++ far_moves fs (picks F) 1 top n) (chain_end p) node_in condition (inner n) _
     (once_at_end w.last (group fs) p (picks F) o u 1 top (inner n) v) (instance_told w (group fs) p (shape_told w (group fs) p) (picks F) o u 1 top (inner n) v node_in condition)
 
 -- moves that tell this in any context
@@ -61,7 +61,7 @@ record Always (w : Watch) (r : Option (List ℕ)) (ms : List Move) (ls : List Le
   pub only : OnlyOn w.last r tour
 
 module _ (fs : Fields) (F : List (List Step)) (w : Watch) (p : List Step) (K : List ℕ) (condition : Node → Bool) (s : StandsFor fs F w p K condition) where
-  one_record : (n : Node) → is_record fs n ≡ true → Always w (Some (0 ∷ w.chain)) (record_moves fs F n) (record_leavings fs F (level p) condition n)
+  one_record : (n : Node) → is_record fs n ≡ true → Always w (Some (0 ∷ w.chain)) (record_moves fs F n) (record_leavings fs F (chain_end p) condition n)
   unfolding node_in
   one_record n v =
       let t = record_told fs F w p condition (leaf_selected fs F w.last p s.leaves s.last) s.last n v in
@@ -69,14 +69,14 @@ module _ (fs : Fields) (F : List (List Step)) (w : Watch) (p : List Step) (K : L
         tour = t.tour;
         moves = t.moves;
         told = λ c.
-            let h : answers w c (record_moves fs F n) ≡ instance_answers (level p) node_in condition (inner n) = rows_fire Bool fs F w.last p K n c w.test condition s.leaves s.last v s.together s.decides ∙ sym (node_answers (level p) condition n) in
+            let h : answers w c (record_moves fs F n) ≡ instance_answers (chain_end p) node_in condition (inner n) = rows_fire Bool fs F w.last p K n c w.test condition s.leaves s.last v s.together s.decides ∙ sym (node_answers (chain_end p) condition n) in
             ap (λ (N : List ℕ). tour_leavings w (Some (0 ∷ N)) c t.tour) s.chain ∙ t.told c h
-            ∙ ap (λ (b : Bool). instance_leavings (group fs) (picks F) 1 (on (level p) node_in condition) (Some (inner n)) ++ record { number = 0; dropped = b } ∷ []) (left_out_record (level p) condition n);
+            ∙ ap (λ (b : Bool). instance_leavings (group fs) (picks F) 1 (on (chain_end p) node_in condition) (Some (inner n)) ++ record { number = 0; dropped = b } ∷ []) (left_out_record (chain_end p) condition n);
         once = subst (λ (N : List ℕ). IsOnce w.last (Some (0 ∷ N)) t.tour) (sym s.chain) t.once;
         only = subst (λ (N : List ℕ). OnlyOn w.last (Some (0 ∷ N)) t.tour) (sym s.chain) t.only;
       }
 
-  all_records : (R : List Node) → list_all (is_record fs) R ≡ true → Always w (Some (0 ∷ w.chain)) (walk fs F R) (flat_map (record_leavings fs F (level p) condition) R)
+  all_records : (R : List Node) → list_all (is_record fs) R ≡ true → Always w (Some (0 ∷ w.chain)) (walk fs F R) (flat_map (record_leavings fs F (chain_end p) condition) R)
   unfolding walk
   all_records [] v = record { tour = over; moves = refl; told = λ c. refl; once = tt; only = tt }
   all_records (n ∷ R) v =

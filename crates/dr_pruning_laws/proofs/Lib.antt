@@ -28,4 +28,4 @@ pub mod PartTelling
 pub mod ConstantLemmas
 pub mod ReadingTogether
 pub mod FlaggedLemmas
-pub mod LongestLevel
+pub mod LongestChain

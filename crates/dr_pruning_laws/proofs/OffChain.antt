@@ -3,7 +3,7 @@ use Rattle.std.proofs.Common.{◌≡◌, ℕ, suc, ◌+◌, ◌<◌, ◌≤◌, 
 use Rattle.dr_meaning.specs.Schema.{Repetition, required, optional, repeated, Fields, no_fields, field, Shape, leaf, group, repetition_count, repeated_fields, shape_repeated_fields}
 use Rattle.dr_meaning.specs.Record.{Node, no_slots, Instances, no_instances, instance, Instance}
 use Rattle.dr_meaning.specs.Column.{Triplet, triplet}
-use Rattle.dr_meaning.specs.Automaton.{Pick, behind, beside, indexes}
+use Rattle.dr_meaning.specs.Automaton.{Pick, first_picks, later_picks, indexes}
 use Rattle.dr_meaning.specs.Walk.{Move, enter, value, leave, Depth, inside, begun_later, first_of, first_slot, other_slots, node_of, value_there, triplet_moves, unless_repeated, enclosed, later_moves, repeated_moves, moves_in, near_moves, far_moves, shape_near_moves, shape_far_moves}
 use Rattle.dr_meaning.proofs.WalkLemmas.{near_in, far_in}
 use Rattle.dr_pruning_laws.specs.Tours.{joined}
@@ -75,11 +75,11 @@ mutual
   pub no_node_leavings : (fs : Fields) (G : List Pick) (k : ℕ) (stand : ℕ → Standing) → node_leavings fs G k stand no_slots ≡ []
   no_node_leavings no_fields G k stand = refl
   no_node_leavings (field m r s fs) G k stand =
-      ap₂ (λ (x y : List Leaving). x ++ y) (by_repetition_of r (behind G) (no_leavings s (behind G) k (stand 0)))
-      (no_node_leavings fs (beside G) (k + (repetition_count r + shape_repeated_fields s)) (λ i. stand (suc i)))
+      ap₂ (λ (x y : List Leaving). x ++ y) (by_repetition_of r (first_picks G) (no_leavings s (first_picks G) k (stand 0)))
+      (no_node_leavings fs (later_picks G) (k + (repetition_count r + shape_repeated_fields s)) (λ i. stand (suc i)))
     where
-      by_repetition_of : (r : Repetition) (B : List Pick) → instance_leavings s (behind G) k (stand 0) None ≡ []
-          → if_selected B (field_leavings r (own_leaving k (stand 0) (instance_leavings s (behind G) (suc k) (stand 0))) (instance_leavings s (behind G) k (stand 0)) no_instances) ≡ []
+      by_repetition_of : (r : Repetition) (B : List Pick) → instance_leavings s (first_picks G) k (stand 0) None ≡ []
+          → if_selected B (field_leavings r (own_leaving k (stand 0) (instance_leavings s (first_picks G) (suc k) (stand 0))) (instance_leavings s (first_picks G) k (stand 0)) no_instances) ≡ []
       by_repetition_of r [] e = refl
       by_repetition_of required (g ∷ B) e = e
       by_repetition_of optional (g ∷ B) e = e
@@ -101,9 +101,9 @@ mutual
   pub near_off : (low high : ℕ) (fs : Fields) (G : List Pick) (at : Depth) (n : Node) → Off low high (near_moves fs G at n) []
   near_off low high no_fields G at n = nothing_off low high
   near_off low high (field m r s fs) G at n =
-      append_off low high (near_in r s (behind G) at n) (near_moves fs (beside G) at (other_slots n)) [] []
-      (by_repetition_of r (shape_near_moves s (behind G) (inside r at (first_of (first_slot n))) (first_of (first_slot n))) (shape_near_off low high s (behind G) (inside r at (first_of (first_slot n))) (first_of (first_slot n))))
-      (near_off low high fs (beside G) at (other_slots n))
+      append_off low high (near_in r s (first_picks G) at n) (near_moves fs (later_picks G) at (other_slots n)) [] []
+      (by_repetition_of r (shape_near_moves s (first_picks G) (inside r at (first_of (first_slot n))) (first_of (first_slot n))) (shape_near_off low high s (first_picks G) (inside r at (first_of (first_slot n))) (first_of (first_slot n))))
+      (near_off low high fs (later_picks G) at (other_slots n))
     where
       by_repetition_of : (r : Repetition) (ms : List Move) → Off low high ms [] → Off low high (unless_repeated r ms) []
       by_repetition_of required ms x = x
@@ -157,11 +157,11 @@ mutual
   far_off no_fields G k at n = nothing_off k (k + 0)
   far_off (field m r s fs) G k at n =
       let j = k + (repetition_count r + shape_repeated_fields s) in
-      append_off k (k + (repetition_count r + shape_repeated_fields s + repeated_fields fs)) (far_in r s (behind G) k at n) (far_moves fs (beside G) j at (other_slots n))
-      (if_selected (behind G) (field_leavings r (own_leaving k off (instance_leavings s (behind G) (suc k) off)) (instance_leavings s (behind G) k off) (first_slot n)))
-      (node_leavings fs (beside G) j (λ i. off) (other_slots n))
-      (wider_off k j k (k + (repetition_count r + shape_repeated_fields s + repeated_fields fs)) (omega arith) (omega arith) (far_in r s (behind G) k at n) _ (field_off r s (behind G) (λ k at x. shape_far_off s (behind G) k at x) k at n))
-      (wider_off j (j + repeated_fields fs) k (k + (repetition_count r + shape_repeated_fields s + repeated_fields fs)) (omega arith) (omega arith) (far_moves fs (beside G) j at (other_slots n)) _ (far_off fs (beside G) j at (other_slots n)))
+      append_off k (k + (repetition_count r + shape_repeated_fields s + repeated_fields fs)) (far_in r s (first_picks G) k at n) (far_moves fs (later_picks G) j at (other_slots n))
+      (if_selected (first_picks G) (field_leavings r (own_leaving k off (instance_leavings s (first_picks G) (suc k) off)) (instance_leavings s (first_picks G) k off) (first_slot n)))
+      (node_leavings fs (later_picks G) j (λ i. off) (other_slots n))
+      (wider_off k j k (k + (repetition_count r + shape_repeated_fields s + repeated_fields fs)) (omega arith) (omega arith) (far_in r s (first_picks G) k at n) _ (field_off r s (first_picks G) (λ k at x. shape_far_off s (first_picks G) k at x) k at n))
+      (wider_off j (j + repeated_fields fs) k (k + (repetition_count r + shape_repeated_fields s + repeated_fields fs)) (omega arith) (omega arith) (far_moves fs (later_picks G) j at (other_slots n)) _ (far_off fs (later_picks G) j at (other_slots n)))
 
   pub shape_far_off : (s : Shape) (G : List Pick) → FarOff s G
   shape_far_off (leaf j) G k at x = nothing_off k (k + 0)

@@ -5,7 +5,7 @@ use Rattle.std.specs.List.{slice_get}
 use Rattle.std.proofs.lemmas.Bool.{and_parts, eq-eqb, ne_eqb, eqb-true}
 use Rattle.dr_meaning.specs.Schema.{Repetition, required, optional, repeated, Fields, no_fields, field, Shape, leaf, group, repetition_count, is_repeated}
 use Rattle.dr_meaning.specs.Path.{Step, chain, same_path, begins_with, is_leaf_path, is_shape_path, same_repetition, max_repetition}
-use Rattle.dr_meaning.specs.Automaton.{Pick, picks, behind, beside, indexes, unless_repeated, where_repeated, near_order, far_order, shape_near_order, shape_far_order, reading_order, counting}
+use Rattle.dr_meaning.specs.Automaton.{Pick, picks, first_picks, later_picks, indexes, unless_repeated, where_repeated, near_order, far_order, shape_near_order, shape_far_order, reading_order, counting}
 use Rattle.dr_meaning.specs.OrderLaws.{times}
 use Rattle.dr_meaning.specs.Walk.{is_chain_front}
 use Rattle.dr_meaning.proofs.ProjectionLemmas.{step}
@@ -188,11 +188,11 @@ through_near : (i : ℕ) (m : List ℕ) (r : Repetition) (s : Shape) (fs : Field
 through_near i m r s fs p e f g zero G o u z =
     let w : (same_repetition e r ≡ true) × (is_shape_path s p ≡ true) = and_parts _ _ u in
     let x : repetition_count r + max_repetition p ≡ 0 = subst (λ (y : Repetition). repetition_count y + max_repetition p ≡ 0) (same_repetition-true e r w.0) z in
-    let y : 0 < times i (unless_repeated r (shape_near_order s (behind G))) = near_here i p r s f (behind G) (only_behind i e p G o) w.1 x in
-    omega (arith, y, times_append i (unless_repeated r (shape_near_order s (behind G))) (near_order fs (beside G)))
+    let y : 0 < times i (unless_repeated r (shape_near_order s (first_picks G))) = near_here i p r s f (first_picks G) (only_behind i e p G o) w.1 x in
+    omega (arith, y, times_append i (unless_repeated r (shape_near_order s (first_picks G))) (near_order fs (later_picks G)))
 through_near i m r s fs p e f g (suc j) G o u z =
-    let y : 0 < times i (near_order fs (beside G)) = g j (beside G) (only_beside i j e p G o) u z in
-    omega (arith, y, times_append i (unless_repeated r (shape_near_order s (behind G))) (near_order fs (beside G)))
+    let y : 0 < times i (near_order fs (later_picks G)) = g j (later_picks G) (only_beside i j e p G o) u z in
+    omega (arith, y, times_append i (unless_repeated r (shape_near_order s (first_picks G))) (near_order fs (later_picks G)))
 
 mutual
   fields_near : (i : ℕ) (fs : Fields) (p : List Step) (e : Repetition) → FieldsNear i p e fs
@@ -237,36 +237,36 @@ suc_same a b = by_test (a == b) refl
     by_test false e = ne_eqb (suc a) (suc b) (λ q. true≢false (sym (eq-eqb a b (omega (arith, q))) ∙ e))
 
 -- both through the first field
-first_earlier : (k i : ℕ) (r : Repetition) (s : Shape) (fs : Fields) (G : List Pick) → Without k (beside G) → Without i (beside G)
-    → earlier k i ((unless_repeated r (shape_near_order s (behind G)) ++ near_order fs (beside G)) ++ ((where_repeated r (shape_near_order s (behind G)) ++ shape_far_order s (behind G)) ++ far_order fs (beside G))) ≡ true
-    → earlier k i (shape_near_order s (behind G) ++ shape_far_order s (behind G)) ≡ true
+first_earlier : (k i : ℕ) (r : Repetition) (s : Shape) (fs : Fields) (G : List Pick) → Without k (later_picks G) → Without i (later_picks G)
+    → earlier k i ((unless_repeated r (shape_near_order s (first_picks G)) ++ near_order fs (later_picks G)) ++ ((where_repeated r (shape_near_order s (first_picks G)) ++ shape_far_order s (first_picks G)) ++ far_order fs (later_picks G))) ≡ true
+    → earlier k i (shape_near_order s (first_picks G) ++ shape_far_order s (first_picks G)) ≡ true
 first_earlier k i r s fs G wk wi h =
-    let A = unless_repeated r (shape_near_order s (behind G)) in
-    let B = near_order fs (beside G) in
-    let C = where_repeated r (shape_near_order s (behind G)) ++ shape_far_order s (behind G) in
-    let D = far_order fs (beside G) in
-    let nk : (times k B ≡ 0) × (times k D ≡ 0) = both_none k B D (none_in_both k fs (beside G) wk) in
-    let ni : (times i B ≡ 0) × (times i D ≡ 0) = both_none i B D (none_in_both i fs (beside G) wi) in
+    let A = unless_repeated r (shape_near_order s (first_picks G)) in
+    let B = near_order fs (later_picks G) in
+    let C = where_repeated r (shape_near_order s (first_picks G)) ++ shape_far_order s (first_picks G) in
+    let D = far_order fs (later_picks G) in
+    let nk : (times k B ≡ 0) × (times k D ≡ 0) = both_none k B D (none_in_both k fs (later_picks G) wk) in
+    let ni : (times i B ≡ 0) × (times i D ≡ 0) = both_none i B D (none_in_both i fs (later_picks G) wi) in
     let x : earlier k i (A ++ (C ++ D)) ≡ true = sym (without_part k i A B (C ++ D) nk.0 ni.0) ∙ ap (earlier k i) (sym (append_assoc A B (C ++ D))) ∙ h in
     by_repetition_of r (front_earlier k i (A ++ C) D nk.1 (ap (earlier k i) (append_assoc A C D) ∙ x))
   where
-    by_repetition_of : (r : Repetition) → earlier k i (unless_repeated r (shape_near_order s (behind G)) ++ (where_repeated r (shape_near_order s (behind G)) ++ shape_far_order s (behind G))) ≡ true
-        → earlier k i (shape_near_order s (behind G) ++ shape_far_order s (behind G)) ≡ true
+    by_repetition_of : (r : Repetition) → earlier k i (unless_repeated r (shape_near_order s (first_picks G)) ++ (where_repeated r (shape_near_order s (first_picks G)) ++ shape_far_order s (first_picks G))) ≡ true
+        → earlier k i (shape_near_order s (first_picks G) ++ shape_far_order s (first_picks G)) ≡ true
     by_repetition_of required x = x
     by_repetition_of optional x = x
     by_repetition_of repeated x = x
 
 -- both through a later one
-later_earlier : (k i : ℕ) (r : Repetition) (s : Shape) (fs : Fields) (G : List Pick) → Without k (behind G) → Without i (behind G)
-    → earlier k i ((unless_repeated r (shape_near_order s (behind G)) ++ near_order fs (beside G)) ++ ((where_repeated r (shape_near_order s (behind G)) ++ shape_far_order s (behind G)) ++ far_order fs (beside G))) ≡ true
-    → earlier k i (near_order fs (beside G) ++ far_order fs (beside G)) ≡ true
+later_earlier : (k i : ℕ) (r : Repetition) (s : Shape) (fs : Fields) (G : List Pick) → Without k (first_picks G) → Without i (first_picks G)
+    → earlier k i ((unless_repeated r (shape_near_order s (first_picks G)) ++ near_order fs (later_picks G)) ++ ((where_repeated r (shape_near_order s (first_picks G)) ++ shape_far_order s (first_picks G)) ++ far_order fs (later_picks G))) ≡ true
+    → earlier k i (near_order fs (later_picks G) ++ far_order fs (later_picks G)) ≡ true
 later_earlier k i r s fs G wk wi h =
-    let A = unless_repeated r (shape_near_order s (behind G)) in
-    let B = near_order fs (beside G) in
-    let C = where_repeated r (shape_near_order s (behind G)) ++ shape_far_order s (behind G) in
-    let D = far_order fs (beside G) in
-    let nk : (times k A ≡ 0) × (times k C ≡ 0) = shape_none k r s (behind G) wk in
-    let ni : (times i A ≡ 0) × (times i C ≡ 0) = shape_none i r s (behind G) wi in
+    let A = unless_repeated r (shape_near_order s (first_picks G)) in
+    let B = near_order fs (later_picks G) in
+    let C = where_repeated r (shape_near_order s (first_picks G)) ++ shape_far_order s (first_picks G) in
+    let D = far_order fs (later_picks G) in
+    let nk : (times k A ≡ 0) × (times k C ≡ 0) = shape_none k r s (first_picks G) wk in
+    let ni : (times i A ≡ 0) × (times i C ≡ 0) = shape_none i r s (first_picks G) wi in
     sym (without_part k i B C D nk.1 ni.1) ∙ sym (without_part k i [] A (B ++ (C ++ D)) nk.0 ni.0) ∙ ap (earlier k i) (sym (append_assoc A B (C ++ D))) ∙ h
 
 through_together : (k i : ℕ) (m : List ℕ) (r : Repetition) (s : Shape) (fs : Fields) (q p : List Step) (c e : Repetition) → ShapeTogether k i q p s → FieldsTogether k i q p c e fs → FieldsTogether k i q p c e (field m r s fs)
@@ -277,7 +277,7 @@ through_together k i m r s fs q p c e f g zero zero G ok oi uk ui d h x =
     let front : is_chain_front (chain q) (chain p) ≡ true = below_chain (step 0 e) q p (subst (λ (y : Repetition). is_chain_front (chain (step 0 y ∷ q)) (chain (step 0 e ∷ p)) ≡ true) ce h) in
     inl (
       refl,
-      f (behind G) (only_behind k c q G ok) (only_behind i e p G oi) sk.1 si.1 (λ y. d (ap₂ (λ (a : Repetition) (b : List Step). step 0 a ∷ b) ce y)) front
+      f (first_picks G) (only_behind k c q G ok) (only_behind i e p G oi) sk.1 si.1 (λ y. d (ap₂ (λ (a : Repetition) (b : List Step). step 0 a ∷ b) ce y)) front
           (first_earlier k i r s fs G (beside_first k c q G ok) (beside_first i e p G oi) x),
     )
 through_together k i m r s fs q p c e f g zero (suc b) G ok oi uk ui d h x =
@@ -293,19 +293,19 @@ through_together k i m r s fs q p c e f g (suc a) zero G ok oi uk ui d h x =
   where
     near : max_repetition (step 0 e ∷ p) ≡ 0 → earlier k i (near_order (field m r s fs) G ++ far_order (field m r s fs) G) ≡ false
     near z =
-        let A = unless_repeated r (shape_near_order s (behind G)) in
+        let A = unless_repeated r (shape_near_order s (first_picks G)) in
         let si : (same_repetition e r ≡ true) × (is_shape_path s p ≡ true) = and_parts (same_repetition e r) (is_shape_path s p) ui in
-        let y : 0 < times i A = near_here i p r s (shape_near i s p) (behind G) (only_behind i e p G oi) si.1
+        let y : 0 < times i A = near_here i p r s (shape_near i s p) (first_picks G) (only_behind i e p G oi) si.1
         (subst (λ (v : Repetition). repetition_count v + max_repetition p ≡ 0) (same_repetition-true e r si.0) z) in
-        ap (earlier k i) (append_assoc A (near_order fs (beside G)) (far_order (field m r s fs) G))
-        ∙ other_first k i A (near_order fs (beside G) ++ far_order (field m r s fs) G) (shape_none k r s (behind G) (behind_later k a c q G ok)).0 y
+        ap (earlier k i) (append_assoc A (near_order fs (later_picks G)) (far_order (field m r s fs) G))
+        ∙ other_first k i A (near_order fs (later_picks G) ++ far_order (field m r s fs) G) (shape_none k r s (first_picks G) (behind_later k a c q G ok)).0 y
 
     by_max : (y : ℕ) → max_repetition (step 0 e ∷ p) ≡ y → 0 < max_repetition (step 0 e ∷ p)
     by_max zero z = absurd (true≢false (sym x ∙ near z))
     by_max (suc y) z = omega (arith, z)
 through_together k i m r s fs q p c e f g (suc a) (suc b) G ok oi uk ui d h x =
     let fronts : is_chain_front (chain (step a c ∷ q)) (chain (step b e ∷ p)) ≡ true = same_chains (step a c) (step b e) (step (suc a) c) (step (suc b) e) c e (sym (suc_same a b)) (sym (suc_same b a)) (chain q) (chain p) ∙ h in
-    above (g a b (beside G) (only_beside k a c q G ok) (only_beside i b e p G oi) uk ui (λ y. d (raised y)) fronts (later_earlier k i r s fs G (behind_later k a c q G ok) (behind_later i b e p G oi) x))
+    above (g a b (later_picks G) (only_beside k a c q G ok) (only_beside i b e p G oi) uk ui (λ y. d (raised y)) fronts (later_earlier k i r s fs G (behind_later k a c q G ok) (behind_later i b e p G oi) x))
   where
     raised : step a c ∷ q ≡ step b e ∷ p → step (suc a) c ∷ q ≡ step (suc b) e ∷ p
     raised y =

@@ -5,7 +5,7 @@ use Rattle.std.specs.List.{list_any}
 use Rattle.std.proofs.lemmas.Simd.{map-map}
 use Rattle.std.proofs.lemmas.List.{length-map, map-append}
 use Rattle.dr_meaning.specs.Schema.{Shape}
-use Rattle.dr_meaning.specs.Path.{Step, level, is_shape_path}
+use Rattle.dr_meaning.specs.Path.{Step, chain_end, is_shape_path}
 use Rattle.dr_meaning.specs.Record.{Node, Instances, no_instances, instance, Instance, inner, single, is_instance, instances_at, put_at}
 use Rattle.dr_meaning.specs.Rows.{instance_rows, each_instance_rows, field_rows, rows, value_in}
 use Rattle.dr_meaning.specs.Column.{Triplet}
@@ -59,9 +59,9 @@ answers_keep L row test x =
 
 -- a leaf has as many triplets in an instance as that has rows of its level
 pub instance_count : (i : ℕ) (h : Shape) (p : List Step) (G : List Pick) → Only i p G → is_shape_path h p ≡ true → (j : ℕ) (at : Depth) (x : Instance) → is_instance h x ≡ true → (row : Instances → Node) (test : Node → Bool)
-    → length (triplets_of i (moves_in (shape_near_moves h G) (shape_far_moves h G j) at (Some x))) ≡ length (instance_answers (level p) row test x)
+    → length (triplets_of i (moves_in (shape_near_moves h G) (shape_far_moves h G j) at (Some x))) ≡ length (instance_answers (chain_end p) row test x)
 instance_count i h p G o u j at x z row test =
     let ms : List Move = moves_in (shape_near_moves h G) (shape_far_moves h G j) at (Some x) in
-    let r : reads i i None ms ≡ map (value_in p) (irows (level p) x) = shape_reads (Unit {0}) ⊥ i i (λ e. refl) (λ e. absurd e) h p p G o o u u (own_together p) j at (Some x) None z in
-    sym (length-map (triplets_of i ms) (λ (t : Triplet). t.value)) ∙ ap length (sym (own_read i None ms) ∙ r) ∙ length-map (irows (level p) x) (value_in p)
-    ∙ sym (length-map (irows (level p) x) (λ (y : Instance). test (row (single y))))
+    let r : reads i i None ms ≡ map (value_in p) (irows (chain_end p) x) = shape_reads (Unit {0}) ⊥ i i (λ e. refl) (λ e. absurd e) h p p G o o u u (own_together p) j at (Some x) None z in
+    sym (length-map (triplets_of i ms) (λ (t : Triplet). t.value)) ∙ ap length (sym (own_read i None ms) ∙ r) ∙ length-map (irows (chain_end p) x) (value_in p)
+    ∙ sym (length-map (irows (chain_end p) x) (λ (y : Instance). test (row (single y))))

@@ -4,9 +4,10 @@ use Rattle.dr_meaning.specs.Record.{Value, int_value}
 use Rattle.dr_meaning.specs.Column.{triplet}
 use Rattle.dr_firing.specs.Context.{Context}
 use Rattle.dr_firing.specs.Tour.{Tour, over, saw, inside}
-use Rattle.dr_pruning_laws.specs.FlaggedFlow.{branch_count, first_flag, flagged_flow, flags_of}
+use Rattle.dr_pruning_laws.specs.FlaggedFlow.{branch_count, flagged_flow, flags_of}
 use Rattle.dr_pruning_laws.specs.Leavings.{Leaving}
 use Rattle.dr_pruning_laws.specs.OpenNumbers.{is_front, rest_open}
+use Rattle.dr_meaning.specs.Lists.{first_answer}
 
 abbrev number : ℕ → Option Value
 number n = Some (int_value (pos n))
@@ -38,7 +39,7 @@ pub some_dropped : (made (true ∷ false ∷ false ∷ false ∷ []) ≡ number 
 some_dropped = (refl, refl, refl, refl)
 
 -- a branch without a flag isn't dropped
-pub no_flag : (first_flag [] ≡ false) × (made [] ≡ made (false ∷ false ∷ false ∷ false ∷ []))
+pub no_flag : (first_answer [] ≡ false) × (made [] ≡ made (false ∷ false ∷ false ∷ false ∷ []))
 no_flag = (refl, refl)
 
 pub flags : flags_of (record { number = 4; dropped = true } ∷ record { number = 0; dropped = false } ∷ []) ≡ true ∷ false ∷ []

@@ -3,7 +3,7 @@ use Rattle.std.proofs.Common.{◌≡◌, ℕ, List, [], ◌∷◌, ◌++◌, Boo
 use Rattle.std.specs.Ordering.{int_eq}
 use Rattle.std.specs.Prelude.{pos, not, ◌&&◌}
 use Rattle.dr_meaning.specs.Schema.{Repetition, required, optional, repeated, int64_kind, Fields, no_fields, field, leaf, group}
-use Rattle.dr_meaning.specs.Path.{Step, level}
+use Rattle.dr_meaning.specs.Path.{Step, chain_end}
 use Rattle.dr_meaning.specs.Record.{Value, int_value, Node, no_slots, slot, Instances, no_instances, instance, Instance, atom, inner, single}
 use Rattle.dr_meaning.specs.Rows.{value_at}
 use Rattle.dr_meaning.specs.Walk.{Move, enter, leave, walk}
@@ -101,27 +101,27 @@ abbrev left : ℕ → Bool → Leaving
 left n d = record { number = n; dropped = d }
 
 -- where country is 5
-five_is_kept : record_leavings fs F (level country) (λ row. is_number 5 (value_at country row)) r
+five_is_kept : record_leavings fs F (chain_end country) (λ row. is_number 5 (value_at country row)) r
     ≡ left 2 false ∷ left 2 false ∷ left 4 false ∷ left 4 true ∷ left 3 false ∷ left 3 true ∷ left 4 true ∷ left 3 true ∷ left 0 false ∷ []
 five_is_kept = refl
 
 -- where country isn't there: a name without languages has such a row
-absent_is_kept : record_leavings fs F (level country) (λ row. not (is_there (value_at country row))) r
+absent_is_kept : record_leavings fs F (chain_end country) (λ row. not (is_there (value_at country row))) r
     ≡ left 2 false ∷ left 2 false ∷ left 4 true ∷ left 4 false ∷ left 3 false ∷ left 3 false ∷ left 4 true ∷ left 3 true ∷ left 0 false ∷ []
 absent_is_kept = refl
 
 -- where url is 8: languages are below the chain's end, and kept whatever becomes of their name
-eight_is_kept : record_leavings fs F (level url) (λ row. is_number 8 (value_at url row)) r
+eight_is_kept : record_leavings fs F (chain_end url) (λ row. is_number 8 (value_at url row)) r
     ≡ left 2 false ∷ left 2 false ∷ left 4 false ∷ left 4 false ∷ left 3 true ∷ left 3 false ∷ left 4 false ∷ left 3 true ∷ left 0 false ∷ []
 eight_is_kept = refl
 
 -- where url is 1
-none_is_kept : record_leavings fs F (level url) (λ row. is_number 1 (value_at url row)) r
+none_is_kept : record_leavings fs F (chain_end url) (λ row. is_number 1 (value_at url row)) r
     ≡ left 2 false ∷ left 2 false ∷ left 4 false ∷ left 4 false ∷ left 3 true ∷ left 3 true ∷ left 4 false ∷ left 3 true ∷ left 0 true ∷ []
 none_is_kept = refl
 
 -- only what is selected is gone through
-fewer_branches : record_leavings fs (id ∷ url ∷ []) (level id) (λ row. is_number 10 (value_at id row)) r ≡ left 3 false ∷ left 3 false ∷ left 3 false ∷ left 0 false ∷ []
+fewer_branches : record_leavings fs (id ∷ url ∷ []) (chain_end id) (λ row. is_number 10 (value_at id row)) r ≡ left 3 false ∷ left 3 false ∷ left 3 false ∷ left 0 false ∷ []
 fewer_branches = refl
 
 -- ---- at each move
@@ -180,7 +180,7 @@ eleven_at_each_move = refl
 
 -- what is told at the Leaves
 five_is_told : told_leavings (record { chain = 3 ∷ 4 ∷ []; last = 2; test = λ d. is_number 5 (d 2) }) (walk fs F (r ∷ r ∷ []))
-    ≡ record_leavings fs F (level country) (λ row. is_number 5 (value_at country row)) r ++ record_leavings fs F (level country) (λ row. is_number 5 (value_at country row)) r
+    ≡ record_leavings fs F (chain_end country) (λ row. is_number 5 (value_at country row)) r ++ record_leavings fs F (chain_end country) (λ row. is_number 5 (value_at country row)) r
 unfolding walk
 five_is_told = refl
 

@@ -3,7 +3,7 @@ use Rattle.std.specs.Prelude.{◌≡◌, ℕ, zero, suc, ◌+◌, List, [], ◌�
 use Rattle.std.specs.List.{slice_get}
 use Rattle.dr_meaning.specs.Schema.{Repetition, required, optional, repeated, Fields, no_fields, field, Shape, leaf, group, repetition_count}
 use Rattle.dr_meaning.specs.Schema.{shape_repeated_fields}
-use Rattle.dr_meaning.specs.Path.{Step, chain, level, is_leaf_path}
+use Rattle.dr_meaning.specs.Path.{Step, chain, chain_end, is_leaf_path}
 use Rattle.dr_meaning.specs.Walk.{repeated_paths}
 
 -- for the first place one thing, for a later one another
@@ -39,7 +39,7 @@ abbrev pub numbered_path : Fields → ℕ → Option (List Step)
 numbered_path fs zero = Some []
 numbered_path fs (suc k) = slice_get (repeated_paths fs) k
 
--- the numbers on a leaf's path name the repeated fields of its chain, one each, and so do those on the path of its level
+-- the numbers on a leaf's path name the repeated fields of its chain, one each, and so do those on the path of its chain's end
 abbrev pub NumbersNameChain : Type 0
 NumbersNameChain = (fs : Fields) (p : List Step) → is_leaf_path fs p ≡ true
-    → (map (numbered_path fs) (chain_numbers fs p) ≡ map (λ c. Some c) (chain p)) × (chain_numbers fs (level p) ≡ chain_numbers fs p)
+    → (map (numbered_path fs) (chain_numbers fs p) ≡ map (λ c. Some c) (chain p)) × (chain_numbers fs (chain_end p) ≡ chain_numbers fs p)

@@ -2,7 +2,7 @@
 use Rattle.std.specs.Prelude.{◌≡◌, ℕ, suc, ◌+◌, List, [], ◌∷◌, ◌++◌, map, drop, Bool, true, false, if◌then◌else◌, Some}
 use Rattle.std.specs.List.{flat_map, list_all}
 use Rattle.dr_meaning.specs.Schema.{Fields}
-use Rattle.dr_meaning.specs.Path.{Step, level}
+use Rattle.dr_meaning.specs.Path.{Step, chain_end}
 use Rattle.dr_meaning.specs.Record.{Node, is_record}
 use Rattle.dr_meaning.specs.Walk.{walk}
 use Rattle.dr_pruning_laws.specs.Leavings.{Leaving, record_leavings}
@@ -11,6 +11,7 @@ use Rattle.dr_firing.specs.Context.{Context, with_value}
 use Rattle.dr_firing.specs.Tour.{Tour, over, saw, inside, moves_of, after}
 use Rattle.dr_firing.specs.Condition.{Watch}
 use Rattle.dr_firing.specs.Cutting.{flow}
+use Rattle.dr_meaning.specs.Lists.{first_answer}
 
 -- how many branches a tour leaves
 abbrev pub branch_count : Tour → ℕ
@@ -18,17 +19,12 @@ branch_count over = 0
 branch_count (saw i t T) = branch_count T
 branch_count (inside k B T) = branch_count B + suc (branch_count T)
 
--- the first flag
-abbrev pub first_flag : List Bool → Bool
-first_flag [] = false
-first_flag (b ∷ bs) = b
-
 -- a branch whose flag is true makes nothing
 abbrev pub flagged_flow : {A : Type 0} → (ℕ → Context → List A) → (ℕ → Context → List A → List A) → List Bool → Context → Tour → List A
 flagged_flow seen left flags c over = []
 flagged_flow seen left flags c (saw i t T) = seen i (with_value i t.value c) ++ flagged_flow seen left flags (with_value i t.value c) T
 flagged_flow seen left flags c (inside k B T) =
-    (if first_flag (drop (branch_count B) flags) then [] else left k (after c B) (flagged_flow seen left flags c B))
+    (if first_answer (drop (branch_count B) flags) then [] else left k (after c B) (flagged_flow seen left flags c B))
     ++ flagged_flow seen left (drop (suc (branch_count B)) flags) (after c B) T
 
 -- the flags of some branches
@@ -39,4 +35,4 @@ flags_of ls = map (λ (l : Leaving). l.dropped) ls
 abbrev pub FlowIsKept : Type 0 → Type 0
 FlowIsKept A = (seen : ℕ → Context → List A) (left : ℕ → Context → List A → List A) (fs : Fields) (F : List (List Step)) (w : Watch) (p : List Step) (K : List ℕ)
     (condition : Node → Bool) → StandsFor fs F w p K condition → (R : List Node) (T : Tour) (c : Context) → list_all (is_record fs) R ≡ true → moves_of T ≡ walk fs F R
-    → flow seen left w (Some (0 ∷ w.chain)) c T ≡ flagged_flow seen left (flags_of (flat_map (record_leavings fs F (level p) condition) R)) c T
+    → flow seen left w (Some (0 ∷ w.chain)) c T ≡ flagged_flow seen left (flags_of (flat_map (record_leavings fs F (chain_end p) condition) R)) c T

@@ -5,7 +5,7 @@ use Rattle.dr_meaning.specs.Schema.{shape_repeated_fields}
 use Rattle.dr_meaning.specs.Path.{Step}
 use Rattle.dr_meaning.specs.Record.{Node, Instances, no_instances, instance, Instance, inner, single, put_at}
 use Rattle.dr_meaning.specs.Kept.{keep_instance, kept_along}
-use Rattle.dr_meaning.specs.Automaton.{Pick, picks, behind, beside}
+use Rattle.dr_meaning.specs.Automaton.{Pick, picks, first_picks, later_picks}
 use Rattle.dr_meaning.specs.Walk.{first_of, first_slot, other_slots, node_of}
 use Rattle.dr_firing.specs.Context.{Context, with_value}
 use Rattle.dr_firing.specs.Tour.{Tour, over, saw, inside, after}
@@ -78,9 +78,9 @@ abbrev mutual
   pub node_leavings : Fields → List Pick → ℕ → (ℕ → Standing) → Node → List Leaving
   node_leavings no_fields G k stand n = []
   node_leavings (field m r s fs) G k stand n =
-      if_selected (behind G) (field_leavings r (own_leaving k (stand 0) (instance_leavings s (behind G) (suc k) (stand 0)))
-      (instance_leavings s (behind G) k (stand 0)) (first_slot n))
-      ++ node_leavings fs (beside G) (k + (repetition_count r + shape_repeated_fields s)) (λ i. stand (suc i)) (other_slots n)
+      if_selected (first_picks G) (field_leavings r (own_leaving k (stand 0) (instance_leavings s (first_picks G) (suc k) (stand 0)))
+      (instance_leavings s (first_picks G) k (stand 0)) (first_slot n))
+      ++ node_leavings fs (later_picks G) (k + (repetition_count r + shape_repeated_fields s)) (λ i. stand (suc i)) (other_slots n)
 
   -- the branches in an instance
   pub instance_leavings : Shape → List Pick → ℕ → Standing → Option Instance → List Leaving

@@ -2,7 +2,7 @@
 use Rattle.std.specs.Prelude.{◌≡◌, ℕ, List, ◌∷◌, ◌++◌, length, Bool, true, Some}
 use Rattle.std.specs.List.{flat_map, list_all, slice_get}
 use Rattle.dr_meaning.specs.Schema.{Fields}
-use Rattle.dr_meaning.specs.Path.{Step, level, is_leaf_path}
+use Rattle.dr_meaning.specs.Path.{Step, chain_end, is_leaf_path}
 use Rattle.dr_meaning.specs.Record.{Node, is_record}
 use Rattle.dr_meaning.specs.Walk.{Move, enter, leave, walk}
 use Rattle.dr_pruning_laws.specs.ChainNumbers.{chain_numbers}
@@ -30,12 +30,12 @@ pub record StandsFor (fs : Fields) (F : List (List Step)) (w : Watch) (p : List 
 abbrev pub LeavingsAreKept : Type 0
 LeavingsAreKept = (fs : Fields) (F : List (List Step)) (w : Watch) (p : List Step) (K : List ℕ) (condition : Node → Bool) → StandsFor fs F w p K condition
     → (R : List Node) (T : Tour) (c : Context) → list_all (is_record fs) R ≡ true → moves_of T ≡ walk fs F R
-    → tour_leavings w (Some (0 ∷ w.chain)) c T ≡ flat_map (record_leavings fs F (level p) condition) R
+    → tour_leavings w (Some (0 ∷ w.chain)) c T ≡ flat_map (record_leavings fs F (chain_end p) condition) R
 
 -- what is told at each Leave of a walk is what the query keeps
 abbrev pub ToldIsKept : Type 0
 ToldIsKept = (fs : Fields) (F : List (List Step)) (w : Watch) (p : List Step) (K : List ℕ) (condition : Node → Bool) → StandsFor fs F w p K condition
-    → (R : List Node) → list_all (is_record fs) R ≡ true → told_leavings w (walk fs F R) ≡ flat_map (record_leavings fs F (level p) condition) R
+    → (R : List Node) → list_all (is_record fs) R ≡ true → told_leavings w (walk fs F R) ≡ flat_map (record_leavings fs F (chain_end p) condition) R
 
 -- what is told of a branch at one of the moves from its Enter on, if it is decided, is what is told at its Leave
 abbrev pub DecidedStays : Type 0

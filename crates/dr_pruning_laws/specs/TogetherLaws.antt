@@ -2,8 +2,8 @@
 use Rattle.std.specs.Prelude.{◌≡◌, ◌≤◌, ℕ, List, [], ◌∷◌, true, Some}
 use Rattle.std.specs.List.{slice_get, list_all}
 use Rattle.dr_meaning.specs.Schema.{Fields}
-use Rattle.dr_meaning.specs.Path.{Step, chain, level, is_leaf_path}
-use Rattle.dr_meaning.specs.Expression.{longest_level}
+use Rattle.dr_meaning.specs.Path.{Step, chain, chain_end, is_leaf_path}
+use Rattle.dr_meaning.specs.Expression.{longest_chain}
 use Rattle.dr_meaning.specs.Walk.{is_chain_front}
 use Rattle.dr_meaning.specs.AutomatonLaws.{AreInReadingOrder}
 use Rattle.dr_course.specs.Selection.{all_differ}
@@ -18,7 +18,7 @@ AllBefore F i p (k ∷ K) = ((q : List Step) × (slice_get F k ≡ Some q) × (k
 abbrev pub ReadTogether : Type 0
 ReadTogether = (fs : Fields) (F : List (List Step)) (i : ℕ) (p : List Step) (K : List ℕ) → AreInReadingOrder fs F → all_differ F ≡ true → slice_get F i ≡ Some p → AllBefore F i p K → AllTogether F i p K
 
--- the longest level of leaves whose chains are first parts of that of one of them is its level
+-- the longest chain of leaves whose chains are first parts of that of one of them is its chain
 abbrev pub LevelOfLast : Type 0
 LevelOfLast = (fs : Fields) (ps : List (List Step)) (p : List Step) (j : ℕ) → list_all (is_leaf_path fs) ps ≡ true → list_all (λ q. is_chain_front (chain q) (chain p)) ps ≡ true
-    → slice_get ps j ≡ Some p → longest_level ps ≡ level p
+    → slice_get ps j ≡ Some p → longest_chain ps ≡ chain_end p

@@ -16,12 +16,13 @@ use Rattle.dr_meaning.proofs.BindingLemmas.{path_passes}
 use Rattle.dr_meaning.proofs.BoundPartsLemmas.{both_empty}
 use Rattle.dr_partials.specs.PartialTypes.{with_aggregate, aggregates_among}
 use Rattle.dr_partials.specs.Rewriting.{key_items, aggregate_items}
-use Rattle.dr_partials.specs.RewritingText.{path_text, nth_text, record_term_text, group_term_text}
+use Rattle.dr_partials.specs.RewritingText.{path_text, record_term_text, group_term_text}
 use Rattle.dr_query_laws.specs.ReadBack.{LeadsTo, SaysRecordItem, GivesGroupTerm, SaysGroupItem}
 use Rattle.dr_query_laws.proofs.Lexing.{Reads, read_as}
 use Rattle.dr_query_laws.proofs.Writable.{WritableNames, WritableWithin, WritableTerm, WritableItem, WritableKey, Every, every_append}
 use Rattle.dr_query_laws.proofs.WrittenExpressions.{same_inside, Ends, BoundWritten, PathOf, leads_again, leaf_written, leaf_value_written, expression_written}
 use Rattle.dr_query_laws.proofs.WrittenItems.{TermSaid, IsRecordTerm, expression_term_written, rows_written, lone_written, within_written, within_term_written, Spelled, EachWritten}
+use Rattle.dr_meaning.specs.Lists.{nth_text}
 
 -- ---- what passed
 

@@ -4,12 +4,13 @@ use Rattle.std.specs.Prelude.{◌==◌, if◌then◌else◌, bytes_eq, option_ma
 use Rattle.std.specs.List.{slice_get, join_with_byte}
 use Rattle.std.proofs.lemmas.Bool.{and_parts}
 use Rattle.dr_meaning.specs.Schema.{Kind, Fields, no_fields, field, Shape, leaf, group, fields_of, is_group, is_shape, is_nonempty}
-use Rattle.dr_meaning.specs.Path.{Step, Leaf, Found, named_field, found_below, resolve, find_path, onto_first, cut_at_dots, leaf_at, found_leaf, find_leaf}
+use Rattle.dr_meaning.specs.Path.{Step, Leaf, Found, named_field, found_below, resolve, find_path, cut_at_dots, leaf_at, found_leaf, find_leaf}
 use Rattle.dr_meaning.specs.Path.{PathFault, unknown_field, not_a_leaf, leaf_below, leaves_from, shape_leaves}
 use Rattle.dr_meaning.specs.PathLaws.{IsNamedLeaf}
 use Rattle.dr_meaning.proofs.SchemaReadsBack.{FirstField, first_of_group}
 use Rattle.dr_meaning.proofs.FindingLemmas.{find_leaf_is_exact}
 use Rattle.dr_query_laws.specs.FindLaws.{IsOnTheWay, FindGroupIsExact, FindNothingIsExact}
+use Rattle.dr_meaning.specs.Lists.{onto_first}
 
 -- ---- a text cut at its dots
 

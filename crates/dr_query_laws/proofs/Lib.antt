@@ -5,6 +5,8 @@ pub mod QueriesGoOn
 pub mod OperatorsCounted
 pub mod OperatorsOfQueries
 pub mod ElementsCounted
+pub mod CommasOfQueries
+pub mod ElementsOfQueries
 pub mod NeverDeep
 pub mod NestingsTold
 pub mod NestingsOfQueries
@@ -21,7 +23,7 @@ pub mod RulesOfPaths
 pub mod RulesOfItems
 pub mod RulesOfNames
 pub mod AllRules
-pub mod DeepestLevels
+pub mod DeepestChains
 -- texts one behind another, and their tokens
 pub mod Lexing
 pub mod WrittenNames

@@ -55,7 +55,7 @@ pub record Seq (A B : Type 0) (S : List PlacedToken → A → Type 0) (T : A →
 pub behind : (us vs ws ts rest : List PlacedToken) → us ≡ ts ++ vs → vs ≡ ws ++ rest → us ≡ (ts ++ ws) ++ rest
 behind us vs ws ts rest e f = e ∙ (ap (λ xs. ts ++ xs) f ∙ sym (append_assoc ts ws rest))
 
-next_outcome : {A B : Type 0} (S : List PlacedToken → A → Type 0) (T : A → List PlacedToken → B → Type 0) (u v : Unread) (ts : List PlacedToken) (a : A) (q : Parsed B)
+pub next_outcome : {A B : Type 0} (S : List PlacedToken → A → Type 0) (T : A → List PlacedToken → B → Type 0) (u v : Unread) (ts : List PlacedToken) (a : A) (q : Parsed B)
     → u.tokens ≡ ts ++ v.tokens → v.size ≡ u.size → S ts a → Outcome B (T a) v q → Outcome B (Seq A B S T) u q
 next_outcome S T u v ts a _ e z s (reads ws w b g y t) =
     reads (ts ++ ws) w b (behind u.tokens v.tokens ws ts w.tokens e g) (y ∙ z) (record { front = ts; rest = ws; middle = a; tokens = refl; first = s; second = t })
@@ -66,7 +66,7 @@ next_outcome S T u v ts a _ e z s (stops ws rest more b f g y t k) =
 one_first_more : (rest more ws : List PlacedToken) → OneFirst rest more → OneFirst rest (more ++ ws)
 one_first_more rest more ws k = (k.0, k.1, k.2 ++ ws, k.3, ap (λ xs. xs ++ ws) k.4)
 
-shared_more : (p : QueryProblem) (rest more ws : List PlacedToken) → Shared p rest more → Shared p rest (more ++ ws)
+pub shared_more : (p : QueryProblem) (rest more ws : List PlacedToken) → Shared p rest more → Shared p rest (more ++ ws)
 shared_more too_long rest more ws k = one_first_more rest more ws k
 shared_more syntax rest more ws k = tt
 shared_more too_deep rest more ws k = one_first_more rest more ws k
@@ -121,7 +121,7 @@ by_outcome {A} {B} S f p q u then_p then_q = by_some (option_and_then f (first_t
 abbrev pub One : QueryToken → List PlacedToken → ℕ → Type 0
 One t ts i = ts ≡ placed i t ∷ []
 
-abbrev at_front : List PlacedToken → ℕ → ℕ → Unread
+abbrev pub at_front : List PlacedToken → ℕ → ℕ → Unread
 at_front ts n k = record { tokens = ts; size = n; operators = k }
 
 any_of_first : (n k : ℕ) (first : PlacedToken) (rest : List PlacedToken) → Outcome ℕ (One first.token) (at_front (first ∷ rest) n k) (any_token (at_front (first ∷ rest) n k))

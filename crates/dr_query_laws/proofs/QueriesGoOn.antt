@@ -23,7 +23,7 @@ use Rattle.dr_query_laws.proofs.Outcomes.{Filled, BegunWith, OneFirst, Shared, O
 use Rattle.dr_query_laws.proofs.Outcomes.{known_word, known_sign, known_operator, word_outcome, mark_outcome, IsName, name_outcome, Behind, one_seq, fills_one, fills_seq, Begun, begun}
 use Rattle.dr_query_laws.proofs.ExpressionsGoOn.{path_of, path_outcome, fills_path, fills_expression, opens_parenthesis, opens_not, opens_sign, nested_expression_goes}
 
-only_front : (ts us vs : List PlacedToken) → ts ≡ us ++ vs → vs ≡ [] → ts ≡ us
+pub only_front : (ts us vs : List PlacedToken) → ts ≡ us ++ vs → vs ≡ [] → ts ≡ us
 only_front ts us vs e f = e ∙ (ap (λ xs. us ++ xs) f ∙ append-nil us)
 
 pub argument_goes : (u : Unread) → Outcome ExpressionSyntax SpellsExpression u (argument u)
@@ -66,7 +66,7 @@ within_tail_goes i u = if_outcome (WithinTail i) (is_the_word record_word) (with
 fills_within_tail : (i : ℕ) → Filled (Option WithinSyntax) (WithinTail i)
 fills_within_tail i = record { tokens = word_at 0 record_word ∷ []; value = whole_at i; spelled = within_the_record i 0 }
 
-nothing_is : {A : Type 0} (S : List PlacedToken → A → Type 0) (a : A) → S [] a → (ts : List PlacedToken) (b : A) → Nothing A a ts b → S ts b
+pub nothing_is : {A : Type 0} (S : List PlacedToken → A → Type 0) (a : A) → S [] a → (ts : List PlacedToken) (b : A) → Nothing A a ts b → S ts b
 nothing_is S a s ts b x = subst (S ts) x.same (subst (λ xs. S xs a) (sym x.none) s)
 
 within_goes : (u : Unread) → Outcome (Option WithinSyntax) SpellsWithin u (within_part u)
@@ -313,7 +313,7 @@ item_goes u = begun ItemAt SpellsItem begun_item
     (λ n w. gives (item_of (place_of u) t n) w) (as_goes v))
     (term_goes u)))
 
-fills_item : Filled ItemSyntax SpellsItem
+pub fills_item : Filled ItemSyntax SpellsItem
 fills_item =
     let e = fills_expression in
     let b = begun_expression e.tokens e.value e.spelled in
@@ -374,7 +374,7 @@ token_begun i (sign minus_sign) h = let x = opens_sign i in expression_begun (si
 token_begun i (sign g) h = absurd (cc h)
 token_begun i bad h = absurd (cc h)
 
-item_begun : (t : PlacedToken) → begins_item t.token ≡ true → BegunWith ItemSyntax SpellsItem t
+pub item_begun : (t : PlacedToken) → begins_item t.token ≡ true → BegunWith ItemSyntax SpellsItem t
 item_begun t h = token_begun t.place t.token h
 
 -- a key that this token begins
@@ -382,24 +382,24 @@ name_begun : (i : ℕ) (t : QueryToken) → begins_key t ≡ true → BegunWith 
 name_begun i (identifier n) h = (record { tokens = name_at i n ∷ []; value = path_of i (n ∷ []); spelled = ((name_at i n, [], refl, refl), first_name i n) }, [], refl)
 name_begun i t h = absurd (cc h)
 
-key_begun : (t : PlacedToken) → begins_key t.token ≡ true → BegunWith PathSyntax SpellsPath t
+pub key_begun : (t : PlacedToken) → begins_key t.token ≡ true → BegunWith PathSyntax SpellsPath t
 key_begun t h = name_begun t.place t.token h
 
 -- ---- lists
 
-abbrev ElementsMore : (A : Type 0) → (List PlacedToken → A → Type 0) → List A → List PlacedToken → List A → Type 0
+abbrev pub ElementsMore : (A : Type 0) → (List PlacedToken → A → Type 0) → List A → List PlacedToken → List A → Type 0
 ElementsMore A S xs ws ys = (us : List PlacedToken) → Separated A S us xs → Separated A S (us ++ ws) ys
 
-no_elements : (A : Type 0) (S : List PlacedToken → A → Type 0) (xs : List A) (ws : List PlacedToken) (ys : List A) → Nothing (List A) xs ws ys → ElementsMore A S xs ws ys
+pub no_elements : (A : Type 0) (S : List PlacedToken → A → Type 0) (xs : List A) (ws : List PlacedToken) (ys : List A) → Nothing (List A) xs ws ys → ElementsMore A S xs ws ys
 no_elements A S xs ws ys x us s = subst (Separated A S (us ++ ws)) x.same (subst (λ zs. Separated A S zs xs) (sym (ap (λ zs. us ++ zs) x.none ∙ append-nil us)) s)
 
 abbrev fills_elements : (A : Type 0) (S : List PlacedToken → A → Type 0) (xs : List A) → Filled (List A) (ElementsMore A S xs)
 fills_elements A S xs = record { tokens = []; value = xs; spelled = no_elements A S xs [] xs (record { none = refl; same = refl }) }
 
-abbrev ElementAndMore : (A : Type 0) → (List PlacedToken → A → Type 0) → List A → ℕ → List PlacedToken → List A → Type 0
+abbrev pub ElementAndMore : (A : Type 0) → (List PlacedToken → A → Type 0) → List A → ℕ → List PlacedToken → List A → Type 0
 ElementAndMore A S xs i = Seq A (List A) S (λ x. ElementsMore A S (xs ++ x ∷ []))
 
-comma_all : (A : Type 0) (S : List PlacedToken → A → Type 0) (xs : List A) (ts : List PlacedToken) (ys : List A) → Behind (List A) (sign comma) (ElementAndMore A S xs) ts ys → ElementsMore A S xs ts ys
+pub comma_all : (A : Type 0) (S : List PlacedToken → A → Type 0) (xs : List A) (ts : List PlacedToken) (ys : List A) → Behind (List A) (sign comma) (ElementAndMore A S xs) ts ys → ElementsMore A S xs ts ys
 comma_all A S xs ts ys x us s =
     let y = x.second in
     let front = sign_at x.place comma ∷ y.front in
@@ -465,7 +465,7 @@ record TableAt (i : ℕ) (ts : List PlacedToken) (t : NameSyntax) : Type 0 where
 abbrev pub TableIs : List PlacedToken → NameSyntax → Type 0
 TableIs ts t = ts ≡ name_at t.place t.name ∷ []
 
-abbrev table_of : ℕ → List ℕ → NameSyntax
+abbrev pub table_of : ℕ → List ℕ → NameSyntax
 table_of i n = record { place = i; name = n }
 
 table_parts : (i : ℕ) (ts : List PlacedToken) (t : NameSyntax) → Seq (List ℕ) NameSyntax IsName (λ n. Nothing NameSyntax (table_of i n)) ts t → TableAt i ts t
@@ -571,10 +571,10 @@ end_goes u = if_outcome EndIs (is_the_sign semicolon) (any_token >>= (λ _. text
 
 -- ---- queries
 
-abbrev tree_of : List ItemSyntax → NameSyntax → Option ConditionSyntax → List PathSyntax → QuerySyntax
+abbrev pub tree_of : List ItemSyntax → NameSyntax → Option ConditionSyntax → List PathSyntax → QuerySyntax
 tree_of xs t c ks = record { items = xs; table = t; condition = c; keys = ks }
 
-abbrev AfterKeys : List ItemSyntax → NameSyntax → Option ConditionSyntax → List PathSyntax → List PlacedToken → QuerySyntax → Type 0
+abbrev pub AfterKeys : List ItemSyntax → NameSyntax → Option ConditionSyntax → List PathSyntax → List PlacedToken → QuerySyntax → Type 0
 AfterKeys xs t c ks = Seq ℕ QuerySyntax EndIs (λ i. Nothing QuerySyntax (tree_of xs t c ks))
 
 abbrev AfterWhere : List ItemSyntax → NameSyntax → Option ConditionSyntax → List PlacedToken → QuerySyntax → Type 0
@@ -592,7 +592,7 @@ AfterItems xs = Behind QuerySyntax (reserved from_word) (AfterFrom xs)
 abbrev AfterSelect : ℕ → List PlacedToken → QuerySyntax → Type 0
 AfterSelect h = Seq (List ItemSyntax) QuerySyntax (Separated ItemSyntax SpellsItem) AfterItems
 
-fills_keys_on : (xs : List ItemSyntax) (t : NameSyntax) (c : Option ConditionSyntax) (ks : List PathSyntax) → Filled QuerySyntax (AfterKeys xs t c ks)
+pub fills_keys_on : (xs : List ItemSyntax) (t : NameSyntax) (c : Option ConditionSyntax) (ks : List PathSyntax) → Filled QuerySyntax (AfterKeys xs t c ks)
 fills_keys_on xs t c ks = fills_seq EndIs (λ i. Nothing QuerySyntax (tree_of xs t c ks)) (record { tokens = []; value = 0; spelled = no_semicolon }) (λ i. fills_nothing (tree_of xs t c ks))
 
 fills_where_on : (xs : List ItemSyntax) (t : NameSyntax) (c : Option ConditionSyntax) → Filled QuerySyntax (AfterWhere xs t c)
@@ -610,7 +610,7 @@ fills_items_on xs = fills_one (reserved from_word) (AfterFrom xs) (fills_from_on
 fills_items : Filled (List ItemSyntax) (Separated ItemSyntax SpellsItem)
 fills_items = let x = fills_item in record { tokens = x.tokens; value = x.value ∷ []; spelled = alone x.tokens x.value x.spelled }
 
-keys_on : (xs : List ItemSyntax) (t : NameSyntax) (c : Option ConditionSyntax) (ks : List PathSyntax) (u : Unread)
+pub keys_on : (xs : List ItemSyntax) (t : NameSyntax) (c : Option ConditionSyntax) (ks : List PathSyntax) (u : Unread)
     → Outcome QuerySyntax (AfterKeys xs t c ks) u ((end_part >>= (λ _. give (tree_of xs t c ks))) u)
 keys_on xs t c ks u = seq EndIs (λ i. Nothing QuerySyntax (tree_of xs t c ks)) u (end_part u) (λ _. give (tree_of xs t c ks)) (λ i. fills_nothing (tree_of xs t c ks)) (λ i v. gives (tree_of xs t c ks) v) (end_goes u)
 

@@ -4,8 +4,8 @@ use Rattle.std.specs.Prelude.{if◌then◌else◌, option_map, is_some}
 use Rattle.std.specs.List.{flat_map, list_all, slice_get, cons_option}
 use Rattle.std.proofs.lemmas.Bool.{and_parts, and_from}
 use Rattle.dr_meaning.specs.Schema.{Fields, Shape, leaf, group}
-use Rattle.dr_meaning.specs.Path.{Step, Found, find_path, level, begins_with, same_path}
-use Rattle.dr_meaning.specs.Expression.{paths_of, longest_level, expression_level, negative as negative_expression, arithmetic as arithmetic_expression, comparison as comparison_expression, like as like_expression, contains as contains_expression, is_null as is_null_expression, negation as negation_expression, conjunction as conjunction_expression, disjunction as disjunction_expression}
+use Rattle.dr_meaning.specs.Path.{Step, Found, find_path, chain_end, begins_with, same_path}
+use Rattle.dr_meaning.specs.Expression.{paths_of, longest_chain, expression_chain, negative as negative_expression, arithmetic as arithmetic_expression, comparison as comparison_expression, like as like_expression, contains as contains_expression, is_null as is_null_expression, negation as negation_expression, conjunction as conjunction_expression, disjunction as disjunction_expression}
 use Rattle.dr_meaning.specs.Query.{Aggregate, key}
 use Rattle.dr_meaning.specs.Syntax.{PathSyntax, ExpressionSyntax, number_literal, text_literal, truth_literal, path, negative, arithmetic, comparison, like, contains, is_null, negation, conjunction, disjunction, NodeSyntax, whole_record, node, WithinSyntax, TermSyntax, expression, count_rows, aggregate, ItemSyntax, QuerySyntax}
 use Rattle.dr_meaning.specs.BoundExpression.{bad_within, not_grouped, fault_at, Checked, passes, fails, truth_type, number_type, text_type, type_from, null_test_type, logic_type, comparison_type, arithmetic_type, BoundPath, BoundExpression, bind_path, path_expression, bind_expression}
@@ -36,10 +36,10 @@ group_from (leaf k) h = absurd (true≢false (sym h))
 group_from (group fs) h = (fs, refl)
 
 whole_from : (f : Found) → is_repeated_group f ≡ true → IsRepeatedGroup f
-whole_from f h = let k = and_parts (is_group_shape f.shape) (same_path (level f.path) f.path) h in (group_from f.shape k.0, k.1)
+whole_from f h = let k = and_parts (is_group_shape f.shape) (same_path (chain_end f.path) f.path) h in (group_from f.shape k.0, k.1)
 
 whole_to : (f : Found) → IsRepeatedGroup f → is_repeated_group f ≡ true
-whole_to f h = and_from (is_group_shape f.shape) (same_path (level f.path) f.path) (ap is_group_shape h.0.1) h.1
+whole_to f h = and_from (is_group_shape f.shape) (same_path (chain_end f.path) f.path) (ap is_group_shape h.0.1) h.1
 
 -- a node's place and path, and whether it is whole
 abbrev pub NodeIs : Fields → ℕ → NodeSyntax → Option BoundWithin → Type 0
@@ -81,12 +81,12 @@ rows_told fs (Some w) (Some v) h = told_one bad_within _ v.place (w, refl, sym h
 holds_from : (fs : Fields) (w : WithinSyntax) (v : BoundWithin) (e : ExpressionSyntax) (b : BoundExpression) → NodeIs fs w.place w.node (Some v) → paths_of b.expression ≡ all_steps_in fs e
     → holds_rows b.expression v ≡ true → HoldsRows fs w.node e
 holds_from fs w v e b n s h =
-    let k = and_parts v.is_whole (begins_with v.node (expression_level b.expression)) h in
-    (n.2 k.0, sym (ap₂ (λ p ps. begins_with p (longest_level ps)) n.1 s) ∙ k.1)
+    let k = and_parts v.is_whole (begins_with v.node (expression_chain b.expression)) h in
+    (n.2 k.0, sym (ap₂ (λ p ps. begins_with p (longest_chain ps)) n.1 s) ∙ k.1)
 
 holds_to : (fs : Fields) (w : WithinSyntax) (v : BoundWithin) (e : ExpressionSyntax) (b : BoundExpression) → NodeIs fs w.place w.node (Some v) → paths_of b.expression ≡ all_steps_in fs e
     → HoldsRows fs w.node e → holds_rows b.expression v ≡ true
-holds_to fs w v e b n s h = and_from v.is_whole (begins_with v.node (expression_level b.expression)) (n.3 h.0) (ap₂ (λ p ps. begins_with p (longest_level ps)) n.1 s ∙ h.1)
+holds_to fs w v e b n s h = and_from v.is_whole (begins_with v.node (expression_chain b.expression)) (n.3 h.0) (ap₂ (λ p ps. begins_with p (longest_chain ps)) n.1 s ∙ h.1)
 
 argument_told : (fs : Fields) (a : Aggregate) (e : ExpressionSyntax) (b : BoundExpression) (o : Option WithinSyntax) (v : Option BoundWithin) → paths_of b.expression ≡ all_steps_in fs e → WithinIs fs o v
     → Exact (Told bad_within (HasBadWithin fs (aggregate a e o))) (within_faults (aggregated a b v))

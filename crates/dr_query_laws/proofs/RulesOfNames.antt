@@ -5,11 +5,11 @@ use Rattle.std.specs.List.{list_any, slice_get, cons_option}
 use Rattle.std.proofs.lemmas.Bool.{and_parts, and_from}
 use Rattle.std.proofs.lemmas.Slice.Eq.{bytes_eq-Decides}
 use Rattle.dr_meaning.specs.Schema.{Fields}
-use Rattle.dr_meaning.specs.Path.{level, same_path}
+use Rattle.dr_meaning.specs.Path.{chain_end, same_path}
 use Rattle.dr_meaning.specs.Query.{levels_of}
 use Rattle.dr_meaning.specs.Syntax.{WithinSyntax, TermSyntax, expression, count_rows, aggregate, ItemSyntax, QuerySyntax}
 use Rattle.dr_meaning.specs.BoundExpression.{duplicate_name, BindFault, fault_at, Checked, passes, fails, bind_expression}
-use Rattle.dr_meaning.specs.Binding.{BoundWithin, bind_within, bind_argument, BoundTerm, plain, rows_counted, aggregated, bind_term, BoundItem, bind_item, bind_items, is_record_syntax, if_passed, passing, deepest_level, within_level, item_level, object_of, list_between, is_named, has_name_of, has_name_of_list, name_faults, duplicates_behind, duplicate_faults}
+use Rattle.dr_meaning.specs.Binding.{BoundWithin, bind_within, bind_argument, BoundTerm, plain, rows_counted, aggregated, bind_term, BoundItem, bind_item, bind_items, is_record_syntax, if_passed, passing, deepest_chain, within_chain, item_chain, object_of, list_between, is_named, has_name_of, has_name_of_list, name_faults, duplicates_behind, duplicate_faults}
 use Rattle.dr_query_laws.specs.QueryRules.{Passes, within_steps, object_steps, ShareObject, ListLeads, name_of, HasNameOfEarlier, HasNameOfList, IsDuplicate}
 use Rattle.dr_query_laws.proofs.RulesOfQueries.{Exact, ItemRule, same_some}
 use Rattle.dr_query_laws.proofs.RulesOfPaths.{passes_as, fails_as, Told, told_none, told_one, told_as, told_append, item_is, of_item}
@@ -20,22 +20,22 @@ use Rattle.dr_query_laws.proofs.BoundItems.{mapped_passes, together_passes}
 
 -- ---- the object of an item
 
-within_level_is : (fs : Fields) (o : Option WithinSyntax) (v : Option BoundWithin) → WithinIs fs o v → within_level v ≡ within_steps fs o
-within_level_is fs None None h = refl
-within_level_is fs None (Some v) h = absurd h
-within_level_is fs (Some w) None h = absurd h
-within_level_is fs (Some w) (Some v) h = ap level h.1
+within_chain_is : (fs : Fields) (o : Option WithinSyntax) (v : Option BoundWithin) → WithinIs fs o v → within_chain v ≡ within_steps fs o
+within_chain_is fs None None h = refl
+within_chain_is fs None (Some v) h = absurd h
+within_chain_is fs (Some w) None h = absurd h
+within_chain_is fs (Some w) (Some v) h = ap chain_end h.1
 
-level_is : (fs : Fields) (j : ℕ) (t : TermSyntax) (c : BoundTerm) → bind_term fs j t ≡ passes c → item_level c ≡ object_steps fs t
+level_is : (fs : Fields) (j : ℕ) (t : TermSyntax) (c : BoundTerm) → bind_term fs j t ≡ passes c → item_chain c ≡ object_steps fs t
 level_is fs j (expression e) c h =
     let q = mapped_passes plain (bind_expression fs e) c h in
-    subst (λ x. item_level x ≡ object_steps fs (expression e)) q.2 (ap deepest_level (expression_steps fs e q.0 q.1))
+    subst (λ x. item_chain x ≡ object_steps fs (expression e)) q.2 (ap deepest_chain (expression_steps fs e q.0 q.1))
 level_is fs j (count_rows o) c h =
     let q = mapped_passes rows_counted (bind_within fs o) c h in
-    subst (λ x. item_level x ≡ within_steps fs o) q.2 (within_level_is fs o q.0 (within_is fs o q.0 q.1))
+    subst (λ x. item_chain x ≡ within_steps fs o) q.2 (within_chain_is fs o q.0 (within_is fs o q.0 q.1))
 level_is fs j (aggregate a e o) c h =
     let q = together_passes (aggregated a) (bind_argument fs j a e) (bind_within fs o) c h in
-    subst (λ x. item_level x ≡ within_steps fs o) q.4 (within_level_is fs o q.1 (within_is fs o q.1 q.3))
+    subst (λ x. item_chain x ≡ within_steps fs o) q.4 (within_chain_is fs o q.1 (within_is fs o q.1 q.3))
 
 -- ---- what is read of an item that passes
 
@@ -43,7 +43,7 @@ abbrev ItemIs : Fields → ℕ → ItemSyntax → BoundItem → Type 0
 ItemIs fs n x v = bind_item fs n x ≡ passes v
 
 abbrev ItemRead : Fields → ℕ → ItemSyntax → BoundItem → Type 0
-ItemRead fs n x v = (v.place ≡ x.place) × (v.name ≡ name_of n x) × (item_level v.term ≡ object_steps fs x.term)
+ItemRead fs n x v = (v.place ≡ x.place) × (v.name ≡ name_of n x) × (item_chain v.term ≡ object_steps fs x.term)
 
 item_read : (fs : Fields) (n : ℕ) (x : ItemSyntax) (v : BoundItem) → ItemIs fs n x v → ItemRead fs n x v
 item_read fs n x v h = let t = item_is fs n x v h in subst (ItemRead fs n x) t.2 (refl, refl, level_is fs x.place x.term t.0 t.1)
@@ -70,13 +70,13 @@ share_told : (fs : Fields) (q : QuerySyntax) (n m : ℕ) (x y : ItemSyntax) (v w
     → Both (same_path (object_of (is_record_syntax q) v) (object_of (is_record_syntax q) w) ≡ true) (ShareObject fs q x y)
 share_told fs q n m x y v w h k = by_kind (is_record_syntax q) refl
   where
-    levels : same_path (item_level v.term) (item_level w.term) ≡ same_path (object_steps fs x.term) (object_steps fs y.term)
+    levels : same_path (item_chain v.term) (item_chain w.term) ≡ same_path (object_steps fs x.term) (object_steps fs y.term)
     levels = ap₂ same_path h.2 k.2
 
     by_kind : (b : Bool) → is_record_syntax q ≡ b → Both (same_path (object_of b v) (object_of b w) ≡ true) (ShareObject fs q x y)
     by_kind true e = ((λ u. inr (sym levels ∙ u)), back)
       where
-        back : ShareObject fs q x y → same_path (item_level v.term) (item_level w.term) ≡ true
+        back : ShareObject fs q x y → same_path (item_chain v.term) (item_chain w.term) ≡ true
         back (inl a) = absurd (is_no_aggregate q e a)
         back (inr u) = levels ∙ u
     by_kind false e = ((λ u. inl (is_aggregate q e)), λ u. refl)
@@ -130,17 +130,17 @@ leads_told : (fs : Fields) (q : QuerySyntax) (n m : ℕ) (x y : ItemSyntax) (v w
     → Both (has_name_of_list (levels_of fs) (is_record_syntax q) v w ≡ true) (ListLeads fs q (name_of n x) x y)
 leads_told fs q n m x y v w h k = by_kind (is_record_syntax q) refl
   where
-    between : list_between (levels_of fs) (item_level v.term) (item_level w.term) ≡ list_between (levels_of fs) (object_steps fs x.term) (object_steps fs y.term)
+    between : list_between (levels_of fs) (item_chain v.term) (item_chain w.term) ≡ list_between (levels_of fs) (object_steps fs x.term) (object_steps fs y.term)
     between = ap₂ (list_between (levels_of fs)) h.2 k.2
 
     by_kind : (b : Bool) → is_record_syntax q ≡ b → Both (is_named v.name (list_between (levels_of fs) (object_of b v) (object_of b w)) ≡ true) (ListLeads fs q (name_of n x) x y)
     by_kind true e = (to, back)
       where
-        to : is_named v.name (list_between (levels_of fs) (item_level v.term) (item_level w.term)) ≡ true → ListLeads fs q (name_of n x) x y
-        to u = (is_no_aggregate q e, sym between ∙ named_from v.name (list_between (levels_of fs) (item_level v.term) (item_level w.term)) u ∙ ap Some h.1)
+        to : is_named v.name (list_between (levels_of fs) (item_chain v.term) (item_chain w.term)) ≡ true → ListLeads fs q (name_of n x) x y
+        to u = (is_no_aggregate q e, sym between ∙ named_from v.name (list_between (levels_of fs) (item_chain v.term) (item_chain w.term)) u ∙ ap Some h.1)
 
-        back : ListLeads fs q (name_of n x) x y → is_named v.name (list_between (levels_of fs) (item_level v.term) (item_level w.term)) ≡ true
-        back u = named_to v.name (list_between (levels_of fs) (item_level v.term) (item_level w.term)) (between ∙ u.1 ∙ ap Some (sym h.1))
+        back : ListLeads fs q (name_of n x) x y → is_named v.name (list_between (levels_of fs) (item_chain v.term) (item_chain w.term)) ≡ true
+        back u = named_to v.name (list_between (levels_of fs) (item_chain v.term) (item_chain w.term)) (between ∙ u.1 ∙ ap Some (sym h.1))
     by_kind false e = ((λ u. absurd (true≢false (sym u))), λ u. absurd (u.0 (is_aggregate q e)))
 
 -- all items that pass

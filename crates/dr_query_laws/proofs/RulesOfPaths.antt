@@ -4,7 +4,7 @@ use Rattle.std.specs.Prelude.{◌||◌, if◌then◌else◌}
 use Rattle.std.specs.List.{flat_map, list_all, slice_get, cons_option}
 use Rattle.std.proofs.lemmas.List.{map-append}
 use Rattle.dr_meaning.specs.Schema.{Fields, Shape, leaf, group}
-use Rattle.dr_meaning.specs.Path.{Step, Found, find_path, leaf_at, found_leaf, level, begins_with}
+use Rattle.dr_meaning.specs.Path.{Step, Found, find_path, leaf_at, found_leaf, chain_end, begins_with}
 use Rattle.dr_meaning.specs.Expression.{Expression, negative as negative_expression, arithmetic as arithmetic_expression, comparison as comparison_expression, like as like_expression, contains as contains_expression, is_null as is_null_expression, negation as negation_expression, conjunction as conjunction_expression, disjunction as disjunction_expression}
 use Rattle.dr_meaning.specs.Query.{Aggregate}
 use Rattle.dr_meaning.specs.Syntax.{PathSyntax, ExpressionSyntax, number_literal, text_literal, truth_literal, path, negative, arithmetic, comparison, like, contains, is_null, negation, conjunction, disjunction, WithinSyntax, TermSyntax, expression, count_rows, aggregate, ItemSyntax, ConditionSyntax, QuerySyntax}
@@ -153,9 +153,9 @@ steps_read fs (p ∷ ps) (x ∷ xs) h =
 -- ---- nested paths
 
 nested_from : (p q : List Step) → are_related p q ≡ true → AreNested p q
-nested_from p q h = by_first (begins_with (level p) (level q)) refl h
+nested_from p q h = by_first (begins_with (chain_end p) (chain_end q)) refl h
   where
-    by_first : (b : Bool) → begins_with (level p) (level q) ≡ b → (b || begins_with (level q) (level p)) ≡ true → AreNested p q
+    by_first : (b : Bool) → begins_with (chain_end p) (chain_end q) ≡ b → (b || begins_with (chain_end q) (chain_end p)) ≡ true → AreNested p q
     by_first true e k = inl e
     by_first false e k = inr k
 
@@ -164,8 +164,8 @@ or_true true = refl
 or_true false = refl
 
 nested_to : (p q : List Step) → AreNested p q → are_related p q ≡ true
-nested_to p q (inl h) = ap (λ b. b || begins_with (level q) (level p)) h
-nested_to p q (inr h) = ap (λ b. begins_with (level p) (level q) || b) h ∙ or_true (begins_with (level p) (level q))
+nested_to p q (inl h) = ap (λ b. b || begins_with (chain_end q) (chain_end p)) h
+nested_to p q (inr h) = ap (λ b. begins_with (chain_end p) (chain_end q) || b) h ∙ or_true (begins_with (chain_end p) (chain_end q))
 
 not_true : (b : Bool) → (b ≡ true → ⊥) → b ≡ false
 not_true true h = absurd (h refl)

@@ -3,7 +3,7 @@ use Rattle.std.proofs.Common.{◌≡◌, ℕ, List, [], ◌∷◌, ◌++◌, map
 use Rattle.std.specs.Prelude.{if◌then◌else◌, codes}
 use Rattle.dr_meaning.specs.Schema.{Fields, group}
 use Rattle.dr_meaning.specs.Path.{Step, Found, find_path, begins_with}
-use Rattle.dr_meaning.specs.Expression.{Expression, expression_level}
+use Rattle.dr_meaning.specs.Expression.{Expression, expression_chain}
 use Rattle.dr_meaning.specs.Query.{Aggregate, count, sum, least, greatest, RecordTerm, within}
 use Rattle.dr_meaning.specs.Tokens.{Word, count_word, sum_word, min_word, max_word, within_word, record_word, comma, open_parenthesis, close_parenthesis, star, reserved, sign, PlacedToken}
 use Rattle.dr_meaning.specs.Syntax.{PathSyntax, ExpressionSyntax, NodeSyntax, whole_record, node, WithinSyntax, TermSyntax, expression, count_rows, aggregate}
@@ -182,7 +182,7 @@ lone_written fs a i e y P h p f rest k = read_as (AggregateSaid fs a e) (TermSai
 
 -- an aggregate WITHIN a node, which holds its rows again
 held_again : (e d : BoundExpression) (u v : BoundWithin) (a : Aggregate) → within_faults (aggregated a e (Some v)) ≡ [] → d.expression ≡ e.expression → u.node ≡ v.node → u.is_whole ≡ v.is_whole → within_faults (aggregated a d (Some u)) ≡ []
-held_again e d u v a h x n w = by_test (holds_rows e.expression v) (ap₂ (λ b c. b && c) w (ap₂ begins_with n (ap expression_level x))) h
+held_again e d u v a h x n w = by_test (holds_rows e.expression v) (ap₂ (λ b c. b && c) w (ap₂ begins_with n (ap expression_chain x))) h
   where
     by_test : (b : Bool) → holds_rows d.expression u ≡ b → (if b then [] else fault_at v.place bad_within) ≡ [] → (if holds_rows d.expression u then [] else fault_at u.place bad_within) ≡ []
     by_test true q k = ap (λ b. if b then [] else fault_at u.place bad_within) q

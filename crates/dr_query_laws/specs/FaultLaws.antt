@@ -1,9 +1,9 @@
 -- What stands before the fault of a query text.
-use Rattle.std.specs.Prelude.{◌≡◌, ℕ, List, [], ◌∷◌, ◌++◌, length, true, nat_le, nat_lt, Err}
+use Rattle.std.specs.Prelude.{◌≡◌, ◌⊎◌, ℕ, List, [], ◌∷◌, ◌++◌, length, true, nat_le, nat_lt, Err}
 use Rattle.dr_meaning.specs.Tokens.{PlacedToken, query_tokens}
 use Rattle.dr_meaning.specs.Parse.{QueryProblem, too_long, syntax, too_deep, too_many, QueryFault, first_place, parse_query}
 use Rattle.dr_meaning.specs.QueryGrammar.{BeginsQuery}
-use Rattle.dr_query_laws.specs.LimitLaws.{operators_in}
+use Rattle.dr_query_laws.specs.LimitLaws.{operators_in, BeginsExtraItem, BeginsExtraKey}
 use Rattle.dr_query_laws.specs.NestingLaws.{OpensInQuery}
 
 -- the problems that stand at a token, or at the end
@@ -45,6 +45,17 @@ LittleNestedBefore all i = (before : List PlacedToken) × AreBefore before all i
 -- so it is with the tokens before a fault
 abbrev pub LittleNestedBeforeFault : Type 0
 LittleNestedBeforeFault = (bytes : List ℕ) (f : QueryFault) → IsAtToken f.problem → parse_query bytes ≡ Err f → LittleNestedBefore (query_tokens bytes) f.place
+
+-- none of the tokens begins the 257th item, or the 257th key
+abbrev pub HasFewElements : List PlacedToken → Type 0
+HasFewElements ts = (front more : List PlacedToken) (t : PlacedToken) → ts ≡ front ++ t ∷ more → BeginsExtraItem front t ⊎ BeginsExtraKey front t → ⊥
+
+abbrev pub FewElementsBefore : List PlacedToken → ℕ → Type 0
+FewElementsBefore all i = (before : List PlacedToken) × AreBefore before all i × HasFewElements before
+
+-- so it is with the tokens before a fault
+abbrev pub FewElementsBeforeFault : Type 0
+FewElementsBeforeFault = (bytes : List ℕ) (f : QueryFault) → IsAtToken f.problem → parse_query bytes ≡ Err f → FewElementsBefore (query_tokens bytes) f.place
 
 -- the limits that a token passes
 abbrev pub IsLimitAtToken : QueryProblem → Type 0

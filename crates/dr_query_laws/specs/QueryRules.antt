@@ -2,15 +2,15 @@
 use Rattle.std.specs.Prelude.{◌≡◌, ◌≢◌, ◌⊎◌, ◌↔◌, ◌<◌, ℕ, List, [], ◌∷◌, ◌++◌, map, true, false, Option, Some, None, Ok, Err}
 use Rattle.std.specs.List.{slice_get}
 use Rattle.dr_meaning.specs.Schema.{Schema, Fields, group}
-use Rattle.dr_meaning.specs.Path.{Step, Found, find_path, level, begins_with, same_path}
-use Rattle.dr_meaning.specs.Expression.{longest_level}
+use Rattle.dr_meaning.specs.Path.{Step, Found, find_path, chain_end, begins_with, same_path}
+use Rattle.dr_meaning.specs.Expression.{longest_chain}
 use Rattle.dr_meaning.specs.Query.{Query, levels_of}
 use Rattle.dr_meaning.specs.Syntax.{PathSyntax, ExpressionSyntax, number_literal, text_literal, truth_literal, path, negative, arithmetic}
 use Rattle.dr_meaning.specs.Syntax.{comparison, like, contains, is_null, negation, conjunction, disjunction, NodeSyntax, whole_record, node, WithinSyntax}
 use Rattle.dr_meaning.specs.Syntax.{TermSyntax, expression, count_rows, aggregate, ItemSyntax, ConditionSyntax, QuerySyntax}
 use Rattle.dr_meaning.specs.BoundExpression.{BindProblem, BindFault, unknown_table, unknown_field, not_a_leaf, type_mismatch, unrelated}
 use Rattle.dr_meaning.specs.BoundExpression.{bad_within, not_grouped, duplicate_name}
-use Rattle.dr_meaning.specs.Binding.{item_name, deepest_level, list_between, is_before, bind}
+use Rattle.dr_meaning.specs.Binding.{item_name, deepest_chain, list_between, is_before, bind}
 use Rattle.dr_query_laws.specs.BindingRules.{IsBrokenIn, IsBrokenCondition, IsBrokenArgument, IsBrokenTerm, IsBrokenKey, IsBrokenPart, IsUnknownTable}
 
 -- ---- parts that pass
@@ -63,7 +63,7 @@ all_steps_in fs e = map (steps_of fs) (paths_in e)
 
 -- the repeated fields on one of two paths are the first of those on the other
 abbrev pub AreNested : List Step → List Step → Type 0
-AreNested p q = (begins_with (level p) (level q) ≡ true) ⊎ (begins_with (level q) (level p) ≡ true)
+AreNested p q = (begins_with (chain_end p) (chain_end q) ≡ true) ⊎ (begins_with (chain_end q) (chain_end p) ≡ true)
 
 -- the nth of some paths isn't nested with an earlier one
 abbrev pub IsStranger : Fields → List PathSyntax → ℕ → Type 0
@@ -93,7 +93,7 @@ IsUnrelated fs q i = ((c : ConditionSyntax) × (q.condition ≡ Some c) × HasSt
 
 -- the record, or a group whose path ends in a repeated field
 abbrev pub IsRepeatedGroup : Found → Type 0
-IsRepeatedGroup f = ((inner : Fields) × (f.shape ≡ group inner)) × (same_path (level f.path) f.path ≡ true)
+IsRepeatedGroup f = ((inner : Fields) × (f.shape ≡ group inner)) × (same_path (chain_end f.path) f.path ≡ true)
 
 abbrev pub IsWhole : Fields → NodeSyntax → Type 0
 IsWhole fs whole_record = Unit {0}
@@ -105,7 +105,7 @@ node_steps fs (node x) = steps_of fs x
 
 -- a node is whole, and the longest chain of repeated fields on the argument's paths begins with it
 abbrev pub HoldsRows : Fields → NodeSyntax → ExpressionSyntax → Type 0
-HoldsRows fs n e = IsWhole fs n × (begins_with (node_steps fs n) (longest_level (all_steps_in fs e)) ≡ true)
+HoldsRows fs n e = IsWhole fs n × (begins_with (node_steps fs n) (longest_chain (all_steps_in fs e)) ≡ true)
 
 -- a WITHIN at the place i, of `*` or of an argument whose rows its node doesn't hold
 abbrev pub HasBadWithin : Fields → TermSyntax → ℕ → Type 0
@@ -146,11 +146,11 @@ IsNotGrouped fs q i = IsAggregateQuery q × ((n : ℕ) × (x : ItemSyntax) × Ha
 
 abbrev pub within_steps : Fields → Option WithinSyntax → List Step
 within_steps fs None = []
-within_steps fs (Some w) = level (node_steps fs w.node)
+within_steps fs (Some w) = chain_end (node_steps fs w.node)
 
--- the level of a record query's object in which an item stands: the most repeated fields on a path of its expression, or its node
+-- the chain of a record query's object in which an item stands: the most repeated fields on a path of its expression, or its node
 abbrev pub object_steps : Fields → TermSyntax → List Step
-object_steps fs (expression e) = deepest_level (all_steps_in fs e)
+object_steps fs (expression e) = deepest_chain (all_steps_in fs e)
 object_steps fs (count_rows w) = within_steps fs w
 object_steps fs (aggregate a e w) = within_steps fs w
 

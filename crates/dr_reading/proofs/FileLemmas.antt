@@ -3,14 +3,13 @@ use Rattle.std.proofs.Common.{◌≡◌, ℕ, List, [], ◌∷◌, map, true, �
 use Rattle.std.specs.List.{list_all}
 use Rattle.std.proofs.lemmas.Bool.{and_parts}
 use Rattle.dr_meaning.specs.Schema.{Schema, Fields}
-use Rattle.dr_meaning.specs.Path.{Step, Leaf, is_leaf_path}
+use Rattle.dr_meaning.specs.Path.{Step, Leaf, is_leaf_path, paths_of_leaves}
 use Rattle.dr_meaning.specs.Record.{Node, project}
 use Rattle.dr_meaning.specs.Column.{Triplet, column}
 use Rattle.dr_meaning.proofs.ColumnLemmas.{columns_determine}
 use Rattle.dr_formats.specs.File.{Footer, footer_of, IsDataOf, IsFileOf, bad_footer, bad_schema, bad_codec, bad_data}
 use Rattle.dr_formats.proofs.FileLemmas.{file_has_no_cause}
 use Rattle.dr_outside.specs.declared.cause.Cause.TheVariants.{ReadFailed, BadFooter, BadSchema, BadCodec, BadData}
-use Rattle.dr_reading.specs.Premises.{paths_of_leaves}
 use Rattle.dr_reading.specs.ReadingLaws.{OtherCausesHoldNoFile}
 
 -- ---- records of which the same bytes are a file have the same projections

@@ -3,12 +3,12 @@ use Rattle.std.proofs.Common.{◌≡◌, inl, inr, ℕ, List, [], ◌∷◌, ◌
 use Rattle.std.specs.List.{list_all}
 use Rattle.std.proofs.lemmas.List.{map-append}
 use Rattle.dr_meaning.specs.Schema.{Schema}
-use Rattle.dr_meaning.specs.Path.{Leaf, is_leaf_path}
+use Rattle.dr_meaning.specs.Path.{Leaf, is_leaf_path, paths_of_leaves}
 use Rattle.dr_meaning.specs.Record.{Node, project}
 use Rattle.dr_formats.specs.File.{IsFileOf}
 use Rattle.dr_outside.specs.Link.{Files}
 use Rattle.dr_reading.specs.Held.{Held, present, held_file, held_at}
-use Rattle.dr_reading.specs.Premises.{TellsFiles, HoldsRecords, PathsHold, paths_of_leaves, TabletsHold}
+use Rattle.dr_reading.specs.Premises.{TellsFiles, HoldsRecords, PathsHold, TabletsHold}
 use Rattle.dr_reading.specs.Causes.{IsJustified}
 use Rattle.dr_reading.specs.Scan.{Copy, copy_paths, joined}
 use Rattle.dr_reading.specs.Given.{IsFileThere, SomeIsFile, AreGiven}

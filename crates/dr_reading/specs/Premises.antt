@@ -2,7 +2,7 @@
 use Rattle.std.specs.Prelude.{◌≡◌, ℕ, true, List, [], ◌∷◌, map, Option, Some, None, ⊤, ◌⊎◌}
 use Rattle.std.specs.List.{slice_get}
 use Rattle.dr_meaning.specs.Schema.{Schema}
-use Rattle.dr_meaning.specs.Path.{Step, Leaf}
+use Rattle.dr_meaning.specs.Path.{Step, Leaf, paths_of_leaves}
 use Rattle.dr_meaning.specs.Record.{Node, project}
 use Rattle.dr_formats.specs.File.{IsFileOf}
 use Rattle.dr_outside.specs.Link.{Files}
@@ -27,9 +27,6 @@ HoldsRecords s F R (present bytes) = IsFileOf bytes s F R ⊎ ((S : List Node) �
 abbrev pub PathsHold : Schema → List Leaf → List Node → Files → List (List ℕ) → Type 0
 PathsHold s F R files [] = ⊤
 PathsHold s F R files (path ∷ paths) = HoldsRecords s F R (held_file (files path)) × PathsHold s F R files paths
-
-abbrev pub paths_of_leaves : List Leaf → List (List Step)
-paths_of_leaves F = map (λ (l : Leaf). l.path) F
 
 -- each copy of each tablet holds a file of the tablet's records for these leaves, or none of any records, or nothing
 abbrev pub TabletsHold : Schema → List Leaf → Files → List (List Copy) → List (List Node) → Type 0

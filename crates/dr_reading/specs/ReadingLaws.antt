@@ -2,12 +2,12 @@
 use Rattle.std.specs.Prelude.{◌≡◌, ℕ, true, false, IsTrue, List, [], map, Option, Some}
 use Rattle.std.specs.List.{list_all}
 use Rattle.dr_meaning.specs.Schema.{Schema}
-use Rattle.dr_meaning.specs.Path.{Leaf, is_leaf_path}
+use Rattle.dr_meaning.specs.Path.{Leaf, is_leaf_path, paths_of_leaves}
 use Rattle.dr_meaning.specs.Record.{Node, project}
 use Rattle.dr_formats.specs.File.{IsFileOf}
 use Rattle.dr_outside.specs.Link.{Files, LinkShown}
 use Rattle.dr_outside.specs.declared.cause.Cause.{Cause}
-use Rattle.dr_reading.specs.Premises.{TellsFiles, paths_of_leaves, TabletsHold, HoldsTable, SeesLeavesAlone, EachHasFile, EachReadFailed}
+use Rattle.dr_reading.specs.Premises.{TellsFiles, TabletsHold, HoldsTable, SeesLeavesAlone, EachHasFile, EachReadFailed}
 use Rattle.dr_reading.specs.Scan.{Copy, Scan, joined}
 use Rattle.dr_reading.specs.Given.{AreGiven}
 use Rattle.dr_reading.specs.Held.{present}

@@ -3,8 +3,9 @@ use Rattle.std.specs.Prelude.{ℕ, zero, suc, List, [], ◌∷◌, ◌++◌, len
 use Rattle.dr_meaning.specs.Schema.{Schema}
 use Rattle.dr_meaning.specs.Path.{Leaf}
 use Rattle.dr_meaning.specs.Record.{Node}
-use Rattle.dr_formats.specs.Tablets.{placement, tablet_path, nth_directory}
+use Rattle.dr_formats.specs.Tablets.{placement, tablet_path}
 use Rattle.dr_formats.specs.TableFile.{Table}
+use Rattle.dr_meaning.specs.Lists.{nth_text}
 
 -- a copy of a tablet: the number of the leaf directory that it lies in, and its path
 pub record Copy : Type 0 where
@@ -24,7 +25,7 @@ pub record Scan : Type 0 where
 
 -- the copy of a tablet in a directory
 abbrev pub copy_in : List (List ℕ) → ℕ → ℕ → Copy
-copy_in directories tablet d = record { directory = d; path = tablet_path (nth_directory directories d) tablet }
+copy_in directories tablet d = record { directory = d; path = tablet_path (nth_text directories d) tablet }
 
 -- so many copies of a tablet, from the jth on
 abbrev pub copies_from : List (List ℕ) → ℕ → ℕ → ℕ → List Copy

@@ -1,15 +1,17 @@
 //! Columns put together as records.
 
 ghost use Rattle.std.specs.Prelude.{◌≡◌, List, map, true, IfOk, IsErrOf};
-ghost use Rattle.dr_assemble.specs.declared.fault.AssembleFault.{AssembleFault};
+ghost use Rattle.dr_walk.specs.declared.fault.AssembleFault.{AssembleFault};
 ghost use Rattle.std.specs.List.{list_all};
 ghost use Rattle.dr_meaning.specs.Path.{is_leaf_path};
 ghost use Rattle.dr_meaning.specs.Record.{project};
 ghost use Rattle.dr_nested.specs.Views.{fields_view};
 ghost use Rattle.dr_levels.specs.Views.{columns_view};
-ghost use Rattle.dr_assemble.specs.Assembly.{HasColumns, AreProjections, NoneHas};
-ghost use Rattle.dr_assemble.specs.Views.{paths_view, nodes_view};
+ghost use Rattle.dr_assemble.specs.Assembly.{AreProjections};
+ghost use Rattle.dr_assemble.specs.Views.{nodes_view};
 ghost use Rattle.dr_meaning.specs.Record as record_tree;
+ghost use Rattle.dr_nested.specs.PathView.{paths_view};
+ghost use Rattle.dr_walk.specs.Walking.{HasColumns, NoneHas};
 
 use dr_assemble::{AssembleFault, assemble};
 use dr_levels::Column;

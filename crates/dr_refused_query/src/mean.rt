@@ -11,7 +11,7 @@ ghost use Rattle.dr_partials.specs.Partials as partials;
 ghost use Rattle.dr_meaning.specs.Expression as meant;
 
 use dr_group::Partial;
-use dr_mean::{expression_level, keys_level, partial_of};
+use dr_mean::{expression_chain, keys_chain, partial_of};
 use dr_memory::NoMemory;
 use dr_nested::{Node, Path, Step};
 use dr_plan::{Expr, Plan};
@@ -27,17 +27,17 @@ pub fn partial_on(alloc: Global, plan: &Plan, records: &[Node]) -> Result<Partia
     partial_of(alloc, plan, records)
 }
 
-/// As `expression_level`.
+/// As `expression_chain`.
 pub fn level_of<'p>(leaves: &'p [Path], expression: &Expr) -> &'p [Step]
-    ensures { map step_view result.now ≡ meant.expression_level (expr_view (map path_view leaves.now) expression.now) }
+    ensures { map step_view result.now ≡ meant.expression_chain (expr_view (map path_view leaves.now) expression.now) }
 {
-    expression_level(leaves, expression)
+    expression_chain(leaves, expression)
 }
 
-/// As `keys_level`.
-pub fn level_of_keys<'p>(leaves: &'p [Path], keys: &[u32]) -> &'p [Step]
-    ensures { map step_view result.now ≡ meant.longest_level
+/// As `keys_chain`.
+pub fn chain_of_keys<'p>(leaves: &'p [Path], keys: &[u32]) -> &'p [Step]
+    ensures { map step_view result.now ≡ meant.longest_chain
         (map (λ k. path_of (slice_get (map path_view leaves.now) k)) keys.now) }
 {
-    keys_level(leaves, keys)
+    keys_chain(leaves, keys)
 }

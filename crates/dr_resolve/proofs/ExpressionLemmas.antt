@@ -15,7 +15,7 @@ use Rattle.dr_plan.specs.Fitting.{expr_fits}
 use Rattle.dr_plan.specs.declared.expression.Expr.{Expr}
 use Rattle.dr_bound_parts.specs.Faults.{earlier}
 use Rattle.dr_bound_parts.specs.Bound.{Covers, is_path_value, type_of, Means, IsExpression}
-use Rattle.dr_resolve.specs.Outcomes.{Came, MadeAt}
+use Rattle.dr_resolve.specs.Outcomes.{BindsAs, MadeAt}
 use Rattle.dr_resolve.specs.Operators.{unary_of, binary_of}
 use Rattle.dr_paths.specs.declared.bound.BoundPath.{BoundPath}
 use Rattle.dr_paths.specs.Views.{bound_path_view}
@@ -51,7 +51,7 @@ unary_is_no_path Unary.Not e = refl
 
 -- an operand that couldn't be bound
 pub no_operand : (fs : Fields) (ls : List Leaf) (i : ℕ) (type : ValueType → Option ValueType) (make : Expression → Expression) (c : Checked meant.BoundExpression) (before now : Option BindFault)
-    → Came (IsExpression fs ls) before now c None → Came (IsExpression fs ls) before now (one_operand i type make c) None
+    → BindsAs (IsExpression fs ls) before now c None → BindsAs (IsExpression fs ls) before now (one_operand i type make c) None
 no_operand fs ls i type make (passes b) before now h = absurd h
 no_operand fs ls i type make (fails e es) before now h = h
 
@@ -64,7 +64,7 @@ FitsAs a made = IfSome made (λ e. (ls : List Leaf) → expr_fits ls e ≡ expr_
 pub one_made : (fs : Fields) (ls : List Leaf) (i : ℕ) (type : ValueType → Option ValueType) (make : Expression → Expression) (c : Checked meant.BoundExpression)
     (before between now : Option BindFault) (x : BoundExpression) (made : Option Expr) (o : Option BoundExpression) → KeepsPaths make → IsNoPath make
     → option_map type_of made ≡ type (type_of x.expression) → ViewIs make x.expression made → FitsAs x.expression made → MadeAt i made x.paths between now o
-    → Came (IsExpression fs ls) before between c (Some x) → Came (IsExpression fs ls) before now (one_operand i type make c) o
+    → BindsAs (IsExpression fs ls) before between c (Some x) → BindsAs (IsExpression fs ls) before now (one_operand i type make c) o
 one_made fs ls i type make (fails e es) before between now x made o k np t v f m h = absurd h
 one_made fs ls i type make (passes b) before between now x None None k np t v f m h =
     let none : type b.gives ≡ None = ap type (sym h.1.gives) ∙ sym t in
@@ -110,8 +110,8 @@ binary_is_no_path Binary.Or a b = refl
 
 -- one of the operands couldn't be bound
 no_left : (fs : Fields) (ls : List Leaf) (i : ℕ) (type : ValueType → ValueType → Option ValueType) (make : Expression → Expression → Expression) (c d : Checked meant.BoundExpression)
-    (before between now : Option BindFault) (right : Option BoundExpression) → Came (IsExpression fs ls) before between c None → Came (IsExpression fs ls) between now d right
-    → Came (IsExpression fs ls) before now (two_operands i type make c d) None
+    (before between now : Option BindFault) (right : Option BoundExpression) → BindsAs (IsExpression fs ls) before between c None → BindsAs (IsExpression fs ls) between now d right
+    → BindsAs (IsExpression fs ls) before now (two_operands i type make c d) None
 no_left fs ls i type make (passes a) d before between now right h k = absurd h
 no_left fs ls i type make (fails e es) (passes b) before between now None h k = absurd k
 no_left fs ls i type make (fails e es) (passes b) before between now (Some y) h k = k.0 ∙ h
@@ -119,16 +119,16 @@ no_left fs ls i type make (fails e es) (fails g gs) before between now None h k 
 no_left fs ls i type make (fails e es) (fails g gs) before between now (Some y) h k = absurd k
 
 no_right : (fs : Fields) (ls : List Leaf) (i : ℕ) (type : ValueType → ValueType → Option ValueType) (make : Expression → Expression → Expression) (c d : Checked meant.BoundExpression)
-    (before between now : Option BindFault) (x : BoundExpression) → Came (IsExpression fs ls) before between c (Some x) → Came (IsExpression fs ls) between now d None
-    → Came (IsExpression fs ls) before now (two_operands i type make c d) None
+    (before between now : Option BindFault) (x : BoundExpression) → BindsAs (IsExpression fs ls) before between c (Some x) → BindsAs (IsExpression fs ls) between now d None
+    → BindsAs (IsExpression fs ls) before now (two_operands i type make c d) None
 no_right fs ls i type make (fails e es) d before between now x h k = absurd h
 no_right fs ls i type make (passes a) (passes b) before between now x h k = absurd k
 no_right fs ls i type make (passes a) (fails g gs) before between now x h k = k ∙ ap (λ y. earlier y (first_fault (g ∷ gs))) h.0
 
 -- not both of the operands could be bound
 pub no_pair : (fs : Fields) (ls : List Leaf) (i : ℕ) (type : ValueType → ValueType → Option ValueType) (make : Expression → Expression → Expression) (c d : Checked meant.BoundExpression)
-    (before between now : Option BindFault) (left right : Option BoundExpression) → option_zip left right ≡ None → Came (IsExpression fs ls) before between c left
-    → Came (IsExpression fs ls) between now d right → Came (IsExpression fs ls) before now (two_operands i type make c d) None
+    (before between now : Option BindFault) (left right : Option BoundExpression) → option_zip left right ≡ None → BindsAs (IsExpression fs ls) before between c left
+    → BindsAs (IsExpression fs ls) between now d right → BindsAs (IsExpression fs ls) before now (two_operands i type make c d) None
 no_pair fs ls i type make c d before between now None right z h k = no_left fs ls i type make c d before between now right h k
 no_pair fs ls i type make c d before between now (Some x) None z h k = no_right fs ls i type make c d before between now x h k
 no_pair fs ls i type make c d before between now (Some x) (Some y) z h k = absurd (cc)
@@ -154,7 +154,7 @@ pub two_made : (fs : Fields) (ls : List Leaf) (i : ℕ) (type : ValueType → Va
     (before between next now : Option BindFault) (x y : BoundExpression) (made : Option Expr) (ps : Vec BoundPath Global) (o : Option BoundExpression) → JoinsPaths make → AreNoPath make
     → option_map type_of made ≡ type (type_of x.expression) (type_of y.expression) → ViewJoins make x.expression y.expression made → FitsBoth x.expression y.expression made
     → ps.items ≡ x.paths.items ++ y.paths.items → MadeAt i made ps next now o
-    → Came (IsExpression fs ls) before between c (Some x) → Came (IsExpression fs ls) between next d (Some y) → Came (IsExpression fs ls) before now (two_operands i type make c d) o
+    → BindsAs (IsExpression fs ls) before between c (Some x) → BindsAs (IsExpression fs ls) between next d (Some y) → BindsAs (IsExpression fs ls) before now (two_operands i type make c d) o
 two_made fs ls i type make (fails e es) d before between next now x y made ps o k np t v f p m h g = absurd h
 two_made fs ls i type make (passes a) (fails e es) before between next now x y made ps o k np t v f p m h g = absurd g
 two_made fs ls i type make (passes a) (passes b) before between next now x y None ps None k np t v f p m h g =

@@ -16,16 +16,16 @@ use Rattle.dr_sql.specs.declared.expression.Path.{Path}
 use Rattle.dr_paths.specs.declared.bound.BoundPath.{BoundPath}
 use Rattle.dr_paths.specs.Views.{bound_path_view}
 use Rattle.dr_bound_parts.specs.Faults.{earlier}
-use Rattle.dr_resolve.specs.Resolved.{lent}
-use Rattle.dr_resolve.specs.Outcomes.{Appends, Came, IsPath}
+use Rattle.dr_resolve.specs.Outcomes.{Appends, BindsAs, IsPath}
 use Rattle.dr_bound_parts.specs.Items.{AreExpressions, AreItems, IsItem}
 use Rattle.dr_resolve.specs.Outcomes.{present}
 use Rattle.dr_bound_parts.specs.declared.parts.BoundExpression.{BoundExpression}
 use Rattle.dr_bound_parts.specs.declared.parts.BoundItem.{BoundItem}
 use Rattle.dr_bound_parts.proofs.FaultLemmas.{earlier_assoc, first_fault-append}
+use Rattle.dr_sql.specs.Views.{lent}
 
 -- the faults of a part are noted before those of the parts behind it
-pub faults_more : {A B : Type 0} (Is : B → A → Type 0) (c : Checked B) (cs : List (Checked B)) (before now : Option BindFault) (o : Option A) → Came Is before now c o
+pub faults_more : {A B : Type 0} (Is : B → A → Type 0) (c : Checked B) (cs : List (Checked B)) (before now : Option BindFault) (o : Option A) → BindsAs Is before now c o
     → earlier now (first_fault (flat_map faults_in cs)) ≡ earlier before (first_fault (flat_map faults_in (c ∷ cs)))
 faults_more Is (passes b) cs before now None h = absurd h
 faults_more Is (passes b) cs before now (Some a) h = ap (λ f. earlier f (first_fault (flat_map faults_in cs))) h.0
@@ -40,7 +40,7 @@ faults_more Is (fails e es) cs before now None h =
 abbrev pub GoesOn : Fields → List Leaf → List (Checked binding.BoundItem) → List (Checked binding.BoundItem) → List BoundItem → Type 0
 GoesOn fs ls rest all bound = (vs : List BoundItem) → AreItems fs ls (passing rest) vs → AreItems fs ls (passing all) (bound ++ vs)
 
-item_bound : (fs : Fields) (ls : List Leaf) (c : Checked binding.BoundItem) (cs all : List (Checked binding.BoundItem)) (before now : Option BindFault) (o : Option BoundItem) (bound : List BoundItem) → Came (IsItem fs ls) before now c o
+item_bound : (fs : Fields) (ls : List Leaf) (c : Checked binding.BoundItem) (cs all : List (Checked binding.BoundItem)) (before now : Option BindFault) (o : Option BoundItem) (bound : List BoundItem) → BindsAs (IsItem fs ls) before now c o
     → GoesOn fs ls (c ∷ cs) all bound → GoesOn fs ls cs all (bound ++ present o)
 item_bound fs ls (passes b) cs all before now None bound h g vs v = absurd h
 item_bound fs ls (passes b) cs all before now (Some x) bound h g vs v = subst (AreItems fs ls (passing all)) (sym (append_assoc bound (x ∷ []) vs)) (g (x ∷ vs) (h.1, v))
@@ -58,13 +58,13 @@ items_cut fs n items d l =
     ∙ ap (λ k. bind_item fs n (syntax.item_view (get_or items n d)) ∷ bind_items fs k (map syntax.item_view (drop (n + 1) items))) next
 
 pub item_more : (fs : Fields) (ls : List Leaf) (n : ℕ) (items : List Item) (x : Item) (before now : Option BindFault) (o : Option BoundItem) (bound bound' : List BoundItem) (all : List (Checked binding.BoundItem)) → n < length items → x ≡ get_or items n x
-    → bound' ≡ bound ++ present o → Came (IsItem fs ls) before now (bind_item fs n (syntax.item_view x)) o → GoesOn fs ls (items_from fs n items) all bound → GoesOn fs ls (items_from fs (n + 1) items) all bound'
+    → bound' ≡ bound ++ present o → BindsAs (IsItem fs ls) before now (bind_item fs n (syntax.item_view x)) o → GoesOn fs ls (items_from fs n items) all bound → GoesOn fs ls (items_from fs (n + 1) items) all bound'
 item_more fs ls n items x before now o bound bound' all l e p h g =
     let cut : items_from fs n items ≡ bind_item fs n (syntax.item_view x) ∷ items_from fs (n + 1) items = items_cut fs n items x l ∙ ap (λ y. bind_item fs n (syntax.item_view y) ∷ items_from fs (n + 1) items) (sym e) in
     subst (GoesOn fs ls (items_from fs (n + 1) items) all) (sym p) (item_bound fs ls (bind_item fs n (syntax.item_view x)) (items_from fs (n + 1) items) all before now o bound h (subst (λ cs. GoesOn fs ls cs all bound) cut g))
 
 pub item_faults_more : (fs : Fields) (ls : List Leaf) (n : ℕ) (items : List Item) (x : Item) (before now whole : Option BindFault) (o : Option BoundItem) → n < length items → x ≡ get_or items n x
-    → Came (IsItem fs ls) before now (bind_item fs n (syntax.item_view x)) o → earlier before (first_fault (flat_map faults_in (items_from fs n items))) ≡ whole → earlier now (first_fault (flat_map faults_in (items_from fs (n + 1) items))) ≡ whole
+    → BindsAs (IsItem fs ls) before now (bind_item fs n (syntax.item_view x)) o → earlier before (first_fault (flat_map faults_in (items_from fs n items))) ≡ whole → earlier now (first_fault (flat_map faults_in (items_from fs (n + 1) items))) ≡ whole
 item_faults_more fs ls n items x before now whole o l e h w =
     let cut : items_from fs n items ≡ bind_item fs n (syntax.item_view x) ∷ items_from fs (n + 1) items = items_cut fs n items x l ∙ ap (λ y. bind_item fs n (syntax.item_view y) ∷ items_from fs (n + 1) items) (sym e) in
     faults_more (IsItem fs ls) (bind_item fs n (syntax.item_view x)) (items_from fs (n + 1) items) before now o h ∙ ap (λ cs. earlier before (first_fault (flat_map faults_in cs))) (sym cut) ∙ w
@@ -114,7 +114,7 @@ keys_from fs n keys = map (bind_path fs) (map syntax.path_view (drop n keys))
 keys_cut : (fs : Fields) (n : ℕ) (keys : List Path) (x : Path) → n < length keys → x ≡ get_or keys n x → keys_from fs n keys ≡ bind_path fs (syntax.path_view x) ∷ keys_from fs (n + 1) keys
 keys_cut fs n keys x l e = ap (λ xs. map (bind_path fs) (map syntax.path_view xs)) (drop_more keys n x l) ∙ ap (λ y. bind_path fs (syntax.path_view y) ∷ keys_from fs (n + 1) keys) (sym e)
 
-key_passes : (c : Checked meant.BoundPath) (cs : List (Checked meant.BoundPath)) (before now : Option BindFault) (o : Option BoundPath) → Came IsPath before now c o → map bound_path_view (present o) ++ passing cs ≡ passing (c ∷ cs)
+key_passes : (c : Checked meant.BoundPath) (cs : List (Checked meant.BoundPath)) (before now : Option BindFault) (o : Option BoundPath) → BindsAs IsPath before now c o → map bound_path_view (present o) ++ passing cs ≡ passing (c ∷ cs)
 key_passes (passes b) cs before now None h = absurd h
 key_passes (passes b) cs before now (Some x) h = ap (λ y. y ∷ passing cs) h.1
 key_passes (fails e es) cs before now (Some x) h = absurd h
@@ -125,14 +125,14 @@ map_joined [] ys = refl
 map_joined (x ∷ xs) ys = ap (λ zs. bound_path_view x ∷ zs) (map_joined xs ys)
 
 pub key_more : (fs : Fields) (n : ℕ) (keys : List Path) (x : Path) (before now : Option BindFault) (o : Option BoundPath) (bound bound' : List BoundPath) (whole : List meant.BoundPath) → n < length keys → x ≡ get_or keys n x
-    → bound' ≡ bound ++ present o → Came IsPath before now (bind_path fs (syntax.path_view x)) o → map bound_path_view bound ++ passing (keys_from fs n keys) ≡ whole → map bound_path_view bound' ++ passing (keys_from fs (n + 1) keys) ≡ whole
+    → bound' ≡ bound ++ present o → BindsAs IsPath before now (bind_path fs (syntax.path_view x)) o → map bound_path_view bound ++ passing (keys_from fs n keys) ≡ whole → map bound_path_view bound' ++ passing (keys_from fs (n + 1) keys) ≡ whole
 key_more fs n keys x before now o bound bound' whole l e p h w =
     ap (λ xs. map bound_path_view xs ++ passing (keys_from fs (n + 1) keys)) p ∙ ap (λ xs. xs ++ passing (keys_from fs (n + 1) keys)) (map_joined bound (present o))
     ∙ append_assoc (map bound_path_view bound) (map bound_path_view (present o)) (passing (keys_from fs (n + 1) keys))
     ∙ ap (λ xs. map bound_path_view bound ++ xs) (key_passes (bind_path fs (syntax.path_view x)) (keys_from fs (n + 1) keys) before now o h ∙ ap passing (sym (keys_cut fs n keys x l e))) ∙ w
 
 pub key_faults_more : (fs : Fields) (n : ℕ) (keys : List Path) (x : Path) (before now whole : Option BindFault) (o : Option BoundPath) → n < length keys → x ≡ get_or keys n x
-    → Came IsPath before now (bind_path fs (syntax.path_view x)) o → earlier before (first_fault (flat_map faults_in (keys_from fs n keys))) ≡ whole → earlier now (first_fault (flat_map faults_in (keys_from fs (n + 1) keys))) ≡ whole
+    → BindsAs IsPath before now (bind_path fs (syntax.path_view x)) o → earlier before (first_fault (flat_map faults_in (keys_from fs n keys))) ≡ whole → earlier now (first_fault (flat_map faults_in (keys_from fs (n + 1) keys))) ≡ whole
 key_faults_more fs n keys x before now whole o l e h w =
     faults_more IsPath (bind_path fs (syntax.path_view x)) (keys_from fs (n + 1) keys) before now o h ∙ ap (λ cs. earlier before (first_fault (flat_map faults_in cs))) (sym (keys_cut fs n keys x l e)) ∙ w
 

@@ -19,7 +19,7 @@ use Rattle.dr_plan.specs.Fitting.{expr_fits}
 use Rattle.dr_paths.specs.declared.bound.BoundPath.{BoundPath}
 use Rattle.dr_paths.specs.Views.{bound_path_view}
 use Rattle.dr_bound_parts.specs.Bound.{IsAmong, Covers, Means, IsExpression, type_of}
-use Rattle.dr_resolve.specs.Outcomes.{Came, IsPath}
+use Rattle.dr_resolve.specs.Outcomes.{BindsAs, IsPath}
 use Rattle.dr_bound_parts.specs.declared.parts.BoundExpression.{BoundExpression}
 
 -- a path that was found has at most as many steps as a path may have
@@ -30,10 +30,10 @@ found_within ns s steps k v h = steps_within ns s [] steps k v refl (ap (option_
 -- the value of a path that was bound
 pub value_bound : (fs : Fields) (ls : List Leaf) (p : PathSyntax) (before now : Option BindFault) (path : BoundPath) (x : BoundExpression) → type_of x.expression ≡ kind_type (path_view path.leaf).kind → x.is_path ≡ true
     → map bound_path_view x.paths.items ≡ bound_path_view path ∷ [] → (IsAmong ls (path_view path.leaf) → expr_view ls x.expression ≡ path_value (path_view path.leaf).path)
-    → (IsAmong ls (path_view path.leaf) → expr_fits ls x.expression ≡ true) → Came IsPath before now (bind_path fs p) (Some path) → Came (IsExpression fs ls) before now (checked_map path_expression (bind_path fs p)) (Some x)
+    → (IsAmong ls (path_view path.leaf) → expr_fits ls x.expression ≡ true) → BindsAs IsPath before now (bind_path fs p) (Some path) → BindsAs (IsExpression fs ls) before now (checked_map path_expression (bind_path fs p)) (Some x)
 value_bound fs ls p before now path x t a ps v f h = by_outcome (bind_path fs p) refl h
   where
-    by_outcome : (c : Checked meant.BoundPath) → bind_path fs p ≡ c → Came IsPath before now c (Some path) → Came (IsExpression fs ls) before now (checked_map path_expression c) (Some x)
+    by_outcome : (c : Checked meant.BoundPath) → bind_path fs p ≡ c → BindsAs IsPath before now c (Some path) → BindsAs (IsExpression fs ls) before now (checked_map path_expression c) (Some x)
     by_outcome (fails e es) q g = absurd g
     by_outcome (passes b) q g =
         let same : path_view path.leaf ≡ b.leaf = ap (λ (y : meant.BoundPath). y.leaf) g.1 in
@@ -54,9 +54,9 @@ value_bound fs ls p before now path x t a ps v f h = by_outcome (bind_path fs p)
         )
 
 -- no path was bound
-pub no_value : (fs : Fields) (ls : List Leaf) (p : PathSyntax) (before now : Option BindFault) → Came IsPath before now (bind_path fs p) None → Came (IsExpression fs ls) before now (checked_map path_expression (bind_path fs p)) None
+pub no_value : (fs : Fields) (ls : List Leaf) (p : PathSyntax) (before now : Option BindFault) → BindsAs IsPath before now (bind_path fs p) None → BindsAs (IsExpression fs ls) before now (checked_map path_expression (bind_path fs p)) None
 no_value fs ls p before now h = by_outcome (bind_path fs p) h
   where
-    by_outcome : (c : Checked meant.BoundPath) → Came IsPath before now c None → Came (IsExpression fs ls) before now (checked_map path_expression c) None
+    by_outcome : (c : Checked meant.BoundPath) → BindsAs IsPath before now c None → BindsAs (IsExpression fs ls) before now (checked_map path_expression c) None
     by_outcome (fails e es) g = g
     by_outcome (passes b) g = absurd g

@@ -10,7 +10,7 @@ use Rattle.dr_nested.specs.PathView.{step_view}
 use Rattle.dr_nested.specs.Finding.{found_at, behind}
 use Rattle.dr_nested.specs.declared.path.Step.{Step as CodeStep}
 use Rattle.dr_nested.proofs.FindingLemmas.{entered}
-use Rattle.dr_resolve.specs.Resolved.{lent}
+use Rattle.dr_sql.specs.Views.{lent}
 
 -- what the rest of the names leads to behind a field is what they lead to with the field's name before them
 pub one_name_on : (names : List (Bor (List ℕ))) (i : ℕ) (d : Bor (List ℕ)) (before now : List Step) (fs : tree.Fields) (place : ℕ) (f : SeenField) (s t : tree.Shape) (whole : Option Found) → i < length names

@@ -16,7 +16,7 @@ use Rattle.dr_plan.specs.Views.{fold_view, expr_view}
 use Rattle.dr_plan.specs.Fitting.{expr_fits}
 use Rattle.dr_bound_parts.specs.Faults.{earlier}
 use Rattle.dr_bound_parts.specs.Bound.{type_of, IsExpression}
-use Rattle.dr_resolve.specs.Outcomes.{Appends, Came}
+use Rattle.dr_resolve.specs.Outcomes.{Appends, BindsAs}
 use Rattle.dr_paths.specs.declared.bound.BoundPath.{BoundPath}
 use Rattle.dr_paths.specs.Views.{bound_path_view}
 use Rattle.dr_bound_parts.specs.Items.{AreExpressions, IsTruth, IsWithin, IsTerm}
@@ -29,28 +29,28 @@ use Rattle.dr_bound_parts.proofs.FaultLemmas.{noted_behind}
 -- ---- a wanted type
 
 -- nothing could be bound
-pub none_checked : {A B C D : Type 0} (Is : A → C → Type 0) (Is' : B → D → Type 0) (rule : A → Checked B) (c : Checked A) (before now : Option BindFault) → Came Is before now c None → Came Is' before now (then_check rule c) None
+pub none_checked : {A B C D : Type 0} (Is : A → C → Type 0) (Is' : B → D → Type 0) (rule : A → Checked B) (c : Checked A) (before now : Option BindFault) → BindsAs Is before now c None → BindsAs Is' before now (then_check rule c) None
 none_checked Is Is' rule (passes b) before now h = absurd h
 none_checked Is Is' rule (fails e es) before now h = h
 
-pub none_mapped : {A B C D : Type 0} (Is : A → C → Type 0) (Is' : B → D → Type 0) (f : A → B) (c : Checked A) (before now : Option BindFault) → Came Is before now c None → Came Is' before now (checked_map f c) None
+pub none_mapped : {A B C D : Type 0} (Is : A → C → Type 0) (Is' : B → D → Type 0) (f : A → B) (c : Checked A) (before now : Option BindFault) → BindsAs Is before now c None → BindsAs Is' before now (checked_map f c) None
 none_mapped Is Is' f (passes b) before now h = absurd h
 none_mapped Is Is' f (fails e es) before now h = h
 
-pub mapped : {A B C D : Type 0} (Is : A → C → Type 0) (Is' : B → D → Type 0) (f : A → B) (y : C) (z : D) (c : Checked A) (before now : Option BindFault) → ((b : A) → Is b y → Is' (f b) z) → Came Is before now c (Some y) → Came Is' before now (checked_map f c) (Some z)
+pub mapped : {A B C D : Type 0} (Is : A → C → Type 0) (Is' : B → D → Type 0) (f : A → B) (y : C) (z : D) (c : Checked A) (before now : Option BindFault) → ((b : A) → Is b y → Is' (f b) z) → BindsAs Is before now c (Some y) → BindsAs Is' before now (checked_map f c) (Some z)
 mapped Is Is' f y z (passes b) before now g h = (h.0, g b h.1)
 mapped Is Is' f y z (fails e es) before now g h = absurd h
 
 -- a value of the wanted type
 pub of_wanted : (fs : Fields) (ls : List Leaf) (wanted : ValueType) (i : ℕ) (c : Checked meant.BoundExpression) (before now : Option BindFault) (x : BoundExpression) → same_type (type_of x.expression) wanted ≡ true
-    → Came (IsExpression fs ls) before now c (Some x) → Came (IsExpression fs ls) before now (then_check (of_type wanted i) c) (Some x)
+    → BindsAs (IsExpression fs ls) before now c (Some x) → BindsAs (IsExpression fs ls) before now (then_check (of_type wanted i) c) (Some x)
 of_wanted fs ls wanted i (fails e es) before now x t h = absurd h
 of_wanted fs ls wanted i (passes b) before now x t h = let s : same_type b.gives wanted ≡ true = ap (λ y. same_type y wanted) (sym h.1.gives) ∙ t in rw s h
 
 -- a value of another type
 pub of_other : {D : Type 0} (Is : meant.BoundExpression → D → Type 0) (fs : Fields) (ls : List Leaf) (wanted : ValueType) (i : ℕ) (c : Checked meant.BoundExpression) (before between now : Option BindFault) (x : BoundExpression)
     → same_type (type_of x.expression) wanted ≡ false → now ≡ earlier between (Some (record { place = i; problem = type_mismatch }))
-    → Came (IsExpression fs ls) before between c (Some x) → Came Is before now (then_check (of_type wanted i) c) None
+    → BindsAs (IsExpression fs ls) before between c (Some x) → BindsAs Is before now (then_check (of_type wanted i) c) None
 of_other Is fs ls wanted i (fails e es) before between now x t n h = absurd h
 of_other Is fs ls wanted i (passes b) before between now x t n h =
     let s : same_type b.gives wanted ≡ false = ap (λ y. same_type y wanted) (sym h.1.gives) ∙ t in
@@ -58,7 +58,7 @@ of_other Is fs ls wanted i (passes b) before between now x t n h =
 
 -- a truth value
 pub of_truth : (fs : Fields) (ls : List Leaf) (i : ℕ) (c : Checked meant.BoundExpression) (before now : Option BindFault) (x : BoundExpression) (t : Truth) (y : BoundCondition) → x.expression ≡ Expr.Truth t
-    → y.truth ≡ t → y.paths ≡ x.paths → Came (IsExpression fs ls) before now c (Some x) → Came (IsTruth fs ls) before now (then_check (of_type truth_type i) c) (Some y)
+    → y.truth ≡ t → y.paths ≡ x.paths → BindsAs (IsExpression fs ls) before now c (Some x) → BindsAs (IsTruth fs ls) before now (then_check (of_type truth_type i) c) (Some y)
 of_truth fs ls i (fails e es) before now x t y e' t' p h = absurd h
 of_truth fs ls i (passes b) before now x t y e' t' p h =
     let s : same_type b.gives truth_type ≡ true = ap (λ z. same_type z truth_type) (sym h.1.gives ∙ ap type_of e') in
@@ -77,7 +77,7 @@ of_truth fs ls i (passes b) before now x t y e' t' p h =
 -- ---- aggregates
 
 pub no_argument : (fs : Fields) (ls : List Leaf) (a : Aggregate) (c : Checked meant.BoundExpression) (d : Checked (Option binding.BoundWithin)) (before between now : Option BindFault) (w : Option (Option BoundWithin))
-    → Came (IsExpression fs ls) before between c None → Came IsWithin between now d w → Came (IsTerm fs ls) before now (together (binding.aggregated a) c d) None
+    → BindsAs (IsExpression fs ls) before between c None → BindsAs IsWithin between now d w → BindsAs (IsTerm fs ls) before now (together (binding.aggregated a) c d) None
 no_argument fs ls a (passes b) d before between now w h k = absurd h
 no_argument fs ls a (fails e es) (passes v) before between now None h k = absurd k
 no_argument fs ls a (fails e es) (passes v) before between now (Some w) h k = k.0 ∙ h
@@ -85,13 +85,13 @@ no_argument fs ls a (fails e es) (fails g gs) before between now None h k = note
 no_argument fs ls a (fails e es) (fails g gs) before between now (Some w) h k = absurd k
 
 pub no_node : (fs : Fields) (ls : List Leaf) (a : Aggregate) (c : Checked meant.BoundExpression) (d : Checked (Option binding.BoundWithin)) (before between now : Option BindFault) (x : BoundExpression)
-    → Came (IsExpression fs ls) before between c (Some x) → Came IsWithin between now d None → Came (IsTerm fs ls) before now (together (binding.aggregated a) c d) None
+    → BindsAs (IsExpression fs ls) before between c (Some x) → BindsAs IsWithin between now d None → BindsAs (IsTerm fs ls) before now (together (binding.aggregated a) c d) None
 no_node fs ls a (fails e es) d before between now x h k = absurd h
 no_node fs ls a (passes b) (passes v) before between now x h k = absurd k
 no_node fs ls a (passes b) (fails g gs) before between now x h k = k ∙ ap (λ y. earlier y (first_fault (g ∷ gs))) h.0
 
 pub both_bound : (fs : Fields) (ls : List Leaf) (f : Fold) (c : Checked meant.BoundExpression) (d : Checked (Option binding.BoundWithin)) (before between now : Option BindFault) (x : BoundExpression) (w : Option BoundWithin)
-    → Came (IsExpression fs ls) before between c (Some x) → Came IsWithin between now d (Some w) → Came (IsTerm fs ls) before now (together (binding.aggregated (fold_view f)) c d) (Some (BoundTerm.Aggregated f x w))
+    → BindsAs (IsExpression fs ls) before between c (Some x) → BindsAs IsWithin between now d (Some w) → BindsAs (IsTerm fs ls) before now (together (binding.aggregated (fold_view f)) c d) (Some (BoundTerm.Aggregated f x w))
 both_bound fs ls f (fails e es) d before between now x w h k = absurd h
 both_bound fs ls f (passes b) (fails g gs) before between now x w h k = absurd k
 both_bound fs ls f (passes b) (passes v) before between now x w h k = (k.0 ∙ h.0, (refl, h.1, k.1))
@@ -111,20 +111,20 @@ nothing_more fs ls xs bs h = subst (λ cs. AreExpressions fs ls cs xs) (sym (app
 
 -- beside an argument that fails
 pub alone_without : (fs : Fields) (ls : List Leaf) (c : Checked meant.BoundExpression) (d : Checked (Option binding.BoundWithin)) (before between : Option BindFault) (xs : List BoundExpression)
-    → Came (IsExpression fs ls) before between c None → Appends fs ls (binding.alone c d) xs xs
+    → BindsAs (IsExpression fs ls) before between c None → Appends fs ls (binding.alone c d) xs xs
 alone_without fs ls (passes b) d before between xs h = absurd h
 alone_without fs ls (fails e es) d before between xs h = nothing_more fs ls xs
 
 -- beside a WITHIN that passes
 pub alone_with_node : (fs : Fields) (ls : List Leaf) (c : Checked meant.BoundExpression) (d : Checked (Option binding.BoundWithin)) (between now : Option BindFault) (w : Option BoundWithin) (xs : List BoundExpression)
-    → Came IsWithin between now d (Some w) → Appends fs ls (binding.alone c d) xs xs
+    → BindsAs IsWithin between now d (Some w) → Appends fs ls (binding.alone c d) xs xs
 alone_with_node fs ls (passes b) (passes v) between now w xs h = nothing_more fs ls xs
 alone_with_node fs ls (fails e es) (passes v) between now w xs h = nothing_more fs ls xs
 alone_with_node fs ls c (fails g gs) between now w xs h = absurd h
 
 -- an argument that passes beside a WITHIN that doesn't
 pub alone_here : (fs : Fields) (ls : List Leaf) (c : Checked meant.BoundExpression) (d : Checked (Option binding.BoundWithin)) (before between now : Option BindFault) (x : BoundExpression) (xs ys : List BoundExpression)
-    → ys ≡ xs ++ x ∷ [] → Came (IsExpression fs ls) before between c (Some x) → Came IsWithin between now d None → Appends fs ls (binding.alone c d) xs ys
+    → ys ≡ xs ++ x ∷ [] → BindsAs (IsExpression fs ls) before between c (Some x) → BindsAs IsWithin between now d None → Appends fs ls (binding.alone c d) xs ys
 alone_here fs ls (fails e es) d before between now x xs ys p h k = absurd h
 alone_here fs ls (passes b) (passes v) before between now x xs ys p h k = absurd k
 alone_here fs ls (passes b) (fails g gs) before between now x xs ys p h k = λ bs r. subst (AreExpressions fs ls (bs ++ b ∷ [])) (sym p) (expressions_more fs ls bs xs b x r h.1)

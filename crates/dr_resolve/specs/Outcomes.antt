@@ -30,19 +30,19 @@ leaves_in b = map path_view b.leaves.now
 -- ---- outcomes
 
 -- a part that passes is bound, and the first fault so far stays; of one that doesn't, its faults are noted behind those so far
-abbrev pub Came : {A B : Type 0} → (B → A → Type 0) → Option meant.BindFault → Option meant.BindFault → Checked B → Option A → Type 0
-Came Is before now (passes b) (Some a) = (now ≡ before) × Is b a
-Came Is before now (passes b) None = ⊥
-Came Is before now (fails e es) (Some a) = ⊥
-Came Is before now (fails e es) None = now ≡ earlier before (first_fault (e ∷ es))
+abbrev pub BindsAs : {A B : Type 0} → (B → A → Type 0) → Option meant.BindFault → Option meant.BindFault → Checked B → Option A → Type 0
+BindsAs Is before now (passes b) (Some a) = (now ≡ before) × Is b a
+BindsAs Is before now (passes b) None = ⊥
+BindsAs Is before now (fails e es) (Some a) = ⊥
+BindsAs Is before now (fails e es) None = now ≡ earlier before (first_fault (e ∷ es))
 
 -- an expression of a query over the fields of a binder
 abbrev pub bound_in : Binder → Expression → Checked meant.BoundExpression
 bound_in b e = meant.bind_expression (fields_in b) (expression_view e)
 
 -- what comes of binding an expression over the fields and leaves of a binder
-abbrev pub CameIn : Binder → Option meant.BindFault → Option meant.BindFault → Checked meant.BoundExpression → Option BoundExpression → Type 0
-CameIn b before now c o = Came (IsExpression (fields_in b) (leaves_in b)) before now c o
+abbrev pub BindsExpression : Binder → Option meant.BindFault → Option meant.BindFault → Checked meant.BoundExpression → Option BoundExpression → Type 0
+BindsExpression b before now c o = BindsAs (IsExpression (fields_in b) (leaves_in b)) before now c o
 
 -- ---- paths
 

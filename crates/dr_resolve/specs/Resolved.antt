@@ -14,7 +14,3 @@ end_view (End.Leaf k) = tree.leaf (kind_view k)
 
 abbrev pub found_view : Found → paths.Found
 found_view f = record { path = map step_view f.steps.items; shape = end_view f.end }
-
--- a name that is lent
-abbrev pub lent : Bor (List ℕ) → List ℕ
-lent n = n.now

@@ -1,13 +1,14 @@
 //! Binding expressions: each part has a type, and its paths become leaves of the schema.
 
-ghost use Rattle.std.specs.Prelude.{◌≡◌, ◌++◌, [], false, List, IfOk, Option};
+ghost use Rattle.std.specs.Prelude.{◌≡◌, ◌++◌, [], true, false, List, IfOk, Option};
 ghost use Rattle.dr_meaning.specs.Schema.{Fields};
 ghost use Rattle.dr_meaning.specs.Path.{Leaf};
 ghost use Rattle.dr_meaning.specs.BoundExpression as meant;
+ghost use Rattle.dr_plan.specs.Fitting.{expr_fits};
 ghost use Rattle.dr_sql.specs.Views as syntax;
 ghost use Rattle.dr_bound_parts.specs.Faults.{first_view};
 ghost use Rattle.dr_bound_parts.specs.Bound.{IsExpression};
-ghost use Rattle.dr_resolve.specs.Outcomes.{Came, CameIn, MadeAt, bound_in, fields_in, leaves_in};
+ghost use Rattle.dr_resolve.specs.Outcomes.{BindsAs, BindsExpression, MadeAt, bound_in, fields_in, leaves_in};
 ghost use Rattle.dr_resolve.specs.Operators.{unary_type, unary_of, binary_type, binary_of};
 
 use crate::names::Binder;
@@ -30,6 +31,16 @@ fn literal(alloc: Global, expression: Expr) -> BoundExpression
         paths: Vec::new(alloc),
         is_path: false,
     }
+}
+
+/// A number that was written, which is of 64 bits.
+fn number_literal(alloc: Global, value: i64) -> BoundExpression
+    ensures expression { result.expression ≡ Expr.Number (Number.Literal value) }
+    ensures fits { (ls : List Leaf) → expr_fits ls result.expression ≡ true }
+    ensures paths { result.paths.items ≡ [] }
+    ensures alone { result.is_path ≡ false }
+{
+    literal(alloc, Expr::Number(Number::Literal(value)))
 }
 
 /// What an operator at a place has made of its operands, whose paths these are. Where they are of wrong types, that is
@@ -77,8 +88,8 @@ fn unary(
 ) -> Result<Option<BoundExpression>, NoMemory>
     ensures { IfOk result (λ o. (fs : Fields) (ls : List Leaf) (c : meant.Checked meant.BoundExpression)
         (before : Option meant.BindFault)
-        → Came (IsExpression fs ls) before (first_view first.old) c operand
-        → Came (IsExpression fs ls) before (first_view first.new) (meant.one_operand place (unary_type operator.entry)
+        → BindsAs (IsExpression fs ls) before (first_view first.old) c operand
+        → BindsAs (IsExpression fs ls) before (first_view first.new) (meant.one_operand place (unary_type operator.entry)
         (unary_of operator.entry) c) o) }
 {
     match operand {
@@ -103,9 +114,9 @@ fn binary(
 ) -> Result<Option<BoundExpression>, NoMemory>
     ensures { IfOk result (λ o. (fs : Fields) (ls : List Leaf) (c d : meant.Checked meant.BoundExpression)
         (before between : Option meant.BindFault)
-        → Came (IsExpression fs ls) before between c left → Came (IsExpression fs
+        → BindsAs (IsExpression fs ls) before between c left → BindsAs (IsExpression fs
         ls) between (first_view first.old) d right
-        → Came (IsExpression fs ls) before (first_view first.new) (meant.two_operands place (binary_type operator)
+        → BindsAs (IsExpression fs ls) before (first_view first.new) (meant.two_operands place (binary_type operator)
         (binary_of operator) c d) o) }
 {
     let Some((left, right)) = left.zip(right) else {
@@ -126,14 +137,13 @@ impl Binder<'_> {
         expression: &Expression<'_>,
         first: &mut FirstFault,
     ) -> Result<Option<BoundExpression>, NoMemory>
-        ensures { IfOk result (λ o. Came (IsExpression (fields_in self.entry) (leaves_in self.entry))
+        ensures { IfOk result (λ o. BindsAs (IsExpression (fields_in self.entry) (leaves_in self.entry))
             (first_view first.old) (first_view first.new)
             (meant.bind_expression (fields_in self.entry) (syntax.expression_view expression.now)) o) }
     {
         match expression {
             Expression::Number(number) => {
-                let number = Number::Literal(number.value as i64);
-                Ok(Some(literal(self.alloc, Expr::Number(number))))
+                Ok(Some(number_literal(self.alloc, number.value as i64)))
             }
             Expression::Text(text) => {
                 let text = TextOf::Literal(unquoted(self.alloc, text)?);
@@ -182,7 +192,7 @@ impl Binder<'_> {
         operand: &Expression<'_>,
         first: &mut FirstFault,
     ) -> Result<Option<BoundExpression>, NoMemory>
-        ensures { IfOk result (λ o. Came (IsExpression (fields_in self.entry) (leaves_in self.entry))
+        ensures { IfOk result (λ o. BindsAs (IsExpression (fields_in self.entry) (leaves_in self.entry))
             (first_view first.old) (first_view first.new)
             (meant.one_operand place (unary_type operator.entry) (unary_of operator.entry)
             (meant.bind_expression (fields_in self.entry) (syntax.expression_view operand.now))) o) }
@@ -200,7 +210,7 @@ impl Binder<'_> {
         right: &Expression<'_>,
         first: &mut FirstFault,
     ) -> Result<Option<BoundExpression>, NoMemory>
-        ensures { IfOk result (CameIn self.entry (first_view first.old) (first_view first.new)
+        ensures { IfOk result (BindsExpression self.entry (first_view first.old) (first_view first.new)
             (meant.two_operands place (binary_type operator) (binary_of operator) (bound_in self.entry left.now)
             (bound_in self.entry right.now))) }
     {

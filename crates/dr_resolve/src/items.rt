@@ -6,11 +6,11 @@ ghost use Rattle.dr_meaning.specs.BoundExpression as meant;
 ghost use Rattle.dr_meaning.specs.Binding as binding;
 ghost use Rattle.dr_sql.specs.Views as syntax;
 ghost use Rattle.dr_bound_parts.specs.Faults.{earlier, first_view};
-ghost use Rattle.dr_resolve.specs.Resolved.{lent};
-ghost use Rattle.dr_resolve.specs.Outcomes.{Appends, Came, fields_in, leaves_in};
+ghost use Rattle.dr_resolve.specs.Outcomes.{Appends, BindsAs, fields_in, leaves_in};
 ghost use Rattle.dr_paths.specs.Views.{bound_path_view};
 ghost use Rattle.dr_bound_parts.specs.Items.{AreItems, IsItem};
 ghost use Rattle.dr_resolve.specs.Outcomes.{present};
+ghost use Rattle.dr_sql.specs.Views.{lent};
 
 use crate::names::Binder;
 use dr_bound_parts::{BoundExpression, BoundItem, FirstFault};
@@ -99,7 +99,7 @@ impl Binder<'_> {
         ensures alone { OnOk result (Appends (fields_in self.entry) (leaves_in self.entry)
             (binding.argument_alone (fields_in self.entry) (item.now).place (syntax.term_view (item.now).term))
             (alone.old).items (alone.new).items) }
-        ensures item { IfOk result (λ o. Came (IsItem (fields_in self.entry) (leaves_in self.entry))
+        ensures item { IfOk result (λ o. BindsAs (IsItem (fields_in self.entry) (leaves_in self.entry))
             (first_view first.old) (first_view first.new)
             (binding.bind_item (fields_in self.entry) number (syntax.item_view item.now)) o) }
     {

@@ -12,9 +12,9 @@ ghost use Rattle.dr_plan.specs.Fitting.{expr_fits, leaf_has_type};
 ghost use Rattle.dr_sql.specs.Views as syntax;
 ghost use Rattle.dr_paths.specs.Views.{bound_path_view};
 ghost use Rattle.dr_bound_parts.specs.Faults.{first_view};
-ghost use Rattle.dr_resolve.specs.Resolved.{lent};
 ghost use Rattle.dr_bound_parts.specs.Bound.{IsAmong, type_of};
-ghost use Rattle.dr_resolve.specs.Outcomes.{Came, IsPath, fields_in, leaves_in};
+ghost use Rattle.dr_resolve.specs.Outcomes.{BindsAs, IsPath, fields_in, leaves_in};
+ghost use Rattle.dr_sql.specs.Views.{lent};
 
 use crate::names::Binder;
 use crate::resolving::{End, resolve};
@@ -59,7 +59,7 @@ impl Binder<'_> {
         path: &dr_sql::Path<'_>,
         first: &mut FirstFault,
     ) -> Result<Option<BoundPath>, NoMemory>
-        ensures { IfOk result (λ o. Came IsPath (first_view first.old) (first_view first.new)
+        ensures { IfOk result (λ o. BindsAs IsPath (first_view first.old) (first_view first.new)
             (meant.bind_path (fields_in self.entry) (syntax.path_view path.now)) o) }
     {
         let place = path.place;

@@ -4,7 +4,8 @@ ghost use Rattle.std.specs.Prelude.{◌≡◌, Some, None, map, option_map, IfOk
 ghost use Rattle.dr_meaning.specs.Path as paths;
 ghost use Rattle.dr_nested.specs.Views.{field_view, fields_view};
 ghost use Rattle.dr_nested.specs.Finding.{found_at};
-ghost use Rattle.dr_resolve.specs.Resolved.{end_view, found_view, lent};
+ghost use Rattle.dr_resolve.specs.Resolved.{end_view, found_view};
+ghost use Rattle.dr_sql.specs.Views.{lent};
 
 use dr_nested::{Field, Kind, Shape, Step};
 use std::alloc::{AllocError, Global};

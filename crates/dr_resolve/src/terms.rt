@@ -10,7 +10,7 @@ ghost use Rattle.dr_sql.specs.Views as syntax;
 ghost use Rattle.dr_bound_parts.specs.Faults.{first_view};
 ghost use Rattle.dr_resolve.specs.Resolved.{found_view};
 ghost use Rattle.dr_bound_parts.specs.Bound.{IsExpression, type_of};
-ghost use Rattle.dr_resolve.specs.Outcomes.{Appends, Came, fields_in, leaves_in};
+ghost use Rattle.dr_resolve.specs.Outcomes.{Appends, BindsAs, fields_in, leaves_in};
 ghost use Rattle.dr_bound_parts.specs.Items.{IsCondition, IsTerm, IsTruth, IsWithin};
 
 use crate::names::Binder;
@@ -19,7 +19,7 @@ use dr_bound_parts::{
     BindProblem, BoundCondition, BoundExpression, BoundTerm, BoundWithin, FirstFault,
 };
 use dr_memory::NoMemory;
-use dr_paths::{level, same_path};
+use dr_paths::{chain_end, same_path};
 use dr_plan::{Expr, Fold};
 use dr_sql::{Aggregate, Condition, Expression, Node, Term, Within};
 
@@ -37,8 +37,8 @@ fn number_at(
     first: &mut FirstFault,
 ) -> Option<BoundExpression>
     ensures { (fs : Fields) (ls : List Leaf) (c : meant.Checked meant.BoundExpression) (before : Option meant.BindFault)
-        → Came (IsExpression fs ls) before (first_view first.old) c value
-        → Came (IsExpression fs ls) before (first_view first.new) (meant.then_check (meant.of_type meant.number_type
+        → BindsAs (IsExpression fs ls) before (first_view first.old) c value
+        → BindsAs (IsExpression fs ls) before (first_view first.new) (meant.then_check (meant.of_type meant.number_type
         place) c) result }
 {
     match value {
@@ -61,8 +61,8 @@ fn truth_at(
     first: &mut FirstFault,
 ) -> Option<BoundCondition>
     ensures { (fs : Fields) (ls : List Leaf) (c : meant.Checked meant.BoundExpression) (before : Option meant.BindFault)
-        → Came (IsExpression fs ls) before (first_view first.old) c value
-        → Came (IsTruth fs ls) before (first_view first.new) (meant.then_check (meant.of_type meant.truth_type place)
+        → BindsAs (IsExpression fs ls) before (first_view first.old) c value
+        → BindsAs (IsTruth fs ls) before (first_view first.new) (meant.then_check (meant.of_type meant.truth_type place)
         c) result }
 {
     match value {
@@ -112,11 +112,11 @@ fn aggregated(
 ) -> Result<Option<BoundTerm>, NoMemory>
     ensures term { IfOk result (λ o. (fs : Fields) (ls : List Leaf) (c : meant.Checked meant.BoundExpression)
         (d : meant.Checked (Option binding.BoundWithin)) (before between now : Option meant.BindFault)
-        → Came (IsExpression fs ls) before between c argument → Came IsWithin between now d within
-        → Came (IsTerm fs ls) before now (meant.together (binding.aggregated (fold_view fold)) c d) o) }
+        → BindsAs (IsExpression fs ls) before between c argument → BindsAs IsWithin between now d within
+        → BindsAs (IsTerm fs ls) before now (meant.together (binding.aggregated (fold_view fold)) c d) o) }
     ensures alone { OnOk result ((fs : Fields) (ls : List Leaf) (c : meant.Checked meant.BoundExpression)
         (d : meant.Checked (Option binding.BoundWithin)) (before between now : Option meant.BindFault)
-        → Came (IsExpression fs ls) before between c argument → Came IsWithin between now d within
+        → BindsAs (IsExpression fs ls) before between c argument → BindsAs IsWithin between now d within
         → Appends fs ls (binding.alone c d) (alone.old).items (alone.new).items) }
 {
     match argument {
@@ -137,7 +137,7 @@ fn is_repeated_group(found: &Found<'_>) -> bool
 {
     match found.end {
         End::Leaf(_) => false,
-        End::Group(_) => same_path(level(&found.steps), &found.steps),
+        End::Group(_) => same_path(chain_end(&found.steps), &found.steps),
     }
 }
 
@@ -150,7 +150,7 @@ impl Binder<'_> {
         condition: &Option<Condition<'_>>,
         first: &mut FirstFault,
     ) -> Result<Option<Option<BoundCondition>>, NoMemory>
-        ensures { IfOk result (λ o. Came (IsCondition (fields_in self.entry) (leaves_in self.entry))
+        ensures { IfOk result (λ o. BindsAs (IsCondition (fields_in self.entry) (leaves_in self.entry))
             (first_view first.old) (first_view first.new)
             (binding.bind_condition (fields_in self.entry) (syntax.maybe_condition condition.now)) o) }
     {
@@ -174,7 +174,7 @@ impl Binder<'_> {
         within: &Option<Within<'_>>,
         first: &mut FirstFault,
     ) -> Result<Option<Option<BoundWithin>>, NoMemory>
-        ensures { IfOk result (λ o. Came IsWithin (first_view first.old) (first_view first.new)
+        ensures { IfOk result (λ o. BindsAs IsWithin (first_view first.old) (first_view first.new)
             (binding.bind_within (fields_in self.entry) (syntax.maybe_within within.now)) o) }
     {
         match within {
@@ -192,7 +192,7 @@ impl Binder<'_> {
         node: &Node<'_>,
         first: &mut FirstFault,
     ) -> Result<Option<Option<BoundWithin>>, NoMemory>
-        ensures { IfOk result (λ o. Came IsWithin (first_view first.old) (first_view first.new)
+        ensures { IfOk result (λ o. BindsAs IsWithin (first_view first.old) (first_view first.new)
             (binding.bind_node (fields_in self.entry) place (syntax.node_view node.now)) o) }
     {
         match node {
@@ -229,7 +229,7 @@ impl Binder<'_> {
         argument: &Expression<'_>,
         first: &mut FirstFault,
     ) -> Result<Option<BoundExpression>, NoMemory>
-        ensures { IfOk result (λ o. Came (IsExpression (fields_in self.entry) (leaves_in self.entry))
+        ensures { IfOk result (λ o. BindsAs (IsExpression (fields_in self.entry) (leaves_in self.entry))
             (first_view first.old) (first_view first.new)
             (binding.bind_argument (fields_in self.entry) place (syntax.aggregate_view aggregate)
             (syntax.expression_view argument.now)) o) }
@@ -252,7 +252,7 @@ impl Binder<'_> {
         alone: &mut Vec<BoundExpression>,
         first: &mut FirstFault,
     ) -> Result<Option<BoundTerm>, NoMemory>
-        ensures term { IfOk result (λ o. Came (IsTerm (fields_in self.entry) (leaves_in self.entry))
+        ensures term { IfOk result (λ o. BindsAs (IsTerm (fields_in self.entry) (leaves_in self.entry))
             (first_view first.old) (first_view first.new)
             (binding.bind_term (fields_in self.entry) place (syntax.term_view term.now)) o) }
         ensures alone { OnOk result (Appends (fields_in self.entry) (leaves_in self.entry)

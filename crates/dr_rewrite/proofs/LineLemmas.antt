@@ -10,7 +10,7 @@ use Rattle.dr_meaning.specs.Query as query
 use Rattle.dr_nested.specs.SchemaView.{schema_view}
 use Rattle.dr_partials.specs.PartialTypes.{aggregates_among}
 use Rattle.dr_partials.specs.Rewriting.{key_items, aggregate_items, merging_terms}
-use Rattle.dr_partials.specs.RewritingText.{nth_text, group_term_text, column_text, column_names, in_quotes, named, record_term_text, key_names as meant_names, select_text, leaf_text, inner_text, root_text, rewriting_text}
+use Rattle.dr_partials.specs.RewritingText.{group_term_text, column_text, column_names, in_quotes, named, record_term_text, key_names as meant_names, select_text, leaf_text, inner_text, root_text, rewriting_text}
 use Rattle.dr_plan.specs.Conjuncts.{condition_written}
 use Rattle.dr_plan.specs.declared.aggregate.Aggregate.{Aggregate}
 use Rattle.dr_plan.specs.declared.expression.Truth.{Truth}
@@ -24,6 +24,7 @@ use Rattle.dr_rewrite.specs.Lines.{key_names, leaf_line, inner_line, root_line, 
 use Rattle.dr_rewrite.specs.Writing.{written_leaves, written_path}
 use Rattle.dr_rewrite.specs.declared.paths.Names.{Names}
 use Rattle.dr_rewrite.proofs.RewritingTextLemmas.{names_of, key_item_names, names_count, nth_name, nth_aggregate, nth_behind, nth_of, no_shift, map_map, map_joined, written_items, leaf_keys, leaf_aggregates, numbers_of, among_items, inner_aggregates, root_written}
+use Rattle.dr_meaning.specs.Lists.{nth_text}
 
 -- ---- the parts of a plan that fits
 

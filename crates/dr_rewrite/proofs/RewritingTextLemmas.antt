@@ -8,7 +8,7 @@ use Rattle.dr_meaning.specs.Path.{Step, Leaf}
 use Rattle.dr_meaning.specs.Query as query
 use Rattle.dr_partials.specs.PartialTypes.{with_aggregate, aggregates_among}
 use Rattle.dr_partials.specs.Rewriting.{key_items, aggregate_items, merging_aggregate, merging_term, merging_terms, root_items, column_behind}
-use Rattle.dr_partials.specs.RewritingText.{aggregate_word, in_parentheses, nth_text, group_term_text, named, in_quotes, column_text}
+use Rattle.dr_partials.specs.RewritingText.{aggregate_word, in_parentheses, group_term_text, named, in_quotes, column_text}
 use Rattle.dr_plan.specs.declared.aggregate.Aggregate.{Aggregate}
 use Rattle.dr_plan.specs.declared.plan.GroupItem.{GroupItem}
 use Rattle.dr_plan.specs.declared.plan.GroupTerm.{GroupTerm}
@@ -17,6 +17,7 @@ use Rattle.dr_plan.specs.Views.{aggregate_view, fold_view, found_term, group_ter
 use Rattle.dr_rewrite.specs.Items.{indexed, key_name, aggregate_name, key_text, leaf_key, leaf_aggregate, merging_text, merging_word_at, inner_aggregate, root_term, root_item}
 use Rattle.dr_rewrite.specs.Writing.{written_leaves, written_path}
 use Rattle.dr_rewrite.specs.declared.paths.Names.{Names}
+use Rattle.dr_meaning.specs.Lists.{nth_text}
 
 -- ---- names of columns
 

@@ -88,8 +88,8 @@ by_end : (ps : List (List Step)) (p r : List Step) (n : Node) (vs : List (Option
 by_end ps p r n vs None l h e = ap (λ (us : List (Option Value)). record { values = us; end = None } ∷ []) (sym (values_from_start ps n vs l)) ∙ sym (below_absent p [] r (inner n) ps vs h e)
 by_end ps p r n vs (Some y) l h e = ap (rows_below ps p r y) (sym (values_from_start ps n vs l)) ∙ sym (below_end p [] r (inner n) y ps vs h e)
 
-pub within_are : (ps : List (List Step)) (p r level : List Step) (n : Node) (k : Known) → length k.values ≡ length ps → level ≡ p ++ r → is_cut p n ≡ true → k ≡ known ps p n
-    → rows_from_end ps p r k.values k.end ≡ map (known ps level) (rows level n)
-within_are ps p r level n k l d h e =
+pub within_are : (ps : List (List Step)) (p r chain : List Step) (n : Node) (k : Known) → length k.values ≡ length ps → chain ≡ p ++ r → is_cut p n ≡ true → k ≡ known ps p n
+    → rows_from_end ps p r k.values k.end ≡ map (known ps chain) (rows chain n)
+within_are ps p r chain n k l d h e =
     ap (λ (x : Known). rows_from_end ps p r x.values x.end) e ∙ by_end ps p r n k.values (end_in p (inner n)) l h refl
-    ∙ ap (λ (t : List Step). rows_below ps [] t (inner n) k.values) (sym d) ∙ rows_are ps level n k.values l
+    ∙ ap (λ (t : List Step). rows_below ps [] t (inner n) k.values) (sym d) ∙ rows_are ps chain n k.values l

@@ -5,11 +5,11 @@ use Rattle.std.proofs.Math.ListN.{set}
 use Rattle.std.proofs.lemmas.List.{length-map}
 use Rattle.dr_meaning.specs.Path.{Step}
 use Rattle.dr_meaning.specs.Record.{Value, Instance}
-use Rattle.dr_nested.specs.PathView.{step_view}
+use Rattle.dr_nested.specs.PathView.{step_view, paths_view}
 use Rattle.dr_nested.specs.declared.path.Path.{Path}
 use Rattle.dr_levels.specs.Views.{lent_value}
 use Rattle.dr_levels.specs.declared.triplet.ValueRef.{ValueRef}
-use Rattle.dr_rows.specs.Views.{lent_cells, paths_view}
+use Rattle.dr_rows.specs.Views.{lent_cells}
 use Rattle.dr_rows.specs.Walking.{behind, filled, filled_one}
 
 -- filled from a leaf on

@@ -14,7 +14,8 @@ use Rattle.dr_nested.specs.declared.record.Node as nodes
 use Rattle.dr_nested.proofs.ViewLemmas.{view-node}
 use Rattle.dr_nested.proofs.LookingLemmas.{in_slot, at_held}
 use Rattle.dr_rows.proofs.PuttingLemmas.{put_same}
-use Rattle.dr_rows.specs.Pruning.{Pruned, first_answer, kept_if, pruned_each, pruned_field, before_pruned, some_instances, slot_instances, slot_with}
+use Rattle.dr_rows.specs.Pruning.{Pruned, kept_if, pruned_each, pruned_field, before_pruned, some_instances, slot_instances, slot_with}
+use Rattle.dr_meaning.specs.Lists.{first_answer}
 
 -- instances before others
 abbrev pub onto : List Instance → Instances → Instances

@@ -110,8 +110,8 @@ values_from_start (p ∷ ps) n [] h = absurd (omega arith)
 values_from_start (p ∷ ps) n (v ∷ vs) h = ap (λ (os : List (Option Value)). value_at p n ∷ os) (values_from_start ps n vs (omega arith))
 
 -- the rows of a record, as the values of leaves and the ends of the level
-pub rows_are : (ps : List (List Step)) (level : List Step) (n : Node) (vs : List (Option Value)) → length vs ≡ length ps
-    → rows_below ps [] level (inner n) vs ≡ map (known ps level) (rows level n)
-rows_are ps level n vs h =
-    below_are level [] ps (inner n) vs ∙ map-map (known_below ps [] vs level) inner (rows level n)
-    ∙ ap (λ (f : Node → Known). map f (rows level n)) (fun_ext (λ m. ap (λ (us : List (Option Value)). record { values = us; end = end_in level (inner m) }) (values_from_start ps m vs h)))
+pub rows_are : (ps : List (List Step)) (chain : List Step) (n : Node) (vs : List (Option Value)) → length vs ≡ length ps
+    → rows_below ps [] chain (inner n) vs ≡ map (known ps chain) (rows chain n)
+rows_are ps chain n vs h =
+    below_are chain [] ps (inner n) vs ∙ map-map (known_below ps [] vs chain) inner (rows chain n)
+    ∙ ap (λ (f : Node → Known). map f (rows chain n)) (fun_ext (λ m. ap (λ (us : List (Option Value)). record { values = us; end = end_in chain (inner m) }) (values_from_start ps m vs h)))

@@ -1,4 +1,4 @@
--- What is known of a row: the values of leaves in it, and what stands at the end of its level.
+-- What is known of a row: the values of leaves in it, and what stands at the end of its chain.
 use Rattle.std.specs.Prelude.{List, [], ◌∷◌, map, Bool, true, false, Option, Some, None}
 use Rattle.dr_meaning.specs.Path.{Step}
 use Rattle.dr_meaning.specs.Record.{Value, Node, Instances, no_instances, instance, Instance, inner, instances_in}
@@ -33,11 +33,11 @@ is_cut_in (s ∷ p) x = only_one (is_cut_in p) (instances_in s.place x)
 abbrev pub is_cut : List Step → Node → Bool
 is_cut p row = is_cut_in p (inner row)
 
--- a row by the values of leaves in it, and the instance at the end of its level, none where that is absent
+-- a row by the values of leaves in it, and the instance at the end of its chain, none where that is absent
 pub record Known : Type 0 where
   pub values : List (Option Value)
   pub end : Option Instance
 
--- what is known of a row at a level, where these are the leaves
+-- what is known of a row of a chain, where these are the leaves
 abbrev pub known : List (List Step) → List Step → Node → Known
-known leaves level row = record { values = values_at leaves row; end = end_in level (inner row) }
+known leaves chain row = record { values = values_at leaves row; end = end_in chain (inner row) }

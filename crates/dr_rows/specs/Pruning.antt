@@ -1,18 +1,14 @@
--- Pruning a record by the answers of a test: one for each row of a level, in order.
+-- Pruning a record by the answers of a test: one for each row of a chain, in order.
 use Rattle.std.specs.Prelude.{List, [], ◌∷◌, drop, Bool, false, if◌then◌else◌, Option, Some, None, option_map}
 use Rattle.dr_meaning.specs.Path.{Step}
 use Rattle.dr_meaning.specs.Record.{Node, Instances, no_instances, instance, Instance, atom, inner, instances_at, put_at}
 use Rattle.dr_meaning.specs.Kept.{with_kept}
+use Rattle.dr_meaning.specs.Lists.{first_answer}
 
 -- what is kept, and the answers behind those for it
 pub record Pruned (A : Type 0) : Type 0 where
   pub kept : A
   pub left : List Bool
-
--- the next answer; at the end no
-abbrev pub first_answer : List Bool → Bool
-first_answer [] = false
-first_answer (b ∷ bs) = b
 
 -- this, if so
 abbrev pub kept_if : {A : Type 0} → Bool → A → Option A
@@ -50,7 +46,7 @@ pruned_instance f (inner n) bs = record { kept = option_map inner (f n bs).kept;
 abbrev pub put_field : (Instances → Node) → Pruned (Option Instances) → Pruned (Option Node)
 put_field f xs = record { kept = option_map f xs.kept; left = xs.left }
 
--- a node along the rest of a level
+-- a node along the rest of a chain
 abbrev pub pruned_along : List Step → Node → List Bool → Pruned (Option Node)
 pruned_along [] n bs = by_answer n bs
 pruned_along (s ∷ p) n bs = put_field (λ xs. put_at s.place xs n) (pruned_field (pruned_instance (pruned_along p)) (instances_at s.place n) bs)

@@ -6,11 +6,11 @@ use Rattle.dr_meaning.specs.Record.{Node, inner}
 use Rattle.dr_meaning.specs.Rows.{rows, is_present}
 use Rattle.dr_rows.specs.Known.{known, end_in, is_cut}
 
--- each row of a level is cut along it
+-- each row of a chain is cut along it
 abbrev pub RowsAreCut : Type 0
 RowsAreCut = (p : List Step) (n : Node) → list_all (is_cut p) (rows p n) ≡ true
 
--- a level's end is present in a row where an instance stands at it
+-- a chain's end is present in a row where an instance stands at it
 abbrev pub PresentHasEnd : Type 0
 PresentHasEnd = (p : List Step) (row : Node) → is_present p row ≡ is_some (end_in p (inner row))
 

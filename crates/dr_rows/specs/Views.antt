@@ -21,10 +21,6 @@ lent_instance (InstanceRef.Group n) = record_tree.inner (node_view n.now)
 abbrev pub lent_cells : List (Option ValueRef) → List (Option record_tree.Value)
 lent_cells vs = map (option_map lent_value) vs
 
--- the paths of leaves
-abbrev pub paths_view : List Path → List (List path.Step)
-paths_view ls = map (λ (l : Path). map step_view l.steps.items) ls
-
 -- what a lent row tells
 abbrev pub row_view : Row → Known
 row_view r = record { values = lent_cells r.values.now; end = option_map lent_instance r.end }

@@ -1,4 +1,4 @@
--- How the rows of a level are gone through: instance by instance, with the values of the leaves in the row at hand.
+-- How the rows of a chain are gone through: instance by instance, with the values of the leaves in the row at hand.
 use Rattle.std.specs.Prelude.{◌≡◌, List, [], ◌∷◌, ◌++◌, ◌==◌, if◌then◌else◌, Option, Some, None}
 use Rattle.dr_meaning.specs.Path.{Step}
 use Rattle.dr_meaning.specs.Record.{Value, Instances, no_instances, instance, Instance, instances_in}
@@ -32,7 +32,7 @@ abbrev pub for_some : (Instance → List Known) → List (Option Value) → Inst
 for_some f vs no_instances = record { values = vs; end = None } ∷ []
 for_some f vs (instance x xs) = for_each f (instance x xs)
 
--- the rows of the rest of a level below an instance that stands at the end of its first steps, where the leaves have these values
+-- the rows of the rest of a chain below an instance that stands at the end of its first steps, where the leaves have these values
 abbrev pub rows_below : List (List Step) → List Step → List Step → Instance → List (Option Value) → List Known
 rows_below leaves q [] x vs = record { values = filled q x leaves vs; end = Some x } ∷ []
 rows_below leaves q (s ∷ p) x vs = for_some (λ y. rows_below leaves (q ++ s ∷ []) p y (filled q x leaves vs)) (filled q x leaves vs) (instances_in s.place x)

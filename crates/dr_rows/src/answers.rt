@@ -1,7 +1,7 @@
 //! Answers of a test, one after another.
 
 ghost use Rattle.std.specs.Prelude.{◌≡◌, drop};
-ghost use Rattle.dr_rows.specs.Pruning.{first_answer};
+ghost use Rattle.dr_meaning.specs.Lists.{first_answer};
 
 /// The answers that are left.
 #[derive(Clone, Copy)]

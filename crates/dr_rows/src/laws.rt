@@ -2,7 +2,7 @@
 
 ghost use Rattle.dr_rows.specs.RowLaws.{PlacesTell, PresentHasEnd, RowsAreCut};
 
-/// Each row of a level is cut along it, its end is present where an instance stands there, and of a path the places
+/// Each row of a chain is cut along it, its end is present where an instance stands there, and of a path the places
 /// alone matter.
 pub fn rows_are_cut()
     ensures cut { RowsAreCut }

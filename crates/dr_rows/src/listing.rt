@@ -4,9 +4,9 @@ ghost use Rattle.std.specs.Prelude.{◌≡◌, ◌≤◌, length, map, take, tru
 ghost use Rattle.dr_meaning.specs.Record as record_tree;
 ghost use Rattle.dr_meaning.specs.Rows as rows_meaning;
 ghost use Rattle.dr_nested.specs.Views.{node_view};
-ghost use Rattle.dr_nested.specs.PathView.{step_view};
+ghost use Rattle.dr_nested.specs.PathView.{step_view, paths_view};
 ghost use Rattle.dr_rows.specs.Known.{known, is_cut};
-ghost use Rattle.dr_rows.specs.Views.{paths_view, row_view, rows_view, rows_width};
+ghost use Rattle.dr_rows.specs.Views.{row_view, rows_view, rows_width};
 
 use crate::instance_ref::InstanceRef;
 use crate::row::Row;
@@ -15,27 +15,27 @@ use crate::walking::{walk, walk_from_end};
 use dr_nested::{NoMemory, Node, Path, Step};
 use std::alloc::Global;
 
-/// The rows of a record at a level, in order: of each the values of the leaves, and the instance at the level's end.
+/// The rows of a record of a chain, in order: of each the values of the leaves, and the instance at the chain's end.
 /// Nothing of the record is copied.
 ///
 /// Errors: want of memory alone.
 pub fn rows_of<'n>(
     alloc: Global,
     leaves: &[Path],
-    level: &[Step],
+    chain: &[Step],
     whole: &'n Node,
 ) -> Result<Rows<'n>, NoMemory>
     ensures width { IfOk result (λ t. rows_width t ≡ length leaves.now) }
     ensures rows { IfOk result (λ t. rows_view t
-        ≡ map (known (paths_view leaves.now) (map step_view level.now))
-        (rows_meaning.rows (map step_view level.now) (node_view whole.now))) }
+        ≡ map (known (paths_view leaves.now) (map step_view chain.now))
+        (rows_meaning.rows (map step_view chain.now) (node_view whole.now))) }
 {
     let mut values = Vec::new(alloc);
     values.resize(leaves.len(), None)?;
     let mut rows = Rows::new(alloc, leaves.len());
     walk(
         leaves,
-        level,
+        chain,
         0,
         InstanceRef::Group(whole),
         &mut values,
@@ -44,28 +44,28 @@ pub fn rows_of<'n>(
     Ok(rows)
 }
 
-/// The rows of a level within a row that is cut along the level's first steps, in order: where these end nowhere, the
+/// The rows of a chain within a row that is cut along the chain's first steps, in order: where these end nowhere, the
 /// row itself. Nothing of the record is copied.
 ///
 /// Errors: want of memory alone.
 pub fn rows_within<'n>(
     alloc: Global,
     leaves: &[Path],
-    level: &[Step],
+    chain: &[Step],
     depth: usize,
     row: Row<'_, 'n>,
 ) -> Result<Rows<'n>, NoMemory>
-    requires depth { depth ≤ length level.now }
+    requires depth { depth ≤ length chain.now }
     requires values { length row.values.now ≡ length leaves.now }
     ensures width { IfOk result (λ t. rows_width t ≡ length leaves.now) }
-    ensures rows { IfOk result (λ t. (whole : record_tree.Node) → is_cut (map step_view (take depth level.now)) whole
+    ensures rows { IfOk result (λ t. (whole : record_tree.Node) → is_cut (map step_view (take depth chain.now)) whole
         ≡ true
-        → row_view row.entry ≡ known (paths_view leaves.now) (map step_view (take depth level.now)) whole
+        → row_view row.entry ≡ known (paths_view leaves.now) (map step_view (take depth chain.now)) whole
         → rows_view t ≡ map (known (paths_view leaves.now)
-        (map step_view level.now)) (rows_meaning.rows (map step_view level.now) whole)) }
+        (map step_view chain.now)) (rows_meaning.rows (map step_view chain.now) whole)) }
 {
     let mut values = Vec::from_slice(alloc, row.values)?;
     let mut rows = Rows::new(alloc, leaves.len());
-    walk_from_end(leaves, level, depth, row.end, &mut values, &mut rows)?;
+    walk_from_end(leaves, chain, depth, row.end, &mut values, &mut rows)?;
     Ok(rows)
 }

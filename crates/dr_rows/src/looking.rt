@@ -2,9 +2,9 @@
 
 ghost use Rattle.std.specs.Prelude.{◌≡◌, map, option_map, length};
 ghost use Rattle.dr_meaning.specs.Rows.{value_in};
-ghost use Rattle.dr_nested.specs.PathView.{step_view, lent_path};
+ghost use Rattle.dr_nested.specs.PathView.{step_view, lent_path, paths_view};
 ghost use Rattle.dr_levels.specs.Views.{lent_value};
-ghost use Rattle.dr_rows.specs.Views.{lent_instance, lent_cells, paths_view};
+ghost use Rattle.dr_rows.specs.Views.{lent_instance, lent_cells};
 ghost use Rattle.dr_rows.specs.Walking.{behind, filled, filled_one};
 
 use crate::instance_ref::InstanceRef;

@@ -13,105 +13,105 @@ use crate::answers::Answers;
 use crate::settling::settle;
 use dr_nested::{Instance, Node, Slot, Step};
 
-/// Whether a node is kept along a level.
+/// Whether a node is kept along a chain.
 #[cycle(pruning)]
-fn prune_node(node: &mut Node, level: &[Step], answers: &mut Answers<'_>) -> bool
+fn prune_node(node: &mut Node, chain: &[Step], answers: &mut Answers<'_>) -> bool
     ensures kept { kept_if result (node_view node.new)
-        ≡ (pruned_along (map step_view level.now) (node_view node.old) (answers.old).rest.now).kept }
-    ensures left { (answers.new).rest.now ≡ (pruned_along (map step_view level.now) (node_view node.old)
+        ≡ (pruned_along (map step_view chain.now) (node_view node.old) (answers.old).rest.now).kept }
+    ensures left { (answers.new).rest.now ≡ (pruned_along (map step_view chain.now) (node_view node.old)
         (answers.old).rest.now).left }
 {
-    match level {
+    match chain {
         [] => answers.next(),
         [step, rest @ ..] => prune_field(node, step.place, rest, answers),
     }
 }
 
-/// Whether a node is kept along a level below the field at a place.
+/// Whether a node is kept along a chain below the field at a place.
 #[cycle(pruning)]
-fn prune_field(node: &mut Node, place: usize, level: &[Step], answers: &mut Answers<'_>) -> bool
+fn prune_field(node: &mut Node, place: usize, chain: &[Step], answers: &mut Answers<'_>) -> bool
     ensures kept { kept_if result (node_view node.new)
         ≡ option_map (λ xs. put_at place xs (node_view node.old)) (pruned_field
-        (pruned_instance (pruned_along (map step_view level.now))) (instances_at place (node_view node.old))
+        (pruned_instance (pruned_along (map step_view chain.now))) (instances_at place (node_view node.old))
         (answers.old).rest.now).kept }
-    ensures left { (answers.new).rest.now ≡ (pruned_field (pruned_instance (pruned_along (map step_view level.now)))
+    ensures left { (answers.new).rest.now ≡ (pruned_field (pruned_instance (pruned_along (map step_view chain.now)))
         (instances_at place (node_view node.old)) (answers.old).rest.now).left }
 {
     match node.slots.get_mut(place) {
-        Some(slot) => prune_slot(slot, level, answers),
+        Some(slot) => prune_slot(slot, chain, answers),
         None => answers.next(),
     }
 }
 
 #[cycle(pruning)]
-fn prune_slot(slot: &mut Slot, level: &[Step], answers: &mut Answers<'_>) -> bool
+fn prune_slot(slot: &mut Slot, chain: &[Step], answers: &mut Answers<'_>) -> bool
     ensures kept { kept_if result (slot_view slot.new)
         ≡ option_map (slot_with (slot_view slot.old)) (pruned_field
-        (pruned_instance (pruned_along (map step_view level.now))) (slot_instances (slot_view slot.old))
+        (pruned_instance (pruned_along (map step_view chain.now))) (slot_instances (slot_view slot.old))
         (answers.old).rest.now).kept }
-    ensures left { (answers.new).rest.now ≡ (pruned_field (pruned_instance (pruned_along (map step_view level.now)))
+    ensures left { (answers.new).rest.now ≡ (pruned_field (pruned_instance (pruned_along (map step_view chain.now)))
         (slot_instances (slot_view slot.old)) (answers.old).rest.now).left }
 {
     match slot {
         Slot::Gap => answers.next(),
-        Slot::Held(instances) => prune_held(instances, level, answers),
+        Slot::Held(instances) => prune_held(instances, chain, answers),
     }
 }
 
 /// Whether any of a field's instances is kept; where there is none, whether the field is.
 #[cycle(pruning)]
-fn prune_held(instances: &mut Vec<Instance>, level: &[Step], answers: &mut Answers<'_>) -> bool
+fn prune_held(instances: &mut Vec<Instance>, chain: &[Step], answers: &mut Answers<'_>) -> bool
     ensures kept { kept_if result (instances_view (instances.new).items)
-        ≡ (pruned_field (pruned_instance (pruned_along (map step_view level.now)))
+        ≡ (pruned_field (pruned_instance (pruned_along (map step_view chain.now)))
         (instances_view (instances.old).items) (answers.old).rest.now).kept }
-    ensures left { (answers.new).rest.now ≡ (pruned_field (pruned_instance (pruned_along (map step_view level.now)))
+    ensures left { (answers.new).rest.now ≡ (pruned_field (pruned_instance (pruned_along (map step_view chain.now)))
         (instances_view (instances.old).items) (answers.old).rest.now).left }
 {
     if instances.is_empty() {
         return answers.next();
     }
-    prune_instances(instances, level, answers);
+    prune_instances(instances, chain, answers);
     !instances.is_empty()
 }
 
 /// Leaves only the instances that are kept.
 #[cycle(pruning)]
-fn prune_instances(instances: &mut Vec<Instance>, level: &[Step], answers: &mut Answers<'_>)
+fn prune_instances(instances: &mut Vec<Instance>, chain: &[Step], answers: &mut Answers<'_>)
     ensures kept { instances_view (instances.new).items
-        ≡ (pruned_each (pruned_instance (pruned_along (map step_view level.now))) (instances_view (instances.old).items)
+        ≡ (pruned_each (pruned_instance (pruned_along (map step_view chain.now))) (instances_view (instances.old).items)
         (answers.old).rest.now).kept }
-    ensures left { (answers.new).rest.now ≡ (pruned_each (pruned_instance (pruned_along (map step_view level.now)))
+    ensures left { (answers.new).rest.now ≡ (pruned_each (pruned_instance (pruned_along (map step_view chain.now)))
         (instances_view (instances.old).items) (answers.old).rest.now).left }
 {
     let mut kept = 0;
     'instances: for number in 0..instances.len() {
-        let passes = prune_instance(&mut instances[number], level, answers);
+        let passes = prune_instance(&mut instances[number], chain, answers);
         kept = settle(instances, kept, number, passes);
     }
     instances.truncate(kept);
 }
 
 #[cycle(pruning)]
-fn prune_instance(instance: &mut Instance, level: &[Step], answers: &mut Answers<'_>) -> bool
+fn prune_instance(instance: &mut Instance, chain: &[Step], answers: &mut Answers<'_>) -> bool
     ensures kept { kept_if result (instance_view instance.new)
-        ≡ (pruned_instance (pruned_along (map step_view level.now)) (instance_view instance.old)
+        ≡ (pruned_instance (pruned_along (map step_view chain.now)) (instance_view instance.old)
         (answers.old).rest.now).kept }
-    ensures left { (answers.new).rest.now ≡ (pruned_instance (pruned_along (map step_view level.now))
+    ensures left { (answers.new).rest.now ≡ (pruned_instance (pruned_along (map step_view chain.now))
         (instance_view instance.old) (answers.old).rest.now).left }
 {
     match instance {
         Instance::Atom(_) => answers.next(),
-        Instance::Group(node) => prune_node(node, level, answers),
+        Instance::Group(node) => prune_node(node, chain, answers),
     }
 }
 
-/// What a test of a level's rows leaves of a record: the branches with a row that passes. The answers are the test's of
+/// What a test of a chain's rows leaves of a record: the branches with a row that passes. The answers are the test's of
 /// the record's rows, in order. Tells whether anything is left; where nothing is, the record isn't used any more.
-pub fn prune(whole: &mut Node, level: &[Step], answers: &[bool]) -> bool
+pub fn prune(whole: &mut Node, chain: &[Step], answers: &[bool]) -> bool
     ensures { (test : record_tree.Node → Bool) → answers.now
-        ≡ map test (rows (map step_view level.now) (node_view whole.old))
-        → kept_if result (node_view whole.new) ≡ kept_along (map step_view level.now) test (node_view whole.old) }
+        ≡ map test (rows (map step_view chain.now) (node_view whole.old))
+        → kept_if result (node_view whole.new) ≡ kept_along (map step_view chain.now) test (node_view whole.old) }
 {
     let mut answers = Answers { rest: answers };
-    prune_node(whole, level, &mut answers)
+    prune_node(whole, chain, &mut answers)
 }

@@ -3,7 +3,7 @@
 use crate::instance_ref::InstanceRef;
 use dr_levels::ValueRef;
 
-/// A row, lent: the values of leaves in it, NULL where there is none, and the instance at the end of its level, none
+/// A row, lent: the values of leaves in it, NULL where there is none, and the instance at the end of its chain, none
 /// where that is absent.
 #[derive(Clone, Copy)]
 pub struct Row<'t, 'n> {

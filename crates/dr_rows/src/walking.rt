@@ -1,8 +1,8 @@
-//! Going through the rows of a level.
+//! Going through the rows of a chain.
 
 ghost use Rattle.std.specs.Prelude.{◌≡◌, ◌≤◌, ◌<◌, ◌+◌, ◌++◌, ◌∷◌, [], length, map, take, drop, option_map, OnOk};
-ghost use Rattle.dr_nested.specs.PathView.{step_view};
-ghost use Rattle.dr_rows.specs.Views.{lent_instance, lent_cells, paths_view, rows_view, rows_width};
+ghost use Rattle.dr_nested.specs.PathView.{step_view, paths_view};
+ghost use Rattle.dr_rows.specs.Views.{lent_instance, lent_cells, rows_view, rows_width};
 ghost use Rattle.dr_rows.specs.Walking.{rows_below, rows_from_end, Keeps};
 
 use crate::instance_ref::InstanceRef;
@@ -11,51 +11,51 @@ use crate::table::Rows;
 use dr_levels::ValueRef;
 use dr_nested::{NoMemory, Path, Step};
 
-/// The step of a level at a depth.
-fn step_at(level: &[Step], depth: usize) -> Step
-    requires { depth < length level.now }
-    ensures front { map step_view (take (depth + 1) level.now)
-        ≡ map step_view (take depth level.now) ++ step_view result ∷ [] }
-    ensures rest { map step_view (drop depth level.now)
-        ≡ step_view result ∷ map step_view (drop (depth + 1) level.now) }
+/// The step of a chain at a depth.
+fn step_at(chain: &[Step], depth: usize) -> Step
+    requires { depth < length chain.now }
+    ensures front { map step_view (take (depth + 1) chain.now)
+        ≡ map step_view (take depth chain.now) ++ step_view result ∷ [] }
+    ensures rest { map step_view (drop depth chain.now)
+        ≡ step_view result ∷ map step_view (drop (depth + 1) chain.now) }
 {
-    level[depth]
+    chain[depth]
 }
 
-/// Appends the rows of a level below an instance that stands at the end of the level's first steps. The values are
+/// Appends the rows of a chain below an instance that stands at the end of the chain's first steps. The values are
 /// those of the leaves in the row at hand: afterwards only those below that instance may be others.
 ///
 /// Errors: want of memory alone.
 pub fn walk<'n>(
     leaves: &[Path],
-    level: &[Step],
+    chain: &[Step],
     depth: usize,
     instance: InstanceRef<'n>,
     values: &mut [Option<ValueRef<'n>>],
     rows: &mut Rows<'n>,
 ) -> Result<(), NoMemory>
-    requires depth { depth ≤ length level.now }
+    requires depth { depth ≤ length chain.now }
     requires values { length values.old ≡ length leaves.now }
     requires width { rows_width rows.old ≡ length leaves.now }
     ensures rows { OnOk result (rows_view rows.new ≡ rows_view rows.old ++ rows_below (paths_view leaves.now)
-        (map step_view (take depth level.now)) (map step_view
-        (drop depth level.now)) (lent_instance instance.entry) (lent_cells values.old)) }
-    ensures others { OnOk result (Keeps (paths_view leaves.now) (map step_view (take depth level.now))
+        (map step_view (take depth chain.now)) (map step_view
+        (drop depth chain.now)) (lent_instance instance.entry) (lent_cells values.old)) }
+    ensures others { OnOk result (Keeps (paths_view leaves.now) (map step_view (take depth chain.now))
         (lent_cells values.old) (lent_cells values.new)) }
     ensures width { rows_width rows.new ≡ rows_width rows.old }
 {
-    fill(leaves, &level[..depth], instance, values);
-    if depth == level.len() {
+    fill(leaves, &chain[..depth], instance, values);
+    if depth == chain.len() {
         return rows.push(values, Some(instance));
     }
-    let instances = instance.instances_at(step_at(level, depth).place);
+    let instances = instance.instances_at(step_at(chain, depth).place);
     if instances.is_empty() {
         return rows.push(values, None);
     }
     'instances: for below in instances {
         walk(
             leaves,
-            level,
+            chain,
             depth + 1,
             InstanceRef::of(below),
             values,
@@ -65,27 +65,27 @@ pub fn walk<'n>(
     Ok(())
 }
 
-/// Appends the rows of a level below what stands at the end of the level's first steps: where nothing does, one row.
+/// Appends the rows of a chain below what stands at the end of the chain's first steps: where nothing does, one row.
 ///
 /// Errors: want of memory alone.
 pub fn walk_from_end<'n>(
     leaves: &[Path],
-    level: &[Step],
+    chain: &[Step],
     depth: usize,
     end: Option<InstanceRef<'n>>,
     values: &mut [Option<ValueRef<'n>>],
     rows: &mut Rows<'n>,
 ) -> Result<(), NoMemory>
-    requires depth { depth ≤ length level.now }
+    requires depth { depth ≤ length chain.now }
     requires values { length values.old ≡ length leaves.now }
     requires width { rows_width rows.old ≡ length leaves.now }
     ensures width { rows_width rows.new ≡ rows_width rows.old }
     ensures rows { OnOk result (rows_view rows.new ≡ rows_view rows.old ++ rows_from_end (paths_view leaves.now)
-        (map step_view (take depth level.now)) (map step_view
-        (drop depth level.now)) (lent_cells values.old) (option_map lent_instance end.entry)) }
+        (map step_view (take depth chain.now)) (map step_view
+        (drop depth chain.now)) (lent_cells values.old) (option_map lent_instance end.entry)) }
 {
     match end {
-        Some(instance) => walk(leaves, level, depth, instance, values, rows),
+        Some(instance) => walk(leaves, chain, depth, instance, values, rows),
         None => rows.push(values, None),
     }
 }

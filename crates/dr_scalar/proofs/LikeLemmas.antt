@@ -3,8 +3,9 @@ use Rattle.std.proofs.Common.{◌≡◌, ℕ, ◌<◌, ◌≤◌, List, [], ◌�
 use Rattle.std.specs.Prelude.{if◌then◌else◌, chars}
 use Rattle.std.proofs.lemmas.Bool.{eqb-true}
 use Rattle.std.proofs.lemmas.Str.{chars-nil}
-use Rattle.dr_meaning.specs.Expression.{some_end, after_one, after_same, is_empty_text, matches}
+use Rattle.dr_meaning.specs.Expression.{some_end, after_one, after_same, matches}
 use Rattle.dr_scalar.specs.Reach.{Reach, ended, stopped, open_end, else_reach, past_one, reach, first_reach}
+use Rattle.dr_meaning.specs.Lists.{is_empty}
 
 -- ---- the texts that end a text
 
@@ -51,7 +52,7 @@ rest_of_end f g n s c (d ∷ ds) h = by (g (c ∷ d ∷ ds)) refl h (rest_of_end
 abbrev one_of : ℕ → (List ℕ → Bool) → List ℕ → Bool
 one_of p f t = if p == 95 then after_one f t else after_same p f t
 
-matches-nil : (t : List ℕ) → matches [] t ≡ is_empty_text t
+matches-nil : (t : List ℕ) → matches [] t ≡ is_empty t
 unfolding matches
 matches-nil t = refl
 

@@ -4,7 +4,7 @@ use Rattle.std.specs.List.{list_all}
 use Rattle.std.proofs.lemmas.List.Folds.{list_all-map}
 use Rattle.std.proofs.lemmas.Simd.{map-map}
 use Rattle.dr_meaning.specs.Schema.{Schema}
-use Rattle.dr_meaning.specs.Path.{Step, Leaf}
+use Rattle.dr_meaning.specs.Path.{Step, Leaf, paths_of_leaves}
 use Rattle.dr_meaning.specs.Record.{Node, is_record, project}
 use Rattle.dr_meaning.specs.Column.{Triplet, column}
 use Rattle.dr_meaning.specs.Query.{Query}
@@ -13,7 +13,7 @@ use Rattle.dr_formats.specs.File.{IsFileOf, most_triplets}
 use Rattle.dr_outside.specs.Link.{Files, LinkShown, Lacks}
 use Rattle.dr_outside.specs.Telling.{TellsFile}
 use Rattle.dr_nested.specs.Views.{node_view}
-use Rattle.dr_nested.specs.PathView.{path_view}
+use Rattle.dr_nested.specs.PathView.{path_view, paths_view}
 use Rattle.dr_nested.specs.declared.path.Path.{Path}
 use Rattle.dr_nested.specs.declared.record.Node.{Node as RecordNode}
 use Rattle.dr_assemble.specs.Views.{nodes_view}
@@ -29,10 +29,9 @@ use Rattle.dr_bounds.proofs.BoundLemmas.{partial_of_few_projections}
 use Rattle.dr_plan.specs.Planned.{Planned, plan_view, plan_leaves, planned_query, IsOfSchema}
 use Rattle.dr_plan.specs.Views.{selection_view}
 use Rattle.dr_plan.specs.declared.plan.Plan.{Plan}
-use Rattle.dr_rows.specs.Views.{paths_view}
 use Rattle.dr_mean.specs.Answers.{Answers}
 use Rattle.dr_mean.proofs.GroupLawLemmas.{partials_rejoined}
-use Rattle.dr_tablets.specs.FileRecords.{AreLeavesOf, AreProjected, AreOfFile, AreFew, are_short, paths_of_leaves}
+use Rattle.dr_tablets.specs.FileRecords.{AreLeavesOf, AreProjected, AreOfFile, AreFew, are_short}
 use Rattle.dr_tablets.proofs.LeafLemmas.{used_are_leaves}
 use Rattle.dr_reading.specs.Held.{held_at, held_file, present}
 use Rattle.dr_reading.specs.Scan.{Copy}

@@ -1,5 +1,3 @@
--- the literals in a plan
-pub mod Literals
 -- what a file, a tablet and a table give
 pub mod Scans
 pub mod Tablets

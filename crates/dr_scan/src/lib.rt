@@ -3,7 +3,6 @@
 #![tactic(auto)]
 
 pub mod laws;
-mod literals;
 mod pieces;
 mod scanning;
 mod tablet;

@@ -20,7 +20,6 @@ ghost use Rattle.dr_serving.specs.Truth.{IsTrueOf, most_values};
 ghost use Rattle.dr_plan.specs.PlanOf.{ForQuery};
 ghost use Rattle.dr_scan.specs.Scans.{StandsForBytes, StandsForRecords, truth_at};
 
-use crate::literals::see_literals;
 use dr_file::FileFault;
 use dr_group::Partial;
 use dr_mean::partial_of;
@@ -79,7 +78,6 @@ pub fn scan<L: Link>(
     ensures never_falls { (L.shows link.old).faults ≤ (L.shows link.new).faults }
     ensures stays_steady { IsTrue (L.shows link.old).is_steady → IsTrue (L.shows link.new).is_steady }
 {
-    see_literals(plan);
     let mut read = Steps::new();
     let records = read_records(alloc, link, path, schema, &plan.leaves, &mut read)?;
     match partial_of(alloc, plan, &records) {

@@ -5,7 +5,7 @@ use Rattle.std.specs.List.{list_all, range_with_len}
 use Rattle.std.proofs.lemmas.Bool.{and_parts}
 use Rattle.std.proofs.lemmas.List.Folds.{list_all-append}
 use Rattle.dr_meaning.specs.Schema.{Fields}
-use Rattle.dr_meaning.specs.Path.{Step, Leaf, is_leaf_path}
+use Rattle.dr_meaning.specs.Path.{Step, Leaf, is_leaf_path, paths_of_leaves}
 use Rattle.dr_meaning.specs.Record.{Node, is_record, project}
 use Rattle.dr_meaning.specs.Query.{GroupTerm, key, count_rows, aggregate, GroupItem, Selection, objects, groups, Query, meaning}
 use Rattle.dr_meaning.specs.MeaningLaws.{group_term_paths, covers}
@@ -26,7 +26,7 @@ use Rattle.dr_partials.proofs.BoundLemmas.{bound_is_mergeable, bound_leaves_are_
 use Rattle.dr_partials.proofs.TreeLemmas.{gathered_stands}
 use Rattle.dr_reading.specs.Held.{Held, present, held_file, held_on, held_by_all, IsHeld, IsUntold}
 use Rattle.dr_reading.specs.Scan.{Copy, copy_paths}
-use Rattle.dr_reading.specs.Premises.{TellsFiles, HoldsRecords, PathsHold, TabletsHold, paths_of_leaves}
+use Rattle.dr_reading.specs.Premises.{TellsFiles, HoldsRecords, PathsHold, TabletsHold}
 use Rattle.dr_reading.proofs.FileLemmas.{same_projections}
 use Rattle.dr_serving.specs.Truth.{TabletTruth, leaves_of, StandsForFile}
 use Rattle.dr_serving.specs.Outcome.{Serving, serving_leaves, held_by_links, truth_of, AreTrueFrom}

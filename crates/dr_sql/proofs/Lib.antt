@@ -9,3 +9,7 @@ pub mod ListLemmas
 pub mod QuoteLemmas
 -- the levels of operators
 pub mod LevelLemmas
+-- which production is read
+pub mod ReadLemmas
+-- what was read and is boxed
+pub mod BoxLemmas

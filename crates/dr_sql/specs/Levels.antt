@@ -1,11 +1,14 @@
--- The levels of operators that join operands, in the definitions' words.
-use Rattle.std.specs.Prelude.{ℕ, Option, option_and_then}
+-- The levels of operators that join operands, and the nestings, in the definitions' words.
+use Rattle.std.specs.Prelude.{ℕ, Option, option_and_then, Box}
+use Rattle.std.specs.declared.alloc.Global.{Global}
 use Rattle.dr_meaning.specs.Tokens.{QueryToken}
-use Rattle.dr_meaning.specs.Syntax.{ExpressionSyntax, disjunction, conjunction, arithmetic}
+use Rattle.dr_meaning.specs.Syntax.{ExpressionSyntax, disjunction, conjunction, arithmetic, comparison}
 use Rattle.dr_meaning.specs.Parse as parse
-use Rattle.dr_sql.specs.Views.{arithmetic_view, expression_view}
+use Rattle.dr_sql.specs.Views.{arithmetic_view, comparison_view}
+use Rattle.dr_sql.specs.Boxes.{boxed_view}
 use Rattle.dr_sql.specs.declared.level.Level.{Level}
 use Rattle.dr_sql.specs.declared.level.Joining.{Joining}
+use Rattle.dr_sql.specs.declared.nesting.Nesting.{Nesting}
 use Rattle.dr_sql.specs.declared.expression.Expression.{Expression}
 
 -- which tokens join operands of a level
@@ -35,7 +38,14 @@ abbrev pub joining_view : Joining → parse.Joining
 joining_view Joining.Or = disjunction
 joining_view Joining.And = conjunction
 joining_view (Joining.Arithmetic o) = λ i. arithmetic i (arithmetic_view o)
+joining_view (Joining.Comparison o) = λ i. comparison i (comparison_view o)
 
 -- what an operator makes of its place and two expressions
-abbrev pub joined_view : Joining → ℕ → Expression → Expression → ExpressionSyntax
-joined_view joining place left right = joining_view joining place (expression_view left) (expression_view right)
+abbrev pub joined_view : Joining → ℕ → Box Expression Global → Box Expression Global → ExpressionSyntax
+joined_view joining place left right = joining_view joining place (boxed_view left) (boxed_view right)
+
+-- what opens a nesting
+abbrev pub nesting_view : Nesting → parse.Nesting
+nesting_view Nesting.Parenthesis = parse.parenthesized
+nesting_view Nesting.Not = parse.negated
+nesting_view Nesting.Minus = parse.signed

@@ -1,7 +1,8 @@
 pub mod TokenViews
 pub mod Views
+pub mod Boxes
 pub mod Faults
 pub mod Reads
-pub mod Shapes
+pub mod Tests
 pub mod Lexing
 pub mod Levels

@@ -2,143 +2,122 @@
 
 ghost use Rattle.std.specs.Prelude.{◌≡◌, IfOk};
 ghost use Rattle.dr_meaning.specs.Syntax as syntax;
-ghost use Rattle.dr_sql.specs.Views.{expression_view, arithmetic_view, comparison_view};
+ghost use Rattle.dr_sql.specs.Boxes.{Built, boxed_view};
 ghost use Rattle.dr_sql.specs.Levels.{joined_view};
+ghost use Rattle.dr_sql.specs.Tests.{shape, tested, text_test_view};
 ghost use Rattle.dr_sql.specs.TokenViews.{undoubled};
+ghost use Rattle.dr_sql.specs.Views.{expression_view};
 
-use crate::expression::{Arithmetic, Comparison, Expression};
+use crate::expression::Expression;
+use crate::fault::QueryFault;
 use crate::level::Joining;
+use crate::word_test::{TextTest, WordTest};
 use dr_memory::NoMemory;
 use std::alloc::Global;
 
+/// An expression, boxed.
+///
+/// Errors: want of memory alone.
+pub fn boxed<'a>(
+    alloc: Global,
+    expression: Expression<'a>,
+) -> Result<Box<Expression<'a>>, QueryFault>
+    ensures { Built (expression_view expression.entry) result }
+{
+    Ok(Box::new(alloc, expression)?)
+}
+
 impl<'a> Expression<'a> {
-    pub fn negative(
-        alloc: Global,
-        place: usize,
-        operand: Expression<'a>,
-    ) -> Result<Expression<'a>, NoMemory>
-        ensures { IfOk result (λ e. expression_view e ≡ syntax.negative place (expression_view operand.entry)) }
+    pub fn negative(place: usize, operand: Box<Expression<'a>>) -> Expression<'a>
+        ensures { expression_view result ≡ syntax.negative place (boxed_view operand.entry) }
     {
-        Ok(Expression::Negative(place, Box::new(alloc, operand)?))
+        Expression::Negative(place, operand)
     }
 
-    pub fn arithmetic(
-        alloc: Global,
-        place: usize,
-        operator: Arithmetic,
-        left: Expression<'a>,
-        right: Expression<'a>,
-    ) -> Result<Expression<'a>, NoMemory>
-        ensures { IfOk result (λ e. expression_view e
-            ≡ syntax.arithmetic place (arithmetic_view operator) (expression_view left.entry)
-            (expression_view right.entry)) }
+    pub fn negation(place: usize, operand: Box<Expression<'a>>) -> Expression<'a>
+        ensures { expression_view result ≡ syntax.negation place (boxed_view operand.entry) }
     {
-        let left = Box::new(alloc, left)?;
-        let right = Box::new(alloc, right)?;
-        Ok(Expression::Arithmetic(place, operator, left, right))
+        Expression::Not(place, operand)
     }
 
-    pub fn comparison(
-        alloc: Global,
-        place: usize,
-        operator: Comparison,
-        left: Expression<'a>,
-        right: Expression<'a>,
-    ) -> Result<Expression<'a>, NoMemory>
-        ensures { IfOk result (λ e. expression_view e
-            ≡ syntax.comparison place (comparison_view operator) (expression_view left.entry)
-            (expression_view right.entry)) }
-    {
-        let left = Box::new(alloc, left)?;
-        let right = Box::new(alloc, right)?;
-        Ok(Expression::Comparison(place, operator, left, right))
-    }
-
-    pub fn like(
-        alloc: Global,
-        place: usize,
-        operand: Expression<'a>,
-        pattern: &'a str,
-    ) -> Result<Expression<'a>, NoMemory>
-        ensures { IfOk result (λ e. expression_view e
-            ≡ syntax.like place (expression_view operand.entry) (undoubled pattern.now)) }
-    {
-        Ok(Expression::Like(place, Box::new(alloc, operand)?, pattern))
-    }
-
-    pub fn contains(
-        alloc: Global,
-        place: usize,
-        operand: Expression<'a>,
-        part: &'a str,
-    ) -> Result<Expression<'a>, NoMemory>
-        ensures { IfOk result (λ e. expression_view e
-            ≡ syntax.contains place (expression_view operand.entry) (undoubled part.now)) }
-    {
-        Ok(Expression::Contains(place, Box::new(alloc, operand)?, part))
-    }
-
-    pub fn is_null(
-        alloc: Global,
-        place: usize,
-        operand: Expression<'a>,
-    ) -> Result<Expression<'a>, NoMemory>
-        ensures { IfOk result (λ e. expression_view e ≡ syntax.is_null place (expression_view operand.entry)) }
-    {
-        Ok(Expression::IsNull(place, Box::new(alloc, operand)?))
-    }
-
-    pub fn negation(
-        alloc: Global,
-        place: usize,
-        operand: Expression<'a>,
-    ) -> Result<Expression<'a>, NoMemory>
-        ensures { IfOk result (λ e. expression_view e ≡ syntax.negation place (expression_view operand.entry)) }
-    {
-        Ok(Expression::Not(place, Box::new(alloc, operand)?))
-    }
-
-    pub fn conjunction(
-        alloc: Global,
-        place: usize,
-        left: Expression<'a>,
-        right: Expression<'a>,
-    ) -> Result<Expression<'a>, NoMemory>
-        ensures { IfOk result (λ e. expression_view e
-            ≡ syntax.conjunction place (expression_view left.entry) (expression_view right.entry)) }
-    {
-        let left = Box::new(alloc, left)?;
-        let right = Box::new(alloc, right)?;
-        Ok(Expression::And(place, left, right))
-    }
-
-    pub fn disjunction(
-        alloc: Global,
-        place: usize,
-        left: Expression<'a>,
-        right: Expression<'a>,
-    ) -> Result<Expression<'a>, NoMemory>
-        ensures { IfOk result (λ e. expression_view e
-            ≡ syntax.disjunction place (expression_view left.entry) (expression_view right.entry)) }
-    {
-        let left = Box::new(alloc, left)?;
-        let right = Box::new(alloc, right)?;
-        Ok(Expression::Or(place, left, right))
-    }
     /// Two operands joined by an operator.
     pub fn joined(
-        alloc: Global,
         place: usize,
         joining: Joining,
-        left: Expression<'a>,
-        right: Expression<'a>,
-    ) -> Result<Expression<'a>, NoMemory>
-        ensures { IfOk result (λ e. expression_view e ≡ joined_view joining place left.entry right.entry) }
+        left: Box<Expression<'a>>,
+        right: Box<Expression<'a>>,
+    ) -> Expression<'a>
+        ensures { expression_view result ≡ joined_view joining place left.entry right.entry }
     {
         match joining {
-            Joining::Or => Expression::disjunction(alloc, place, left, right),
-            Joining::And => Expression::conjunction(alloc, place, left, right),
-            Joining::Arithmetic(sign) => Expression::arithmetic(alloc, place, sign, left, right),
+            Joining::Or => Expression::Or(place, left, right),
+            Joining::And => Expression::And(place, left, right),
+            Joining::Arithmetic(sign) => Expression::Arithmetic(place, sign, left, right),
+            Joining::Comparison(sign) => Expression::Comparison(place, sign, left, right),
+        }
+    }
+
+    fn is_null(place: usize, operand: Box<Expression<'a>>) -> Expression<'a>
+        ensures { expression_view result ≡ syntax.is_null place (boxed_view operand.entry) }
+    {
+        Expression::IsNull(place, operand)
+    }
+
+    /// LIKE or CONTAINS, with the text as it stands between its quotes.
+    fn text_test(
+        place: usize,
+        test: TextTest,
+        operand: Box<Expression<'a>>,
+        text: &'a str,
+    ) -> Expression<'a>
+        ensures { expression_view result
+            ≡ text_test_view test place (boxed_view operand.entry) (undoubled text.now) }
+    {
+        match test {
+            TextTest::Like => Expression::Like(place, operand, text),
+            TextTest::Contains => Expression::Contains(place, operand, text),
+        }
+    }
+
+    /// A test as it is, or its negation at its own place.
+    fn shaped(
+        alloc: Global,
+        place: usize,
+        test: Expression<'a>,
+        denied: bool,
+    ) -> Result<Box<Expression<'a>>, NoMemory>
+        ensures { IfOk result (λ e. boxed_view e ≡ shape denied place (expression_view test.entry)) }
+    {
+        let test = Box::new(alloc, test)?;
+        if denied {
+            Ok(Box::new(alloc, Expression::negation(place, test))?)
+        } else {
+            Ok(test)
+        }
+    }
+
+    /// What a test makes of an expression.
+    pub fn tested(
+        alloc: Global,
+        operand: Box<Expression<'a>>,
+        test: WordTest<'a>,
+    ) -> Result<Box<Expression<'a>>, NoMemory>
+        ensures { IfOk result (λ e. boxed_view e ≡ tested (boxed_view operand.entry) test.entry) }
+    {
+        match test {
+            WordTest::Nothing => Ok(operand),
+            WordTest::Null { place, denied } => {
+                Expression::shaped(alloc, place, Expression::is_null(place, operand), denied)
+            }
+            WordTest::Text {
+                place,
+                test,
+                text,
+                denied,
+            } => {
+                let test = Expression::text_test(place, test, operand, text);
+                Expression::shaped(alloc, place, test, denied)
+            }
         }
     }
 }

@@ -4,14 +4,14 @@
 use crate::numeral::Numeral;
 
 /// The names of a path, joined by dots in the text, and the place of the first.
-#[derive(Debug, Drop)]
+#[derive(Drop)]
 pub struct Path<'a> {
     pub place: usize,
     pub names: Vec<&'a str>,
 }
 
 /// `+`, `-`, `*`.
-#[derive(Clone, Copy, PartialEq, Eq, Debug)]
+#[derive(Clone, Copy, PartialEq, Eq)]
 pub enum Arithmetic {
     Plus,
     Minus,
@@ -19,7 +19,7 @@ pub enum Arithmetic {
 }
 
 /// `=`, `<>`, `<`, `<=`, `>`, `>=`.
-#[derive(Clone, Copy, PartialEq, Eq, Debug)]
+#[derive(Clone, Copy, PartialEq, Eq)]
 pub enum Comparison {
     Equal,
     Unequal,
@@ -31,7 +31,7 @@ pub enum Comparison {
 
 /// An expression. Each operator begins with its place, that of its sign or word. A text keeps `''` for each quote in
 /// it. Parentheses leave nothing but the tree's shape.
-#[derive(Debug, Drop)]
+#[derive(Drop)]
 pub enum Expression<'a> {
     Number(Numeral),
     Text(&'a str),

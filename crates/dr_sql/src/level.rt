@@ -5,12 +5,12 @@ ghost use Rattle.dr_sql.specs.Reads.{unread};
 ghost use Rattle.dr_sql.specs.Levels.{joining_view, next_joining};
 
 use crate::cursor::Cursor;
-use crate::expression::Arithmetic;
+use crate::expression::{Arithmetic, Comparison};
 use crate::operators::next_of_sum;
 use crate::word::{Sign, Word};
 
 /// How closely operators bind, the loosest first: OR; AND; `+` and `-`; `*`.
-#[derive(Clone, Copy, Debug)]
+#[derive(Clone, Copy)]
 pub enum Level {
     Or,
     And,
@@ -18,12 +18,13 @@ pub enum Level {
     Product,
 }
 
-/// An operator between two operands of one level.
-#[derive(Clone, Copy, Debug)]
+/// An operator between two operands.
+#[derive(Clone, Copy)]
 pub enum Joining {
     Or,
     And,
     Arithmetic(Arithmetic),
+    Comparison(Comparison),
 }
 
 impl Level {

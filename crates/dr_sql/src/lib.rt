@@ -10,6 +10,7 @@ mod items;
 mod level;
 mod lexing;
 mod limits;
+mod nesting;
 mod numeral;
 mod operands;
 mod operators;
@@ -19,6 +20,7 @@ mod query;
 mod token;
 mod unquoting;
 mod word;
+mod word_test;
 mod word_tests;
 mod words;
 

@@ -3,14 +3,17 @@
 
 ghost use Rattle.std.specs.Prelude.{◌≡◌, suc, IfOk, IfErr};
 ghost use Rattle.dr_meaning.specs.Parse as parse;
+ghost use Rattle.dr_sql.specs.Boxes.{boxed_view};
 ghost use Rattle.dr_sql.specs.Reads.{unread, Reads};
 ghost use Rattle.dr_sql.specs.Views.{expression_view};
-ghost use Rattle.dr_sql.specs.Levels.{level_of, operand_of};
+ghost use Rattle.dr_sql.specs.Levels.{level_of, nesting_view, operand_of};
 
+use crate::building::boxed;
 use crate::cursor::Cursor;
 use crate::expression::Expression;
 use crate::fault::{QueryFault, QueryProblem};
-use crate::level::Level;
+use crate::level::{Joining, Level};
+use crate::nesting::Nesting;
 use crate::operators::next_comparison;
 use crate::paths::path;
 use crate::token::Token;
@@ -42,7 +45,8 @@ pub fn expression<'a>(
     ensures { Reads expression_view (parse.expression_of (parse.nested depth) (unread cursor.old))
         (unread cursor.new) result }
 {
-    joined(alloc, cursor, Level::Or, depth)
+    let expression = joined(alloc, cursor, Level::Or, depth)?;
+    Ok(Box::into_inner(expression))
 }
 
 /// Operands of a level, joined by its operators, as in and = not {AND not}, sum = prod {("+"|"-") prod} and
@@ -53,8 +57,8 @@ fn joined<'a>(
     cursor: &mut Cursor<'_, 'a>,
     level: Level,
     depth: u32,
-) -> Result<Expression<'a>, QueryFault>
-    ensures { Reads expression_view (level_of level (parse.nested depth) (unread cursor.old))
+) -> Result<Box<Expression<'a>>, QueryFault>
+    ensures { Reads boxed_view (level_of level (parse.nested depth) (unread cursor.old))
         (unread cursor.new) result }
 {
     let mut left = operand(alloc, cursor, level, depth)?;
@@ -64,56 +68,45 @@ fn joined<'a>(
         };
         let place = cursor.operator()?;
         let right = operand(alloc, cursor, level, depth)?;
-        left = Expression::joined(alloc, place, joining, left, right)?;
+        left = boxed(alloc, Expression::joined(place, joining, left, right))?;
     }
     Ok(left)
 }
 
-/// An operand of a level.
+/// An operand of a level, as in not = NOT not | test and unary = "-" unary | prim.
 #[cycle(operands)]
 fn operand<'a>(
     alloc: Global,
     cursor: &mut Cursor<'_, 'a>,
     level: Level,
     depth: u32,
-) -> Result<Expression<'a>, QueryFault>
-    ensures { Reads expression_view (operand_of level (parse.nested depth) (unread cursor.old))
+) -> Result<Box<Expression<'a>>, QueryFault>
+    ensures { Reads boxed_view (operand_of level (parse.nested depth) (unread cursor.old))
         (unread cursor.new) result }
 {
     match level {
         Level::Or => joined(alloc, cursor, Level::And, depth),
-        Level::And => negation(alloc, cursor, depth),
+        Level::And if cursor.next_is_word(Word::Not) => {
+            nested(alloc, cursor, Nesting::Not, depth)
+        }
+        Level::And => test(alloc, cursor, depth),
         Level::Sum => joined(alloc, cursor, Level::Product, depth),
-        Level::Product => unary(alloc, cursor, depth),
+        Level::Product if cursor.next_is_sign(Sign::Minus) => {
+            nested(alloc, cursor, Nesting::Minus, depth)
+        }
+        Level::Product => primary(alloc, cursor, depth),
     }
-}
-
-/// not = NOT not | test
-#[cycle(operands)]
-fn negation<'a>(
-    alloc: Global,
-    cursor: &mut Cursor<'_, 'a>,
-    depth: u32,
-) -> Result<Expression<'a>, QueryFault>
-    ensures { Reads expression_view (parse.not_of (parse.nested depth) (unread cursor.old)) (unread cursor.new) result }
-{
-    if !cursor.next_is_word(Word::Not) {
-        return test(alloc, cursor, depth);
-    }
-    let inside = deeper(cursor, depth)?;
-    let place = cursor.advance();
-    let operand = negation(alloc, cursor, inside)?;
-    Ok(Expression::negation(alloc, place, operand)?)
 }
 
 /// test = sum [ ("="|"<>"|"<"|"<="|">"|">=") sum | [NOT] LIKE text | [NOT] CONTAINS text | IS [NOT] NULL ]
 #[cycle(operands)]
+#[tactic(auto, using(crate::proofs::BoxLemmas::reads_built))]
 fn test<'a>(
     alloc: Global,
     cursor: &mut Cursor<'_, 'a>,
     depth: u32,
-) -> Result<Expression<'a>, QueryFault>
-    ensures { Reads expression_view (parse.test_of (parse.nested depth) (unread cursor.old))
+) -> Result<Box<Expression<'a>>, QueryFault>
+    ensures { Reads boxed_view (parse.test_of (parse.nested depth) (unread cursor.old))
         (unread cursor.new) result }
 {
     let left = joined(alloc, cursor, Level::Sum, depth)?;
@@ -121,76 +114,79 @@ fn test<'a>(
         Some(operator) => {
             let place = cursor.advance();
             let right = joined(alloc, cursor, Level::Sum, depth)?;
-            Ok(Expression::comparison(alloc, place, operator, left, right)?)
+            let joining = Joining::Comparison(operator);
+            boxed(alloc, Expression::joined(place, joining, left, right))
         }
         None => word_test(alloc, cursor, left),
     }
 }
 
-/// unary = "-" unary | prim
-#[cycle(operands)]
-fn unary<'a>(
-    alloc: Global,
-    cursor: &mut Cursor<'_, 'a>,
-    depth: u32,
-) -> Result<Expression<'a>, QueryFault>
-    ensures { Reads expression_view (parse.unary (parse.nested depth) (unread cursor.old)) (unread cursor.new) result }
-{
-    if !cursor.next_is_sign(Sign::Minus) {
-        return primary(alloc, cursor, depth);
-    }
-    let inside = deeper(cursor, depth)?;
-    let place = cursor.operator()?;
-    let operand = unary(alloc, cursor, inside)?;
-    Ok(Expression::negative(alloc, place, operand)?)
-}
-
 /// prim = number | text | TRUE | FALSE | path | "(" expr ")"
 #[cycle(operands)]
+#[tactic(auto, using(crate::proofs::BoxLemmas::reads_built))]
 fn primary<'a>(
     alloc: Global,
     cursor: &mut Cursor<'_, 'a>,
     depth: u32,
-) -> Result<Expression<'a>, QueryFault>
-    ensures { Reads expression_view (parse.primary (parse.nested depth) (unread cursor.old))
+) -> Result<Box<Expression<'a>>, QueryFault>
+    ensures { Reads boxed_view (parse.primary (parse.nested depth) (unread cursor.old))
         (unread cursor.new) result }
 {
     match cursor.next() {
         Some(Token::Number(number)) => {
             cursor.advance();
-            Ok(Expression::Number(number))
+            boxed(alloc, Expression::Number(number))
         }
         Some(Token::Text(text)) => {
             cursor.advance();
-            Ok(Expression::Text(text))
+            boxed(alloc, Expression::Text(text))
         }
         Some(Token::Word(Word::True)) => {
             cursor.advance();
-            Ok(Expression::Truth(true))
+            boxed(alloc, Expression::Truth(true))
         }
         Some(Token::Word(Word::False)) => {
             cursor.advance();
-            Ok(Expression::Truth(false))
+            boxed(alloc, Expression::Truth(false))
         }
-        Some(Token::Name(_)) => Ok(Expression::Path(path(alloc, cursor)?)),
-        Some(Token::Sign(Sign::Open)) => parenthesized(alloc, cursor, depth),
+        Some(Token::Name(_)) => {
+            let path = path(alloc, cursor)?;
+            boxed(alloc, Expression::Path(path))
+        }
+        Some(Token::Sign(Sign::Open)) => nested(alloc, cursor, Nesting::Parenthesis, depth),
         _ => Err(cursor.fault(QueryProblem::Syntax)),
     }
 }
 
-/// "(" expr ")"
+/// "(" expr ")", NOT not or "-" unary, at the token that opens it.
 #[cycle(operands)]
-fn parenthesized<'a>(
+#[tactic(auto, using(crate::proofs::BoxLemmas::reads_built))]
+fn nested<'a>(
     alloc: Global,
     cursor: &mut Cursor<'_, 'a>,
+    nesting: Nesting,
     depth: u32,
-) -> Result<Expression<'a>, QueryFault>
-    ensures { Reads expression_view (parse.nested depth parse.parenthesized (unread cursor.old))
+) -> Result<Box<Expression<'a>>, QueryFault>
+    ensures { Reads boxed_view (parse.nested depth (nesting_view nesting) (unread cursor.old))
         (unread cursor.new) result }
 {
     let inside = deeper(cursor, depth)?;
-    cursor.advance();
-    let inner = joined(alloc, cursor, Level::Or, inside)?;
-    cursor.sign(Sign::Close)?;
-    Ok(inner)
+    match nesting {
+        Nesting::Parenthesis => {
+            cursor.advance();
+            let inner = joined(alloc, cursor, Level::Or, inside)?;
+            cursor.sign(Sign::Close)?;
+            Ok(inner)
+        }
+        Nesting::Not => {
+            let place = cursor.advance();
+            let inner = operand(alloc, cursor, Level::And, inside)?;
+            boxed(alloc, Expression::negation(place, inner))
+        }
+        Nesting::Minus => {
+            let place = cursor.operator()?;
+            let inner = operand(alloc, cursor, Level::Product, inside)?;
+            boxed(alloc, Expression::negative(place, inner))
+        }
+    }
 }

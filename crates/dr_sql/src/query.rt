@@ -4,7 +4,7 @@
 use crate::expression::{Expression, Path};
 
 /// COUNT, SUM, MIN, MAX.
-#[derive(Clone, Copy, PartialEq, Eq, Debug)]
+#[derive(Clone, Copy, PartialEq, Eq)]
 pub enum Aggregate {
     Count,
     Sum,
@@ -13,21 +13,21 @@ pub enum Aggregate {
 }
 
 /// Within what an aggregate runs: RECORD, or the node of a path.
-#[derive(Debug, Drop)]
+#[derive(Drop)]
 pub enum Node<'a> {
     Record,
     Path(Path<'a>),
 }
 
 /// WITHIN and its node, with the place of the word.
-#[derive(Debug, Drop)]
+#[derive(Drop)]
 pub struct Within<'a> {
     pub place: usize,
     pub node: Node<'a>,
 }
 
 /// What an item gives: an expression; `COUNT(*)`; an aggregate of an expression.
-#[derive(Debug, Drop)]
+#[derive(Drop)]
 pub enum Term<'a> {
     Expression(Expression<'a>),
     CountRows(Option<Within<'a>>),
@@ -35,7 +35,7 @@ pub enum Term<'a> {
 }
 
 /// An item, the name that AS gives it, and the place of its first token: of an aggregate, its word.
-#[derive(Debug, Drop)]
+#[derive(Drop)]
 pub struct Item<'a> {
     pub place: usize,
     pub term: Term<'a>,
@@ -43,21 +43,21 @@ pub struct Item<'a> {
 }
 
 /// The name behind FROM, and its place.
-#[derive(Clone, Copy, Debug)]
+#[derive(Clone, Copy)]
 pub struct Table<'a> {
     pub place: usize,
     pub name: &'a str,
 }
 
 /// The condition, and the place of its first token.
-#[derive(Debug, Drop)]
+#[derive(Drop)]
 pub struct Condition<'a> {
     pub place: usize,
     pub expression: Expression<'a>,
 }
 
 /// SELECT items FROM table [WHERE condition] [GROUP BY keys]; without GROUP BY there are no keys.
-#[derive(Debug, Drop)]
+#[derive(Drop)]
 pub struct Query<'a> {
     pub items: Vec<Item<'a>>,
     pub table: Table<'a>,

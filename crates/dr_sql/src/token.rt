@@ -4,7 +4,7 @@ use crate::numeral::Numeral;
 use crate::word::{Sign, Word};
 
 /// A token. Names and texts are lent from the query's text.
-#[derive(Clone, Copy, Debug)]
+#[derive(Clone, Copy)]
 pub enum Token<'a> {
     Word(Word),
     /// A name, bare or in double quotes, without these.
@@ -18,7 +18,7 @@ pub enum Token<'a> {
 }
 
 /// A token and the byte place at which it begins.
-#[derive(Clone, Copy, Debug)]
+#[derive(Clone, Copy)]
 pub struct PlacedToken<'a> {
     pub place: usize,
     pub token: Token<'a>,

@@ -1,7 +1,7 @@
 //! Reserved words and signs.
 
 /// The reserved words, read without regard to case.
-#[derive(Clone, Copy, PartialEq, Eq, Debug)]
+#[derive(Clone, Copy, PartialEq, Eq)]
 pub enum Word {
     Select,
     From,
@@ -27,7 +27,7 @@ pub enum Word {
 }
 
 /// The signs `, ( ) . * + - = <> < <= > >= ;`.
-#[derive(Clone, Copy, PartialEq, Eq, Debug)]
+#[derive(Clone, Copy, PartialEq, Eq)]
 pub enum Sign {
     Comma,
     Open,

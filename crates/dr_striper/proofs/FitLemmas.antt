@@ -5,7 +5,7 @@ use Rattle.std.specs.List.{list_all}
 use Rattle.std.proofs.lemmas.Bool.{and_parts}
 use Rattle.std.proofs.lemmas.Bool.Decides.{nat_tests}
 use Rattle.std.proofs.lemmas.List.Folds.{list_all-append}
-use Rattle.dr_meaning.specs.Schema.{Repetition, required, optional, repeated, Kind, bool_kind, int32_kind, int64_kind, text_kind, Fields, no_fields, field, Shape, leaf, group, repetition_count, definition_count}
+use Rattle.dr_meaning.specs.Schema.{Repetition, required, optional, repeated, Kind, bool_kind, int32_kind, int64_kind, text_kind, Fields, no_fields, field, Shape, leaf, group, repetition_count, definition_count, same_kind}
 use Rattle.dr_meaning.specs.Path.{Step, Leaf, same_repetition, through, max_definition}
 use Rattle.dr_meaning.specs.Record.{Value, bool_value, int_value, text_value, Node, no_slots, slot, gap, Instances, no_instances, instance, Instance, atom, inner, is_of_kind, is_record, is_instance, all_instances, count_instances, fits_repetition}
 use Rattle.dr_meaning.specs.Column.{Triplet, triplet, spread, each_later, instance_column}
@@ -13,7 +13,7 @@ use Rattle.dr_meaning.proofs.ProjectionLemmas.{step}
 use Rattle.dr_meaning.proofs.Blocks.{and₃_parts, same_repetition-true}
 use Rattle.dr_levels.specs.Views.{form}
 use Rattle.dr_levels.specs.Columns.{is_held, has_value, takes}
-use Rattle.dr_striper.specs.Leaves.{same_kind, is_leaf_of, is_shape_leaf, is_leaf, has_fields, has_shape}
+use Rattle.dr_striper.specs.Leaves.{is_leaf_of, is_shape_leaf, is_leaf, has_fields, has_shape}
 use Rattle.dr_striper.specs.Stripers.{fits_leaf}
 
 -- ---- one triplet

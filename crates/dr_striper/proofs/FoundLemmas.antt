@@ -1,10 +1,10 @@
 -- A leaf that was found in a schema is a leaf of it, of its kind.
 use Rattle.std.proofs.Common.{◌≡◌, ℕ, suc, ◌+◌, List, [], ◌∷◌, ◌++◌, Bool, true, false, ◌&&◌, Option, Some, None, refl, sym, ap, ap₂, ◌∙◌, arith, append-nil}
 use Rattle.std.specs.Prelude.{if◌then◌else◌, bytes_eq, option_map, option_and_then, Ok}
-use Rattle.dr_meaning.specs.Schema.{Kind, bool_kind, int32_kind, int64_kind, text_kind, Repetition, required, optional, repeated, Fields, no_fields, field, Shape, leaf, group, fields_of}
+use Rattle.dr_meaning.specs.Schema.{Kind, bool_kind, int32_kind, int64_kind, text_kind, Repetition, required, optional, repeated, Fields, no_fields, field, Shape, leaf, group, fields_of, same_kind}
 use Rattle.dr_meaning.specs.Path.{Step, Leaf, Found, named_field, found_below, resolve, find_path, cut_at_dots, leaf_at, found_leaf, find_leaf, same_repetition}
 use Rattle.dr_meaning.proofs.ProjectionLemmas.{step}
-use Rattle.dr_striper.specs.Leaves.{same_kind, is_leaf_of, is_shape_leaf}
+use Rattle.dr_striper.specs.Leaves.{is_leaf_of, is_shape_leaf}
 
 abbrev leaf_of : Kind → Fields → List Step → Bool
 leaf_of u fs p = is_leaf_of fs u p

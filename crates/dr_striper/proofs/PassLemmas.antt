@@ -15,11 +15,11 @@ use Rattle.dr_meaning.specs.Record.{Instances, no_instances, instance, Instance,
 use Rattle.dr_meaning.specs.Column.{Triplet, triplet, instance_column}
 use Rattle.dr_nested.specs.Views.{rep_view, instance_view, instances_view}
 use Rattle.dr_nested.specs.declared.record.Instance as code_record
-use Rattle.dr_nested.specs.PathView.{step_view, path_view}
+use Rattle.dr_nested.specs.PathView.{step_view, path_view, paths_view}
 use Rattle.dr_nested.specs.declared.path.Step as code
 use Rattle.dr_nested.specs.declared.path.Path as paths
 use Rattle.dr_striper.specs.Places.{below}
-use Rattle.dr_striper.specs.Striping.{EachGoesOn, Stripes, Appends, paths_of, path_column, later_columns, field_column, gained, Grown}
+use Rattle.dr_striper.specs.Striping.{EachGoesOn, Stripes, Appends, path_column, later_columns, field_column, gained, Grown}
 use Rattle.dr_striper.specs.declared.dissection.Place.{Place}
 use Rattle.dr_memory.specs.declared.NoMemory.{NoMemory}
 
@@ -43,12 +43,12 @@ each_join d s [] qs g h = h
 each_join d s (p ∷ ps) qs g h = (g.0, each_join d s ps qs g.1 h)
 
 -- one path more goes on
-pub each_more : (fields : List paths.Path) (d : ℕ) (s : Step) (i : ℕ) (x : paths.Path) → i < length fields → x ≡ get_or fields i x → EachGoesOn d s (paths_of (take i fields)) → drop d (path_view x).path ≡ s ∷ drop (d + 1) (path_view x).path
-    → EachGoesOn d s (paths_of (take (i + 1) fields))
+pub each_more : (fields : List paths.Path) (d : ℕ) (s : Step) (i : ℕ) (x : paths.Path) → i < length fields → x ≡ get_or fields i x → EachGoesOn d s (paths_view (take i fields)) → drop d (path_view x).path ≡ s ∷ drop (d + 1) (path_view x).path
+    → EachGoesOn d s (paths_view (take (i + 1) fields))
 each_more fields d s i x h y g e =
-    let k : paths_of (take (i + 1) fields) ≡ paths_of (take i fields) ++ (path_view x).path ∷ [] =
-    ap paths_of (ap (λ n. take n fields) (add-one i) ∙ take-suc fields i x h ∙ ap (λ z. take i fields ++ z ∷ []) (sym y)) ∙ map-append (λ (p : paths.Path). (path_view p).path) (take i fields) (x ∷ []) in
-    subst (EachGoesOn d s) (sym k) (each_join d s (paths_of (take i fields)) _ g (e, tt))
+    let k : paths_view (take (i + 1) fields) ≡ paths_view (take i fields) ++ (path_view x).path ∷ [] =
+    ap paths_view (ap (λ n. take n fields) (add-one i) ∙ take-suc fields i x h ∙ ap (λ z. take i fields ++ z ∷ []) (sym y)) ∙ map-append (λ (p : paths.Path). (path_view p).path) (take i fields) (x ∷ []) in
+    subst (EachGoesOn d s) (sym k) (each_join d s (paths_view (take i fields)) _ g (e, tt))
 
 -- ---- what an instance gives the paths that go on by a step
 
@@ -136,7 +136,7 @@ pub nothing_left : (at : Place) (s : Step) (xs : List code_record.Instance) (i :
 nothing_left at s xs i ps cs es h g =
     sym (gained-nothing ps cs) ∙ ap (λ ys. gained (later_columns at s (instances_view ys)) ps cs) (sym (drop_all i xs h)) ∙ g
 
-pub length_paths : (fields : List paths.Path) → length (paths_of fields) ≡ length fields
+pub length_paths : (fields : List paths.Path) → length (paths_view fields) ≡ length fields
 length_paths fields = length-map fields (λ (p : paths.Path). (path_view p).path)
 
 pub length_columns : (cs : List columns.Column) → length (columns_view cs) ≡ length cs
@@ -153,13 +153,13 @@ empty_passed at s xs ps cs ds r h l g = subst (λ ys. Stripes (field_column at s
 -- ---- one run of paths, then the others
 
 pub run_goes_on : (fields : List paths.Path) (h : paths.Path) (ss : List code.Step) (d r : ℕ) (x : code.Step) → 1 ≤ length fields → h ≡ get_or fields 0 h → ss ≡ h.steps.items
-    → true ≡ nat_lt d (length ss) → x ≡ get_or ss d x → EachGoesOn d (step_view x) (paths_of (take r (drop 1 fields))) → EachGoesOn d (step_view x) (paths_of (take (1 + r) fields))
+    → true ≡ nat_lt d (length ss) → x ≡ get_or ss d x → EachGoesOn d (step_view x) (paths_view (take r (drop 1 fields))) → EachGoesOn d (step_view x) (paths_view (take (1 + r) fields))
 run_goes_on [] h ss d r x l e f g i j = absurd (omega (arith, l))
 run_goes_on (p ∷ ps) h ss d r x l e f g i j =
     let k : drop d (map step_view ss) ≡ step_view x ∷ drop (d + 1) (map step_view ss) = goes_on_by ss d x x g i refl refl in
     let n : suc r ≡ 1 + r = omega arith in
-    let both : EachGoesOn d (step_view x) (paths_of (p ∷ take r ps)) = (subst (λ qs. drop d (map step_view qs) ≡ step_view x ∷ drop (d + 1) (map step_view qs)) (f ∙ ap (λ (q : paths.Path). q.steps.items) e) k, j) in
-    subst (λ m. EachGoesOn d (step_view x) (paths_of (take m (p ∷ ps)))) n both
+    let both : EachGoesOn d (step_view x) (paths_view (p ∷ take r ps)) = (subst (λ qs. drop d (map step_view qs) ≡ step_view x ∷ drop (d + 1) (map step_view qs)) (f ∙ ap (λ (q : paths.Path). q.steps.items) e) k, j) in
+    subst (λ m. EachGoesOn d (step_view x) (paths_view (take m (p ∷ ps)))) n both
 
 pub others_all : (n : ℕ) (fields : List paths.Path) → take (length fields - n) (drop n fields) ≡ drop n fields
 others_all n fields = let l : length (drop n fields) ≡ length fields - n = length-drop n fields in take_all (length fields - n) (drop n fields) (omega (arith, l))
@@ -176,17 +176,17 @@ joined f ps qs ks bs ds es (Err e) l g h = grown-join ks ds bs es (subst (Grown 
 
 -- the paths and the columns of a call, of its first part and of its second
 pub joined_parts : (f : List Step → List Triplet) (fields : List paths.Path) (n : ℕ) (cs ks bs ds es : List columns.Column) (r : Result (Unit {0}) NoMemory) → cs ≡ ks ++ bs → n ≤ length fields → length ks ≡ n
-    → columns_view ds ≡ gained f (paths_of (take n fields)) (columns_view ks) → Stripes f (paths_of (drop n fields)) (columns_view bs) (columns_view es) r
-    → Stripes f (paths_of fields) (columns_view cs) (columns_view (ds ++ es)) r
+    → columns_view ds ≡ gained f (paths_view (take n fields)) (columns_view ks) → Stripes f (paths_view (drop n fields)) (columns_view bs) (columns_view es) r
+    → Stripes f (paths_view fields) (columns_view cs) (columns_view (ds ++ es)) r
 joined_parts f fields n cs ks bs ds es r c m l g h =
-    let ps : paths_of (take n fields) ++ paths_of (drop n fields) ≡ paths_of fields = sym (map-append (λ (p : paths.Path). (path_view p).path) (take n fields) (drop n fields)) ∙ ap paths_of (take-append-drop n fields) in
+    let ps : paths_view (take n fields) ++ paths_view (drop n fields) ≡ paths_view fields = sym (map-append (λ (p : paths.Path). (path_view p).path) (take n fields) (drop n fields)) ∙ ap paths_view (take-append-drop n fields) in
     let both : columns_view ks ++ columns_view bs ≡ columns_view cs = sym (map-append column_view ks bs) ∙ ap columns_view (sym c) in
     let ns : columns_view ds ++ columns_view es ≡ columns_view (ds ++ es) = sym (map-append column_view ds es) in
-    let w : length (paths_of (take n fields)) ≡ length (columns_view ks) = length_paths (take n fields) ∙ length-take-le n fields m ∙ sym l ∙ sym (length_columns ks) in
-    subst (λ x. Stripes f (paths_of fields) (columns_view cs) x r) ns
-    (subst (λ x. Stripes f (paths_of fields) x (columns_view ds ++ columns_view es) r) both
+    let w : length (paths_view (take n fields)) ≡ length (columns_view ks) = length_paths (take n fields) ∙ length-take-le n fields m ∙ sym l ∙ sym (length_columns ks) in
+    subst (λ x. Stripes f (paths_view fields) (columns_view cs) x r) ns
+    (subst (λ x. Stripes f (paths_view fields) x (columns_view ds ++ columns_view es) r) both
     (subst (λ x. Stripes f x (columns_view ks ++ columns_view bs) (columns_view ds ++ columns_view es) r) ps
-    (joined f (paths_of (take n fields)) (paths_of (drop n fields)) (columns_view ks) (columns_view bs) (columns_view ds) (columns_view es) r w g h)))
+    (joined f (paths_view (take n fields)) (paths_view (drop n fields)) (columns_view ks) (columns_view bs) (columns_view ds) (columns_view es) r w g h)))
 
 pub grown_parts : (cs ks bs ds : List columns.Column) → cs ≡ ks ++ bs → Grown (columns_view ks) (columns_view ds) → Grown (columns_view cs) (columns_view (ds ++ bs))
 grown_parts cs ks bs ds c g =

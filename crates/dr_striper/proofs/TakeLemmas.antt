@@ -14,14 +14,14 @@ use Rattle.dr_levels.specs.Views.{LeafForm, column_form, forms_view}
 use Rattle.dr_levels.specs.Columns.{takes}
 use Rattle.dr_levels.proofs.TextLemmas.{all_there}
 use Rattle.dr_nested.specs.Views.{instances_view}
-use Rattle.dr_nested.specs.PathView.{path_view}
+use Rattle.dr_nested.specs.PathView.{path_view, paths_view}
 use Rattle.dr_nested.specs.declared.record.Instance as code_record
 use Rattle.dr_nested.specs.declared.path.Path as paths
 use Rattle.dr_striper.specs.Places.{below}
 use Rattle.dr_striper.specs.declared.dissection.Place.{Place}
 use Rattle.std.specs.Prelude.{Result, Ok, Err, IsErr}
 use Rattle.dr_memory.specs.declared.NoMemory.{NoMemory}
-use Rattle.dr_striper.specs.Striping.{EachGoesOn, Takes, Grown, Stripes, Appends, paths_of, leaves_of, leaf_form, forms_of, path_column, later_columns, field_column}
+use Rattle.dr_striper.specs.Striping.{EachGoesOn, Takes, Grown, Stripes, Appends, leaves_of, leaf_form, forms_of, path_column, later_columns, field_column}
 
 -- ---- forms of columns
 
@@ -92,23 +92,23 @@ failed_each t before after (Err e) h g = g
 forms_cut : (cs ks bs : List columns.Column) → cs ≡ ks ++ bs → forms_view cs ≡ forms_view ks ++ forms_view bs
 forms_cut cs ks bs c = ap forms_view c ∙ forms_append ks bs
 
-paths_cut : (fields : List paths.Path) (n : ℕ) → paths_of fields ≡ paths_of (take n fields) ++ paths_of (drop n fields)
-paths_cut fields n = ap paths_of (sym (take-append-drop n fields)) ∙ map-append (λ (p : paths.Path). (path_view p).path) (take n fields) (drop n fields)
+paths_cut : (fields : List paths.Path) (n : ℕ) → paths_view fields ≡ paths_view (take n fields) ++ paths_view (drop n fields)
+paths_cut fields n = ap paths_view (sym (take-append-drop n fields)) ∙ map-append (λ (p : paths.Path). (path_view p).path) (take n fields) (drop n fields)
 
-as_many_parts : (fields : List paths.Path) (n : ℕ) (ks : List columns.Column) → n ≤ length fields → length ks ≡ n → length (paths_of (take n fields)) ≡ length (forms_view ks)
+as_many_parts : (fields : List paths.Path) (n : ℕ) (ks : List columns.Column) → n ≤ length fields → length ks ≡ n → length (paths_view (take n fields)) ≡ length (forms_view ks)
 as_many_parts fields n ks m l = length-map (take n fields) (λ (p : paths.Path). (path_view p).path) ∙ length-take-le n fields m ∙ sym l ∙ sym (length-map ks column_form)
 
-pub takes_near : (f : List Step → List Triplet) (fields : List paths.Path) (n : ℕ) (cs ks bs : List columns.Column) → cs ≡ ks ++ bs → n ≤ length fields → length ks ≡ n → Takes f (paths_of fields) (forms_view cs)
-    → Takes f (paths_of (take n fields)) (forms_view ks)
+pub takes_near : (f : List Step → List Triplet) (fields : List paths.Path) (n : ℕ) (cs ks bs : List columns.Column) → cs ≡ ks ++ bs → n ≤ length fields → length ks ≡ n → Takes f (paths_view fields) (forms_view cs)
+    → Takes f (paths_view (take n fields)) (forms_view ks)
 takes_near f fields n cs ks bs c m l t =
-    takes_front f (paths_of (take n fields)) (paths_of (drop n fields)) (forms_view ks) (forms_view bs) (as_many_parts fields n ks m l)
-    (subst (λ js. Takes f (paths_of (take n fields) ++ paths_of (drop n fields)) js) (forms_cut cs ks bs c) (subst (λ ps. Takes f ps (forms_view cs)) (paths_cut fields n) t))
+    takes_front f (paths_view (take n fields)) (paths_view (drop n fields)) (forms_view ks) (forms_view bs) (as_many_parts fields n ks m l)
+    (subst (λ js. Takes f (paths_view (take n fields) ++ paths_view (drop n fields)) js) (forms_cut cs ks bs c) (subst (λ ps. Takes f ps (forms_view cs)) (paths_cut fields n) t))
 
-pub takes_far : (f : List Step → List Triplet) (fields : List paths.Path) (n : ℕ) (cs ks bs : List columns.Column) → cs ≡ ks ++ bs → n ≤ length fields → length ks ≡ n → Takes f (paths_of fields) (forms_view cs)
-    → Takes f (paths_of (drop n fields)) (forms_view bs)
+pub takes_far : (f : List Step → List Triplet) (fields : List paths.Path) (n : ℕ) (cs ks bs : List columns.Column) → cs ≡ ks ++ bs → n ≤ length fields → length ks ≡ n → Takes f (paths_view fields) (forms_view cs)
+    → Takes f (paths_view (drop n fields)) (forms_view bs)
 takes_far f fields n cs ks bs c m l t =
-    takes_back f (paths_of (take n fields)) (paths_of (drop n fields)) (forms_view ks) (forms_view bs) (as_many_parts fields n ks m l)
-    (subst (λ js. Takes f (paths_of (take n fields) ++ paths_of (drop n fields)) js) (forms_cut cs ks bs c) (subst (λ ps. Takes f ps (forms_view cs)) (paths_cut fields n) t))
+    takes_back f (paths_view (take n fields)) (paths_view (drop n fields)) (forms_view ks) (forms_view bs) (as_many_parts fields n ks m l)
+    (subst (λ js. Takes f (paths_view (take n fields) ++ paths_view (drop n fields)) js) (forms_cut cs ks bs c) (subst (λ ps. Takes f ps (forms_view cs)) (paths_cut fields n) t))
 
 -- ---- the instances of a field
 
@@ -145,6 +145,6 @@ takes_none at s xs ps ks h l t =
     takes_each (triplet at.begin at.definition None) ps ks l (subst (λ ys. Takes (field_column at s ys) ps ks) (no_more xs h) t)
 
 -- the leaves of whole paths
-pub takes_all : (f : List Step → List Triplet) (fields : List paths.Path) → list_all (λ l. list_all (takes (leaf_form l)) (f l.path)) (leaves_of fields) ≡ true → Takes f (paths_of fields) (forms_of (leaves_of fields))
+pub takes_all : (f : List Step → List Triplet) (fields : List paths.Path) → list_all (λ l. list_all (takes (leaf_form l)) (f l.path)) (leaves_of fields) ≡ true → Takes f (paths_view fields) (forms_of (leaves_of fields))
 takes_all f [] h = tt
 takes_all f (p ∷ ps) h = ((and_parts _ _ h).0, takes_all f ps (and_parts _ _ h).1)

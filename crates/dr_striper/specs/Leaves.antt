@@ -1,18 +1,11 @@
 -- The leaves of a schema with their kinds, and what records give them.
 use Rattle.std.specs.Prelude.{◌≡◌, List, [], ◌∷◌, Bool, true, false, ◌&&◌, Ok, ℕ}
 use Rattle.std.specs.List.{list_all}
-use Rattle.dr_meaning.specs.Schema.{Kind, bool_kind, int32_kind, int64_kind, text_kind, Fields, no_fields, field, Shape, leaf, group}
+use Rattle.dr_meaning.specs.Schema.{Kind, bool_kind, int32_kind, int64_kind, text_kind, Fields, no_fields, field, Shape, leaf, group, same_kind}
 use Rattle.dr_meaning.specs.Path.{Step, Leaf, same_repetition, through, is_empty_path, find_leaf, leaves}
 use Rattle.dr_meaning.specs.Record.{Node, Instance, atom, inner, is_record, is_end, is_slot_that, is_inner_that}
 use Rattle.dr_levels.specs.Columns.{is_held}
 use Rattle.dr_striper.specs.Stripers.{fits_leaf}
-
-abbrev pub same_kind : Kind → Kind → Bool
-same_kind bool_kind bool_kind = true
-same_kind int32_kind int32_kind = true
-same_kind int64_kind int64_kind = true
-same_kind text_kind text_kind = true
-same_kind j k = false
 
 -- whether the path is that of a leaf of this kind
 abbrev mutual

@@ -7,8 +7,9 @@ use Rattle.dr_meaning.specs.Column.{Triplet, record_column}
 use Rattle.dr_memory.specs.declared.NoMemory.{NoMemory}
 use Rattle.dr_levels.specs.Views.{columns_view}
 use Rattle.dr_levels.specs.Columns.{takes}
-use Rattle.dr_striper.specs.Striping.{gained, paths_of, leaves_of, leaf_form}
+use Rattle.dr_striper.specs.Striping.{gained, leaves_of, leaf_form}
 use Rattle.dr_striper.specs.declared.making.Striper.{Striper}
+use Rattle.dr_nested.specs.PathView.{paths_view}
 
 -- the columns so far
 abbrev pub striped : Striper → List (List Triplet)
@@ -24,7 +25,7 @@ fits_leaf n l = list_all (takes (leaf_form l)) (record_column l.path n)
 
 -- the paths of its leaves
 abbrev pub striped_paths : Striper → List (List Step)
-striped_paths s = paths_of s.fields.now
+striped_paths s = paths_view s.fields.now
 
 -- each column gained the record's; where memory was wanting, none did
 abbrev pub AddsRecord : Node → List (List Step) → List (List Triplet) → List (List Triplet) → Result (Unit {0}) NoMemory → Type 0

@@ -20,12 +20,6 @@ abbrev pub inside_view : Inside → tree.Instance
 inside_view (Inside.Atom v) = tree.atom (value_view v.now)
 inside_view (Inside.Group n) = tree.inner (node_view n.now)
 
-abbrev pub lent_value : Bor Value → tree.Value
-lent_value v = value_view v.now
-
-abbrev pub paths_of : List Path → List (List Step)
-paths_of ps = map (λ (p : Path). (path_view p).path) ps
-
 -- the leaf that a column at a path is made for
 abbrev pub leaf_form : Leaf → LeafForm
 leaf_form l = form l.kind (max_definition l.path)

@@ -5,12 +5,12 @@ ghost use Rattle.std.specs.List.{list_all};
 ghost use Rattle.dr_meaning.specs.Column.{value_of, triplet};
 ghost use Rattle.dr_meaning.specs.Record as record_tree;
 ghost use Rattle.dr_meaning.specs.Schema.{greatest_depth};
-ghost use Rattle.dr_nested.specs.Views.{rep_view, instance_view, instances_view};
-ghost use Rattle.dr_nested.specs.PathView.{path_view, step_view};
+ghost use Rattle.dr_nested.specs.Views.{rep_view, instance_view, instances_view, lent_value};
+ghost use Rattle.dr_nested.specs.PathView.{path_view, step_view, paths_view};
 ghost use Rattle.dr_levels.specs.Views.{column_view, columns_view, column_form, forms_view};
 ghost use Rattle.dr_levels.specs.Columns.{Adds, takes};
 ghost use Rattle.dr_striper.specs.Places.{IsWithin, below};
-ghost use Rattle.dr_striper.specs.Striping.{Appends, Stripes, Takes, EachGoesOn, inside_view, lent_value, paths_of, path_column, field_column};
+ghost use Rattle.dr_striper.specs.Striping.{Appends, Stripes, Takes, EachGoesOn, inside_view, path_column, field_column};
 
 use dr_levels::{Column, Triplet, ValueRef};
 use dr_nested::{Instance, NoMemory, Node, Path, Rep, Step, Value, instances_at};
@@ -109,7 +109,7 @@ fn goes_on(field: &Path, depth: usize, step: Step) -> bool
 /// How many of the first paths go on by a step.
 fn run_length(fields: &[Path], depth: usize, step: Step) -> usize
     ensures within { result ≤ length fields.now }
-    ensures same { EachGoesOn depth (step_view step) (paths_of (take result fields.now)) }
+    ensures same { EachGoesOn depth (step_view step) (paths_view (take result fields.now)) }
 {
     'fields: for (run, field) in fields.iter().enumerate() {
         if !goes_on(field, depth, step) {
@@ -165,10 +165,10 @@ fn stripe_instances(
     requires as_many { length fields.now ≡ length columns.old }
     requires within { IsWithin place (greatest_depth - 1) }
     requires takes { Takes (field_column place (step_view step)
-        (record_tree.instance (instance_view first.now) (instances_view later.now))) (paths_of fields.now)
+        (record_tree.instance (instance_view first.now) (instances_view later.now))) (paths_view fields.now)
         (forms_view columns.old) }
     ensures columns { Stripes (field_column place (step_view step)
-        (record_tree.instance (instance_view first.now) (instances_view later.now))) (paths_of fields.now)
+        (record_tree.instance (instance_view first.now) (instances_view later.now))) (paths_view fields.now)
         (columns_view columns.old) (columns_view columns.new) result }
     ensures forms { forms_view columns.new ≡ forms_view columns.old }
 {
@@ -195,9 +195,9 @@ fn stripe_field(
 ) -> Result<(), NoMemory>
     requires as_many { length fields.now ≡ length columns.old }
     requires within { IsWithin place (greatest_depth - 1) }
-    requires takes { Takes (field_column place (step_view step) (instances_view instances.now)) (paths_of fields.now)
+    requires takes { Takes (field_column place (step_view step) (instances_view instances.now)) (paths_view fields.now)
         (forms_view columns.old) }
-    ensures columns { Stripes (field_column place (step_view step) (instances_view instances.now)) (paths_of fields.now)
+    ensures columns { Stripes (field_column place (step_view step) (instances_view instances.now)) (paths_view fields.now)
         (columns_view columns.old) (columns_view columns.new) result }
     ensures forms { forms_view columns.new ≡ forms_view columns.old }
 {
@@ -217,8 +217,8 @@ pub fn stripe_inside(
 ) -> Result<(), NoMemory>
     requires as_many { length fields.now ≡ length columns.old }
     requires within { IsWithin place greatest_depth }
-    requires takes { Takes (path_column place (inside_view inside)) (paths_of fields.now) (forms_view columns.old) }
-    ensures columns { Stripes (path_column place (inside_view inside.entry)) (paths_of fields.now)
+    requires takes { Takes (path_column place (inside_view inside)) (paths_view fields.now) (forms_view columns.old) }
+    ensures columns { Stripes (path_column place (inside_view inside.entry)) (paths_view fields.now)
         (columns_view columns.old) (columns_view columns.new) result }
     ensures forms { forms_view columns.new ≡ forms_view columns.old }
 {

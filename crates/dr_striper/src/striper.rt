@@ -4,9 +4,9 @@ ghost use Rattle.std.specs.Prelude.{◌≡◌, length, map, replicate, [], IfOk}
 ghost use Rattle.dr_nested.specs.Views.{node_view};
 ghost use Rattle.std.specs.Prelude.{true};
 ghost use Rattle.std.specs.List.{list_all};
-ghost use Rattle.dr_nested.specs.PathView.{path_view};
+ghost use Rattle.dr_nested.specs.PathView.{path_view, paths_view};
 ghost use Rattle.dr_levels.specs.Views.{column_view, columns_view, column_form, forms_view};
-ghost use Rattle.dr_striper.specs.Striping.{paths_of, leaves_of, leaf_form, forms_of};
+ghost use Rattle.dr_striper.specs.Striping.{leaves_of, leaf_form, forms_of};
 ghost use Rattle.dr_striper.specs.Stripers.{AddsRecord, cut_to, fits_leaf, striped, striped_leaves, striped_paths};
 
 use crate::dissection::{Inside, Place, stripe_inside};
@@ -46,7 +46,7 @@ fn stripe_record(
     requires fitted { forms_view columns.old ≡ forms_of (leaves_of fields.now) }
     requires noted { lengths.now ≡ map length (columns_view columns.old) }
     requires fits { list_all (fits_leaf (node_view node.now)) (leaves_of fields.now) ≡ true }
-    ensures columns { AddsRecord (node_view node.now) (paths_of fields.now) (columns_view columns.old)
+    ensures columns { AddsRecord (node_view node.now) (paths_view fields.now) (columns_view columns.old)
         (columns_view columns.new) result }
     ensures forms { forms_view columns.new ≡ forms_view columns.old }
 {

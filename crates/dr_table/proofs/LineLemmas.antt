@@ -8,8 +8,9 @@ use Rattle.std.proofs.lemmas.Bool.{and_parts, leb-true, leb-false, eq-eqb, eqb-t
 use Rattle.std.proofs.lemmas.Str.Parse.{IsNumeralModel, numerals_by_fold, parse_plain}
 use Rattle.std.proofs.lemmas.Str.Pattern.{IsSplitOnceResult, split_parts, starts_char}
 use denote.Ref.{Bor}
-use Rattle.dr_formats.specs.TableFile.{first_line, behind_word, is_digit, digits_value, number_text, at_most, number_behind}
+use Rattle.dr_formats.specs.TableFile.{first_line, behind_word, digits_value, number_text, at_most, number_behind}
 use Rattle.dr_table.specs.Lines.{line_view}
+use Rattle.dr_meaning.specs.Tokens.{is_digit}
 
 -- ---- lines
 

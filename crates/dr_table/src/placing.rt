@@ -1,6 +1,7 @@
 //! Where the copies of tablets lie.
 
 ghost use Rattle.std.specs.Prelude.{◌≡◌, ◌<◌, length, string_bytes, IfOk};
+ghost use Rattle.dr_meaning.specs.Lists.{nth_text};
 ghost use Rattle.dr_formats.specs.Tablets as meant;
 ghost use Rattle.dr_table.specs.Views.{table_view};
 
@@ -31,7 +32,7 @@ pub fn placement_among(leaves: u32, tablet: u32, copy: u32) -> u32
 pub fn path_of(alloc: Global, table: &Table, leaf: u32, tablet: u32) -> Result<String, NoMemory>
     requires { leaf < length (table_view table.now).leaves }
     ensures { IfOk result (λ s. string_bytes s
-        ≡ meant.tablet_path (meant.nth_directory (table_view table.now).leaves leaf) tablet) }
+        ≡ meant.tablet_path (nth_text (table_view table.now).leaves leaf) tablet) }
 {
     tablet_path(alloc, table.leaves[leaf as usize].as_str(), tablet)
 }

@@ -4,7 +4,7 @@ use Rattle.std.specs.Prelude.{IsTrue, IsSome, Result, Err}
 use Rattle.std.proofs.Common.{Vec, Global}
 use Rattle.dr_nested.specs.declared.record.Node as code
 use Rattle.dr_meaning.specs.Schema.{Schema}
-use Rattle.dr_meaning.specs.Path.{Leaf}
+use Rattle.dr_meaning.specs.Path.{Leaf, paths_of_leaves}
 use Rattle.dr_meaning.specs.Record.{Node, project}
 use Rattle.dr_formats.specs.Tablets.{placement}
 use Rattle.dr_outside.specs.Faults.{raised, Rose}
@@ -13,7 +13,7 @@ use Rattle.dr_outside.specs.declared.cause.Cause.{Cause}
 use Rattle.dr_outside.specs.Telling.{TellsFile}
 use Rattle.dr_file.specs.OpenedFiles.{HasCounts, is_link_fault}
 use Rattle.dr_file.specs.declared.file_fault.FileFault.{FileFault}
-use Rattle.dr_tablets.specs.FileRecords.{AreOfFile, AreProjected, IsFaultOf, paths_of_leaves}
+use Rattle.dr_tablets.specs.FileRecords.{AreOfFile, AreProjected, IsFaultOf}
 use Rattle.dr_reading.specs.Held.{held_at, held_file}
 use Rattle.dr_reading.specs.Causes.{IsJustified, LeadTo, is_read}
 use Rattle.dr_reading.specs.Scan.{Copy, copy_in, copies_from}

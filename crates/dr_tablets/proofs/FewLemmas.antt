@@ -14,12 +14,12 @@ use Rattle.dr_meaning.specs.Column.{Triplet, column}
 use Rattle.dr_meaning.proofs.ProjectionLemmas.{leads_from_front}
 use Rattle.dr_meaning.proofs.MeaningLemmas.{column_of_projections}
 use Rattle.dr_formats.specs.File.{most_rows, most_triplets}
-use Rattle.dr_nested.specs.PathView.{path_view}
+use Rattle.dr_nested.specs.PathView.{path_view, paths_view}
 use Rattle.dr_nested.specs.declared.path.Path.{Path}
 use Rattle.dr_assemble.specs.Assembly.{AreProjections}
-use Rattle.dr_assemble.specs.Views.{paths_view}
 use Rattle.dr_tablets.specs.Counting.{counted}
-use Rattle.dr_tablets.specs.FileRecords.{are_short, AreFew, triplets_in, triplets_at}
+use Rattle.dr_tablets.specs.FileRecords.{are_short, AreFew, triplets_at}
+use Rattle.dr_formats.specs.Writing.{triplet_count}
 
 -- ---- the columns of projections
 
@@ -68,14 +68,14 @@ few_assembled fs fields ds es n P h e s l =
 
 -- ---- counted
 
-triplets_in-append : (cs ds : List (List Triplet)) → triplets_in (cs ++ ds) ≡ triplets_in cs + triplets_in ds
+triplets_in-append : (cs ds : List (List Triplet)) → triplet_count (cs ++ ds) ≡ triplet_count cs + triplet_count ds
 triplets_in-append [] ds = omega arith
 triplets_in-append (c ∷ cs) ds = ap (λ n. length c + n) (triplets_in-append cs ds) ∙ omega arith
 
 -- one column more
-pub one_more_counted : (cs ds : List (List Triplet)) (c : List Triplet) (k m n : ℕ) → m ≡ counted k (triplets_in cs) → n ≡ counted m (length c) → ds ≡ cs ++ c ∷ [] → n ≡ counted k (triplets_in ds)
+pub one_more_counted : (cs ds : List (List Triplet)) (c : List Triplet) (k m n : ℕ) → m ≡ counted k (triplet_count cs) → n ≡ counted m (length c) → ds ≡ cs ++ c ∷ [] → n ≡ counted k (triplet_count ds)
 one_more_counted cs ds c k m n h a e =
-    let whole : triplets_in ds ≡ triplets_in cs + (length c + 0) = ap triplets_in e ∙ triplets_in-append cs (c ∷ []) in
+    let whole : triplet_count ds ≡ triplet_count cs + (length c + 0) = ap triplet_count e ∙ triplets_in-append cs (c ∷ []) in
     omega (arith, h, a, whole)
 
 -- as many steps as columns have triplets, where these are counted from none on
@@ -84,5 +84,5 @@ taken_counted before now t n h k = omega (arith, h, k)
 
 -- the projections have as many triplets as the columns of which they are made
 pub counted_assembled : (fs : Fields) (fields : List Path) (ds es : List (List Triplet)) (n : ℕ) (P : List Node) → AreProjections fs (paths_view fields) ds n P → ds ≡ es
-    → triplets_in es ≡ triplets_at (map path_view fields) P
-counted_assembled fs fields ds es n P h e = sym (ap triplets_in (columns_of fs fields ds n P h ∙ e))
+    → triplet_count es ≡ triplets_at (map path_view fields) P
+counted_assembled fs fields ds es n P h e = sym (ap triplet_count (columns_of fs fields ds n P h ∙ e))

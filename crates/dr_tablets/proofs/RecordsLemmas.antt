@@ -4,25 +4,26 @@ use Rattle.std.specs.List.{list_all, slice_get}
 use Rattle.std.proofs.lemmas.Bool.{and_parts, and_from}
 use Rattle.std.proofs.lemmas.Simd.{map-map}
 use Rattle.dr_meaning.specs.Schema.{Schema, Fields}
-use Rattle.dr_meaning.specs.Path.{Step, Leaf, leaves, is_leaf_path}
+use Rattle.dr_meaning.specs.Path.{Step, Leaf, leaves, is_leaf_path, paths_of_leaves}
 use Rattle.dr_meaning.specs.Record.{Node}
 use Rattle.dr_meaning.specs.Column.{Triplet, column}
-use Rattle.dr_nested.specs.PathView.{path_view}
+use Rattle.dr_nested.specs.PathView.{path_view, paths_view}
 use Rattle.dr_nested.specs.declared.path.Path.{Path}
 use Rattle.dr_formats.specs.File.{Footer, footer_of, file_column, AreColumns, IsDataOf, IsFileOf, bad_footer, bad_schema, bad_codec, bad_data, HasCause}
 use Rattle.dr_formats.specs.Opening.{opening_cause}
 use Rattle.dr_formats.proofs.OpeningLemmas.{opening_cause_holds, leaf_cause_is_exact}
 use Rattle.dr_formats.proofs.ColumnsFit.{EachLeaf}
 use Rattle.dr_formats.proofs.ColumnRows.{leaf_paths}
-use Rattle.dr_assemble.specs.Assembly.{HasColumns, AreProjections, NoneHas}
-use Rattle.dr_assemble.specs.Views.{paths_view}
-use Rattle.dr_assemble.specs.declared.fault.AssembleFault.{AssembleFault}
+use Rattle.dr_assemble.specs.Assembly.{AreProjections}
+use Rattle.dr_walk.specs.declared.fault.AssembleFault.{AssembleFault}
 use Rattle.dr_outside.specs.declared.cause.Cause.{Cause}
 use Rattle.dr_file.specs.OpenedFiles.{IsOpened, IsCauseOf}
 use Rattle.dr_file.specs.declared.opened.Opened.{Opened}
 use Rattle.dr_file.specs.declared.file_fault.FileFault.{FileFault}
-use Rattle.dr_tablets.specs.FileRecords.{AreLeavesOf, paths_of_leaves, AreOfFile, AreProjected, IsFaultOf, AreColumnsOf, SomeIsBad, IsColumnsFault, assemble_fault, triplets_in, triplets_at}
+use Rattle.dr_tablets.specs.FileRecords.{AreLeavesOf, AreOfFile, AreProjected, IsFaultOf, AreColumnsOf, SomeIsBad, IsColumnsFault, assemble_fault, triplets_at}
 use Rattle.dr_tablets.proofs.FewLemmas.{columns_alike}
+use Rattle.dr_formats.specs.Writing.{triplet_count}
+use Rattle.dr_walk.specs.Walking.{HasColumns, NoneHas}
 
 -- ---- leaves and their paths
 
@@ -173,8 +174,8 @@ assembled_fault bytes s fields o cs ds n AssembleFault.BadData h k d e none =
 
 -- ---- how many triplets a file has
 
-triplets_by_paths : (F : List Leaf) (R : List Node) → triplets_at F R ≡ triplets_in (map (λ (p : List Step). column p R) (paths_of_leaves F))
-triplets_by_paths F R = ap triplets_in (sym (map-map (λ (p : List Step). column p R) (λ (l : Leaf). l.path) F))
+triplets_by_paths : (F : List Leaf) (R : List Node) → triplets_at F R ≡ triplet_count (map (λ (p : List Step). column p R) (paths_of_leaves F))
+triplets_by_paths F R = ap triplet_count (sym (map-map (λ (p : List Step). column p R) (λ (l : Leaf). l.path) F))
 
 -- what is read of a file has as many triplets as any records of which it is a file
 pub file_triplets : (bytes : List ℕ) (s : Schema) (F : List Leaf) (P R : List Node) → AreOfFile bytes s F P → IsFileOf bytes s F R → triplets_at F P ≡ triplets_at F R
@@ -185,5 +186,5 @@ file_triplets bytes s F P R a b =
     let other : AreColumns bytes f F R = subst (λ (x : Footer). AreColumns bytes x F R) same b.4.4 in
     let columns : map (λ (p : List Step). column p a.0) G ≡ map (λ (p : List Step). column p R) G = same_all _ _ (sym (columns_from F a.0) ∙ (sym a.1.4.4 ∙ (other ∙ columns_from F R))) in
     triplets_by_paths F P
-    ∙ (ap (λ (Q : List Node). triplets_in (map (λ (p : List Step). column p Q) G)) a.2
-    ∙ (ap triplets_in (columns_alike G G (λ q e. e) a.0) ∙ (ap triplets_in columns ∙ sym (triplets_by_paths F R))))
+    ∙ (ap (λ (Q : List Node). triplet_count (map (λ (p : List Step). column p Q) G)) a.2
+    ∙ (ap triplet_count (columns_alike G G (λ q e. e) a.0) ∙ (ap triplet_count columns ∙ sym (triplets_by_paths F R))))

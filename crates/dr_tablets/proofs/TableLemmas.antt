@@ -3,10 +3,9 @@ use Rattle.std.proofs.Common.{◌≡◌, ℕ, zero, suc, ◌+◌, List, [], ◌�
 use Rattle.std.specs.Prelude.{IsTrue}
 use Rattle.std.proofs.lemmas.List.{map-append}
 use Rattle.dr_meaning.specs.Schema.{Schema}
-use Rattle.dr_meaning.specs.Path.{Leaf}
+use Rattle.dr_meaning.specs.Path.{Leaf, paths_of_leaves}
 use Rattle.dr_meaning.specs.Record.{Node, project}
 use Rattle.dr_outside.specs.Link.{LinkShown}
-use Rattle.dr_tablets.specs.FileRecords.{paths_of_leaves}
 use Rattle.dr_reading.specs.Causes.{LeadTo}
 use Rattle.dr_reading.specs.Scan.{Copy, copies_from, tablets_from, joined}
 use Rattle.dr_reading.specs.Left.{LeftTablet}

@@ -2,23 +2,21 @@
 use Rattle.std.specs.Prelude.{◌≡◌, ◌≤◌, ◌+◌, ℕ, List, [], ◌∷◌, map, length, Bool, true, nat_le, Some, ⊤}
 use Rattle.std.specs.List.{slice_get, list_all}
 use Rattle.dr_meaning.specs.Schema.{Schema, Fields}
-use Rattle.dr_meaning.specs.Path.{Step, Leaf, leaves}
+use Rattle.dr_meaning.specs.Path.{Step, Leaf, leaves, paths_of_leaves}
 use Rattle.dr_meaning.specs.Record.{Node, is_record, project}
 use Rattle.dr_meaning.specs.Column.{Triplet, column}
 use Rattle.dr_formats.specs.File.{bad_footer, bad_schema, bad_codec, bad_data, IsFileOf, HasCause, most_rows, most_triplets}
 use Rattle.dr_formats.specs.Opening.{leaf_cause}
 use Rattle.dr_outside.specs.declared.cause.Cause.{Cause}
-use Rattle.dr_assemble.specs.declared.fault.AssembleFault.{AssembleFault}
+use Rattle.dr_walk.specs.declared.fault.AssembleFault.{AssembleFault}
 use Rattle.dr_file.specs.OpenedFiles.{IsColumnOf}
 use Rattle.dr_file.specs.declared.file_fault.FileFault.{FileFault}
+use Rattle.dr_formats.specs.Writing.{triplet_count}
 
 -- each of these is a leaf of the fields
 abbrev pub AreLeavesOf : Fields → List Leaf → Type 0
 AreLeavesOf fs [] = ⊤
 AreLeavesOf fs (l ∷ F) = ((i : ℕ) × (slice_get (leaves fs) i ≡ Some l)) × AreLeavesOf fs F
-
-abbrev pub paths_of_leaves : List Leaf → List (List Step)
-paths_of_leaves F = map (λ (l : Leaf). l.path) F
 
 -- these are the projections to the leaves of records of which the bytes are a file for these leaves
 abbrev pub AreOfFile : List ℕ → Schema → List Leaf → List Node → Type 0
@@ -32,14 +30,9 @@ AreProjected s F P = (R : List Node) × (list_all (is_record s.fields) R ≡ tru
 abbrev pub are_short : List (List Triplet) → Bool
 are_short cs = list_all (λ (ts : List Triplet). nat_le (length ts) most_triplets) cs
 
--- how many triplets columns have together
-abbrev pub triplets_in : List (List Triplet) → ℕ
-triplets_in [] = 0
-triplets_in (c ∷ cs) = length c + triplets_in cs
-
 -- how many triplets records have at some leaves
 abbrev pub triplets_at : List Leaf → List Node → ℕ
-triplets_at F P = triplets_in (map (λ (l : Leaf). column l.path P) F)
+triplets_at F P = triplet_count (map (λ (l : Leaf). column l.path P) F)
 
 -- no more records than a file may have, and no more triplets at these leaves
 abbrev pub AreFew : List Leaf → List Node → Type 0

@@ -1,11 +1,10 @@
 -- What is read of one tablet, and of those before it.
 use Rattle.std.specs.Prelude.{◌≡◌, ℕ, List, [], ◌∷◌, ◌++◌, map, ⊤}
 use Rattle.dr_meaning.specs.Schema.{Schema}
-use Rattle.dr_meaning.specs.Path.{Leaf}
+use Rattle.dr_meaning.specs.Path.{Leaf, paths_of_leaves}
 use Rattle.dr_meaning.specs.Record.{Node, project}
 use Rattle.dr_outside.specs.Link.{LinkShown}
 use Rattle.dr_assemble.specs.Views.{nodes_view}
-use Rattle.dr_tablets.specs.FileRecords.{paths_of_leaves}
 use Rattle.dr_formats.specs.TableFile.{Table}
 use Rattle.dr_reading.specs.Causes.{LeadTo}
 use Rattle.dr_reading.specs.Scan.{Copy, joined, tablets_of}

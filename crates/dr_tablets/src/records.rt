@@ -16,7 +16,8 @@ ghost use Rattle.dr_chunk.specs.Ranges.{is_read_inside};
 ghost use Rattle.dr_file.specs.Asking.{is_for_path, is_request_for};
 ghost use Rattle.dr_file.specs.OpenedFiles.{IsOpened, HasCounts, is_read_fault, leaf_count, path_of};
 ghost use Rattle.dr_tablets.specs.Counting.{counted};
-ghost use Rattle.dr_tablets.specs.FileRecords.{AreLeavesOf, AreOfFile, IsFaultOf, AreProjected, AreFew, AreColumnsOf, IsColumnsFault, are_short, assemble_fault, triplets_in, triplets_at};
+ghost use Rattle.dr_tablets.specs.FileRecords.{AreLeavesOf, AreOfFile, IsFaultOf, AreProjected, AreFew, AreColumnsOf, IsColumnsFault, are_short, assemble_fault, triplets_at};
+ghost use Rattle.dr_formats.specs.Writing.{triplet_count};
 
 use crate::steps::Steps;
 use dr_assemble::{AssembleFault, assemble};
@@ -44,7 +45,7 @@ fn read_columns<L: Link>(
     ensures cause { (bytes : List ℕ) (F : List Leaf) → IsOpened bytes F opened.now → length F ≡ leaves
         → Tells (L.shows link.old) (path_of opened.now) bytes → IfErr result (IsColumnsFault bytes F) }
     ensures few { IfOk result (λ v. are_short (columns_view v.items) ≡ true) }
-    ensures counted { IfOk result (λ v. steps.new ≡ counted steps.old (triplets_in (columns_view v.items))) }
+    ensures counted { IfOk result (λ v. steps.new ≡ counted steps.old (triplet_count (columns_view v.items))) }
     ensures asked { (bytes : List ℕ) (F : List Leaf) (f : Footer) → IsOpened bytes F opened.now → length F ≡ leaves
         → footer_of bytes ≡ Some f → AsksOnly (is_read_inside (path_of opened.now) (flat_map (leaf_ranges f) F))
         (L.shows link.old).asked (L.shows link.new).asked }

@@ -19,7 +19,7 @@ use std::test::Fail;
 use std::thread::Threads;
 
 /// How many records there are.
-const COUNT: usize = 300;
+const COUNT: usize = 120;
 
 /// The records, cut at each place into two files: those before it, and those behind it.
 fn halves(alloc: Global, lines: &[String]) -> Result<Shelf, Fail> {
@@ -65,7 +65,7 @@ fn gathered_text<R: Threads + Sync, L: Link>(
     Ok(result_text(alloc, &rows)?)
 }
 
-/// A loop over 301 cuts, against what the evaluator of records gives, which no command runs.
+/// A loop over 121 cuts, against what the evaluator of records gives, which no command runs.
 #[test]
 fn the_partials_of_two_tablets_give_the_answer(rt: HostRuntime) -> Result<(), Fail> {
     let alloc = rt.alloc();

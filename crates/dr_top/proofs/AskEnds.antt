@@ -13,7 +13,7 @@ use Rattle.dr_outside.specs.Faults.{raised}
 use Rattle.dr_outside.specs.Source.{SourceShown}
 use Rattle.dr_outside.specs.Link.{Files, LinkShown}
 use Rattle.dr_input.specs.Whole.{whole_lines}
-use Rattle.dr_input.specs.Taken.{WhereTold as WhereRead, WhereGiven, AcceptsRead}
+use Rattle.dr_input.specs.Taken.{WhereTold as WhereRead, WhereGiven, AcceptsRead, WhereTold}
 use Rattle.dr_load.specs.Faults.{refusal_of as line_refusal_of}
 use Rattle.dr_load.specs.declared.fault.LoadFault.{LoadFault}
 use Rattle.dr_bind.specs.Faults.{IsRefusedAs, refusal_of}
@@ -21,7 +21,7 @@ use Rattle.dr_bind.specs.declared.fault.QueryFault.{QueryFault}
 use Rattle.dr_commands.specs.Refusals.{Refusal as Refused, query_refused, line_refused}
 use Rattle.dr_commands.specs.Meaning.{Look, Outcome, plain, done, refused, IsEarly}
 use Rattle.dr_commands.specs.Ask.{AskWords, ask_meaning}
-use Rattle.dr_top.specs.World.{WhereTold, HasOutcome}
+use Rattle.dr_top.specs.World.{HasOutcome}
 use Rattle.dr_top.specs.Stops.{StopsPlain, IsFileSchema, query_stop, load_stop}
 use Rattle.dr_top.specs.declared.refusal.Refusal.{Refusal}
 use Rattle.dr_top.proofs.InputLemmas.{records_accepted}

@@ -18,13 +18,14 @@ use Rattle.dr_commands.specs.Dump.{DumpWords, dump_meaning, dump_table, dump_nam
 use Rattle.dr_reading.specs.Scan.{tablets_of}
 use Rattle.dr_tablets.specs.Asked.{AsksForTablets}
 use Rattle.dr_top.specs.Answers.{AsksLink}
-use Rattle.dr_top.specs.World.{WhereTold, WithOutcome, ForOutcome}
+use Rattle.dr_top.specs.World.{WithOutcome, ForOutcome}
 use Rattle.dr_top.specs.Reading.{HasText, IsLeftWith}
 use Rattle.dr_top.specs.Stops.{IsUnput, StopsPlain, StopsWith, FieldStops, IsFileTable, field_stop}
 use Rattle.dr_top.specs.declared.refusal.Refusal.{Refusal}
 use Rattle.dr_top.specs.declared.field.FieldFault.{FieldFault}
 use Rattle.dr_top.specs.declared.stop.Stop.{Stop}
 use Rattle.dr_top.proofs.OutcomeLemmas.{RefusesTable, early_stop, always_with, with_for}
+use Rattle.dr_input.specs.Taken.{WhereTold}
 
 pub dump_refuses_table : (w : DumpWords) → RefusesTable (dump_meaning w)
 dump_refuses_table w look e h = ap (dump_table w.fields) h

@@ -15,10 +15,11 @@ use Rattle.dr_bind.specs.Faults.{IsRefusedAs, refusal_of}
 use Rattle.dr_bind.specs.declared.fault.QueryFault.{QueryFault}
 use Rattle.dr_commands.specs.Meaning.{Look, plain, done}
 use Rattle.dr_commands.specs.Explain.{ExplainWords, explain_meaning, explain_schema, explain_query, explained}
-use Rattle.dr_top.specs.World.{WhereTold, HasOutcome}
+use Rattle.dr_top.specs.World.{HasOutcome}
 use Rattle.dr_top.specs.Stops.{StopsPlain, IsFileSchema, query_stop}
 use Rattle.dr_top.specs.declared.refusal.Refusal.{Refusal}
 use Rattle.dr_top.proofs.OutcomeLemmas.{RefusesSchema, early_stop, always_ends}
+use Rattle.dr_input.specs.Taken.{WhereTold}
 
 pub explain_refuses_schema : (w : ExplainWords) → RefusesSchema (explain_meaning w)
 unfolding explained

@@ -7,7 +7,7 @@ use Rattle.dr_meaning.specs.Refusals.{CommandRefusal, field_refused}
 use Rattle.dr_outside.specs.Source.{SourceShown}
 use Rattle.dr_outside.specs.Link.{Files, LinkShown}
 use Rattle.dr_commands.specs.Meaning.{Look, plain, done}
-use Rattle.dr_top.specs.World.{WhereTold, HasOutcome}
+use Rattle.dr_top.specs.World.{HasOutcome}
 use Rattle.dr_top.specs.Stops.{StopsPlain, IsFileSchema}
 use Rattle.dr_top.specs.declared.refusal.Refusal.{Refusal}
 use Rattle.dr_top.proofs.OutcomeLemmas.{RefusesSchema, early_stop}
@@ -18,6 +18,7 @@ use Rattle.dr_commands.specs.Fsm.{FsmWords, fsm_meaning}
 use Rattle.dr_top.specs.Stops.{FieldStops, field_stop}
 use Rattle.dr_top.specs.declared.field.FieldFault.{FieldFault}
 use Rattle.dr_top.proofs.OutcomeLemmas.{always_ends}
+use Rattle.dr_input.specs.Taken.{WhereTold}
 
 pub fsm_refuses_schema : (w : FsmWords) → RefusesSchema (fsm_meaning w)
 unfolding fsm

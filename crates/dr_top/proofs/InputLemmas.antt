@@ -9,12 +9,11 @@ use Rattle.dr_meaning.proofs.LineLemmas.{taken_are_records}
 use Rattle.dr_lines.specs.Cutting.{ahead, IsEnd}
 use Rattle.dr_outside.specs.Faults.{raised}
 use Rattle.dr_outside.specs.Source.{SourceShown}
-use Rattle.dr_input.specs.Taken.{HasTaken, RefusesNext, AcceptsRead}
+use Rattle.dr_input.specs.Taken.{HasTaken, RefusesNext, AcceptsRead, WhereTold}
 use Rattle.dr_input.specs.Stops.{NextStops}
 use Rattle.dr_input.specs.Faults.{line_problem_view}
 use Rattle.dr_input.specs.declared.fault.InputFault.{InputFault}
 use Rattle.dr_input.proofs.TakenLemmas.{nothing_taken, taken_more, taken_is, last_nothing, refused_behind, accepts_begun, accepts_behind}
-use Rattle.dr_top.specs.World.{WhereTold}
 use Rattle.dr_top.specs.Records.{HasRead, OfRecords}
 use Rattle.dr_top.specs.Stops.{IsRefusedLine, InputStops}
 

@@ -14,7 +14,7 @@ use Rattle.dr_outside.specs.Source.{SourceShown}
 use Rattle.dr_outside.specs.Link.{Files, LinkShown}
 use Rattle.dr_load.specs.Faults.{refusal_of}
 use Rattle.dr_input.specs.Whole.{whole_lines}
-use Rattle.dr_input.specs.Taken.{WhereTold as WhereLoaded, WhereGiven, AcceptsRead}
+use Rattle.dr_input.specs.Taken.{WhereTold as WhereLoaded, WhereGiven, AcceptsRead, WhereTold}
 use Rattle.dr_load.specs.Puts.{HasPut, HasPutSome, BreaksOff}
 use Rattle.dr_load.specs.Loads.{LeavesPuts, HasPutTablets, tablets_put, tablet_part, taken_of}
 use Rattle.dr_load.specs.Given.{WhereLines, full_puts, HasPutFull}
@@ -26,7 +26,6 @@ use Rattle.dr_load.specs.declared.words.WordsProblem.{WordsProblem}
 use Rattle.dr_commands.specs.Refusals.{Refusal as Refused, words_refused, line_refused}
 use Rattle.dr_commands.specs.Meaning.{Look, Outcome, refused, puts_in, IsEarly}
 use Rattle.dr_commands.specs.Load.{LoadWords, load_plan, loaded_outcome, load_checked, load_schema, load_meaning}
-use Rattle.dr_top.specs.World.{WhereTold}
 use Rattle.dr_top.specs.Reading.{HasText}
 use Rattle.dr_top.specs.Answers.{Finishes}
 use Rattle.dr_top.specs.Stops.{IsUnput, StopsPlain, StopsWith, IsFileSchema, IsRefusedSo, PutsSome, PutsBeforeEnd, PutsBreak, all_but_last, puts_before_end, words_problem_stop, load_stop}

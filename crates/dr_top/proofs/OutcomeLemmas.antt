@@ -11,14 +11,14 @@ use Rattle.dr_nested.specs.Faults.{problem_view}
 use Rattle.dr_table.specs.Faults.{problem_view as table_problem_view}
 use Rattle.dr_load.specs.Puts.{HasPut, HasPutSome}
 use Rattle.dr_input.specs.Whole.{whole_lines}
-use Rattle.dr_input.specs.Taken.{WhereGiven}
+use Rattle.dr_input.specs.Taken.{WhereGiven, WhereTold}
 use Rattle.dr_load.specs.Given.{WhereLines}
 use Rattle.dr_load.proofs.PutLemmas.{nothing_put}
 use Rattle.dr_outside.specs.Source.{SourceShown}
 use Rattle.dr_outside.specs.Link.{Files, LinkShown, Holds}
 use Rattle.dr_commands.specs.Refusals.{schema_refused, table_refused, Refusal as Refused}
 use Rattle.dr_commands.specs.Meaning.{Look, Meaning, Outcome, done, refused, plain, puts_in}
-use Rattle.dr_top.specs.World.{WhereTold, WhereUsed, WhereFile, WithOutcome, ForOutcome, HasOutcome, OpensInput, RefusesEarly, AcceptsWhole}
+use Rattle.dr_top.specs.World.{WhereUsed, WhereFile, WithOutcome, ForOutcome, HasOutcome, OpensInput, RefusesEarly, AcceptsWhole}
 use Rattle.dr_top.specs.Answers.{Gives, Finishes}
 use Rattle.dr_top.specs.Stops.{IsUnput, KeepsFile, SchemaFileStops, TableFileStops, StopsPlain, StopsWith, PutsSome, PutsBeforeEnd, PutsGiven, puts_before_end, IsRefusedSchema, IsRefusedTable, IsRefusedSo, schema_file_stop, table_file_stop, refusal_view}
 use Rattle.dr_top.specs.declared.refusal.Refusal.{Refusal}

@@ -20,12 +20,13 @@ use Rattle.dr_commands.specs.Query.{QueryWords, query_meaning, query_table, quer
 use Rattle.dr_reading.specs.Scan.{tablets_of}
 use Rattle.dr_tablets.specs.Asked.{AsksForTablets}
 use Rattle.dr_top.specs.Answers.{AsksLink}
-use Rattle.dr_top.specs.World.{WhereTold, WithOutcome, ForOutcome}
+use Rattle.dr_top.specs.World.{WithOutcome, ForOutcome}
 use Rattle.dr_top.specs.Reading.{HasText, IsLeftWith}
 use Rattle.dr_top.specs.Stops.{IsUnput, StopsPlain, StopsWith, IsFileTable, query_stop}
 use Rattle.dr_top.specs.declared.refusal.Refusal.{Refusal}
 use Rattle.dr_top.specs.declared.stop.Stop.{Stop}
 use Rattle.dr_top.proofs.OutcomeLemmas.{RefusesTable, early_stop, always_with, with_for}
+use Rattle.dr_input.specs.Taken.{WhereTold}
 
 pub query_refuses_table : (w : QueryWords) → RefusesTable (query_meaning w)
 query_refuses_table w look e h = ap (query_table w.query) h

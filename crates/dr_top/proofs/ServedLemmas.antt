@@ -13,9 +13,10 @@ use Rattle.dr_reading.specs.InTurn.{left_from}
 use Rattle.dr_reading.proofs.HeldFileLemmas.{steady_leaves_none}
 use Rattle.dr_reading.proofs.InTurnLemmas.{read_in_turn_leaves_just}
 use Rattle.dr_commands.specs.Meaning.{Meaning, Outcome}
-use Rattle.dr_top.specs.World.{World, WithOutcome, WhereFile, WhereTold, WhereUsed, WithFirsts}
+use Rattle.dr_top.specs.World.{World, WithOutcome, WhereFile, WhereUsed, WithFirsts}
 use Rattle.dr_top.specs.Reading.{IsLeftWith, IsFileLeft, IsSchemaCause, LeavesTablets, LeavesFile}
 use Rattle.dr_top.specs.Ends.{Holds, IsLeft, IsComplete, IsHeldWhole, IsSchemaHeld, IsServed}
+use Rattle.dr_input.specs.Taken.{WhereTold}
 
 -- what holds of the outcome of a command that reads no input, on the file that is there
 outcome_at : (m : Meaning) (k : LinkShown) (i : SourceShown) (P : Outcome → Type 0) (path file : List ℕ) (kept : Files) → m.file ≡ Some path → k.held ≡ Some kept → m.reads_input ≡ false

@@ -10,11 +10,11 @@ use Rattle.dr_commands.specs.Refusals.{Refusal as Refused, field_refused, line_r
 use Rattle.dr_outside.specs.Source.{SourceShown}
 use Rattle.dr_outside.specs.Link.{Files, LinkShown}
 use Rattle.dr_commands.specs.Meaning.{Look, Outcome, plain, done, refused, IsEarly}
-use Rattle.dr_top.specs.World.{WhereTold, HasOutcome}
+use Rattle.dr_top.specs.World.{HasOutcome}
 use Rattle.dr_top.specs.Stops.{StopsPlain, InputStops, IsFileSchema, IsRefusedLine, input_stop}
 use Rattle.dr_top.specs.declared.refusal.Refusal.{Refusal}
 use Rattle.dr_input.specs.Whole.{whole_lines}
-use Rattle.dr_input.specs.Taken.{WhereGiven, AcceptsRead}
+use Rattle.dr_input.specs.Taken.{WhereGiven, AcceptsRead, WhereTold}
 use Rattle.dr_input.specs.Faults.{line_problem_view}
 use Rattle.dr_input.specs.declared.fault.InputFault.{InputFault}
 use Rattle.dr_top.proofs.InputLemmas.{records_accepted}

@@ -1,7 +1,7 @@
 -- Whole files that the keeper holds.
 use Rattle.std.specs.Prelude.{◌≡◌, ◌<◌, ℕ, List, length, Option, Some}
 use Rattle.dr_outside.specs.Link.{Files}
-use Rattle.dr_top.specs.World.{WhereTold}
+use Rattle.dr_input.specs.Taken.{WhereTold}
 
 -- the file at a path has these bytes, where the keeper tells
 abbrev pub IsFile : Option Files → List ℕ → List ℕ → Type 0

@@ -6,8 +6,7 @@ use Rattle.dr_meaning.specs.Record as tree
 use Rattle.dr_meaning.specs.Column.{Triplet, column}
 use Rattle.dr_meaning.specs.Lines as line
 use Rattle.dr_meaning.specs.Stripe.{most_striped}
-use Rattle.dr_input.specs.Taken.{HasTaken}
-use Rattle.dr_top.specs.World.{WhereTold}
+use Rattle.dr_input.specs.Taken.{HasTaken, WhereTold}
 
 -- so many lines of an input have been read, and P holds of their records
 abbrev pub HasRead : Fields → ℕ → (List tree.Node → Type 0) → Option (List ℕ) → Option (List ℕ) → ℕ → Type 0

@@ -12,7 +12,7 @@ use Rattle.dr_load.specs.declared.fault.LoadFault.{LoadFault}
 use Rattle.dr_load.specs.Puts.{HasPut, HasPutSome, BreaksOff}
 use Rattle.dr_load.specs.Given.{WhereLines}
 use Rattle.dr_nested.specs.Faults.{problem_view, path_problem_view}
-use Rattle.dr_input.specs.Taken.{AcceptsRead}
+use Rattle.dr_input.specs.Taken.{AcceptsRead, WhereTold}
 use Rattle.dr_input.specs.Faults.{line_problem_view}
 use Rattle.dr_input.specs.declared.fault.LineProblem.{LineProblem}
 use Rattle.dr_input.specs.declared.fault.InputFault.{InputFault}
@@ -22,7 +22,7 @@ use Rattle.dr_outside.specs.Link.{Files, LinkShown, Request, Holds, size_of, byt
 use Rattle.dr_commands.specs.Refusals.{Refusal as Refused, schema_refused, table_refused, field_refused, words_refused, query_refused, line_refused}
 use Rattle.dr_commands.specs.Meaning.{Look, Meaning, Outcome, done, refused, scans, looks_at, puts_in, IsEarly}
 use Rattle.dr_commands.specs.declared.words_fault.WordsFault.{WordsFault}
-use Rattle.dr_top.specs.World.{WhereTold, WhereFile, WithOutcome, ForOutcome, HasOutcome, IsOpened, OpensInput, AcceptsWhole, RefusesEarly}
+use Rattle.dr_top.specs.World.{WhereFile, WithOutcome, ForOutcome, HasOutcome, IsOpened, OpensInput, AcceptsWhole, RefusesEarly}
 use Rattle.dr_top.specs.Reading.{IsLeftWith, IsFileLeft, LeavesFile}
 use Rattle.dr_tablets.specs.Views.{all_left_view}
 use Rattle.dr_load.specs.Words.{words_problem_view}

@@ -6,7 +6,7 @@ use Rattle.dr_outside.specs.Link.{LinkShown, Files}
 use Rattle.dr_formats.specs.Loading.{Put}
 use Rattle.dr_commands.specs.Refusals.{Refusal}
 use Rattle.dr_input.specs.Whole.{whole_lines}
-use Rattle.dr_input.specs.Taken.{WhereGiven}
+use Rattle.dr_input.specs.Taken.{WhereGiven, WhereTold}
 use Rattle.dr_commands.specs.Meaning.{Look, Meaning, Outcome, refused, IsEarly}
 
 -- what each thing outside shows at one moment
@@ -21,11 +21,6 @@ abbrev pub world : SourceShown → SinkShown → SinkShown → LinkShown → Lis
 world input out err keeper links = record { input = input; out = out; err = err; keeper = keeper; links = links }
 
 -- ---- what is told
-
--- P holds of what is told; nothing is said where it isn't
-abbrev pub WhereTold : {A : Type 0} → Option A → (A → Type 0) → Type 0
-WhereTold None P = ⊤
-WhereTold (Some a) P = P a
 
 -- P holds of what is told where it is used; where it isn't used, of this in its place
 abbrev pub WhereUsed : {A : Type 0} → Bool → A → Option A → (A → Type 0) → Type 0

@@ -1,8 +1,8 @@
 -- Paths, levels and orders of leaves, by computation.
 use Rattle.std.specs.Prelude.{◌≡◌, ℕ, List, [], ◌∷◌, map, Ok, codes, refl}
 use Rattle.dr_meaning.specs.Schema.{Repetition, Fields, no_fields, field, leaf, group, required, optional, repeated, bool_kind, int32_kind, int64_kind, text_kind}
-use Rattle.dr_meaning.specs.Path.{Step, find_leaf, chain, level, common, max_repetition, max_definition, leaves}
-use Rattle.dr_meaning.specs.Expression.{longest_level}
+use Rattle.dr_meaning.specs.Path.{Step, find_leaf, chain, chain_end, common, max_repetition, max_definition, leaves}
+use Rattle.dr_meaning.specs.Expression.{longest_chain}
 use Rattle.dr_meaning.specs.Automaton.{schema_order, reading_order}
 use Rattle.dr_meaning.proofs.WorkedSchemas.{document}
 use Rattle.dr_meaning.proofs.WorkedPaths.{doc_id, backward, forward, name, language_level, code, country, url}
@@ -61,5 +61,5 @@ pub some_leaves : (schema_order document (country ∷ url ∷ doc_id ∷ []) ≡
 some_leaves = (refl, refl, refl, refl)
 
 -- a level ends with a repeated field; the longest of several
-pub levels : (level doc_id ≡ []) × (level language_level ≡ language_level) × (level url ≡ name) × (longest_level (url ∷ code ∷ doc_id ∷ url ∷ []) ≡ language_level)
+pub levels : (chain_end doc_id ≡ []) × (chain_end language_level ≡ language_level) × (chain_end url ≡ name) × (longest_chain (url ∷ code ∷ doc_id ∷ url ∷ []) ≡ language_level)
 levels = (refl, refl, refl, refl)

@@ -7,7 +7,7 @@ use Rattle.std.proofs.lemmas.Bool.Decides.{nat_tests}
 use Rattle.dr_meaning.specs.Schema.{Repetition, required, optional, repeated, Kind, Fields, no_fields, field, Shape, leaf, group, repetition_count, definition_count, shape_repeated_fields, depth, shape_depth}
 use Rattle.dr_meaning.specs.Path.{Step, is_leaf_path}
 use Rattle.dr_meaning.specs.Column.{Triplet}
-use Rattle.dr_meaning.specs.Automaton.{Pick, picks, behind, beside, indexes, near_order, far_order, shape_near_order, shape_far_order, unless_repeated as order_unless_repeated, where_repeated}
+use Rattle.dr_meaning.specs.Automaton.{Pick, picks, first_picks, later_picks, indexes, near_order, far_order, shape_near_order, shape_far_order, unless_repeated as order_unless_repeated, where_repeated}
 use Rattle.dr_meaning.specs.Walk.{Move, enter, value, leave}
 use Rattle.dr_course.specs.Course.{Gate, are_open, reach, Visit, Items, nothing, give, visit, followed_by, gated, low_in, give_each, unless_repeated, where_selected, by_repetition, visit_of, near_items, far_items, field_near_items, shape_near_items, shape_far_items, course}
 use Rattle.dr_course.specs.Turning.{Stack, between, in_record, in_items, in_absent, lapped, entering, Turn, gives, goes_on, done, stops, turn, turn_given, turn_absent, is_due, is_null, definition_of, definitions_of, level_of}
@@ -60,8 +60,8 @@ good_unless repeated I n g = tt
 mutual
   good_near : (fs : Fields) (F : List Pick) (G : List Gate) (d n : ℕ) → Good (near_items fs F G d) n
   good_near no_fields F G d n = tt
-  good_near (field m c h fs) F G d n = good_followed (unless_repeated c (field_near_items c h (behind F) G d)) (near_items fs (beside F) G d) n
-      (good_unless c (field_near_items c h (behind F) G d) n (good_field_near c h (behind F) G d n)) (good_near fs (beside F) G d n)
+  good_near (field m c h fs) F G d n = good_followed (unless_repeated c (field_near_items c h (first_picks F) G d)) (near_items fs (later_picks F) G d) n
+      (good_unless c (field_near_items c h (first_picks F) G d) n (good_field_near c h (first_picks F) G d n)) (good_near fs (later_picks F) G d n)
 
   good_field_near : (c : Repetition) (h : Shape) (F : List Pick) (G : List Gate) (d n : ℕ) → Good (field_near_items c h F G d) n
   good_field_near c (leaf k) F G d n = good_gives k F G (low_in c d) (d + definition_count c) n
@@ -92,12 +92,12 @@ mutual
   order_count (field m c s fs) F h =
       let p = field_paths m c s fs F h in
       let e = split_in_two m c s fs F h in
-      let a = shape_order_count s (behind F) p.first in
-      let b = order_count fs (beside F) p.others in
-      let x = length-append (order_unless_repeated c (shape_near_order s (behind F))) (near_order fs (beside F)) in
-      let y = length-append (where_repeated c (shape_near_order s (behind F)) ++ shape_far_order s (behind F)) (far_order fs (beside F)) in
-      let z = length-append (where_repeated c (shape_near_order s (behind F))) (shape_far_order s (behind F)) in
-      let w = parts_of c (shape_near_order s (behind F)) in
+      let a = shape_order_count s (first_picks F) p.first in
+      let b = order_count fs (later_picks F) p.others in
+      let x = length-append (order_unless_repeated c (shape_near_order s (first_picks F))) (near_order fs (later_picks F)) in
+      let y = length-append (where_repeated c (shape_near_order s (first_picks F)) ++ shape_far_order s (first_picks F)) (far_order fs (later_picks F)) in
+      let z = length-append (where_repeated c (shape_near_order s (first_picks F))) (shape_far_order s (first_picks F)) in
+      let w = parts_of c (shape_near_order s (first_picks F)) in
       omega (arith, e, a, b, x, y, z, w)
 
   shape_order_count : (s : Shape) (F : List Pick) → ShapePaths s F → length (shape_near_order s F) + length (shape_far_order s F) ≡ length F
@@ -151,12 +151,12 @@ mutual
   good_far (field m c s fs) F k l G d n h e =
       let p = field_paths m c s fs F h in
       good_followed
-      (where_selected (behind F) (by_repetition c
-      (visit (visit_of s (behind F) k l G d) (followed_by (shape_near_items s (behind F) [] (d + definition_count c)) (shape_far_items s (behind F) (suc k) (l + repetition_count c) [] (d + definition_count c))) nothing)
-      (shape_far_items s (behind F) k (l + repetition_count c) (gated c (behind F) d G) (d + definition_count c))))
-      (far_items fs (beside F) (k + (repetition_count c + shape_repeated_fields s)) l G d) n
-      (good_field_far c s (behind F) (shape_good s (behind F) p.first) p.first k l G d n (omega (arith, e)))
-      (good_far fs (beside F) (k + (repetition_count c + shape_repeated_fields s)) l G d n p.others (omega (arith, e)))
+      (where_selected (first_picks F) (by_repetition c
+      (visit (visit_of s (first_picks F) k l G d) (followed_by (shape_near_items s (first_picks F) [] (d + definition_count c)) (shape_far_items s (first_picks F) (suc k) (l + repetition_count c) [] (d + definition_count c))) nothing)
+      (shape_far_items s (first_picks F) k (l + repetition_count c) (gated c (first_picks F) d G) (d + definition_count c))))
+      (far_items fs (later_picks F) (k + (repetition_count c + shape_repeated_fields s)) l G d) n
+      (good_field_far c s (first_picks F) (shape_good s (first_picks F) p.first) p.first k l G d n (omega (arith, e)))
+      (good_far fs (later_picks F) (k + (repetition_count c + shape_repeated_fields s)) l G d n p.others (omega (arith, e)))
 
   shape_good : (s : Shape) (F : List Pick) → ShapePaths s F → ShapeGood s F
   shape_good (leaf j) F h k l G d n e = tt

@@ -2,7 +2,7 @@
 use Rattle.std.proofs.Common.{◌≡◌, ℕ, zero, suc, ◌+◌, ◌<◌, ◌≤◌, max, List, [], ◌∷◌, length, get_or, drop, refl, sym, ap, ◌∙◌, arith}
 use Rattle.std.proofs.lemmas.List.{drop_all, drop_more}
 use Rattle.dr_meaning.specs.Schema.{depth, shape_depth, repeated_fields, shape_repeated_fields, repetition_count}
-use Rattle.dr_meaning.specs.Automaton.{Pick, behind, beside}
+use Rattle.dr_meaning.specs.Automaton.{Pick, first_picks, later_picks}
 use Rattle.dr_levels.specs.Orders.{picks_at}
 use Rattle.dr_levels.proofs.OrderLemmas.{shifted}
 use Rattle.dr_nested.specs.declared.shape.Field.{Field}
@@ -49,18 +49,18 @@ depth_at fs k f more here =
 abbrev pub near_of : Field → List Pick → List Gate → ℕ → Items
 near_of f F G d = unless_repeated (rep_view f.rep) (field_near_items (rep_view f.rep) (shape_view f.shape) F G d)
 
-near_first : (f : Field) (fs : List Field) (F : List Pick) (G : List Gate) (d : ℕ) → near_items (fields_view (f ∷ fs)) F G d ≡ followed_by (near_of f (behind F) G d) (near_items (fields_view fs) (beside F) G d)
+near_first : (f : Field) (fs : List Field) (F : List Pick) (G : List Gate) (d : ℕ) → near_items (fields_view (f ∷ fs)) F G d ≡ followed_by (near_of f (first_picks F) G d) (near_items (fields_view fs) (later_picks F) G d)
 near_first f fs F G d = rw (view-field f) refl
 
-suc_shifted : (k : ℕ) (F : List Pick) → shifted (k + 1) F ≡ beside (shifted k F)
+suc_shifted : (k : ℕ) (F : List Pick) → shifted (k + 1) F ≡ later_picks (shifted k F)
 suc_shifted k F = let e : k + 1 ≡ suc k = omega arith in ap (λ (j : ℕ). shifted j F) e
 
 pub near_next : (fs : List Field) (k : ℕ) (f : Field) (F : List Pick) (G : List Gate) (d : ℕ) (s t : Laid) → k < length fs → f ≡ get_or fs k f → t ≡ lay (near_of f (picks_at k F) G d) s
     → lay (near_items (fields_view (drop (k + 1) fs)) (shifted (k + 1) F) G d) t ≡ lay (near_items (fields_view (drop k fs)) (shifted k F) G d) s
 near_next fs k f F G d s t more here e =
     ap (λ (E : List Pick). lay (near_items (fields_view (drop (k + 1) fs)) E G d) t) (suc_shifted k F)
-    ∙ ap (lay (near_items (fields_view (drop (k + 1) fs)) (beside (shifted k F)) G d)) (e ∙ ap (λ (E : List Pick). lay (near_of f E G d) s) (sym (behind_field k F)))
-    ∙ sym (lay_followed (near_of f (behind (shifted k F)) G d) (near_items (fields_view (drop (k + 1) fs)) (beside (shifted k F)) G d) s)
+    ∙ ap (lay (near_items (fields_view (drop (k + 1) fs)) (later_picks (shifted k F)) G d)) (e ∙ ap (λ (E : List Pick). lay (near_of f E G d) s) (sym (behind_field k F)))
+    ∙ sym (lay_followed (near_of f (first_picks (shifted k F)) G d) (near_items (fields_view (drop (k + 1) fs)) (later_picks (shifted k F)) G d) s)
     ∙ ap (λ (I : Items). lay I s) (sym (near_first f (drop (k + 1) fs) (shifted k F) G d))
     ∙ ap (λ (gs : List Field). lay (near_items (fields_view gs) (shifted k F) G d) s) (sym (from_field fs k f more here))
 
@@ -77,7 +77,7 @@ abbrev pub past : Field → Depth → Depth
 past f at = record at { number = at.number + fields_in f }
 
 far_first : (f : Field) (fs : List Field) (F : List Pick) (at : Depth) (G : List Gate) → far_items (fields_view (f ∷ fs)) F at.number at.level G at.definition
-    ≡ followed_by (far_of f (behind F) at G) (far_items (fields_view fs) (beside F) (at.number + fields_in f) at.level G at.definition)
+    ≡ followed_by (far_of f (first_picks F) at G) (far_items (fields_view fs) (later_picks F) (at.number + fields_in f) at.level G at.definition)
 far_first f fs F at G = rw (view-field f) refl
 
 pub far_next : (fs : List Field) (k : ℕ) (f : Field) (F : List Pick) (at : Depth) (G : List Gate) (s t : Laid) → k < length fs → f ≡ get_or fs k f → t ≡ lay (far_of f (picks_at k F) at G) s
@@ -85,8 +85,8 @@ pub far_next : (fs : List Field) (k : ℕ) (f : Field) (F : List Pick) (at : Dep
 far_next fs k f F at G s t more here e =
     let n = at.number + fields_in f in
     ap (λ (E : List Pick). lay (far_items (fields_view (drop (k + 1) fs)) E n at.level G at.definition) t) (suc_shifted k F)
-    ∙ ap (lay (far_items (fields_view (drop (k + 1) fs)) (beside (shifted k F)) n at.level G at.definition)) (e ∙ ap (λ (E : List Pick). lay (far_of f E at G) s) (sym (behind_field k F)))
-    ∙ sym (lay_followed (far_of f (behind (shifted k F)) at G) (far_items (fields_view (drop (k + 1) fs)) (beside (shifted k F)) n at.level G at.definition) s)
+    ∙ ap (lay (far_items (fields_view (drop (k + 1) fs)) (later_picks (shifted k F)) n at.level G at.definition)) (e ∙ ap (λ (E : List Pick). lay (far_of f E at G) s) (sym (behind_field k F)))
+    ∙ sym (lay_followed (far_of f (first_picks (shifted k F)) at G) (far_items (fields_view (drop (k + 1) fs)) (later_picks (shifted k F)) n at.level G at.definition) s)
     ∙ ap (λ (I : Items). lay I s) (sym (far_first f (drop (k + 1) fs) (shifted k F) at G))
     ∙ ap (λ (gs : List Field). lay (far_items (fields_view gs) (shifted k F) at.number at.level G at.definition) s) (sym (from_field fs k f more here))
 

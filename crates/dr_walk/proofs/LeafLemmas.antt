@@ -2,7 +2,7 @@
 use Rattle.std.proofs.Common.{◌≡◌, ℕ, suc, ◌+◌, List, [], ◌∷◌, ◌++◌, refl, sym, ap, ap₂, ◌∙◌, append_assoc, append-nil}
 use Rattle.dr_meaning.specs.Schema.{Repetition, required, optional, repeated, Kind, Fields, no_fields, field, Shape, leaf, group, repetition_count, definition_count, shape_repeated_fields}
 use Rattle.dr_meaning.specs.Path.{Step}
-use Rattle.dr_meaning.specs.Automaton.{Pick, picks, behind, beside, indexes, near_order, far_order, shape_near_order, shape_far_order, unless_repeated as order_unless_repeated, where_repeated}
+use Rattle.dr_meaning.specs.Automaton.{Pick, picks, first_picks, later_picks, indexes, near_order, far_order, shape_near_order, shape_far_order, unless_repeated as order_unless_repeated, where_repeated}
 use Rattle.dr_course.specs.Course.{Gate, Items, nothing, give, visit, followed_by, gated, low_in, give_each, unless_repeated, where_selected, by_repetition, visit_of, near_items, far_items, field_near_items, shape_near_items, shape_far_items, course}
 use Rattle.dr_course.proofs.GateLemmas.{no_shape_near_order, no_shape_far_order}
 use Rattle.dr_walk.specs.Flat.{leaves_in}
@@ -38,9 +38,9 @@ has_unless repeated I is h = record { leaves = refl; each = tt }
 mutual
   pub has_near : (fs : Fields) (F : List Pick) (G : List Gate) (d : ℕ) → Has (near_items fs F G d) (near_order fs F)
   has_near no_fields F G d = record { leaves = refl; each = tt }
-  has_near (field n c h fs) F G d = has_both (unless_repeated c (field_near_items c h (behind F) G d)) (near_items fs (beside F) G d) (order_unless_repeated c (shape_near_order h (behind F))) (near_order fs (beside F))
-      (has_unless c (field_near_items c h (behind F) G d) (shape_near_order h (behind F)) (has_field_near c h (behind F) G d))
-      (has_near fs (beside F) G d)
+  has_near (field n c h fs) F G d = has_both (unless_repeated c (field_near_items c h (first_picks F) G d)) (near_items fs (later_picks F) G d) (order_unless_repeated c (shape_near_order h (first_picks F))) (near_order fs (later_picks F))
+      (has_unless c (field_near_items c h (first_picks F) G d) (shape_near_order h (first_picks F)) (has_field_near c h (first_picks F) G d))
+      (has_near fs (later_picks F) G d)
 
   has_field_near : (c : Repetition) (h : Shape) (F : List Pick) (G : List Gate) (d : ℕ) → Has (field_near_items c h F G d) (shape_near_order h F)
   has_field_near c (leaf k) F G d = has_gives k F G (low_in c d) (d + definition_count c)
@@ -74,10 +74,10 @@ has_field_far repeated h (p ∷ F) f k l G d =
 mutual
   pub has_far : (fs : Fields) (F : List Pick) (k l : ℕ) (G : List Gate) (d : ℕ) → Has (far_items fs F k l G d) (far_order fs F)
   has_far no_fields F k l G d = record { leaves = refl; each = tt }
-  has_far (field n c h fs) F k l G d = has_both _ (far_items fs (beside F) (k + (repetition_count c + shape_repeated_fields h)) l G d)
-      (where_repeated c (shape_near_order h (behind F)) ++ shape_far_order h (behind F)) (far_order fs (beside F))
-      (has_field_far c h (behind F) (has_shape_far h (behind F)) k l G d)
-      (has_far fs (beside F) (k + (repetition_count c + shape_repeated_fields h)) l G d)
+  has_far (field n c h fs) F k l G d = has_both _ (far_items fs (later_picks F) (k + (repetition_count c + shape_repeated_fields h)) l G d)
+      (where_repeated c (shape_near_order h (first_picks F)) ++ shape_far_order h (first_picks F)) (far_order fs (later_picks F))
+      (has_field_far c h (first_picks F) (has_shape_far h (first_picks F)) k l G d)
+      (has_far fs (later_picks F) (k + (repetition_count c + shape_repeated_fields h)) l G d)
 
   pub has_shape_far : (h : Shape) (F : List Pick) → ShapeHasFar h F
   has_shape_far (leaf j) F k l G d = record { leaves = refl; each = tt }

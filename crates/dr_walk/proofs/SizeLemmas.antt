@@ -5,7 +5,7 @@ use Rattle.std.specs.List.{list_all, list_any}
 use Rattle.std.proofs.lemmas.Bool.{and_parts, leb-true}
 use Rattle.dr_meaning.specs.Schema.{Repetition, required, optional, repeated, Fields, no_fields, field, Shape, leaf, group, Schema, repetition_count, repeated_fields, shape_repeated_fields, leaf_count, shape_leaf_count, depth, shape_depth, greatest_depth, most_leaves, is_schema, is_group, is_shape, is_nonempty, is_short_name, field_names}
 use Rattle.dr_meaning.specs.Path.{Step, is_leaf_path}
-use Rattle.dr_meaning.specs.Automaton.{Pick, picks, picks_from, behind, behind_pick, behind_if, beside, beside_pick, beside_if}
+use Rattle.dr_meaning.specs.Automaton.{Pick, picks, picks_from, first_picks, first_picks_and, first_picks_if, later_picks, later_picks_and, later_picks_if}
 use Rattle.dr_course.specs.Selection.{all_differ}
 use Rattle.dr_course.proofs.Apart.{Apart, ShapeApart, AtMostOne}
 use Rattle.dr_course.proofs.ApartLemmas.{leaves_apart}
@@ -67,17 +67,17 @@ limits s v =
 
 -- ---- leaves that differ are at most as many as the schema has
 
-pub split_in_two : (n : List ℕ) (r : Repetition) (s : Shape) (fs : Fields) (F : List Pick) → Paths (field n r s fs) F → length F ≡ length (behind F) + length (beside F)
+pub split_in_two : (n : List ℕ) (r : Repetition) (s : Shape) (fs : Fields) (F : List Pick) → Paths (field n r s fs) F → length F ≡ length (first_picks F) + length (later_picks F)
 split_in_two n r s fs [] h = refl
 split_in_two n r s fs (f ∷ F) h = by_rest f.rest f.index h.0 (split_in_two n r s fs F h.1)
   where
-    by_place : (k : ℕ) (t : Step) (p : List Step) (i : ℕ) (A B : List Pick) (m : ℕ) → m ≡ length A + length B → suc m ≡ length (behind_if k p i A) + length (beside_if k t p i B)
+    by_place : (k : ℕ) (t : Step) (p : List Step) (i : ℕ) (A B : List Pick) (m : ℕ) → m ≡ length A + length B → suc m ≡ length (first_picks_if k p i A) + length (later_picks_if k t p i B)
     by_place zero t p i A B m e = omega (arith, e)
     by_place (suc k) t p i A B m e = omega (arith, e)
 
-    by_rest : (p : List Step) (i : ℕ) → is_leaf_path (field n r s fs) p ≡ true → length F ≡ length (behind F) + length (beside F) → suc (length F) ≡ length (behind_pick p i (behind F)) + length (beside_pick p i (beside F))
+    by_rest : (p : List Step) (i : ℕ) → is_leaf_path (field n r s fs) p ≡ true → length F ≡ length (first_picks F) + length (later_picks F) → suc (length F) ≡ length (first_picks_and p i (first_picks F)) + length (later_picks_and p i (later_picks F))
     by_rest [] i o e = absurd (true≢false (sym o))
-    by_rest (t ∷ p) i o e = by_place t.place t p i (behind F) (beside F) (length F) e
+    by_rest (t ∷ p) i o e = by_place t.place t p i (first_picks F) (later_picks F) (length F) e
 
 nowhere : (F : List Pick) → Paths no_fields F → length F ≤ 0
 nowhere [] h = omega arith
@@ -94,8 +94,8 @@ mutual
   apart_count (field n r s fs) F h a =
       let p = field_paths n r s fs F h in
       let e = split_in_two n r s fs F h in
-      let x = shape_apart_count s (behind F) p.first a.0 in
-      let y = apart_count fs (beside F) p.others a.1 in
+      let x = shape_apart_count s (first_picks F) p.first a.0 in
+      let y = apart_count fs (later_picks F) p.others a.1 in
       omega (arith, e, x, y)
 
   shape_apart_count : (s : Shape) (F : List Pick) → ShapePaths s F → ShapeApart s F → length F ≤ shape_leaf_count s

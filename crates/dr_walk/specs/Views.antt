@@ -16,9 +16,6 @@ use Rattle.dr_walk.specs.declared.items.Item.{Item}
 use Rattle.dr_walk.specs.declared.level.Level.{Level}
 use Rattle.dr_walk.specs.declared.picks.Pick.{Pick}
 
-abbrev pub paths_view : List Path → List (List path.Step)
-paths_view ps = map (λ (p : Path). (path_view p).path) ps
-
 abbrev pub pick_view : Pick → automaton.Pick
 pick_view p = record { rest = lent_path p.rest; index = p.leaf }
 

@@ -2,33 +2,31 @@
 
 ghost use Rattle.std.specs.Prelude.{◌≡◌, ℕ, List, length, map, true, option_map, IfOk, IsErrOf};
 ghost use Rattle.std.specs.List.{list_all};
-ghost use Rattle.dr_meaning.specs.Path.{Step, is_leaf_path};
+ghost use Rattle.dr_meaning.specs.Path.{Step as MeantStep, is_leaf_path};
 ghost use Rattle.dr_meaning.specs.Schema.{Fields};
 ghost use Rattle.dr_meaning.specs.Record as record_tree;
 ghost use Rattle.dr_meaning.specs.Column as meant_column;
 ghost use Rattle.dr_nested.specs.Views.{fields_view};
-ghost use Rattle.dr_levels.specs.Views.{triplet_view, triplets_view, columns_view};
+ghost use Rattle.dr_levels.specs.Views.{triplet_view, triplets_view};
 ghost use Rattle.dr_course.specs.Selection.{all_differ};
-ghost use Rattle.dr_walk.specs.Views.{paths_view};
 ghost use Rattle.dr_walk.specs.Walking.{HasColumns, NoneHas};
 ghost use Rattle.dr_walk.specs.Checking.{rest_at, rest_behind, next_at, IsOn, Advances};
 ghost use Rattle.dr_walk.specs.declared.fault.AssembleFault.{AssembleFault};
+ghost use Rattle.dr_nested.specs.PathView.{lent_path};
 
 use crate::fault::AssembleFault;
 use crate::walk::Walk;
-use dr_levels::{Column, Triplet, Triplets};
-use dr_nested::{NoMemory, Path, Schema};
+use dr_levels::{Triplet, Triplets};
+use dr_nested::{NoMemory, Schema, Step};
 use std::alloc::Global;
 
-/// The triplets of each column.
-fn triplets_of(alloc: Global, columns: &[Column]) -> Result<Vec<Triplets<'_>>, NoMemory>
-    ensures { IfOk result (λ v. map triplets_view v.items ≡ columns_view columns.now) }
+/// The triplets of each column, to be taken.
+fn copied<'a>(alloc: Global, columns: &[Triplets<'a>]) -> Result<Vec<Triplets<'a>>, NoMemory>
+    ensures { IfOk result (λ v. v.items ≡ columns.now) }
 {
-    let mut rests = Vec::with_capacity(alloc, columns.len())?;
-    'columns: for column in columns {
-        rests.push(column.triplets())?;
-    }
-    Ok(rests)
+    let mut copied = Vec::with_capacity(alloc, columns.len())?;
+    copied.extend_from_slice(columns)?;
+    Ok(copied)
 }
 
 /// Takes the next triplet of a leaf, if one is wanted.
@@ -48,7 +46,7 @@ fn take_next<'a>(rests: &mut [Triplets<'a>], wanted: Option<u32>) -> Option<Trip
 
 /// One call of a walk, over what is left of the columns: whether all was given.
 fn advance<'a>(walk: &mut Walk<'a>, rests: &mut [Triplets<'a>]) -> Result<bool, AssembleFault>
-    ensures { (fs : Fields) (F : List (List Step)) (C : List (List meant_column.Triplet)) (rows : ℕ)
+    ensures { (fs : Fields) (F : List (List MeantStep)) (C : List (List meant_column.Triplet)) (rows : ℕ)
         → list_all (is_leaf_path fs) F ≡ true → all_differ F ≡ true → IsOn fs F C rows walk.old rests.old
         → Advances fs F C rows walk.new rests.new result }
 {
@@ -60,25 +58,26 @@ fn advance<'a>(walk: &mut Walk<'a>, rests: &mut [Triplets<'a>]) -> Result<bool, 
     }
 }
 
-/// Whether so many records of the schema have these columns, one for each leaf: the walk over them comes to its end.
+/// Whether so many records of the schema have these columns, one for each leaf, which is given by its path: the walk
+/// over them comes to its end.
 ///
 /// Errors: `BadData` exactly where no such records have them; want of memory.
 pub fn check_columns(
     alloc: Global,
     schema: &Schema,
-    fields: &[Path],
-    columns: &[Column],
+    fields: &[&[Step]],
+    columns: &[Triplets<'_>],
     rows: u64,
 ) -> Result<(), AssembleFault>
-    requires leaves { list_all (is_leaf_path (fields_view (schema.now).fields.items)) (paths_view fields.now) ≡ true }
-    requires differ { all_differ (paths_view fields.now) ≡ true }
+    requires leaves { list_all (is_leaf_path (fields_view (schema.now).fields.items)) (map lent_path fields.now) ≡ true }
+    requires differ { all_differ (map lent_path fields.now) ≡ true }
     requires lengths { length columns.now ≡ length fields.now }
     ensures have { IfOk result (λ u. (R : List record_tree.Node) × HasColumns (fields_view (schema.now).fields.items)
-        (paths_view fields.now) (columns_view columns.now) rows R) }
+        (map lent_path fields.now) (map triplets_view columns.now) rows R) }
     ensures none { IsErrOf result AssembleFault.BadData
-        → NoneHas (fields_view (schema.now).fields.items) (paths_view fields.now) (columns_view columns.now) rows }
+        → NoneHas (fields_view (schema.now).fields.items) (map lent_path fields.now) (map triplets_view columns.now) rows }
 {
-    let mut rests = triplets_of(alloc, columns)?;
+    let mut rests = copied(alloc, columns)?;
     let mut walk = Walk::start(alloc, schema, fields, rows)?;
     // No memory holds columns, or records, of more moves.
     'moves: for _ in 0..u64::MAX {

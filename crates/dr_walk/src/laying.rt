@@ -1,19 +1,20 @@
 //! Laying out the course of a schema and selected leaves.
 
-ghost use Rattle.std.specs.Prelude.{◌≡◌, ◌≤◌, ◌<◌, ◌+◌, ◌^◌, ◌++◌, ◌∷◌, [], List, length, true, OnOk, IfOk};
+ghost use Rattle.std.specs.Prelude.{◌≡◌, ◌≤◌, ◌<◌, ◌+◌, ◌^◌, ◌++◌, ◌∷◌, [], List, length, map, true, OnOk, IfOk};
 ghost use Rattle.dr_meaning.specs.Schema.{depth, shape_depth, greatest_depth, repeated_fields, shape_repeated_fields, repetition_count};
 ghost use Rattle.dr_meaning.specs.Schema as tree;
 ghost use Rattle.dr_nested.specs.Views.{rep_view, shape_view, fields_view};
 ghost use Rattle.dr_course.specs.Course.{near_items, far_items, field_near_items, shape_near_items, shape_far_items, unless_repeated, where_selected, gated as meant_gated, course, Gate as MeantGate};
 ghost use Rattle.dr_walk.specs.Laying.{FlatItem, lay, laying, no_level, closed, visited, given, lap_of, plain_visit};
-ghost use Rattle.dr_walk.specs.Views.{picks_view, gates_view, level_view, items_view, paths_view, lap_view, visit_view};
+ghost use Rattle.dr_walk.specs.Views.{picks_view, gates_view, level_view, items_view, lap_view, visit_view};
 ghost use Rattle.dr_walk.specs.Flat.{far_of_field, visit_at, is_laid, is_table};
+ghost use Rattle.dr_nested.specs.PathView.{lent_path};
 
 use crate::counting::count_repeated;
 use crate::items::{Gate, Item, Lap, Visit};
 use crate::level::{Level, copied, nulls_in};
 use crate::picks::{Pick, first_leaf, picks_behind, picks_of};
-use dr_nested::{Field, NoMemory, Path, Rep, Schema, Shape};
+use dr_nested::{Field, NoMemory, Rep, Schema, Shape, Step};
 use std::alloc::Global;
 
 /// Where a level is: the number of its next repeated field, and the repetition and definition level round it.
@@ -351,9 +352,9 @@ pub struct Table {
 /// The course of a schema and selected leaves.
 ///
 /// Errors: want of memory alone.
-pub fn table_of(alloc: Global, schema: &Schema, fields: &[Path]) -> Result<Table, NoMemory>
+pub fn table_of(alloc: Global, schema: &Schema, fields: &[&[Step]]) -> Result<Table, NoMemory>
     requires { length fields.now < 2 ^ 32 }
-    ensures { IfOk result (λ t. is_table (course (fields_view (schema.now).fields.items) (paths_view fields.now)) t) }
+    ensures { IfOk result (λ t. is_table (course (fields_view (schema.now).fields.items) (map lent_path fields.now)) t) }
 {
     let picks = picks_of(alloc, fields)?;
     let mut items = Vec::new(alloc);

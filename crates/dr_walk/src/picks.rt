@@ -2,13 +2,12 @@
 
 ghost use Rattle.std.specs.Prelude.{◌≡◌, ◌<◌, ◌^◌, map, length, IfOk};
 ghost use Rattle.dr_meaning.specs.Automaton as automaton;
-ghost use Rattle.dr_meaning.specs.Path as path_meaning;
-ghost use Rattle.dr_nested.specs.PathView.{path_view};
+ghost use Rattle.dr_nested.specs.PathView.{lent_path};
 ghost use Rattle.dr_levels.specs.Orders.{picks_at};
-ghost use Rattle.dr_walk.specs.Views.{pick_view, picks_view, paths_view};
+ghost use Rattle.dr_walk.specs.Views.{pick_view, picks_view};
 ghost use Rattle.dr_course.specs.Course.{first_index as meant_first};
 
-use dr_nested::{NoMemory, Path, Step};
+use dr_nested::{NoMemory, Step};
 use std::alloc::Global;
 
 /// The rest of a selected leaf's path, and the leaf's place in the selection.
@@ -21,14 +20,14 @@ pub struct Pick<'a> {
 /// The selected leaves, each with its whole path.
 ///
 /// Errors: want of memory alone.
-pub fn picks_of(alloc: Global, fields: &[Path]) -> Result<Vec<Pick<'_>>, NoMemory>
+pub fn picks_of<'a>(alloc: Global, fields: &[&'a [Step]]) -> Result<Vec<Pick<'a>>, NoMemory>
     requires { length fields.now < 2 ^ 32 }
-    ensures { IfOk result (λ v. picks_view v.items ≡ automaton.picks (paths_view fields.now)) }
+    ensures { IfOk result (λ v. picks_view v.items ≡ automaton.picks (map lent_path fields.now)) }
 {
     let mut picks = Vec::with_capacity(alloc, fields.len())?;
     'fields: for (place, field) in fields.iter().enumerate() {
         picks.push(Pick {
-            rest: field.steps.as_slice(),
+            rest: *field,
             leaf: place as u32,
         })?;
     }

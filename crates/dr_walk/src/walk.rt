@@ -8,7 +8,7 @@ ghost use Rattle.dr_meaning.specs.Walk as meant;
 ghost use Rattle.dr_meaning.specs.WalkLaws.{open_after_moves, AreLeavesOf};
 ghost use Rattle.dr_meaning.specs.Column as meant_column;
 ghost use Rattle.dr_meaning.specs.Schema.{Fields};
-ghost use Rattle.dr_meaning.specs.Path.{Step};
+ghost use Rattle.dr_meaning.specs.Path.{Step as MeantStep};
 ghost use Rattle.dr_nested.specs.Views.{fields_view, kind_view};
 ghost use Rattle.dr_levels.specs.declared.moves.Move.{Move as MeantMove};
 ghost use Rattle.dr_levels.specs.declared.triplet.Triplet.{Triplet as MeantTriplet};
@@ -19,8 +19,8 @@ ghost use Rattle.dr_levels.specs.Views.{levels_pair, triplet_levels, triplet_vie
 ghost use Rattle.dr_walk.specs.Walking.{meant_value, count_one};
 ghost use Rattle.dr_course.specs.Leading.{Left, columns_of};
 ghost use Rattle.dr_course.specs.Selection.{all_differ};
-ghost use Rattle.dr_walk.specs.Views.{paths_view};
 ghost use Rattle.dr_walk.specs.declared.fault.AssembleFault.{AssembleFault};
+ghost use Rattle.dr_nested.specs.PathView.{lent_path};
 
 use crate::course::Course;
 use crate::fault::AssembleFault;
@@ -28,7 +28,7 @@ use crate::laying::table_of;
 use crate::turn::Turn;
 use crate::values::fits;
 use dr_levels::{Levels, Move, Triplet, ValueRef};
-use dr_nested::{Kind, NoMemory, Path, Schema};
+use dr_nested::{Kind, NoMemory, Schema, Step};
 use std::alloc::Global;
 
 /// A walk over the columns of the selected leaves of records: it takes their triplets one at a time, each where it is
@@ -121,20 +121,21 @@ impl<'a> Walk<'a> {
     ghost use Rattle.dr_course.specs.Course.{Items};
     ghost use Rattle.dr_course.specs.Turning.{Stack};
 
-    /// A walk over columns of so many records, the columns by the places of the selected leaves.
+    /// A walk over columns of so many records at some leaves, each given by its path; the columns go by the places of
+    /// the leaves.
     ///
     /// Errors: want of memory alone.
     pub fn start(
         alloc: Global,
         schema: &Schema,
-        fields: &[Path],
+        fields: &[&[Step]],
         rows: u64,
     ) -> Result<Walk<'a>, NoMemory>
-        requires leaves { list_all (is_leaf_path (fields_view (schema.now).fields.items)) (paths_view fields.now)
+        requires leaves { list_all (is_leaf_path (fields_view (schema.now).fields.items)) (map lent_path fields.now)
             ≡ true }
-        requires differ { all_differ (paths_view fields.now) ≡ true }
+        requires differ { all_differ (map lent_path fields.now) ≡ true }
         ensures at { IfOk result (λ w. (C : List (List meant_column.Triplet)) → length C ≡ length fields.now
-            → IsAt (fields_view (schema.now).fields.items) (paths_view fields.now) rows C [] (columns_of C) w) }
+            → IsAt (fields_view (schema.now).fields.items) (map lent_path fields.now) rows C [] (columns_of C) w) }
         ensures wants { IfOk result (λ w. w.wanted ≡ first_wanted (length fields.now)) }
     {
         let table = table_of(alloc, schema, fields)?;
@@ -279,7 +280,7 @@ impl<'a> Walk<'a> {
 
     /// The next move, where nothing is wanted.
     fn go_on(&mut self) -> Result<Option<Move<'a>>, AssembleFault>
-        ensures goes { (F : List (List Step)) (fs : Fields) (rows : ℕ) (C : List (List meant_column.Triplet)) (ms :
+        ensures goes { (F : List (List MeantStep)) (fs : Fields) (rows : ℕ) (C : List (List meant_column.Triplet)) (ms :
             List meant.Move) (left : Left) → IsAt fs F rows C ms left self.old → self.old.wanted ≡ None
             → Goes fs F rows C ms left self.new result }
         ensures failed { self.new.failed ≡ self.old.failed }

@@ -9,9 +9,10 @@ ghost use Rattle.dr_striper.specs.Stripers.{striped, striped_leaves};
 ghost use Rattle.dr_striper.specs.Leaves.{is_leaf};
 ghost use Rattle.dr_commands.specs.Meaning.{done};
 ghost use Rattle.dr_commands.specs.Stripe.{stripe_meaning, stripe_view};
-ghost use Rattle.dr_top.specs.World.{HasOutcome, IsOpened, WhereTold};
+ghost use Rattle.dr_top.specs.World.{HasOutcome, IsOpened};
 ghost use Rattle.dr_top.specs.Stops.{IsUnput, StopsPlain, InputStops, IsReadBy, AsksForFile};
 ghost use Rattle.dr_top.specs.Records.{HasColumns};
+ghost use Rattle.dr_input.specs.Taken.{WhereTold};
 
 use crate::field::find_field;
 use crate::schema_file::read_schema;

@@ -1,6 +1,6 @@
 use Rattle.std.proofs.Common.{◌≡◌, ◌∙◌, sym, ap, ap₂, refl, ℕ, map, true}
 use Rattle.std.proofs.lemmas.Bool.{and_parts}
-use Rattle.dr_meaning.specs.Expression.{longest_level}
+use Rattle.dr_meaning.specs.Expression.{longest_chain}
 use Rattle.dr_nested.specs.PathView.{path_view}
 use Rattle.dr_nested.specs.Views.{node_view}
 use Rattle.dr_partials.specs.Putting.{put_all}
@@ -20,7 +20,7 @@ returns-in-Rows-clause-puts c =
     let keys = key_paths ls c.args.groups.keys.now in
     let n = node_view c.args.whole.now in
     on_ok_by c.put_rows.result _ _ c.put_rows.ensures.puts (λ told. λ p i t f k.
-    told p (longest_level keys) n i t refl k
+    told p (longest_chain keys) n i t refl k
     ∙ ap₂ (λ (j : ℕ) (a : Aggregate). put_all (planned_query p) (aggregate_puts keys j (aggregate_view ls a) n) (partial_view c.args.partial.now)) c.in_ok-number.ensures (sym c.in-Rows.is))
 
 pub returns-in-Of-clause-puts : goal.returns-in-Of-clause-puts

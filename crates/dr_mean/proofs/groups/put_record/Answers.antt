@@ -1,12 +1,11 @@
 use Rattle.std.proofs.Common.{◌≡◌, ◌∙◌, sym, ap, subst, map}
 use Rattle.dr_meaning.specs.Record.{Node, project}
-use Rattle.dr_nested.specs.PathView.{path_view}
+use Rattle.dr_nested.specs.PathView.{path_view, paths_view}
 use Rattle.dr_nested.specs.Views.{node_view}
 use Rattle.dr_partials.specs.Putting.{put_all}
 use Rattle.dr_plan.specs.Planned.{planned_query}
 use Rattle.dr_plan.specs.Views.{aggregate_view}
 use Rattle.dr_group.specs.Partials.{partial_view}
-use Rattle.dr_rows.specs.Views.{paths_view}
 use Rattle.dr_mean.specs.GroupLaws.{record_puts}
 use Rattle.dr_mean.specs.Lines.{plan_kept}
 use Rattle.dr_mean.specs.RowsOf.{IsTyped}

@@ -1,7 +1,7 @@
 use Rattle.std.proofs.Common.{◌≡◌, ◌∙◌, ap, ap₂, List, map}
 use Rattle.dr_meaning.specs.Path.{Step, longer}
 use Rattle.dr_meaning.specs.Rows.{rows}
-use Rattle.dr_meaning.specs.Expression.{expression_level, longest_level}
+use Rattle.dr_meaning.specs.Expression.{expression_chain, longest_chain}
 use Rattle.dr_nested.specs.PathView.{path_view, step_view}
 use Rattle.dr_nested.specs.Views.{node_view}
 use Rattle.dr_partials.specs.Putting.{put_all}
@@ -18,8 +18,8 @@ returns-clause-puts c =
     let ls = map path_view c.args.groups.leaves.now in
     let keys = c.args.groups.keys.now in
     let n = node_view c.args.whole.now in
-    let lv = map step_view c.longer-level.result.now in
-    let level : lv ≡ longer (longest_level (key_paths ls keys)) (expression_level (expr_view ls c.args.expression.now)) = c.longer-level.ensures ∙ ap₂ longer c.keys_level.ensures c.expression_level.ensures in
+    let lv = map step_view c.longer-chain.result.now in
+    let chain : lv ≡ longer (longest_chain (key_paths ls keys)) (expression_chain (expr_view ls c.args.expression.now)) = c.longer-chain.ensures ∙ ap₂ longer c.keys_chain.ensures c.expression_chain.ensures in
     on_ok_by c.put_rows.result _ _ c.put_rows.ensures.puts (λ told. λ p i t f.
     told p lv n i t f c.in_ok-rows.ensures.rows
-    ∙ ap (λ (p2 : List Step). put_all (planned_query p) (map (put_of ls keys (Taking.Value c.args.number c.args.expression)) (rows p2 n)) (partial_view c.args.partial.now)) level)
+    ∙ ap (λ (p2 : List Step). put_all (planned_query p) (map (put_of ls keys (Taking.Value c.args.number c.args.expression)) (rows p2 n)) (partial_view c.args.partial.now)) chain)

@@ -1,11 +1,10 @@
 use Rattle.std.proofs.Common.{◌≡◌, ◌++◌, ◌∙◌, ap, List, map, is_some}
 use Rattle.dr_meaning.specs.Record.{Node, project}
 use Rattle.dr_nested.specs.Views.{node_view}
-use Rattle.dr_nested.specs.PathView.{path_view}
+use Rattle.dr_nested.specs.PathView.{path_view, paths_view}
 use Rattle.dr_nested.specs.declared.path.Path.{Path}
 use Rattle.dr_plan.specs.Objects.{object_view}
 use Rattle.dr_cells.specs.Views.{cells_view}
-use Rattle.dr_rows.specs.Views.{paths_view}
 use Rattle.dr_mean.specs.Lines.{kept_cells, plan_kept}
 use Rattle.dr_mean.specs.ObjectCells.{items_view}
 use Rattle.dr_mean.proofs.LineLemmas.{selects_as}

@@ -5,7 +5,7 @@ use Rattle.std.proofs.lemmas.List.{drop_all, length-map}
 use Rattle.dr_meaning.specs.Path.{Step, begins_with}
 use Rattle.dr_meaning.specs.Record.{Node}
 use Rattle.dr_meaning.specs.Rows.{rows}
-use Rattle.dr_nested.specs.PathView.{step_view}
+use Rattle.dr_nested.specs.PathView.{step_view, paths_view}
 use Rattle.dr_plan.specs.Objects.{ListTrees, ObjectTree, tree_lists, object_view}
 use Rattle.dr_plan.specs.declared.objects.ListPlan as list_plans
 use Rattle.dr_cells.specs.PlanShapes.{plan_list_view, plan_lists_view}
@@ -13,10 +13,10 @@ use Rattle.dr_cells.specs.Results.{ResultCell, inner_cells}
 use Rattle.dr_cells.specs.Views.{cells_view}
 use Rattle.dr_cells.proofs.ShapeLemmas.{view-object}
 use Rattle.dr_rows.specs.Known.{known}
-use Rattle.dr_rows.specs.Views.{paths_view, row_view, rows_view}
+use Rattle.dr_rows.specs.Views.{row_view, rows_view}
 use Rattle.dr_mean.specs.Nested.{items_are_below, is_nested}
 use Rattle.dr_mean.specs.ObjectCells.{instance_cells, items_cells, items_view}
-use Rattle.dr_mean.proofs.ItemLemmas.{lists_next, list_level, list_object, nested_at, joined_more}
+use Rattle.dr_mean.proofs.ItemLemmas.{lists_next, list_chain, list_object, nested_at, joined_more}
 use Rattle.dr_mean.proofs.ObjectCellLemmas.{present_row, absent_cells, present_cells, nested_parts, cells_of_instances}
 use Rattle.dr_mean.proofs.RowIsLemmas.{row_is}
 use Rattle.dr_mean.proofs.WithinLemmas.{on_ok_by}
@@ -78,8 +78,8 @@ push_list-rows-preserved t c =
     let ks = rows_view c.in_ok-rows.rows in
     let before = cells_view c.rows.cells in
     let steps = (list_plans.out-ListPlan l).level in
-    let size : length v.level ≡ c.len.result = omega (arith, ap length (list_level l), length-map steps.items step_view, c.len.ensures, steps.ok.0) in
-    let q : map step_view c.deref.result.now ≡ v.level = ap (map step_view) c.deref.ensures.value ∙ sym (list_level l) in
+    let size : length v.level ≡ c.len.result = omega (arith, ap length (list_chain l), length-map steps.items step_view, c.len.ensures, steps.ok.0) in
+    let q : map step_view c.deref.result.now ≡ v.level = ap (map step_view) c.deref.ensures.value ∙ sym (list_chain l) in
     λ p whole r d b n.
     let there = c.in_ok-rows.ensures.rows p whole r d (ap (begins_with p) q ∙ b) ∙ ap (λ (x : List Step). map (known (paths_view ls) x) (rows x whole)) q in
     let here = row_is ls v.level whole ks i k (drop (i + 1) ks) r.typed there c.row-instance.ensures.row in
@@ -96,7 +96,7 @@ push_list-returns t c =
     let l = c.args.list.now in
     let v = plan_list_view l in
     let i = c.rows.number in
-    let q : map step_view c.deref.result.now ≡ v.level = ap (map step_view) c.deref.ensures.value ∙ sym (list_level l) in
+    let q : map step_view c.deref.result.now ≡ v.level = ap (map step_view) c.deref.ensures.value ∙ sym (list_chain l) in
     λ p whole r d b n.
     let there = c.in_ok-rows.ensures.rows p whole r d (ap (begins_with p) q ∙ b) ∙ ap (λ (x : List Step). map (known (paths_view ls) x) (rows x whole)) q in
     let done : length (rows v.level whole) ≤ i = omega (arith, ap length there, length-map (rows v.level whole) (known (paths_view ls) v.level)) in

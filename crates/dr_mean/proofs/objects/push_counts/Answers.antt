@@ -3,15 +3,14 @@ use Rattle.std.proofs.lemmas.List.{drop_all}
 use Rattle.dr_meaning.specs.Path.{Step, begins_with}
 use Rattle.dr_meaning.specs.Rows.{rows, is_present}
 use Rattle.std.specs.Prelude.{filter, is_some}
-use Rattle.dr_nested.specs.PathView.{step_view}
+use Rattle.dr_nested.specs.PathView.{step_view, paths_view}
 use Rattle.dr_plan.specs.Objects.{ListTrees, tree_lists, tree_object}
 use Rattle.dr_plan.specs.declared.objects.ListPlan as list_plans
 use Rattle.dr_cells.specs.PlanShapes.{plan_list_view, plan_lists_view}
 use Rattle.dr_cells.specs.Results.{count_cell, own_counts}
 use Rattle.dr_cells.specs.Views.{cells_view}
 use Rattle.dr_rows.specs.Known.{Known, known}
-use Rattle.dr_rows.specs.Views.{paths_view}
-use Rattle.dr_mean.proofs.ItemLemmas.{lists_next, list_level, nested_at, count_mapped, present_count, joined_more}
+use Rattle.dr_mean.proofs.ItemLemmas.{lists_next, list_chain, nested_at, count_mapped, present_count, joined_more}
 use Rattle.dr_mean.proofs.objects.push_counts.Goals as goal
 
 pub lists-preserved : goal.lists-preserved
@@ -25,7 +24,7 @@ lists-preserved c =
     let v = plan_list_view l in
     let ps = paths_view c.args.leaves.now in
     let before = cells_view c.lists.cells in
-    let q : map step_view c.deref.result.now ≡ v.level = ap (map step_view) c.deref.ensures.value ∙ sym (list_level l) in
+    let q : map step_view c.deref.result.now ≡ v.level = ap (map step_view) c.deref.ensures.value ∙ sym (list_chain l) in
     λ items p whole r d b.
     let n = nested_at items p ls k l h g b in
     let there = c.in_ok-rows.ensures.rows p whole r d (ap (begins_with p) q ∙ n.0) ∙ ap (λ (x : List Step). map (known ps x) (rows x whole)) q in

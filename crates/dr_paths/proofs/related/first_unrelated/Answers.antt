@@ -1,6 +1,6 @@
 use Rattle.std.proofs.Common.{◌≡◌, ◌∙◌, ◌+◌, List, ◌∷◌, drop, Err, map, sym, ap, subst, arith}
 use Rattle.std.proofs.lemmas.List.{drop_all}
-use Rattle.dr_meaning.specs.Path.{Step, level, begins_with}
+use Rattle.dr_meaning.specs.Path.{Step, chain_end, begins_with}
 use Rattle.dr_meaning.specs.BoundExpression as meant
 use Rattle.dr_nested.specs.PathView.{step_view}
 use Rattle.dr_paths.specs.Related.{joined_before}
@@ -14,7 +14,7 @@ returns-then-not-begins_with-clause-unrelated c = λ earlier s.
     let ps = map bound_path_view all in
     let p = c.path-item.result in
     let known = map step_view c.paths.known.now in
-    let own : map step_view c.level-own.result.now ≡ level (map step_view p.leaf.steps.items) = c.level-own.ensures ∙ ap (λ (steps : List _). level (map step_view steps)) c.deref.ensures.value in
+    let own : map step_view c.chain_end-own.result.now ≡ chain_end (map step_view p.leaf.steps.items) = c.chain_end-own.ensures ∙ ap (λ (steps : List _). chain_end (map step_view steps)) c.deref.ensures.value in
     let refused : judged known (bound_path_view p ∷ map bound_path_view (drop (c.paths.path-index + 1) all)) ≡ Err p.place =
     judged_refused known (bound_path_view p) _ (sym (c.if-begins_with.ensures ∙ ap (begins_with known) own))
     (sym (c.if-not-begins_with.ensures ∙ ap (λ (q : List Step). begins_with q known) own)) in

@@ -6,9 +6,10 @@ use Rattle.dr_cells.specs.Views.{cells_view}
 use Rattle.dr_cells.specs.declared.shape.Shape as shapes
 use Rattle.dr_cells.specs.declared.shape.ListShape as lists
 use Rattle.dr_cells.proofs.ShapeLemmas.{view-shape_of}
-use Rattle.dr_print.specs.Parts.{comma_if, separated, value_members}
+use Rattle.dr_print.specs.Parts.{value_members}
 use Rattle.dr_print.proofs.PartLemmas.{not_empty, object_more, object_rest, list_more, times_more, lists_from, count_lists-view}
 use Rattle.dr_print.proofs.object_text.+objects.Goals as goal
+use Rattle.dr_meaning.specs.Lists.{comma_if, separated}
 
 pub push_lists-lists-preserved : goal.push_lists-lists-preserved
 push_lists-lists-preserved t c =

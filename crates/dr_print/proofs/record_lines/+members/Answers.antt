@@ -5,9 +5,9 @@ use Rattle.dr_meaning.specs.Print.{braced, record_members}
 use Rattle.dr_nested.specs.Views.{rep_view, field_view, fields_view, node_view, instances_view}
 use Rattle.dr_nested.proofs.ViewLemmas.{view-node}
 use Rattle.dr_print.specs.Members.{held_text, texts_in}
-use Rattle.dr_print.specs.Parts.{separated}
 use Rattle.dr_print.proofs.MemberLemmas.{closed, node_text, list_held, first_held, past_slots}
 use Rattle.dr_print.proofs.record_lines.+members.Goals as goal
+use Rattle.dr_meaning.specs.Lists.{separated}
 
 pub push_held-returns-in_ok-push_instances-in-Repeated : goal.push_held-returns-in_ok-push_instances-in-Repeated
 push_held-returns-in_ok-push_instances-in-Repeated t c =

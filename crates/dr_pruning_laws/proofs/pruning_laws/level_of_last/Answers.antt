@@ -1,4 +1,4 @@
-use Rattle.dr_pruning_laws.proofs.LongestLevel.{level_of_last}
+use Rattle.dr_pruning_laws.proofs.LongestChain.{level_of_last}
 use Rattle.dr_pruning_laws.proofs.pruning_laws.level_of_last.Goals as goal
 
 pub returns : goal.returns

@@ -1,7 +1,7 @@
 use Rattle.std.proofs.Common.{subst, Option}
 use Rattle.dr_bound_parts.specs.Faults.{first_view}
 use Rattle.dr_bound_parts.specs.Bound.{IsExpression}
-use Rattle.dr_resolve.specs.Outcomes.{Came}
+use Rattle.dr_resolve.specs.Outcomes.{BindsAs}
 use Rattle.dr_resolve.specs.Operators.{unary_type, unary_of}
 use Rattle.dr_bound_parts.specs.declared.parts.BoundExpression.{BoundExpression}
 use Rattle.dr_resolve.proofs.ExpressionLemmas.{no_operand}
@@ -9,4 +9,4 @@ use Rattle.dr_resolve.proofs.expressions.unary.Goals as goal
 
 pub returns-in-None : goal.returns-in-None
 returns-in-None c = λ fs ls d before h. no_operand fs ls c.args.place (unary_type c.args.operator) (unary_of c.args.operator) d before (first_view c.args.first.now)
-    (subst (λ (o : Option BoundExpression). Came (IsExpression fs ls) before (first_view c.args.first.now) d o) c.in-None.is h)
+    (subst (λ (o : Option BoundExpression). BindsAs (IsExpression fs ls) before (first_view c.args.first.now) d o) c.in-None.is h)

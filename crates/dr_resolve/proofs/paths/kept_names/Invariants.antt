@@ -1,6 +1,6 @@
 use Rattle.std.proofs.Common.{◌≡◌, map, take, string_bytes}
-use Rattle.dr_resolve.specs.Resolved.{lent}
 use Rattle.dr_resolve.proofs.paths.kept_names.Given as goal
+use Rattle.dr_sql.specs.Views.{lent}
 
 -- the names so far are kept
 abbrev pub invariant-names : goal.invariant-names

@@ -2,10 +2,11 @@ use Rattle.std.proofs.Common.{◌∙◌, ◌∷◌, [], ◌++◌, sym, ap, map}
 use Rattle.dr_nested.specs.Views.{SeenField, field_view, fields_view, kind_view}
 use Rattle.dr_nested.specs.PathView.{step_view}
 use Rattle.dr_meaning.specs.Path.{find_path}
-use Rattle.dr_resolve.specs.Resolved.{end_view, lent}
+use Rattle.dr_resolve.specs.Resolved.{end_view}
 use Rattle.dr_resolve.proofs.ResolvingLemmas.{one_name_on, no_name_on, step_pushed}
 use Rattle.dr_nested.proofs.ViewLemmas.{view-field}
 use Rattle.dr_resolve.proofs.resolving.resolve.Goals as goal
+use Rattle.dr_sql.specs.Views.{lent}
 
 pub returns-in_default : goal.returns-in_default
 returns-in_default c =

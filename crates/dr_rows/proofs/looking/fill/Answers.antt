@@ -1,7 +1,7 @@
 use Rattle.std.proofs.Common.{◌∙◌, ap, map, rules, arith, add-one}
 use Rattle.std.proofs.Math.ListN.{set}
-use Rattle.dr_nested.specs.PathView.{step_view}
-use Rattle.dr_rows.specs.Views.{lent_instance, lent_cells, paths_view}
+use Rattle.dr_nested.specs.PathView.{step_view, paths_view}
+use Rattle.dr_rows.specs.Views.{lent_instance, lent_cells}
 use Rattle.dr_rows.proofs.FillingLemmas.{filled_from, filled_more, filled_all, cells-length, paths-length}
 use Rattle.dr_rows.proofs.looking.fill.Goals as goal
 

@@ -1,6 +1,6 @@
 use Rattle.std.proofs.Common.{◌≡◌, map}
-use Rattle.dr_nested.specs.PathView.{step_view}
-use Rattle.dr_rows.specs.Views.{lent_instance, lent_cells, paths_view}
+use Rattle.dr_nested.specs.PathView.{step_view, paths_view}
+use Rattle.dr_rows.specs.Views.{lent_instance, lent_cells}
 use Rattle.dr_rows.specs.Walking.{filled}
 use Rattle.dr_rows.proofs.FillingLemmas.{filled_from}
 use Rattle.dr_rows.proofs.looking.fill.Given as goal

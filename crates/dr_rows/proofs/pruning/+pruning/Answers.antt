@@ -14,7 +14,7 @@ pub prune_field-returns-in-Some-clause-kept : goal.prune_field-returns-in-Some-c
 prune_field-returns-in-Some-clause-kept t c =
     let n = c.args.node.now in
     let i = c.args.place in
-    let f = pruned_instance (pruned_along (map step_view c.args.level.now)) in
+    let f = pruned_instance (pruned_along (map step_view c.args.chain.now)) in
     let h : i < length n.slots.items = c.in-Some.ensures.item.3.0 in
     let x = c.in-Some.slot.now in
     let y = c.prune_slot.new.slot in
@@ -26,29 +26,29 @@ pub prune_field-returns-in-Some-clause-left : goal.prune_field-returns-in-Some-c
 prune_field-returns-in-Some-clause-left t c =
     let n = c.args.node.now in
     let i = c.args.place in
-    let f = pruned_instance (pruned_along (map step_view c.args.level.now)) in
+    let f = pruned_instance (pruned_along (map step_view c.args.chain.now)) in
     c.prune_slot.ensures.left
     ∙ ap (λ (zs : Instances). (pruned_field f zs c.args.answers.now.rest.now).left) (sym (at_slot n i c.in-Some.slot.now c.in-Some.ensures.item.3.0 c.in-Some.ensures.value))
 
 pub prune_field-returns-in-None-clause-kept : goal.prune_field-returns-in-None-clause-kept
 prune_field-returns-in-None-clause-kept t c =
     let n = c.args.node.now in
-    let f = pruned_instance (pruned_along (map step_view c.args.level.now)) in
+    let f = pruned_instance (pruned_along (map step_view c.args.chain.now)) in
     absent_kept f c.args.place (node_view n) _ c.next.result c.args.answers.now.rest.now (at_past n n.slots.items c.args.place refl c.in-None.ensures.item.3) (same_slots n _ refl) c.next.ensures.answer
 
 pub prune_field-returns-in-None-clause-left : goal.prune_field-returns-in-None-clause-left
 prune_field-returns-in-None-clause-left t c =
     let n = c.args.node.now in
-    let f = pruned_instance (pruned_along (map step_view c.args.level.now)) in
+    let f = pruned_instance (pruned_along (map step_view c.args.chain.now)) in
     c.next.ensures.rest ∙ ap (λ (zs : Instances). (pruned_field f zs c.args.answers.now.rest.now).left) (sym (at_past n n.slots.items c.args.place refl c.in-None.ensures.item.3))
 
 pub prune_node-returns-in-len1-up-clause-kept : goal.prune_node-returns-in-len1-up-clause-kept
 prune_node-returns-in-len1-up-clause-kept t c =
-    c.prune_field.ensures.kept ∙ ap (λ (p : List Step). (pruned_along p (node_view c.args.node.now) c.args.answers.now.rest.now).kept) (steps_by_first c.args.level.now _ c.in-len1-up.len_at_least)
+    c.prune_field.ensures.kept ∙ ap (λ (p : List Step). (pruned_along p (node_view c.args.node.now) c.args.answers.now.rest.now).kept) (steps_by_first c.args.chain.now _ c.in-len1-up.len_at_least)
 
 pub prune_held-returns-clause-kept : goal.prune_held-returns-clause-kept
 prune_held-returns-clause-kept t c =
-    let f = pruned_instance (pruned_along (map step_view c.args.level.now)) in
+    let f = pruned_instance (pruned_along (map step_view c.args.chain.now)) in
     let xs = c.args.instances.now in
     let ys = c.prune_instances.new.instances in
     let bs = c.args.answers.now.rest.now in
@@ -60,7 +60,7 @@ prune_held-returns-clause-kept t c =
 
 pub prune_held-returns-clause-left : goal.prune_held-returns-clause-left
 prune_held-returns-clause-left t c =
-    let f = pruned_instance (pruned_along (map step_view c.args.level.now)) in
+    let f = pruned_instance (pruned_along (map step_view c.args.chain.now)) in
     let xs = c.args.instances.now in
     let bs = c.args.answers.now.rest.now in
     let h : length xs.items ≢ 0 = not_empty (length xs.items) (vec_len xs) c.is_empty.result (omega (arith, xs.ok.0)) c.is_empty.ensures c.if-is_empty.false in
@@ -68,7 +68,7 @@ prune_held-returns-clause-left t c =
 
 pub prune_instances-instances-preserved : goal.prune_instances-instances-preserved
 prune_instances-instances-preserved t c =
-    let f = pruned_instance (pruned_along (map step_view c.args.level.now)) in
+    let f = pruned_instance (pruned_along (map step_view c.args.chain.now)) in
     let xs = c.instances.instances.items in
     let ys = c.settle-kept.new.instances.items in
     let k = c.instances.number in
@@ -87,7 +87,7 @@ prune_instances-instances-preserved t c =
 
 pub prune_instances-returns-clause-kept : goal.prune_instances-returns-clause-kept
 prune_instances-returns-clause-kept t c =
-    let f = pruned_instance (pruned_along (map step_view c.args.level.now)) in
+    let f = pruned_instance (pruned_along (map step_view c.args.chain.now)) in
     let xs = c.instances.instances.items in
     let h : length xs ≤ c.instances.number = omega (arith, c.instances.invariant.length) in
     ap instances_view c.truncate.ensures.items ∙ kept_all f xs c.instances.kept c.instances.number c.instances.answers.rest.now h ∙ c.instances.invariant.kept

@@ -6,27 +6,27 @@ use Rattle.dr_rows.proofs.PruningLemmas.{onto}
 use Rattle.dr_rows.proofs.pruning.+pruning.Given as goal
 
 abbrev pub decreases-prune_node : goal.decreases-prune_node
-decreases-prune_node l = 6 * length l.level.now + 0
+decreases-prune_node l = 6 * length l.chain.now + 0
 
 abbrev pub decreases-prune_field : goal.decreases-prune_field
-decreases-prune_field l = 6 * length l.level.now + 5
+decreases-prune_field l = 6 * length l.chain.now + 5
 
 abbrev pub decreases-prune_slot : goal.decreases-prune_slot
-decreases-prune_slot l = 6 * length l.level.now + 4
+decreases-prune_slot l = 6 * length l.chain.now + 4
 
 abbrev pub decreases-prune_held : goal.decreases-prune_held
-decreases-prune_held l = 6 * length l.level.now + 3
+decreases-prune_held l = 6 * length l.chain.now + 3
 
 abbrev pub decreases-prune_instances : goal.decreases-prune_instances
-decreases-prune_instances l = 6 * length l.level.now + 2
+decreases-prune_instances l = 6 * length l.chain.now + 2
 
 abbrev pub decreases-prune_instance : goal.decreases-prune_instance
-decreases-prune_instance l = 6 * length l.level.now + 1
+decreases-prune_instance l = 6 * length l.chain.now + 1
 
 -- the instances from this one on are still to be pruned
 abbrev pub invariant-prune_instances-instances : goal.invariant-prune_instances-instances
 invariant-prune_instances-instances l =
-    let below = pruned_instance (pruned_along (map step_view l.level)) in
+    let below = pruned_instance (pruned_along (map step_view l.chain)) in
     let rest = pruned_each below (instances_view (drop l.number l.instances.items)) l.answers.rest.now in
     record {
       before : l.kept ≤ l.number;

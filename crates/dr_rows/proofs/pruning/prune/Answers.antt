@@ -5,4 +5,4 @@ use Rattle.dr_rows.proofs.KeptLemmas.{pruned_by_test}
 use Rattle.dr_rows.proofs.pruning.prune.Goals as goal
 
 pub returns : goal.returns
-returns c = λ test e. c.prune_node.ensures.kept ∙ pruned_by_test (map step_view c.args.level.now) (node_view c.args.whole.now) test c.args.answers.now e
+returns c = λ test e. c.prune_node.ensures.kept ∙ pruned_by_test (map step_view c.args.chain.now) (node_view c.args.whole.now) test c.args.answers.now e

@@ -12,6 +12,7 @@ use Rattle.dr_outside.specs.Telling.{AsksOnly}
 use Rattle.dr_file.specs.Asking.{is_request_for}
 use Rattle.dr_group.specs.Partials.{partial_view}
 use Rattle.dr_tablets.proofs.CopyLemmas.{not_absent}
+use Rattle.dr_scan.proofs.LiteralLemmas.{sums_small}
 use Rattle.dr_scan.proofs.ScanLemmas.{plan_has_leaves, lent, answers_by, gives_partial, stands_for_records, stands_for_bytes, gives_few, truth_is}
 use Rattle.dr_tablets.specs.Counting.{counted}
 use Rattle.dr_scan.proofs.scanning.scan.Goals as goal
@@ -33,7 +34,7 @@ pub returns-in-Ok-clause-bounded : goal.returns-in-Ok-clause-bounded
 returns-in-Ok-clause-bounded g c =
     let l = lent c.args.plan.now c.deref.result.now c.deref-2.result.now c.in_ok-records.records.items c.deref.ensures.value c.deref-2.ensures.value in
     gives_few (schema_view c.args.schema.now) c.args.plan.now c.deref.result.now c.deref-2.result.now c.in_ok-records.records.items (partial_view c.in-Ok.partial) c.requires.planned l c.in_ok-records.ensures.form c.in-Ok.ensures.partial
-    c.in_ok-records.ensures.few c.see_literals.ensures
+    c.in_ok-records.ensures.few (sums_small c.args.plan.now)
 
 pub returns-in-Ok-clause-records : goal.returns-in-Ok-clause-records
 returns-in-Ok-clause-records g c = λ q is.
@@ -56,7 +57,7 @@ returns-in-Ok-clause-truth g c = λ q is.
     let x = partial_view c.in-Ok.partial in
     let l = lent p ls ns ms c.deref.ensures.value c.deref-2.ensures.value in
     truth_is s q (g.L.Link.shows c.args.link.now).held c.args.path.now x (gives_partial s q p ls ns ms x is l c.in_ok-records.ensures.form c.in-Ok.ensures.partial)
-    (gives_few s p ls ns ms x c.requires.planned l c.in_ok-records.ensures.form c.in-Ok.ensures.partial c.in_ok-records.ensures.few c.see_literals.ensures)
+    (gives_few s p ls ns ms x c.requires.planned l c.in_ok-records.ensures.form c.in-Ok.ensures.partial c.in_ok-records.ensures.few (sums_small c.args.plan.now))
     (λ bytes tells. stands_for_bytes s q p ls ns ms x bytes is l (c.in_ok-records.ensures.records bytes tells) c.in-Ok.ensures.partial)
     (λ lacks. not_absent (c.in_ok-records.ensures.absent lacks (λ e. cc)))
 

@@ -1,7 +1,7 @@
 use Rattle.std.proofs.Common.{◌≡◌, ◌+◌, ◌-◌, ◌*◌}
 use Rattle.dr_meaning.specs.Parse as parse
 use Rattle.dr_sql.specs.Reads.{unread}
-use Rattle.dr_sql.specs.Views.{expression_view}
+use Rattle.dr_sql.specs.Boxes.{boxed_view}
 use Rattle.dr_sql.specs.Levels.{joining_of, level_of, operand_of}
 use Rattle.dr_sql.proofs.LevelLemmas.{rank}
 use Rattle.dr_sql.proofs.operands.+operands.Given as goal
@@ -12,23 +12,17 @@ decreases-joined l = 16 * l.depth + (rank l.level + 1)
 abbrev pub decreases-operand : goal.decreases-operand
 decreases-operand l = 16 * l.depth + rank l.level
 
-abbrev pub decreases-negation : goal.decreases-negation
-decreases-negation l = 16 * l.depth + 9
-
 abbrev pub decreases-test : goal.decreases-test
 decreases-test l = 16 * l.depth + 8
-
-abbrev pub decreases-unary : goal.decreases-unary
-decreases-unary l = 16 * l.depth + 3
 
 abbrev pub decreases-primary : goal.decreases-primary
 decreases-primary l = 16 * l.depth + 2
 
-abbrev pub decreases-parenthesized : goal.decreases-parenthesized
-decreases-parenthesized l = 16 * l.depth + 1
+abbrev pub decreases-nested : goal.decreases-nested
+decreases-nested l = 16 * l.depth + 1
 
 -- the operands so far, with those that are left, are the chain
 abbrev pub invariant-joined-operators : goal.invariant-joined-operators
 invariant-joined-operators l =
     level_of l.fn.level (parse.nested l.fn.depth) (unread l.fn.cursor) ≡
-    parse.further_operands (joining_of l.level) (operand_of l.level (parse.nested l.depth)) (l.end - l.counter) (expression_view l.left) (unread l.cursor)
+    parse.further_operands (joining_of l.level) (operand_of l.level (parse.nested l.depth)) (l.end - l.counter) (boxed_view l.left) (unread l.cursor)

@@ -9,9 +9,10 @@ use Rattle.dr_outside.specs.Telling.{Tells, AsksOnly}
 use Rattle.dr_chunk.specs.Ranges.{is_read_inside}
 use Rattle.dr_file.specs.Asking.{is_for_path}
 use Rattle.dr_file.specs.OpenedFiles.{IsOpened, path_of}
-use Rattle.dr_tablets.specs.FileRecords.{AreColumnsOf, are_short, triplets_in}
+use Rattle.dr_tablets.specs.FileRecords.{AreColumnsOf, are_short}
 use Rattle.dr_tablets.specs.Counting.{counted}
 use Rattle.dr_tablets.proofs.records.read_columns.Given as goal
+use Rattle.dr_formats.specs.Writing.{triplet_count}
 
 abbrev pub invariant-leaves : goal.invariant-leaves
 invariant-leaves g l =
@@ -22,5 +23,5 @@ invariant-leaves g l =
     × (are_short (columns_view l.columns.items) ≡ true)
     × ((bytes : List ℕ) (F : List Leaf) (f : Footer) → IsOpened bytes F l.opened → length F ≡ l.leaves → footer_of bytes ≡ Some f
     → AsksOnly (is_read_inside (path_of l.opened) (flat_map (leaf_ranges f) F)) (g.L.Link.shows l.initial.link).asked (g.L.Link.shows l.link).asked)
-    × (l.triplets ≡ counted 0 (triplets_in (columns_view l.columns.items)))
+    × (l.triplets ≡ counted 0 (triplet_count (columns_view l.columns.items)))
     × AsksOnly (is_for_path (path_of l.opened)) (g.L.Link.shows l.initial.link).asked (g.L.Link.shows l.link).asked

@@ -6,7 +6,7 @@ use Rattle.dr_nested.specs.SchemaView.{schema_view}
 use Rattle.dr_assemble.specs.Views.{nodes_view}
 use Rattle.dr_outside.specs.Link.{Files}
 use Rattle.dr_outside.specs.Telling.{TellsFile}
-use Rattle.dr_tablets.specs.FileRecords.{IsFaultOf, triplets_in}
+use Rattle.dr_tablets.specs.FileRecords.{IsFaultOf}
 use Rattle.dr_nested.specs.Views.{fields_view}
 use Rattle.dr_tablets.proofs.FewLemmas.{few_assembled, counted_assembled, taken_counted}
 use Rattle.dr_tablets.proofs.AskedLemmas.{opening_asked, file_asked, columns_there}
@@ -14,6 +14,7 @@ use Rattle.dr_tablets.proofs.ColumnsLemmas.{err_is, no_read_fault, never_falls}
 use Rattle.dr_tablets.proofs.RecordsLemmas.{have_leaf_paths, columns_fault, records_given, projected_given, assembled_fault}
 use Rattle.dr_tablets.specs.Counting.{counted}
 use Rattle.dr_tablets.proofs.records.read_records.Goals as goal
+use Rattle.dr_formats.specs.Writing.{triplet_count}
 
 pub returns-in_err-columns-clause-cause : goal.returns-in_err-columns-clause-cause
 returns-in_err-columns-clause-cause g c = λ bytes t.
@@ -89,7 +90,7 @@ returns-in-Ok-clause-few g c =
 
 pub returns-in-Ok-clause-counted : goal.returns-in-Ok-clause-counted
 returns-in-Ok-clause-counted g c =
-    let read = c.in_ok-columns.ensures.counted ∙ ap (λ n. counted n (triplets_in (columns_view c.in_ok-columns.columns.items))) c.new-read.ensures in
+    let read = c.in_ok-columns.ensures.counted ∙ ap (λ n. counted n (triplet_count (columns_view c.in_ok-columns.columns.items))) c.new-read.ensures in
     taken_counted _ _ _ _ c.add.ensures (c.taken.ensures ∙ read)
     ∙ ap (counted c.args.steps.now) (counted_assembled (fields_view c.args.schema.now.fields.items) c.args.fields.now (columns_view c.deref.result.now) (columns_view c.in_ok-columns.columns.items) c.rows.result
     (nodes_view c.in-Ok.records.items) c.in-Ok.ensures.records (ap columns_view c.deref.ensures.value))

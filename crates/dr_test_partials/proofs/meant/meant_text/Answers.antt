@@ -3,8 +3,8 @@ use Rattle.std.proofs.lemmas.Simd.{map-map}
 use Rattle.dr_meaning.specs.Record.{project}
 use Rattle.dr_nested.specs.Views.{node_view}
 use Rattle.dr_nested.specs.SchemaView.{schema_view}
-use Rattle.dr_rows.specs.Views.{paths_view}
 use Rattle.dr_test_partials.proofs.meant.meant_text.Goals as goal
+use Rattle.dr_nested.specs.PathView.{paths_view}
 
 pub mean-requires : goal.mean-requires
 mean-requires c =

@@ -1,14 +1,15 @@
-use Rattle.std.proofs.Common.{◌≡◌, List, [], string_bytes, ap, ◌∙◌, arith}
+use Rattle.std.proofs.Common.{◌≡◌, List, [], map, string_bytes, ap, ◌∙◌, arith}
 use Rattle.std.proofs.lemmas.List.{length-map}
 use Rattle.dr_meaning.specs.Automaton.{Pick, picks}
 use Rattle.dr_nested.specs.Views.{fields_view}
 use Rattle.dr_course.specs.Course.{near_items, far_items, course}
 use Rattle.dr_walk.specs.Laying.{Level, lay, laying, no_level}
-use Rattle.dr_walk.specs.Views.{picks_view, level_view, items_view, item_view, paths_view}
+use Rattle.dr_walk.specs.Views.{picks_view, level_view, items_view, item_view}
 use Rattle.dr_walk.proofs.LeafLemmas.{course_has_leaves}
 use Rattle.dr_walk.proofs.LayingLemmas.{course_laid, table_stands}
 use Rattle.dr_walk.proofs.SizeLemmas.{limits}
 use Rattle.dr_walk.proofs.laying.table_of.Goals as goal
+use Rattle.dr_nested.specs.PathView.{lent_path}
 
 pub add_group_far-requires-clause-numbers : goal.add_group_far-requires-clause-numbers
 add_group_far-requires-clause-numbers c = let l = limits (record { name = string_bytes c.args.schema.now.name; fields = fields_view c.args.schema.now.fields.items }) c.args.schema.now.valid in omega (arith, l.numbers)
@@ -16,7 +17,7 @@ add_group_far-requires-clause-numbers c = let l = limits (record { name = string
 pub returns : goal.returns
 returns c =
     let fs = fields_view c.args.schema.now.fields.items in
-    let F = paths_view c.args.fields.now in
+    let F = map lent_path c.args.fields.now in
     let a = laying [] (level_view c.add_group_near.new.level) in
     let b = laying (items_view c.add_group_far.new.code.items) (level_view c.add_group_far.new.level) in
     let one : picks_view c.deref.result.now ≡ picks F = ap picks_view c.deref.ensures.value ∙ c.in_ok-picks.ensures in

@@ -3,7 +3,7 @@ use Rattle.dr_meaning.specs.BoundExpression.{bind_path}
 use Rattle.dr_sql.specs.Views as syntax
 use Rattle.dr_paths.specs.declared.bound.BoundPath.{BoundPath}
 use Rattle.dr_bound_parts.specs.Faults.{first_view}
-use Rattle.dr_resolve.specs.Outcomes.{Came, IsPath, fields_in, leaves_in}
+use Rattle.dr_resolve.specs.Outcomes.{BindsAs, IsPath, fields_in, leaves_in}
 use Rattle.dr_resolve.proofs.SyntaxLemmas.{view-path, view-arithmetic, view-comparison}
 use Rattle.dr_resolve.proofs.PathLemmas.{value_bound}
 use Rattle.dr_resolve.proofs.names.Binder.+expressions.Goals as goal
@@ -14,7 +14,7 @@ expression-returns-in_ok-value_at-in-Some t c =
     let v = c.in_ok-value_at-in-Some.ensures in
     let p = syntax.path_view c.in-Path.path in
     rw (c.in-Path.is, view-path) (value_bound (fields_in b) (leaves_in b) p (first_view c.args.first.now) (first_view c.path.new.first) c.in-Some.path c.in_ok-value_at-in-Some.field-0 v.gives v.alone v.paths v.view v.fits
-    (subst (λ (o : Option BoundPath). Came IsPath (first_view c.args.first.now) (first_view c.path.new.first) (bind_path (fields_in b) p) o) c.in-Some.is c.in_ok-path-in-Path.ensures))
+    (subst (λ (o : Option BoundPath). BindsAs IsPath (first_view c.args.first.now) (first_view c.path.new.first) (bind_path (fields_in b) p) o) c.in-Some.is c.in_ok-path-in-Path.ensures))
 
 pub expression-returns-in-Arithmetic : goal.expression-returns-in-Arithmetic
 expression-returns-in-Arithmetic t c =

@@ -6,7 +6,7 @@ use Rattle.dr_meaning.specs.Binding as binding
 use Rattle.dr_sql.specs.Views as syntax
 use Rattle.dr_bound_parts.specs.Faults.{first_view}
 use Rattle.dr_bound_parts.specs.Items.{IsTerm}
-use Rattle.dr_resolve.specs.Outcomes.{Came, fields_in, leaves_in}
+use Rattle.dr_resolve.specs.Outcomes.{BindsAs, fields_in, leaves_in}
 use Rattle.dr_resolve.proofs.TermLemmas.{on_ok_weaker}
 use Rattle.dr_resolve.proofs.names.Binder.term.Goals as goal
 
@@ -17,7 +17,7 @@ returns-in_ok-within-in-Aggregate-clause-term c =
     let e = binding.bind_argument fs c.args.place (syntax.aggregate_view c.in-Aggregate.aggregate) (syntax.expression_view c.in-Aggregate.argument) in
     let w = binding.bind_within fs (syntax.maybe_within c.in-Aggregate.within) in
     rw c.in-Aggregate.is (IfOk-weaker c.aggregated.result _ _
-    (λ o h. subst (λ (a : Aggregate). Came (IsTerm fs ls) (first_view c.args.first.now) (first_view c.within-in-Aggregate.new.first) (together (binding.aggregated a) e w) o) c.fold_of.ensures
+    (λ o h. subst (λ (a : Aggregate). BindsAs (IsTerm fs ls) (first_view c.args.first.now) (first_view c.within-in-Aggregate.new.first) (together (binding.aggregated a) e w) o) c.fold_of.ensures
     (h fs ls e w (first_view c.args.first.now) (first_view c.argument.new.first) (first_view c.within-in-Aggregate.new.first) c.in_ok-argument-in-Aggregate.ensures c.in_ok-within-in-Aggregate.ensures))
     c.aggregated.ensures.term)
 

@@ -1,0 +1,27 @@
+use Rattle.std.proofs.Common.{sym}
+use Rattle.dr_meaning.specs.Tokens.{like_word, contains_word}
+use Rattle.dr_meaning.specs.Syntax.{negation}
+use Rattle.dr_meaning.specs.Parse.{is_the_word, if_next, any_token, like_test, contains_test, text_test, problem_here, syntax}
+use Rattle.dr_sql.specs.Reads.{unread}
+use Rattle.dr_sql.specs.Tests.{tested}
+use Rattle.dr_sql.proofs.ReadLemmas.{reads_first, reads_other, reads_behind}
+use Rattle.dr_sql.proofs.word_tests.denied_test.Goals as goal
+
+pub returns-then-next_is_word : goal.returns-then-next_is_word
+returns-then-next_is_word c =
+    let u = unread c.advance.new.self in
+    let w = unread c.text_behind.new.cursor in
+    λ e. reads_behind (tested e) any_token (λ _. text_test negation e (problem_here syntax)) c.advance.result (unread c.args.cursor.now) u w c.text_behind.result c.advance.ensures
+    (reads_first (tested e) (is_the_word like_word) (like_test negation e) (if_next (is_the_word contains_word) (contains_test negation e) (problem_here syntax)) u w
+    c.text_behind.result (sym c.if-next_is_word.ensures) (c.text_behind.ensures e))
+
+pub returns-then-next_is_word-2 : goal.returns-then-next_is_word-2
+returns-then-next_is_word-2 c =
+    let u = unread c.advance.new.self in
+    let r = c.text_behind-then-next_is_word-2.result in
+    let w = unread c.text_behind-then-next_is_word-2.new.cursor in
+    λ e. reads_behind (tested e) any_token (λ _. text_test negation e (problem_here syntax)) c.advance.result (unread c.args.cursor.now) u w r c.advance.ensures
+    (reads_other (tested e) (is_the_word like_word) (like_test negation e) (if_next (is_the_word contains_word) (contains_test negation e) (problem_here syntax)) u w r
+    (sym c.if-next_is_word.ensures)
+    (reads_first (tested e) (is_the_word contains_word) (contains_test negation e) (problem_here syntax) u w r (sym c.if-next_is_word-2.ensures)
+    (c.text_behind-then-next_is_word-2.ensures e)))
