@@ -5,6 +5,7 @@ use dr_case_lines::Broken;
 use dr_outside::{Link, MemLink, MemSink, MemSource, OpenGate, Shelf};
 use dr_top::run;
 use std::alloc::Global;
+use std::sync::Wait;
 use std::thread::Threads;
 
 /// What a run is given beside its files.
@@ -68,7 +69,7 @@ fn links_over<'a>(
 }
 
 /// The program's status for these words. It wants sixteen links.
-fn status_of<R: Threads + Sync>(
+fn status_of<R: Threads + Wait + Sync>(
     rt: &R,
     alloc: Global,
     words: &[String],
@@ -85,7 +86,7 @@ fn status_of<R: Threads + Sync>(
 }
 
 /// How a run ends over a keeper, and links over a shelf.
-pub fn outcome<R: Threads + Sync>(
+pub fn outcome<R: Threads + Wait + Sync>(
     rt: &R,
     alloc: Global,
     given: Given<'_>,

@@ -6,6 +6,7 @@ use crate::ended::{Ended, Given, outcome};
 use crate::setting::Setting;
 use dr_case_lines::{Broken, Place, Tally, words_of};
 use std::alloc::Global;
+use std::sync::Wait;
 use std::thread::Threads;
 
 /// More calls of one thing than a case makes.
@@ -24,7 +25,7 @@ fn all_words(alloc: Global, case: &Case, way: &str) -> Result<Vec<String>, Broke
 }
 
 /// How a case ends whose words these are.
-fn run_once<R: Threads + Sync>(
+fn run_once<R: Threads + Wait + Sync>(
     rt: &R,
     alloc: Global,
     setting: &mut Setting,
@@ -41,7 +42,7 @@ fn run_once<R: Threads + Sync>(
 }
 
 /// How the same ends where this call fails alone, over a keeper of its own.
-fn run_failing<R: Threads + Sync>(
+fn run_failing<R: Threads + Wait + Sync>(
     rt: &R,
     alloc: Global,
     setting: &Setting,
@@ -72,7 +73,7 @@ fn numbers(alloc: Global, number: u64) -> Result<Vec<u64>, Broken> {
 
 /// Has one call of a thing fail after another until the run makes no such call, and tells the first that ends in
 /// another way than is said.
-fn try_each<R: Threads + Sync>(
+fn try_each<R: Threads + Wait + Sync>(
     rt: &R,
     alloc: Global,
     setting: &Setting,
@@ -100,9 +101,9 @@ fn try_each<R: Threads + Sync>(
     tally.fail(place, "calls never end")
 }
 
-/// Runs a case in a way, and tells where it ends in another way than it says. A query of which it isn't said what it
-/// prints says from here on what it printed.
-pub fn try_case<R: Threads + Sync>(
+/// Runs a case in a way, tells where it ends in another way than it says, and gives what it printed. A query of which it
+/// isn't said what it prints says from here on what it printed.
+pub fn try_case<R: Threads + Wait + Sync>(
     rt: &R,
     alloc: Global,
     setting: &mut Setting,
@@ -110,7 +111,7 @@ pub fn try_case<R: Threads + Sync>(
     way: &str,
     place: Place<'_>,
     tally: &mut Tally,
-) -> Result<(), Broken> {
+) -> Result<Vec<u8>, Broken> {
     let words = all_words(alloc, case, way)?;
     tally.count();
     let ended = run_once(rt, alloc, setting, case, &words)?;
@@ -126,5 +127,5 @@ pub fn try_case<R: Threads + Sync>(
     for each in &case.each {
         try_each(rt, alloc, setting, case, &words, each, place, tally)?;
     }
-    Ok(())
+    Ok(ended.out.clone()?)
 }

@@ -8,6 +8,7 @@ use dr_case_lines::{Broken, Place, Tally, push_copies, push_text, words_of};
 use dr_commands::USAGE;
 use std::alloc::Global;
 use std::mem;
+use std::sync::Wait;
 use std::thread::Threads;
 
 /// What the lines of text are that follow.
@@ -32,6 +33,8 @@ pub struct Session {
     purpose: Purpose,
     path: String,
     text: Vec<u8>,
+    /// What the last run printed.
+    printed: Vec<u8>,
     checks: u64,
     wrong: u64,
 }
@@ -47,6 +50,7 @@ impl Session {
             purpose: Purpose::Nothing,
             path: String::new(alloc),
             text: Vec::new(alloc),
+            printed: Vec::new(alloc),
             checks: 0,
             wrong: 0,
         }
@@ -145,6 +149,7 @@ impl Session {
             }
             "way" => self.ways.push(String::from_str(self.alloc, rest)?)?,
             "made" => self.setting.make(rest)?,
+            "piped" => self.setting.input = self.printed.clone()?,
             "show" => self.setting.show(rest)?,
             "tablets" => self.setting.show_tablets(rest)?,
             "patch" => self.setting.patch(rest)?,
@@ -167,7 +172,7 @@ impl Session {
     }
 
     /// Ends a block: its run is made, if it has one.
-    pub fn end<R: Threads + Sync>(
+    pub fn end<R: Threads + Wait + Sync>(
         &mut self,
         rt: &R,
         place: Place<'_>,
@@ -178,7 +183,7 @@ impl Session {
         if case.is_asked {
             self.ask(rt, &mut case, place, tally)?;
         } else if case.is_run {
-            try_case(
+            self.printed = try_case(
                 rt,
                 self.alloc,
                 &mut self.setting,
@@ -192,7 +197,7 @@ impl Session {
     }
 
     /// Asks a query in each way.
-    fn ask<R: Threads + Sync>(
+    fn ask<R: Threads + Wait + Sync>(
         &mut self,
         rt: &R,
         case: &mut Case,

@@ -15,8 +15,10 @@ mod StripeLemmas
 mod FsmLemmas
 mod ShowSchemaLemmas
 mod ExplainLemmas
+mod GenLemmas
+mod TrialLemmas
 -- what is printed of a table
-mod ScanLemmas
+pub mod ScanLemmas
 -- numbers that options have
 mod NumberLemmas
 -- clap's definitions of faults and of taken words agree

@@ -1,6 +1,7 @@
 -- the parts of a command line's definition
 pub mod Rules
 pub mod Numbers
+pub mod Serving
 -- what a command means
 pub mod Refusals
 pub mod Meaning
@@ -13,6 +14,8 @@ pub mod Stripe
 pub mod Fsm
 pub mod ShowSchema
 pub mod Explain
+pub mod Gen
+pub mod Trial
 -- laws of what is printed of a table, each proved on a law function of src/
 pub mod ScanLaws
 -- what the words of a command line ask for

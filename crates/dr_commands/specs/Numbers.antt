@@ -37,6 +37,27 @@ most_fan = 64
 abbrev pub default_fan : ℕ
 default_fan = 8
 
+-- how many workers there are: at most so many, and where the words don't say it
+abbrev pub most_workers : ℕ
+most_workers = 16
+
+abbrev pub default_workers : ℕ
+default_workers = 4
+
+-- after how many events a tablet is handed out once more: at most so many, and where the words don't say it
+abbrev pub most_lag : ℕ
+most_lag = 1000000
+
+abbrev pub default_lag : ℕ
+default_lag = 64
+
+-- the greatest seed of made records, and how many there are at most
+abbrev pub most_seed : ℕ
+most_seed = 1000000000
+
+abbrev pub most_made : ℕ
+most_made = 10000000
+
 -- the number of an option between these bounds, or the other where it isn't given; clap takes no number out of the bounds
 abbrev pub number_in : ℕ → ℕ → ℕ → Option Text → ℕ
 number_in low high other None = other

@@ -6,22 +6,20 @@ ghost use Rattle.clap.specs.declared.builder.command.Command.{out-Command as fie
 ghost use Rattle.dr_commands.specs.Rules.{Answers};
 ghost use Rattle.dr_commands.specs.Query as meant;
 
-use crate::arguments::{needed_option, needed_word, number_of, number_option, value_of};
-use crate::limits::{DEFAULT_FAN, LEAST_FAN, MOST_FAN};
+use crate::arguments::{needed_option, needed_word, value_of};
 use crate::query::Query;
+use crate::serving_words::{serving_of, with_serving};
 use crate::words_fault::WordsFault;
 use clap::ArgMatches;
 use std::alloc::{AllocError, Global};
 
-/// `query --table F [--fan N] QUERY`.
+/// `query --table F [--workers N] [--fan N] [--lag N] QUERY`.
 pub fn query_command<'a>(alloc: Global) -> Result<clap::Command<'a>, AllocError>
     ensures app { IfOk result (λ command. app_of command ≡ meant.query_app) }
     ensures local { IfOk result (λ command. (fields_of command).has_globals ≡ false) }
 {
-    clap::Command::new(alloc, "query")
-        .arg(needed_option(alloc, "table"))?
-        .arg(number_option(alloc, "fan", LEAST_FAN, MOST_FAN))?
-        .arg(needed_word(alloc, "query"))
+    let command = clap::Command::new(alloc, "query").arg(needed_option(alloc, "table"))?;
+    with_serving(alloc, command)?.arg(needed_word(alloc, "query"))
 }
 
 /// The values of `query`.
@@ -30,6 +28,10 @@ pub fn query_of(alloc: Global, matches: &ArgMatches<'_>) -> Result<Query, WordsF
 {
     let table = value_of(alloc, matches, "table")?;
     let query = value_of(alloc, matches, "query")?;
-    let fan = number_of(matches, "fan", LEAST_FAN, MOST_FAN, DEFAULT_FAN);
-    Ok(Query { table, fan, query })
+    let serving = serving_of(matches);
+    Ok(Query {
+        table,
+        serving,
+        query,
+    })
 }

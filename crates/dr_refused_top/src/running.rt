@@ -8,11 +8,12 @@ ghost use Rattle.dr_top.specs.Ends.{Holds, Prints, IsUsage, IsRefused, IsLeft, I
 use dr_outside::{Gate, Keeper, Link, Sink, Source};
 use dr_top::run;
 use std::alloc::Global;
+use std::sync::Wait;
 use std::thread::Threads;
 
 /// As `run`.
 pub fn status_of<
-    R: Threads + Sync,
+    R: Threads + Wait + Sync,
     S: Source,
     O: Sink,
     E: Sink,

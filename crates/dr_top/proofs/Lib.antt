@@ -14,6 +14,8 @@ pub mod StripeEnds
 pub mod FsmLemmas
 pub mod FsmEnds
 pub mod ExplainEnds
+pub mod GenEnds
+pub mod TrialEnds
 pub mod LoadEnds
 pub mod DumpEnds
 pub mod QueryEnds
@@ -22,3 +24,5 @@ pub mod SchemaEnds
 pub mod RunLemmas
 -- tables that are held whole
 mod ServedLemmas
+-- what is printed of the records that links give
+pub mod ServedTextLemmas

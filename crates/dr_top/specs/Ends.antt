@@ -1,5 +1,5 @@
 -- How a run ends, in the world before and after it. What isn't said to change stays as it was.
-use Rattle.std.specs.Prelude.{◌≡◌, ◌≢◌, ◌<◌, ℕ, true, false, IsTrue, List, [], ◌∷◌, codes, ◌⊎◌, ⊤, Option, Some, None, Ok, Bool}
+use Rattle.std.specs.Prelude.{◌≡◌, ◌≢◌, ◌<◌, ℕ, zero, suc, true, false, IsTrue, List, [], ◌∷◌, codes, ◌⊎◌, ⊤, Option, Some, None, Ok, Bool}
 use Rattle.dr_meaning.specs.Schema.{Schema}
 use Rattle.dr_formats.specs.File.{schema_of_file}
 use Rattle.dr_formats.specs.Loading.{Put}
@@ -14,11 +14,11 @@ use Rattle.dr_reading.specs.Premises.{EachHasFile}
 use Rattle.dr_reading.specs.Left.{LeftTablet}
 use Rattle.dr_reading.specs.LeftText.{told_cause, left_text}
 use Rattle.dr_commands.specs.Refusals.{Refusal, refusal_text}
-use Rattle.dr_commands.specs.Meaning.{Meaning, refused, scans, looks_at, IsEarly}
+use Rattle.dr_commands.specs.Meaning.{Meaning, Outcome, refused, scans, serves, looks_at, IsEarly}
 use Rattle.dr_top.specs.World.{World, WithOutcome, IsOpened, OpensInput, AcceptsWhole, RefusesEarly}
 use Rattle.dr_top.specs.Reading.{IsLeftWith, IsFileLeft}
 use Rattle.dr_top.specs.Stops.{IsUnput, KeepsFile, IsReadBy, IsRefusedSo, PutsSome, PutsBeforeEnd, PutsGiven, PutsBreak}
-use Rattle.dr_top.specs.Answers.{Finishes, AsksMeant, LeavesUnread, LeavesUnput, LeavesUnasked, AsksFirst}
+use Rattle.dr_top.specs.Answers.{Finishes, AsksMeant, LeavesUnread, LeavesUnput, LeavesUnasked, AsksEach}
 
 -- ---- words of the clauses
 
@@ -167,15 +167,22 @@ AsksKeeper meant before after = AsksMeant meant before.keeper after.keeper
 abbrev pub LeavesLinks : Option Meaning → World → World → Type 0
 LeavesLinks meant before after = LeavesUnasked meant before.links after.links
 
--- nor is that one asked for anything but what the command's scan, or its look at a file, needs
+-- nor is one asked for anything but what the command's scan, the query that it serves, or its look at a file needs
 abbrev pub AsksLinks : Option Meaning → World → World → Type 0
-AsksLinks meant before after = AsksFirst meant before.keeper before.input before.links after.links
+AsksLinks meant before after = AsksEach meant before.keeper before.input before.links after.links
 
 -- where the words mean something of which nothing is refused, and no count rises, the status is 0 or 5, or 3 where a link is asked, or 2 where the
 -- input isn't told
 abbrev pub IsComplete : Option Meaning → ℕ → World → World → Type 0
 IsComplete meant status before after = ForMeant meant (IsAccepted before) → IsCalm before after
     → (status ≡ 0) ⊎ ((status ≡ 5) ⊎ (((status ≡ 3) × ForMeant meant (λ m. 0 < m.links)) ⊎ ((status ≡ 2) × ForMeant meant (IsUntold before))))
+
+-- the command scans a table so, or serves a query over it
+abbrev pub ScansTable : Scan → Outcome → Type 0
+ScansTable scan (scans s) = s ≡ scan
+ScansTable scan (serves s zero) = ⊥
+ScansTable scan (serves s (suc n)) = s ≡ scan
+ScansTable scan o = ⊥
 
 -- the table file that the words name is there; the first link is steady, and tells that of each tablet that the command scans a copy is a file,
 -- for the leaves that it reads
@@ -191,7 +198,7 @@ pub record IsHeldWhole (m : Meaning) (w : World) : Type 0 where
   pub reads_nothing : m.reads_input ≡ false
   pub keeps : w.keeper.held ≡ Some kept
   pub there : kept path ≡ Some file
-  pub scans_it : m.outcome (record { file = file; input = [] }) ≡ scans scan
+  pub scans_it : ScansTable scan (m.outcome (record { file = file; input = [] }))
   pub links : w.links ≡ first ∷ others
   pub tells : first.held ≡ Some files
   pub steady : IsTrue first.is_steady

@@ -12,6 +12,7 @@ use Rattle.dr_load.specs.declared.fault.LoadFault.{LoadFault}
 use Rattle.dr_load.specs.Puts.{HasPut, HasPutSome, BreaksOff}
 use Rattle.dr_load.specs.Given.{WhereLines}
 use Rattle.dr_nested.specs.Faults.{problem_view, path_problem_view}
+use Rattle.dr_nested.specs.declared.fault.SchemaFault.{SchemaFault as TextFault}
 use Rattle.dr_input.specs.Taken.{AcceptsRead, WhereTold}
 use Rattle.dr_input.specs.Faults.{line_problem_view}
 use Rattle.dr_input.specs.declared.fault.LineProblem.{LineProblem}
@@ -20,7 +21,7 @@ use Rattle.dr_outside.specs.Faults.{raised}
 use Rattle.dr_outside.specs.Source.{SourceShown}
 use Rattle.dr_outside.specs.Link.{Files, LinkShown, Request, Holds, size_of, bytes_of}
 use Rattle.dr_commands.specs.Refusals.{Refusal as Refused, schema_refused, table_refused, field_refused, words_refused, query_refused, line_refused}
-use Rattle.dr_commands.specs.Meaning.{Look, Meaning, Outcome, done, refused, scans, looks_at, puts_in, IsEarly}
+use Rattle.dr_commands.specs.Meaning.{Look, Meaning, Outcome, done, refused, scans, serves, looks_at, puts_in, IsEarly}
 use Rattle.dr_commands.specs.declared.words_fault.WordsFault.{WordsFault}
 use Rattle.dr_top.specs.World.{WhereFile, WithOutcome, ForOutcome, HasOutcome, IsOpened, OpensInput, AcceptsWhole, RefusesEarly}
 use Rattle.dr_top.specs.Reading.{IsLeftWith, IsFileLeft, LeavesFile}
@@ -160,6 +161,7 @@ abbrev pub puts_before_end : Outcome → List Put
 puts_before_end (done text puts) = all_but_last puts
 puts_before_end (refused r puts) = puts
 puts_before_end (scans s) = []
+puts_before_end (serves s workers) = []
 puts_before_end (looks_at path) = []
 
 -- a front of its puts was done, in their order, and no other was asked for
@@ -216,6 +218,10 @@ IsReadBy false before now = now ≡ before
 abbrev pub words_stop : WordsFault → Stop
 words_stop WordsFault.Usage = Stop.Usage
 words_stop WordsFault.NoMemory = Stop.NoMemory
+
+abbrev pub schema_stop : TextFault → Stop
+schema_stop TextFault.NoMemory = Stop.NoMemory
+schema_stop (TextFault.Refused p w) = Stop.Refused (Refusal.Schema p w)
 
 abbrev pub schema_file_stop : SchemaFileFault → Stop
 schema_file_stop SchemaFileFault.NoMemory = Stop.NoMemory

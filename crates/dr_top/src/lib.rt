@@ -5,12 +5,16 @@ mod commands;
 mod field;
 mod fields;
 mod keeper_file;
+mod laws;
 mod left_file;
+mod output;
 mod refusal;
 mod report;
 mod running;
 mod schema_file;
+mod service;
 mod stop;
 mod table_file;
 
+pub use laws::{gen_refuses_nothing, served_prints_meaning};
 pub use running::run;

@@ -12,6 +12,7 @@ use dr_commands::USAGE;
 use dr_outside::{Gate, Keeper, Link, Sink, Source, write_all};
 use dr_tablets::left_text;
 use std::alloc::Global;
+use std::sync::Wait;
 use std::thread::Threads;
 
 /// Writes a line on standard error; a failure changes nothing else.
@@ -31,7 +32,7 @@ fn say<E: Sink>(err: &mut E, line: &[u8])
 /// The clauses speak of what the things outside show before the call and after it. The gate is passed on to workers
 /// alone, and no command has any yet.
 pub fn run<
-    R: Threads + Sync,
+    R: Threads + Wait + Sync,
     S: Source,
     O: Sink,
     E: Sink,
@@ -97,7 +98,7 @@ pub fn run<
         (world (S.shows source.new) (O.shows out.new) (E.shows err.new) (K.shows keeper.new) (map L.shows links.new)) }
 {
     match answer(rt, alloc, words, source, keeper, links) {
-        Ok(text) => match write_all(out, text.as_bytes()) {
+        Ok(mut output) => match output.write_to(out) {
             Ok(()) => 0,
             Err(_) => {
                 say(err, b"outside: out\n");
