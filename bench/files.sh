@@ -4,7 +4,8 @@
 # column, leaf by leaf. Each row has the milliseconds, and how many times less that is than reading the records from JSON.
 # usage: bench/files.sh [N] [ROUNDS]
 #
-# It builds a small program over the repository's crates in a copy of it, which takes some minutes. Let nothing else run.
+# It builds the program that makes the records, where it isn't built, and a small one over the repository's crates in a copy of it, which takes some
+# minutes. Let nothing else run.
 set -euo pipefail
 count=${1:-150000}
 rounds=${2:-3}
@@ -28,7 +29,8 @@ for file in "$top"/bench/files/*_answers.txt "$top"/bench/files/*_invariants.txt
 done
 echo 'bench_files: dr_file dr_json dr_leaves dr_levels dr_lines dr_meaning dr_nested dr_outside dr_striper dr_write serde_json' >>"$work/copy/crates.txt"
 git init -q "$work/copy"
-python3 "$top/bench/generate.py" "$count" >"$work/records.jsonl"
+"$top/dremel" --build
+"$top/crates/dremel/out/dremel" gen --seed 0 --records "$count" >"$work/records.jsonl"
 echo "building" >&2
 (cd "$crate" && rt run </dev/null) >"$work/log" 2>&1 || { cat "$work/log" >&2; exit 1; }
 echo "$count records, $(wc -c <"$work/records.jsonl") bytes of JSON, $(nproc) processors, load $(cut -d' ' -f1 /proc/loadavg)"

@@ -8,8 +8,8 @@ top=$(cd "$(dirname "${BASH_SOURCE[0]}")/.." && pwd)
 program=${2:-$top/crates/dremel/out/dremel}
 work=$(mktemp -d)
 trap 'rm -rf "$work"' EXIT
-python3 "$top/bench/generate.py" "$count" >"$work/records.jsonl"
-python3 "$top/bench/generate.py" "$((count / 10))" >"$work/tenth.jsonl"
+"$program" gen --seed 0 --records "$count" >"$work/records.jsonl"
+"$program" gen --seed 0 --records "$((count / 10))" >"$work/tenth.jsonl"
 mkdir "$work"/leaf{0,1,2}
 schema=$top/examples/document.txt
 echo "$(nproc) processors, load $(cut -d ' ' -f 1 /proc/loadavg)"

@@ -3,8 +3,8 @@
 # given), and the memory that columns take.
 # usage: bench/records.sh [N]
 #
-# It builds a small program over the repository's crates in a copy of it, which takes some minutes, and prints the seconds
-# of cutting lines alone, of cutting and reading each record, of testing each against the schema besides, of striping each into
+# It builds the program that makes the records, where it isn't built, and a small one over the repository's crates in a copy of it,
+# which takes some minutes, and prints the seconds of cutting lines alone, of cutting and reading each record, of testing each against the schema besides, of striping each into
 # all six columns besides, of `dremel ask` with one COUNT, and of `dremel stripe` with one FIELD. Then it prints, over 16 times the
 # records, the most memory that a run took: without columns, and with the one column of a leaf. Let nothing else run.
 set -euo pipefail
@@ -25,10 +25,10 @@ for name in find_leaves leaf read_on read_all; do
 done
 echo 'bench_records: dr_json dr_lines dr_nested dr_outside dr_striper' >>"$work/copy/crates.txt"
 git init -q "$work/copy"
-python3 "$top/bench/generate.py" "$count" >"$work/records.jsonl"
+"$top/dremel" --build
+"$top/crates/dremel/out/dremel" gen --seed 0 --records "$count" >"$work/records.jsonl"
 echo "building" >&2
 (cd "$crate" && rt run </dev/null) >"$work/log" 2>&1 || { cat "$work/log" >&2; exit 1; }
-"$top/dremel" --build
 program=$crate/out/bench_records
 leaves="DocId Links.Backward Links.Forward Name.Language.Code Name.Language.Country Name.Url"
 TIMEFORMAT="%R s"

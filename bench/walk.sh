@@ -4,7 +4,8 @@
 # nanoseconds a triplet, the least and the most of some rounds.
 # usage: bench/walk.sh [N]
 #
-# It builds a small program over the repository's crates in a copy of it, which takes some minutes. Let nothing else run.
+# It builds the program that makes the records, where it isn't built, and a small one over the repository's crates in a copy of it, which takes some
+# minutes. Let nothing else run.
 set -euo pipefail
 count=${1:-150000}
 top=$(cd "$(dirname "${BASH_SOURCE[0]}")/.." && pwd)
@@ -23,7 +24,8 @@ for file in "$top"/bench/walk/*_answers.txt "$top"/bench/walk/*_invariants.txt; 
 done
 echo 'bench_walk: dr_course dr_hybrid dr_json dr_levels dr_lines dr_meaning dr_nested dr_outside dr_striper dr_walk serde_json' >>"$work/copy/crates.txt"
 git init -q "$work/copy"
-python3 "$top/bench/generate.py" "$count" >"$work/records.jsonl"
+"$top/dremel" --build
+"$top/crates/dremel/out/dremel" gen --seed 0 --records "$count" >"$work/records.jsonl"
 echo "building" >&2
 (cd "$crate" && rt run </dev/null) >"$work/log" 2>&1 || { cat "$work/log" >&2; exit 1; }
 echo "$count records, $(nproc) processors, load $(cut -d' ' -f1 /proc/loadavg)"

@@ -12,7 +12,7 @@ want_build() {
 # Runs the words by `rt try`, which builds the program without proof and runs it, and gives what the program itself wrote and its status.
 run_quick() {
   case $command in
-    query | ask | dump | stripe | fsm | schema | explain) ;;
+    query | ask | dump | stripe | fsm | schema | explain | gen | trial) ;;
     load) want_build "load wants the built program"; return ;;
     *) print_usage; return 1 ;;
   esac

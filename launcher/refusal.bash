@@ -32,8 +32,9 @@ schema_of_table() {
   awk 'behind { print } /^schema$/ { behind = 1 }' "$1"
 }
 
-# shows a line of the input, where that can be read again
+# shows a line of the input, where that is read and can be read again
 show_line() {
+  [ "$command" != trial ] || return
   local from=/dev/stdin
   [ -s "$room/input" ] && from=$room/input
   if [ -f "$from" ]; then

@@ -100,8 +100,8 @@ fn try_each<R: Threads + Sync>(
     tally.fail(place, "calls never end")
 }
 
-/// Runs a case in a way, and tells where it ends in another way than it says. A query of which it isn't said what it
-/// prints says from here on what it printed.
+/// Runs a case in a way, tells where it ends in another way than it says, and gives what it printed. A query of which it
+/// isn't said what it prints says from here on what it printed.
 pub fn try_case<R: Threads + Sync>(
     rt: &R,
     alloc: Global,
@@ -110,7 +110,7 @@ pub fn try_case<R: Threads + Sync>(
     way: &str,
     place: Place<'_>,
     tally: &mut Tally,
-) -> Result<(), Broken> {
+) -> Result<Vec<u8>, Broken> {
     let words = all_words(alloc, case, way)?;
     tally.count();
     let ended = run_once(rt, alloc, setting, case, &words)?;
@@ -126,5 +126,5 @@ pub fn try_case<R: Threads + Sync>(
     for each in &case.each {
         try_each(rt, alloc, setting, case, &words, each, place, tally)?;
     }
-    Ok(())
+    Ok(ended.out.clone()?)
 }

@@ -32,6 +32,8 @@ pub struct Session {
     purpose: Purpose,
     path: String,
     text: Vec<u8>,
+    /// What the last run printed.
+    printed: Vec<u8>,
     checks: u64,
     wrong: u64,
 }
@@ -47,6 +49,7 @@ impl Session {
             purpose: Purpose::Nothing,
             path: String::new(alloc),
             text: Vec::new(alloc),
+            printed: Vec::new(alloc),
             checks: 0,
             wrong: 0,
         }
@@ -145,6 +148,7 @@ impl Session {
             }
             "way" => self.ways.push(String::from_str(self.alloc, rest)?)?,
             "made" => self.setting.make(rest)?,
+            "piped" => self.setting.input = self.printed.clone()?,
             "show" => self.setting.show(rest)?,
             "tablets" => self.setting.show_tablets(rest)?,
             "patch" => self.setting.patch(rest)?,
@@ -178,7 +182,7 @@ impl Session {
         if case.is_asked {
             self.ask(rt, &mut case, place, tally)?;
         } else if case.is_run {
-            try_case(
+            self.printed = try_case(
                 rt,
                 self.alloc,
                 &mut self.setting,

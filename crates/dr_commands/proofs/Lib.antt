@@ -15,6 +15,8 @@ mod StripeLemmas
 mod FsmLemmas
 mod ShowSchemaLemmas
 mod ExplainLemmas
+mod GenLemmas
+mod TrialLemmas
 -- what is printed of a table
 mod ScanLemmas
 -- numbers that options have

@@ -1,5 +1,5 @@
 -- The words of a command line: the command `dremel` as clap's own data, and what its words ask for by clap's definitions.
-use Rattle.std.specs.Prelude.{◌≡◌, ◌↔◌, IsSome, true, List, [], ◌∷◌, Option, None, fold, codes, option_map, option_and_then, if◌then◌else◌}
+use Rattle.std.specs.Prelude.{◌≡◌, ◌↔◌, IsSome, true, List, [], ◌∷◌, Option, None, Some, fold, codes, option_map, option_and_then, if◌then◌else◌}
 use Rattle.std.specs.Str.{bytes_eq}
 use Rattle.clap.specs.Words.{App, Row, Shape, Text, fault_of, new_app, subcommand_of, takes, with_subcommand}
 use Rattle.dr_commands.specs.Meaning.{Meaning}
@@ -11,10 +11,13 @@ use Rattle.dr_commands.specs.Ask.{AskWords, ask_app, ask_words, ask_meaning}
 use Rattle.dr_commands.specs.Stripe.{StripeWords, stripe_app, stripe_words, stripe_meaning}
 use Rattle.dr_commands.specs.Fsm.{FsmWords, fsm_app, fsm_words, fsm_meaning}
 use Rattle.dr_commands.specs.Explain.{ExplainWords, explain_app, explain_words, explain_meaning}
+use Rattle.dr_commands.specs.Gen.{GenWords, gen_app, gen_words, gen_meaning}
+use Rattle.dr_commands.specs.Trial.{TrialWords, trial_app, trial_words, trial_meaning}
 
 -- each subcommand
 abbrev pub subcommands : List Shape
-subcommands = load_app.top ∷ query_app.top ∷ ask_app.top ∷ dump_app.top ∷ stripe_app.top ∷ fsm_app.top ∷ show_schema_app.top ∷ explain_app.top ∷ []
+subcommands = load_app.top ∷ query_app.top ∷ ask_app.top ∷ dump_app.top ∷ stripe_app.top ∷ fsm_app.top ∷ show_schema_app.top ∷ explain_app.top
+    ∷ gen_app.top ∷ trial_app.top ∷ []
 
 -- `dremel`, before its subcommands join: one of them has to be named, and no word asks for help
 abbrev pub bare_app : App
@@ -40,6 +43,8 @@ pub data CommandWords : Type 0 where
   fsm : FsmWords → CommandWords
   show_schema : ShowSchemaWords → CommandWords
   explain : ExplainWords → CommandWords
+  gen : GenWords → CommandWords
+  trial : TrialWords → CommandWords
 
 abbrev pub words_of : Text → List Row → Option CommandWords
 words_of name rows =
@@ -50,7 +55,9 @@ words_of name rows =
     else (if bytes_eq name (codes "stripe") then option_map stripe (stripe_words rows)
     else (if bytes_eq name (codes "fsm") then option_map fsm (fsm_words rows)
     else (if bytes_eq name (codes "schema") then option_map show_schema (show_schema_words rows)
-    else (if bytes_eq name (codes "explain") then option_map explain (explain_words rows) else None)))))))
+    else (if bytes_eq name (codes "explain") then option_map explain (explain_words rows)
+    else (if bytes_eq name (codes "gen") then Some (gen (gen_words rows))
+    else (if bytes_eq name (codes "trial") then Some (trial (trial_words rows)) else None)))))))))
 
 abbrev pub words_in : Option (Text × List Row) → Option CommandWords
 words_in = option_and_then (λ entered. words_of entered.0 entered.1)
@@ -69,6 +76,8 @@ meaning_of (stripe w) = stripe_meaning w
 meaning_of (fsm w) = fsm_meaning w
 meaning_of (show_schema w) = show_schema_meaning w
 meaning_of (explain w) = explain_meaning w
+meaning_of (gen w) = gen_meaning w
+meaning_of (trial w) = trial_meaning w
 
 -- what the words mean; none where clap refuses them
 abbrev pub meant : List Text → Option Meaning

@@ -13,6 +13,8 @@ pub mod Stripe
 pub mod Fsm
 pub mod ShowSchema
 pub mod Explain
+pub mod Gen
+pub mod Trial
 -- laws of what is printed of a table, each proved on a law function of src/
 pub mod ScanLaws
 -- what the words of a command line ask for

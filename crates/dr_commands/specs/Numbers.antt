@@ -37,6 +37,13 @@ most_fan = 64
 abbrev pub default_fan : ℕ
 default_fan = 8
 
+-- the greatest seed of made records, and how many there are at most
+abbrev pub most_seed : ℕ
+most_seed = 1000000000
+
+abbrev pub most_made : ℕ
+most_made = 10000000
+
 -- the number of an option between these bounds, or the other where it isn't given; clap takes no number out of the bounds
 abbrev pub number_in : ℕ → ℕ → ℕ → Option Text → ℕ
 number_in low high other None = other

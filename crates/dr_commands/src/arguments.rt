@@ -54,6 +54,14 @@ pub fn number_option<'a>(alloc: Global, name: &'a str, low: u32, high: u32) -> A
         .value_parser(ValueParser::unsigned(u64::from(low), u64::from(high)))
 }
 
+/// An option `--NAME NUMBER` that has to be given, at most once, whose number lies between these bounds.
+pub fn needed_number<'a>(alloc: Global, name: &'a str, low: u32, high: u32) -> Arg<'a>
+    ensures rule { rule_of result ≡ meant.needed (number_rule name.entry.now low high) }
+    ensures local { result.global ≡ false }
+{
+    number_option(alloc, name, low, high).required(true)
+}
+
 /// The number that a text writes between these bounds, or the other.
 fn number_or(text: &str, low: u32, high: u32, other: u32) -> u32
     ensures number { result ≡ number_in low high other (Some text.now) }

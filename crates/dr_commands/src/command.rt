@@ -1,7 +1,7 @@
 //! What a command line asks for.
 
 ghost use Rattle.std.specs.Prelude.{◌≡◌, IfOk};
-ghost use Rattle.clap.specs.Words.{app_of, subcommand_rows_of};
+ghost use Rattle.clap.specs.Words.{app_of, found_of, rows_of, subcommand_rows_of};
 ghost use Rattle.dr_commands.specs.Rules.{Answers};
 ghost use Rattle.dr_commands.specs.Commands as meant;
 ghost use Rattle.dr_commands.specs.CommandView.{command_view};
@@ -11,12 +11,16 @@ use crate::ask_words::{ask_command, ask_of};
 use crate::dump::{Dump, dump_command, dump_of};
 use crate::explain::{Explain, explain_command, explain_of};
 use crate::fsm::{Fsm, fsm_command, fsm_of};
+use crate::gen_values::Gen;
+use crate::gen_words::{gen_command, gen_of};
 use crate::load::Load;
 use crate::load_words::{load_command, load_of};
 use crate::query::Query;
 use crate::query_words::{query_command, query_of};
 use crate::show_schema::{ShowSchema, show_schema_command, show_schema_of};
 use crate::stripe::{Stripe, stripe_command, stripe_of};
+use crate::trial::Trial;
+use crate::trial_words::{trial_command, trial_of};
 use crate::words_fault::WordsFault;
 use clap::ArgMatches;
 use std::alloc::{AllocError, Global};
@@ -32,6 +36,8 @@ pub enum Command {
     Fsm(Fsm),
     ShowSchema(ShowSchema),
     Explain(Explain),
+    Gen(Gen),
+    Trial(Trial),
 }
 
 /// The command before its subcommands join it. No word asks for help: those that would are refused as unknown.
@@ -56,7 +62,30 @@ pub fn dremel_command<'a>(alloc: Global) -> Result<clap::Command<'a>, AllocError
         .subcommand(stripe_command(alloc)?)?
         .subcommand(fsm_command(alloc)?)?
         .subcommand(show_schema_command(alloc)?)?
-        .subcommand(explain_command(alloc)?)
+        .subcommand(explain_command(alloc)?)?
+        .subcommand(gen_command(alloc)?)?
+        .subcommand(trial_command(alloc)?)
+}
+
+/// The command of a subcommand's name and its values.
+///
+/// Errors: no subcommand has the name; want of memory.
+fn named_command(alloc: Global, name: &str, values: &ArgMatches<'_>) -> Result<Command, WordsFault>
+    ensures { Answers command_view (meant.words_of name.now (rows_of (found_of values.now))) result }
+{
+    match name {
+        "load" => Ok(Command::Load(load_of(alloc, values)?)),
+        "query" => Ok(Command::Query(query_of(alloc, values)?)),
+        "ask" => Ok(Command::Ask(ask_of(alloc, values)?)),
+        "dump" => Ok(Command::Dump(dump_of(alloc, values)?)),
+        "stripe" => Ok(Command::Stripe(stripe_of(alloc, values)?)),
+        "fsm" => Ok(Command::Fsm(fsm_of(alloc, values)?)),
+        "schema" => Ok(Command::ShowSchema(show_schema_of(alloc, values)?)),
+        "explain" => Ok(Command::Explain(explain_of(alloc, values)?)),
+        "gen" => Ok(Command::Gen(gen_of(values))),
+        "trial" => Ok(Command::Trial(trial_of(values))),
+        _ => Err(WordsFault::Usage),
+    }
 }
 
 /// The subcommand that clap met, with its values.
@@ -64,14 +93,7 @@ pub fn command_of(alloc: Global, matches: &ArgMatches<'_>) -> Result<Command, Wo
     ensures { Answers command_view (meant.words_in (subcommand_rows_of matches.now)) result }
 {
     match matches.subcommand() {
-        Some(("load", values)) => Ok(Command::Load(load_of(alloc, values)?)),
-        Some(("query", values)) => Ok(Command::Query(query_of(alloc, values)?)),
-        Some(("ask", values)) => Ok(Command::Ask(ask_of(alloc, values)?)),
-        Some(("dump", values)) => Ok(Command::Dump(dump_of(alloc, values)?)),
-        Some(("stripe", values)) => Ok(Command::Stripe(stripe_of(alloc, values)?)),
-        Some(("fsm", values)) => Ok(Command::Fsm(fsm_of(alloc, values)?)),
-        Some(("schema", values)) => Ok(Command::ShowSchema(show_schema_of(alloc, values)?)),
-        Some(("explain", values)) => Ok(Command::Explain(explain_of(alloc, values)?)),
-        _ => Err(WordsFault::Usage),
+        Some((name, values)) => named_command(alloc, name, values),
+        None => Err(WordsFault::Usage),
     }
 }

@@ -8,6 +8,8 @@ mod command;
 mod dump;
 mod explain;
 mod fsm;
+mod gen_values;
+mod gen_words;
 pub mod laws;
 mod limits;
 mod load;
@@ -17,6 +19,8 @@ mod query_words;
 mod read;
 mod show_schema;
 mod stripe;
+mod trial;
+mod trial_words;
 mod words_fault;
 
 pub use ask::Ask;
@@ -24,13 +28,15 @@ pub use command::Command;
 pub use dump::Dump;
 pub use explain::Explain;
 pub use fsm::Fsm;
+pub use gen_values::Gen;
 pub use limits::{
-    DEFAULT_FAN, DEFAULT_ROWS, LEAST_FAN, MOST_COPIES, MOST_DIRECTORIES, MOST_FAN, MOST_ROWS,
-    MOST_STRIPED, command_limits_are_as_defined,
+    DEFAULT_FAN, DEFAULT_ROWS, LEAST_FAN, MOST_COPIES, MOST_DIRECTORIES, MOST_FAN, MOST_MADE,
+    MOST_ROWS, MOST_SEED, MOST_STRIPED, command_limits_are_as_defined,
 };
 pub use load::Load;
 pub use query::Query;
 pub use read::{USAGE, read_words, taken_words_ask};
 pub use show_schema::ShowSchema;
 pub use stripe::Stripe;
+pub use trial::Trial;
 pub use words_fault::WordsFault;

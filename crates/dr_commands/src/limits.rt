@@ -4,7 +4,7 @@ ghost use Rattle.std.specs.Prelude.{◌≡◌};
 ghost use Rattle.dr_meaning.specs.Stripe.{most_striped};
 ghost use Rattle.dr_formats.specs.Loading.{most_tablet_rows};
 ghost use Rattle.dr_formats.specs.TableFile.{most_leaf_lines};
-ghost use Rattle.dr_commands.specs.Numbers.{default_rows, least_fan, most_fan, default_fan};
+ghost use Rattle.dr_commands.specs.Numbers.{default_rows, least_fan, most_fan, default_fan, most_seed, most_made};
 
 /// The greatest number of lines of `stripe`: 4,096 times 1,000,000.
 pub const MOST_STRIPED: u64 = 4_096_000_000;
@@ -30,6 +30,12 @@ pub const MOST_FAN: u32 = 64;
 /// The number of children that a server has at most where the words don't say it.
 pub const DEFAULT_FAN: u32 = 8;
 
+/// The greatest seed of made records.
+pub const MOST_SEED: u32 = 1_000_000_000;
+
+/// The greatest number of made records.
+pub const MOST_MADE: u32 = 10_000_000;
+
 /// A law: these are the limits of the definitions.
 pub fn command_limits_are_as_defined()
     ensures striped { MOST_STRIPED ≡ most_striped }
@@ -40,4 +46,6 @@ pub fn command_limits_are_as_defined()
     ensures least_fan { LEAST_FAN ≡ least_fan }
     ensures fan { MOST_FAN ≡ most_fan }
     ensures default_fan { DEFAULT_FAN ≡ default_fan }
+    ensures seed { MOST_SEED ≡ most_seed }
+    ensures made { MOST_MADE ≡ most_made }
 {}

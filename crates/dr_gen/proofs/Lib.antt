@@ -6,3 +6,5 @@ mod PieceLemmas
 mod RecordLemmas
 -- what a source gives and has left
 mod SourceLemmas
+-- what holds of an error
+pub mod WritingLemmas

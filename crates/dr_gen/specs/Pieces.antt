@@ -6,7 +6,6 @@ use Rattle.dr_meaning.specs.Record.{Instance}
 use Rattle.dr_meaning.specs.Print.{atom_text, instance_texts, shape_text}
 use Rattle.dr_gen.specs.Document.{language_fields, name_fields, links_fields}
 use Rattle.dr_gen.specs.Generator.{several, number, links}
-use Rattle.dr_meaning.specs.Lists.{comma_if}
 
 -- so many instances, separated by commas
 abbrev pub several_text : (Instance → List ℕ) → ℕ → (ℕ → Instance) → List ℕ

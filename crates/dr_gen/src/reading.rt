@@ -79,7 +79,7 @@ impl GenSource {
     }
 
     /// Fills the front of the buffer, whole or up to the end, and says how many bytes.
-    fn fill(&mut self, buf: &mut [u8]) -> usize
+    pub(crate) fn fill(&mut self, buf: &mut [u8]) -> usize
         ensures fits { result ≤ length buf.new }
         ensures bytes { take result buf.new ++ left_of self.new ≡ left_of self.old }
         ensures end { result < length buf.new → left_of self.new ≡ [] }

@@ -21,10 +21,10 @@ pub record IsOneOf {A : Type 0} (x : A) (xs : List A) : Type 0 where
   pub behind : List A
   pub split : xs ≡ before ++ x ∷ behind
 
-one_of_first : {A : Type 0} (x : A) (xs : List A) → IsOneOf x (x ∷ xs)
+pub one_of_first : {A : Type 0} (x : A) (xs : List A) → IsOneOf x (x ∷ xs)
 one_of_first x xs = record { before = []; behind = xs; split = refl }
 
-one_of_later : {A : Type 0} (x y : A) (xs : List A) → IsOneOf x xs → IsOneOf x (y ∷ xs)
+pub one_of_later : {A : Type 0} (x y : A) (xs : List A) → IsOneOf x xs → IsOneOf x (y ∷ xs)
 one_of_later x y xs i = record { before = y ∷ i.before; behind = i.behind; split = ap (λ zs. y ∷ zs) i.split }
 
 -- the copy that lies on a leaf
@@ -62,7 +62,7 @@ leaves_of ds k t (suc n) zero m leaf e h =
     (omega arith, subst (λ (x : ℕ). list_any (λ l. l == leaf) (directories_of (copies_from ds x 0 k)) ≡ true) (let q : t ≡ m = omega (arith, e) in q) h)
 leaves_of ds k t (suc n) (suc i) m leaf e h = let r = leaves_of ds k (suc t) n i m leaf (omega (arith, e)) h in (omega (arith, r.0), r.1)
 
-tablet_among : (ds : List (List ℕ)) (k t n i m : ℕ) → i < n → t + i ≡ m → IsOneOf (copies_from ds m 0 k) (tablets_from ds k t n)
+pub tablet_among : (ds : List (List ℕ)) (k t n i m : ℕ) → i < n → t + i ≡ m → IsOneOf (copies_from ds m 0 k) (tablets_from ds k t n)
 tablet_among ds k t zero i m l e = absurd (omega (arith, l))
 tablet_among ds k t (suc n) zero m l e =
     subst (λ (x : ℕ). IsOneOf (copies_from ds x 0 k) (copies_from ds t 0 k ∷ tablets_from ds k (suc t) n)) (let h : t ≡ m = omega (arith, e) in h)

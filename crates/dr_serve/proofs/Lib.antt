@@ -1,5 +1,13 @@
+pub mod CloseLemmas
+pub mod CountedLemmas
+pub mod CrossingLemmas
 pub mod EndLemmas
+pub mod FinishLemmas
 pub mod LeafLemmas
 pub mod LinkLemmas
+pub mod OutcomeLemmas
+pub mod PlaceLemmas
+pub mod ServingLemmas
 pub mod TruthLemmas
 pub mod TurnLemmas
+mod WorkedServing

@@ -1,5 +1,6 @@
 -- What a link shows after one piece of work and another.
-use Rattle.std.proofs.Common.{◌≡◌, ℕ, List, [], ◌∷◌, Bool, true, false, ◌||◌, Option, Some, None, refl, sym, ap, ◌∙◌, subst, true≢false, arith}
+use Rattle.std.proofs.Common.{◌≡◌, ◌<◌, ◌≤◌, ℕ, List, [], ◌∷◌, Bool, true, false, ◌||◌, Option, Some, None, refl, sym, ap, ◌∙◌, subst, true≢false, arith}
+use Rattle.std.specs.Prelude.{IsTrue}
 use Rattle.std.specs.List.{list_any}
 use Rattle.std.proofs.lemmas.List.Folds.{list_any-append}
 use Rattle.dr_meaning.specs.Path.{Leaf}
@@ -16,7 +17,7 @@ use Rattle.dr_reading.specs.Scan.{Copy, copy_in, copies_from, tablets_of}
 use Rattle.dr_tablets.specs.Asked.{ranges_there, is_for_copy, is_for_tablet, is_for_tablets, is_at_copy, is_at_tablet, is_at_tablets, AsksHeld, AsksForTablets}
 use Rattle.dr_tablets.proofs.AskedTablets.{held_nothing, path_asks}
 use Rattle.dr_serve.specs.Links.{Worked}
-use Rattle.dr_serve.proofs.LeafLemmas.{IsOneOf, IsOfTable}
+use Rattle.dr_serve.proofs.LeafLemmas.{IsOneOf, IsOfTable, tablet_among}
 
 -- ---- what is asked
 
@@ -84,4 +85,14 @@ worked_more t p l now new w v = record {
   never_falls = omega (arith, w.never_falls, v.never_falls);
   stays_steady = λ is. v.stays_steady (w.stays_steady is);
   asks = asks_more (plan_leaves p) (tablets_of t) l now new w.same w.asks v.asks;
+}
+
+-- a scan of a tablet
+pub tablet_worked : (t : Table) (p : Plan) (l now : LinkShown) (tablet : ℕ) → tablet < t.tablets → AsksForTablets (plan_leaves p) (copies_from t.leaves tablet 0 t.copies ∷ []) l now → now.held ≡ l.held → l.faults ≤ now.faults
+    → (IsTrue l.is_steady → IsTrue now.is_steady) → Worked t p l now
+tablet_worked t p l now tablet small asks same falls steady = record {
+  same = same;
+  never_falls = falls;
+  stays_steady = steady;
+  asks = asks_tablet (plan_leaves p) t (copies_from t.leaves tablet 0 t.copies) l now (tablet_among t.leaves t.copies 0 t.tablets tablet tablet small (omega arith)) asks;
 }

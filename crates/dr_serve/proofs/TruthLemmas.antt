@@ -78,6 +78,7 @@ pub piece_by_more : (t : Table) (plan : Plan) (held : Option Files) (all : List 
 piece_by_more t plan held all tablet p i h =
     subst (λ (links : List (Option Files)). IsPiece t plan links tablet p) (sym i.split) (record {
       of_plan = h.of_plan;
+      records = h.records;
       truth = λ q is.
           let k = h.truth q is in record { partial = k.partial; bounded = k.bounded; file = file_by_more t q held i.before i.behind tablet (partial_view p) k.file };
     })

@@ -18,6 +18,7 @@ use Rattle.dr_reading.specs.Left.{IsCauseAt}
 use Rattle.dr_reading.specs.Scan.{Copy, copy_in, copy_paths, tablets_of}
 use Rattle.dr_serving.specs.Pieces.{copies_at}
 use Rattle.dr_serving.specs.Truth.{TabletTruth, IsTrueOf}
+use Rattle.dr_scan.specs.Scans.{StandsForRecords}
 use Rattle.dr_serve.specs.declared.found.Found.{Found}
 
 -- the leaves of a tablet's copies, in the order in which they are tried
@@ -45,9 +46,10 @@ abbrev pub truth_by : Table → Query → List (Option Files) → ℕ → Tablet
 truth_by t q links tablet =
     record { schema = t.schema; query = leaf_query q; held = held_by_all links (copy_paths (copies_at (tablets_of t) tablet)) }
 
--- a partial is one of the plan, and true of a tablet where these links are there
+-- a partial is one of the plan, stands for some records, and is true of a tablet where these links are there
 pub record IsPiece (t : Table) (plan : Plan) (links : List (Option Files)) (tablet : ℕ) (p : Partial) : Type 0 where
   pub of_plan : IsPartialOf (plan_view plan) p
+  pub records : ForQuery t.schema plan (λ q. StandsForRecords t.schema q (partial_view p))
   pub truth : ForQuery t.schema plan (λ q. IsTrueOf (truth_by t q links tablet) (partial_view p))
 
 -- so of what a worker found

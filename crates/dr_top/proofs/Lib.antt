@@ -14,6 +14,8 @@ pub mod StripeEnds
 pub mod FsmLemmas
 pub mod FsmEnds
 pub mod ExplainEnds
+pub mod GenEnds
+pub mod TrialEnds
 pub mod LoadEnds
 pub mod DumpEnds
 pub mod QueryEnds

@@ -1,5 +1,5 @@
 -- What the first link is asked for.
-use Rattle.std.specs.Prelude.{◌≡◌, ◌≢◌, ◌<◌, ◌++◌, ℕ, List, [], ◌∷◌, length, map, Option, Some, None}
+use Rattle.std.specs.Prelude.{◌≡◌, ◌<◌, ◌++◌, ℕ, zero, suc, List, [], ◌∷◌, length, map, Option, Some, None}
 use Rattle.std.specs.Option.{option_map}
 use Rattle.std.proofs.Common.{refl, get_or, slice_set, arith}
 use Rattle.dr_formats.specs.Opening.{end_ranges, footer_ranges}
@@ -12,7 +12,7 @@ use Rattle.dr_commands.specs.Meaning.{Meaning, Outcome, done, refused, scans, lo
 use Rattle.dr_commands.specs.ShowSchema.{ShowSchemaWords, show_schema_meaning}
 use Rattle.dr_commands.specs.Commands.{CommandWords, meaning_of}
 use Rattle.dr_top.specs.World.{ForOutcome, WithFirsts}
-use Rattle.dr_top.specs.Answers.{schema_ranges, AsksLink, AsksFirst}
+use Rattle.dr_top.specs.Answers.{schema_ranges, AsksLink, AsksFirst, LeavesLinksBy, LeavesUnasked}
 use Rattle.dr_top.proofs.OutcomeLemmas.{of_each}
 
 -- a link that stays is asked for nothing
@@ -35,6 +35,16 @@ none_asked m k i ls = of_each m k i (λ o. WithFirsts ls ls (AsksLink o)) (first
 pub none_meant : (o : Option CommandWords) (k : LinkShown) (i : SourceShown) (ls : List LinkShown) → AsksFirst (option_map meaning_of o) k i ls ls
 none_meant None k i ls = refl
 none_meant (Some w) k i ls = none_asked (meaning_of w) k i ls
+
+-- links that stay hold what they held
+links_stay : (n : ℕ) (ls : List LinkShown) → LeavesLinksBy n ls ls
+links_stay zero ls = refl
+links_stay (suc n) [] = tt
+links_stay (suc n) (l ∷ ls) = (refl, links_stay n ls)
+
+pub none_unasked : (o : Option CommandWords) (ls : List LinkShown) → LeavesUnasked (option_map meaning_of o) ls ls
+none_unasked None ls = refl
+none_unasked (Some w) ls = links_stay (meaning_of w).links ls
 
 -- the first of some links
 pub first_asked : {A : Type 0} (m : Meaning) (k : LinkShown) (i : SourceShown) (shows : A → LinkShown) (ls : List A) (d y : A) → 0 < length ls → ForOutcome m k i (λ o. AsksLink o (shows (get_or ls 0 d)) (shows y))

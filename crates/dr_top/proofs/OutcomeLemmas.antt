@@ -1,6 +1,5 @@
 -- Outcomes of commands, and what their steps say of them.
-use Rattle.std.specs.Prelude.{◌≡◌, IsTrue, ℕ, Bool, true, false, List, [], Option, Some, None, Result, Ok, Err, IsErrAnd, IfOk, IfErr, String, string_bytes, OnOk}
-use Rattle.std.specs.declared.alloc.Global.{Global}
+use Rattle.std.specs.Prelude.{◌≡◌, IsTrue, ℕ, Bool, true, false, List, [], Option, Some, None, Result, Ok, Err, IsErrAnd, IfOk, IfErr, OnOk}
 use Rattle.std.proofs.Common.{refl, sym, ap, ◌∙◌, subst, inl}
 use Rattle.std.specs.Prelude.{◌∷◌, ◌++◌}
 use Rattle.dr_meaning.specs.Refusals.{CommandRefusal}
@@ -18,12 +17,14 @@ use Rattle.dr_outside.specs.Source.{SourceShown}
 use Rattle.dr_outside.specs.Link.{Files, LinkShown, Holds}
 use Rattle.dr_commands.specs.Refusals.{schema_refused, table_refused, Refusal as Refused}
 use Rattle.dr_commands.specs.Meaning.{Look, Meaning, Outcome, done, refused, plain, puts_in}
+use Rattle.dr_top.specs.Printed.{printed}
 use Rattle.dr_top.specs.World.{WhereUsed, WhereFile, WithOutcome, ForOutcome, HasOutcome, OpensInput, RefusesEarly, AcceptsWhole}
 use Rattle.dr_top.specs.Answers.{Gives, Finishes}
 use Rattle.dr_top.specs.Stops.{IsUnput, KeepsFile, SchemaFileStops, TableFileStops, StopsPlain, StopsWith, PutsSome, PutsBeforeEnd, PutsGiven, puts_before_end, IsRefusedSchema, IsRefusedTable, IsRefusedSo, schema_file_stop, table_file_stop, refusal_view}
 use Rattle.dr_top.specs.declared.refusal.Refusal.{Refusal}
 use Rattle.dr_top.specs.declared.schema_file.SchemaFileFault.{SchemaFileFault}
 use Rattle.dr_top.specs.declared.table_file.TableFileFault.{TableFileFault}
+use Rattle.dr_top.specs.declared.output.Output.{Output}
 use Rattle.dr_top.specs.declared.stop.Stop.{Stop}
 
 -- ---- what holds of the outcome
@@ -132,9 +133,9 @@ pub plain_finishes : (m : Meaning) (k k1 : LinkShown) (i : SourceShown) (ls : Li
 plain_finishes m k k1 i ls text e h q =
     (weaker m k i (λ o. o ≡ done text []) (Gives k k1 ls ls text) (λ o is. subst (Gives k k1 ls ls text) (sym is) (refl, put_none k k1 e)) h, q)
 
-pub plain_answer : {E : Type 0} (m : Meaning) (k k1 : LinkShown) (i : SourceShown) (ls : List LinkShown) (r : Result (String Global) E) → IsUnput k k1 → IfOk r (λ t. HasOutcome m k i (done (string_bytes t) []))
-    → OnOk r (OpensInput m k) → IfOk r (λ t. Finishes m k k1 i ls ls (string_bytes t))
-plain_answer m k k1 i ls (Ok t) e h q = plain_finishes m k k1 i ls (string_bytes t) e h q
+pub plain_answer : {E : Type 0} (m : Meaning) (k k1 : LinkShown) (i : SourceShown) (ls : List LinkShown) (r : Result Output E) → IsUnput k k1 → IfOk r (λ t. HasOutcome m k i (done (printed t) []))
+    → OnOk r (OpensInput m k) → IfOk r (λ t. Finishes m k k1 i ls ls (printed t))
+plain_answer m k k1 i ls (Ok t) e h q = plain_finishes m k k1 i ls (printed t) e h q
 plain_answer m k k1 i ls (Err x) e h q = tt
 
 -- what holds anyway holds on success

@@ -1,6 +1,6 @@
 -- The answer of `schema`, from its steps.
 use Rattle.std.specs.Prelude.{◌≡◌, ◌≢◌, IsTrue, IsSome, ℕ, true, false, List, [], ◌∷◌, Option, Some, None, Result, Ok, Err}
-use Rattle.std.proofs.Common.{refl, sym, subst, ◌≤◌, true≢false, inl, arith}
+use Rattle.std.proofs.Common.{refl, sym, subst, true≢false, inl, arith}
 use Rattle.dr_meaning.specs.Schema.{Schema}
 use Rattle.dr_meaning.specs.SchemaText.{schema_text}
 use Rattle.dr_formats.specs.File.{FileCause, bad_footer, bad_schema, bad_codec, bad_data, schema_of_file}

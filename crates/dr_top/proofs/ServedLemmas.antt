@@ -1,5 +1,5 @@
 -- Where the first link is steady and tells that a copy of each tablet is a file, no tablet is left.
-use Rattle.std.proofs.Common.{◌≡◌, ◌∙◌, inl, inr, ℕ, Bool, true, false, true≢false, List, [], ◌∷◌, Option, Some, None, refl, sym, ap, subst}
+use Rattle.std.proofs.Common.{nat_eq, ◌≡◌, ◌∙◌, inl, inr, ℕ, Bool, false, true≢false, List, [], ◌∷◌, Option, Some, None, refl, sym, ap, subst}
 use Rattle.std.specs.Prelude.{◌⊎◌, IsTrue, IsSome, Ok, Err}
 use Rattle.dr_outside.specs.Source.{SourceShown}
 use Rattle.dr_outside.specs.Link.{Files, LinkShown}
@@ -95,6 +95,11 @@ none_left m before after (inr h) t = file_not_left m before after h t
 pub served_by : (o : Option Meaning) (before after : World) (status : ℕ) → Holds o IsLeft before after → IsServed o status before
 served_by None before after status h = absurd h
 served_by (Some m) before after status h = λ w. absurd (none_left m before after w h)
+
+-- at another status nothing is left
+pub served_else : (o : Option Meaning) (before : World) (status : ℕ) → nat_eq status 3 ≡ false → IsServed o status before
+served_else None before status n = tt
+served_else (Some m) before status n = λ w e. true≢false (subst (λ (x : ℕ). nat_eq x 3 ≡ false) e n)
 
 -- where tablets or a file are left, the first link was asked
 pub left_complete : (o : Option Meaning) (before after : World) → Holds o IsLeft before after → IsComplete o 3 before after

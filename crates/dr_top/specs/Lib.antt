@@ -1,5 +1,7 @@
 -- what the program meets outside at one moment, and what a command means on it
 pub mod World
+-- what a finished command prints
+pub mod Printed
 -- what a command gives: its text, or what is left
 pub mod Reading
 -- what stops a command

@@ -12,6 +12,7 @@ use Rattle.dr_load.specs.declared.fault.LoadFault.{LoadFault}
 use Rattle.dr_load.specs.Puts.{HasPut, HasPutSome, BreaksOff}
 use Rattle.dr_load.specs.Given.{WhereLines}
 use Rattle.dr_nested.specs.Faults.{problem_view, path_problem_view}
+use Rattle.dr_nested.specs.declared.fault.SchemaFault.{SchemaFault as TextFault}
 use Rattle.dr_input.specs.Taken.{AcceptsRead, WhereTold}
 use Rattle.dr_input.specs.Faults.{line_problem_view}
 use Rattle.dr_input.specs.declared.fault.LineProblem.{LineProblem}
@@ -216,6 +217,10 @@ IsReadBy false before now = now ≡ before
 abbrev pub words_stop : WordsFault → Stop
 words_stop WordsFault.Usage = Stop.Usage
 words_stop WordsFault.NoMemory = Stop.NoMemory
+
+abbrev pub schema_stop : TextFault → Stop
+schema_stop TextFault.NoMemory = Stop.NoMemory
+schema_stop (TextFault.Refused p w) = Stop.Refused (Refusal.Schema p w)
 
 abbrev pub schema_file_stop : SchemaFileFault → Stop
 schema_file_stop SchemaFileFault.NoMemory = Stop.NoMemory

@@ -3,6 +3,7 @@
 ghost use Rattle.std.specs.Prelude.{◌≡◌, ◌≢◌, ◌<◌, length, Err, false, map, string_bytes, IfOk, IfErr, OnOk};
 ghost use Rattle.dr_commands.specs.Commands.{Taken, meaning_of, meant};
 ghost use Rattle.dr_commands.specs.CommandView.{command_view};
+ghost use Rattle.dr_top.specs.Printed.{printed};
 ghost use Rattle.dr_top.specs.World.{ForOutcome, WithFirsts};
 ghost use Rattle.dr_top.specs.Stops.{IsUnput, StopsWith, IsReadBy};
 ghost use Rattle.dr_top.specs.Answers.{Finishes, StopsMeant, AsksFor, AsksMeant, LeavesUnread, LeavesUnput, LeavesUnasked, LeavesLinksBy, AsksFirst, AsksLink};
@@ -12,18 +13,21 @@ mod ask;
 mod dump;
 mod explain;
 mod fsm;
+mod gen_lines;
 mod load;
 mod query;
 mod show_schema;
 mod stripe;
+mod trial;
 
+use crate::output::Output;
 use crate::stop::Stop;
 use dr_commands::{Command, read_words};
 use dr_outside::{Keeper, Link, Source};
 use std::alloc::Global;
 use std::thread::Threads;
 
-/// The text that a command prints.
+/// What a command prints.
 ///
 /// Errors: its first refusal; the keeper or the source failed; what is left; want of memory.
 fn command_answer<R: Threads + Sync, S: Source, K: Keeper, L: Link>(
@@ -33,10 +37,10 @@ fn command_answer<R: Threads + Sync, S: Source, K: Keeper, L: Link>(
     source: &mut S,
     keeper: &mut K,
     links: &mut [L],
-) -> Result<String, Stop>
+) -> Result<Output, Stop>
     requires link { 0 < length links.old }
     ensures text { IfOk result (λ t. Finishes (meaning_of (command_view command.now)) (K.shows keeper.old)
-        (K.shows keeper.new) (S.shows source.old) (map L.shows links.old) (map L.shows links.new) (string_bytes t)) }
+        (K.shows keeper.new) (S.shows source.old) (map L.shows links.old) (map L.shows links.new) (printed t)) }
     ensures read { OnOk result (IsReadBy (meaning_of (command_view command.now)).reads_input (S.shows source.old)
         (S.shows source.new)) }
     ensures source_calm { OnOk result ((S.shows source.new).faults ≡ (S.shows source.old).faults) }
@@ -63,10 +67,12 @@ fn command_answer<R: Threads + Sync, S: Source, K: Keeper, L: Link>(
         Command::Fsm(fsm) => fsm::answer(alloc, fsm, keeper),
         Command::ShowSchema(show) => show_schema::answer(alloc, show, &mut links[0]),
         Command::Explain(explain) => explain::answer(alloc, explain, keeper),
+        Command::Gen(values) => gen_lines::answer(alloc, values),
+        Command::Trial(trial) => trial::answer(rt, alloc, trial),
     }
 }
 
-/// The text that the words ask for.
+/// What is printed where the words ask for it.
 ///
 /// Errors: the words ask for nothing; the command's first refusal; the keeper or the source failed; what is left; want
 /// of memory.
@@ -77,11 +83,11 @@ pub fn answer<R: Threads + Sync, S: Source, K: Keeper, L: Link>(
     source: &mut S,
     keeper: &mut K,
     links: &mut [L],
-) -> Result<String, Stop>
+) -> Result<Output, Stop>
     requires link { 0 < length links.old }
     ensures text { IfOk result (λ t. ForMeant (meant (map string_bytes words.now))
         (λ m. Finishes m (K.shows keeper.old) (K.shows keeper.new) (S.shows source.old) (map L.shows links.old)
-        (map L.shows links.new) (string_bytes t))) }
+        (map L.shows links.new) (printed t))) }
     ensures read { OnOk result (ForMeant (meant (map string_bytes words.now))
         (λ m. IsReadBy m.reads_input (S.shows source.old) (S.shows source.new))) }
     ensures source_calm { OnOk result ((S.shows source.new).faults ≡ (S.shows source.old).faults) }

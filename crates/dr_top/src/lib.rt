@@ -5,7 +5,9 @@ mod commands;
 mod field;
 mod fields;
 mod keeper_file;
+mod laws;
 mod left_file;
+mod output;
 mod refusal;
 mod report;
 mod running;
@@ -13,4 +15,5 @@ mod schema_file;
 mod stop;
 mod table_file;
 
+pub use laws::gen_refuses_nothing;
 pub use running::run;

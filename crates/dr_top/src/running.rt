@@ -97,7 +97,7 @@ pub fn run<
         (world (S.shows source.new) (O.shows out.new) (E.shows err.new) (K.shows keeper.new) (map L.shows links.new)) }
 {
     match answer(rt, alloc, words, source, keeper, links) {
-        Ok(text) => match write_all(out, text.as_bytes()) {
+        Ok(mut output) => match output.write_to(out) {
             Ok(()) => 0,
             Err(_) => {
                 say(err, b"outside: out\n");

@@ -2,7 +2,7 @@
 
 ghost use Rattle.std.specs.Prelude.{◌≡◌};
 ghost use Rattle.dr_top.specs.declared.stop.Stop.TheVariants as stops;
-ghost use Rattle.dr_top.specs.Stops.{words_stop, schema_file_stop, table_file_stop, words_problem_stop, field_stop, query_stop, input_stop, load_stop, file_stop};
+ghost use Rattle.dr_top.specs.Stops.{words_stop, schema_stop, schema_file_stop, table_file_stop, words_problem_stop, field_stop, query_stop, input_stop, load_stop, file_stop};
 
 use crate::field::FieldFault;
 use crate::refusal::Refusal;
@@ -14,6 +14,7 @@ use dr_file::FileFault;
 use dr_input::{InputFault, LineProblem};
 use dr_load::{LoadFault, WordsProblem};
 use dr_memory::NoMemory;
+use dr_nested::SchemaFault;
 use dr_outside::Cause;
 use dr_tablets::LeftTablet;
 
@@ -50,6 +51,19 @@ impl From<WordsFault> for Stop {
         match fault {
             WordsFault::Usage => Stop::Usage,
             WordsFault::NoMemory => Stop::NoMemory,
+        }
+    }
+}
+
+impl From<SchemaFault> for Stop {
+    ghost from_gives = { λ fault stop. stop ≡ schema_stop fault };
+
+    fn from(fault: SchemaFault) -> Stop {
+        match fault {
+            SchemaFault::NoMemory => Stop::NoMemory,
+            SchemaFault::Refused { offset, problem } => {
+                Stop::Refused(Refusal::Schema { offset, problem })
+            }
         }
     }
 }

@@ -3,9 +3,11 @@
 ghost use Rattle.std.specs.Prelude.{◌≡◌, [], true, string_bytes, IfOk, IfErr, OnOk};
 ghost use Rattle.dr_commands.specs.Meaning.{done};
 ghost use Rattle.dr_commands.specs.Ask.{ask_meaning, ask_view};
+ghost use Rattle.dr_top.specs.Printed.{printed};
 ghost use Rattle.dr_top.specs.World.{HasOutcome, IsOpened};
 ghost use Rattle.dr_top.specs.Stops.{IsUnput, StopsPlain, IsReadBy, AsksForFile};
 
+use crate::output::Output;
 use crate::schema_file::read_schema;
 use crate::stop::Stop;
 use dr_ask::ask_input;
@@ -25,9 +27,9 @@ pub fn answer<R: Threads + Sync, S: Source, K: Keeper>(
     words: &Ask,
     source: &mut S,
     keeper: &mut K,
-) -> Result<String, Stop>
+) -> Result<Output, Stop>
     ensures text { IfOk result (λ t. HasOutcome (ask_meaning (ask_view words.now)) (K.shows keeper.old)
-        (S.shows source.old) (done (string_bytes t) [])) }
+        (S.shows source.old) (done (printed t) [])) }
     ensures opened { OnOk result (IsOpened (ask_meaning (ask_view words.now)) (K.shows keeper.old)) }
     ensures read { OnOk result (IsReadBy true (S.shows source.old) (S.shows source.new)) }
     ensures source_calm { OnOk result ((S.shows source.new).faults ≡ (S.shows source.old).faults) }
@@ -40,5 +42,5 @@ pub fn answer<R: Threads + Sync, S: Source, K: Keeper>(
     let schema = read_schema(alloc, keeper, words.schema.as_str())?;
     let plan = read_query(alloc, &schema, words.query.as_str())?;
     let text = ask_input(rt, alloc, schema, &plan, words.rows, words.fan, source)?;
-    Ok(text)
+    Ok(Output::Text(text))
 }

@@ -4,12 +4,14 @@ ghost use Rattle.std.specs.Prelude.{◌≡◌, ◌∷◌, List, string_bytes, If
 ghost use Rattle.dr_outside.specs.Source.{SourceShown};
 ghost use Rattle.dr_outside.specs.Link.{LinkShown};
 ghost use Rattle.dr_commands.specs.Dump.{dump_meaning, dump_view};
+ghost use Rattle.dr_top.specs.Printed.{printed};
 ghost use Rattle.dr_top.specs.World.{WithOutcome, ForOutcome};
 ghost use Rattle.dr_top.specs.Answers.{AsksLink};
 ghost use Rattle.dr_top.specs.Reading.{HasText};
 ghost use Rattle.dr_top.specs.Stops.{IsUnput, StopsWith, AsksForFile};
 
 use crate::fields::find_fields;
+use crate::output::Output;
 use crate::stop::Stop;
 use crate::table_file::read_table_file;
 use dr_commands::Dump;
@@ -26,10 +28,10 @@ pub fn answer<K: Keeper, L: Link>(
     words: &Dump,
     keeper: &mut K,
     link: &mut L,
-) -> Result<String, Stop>
+) -> Result<Output, Stop>
     ensures text { (input : SourceShown) (links : List LinkShown)
         → IfOk result (λ t. WithOutcome (dump_meaning (dump_view words.now)) (K.shows keeper.old) input
-        (λ o. HasText o (L.shows link.old ∷ links) (L.shows link.new ∷ links) (string_bytes t))) }
+        (λ o. HasText o (L.shows link.old ∷ links) (L.shows link.new ∷ links) (printed t))) }
     ensures keeper_calm { OnOk result ((K.shows keeper.new).faults ≡ (K.shows keeper.old).faults) }
     ensures stops { (input : SourceShown) (links : List LinkShown)
         → IfErr result (StopsWith (dump_meaning (dump_view words.now)) (K.shows keeper.old)
@@ -44,7 +46,7 @@ pub fn answer<K: Keeper, L: Link>(
     let table = read_table_file(alloc, keeper, words.table.as_str())?;
     let fields = find_fields(alloc, &table.schema, &words.fields)?;
     match dump_table(alloc, link, &table, &fields)? {
-        Dumped::Lines(text) => Ok(text),
+        Dumped::Lines(text) => Ok(Output::Text(text)),
         Dumped::Left(left) => Err(Stop::Left(left)),
     }
 }

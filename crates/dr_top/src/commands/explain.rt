@@ -4,9 +4,11 @@ ghost use Rattle.std.specs.Prelude.{◌≡◌, [], string_bytes, IfOk, IfErr, On
 ghost use Rattle.dr_outside.specs.Source.{SourceShown};
 ghost use Rattle.dr_commands.specs.Meaning.{done};
 ghost use Rattle.dr_commands.specs.Explain.{explain_meaning, explain_view};
+ghost use Rattle.dr_top.specs.Printed.{printed};
 ghost use Rattle.dr_top.specs.World.{HasOutcome};
 ghost use Rattle.dr_top.specs.Stops.{IsUnput, StopsPlain, AsksForFile};
 
+use crate::output::Output;
 use crate::schema_file::read_schema;
 use crate::stop::Stop;
 use dr_bind::read_query;
@@ -18,10 +20,10 @@ use std::alloc::Global;
 /// The text that `explain` prints.
 ///
 /// Errors: the first refusal: the schema, then the query; the keeper failed; want of memory.
-pub fn answer<K: Keeper>(alloc: Global, words: &Explain, keeper: &mut K) -> Result<String, Stop>
+pub fn answer<K: Keeper>(alloc: Global, words: &Explain, keeper: &mut K) -> Result<Output, Stop>
     ensures text { (input : SourceShown) → IfOk result
         (λ t. HasOutcome (explain_meaning (explain_view words.now)) (K.shows keeper.old) input
-        (done (string_bytes t) [])) }
+        (done (printed t) [])) }
     ensures keeper_calm { OnOk result ((K.shows keeper.new).faults ≡ (K.shows keeper.old).faults) }
     ensures stops { (input : SourceShown) → IfErr result
         (StopsPlain (explain_meaning (explain_view words.now)) (K.shows keeper.old) (K.shows keeper.new) input input) }
@@ -31,5 +33,5 @@ pub fn answer<K: Keeper>(alloc: Global, words: &Explain, keeper: &mut K) -> Resu
     let schema = read_schema(alloc, keeper, words.schema.as_str())?;
     let plan = read_query(alloc, &schema, words.query.as_str())?;
     let text = rewriting_text(alloc, &schema, &plan)?;
-    Ok(text)
+    Ok(Output::Text(text))
 }

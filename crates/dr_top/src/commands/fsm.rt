@@ -7,10 +7,12 @@ ghost use Rattle.dr_nested.specs.PathView.{path_view};
 ghost use Rattle.dr_outside.specs.Source.{SourceShown};
 ghost use Rattle.dr_commands.specs.Meaning.{done};
 ghost use Rattle.dr_commands.specs.Fsm.{fsm_meaning, fsm_view};
+ghost use Rattle.dr_top.specs.Printed.{printed};
 ghost use Rattle.dr_top.specs.World.{HasOutcome};
 ghost use Rattle.dr_top.specs.Stops.{IsUnput, StopsPlain, AsksForFile};
 
 use crate::fields::find_fields;
+use crate::output::Output;
 use crate::schema_file::read_schema;
 use crate::stop::Stop;
 use dr_commands::Fsm;
@@ -33,9 +35,9 @@ fn leaves_text(alloc: Global, schema: &Schema, leaves: &[Path]) -> Result<String
 /// The text that `fsm` prints.
 ///
 /// Errors: the first refusal: the schema, then the FIELD words in order; the keeper failed; want of memory.
-pub fn answer<K: Keeper>(alloc: Global, fsm: &Fsm, keeper: &mut K) -> Result<String, Stop>
+pub fn answer<K: Keeper>(alloc: Global, fsm: &Fsm, keeper: &mut K) -> Result<Output, Stop>
     ensures text { (input : SourceShown) → IfOk result
-        (λ t. HasOutcome (fsm_meaning (fsm_view fsm.now)) (K.shows keeper.old) input (done (string_bytes t) [])) }
+        (λ t. HasOutcome (fsm_meaning (fsm_view fsm.now)) (K.shows keeper.old) input (done (printed t) [])) }
     ensures keeper_calm { OnOk result ((K.shows keeper.new).faults ≡ (K.shows keeper.old).faults) }
     ensures stops { (input : SourceShown) → IfErr result
         (StopsPlain (fsm_meaning (fsm_view fsm.now)) (K.shows keeper.old) (K.shows keeper.new) input input) }
@@ -45,5 +47,5 @@ pub fn answer<K: Keeper>(alloc: Global, fsm: &Fsm, keeper: &mut K) -> Result<Str
     let schema = read_schema(alloc, keeper, fsm.schema.as_str())?;
     let leaves = find_fields(alloc, &schema, &fsm.fields)?;
     let text = leaves_text(alloc, &schema, &leaves)?;
-    Ok(text)
+    Ok(Output::Text(text))
 }

@@ -3,9 +3,11 @@
 ghost use Rattle.std.specs.Prelude.{◌≡◌, List, true, string_bytes, IfOk, IfErr, OnOk};
 ghost use Rattle.dr_outside.specs.Link.{LinkShown};
 ghost use Rattle.dr_commands.specs.Load.{load_meaning, load_view};
+ghost use Rattle.dr_top.specs.Printed.{printed};
 ghost use Rattle.dr_top.specs.Answers.{Finishes};
 ghost use Rattle.dr_top.specs.Stops.{StopsWith, IsReadBy, AsksForFile};
 
+use crate::output::Output;
 use crate::schema_file::read_schema;
 use crate::stop::Stop;
 use dr_commands::Load;
@@ -22,10 +24,10 @@ pub fn answer<S: Source, K: Keeper>(
     words: &Load,
     source: &mut S,
     keeper: &mut K,
-) -> Result<String, Stop>
+) -> Result<Output, Stop>
     ensures text { (links : List LinkShown) → IfOk result
         (λ t. Finishes (load_meaning (load_view words.now)) (K.shows keeper.old) (K.shows keeper.new)
-        (S.shows source.old) links links (string_bytes t)) }
+        (S.shows source.old) links links (printed t)) }
     ensures read { OnOk result (IsReadBy true (S.shows source.old) (S.shows source.new)) }
     ensures source_calm { OnOk result ((S.shows source.new).faults ≡ (S.shows source.old).faults) }
     ensures keeper_calm { OnOk result ((K.shows keeper.new).faults ≡ (K.shows keeper.old).faults) }
@@ -45,5 +47,5 @@ pub fn answer<S: Source, K: Keeper>(
     };
     let loaded = load(alloc, &plan, source, keeper)?;
     let line = loaded_line(alloc, loaded.records, loaded.tablets)?;
-    Ok(line)
+    Ok(Output::Text(line))
 }

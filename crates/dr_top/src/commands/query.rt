@@ -4,11 +4,13 @@ ghost use Rattle.std.specs.Prelude.{◌≡◌, ◌∷◌, List, string_bytes, If
 ghost use Rattle.dr_outside.specs.Source.{SourceShown};
 ghost use Rattle.dr_outside.specs.Link.{LinkShown};
 ghost use Rattle.dr_commands.specs.Query.{query_meaning, query_view};
+ghost use Rattle.dr_top.specs.Printed.{printed};
 ghost use Rattle.dr_top.specs.World.{WithOutcome, ForOutcome};
 ghost use Rattle.dr_top.specs.Answers.{AsksLink};
 ghost use Rattle.dr_top.specs.Reading.{HasText};
 ghost use Rattle.dr_top.specs.Stops.{IsUnput, StopsWith, AsksForFile};
 
+use crate::output::Output;
 use crate::stop::Stop;
 use crate::table_file::read_table_file;
 use dr_bind::read_query;
@@ -27,10 +29,10 @@ pub fn answer<R: Threads + Sync, K: Keeper, L: Link>(
     words: &Query,
     keeper: &mut K,
     link: &mut L,
-) -> Result<String, Stop>
+) -> Result<Output, Stop>
     ensures text { (input : SourceShown) (links : List LinkShown)
         → IfOk result (λ t. WithOutcome (query_meaning (query_view words.now)) (K.shows keeper.old) input
-        (λ o. HasText o (L.shows link.old ∷ links) (L.shows link.new ∷ links) (string_bytes t))) }
+        (λ o. HasText o (L.shows link.old ∷ links) (L.shows link.new ∷ links) (printed t))) }
     ensures keeper_calm { OnOk result ((K.shows keeper.new).faults ≡ (K.shows keeper.old).faults) }
     ensures stops { (input : SourceShown) (links : List LinkShown)
         → IfErr result (StopsWith (query_meaning (query_view words.now)) (K.shows keeper.old)
@@ -45,7 +47,7 @@ pub fn answer<R: Threads + Sync, K: Keeper, L: Link>(
     let table = read_table_file(alloc, keeper, words.table.as_str())?;
     let plan = read_query(alloc, &table.schema, words.query.as_str())?;
     match query_table(rt, alloc, link, &table, &plan, words.fan)? {
-        Queried::Text(text) => Ok(text),
+        Queried::Text(text) => Ok(Output::Text(text)),
         Queried::Left(left) => Err(Stop::Left(left)),
     }
 }

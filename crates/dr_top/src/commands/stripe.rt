@@ -9,12 +9,14 @@ ghost use Rattle.dr_striper.specs.Stripers.{striped, striped_leaves};
 ghost use Rattle.dr_striper.specs.Leaves.{is_leaf};
 ghost use Rattle.dr_commands.specs.Meaning.{done};
 ghost use Rattle.dr_commands.specs.Stripe.{stripe_meaning, stripe_view};
+ghost use Rattle.dr_top.specs.Printed.{printed};
 ghost use Rattle.dr_top.specs.World.{HasOutcome, IsOpened};
 ghost use Rattle.dr_top.specs.Stops.{IsUnput, StopsPlain, InputStops, IsReadBy, AsksForFile};
 ghost use Rattle.dr_top.specs.Records.{HasColumns};
 ghost use Rattle.dr_input.specs.Taken.{WhereTold};
 
 use crate::field::find_field;
+use crate::output::Output;
 use crate::schema_file::read_schema;
 use crate::stop::Stop;
 use dr_commands::{MOST_STRIPED, Stripe};
@@ -73,9 +75,9 @@ pub fn answer<S: Source, K: Keeper>(
     stripe: &Stripe,
     source: &mut S,
     keeper: &mut K,
-) -> Result<String, Stop>
+) -> Result<Output, Stop>
     ensures text { IfOk result (λ t. HasOutcome (stripe_meaning (stripe_view stripe.now)) (K.shows keeper.old)
-        (S.shows source.old) (done (string_bytes t) [])) }
+        (S.shows source.old) (done (printed t) [])) }
     ensures opened { OnOk result (IsOpened (stripe_meaning (stripe_view stripe.now)) (K.shows keeper.old)) }
     ensures read { OnOk result (IsReadBy true (S.shows source.old) (S.shows source.new)) }
     ensures source_calm { OnOk result ((S.shows source.new).faults ≡ (S.shows source.old).faults) }
@@ -89,5 +91,5 @@ pub fn answer<S: Source, K: Keeper>(
     let field = find_field(alloc, &schema, stripe.field.as_str(), 0)?;
     let column = stripe_records(alloc, &schema, &field, source)?;
     let text = column_text(alloc, &column)?;
-    Ok(text)
+    Ok(Output::Text(text))
 }

@@ -12,4 +12,6 @@ returns c =
     let with_stripe = c.in_ok-subcommand-5.ensures.shape c.in_ok-stripe_command.ensures.local ∙ ap₂ with_subcommand with_dump (ap (λ (a : App). a.top) c.in_ok-stripe_command.ensures.app) in
     let with_fsm = c.in_ok-subcommand-6.ensures.shape c.in_ok-fsm_command.ensures.local ∙ ap₂ with_subcommand with_stripe (ap (λ (a : App). a.top) c.in_ok-fsm_command.ensures.app) in
     let with_schema = c.in_ok-subcommand-7.ensures.shape c.in_ok-show_schema_command.ensures.local ∙ ap₂ with_subcommand with_fsm (ap (λ (a : App). a.top) c.in_ok-show_schema_command.ensures.app) in
-    IfOk-weaker c.subcommand-8.result _ _ (λ r h. h.shape c.in_ok-explain_command.ensures.local ∙ ap₂ with_subcommand with_schema (ap (λ (a : App). a.top) c.in_ok-explain_command.ensures.app)) c.subcommand-8.ensures
+    let with_explain = c.in_ok-subcommand-8.ensures.shape c.in_ok-explain_command.ensures.local ∙ ap₂ with_subcommand with_schema (ap (λ (a : App). a.top) c.in_ok-explain_command.ensures.app) in
+    let with_gen = c.in_ok-subcommand-9.ensures.shape c.in_ok-gen_command.ensures.local ∙ ap₂ with_subcommand with_explain (ap (λ (a : App). a.top) c.in_ok-gen_command.ensures.app) in
+    IfOk-weaker c.subcommand-10.result _ _ (λ r h. h.shape c.in_ok-trial_command.ensures.local ∙ ap₂ with_subcommand with_gen (ap (λ (a : App). a.top) c.in_ok-trial_command.ensures.app)) c.subcommand-10.ensures

@@ -23,6 +23,7 @@ answer-requires-clause-truth g c =
     let of = hand_of_table c.args.table.now g.N.Naming.job c.args.pass.now.seen c.args.hand c.requires.job c.requires.recorded c.requires.given in
     c.requires.truth c.args.hand.tablet c.in-Ok.partial (record {
       of_plan = c.in-Ok.ensures.of_plan;
+      records = λ q is. c.in-Ok.ensures.records q is;
       truth = λ q is.
           true_at_copy t q (g.L.Link.shows c.args.link.now).held c.args.hand.tablet c.args.hand.leaf c.as_str.result.now (partial_view c.in-Ok.partial) of at (c.in-Ok.ensures.truth q is);
     })

@@ -1,4 +1,4 @@
-use Rattle.std.proofs.Common.{sym, ap, subst, map, slice_set, string_bytes, get_or}
+use Rattle.std.proofs.Common.{refl, sym, ap, subst, map, slice_set, get_or}
 use Rattle.std.specs.Prelude.{IfErr, IfOk}
 use Rattle.dr_commands.specs.Dump.{dump_meaning, dump_view}
 use Rattle.dr_commands.specs.Query.{query_meaning, query_view}
@@ -6,9 +6,12 @@ use Rattle.dr_commands.specs.Ask.{ask_meaning, ask_view}
 use Rattle.dr_commands.specs.Stripe.{stripe_meaning, stripe_view}
 use Rattle.dr_commands.specs.Fsm.{fsm_meaning, fsm_view}
 use Rattle.dr_commands.specs.Explain.{explain_meaning, explain_view}
+use Rattle.dr_commands.specs.Gen.{gen_meaning, gen_view}
+use Rattle.dr_commands.specs.Trial.{trial_meaning, trial_view}
 use Rattle.dr_commands.specs.Commands.{CommandWords, meaning_of}
 use Rattle.dr_commands.specs.CommandView.{command_view}
 use Rattle.dr_commands.specs.ShowSchema.{show_schema_meaning, show_schema_view}
+use Rattle.dr_top.specs.Printed.{printed}
 use Rattle.dr_top.specs.World.{ForOutcome, WithFirsts}
 use Rattle.dr_top.specs.Answers.{Finishes, AsksLink}
 use Rattle.dr_top.specs.Stops.{StopsWith}
@@ -21,7 +24,7 @@ use Rattle.dr_top.proofs.commands.command_answer.Goals as goal
 
 pub returns-in-Load-clause-text : goal.returns-in-Load-clause-text
 returns-in-Load-clause-text g c =
-    subst (λ (w : CommandWords). IfOk c.answer.result (λ t. Finishes (meaning_of w) (g.K.Link.shows c.args.keeper.now) (g.K.Link.shows c.answer.new.keeper) (g.S.Source.shows c.args.source.now) (map g.L.Link.shows c.args.links.now) (map g.L.Link.shows c.args.links.now) (string_bytes t))) (sym (ap command_view c.in-Load.is))
+    subst (λ (w : CommandWords). IfOk c.answer.result (λ t. Finishes (meaning_of w) (g.K.Link.shows c.args.keeper.now) (g.K.Link.shows c.answer.new.keeper) (g.S.Source.shows c.args.source.now) (map g.L.Link.shows c.args.links.now) (map g.L.Link.shows c.args.links.now) (printed t))) (sym (ap command_view c.in-Load.is))
     (c.answer.ensures.text (map g.L.Link.shows c.args.links.now))
 
 pub returns-in-Load-clause-stops : goal.returns-in-Load-clause-stops
@@ -31,7 +34,7 @@ returns-in-Load-clause-stops g c =
 
 pub returns-in-Query-clause-text : goal.returns-in-Query-clause-text
 returns-in-Query-clause-text g c =
-    subst (λ (w : CommandWords). IfOk c.answer-in-Query.result (λ t. Finishes (meaning_of w) (g.K.Link.shows c.args.keeper.now) (g.K.Link.shows c.answer-in-Query.new.keeper) (g.S.Source.shows c.args.source.now) (map g.L.Link.shows c.args.links.now) (map g.L.Link.shows (slice_set c.args.links.now 0 c.answer-in-Query.new.link)) (string_bytes t))) (sym (ap command_view c.in-Query.is))
+    subst (λ (w : CommandWords). IfOk c.answer-in-Query.result (λ t. Finishes (meaning_of w) (g.K.Link.shows c.args.keeper.now) (g.K.Link.shows c.answer-in-Query.new.keeper) (g.S.Source.shows c.args.source.now) (map g.L.Link.shows c.args.links.now) (map g.L.Link.shows (slice_set c.args.links.now 0 c.answer-in-Query.new.link)) (printed t))) (sym (ap command_view c.in-Query.is))
     (first_answer (query_meaning (query_view c.in-Query.query)) (g.K.Link.shows c.args.keeper.now) (g.K.Link.shows c.answer-in-Query.new.keeper) (g.S.Source.shows c.args.source.now) g.L.Link.shows c.args.links.now c.index-links-0.result c.answer-in-Query.new.link c.answer-in-Query.result
     (query_puts (query_view c.in-Query.query)) c.requires.link c.answer-in-Query.ensures.kept tt c.answer-in-Query.ensures.text)
 
@@ -44,7 +47,7 @@ returns-in-Query-clause-stops g c =
 
 pub returns-in-Dump-clause-text : goal.returns-in-Dump-clause-text
 returns-in-Dump-clause-text g c =
-    subst (λ (w : CommandWords). IfOk c.answer-in-Dump.result (λ t. Finishes (meaning_of w) (g.K.Link.shows c.args.keeper.now) (g.K.Link.shows c.answer-in-Dump.new.keeper) (g.S.Source.shows c.args.source.now) (map g.L.Link.shows c.args.links.now) (map g.L.Link.shows (slice_set c.args.links.now 0 c.answer-in-Dump.new.link)) (string_bytes t))) (sym (ap command_view c.in-Dump.is))
+    subst (λ (w : CommandWords). IfOk c.answer-in-Dump.result (λ t. Finishes (meaning_of w) (g.K.Link.shows c.args.keeper.now) (g.K.Link.shows c.answer-in-Dump.new.keeper) (g.S.Source.shows c.args.source.now) (map g.L.Link.shows c.args.links.now) (map g.L.Link.shows (slice_set c.args.links.now 0 c.answer-in-Dump.new.link)) (printed t))) (sym (ap command_view c.in-Dump.is))
     (first_answer (dump_meaning (dump_view c.in-Dump.dump)) (g.K.Link.shows c.args.keeper.now) (g.K.Link.shows c.answer-in-Dump.new.keeper) (g.S.Source.shows c.args.source.now) g.L.Link.shows c.args.links.now c.index-links-0-in-Dump.result c.answer-in-Dump.new.link c.answer-in-Dump.result
     (dump_puts (dump_view c.in-Dump.dump)) c.requires.link c.answer-in-Dump.ensures.kept tt c.answer-in-Dump.ensures.text)
 
@@ -57,7 +60,7 @@ returns-in-Dump-clause-stops g c =
 
 pub returns-in-Fsm-clause-text : goal.returns-in-Fsm-clause-text
 returns-in-Fsm-clause-text g c =
-    subst (λ (w : CommandWords). IfOk c.answer-in-Fsm.result (λ t. Finishes (meaning_of w) (g.K.Link.shows c.args.keeper.now) (g.K.Link.shows c.answer-in-Fsm.new.keeper) (g.S.Source.shows c.args.source.now) (map g.L.Link.shows c.args.links.now) (map g.L.Link.shows c.args.links.now) (string_bytes t))) (sym (ap command_view c.in-Fsm.is))
+    subst (λ (w : CommandWords). IfOk c.answer-in-Fsm.result (λ t. Finishes (meaning_of w) (g.K.Link.shows c.args.keeper.now) (g.K.Link.shows c.answer-in-Fsm.new.keeper) (g.S.Source.shows c.args.source.now) (map g.L.Link.shows c.args.links.now) (map g.L.Link.shows c.args.links.now) (printed t))) (sym (ap command_view c.in-Fsm.is))
     (plain_answer (fsm_meaning (fsm_view c.in-Fsm.fsm)) (g.K.Link.shows c.args.keeper.now) (g.K.Link.shows c.answer-in-Fsm.new.keeper) (g.S.Source.shows c.args.source.now) (map g.L.Link.shows c.args.links.now) c.answer-in-Fsm.result c.answer-in-Fsm.ensures.kept
     (c.answer-in-Fsm.ensures.text (g.S.Source.shows c.args.source.now)) (on_ok _ _ tt))
 
@@ -70,7 +73,7 @@ returns-in-Fsm-clause-stops g c =
 
 pub returns-in-Explain-clause-text : goal.returns-in-Explain-clause-text
 returns-in-Explain-clause-text g c =
-    subst (λ (w : CommandWords). IfOk c.answer-in-Explain.result (λ t. Finishes (meaning_of w) (g.K.Link.shows c.args.keeper.now) (g.K.Link.shows c.answer-in-Explain.new.keeper) (g.S.Source.shows c.args.source.now) (map g.L.Link.shows c.args.links.now) (map g.L.Link.shows c.args.links.now) (string_bytes t))) (sym (ap command_view c.in-Explain.is))
+    subst (λ (w : CommandWords). IfOk c.answer-in-Explain.result (λ t. Finishes (meaning_of w) (g.K.Link.shows c.args.keeper.now) (g.K.Link.shows c.answer-in-Explain.new.keeper) (g.S.Source.shows c.args.source.now) (map g.L.Link.shows c.args.links.now) (map g.L.Link.shows c.args.links.now) (printed t))) (sym (ap command_view c.in-Explain.is))
     (plain_answer (explain_meaning (explain_view c.in-Explain.explain)) (g.K.Link.shows c.args.keeper.now) (g.K.Link.shows c.answer-in-Explain.new.keeper) (g.S.Source.shows c.args.source.now) (map g.L.Link.shows c.args.links.now) c.answer-in-Explain.result c.answer-in-Explain.ensures.kept
     (c.answer-in-Explain.ensures.text (g.S.Source.shows c.args.source.now)) (on_ok _ _ tt))
 
@@ -119,13 +122,13 @@ returns-in-ShowSchema-clause-reads g c =
 
 pub returns-in-Ask-clause-text : goal.returns-in-Ask-clause-text
 returns-in-Ask-clause-text g c =
-    subst (λ (w : CommandWords). IfOk c.answer-in-Ask.result (λ t. Finishes (meaning_of w) (g.K.Link.shows c.args.keeper.now) (g.K.Link.shows c.answer-in-Ask.new.keeper) (g.S.Source.shows c.args.source.now) (map g.L.Link.shows c.args.links.now) (map g.L.Link.shows c.args.links.now) (string_bytes t))) (sym (ap command_view c.in-Ask.is))
+    subst (λ (w : CommandWords). IfOk c.answer-in-Ask.result (λ t. Finishes (meaning_of w) (g.K.Link.shows c.args.keeper.now) (g.K.Link.shows c.answer-in-Ask.new.keeper) (g.S.Source.shows c.args.source.now) (map g.L.Link.shows c.args.links.now) (map g.L.Link.shows c.args.links.now) (printed t))) (sym (ap command_view c.in-Ask.is))
     (plain_answer (ask_meaning (ask_view c.in-Ask.ask)) (g.K.Link.shows c.args.keeper.now) (g.K.Link.shows c.answer-in-Ask.new.keeper) (g.S.Source.shows c.args.source.now) (map g.L.Link.shows c.args.links.now) c.answer-in-Ask.result c.answer-in-Ask.ensures.kept
     c.answer-in-Ask.ensures.text c.answer-in-Ask.ensures.opened)
 
 pub returns-in-Stripe-clause-text : goal.returns-in-Stripe-clause-text
 returns-in-Stripe-clause-text g c =
-    subst (λ (w : CommandWords). IfOk c.answer-in-Stripe.result (λ t. Finishes (meaning_of w) (g.K.Link.shows c.args.keeper.now) (g.K.Link.shows c.answer-in-Stripe.new.keeper) (g.S.Source.shows c.args.source.now) (map g.L.Link.shows c.args.links.now) (map g.L.Link.shows c.args.links.now) (string_bytes t))) (sym (ap command_view c.in-Stripe.is))
+    subst (λ (w : CommandWords). IfOk c.answer-in-Stripe.result (λ t. Finishes (meaning_of w) (g.K.Link.shows c.args.keeper.now) (g.K.Link.shows c.answer-in-Stripe.new.keeper) (g.S.Source.shows c.args.source.now) (map g.L.Link.shows c.args.links.now) (map g.L.Link.shows c.args.links.now) (printed t))) (sym (ap command_view c.in-Stripe.is))
     (plain_answer (stripe_meaning (stripe_view c.in-Stripe.stripe)) (g.K.Link.shows c.args.keeper.now) (g.K.Link.shows c.answer-in-Stripe.new.keeper) (g.S.Source.shows c.args.source.now) (map g.L.Link.shows c.args.links.now) c.answer-in-Stripe.result c.answer-in-Stripe.ensures.kept
     c.answer-in-Stripe.ensures.text c.answer-in-Stripe.ensures.opened)
 
@@ -140,3 +143,35 @@ returns-in-Stripe-clause-stops g c =
     subst (λ (w : CommandWords). IfErr c.answer-in-Stripe.result (StopsWith (meaning_of w) (g.K.Link.shows c.args.keeper.now) (g.K.Link.shows c.answer-in-Stripe.new.keeper) (g.S.Source.shows c.args.source.now) (g.S.Source.shows c.answer-in-Stripe.new.source) (map g.L.Link.shows c.args.links.now) (map g.L.Link.shows c.args.links.now)))
     (sym (ap command_view c.in-Stripe.is))
     (plain_stops (stripe_meaning (stripe_view c.in-Stripe.stripe)) (g.K.Link.shows c.args.keeper.now) (g.K.Link.shows c.answer-in-Stripe.new.keeper) (g.S.Source.shows c.args.source.now) (g.S.Source.shows c.answer-in-Stripe.new.source) (map g.L.Link.shows c.args.links.now) c.answer-in-Stripe.result c.answer-in-Stripe.ensures.kept c.answer-in-Stripe.ensures.stops)
+
+pub returns-in-Gen-clause-text : goal.returns-in-Gen-clause-text
+returns-in-Gen-clause-text g c =
+    subst (λ (w : CommandWords). IfOk c.answer-in-Gen.result (λ t. Finishes (meaning_of w) (g.K.Link.shows c.args.keeper.now) (g.K.Link.shows c.args.keeper.now) (g.S.Source.shows c.args.source.now) (map g.L.Link.shows c.args.links.now) (map g.L.Link.shows c.args.links.now) (printed t))) (sym (ap command_view c.in-Gen.is))
+    (plain_answer (gen_meaning (gen_view c.in-Gen.values)) (g.K.Link.shows c.args.keeper.now) (g.K.Link.shows c.args.keeper.now) (g.S.Source.shows c.args.source.now) (map g.L.Link.shows c.args.links.now) c.answer-in-Gen.result (record { held = refl; puts = refl })
+    (c.answer-in-Gen.ensures.text (g.K.Link.shows c.args.keeper.now) (g.S.Source.shows c.args.source.now)) (on_ok _ _ tt))
+
+pub returns-in-Gen-clause-stops : goal.returns-in-Gen-clause-stops
+returns-in-Gen-clause-stops g c =
+    subst (λ (w : CommandWords). IfErr c.answer-in-Gen.result (StopsWith (meaning_of w) (g.K.Link.shows c.args.keeper.now) (g.K.Link.shows c.args.keeper.now) (g.S.Source.shows c.args.source.now) (g.S.Source.shows c.args.source.now) (map g.L.Link.shows c.args.links.now) (map g.L.Link.shows c.args.links.now)))
+    (sym (ap command_view c.in-Gen.is))
+    (plain_stops (gen_meaning (gen_view c.in-Gen.values)) (g.K.Link.shows c.args.keeper.now) (g.K.Link.shows c.args.keeper.now) (g.S.Source.shows c.args.source.now) (g.S.Source.shows c.args.source.now) (map g.L.Link.shows c.args.links.now) c.answer-in-Gen.result (record { held = refl; puts = refl })
+    (c.answer-in-Gen.ensures.stops (g.K.Link.shows c.args.keeper.now) (g.S.Source.shows c.args.source.now)))
+
+pub returns-in-Gen-clause-reads : goal.returns-in-Gen-clause-reads
+returns-in-Gen-clause-reads g c = none_asked (meaning_of (command_view c.args.command.now)) (g.K.Link.shows c.args.keeper.now) (g.S.Source.shows c.args.source.now) (map g.L.Link.shows c.args.links.now)
+
+pub returns-in-Trial-clause-text : goal.returns-in-Trial-clause-text
+returns-in-Trial-clause-text g c =
+    subst (λ (w : CommandWords). IfOk c.answer-in-Trial.result (λ t. Finishes (meaning_of w) (g.K.Link.shows c.args.keeper.now) (g.K.Link.shows c.args.keeper.now) (g.S.Source.shows c.args.source.now) (map g.L.Link.shows c.args.links.now) (map g.L.Link.shows c.args.links.now) (printed t))) (sym (ap command_view c.in-Trial.is))
+    (plain_answer (trial_meaning (trial_view c.in-Trial.trial)) (g.K.Link.shows c.args.keeper.now) (g.K.Link.shows c.args.keeper.now) (g.S.Source.shows c.args.source.now) (map g.L.Link.shows c.args.links.now) c.answer-in-Trial.result (record { held = refl; puts = refl })
+    (c.answer-in-Trial.ensures.text (g.K.Link.shows c.args.keeper.now) (g.S.Source.shows c.args.source.now)) (on_ok _ _ tt))
+
+pub returns-in-Trial-clause-stops : goal.returns-in-Trial-clause-stops
+returns-in-Trial-clause-stops g c =
+    subst (λ (w : CommandWords). IfErr c.answer-in-Trial.result (StopsWith (meaning_of w) (g.K.Link.shows c.args.keeper.now) (g.K.Link.shows c.args.keeper.now) (g.S.Source.shows c.args.source.now) (g.S.Source.shows c.args.source.now) (map g.L.Link.shows c.args.links.now) (map g.L.Link.shows c.args.links.now)))
+    (sym (ap command_view c.in-Trial.is))
+    (plain_stops (trial_meaning (trial_view c.in-Trial.trial)) (g.K.Link.shows c.args.keeper.now) (g.K.Link.shows c.args.keeper.now) (g.S.Source.shows c.args.source.now) (g.S.Source.shows c.args.source.now) (map g.L.Link.shows c.args.links.now) c.answer-in-Trial.result (record { held = refl; puts = refl })
+    (c.answer-in-Trial.ensures.stops (g.K.Link.shows c.args.keeper.now) (g.S.Source.shows c.args.source.now)))
+
+pub returns-in-Trial-clause-reads : goal.returns-in-Trial-clause-reads
+returns-in-Trial-clause-reads g c = none_asked (meaning_of (command_view c.args.command.now)) (g.K.Link.shows c.args.keeper.now) (g.S.Source.shows c.args.source.now) (map g.L.Link.shows c.args.links.now)

@@ -1,31 +1,30 @@
 use Rattle.std.proofs.Common.{◌≡◌, refl, ap, subst, ◌∙◌, map, string_bytes, List, ℕ}
-use Rattle.dr_outside.specs.Sink.{AddedWhole, AddedFront}
 use Rattle.dr_reading.specs.LeftText.{left_text}
 use Rattle.dr_tablets.specs.Views.{all_left_view}
 use Rattle.dr_tablets.specs.declared.left.LeftTablet.{LeftTablet}
 use Rattle.dr_commands.specs.Commands.{meant}
+use Rattle.dr_top.specs.Printed.{printed}
 use Rattle.dr_top.specs.Ends.{Says}
 use Rattle.dr_top.specs.Answers.{StopsMeant}
 use Rattle.dr_top.specs.declared.stop.Stop.{Stop}
-use Rattle.dr_top.proofs.RunLemmas.{prints_end, out_failed, usage_end, usage_counts, memory_end, memory_counts, source_failed, source_incomplete, keeper_failed, keeper_incomplete, refused_end, refused_counts, refused_incomplete, left_end, left_counts, left_memory, file_end, file_counts, file_incomplete}
-use Rattle.dr_top.proofs.ServedLemmas.{served_by, left_complete}
+use Rattle.dr_top.proofs.RunLemmas.{prints_end, out_failed, usage_end, usage_counts, usage_incomplete, memory_end, memory_counts, source_failed, source_incomplete, keeper_failed, keeper_incomplete, refused_end, refused_counts, refused_incomplete, left_end, left_counts, left_memory, file_end, file_counts, file_incomplete}
+use Rattle.dr_top.proofs.ServedLemmas.{served_by, served_else, left_complete}
 use Rattle.dr_top.proofs.running.run.Goals as goal
 
-pub returns-in-Ok-write_all-clause-prints : goal.returns-in-Ok-write_all-clause-prints
-returns-in-Ok-write_all-clause-prints g c = λ _.
-    prints_end _ _ _ _ _ _ _ _ _ _ (meant (map string_bytes c.args.words.now)) (string_bytes c.in-Ok.text) c.in-Ok.ensures.text c.in-Ok.ensures.read
-    (subst (λ (b : List ℕ). AddedWhole (g.O.Sink.shows c.args.out.now) (g.O.Sink.shows c.write_all.new.out) b) c.as_bytes.ensures.value c.in-Ok-write_all.ensures.whole) refl
+pub returns-in-Ok-write_to-clause-prints : goal.returns-in-Ok-write_to-clause-prints
+returns-in-Ok-write_to-clause-prints g c = λ _.
+    prints_end _ _ _ _ _ _ _ _ _ _ (meant (map string_bytes c.args.words.now)) (printed c.in-Ok.output) c.in-Ok.ensures.text c.in-Ok.ensures.read c.in-Ok-write_to.ensures.whole refl
 
 pub returns-in-Ok-clause-outside : goal.returns-in-Ok-clause-outside
 returns-in-Ok-clause-outside g c = λ _.
-    out_failed _ _ _ _ _ _ _ _ _ _ (meant (map string_bytes c.args.words.now)) (string_bytes c.in-Ok.text) c.in-Ok.ensures.text c.in-Ok.ensures.read
-    (subst (λ (b : List ℕ). AddedFront (g.O.Sink.shows c.args.out.now) (g.O.Sink.shows c.write_all.new.out) b) c.as_bytes.ensures.value c.in-Err.ensures.front) c.in-Err.ensures.cause c.in-Ok.ensures.keeper_calm c.in-Ok.ensures.source_calm c.say.ensures
+    out_failed _ _ _ _ _ _ _ _ _ _ (meant (map string_bytes c.args.words.now)) (printed c.in-Ok.output) c.in-Ok.ensures.text c.in-Ok.ensures.read
+    c.in-Err.ensures.front c.in-Err.ensures.cause c.in-Ok.ensures.keeper_calm c.in-Ok.ensures.source_calm c.say.ensures
 
 pub returns-in-Err-Usage-clause-usage : goal.returns-in-Err-Usage-clause-usage
 returns-in-Err-Usage-clause-usage g c = λ _.
     usage_end _ _ _ _ _ _ _ _ _ _ (meant (map string_bytes c.args.words.now))
     (subst (λ (s : Stop). StopsMeant (meant (map string_bytes c.args.words.now)) (g.K.Link.shows c.args.keeper.now) (g.K.Link.shows c.answer.new.keeper) (g.S.Source.shows c.args.source.now) (g.S.Source.shows c.answer.new.source) (map g.L.Link.shows c.args.links.now) (map g.L.Link.shows c.answer.new.links) s) c.in-Err-Usage.field-0-is c.in-Err-Usage.ensures.stops) refl
-    (subst (λ (line : List ℕ). Says (g.E.Sink.shows c.args.err.now) (g.E.Sink.shows c.say-in-Err-Usage.new.err) line) c.as_bytes-in-Err-Usage.ensures.value c.say-in-Err-Usage.ensures)
+    (subst (λ (line : List ℕ). Says (g.E.Sink.shows c.args.err.now) (g.E.Sink.shows c.say-in-Err-Usage.new.err) line) c.as_bytes.ensures.value c.say-in-Err-Usage.ensures)
 
 pub returns-in-Err-NoMemory-clause-memory : goal.returns-in-Err-NoMemory-clause-memory
 returns-in-Err-NoMemory-clause-memory g c = λ _.
@@ -117,3 +116,31 @@ returns-in-Ok-left_text-clause-complete g c = left_complete _ _ _ (returns-in-Ok
 
 pub returns-clause-served : goal.returns-clause-served
 returns-clause-served g c = served_by _ _ _ 3 (returns-clause-left g c refl)
+
+pub returns-in-Err-Usage-clause-complete : goal.returns-in-Err-Usage-clause-complete
+returns-in-Err-Usage-clause-complete g c =
+    usage_incomplete _ _ _ _ _ _ _ _ _ _ (meant (map string_bytes c.args.words.now)) 1 (subst (λ (s : Stop). StopsMeant (meant (map string_bytes c.args.words.now)) (g.K.Link.shows c.args.keeper.now) (g.K.Link.shows c.answer.new.keeper) (g.S.Source.shows c.args.source.now) (g.S.Source.shows c.answer.new.source) (map g.L.Link.shows c.args.links.now) (map g.L.Link.shows c.answer.new.links) s) c.in-Err-Usage.field-0-is c.in-Err-Usage.ensures.stops)
+
+pub returns-in-Ok-write_to-clause-served : goal.returns-in-Ok-write_to-clause-served
+returns-in-Ok-write_to-clause-served g c = served_else _ _ 0 refl
+
+pub returns-in-Ok-clause-served : goal.returns-in-Ok-clause-served
+returns-in-Ok-clause-served g c = served_else _ _ 4 refl
+
+pub returns-in-Err-Usage-clause-served : goal.returns-in-Err-Usage-clause-served
+returns-in-Err-Usage-clause-served g c = served_else _ _ 1 refl
+
+pub returns-in-Err-NoMemory-clause-served : goal.returns-in-Err-NoMemory-clause-served
+returns-in-Err-NoMemory-clause-served g c = served_else _ _ 5 refl
+
+pub returns-in-Err-Source-clause-served : goal.returns-in-Err-Source-clause-served
+returns-in-Err-Source-clause-served g c = served_else _ _ 4 refl
+
+pub returns-in-Err-Keeper-clause-served : goal.returns-in-Err-Keeper-clause-served
+returns-in-Err-Keeper-clause-served g c = served_else _ _ 4 refl
+
+pub returns-in-Err-Refused-clause-served : goal.returns-in-Err-Refused-clause-served
+returns-in-Err-Refused-clause-served g c = served_else _ _ 2 refl
+
+pub returns-in-Err-Left-clause-served : goal.returns-in-Err-Left-clause-served
+returns-in-Err-Left-clause-served g c = served_else _ _ 5 refl

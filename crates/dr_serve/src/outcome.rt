@@ -1,0 +1,14 @@
+use dr_group::Partial;
+use dr_tablets::LeftTablet;
+
+/// What serving a query ends with.
+#[derive(Debug, Drop)]
+pub enum Outcome {
+    /// What the tree gathers of a piece of each tablet.
+    Finished(Partial),
+    /// What the tree gathers of a piece of each tablet that isn't left, where these are at least the share that was
+    /// asked for; and the tablets that are left, in their order, never none. Of each the first link tried all copies.
+    Most(Partial, Vec<LeftTablet>),
+    /// The tablets that are left, as above, where the others are less than that share.
+    Unfinished(Vec<LeftTablet>),
+}

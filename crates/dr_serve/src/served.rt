@@ -1,0 +1,132 @@
+// A table's tablets, handed out to workers.
+ghost use Rattle.std.specs.Prelude.{◌≡◌, ◌<◌, length, All, IfOk, List};
+ghost use Rattle.dr_dispatch.specs.Pieces.{KeepsPieces};
+ghost use Rattle.dr_dispatch.specs.declared.event.Event.{Event as Recorded};
+ghost use Rattle.dr_nested.specs.SchemaView.{schema_view};
+ghost use Rattle.dr_table.specs.Views.{table_view};
+ghost use Rattle.dr_plan.specs.Planned.{IsOfSchema};
+ghost use Rattle.dr_serve.specs.Working.{table_job, table_leaves, TakesFrom};
+ghost use Rattle.dr_serve.specs.Links.{Worked};
+ghost use Rattle.dr_serve.specs.Serving.{OfEachLink};
+
+use crate::found::Found;
+use crate::job::job_of;
+use crate::lent::for_each_worker;
+use crate::worker::work;
+use dr_desk::{Board, Desk, Ground, Naming, Pass, Room};
+use dr_memory::NoMemory;
+use dr_outside::Link;
+use dr_plan::Plan;
+use dr_table::Table;
+use std::alloc::Global;
+use std::sync::{Mutex, Wait};
+use std::thread::Threads;
+
+// A worker, which takes the pass of its number.
+fn start<N: Naming<Found>, B: Room, L: Link, R: Wait>(
+    rt: &R,
+    alloc: Global,
+    desk: &Desk<Found, N, B>,
+    plan: &Plan,
+    table: &Table,
+    passes: &[Mutex<Option<Pass<B>>>],
+    worker: usize,
+    link: &mut L,
+)
+    requires planned { IsOfSchema (schema_view (table.now).schema) plan.now }
+    requires job { N.job.leaves ≡ table_leaves (table_view table.now) }
+    requires truth { TakesFrom (table_view table.now) plan.now N.is_true (L.shows link.old).held }
+    ensures { Worked (table_view table.now) plan.now (L.shows link.old) (L.shows link.new) }
+{
+    let Some(slot) = passes.get(worker) else {
+        return;
+    };
+    let Some(mut pass) = slot.lock(rt).take() else {
+        return;
+    };
+    // What a worker without memory left is done by the others, or after them.
+    let _ = work(rt, alloc, desk, plan, table, link, &mut pass);
+}
+
+// Starts a worker for each link, and waits until all have ended.
+fn hand_out<
+    N: Naming<Found> + Send + Sync,
+    B: Room + Send + Sync,
+    L: Link + Send,
+    R: Threads + Wait + Sync,
+>(
+    rt: &R,
+    alloc: Global,
+    desk: &Desk<Found, N, B>,
+    plan: &Plan,
+    table: &Table,
+    passes: &[Mutex<Option<Pass<B>>>],
+    links: &mut [L],
+)
+    requires planned { IsOfSchema (schema_view (table.now).schema) plan.now }
+    requires job { N.job.leaves ≡ table_leaves (table_view table.now) }
+    requires some { 0 < length links.old }
+    requires truth { All (λ l. TakesFrom (table_view table.now) plan.now N.is_true (L.shows l).held) links.old }
+    ensures links { OfEachLink L.shows (Worked (table_view table.now) plan.now) links.old links.new }
+    ensures count { length links.new ≡ length links.old }
+{
+    for_each_worker(
+        rt,
+        plan,
+        table,
+        desk,
+        links,
+        &|plan: &Plan, table: &Table, desk: &Desk<Found, N, B>, worker: usize, link: &mut L|
+            requires { IsOfSchema (schema_view (table.now).schema) plan.now
+                × (N.job.leaves ≡ table_leaves (table_view table.now))
+                × TakesFrom (table_view table.now) plan.now N.is_true (L.shows link.now).held }
+            ensures { Worked (table_view table.entry.now) plan.entry.now (L.shows link.entry.now)
+                (L.shows link.exit.now) }
+        { start(rt, alloc, desk, plan, table, passes, worker, link) },
+    );
+}
+
+// What the workers found: a piece of each tablet that was answered.
+pub(crate) fn served<
+    N: Naming<Found> + Send + Sync,
+    B: Room + Send + Sync,
+    L: Link + Send,
+    R: Threads + Wait + Sync,
+>(
+    rt: &R,
+    alloc: Global,
+    ground: Ground,
+    plan: &Plan,
+    table: &Table,
+    links: &mut [L],
+    lag: u64,
+) -> Result<Vec<Found>, NoMemory>
+    requires ground { ground ≡ B.table }
+    requires planned { IsOfSchema (schema_view (table.now).schema) plan.now }
+    requires job { N.job ≡ table_job (table_view table.now) lag }
+    requires some { 0 < length links.old }
+    requires truth { All (λ l. TakesFrom (table_view table.now) plan.now N.is_true (L.shows l).held) links.old }
+    ensures pieces { IfOk result (λ v. (history : List Recorded)
+        × KeepsPieces N.job (λ f. f.tablet) N.is_true history v.items) }
+    ensures links { OfEachLink L.shows (Worked (table_view table.now) plan.now) links.old links.new }
+    ensures count { length links.new ≡ length links.old }
+{
+    let job = job_of(alloc, table, lag)?;
+    let board: Board<Found, N> = Board::new(alloc, &job)?;
+    let (desk, passes) = Desk::<Found, N, B>::new(alloc, ground, board, links.len())?;
+    let slots = slots_of(alloc, passes)?;
+    hand_out(rt, alloc, &desk, plan, table, slots.as_slice(), links);
+    Ok(desk.shut(Vec::new(alloc)).pieces)
+}
+
+// Each pass under a lock of its own.
+fn slots_of<B: Room>(
+    alloc: Global,
+    passes: Vec<Pass<B>>,
+) -> Result<Vec<Mutex<Option<Pass<B>>>>, NoMemory> {
+    let mut slots = Vec::new(alloc);
+    for pass in passes {
+        slots.push(Mutex::new(Some(pass)))?;
+    }
+    Ok(slots)
+}

@@ -1,0 +1,36 @@
+//! The answer of `trial`.
+
+ghost use Rattle.std.specs.Prelude.{[], IfOk, IfErr};
+ghost use Rattle.dr_outside.specs.Source.{SourceShown};
+ghost use Rattle.dr_outside.specs.Link.{LinkShown};
+ghost use Rattle.dr_commands.specs.Meaning.{done};
+ghost use Rattle.dr_commands.specs.Trial.{trial_meaning, trial_view};
+ghost use Rattle.dr_top.specs.Printed.{printed};
+ghost use Rattle.dr_top.specs.World.{HasOutcome};
+ghost use Rattle.dr_top.specs.Stops.{StopsPlain};
+
+use crate::output::Output;
+use crate::stop::Stop;
+use dr_ask::ask_input;
+use dr_bind::read_query;
+use dr_commands::Trial;
+use dr_gen::{GenSource, document_text, trial_query};
+use dr_nested::parse_schema;
+use std::alloc::Global;
+use std::thread::Threads;
+
+/// The text that `trial` prints: that of `ask`, of which made records are the input.
+///
+/// Errors: the first line past those that 4,096 tablets hold; want of memory.
+pub fn answer<R: Threads + Sync>(rt: &R, alloc: Global, words: &Trial) -> Result<Output, Stop>
+    ensures text { (keeper : LinkShown) (input : SourceShown) → IfOk result
+        (λ t. HasOutcome (trial_meaning (trial_view words.now)) keeper input (done (printed t) [])) }
+    ensures stops { (keeper : LinkShown) (input : SourceShown) → IfErr result
+        (StopsPlain (trial_meaning (trial_view words.now)) keeper keeper input input) }
+{
+    let schema = parse_schema(alloc, document_text().as_bytes())?;
+    let plan = read_query(alloc, &schema, trial_query())?;
+    let mut lines = GenSource::new(alloc, u64::from(words.seed), u64::from(words.records))?;
+    let text = ask_input(rt, alloc, schema, &plan, words.rows, words.fan, &mut lines)?;
+    Ok(Output::Text(text))
+}
