@@ -1,6 +1,7 @@
 #!/usr/bin/env bash
 # Measures four queries over N generated records (150,000 where no N is given, about 22 MB of JSON), loaded into one tablet and into ten, and asked of the records
-# themselves: a line for each: processor seconds, wall seconds, and the most memory in MB. Then one of them over a tenth of the records, by which time and memory grow.
+# themselves: a line for each: processor seconds, wall seconds, and the most memory in MB. Then one of them over a tenth of the records, by which time and memory grow,
+# and over the ten tablets with one worker, two and four: let nothing else run.
 # usage: bench/query.sh [N] [PROGRAM]
 set -euo pipefail
 count=${1:-150000}
@@ -44,3 +45,23 @@ asked "groups" "SELECT Name.Language.Country, COUNT(*) AS n, SUM(DocId) AS s FRO
 asked "objects" "SELECT DocId, COUNT(Name.Language.Code) WITHIN Name AS codes FROM Document WHERE Name.Url LIKE 'http://u/1%'"
 asked "selective count" "SELECT COUNT(*) AS n FROM Document WHERE DocId < 100"
 measured "five aggregates, a tenth of the records" /dev/null query --table "$work/tenth.table" "$five"
+
+
+# by workers: the least wall and processor seconds of five runs over the ten tablets, and what they are of one worker's
+python3 - "$program" "$work/ten.table" "$five" <<'PY'
+import os, resource, subprocess, sys, time
+program, table, query = sys.argv[1:]
+
+def once(workers):
+    begun, used = time.time(), resource.getrusage(resource.RUSAGE_CHILDREN)
+    subprocess.check_call([program, "query", "--table", table, "--workers", str(workers), query], stdout=subprocess.DEVNULL)
+    now = resource.getrusage(resource.RUSAGE_CHILDREN)
+    return time.time() - begun, now.ru_utime + now.ru_stime - used.ru_utime - used.ru_stime
+
+best = {}
+for workers in (1, 2, 4):
+    runs = [once(workers) for _ in range(5)]
+    best[workers] = wall, processor = min(it[0] for it in runs), min(it[1] for it in runs)
+    print(f"five aggregates, ten tablets, {workers} workers{'':9} processor {processor:7.2f} s ({processor / best[1][1]:.2f} of one's)  "
+          f"wall {wall:7.2f} s ({wall / best[1][0]:.2f} of one's)")
+PY

@@ -1,7 +1,7 @@
 -- What is printed of a table that is held.
-use Rattle.std.specs.Prelude.{◌≡◌, ◌<◌, ℕ, zero, suc, List, [], ◌∷◌, map, true, Option, Some, None, IsTrue}
+use Rattle.std.specs.Prelude.{⊤, ◌≡◌, ◌<◌, ◌≤◌, ℕ, zero, suc, List, [], ◌∷◌, All, length, map, take, true, Option, Some, None, IsTrue}
 use Rattle.std.specs.List.{list_all, slice_get}
-use Rattle.std.proofs.Common.{refl, sym, ap, ◌∙◌, subst}
+use Rattle.std.proofs.Common.{arith, inl, inr, refl, sym, ap, ◌∙◌, subst}
 use Rattle.std.proofs.lemmas.Bool.{and_from}
 use Rattle.dr_meaning.specs.Schema.{Schema}
 use Rattle.dr_meaning.specs.Path.{Leaf, leaves, is_leaf_path, paths_of_leaves}
@@ -18,16 +18,14 @@ use Rattle.dr_formats.proofs.ColumnsFit.{EachLeaf}
 use Rattle.dr_outside.specs.Link.{Files, LinkShown}
 use Rattle.dr_tablets.specs.FileRecords.{AreLeavesOf}
 use Rattle.dr_tablets.proofs.LeafLemmas.{used_are_leaves}
-use Rattle.dr_reading.specs.Scan.{joined, tablets_of}
-use Rattle.dr_reading.specs.Given.{AreGiven}
+use Rattle.dr_reading.specs.Scan.{Copy, joined, tablets_of}
+use Rattle.dr_reading.specs.Given.{IsGiven, AreGiven}
 use Rattle.dr_reading.specs.Left.{LeftTablet}
-use Rattle.dr_reading.specs.InTurn.{left_from}
-use Rattle.dr_reading.proofs.InTurnLemmas.{read_in_turn_is_given, read_in_turn_leaves_just}
 use Rattle.dr_reading.proofs.ReadingLemmas.{given_are_projected}
-use Rattle.dr_tablets.specs.Tablets.{LeavesTablets}
 use Rattle.dr_plan.specs.declared.plan.Plan.{Plan}
 use Rattle.dr_plan.specs.PlanOf.{IsPlanOf}
-use Rattle.dr_query.specs.Answers.{IsAnswerOf}
+use Rattle.dr_serve.specs.Counted.{OneGives, AreCounted, no_more, is_counted, is_not_counted, AreLeftOf, held_of}
+use Rattle.dr_query.specs.Answers.{IsAnswerBut}
 use Rattle.dr_load.specs.Loaded.{TabletsAreFiles}
 use Rattle.dr_load.proofs.LoadedLemmas.{files_are_held}
 use Rattle.dr_ask.specs.Asked.{HoldsTableOf}
@@ -76,16 +74,42 @@ answer_is_of t q p (Some files) R text h b a =
     (given_are_projected t.schema F files (Some files) (tablets_of t) h.0 a.0 (all_leaf_paths t.schema F (query_among t.schema q)) (λ path. refl) (files_are_held t.schema F files (tablets_of t) h.0 f) a.1)
     ∙ ap (answer_text t.schema q) h.1
 
-pub answer_is : (t : Table) (q : Query) (p : Plan) (l now : LinkShown) (R : List Node) (text : List ℕ) → HoldsTableOf t l.held R → IsPlanOf t.schema q p → IsAnswerOf t q l now text → text ≡ answer_text t.schema q R
-answer_is t q p l now R text h b a =
-    let F : List Leaf = query_leaves t.schema.fields q in
-    let Rs : AreGiven t.schema F l.held (tablets_of t) a.0 = subst (AreGiven t.schema F l.held (tablets_of t)) a.1.3 (read_in_turn_is_given t.schema F l (tablets_of t) a.1.0 a.1.1.each a.1.2) in
-    answer_is_of t q p l.held R text h b (a.0, Rs, a.2)
+-- ---- what links hold that hold the same
+
+abbrev AllHold : Files → List LinkShown → Type 0
+AllHold files [] = ⊤
+AllHold files (l ∷ ls) = (l.held ≡ Some files) × AllHold files ls
+
+hold_taken : {L : Type 0} (shows : L → LinkShown) (files : Files) (n : ℕ) (links : List L) → All (λ l. (shows l).held ≡ Some files) links → AllHold files (map shows (take n links))
+hold_taken shows files zero links h = tt
+hold_taken shows files (suc n) [] h = tt
+hold_taken shows files (suc n) (l ∷ links) h = (h 0 l (omega arith), hold_taken shows files n links (λ i x lt. h (suc i) x (omega (arith, lt))))
+
+-- what one of them gives each gives
+one_gives : (s : Schema) (F : List Leaf) (files : Files) (links : List LinkShown) (cs : List Copy) (R : List Node) → AllHold files links → OneGives s F (held_of links) cs R → IsGiven s F (Some files) cs R
+one_gives s F files [] cs R a h = absurd h
+one_gives s F files (l ∷ links) cs R a (inl g) = subst (λ (o : Option Files). IsGiven s F o cs R) a.0 g
+one_gives s F files (l ∷ links) cs R a (inr h) = one_gives s F files links cs R a.1 h
+
+all_given : (s : Schema) (F : List Leaf) (files : Files) (links : List LinkShown) (i : ℕ) (ts : List (List Copy)) (left : List LeftTablet) (Rs : List (List Node)) → AllHold files links → AreCounted s F (held_of links) i ts left Rs → left ≡ []
+    → AreGiven s F (Some files) ts Rs
+all_given s F files links i ts left Rs a (no_more j) e = tt
+all_given s F files links i ts left Rs a (is_counted j cs rest more R Ss h k) e = (one_gives s F files links cs R a h, all_given s F files links (suc j) rest more Ss a k e)
+all_given s F files links i ts left Rs a (is_not_counted j cs rest more tried Ss k) e = absurd (cc)
+
+-- ---- what is printed of a table that is held
+
+pub answer_is : {L : Type 0} (shows : L → LinkShown) (t : Table) (q : Query) (p : Plan) (n : ℕ) (links : List L) (files : Files) (R : List Node) (text : List ℕ) → All (λ l. (shows l).held ≡ Some files) links
+    → HoldsTableOf t (Some files) R → IsPlanOf t.schema q p → IsAnswerBut t q (map shows (take n links)) [] text → text ≡ answer_text t.schema q R
+answer_is shows t q p n links files R text a h b is =
+    answer_is_of t q p (Some files) R text h b
+    (is.0, all_given t.schema (query_leaves t.schema.fields q) files (map shows (take n links)) 0 (tablets_of t) [] is.0 (hold_taken shows files n links a) is.1 refl, is.2)
 
 -- no tablet is left
-pub nothing_left : (t : Table) (q : Query) (link now : LinkShown) (o : Option Files) (R : List Node) (left : List LeftTablet) → link.held ≡ o → 0 < t.copies → IsTrue link.is_steady → HoldsTableOf t o R
-    → LeavesTablets t (query_leaves t.schema.fields q) left link now → ⊥
-nothing_left t q link now None R left e c s h l = h
-nothing_left t q link now (Some files) R left e c s h l =
+pub steady_leaves_none : {L : Type 0} (shows : L → LinkShown) (t : Table) (q : Query) (n : ℕ) (links : List L) (now : ℕ) (files : Files) (R : List Node) (left : List LeftTablet) → 0 < n → n ≤ length links → All (λ l. (shows l).held ≡ Some files) links
+    → All (λ l. IsTrue (shows l).is_steady) links → 0 < t.copies → HoldsTableOf t (Some files) R → AreLeftOf t.schema (query_leaves t.schema.fields q) (tablets_of t) (map shows (take n links)) now left → ⊥
+steady_leaves_none shows t q zero links now files R left some many a s c h l = absurd (omega (arith, some))
+steady_leaves_none shows t q (suc n) [] now files R left some many a s c h l = absurd (omega (arith, many))
+steady_leaves_none shows t q (suc n) (x ∷ links) now files R left some many a s c h l =
     let F : List Leaf = query_leaves t.schema.fields q in
-    l.3 (sym l.2 ∙ none_left t.schema F link files e s 0 (tablets_of t) (left_from 0 l.0) h.0 (have_copies t.leaves t.copies 0 t.tablets c) (h.2 F (query_among t.schema q)) (read_in_turn_leaves_just t.schema F link (tablets_of t) l.0 l.1.each))
+    l.0 (none_left t.schema F (shows x) files (a 0 x (omega arith)) (s 0 x (omega arith)) 0 (tablets_of t) left h.0 (have_copies t.leaves t.copies 0 t.tablets c) (h.2 F (query_among t.schema q)) l.1)

@@ -1,5 +1,5 @@
 -- An input that is loaded into memory.
-use Rattle.std.specs.Prelude.{◌≡◌, ◌<◌, ◌≤◌, ℕ, List, [], length, true, Option, Some, None, MatchOption, Ok, Err, ⊤}
+use Rattle.std.specs.Prelude.{◌≡◌, ◌<◌, ◌≤◌, ℕ, All, List, [], length, true, Option, Some, None, MatchOption, Ok, Err, ⊤}
 use Rattle.std.proofs.Common.{arith, sym, ap, ◌∙◌, subst}
 use Rattle.dr_meaning.specs.Schema.{Schema, is_schema}
 use Rattle.dr_meaning.specs.Query.{Query}
@@ -10,6 +10,10 @@ use Rattle.dr_formats.specs.Loading.{Plan, most_loaded, table_of, load}
 use Rattle.dr_formats.specs.TableFile.{Table}
 use Rattle.dr_formats.specs.Tablets.{tablets}
 use Rattle.dr_outside.specs.Link.{Files}
+use Rattle.dr_outside.specs.Shelf.{files_of}
+use Rattle.dr_outside.specs.MemLink.{shelf_of}
+use Rattle.dr_outside.specs.declared.shelf.Shelf.{Shelf}
+use Rattle.dr_outside.specs.declared.mem_link.MemLink.{MemLink}
 use Rattle.dr_load.specs.Loads.{taken_of, LoadsTable}
 use Rattle.dr_input.specs.Taken.{WhereTold}
 use Rattle.dr_load.specs.Loaded.{IsPlan, IsApart}
@@ -80,3 +84,8 @@ memory_holds s ds es rows count input before now m l e =
 pub memory_answers : (s : Schema) (q : Query) (ds : List (List ℕ)) (rows count : ℕ) (input : Option (List ℕ)) (before now : Files) (text : List ℕ) → IsMemory s ds rows → (l : LoadsMemory s ds rows count input before now)
     → text ≡ answer_text s q l.records → WhereTold input (IsAnswerTo s q rows text)
 memory_answers s q ds rows count input before now text m l e = answers_input (memory_plan s ds rows) q count input before now text (memory_is_plan s ds rows m) tt l e
+
+-- ---- links to the table in memory
+
+pub lent_hold : (shelf : Shelf) (lent links : List MemLink) → links ≡ lent → All (λ l. shelf_of l ≡ shelf) lent → All (λ l. Some (files_of (shelf_of l)) ≡ Some (files_of shelf)) links
+lent_hold shelf lent links e h i x lt = ap (λ (s : Shelf). Some (files_of s)) (subst (λ (ls : List MemLink). All (λ l. shelf_of l ≡ shelf) ls) (sym e) h i x lt)

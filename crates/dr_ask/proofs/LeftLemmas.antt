@@ -8,7 +8,7 @@ use Rattle.dr_formats.specs.File.{IsFileOf}
 use Rattle.dr_formats.specs.Writing.{file_bytes}
 use Rattle.dr_outside.specs.Link.{Files, LinkShown, Holds}
 use Rattle.dr_reading.specs.Scan.{Copy, tablets_from}
-use Rattle.dr_reading.specs.Left.{Tried, LeftTablet, AreTried, LeavesJust, no_tablets, is_answered, is_left}
+use Rattle.dr_reading.specs.Left.{Tried, LeftTablet, AreTried, LeftUnanswered, no_tablets, is_answered, is_left}
 use Rattle.dr_reading.proofs.ReadingLemmas.{left_holds_no_file}
 use Rattle.dr_load.specs.Loaded.{TabletsAreFiles}
 
@@ -31,7 +31,7 @@ module _ (s : Schema) (F : List Leaf) (link : LinkShown) (files : Files) (held :
   none_tried c cs [] R f e h = h
   none_tried c cs (t ∷ ts) R f e h = left_holds_no_file s F link files c.path (file_bytes s R) t.cause R held e h.1 (h.1.1 steady (there c.path (file_bytes s R) e)) f
 
-  pub none_left : (t : ℕ) (cs : List (List Copy)) (left : List LeftTablet) (Rs : List (List Node)) → HaveCopies cs → TabletsAreFiles s F files cs Rs → LeavesJust s F link t cs left → left ≡ []
+  pub none_left : {HasAnswer : List Copy → Type 0} (t : ℕ) (cs : List (List Copy)) (left : List LeftTablet) (Rs : List (List Node)) → HaveCopies cs → TabletsAreFiles s F files cs Rs → LeftUnanswered s F link HasAnswer t cs left → left ≡ []
   none_left t cs left Rs c f (no_tablets u) = refl
   none_left t cs left [] c f (is_answered u xs rest more g k) = absurd f
   none_left t cs left (R ∷ Rs) c f (is_answered u [] rest more g k) = absurd c

@@ -13,13 +13,16 @@ ghost use Rattle.dr_input.specs.Taken.{WhereTold, AcceptsRead};
 ghost use Rattle.dr_ask.specs.Asked.{IsAnswerTo};
 
 use crate::answering::answer_steady;
+use crate::lent::lent;
 use dr_load::{LoadFault, Plan as LoadPlan, load};
 use dr_memory::NoMemory;
 use dr_nested::Schema;
 use dr_outside::{Shelf, Source};
 use dr_plan::Plan;
+use dr_query::Service;
 use dr_table::Table;
 use std::alloc::Global;
+use std::sync::Wait;
 use std::thread::Threads;
 
 /// The one directory of a table in memory.
@@ -32,25 +35,27 @@ fn one_leaf(alloc: Global) -> Result<Vec<String>, NoMemory>
 }
 
 /// What a plan's query prints of the records of an input, which is read to its end. They are loaded into memory as a
-/// table, `rows` of them to a tablet, and the answer is that of the table, whose serving tree has at most `fan`
-/// children to a server.
+/// table, `rows` of them to a tablet, and the answer is that of the table, served so: each worker has a link of its own to
+/// the one shelf.
 ///
 /// Errors: the first line that is refused, as is each past 4,096 times `rows`; the source failed, and no whole line
 /// that it gave before is refused; want of memory. Nothing else: no tablet of the table is left, whether the source
 /// tells its bytes or not.
-pub fn ask_input<R: Threads + Sync, S: Source>(
+pub fn ask_input<R: Threads + Wait + Sync, S: Source>(
     rt: &R,
     alloc: Global,
     schema: Schema,
     plan: &Plan,
     rows: u32,
-    fan: u32,
+    service: &Service,
     source: &mut S,
 ) -> Result<String, LoadFault>
     requires planned { IsOfSchema (schema_view schema) plan.now }
     requires has_rows { 0 < rows }
     requires few_rows { rows ≤ 1000000 }
-    requires fan { 1 ≤ fan }
+    requires workers { 0 < (service.now).workers }
+    requires fan { 1 ≤ (service.now).fan }
+    requires least { (service.now).least ≡ 100 }
     ensures text { IfOk result (λ t. (q : Query) → IsPlanOf (schema_view schema) q plan.now
         → WhereTold (S.shows source.old).left (IsAnswerTo (schema_view schema) q rows (string_bytes t))) }
     ensures end { OnOk result (WhereTold (S.shows source.old).left (λ _. (S.shows source.new).left ≡ Some [])) }
@@ -84,5 +89,6 @@ pub fn ask_input<R: Threads + Sync, S: Source>(
         copies: 1,
         tablets,
     };
-    answer_steady(rt, alloc, &mut shelf, &table, plan, fan)
+    let mut links = lent(alloc, &shelf, service.workers)?;
+    answer_steady(rt, alloc, &mut links, &table, plan, service)
 }

@@ -3,5 +3,6 @@
 
 mod answering;
 mod asking;
+mod lent;
 
 pub use asking::ask_input;

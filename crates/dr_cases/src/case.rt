@@ -62,6 +62,16 @@ impl Failing {
     }
 }
 
+/// Which workers are held up before a read.
+#[derive(Clone, Copy, PartialEq, Eq, Debug)]
+pub enum Hold {
+    Nobody,
+    /// The first two, before their first reads, until both are there.
+    Meeting,
+    /// The first, before its first read, until the others have begun so many reads, which begin when it is there.
+    Late(u64),
+}
+
 /// One run: what it is given, and how it is to end.
 #[derive(Drop)]
 pub struct Case {
@@ -72,6 +82,10 @@ pub struct Case {
     /// Whether it is a query that is asked in each way.
     pub is_asked: bool,
     pub failing: Failing,
+    /// The links, from 0, of which each call fails.
+    pub dead: Vec<u64>,
+    /// Which workers are held up.
+    pub hold: Hold,
     /// How the runs end in which a call fails, one call at a time.
     pub each: Vec<Each>,
     /// The most bytes that one write takes.
@@ -91,6 +105,8 @@ impl Case {
             is_run: false,
             is_asked: false,
             failing: Failing::none(alloc),
+            dead: Vec::new(alloc),
+            hold: Hold::Nobody,
             each: Vec::new(alloc),
             most: usize::MAX,
             status: 0,

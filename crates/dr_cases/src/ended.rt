@@ -1,10 +1,13 @@
 //! A run of the program over things in memory, and how it ended.
 
-use crate::case::{Failing, Thing};
+use crate::case::{Failing, Hold, Thing};
+use crate::holding::Holding;
 use dr_case_lines::Broken;
-use dr_outside::{Link, MemLink, MemSink, MemSource, OpenGate, Shelf};
+use dr_outside::{Link, MemLink, MemSink, MemSource, Shelf};
+use dr_serve::Gated;
 use dr_top::run;
 use std::alloc::Global;
+use std::sync::Wait;
 use std::thread::Threads;
 
 /// What a run is given beside its files.
@@ -14,6 +17,10 @@ pub struct Given<'a> {
     pub words: &'a [String],
     pub input: &'a [u8],
     pub failing: &'a Failing,
+    /// The links, from 0, of which each call fails.
+    pub dead: &'a [u64],
+    /// Which workers are held up.
+    pub hold: Hold,
     /// The most bytes that one write takes.
     pub most: usize,
 }
@@ -30,6 +37,8 @@ pub struct Ended {
     err_faults: u64,
     keeper_faults: u64,
     asked: u64,
+    /// Whether those workers were held up, and none in vain.
+    pub was_held: bool,
 }
 
 impl Ended {
@@ -53,22 +62,45 @@ impl Ended {
     }
 }
 
-/// Sixteen links over a shelf, of which the first fails at these calls.
+/// The number of links.
+const LINKS: u32 = 16;
+
+/// More calls of a link than a case makes.
+const MOST_CALLS: u64 = 1_000;
+
+/// A worker's link over a shelf, behind the gate.
+type Worker<'a> = Gated<'a, MemLink<'a>, Holding>;
+
+/// The calls at which a link fails: all, the first one's that are said, or none.
+fn failing_of(alloc: Global, given: Given<'_>, link: u32) -> Result<Vec<u64>, Broken> {
+    let mut calls = Vec::new(alloc);
+    if given.dead.contains(&u64::from(link)) {
+        for call in 1..=MOST_CALLS {
+            calls.push(call)?;
+        }
+    } else if link == 0 {
+        return Ok(given.failing.link.to_vec(alloc)?);
+    }
+    Ok(calls)
+}
+
+/// Sixteen links over a shelf, behind a gate.
 fn links_over<'a>(
     alloc: Global,
     shelf: &'a Shelf,
-    failing: &[u64],
-) -> Result<Vec<MemLink<'a>>, Broken> {
+    gate: &'a Holding,
+    given: Given<'_>,
+) -> Result<Vec<Worker<'a>>, Broken> {
     let mut links = Vec::new(alloc);
-    links.push(MemLink::new(alloc, shelf, failing.to_vec(alloc)?))?;
-    for _ in 1..16 {
-        links.push(MemLink::new(alloc, shelf, Vec::new(alloc)))?;
+    for number in 0..LINKS {
+        let link = MemLink::new(alloc, shelf, failing_of(alloc, given, number)?);
+        links.push(Gated::new(link, gate, number))?;
     }
     Ok(links)
 }
 
 /// The program's status for these words. It wants sixteen links.
-fn status_of<R: Threads + Sync>(
+fn status_of<R: Threads + Wait + Sync>(
     rt: &R,
     alloc: Global,
     words: &[String],
@@ -76,16 +108,16 @@ fn status_of<R: Threads + Sync>(
     out: &mut MemSink,
     err: &mut MemSink,
     keeper: &mut Shelf,
-    links: &mut [MemLink<'_>],
+    links: &mut [Worker<'_>],
 ) -> Result<u8, Broken> {
     if links.len() < 16 {
         return Err(Broken::Form);
     }
-    Ok(run(rt, alloc, words, source, out, err, keeper, links, &OpenGate))
+    Ok(run(rt, alloc, words, source, out, err, keeper, links))
 }
 
 /// How a run ends over a keeper, and links over a shelf.
-pub fn outcome<R: Threads + Sync>(
+pub fn outcome<R: Threads + Wait + Sync>(
     rt: &R,
     alloc: Global,
     given: Given<'_>,
@@ -97,7 +129,8 @@ pub fn outcome<R: Threads + Sync>(
     let most = if given.most == 0 { 1 } else { given.most };
     let mut out = MemSink::narrow(alloc, most, failing.out.to_vec(alloc)?);
     let mut err = MemSink::new(alloc, failing.err.to_vec(alloc)?);
-    let mut links = links_over(alloc, shelf, &failing.link)?;
+    let gate = Holding::new(given.hold);
+    let mut links = links_over(alloc, shelf, &gate, given)?;
     let status = status_of(
         rt,
         alloc,
@@ -108,7 +141,9 @@ pub fn outcome<R: Threads + Sync>(
         keeper,
         &mut links,
     )?;
-    let asked = links.first().map_or(0, |link| link.asked().len() as u64);
+    let asked = links
+        .first()
+        .map_or(0, |worker| worker.link.asked().len() as u64);
     Ok(Ended {
         status,
         out: out.written().to_vec(alloc)?,
@@ -118,5 +153,6 @@ pub fn outcome<R: Threads + Sync>(
         err_faults: err.faults(),
         keeper_faults: Link::faults(keeper),
         asked,
+        was_held: gate.was_kept(),
     })
 }

@@ -4,6 +4,7 @@
 mod case;
 mod each;
 mod ended;
+mod holding;
 mod runs;
 mod session;
 mod setting;
@@ -12,11 +13,12 @@ use dr_case_lines::{Broken, Place, Tally};
 use session::Session;
 use std::alloc::Global;
 use std::process::ExitCode;
+use std::sync::Wait;
 use std::thread::Threads;
 use std::{env, fs, io};
 
 /// Runs the cases of a file.
-fn run_file<R: Threads + Sync>(
+fn run_file<R: Threads + Wait + Sync>(
     rt: &R,
     alloc: Global,
     file: &str,

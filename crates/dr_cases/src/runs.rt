@@ -1,11 +1,12 @@
 //! The runs of a case.
 
-use crate::case::{Case, Failing};
+use crate::case::{Case, Failing, Hold};
 use crate::each::Each;
 use crate::ended::{Ended, Given, outcome};
 use crate::setting::Setting;
 use dr_case_lines::{Broken, Place, Tally, words_of};
 use std::alloc::Global;
+use std::sync::Wait;
 use std::thread::Threads;
 
 /// More calls of one thing than a case makes.
@@ -24,7 +25,7 @@ fn all_words(alloc: Global, case: &Case, way: &str) -> Result<Vec<String>, Broke
 }
 
 /// How a case ends whose words these are.
-fn run_once<R: Threads + Sync>(
+fn run_once<R: Threads + Wait + Sync>(
     rt: &R,
     alloc: Global,
     setting: &mut Setting,
@@ -35,13 +36,15 @@ fn run_once<R: Threads + Sync>(
         words,
         input: &setting.input,
         failing: &case.failing,
+        dead: &case.dead,
+        hold: case.hold,
         most: case.most,
     };
     outcome(rt, alloc, given, &mut setting.keeper, &setting.shelf)
 }
 
 /// How the same ends where this call fails alone, over a keeper of its own.
-fn run_failing<R: Threads + Sync>(
+fn run_failing<R: Threads + Wait + Sync>(
     rt: &R,
     alloc: Global,
     setting: &Setting,
@@ -58,6 +61,8 @@ fn run_failing<R: Threads + Sync>(
         words,
         input: &setting.input,
         failing: &failing,
+        dead: &case.dead,
+        hold: Hold::Nobody,
         most: case.most,
     };
     outcome(rt, alloc, given, &mut keeper, &setting.shelf)
@@ -72,7 +77,7 @@ fn numbers(alloc: Global, number: u64) -> Result<Vec<u64>, Broken> {
 
 /// Has one call of a thing fail after another until the run makes no such call, and tells the first that ends in
 /// another way than is said.
-fn try_each<R: Threads + Sync>(
+fn try_each<R: Threads + Wait + Sync>(
     rt: &R,
     alloc: Global,
     setting: &Setting,
@@ -100,9 +105,9 @@ fn try_each<R: Threads + Sync>(
     tally.fail(place, "calls never end")
 }
 
-/// Runs a case in a way, tells where it ends in another way than it says, and gives what it printed. A query of which it
-/// isn't said what it prints says from here on what it printed.
-pub fn try_case<R: Threads + Sync>(
+/// Runs a case in a way, tells where it ends in another way than it says, and gives what it printed. A query of which
+/// it isn't said what it prints says from here on what it printed.
+pub fn try_case<R: Threads + Wait + Sync>(
     rt: &R,
     alloc: Global,
     setting: &mut Setting,
@@ -122,6 +127,9 @@ pub fn try_case<R: Threads + Sync>(
     if !ends_so {
         tally.fail(place, "ends in another way")?;
         tally.tell(&words, ended.told(alloc)?.as_str())?;
+    }
+    if !ended.was_held {
+        tally.fail(place, "a worker waits in vain")?;
     }
     for each in &case.each {
         try_each(rt, alloc, setting, case, &words, each, place, tally)?;

@@ -1,13 +1,14 @@
 //! What the instructions of a file have set up, and the run that they are to come to.
 
-use crate::case::Case;
+use crate::case::{Case, Hold};
 use crate::each::Each;
 use crate::runs::try_case;
 use crate::setting::Setting;
-use dr_case_lines::{Broken, Place, Tally, push_copies, push_text, words_of};
+use dr_case_lines::{Broken, Place, Tally, numbers_of, push_copies, push_text, words_of};
 use dr_commands::USAGE;
 use std::alloc::Global;
 use std::mem;
+use std::sync::Wait;
 use std::thread::Threads;
 
 /// What the lines of text are that follow.
@@ -124,6 +125,9 @@ impl Session {
             "status" => self.case.status = rest.parse::<u8>().or(Err(Broken::Form))?,
             "narrow" => self.case.most = rest.parse::<usize>().or(Err(Broken::Form))?,
             "fails" => self.case.fail(self.alloc, rest)?,
+            "dead" => self.case.dead = numbers_of(self.alloc, rest)?,
+            "meet" => self.case.hold = Hold::Meeting,
+            "late" => self.case.hold = Hold::Late(rest.parse::<u64>().or(Err(Broken::Form))?),
             "each" => self.case.each.push(Each::of_line(self.alloc, rest)?)?,
             _ => self.obey_more(head, rest)?,
         }
@@ -171,7 +175,7 @@ impl Session {
     }
 
     /// Ends a block: its run is made, if it has one.
-    pub fn end<R: Threads + Sync>(
+    pub fn end<R: Threads + Wait + Sync>(
         &mut self,
         rt: &R,
         place: Place<'_>,
@@ -196,7 +200,7 @@ impl Session {
     }
 
     /// Asks a query in each way.
-    fn ask<R: Threads + Sync>(
+    fn ask<R: Threads + Wait + Sync>(
         &mut self,
         rt: &R,
         case: &mut Case,

@@ -16,7 +16,7 @@ pub ask_has_values : (words : List Text) → level_passes ask_shape [] nothing_h
 ask_has_values words passes none =
     let needed = taken_has_needed ask_shape words refl refl passes in
     let rows = rows_after ask_shape.rules [] words in
-    both_there rows (first_of (codes "schema") rows) (first_of (codes "query") rows) (needed.0 refl) (needed.1.1.1.0 refl) none
+    both_there rows (first_of (codes "schema") rows) (first_of (codes "query") rows) (needed.0 refl) (needed.1.1.1.1.1.0 refl) none
   where
     both_there : (rows : List Row) (schema query : Option Text) → Has schema → Has query
         → option_map ask (option_and_then (λ a. option_map (with_query rows a) query) schema) ≡ None → ⊥

@@ -18,7 +18,7 @@ mod ExplainLemmas
 mod GenLemmas
 mod TrialLemmas
 -- what is printed of a table
-mod ScanLemmas
+pub mod ScanLemmas
 -- numbers that options have
 mod NumberLemmas
 -- clap's definitions of faults and of taken words agree

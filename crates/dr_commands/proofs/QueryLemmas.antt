@@ -16,7 +16,7 @@ pub query_has_values : (words : List Text) → level_passes query_shape [] nothi
 query_has_values words passes none =
     let needed = taken_has_needed query_shape words refl refl passes in
     let rows = rows_after query_shape.rules [] words in
-    both_there rows (first_of (codes "table") rows) (first_of (codes "query") rows) (needed.0 refl) (needed.1.1.0 refl) none
+    both_there rows (first_of (codes "table") rows) (first_of (codes "query") rows) (needed.0 refl) (needed.1.1.1.1.1.0 refl) none
   where
     both_there : (rows : List Row) (table text : Option Text) → Has table → Has text
         → option_map query (option_and_then (λ a. option_map (with_query rows a) text) table) ≡ None → ⊥

@@ -30,8 +30,9 @@ use Rattle.dr_formats.specs.TableFile.{parse_table, bad_head}
 use Rattle.dr_formats.proofs.WorkedTables.{two_copies_text}
 use Rattle.dr_reading.specs.Scan.{Copy}
 use Rattle.dr_commands.specs.Refusals.{schema_refused, table_refused, field_refused, words_refused, query_refused, line_refused, refusal_of, refusal_text}
-use Rattle.dr_commands.specs.Meaning.{Meaning, Outcome, done, refused, scans, looks_at, plain, puts_in, IsEarly}
-use Rattle.dr_commands.specs.Numbers.{number_in, is_number_in, default_rows, least_fan, most_fan, default_fan}
+use Rattle.dr_commands.specs.Meaning.{Meaning, Outcome, done, refused, scans, serves, looks_at, plain, puts_in, IsEarly}
+use Rattle.dr_commands.specs.Numbers.{number_in, is_number_in, default_rows, least_fan, most_fan, default_fan, most_workers, default_workers, most_lag, default_lag, most_share, default_share}
+use Rattle.dr_commands.specs.Serving.{ServingWords}
 use Rattle.dr_commands.specs.Load.{LoadWords, load_meaning, loaded_outcome}
 use Rattle.dr_commands.specs.Query.{query_meaning}
 use Rattle.dr_commands.specs.Ask.{ask_meaning}
@@ -47,6 +48,10 @@ url_count = codes "SELECT COUNT(Name.Url) FROM Document"
 abbrev input : List ℕ
 input = line_10 ++ 10 ∷ (line_20 ++ 10 ∷ [])
 
+-- how a query is served where the words say the fan alone
+abbrev served_by : ℕ → ServingWords
+served_by fan = record { workers = 4; fan = fan; lag = 64 }
+
 -- where to load: one directory, or these, with so many copies
 abbrev load_words : List (List ℕ) → ℕ → LoadWords
 load_words directories copies = record { schema = codes "s"; table = codes "t"; rows = 2; copies = copies; directories = directories }
@@ -60,10 +65,10 @@ Looks m file does n = (m.file ≡ file) × ((m.reads_input ∷ m.puts_files ∷ 
 pub load_looks : Looks (load_meaning (load_words (codes "d" ∷ []) 1)) (Some (codes "s")) (true ∷ true ∷ []) 0
 load_looks = (refl, refl, refl)
 
-pub query_looks : Looks (query_meaning (record { table = codes "t"; fan = 8; query = url_count })) (Some (codes "t")) (false ∷ false ∷ []) 1
+pub query_looks : Looks (query_meaning (record { table = codes "t"; serving = served_by 8; least = 100; query = url_count })) (Some (codes "t")) (false ∷ false ∷ []) 4
 query_looks = (refl, refl, refl)
 
-pub ask_looks : Looks (ask_meaning (record { schema = codes "s"; rows = 2; fan = 8; query = url_count })) (Some (codes "s")) (true ∷ false ∷ []) 0
+pub ask_looks : Looks (ask_meaning (record { schema = codes "s"; rows = 2; serving = served_by 8; query = url_count })) (Some (codes "s")) (true ∷ false ∷ []) 0
 ask_looks = (refl, refl, refl)
 
 pub dump_looks : Looks (dump_meaning (record { table = codes "t"; fields = codes "DocId" ∷ [] })) (Some (codes "t")) (false ∷ false ∷ []) 1
@@ -97,7 +102,7 @@ pub automaton_is_printed : at (fsm_meaning (record { schema = codes "s"; fields 
 unfolding fsm parse_schema automaton_text digits
 automaton_is_printed = refl
 
-pub count_is_printed : at (ask_meaning (record { schema = codes "s"; rows = 1; fan = 8; query = url_count })) document_text input ≡ done (codes "{\"f0_\":3}\n") []
+pub count_is_printed : at (ask_meaning (record { schema = codes "s"; rows = 1; serving = served_by 8; query = url_count })) document_text input ≡ done (codes "{\"f0_\":3}\n") []
 count_is_printed = ap plain first_answer
 
 pub schema_is_shown : at (show_schema_meaning (record { file = codes "f.parquet" })) [] [] ≡ looks_at (codes "f.parquet")
@@ -112,15 +117,23 @@ plain_ends = (refl, refl)
 -- which tablets, with their copies in the order in which they are tried; the paths of the leaves; what is printed of records
 abbrev tablets_in : Outcome → List (List Copy)
 tablets_in (scans s) = s.tablets
+tablets_in (serves s workers least) = s.tablets
 tablets_in o = []
 
 abbrev leaf_names : Outcome → List (List (List ℕ))
 leaf_names (scans s) = map (λ (l : Leaf). l.names) s.leaves
+leaf_names (serves s workers least) = map (λ (l : Leaf). l.names) s.leaves
 leaf_names o = []
 
 abbrev text_of : Outcome → List Node → List ℕ
 text_of (scans s) R = s.text R
+text_of (serves s workers least) R = s.text R
 text_of o R = []
+
+-- how many links serve it, and which share of all tablets is enough
+abbrev service_of : Outcome → List ℕ
+service_of (serves s workers least) = workers ∷ least ∷ []
+service_of o = []
 
 abbrev copy : ℕ → List ℕ → Copy
 copy directory path = record { directory = directory; path = path }
@@ -147,11 +160,12 @@ unfolding parse_table parse_schema is_utf8 chars lib.Utf8.encode
 dump_refuses = (refl, refl)
 
 abbrev queried : List ℕ → List ℕ → Outcome
-queried query table = at (query_meaning (record { table = codes "t"; fan = 8; query = query })) table []
+queried query table = at (query_meaning (record { table = codes "t"; serving = record { workers = 3; fan = 8; lag = 64 }; least = 50; query = query })) table []
 
 pub query_scans : (tablets_in (queried url_count two_copies_text) ≡ both_tablets) × (leaf_names (queried url_count two_copies_text) ≡ (codes "Name" ∷ codes "Url" ∷ []) ∷ [])
+    × (service_of (queried url_count two_copies_text) ≡ 3 ∷ 50 ∷ [])
 unfolding parse_table parse_schema read_query parse_query items argument whole_expression bind is_utf8 chars lib.Utf8.encode digits query_leaves
-query_scans = (refl, refl)
+query_scans = (refl, refl, refl)
 
 -- what the query means on the records
 abbrev answer_of : Result Query QueryRefusal → List Node → List ℕ
@@ -250,3 +264,6 @@ no_numbers = refl
 
 pub limits : (default_rows ≡ 100000) × (least_fan ≡ 2) × (most_fan ≡ 64) × (default_fan ≡ 8)
 limits = (refl, refl, refl, refl)
+
+pub serving_limits : (most_workers ≡ 16) × (default_workers ≡ 4) × (most_lag ≡ 1000000) × (default_lag ≡ 64) × (most_share ≡ 100) × (default_share ≡ 100)
+serving_limits = (refl, refl, refl, refl, refl, refl)

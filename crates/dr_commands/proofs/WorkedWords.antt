@@ -5,10 +5,15 @@ use Rattle.clap.specs.declared.error.ErrorKind.TheVariants as kind
 use Rattle.clap.proofs.OnLiterals.{clap_on_literals}
 use Rattle.dr_commands.specs.Ask.{AskWords, ask_meaning}
 use Rattle.dr_commands.specs.Query.{QueryWords, query_meaning}
+use Rattle.dr_commands.specs.Serving.{ServingWords}
 use Rattle.dr_commands.specs.Commands.{Taken, CommandWords, load, ask, dump, stripe, fsm, show_schema, explain, query as query_words, asked, dremel_app}
 
 abbrev query : Text
 query = codes "SELECT COUNT(Name.Url) FROM Document"
+
+-- how a query is served where the words say the fan alone
+abbrev served_by : ℕ → ServingWords
+served_by fan = record { workers = 4; fan = fan; lag = 64 }
 
 abbrev count_words : List Text
 count_words = codes "dremel" ∷ codes "ask" ∷ codes "--schema" ∷ codes "document.txt" ∷ query ∷ []
@@ -17,7 +22,7 @@ pub count_is_taken : Taken count_words
 unfolding clap_on_literals
 count_is_taken = refl
 
-pub count_is_asked : asked count_words ≡ Some (ask (record { schema = codes "document.txt"; rows = 100000; fan = 8; query = query }))
+pub count_is_asked : asked count_words ≡ Some (ask (record { schema = codes "document.txt"; rows = 100000; serving = served_by 8; query = query }))
 unfolding clap_on_literals
 count_is_asked = refl
 
@@ -27,7 +32,7 @@ unfolding clap_on_literals
 either_order = refl
 
 -- how many records a tablet gets, and a number that clap doesn't take
-pub rows_are_asked : asked (codes "dremel" ∷ codes "ask" ∷ codes "--rows" ∷ codes "2" ∷ codes "--schema" ∷ codes "document.txt" ∷ query ∷ []) ≡ Some (ask (record { schema = codes "document.txt"; rows = 2; fan = 8; query = query }))
+pub rows_are_asked : asked (codes "dremel" ∷ codes "ask" ∷ codes "--rows" ∷ codes "2" ∷ codes "--schema" ∷ codes "document.txt" ∷ query ∷ []) ≡ Some (ask (record { schema = codes "document.txt"; rows = 2; serving = served_by 8; query = query }))
 unfolding clap_on_literals
 rows_are_asked = refl
 
@@ -39,8 +44,8 @@ no_rows = refl
 abbrev with_fan : Text → List Text
 with_fan fan = codes "dremel" ∷ codes "query" ∷ codes "--table" ∷ codes "t" ∷ codes "--fan" ∷ fan ∷ query ∷ []
 
-pub fans_are_asked : (asked (with_fan (codes "2")) ≡ Some (query_words (record { table = codes "t"; fan = 2; query = query })))
-    × (asked (with_fan (codes "64")) ≡ Some (query_words (record { table = codes "t"; fan = 64; query = query })))
+pub fans_are_asked : (asked (with_fan (codes "2")) ≡ Some (query_words (record { table = codes "t"; serving = served_by 2; least = 100; query = query })))
+    × (asked (with_fan (codes "64")) ≡ Some (query_words (record { table = codes "t"; serving = served_by 64; least = 100; query = query })))
 unfolding clap_on_literals
 fans_are_asked = (refl, refl)
 
@@ -48,19 +53,51 @@ pub no_fans : (asked (with_fan (codes "1")) ≡ None) × (asked (with_fan (codes
 unfolding clap_on_literals
 no_fans = (refl, refl, refl)
 
-pub fan_of_ask : asked (codes "dremel" ∷ codes "ask" ∷ codes "--fan" ∷ codes "3" ∷ codes "--schema" ∷ codes "document.txt" ∷ query ∷ []) ≡ Some (ask (record { schema = codes "document.txt"; rows = 100000; fan = 3; query = query }))
+pub fan_of_ask : asked (codes "dremel" ∷ codes "ask" ∷ codes "--fan" ∷ codes "3" ∷ codes "--schema" ∷ codes "document.txt" ∷ query ∷ []) ≡ Some (ask (record { schema = codes "document.txt"; rows = 100000; serving = served_by 3; query = query }))
 unfolding clap_on_literals
 fan_of_ask = refl
 
 -- which changes nothing of what is meant
-pub fan_of_ask_means_nothing : (w : AskWords) (n : ℕ) → ask_meaning (record w { fan = n }) ≡ ask_meaning w
-fan_of_ask_means_nothing w n = refl
+pub serving_of_ask_means_nothing : (w : AskWords) (s : ServingWords) → ask_meaning (record w { serving = s }) ≡ ask_meaning w
+serving_of_ask_means_nothing w s = refl
 
-pub fan_of_query_means_nothing : (w : QueryWords) (n : ℕ) → query_meaning (record w { fan = n }) ≡ query_meaning w
-fan_of_query_means_nothing w n = refl
+pub fan_and_lag_of_query_mean_nothing : (w : QueryWords) (n m : ℕ) → query_meaning (record w { serving = record w.serving { fan = n; lag = m } }) ≡ query_meaning w
+fan_and_lag_of_query_mean_nothing w n m = refl
+
+-- how many workers there are, and after how many events a tablet is handed out once more; and numbers that clap doesn't take
+abbrev with_workers : Text → Text → List Text
+with_workers workers lag = codes "dremel" ∷ codes "query" ∷ codes "--workers" ∷ workers ∷ codes "--lag" ∷ lag ∷ codes "--table" ∷ codes "t" ∷ query ∷ []
+
+pub workers_are_asked : (asked (with_workers (codes "1") (codes "1")) ≡ Some (query_words (record { table = codes "t"; serving = record { workers = 1; fan = 8; lag = 1 }; least = 100; query = query })))
+    × (asked (with_workers (codes "16") (codes "1000000")) ≡ Some (query_words (record { table = codes "t"; serving = record { workers = 16; fan = 8; lag = 1000000 }; least = 100; query = query })))
+unfolding clap_on_literals
+workers_are_asked = (refl, refl)
+
+pub no_workers : (asked (with_workers (codes "0") (codes "1")) ≡ None) × (asked (with_workers (codes "17") (codes "1")) ≡ None) × (asked (with_workers (codes "1") (codes "0")) ≡ None) × (asked (with_workers (codes "1") (codes "1000001")) ≡ None)
+unfolding clap_on_literals
+no_workers = (refl, refl, refl, refl)
+
+pub workers_of_ask : asked (codes "dremel" ∷ codes "ask" ∷ codes "--workers" ∷ codes "2" ∷ codes "--lag" ∷ codes "3" ∷ codes "--schema" ∷ codes "document.txt" ∷ query ∷ []) ≡
+    Some (ask (record { schema = codes "document.txt"; rows = 100000; serving = record { workers = 2; fan = 8; lag = 3 }; query = query }))
+unfolding clap_on_literals
+workers_of_ask = refl
+
+-- which share of all tablets is enough, and numbers that clap doesn't take; `ask` has no such option
+abbrev with_share : Text → List Text
+with_share share = codes "dremel" ∷ codes "query" ∷ codes "--table" ∷ codes "t" ∷ codes "--least" ∷ share ∷ query ∷ []
+
+pub shares_are_asked : (asked (with_share (codes "1")) ≡ Some (query_words (record { table = codes "t"; serving = served_by 8; least = 1; query = query })))
+    × (asked (with_share (codes "100")) ≡ Some (query_words (record { table = codes "t"; serving = served_by 8; least = 100; query = query })))
+unfolding clap_on_literals
+shares_are_asked = (refl, refl)
+
+pub no_shares : (asked (with_share (codes "0")) ≡ None) × (asked (with_share (codes "101")) ≡ None)
+    × (asked (codes "dremel" ∷ codes "ask" ∷ codes "--least" ∷ codes "50" ∷ codes "--schema" ∷ codes "document.txt" ∷ query ∷ []) ≡ None)
+unfolding clap_on_literals
+no_shares = (refl, refl, refl)
 
 -- a query of a table; the table has to be named
-pub query_is_asked : asked (codes "dremel" ∷ codes "query" ∷ codes "--table" ∷ codes "t" ∷ query ∷ []) ≡ Some (query_words (record { table = codes "t"; fan = 8; query = query }))
+pub query_is_asked : asked (codes "dremel" ∷ codes "query" ∷ codes "--table" ∷ codes "t" ∷ query ∷ []) ≡ Some (query_words (record { table = codes "t"; serving = served_by 8; least = 100; query = query }))
 unfolding clap_on_literals
 query_is_asked = refl
 

@@ -1,5 +1,5 @@
 -- `dump --table F FIELD..`: the records of a table, projected to some leaves.
-use Rattle.std.specs.Prelude.{true, false, List, [], ◌∷◌, Option, Some, Result, Ok, Err, map, codes, option_map, option_and_then, string_bytes}
+use Rattle.std.specs.Prelude.{false, List, [], ◌∷◌, Option, Some, Result, Ok, Err, map, codes, option_map, option_and_then, string_bytes}
 use Rattle.std.specs.List.{flat_map}
 use Rattle.clap.specs.Words.{App, Row, Text, all_of, first_of, new_rule}
 use Rattle.dr_meaning.specs.Path.{Leaf, paths_of_leaves}

@@ -1,6 +1,7 @@
 -- the parts of a command line's definition
 pub mod Rules
 pub mod Numbers
+pub mod Serving
 -- what a command means
 pub mod Refusals
 pub mod Meaning

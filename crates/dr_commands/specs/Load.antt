@@ -1,5 +1,5 @@
 -- `load --schema F --table F [--rows N] [--copies K] DIR..`: the records of the input, put as the tablets of a table.
-use Rattle.std.specs.Prelude.{ℕ, true, false, List, [], ◌∷◌, take, Option, Some, None, Result, Ok, Err, map, fold, codes, option_map, option_and_then, string_bytes}
+use Rattle.std.specs.Prelude.{ℕ, true, List, [], ◌∷◌, take, Option, Some, None, Result, Ok, Err, map, fold, codes, option_map, option_and_then, string_bytes}
 use Rattle.clap.specs.Words.{App, Row, Text, all_of, first_of, new_rule, with_rule}
 use Rattle.dr_meaning.specs.Schema.{Schema}
 use Rattle.dr_meaning.specs.SchemaText.{SchemaFault, parse_schema}

@@ -18,6 +18,9 @@ pub data Outcome : Type 0 where
   refused : Refusal → List Put → Outcome
   -- a scan of a table by the first link: its text, or the tablets that are left
   scans : Scan → Outcome
+  -- a query served over a table by the first so many links: its text; or the tablets that are left and, where the others are this share of all, in
+  -- hundredths, the text of those
+  serves : (s : Scan) (workers : ℕ) (least : ℕ) → Outcome
   -- a look at the schema of the Parquet file at this path, by the first link: its text, or the cause for which there is none
   looks_at : List ℕ → Outcome
 
@@ -31,6 +34,7 @@ abbrev pub puts_in : Outcome → List Put
 puts_in (done text puts) = puts
 puts_in (refused r puts) = puts
 puts_in (scans s) = []
+puts_in (serves s workers least) = []
 puts_in (looks_at path) = []
 
 -- what the words of a command mean

@@ -1,5 +1,5 @@
 -- `schema FILE`: the open part of a Parquet file's schema.
-use Rattle.std.specs.Prelude.{true, false, List, [], ◌∷◌, Option, None, codes, option_map, string_bytes}
+use Rattle.std.specs.Prelude.{false, List, [], ◌∷◌, Option, None, codes, option_map, string_bytes}
 use Rattle.clap.specs.Words.{App, Row, Text, first_of, new_rule}
 use Rattle.dr_commands.specs.Meaning.{Meaning, looks_at}
 use Rattle.dr_commands.specs.Rules.{needed, subcommand_app}

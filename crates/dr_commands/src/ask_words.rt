@@ -8,21 +8,21 @@ ghost use Rattle.dr_commands.specs.Ask as meant;
 
 use crate::arguments::{needed_option, needed_word, number_of, number_option, value_of};
 use crate::ask::Ask;
-use crate::limits::{DEFAULT_FAN, DEFAULT_ROWS, LEAST_FAN, MOST_FAN, MOST_ROWS};
+use crate::limits::{DEFAULT_ROWS, MOST_ROWS};
+use crate::serving_words::{serving_of, with_serving};
 use crate::words_fault::WordsFault;
 use clap::ArgMatches;
 use std::alloc::{AllocError, Global};
 
-/// `ask --schema F [--rows N] [--fan N] QUERY`.
+/// `ask --schema F [--rows N] [--workers N] [--fan N] [--lag N] QUERY`.
 pub fn ask_command<'a>(alloc: Global) -> Result<clap::Command<'a>, AllocError>
     ensures app { IfOk result (λ command. app_of command ≡ meant.ask_app) }
     ensures local { IfOk result (λ command. (fields_of command).has_globals ≡ false) }
 {
-    clap::Command::new(alloc, "ask")
+    let command = clap::Command::new(alloc, "ask")
         .arg(needed_option(alloc, "schema"))?
-        .arg(number_option(alloc, "rows", 1, MOST_ROWS))?
-        .arg(number_option(alloc, "fan", LEAST_FAN, MOST_FAN))?
-        .arg(needed_word(alloc, "query"))
+        .arg(number_option(alloc, "rows", 1, MOST_ROWS))?;
+    with_serving(alloc, command)?.arg(needed_word(alloc, "query"))
 }
 
 /// The values of `ask`.
@@ -32,11 +32,11 @@ pub fn ask_of(alloc: Global, matches: &ArgMatches<'_>) -> Result<Ask, WordsFault
     let schema = value_of(alloc, matches, "schema")?;
     let query = value_of(alloc, matches, "query")?;
     let rows = number_of(matches, "rows", 1, MOST_ROWS, DEFAULT_ROWS);
-    let fan = number_of(matches, "fan", LEAST_FAN, MOST_FAN, DEFAULT_FAN);
+    let serving = serving_of(matches);
     Ok(Ask {
         schema,
         rows,
-        fan,
+        serving,
         query,
     })
 }

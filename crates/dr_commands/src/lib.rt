@@ -17,6 +17,8 @@ mod load_words;
 mod query;
 mod query_words;
 mod read;
+mod serving;
+mod serving_words;
 mod show_schema;
 mod stripe;
 mod trial;
@@ -30,12 +32,14 @@ pub use explain::Explain;
 pub use fsm::Fsm;
 pub use gen_values::Gen;
 pub use limits::{
-    DEFAULT_FAN, DEFAULT_ROWS, LEAST_FAN, MOST_COPIES, MOST_DIRECTORIES, MOST_FAN, MOST_MADE,
-    MOST_ROWS, MOST_SEED, MOST_STRIPED, command_limits_are_as_defined,
+    DEFAULT_FAN, DEFAULT_LAG, DEFAULT_ROWS, DEFAULT_WORKERS, LEAST_FAN, MOST_COPIES,
+    MOST_DIRECTORIES, MOST_FAN, MOST_LAG, MOST_MADE, MOST_ROWS, MOST_SEED, MOST_STRIPED,
+    MOST_WORKERS, command_limits_are_as_defined,
 };
 pub use load::Load;
 pub use query::Query;
 pub use read::{USAGE, read_words, taken_words_ask};
+pub use serving::Serving;
 pub use show_schema::ShowSchema;
 pub use stripe::Stripe;
 pub use trial::Trial;

@@ -1,16 +1,20 @@
 //! The values of `query`.
 
-ghost use Rattle.std.specs.Prelude.{◌≤◌};
+ghost use Rattle.std.specs.Prelude.{◌<◌, ◌≤◌};
+
+use crate::serving::Serving;
 
 /// The values of `query`.
 #[derive(PartialEq, Eq, Debug, Drop)]
 pub struct Query {
     /// The path of the table file.
     pub table: String,
-    /// How many children a server has at most, from 2 to 64.
-    pub fan: u32,
+    /// How it is served.
+    pub serving: Serving,
+    /// Which share of all tablets is enough, in hundredths, from 1 to 100.
+    pub least: u32,
     /// The text of the query.
     pub query: String,
-    pub ghost has_fan: { 2 ≤ fan },
-    pub ghost small_fan: { fan ≤ 64 },
+    pub ghost some_share: { 0 < least },
+    pub ghost at_most_all: { least ≤ 100 },
 }

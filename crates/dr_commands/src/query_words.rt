@@ -7,20 +7,21 @@ ghost use Rattle.dr_commands.specs.Rules.{Answers};
 ghost use Rattle.dr_commands.specs.Query as meant;
 
 use crate::arguments::{needed_option, needed_word, number_of, number_option, value_of};
-use crate::limits::{DEFAULT_FAN, LEAST_FAN, MOST_FAN};
+use crate::limits::{DEFAULT_SHARE, MOST_SHARE};
 use crate::query::Query;
+use crate::serving_words::{serving_of, with_serving};
 use crate::words_fault::WordsFault;
 use clap::ArgMatches;
 use std::alloc::{AllocError, Global};
 
-/// `query --table F [--fan N] QUERY`.
+/// `query --table F [--workers N] [--fan N] [--lag N] [--least P] QUERY`.
 pub fn query_command<'a>(alloc: Global) -> Result<clap::Command<'a>, AllocError>
     ensures app { IfOk result (λ command. app_of command ≡ meant.query_app) }
     ensures local { IfOk result (λ command. (fields_of command).has_globals ≡ false) }
 {
-    clap::Command::new(alloc, "query")
-        .arg(needed_option(alloc, "table"))?
-        .arg(number_option(alloc, "fan", LEAST_FAN, MOST_FAN))?
+    let command = clap::Command::new(alloc, "query").arg(needed_option(alloc, "table"))?;
+    with_serving(alloc, command)?
+        .arg(number_option(alloc, "least", 1, MOST_SHARE))?
         .arg(needed_word(alloc, "query"))
 }
 
@@ -30,6 +31,12 @@ pub fn query_of(alloc: Global, matches: &ArgMatches<'_>) -> Result<Query, WordsF
 {
     let table = value_of(alloc, matches, "table")?;
     let query = value_of(alloc, matches, "query")?;
-    let fan = number_of(matches, "fan", LEAST_FAN, MOST_FAN, DEFAULT_FAN);
-    Ok(Query { table, fan, query })
+    let serving = serving_of(matches);
+    let least = number_of(matches, "least", 1, MOST_SHARE, DEFAULT_SHARE);
+    Ok(Query {
+        table,
+        serving,
+        least,
+        query,
+    })
 }

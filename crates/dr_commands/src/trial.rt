@@ -2,6 +2,8 @@
 
 ghost use Rattle.std.specs.Prelude.{◌<◌, ◌≤◌};
 
+use crate::serving::Serving;
+
 /// The values of `trial`.
 #[derive(PartialEq, Eq, Debug, Drop)]
 pub struct Trial {
@@ -11,12 +13,10 @@ pub struct Trial {
     pub records: u32,
     /// How many records a tablet gets, from 1 to 1,000,000.
     pub rows: u32,
-    /// How many children a server has at most, from 2 to 64.
-    pub fan: u32,
+    /// How the query is served.
+    pub serving: Serving,
     pub ghost small_seed: { seed ≤ 1000000000 },
     pub ghost few_records: { records ≤ 10000000 },
     pub ghost has_rows: { 0 < rows },
     pub ghost few_rows: { rows ≤ 1000000 },
-    pub ghost has_fan: { 2 ≤ fan },
-    pub ghost small_fan: { fan ≤ 64 },
 }

@@ -6,23 +6,22 @@ ghost use Rattle.clap.specs.declared.builder.command.Command.{out-Command as fie
 ghost use Rattle.dr_commands.specs.Trial as meant;
 
 use crate::arguments::{needed_number, number_of, number_option};
-use crate::limits::{
-    DEFAULT_FAN, DEFAULT_ROWS, LEAST_FAN, MOST_FAN, MOST_MADE, MOST_ROWS, MOST_SEED,
-};
+use crate::limits::{DEFAULT_ROWS, MOST_MADE, MOST_ROWS, MOST_SEED};
+use crate::serving_words::{serving_of, with_serving};
 use crate::trial::Trial;
 use clap::ArgMatches;
 use std::alloc::{AllocError, Global};
 
-/// `trial --seed N --records N [--rows N] [--fan N]`.
+/// `trial --seed N --records N [--rows N] [--workers N] [--fan N] [--lag N]`.
 pub fn trial_command<'a>(alloc: Global) -> Result<clap::Command<'a>, AllocError>
     ensures app { IfOk result (λ command. app_of command ≡ meant.trial_app) }
     ensures local { IfOk result (λ command. (fields_of command).has_globals ≡ false) }
 {
-    clap::Command::new(alloc, "trial")
+    let command = clap::Command::new(alloc, "trial")
         .arg(needed_number(alloc, "seed", 0, MOST_SEED))?
         .arg(needed_number(alloc, "records", 0, MOST_MADE))?
-        .arg(number_option(alloc, "rows", 1, MOST_ROWS))?
-        .arg(number_option(alloc, "fan", LEAST_FAN, MOST_FAN))
+        .arg(number_option(alloc, "rows", 1, MOST_ROWS))?;
+    with_serving(alloc, command)
 }
 
 /// The values of `trial`.
@@ -33,6 +32,6 @@ pub fn trial_of(matches: &ArgMatches<'_>) -> Trial
         seed: number_of(matches, "seed", 0, MOST_SEED, 0),
         records: number_of(matches, "records", 0, MOST_MADE, 0),
         rows: number_of(matches, "rows", 1, MOST_ROWS, DEFAULT_ROWS),
-        fan: number_of(matches, "fan", LEAST_FAN, MOST_FAN, DEFAULT_FAN),
+        serving: serving_of(matches),
     }
 }

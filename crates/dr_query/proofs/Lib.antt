@@ -1,4 +1,2 @@
--- the leaves of a plan
-mod PlanLemmas
--- the partials of all tablets, gathered
-mod GatheredLemmas
+-- what a partial prints
+mod AnswerLemmas

@@ -1,99 +1,119 @@
 //! Answering a query from a table.
 
-ghost use Rattle.std.specs.Prelude.{◌≡◌, ◌≤◌, List, IfOk, IsTrue, length, string_bytes};
+ghost use Rattle.std.specs.Prelude.{◌≡◌, ◌<◌, ◌≤◌, ◌*◌, ◌-◌, [], List, IfOk, IsTrue, length, map, take, drop, string_bytes};
 ghost use Rattle.dr_meaning.specs.Ask.{answer_text};
 ghost use Rattle.dr_meaning.specs.Query.{Query};
 ghost use Rattle.dr_meaning.specs.QueryLeaves.{query_leaves};
 ghost use Rattle.dr_meaning.specs.Record.{Node};
 ghost use Rattle.dr_meaning.specs.Schema.{Schema as Meant};
 ghost use Rattle.dr_nested.specs.SchemaView.{schema_view};
+ghost use Rattle.dr_partials.specs.Partials.{Stands};
+ghost use Rattle.dr_group.specs.Partials.{partial_view};
 ghost use Rattle.dr_plan.specs.Planned.{IsOfSchema};
-ghost use Rattle.dr_reading.specs.Scan.{joined, tablets_of};
+ghost use Rattle.dr_reading.specs.Scan.{tablets_of};
 ghost use Rattle.dr_table.specs.Views.{table_view};
 ghost use Rattle.dr_tablets.specs.Asked.{AsksForTablets};
-ghost use Rattle.dr_tablets.specs.Tablets.{LeavesTablets};
 ghost use Rattle.dr_plan.specs.PlanOf.{ForQuery, IsPlanOf};
-ghost use Rattle.dr_scan.specs.Tables.{AllStand};
-ghost use Rattle.dr_tree.specs.Together.{Together};
-ghost use Rattle.dr_query.specs.Answers.{IsAnswerOf, WhereLeft, WhereText};
+ghost use Rattle.dr_serve.specs.Serving.{IsShare, OfEachLink, first_shown};
+ghost use Rattle.dr_serve.specs.Counted.{AreLeftOf};
+ghost use Rattle.dr_query.specs.Answers.{IsAnswerBut, WhereLeft, WhereMost, WhereSomeLeft, WhereText};
 
+use crate::queried::Queried;
+use crate::service::Service;
 use dr_group::Partial;
 use dr_memory::NoMemory;
 use dr_outside::Link;
 use dr_plan::Plan;
 use dr_print::result_text;
-use dr_scan::{Pieces, scan_table};
+use dr_serve::{Outcome, serve};
 use dr_table::Table;
-use dr_tablets::LeftTablet;
-use dr_tree::{gather, of_fan};
+use dr_tree::of_fan;
 use std::alloc::Global;
+use std::sync::Wait;
 use std::thread::Threads;
 
-/// What comes of a query over a table: what it prints, or the tablets that are left.
-#[derive(PartialEq, Eq, Debug, Drop)]
-pub enum Queried {
-    /// The result's rows as compact JSON, one to a line.
-    Text(String),
-    /// The tablets of which no copy gives records, in their order; never none.
-    Left(Vec<LeftTablet>),
-}
-
-/// What a plan's query prints of the records of a table. Of each tablet the plan's leaves alone are read, from the
-/// first of its copies that gives records, and become a partial answer; a serving tree with so many children to a
-/// server at most gathers the partials, and its root gives the result, which doesn't depend on the tree. Or the tablets
-/// that are left, of which no copy gives records.
+/// What a plan's query prints of the records of a table, served by so many workers, the first so many of the links with
+/// one to a worker. Of each tablet the plan's leaves alone are read, from a copy that gives records, and become a
+/// partial answer; a serving tree gathers the partials, and its root gives the result, which depends neither on the tree
+/// nor on the workers. Where some tablets are left, of which no copy gives records, the result is that of the others, if
+/// these are so many hundredths of all; else there is none.
 ///
 /// Errors: want of memory, or of room: the texts of a result have less than 4 GiB together, and the number of groups is
 /// bounded.
-pub fn query_table<R: Threads + Sync, L: Link>(
+pub fn query_table<R: Threads + Wait + Sync, L: Link + Send>(
     rt: &R,
     alloc: Global,
-    link: &mut L,
+    links: &mut [L],
     table: &Table,
     plan: &Plan,
-    fan: u32,
+    service: &Service,
 ) -> Result<Queried, NoMemory>
     requires planned { IsOfSchema (schema_view (table.now).schema) plan.now }
-    requires fan { 1 ≤ fan }
+    requires workers { (0 < (service.now).workers) × ((service.now).workers ≤ length links.old) }
+    requires fan { 1 ≤ (service.now).fan }
+    requires least { (0 < (service.now).least) × ((service.now).least ≤ 100) }
+
+    // No tablet is left.
     ensures text { ForQuery (schema_view (table.now).schema) plan.now
-        (λ q. IfOk result (WhereText (IsAnswerOf (table_view table.now) q (L.shows link.old) (L.shows link.new)))) }
+        (λ q. IfOk result (WhereText (IsAnswerBut (table_view table.now) q
+        (map L.shows (take (service.now).workers links.old)) []))) }
+
+    // Some are left, and the others are the share.
+    ensures most { ForQuery (schema_view (table.now).schema) plan.now
+        (λ q. IfOk result (WhereMost (λ text left. IsAnswerBut (table_view table.now) q
+        (map L.shows (take (service.now).workers links.old)) left text))) }
+    ensures share { IfOk result (WhereMost (λ text left. IsShare (service.now).least
+        ((table.now).tablets - length left) (table.now).tablets)) }
+
+    // Some are left, and the others are less than it.
+    ensures short { IfOk result (WhereLeft (λ left. 100 * ((table.now).tablets - length left)
+        < (service.now).least * (table.now).tablets)) }
+
+    // Some are left.
     ensures left { ForQuery (schema_view (table.now).schema) plan.now
-        (λ q. IfOk result (WhereLeft (λ left. LeavesTablets (table_view table.now)
-        (query_leaves (table_view table.now).schema.fields q) left (L.shows link.old) (L.shows link.new)))) }
+        (λ q. IfOk result (WhereSomeLeft (AreLeftOf (table_view table.now).schema
+        (query_leaves (table_view table.now).schema.fields q) (tablets_of (table_view table.now))
+        (map L.shows (take (service.now).workers links.old)) (first_shown (map L.shows links.new)).faults))) }
+
+    // The links.
     ensures asks { ForQuery (schema_view (table.now).schema) plan.now
-        (λ q. AsksForTablets (query_leaves (table_view table.now).schema.fields q) (tablets_of (table_view table.now))
-        (L.shows link.old) (L.shows link.new)) }
-    ensures same { (L.shows link.new).held ≡ (L.shows link.old).held }
-    ensures never_falls { (L.shows link.old).faults ≤ (L.shows link.new).faults }
-    ensures stays_steady { IsTrue (L.shows link.old).is_steady → IsTrue (L.shows link.new).is_steady }
+        (λ q. OfEachLink L.shows (AsksForTablets (query_leaves (table_view table.now).schema.fields q)
+        (tablets_of (table_view table.now))) links.old links.new) }
+    ensures same { OfEachLink L.shows (λ old new. new.held ≡ old.held) links.old links.new }
+    ensures never_falls { OfEachLink L.shows (λ old new. old.faults ≤ new.faults) links.old links.new }
+    ensures stays_steady { OfEachLink L.shows (λ old new. IsTrue old.is_steady → IsTrue new.is_steady) links.old
+        links.new }
+    ensures others { drop (service.now).workers links.new ≡ drop (service.now).workers links.old }
+    ensures count { length links.new ≡ length links.old }
+
+    // What follows from that.
+    ensures all { (service.now).least ≡ 100 → IfOk result (WhereMost (λ text left. ⊥)) }
 {
-    match scan_table(alloc, link, table, plan)? {
-        Pieces::Left(left) => Ok(Queried::Left(left)),
-        Pieces::Given(partials) => {
-            let text = gathered_text(rt, alloc, table.tablets, fan, plan, partials)?;
-            Ok(Queried::Text(text))
-        }
+    let tree = of_fan(alloc, table.tablets, service.fan)?;
+    let outcome = serve(
+        rt,
+        alloc,
+        plan,
+        table,
+        &tree,
+        links,
+        service.workers,
+        service.lag,
+        service.least,
+    )?;
+    match outcome {
+        Outcome::Finished(partial) => Ok(Queried::Text(text_of(alloc, plan, partial)?)),
+        Outcome::Most(partial, left) => Ok(Queried::Most(text_of(alloc, plan, partial)?, left)),
+        Outcome::Unfinished(left) => Ok(Queried::Left(left)),
     }
 }
 
-/// What a plan's query prints, from the partials of all tablets, in order.
-fn gathered_text<R: Threads + Sync>(
-    rt: &R,
-    alloc: Global,
-    tablets: u32,
-    fan: u32,
-    plan: &Plan,
-    partials: Vec<Partial>,
-) -> Result<String, NoMemory>
-    requires tablets { 1 ≤ tablets }
-    requires fan { 1 ≤ fan }
-    requires each { length partials.items ≡ tablets }
-    requires together { Together partials.items }
-    ensures { (s : Meant) (q : Query) (Rs : List (List Node)) → IsPlanOf s q plan.now → AllStand s q Rs partials.items
-        → IfOk result (λ t. string_bytes t ≡ answer_text s q (joined Rs)) }
+// What the partial of all records that are counted prints.
+fn text_of(alloc: Global, plan: &Plan, partial: Partial) -> Result<String, NoMemory>
+    ensures { (s : Meant) (q : Query) (R : List Node) → IsPlanOf s q plan.now
+        → Stands s.fields q R (partial_view partial)
+        → IfOk result (λ t. string_bytes t ≡ answer_text s q R) }
 {
-    let tree = of_fan(alloc, tablets, fan)?;
-    let partial = gather(rt, alloc, &tree, partials)?;
     let rows = partial.finish(alloc, plan)?;
     result_text(alloc, &rows)
 }

@@ -2,5 +2,9 @@
 #![tactic(auto)]
 
 mod answering;
+mod queried;
+mod service;
 
-pub use answering::{Queried, query_table};
+pub use answering::query_table;
+pub use queried::Queried;
+pub use service::Service;

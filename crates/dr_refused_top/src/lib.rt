@@ -7,7 +7,6 @@ pub mod answering;
 pub mod asking;
 pub mod dumping;
 pub mod loading;
-pub mod pieces;
 pub mod running;
 pub mod scanning;
 pub mod tablets;

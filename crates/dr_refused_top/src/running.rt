@@ -3,23 +3,16 @@
 ghost use Rattle.std.specs.Prelude.{◌≡◌, ◌≢◌, ◌≤◌, ◌⊎◌, length, map, string_bytes};
 ghost use Rattle.dr_commands.specs.Commands.{Taken, meant};
 ghost use Rattle.dr_top.specs.World.{world};
-ghost use Rattle.dr_top.specs.Ends.{Holds, Prints, IsUsage, IsRefused, IsLeft, IsOutside, IsMemory, SameCounts, LeavesInput, LeavesFiles, AsksKeeper, AsksLinks, LeavesLinks, IsComplete, IsServed};
+ghost use Rattle.dr_top.specs.Ends.{Holds, Prints, IsUsage, IsRefused, IsLeft, PrintsMost, IsOutside, IsMemory, SameCounts, LeavesInput, LeavesFiles, AsksKeeper, AsksLinks, LeavesLinks, IsComplete, IsServed};
 
-use dr_outside::{Gate, Keeper, Link, Sink, Source};
+use dr_outside::{Keeper, Link, Sink, Source};
 use dr_top::run;
 use std::alloc::Global;
+use std::sync::Wait;
 use std::thread::Threads;
 
 /// As `run`.
-pub fn status_of<
-    R: Threads + Sync,
-    S: Source,
-    O: Sink,
-    E: Sink,
-    K: Keeper,
-    L: Link + Send,
-    G: Gate + Sync,
->(
+pub fn status_of<R: Threads + Wait + Sync, S: Source, O: Sink, E: Sink, K: Keeper, L: Link + Send>(
     rt: &R,
     alloc: Global,
     words: &[String],
@@ -28,7 +21,6 @@ pub fn status_of<
     err: &mut E,
     keeper: &mut K,
     links: &mut [L],
-    gate: &G,
 ) -> u8
     requires links { 16 ≤ length links.old }
     ensures prints { result ≡ 0 → Holds (meant (map string_bytes words.now)) Prints
@@ -50,7 +42,10 @@ pub fn status_of<
     ensures memory { result ≡ 5 → IsMemory (meant (map string_bytes words.now))
         (world (S.shows source.old) (O.shows out.old) (E.shows err.old) (K.shows keeper.old) (map L.shows links.old))
         (world (S.shows source.new) (O.shows out.new) (E.shows err.new) (K.shows keeper.new) (map L.shows links.new)) }
-    ensures known { (result ≡ 0) ⊎ ((result ≡ 1) ⊎ ((result ≡ 2) ⊎ ((result ≡ 3) ⊎ ((result ≡ 4) ⊎ (result ≡ 5))))) }
+    ensures most { result ≡ 6 → Holds (meant (map string_bytes words.now)) PrintsMost
+        (world (S.shows source.old) (O.shows out.old) (E.shows err.old) (K.shows keeper.old) (map L.shows links.old))
+        (world (S.shows source.new) (O.shows out.new) (E.shows err.new) (K.shows keeper.new) (map L.shows links.new)) }
+    ensures known { result ≤ 6 }
 
     // At every status.
     ensures calm { result ≢ 4 → SameCounts
@@ -77,5 +72,5 @@ pub fn status_of<
         (world (S.shows source.old) (O.shows out.old) (E.shows err.old) (K.shows keeper.old) (map L.shows links.old))
         (world (S.shows source.new) (O.shows out.new) (E.shows err.new) (K.shows keeper.new) (map L.shows links.new)) }
 {
-    run(rt, alloc, words, source, out, err, keeper, links, gate)
+    run(rt, alloc, words, source, out, err, keeper, links)
 }

@@ -6,7 +6,5 @@ pub mod ProjectionLemmas
 pub mod ScanLemmas
 -- the copies of one tablet
 pub mod TabletLemmas
--- the tablets of a table
-pub mod TableLemmas
 -- the truth of tablets
 pub mod TruthLemmas

@@ -1,4 +1,4 @@
--- what a file, a tablet and a table give
+-- what a file, a tablet and tablets give
 pub mod Scans
 pub mod Tablets
 pub mod Tables

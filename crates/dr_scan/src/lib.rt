@@ -3,10 +3,8 @@
 #![tactic(auto)]
 
 pub mod laws;
-mod pieces;
 mod scanning;
 mod tablet;
 
-pub use pieces::{Pieces, scan_table};
 pub use scanning::scan;
 pub use tablet::{Scanned, scan_tablet};

@@ -35,3 +35,9 @@ pub first_stops : {A B : Type 0} (m : Meaning) (k k1 : LinkShown) (i : SourceSho
 first_stops m k k1 i shows ls d y r n h =
     subst (λ (links : List LinkShown). IfErr r (StopsWith m k k1 i i links (map shows (slice_set ls 0 y)))) (sym (first_link shows ls d n))
     (subst (λ (links : List LinkShown). IfErr r (StopsWith m k k1 i i (shows (get_or ls 0 d) ∷ map shows (drop 1 ls)) links)) (sym (set_link shows ls y n)) (h i (map shows (drop 1 ls))))
+
+-- the answer of a command that asks several
+pub links_answer : {E : Type 0} (m : Meaning) (k k1 : LinkShown) (i : SourceShown) (ls ks : List LinkShown) (r : Result Output E) → ((look : Look) → puts_in (m.outcome look) ≡ []) → IsUnput k k1 → OpensInput m k
+    → IfOk r (λ t. WithOutcome m k i (λ o. HasText o ls ks (printed t))) → IfOk r (λ t. Finishes m k k1 i ls ks (printed t))
+links_answer m k k1 i ls ks (Ok t) none e q h = (also_none m k k1 i (λ o. HasText o ls ks (printed t)) none e h, q)
+links_answer m k k1 i ls ks (Err x) none e q h = tt

@@ -24,3 +24,5 @@ pub mod SchemaEnds
 pub mod RunLemmas
 -- tables that are held whole
 mod ServedLemmas
+-- what is printed of the records that links give
+pub mod ServedTextLemmas

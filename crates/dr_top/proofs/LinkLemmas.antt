@@ -1,43 +1,47 @@
 -- What the first link is asked for.
-use Rattle.std.specs.Prelude.{◌≡◌, ◌<◌, ◌++◌, ℕ, zero, suc, List, [], ◌∷◌, length, map, Option, Some, None}
+use Rattle.std.specs.Prelude.{◌≡◌, ◌<◌, ◌≤◌, ◌++◌, ℕ, zero, suc, List, [], ◌∷◌, length, map, drop, Option, Some, None}
 use Rattle.std.specs.Option.{option_map}
-use Rattle.std.proofs.Common.{refl, get_or, slice_set, arith}
+use Rattle.std.proofs.Common.{refl, ap, subst, get_or, slice_set, arith}
 use Rattle.dr_formats.specs.Opening.{end_ranges, footer_ranges}
 use Rattle.dr_outside.specs.Source.{SourceShown}
 use Rattle.dr_outside.specs.Link.{LinkShown, Lacks}
 use Rattle.dr_outside.specs.Telling.{TellsFile, AsksOnly}
 use Rattle.dr_file.specs.Asking.{is_for_path, is_request_for}
+use Rattle.dr_reading.specs.Scan.{Scan}
+use Rattle.dr_tablets.specs.Asked.{AsksForTablets}
 use Rattle.dr_tablets.proofs.AskedTablets.{asks_none, held_nothing, path_asks}
-use Rattle.dr_commands.specs.Meaning.{Meaning, Outcome, done, refused, scans, looks_at}
+use Rattle.dr_serve.specs.Serving.{OfEachLink}
+use Rattle.dr_commands.specs.Meaning.{Meaning, Outcome, done, refused, scans, serves, looks_at}
 use Rattle.dr_commands.specs.ShowSchema.{ShowSchemaWords, show_schema_meaning}
 use Rattle.dr_commands.specs.Commands.{CommandWords, meaning_of}
-use Rattle.dr_top.specs.World.{ForOutcome, WithFirsts}
-use Rattle.dr_top.specs.Answers.{schema_ranges, AsksLink, AsksFirst, LeavesLinksBy, LeavesUnasked}
-use Rattle.dr_top.proofs.OutcomeLemmas.{of_each}
+use Rattle.dr_top.specs.World.{ForOutcome, WithEach}
+use Rattle.dr_top.specs.Answers.{schema_ranges, AsksLink, AsksEach, LeavesLinksBy, LeavesUnasked}
+use Rattle.dr_top.proofs.OutcomeLemmas.{of_each, weaker_for}
 
 -- a link that stays is asked for nothing
 unasked : (o : Outcome) (l : LinkShown) → AsksLink o l l
 unasked (done text puts) l = refl
 unasked (refused r puts) l = refl
 unasked (scans s) l = asks_none s.leaves s.tablets l l refl
+unasked (serves s n least) l = asks_none s.leaves s.tablets l l refl
 unasked (looks_at path) l = held_nothing (is_for_path path) (λ files. is_request_for path (schema_ranges (files path))) l.held l.asked l.asked refl
 
-first_unasked : (ls : List LinkShown) (o : Outcome) → WithFirsts ls ls (AsksLink o)
-first_unasked [] o = tt
-first_unasked (l ∷ ls) o = unasked o l
+each_unasked : (ls : List LinkShown) (o : Outcome) → WithEach ls ls (AsksLink o)
+each_unasked [] o = tt
+each_unasked (l ∷ ls) o = (unasked o l, each_unasked ls o)
 
 pub not_asked : (m : Meaning) (k : LinkShown) (i : SourceShown) (l : LinkShown) → ForOutcome m k i (λ o. AsksLink o l l)
 not_asked m k i l = of_each m k i (λ o. AsksLink o l l) (λ o. unasked o l)
 
-pub none_asked : (m : Meaning) (k : LinkShown) (i : SourceShown) (ls : List LinkShown) → ForOutcome m k i (λ o. WithFirsts ls ls (AsksLink o))
-none_asked m k i ls = of_each m k i (λ o. WithFirsts ls ls (AsksLink o)) (first_unasked ls)
+pub none_asked : (m : Meaning) (k : LinkShown) (i : SourceShown) (ls : List LinkShown) → ForOutcome m k i (λ o. WithEach ls ls (AsksLink o))
+none_asked m k i ls = of_each m k i (λ o. WithEach ls ls (AsksLink o)) (each_unasked ls)
 
-pub none_meant : (o : Option CommandWords) (k : LinkShown) (i : SourceShown) (ls : List LinkShown) → AsksFirst (option_map meaning_of o) k i ls ls
+pub none_meant : (o : Option CommandWords) (k : LinkShown) (i : SourceShown) (ls : List LinkShown) → AsksEach (option_map meaning_of o) k i ls ls
 none_meant None k i ls = refl
 none_meant (Some w) k i ls = none_asked (meaning_of w) k i ls
 
 -- links that stay hold what they held
-links_stay : (n : ℕ) (ls : List LinkShown) → LeavesLinksBy n ls ls
+pub links_stay : (n : ℕ) (ls : List LinkShown) → LeavesLinksBy n ls ls
 links_stay zero ls = refl
 links_stay (suc n) [] = tt
 links_stay (suc n) (l ∷ ls) = (refl, links_stay n ls)
@@ -48,9 +52,32 @@ none_unasked (Some w) ls = links_stay (meaning_of w).links ls
 
 -- the first of some links
 pub first_asked : {A : Type 0} (m : Meaning) (k : LinkShown) (i : SourceShown) (shows : A → LinkShown) (ls : List A) (d y : A) → 0 < length ls → ForOutcome m k i (λ o. AsksLink o (shows (get_or ls 0 d)) (shows y))
-    → ForOutcome m k i (λ o. WithFirsts (map shows ls) (map shows (slice_set ls 0 y)) (AsksLink o))
+    → ForOutcome m k i (λ o. WithEach (map shows ls) (map shows (slice_set ls 0 y)) (AsksLink o))
 first_asked m k i shows [] d y n h = absurd (omega (arith, n))
-first_asked m k i shows (l ∷ ls) d y n h = h
+first_asked m k i shows (l ∷ ls) d y n h = weaker_for m k i (λ o. AsksLink o (shows l) (shows y)) (λ o. WithEach (shows l ∷ map shows ls) (shows y ∷ map shows ls) (AsksLink o)) (λ o a. (a, each_unasked (map shows ls) o)) h
+
+-- each of some links
+each_link : {A : Type 0} (shows : A → LinkShown) (P : LinkShown → LinkShown → Type 0) (olds news : List A) → length news ≡ length olds → OfEachLink shows P olds news → WithEach (map shows olds) (map shows news) P
+each_link shows P [] [] e h = tt
+each_link shows P [] (y ∷ news) e h = absurd (omega (arith, e))
+each_link shows P (x ∷ olds) [] e h = absurd (omega (arith, e))
+each_link shows P (x ∷ olds) (y ∷ news) e h = (h 0 x (omega arith), each_link shows P olds news (omega (arith, e)) (λ i l lt. h (suc i) l (omega (arith, lt))))
+
+pub serving_asks : {A : Type 0} (shows : A → LinkShown) (s : Scan) (n least : ℕ) (olds news : List A) → length news ≡ length olds → OfEachLink shows (AsksForTablets s.leaves s.tablets) olds news
+    → WithEach (map shows olds) (map shows news) (AsksLink (serves s n least))
+serving_asks shows s n least olds news e h = each_link shows (AsksForTablets s.leaves s.tablets) olds news e h
+
+-- of some links the first so many hold what they held, and the others are as they were
+links_left : {A : Type 0} (shows : A → LinkShown) (n : ℕ) (olds news : List A) → n ≤ length olds → length news ≡ length olds → OfEachLink shows (λ l k. k.held ≡ l.held) olds news → drop n news ≡ drop n olds
+    → LeavesLinksBy n (map shows olds) (map shows news)
+links_left shows zero olds news w e h d = ap (map shows) d
+links_left shows (suc n) [] news w e h d = absurd (omega (arith, w))
+links_left shows (suc n) (x ∷ olds) [] w e h d = absurd (omega (arith, e))
+links_left shows (suc n) (x ∷ olds) (y ∷ news) w e h d = (h 0 x (omega arith), links_left shows n olds news (omega (arith, w)) (omega (arith, e)) (λ i l lt. h (suc i) l (omega (arith, lt))) d)
+
+pub links_left_by : {A : Type 0} (shows : A → LinkShown) (m n : ℕ) (olds news : List A) → m ≡ n → n ≤ length olds → length news ≡ length olds → OfEachLink shows (λ l k. k.held ≡ l.held) olds news → drop m news ≡ drop m olds
+    → LeavesLinksBy n (map shows olds) (map shows news)
+links_left_by shows m n olds news same w e h d = links_left shows n olds news w e h (subst (λ k. drop k news ≡ drop k olds) same d)
 
 -- the file of `schema`
 pub schema_asks : (path own : List ℕ) (l now : LinkShown) → path ≡ own → ((bytes : List ℕ) → TellsFile l.held path bytes → AsksOnly (is_request_for path (end_ranges bytes ++ footer_ranges bytes)) l.asked now.asked)

@@ -58,6 +58,11 @@ weaker m k i P Q w h = weaker_file m.file k.held _ _ (λ IsIt. weaker_used m.rea
 pub of_each : (m : Meaning) (k : LinkShown) (i : SourceShown) (P : Outcome → Type 0) → ((o : Outcome) → P o) → ForOutcome m k i P
 of_each m k i P h = file_of_all m.file k.held _ (λ IsIt. used_of_all m.reads_input [] i.left _ (λ bytes file is. h (m.outcome (record { file = file; input = bytes }))))
 
+-- and what follows of each outcome
+pub weaker_for : (m : Meaning) (k : LinkShown) (i : SourceShown) (P Q : Outcome → Type 0) → ((o : Outcome) → P o → Q o) → ForOutcome m k i P → ForOutcome m k i Q
+weaker_for m k i P Q f h =
+    weaker_file m.file k.held _ _ (λ IsIt. weaker_used m.reads_input [] i.left _ _ (λ bytes g file is. f (m.outcome (record { file = file; input = bytes })) (g file is))) h
+
 same_file : (fs : Files) (path a b : List ℕ) → fs path ≡ Some a → fs path ≡ Some b → a ≡ b
 same_file fs path a b e f = cc
 
@@ -156,6 +161,7 @@ plain_stop m k k1 i i1 ls (Stop.Refused r) e h = (
   λ early. let x = h.3 early in (x.0, x.1, put_none k k1 e),
 )
 plain_stop m k k1 i i1 ls (Stop.Left left) e h = absurd h
+plain_stop m k k1 i i1 ls (Stop.Most text left) e h = absurd h
 plain_stop m k k1 i i1 ls (Stop.LeftFile cause) e h = absurd h
 
 pub plain_stops : {A : Type 0} (m : Meaning) (k k1 : LinkShown) (i i1 : SourceShown) (ls : List LinkShown) (r : Result A Stop) → IsUnput k k1 → IfErr r (StopsPlain m k k1 i i1) → IfErr r (StopsWith m k k1 i i1 ls ls)

@@ -1,5 +1,5 @@
 -- The ends of a run, from what the words are answered with.
-use Rattle.std.specs.Prelude.{◌≡◌, ◌<◌, ℕ, Bool, true, false, List, codes, Option, Some, None, option_map, Result, Ok, Err, IfErr, ⊤, ◌⊎◌}
+use Rattle.std.specs.Prelude.{◌≡◌, ◌<◌, ℕ, Bool, true, false, List, codes, Option, Some, None, option_map, Result, Ok, Err, IfErr, ⊤, ◌⊎◌, String, string_bytes}
 use Rattle.std.specs.declared.alloc.Global.{Global}
 use Rattle.std.proofs.Common.{refl, sym, ap, subst, inl, inr, Vec}
 use Rattle.dr_formats.specs.Loading.{Put}
@@ -19,7 +19,7 @@ use Rattle.dr_commands.specs.declared.words_fault.WordsFault.{WordsFault}
 use Rattle.dr_top.specs.World.{world, WithOutcome, RefusesEarly}
 use Rattle.dr_top.specs.Stops.{StopsWith, IsReadBy, IsRefusedSo, words_stop, refusal_view}
 use Rattle.dr_top.specs.Answers.{Finishes, StopsMeant}
-use Rattle.dr_top.specs.Ends.{ForMeant, Holds, Says, Prints, IsUsage, IsRefused, IsLeft, IsOutside, IsMemory, SameCounts, ByInput, IsComplete}
+use Rattle.dr_top.specs.Ends.{ForMeant, Holds, Says, Prints, IsUsage, IsRefused, IsLeft, EndsBut, PrintsMost, IsOutside, IsMemory, SameCounts, ByInput, IsComplete}
 use Rattle.dr_top.specs.declared.refusal.Refusal.{Refusal}
 use Rattle.dr_top.specs.declared.stop.Stop.{Stop}
 use Rattle.dr_top.proofs.OutcomeLemmas.{weaker, put_nothing}
@@ -51,7 +51,7 @@ module _ (i i1 : SourceShown) (out out1 err err1 : SinkShown) (k k1 : LinkShown)
   pub out_failed : (o : Option Meaning) (text : List ℕ) → ForMeant o (λ m. Finishes m k k1 i ls ls1 text) → ForMeant o (λ m. IsReadBy m.reads_input i i1) → AddedFront out out1 text
       → out1.faults ≡ raised out.faults → k1.faults ≡ k.faults → i1.faults ≡ i.faults → Says err err1 (codes "outside: out\n") → Holds o IsOutside (world i out err k ls) (world i1 out1 err1 k1 ls1)
   out_failed None text f r a u kf g s = absurd f
-  out_failed (Some m) text f r a u kf g s = inr (inr (text, s, f, u, a, r, kf, g))
+  out_failed (Some m) text f r a u kf g s = inr (inr (text, s, inl (f, r), u, a, kf, g))
 
   pub usage_end : (o : Option Meaning) → StopsMeant o k k1 i i1 ls ls1 Stop.Usage → out1 ≡ out → Says err err1 (codes "usage: dremel load|query|ask|dump|stripe|fsm|schema|explain|gen|trial ..\n")
       → IsUsage o (world i out err k ls) (world i1 out1 err1 k1 ls1)
@@ -101,6 +101,29 @@ module _ (i i1 : SourceShown) (out out1 err err1 : SinkShown) (k k1 : LinkShown)
   left_memory None left h e s = absurd h
   left_memory (Some m) left h e s = (s, e, inl (put_nothing m k k1 i h.3))
 
+  -- the text of most tablets
+  most_is : (m : Meaning) (text : String Global) (left : Vec LeftTablet Global) → StopsWith m k k1 i i1 ls ls1 (Stop.Most text left) → EndsBut m (world i out err k ls) (world i1 out1 err1 k1 ls1) (all_left_view left.items) (string_bytes text)
+  most_is m text left h = (h.1, h.4, h.2, h.3)
+
+  pub most_end : (o : Option Meaning) (text : String Global) (left : Vec LeftTablet Global) → StopsMeant o k k1 i i1 ls ls1 (Stop.Most text left) → AddedWhole out out1 (string_bytes text) → Says err err1 (left_text (all_left_view left.items))
+      → Holds o PrintsMost (world i out err k ls) (world i1 out1 err1 k1 ls1)
+  most_end None text left h a s = absurd h
+  most_end (Some m) text left h a s = (string_bytes text, all_left_view left.items, a, s, most_is m text left h)
+
+  pub most_failed : (o : Option Meaning) (text : String Global) (left : Vec LeftTablet Global) → StopsMeant o k k1 i i1 ls ls1 (Stop.Most text left) → AddedFront out out1 (string_bytes text) → out1.faults ≡ raised out.faults
+      → Says err err1 (codes "outside: out\n") → Holds o IsOutside (world i out err k ls) (world i1 out1 err1 k1 ls1)
+  most_failed None text left h a u s = absurd h
+  most_failed (Some m) text left h a u s = inr (inr (string_bytes text, s, inr (all_left_view left.items, most_is m text left h), u, a, h.0, ap (λ (x : SourceShown). x.faults) h.2))
+
+  pub most_counts : (o : Option Meaning) (text : String Global) (left : Vec LeftTablet Global) → StopsMeant o k k1 i i1 ls ls1 (Stop.Most text left) → out1.faults ≡ out.faults → SameCounts (world i out err k ls) (world i1 out1 err1 k1 ls1)
+  most_counts None text left h e = absurd h
+  most_counts (Some m) text left h e = record { input = ap (λ (x : SourceShown). x.faults) h.2; out = e; keeper = h.0 }
+
+  pub most_memory : (o : Option Meaning) (text : String Global) (left : Vec LeftTablet Global) → StopsMeant o k k1 i i1 ls ls1 (Stop.Most text left) → out1 ≡ out → Says err err1 (codes "no memory\n")
+      → IsMemory o (world i out err k ls) (world i1 out1 err1 k1 ls1)
+  most_memory None text left h e s = absurd h
+  most_memory (Some m) text left h e s = (s, e, inl (put_nothing m k k1 i h.3))
+
   pub file_end : (o : Option Meaning) (c : Cause) → StopsMeant o k k1 i i1 ls ls1 (Stop.LeftFile c) → out1 ≡ out → Says err err1 (left_file_text (told_cause c)) → Holds o IsLeft (world i out err k ls) (world i1 out1 err1 k1 ls1)
   file_end None c h e s = absurd h
   file_end (Some m) c h e s = inr (c, h.1, s, h.4, e, h.2, h.3)
@@ -130,15 +153,15 @@ module _ (i i1 : SourceShown) (out out1 err err1 : SinkShown) (k k1 : LinkShown)
       told = weaker m k i (IsRefusedSo (refusal_view r) k k1) (λ (x : Outcome). (puts : List Put) × (x ≡ refused (refusal_view r) puts)) (λ x p. (p.0, p.1)) h.3
 
       by : (b : Bool) (left : Option (List ℕ)) → (ByInput b left (IsEarly (refusal_view r) × RefusesEarly m k (refusal_view r)) (WithOutcome m k i (λ (x : Outcome). (puts : List Put) × (x ≡ refused (refusal_view r) puts))) → ⊥)
-          → (status : ℕ) → status ≡ 2 → (status ≡ 0) ⊎ ((status ≡ 5) ⊎ (((status ≡ 3) × (0 < m.links)) ⊎ ((status ≡ 2) × ByInput b left ⊤ ⊥)))
+          → (status : ℕ) → status ≡ 2 → (status ≡ 0) ⊎ ((status ≡ 5) ⊎ ((((status ≡ 3) ⊎ (status ≡ 6)) × (0 < m.links)) ⊎ ((status ≡ 2) × ByInput b left ⊤ ⊥)))
       by true None n status e = inr (inr (inr (e, tt)))
       by true (Some bytes) n status e = absurd (n told)
       by false left n status e = absurd (n told)
 
   pub left_incomplete : (o : Option Meaning) (left : Vec LeftTablet Global) → StopsMeant o k k1 i i1 ls ls1 (Stop.Left left) → IsComplete o 3 (world i out err k ls) (world i1 out1 err1 k1 ls1)
   left_incomplete None left h accepted calm = absurd h
-  left_incomplete (Some m) left h accepted calm = inr (inr (inl (refl, h.1)))
+  left_incomplete (Some m) left h accepted calm = inr (inr (inl (inl refl, h.1)))
 
   pub file_incomplete : (o : Option Meaning) (c : Cause) → StopsMeant o k k1 i i1 ls ls1 (Stop.LeftFile c) → IsComplete o 3 (world i out err k ls) (world i1 out1 err1 k1 ls1)
   file_incomplete None c h accepted calm = absurd h
-  file_incomplete (Some m) c h accepted calm = inr (inr (inl (refl, h.1)))
+  file_incomplete (Some m) c h accepted calm = inr (inr (inl (inl refl, h.1)))

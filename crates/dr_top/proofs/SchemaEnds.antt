@@ -111,4 +111,5 @@ schema_stop w k k1 i l l1 ls path Stop.Source p e f h = absurd h
 schema_stop w k k1 i l l1 ls path Stop.Keeper p e f h = absurd h
 schema_stop w k k1 i l l1 ls path (Stop.Refused r) p e f h = absurd h
 schema_stop w k k1 i l l1 ls path (Stop.Left left) p e f h = absurd h
+schema_stop w k k1 i l l1 ls path (Stop.Most text left) p e f h = absurd h
 schema_stop w k k1 i l l1 ls path (Stop.LeftFile c) p e f h = (f, omega arith, refl, e, ([], refl, subst (λ (x : List ℕ). LeavesFile x c l l1) p h))

@@ -6,8 +6,8 @@ use Rattle.dr_outside.specs.Link.{LinkShown}
 use Rattle.dr_load.specs.Puts.{HasPut}
 use Rattle.dr_file.specs.Asking.{is_for_path, is_request_for}
 use Rattle.dr_tablets.specs.Asked.{AsksHeld, AsksForTablets}
-use Rattle.dr_commands.specs.Meaning.{Meaning, Outcome, done, refused, scans, looks_at, puts_in}
-use Rattle.dr_top.specs.World.{WithOutcome, ForOutcome, WithFirsts, OpensInput}
+use Rattle.dr_commands.specs.Meaning.{Meaning, Outcome, done, refused, scans, serves, looks_at, puts_in}
+use Rattle.dr_top.specs.World.{WithOutcome, ForOutcome, WithEach, OpensInput}
 use Rattle.dr_top.specs.Reading.{HasText}
 use Rattle.dr_top.specs.Stops.{IsUnput, StopsWith, AsksForFile}
 use Rattle.dr_top.specs.declared.stop.Stop.{Stop}
@@ -63,15 +63,16 @@ abbrev pub schema_ranges : Option (List ℕ) → List Range
 schema_ranges None = []
 schema_ranges (Some bytes) = end_ranges bytes ++ footer_ranges bytes
 
--- what a link is asked for: by a scan for the files of its tablets, in the ranges of its leaves; by a look at a file for that file, in the ranges of its
--- schema; else for nothing. Of a link that doesn't tell what it holds, the files alone are said
+-- what a link is asked for: by a scan, or by a query that it serves, for the files of the tablets, in the ranges of its leaves; by a look at a file
+-- for that file, in the ranges of its schema; else for nothing. Of a link that doesn't tell what it holds, the files alone are said
 abbrev pub AsksLink : Outcome → LinkShown → LinkShown → Type 0
 AsksLink (scans s) link now = AsksForTablets s.leaves s.tablets link now
+AsksLink (serves s n least) link now = AsksForTablets s.leaves s.tablets link now
 AsksLink (looks_at path) link now = AsksHeld (is_for_path path) (λ files. is_request_for path (schema_ranges (files path))) link.held link.asked now.asked
 AsksLink (done text puts) link now = now.asked ≡ link.asked
 AsksLink (refused r puts) link now = now.asked ≡ link.asked
 
--- the first link is asked for nothing else, whatever comes of it
-abbrev pub AsksFirst : Option Meaning → LinkShown → SourceShown → List LinkShown → List LinkShown → Type 0
-AsksFirst (Some m) keeper input links links_now = ForOutcome m keeper input (λ o. WithFirsts links links_now (AsksLink o))
-AsksFirst None keeper input links links_now = links_now ≡ links
+-- no link is asked for anything else, whatever comes of it
+abbrev pub AsksEach : Option Meaning → LinkShown → SourceShown → List LinkShown → List LinkShown → Type 0
+AsksEach (Some m) keeper input links links_now = ForOutcome m keeper input (λ o. WithEach links links_now (AsksLink o))
+AsksEach None keeper input links links_now = links_now ≡ links

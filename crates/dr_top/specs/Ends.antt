@@ -1,5 +1,5 @@
 -- How a run ends, in the world before and after it. What isn't said to change stays as it was.
-use Rattle.std.specs.Prelude.{◌≡◌, ◌≢◌, ◌<◌, ℕ, true, false, IsTrue, List, [], ◌∷◌, codes, ◌⊎◌, ⊤, Option, Some, None, Ok, Bool}
+use Rattle.std.specs.Prelude.{◌≡◌, ◌≢◌, ◌<◌, ℕ, zero, suc, true, false, IsTrue, List, [], ◌∷◌, codes, ◌⊎◌, ⊤, Option, Some, None, Ok, Bool}
 use Rattle.dr_meaning.specs.Schema.{Schema}
 use Rattle.dr_formats.specs.File.{schema_of_file}
 use Rattle.dr_formats.specs.Loading.{Put}
@@ -14,11 +14,11 @@ use Rattle.dr_reading.specs.Premises.{EachHasFile}
 use Rattle.dr_reading.specs.Left.{LeftTablet}
 use Rattle.dr_reading.specs.LeftText.{told_cause, left_text}
 use Rattle.dr_commands.specs.Refusals.{Refusal, refusal_text}
-use Rattle.dr_commands.specs.Meaning.{Meaning, refused, scans, looks_at, IsEarly}
+use Rattle.dr_commands.specs.Meaning.{Meaning, Outcome, refused, scans, serves, looks_at, IsEarly}
 use Rattle.dr_top.specs.World.{World, WithOutcome, IsOpened, OpensInput, AcceptsWhole, RefusesEarly}
-use Rattle.dr_top.specs.Reading.{IsLeftWith, IsFileLeft}
+use Rattle.dr_top.specs.Reading.{IsLeftWith, HasMost, IsFileLeft}
 use Rattle.dr_top.specs.Stops.{IsUnput, KeepsFile, IsReadBy, IsRefusedSo, PutsSome, PutsBeforeEnd, PutsGiven, PutsBreak}
-use Rattle.dr_top.specs.Answers.{Finishes, AsksMeant, LeavesUnread, LeavesUnput, LeavesUnasked, AsksFirst}
+use Rattle.dr_top.specs.Answers.{Finishes, AsksMeant, LeavesUnread, LeavesUnput, LeavesUnasked, AsksEach}
 
 -- ---- words of the clauses
 
@@ -91,6 +91,17 @@ FileLeft m before after = (c : Cause) × (0 < m.links) × Says before.err after.
 abbrev pub IsLeft : Meaning → World → World → Type 0
 IsLeft m before after = TabletsLeft m before after ⊎ FileLeft m before after
 
+-- some tablets are left, just these, and the others are the share that the command asks for, of which this is the text; the input stays, and what
+-- the keeper holds
+abbrev pub EndsBut : Meaning → World → World → List LeftTablet → List ℕ → Type 0
+EndsBut m before after left text = (0 < m.links) × WithOutcome m before.keeper before.input (λ o. HasMost o before.links after.links left text)
+    × (after.input ≡ before.input) × IsUnput before.keeper after.keeper
+
+-- 6: that text was wholly written, and err tells what is left
+abbrev pub PrintsMost : Meaning → World → World → Type 0
+PrintsMost m before after = (text : List ℕ) × (left : List LeftTablet) × AddedWhole before.out after.out text
+    × Says before.err after.err (left_text left) × EndsBut m before after left text
+
 -- 4, the input: nothing before it is refused, nor is a whole line that the source gave; of the files that are to be put those from the front on were put,
 -- without the last one, and just those that are put before the line behind those that the source gave
 abbrev pub SourceFailed : Meaning → World → World → Type 0
@@ -109,13 +120,17 @@ KeeperFailed m before after = Says before.err after.err (codes "outside: keeper\
     × (((after.input ≡ before.input) × IsUnput before.keeper after.keeper) ⊎ (PutsBreak true m before.keeper after.keeper before.input × OpensInput m before.keeper))
     × (after.input.faults ≡ before.input.faults) × (after.out ≡ before.out) × (after.links ≡ before.links)
 
--- 4, out: it holds a front of the text, and no more was asked of it than it took to find that
+-- the text is whole, and the input read to its end or left alone
+abbrev pub EndsWhole : Meaning → World → World → List ℕ → Type 0
+EndsWhole m before after text = Finishes m before.keeper after.keeper before.input before.links after.links text
+    × IsReadBy m.reads_input before.input after.input
+
+-- 4, out: it holds a front of the text, which is whole or that of most tablets, and no more was asked of it than it took to find that
 abbrev pub OutFailed : Meaning → World → World → Type 0
 OutFailed m before after = (text : List ℕ) × Says before.err after.err (codes "outside: out\n")
-    × Finishes m before.keeper after.keeper before.input before.links after.links text
+    × (EndsWhole m before after text ⊎ ((left : List LeftTablet) × EndsBut m before after left text))
     × HasRisen before.out.faults after.out.faults
     × AddedFront before.out after.out text
-    × IsReadBy m.reads_input before.input after.input
     × (after.keeper.faults ≡ before.keeper.faults) × (after.input.faults ≡ before.input.faults)
 
 abbrev pub IsOutside : Meaning → World → World → Type 0
@@ -167,15 +182,22 @@ AsksKeeper meant before after = AsksMeant meant before.keeper after.keeper
 abbrev pub LeavesLinks : Option Meaning → World → World → Type 0
 LeavesLinks meant before after = LeavesUnasked meant before.links after.links
 
--- nor is that one asked for anything but what the command's scan, or its look at a file, needs
+-- nor is one asked for anything but what the command's scan, the query that it serves, or its look at a file needs
 abbrev pub AsksLinks : Option Meaning → World → World → Type 0
-AsksLinks meant before after = AsksFirst meant before.keeper before.input before.links after.links
+AsksLinks meant before after = AsksEach meant before.keeper before.input before.links after.links
 
--- where the words mean something of which nothing is refused, and no count rises, the status is 0 or 5, or 3 where a link is asked, or 2 where the
--- input isn't told
+-- where the words mean something of which nothing is refused, and no count rises, the status is 0 or 5, or 3 or 6 where a link is asked, or 2
+-- where the input isn't told
 abbrev pub IsComplete : Option Meaning → ℕ → World → World → Type 0
 IsComplete meant status before after = ForMeant meant (IsAccepted before) → IsCalm before after
-    → (status ≡ 0) ⊎ ((status ≡ 5) ⊎ (((status ≡ 3) × ForMeant meant (λ m. 0 < m.links)) ⊎ ((status ≡ 2) × ForMeant meant (IsUntold before))))
+    → (status ≡ 0) ⊎ ((status ≡ 5) ⊎ ((((status ≡ 3) ⊎ (status ≡ 6)) × ForMeant meant (λ m. 0 < m.links)) ⊎ ((status ≡ 2) × ForMeant meant (IsUntold before))))
+
+-- the command scans a table so, or serves a query over it
+abbrev pub ScansTable : Scan → Outcome → Type 0
+ScansTable scan (scans s) = s ≡ scan
+ScansTable scan (serves s zero least) = ⊥
+ScansTable scan (serves s (suc n) least) = s ≡ scan
+ScansTable scan o = ⊥
 
 -- the table file that the words name is there; the first link is steady, and tells that of each tablet that the command scans a copy is a file,
 -- for the leaves that it reads
@@ -191,7 +213,7 @@ pub record IsHeldWhole (m : Meaning) (w : World) : Type 0 where
   pub reads_nothing : m.reads_input ≡ false
   pub keeps : w.keeper.held ≡ Some kept
   pub there : kept path ≡ Some file
-  pub scans_it : m.outcome (record { file = file; input = [] }) ≡ scans scan
+  pub scans_it : ScansTable scan (m.outcome (record { file = file; input = [] }))
   pub links : w.links ≡ first ∷ others
   pub tells : first.held ≡ Some files
   pub steady : IsTrue first.is_steady
@@ -217,4 +239,4 @@ pub record IsSchemaHeld (m : Meaning) (w : World) : Type 0 where
 -- then neither a tablet nor that file is left
 abbrev pub IsServed : Option Meaning → ℕ → World → Type 0
 IsServed None status before = ⊤
-IsServed (Some m) status before = IsHeldWhole m before ⊎ IsSchemaHeld m before → status ≢ 3
+IsServed (Some m) status before = IsHeldWhole m before ⊎ IsSchemaHeld m before → (status ≢ 3) × (status ≢ 6)

@@ -17,3 +17,5 @@ pub mod Records
 pub mod Answers
 -- how a run ends
 pub mod Ends
+-- a law of queries that links serve, proved on a law function of src/
+pub mod ServedLaws

@@ -1,5 +1,5 @@
 -- What a command gives: its text, or what is left.
-use Rattle.std.specs.Prelude.{◌≡◌, ℕ, false, List, [], ◌∷◌, Ok, Err, ⊤, IsTrue}
+use Rattle.std.specs.Prelude.{◌≡◌, ◌<◌, ◌*◌, ◌-◌, ℕ, false, List, [], ◌∷◌, length, take, Ok, Err, ⊤, IsTrue}
 use Rattle.dr_meaning.specs.SchemaText.{schema_text}
 use Rattle.dr_meaning.specs.Schema.{Schema}
 use Rattle.dr_meaning.specs.Record.{Node}
@@ -13,7 +13,9 @@ use Rattle.dr_reading.specs.Causes.{LeadTo, is_read}
 use Rattle.dr_reading.specs.Scan.{Scan, joined}
 use Rattle.dr_reading.specs.Left.{LeftTablet}
 use Rattle.dr_reading.specs.InTurn.{GiveInTurn, LeaveInTurn}
-use Rattle.dr_commands.specs.Meaning.{Outcome, done, refused, scans, looks_at}
+use Rattle.dr_serve.specs.Serving.{IsShare, first_shown}
+use Rattle.dr_serve.specs.Counted.{held_of, AreCounted, AreLeftOf}
+use Rattle.dr_commands.specs.Meaning.{Outcome, done, refused, scans, serves, looks_at}
 use Rattle.dr_top.specs.World.{WithFirsts}
 
 -- ---- the text
@@ -21,6 +23,11 @@ use Rattle.dr_top.specs.World.{WithFirsts}
 -- the text of a scan: the link read the tablets in turn, each gave records, and it is the text of them all, in order
 abbrev pub IsScanned : Scan → LinkShown → LinkShown → List ℕ → Type 0
 IsScanned s l now text = (Rs : List (List Node)) × GiveInTurn s.schema s.leaves l now s.tablets Rs × (text ≡ s.text (joined Rs))
+
+-- the text of a query that these links serve: of each tablet but those that are left a link gives records, and it is the text of them all, each
+-- tablet's once, in order
+abbrev pub IsServedText : Scan → List LinkShown → List LeftTablet → List ℕ → Type 0
+IsServedText s links left text = (Rs : List (List Node)) × AreCounted s.schema s.leaves (held_of links) 0 s.tablets left Rs × (text ≡ s.text (joined Rs))
 
 -- the text is that of the open part of the file's schema; nothing is known where the link doesn't tell
 abbrev pub IsSchemaShown : Held → List ℕ → Type 0
@@ -32,11 +39,12 @@ IsSchemaShown (present bytes) text = (s : Schema) × (schema_of_file bytes ≡ O
 abbrev pub IsLookedAt : List ℕ → LinkShown → LinkShown → List ℕ → Type 0
 IsLookedAt path l now text = IsSchemaShown (held_at l.held path) text × (now.faults ≡ l.faults)
 
--- an outcome has this text, by what the first link holds
+-- an outcome has this text, by what links hold: the first one, or so many that serve a query
 abbrev pub HasText : Outcome → List LinkShown → List LinkShown → List ℕ → Type 0
 HasText (done t puts) links now text = text ≡ t
 HasText (refused r puts) links now text = ⊥
 HasText (scans s) links now text = WithFirsts links now (λ l k. IsScanned s l k text)
+HasText (serves s n least) links now text = IsServedText s (take n links) [] text
 HasText (looks_at path) links now text = WithFirsts links now (λ l k. IsLookedAt path l k text)
 
 -- ---- what is left
@@ -47,7 +55,15 @@ LeavesTablets s left l now = LeaveInTurn s.schema s.leaves l now s.tablets left
 
 abbrev pub IsLeftWith : Outcome → List LinkShown → List LinkShown → List LeftTablet → Type 0
 IsLeftWith (scans s) links now left = WithFirsts links now (LeavesTablets s left)
+IsLeftWith (serves s n least) links now left = AreLeftOf s.schema s.leaves s.tablets (take n links) (first_shown now).faults left
+    × (100 * (length s.tablets - length left) < least * length s.tablets)
 IsLeftWith o links now left = ⊥
+
+-- some of the tablets are left, just these; the others are the share that is asked for, and the text is theirs
+abbrev pub HasMost : Outcome → List LinkShown → List LinkShown → List LeftTablet → List ℕ → Type 0
+HasMost (serves s n least) links now left text = AreLeftOf s.schema s.leaves s.tablets (take n links) (first_shown now).faults left
+    × IsShare least (length s.tablets - length left) (length s.tablets) × IsServedText s (take n links) left text
+HasMost o links now left text = ⊥
 
 -- the cause for which a file has no schema; nothing is known where the link doesn't tell
 abbrev pub HasSchemaCause : FileCause → Held → Type 0

@@ -1,5 +1,5 @@
 -- What stops a command, and what each stop says of the keeper and of the input.
-use Rattle.std.specs.Prelude.{◌≡◌, ◌<◌, ℕ, Bool, true, false, List, [], ◌∷◌, ◌++◌, Option, Some, option_map, Result, Ok, Err, ⊤, ◌⊎◌, IsTrue}
+use Rattle.std.specs.Prelude.{◌≡◌, ◌<◌, ℕ, Bool, true, false, List, [], ◌∷◌, ◌++◌, Option, Some, option_map, Result, Ok, Err, ⊤, ◌⊎◌, IsTrue, string_bytes}
 use Rattle.dr_meaning.specs.Schema.{Fields, Schema}
 use Rattle.dr_meaning.specs.SchemaText.{SchemaFault, parse_schema}
 use Rattle.dr_meaning.specs.Lines as line
@@ -21,10 +21,10 @@ use Rattle.dr_outside.specs.Faults.{raised}
 use Rattle.dr_outside.specs.Source.{SourceShown}
 use Rattle.dr_outside.specs.Link.{Files, LinkShown, Request, Holds, size_of, bytes_of}
 use Rattle.dr_commands.specs.Refusals.{Refusal as Refused, schema_refused, table_refused, field_refused, words_refused, query_refused, line_refused}
-use Rattle.dr_commands.specs.Meaning.{Look, Meaning, Outcome, done, refused, scans, looks_at, puts_in, IsEarly}
+use Rattle.dr_commands.specs.Meaning.{Look, Meaning, Outcome, done, refused, scans, serves, looks_at, puts_in, IsEarly}
 use Rattle.dr_commands.specs.declared.words_fault.WordsFault.{WordsFault}
 use Rattle.dr_top.specs.World.{WhereFile, WithOutcome, ForOutcome, HasOutcome, IsOpened, OpensInput, AcceptsWhole, RefusesEarly}
-use Rattle.dr_top.specs.Reading.{IsLeftWith, IsFileLeft, LeavesFile}
+use Rattle.dr_top.specs.Reading.{IsLeftWith, HasMost, IsFileLeft, LeavesFile}
 use Rattle.dr_tablets.specs.Views.{all_left_view}
 use Rattle.dr_load.specs.Words.{words_problem_view}
 use Rattle.dr_load.specs.declared.words.WordsProblem.{WordsProblem}
@@ -148,6 +148,7 @@ StopsPlain m keeper keeper_now input input_now (Stop.Refused r) =
     (keeper_now.faults ≡ keeper.faults) × (input_now.faults ≡ input.faults) × HasOutcome m keeper input (refused (refusal_view r) [])
     × (IsEarly (refusal_view r) → (input_now ≡ input) × RefusesEarly m keeper (refusal_view r))
 StopsPlain m keeper keeper_now input input_now (Stop.Left left) = ⊥
+StopsPlain m keeper keeper_now input input_now (Stop.Most text left) = ⊥
 StopsPlain m keeper keeper_now input input_now (Stop.LeftFile cause) = ⊥
 
 -- without the last
@@ -161,6 +162,7 @@ abbrev pub puts_before_end : Outcome → List Put
 puts_before_end (done text puts) = all_but_last puts
 puts_before_end (refused r puts) = puts
 puts_before_end (scans s) = []
+puts_before_end (serves s workers least) = []
 puts_before_end (looks_at path) = []
 
 -- a front of its puts was done, in their order, and no other was asked for
@@ -203,6 +205,9 @@ StopsWith m keeper keeper_now input input_now links links_now (Stop.Refused r) =
 StopsWith m keeper keeper_now input input_now links links_now (Stop.Left left) =
     (keeper_now.faults ≡ keeper.faults) × (0 < m.links) × (input_now ≡ input) × IsUnput keeper keeper_now
     × WithOutcome m keeper input (λ o. IsLeftWith o links links_now (all_left_view left.items))
+StopsWith m keeper keeper_now input input_now links links_now (Stop.Most text left) =
+    (keeper_now.faults ≡ keeper.faults) × (0 < m.links) × (input_now ≡ input) × IsUnput keeper keeper_now
+    × WithOutcome m keeper input (λ o. HasMost o links links_now (all_left_view left.items) (string_bytes text))
 StopsWith m keeper keeper_now input input_now links links_now (Stop.LeftFile cause) =
     (keeper_now.faults ≡ keeper.faults) × (0 < m.links) × (input_now ≡ input) × IsUnput keeper keeper_now
     × WithOutcome m keeper input (λ o. IsFileLeft o links links_now cause)

@@ -81,3 +81,9 @@ WithFirsts [] [] P = ⊤
 WithFirsts [] (l ∷ ls) P = ⊥
 WithFirsts (l ∷ ls) [] P = ⊥
 WithFirsts (l ∷ ls) (k ∷ ks) P = P l k
+
+-- P holds of each link, before and after
+abbrev pub WithEach : List LinkShown → List LinkShown → (LinkShown → LinkShown → Type 0) → Type 0
+WithEach [] [] P = ⊤
+WithEach (l ∷ ls) (k ∷ ks) P = P l k × WithEach ls ks P
+WithEach ls ks P = ⊥

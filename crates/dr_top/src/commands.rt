@@ -1,12 +1,12 @@
 //! The commands: what each answers.
 
-ghost use Rattle.std.specs.Prelude.{◌≡◌, ◌≢◌, ◌<◌, length, Err, false, map, string_bytes, IfOk, IfErr, OnOk};
+ghost use Rattle.std.specs.Prelude.{◌≡◌, ◌≢◌, ◌≤◌, length, Err, false, map, string_bytes, IfOk, IfErr, OnOk};
 ghost use Rattle.dr_commands.specs.Commands.{Taken, meaning_of, meant};
 ghost use Rattle.dr_commands.specs.CommandView.{command_view};
 ghost use Rattle.dr_top.specs.Printed.{printed};
-ghost use Rattle.dr_top.specs.World.{ForOutcome, WithFirsts};
+ghost use Rattle.dr_top.specs.World.{ForOutcome, WithEach};
 ghost use Rattle.dr_top.specs.Stops.{IsUnput, StopsWith, IsReadBy};
-ghost use Rattle.dr_top.specs.Answers.{Finishes, StopsMeant, AsksFor, AsksMeant, LeavesUnread, LeavesUnput, LeavesUnasked, LeavesLinksBy, AsksFirst, AsksLink};
+ghost use Rattle.dr_top.specs.Answers.{Finishes, StopsMeant, AsksFor, AsksMeant, LeavesUnread, LeavesUnput, LeavesUnasked, LeavesLinksBy, AsksEach, AsksLink};
 ghost use Rattle.dr_top.specs.Ends.{ForMeant};
 
 mod ask;
@@ -25,12 +25,13 @@ use crate::stop::Stop;
 use dr_commands::{Command, read_words};
 use dr_outside::{Keeper, Link, Source};
 use std::alloc::Global;
+use std::sync::Wait;
 use std::thread::Threads;
 
 /// What a command prints.
 ///
 /// Errors: its first refusal; the keeper or the source failed; what is left; want of memory.
-fn command_answer<R: Threads + Sync, S: Source, K: Keeper, L: Link>(
+fn command_answer<R: Threads + Wait + Sync, S: Source, K: Keeper, L: Link + Send>(
     rt: &R,
     alloc: Global,
     command: &Command,
@@ -38,7 +39,7 @@ fn command_answer<R: Threads + Sync, S: Source, K: Keeper, L: Link>(
     keeper: &mut K,
     links: &mut [L],
 ) -> Result<Output, Stop>
-    requires link { 0 < length links.old }
+    requires links { 16 ≤ length links.old }
     ensures text { IfOk result (λ t. Finishes (meaning_of (command_view command.now)) (K.shows keeper.old)
         (K.shows keeper.new) (S.shows source.old) (map L.shows links.old) (map L.shows links.new) (printed t)) }
     ensures read { OnOk result (IsReadBy (meaning_of (command_view command.now)).reads_input (S.shows source.old)
@@ -56,11 +57,11 @@ fn command_answer<R: Threads + Sync, S: Source, K: Keeper, L: Link>(
     ensures links { LeavesLinksBy (meaning_of (command_view command.now)).links (map L.shows links.old)
         (map L.shows links.new) }
     ensures reads { ForOutcome (meaning_of (command_view command.now)) (K.shows keeper.old) (S.shows source.old)
-        (λ o. WithFirsts (map L.shows links.old) (map L.shows links.new) (AsksLink o)) }
+        (λ o. WithEach (map L.shows links.old) (map L.shows links.new) (AsksLink o)) }
 {
     match command {
         Command::Load(load) => load::answer(alloc, load, source, keeper),
-        Command::Query(query) => query::answer(rt, alloc, query, keeper, &mut links[0]),
+        Command::Query(query) => query::answer(rt, alloc, query, keeper, links),
         Command::Ask(ask) => ask::answer(rt, alloc, ask, source, keeper),
         Command::Dump(dump) => dump::answer(alloc, dump, keeper, &mut links[0]),
         Command::Stripe(stripe) => stripe::answer(alloc, stripe, source, keeper),
@@ -76,7 +77,7 @@ fn command_answer<R: Threads + Sync, S: Source, K: Keeper, L: Link>(
 ///
 /// Errors: the words ask for nothing; the command's first refusal; the keeper or the source failed; what is left; want
 /// of memory.
-pub fn answer<R: Threads + Sync, S: Source, K: Keeper, L: Link>(
+pub fn answer<R: Threads + Wait + Sync, S: Source, K: Keeper, L: Link + Send>(
     rt: &R,
     alloc: Global,
     words: &[String],
@@ -84,7 +85,7 @@ pub fn answer<R: Threads + Sync, S: Source, K: Keeper, L: Link>(
     keeper: &mut K,
     links: &mut [L],
 ) -> Result<Output, Stop>
-    requires link { 0 < length links.old }
+    requires links { 16 ≤ length links.old }
     ensures text { IfOk result (λ t. ForMeant (meant (map string_bytes words.now))
         (λ m. Finishes m (K.shows keeper.old) (K.shows keeper.new) (S.shows source.old) (map L.shows links.old)
         (map L.shows links.new) (printed t))) }
@@ -100,7 +101,7 @@ pub fn answer<R: Threads + Sync, S: Source, K: Keeper, L: Link>(
     ensures taken { Taken (map string_bytes words.now) → result ≢ Err Stop.Usage }
     ensures unread { LeavesUnread (meant (map string_bytes words.now)) (S.shows source.old) (S.shows source.new) }
     ensures links { LeavesUnasked (meant (map string_bytes words.now)) (map L.shows links.old) (map L.shows links.new) }
-    ensures reads { AsksFirst (meant (map string_bytes words.now)) (K.shows keeper.old) (S.shows source.old)
+    ensures reads { AsksEach (meant (map string_bytes words.now)) (K.shows keeper.old) (S.shows source.old)
         (map L.shows links.old) (map L.shows links.new) }
 {
     let command = read_words(alloc, words)?;

@@ -12,8 +12,9 @@ mod refusal;
 mod report;
 mod running;
 mod schema_file;
+mod service;
 mod stop;
 mod table_file;
 
-pub use laws::gen_refuses_nothing;
+pub use laws::{gen_refuses_nothing, served_prints_meaning};
 pub use running::run;

@@ -3,15 +3,16 @@
 ghost use Rattle.std.specs.Prelude.{◌≡◌, ◌≢◌, ◌≤◌, ◌⊎◌, length, map, string_bytes};
 ghost use Rattle.dr_commands.specs.Commands.{Taken, meant};
 ghost use Rattle.dr_top.specs.World.{world};
-ghost use Rattle.dr_top.specs.Ends.{Says, Holds, Prints, IsUsage, IsRefused, IsLeft, IsOutside, IsMemory, SameCounts, LeavesInput, LeavesFiles, AsksKeeper, AsksLinks, LeavesLinks, IsComplete, IsServed};
+ghost use Rattle.dr_top.specs.Ends.{Says, Holds, Prints, IsUsage, IsRefused, IsLeft, PrintsMost, IsOutside, IsMemory, SameCounts, LeavesInput, LeavesFiles, AsksKeeper, AsksLinks, LeavesLinks, IsComplete, IsServed};
 
 use crate::commands::answer;
 use crate::left_file::left_file_report;
 use crate::stop::Stop;
 use dr_commands::USAGE;
-use dr_outside::{Gate, Keeper, Link, Sink, Source, write_all};
+use dr_outside::{Keeper, Link, Sink, Source, write_all};
 use dr_tablets::left_text;
 use std::alloc::Global;
+use std::sync::Wait;
 use std::thread::Threads;
 
 /// Writes a line on standard error; a failure changes nothing else.
@@ -26,19 +27,12 @@ fn say<E: Sink>(err: &mut E, line: &[u8])
 /// 0: the whole text was written, and the input was read to its end, where the command reads it. 1: the words ask for
 /// nothing. 2: the schema, the table, a FIELD, the directories, the query or a line of the input is refused, the first
 /// that the command looks at. 3: tablets of a table are left, or the file of `schema`, each with its cause. 4: the
-/// source, the sink or the keeper failed. 5: want of memory. What isn't 0 has a line on standard error.
+/// source, the sink or the keeper failed. 5: want of memory. 6: tablets are left, each with its cause, and the whole
+/// text of the others was written, which are the share that the words ask for. What isn't 0 has a line on standard
+/// error.
 ///
-/// The clauses speak of what the things outside show before the call and after it. The gate is passed on to workers
-/// alone, and no command has any yet.
-pub fn run<
-    R: Threads + Sync,
-    S: Source,
-    O: Sink,
-    E: Sink,
-    K: Keeper,
-    L: Link + Send,
-    G: Gate + Sync,
->(
+/// The clauses speak of what the things outside show before the call and after it.
+pub fn run<R: Threads + Wait + Sync, S: Source, O: Sink, E: Sink, K: Keeper, L: Link + Send>(
     rt: &R,
     alloc: Global,
     words: &[String],
@@ -47,7 +41,6 @@ pub fn run<
     err: &mut E,
     keeper: &mut K,
     links: &mut [L],
-    _gate: &G,
 ) -> u8
     requires links { 16 ≤ length links.old }
     ensures prints { result ≡ 0 → Holds (meant (map string_bytes words.now)) Prints
@@ -69,7 +62,10 @@ pub fn run<
     ensures memory { result ≡ 5 → IsMemory (meant (map string_bytes words.now))
         (world (S.shows source.old) (O.shows out.old) (E.shows err.old) (K.shows keeper.old) (map L.shows links.old))
         (world (S.shows source.new) (O.shows out.new) (E.shows err.new) (K.shows keeper.new) (map L.shows links.new)) }
-    ensures known { (result ≡ 0) ⊎ ((result ≡ 1) ⊎ ((result ≡ 2) ⊎ ((result ≡ 3) ⊎ ((result ≡ 4) ⊎ (result ≡ 5))))) }
+    ensures most { result ≡ 6 → Holds (meant (map string_bytes words.now)) PrintsMost
+        (world (S.shows source.old) (O.shows out.old) (E.shows err.old) (K.shows keeper.old) (map L.shows links.old))
+        (world (S.shows source.new) (O.shows out.new) (E.shows err.new) (K.shows keeper.new) (map L.shows links.new)) }
+    ensures known { result ≤ 6 }
 
     // At every status.
     ensures calm { result ≢ 4 → SameCounts
@@ -129,6 +125,22 @@ pub fn run<
                 say(err, text.as_bytes());
                 3
             }
+            Err(_) => {
+                say(err, b"no memory\n");
+                5
+            }
+        },
+        Err(Stop::Most { text, left }) => match left_text(alloc, &left) {
+            Ok(report) => match write_all(out, text.as_bytes()) {
+                Ok(()) => {
+                    say(err, report.as_bytes());
+                    6
+                }
+                Err(_) => {
+                    say(err, b"outside: out\n");
+                    4
+                }
+            },
             Err(_) => {
                 say(err, b"no memory\n");
                 5

@@ -1,4 +1,4 @@
-//! What stops a command.
+//! What stops a command before its whole text.
 
 ghost use Rattle.std.specs.Prelude.{◌≡◌};
 ghost use Rattle.dr_top.specs.declared.stop.Stop.TheVariants as stops;
@@ -18,7 +18,7 @@ use dr_nested::SchemaFault;
 use dr_outside::Cause;
 use dr_tablets::LeftTablet;
 
-/// Why a command gives no text.
+/// Why a command doesn't give its whole text.
 #[derive(PartialEq, Eq, Debug, Drop)]
 pub enum Stop {
     /// The words ask for nothing.
@@ -32,6 +32,8 @@ pub enum Stop {
     Refused(Refusal),
     /// Tablets are left: none of their copies gave records.
     Left(Vec<LeftTablet>),
+    /// Some tablets are left, and the text is that of the others, which are the share that was asked for.
+    Most { text: String, left: Vec<LeftTablet> },
     /// A file gave no schema.
     LeftFile(Cause),
 }

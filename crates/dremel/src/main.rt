@@ -2,7 +2,6 @@
 #![tactic(auto)]
 
 use dr_files::{DirKeeper, DirLink, Incoming, Outgoing};
-use dr_outside::OpenGate;
 use dr_top::run;
 use std::io::ErrorKind;
 use std::process::ExitCode;
@@ -40,7 +39,6 @@ fn main(rt: HostRuntime) -> io::Result<ExitCode> {
         &mut Outgoing::new(rt.stderr()),
         &mut DirKeeper::new(alloc, rt),
         &mut links,
-        &OpenGate,
     );
     Ok(ExitCode::from(status))
 }

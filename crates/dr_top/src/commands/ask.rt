@@ -9,19 +9,21 @@ ghost use Rattle.dr_top.specs.Stops.{IsUnput, StopsPlain, IsReadBy, AsksForFile}
 
 use crate::output::Output;
 use crate::schema_file::read_schema;
+use crate::service::{ALL_TABLETS, service_of};
 use crate::stop::Stop;
 use dr_ask::ask_input;
 use dr_bind::read_query;
 use dr_commands::Ask;
 use dr_outside::{Keeper, Source};
 use std::alloc::Global;
+use std::sync::Wait;
 use std::thread::Threads;
 
 /// The text that `ask` prints.
 ///
 /// Errors: the first refusal: the schema, the query, then the input's lines; the keeper or the source failed; want of
 /// memory.
-pub fn answer<R: Threads + Sync, S: Source, K: Keeper>(
+pub fn answer<R: Threads + Wait + Sync, S: Source, K: Keeper>(
     rt: &R,
     alloc: Global,
     words: &Ask,
@@ -41,6 +43,14 @@ pub fn answer<R: Threads + Sync, S: Source, K: Keeper>(
 {
     let schema = read_schema(alloc, keeper, words.schema.as_str())?;
     let plan = read_query(alloc, &schema, words.query.as_str())?;
-    let text = ask_input(rt, alloc, schema, &plan, words.rows, words.fan, source)?;
+    let text = ask_input(
+        rt,
+        alloc,
+        schema,
+        &plan,
+        words.rows,
+        &service_of(&words.serving, ALL_TABLETS),
+        source,
+    )?;
     Ok(Output::Text(text))
 }

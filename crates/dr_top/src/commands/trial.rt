@@ -10,6 +10,7 @@ ghost use Rattle.dr_top.specs.World.{HasOutcome};
 ghost use Rattle.dr_top.specs.Stops.{StopsPlain};
 
 use crate::output::Output;
+use crate::service::{ALL_TABLETS, service_of};
 use crate::stop::Stop;
 use dr_ask::ask_input;
 use dr_bind::read_query;
@@ -17,12 +18,17 @@ use dr_commands::Trial;
 use dr_gen::{GenSource, document_text, trial_query};
 use dr_nested::parse_schema;
 use std::alloc::Global;
+use std::sync::Wait;
 use std::thread::Threads;
 
 /// The text that `trial` prints: that of `ask`, of which made records are the input.
 ///
 /// Errors: the first line past those that 4,096 tablets hold; want of memory.
-pub fn answer<R: Threads + Sync>(rt: &R, alloc: Global, words: &Trial) -> Result<Output, Stop>
+pub fn answer<R: Threads + Wait + Sync>(
+    rt: &R,
+    alloc: Global,
+    words: &Trial,
+) -> Result<Output, Stop>
     ensures text { (keeper : LinkShown) (input : SourceShown) → IfOk result
         (λ t. HasOutcome (trial_meaning (trial_view words.now)) keeper input (done (printed t) [])) }
     ensures stops { (keeper : LinkShown) (input : SourceShown) → IfErr result
@@ -31,6 +37,14 @@ pub fn answer<R: Threads + Sync>(rt: &R, alloc: Global, words: &Trial) -> Result
     let schema = parse_schema(alloc, document_text().as_bytes())?;
     let plan = read_query(alloc, &schema, trial_query())?;
     let mut lines = GenSource::new(alloc, u64::from(words.seed), u64::from(words.records))?;
-    let text = ask_input(rt, alloc, schema, &plan, words.rows, words.fan, &mut lines)?;
+    let text = ask_input(
+        rt,
+        alloc,
+        schema,
+        &plan,
+        words.rows,
+        &service_of(&words.serving, ALL_TABLETS),
+        &mut lines,
+    )?;
     Ok(Output::Text(text))
 }

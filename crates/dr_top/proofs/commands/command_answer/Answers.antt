@@ -1,4 +1,4 @@
-use Rattle.std.proofs.Common.{refl, sym, ap, subst, map, slice_set, get_or}
+use Rattle.std.proofs.Common.{refl, sym, ap, subst, map, slice_set, get_or, arith}
 use Rattle.std.specs.Prelude.{IfErr, IfOk}
 use Rattle.dr_commands.specs.Dump.{dump_meaning, dump_view}
 use Rattle.dr_commands.specs.Query.{query_meaning, query_view}
@@ -12,11 +12,11 @@ use Rattle.dr_commands.specs.Commands.{CommandWords, meaning_of}
 use Rattle.dr_commands.specs.CommandView.{command_view}
 use Rattle.dr_commands.specs.ShowSchema.{show_schema_meaning, show_schema_view}
 use Rattle.dr_top.specs.Printed.{printed}
-use Rattle.dr_top.specs.World.{ForOutcome, WithFirsts}
+use Rattle.dr_top.specs.World.{ForOutcome, WithEach}
 use Rattle.dr_top.specs.Answers.{Finishes, AsksLink}
 use Rattle.dr_top.specs.Stops.{StopsWith}
 use Rattle.dr_top.proofs.OutcomeLemmas.{plain_answer, plain_stops, on_ok}
-use Rattle.dr_top.proofs.FirstLinkLemmas.{first_answer, first_stops}
+use Rattle.dr_top.proofs.FirstLinkLemmas.{first_answer, first_stops, links_answer}
 use Rattle.dr_top.proofs.LinkLemmas.{none_asked, first_asked, schema_asked}
 use Rattle.dr_top.proofs.DumpEnds.{dump_puts}
 use Rattle.dr_top.proofs.QueryEnds.{query_puts}
@@ -34,29 +34,27 @@ returns-in-Load-clause-stops g c =
 
 pub returns-in-Query-clause-text : goal.returns-in-Query-clause-text
 returns-in-Query-clause-text g c =
-    subst (λ (w : CommandWords). IfOk c.answer-in-Query.result (λ t. Finishes (meaning_of w) (g.K.Link.shows c.args.keeper.now) (g.K.Link.shows c.answer-in-Query.new.keeper) (g.S.Source.shows c.args.source.now) (map g.L.Link.shows c.args.links.now) (map g.L.Link.shows (slice_set c.args.links.now 0 c.answer-in-Query.new.link)) (printed t))) (sym (ap command_view c.in-Query.is))
-    (first_answer (query_meaning (query_view c.in-Query.query)) (g.K.Link.shows c.args.keeper.now) (g.K.Link.shows c.answer-in-Query.new.keeper) (g.S.Source.shows c.args.source.now) g.L.Link.shows c.args.links.now c.index-links-0.result c.answer-in-Query.new.link c.answer-in-Query.result
-    (query_puts (query_view c.in-Query.query)) c.requires.link c.answer-in-Query.ensures.kept tt c.answer-in-Query.ensures.text)
+    subst (λ (w : CommandWords). IfOk c.answer-in-Query.result (λ t. Finishes (meaning_of w) (g.K.Link.shows c.args.keeper.now) (g.K.Link.shows c.answer-in-Query.new.keeper) (g.S.Source.shows c.args.source.now) (map g.L.Link.shows c.args.links.now) (map g.L.Link.shows c.answer-in-Query.new.links) (printed t))) (sym (ap command_view c.in-Query.is))
+    (links_answer (query_meaning (query_view c.in-Query.query)) (g.K.Link.shows c.args.keeper.now) (g.K.Link.shows c.answer-in-Query.new.keeper) (g.S.Source.shows c.args.source.now) (map g.L.Link.shows c.args.links.now) (map g.L.Link.shows c.answer-in-Query.new.links) c.answer-in-Query.result
+    (query_puts (query_view c.in-Query.query)) c.answer-in-Query.ensures.kept tt (c.answer-in-Query.ensures.text (g.S.Source.shows c.args.source.now)))
 
 pub returns-in-Query-clause-stops : goal.returns-in-Query-clause-stops
 returns-in-Query-clause-stops g c =
-    subst (λ (w : CommandWords). IfErr c.answer-in-Query.result (StopsWith (meaning_of w) (g.K.Link.shows c.args.keeper.now) (g.K.Link.shows c.answer-in-Query.new.keeper) (g.S.Source.shows c.args.source.now) (g.S.Source.shows c.args.source.now) (map g.L.Link.shows c.args.links.now) (map g.L.Link.shows (slice_set c.args.links.now 0 c.answer-in-Query.new.link))))
-    (sym (ap command_view c.in-Query.is))
-    (first_stops (query_meaning (query_view c.in-Query.query)) (g.K.Link.shows c.args.keeper.now) (g.K.Link.shows c.answer-in-Query.new.keeper) (g.S.Source.shows c.args.source.now) g.L.Link.shows c.args.links.now c.index-links-0.result c.answer-in-Query.new.link c.answer-in-Query.result
-    c.requires.link c.answer-in-Query.ensures.stops)
+    subst (λ (w : CommandWords). IfErr c.answer-in-Query.result (StopsWith (meaning_of w) (g.K.Link.shows c.args.keeper.now) (g.K.Link.shows c.answer-in-Query.new.keeper) (g.S.Source.shows c.args.source.now) (g.S.Source.shows c.args.source.now) (map g.L.Link.shows c.args.links.now) (map g.L.Link.shows c.answer-in-Query.new.links)))
+    (sym (ap command_view c.in-Query.is)) (c.answer-in-Query.ensures.stops (g.S.Source.shows c.args.source.now))
 
 pub returns-in-Dump-clause-text : goal.returns-in-Dump-clause-text
 returns-in-Dump-clause-text g c =
     subst (λ (w : CommandWords). IfOk c.answer-in-Dump.result (λ t. Finishes (meaning_of w) (g.K.Link.shows c.args.keeper.now) (g.K.Link.shows c.answer-in-Dump.new.keeper) (g.S.Source.shows c.args.source.now) (map g.L.Link.shows c.args.links.now) (map g.L.Link.shows (slice_set c.args.links.now 0 c.answer-in-Dump.new.link)) (printed t))) (sym (ap command_view c.in-Dump.is))
-    (first_answer (dump_meaning (dump_view c.in-Dump.dump)) (g.K.Link.shows c.args.keeper.now) (g.K.Link.shows c.answer-in-Dump.new.keeper) (g.S.Source.shows c.args.source.now) g.L.Link.shows c.args.links.now c.index-links-0-in-Dump.result c.answer-in-Dump.new.link c.answer-in-Dump.result
-    (dump_puts (dump_view c.in-Dump.dump)) c.requires.link c.answer-in-Dump.ensures.kept tt c.answer-in-Dump.ensures.text)
+    (first_answer (dump_meaning (dump_view c.in-Dump.dump)) (g.K.Link.shows c.args.keeper.now) (g.K.Link.shows c.answer-in-Dump.new.keeper) (g.S.Source.shows c.args.source.now) g.L.Link.shows c.args.links.now c.index-links-0.result c.answer-in-Dump.new.link c.answer-in-Dump.result
+    (dump_puts (dump_view c.in-Dump.dump)) (omega (arith, c.requires.links)) c.answer-in-Dump.ensures.kept tt c.answer-in-Dump.ensures.text)
 
 pub returns-in-Dump-clause-stops : goal.returns-in-Dump-clause-stops
 returns-in-Dump-clause-stops g c =
     subst (λ (w : CommandWords). IfErr c.answer-in-Dump.result (StopsWith (meaning_of w) (g.K.Link.shows c.args.keeper.now) (g.K.Link.shows c.answer-in-Dump.new.keeper) (g.S.Source.shows c.args.source.now) (g.S.Source.shows c.args.source.now) (map g.L.Link.shows c.args.links.now) (map g.L.Link.shows (slice_set c.args.links.now 0 c.answer-in-Dump.new.link))))
     (sym (ap command_view c.in-Dump.is))
-    (first_stops (dump_meaning (dump_view c.in-Dump.dump)) (g.K.Link.shows c.args.keeper.now) (g.K.Link.shows c.answer-in-Dump.new.keeper) (g.S.Source.shows c.args.source.now) g.L.Link.shows c.args.links.now c.index-links-0-in-Dump.result c.answer-in-Dump.new.link c.answer-in-Dump.result
-    c.requires.link c.answer-in-Dump.ensures.stops)
+    (first_stops (dump_meaning (dump_view c.in-Dump.dump)) (g.K.Link.shows c.args.keeper.now) (g.K.Link.shows c.answer-in-Dump.new.keeper) (g.S.Source.shows c.args.source.now) g.L.Link.shows c.args.links.now c.index-links-0.result c.answer-in-Dump.new.link c.answer-in-Dump.result
+    (omega (arith, c.requires.links)) c.answer-in-Dump.ensures.stops)
 
 pub returns-in-Fsm-clause-text : goal.returns-in-Fsm-clause-text
 returns-in-Fsm-clause-text g c =
@@ -101,23 +99,21 @@ returns-in-Explain-clause-reads g c = none_asked (meaning_of (command_view c.arg
 
 pub returns-in-Query-clause-reads : goal.returns-in-Query-clause-reads
 returns-in-Query-clause-reads g c =
-    subst (λ (w : CommandWords). ForOutcome (meaning_of w) (g.K.Link.shows c.args.keeper.now) (g.S.Source.shows c.args.source.now) (λ o. WithFirsts (map g.L.Link.shows c.args.links.now) (map g.L.Link.shows (slice_set c.args.links.now 0 c.answer-in-Query.new.link)) (AsksLink o)))
-    (sym (ap command_view c.in-Query.is))
-    (first_asked (query_meaning (query_view c.in-Query.query)) (g.K.Link.shows c.args.keeper.now) (g.S.Source.shows c.args.source.now) g.L.Link.shows c.args.links.now c.index-links-0.result c.answer-in-Query.new.link c.requires.link
-    (c.answer-in-Query.ensures.reads (g.S.Source.shows c.args.source.now)))
+    subst (λ (w : CommandWords). ForOutcome (meaning_of w) (g.K.Link.shows c.args.keeper.now) (g.S.Source.shows c.args.source.now) (λ o. WithEach (map g.L.Link.shows c.args.links.now) (map g.L.Link.shows c.answer-in-Query.new.links) (AsksLink o)))
+    (sym (ap command_view c.in-Query.is)) (c.answer-in-Query.ensures.reads (g.S.Source.shows c.args.source.now))
 
 pub returns-in-Dump-clause-reads : goal.returns-in-Dump-clause-reads
 returns-in-Dump-clause-reads g c =
-    subst (λ (w : CommandWords). ForOutcome (meaning_of w) (g.K.Link.shows c.args.keeper.now) (g.S.Source.shows c.args.source.now) (λ o. WithFirsts (map g.L.Link.shows c.args.links.now) (map g.L.Link.shows (slice_set c.args.links.now 0 c.answer-in-Dump.new.link)) (AsksLink o)))
+    subst (λ (w : CommandWords). ForOutcome (meaning_of w) (g.K.Link.shows c.args.keeper.now) (g.S.Source.shows c.args.source.now) (λ o. WithEach (map g.L.Link.shows c.args.links.now) (map g.L.Link.shows (slice_set c.args.links.now 0 c.answer-in-Dump.new.link)) (AsksLink o)))
     (sym (ap command_view c.in-Dump.is))
-    (first_asked (dump_meaning (dump_view c.in-Dump.dump)) (g.K.Link.shows c.args.keeper.now) (g.S.Source.shows c.args.source.now) g.L.Link.shows c.args.links.now c.index-links-0-in-Dump.result c.answer-in-Dump.new.link c.requires.link
+    (first_asked (dump_meaning (dump_view c.in-Dump.dump)) (g.K.Link.shows c.args.keeper.now) (g.S.Source.shows c.args.source.now) g.L.Link.shows c.args.links.now c.index-links-0.result c.answer-in-Dump.new.link (omega (arith, c.requires.links))
     (c.answer-in-Dump.ensures.reads (g.S.Source.shows c.args.source.now)))
 
 pub returns-in-ShowSchema-clause-reads : goal.returns-in-ShowSchema-clause-reads
 returns-in-ShowSchema-clause-reads g c =
-    subst (λ (w : CommandWords). ForOutcome (meaning_of w) (g.K.Link.shows c.args.keeper.now) (g.S.Source.shows c.args.source.now) (λ o. WithFirsts (map g.L.Link.shows c.args.links.now) (map g.L.Link.shows (slice_set c.args.links.now 0 c.answer-in-ShowSchema.new.link)) (AsksLink o)))
+    subst (λ (w : CommandWords). ForOutcome (meaning_of w) (g.K.Link.shows c.args.keeper.now) (g.S.Source.shows c.args.source.now) (λ o. WithEach (map g.L.Link.shows c.args.links.now) (map g.L.Link.shows (slice_set c.args.links.now 0 c.answer-in-ShowSchema.new.link)) (AsksLink o)))
     (sym (ap command_view c.in-ShowSchema.is))
-    (first_asked (show_schema_meaning (show_schema_view c.in-ShowSchema.show)) (g.K.Link.shows c.args.keeper.now) (g.S.Source.shows c.args.source.now) g.L.Link.shows c.args.links.now c.index-links-0-in-ShowSchema.result c.answer-in-ShowSchema.new.link c.requires.link
+    (first_asked (show_schema_meaning (show_schema_view c.in-ShowSchema.show)) (g.K.Link.shows c.args.keeper.now) (g.S.Source.shows c.args.source.now) g.L.Link.shows c.args.links.now c.index-links-0-in-ShowSchema.result c.answer-in-ShowSchema.new.link (omega (arith, c.requires.links))
     (schema_asked (show_schema_view c.in-ShowSchema.show) (g.K.Link.shows c.args.keeper.now) (g.S.Source.shows c.args.source.now) (g.L.Link.shows (get_or c.args.links.now 0 c.index-links-0-in-ShowSchema.result)) (g.L.Link.shows c.answer-in-ShowSchema.new.link) c.answer-in-ShowSchema.ensures.reads))
 
 pub returns-in-Ask-clause-text : goal.returns-in-Ask-clause-text

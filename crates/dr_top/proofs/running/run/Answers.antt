@@ -1,4 +1,5 @@
 use Rattle.std.proofs.Common.{◌≡◌, refl, ap, subst, ◌∙◌, map, string_bytes, List, ℕ}
+use Rattle.dr_outside.specs.Sink.{AddedWhole, AddedFront}
 use Rattle.dr_reading.specs.LeftText.{left_text}
 use Rattle.dr_tablets.specs.Views.{all_left_view}
 use Rattle.dr_tablets.specs.declared.left.LeftTablet.{LeftTablet}
@@ -7,8 +8,8 @@ use Rattle.dr_top.specs.Printed.{printed}
 use Rattle.dr_top.specs.Ends.{Says}
 use Rattle.dr_top.specs.Answers.{StopsMeant}
 use Rattle.dr_top.specs.declared.stop.Stop.{Stop}
-use Rattle.dr_top.proofs.RunLemmas.{prints_end, out_failed, usage_end, usage_counts, usage_incomplete, memory_end, memory_counts, source_failed, source_incomplete, keeper_failed, keeper_incomplete, refused_end, refused_counts, refused_incomplete, left_end, left_counts, left_memory, file_end, file_counts, file_incomplete}
-use Rattle.dr_top.proofs.ServedLemmas.{served_by, served_else, left_complete}
+use Rattle.dr_top.proofs.RunLemmas.{prints_end, out_failed, usage_end, usage_counts, usage_incomplete, memory_end, memory_counts, source_failed, source_incomplete, keeper_failed, keeper_incomplete, refused_end, refused_counts, refused_incomplete, left_end, left_counts, left_memory, most_end, most_failed, most_counts, most_memory, file_end, file_counts, file_incomplete}
+use Rattle.dr_top.proofs.ServedLemmas.{served_by, served_else, left_complete, most_served, most_complete}
 use Rattle.dr_top.proofs.running.run.Goals as goal
 
 pub returns-in-Ok-write_to-clause-prints : goal.returns-in-Ok-write_to-clause-prints
@@ -122,25 +123,65 @@ returns-in-Err-Usage-clause-complete g c =
     usage_incomplete _ _ _ _ _ _ _ _ _ _ (meant (map string_bytes c.args.words.now)) 1 (subst (λ (s : Stop). StopsMeant (meant (map string_bytes c.args.words.now)) (g.K.Link.shows c.args.keeper.now) (g.K.Link.shows c.answer.new.keeper) (g.S.Source.shows c.args.source.now) (g.S.Source.shows c.answer.new.source) (map g.L.Link.shows c.args.links.now) (map g.L.Link.shows c.answer.new.links) s) c.in-Err-Usage.field-0-is c.in-Err-Usage.ensures.stops)
 
 pub returns-in-Ok-write_to-clause-served : goal.returns-in-Ok-write_to-clause-served
-returns-in-Ok-write_to-clause-served g c = served_else _ _ 0 refl
+returns-in-Ok-write_to-clause-served g c = served_else _ _ 0 refl refl
 
 pub returns-in-Ok-clause-served : goal.returns-in-Ok-clause-served
-returns-in-Ok-clause-served g c = served_else _ _ 4 refl
+returns-in-Ok-clause-served g c = served_else _ _ 4 refl refl
 
 pub returns-in-Err-Usage-clause-served : goal.returns-in-Err-Usage-clause-served
-returns-in-Err-Usage-clause-served g c = served_else _ _ 1 refl
+returns-in-Err-Usage-clause-served g c = served_else _ _ 1 refl refl
 
 pub returns-in-Err-NoMemory-clause-served : goal.returns-in-Err-NoMemory-clause-served
-returns-in-Err-NoMemory-clause-served g c = served_else _ _ 5 refl
+returns-in-Err-NoMemory-clause-served g c = served_else _ _ 5 refl refl
 
 pub returns-in-Err-Source-clause-served : goal.returns-in-Err-Source-clause-served
-returns-in-Err-Source-clause-served g c = served_else _ _ 4 refl
+returns-in-Err-Source-clause-served g c = served_else _ _ 4 refl refl
 
 pub returns-in-Err-Keeper-clause-served : goal.returns-in-Err-Keeper-clause-served
-returns-in-Err-Keeper-clause-served g c = served_else _ _ 4 refl
+returns-in-Err-Keeper-clause-served g c = served_else _ _ 4 refl refl
 
 pub returns-in-Err-Refused-clause-served : goal.returns-in-Err-Refused-clause-served
-returns-in-Err-Refused-clause-served g c = served_else _ _ 2 refl
+returns-in-Err-Refused-clause-served g c = served_else _ _ 2 refl refl
 
 pub returns-in-Err-Left-clause-served : goal.returns-in-Err-Left-clause-served
-returns-in-Err-Left-clause-served g c = served_else _ _ 5 refl
+returns-in-Err-Left-clause-served g c = served_else _ _ 5 refl refl
+
+pub returns-in-Ok-write_all-clause-most : goal.returns-in-Ok-write_all-clause-most
+returns-in-Ok-write_all-clause-most g c = λ _.
+    let stop : c.in-Err-Most.field-0 ≡ Stop.Most c.in-Err-Most.text c.in-Err-Most.left = cc (c.in-Err-Most.field-0-is) in
+    most_end _ _ _ _ _ _ _ _ _ _ (meant (map string_bytes c.args.words.now)) c.in-Err-Most.text c.in-Err-Most.left (subst (λ (s : Stop). StopsMeant (meant (map string_bytes c.args.words.now)) (g.K.Link.shows c.args.keeper.now) (g.K.Link.shows c.answer.new.keeper) (g.S.Source.shows c.args.source.now) (g.S.Source.shows c.answer.new.source) (map g.L.Link.shows c.args.links.now) (map g.L.Link.shows c.answer.new.links) s) stop c.in-Err-Most.ensures.stops)
+    (subst (AddedWhole (g.O.Sink.shows c.args.out.now) (g.O.Sink.shows c.write_all.new.out)) c.as_bytes-in-Ok-left_text-2.ensures.value c.in-Ok-write_all.ensures.whole)
+    (subst (λ (line : List ℕ). Says (g.E.Sink.shows c.args.err.now) (g.E.Sink.shows c.say-in-Ok-write_all.new.err) line) (c.as_bytes-in-Ok-write_all.ensures.value ∙ (c.in-Ok-left_text-2.ensures ∙ ap (λ (left : List LeftTablet). left_text (all_left_view left)) c.deref-in-Err-Most.ensures.value)) c.say-in-Ok-write_all.ensures)
+
+pub returns-in-Ok-write_all-clause-calm : goal.returns-in-Ok-write_all-clause-calm
+returns-in-Ok-write_all-clause-calm g c = λ _.
+    let stop : c.in-Err-Most.field-0 ≡ Stop.Most c.in-Err-Most.text c.in-Err-Most.left = cc (c.in-Err-Most.field-0-is) in
+    most_counts _ _ _ _ _ _ _ _ _ _ (meant (map string_bytes c.args.words.now)) c.in-Err-Most.text c.in-Err-Most.left (subst (λ (s : Stop). StopsMeant (meant (map string_bytes c.args.words.now)) (g.K.Link.shows c.args.keeper.now) (g.K.Link.shows c.answer.new.keeper) (g.S.Source.shows c.args.source.now) (g.S.Source.shows c.answer.new.source) (map g.L.Link.shows c.args.links.now) (map g.L.Link.shows c.answer.new.links) s) stop c.in-Err-Most.ensures.stops) c.in-Ok-write_all.ensures.calm
+
+pub returns-in-Ok-write_all-clause-served : goal.returns-in-Ok-write_all-clause-served
+returns-in-Ok-write_all-clause-served g c = most_served _ _ _ 6 (returns-in-Ok-write_all-clause-most g c refl)
+
+pub returns-in-Ok-write_all-clause-complete : goal.returns-in-Ok-write_all-clause-complete
+returns-in-Ok-write_all-clause-complete g c = most_complete _ _ _ (returns-in-Ok-write_all-clause-most g c refl)
+
+pub returns-in-Ok-left_text-2-clause-outside : goal.returns-in-Ok-left_text-2-clause-outside
+returns-in-Ok-left_text-2-clause-outside g c = λ _.
+    let stop : c.in-Err-Most.field-0 ≡ Stop.Most c.in-Err-Most.text c.in-Err-Most.left = cc (c.in-Err-Most.field-0-is) in
+    most_failed _ _ _ _ _ _ _ _ _ _ (meant (map string_bytes c.args.words.now)) c.in-Err-Most.text c.in-Err-Most.left (subst (λ (s : Stop). StopsMeant (meant (map string_bytes c.args.words.now)) (g.K.Link.shows c.args.keeper.now) (g.K.Link.shows c.answer.new.keeper) (g.S.Source.shows c.args.source.now) (g.S.Source.shows c.answer.new.source) (map g.L.Link.shows c.args.links.now) (map g.L.Link.shows c.answer.new.links) s) stop c.in-Err-Most.ensures.stops)
+    (subst (AddedFront (g.O.Sink.shows c.args.out.now) (g.O.Sink.shows c.write_all.new.out)) c.as_bytes-in-Ok-left_text-2.ensures.value c.in-Err-write_all.ensures.front) c.in-Err-write_all.ensures.cause c.say-in-Err-write_all.ensures
+
+pub returns-in-Ok-left_text-2-clause-served : goal.returns-in-Ok-left_text-2-clause-served
+returns-in-Ok-left_text-2-clause-served g c = served_else _ _ 4 refl refl
+
+pub returns-in-Err-Most-clause-memory : goal.returns-in-Err-Most-clause-memory
+returns-in-Err-Most-clause-memory g c = λ _.
+    let stop : c.in-Err-Most.field-0 ≡ Stop.Most c.in-Err-Most.text c.in-Err-Most.left = cc (c.in-Err-Most.field-0-is) in
+    most_memory _ _ _ _ _ _ _ _ _ _ (meant (map string_bytes c.args.words.now)) c.in-Err-Most.text c.in-Err-Most.left (subst (λ (s : Stop). StopsMeant (meant (map string_bytes c.args.words.now)) (g.K.Link.shows c.args.keeper.now) (g.K.Link.shows c.answer.new.keeper) (g.S.Source.shows c.args.source.now) (g.S.Source.shows c.answer.new.source) (map g.L.Link.shows c.args.links.now) (map g.L.Link.shows c.answer.new.links) s) stop c.in-Err-Most.ensures.stops) refl c.say-in-Err-left_text-2.ensures
+
+pub returns-in-Err-Most-clause-calm : goal.returns-in-Err-Most-clause-calm
+returns-in-Err-Most-clause-calm g c = λ _.
+    let stop : c.in-Err-Most.field-0 ≡ Stop.Most c.in-Err-Most.text c.in-Err-Most.left = cc (c.in-Err-Most.field-0-is) in
+    most_counts _ _ _ _ _ _ _ _ _ _ (meant (map string_bytes c.args.words.now)) c.in-Err-Most.text c.in-Err-Most.left (subst (λ (s : Stop). StopsMeant (meant (map string_bytes c.args.words.now)) (g.K.Link.shows c.args.keeper.now) (g.K.Link.shows c.answer.new.keeper) (g.S.Source.shows c.args.source.now) (g.S.Source.shows c.answer.new.source) (map g.L.Link.shows c.args.links.now) (map g.L.Link.shows c.answer.new.links) s) stop c.in-Err-Most.ensures.stops) refl
+
+pub returns-in-Err-Most-clause-served : goal.returns-in-Err-Most-clause-served
+returns-in-Err-Most-clause-served g c = served_else _ _ 5 refl refl

@@ -1,0 +1,10 @@
+use Rattle.std.specs.Prelude.{string_bytes}
+use Rattle.std.proofs.lemmas.Result.{IfOk-weaker}
+use Rattle.dr_cells.specs.Rows.{rows_view}
+use Rattle.dr_group.specs.Partials.{partial_view}
+use Rattle.dr_query.proofs.AnswerLemmas.{partial_prints}
+use Rattle.dr_query.proofs.answering.text_of.Goals as goal
+
+pub returns : goal.returns
+returns c = λ s q R is stands.
+    IfOk-weaker c.result_text.result _ _ (λ t e. partial_prints s q c.args.plan.now R (partial_view c.args.partial) (rows_view c.in_ok-rows.rows) (string_bytes t) is stands c.in_ok-rows.ensures.rows e) c.result_text.ensures
