@@ -15,6 +15,7 @@ pub mod GroupsByPutting
 -- files
 pub mod WrittenMaps
 pub mod TabletCopies
+pub mod CountedTablets
 -- commands
 pub mod EmptyCommandLine
 -- what is asked for
