@@ -1,7 +1,9 @@
 #!/usr/bin/env bash
 # Measures four queries over N generated records (150,000 where no N is given, about 22 MB of JSON), loaded into one tablet and into ten, and asked of the records
 # themselves: a line for each: processor seconds, wall seconds, and the most memory in MB. Then one of them over a tenth of the records, by which time and memory grow,
-# and over the ten tablets with one worker, two and four: let nothing else run.
+# and over the ten tablets with one worker, two and four. Last, where rustc is there, the three aggregate queries over the one tablet beside a hand-written reader
+# (bench/limit/limit.rs, plain Rust on one thread, which must print the same): a line for each, with the least processor seconds of five runs of the program and of the
+# reader, in turn, and their ratio. Let nothing else run.
 # usage: bench/query.sh [N] [PROGRAM]
 set -euo pipefail
 count=${1:-150000}
@@ -41,9 +43,11 @@ asked() {
 
 five="SELECT COUNT(*) AS r, COUNT(Name.Language.Code) AS c, COUNT(Name.Url) AS u, SUM(Links.Forward) AS f, MAX(DocId) AS m FROM Document"
 asked "five aggregates" "$five"
-asked "groups" "SELECT Name.Language.Country, COUNT(*) AS n, SUM(DocId) AS s FROM Document GROUP BY Name.Language.Country"
+groups="SELECT Name.Language.Country, COUNT(*) AS n, SUM(DocId) AS s FROM Document GROUP BY Name.Language.Country"
+asked "groups" "$groups"
 asked "objects" "SELECT DocId, COUNT(Name.Language.Code) WITHIN Name AS codes FROM Document WHERE Name.Url LIKE 'http://u/1%'"
-asked "selective count" "SELECT COUNT(*) AS n FROM Document WHERE DocId < 100"
+selective="SELECT COUNT(*) AS n FROM Document WHERE DocId < 100"
+asked "selective count" "$selective"
 measured "five aggregates, a tenth of the records" /dev/null query --table "$work/tenth.table" "$five"
 
 
@@ -64,4 +68,26 @@ for workers in (1, 2, 4):
     best[workers] = wall, processor = min(it[0] for it in runs), min(it[1] for it in runs)
     print(f"five aggregates, ten tablets, {workers} workers{'':9} processor {processor:7.2f} s ({processor / best[1][1]:.2f} of one's)  "
           f"wall {wall:7.2f} s ({wall / best[1][0]:.2f} of one's)")
+PY
+
+# beside a hand-written reader: the least processor seconds of five runs of either, in turn
+command -v rustc >/dev/null || exit 0
+rustc -O -o "$work/limit" "$top/bench/limit/limit.rs"
+python3 - "$program" "$work" five "$five" groups "$groups" selective "$selective" <<'PY'
+import resource, subprocess, sys
+program, work, *rest = sys.argv[1:]
+
+def once(words):
+    used = resource.getrusage(resource.RUSAGE_CHILDREN)
+    lines = subprocess.check_output(words)
+    now = resource.getrusage(resource.RUSAGE_CHILDREN)
+    return now.ru_utime + now.ru_stime - used.ru_utime - used.ru_stime, lines
+
+for name, query in zip(rest[::2], rest[1::2]):
+    ways = [program, "query", "--table", work + "/one.table", query], [work + "/limit", name, work + "/leaf0/t000000.parquet"]
+    runs = [[once(words) for words in ways] for _ in range(5)]
+    if any(lines != runs[0][0][1] for run in runs for _, lines in run):
+        sys.exit(f"{name}: the reader prints other lines")
+    whole, limit = (min(run[way][0] for run in runs) for way in (0, 1))
+    print(f"{name}, one tablet, beside a hand-written reader{'':{11 - len(name)}} processor {whole:8.4f} s  reader {limit:8.4f} s  ratio {whole / limit:6.1f}")
 PY

@@ -1,73 +1,106 @@
--- Halves of groups, until a key tuple's place is found.
-use Rattle.std.specs.Prelude.{◌≡◌, ◌<◌, ◌≤◌, ℕ, zero, suc, ◌+◌, List, [], ◌∷◌, map, length, take, drop, get_or, true, nat_lt}
-use Rattle.std.specs.List.{list_all}
+-- Where a key tuple is looked for: along the chain of its hash.
+use Rattle.std.specs.Prelude.{◌≡◌, ◌<◌, ◌≤◌, ◌+◌, ℕ, zero, suc, List, [], ◌∷◌, map, length, get_or}
+use Rattle.std.proofs.Common.{◌⊎◌, inl, inr, sym, ap, ◌∙◌, arith}
+use Rattle.std.specs.declared.cmp.Ordering.{Ordering}
 use Rattle.std.specs.declared.cmp.Ordering.TheVariants.{Less, Equal, Greater}
-use Rattle.std.proofs.Common.{sym, ap, ◌∙◌, arith, add-one}
-use Rattle.std.proofs.lemmas.Bool.{and_parts, ltb-true}
+use Rattle.std.proofs.lemmas.Bool.{cases_order}
+use Rattle.std.proofs.lemmas.Cmp.{tied_itself}
 use Rattle.std.proofs.lemmas.List.{length-map}
-use Rattle.dr_meaning.specs.Query.{tuple_order}
 use Rattle.dr_partials.specs.Partials as meant
-use Rattle.dr_partials.specs.PartialTypes.{ascends}
-use Rattle.dr_partials.proofs.GroupLemmas.{Tuple, ascending_groups}
-use Rattle.dr_partials.proofs.ValueOrders.{tuple_order_exact}
-use Rattle.dr_group.specs.declared.place.Place.{Place}
-use Rattle.dr_group.specs.Groups.{AllBelow, AllBehind, IsPlace, no_group, group_view, group_at, picked}
+use Rattle.dr_meaning.specs.Query.{tuple_order}
+use Rattle.dr_partials.proofs.GroupLemmas.{Tuple}
+use Rattle.dr_partials.proofs.ValueOrders.{tuple_order_total}
+use Rattle.dr_group.specs.Chains.{AreLinked, link_at, bucket_of, bucket_at, head_of, next_at, hashes_of}
+use Rattle.dr_group.specs.Distinct.{times, group_hash, group_hashes}
+use Rattle.dr_group.specs.Groups.{group_view, group_at}
+use Rattle.dr_group.specs.Hashes.{tuple_hash}
 use Rattle.dr_group.specs.declared.group.Group.{Group}
-use Rattle.dr_group.proofs.PlaceLemmas.{below_more, behind_more, below_same}
+use Rattle.dr_group.specs.declared.index.Link.{Link}
+use Rattle.dr_group.proofs.DistinctLemmas.{nowhere}
 
-pub record Halves (t : Tuple) (gs : List meant.Group) (low high : ℕ) : Type 0 where
-  pub ordered : low ≤ high
-  pub within : high ≤ length gs
-  pub below : AllBelow t (take low gs)
-  pub behind : AllBehind t (drop high gs)
-
-nothing_behind : (t : Tuple) (gs : List meant.Group) (n : ℕ) → length gs ≤ n → AllBehind t (drop n gs)
-nothing_behind t [] zero h = tt
-nothing_behind t [] (suc n) h = tt
-nothing_behind t (g ∷ gs) zero h = absurd (omega (arith, h))
-nothing_behind t (g ∷ gs) (suc n) h = nothing_behind t gs n (omega (arith, h))
-
-pub all_between : (t : Tuple) (gs : List Group) (is : List ℕ) (n : ℕ) → n ≡ length is → Halves t (picked gs is) 0 n
-all_between t gs is n e = record {
-  ordered = omega arith;
-  within = omega (arith, e, length-map is (group_at gs));
-  below = tt;
-  behind = nothing_behind t (picked gs is) n (omega (arith, e, length-map is (group_at gs)));
-}
-
--- the group at a place, as the code finds it
+-- the group of a number, as the code finds it
 pub group_there : (gs : List Group) (i : ℕ) (g : Group) → i < length gs → g ≡ get_or gs i g → group_at gs i ≡ group_view g
 group_there [] i g h e = absurd (omega (arith, h))
 group_there (f ∷ gs) zero g h e = ap group_view (sym e)
 group_there (f ∷ gs) (suc i) g h e = group_there gs i g (omega (arith, h)) e
 
-pub picked_there : (gs : List Group) (is : List ℕ) (m i : ℕ) (g : Group) → m < length is → i ≡ get_or is m i → i < length gs → g ≡ get_or gs i g → get_or (picked gs is) m no_group ≡ group_view g
-picked_there gs [] m i g h f l e = absurd (omega (arith, h))
-picked_there gs (j ∷ is) zero i g h f l e = ap (group_at gs) (sym f) ∙ group_there gs i g l e
-picked_there gs (j ∷ is) (suc m) i g h f l e = picked_there gs is m i g (omega (arith, h)) f l e
+pub link_there : (links : List Link) (i : ℕ) (l : Link) → i < length links → l ≡ get_or links i l → link_at links i ≡ l
+link_there [] i l h e = absurd (omega (arith, h))
+link_there (k ∷ links) zero l h e = sym e
+link_there (k ∷ links) (suc i) l h e = link_there links i l (omega (arith, h)) e
 
-pub number_below : (n : ℕ) (is : List ℕ) (m i : ℕ) → list_all (λ i. nat_lt i n) is ≡ true → m < length is → i ≡ get_or is m i → i < n
-number_below n [] m i a h e = absurd (omega (arith, h))
-number_below n (j ∷ is) zero i a h e = omega (arith, ltb-true j n (and_parts (nat_lt j n) (list_all (λ i. nat_lt i n) is) a).0, e)
-number_below n (j ∷ is) (suc m) i a h e = number_below n is m i (and_parts (nat_lt j n) (list_all (λ i. nat_lt i n) is) a).1 (omega (arith, h)) e
+less_equal : Less ≡ Equal → ⊥
+less_equal h = cc
 
-pub found_place : (t : Tuple) (gs : List meant.Group) (middle : ℕ) → ascends (map (λ (g : meant.Group). g.keys) gs) ≡ true → middle < length gs → tuple_order t (get_or gs middle no_group).keys ≡ Equal → IsPlace t gs (Place.At middle)
-found_place t gs middle a h e = (h, below_same t gs middle (ascending_groups gs a) h (tuple_order_exact t (get_or gs middle no_group).keys e), e)
+greater_equal : Greater ≡ Equal → ⊥
+greater_equal h = cc
 
-pub lower_half : (t : Tuple) (gs : List meant.Group) (low high middle : ℕ) → ascends (map (λ (g : meant.Group). g.keys) gs) ≡ true → low ≤ middle → middle < high → tuple_order t (get_or gs middle no_group).keys ≡ Less
-    → Halves t gs low high → Halves t gs low middle
-lower_half t gs low high middle a h k e s = record {
-  ordered = h;
-  within = omega (arith, s.within, k);
-  below = s.below;
-  behind = behind_more t gs middle (ascending_groups gs a) (omega (arith, s.within, k)) e;
+-- key tuples that are not equal in order are not the same
+pub differs : (t u : Tuple) (o : Ordering) → (o ≡ Less) ⊎ (o ≡ Greater) → o ≡ tuple_order t u → u ≡ t → ⊥
+differs t u o (inl l) e s = less_equal (sym l ∙ (e ∙ (ap (tuple_order t) s ∙ tied_itself tuple_order_total t)))
+differs t u o (inr g) e s = greater_equal (sym g ∙ (e ∙ (ap (tuple_order t) s ∙ tied_itself tuple_order_total t)))
+
+first_same : (x y : ℕ) (xs ys : List ℕ) → x ∷ xs ≡ y ∷ ys → x ≡ y
+first_same x y xs ys h = cc
+
+rest_same : (x y : ℕ) (xs ys : List ℕ) → x ∷ xs ≡ y ∷ ys → xs ≡ ys
+rest_same x y xs ys h = cc
+
+-- each link has the hash of its group
+pub hash_there : (links : List Link) (gs : List Group) (i : ℕ) → hashes_of links ≡ group_hashes gs → i < length links → (link_at links i).hash ≡ tuple_hash (group_at gs i).keys
+hash_there [] gs i e h = absurd (omega (arith, h))
+hash_there (l ∷ links) [] i e h = absurd (cc)
+hash_there (l ∷ links) (g ∷ gs) zero e h = first_same l.hash (group_hash g) (hashes_of links) (group_hashes gs) e
+hash_there (l ∷ links) (g ∷ gs) (suc i) e h = hash_there links gs i (rest_same l.hash (group_hash g) (hashes_of links) (group_hashes gs) e) (omega (arith, h))
+
+-- a group that was compared, and differs
+pub other_group : (t : Tuple) (gs : List Group) (i : ℕ) (g : Group) → i < length gs → g ≡ get_or gs i g → ((group_view g).keys ≡ t → ⊥) → (group_at gs i).keys ≡ t → ⊥
+other_group t gs i g h e f k = f (ap (λ (v : meant.Group). v.keys) (sym (group_there gs i g h e)) ∙ k)
+
+-- one whose hash differs
+pub other_hash : (t : Tuple) (gs : List Group) (links : List Link) (hash i : ℕ) (l : Link) → hashes_of links ≡ group_hashes gs → hash ≡ tuple_hash t → i < length links → l ≡ get_or links i l → (l.hash ≡ hash → ⊥) → (group_at gs i).keys ≡ t → ⊥
+other_hash t gs links hash i l e n h g f k =
+    f (ap (λ (x : Link). x.hash) (sym (link_there links i l h g)) ∙ (hash_there links gs i e h ∙ (ap tuple_hash k ∙ sym n)))
+
+-- what is known on the way along a chain: none of the groups from here on has the key tuple
+pub record OnTheWay (t : Tuple) (gs : List Group) (heads : List ℕ) (links : List Link) (b rest : ℕ) : Type 0 where
+  pub within : rest ≤ length links
+  pub here : (j : ℕ) → rest ≡ j + 1 → bucket_at heads links j ≡ b
+  pub past : (j : ℕ) → rest ≤ j → j < length gs → (group_at gs j).keys ≡ t → ⊥
+
+in_bucket : (t : Tuple) (gs : List Group) (heads : List ℕ) (links : List Link) (hash j : ℕ) → hashes_of links ≡ group_hashes gs → length links ≡ length gs → hash ≡ tuple_hash t → j < length gs → (group_at gs j).keys ≡ t
+    → bucket_at heads links j ≡ bucket_of heads hash
+in_bucket t gs heads links hash j e n f h k = ap (bucket_of heads) (hash_there links gs j e (omega (arith, h, n)) ∙ ap tuple_hash k ∙ sym f)
+
+pub way_begins : (t : Tuple) (gs : List Group) (heads : List ℕ) (links : List Link) (hash b rest : ℕ) → AreLinked heads links → hashes_of links ≡ group_hashes gs → length links ≡ length gs → hash ≡ tuple_hash t
+    → b ≡ bucket_of heads hash → rest ≡ head_of heads b → OnTheWay t gs heads links b rest
+way_begins t gs heads links hash b rest s e n f g k = record {
+  within = omega (arith, s.3 b, k);
+  here = λ j r. s.4 b j (sym k ∙ r);
+  past = λ j r h q.
+      let there : bucket_at heads links j ≡ b = in_bucket t gs heads links hash j e n f h q ∙ sym g in
+      omega (arith, s.0 j (omega (arith, h, n)), ap (head_of heads) there, k, r);
 }
 
-pub upper_half : (t : Tuple) (gs : List meant.Group) (low high middle : ℕ) → ascends (map (λ (g : meant.Group). g.keys) gs) ≡ true → low ≤ middle → middle < high → tuple_order t (get_or gs middle no_group).keys ≡ Greater
-    → Halves t gs low high → Halves t gs (middle + 1) high
-upper_half t gs low high middle a h k e s = record {
-  ordered = omega (arith, k);
-  within = s.within;
-  below = rw (add-one middle) (below_more t gs middle (ascending_groups gs a) (omega (arith, s.within, k)) e);
-  behind = s.behind;
-}
+pub way_further : (t : Tuple) (gs : List Group) (heads : List ℕ) (links : List Link) (hash b rest i next : ℕ) → AreLinked heads links → hashes_of links ≡ group_hashes gs → length links ≡ length gs → hash ≡ tuple_hash t
+    → b ≡ bucket_of heads hash → rest ≡ i + 1 → next ≡ next_at links i → ((group_at gs i).keys ≡ t → ⊥) → OnTheWay t gs heads links b rest → OnTheWay t gs heads links b next
+way_further t gs heads links hash b rest i next s e n f g r k other w =
+    let below : i < length links = omega (arith, w.within, r) in
+    let here : bucket_at heads links i ≡ b = w.here i r in
+    record {
+      within = omega (arith, s.2 i below, below, k);
+      here = λ j q. s.5 i j below (sym k ∙ q) ∙ here;
+      past = λ j q h p. by_place j q h p (cases_order j i);
+    }
+  where
+    by_place : (j : ℕ) → next ≤ j → j < length gs → (group_at gs j).keys ≡ t → (j ≡ i) ⊎ ((j < i) ⊎ (i < j)) → ⊥
+    by_place j q h p (inl x) = other (ap (λ m. (group_at gs m).keys) (sym x) ∙ p)
+    by_place j q h p (inr (inl x)) =
+        let below : i < length links = omega (arith, w.within, r) in
+        let there : bucket_at heads links j ≡ bucket_at heads links i = in_bucket t gs heads links hash j e n f h p ∙ sym g ∙ sym (w.here i r) in
+        omega (arith, s.1 i j below x there, k, q)
+    by_place j q h p (inr (inr x)) = w.past j (omega (arith, x, r)) h p
+
+-- at the end of the chain
+pub way_ends : (t : Tuple) (gs : List Group) (heads : List ℕ) (links : List Link) (b rest : ℕ) → rest ≡ 0 → OnTheWay t gs heads links b rest → times t (map group_view gs) ≡ 0
+way_ends t gs heads links b rest e w = nowhere t (map group_view gs) (λ j h q. w.past j (omega (arith, e)) (omega (arith, h, length-map gs group_view)) q)

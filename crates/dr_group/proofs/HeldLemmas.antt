@@ -1,37 +1,31 @@
--- Held groups and their numbers, where a group changes and where one is put between others.
-use Rattle.std.specs.Prelude.{◌≡◌, ◌<◌, ℕ, ◌+◌, List, [], ◌∷◌, ◌++◌, map, length, take, drop, get_or, true, nat_lt, if◌then◌else◌, is_ok, Option, Result, Ok, Err}
-use Rattle.std.specs.List.{insert, list_all}
-use Rattle.std.proofs.Common.{sym, ap, ap₂, ◌∙◌, subst, arith, length-append}
+-- Held groups, where one changes or a new one is made.
+use Rattle.std.specs.Prelude.{◌≡◌, ◌<◌, ℕ, List, [], ◌∷◌, ◌++◌, map, length, take, get_or, Option, Result, Ok, Err}
+use Rattle.std.proofs.Common.{refl, sym, ap, ap₂, ◌∙◌, subst, arith}
 use Rattle.std.proofs.Math.ListN.{set}
 use Rattle.std.proofs.Math.Seq.{map-set_same}
-use Rattle.std.proofs.lemmas.List.{map-set, map-append, length-map, length-set}
+use Rattle.std.proofs.lemmas.List.{map-set, map-append, length-map, take_all}
 use Rattle.dr_memory.specs.declared.NoMemory.{NoMemory}
 use Rattle.dr_partials.specs.Accumulators.{Accumulator}
 use Rattle.dr_partials.specs.Partials as meant
-use Rattle.dr_partials.specs.PartialTypes.{ascends}
-use Rattle.dr_partials.specs.Putting.{Taken}
-use Rattle.dr_partials.proofs.GroupLemmas.{Tuple, ascending_groups}
+use Rattle.dr_meaning.specs.Query.{GroupItem}
+use Rattle.dr_partials.specs.Putting.{Taken, Put, put_group}
+use Rattle.dr_partials.proofs.GroupLemmas.{Tuple}
 use Rattle.dr_group.specs.Views.{cell_view}
-use Rattle.dr_group.specs.Gathering.{Becomes, taken_by}
-use Rattle.dr_group.specs.Groups.{group_view, group_at, picked, accumulators_view, with_accumulators, taken_at, AllBelow, AllBehind, IsPlace}
+use Rattle.dr_group.specs.Gathering.{Becomes, gathering_view, gatherings_of, taken_by, new_group_by, put_by}
+use Rattle.dr_group.specs.Groups.{group_view, no_group, accumulators_view, with_accumulators, taken_at}
+use Rattle.dr_group.specs.Chains.{hashes_of}
+use Rattle.dr_group.specs.Distinct.{times, AreDistinct, group_hash, group_hashes}
+use Rattle.dr_group.specs.Hashes.{tuple_hash}
+use Rattle.dr_group.specs.Maps.{in_order}
 use Rattle.dr_group.specs.declared.gathering.Gathering.{Gathering}
 use Rattle.dr_group.specs.declared.group.Group.{Group}
-use Rattle.dr_group.specs.declared.place.Place.{Place}
-use Rattle.dr_group.proofs.PlaceLemmas.{picks, picks_set, picks_grown, picks_insert, more_numbers, insert_numbers, set_ascends, inserted_ascends}
-use Rattle.dr_group.proofs.FindLemmas.{picked_there}
-
-abbrev pub are_numbers : List Group → List ℕ → Type 0
-are_numbers gs is = list_all (λ i. nat_lt i (length gs)) is ≡ true
-
-abbrev pub AreAscending : List meant.Group → Type 0
-AreAscending gs = ascends (map (λ (g : meant.Group). g.keys) gs) ≡ true
+use Rattle.dr_group.specs.declared.index.Link.{Link}
+use Rattle.dr_group.proofs.DistinctLemmas.{push_distinct, set_distinct}
+use Rattle.dr_group.proofs.FindLemmas.{group_there}
+use Rattle.dr_group.proofs.GatheringLemmas.{put_alike}
+use Rattle.dr_group.proofs.PutLemmas.{put_new, put_old}
 
 -- ---- where a group changes
-
-pub held_set : (gs : List Group) (is : List ℕ) (p n : ℕ) (h : Group) → n < length gs → p < length is → n ≡ get_or is p n → AreAscending (picked gs is) → picked (set gs n h) is ≡ set (picked gs is) p (group_view h)
-held_set gs is p n h a b e c =
-    ap (λ vs. picks vs is) (map-set group_view gs n h)
-    ∙ picks_set (map group_view gs) is p n (group_view h) (omega (arith, a, length-map gs group_view)) b e (ascending_groups (picked gs is) c)
 
 abbrev made : Tuple → List Accumulator → meant.Group
 made ts xs = record { keys = ts; accumulators = xs }
@@ -43,56 +37,65 @@ with_taken ks t g h e f = ap₂ made (ap (λ v. map cell_view v.items) f) e
 same_view : (g h : Group) → accumulators_view h.accumulators.items ≡ accumulators_view g.accumulators.items → h.keys ≡ g.keys → group_view h ≡ group_view g
 same_view g h e f = ap₂ made (ap (λ v. map cell_view v.items) f) e
 
-pub taken_held : (r : Result (Unit {0}) NoMemory) (ks : List Gathering) (t : Option Taken) (gs : List Group) (is : List ℕ) (p n : ℕ) (g h : Group) → n < length gs → p < length is → n ≡ get_or is p n → g ≡ get_or gs n g
-    → h.keys ≡ g.keys → AreAscending (picked gs is) → Becomes (accumulators_view g.accumulators.items) (accumulators_view h.accumulators.items) (taken_by ks t (accumulators_view g.accumulators.items)) r
-    → Becomes (picked gs is) (picked (set gs n h) is) (taken_at ks p t (picked gs is)) r
-taken_held (Ok done) ks t gs is p n g h a b e f k c s =
-    held_set gs is p n h a b e c
-    ∙ ap (set (picked gs is) p) (with_taken ks t g h s k ∙ ap (λ (v : meant.Group). with_accumulators v (taken_by ks t v.accumulators)) (sym (picked_there gs is p n g b e a f)))
-taken_held (Err x) ks t gs is p n g h a b e f k c s = ap (λ vs. picks vs is) (map-set_same group_view gs n h g (same_view g h s k ∙ ap group_view f))
+pub held_taken : (r : Result (Unit {0}) NoMemory) (ks : List Gathering) (t : Option Taken) (gs : List Group) (n : ℕ) (g h : Group) → n < length gs → g ≡ get_or gs n g → h.keys ≡ g.keys
+    → Becomes (accumulators_view g.accumulators.items) (accumulators_view h.accumulators.items) (taken_by ks t (accumulators_view g.accumulators.items)) r
+    → Becomes (map group_view gs) (map group_view (set gs n h)) (taken_at ks n t (map group_view gs)) r
+held_taken (Ok done) ks t gs n g h a f k s =
+    map-set group_view gs n h
+    ∙ ap (set (map group_view gs) n) (with_taken ks t g h s k ∙ ap (λ (v : meant.Group). with_accumulators v (taken_by ks t v.accumulators)) (sym (group_there gs n g a f)))
+held_taken (Err x) ks t gs n g h a f k s = map-set_same group_view gs n h g (same_view g h s k ∙ ap group_view f)
 
-pub set_are_numbers : (gs : List Group) (is : List ℕ) (n : ℕ) (h : Group) → are_numbers gs is → are_numbers (set gs n h) is
-set_are_numbers gs is n h a = ap (λ m. list_all (λ i. nat_lt i m) is) (length-set gs n h) ∙ a
+pub held_distinct : (gs : List Group) (n : ℕ) (g h : Group) → n < length gs → g ≡ get_or gs n g → h.keys ≡ g.keys → AreDistinct (map group_view gs) → AreDistinct (map group_view (set gs n h))
+held_distinct gs n g h a f k d =
+    subst AreDistinct (sym (map-set group_view gs n h))
+    (set_distinct (map group_view gs) n (group_view h) (omega (arith, a, length-map gs group_view)) (ap (λ v. map cell_view v.items) k ∙ ap (λ (v : meant.Group). v.keys) (sym (group_there gs n g a f))) d)
 
-pub set_are_ascending : (gs : List Group) (is : List ℕ) (p n : ℕ) (g h : Group) → n < length gs → p < length is → n ≡ get_or is p n → g ≡ get_or gs n g → h.keys ≡ g.keys → AreAscending (picked gs is) → AreAscending (picked (set gs n h) is)
-set_are_ascending gs is p n g h a b e f k c =
-    ap (λ (vs : List meant.Group). ascends (map (λ (g : meant.Group). g.keys) vs)) (held_set gs is p n h a b e c)
-    ∙ set_ascends (picked gs is) p (group_view h) (omega (arith, b, length-map is (group_at gs)))
-    (ap (λ v. map cell_view v.items) k ∙ ap (λ (v : meant.Group). v.keys) (sym (picked_there gs is p n g b e a f))) c
+pub held_hashes : (gs : List Group) (n : ℕ) (g h : Group) → g ≡ get_or gs n g → h.keys ≡ g.keys → group_hashes (set gs n h) ≡ group_hashes gs
+held_hashes gs n g h f k = map-set_same group_hash gs n h g (ap (λ v. tuple_hash (map cell_view v.items)) k ∙ ap group_hash f)
 
--- ---- where a group is put between others
+pub ordered_put : (r : Result (Unit {0}) NoMemory) (ks : List Gathering) (p : Put) (gs hs : List meant.Group) (n : ℕ) → AreDistinct gs → n < length gs → (get_or gs n no_group).keys ≡ p.keys
+    → Becomes gs hs (taken_at ks n p.taken gs) r → Becomes (in_order gs) (in_order hs) (put_by ks p (in_order gs)) r
+ordered_put (Ok done) ks p gs hs n d h e s = ap in_order s ∙ put_old ks p gs n d h e
+ordered_put (Err x) ks p gs hs n d h e s = ap in_order s
 
-grown : (gs : List Group) (g : Group) → map group_view (gs ++ g ∷ []) ≡ map group_view gs ++ group_view g ∷ []
-grown gs g = map-append group_view gs (g ∷ [])
+-- the same, of groups that are held as before
+pub put_prepared : (r : Result (Unit {0}) NoMemory) (ks js : List Gathering) (p : Put) (gs hs after : List meant.Group) → hs ≡ gs → js ≡ ks → Becomes hs after (put_by js p hs) r → Becomes gs after (put_by ks p gs) r
+put_prepared r ks js p gs hs after e f s =
+    subst (λ (x : List meant.Group). Becomes x after (put_by ks p x) r) e (subst (λ (k : List Gathering). Becomes hs after (put_by k p hs) r) f s)
 
-view_numbers : (gs : List Group) (is : List ℕ) → are_numbers gs is → list_all (λ i. nat_lt i (length (map group_view gs))) is ≡ true
-view_numbers gs is a = ap (λ m. list_all (λ i. nat_lt i m) is) (length-map gs group_view) ∙ a
+-- by the items
+pub put_items : (r : Result (Unit {0}) NoMemory) (items : List GroupItem) (ks : List Gathering) (p : Put) (gs after : List meant.Group) → gatherings_of items ≡ map gathering_view ks
+    → Becomes gs after (put_by ks p gs) r → Becomes gs after (put_group items p gs) r
+put_items r items ks p gs after e s = subst (λ (x : List meant.Group). Becomes gs after x r) (sym (put_alike items ks p gs e)) s
 
-pub held_grown : (gs : List Group) (is : List ℕ) (g : Group) → are_numbers gs is → picked (gs ++ g ∷ []) is ≡ picked gs is
-held_grown gs is g a = ap (λ vs. picks vs is) (grown gs g) ∙ picks_grown (map group_view gs) (group_view g) is (view_numbers gs is a)
+-- ---- where one is made
 
-pub held_insert : (gs : List Group) (is : List ℕ) (p n : ℕ) (g : Group) → are_numbers gs is → n ≡ length gs → picked (gs ++ g ∷ []) (insert is p n) ≡ insert (picked gs is) p (group_view g)
-held_insert gs is p n g a e =
-    ap (λ vs. picks vs (insert is p n)) (grown gs g) ∙ picks_insert (map group_view gs) (group_view g) is p n (view_numbers gs is a) (e ∙ sym (length-map gs group_view))
+grown : (gs hs : List Group) (g : Group) (v : meant.Group) → hs ≡ gs ++ g ∷ [] → group_view g ≡ v → map group_view hs ≡ map group_view gs ++ v ∷ []
+grown gs hs g v e f = ap (map group_view) e ∙ map-append group_view gs (g ∷ []) ∙ ap (λ (w : meant.Group). map group_view gs ++ w ∷ []) f
 
-one_longer : (gs : List Group) (g : Group) → length (gs ++ g ∷ []) ≡ length gs + 1
-one_longer gs g = length-append gs (g ∷ [])
+pub grown_distinct : (gs hs : List Group) (g : Group) (v : meant.Group) → hs ≡ gs ++ g ∷ [] → group_view g ≡ v → AreDistinct (map group_view gs) → times v.keys (map group_view gs) ≡ 0 → AreDistinct (map group_view hs)
+grown_distinct gs hs g v e f d z = subst AreDistinct (sym (grown gs hs g v e f)) (push_distinct (map group_view gs) v d z)
 
--- after an attempt to put its number between others
-pub insert_are_numbers : {E : Type 0} (r : Result (Unit {0}) E) (gs hs : List Group) (is js : List ℕ) (p n : ℕ) (g : Group) → are_numbers gs is → n ≡ length gs → hs ≡ gs ++ g ∷ []
-    → js ≡ (if is_ok r then insert is p n else is) → are_numbers hs js
-insert_are_numbers (Ok done) gs hs is js p n g a e f k =
-    ap₂ (λ (xs : List Group) (ys : List ℕ). list_all (λ i. nat_lt i (length xs)) ys) f k
-    ∙ insert_numbers (length gs) (length (gs ++ g ∷ [])) is p n (omega (arith, one_longer gs g)) (omega (arith, one_longer gs g, e)) a
-insert_are_numbers (Err x) gs hs is js p n g a e f k =
-    ap₂ (λ (xs : List Group) (ys : List ℕ). list_all (λ i. nat_lt i (length xs)) ys) f k ∙ more_numbers (length gs) (length (gs ++ g ∷ [])) is (omega (arith, one_longer gs g)) a
+pub grown_order : (ks : List Gathering) (p : Put) (gs hs : List Group) (g : Group) → hs ≡ gs ++ g ∷ [] → group_view g ≡ new_group_by ks p → AreDistinct (map group_view gs) → times p.keys (map group_view gs) ≡ 0
+    → in_order (map group_view hs) ≡ put_by ks p (in_order (map group_view gs))
+grown_order ks p gs hs g e f d z = ap in_order (grown gs hs g (new_group_by ks p) e f) ∙ put_new ks p (map group_view gs) d z
 
-pub insert_are_ascending : {E : Type 0} (r : Result (Unit {0}) E) (t : Tuple) (gs hs : List Group) (is js : List ℕ) (p n : ℕ) (g : Group) → are_numbers gs is → AreAscending (picked gs is) → n ≡ length gs → hs ≡ gs ++ g ∷ []
-    → js ≡ (if is_ok r then insert is p n else is) → (group_view g).keys ≡ t → IsPlace t (picked gs is) (Place.Before p) → AreAscending (picked hs js)
-insert_are_ascending (Ok done) t gs hs is js p n g a c e f k s l =
-    ap₂ (λ (xs : List Group) (ys : List ℕ). ascends (map (λ (g : meant.Group). g.keys) (picked xs ys))) f k
-    ∙ ap (λ (vs : List meant.Group). ascends (map (λ (g : meant.Group). g.keys) vs)) (held_insert gs is p n g a e)
-    ∙ inserted_ascends (picked gs is) p (group_view g) l.0 c (subst (λ (u : Tuple). AllBelow u (take p (picked gs is))) (sym s) l.1) (subst (λ (u : Tuple). AllBehind u (drop p (picked gs is))) (sym s) l.2)
-insert_are_ascending (Err x) t gs hs is js p n g a c e f k s l =
-    ap₂ (λ (xs : List Group) (ys : List ℕ). ascends (map (λ (g : meant.Group). g.keys) (picked xs ys))) f k
-    ∙ ap (λ (vs : List meant.Group). ascends (map (λ (g : meant.Group). g.keys) vs)) (held_grown gs is g a) ∙ c
+-- ---- the hashes
+
+-- each is indexed
+pub all_indexed : (links : List Link) (gs : List Group) → hashes_of links ≡ group_hashes gs → hashes_of links ≡ take (length links) (group_hashes gs)
+all_indexed links gs e =
+    e ∙ sym (take_all (length links) (group_hashes gs) (omega (arith, ap length e, length-map links (λ (l : Link). l.hash))))
+
+pub indexed_all : (links : List Link) (gs : List Group) → length links ≡ length gs → hashes_of links ≡ take (length links) (group_hashes gs) → hashes_of links ≡ group_hashes gs
+indexed_all links gs n e = e ∙ take_all (length links) (group_hashes gs) (omega (arith, n, length-map gs group_hash))
+
+pub grown_indexed : (links after : List Link) (gs hs : List Group) (g : Group) (t : Tuple) (hash : ℕ) → hs ≡ gs ++ g ∷ [] → (group_view g).keys ≡ t → hash ≡ tuple_hash t → length links ≡ length gs
+    → hashes_of links ≡ take (length links) (group_hashes gs) → hashes_of after ≡ hashes_of links ++ hash ∷ [] → hashes_of after ≡ take (length after) (group_hashes hs)
+grown_indexed links after gs hs g t hash e f k n i a =
+    all_indexed after hs
+    (a ∙ ap₂ (λ (xs : List ℕ) (x : ℕ). xs ++ x ∷ []) (indexed_all links gs n i) (k ∙ ap tuple_hash (sym f)) ∙ sym (ap group_hashes e ∙ map-append group_hash gs (g ∷ [])))
+
+-- none is
+pub none_indexed : (links : List Link) (gs : List Group) → links ≡ [] → hashes_of links ≡ take (length links) (group_hashes gs)
+none_indexed links gs e = subst (λ (ls : List Link). hashes_of ls ≡ take (length ls) (group_hashes gs)) (sym e) refl

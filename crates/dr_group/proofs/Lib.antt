@@ -2,12 +2,20 @@
 pub mod OrderLemmas
 -- what aggregates gather
 pub mod GatheringLemmas
--- groups in the order of their key tuples
-pub mod PlaceLemmas
+-- groups by their numbers
+pub mod PickLemmas
+-- chains of numbers
+pub mod ChainLemmas
+-- groups of distinct key tuples
+pub mod DistinctLemmas
+-- what is put into groups that are not in order
+pub mod PutLemmas
+-- groups that are put in order
+pub mod SortLemmas
+-- held groups, where one changes or is made
+pub mod HeldLemmas
 -- where a key tuple is looked for
 pub mod FindLemmas
--- held groups and their numbers
-pub mod HeldLemmas
 -- the cells of rows
 pub mod FinishLemmas
 -- the rows of groups

@@ -9,7 +9,7 @@ use Rattle.dr_partials.proofs.GroupLemmas.{ascending_groups}
 use Rattle.dr_group.specs.Groups.{group_view, picked}
 use Rattle.dr_group.specs.Merging.{are_numbers, AreAscending}
 use Rattle.dr_group.specs.declared.group.Group.{Group}
-use Rattle.dr_group.proofs.PlaceLemmas.{picks, picks_past}
+use Rattle.dr_group.proofs.PickLemmas.{picks, picks_past}
 
 -- the numbers from 0 on, one more
 range_more : (a n : ℕ) → range_with_len a (suc n) ≡ range_with_len a n ++ (a + n) ∷ []

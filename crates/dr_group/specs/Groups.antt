@@ -1,8 +1,5 @@
 -- Groups that are held, and their places in the order of key tuples.
-use Rattle.std.specs.Prelude.{◌≡◌, ◌<◌, ◌≤◌, ℕ, List, [], ◌∷◌, map, length, take, drop, get_or, slice_set, Option, option_map}
-use Rattle.std.specs.declared.cmp.Ordering.TheVariants.{Less, Equal, Greater}
-use Rattle.dr_meaning.specs.Record.{Value}
-use Rattle.dr_meaning.specs.Query.{tuple_order}
+use Rattle.std.specs.Prelude.{ℕ, List, [], map, get_or, slice_set, Option, option_map}
 use Rattle.dr_partials.specs.Partials as meant
 use Rattle.dr_partials.specs.Accumulators as accumulators
 use Rattle.dr_partials.specs.Putting as putting
@@ -13,7 +10,6 @@ use Rattle.dr_group.specs.Gathering.{taken_by}
 use Rattle.dr_group.specs.declared.gathering.Gathering.{Gathering}
 use Rattle.dr_group.specs.declared.group.Group.{Group}
 use Rattle.dr_group.specs.declared.group.Taken.{Taken}
-use Rattle.dr_group.specs.declared.place.Place.{Place}
 
 -- what accumulators stand for
 abbrev pub accumulators_view : List Accumulator → List accumulators.Accumulator
@@ -47,34 +43,12 @@ taken_view t = record { aggregate = t.aggregate; value = lent_cell t.value }
 abbrev pub put_view : List (Option ValueRef) → Option Taken → putting.Put
 put_view key taken = record { keys = map lent_cell key; taken = option_map taken_view taken }
 
--- ---- places
-
--- the key tuple is greater than each of these
-abbrev pub AllBelow : List (Option Value) → List meant.Group → Type 0
-AllBelow t [] = Unit {0}
-AllBelow t (g ∷ gs) = (tuple_order t g.keys ≡ Greater) × AllBelow t gs
-
--- the key tuple is less than each of these
-abbrev pub AllBehind : List (Option Value) → List meant.Group → Type 0
-AllBehind t [] = Unit {0}
-AllBehind t (g ∷ gs) = (tuple_order t g.keys ≡ Less) × AllBehind t gs
-
--- the key tuple is that of the group at this place, or stands before it
-abbrev pub IsPlace : List (Option Value) → List meant.Group → Place → Type 0
-IsPlace t gs (Place.At k) = (k < length gs) × AllBelow t (take k gs) × (tuple_order t (get_or gs k no_group).keys ≡ Equal)
-IsPlace t gs (Place.Before k) = (k ≤ length gs) × AllBelow t (take k gs) × AllBehind t (drop k gs)
-
--- the number of the group at which, or before which, a place is
-abbrev pub number_of : Place → ℕ
-number_of (Place.At k) = k
-number_of (Place.Before k) = k
-
--- ---- what is put at a place
+-- ---- what is put into a group
 
 -- the group with other accumulators
 abbrev pub with_accumulators : meant.Group → List accumulators.Accumulator → meant.Group
 with_accumulators g xs = record { keys = g.keys; accumulators = xs }
 
--- the group at a place takes a value
+-- the group of a number takes a value
 abbrev pub taken_at : List Gathering → ℕ → Option putting.Taken → List meant.Group → List meant.Group
 taken_at ks k t gs = slice_set gs k (with_accumulators (get_or gs k no_group) (taken_by ks t (get_or gs k no_group).accumulators))

@@ -2,10 +2,17 @@
 pub mod Views
 -- what an aggregate gathers
 pub mod Gathering
--- groups and their places
+-- groups by their numbers
 pub mod Groups
+-- hashes of key tuples, and chains of numbers by hashes
+pub mod Hashes
+pub mod Chains
+-- groups of distinct key tuples
+pub mod Distinct
 -- maps of groups
 pub mod Maps
+-- where a group can be looked for
+pub mod Finding
 -- the rows of groups
 pub mod Finishing
 pub mod Rows

@@ -1,14 +1,18 @@
 -- What a map of groups stands for.
-use Rattle.std.specs.Prelude.{List, map, Option}
+use Rattle.std.specs.Prelude.{List, [], map, Option}
 use Rattle.dr_meaning.specs.Query.{Aggregate}
-use Rattle.dr_partials.specs.Partials.{Group}
+use Rattle.dr_partials.specs.Partials as meant
 use Rattle.dr_group.specs.Gathering.{gathering_view}
-use Rattle.dr_group.specs.Groups.{picked}
+use Rattle.dr_group.specs.Groups.{group_view}
 use Rattle.dr_group.specs.declared.group_map.GroupMap.{GroupMap}
 
+-- the groups in the order of their key tuples
+abbrev pub in_order : List meant.Group → List meant.Group
+in_order gs = meant.merge_groups gs []
+
 -- the groups, ascending
-abbrev pub groups_view : GroupMap → List Group
-groups_view m = picked m.groups.items m.sorted.items
+abbrev pub groups_view : GroupMap → List meant.Group
+groups_view m = in_order (map group_view m.groups.items)
 
 -- what its aggregates gather
 abbrev pub gatherings_view : GroupMap → List (Option Aggregate)

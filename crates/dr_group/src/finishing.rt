@@ -1,37 +1,60 @@
 //! The rows of groups.
 
-ghost use Rattle.std.specs.Prelude.{◌≡◌, ◌++◌, ◌∷◌, [], drop, IfOk, OnOk, map};
+ghost use Rattle.std.specs.Prelude.{◌≡◌, ◌++◌, ◌∷◌, [], drop, IfOk, OnOk, map, true};
 ghost use Rattle.dr_meaning.specs.Query.{nth_value};
 ghost use Rattle.dr_partials.specs.Accumulators.{result_of};
 ghost use Rattle.dr_cells.specs.Results.{value_cell};
 ghost use Rattle.dr_cells.specs.Views.{cells_view};
 ghost use Rattle.dr_group.specs.Views.{accumulator_view, cell_view};
 ghost use Rattle.dr_group.specs.Finishing.{first_result, value_of_term, behind_term, group_cells, all_row_cells};
-ghost use Rattle.dr_group.specs.Groups.{accumulators_view, group_view};
+ghost use Rattle.dr_group.specs.Groups.{accumulators_view, group_view, picked};
+ghost use Rattle.dr_group.specs.Merging.{are_numbers};
 ghost use Rattle.dr_group.specs.Maps.{groups_view};
 
 use crate::accumulator::Accumulator;
 use crate::group::Group;
 use crate::group_map::GroupMap;
+use crate::ordering::numbers_in_order;
 use dr_cells::Cells;
 use dr_levels::ValueRef;
 use dr_memory::NoMemory;
 use dr_nested::Value;
 use dr_plan::{GroupItem, GroupTerm};
+use std::alloc::Global;
 
 impl GroupMap {
     /// Appends the cells of the groups' rows, in the order of their key tuples.
     ///
     /// Errors: want of memory, or of room for texts.
-    pub(crate) fn push_rows(&self, items: &[GroupItem], cells: &mut Cells) -> Result<(), NoMemory>
+    pub(crate) fn push_rows(
+        &self,
+        alloc: Global,
+        items: &[GroupItem],
+        cells: &mut Cells,
+    ) -> Result<(), NoMemory>
         ensures { OnOk result (cells_view cells.new
             ≡ cells_view cells.old ++ all_row_cells items.now (groups_view self.now)) }
     {
-        'groups: for number in &self.sorted {
-            push_row(&self.groups[*number as usize], items, cells)?;
-        }
-        Ok(())
+        let numbers = numbers_in_order(alloc, &self.groups)?;
+        push_numbered(&self.groups, &numbers, items, cells)
     }
+}
+
+/// Appends the cells of the rows of the groups of these numbers.
+fn push_numbered(
+    groups: &[Group],
+    numbers: &[u32],
+    items: &[GroupItem],
+    cells: &mut Cells,
+) -> Result<(), NoMemory>
+    requires { are_numbers groups.now numbers.now ≡ true }
+    ensures { OnOk result (cells_view cells.new
+        ≡ cells_view cells.old ++ all_row_cells items.now (picked groups.now numbers.now)) }
+{
+    'numbers: for number in numbers {
+        push_row(&groups[*number as usize], items, cells)?;
+    }
+    Ok(())
 }
 
 /// Appends the cells of a group's row.

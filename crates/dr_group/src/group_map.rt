@@ -1,23 +1,24 @@
-//! The groups of an aggregate query, in the order of their key tuples.
+//! The groups of an aggregate query.
 
-ghost use Rattle.std.specs.Prelude.{◌≡◌, true, map, length, nat_lt};
-ghost use Rattle.std.specs.List.{list_all};
-ghost use Rattle.dr_partials.specs.Partials as meant;
-ghost use Rattle.dr_partials.specs.PartialTypes.{ascends};
-ghost use Rattle.dr_group.specs.Groups.{picked};
+ghost use Rattle.std.specs.Prelude.{◌≡◌, map, length, take};
+ghost use Rattle.dr_group.specs.Groups.{group_view};
+ghost use Rattle.dr_group.specs.Chains.{hashes_of};
+ghost use Rattle.dr_group.specs.Distinct.{AreDistinct, group_hashes};
 
 use crate::gathering::Gathering;
 use crate::group::Group;
+use crate::index::Index;
 
-/// The groups, each key tuple once: the groups in any order, and their numbers in the order of their key tuples. Only
-/// numbers move where a group is put between others.
+/// The groups, each key tuple once, in the order in which they came. Their key tuples are put in order where that is
+/// needed: where groups are merged or finished.
 #[derive(Debug, Drop)]
 pub struct GroupMap {
     pub(crate) gatherings: Vec<Gathering>,
     pub(crate) groups: Vec<Group>,
-    pub(crate) sorted: Vec<u32>,
-    /// Where a key tuple is looked for first, among the sorted: where the last one was put.
+    /// The hashes of the first groups; of all of them where one is looked for.
+    pub(crate) index: Index,
+    /// The number of the group that is looked at first: the last one that was found.
     pub(crate) hint: usize,
-    pub ghost numbers: { list_all (λ i. nat_lt i (length groups.items)) sorted.items ≡ true },
-    pub ghost ascending: { ascends (map (λ (g : meant.Group). g.keys) (picked groups.items sorted.items)) ≡ true },
+    pub ghost distinct: { AreDistinct (map group_view groups.items) },
+    pub ghost indexed: { hashes_of index.links.items ≡ take (length index.links.items) (group_hashes groups.items) },
 }

@@ -2,18 +2,21 @@
 #![tactic(auto)]
 
 mod accumulator;
+mod finding;
 mod finishing;
 mod gathering;
 mod group;
 mod group_map;
+mod hashes;
+mod index;
 mod joining;
 pub mod laws;
 mod making;
 mod map_merging;
 mod merging;
+mod ordering;
 mod orders;
 mod partial;
-mod place;
 mod putting;
 mod turn;
 

@@ -10,6 +10,7 @@ ghost use Rattle.dr_group.specs.Maps.{groups_view, gatherings_view};
 use crate::gathering::Gathering;
 use crate::group::{Group, empty_accumulators};
 use crate::group_map::GroupMap;
+use crate::index::Index;
 use dr_memory::NoMemory;
 use dr_plan::{Aggregate, GroupItem, GroupTerm};
 use std::alloc::Global;
@@ -28,17 +29,15 @@ impl GroupMap {
         ensures gatherings { IfOk result (λ m. gatherings_view m ≡ map gathering_view gatherings.items) }
     {
         let mut groups = Vec::new(alloc);
-        let mut sorted = Vec::new(alloc);
         if !has_keys {
             let keys = Vec::new(alloc);
             let accumulators = empty_accumulators(alloc, &gatherings)?;
             groups.push(Group { keys, accumulators })?;
-            sorted.push(0)?;
         }
         Ok(GroupMap {
             gatherings,
             groups,
-            sorted,
+            index: Index::new(alloc),
             hint: 0,
         })
     }

@@ -7,14 +7,17 @@ ghost use Rattle.dr_group.specs.Gathering.{Becomes};
 ghost use Rattle.dr_group.specs.Maps.{groups_view, gatherings_view};
 
 use crate::group_map::GroupMap;
-use crate::merging::{first_numbers, merge_into};
+use crate::index::Index;
+use crate::merging::merge_into;
+use crate::ordering::numbers_in_order;
 use dr_memory::NoMemory;
 use std::alloc::Global;
 
 impl GroupMap {
-    /// Merges groups into these, by key tuple. No value is copied, and the time is linear in the groups of both.
+    /// Merges groups into these, by key tuple. No value is copied; both are put in order, and then merged from their
+    /// fronts.
     ///
-    /// Errors: want of memory, or of room for the number of a group. Nothing has changed then.
+    /// Errors: want of memory, or of room for the numbers of groups. Nothing has changed then.
     pub fn merge(&mut self, alloc: Global, other: GroupMap) -> Result<(), NoMemory>
         requires mine { GroupsCanBeOf (2 ^ 60) (groups_view self.old) }
         requires theirs { GroupsCanBeOf (2 ^ 60) (groups_view other) }
@@ -22,25 +25,21 @@ impl GroupMap {
             (merge_groups (groups_view self.old) (groups_view other)) result }
         ensures gatherings { gatherings_view self.new ≡ gatherings_view self.old }
     {
-        let GroupMap {
-            groups: mut theirs,
-            sorted: their_order,
-            ..
-        } = other;
-        let count = self.sorted.len() + their_order.len();
-        let mut numbers = first_numbers(alloc, count)?;
+        let my_order = numbers_in_order(alloc, &self.groups)?;
+        let their_order = numbers_in_order(alloc, &other.groups)?;
+        let count = my_order.len() + their_order.len();
         let mut merged = Vec::with_capacity(alloc, count)?;
+        let mut theirs = other.groups;
         merge_into(
             alloc,
             &mut self.groups,
-            &self.sorted,
+            &my_order,
             &mut theirs,
             &their_order,
             &mut merged,
         );
-        numbers.truncate(merged.len());
         self.groups = merged;
-        self.sorted = numbers;
+        self.index = Index::new(alloc);
         Ok(())
     }
 }

@@ -29,7 +29,7 @@ pub fn first_numbers(alloc: Global, count: usize) -> Result<Vec<u32>, NoMemory>
 }
 
 /// Appends a group where there is room.
-fn push_reserved(groups: &mut Vec<Group>, group: Group)
+pub fn push_reserved(groups: &mut Vec<Group>, group: Group)
     requires { vec_len groups.old < vec_capacity groups.old }
     ensures items { (groups.new).items ≡ (groups.old).items ++ group ∷ [] }
     ensures capacity { vec_capacity groups.old ≤ vec_capacity groups.new }

@@ -139,6 +139,6 @@ fn rows_of(
     ensures shape { IfOk result (λ r. rows_shape r ≡ shape_view shape) }
 {
     let mut cells = Cells::new(alloc);
-    groups.push_rows(items, &mut cells)?;
+    groups.push_rows(alloc, items, &mut cells)?;
     Ok(RowsOut::of(shape, cells, groups.len() as u64))
 }

@@ -13,6 +13,9 @@ use Rattle.dr_firing.specs.Context.{Context}
 use Rattle.dr_firing.specs.Condition.{Watch}
 use Rattle.dr_pruning_laws.specs.Constant.{depth_behind}
 use Rattle.dr_pruning_laws.specs.Counting.{Numbers, whole_chain, is_first, count_entered, count_row, count_left, count_move, context_behind, Counted, nothing_counted, count_on, count_all}
+use Rattle.dr_pruning_laws.specs.Parts.{Pruning, answering, parts_behind, nothing_pruned, prune_move, prune_moves}
+use Rattle.dr_prune.specs.AnswerLaws.{FewArePruned}
+use Rattle.dr_prune.specs.PartAnswers.{untested}
 use Rattle.dr_prune.specs.Nesting.{FewAreOpen}
 
 -- ---- the paths of repeated fields are no longer than the fields are deep
@@ -165,8 +168,28 @@ module _ (fs : Fields) (F : List Leaf) where
       by_open None q e f = absurd (cc)
       by_open (Some p) q e f = f p (subst (AreOpen p) (sym (move_depth w (context_behind g.context m) m g.numbers)) (move_open o p m g.numbers.depth h q)) e
 
+  few_pruned : (w : Watch) (ms : List Move) (g : Pruning) (o : Open) → AreOpen o g.numbers.depth → is_some (open_after_moves fs F o ms) ≡ true
+      → (prune_moves w g ms).numbers.depth ≤ suc (depth fs)
+  few_pruned w [] g o h e = few o g.numbers.depth h
+  few_pruned w (m ∷ ms) g o h e = by_open (open_after fs F o m) refl e (few_pruned w ms (prune_move w g m))
+    where
+      by_open : (x : Option Open) → open_after fs F o m ≡ x → is_some (option_and_then (λ p. open_after_moves fs F p ms) x) ≡ true
+          → ((p : Open) → AreOpen p (prune_move w g m).numbers.depth → is_some (open_after_moves fs F p ms) ≡ true → (prune_moves w (prune_move w g m) ms).numbers.depth ≤ suc (depth fs))
+          → (prune_moves w (prune_move w g m) ms).numbers.depth ≤ suc (depth fs)
+      by_open None q e f = absurd (cc)
+      by_open (Some p) q e f =
+          let c = context_behind g.context m in
+          let d = move_depth (answering w (parts_behind c m g.parts)) c m g.numbers in
+          f p (subst (AreOpen p) (sym d) (move_open o p m g.numbers.depth h q)) e
+
 pub few_are_open : FewAreOpen
 few_are_open fs F ms t p d n s =
     let l = few_along fs F (record { chain = p.chain.items; last = p.last; test = t }) ms nothing_counted no_record refl n in
     let e = ap (λ (x : Numbers). x.depth) s in
+    omega (arith, l, e, d)
+
+pub few_are_pruned : FewArePruned
+few_are_pruned fs F ms s t ls p d n h =
+    let l = few_pruned fs F (record { chain = p.chain.items; last = p.last; test = s }) ms (nothing_pruned (untested t ls)) no_record refl n in
+    let e = ap (λ (x : Numbers). x.depth) h in
     omega (arith, l, e, d)

@@ -1,12 +1,15 @@
 -- What masks tell, and what a pruner's numbers stand for, by computation.
-use Rattle.std.proofs.Common.{◌≡◌, List, [], ◌∷◌, ◌++◌, Bool, true, false, Option, None, Some, refl}
+use Rattle.std.proofs.Common.{◌≡◌, ℕ, zero, suc, List, [], ◌∷◌, ◌++◌, Bool, true, false, Option, None, Some, refl}
 use Rattle.std.specs.Prelude.{map, pos, ◌==◌}
 use Rattle.dr_meaning.specs.Record.{Value, int_value}
 use Rattle.dr_meaning.specs.Column.{triplet}
 use Rattle.dr_meaning.specs.Walk.{Move, enter, value, leave}
+use Rattle.dr_firing.specs.Context.{Context}
 use Rattle.dr_firing.specs.Condition.{Watch}
 use Rattle.dr_pruning_laws.specs.Telling.{kept, dropped, undecided, told}
 use Rattle.dr_pruning_laws.specs.Counting.{nothing_counted, count_all}
+use Rattle.dr_pruning_laws.specs.Parts.{Part}
+use Rattle.dr_prune.specs.PartAnswers.{pruned, tested_to, untested}
 use Rattle.dr_prune.proofs.MaskLemmas.{verdict_between}
 use Rattle.dr_prune.specs.Pruning.{verdicts_in, told_count, IsAnswer, IsAnswerBehind}
 
@@ -67,3 +70,22 @@ answer_asked = λ e. refl
 
 answer_not_asked : (b : Bool) → IsAnswer watch (λ i. None) (enter 0) b × IsAnswer watch (λ i. None) (value 3 (triplet 0 1 None)) b × IsAnswer watch (λ i. None) (leave 0) b
 answer_not_asked b = (tt, (λ e. absurd (cc)), tt)
+
+-- ---- a condition in two parts: leaf 0 is 7, and so is leaf 1
+
+abbrev tests : ℕ → Context → Bool
+tests zero c = is_seven (c 0)
+tests (suc k) c = is_seven (c 1)
+
+abbrev answers : List Part → List Bool
+answers ps = map (λ (a : Part). a.answer) ps
+
+-- the first part's answer is that at the last triplet of its leaf, and holds while leaf 1 is read
+answers_hold : (answers (pruned watch tests (0 ∷ 1 ∷ []) first_instance).parts ≡ false ∷ false ∷ [])
+    × (answers (pruned watch tests (0 ∷ 1 ∷ []) (second_instance ++ value 1 (triplet 1 1 (Some (int_value (pos 7)))) ∷ [])).parts ≡ true ∷ true ∷ [])
+    × (answers (pruned watch tests (0 ∷ 1 ∷ []) (second_instance ++ value 1 (triplet 1 1 None) ∷ [])).parts ≡ true ∷ false ∷ [])
+answers_hold = (refl, refl, refl)
+
+-- where a leaf is read, the first of the parts that are tested there was tested, and the second not yet
+tested_first : answers (tested_to 1 0 (λ i. Some (int_value (pos 7))) (untested tests (0 ∷ 0 ∷ []))) ≡ true ∷ false ∷ []
+tested_first = refl

@@ -2,6 +2,7 @@
 
 ghost use Rattle.std.specs.Prelude.{◌≡◌, ◌≤◌, ◌<◌, ◌+◌, length};
 
+use crate::answers::Answers;
 use crate::counts::Counts;
 use dr_levels::{Kept, Move};
 use dr_memory::NoMemory;
@@ -27,6 +28,8 @@ impl Pruner {
     ghost use Rattle.dr_meaning.specs.Walk as meant;
     ghost use Rattle.dr_pruning_laws.specs.Telling.{told};
     ghost use Rattle.dr_pruning_laws.specs.Counting.{no_numbers, is_first, count_row, count_left, count_move, numbers_tell, verdicts_of, left_among};
+    ghost use Rattle.dr_pruning_laws.specs.Parts.{pruning_tells};
+    ghost use Rattle.dr_prune.specs.PartAnswers.{lasts_of, pruned, HasAnswered, HasPruned};
     ghost use Rattle.dr_prune.specs.Pruning.{numbers_of, watch_of, open_in, verdicts_in, told_count, HasSeen, IsAnswer, IsAnswerBehind};
 
     /// A pruner before any move, for the condition whose chain has these repeated fields, outermost first, each by its
@@ -50,6 +53,13 @@ impl Pruner {
             last,
             counts: Counts::new(),
         })
+    }
+
+    /// How many branches are open.
+    pub fn open(&self) -> u32
+        ensures { result ≡ open_in self.now }
+    {
+        self.counts.depth
     }
 
     /// The chain's length, with the record.
@@ -149,5 +159,24 @@ impl Pruner {
             Move::Leaf(leaf, _) => self.read(*leaf, is_true),
             Move::Leave(_) => self.leave(),
         }
+    }
+
+    /// The next move of the walk, where these are the answers of the condition's parts behind it: the row that it reads
+    /// is true where all of them are.
+    pub fn step_with(&mut self, m: &Move<'_>, answers: &Answers) -> Kept
+        requires { open_in self.old < 2 ^ 32 - 1 }
+        // Behind the moves that it and the answers have seen, what it tells is what a pruner in parts tells.
+        ensures tells { (s : Context → Bool) (t : ℕ → Context → Bool) (ms : List meant.Move)
+            → HasPruned s t (lasts_of answers.now) ms self.old → HasAnswered t (ms ++ move_view m.now ∷ []) answers.now
+            → verdicts_in (told_count (open_in self.old) (move_view m.now)) result
+            ≡ pruning_tells (watch_of s self.old) (pruned (watch_of s self.old) t (lasts_of answers.now) ms) (move_view
+            m.now) }
+        ensures pruned { (s : Context → Bool) (t : ℕ → Context → Bool) (ms : List meant.Move)
+            → HasPruned s t (lasts_of answers.now) ms self.old → HasAnswered t (ms ++ move_view m.now ∷ []) answers.now
+            → HasPruned s t (lasts_of answers.now) (ms ++ move_view m.now ∷ []) self.new }
+        // It goes on to watch the same condition.
+        ensures watches { (s : Context → Bool) → watch_of s self.new ≡ watch_of s self.old }
+    {
+        self.step(m, answers.all())
     }
 }

@@ -5,13 +5,23 @@ pub mod FrontLemmas
 pub mod PlaceLemmas
 -- where a part occurs in a text
 pub mod OccursLemmas
--- values over slots, operator by operator
+-- values by what was read of the leaves, operator by operator
 pub mod OverLemmas
--- the values over slots are those in the row
+-- what was read of leaves, by lists of their numbers
+pub mod ReadLemmas
+-- where the leaves in it were read of a row, a value is that in the row
 pub mod LeafLemmas
 pub mod NumberLemmas
 pub mod TextLemmas
 pub mod TruthLemmas
 pub mod TestLemmas
+-- what was read of the leaves in an expression alone decides its value
+pub mod SameReadLemmas
 -- which rows have values of the types of their leaves
 pub mod TypeLemmas
+-- the leaves in an expression are its paths
+pub mod LeafPathLemmas
+-- the leaf that is read last
+pub mod LastLemmas
+-- worked examples
+pub mod WorkedLeaves

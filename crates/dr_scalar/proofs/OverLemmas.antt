@@ -1,22 +1,21 @@
--- The values of expressions over slots, operator by operator.
+-- The values of expressions by what was read of their leaves, operator by operator.
 use Rattle.std.proofs.Common.{◌≡◌, ℕ, List, ◌++◌, Bool, true, false, Option, Some, None, option_map, is_some, not, Bor, sym, ap, subst, rules}
 use Rattle.std.specs.Prelude.{Box}
 use Rattle.std.specs.declared.alloc.Global.{Global}
 use Rattle.dr_meaning.specs.Record.{Value, text_value}
 use Rattle.dr_meaning.specs.Expression.{plus, combine, on_both}
-use Rattle.dr_levels.specs.declared.triplet.ValueRef.{ValueRef}
 use Rattle.dr_plan.specs.declared.expression.TextOf as texts
 use Rattle.dr_plan.specs.declared.expression.TextOf.TheVariants as text_variants
 use Rattle.dr_meaning.specs.BoundExpression.{text_type}
-use Rattle.dr_scalar.specs.Slots.{of_type, slot_value}
+use Rattle.dr_scalar.specs.Slots.{of_type}
 use Rattle.dr_scalar.specs.Appending.{IsNullOrText}
 use Rattle.dr_scalar.specs.OverSlots.{text_over}
 
-pub over-join : (slots : List (Option ValueRef)) (a b : Box texts.TextOf Global) → text_over slots (text_variants.Join a b) ≡ on_both (combine plus) (text_over slots a.value) (text_over slots b.value)
-over-join slots a b = search (rules, texts.the_lemmas)
+pub over-join : (read : ℕ → Option Value) (a b : Box texts.TextOf Global) → text_over read (text_variants.Join a b) ≡ on_both (combine plus) (text_over read a.value) (text_over read b.value)
+over-join read a b = search (rules, texts.the_lemmas)
 
-pub over-text_leaf : (slots : List (Option ValueRef)) (i : ℕ) → text_over slots (text_variants.Leaf i) ≡ of_type text_type (slot_value slots i)
-over-text_leaf slots i = search (rules, texts.the_lemmas)
+pub over-text_leaf : (read : ℕ → Option Value) (i : ℕ) → text_over read (text_variants.Leaf i) ≡ of_type text_type (read i)
+over-text_leaf read i = search (rules, texts.the_lemmas)
 
 pub null_or_lent : (o : Option (Bor (List ℕ))) (v : Option Value) (null : Bool) → is_some o ≡ not null → option_map (λ t. text_value t.now) o ≡ v → IsNullOrText v null
 null_or_lent None v true h e = sym e

@@ -1,4 +1,6 @@
 pub mod Appending
+pub mod LeafLaws
+pub mod Leaves
 pub mod OverSlots
 pub mod Reach
 pub mod SlotLaws

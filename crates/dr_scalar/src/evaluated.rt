@@ -3,6 +3,7 @@
 ghost use Rattle.std.specs.Prelude.{◌≡◌, IfOk, option_map};
 ghost use Rattle.dr_levels.specs.Views.{lent_value};
 ghost use Rattle.dr_scalar.specs.OverSlots.{expr_over};
+ghost use Rattle.dr_scalar.specs.Slots.{slot_value};
 ghost use Rattle.dr_scalar.specs.Views.{evaluated_view};
 
 use crate::numbers::number_of;
@@ -43,7 +44,7 @@ pub(crate) fn value_of<'v>(
     expression: &'v Expr,
     row: &[Option<ValueRef<'v>>],
 ) -> Result<Option<Evaluated<'v>>, NoMemory>
-    ensures { IfOk result (λ v. option_map evaluated_view v ≡ expr_over row.now expression.now) }
+    ensures { IfOk result (λ v. option_map evaluated_view v ≡ expr_over (slot_value row.now) expression.now) }
 {
     match expression {
         Expr::Truth(truth) => match truth_of(alloc, truth, row)? {

@@ -1,4 +1,5 @@
-//! The values of expressions in a row, given as the values of the plan's leaves, by their numbers.
+//! The values of expressions in a row, given as the values of the plan's leaves, by their numbers: of the slots
+//! alone (`slots`), and where these are the values of a row's leaves, those in the row.
 
 ghost use Rattle.std.specs.Prelude.{◌≡◌, IfOk, List, map, option_map, true};
 ghost use Rattle.std.specs.List.{list_all};
@@ -8,7 +9,8 @@ ghost use Rattle.dr_meaning.specs.Record.{Node, bool_value, int_value};
 ghost use Rattle.dr_plan.specs.Conjuncts.{conjuncts};
 ghost use Rattle.dr_plan.specs.Fitting.{expr_fits, number_fits, text_fits, truth_fits};
 ghost use Rattle.dr_plan.specs.Views.{expr_view, number_view, text_view, truth_view};
-ghost use Rattle.dr_scalar.specs.Slots.{AreValues};
+ghost use Rattle.dr_scalar.specs.OverSlots.{expr_over, number_over, tests_over, text_over, truth_over};
+ghost use Rattle.dr_scalar.specs.Slots.{AreValues, slot_value};
 ghost use Rattle.dr_scalar.specs.Tests.{all_true};
 ghost use Rattle.dr_scalar.specs.Views.{evaluated_view, text_value_view};
 
@@ -30,16 +32,18 @@ pub fn eval<'v>(
     expression: &'v Expr,
     row: &[Option<ValueRef<'v>>],
 ) -> Result<Option<Evaluated<'v>>, NoMemory>
-    ensures { IfOk result (λ v. (ls : List Leaf) (r : Node) → AreValues ls row.now r → expr_fits ls expression.now
+    ensures meant { IfOk result (λ v. (ls : List Leaf) (r : Node) → AreValues ls row.now r → expr_fits ls expression.now
         ≡ true → option_map evaluated_view v ≡ evaluate (expr_view ls expression.now) r) }
+    ensures slots { IfOk result (λ v. option_map evaluated_view v ≡ expr_over (slot_value row.now) expression.now) }
 {
     value_of(alloc, expression, row)
 }
 
 /// A number's value, where it isn't NULL.
 pub fn number(number: &Number, row: &[Option<ValueRef<'_>>]) -> Option<i64>
-    ensures { (ls : List Leaf) (r : Node) → AreValues ls row.now r → number_fits ls number.now ≡ true
+    ensures meant { (ls : List Leaf) (r : Node) → AreValues ls row.now r → number_fits ls number.now ≡ true
         → option_map int_value result ≡ evaluate (number_view ls number.now) r }
+    ensures slots { option_map int_value result ≡ number_over (slot_value row.now) number.now }
 {
     number_of(number, row)
 }
@@ -52,8 +56,9 @@ pub fn text<'v>(
     text: &'v TextOf,
     row: &[Option<ValueRef<'v>>],
 ) -> Result<Option<CowStr<'v, Global>>, NoMemory>
-    ensures { IfOk result (λ v. (ls : List Leaf) (r : Node) → AreValues ls row.now r → text_fits ls text.now ≡ true
-        → option_map text_value_view v ≡ evaluate (text_view ls text.now) r) }
+    ensures meant { IfOk result (λ v. (ls : List Leaf) (r : Node) → AreValues ls row.now r → text_fits ls text.now
+        ≡ true → option_map text_value_view v ≡ evaluate (text_view ls text.now) r) }
+    ensures slots { IfOk result (λ v. option_map text_value_view v ≡ text_over (slot_value row.now) text.now) }
 {
     text_of(alloc, text, row)
 }
@@ -66,8 +71,9 @@ pub fn truth(
     truth: &Truth,
     row: &[Option<ValueRef<'_>>],
 ) -> Result<Option<bool>, NoMemory>
-    ensures { IfOk result (λ v. (ls : List Leaf) (r : Node) → AreValues ls row.now r → truth_fits ls truth.now ≡ true
-        → option_map bool_value v ≡ evaluate (truth_view ls truth.now) r) }
+    ensures meant { IfOk result (λ v. (ls : List Leaf) (r : Node) → AreValues ls row.now r → truth_fits ls truth.now
+        ≡ true → option_map bool_value v ≡ evaluate (truth_view ls truth.now) r) }
+    ensures slots { IfOk result (λ v. option_map bool_value v ≡ truth_over (slot_value row.now) truth.now) }
 {
     truth_of(alloc, truth, row)
 }
@@ -85,6 +91,7 @@ pub fn passes(
     ensures condition { IfOk result (λ b. (ls : List Leaf) (r : Node) (c : Expression) → AreValues ls row.now r
         → list_all (truth_fits ls) tests.now ≡ true → map (truth_view ls) tests.now ≡ conjuncts c → b
         ≡ is_true (evaluate c r)) }
+    ensures slots { IfOk result (λ b. b ≡ tests_over (slot_value row.now) tests.now) }
 {
     all_are_true(alloc, tests, row)
 }

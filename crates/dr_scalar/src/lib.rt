@@ -6,6 +6,7 @@ mod contains;
 mod evaluated;
 mod evaluating;
 pub mod laws;
+mod leaves;
 mod like;
 mod numbers;
 mod slots;
@@ -14,3 +15,4 @@ mod truths;
 
 pub use evaluated::Evaluated;
 pub use evaluating::{eval, number, passes, text, truth};
+pub use leaves::{last_leaf, last_leaf_of_tests};

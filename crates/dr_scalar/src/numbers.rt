@@ -3,6 +3,7 @@
 ghost use Rattle.std.specs.Prelude.{◌≡◌, option_map};
 ghost use Rattle.dr_meaning.specs.Record.{int_value};
 ghost use Rattle.dr_scalar.specs.OverSlots.{number_over};
+ghost use Rattle.dr_scalar.specs.Slots.{slot_value};
 
 use crate::slots::number_in;
 use dr_levels::ValueRef;
@@ -11,7 +12,7 @@ use dr_plan::Number;
 /// A number's value, where it isn't NULL.
 #[cycle(numbers)]
 pub(crate) fn number_of(number: &Number, row: &[Option<ValueRef<'_>>]) -> Option<i64>
-    ensures { option_map int_value result ≡ number_over row.now number.now }
+    ensures { option_map int_value result ≡ number_over (slot_value row.now) number.now }
 {
     match number {
         Number::Literal(value) => Some(*value),
@@ -23,7 +24,7 @@ pub(crate) fn number_of(number: &Number, row: &[Option<ValueRef<'_>>]) -> Option
 /// The same, where operands may have to be computed.
 #[cycle(numbers)]
 fn computed(number: &Number, row: &[Option<ValueRef<'_>>]) -> Option<i64>
-    ensures { option_map int_value result ≡ number_over row.now number.now }
+    ensures { option_map int_value result ≡ number_over (slot_value row.now) number.now }
 {
     match number {
         Number::Literal(value) => Some(*value),

@@ -3,6 +3,7 @@
 ghost use Rattle.std.specs.Prelude.{◌≡◌, IfOk, option_map, string_bytes};
 ghost use Rattle.dr_scalar.specs.Appending.{Appends, IsNullOrText};
 ghost use Rattle.dr_scalar.specs.OverSlots.{text_over};
+ghost use Rattle.dr_scalar.specs.Slots.{slot_value};
 ghost use Rattle.dr_scalar.specs.Views.{text_value_view};
 
 use crate::slots::text_in;
@@ -20,7 +21,7 @@ pub(crate) fn text_of<'v>(
     text: &'v TextOf,
     row: &[Option<ValueRef<'v>>],
 ) -> Result<Option<CowStr<'v, Global>>, NoMemory>
-    ensures { IfOk result (λ v. option_map text_value_view v ≡ text_over row.now text.now) }
+    ensures { IfOk result (λ v. option_map text_value_view v ≡ text_over (slot_value row.now) text.now) }
 {
     match text {
         TextOf::Literal(literal) => Ok(Some(CowStr::Borrowed(literal.as_str()))),
@@ -41,7 +42,7 @@ pub(crate) fn text_of<'v>(
 
 /// Whether a text is NULL.
 pub(crate) fn text_is_null(text: &TextOf, row: &[Option<ValueRef<'_>>]) -> bool
-    ensures { IsNullOrText (text_over row.now text.now) result }
+    ensures { IsNullOrText (text_over (slot_value row.now) text.now) result }
 {
     match text {
         TextOf::Literal(_) => false,
@@ -56,7 +57,7 @@ fn push_text(
     row: &[Option<ValueRef<'_>>],
     all: &mut String,
 ) -> Result<bool, NoMemory>
-    ensures { IfOk result (λ there. Appends (text_over row.now text.now) (string_bytes all.old)
+    ensures { IfOk result (λ there. Appends (text_over (slot_value row.now) text.now) (string_bytes all.old)
         (string_bytes all.new) there) }
 {
     match text {

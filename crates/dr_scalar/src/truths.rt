@@ -1,11 +1,11 @@
 //! Truth values.
 
 ghost use Rattle.std.specs.Prelude.{◌≡◌, IfOk, option_map, chars};
-ghost use Rattle.std.specs.List.{list_all};
 ghost use Rattle.dr_meaning.specs.Expression as meant;
 ghost use Rattle.dr_meaning.specs.Record.{bool_value};
 ghost use Rattle.dr_plan.specs.Views.{comparison_view};
-ghost use Rattle.dr_scalar.specs.OverSlots.{text_over, truth_over};
+ghost use Rattle.dr_scalar.specs.OverSlots.{tests_over, text_over, truth_over};
+ghost use Rattle.dr_scalar.specs.Slots.{slot_value};
 
 use crate::comparing::{compare_numbers, compare_texts, compare_truths};
 use crate::contains::occurs;
@@ -27,7 +27,7 @@ pub(crate) fn truth_of(
     truth: &Truth,
     row: &[Option<ValueRef<'_>>],
 ) -> Result<Option<bool>, NoMemory>
-    ensures { IfOk result (λ v. option_map bool_value v ≡ truth_over row.now truth.now) }
+    ensures { IfOk result (λ v. option_map bool_value v ≡ truth_over (slot_value row.now) truth.now) }
 {
     match truth {
         Truth::Literal(value) => Ok(Some(*value)),
@@ -43,7 +43,7 @@ fn decided(
     truth: &Truth,
     row: &[Option<ValueRef<'_>>],
 ) -> Result<Option<bool>, NoMemory>
-    ensures { IfOk result (λ v. option_map bool_value v ≡ truth_over row.now truth.now) }
+    ensures { IfOk result (λ v. option_map bool_value v ≡ truth_over (slot_value row.now) truth.now) }
 {
     match truth {
         Truth::Literal(value) => Ok(Some(*value)),
@@ -120,8 +120,8 @@ fn texts_compared(
     row: &[Option<ValueRef<'_>>],
 ) -> Result<Option<bool>, NoMemory>
     ensures { IfOk result (λ v. option_map bool_value v
-        ≡ meant.on_both (meant.compared (comparison_view comparison)) (text_over row.now left.now)
-        (text_over row.now right.now)) }
+        ≡ meant.on_both (meant.compared (comparison_view comparison)) (text_over (slot_value row.now) left.now)
+        (text_over (slot_value row.now) right.now)) }
 {
     let Some(left) = text_of(alloc, left, row)? else {
         return Ok(None);
@@ -140,7 +140,7 @@ fn text_like(
     row: &[Option<ValueRef<'_>>],
 ) -> Result<Option<bool>, NoMemory>
     ensures { IfOk result (λ v. option_map bool_value v
-        ≡ meant.on_text (λ t. meant.matches (chars pattern.now) (chars t)) (text_over row.now text.now)) }
+        ≡ meant.on_text (λ t. meant.matches (chars pattern.now) (chars t)) (text_over (slot_value row.now) text.now)) }
 {
     let Some(text) = text_of(alloc, text, row)? else {
         return Ok(None);
@@ -156,7 +156,7 @@ fn text_contains(
     row: &[Option<ValueRef<'_>>],
 ) -> Result<Option<bool>, NoMemory>
     ensures { IfOk result (λ v. option_map bool_value v
-        ≡ meant.on_text (meant.occurs_in part.now) (text_over row.now text.now)) }
+        ≡ meant.on_text (meant.occurs_in part.now) (text_over (slot_value row.now) text.now)) }
 {
     let Some(text) = text_of(alloc, text, row)? else {
         return Ok(None);
@@ -170,7 +170,7 @@ pub(crate) fn all_are_true(
     tests: &[Truth],
     row: &[Option<ValueRef<'_>>],
 ) -> Result<bool, NoMemory>
-    ensures { IfOk result (λ b. b ≡ list_all (λ (t : Truth). meant.is_true (truth_over row.now t)) tests.now) }
+    ensures { IfOk result (λ b. b ≡ tests_over (slot_value row.now) tests.now) }
 {
     'tests: for test in tests {
         match truth_of(alloc, test, row)? {

@@ -2,6 +2,10 @@
 pub mod LiteralLemmas
 -- projecting twice
 pub mod ProjectionLemmas
+-- the partial of records that are put together of columns
+pub mod ColumnLemmas
+-- the partial of groups along a walk over columns
+pub mod GroupLemmas
 -- the partial of a file's records
 pub mod ScanLemmas
 -- the copies of one tablet

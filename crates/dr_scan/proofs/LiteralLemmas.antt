@@ -1,5 +1,5 @@
 -- Literals that a plan sums are of 64 bits.
-use Rattle.std.proofs.Common.{◌≡◌, ℕ, zero, suc, List, [], ◌∷◌, map, Bool, true, ◌&&◌, refl, sym, ap, ap₂, subst, ◌∙◌, Vec, Global, true≢false}
+use Rattle.std.proofs.Common.{◌≡◌, ℕ, zero, suc, List, [], ◌∷◌, map, Bool, true, ◌&&◌, refl, sym, ap, ap₂, subst, ◌∙◌, true≢false}
 use Rattle.std.specs.List.{list_all, slice_get}
 use Rattle.std.proofs.lemmas.Bool.{and_parts}
 use Rattle.dr_meaning.specs.Path.{Leaf}
@@ -16,8 +16,6 @@ use Rattle.dr_plan.specs.declared.expression.Number.TheFolds as number_folds
 use Rattle.dr_plan.specs.declared.expression.Expr.{Expr}
 use Rattle.dr_plan.specs.declared.aggregate.Fold.{Fold}
 use Rattle.dr_plan.specs.declared.aggregate.Aggregate.{Aggregate}
-use Rattle.dr_plan.specs.declared.plan.RecordItem.{RecordItem}
-use Rattle.dr_plan.specs.declared.objects.ObjectPlan.{ObjectPlan}
 use Rattle.dr_plan.specs.declared.plan.GroupTerm.{GroupTerm}
 use Rattle.dr_plan.specs.declared.plan.GroupItem.{GroupItem}
 use Rattle.dr_plan.specs.declared.plan.Selection.{Selection}

@@ -1,4 +1,5 @@
--- what a file, a tablet and tablets give
+-- what columns, a file, a tablet and tablets give
+pub mod OfColumns
 pub mod Scans
 pub mod Tablets
 pub mod Tables

@@ -2,6 +2,9 @@
 //! that gives one.
 #![tactic(auto)]
 
+mod columns;
+mod cursors;
+mod groups;
 pub mod laws;
 mod scanning;
 mod tablet;

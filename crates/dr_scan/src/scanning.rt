@@ -20,14 +20,13 @@ ghost use Rattle.dr_serving.specs.Truth.{IsTrueOf, most_values};
 ghost use Rattle.dr_plan.specs.PlanOf.{ForQuery};
 ghost use Rattle.dr_scan.specs.Scans.{StandsForBytes, StandsForRecords, truth_at};
 
+use crate::columns::partial_of_columns;
 use dr_file::FileFault;
 use dr_group::Partial;
-use dr_mean::partial_of;
-use dr_memory::NoMemory;
 use dr_nested::Schema;
 use dr_outside::Link;
 use dr_plan::Plan;
-use dr_tablets::{Steps, read_records};
+use dr_tablets::{Steps, file_fault, read_file_columns};
 use std::alloc::Global;
 
 /// A plan's partial of the records of the file at a path, of which the plan's leaves alone are read. The link is asked
@@ -79,12 +78,12 @@ pub fn scan<L: Link>(
     ensures stays_steady { IsTrue (L.shows link.old).is_steady → IsTrue (L.shows link.new).is_steady }
 {
     let mut read = Steps::new();
-    let records = read_records(alloc, link, path, schema, &plan.leaves, &mut read)?;
-    match partial_of(alloc, plan, &records) {
+    let file = read_file_columns(alloc, link, path, &plan.leaves, &mut read)?;
+    match partial_of_columns(alloc, schema, plan, &file) {
         Ok(partial) => {
             steps.add(read.taken());
             Ok(partial)
         }
-        Err(NoMemory) => Err(FileFault::NoMemory),
+        Err(fault) => Err(file_fault(fault)),
     }
 }

@@ -1,5 +1,5 @@
 -- The copies of one tablet, tried one after another.
-use Rattle.std.proofs.Common.{◌≡◌, ◌<◌, ◌≤◌, ℕ, zero, suc, ◌+◌, ◌-◌, List, [], ◌∷◌, ◌++◌, length, map, true, false, Option, Some, None, refl, sym, ap, ◌∙◌, subst, inl, inr, add-one, true≢false, arith}
+use Rattle.std.proofs.Common.{◌≡◌, ◌<◌, ℕ, zero, suc, ◌+◌, ◌-◌, List, [], ◌∷◌, ◌++◌, length, map, true, false, Option, Some, None, refl, sym, ap, ◌∙◌, subst, inl, add-one, true≢false, arith}
 use Rattle.std.specs.Prelude.{IsTrue, IsSome, Result, Err}
 use Rattle.std.proofs.Common.{Vec, Global}
 use Rattle.dr_nested.specs.declared.record.Node as code
@@ -17,7 +17,7 @@ use Rattle.dr_tablets.specs.FileRecords.{AreOfFile, AreProjected, IsFaultOf}
 use Rattle.dr_reading.specs.Held.{held_at, held_file}
 use Rattle.dr_reading.specs.Causes.{IsJustified, LeadTo, is_read}
 use Rattle.dr_reading.specs.Scan.{Copy, copy_in, copies_from}
-use Rattle.dr_reading.specs.Given.{IsFileThere, SomeIsFile}
+use Rattle.dr_reading.specs.Given.{IsFileThere}
 use Rattle.dr_reading.specs.Left.{Tried, IsCauseAt, AreTried}
 use Rattle.dr_reading.specs.Given.{IsGiven}
 use Rattle.dr_reading.specs.InTurn.{FirstGives}

@@ -1,5 +1,5 @@
 -- How many records are read, and how many triplets.
-use Rattle.std.proofs.Common.{◌≡◌, ◌≤◌, ◌+◌, ℕ, List, [], ◌∷◌, ◌++◌, map, length, Bool, true, false, ◌&&◌, ◌||◌, refl, sym, ap, ap₂, ◌∙◌, arith}
+use Rattle.std.proofs.Common.{◌≡◌, ◌≤◌, ◌+◌, ℕ, List, [], ◌∷◌, ◌++◌, map, length, Bool, true, false, ◌&&◌, ◌||◌, refl, length-append, sym, ap, ap₂, ◌∙◌, arith}
 use Rattle.std.specs.Prelude.{nat_le, ◌==◌}
 use Rattle.std.specs.List.{list_any}
 use Rattle.std.proofs.lemmas.Bool.{le-leb}
@@ -49,6 +49,10 @@ columns_alike F (p ∷ G) h R =
 pub one_more_short : (cs ds : List (List Triplet)) (c : List Triplet) → are_short cs ≡ true → length c ≤ most_triplets → ds ≡ cs ++ c ∷ [] → are_short ds ≡ true
 one_more_short cs ds c h k e =
     ap are_short e ∙ (list_all-append (λ (ts : List Triplet). nat_le (length ts) most_triplets) cs (c ∷ []) ∙ ap₂ (λ a b. a && (b && true)) h (le-leb (length c) most_triplets k))
+
+-- one more of anything
+pub one_more_length : {A : Type 0} (xs ys : List A) (x : A) (n : ℕ) → length xs ≡ n → ys ≡ xs ++ x ∷ [] → length ys ≡ n + 1
+one_more_length xs ys x n h e = omega (arith, h, ap length e, length-append xs (x ∷ []))
 
 -- the projections have the columns of which they are made
 columns_of : (fs : Fields) (fields : List Path) (ds : List (List Triplet)) (n : ℕ) (P : List Node) → AreProjections fs (paths_view fields) ds n P → map (λ (l : Leaf). column l.path P) (map path_view fields) ≡ ds

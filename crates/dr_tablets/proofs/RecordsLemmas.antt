@@ -20,7 +20,7 @@ use Rattle.dr_outside.specs.declared.cause.Cause.{Cause}
 use Rattle.dr_file.specs.OpenedFiles.{IsOpened, IsCauseOf}
 use Rattle.dr_file.specs.declared.opened.Opened.{Opened}
 use Rattle.dr_file.specs.declared.file_fault.FileFault.{FileFault}
-use Rattle.dr_tablets.specs.FileRecords.{AreLeavesOf, AreOfFile, AreProjected, IsFaultOf, AreColumnsOf, SomeIsBad, IsColumnsFault, assemble_fault, triplets_at}
+use Rattle.dr_tablets.specs.FileRecords.{AreLeavesOf, AreOfFile, AreProjected, IsFaultOf, AreColumnsOf, AreColumnsOfFile, SomeIsBad, IsColumnsFault, assemble_fault, triplets_at}
 use Rattle.dr_tablets.proofs.FewLemmas.{columns_alike}
 use Rattle.dr_formats.specs.Writing.{triplet_count}
 use Rattle.dr_walk.specs.Walking.{HasColumns, NoneHas}
@@ -135,42 +135,52 @@ columns_of_data : (bytes : List ℕ) (s : Schema) (F : List Leaf) (o : Opened) (
     → IsDataOf bytes f s F R → HasColumns s.fields (paths_of_leaves F) cs o.rows R
 columns_of_data bytes s F o cs f R e r k d = (d.3, d.2 ∙ r, same_all _ cs (sym (columns_from F R) ∙ (sym d.4 ∙ columns_are bytes F cs f e k)))
 
-pub records_of_columns : (bytes : List ℕ) (s : Schema) (F : List Leaf) (o : Opened) (cs : List (List Triplet)) (P : List Node) → IsOpened bytes F o → AreColumnsOf bytes F cs
-    → AreProjections s.fields (paths_of_leaves F) cs o.rows P → AreOfFile bytes s F P
-records_of_columns bytes s F o cs P h k a = (a.0, file_of_columns bytes s F o cs a.0 h k a.1, a.2)
-
 pub projected : (s : Schema) (F : List Leaf) (rows : ℕ) (cs : List (List Triplet)) (P : List Node) → AreProjections s.fields (paths_of_leaves F) cs rows P → AreProjected s F P
 projected s F rows cs P a = (a.0, a.1.0, a.2)
 
-pub no_records : (bytes : List ℕ) (s : Schema) (F : List Leaf) (o : Opened) (cs : List (List Triplet)) → IsOpened bytes F o → AreColumnsOf bytes F cs
+no_records : (bytes : List ℕ) (s : Schema) (F : List Leaf) (o : Opened) (cs : List (List Triplet)) → IsOpened bytes F o → AreColumnsOf bytes F cs
     → NoneHas s.fields (paths_of_leaves F) cs o.rows → HasCause bytes s F bad_data
 no_records bytes s F o cs h k none =
     let f = h.1.0 in (f, h.1.1, h.1.2, h.1.3, λ R d. none R (columns_of_data bytes s F o cs f R h.1.1 h.1.5 k d))
 
--- the same, where paths, columns and rows are given by equal ones
-projections_same : (fs : Fields) (ps qs : List (List Step)) (cs ds : List (List Triplet)) (m n : ℕ) (P : List Node) → ps ≡ qs → ds ≡ cs → n ≡ m → AreProjections fs ps ds n P → AreProjections fs qs cs m P
-projections_same fs ps qs cs ds m n P p d e a =
-    subst (λ (x : List (List Step)). AreProjections fs x cs m P) p (subst (λ (x : List (List Triplet)). AreProjections fs ps x m P) d (subst (λ (x : ℕ). AreProjections fs ps ds x P) e a))
+-- the columns and the rows of an opened file
+pub columns_of_file : (bytes : List ℕ) (s : Schema) (F : List Leaf) (o : Opened) (cs : List (List Triplet)) (n : ℕ) → IsOpened bytes F o
+    → AreColumnsOf bytes F cs → n ≡ o.rows → AreColumnsOfFile bytes s F cs n
+columns_of_file bytes s F o cs n h k e = record {
+  file = λ R c. file_of_columns bytes s F o cs R h k (subst (λ (x : ℕ). HasColumns s.fields (paths_of_leaves F) cs x R) e c);
+  none = λ none. no_records bytes s F o cs h k (subst (λ (x : ℕ). NoneHas s.fields (paths_of_leaves F) cs x) e none);
+}
 
-none_same : (fs : Fields) (ps qs : List (List Step)) (cs ds : List (List Triplet)) (m n : ℕ) → ps ≡ qs → ds ≡ cs → n ≡ m → NoneHas fs ps ds n → NoneHas fs qs cs m
-none_same fs ps qs cs ds m n p d e a =
-    subst (λ (x : List (List Step)). NoneHas fs x cs m) p (subst (λ (x : List (List Triplet)). NoneHas fs ps x m) d (subst (λ (x : ℕ). NoneHas fs ps ds x) e a))
+-- the same, where paths and columns are given by equal ones
+projections_same : (fs : Fields) (ps qs : List (List Step)) (cs ds : List (List Triplet)) (n : ℕ) (P : List Node) → ps ≡ qs → ds ≡ cs
+    → AreProjections fs ps ds n P → AreProjections fs qs cs n P
+projections_same fs ps qs cs ds n P p d a =
+    subst (λ (x : List (List Step)). AreProjections fs x cs n P) p (subst (λ (x : List (List Triplet)). AreProjections fs ps x n P) d a)
 
-pub records_given : (bytes : List ℕ) (s : Schema) (fields : List Path) (o : Opened) (cs ds : List (List Triplet)) (n : ℕ) (P : List Node) → IsOpened bytes (map path_view fields) o → AreColumnsOf bytes (map path_view fields) cs → ds ≡ cs
-    → n ≡ o.rows → AreProjections s.fields (paths_view fields) ds n P → AreOfFile bytes s (map path_view fields) P
-records_given bytes s fields o cs ds n P h k d e a =
-    records_of_columns bytes s (map path_view fields) o cs P h k (projections_same s.fields (paths_view fields) (paths_of_leaves (map path_view fields)) cs ds o.rows n P (paths_same fields) d e a)
+none_same : (fs : Fields) (ps qs : List (List Step)) (cs ds : List (List Triplet)) (n : ℕ) → ps ≡ qs → ds ≡ cs → NoneHas fs ps ds n
+    → NoneHas fs qs cs n
+none_same fs ps qs cs ds n p d a = subst (λ (x : List (List Step)). NoneHas fs x cs n) p (subst (λ (x : List (List Triplet)). NoneHas fs ps x n) d a)
+
+-- the records that were put together of a file's columns
+pub records_given : (bytes : List ℕ) (s : Schema) (fields : List Path) (cs ds : List (List Triplet)) (n : ℕ) (P : List Node)
+    → AreColumnsOfFile bytes s (map path_view fields) cs n → ds ≡ cs → AreProjections s.fields (paths_view fields) ds n P
+    → AreOfFile bytes s (map path_view fields) P
+records_given bytes s fields cs ds n P k d a =
+    let b = projections_same s.fields (paths_view fields) (paths_of_leaves (map path_view fields)) cs ds n P (paths_same fields) d a in
+    (b.0, k.file b.0 b.1, b.2)
 
 pub projected_given : (s : Schema) (fields : List Path) (ds : List (List Triplet)) (n : ℕ) (P : List Node) → AreProjections s.fields (paths_view fields) ds n P → AreProjected s (map path_view fields) P
 projected_given s fields ds n P a =
-    projected s (map path_view fields) n ds P (projections_same s.fields (paths_view fields) (paths_of_leaves (map path_view fields)) ds ds n n P (paths_same fields) refl refl a)
+    let F : List Leaf = map path_view fields in
+    projected s F n ds P (projections_same s.fields (paths_view fields) (paths_of_leaves F) ds ds n P (paths_same fields) refl a)
 
 -- the fault of putting records together
-pub assembled_fault : (bytes : List ℕ) (s : Schema) (fields : List Path) (o : Opened) (cs ds : List (List Triplet)) (n : ℕ) (e : AssembleFault) → IsOpened bytes (map path_view fields) o
-    → AreColumnsOf bytes (map path_view fields) cs → ds ≡ cs → n ≡ o.rows → (e ≡ AssembleFault.BadData → NoneHas s.fields (paths_view fields) ds n) → IsFaultOf bytes s (map path_view fields) (assemble_fault e)
-assembled_fault bytes s fields o cs ds n AssembleFault.NoMemory h k d e none = tt
-assembled_fault bytes s fields o cs ds n AssembleFault.BadData h k d e none =
-    no_records bytes s (map path_view fields) o cs h k (none_same s.fields (paths_view fields) (paths_of_leaves (map path_view fields)) cs ds o.rows n (paths_same fields) d e (none refl))
+pub assembled_fault : (bytes : List ℕ) (s : Schema) (fields : List Path) (cs ds : List (List Triplet)) (n : ℕ) (e : AssembleFault)
+    → AreColumnsOfFile bytes s (map path_view fields) cs n → ds ≡ cs
+    → (e ≡ AssembleFault.BadData → NoneHas s.fields (paths_view fields) ds n) → IsFaultOf bytes s (map path_view fields) (assemble_fault e)
+assembled_fault bytes s fields cs ds n AssembleFault.NoMemory k d none = tt
+assembled_fault bytes s fields cs ds n AssembleFault.BadData k d none =
+    k.none (none_same s.fields (paths_view fields) (paths_of_leaves (map path_view fields)) cs ds n (paths_same fields) d (none refl))
 
 -- ---- how many triplets a file has
 

@@ -12,7 +12,7 @@ use Rattle.dr_reading.specs.Left.{LeftTablet}
 use Rattle.dr_reading.specs.InTurn.{TabletRead, read_given, read_left, IsTabletRead, causes_at, left_from, records_in, ReadsInTurn}
 use Rattle.dr_reading.proofs.InTurnLemmas.{reads_none, reads_more, as_many_read, given_more, one_more_left, records_more}
 use Rattle.dr_assemble.specs.Views.{nodes_view}
-use Rattle.dr_tablets.specs.Views.{all_tried_view, all_left_view}
+use Rattle.dr_tablets.specs.Views.{all_left_view}
 use Rattle.dr_tablets.specs.declared.left.LeftTablet as code
 use Rattle.dr_tablets.specs.declared.reading.Tablet.{Tablet}
 use Rattle.dr_tablets.specs.Tablets.{IsOfRead, IsReadAs, TakesRead, TakesTablet, with_tablet}

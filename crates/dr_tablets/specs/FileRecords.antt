@@ -1,13 +1,14 @@
 -- What is read of a file for some leaves of a schema: the projections of its records, or why there are none.
-use Rattle.std.specs.Prelude.{◌≡◌, ◌≤◌, ◌+◌, ℕ, List, [], ◌∷◌, map, length, Bool, true, nat_le, Some, ⊤}
+use Rattle.std.specs.Prelude.{◌≡◌, ◌≤◌, ℕ, List, [], ◌∷◌, map, length, Bool, true, nat_le, Some, ⊤}
 use Rattle.std.specs.List.{slice_get, list_all}
 use Rattle.dr_meaning.specs.Schema.{Schema, Fields}
-use Rattle.dr_meaning.specs.Path.{Step, Leaf, leaves, paths_of_leaves}
+use Rattle.dr_meaning.specs.Path.{Leaf, leaves, paths_of_leaves}
 use Rattle.dr_meaning.specs.Record.{Node, is_record, project}
 use Rattle.dr_meaning.specs.Column.{Triplet, column}
 use Rattle.dr_formats.specs.File.{bad_footer, bad_schema, bad_codec, bad_data, IsFileOf, HasCause, most_rows, most_triplets}
 use Rattle.dr_formats.specs.Opening.{leaf_cause}
 use Rattle.dr_outside.specs.declared.cause.Cause.{Cause}
+use Rattle.dr_walk.specs.Walking.{HasColumns, NoneHas}
 use Rattle.dr_walk.specs.declared.fault.AssembleFault.{AssembleFault}
 use Rattle.dr_file.specs.OpenedFiles.{IsColumnOf}
 use Rattle.dr_file.specs.declared.file_fault.FileFault.{FileFault}
@@ -54,6 +55,12 @@ abbrev pub AreColumnsOf : List ℕ → List Leaf → List (List Triplet) → Typ
 AreColumnsOf bytes [] [] = ⊤
 AreColumnsOf bytes (l ∷ F) (c ∷ cs) = IsColumnOf bytes l c × AreColumnsOf bytes F cs
 AreColumnsOf bytes F cs = ⊥
+
+-- columns and a number of records, where no other records have such columns than those of which the bytes are a file for the leaves: if there are none,
+-- the bytes are none for bad data
+pub record AreColumnsOfFile (bytes : List ℕ) (s : Schema) (F : List Leaf) (cs : List (List Triplet)) (rows : ℕ) : Type 0 where
+  pub file : (R : List Node) → HasColumns s.fields (paths_of_leaves F) cs rows R → IsFileOf bytes s F R
+  pub none : NoneHas s.fields (paths_of_leaves F) cs rows → HasCause bytes s F bad_data
 
 -- one of the leaves has bad data
 abbrev pub SomeIsBad : List ℕ → List Leaf → Type 0

@@ -1,78 +1,28 @@
 //! Reading the records of a file.
 
-ghost use Rattle.std.specs.Prelude.{◌≡◌, ◌≢◌, ◌≤◌, ℕ, List, length, map, true, false, IfOk, IfErr, IsTrue, Err, Some, []};
-ghost use Rattle.std.specs.List.{flat_map};
-ghost use Rattle.dr_meaning.specs.Path.{Leaf};
-ghost use Rattle.dr_formats.specs.File.{Footer, footer_of};
-ghost use Rattle.dr_formats.specs.Opening.{leaf_ranges, reader_ranges};
+ghost use Rattle.std.specs.Prelude.{◌≡◌, ◌≢◌, ◌≤◌, ℕ, List, map, true, false, IfOk, IfErr, IsTrue, Err, []};
+ghost use Rattle.dr_formats.specs.Opening.{reader_ranges};
 ghost use Rattle.dr_nested.specs.Views.{fields_view};
 ghost use Rattle.dr_nested.specs.SchemaView.{schema_view};
 ghost use Rattle.dr_nested.specs.PathView.{path_view};
-ghost use Rattle.dr_levels.specs.Views.{columns_view};
 ghost use Rattle.dr_assemble.specs.Views.{nodes_view};
 ghost use Rattle.dr_outside.specs.Link.{Lacks};
 ghost use Rattle.dr_outside.specs.Telling.{Tells, Serves, AsksOnly};
-ghost use Rattle.dr_chunk.specs.Ranges.{is_read_inside};
 ghost use Rattle.dr_file.specs.Asking.{is_for_path, is_request_for};
-ghost use Rattle.dr_file.specs.OpenedFiles.{IsOpened, HasCounts, is_read_fault, leaf_count, path_of};
+ghost use Rattle.dr_file.specs.OpenedFiles.{HasCounts, is_read_fault};
 ghost use Rattle.dr_tablets.specs.Counting.{counted};
-ghost use Rattle.dr_tablets.specs.FileRecords.{AreLeavesOf, AreOfFile, IsFaultOf, AreProjected, AreFew, AreColumnsOf, IsColumnsFault, are_short, assemble_fault, triplets_at};
-ghost use Rattle.dr_formats.specs.Writing.{triplet_count};
+ghost use Rattle.dr_tablets.specs.FileRecords.{AreLeavesOf, AreOfFile, IsFaultOf, AreProjected, AreFew, assemble_fault, triplets_at};
 
+use crate::columns::read_file_columns;
 use crate::steps::Steps;
 use dr_assemble::{AssembleFault, assemble};
-use dr_file::{FileFault, Opened};
-use dr_levels::Column;
+use dr_file::FileFault;
 use dr_nested::{Node, Path, Schema};
 use dr_outside::{Cause, Link};
 use std::alloc::Global;
 
-/// The columns of all leaves that a file was opened for. A step is a triplet.
-///
-/// Errors: the link failed, with its counts of faults before and after this call; `BadData` where one leaf's chunks
-/// spell no column of any records; want of memory.
-fn read_columns<L: Link>(
-    alloc: Global,
-    link: &mut L,
-    opened: &Opened,
-    leaves: usize,
-    steps: &mut Steps,
-) -> Result<Vec<Column>, FileFault>
-    requires { leaves ≡ leaf_count opened.now }
-    ensures columns { (bytes : List ℕ) (F : List Leaf) → IsOpened bytes F opened.now → length F ≡ leaves
-        → Tells (L.shows link.old) (path_of opened.now) bytes
-        → IfOk result (λ v. AreColumnsOf bytes F (columns_view v.items)) }
-    ensures cause { (bytes : List ℕ) (F : List Leaf) → IsOpened bytes F opened.now → length F ≡ leaves
-        → Tells (L.shows link.old) (path_of opened.now) bytes → IfErr result (IsColumnsFault bytes F) }
-    ensures few { IfOk result (λ v. are_short (columns_view v.items) ≡ true) }
-    ensures counted { IfOk result (λ v. steps.new ≡ counted steps.old (triplet_count (columns_view v.items))) }
-    ensures asked { (bytes : List ℕ) (F : List Leaf) (f : Footer) → IsOpened bytes F opened.now → length F ≡ leaves
-        → footer_of bytes ≡ Some f → AsksOnly (is_read_inside (path_of opened.now) (flat_map (leaf_ranges f) F))
-        (L.shows link.old).asked (L.shows link.new).asked }
-    ensures paths { AsksOnly (is_for_path (path_of opened.now)) (L.shows link.old).asked (L.shows link.new).asked }
-    ensures same { (L.shows link.new).held ≡ (L.shows link.old).held }
-    ensures counts { IfErr result (HasCounts (L.shows link.old).faults (L.shows link.new).faults) }
-    ensures calm { is_read_fault result ≡ false → (L.shows link.new).faults ≡ (L.shows link.old).faults }
-    ensures steady { (bytes : List ℕ) (F : List Leaf) → IsOpened bytes F opened.now
-        → Serves (L.shows link.old) (path_of opened.now) bytes → is_read_fault result ≡ false }
-    ensures stays_steady { IsTrue (L.shows link.old).is_steady → IsTrue (L.shows link.new).is_steady }
-{
-    let mut columns = Vec::new(alloc);
-    let mut triplets = 0u64;
-    'leaves: for index in 0..leaves {
-        let column = opened.column(alloc, link, index)?;
-        triplets = triplets.saturating_add(column.len() as u64);
-        match columns.push(column) {
-            Ok(()) => {}
-            Err(_) => return Err(FileFault::NoMemory),
-        }
-    }
-    steps.add(triplets);
-    Ok(columns)
-}
-
 /// A fault of putting records together as that of a file.
-fn file_fault(fault: AssembleFault) -> FileFault
+pub fn file_fault(fault: AssembleFault) -> FileFault
     ensures { result ≡ assemble_fault fault }
 {
     match fault {
@@ -120,10 +70,9 @@ pub fn read_records<L: Link>(
     ensures never_falls { (L.shows link.old).faults ≤ (L.shows link.new).faults }
     ensures stays_steady { IsTrue (L.shows link.old).is_steady → IsTrue (L.shows link.new).is_steady }
 {
-    let opened = Opened::start(alloc, link, path, fields)?;
     let mut read = Steps::new();
-    let columns = read_columns(alloc, link, &opened, fields.len(), &mut read)?;
-    match assemble(alloc, schema, fields, &columns, opened.rows()) {
+    let file = read_file_columns(alloc, link, path, fields, &mut read)?;
+    match assemble(alloc, schema, fields, &file.columns, file.rows) {
         Ok(records) => {
             steps.add(read.taken());
             Ok(records)

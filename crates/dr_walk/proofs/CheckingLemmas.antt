@@ -1,6 +1,6 @@
 -- A walk over columns of which so much is left: what is left behind a call.
 use Rattle.std.proofs.Common.{◌≡◌, ◌≢◌, ◌⊎◌, inl, inr, ℕ, zero, suc, ◌+◌, ◌-◌, ◌^◌, ◌≤◌, min, List, [], ◌∷◌, ◌++◌, map, length, take, drop, get_or, Bool, true, false, ◌&&◌, Option, Some, None, refl, sym, ap, ap₂, subst, ◌∙◌, append-nil, true≢false, eq-eqb, arith, Result, Ok, Err, slice_set, ◌<◌}
-use Rattle.std.specs.Prelude.{not, ◌==◌, nat_lt, if◌then◌else◌, option_map, is_some, IfOk, IsErrOf}
+use Rattle.std.specs.Prelude.{not, ◌==◌, nat_lt, if◌then◌else◌, option_map, is_some, IfOk, IsErrOf, IsErrAnd}
 use Rattle.std.proofs.lemmas.Bool.{eqb-true, ne_eqb}
 use Rattle.std.proofs.lemmas.Bool.Decides.{nat_tests}
 use Rattle.std.proofs.lemmas.List.{get_or_past, get_or-map, length-map, drop_all, take_all}
@@ -8,7 +8,7 @@ use Rattle.dr_meaning.specs.Schema.{Fields}
 use Rattle.dr_meaning.specs.Path.{Step}
 use Rattle.dr_meaning.specs.Record.{Node}
 use Rattle.dr_meaning.specs.Column.{Triplet}
-use Rattle.dr_meaning.specs.Walk.{Move}
+use Rattle.dr_meaning.specs.Walk.{Move, walk}
 use Rattle.dr_levels.specs.Views.{triplet_view, triplets_view, move_view}
 use Rattle.dr_levels.specs.Columns.{Gives}
 use Rattle.dr_levels.specs.declared.triplet.Triplet.{Triplet as CodeTriplet}
@@ -19,6 +19,7 @@ use Rattle.dr_course.specs.Turning.{between}
 use Rattle.dr_course.specs.Leading.{Left, head_of, tail_of, columns_of}
 use Rattle.dr_walk.specs.Walking.{IsAt, HasColumns, NoneHas, first_wanted, is_known, wanted_behind, then_wanted, Wants, leaf_of, Comes, moves_of, left_behind}
 use Rattle.dr_walk.specs.Checking.{rest_at, rest_behind, next_at, untaken, IsOn, Advances}
+use Rattle.dr_walk.specs.declared.column_walk.Advance.{Advance}
 use Rattle.dr_walk.specs.declared.fault.AssembleFault.{AssembleFault}
 use Rattle.dr_walk.specs.declared.walk.Walk.{Walk}
 use Rattle.dr_walk.proofs.WalkLemmas.{is_known_by, known_is, not_known, known_before, unknown_before, left_past, one_more}
@@ -117,29 +118,28 @@ comes_by : (o : Option ℕ) (given : ℕ) (left : Left) (rest : ℕ → List Tri
 comes_by None given left rest more r e = none_given None rest more e refl
 comes_by (Some i) given left rest more r e = e ∙ ap head_of (r i ∙ ap (λ (b : Bool). untaken b (left i)) (not_known given i))
 
-pub comes_on : (fs : Fields) (F : List (List Step)) (C : List (List Triplet)) (rows : ℕ) (w : Walk) (rests : List Triplets) (more : Option CodeTriplet) → (on : IsOn fs F C rows w rests) → option_map triplet_view more ≡ next_at w.wanted (rest_at rests) → Comes on.left w.wanted more
-comes_on fs F C rows w rests more on e = comes_by w.wanted w.given on.left (rest_at rests) more on.rest e
+pub comes_on : (fs : Fields) (F : List (List Step)) (C : List (List Triplet)) (rows : ℕ) (ms : List Move) (w : Walk) (rests : List Triplets) (more : Option CodeTriplet) → (on : IsOn fs F C rows ms w rests) → option_map triplet_view more ≡ next_at w.wanted (rest_at rests) → Comes on.left w.wanted more
+comes_on fs F C rows ms w rests more on e = comes_by w.wanted w.given on.left (rest_at rests) more on.rest e
 
-pub goes_on : (fs : Fields) (F : List (List Step)) (C : List (List Triplet)) (rows : ℕ) (old new : Walk) (rests later : List Triplets) (m : Option CodeMove) → (on : IsOn fs F C rows old rests)
-    → ((i : ℕ) → rest_at later i ≡ rest_behind old.wanted i (rest_at rests i)) → IsAt fs F rows C (on.gave ++ moves_of m) (left_behind m on.left) new
-    → Wants m (then_wanted old.given (length old.course.heads.items) old.wanted) new.wanted → IsOn fs F C rows new later
-goes_on fs F C rows old new rests later m on r at w = record {
-  gave = on.gave ++ moves_of m;
+pub goes_on : (fs : Fields) (F : List (List Step)) (C : List (List Triplet)) (rows : ℕ) (ms : List Move) (old new : Walk) (rests later : List Triplets) (m : Option CodeMove) → (on : IsOn fs F C rows ms old rests)
+    → ((i : ℕ) → rest_at later i ≡ rest_behind old.wanted i (rest_at rests i)) → IsAt fs F rows C (ms ++ moves_of m) (left_behind m on.left) new
+    → Wants m (then_wanted old.given (length old.course.heads.items) old.wanted) new.wanted → IsOn fs F C rows (ms ++ moves_of m) new later
+goes_on fs F C rows ms old new rests later m on r at w = record {
   left = left_behind m on.left;
   at = at;
-  rest = λ i. r i ∙ ap (rest_behind old.wanted i) (on.rest i) ∙ taken_rest fs F rows C on.gave on.left old on.at i
+  rest = λ i. r i ∙ ap (rest_behind old.wanted i) (on.rest i) ∙ taken_rest fs F rows C ms on.left old on.at i
       ∙ given_rest on.left m (then_wanted old.given (length old.course.heads.items) old.wanted) new.wanted old.given new.given w same some i;
 }
   where
     same : m ≡ None → new.given ≡ old.given
-    same e = at.gave ∙ ap (λ (x : Option CodeMove). min (length (on.gave ++ moves_of x)) (2 ^ 64 - 1)) e ∙ ap (λ (ms : List Move). min (length ms) (2 ^ 64 - 1)) (append-nil on.gave) ∙ sym on.at.gave
+    same e = at.gave ∙ ap (λ (x : Option CodeMove). min (length (ms ++ moves_of x)) (2 ^ 64 - 1)) e ∙ ap (λ (ms : List Move). min (length ms) (2 ^ 64 - 1)) (append-nil ms) ∙ sym on.at.gave
 
     never : 1 ≤ 0 → ⊥
     never x = omega (arith, x)
 
     some : (x : CodeMove) → m ≡ Some x → new.given ≢ 0
     some x e q =
-        let l : length (on.gave ++ moves_of m) ≡ length on.gave + 1 = ap (λ (y : Option CodeMove). length (on.gave ++ moves_of y)) e ∙ one_more on.gave (move_view x) in
+        let l : length (ms ++ moves_of m) ≡ length ms + 1 = ap (λ (y : Option CodeMove). length (ms ++ moves_of y)) e ∙ one_more ms (move_view x) in
         let g = at.gave in
         never (omega (arith, l, g, q))
 
@@ -151,24 +151,31 @@ Answer = Result (Option CodeMove) AssembleFault
 pub ok_on : (P : Option CodeMove → Type 0) (r : Answer) (m : Option CodeMove) → r ≡ Ok m → IfOk r P → P m
 ok_on P r m e h = subst (λ (x : Answer). IfOk x P) e h
 
-pub ends_or_goes : (fs : Fields) (F : List (List Step)) (C : List (List Triplet)) (rows : ℕ) (w : Walk) (rests : List Triplets) (b : Bool) → not b ≡ is_some w.wanted → IsOn fs F C rows w rests
-    → (w.wanted ≡ None → (R : List Node) × HasColumns fs F C rows R) → Advances fs F C rows w rests (Ok b)
-ends_or_goes fs F C rows w rests b e on h = by_wanted w.wanted b refl e
+-- nothing was given: it goes on, or it is at its end
+pub ends_where : (fs : Fields) (F : List (List Step)) (C : List (List Triplet)) (rows : ℕ) (ms : List Move) (w : Walk) (rests : List Triplets) (b : Bool) → not b ≡ is_some w.wanted → b ≡ true
+    → (w.wanted ≡ None → (R : List Node) × HasColumns fs F C rows R × (walk fs F R ≡ ms)) → Advances fs F C rows ms w rests (Ok Advance.Ended)
+ends_where fs F C rows ms w rests b e t h = by_wanted w.wanted refl
   where
-    by_wanted : (o : Option ℕ) (b : Bool) → w.wanted ≡ o → not b ≡ is_some w.wanted → Advances fs F C rows w rests (Ok b)
-    by_wanted o false q e = on
-    by_wanted None true q e = h q
-    by_wanted (Some i) true q e = absurd (true≢false (sym (e ∙ ap is_some q)))
+    by_wanted : (o : Option ℕ) → w.wanted ≡ o → (R : List Node) × HasColumns fs F C rows R × (walk fs F R ≡ ms)
+    by_wanted None q = h q
+    by_wanted (Some i) q = absurd (true≢false (sym (sym (ap not t) ∙ e ∙ ap is_some q)))
 
-pub fails_with : (fs : Fields) (F : List (List Step)) (C : List (List Triplet)) (rows : ℕ) (w : Walk) (rests : List Triplets) (f : AssembleFault) → (f ≡ AssembleFault.BadData → NoneHas fs F C rows) → Advances fs F C rows w rests (Err f)
-fails_with fs F C rows w rests AssembleFault.BadData h = h refl
-fails_with fs F C rows w rests AssembleFault.NoMemory h = tt
+pub heard_where : (fs : Fields) (F : List (List Step)) (C : List (List Triplet)) (rows : ℕ) (ms : List Move) (w : Walk) (rests : List Triplets) → IsOn fs F C rows (ms ++ []) w rests → Advances fs F C rows ms w rests (Ok Advance.Heard)
+heard_where fs F C rows ms w rests on = subst (λ (ns : List Move). IsOn fs F C rows ns w rests) (append-nil ms) on
+
+-- a leaf's move is of one of the leaves
+pub gave_where : (fs : Fields) (F : List (List Step)) (C : List (List Triplet)) (rows : ℕ) (ms : List Move) (w : Walk) (rests : List Triplets) (m : CodeMove) (o : Option ℕ) → IsOn fs F C rows (ms ++ move_view m ∷ []) w rests → Wants (Some m) o w.wanted
+    → Advances fs F C rows ms w rests (Ok (Advance.Gave m))
+gave_where fs F C rows ms w rests m o on n = (on, λ i e. on.at.wants i (n.1 ∙ e))
+
+pub fails_with : (fs : Fields) (F : List (List Step)) (C : List (List Triplet)) (rows : ℕ) (ms : List Move) (w : Walk) (rests : List Triplets) (f : AssembleFault) → (f ≡ AssembleFault.BadData → NoneHas fs F C rows) → Advances fs F C rows ms w rests (Err f)
+fails_with fs F C rows ms w rests AssembleFault.BadData h = h refl
+fails_with fs F C rows ms w rests AssembleFault.NoMemory h = tt
 
 -- ---- the beginning
 
-pub begins_on : (fs : Fields) (F : List (List Step)) (C : List (List Triplet)) (rows n : ℕ) (w : Walk) (rests : List Triplets) → IsAt fs F rows C [] (columns_of C) w → w.wanted ≡ first_wanted n → n ≡ length F → map triplets_view rests ≡ C → IsOn fs F C rows w rests
+pub begins_on : (fs : Fields) (F : List (List Step)) (C : List (List Triplet)) (rows n : ℕ) (w : Walk) (rests : List Triplets) → IsAt fs F rows C [] (columns_of C) w → w.wanted ≡ first_wanted n → n ≡ length F → map triplets_view rests ≡ C → IsOn fs F C rows [] w rests
 begins_on fs F C rows n w rests at q k e = record {
-  gave = [];
   left = columns_of C;
   at = at;
   rest = λ i. ap (λ (D : List (List Triplet)). get_or D i []) e ∙ by_count n i q k;
@@ -234,13 +241,29 @@ written_back {A} xs ys n e f =
 
 -- ---- by what an answer is
 
-pub on_where : (fs : Fields) (F : List (List Step)) (C : List (List Triplet)) (rows : ℕ) (w : Walk) (rests : List Triplets) (r : Result Bool AssembleFault) (b : Bool) → r ≡ Ok b → b ≡ false → Advances fs F C rows w rests r → IsOn fs F C rows w rests
-on_where fs F C rows w rests r b e t h = subst (Advances fs F C rows w rests) (e ∙ ap Ok t) h
+-- what is said of a call by what it answers: it goes on behind some moves
+abbrev pub StandsOver : Fields → List (List Step) → List (List Triplet) → ℕ → Walk → List Triplets → Type 0
+StandsOver fs F C rows w rests = (ms : List Move) × IsOn fs F C rows ms w rests
 
-pub has_where : (fs : Fields) (F : List (List Step)) (C : List (List Triplet)) (rows : ℕ) (w : Walk) (rests : List Triplets) (r : Result Bool AssembleFault) (b : Bool) → r ≡ Ok b → b ≡ true → Advances fs F C rows w rests r → (R : List Node) × HasColumns fs F C rows R
-has_where fs F C rows w rests r b e t h = subst (Advances fs F C rows w rests) (e ∙ ap Ok t) h
+pub heard_on : (fs : Fields) (F : List (List Step)) (C : List (List Triplet)) (rows : ℕ) (ms : List Move) (w : Walk) (rests : List Triplets) (r : Result Advance AssembleFault) → r ≡ Ok Advance.Heard → Advances fs F C rows ms w rests r → StandsOver fs F C rows w rests
+heard_on fs F C rows ms w rests r e h = (ms, subst (Advances fs F C rows ms w rests) e h)
 
-pub none_where : (fs : Fields) (F : List (List Step)) (C : List (List Triplet)) (rows : ℕ) (w : Walk) (rests : List Triplets) (r : Result Bool AssembleFault) (f : AssembleFault) → r ≡ Err f → Advances fs F C rows w rests r
-    → IsErrOf {T = Unit {0}} (Err f) AssembleFault.BadData → NoneHas fs F C rows
-none_where fs F C rows w rests r AssembleFault.BadData e h q = subst (Advances fs F C rows w rests) e h
-none_where fs F C rows w rests r AssembleFault.NoMemory e h q = absurd (cc)
+pub gave_on : (fs : Fields) (F : List (List Step)) (C : List (List Triplet)) (rows : ℕ) (ms : List Move) (w : Walk) (rests : List Triplets) (r : Result Advance AssembleFault) (m : CodeMove) → r ≡ Ok (Advance.Gave m) → Advances fs F C rows ms w rests r → StandsOver fs F C rows w rests
+gave_on fs F C rows ms w rests r m e h = let x = subst (Advances fs F C rows ms w rests) e h in (ms ++ move_view m ∷ [], x.0)
+
+pub heard_or_gave : (fs : Fields) (F : List (List Step)) (C : List (List Triplet)) (rows : ℕ) (ms : List Move) (w : Walk) (rests : List Triplets) (a : Advance)
+    → (a ≡ Advance.Heard) ⊎ ((m : CodeMove) × (a ≡ Advance.Gave m)) → Advances fs F C rows ms w rests (Ok a) → StandsOver fs F C rows w rests
+heard_or_gave fs F C rows ms w rests a (inl e) h = heard_on fs F C rows ms w rests (Ok a) (ap Ok e) h
+heard_or_gave fs F C rows ms w rests a (inr (m, e)) h = gave_on fs F C rows ms w rests (Ok a) m (ap Ok e) h
+
+pub ended_has : (fs : Fields) (F : List (List Step)) (C : List (List Triplet)) (rows : ℕ) (ms : List Move) (w : Walk) (rests : List Triplets) (r : Result Advance AssembleFault) → r ≡ Ok Advance.Ended → Advances fs F C rows ms w rests r → (R : List Node) × HasColumns fs F C rows R
+ended_has fs F C rows ms w rests r e h = let x = subst (Advances fs F C rows ms w rests) e h in (x.0, x.1)
+
+pub none_where : (fs : Fields) (F : List (List Step)) (C : List (List Triplet)) (rows : ℕ) (ms : List Move) (w : Walk) (rests : List Triplets) (r : Result Advance AssembleFault) (f : AssembleFault) → r ≡ Err f → f ≡ AssembleFault.BadData
+    → Advances fs F C rows ms w rests r → NoneHas fs F C rows
+none_where fs F C rows ms w rests r f e q h = subst (Advances fs F C rows ms w rests) (e ∙ ap Err q) h
+
+-- a refusal that is handed on
+pub bad_handed : {T : Type 0} (r : Result T AssembleFault) (f : AssembleFault) → IsErrAnd r (λ x. x ≡ f) → IsErrOf r AssembleFault.BadData → f ≡ AssembleFault.BadData
+bad_handed (Ok t) f e q = absurd e
+bad_handed (Err x) f e q = let same : x ≡ AssembleFault.BadData = cc in sym e ∙ same

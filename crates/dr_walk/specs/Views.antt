@@ -1,11 +1,9 @@
 -- What the types of this crate stand for.
 use Rattle.std.specs.Prelude.{List, map, option_map, Vec}
 use Rattle.std.specs.declared.alloc.Global.{Global}
-use Rattle.dr_meaning.specs.Path as path
 use Rattle.dr_meaning.specs.Automaton as automaton
 use Rattle.dr_nested.specs.Views.{kind_view}
-use Rattle.dr_nested.specs.PathView.{path_view, lent_path}
-use Rattle.dr_nested.specs.declared.path.Path.{Path}
+use Rattle.dr_nested.specs.PathView.{lent_path}
 use Rattle.dr_course.specs.Course as course
 use Rattle.dr_walk.specs.Laying as laid
 use Rattle.dr_walk.specs.declared.items.Gate.{Gate}

@@ -1,62 +1,21 @@
 //! Whether records have given columns.
 
-ghost use Rattle.std.specs.Prelude.{◌≡◌, ℕ, List, length, map, true, option_map, IfOk, IsErrOf};
+ghost use Rattle.std.specs.Prelude.{◌≡◌, List, length, map, true, IfOk, IsErrOf};
 ghost use Rattle.std.specs.List.{list_all};
-ghost use Rattle.dr_meaning.specs.Path.{Step as MeantStep, is_leaf_path};
-ghost use Rattle.dr_meaning.specs.Schema.{Fields};
+ghost use Rattle.dr_meaning.specs.Path.{is_leaf_path};
 ghost use Rattle.dr_meaning.specs.Record as record_tree;
-ghost use Rattle.dr_meaning.specs.Column as meant_column;
 ghost use Rattle.dr_nested.specs.Views.{fields_view};
-ghost use Rattle.dr_levels.specs.Views.{triplet_view, triplets_view};
+ghost use Rattle.dr_levels.specs.Views.{triplets_view};
 ghost use Rattle.dr_course.specs.Selection.{all_differ};
 ghost use Rattle.dr_walk.specs.Walking.{HasColumns, NoneHas};
-ghost use Rattle.dr_walk.specs.Checking.{rest_at, rest_behind, next_at, IsOn, Advances};
 ghost use Rattle.dr_walk.specs.declared.fault.AssembleFault.{AssembleFault};
 ghost use Rattle.dr_nested.specs.PathView.{lent_path};
 
+use crate::column_walk::{Advance, ColumnWalk};
 use crate::fault::AssembleFault;
-use crate::walk::Walk;
-use dr_levels::{Triplet, Triplets};
-use dr_nested::{NoMemory, Schema, Step};
+use dr_levels::Triplets;
+use dr_nested::{Schema, Step};
 use std::alloc::Global;
-
-/// The triplets of each column, to be taken.
-fn copied<'a>(alloc: Global, columns: &[Triplets<'a>]) -> Result<Vec<Triplets<'a>>, NoMemory>
-    ensures { IfOk result (λ v. v.items ≡ columns.now) }
-{
-    let mut copied = Vec::with_capacity(alloc, columns.len())?;
-    copied.extend_from_slice(columns)?;
-    Ok(copied)
-}
-
-/// Takes the next triplet of a leaf, if one is wanted.
-fn take_next<'a>(rests: &mut [Triplets<'a>], wanted: Option<u32>) -> Option<Triplet<'a>>
-    ensures next { option_map triplet_view result ≡ next_at wanted (rest_at rests.old) }
-    ensures rests { (i : ℕ) → rest_at rests.new i ≡ rest_behind wanted i (rest_at rests.old i) }
-{
-    let leaf = wanted? as usize;
-    if leaf >= rests.len() {
-        return None;
-    }
-    let mut rest = rests[leaf];
-    let next = rest.next()?;
-    rests[leaf] = rest;
-    Some(next)
-}
-
-/// One call of a walk, over what is left of the columns: whether all was given.
-fn advance<'a>(walk: &mut Walk<'a>, rests: &mut [Triplets<'a>]) -> Result<bool, AssembleFault>
-    ensures { (fs : Fields) (F : List (List MeantStep)) (C : List (List meant_column.Triplet)) (rows : ℕ)
-        → list_all (is_leaf_path fs) F ≡ true → all_differ F ≡ true → IsOn fs F C rows walk.old rests.old
-        → Advances fs F C rows walk.new rests.new result }
-{
-    let more = take_next(rests, walk.wants());
-    match walk.next(more) {
-        Ok(Some(_)) => Ok(false),
-        Ok(None) => Ok(walk.wants().is_none()),
-        Err(fault) => Err(fault),
-    }
-}
 
 /// Whether so many records of the schema have these columns, one for each leaf, which is given by its path: the walk
 /// over them comes to its end.
@@ -77,14 +36,12 @@ pub fn check_columns(
     ensures none { IsErrOf result AssembleFault.BadData
         → NoneHas (fields_view (schema.now).fields.items) (map lent_path fields.now) (map triplets_view columns.now) rows }
 {
-    let mut rests = copied(alloc, columns)?;
-    let mut walk = Walk::start(alloc, schema, fields, rows)?;
+    let mut walk = ColumnWalk::start(alloc, schema, fields, columns, rows)?;
     // No memory holds columns, or records, of more moves.
     'moves: for _ in 0..u64::MAX {
-        match advance(&mut walk, &mut rests) {
-            Ok(false) => {}
-            Ok(true) => return Ok(()),
-            Err(fault) => return Err(fault),
+        match walk.next()? {
+            Advance::Heard | Advance::Gave(_) => {}
+            Advance::Ended => return Ok(()),
         }
     }
     Err(AssembleFault::NoMemory)

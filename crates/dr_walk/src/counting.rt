@@ -19,7 +19,7 @@ fn count_in_group(fields: &Vec<Field>) -> u32
     count
 }
 
-/// How many repeated fields a field is or holds.
+/// How many repeated fields a field is or holds, at any depth.
 #[cycle(counting)]
 pub fn count_repeated(field: &Field) -> u32
     requires { repetition_count (rep_view (field.now).rep) + shape_repeated_fields (shape_view (field.now).shape) <

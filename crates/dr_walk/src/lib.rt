@@ -2,6 +2,7 @@
 #![tactic(auto)]
 
 mod checking;
+mod column_walk;
 mod counting;
 mod course;
 mod fault;
@@ -16,5 +17,7 @@ mod values;
 mod walk;
 
 pub use checking::check_columns;
+pub use column_walk::{Advance, ColumnWalk};
+pub use counting::count_repeated;
 pub use fault::AssembleFault;
 pub use walk::Walk;

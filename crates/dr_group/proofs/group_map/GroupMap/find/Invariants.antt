@@ -1,12 +1,12 @@
-use Rattle.std.proofs.Common.{◌-◌, map}
+use Rattle.std.proofs.Common.{map}
 use Rattle.dr_group.specs.Views.{lent_cell}
-use Rattle.dr_group.specs.Groups.{picked}
-use Rattle.dr_group.proofs.FindLemmas.{Halves}
+use Rattle.dr_group.specs.Chains.{bucket_of}
+use Rattle.dr_group.proofs.FindLemmas.{OnTheWay}
 use Rattle.dr_group.proofs.group_map.GroupMap.find.Given as goal
 
--- the key tuple is greater than each before `low`, and less than each from `high` on
-abbrev pub invariant-halves : goal.invariant-halves
-invariant-halves l = Halves (map lent_cell l.key) (picked l.self.groups.items l.self.sorted.items) l.low l.high
+-- none of the groups behind the rest of the chain has the key tuple
+abbrev pub invariant-chain : goal.invariant-chain
+invariant-chain l = OnTheWay (map lent_cell l.key) l.self.groups.items l.self.index.heads.items l.self.index.links.items (bucket_of l.self.index.heads.items l.hash) l.rest
 
-abbrev pub decreases-halves : goal.decreases-halves
-decreases-halves l = l.high - l.low
+abbrev pub decreases-chain : goal.decreases-chain
+decreases-chain l = l.rest

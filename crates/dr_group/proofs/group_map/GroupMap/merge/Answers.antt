@@ -1,40 +1,49 @@
-use Rattle.std.proofs.Common.{◌≡◌, ◌≤◌, ◌+◌, ◌++◌, ◌∙◌, ap, ap₂, length, map, List, ℕ, arith}
+use Rattle.std.proofs.Common.{◌≡◌, ◌++◌, ◌∙◌, ap, ap₂, sym, subst, map, List}
 use Rattle.dr_partials.specs.Partials as meant
 use Rattle.dr_partials.specs.Partials.{merge_groups}
-use Rattle.dr_group.specs.Groups.{group_view, picked}
-use Rattle.dr_group.specs.Maps.{groups_view}
-use Rattle.dr_group.proofs.NumberedLemmas.{numbered_are_numbers, numbered, merged_are_ascending}
+use Rattle.dr_partials.proofs.GroupLemmas.{ascending_ascends, merged_ascends, merge_groups_none}
+use Rattle.dr_group.specs.Groups.{group_view}
+use Rattle.dr_group.specs.Distinct.{AreDistinct}
+use Rattle.dr_group.specs.Maps.{in_order, groups_view}
+use Rattle.dr_group.specs.Merging.{AreAscending}
+use Rattle.dr_group.proofs.DistinctLemmas.{order_ascends, ascending_distinct}
+use Rattle.dr_group.proofs.HeldLemmas.{none_indexed}
+use Rattle.dr_group.proofs.SortLemmas.{order_lent}
 use Rattle.dr_group.proofs.group_map.GroupMap.merge.Goals as goal
 
-pub invariant_of-self-2 : goal.invariant_of-self-2
-invariant_of-self-2 c =
+pub merge_into-requires-clause-my_ascending : goal.merge_into-requires-clause-my_ascending
+merge_into-requires-clause-my_ascending c =
+    let s = c.args.self.now in
+    let mine = order_lent s.groups.items c.deref.result.now c.in_ok-my_order.my_order.items c.deref-3.result.now c.deref.ensures.value c.deref-3.ensures.value c.in_ok-my_order.ensures.order in
+    subst AreAscending (sym mine) (ascending_ascends (groups_view s) (order_ascends (map group_view s.groups.items)))
+
+pub merge_into-requires-clause-their_ascending : goal.merge_into-requires-clause-their_ascending
+merge_into-requires-clause-their_ascending c =
+    let o = c.args.other in
+    let theirs = order_lent o.groups.items c.deref-2.result.now c.in_ok-their_order.their_order.items c.deref-4.result.now c.deref-2.ensures.value c.deref-4.ensures.value c.in_ok-their_order.ensures.order in
+    subst AreAscending (sym theirs) (ascending_ascends (groups_view o) (order_ascends (map group_view o.groups.items)))
+
+pub invariant_of-self : goal.invariant_of-self
+invariant_of-self c =
     let s = c.args.self.now in
     let o = c.args.other in
-    let merged = c.merge_into.new.merged in
-    let count = c.len.result + c.len-2.result in
-    let n = c.len-3.result in
-    let long : n ≡ length merged.items = omega (arith, c.len-3.ensures, merged.ok.0) in
-    let few : n ≤ count = omega (arith, c.merge_into.ensures.len, c.len-3.ensures, c.len.ensures, c.len-2.ensures, c.deref.ensures.len, c.deref-2.ensures.len, c.in_ok-merged.ensures.len, s.sorted.ok.0, o.sorted.ok.0) in
-    let views : map group_view merged.items ≡ merge_groups (groups_view s) (groups_view o) =
-    c.merge_into.ensures.merged
-    ∙ ap₂ (λ (xs ys : List meant.Group). xs ++ ys) (ap (map group_view) c.in_ok-merged.ensures.items) (ap₂ (λ (a b : List ℕ). merge_groups (picked s.groups.items a) (picked o.groups.items b)) c.deref.ensures.value c.deref-2.ensures.value) in
-    let all : picked merged.items c.truncate.new.self.items ≡ map group_view merged.items =
-    numbered merged.items c.in_ok-numbers.numbers.items c.truncate.new.self.items count n c.in_ok-numbers.ensures c.truncate.ensures.items few long in
+    let merged = c.merge_into.new.merged.items in
+    let mine = order_lent s.groups.items c.deref.result.now c.in_ok-my_order.my_order.items c.deref-3.result.now c.deref.ensures.value c.deref-3.ensures.value c.in_ok-my_order.ensures.order in
+    let theirs = order_lent o.groups.items c.deref-2.result.now c.in_ok-their_order.their_order.items c.deref-4.result.now c.deref-2.ensures.value c.deref-4.ensures.value c.in_ok-their_order.ensures.order in
+    let views : map group_view merged ≡ merge_groups (groups_view s) (groups_view o) =
+    c.merge_into.ensures.merged ∙ ap₂ (λ (xs ys : List meant.Group). xs ++ ys) (ap (map group_view) c.in_ok-merged.ensures.items) (ap₂ merge_groups mine theirs) in
     record {
-      numbers = numbered_are_numbers merged.items c.in_ok-numbers.numbers.items c.truncate.new.self.items count n c.in_ok-numbers.ensures c.truncate.ensures.items few long;
-      ascending = merged_are_ascending (groups_view s) (groups_view o) (picked merged.items c.truncate.new.self.items) o.ascending (all ∙ views);
+      distinct = subst AreDistinct (sym views) (ascending_distinct (merge_groups (groups_view s) (groups_view o)) (merged_ascends (groups_view s) (groups_view o) (order_ascends (map group_view o.groups.items))));
+      indexed = none_indexed c.new.result.links.items merged c.new.ensures;
     }
 
 pub returns-clause-groups : goal.returns-clause-groups
 returns-clause-groups c =
     let s = c.args.self.now in
     let o = c.args.other in
-    let merged = c.merge_into.new.merged in
-    let count = c.len.result + c.len-2.result in
-    let n = c.len-3.result in
-    let long : n ≡ length merged.items = omega (arith, c.len-3.ensures, merged.ok.0) in
-    let few : n ≤ count = omega (arith, c.merge_into.ensures.len, c.len-3.ensures, c.len.ensures, c.len-2.ensures, c.deref.ensures.len, c.deref-2.ensures.len, c.in_ok-merged.ensures.len, s.sorted.ok.0, o.sorted.ok.0) in
-    let views : map group_view merged.items ≡ merge_groups (groups_view s) (groups_view o) =
-    c.merge_into.ensures.merged
-    ∙ ap₂ (λ (xs ys : List meant.Group). xs ++ ys) (ap (map group_view) c.in_ok-merged.ensures.items) (ap₂ (λ (a b : List ℕ). merge_groups (picked s.groups.items a) (picked o.groups.items b)) c.deref.ensures.value c.deref-2.ensures.value) in
-    numbered merged.items c.in_ok-numbers.numbers.items c.truncate.new.self.items count n c.in_ok-numbers.ensures c.truncate.ensures.items few long ∙ views
+    let merged = c.merge_into.new.merged.items in
+    let mine = order_lent s.groups.items c.deref.result.now c.in_ok-my_order.my_order.items c.deref-3.result.now c.deref.ensures.value c.deref-3.ensures.value c.in_ok-my_order.ensures.order in
+    let theirs = order_lent o.groups.items c.deref-2.result.now c.in_ok-their_order.their_order.items c.deref-4.result.now c.deref-2.ensures.value c.deref-4.ensures.value c.in_ok-their_order.ensures.order in
+    let views : map group_view merged ≡ merge_groups (groups_view s) (groups_view o) =
+    c.merge_into.ensures.merged ∙ ap₂ (λ (xs ys : List meant.Group). xs ++ ys) (ap (map group_view) c.in_ok-merged.ensures.items) (ap₂ merge_groups mine theirs) in
+    ap in_order views ∙ merge_groups_none (merge_groups (groups_view s) (groups_view o)) (merged_ascends (groups_view s) (groups_view o) (order_ascends (map group_view o.groups.items)))

@@ -1,0 +1,90 @@
+//! Finding a group by its key tuple.
+
+ghost use Rattle.std.specs.Prelude.{◌≡◌, ◌<◌, IfOk, OnOk, map, length, true, false};
+ghost use Rattle.dr_group.specs.Views.{lent_cell};
+ghost use Rattle.dr_group.specs.Groups.{group_view};
+ghost use Rattle.dr_group.specs.Chains.{hashes_of};
+ghost use Rattle.dr_group.specs.Distinct.{IsFound, group_hashes};
+ghost use Rattle.dr_group.specs.Finding.{IsReady};
+ghost use Rattle.dr_group.specs.Hashes.{tuple_hash};
+
+use crate::group::Group;
+use crate::group_map::GroupMap;
+use crate::hashes::held_hash;
+use crate::index::Index;
+use crate::orders::tuple_order;
+use dr_levels::ValueRef;
+use dr_memory::NoMemory;
+use std::alloc::Global;
+use std::cmp::Ordering;
+
+/// Whether a group has a key tuple.
+fn has_key(group: &Group, key: &[Option<ValueRef<'_>>]) -> bool
+    ensures yes { result ≡ true → (group_view group.now).keys ≡ map lent_cell key.now }
+    ensures no { result ≡ false → (group_view group.now).keys ≡ map lent_cell key.now → ⊥ }
+{
+    match tuple_order(key, &group.keys) {
+        Ordering::Equal => true,
+        Ordering::Less | Ordering::Greater => false,
+    }
+}
+
+/// An index of groups by the hashes of their key tuples.
+///
+/// Errors: want of memory, or of room for the number of a group.
+fn index_of(alloc: Global, groups: &[Group]) -> Result<Index, NoMemory>
+    ensures hashes { IfOk result (λ x. hashes_of x.links.items ≡ group_hashes groups.now) }
+    ensures heads { IfOk result (λ x. 0 < length x.heads.items) }
+{
+    let mut index = Index::with_room(alloc, groups.len())?;
+    'groups: for group in groups {
+        index.push(held_hash(&group.keys))?;
+    }
+    Ok(index)
+}
+
+impl GroupMap {
+    /// Whether the group at the hint has a key tuple.
+    pub(crate) fn is_hinted(&self, key: &[Option<ValueRef<'_>>]) -> bool
+        ensures { result ≡ true → IsFound (map lent_cell key.now) (map group_view (self.now).groups.items)
+            (Some (self.now).hint) }
+    {
+        if self.hint >= self.groups.len() {
+            return false;
+        }
+        has_key(&self.groups[self.hint], key)
+    }
+
+    /// Indexes all groups, where some are not, or where the buckets are too few.
+    ///
+    /// Errors: want of memory, or of room for the number of a group. Nothing has changed then.
+    pub(crate) fn prepare(&mut self, alloc: Global) -> Result<(), NoMemory>
+        ensures groups { (self.new).groups ≡ (self.old).groups }
+        ensures gatherings { (self.new).gatherings ≡ (self.old).gatherings }
+        ensures ready { OnOk result (IsReady self.new) }
+    {
+        let count = self.groups.len();
+        if self.index.links.len() < count || self.index.heads.len() <= count {
+            self.index = index_of(alloc, &self.groups)?;
+        }
+        Ok(())
+    }
+
+    /// The number of the group of a key tuple, if there is one.
+    pub(crate) fn find(&self, hash: u64, key: &[Option<ValueRef<'_>>]) -> Option<usize>
+        requires ready { IsReady self.now }
+        requires hash { hash ≡ tuple_hash (map lent_cell key.now) }
+        ensures { IsFound (map lent_cell key.now) (map group_view (self.now).groups.items) result }
+    {
+        let mut rest = self.index.heads[self.index.bucket(hash)];
+        'chain: while rest > 0 {
+            let number = rest as usize - 1;
+            let link = self.index.links[number];
+            if link.hash == hash && has_key(&self.groups[number], key) {
+                return Some(number);
+            }
+            rest = link.next;
+        }
+        None
+    }
+}

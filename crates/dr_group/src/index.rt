@@ -1,0 +1,79 @@
+//! Numbers that are found by hashes.
+
+ghost use Rattle.std.specs.Prelude.{◌≡◌, ◌<◌, ◌++◌, ◌∷◌, [], IfOk, length};
+ghost use Rattle.dr_group.specs.Chains.{AreLinked, bucket_of, hashes_of};
+ghost use Rattle.dr_group.specs.Gathering.{Becomes};
+
+use dr_memory::NoMemory;
+use std::alloc::Global;
+
+/// The hash of a number, and the next number of its bucket.
+#[derive(Clone, Copy, PartialEq, Eq, Debug)]
+pub struct Link {
+    pub hash: u64,
+    pub next: u32,
+}
+
+/// The numbers from 0 on, each with a hash. The numbers of a bucket of hashes are a chain, the last one first: a head,
+/// and the next of a number, is one more than a number, or 0 at the end.
+#[derive(Debug, Drop)]
+pub struct Index {
+    pub(crate) heads: Vec<u32>,
+    pub(crate) links: Vec<Link>,
+    pub ghost linked: { AreLinked heads.items links.items },
+}
+
+impl Index {
+    /// Of no numbers, and without room for any.
+    pub fn new(alloc: Global) -> Index
+        ensures { result.links.items ≡ [] }
+    {
+        Index {
+            heads: Vec::new(alloc),
+            links: Vec::new(alloc),
+        }
+    }
+
+    /// Of no numbers, with buckets for twice as many as are told.
+    ///
+    /// Errors: want of memory alone.
+    pub fn with_room(alloc: Global, count: usize) -> Result<Index, NoMemory>
+        ensures links { IfOk result (λ x. x.links.items ≡ []) }
+        ensures heads { IfOk result (λ x. 0 < length x.heads.items) }
+    {
+        let mut heads = Vec::new(alloc);
+        heads.resize(count.saturating_mul(2).saturating_add(16), 0)?;
+        Ok(Index {
+            heads,
+            links: Vec::with_capacity(alloc, count)?,
+        })
+    }
+
+    /// The bucket of a hash.
+    pub fn bucket(&self, hash: u64) -> usize
+        requires { 0 < length (self.now).heads.items }
+        ensures bucket { result ≡ bucket_of (self.now).heads.items hash }
+        ensures within { result < length (self.now).heads.items }
+    {
+        (hash % self.heads.len() as u64) as usize
+    }
+
+    /// Appends the next number, with its hash.
+    ///
+    /// Errors: want of memory, or of room for a number. Nothing has changed then.
+    pub fn push(&mut self, hash: u64) -> Result<(), NoMemory>
+        requires { 0 < length (self.old).heads.items }
+        ensures hashes { Becomes (hashes_of (self.old).links.items) (hashes_of (self.new).links.items)
+            (hashes_of (self.old).links.items ++ hash ∷ []) result }
+        ensures heads { length (self.new).heads.items ≡ length (self.old).heads.items }
+    {
+        let Ok(head) = u32::try_from(self.links.len() + 1) else {
+            return Err(NoMemory);
+        };
+        let bucket = self.bucket(hash);
+        let next = self.heads[bucket];
+        self.links.push(Link { hash, next })?;
+        self.heads[bucket] = head;
+        Ok(())
+    }
+}

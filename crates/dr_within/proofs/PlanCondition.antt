@@ -1,0 +1,199 @@
+-- The tests of a plan, watched, are the condition of the query that it runs.
+use Rattle.std.proofs.Common.{◌≡◌, ℕ, zero, suc, List, [], ◌∷◌, map, Bool, true, false, ◌&&◌, Option, Some, None}
+use Rattle.std.proofs.Common.{refl, sym, ap, ap₂, subst, ◌∙◌, append-nil, append_assoc}
+use Rattle.std.specs.Prelude.{if◌then◌else◌, Ok}
+use Rattle.std.specs.List.{list_all, flat_map, slice_get}
+use Rattle.std.proofs.lemmas.List.Folds.{list_all-append}
+use Rattle.dr_meaning.specs.Schema.{Schema, Fields}
+use Rattle.dr_meaning.specs.Path.{Step, Leaf, paths_of_leaves, chain_end}
+use Rattle.dr_meaning.specs.Record.{Node, is_record}
+use Rattle.dr_meaning.specs.Expression.{Expression, conjunction, evaluate, is_true, paths_of, longest_chain}
+use Rattle.dr_meaning.specs.Kept.{kept, kept_along}
+use Rattle.dr_meaning.specs.Query.{Query}
+use Rattle.dr_meaning.specs.QueryLeaves.{query_leaves}
+use Rattle.dr_meaning.specs.Syntax.{QuerySyntax}
+use Rattle.dr_meaning.specs.Binding.{bind}
+use Rattle.dr_meaning.specs.BindingLaws.{has_shapes}
+use Rattle.dr_firing.specs.Condition.{Watch}
+use Rattle.dr_pruning_laws.specs.ChainNumbers.{chain_numbers}
+use Rattle.dr_pruning_laws.specs.TellingLaws.{StandsFor}
+use Rattle.dr_partials.specs.PartialLaws.{all_related}
+use Rattle.dr_put_laws.specs.LastRead.{paths_at}
+use Rattle.dr_put_laws.proofs.AlikeLemmas.{alike_conditions, constant_conditions}
+use Rattle.dr_put_laws.proofs.ConditionLemmas.{condition_is_related}
+use Rattle.dr_put_laws.proofs.LastReadLemmas.{last_stands}
+use Rattle.dr_put_laws.proofs.LeavesInOrderLemmas.{query_leaves_in_order}
+use Rattle.dr_plan.specs.Conjuncts.{conjuncts, condition_conjuncts, joined, all_of}
+use Rattle.dr_plan.specs.Fitting.{truth_fits}
+use Rattle.dr_plan.specs.Planned.{Planned, plan_view, plan_leaves, planned_query}
+use Rattle.dr_plan.specs.PlanOf.{IsPlanOf}
+use Rattle.dr_plan.specs.Views.{truth_view}
+use Rattle.dr_plan.specs.declared.expression.Truth.{Truth}
+use Rattle.dr_plan.specs.declared.plan.Plan.{Plan}
+use Rattle.dr_plan.proofs.ConjunctLemmas.{true_where_each_is, conjuncts_have_paths}
+use Rattle.dr_scalar.specs.Leaves.{greater, greatest, tests_leaves}
+use Rattle.dr_scalar.specs.LeafLaws.{SameRead}
+use Rattle.dr_scalar.specs.OverSlots.{tests_over}
+use Rattle.dr_scalar.specs.Tests.{all_true}
+use Rattle.dr_scalar.proofs.LeafPathLemmas.{test_leaves_are_paths}
+use Rattle.dr_scalar.proofs.SameReadLemmas.{same_test_leaves_tell}
+use Rattle.dr_scalar.proofs.TestLemmas.{tests_mean}
+use Rattle.dr_within.specs.Watching.{watch_tests}
+use Rattle.dr_within.specs.Behind.{read_of}
+use Rattle.dr_within.proofs.GreatestLemmas.{same_greatest}
+use Rattle.dr_within.proofs.LeavesBelow.{are_below, test_leaves_below}
+use Rattle.dr_within.proofs.ReadRows.{same_paths, below_paths, row_is_read, all_are_read, AreLeavesOf, plan_leaves_are, rows_typed}
+
+-- ---- conjuncts, joined
+
+joined_paths : (e : Expression) (es : List Expression) → paths_of (joined e es) ≡ flat_map paths_of (e ∷ es)
+joined_paths e [] = sym (append-nil (paths_of e))
+joined_paths e (f ∷ fs) = joined_paths (conjunction e f) fs ∙ append_assoc (paths_of e) (paths_of f) (flat_map paths_of fs)
+
+and_assoc : (a b c : Bool) → ((a && b) && c) ≡ (a && (b && c))
+and_assoc true b c = refl
+and_assoc false b c = refl
+
+and_true : (b : Bool) → b ≡ (b && true)
+and_true true = refl
+and_true false = refl
+
+both_true : (e f : Expression) (row : Node) → is_true (evaluate (conjunction e f) row) ≡ (is_true (evaluate e row) && is_true (evaluate f row))
+both_true e f row =
+    true_where_each_is (conjunction e f) row ∙ (list_all-append (λ g. is_true (evaluate g row)) (conjuncts e) (conjuncts f)
+    ∙ ap₂ ◌&&◌ (sym (true_where_each_is e row)) (sym (true_where_each_is f row)))
+
+joined_true : (e : Expression) (es : List Expression) (row : Node) → is_true (evaluate (joined e es) row) ≡ all_true (e ∷ es) row
+joined_true e [] row = and_true (is_true (evaluate e row))
+joined_true e (f ∷ fs) row =
+    joined_true (conjunction e f) fs row
+    ∙ (ap (λ b. b && all_true fs row) (both_true e f row) ∙ and_assoc (is_true (evaluate e row)) (is_true (evaluate f row)) (all_true fs row))
+
+-- ---- their leaves
+
+related_conjuncts : (s : Schema) (x : QuerySyntax) (q : Query) → bind s x ≡ Ok q
+    → all_related (flat_map paths_of (condition_conjuncts q.condition)) ≡ true
+related_conjuncts s x q h = by_condition q.condition refl
+  where
+    by_condition : (c : Option Expression) → q.condition ≡ c → all_related (flat_map paths_of (condition_conjuncts c)) ≡ true
+    by_condition None e = refl
+    by_condition (Some c) e = ap all_related (conjuncts_have_paths c) ∙ condition_is_related s x q c h e
+
+-- tests of leaves of a query, which fit; what they read is related
+record AreTests (fs : Fields) (ls : List Leaf) (ts : List Truth) : Type 0 where
+  of_query : AreLeavesOf fs ls
+  fit : list_all (truth_fits ls) ts ≡ true
+  related : all_related (paths_at (paths_of_leaves ls) (tests_leaves ts)) ≡ true
+
+plan_tests : (s : Schema) (q : Query) (p : Plan) → IsPlanOf s q p → AreTests s.fields (plan_leaves p) p.test.items
+plan_tests s q p h =
+    let ls = plan_leaves p in
+    record {
+      of_query = plan_leaves_are s q p h;
+      fit = p.tested;
+      related =
+          ap all_related (same_paths ls (tests_leaves p.test.items) ∙ (test_leaves_are_paths ls p.test.items
+          ∙ ap (λ (x : Planned). flat_map paths_of x.conjuncts) h.2))
+          ∙ related_conjuncts s h.0 q h.1;
+    }
+
+-- in a row of the schema's shapes they are what the condition of them all is
+tests_are : (fs : Fields) (ls : List Leaf) (t : Truth) (ts : List Truth) → AreTests fs ls (t ∷ ts) → (row : Node) → has_shapes fs row ≡ true
+    → tests_over (read_of ls row) (t ∷ ts) ≡ is_true (evaluate (joined (truth_view ls t) (map (truth_view ls) ts)) row)
+tests_are fs ls t ts a row h =
+    tests_mean ls (t ∷ ts) (read_of ls row) row a.fit (rows_typed fs ls a.of_query row h) (all_are_read ls (tests_leaves (t ∷ ts)) row)
+    ∙ sym (joined_true (truth_view ls t) (map (truth_view ls) ts) row)
+
+-- and its paths are those of their leaves
+test_paths : (ls : List Leaf) (t : Truth) (ts : List Truth)
+    → paths_at (paths_of_leaves ls) (tests_leaves (t ∷ ts)) ≡ paths_of (joined (truth_view ls t) (map (truth_view ls) ts))
+test_paths ls t ts =
+    same_paths ls (tests_leaves (t ∷ ts))
+    ∙ (test_leaves_are_paths ls (t ∷ ts) ∙ sym (joined_paths (truth_view ls t) (map (truth_view ls) ts)))
+
+-- ---- they are watched
+
+-- a watch of these tests stands for them
+abbrev Stands : Fields → List Leaf → Type 0
+Stands fs ls = (ts : List Truth) (last : ℕ) (chain : List ℕ) → list_all (truth_fits ls) ts ≡ true
+    → all_related (paths_at (paths_of_leaves ls) (tests_leaves ts)) ≡ true → greatest (tests_leaves ts) ≡ Some last
+    → ((p : List Step) → slice_get (paths_of_leaves ls) last ≡ Some p → chain ≡ chain_numbers fs p)
+    → (p : List Step)
+    × StandsFor fs (paths_of_leaves ls) (watch_tests chain last ts) p (tests_leaves ts) (λ (row : Node). tests_over (read_of ls row) ts)
+    × (chain_end p ≡ longest_chain (paths_at (paths_of_leaves ls) (tests_leaves ts)))
+
+query_stands : (fs : Fields) (q : Query) → Stands fs (query_leaves fs q)
+query_stands fs q ts last chain f r g c =
+    let ls = query_leaves fs q in
+    let K = tests_leaves ts in
+    let o = query_leaves_in_order fs q in
+    let b : are_below ls K ≡ true = test_leaves_below ls ts f in
+    last_stands fs (paths_of_leaves ls) K (watch_tests chain last ts) (λ (row : Node). tests_over (read_of ls row) ts) o.0 o.1 o.2
+    (below_paths ls K b) r (sym (same_greatest K) ∙ g) c
+    (λ d row h. same_test_leaves_tell ts d (read_of ls row) (row_is_read ls K d row b h))
+
+leaves_stand : (fs : Fields) (ls : List Leaf) → AreLeavesOf fs ls → Stands fs ls
+leaves_stand fs ls o = subst (Stands fs) (sym o.same) (query_stands fs o.query)
+
+-- a chain that is that of the leaf of this number
+chain_of_path : (fs : Fields) (ls : List Leaf) (last : ℕ) (chain : List ℕ)
+    → ((l : Leaf) → slice_get ls last ≡ Some l → chain ≡ chain_numbers fs l.path)
+    → (p : List Step) → slice_get (paths_of_leaves ls) last ≡ Some p → chain ≡ chain_numbers fs p
+chain_of_path fs [] last chain h p e = absurd (cc)
+chain_of_path fs (l ∷ ls) zero chain h p e = let q : l.path ≡ p = cc in h l refl ∙ ap (chain_numbers fs) q
+chain_of_path fs (l ∷ ls) (suc last) chain h p e = chain_of_path fs ls last chain h p e
+
+-- what a watch stands for that keeps of records what a condition keeps
+abbrev pub WatchKeeps : Fields → List (List Step) → Watch → Option Expression → Type 0
+WatchKeeps fs F w c = (path : List Step) × (K : List ℕ) × (test : Node → Bool) × StandsFor fs F w path K test
+    × ((n : Node) → is_record fs n ≡ true → kept c n ≡ kept_along (chain_end path) test n)
+
+none_or_some : (last : ℕ) → None ≡ Some last → ⊥
+none_or_some last e = cc
+
+tests_watch : (fs : Fields) (ls : List Leaf) (ts : List Truth) (last : ℕ) (chain : List ℕ) → AreTests fs ls ts
+    → greatest (tests_leaves ts) ≡ Some last → ((l : Leaf) → slice_get ls last ≡ Some l → chain ≡ chain_numbers fs l.path)
+    → WatchKeeps fs (paths_of_leaves ls) (watch_tests chain last ts) (all_of (map (truth_view ls) ts))
+tests_watch fs ls [] last chain a g c = absurd (none_or_some last g)
+tests_watch fs ls (t ∷ ts) last chain a g c =
+    let e = joined (truth_view ls t) (map (truth_view ls) ts) in
+    let test : Node → Bool = λ (row : Node). tests_over (read_of ls row) (t ∷ ts) in
+    let x = leaves_stand fs ls a.of_query (t ∷ ts) last chain a.fit a.related g (chain_of_path fs ls last chain c) in (
+      x.0,
+      tests_leaves (t ∷ ts),
+      test,
+      x.1,
+      λ n r. alike_conditions fs e (chain_end x.0) test (x.2 ∙ ap longest_chain (test_paths ls t ts)) (tests_are fs ls t ts a) n r,
+    )
+
+pub plan_watches : (s : Schema) (q : Query) (p : Plan) → IsPlanOf s q p → (last : ℕ) → greatest (tests_leaves p.test.items) ≡ Some last
+    → (chain : List ℕ) → ((l : Leaf) → slice_get (plan_leaves p) last ≡ Some l → chain ≡ chain_numbers s.fields l.path)
+    → WatchKeeps s.fields (paths_of_leaves (plan_leaves p)) (watch_tests chain last p.test.items) (planned_query (plan_view p)).condition
+plan_watches s q p h last g chain c = tests_watch s.fields (plan_leaves p) p.test.items last chain (plan_tests s q p h) g c
+
+-- ---- without leaves
+
+no_greatest : (K : List ℕ) → greatest K ≡ None → K ≡ []
+no_greatest [] e = refl
+no_greatest (k ∷ K) e = by_rest (greatest K) e
+  where
+    by_rest : (o : Option ℕ) → greater (Some k) o ≡ None → k ∷ K ≡ []
+    by_rest None e = absurd (cc)
+    by_rest (Some m) e = absurd (cc)
+
+tests_constant : (fs : Fields) (ls : List Leaf) (ts : List Truth) → AreTests fs ls ts → greatest (tests_leaves ts) ≡ None
+    → (n : Node) → is_record fs n ≡ true
+    → kept (all_of (map (truth_view ls) ts)) n ≡ (if tests_over (λ i. None) ts then Some n else None)
+tests_constant fs ls [] a g n r = refl
+tests_constant fs ls (t ∷ ts) a g n r =
+    let none : tests_leaves (t ∷ ts) ≡ [] = no_greatest (tests_leaves (t ∷ ts)) g in
+    let e = joined (truth_view ls t) (map (truth_view ls) ts) in
+    constant_conditions fs e (tests_over (λ i. None) (t ∷ ts))
+    (sym (test_paths ls t ts) ∙ ap (paths_at (paths_of_leaves ls)) none)
+    (λ row h. same_test_leaves_tell (t ∷ ts) (λ i. None) (read_of ls row)
+    (subst (λ (K : List ℕ). SameRead K (λ i. None) (read_of ls row)) (sym none) tt) ∙ tests_are fs ls t ts a row h) n r
+
+pub plan_constant : (s : Schema) (q : Query) (p : Plan) → IsPlanOf s q p → greatest (tests_leaves p.test.items) ≡ None
+    → (n : Node) → is_record s.fields n ≡ true
+    → kept (planned_query (plan_view p)).condition n ≡ (if tests_over (λ i. None) p.test.items then Some n else None)
+plan_constant s q p h g n r = tests_constant s.fields (plan_leaves p) p.test.items (plan_tests s q p h) g n r

@@ -1,0 +1,13 @@
+-- Putting into partials, one thing after another.
+use Rattle.std.proofs.Common.{◌∙◌}
+use Rattle.std.specs.Prelude.{◌≡◌, Result, Ok, Err, OnOk}
+use Rattle.dr_memory.specs.declared.NoMemory.{NoMemory}
+use Rattle.dr_partials.specs.Partials.{Partial}
+use Rattle.dr_plan.specs.Planned.{Planned}
+use Rattle.dr_group.specs.Gathering.{Becomes}
+
+-- what became so where nothing failed
+pub ok_each : (r : Result (Unit {0}) NoMemory) (before after : Partial) (I : Planned → Type 0) (meant told : Planned → Partial)
+    → ((p : Planned) → I p → Becomes before after (told p) r) → ((p : Planned) → told p ≡ meant p) → OnOk r ((p : Planned) → I p → after ≡ meant p)
+ok_each (Ok d) before after I meant told h e = λ p i. h p i ∙ e p
+ok_each (Err e) before after I meant told h f = tt

@@ -1,0 +1,144 @@
+//! What was made in the branches that are open.
+
+ghost use Rattle.std.specs.Prelude.{◌≡◌, ◌++◌, ◌∷◌, [], List, ℕ, Bool, true, false, length, map, take, reverse, IfOk, OnOk, if◌then◌else◌};
+ghost use Rattle.dr_partials.specs.Partials.{empty_partial};
+ghost use Rattle.dr_partials.specs.Putting.{Put, put_all};
+ghost use Rattle.dr_plan.specs.Planned.{Planned, plan_view, planned_query};
+ghost use Rattle.dr_group.specs.Partials.{partial_view, IsPartialOf};
+ghost use Rattle.dr_scalar.specs.Slots.{slot_value};
+ghost use Rattle.dr_within.specs.Takings.{all_read, takings_view};
+ghost use Rattle.dr_within.specs.Framing.{Holds, StaySettled, AllSettled};
+
+use crate::late::LateRows;
+use crate::putting::{keep_each, put_each};
+use crate::taking::Taking;
+use dr_group::Partial;
+use dr_levels::ValueRef;
+use dr_memory::NoMemory;
+use dr_plan::Plan;
+use std::alloc::Global;
+
+/// What was put of the records so far, and the rows that aren't put yet, since a branch that is open isn't known to be
+/// kept.
+#[derive(Drop)]
+pub(crate) struct Frames<'a> {
+    pub(crate) late: LateRows<'a>,
+    /// Of each open branch, the outermost first, how many late rows there were as it began.
+    pub(crate) marks: Vec<usize>,
+    /// Room for a key tuple.
+    pub(crate) key: Vec<Option<ValueRef<'a>>>,
+    pub(crate) partial: Partial,
+}
+
+impl<'a> Frames<'a> {
+    /// Before any move, for a plan whose key tuples have so many cells.
+    ///
+    /// Errors: want of memory alone.
+    pub(crate) fn new(alloc: Global, plan: &Plan, width: usize) -> Result<Frames<'a>, NoMemory>
+        ensures { IfOk result (Holds (plan_view plan.now) width [] [] []) }
+    {
+        Ok(Frames {
+            late: LateRows::new(alloc, width),
+            marks: Vec::new(alloc),
+            key: Vec::new(alloc),
+            partial: Partial::empty(alloc, plan)?,
+        })
+    }
+
+    /// How many branches are open.
+    pub(crate) fn depth(&self) -> usize
+        ensures { result ≡ length (self.now).marks.items }
+    {
+        self.marks.len()
+    }
+
+    /// Into one more branch.
+    ///
+    /// Errors: want of memory alone.
+    pub(crate) fn enter(&mut self) -> Result<(), NoMemory>
+        ensures { OnOk result ((p : Planned) (n : ℕ) (made : List Put) (settled : List Bool) (marks : List ℕ) (b : Bool)
+            → Holds p n made settled marks self.old → Holds p n made (b ∷ settled) (length made ∷ marks) self.new) }
+    {
+        self.marks.push(self.late.len())?;
+        Ok(())
+    }
+
+    /// Rows of what was read last of each leaf, one for each of some takings: they are put where all branches that are
+    /// open are known to be kept.
+    ///
+    /// Errors: want of memory, or of room for a count, a sum or a number of a group.
+    pub(crate) fn fire(
+        &mut self,
+        alloc: Global,
+        takings: &[Taking<'a>],
+        keys: &[u32],
+        slots: &[Option<ValueRef<'a>>],
+        is_kept: bool,
+    ) -> Result<(), NoMemory>
+        ensures rows { OnOk result ((p : Planned) (made : List Put) (settled later : List Bool) (marks : List ℕ)
+            → Holds p (length keys.now) made settled marks self.old → StaySettled settled later
+            → (is_kept ≡ true → AllSettled later)
+            → Holds p (length keys.now) (made ++ all_read keys.now (takings_view takings.now) (slot_value slots.now)) later marks
+            self.new) }
+        ensures marks { (self.new).marks ≡ (self.old).marks }
+    {
+        if is_kept {
+            self.late.put_all(alloc, &mut self.partial)?;
+            put_each(
+                alloc,
+                takings,
+                keys,
+                slots,
+                &mut self.key,
+                &mut self.partial,
+            )
+        } else {
+            keep_each(alloc, takings, keys, slots, &mut self.late)
+        }
+    }
+
+    /// Out of the innermost branch: what was made in it is cut off where it is dropped; else some rows come behind it.
+    ///
+    /// Errors: want of memory, or of room for a count, a sum or a number of a group.
+    pub(crate) fn leave(
+        &mut self,
+        alloc: Global,
+        takings: &[Taking<'a>],
+        keys: &[u32],
+        slots: &[Option<ValueRef<'a>>],
+        is_dropped: bool,
+    ) -> Result<(), NoMemory>
+        ensures left { OnOk result ((p : Planned) (made : List Put) (b : Bool) (settled : List Bool) (mark : ℕ)
+            (marks : List ℕ) → Holds p (length keys.now) made (b ∷ settled) (mark ∷ marks) self.old
+            → (is_dropped ≡ true → b ≡ false) → Holds p (length keys.now)
+            (if is_dropped then take mark made else made ++ all_read keys.now (takings_view takings.now) (slot_value slots.now))
+            settled marks self.new) }
+        ensures none { OnOk result ((p : Planned) (made : List Put)
+            → Holds p (length keys.now) made [] [] self.old → Holds p (length keys.now) made [] [] self.new) }
+    {
+        let Some(mark) = self.marks.pop() else {
+            return Ok(());
+        };
+        if is_dropped {
+            self.late.truncate(mark);
+            return Ok(());
+        }
+        let is_outermost = self.marks.is_empty();
+        self.fire(alloc, takings, keys, slots, is_outermost)
+    }
+
+    /// All that was made, put together.
+    ///
+    /// Errors: want of memory, or of room for a count, a sum or a number of a group.
+    pub(crate) fn close(self, alloc: Global) -> Result<Partial, NoMemory>
+        ensures partial { IfOk result (λ x. (p : Planned) (n : ℕ) (made : List Put) (settled : List Bool) (marks : List ℕ)
+            → Holds p n made settled marks self.entry → partial_view x
+            ≡ put_all (planned_query p) made (empty_partial (planned_query p))) }
+        ensures of_plan { IfOk result (λ x. (p : Planned) → IsPartialOf p (self.entry).partial → IsPartialOf p x) }
+    {
+        let mut late = self.late;
+        let mut partial = self.partial;
+        late.put_all(alloc, &mut partial)?;
+        Ok(partial)
+    }
+}

@@ -1,0 +1,131 @@
+//! The groups of a plan, made along a walk.
+
+ghost use Rattle.std.specs.Prelude.{◌≡◌, ◌<◌, ◌++◌, ◌∷◌, [], ◌≤◌, List, ℕ, length, map, IfOk, OnOk, Some, None};
+ghost use Rattle.dr_levels.specs.Views.{move_view, lent_value};
+ghost use Rattle.dr_meaning.specs.Path.{Leaf};
+ghost use Rattle.dr_meaning.specs.Column.{Triplet};
+ghost use Rattle.dr_meaning.specs.Walk as meant;
+ghost use Rattle.dr_meaning.specs.Walk.{Move as MeantMove};
+ghost use Rattle.dr_firing.specs.Context.{with_value};
+ghost use Rattle.dr_scalar.specs.Slots.{slot_value};
+ghost use Rattle.dr_partials.specs.Partials.{empty_partial};
+ghost use Rattle.dr_partials.specs.Putting.{put_all};
+ghost use Rattle.dr_plan.specs.Planned.{Planned, plan_view, plan_leaves, planned_query};
+ghost use Rattle.dr_group.specs.Partials.{partial_view, IsPartialOf};
+ghost use Rattle.dr_within.specs.Takings.{Take, takings_of};
+ghost use Rattle.dr_within.specs.Firings.{firing_in};
+ghost use Rattle.dr_within.specs.Watching.{open_for, watch_in, HasWatched};
+ghost use Rattle.dr_within.specs.Behind.{IsBehind, IsOfLeaf, frames_behind, readings_at};
+
+use crate::condition::Condition;
+use crate::firing::Firing;
+use crate::frames::Frames;
+use crate::taking::Taking;
+use dr_group::Partial;
+use dr_levels::{Move, ValueRef};
+use dr_memory::NoMemory;
+use dr_plan::{Aggregate, Plan};
+use std::alloc::Global;
+
+/// The groups of a plan's records, made of the moves of their walk, one after another.
+#[derive(Drop)]
+pub struct GroupScan<'a> {
+    /// The keys, by the numbers of their leaves.
+    pub(crate) keys: &'a [u32],
+    pub(crate) firing: Firing<'a>,
+    pub(crate) condition: Condition<'a>,
+    /// What was read last of each leaf.
+    pub(crate) slots: Vec<Option<ValueRef<'a>>>,
+    pub(crate) frames: Frames<'a>,
+}
+
+/// Keeps the value of a leaf that a move reads, in the leaf's slot.
+fn keep_value<'a>(read: &Move<'a>, slots: &mut Vec<Option<ValueRef<'a>>>)
+    ensures here { (i : ℕ) (t : Triplet) → move_view read.now ≡ meant.value i t → i < length (slots.old).items
+        → slot_value (slots.new).items ≡ with_value i t.value (slot_value (slots.old).items) }
+    ensures enter { (k : ℕ) → move_view read.now ≡ meant.enter k → (slots.new).items ≡ (slots.old).items }
+    ensures leave { (k : ℕ) → move_view read.now ≡ meant.leave k → (slots.new).items ≡ (slots.old).items }
+    ensures as_many { length (slots.new).items ≡ length (slots.old).items }
+{
+    if let Move::Leaf(leaf, triplet) = read {
+        let at = *leaf as usize;
+        if at < slots.len() {
+            slots[at] = triplet.value;
+        }
+    }
+}
+
+impl<'a> GroupScan<'a> {
+    /// Before any move, for a plan with these keys, aggregates and condition.
+    pub(crate) fn new(
+        alloc: Global,
+        plan: &Plan,
+        keys: &'a [u32],
+        aggregates: &'a [Aggregate],
+        condition: Condition<'a>,
+    ) -> Result<GroupScan<'a>, NoMemory>
+        requires { HasWatched condition [] }
+        ensures behind { IfOk result (IsBehind (plan_view plan.now) (plan_leaves plan.now)
+            (takings_of aggregates.now) []) }
+        ensures watches { IfOk result (λ g. watch_in g.condition ≡ watch_in condition.entry) }
+        ensures keys { IfOk result (λ g. g.keys ≡ keys.entry) }
+    {
+        let firing = Firing::new(alloc, plan.leaves.len(), keys, aggregates)?;
+        let mut slots = Vec::new(alloc);
+        slots.resize(plan.leaves.len(), None)?;
+        let frames = Frames::new(alloc, plan, keys.len())?;
+        Ok(GroupScan {
+            keys,
+            firing,
+            condition,
+            slots,
+            frames,
+        })
+    }
+
+    /// The next move of the walk.
+    ///
+    /// Errors: want of memory, or of room for a count, a sum or a number of a group.
+    pub fn step(&mut self, alloc: Global, read: &Move<'a>) -> Result<(), NoMemory>
+        requires few { open_for (self.old).condition.pruner < 64 }
+        ensures behind { OnOk result ((p : Planned) (ls : List Leaf) (ts : List Take) (ms : List MeantMove)
+            → IsBehind p ls ts ms self.old → IsOfLeaf (length ls) (move_view read.now)
+            → IsBehind p ls ts (ms ++ move_view read.now ∷ []) self.new) }
+        ensures watches { watch_in (self.new).condition ≡ watch_in (self.old).condition }
+        ensures keys { (self.new).keys ≡ (self.old).keys }
+    {
+        keep_value(read, &mut self.slots);
+        let told = self.condition.step(alloc, read, &self.slots)?;
+        match read {
+            Move::Enter(_) => self.frames.enter(),
+            Move::Leaf(leaf, _) => self.frames.fire(
+                alloc,
+                self.firing.at(*leaf),
+                self.keys,
+                &self.slots,
+                told.is_kept,
+            ),
+            Move::Leave(number) => self.frames.leave(
+                alloc,
+                self.firing.at_leave(*number),
+                self.keys,
+                &self.slots,
+                told.is_dropped,
+            ),
+        }
+    }
+
+    /// The partial of what the moves made.
+    ///
+    /// Errors: want of memory, or of room for a count, a sum or a number of a group.
+    pub fn close(self, alloc: Global) -> Result<Partial, NoMemory>
+        ensures partial { IfOk result (λ x. (p : Planned) (ls : List Leaf) (ts : List Take) (ms : List MeantMove)
+            → IsBehind p ls ts ms self.entry → partial_view x ≡ put_all (planned_query p)
+            (frames_behind (watch_in (self.entry).condition) (readings_at ls (self.entry).keys.now ts) ms).made
+            (empty_partial (planned_query p))) }
+        ensures of_plan { IfOk result (λ x. (p : Planned) (ls : List Leaf) (ts : List Take)
+            (ms : List MeantMove) → IsBehind p ls ts ms self.entry → IsPartialOf p x) }
+    {
+        self.frames.close(alloc)
+    }
+}

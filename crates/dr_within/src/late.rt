@@ -1,0 +1,128 @@
+//! Rows that aren't put yet.
+
+ghost use Rattle.std.specs.Prelude.{◌≡◌, ◌++◌, ◌∷◌, ◌*◌, [], length, take, drop, OnOk};
+ghost use Rattle.dr_group.specs.Partials.{partial_view, IsPartialOf};
+ghost use Rattle.dr_partials.specs.Putting.{put_all};
+ghost use Rattle.dr_plan.specs.Planned.{Planned, planned_query};
+ghost use Rattle.dr_scalar.specs.Slots.{slot_value};
+ghost use Rattle.dr_within.specs.Takings.{taking_view, put_read};
+ghost use Rattle.dr_within.specs.Late.{IsWhole, puts_view, rows_of};
+
+use crate::keys::push_key;
+use crate::taking::{LateTaken, Taking, late_as, lent_taken, value_of};
+use dr_group::Partial;
+use dr_levels::ValueRef;
+use dr_memory::NoMemory;
+use std::alloc::Global;
+
+/// Rows of which it isn't known yet whether they are kept: the cells of their key tuples, one row's behind another's,
+/// and what was taken of each.
+#[derive(Debug, Drop)]
+pub(crate) struct LateRows<'a> {
+    /// How many cells a key tuple has.
+    pub(crate) width: usize,
+    pub(crate) cells: Vec<Option<ValueRef<'a>>>,
+    pub(crate) taken: Vec<Option<LateTaken<'a>>>,
+}
+
+impl<'a> LateRows<'a> {
+    /// No rows.
+    pub(crate) fn new(alloc: Global, width: usize) -> LateRows<'a>
+        ensures whole { IsWhole result }
+        ensures none { rows_of result ≡ [] }
+        ensures width { result.width ≡ width }
+    {
+        LateRows {
+            width,
+            cells: Vec::new(alloc),
+            taken: Vec::new(alloc),
+        }
+    }
+
+    /// How many rows there are.
+    pub(crate) fn len(&self) -> usize
+        ensures { result ≡ length (rows_of self.now) }
+    {
+        self.taken.len()
+    }
+
+    /// One row more: its key tuple and what is taken, of what was read last of each leaf.
+    ///
+    /// Errors: want of memory alone.
+    pub(crate) fn push(
+        &mut self,
+        alloc: Global,
+        keys: &[u32],
+        slots: &[Option<ValueRef<'a>>],
+        taking: Taking<'a>,
+    ) -> Result<(), NoMemory>
+        ensures row { OnOk result (IsWhole self.old → (self.old).width ≡ length keys.now → rows_of self.new
+            ≡ rows_of self.old ++ put_read keys.now (taking_view taking.entry) (slot_value slots.now) ∷ []) }
+        ensures whole { OnOk result (IsWhole self.old → (self.old).width ≡ length keys.now → IsWhole self.new) }
+        ensures width { (self.new).width ≡ (self.old).width }
+    {
+        let value = value_of(alloc, taking, slots)?;
+        push_key(keys, slots, &mut self.cells)?;
+        self.taken.push(late_as(taking, value))?;
+        Ok(())
+    }
+
+    /// The first so many of the rows alone.
+    pub(crate) fn truncate(&mut self, rows: usize)
+        ensures rows { IsWhole self.old → rows_of self.new ≡ take rows (rows_of self.old) }
+        ensures whole { IsWhole self.old → IsWhole self.new }
+        ensures width { (self.new).width ≡ (self.old).width }
+    {
+        self.cells.truncate(rows.saturating_mul(self.width));
+        self.taken.truncate(rows);
+    }
+
+    /// Puts the rows into a partial, in order, and has none of them any more.
+    ///
+    /// Errors: want of memory, or of room for a count, a sum or a number of a group.
+    pub(crate) fn put_all(&mut self, alloc: Global, partial: &mut Partial) -> Result<(), NoMemory>
+        ensures puts { OnOk result ((p : Planned) → IsPartialOf p partial.old → partial_view partial.new
+            ≡ put_all (planned_query p) (rows_of self.old) (partial_view partial.old)) }
+        ensures of_plan { (p : Planned) → IsPartialOf p partial.old → IsPartialOf p partial.new }
+        ensures none { OnOk result (rows_of self.new ≡ []) }
+        ensures whole { OnOk result (IsWhole self.new) }
+        ensures width { (self.new).width ≡ (self.old).width }
+    {
+        put_rows(alloc, self.width, &self.cells, &self.taken, partial)?;
+        self.cells.clear();
+        self.taken.clear();
+        Ok(())
+    }
+}
+
+/// The cells of the key tuple of the row of this number, of rows whose key tuples have so many cells each.
+fn row_cells<'s, 'a>(
+    cells: &'s [Option<ValueRef<'a>>],
+    width: usize,
+    number: usize,
+) -> &'s [Option<ValueRef<'a>>]
+    ensures { result.now ≡ take width (drop (number * width) cells.now) }
+{
+    let first = number.saturating_mul(width).min(cells.len());
+    let behind = &cells[first..];
+    &behind[..width.min(behind.len())]
+}
+
+/// Puts rows into a partial: the cells of their key tuples, so many each, and what was taken of each.
+fn put_rows(
+    alloc: Global,
+    width: usize,
+    cells: &[Option<ValueRef<'_>>],
+    taken: &[Option<LateTaken<'_>>],
+    partial: &mut Partial,
+) -> Result<(), NoMemory>
+    ensures puts { OnOk result ((p : Planned) → IsPartialOf p partial.old → partial_view partial.new
+        ≡ put_all (planned_query p) (puts_view width cells.now taken.now) (partial_view partial.old)) }
+    ensures of_plan { (p : Planned) → IsPartialOf p partial.old → IsPartialOf p partial.new }
+{
+    'rows: for (number, row) in taken.iter().enumerate() {
+        let key = row_cells(cells, width, number);
+        partial.put(alloc, key, lent_taken(row))?;
+    }
+    Ok(())
+}

@@ -1,0 +1,145 @@
+//! The scan of a plan of groups.
+
+ghost use Rattle.std.specs.Prelude.{◌≡◌, ◌<◌, ◌≤◌, ◌++◌, ◌∷◌, [], List, ℕ, length, map, true, false, IfOk, OnOk, Some, None};
+ghost use Rattle.std.specs.List.{list_all, slice_get};
+ghost use Rattle.dr_levels.specs.Views.{move_view};
+ghost use Rattle.dr_nested.specs.PathView.{path_view, step_view};
+ghost use Rattle.dr_plan.specs.Views.{path_of as meant_path};
+ghost use Rattle.dr_nested.specs.SchemaView.{schema_view};
+ghost use Rattle.dr_meaning.specs.Path.{Leaf, paths_of_leaves};
+ghost use Rattle.dr_meaning.specs.Record.{Node, is_record};
+ghost use Rattle.dr_meaning.specs.Schema.{Schema as MeantSchema};
+ghost use Rattle.dr_meaning.specs.Walk.{Move as MeantMove, walk};
+ghost use Rattle.dr_partials.specs.Partials as partials;
+ghost use Rattle.dr_plan.specs.Planned.{IsOfSchema, plan_leaves, plan_view, planned_query};
+ghost use Rattle.dr_plan.specs.declared.plan.Plan.{Plan as MeantPlan};
+ghost use Rattle.dr_plan.specs.declared.plan.Selection.{Selection as Selected};
+ghost use Rattle.dr_group.specs.Partials.{partial_view, IsPartialOf};
+ghost use Rattle.dr_within.specs.Scanning.{Scans, Begins, open_in_scan, WatchesPlan, IsConditionOf, last_of_plan};
+ghost use Rattle.dr_within.specs.Behind.{IsOfLeaf};
+ghost use Rattle.dr_within.specs.Watching.{watch_in, HasWatched};
+
+use crate::condition::Condition;
+use crate::groups::GroupScan;
+use dr_group::Partial;
+use dr_levels::Move;
+use dr_memory::NoMemory;
+use dr_nested::{Path, Schema, Step};
+use dr_plan::{Aggregate, GroupItem, Plan};
+use dr_prune::chain_numbers;
+use dr_scalar::{last_leaf_of_tests, passes};
+use std::alloc::Global;
+
+/// The groups of a plan's records, made of the moves of their walk over the columns of the plan's leaves, one after
+/// another, with no record.
+#[derive(Drop)]
+pub struct PlanScan<'a> {
+    pub(crate) groups: GroupScan<'a>,
+}
+
+/// The path of a leaf; an empty one where there is no such leaf.
+fn path_of(leaves: &[Path], leaf: u32) -> &[Step]
+    ensures { map step_view result.now ≡ meant_path (slice_get (map path_view leaves.now) leaf) }
+{
+    match leaves.get(leaf as usize) {
+        Some(path) => &path.steps,
+        None => &[],
+    }
+}
+
+/// The condition of a plan whose tests read this leaf last.
+fn watched<'a>(
+    alloc: Global,
+    schema: &Schema,
+    plan: &'a Plan,
+    last: u32,
+) -> Result<Condition<'a>, NoMemory>
+    requires planned { IsOfSchema (schema_view schema.now) plan.now }
+    requires last { last_of_plan plan.now ≡ Some last }
+    ensures watches { IfOk result (λ c. WatchesPlan (schema_view schema.now) plan.now (watch_in c)) }
+    ensures begins { IfOk result (λ c. HasWatched c []) }
+{
+    let chain = chain_numbers(alloc, schema, path_of(&plan.leaves, last))?;
+    Condition::new(alloc, &plan.test, last, &chain)
+}
+
+/// The condition of a plan whose tests read no leaf; none where it isn't true.
+fn unread<'a>(alloc: Global, plan: &'a Plan) -> Result<Option<Condition<'a>>, NoMemory>
+    requires { last_of_plan plan.now ≡ None }
+    ensures { IfOk result (λ o. (s : MeantSchema) → IsConditionOf s plan.now o) }
+{
+    if passes(alloc, &plan.test, &[])? {
+        Ok(Some(Condition::none()))
+    } else {
+        Ok(None)
+    }
+}
+
+/// The condition of a plan; none where it reads no leaf and isn't true.
+///
+/// Errors: want of memory alone.
+fn condition_of<'a>(
+    alloc: Global,
+    schema: &Schema,
+    plan: &'a Plan,
+) -> Result<Option<Condition<'a>>, NoMemory>
+    requires { IsOfSchema (schema_view schema.now) plan.now }
+    ensures { IfOk result (λ o. IsConditionOf (schema_view schema.now) plan.now o) }
+{
+    match last_leaf_of_tests(&plan.test) {
+        Some(last) => Ok(Some(watched(alloc, schema, plan, last)?)),
+        None => unread(alloc, plan),
+    }
+}
+
+impl<'a> PlanScan<'a> {
+    /// Before any move, for a plan of groups with these keys, aggregates and items. There is none where the condition,
+    /// which then reads no leaf, keeps no record.
+    ///
+    /// Errors: want of memory, or of room for an aggregate's number.
+    pub fn start(
+        alloc: Global,
+        schema: &Schema,
+        plan: &'a Plan,
+        keys: &'a Vec<u32>,
+        aggregates: &'a Vec<Aggregate>,
+        items: &'a Vec<GroupItem>,
+    ) -> Result<Option<PlanScan<'a>>, NoMemory>
+        requires planned { IsOfSchema (schema_view schema.now) plan.now }
+        requires selects { (plan.now).selection ≡ Selected.Groups keys.now aggregates.now items.now }
+        ensures { IfOk result (λ o. Begins (schema_view schema.now) plan.now o) }
+    {
+        match condition_of(alloc, schema, plan)? {
+            None => Ok(None),
+            Some(condition) => {
+                let groups = GroupScan::new(alloc, plan, keys, aggregates, condition)?;
+                Ok(Some(PlanScan { groups }))
+            }
+        }
+    }
+
+    /// The next move of the walk.
+    ///
+    /// Errors: want of memory, or of room for a count, a sum or a number of a group.
+    pub fn step(&mut self, alloc: Global, read: &Move<'a>) -> Result<(), NoMemory>
+        requires few { open_in_scan self.old < 64 }
+        ensures { OnOk result ((s : MeantSchema) (p : MeantPlan) (ms : List MeantMove) → Scans s p ms self.old
+            → IsOfLeaf (length (plan_leaves p)) (move_view read.now) → Scans s p (ms ++ move_view read.now ∷ []) self.new) }
+    {
+        self.groups.step(alloc, read)
+    }
+
+    /// The partial: that of the records whose walk it was.
+    ///
+    /// Errors: want of memory, or of room for a count, a sum or a number of a group.
+    pub fn close(self, alloc: Global) -> Result<Partial, NoMemory>
+        ensures partial { IfOk result (λ x. (s : MeantSchema) (p : MeantPlan) (R : List Node) → IsOfSchema s p
+            → list_all (is_record s.fields) R ≡ true
+            → Scans s p (walk s.fields (paths_of_leaves (plan_leaves p)) R) self.entry
+            → partial_view x ≡ partials.partial_of s.fields (planned_query (plan_view p)) R) }
+        ensures of_plan { IfOk result (λ x. (s : MeantSchema) (p : MeantPlan) (ms : List MeantMove) → Scans s p ms self.entry
+            → IsPartialOf (plan_view p) x) }
+    {
+        self.groups.close(alloc)
+    }
+}

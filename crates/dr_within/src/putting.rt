@@ -1,0 +1,80 @@
+//! What fires together.
+
+ghost use Rattle.std.specs.Prelude.{◌≡◌, ◌++◌, length, map, OnOk};
+ghost use Rattle.dr_group.specs.Partials.{partial_view, IsPartialOf};
+ghost use Rattle.dr_partials.specs.Putting.{put, put_all};
+ghost use Rattle.dr_plan.specs.Planned.{Planned, planned_query};
+ghost use Rattle.dr_scalar.specs.Slots.{slot_value};
+ghost use Rattle.dr_within.specs.Takings.{taking_view, takings_view, put_read, all_read};
+ghost use Rattle.dr_within.specs.Late.{IsWhole, rows_of};
+
+use crate::keys::push_key;
+use crate::late::LateRows;
+use crate::taking::{Taking, taken_as, value_of};
+use dr_group::Partial;
+use dr_levels::ValueRef;
+use dr_memory::NoMemory;
+use std::alloc::Global;
+
+/// Puts a row into its group: what was read last of each leaf. Its key tuple is made in a buffer.
+fn put_one<'a>(
+    alloc: Global,
+    taking: Taking<'a>,
+    keys: &[u32],
+    slots: &[Option<ValueRef<'a>>],
+    key: &mut Vec<Option<ValueRef<'a>>>,
+    partial: &mut Partial,
+) -> Result<(), NoMemory>
+    ensures puts { OnOk result ((p : Planned) → IsPartialOf p partial.old → partial_view partial.new
+        ≡ put (planned_query p) (put_read keys.now (taking_view taking.entry) (slot_value slots.now))
+        (partial_view partial.old)) }
+    ensures of_plan { (p : Planned) → IsPartialOf p partial.old → IsPartialOf p partial.new }
+{
+    key.clear();
+    push_key(keys, slots, key)?;
+    let value = value_of(alloc, taking, slots)?;
+    partial.put(alloc, key, taken_as(taking, &value))
+}
+
+/// Puts a row for each of some takings, in order.
+///
+/// Errors: want of memory, or of room for a count, a sum or a number of a group.
+pub(crate) fn put_each<'a>(
+    alloc: Global,
+    takings: &[Taking<'a>],
+    keys: &[u32],
+    slots: &[Option<ValueRef<'a>>],
+    key: &mut Vec<Option<ValueRef<'a>>>,
+    partial: &mut Partial,
+) -> Result<(), NoMemory>
+    ensures puts { OnOk result ((p : Planned) → IsPartialOf p partial.old → partial_view partial.new
+        ≡ put_all (planned_query p) (all_read keys.now (takings_view takings.now) (slot_value slots.now))
+        (partial_view partial.old)) }
+    ensures of_plan { (p : Planned) → IsPartialOf p partial.old → IsPartialOf p partial.new }
+{
+    'takings: for taking in takings {
+        put_one(alloc, *taking, keys, slots, key, partial)?;
+    }
+    Ok(())
+}
+
+/// Keeps a row for each of some takings, in order.
+///
+/// Errors: want of memory alone.
+pub(crate) fn keep_each<'a>(
+    alloc: Global,
+    takings: &[Taking<'a>],
+    keys: &[u32],
+    slots: &[Option<ValueRef<'a>>],
+    late: &mut LateRows<'a>,
+) -> Result<(), NoMemory>
+    ensures rows { OnOk result (IsWhole late.old → (late.old).width ≡ length keys.now → rows_of late.new
+        ≡ rows_of late.old ++ all_read keys.now (takings_view takings.now) (slot_value slots.now)) }
+    ensures whole { OnOk result (IsWhole late.old → (late.old).width ≡ length keys.now → IsWhole late.new) }
+    ensures width { (late.new).width ≡ (late.old).width }
+{
+    'takings: for taking in takings {
+        late.push(alloc, keys, slots, *taking)?;
+    }
+    Ok(())
+}
