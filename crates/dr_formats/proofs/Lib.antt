@@ -11,6 +11,7 @@ pub mod WorkedDamaged
 pub mod WorkedForeign
 pub mod WorkedWritten
 pub mod WorkedForms
+pub mod WorkedFormsV2
 pub mod WorkedOpenLeaves
 pub mod WorkedTables
 pub mod WorkedOpening

@@ -13,6 +13,7 @@ use Rattle.dr_formats.specs.Hybrid.{hybrid}
 use Rattle.dr_formats.specs.Page.{page_triplets}
 use Rattle.dr_formats.specs.File.{Footer, rows_agree, values_fit, bad_footer, bad_schema, bad_codec, bad_data, footer_of, known_cause}
 use Rattle.dr_formats.specs.Opening.{opening_cause, leaf_cause, range, reader_ranges, is_inside, is_in_file}
+use Rattle.dr_formats.specs.Page.{data_page_v1}
 use Rattle.dr_formats.specs.Writing.{file_bytes}
 use Rattle.dr_formats.specs.TableFile.{table_text, table_too_long, bad_head, bad_tablets, bad_copies, bad_leaf, bad_table_schema}
 use Rattle.dr_formats.specs.Loading.{Put, Plan, puts_of, load_taken, load, words_refusal, leaf_refused, copies_refused, most_loaded, most_tablet_rows}
@@ -115,7 +116,7 @@ abbrev number : ℕ → Node
 number n = slot (single (atom (int_value (pos n)))) no_slots
 
 abbrev file : List ℕ → List ℕ
-file ns = file_bytes one_schema (map number ns)
+file ns = file_bytes data_page_v1 one_schema (map number ns)
 
 abbrev put : List ℕ → List ℕ → Put
 put path bytes = record { path = path; bytes = bytes }

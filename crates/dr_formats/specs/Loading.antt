@@ -1,13 +1,12 @@
 -- What the command `load` does: which words it refuses, which tablets it puts and in which order, and where it stops.
-use Rattle.std.specs.Prelude.{ℕ, suc, ◌*◌, List, [], ◌∷◌, ◌++◌, map, length, filter, Bool, not, ◌&&◌, ◌==◌, nat_le, if◌then◌else◌, Option, Some, None}
-use Rattle.std.specs.List.{list_all}
+use Rattle.std.specs.Prelude.{ℕ, suc, ◌*◌, List, [], ◌∷◌, ◌++◌, map, length, filter, Bool, ◌==◌, nat_le, if◌then◌else◌, Option, Some, None}
 use Rattle.dr_meaning.specs.Schema.{Schema}
 use Rattle.dr_meaning.specs.Record.{Node}
 use Rattle.dr_meaning.specs.Lines.{Refusal, lines_of, Taken, taken_from}
+use Rattle.dr_formats.specs.Page.{data_page_v1}
 use Rattle.dr_formats.specs.Writing.{file_bytes}
 use Rattle.dr_formats.specs.Tablets.{tablets, copy_paths}
 use Rattle.dr_formats.specs.TableFile.{Table, most_tablets, table_text, is_line_text}
-use Rattle.dr_meaning.specs.Lists.{is_empty}
 
 -- ---- the limits
 
@@ -56,7 +55,7 @@ pub record Plan : Type 0 where
 
 -- a tablet, on each of its leaves in order
 abbrev pub tablet_puts : Plan → ℕ → List Node → List Put
-tablet_puts p i R = map (λ path. record { path = path; bytes = file_bytes p.schema R }) (copy_paths p.directories p.copies i)
+tablet_puts p i R = map (λ path. record { path = path; bytes = file_bytes data_page_v1 p.schema R }) (copy_paths p.directories p.copies i)
 
 -- tablets in order, the first of which has this number
 abbrev pub puts_from : Plan → ℕ → List (List Node) → List Put
