@@ -15,7 +15,7 @@ use Rattle.dr_formats.specs.Metadata.{ColumnMeta, ColumnChunk, RowGroup, file_tr
 use Rattle.dr_formats.specs.FileSchema.{FileSchema, file_leaves, place_of}
 use Rattle.dr_formats.specs.Page.{PageForm, is_triplet}
 use Rattle.dr_formats.specs.Chunk.{pages_triplets, chunk_bytes}
-use Rattle.dr_formats.specs.File.{schema_or_cause, Footer, footer_of, is_found, leaf_place, has_leaves, nth_chunk, leaf_chunk, is_uncompressed, are_uncompressed, total, most_rows, most_triplets, rows_agree, chunk_values, values_fit, starts, of_rows, group_column, file_column, AreColumns, magic, is_whole_group, has_no_path}
+use Rattle.dr_formats.specs.File.{schema_or_cause, Footer, footer_of, is_found, leaf_place, Source, own_chunks, leaf_source, has_source, leaf_read, leaves_read, column_by, given_column, has_leaves, nth_chunk, leaf_chunk, is_uncompressed, are_uncompressed, total, most_rows, most_triplets, rows_agree, chunk_values, values_fit, starts, of_rows, group_column, file_column, AreColumns, magic, is_whole_group, has_no_path}
 use Rattle.dr_formats.specs.Writing.{cut_pages, pages_bytes, record_columns, written_chunk, triplet_count, chunk_at, chunks_from, framed, written_chunks, groups_of, written_meta, written_footer, file_bytes}
 use Rattle.dr_formats.specs.WritingLaws.{all_triplets, ArePages, nth_leaf, AreAmong, FitHeaders, LeavesFit, FitsFile, WrittenFileIsFile}
 use Rattle.dr_formats.specs.OpenSchemaLaws.{WrittenSchemaIsRead}
@@ -266,9 +266,17 @@ fits_bound form s (n ∷ R) i l k e h =
 
 -- ---- all leaves asked for
 
+-- each leaf of the schema has its own chunks
+own_source : (form : PageForm) (s : Schema) (R : List Node) (i : ℕ) (l : Leaf) → Limits s → nth_leaf (leaves s.fields) i ≡ Some l → leaf_source (the_footer form s R) l ≡ Some own_chunks
+own_source form s R i l k e = rw (found_at form s R i l k e) refl
+
 leaves_there : (form : PageForm) (s : Schema) (R : List Node) (F : List Leaf) → Limits s → AreAmong (leaves s.fields) F → has_leaves (the_footer form s R) F ≡ true
 leaves_there form s R [] k a = refl
-leaves_there form s R (l ∷ F) k a = and_from _ _ (ap is_found (found_at form s R a.0.0 l k a.0.1)) (leaves_there form s R F k a.1)
+leaves_there form s R (l ∷ F) k a = and_from _ _ (ap has_source (own_source form s R a.0.0 l k a.0.1)) (leaves_there form s R F k a.1)
+
+all_read : (form : PageForm) (s : Schema) (R : List Node) (F : List Leaf) → Limits s → AreAmong (leaves s.fields) F → leaves_read (the_footer form s R) F ≡ F
+all_read form s R [] k a = refl
+all_read form s R (l ∷ F) k a = ap₂ (λ x y. x ++ y) (ap (leaf_read l) (own_source form s R a.0.0 l k a.0.1)) (all_read form s R F k a.1)
 
 leaves_plain : (form : PageForm) (s : Schema) (R : List Node) (F : List Leaf) → Limits s → AreAmong (leaves s.fields) F → are_uncompressed (the_footer form s R) F ≡ true
 leaves_plain form s R [] k a = refl
@@ -280,7 +288,10 @@ leaves_bound form s R (l ∷ F) k h a = and_from _ _ (fits_bound form s R a.0.0 
 
 columns_back : (form : PageForm) (s : Schema) (R : List Node) (F : List Leaf) → Limits s → FitsFile form s R → AreAmong (leaves s.fields) F → AreColumns (framed (written_chunks form s R).bytes (written_footer form s R)) (the_footer form s R) F R
 columns_back form s R [] k h a = refl
-columns_back form s R (l ∷ F) k h a = ap₂ (λ x xs. x ∷ xs) (column_back form s R a.0.0 l k a.0.1 h) (columns_back form s R F k h a.1)
+columns_back form s R (l ∷ F) k h a =
+    let bytes : List ℕ = framed (written_chunks form s R).bytes (written_footer form s R) in
+    let e : given_column bytes (the_footer form s R) l ≡ Some (column l.path R) = ap (column_by bytes (the_footer form s R) l) (own_source form s R a.0.0 l k a.0.1) ∙ column_back form s R a.0.0 l k a.0.1 h in
+    ap₂ (λ x xs. x ∷ xs) e (columns_back form s R F k h a.1)
 
 rows_right : (form : PageForm) (s : Schema) (R : List Node) → length R ≤ most_rows → rows_agree (the_footer form s R) ≡ true
 rows_right form s [] h = refl
@@ -290,7 +301,8 @@ pub written_file_is_file : WrittenFileIsFile
 unfolding file_bytes
 written_file_is_file form s R F h a =
     let k : Limits s = limits s h.0 in
-    (the_footer form s R, footer_there form s R h, leaves_there form s R F k a, leaves_plain form s R F k a, (rows_right form s R h.3, leaves_bound form s R F k h.4 a, refl, h.1, columns_back form s R F k h a))
+    let e : leaves_read (the_footer form s R) F ≡ F = all_read form s R F k a in
+    (the_footer form s R, footer_there form s R h, leaves_there form s R F k a, ap (are_uncompressed (the_footer form s R)) e ∙ leaves_plain form s R F k a, (rows_right form s R h.3, ap (values_fit (the_footer form s R)) e ∙ leaves_bound form s R F k h.4 a, refl, h.1, columns_back form s R F k h a))
 
 -- ---- its schema
 

@@ -33,6 +33,7 @@ pub mod PlainLemmas
 pub mod PageLemmas
 -- causes
 pub mod FileLemmas
+pub mod LackingLemmas
 pub mod OpeningLemmas
 -- the file that is written is a file of its records
 pub mod ChunkLemmas
