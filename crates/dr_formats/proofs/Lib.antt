@@ -12,6 +12,7 @@ pub mod WorkedForeign
 pub mod WorkedWritten
 pub mod WorkedForms
 pub mod WorkedFormsV2
+pub mod WorkedLacking
 pub mod WorkedOpenLeaves
 pub mod WorkedTables
 pub mod WorkedOpening

@@ -31,6 +31,7 @@ pub mod CompactLaws
 pub mod HybridLaws
 pub mod PlainLaws
 pub mod FileLaws
+pub mod Widening
 pub mod LackingLaws
 pub mod WritingLaws
 pub mod OpenSchemaLaws
