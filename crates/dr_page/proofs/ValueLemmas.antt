@@ -1,16 +1,16 @@
 -- Values by their encoding; values of dictionaries; places of texts.
 use Rattle.std.proofs.Common.{◌≡◌, ℕ, zero, suc, ◌+◌, List, [], ◌∷◌, ◌++◌, length, map, Bool, true, false, refl, sym, ap, ◌∙◌, subst, ℤ, Option, Some, None, Result, Ok, Err}
-use Rattle.std.specs.Prelude.{◌||◌, nat_le, if◌then◌else◌, option_and_then}
+use Rattle.std.specs.Prelude.{◌||◌, ◌==◌, nat_le, if◌then◌else◌, option_and_then}
 use Rattle.std.specs.List.{list_all, All}
 use Rattle.std.proofs.lemmas.Bool.{and_parts, and_from, le-leb}
 use Rattle.std.proofs.lemmas.List.Elements.{All-nil, All-cons, All-head, All-tail}
 use Rattle.std.proofs.lemmas.Str.{is_utf8-from_IsUtf8}
-use Rattle.dr_meaning.specs.Record.{Value, text_value}
+use Rattle.dr_meaning.specs.Record.{Value, bool_value, text_value}
 use Rattle.dr_meaning.specs.Schema as tree
 use Rattle.dr_formats.specs.Hybrid.{hybrid}
 use Rattle.dr_formats.specs.Plain as plain
 use Rattle.dr_formats.specs.Plain.{plain_values, dictionary_values}
-use Rattle.dr_formats.specs.Page.{is_number, encoded_values}
+use Rattle.dr_formats.specs.Page.{is_number, sized_part, part_read, levels, rle_truths, rle_values, encoded_values}
 use Rattle.dr_levels.specs.declared.text_place.TextPlace.{TextPlace}
 use Rattle.dr_levels.specs.Texts.{is_text, bytes_at}
 use Rattle.dr_levels.specs.Dense.{text_values}
@@ -27,32 +27,47 @@ use Rattle.dr_page.specs.Reads.{Reads}
 
 -- ---- encodings
 
-abbrev encoded : Bool → Bool → Option ValueEncoding
-encoded a b = if a then Some ValueEncoding.Plain else (if b then Some ValueEncoding.Dictionary else None)
+abbrev encoded : Bool → Bool → Bool → Option ValueEncoding
+encoded a b c = if a then Some ValueEncoding.Plain else (if b then Some ValueEncoding.Dictionary else (if c then Some ValueEncoding.Hybrid else None))
 
-by_first : (a b : Bool) (p q : Option (List Value)) → encoded a b ≡ Some ValueEncoding.Plain → (if a then p else (if b then q else None)) ≡ p
-by_first true b p q e = refl
-by_first false true p q e = absurd (cc)
-by_first false false p q e = absurd (cc)
+abbrev either : Bool → Bool → Bool → Option (List Value) → Option (List Value) → Option (List Value) → Option (List Value)
+either a b c p q r = if a then p else (if b then q else (if c then r else None))
 
-by_second : (a b : Bool) (p q : Option (List Value)) → encoded a b ≡ Some ValueEncoding.Dictionary → (if a then p else (if b then q else None)) ≡ q
-by_second true b p q e = absurd (cc)
-by_second false true p q e = refl
-by_second false false p q e = absurd (cc)
+by_first : (a b c : Bool) (p q r : Option (List Value)) → encoded a b c ≡ Some ValueEncoding.Plain → either a b c p q r ≡ p
+by_first true b c p q r e = refl
+by_first false true c p q r e = absurd (cc)
+by_first false false true p q r e = absurd (cc)
+by_first false false false p q r e = absurd (cc)
 
-by_none : (a b : Bool) (p q : Option (List Value)) → encoded a b ≡ None → (if a then p else (if b then q else None)) ≡ None
-by_none true b p q e = absurd (cc)
-by_none false true p q e = absurd (cc)
-by_none false false p q e = refl
+by_second : (a b c : Bool) (p q r : Option (List Value)) → encoded a b c ≡ Some ValueEncoding.Dictionary → either a b c p q r ≡ q
+by_second true b c p q r e = absurd (cc)
+by_second false true c p q r e = refl
+by_second false false true p q r e = absurd (cc)
+by_second false false false p q r e = absurd (cc)
+
+by_third : (a b c : Bool) (p q r : Option (List Value)) → encoded a b c ≡ Some ValueEncoding.Hybrid → either a b c p q r ≡ r
+by_third true b c p q r e = absurd (cc)
+by_third false true c p q r e = absurd (cc)
+by_third false false true p q r e = refl
+by_third false false false p q r e = absurd (cc)
+
+by_none : (a b c : Bool) (p q r : Option (List Value)) → encoded a b c ≡ None → either a b c p q r ≡ None
+by_none true b c p q r e = absurd (cc)
+by_none false true c p q r e = absurd (cc)
+by_none false false true p q r e = absurd (cc)
+by_none false false false p q r e = refl
 
 pub by_plain : (z : ℤ) (k : tree.Kind) (d : List Value) (n : ℕ) (bs : List ℕ) → encoding_of z ≡ Some ValueEncoding.Plain → encoded_values z k d n bs ≡ plain_values k n bs
-by_plain z k d n bs e = by_first (is_number 0 z) (is_number 2 z || is_number 8 z) (plain_values k n bs) (dictionary_values d n bs) e
+by_plain z k d n bs e = by_first (is_number 0 z) (is_number 2 z || is_number 8 z) (is_number 3 z) (plain_values k n bs) (dictionary_values d n bs) (rle_values k n bs) e
 
 pub by_dictionary : (z : ℤ) (k : tree.Kind) (d : List Value) (n : ℕ) (bs : List ℕ) → encoding_of z ≡ Some ValueEncoding.Dictionary → encoded_values z k d n bs ≡ dictionary_values d n bs
-by_dictionary z k d n bs e = by_second (is_number 0 z) (is_number 2 z || is_number 8 z) (plain_values k n bs) (dictionary_values d n bs) e
+by_dictionary z k d n bs e = by_second (is_number 0 z) (is_number 2 z || is_number 8 z) (is_number 3 z) (plain_values k n bs) (dictionary_values d n bs) (rle_values k n bs) e
+
+pub by_rle : (z : ℤ) (k : tree.Kind) (d : List Value) (n : ℕ) (bs : List ℕ) → encoding_of z ≡ Some ValueEncoding.Hybrid → encoded_values z k d n bs ≡ rle_values k n bs
+by_rle z k d n bs e = by_third (is_number 0 z) (is_number 2 z || is_number 8 z) (is_number 3 z) (plain_values k n bs) (dictionary_values d n bs) (rle_values k n bs) e
 
 pub by_no_encoding : (z : ℤ) (k : tree.Kind) (d : List Value) (n : ℕ) (bs : List ℕ) → encoding_of z ≡ None → encoded_values z k d n bs ≡ None
-by_no_encoding z k d n bs e = by_none (is_number 0 z) (is_number 2 z || is_number 8 z) (plain_values k n bs) (dictionary_values d n bs) e
+by_no_encoding z k d n bs e = by_none (is_number 0 z) (is_number 2 z || is_number 8 z) (is_number 3 z) (plain_values k n bs) (dictionary_values d n bs) (rle_values k n bs) e
 
 -- ---- dictionaries
 
@@ -125,3 +140,23 @@ text_places bytes ps items out e f = sym (ap (text_values bytes) (f ∙ ap (map 
 
 pub text_places_hold : (bytes : List ℕ) (ps : List dense.TextPlace) (items : List dense.TextPlace) (out : List TextPlace) → items ≡ ps → out ≡ map column_place items → dense_views.AreTexts bytes ps → list_all (is_text bytes) out ≡ true
 text_places_hold bytes ps items out e f h = ap (list_all (is_text bytes)) (f ∙ ap (map column_place) e) ∙ still_texts bytes ps h
+
+-- ---- truth values in RLE
+
+truths_seen : (ls : List ℕ) → map bool_value (map (λ (l : ℕ). l == 1) ls) ≡ map plain.truth_of_bit ls
+truths_seen [] = refl
+truths_seen (l ∷ ls) = ap (λ vs. bool_value (l == 1) ∷ vs) (truths_seen ls)
+
+-- the truth values of a part's levels
+pub truths_read : (n : ℕ) (bs part ls : List ℕ) → (n ≡ 0 → ⊥) → part_read (sized_part bs) ≡ Some part → levels 1 n part ≡ Some ls → rle_truths n bs ≡ Some (map bool_value (map (λ (l : ℕ). l == 1) ls))
+truths_read zero bs part ls h p l = absurd (h refl)
+truths_read (suc n) bs part ls h p l = rw (p, l) (ap Some (sym (truths_seen ls)))
+
+-- there are none where there is no part, or its levels aren't
+pub no_part_no_truths : (n : ℕ) (bs : List ℕ) → (n ≡ 0 → ⊥) → part_read (sized_part bs) ≡ None → rle_truths n bs ≡ None
+no_part_no_truths zero bs h p = absurd (h refl)
+no_part_no_truths (suc n) bs h p = rw p refl
+
+pub no_levels_no_truths : (n : ℕ) (bs part : List ℕ) → (n ≡ 0 → ⊥) → part_read (sized_part bs) ≡ Some part → levels 1 n part ≡ None → rle_truths n bs ≡ None
+no_levels_no_truths zero bs part h p l = absurd (h refl)
+no_levels_no_truths (suc n) bs part h p l = rw (p, l) refl

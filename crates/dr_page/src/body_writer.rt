@@ -1,7 +1,7 @@
 //! Writing page bodies.
 
 ghost use Rattle.std.specs.Prelude.{◌≡◌, ◌++◌, ◌≤◌, OnOk, OnErr};
-ghost use Rattle.dr_formats.specs.Page.{body_bytes};
+ghost use Rattle.dr_formats.specs.Page.{data_page_v1, body_bytes};
 ghost use Rattle.dr_levels.specs.Views.{triplets_view, triplets_form};
 ghost use Rattle.dr_page.specs.Writes.{Writes, AreWritable};
 
@@ -39,7 +39,7 @@ impl BodyWriter {
         requires definition { (triplets_form triplets).greatest ≤ 32 }
         requires writable { AreWritable max_repetition triplets }
         ensures written { OnOk result ((out.new).items
-            ≡ (out.old).items ++ body_bytes (triplets_form triplets.entry).kind max_repetition
+            ≡ (out.old).items ++ body_bytes data_page_v1 (triplets_form triplets.entry).kind max_repetition
             (triplets_form triplets.entry).greatest (triplets_view triplets.entry)) }
         ensures stays { OnErr result ((out.new).items ≡ (out.old).items) }
     {
@@ -61,7 +61,7 @@ impl BodyWriter {
         requires repetition { max_repetition ≤ 32 }
         requires definition { (triplets_form triplets).greatest ≤ 32 }
         requires writable { AreWritable max_repetition triplets }
-        ensures { Writes (body_bytes (triplets_form triplets.entry).kind max_repetition
+        ensures { Writes (body_bytes data_page_v1 (triplets_form triplets.entry).kind max_repetition
             (triplets_form triplets.entry).greatest (triplets_view triplets.entry)) (out.old).items
             (out.new).items result }
     {

@@ -2,10 +2,11 @@
 
 ghost use Rattle.std.specs.Prelude.{◌≡◌, ◌<◌, ◌≤◌, ◌^◌, length, map, true, nat_le};
 ghost use Rattle.std.specs.List.{list_all};
-ghost use Rattle.dr_formats.specs.Page.{level_bytes};
+ghost use Rattle.dr_formats.specs.Page.{data_page_v1, level_bytes};
 ghost use Rattle.dr_page.specs.Writes.{Writes};
 
-use crate::level_part::{LENGTH_BYTES, level_width};
+use crate::level_part::level_width;
+use crate::part::LENGTH_BYTES;
 use dr_hybrid::encode_levels;
 use dr_levels::Levels;
 use dr_memory::NoMemory;
@@ -34,7 +35,7 @@ impl LevelWriter {
     ) -> Result<(), NoMemory>
         requires narrow { greatest ≤ 32 }
         requires most { list_all (λ l. nat_le l greatest) (map (λ (l : Levels). l.repetition) levels.now) ≡ true }
-        ensures { Writes (level_bytes greatest (map (λ (l : Levels). l.repetition) levels.now)) (out.old).items
+        ensures { Writes (level_bytes data_page_v1 greatest (map (λ (l : Levels). l.repetition) levels.now)) (out.old).items
             (out.new).items result }
     {
         if greatest == 0 {
@@ -57,7 +58,7 @@ impl LevelWriter {
     ) -> Result<(), NoMemory>
         requires narrow { greatest ≤ 32 }
         requires most { list_all (λ l. nat_le l greatest) (map (λ (l : Levels). l.definition) levels.now) ≡ true }
-        ensures { Writes (level_bytes greatest (map (λ (l : Levels). l.definition) levels.now)) (out.old).items
+        ensures { Writes (level_bytes data_page_v1 greatest (map (λ (l : Levels). l.definition) levels.now)) (out.old).items
             (out.new).items result }
     {
         if greatest == 0 {
@@ -78,7 +79,7 @@ fn append_part(greatest: u8, levels: &[u8], out: &mut Vec<u8>) -> Result<(), NoM
     requires narrow { greatest ≤ 32 }
     requires most { list_all (λ l. nat_le l greatest) levels.now ≡ true }
     requires few { length levels.now < 2 ^ 63 }
-    ensures { Writes (level_bytes greatest levels.now) (out.old).items (out.new).items result }
+    ensures { Writes (level_bytes data_page_v1 greatest levels.now) (out.old).items (out.new).items result }
 {
     let start = out.len();
     let end = start + LENGTH_BYTES;

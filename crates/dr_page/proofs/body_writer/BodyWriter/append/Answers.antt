@@ -7,7 +7,7 @@ use Rattle.dr_meaning.specs.Column.{Triplet}
 use Rattle.dr_levels.specs.declared.triplet.Levels.{Levels}
 use Rattle.dr_nested.specs.Views.{kind_view}
 use Rattle.dr_formats.specs.Plain.{is_writable, plain_bytes}
-use Rattle.dr_formats.specs.Page.{body_bytes, level_bytes, column_values}
+use Rattle.dr_formats.specs.Page.{data_page_v1, body_bytes, level_bytes, column_values}
 use Rattle.dr_levels.specs.Lent.{lent_values}
 use Rattle.dr_levels.specs.Views.{triplets_view, triplets_form}
 use Rattle.dr_page.proofs.WriteLemmas.{repetitions_fit, definitions_fit, values_writable, same_values, same_repetitions, same_definitions, writes_last}
@@ -42,10 +42,10 @@ returns c =
     let g = c.greatest_definition-greatest.result in
     let k = kind_view c.kind.result in
     let vs = lent_values c.values.result in
-    let a = level_bytes c.args.max_repetition (map (λ (x : Levels). x.repetition) ls) in
-    let b = level_bytes g (map (λ (x : Levels). x.definition) ls) in
-    let r : level_bytes c.args.max_repetition (map (λ (t : Triplet). t.repetition) v) ≡ a = ap (level_bytes c.args.max_repetition) (sym (same_repetitions ls v c.levels-levels.ensures)) in
-    let d : level_bytes f.greatest (map (λ (t : Triplet). t.definition) v) ≡ b = ap₂ level_bytes (sym c.greatest_definition-greatest.ensures) (sym (same_definitions ls v c.levels-levels.ensures)) in
+    let a = level_bytes data_page_v1 c.args.max_repetition (map (λ (x : Levels). x.repetition) ls) in
+    let b = level_bytes data_page_v1 g (map (λ (x : Levels). x.definition) ls) in
+    let r : level_bytes data_page_v1 c.args.max_repetition (map (λ (t : Triplet). t.repetition) v) ≡ a = ap (level_bytes data_page_v1 c.args.max_repetition) (sym (same_repetitions ls v c.levels-levels.ensures)) in
+    let d : level_bytes data_page_v1 f.greatest (map (λ (t : Triplet). t.definition) v) ≡ b = ap₂ (level_bytes data_page_v1) (sym c.greatest_definition-greatest.ensures) (sym (same_definitions ls v c.levels-levels.ensures)) in
     let p : plain_bytes f.kind (column_values v) ≡ plain_bytes k vs = ap₂ plain_bytes (sym c.kind.ensures) (sym (c.values.ensures.values ∙ same_values v)) in
-    writes_last c.append_values.result a b (plain_bytes k vs) (body_bytes f.kind c.args.max_repetition f.greatest v) c.args.out.now.items c.append_repetitions.new.out.items c.append_definitions.new.out.items c.append_values.new.out.items
+    writes_last c.append_values.result a b (plain_bytes k vs) (body_bytes data_page_v1 f.kind c.args.max_repetition f.greatest v) c.args.out.now.items c.append_repetitions.new.out.items c.append_definitions.new.out.items c.append_values.new.out.items
     (ap₂ (λ xs ys. xs ++ ys) r (ap₂ (λ xs ys. xs ++ ys) d p)) c.in_ok-append_repetitions.ensures c.in_ok-append_definitions.ensures c.append_values.ensures
