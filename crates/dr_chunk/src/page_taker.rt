@@ -1,16 +1,19 @@
 //! Taking the pages of a chunk, one after another.
 
-ghost use Rattle.std.specs.Prelude.{◌≡◌, ◌≢◌, true};
+ghost use Rattle.std.specs.Prelude.{◌≡◌, ◌≢◌, true, option_map, IfSome};
+ghost use Rattle.dr_meaning.specs.Path.{Leaf};
 ghost use Rattle.dr_nested.specs.Views.{kind_view};
+ghost use Rattle.dr_formats.specs.Chunk.{shape_of_page, shape_of_page_v2};
 ghost use Rattle.dr_page.specs.Views.{is_dictionary_of, shape_view};
-ghost use Rattle.dr_meta.specs.Views.{data_page_view};
-ghost use Rattle.dr_chunk.specs.Shapes.{shape_with};
+ghost use Rattle.dr_meta.specs.Views.{data_page_view, data_page_v2_view};
+ghost use Rattle.dr_chunk.specs.Shapes.{IsOfLeaf};
+ghost use Rattle.dr_chunk.specs.Takers.{IsLeafOf};
 
 use crate::fault::ChunkFault;
 use crate::leaf_shape::LeafShape;
 use dr_levels::Column;
-use dr_meta::{DataPage, DictionaryPage, PageHead};
-use dr_page::{BodyReader, Dictionary, Shape};
+use dr_meta::{DataPage, DataPageV2, DictionaryPage, PageHead};
+use dr_page::{BodyReader, Dictionary, PageForm, Shape};
 use std::alloc::Global;
 
 /// The numbers of page types (parquet.thrift, PageType).
@@ -20,27 +23,59 @@ const INDEX_PAGE: i64 = 1;
 
 const DICTIONARY_PAGE: i64 = 2;
 
+const DATA_PAGE_V2: i64 = 3;
+
 /// The number of the encoding PLAIN.
 const PLAIN: i64 = 0;
 /// The number of the encoding PLAIN_DICTIONARY, as older writers name PLAIN on a dictionary page.
 const PLAIN_DICTIONARY: i64 = 2;
+/// The number of the encoding RLE, that of all levels of a V2 page.
+const RLE: i64 = 3;
 
-/// What is known of a data page of a leaf before its body.
-fn shape_of(leaf: LeafShape, page: DataPage) -> Shape
-    ensures shape { shape_view result ≡ shape_with (data_page_view page)
-        (kind_view leaf.kind) leaf.max_repetition leaf.max_definition }
-    ensures kind { result.kind ≡ leaf.kind }
-    ensures definition { result.max_definition ≡ leaf.max_definition }
+/// What is known of a V1 page of a leaf before its body, where it has a header of its type.
+fn shape_of(leaf: LeafShape, page: Option<DataPage>) -> Option<Shape>
+    ensures shape { (l : Leaf) → IsLeafOf l leaf
+        → option_map shape_view result ≡ option_map (shape_of_page l) (option_map data_page_view page) }
+    ensures leaf { IfSome result (λ s. IsOfLeaf leaf s) }
 {
-    Shape {
+    let Some(page) = page else {
+        return None;
+    };
+    Some(Shape {
+        form: PageForm::V1,
         triplets: page.values.get(),
         encoding: page.encoding,
         definition_encoding: page.definition_encoding,
         repetition_encoding: page.repetition_encoding,
+        definition_bytes: 0,
+        repetition_bytes: 0,
         kind: leaf.kind,
         max_repetition: leaf.max_repetition,
         max_definition: leaf.max_definition,
-    }
+    })
+}
+
+/// And of a V2 page. Its numbers of NULLs and rows aren't looked at, nor whether it says that its values are compressed.
+fn shape_of_v2(leaf: LeafShape, page: Option<DataPageV2>) -> Option<Shape>
+    ensures shape { (l : Leaf) → IsLeafOf l leaf
+        → option_map shape_view result ≡ option_map (shape_of_page_v2 l) (option_map data_page_v2_view page) }
+    ensures leaf { IfSome result (λ s. IsOfLeaf leaf s) }
+{
+    let Some(page) = page else {
+        return None;
+    };
+    Some(Shape {
+        form: PageForm::V2,
+        triplets: page.values.get(),
+        encoding: page.encoding,
+        definition_encoding: RLE,
+        repetition_encoding: RLE,
+        definition_bytes: page.definition_bytes.get(),
+        repetition_bytes: page.repetition_bytes.get(),
+        kind: leaf.kind,
+        max_repetition: leaf.max_repetition,
+        max_definition: leaf.max_definition,
+    })
 }
 
 /// What is known between the pages of a chunk: how many of its triplets are still wanted, whether a page came before,
@@ -55,12 +90,11 @@ pub(crate) struct PageTaker {
 }
 
 impl PageTaker {
-    ghost use Rattle.std.specs.Prelude.{◌+◌, [], false, length, OnOk, IfErr, option_map};
-    ghost use Rattle.dr_meaning.specs.Path.{Leaf};
+    ghost use Rattle.std.specs.Prelude.{◌+◌, [], false, length, OnOk, IfErr};
     ghost use Rattle.dr_formats.specs.Chunk.{data_page, dictionary_page, page_taken};
     ghost use Rattle.dr_levels.specs.Views.{column_view, column_form};
     ghost use Rattle.dr_meta.specs.Views.{page_view, dictionary_page_view};
-    ghost use Rattle.dr_chunk.specs.Takers.{leaf_of, wanted_of, is_first_of, dictionary_of, leaf_form, IsLeafOf, Takes, IsChunkFault};
+    ghost use Rattle.dr_chunk.specs.Takers.{leaf_of, wanted_of, is_first_of, dictionary_of, leaf_form, Takes, IsChunkFault};
 
     /// Before the first page of a chunk of which so many triplets are wanted.
     pub(crate) fn new(alloc: Global, leaf: LeafShape, wanted: u64) -> PageTaker
@@ -111,33 +145,35 @@ impl PageTaker {
         ensures calm { result ≢ Err ChunkFault.Failed }
     {
         match head.kind {
-            DATA_PAGE => self.take_data(bodies, head.data_page, body, out)?,
+            DATA_PAGE => self.take_data(bodies, shape_of(self.leaf, head.data_page), body, out)?,
             INDEX_PAGE => {}
             DICTIONARY_PAGE => self.take_dictionary(alloc, head.dictionary_page, body)?,
+            DATA_PAGE_V2 => {
+                self.take_data(bodies, shape_of_v2(self.leaf, head.data_page_v2), body, out)?
+            }
             _ => return Err(ChunkFault::BadData),
         }
         self.is_first = false;
         Ok(())
     }
 
-    /// Takes a data page.
+    /// Takes a data page of this shape.
     ///
-    /// Errors: it has no header of its own, or more triplets than are wanted, or spells none; want of memory.
+    /// Errors: it has no header of its type, or more triplets than are wanted, or spells none; want of memory.
     fn take_data(
         &mut self,
         bodies: &mut BodyReader,
-        page: Option<DataPage>,
+        shape: Option<Shape>,
         body: &[u8],
         out: &mut Column,
     ) -> Result<(), ChunkFault>
-        requires { column_form out.old ≡ leaf_form (leaf_of self.old) }
-        ensures taken { (l : Leaf) → IsLeafOf l (leaf_of self.old)
-            → OnOk result (Takes (data_page l (wanted_of self.old) (dictionary_of self.old) body.now
-            (option_map data_page_view page) []) (column_view out.old) (column_view out.new) (wanted_of self.old)
+        requires form { column_form out.old ≡ leaf_form (leaf_of self.old) }
+        requires shape { IfSome shape (λ s. IsOfLeaf (leaf_of self.old) s) }
+        ensures taken { OnOk result (Takes (data_page (wanted_of self.old) (dictionary_of self.old) body.now
+            (option_map shape_view shape) []) (column_view out.old) (column_view out.new) (wanted_of self.old)
             (wanted_of self.new) (dictionary_of self.new)) }
-        ensures bad { (l : Leaf) → IsLeafOf l (leaf_of self.old)
-            → IfErr result (λ e. IsChunkFault e (data_page l (wanted_of self.old) (dictionary_of self.old) body.now
-            (option_map data_page_view page) [])) }
+        ensures bad { IfErr result (λ e. IsChunkFault e (data_page (wanted_of self.old) (dictionary_of self.old) body.now
+            (option_map shape_view shape) [])) }
         ensures count { OnOk result (length (column_view out.new) + wanted_of self.new
             ≡ length (column_view out.old) + wanted_of self.old) }
         ensures leaf { leaf_of self.new ≡ leaf_of self.old }
@@ -145,16 +181,14 @@ impl PageTaker {
         ensures form { column_form out.new ≡ column_form out.old }
         ensures calm { result ≢ Err ChunkFault.Failed }
     {
-        let Some(page) = page else {
+        let Some(shape) = shape else {
             return Err(ChunkFault::BadData);
         };
-        let triplets = page.values.get();
-        if triplets > self.wanted {
+        if shape.triplets > self.wanted {
             return Err(ChunkFault::BadData);
         }
-        let shape = shape_of(self.leaf, page);
         bodies.read(&shape, &self.dictionary, body, out)?;
-        self.wanted -= triplets;
+        self.wanted -= shape.triplets;
         Ok(())
     }
 
