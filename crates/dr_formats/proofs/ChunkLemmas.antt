@@ -39,7 +39,7 @@ lengths_fit l p h =
     let vs : List ℕ = plain_bytes l.kind (column_values p) in
     (omega (arith, h, length-append rs (ds ++ vs), length-append ds vs), omega (arith, h, length-append rs (ds ++ vs), length-append ds vs))
 
-header_parts : (form : PageForm) (l : Leaf) (p : List Triplet) → IsPage form l p → length p < 2 ^ 63 → length (leaf_body form l p) < 2 ^ 63 → is_tree (page_tree (header_of_page form l p (length (leaf_body form l p)))) ≡ true
+header_parts : (form : PageForm) (l : Leaf) (p : List Triplet) → IsPage form l p → length p < 2 ^ 63 → length (leaf_body form l p) < 2 ^ 63 → is_tree (page_tree (header_of_page form (max_repetition l.path) (max_definition l.path) p (length (leaf_body form l p)))) ≡ true
 header_parts data_page_v1 l p i h k = rw (lt-ltb (length p) (2 ^ 63) h, lt-ltb (length (leaf_body data_page_v1 l p)) (2 ^ 63) k) refl
 header_parts data_page_v2 l p i h k =
     let n : null_count p < 2 ^ 63 = omega (arith, h) in
@@ -47,25 +47,25 @@ header_parts data_page_v2 l p i h k =
     let z : (length (level_data (max_definition l.path) (column_definitions p)) < 2 ^ 63) × (length (level_data (max_repetition l.path) (column_repetitions p)) < 2 ^ 63) = lengths_fit l p k in
     rw (lt-ltb (length p) (2 ^ 63) h, lt-ltb (length (leaf_body data_page_v2 l p)) (2 ^ 63) k, lt-ltb (null_count p) (2 ^ 63) n, lt-ltb (starts p) (2 ^ 63) r, lt-ltb (length (level_data (max_definition l.path) (column_definitions p))) (2 ^ 63) z.0, lt-ltb (length (level_data (max_repetition l.path) (column_repetitions p))) (2 ^ 63) z.1) refl
 
-header_is_tree : (form : PageForm) (l : Leaf) (p : List Triplet) → IsPage form l p → is_tree (page_tree (header_of_page form l p (length (leaf_body form l p)))) ≡ true
+header_is_tree : (form : PageForm) (l : Leaf) (p : List Triplet) → IsPage form l p → is_tree (page_tree (header_of_page form (max_repetition l.path) (max_definition l.path) p (length (leaf_body form l p)))) ≡ true
 header_is_tree form l p h = header_parts form l p h (omega (arith, h.1)) h.2
 
-spells_header : (form : PageForm) (l : Leaf) (p : List Triplet) → IsPage form l p → IsReadAs page_header (page_head_bytes form l p) (header_of_page form l p (length (leaf_body form l p)))
+spells_header : (form : PageForm) (l : Leaf) (p : List Triplet) → IsPage form l p → IsReadAs page_header (page_head_bytes form l p) (header_of_page form (max_repetition l.path) (max_definition l.path) p (length (leaf_body form l p)))
 spells_header form l p h rest =
-    let head : PageHeader = header_of_page form l p (length (leaf_body form l p)) in
+    let head : PageHeader = header_of_page form (max_repetition l.path) (max_definition l.path) p (length (leaf_body form l p)) in
     ap header_read (written_struct_is_read (page_tree head) (header_is_tree form l p h) rest) ∙ ap (header_viewed rest) (written_header_is_viewed head)
 
 -- ---- pages
 
 -- the shape by the header is the written one, but for lengths that a V1 page doesn't look at
 shape_back : (form : PageForm) (l : Leaf) (p : List Triplet) (dictionary : List Value) (body : List ℕ) → page_triplets (written_shape form l.kind (max_repetition l.path) (max_definition l.path) p) dictionary body ≡ Some p
-    → (wanted : ℕ) (first : Bool) (rest : List ℕ) (size : ℕ) → length p ≤ wanted → page_taken l wanted first dictionary (header_of_page form l p size) body rest ≡ got (taken p dictionary) rest
+    → (wanted : ℕ) (first : Bool) (rest : List ℕ) (size : ℕ) → length p ≤ wanted → page_taken l wanted first dictionary (header_of_page form (max_repetition l.path) (max_definition l.path) p size) body rest ≡ got (taken p dictionary) rest
 unfolding page_triplets
 shape_back data_page_v1 l p dictionary body e wanted first rest size w = rw (le-leb (length p) wanted w, e) refl
 shape_back data_page_v2 l p dictionary body e wanted first rest size w = rw (le-leb (length p) wanted w, e) refl
 
 page_back : (form : PageForm) (l : Leaf) (p : List Triplet) (wanted : ℕ) (first : Bool) (dictionary : List Value) (rest : List ℕ) → max_repetition l.path ≤ 32 → max_definition l.path ≤ 32 → IsPage form l p → length p ≤ wanted
-    → page_taken l wanted first dictionary (header_of_page form l p (length (leaf_body form l p))) (leaf_body form l p) rest ≡ got (taken p dictionary) rest
+    → page_taken l wanted first dictionary (header_of_page form (max_repetition l.path) (max_definition l.path) p (length (leaf_body form l p))) (leaf_body form l p) rest ≡ got (taken p dictionary) rest
 page_back form l p wanted first dictionary rest a b h w =
     let body : List ℕ = leaf_body form l p in
     let e : page_triplets (written_shape form l.kind (max_repetition l.path) (max_definition l.path) p) dictionary (body ++ []) ≡ Some p = written_body_is_read form l.kind (max_repetition l.path) (max_definition l.path) p dictionary [] a b h.1 h.0 in
@@ -97,7 +97,7 @@ pages_back form l (p ∷ ps) a b h k zero first dictionary rest e c = (pages_byt
 pages_back form l (p ∷ ps) a b h zero (suc n) first dictionary rest e c =
     let body : List ℕ = leaf_body form l p in
     let head : List ℕ = page_head_bytes form l p in
-    absurd (omega (arith, c, length-append (head ++ body) (pages_bytes form l ps), length-append head body, struct_has_byte (page_tree (header_of_page form l p (length body)))))
+    absurd (omega (arith, c, length-append (head ++ body) (pages_bytes form l ps), length-append head body, struct_has_byte (page_tree (header_of_page form (max_repetition l.path) (max_definition l.path) p (length body)))))
 pages_back form l (p ∷ ps) a b h (suc k) (suc n) first dictionary rest e c =
     let body : List ℕ = leaf_body form l p in
     let head : List ℕ = page_head_bytes form l p in
@@ -105,11 +105,11 @@ pages_back form l (p ∷ ps) a b h (suc k) (suc n) first dictionary rest e c =
     let f : ((head ++ body) ++ pages_bytes form l ps) ++ rest ≡ head ++ (body ++ behind) = append_assoc (head ++ body) (pages_bytes form l ps) rest ∙ append_assoc head body behind in
     let w : length p ≤ suc n = omega (arith, e) in
     let m : suc n - length p ≡ triplet_count ps = omega (arith, e) in
-    let d : length (pages_bytes form l ps) ≤ k = omega (arith, c, length-append (head ++ body) (pages_bytes form l ps), length-append head body, struct_has_byte (page_tree (header_of_page form l p (length body)))) in
+    let d : length (pages_bytes form l ps) ≤ k = omega (arith, c, length-append (head ++ body) (pages_bytes form l ps), length-append head body, struct_has_byte (page_tree (header_of_page form (max_repetition l.path) (max_definition l.path) p (length body)))) in
     let r = pages_back form l ps a b h.1 k (suc n - length p) false dictionary rest m d in
-    (r.0, ap (pages l (suc k) (suc n) first dictionary) f ∙ one_page l k n first dictionary (header_of_page form l p (length body)) body (taken p dictionary) (all_triplets ps) (head ++ (body ++ behind)) (body ++ behind) behind r.0 (spells_header form l p h.0 (body ++ behind)) (by_size form l p behind) (page_back form l p (suc n) first dictionary behind a b h.0 w) r.1)
+    (r.0, ap (pages l (suc k) (suc n) first dictionary) f ∙ one_page l k n first dictionary (header_of_page form (max_repetition l.path) (max_definition l.path) p (length body)) body (taken p dictionary) (all_triplets ps) (head ++ (body ++ behind)) (body ++ behind) behind r.0 (spells_header form l p h.0 (body ++ behind)) (by_size form l p behind) (page_back form l p (suc n) first dictionary behind a b h.0 w) r.1)
   where
-    by_size : (form : PageForm) (l : Leaf) (p : List Triplet) (behind : List ℕ) → bytes_of bad_page (header_of_page form l p (length (leaf_body form l p))).compressed_size (leaf_body form l p ++ behind) ≡ got (leaf_body form l p) behind
+    by_size : (form : PageForm) (l : Leaf) (p : List Triplet) (behind : List ℕ) → bytes_of bad_page (header_of_page form (max_repetition l.path) (max_definition l.path) p (length (leaf_body form l p))).compressed_size (leaf_body form l p ++ behind) ≡ got (leaf_body form l p) behind
     by_size data_page_v1 l p behind = spells_bytes bad_page (length (leaf_body data_page_v1 l p)) (leaf_body data_page_v1 l p) refl behind
     by_size data_page_v2 l p behind = spells_bytes bad_page (length (leaf_body data_page_v2 l p)) (leaf_body data_page_v2 l p) refl behind
 

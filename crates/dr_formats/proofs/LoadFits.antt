@@ -196,9 +196,9 @@ body_short form k r d ts hr hd l =
     let ed : length ds ≡ length ts = as_many (λ (t : Triplet). t.definition) ts in
     omega (arith, length-append (level_bytes form r rs) (level_bytes form d ds ++ plain_bytes k (column_values ts)), length-append (level_bytes form d ds) (plain_bytes k (column_values ts)), level_short form r rs hr (omega (arith, er, l)), level_short form d ds hd (omega (arith, ed, l)), er, ed, plain_short k (column_values ts), values_count ts, values_texts ts)
 
-page_head_short : (form : PageForm) (l : Leaf) (p : List Triplet) (size : ℕ) → length (struct_bytes (page_tree (header_of_page form l p size))) ≤ 214
-page_head_short data_page_v1 l p size = omega (arith, struct_short (page_tree (header_of_page data_page_v1 l p size)))
-page_head_short data_page_v2 l p size = omega (arith, struct_short (page_tree (header_of_page data_page_v2 l p size)))
+page_head_short : (form : PageForm) (l : Leaf) (p : List Triplet) (size : ℕ) → length (struct_bytes (page_tree (header_of_page form (max_repetition l.path) (max_definition l.path) p size))) ≤ 214
+page_head_short data_page_v1 l p size = omega (arith, struct_short (page_tree (header_of_page data_page_v1 (max_repetition l.path) (max_definition l.path) p size)))
+page_head_short data_page_v2 l p size = omega (arith, struct_short (page_tree (header_of_page data_page_v2 (max_repetition l.path) (max_definition l.path) p size)))
 
 page_short : (form : PageForm) (l : Leaf) (p : List Triplet) → max_repetition l.path ≤ 32 → max_definition l.path ≤ 32 → length p < 2 ^ 31 → length (page_bytes form l p) ≤ 236 + 10 * length p + texts_of p
 page_short form l p hr hd h =

@@ -1,14 +1,14 @@
 -- A whole file, by computation: one record of one required leaf.
 use Rattle.std.proofs.Common.{arith, None}
 use Rattle.std.specs.Prelude.{◌≡◌, ℕ, List, [], ◌∷◌, ◌++◌, pos, codes, refl}
-use Rattle.dr_meaning.specs.Schema.{no_fields, field, leaf, Schema, required, int64_kind, text_kind}
+use Rattle.dr_meaning.specs.Schema.{no_fields, field, leaf, Schema, required, int64_kind}
 use Rattle.dr_meaning.specs.Record.{int_value, Node, no_slots, slot, no_instances, instance, atom}
 use Rattle.dr_formats.specs.Compact.{struct_bytes}
 use Rattle.dr_formats.specs.Hybrid.{hybrid_bytes}
 use Rattle.dr_formats.specs.Page.{data_page_v1, data_page_v2, body_bytes}
 use Rattle.dr_formats.specs.Metadata.{page_tree}
 use Rattle.std.specs.Str.{is_utf8, chars}
-use Rattle.dr_meaning.specs.Path.{Leaf, leaves}
+use Rattle.dr_meaning.specs.Path.{leaves}
 use Rattle.dr_meaning.specs.Column.{Triplet, column}
 use Rattle.dr_meaning.proofs.WorkedPaths.{country}
 use Rattle.dr_meaning.proofs.WorkedSchemas.{document, document_schema}
@@ -28,19 +28,16 @@ one_schema = record { name = codes "T"; fields = field (codes "a") required (lea
 abbrev pub one_record : Node
 one_record = slot (instance (atom (int_value (pos 1))) no_instances) no_slots
 
--- the header of the page whose body is worked in WorkedPages
-abbrev country_leaf : Leaf
-country_leaf = record { names = codes "Name" ∷ codes "Language" ∷ codes "Country" ∷ []; path = country; kind = text_kind }
-
 abbrev country_column : List Triplet
 country_column = column country (record_10 ∷ record_20 ∷ [])
 
-pub country_header : struct_bytes (page_tree (header_of_page data_page_v1 country_leaf country_column 26)) ≡ 21 ∷ 0 ∷ 21 ∷ 52 ∷ 21 ∷ 52 ∷ 44 ∷ 21 ∷ 10 ∷ 21 ∷ 0 ∷ 21 ∷ 6 ∷ 21 ∷ 6 ∷ 0 ∷ 0 ∷ []
+-- the header of the page whose body is worked in WorkedPages
+pub country_header : struct_bytes (page_tree (header_of_page data_page_v1 2 3 country_column 26)) ≡ 21 ∷ 0 ∷ 21 ∷ 52 ∷ 21 ∷ 52 ∷ 44 ∷ 21 ∷ 10 ∷ 21 ∷ 0 ∷ 21 ∷ 6 ∷ 21 ∷ 6 ∷ 0 ∷ 0 ∷ []
 unfolding struct_bytes
 country_header = refl
 
 -- and as a V2 page: five triplets, of which three have no value and two begin a record, and both level parts of three bytes
-pub country_header_v2 : struct_bytes (page_tree (header_of_page data_page_v2 country_leaf country_column 18)) ≡ hex (codes "15 06 15 24 15 24 5C 15 0A 15 06 15 04 15 00 15 06 15 06 12 00 00")
+pub country_header_v2 : struct_bytes (page_tree (header_of_page data_page_v2 2 3 country_column 18)) ≡ hex (codes "15 06 15 24 15 24 5C 15 0A 15 06 15 04 15 00 15 06 15 06 12 00 00")
 unfolding struct_bytes hybrid_bytes
 country_header_v2 = refl
 

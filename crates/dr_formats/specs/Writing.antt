@@ -52,10 +52,10 @@ cut_pages k page (c ∷ cs) = closed_page (is_full k (page ++ c)) (page ++ c) ++
 abbrev pub null_count : List Triplet → ℕ
 null_count ts = length ts - length (column_values ts)
 
--- the header of a page as it is written: DATA_PAGE or DATA_PAGE_V2, both sizes the body's, values PLAIN; V1 levels in RLE; V2 with the numbers of NULLs and of
--- rows, the lengths of the level parts, and no compression
-abbrev pub header_of_page : PageForm → Leaf → List Triplet → ℕ → PageHeader
-header_of_page data_page_v1 l ts size = record {
+-- the header of a page as it is written, of a leaf with these greatest levels: DATA_PAGE or DATA_PAGE_V2, both sizes the body's, values PLAIN; V1 levels in
+-- RLE; V2 with the numbers of NULLs and of rows, the lengths of the level parts, and no compression
+abbrev pub header_of_page : PageForm → ℕ → ℕ → List Triplet → ℕ → PageHeader
+header_of_page data_page_v1 max_r max_d ts size = record {
   type = pos 0;
   uncompressed_size = Some (pos size);
   compressed_size = size;
@@ -63,7 +63,7 @@ header_of_page data_page_v1 l ts size = record {
   dictionary_page = None;
   data_page_v2 = None;
 }
-header_of_page data_page_v2 l ts size = record {
+header_of_page data_page_v2 max_r max_d ts size = record {
   type = pos 3;
   uncompressed_size = Some (pos size);
   compressed_size = size;
@@ -74,8 +74,8 @@ header_of_page data_page_v2 l ts size = record {
     nulls = Some (pos (null_count ts));
     rows = Some (pos (starts ts));
     encoding = pos 0;
-    definition_bytes = length (level_data (max_definition l.path) (column_definitions ts));
-    repetition_bytes = length (level_data (max_repetition l.path) (column_repetitions ts));
+    definition_bytes = length (level_data max_d (column_definitions ts));
+    repetition_bytes = length (level_data max_r (column_repetitions ts));
     compressed = Some false;
   });
 }
@@ -86,7 +86,7 @@ leaf_body form l ts = body_bytes form l.kind (max_repetition l.path) (max_defini
 
 -- the bytes of its header
 abbrev pub page_head_bytes : PageForm → Leaf → List Triplet → List ℕ
-page_head_bytes form l ts = struct_bytes (page_tree (header_of_page form l ts (length (leaf_body form l ts))))
+page_head_bytes form l ts = struct_bytes (page_tree (header_of_page form (max_repetition l.path) (max_definition l.path) ts (length (leaf_body form l ts))))
 
 -- a page of a leaf
 abbrev pub page_bytes : PageForm → Leaf → List Triplet → List ℕ
