@@ -8,8 +8,8 @@ use Rattle.dr_meaning.specs.Path.{Step, Leaf, is_leaf_path, is_shape_path, same_
 use Rattle.dr_meaning.specs.Record.{Node, no_slots, slot, gap, Instances, no_instances, instance, Instance, atom, inner, count_instances, fits_repetition, all_instances, is_record, is_instance, instances_at, instances_in}
 use Rattle.dr_meaning.specs.Column.{Triplet, triplet, each_later, spread, instance_column, record_column, column}
 use Rattle.dr_meaning.proofs.Blocks.{IsAbove, IsBlock, block-instance}
-use Rattle.dr_formats.specs.Lacking.{outline}
-use Rattle.dr_formats.specs.File.{Footer, leaf_read, column_by}
+use Rattle.dr_formats.specs.Lacking.{leaf_read, outline}
+use Rattle.dr_formats.specs.File.{Footer, column_by}
 use Rattle.dr_formats.specs.LackingLaws.{NothingLacking, OfEach, IsAbsent, AreAbsent, AbsentIsOutline, AbsentIsNull}
 
 pub nothing_lacking : NothingLacking

@@ -13,7 +13,7 @@ use Rattle.dr_formats.specs.LittleEndian.{little_endian}
 use Rattle.dr_formats.specs.Compact.{CompactFault, Struct, read_struct}
 use Rattle.dr_formats.specs.Metadata.{MetaFault, ColumnMeta, ColumnChunk, RowGroup, FileMeta, view_file}
 use Rattle.dr_formats.specs.FileSchema.{FileSchema, file_schema, file_leaves, place_of, open_schema}
-use Rattle.dr_formats.specs.Lacking.{lacking_after, StandIn, stand_in, outline}
+use Rattle.dr_formats.specs.Lacking.{StandIn, Source, own_chunks, no_chunks, chunks_of, source_in, has_source, leaf_read, outline}
 use Rattle.dr_formats.specs.Page.{is_number}
 use Rattle.dr_formats.specs.Chunk.{chunk_triplets}
 
@@ -88,41 +88,13 @@ abbrev pub is_found : Option ℕ → Bool
 is_found None = false
 is_found (Some i) = true
 
--- where the column of a leaf is: in its own chunks; nowhere, since the record itself lacks a part of its path; in the chunks of a leaf that stands in for it
-pub data Source : Type 0 where
-  own_chunks : Source
-  no_chunks : Source
-  chunks_of : StandIn → Source
-
--- where that of a leaf is which a group lacks, to which so many parts of its path lead
-abbrev pub lacking_source : Footer → Leaf → ℕ → Option Source
-lacking_source f l zero = Some no_chunks
-lacking_source f l (suc parts) = option_map chunks_of (stand_in f.schema l (suc parts))
-
--- a leaf that is there has its own; else it is asked where it is lacking
-abbrev pub own_or : Option ℕ → Option Source → Option Source
-own_or (Some i) lacking = Some own_chunks
-own_or None lacking = lacking
-
--- where the column of a leaf is, if the leaf is an open one of the file, or may lack and the record does, or has a stand-in
+-- where the column of a leaf is
 abbrev pub leaf_source : Footer → Leaf → Option Source
-leaf_source f l = own_or (leaf_place f l) (option_and_then (lacking_source f l) (lacking_after l.names l.path f.schema.fields))
-
--- whether there is a source
-abbrev pub has_source : Option Source → Bool
-has_source None = false
-has_source (Some x) = true
+leaf_source f l = source_in f.schema l
 
 -- whether a file has the column of each of these leaves
 abbrev pub has_leaves : Footer → List Leaf → Bool
 has_leaves f F = list_all (λ l. has_source (leaf_source f l)) F
-
--- the leaf whose chunks are read for one with this source, if chunks are
-abbrev pub leaf_read : Leaf → Option Source → List Leaf
-leaf_read l None = []
-leaf_read l (Some own_chunks) = l ∷ []
-leaf_read l (Some no_chunks) = []
-leaf_read l (Some (chunks_of x)) = x.leaf ∷ []
 
 -- the leaves whose chunks are read for these: those that the file has, and stand-ins
 abbrev pub leaves_read : Footer → List Leaf → List Leaf

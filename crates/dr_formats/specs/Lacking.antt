@@ -1,10 +1,10 @@
 -- Older files under a wider schema: which leaf of a schema a file lacks, and which of the file's leaves stands in for it (the merging of schemas that readers
 -- of Apache Parquet do, for fields that are added).
-use Rattle.std.specs.Prelude.{ℕ, zero, suc, List, [], ◌∷◌, map, take, Bool, true, false, ◌&&◌, if◌then◌else◌, bytes_eq, nat_le, min, Option, Some, None, option_map}
+use Rattle.std.specs.Prelude.{ℕ, zero, suc, List, [], ◌∷◌, map, take, Bool, true, false, ◌&&◌, if◌then◌else◌, bytes_eq, nat_le, min, Option, Some, None, option_map, option_and_then}
 use Rattle.dr_meaning.specs.Schema.{Repetition, required, optional, repeated, Kind}
 use Rattle.dr_meaning.specs.Path.{Step, Leaf, same_repetition, max_repetition, max_definition}
 use Rattle.dr_meaning.specs.Column.{Triplet, triplet}
-use Rattle.dr_formats.specs.FileSchema.{FileFields, no_file_fields, file_field, FileShape, file_leaf, file_group, FileSchema, FileLeaf, file_leaves}
+use Rattle.dr_formats.specs.FileSchema.{FileFields, no_file_fields, file_field, FileShape, file_leaf, file_group, FileSchema, FileLeaf, file_leaves, place_of}
 
 -- ---- the group that lacks a part of a leaf's path
 
@@ -74,6 +74,42 @@ pub record StandIn : Type 0 where
 abbrev pub stand_in : FileSchema → Leaf → ℕ → Option StandIn
 stand_in s l parts = option_map (λ (m : Leaf). record { leaf = m; repetition = max_repetition (take parts l.path); definition = max_definition (take parts l.path) })
     (first_open (take parts l.names) (file_leaves s.fields))
+
+-- ---- where the column of a leaf is
+
+-- in its own chunks; nowhere, since the record itself lacks a part of its path; in the chunks of a leaf that stands in for it
+pub data Source : Type 0 where
+  own_chunks : Source
+  no_chunks : Source
+  chunks_of : StandIn → Source
+
+-- of a leaf that a group lacks, to which so many parts of its path lead
+abbrev pub lacking_source : FileSchema → Leaf → ℕ → Option Source
+lacking_source s l zero = Some no_chunks
+lacking_source s l (suc parts) = option_map chunks_of (stand_in s l (suc parts))
+
+-- a leaf that is there has its own; else it is asked where it is lacking
+abbrev pub own_or : Option ℕ → Option Source → Option Source
+own_or (Some i) lacking = Some own_chunks
+own_or None lacking = lacking
+
+-- the source of a leaf in a file of this schema, if the leaf is an open one of the file, or may lack and the record does, or has a stand-in
+abbrev pub source_in : FileSchema → Leaf → Option Source
+source_in s l = own_or (place_of l (file_leaves s.fields)) (option_and_then (lacking_source s l) (lacking_after l.names l.path s.fields))
+
+-- whether there is a source
+abbrev pub has_source : Option Source → Bool
+has_source None = false
+has_source (Some x) = true
+
+-- the leaf whose chunks are read for one with this source, if chunks are
+abbrev pub leaf_read : Leaf → Option Source → List Leaf
+leaf_read l None = []
+leaf_read l (Some own_chunks) = l ∷ []
+leaf_read l (Some no_chunks) = []
+leaf_read l (Some (chunks_of x)) = x.leaf ∷ []
+
+-- ---- what it tells
 
 -- the column of what is lacking in a group, by that of the leaf that stands in: a NULL for each triplet that begins an instance of the group, or of what is on the
 -- path to it, as far as the path is there

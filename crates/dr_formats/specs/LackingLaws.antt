@@ -5,8 +5,8 @@ use Rattle.dr_meaning.specs.Schema.{Fields}
 use Rattle.dr_meaning.specs.Path.{Step, Leaf, is_leaf_path, max_repetition, max_definition}
 use Rattle.dr_meaning.specs.Record.{Node, is_record, Instances, no_instances, instance, Instance, inner, instances_in}
 use Rattle.dr_meaning.specs.Column.{triplet, column}
-use Rattle.dr_formats.specs.Lacking.{outline}
-use Rattle.dr_formats.specs.File.{Footer, leaf_source, own_chunks, leaves_read, file_column, given_column}
+use Rattle.dr_formats.specs.Lacking.{own_chunks, outline}
+use Rattle.dr_formats.specs.File.{Footer, leaf_source, leaves_read, file_column, given_column}
 
 -- leaves that are open ones of the file
 abbrev pub AreThere : Footer → List Leaf → Type 0
