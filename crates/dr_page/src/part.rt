@@ -82,12 +82,7 @@ fn find_parts_v2(shape: &Shape, bytes: &[u8]) -> Result<BodyParts, PageFault>
 }
 
 /// The level part of a V1 page that begins at this place; none where the greatest level is 0.
-fn level_part(
-    bytes: &[u8],
-    start: usize,
-    greatest: u8,
-    encoding: i64,
-) -> Result<Part, PageFault>
+fn level_part(bytes: &[u8], start: usize, greatest: u8, encoding: i64) -> Result<Part, PageFault>
     requires { start ≤ length bytes.now }
     ensures found { IfOk result (λ p. page.level_part greatest encoding (drop start bytes.now)
         ≡ got (part_in bytes.now p) (drop p.end bytes.now)) }
@@ -112,7 +107,8 @@ pub(crate) fn sized_part(bytes: &[u8], start: usize) -> Result<Part, PageFault>
     ensures inside { IfOk result (λ p. IsInside bytes.now p) }
     ensures bad { IfErr result (λ e. WhereBad e (page.sized_part (drop start bytes.now))) }
 {
-    let length = Cut::new(&bytes[start..]).le32()?;
+    let mut cut = Cut::new(&bytes[start..]);
+    let length = cut.le32()?;
     part_at(bytes, start + LENGTH_BYTES, length as usize)
 }
 

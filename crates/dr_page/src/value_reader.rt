@@ -63,7 +63,8 @@ pub(crate) fn read_integers(
     match value_encoding(encoding) {
         Some(ValueEncoding::Plain) => read_plain_integers(kind, count, bytes, out),
         Some(ValueEncoding::Dictionary) => read_picked(dictionary, count, bytes, indices, out),
-        Some(ValueEncoding::Hybrid) | None => Err(PageFault::BadData),
+        Some(ValueEncoding::Hybrid) => Err(PageFault::BadData),
+        None => Err(PageFault::BadData),
     }
 }
 
@@ -116,6 +117,7 @@ pub(crate) fn read_texts<'a>(
             read_picked(&dictionary.places, count, bytes, indices, out)?;
             Ok(&dictionary.bytes)
         }
-        Some(ValueEncoding::Hybrid) | None => Err(PageFault::BadData),
+        Some(ValueEncoding::Hybrid) => Err(PageFault::BadData),
+        None => Err(PageFault::BadData),
     }
 }
