@@ -15,7 +15,7 @@ use Rattle.dr_formats.specs.Metadata.{ColumnMeta, ColumnChunk, RowGroup, file_tr
 use Rattle.dr_formats.specs.FileSchema.{FileSchema, file_leaves, place_of}
 use Rattle.dr_formats.specs.Page.{PageForm, is_triplet}
 use Rattle.dr_formats.specs.Chunk.{pages_triplets, chunk_bytes}
-use Rattle.dr_formats.specs.File.{schema_or_cause, Footer, footer_of, is_found, leaf_place, leaf_source, leaves_read, column_by, given_column, has_leaves, nth_chunk, leaf_chunk, is_uncompressed, are_uncompressed, total, most_rows, most_triplets, rows_agree, chunk_values, values_fit, starts, of_rows, group_column, file_column, AreColumns, magic, is_whole_group, has_no_path}
+use Rattle.dr_formats.specs.File.{schema_or_cause, Footer, footer_of, leaf_place, leaf_source, leaves_read, column_by, given_column, has_leaves, nth_chunk, leaf_chunk, is_uncompressed, are_uncompressed, total, most_rows, most_triplets, rows_agree, chunk_values, values_fit, starts, of_rows, group_column, file_column, AreColumns, magic, is_whole_group, has_no_path}
 use Rattle.dr_formats.specs.Lacking.{own_chunks, has_source, leaf_read}
 use Rattle.dr_formats.specs.Writing.{cut_pages, pages_bytes, record_columns, written_chunk, triplet_count, chunk_at, chunks_from, framed, written_chunks, groups_of, written_meta, written_footer, file_bytes}
 use Rattle.dr_formats.specs.WritingLaws.{all_triplets, ArePages, nth_leaf, AreAmong, FitHeaders, LeavesFit, FitsFile, WrittenFileIsFile}

@@ -1,16 +1,16 @@
 -- Where nothing is lacking, all is as the file's own chunks have it; what is absent in a group has the outline of what is in it.
-use Rattle.std.proofs.Common.{◌≡◌, ℕ, zero, suc, ◌+◌, ◌≤◌, ◌<◌, List, [], ◌∷◌, ◌++◌, map, length, Bool, true, false, ◌&&◌, refl, sym, ap, ap₂, ◌∙◌, subst, arith, true≢false}
-use Rattle.std.specs.Prelude.{Option, Some, None, nat_le, min, if◌then◌else◌, replicate}
+use Rattle.std.proofs.Common.{◌≡◌, ℕ, zero, suc, ◌+◌, ◌≤◌, List, [], ◌∷◌, ◌++◌, Bool, true, false, ◌&&◌, refl, sym, ap, ap₂, ◌∙◌, arith, true≢false}
+use Rattle.std.specs.Prelude.{Option, None, nat_le, min, if◌then◌else◌}
 use Rattle.std.specs.List.{list_all}
 use Rattle.std.proofs.lemmas.Bool.{and_parts, le-leb, lt-leb}
 use Rattle.dr_meaning.specs.Schema.{Repetition, Fields, no_fields, field, Shape, leaf, group, repetition_count, definition_count}
 use Rattle.dr_meaning.specs.Path.{Step, Leaf, is_leaf_path, is_shape_path, same_repetition, max_repetition, max_definition}
-use Rattle.dr_meaning.specs.Record.{Node, no_slots, slot, gap, Instances, no_instances, instance, Instance, atom, inner, count_instances, fits_repetition, all_instances, is_record, is_instance, instances_at, instances_in}
+use Rattle.dr_meaning.specs.Record.{Node, no_slots, slot, gap, Instances, no_instances, instance, Instance, atom, inner, count_instances, fits_repetition, all_instances, is_record, is_instance, instances_at}
 use Rattle.dr_meaning.specs.Column.{Triplet, triplet, each_later, spread, instance_column, record_column, column}
 use Rattle.dr_meaning.proofs.Blocks.{IsAbove, IsBlock, block-instance}
 use Rattle.dr_formats.specs.Lacking.{leaf_read, outline}
-use Rattle.dr_formats.specs.File.{Footer, column_by}
-use Rattle.dr_formats.specs.LackingLaws.{NothingLacking, OfEach, IsAbsent, AreAbsent, AbsentIsOutline, AbsentIsNull}
+use Rattle.dr_formats.specs.File.{column_by}
+use Rattle.dr_formats.specs.LackingLaws.{NothingLacking, OfEach, IsAbsent, AbsentIsOutline, AbsentIsNull}
 
 pub nothing_lacking : NothingLacking
 nothing_lacking bytes f [] h = (refl, refl)

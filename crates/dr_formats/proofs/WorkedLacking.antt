@@ -2,8 +2,8 @@
 use Rattle.std.specs.Prelude.{◌≡◌, ℕ, List, [], ◌∷◌, map, replicate, true, false, pos, Option, Some, None, codes, refl}
 use Rattle.std.specs.Str.{is_utf8, chars}
 use Rattle.dr_meaning.specs.Schema.{Repetition, required, optional, repeated, int64_kind, text_kind, Schema, Fields, no_fields, field, Shape, leaf, group}
-use Rattle.dr_meaning.specs.Path.{Step, Leaf, leaves}
-use Rattle.dr_meaning.specs.Record.{int_value, Node, no_slots, slot, no_instances, single, atom}
+use Rattle.dr_meaning.specs.Path.{Leaf, leaves}
+use Rattle.dr_meaning.specs.Record.{int_value, Node, no_slots, slot, no_instances}
 use Rattle.dr_meaning.specs.Column.{triplet}
 use Rattle.dr_meaning.proofs.WorkedSchemas.{document}
 use Rattle.dr_meaning.proofs.WorkedRecords.{texts, numbers, nodes, record_10, record_20}
@@ -12,7 +12,7 @@ use Rattle.dr_formats.specs.Hybrid.{hybrid, hybrid_bytes}
 use Rattle.dr_formats.specs.Page.{page_triplets, body_bytes}
 use Rattle.dr_formats.specs.FileSchema.{FileFields, no_file_fields, file_field, FileShape, file_leaf, file_group, FileSchema}
 use Rattle.dr_formats.specs.Lacking.{lacking_after, names_begin, stand_in, outline}
-use Rattle.dr_formats.specs.File.{FileCause, bad_schema, bad_codec, HasCause, IsFileOf, footer_of, leaves_read}
+use Rattle.dr_formats.specs.File.{bad_schema, bad_codec, HasCause, IsFileOf, footer_of}
 use Rattle.dr_formats.specs.Writing.{file_bytes}
 use Rattle.dr_formats.specs.Widening.{is_wider, widened}
 use Rattle.dr_formats.proofs.FileLemmas.{known_cause_holds}
