@@ -15,4 +15,4 @@ mod pages;
 mod tests;
 
 pub use column_laws::record_columns_fit;
-pub use file::write_file;
+pub use file::{write_file, write_file_as};
