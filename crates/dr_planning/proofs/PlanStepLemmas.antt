@@ -1,5 +1,5 @@
 -- One more item, and one more number, of a plan.
-use Rattle.std.proofs.Common.{◌≡◌, ℕ, suc, ◌+◌, ◌<◌, ◌^◌, List, [], ◌∷◌, ◌++◌, map, length, get_or, take, Bool, true, false, ◌&&◌, nat_lt, Option, Some, None, refl, sym, ap, ap₂, ◌∙◌, subst, append-nil, add-zero, arith}
+use Rattle.std.proofs.Common.{◌≡◌, ℕ, suc, ◌+◌, ◌<◌, ◌^◌, List, [], ◌∷◌, ◌++◌, map, length, get_or, take, Bool, true, false, ◌&&◌, nat_lt, Option, Some, None, refl, sym, ap, ap₂, ◌∙◌, subst, add-zero, arith}
 use Rattle.std.specs.Prelude.{String}
 use Rattle.std.specs.declared.alloc.Global.{Global}
 use Rattle.std.specs.List.{list_all, filter_map, cons_option, slice_get}
@@ -28,14 +28,11 @@ use Rattle.dr_bound_parts.proofs.BoundLemmas.{covers_parts}
 
 -- ---- loops that make items
 
--- one more item is made, or passed over
-pub made_more : (xs : List BoundItem) (x : BoundItem) (t : RecordItem) (ts : List RecordItem) → ts ≡ filter_map record_item_of xs → Some t ≡ record_item_of x → ts ++ t ∷ [] ≡ filter_map record_item_of (xs ++ x ∷ [])
-made_more xs x t ts h e = ap (λ (us : List RecordItem). us ++ t ∷ []) h
-    ∙ (ap (λ (o : Option RecordItem). filter_map record_item_of xs ++ cons_option o []) e ∙ sym (filter_map-append record_item_of xs (x ∷ [])))
-
-pub made_past : (xs : List BoundItem) (x : BoundItem) (ts : List RecordItem) → ts ≡ filter_map record_item_of xs → None ≡ record_item_of x → ts ≡ filter_map record_item_of (xs ++ x ∷ [])
-made_past xs x ts h e = h
-    ∙ (sym (append-nil (filter_map record_item_of xs)) ∙ (ap (λ (o : Option RecordItem). filter_map record_item_of xs ++ cons_option o []) e ∙ sym (filter_map-append record_item_of xs (x ∷ []))))
+-- one more item is made, if it can be
+pub made_more : (xs : List BoundItem) (x : BoundItem) (o : Option RecordItem) (ts us : List RecordItem) → ts ≡ filter_map record_item_of xs → o ≡ record_item_of x → us ≡ ts ++ cons_option o []
+    → us ≡ filter_map record_item_of (xs ++ x ∷ [])
+made_more xs x o ts us h e p = p
+    ∙ (ap₂ (λ (vs : List RecordItem) (q : Option RecordItem). vs ++ cons_option q []) h e ∙ sym (filter_map-append record_item_of xs (x ∷ [])))
 
 aggregate_first : (o : Option Grouped) (ags bs : List Aggregate) → with_aggregate o (ags ++ bs) ≡ with_aggregate o ags ++ bs
 aggregate_first None ags bs = refl

@@ -57,17 +57,24 @@ fn group_term(keys: &[BoundPath], term: BoundTerm) -> Result<Option<Grouped>, No
     ensures { IfOk result (λ o. o ≡ plan.grouped_of keys.now term) }
 {
     match term {
-        BoundTerm::Value(value) => match key_number(keys, &value)? {
-            None => Ok(None),
-            Some(number) => Ok(Some(Grouped::Key(number))),
-        },
+        BoundTerm::Value(value) => {
+            let number = key_number(keys, &value);
+            drop(value);
+            match number? {
+                None => Ok(None),
+                Some(number) => Ok(Some(Grouped::Key(number))),
+            }
+        }
         BoundTerm::Rows(within) => match within {
             None => Ok(Some(Grouped::Aggregate(Aggregate::Rows))),
             Some(_) => Ok(None),
         },
         BoundTerm::Aggregated(fold, argument, within) => match within {
             None => Ok(Some(Grouped::Aggregate(Aggregate::Of(fold, argument.expression)))),
-            Some(_) => Ok(None),
+            Some(_) => {
+                drop(argument);
+                Ok(None)
+            }
         },
     }
 }
@@ -91,9 +98,9 @@ fn push_grouped(
             Ok(())
         }
         Some(Grouped::Aggregate(aggregate)) => {
-            let number = narrow(aggregates.len())?;
+            let number = aggregates.len();
             aggregates.push(aggregate)?;
-            let term = GroupTerm::Aggregate(number);
+            let term = GroupTerm::Aggregate(narrow(number)?);
             items.push(GroupItem { name, term })?;
             Ok(())
         }

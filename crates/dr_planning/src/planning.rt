@@ -91,6 +91,7 @@ pub fn plan_of(
         → map path_view leaves.items ≡ used.query_leaves fs (binding.query_of
         b) → plan_view p ≡ planned fs (binding.query_of b)) }
 {
+    let condition = cut_condition(alloc, parts.condition)?;
     let is_record_query = parts.is_record_query;
     let keys = parts.keys;
     let selection = selected(
@@ -101,7 +102,6 @@ pub fn plan_of(
         keys.as_slice(),
         parts.items,
     )?;
-    let condition = cut_condition(alloc, parts.condition)?;
     Ok(Plan {
         leaves,
         test: condition.test,

@@ -1,7 +1,7 @@
 //! What a record query selects.
 
-ghost use Rattle.std.specs.Prelude.{◌≡◌, map, IfOk, option_map};
-ghost use Rattle.std.specs.List.{filter_map};
+ghost use Rattle.std.specs.Prelude.{◌≡◌, ◌++◌, [], map, IfOk, OnOk, option_map};
+ghost use Rattle.std.specs.List.{cons_option, filter_map};
 ghost use Rattle.dr_nested.specs.PathView.{lent_path};
 ghost use Rattle.dr_planning.specs.NamedLevels.{levels_view};
 ghost use Rattle.dr_planning.specs.Planning as plan;
@@ -21,9 +21,15 @@ fn record_term(term: BoundTerm) -> Option<RecordTerm>
 {
     match term {
         BoundTerm::Value(value) => Some(RecordTerm::Value(value.expression)),
-        BoundTerm::Rows(_) => None,
+        BoundTerm::Rows(within) => {
+            drop(within);
+            None
+        }
         BoundTerm::Aggregated(fold, argument, within) => match within {
-            None => None,
+            None => {
+                drop(argument);
+                None
+            }
             Some(within) => Some(RecordTerm::Within(Within {
                 fold,
                 argument: argument.expression,
@@ -44,16 +50,26 @@ fn record_item(item: BoundItem) -> Option<RecordItem>
     }
 }
 
+/// Appends what could be made.
+fn push_made<T: Drop>(made: &mut Vec<T>, item: Option<T>) -> Result<(), NoMemory>
+    ensures { OnOk result ((made.new).items ≡ (made.old).items ++ cons_option item []) }
+{
+    match item {
+        None => Ok(()),
+        Some(item) => {
+            made.push(item)?;
+            Ok(())
+        }
+    }
+}
+
 /// The items of a record query.
 fn record_items(alloc: Global, items: Vec<BoundItem>) -> Result<Vec<RecordItem>, NoMemory>
     ensures { IfOk result (λ v. v.items ≡ filter_map plan.record_item_of items.items) }
 {
     let mut made = Vec::new(alloc);
     'items: for item in items {
-        match record_item(item) {
-            None => {}
-            Some(item) => made.push(item)?,
-        }
+        push_made(&mut made, record_item(item))?;
     }
     Ok(made)
 }

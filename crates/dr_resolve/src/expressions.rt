@@ -11,6 +11,7 @@ ghost use Rattle.dr_bound_parts.specs.Bound.{IsExpression};
 ghost use Rattle.dr_resolve.specs.Outcomes.{BindsAs, BindsExpression, MadeAt, bound_in, fields_in, leaves_in};
 ghost use Rattle.dr_resolve.specs.Operators.{unary_type, unary_of, binary_type, binary_of};
 
+use crate::beside::beside;
 use crate::names::Binder;
 use crate::operators::{Binary, Unary};
 use dr_bound_parts::{BindProblem, BoundExpression, FirstFault};
@@ -123,7 +124,7 @@ fn binary(
         return Ok(None);
     };
     let made = operator.apply(alloc, left.expression, right.expression)?;
-    let paths = joined_paths(left.paths, right.paths)?;
+    let (made, paths) = beside(made, joined_paths(left.paths, right.paths))?;
     Ok(made_at(place, made, paths, first))
 }
 
@@ -215,7 +216,7 @@ impl Binder<'_> {
             (bound_in self.entry right.now))) }
     {
         let left = self.expression(left, first)?;
-        let right = self.expression(right, first)?;
+        let (left, right) = beside(left, self.expression(right, first))?;
         binary(self.alloc, place, operator, left, right, first)
     }
 }

@@ -12,6 +12,7 @@ ghost use Rattle.dr_bound_parts.specs.Items.{AreItems, IsItem};
 ghost use Rattle.dr_resolve.specs.Outcomes.{present};
 ghost use Rattle.dr_sql.specs.Views.{lent};
 
+use crate::beside::beside;
 use crate::names::Binder;
 use dr_bound_parts::{BoundExpression, BoundItem, FirstFault};
 use dr_memory::NoMemory;
@@ -107,7 +108,7 @@ impl Binder<'_> {
         match self.term(place, &item.term, alone, first)? {
             None => Ok(None),
             Some(term) => {
-                let name = item_name(self.alloc, number, item)?;
+                let (term, name) = beside(term, item_name(self.alloc, number, item))?;
                 Ok(Some(BoundItem { place, name, term }))
             }
         }

@@ -1,6 +1,7 @@
 //! Binding the parts of a query, each by itself: names become leaves of a schema, and expressions get types.
 #![tactic(auto)]
 
+mod beside;
 mod expressions;
 mod items;
 mod names;

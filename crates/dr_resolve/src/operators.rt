@@ -9,6 +9,7 @@ ghost use Rattle.dr_sql.specs.Views.{comparison_view};
 ghost use Rattle.dr_bound_parts.specs.Bound.{type_of};
 ghost use Rattle.dr_resolve.specs.Operators.{unary_type, unary_of, binary_type, binary_of, IsOver, FitsWhere};
 
+use crate::beside::beside;
 use dr_memory::NoMemory;
 use dr_plan::{Expr, Number, TextOf, Truth};
 use dr_sql::unquoted;
@@ -59,7 +60,10 @@ impl Unary<'_> {
         match self {
             Unary::IsNull => Ok(Some(Expr::Truth(Truth::is_null(alloc, operand)?))),
             Unary::Not => Ok(Some(Expr::Truth(Truth::negation(alloc, operand)?))),
-            Unary::Negative | Unary::Like(_) | Unary::Contains(_) => Ok(None),
+            Unary::Negative | Unary::Like(_) | Unary::Contains(_) => {
+                drop(operand);
+                Ok(None)
+            }
         }
     }
 
@@ -72,7 +76,10 @@ impl Unary<'_> {
         match self {
             Unary::Negative => Ok(Some(Expr::Number(Number::negative(alloc, operand)?))),
             Unary::IsNull => Ok(Some(Expr::Truth(Truth::NumberIsNull(operand)))),
-            Unary::Like(_) | Unary::Contains(_) | Unary::Not => Ok(None),
+            Unary::Like(_) | Unary::Contains(_) | Unary::Not => {
+                drop(operand);
+                Ok(None)
+            }
         }
     }
 
@@ -84,15 +91,18 @@ impl Unary<'_> {
     {
         match self {
             Unary::Like(pattern) => {
-                let pattern = unquoted(alloc, pattern)?;
+                let (operand, pattern) = beside(operand, unquoted(alloc, pattern))?;
                 Ok(Some(Expr::Truth(Truth::Like(operand, pattern))))
             }
             Unary::Contains(part) => {
-                let part = unquoted(alloc, part)?;
+                let (operand, part) = beside(operand, unquoted(alloc, part))?;
                 Ok(Some(Expr::Truth(Truth::Contains(operand, part))))
             }
             Unary::IsNull => Ok(Some(Expr::Truth(Truth::TextIsNull(operand)))),
-            Unary::Negative | Unary::Not => Ok(None),
+            Unary::Negative | Unary::Not => {
+                drop(operand);
+                Ok(None)
+            }
         }
     }
 }
@@ -111,15 +121,24 @@ impl Binary {
         match left {
             Expr::Truth(left) => match right {
                 Expr::Truth(right) => self.of_truths(alloc, left, right),
-                Expr::Number(_) | Expr::Text(_) => Ok(None),
+                Expr::Number(_) | Expr::Text(_) => {
+                    drop((left, right));
+                    Ok(None)
+                }
             },
             Expr::Number(left) => match right {
                 Expr::Number(right) => self.of_numbers(alloc, left, right),
-                Expr::Truth(_) | Expr::Text(_) => Ok(None),
+                Expr::Truth(_) | Expr::Text(_) => {
+                    drop((left, right));
+                    Ok(None)
+                }
             },
             Expr::Text(left) => match right {
                 Expr::Text(right) => self.of_texts(alloc, left, right),
-                Expr::Truth(_) | Expr::Number(_) => Ok(None),
+                Expr::Truth(_) | Expr::Number(_) => {
+                    drop((left, right));
+                    Ok(None)
+                }
             },
         }
     }
@@ -137,7 +156,10 @@ impl Binary {
                 let operator = comparison_of(operator);
                 Ok(Some(Expr::Truth(Truth::comparison(alloc, operator, left, right)?)))
             }
-            Binary::Arithmetic(_) => Ok(None),
+            Binary::Arithmetic(_) => {
+                drop((left, right));
+                Ok(None)
+            }
         }
     }
 
@@ -166,7 +188,10 @@ impl Binary {
                 let operator = comparison_of(operator);
                 Ok(Some(Expr::Truth(Truth::Numbers(operator, left, right))))
             }
-            Binary::And | Binary::Or => Ok(None),
+            Binary::And | Binary::Or => {
+                drop((left, right));
+                Ok(None)
+            }
         }
     }
 
@@ -184,7 +209,10 @@ impl Binary {
                 let operator = comparison_of(operator);
                 Ok(Some(Expr::Truth(Truth::Texts(operator, left, right))))
             }
-            Binary::Arithmetic(_) | Binary::And | Binary::Or => Ok(None),
+            Binary::Arithmetic(_) | Binary::And | Binary::Or => {
+                drop((left, right));
+                Ok(None)
+            }
         }
     }
 }

@@ -9,6 +9,7 @@ ghost use Rattle.dr_bound_parts.specs.Faults.{earlier, first_view};
 ghost use Rattle.dr_resolve.specs.Outcomes.{fields_in, leaves_in};
 ghost use Rattle.dr_bound_parts.specs.Parts.{AreParts};
 
+use crate::beside::beside;
 use crate::names::Binder;
 use dr_bound_parts::{BoundParts, FirstFault};
 use dr_memory::NoMemory;
@@ -57,8 +58,11 @@ impl Binder<'_> {
     {
         let condition = self.condition(&query.condition, first)?;
         let mut arguments = Vec::new(self.alloc);
-        let items = self.items(&query.items, &mut arguments, first)?;
-        let keys = self.keys(&query.keys, first)?;
+        let (condition, items) = beside(
+            condition,
+            self.items(&query.items, &mut arguments, first),
+        )?;
+        let (condition, keys) = beside(condition, self.keys(&query.keys, first))?;
         let has_all_keys = keys.len() == query.keys.len();
         let is_record_query = is_record_query(query);
         Ok(BoundParts {

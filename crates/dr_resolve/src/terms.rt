@@ -13,6 +13,7 @@ ghost use Rattle.dr_bound_parts.specs.Bound.{IsExpression, type_of};
 ghost use Rattle.dr_resolve.specs.Outcomes.{Appends, BindsAs, fields_in, leaves_in};
 ghost use Rattle.dr_bound_parts.specs.Items.{IsCondition, IsTerm, IsTruth, IsWithin};
 
+use crate::beside::beside;
 use crate::names::Binder;
 use crate::resolving::{End, Found, resolve};
 use dr_bound_parts::{
@@ -47,6 +48,7 @@ fn number_at(
             if is_number(&value.expression) {
                 Some(value)
             } else {
+                drop(value);
                 first.note(place, BindProblem::TypeMismatch);
                 None
             }
@@ -76,10 +78,12 @@ fn truth_at(
             match expression {
                 Expr::Truth(truth) => Some(BoundCondition { truth, paths }),
                 Expr::Number(_) => {
+                    drop(expression);
                     first.note(place, BindProblem::TypeMismatch);
                     None
                 }
                 Expr::Text(_) => {
+                    drop(expression);
                     first.note(place, BindProblem::TypeMismatch);
                     None
                 }
@@ -270,7 +274,7 @@ impl Binder<'_> {
             },
             Term::Aggregate(aggregate, argument, within) => {
                 let argument = self.argument(*aggregate, place, argument, first)?;
-                let within = self.within(within, first)?;
+                let (argument, within) = beside(argument, self.within(within, first))?;
                 aggregated(fold_of(*aggregate), argument, within, alone)
             }
         }
