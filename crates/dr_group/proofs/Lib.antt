@@ -22,6 +22,8 @@ pub mod FinishLemmas
 pub mod RowLemmas
 -- partials of a plan
 pub mod PartialLemmas
+-- the partial of rows without keys
+pub mod RowPartialLemmas
 -- accumulators of two groups
 pub mod JoinLemmas
 -- merging from the fronts

@@ -58,7 +58,7 @@ term_gathers ls xs (TermOfPlan.Aggregate a) us gs e =
     ap₂ (λ (x : Option query.Aggregate) (ys : List (Option query.Aggregate)). x ∷ ys) (sym (found_gathers ls xs a)) e
     ∙ sym (with_one (found_term (slice_get (map (aggregate_view ls) xs) a)) us (found_is (map (aggregate_view ls) xs) a (views_are ls xs)))
 
-items_gather : (ls : List Leaf) (xs : List Aggregate) (items : List ItemOfPlan) → item_gatherings xs items ≡ gatherings_of (map (group_item_view (map (aggregate_view ls) xs)) items)
+pub items_gather : (ls : List Leaf) (xs : List Aggregate) (items : List ItemOfPlan) → item_gatherings xs items ≡ gatherings_of (map (group_item_view (map (aggregate_view ls) xs)) items)
 items_gather ls xs [] = refl
 items_gather ls xs (i ∷ items) =
     term_gathers ls xs i.term (aggregates_among (map (group_item_view (map (aggregate_view ls) xs)) items)) (item_gatherings xs items) (items_gather ls xs items)

@@ -20,6 +20,7 @@ pub mod Rows
 pub mod PlanGatherings
 -- partials
 pub mod Partials
+pub mod RowPartials
 -- whose turn it is in merging
 pub mod Turns
 -- merging

@@ -5,7 +5,8 @@ ghost use Rattle.dr_meaning.specs.Query.{integer_sum, smaller, larger};
 ghost use Rattle.dr_levels.specs.Views.{lent_value};
 ghost use Rattle.dr_partials.specs.Accumulators.{join_options, take_row, take_value};
 ghost use Rattle.dr_group.specs.Views.{accumulator_view, lent_cell, cell_view};
-ghost use Rattle.dr_group.specs.Gathering.{Becomes, empty_of, take_by};
+ghost use Rattle.dr_group.specs.Gathering.{Becomes, empty_of, gathering_view, take_by};
+ghost use Rattle.dr_group.specs.RowPartials.{gathered_of_rows};
 
 use crate::gathering::Gathering;
 use crate::orders::value_order;
@@ -35,6 +36,16 @@ impl Accumulator {
             Gathering::Values(Fold::Sum) => Accumulator::Sum(None),
             Gathering::Values(Fold::Least) => Accumulator::Least(None),
             Gathering::Values(Fold::Greatest) => Accumulator::Greatest(None),
+        }
+    }
+
+    /// Of so many rows, of which no value is taken.
+    pub(crate) fn of_rows(gathering: Gathering, rows: u64) -> Accumulator
+        ensures { accumulator_view result ≡ gathered_of_rows rows (gathering_view gathering) }
+    {
+        match gathering {
+            Gathering::Rows => Accumulator::Count(rows),
+            Gathering::Values(_) => Accumulator::new(gathering),
         }
     }
 

@@ -2,8 +2,9 @@
 
 ghost use Rattle.std.specs.Prelude.{◌≡◌, IfOk, map, option_map};
 ghost use Rattle.dr_group.specs.Views.{lent_cell, cell_view};
-ghost use Rattle.dr_group.specs.Gathering.{Becomes, taken_by, new_group_by, empty_of};
+ghost use Rattle.dr_group.specs.Gathering.{Becomes, taken_by, new_group_by, empty_of, gathering_view};
 ghost use Rattle.dr_group.specs.Groups.{accumulators_view, group_view, taken_view, put_view};
+ghost use Rattle.dr_group.specs.RowPartials.{gathered_of_rows};
 
 use crate::accumulator::Accumulator;
 use crate::gathering::Gathering;
@@ -79,6 +80,22 @@ pub fn empty_accumulators(
     let mut accumulators = Vec::with_capacity(alloc, gatherings.len())?;
     'gatherings: for gathering in gatherings {
         accumulators.push(Accumulator::new(*gathering))?;
+    }
+    Ok(accumulators)
+}
+
+/// The accumulators of a group of so many rows, of which no value is taken.
+pub fn accumulators_of_rows(
+    alloc: Global,
+    gatherings: &[Gathering],
+    rows: u64,
+) -> Result<Vec<Accumulator>, NoMemory>
+    ensures { IfOk result (λ v. accumulators_view v.items
+        ≡ map (gathered_of_rows rows) (map gathering_view gatherings.now)) }
+{
+    let mut accumulators = Vec::with_capacity(alloc, gatherings.len())?;
+    'gatherings: for gathering in gatherings {
+        accumulators.push(Accumulator::of_rows(*gathering, rows))?;
     }
     Ok(accumulators)
 }

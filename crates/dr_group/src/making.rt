@@ -6,9 +6,10 @@ ghost use Rattle.dr_group.specs.Gathering.{gathering_view, empty_of};
 ghost use Rattle.dr_group.specs.PlanGatherings.{item_gatherings, with_gathering, found_gathering};
 ghost use Rattle.dr_group.specs.Groups.{keyless_group};
 ghost use Rattle.dr_group.specs.Maps.{groups_view, gatherings_view};
+ghost use Rattle.dr_group.specs.RowPartials.{gathered_of_rows};
 
 use crate::gathering::Gathering;
-use crate::group::{Group, empty_accumulators};
+use crate::group::{Group, accumulators_of_rows, empty_accumulators};
 use crate::group_map::GroupMap;
 use crate::index::Index;
 use dr_memory::NoMemory;
@@ -34,6 +35,30 @@ impl GroupMap {
             let accumulators = empty_accumulators(alloc, &gatherings)?;
             groups.push(Group { keys, accumulators })?;
         }
+        Ok(GroupMap {
+            gatherings,
+            groups,
+            index: Index::new(alloc),
+            hint: 0,
+        })
+    }
+
+    /// The one group of so many rows, without keys.
+    ///
+    /// Errors: want of memory alone.
+    pub(crate) fn of_rows(
+        alloc: Global,
+        gatherings: Vec<Gathering>,
+        rows: u64,
+    ) -> Result<GroupMap, NoMemory>
+        ensures groups { IfOk result (λ m. groups_view m
+            ≡ keyless_group (map (gathered_of_rows rows) (map gathering_view gatherings.items)) ∷ []) }
+        ensures gatherings { IfOk result (λ m. gatherings_view m ≡ map gathering_view gatherings.items) }
+    {
+        let keys = Vec::new(alloc);
+        let accumulators = accumulators_of_rows(alloc, &gatherings, rows)?;
+        let mut groups = Vec::new(alloc);
+        groups.push(Group { keys, accumulators })?;
         Ok(GroupMap {
             gatherings,
             groups,

@@ -14,6 +14,7 @@ ghost use Rattle.dr_group.specs.Gathering.{Becomes};
 ghost use Rattle.dr_group.specs.Groups.{put_view};
 ghost use Rattle.dr_group.specs.Maps.{groups_view};
 ghost use Rattle.dr_group.specs.Partials.{partial_view, IsPartialOf, AreAlike};
+ghost use Rattle.dr_group.specs.RowPartials.{partial_of_rows};
 ghost use Rattle.dr_group.specs.Rows.{group_rows, AllAggregates};
 
 use crate::group::Taken;
@@ -49,6 +50,24 @@ impl Partial {
                 let gatherings = gatherings_of(alloc, items, aggregates)?;
                 let has_keys = !keys.is_empty();
                 Ok(Partial::Groups(GroupMap::new(alloc, has_keys, gatherings)?))
+            }
+        }
+    }
+
+    /// The partial of so many rows of a plan of groups without keys: COUNT(*) has counted them, and any other aggregate
+    /// has taken nothing. Of objects it has no lines.
+    ///
+    /// Errors: want of memory alone.
+    pub fn of_rows(alloc: Global, plan: &Plan, rows: u64) -> Result<Partial, NoMemory>
+        ensures partial { IfOk result (λ p. partial_view p
+            ≡ partial_of_rows rows (planned_query (plan_view plan.now))) }
+        ensures of_plan { IfOk result (λ p. IsPartialOf (plan_view plan.now) p) }
+    {
+        match &plan.selection {
+            Selection::Objects(_, _) => Partial::empty(alloc, plan),
+            Selection::Groups(_, aggregates, items) => {
+                let gatherings = gatherings_of(alloc, items, aggregates)?;
+                Ok(Partial::Groups(GroupMap::of_rows(alloc, gatherings, rows)?))
             }
         }
     }

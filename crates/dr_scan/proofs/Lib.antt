@@ -6,6 +6,8 @@ pub mod ProjectionLemmas
 pub mod ColumnLemmas
 -- the partial of groups along a walk over columns
 pub mod GroupLemmas
+-- the partial of records of which no leaf is read
+pub mod RowLemmas
 -- the partial of a file's records
 pub mod ScanLemmas
 -- the copies of one tablet

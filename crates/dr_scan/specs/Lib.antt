@@ -1,3 +1,5 @@
+-- aggregates that count rows
+pub mod RowCounts
 -- what columns, a file, a tablet and tablets give
 pub mod OfColumns
 pub mod Scans

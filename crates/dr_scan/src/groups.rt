@@ -1,4 +1,4 @@
-//! The groups of the records that columns have, made of the moves of their walk.
+//! The groups of the records that columns have.
 
 ghost use Rattle.std.specs.Prelude.{◌≡◌, length, IfOk, IsErrOf};
 ghost use Rattle.dr_nested.specs.SchemaView.{schema_view};
@@ -9,17 +9,17 @@ ghost use Rattle.dr_group.specs.Partials.{IsPartialOf, partial_view};
 ghost use Rattle.dr_walk.specs.declared.fault.AssembleFault.{AssembleFault};
 ghost use Rattle.dr_scan.specs.OfColumns.{IsOfColumns, NoneHasLeaves};
 
-use crate::cursors::{cursors_of, steps_of};
+use crate::moves::groups_of_moves;
+use crate::rows::groups_of_rows;
 use dr_group::Partial;
 use dr_nested::Schema;
 use dr_plan::{Aggregate, GroupItem, Plan};
 use dr_tablets::FileColumns;
-use dr_walk::{Advance, AssembleFault, ColumnWalk, check_columns};
-use dr_within::PlanScan;
+use dr_walk::AssembleFault;
 use std::alloc::Global;
 
 /// The partial of a plan of groups, which has these keys, aggregates and items, of so many records with these columns,
-/// one for each leaf of the plan. Where the condition keeps no record, the columns are checked alone.
+/// one for each leaf of the plan. Of records of which no leaf is read it is made without a walk, where that can be.
 ///
 /// Errors: `BadData` where no such records have these columns; want of memory, or of room for the partial.
 pub(crate) fn groups_of_columns(
@@ -40,20 +40,9 @@ pub(crate) fn groups_of_columns(
     ensures none { IsErrOf result AssembleFault.BadData → NoneHasLeaves (schema_view schema.now) plan.now
         (columns_view (file.now).columns.items) (file.now).rows }
 {
-    let fields = steps_of(alloc, &plan.leaves)?;
-    let columns = cursors_of(alloc, &file.columns)?;
-    let Some(mut groups) = PlanScan::start(alloc, schema, plan, keys, aggregates, items)? else {
-        check_columns(alloc, schema, &fields, &columns, file.rows)?;
-        return Ok(Partial::empty(alloc, plan)?);
-    };
-    let mut walk = ColumnWalk::start(alloc, schema, &fields, &columns, file.rows)?;
-    // No memory holds columns, or records, of more moves.
-    'moves: for _ in 0..u64::MAX {
-        match walk.next()? {
-            Advance::Heard => {}
-            Advance::Gave(read) => groups.step(alloc, &read)?,
-            Advance::Ended => return Ok(groups.close(alloc)?),
-        }
+    if plan.leaves.is_empty() {
+        groups_of_rows(alloc, schema, plan, keys, aggregates, items, file)
+    } else {
+        groups_of_moves(alloc, schema, plan, keys, aggregates, items, file)
     }
-    Err(AssembleFault::NoMemory)
 }

@@ -6,6 +6,8 @@ mod columns;
 mod cursors;
 mod groups;
 pub mod laws;
+mod moves;
+mod rows;
 mod scanning;
 mod tablet;
 

@@ -9,16 +9,20 @@ pub mod FiredLemmas
 pub mod GreatestLemmas
 pub mod LeavesBelow
 pub mod ReadRows
+-- tests in parts
+pub mod PartedLemmas
 -- the readings of a plan of groups, and its condition
 pub mod PlanAggregates
 pub mod PlanReadings
 pub mod PlanCondition
+pub mod PlanParts
 -- what a scan makes over the walk of records
 pub mod ScanPartial
 -- what was made in open branches
 pub mod FramingLemmas
--- what a pruner tells
+-- what a pruner tells, and what is known by its numbers
 pub mod WatchingLemmas
+pub mod SettledLemmas
 -- a scan behind one more move
 pub mod BehindLemmas
 pub mod StepLemmas

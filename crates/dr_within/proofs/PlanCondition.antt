@@ -1,14 +1,14 @@
 -- The tests of a plan, watched, are the condition of the query that it runs.
 use Rattle.std.proofs.Common.{◌≡◌, ℕ, zero, suc, List, [], ◌∷◌, map, Bool, true, false, ◌&&◌, Option, Some, None}
-use Rattle.std.proofs.Common.{refl, sym, ap, ap₂, subst, ◌∙◌, append-nil, append_assoc}
-use Rattle.std.specs.Prelude.{if◌then◌else◌, Ok}
+use Rattle.std.proofs.Common.{refl, sym, ap, ap₂, subst, ◌∙◌, append-nil, append_assoc, true≢false}
+use Rattle.std.specs.Prelude.{Ok, option_map}
 use Rattle.std.specs.List.{list_all, flat_map, slice_get}
 use Rattle.std.proofs.lemmas.List.Folds.{list_all-append}
 use Rattle.dr_meaning.specs.Schema.{Schema, Fields}
 use Rattle.dr_meaning.specs.Path.{Step, Leaf, paths_of_leaves, chain_end}
-use Rattle.dr_meaning.specs.Record.{Node, is_record}
-use Rattle.dr_meaning.specs.Expression.{Expression, conjunction, evaluate, is_true, paths_of, longest_chain}
-use Rattle.dr_meaning.specs.Kept.{kept, kept_along}
+use Rattle.dr_meaning.specs.Record.{Node, Instances, no_instances, instance, Instance, atom, inner, single, instances_at, put_at, is_record}
+use Rattle.dr_meaning.specs.Expression.{Expression, conjunction, evaluate, expression_chain, is_true, paths_of, longest_chain}
+use Rattle.dr_meaning.specs.Kept.{with_kept, keep_each, if_some_kept, keep_below, keep_instance, kept, kept_along}
 use Rattle.dr_meaning.specs.Query.{Query}
 use Rattle.dr_meaning.specs.QueryLeaves.{query_leaves}
 use Rattle.dr_meaning.specs.Syntax.{QuerySyntax}
@@ -31,17 +31,17 @@ use Rattle.dr_plan.specs.Views.{truth_view}
 use Rattle.dr_plan.specs.declared.expression.Truth.{Truth}
 use Rattle.dr_plan.specs.declared.plan.Plan.{Plan}
 use Rattle.dr_plan.proofs.ConjunctLemmas.{true_where_each_is, conjuncts_have_paths}
-use Rattle.dr_scalar.specs.Leaves.{greater, greatest, tests_leaves}
-use Rattle.dr_scalar.specs.LeafLaws.{SameRead}
+use Rattle.dr_scalar.specs.Leaves.{greatest, tests_leaves}
 use Rattle.dr_scalar.specs.OverSlots.{tests_over}
 use Rattle.dr_scalar.specs.Tests.{all_true}
 use Rattle.dr_scalar.proofs.LeafPathLemmas.{test_leaves_are_paths}
 use Rattle.dr_scalar.proofs.SameReadLemmas.{same_test_leaves_tell}
 use Rattle.dr_scalar.proofs.TestLemmas.{tests_mean}
-use Rattle.dr_within.specs.Watching.{watch_tests}
 use Rattle.dr_within.specs.Behind.{read_of}
+use Rattle.dr_within.specs.Parted.{constants_hold}
 use Rattle.dr_within.proofs.GreatestLemmas.{same_greatest}
 use Rattle.dr_within.proofs.LeavesBelow.{are_below, test_leaves_below}
+use Rattle.dr_within.proofs.PartedLemmas.{no_greatest, constants_true, never_true}
 use Rattle.dr_within.proofs.ReadRows.{same_paths, below_paths, row_is_read, all_are_read, AreLeavesOf, plan_leaves_are, rows_typed}
 
 -- ---- conjuncts, joined
@@ -80,12 +80,12 @@ related_conjuncts s x q h = by_condition q.condition refl
     by_condition (Some c) e = ap all_related (conjuncts_have_paths c) ∙ condition_is_related s x q c h e
 
 -- tests of leaves of a query, which fit; what they read is related
-record AreTests (fs : Fields) (ls : List Leaf) (ts : List Truth) : Type 0 where
-  of_query : AreLeavesOf fs ls
-  fit : list_all (truth_fits ls) ts ≡ true
-  related : all_related (paths_at (paths_of_leaves ls) (tests_leaves ts)) ≡ true
+pub record AreTests (fs : Fields) (ls : List Leaf) (ts : List Truth) : Type 0 where
+  pub of_query : AreLeavesOf fs ls
+  pub fit : list_all (truth_fits ls) ts ≡ true
+  pub related : all_related (paths_at (paths_of_leaves ls) (tests_leaves ts)) ≡ true
 
-plan_tests : (s : Schema) (q : Query) (p : Plan) → IsPlanOf s q p → AreTests s.fields (plan_leaves p) p.test.items
+pub plan_tests : (s : Schema) (q : Query) (p : Plan) → IsPlanOf s q p → AreTests s.fields (plan_leaves p) p.test.items
 plan_tests s q p h =
     let ls = plan_leaves p in
     record {
@@ -112,6 +112,10 @@ test_paths ls t ts =
     ∙ (test_leaves_are_paths ls (t ∷ ts) ∙ sym (joined_paths (truth_view ls t) (map (truth_view ls) ts)))
 
 -- ---- they are watched
+
+-- as one test, with this chain, of whose leaves this is the last
+abbrev pub watch_tests : List ℕ → ℕ → List Truth → Watch
+watch_tests chain last ts = record { chain = chain; last = last; test = λ c. tests_over c ts }
 
 -- a watch of these tests stands for them
 abbrev Stands : Fields → List Leaf → Type 0
@@ -173,27 +177,49 @@ plan_watches s q p h last g chain c = tests_watch s.fields (plan_leaves p) p.tes
 
 -- ---- without leaves
 
-no_greatest : (K : List ℕ) → greatest K ≡ None → K ≡ []
-no_greatest [] e = refl
-no_greatest (k ∷ K) e = by_rest (greatest K) e
-  where
-    by_rest : (o : Option ℕ) → greater (Some k) o ≡ None → k ∷ K ≡ []
-    by_rest None e = absurd (cc)
-    by_rest (Some m) e = absurd (cc)
-
-tests_constant : (fs : Fields) (ls : List Leaf) (ts : List Truth) → AreTests fs ls ts → greatest (tests_leaves ts) ≡ None
-    → (n : Node) → is_record fs n ≡ true
-    → kept (all_of (map (truth_view ls) ts)) n ≡ (if tests_over (λ i. None) ts then Some n else None)
-tests_constant fs ls [] a g n r = refl
-tests_constant fs ls (t ∷ ts) a g n r =
+tests_constant : (fs : Fields) (ls : List Leaf) (ts : List Truth) → AreTests fs ls ts → greatest (tests_leaves ts) ≡ None → constants_hold ts ≡ true
+    → (n : Node) → is_record fs n ≡ true → kept (all_of (map (truth_view ls) ts)) n ≡ Some n
+tests_constant fs ls [] a g b n r = refl
+tests_constant fs ls (t ∷ ts) a g b n r =
     let none : tests_leaves (t ∷ ts) ≡ [] = no_greatest (tests_leaves (t ∷ ts)) g in
     let e = joined (truth_view ls t) (map (truth_view ls) ts) in
-    constant_conditions fs e (tests_over (λ i. None) (t ∷ ts))
+    constant_conditions fs e true
     (sym (test_paths ls t ts) ∙ ap (paths_at (paths_of_leaves ls)) none)
-    (λ row h. same_test_leaves_tell (t ∷ ts) (λ i. None) (read_of ls row)
-    (subst (λ (K : List ℕ). SameRead K (λ i. None) (read_of ls row)) (sym none) tt) ∙ tests_are fs ls t ts a row h) n r
+    (λ row h. sym (constants_true (t ∷ ts) none b (read_of ls row)) ∙ tests_are fs ls t ts a row h) n r
 
-pub plan_constant : (s : Schema) (q : Query) (p : Plan) → IsPlanOf s q p → greatest (tests_leaves p.test.items) ≡ None
-    → (n : Node) → is_record s.fields n ≡ true
-    → kept (planned_query (plan_view p)).condition n ≡ (if tests_over (λ i. None) p.test.items then Some n else None)
-plan_constant s q p h g n r = tests_constant s.fields (plan_leaves p) p.test.items (plan_tests s q p h) g n r
+pub plan_constant : (s : Schema) (q : Query) (p : Plan) → IsPlanOf s q p → greatest (tests_leaves p.test.items) ≡ None → constants_hold p.test.items ≡ true
+    → (n : Node) → is_record s.fields n ≡ true → kept (planned_query (plan_view p)).condition n ≡ Some n
+plan_constant s q p h g b n r = tests_constant s.fields (plan_leaves p) p.test.items (plan_tests s q p h) g b n r
+
+-- ---- where one without leaves isn't true
+
+no_instance_kept : (p : List Step) → ((m : Node) → kept_along p (λ row. false) m ≡ None) → (row_of : Instance → Node) (xs : Instances)
+    → keep_each (keep_instance (kept_along p) row_of (λ row. false)) xs ≡ no_instances
+no_instance_kept p f row_of no_instances = refl
+no_instance_kept p f row_of (instance (atom v) xs) = no_instance_kept p f row_of xs
+no_instance_kept p f row_of (instance (inner m) xs) =
+    ap (λ (o : Option Node). with_kept (option_map inner o) (keep_each (keep_instance (kept_along p) row_of (λ row. false)) xs)) (f m)
+    ∙ no_instance_kept p f row_of xs
+
+nothing_kept : (p : List Step) (n : Node) → kept_along p (λ row. false) n ≡ None
+nothing_kept [] n = refl
+nothing_kept (s ∷ p) n = by_instances (instances_at s.place n) (nothing_kept p)
+  where
+    by_instances : (xs : Instances) → ((m : Node) → kept_along p (λ row. false) m ≡ None)
+        → keep_below (λ row. false) (λ ys. put_at s.place ys n) (keep_instance (kept_along p) (λ x. put_at s.place (single x) n) (λ row. false)) n xs ≡ None
+    by_instances no_instances f = refl
+    by_instances (instance x xs) f =
+        ap (if_some_kept (λ ys. put_at s.place ys n)) (no_instance_kept p f (λ y. put_at s.place (single y) n) (instance x xs))
+
+tests_never : (fs : Fields) (ls : List Leaf) (ts : List Truth) → AreTests fs ls ts → constants_hold ts ≡ false
+    → (n : Node) → is_record fs n ≡ true → kept (all_of (map (truth_view ls) ts)) n ≡ None
+tests_never fs ls [] a b n r = absurd (true≢false b)
+tests_never fs ls (t ∷ ts) a b n r =
+    let e = joined (truth_view ls t) (map (truth_view ls) ts) in
+    alike_conditions fs e (expression_chain e) (λ row. false) refl
+    (λ row h. sym (never_true (t ∷ ts) b (read_of ls row)) ∙ tests_are fs ls t ts a row h) n r
+    ∙ nothing_kept (expression_chain e) n
+
+pub plan_never : (s : Schema) (q : Query) (p : Plan) → IsPlanOf s q p → constants_hold p.test.items ≡ false
+    → (n : Node) → is_record s.fields n ≡ true → kept (planned_query (plan_view p)).condition n ≡ None
+plan_never s q p h b n r = tests_never s.fields (plan_leaves p) p.test.items (plan_tests s q p h) b n r

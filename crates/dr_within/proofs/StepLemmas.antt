@@ -5,7 +5,6 @@ use Rattle.dr_meaning.specs.Path.{Leaf}
 use Rattle.dr_meaning.specs.Column.{Triplet}
 use Rattle.dr_meaning.specs.Walk.{Move, enter, value, leave}
 use Rattle.dr_firing.specs.Context.{Context, with_value}
-use Rattle.dr_firing.specs.Condition.{Watch}
 use Rattle.dr_kept_laws.specs.GroupFlow.{Reading, all_fired, all_left, left_with}
 use Rattle.dr_partials.specs.Putting.{Put}
 use Rattle.dr_plan.specs.Planned.{Planned}
@@ -17,14 +16,17 @@ use Rattle.dr_scalar.specs.Slots.{slot_value}
 use Rattle.dr_within.specs.Takings.{Take, all_read, firing_at, takings_view}
 use Rattle.dr_within.specs.Firings.{leaving_in, Fires}
 use Rattle.dr_within.specs.Framing.{Holds, StaySettled, AllSettled}
-use Rattle.dr_within.specs.Watching.{HasWatched, watch_in, dropped_at, TellsKept}
+use Rattle.dr_within.specs.Parted.{WatchedParts}
+use Rattle.dr_within.specs.Conditions.{HasWatched, watch_in}
+use Rattle.dr_within.specs.Watching.{dropped_at, TellsKept}
 use Rattle.dr_within.specs.Behind.{readings_at, reading_at, settled_behind, frames_behind, IsBehind}
 use Rattle.dr_within.specs.declared.firing.Firing.{Firing}
 use Rattle.dr_within.specs.declared.frames.Frames.{Frames as CodeFrames}
 use Rattle.dr_within.specs.declared.groups.GroupScan.{GroupScan}
 use Rattle.dr_within.proofs.FiredLemmas.{fired_read, left_read}
 use Rattle.dr_within.proofs.ScanPartial.{frames_snoc}
-use Rattle.dr_within.proofs.BehindLemmas.{entered_settled, read_settled, kept_settled, left_settled, none_settled, no_marks, some_marks, left_made}
+use Rattle.dr_within.proofs.BehindLemmas.{no_marks, some_marks, left_made}
+use Rattle.dr_within.proofs.SettledLemmas.{entered_settled, read_settled, kept_settled, left_settled, none_settled}
 
 pub after_snoc : (c : Context) (ms : List Move) (m : Move) → after_moves c (ms ++ m ∷ []) ≡ context_behind (after_moves c ms) m
 after_snoc c [] (enter k) = refl
@@ -35,7 +37,7 @@ after_snoc c (value i t ∷ ms) m = after_snoc (with_value i t.value c) ms m
 after_snoc c (leave k ∷ ms) m = after_snoc c ms m
 
 -- the frames of a plan's readings behind some moves
-module _ (ls : List Leaf) (keys : List ℕ) (ts : List Take) (W : Option Watch) where
+module _ (ls : List Leaf) (keys : List ℕ) (ts : List Take) (W : Option WatchedParts) where
   abbrev pub xs_of : List (Reading Put)
   xs_of = readings_at ls keys ts
 

@@ -1,6 +1,6 @@
--- What a pruner tells of the branches that are open.
-use Rattle.std.proofs.Common.{◌≡◌, ◌+◌, ℕ, zero, suc, List, [], ◌∷◌, ◌++◌, map, Bool, true, false, ◌&&◌, Option, Some, None, refl, sym, ap, ap₂, subst, ◌∙◌, eq-eqb, arith}
-use Rattle.std.specs.Prelude.{◌==◌, reverse, if◌then◌else◌, option_map}
+-- What a pruner in parts tells of the branches that are open.
+use Rattle.std.proofs.Common.{◌≡◌, ◌⊎◌, inl, inr, ◌+◌, ℕ, zero, suc, List, [], ◌∷◌, ◌++◌, map, Bool, true, ◌&&◌, Some, refl, sym, ap, ap₂, subst, ◌∙◌, arith}
+use Rattle.std.specs.Prelude.{◌==◌, reverse, if◌then◌else◌}
 use Rattle.std.specs.List.{list_all}
 use Rattle.std.proofs.lemmas.Bool.{eqb-true, and_parts}
 use Rattle.std.proofs.lemmas.List.{reverse-append}
@@ -11,36 +11,56 @@ use Rattle.dr_meaning.specs.Walk.{Move, enter, value, leave}
 use Rattle.dr_levels.specs.Branches.{branch_at, branches_from}
 use Rattle.dr_levels.specs.declared.kept.Branch.{Branch}
 use Rattle.dr_levels.specs.declared.kept.Kept.{Kept}
+use Rattle.dr_levels.specs.declared.moves.Move.{Move as CodeMove}
+use Rattle.dr_levels.specs.Views.{move_view}
 use Rattle.dr_firing.specs.Context.{Context}
 use Rattle.dr_firing.specs.Condition.{Watch}
-use Rattle.dr_pruning_laws.specs.MovedContexts.{after_moves}
-use Rattle.dr_pruning_laws.specs.Telling.{Verdict, nothing_read, watch_moves, verdicts_at, told, first_dropped}
+use Rattle.dr_pruning_laws.specs.Telling.{Verdict, first_dropped}
+use Rattle.dr_pruning_laws.specs.Parts.{all_tests, pruning_tells}
 use Rattle.dr_plan.specs.declared.expression.Truth.{Truth}
-use Rattle.dr_prune.specs.Pruning.{verdict_of, verdicts_in, HasSeen, IsAnswerBehind, told_count}
+use Rattle.dr_prune.specs.PartAnswers.{lasts_of, untested, pruned, HasAnswered, HasPruned}
+use Rattle.dr_prune.specs.Pruning.{verdict_of, verdicts_in, watch_of, told_count}
+use Rattle.dr_prune.specs.declared.answers.Answers.{Answers}
 use Rattle.dr_prune.specs.declared.pruner.Pruner.{Pruner}
-use Rattle.dr_scalar.specs.OverSlots.{tests_over}
-use Rattle.dr_within.specs.Watching.{watch_with, PrunerHasSeen, answer_at, is_settled, TellsKept, dropped_at, innermost_dropped}
+use Rattle.dr_prune.proofs.PrunedLemmas.{answers_stay}
+use Rattle.dr_within.specs.Parted.{test_at, WatchedParts}
+use Rattle.dr_within.specs.Watching.{watch_with, HaveWatched, pruned_behind, told_inside, is_settled, TellsKept, dropped_at, innermost_dropped}
 
--- ---- the pruner that is there
+-- ---- it steps by the answers, which have the same last leaves
 
-pub seen_is : (tests : List Truth) (last : ℕ) (ms : List Move) (o : Option Pruner) (p : Pruner) → o ≡ Some p → PrunerHasSeen tests last ms o → HasSeen (λ (c : Context). tests_over c tests) ms p × ((watch_with tests p).last ≡ last)
-seen_is tests last ms o p e h = subst (PrunerHasSeen tests last ms) e h
+module _ (ts : List Truth) (ls : List ℕ) (m : Move) (p : Pruner) (a : Answers) (e : lasts_of a ≡ ls) where
+  abbrev asked : Context → Bool
+  asked = all_tests (untested (test_at ts) ls)
 
-pub watch_is : (tests : List Truth) (o : Option Pruner) (p : Pruner) → o ≡ Some p → option_map (watch_with tests) o ≡ Some (watch_with tests p)
-watch_is tests o p e = ap (option_map (watch_with tests)) e
+  pub told_parts : (ms : List Move) (n : ℕ) (k : Kept) → HasPruned (all_tests (untested (test_at ts) ls)) (test_at ts) ls ms p → HasAnswered (test_at ts) (ms ++ m ∷ []) a
+      → ((s : Context → Bool) (t : ℕ → Context → Bool) (ns : List Move) → HasPruned s t (lasts_of a) ns p → HasAnswered t (ns ++ m ∷ []) a
+      → verdicts_in n k ≡ pruning_tells (watch_of s p) (pruned (watch_of s p) t (lasts_of a) ns) m)
+      → verdicts_in n k ≡ pruning_tells (watch_with ts ls p).watch (pruned_behind (watch_with ts ls p) ms) m
+  told_parts ms n k h g call =
+      call asked (test_at ts) ms (subst (λ (L : List ℕ). HasPruned asked (test_at ts) L ms p) (sym e) h) g
+      ∙ ap (λ (L : List ℕ). pruning_tells (watch_of asked p) (pruned (watch_of asked p) (test_at ts) L ms) m) e
 
--- ---- its answer
+  pub watched_on : (ms : List Move) (q : Pruner) → HasPruned (all_tests (untested (test_at ts) ls)) (test_at ts) ls ms p → HasAnswered (test_at ts) (ms ++ m ∷ []) a
+      → ((s : Context → Bool) (t : ℕ → Context → Bool) (ns : List Move) → HasPruned s t (lasts_of a) ns p → HasAnswered t (ns ++ m ∷ []) a
+      → HasPruned s t (lasts_of a) (ns ++ m ∷ []) q)
+      → HaveWatched ts a (ms ++ m ∷ []) q
+  watched_on ms q h g call = record {
+    answered = g;
+    pruned = subst (λ (L : List ℕ). HasPruned (all_tests (untested (test_at ts) L)) (test_at ts) (lasts_of a) (ms ++ m ∷ []) q) (sym e)
+        (call asked (test_at ts) ms (subst (λ (L : List ℕ). HasPruned asked (test_at ts) L ms p) (sym e) h) g);
+  }
 
-if_true : (b : Bool) (x y : Bool) → b ≡ true → (if b then x else y) ≡ x
-if_true b x y e = ap (λ (z : Bool). if z then x else y) e
+  pub watches_on : (q : Pruner) → ((s : Context → Bool) → watch_of s q ≡ watch_of s p) → watch_with ts (lasts_of a) q ≡ watch_with ts ls p
+  watches_on q same =
+      ap (λ (L : List ℕ). watch_with ts L q) e
+      ∙ ap (λ (w : Watch). record { watch = w; parts = untested (test_at ts) ls }) (same asked)
 
-pub is_answer : (tests : List Truth) (w : Watch) (last : ℕ) (ms : List Move) (m : Move) (read : Context) (b : Bool) → w.test ≡ (λ (c : Context). tests_over c tests) → w.last ≡ last → after_moves (λ i. None) (ms ++ m ∷ []) ≡ read
-    → b ≡ answer_at last m (tests_over read tests) → IsAnswerBehind w ms m b
-is_answer tests w last ms (enter k) read b t l c e = tt
-is_answer tests w last ms (leave k) read b t l c e = tt
-is_answer tests w last ms (value i x) read b t l c e = λ q.
-    ap (λ (f : Context → Bool). f (after_moves (λ j. None) (ms ++ value i x ∷ []))) t ∙ ap (λ (d : Context). tests_over d tests) c
-    ∙ sym (e ∙ if_true (i == last) (tests_over read tests) false (eq-eqb i last (q ∙ l)))
+-- ---- the answers where no leaf is read
+
+pub answered_on : (t : ℕ → Context → Bool) (ms : List Move) (a : Answers) (m : CodeMove) → ((k : ℕ) × (m ≡ CodeMove.Enter k)) ⊎ ((k : ℕ) × (m ≡ CodeMove.Leave k))
+    → HasAnswered t ms a → HasAnswered t (ms ++ move_view m ∷ []) a
+answered_on t ms a m (inl x) h = subst (λ (y : CodeMove). HasAnswered t (ms ++ move_view y ∷ []) a) (sym x.1) (answers_stay t ms x.0 a h).0
+answered_on t ms a m (inr x) h = subst (λ (y : CodeMove). HasAnswered t (ms ++ move_view y ∷ []) a) (sym x.1) (answers_stay t ms x.0 a h).1
 
 -- ---- what it tells, by the masks
 
@@ -59,11 +79,17 @@ kept_branches : (k : Kept) → k.undecided ≡ 0 → k.dropped ≡ 0 → (n i : 
 kept_branches k u d zero i = refl
 kept_branches k u d (suc n) i = ap₂ (λ (a b : Bool). a && b) (kept_branch k u d i) (kept_branches k u d n (suc i))
 
-pub told_kept : (w : Watch) (ms : List Move) (m : Move) (n : ℕ) (k : Kept) (b : Bool) → verdicts_in n k ≡ told w ms m → b ≡ ((k.undecided == 0) && (k.dropped == 0)) → TellsKept (Some w) ms m b
+pub twice_reversed : (vs : List Verdict) → reverse (reverse vs) ≡ vs
+twice_reversed [] = refl
+twice_reversed (v ∷ vs) = ap reverse (reverse-append (v ∷ []) vs) ∙ reverse-append (reverse vs) (v ∷ []) ∙ ap (λ (us : List Verdict). v ∷ us) (twice_reversed vs)
+
+pub told_kept : (w : WatchedParts) (ms : List Move) (m : Move) (n : ℕ) (k : Kept) (b : Bool) → verdicts_in n k ≡ pruning_tells w.watch (pruned_behind w ms) m
+    → b ≡ ((k.undecided == 0) && (k.dropped == 0)) → TellsKept (Some w) ms m b
 told_kept w ms m n k b e q = λ t.
     let x = and_parts _ _ (sym q ∙ t) in
-    all_reversed is_settled (verdicts_at w (watch_moves w nothing_read ms) m)
-    (ap (list_all is_settled) (sym e) ∙ kept_branches k (eqb-true k.undecided 0 x.0) (eqb-true k.dropped 0 x.1) n 0)
+    all_reversed is_settled (told_inside w ms m)
+    (ap (list_all is_settled) (twice_reversed (pruning_tells w.watch (pruned_behind w ms) m) ∙ sym e)
+    ∙ kept_branches k (eqb-true k.undecided 0 x.0) (eqb-true k.dropped 0 x.1) n 0)
 
 branches_last : (k : Kept) (n i : ℕ) → branches_from k i (suc n) ≡ branches_from k i n ++ branch_at k (i + n) ∷ []
 branches_last k zero i = let z : i ≡ i + 0 = omega arith in ap (λ (j : ℕ). branch_at k j ∷ []) z
@@ -72,10 +98,6 @@ branches_last k (suc n) i = let z : suc i + n ≡ i + suc n = omega arith in ap 
 map_last : (bs : List Branch) (b : Branch) → map verdict_of (bs ++ b ∷ []) ≡ map verdict_of bs ++ verdict_of b ∷ []
 map_last [] b = refl
 map_last (x ∷ bs) b = ap (λ (vs : List Verdict). verdict_of x ∷ vs) (map_last bs b)
-
-twice_reversed : (vs : List Verdict) → reverse (reverse vs) ≡ vs
-twice_reversed [] = refl
-twice_reversed (v ∷ vs) = ap reverse (reverse-append (v ∷ []) vs) ∙ reverse-append (reverse vs) (v ∷ []) ∙ ap (λ (us : List Verdict). v ∷ us) (twice_reversed vs)
 
 -- the last of what is told in front is told of the innermost
 first_of_reversed : (k : Kept) (n : ℕ) (vs : List Verdict) → verdicts_in n k ≡ reverse vs → (x : Move) (j : ℕ) → x ≡ leave j → innermost_dropped x n k ≡ first_dropped vs
@@ -88,7 +110,9 @@ first_of_reversed k (suc n) vs e x j q =
     same : 0 + n ≡ n
     same = omega arith
 
-pub told_dropped : (w : Watch) (ms : List Move) (m : Move) (n : ℕ) (k : Kept) → verdicts_in (told_count n m) k ≡ told w ms m → innermost_dropped m n k ≡ dropped_at (Some w) ms m
+pub told_dropped : (w : WatchedParts) (ms : List Move) (m : Move) (n : ℕ) (k : Kept) → verdicts_in (told_count n m) k ≡ pruning_tells w.watch (pruned_behind w ms) m
+    → innermost_dropped m n k ≡ dropped_at (Some w) ms m
 told_dropped w ms (enter j) n k e = refl
 told_dropped w ms (value i t) n k e = refl
-told_dropped w ms (leave j) n k e = first_of_reversed k n (verdicts_at w (watch_moves w nothing_read ms) (leave j)) e (leave j) j refl
+told_dropped w ms (leave j) n k e =
+    first_of_reversed k n (told_inside w ms (leave j)) (e ∙ sym (twice_reversed (pruning_tells w.watch (pruned_behind w ms) (leave j)))) (leave j) j refl

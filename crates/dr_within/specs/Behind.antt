@@ -7,11 +7,9 @@ use Rattle.dr_meaning.specs.Rows.{value_at}
 use Rattle.dr_meaning.specs.Expression.{longest_chain}
 use Rattle.dr_meaning.specs.Walk.{Move, enter, value, leave}
 use Rattle.dr_firing.specs.Context.{Context}
-use Rattle.dr_firing.specs.Condition.{Watch}
 use Rattle.dr_kept_laws.specs.GroupFlow.{Reading, all_fired, all_left, left_with}
 use Rattle.dr_pruning_laws.specs.Frames.{Frames, frame_move}
 use Rattle.dr_pruning_laws.specs.MovedContexts.{after_moves}
-use Rattle.dr_pruning_laws.specs.Telling.{Opened, nothing_read, watch_moves, verdict}
 use Rattle.dr_put_laws.specs.FramesPartial.{no_frames}
 use Rattle.dr_put_laws.specs.LastRead.{paths_at}
 use Rattle.dr_partials.specs.Putting.{Put}
@@ -21,7 +19,9 @@ use Rattle.dr_scalar.specs.Slots.{slot_value}
 use Rattle.dr_within.specs.Takings.{Take, leaves_of, fires_at, put_read}
 use Rattle.dr_within.specs.Firings.{Fires}
 use Rattle.dr_within.specs.Framing.{Holds}
-use Rattle.dr_within.specs.Watching.{HasWatched, watch_in, dropped_at, is_settled}
+use Rattle.dr_within.specs.Parted.{WatchedParts}
+use Rattle.dr_within.specs.Conditions.{HasWatched, watch_in}
+use Rattle.dr_within.specs.Watching.{dropped_at, pruned_behind, settled_by}
 use Rattle.dr_within.specs.declared.groups.GroupScan.{GroupScan}
 
 -- ---- the readings of takings
@@ -45,19 +45,19 @@ readings_at ls keys ts = map (reading_at ls keys) ts
 -- ---- what is known
 
 -- of each of so many open branches whether it is known to be kept, the innermost first
-abbrev pub settled_behind : Option Watch → ℕ → List Move → List Bool
+abbrev pub settled_behind : Option WatchedParts → ℕ → List Move → List Bool
 settled_behind None n ms = replicate n true
-settled_behind (Some w) n ms = map (λ (b : Opened). is_settled (verdict b)) (watch_moves w nothing_read ms).open_ones
+settled_behind (Some w) n ms = settled_by (pruned_behind w ms).numbers
 
 -- ---- what was made
 
 -- moves behind others
-abbrev pub frames_from : Option Watch → List (Reading Put) → List Move → List Move → Frames Put → Frames Put
+abbrev pub frames_from : Option WatchedParts → List (Reading Put) → List Move → List Move → Frames Put → Frames Put
 frames_from W xs before [] f = f
 frames_from W xs before (m ∷ ms) f = frames_from W xs (before ++ m ∷ []) ms (frame_move (all_fired xs) (left_with (all_left xs)) (dropped_at W before m) m f)
 
 -- from the first on
-abbrev pub frames_behind : Option Watch → List (Reading Put) → List Move → Frames Put
+abbrev pub frames_behind : Option WatchedParts → List (Reading Put) → List Move → Frames Put
 frames_behind W xs ms = frames_from W xs [] ms no_frames
 
 -- a scan for a plan with these leaves, by these takings, behind these moves

@@ -14,7 +14,7 @@ ghost use Rattle.dr_plan.specs.Planned.{Planned, plan_view, plan_leaves, planned
 ghost use Rattle.dr_group.specs.Partials.{partial_view, IsPartialOf};
 ghost use Rattle.dr_within.specs.Takings.{Take, takings_of};
 ghost use Rattle.dr_within.specs.Firings.{firing_in};
-ghost use Rattle.dr_within.specs.Watching.{open_for, watch_in, HasWatched};
+ghost use Rattle.dr_within.specs.Conditions.{open_for, watch_in, HasWatched};
 ghost use Rattle.dr_within.specs.Behind.{IsBehind, IsOfLeaf, frames_behind, readings_at};
 
 use crate::condition::Condition;
@@ -87,7 +87,7 @@ impl<'a> GroupScan<'a> {
     ///
     /// Errors: want of memory, or of room for a count, a sum or a number of a group.
     pub fn step(&mut self, alloc: Global, read: &Move<'a>) -> Result<(), NoMemory>
-        requires few { open_for (self.old).condition.pruner < 64 }
+        requires few { open_for (self.old).condition < 64 }
         ensures behind { OnOk result ((p : Planned) (ls : List Leaf) (ts : List Take) (ms : List MeantMove)
             → IsBehind p ls ts ms self.old → IsOfLeaf (length ls) (move_view read.now)
             → IsBehind p ls ts (ms ++ move_view read.now ∷ []) self.new) }

@@ -8,8 +8,11 @@ mod frames;
 mod groups;
 mod keys;
 mod late;
+mod parts;
 mod plan_scan;
 mod putting;
 mod taking;
+mod told;
+mod watched;
 
 pub use plan_scan::PlanScan;

@@ -15,19 +15,21 @@ ghost use Rattle.dr_plan.specs.Planned.{IsOfSchema, plan_leaves, plan_view, plan
 ghost use Rattle.dr_plan.specs.declared.plan.Plan.{Plan as MeantPlan};
 ghost use Rattle.dr_plan.specs.declared.plan.Selection.{Selection as Selected};
 ghost use Rattle.dr_group.specs.Partials.{partial_view, IsPartialOf};
-ghost use Rattle.dr_within.specs.Scanning.{Scans, Begins, open_in_scan, WatchesPlan, IsConditionOf, last_of_plan};
+ghost use Rattle.dr_within.specs.Scanning.{Scans, Begins, open_in_scan, WatchesPlan, IsConditionOf, last_of_plan, plan_constants_hold};
 ghost use Rattle.dr_within.specs.Behind.{IsOfLeaf};
-ghost use Rattle.dr_within.specs.Watching.{watch_in, HasWatched};
+ghost use Rattle.dr_within.specs.TestParts.{AreTestParts};
+ghost use Rattle.dr_within.specs.Conditions.{watch_in, HasWatched};
 
 use crate::condition::Condition;
 use crate::groups::GroupScan;
+use crate::parts::Parts;
 use dr_group::Partial;
 use dr_levels::Move;
 use dr_memory::NoMemory;
 use dr_nested::{Path, Schema, Step};
 use dr_plan::{Aggregate, GroupItem, Plan};
 use dr_prune::chain_numbers;
-use dr_scalar::{last_leaf_of_tests, passes};
+use dr_scalar::last_leaf_of_tests;
 use std::alloc::Global;
 
 /// The groups of a plan's records, made of the moves of their walk over the columns of the plan's leaves, one after
@@ -52,30 +54,21 @@ fn watched<'a>(
     alloc: Global,
     schema: &Schema,
     plan: &'a Plan,
+    parts: Parts<'a>,
     last: u32,
 ) -> Result<Condition<'a>, NoMemory>
     requires planned { IsOfSchema (schema_view schema.now) plan.now }
     requires last { last_of_plan plan.now ≡ Some last }
+    requires constants { plan_constants_hold plan.now ≡ true }
+    requires parts { AreTestParts (plan.now).test.items parts }
     ensures watches { IfOk result (λ c. WatchesPlan (schema_view schema.now) plan.now (watch_in c)) }
     ensures begins { IfOk result (λ c. HasWatched c []) }
 {
     let chain = chain_numbers(alloc, schema, path_of(&plan.leaves, last))?;
-    Condition::new(alloc, &plan.test, last, &chain)
+    Condition::new(alloc, parts, last, &chain)
 }
 
-/// The condition of a plan whose tests read no leaf; none where it isn't true.
-fn unread<'a>(alloc: Global, plan: &'a Plan) -> Result<Option<Condition<'a>>, NoMemory>
-    requires { last_of_plan plan.now ≡ None }
-    ensures { IfOk result (λ o. (s : MeantSchema) → IsConditionOf s plan.now o) }
-{
-    if passes(alloc, &plan.test, &[])? {
-        Ok(Some(Condition::none()))
-    } else {
-        Ok(None)
-    }
-}
-
-/// The condition of a plan; none where it reads no leaf and isn't true.
+/// The condition of a plan; none where a test that reads no leaf isn't true.
 ///
 /// Errors: want of memory alone.
 fn condition_of<'a>(
@@ -86,15 +79,18 @@ fn condition_of<'a>(
     requires { IsOfSchema (schema_view schema.now) plan.now }
     ensures { IfOk result (λ o. IsConditionOf (schema_view schema.now) plan.now o) }
 {
+    let Some(parts) = Parts::of_tests(alloc, &plan.test)? else {
+        return Ok(None);
+    };
     match last_leaf_of_tests(&plan.test) {
-        Some(last) => Ok(Some(watched(alloc, schema, plan, last)?)),
-        None => unread(alloc, plan),
+        Some(last) => Ok(Some(watched(alloc, schema, plan, parts, last)?)),
+        None => Ok(Some(Condition::none())),
     }
 }
 
 impl<'a> PlanScan<'a> {
-    /// Before any move, for a plan of groups with these keys, aggregates and items. There is none where the condition,
-    /// which then reads no leaf, keeps no record.
+    /// Before any move, for a plan of groups with these keys, aggregates and items. There is none where a test that
+    /// reads no leaf isn't true: no record is kept then.
     ///
     /// Errors: want of memory, or of room for an aggregate's number.
     pub fn start(

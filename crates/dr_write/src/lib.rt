@@ -11,8 +11,6 @@ mod footer;
 mod leaf;
 mod leaves;
 mod pages;
-#[cfg(test)]
-mod tests;
 
 pub use column_laws::record_columns_fit;
 pub use file::write_file;

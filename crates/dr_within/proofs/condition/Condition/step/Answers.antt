@@ -1,42 +1,26 @@
-use Rattle.std.proofs.Common.{ℕ, Some, refl, sym, ap, subst, ◌∙◌}
+use Rattle.std.proofs.Common.{Option, Some, sym, ap, subst, ◌∙◌}
+use Rattle.std.specs.Prelude.{option_map}
 use Rattle.dr_levels.specs.Views.{move_view}
-use Rattle.dr_firing.specs.Context.{Context}
-use Rattle.dr_firing.specs.Condition.{Watch}
-use Rattle.dr_scalar.specs.OverSlots.{tests_over}
-use Rattle.dr_scalar.specs.Slots.{slot_value}
-use Rattle.dr_within.specs.Watching.{watch_with, TellsKept, dropped_at, innermost_dropped}
-use Rattle.dr_within.proofs.WatchingLemmas.{seen_is, watch_is, is_answer, told_kept, told_dropped}
+use Rattle.dr_within.specs.Conditions.{watched_parts, HasWatchedIf}
+use Rattle.dr_within.specs.Parted.{WatchedParts}
+use Rattle.dr_within.specs.Watching.{TellsKept, dropped_at}
+use Rattle.dr_within.specs.declared.watched.Watched.{Watched}
+use Rattle.dr_within.proofs.BehindLemmas.{if_ok}
+use Rattle.dr_within.proofs.FramingLemmas.{on_ok}
 use Rattle.dr_within.proofs.condition.Condition.step.Goals as goal
 
-pub returns-clause-watches : goal.returns-clause-watches
-returns-clause-watches c =
-    let tests = c.args.self.now.tests.now in
-    ap Some (c.step-kept.ensures.watches (λ (x : Context). tests_over x tests)) ∙ sym (watch_is tests c.args.self.now.pruner c.in-Some.pruner c.in-Some.is)
+pub returns-in-Some-clause-watches : goal.returns-in-Some-clause-watches
+returns-in-Some-clause-watches c = ap (λ (w : WatchedParts). Some w) c.step.ensures.watches ∙ ap (option_map watched_parts) (sym c.in-Some.is)
 
-pub returns-clause-watched : goal.returns-clause-watched
-returns-clause-watched c = λ ms h e.
-    let tests = c.args.self.now.tests.now in
-    let t : Context → _ = λ (x : Context). tests_over x tests in
-    let s = seen_is tests c.args.self.now.last ms c.args.self.now.pruner c.in-Some.pruner c.in-Some.is h in
-    let a = is_answer tests (watch_with tests c.in-Some.pruner) c.args.self.now.last ms (move_view c.args.read.now) (slot_value c.args.slots.now) c.in_ok-is_true.is_true refl s.1 e c.in_ok-is_true.ensures in
-    (c.step-kept.ensures.seen t ms s.0 a, ap (λ (w : Watch). w.last) (c.step-kept.ensures.watches t) ∙ s.1)
+pub returns-in-Some-clause-kept : goal.returns-in-Some-clause-kept
+returns-in-Some-clause-kept c = if_ok c.step.result _ _ (λ t call ms h e.
+    subst (λ (o : Option Watched). TellsKept (option_map watched_parts o) ms (move_view c.args.read.now) t.is_kept) (sym c.in-Some.is)
+    (call ms (subst (λ (o : Option Watched). HasWatchedIf o ms) c.in-Some.is h) e)) c.step.ensures.kept
 
-pub returns-clause-kept : goal.returns-clause-kept
-returns-clause-kept c = λ ms h e.
-    let tests = c.args.self.now.tests.now in
-    let t : Context → _ = λ (x : Context). tests_over x tests in
-    let m = move_view c.args.read.now in
-    let s = seen_is tests c.args.self.now.last ms c.args.self.now.pruner c.in-Some.pruner c.in-Some.is h in
-    let a = is_answer tests (watch_with tests c.in-Some.pruner) c.args.self.now.last ms m (slot_value c.args.slots.now) c.in_ok-is_true.is_true refl s.1 e c.in_ok-is_true.ensures in
-    subst (λ o. TellsKept o ms m c.is_all_kept.result) (sym (watch_is tests c.args.self.now.pruner c.in-Some.pruner c.in-Some.is))
-    (told_kept (watch_with tests c.in-Some.pruner) ms m _ c.step-kept.result c.is_all_kept.result (c.step-kept.ensures.told t ms s.0 a) c.is_all_kept.ensures)
+pub returns-in-Some-clause-dropped : goal.returns-in-Some-clause-dropped
+returns-in-Some-clause-dropped c = if_ok c.step.result _ _ (λ t call ms h e.
+    call ms (subst (λ (o : Option Watched). HasWatchedIf o ms) c.in-Some.is h) e
+    ∙ ap (λ (o : Option Watched). dropped_at (option_map watched_parts o) ms (move_view c.args.read.now)) (sym c.in-Some.is)) c.step.ensures.dropped
 
-pub returns-clause-dropped : goal.returns-clause-dropped
-returns-clause-dropped c = λ ms h e.
-    let tests = c.args.self.now.tests.now in
-    let t : Context → _ = λ (x : Context). tests_over x tests in
-    let m = move_view c.args.read.now in
-    let s = seen_is tests c.args.self.now.last ms c.args.self.now.pruner c.in-Some.pruner c.in-Some.is h in
-    let a = is_answer tests (watch_with tests c.in-Some.pruner) c.args.self.now.last ms m (slot_value c.args.slots.now) c.in_ok-is_true.is_true refl s.1 e c.in_ok-is_true.ensures in
-    c.is_left_dropped.ensures ∙ ap (λ (d : ℕ). innermost_dropped m d c.step-kept.result) c.open-depth.ensures ∙ told_dropped (watch_with tests c.in-Some.pruner) ms m _ c.step-kept.result (c.step-kept.ensures.told t ms s.0 a)
-    ∙ ap (λ o. dropped_at o ms m) (sym (watch_is tests c.args.self.now.pruner c.in-Some.pruner c.in-Some.is))
+pub returns-in-Some-clause-watched : goal.returns-in-Some-clause-watched
+returns-in-Some-clause-watched c = on_ok c.step.result _ _ (λ call ms h e. call ms (subst (λ (o : Option Watched). HasWatchedIf o ms) c.in-Some.is h) e) c.step.ensures.watched

@@ -4,10 +4,11 @@ use Rattle.dr_nested.specs.PathView.{path_view}
 use Rattle.dr_within.specs.Firings.{Fires}
 use Rattle.dr_within.specs.Framing.{Holds}
 use Rattle.dr_within.specs.Takings.{takings_of}
-use Rattle.dr_within.specs.Watching.{watch_in}
+use Rattle.dr_within.specs.Conditions.{watch_in}
 use Rattle.dr_plan.specs.Planned.{plan_view}
 use Rattle.dr_scalar.specs.Slots.{slot_value}
-use Rattle.dr_within.proofs.BehindLemmas.{nothing_in, first_settled, fresh, length_of_same}
+use Rattle.dr_within.proofs.BehindLemmas.{nothing_in, fresh, length_of_same}
+use Rattle.dr_within.proofs.SettledLemmas.{first_settled}
 use Rattle.dr_within.proofs.groups.GroupScan.new.Goals as goal
 
 pub returns-clause-behind : goal.returns-clause-behind

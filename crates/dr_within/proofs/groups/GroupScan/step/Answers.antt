@@ -6,7 +6,8 @@ use Rattle.dr_pruning_laws.specs.MovedContexts.{after_moves}
 use Rattle.dr_scalar.specs.Slots.{slot_value}
 use Rattle.dr_within.specs.Behind.{IsOfLeaf, readings_at}
 use Rattle.dr_within.specs.Takings.{Take, all_read}
-use Rattle.dr_within.specs.Watching.{watch_in, TellsKept, dropped_at}
+use Rattle.dr_within.specs.Conditions.{watch_in}
+use Rattle.dr_within.specs.Watching.{TellsKept, dropped_at}
 use Rattle.dr_within.proofs.FramingLemmas.{on_ok, on_both}
 use Rattle.dr_within.proofs.ScanPartial.{frames_context}
 use Rattle.dr_within.proofs.StepLemmas.{is_behind, after_snoc, enter_made, read_made, leave_made, HoldsBehind, one_more, fired_rows, left_taken}

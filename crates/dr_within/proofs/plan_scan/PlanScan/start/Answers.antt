@@ -14,7 +14,7 @@ returns-in-None c = λ R r.
     let p = c.args.plan.now in
     let h = c.requires.planned in
     let x = subst (IsConditionOf s p) c.in-None.is c.in_ok-condition_of.ensures in
-    nothing_partial s h.1 p (h.0, h.2, h.3) x.0 x.1 R r
+    nothing_partial s h.1 p (h.0, h.2, h.3) x R r
 
 pub returns-in_ok-groups-in-Some : goal.returns-in_ok-groups-in-Some
 returns-in_ok-groups-in-Some c =

@@ -1,0 +1,345 @@
+"""Reads a Parquet file by what docs/FORMATS.md says, and tells its cause for some leaves or its records: it shares nothing with the crates."""
+import json, re
+
+from compact import BINARY, I32, I64, LIST, STRUCT, Malformed, Reader, last_of
+from schemas import KINDS, REPETITIONS, Field, NoRecords, dotted, greatest_definition, greatest_repetition, leaves_of, message, records_of, select
+
+MAGIC = b"PAR1"
+CLOSING = (5, 13, 14, 20, 21)
+NAME = re.compile(rb"[A-Za-z_][A-Za-z0-9_]{0,63}\Z")
+MOST_ROWS, MOST_TRIPLETS = 1_000_000_000, 1 << 40
+# More triplets than this are not judged: they would take long here.
+MOST_JUDGED = 200_000
+
+
+class Cause(Exception):
+    """The file has no records for the leaves: why."""
+
+
+class Unjudged(Exception):
+    """The file claims more than is judged here."""
+
+
+def needed(fields, number, kind):
+    value = last_of(fields, number, kind)
+    if value is None:
+        raise Cause("footer")
+    return value
+
+
+def count(fields, number, kind=I64):
+    value = needed(fields, number, kind)
+    if value < 0:
+        raise Cause("footer")
+    return value
+
+
+def structs(fields, number):
+    kind, values = needed(fields, number, LIST)
+    if kind != STRUCT:
+        raise Cause("footer")
+    return values
+
+
+class Chunk:
+    def __init__(self, fields):
+        meta = needed(fields, 3, STRUCT)
+        needed(meta, 1, I32)
+        self.codec, self.values, self.size = needed(meta, 4, I32), count(meta, 5), count(meta, 7)
+        first, dictionary = count(meta, 9), last_of(meta, 11, I64)
+        self.begin = dictionary if dictionary is not None and 0 < dictionary < first else first
+        if last_of(fields, 1, BINARY) is not None:
+            raise Cause("footer")
+
+
+class Group:
+    def __init__(self, fields):
+        columns = structs(fields, 1)
+        self.rows = count(fields, 3)
+        self.chunks = [Chunk(column) for column in columns]
+
+
+class Element:
+    def __init__(self, fields):
+        self.name = needed(fields, 4, BINARY)
+        self.kind, self.repetition, self.children, self.converted = (last_of(fields, number, I32) for number in (1, 3, 5, 6))
+
+
+def tree_of(elements):
+    """The fields below the root. A closed leaf, and what has a closed name, keeps None as its name or kind."""
+    place = 1
+
+    def fields(number):
+        nonlocal place
+        found = []
+        for _ in range(number):
+            if place >= len(elements):
+                raise Cause("footer")
+            element = elements[place]
+            place += 1
+            if element.repetition not in (0, 1, 2):
+                raise Cause("footer")
+            found.append(field(element))
+        names = [it.name for it in found]
+        for at, it in enumerate(found):
+            if it.name is None or it.name in names[:at]:
+                it.name = None
+        return found
+
+    def field(element):
+        name = element.name.decode() if NAME.match(element.name) else None
+        repetition = REPETITIONS[element.repetition]
+        if element.kind is None:
+            if element.children is None or element.children < 0:
+                raise Cause("footer")
+            return Field(repetition, name, None, fields(element.children))
+        kinds = [kind for kind, number in KINDS.items() if number == element.kind and element.converted not in CLOSING]
+        return Field(repetition, name, kinds[0] if kinds else 0)
+
+    root = elements[0] if elements else None
+    if root is None or root.kind is not None or root.children is None or root.children < 0:
+        raise Cause("footer")
+    found = fields(root.children)
+    if place != len(elements):
+        raise Cause("footer")
+    return found
+
+
+def is_open(way):
+    return isinstance(way[-1].kind, str) and len(way) <= 32 and all(field.name is not None for field in way)
+
+
+class File:
+    """A file whose footer can be read."""
+
+    def __init__(self, data):
+        self.data = data
+        if len(data) < 12 or data[:4] != MAGIC or data[-4:] != MAGIC:
+            raise Cause("footer")
+        size = int.from_bytes(data[-8:-4], "little")
+        if size > len(data) - 12:
+            raise Cause("footer")
+        self.end = len(data) - 8 - size
+        try:
+            fields = Reader(data, self.end, len(data) - 8).struct()
+        except Malformed:
+            raise Cause("footer") from None
+        elements = [Element(it) for it in structs(fields, 2)]
+        self.rows = count(fields, 3)
+        self.groups = [Group(it) for it in structs(fields, 4)]
+        self.fields = tree_of(elements)
+        self.root = elements[0].name
+        self.leaves = leaves_of(self.fields)
+        if any(len(group.chunks) != len(self.leaves) for group in self.groups):
+            raise Cause("footer")
+
+    def schema(self):
+        """The text of the open part."""
+        kept = [dotted(way) for way in self.leaves if is_open(way)][:1024]
+        if not kept:
+            raise Cause("schema")
+        name = self.root.decode() if NAME.match(self.root) else "Records"
+        return message(name, select(named(self.fields), set(kept)))
+
+    def places(self, ways):
+        """The places of a schema's leaves among those of the file."""
+        found = {}
+        for place, way in enumerate(self.leaves):
+            if is_open(way):
+                found[tuple((field.name, field.repetition) for field in way), way[-1].kind] = place
+        try:
+            return [found[tuple((field.name, field.repetition) for field in way), way[-1].kind] for way in ways]
+        except KeyError:
+            raise Cause("schema") from None
+
+    def columns(self, fields):
+        """The columns of all leaves of these fields, which are a schema's that was cut down to some leaves."""
+        ways = leaves_of(fields)
+        places = self.places(ways)
+        if any(group.chunks[place].codec != 0 for group in self.groups for place in places):
+            raise Cause("codec")
+        if self.rows != sum(group.rows for group in self.groups) or self.rows > MOST_ROWS:
+            raise Cause("data")
+        if any(sum(group.chunks[place].values for group in self.groups) > MOST_TRIPLETS for place in places):
+            raise Cause("data")
+        columns = {dotted(way): [] for way in ways}
+        is_judged = True
+        for way, place in zip(ways, places):
+            for group in self.groups:
+                try:
+                    columns[dotted(way)] += self.column(group, group.chunks[place], way)
+                except Unjudged:
+                    is_judged = False
+        if not is_judged:
+            raise Unjudged
+        return columns
+
+    def records(self, fields):
+        """The records for the leaves of these fields."""
+        columns = self.columns(fields)
+        if self.rows > MOST_JUDGED:
+            raise Unjudged
+        try:
+            return columns, records_of(fields, columns, self.rows)
+        except NoRecords:
+            raise Cause("data") from None
+
+    def column(self, group, chunk, way):
+        if chunk.begin < 4 or chunk.begin + chunk.size > self.end:
+            raise Cause("data")
+        triplets = Pages(self.data, chunk, way).triplets()
+        if sum(triplet[0] == 0 for triplet in triplets) != group.rows or triplets and triplets[0][0] != 0:
+            raise Cause("data")
+        return triplets
+
+
+def named(fields):
+    """Fields without those that have no name, so that all have one."""
+    return [Field(it.repetition, it.name, it.kind, named(it.fields)) for it in fields if it.name is not None]
+
+
+class Pages:
+    """The pages of a chunk, read as those of a schema's leaf."""
+
+    def __init__(self, data, chunk, way):
+        self.data, self.at, self.end, self.left = data, chunk.begin, chunk.begin + chunk.size, chunk.values
+        self.way, self.kind, self.dictionary = way, way[-1].kind, None
+
+    def triplets(self):
+        out, is_first = [], True
+        while self.left > 0:
+            kind, head, dictionary, body = self.page()
+            if kind == 2 and is_first and dictionary is not None:
+                self.take_dictionary(dictionary, body)
+            elif kind == 0 and head is not None:
+                out += self.data_page(head, body)
+            elif kind != 1:
+                raise Cause("data")
+            is_first = False
+        return out
+
+    def page(self):
+        """The next page: its type, the struct of a data page, that of a dictionary page, and the body."""
+        reader = Reader(self.data, self.at, self.end)
+        try:
+            fields = reader.struct()
+            kind, size = needed(fields, 1, I32), count(fields, 3, I32)
+            head, dictionary = last_of(fields, 5, STRUCT), last_of(fields, 7, STRUCT)
+            if head is not None:
+                head = [count(head, 1, I32), *(needed(head, number, I32) for number in (2, 3, 4))]
+            if dictionary is not None:
+                dictionary = count(dictionary, 1, I32), needed(dictionary, 2, I32)
+            later = last_of(fields, 8, STRUCT)
+            if later is not None:
+                for number in (1, 5, 6):
+                    count(later, number, I32)
+                needed(later, 4, I32)
+            body = reader.bytes(size)
+        except (Malformed, Cause):
+            raise Cause("data") from None
+        self.at = reader.at
+        return kind, head, dictionary, body
+
+    def take_dictionary(self, head, body):
+        number, encoding = head
+        if encoding not in (0, 2):
+            raise Cause("data")
+        self.dictionary = plain(self.kind, number, body)
+
+    def data_page(self, head, body):
+        number, encoding, definition_encoding, repetition_encoding = head
+        if number > self.left:
+            raise Cause("data")
+        self.left -= number
+        repetitions, body = levels(greatest_repetition(self.way), repetition_encoding, number, body)
+        definitions, body = levels(greatest_definition(self.way), definition_encoding, number, body)
+        greatest = greatest_definition(self.way)
+        values = iter(self.values(encoding, sum(level == greatest for level in definitions), body))
+        return [(r, d, next(values) if d == greatest else None) for r, d in zip(repetitions, definitions)]
+
+    def values(self, encoding, number, body):
+        if encoding == 0:
+            return plain(self.kind, number, body)
+        if encoding not in (2, 8):
+            raise Cause("data")
+        if number == 0:
+            return []
+        if not body or body[0] > 32:
+            raise Cause("data")
+        indices = hybrid(body[0], number, body[1:])
+        dictionary = self.dictionary or []
+        if any(index >= len(dictionary) for index in indices):
+            raise Cause("data")
+        return [dictionary[index] for index in indices]
+
+
+def levels(greatest, encoding, number, body):
+    """The levels of a part and what stands behind it; where the greatest is 0 there is none."""
+    if greatest == 0:
+        judged(number)
+        return [0] * number, body
+    size = int.from_bytes(body[:4], "little")
+    if encoding != 3 or len(body) < 4 or size > len(body) - 4:
+        raise Cause("data")
+    found = hybrid(greatest.bit_length(), number, body[4:4 + size])
+    if any(level > greatest for level in found):
+        raise Cause("data")
+    return found, body[4 + size:]
+
+
+def judged(number):
+    if number > MOST_JUDGED:
+        raise Unjudged
+
+
+def hybrid(width, number, data):
+    """So many values of runs."""
+    out, reader, bytes_each = [], Reader(data), (width + 7) // 8
+    while len(out) < number:
+        left = number - len(out)
+        try:
+            head = reader.varint(())
+            if head & 1:
+                wanted = min(left, (head >> 1) * 8)
+                bits = int.from_bytes(reader.bytes((wanted * width + 7) // 8), "little")
+                judged(wanted)
+                out += [bits >> place * width & (1 << width) - 1 for place in range(wanted)]
+            else:
+                value = int.from_bytes(reader.bytes(bytes_each), "little")
+                judged(min(left, head >> 1))
+                out += [value] * min(left, head >> 1)
+        except Malformed:
+            raise Cause("data") from None
+    return out
+
+
+def plain(kind, number, body):
+    if kind == "string":
+        return texts(number, body)
+    size = {"boolean": (number + 7) // 8, "int32": 4 * number, "int64": 8 * number}[kind]
+    if size > len(body):
+        raise Cause("data")
+    judged(number)
+    if kind == "boolean":
+        return [bool(body[place // 8] >> place % 8 & 1) for place in range(number)]
+    each = 4 if kind == "int32" else 8
+    return [int.from_bytes(body[at:at + each], "little", signed=True) for at in range(0, size, each)]
+
+
+def texts(number, body):
+    out, at = [], 0
+    while len(out) < number:
+        size = int.from_bytes(body[at:at + 4], "little")
+        if len(body) - at < 4 or size > len(body) - at - 4:
+            raise Cause("data")
+        try:
+            out.append(body[at + 4:at + 4 + size].decode())
+        except UnicodeDecodeError:
+            raise Cause("data") from None
+        at += 4 + size
+    return out
+
+
+def line(record):
+    """A record as it is printed."""
+    return json.dumps(record, ensure_ascii=False, separators=(",", ":"))
