@@ -41,7 +41,7 @@ groups_more : (m n : ℕ) → m ≤ n → (gs : List meant.Group) → GroupsCanB
 groups_more m n h [] b = tt
 groups_more m n h (g ∷ gs) b = (all_more m n h g.accumulators b.0, groups_more m n h gs b.1)
 
-partial_more : (m n : ℕ) → m ≤ n → (p : meant.Partial) → PartialCanBeOf m p → PartialCanBeOf n p
+pub partial_more : (m n : ℕ) → m ≤ n → (p : meant.Partial) → PartialCanBeOf m p → PartialCanBeOf n p
 partial_more m n h (meant.lines os) b = tt
 partial_more m n h (meant.grouped gs) b = groups_more m n h gs b
 
