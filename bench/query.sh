@@ -1,7 +1,7 @@
 #!/usr/bin/env bash
 # Measures four queries over N generated records (150,000 where no N is given, about 22 MB of JSON), loaded into one tablet and into ten, and asked of the records
 # themselves: a line for each: processor seconds, wall seconds, and the most memory in MB. Then one of them over a tenth of the records, by which time and memory grow,
-# and over the ten tablets with one worker, two and four. Last, where rustc is there, the three aggregate queries over the one tablet beside a hand-written reader
+# and over the ten tablets with one worker, two and four. Last, where rustc is there, these queries over the one tablet beside a hand-written reader
 # (bench/limit/limit.rs, plain Rust on one thread, which must print the same): a line for each, with the least processor seconds of five runs of the program and of the
 # reader, in turn, and their ratio. Let nothing else run.
 # usage: bench/query.sh [N] [PROGRAM]
@@ -45,7 +45,8 @@ five="SELECT COUNT(*) AS r, COUNT(Name.Language.Code) AS c, COUNT(Name.Url) AS u
 asked "five aggregates" "$five"
 groups="SELECT Name.Language.Country, COUNT(*) AS n, SUM(DocId) AS s FROM Document GROUP BY Name.Language.Country"
 asked "groups" "$groups"
-asked "objects" "SELECT DocId, COUNT(Name.Language.Code) WITHIN Name AS codes FROM Document WHERE Name.Url LIKE 'http://u/1%'"
+objects="SELECT DocId, COUNT(Name.Language.Code) WITHIN Name AS codes FROM Document WHERE Name.Url LIKE 'http://u/1%'"
+asked "objects" "$objects"
 selective="SELECT COUNT(*) AS n FROM Document WHERE DocId < 100"
 asked "selective count" "$selective"
 measured "five aggregates, a tenth of the records" /dev/null query --table "$work/tenth.table" "$five"
@@ -73,7 +74,7 @@ PY
 # beside a hand-written reader: the least processor seconds of five runs of either, in turn
 command -v rustc >/dev/null || exit 0
 rustc -O -o "$work/limit" "$top/bench/limit/limit.rs"
-python3 - "$program" "$work" five "$five" groups "$groups" selective "$selective" <<'PY'
+python3 - "$program" "$work" five "$five" groups "$groups" selective "$selective" objects "$objects" <<'PY'
 import resource, subprocess, sys
 program, work, *rest = sys.argv[1:]
 

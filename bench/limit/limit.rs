@@ -1,11 +1,12 @@
-//! What a hand-written reader takes, on one thread, for three aggregate queries over Parquet files as `dremel load` writes them (docs/FORMATS.md) of the schema
+//! What a hand-written reader takes, on one thread, for three aggregate queries and one of objects over Parquet files as `dremel load` writes them (docs/FORMATS.md) of the schema
 //! examples/document.txt:
 //!   five:      SELECT COUNT(*) AS r, COUNT(Name.Language.Code) AS c, COUNT(Name.Url) AS u, SUM(Links.Forward) AS f, MAX(DocId) AS m FROM Document
 //!   groups:    SELECT Name.Language.Country, COUNT(*) AS n, SUM(DocId) AS s FROM Document GROUP BY Name.Language.Country
 //!   selective: SELECT COUNT(*) AS n FROM Document WHERE DocId < 100
+//!   objects:   SELECT DocId, COUNT(Name.Language.Code) WITHIN Name AS codes FROM Document WHERE Name.Url LIKE 'http://u/1%'
 //! It prints the lines that dremel prints. It reads the footer, then the chunks of the query's leaves only, page by page, each once. Of these it checks levels by their
 //! greatest, the numbers of triplets, values and records, texts as UTF-8, and that records have these columns. Other pages, encodings and schemas are refused.
-//! usage: limit five|groups|selective FILE..
+//! usage: limit five|groups|selective|objects FILE..
 
 use std::collections::HashMap;
 use std::convert::TryFrom;
@@ -626,6 +627,70 @@ fn names(page: &Page, to: &mut Vec<u8>) {
     to.truncate(end);
 }
 
+/// The names whose address begins so are kept, and records with such names.
+const ADDRESS: &[u8] = b"http://u/1";
+
+/// The lines of objects.
+#[derive(Default)]
+struct Objects(String);
+
+impl Objects {
+    fn take(&mut self, tablet: &Tablet, group: &RowGroup) -> Answer<()> {
+        let (mut ids, mut codes, mut kept) = (Vec::new(), Vec::new(), Vec::new());
+        let (mut of_code, mut of_url) = (Vec::new(), Vec::new());
+        tablet.pages(group, &DOC_ID, |page| {
+            ids.extend(page.numbers());
+            Ok(())
+        })?;
+        tablet.pages(group, &CODE, |page| {
+            names(&page, &mut of_code);
+            for (repetition, definition) in page.triplets() {
+                if repetition < 2 {
+                    codes.push(0u32);
+                }
+                *codes.last_mut().ok_or("no records have these levels")? += u32::from(definition == CODE.definition);
+            }
+            Ok(())
+        })?;
+        tablet.pages(group, &URL, |page| {
+            names(&page, &mut of_url);
+            let mut texts = Bytes(page.values);
+            for (_, definition) in page.triplets() {
+                kept.push(definition == URL.definition && texts.sized()?.starts_with(ADDRESS));
+            }
+            Ok(())
+        })?;
+        ensure(of_code == of_url, "columns have other names")?;
+        self.append(&ids, &of_url, &kept, &codes)
+    }
+
+    /// Appends the lines of a row group's records.
+    fn append(&mut self, ids: &[i64], names: &[u8], kept: &[bool], codes: &[u32]) -> Answer<()> {
+        use std::fmt::Write;
+        let mut ids = ids.iter();
+        let (mut id, mut open) = (0, false);
+        for ((name, kept), codes) in names.iter().zip(kept).zip(codes) {
+            if name >> 1 == 0 {
+                self.close(open);
+                (id, open) = (*ids.next().ok_or("a column has other records")?, false);
+            }
+            if *kept {
+                let told = if open { write!(self.0, ",{{\"codes\":{codes}}}") } else { write!(self.0, "{{\"DocId\":{id},\"Name\":[{{\"codes\":{codes}}}") };
+                told.map_err(|_| "no line")?;
+                open = true;
+            }
+        }
+        self.close(open);
+        Ok(())
+    }
+
+    fn close(&mut self, open: bool) {
+        if open {
+            self.0 += "]}\n";
+        }
+    }
+}
+
 /// The hash of Fowler, Noll and Vo, quick for short texts.
 struct Fnv(u64);
 
@@ -768,7 +833,12 @@ fn answer(query: &str, files: &[String]) -> Result<(), String> {
             })?;
             println!("{{\"n\":{few}}}");
         }
-        _ => return Err("usage: limit five|groups|selective FILE..".to_string()),
+        "objects" => {
+            let mut objects = Objects::default();
+            for_each_group(files, |tablet, group| objects.take(tablet, group))?;
+            print!("{}", objects.0);
+        }
+        _ => return Err("usage: limit five|groups|selective|objects FILE..".to_string()),
     }
     Ok(())
 }

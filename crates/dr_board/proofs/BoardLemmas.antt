@@ -5,12 +5,14 @@ use Rattle.std.proofs.lemmas.List.Elements.{All-push}
 use Rattle.dr_dispatch.specs.Job.{Job}
 use Rattle.dr_dispatch.specs.History.{is_recorded, after_event, answered}
 use Rattle.dr_dispatch.specs.Choice.{choice, after_give, after_take}
+use Rattle.dr_dispatch.specs.Draws.{fresh}
 use Rattle.dr_dispatch.specs.Pieces.{KeepsPieces}
 use Rattle.dr_dispatch.specs.declared.event.Hand.{Hand}
 use Rattle.dr_dispatch.specs.declared.event.Event.{Event}
 use Rattle.dr_dispatch.specs.declared.event.Event.TheVariants.{Give, Answer}
 use Rattle.dr_dispatch.proofs.HistoryLemmas.{one_more, answered-append}
 use Rattle.dr_dispatch.proofs.ChoiceLemmas.{choice_is_recorded}
+use Rattle.dr_dispatch.proofs.DrawLemmas.{fresh_is_recorded}
 use Rattle.dr_dispatch.proofs.BoundLemmas.{answered_are_tablets}
 
 module _ {P : Type 0} (j : Job) (tablet_of : P → ℕ) (is_true : ℕ → P → Type 0) (history : List Event) (pieces : List P) (k : KeepsPieces j tablet_of is_true history pieces) where
@@ -53,6 +55,14 @@ module _ {P : Type 0} (j : Job) (tablet_of : P → ℕ) (is_true : ℕ → P →
 
   pub keeps_take : KeepsPieces j tablet_of is_true (after_take j history) pieces
   keeps_take = take_at (choice j history) refl
+
+  -- after a tablet that is fresh was handed out
+  fresh_at : (t : ℕ) (o : Option Hand) → fresh j history t ≡ o → KeepsPieces j tablet_of is_true (after_give history o) pieces
+  fresh_at t None is = k
+  fresh_at t (Some h) is = keeps_event (Give h) (fresh_is_recorded j history t h k.recorded is) refl
+
+  pub keeps_fresh : (t : ℕ) → KeepsPieces j tablet_of is_true (after_give history (fresh j history t)) pieces
+  keeps_fresh t = fresh_at t (fresh j history t) refl
 
   -- after an answer that is recorded
   pub keeps_answered : (h : Hand) (piece : P) → is_recorded j history (Answer h) ≡ true → tablet_of piece ≡ h.tablet → is_true h.tablet piece

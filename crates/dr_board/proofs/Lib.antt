@@ -1,4 +1,5 @@
 pub mod MarkLemmas
 pub mod TabletLemmas
+pub mod AnsweredLemmas
 pub mod StateLemmas
 pub mod BoardLemmas

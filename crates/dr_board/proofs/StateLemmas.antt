@@ -1,5 +1,5 @@
 -- A state takes just the events that its history records, and stays a state.
-use Rattle.std.proofs.Common.{◌≡◌, ℕ, zero, suc, ◌+◌, ◌*◌, ◌^◌, ◌<◌, ◌≤◌, List, [], ◌∷◌, ◌++◌, map, length, get_or, set, Bool, true, false, ◌&&◌, ◌||◌, not, refl, sym, ap, ap₂, ◌∙◌, subst, length-append, true≢false, arith, zero-add, ⊎_elim, Option, Some, None}
+use Rattle.std.proofs.Common.{◌≡◌, ℕ, zero, suc, ◌+◌, ◌*◌, ◌^◌, ◌<◌, ◌≤◌, List, [], ◌∷◌, ◌++◌, map, length, get_or, set, Bool, true, false, ◌&&◌, ◌||◌, not, refl, sym, ap, ap₂, ◌∙◌, subst, length-append, true≢false, arith, zero-add, ⊎_elim, inr, Option, Some, None}
 use Rattle.std.specs.Prelude.{◌==◌, IfSome}
 use Rattle.std.specs.List.{list_any}
 use Rattle.std.proofs.lemmas.Bool.{eqb-true, cases_lt}
@@ -7,15 +7,18 @@ use Rattle.std.proofs.lemmas.List.{length-map}
 use Rattle.dr_dispatch.specs.Job.{Job, hand, leaves_at, pairs_of}
 use Rattle.dr_dispatch.specs.History.{has_give, has_answer, has_fault, is_recorded, is_history}
 use Rattle.dr_dispatch.specs.Choice.{choice}
+use Rattle.dr_dispatch.specs.Draws.{fresh}
 use Rattle.dr_dispatch.specs.declared.event.Hand.{Hand}
 use Rattle.dr_dispatch.specs.declared.event.Event.{Event}
 use Rattle.dr_dispatch.specs.declared.event.Event.TheVariants.{Give, Answer, Fault}
 use Rattle.dr_dispatch.proofs.HistoryLemmas.{one_more}
 use Rattle.dr_dispatch.proofs.ChoiceLemmas.{choice_is_recorded}
+use Rattle.dr_dispatch.proofs.DrawLemmas.{fresh_is_recorded, not_fresh_exactly}
 use Rattle.dr_dispatch.proofs.BoundLemmas.{history_is_bounded, given_is_of_job, is_tablet}
-use Rattle.dr_board.specs.Tablets.{TabletShown, leaf_at, tablet_at, tablets_from, new_tablet, leaves_of, job_of, hand_of, is_on, is_given_on, has_failed_on, takes_event, tablet_after, chosen_hand}
+use Rattle.dr_board.specs.Tablets.{TabletShown, leaf_at, tablet_at, tablets_from, new_tablet, leaves_of, job_of, hand_of, is_on, is_given_on, has_failed_on, takes_event, tablet_after, chosen_hand, fresh_hand}
 use Rattle.dr_board.specs.Shown.{StateShown, first_state, KeepsState}
-use Rattle.dr_board.proofs.TabletLemmas.{tablets-push, get_or-tablets, tablets-none, leaves_of-tablets, chosen-choice}
+use Rattle.dr_board.proofs.AnsweredLemmas.{stay_answered}
+use Rattle.dr_board.proofs.TabletLemmas.{tablets-push, get_or-tablets, tablets-none, leaves_of-tablets, fresh_same, chosen-choice}
 
 -- ---- which events are taken
 
@@ -96,7 +99,7 @@ past_is_not_recorded j es (Fault h cause) is past = ap (λ g. g && not (has_faul
 -- ---- what a state keeps
 
 -- of these tablets
-module _ (lag : ℕ) (tablets : List TabletShown) (es : List Event) (capacity : ℕ) (k : KeepsState (job_of lag tablets) es tablets capacity) where
+module _ (lag : ℕ) (tablets : List TabletShown) (es : List Event) (capacity start : ℕ) (k : KeepsState (job_of lag tablets) es tablets capacity start) where
   pub tablet_count : length tablets ≡ length (leaves_of tablets)
   tablet_count = sym (length-map tablets _)
 
@@ -128,14 +131,15 @@ module _ (lag : ℕ) (tablets : List TabletShown) (es : List Event) (capacity : 
   pub job_stays : (e : Event) (d : TabletShown) → (hand_of e).tablet < length tablets → job_of lag (after e d) ≡ job_of lag tablets
   job_stays e d h = ap (λ (rows : List (List ℕ)). record { leaves = rows; lag = lag }) (ap leaves_of (stands e d h) ∙ leaves_of-tablets (es ++ e ∷ []) 0 (leaves_of tablets))
 
-  pub state_after : (e : Event) (d : TabletShown) → (hand_of e).tablet < length tablets → is_recorded (job_of lag tablets) es e ≡ true → KeepsState (job_of lag (after e d)) (es ++ e ∷ []) (after e d) capacity
+  pub state_after : (e : Event) (d : TabletShown) → (hand_of e).tablet < length tablets → is_recorded (job_of lag tablets) es e ≡ true → KeepsState (job_of lag (after e d)) (es ++ e ∷ []) (after e d) capacity start
   state_after e d h r =
-      subst (λ (j : Job). KeepsState j (es ++ e ∷ []) (after e d) capacity) (sym (job_stays e d h)) (record {
+      subst (λ (j : Job). KeepsState j (es ++ e ∷ []) (after e d) capacity start) (sym (job_stays e d h)) (record {
         recorded = one_more (job_of lag tablets) es e k.recorded r;
         standing = stands e d h;
         room = k.room;
         bound = k.bound;
         small = k.small;
+        passed = stay_answered start (hand_of e).tablet (length es + 1) tablets d e k.passed;
       })
 
   -- the same, where the tablet is found by its number
@@ -158,9 +162,9 @@ module _ (lag : ℕ) (tablets : List TabletShown) (es : List Event) (capacity : 
     there_too : (hand_of e).tablet < length tablets
     there_too = omega (arith, is, there)
 
-    pub added_keeps : (room : ℕ) → room ≡ capacity → KeepsState (job_of lag (set tablets t new)) more (set tablets t new) room
+    pub added_keeps : (room : ℕ) → room ≡ capacity → KeepsState (job_of lag (set tablets t new)) more (set tablets t new) room start
     added_keeps room same =
-        subst (λ (y : List TabletShown × List Event × ℕ). KeepsState (job_of lag y.0) y.1 y.0 y.2) (λ i. (sym sets i, sym added i, sym same i)) (state_after e x there_too r)
+        subst (λ (y : List TabletShown × List Event × ℕ). KeepsState (job_of lag y.0) y.1 y.0 y.2 start) (λ i. (sym sets i, sym added i, sym same i)) (state_after e x there_too r)
 
     pub added_job : job_of lag (set tablets t new) ≡ job_of lag tablets
     added_job = ap (job_of lag) sets ∙ job_stays e x there_too
@@ -182,6 +186,19 @@ module _ (lag : ℕ) (tablets : List TabletShown) (es : List Event) (capacity : 
   pub choice_there : (count : ℕ) (ts : List TabletShown) → count ≡ length es → ts ≡ tablets → chosen_hand lag count ts ≡ choice (job_of lag tablets) es
   choice_there count ts n is = ap₂ (chosen_hand lag) n (is ∙ k.standing) ∙ chosen-choice (job_of lag tablets) es
 
+  -- what is fresh, by its tablet
+  pub fresh_there : (t : ℕ) (d : TabletShown) → t < length tablets → fresh_hand t (get_or tablets t d) ≡ fresh (job_of lag tablets) es t
+  fresh_there t d there = ap (fresh_hand t) (tablet_there t d there) ∙ fresh_same es t (leaves_at (leaves_of tablets) t)
+
+-- a tablet that isn't there isn't fresh
+pub past_is_not_fresh : (j : Job) (es : List Event) (t : ℕ) → length j.leaves ≤ t → fresh j es t ≡ None
+past_is_not_fresh j es t past = (not_fresh_exactly j es t).1 (inr (no_leaves j.leaves t past))
+
+-- what is fresh is recorded
+pub fresh_takes : (j : Job) (es : List Event) (t : ℕ) (o : Option Hand) → is_history j es ≡ true → fresh j es t ≡ o → IfSome o (λ h. is_recorded j es (Give h) ≡ true)
+fresh_takes j es t None is e = tt
+fresh_takes j es t (Some h) is e = fresh_is_recorded j es t h is e
+
 -- a choice is recorded
 pub choice_takes : (j : Job) (es : List Event) (o : Option Hand) → choice j es ≡ o → IfSome o (λ h. is_recorded j es (Give h) ≡ true)
 choice_takes j es None is = tt
@@ -192,17 +209,17 @@ pub first_tablets : (rows : List (List ℕ)) → leaves_of (map new_tablet rows)
 first_tablets rows = ap leaves_of (sym (tablets-none 0 rows)) ∙ leaves_of-tablets [] 0 rows
 
 first_keeps : (lag : ℕ) (rows : List (List ℕ)) (capacity : ℕ) → 3 * pairs_of rows ≤ capacity → 3 * pairs_of rows < 2 ^ 63 → length rows ≤ 2 ^ 32
-    → KeepsState (job_of lag (map new_tablet rows)) [] (map new_tablet rows) capacity
+    → KeepsState (job_of lag (map new_tablet rows)) [] (map new_tablet rows) capacity 0
 first_keeps lag rows capacity room bound small =
     let same : job_of lag (map new_tablet rows) ≡ record { leaves = rows; lag = lag } = λ i. record { leaves = first_tablets rows i; lag = lag } in
-    subst (λ (j : Job). KeepsState j [] (map new_tablet rows) capacity) (sym same)
-    (record { recorded = refl; standing = sym (tablets-none 0 rows); room = room; bound = bound; small = small })
+    subst (λ (j : Job). KeepsState j [] (map new_tablet rows) capacity 0) (sym same)
+    (record { recorded = refl; standing = sym (tablets-none 0 rows); room = room; bound = bound; small = small; passed = refl })
 
 -- the state before the first event
 pub first_state_keeps : (lag : ℕ) (rows : List (List ℕ)) (es : List Event) (tablets : List TabletShown) (capacity : ℕ) → es ≡ [] → tablets ≡ map new_tablet rows
-    → 3 * pairs_of rows ≤ capacity → 3 * pairs_of rows < 2 ^ 63 → length rows ≤ 2 ^ 32 → KeepsState (job_of lag tablets) es tablets capacity
+    → 3 * pairs_of rows ≤ capacity → 3 * pairs_of rows < 2 ^ 63 → length rows ≤ 2 ^ 32 → KeepsState (job_of lag tablets) es tablets capacity 0
 first_state_keeps lag rows es tablets capacity none is room bound small =
-    subst (λ (y : List TabletShown × List Event). KeepsState (job_of lag y.0) y.1 y.0 capacity) (λ i. (sym is i, sym none i)) (first_keeps lag rows capacity room bound small)
+    subst (λ (y : List TabletShown × List Event). KeepsState (job_of lag y.0) y.1 y.0 capacity 0) (λ i. (sym is i, sym none i)) (first_keeps lag rows capacity room bound small)
 
 abbrev shown_state : ℕ → List TabletShown → List Event → StateShown
 shown_state lag tablets es = record { job = job_of lag tablets; history = es }

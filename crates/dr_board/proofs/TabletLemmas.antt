@@ -1,5 +1,5 @@
 -- What is kept of each tablet is what the history says of it, and goes on with each event.
-use Rattle.std.proofs.Common.{◌≡◌, ℕ, zero, suc, ◌+◌, ◌<◌, ◌≤◌, List, [], ◌∷◌, ◌++◌, map, length, get_or, set, Bool, true, false, ◌&&◌, ◌||◌, not, Option, Some, None, refl, sym, ap, ap₂, ◌∙◌, length-append, arith, eq-eqb, ne_eqb}
+use Rattle.std.proofs.Common.{◌≡◌, ℕ, zero, suc, ◌+◌, ◌<◌, ◌≤◌, List, [], ◌∷◌, ◌++◌, map, length, get_or, set, Bool, true, false, ◌&&◌, ◌||◌, not, Option, Some, None, refl, sym, ap, ap₂, ◌∙◌, length-append, true≢false, arith, eq-eqb, ne_eqb}
 use Rattle.std.specs.Prelude.{◌==◌, ◌-◌, nat_le, if◌then◌else◌}
 use Rattle.std.specs.List.{list_any, list_all}
 use Rattle.std.proofs.Math.Bool.{or-false, or-true}
@@ -9,10 +9,11 @@ use Rattle.dr_outside.specs.declared.cause.Cause.{Cause}
 use Rattle.dr_dispatch.specs.Job.{Job, hand, leaves_at}
 use Rattle.dr_dispatch.specs.History.{gives, answers, faults, has_give, has_answer, has_fault}
 use Rattle.dr_dispatch.specs.Choice.{first_open, all_failed, gives_tablet, since_from, since_give, urgent, late, or_else, lowest, choice}
+use Rattle.dr_dispatch.specs.Draws.{was_handed_out, first_hand}
 use Rattle.dr_dispatch.specs.declared.event.Hand.{Hand}
 use Rattle.dr_dispatch.specs.declared.event.Event.{Event}
 use Rattle.dr_dispatch.specs.declared.event.Event.TheVariants.{Give, Answer, Fault}
-use Rattle.dr_board.specs.Tablets.{TabletShown, leaf_at, tablet_at, tablets_from, new_tablet, leaves_of, open_hand, urgent_hand, late_hand, lowest_hand, chosen_hand, hand_of, leaf_after, tablet_after}
+use Rattle.dr_board.specs.Tablets.{TabletShown, leaf_at, tablet_at, tablets_from, new_tablet, leaves_of, open_hand, urgent_hand, late_hand, lowest_hand, first_leaf_hand, fresh_hand, chosen_hand, hand_of, leaf_after, tablet_after}
 use Rattle.dr_board.specs.declared.tablet.LeafState.{LeafState}
 
 none_pushed : (p : Event → Bool) (es : List Event) (e : Event) → p e ≡ false → list_any p (es ++ e ∷ []) ≡ list_any p es
@@ -165,6 +166,43 @@ leaves_of-tablets es base [] = refl
 leaves_of-tablets es base (leaves ∷ rest) = ap₂ (λ (ls : List ℕ) (rs : List (List ℕ)). ls ∷ rs) (leaves_back es base leaves) (leaves_of-tablets es (suc base) rest)
 
 -- ---- what is handed out
+
+-- a tablet that wasn't handed out has all events behind its last hand-out, and one that was has less
+since_none_at : (t count : ℕ) (xs : List Event) (g : Bool) → (g || list_any (gives_tablet t) xs) ≡ false → (list_any (gives_tablet t) xs ≡ false → since_from t (suc count) xs ≡ suc count + length xs)
+    → (if g then since_from t 0 xs else since_from t (suc count) xs) ≡ count + suc (length xs)
+since_none_at t count xs true none rest = absurd (true≢false none)
+since_none_at t count xs false none rest = omega (arith, rest none)
+
+since_none : (t count : ℕ) (xs : List Event) → list_any (gives_tablet t) xs ≡ false → since_from t count xs ≡ count + length xs
+since_none t count [] none = omega arith
+since_none t count (x ∷ xs) none = since_none_at t count xs (gives_tablet t x) none (since_none t (suc count) xs)
+
+since_less_at : (t count : ℕ) (xs : List Event) (g : Bool) → (g || list_any (gives_tablet t) xs) ≡ true → since_from t 0 xs ≤ 0 + length xs
+    → (list_any (gives_tablet t) xs ≡ true → since_from t (suc count) xs < suc count + length xs) → (if g then since_from t 0 xs else since_from t (suc count) xs) < count + suc (length xs)
+since_less_at t count xs true some most rest = omega (arith, most)
+since_less_at t count xs false some most rest = omega (arith, rest some)
+
+since_less : (t count : ℕ) (xs : List Event) → list_any (gives_tablet t) xs ≡ true → since_from t count xs < count + length xs
+since_less t count [] some = absurd (true≢false (sym some))
+since_less t count (x ∷ xs) some = since_less_at t count xs (gives_tablet t x) some (since_le t 0 xs) (since_less t (suc count) xs)
+
+last_of : (es : List Event) (t : ℕ) (b : Bool) → was_handed_out es t ≡ b → ((length es - since_give es t) == 0) ≡ not b
+last_of es t true was = let less = since_less t 0 es was in ne_eqb (length es - since_give es t) 0 (λ zero. omega (arith, less, zero))
+last_of es t false was = let all = since_none t 0 es was in eq-eqb (length es - since_give es t) 0 (omega (arith, all))
+
+first_leaf_hand-first : (es : List Event) (t : ℕ) (leaves : List ℕ) → first_leaf_hand t (map (leaf_at es t) leaves) ≡ first_hand t leaves
+first_leaf_hand-first es t [] = refl
+first_leaf_hand-first es t (l ∷ leaves) = refl
+
+flipped : (b : Bool) (o : Option Hand) → (if not b then o else None) ≡ (if b then None else o)
+flipped true o = refl
+flipped false o = refl
+
+-- what is fresh of a tablet
+pub fresh_same : (es : List Event) (t : ℕ) (leaves : List ℕ) → fresh_hand t (tablet_at es t leaves) ≡ (if was_handed_out es t then None else first_hand t leaves)
+fresh_same es t leaves =
+    ap₂ (λ (b : Bool) (o : Option Hand). if b then o else None) (last_of es t (was_handed_out es t) refl) (first_leaf_hand-first es t leaves)
+    ∙ flipped (was_handed_out es t) (first_hand t leaves)
 
 open_hand-first : (es : List Event) (t : ℕ) (leaves : List ℕ) → open_hand t (map (leaf_at es t) leaves) ≡ first_open es t leaves
 open_hand-first es t [] = refl

@@ -1,5 +1,6 @@
 -- What a state and a board show.
-use Rattle.std.specs.Prelude.{◌≡◌, ℕ, ◌*◌, ◌^◌, ◌<◌, ◌≤◌, true, List, [], ◌∷◌, ◌++◌, length, if◌then◌else◌}
+use Rattle.std.specs.Prelude.{◌≡◌, ℕ, ◌*◌, ◌^◌, ◌<◌, ◌≤◌, true, List, [], ◌∷◌, ◌++◌, length, take, if◌then◌else◌}
+use Rattle.std.specs.List.{list_all}
 use Rattle.dr_dispatch.specs.Job.{Job, pairs}
 use Rattle.dr_dispatch.specs.History.{is_history, has_answer}
 use Rattle.dr_dispatch.specs.Pieces.{KeepsPieces}
@@ -15,13 +16,19 @@ pub record StateShown : Type 0 where
 abbrev pub first_state : Job → StateShown
 first_state j = record { job = j; history = [] }
 
--- the history is one of the job, and each tablet is as it says; there is room for each event that may come
-pub record KeepsState (j : Job) (history : List Event) (tablets : List TabletShown) (capacity : ℕ) : Type 0 where
+-- the first `start` of these tablets were answered, or all, where there are fewer
+abbrev pub AreAnswered : ℕ → List TabletShown → Type 0
+AreAnswered start tablets = list_all (λ (t : TabletShown). t.answered) (take start tablets) ≡ true
+
+-- the history is one of the job, and each tablet is as it says; there is room for each event that may come; the first `start` tablets were
+-- answered
+pub record KeepsState (j : Job) (history : List Event) (tablets : List TabletShown) (capacity start : ℕ) : Type 0 where
   pub recorded : is_history j history ≡ true
   pub standing : tablets ≡ tablets_from history 0 j.leaves
   pub room : 3 * pairs j ≤ capacity
   pub bound : 3 * pairs j < 2 ^ 63
   pub small : length j.leaves ≤ 2 ^ 32
+  pub passed : AreAnswered start tablets
 
 -- a history, and the pieces that are kept
 pub record BoardShown (P : Type 0) : Type 0 where

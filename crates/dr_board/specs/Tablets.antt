@@ -58,6 +58,15 @@ abbrev pub lowest_hand : (ℕ → TabletShown → Option Hand) → ℕ → List 
 lowest_hand pick t [] = None
 lowest_hand pick t (tablet ∷ rest) = or_else (pick t tablet) (lowest_hand pick (suc t) rest)
 
+-- the tablet t on its first leaf
+abbrev pub first_leaf_hand : ℕ → List LeafState → Option Hand
+first_leaf_hand t [] = None
+first_leaf_hand t (l ∷ leaves) = Some (hand t l.leaf)
+
+-- the same, where the tablet wasn't handed out
+abbrev pub fresh_hand : ℕ → TabletShown → Option Hand
+fresh_hand t tablet = if tablet.last == 0 then first_leaf_hand t tablet.leaves else None
+
 -- the choice after `count` events
 abbrev pub chosen_hand : ℕ → ℕ → List TabletShown → Option Hand
 chosen_hand lag count tablets = or_else (lowest_hand urgent_hand 0 tablets) (lowest_hand (late_hand lag count) 0 tablets)

@@ -1,10 +1,12 @@
-ghost use Rattle.std.specs.Prelude.{◌≡◌, ◌<◌, ◌≤◌, ◌^◌, length, true, IfOk, IfSome, if◌then◌else◌};
+ghost use Rattle.std.specs.Prelude.{◌≡◌, ◌+◌, ◌<◌, ◌≤◌, ◌^◌, length, true, IfOk, IfSome, if◌then◌else◌};
 ghost use Rattle.dr_dispatch.specs.History.{has_give, has_answer, is_recorded, after_event, is_history};
-ghost use Rattle.dr_dispatch.specs.Choice.{choice, after_take};
+ghost use Rattle.dr_dispatch.specs.Choice.{choice, after_give, after_take};
+ghost use Rattle.dr_dispatch.specs.Draws.{fresh};
 ghost use Rattle.dr_dispatch.specs.Pieces.{KeepsPieces};
 ghost use Rattle.dr_board.specs.Shown.{empty_board, pieces_after};
 
 use crate::job::Job;
+use crate::looks::Looks;
 use crate::piece::{Naming, Piece};
 use crate::state::State;
 use dr_dispatch::{Event, Hand};
@@ -76,11 +78,28 @@ impl<P: Piece + Drop, N: Naming<P>> Board<P, N> {
         self.state.len()
     }
 
+    /// How many tablets there are.
+    pub fn tablets(&self) -> u64
+        ensures count { result ≡ length N.job.leaves }
+        ensures bound { result ≤ 2 ^ 32 }
+    {
+        self.state.tablets()
+    }
+
     /// Whether the hand was given.
     pub fn was_given(&self, hand: Hand) -> bool
         ensures { result ≡ has_give self.now.history hand }
     {
         self.state.was_given(hand)
+    }
+
+    /// The choice of the dispatch machine, which isn't recorded. It looks at each tablet once at most.
+    pub fn choose(&self, looks: &mut Looks) -> Option<Hand>
+        ensures hand { result ≡ choice N.job self.now.history }
+        ensures looks { looks.new ≤ looks.old + length N.job.leaves }
+        ensures never_falls { looks.old ≤ looks.new }
+    {
+        self.state.choose(looks)
     }
 
     /// Hands out the choice of the dispatch machine, if it has one.
@@ -94,6 +113,20 @@ impl<P: Piece + Drop, N: Naming<P>> Board<P, N> {
         ensures given { IfSome result (λ h. has_give self.new.history h ≡ true) }
     {
         self.state.take()
+    }
+
+    /// Hands out the tablet on its first leaf, unless it was handed out before; None also where it has no leaf, or there
+    /// is no such tablet.
+    pub fn fresh(&mut self, tablet: u32) -> Option<Hand>
+        ensures hand { result ≡ fresh N.job self.old.history tablet }
+        ensures history { self.new.history ≡ after_give self.old.history (fresh N.job self.old.history tablet) }
+        ensures pieces { self.new.pieces ≡ self.old.pieces }
+
+        // What follows from that.
+        ensures recorded { is_history N.job self.new.history ≡ true }
+        ensures given { IfSome result (λ h. has_give self.new.history h ≡ true) }
+    {
+        self.state.fresh(tablet)
     }
 
     /// Keeps the piece for the hand's tablet, unless the tablet was answered before: then the piece comes back.

@@ -5,6 +5,7 @@
 mod board;
 mod choosing;
 mod job;
+mod looks;
 mod piece;
 mod replaying;
 mod state;
@@ -14,6 +15,7 @@ pub use board::{Board, Closing, Told};
 pub use dr_dispatch::{Event, Hand};
 pub use dr_memory::NoMemory;
 pub use job::Job;
+pub use looks::Looks;
 pub use piece::{Naming, Piece};
 pub use replaying::replay;
 pub use state::State;

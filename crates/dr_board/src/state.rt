@@ -1,11 +1,13 @@
-ghost use Rattle.std.specs.Prelude.{◌≡◌, ◌<◌, ◌≤◌, ◌^◌, ◌++◌, [], ◌∷◌, map, length, true, IfOk, IfSome};
+ghost use Rattle.std.specs.Prelude.{◌≡◌, ◌+◌, ◌<◌, ◌≤◌, ◌^◌, ◌++◌, [], ◌∷◌, map, length, true, IfOk, IfSome};
 ghost use Rattle.dr_dispatch.specs.History.{has_give, is_recorded, after_event, is_history};
-ghost use Rattle.dr_dispatch.specs.Choice.{choice, after_take};
+ghost use Rattle.dr_dispatch.specs.Choice.{choice, after_give, after_take};
+ghost use Rattle.dr_dispatch.specs.Draws.{fresh};
 ghost use Rattle.dr_board.specs.Tablets.{new_tablet};
 ghost use Rattle.dr_board.specs.Shown.{first_state};
 
-use crate::choosing::choose;
+use crate::choosing::{choose, past_answered};
 use crate::job::{Job, count_pairs};
+use crate::looks::Looks;
 use crate::tablet::{Tablet, tablet_of};
 use dr_dispatch::{Event, Hand};
 use dr_memory::NoMemory;
@@ -18,6 +20,8 @@ pub struct State {
     lag: u64,
     tablets: Vec<Tablet>,
     history: Vec<Event>,
+    // All tablets before this place were answered.
+    start: usize,
 }
 
 impl Model for State {
@@ -29,7 +33,7 @@ impl Model for State {
 
     ghost view = { λ s. record { job = job_of s.lag s.tablets.items; history = s.history.items } };
 
-    ghost invariant = { λ s. KeepsState (job_of s.lag s.tablets.items) s.history.items s.tablets.items (vec_capacity s.history) };
+    ghost invariant = { λ s. KeepsState (job_of s.lag s.tablets.items) s.history.items s.tablets.items (vec_capacity s.history) s.start };
 }
 
 impl State {
@@ -47,6 +51,7 @@ impl State {
             lag: job.lag,
             tablets,
             history,
+            start: 0,
         })
     }
 
@@ -63,6 +68,14 @@ impl State {
         ensures bound { result < 2 ^ 63 }
     {
         self.history.len() as u64
+    }
+
+    /// How many tablets there are.
+    pub fn tablets(&self) -> u64
+        ensures count { result ≡ length self.now.job.leaves }
+        ensures bound { result ≤ 2 ^ 32 }
+    {
+        self.tablets.len() as u64
     }
 
     /// Whether the hand was given.
@@ -101,11 +114,70 @@ impl State {
         ensures recorded { is_history self.new.job self.new.history ≡ true }
         ensures given { IfSome result (λ h. has_give self.new.history h ≡ true) }
     {
-        let Some(hand) = self.choose() else {
+        self.go_on();
+        let Some(hand) = self.choose(&mut Looks::new()) else {
             return None;
         };
         self.add(Event::Give(hand));
         Some(hand)
+    }
+
+    /// The choice of the dispatch machine, which isn't recorded. It looks at each tablet once at most.
+    pub fn choose(&self, looks: &mut Looks) -> Option<Hand>
+        ensures hand { result ≡ choice self.now.job self.now.history }
+        ensures looks { looks.new ≤ looks.old + length self.now.job.leaves }
+        ensures never_falls { looks.old ≤ looks.new }
+
+        // What follows from that.
+        ensures takes { IfSome result (λ h. is_recorded self.now.job self.now.history (Event.Give h) ≡ true) }
+
+        // What is always so of a state.
+        ensures recorded { is_history self.now.job self.now.history ≡ true }
+    {
+        choose(
+            self.tablets.as_slice(),
+            self.start,
+            self.lag,
+            self.history.len() as u64,
+            looks,
+        )
+    }
+
+    /// Hands out the tablet on its first leaf, unless it was handed out before; None also where it has no leaf, or there
+    /// is no such tablet.
+    pub fn fresh(&mut self, tablet: u32) -> Option<Hand>
+        ensures hand { result ≡ fresh self.old.job self.old.history tablet }
+        ensures history { self.new.history ≡ after_give self.old.history (fresh self.old.job self.old.history tablet) }
+        ensures job { self.new.job ≡ self.old.job }
+
+        // What follows from that.
+        ensures recorded { is_history self.new.job self.new.history ≡ true }
+        ensures given { IfSome result (λ h. has_give self.new.history h ≡ true) }
+    {
+        let Some(hand) = self.find_fresh(tablet) else {
+            return None;
+        };
+        self.add(Event::Give(hand));
+        Some(hand)
+    }
+
+    // The tablet on its first leaf, where it wasn't handed out.
+    fn find_fresh(&self, tablet: u32) -> Option<Hand>
+        ensures hand { result ≡ fresh self.now.job self.now.history tablet }
+        ensures takes { IfSome result (λ h. is_recorded self.now.job self.now.history (Event.Give h) ≡ true) }
+        ensures recorded { is_history self.now.job self.now.history ≡ true }
+    {
+        match self.tablets.get(tablet as usize) {
+            Some(found) => found.fresh(tablet),
+            None => None,
+        }
+    }
+
+    // Goes past answered tablets, which no choice looks at from then on.
+    fn go_on(&mut self)
+        ensures { self.new ≡ self.old }
+    {
+        self.start = past_answered(self.tablets.as_slice(), self.start);
     }
 
     // Whether the event is recorded.
@@ -132,15 +204,6 @@ impl State {
         self.tablets[place].note(event, count);
     }
 
-    // The choice of the dispatch machine.
-    fn choose(&self) -> Option<Hand>
-        ensures hand { result ≡ choice self.now.job self.now.history }
-        ensures takes { IfSome result (λ h. is_recorded self.now.job self.now.history (Event.Give h) ≡ true) }
-        ensures recorded { is_history self.now.job self.now.history ≡ true }
-    {
-        choose(self.tablets.as_slice(), self.lag, self.history.len() as u64)
-    }
-
     /// The events, in their order.
     pub fn into_history(self) -> Vec<Event>
         ensures history { result.items ≡ self.history }
@@ -152,6 +215,7 @@ impl State {
             lag: _,
             tablets: _,
             history,
+            start: _,
         } = self;
         history
     }

@@ -1,7 +1,7 @@
 // What is kept of a tablet.
 ghost use Rattle.std.specs.Prelude.{◌≡◌, ◌&&◌, ◌||◌, ◌==◌, not, map, IfOk};
 ghost use Rattle.std.specs.List.{list_any, list_all};
-ghost use Rattle.dr_board.specs.Tablets.{new_leaf, open_hand, is_on, is_given_on, has_failed_on, marked_leaf, leaf_after, hand_of};
+ghost use Rattle.dr_board.specs.Tablets.{new_leaf, open_hand, first_leaf_hand, is_on, is_given_on, has_failed_on, marked_leaf, leaf_after, hand_of};
 
 use dr_dispatch::{Event, Hand};
 use dr_memory::NoMemory;
@@ -56,6 +56,18 @@ fn first_open(number: u32, leaves: &[LeafState]) -> Option<Hand>
         }
     }
     None
+}
+
+fn on_first(number: u32, leaves: &[LeafState]) -> Option<Hand>
+    ensures { result ≡ first_leaf_hand number leaves.now }
+{
+    match leaves.first() {
+        Some(state) => Some(Hand {
+            tablet: number,
+            leaf: state.leaf,
+        }),
+        None => None,
+    }
 }
 
 fn is_not_at_work(leaves: &[LeafState]) -> bool
@@ -121,7 +133,7 @@ fn unused_leaves(alloc: Global, leaves: &[u32]) -> Result<Vec<LeafState>, AllocE
 
 impl Tablet {
     ghost use Rattle.std.specs.Prelude.{◌≤◌};
-    ghost use Rattle.dr_board.specs.Tablets.{new_tablet, urgent_hand, late_hand, takes_event, tablet_after};
+    ghost use Rattle.dr_board.specs.Tablets.{new_tablet, urgent_hand, late_hand, fresh_hand, takes_event, tablet_after};
 
     // A tablet of these leaves.
     pub(crate) fn new(alloc: Global, leaves: &[u32]) -> Result<Tablet, NoMemory>
@@ -132,6 +144,13 @@ impl Tablet {
             answered: false,
             last: 0,
         })
+    }
+
+    // Whether it was answered.
+    pub(crate) fn is_answered(&self) -> bool
+        ensures { result ≡ self.now.answered }
+    {
+        self.answered
     }
 
     // Its next leaf, where no leaf is at work on it.
@@ -152,6 +171,16 @@ impl Tablet {
             return None;
         }
         first_open(number, self.leaves.as_slice())
+    }
+
+    // Its first leaf, where it wasn't given on any.
+    pub(crate) fn fresh(&self, number: u32) -> Option<Hand>
+        ensures { result ≡ fresh_hand number self.now }
+    {
+        if self.last != 0 {
+            return None;
+        }
+        on_first(number, self.leaves.as_slice())
     }
 
     // Whether it was given on the leaf.

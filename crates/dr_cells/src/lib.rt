@@ -3,6 +3,7 @@
 
 mod cell;
 mod cells;
+mod clearing;
 pub mod laws;
 mod moving;
 mod planning;

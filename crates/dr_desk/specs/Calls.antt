@@ -1,10 +1,11 @@
 -- What the calls of a desk tell a pass.
-use Rattle.std.specs.Prelude.{◌≡◌, Bool, true, false, List, [], Some}
+use Rattle.std.specs.Prelude.{◌≡◌, ℕ, Bool, true, false, List, [], Some}
+use Rattle.std.specs.declared.option.Option.{Option}
 use mathlib.Core.List.{IsPrefix}
 use Rattle.dr_dispatch.specs.Job.{Job}
 use Rattle.dr_dispatch.specs.History.{has_answer, is_recorded}
-use Rattle.dr_dispatch.specs.Choice.{choice}
-use Rattle.dr_dispatch.specs.Seen.{adds}
+use Rattle.dr_dispatch.specs.Draws.{next_hand}
+use Rattle.dr_dispatch.specs.Seen.{adds, with_drawn, drew}
 use Rattle.dr_dispatch.specs.declared.event.Hand.{Hand}
 use Rattle.dr_dispatch.specs.declared.event.Event.{Event}
 use Rattle.dr_dispatch.specs.declared.event.Event.TheVariants.{Give, Answer, Fault}
@@ -20,12 +21,18 @@ pub record Adds (j : Job) (e : Event) (before after : PassShown) : Type 0 where
   pub recorded : is_recorded j history e ≡ true
   pub added : after ≡ adds history e before
 
--- the same, where the event hands out what was the choice
+-- the pass drew at most one tablet
+abbrev pub IsDrawTold : PassShown → PassShown → Type 0
+IsDrawTold before after = (drawn : Option ℕ) × (after.drawn ≡ with_drawn drawn before.drawn)
+
+-- the same as Adds, where the pass drew a tablet, or none, and the event hands out what is then handed out to it: the tablet that it drew, on
+-- its first leaf, if it wasn't handed out before, and else the choice
 pub record Takes (j : Job) (h : Hand) (before after : PassShown) : Type 0 where
+  pub drawn : Option ℕ
   pub history : List Event
   pub earlier : IsPrefix before.seen history
-  pub chosen : choice j history ≡ Some h
-  pub added : after ≡ adds history (Give h) before
+  pub handed : next_hand j history drawn ≡ Some h
+  pub added : after ≡ adds history (Give h) (drew drawn before)
 
 -- an answer: its piece was kept and the event is the pass's own, or the tablet was answered before and the piece came back
 abbrev pub IsAnswerTold : {P : Type 0} → Job → Hand → P → PassShown → PassShown → Told P → Type 0
@@ -39,4 +46,4 @@ IsFaultTold j h cause before after false = (is_recorded j after.seen (Fault h ca
 
 -- a pass that has seen nothing
 abbrev pub new_pass : PassShown
-new_pass = record { seen = []; own = [] }
+new_pass = record { seen = []; own = []; drawn = [] }

@@ -1,35 +1,37 @@
-ghost use Rattle.std.specs.Prelude.{◌≡◌, [], true, None, ◌||◌, replicate, IfOk, IfSome, IfNone, MatchBool};
+ghost use Rattle.std.specs.Prelude.{◌≡◌, ◌≤◌, ◌^◌, [], length, true, None, ◌||◌, replicate, IfOk, IfSome, IfNone, MatchBool};
 ghost use mathlib.Core.List.{IsPrefix};
 ghost use Rattle.dr_dispatch.specs.History.{has_give, has_answer, has_fault, is_history};
 ghost use Rattle.dr_dispatch.specs.Choice.{choice};
 ghost use Rattle.dr_dispatch.specs.Pieces.{KeepsPieces};
-ghost use Rattle.dr_dispatch.specs.Seen.{AreOfHistory};
-ghost use Rattle.dr_desk.specs.Calls.{new_pass, Takes, IsAnswerTold, IsFaultTold};
+ghost use Rattle.dr_dispatch.specs.Seen.{AreOfHistory, drew};
+ghost use Rattle.dr_desk.specs.Calls.{new_pass, IsDrawTold, Takes, IsAnswerTold, IsFaultTold};
 
 use crate::ground::Ground;
 use crate::locked::Locked;
 use crate::pass::Pass;
 use crate::room::Room;
 use crate::rule::SeatTable;
-use crate::steps::{gather, look, newcomer};
+use crate::steps::{draw, gather, look, newcomer};
 use dr_board::{Board, Closing, Event, Hand, Naming, NoMemory, Piece, Told};
 use dr_outside::Cause;
 use std::alloc::Global;
 use std::marker::PhantomData;
 use std::sync::{Mutex, Wait};
 
-/// A board under a lock. Each call of a pass is at most one event, and tells the pass the history up to it. Its calls
-/// wait for the lock, and take no memory.
+/// A board under a lock, and beside it the next tablet to be drawn. Each call of a pass is at most one event, and tells
+/// the pass the history up to it. Its calls wait for the lock, and take no memory.
 #[derive(Drop)]
 pub struct Desk<P: Piece + Drop, N: Naming<P>, B: Room> {
     table: SeatTable,
+    tablets: u64,
     lock: Mutex<Locked<P, N, B>>,
     ghost named: { table.shared.table_id ≡ B.table },
-    ghost counts: { table.shared.table_id.words ≡ 1 },
+    ghost counts: { table.shared.table_id.words ≡ 2 },
+    ghost limit: { (table.shared.key ≡ tablets) × (tablets ≡ length N.job.leaves) × (tablets ≤ 2 ^ 32) },
 }
 
 impl<P: Piece + Drop, N: Naming<P>, B: Room> Desk<P, N, B> {
-    /// A desk over a board without events, and so many passes.
+    /// A desk over a board without events, and so many passes. The ground was made for the board's tablets.
     ///
     /// Errors: want of memory alone.
     pub fn new(
@@ -38,7 +40,8 @@ impl<P: Piece + Drop, N: Naming<P>, B: Room> Desk<P, N, B> {
         board: Board<P, N>,
         count: usize,
     ) -> Result<(Self, Vec<Pass<B>>), NoMemory>
-        requires ground { ground ≡ B.table }
+        requires ground { ground.table ≡ B.table }
+        requires tablets { ground.tablets ≡ length N.job.leaves }
         requires board { board.history ≡ [] }
         ensures { IfOk result (λ made. made.1.items ≡ replicate count new_pass) }
     {
@@ -49,9 +52,11 @@ impl<P: Piece + Drop, N: Naming<P>, B: Room> Desk<P, N, B> {
             passes.push_reserved(Pass {
                 number,
                 seat,
+                next: 0,
                 of: PhantomData,
             });
         }
+        let tablets = board.tablets();
         let locked = Locked {
             board,
             keeper: Some(keeper),
@@ -59,23 +64,45 @@ impl<P: Piece + Drop, N: Naming<P>, B: Room> Desk<P, N, B> {
         };
         let desk = Desk {
             table,
+            tablets,
             lock: Mutex::new(locked),
         };
         Ok((desk, passes))
     }
 
-    /// Hands out the choice of the dispatch machine, if it has one.
+    /// Draws a tablet, unless all are drawn or another pass draws it first, and hands it out on its first leaf. Where
+    /// none was drawn, or it was handed out before, it hands out the choice of the dispatch machine, if it has one.
     pub fn take<R: Wait>(&self, rt: &R, pass: &mut Pass<B>) -> Option<Hand>
         ensures earlier { IsPrefix pass.old.seen pass.new.seen }
         ensures recorded { is_history N.job pass.new.seen ≡ true }
         ensures taken { IfSome result (λ h. Takes N.job h pass.old pass.new) }
         ensures none { IfNone result (choice N.job pass.new.seen ≡ None) }
         ensures own { IfNone result (pass.new.own ≡ pass.old.own) }
+        ensures draws { IsDrawTold pass.old pass.new }
 
         // What follows from that.
         ensures given { IfSome result (λ h. has_give pass.new.seen h ≡ true) }
     {
-        self.lock.lock(rt).take(&self.table.shared, pass)
+        let drawn = self.draw(pass);
+        self.lock.lock(rt).take(&self.table.shared, pass, drawn)
+    }
+
+    // Draws the next tablet, outside the lock, where it is the one that the pass last knew as the next. Otherwise the
+    // pass knows the next one from then on.
+    fn draw(&self, pass: &mut Pass<B>) -> Option<u32>
+        ensures { pass.new ≡ drew result pass.old }
+    {
+        let next = pass.next;
+        if next >= self.tablets {
+            return None;
+        }
+        let found = draw(&self.table.shared, &mut pass.seat, next);
+        if found != next {
+            pass.next = found;
+            return None;
+        }
+        pass.next = next + 1;
+        Some(next as u32)
     }
 
     /// Keeps the piece for the hand's tablet, unless the tablet was answered before: then the piece comes back.
@@ -113,7 +140,11 @@ impl<P: Piece + Drop, N: Naming<P>, B: Room> Desk<P, N, B> {
         ensures passes { AreOfHistory result.history.items passes.items }
         ensures kept { KeepsPieces N.job P.tablet_of N.is_true result.history.items result.pieces.items }
     {
-        let Desk { table, lock } = self;
+        let Desk {
+            table,
+            tablets: _,
+            lock,
+        } = self;
         let Locked {
             board,
             keeper,
@@ -126,6 +157,7 @@ impl<P: Piece + Drop, N: Naming<P>, B: Room> Desk<P, N, B> {
             let Pass {
                 number: _,
                 seat,
+                next: _,
                 of: _,
             } = pass;
             gather(&table.shared, &mut keeper, seat);

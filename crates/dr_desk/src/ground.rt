@@ -15,27 +15,28 @@ pub struct Ground {
 
 impl Model for Ground {
     ghost use Rattle.std.specs.Prelude.{◌≡◌, []};
-    ghost use Rattle.atomic_table.specs.Seated.{TableId, table_id_coded};
+    ghost use Rattle.dr_desk.specs.Grounds.{GroundShown, ground_coded};
 
-    ghost Value = { TableId };
+    ghost Value = { GroundShown };
 
-    ghost coded = { table_id_coded };
+    ghost coded = { ground_coded };
 
     ghost use Rattle.dr_desk.specs.Rule.{IsKeeperSeat};
 
-    ghost view = { λ g. g.table.shared.table_id };
+    ghost view = { λ g. record { table = g.table.shared.table_id; tablets = g.table.shared.key } };
 
-    ghost invariant = { λ g. (g.table.shared.table_id.words ≡ 1) × IsKeeperSeat g.table.shared.table_id g.keeper.table_id g.keeper.me [] };
+    ghost invariant = { λ g. (g.table.shared.table_id.words ≡ 2) × IsKeeperSeat g.table.shared.table_id g.keeper.table_id g.keeper.me [] };
 }
 
 impl Ground {
-    /// A ground for one desk.
+    /// A ground for one desk, of a job of so many tablets.
     ///
     /// Errors: want of memory alone.
-    pub fn new(alloc: Global) -> Result<Ground, NoMemory>
-        ensures { IfOk result (λ g. g.words ≡ 1) }
+    pub fn new(alloc: Global, tablets: usize) -> Result<Ground, NoMemory>
+        ensures words { IfOk result (λ g. g.table.words ≡ 2) }
+        ensures tablets { IfOk result (λ g. g.tablets ≡ tablets) }
     {
-        let (table, keeper) = SeatTable::of_words(alloc, &[0], &())?;
+        let (table, keeper) = SeatTable::of_words(alloc, &[0, 0], &(tablets as u64))?;
         Ok(Ground { table, keeper })
     }
 }

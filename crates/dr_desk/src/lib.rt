@@ -5,6 +5,7 @@
 
 mod desk;
 mod ground;
+mod handing;
 mod locked;
 mod pass;
 mod room;

@@ -1,11 +1,13 @@
 // What lies under the lock: the board, and the seat that keeps its history.
-ghost use Rattle.std.specs.Prelude.{◌≡◌, ◌<◌, true, false, IfSome, IfNone, if◌then◌else◌};
+ghost use Rattle.std.specs.Prelude.{◌≡◌, ◌<◌, true, false, None, IfSome, IfNone, if◌then◌else◌};
 ghost use mathlib.Core.List.{IsPrefix};
 ghost use Rattle.dr_dispatch.specs.History.{has_give, has_answer, is_recorded, after_event, is_history};
-ghost use Rattle.dr_dispatch.specs.Choice.{choice, after_take};
+ghost use Rattle.dr_dispatch.specs.Choice.{choice, after_give};
+ghost use Rattle.dr_dispatch.specs.Draws.{next_hand};
 ghost use Rattle.dr_dispatch.specs.Seen.{adds, looks};
 ghost use Rattle.dr_board.specs.Shown.{pieces_after};
 
+use crate::handing::hand_out;
 use crate::pass::Pass;
 use crate::room::Room;
 use crate::rule::{Place, Seats};
@@ -34,22 +36,29 @@ impl<P: Piece + Drop, N: Naming<P>, B: Room> Model for Locked<P, N, B> {
 }
 
 impl<P: Piece + Drop, N: Naming<P>, B: Room> Locked<P, N, B> {
-    pub(crate) fn take(&mut self, seats: &Seats, pass: &mut Pass<B>) -> Option<Hand>
+    // For a pass that drew this tablet, or none.
+    pub(crate) fn take(
+        &mut self,
+        seats: &Seats,
+        pass: &mut Pass<B>,
+        drawn: Option<u32>,
+    ) -> Option<Hand>
         requires { (seats.now.table_id ≡ B.table) × (0 < seats.now.table_id.words) }
-        ensures hand { result ≡ choice N.job self.old.history }
-        ensures history { self.new.history ≡ after_take N.job self.old.history }
+        ensures hand { result ≡ next_hand N.job self.old.history drawn }
+        ensures history { self.new.history ≡ after_give self.old.history (next_hand N.job self.old.history drawn) }
         ensures pieces { self.new.pieces ≡ self.old.pieces }
         ensures recorded { is_history N.job self.new.history ≡ true }
         ensures earlier { IsPrefix pass.old.seen self.old.history }
         ensures given { IfSome result (λ h. pass.new ≡ adds self.old.history (Event.Give h) pass.old) }
         ensures none { IfNone result (pass.new ≡ looks self.old.history pass.old) }
+        ensures choice { IfNone result (choice N.job self.old.history ≡ None) }
     {
         let Some(keeper) = self.keeper.take() else {
             unreachable!();
         };
         enter(seats, &mut pass.seat, keeper);
         let count = self.board.len();
-        let hand = self.board.take();
+        let hand = hand_out(&mut self.board, drawn);
         if let Some(hand) = hand {
             raise(seats, &mut pass.seat, count, &Event::Give(hand));
         }

@@ -1,23 +1,24 @@
-// The table beside the lock: one word, the number of events, and the seats of the keeper and of all passes.
+// The table beside the lock: two words, the number of events and the next tablet to be drawn, and the seats of the
+// keeper and of all passes.
 use atomic_table::{Join, Play, Seat, Shared, Split, Table, TableRule};
 use dr_dispatch::{Event, SeatView};
 use std::alloc::Global;
 
-pub(crate) type Seats = Shared<Event, SeatView, (), Law>;
+pub(crate) type Seats = Shared<Event, SeatView, u64, Law>;
 
-pub(crate) type SeatTable = Table<Event, SeatView, (), Law, Global>;
+pub(crate) type SeatTable = Table<Event, SeatView, u64, Law, Global>;
 
 pub(crate) type Place = Seat<Event, SeatView>;
 
-// What holds between any two steps.
+// What holds between any two steps, for so many tablets.
 pub(crate) struct Law;
 
-impl TableRule<Event, SeatView, ()> for Law {
+impl TableRule<Event, SeatView, u64> for Law {
     ghost use Rattle.std.specs.Prelude.{[]};
     ghost use Rattle.dr_dispatch.specs.Seats.{keeper_at};
     ghost use Rattle.dr_desk.specs.Rule.{Holds};
 
-    ghost holds = { λ _ s. Holds s };
+    ghost holds = { λ tablets s. Holds tablets s };
 
     ghost first = { λ _. keeper_at [] };
 }
@@ -82,4 +83,13 @@ impl Play<Event, SeatView> for Adds {
     ghost use Rattle.dr_desk.specs.Rule.{AddTells};
 
     ghost then = { AddTells };
+}
+
+// The next tablet is drawn, if it is the number that is said.
+pub(crate) struct Draws;
+
+impl Play<Event, SeatView> for Draws {
+    ghost use Rattle.dr_desk.specs.Rule.{DrawTells};
+
+    ghost then = { DrawTells };
 }

@@ -1,13 +1,15 @@
-// The steps of seats. Each is one step on the table's word; none takes memory or waits.
-ghost use Rattle.std.specs.Prelude.{◌≡◌, ◌+◌, ◌^◌, ◌<◌, [], length, true};
+// The steps of seats. Each is one step on a word of the table; none takes memory or waits.
+ghost use Rattle.std.specs.Prelude.{◌≡◌, ◌==◌, ◌+◌, ◌^◌, ◌<◌, [], length, true, false, if◌then◌else◌};
 ghost use mathlib.Core.List.{IsPrefix};
 ghost use Rattle.dr_dispatch.specs.Seen.{Ascends};
-ghost use Rattle.dr_dispatch.specs.Seats.{handed, gathered, passed, keeper_of, newcomer_of, looked, added, MetFits};
+ghost use Rattle.dr_dispatch.specs.Seats.{handed, gathered, passed, keeper_of, newcomer_of, looked, added, drawing, MetFits};
 
-use crate::rule::{Adds, Gathers, Hands, Looks, Newcomers, Passes, Place, Seats};
+use crate::rule::{Adds, Draws, Gathers, Hands, Looks, Newcomers, Passes, Place, Seats};
 use dr_dispatch::Event;
 
 const COUNT: usize = 0;
+
+const NEXT: usize = 1;
 
 // The keeper reads the number of events, and learns how what it met fits to the history.
 pub(crate) fn look(seats: &Seats, seat: &mut Place)
@@ -24,10 +26,11 @@ pub(crate) fn look(seats: &Seats, seat: &mut Place)
 pub(crate) fn enter(seats: &Seats, seat: &mut Place, keeper: Place)
     requires seat { (seat.old.table_id ≡ seats.now.table_id) × (0 < seats.now.table_id.words) }
     requires keeper { (keeper.table_id ≡ seats.now.table_id) × (keeper.me.1 ≡ []) × (keeper.me.0.keeps ≡ true)
-        × (keeper.me.0.own ≡ []) }
+        × (keeper.me.0.own ≡ []) × (keeper.me.0.drawn ≡ []) }
     requires ordered { Ascends 0 seat.old.me.0.own (length seat.old.me.0.seen) }
     ensures seat { seat.new.table_id ≡ seat.old.table_id }
     ensures view { seat.new.me ≡ (looked (handed seat.old.me.0 keeper.me.0), seat.old.me.1) }
+    ensures drawn { seat.new.me.0.drawn ≡ seat.old.me.0.drawn }
     ensures earlier { IsPrefix seat.old.me.0.seen keeper.me.0.seen }
     ensures ordered { Ascends 0 seat.new.me.0.own (length seat.new.me.0.seen) }
 {
@@ -78,4 +81,21 @@ pub(crate) fn gather(seats: &Seats, keeper: &mut Place, seat: Place)
     ensures view { keeper.new.me ≡ (gathered keeper.old.me.0 seat.me.0, keeper.old.me.1) }
 {
     seats.join_seat::<Gathers>(keeper, seat);
+}
+
+// A pass draws the next tablet to be drawn, if it is `next`, and tells which it was.
+pub(crate) fn draw(seats: &Seats, seat: &mut Place, next: u64) -> u64
+    requires seat { (seat.old.table_id ≡ seats.now.table_id) × (1 < seats.now.table_id.words) }
+    requires rests { seat.old.me.0.keeps ≡ false }
+    requires tablet { next < seats.now.key }
+    requires room { next + 1 < 2 ^ 64 }
+    requires ordered { Ascends 0 seat.old.me.0.drawn next }
+    ensures seat { seat.new.table_id ≡ seat.old.table_id }
+    ensures view { seat.new.me ≡ (
+      if result == next then drawing next seat.old.me.0 else seat.old.me.0,
+      seat.old.me.1,
+    ) }
+    ensures ordered { Ascends 0 seat.new.me.0.drawn (if result == next then next + 1 else result) }
+{
+    seats.compare_exchange::<Draws>(seat, NEXT, next, next + 1)
 }

@@ -1,13 +1,13 @@
 -- The choice is the next hand, said by tablets and leaves.
 use Rattle.std.proofs.Common.{◌≡◌, ℕ, zero, suc, ◌+◌, ◌<◌, ◌≤◌, List, [], ◌∷◌, ◌++◌, length, Bool, true, false, ◌&&◌, ◌||◌, not, Option, Some, None, refl, sym, ap, ap₂, ◌∙◌, subst, true≢false, arith, add-zero, zero-add, eq-eqb, ⊎_elim, ◌⊎◌, inl, inr}
-use Rattle.std.specs.Prelude.{◌==◌, nat_le, nat_lt, if◌then◌else◌, IsSome}
-use Rattle.std.specs.List.{list_any, list_all}
+use Rattle.std.specs.Prelude.{◌==◌, nat_le, nat_lt, if◌then◌else◌}
+use Rattle.std.specs.List.{list_any}
 use Rattle.std.proofs.lemmas.Bool.{and_parts, not-true}
 use Rattle.std.proofs.lemmas.Bool.Decides.{nat_tests}
 use Rattle.dr_dispatch.specs.Job.{Job, hand, leaves_at}
 use Rattle.dr_dispatch.specs.History.{same_hand, gives, has_give, has_answer, has_fault}
 use Rattle.dr_dispatch.specs.Choice.{first_open, all_failed, gives_tablet, since_from, since_give, urgent, late, or_else, lowest, choice}
-use Rattle.dr_dispatch.specs.ChoiceLaws.{all_given, IsOpen, IsIdle, IsFarBack, IsUrgent, IsLate, IsLowest, IsFirstLeft, IsNext, ChoiceIsNext}
+use Rattle.dr_dispatch.specs.ChoiceLaws.{all_given, IsOpen, IsFarBack, IsUrgent, IsLate, IsLowest, IsFirstLeft, IsNext, ChoiceIsNext}
 use Rattle.dr_dispatch.specs.declared.event.Hand.{Hand}
 use Rattle.dr_dispatch.specs.declared.event.Event.{Event}
 use Rattle.dr_dispatch.specs.declared.event.Event.TheVariants.{Give, Answer, Fault}

@@ -17,7 +17,7 @@ use Rattle.dr_dispatch.specs.declared.seen.PassShown.{PassShown}
 use Rattle.dr_dispatch.specs.declared.seen.SeatView.{SeatView}
 use Rattle.dr_dispatch.proofs.Prefixes.{prefix_self, prefix_none, prefix_push}
 
-off : {A : Type 0} → false ≡ true → A
+pub off : {A : Type 0} → false ≡ true → A
 off e = absurd (true≢false (sym e))
 
 -- ---- lists of places
@@ -31,10 +31,10 @@ place_left p xs ys h = place-append p xs ys ∙ ap (λ b. b || has_place p ys) h
 place_right : (p : ℕ) (xs ys : List ℕ) → has_place p ys ≡ true → has_place p (xs ++ ys) ≡ true
 place_right p xs ys h = place-append p xs ys ∙ (ap (λ b. has_place p xs || b) h ∙ or-true (has_place p xs))
 
-place_cases : (p : ℕ) (xs ys : List ℕ) → has_place p (xs ++ ys) ≡ true → (has_place p xs ≡ true) ⊎ (has_place p ys ≡ true)
+pub place_cases : (p : ℕ) (xs ys : List ℕ) → has_place p (xs ++ ys) ≡ true → (has_place p xs ≡ true) ⊎ (has_place p ys ≡ true)
 place_cases p xs ys h = or_cases (has_place p xs) (has_place p ys) (sym (place-append p xs ys) ∙ h)
 
-place_one : (p n : ℕ) → has_place p (n ∷ []) ≡ true → p ≡ n
+pub place_one : (p n : ℕ) → has_place p (n ∷ []) ≡ true → p ≡ n
 place_one p n h = ⊎_elim (λ (e : (n == p) ≡ true). sym (eqb-true n p e)) (λ (e : false ≡ true). off e) (or_cases (n == p) false h)
 
 -- ---- what was met
@@ -62,12 +62,12 @@ met_are_of_history history own (m ∷ met) fits = (fits.0, (λ p h. (fits.1 p h)
 
 module _ (P : ℕ → SeatView → Type 0) (views : List SeatView) where
   -- where one view is set
-  after_set : (k : ℕ) (w : SeatView) → ((j : ℕ) (u : SeatView) → j ≢ k → get_elem? views j ≡ some u → P j u) → P k w → (j : ℕ) (u : SeatView) → get_elem? (set views k w) j ≡ some u → P j u
+  pub after_set : (k : ℕ) (w : SeatView) → ((j : ℕ) (u : SeatView) → j ≢ k → get_elem? views j ≡ some u → P j u) → P k w → (j : ℕ) (u : SeatView) → get_elem? (set views k w) j ≡ some u → P j u
   after_set k w others mine j u e =
       ⊎_elim (λ (x : (j ≡ k) × (w ≡ u)). subst (λ (y : ℕ × SeatView). P y.0 y.1) (λ i. (sym x.0 i, x.1 i)) mine)
       (λ (x : (j ≢ k) × (get_elem? views j ≡ some u)). others j u x.0 x.1) (at_set views k j w u e)
 
-  after_push : (w : SeatView) → ((j : ℕ) (u : SeatView) → get_elem? views j ≡ some u → P j u) → P (length views) w → (j : ℕ) (u : SeatView) → get_elem? (views ++ w ∷ []) j ≡ some u → P j u
+  pub after_push : (w : SeatView) → ((j : ℕ) (u : SeatView) → get_elem? views j ≡ some u → P j u) → P (length views) w → (j : ℕ) (u : SeatView) → get_elem? (views ++ w ∷ []) j ≡ some u → P j u
   after_push w others mine j u e =
       ⊎_elim (others j u) (λ (x : (j ≡ length views) × (w ≡ u)). subst (λ (y : ℕ × SeatView). P y.0 y.1) (λ i. (sym x.0 i, x.1 i)) mine) (at_end views w u j e)
     where
@@ -77,7 +77,7 @@ module _ (P : ℕ → SeatView → Type 0) (views : List SeatView) where
       at_end (x ∷ xs) a b zero e = inl e
       at_end (x ∷ xs) a b (suc j) e = ⊎_elim inl (λ (y : (j ≡ length xs) × (a ≡ b)). inr (ap suc y.0, y.1)) (at_end xs a b j e)
 
-is_within : (views : List SeatView) (k : ℕ) (v : SeatView) → get_elem? views k ≡ some v → k < length views
+pub is_within : (views : List SeatView) (k : ℕ) (v : SeatView) → get_elem? views k ≡ some v → k < length views
 is_within [] k v e = absurd (some-ne-none v (sym e))
 is_within (x ∷ xs) zero v e = omega arith
 is_within (x ∷ xs) (suc k) v e = omega (arith, is_within xs k v e)
@@ -165,23 +165,23 @@ pass_keeps views count k v r at = pass_keeps_at views count k v r at
 -- ---- the owner of a place
 
 -- what the one seat owned, the other owns
-abbrev moved : ℕ → ℕ → ℕ → ℕ
+abbrev pub moved : ℕ → ℕ → ℕ → ℕ
 moved other k n = if n == other then k else n
 
-moved_there : (other k n : ℕ) → n ≡ other → moved other k n ≡ k
+pub moved_there : (other k n : ℕ) → n ≡ other → moved other k n ≡ k
 moved_there other k n e = ap (λ b. if b then k else n) (eq-eqb n other e)
 
-moved_else : (other k n : ℕ) → n ≢ other → moved other k n ≡ n
+pub moved_else : (other k n : ℕ) → n ≢ other → moved other k n ≡ n
 moved_else other k n ne = ap (λ b. if b then k else n) (ne_eqb n other ne)
 
 -- the place p, which is new, is the seat k's
-abbrev owned : (ℕ → ℕ) → ℕ → ℕ → ℕ → ℕ
+abbrev pub owned : (ℕ → ℕ) → ℕ → ℕ → ℕ → ℕ
 owned owner new k p = if p == new then k else owner p
 
-owned_new : (owner : ℕ → ℕ) (new k p : ℕ) → p ≡ new → owned owner new k p ≡ k
+pub owned_new : (owner : ℕ → ℕ) (new k p : ℕ) → p ≡ new → owned owner new k p ≡ k
 owned_new owner new k p e = ap (λ b. if b then k else owner p) (eq-eqb p new e)
 
-owned_old : (owner : ℕ → ℕ) (new k p : ℕ) → p ≢ new → owned owner new k p ≡ owner p
+pub owned_old : (owner : ℕ → ℕ) (new k p : ℕ) → p ≢ new → owned owner new k p ≡ owner p
 owned_old owner new k p ne = ap (λ b. if b then k else owner p) (ne_eqb p new ne)
 
 pub add_keeps : AddKeeps

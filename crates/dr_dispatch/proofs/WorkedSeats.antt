@@ -12,7 +12,7 @@ use Rattle.dr_dispatch.specs.declared.seen.PassShown.{PassShown}
 use Rattle.dr_dispatch.specs.declared.seen.SeatView.{SeatView}
 
 abbrev pass : List Event → PassShown
-pass seen = record { seen = seen; own = [] }
+pass seen = record { seen = seen; own = []; drawn = [] }
 
 -- the first seat keeps nothing, and two passes are split from it
 pub newcomer : newcomer_of (keeper_at []) ≡ pass_at (pass [])
@@ -22,7 +22,7 @@ newcomer = refl
 abbrev joined : SeatView
 joined = handed (newcomer_of (keeper_at [])) (keeper_at [])
 
-pub joined_keeps : joined ≡ record { seen = []; own = []; keeps = true; met = pass [] ∷ [] }
+pub joined_keeps : joined ≡ record { seen = []; own = []; drawn = []; keeps = true; met = pass [] ∷ [] }
 joined_keeps = refl
 
 abbrev taken : SeatView
@@ -38,7 +38,7 @@ keeper_after_take = refl
 abbrev told : SeatView
 told = added 1 (Answer (hand 0 0)) (handed (passed taken) (keeper_of taken))
 
-pub pass_after_answer : passed told ≡ record { seen = Give (hand 0 0) ∷ Answer (hand 0 0) ∷ []; own = 0 ∷ 1 ∷ []; keeps = false; met = [] }
+pub pass_after_answer : passed told ≡ record { seen = Give (hand 0 0) ∷ Answer (hand 0 0) ∷ []; own = 0 ∷ 1 ∷ []; drawn = []; keeps = false; met = [] }
 pass_after_answer = refl
 
 -- the second pass is given nothing: it has seen both events, and owns none
@@ -53,7 +53,7 @@ keeper_after_look = refl
 
 -- at the end the keeper gathers the passes, and has met them the last first
 pub gathered_both : gathered (gathered (keeper_of waiting) (passed waiting)) (passed told)
-    ≡ record { seen = Give (hand 0 0) ∷ Answer (hand 0 0) ∷ []; own = 0 ∷ 1 ∷ []; keeps = true; met = shown (passed told) ∷ shown (passed waiting) ∷ [] }
+    ≡ record { seen = Give (hand 0 0) ∷ Answer (hand 0 0) ∷ []; own = 0 ∷ 1 ∷ []; drawn = []; keeps = true; met = shown (passed told) ∷ shown (passed waiting) ∷ [] }
 gathered_both = refl
 
 pub spent_is_empty : spent ≡ pass_at (pass [])
@@ -84,10 +84,10 @@ place_below_the_least a = omega (arith, a.0)
 
 -- two passes of one history
 abbrev first : PassShown
-first = record { seen = Give (hand 0 0) ∷ []; own = 0 ∷ [] }
+first = record { seen = Give (hand 0 0) ∷ []; own = 0 ∷ []; drawn = [] }
 
 abbrev second : PassShown
-second = record { seen = Give (hand 0 0) ∷ Answer (hand 0 0) ∷ []; own = 1 ∷ [] }
+second = record { seen = Give (hand 0 0) ∷ Answer (hand 0 0) ∷ []; own = 1 ∷ []; drawn = [] }
 
 pub passes_of_one_history : AreOfHistory (Give (hand 0 0) ∷ Answer (hand 0 0) ∷ []) (first ∷ second ∷ [])
 passes_of_one_history = ((Answer (hand 0 0) ∷ [], refl), (λ p own. apart p own), (([], refl), (λ p own. refl), tt))
@@ -97,7 +97,7 @@ passes_of_one_history = ((Answer (hand 0 0) ∷ [], refl), (λ p own. apart p ow
     apart (suc p) own = grind (arith, nat_tests)
 
 -- an own place of both
-pub place_of_both : (history : List Event) → AreOfHistory history (first ∷ record { seen = []; own = 1 ∷ 0 ∷ [] } ∷ []) → ⊥
+pub place_of_both : (history : List Event) → AreOfHistory history (first ∷ record { seen = []; own = 1 ∷ 0 ∷ []; drawn = [] } ∷ []) → ⊥
 place_of_both history of = true≢false (of.1 0 refl)
 
 -- no pass has seen what isn't in the history

@@ -4,6 +4,7 @@ pub mod Job
 pub mod History
 -- what is handed out next
 pub mod Choice
+pub mod Draws
 -- the pieces that are kept
 pub mod Pieces
 -- what a pass shows; what the seats of several threads know
@@ -12,4 +13,5 @@ pub mod Seats
 -- laws, each proved on a law function of src/
 pub mod HistoryLaws
 pub mod ChoiceLaws
+pub mod DrawLaws
 pub mod SeatLaws

@@ -1,5 +1,6 @@
--- What a pass shows: a history that it has seen, and the places of its own events.
-use Rattle.std.specs.Prelude.{◌≡◌, ℕ, suc, ◌==◌, ◌≤◌, Bool, true, false, List, [], ◌∷◌, ◌++◌, length, ⊤}
+-- What a pass shows: a history that it has seen, the places of its own events, and the tablets that it drew.
+use Rattle.std.specs.Prelude.{◌≡◌, ℕ, suc, ◌==◌, ◌≤◌, Bool, true, false, List, [], ◌∷◌, ◌++◌, length, ⊤, None, Some}
+use Rattle.std.specs.declared.option.Option.{Option}
 use Rattle.std.specs.List.{list_any}
 use mathlib.Core.List.{IsPrefix}
 use Rattle.dr_dispatch.specs.declared.event.Event.{Event}
@@ -11,13 +12,22 @@ has_place p places = list_any (λ q. q == p) places
 
 -- the pass added an event of its own behind this history
 abbrev pub adds : List Event → Event → PassShown → PassShown
-adds history e pass = record { seen = history ++ e ∷ []; own = pass.own ++ length history ∷ [] }
+adds history e pass = record { seen = history ++ e ∷ []; own = pass.own ++ length history ∷ []; drawn = pass.drawn }
 
 -- the pass saw this history, and added nothing
 abbrev pub looks : List Event → PassShown → PassShown
-looks history pass = record { seen = history; own = pass.own }
+looks history pass = record { seen = history; own = pass.own; drawn = pass.drawn }
 
--- the places ascend, from `least` on and below `end`
+-- the numbers with one more, where there is one
+abbrev pub with_drawn : Option ℕ → List ℕ → List ℕ
+with_drawn None numbers = numbers
+with_drawn (Some t) numbers = numbers ++ t ∷ []
+
+-- the pass drew this tablet, or none
+abbrev pub drew : Option ℕ → PassShown → PassShown
+drew drawn pass = record { seen = pass.seen; own = pass.own; drawn = with_drawn drawn pass.drawn }
+
+-- the numbers ascend, from `least` on and below `end`
 abbrev pub Ascends : ℕ → List ℕ → ℕ → Type 0
 Ascends least [] end = least ≤ end
 Ascends least (p ∷ places) end = (least ≤ p) × Ascends (suc p) places end

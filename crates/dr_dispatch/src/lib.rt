@@ -3,6 +3,7 @@
 #![tactic(auto)]
 
 pub mod choice_laws;
+pub mod draw_laws;
 mod event;
 pub mod history_laws;
 pub mod seat_laws;

@@ -1,6 +1,7 @@
 //! Laws of seats: each kind of step keeps their rule.
 
 ghost use Rattle.dr_dispatch.specs.SeatLaws.{FirstKeeps, KeeperKnows, LookKeeps, AddKeeps, HandKeeps, GatherKeeps, PassKeeps, NewcomerKeeps, MetAreOfHistory};
+ghost use Rattle.dr_dispatch.specs.SeatLaws.{DrawingKeeps, NoneAreDrawn, DrawnAreBelow, DrawingIsDrawn, OthersAreDrawn, SplitsAreDrawn, JoinsAreDrawn};
 
 /// The rule holds of the first seat, and of all seats after a new pass's seat is split off.
 pub fn rule_begins()
@@ -21,4 +22,21 @@ pub fn keeper_gathers()
     ensures joins { GatherKeeps }
     ensures knows { KeeperKnows }
     ensures history { MetAreOfHistory }
+{}
+
+/// A pass draws a tablet outside the lock, and keeps both rules. What a seat drew is its own, and below the next tablet
+/// to be drawn.
+pub fn draws_keep_rule()
+    ensures first { NoneAreDrawn }
+    ensures history { DrawingKeeps }
+    ensures draws { DrawingIsDrawn }
+    ensures below { DrawnAreBelow }
+{}
+
+/// All other steps draw nothing, a seat that is split off has nothing drawn, and a join leaves to one seat what both
+/// drew.
+pub fn drawn_stay_with_seats()
+    ensures others { OthersAreDrawn }
+    ensures splits { SplitsAreDrawn }
+    ensures joins { JoinsAreDrawn }
 {}

@@ -5,3 +5,5 @@ pub mod AutomatonLemmas
 pub mod MemberLemmas
 -- texts that grow part by part
 pub mod PartLemmas
+-- shapes with their names in quotes
+pub mod QuotedLemmas

@@ -5,13 +5,13 @@ use Rattle.std.specs.List.{join_with_byte}
 use Rattle.std.proofs.Common.{refl, sym, ap, ap₂, ◌∙◌, arith, append_assoc, append-nil}
 use Rattle.std.proofs.lemmas.List.{drop_more, drop_all, drop-drop}
 use Rattle.std.proofs.Math.Dec.{eqb-suc-zero}
-use Rattle.json.specs.Print.{quoted}
 use Rattle.dr_meaning.specs.Query.{Object, list, Objects, objects_of}
-use Rattle.dr_meaning.specs.Print.{member_text, cell_text, bracketed, object_text, object_texts, entry_texts, result_text}
+use Rattle.dr_meaning.specs.Print.{cell_text, bracketed, object_text, result_text}
 use Rattle.dr_cells.specs.Results.{ResultCell, first_value, first_count, ShapeTree, shape_tree, ListShapes, list_shape, no_list_shapes, count_lists, ReadObject, ReadObjects, with_values, read_object, read_lists, read_times}
-use Rattle.dr_cells.specs.Shapes.{shape_view, lists_view, SeenList}
-use Rattle.dr_cells.specs.declared.shape.ListShape as lists
-use Rattle.dr_cells.proofs.ShapeLemmas.{view-list_shape}
+use Rattle.dr_cells.specs.Shapes.{SeenList}
+use Rattle.dr_print.specs.declared.quoted_shape.QuotedList as lists
+use Rattle.dr_print.specs.Quoted.{quoted_view, quoted_lists_view, entries_as_named, texts_as_named, text_as_named}
+use Rattle.dr_print.proofs.QuotedLemmas.{view-quoted_list}
 use Rattle.dr_print.specs.Parts.{value_members}
 use Rattle.dr_meaning.specs.Lists.{comma_if, separated}
 
@@ -52,21 +52,17 @@ Values ns cs k old text = text ++ separated (nat_lt 0 k) (value_members (drop k 
 one_dropped : (k : ℕ) (cs : List ResultCell) → drop (k + 1) cs ≡ drop 1 (drop k cs)
 one_dropped k cs = sym (drop-drop 1 k cs)
 
-one_value : (q t : List ℕ) → (q ++ 58 ∷ []) ++ t ≡ q ++ 58 ∷ t
-one_value q t = append_assoc q (58 ∷ []) t
-
 pub value_more : (ns : List (List ℕ)) (cs ds : List ResultCell) (k : ℕ) (n old text t u v : List ℕ) → k < length ns → n ≡ get_or ns k n → ds ≡ drop k cs
-    → t ≡ text ++ comma_if (nat_lt 0 k) → u ≡ t ++ (quoted n ++ 58 ∷ []) → v ≡ u ++ cell_text (first_value ds) → Values ns cs k old text → Values ns cs (k + 1) old v
+    → t ≡ text ++ comma_if (nat_lt 0 k) → u ≡ t ++ n → v ≡ u ++ cell_text (first_value ds) → Values ns cs k old text → Values ns cs (k + 1) old v
 value_more ns cs ds k n old text t u v h at e f g i so_far =
     let own : List ℕ = cell_text (first_value (drop k cs)) in
     let rest : List (List ℕ) = value_members (drop (k + 1) ns) (drop 1 (drop k cs)) in
     let next : drop k ns ≡ n ∷ drop (k + 1) ns = drop_more ns k n h ∙ ap (λ (x : List ℕ). x ∷ drop (k + 1) ns) (sym at) in
-    let all : v ≡ (text ++ comma_if (nat_lt 0 k)) ++ member_text n own =
-    i ∙ ap₂ (λ (x : List ℕ) (xs : List ResultCell). x ++ cell_text (first_value xs)) (g ∙ ap (λ (x : List ℕ). x ++ (quoted n ++ 58 ∷ [])) f) e
-    ∙ append_assoc (text ++ comma_if (nat_lt 0 k)) (quoted n ++ 58 ∷ []) own
-    ∙ ap (λ (x : List ℕ). (text ++ comma_if (nat_lt 0 k)) ++ x) (one_value (quoted n) own) in
+    let all : v ≡ (text ++ comma_if (nat_lt 0 k)) ++ (n ++ own) =
+    i ∙ ap₂ (λ (x : List ℕ) (xs : List ResultCell). x ++ cell_text (first_value xs)) (g ∙ ap (λ (x : List ℕ). x ++ n) f) e
+    ∙ append_assoc (text ++ comma_if (nat_lt 0 k)) n own in
     ap₂ (λ (b : Bool) (xs : List ResultCell). v ++ separated b (value_members (drop (k + 1) ns) xs)) (more_than_none k) (one_dropped k cs)
-    ∙ after_part (nat_lt 0 k) (member_text n own) rest text v all
+    ∙ after_part (nat_lt 0 k) (n ++ own) rest text v all
     ∙ ap (λ (ms : List (List ℕ)). text ++ separated (nat_lt 0 k) (value_members ms (drop k cs))) (sym next)
     ∙ so_far
 
@@ -76,15 +72,15 @@ no_values_left ns cs k old text h so_far =
 
 -- ---- objects
 
-entries : (ns : List (List ℕ)) (cs : List ResultCell) (o : Object) → entry_texts (with_values ns cs o) ≡ value_members ns cs ++ entry_texts o
+entries : (ns : List (List ℕ)) (cs : List ResultCell) (o : Object) → entries_as_named (with_values ns cs o) ≡ value_members ns cs ++ entries_as_named o
 entries [] cs o = refl
-entries (n ∷ ns) cs o = ap (λ (ts : List (List ℕ)). member_text n (cell_text (first_value cs)) ∷ ts) (entries ns (drop 1 cs) o)
+entries (n ∷ ns) cs o = ap (λ (ts : List (List ℕ)). (n ++ cell_text (first_value cs)) ∷ ts) (entries ns (drop 1 cs) o)
 
 all_entries : (ns : List (List ℕ)) (cs : List ResultCell) (ts : List (List ℕ)) (b : Bool) → b ≡ nat_lt 0 (length ns) → separated false (value_members ns cs) ++ separated b ts ≡ separated false (value_members ns cs ++ ts)
 all_entries [] cs ts b e = ap (λ c. separated c ts) e
 all_entries (n ∷ ns) cs ts b e =
     let f : b ≡ true = e ∙ some_suc (length ns) in
-    let m : List ℕ = member_text n (cell_text (first_value cs)) in
+    let m : List ℕ = n ++ cell_text (first_value cs) in
     let more : List (List ℕ) = value_members ns (drop 1 cs) in
     ap (λ c. (m ++ separated true more) ++ separated c ts) f
     ∙ append_assoc m (separated true more) (separated true ts)
@@ -95,18 +91,18 @@ braces old vs ls = simp append_assoc
 
 pub object_more : (s : ShapeTree) (ns : List (List ℕ)) (ls : ListShapes) (cs ks ds : List ResultCell) (b : Bool) (old t u v w : List ℕ) → s ≡ shape_tree ns ls
     → ks ≡ drop (length ns) cs → ds ≡ drop (count_lists ls) ks → b ≡ nat_lt 0 (length ns) → t ≡ old ++ 123 ∷ [] → u ≡ t ++ separated false (value_members ns cs)
-    → v ≡ u ++ separated b (entry_texts (read_lists ls ks ds).object) → w ≡ v ++ 125 ∷ [] → w ≡ old ++ object_text (read_object s cs).object
+    → v ≡ u ++ separated b (entries_as_named (read_lists ls ks ds).object) → w ≡ v ++ 125 ∷ [] → w ≡ old ++ text_as_named (read_object s cs).object
 object_more s ns ls cs ks ds b old t u v w e f g h i j k l =
     let values : List ℕ = separated false (value_members ns cs) in
     let lists : Object = (read_lists ls ks ds).object in
     let same : (read_lists ls ks ds).object ≡ (read_lists ls (drop (length ns) cs) (drop (count_lists ls) (drop (length ns) cs))).object =
     ap (λ (xs : List ResultCell). (read_lists ls ks xs).object) g ∙ ap (λ (xs : List ResultCell). (read_lists ls xs (drop (count_lists ls) xs)).object) f in
-    l ∙ ap (λ (x : List ℕ). x ++ 125 ∷ []) (k ∙ ap (λ (x : List ℕ). x ++ separated b (entry_texts lists)) (j ∙ ap (λ (x : List ℕ). x ++ values) i))
-    ∙ braces old values (separated b (entry_texts lists))
-    ∙ ap (λ (x : List ℕ). old ++ 123 ∷ (x ++ 125 ∷ [])) (all_entries ns cs (entry_texts lists) b h ∙ separated-all (value_members ns cs ++ entry_texts lists)
+    l ∙ ap (λ (x : List ℕ). x ++ 125 ∷ []) (k ∙ ap (λ (x : List ℕ). x ++ separated b (entries_as_named lists)) (j ∙ ap (λ (x : List ℕ). x ++ values) i))
+    ∙ braces old values (separated b (entries_as_named lists))
+    ∙ ap (λ (x : List ℕ). old ++ 123 ∷ (x ++ 125 ∷ [])) (all_entries ns cs (entries_as_named lists) b h ∙ separated-all (value_members ns cs ++ entries_as_named lists)
     ∙ ap (join_with_byte 44) (sym (entries ns cs lists)))
-    ∙ ap (λ (o : Object). old ++ object_text (with_values ns cs o)) same
-    ∙ ap (λ (x : ShapeTree). old ++ object_text (read_object x cs).object) (sym e)
+    ∙ ap (λ (o : Object). old ++ text_as_named (with_values ns cs o)) same
+    ∙ ap (λ (x : ShapeTree). old ++ text_as_named (read_object x cs).object) (sym e)
 
 pub object_rest : (s : ShapeTree) (ns : List (List ℕ)) (ls : ListShapes) (cs ks ds : List ResultCell) → s ≡ shape_tree ns ls → ks ≡ drop (length ns) cs → ds ≡ drop (count_lists ls) ks
     → (read_lists ls ks ds).rest ≡ (read_object s cs).rest
@@ -124,7 +120,7 @@ list_read n s others counts r = list_made n (objects_of r.objects) (read_lists o
 
 abbrev pub Lists : ListShapes → ListShapes → List ResultCell → ℕ → List ResultCell → List ResultCell → Bool → List ℕ → List ℕ → Type 0
 Lists all left counts k begin cs behind old text =
-    (text ++ separated (behind || nat_lt 0 k) (entry_texts (read_lists left (drop k counts) cs).object) ≡ old ++ separated behind (entry_texts (read_lists all counts begin).object))
+    (text ++ separated (behind || nat_lt 0 k) (entries_as_named (read_lists left (drop k counts) cs).object) ≡ old ++ separated behind (entries_as_named (read_lists all counts begin).object))
     × ((read_lists left (drop k counts) cs).rest ≡ (read_lists all counts begin).rest)
 
 or_false : (b : Bool) → b || false ≡ b
@@ -136,38 +132,38 @@ or_true true c e = refl
 or_true false c e = e
 
 pub lists_begin : (all : ListShapes) (counts cs : List ResultCell) (behind : Bool) (text : List ℕ) → Lists all all counts 0 cs cs behind text text
-lists_begin all counts cs behind text = (ap (λ b. text ++ separated b (entry_texts (read_lists all counts cs).object)) (or_false behind), refl)
+lists_begin all counts cs behind text = (ap (λ b. text ++ separated b (entries_as_named (read_lists all counts cs).object)) (or_false behind), refl)
 
-brackets : (front q j : List ℕ) → (((front ++ (q ++ 58 ∷ [])) ++ 91 ∷ []) ++ j) ++ 93 ∷ [] ≡ front ++ (q ++ 58 ∷ (91 ∷ (j ++ 93 ∷ [])))
+brackets : (front q j : List ℕ) → (((front ++ q) ++ 91 ∷ []) ++ j) ++ 93 ∷ [] ≡ front ++ (q ++ (91 ∷ (j ++ 93 ∷ [])))
 brackets front q j = simp append_assoc
 
 pub list_more : (all left : ListShapes) (n : List ℕ) (s : ShapeTree) (others : ListShapes) (counts : List ResultCell) (k m : ℕ) (begin cs ds : List ResultCell) (behind : Bool) (old text t u v w x : List ℕ)
-    → left ≡ list_shape n s others → m ≡ first_count (drop k counts) → ds ≡ (read_times (read_object s) m cs).rest → t ≡ text ++ comma_if (behind || nat_lt 0 k) → u ≡ t ++ (quoted n ++ 58 ∷ []) → v ≡ u ++ 91 ∷ []
-    → w ≡ v ++ separated false (object_texts (objects_of (read_times (read_object s) m cs).objects)) → x ≡ w ++ 93 ∷ []
+    → left ≡ list_shape n s others → m ≡ first_count (drop k counts) → ds ≡ (read_times (read_object s) m cs).rest → t ≡ text ++ comma_if (behind || nat_lt 0 k) → u ≡ t ++ n → v ≡ u ++ 91 ∷ []
+    → w ≡ v ++ separated false (texts_as_named (objects_of (read_times (read_object s) m cs).objects)) → x ≡ w ++ 93 ∷ []
     → Lists all left counts k begin cs behind old text → Lists all others counts (k + 1) begin ds behind old x
 list_more all left n s others counts k m begin cs ds behind old text t u v w x e f g h i j p q so_far =
-    let objects : List (List ℕ) = object_texts (objects_of (read_times (read_object s) m cs).objects) in
+    let objects : List (List ℕ) = texts_as_named (objects_of (read_times (read_object s) m cs).objects) in
     let front : List ℕ = text ++ comma_if (behind || nat_lt 0 k) in
     let rest : ReadObject = read_lists others (drop 1 (drop k counts)) ds in
-    let made : x ≡ front ++ member_text n (bracketed objects) =
-    q ∙ ap (λ (y : List ℕ). y ++ 93 ∷ []) (p ∙ ap₂ (λ (y z : List ℕ). y ++ z) (j ∙ ap (λ (y : List ℕ). y ++ 91 ∷ []) (i ∙ ap (λ (y : List ℕ). y ++ (quoted n ++ 58 ∷ [])) h)) (separated-all objects))
-    ∙ brackets front (quoted n) (join_with_byte 44 objects) in
+    let made : x ≡ front ++ (n ++ bracketed objects) =
+    q ∙ ap (λ (y : List ℕ). y ++ 93 ∷ []) (p ∙ ap₂ (λ (y z : List ℕ). y ++ z) (j ∙ ap (λ (y : List ℕ). y ++ 91 ∷ []) (i ∙ ap (λ (y : List ℕ). y ++ n) h)) (separated-all objects))
+    ∙ brackets front n (join_with_byte 44 objects) in
     let later : read_lists others (drop (k + 1) counts) ds ≡ rest = ap (λ (xs : List ResultCell). read_lists others xs ds) (one_dropped k counts) in
     let here : read_lists left (drop k counts) cs ≡ record { object = list n (objects_of (read_times (read_object s) m cs).objects) rest.object; rest = rest.rest } =
     ap (λ (y : ListShapes). read_lists y (drop k counts) cs) e
     ∙ ap (λ i. list_read n s others (drop 1 (drop k counts)) (read_times (read_object s) i cs)) (sym f)
     ∙ ap (λ (xs : List ResultCell). list_made n (objects_of (read_times (read_object s) m cs).objects) (read_lists others (drop 1 (drop k counts)) xs)) (sym g) in (
-      ap₂ (λ (b : Bool) (r : ReadObject). x ++ separated b (entry_texts r.object)) (or_true behind (nat_lt 0 (k + 1)) (more_than_none k)) later
-          ∙ after_part (behind || nat_lt 0 k) (member_text n (bracketed objects)) (entry_texts rest.object) text x made
-          ∙ ap (λ (r : ReadObject). text ++ separated (behind || nat_lt 0 k) (entry_texts r.object)) (sym here)
+      ap₂ (λ (b : Bool) (r : ReadObject). x ++ separated b (entries_as_named r.object)) (or_true behind (nat_lt 0 (k + 1)) (more_than_none k)) later
+          ∙ after_part (behind || nat_lt 0 k) (n ++ bracketed objects) (entries_as_named rest.object) text x made
+          ∙ ap (λ (r : ReadObject). text ++ separated (behind || nat_lt 0 k) (entries_as_named r.object)) (sym here)
           ∙ so_far.0,
       ap (λ (r : ReadObject). r.rest) later ∙ ap (λ (r : ReadObject). r.rest) (sym here) ∙ so_far.1,
     )
 
 pub no_lists_left : (all left : ListShapes) (counts : List ResultCell) (k : ℕ) (begin cs : List ResultCell) (behind : Bool) (old text : List ℕ) → left ≡ no_list_shapes → Lists all left counts k begin cs behind old text
-    → (text ≡ old ++ separated behind (entry_texts (read_lists all counts begin).object)) × (cs ≡ (read_lists all counts begin).rest)
+    → (text ≡ old ++ separated behind (entries_as_named (read_lists all counts begin).object)) × (cs ≡ (read_lists all counts begin).rest)
 no_lists_left all left counts k begin cs behind old text e so_far = (
-  sym (ap (λ (y : ListShapes). text ++ separated (behind || nat_lt 0 k) (entry_texts (read_lists y (drop k counts) cs).object)) e ∙ append-nil text) ∙ so_far.0,
+  sym (ap (λ (y : ListShapes). text ++ separated (behind || nat_lt 0 k) (entries_as_named (read_lists y (drop k counts) cs).object)) e ∙ append-nil text) ∙ so_far.0,
   sym (ap (λ (y : ListShapes). (read_lists y (drop k counts) cs).rest) e) ∙ so_far.1,
 )
 
@@ -175,7 +171,7 @@ no_lists_left all left counts k begin cs behind old text e so_far = (
 
 abbrev pub Times : (List ResultCell → ReadObject) → ℕ → ℕ → List ResultCell → List ResultCell → List ℕ → List ℕ → Type 0
 Times read total k begin cs old text =
-    (text ++ separated (nat_lt 0 k) (object_texts (objects_of (read_times read (total - k) cs).objects)) ≡ old ++ separated false (object_texts (objects_of (read_times read total begin).objects)))
+    (text ++ separated (nat_lt 0 k) (texts_as_named (objects_of (read_times read (total - k) cs).objects)) ≡ old ++ separated false (texts_as_named (objects_of (read_times read total begin).objects)))
     × ((read_times read (total - k) cs).rest ≡ (read_times read total begin).rest)
 
 all_left : (n : ℕ) → n - 0 ≡ n
@@ -183,21 +179,21 @@ all_left n = omega arith
 
 pub times_begin : (read : List ResultCell → ReadObject) (total : ℕ) (cs : List ResultCell) (text : List ℕ) → Times read total 0 cs cs text text
 times_begin read total cs text =
-    (ap (λ m. text ++ separated false (object_texts (objects_of (read_times read m cs).objects))) (all_left total), ap (λ m. (read_times read m cs).rest) (all_left total))
+    (ap (λ m. text ++ separated false (texts_as_named (objects_of (read_times read m cs).objects))) (all_left total), ap (λ m. (read_times read m cs).rest) (all_left total))
 
 one_left : (n k : ℕ) → k < n → n - k ≡ suc (n - (k + 1))
 one_left n k h = omega (arith, h)
 
-pub times_more : (read : List ResultCell → ReadObject) (total k : ℕ) (begin cs ds : List ResultCell) (old text t u : List ℕ) → k < total → t ≡ text ++ comma_if (nat_lt 0 k) → u ≡ t ++ object_text (read cs).object → ds ≡ (read cs).rest
+pub times_more : (read : List ResultCell → ReadObject) (total k : ℕ) (begin cs ds : List ResultCell) (old text t u : List ℕ) → k < total → t ≡ text ++ comma_if (nat_lt 0 k) → u ≡ t ++ text_as_named (read cs).object → ds ≡ (read cs).rest
     → Times read total k begin cs old text → Times read total (k + 1) begin ds old u
 times_more read total k begin cs ds old text t u h e f g so_far =
     let left : ReadObjects = read_times read (total - (k + 1)) (read cs).rest in
     let o : Object = (read cs).object in
     let here : read_times read (total - k) cs ≡ record { objects = o ∷ left.objects; rest = left.rest } = ap (λ m. read_times read m cs) (one_left total k h) in
     let later : read_times read (total - (k + 1)) ds ≡ left = ap (read_times read (total - (k + 1))) g in (
-      ap₂ (λ (b : Bool) (r : ReadObjects). u ++ separated b (object_texts (objects_of r.objects))) (more_than_none k) later
-          ∙ after_part (nat_lt 0 k) (object_text o) (object_texts (objects_of left.objects)) text u (f ∙ ap (λ (y : List ℕ). y ++ object_text o) e)
-          ∙ ap (λ (r : ReadObjects). text ++ separated (nat_lt 0 k) (object_texts (objects_of r.objects))) (sym here)
+      ap₂ (λ (b : Bool) (r : ReadObjects). u ++ separated b (texts_as_named (objects_of r.objects))) (more_than_none k) later
+          ∙ after_part (nat_lt 0 k) (text_as_named o) (texts_as_named (objects_of left.objects)) text u (f ∙ ap (λ (y : List ℕ). y ++ text_as_named o) e)
+          ∙ ap (λ (r : ReadObjects). text ++ separated (nat_lt 0 k) (texts_as_named (objects_of r.objects))) (sym here)
           ∙ so_far.0,
       ap (λ (r : ReadObjects). r.rest) later ∙ ap (λ (r : ReadObjects). r.rest) (sym here) ∙ so_far.1,
     )
@@ -206,9 +202,9 @@ none_left : (n k : ℕ) → n ≤ k → n - k ≡ 0
 none_left n k h = omega (arith, h)
 
 pub no_times_left : (read : List ResultCell → ReadObject) (total k : ℕ) (begin cs : List ResultCell) (old text : List ℕ) → total ≤ k → Times read total k begin cs old text
-    → (text ≡ old ++ separated false (object_texts (objects_of (read_times read total begin).objects))) × (cs ≡ (read_times read total begin).rest)
+    → (text ≡ old ++ separated false (texts_as_named (objects_of (read_times read total begin).objects))) × (cs ≡ (read_times read total begin).rest)
 no_times_left read total k begin cs old text h so_far = (
-  sym (ap (λ m. text ++ separated (nat_lt 0 k) (object_texts (objects_of (read_times read m cs).objects))) (none_left total k h) ∙ append-nil text) ∙ so_far.0,
+  sym (ap (λ m. text ++ separated (nat_lt 0 k) (texts_as_named (objects_of (read_times read m cs).objects))) (none_left total k h) ∙ append-nil text) ∙ so_far.0,
   sym (ap (λ m. (read_times read m cs).rest) (none_left total k h)) ∙ so_far.1,
 )
 
@@ -246,16 +242,16 @@ no_rows_left read total k begin cs old text h so_far =
 
 -- ---- shapes
 
-pub lists_from : (ls : List lists.ListShape) (k : ℕ) (l : lists.ListShape) → k < length ls → l ≡ get_or ls k l
-    → lists_view (drop k ls) ≡ list_shape (string_bytes (lists.out-ListShape l).name) (shape_view (lists.out-ListShape l).shape) (lists_view (drop (k + 1) ls))
+pub lists_from : (ls : List lists.QuotedList) (k : ℕ) (l : lists.QuotedList) → k < length ls → l ≡ get_or ls k l
+    → quoted_lists_view (drop k ls) ≡ list_shape (string_bytes (lists.out-QuotedList l).name) (quoted_view (lists.out-QuotedList l).shape) (quoted_lists_view (drop (k + 1) ls))
 lists_from ls k l h at =
-    ap lists_view (drop_more ls k l h ∙ ap (λ (x : lists.ListShape). x ∷ drop (k + 1) ls) (sym at))
-    ∙ ap (λ (x : SeenList). list_shape x.name x.shape (lists_view (drop (k + 1) ls))) (view-list_shape l)
+    ap quoted_lists_view (drop_more ls k l h ∙ ap (λ (x : lists.QuotedList). x ∷ drop (k + 1) ls) (sym at))
+    ∙ ap (λ (x : SeenList). list_shape x.name x.shape (quoted_lists_view (drop (k + 1) ls))) (view-quoted_list l)
 
-pub no_lists_from : (ls : List lists.ListShape) (k : ℕ) → length ls ≤ k → lists_view (drop k ls) ≡ no_list_shapes
-no_lists_from ls k h = ap lists_view (drop_all k ls h)
+pub no_lists_from : (ls : List lists.QuotedList) (k : ℕ) → length ls ≤ k → quoted_lists_view (drop k ls) ≡ no_list_shapes
+no_lists_from ls k h = ap quoted_lists_view (drop_all k ls h)
 
-pub count_lists-view : (ls : List lists.ListShape) → count_lists (lists_view ls) ≡ length ls
+pub count_lists-view : (ls : List lists.QuotedList) → count_lists (quoted_lists_view ls) ≡ length ls
 count_lists-view [] = refl
 count_lists-view (l ∷ ls) = ap suc (count_lists-view ls)
 

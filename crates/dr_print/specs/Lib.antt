@@ -4,3 +4,5 @@ pub mod Transitions
 pub mod Members
 -- the parts of a text
 pub mod Parts
+-- shapes with their names in quotes
+pub mod Quoted

@@ -1,7 +1,7 @@
 -- Parts of a text, put one behind another.
 use Rattle.std.specs.Prelude.{ℕ, List, [], ◌∷◌, ◌++◌, drop, Bool, true, false, Option, None}
 use Rattle.dr_meaning.specs.Record.{Value}
-use Rattle.dr_meaning.specs.Print.{member_text, cell_text}
+use Rattle.dr_meaning.specs.Print.{cell_text}
 use Rattle.dr_cells.specs.Results.{ResultCell, value_cell, count_cell, first_value}
 use Rattle.dr_meaning.specs.Lists.{comma_if}
 
@@ -10,7 +10,7 @@ abbrev pub own_value : ResultCell → Option Value
 own_value (value_cell v) = v
 own_value (count_cell n) = None
 
--- the members of these names, by their cells
+-- the members of these names, which are in quotes already, by their cells
 abbrev pub value_members : List (List ℕ) → List ResultCell → List (List ℕ)
 value_members [] cs = []
-value_members (n ∷ ns) cs = member_text n (cell_text (first_value cs)) ∷ value_members ns (drop 1 cs)
+value_members (n ∷ ns) cs = (n ++ cell_text (first_value cs)) ∷ value_members ns (drop 1 cs)

@@ -5,6 +5,8 @@ mod cell_text;
 mod object_text;
 mod parts;
 mod printing;
+mod quoted_shape;
+mod quoting;
 mod record_lines;
 mod skipping;
 mod transitions;

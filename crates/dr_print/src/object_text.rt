@@ -1,21 +1,21 @@
-//! The text of an object, read from cells.
+//! The text of an object, read from cells; its names are in quotes already.
 
 ghost use Rattle.std.specs.Prelude.{◌≡◌, ◌++◌, drop, map, string_bytes, IfOk, OnOk, false, ◌||◌, nat_lt};
-ghost use Rattle.dr_meaning.specs.Print as print;
 ghost use Rattle.dr_meaning.specs.Query.{objects_of};
 ghost use Rattle.dr_cells.specs.Results.{read_object, read_lists, read_times};
-ghost use Rattle.dr_cells.specs.Shapes.{shape_view, lists_view};
 ghost use Rattle.dr_cells.specs.Views.{cells_view};
 ghost use Rattle.dr_print.specs.Parts.{value_members};
+ghost use Rattle.dr_print.specs.Quoted.{quoted_view, quoted_lists_view, text_as_named, texts_as_named, entries_as_named};
 ghost use Rattle.dr_meaning.specs.Lists.{separated};
 
 use crate::cell_text::{count_at, push_value};
-use crate::parts::{push_comma, push_name};
+use crate::parts::push_comma;
+use crate::quoted_shape::{QuotedList, QuotedShape};
 use crate::skipping::skip;
-use dr_cells::{Cells, ListShape, Shape};
+use dr_cells::Cells;
 use std::alloc::{AllocError, Global};
 
-/// Appends the values of these names, which begin at a place.
+/// Appends the values of these names, which are in quotes, from a place on.
 fn push_values(
     alloc: Global,
     text: &mut String,
@@ -29,7 +29,7 @@ fn push_values(
 {
     'names: for (number, name) in names.iter().enumerate() {
         push_comma(text, number > 0)?;
-        push_name(alloc, text, name.as_str())?;
+        text.push_str(name.as_str())?;
         push_value(alloc, text, cells, skip(cells, at, number))?;
     }
     Ok(())
@@ -45,17 +45,17 @@ fn stands_before(behind: bool, number: usize) -> bool
 /// Appends the object that begins at a place, and tells the place behind it.
 #[cycle(objects)]
 pub fn push_object(
-    shape: &Shape,
+    shape: &QuotedShape,
     alloc: Global,
     text: &mut String,
     cells: &Cells,
     at: usize,
 ) -> Result<usize, AllocError>
     ensures text { OnOk result (string_bytes text.new
-        ≡ string_bytes text.old ++ print.object_text
-        (read_object (shape_view shape.now) (drop at (cells_view cells.now))).object) }
+        ≡ string_bytes text.old ++ text_as_named
+        (read_object (quoted_view shape.now) (drop at (cells_view cells.now))).object) }
     ensures place { IfOk result (λ end. drop end (cells_view cells.now)
-        ≡ (read_object (shape_view shape.now) (drop at (cells_view cells.now))).rest) }
+        ≡ (read_object (quoted_view shape.now) (drop at (cells_view cells.now))).rest) }
 {
     text.push_str("{")?;
     push_values(alloc, text, &shape.names, cells, at)?;
@@ -70,7 +70,7 @@ pub fn push_object(
 /// Appends lists, by the places of their counts and of their objects, and tells the place behind them.
 #[cycle(objects)]
 fn push_lists(
-    lists: &Vec<ListShape>,
+    lists: &Vec<QuotedList>,
     alloc: Global,
     text: &mut String,
     cells: &Cells,
@@ -80,16 +80,16 @@ fn push_lists(
 ) -> Result<usize, AllocError>
     ensures text { OnOk result (string_bytes text.new
         ≡ string_bytes text.old ++ separated behind
-        (print.entry_texts (read_lists (lists_view (lists.now).items) (drop counts (cells_view cells.now))
+        (entries_as_named (read_lists (quoted_lists_view (lists.now).items) (drop counts (cells_view cells.now))
         (drop at (cells_view cells.now))).object)) }
     ensures place { IfOk result (λ end. drop end (cells_view cells.now)
-        ≡ (read_lists (lists_view (lists.now).items) (drop counts (cells_view cells.now))
+        ≡ (read_lists (quoted_lists_view (lists.now).items) (drop counts (cells_view cells.now))
         (drop at (cells_view cells.now))).rest) }
 {
     let mut inner = at;
     'lists: for (number, list) in lists.iter().enumerate() {
         push_comma(text, stands_before(behind, number))?;
-        push_name(alloc, text, list.name.as_str())?;
+        text.push_str(list.name.as_str())?;
         let count = count_at(cells, skip(cells, counts, number));
         text.push_str("[")?;
         inner = push_objects(&list.shape, alloc, text, cells, count, inner)?;
@@ -101,7 +101,7 @@ fn push_lists(
 /// Appends so many objects, and tells the place behind them.
 #[cycle(objects)]
 fn push_objects(
-    shape: &Shape,
+    shape: &QuotedShape,
     alloc: Global,
     text: &mut String,
     cells: &Cells,
@@ -110,10 +110,10 @@ fn push_objects(
 ) -> Result<usize, AllocError>
     ensures text { OnOk result (string_bytes text.new
         ≡ string_bytes text.old ++ separated false
-        (print.object_texts (objects_of (read_times (read_object (shape_view shape.now)) count
+        (texts_as_named (objects_of (read_times (read_object (quoted_view shape.now)) count
         (drop at (cells_view cells.now))).objects))) }
     ensures place { IfOk result (λ end. drop end (cells_view cells.now)
-        ≡ (read_times (read_object (shape_view shape.now)) count (drop at (cells_view cells.now))).rest) }
+        ≡ (read_times (read_object (quoted_view shape.now)) count (drop at (cells_view cells.now))).rest) }
 {
     let mut next = at;
     'objects: for number in 0..count {

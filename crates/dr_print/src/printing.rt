@@ -5,6 +5,7 @@ ghost use Rattle.dr_meaning.specs.Print as print;
 ghost use Rattle.dr_cells.specs.Rows.{rows_view};
 
 use crate::object_text::push_object;
+use crate::quoting::quote_shape;
 use dr_cells::RowsOut;
 use dr_memory::NoMemory;
 use std::alloc::{AllocError, Global};
@@ -24,9 +25,10 @@ pub fn result_text(alloc: Global, rows: &RowsOut) -> Result<String, NoMemory>
 fn push_rows(alloc: Global, text: &mut String, rows: &RowsOut) -> Result<(), AllocError>
     ensures { OnOk result (string_bytes text.new ≡ string_bytes text.old ++ print.result_text (rows_view rows.now)) }
 {
+    let shape = quote_shape(alloc, &rows.shape)?;
     let mut at = 0;
     'rows: for _row in 0..rows.count {
-        at = push_object(&rows.shape, alloc, text, &rows.cells, at)?;
+        at = push_object(&shape, alloc, text, &rows.cells, at)?;
         text.push_str("\n")?;
     }
     Ok(())

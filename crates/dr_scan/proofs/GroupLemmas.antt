@@ -103,7 +103,7 @@ pub heard_walked : (s : Schema) (p : Plan) (cs : List (List Triplet)) (rows : �
 heard_walked s p cs rows ms v w before rests g a h e goes =
     (ms, record { on = subst (λ (b : Advance). AdvancesPlan s p cs rows ms w rests (Ok b)) e goes; made = h.made; nests = h.nests })
 
-leaf_within : (n : ℕ) (m : CodeMove) → ((i : ℕ) → leaf_of m ≡ Some i → i < n) → IsOfLeaf n (move_view m)
+pub leaf_within : (n : ℕ) (m : CodeMove) → ((i : ℕ) → leaf_of m ≡ Some i → i < n) → IsOfLeaf n (move_view m)
 leaf_within n (CodeMove.Enter k) h = tt
 leaf_within n (CodeMove.Leaf i t) h = h i refl
 leaf_within n (CodeMove.Leave k) h = tt

@@ -9,35 +9,16 @@ ghost use Rattle.dr_walk.specs.declared.fault.AssembleFault.{AssembleFault};
 ghost use Rattle.dr_scan.specs.OfColumns.{IsOfColumns, NoneHasLeaves};
 
 use crate::groups::groups_of_columns;
-use dr_assemble::assemble;
+use crate::objects::objects_of_moves;
 use dr_group::Partial;
-use dr_mean::partial_of;
 use dr_nested::Schema;
 use dr_plan::{Plan, Selection};
 use dr_tablets::FileColumns;
 use dr_walk::AssembleFault;
 use std::alloc::Global;
 
-/// The partial of the records that columns have, which are put together.
-fn partial_of_assembled(
-    alloc: Global,
-    schema: &Schema,
-    plan: &Plan,
-    file: &FileColumns,
-) -> Result<Partial, AssembleFault>
-    requires planned { IsOfSchema (schema_view schema.now) plan.now }
-    ensures partial { IfOk result (λ x. IsOfColumns (schema_view schema.now) plan.now
-        (columns_view (file.now).columns.items) (file.now).rows (partial_view x)) }
-    ensures of_plan { IfOk result (IsPartialOf (plan_view plan.now)) }
-    ensures none { IsErrOf result AssembleFault.BadData → NoneHasLeaves (schema_view schema.now) plan.now
-        (columns_view (file.now).columns.items) (file.now).rows }
-{
-    let records = assemble(alloc, schema, &plan.leaves, &file.columns, file.rows)?;
-    Ok(partial_of(alloc, plan, &records)?)
-}
-
-/// A plan's partial of so many records with these columns, one for each leaf of the plan. Groups are made of the moves of
-/// the walk over the columns, with no record; for objects the records are put together.
+/// A plan's partial of so many records with these columns, one for each leaf of the plan. It is made of the
+/// moves of the walk over the columns, with no record.
 ///
 /// Errors: `BadData` where no such records have these columns; want of memory, or of room for the partial.
 pub(crate) fn partial_of_columns(
@@ -55,7 +36,9 @@ pub(crate) fn partial_of_columns(
         (columns_view (file.now).columns.items) (file.now).rows }
 {
     match &plan.selection {
-        Selection::Objects(_, _) => partial_of_assembled(alloc, schema, plan, file),
+        Selection::Objects(items, object) => {
+            objects_of_moves(alloc, schema, plan, items, object, file)
+        }
         Selection::Groups(keys, aggregates, items) => {
             groups_of_columns(alloc, schema, plan, keys, aggregates, items, file)
         }

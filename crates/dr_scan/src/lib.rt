@@ -7,6 +7,7 @@ mod cursors;
 mod groups;
 pub mod laws;
 mod moves;
+mod objects;
 mod rows;
 mod scanning;
 mod tablet;

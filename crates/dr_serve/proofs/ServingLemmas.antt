@@ -85,11 +85,12 @@ true_of_some t plan links tablet f planned h =
     let q : Query = planned.1 in
     subst (λ (n : ℕ). tablet < n) (count_of t) (piece_has_tablet t q links tablet _ (h.truth q (planned.0, planned.2, planned.3)))
 
--- its tablets are few
+-- its job has each of its tablets, which are few
+pub job_has_tablets : (t : Table) (j : Job) (lag : ℕ) → j ≡ table_job t lag → length j.leaves ≡ t.tablets
+job_has_tablets t j lag e = ap (λ (x : Job). length x.leaves) e ∙ (length-map (tablets_of t) directories_of ∙ count_of t)
+
 pub job_is_small : (t : Table) (j : Job) (lag : ℕ) → j ≡ table_job t lag → t.tablets ≤ 4096 → length j.leaves ≤ 2 ^ 32
-job_is_small t j lag e few =
-    let a : length j.leaves ≡ t.tablets = ap (λ (x : Job). length x.leaves) e ∙ (length-map (tablets_of t) directories_of ∙ count_of t) in
-    omega (arith, a, few)
+job_is_small t j lag e few = let a = job_has_tablets t j lag e in omega (arith, a, few)
 
 -- ---- after
 

@@ -101,7 +101,8 @@ pub(crate) fn served<
     links: &mut [L],
     lag: u64,
 ) -> Result<Vec<Found>, NoMemory>
-    requires ground { ground ≡ B.table }
+    requires ground { ground.table ≡ B.table }
+    requires drawn { ground.tablets ≡ (table.now).tablets }
     requires planned { IsOfSchema (schema_view (table.now).schema) plan.now }
     requires job { N.job ≡ table_job (table_view table.now) lag }
     requires some { 0 < length links.old }

@@ -49,7 +49,8 @@ fn closed<
     links: &mut [L],
     lag: u64,
 ) -> Result<Closed, NoMemory>
-    requires ground { ground ≡ B.table }
+    requires ground { ground.table ≡ B.table }
+    requires drawn { ground.tablets ≡ (table.now).tablets }
     requires planned { IsOfSchema (schema_view (table.now).schema) plan.now }
     requires job { N.job ≡ table_job (table_view table.now) lag }
     requires some { 0 < length links.old }
@@ -166,7 +167,7 @@ fn serve_by<L: Link + Send, R: Threads + Wait + Sync>(
     ensures links { OfEachLink L.shows (Worked (table_view table.now) plan.now) links.old links.new }
     ensures count { length links.new ≡ length links.old }
 {
-    let ground = Ground::new(alloc)?;
+    let ground = Ground::new(alloc, table.tablets as usize)?;
     let closed = closed::<Brand, Brand, L, R>(rt, alloc, ground, plan, table, links, lag)?;
     conclude(rt, alloc, tree, closed, least)
 }

@@ -1,6 +1,6 @@
 ghost use Rattle.std.specs.Prelude.{◌≡◌, ◌≤◌, ◌^◌, ℕ, length, IfOk};
 
-use dr_board::{Board, Closing, Event, Hand, Job, Naming, NoMemory, Piece, Told, replay};
+use dr_board::{Board, Closing, Event, Hand, Job, Looks, Naming, NoMemory, Piece, Told, replay};
 use dr_outside::Cause;
 use std::alloc::Global;
 use std::marker::Brand;
@@ -24,8 +24,11 @@ impl Piece for Read {
 // A call of a board, and what it has to answer.
 #[derive(Clone, Copy)]
 enum Call {
+    ChooseGives(Option<Hand>, u64),
     TakeGives(Hand),
     TakeGivesNone,
+    FreshGives(Hand),
+    FreshGivesNone(u32),
     AnswerIsKept(Hand),
     AnswerIsSpare(Hand),
     FaultIs(Hand, bool),
@@ -44,8 +47,15 @@ fn make<N: Naming<Read>>(rt: &impl Abort, board: &mut Board<Read, N>, call: Call
     requires { (t : ℕ) (r : Read) → N.is_true t r }
 {
     match call {
+        Call::ChooseGives(hand, count) => {
+            let mut looks = Looks::new();
+            assert_eq!(rt; board.choose(&mut looks), hand);
+            assert_eq!(rt; looks.count(), count);
+        }
         Call::TakeGives(hand) => assert_eq!(rt; board.take(), Some(hand)),
         Call::TakeGivesNone => assert_eq!(rt; board.take(), None),
+        Call::FreshGives(hand) => assert_eq!(rt; board.fresh(hand.tablet), Some(hand)),
+        Call::FreshGivesNone(tablet) => assert_eq!(rt; board.fresh(tablet), None),
         Call::AnswerIsKept(hand) => assert_eq!(rt; answer(rt, board, hand), Told::Kept),
         Call::AnswerIsSpare(hand) => {
             assert_eq!(rt; answer(rt, board, hand), Told::Spare(Read { from: hand }));
@@ -166,6 +176,55 @@ fn a_late_tablet_is_handed_out_again_when_the_lag_is_reached(rt: HostRuntime) ->
     ];
     let closing = follow(&rt, alloc, &job_of_one(alloc, &[7], 9)?, &single)?;
     assert_eq!(rt; closing.pieces.len(), 1);
+    Ok(())
+}
+
+#[test]
+fn a_choice_looks_at_each_tablet_once(rt: HostRuntime) -> Result<(), Fail> {
+    let alloc = rt.alloc();
+    let calls = [
+        Call::ChooseGives(Some(hand(0, 0)), 1),
+        Call::ChooseGives(Some(hand(0, 0)), 1),
+        Call::TakeGives(hand(0, 0)),
+        Call::ChooseGives(Some(hand(1, 1)), 2),
+        Call::TakeGives(hand(1, 1)),
+        Call::ChooseGives(None, 2),
+        Call::AnswerIsKept(hand(1, 1)),
+        Call::ChooseGives(Some(hand(0, 1)), 2),
+    ];
+    let closing = follow(&rt, alloc, &job_of_two(alloc, &[0, 1], &[1, 0], 2)?, &calls)?;
+    assert_eq!(rt; closing.history.len(), 3);
+    Ok(())
+}
+
+#[test]
+fn a_tablet_is_fresh_until_it_is_handed_out(rt: HostRuntime) -> Result<(), Fail> {
+    let alloc = rt.alloc();
+    let calls = [
+        Call::FreshGives(hand(1, 1)),
+        Call::FreshGivesNone(1),
+        Call::FaultIs(hand(1, 1), true),
+        Call::FreshGivesNone(1),
+        Call::TakeGives(hand(0, 0)),
+        Call::FreshGivesNone(0),
+        Call::FreshGivesNone(2),
+        Call::TakeGives(hand(1, 0)),
+    ];
+    let closing = follow(&rt, alloc, &job_of_two(alloc, &[0, 1], &[1, 0], 9)?, &calls)?;
+    let history = [
+        Event::Give(hand(1, 1)),
+        Event::Fault(hand(1, 1), CAUSE),
+        Event::Give(hand(0, 0)),
+        Event::Give(hand(1, 0)),
+    ];
+    assert_eq!(rt; closing.history.as_slice(), history.as_slice());
+    let closing = follow(
+        &rt,
+        alloc,
+        &job_of_one(alloc, &[], 1)?,
+        &[Call::FreshGivesNone(0)],
+    )?;
+    assert_eq!(rt; closing.history.len(), 0);
     Ok(())
 }
 

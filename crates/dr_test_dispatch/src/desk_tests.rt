@@ -1,4 +1,4 @@
-ghost use Rattle.std.specs.Prelude.{◌≡◌, ◌≤◌, ◌^◌, ℕ, true, length, IfOk};
+ghost use Rattle.std.specs.Prelude.{◌≡◌, ◌≤◌, ◌^◌, ℕ, [], true, length, IfOk};
 
 use dr_desk::{
     Board, Closing, Desk, Event, Ground, Hand, Job, Naming, NoMemory, Pass, Piece, Room, Told,
@@ -112,6 +112,7 @@ fn work_in_two_threads<
 enum Course {
     Answered,
     Failed,
+    Drawn,
     TwoThreads,
 }
 
@@ -163,6 +164,43 @@ fn failed<N: Naming<Read>, B: Room, R: Wait + Abort>(
     assert_eq!(rt; desk.answer(rt, second, other, piece), Told::Spare(piece));
 }
 
+// The pass draws a tablet in each take, so that after a fault it is given the next tablet, and only at the end the
+// failed one's other leaf.
+fn drawn<N: Naming<Read>, B: Room, R: Wait + Abort>(
+    rt: &R,
+    desk: &Desk<Read, N, B>,
+    pass: &mut Pass<B>,
+)
+    requires { (t : ℕ) (r : Read) → N.is_true t r }
+{
+    let Some(hand) = desk.take(rt, pass) else {
+        panic!(rt; "nothing is given");
+    };
+    assert_eq!(rt; hand, Hand { tablet: 0, leaf: 0 });
+    assert!(rt; desk.fault(rt, pass, hand, CAUSE));
+    assert_eq!(rt; desk.take(rt, pass), Some(Hand { tablet: 1, leaf: 0 }));
+    assert_eq!(rt; desk.take(rt, pass), Some(Hand { tablet: 2, leaf: 0 }));
+    assert_eq!(rt; desk.take(rt, pass), Some(Hand { tablet: 0, leaf: 1 }));
+    assert_eq!(rt; desk.take(rt, pass), None);
+}
+
+// On a desk of one pass.
+fn alone<N: Naming<Read>, B: Room, R: Wait + Abort>(
+    rt: &R,
+    alloc: Global,
+    ground: Ground,
+    board: Board<Read, N>,
+) -> Result<Closing<Read>, NoMemory>
+    requires ground { ground.table ≡ B.table }
+    requires tablets { ground.tablets ≡ length N.job.leaves }
+    requires board { board.history ≡ [] }
+    requires truth { (t : ℕ) (r : Read) → N.is_true t r }
+{
+    let (desk, mut passes) = Desk::<Read, N, B>::new(alloc, ground, board, 1)?;
+    drawn(rt, &desk, &mut passes.as_mut_slice()[0]);
+    Ok(desk.shut(passes))
+}
+
 fn run<N: Naming<Read> + Send + Sync, B: Room + Send + Sync, R: Threads + Wait + Abort + Sync>(
     rt: &R,
     alloc: Global,
@@ -170,12 +208,16 @@ fn run<N: Naming<Read> + Send + Sync, B: Room + Send + Sync, R: Threads + Wait +
     job: Job,
     course: Course,
 ) -> Result<Closing<Read>, NoMemory>
-    requires ground { ground ≡ B.table }
+    requires ground { ground.table ≡ B.table }
+    requires drawn { ground.tablets ≡ length job.leaves }
     requires job { job ≡ N.job }
     requires tablets { length job.leaves ≤ 2 ^ 32 }
     requires truth { (t : ℕ) (r : Read) → N.is_true t r }
 {
     let board: Board<Read, N> = Board::new(alloc, &job)?;
+    if course == Course::Drawn {
+        return alone::<N, B, R>(rt, alloc, ground, board);
+    }
     let (desk, mut passes) = Desk::<Read, N, B>::new(alloc, ground, board, 2)?;
     if course == Course::TwoThreads {
         work_in_two_threads(rt, &desk, passes.as_mut_slice());
@@ -190,6 +232,15 @@ fn run<N: Naming<Read> + Send + Sync, B: Room + Send + Sync, R: Threads + Wait +
     Ok(desk.shut(passes))
 }
 
+// A lag that isn't reached in a course of two threads, nor where a pass draws tablets.
+fn lag_of(course: Course) -> u64 {
+    match course {
+        Course::Answered | Course::Failed => 1,
+        Course::Drawn => 5,
+        Course::TwoThreads => NEVER,
+    }
+}
+
 fn follow<R: Threads + Wait + Abort + Sync>(
     rt: &R,
     alloc: Global,
@@ -198,13 +249,9 @@ fn follow<R: Threads + Wait + Abort + Sync>(
 ) -> Result<Closing<Read>, NoMemory>
     requires { tablets ≤ 2 ^ 32 }
 {
-    let ground = Ground::new(alloc)?;
-    let lag = if course == Course::TwoThreads {
-        NEVER
-    } else {
-        1
-    };
-    run::<Brand, Brand, R>(rt, alloc, ground, job(alloc, tablets, lag)?, course)
+    let ground = Ground::new(alloc, tablets)?;
+    let job = job(alloc, tablets, lag_of(course))?;
+    run::<Brand, Brand, R>(rt, alloc, ground, job, course)
 }
 
 // So many tablets, each on the leaves 0 and 1.
@@ -246,6 +293,14 @@ fn passes_take_turns(rt: HostRuntime) -> Result<(), Fail> {
         }]
         .as_slice()
     );
+    Ok(())
+}
+
+#[test]
+fn a_pass_draws_a_tablet_in_each_take(rt: HostRuntime) -> Result<(), Fail> {
+    let closing = follow(&rt, rt.alloc(), 3, Course::Drawn)?;
+    assert_eq!(rt; closing.history.len(), 5);
+    assert_eq!(rt; closing.pieces.len(), 0);
     Ok(())
 }
 

@@ -11,13 +11,20 @@ pub mod LeavesBelow
 pub mod ReadRows
 -- tests in parts
 pub mod PartedLemmas
--- the readings of a plan of groups, and its condition
+-- what is known at the last of some leaves; the readings of a plan of groups, and its condition
+pub mod LastMeans
 pub mod PlanAggregates
 pub mod PlanReadings
 pub mod PlanCondition
 pub mod PlanParts
--- what a scan makes over the walk of records
+-- moves one after another; what is made over the walk of records, and the partial of a scan of groups
+pub mod FramedLemmas
+pub mod PlanFrames
 pub mod ScanPartial
+-- the items of a bound record query, the readings of a plan of objects, and what a scan of objects makes
+pub mod ItemsBound
+pub mod PlanItems
+pub mod ScanObjects
 -- what was made in open branches
 pub mod FramingLemmas
 -- what a pruner tells, and what is known by its numbers
@@ -26,3 +33,21 @@ pub mod SettledLemmas
 -- a scan behind one more move
 pub mod BehindLemmas
 pub mod StepLemmas
+-- the table of a record query's levels
+pub mod LevelNumbering
+pub mod TableLemmas
+pub mod LevelSteps
+-- for which items a value is taken at a leaf
+pub mod ItemFiringLemmas
+-- what was made of a record query in open branches
+pub mod MadeParts
+pub mod RunLemmas
+pub mod CopyLemmas
+pub mod WithinLemmas
+pub mod ItemLemmas
+pub mod ItemCells
+pub mod ObjectParts
+pub mod ObjectFrameLemmas
+-- a scan of objects behind one more move, at its begin and at its end
+pub mod ObjectSteps
+pub mod ObjectEnds

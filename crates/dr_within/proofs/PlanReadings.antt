@@ -10,11 +10,10 @@ use Rattle.dr_meaning.specs.Path.{Step, Leaf, paths_of_leaves, is_leaf_path}
 use Rattle.dr_meaning.specs.Record.{Value, Node}
 use Rattle.dr_meaning.specs.Expression.{longest_chain, paths_of}
 use Rattle.dr_meaning.specs.Query.{GroupTerm, key, count_rows, aggregate, GroupItem, Selection, groups, Query, key_tuple}
-use Rattle.dr_meaning.specs.QueryLeaves.{query_leaves}
 use Rattle.dr_meaning.specs.MeaningLaws.{group_term_paths}
 use Rattle.dr_meaning.specs.Kept.{kept}
 use Rattle.dr_firing.specs.Context.{Context}
-use Rattle.dr_kept_laws.specs.GroupFlowLaws.{MeansAt, AllMean}
+use Rattle.dr_kept_laws.specs.GroupFlowLaws.{AllMean}
 use Rattle.dr_partials.specs.PartialLaws.{all_related, is_mergeable_selection}
 use Rattle.dr_partials.specs.PartialTypes.{aggregates_among, with_aggregate}
 use Rattle.dr_partials.specs.Putting.{Put, puts_of_selection}
@@ -23,8 +22,7 @@ use Rattle.dr_put_laws.specs.LastRead.{paths_at}
 use Rattle.dr_put_laws.specs.Readings.{Trigger, term_readings, group_readings}
 use Rattle.dr_put_laws.specs.Alike.{MeanAlike}
 use Rattle.dr_put_laws.specs.FlowPartial.{ReadsGroups}
-use Rattle.dr_put_laws.proofs.LastReadLemmas.{meant_at_last, longest_of_both}
-use Rattle.dr_put_laws.proofs.LeavesInOrderLemmas.{query_leaves_in_order}
+use Rattle.dr_put_laws.proofs.LastReadLemmas.{longest_of_both}
 use Rattle.dr_put_laws.proofs.AlikeLemmas.{alike_readings}
 use Rattle.dr_put_laws.proofs.ReadingLemmas.{readings_mean_puts}
 use Rattle.dr_plan.specs.Fitting.{aggregate_fits, expr_fits, is_summed}
@@ -36,16 +34,16 @@ use Rattle.dr_plan.specs.declared.expression.Expr.{Expr}
 use Rattle.dr_plan.specs.declared.plan.GroupItem.{GroupItem as PlanItem}
 use Rattle.dr_plan.specs.declared.plan.Plan.{Plan}
 use Rattle.dr_plan.specs.declared.plan.Selection.{Selection as Selected}
-use Rattle.dr_scalar.specs.Leaves.{expr_leaves, greatest}
+use Rattle.dr_scalar.specs.Leaves.{expr_leaves}
 use Rattle.dr_scalar.specs.LeafLaws.{SameRead}
 use Rattle.dr_scalar.proofs.LeafPathLemmas.{leaves_are_paths}
 use Rattle.dr_scalar.proofs.SameReadLemmas.{first_same, second_same, same_leaves_tell}
 use Rattle.dr_scalar.proofs.TestLemmas.{leaves_tell}
 use Rattle.dr_within.specs.Takings.{leaves_of, put_read, taking_of, aggregate_takings, takings_of}
 use Rattle.dr_within.specs.Behind.{read_of, readings_at}
-use Rattle.dr_within.proofs.GreatestLemmas.{same_greatest}
+use Rattle.dr_within.proofs.LastMeans.{read_means}
 use Rattle.dr_within.proofs.LeavesBelow.{are_below, both_below, leaves_below}
-use Rattle.dr_within.proofs.ReadRows.{same_paths, below_paths, row_is_read, all_are_read, AreLeavesOf, plan_leaves_are, rows_typed}
+use Rattle.dr_within.proofs.ReadRows.{same_paths, all_are_read, AreLeavesOf, plan_leaves_are, rows_typed}
 use Rattle.dr_within.proofs.PlanAggregates.{GroupsFit, groups_fit, plan_aggregates}
 
 -- ---- what is put depends on the leaves of a taking alone
@@ -66,25 +64,6 @@ same_put keys i Aggregate.Rows c d h = ap (λ (vs : List (Option Value)). value_
 same_put keys i (Aggregate.Of f e) c d h =
     ap₂ (value_taken i) (keys_read keys c d (first_same keys (expr_leaves e) c d h))
     (same_leaves_tell e c d (second_same keys (expr_leaves e) c d h))
-
--- so it is known at the last of them, in the rows of their longest chain
-abbrev MeansAtLast : List Leaf → Type 0
-MeansAtLast ls = (K : List ℕ) (f : Context → Put) → are_below ls K ≡ true → all_related (paths_at (paths_of_leaves ls) K) ≡ true
-    → ((c d : Context) → SameRead K c d → f c ≡ f d)
-    → MeansAt (paths_of_leaves ls) (greatest K) f (longest_chain (paths_at (paths_of_leaves ls) K)) (λ (row : Node). f (read_of ls row))
-
-query_means : (fs : Fields) (q : Query) → MeansAtLast (query_leaves fs q)
-query_means fs q K f b r same =
-    let ls = query_leaves fs q in
-    let F = paths_of_leaves ls in
-    let o = query_leaves_in_order fs q in
-    let g : Node → Put = λ (row : Node). f (read_of ls row) in
-    subst (λ (i : Option ℕ). MeansAt F i f (longest_chain (paths_at F K)) g) (sym (same_greatest K))
-    (meant_at_last Put fs F K f g o.0 o.1 o.2 (below_paths ls K b) r
-    (λ c row h. same c (read_of ls row) (row_is_read ls K c row b h)))
-
-read_means : (fs : Fields) (ls : List Leaf) → AreLeavesOf fs ls → MeansAtLast ls
-read_means fs ls o = subst MeansAtLast (sym o.same) (query_means fs o.query)
 
 -- ---- the readings of a plan's keys and aggregates
 
@@ -109,14 +88,14 @@ module _ (fs : Fields) (ls : List Leaf) (o : AreLeavesOf fs ls) (keys : List ℕ
   aggregates_meant i [] h g = tt
   aggregates_meant i (Aggregate.Rows ∷ A) h g =
       let y = and_parts _ _ g in (
-        read_means fs ls o keys (put_read keys (taking_of i Aggregate.Rows)) b keys_related (same_put keys i Aggregate.Rows),
+        read_means Put fs ls o keys (put_read keys (taking_of i Aggregate.Rows)) b keys_related (same_put keys i Aggregate.Rows),
         aggregates_meant (suc i) A h y.1,
       )
   aggregates_meant i (Aggregate.Of f e ∷ A) h g =
       let x : (aggregate_fits ls (Aggregate.Of f e) ≡ true) × (list_all (aggregate_fits ls) A ≡ true) = and_parts _ _ h in
       let z : (expr_fits ls e ≡ true) × (is_summed f e ≡ true) = and_parts _ _ x.0 in
       let y = and_parts _ _ g in (
-        read_means fs ls o (keys ++ expr_leaves e) (put_read keys (taking_of i (Aggregate.Of f e)))
+        read_means Put fs ls o (keys ++ expr_leaves e) (put_read keys (taking_of i (Aggregate.Of f e)))
             (both_below ls keys (expr_leaves e) b (leaves_below ls e z.0)) (ap all_related (term_paths_at ls keys e) ∙ y.0)
             (same_put keys i (Aggregate.Of f e)),
         aggregates_meant (suc i) A x.1 y.1,
@@ -126,7 +105,7 @@ module _ (fs : Fields) (ls : List Leaf) (o : AreLeavesOf fs ls) (keys : List ℕ
       → list_all (λ (t : GroupTerm). all_related (key_paths ls keys ++ group_term_paths t)) (map (aggregate_view ls) A) ≡ true
       → AllMean (paths_of_leaves ls) (readings_at ls keys (takings_of A))
   all_meant A h g = (
-    read_means fs ls o keys (λ c. nothing_taken (map c keys)) b keys_related (λ c d s. ap nothing_taken (keys_read keys c d s)),
+    read_means Put fs ls o keys (λ c. nothing_taken (map c keys)) b keys_related (λ c d s. ap nothing_taken (keys_read keys c d s)),
     aggregates_meant 0 A h g,
   )
 

@@ -11,7 +11,6 @@ use Rattle.dr_plan.specs.Planned.{Planned}
 use Rattle.dr_pruning_laws.specs.Counting.{context_behind}
 use Rattle.dr_pruning_laws.specs.Frames.{Frames, frame_move}
 use Rattle.dr_pruning_laws.specs.MovedContexts.{after_moves}
-use Rattle.dr_put_laws.specs.FramesPartial.{no_frames}
 use Rattle.dr_scalar.specs.Slots.{slot_value}
 use Rattle.dr_within.specs.Takings.{Take, all_read, firing_at, takings_view}
 use Rattle.dr_within.specs.Firings.{leaving_in, Fires}
@@ -24,7 +23,7 @@ use Rattle.dr_within.specs.declared.firing.Firing.{Firing}
 use Rattle.dr_within.specs.declared.frames.Frames.{Frames as CodeFrames}
 use Rattle.dr_within.specs.declared.groups.GroupScan.{GroupScan}
 use Rattle.dr_within.proofs.FiredLemmas.{fired_read, left_read}
-use Rattle.dr_within.proofs.ScanPartial.{frames_snoc}
+use Rattle.dr_within.proofs.FramedLemmas.{framed_snoc}
 use Rattle.dr_within.proofs.BehindLemmas.{no_marks, some_marks, left_made}
 use Rattle.dr_within.proofs.SettledLemmas.{entered_settled, read_settled, kept_settled, left_settled, none_settled}
 
@@ -138,5 +137,5 @@ is_behind p ls ts ms m old new b k f w s c h made =
       watched = h;
       made = subst (λ g. HoldsBehind ls g.now ts (watch_in new.condition) p (length g.now) (ms ++ m ∷ []) (behind ls g.now ts (watch_in new.condition) (ms ++ m ∷ [])) new.frames) (sym k)
           (subst (λ V. HoldsBehind ls keys ts V p (length keys) (ms ++ m ∷ []) (behind ls keys ts V (ms ++ m ∷ [])) new.frames) (sym w)
-          (subst (λ (x : Frames Put). HoldsBehind ls keys ts W p (length keys) (ms ++ m ∷ []) x new.frames) (sym (frames_snoc W (readings_at ls keys ts) [] ms m no_frames)) made));
+          (subst (λ (x : Frames Put). HoldsBehind ls keys ts W p (length keys) (ms ++ m ∷ []) x new.frames) (sym (framed_snoc (all_fired (readings_at ls keys ts)) (left_with (all_left (readings_at ls keys ts))) W ms m)) made));
     }

@@ -1,5 +1,5 @@
 -- A scan of groups behind some moves: what it has made of them.
-use Rattle.std.specs.Prelude.{◌≡◌, ◌<◌, ℕ, ⊤, List, [], ◌∷◌, ◌++◌, map, length, replicate, Bool, true, Option, None, Some}
+use Rattle.std.specs.Prelude.{◌≡◌, ◌<◌, ℕ, ⊤, List, map, length, replicate, Bool, true, Option, None, Some}
 use Rattle.std.specs.List.{slice_get}
 use Rattle.dr_meaning.specs.Path.{Leaf, paths_of_leaves}
 use Rattle.dr_meaning.specs.Record.{Node}
@@ -8,9 +8,8 @@ use Rattle.dr_meaning.specs.Expression.{longest_chain}
 use Rattle.dr_meaning.specs.Walk.{Move, enter, value, leave}
 use Rattle.dr_firing.specs.Context.{Context}
 use Rattle.dr_kept_laws.specs.GroupFlow.{Reading, all_fired, all_left, left_with}
-use Rattle.dr_pruning_laws.specs.Frames.{Frames, frame_move}
+use Rattle.dr_pruning_laws.specs.Frames.{Frames}
 use Rattle.dr_pruning_laws.specs.MovedContexts.{after_moves}
-use Rattle.dr_put_laws.specs.FramesPartial.{no_frames}
 use Rattle.dr_put_laws.specs.LastRead.{paths_at}
 use Rattle.dr_partials.specs.Putting.{Put}
 use Rattle.dr_plan.specs.Planned.{Planned}
@@ -18,10 +17,11 @@ use Rattle.dr_plan.specs.Views.{path_of}
 use Rattle.dr_scalar.specs.Slots.{slot_value}
 use Rattle.dr_within.specs.Takings.{Take, leaves_of, fires_at, put_read}
 use Rattle.dr_within.specs.Firings.{Fires}
+use Rattle.dr_within.specs.FramedMoves.{framed_behind}
 use Rattle.dr_within.specs.Framing.{Holds}
 use Rattle.dr_within.specs.Parted.{WatchedParts}
 use Rattle.dr_within.specs.Conditions.{HasWatched, watch_in}
-use Rattle.dr_within.specs.Watching.{dropped_at, pruned_behind, settled_by}
+use Rattle.dr_within.specs.Watching.{pruned_behind, settled_by}
 use Rattle.dr_within.specs.declared.groups.GroupScan.{GroupScan}
 
 -- ---- the readings of takings
@@ -51,14 +51,8 @@ settled_behind (Some w) n ms = settled_by (pruned_behind w ms).numbers
 
 -- ---- what was made
 
--- moves behind others
-abbrev pub frames_from : Option WatchedParts → List (Reading Put) → List Move → List Move → Frames Put → Frames Put
-frames_from W xs before [] f = f
-frames_from W xs before (m ∷ ms) f = frames_from W xs (before ++ m ∷ []) ms (frame_move (all_fired xs) (left_with (all_left xs)) (dropped_at W before m) m f)
-
--- from the first on
 abbrev pub frames_behind : Option WatchedParts → List (Reading Put) → List Move → Frames Put
-frames_behind W xs ms = frames_from W xs [] ms no_frames
+frames_behind W xs ms = framed_behind (all_fired xs) (left_with (all_left xs)) W ms
 
 -- a scan for a plan with these leaves, by these takings, behind these moves
 pub record IsBehind (p : Planned) (ls : List Leaf) (ts : List Take) (ms : List Move) (g : GroupScan) : Type 0 where

@@ -1,4 +1,4 @@
--- What the moves of a walk make of records for a plan of groups.
+-- What the moves of a walk make of records for a plan of groups or of objects.
 -- what is taken of rows, and where they fire
 pub mod Takings
 pub mod Firings
@@ -10,6 +10,18 @@ pub mod Parted
 pub mod TestParts
 pub mod Watching
 pub mod Conditions
--- a scan behind some moves, and the scan of a plan
+-- what is made behind some moves; a scan behind them, and the scan of a plan
+pub mod FramedMoves
 pub mod Behind
 pub mod Scanning
+-- the levels of a record query, and for which of its items values are taken at which leaf
+pub mod ObjectLevels
+pub mod LevelTable
+pub mod ItemFirings
+-- what was made of a record query in open branches
+pub mod ObjectFraming
+pub mod WithinValues
+pub mod OwnCells
+-- a scan of its objects behind some moves, and the scan of a plan
+pub mod ObjectsBehind
+pub mod ObjectScanning

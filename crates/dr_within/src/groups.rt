@@ -1,13 +1,9 @@
 //! The groups of a plan, made along a walk.
 
-ghost use Rattle.std.specs.Prelude.{◌≡◌, ◌<◌, ◌++◌, ◌∷◌, [], ◌≤◌, List, ℕ, length, map, IfOk, OnOk, Some, None};
-ghost use Rattle.dr_levels.specs.Views.{move_view, lent_value};
+ghost use Rattle.std.specs.Prelude.{◌≡◌, ◌<◌, ◌++◌, ◌∷◌, [], List, length, IfOk, OnOk};
+ghost use Rattle.dr_levels.specs.Views.{move_view};
 ghost use Rattle.dr_meaning.specs.Path.{Leaf};
-ghost use Rattle.dr_meaning.specs.Column.{Triplet};
-ghost use Rattle.dr_meaning.specs.Walk as meant;
 ghost use Rattle.dr_meaning.specs.Walk.{Move as MeantMove};
-ghost use Rattle.dr_firing.specs.Context.{with_value};
-ghost use Rattle.dr_scalar.specs.Slots.{slot_value};
 ghost use Rattle.dr_partials.specs.Partials.{empty_partial};
 ghost use Rattle.dr_partials.specs.Putting.{put_all};
 ghost use Rattle.dr_plan.specs.Planned.{Planned, plan_view, plan_leaves, planned_query};
@@ -20,6 +16,7 @@ ghost use Rattle.dr_within.specs.Behind.{IsBehind, IsOfLeaf, frames_behind, read
 use crate::condition::Condition;
 use crate::firing::Firing;
 use crate::frames::Frames;
+use crate::slots::keep_value;
 use crate::taking::Taking;
 use dr_group::Partial;
 use dr_levels::{Move, ValueRef};
@@ -37,22 +34,6 @@ pub struct GroupScan<'a> {
     /// What was read last of each leaf.
     pub(crate) slots: Vec<Option<ValueRef<'a>>>,
     pub(crate) frames: Frames<'a>,
-}
-
-/// Keeps the value of a leaf that a move reads, in the leaf's slot.
-fn keep_value<'a>(read: &Move<'a>, slots: &mut Vec<Option<ValueRef<'a>>>)
-    ensures here { (i : ℕ) (t : Triplet) → move_view read.now ≡ meant.value i t → i < length (slots.old).items
-        → slot_value (slots.new).items ≡ with_value i t.value (slot_value (slots.old).items) }
-    ensures enter { (k : ℕ) → move_view read.now ≡ meant.enter k → (slots.new).items ≡ (slots.old).items }
-    ensures leave { (k : ℕ) → move_view read.now ≡ meant.leave k → (slots.new).items ≡ (slots.old).items }
-    ensures as_many { length (slots.new).items ≡ length (slots.old).items }
-{
-    if let Move::Leaf(leaf, triplet) = read {
-        let at = *leaf as usize;
-        if at < slots.len() {
-            slots[at] = triplet.value;
-        }
-    }
 }
 
 impl<'a> GroupScan<'a> {

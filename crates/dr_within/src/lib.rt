@@ -1,18 +1,32 @@
-//! What the moves of a walk make of records, with no record: the groups of a plan. Rows fire at leaves, a condition
-//! keeps or drops branches, and what was made in a dropped one is cut off again.
+//! What the moves of a walk make of records, with no record: the groups or the objects of a plan. Rows fire at leaves,
+//! and objects are made where instances are left. A condition keeps or drops branches, and what was made in a dropped
+//! one is cut off again.
 #![tactic(auto)]
 
+mod built;
 mod condition;
+mod copying;
 mod firing;
 mod frames;
 mod groups;
+mod item_firing;
+mod joining;
 mod keys;
 mod late;
+mod levels;
+mod object_frame;
+mod object_frames;
+mod object_scan;
+mod own_cells;
 mod parts;
+mod plan_condition;
 mod plan_scan;
 mod putting;
+mod slots;
 mod taking;
 mod told;
 mod watched;
+mod within_values;
 
+pub use object_scan::ObjectScan;
 pub use plan_scan::PlanScan;

@@ -9,7 +9,7 @@ use Rattle.dr_desk.proofs.Allowed.{hands, ascends_entered}
 use Rattle.dr_desk.proofs.steps.enter.Goals as goal
 
 pub join_seat-requires : goal.join_seat-requires
-join_seat-requires c = (search rules, search rules, search rules, search rules, hands _ _ _ _ c.requires.keeper.2)
+join_seat-requires c = (search rules, search rules, search rules, search rules, hands _ _ _ _ _ c.requires.keeper.2)
 
 pub returns-clause-ordered : goal.returns-clause-ordered
 returns-clause-ordered c =

@@ -3,4 +3,4 @@ use Rattle.dr_desk.proofs.Allowed.{looks}
 use Rattle.dr_desk.proofs.steps.look.Goals as goal
 
 pub load-requires : goal.load-requires
-load-requires c = (search rules, search rules, looks _ _ _ c.requires.keeps)
+load-requires c = (search rules, search rules, looks _ _ _ _ c.requires.keeps)

@@ -8,7 +8,7 @@ use Rattle.dr_desk.proofs.Allowed.{raises, ascends_added}
 use Rattle.dr_desk.proofs.steps.raise.Goals as goal
 
 pub compare_exchange_with-requires : goal.compare_exchange_with-requires
-compare_exchange_with-requires c = (search rules, search rules, raises _ _ _ _ _ c.requires.keeps c.requires.count)
+compare_exchange_with-requires c = (search rules, search rules, raises _ _ _ _ _ _ c.requires.keeps c.requires.count)
 
 pub returns-clause-ordered : goal.returns-clause-ordered
 returns-clause-ordered c =

@@ -7,4 +7,4 @@ abbrev pub ghosts-closed-N-Naming : goal.ghosts-closed-N-Naming
 ghosts-closed-N-Naming g a = record { job = table_job (table_view a.table.now) a.lag; is_true = IsPieceFound (table_view a.table.now) a.plan.now (held_by g.L.Link.shows a.links.now) }
 
 abbrev pub ghosts-closed-B-Room : goal.ghosts-closed-B-Room
-ghosts-closed-B-Room g a = record { table = a.ground }
+ghosts-closed-B-Room g a = record { table = a.ground.table }

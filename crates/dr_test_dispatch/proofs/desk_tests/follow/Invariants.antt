@@ -5,4 +5,4 @@ abbrev pub ghosts-run-N-Naming : goal.ghosts-run-N-Naming
 ghosts-run-N-Naming g a = record { job = a.job; is_true = λ t r. ⊤ }
 
 abbrev pub ghosts-run-B-Room : goal.ghosts-run-B-Room
-ghosts-run-B-Room g a = record { table = a.ground }
+ghosts-run-B-Room g a = record { table = a.ground.table }

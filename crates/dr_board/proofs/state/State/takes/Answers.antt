@@ -14,7 +14,7 @@ returns-in-Some-clause-told c =
     = found.1 ∙ ap (λ (ts : List TabletShown). get_or ts c.tablet_of.result c.in-Some.tablet.now) c.deref.ensures.value in
     c.takes.ensures
     ∙ (ap (λ (t : TabletShown). takes_event t c.args.event) is
-    ∙ (takes_at _ _ _ _ c.self.invariant c.args.event c.tablet_of.result c.in-Some.tablet.now (sym c.tablet_of.ensures) there
+    ∙ (takes_at _ _ _ _ _ c.self.invariant c.args.event c.tablet_of.result c.in-Some.tablet.now (sym c.tablet_of.ensures) there
     ∙ ap (λ (s : StateShown). is_recorded s.job s.history c.args.event) c.self.view_is))
 
 pub returns-in-None-clause-told : goal.returns-in-None-clause-told
@@ -22,5 +22,5 @@ returns-in-None-clause-told c =
     let past : length c.self.inside.tablets.items ≤ (hand_of c.args.event).tablet
     = subst (λ (ts : List TabletShown). length ts ≤ (hand_of c.args.event).tablet) c.deref.ensures.value (omega (arith, c.in-None.ensures.lookup.3, c.tablet_of.ensures)) in
     sym (past_is_not_recorded (job_of c.self.inside.lag c.self.inside.tablets.items) c.self.inside.history.items c.args.event c.self.invariant.recorded
-    (omega (arith, past, tablet_count _ _ _ _ c.self.invariant)))
+    (omega (arith, past, tablet_count _ _ _ _ _ c.self.invariant)))
     ∙ ap (λ (s : StateShown). is_recorded s.job s.history c.args.event) c.self.view_is

@@ -15,7 +15,7 @@ returns-in-Some c =
     = found.1 ∙ ap (λ (ts : List TabletShown). get_or ts c.args.hand.tablet c.in-Some.tablet.now) c.deref.ensures.value in
     c.was_given.ensures
     ∙ (ap (λ (t : TabletShown). list_any (is_given_on c.args.hand.leaf) t.leaves) is
-    ∙ (given_at _ _ _ _ c.self.invariant c.args.hand c.in-Some.tablet.now there
+    ∙ (given_at _ _ _ _ _ c.self.invariant c.args.hand c.in-Some.tablet.now there
     ∙ ap (λ (s : StateShown). has_give s.history c.args.hand) c.self.view_is))
 
 pub returns-in-None : goal.returns-in-None
@@ -23,5 +23,5 @@ returns-in-None c =
     let past : length c.self.inside.tablets.items ≤ c.args.hand.tablet
     = subst (λ (ts : List TabletShown). length ts ≤ c.args.hand.tablet) c.deref.ensures.value c.in-None.ensures.lookup.3 in
     sym (was_not_given (job_of c.self.inside.lag c.self.inside.tablets.items) c.self.inside.history.items c.args.hand c.self.invariant.recorded
-    (omega (arith, past, tablet_count _ _ _ _ c.self.invariant)))
+    (omega (arith, past, tablet_count _ _ _ _ _ c.self.invariant)))
     ∙ ap (λ (s : StateShown). has_give s.history c.args.hand) c.self.view_is

@@ -7,7 +7,7 @@ abbrev pub invariant-passes : goal.invariant-passes
 invariant-passes g l =
     (l.keeper.table_id ≡ l.table.shared.table_id)
     × (l.table.shared.table_id ≡ g.B.Room.table)
-    × (l.table.shared.table_id.words ≡ 1)
+    × (l.table.shared.table_id.words ≡ 2)
     × (l.keeper.me ≡ (keeper_at [], []))
     × (l.passes.items ≡ replicate l.number new_pass)
     × (l.count ≤ vec_capacity l.passes)

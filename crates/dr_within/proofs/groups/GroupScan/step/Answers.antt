@@ -2,6 +2,7 @@ use Rattle.std.proofs.Common.{◌≡◌, ◌<◌, ℕ, List, [], ◌∷◌, ◌+
 use Rattle.dr_levels.specs.Views.{move_view, triplet_view}
 use Rattle.dr_meaning.specs.Walk.{Move, enter, value, leave}
 use Rattle.dr_firing.specs.Context.{Context, with_value}
+use Rattle.dr_kept_laws.specs.GroupFlow.{all_fired, all_left, left_with}
 use Rattle.dr_pruning_laws.specs.MovedContexts.{after_moves}
 use Rattle.dr_scalar.specs.Slots.{slot_value}
 use Rattle.dr_within.specs.Behind.{IsOfLeaf, readings_at}
@@ -9,7 +10,7 @@ use Rattle.dr_within.specs.Takings.{Take, all_read}
 use Rattle.dr_within.specs.Conditions.{watch_in}
 use Rattle.dr_within.specs.Watching.{TellsKept, dropped_at}
 use Rattle.dr_within.proofs.FramingLemmas.{on_ok, on_both}
-use Rattle.dr_within.proofs.ScanPartial.{frames_context}
+use Rattle.dr_within.proofs.FramedLemmas.{framed_context}
 use Rattle.dr_within.proofs.StepLemmas.{is_behind, after_snoc, enter_made, read_made, leave_made, HoldsBehind, one_more, fired_rows, left_taken}
 use Rattle.dr_within.proofs.groups.GroupScan.step.Goals as goal
 
@@ -45,7 +46,7 @@ returns-in-Leaf-clause-behind c = on_ok c.fire.result _ _ (λ call p ls ts ms b 
     let there = read ∙ ap slot_value (sym c.deref.ensures.value) in
     let told = c.in_ok-told.ensures.kept ms b.watched there in
     let context : slot_value c.deref-in-Leaf.result.now ≡ with_value i t.value (after_moves (λ i. None) ms) = ap slot_value c.deref-in-Leaf.ensures.value ∙ here ∙ ap (with_value i t.value) (sym b.context) in
-    let rows = ap₂ (λ (ts : List Take) (x : Context). all_read keys ts x) (c.at.ensures ∙ b.fires.leaf i l) (context ∙ ap (with_value i t.value) (sym (frames_context W (readings_at ls keys ts) ms)))
+    let rows = ap₂ (λ (ts : List Take) (x : Context). all_read keys ts x) (c.at.ensures ∙ b.fires.leaf i l) (context ∙ ap (with_value i t.value) (sym (framed_context (all_fired (readings_at ls keys ts)) (left_with (all_left (readings_at ls keys ts))) W ms)))
     ∙ sym (fired_rows ls keys ts 0 i _) in
     is_behind p ls ts ms m old _ b refl refl c.step.ensures.watches (c.keep_value.ensures.as_many ∙ b.slots) read (c.in_ok-told.ensures.watched ms b.watched there)
     (subst (λ (x : Move). HoldsBehind ls keys ts W p (length keys) (ms ++ x ∷ []) (one_more ls keys ts W ms x) c.fire.new.self) (sym q)
@@ -66,7 +67,7 @@ returns-in-Leave-clause-behind c = on_both c.leave.result _ _ _ (λ call none p 
     let there = read ∙ ap slot_value (sym c.deref.ensures.value) in
     let dropped = c.in_ok-told.ensures.dropped ms b.watched there ∙ ap (λ (x : Move). dropped_at W ms x) q in
     let context : slot_value c.deref-in-Leave.result.now ≡ after_moves (λ i. None) ms = ap slot_value c.deref-in-Leave.ensures.value ∙ ap slot_value same ∙ sym b.context in
-    let rows = ap₂ (λ (ts : List Take) (x : Context). all_read keys ts x) c.at_leave.ensures (context ∙ sym (frames_context W (readings_at ls keys ts) ms)) ∙ left_taken ls keys ts old.firing k _ b.fires in
+    let rows = ap₂ (λ (ts : List Take) (x : Context). all_read keys ts x) c.at_leave.ensures (context ∙ sym (framed_context (all_fired (readings_at ls keys ts)) (left_with (all_left (readings_at ls keys ts))) W ms)) ∙ left_taken ls keys ts old.firing k _ b.fires in
     is_behind p ls ts ms m old _ b refl refl c.step.ensures.watches (c.keep_value.ensures.as_many ∙ b.slots) read (c.in_ok-told.ensures.watched ms b.watched there)
     (subst (λ (x : Move). HoldsBehind ls keys ts W p (length keys) (ms ++ x ∷ []) (one_more ls keys ts W ms x) c.leave.new.self) (sym q)
     (leave_made ls keys ts W p (length keys) ms k c.in_ok-told.told.is_dropped _ old.frames c.leave.new.self call none dropped rows b.made))) c.leave.ensures.left c.leave.ensures.none

@@ -1,0 +1,10 @@
+use Rattle.std.proofs.Common.{◌≡◌, ◌++◌, List, take}
+use Rattle.dr_cells.specs.Views.{cells_view}
+use Rattle.dr_object_laws.specs.ObjectFlow.{Made}
+use Rattle.dr_within.specs.ObjectFraming.{HoldsBuilt}
+use Rattle.dr_within.specs.OwnCells.{list_counts}
+use Rattle.dr_within.proofs.object_frame.push_counts.Given as goal
+
+-- the counts of the lists so far
+abbrev pub invariant-lists : goal.invariant-lists
+invariant-lists l = (made : List Made) → HoldsBuilt made l.built → cells_view l.cells ≡ cells_view l.initial.cells ++ list_counts made (take l.number-index l.lists)

@@ -1,0 +1,148 @@
+//! The scan of a plan of objects.
+
+ghost use Rattle.std.specs.Prelude.{◌≡◌, ◌<◌, ◌++◌, ◌∷◌, [], List, length, true, IfOk, OnOk};
+ghost use Rattle.std.specs.List.{list_all};
+ghost use Rattle.dr_levels.specs.Views.{move_view};
+ghost use Rattle.dr_nested.specs.SchemaView.{schema_view};
+ghost use Rattle.dr_meaning.specs.Path.{paths_of_leaves};
+ghost use Rattle.dr_meaning.specs.Record.{Node, is_record};
+ghost use Rattle.dr_meaning.specs.Schema.{Schema as MeantSchema};
+ghost use Rattle.dr_meaning.specs.Walk.{Move as MeantMove, walk};
+ghost use Rattle.dr_partials.specs.Partials as partials;
+ghost use Rattle.dr_plan.specs.Planned.{IsOfSchema, plan_leaves, plan_view, planned_query};
+ghost use Rattle.dr_plan.specs.declared.plan.Plan.{Plan as MeantPlan};
+ghost use Rattle.dr_plan.specs.declared.plan.Selection.{Selection as Selected};
+ghost use Rattle.dr_group.specs.Partials.{partial_view, IsPartialOf};
+ghost use Rattle.dr_within.specs.Behind.{IsOfLeaf};
+ghost use Rattle.dr_within.specs.Conditions.{watch_in, HasWatched};
+ghost use Rattle.dr_within.specs.ObjectScanning.{ScansObjects, BeginsObjects, HasScannedAll, open_in_objects};
+ghost use Rattle.dr_within.specs.Scanning.{WatchesPlan};
+
+use crate::condition::Condition;
+use crate::item_firing::ItemFiring;
+use crate::levels::Levels;
+use crate::object_frames::ObjectFrames;
+use crate::plan_condition::condition_of;
+use crate::slots::keep_value;
+use dr_cells::{Shape, shape_of};
+use dr_group::Partial;
+use dr_levels::{Move, ValueRef};
+use dr_memory::NoMemory;
+use dr_nested::Schema;
+use dr_plan::{ObjectPlan, Plan, RecordItem};
+use std::alloc::Global;
+
+/// The objects of a plan's records, made of the moves of their walk over the columns of the plan's leaves, one after
+/// another, with no record.
+#[derive(Drop)]
+pub struct ObjectScan<'a> {
+    pub(crate) items: &'a [RecordItem],
+    pub(crate) levels: Levels,
+    pub(crate) firing: ItemFiring,
+    pub(crate) condition: Condition<'a>,
+    /// What was read last of each leaf.
+    pub(crate) slots: Vec<Option<ValueRef<'a>>>,
+    pub(crate) frames: ObjectFrames,
+    pub(crate) shape: Shape,
+}
+
+impl<'a> ObjectScan<'a> {
+    /// Before any move, for a plan of objects with these items, by its condition.
+    fn new(
+        alloc: Global,
+        schema: &Schema,
+        plan: &Plan,
+        items: &'a Vec<RecordItem>,
+        object: &ObjectPlan,
+        condition: Condition<'a>,
+    ) -> Result<ObjectScan<'a>, NoMemory>
+        requires planned { IsOfSchema (schema_view schema.now) plan.now }
+        requires selects { (plan.now).selection ≡ Selected.Objects items.now object.now }
+        requires watches { WatchesPlan (schema_view schema.now) plan.now (watch_in condition) }
+        requires watched { HasWatched condition [] }
+        ensures { IfOk result (λ g. ScansObjects (schema_view schema.now) plan.now [] g) }
+    {
+        let levels = Levels::of(alloc, schema, object)?;
+        let firing = ItemFiring::new(alloc, plan.leaves.len(), items)?;
+        let mut slots = Vec::new(alloc);
+        slots.resize(plan.leaves.len(), None)?;
+        let shape = shape_of(alloc, plan)?;
+        Ok(ObjectScan {
+            items,
+            levels,
+            firing,
+            condition,
+            slots,
+            frames: ObjectFrames::new(alloc),
+            shape,
+        })
+    }
+
+    /// Before any move, for a plan of objects with these items. There is none where a test that reads no leaf isn't
+    /// true: no record is kept then.
+    ///
+    /// Errors: want of memory, or of room for an item's place.
+    pub fn start(
+        alloc: Global,
+        schema: &Schema,
+        plan: &'a Plan,
+        items: &'a Vec<RecordItem>,
+        object: &ObjectPlan,
+    ) -> Result<Option<ObjectScan<'a>>, NoMemory>
+        requires planned { IsOfSchema (schema_view schema.now) plan.now }
+        requires selects { (plan.now).selection ≡ Selected.Objects items.now object.now }
+        ensures { IfOk result (λ o. BeginsObjects (schema_view schema.now) plan.now o) }
+    {
+        match condition_of(alloc, schema, plan)? {
+            None => Ok(None),
+            Some(condition) => {
+                let objects = ObjectScan::new(alloc, schema, plan, items, object, condition)?;
+                Ok(Some(objects))
+            }
+        }
+    }
+
+    /// The next move of the walk.
+    ///
+    /// Errors: want of memory, or of room for a count, a sum or the texts.
+    pub fn step(&mut self, alloc: Global, read: &Move<'a>) -> Result<(), NoMemory>
+        requires few { open_in_objects self.old < 64 }
+        ensures { OnOk result ((s : MeantSchema) (p : MeantPlan) (ms : List MeantMove) → ScansObjects s p ms self.old
+            → IsOfLeaf (length (plan_leaves p)) (move_view read.now)
+            → ScansObjects s p (ms ++ move_view read.now ∷ []) self.new) }
+    {
+        keep_value(read, &mut self.slots);
+        let told = self.condition.step(alloc, read, &self.slots)?;
+        match read {
+            Move::Enter(_) => self.frames.enter(alloc),
+            Move::Leaf(leaf, _) => {
+                let places = self.firing.at(*leaf);
+                self.frames.take(alloc, self.items, places, &self.slots)
+            }
+            Move::Leave(number) => self.frames.leave(
+                alloc,
+                self.items,
+                self.levels.at(*number),
+                *number,
+                &self.slots,
+                told.is_dropped,
+            ),
+        }
+    }
+
+    /// The partial: that of the records whose walk it was.
+    ///
+    /// Errors: want of room for the number of the objects.
+    pub fn close(self) -> Result<Partial, NoMemory>
+        requires all { HasScannedAll self }
+        ensures partial { IfOk result (λ x. (s : MeantSchema) (p : MeantPlan) (R : List Node) → IsOfSchema s p
+            → list_all (is_record s.fields) R ≡ true
+            → ScansObjects s p (walk s.fields (paths_of_leaves (plan_leaves p)) R) self.entry
+            → partial_view x ≡ partials.partial_of s.fields (planned_query (plan_view p)) R) }
+        ensures of_plan { IfOk result (λ x. (s : MeantSchema) (p : MeantPlan) (ms : List MeantMove)
+            → ScansObjects s p ms self.entry → IsPartialOf (plan_view p) x) }
+    {
+        let rows = self.frames.close(self.shape)?;
+        Ok(Partial::Lines(rows))
+    }
+}

@@ -1,6 +1,0 @@
-use Rattle.std.proofs.Common.{◌≡◌, length}
-use Rattle.dremel.proofs.main.Given as goal
-
--- a link for each turn so far
-abbrev pub invariant-links : goal.invariant-links
-invariant-links g l = length l.links.items ≡ l.counter
