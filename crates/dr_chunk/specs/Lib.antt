@@ -2,6 +2,8 @@
 pub mod Ranges
 -- stretches of a file
 pub mod Stretches
+-- what a call leaves of a link
+pub mod Leaving
 -- page headers as they are read
 pub mod Headers
 -- a chunk's pages, one at a time
