@@ -1,42 +1,44 @@
 #!/usr/bin/env bash
-# Measures files on N generated records (150,000 where no N is given): reading the records from JSON, striping them into all columns of
-# their schema, writing the file of these columns, opening the file and reading all columns, and opening it for one leaf and reading its
-# column, leaf by leaf. Each row has the milliseconds, and how many times less that is than reading the records from JSON.
-# usage: bench/files.sh [N] [ROUNDS]
-#
-# It builds the program that makes the records, where it isn't built, and a small one over the repository's crates in a copy of it, which takes some
-# minutes. Let nothing else run.
+# Measures tables of V1 and of V2 pages on N generated records (150,000 where no N is given): `load`, a query of one leaf, one of all leaves, and
+# `dump` of all. The two forms take turns, ROUNDS times (5 where not given). A line for each: the least processor seconds with V1 and with V2 pages, and
+# how many times as long V2 takes.
+# usage: bench/files.sh [N] [PROGRAM] [ROUNDS]
 set -euo pipefail
 count=${1:-150000}
-rounds=${2:-3}
 top=$(cd "$(dirname "${BASH_SOURCE[0]}")/.." && pwd)
+program=${2:-$top/crates/dremel/out/dremel}
 work=$(mktemp -d)
 trap 'rm -rf "$work"' EXIT
-mkdir "$work/copy"
-tar -C "$top" -cf - crates crates.txt HANDLES | tar -C "$work/copy" -xf -
-crate=$work/copy/crates/bench_files
-mkdir -p "$crate/src" "$crate/specs" "$crate/proofs"
-cp "$top/bench/files/program.txt" "$crate/src/main.rt"
-echo 'pub mod Records' >"$crate/specs/Lib.antt"
-cp "$top/bench/files/records_specs.txt" "$crate/specs/Records.antt"
-echo 'pub mod RecordLemmas' >"$crate/proofs/Lib.antt"
-cp "$top/bench/files/record_lemmas.txt" "$crate/proofs/RecordLemmas.antt"
-for file in "$top"/bench/files/*_answers.txt "$top"/bench/files/*_invariants.txt; do
-  name=$(basename "$file" .txt)
-  part=${name##*_}
-  mkdir -p "$crate/proofs/${name%_*}"
-  cp "$file" "$crate/proofs/${name%_*}/${part^}.antt"
-done
-echo 'bench_files: dr_file dr_json dr_leaves dr_levels dr_lines dr_meaning dr_nested dr_outside dr_striper dr_write serde_json' >>"$work/copy/crates.txt"
-git init -q "$work/copy"
-"$top/dremel" --build
-"$top/crates/dremel/out/dremel" gen --seed 0 --records "$count" >"$work/records.jsonl"
-echo "building" >&2
-(cd "$crate" && rt run </dev/null) >"$work/log" 2>&1 || { cat "$work/log" >&2; exit 1; }
+"$program" gen --seed 0 --records "$count" >"$work/records.jsonl"
+mkdir "$work/leaf1" "$work/leaf2"
 echo "$count records, $(wc -c <"$work/records.jsonl") bytes of JSON, $(nproc) processors, load $(cut -d' ' -f1 /proc/loadavg)"
-for _ in $(seq "$rounds"); do
-  "$crate/out/bench_files" "$work/records.jsonl" | awk '
-    $2 == "bytes" { print $1 " bytes of Parquet"; next }
-    !base { base = $1 }
-    { name = $0; sub(/^[0-9]+ /, "", name); printf "%-32s %9.2f ms   1/%.1f\n", name, $1 / 1000, base / $1 }'
-done
+exec python3 - "$program" "$work" "$top/examples/document.txt" "${3:-5}" <<'PY'
+import os, subprocess, sys
+program, work, schema, rounds = sys.argv[1:]
+LEAVES = ["DocId", "Links.Backward", "Links.Forward", "Name.Language.Code", "Name.Language.Country", "Name.Url"]
+ALL = ("SELECT COUNT(DocId), SUM(Links.Backward), SUM(Links.Forward), COUNT(Name.Language.Code), COUNT(Name.Language.Country), COUNT(Name.Url)"
+       " FROM Document")
+RUNS = {
+    "load": lambda form: ["load", "--schema", schema, "--table", f"{work}/{form}.table", "--pages", form, f"{work}/leaf{form}"],
+    "query, one leaf": lambda form: ["query", "--table", f"{work}/{form}.table", "--workers", "1", "SELECT COUNT(Name.Url) FROM Document"],
+    "query, all leaves": lambda form: ["query", "--table", f"{work}/{form}.table", "--workers", "1", ALL],
+    "dump": lambda form: ["dump", "--table", f"{work}/{form}.table", *LEAVES],
+}
+
+
+def seconds(words):
+    """The processor seconds that the program takes for these words."""
+    before = os.times()
+    with open(f"{work}/records.jsonl") as given, open(f"{work}/out", "w") as out:
+        subprocess.run([program, *words], stdin=given, stdout=out, check=True)
+    after = os.times()
+    return after.children_user + after.children_system - before.children_user - before.children_system
+
+
+print(f"{'':20} {'V1':>8} {'V2':>8} {'V2/V1':>6}")
+for name, words in RUNS.items():
+    least = dict.fromkeys("12", float("inf"))
+    for _ in range(int(rounds)):
+        least = {form: min(before, seconds(words(form))) for form, before in least.items()}
+    print(f"{name:20} {least['1']:8.2f} {least['2']:8.2f} {least['2'] / least['1']:6.2f}")
+PY

@@ -16,7 +16,7 @@ print_usage() {
 # whether a word is an option that takes the next word as its value
 takes_value() {
   case $1 in
-    --schema | --table | --rows | --copies | --workers | --fan | --lag | --least) ;;
+    --schema | --table | --rows | --copies | --pages | --workers | --fan | --lag | --least) ;;
     *) false ;;
   esac
 }

@@ -20,6 +20,10 @@ class Unjudged(Exception):
     """The file claims more than is judged here."""
 
 
+class Endless(Unjudged):
+    """It claims that many rows, and a leaf that is asked for is lacking in its records: each row is a NULL that is read, though no byte tells it."""
+
+
 def needed(fields, number, kind):
     value = last_of(fields, number, kind)
     if value is None:
@@ -109,6 +113,31 @@ def is_open(way):
     return isinstance(way[-1].kind, str) and len(way) <= 32 and all(field.name is not None for field in way)
 
 
+def same_parts(leaf, way):
+    """Whether a leaf of a file goes along a way, by names and repetitions."""
+    return len(leaf) >= len(way) and all((it.name, it.repetition) == (part.name, part.repetition) for it, part in zip(leaf, way))
+
+
+def lacking_after(fields, way):
+    """How many parts of a way lead to the group that lacks the next one, where the leaf may lack."""
+    for parts, part in enumerate(way):
+        found = next((field for field in fields if field.name == part.name), None)
+        if found is None:
+            return None if part.repetition == "required" else parts
+        if found.repetition != part.repetition or found.kind is not None:
+            return None
+        fields = found.fields
+    return None
+
+
+def chain(leaf):
+    """The fields that lead to one leaf."""
+    field = leaf[-1]
+    for it in reversed(leaf[:-1]):
+        field = Field(it.repetition, it.name, None, [field])
+    return field
+
+
 class File:
     """A file whose footer can be read."""
 
@@ -141,38 +170,61 @@ class File:
         name = self.root.decode() if NAME.match(self.root) else "Records"
         return message(name, select(named(self.fields), set(kept)))
 
-    def places(self, ways):
-        """The places of a schema's leaves among those of the file."""
-        found = {}
-        for place, way in enumerate(self.leaves):
-            if is_open(way):
-                found[tuple((field.name, field.repetition) for field in way), way[-1].kind] = place
-        try:
-            return [found[tuple((field.name, field.repetition) for field in way), way[-1].kind] for way in ways]
-        except KeyError:
-            raise Cause("schema") from None
+    def source(self, way):
+        """Where the column of a schema's leaf is: the leaf of the file whose chunks are read for it, or None, and the greatest levels of the group
+        that lacks it, or None where nothing lacks."""
+        for leaf in self.leaves:
+            if is_open(leaf) and same_parts(leaf, way) and len(leaf) == len(way) and leaf[-1].kind == way[-1].kind:
+                return leaf, None
+        parts = lacking_after(self.fields, way)
+        if parts is None:
+            raise Cause("schema")
+        group = way[:parts]
+        below = [leaf for leaf in self.leaves if parts > 0 and is_open(leaf) and same_parts(leaf, group)]
+        if parts > 0 and not below:
+            raise Cause("schema")
+        return (below[0] if below else None), (greatest_repetition(group), greatest_definition(group))
 
     def columns(self, fields):
         """The columns of all leaves of these fields, which are a schema's that was cut down to some leaves."""
         ways = leaves_of(fields)
-        places = self.places(ways)
-        if any(group.chunks[place].codec != 0 for group in self.groups for place in places):
+        sources = [self.source(way) for way in ways]
+        chunks = [[group.chunks[self.place(leaf)] for group in self.groups] for leaf, _ in sources if leaf is not None]
+        if any(chunk.codec != 0 for its in chunks for chunk in its):
             raise Cause("codec")
         if self.rows != sum(group.rows for group in self.groups) or self.rows > MOST_ROWS:
             raise Cause("data")
-        if any(sum(group.chunks[place].values for group in self.groups) > MOST_TRIPLETS for place in places):
+        if any(sum(chunk.values for chunk in its) > MOST_TRIPLETS for its in chunks):
             raise Cause("data")
-        columns = {dotted(way): [] for way in ways}
-        is_judged = True
-        for way, place in zip(ways, places):
-            for group in self.groups:
-                try:
-                    columns[dotted(way)] += self.column(group, group.chunks[place], way)
-                except Unjudged:
-                    is_judged = False
+        if any(leaf is None for leaf, _ in sources) and self.rows > MOST_JUDGED:
+            raise Endless
+        columns, is_judged = {}, True
+        for way, source in zip(ways, sources):
+            try:
+                columns[dotted(way)] = self.told(*source)
+            except Unjudged:
+                is_judged = False
         if not is_judged:
             raise Unjudged
         return columns
+
+    def place(self, leaf):
+        return next(place for place, it in enumerate(self.leaves) if it is leaf)
+
+    def told(self, leaf, group):
+        """The column of a leaf's own chunks, or what a leaf that stands in tells of one that is lacking."""
+        if leaf is None:
+            return [(0, 0, None)] * self.rows
+        place, triplets = self.place(leaf), []
+        for each in self.groups:
+            triplets += self.column(each, each.chunks[place], leaf)
+        if group is None:
+            return triplets
+        try:
+            records_of([chain(leaf)], {dotted(leaf): triplets}, self.rows)
+        except NoRecords:
+            raise Cause("data") from None
+        return [(r, min(d, group[1]), None) for r, d, _ in triplets if r <= group[0]]
 
     def records(self, fields):
         """The records for the leaves of these fields."""
@@ -208,18 +260,20 @@ class Pages:
     def triplets(self):
         out, is_first = [], True
         while self.left > 0:
-            kind, head, dictionary, body = self.page()
+            kind, head, dictionary, later, body = self.page()
             if kind == 2 and is_first and dictionary is not None:
                 self.take_dictionary(dictionary, body)
             elif kind == 0 and head is not None:
-                out += self.data_page(head, body)
+                out += self.data_page(*head[:2], *self.parts(*head[2:], body))
+            elif kind == 3 and later is not None:
+                out += self.data_page(*later[:2], *self.later_parts(*later[2:], body))
             elif kind != 1:
                 raise Cause("data")
             is_first = False
         return out
 
     def page(self):
-        """The next page: its type, the struct of a data page, that of a dictionary page, and the body."""
+        """The next page: its type, the struct of a V1 data page, that of a dictionary page, that of a V2 data page, and the body."""
         reader = Reader(self.data, self.at, self.end)
         try:
             fields = reader.struct()
@@ -231,14 +285,12 @@ class Pages:
                 dictionary = count(dictionary, 1, I32), needed(dictionary, 2, I32)
             later = last_of(fields, 8, STRUCT)
             if later is not None:
-                for number in (1, 5, 6):
-                    count(later, number, I32)
-                needed(later, 4, I32)
+                later = [count(later, 1, I32), needed(later, 4, I32), count(later, 5, I32), count(later, 6, I32)]
             body = reader.bytes(size)
         except (Malformed, Cause):
             raise Cause("data") from None
         self.at = reader.at
-        return kind, head, dictionary, body
+        return kind, head, dictionary, later, body
 
     def take_dictionary(self, head, body):
         number, encoding = head
@@ -246,20 +298,34 @@ class Pages:
             raise Cause("data")
         self.dictionary = plain(self.kind, number, body)
 
-    def data_page(self, head, body):
-        number, encoding, definition_encoding, repetition_encoding = head
+    def parts(self, definition_encoding, repetition_encoding, body):
+        """The parts of a V1 page's body: repetition levels, definition levels, values."""
+        repetitions, body = sized_levels(greatest_repetition(self.way), repetition_encoding, body)
+        definitions, body = sized_levels(greatest_definition(self.way), definition_encoding, body)
+        return repetitions, definitions, body
+
+    def later_parts(self, definition_size, repetition_size, body):
+        """Those of a V2 page's body."""
+        if repetition_size + definition_size > len(body):
+            raise Cause("data")
+        both = repetition_size + definition_size
+        return body[:repetition_size], body[repetition_size:both], body[both:]
+
+    def data_page(self, number, encoding, repetitions, definitions, body):
         if number > self.left:
             raise Cause("data")
         self.left -= number
-        repetitions, body = levels(greatest_repetition(self.way), repetition_encoding, number, body)
-        definitions, body = levels(greatest_definition(self.way), definition_encoding, number, body)
         greatest = greatest_definition(self.way)
+        repetitions = levels(greatest_repetition(self.way), number, repetitions)
+        definitions = levels(greatest, number, definitions)
         values = iter(self.values(encoding, sum(level == greatest for level in definitions), body))
         return [(r, d, next(values) if d == greatest else None) for r, d in zip(repetitions, definitions)]
 
     def values(self, encoding, number, body):
         if encoding == 0:
             return plain(self.kind, number, body)
+        if encoding == 3 and self.kind == "boolean":
+            return [level == 1 for level in levels(1, number, sized(body)[0])] if number else []
         if encoding not in (2, 8):
             raise Cause("data")
         if number == 0:
@@ -273,18 +339,32 @@ class Pages:
         return [dictionary[index] for index in indices]
 
 
-def levels(greatest, encoding, number, body):
-    """The levels of a part and what stands behind it; where the greatest is 0 there is none."""
+def sized(body):
+    """A part behind its length, and what stands behind it."""
+    size = int.from_bytes(body[:4], "little")
+    if len(body) < 4 or size > len(body) - 4:
+        raise Cause("data")
+    return body[4:4 + size], body[4 + size:]
+
+
+def sized_levels(greatest, encoding, body):
+    """A part of levels of a V1 page, and what stands behind it; where the greatest is 0 there is none."""
+    if greatest == 0:
+        return b"", body
+    if encoding != 3:
+        raise Cause("data")
+    return sized(body)
+
+
+def levels(greatest, number, part):
+    """The levels of a part; where the greatest is 0 they are zeros, whatever the part."""
     if greatest == 0:
         judged(number)
-        return [0] * number, body
-    size = int.from_bytes(body[:4], "little")
-    if encoding != 3 or len(body) < 4 or size > len(body) - 4:
-        raise Cause("data")
-    found = hybrid(greatest.bit_length(), number, body[4:4 + size])
+        return [0] * number
+    found = hybrid(greatest.bit_length(), number, part)
     if any(level > greatest for level in found):
         raise Cause("data")
-    return found, body[4 + size:]
+    return found
 
 
 def judged(number):

@@ -1,4 +1,5 @@
-"""Parquet files of other writers' forms: row groups, dictionaries, index pages, unknown fields, statistics, checksums, long varints, closed ones."""
+"""Parquet files of other writers' forms: row groups, dictionaries, index pages, V2 pages, truth values in RLE, unknown fields, statistics, checksums,
+long varints, closed fields; and older schemas."""
 import random
 
 import compact
@@ -6,7 +7,7 @@ from compact import BINARY, BYTE, DOUBLE, FALSE, I16, I32, I64, LIST, MAP, SET, 
 from schemas import KINDS, REPETITIONS, Field, column, greatest_definition, greatest_repetition, leaves_of
 
 MAGIC = b"PAR1"
-DATA, INDEX, DICTIONARY = 0, 1, 2
+DATA, INDEX, DICTIONARY, DATA_V2 = 0, 1, 2, 3
 PLAIN, PLAIN_DICTIONARY, RLE, BIT_PACKED, RLE_DICTIONARY = 0, 2, 3, 4, 8
 
 
@@ -40,14 +41,17 @@ def plain(kind, values):
 
 
 def levels(triplets, way, place, source):
-    """A part of levels, with its length; nothing where the greatest level is 0."""
+    """The hybrid data of a part of levels; where the greatest level is 0 there is none."""
     greatest = (greatest_repetition, greatest_definition)[place](way)
     if greatest == 0:
         return b""
     runs = hybrid([triplet[place] for triplet in triplets], greatest.bit_length(), source)
-    if source and source.random() < 0.1:
-        runs += source.randbytes(2)
-    return little(len(runs)) + runs
+    return runs + source.randbytes(2) if source and source.random() < 0.1 else runs
+
+
+def sized(part):
+    """A part behind its length."""
+    return little(len(part)) + part
 
 
 class Maker:
@@ -62,6 +66,7 @@ class Maker:
             lambda: long_headers and self.spells.random() < 0.3,
         )
         self.has_extras, self.has_checksums, self.has_statistics = (source.random() < 0.4 for _ in range(3))
+        self.later_share = source.choice((0, 0.5, 1))
         self.out = bytearray(MAGIC)
 
     # -- structs with fields that aren't read
@@ -109,27 +114,54 @@ class Maker:
             fields.append((4, I32, self.source.getrandbits(31)))
         self.out += self.struct([*fields, *own], 8) + body
 
+    def values(self, kind, values, dictionary, source):
+        """An encoding, and values in it."""
+        if dictionary is not None:
+            width = max(len(dictionary) - 1, 0).bit_length() + self.source.choice((0, 0, 1, 7))
+            indices = bytes([width]) + hybrid([dictionary.index(value) for value in values], width, source)
+            return self.source.choice((PLAIN_DICTIONARY, RLE_DICTIONARY)), indices if values or self.source.random() < 0.5 else b""
+        if kind == "boolean" and self.source.random() < 0.5:
+            return RLE, sized(hybrid(values, 1, source)) if values or self.source.random() < 0.5 else b""
+        return PLAIN, plain(kind, values)
+
     def data_page(self, way, triplets, dictionary):
         source = self.source if self.source.random() < 0.5 else None
         kind = way[-1].kind
         values = [value for _, definition, value in triplets if definition == greatest_definition(way)]
-        body = levels(triplets, way, 0, source) + levels(triplets, way, 1, source)
-        encoding = PLAIN
-        if dictionary is None:
-            body += plain(kind, values)
-        else:
-            encoding = self.source.choice((PLAIN_DICTIONARY, RLE_DICTIONARY))
-            width = max(len(dictionary) - 1, 0).bit_length() + self.source.choice((0, 0, 1, 7))
-            if values or self.source.random() < 0.5:
-                body += bytes([width]) + hybrid([dictionary.index(value) for value in values], width, source)
+        repetitions, definitions = levels(triplets, way, 0, source), levels(triplets, way, 1, source)
+        encoding, body = self.values(kind, values, dictionary, source)
         if self.source.random() < 0.1:
             body += self.source.randbytes(3)
+        if self.source.random() < self.later_share:
+            self.later_page(way, triplets, encoding, len(values), repetitions, definitions, body)
+        else:
+            self.first_page(way, triplets, encoding, repetitions, definitions, body)
+
+    def first_page(self, way, triplets, encoding, repetitions, definitions, body):
+        """A V1 page."""
         unlooked = self.source.choice((RLE, RLE, BIT_PACKED, 77))
         head = [(1, I32, len(triplets)), (2, I32, encoding)]
         head += [(3, I32, RLE if greatest_definition(way) else unlooked), (4, I32, RLE if greatest_repetition(way) else unlooked)]
         if self.has_statistics:
             head.append((5, STRUCT, self.statistics()))
+        body = (sized(definitions) if greatest_definition(way) else b"") + body
+        body = (sized(repetitions) if greatest_repetition(way) else b"") + body
         self.page(DATA, body, [(5, STRUCT, self.with_extras(head, 5))])
+
+    def later_page(self, way, triplets, encoding, present, repetitions, definitions, body):
+        """A V2 page. What it tells of NULLs, rows and compression may be wrong, or not there."""
+        source = self.source
+        if source.random() < 0.2:
+            repetitions = repetitions if greatest_repetition(way) else source.randbytes(source.randint(1, 3))
+            definitions = definitions if greatest_definition(way) else source.randbytes(source.randint(1, 3))
+        told = [(2, I32, len(triplets) - present), (3, I32, sum(triplet[0] == 0 for triplet in triplets)), (7, FALSE, False)]
+        if source.random() < 0.3:
+            told = source.sample([(2, I32, source.choice((0, -1, 99))), (3, I32, source.choice((0, -1, 99))), (7, TRUE, True)], source.randint(0, 3))
+        head = [(1, I32, len(triplets)), (4, I32, encoding), (5, I32, len(definitions)), (6, I32, len(repetitions)), *told]
+        if self.has_statistics:
+            head.append((8, STRUCT, self.statistics()))
+        head.sort(key=lambda field: field[0])
+        self.page(DATA_V2, repetitions + definitions + body, [(8, STRUCT, self.with_extras(head, 8))])
 
     def index_page(self):
         if self.source.random() < 0.1:
@@ -219,6 +251,23 @@ def closed_beside(fields, source):
     out = list(fields)
     for field in source.sample(closed, source.randint(1, 3)):
         out.insert(source.randint(0, len(out)), field)
+    return out
+
+
+def older(fields, source):
+    """The fields of an older schema: without some that may lack, in another order, and now and then with a closed one of the same name."""
+    out = []
+    for field in fields:
+        if field.repetition != "required" and source.random() < 0.3:
+            if source.random() < 0.1:
+                out.append(Field(field.repetition, field.name, 5))
+        elif field.kind is None:
+            inside = older(field.fields, source)
+            if inside:
+                out.append(Field(field.repetition, field.name, None, inside))
+        else:
+            out.append(field)
+    source.shuffle(out)
     return out
 
 

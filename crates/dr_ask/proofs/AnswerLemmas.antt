@@ -69,10 +69,10 @@ answer_is_of : (t : Table) (q : Query) (p : Plan) (held : Option Files) (R : Lis
 answer_is_of t q p None R text h b a = absurd h
 answer_is_of t q p (Some files) R text h b a =
     let F : List Leaf = query_leaves t.schema.fields q in
-    let f : TabletsAreFiles t.schema F files (tablets_of t) h.0 = h.2 F (query_among t.schema q) in
-    a.2 ∙ same_answers t.schema q p (joined a.0) (joined h.0) b
-    (given_are_projected t.schema F files (Some files) (tablets_of t) h.0 a.0 (all_leaf_paths t.schema F (query_among t.schema q)) (λ path. refl) (files_are_held t.schema F files (tablets_of t) h.0 f) a.1)
-    ∙ ap (answer_text t.schema q) h.1
+    let f : TabletsAreFiles h.0 t.schema F files (tablets_of t) h.1 = h.3 F (query_among t.schema q) in
+    a.2 ∙ same_answers t.schema q p (joined a.0) (joined h.1) b
+    (given_are_projected t.schema F files (Some files) (tablets_of t) h.1 a.0 (all_leaf_paths t.schema F (query_among t.schema q)) (λ path. refl) (files_are_held h.0 t.schema F files (tablets_of t) h.1 f) a.1)
+    ∙ ap (answer_text t.schema q) h.2
 
 -- ---- what links hold that hold the same
 
@@ -112,4 +112,4 @@ steady_leaves_none shows t q zero links now files R left some many a s c h l = a
 steady_leaves_none shows t q (suc n) [] now files R left some many a s c h l = absurd (omega (arith, many))
 steady_leaves_none shows t q (suc n) (x ∷ links) now files R left some many a s c h l =
     let F : List Leaf = query_leaves t.schema.fields q in
-    l.0 (none_left t.schema F (shows x) files (a 0 x (omega arith)) (s 0 x (omega arith)) 0 (tablets_of t) left h.0 (have_copies t.leaves t.copies 0 t.tablets c) (h.2 F (query_among t.schema q)) l.1)
+    l.0 (none_left h.0 t.schema F (shows x) files (a 0 x (omega arith)) (s 0 x (omega arith)) 0 (tablets_of t) left h.1 (have_copies t.leaves t.copies 0 t.tablets c) (h.3 F (query_among t.schema q)) l.1)

@@ -7,6 +7,7 @@ use Rattle.dr_meaning.specs.Ask.{answer_text}
 use Rattle.dr_meaning.specs.Lines.{Refusal, lines_of, result_of, records_of}
 use Rattle.dr_meaning.proofs.LineLemmas.{taken_are_records}
 use Rattle.dr_formats.specs.Loading.{Plan, most_loaded, table_of, load}
+use Rattle.dr_formats.specs.Page.{data_page_v1}
 use Rattle.dr_formats.specs.TableFile.{Table}
 use Rattle.dr_formats.specs.Tablets.{tablets}
 use Rattle.dr_outside.specs.Link.{Files}
@@ -23,7 +24,7 @@ use Rattle.dr_ask.specs.Asked.{HoldsTableOf, IsAnswerTo}
 -- what a load has put is a table that is held
 pub holds_table : (p : Plan) (count : ℕ) (input : Option (List ℕ)) (before now : Files) → IsPlan p → IsApart p.directories p.table → (l : LoadsTable p p.table count input (Some before) (Some now)) → HoldsTableOf (table_of p count) (Some now) l.records
 holds_table p count input before now s a l =
-    (tablets p.rows l.records, loaded_records_are_joined p.rows l.records, λ F f. (loaded_records_are_held p count input F before now s a f l).1)
+    (p.form, tablets p.rows l.records, loaded_records_are_joined p.rows l.records, λ F f. (loaded_records_are_held p count input F before now s a f l).1)
 
 -- of at least one tablet
 pub some_tablet : (p : Plan) (count : ℕ) (input : Option (List ℕ)) (before now : Files) → IsPlan p → IsApart p.directories p.table → LoadsTable p p.table count input (Some before) (Some now) → 0 < count
@@ -56,7 +57,7 @@ refused_too p (Some bytes) (Some r) h = records_refused p bytes r (refusal_is p 
 -- ---- a table in memory: one directory, one copy of each tablet, no table file
 
 abbrev pub memory_plan : Schema → List (List ℕ) → ℕ → Plan
-memory_plan s directories rows = record { schema = s; directories = directories; copies = 1; rows = rows; table = None }
+memory_plan s directories rows = record { schema = s; directories = directories; copies = 1; rows = rows; table = None; form = data_page_v1 }
 
 abbrev pub memory_table : Schema → List (List ℕ) → ℕ → Table
 memory_table s directories count = record { schema = s; leaves = directories; copies = 1; tablets = count }

@@ -5,6 +5,7 @@ use Rattle.dr_meaning.specs.Schema.{Schema}
 use Rattle.dr_meaning.specs.Path.{Leaf}
 use Rattle.dr_meaning.specs.Record.{Node}
 use Rattle.dr_formats.specs.File.{IsFileOf}
+use Rattle.dr_formats.specs.Page.{PageForm}
 use Rattle.dr_formats.specs.Writing.{file_bytes}
 use Rattle.dr_outside.specs.Link.{Files, LinkShown, Holds}
 use Rattle.dr_reading.specs.Scan.{Copy, tablets_from}
@@ -23,15 +24,15 @@ have_copies ds k t zero h = tt
 have_copies ds zero t (suc n) h = absurd (omega (arith, h))
 have_copies ds (suc k) t (suc n) h = have_copies ds (suc k) (suc t) n h
 
-module _ (s : Schema) (F : List Leaf) (link : LinkShown) (files : Files) (held : link.held ≡ Some files) (steady : IsTrue link.is_steady) where
+module _ (form : PageForm) (s : Schema) (F : List Leaf) (link : LinkShown) (files : Files) (held : link.held ≡ Some files) (steady : IsTrue link.is_steady) where
   there : (path bytes : List ℕ) → files path ≡ Some bytes → Holds link.held path
   there path bytes e = subst (λ (o : Option Files). Holds o path) (sym held) (subst (λ (o : Option (List ℕ)). IsSome o) (sym e) refl)
 
-  none_tried : (c : Copy) (cs : List Copy) (ts : List Tried) (R : List Node) → IsFileOf (file_bytes s R) s F R → files c.path ≡ Some (file_bytes s R) → AreTried s F link (c ∷ cs) ts → ⊥
+  none_tried : (c : Copy) (cs : List Copy) (ts : List Tried) (R : List Node) → IsFileOf (file_bytes form s R) s F R → files c.path ≡ Some (file_bytes form s R) → AreTried s F link (c ∷ cs) ts → ⊥
   none_tried c cs [] R f e h = h
-  none_tried c cs (t ∷ ts) R f e h = left_holds_no_file s F link files c.path (file_bytes s R) t.cause R held e h.1 (h.1.1 steady (there c.path (file_bytes s R) e)) f
+  none_tried c cs (t ∷ ts) R f e h = left_holds_no_file s F link files c.path (file_bytes form s R) t.cause R held e h.1 (h.1.1 steady (there c.path (file_bytes form s R) e)) f
 
-  pub none_left : {HasAnswer : List Copy → Type 0} (t : ℕ) (cs : List (List Copy)) (left : List LeftTablet) (Rs : List (List Node)) → HaveCopies cs → TabletsAreFiles s F files cs Rs → LeftUnanswered s F link HasAnswer t cs left → left ≡ []
+  pub none_left : {HasAnswer : List Copy → Type 0} (t : ℕ) (cs : List (List Copy)) (left : List LeftTablet) (Rs : List (List Node)) → HaveCopies cs → TabletsAreFiles form s F files cs Rs → LeftUnanswered s F link HasAnswer t cs left → left ≡ []
   none_left t cs left Rs c f (no_tablets u) = refl
   none_left t cs left [] c f (is_answered u xs rest more g k) = absurd f
   none_left t cs left (R ∷ Rs) c f (is_answered u [] rest more g k) = absurd c

@@ -18,6 +18,7 @@ use dr_load::{LoadFault, Plan as LoadPlan, load};
 use dr_memory::NoMemory;
 use dr_nested::Schema;
 use dr_outside::{Shelf, Source};
+use dr_page::PageForm;
 use dr_plan::Plan;
 use dr_query::Service;
 use dr_table::Table;
@@ -78,6 +79,7 @@ pub fn ask_input<R: Threads + Wait + Sync, S: Source>(
         copies: 1,
         rows,
         table: None,
+        form: PageForm::V1,
     };
     let tablets = match load(alloc, &place, source, &mut shelf) {
         Ok(loaded) => loaded.tablets,

@@ -1,15 +1,13 @@
 -- A page has as many triplets as its header says.
-use Rattle.std.proofs.Common.{◌≡◌, ℕ, zero, suc, List, [], ◌∷◌, length, Bool, true, false, refl, sym, ap, ◌∙◌, ℤ, arith}
+use Rattle.std.proofs.Common.{◌≡◌, ℕ, zero, suc, List, [], ◌∷◌, length, Bool, true, false, refl, sym, ap, ◌∙◌, arith}
 use Rattle.std.specs.Prelude.{Option, Some, None, if◌then◌else◌, option_and_then, replicate, nat_le}
 use Rattle.std.specs.List.{list_all}
 use Rattle.std.proofs.lemmas.List.{length-replicate}
 use Rattle.dr_meaning.specs.Record.{Value}
 use Rattle.dr_meaning.specs.Column.{Triplet}
-use Rattle.dr_formats.specs.Reading.{Reading, got, refused, give, goes_on, ◌>>=◌, bytes_of}
-use Rattle.dr_formats.specs.LittleEndian.{little_endian}
+use Rattle.dr_formats.specs.Reading.{Reading, got, refused, give, goes_on, ◌>>=◌}
 use Rattle.dr_formats.specs.Hybrid.{hybrid}
-use Rattle.dr_formats.specs.Page.{PageShape, PageFault, bad_page, found, is_number, rle_encoding, level_width, none_above, level_part, levels, values, count_equal, join_triplets, triplets_read, page_triplets}
-use Rattle.dr_formats.proofs.ReadingLemmas.{not_refused, same_got}
+use Rattle.dr_formats.specs.Page.{PageShape, PageFault, LevelParts, found, level_parts_by, level_width, none_above, levels, values, count_equal, join_triplets, triplets_read, page_triplets}
 use Rattle.dr_formats.proofs.HybridGrammar.{runs_are_read_exactly, one_list_of_values}
 
 hybrid_count : (w n : ℕ) (bs vs : List ℕ) → hybrid w n bs ≡ Some vs → length vs ≡ n
@@ -23,27 +21,9 @@ within_count : (g n : ℕ) (o : Option (List ℕ)) (vs : List ℕ) → ((us : Li
 within_count g n None vs h e = absurd (cc)
 within_count g n (Some us) vs h e = kept_count (list_all (λ l. nat_le l g) us) n us vs (h us refl) e
 
-found_count : (n : ℕ) (o : Option (List ℕ)) (bs ls rest : List ℕ) → ((us : List ℕ) → o ≡ Some us → length us ≡ n) → found o bs ≡ got ls rest → length ls ≡ n
-found_count n None bs ls rest h e = absurd (not_refused bad_page bs ls rest e)
-found_count n (Some us) bs ls rest h e = sym (ap length (same_got {E = PageFault} us ls bs rest e).0) ∙ h us refl
-
-part_count : (g w n : ℕ) (r : Reading PageFault (List ℕ)) (ls rest : List ℕ) → goes_on r (λ part. found (option_and_then (none_above g) (hybrid w n part))) ≡ got ls rest → length ls ≡ n
-part_count g w n (refused e q) ls rest f = absurd (not_refused e q ls rest f)
-part_count g w n (got part q) ls rest f =
-    found_count n (option_and_then (none_above g) (hybrid w n part)) q ls rest (λ us k. within_count g n (hybrid w n part) us (λ vs m. hybrid_count w n part vs m) k) f
-
-sized_count : (g w n : ℕ) (r : Reading PageFault (List ℕ)) (ls rest : List ℕ)
-    → goes_on r (λ b. bytes_of bad_page (little_endian b) >>= (λ part. found (option_and_then (none_above g) (hybrid w n part)))) ≡ got ls rest → length ls ≡ n
-sized_count g w n (refused e q) ls rest f = absurd (not_refused e q ls rest f)
-sized_count g w n (got b q) ls rest f = part_count g w n (bytes_of bad_page (little_endian b) q) ls rest f
-
-coded_count : (b : Bool) (g n : ℕ) (bytes ls rest : List ℕ) → (if b then level_part (suc g) n else refused bad_page) bytes ≡ got ls rest → length ls ≡ n
-coded_count true g n bytes ls rest e = sized_count (suc g) (level_width (suc g)) n (bytes_of bad_page 4 bytes) ls rest e
-coded_count false g n bytes ls rest e = absurd (not_refused bad_page bytes ls rest e)
-
-levels_count : (g : ℕ) (z : ℤ) (n : ℕ) (bytes ls rest : List ℕ) → levels g z n bytes ≡ got ls rest → length ls ≡ n
-levels_count zero z n bytes ls rest e = sym (ap length (same_got {E = PageFault} (replicate n 0) ls bytes rest e).0) ∙ length-replicate n 0
-levels_count (suc g) z n bytes ls rest e = coded_count (is_number rle_encoding z) g n bytes ls rest e
+levels_count : (g n : ℕ) (part ls : List ℕ) → levels g n part ≡ Some ls → length ls ≡ n
+levels_count zero n part ls e = let f : replicate n 0 ≡ ls = cc in sym (ap length f) ∙ length-replicate n 0
+levels_count (suc g) n part ls e = within_count (suc g) n (hybrid (level_width (suc g)) n part) ls (λ us f. hybrid_count (level_width (suc g)) n part us f) e
 
 join_count : (g : ℕ) (rs ds : List ℕ) (vs : List Value) → length ds ≡ length rs → length (join_triplets g rs ds vs) ≡ length rs
 join_count g [] ds vs h = refl
@@ -54,18 +34,24 @@ valued_count : (g : ℕ) (rs ds : List ℕ) (r : Reading PageFault (List Value))
 valued_count g rs ds (refused e q) ts h f = absurd (cc)
 valued_count g rs ds (got vs q) ts h f = let k : join_triplets g rs ds vs ≡ ts = cc in sym (ap length k) ∙ join_count g rs ds vs h
 
-defined_count : (s : PageShape) (d : List Value) (rs : List ℕ) (r : Reading PageFault (List ℕ)) (ts : List Triplet) → length rs ≡ s.triplets → ((ls rest : List ℕ) → r ≡ got ls rest → length ls ≡ s.triplets)
-    → triplets_read (goes_on r (λ ds. values s.encoding s.kind d (count_equal s.max_definition ds) >>= (λ vs. give (join_triplets s.max_definition rs ds vs)))) ≡ Some ts → length ts ≡ s.triplets
-defined_count s d rs (refused e q) ts n h f = absurd (cc)
-defined_count s d rs (got ds q) ts n h f = valued_count s.max_definition rs ds (values s.encoding s.kind d (count_equal s.max_definition ds) q) ts (h ds q refl ∙ sym n) f ∙ n
+defined_count : (s : PageShape) (d : List Value) (rs : List ℕ) (o : Option (List ℕ)) (q : List ℕ) (ts : List Triplet) → length rs ≡ s.triplets → ((ls : List ℕ) → o ≡ Some ls → length ls ≡ s.triplets)
+    → triplets_read (goes_on (found o q) (λ ds. values s.encoding s.kind d (count_equal s.max_definition ds) >>= (λ vs. give (join_triplets s.max_definition rs ds vs)))) ≡ Some ts → length ts ≡ s.triplets
+defined_count s d rs None q ts n h f = absurd (cc)
+defined_count s d rs (Some ds) q ts n h f = valued_count s.max_definition rs ds (values s.encoding s.kind d (count_equal s.max_definition ds) q) ts (h ds refl ∙ sym n) f ∙ n
 
-body_count : (s : PageShape) (d : List Value) (r : Reading PageFault (List ℕ)) (ts : List Triplet) → ((ls rest : List ℕ) → r ≡ got ls rest → length ls ≡ s.triplets)
-    → triplets_read (goes_on r (λ rs. levels s.max_definition s.definition_encoding s.triplets >>= (λ ds. values s.encoding s.kind d (count_equal s.max_definition ds) >>= (λ vs. give (join_triplets s.max_definition rs ds vs))))) ≡ Some ts
+repeated_count : (s : PageShape) (d : List Value) (part : List ℕ) (o : Option (List ℕ)) (q : List ℕ) (ts : List Triplet) → ((ls : List ℕ) → o ≡ Some ls → length ls ≡ s.triplets)
+    → triplets_read (goes_on (found o q) (λ rs. found (levels s.max_definition s.triplets part) >>= (λ ds. values s.encoding s.kind d (count_equal s.max_definition ds) >>= (λ vs. give (join_triplets s.max_definition rs ds vs))))) ≡ Some ts
     → length ts ≡ s.triplets
-body_count s d (refused e q) ts h f = absurd (cc)
-body_count s d (got rs q) ts h f = defined_count s d rs (levels s.max_definition s.definition_encoding s.triplets q) ts (h rs q refl) (λ ls rest e. levels_count s.max_definition s.definition_encoding s.triplets q ls rest e) f
+repeated_count s d part None q ts h f = absurd (cc)
+repeated_count s d part (Some rs) q ts h f = defined_count s d rs (levels s.max_definition s.triplets part) q ts (h rs refl) (λ ls e. levels_count s.max_definition s.triplets part ls e) f
+
+body_count : (s : PageShape) (d : List Value) (r : Reading PageFault LevelParts) (ts : List Triplet)
+    → triplets_read (goes_on r (λ p. found (levels s.max_repetition s.triplets p.repetitions) >>= (λ rs. found (levels s.max_definition s.triplets p.definitions) >>= (λ ds. values s.encoding s.kind d (count_equal s.max_definition ds) >>= (λ vs. give (join_triplets s.max_definition rs ds vs)))))) ≡ Some ts
+    → length ts ≡ s.triplets
+body_count s d (refused e q) ts f = absurd (cc)
+body_count s d (got p q) ts f = repeated_count s d p.definitions (levels s.max_repetition s.triplets p.repetitions) q ts (λ ls e. levels_count s.max_repetition s.triplets p.repetitions ls e) f
 
 -- the triplets of a page are as many as its header says
 pub page_count : (s : PageShape) (d : List Value) (bytes : List ℕ) (ts : List Triplet) → page_triplets s d bytes ≡ Some ts → length ts ≡ s.triplets
 unfolding page_triplets
-page_count s d bytes ts e = body_count s d (levels s.max_repetition s.repetition_encoding s.triplets bytes) ts (λ ls rest f. levels_count s.max_repetition s.repetition_encoding s.triplets bytes ls rest f) e
+page_count s d bytes ts e = body_count s d (level_parts_by s.form s bytes) ts e

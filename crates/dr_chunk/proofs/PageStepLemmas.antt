@@ -1,16 +1,16 @@
 -- The next page of a chunk, by its header and its body.
 use Rattle.std.proofs.Common.{◌≡◌, ℕ, ◌+◌, ◌≤◌, ◌<◌, List, [], ◌++◌, length, take, drop, Bool, true, false, refl, sym, ap, ap₂, subst, subst₂, ◌∙◌, arith}
-use Rattle.std.specs.Prelude.{Option, Some, None, nat_le, ◌&&◌, ◌||◌, if◌then◌else◌}
+use Rattle.std.specs.Prelude.{Option, Some, None, option_map, nat_le, ◌&&◌, ◌||◌, if◌then◌else◌}
 use Rattle.std.proofs.lemmas.Bool.{le-leb, lt-leb}
 use Rattle.std.proofs.lemmas.List.{length-append, length-take, take-append-le}
 use Rattle.dr_meaning.specs.Record.{Value}
 use Rattle.dr_meaning.specs.Path.{Leaf}
 use Rattle.dr_meaning.specs.Column.{Triplet}
 use Rattle.dr_formats.specs.Reading.{Reading, got, refused, Reader, give, goes_on, ◌>>=◌, bytes_of}
-use Rattle.dr_formats.specs.Metadata.{DataPageHeader, DictionaryPageHeader, PageHeader}
+use Rattle.dr_formats.specs.Metadata.{DictionaryPageHeader, PageHeader}
 use Rattle.dr_formats.specs.Plain.{plain_values}
-use Rattle.dr_formats.specs.Page.{PageFault, bad_page, found, is_number, plain_encoding, plain_dictionary_encoding, page_triplets}
-use Rattle.dr_formats.specs.Chunk.{PageTaken, taken, page_header, shape_of_page, data_page, dictionary_page, page_taken}
+use Rattle.dr_formats.specs.Page.{PageShape, PageFault, bad_page, found, is_number, plain_encoding, plain_dictionary_encoding, page_triplets}
+use Rattle.dr_formats.specs.Chunk.{PageTaken, taken, page_header, shape_of_page, shape_of_page_v2, data_page, dictionary_page, page_taken}
 use Rattle.dr_chunk.specs.Headers.{IsRefused}
 use Rattle.dr_chunk.specs.Steps.{page_step}
 use Rattle.dr_chunk.specs.declared.fault.ChunkFault.{ChunkFault}
@@ -31,10 +31,10 @@ if_moves : (b : Bool) (p : Reader PageFault PageTaken) (rest : List ℕ) → p r
 if_moves true p rest e = e
 if_moves false p rest e = refl
 
-data_moves : (l : Leaf) (w : ℕ) (d : List Value) (body : List ℕ) (o : Option DataPageHeader) (rest : List ℕ) → data_page l w d body o rest ≡ moved rest (data_page l w d body o [])
-data_moves l w d body None rest = refl
-data_moves l w d body (Some h) rest =
-    if_moves (nat_le h.values w) (found (page_triplets (shape_of_page l h) d body) >>= (λ ts. give (taken ts d))) rest (found_moves (page_triplets (shape_of_page l h) d body) (λ ts. taken ts d) rest)
+data_moves : (w : ℕ) (d : List Value) (body : List ℕ) (o : Option PageShape) (rest : List ℕ) → data_page w d body o rest ≡ moved rest (data_page w d body o [])
+data_moves w d body None rest = refl
+data_moves w d body (Some s) rest =
+    if_moves (nat_le s.triplets w) (found (page_triplets s d body) >>= (λ ts. give (taken ts d))) rest (found_moves (page_triplets s d body) (λ ts. taken ts d) rest)
 
 dictionary_moves : (l : Leaf) (first : Bool) (body : List ℕ) (o : Option DictionaryPageHeader) (rest : List ℕ) → dictionary_page l first body o rest ≡ moved rest (dictionary_page l first body o [])
 dictionary_moves l first body None rest = refl
@@ -42,17 +42,20 @@ dictionary_moves l first body (Some h) rest =
     if_moves (first && (is_number plain_encoding h.encoding || is_number plain_dictionary_encoding h.encoding)) (found (plain_values l.kind h.values body) >>= (λ vs. give (taken [] vs))) rest
     (found_moves (plain_values l.kind h.values body) (λ vs. taken [] vs) rest)
 
-kinds_move : (a b c : Bool) (p q r : Reader PageFault PageTaken) (rest : List ℕ) → p rest ≡ moved rest (p []) → q rest ≡ moved rest (q []) → r rest ≡ moved rest (r [])
-    → (if a then p else (if b then q else (if c then r else refused bad_page))) rest ≡ moved rest ((if a then p else (if b then q else (if c then r else refused bad_page))) [])
-kinds_move true b c p q r rest e f g = e
-kinds_move false true c p q r rest e f g = f
-kinds_move false false true p q r rest e f g = g
-kinds_move false false false p q r rest e f g = refl
+kinds_move : (a b c e : Bool) (p q r t : Reader PageFault PageTaken) (rest : List ℕ) → p rest ≡ moved rest (p []) → q rest ≡ moved rest (q []) → r rest ≡ moved rest (r []) → t rest ≡ moved rest (t [])
+    → (if a then p else (if b then q else (if c then r else (if e then t else refused bad_page)))) rest ≡ moved rest ((if a then p else (if b then q else (if c then r else (if e then t else refused bad_page)))) [])
+kinds_move true b c e p q r t rest f g h k = f
+kinds_move false true c e p q r t rest f g h k = g
+kinds_move false false true e p q r t rest f g h k = h
+kinds_move false false false true p q r t rest f g h k = k
+kinds_move false false false false p q r t rest f g h k = refl
 
 page_moves : (l : Leaf) (w : ℕ) (first : Bool) (d : List Value) (h : PageHeader) (body rest : List ℕ) → page_taken l w first d h body rest ≡ moved rest (page_taken l w first d h body [])
 page_moves l w first d h body rest =
-    kinds_move (is_number 0 h.type) (is_number 1 h.type) (is_number 2 h.type) (data_page l w d body h.data_page) (give (taken [] d)) (dictionary_page l first body h.dictionary_page) rest
-    (data_moves l w d body h.data_page rest) refl (dictionary_moves l first body h.dictionary_page rest)
+    let one : Option PageShape = option_map (shape_of_page l) h.data_page in
+    let two : Option PageShape = option_map (shape_of_page_v2 l) h.data_page_v2 in
+    kinds_move (is_number 0 h.type) (is_number 1 h.type) (is_number 2 h.type) (is_number 3 h.type) (data_page w d body one) (give (taken [] d)) (dictionary_page l first body h.dictionary_page) (data_page w d body two) rest
+    (data_moves w d body one rest) refl (dictionary_moves l first body h.dictionary_page rest) (data_moves w d body two rest)
 
 -- ---- a page by its parts
 

@@ -8,6 +8,7 @@ mod chunk;
 mod fault;
 mod header;
 mod leaf_shape;
+mod page_shape;
 mod page_taker;
 mod stretch;
 

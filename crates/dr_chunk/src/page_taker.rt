@@ -1,15 +1,16 @@
 //! Taking the pages of a chunk, one after another.
 
-ghost use Rattle.std.specs.Prelude.{◌≡◌, ◌≢◌, true};
+ghost use Rattle.std.specs.Prelude.{◌≡◌, ◌≢◌, true, option_map, IfSome};
+ghost use Rattle.dr_meaning.specs.Path.{Leaf};
 ghost use Rattle.dr_nested.specs.Views.{kind_view};
 ghost use Rattle.dr_page.specs.Views.{is_dictionary_of, shape_view};
-ghost use Rattle.dr_meta.specs.Views.{data_page_view};
-ghost use Rattle.dr_chunk.specs.Shapes.{shape_with};
+ghost use Rattle.dr_chunk.specs.Shapes.{IsOfLeaf};
 
 use crate::fault::ChunkFault;
 use crate::leaf_shape::LeafShape;
+use crate::page_shape::{shape_of, shape_of_v2};
 use dr_levels::Column;
-use dr_meta::{DataPage, DictionaryPage, PageHead};
+use dr_meta::{DictionaryPage, PageHead};
 use dr_page::{BodyReader, Dictionary, Shape};
 use std::alloc::Global;
 
@@ -20,28 +21,12 @@ const INDEX_PAGE: i64 = 1;
 
 const DICTIONARY_PAGE: i64 = 2;
 
+const DATA_PAGE_V2: i64 = 3;
+
 /// The number of the encoding PLAIN.
 const PLAIN: i64 = 0;
 /// The number of the encoding PLAIN_DICTIONARY, as older writers name PLAIN on a dictionary page.
 const PLAIN_DICTIONARY: i64 = 2;
-
-/// What is known of a data page of a leaf before its body.
-fn shape_of(leaf: LeafShape, page: DataPage) -> Shape
-    ensures shape { shape_view result ≡ shape_with (data_page_view page)
-        (kind_view leaf.kind) leaf.max_repetition leaf.max_definition }
-    ensures kind { result.kind ≡ leaf.kind }
-    ensures definition { result.max_definition ≡ leaf.max_definition }
-{
-    Shape {
-        triplets: page.values.get(),
-        encoding: page.encoding,
-        definition_encoding: page.definition_encoding,
-        repetition_encoding: page.repetition_encoding,
-        kind: leaf.kind,
-        max_repetition: leaf.max_repetition,
-        max_definition: leaf.max_definition,
-    }
-}
 
 /// What is known between the pages of a chunk: how many of its triplets are still wanted, whether a page came before,
 /// and the dictionary.
@@ -55,8 +40,7 @@ pub(crate) struct PageTaker {
 }
 
 impl PageTaker {
-    ghost use Rattle.std.specs.Prelude.{◌+◌, [], false, length, OnOk, IfErr, option_map};
-    ghost use Rattle.dr_meaning.specs.Path.{Leaf};
+    ghost use Rattle.std.specs.Prelude.{◌+◌, [], false, length, OnOk, IfErr};
     ghost use Rattle.dr_formats.specs.Chunk.{data_page, dictionary_page, page_taken};
     ghost use Rattle.dr_levels.specs.Views.{column_view, column_form};
     ghost use Rattle.dr_meta.specs.Views.{page_view, dictionary_page_view};
@@ -111,33 +95,35 @@ impl PageTaker {
         ensures calm { result ≢ Err ChunkFault.Failed }
     {
         match head.kind {
-            DATA_PAGE => self.take_data(bodies, head.data_page, body, out)?,
+            DATA_PAGE => self.take_data(bodies, shape_of(self.leaf, head.data_page), body, out)?,
             INDEX_PAGE => {}
             DICTIONARY_PAGE => self.take_dictionary(alloc, head.dictionary_page, body)?,
+            DATA_PAGE_V2 => {
+                self.take_data(bodies, shape_of_v2(self.leaf, head.data_page_v2), body, out)?
+            }
             _ => return Err(ChunkFault::BadData),
         }
         self.is_first = false;
         Ok(())
     }
 
-    /// Takes a data page.
+    /// Takes a data page of this shape.
     ///
-    /// Errors: it has no header of its own, or more triplets than are wanted, or spells none; want of memory.
+    /// Errors: it has no header of its type, or more triplets than are wanted, or spells none; want of memory.
     fn take_data(
         &mut self,
         bodies: &mut BodyReader,
-        page: Option<DataPage>,
+        shape: Option<Shape>,
         body: &[u8],
         out: &mut Column,
     ) -> Result<(), ChunkFault>
-        requires { column_form out.old ≡ leaf_form (leaf_of self.old) }
-        ensures taken { (l : Leaf) → IsLeafOf l (leaf_of self.old)
-            → OnOk result (Takes (data_page l (wanted_of self.old) (dictionary_of self.old) body.now
-            (option_map data_page_view page) []) (column_view out.old) (column_view out.new) (wanted_of self.old)
+        requires form { column_form out.old ≡ leaf_form (leaf_of self.old) }
+        requires shape { IfSome shape (λ s. IsOfLeaf (leaf_of self.old) s) }
+        ensures taken { OnOk result (Takes (data_page (wanted_of self.old) (dictionary_of self.old) body.now
+            (option_map shape_view shape) []) (column_view out.old) (column_view out.new) (wanted_of self.old)
             (wanted_of self.new) (dictionary_of self.new)) }
-        ensures bad { (l : Leaf) → IsLeafOf l (leaf_of self.old)
-            → IfErr result (λ e. IsChunkFault e (data_page l (wanted_of self.old) (dictionary_of self.old) body.now
-            (option_map data_page_view page) [])) }
+        ensures bad { IfErr result (λ e. IsChunkFault e (data_page (wanted_of self.old) (dictionary_of self.old) body.now
+            (option_map shape_view shape) [])) }
         ensures count { OnOk result (length (column_view out.new) + wanted_of self.new
             ≡ length (column_view out.old) + wanted_of self.old) }
         ensures leaf { leaf_of self.new ≡ leaf_of self.old }
@@ -145,16 +131,14 @@ impl PageTaker {
         ensures form { column_form out.new ≡ column_form out.old }
         ensures calm { result ≢ Err ChunkFault.Failed }
     {
-        let Some(page) = page else {
+        let Some(shape) = shape else {
             return Err(ChunkFault::BadData);
         };
-        let triplets = page.values.get();
-        if triplets > self.wanted {
+        if shape.triplets > self.wanted {
             return Err(ChunkFault::BadData);
         }
-        let shape = shape_of(self.leaf, page);
         bodies.read(&shape, &self.dictionary, body, out)?;
-        self.wanted -= triplets;
+        self.wanted -= shape.triplets;
         Ok(())
     }
 

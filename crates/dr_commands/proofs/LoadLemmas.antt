@@ -6,6 +6,7 @@ use Rattle.clap.specs.Words.{Row, Shape, Text, all_of, first_of}
 use Rattle.clap.specs.Walk.{nothing_held, rows_after}
 use Rattle.clap.specs.Simple.{built_leaf, inherited, marked_built, on_top, rows_at}
 use Rattle.clap.specs.Takes.{level_passes}
+use Rattle.dr_formats.specs.Page.{PageForm}
 use Rattle.dr_commands.specs.Load.{load_app, LoadWords, with_directories, load_words}
 use Rattle.dr_commands.specs.Commands.{dremel_app, load, words_in}
 use Rattle.dr_commands.proofs.NeededLemmas.{Has, taken_has_needed}
@@ -24,7 +25,7 @@ load_has_values words passes none =
     let rows = rows_after load_shape.rules [] words in
     let row = find (λ (r : Row). bytes_eq r.id (codes "dir")) rows in
     all_there rows (first_of (codes "schema") rows) (first_of (codes "table") rows) (all_of (codes "dir") rows) (needed.0 refl) (needed.1.0 refl)
-    (first_and_all row (needed.1.1.1.1.0 refl)) none
+    (first_and_all row (needed.1.1.1.1.1.0 refl)) none
   where
     all_there : (rows : List Row) (schema table : Option Text) (dirs : Option (List Text)) → Has schema → Has table → (dirs ≡ None → ⊥)
         → option_map load (option_and_then (λ a. option_and_then (λ b. option_map (with_directories rows a b) dirs) table) schema) ≡ None → ⊥
@@ -34,8 +35,8 @@ load_has_values words passes none =
     all_there rows (Some a) (Some b) (Some d) s t q e = cc
 
 -- these values
-abbrev pub with_all : Text → Text → ℕ → ℕ → List Text → LoadWords
-with_all s t r k ds = record { schema = s; table = t; rows = r; copies = k; directories = ds }
+abbrev pub with_all : Text → Text → ℕ → ℕ → PageForm → List Text → LoadWords
+with_all s t r k f ds = record { schema = s; table = t; rows = r; copies = k; form = f; directories = ds }
 
 -- its values, from each of them
 pub load_words_are : (rows : List Row) (a b : Text) (ds : List Text) (l : LoadWords) → first_of (codes "schema") rows ≡ Some a → first_of (codes "table") rows ≡ Some b → all_of (codes "dir") rows ≡ Some ds
@@ -44,5 +45,5 @@ load_words_are rows a b ds l s t d e =
     ap (option_and_then (λ x. option_and_then (λ y. option_map (with_directories rows x y) (all_of (codes "dir") rows)) (first_of (codes "table") rows))) s
     ∙ (ap (option_and_then (λ y. option_map (with_directories rows a y) (all_of (codes "dir") rows))) t ∙ (ap (option_map (with_directories rows a b)) d ∙ ap Some e))
 
-pub words_same : (s t : Text) (r q k j : ℕ) (ds es : List Text) → r ≡ q → k ≡ j → ds ≡ es → with_all s t r k ds ≡ with_all s t q j es
-words_same s t r q k j ds es e f g = cc
+pub words_same : (s t : Text) (r q k j : ℕ) (a b : PageForm) (ds es : List Text) → r ≡ q → k ≡ j → a ≡ b → ds ≡ es → with_all s t r k a ds ≡ with_all s t q j b es
+words_same s t r q k j a b ds es e f h g = cc

@@ -12,10 +12,9 @@ use Rattle.clap.specs.declared.Error.{Error}
 use Rattle.clap.specs.declared.error.ErrorKind.TheVariants.{OutOfMemory}
 use Rattle.clap.proofs.OnLiterals.{clap_on_literals}
 use Rattle.clap.proofs.WalkLemmas.{both}
-use Rattle.dr_commands.specs.Commands.{CommandWords, FaultlessAreTaken, Taken, TakenAsk, asked, dremel_app, words_in}
+use Rattle.dr_commands.specs.Commands.{CommandWords, FaultlessAreTaken, Taken, TakenAsk, asked, dremel_app, words_in, command_view}
 use Rattle.dr_commands.specs.Rules.{Answers}
-use Rattle.dr_commands.specs.CommandView.{command_view}
-use Rattle.dr_commands.specs.declared.command.Command.{Command}
+use Rattle.dr_commands.specs.declared.commands.Command.{Command}
 use Rattle.dr_commands.specs.declared.words_fault.WordsFault.{WordsFault}
 use Rattle.dr_commands.specs.declared.words_fault.WordsFault.TheVariants.{Usage}
 use Rattle.dr_commands.proofs.AgreementLemmas.{fault_agrees, is_none}

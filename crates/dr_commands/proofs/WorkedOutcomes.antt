@@ -25,6 +25,7 @@ use Rattle.dr_meaning.proofs.WorkedPaths.{projected_10, projected_20}
 use Rattle.dr_meaning.proofs.WorkedStripe.{doc_id_lines}
 use Rattle.dr_meaning.proofs.WorkedAsk.{first_answer}
 use Rattle.dr_meaning.proofs.WorkedRecords.{line_10, line_20, record_10, record_20, numbers}
+use Rattle.dr_formats.specs.Page.{data_page_v1, data_page_v2}
 use Rattle.dr_formats.specs.Loading.{Put, Plan, load, load_taken, puts_of, leaf_refused, copies_refused}
 use Rattle.dr_formats.specs.TableFile.{parse_table, bad_head}
 use Rattle.dr_formats.proofs.WorkedTables.{two_copies_text}
@@ -54,7 +55,7 @@ served_by fan = record { workers = 4; fan = fan; lag = 64 }
 
 -- where to load: one directory, or these, with so many copies
 abbrev load_words : List (List ℕ) → ℕ → LoadWords
-load_words directories copies = record { schema = codes "s"; table = codes "t"; rows = 2; copies = copies; directories = directories }
+load_words directories copies = record { schema = codes "s"; table = codes "t"; rows = 2; copies = copies; form = data_page_v1; directories = directories }
 
 -- ---- what a command looks at
 
@@ -196,7 +197,7 @@ unfolding load parse_schema record_of_line is_utf8 chars
 load_refuses = (refl, refl, refl, refl)
 
 abbrev plan : Plan
-plan = record { schema = record { name = codes "T"; fields = field (codes "a") required (leaf int64_kind) no_fields }; directories = codes "d" ∷ codes "e" ∷ []; copies = 1; rows = 2; table = Some (codes "t") }
+plan = record { schema = record { name = codes "T"; fields = field (codes "a") required (leaf int64_kind) no_fields }; directories = codes "d" ∷ codes "e" ∷ []; copies = 1; rows = 2; table = Some (codes "t"); form = data_page_v1 }
 
 abbrev number : ℕ → Node
 number n = slot (numbers (n ∷ [])) no_slots
@@ -209,6 +210,14 @@ nothing_is_loaded = refl
 pub input_is_loaded : (bytes : List ℕ) → loaded plan.directories 1 one_field bytes ≡ loaded_outcome (load plan bytes) (load plan bytes).refusal
 unfolding parse_schema
 input_is_loaded bytes = refl
+
+-- with pages V2: the same, in files of this form
+abbrev plan_v2 : Plan
+plan_v2 = record plan { form = data_page_v2 }
+
+pub input_is_loaded_v2 : (bytes : List ℕ) → at (load_meaning (record (load_words plan.directories 1) { form = data_page_v2 })) one_field bytes ≡ loaded_outcome (load plan_v2 bytes) (load plan_v2 bytes).refusal
+unfolding parse_schema
+input_is_loaded_v2 bytes = refl
 
 pub three_are_loaded : loaded_outcome (load_taken plan (record { records = number 1 ∷ number 2 ∷ number 3 ∷ []; refusal = None })) None ≡
     done (codes "loaded 3 records into 2 tablets\n") (puts_of plan (number 1 ∷ number 2 ∷ number 3 ∷ []) None)

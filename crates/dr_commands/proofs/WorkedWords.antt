@@ -3,6 +3,7 @@ use Rattle.std.specs.Prelude.{◌≡◌, ℕ, refl, List, [], ◌∷◌, map, re
 use Rattle.clap.specs.Words.{Text, fault_of}
 use Rattle.clap.specs.declared.error.ErrorKind.TheVariants as kind
 use Rattle.clap.proofs.OnLiterals.{clap_on_literals}
+use Rattle.dr_formats.specs.Page.{PageForm, data_page_v1, data_page_v2}
 use Rattle.dr_commands.specs.Ask.{AskWords, ask_meaning}
 use Rattle.dr_commands.specs.Query.{QueryWords, query_meaning}
 use Rattle.dr_commands.specs.Serving.{ServingWords}
@@ -120,27 +121,33 @@ nothing_explained = refl
 
 -- ---- the other commands
 
--- a load: its two files; how many records a tablet gets and how many copies it has, behind the directories or before them
+-- a load: its two files; how many records a tablet gets, how many copies it has and of which form its pages are, behind the directories or before them
 abbrev load_line : List Text → List Text
 load_line more = codes "dremel" ∷ codes "load" ∷ codes "--schema" ∷ codes "s" ∷ codes "--table" ∷ codes "t" ∷ more
 
-abbrev load_of : ℕ → ℕ → List Text → Option CommandWords
-load_of rows copies directories = Some (load (record { schema = codes "s"; table = codes "t"; rows = rows; copies = copies; directories = directories }))
+abbrev load_of : ℕ → ℕ → PageForm → List Text → Option CommandWords
+load_of rows copies form directories = Some (load (record { schema = codes "s"; table = codes "t"; rows = rows; copies = copies; form = form; directories = directories }))
 
-pub loads_are_asked : (asked (load_line (codes "x" ∷ codes "y" ∷ [])) ≡ load_of 100000 1 (codes "x" ∷ codes "y" ∷ []))
-    × (asked (load_line (codes "--rows" ∷ codes "1000000" ∷ codes "--copies=64" ∷ codes "x" ∷ [])) ≡ load_of 1000000 64 (codes "x" ∷ []))
-    × (asked (load_line (codes "x" ∷ codes "y" ∷ codes "--copies" ∷ codes "+2" ∷ codes "--rows=1" ∷ [])) ≡ load_of 1 2 (codes "x" ∷ codes "y" ∷ []))
+pub loads_are_asked : (asked (load_line (codes "x" ∷ codes "y" ∷ [])) ≡ load_of 100000 1 data_page_v1 (codes "x" ∷ codes "y" ∷ []))
+    × (asked (load_line (codes "--rows" ∷ codes "1000000" ∷ codes "--copies=64" ∷ codes "x" ∷ [])) ≡ load_of 1000000 64 data_page_v1 (codes "x" ∷ []))
+    × (asked (load_line (codes "x" ∷ codes "y" ∷ codes "--copies" ∷ codes "+2" ∷ codes "--rows=1" ∷ [])) ≡ load_of 1 2 data_page_v1 (codes "x" ∷ codes "y" ∷ []))
 unfolding clap_on_literals
 loads_are_asked = (refl, refl, refl)
 
+pub pages_are_asked : (asked (load_line (codes "--pages" ∷ codes "2" ∷ codes "x" ∷ [])) ≡ load_of 100000 1 data_page_v2 (codes "x" ∷ []))
+    × (asked (load_line (codes "x" ∷ codes "--pages=1" ∷ [])) ≡ load_of 100000 1 data_page_v1 (codes "x" ∷ []))
+unfolding clap_on_literals
+pages_are_asked = (refl, refl)
+
 -- no directory; numbers out of their bounds; a file that isn't named
 pub no_loads : map asked (load_line [] ∷ load_line (codes "--rows=0" ∷ codes "x" ∷ []) ∷ load_line (codes "--rows=1000001" ∷ codes "x" ∷ []) ∷ load_line (codes "--copies=0" ∷ codes "x" ∷ []) ∷ load_line (codes "--copies=65" ∷ codes "x" ∷ [])
-    ∷ (codes "dremel" ∷ codes "load" ∷ codes "--schema" ∷ codes "s" ∷ codes "x" ∷ []) ∷ (codes "dremel" ∷ codes "load" ∷ codes "--table" ∷ codes "t" ∷ codes "x" ∷ []) ∷ []) ≡ replicate 7 None
+    ∷ load_line (codes "--pages=0" ∷ codes "x" ∷ []) ∷ load_line (codes "--pages" ∷ codes "3" ∷ codes "x" ∷ [])
+    ∷ (codes "dremel" ∷ codes "load" ∷ codes "--schema" ∷ codes "s" ∷ codes "x" ∷ []) ∷ (codes "dremel" ∷ codes "load" ∷ codes "--table" ∷ codes "t" ∷ codes "x" ∷ []) ∷ []) ≡ replicate 9 None
 unfolding clap_on_literals
 no_loads = refl
 
 -- at most 64 directories
-pub directories_of_loads : (asked (load_line (replicate 64 (codes "x"))) ≡ load_of 100000 1 (replicate 64 (codes "x"))) × (asked (load_line (replicate 65 (codes "x"))) ≡ None)
+pub directories_of_loads : (asked (load_line (replicate 64 (codes "x"))) ≡ load_of 100000 1 data_page_v1 (replicate 64 (codes "x"))) × (asked (load_line (replicate 65 (codes "x"))) ≡ None)
 unfolding clap_on_literals
 directories_of_loads = (refl, refl)
 

@@ -7,7 +7,7 @@ use Rattle.dr_commands.specs.Meaning.{Meaning, plain}
 use Rattle.dr_commands.specs.Rules.{option_rule, needed, subcommand_app}
 use Rattle.dr_commands.specs.Numbers.{number_rule, number_in, default_rows}
 use Rattle.dr_commands.specs.Serving.{ServingWords, serving_rules, serving_words, serving_view}
-use Rattle.dr_commands.specs.declared.ask.Ask.{Ask}
+use Rattle.dr_commands.specs.declared.commands.ask.Ask.{Ask}
 
 -- its values
 pub record AskWords : Type 0 where

@@ -3,16 +3,18 @@ use Rattle.std.specs.Prelude.{◌≡◌, ◌↔◌, IsSome, true, List, [], ◌�
 use Rattle.std.specs.Str.{bytes_eq}
 use Rattle.clap.specs.Words.{App, Row, Shape, Text, fault_of, new_app, subcommand_of, takes, with_subcommand}
 use Rattle.dr_commands.specs.Meaning.{Meaning}
-use Rattle.dr_commands.specs.Load.{LoadWords, load_app, load_words, load_meaning}
-use Rattle.dr_commands.specs.Query.{QueryWords, query_app, query_words, query_meaning}
-use Rattle.dr_commands.specs.Dump.{DumpWords, dump_app, dump_words, dump_meaning}
-use Rattle.dr_commands.specs.ShowSchema.{ShowSchemaWords, show_schema_app, show_schema_words, show_schema_meaning}
-use Rattle.dr_commands.specs.Ask.{AskWords, ask_app, ask_words, ask_meaning}
-use Rattle.dr_commands.specs.Stripe.{StripeWords, stripe_app, stripe_words, stripe_meaning}
-use Rattle.dr_commands.specs.Fsm.{FsmWords, fsm_app, fsm_words, fsm_meaning}
-use Rattle.dr_commands.specs.Explain.{ExplainWords, explain_app, explain_words, explain_meaning}
-use Rattle.dr_commands.specs.Gen.{GenWords, gen_app, gen_words, gen_meaning}
-use Rattle.dr_commands.specs.Trial.{TrialWords, trial_app, trial_words, trial_meaning}
+use Rattle.dr_commands.specs.Load.{LoadWords, load_app, load_words, load_meaning, load_view}
+use Rattle.dr_commands.specs.Query.{QueryWords, query_app, query_words, query_meaning, query_view}
+use Rattle.dr_commands.specs.Dump.{DumpWords, dump_app, dump_words, dump_meaning, dump_view}
+use Rattle.dr_commands.specs.ShowSchema.{ShowSchemaWords, show_schema_app, show_schema_words, show_schema_meaning, show_schema_view}
+use Rattle.dr_commands.specs.Ask.{AskWords, ask_app, ask_words, ask_meaning, ask_view}
+use Rattle.dr_commands.specs.Stripe.{StripeWords, stripe_app, stripe_words, stripe_meaning, stripe_view}
+use Rattle.dr_commands.specs.Fsm.{FsmWords, fsm_app, fsm_words, fsm_meaning, fsm_view}
+use Rattle.dr_commands.specs.Explain.{ExplainWords, explain_app, explain_words, explain_meaning, explain_view}
+use Rattle.dr_commands.specs.Gen.{GenWords, gen_app, gen_words, gen_meaning, gen_view}
+use Rattle.dr_commands.specs.Trial.{TrialWords, trial_app, trial_words, trial_meaning, trial_view}
+use Rattle.dr_commands.specs.declared.commands.Command.{Command}
+use Rattle.dr_commands.specs.declared.commands.Command.TheVariants as command
 
 -- each subcommand
 abbrev pub subcommands : List Shape
@@ -45,6 +47,19 @@ pub data CommandWords : Type 0 where
   explain : ExplainWords → CommandWords
   gen : GenWords → CommandWords
   trial : TrialWords → CommandWords
+
+-- what a command stands for
+abbrev pub command_view : Command → CommandWords
+command_view (command.Load l) = load (load_view l)
+command_view (command.Query q) = query (query_view q)
+command_view (command.Ask a) = ask (ask_view a)
+command_view (command.Dump d) = dump (dump_view d)
+command_view (command.Stripe s) = stripe (stripe_view s)
+command_view (command.Fsm f) = fsm (fsm_view f)
+command_view (command.ShowSchema s) = show_schema (show_schema_view s)
+command_view (command.Explain e) = explain (explain_view e)
+command_view (command.Gen g) = gen (gen_view g)
+command_view (command.Trial t) = trial (trial_view t)
 
 abbrev pub words_of : Text → List Row → Option CommandWords
 words_of name rows =

@@ -12,7 +12,7 @@ use Rattle.dr_reading.specs.Scan.{Scan, tablets_of}
 use Rattle.dr_commands.specs.Refusals.{table_refused, refusal_of}
 use Rattle.dr_commands.specs.Meaning.{Meaning, Outcome, refused, scans}
 use Rattle.dr_commands.specs.Rules.{option_rule, needed, several, subcommand_app}
-use Rattle.dr_commands.specs.declared.dump.Dump.{Dump}
+use Rattle.dr_commands.specs.declared.commands.dump.Dump.{Dump}
 
 -- its values
 pub record DumpWords : Type 0 where

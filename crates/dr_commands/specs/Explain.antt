@@ -9,7 +9,7 @@ use Rattle.dr_meaning.specs.Refusals.{QueryRefusal, CommandRefusal, schema_refus
 use Rattle.dr_partials.specs.RewritingText.{rewriting_text}
 use Rattle.dr_commands.specs.Meaning.{Meaning, plain}
 use Rattle.dr_commands.specs.Rules.{option_rule, needed, subcommand_app}
-use Rattle.dr_commands.specs.declared.explain.Explain.{Explain}
+use Rattle.dr_commands.specs.declared.commands.explain.Explain.{Explain}
 
 -- its values
 pub record ExplainWords : Type 0 where

@@ -4,7 +4,7 @@ use Rattle.clap.specs.Words.{App, Row, Text, all_of, first_of, new_rule}
 use Rattle.dr_meaning.specs.Fsm as meant
 use Rattle.dr_commands.specs.Meaning.{Meaning, plain}
 use Rattle.dr_commands.specs.Rules.{option_rule, needed, several, subcommand_app}
-use Rattle.dr_commands.specs.declared.fsm.Fsm.{Fsm}
+use Rattle.dr_commands.specs.declared.commands.fsm.Fsm.{Fsm}
 
 -- its values
 pub record FsmWords : Type 0 where

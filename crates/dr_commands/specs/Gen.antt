@@ -5,7 +5,7 @@ use Rattle.dr_gen.specs.Generator.{lines_from}
 use Rattle.dr_commands.specs.Meaning.{Meaning, done}
 use Rattle.dr_commands.specs.Rules.{needed, subcommand_app}
 use Rattle.dr_commands.specs.Numbers.{number_rule, number_in, most_seed, most_made}
-use Rattle.dr_commands.specs.declared.gen_values.Gen.{Gen}
+use Rattle.dr_commands.specs.declared.commands.gen_values.Gen.{Gen}
 
 -- its values
 pub record GenWords : Type 0 where

@@ -20,4 +20,3 @@ pub mod Trial
 pub mod ScanLaws
 -- what the words of a command line ask for
 pub mod Commands
-pub mod CommandView

@@ -27,6 +27,10 @@ is_number_in low high t = is_numeral (without_leading_plus t) && nat_le low (val
 abbrev pub default_rows : ℕ
 default_rows = 100000
 
+-- the latest version of data pages that are written
+abbrev pub latest_pages : ℕ
+latest_pages = 2
+
 -- how many children a server of a serving tree has at most: between these bounds, and where the words don't say it
 abbrev pub least_fan : ℕ
 least_fan = 2

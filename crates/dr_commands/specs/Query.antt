@@ -12,7 +12,7 @@ use Rattle.dr_commands.specs.Meaning.{Meaning, Outcome, refused, serves}
 use Rattle.dr_commands.specs.Rules.{option_rule, needed, subcommand_app}
 use Rattle.dr_commands.specs.Numbers.{number_rule, number_in, most_share, default_share}
 use Rattle.dr_commands.specs.Serving.{ServingWords, serving_rules, serving_words, serving_view}
-use Rattle.dr_commands.specs.declared.query.Query.{Query}
+use Rattle.dr_commands.specs.declared.commands.query.Query.{Query}
 
 -- its values
 pub record QueryWords : Type 0 where

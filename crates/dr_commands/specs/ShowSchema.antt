@@ -3,7 +3,7 @@ use Rattle.std.specs.Prelude.{false, List, [], ◌∷◌, Option, None, codes, o
 use Rattle.clap.specs.Words.{App, Row, Text, first_of, new_rule}
 use Rattle.dr_commands.specs.Meaning.{Meaning, looks_at}
 use Rattle.dr_commands.specs.Rules.{needed, subcommand_app}
-use Rattle.dr_commands.specs.declared.show_schema.ShowSchema.{ShowSchema}
+use Rattle.dr_commands.specs.declared.commands.show_schema.ShowSchema.{ShowSchema}
 
 -- its values
 pub record ShowSchemaWords : Type 0 where

@@ -4,7 +4,7 @@ use Rattle.clap.specs.Words.{App, Row, Text, first_of, new_rule}
 use Rattle.dr_meaning.specs.Stripe as meant
 use Rattle.dr_commands.specs.Meaning.{Meaning, plain}
 use Rattle.dr_commands.specs.Rules.{option_rule, needed, subcommand_app}
-use Rattle.dr_commands.specs.declared.stripe.Stripe.{Stripe}
+use Rattle.dr_commands.specs.declared.commands.stripe.Stripe.{Stripe}
 
 -- its values
 pub record StripeWords : Type 0 where

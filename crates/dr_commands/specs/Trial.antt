@@ -9,7 +9,7 @@ use Rattle.dr_commands.specs.Meaning.{Meaning, plain}
 use Rattle.dr_commands.specs.Rules.{needed, subcommand_app}
 use Rattle.dr_commands.specs.Numbers.{number_rule, number_in, default_rows, most_seed, most_made}
 use Rattle.dr_commands.specs.Serving.{ServingWords, serving_rules, serving_words, serving_view}
-use Rattle.dr_commands.specs.declared.trial.Trial.{Trial}
+use Rattle.dr_commands.specs.declared.commands.trial.Trial.{Trial}
 
 -- its values
 pub record TrialWords : Type 0 where

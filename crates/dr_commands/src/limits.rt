@@ -4,7 +4,7 @@ ghost use Rattle.std.specs.Prelude.{◌≡◌};
 ghost use Rattle.dr_meaning.specs.Stripe.{most_striped};
 ghost use Rattle.dr_formats.specs.Loading.{most_tablet_rows};
 ghost use Rattle.dr_formats.specs.TableFile.{most_leaf_lines};
-ghost use Rattle.dr_commands.specs.Numbers.{default_rows, least_fan, most_fan, default_fan, most_workers, default_workers, most_lag, default_lag, most_share, default_share, most_seed, most_made};
+ghost use Rattle.dr_commands.specs.Numbers.{default_rows, latest_pages, least_fan, most_fan, default_fan, most_workers, default_workers, most_lag, default_lag, most_share, default_share, most_seed, most_made};
 
 /// The greatest number of lines of `stripe`: 4,096 times 1,000,000.
 pub const MOST_STRIPED: u64 = 4_096_000_000;
@@ -17,6 +17,9 @@ pub const DEFAULT_ROWS: u32 = 100_000;
 
 /// The greatest number of copies of a tablet.
 pub const MOST_COPIES: u32 = 64;
+
+/// The latest version of data pages that are written.
+pub const LATEST_PAGES: u32 = 2;
 
 /// The greatest number of leaf directories.
 pub const MOST_DIRECTORIES: usize = 64;
@@ -60,6 +63,7 @@ pub fn command_limits_are_as_defined()
     ensures rows { MOST_ROWS ≡ most_tablet_rows }
     ensures default { DEFAULT_ROWS ≡ default_rows }
     ensures copies { MOST_COPIES ≡ most_leaf_lines }
+    ensures pages { LATEST_PAGES ≡ latest_pages }
     ensures directories { MOST_DIRECTORIES ≡ most_leaf_lines }
     ensures least_fan { LEAST_FAN ≡ least_fan }
     ensures fan { MOST_FAN ≡ most_fan }

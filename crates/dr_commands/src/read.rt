@@ -2,15 +2,11 @@
 
 ghost use Rattle.std.specs.Prelude.{◌≡◌, ◌≢◌, IfOk, Some, None, map, string_bytes};
 ghost use Rattle.dr_commands.specs.Commands as meant;
-ghost use Rattle.dr_commands.specs.CommandView.{command_view};
+ghost use Rattle.dr_commands.specs.Commands.{command_view};
 
-use crate::command::{Command, command_of, dremel_command};
+use crate::commands::{Command, command_of, dremel_command};
 use crate::words_fault::{WordsFault, fault_of};
 use std::alloc::Global;
-
-/// What is printed where the words are refused.
-pub const USAGE: &str =
-    "usage: dremel load|query|ask|dump|stripe|fsm|schema|explain|gen|trial ..\n";
 
 /// Reads the words of a command line, of which the first is the program's name.
 pub fn read_words(alloc: Global, words: &[String]) -> Result<Command, WordsFault>

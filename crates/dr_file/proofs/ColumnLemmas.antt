@@ -1,26 +1,34 @@
 -- The column of a leaf is that of its chunks, one after another.
-use Rattle.std.proofs.Common.{◌≡◌, ℕ, zero, suc, ◌+◌, ◌≤◌, List, [], ◌∷◌, ◌++◌, length, map, take, drop, get_or, Bool, true, false, refl, sym, ap, ap₂, ◌∙◌, subst, arith, true≢false}
+use Rattle.std.proofs.Common.{◌≡◌, ℕ, zero, suc, ◌+◌, ◌≤◌, List, [], ◌∷◌, ◌++◌, length, map, take, drop, get_or, Bool, true, false, refl, sym, ap, ap₂, ◌∙◌, subst, arith, true≢false, append-nil}
 use Rattle.std.specs.Prelude.{Option, Some, None, nat_le, ◌==◌, ◌&&◌, if◌then◌else◌, option_map, option_and_then}
 use Rattle.std.specs.List.{list_all, flat_map, slice_get}
 use Rattle.std.proofs.lemmas.Bool.{and_parts, and_from, eqb-true, eq-eqb}
+use Rattle.std.proofs.lemmas.List.{length-replicate}
 use Rattle.std.proofs.lemmas.List.Folds.{list_all-append}
 use Rattle.dr_meaning.specs.Path.{Step, Leaf, max_repetition, max_definition}
-use Rattle.dr_meaning.specs.Column.{Triplet}
+use Rattle.dr_meaning.specs.Column.{Triplet, triplet}
 use Rattle.dr_meaning.specs.OneColumn.{starts, begins_record, fits_levels, may_follow, all_follow, is_in_order, is_column}
 use Rattle.dr_meaning.proofs.ColumnStarts.{starts_append}
 use Rattle.dr_formats.specs.Metadata.{ColumnMeta, RowGroup, FileMeta}
 use Rattle.dr_formats.specs.FileSchema.{FileSchema, file_schema, file_leaves}
 use Rattle.dr_formats.specs.Chunk.{chunk_start, chunk_triplets, pages_triplets}
-use Rattle.dr_formats.specs.File.{Footer, footer_of, of_rows, leaf_chunk, group_column, groups_column, file_column, total, rows_agree, values_fit, most_rows, has_leaves, are_uncompressed, leaf_place, is_found, is_uncompressed, chunk_values, most_triplets, FileCause, bad_data, cause_by, is_framed, footer_place, footer_meta, with_schema, is_whole_group}
+use Rattle.dr_formats.specs.File.{Footer, footer_of, of_rows, leaf_chunk, leaf_source, leaves_read, group_column, groups_column, file_column, lacking_column, column_by, given_column, total, rows_agree, values_fit, most_rows, has_leaves, are_uncompressed, is_uncompressed, chunk_values, most_triplets, FileCause, bad_data, cause_by, is_framed, footer_place, footer_meta, with_schema, is_whole_group}
+use Rattle.dr_formats.specs.Lacking.{StandIn, Source, own_chunks, no_chunks, chunks_of, has_source, leaf_read, outline}
 use Rattle.dr_formats.specs.Opening.{has_numbers, has_column, has_leaf_column, leaf_cause, Range, chunk_range, leaf_ranges}
 use Rattle.dr_outside.specs.Link.{Request}
 use Rattle.dr_outside.specs.Telling.{AsksOnly}
 use Rattle.dr_chunk.specs.Ranges.{is_read_inside}
 use Rattle.dr_outside.specs.Faults.{raised}
 use Rattle.dr_chunk.specs.declared.fault.ChunkFault.{ChunkFault}
+use Rattle.dr_nested.specs.Views.{kind_view}
+use Rattle.dr_levels.specs.Views.{LeafForm, form}
+use Rattle.dr_open.proofs.StandsLemmas.{Stands, source_tells}
+use Rattle.dr_file.specs.declared.opened_field.OpenedField.{OpenedField}
 use Rattle.dr_file.specs.declared.opened_leaf.OpenedLeaf.{OpenedLeaf}
 use Rattle.dr_file.specs.declared.opened.Opened.{Opened}
-use Rattle.dr_file.specs.Openings.{ShownChunk, shown_chunk, chunk_place_view, ShownLeaf, shown_leaf, opened_leaf_view}
+use Rattle.dr_file.specs.Openings.{ShownChunk, shown_chunk, chunk_place_view, ShownField, shown_from, shown_field, opened_field_view}
+use Rattle.dr_file.specs.Fields.{ShownTelling, itself, nulls, outlined, telling_view, told}
+use Rattle.dr_file.proofs.OutlineLemmas.{outline_is_column, outline_shorter, nulls_are_column}
 use Rattle.dr_file.specs.OpenedFiles.{IsOpened, IsColumnOf, IsColumnFault, told_chunk_fault, is_link_fault, HasCounts}
 use Rattle.dr_file.specs.LeafColumns.{shown_triplets, is_good_chunk, triplets_given, chunks_triplets, shown_range, IsShownLeaf}
 
@@ -235,19 +243,32 @@ one_of p (k ∷ F) (suc i) l e h = one_of p F i l e (and_parts (p k) (list_all p
 -- the footer's tests of all leaves hold of one
 record Opens (f : Footer) (l : Leaf) : Type 0 where
   leaf : has_leaves f (l ∷ []) ≡ true
-  codec : are_uncompressed f (l ∷ []) ≡ true
+  codec : are_uncompressed f (leaves_read f (l ∷ [])) ≡ true
   numbers : has_numbers (l ∷ []) f ≡ true
 
-opens_one : (f : Footer) (F : List Leaf) (i : ℕ) (l : Leaf) → slice_get F i ≡ Some l → has_leaves f F ≡ true → are_uncompressed f F ≡ true → has_numbers F f ≡ true → Opens f l
+-- a test of all leaves that are read for some is one of those that are read for one of them
+read_of : (f : Footer) (p : Leaf → Bool) (F : List Leaf) (i : ℕ) (l : Leaf) → slice_get F i ≡ Some l → list_all p (leaves_read f F) ≡ true → list_all p (leaves_read f (l ∷ [])) ≡ true
+read_of f p [] i l e h = absurd (cc)
+read_of f p (k ∷ F) zero l e h =
+    let q : k ≡ l = same_leaf k l e in
+    let a = and_parts (list_all p (leaf_read k (leaf_source f k))) (list_all p (leaves_read f F)) (sym (list_all-append p (leaf_read k (leaf_source f k)) (leaves_read f F)) ∙ h) in
+    sym (ap (λ x. list_all p (leaves_read f (x ∷ []))) q) ∙ (list_all-append p (leaf_read k (leaf_source f k)) [] ∙ alone (list_all p (leaf_read k (leaf_source f k))) a.0)
+  where
+    alone : (b : Bool) → b ≡ true → (b && true) ≡ true
+    alone true g = refl
+    alone false g = g
+read_of f p (k ∷ F) (suc i) l e h = read_of f p F i l e (and_parts (list_all p (leaf_read k (leaf_source f k))) (list_all p (leaves_read f F)) (sym (list_all-append p (leaf_read k (leaf_source f k)) (leaves_read f F)) ∙ h)).1
+
+opens_one : (f : Footer) (F : List Leaf) (i : ℕ) (l : Leaf) → slice_get F i ≡ Some l → has_leaves f F ≡ true → are_uncompressed f (leaves_read f F) ≡ true → has_numbers F f ≡ true → Opens f l
 opens_one f F i l e a b c =
-    let p = and_parts (rows_agree f) (values_fit f F) c in
+    let p = and_parts (rows_agree f) (values_fit f (leaves_read f F)) c in
     record {
-      leaf = one_of (λ k. is_found (leaf_place f k)) F i l e a;
-      codec = one_of (λ k. list_all (λ g. is_uncompressed (leaf_chunk f k g)) f.meta.groups) F i l e b;
-      numbers = and_from _ _ p.0 (one_of (λ k. nat_le (total (λ g. chunk_values (leaf_chunk f k g)) f.meta.groups) most_triplets) F i l e p.1);
+      leaf = one_of (λ k. has_source (leaf_source f k)) F i l e a;
+      codec = read_of f (λ k. list_all (λ g. is_uncompressed (leaf_chunk f k g)) f.meta.groups) F i l e b;
+      numbers = and_from _ _ p.0 (read_of f (λ k. nat_le (total (λ g. chunk_values (leaf_chunk f k g)) f.meta.groups) most_triplets) F i l e p.1);
     }
 
-leaf_cause_by : (bytes : List ℕ) (f : Footer) (l : Leaf) (b : Bool) → footer_of bytes ≡ Some f → Opens f l → has_column l f.meta.rows (file_column bytes f l) ≡ b → leaf_cause bytes l ≡ (if b then None else Some bad_data)
+leaf_cause_by : (bytes : List ℕ) (f : Footer) (l : Leaf) (b : Bool) → footer_of bytes ≡ Some f → Opens f l → has_column l f.meta.rows (given_column bytes f l) ≡ b → leaf_cause bytes l ≡ (if b then None else Some bad_data)
 leaf_cause_by bytes f l b e o h =
     ap (cause_by (has_leaf_column bytes l) (l ∷ [])) e ∙ rw o.leaf (rw o.codec (rw o.numbers (rw h refl)))
 
@@ -297,77 +318,220 @@ footer_placed bytes f e =
     framed_place (footer_place bytes) f (is_framed bytes) (option_and_then (λ (m : FileMeta). option_and_then (with_schema (footer_place bytes) m) (file_schema m.schema)) (footer_meta bytes))
     (meta_place (footer_place bytes) f (footer_meta bytes)) e
 
-leaf_at : (f : Footer) (F : List Leaf) (os : List OpenedLeaf) (i : ℕ) (l : Leaf) (d : OpenedLeaf) → map (shown_leaf f) F ≡ map opened_leaf_view os → slice_get F i ≡ Some l → shown_leaf f l ≡ opened_leaf_view (get_or os i d)
+leaf_at : (f : Footer) (F : List Leaf) (os : List OpenedField) (i : ℕ) (l : Leaf) (d : OpenedField) → map (shown_field f) F ≡ map opened_field_view os → slice_get F i ≡ Some l → shown_field f l ≡ opened_field_view (get_or os i d)
 leaf_at f [] os i l d h e = absurd (cc)
 leaf_at f (k ∷ F) [] i l d h e = absurd (cc)
-leaf_at f (k ∷ F) (o ∷ os) zero l d h e = let q : shown_leaf f k ≡ opened_leaf_view o = cc in ap (shown_leaf f) (sym (same_leaf k l e)) ∙ q
-leaf_at f (k ∷ F) (o ∷ os) (suc i) l d h e = let t : map (shown_leaf f) F ≡ map opened_leaf_view os = cc in leaf_at f F os i l d t e
+leaf_at f (k ∷ F) (o ∷ os) zero l d h e = let q : shown_field f k ≡ opened_field_view o = cc in ap (shown_field f) (sym (same_leaf k l e)) ∙ q
+leaf_at f (k ∷ F) (o ∷ os) (suc i) l d h e = let t : map (shown_field f) F ≡ map opened_field_view os = cc in leaf_at f F os i l d t e
 
 map_twice : {A B C : Type 0} (f : A → B) (g : B → C) (xs : List A) → map g (map f xs) ≡ map (λ x. g (f x)) xs
 map_twice f g [] = refl
 map_twice f g (x ∷ xs) = ap (λ ys. g (f x) ∷ ys) (map_twice f g xs)
 
-abbrev chunks_of : OpenedLeaf → List ShownChunk
-chunks_of o = map chunk_place_view o.chunks.items
+abbrev shown_chunks_of : OpenedLeaf → List ShownChunk
+shown_chunks_of o = map chunk_place_view o.chunks.items
+
+-- the leaf that is read for one with this source
+abbrev reading : Leaf → Option Source → Leaf
+reading l None = record { names = []; path = []; kind = l.kind }
+reading l (Some own_chunks) = l
+reading l (Some no_chunks) = record { names = []; path = []; kind = l.kind }
+reading l (Some (chunks_of x)) = x.leaf
+
+-- its chunks are shown, where it has some
+abbrev ChunksShown : Footer → Leaf → Option Source → List ShownChunk → Type 0
+ChunksShown f l None cs = cs ≡ []
+ChunksShown f l (Some own_chunks) cs = AreShown f l f.meta.groups cs
+ChunksShown f l (Some no_chunks) cs = cs ≡ []
+ChunksShown f l (Some (chunks_of x)) cs = AreShown f x.leaf f.meta.groups cs
+
+no_chunk : (cs : List ShownChunk) → map (λ c. Some c) cs ≡ [] → cs ≡ []
+no_chunk [] h = refl
+no_chunk (c ∷ cs) h = absurd (cc)
+
+chunks_shown : (f : Footer) (l : Leaf) (o : Option Source) (cs : List ShownChunk) → map (λ c. Some c) cs ≡ (shown_from f l o).read.chunks → ChunksShown f l o cs
+chunks_shown f l None cs h = no_chunk cs h
+chunks_shown f l (Some own_chunks) cs h = h
+chunks_shown f l (Some no_chunks) cs h = no_chunk cs h
+chunks_shown f l (Some (chunks_of x)) cs h = h
+
+read_path : (f : Footer) (l : Leaf) (o : Option Source) → ((reading l o).path ≡ (shown_from f l o).read.path) × ((reading l o).kind ≡ (shown_from f l o).read.kind)
+read_path f l None = (refl, refl)
+read_path f l (Some own_chunks) = (refl, refl)
+read_path f l (Some no_chunks) = (refl, refl)
+read_path f l (Some (chunks_of x)) = (refl, refl)
+
+field_form : (f : Footer) (l : Leaf) (o : Option Source) → ((shown_from f l o).kind ≡ l.kind) × ((shown_from f l o).greatest ≡ max_definition l.path)
+field_form f l None = (refl, refl)
+field_form f l (Some own_chunks) = (refl, refl)
+field_form f l (Some no_chunks) = (refl, refl)
+field_form f l (Some (chunks_of x)) = (refl, refl)
 
 -- what is known of a leaf of a file that was opened
-pub record Kept (bytes : List ℕ) (o : Opened) (leaf : OpenedLeaf) (l : Leaf) : Type 0 where
+pub record Kept (bytes : List ℕ) (o : Opened) (field : OpenedField) (l : Leaf) : Type 0 where
   f : Footer
   is : footer_of bytes ≡ Some f
   place : o.footer ≡ f.place
   pub within : o.footer ≤ length bytes
-  pub shown : IsShownLeaf l leaf
-  chunks : AreShown f l f.meta.groups (chunks_of leaf)
+  pub read : Leaf
+  pub shown : IsShownLeaf read field.read
+  is_read : read ≡ reading l (leaf_source f l)
+  telling : telling_view field.telling ≡ (shown_field f l).telling
+  pub kind : kind_view field.kind ≡ l.kind
+  pub greatest : field.greatest ≡ max_definition l.path
+  chunks : ChunksShown f l (leaf_source f l) (shown_chunks_of field.read)
   opens : Opens f l
   rows : rows_agree f ≡ true
+  all_rows : o.rows ≡ f.meta.rows
 
-pub kept : (bytes : List ℕ) (F : List Leaf) (o : Opened) (i : ℕ) (leaf : OpenedLeaf) (l : Leaf) → IsOpened bytes F o → slice_get F i ≡ Some l → leaf ≡ get_or o.leaves.items i leaf → Kept bytes o leaf l
-kept bytes F o i leaf l h e g =
+pub kept : (bytes : List ℕ) (F : List Leaf) (o : Opened) (i : ℕ) (field : OpenedField) (l : Leaf) → IsOpened bytes F o → slice_get F i ≡ Some l → field ≡ get_or o.leaves.items i field → Kept bytes o field l
+kept bytes F o i field l h e g =
     let k = h.1 in
-    let s : shown_leaf k.0 l ≡ opened_leaf_view leaf = leaf_at k.0 F o.leaves.items i l leaf k.6 e ∙ ap opened_leaf_view (sym g) in
+    let s : shown_field k.0 l ≡ opened_field_view field = leaf_at k.0 F o.leaves.items i l field k.6 e ∙ ap opened_field_view (sym g) in
+    let src = leaf_source k.0 l in
+    let p = read_path k.0 l src in
+    let q = field_form k.0 l src in
     record {
       f = k.0;
       is = k.1;
       place = h.0 ∙ sym (footer_placed bytes k.0 k.1);
       within = omega (arith, h.0);
-      shown = (ap (λ (x : ShownLeaf). x.path) s, ap (λ (x : ShownLeaf). x.kind) s);
-      chunks = map_twice chunk_place_view (λ c. Some c) leaf.chunks.items ∙ sym (ap (λ (x : ShownLeaf). x.chunks) s);
+      read = reading l src;
+      shown = (p.0 ∙ ap (λ (x : ShownField). x.read.path) s, p.1 ∙ ap (λ (x : ShownField). x.read.kind) s);
+      is_read = refl;
+      telling = sym (ap (λ (x : ShownField). x.telling) s);
+      kind = sym (ap (λ (x : ShownField). x.kind) s) ∙ q.0;
+      greatest = sym (ap (λ (x : ShownField). x.greatest) s) ∙ q.1;
+      chunks = chunks_shown k.0 l src (shown_chunks_of field.read) (map_twice chunk_place_view (λ c. Some c) field.read.chunks.items ∙ sym (ap (λ (x : ShownField). x.read.chunks) s));
       opens = opens_one k.0 F i l e k.2 k.3 k.4;
-      rows = (and_parts (rows_agree k.0) (values_fit k.0 F) k.4).0;
+      rows = (and_parts (rows_agree k.0) (values_fit k.0 (leaves_read k.0 F)) k.4).0;
+      all_rows = sym k.5;
     }
 
+-- the same, where the source is known
+record Sourced (bytes : List ℕ) (f : Footer) (l : Leaf) (src : Option Source) (cs : List ShownChunk) : Type 0 where
+  there : has_source src ≡ true
+  is : leaf_source f l ≡ src
+  chunks : ChunksShown f l src cs
+  rows : rows_agree f ≡ true
+
+-- the column that is given, by the chunks of the leaf that is read
+abbrev Gives : List ℕ → Footer → Leaf → Option Source → List ShownChunk → Bool → Type 0
+Gives bytes f l src cs false = has_column l f.meta.rows (column_by bytes f l src) ≡ false
+Gives bytes f l src cs true = (has_column l f.meta.rows (column_by bytes f l src) ≡ true)
+    × (column_by bytes f l src ≡ Some (told (shown_from f l src).telling f.meta.rows (chunks_triplets bytes f.place (reading l src) cs)))
+
+same_triplets : (ts us : List Triplet) → Some ts ≡ Some us → ts ≡ us
+same_triplets ts us e = cc
+
+-- what a stand-in's column gives
+stood_in : (l : Leaf) (x : StandIn) (rows : ℕ) (o : Option (List Triplet)) (ts : List Triplet) → Stands l x → has_column x.leaf rows o ≡ true → o ≡ Some ts
+    → (has_column l rows (lacking_column x rows o) ≡ true) × (lacking_column x rows o ≡ Some (outline x.repetition x.definition ts))
+stood_in l x rows None ts h c e = absurd (true≢false (sym c))
+stood_in l x rows (Some us) ts h c e =
+    let g : lacking_column x rows (Some us) ≡ Some (outline x.repetition x.definition us) = ap (λ b. option_map (outline x.repetition x.definition) (if b then Some us else None)) c in
+    (ap (has_column l rows) g ∙ outline_is_column l x rows us h c, g ∙ ap (λ vs. Some (outline x.repetition x.definition vs)) (same_triplets us ts e))
+
+none_stood_in : (l : Leaf) (x : StandIn) (rows : ℕ) (o : Option (List Triplet)) → has_column x.leaf rows o ≡ false → has_column l rows (lacking_column x rows o) ≡ false
+none_stood_in l x rows None c = refl
+none_stood_in l x rows (Some us) c = ap (λ b. has_column l rows (option_map (outline x.repetition x.definition) (if b then Some us else None))) c
+
+good_none : (bytes : List ℕ) (place : ℕ) (l : Leaf) (cs : List ShownChunk) → cs ≡ [] → list_all (is_good_chunk bytes place l) cs ≡ true
+good_none bytes place l cs h = ap (list_all (is_good_chunk bytes place l)) h
+
+gives : (bytes : List ℕ) (f : Footer) (l : Leaf) (src : Option Source) (cs : List ShownChunk) → Sourced bytes f l src cs → (b : Bool) → list_all (is_good_chunk bytes f.place (reading l src)) cs ≡ b → Gives bytes f l src cs b
+gives bytes f l None cs h b g = absurd (true≢false (sym h.there))
+gives bytes f l (Some own_chunks) cs h false g = column_passes bytes f l cs h.rows h.chunks ∙ g
+gives bytes f l (Some own_chunks) cs h true g = (column_passes bytes f l cs h.rows h.chunks ∙ g, column_shown bytes f l f.meta.groups cs h.chunks g)
+gives bytes f l (Some no_chunks) cs h false g = absurd (true≢false (sym (good_none bytes f.place (reading l (Some no_chunks)) cs h.chunks) ∙ g))
+gives bytes f l (Some no_chunks) cs h true g = (nulls_are_column l f.meta.rows (source_tells f.schema l no_chunks h.is), refl)
+gives bytes f l (Some (chunks_of x)) cs h false g = none_stood_in l x f.meta.rows (file_column bytes f x.leaf) (column_passes bytes f x.leaf cs h.rows h.chunks ∙ g)
+gives bytes f l (Some (chunks_of x)) cs h true g =
+    stood_in l x f.meta.rows (file_column bytes f x.leaf) (chunks_triplets bytes f.place x.leaf cs) (source_tells f.schema l (chunks_of x) h.is)
+    (column_passes bytes f x.leaf cs h.rows h.chunks ∙ g) (column_shown bytes f x.leaf f.meta.groups cs h.chunks g)
+
+one_there : (b : Bool) → (b && true) ≡ true → b ≡ true
+one_there true h = refl
+one_there false h = h
+
+sourced : (bytes : List ℕ) (o : Opened) (field : OpenedField) (l : Leaf) (k : Kept bytes o field l) → Sourced bytes k.f l (leaf_source k.f l) (shown_chunks_of field.read)
+sourced bytes o field l k = record { there = one_there (has_source (leaf_source k.f l)) k.opens.leaf; is = refl; chunks = k.chunks; rows = k.rows }
+
 -- where the chunks are good, the leaf has a column
-pub column_good : (bytes : List ℕ) (o : Opened) (leaf : OpenedLeaf) (l : Leaf) (ts : List Triplet) → Kept bytes o leaf l → list_all (is_good_chunk bytes o.footer l) (chunks_of leaf) ≡ true
-    → ts ≡ chunks_triplets bytes o.footer l (chunks_of leaf) → IsColumnOf bytes l ts
-column_good bytes o leaf l ts k h e =
-    let g : list_all (is_good_chunk bytes k.f.place l) (chunks_of leaf) ≡ true = sym (ap (λ p. list_all (is_good_chunk bytes p l) (chunks_of leaf)) k.place) ∙ h in (
-      leaf_cause_by bytes k.f l true k.is k.opens (column_passes bytes k.f l (chunks_of leaf) k.rows k.chunks ∙ g),
-      k.f,
-      k.is,
-      column_shown bytes k.f l k.f.meta.groups (chunks_of leaf) k.chunks g ∙ ap (λ p. Some (chunks_triplets bytes p l (chunks_of leaf))) (sym k.place) ∙ ap (λ xs. Some xs) (sym e),
-    )
+pub column_good : (bytes : List ℕ) (o : Opened) (field : OpenedField) (l : Leaf) (ts us : List Triplet) (k : Kept bytes o field l) → list_all (is_good_chunk bytes o.footer k.read) (shown_chunks_of field.read) ≡ true
+    → us ≡ chunks_triplets bytes o.footer k.read (shown_chunks_of field.read) → ts ≡ told (telling_view field.telling) o.rows us → IsColumnOf bytes l ts
+column_good bytes o field l ts us k h e t =
+    let src = leaf_source k.f l in
+    let cs = shown_chunks_of field.read in
+    let g : list_all (is_good_chunk bytes k.f.place (reading l src)) cs ≡ true = sym (ap₂ (λ p x. list_all (is_good_chunk bytes p x) cs) k.place k.is_read) ∙ h in
+    let c = gives bytes k.f l src cs (sourced bytes o field l k) true g in
+    let v : us ≡ chunks_triplets bytes k.f.place (reading l src) cs = e ∙ ap₂ (λ p x. chunks_triplets bytes p x cs) k.place k.is_read in
+    let w : told (telling_view field.telling) o.rows us ≡ told (shown_from k.f l src).telling k.f.meta.rows (chunks_triplets bytes k.f.place (reading l src) cs) =
+    ap (λ (y : ShownTelling). told y o.rows us) k.telling ∙ ap₂ (told (shown_from k.f l src).telling) k.all_rows v in
+    (leaf_cause_by bytes k.f l true k.is k.opens c.0, k.f, k.is, c.1 ∙ ap (λ xs. Some xs) (sym (t ∙ w)))
 
 -- where one isn't, it has none
-pub column_bad : (bytes : List ℕ) (o : Opened) (leaf : OpenedLeaf) (l : Leaf) → Kept bytes o leaf l → list_all (is_good_chunk bytes o.footer l) (chunks_of leaf) ≡ false → leaf_cause bytes l ≡ Some bad_data
-column_bad bytes o leaf l k h =
-    let g : list_all (is_good_chunk bytes k.f.place l) (chunks_of leaf) ≡ false = sym (ap (λ p. list_all (is_good_chunk bytes p l) (chunks_of leaf)) k.place) ∙ h in
-    leaf_cause_by bytes k.f l false k.is k.opens (column_passes bytes k.f l (chunks_of leaf) k.rows k.chunks ∙ g)
+pub column_bad : (bytes : List ℕ) (o : Opened) (field : OpenedField) (l : Leaf) (k : Kept bytes o field l) → list_all (is_good_chunk bytes o.footer k.read) (shown_chunks_of field.read) ≡ false → leaf_cause bytes l ≡ Some bad_data
+column_bad bytes o field l k h =
+    let src = leaf_source k.f l in
+    let cs = shown_chunks_of field.read in
+    let g : list_all (is_good_chunk bytes k.f.place (reading l src)) cs ≡ false = sym (ap₂ (λ p x. list_all (is_good_chunk bytes p x) cs) k.place k.is_read) ∙ h in
+    leaf_cause_by bytes k.f l false k.is k.opens (gives bytes k.f l src cs (sourced bytes o field l k) false g)
+
+-- where the column is read itself, it is the leaf's own
+own_form : (f : Footer) (l : Leaf) (o : Option Source) → (shown_from f l o).telling ≡ itself → reading l o ≡ l
+own_form f l None h = absurd (cc)
+own_form f l (Some own_chunks) h = refl
+own_form f l (Some no_chunks) h = absurd (cc)
+own_form f l (Some (chunks_of x)) h = absurd (cc)
+
+read_is_own : (bytes : List ℕ) (o : Opened) (field : OpenedField) (l : Leaf) (k : Kept bytes o field l) → telling_view field.telling ≡ itself → k.read ≡ l
+read_is_own bytes o field l k h = k.is_read ∙ own_form k.f l (leaf_source k.f l) (sym k.telling ∙ h)
+
+-- the column that is told has the leaf's form
+pub form_told : (bytes : List ℕ) (o : Opened) (field : OpenedField) (l : Leaf) (a b : LeafForm) (k : Kept bytes o field l)
+    → a ≡ form k.read.kind (max_definition k.read.path) → (a ≡ form (kind_view field.kind) field.greatest → b ≡ form (kind_view field.kind) field.greatest)
+    → ((telling_view field.telling ≡ itself → ⊥) → b ≡ form (kind_view field.kind) field.greatest) → b ≡ form l.kind (max_definition l.path)
+form_told bytes o field l a b k h own other = by (telling_view field.telling) refl ∙ kept_form
+  where
+    kept_form : form (kind_view field.kind) field.greatest ≡ form l.kind (max_definition l.path)
+    kept_form = ap₂ form k.kind k.greatest
+
+    by : (t : ShownTelling) → telling_view field.telling ≡ t → b ≡ form (kind_view field.kind) field.greatest
+    by itself e = own (h ∙ (ap (λ (m : Leaf). form m.kind (max_definition m.path)) (read_is_own bytes o field l k e) ∙ sym kept_form))
+    by nulls e = other (λ q. let z : nulls ≡ itself = sym e ∙ q in cc)
+    by (outlined r d) e = other (λ q. let z : outlined r d ≡ itself = sym e ∙ q in cc)
+
+-- it has not too many triplets
+pub few_told : (t : ShownTelling) (rows : ℕ) (ts : List Triplet) → rows ≤ most_rows → length ts ≤ most_triplets → length (told t rows ts) ≤ most_triplets
+few_told itself rows ts r h = h
+few_told nulls rows ts r h = omega (arith, length-replicate rows (triplet 0 0 None))
+few_told (outlined r d) rows ts n h = omega (arith, outline_shorter r d ts)
 
 some_footer : (f g : Footer) → Some f ≡ Some g → f ≡ g
 some_footer f g e = cc
 
--- the chunks' ranges are the leaf's
-ranges_kept : (bytes : List ℕ) (o : Opened) (leaf : OpenedLeaf) (l : Leaf) (f : Footer) → Kept bytes o leaf l → footer_of bytes ≡ Some f → flat_map (shown_range o.footer) (chunks_of leaf) ≡ leaf_ranges f l
-ranges_kept bytes o leaf l f k e =
-    ap (λ p. flat_map (shown_range p) (chunks_of leaf)) k.place ∙ (ranges_shown k.f l k.f.meta.groups (chunks_of leaf) k.chunks ∙ ap (λ x. leaf_ranges x l) (some_footer k.f f (sym k.is ∙ e)))
+-- the chunks' ranges are those of the leaves that are read
+ranges_of_source : (f : Footer) (l : Leaf) (o : Option Source) (cs : List ShownChunk) → ChunksShown f l o cs → flat_map (shown_range f.place) cs ≡ flat_map (leaf_ranges f) (leaf_read l o)
+ranges_of_source f l None cs h = ap (flat_map (shown_range f.place)) h
+ranges_of_source f l (Some own_chunks) cs h = ranges_shown f l f.meta.groups cs h ∙ sym (append-nil (leaf_ranges f l))
+ranges_of_source f l (Some no_chunks) cs h = ap (flat_map (shown_range f.place)) h
+ranges_of_source f l (Some (chunks_of x)) cs h = ranges_shown f x.leaf f.meta.groups cs h ∙ sym (append-nil (leaf_ranges f x.leaf))
 
--- only the leaf's own chunks were asked for
-pub asks_kept : (bytes : List ℕ) (o : Opened) (leaf : OpenedLeaf) (l : Leaf) (f : Footer) (path file : List ℕ) (before after : Option (List Request)) → Kept bytes o leaf l → footer_of bytes ≡ Some f → file ≡ path
-    → AsksOnly (is_read_inside file (flat_map (shown_range o.footer) (chunks_of leaf))) before after → AsksOnly (is_read_inside path (leaf_ranges f l)) before after
-asks_kept bytes o leaf l f path file before after k e q h =
-    let P : List ℕ → Type 0 = λ x. AsksOnly (is_read_inside x (flat_map (shown_range o.footer) (chunks_of leaf))) before after in
+ranges_kept : (bytes : List ℕ) (o : Opened) (field : OpenedField) (l : Leaf) (f : Footer) → Kept bytes o field l → footer_of bytes ≡ Some f
+    → flat_map (shown_range o.footer) (shown_chunks_of field.read) ≡ flat_map (leaf_ranges f) (leaves_read f (l ∷ []))
+ranges_kept bytes o field l f k e =
+    ap (λ p. flat_map (shown_range p) (shown_chunks_of field.read)) k.place
+    ∙ (ranges_of_source k.f l (leaf_source k.f l) (shown_chunks_of field.read) k.chunks
+    ∙ (ap (flat_map (leaf_ranges k.f)) (sym (append-nil (leaf_read l (leaf_source k.f l)))) ∙ ap (λ x. flat_map (leaf_ranges x) (leaves_read x (l ∷ []))) (some_footer k.f f (sym k.is ∙ e))))
+
+-- only these chunks were asked for
+pub asks_kept : (bytes : List ℕ) (o : Opened) (field : OpenedField) (l : Leaf) (f : Footer) (path file : List ℕ) (before after : Option (List Request)) → Kept bytes o field l → footer_of bytes ≡ Some f → file ≡ path
+    → AsksOnly (is_read_inside file (flat_map (shown_range o.footer) (shown_chunks_of field.read))) before after → AsksOnly (is_read_inside path (flat_map (leaf_ranges f) (leaves_read f (l ∷ [])))) before after
+asks_kept bytes o field l f path file before after k e q h =
+    let P : List ℕ → Type 0 = λ x. AsksOnly (is_read_inside x (flat_map (shown_range o.footer) (shown_chunks_of field.read))) before after in
     let Q : List Range → Type 0 = λ x. AsksOnly (is_read_inside path x) before after in
-    subst Q (ranges_kept bytes o leaf l f k e) (subst P q h)
+    subst Q (ranges_kept bytes o field l f k e) (subst P q h)
 
 -- ---- faults as they are told
 

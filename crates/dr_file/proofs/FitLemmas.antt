@@ -14,9 +14,9 @@ use Rattle.dr_formats.specs.Reading.{Reading, got, refused, Reader, give, goes_o
 use Rattle.dr_formats.specs.LittleEndian.{little_endian, unpacked, bytes_for}
 use Rattle.dr_formats.specs.Hybrid.{hybrid}
 use Rattle.dr_formats.specs.Plain.{PlainFault, too_short, bad_text, from_complement, repeatedly, plain_number, checked_text, plain_text, truth_of_bit, plain, plain_read, plain_values, nth_value, pick, dictionary_values}
-use Rattle.dr_formats.specs.Metadata.{DataPageHeader, DictionaryPageHeader, PageHeader}
-use Rattle.dr_formats.specs.Page.{PageShape, PageFault, bad_page, found, is_number, rle_encoding, plain_encoding, plain_dictionary_encoding, rle_dictionary_encoding, level_width, none_above, level_part, levels, encoded_values, values, count_equal, first_if, behind_if, join_triplets, page_body, triplets_read, page_triplets}
-use Rattle.dr_formats.specs.Chunk.{PageTaken, taken, page_header, shape_of_page, data_page, dictionary_page, page_taken, pages, pages_triplets}
+use Rattle.dr_formats.specs.Metadata.{DataPageHeader, DataPageHeaderV2, DictionaryPageHeader, PageHeader}
+use Rattle.dr_formats.specs.Page.{PageShape, PageFault, bad_page, found, is_number, rle_encoding, plain_encoding, plain_dictionary_encoding, rle_dictionary_encoding, LevelParts, sized_part, level_parts_by, level_width, none_above, levels, part_read, rle_values, encoded_values, values, count_equal, first_if, behind_if, join_triplets, page_body, triplets_read, page_triplets}
+use Rattle.dr_formats.specs.Chunk.{PageTaken, taken, page_header, shape_of_page, shape_of_page_v2, data_page, dictionary_page, page_taken, pages, pages_triplets}
 use Rattle.dr_page.proofs.CountLemmas.{values_count}
 
 -- ---- what is read has a property
@@ -61,15 +61,9 @@ none_above_at_most : (g : ℕ) (o : Option (List ℕ)) (ls : List ℕ) → optio
 none_above_at_most g None ls e = absurd (cc)
 none_above_at_most g (Some us) ls e = kept_at_most (list_all (λ l. nat_le l g) us) g us ls refl e
 
-part_at_most : (g n : ℕ) (bytes : List ℕ) → Holds (AtMost g) (level_part g n bytes)
-part_at_most g n bytes =
-    then_holds Any (AtMost g) (bytes_of bad_page 4 bytes) (λ b. bytes_of bad_page (little_endian b) >>= (λ part. found (option_and_then (none_above g) (hybrid (level_width g) n part)))) (any_holds (bytes_of bad_page 4 bytes))
-    (λ b rest u. then_holds Any (AtMost g) (bytes_of bad_page (little_endian b) rest) (λ part. found (option_and_then (none_above g) (hybrid (level_width g) n part))) (any_holds (bytes_of bad_page (little_endian b) rest))
-    (λ part more v. found_holds (AtMost g) (option_and_then (none_above g) (hybrid (level_width g) n part)) more (none_above_at_most g (hybrid (level_width g) n part))))
-
-levels_at_most : (g : ℕ) (z : ℤ) (n : ℕ) (bytes : List ℕ) → Holds (AtMost g) (levels g z n bytes)
-levels_at_most zero z n bytes = zeros_at_most n
-levels_at_most (suc g) z n bytes = if_holds (AtMost (suc g)) (is_number rle_encoding z) (level_part (suc g) n) bad_page bytes (part_at_most (suc g) n bytes)
+levels_at_most : (g n : ℕ) (part ls : List ℕ) → levels g n part ≡ Some ls → AtMost g ls
+levels_at_most zero n part ls e = let f : replicate n 0 ≡ ls = cc in sym (ap (list_all (λ l. nat_le l 0)) f) ∙ zeros_at_most n
+levels_at_most (suc g) n part ls e = none_above_at_most (suc g) (hybrid (level_width (suc g)) n part) ls e
 
 -- ---- values
 
@@ -158,15 +152,28 @@ dictionary_of_kind k d zero bs vs h e = let none : List Value = [] in let f : no
 dictionary_of_kind k d (suc n) [] vs h e = absurd (cc)
 dictionary_of_kind k d (suc n) (w ∷ bs) vs h e = narrow_of_kind k d (nat_le w 32) (hybrid w (suc n) bs) vs h e
 
-either_of_kind : (k : Kind) (a b : Bool) (p q : Option (List Value)) (vs : List Value) → (p ≡ Some vs → OfKind k vs) → (q ≡ Some vs → OfKind k vs) → (if a then p else (if b then q else None)) ≡ Some vs → OfKind k vs
-either_of_kind k true b p q vs h g e = h e
-either_of_kind k false true p q vs h g e = g e
-either_of_kind k false false p q vs h g e = absurd (cc)
+truths_read : (o : Option (List ℕ)) (vs : List Value) → option_map (map truth_of_bit) o ≡ Some vs → OfKind bool_kind vs
+truths_read None vs e = absurd (cc)
+truths_read (Some xs) vs e = let f : map truth_of_bit xs ≡ vs = cc in sym (ap (list_all (is_of_kind bool_kind)) f) ∙ truths_of_kind xs
+
+rle_of_kind : (k : Kind) (n : ℕ) (bs : List ℕ) (vs : List Value) → rle_values k n bs ≡ Some vs → OfKind k vs
+rle_of_kind bool_kind zero bs vs e = let none : List Value = [] in let f : none ≡ vs = cc in sym (ap (list_all (is_of_kind bool_kind)) f)
+rle_of_kind bool_kind (suc n) bs vs e = truths_read (option_and_then (levels 1 (suc n)) (part_read (sized_part bs))) vs e
+rle_of_kind int32_kind n bs vs e = absurd (cc)
+rle_of_kind int64_kind n bs vs e = absurd (cc)
+rle_of_kind text_kind n bs vs e = absurd (cc)
+
+any_of_kind : (k : Kind) (a b c : Bool) (p q r : Option (List Value)) (vs : List Value) → (p ≡ Some vs → OfKind k vs) → (q ≡ Some vs → OfKind k vs) → (r ≡ Some vs → OfKind k vs)
+    → (if a then p else (if b then q else (if c then r else None))) ≡ Some vs → OfKind k vs
+any_of_kind k true b c p q r vs h g f e = h e
+any_of_kind k false true c p q r vs h g f e = g e
+any_of_kind k false false true p q r vs h g f e = f e
+any_of_kind k false false false p q r vs h g f e = absurd (cc)
 
 encoded_of_kind : (z : ℤ) (k : Kind) (d : List Value) (n : ℕ) (bs : List ℕ) (vs : List Value) → OfKind k d → encoded_values z k d n bs ≡ Some vs → OfKind k vs
 encoded_of_kind z k d n bs vs h e =
-    either_of_kind k (is_number plain_encoding z) (is_number plain_dictionary_encoding z || is_number rle_dictionary_encoding z) (plain_values k n bs) (dictionary_values d n bs) vs
-    (plain_values_of_kind k n bs vs) (dictionary_of_kind k d n bs vs h) e
+    any_of_kind k (is_number plain_encoding z) (is_number plain_dictionary_encoding z || is_number rle_dictionary_encoding z) (is_number rle_encoding z) (plain_values k n bs) (dictionary_values d n bs) (rle_values k n bs) vs
+    (plain_values_of_kind k n bs vs) (dictionary_of_kind k d n bs vs h) (rle_of_kind k n bs vs) e
 
 -- ---- triplets
 
@@ -193,13 +200,18 @@ joined_fit k R D (r ∷ rs) (d ∷ ds) vs a b h e =
 body_fits : (s : PageShape) (d : List Value) (bytes : List ℕ) → OfKind s.kind d → Holds (Fit s.kind s.max_repetition s.max_definition) (page_body s d bytes)
 body_fits s d bytes h =
     let k = s.kind in let R = s.max_repetition in let D = s.max_definition in
-    then_holds (AtMost R) (Fit k R D) (levels R s.repetition_encoding s.triplets bytes)
-    (λ rs. levels D s.definition_encoding s.triplets >>= (λ ds. values s.encoding k d (count_equal D ds) >>= (λ vs. give (join_triplets D rs ds vs)))) (levels_at_most R s.repetition_encoding s.triplets bytes)
-    (λ rs rest a. then_holds (AtMost D) (Fit k R D) (levels D s.definition_encoding s.triplets rest) (λ ds. values s.encoding k d (count_equal D ds) >>= (λ vs. give (join_triplets D rs ds vs))) (levels_at_most D s.definition_encoding s.triplets rest)
+    then_holds Any (Fit k R D) (level_parts_by s.form s bytes)
+    (λ (p : LevelParts). found (levels R s.triplets p.repetitions) >>= (λ rs. found (levels D s.triplets p.definitions) >>= (λ ds. values s.encoding k d (count_equal D ds) >>= (λ vs. give (join_triplets D rs ds vs)))))
+    (any_holds (level_parts_by s.form s bytes))
+    (λ p left u. then_holds (AtMost R) (Fit k R D) (found (levels R s.triplets p.repetitions) left)
+    (λ rs. found (levels D s.triplets p.definitions) >>= (λ ds. values s.encoding k d (count_equal D ds) >>= (λ vs. give (join_triplets D rs ds vs))))
+    (found_holds (AtMost R) (levels R s.triplets p.repetitions) left (levels_at_most R s.triplets p.repetitions))
+    (λ rs rest a. then_holds (AtMost D) (Fit k R D) (found (levels D s.triplets p.definitions) rest) (λ ds. values s.encoding k d (count_equal D ds) >>= (λ vs. give (join_triplets D rs ds vs)))
+    (found_holds (AtMost D) (levels D s.triplets p.definitions) rest (levels_at_most D s.triplets p.definitions))
     (λ ds more b. then_holds (λ vs. (OfKind k vs) × (length vs ≡ count_equal D ds)) (Fit k R D) (values s.encoding k d (count_equal D ds) more) (λ vs. give (join_triplets D rs ds vs))
     (found_holds (λ vs. (OfKind k vs) × (length vs ≡ count_equal D ds)) (encoded_values s.encoding k d (count_equal D ds) more) []
     (λ vs e. (encoded_of_kind s.encoding k d (count_equal D ds) more vs h e, values_count s.encoding k d (count_equal D ds) more vs e)))
-    (λ vs last c. joined_fit k R D rs ds vs a b c.0 c.1)))
+    (λ vs last c. joined_fit k R D rs ds vs a b c.0 c.1))))
 
 read_fits : (k : Kind) (R D : ℕ) (r : Reading PageFault (List Triplet)) (ts : List Triplet) → Holds (Fit k R D) r → triplets_read r ≡ Some ts → Fit k R D ts
 read_fits k R D (got us rest) ts h e = let f : us ≡ ts = cc in sym (ap (list_all (fits_levels k R D)) f) ∙ h
@@ -215,12 +227,20 @@ page_fits s d bytes ts h e = read_fits s.kind s.max_repetition s.max_definition 
 abbrev Taken : Leaf → PageTaken → Type 0
 Taken l t = (Fit l.kind (max_repetition l.path) (max_definition l.path) t.triplets) × (OfKind l.kind t.dictionary)
 
-data_fits : (l : Leaf) (w : ℕ) (d : List Value) (body : List ℕ) (o : Option DataPageHeader) (bs : List ℕ) → OfKind l.kind d → Holds (Taken l) (data_page l w d body o bs)
+shape_fits : (l : Leaf) (w : ℕ) (d : List Value) (body : List ℕ) (s : PageShape) (bs : List ℕ) → OfKind l.kind d
+    → ((ts : List Triplet) → page_triplets s d body ≡ Some ts → Fit l.kind (max_repetition l.path) (max_definition l.path) ts) → Holds (Taken l) (data_page w d body (Some s) bs)
+shape_fits l w d body s bs h f =
+    if_holds (Taken l) (nat_le s.triplets w) (found (page_triplets s d body) >>= (λ ts. give (taken ts d))) bad_page bs
+    (then_holds (Fit l.kind (max_repetition l.path) (max_definition l.path)) (Taken l) (found (page_triplets s d body) bs) (λ ts. give (taken ts d))
+    (found_holds (Fit l.kind (max_repetition l.path) (max_definition l.path)) (page_triplets s d body) bs f) (λ ts rest g. (g, h)))
+
+data_fits : (l : Leaf) (w : ℕ) (d : List Value) (body : List ℕ) (o : Option DataPageHeader) (bs : List ℕ) → OfKind l.kind d → Holds (Taken l) (data_page w d body (option_map (shape_of_page l) o) bs)
 data_fits l w d body None bs h = tt
-data_fits l w d body (Some k) bs h =
-    if_holds (Taken l) (nat_le k.values w) (found (page_triplets (shape_of_page l k) d body) >>= (λ ts. give (taken ts d))) bad_page bs
-    (then_holds (Fit l.kind (max_repetition l.path) (max_definition l.path)) (Taken l) (found (page_triplets (shape_of_page l k) d body) bs) (λ ts. give (taken ts d))
-    (found_holds (Fit l.kind (max_repetition l.path) (max_definition l.path)) (page_triplets (shape_of_page l k) d body) bs (λ ts e. page_fits (shape_of_page l k) d body ts h e)) (λ ts rest f. (f, h)))
+data_fits l w d body (Some k) bs h = shape_fits l w d body (shape_of_page l k) bs h (λ ts e. page_fits (shape_of_page l k) d body ts h e)
+
+data_fits_v2 : (l : Leaf) (w : ℕ) (d : List Value) (body : List ℕ) (o : Option DataPageHeaderV2) (bs : List ℕ) → OfKind l.kind d → Holds (Taken l) (data_page w d body (option_map (shape_of_page_v2 l) o) bs)
+data_fits_v2 l w d body None bs h = tt
+data_fits_v2 l w d body (Some k) bs h = shape_fits l w d body (shape_of_page_v2 l k) bs h (λ ts e. page_fits (shape_of_page_v2 l k) d body ts h e)
 
 dictionary_fits : (l : Leaf) (first : Bool) (body : List ℕ) (o : Option DictionaryPageHeader) (bs : List ℕ) → Holds (Taken l) (dictionary_page l first body o bs)
 dictionary_fits l first body None bs = tt
@@ -229,16 +249,18 @@ dictionary_fits l first body (Some k) bs =
     (then_holds (OfKind l.kind) (Taken l) (found (plain_values l.kind k.values body) bs) (λ vs. give (taken [] vs))
     (found_holds (OfKind l.kind) (plain_values l.kind k.values body) bs (λ vs e. plain_values_of_kind l.kind k.values body vs e)) (λ vs rest f. (refl, f)))
 
-kinds_hold : (P : PageTaken → Type 0) (a b c : Bool) (p q r : Reader PageFault PageTaken) (bs : List ℕ) → Holds P (p bs) → Holds P (q bs) → Holds P (r bs) → Holds P ((if a then p else (if b then q else (if c then r else refused bad_page))) bs)
-kinds_hold P true b c p q r bs h g f = h
-kinds_hold P false true c p q r bs h g f = g
-kinds_hold P false false true p q r bs h g f = f
-kinds_hold P false false false p q r bs h g f = tt
+kinds_hold : (P : PageTaken → Type 0) (a b c v : Bool) (p q r s : Reader PageFault PageTaken) (bs : List ℕ) → Holds P (p bs) → Holds P (q bs) → Holds P (r bs) → Holds P (s bs)
+    → Holds P ((if a then p else (if b then q else (if c then r else (if v then s else refused bad_page)))) bs)
+kinds_hold P true b c v p q r s bs h g f e = h
+kinds_hold P false true c v p q r s bs h g f e = g
+kinds_hold P false false true v p q r s bs h g f e = f
+kinds_hold P false false false true p q r s bs h g f e = e
+kinds_hold P false false false false p q r s bs h g f e = tt
 
 taken_fits : (l : Leaf) (w : ℕ) (first : Bool) (d : List Value) (h : PageHeader) (body bs : List ℕ) → OfKind l.kind d → Holds (Taken l) (page_taken l w first d h body bs)
 taken_fits l w first d h body bs k =
-    kinds_hold (Taken l) (is_number 0 h.type) (is_number 1 h.type) (is_number 2 h.type) (data_page l w d body h.data_page) (give (taken [] d)) (dictionary_page l first body h.dictionary_page) bs
-    (data_fits l w d body h.data_page bs k) (refl, k) (dictionary_fits l first body h.dictionary_page bs)
+    kinds_hold (Taken l) (is_number 0 h.type) (is_number 1 h.type) (is_number 2 h.type) (is_number 3 h.type) (data_page w d body (option_map (shape_of_page l) h.data_page)) (give (taken [] d)) (dictionary_page l first body h.dictionary_page)
+    (data_page w d body (option_map (shape_of_page_v2 l) h.data_page_v2)) bs (data_fits l w d body h.data_page bs k) (refl, k) (dictionary_fits l first body h.dictionary_page bs) (data_fits_v2 l w d body h.data_page_v2 bs k)
 
 pages_read_fit : (l : Leaf) (k n : ℕ) (first : Bool) (d : List Value) (bs : List ℕ) → OfKind l.kind d → Holds (Fit l.kind (max_repetition l.path) (max_definition l.path)) (pages l k n first d bs)
 pages_read_fit l k zero first d bs h = none k

@@ -12,6 +12,8 @@ pub mod FrameLemmas
 mod FitLemmas
 -- which levels may follow one another
 mod FloorLemmas
+-- columns of what is lacking
+mod OutlineLemmas
 -- columns of leaves, chunk by chunk
 mod ColumnLemmas
 mod ReaderLemmas

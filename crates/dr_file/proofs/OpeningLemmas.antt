@@ -1,19 +1,27 @@
 -- What a footer says of leaves, by their places.
-use Rattle.std.proofs.Common.{◌≡◌, ℕ, zero, suc, ◌<◌, List, [], ◌∷◌, map, length, Bool, true, false, refl, sym, ap, ap₂, ◌∙◌, arith}
+use Rattle.std.proofs.Common.{◌≡◌, ℕ, zero, suc, ◌<◌, List, [], ◌∷◌, ◌++◌, map, length, Bool, true, false, refl, sym, ap, ap₂, ◌∙◌, subst, arith}
 use Rattle.std.specs.Prelude.{Option, Some, None, option_map, option_and_then, is_some, ◌&&◌, nat_le, if◌then◌else◌, Result, Ok, Err, IfOk, OnOk, IfErr}
-use Rattle.std.specs.List.{list_all}
+use Rattle.std.specs.List.{list_all, flat_map}
 use Rattle.std.proofs.lemmas.Bool.{and_parts, eqb-true}
+use Rattle.std.proofs.lemmas.List.{map-append}
 use Rattle.dr_meaning.specs.Path.{Leaf}
 use Rattle.dr_formats.specs.Metadata.{ColumnChunk, RowGroup, FileMeta}
 use Rattle.dr_formats.specs.FileSchema.{FileSchema, file_schema, FileLeaf, file_leaves, is_leaf_for, place_of}
-use Rattle.dr_formats.specs.File.{Footer, with_schema, is_whole_group, has_no_path, is_found, leaf_place, has_leaves, nth_chunk, is_uncompressed, are_uncompressed}
+use Rattle.dr_formats.specs.Lacking.{Source, no_chunks, chunks_of, source_in, has_source, leaf_read}
+use Rattle.dr_formats.specs.File.{Footer, with_schema, is_whole_group, has_no_path, leaf_place, leaves_read, has_leaves, nth_chunk, is_uncompressed, are_uncompressed}
 use Rattle.dr_formats.specs.File.{total, most_triplets, chunk_values, rows_agree, bad_schema, schema_or_cause}
 use Rattle.dr_formats.specs.Opening.{has_numbers}
 use Rattle.dr_meta.specs.OneTree.{count_leaves}
-use Rattle.dr_open.specs.Places.{place_in_file}
+use Rattle.dr_nested.specs.PathView.{path_view}
+use Rattle.dr_open.specs.Sources.{source_in_file}
+use Rattle.dr_open.specs.SourceViews.{stand_in_view, source_view, IsPlaced}
+use Rattle.dr_open.specs.declared.column_source.LeafSource.{LeafSource}
+use Rattle.dr_open.proofs.StandsLemmas.{LacksPart, Stands, source_tells, group_below}
 use Rattle.dr_file.specs.declared.fault.OpenFault.{OpenFault}
+use Rattle.dr_file.specs.Fields.{itself, outlined}
 use Rattle.dr_file.specs.Groups.{chunk_of, are_uncompressed_at, are_numbers_at}
-use Rattle.dr_file.specs.Openings.{ShownLeaf, shown_chunk, shown_at, shown_at_each, shown_leaf, footer_with, footer_cause, IsOpenedAs, IsOpenFault, IsNoFooter, IsPlacesFault}
+use Rattle.dr_file.specs.Openings.{ShownLeaf, shown_chunk, shown_at, shown_leaf, ShownField, told_by, shown_by, shown_by_each, shown_from, shown_field, footer_with, footer_cause, IsOpenedAs, IsOpenFault, IsNoFooter, IsPlacesFault}
+use Rattle.dr_file.specs.Sources.{AreSources, place_read, places_read, IsBelow, AreBelow}
 use Rattle.dr_file.specs.Schemas.{cause_in}
 
 -- ---- the footer
@@ -51,15 +59,6 @@ no_schema OpenFault.BadData o h = absurd h
 
 -- ---- leaves by their places
 
--- each leaf has a place
-pub all_found : (place : Leaf → Option ℕ) (F : List Leaf) (is : List ℕ) → map place F ≡ map (λ i. Some i) is → list_all (λ l. is_found (place l)) F ≡ true
-all_found place [] is h = refl
-all_found place (l ∷ F) [] h = cc
-all_found place (l ∷ F) (i ∷ is) h =
-    let e : place l ≡ Some i = cc in
-    let t : map place F ≡ map (λ j. Some j) is = cc in
-    ap₂ (λ x y. x && y) (ap is_found e) (all_found place F is t)
-
 -- a test of leaves by their places is one of the places
 pub along_places : (place : Leaf → Option ℕ) (q : Option ℕ → Bool) (F : List Leaf) (is : List ℕ) → map place F ≡ map (λ i. Some i) is → list_all (λ l. q (place l)) F ≡ list_all (λ i. q (Some i)) is
 along_places place q [] [] h = refl
@@ -73,20 +72,73 @@ along_places place q (l ∷ F) (i ∷ is) h =
 codecs_at : (f : Footer) (F : List Leaf) (is : List ℕ) → map (leaf_place f) F ≡ map (λ i. Some i) is → are_uncompressed f F ≡ are_uncompressed_at f.meta.groups is
 codecs_at f F is t = along_places (leaf_place f) (λ o. list_all (λ (g : RowGroup). is_uncompressed (option_and_then (λ j. option_map (λ (c : ColumnChunk). c.meta) (nth_chunk g.columns j)) o)) f.meta.groups) F is t
 
-numbers_at : (f : Footer) (F : List Leaf) (is : List ℕ) → map (leaf_place f) F ≡ map (λ i. Some i) is → has_numbers F f ≡ are_numbers_at f.meta.groups f.meta.rows is
+numbers_at : (f : Footer) (F : List Leaf) (is : List ℕ) → map (leaf_place f) (leaves_read f F) ≡ map (λ i. Some i) is → has_numbers F f ≡ are_numbers_at f.meta.groups f.meta.rows is
 numbers_at f F is t = ap (λ b. rows_agree f && b)
-    (along_places (leaf_place f) (λ o. nat_le (total (λ (g : RowGroup). chunk_values (option_and_then (λ j. option_map (λ (c : ColumnChunk). c.meta) (nth_chunk g.columns j)) o)) f.meta.groups) most_triplets) F is t)
+    (along_places (leaf_place f) (λ o. nat_le (total (λ (g : RowGroup). chunk_values (option_and_then (λ j. option_map (λ (c : ColumnChunk). c.meta) (nth_chunk g.columns j)) o)) f.meta.groups) most_triplets) (leaves_read f F) is t)
 
--- the leaves are shown by their places
-pub shown_by_places : (f : Footer) (F : List Leaf) (is : List ℕ) → map (leaf_place f) F ≡ map (λ i. Some i) is → map (shown_leaf f) F ≡ shown_at_each f.meta.groups F is
-shown_by_places f [] is h = refl
-shown_by_places f (l ∷ F) [] h = cc
-shown_by_places f (l ∷ F) (i ∷ is) h =
-    let e : leaf_place f l ≡ Some i = cc in
-    let t : map (leaf_place f) F ≡ map (λ j. Some j) is = cc in
-    let s : shown_leaf f l ≡ shown_at f.meta.groups l i =
-    ap (λ (o : Option ℕ). record { path = l.path; kind = l.kind; chunks = map (λ (g : RowGroup). option_map (shown_chunk g.rows) (option_and_then (λ j. option_map (λ (c : ColumnChunk). c.meta) (nth_chunk g.columns j)) o)) f.meta.groups }) e in
-    ap₂ (λ x xs. x ∷ xs) s (shown_by_places f F is t)
+-- a leaf is shown by its place
+shown_place : (f : Footer) (l : Leaf) (i : ℕ) → leaf_place f l ≡ Some i → shown_leaf f l ≡ shown_at f.meta.groups l i
+shown_place f l i e =
+    ap (λ (o : Option ℕ). record { path = l.path; kind = l.kind; chunks = map (λ (g : RowGroup). option_map (shown_chunk g.rows) (option_and_then (λ j. option_map (λ (c : ColumnChunk). c.meta) (nth_chunk g.columns j)) o)) f.meta.groups }) e
+
+-- ---- leaves by their sources
+
+-- each leaf has a source
+all_sourced : (s : FileSchema) (F : List Leaf) (ss : List LeafSource) → AreSources (Some s) F ss → list_all (λ l. has_source (source_in s l)) F ≡ true
+all_sourced s [] ss h = refl
+all_sourced s (l ∷ F) [] h = absurd h
+all_sourced s (l ∷ F) (x ∷ ss) h = ap₂ (λ y z. y && z) (ap has_source h.0) (all_sourced s F ss h.2)
+
+pub as_many_sources : (o : Option FileSchema) (F : List Leaf) (ss : List LeafSource) → AreSources o F ss → length F ≡ length ss
+as_many_sources o [] [] h = refl
+as_many_sources o [] (x ∷ ss) h = absurd h
+as_many_sources o (l ∷ F) [] h = absurd h
+as_many_sources o (l ∷ F) (x ∷ ss) h = ap (λ (n : ℕ). suc n) (as_many_sources o F ss h.2)
+
+-- the leaf that is read for one has the place that the source tells
+one_read : (s : FileSchema) (l : Leaf) (x : LeafSource) → IsPlaced l (Some s) x → map (λ k. place_of k (file_leaves s.fields)) (leaf_read l (Some (source_view x))) ≡ map (λ i. Some i) (place_read x)
+one_read s l (LeafSource.Own i) h = ap (λ (o : Option ℕ). o ∷ []) h
+one_read s l LeafSource.Nowhere h = refl
+one_read s l (LeafSource.Other x) h = ap (λ (o : Option ℕ). o ∷ []) h
+
+pub read_places : (s : FileSchema) (F : List Leaf) (ss : List LeafSource) → AreSources (Some s) F ss
+    → map (λ k. place_of k (file_leaves s.fields)) (flat_map (λ l. leaf_read l (source_in s l)) F) ≡ map (λ i. Some i) (places_read ss)
+read_places s [] [] h = refl
+read_places s [] (x ∷ ss) h = absurd h
+read_places s (l ∷ F) [] h = absurd h
+read_places s (l ∷ F) (x ∷ ss) h =
+    let place : Leaf → Option ℕ = λ k. place_of k (file_leaves s.fields) in
+    map-append place (leaf_read l (source_in s l)) (flat_map (λ k. leaf_read k (source_in s k)) F)
+    ∙ (ap₂ (λ (y z : List (Option ℕ)). y ++ z) (ap (λ (o : Option Source). map place (leaf_read l o)) h.0 ∙ one_read s l x h.1) (read_places s F ss h.2)
+    ∙ sym (map-append (λ i. Some i) (place_read x) (places_read ss)))
+
+-- what a NULL tells is below the leaf
+one_below : (s : FileSchema) (l : Leaf) (x : LeafSource) → source_in s l ≡ Some (source_view x) → IsBelow l x
+one_below s l (LeafSource.Own i) h = tt
+one_below s l LeafSource.Nowhere h = let t : LacksPart l.path 0 = source_tells s l no_chunks h in group_below l.path 0 t
+one_below s l (LeafSource.Other x) h =
+    let t : Stands l (stand_in_view x) = source_tells s l (chunks_of (stand_in_view x)) h in
+    omega (arith, t.definition, group_below l.path t.parts t.lacks)
+
+pub all_below : (s : FileSchema) (F : List Leaf) (ss : List LeafSource) → AreSources (Some s) F ss → AreBelow F ss
+all_below s [] ss h = tt
+all_below s (l ∷ F) [] h = absurd h
+all_below s (l ∷ F) (x ∷ ss) h = (one_below s l x h.0, all_below s F ss h.2)
+
+-- the leaves are shown by their sources
+one_shown : (f : Footer) (l : Leaf) (x : LeafSource) → IsPlaced l (Some f.schema) x → shown_from f l (Some (source_view x)) ≡ shown_by f.meta.groups l x
+one_shown f l (LeafSource.Own i) h = ap (λ (o : ShownLeaf). told_by l o itself) (shown_place f l i h)
+one_shown f l LeafSource.Nowhere h = refl
+one_shown f l (LeafSource.Other x) h = ap (λ (o : ShownLeaf). told_by l o (outlined x.repetition x.definition)) (shown_place f (path_view x.leaf) x.place h)
+
+pub shown_by_sources : (f : Footer) (F : List Leaf) (ss : List LeafSource) → AreSources (Some f.schema) F ss → map (shown_field f) F ≡ shown_by_each f.meta.groups F ss
+shown_by_sources f [] ss h = refl
+shown_by_sources f (l ∷ F) [] h = absurd h
+shown_by_sources f (l ∷ F) (x ∷ ss) h = ap₂ (λ (y : ShownField) (ys : List ShownField). y ∷ ys) (ap (shown_from f l) h.0 ∙ one_shown f l x h.1) (shown_by_sources f F ss h.2)
+
+-- the sources were looked for in the tree that is there
+pub sources_there : (o : Option FileSchema) (s : FileSchema) (F : List Leaf) (ss : List LeafSource) → o ≡ Some s → AreSources o F ss → AreSources (Some s) F ss
+sources_there o s F ss e h = subst (λ (p : Option FileSchema). AreSources p F ss) e h
 
 -- ---- each place has a chunk
 
@@ -126,49 +178,47 @@ chunks_there gs ls n (l ∷ F) (i ∷ is) e w h =
     let v : i < length ls = place_within l ls i p in
     ap₂ (λ x y. x && y) (chunk_there gs n i (omega arith) w) (chunks_there gs ls n F is e w t)
 
--- the places were looked for in the tree that is there
-pub places_there : (o : Option FileSchema) (s : FileSchema) (F : List Leaf) (is : List ℕ) → o ≡ Some s → map (λ l. place_in_file l o) F ≡ map (λ i. Some i) is
-    → map (λ l. place_of l (file_leaves s.fields)) F ≡ map (λ i. Some i) is
-places_there o s F is e h = sym (ap (λ p. map (λ l. place_in_file l p) F) e) ∙ h
-
 -- ---- causes
 
--- a leaf has no place
+-- a leaf has no source
 pub schema_cause : (place : ℕ) (m : FileMeta) (s : FileSchema) (n : ℕ) (F : List Leaf) → file_schema m.schema ≡ Some s → n ≡ length (file_leaves s.fields) → list_all (is_whole_group n) m.groups ≡ true
-    → list_all (λ l. is_found (place_in_file l (file_schema m.schema))) F ≡ false → footer_cause F (footer_with place m) ≡ Some bad_schema
+    → list_all (λ l. has_source (source_in_file l (file_schema m.schema))) F ≡ false → footer_cause F (footer_with place m) ≡ Some bad_schema
 schema_cause place m s n F e l w h =
-    let u : has_leaves (the_footer place m s) F ≡ false = sym (ap (λ o. list_all (λ k. is_found (place_in_file k o)) F) e) ∙ h in
+    let u : has_leaves (the_footer place m s) F ≡ false = sym (ap (λ o. list_all (λ k. has_source (source_in_file k o)) F) e) ∙ h in
     ap (footer_cause F) (footer_there place m s n e l w) ∙ rw u refl
 
--- the footer shows no cause, by the places of the leaves
-pub opened_by_places : (place : ℕ) (m : FileMeta) (s : FileSchema) (n : ℕ) (F : List Leaf) (is : List ℕ) (ls : List ShownLeaf) → file_schema m.schema ≡ Some s → n ≡ length (file_leaves s.fields)
-    → list_all (is_whole_group n) m.groups ≡ true → map (λ k. place_in_file k (file_schema m.schema)) F ≡ map (λ i. Some i) is
-    → are_uncompressed_at m.groups is ≡ true → are_numbers_at m.groups m.rows is ≡ true → ls ≡ shown_at_each m.groups F is → IsOpenedAs (footer_with place m) F m.rows ls
-opened_by_places place m s n F is ls e l w h u v d =
+-- the footer shows no cause, by the sources of the leaves
+pub opened_by_sources : (place : ℕ) (m : FileMeta) (s : FileSchema) (n : ℕ) (F : List Leaf) (ss : List LeafSource) (fs : List ShownField) → file_schema m.schema ≡ Some s → n ≡ length (file_leaves s.fields)
+    → list_all (is_whole_group n) m.groups ≡ true → AreSources (file_schema m.schema) F ss
+    → are_uncompressed_at m.groups (places_read ss) ≡ true → are_numbers_at m.groups m.rows (places_read ss) ≡ true → fs ≡ shown_by_each m.groups F ss → IsOpenedAs (footer_with place m) F m.rows fs
+opened_by_sources place m s n F ss fs e l w h u v d =
     let f = the_footer place m s in
-    let t : map (leaf_place f) F ≡ map (λ i. Some i) is = places_there (file_schema m.schema) s F is e h in
-    (f, footer_there place m s n e l w, all_found (leaf_place f) F is t, codecs_at f F is t ∙ u, numbers_at f F is t ∙ v, refl, shown_by_places f F is t ∙ sym d)
+    let a : AreSources (Some s) F ss = sources_there (file_schema m.schema) s F ss e h in
+    let t : map (leaf_place f) (leaves_read f F) ≡ map (λ i. Some i) (places_read ss) = read_places s F ss a in
+    (f, footer_there place m s n e l w, all_sourced s F ss a, codecs_at f (leaves_read f F) (places_read ss) t ∙ u, numbers_at f F (places_read ss) t ∙ v, refl, shown_by_sources f F ss a ∙ sym d)
 
--- the cause that the footer shows, by the places of the leaves
-pub fault_by_places : (fault : OpenFault) (place : ℕ) (m : FileMeta) (s : FileSchema) (n : ℕ) (F : List Leaf) (is : List ℕ) → file_schema m.schema ≡ Some s → n ≡ length (file_leaves s.fields)
-    → list_all (is_whole_group n) m.groups ≡ true → map (λ k. place_in_file k (file_schema m.schema)) F ≡ map (λ i. Some i) is
-    → IsPlacesFault fault (are_uncompressed_at m.groups is) (are_numbers_at m.groups m.rows is) → IsOpenFault fault (footer_cause F (footer_with place m))
-fault_by_places OpenFault.NoMemory place m s n F is e l w h p = tt
-fault_by_places OpenFault.Failed place m s n F is e l w h p = p
-fault_by_places OpenFault.BadFooter place m s n F is e l w h p = elim p [ ]
-fault_by_places OpenFault.BadSchema place m s n F is e l w h p = elim p [ ]
-fault_by_places OpenFault.BadCodec place m s n F is e l w h p =
+-- the cause that the footer shows, by the sources of the leaves
+pub fault_by_sources : (fault : OpenFault) (place : ℕ) (m : FileMeta) (s : FileSchema) (n : ℕ) (F : List Leaf) (ss : List LeafSource) → file_schema m.schema ≡ Some s → n ≡ length (file_leaves s.fields)
+    → list_all (is_whole_group n) m.groups ≡ true → AreSources (file_schema m.schema) F ss
+    → IsPlacesFault fault (are_uncompressed_at m.groups (places_read ss)) (are_numbers_at m.groups m.rows (places_read ss)) → IsOpenFault fault (footer_cause F (footer_with place m))
+fault_by_sources OpenFault.NoMemory place m s n F ss e l w h p = tt
+fault_by_sources OpenFault.Failed place m s n F ss e l w h p = p
+fault_by_sources OpenFault.BadFooter place m s n F ss e l w h p = elim p [ ]
+fault_by_sources OpenFault.BadSchema place m s n F ss e l w h p = elim p [ ]
+fault_by_sources OpenFault.BadCodec place m s n F ss e l w h p =
     let f = the_footer place m s in
-    let t : map (leaf_place f) F ≡ map (λ i. Some i) is = places_there (file_schema m.schema) s F is e h in
-    let a : has_leaves f F ≡ true = all_found (leaf_place f) F is t in
-    let u : are_uncompressed f F ≡ false = codecs_at f F is t ∙ p in
+    let b : AreSources (Some s) F ss = sources_there (file_schema m.schema) s F ss e h in
+    let t : map (leaf_place f) (leaves_read f F) ≡ map (λ i. Some i) (places_read ss) = read_places s F ss b in
+    let a : has_leaves f F ≡ true = all_sourced s F ss b in
+    let u : are_uncompressed f (leaves_read f F) ≡ false = codecs_at f (leaves_read f F) (places_read ss) t ∙ p in
     ap (footer_cause F) (footer_there place m s n e l w) ∙ rw a (rw u refl)
-fault_by_places OpenFault.BadData place m s n F is e l w h p =
+fault_by_sources OpenFault.BadData place m s n F ss e l w h p =
     let f = the_footer place m s in
-    let t : map (leaf_place f) F ≡ map (λ i. Some i) is = places_there (file_schema m.schema) s F is e h in
-    let a : has_leaves f F ≡ true = all_found (leaf_place f) F is t in
-    let u : are_uncompressed f F ≡ true = codecs_at f F is t ∙ p.0 in
-    let v : has_numbers F f ≡ false = numbers_at f F is t ∙ p.1 in
+    let b : AreSources (Some s) F ss = sources_there (file_schema m.schema) s F ss e h in
+    let t : map (leaf_place f) (leaves_read f F) ≡ map (λ i. Some i) (places_read ss) = read_places s F ss b in
+    let a : has_leaves f F ≡ true = all_sourced s F ss b in
+    let u : are_uncompressed f (leaves_read f F) ≡ true = codecs_at f (leaves_read f F) (places_read ss) t ∙ p.0 in
+    let v : has_numbers F f ≡ false = numbers_at f F (places_read ss) t ∙ p.1 in
     ap (footer_cause F) (footer_there place m s n e l w) ∙ rw a (rw u (rw v refl))
 
 -- ---- results

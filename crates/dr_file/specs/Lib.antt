@@ -6,6 +6,9 @@ pub mod Asking
 pub mod Frames
 -- row groups
 pub mod Groups
+-- the sources of leaves, and how their columns are told
+pub mod Sources
+pub mod Fields
 -- what of a footer is kept
 pub mod Openings
 -- opened files

@@ -2,12 +2,12 @@
 use Rattle.std.specs.Prelude.{◌≡◌, ℕ, List, map, length, Bool, true, false, Option, Some, None, Result, Ok, Err, string_bytes, ⊤}
 use Rattle.dr_meaning.specs.Path.{Leaf}
 use Rattle.dr_meaning.specs.Column.{Triplet}
-use Rattle.dr_formats.specs.File.{FileCause, bad_footer, bad_schema, bad_codec, bad_data, Footer, footer_of, footer_place, file_column}
+use Rattle.dr_formats.specs.File.{FileCause, bad_footer, bad_schema, bad_codec, bad_data, Footer, footer_of, footer_place, given_column}
 use Rattle.dr_formats.specs.Opening.{leaf_cause}
 use Rattle.dr_chunk.specs.declared.fault.ChunkFault.{ChunkFault}
 use Rattle.dr_outside.specs.Faults.{raised}
 use Rattle.dr_outside.specs.declared.cause.Cause.{Cause}
-use Rattle.dr_file.specs.Openings.{opened_leaf_view, IsOpenedAs}
+use Rattle.dr_file.specs.Openings.{opened_field_view, IsOpenedAs}
 use Rattle.dr_file.specs.declared.opened.Opened.{Opened}
 use Rattle.dr_file.specs.declared.fault.OpenFault.{OpenFault}
 use Rattle.dr_file.specs.declared.file_fault.FileFault.{FileFault}
@@ -24,7 +24,7 @@ path_of o = string_bytes o.path
 
 -- a file of these bytes was opened for these leaves: its footer is there and shows no cause, and what it says of them is kept
 abbrev pub IsOpened : List ℕ → List Leaf → Opened → Type 0
-IsOpened bytes F o = (o.footer ≡ footer_place bytes) × IsOpenedAs (footer_of bytes) F o.rows (map opened_leaf_view o.leaves.items)
+IsOpened bytes F o = (o.footer ≡ footer_place bytes) × IsOpenedAs (footer_of bytes) F o.rows (map opened_field_view o.leaves.items)
 
 -- a fault that bytes show is this cause of theirs; want of memory and a link's failure may come in place of anything
 abbrev pub IsCauseOf : FileFault → Option FileCause → Type 0
@@ -64,7 +64,7 @@ told_fault OpenFault.BadData before after = FileFault.Why Cause.BadData
 
 -- bytes have no cause for the leaf alone, and these are its triplets
 abbrev pub IsColumnOf : List ℕ → Leaf → List Triplet → Type 0
-IsColumnOf bytes l ts = (leaf_cause bytes l ≡ None) × (f : Footer) × (footer_of bytes ≡ Some f) × (file_column bytes f l ≡ Some ts)
+IsColumnOf bytes l ts = (leaf_cause bytes l ≡ None) × (f : Footer) × (footer_of bytes ≡ Some f) × (given_column bytes f l ≡ Some ts)
 
 -- the one cause that is left to a leaf of an opened file; want of memory and a link's failure may come in place of anything
 abbrev pub IsColumnFault : FileFault → Option FileCause → Type 0

@@ -1,17 +1,21 @@
 -- What of a footer an opened file keeps.
 use Rattle.std.specs.Prelude.{◌≡◌, ℕ, List, [], ◌∷◌, map, Bool, true, false, Option, Some, None, option_map, option_and_then, ⊤}
 use Rattle.dr_meaning.specs.Schema.{Kind}
-use Rattle.dr_meaning.specs.Path.{Step, Leaf}
+use Rattle.dr_meaning.specs.Path.{Step, Leaf, max_definition}
 use Rattle.dr_formats.specs.Metadata.{ColumnMeta, RowGroup, FileMeta}
 use Rattle.dr_formats.specs.FileSchema.{file_schema}
 use Rattle.dr_formats.specs.Chunk.{chunk_start}
-use Rattle.dr_formats.specs.File.{Footer, leaf_chunk, with_schema, has_leaves, are_uncompressed, FileCause, bad_footer, bad_schema, bad_codec, bad_data, cause_by}
+use Rattle.dr_formats.specs.Lacking.{Source, own_chunks, no_chunks, chunks_of}
+use Rattle.dr_formats.specs.File.{Footer, leaf_chunk, leaf_source, leaves_read, with_schema, has_leaves, are_uncompressed, FileCause, bad_footer, bad_schema, bad_codec, bad_data, cause_by}
 use Rattle.dr_formats.specs.Opening.{has_numbers}
 use Rattle.dr_nested.specs.Views.{kind_view}
-use Rattle.dr_nested.specs.PathView.{step_view}
+use Rattle.dr_nested.specs.PathView.{step_view, path_view}
+use Rattle.dr_open.specs.declared.column_source.LeafSource.{LeafSource}
+use Rattle.dr_file.specs.Fields.{ShownTelling, itself, nulls, outlined, telling_view}
 use Rattle.dr_file.specs.Groups.{chunk_of}
 use Rattle.dr_file.specs.declared.chunk_place.ChunkPlace.{ChunkPlace}
 use Rattle.dr_file.specs.declared.fault.OpenFault.{OpenFault}
+use Rattle.dr_file.specs.declared.opened_field.OpenedField.{OpenedField}
 use Rattle.dr_file.specs.declared.opened_leaf.OpenedLeaf.{OpenedLeaf}
 
 -- a chunk: the rows of its row group, where it lies, how many triplets it has
@@ -45,15 +49,50 @@ shown_chunks i gs = map (λ (g : RowGroup). option_map (shown_chunk g.rows) (chu
 abbrev pub shown_at : List RowGroup → Leaf → ℕ → ShownLeaf
 shown_at gs l i = record { path = l.path; kind = l.kind; chunks = shown_chunks i gs }
 
--- leaves whose chunks stand at these places
-abbrev pub shown_at_each : List RowGroup → List Leaf → List ℕ → List ShownLeaf
-shown_at_each gs [] is = []
-shown_at_each gs (l ∷ ls) [] = []
-shown_at_each gs (l ∷ ls) (i ∷ is) = shown_at gs l i ∷ shown_at_each gs ls is
-
 -- a leaf as a footer tells it
 abbrev pub shown_leaf : Footer → Leaf → ShownLeaf
 shown_leaf f l = record { path = l.path; kind = l.kind; chunks = map (λ (g : RowGroup). option_map (shown_chunk g.rows) (leaf_chunk f l g)) f.meta.groups }
+
+-- ---- the leaves that a file is opened for
+
+-- a leaf that a file is opened for: its kind and greatest definition level, the leaf that is read for it, and how its column is told by that one's
+pub record ShownField : Type 0 where
+  pub kind : Kind
+  pub greatest : ℕ
+  pub read : ShownLeaf
+  pub telling : ShownTelling
+
+abbrev pub opened_field_view : OpenedField → ShownField
+opened_field_view o = record { kind = kind_view o.kind; greatest = o.greatest; read = opened_leaf_view o.read; telling = telling_view o.telling }
+
+abbrev pub told_by : Leaf → ShownLeaf → ShownTelling → ShownField
+told_by l o t = record { kind = l.kind; greatest = max_definition l.path; read = o; telling = t }
+
+-- a leaf without chunks
+abbrev pub no_leaf : Kind → ShownLeaf
+no_leaf k = record { path = []; kind = k; chunks = [] }
+
+-- a leaf with this source, at the place that it tells
+abbrev pub shown_by : List RowGroup → Leaf → LeafSource → ShownField
+shown_by gs l (LeafSource.Own i) = told_by l (shown_at gs l i) itself
+shown_by gs l LeafSource.Nowhere = told_by l (no_leaf l.kind) nulls
+shown_by gs l (LeafSource.Other x) = told_by l (shown_at gs (path_view x.leaf) x.place) (outlined x.repetition x.definition)
+
+-- leaves with these sources
+abbrev pub shown_by_each : List RowGroup → List Leaf → List LeafSource → List ShownField
+shown_by_each gs [] ss = []
+shown_by_each gs (l ∷ ls) [] = []
+shown_by_each gs (l ∷ ls) (s ∷ ss) = shown_by gs l s ∷ shown_by_each gs ls ss
+
+-- a leaf with this source, as a footer tells it
+abbrev pub shown_from : Footer → Leaf → Option Source → ShownField
+shown_from f l None = told_by l (no_leaf l.kind) nulls
+shown_from f l (Some own_chunks) = told_by l (shown_leaf f l) itself
+shown_from f l (Some no_chunks) = told_by l (no_leaf l.kind) nulls
+shown_from f l (Some (chunks_of x)) = told_by l (shown_leaf f x.leaf) (outlined x.repetition x.definition)
+
+abbrev pub shown_field : Footer → Leaf → ShownField
+shown_field f l = shown_from f l (leaf_source f l)
 
 -- ---- footers from metadata
 
@@ -70,9 +109,9 @@ abbrev pub footer_cause : List Leaf → Option Footer → Option FileCause
 footer_cause F o = cause_by (has_numbers F) F o
 
 -- a footer is there and shows no cause, and these are its number of rows and its leaves
-abbrev pub IsOpenedAs : Option Footer → List Leaf → ℕ → List ShownLeaf → Type 0
-IsOpenedAs o F rows ls = (f : Footer) × (o ≡ Some f) × (has_leaves f F ≡ true) × (are_uncompressed f F ≡ true) × (has_numbers F f ≡ true)
-    × (f.meta.rows ≡ rows) × (map (shown_leaf f) F ≡ ls)
+abbrev pub IsOpenedAs : Option Footer → List Leaf → ℕ → List ShownField → Type 0
+IsOpenedAs o F rows fs = (f : Footer) × (o ≡ Some f) × (has_leaves f F ≡ true) × (are_uncompressed f (leaves_read f F) ≡ true) × (has_numbers F f ≡ true)
+    × (f.meta.rows ≡ rows) × (map (shown_field f) F ≡ fs)
 
 -- a fault of opening is the cause that the footer shows
 abbrev pub IsOpenFault : OpenFault → Option FileCause → Type 0

@@ -23,10 +23,10 @@ fn file_fault(fault: ChunkFault, before: u64, after: u64) -> FileFault
 }
 
 impl Opened {
-    ghost use Rattle.std.specs.Prelude.{◌≤◌, ◌<◌, ℕ, List, length, false, Some, IsTrue, IfOk, IfErr};
-    ghost use Rattle.std.specs.List.{slice_get};
+    ghost use Rattle.std.specs.Prelude.{◌≤◌, ◌<◌, ℕ, List, [], ◌∷◌, length, false, Some, IsTrue, IfOk, IfErr};
+    ghost use Rattle.std.specs.List.{slice_get, flat_map};
     ghost use Rattle.dr_meaning.specs.Path.{Leaf, max_definition};
-    ghost use Rattle.dr_formats.specs.File.{Footer, footer_of, most_triplets};
+    ghost use Rattle.dr_formats.specs.File.{Footer, footer_of, leaves_read, most_triplets};
     ghost use Rattle.dr_formats.specs.Opening.{leaf_cause, leaf_ranges};
     ghost use Rattle.dr_levels.specs.Views.{column_view, column_form, form};
     ghost use Rattle.dr_outside.specs.Telling.{Tells, Serves, AsksOnly};
@@ -35,10 +35,10 @@ impl Opened {
     ghost use Rattle.dr_file.specs.OpenedFiles.{IsOpened, IsColumnOf, IsColumnFault, HasCounts, is_read_fault, leaf_count, path_of};
 
     /// The column of the leaf at an index of those that the file was opened for. The link is asked for bytes of the
-    /// leaf's own chunks.
+    /// leaf's own chunks, or of those of the leaf that stands in for it.
     ///
-    /// Errors: the link failed, with its counts of faults before and after this call; `BadData` where the leaf's chunks
-    /// spell no column of any records; want of memory.
+    /// Errors: the link failed, with its counts of faults before and after this call; `BadData` where these chunks spell
+    /// no column of any records; want of memory.
     pub fn column<L: Link>(
         &self,
         alloc: Global,
@@ -57,8 +57,8 @@ impl Opened {
             ≡ Some l → IfOk result (λ c. column_form c ≡ form l.kind (max_definition l.path)) }
         ensures asked { (bytes : List ℕ) (F : List Leaf) (l : Leaf) (f : Footer) → IsOpened bytes F self.now
             → slice_get F index ≡ Some l → footer_of bytes ≡ Some f
-            → AsksOnly (is_read_inside (path_of self.now) (leaf_ranges f l)) (L.shows link.old).asked
-            (L.shows link.new).asked }
+            → AsksOnly (is_read_inside (path_of self.now) (flat_map (leaf_ranges f) (leaves_read f (l ∷ []))))
+            (L.shows link.old).asked (L.shows link.new).asked }
         ensures paths { AsksOnly (is_for_path (path_of self.now)) (L.shows link.old).asked (L.shows link.new).asked }
         ensures same { (L.shows link.new).held ≡ (L.shows link.old).held }
         ensures counts { IfErr result (HasCounts (L.shows link.old).faults (L.shows link.new).faults) }
@@ -68,8 +68,9 @@ impl Opened {
         ensures stays_steady { IsTrue (L.shows link.old).is_steady → IsTrue (L.shows link.new).is_steady }
     {
         let before = link.faults();
-        match read_leaf(alloc, link, &self.path, self.footer, &self.leaves[index]) {
-            Ok(column) => Ok(column),
+        let field = &self.leaves[index];
+        match read_leaf(alloc, link, &self.path, self.footer, &field.read) {
+            Ok(read) => Ok(field.tell(alloc, self.rows, read)?),
             Err(fault) => Err(file_fault(fault, before, link.faults())),
         }
     }

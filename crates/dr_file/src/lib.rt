@@ -12,11 +12,13 @@ mod groups;
 mod leaf_opening;
 mod leaf_reader;
 mod opened;
+mod opened_field;
 mod opened_leaf;
 mod opening;
 mod places;
 mod schema;
 mod start;
+mod telling;
 
 pub use file_fault::FileFault;
 pub use opened::Opened;

@@ -2,7 +2,7 @@
 
 ghost use Rattle.std.specs.Prelude.{◌≤◌};
 
-use crate::opened_leaf::OpenedLeaf;
+use crate::opened_field::OpenedField;
 
 /// A file that was opened for some leaves of a schema: what its footer says of them.
 #[derive(Debug, Drop)]
@@ -11,6 +11,6 @@ pub struct Opened {
     /// The byte offset of its footer.
     pub(crate) footer: u64,
     pub(crate) rows: u64,
-    pub(crate) leaves: Vec<OpenedLeaf>,
+    pub(crate) leaves: Vec<OpenedField>,
     pub ghost few: { rows ≤ 1000000000 },
 }

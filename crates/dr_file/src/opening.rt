@@ -9,17 +9,19 @@ ghost use Rattle.dr_compact.specs.Views.{tree_view};
 ghost use Rattle.dr_meta.specs.Views.{file_view, group_view};
 ghost use Rattle.dr_nested.specs.PathView.{path_view};
 ghost use Rattle.dr_file.specs.Groups.{chunk_of, are_uncompressed_at, are_numbers_at};
-ghost use Rattle.dr_file.specs.Openings.{opened_leaf_view, shown_at_each, IsPlacesFault, footer_with, footer_in, footer_cause, IsOpenedAs, IsOpenFault};
+ghost use Rattle.dr_file.specs.Sources.{places_read, AreBelow};
+ghost use Rattle.dr_file.specs.Openings.{opened_field_view, shown_by_each, IsPlacesFault, footer_with, footer_in, footer_cause, IsOpenedAs, IsOpenFault};
 
 use crate::fault::OpenFault;
 use crate::footer::FooterBytes;
 use crate::groups::{rows_agree, whole_leaves};
-use crate::leaf_opening::open_leaves;
-use crate::opened_leaf::OpenedLeaf;
-use crate::places::{all_triplets_fit, all_uncompressed, find_places};
+use crate::leaf_opening::open_fields;
+use crate::opened_field::OpenedField;
+use crate::places::{all_triplets_fit, all_uncompressed, find_sources, places_of};
 use dr_compact::{Tree, read_struct};
 use dr_meta::{FileMeta, GroupMeta, view_file};
 use dr_nested::Path;
+use dr_open::LeafSource;
 use std::alloc::Global;
 
 /// These leaves of a file of this metadata.
@@ -29,53 +31,56 @@ fn open_meta(
     alloc: Global,
     meta: &FileMeta<'_, '_>,
     fields: &[Path],
-) -> Result<Vec<OpenedLeaf>, OpenFault>
+) -> Result<Vec<OpenedField>, OpenFault>
     ensures opened { (place : ℕ) → IfOk result
         (λ v. IsOpenedAs (footer_with place (file_view meta.now)) (map path_view fields.now) (file_view meta.now).rows
-        (map opened_leaf_view v.items)) }
+        (map opened_field_view v.items)) }
     ensures fault { (place : ℕ) → IfErr result
         (λ e. IsOpenFault e (footer_cause (map path_view fields.now) (footer_with place (file_view meta.now)))) }
     ensures rows { OnOk result ((file_view meta.now).rows ≤ most_rows) }
     ensures count { IfOk result (λ v. length v.items ≡ length fields.now) }
 {
     whole_leaves(alloc, meta)?;
-    match find_places(alloc, &meta.schema, fields)? {
-        Some(places) => open_places(alloc, &meta.groups, meta.rows.get(), fields, &places),
+    match find_sources(alloc, &meta.schema, fields)? {
+        Some(sources) => open_sources(alloc, &meta.groups, meta.rows.get(), fields, &sources),
         None => Err(OpenFault::BadSchema),
     }
 }
 
-/// Leaves whose chunks stand at these places of the row groups of a file of so many rows.
+/// Leaves with these sources in a file of so many rows.
 ///
 /// Errors: a chunk is compressed; else the numbers of rows or of triplets disagree, or are too great; want of memory.
-fn open_places(
+fn open_sources(
     alloc: Global,
     groups: &[GroupMeta<'_, '_>],
     rows: u64,
     fields: &[Path],
-    places: &[usize],
-) -> Result<Vec<OpenedLeaf>, OpenFault>
-    requires as_many { length fields.now ≡ length places.now }
-    requires there { list_all (λ i. list_all (λ g. is_some (chunk_of i g)) (map group_view groups.now)) places.now
-        ≡ true }
-    ensures shown { IfOk result (λ v. map opened_leaf_view v.items
-        ≡ shown_at_each (map group_view groups.now) (map path_view fields.now) places.now) }
-    ensures good { OnOk result ((are_uncompressed_at (map group_view groups.now) places.now ≡ true)
-        × (are_numbers_at (map group_view groups.now) rows places.now ≡ true)) }
-    ensures fault { IfErr result (λ e. IsPlacesFault e (are_uncompressed_at (map group_view groups.now) places.now)
-        (are_numbers_at (map group_view groups.now) rows places.now)) }
+    sources: &[LeafSource],
+) -> Result<Vec<OpenedField>, OpenFault>
+    requires as_many { length fields.now ≡ length sources.now }
+    requires there { list_all (λ i. list_all (λ g. is_some (chunk_of i g)) (map group_view groups.now))
+        (places_read sources.now) ≡ true }
+    requires below { AreBelow (map path_view fields.now) sources.now }
+    ensures shown { IfOk result (λ v. map opened_field_view v.items
+        ≡ shown_by_each (map group_view groups.now) (map path_view fields.now) sources.now) }
+    ensures good { OnOk result ((are_uncompressed_at (map group_view groups.now) (places_read sources.now) ≡ true)
+        × (are_numbers_at (map group_view groups.now) rows (places_read sources.now) ≡ true)) }
+    ensures fault { IfErr result (λ e. IsPlacesFault e
+        (are_uncompressed_at (map group_view groups.now) (places_read sources.now))
+        (are_numbers_at (map group_view groups.now) rows (places_read sources.now))) }
     ensures count { IfOk result (λ v. length v.items ≡ length fields.now) }
 {
-    if !all_uncompressed(groups, places) {
+    let places = places_of(alloc, sources)?;
+    if !all_uncompressed(groups, &places) {
         return Err(OpenFault::BadCodec);
     }
     if !rows_agree(groups, rows) {
         return Err(OpenFault::BadData);
     }
-    if !all_triplets_fit(groups, places) {
+    if !all_triplets_fit(groups, &places) {
         return Err(OpenFault::BadData);
     }
-    Ok(open_leaves(alloc, groups, fields, places)?)
+    Ok(open_fields(alloc, groups, fields, sources)?)
 }
 
 /// How many rows a file has, and these leaves of it, by the struct of its metadata.
@@ -85,10 +90,10 @@ fn open_tree(
     alloc: Global,
     tree: &Tree<'_>,
     fields: &[Path],
-) -> Result<(u64, Vec<OpenedLeaf>), OpenFault>
+) -> Result<(u64, Vec<OpenedField>), OpenFault>
     ensures opened { (place : ℕ) → IfOk result
         (λ r. IsOpenedAs (footer_in place (meta_of (file_viewed (tree_view tree.now)))) (map path_view fields.now) r.0
-        (map opened_leaf_view (r.1).items)) }
+        (map opened_field_view (r.1).items)) }
     ensures fault { (place : ℕ) → IfErr result
         (λ e. IsOpenFault e (footer_cause (map path_view fields.now)
         (footer_in place (meta_of (file_viewed (tree_view tree.now)))))) }
@@ -107,10 +112,10 @@ pub(crate) fn open_footer(
     alloc: Global,
     footer: &FooterBytes,
     fields: &[Path],
-) -> Result<(u64, Vec<OpenedLeaf>), OpenFault>
+) -> Result<(u64, Vec<OpenedField>), OpenFault>
     ensures opened { IfOk result (λ r. IsOpenedAs
         (footer_in footer.now.place (meta_read (struct_read footer.now.bytes.items))) (map path_view fields.now) r.0
-        (map opened_leaf_view (r.1).items)) }
+        (map opened_field_view (r.1).items)) }
     ensures fault { IfErr result (λ e. IsOpenFault e
         (footer_cause (map path_view fields.now)
         (footer_in footer.now.place (meta_read (struct_read footer.now.bytes.items))))) }

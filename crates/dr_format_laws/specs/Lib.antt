@@ -1,2 +1,3 @@
 pub mod StructFaultLaws
 pub mod TableFaultLaws
+pub mod WideningLaws

@@ -4,3 +4,4 @@
 
 pub mod struct_fault_laws;
 pub mod table_fault_laws;
+pub mod widening_laws;

@@ -11,6 +11,8 @@ pub mod WorkedDamaged
 pub mod WorkedForeign
 pub mod WorkedWritten
 pub mod WorkedForms
+pub mod WorkedFormsV2
+pub mod WorkedLacking
 pub mod WorkedOpenLeaves
 pub mod WorkedTables
 pub mod WorkedOpening
@@ -32,6 +34,7 @@ pub mod PlainLemmas
 pub mod PageLemmas
 -- causes
 pub mod FileLemmas
+pub mod LackingLemmas
 pub mod OpeningLemmas
 -- the file that is written is a file of its records
 pub mod ChunkLemmas

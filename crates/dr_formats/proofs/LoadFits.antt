@@ -15,9 +15,9 @@ use Rattle.dr_formats.specs.LittleEndian.{little_endian_bytes, bytes_for, packed
 use Rattle.dr_formats.specs.Compact.{ThriftType, Struct, stop, struct_field, Item, truth_item, byte_item, i16_item, i32_item, i64_item, double_item, binary_item, list_item, set_item, empty_map_item, map_item, struct_item, Items, no_items, item, Pairs, no_pairs, pair, type_number, item_type, count_items, count_pairs, signed_bytes, list_header_bytes, header_by_delta, header_bytes, in_field, fields_bytes, item_bytes, items_bytes, pairs_bytes, struct_bytes}
 use Rattle.dr_formats.specs.Hybrid.{hybrid_bytes}
 use Rattle.dr_formats.specs.Plain.{complement, bit_of, plain_number_bytes, plain_text_bytes, joined, plain_bytes}
-use Rattle.dr_formats.specs.Page.{level_width, level_bytes, with_value, column_values, body_bytes}
+use Rattle.dr_formats.specs.Page.{PageForm, data_page_v1, data_page_v2, level_width, level_bytes, column_repetitions, column_definitions, with_value, column_values, body_bytes}
 use Rattle.dr_formats.specs.Metadata.{SchemaElement, items_of, element_tree, chunk_tree, group_tree, file_tree, page_tree}
-use Rattle.dr_formats.specs.Writing.{is_full, last_page, closed_page, open_page, cut_pages, header_of_page, page_bytes, pages_bytes, record_columns, written_chunk, triplet_count, chunk_at, chunks_from, repetition_number, leaf_element, group_element, elements, shape_elements, schema_elements, groups_of, written_chunks, written_meta, written_footer, framed, file_bytes}
+use Rattle.dr_formats.specs.Writing.{is_full, last_page, closed_page, open_page, cut_pages, header_of_page, page_bytes, pages_bytes, record_columns, written_chunk, triplet_count, chunk_at, chunks_from, repetition_number, leaf_element, group_element, elements, shape_elements, schema_elements, groups_of, written_chunks, written_meta, written_footer, framed, file_bytes, leaf_body, page_head_bytes}
 use Rattle.dr_formats.specs.File.{magic}
 use Rattle.dr_formats.specs.WritingLaws.{all_triplets, nth_leaf, FitHeaders, LeavesFit, is_limited, LimitedRecordsFit}
 use Rattle.dr_formats.proofs.LittleEndianLemmas.{length_little_endian}
@@ -177,27 +177,33 @@ values_texts (t ∷ ts) = omega (arith, with_value_text t.value (column_values t
 
 -- ---- pages
 
-level_short : (g : ℕ) (ls : List ℕ) → g ≤ 32 → length ls < 2 ^ 31 → length (level_bytes g ls) ≤ 11 + length ls
-level_short zero ls h l = omega arith
-level_short (suc g) ls h l = omega (arith, length-append (little_endian_bytes 4 (length (hybrid_bytes (level_width (suc g)) ls))) (hybrid_bytes (level_width (suc g)) ls), length_little_endian 4 (length (hybrid_bytes (level_width (suc g)) ls)), hybrid_short (level_width (suc g)) ls (width_small (suc g) h) l)
+level_short : (form : PageForm) (g : ℕ) (ls : List ℕ) → g ≤ 32 → length ls < 2 ^ 31 → length (level_bytes form g ls) ≤ 11 + length ls
+level_short data_page_v1 zero ls h l = omega arith
+level_short data_page_v1 (suc g) ls h l = omega (arith, length-append (little_endian_bytes 4 (length (hybrid_bytes (level_width (suc g)) ls))) (hybrid_bytes (level_width (suc g)) ls), length_little_endian 4 (length (hybrid_bytes (level_width (suc g)) ls)), hybrid_short (level_width (suc g)) ls (width_small (suc g) h) l)
+level_short data_page_v2 zero ls h l = omega arith
+level_short data_page_v2 (suc g) ls h l = omega (arith, hybrid_short (level_width (suc g)) ls (width_small (suc g) h) l)
 
 as_many : (f : Triplet → ℕ) (ts : List Triplet) → length (map f ts) ≡ length ts
 as_many f [] = refl
 as_many f (t ∷ ts) = ap suc (as_many f ts)
 
-body_short : (k : Kind) (r d : ℕ) (ts : List Triplet) → r ≤ 32 → d ≤ 32 → length ts < 2 ^ 31 → length (body_bytes k r d ts) ≤ 22 + 10 * length ts + texts_of ts
+body_short : (form : PageForm) (k : Kind) (r d : ℕ) (ts : List Triplet) → r ≤ 32 → d ≤ 32 → length ts < 2 ^ 31 → length (body_bytes form k r d ts) ≤ 22 + 10 * length ts + texts_of ts
 unfolding body_bytes
-body_short k r d ts hr hd l =
-    let rs : List ℕ = map (λ (t : Triplet). t.repetition) ts in
-    let ds : List ℕ = map (λ (t : Triplet). t.definition) ts in
+body_short form k r d ts hr hd l =
+    let rs : List ℕ = column_repetitions ts in
+    let ds : List ℕ = column_definitions ts in
     let er : length rs ≡ length ts = as_many (λ (t : Triplet). t.repetition) ts in
     let ed : length ds ≡ length ts = as_many (λ (t : Triplet). t.definition) ts in
-    omega (arith, length-append (level_bytes r rs) (level_bytes d ds ++ plain_bytes k (column_values ts)), length-append (level_bytes d ds) (plain_bytes k (column_values ts)), level_short r rs hr (omega (arith, er, l)), level_short d ds hd (omega (arith, ed, l)), er, ed, plain_short k (column_values ts), values_count ts, values_texts ts)
+    omega (arith, length-append (level_bytes form r rs) (level_bytes form d ds ++ plain_bytes k (column_values ts)), length-append (level_bytes form d ds) (plain_bytes k (column_values ts)), level_short form r rs hr (omega (arith, er, l)), level_short form d ds hd (omega (arith, ed, l)), er, ed, plain_short k (column_values ts), values_count ts, values_texts ts)
 
-page_short : (l : Leaf) (p : List Triplet) → max_repetition l.path ≤ 32 → max_definition l.path ≤ 32 → length p < 2 ^ 31 → length (page_bytes l p) ≤ 182 + 10 * length p + texts_of p
-page_short l p hr hd h =
-    let body : List ℕ = body_bytes l.kind (max_repetition l.path) (max_definition l.path) p in
-    omega (arith, length-append (struct_bytes (page_tree (header_of_page (length p) (length body)))) body, struct_short (page_tree (header_of_page (length p) (length body))), body_short l.kind (max_repetition l.path) (max_definition l.path) p hr hd h)
+page_head_short : (form : PageForm) (l : Leaf) (p : List Triplet) (size : ℕ) → length (struct_bytes (page_tree (header_of_page form (max_repetition l.path) (max_definition l.path) p size))) ≤ 214
+page_head_short data_page_v1 l p size = omega (arith, struct_short (page_tree (header_of_page data_page_v1 (max_repetition l.path) (max_definition l.path) p size)))
+page_head_short data_page_v2 l p size = omega (arith, struct_short (page_tree (header_of_page data_page_v2 (max_repetition l.path) (max_definition l.path) p size)))
+
+page_short : (form : PageForm) (l : Leaf) (p : List Triplet) → max_repetition l.path ≤ 32 → max_definition l.path ≤ 32 → length p < 2 ^ 31 → length (page_bytes form l p) ≤ 236 + 10 * length p + texts_of p
+page_short form l p hr hd h =
+    let body : List ℕ = leaf_body form l p in
+    omega (arith, length-append (page_head_bytes form l p) body, page_head_short form l p (length body), body_short form l.kind (max_repetition l.path) (max_definition l.path) p hr hd h)
 
 -- ---- the pages of columns
 
@@ -251,9 +257,9 @@ joined_texts : (ps : List (List Triplet)) → texts_of (all_triplets ps) ≡ all
 joined_texts [] = refl
 joined_texts (p ∷ ps) = omega (arith, texts_append p (all_triplets ps), joined_texts ps)
 
-pages_bytes_short : (l : Leaf) (ps : List (List Triplet)) → max_repetition l.path ≤ 32 → max_definition l.path ≤ 32 → ArePages 1052671 ps → length (pages_bytes l ps) ≤ 182 * length ps + 10 * triplet_count ps + all_texts ps
-pages_bytes_short l [] hr hd a = omega arith
-pages_bytes_short l (p ∷ ps) hr hd a = omega (arith, length-append (page_bytes l p) (pages_bytes l ps), page_short l p hr hd (omega (arith, a.0)), pages_bytes_short l ps hr hd a.1)
+pages_bytes_short : (form : PageForm) (l : Leaf) (ps : List (List Triplet)) → max_repetition l.path ≤ 32 → max_definition l.path ≤ 32 → ArePages 1052671 ps → length (pages_bytes form l ps) ≤ 236 * length ps + 10 * triplet_count ps + all_texts ps
+pages_bytes_short form l [] hr hd a = omega arith
+pages_bytes_short form l (p ∷ ps) hr hd a = omega (arith, length-append (page_bytes form l p) (pages_bytes form l ps), page_short form l p hr hd (omega (arith, a.0)), pages_bytes_short form l ps hr hd a.1)
 
 -- ---- the columns of records within the limits
 
@@ -286,9 +292,9 @@ pages_limit l R h k =
     let x : all_texts (cut_pages l.kind [] cs) ≡ all_texts cs = sym (joined_texts (cut_pages l.kind [] cs)) ∙ ap texts_of e ∙ joined_texts cs in
     (pages_short l.kind 1048576 [] cs (omega arith) c.0, omega (arith, n, c.1, k), omega (arith, x, c.2, k), omega (arith, page_count l.kind [] cs, c.3, k), omega (arith, c.1, k))
 
-headers_fit : (l : Leaf) (ps : List (List Triplet)) → max_repetition l.path ≤ 32 → max_definition l.path ≤ 32 → ArePages 1052671 ps → all_texts ps ≤ 1073741824000000 → FitHeaders l ps
-headers_fit l [] hr hd a x = tt
-headers_fit l (p ∷ ps) hr hd a x = (omega (arith, a.0), omega (arith, body_short l.kind (max_repetition l.path) (max_definition l.path) p hr hd (omega (arith, a.0)), a.0, x), headers_fit l ps hr hd a.1 (omega (arith, x)))
+headers_fit : (form : PageForm) (l : Leaf) (ps : List (List Triplet)) → max_repetition l.path ≤ 32 → max_definition l.path ≤ 32 → ArePages 1052671 ps → all_texts ps ≤ 1073741824000000 → FitHeaders form l ps
+headers_fit form l [] hr hd a x = tt
+headers_fit form l (p ∷ ps) hr hd a x = (omega (arith, a.0), omega (arith, body_short form l.kind (max_repetition l.path) (max_definition l.path) p hr hd (omega (arith, a.0)), a.0, x), headers_fit form l ps hr hd a.1 (omega (arith, x)))
 
 -- ---- leaves
 
@@ -303,20 +309,20 @@ each_of_nth : (P : Leaf → Type 0) (ls : List Leaf) → ((i : ℕ) (l : Leaf) �
 each_of_nth P [] h = tt
 each_of_nth P (l ∷ ls) h = (h 0 l refl, each_of_nth P ls (λ i m e. h (suc i) m e))
 
-leaves_fit : (R : List Node) (ls : List Leaf) → EachLeaf FewLevels ls → Limited R → length R ≤ 1000000 → LeavesFit R ls
-leaves_fit R [] f h k = tt
-leaves_fit R (l ∷ ls) f h k =
+leaves_fit : (form : PageForm) (R : List Node) (ls : List Leaf) → EachLeaf FewLevels ls → Limited R → length R ≤ 1000000 → LeavesFit form R ls
+leaves_fit form R [] f h k = tt
+leaves_fit form R (l ∷ ls) f h k =
     let p : PagesLimit l R = pages_limit l R h k in
-    (omega (arith, p.4), headers_fit l (cut_pages l.kind [] (record_columns l R)) f.0.0 f.0.1 p.0 p.2, leaves_fit R ls f.1 h k)
+    (omega (arith, p.4), headers_fit form l (cut_pages l.kind [] (record_columns l R)) f.0.0 f.0.1 p.0 p.2, leaves_fit form R ls f.1 h k)
 
-chunk_short : (l : Leaf) (R : List Node) → FewLevels l → Limited R → length R ≤ 1000000 → length (written_chunk l R) ≤ 1125899906842624
-chunk_short l R f h k =
+chunk_short : (form : PageForm) (l : Leaf) (R : List Node) → FewLevels l → Limited R → length R ≤ 1000000 → length (written_chunk form l R) ≤ 1125899906842624
+chunk_short form l R f h k =
     let p : PagesLimit l R = pages_limit l R h k in
-    omega (arith, pages_bytes_short l (cut_pages l.kind [] (record_columns l R)) f.0 f.1 p.0, p.1, p.2, p.3)
+    omega (arith, pages_bytes_short form l (cut_pages l.kind [] (record_columns l R)) f.0 f.1 p.0, p.1, p.2, p.3)
 
-chunks_short : (R : List Node) (ls : List Leaf) (place : ℕ) → EachLeaf FewLevels ls → Limited R → length R ≤ 1000000 → length (chunks_from R ls place).bytes ≤ 1125899906842624 * length ls
-chunks_short R [] place f h k = omega arith
-chunks_short R (l ∷ ls) place f h k = omega (arith, length-append (written_chunk l R) (chunks_from R ls (place + length (written_chunk l R))).bytes, chunk_short l R f.0 h k, chunks_short R ls (place + length (written_chunk l R)) f.1 h k)
+chunks_short : (form : PageForm) (R : List Node) (ls : List Leaf) (place : ℕ) → EachLeaf FewLevels ls → Limited R → length R ≤ 1000000 → length (chunks_from form R ls place).bytes ≤ 1125899906842624 * length ls
+chunks_short form R [] place f h k = omega arith
+chunks_short form R (l ∷ ls) place f h k = omega (arith, length-append (written_chunk form l R) (chunks_from form R ls (place + length (written_chunk form l R))).bytes, chunk_short form l R f.0 h k, chunks_short form R ls (place + length (written_chunk form l R)) f.1 h k)
 
 -- ---- the footer
 
@@ -387,34 +393,34 @@ mutual
 chunk_weight : (l : Leaf) (R : List Node) (place size : ℕ) → ShortNames l → length l.names ≤ 32 → weight (chunk_tree (chunk_at l R place size)) ≤ 3000
 chunk_weight l R place size h k = omega (arith, names_weight l.names h, k)
 
-chunks_weight : (R : List Node) (ls : List Leaf) (place : ℕ) → EachLeaf ShortNames ls → list_all (is_within 32) ls ≡ true → items_weight (items_of (λ c. struct_item (chunk_tree c)) (chunks_from R ls place).columns) ≤ 3000 * length ls
-chunks_weight R [] place h w = omega arith
-chunks_weight R (l ∷ ls) place h w =
+chunks_weight : (form : PageForm) (R : List Node) (ls : List Leaf) (place : ℕ) → EachLeaf ShortNames ls → list_all (is_within 32) ls ≡ true → items_weight (items_of (λ c. struct_item (chunk_tree c)) (chunks_from form R ls place).columns) ≤ 3000 * length ls
+chunks_weight form R [] place h w = omega arith
+chunks_weight form R (l ∷ ls) place h w =
     let g : (nat_le (length l.names) 32 ≡ true) × (list_all (is_within 32) ls ≡ true) = and_parts _ _ w in
-    omega (arith, chunk_weight l R place (length (written_chunk l R)) h.0 (leb-true (length l.names) 32 g.0), chunks_weight R ls (place + length (written_chunk l R)) h.1 g.1)
+    omega (arith, chunk_weight l R place (length (written_chunk form l R)) h.0 (leb-true (length l.names) 32 g.0), chunks_weight form R ls (place + length (written_chunk form l R)) h.1 g.1)
 
-groups_weight : (s : Schema) (R : List Node) → EachLeaf ShortNames (leaves s.fields) → list_all (is_within 32) (leaves s.fields) ≡ true → length (leaves s.fields) ≤ 1024 → items_weight (items_of (λ g. struct_item (group_tree g)) (groups_of s R)) ≤ 4000000
-groups_weight s [] h w k = omega arith
-groups_weight s (n ∷ R) h w k = omega (arith, chunks_weight (n ∷ R) (leaves s.fields) 4 h w, k)
+groups_weight : (form : PageForm) (s : Schema) (R : List Node) → EachLeaf ShortNames (leaves s.fields) → list_all (is_within 32) (leaves s.fields) ≡ true → length (leaves s.fields) ≤ 1024 → items_weight (items_of (λ g. struct_item (group_tree g)) (groups_of form s R)) ≤ 4000000
+groups_weight form s [] h w k = omega arith
+groups_weight form s (n ∷ R) h w k = omega (arith, chunks_weight form (n ∷ R) (leaves s.fields) 4 h w, k)
 
-meta_weight : (s : Schema) (R : List Node) → elements_weight (schema_elements s) ≤ 8000000 → items_weight (items_of (λ g. struct_item (group_tree g)) (groups_of s R)) ≤ 4000000 → weight (file_tree (written_meta s R)) ≤ 20000000
-meta_weight s R h g = omega (arith, h, g)
+meta_weight : (form : PageForm) (s : Schema) (R : List Node) → elements_weight (schema_elements s) ≤ 8000000 → items_weight (items_of (λ g. struct_item (group_tree g)) (groups_of form s R)) ≤ 4000000 → weight (file_tree (written_meta form s R)) ≤ 20000000
+meta_weight form s R h g = omega (arith, h, g)
 
-footer_short : (s : Schema) (R : List Node) → Limits s → length (written_footer s R) ≤ 20000000
-footer_short s R k =
+footer_short : (form : PageForm) (s : Schema) (R : List Node) → Limits s → length (written_footer form s R) ≤ 20000000
+footer_short form s R k =
     let n : length (leaves s.fields) ≤ 1024 = few_leaves s.fields k.3 in
     let e : elements_weight (schema_elements s) ≤ 8000000 = omega (arith, group_weight s.name None s.fields (short_length s.name k.0), fields_weight s.fields k.1, few_elements s.fields k.1 k.2 k.3) in
-    omega (arith, struct_short (file_tree (written_meta s R)), meta_weight s R e (groups_weight s R (fields_names s.fields 0 k.1) (leaves_within s.fields 0 32 k.2) n))
+    omega (arith, struct_short (file_tree (written_meta form s R)), meta_weight form s R e (groups_weight form s R (fields_names s.fields 0 k.1) (leaves_within s.fields 0 32 k.2) n))
 
 -- ---- the file
 
-chunks_of : (s : Schema) (R : List Node) → EachLeaf FewLevels (leaves s.fields) → length (leaves s.fields) ≤ 1024 → Limited R → length R ≤ 1000000 → length (written_chunks s R).bytes ≤ 1152921504606846976
-chunks_of s [] f n h k = omega arith
-chunks_of s (x ∷ R) f n h k = omega (arith, chunks_short (x ∷ R) (leaves s.fields) 4 f h k, n)
+chunks_of : (form : PageForm) (s : Schema) (R : List Node) → EachLeaf FewLevels (leaves s.fields) → length (leaves s.fields) ≤ 1024 → Limited R → length R ≤ 1000000 → length (written_chunks form s R).bytes ≤ 1152921504606846976
+chunks_of form s [] f n h k = omega arith
+chunks_of form s (x ∷ R) f n h k = omega (arith, chunks_short form (x ∷ R) (leaves s.fields) 4 f h k, n)
 
-file_short : (s : Schema) (R : List Node) → length (written_chunks s R).bytes ≤ 1152921504606846976 → length (written_footer s R) ≤ 20000000 → length (file_bytes s R) < 2 ^ 63
+file_short : (form : PageForm) (s : Schema) (R : List Node) → length (written_chunks form s R).bytes ≤ 1152921504606846976 → length (written_footer form s R) ≤ 20000000 → length (file_bytes form s R) < 2 ^ 63
 unfolding file_bytes
-file_short s R c f = sum_short (written_chunks s R).bytes (written_footer s R) c f
+file_short form s R c f = sum_short (written_chunks form s R).bytes (written_footer form s R) c f
   where
     sum_short : (c f : List ℕ) → length c ≤ 1152921504606846976 → length f ≤ 20000000 → length (framed c f) < 2 ^ 63
     sum_short c f h g = omega (arith, length-append c (f ++ (little_endian_bytes 4 (length f) ++ magic)), length-append f (little_endian_bytes 4 (length f) ++ magic), length-append (little_endian_bytes 4 (length f)) magic, length_little_endian 4 (length f), h, g)
@@ -427,9 +433,9 @@ texts_fit (n ∷ R) h =
     and_from _ _ (lt-ltb (text_bytes n) (2 ^ 32) (omega (arith, leb-true (text_bytes n) 1073741824 x.1))) (texts_fit R g.1)
 
 pub limited_records_fit : LimitedRecordsFit
-limited_records_fit s R h v m k =
+limited_records_fit form s R h v m k =
     let l : Limits s = limits s h in
     let n : length (leaves s.fields) ≤ 1024 = few_leaves s.fields l.3 in
     let f : EachLeaf FewLevels (leaves s.fields) = each_of_nth FewLevels (leaves s.fields) (λ i x e. levels_few s.fields i x l.2 e) in
-    let b : length (written_footer s R) ≤ 20000000 = footer_short s R l in
-    (h, v, texts_fit R m, omega (arith, k), leaves_fit R (leaves s.fields) f m k, omega (arith, b), file_short s R (chunks_of s R f n m k) b)
+    let b : length (written_footer form s R) ≤ 20000000 = footer_short form s R l in
+    (h, v, texts_fit R m, omega (arith, k), leaves_fit form R (leaves s.fields) f m k, omega (arith, b), file_short form s R (chunks_of form s R f n m k) b)

@@ -10,6 +10,7 @@ use Rattle.dr_meaning.specs.Record.{Node}
 use Rattle.dr_meaning.proofs.SchemaReadsBack.{FirstField, first_of_group}
 use Rattle.dr_formats.specs.Compact.{binary_type, struct_type, Struct, Item, binary_item, struct_item, count_items, is_tree, is_struct, are_items}
 use Rattle.dr_formats.specs.Metadata.{SchemaElement, RowGroup, items_of, element_tree, chunk_tree, group_tree, file_tree}
+use Rattle.dr_formats.specs.Page.{PageForm}
 use Rattle.dr_formats.specs.Writing.{record_columns, triplet_count, type_from, chunk_at, written_chunk, WrittenChunks, chunks_from, repetition_number, count_fields, leaf_element, group_element, elements, shape_elements, schema_elements, written_groups, file_meta, written_chunks, groups_of, written_meta}
 use Rattle.dr_formats.proofs.SchemaBack.{leaves_within}
 
@@ -164,12 +165,12 @@ abbrev LeafNumbers : List Node → List Leaf → Type 0
 LeafNumbers R [] = Unit {0}
 LeafNumbers R (l ∷ ls) = AreNames l.names × (length l.names < 2 ^ 64) × (triplet_count (record_columns l R) < 2 ^ 63) × LeafNumbers R ls
 
-chunks_fit : (R : List Node) (ls : List Leaf) (place : ℕ) → LeafNumbers R ls → place + length (chunks_from R ls place).bytes < 2 ^ 63 → list_all (λ c. is_struct 27 (chunk_tree c)) (chunks_from R ls place).columns ≡ true
-chunks_fit R [] place h l = refl
-chunks_fit R (x ∷ ls) place h l =
-    let w : List ℕ = written_chunk x R in
-    let g : length (w ++ (chunks_from R ls (place + length w)).bytes) ≡ length w + length (chunks_from R ls (place + length w)).bytes = length-append w (chunks_from R ls (place + length w)).bytes in
-    and_from _ _ (chunk_fits x R place (length w) h.0 h.1 h.2 (omega (arith, l)) (omega (arith, l, g))) (chunks_fit R ls (place + length w) h.3 (omega (arith, l, g)))
+chunks_fit : (form : PageForm) (R : List Node) (ls : List Leaf) (place : ℕ) → LeafNumbers R ls → place + length (chunks_from form R ls place).bytes < 2 ^ 63 → list_all (λ c. is_struct 27 (chunk_tree c)) (chunks_from form R ls place).columns ≡ true
+chunks_fit form R [] place h l = refl
+chunks_fit form R (x ∷ ls) place h l =
+    let w : List ℕ = written_chunk form x R in
+    let g : length (w ++ (chunks_from form R ls (place + length w)).bytes) ≡ length w + length (chunks_from form R ls (place + length w)).bytes = length-append w (chunks_from form R ls (place + length w)).bytes in
+    and_from _ _ (chunk_fits x R place (length w) h.0 h.1 h.2 (omega (arith, l)) (omega (arith, l, g))) (chunks_fit form R ls (place + length w) h.3 (omega (arith, l, g)))
 
 group_fits : (w : WrittenChunks) (rows : ℕ) → list_all (λ c. is_struct 27 (chunk_tree c)) w.columns ≡ true → length w.columns < 2 ^ 64 → length w.bytes < 2 ^ 63 → rows < 2 ^ 63 → are_items 30 struct_type (items_of (λ g. struct_item (group_tree g)) (written_groups rows w)) ≡ true
 group_fits w rows h a b c = rw (count_of (λ x. struct_item (chunk_tree x)) w.columns, lt-ltb (length w.columns) (2 ^ 64) a, structs_are 27 chunk_tree w.columns h, lt-ltb (length w.bytes) (2 ^ 63) b, lt-ltb rows (2 ^ 63) c) refl
@@ -185,9 +186,9 @@ abbrev pub LeafCounts : List Node → List Leaf → Type 0
 LeafCounts R [] = Unit {0}
 LeafCounts R (l ∷ ls) = (triplet_count (record_columns l R) < 2 ^ 63) × LeafCounts R ls
 
-pub columns_many : (R : List Node) (ls : List Leaf) (place : ℕ) → length (chunks_from R ls place).columns ≡ length ls
-columns_many R [] place = refl
-columns_many R (l ∷ ls) place = ap suc (columns_many R ls (place + length (written_chunk l R)))
+pub columns_many : (form : PageForm) (R : List Node) (ls : List Leaf) (place : ℕ) → length (chunks_from form R ls place).columns ≡ length ls
+columns_many form R [] place = refl
+columns_many form R (l ∷ ls) place = ap suc (columns_many form R ls (place + length (written_chunk form l R)))
 
 names_few : (ls : List Leaf) → list_all (λ (l : Leaf). nat_le (length l.names) 32) ls ≡ true → EachLeafFits ls → (R : List Node) → LeafCounts R ls → LeafNumbers R ls
 names_few [] h g R c = tt
@@ -197,16 +198,16 @@ names_few (l ∷ ls) h g R c =
     (q.0, omega (arith, leb-true _ _ p.0), c.0, names_few ls p.1 q.1 R c.1)
 
 -- the metadata of records is a tree that can be spelled
-pub meta_fits : (s : Schema) (R : List Node) → is_short_name s.name ≡ true → is_group s.fields ≡ true → depth s.fields ≤ 32 → leaf_count s.fields ≤ 1024 → LeafCounts R (leaves s.fields) → length R < 2 ^ 63 → 4 + length (written_chunks s R).bytes < 2 ^ 63 → is_tree (file_tree (written_meta s R)) ≡ true
-meta_fits s R n g d c k r b =
+pub meta_fits : (form : PageForm) (s : Schema) (R : List Node) → is_short_name s.name ≡ true → is_group s.fields ≡ true → depth s.fields ≤ 32 → leaf_count s.fields ≤ 1024 → LeafCounts R (leaves s.fields) → length R < 2 ^ 63 → 4 + length (written_chunks form s R).bytes < 2 ^ 63 → is_tree (file_tree (written_meta form s R)) ≡ true
+meta_fits form s R n g d c k r b =
     let e : length (elements s.fields) ≤ 32768 = few_elements s.fields g d c in
     let f : ElementsFit (schema_elements s) = and_from _ _ (root_element_fits s.name s.fields (short_fits s.name n) (omega (arith, e, count_few s.fields))) (elements_fit s.fields g (omega (arith, e))) in
-    file_fits s (length R) (groups_of s R) f (omega (arith, e)) r (groups_fit R k r b) (groups_few R)
+    file_fits s (length R) (groups_of form s R) f (omega (arith, e)) r (groups_fit R k r b) (groups_few R)
   where
-    groups_few : (Q : List Node) → length (groups_of s Q) < 2 ^ 64
+    groups_few : (Q : List Node) → length (groups_of form s Q) < 2 ^ 64
     groups_few [] = omega arith
     groups_few (x ∷ Q) = omega arith
 
-    groups_fit : (Q : List Node) → LeafCounts Q (leaves s.fields) → length Q < 2 ^ 63 → 4 + length (written_chunks s Q).bytes < 2 ^ 63 → are_items 30 struct_type (items_of (λ y. struct_item (group_tree y)) (groups_of s Q)) ≡ true
+    groups_fit : (Q : List Node) → LeafCounts Q (leaves s.fields) → length Q < 2 ^ 63 → 4 + length (written_chunks form s Q).bytes < 2 ^ 63 → are_items 30 struct_type (items_of (λ y. struct_item (group_tree y)) (groups_of form s Q)) ≡ true
     groups_fit [] j l h = refl
-    groups_fit (x ∷ Q) j l h = group_fits (written_chunks s (x ∷ Q)) (length (x ∷ Q)) (chunks_fit (x ∷ Q) (leaves s.fields) 4 (names_few (leaves s.fields) (leaves_within s.fields 0 32 d) (leaves_fit s.fields 0 g) (x ∷ Q) j) h) (omega (arith, columns_many (x ∷ Q) (leaves s.fields) 4, few_leaves s.fields c)) (omega (arith, h)) l
+    groups_fit (x ∷ Q) j l h = group_fits (written_chunks form s (x ∷ Q)) (length (x ∷ Q)) (chunks_fit form (x ∷ Q) (leaves s.fields) 4 (names_few (leaves s.fields) (leaves_within s.fields 0 32 d) (leaves_fit s.fields 0 g) (x ∷ Q) j) h) (omega (arith, columns_many form (x ∷ Q) (leaves s.fields) 4, few_leaves s.fields c)) (omega (arith, h)) l

@@ -1,8 +1,8 @@
 -- The structs that are written for metadata are viewed as that metadata.
-use Rattle.std.proofs.Common.{◌≡◌, ℕ, List, [], ◌∷◌, map, refl, ℤ, Option, Some, None, Result, Ok}
+use Rattle.std.proofs.Common.{◌≡◌, ℕ, Bool, List, [], ◌∷◌, map, refl, ℤ, Option, Some, None, Result, Ok}
 use Rattle.dr_formats.specs.Compact.{Struct, i32_item, binary_item, struct_item}
-use Rattle.dr_formats.specs.Metadata.{MetaFault, as_i32, as_binary, as_struct, all_as, each, SchemaElement, view_element, ColumnMeta, view_column_meta, ColumnChunk, view_chunk, RowGroup, view_group, FileMeta, view_file, items_of, element_tree, column_meta_tree, chunk_tree, group_tree, file_tree}
-use Rattle.dr_formats.specs.WritingLaws.{WrittenMetadataIsViewed}
+use Rattle.dr_formats.specs.Metadata.{MetaFault, as_i32, as_binary, as_struct, all_as, each, SchemaElement, view_element, ColumnMeta, view_column_meta, ColumnChunk, view_chunk, RowGroup, view_group, FileMeta, view_file, items_of, element_tree, column_meta_tree, chunk_tree, group_tree, file_tree, DataPageHeader, DictionaryPageHeader, DataPageHeaderV2, PageHeader, view_data_header_v2, view_page, data_header_v2_tree, page_tree}
+use Rattle.dr_formats.specs.WritingLaws.{WrittenMetadataIsViewed, WrittenHeaderIsViewed}
 
 -- ---- lists
 
@@ -121,3 +121,45 @@ file_parts (Some v) es n gs (Some c) = rw (structs_back element_tree es, structs
 
 pub written_metadata_is_viewed : WrittenMetadataIsViewed
 written_metadata_is_viewed m = file_parts m.version m.schema m.rows m.groups m.created_by
+
+-- ---- page headers, by which of their fields are there
+
+abbrev v2 : ℕ → Option ℤ → Option ℤ → ℤ → ℕ → ℕ → Option Bool → DataPageHeaderV2
+v2 n z r e d p c = record { values = n; nulls = z; rows = r; encoding = e; definition_bytes = d; repetition_bytes = p; compressed = c }
+
+v2_parts : (n : ℕ) (z r : Option ℤ) (e : ℤ) (d p : ℕ) (c : Option Bool) → view_data_header_v2 (data_header_v2_tree (v2 n z r e d p c)) ≡ Ok (v2 n z r e d p c)
+v2_parts n None None e d p None = refl
+v2_parts n None None e d p (Some c) = refl
+v2_parts n None (Some r) e d p None = refl
+v2_parts n None (Some r) e d p (Some c) = refl
+v2_parts n (Some z) None e d p None = refl
+v2_parts n (Some z) None e d p (Some c) = refl
+v2_parts n (Some z) (Some r) e d p None = refl
+v2_parts n (Some z) (Some r) e d p (Some c) = refl
+
+v2_back : (h : DataPageHeaderV2) → view_data_header_v2 (data_header_v2_tree h) ≡ Ok h
+v2_back h = v2_parts h.values h.nulls h.rows h.encoding h.definition_bytes h.repetition_bytes h.compressed
+
+abbrev head : ℤ → Option ℤ → ℕ → Option DataPageHeader → Option DictionaryPageHeader → Option DataPageHeaderV2 → PageHeader
+head t u z d y w = record { type = t; uncompressed_size = u; compressed_size = z; data_page = d; dictionary_page = y; data_page_v2 = w }
+
+head_parts : (t : ℤ) (u : Option ℤ) (z : ℕ) (d : Option DataPageHeader) (y : Option DictionaryPageHeader) (w : Option DataPageHeaderV2) → view_page (page_tree (head t u z d y w)) ≡ Ok (head t u z d y w)
+head_parts t None z None None None = refl
+head_parts t None z None None (Some w) = rw (v2_back w) refl
+head_parts t None z None (Some y) None = refl
+head_parts t None z None (Some y) (Some w) = rw (v2_back w) refl
+head_parts t None z (Some d) None None = refl
+head_parts t None z (Some d) None (Some w) = rw (v2_back w) refl
+head_parts t None z (Some d) (Some y) None = refl
+head_parts t None z (Some d) (Some y) (Some w) = rw (v2_back w) refl
+head_parts t (Some u) z None None None = refl
+head_parts t (Some u) z None None (Some w) = rw (v2_back w) refl
+head_parts t (Some u) z None (Some y) None = refl
+head_parts t (Some u) z None (Some y) (Some w) = rw (v2_back w) refl
+head_parts t (Some u) z (Some d) None None = refl
+head_parts t (Some u) z (Some d) None (Some w) = rw (v2_back w) refl
+head_parts t (Some u) z (Some d) (Some y) None = refl
+head_parts t (Some u) z (Some d) (Some y) (Some w) = rw (v2_back w) refl
+
+pub written_header_is_viewed : WrittenHeaderIsViewed
+written_header_is_viewed h = head_parts h.type h.uncompressed_size h.compressed_size h.data_page h.dictionary_page h.data_page_v2

@@ -12,7 +12,7 @@ use Rattle.dr_meaning.proofs.OneColumnLemmas.{columns_recognized}
 use Rattle.dr_formats.specs.Metadata.{ColumnMeta, RowGroup, FileMeta}
 use Rattle.dr_formats.specs.FileSchema.{FileSchema, file_schema, file_leaves}
 use Rattle.dr_formats.specs.Chunk.{chunk_start}
-use Rattle.dr_formats.specs.File.{magic, Footer, footer_of, footer_length, footer_place, is_framed, footer_meta, with_schema, is_whole_group, leaf_chunk, has_leaves, are_uncompressed, rows_agree, values_fit, file_column, IsDataOf, IsFileOf, FileCause, bad_footer, bad_schema, bad_codec, bad_data, HasCause, cause_by}
+use Rattle.dr_formats.specs.File.{magic, Footer, footer_of, footer_length, footer_place, is_framed, footer_meta, with_schema, is_whole_group, leaf_chunk, has_leaves, are_uncompressed, rows_agree, values_fit, leaves_read, given_column, IsDataOf, IsFileOf, FileCause, bad_footer, bad_schema, bad_codec, bad_data, HasCause, cause_by}
 use Rattle.dr_formats.specs.Opening.{has_numbers, has_column, has_leaf_column, leaf_cause, Range, range, end_ranges, footer_ranges, chunk_range, leaf_ranges, chunk_ranges, is_in_file, OpeningCauseHolds, LeafCauseIsExact, NoLeafCauseIsFile, NoFileHasCause, RangesAreInFile}
 
 -- ---- causes by a test of data
@@ -31,7 +31,7 @@ module _ (bytes : List ℕ) (s : Schema) (F : List Leaf) (good : Footer → Bool
   abbrev by : Bool → Bool → Bool → Option FileCause
   by a b c = if a then (if b then (if c then None else Some bad_data) else Some bad_codec) else Some bad_schema
 
-  by_tests : (f : Footer) (a b c : Bool) → has_leaves f F ≡ a → are_uncompressed f F ≡ b → good f ≡ c → footer_of bytes ≡ Some f → (d : FileCause) → by a b c ≡ Some d → HasCause bytes s F d
+  by_tests : (f : Footer) (a b c : Bool) → has_leaves f F ≡ a → are_uncompressed f (leaves_read f F) ≡ b → good f ≡ c → footer_of bytes ≡ Some f → (d : FileCause) → by a b c ≡ Some d → HasCause bytes s F d
   by_tests f false b c ha hb hc e d h = subst (HasCause bytes s F) (some_cause bad_schema d h) (f, e, ha)
   by_tests f true false c ha hb hc e d h = subst (HasCause bytes s F) (some_cause bad_codec d h) (f, e, ha, hb)
   by_tests f true true false ha hb hc e d h = subst (HasCause bytes s F) (some_cause bad_data d h) (f, e, ha, hb, fails f hc)
@@ -39,7 +39,7 @@ module _ (bytes : List ℕ) (s : Schema) (F : List Leaf) (good : Footer → Bool
 
   by_footer : (o : Option Footer) → footer_of bytes ≡ o → (c : FileCause) → cause_by good F o ≡ Some c → HasCause bytes s F c
   by_footer None e c h = subst (HasCause bytes s F) (some_cause bad_footer c h) e
-  by_footer (Some f) e c h = by_tests f (has_leaves f F) (are_uncompressed f F) (good f) refl refl refl e c h
+  by_footer (Some f) e c h = by_tests f (has_leaves f F) (are_uncompressed f (leaves_read f F)) (good f) refl refl refl e c h
 
 numbers_fail : (bytes : List ℕ) (s : Schema) (F : List Leaf) (f : Footer) → has_numbers F f ≡ false → (R : List Node) → IsDataOf bytes f s F R → ⊥
 numbers_fail bytes s F f h R d = true≢false (sym (and_from _ _ d.0 d.1) ∙ h)
@@ -55,27 +55,27 @@ first_same x y e = cc
 -- data of records passes the test of the leaf, and what passes it is data of records
 data_passes : (bytes : List ℕ) (s : Schema) (i : ℕ) (l : Leaf) → slice_get (leaves s.fields) i ≡ Some l → (f : Footer) (R : List Node) → IsDataOf bytes f s (l ∷ []) R → has_leaf_column bytes l f ≡ true
 data_passes bytes s i l k f R d =
-    let e : file_column bytes f l ≡ Some (column l.path R) = first_same (file_column bytes f l) (Some (column l.path R)) d.4 in
+    let e : given_column bytes f l ≡ Some (column l.path R) = first_same (given_column bytes f l) (Some (column l.path R)) d.4 in
     let c : is_column l f.meta.rows (column l.path R) ≡ true = (columns_recognized s.fields i l f.meta.rows (column l.path R) k).1 (R, d.3, d.2, refl) in
     and_from _ _ (and_from _ _ d.0 d.1) (ap (has_column l f.meta.rows) e ∙ c)
 
-column_data : (bytes : List ℕ) (s : Schema) (i : ℕ) (l : Leaf) → slice_get (leaves s.fields) i ≡ Some l → (f : Footer) → has_numbers (l ∷ []) f ≡ true → (o : Option (List Triplet)) → file_column bytes f l ≡ o → has_column l f.meta.rows o ≡ true → (R : List Node) × IsDataOf bytes f s (l ∷ []) R
+column_data : (bytes : List ℕ) (s : Schema) (i : ℕ) (l : Leaf) → slice_get (leaves s.fields) i ≡ Some l → (f : Footer) → has_numbers (l ∷ []) f ≡ true → (o : Option (List Triplet)) → given_column bytes f l ≡ o → has_column l f.meta.rows o ≡ true → (R : List Node) × IsDataOf bytes f s (l ∷ []) R
 column_data bytes s i l k f n None e h = absurd (true≢false (sym h))
 column_data bytes s i l k f n (Some ts) e h =
-    let g : (rows_agree f ≡ true) × (values_fit f (l ∷ []) ≡ true) = and_parts _ _ n in
+    let g : (rows_agree f ≡ true) × (values_fit f (leaves_read f (l ∷ [])) ≡ true) = and_parts _ _ n in
     let R : HaveColumn s.fields l f.meta.rows ts = (columns_recognized s.fields i l f.meta.rows ts k).0 h in
     (R.0, (g.0, g.1, R.2, R.1, ap (λ x. x ∷ []) (e ∙ ap Some (sym R.3))))
 
 passes_data : (bytes : List ℕ) (s : Schema) (i : ℕ) (l : Leaf) → slice_get (leaves s.fields) i ≡ Some l → (f : Footer) → has_leaf_column bytes l f ≡ true → (R : List Node) × IsDataOf bytes f s (l ∷ []) R
 passes_data bytes s i l k f h =
-    let g : (has_numbers (l ∷ []) f ≡ true) × (has_column l f.meta.rows (file_column bytes f l) ≡ true) = and_parts (has_numbers (l ∷ []) f) (has_column l f.meta.rows (file_column bytes f l)) h in
-    column_data bytes s i l k f g.0 (file_column bytes f l) refl g.1
+    let g : (has_numbers (l ∷ []) f ≡ true) × (has_column l f.meta.rows (given_column bytes f l) ≡ true) = and_parts (has_numbers (l ∷ []) f) (has_column l f.meta.rows (given_column bytes f l)) h in
+    column_data bytes s i l k f g.0 (given_column bytes f l) refl g.1
 
 leaf_fails : (bytes : List ℕ) (s : Schema) (i : ℕ) (l : Leaf) → slice_get (leaves s.fields) i ≡ Some l → (f : Footer) → has_leaf_column bytes l f ≡ false → (R : List Node) → IsDataOf bytes f s (l ∷ []) R → ⊥
 leaf_fails bytes s i l k f h R d = true≢false (sym (data_passes bytes s i l k f R d) ∙ h)
 
 -- a cause that holds is told
-told_data : (bytes : List ℕ) (l : Leaf) (f : Footer) (b : Bool) → footer_of bytes ≡ Some f → has_leaves f (l ∷ []) ≡ true → are_uncompressed f (l ∷ []) ≡ true → has_leaf_column bytes l f ≡ b → (b ≡ true → ⊥) → leaf_cause bytes l ≡ Some bad_data
+told_data : (bytes : List ℕ) (l : Leaf) (f : Footer) (b : Bool) → footer_of bytes ≡ Some f → has_leaves f (l ∷ []) ≡ true → are_uncompressed f (leaves_read f (l ∷ [])) ≡ true → has_leaf_column bytes l f ≡ b → (b ≡ true → ⊥) → leaf_cause bytes l ≡ Some bad_data
 told_data bytes l f true e h k g n = absurd (n refl)
 told_data bytes l f false e h k g n = rw (e, h, k, g) refl
 
@@ -88,7 +88,7 @@ told bytes s i l k bad_data h = told_data bytes l h.0 (has_leaf_column bytes l h
 pub leaf_cause_is_exact : LeafCauseIsExact
 leaf_cause_is_exact bytes s i l c k = ((λ h. by_footer bytes s (l ∷ []) (has_leaf_column bytes l) (leaf_fails bytes s i l k) (footer_of bytes) refl c h), told bytes s i l k c)
 
-file_of : (bytes : List ℕ) (s : Schema) (i : ℕ) (l : Leaf) → slice_get (leaves s.fields) i ≡ Some l → (f : Footer) (a b c : Bool) → has_leaves f (l ∷ []) ≡ a → are_uncompressed f (l ∷ []) ≡ b → has_leaf_column bytes l f ≡ c → footer_of bytes ≡ Some f
+file_of : (bytes : List ℕ) (s : Schema) (i : ℕ) (l : Leaf) → slice_get (leaves s.fields) i ≡ Some l → (f : Footer) (a b c : Bool) → has_leaves f (l ∷ []) ≡ a → are_uncompressed f (leaves_read f (l ∷ [])) ≡ b → has_leaf_column bytes l f ≡ c → footer_of bytes ≡ Some f
     → (if a then (if b then (if c then None else Some bad_data) else Some bad_codec) else Some bad_schema) ≡ None → (R : List Node) × IsFileOf bytes s (l ∷ []) R
 file_of bytes s i l k f false b c ha hb hc e h = absurd (some_none bad_schema h)
 file_of bytes s i l k f true false c ha hb hc e h = absurd (some_none bad_codec h)
@@ -97,7 +97,7 @@ file_of bytes s i l k f true true true ha hb hc e h = let R : (R : List Node) ×
 
 file_of_footer : (bytes : List ℕ) (s : Schema) (i : ℕ) (l : Leaf) → slice_get (leaves s.fields) i ≡ Some l → (o : Option Footer) → footer_of bytes ≡ o → cause_by (has_leaf_column bytes l) (l ∷ []) o ≡ None → (R : List Node) × IsFileOf bytes s (l ∷ []) R
 file_of_footer bytes s i l k None e h = absurd (some_none bad_footer h)
-file_of_footer bytes s i l k (Some f) e h = file_of bytes s i l k f (has_leaves f (l ∷ [])) (are_uncompressed f (l ∷ [])) (has_leaf_column bytes l f) refl refl refl e h
+file_of_footer bytes s i l k (Some f) e h = file_of bytes s i l k f (has_leaves f (l ∷ [])) (are_uncompressed f (leaves_read f (l ∷ []))) (has_leaf_column bytes l f) refl refl refl e h
 
 file_passes : (bytes : List ℕ) (s : Schema) (i : ℕ) (l : Leaf) → slice_get (leaves s.fields) i ≡ Some l → (R : List Node) → IsFileOf bytes s (l ∷ []) R → leaf_cause bytes l ≡ None
 file_passes bytes s i l k R h = rw (h.1, h.2, h.3, data_passes bytes s i l k h.0 R h.4) refl
@@ -107,14 +107,14 @@ no_leaf_cause_is_file bytes s i l k = (file_of_footer bytes s i l k (footer_of b
 
 -- ---- no file of any records
 
-no_file_tests : (bytes : List ℕ) (s : Schema) (F : List Leaf) → ((R : List Node) → IsFileOf bytes s F R → ⊥) → (f : Footer) → footer_of bytes ≡ Some f → (a b : Bool) → has_leaves f F ≡ a → are_uncompressed f F ≡ b → (c : FileCause) × HasCause bytes s F c
+no_file_tests : (bytes : List ℕ) (s : Schema) (F : List Leaf) → ((R : List Node) → IsFileOf bytes s F R → ⊥) → (f : Footer) → footer_of bytes ≡ Some f → (a b : Bool) → has_leaves f F ≡ a → are_uncompressed f (leaves_read f F) ≡ b → (c : FileCause) × HasCause bytes s F c
 no_file_tests bytes s F n f e false b ha hb = (bad_schema, (f, e, ha))
 no_file_tests bytes s F n f e true false ha hb = (bad_codec, (f, e, ha, hb))
 no_file_tests bytes s F n f e true true ha hb = (bad_data, (f, e, ha, hb, λ R d. n R (f, e, ha, hb, d)))
 
 no_file_footer : (bytes : List ℕ) (s : Schema) (F : List Leaf) → ((R : List Node) → IsFileOf bytes s F R → ⊥) → (o : Option Footer) → footer_of bytes ≡ o → (c : FileCause) × HasCause bytes s F c
 no_file_footer bytes s F n None e = (bad_footer, e)
-no_file_footer bytes s F n (Some f) e = no_file_tests bytes s F n f e (has_leaves f F) (are_uncompressed f F) refl refl
+no_file_footer bytes s F n (Some f) e = no_file_tests bytes s F n f e (has_leaves f F) (are_uncompressed f (leaves_read f F)) refl refl
 
 pub no_file_has_cause : NoFileHasCause
 no_file_has_cause bytes s F n = no_file_footer bytes s F n (footer_of bytes) refl
@@ -184,7 +184,7 @@ chunks_in_file : (bytes : List ℕ) (F : List Leaf) (o : Option Footer) → foot
 chunks_in_file bytes F None e = refl
 chunks_in_file bytes F (Some f) e =
     let h : f.place ≤ length bytes = omega (arith, place_of_footer bytes f e) in
-    all_of_flat (is_in_file bytes) (leaf_ranges f) F (λ l. all_of_flat (is_in_file bytes) (λ (g : RowGroup). chunk_range f.place (leaf_chunk f l g)) f.meta.groups (λ g. chunk_in_file bytes f.place h (leaf_chunk f l g)))
+    all_of_flat (is_in_file bytes) (leaf_ranges f) (leaves_read f F) (λ l. all_of_flat (is_in_file bytes) (λ (g : RowGroup). chunk_range f.place (leaf_chunk f l g)) f.meta.groups (λ g. chunk_in_file bytes f.place h (leaf_chunk f l g)))
 
 pub ranges_are_in_file : RangesAreInFile
 ranges_are_in_file bytes F =

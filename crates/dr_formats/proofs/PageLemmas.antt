@@ -1,6 +1,6 @@
 -- The body that is written for triplets is read as these triplets.
-use Rattle.std.proofs.Common.{◌≡◌, ℕ, zero, suc, ◌/◌, ◌^◌, ◌≤◌, ◌<◌, List, [], ◌∷◌, ◌++◌, map, length, Bool, true, false, refl, sym, ap, ap₂, ◌∙◌, subst, arith, pos, Option, Some, None, append_assoc, true≢false}
-use Rattle.std.specs.Prelude.{replicate, nat_le, ◌&&◌, ◌==◌, if◌then◌else◌, option_and_then}
+use Rattle.std.proofs.Common.{◌≡◌, ℕ, zero, suc, ◌/◌, ◌^◌, ◌≤◌, ◌<◌, List, [], ◌∷◌, ◌++◌, length, Bool, true, false, refl, sym, ap, ap₂, ◌∙◌, subst, arith, pos, Option, Some, None, append_assoc, true≢false}
+use Rattle.std.specs.Prelude.{replicate, nat_le, ◌&&◌, ◌==◌, if◌then◌else◌}
 use Rattle.std.specs.List.{list_all}
 use Rattle.std.proofs.Math.Nat.{pow-suc}
 use Rattle.std.proofs.lemmas.Bool.{lt-ltb, leb-true, eqb-true, eq-eqb, and_parts, and_from}
@@ -8,13 +8,13 @@ use Rattle.std.proofs.lemmas.List.{append-nil, length-map}
 use Rattle.dr_meaning.specs.Schema.{Kind}
 use Rattle.dr_meaning.specs.Record.{Value}
 use Rattle.dr_meaning.specs.Column.{Triplet}
-use Rattle.dr_formats.specs.Reading.{got, ◌>>=◌, bytes_of, IsReadAs}
+use Rattle.dr_formats.specs.Reading.{Reader, give, got, ◌>>=◌, bytes_of, IsReadAs}
 use Rattle.dr_formats.specs.LittleEndian.{little_endian, little_endian_bytes}
 use Rattle.dr_formats.specs.Hybrid.{hybrid, hybrid_bytes}
 use Rattle.dr_formats.specs.Plain.{plain_read, plain_values, plain_bytes, is_writable}
-use Rattle.dr_formats.specs.Page.{bad_page, found, digits_within, level_width, none_above, levels, count_equal, first_if, behind_if, join_triplets, page_body, triplets_read, page_triplets, level_bytes, with_value, column_values, body_bytes, has_value, is_value_of, same_truth, is_triplet}
+use Rattle.dr_formats.specs.Page.{PageForm, data_page_v1, data_page_v2, PageFault, bad_page, level_parts_of, sized_part, level_part, level_parts_by, digits_within, level_width, levels, count_equal, first_if, behind_if, join_triplets, page_body, triplets_read, page_triplets, level_data, behind_length, level_bytes, column_repetitions, column_definitions, with_value, column_values, body_bytes, has_value, is_value_of, same_truth, is_triplet}
 use Rattle.dr_formats.specs.PlainLaws.{written_shape, WrittenBodyIsRead}
-use Rattle.dr_formats.proofs.ReadingLemmas.{spells_then, spells_bytes}
+use Rattle.dr_formats.proofs.ReadingLemmas.{spells_then, spells_map, spells_bytes}
 use Rattle.dr_formats.proofs.LittleEndianLemmas.{length_little_endian, little_endian_back, are_below}
 use Rattle.dr_formats.proofs.HybridLemmas.{written_runs_are_read, hybrid_length}
 use Rattle.dr_formats.proofs.PlainLemmas.{written_values_are_read}
@@ -67,18 +67,44 @@ all_zero (l ∷ ls) h =
     let p : (nat_le l 0 ≡ true) × (AreAtMost 0 ls) = and_parts _ _ h in
     ap₂ (λ x xs. x ∷ xs) (omega (arith, leb-true l 0 p.0)) (all_zero ls p.1)
 
-spells_levels : (g : ℕ) (ls : List ℕ) → g ≤ 32 → length ls < 2 ^ 31 → AreAtMost g ls → IsReadAs (levels g (pos 3) (length ls)) (level_bytes g ls) ls
-spells_levels zero ls b l h = λ rest. ap (λ x. got x rest) (all_zero ls h)
-spells_levels (suc g) ls b l h =
+pub levels_back : (g : ℕ) (ls : List ℕ) → length ls < 2 ^ 31 → AreAtMost g ls → levels g (length ls) (level_data g ls) ≡ Some ls
+levels_back zero ls l h = ap Some (all_zero ls h)
+levels_back (suc g) ls l h =
     let w : ℕ = level_width (suc g) in
     let part : List ℕ = hybrid_bytes w ls in
-    let size : List ℕ = little_endian_bytes 4 (length part) in
-    let e : little_endian size ≡ length part = little_endian_back 4 (length part) (hybrid_length w ls (width_small (suc g) b) l) in
     let r1 : hybrid w (length ls) (part ++ []) ≡ Some ls = written_runs_are_read w ls [] (levels_below (suc g) w ls (width_holds (suc g)) h) (omega (arith, l)) in
     let r : hybrid w (length ls) part ≡ Some ls = subst (λ (x : List ℕ). hybrid w (length ls) x ≡ Some ls) (append-nil part) r1 in
-    let f : IsReadAs (found (option_and_then (none_above (suc g)) (hybrid w (length ls) part))) [] ls = λ rest. rw (r, h) refl in
-    let q : IsReadAs (bytes_of bad_page (little_endian size) >>= (λ c. found (option_and_then (none_above (suc g)) (hybrid w (length ls) c)))) part ls = λ rest. rw e (rw (spells_bytes bad_page (length part) part refl rest) (f rest)) in
-    spells_then (bytes_of bad_page 4) (λ c. bytes_of bad_page (little_endian c) >>= (λ d. found (option_and_then (none_above (suc g)) (hybrid w (length ls) d)))) size part size ls (spells_bytes bad_page 4 size (length_little_endian 4 (length part))) q
+    rw (r, h) refl
+
+-- ---- level parts
+
+spells_sized : (part : List ℕ) → length part < 2 ^ 32 → IsReadAs sized_part (behind_length part) part
+spells_sized part h =
+    let size : List ℕ = little_endian_bytes 4 (length part) in
+    let e : little_endian size ≡ length part = little_endian_back 4 (length part) h in
+    let q : IsReadAs (bytes_of bad_page (little_endian size)) part part = rw e (spells_bytes bad_page (length part) part refl) in
+    spells_then (bytes_of bad_page 4) (λ c. bytes_of bad_page (little_endian c)) size part size part (spells_bytes bad_page 4 size (length_little_endian 4 (length part))) q
+
+spells_part : (g : ℕ) (ls : List ℕ) → g ≤ 32 → length ls < 2 ^ 31 → IsReadAs (level_part g (pos 3)) (level_bytes data_page_v1 g ls) (level_data g ls)
+spells_part zero ls b l = λ rest. refl
+spells_part (suc g) ls b l = spells_sized (level_data (suc g) ls) (hybrid_length (level_width (suc g)) ls (width_small (suc g) b) l)
+
+spells_parts : (first second : Reader PageFault (List ℕ)) (u v rs ds : List ℕ) → IsReadAs first u rs → IsReadAs second v ds → IsReadAs (first >>= (λ x. second >>= (λ y. give (level_parts_of x y)))) (u ++ v) (level_parts_of rs ds)
+spells_parts first second u v rs ds h k =
+    spells_then first (λ x. second >>= (λ y. give (level_parts_of x y))) u v rs (level_parts_of rs ds) h (spells_map second (level_parts_of rs) v ds k)
+
+spells_level_parts : (form : PageForm) (k : Kind) (max_r max_d : ℕ) (ts : List Triplet) → max_r ≤ 32 → max_d ≤ 32 → length ts < 2 ^ 31
+    → IsReadAs (level_parts_by form (written_shape form k max_r max_d ts)) (level_bytes form max_r (column_repetitions ts) ++ level_bytes form max_d (column_definitions ts)) (level_parts_of (level_data max_r (column_repetitions ts)) (level_data max_d (column_definitions ts)))
+spells_level_parts data_page_v1 k max_r max_d ts a b l =
+    let rs : List ℕ = column_repetitions ts in
+    let ds : List ℕ = column_definitions ts in
+    let lr : length rs ≡ length ts = length-map ts (λ (t : Triplet). t.repetition) in
+    let ld : length ds ≡ length ts = length-map ts (λ (t : Triplet). t.definition) in
+    spells_parts (level_part max_r (pos 3)) (level_part max_d (pos 3)) (level_bytes data_page_v1 max_r rs) (level_bytes data_page_v1 max_d ds) (level_data max_r rs) (level_data max_d ds) (spells_part max_r rs a (omega (arith, l, lr))) (spells_part max_d ds b (omega (arith, l, ld)))
+spells_level_parts data_page_v2 k max_r max_d ts a b l =
+    let rs : List ℕ = level_data max_r (column_repetitions ts) in
+    let ds : List ℕ = level_data max_d (column_definitions ts) in
+    spells_parts (bytes_of bad_page (length rs)) (bytes_of bad_page (length ds)) rs ds rs ds (spells_bytes bad_page (length rs) rs refl) (spells_bytes bad_page (length ds) ds refl)
 
 -- ---- values
 
@@ -105,13 +131,13 @@ same_truth-true false false h = refl
 abbrev AreTriplets : Kind → ℕ → ℕ → List Triplet → Type 0
 AreTriplets k max_r max_d ts = list_all (is_triplet k max_r max_d) ts ≡ true
 
-repetitions_at_most : (k : Kind) (max_r max_d : ℕ) (ts : List Triplet) → AreTriplets k max_r max_d ts → AreAtMost max_r (map (λ (t : Triplet). t.repetition) ts)
+repetitions_at_most : (k : Kind) (max_r max_d : ℕ) (ts : List Triplet) → AreTriplets k max_r max_d ts → AreAtMost max_r (column_repetitions ts)
 repetitions_at_most k max_r max_d [] h = refl
 repetitions_at_most k max_r max_d (t ∷ ts) h =
     let p : (is_triplet k max_r max_d t ≡ true) × (AreTriplets k max_r max_d ts) = and_parts _ _ h in
     and_from _ _ (parts k max_r max_d t p.0).0 (repetitions_at_most k max_r max_d ts p.1)
 
-definitions_at_most : (k : Kind) (max_r max_d : ℕ) (ts : List Triplet) → AreTriplets k max_r max_d ts → AreAtMost max_d (map (λ (t : Triplet). t.definition) ts)
+definitions_at_most : (k : Kind) (max_r max_d : ℕ) (ts : List Triplet) → AreTriplets k max_r max_d ts → AreAtMost max_d (column_definitions ts)
 definitions_at_most k max_r max_d [] h = refl
 definitions_at_most k max_r max_d (t ∷ ts) h =
     let p : (is_triplet k max_r max_d t ≡ true) × (AreTriplets k max_r max_d ts) = and_parts _ _ h in
@@ -131,17 +157,17 @@ count_with : (b : Bool) (v : Option Value) (vs : List Value) (n : ℕ) → b ≡
 count_with b None vs n e f = rw e f
 count_with b (Some v) vs n e f = rw e (ap suc f)
 
-count_values : (k : Kind) (max_r max_d : ℕ) (ts : List Triplet) → AreTriplets k max_r max_d ts → count_equal max_d (map (λ (t : Triplet). t.definition) ts) ≡ length (column_values ts)
+count_values : (k : Kind) (max_r max_d : ℕ) (ts : List Triplet) → AreTriplets k max_r max_d ts → count_equal max_d (column_definitions ts) ≡ length (column_values ts)
 count_values k max_r max_d [] h = refl
 count_values k max_r max_d (t ∷ ts) h =
     let p : (is_triplet k max_r max_d t ≡ true) × (AreTriplets k max_r max_d ts) = and_parts _ _ h in
-    count_with (t.definition == max_d) t.value (column_values ts) (count_equal max_d (map (λ (u : Triplet). u.definition) ts)) (same_truth-true _ _ (parts k max_r max_d t p.0).2) (count_values k max_r max_d ts p.1)
+    count_with (t.definition == max_d) t.value (column_values ts) (count_equal max_d (column_definitions ts)) (same_truth-true _ _ (parts k max_r max_d t p.0).2) (count_values k max_r max_d ts p.1)
 
 first_back : (b : Bool) (v : Option Value) (vs : List Value) → b ≡ has_value v → (first_if b (with_value v vs) ≡ v) × (behind_if b (with_value v vs) ≡ vs)
 first_back b None vs e = rw e (refl, refl)
 first_back b (Some v) vs e = rw e (refl, refl)
 
-joined_back : (k : Kind) (max_r max_d : ℕ) (ts : List Triplet) → AreTriplets k max_r max_d ts → join_triplets max_d (map (λ (t : Triplet). t.repetition) ts) (map (λ (t : Triplet). t.definition) ts) (column_values ts) ≡ ts
+joined_back : (k : Kind) (max_r max_d : ℕ) (ts : List Triplet) → AreTriplets k max_r max_d ts → join_triplets max_d (column_repetitions ts) (column_definitions ts) (column_values ts) ≡ ts
 joined_back k max_r max_d [] h = refl
 joined_back k max_r max_d (t ∷ ts) h =
     let p : (is_triplet k max_r max_d t ≡ true) × (AreTriplets k max_r max_d ts) = and_parts _ _ h in
@@ -150,19 +176,21 @@ joined_back k max_r max_d (t ∷ ts) h =
 
 -- ---- bodies
 
-spells_body : (k : Kind) (max_r max_d : ℕ) (ts : List Triplet) (dictionary : List Value) (rest : List ℕ) → max_r ≤ 32 → max_d ≤ 32 → length ts < 2 ^ 31 → AreTriplets k max_r max_d ts
-    → page_body (written_shape k max_r max_d (length ts)) dictionary ((level_bytes max_r (map (λ (t : Triplet). t.repetition) ts) ++ (level_bytes max_d (map (λ (t : Triplet). t.definition) ts) ++ plain_bytes k (column_values ts))) ++ rest) ≡ got ts []
-spells_body k max_r max_d ts dictionary rest a b l h =
-    let rs : List ℕ = map (λ (t : Triplet). t.repetition) ts in
-    let ds : List ℕ = map (λ (t : Triplet). t.definition) ts in
+spells_body : (form : PageForm) (k : Kind) (max_r max_d : ℕ) (ts : List Triplet) (dictionary : List Value) (rest : List ℕ) → max_r ≤ 32 → max_d ≤ 32 → length ts < 2 ^ 31 → AreTriplets k max_r max_d ts
+    → page_body (written_shape form k max_r max_d ts) dictionary ((level_bytes form max_r (column_repetitions ts) ++ (level_bytes form max_d (column_definitions ts) ++ plain_bytes k (column_values ts))) ++ rest) ≡ got ts []
+spells_body form k max_r max_d ts dictionary rest a b l h =
+    let rs : List ℕ = column_repetitions ts in
+    let ds : List ℕ = column_definitions ts in
     let vs : List Value = column_values ts in
+    let u : List ℕ = level_bytes form max_r rs in
+    let v : List ℕ = level_bytes form max_d ds in
     let lr : length rs ≡ length ts = length-map ts (λ (t : Triplet). t.repetition) in
     let ld : length ds ≡ length ts = length-map ts (λ (t : Triplet). t.definition) in
-    let sr : IsReadAs (levels max_r (pos 3) (length ts)) (level_bytes max_r rs) rs = subst (λ (n : ℕ). IsReadAs (levels max_r (pos 3) n) (level_bytes max_r rs) rs) lr (spells_levels max_r rs a (omega (arith, l, lr)) (repetitions_at_most k max_r max_d ts h)) in
-    let sd : IsReadAs (levels max_d (pos 3) (length ts)) (level_bytes max_d ds) ds = subst (λ (n : ℕ). IsReadAs (levels max_d (pos 3) n) (level_bytes max_d ds) ds) ld (spells_levels max_d ds b (omega (arith, l, ld)) (definitions_at_most k max_r max_d ts h)) in
-    let e : (level_bytes max_r rs ++ (level_bytes max_d ds ++ plain_bytes k vs)) ++ rest ≡ level_bytes max_r rs ++ (level_bytes max_d ds ++ (plain_bytes k vs ++ rest)) = append_assoc (level_bytes max_r rs) (level_bytes max_d ds ++ plain_bytes k vs) rest ∙ ap (λ x. level_bytes max_r rs ++ x) (append_assoc (level_bytes max_d ds) (plain_bytes k vs) rest) in
-    rw (e, sr (level_bytes max_d ds ++ (plain_bytes k vs ++ rest)), sd (plain_bytes k vs ++ rest), count_values k max_r max_d ts h, plain_values_back k vs rest (values_writable k max_r max_d ts h), joined_back k max_r max_d ts h) refl
+    let sr : levels max_r (length ts) (level_data max_r rs) ≡ Some rs = subst (λ (n : ℕ). levels max_r n (level_data max_r rs) ≡ Some rs) lr (levels_back max_r rs (omega (arith, l, lr)) (repetitions_at_most k max_r max_d ts h)) in
+    let sd : levels max_d (length ts) (level_data max_d ds) ≡ Some ds = subst (λ (n : ℕ). levels max_d n (level_data max_d ds) ≡ Some ds) ld (levels_back max_d ds (omega (arith, l, ld)) (definitions_at_most k max_r max_d ts h)) in
+    let e : (u ++ (v ++ plain_bytes k vs)) ++ rest ≡ (u ++ v) ++ (plain_bytes k vs ++ rest) = append_assoc u (v ++ plain_bytes k vs) rest ∙ (ap (λ x. u ++ x) (append_assoc v (plain_bytes k vs) rest) ∙ sym (append_assoc u v (plain_bytes k vs ++ rest))) in
+    rw (e, spells_level_parts form k max_r max_d ts a b l (plain_bytes k vs ++ rest), sr, sd, count_values k max_r max_d ts h, plain_values_back k vs rest (values_writable k max_r max_d ts h), joined_back k max_r max_d ts h) refl
 
 pub written_body_is_read : WrittenBodyIsRead
 unfolding page_triplets body_bytes
-written_body_is_read k max_r max_d ts dictionary rest a b l h = ap triplets_read (spells_body k max_r max_d ts dictionary rest a b l h)
+written_body_is_read form k max_r max_d ts dictionary rest a b l h = ap triplets_read (spells_body form k max_r max_d ts dictionary rest a b l h)

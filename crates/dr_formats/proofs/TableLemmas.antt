@@ -1,6 +1,6 @@
 -- The text of a table is read as that table.
-use Rattle.std.proofs.Common.{◌≡◌, ℕ, zero, suc, ◌+◌, ◌*◌, ◌^◌, ◌≤◌, ◌<◌, List, [], ◌∷◌, ◌++◌, length, true, not, ◌&&◌, refl, sym, ap, ◌∙◌, arith, Some, Ok, append_assoc, append-nil, true≢false, get_or, ◌⊎◌, inl, inr}
-use Rattle.std.specs.Prelude.{◌-◌, ◌==◌, ◌||◌, nat_lt, nat_le, codes}
+use Rattle.std.proofs.Common.{◌≡◌, ℕ, zero, suc, ◌+◌, ◌*◌, ◌^◌, ◌≤◌, ◌<◌, List, [], ◌∷◌, ◌++◌, length, true, not, ◌&&◌, refl, sym, ap, ◌∙◌, arith, Some, Ok, append_assoc, true≢false, get_or, Option, ◌⊎◌, inl, inr}
+use Rattle.std.specs.Prelude.{option_map, ◌-◌, ◌==◌, ◌||◌, nat_lt, nat_le, codes}
 use Rattle.std.specs.List.{list_all}
 use Rattle.std.specs.Str.{is_utf8, IsUtf8, IsAscii}
 use Rattle.std.specs.Fmt.{decimal}
@@ -13,7 +13,8 @@ use Rattle.std.proofs.lemmas.Str.Parse.{digit_from_value}
 use Rattle.dr_meaning.specs.Schema.{Repetition, required, optional, repeated, Kind, bool_kind, int32_kind, int64_kind, text_kind, Fields, no_fields, field, Shape, leaf, group, Schema, begins_name, continues_name, is_name, is_short_name, is_group, is_shape, is_nonempty, is_schema, depth, leaf_count, greatest_depth, most_leaves}
 use Rattle.dr_meaning.specs.SchemaText.{Token, name, open_brace, close_brace, semicolon, bad, repetition_word, kind_word, field_tokens, shape_tokens, token_text, before_token, separated, parse_schema, schema_text}
 use Rattle.dr_meaning.proofs.SchemaReadsBack.{FirstField, first_of_group, name_of_short, canonical_reads_back}
-use Rattle.dr_formats.specs.TableFile.{Table, first_line, behind_word, digits_value, number_text, number_behind, nonempty, leaf_lines, at_leaves, on_copies, at_copies, on_tablets, on_head, parse_table, leaf_texts, table_text, most_tablets, most_leaf_lines, longest_table, is_line_text}
+use Rattle.dr_formats.specs.Reading.{got}
+use Rattle.dr_formats.specs.TableFile.{Table, TableFault, bad_tablets, bad_copies, bad_leaf, first_line, behind_word, digits_value, number_text, number_behind, line_as, leaf_line, leaf_or_schema, leaf_lines, table_lines, outcome, parse_table, leaf_texts, table_text, most_tablets, most_leaf_lines, longest_table, is_line_text}
 use Rattle.dr_formats.specs.TableLaws.{is_directory, IsTable, TableReadsBack, IsWithinLimits}
 use Rattle.dr_meaning.specs.Lists.{is_empty}
 use Rattle.dr_meaning.specs.Tokens.{is_digit}
@@ -28,6 +29,10 @@ line_back [] rest h = refl
 line_back (b ∷ t) rest h =
     let p : (not (b == 10) ≡ true) × NoEnd t = and_parts _ _ h in
     rw (not-true _ p.0, line_back t rest p.1) refl
+
+-- a line that stands for something is read as it
+pub line_as_back : {A : Type 0} (e : TableFault) (f : List ℕ → Option A) (t : List ℕ) (a : A) (rest : List ℕ) → NoEnd t → f t ≡ Some a → line_as e f (t ++ 10 ∷ rest) ≡ got a rest
+line_as_back e f t a rest h g = rw (line_back t rest h, g) refl
 
 no_end_append : (t u : List ℕ) → NoEnd t → NoEnd u → NoEnd (t ++ u)
 no_end_append [] u h k = k
@@ -64,51 +69,57 @@ number_back n h k =
     let p = decimal_is_IsNumeral n k in
     (number_of_digits n (decimal n) p.0.0 p.0.1 p.1 (first_decimal n h k), (digits_are (decimal n) p.0.1).1)
 
-number_line : (word : List ℕ) (greatest n : ℕ) → 0 < n → n ≤ greatest → n < 2 ^ 64 → number_behind word greatest (word ++ decimal n) ≡ Some n
-number_line word greatest n h k l = rw (word_back word (decimal n), (number_back n h l).0, le-leb n greatest k) refl
+-- a word and a number make a line, which is read
+pub numbered : (word : List ℕ) (greatest n : ℕ) → NoEnd word → greatest < 2 ^ 64 → 0 < n → n ≤ greatest → NoEnd (word ++ decimal n) × (number_behind word greatest (word ++ decimal n) ≡ Some n)
+numbered word greatest n w g h k =
+    let q : (number_text (decimal n) ≡ Some n) × NoEnd (decimal n) = number_back n h (omega (arith, g, k)) in
+    (no_end_append word (decimal n) w q.1, rw (word_back word (decimal n), q.0, le-leb n greatest k) refl)
+
+pub number_line : (e : TableFault) (word : List ℕ) (greatest n : ℕ) (rest : List ℕ) → NoEnd word → greatest < 2 ^ 64 → 0 < n → n ≤ greatest → line_as e (number_behind word greatest) (word ++ (decimal n ++ (10 ∷ rest))) ≡ got n rest
+number_line e word greatest n rest w g h k =
+    let q : NoEnd (word ++ decimal n) × (number_behind word greatest (word ++ decimal n) ≡ Some n) = numbered word greatest n w g h k in
+    ap (line_as e (number_behind word greatest)) (sym (append_assoc word (decimal n) (10 ∷ rest))) ∙ line_as_back e (number_behind word greatest) (word ++ decimal n) n rest q.0 q.1
 
 -- ---- leaf lines
 
 abbrev AreLines : List (List ℕ) → Type 0
 AreLines ds = list_all is_line_text ds ≡ true
 
-line_text : (d : List ℕ) → is_line_text d ≡ true → (nonempty d ≡ Some d) × NoEnd d
-line_text [] h = absurd (true≢false (sym h))
-line_text (b ∷ d) h = (refl, (and_parts (not (is_empty (b ∷ d))) _ h).1)
+-- a leaf line is a line, and its directory is read
+pub leaf_back : (d : List ℕ) → is_line_text d ≡ true → NoEnd (codes "leaf " ++ d) × (leaf_line (codes "leaf " ++ d) ≡ Some d)
+leaf_back [] h = absurd (true≢false (sym h))
+leaf_back (b ∷ d) h = (no_end_append (codes "leaf ") (b ∷ d) refl (and_parts (not (is_empty (b ∷ d))) _ h).1, refl)
 
-schema_there : (tablets copies room : ℕ) (ds : List (List ℕ)) (s : Schema) (text : List ℕ) → parse_schema text ≡ Ok s → 0 < length ds → copies ≤ length ds → leaf_lines room tablets copies ds (first_line (codes "schema" ++ (10 ∷ text))) ≡ Ok (record { schema = s; leaves = ds; copies = copies; tablets = tablets })
-schema_there tablets copies zero ds s text e h k = rw (lt-ltb 0 (length ds) h, le-leb copies (length ds) k, e) refl
-schema_there tablets copies (suc room) ds s text e h k = rw (lt-ltb 0 (length ds) h, le-leb copies (length ds) k, e) refl
+-- the line of a leaf behind others
+pub leaf_there : (n : ℕ) (d rest : List ℕ) → is_line_text d ≡ true → line_as (bad_leaf n) (leaf_or_schema n) (codes "leaf " ++ (d ++ (10 ∷ rest))) ≡ got (Some d) rest
+leaf_there n d rest h =
+    let q : NoEnd (codes "leaf " ++ d) × (leaf_line (codes "leaf " ++ d) ≡ Some d) = leaf_back d h in
+    line_as_back (bad_leaf n) (leaf_or_schema n) (codes "leaf " ++ d) (Some d) rest q.0 (ap (option_map Some) q.1)
 
-leaves_back : (tablets copies room : ℕ) (ds before : List (List ℕ)) (s : Schema) (text : List ℕ) → AreLines ds → parse_schema text ≡ Ok s → length ds ≤ room → 0 < length (before ++ ds) → copies ≤ length (before ++ ds) → leaf_lines room tablets copies before (first_line (leaf_texts ds (codes "schema" ++ (10 ∷ text)))) ≡ Ok (record { schema = s; leaves = before ++ ds; copies = copies; tablets = tablets })
-leaves_back tablets copies room [] before s text a e r h k =
-    let n : before ++ [] ≡ before = append-nil before in
-    rw n (schema_there tablets copies room before s text e (omega (arith, h, ap length n)) (omega (arith, k, ap length n)))
-leaves_back tablets copies zero (d ∷ ds) before s text a e r h k = absurd (omega (arith, r))
-leaves_back tablets copies (suc room) (d ∷ ds) before s text a e r h k =
+schema_there : (most n : ℕ) (text : List ℕ) → 0 < n → leaf_lines most n (codes "schema" ++ (10 ∷ text)) ≡ got [] text
+schema_there zero n text h = refl
+schema_there (suc most) n text h = rw (lt-ltb 0 n h) refl
+
+pub leaves_back : (most n : ℕ) (ds : List (List ℕ)) (text : List ℕ) → AreLines ds → length ds ≤ most → 0 < n + length ds → leaf_lines most n (leaf_texts ds (codes "schema" ++ (10 ∷ text))) ≡ got ds text
+leaves_back most n [] text a r h = schema_there most n text (omega (arith, h))
+leaves_back zero n (d ∷ ds) text a r h = absurd (omega (arith, r))
+leaves_back (suc most) n (d ∷ ds) text a r h =
     let p : (is_line_text d ≡ true) × AreLines ds = and_parts _ _ a in
-    let q : (nonempty d ≡ Some d) × NoEnd d = line_text d p.0 in
     let more : List ℕ = leaf_texts ds (codes "schema" ++ (10 ∷ text)) in
-    let f : first_line (codes "leaf " ++ (d ++ (10 ∷ more))) ≡ Some (record { text = codes "leaf " ++ d; behind = more }) = line_back (codes "leaf " ++ d) more (no_end_append (codes "leaf ") d refl q.1) in
-    let g : (before ++ d ∷ []) ++ ds ≡ before ++ d ∷ ds = append_assoc before (d ∷ []) ds in
-    let i : leaf_lines room tablets copies (before ++ d ∷ []) (first_line more) ≡ Ok (record { schema = s; leaves = (before ++ d ∷ []) ++ ds; copies = copies; tablets = tablets }) = leaves_back tablets copies room ds (before ++ d ∷ []) s text p.1 e (omega (arith, r)) (omega (arith, h, ap length g)) (omega (arith, k, ap length g)) in
-    rw (f, q.0) (i ∙ ap (λ x. Ok (record { schema = s; leaves = x; copies = copies; tablets = tablets })) g)
+    let i : leaf_lines most (suc n) more ≡ got ds text = leaves_back most (suc n) ds text p.1 (omega (arith, r)) (omega arith) in
+    rw (leaf_there n d more p.0, i) refl
 
 -- ---- all lines
 
-pub lines_back : (t : Table) (behind : List ℕ) → IsWithinLimits t → parse_schema behind ≡ Ok t.schema → on_head (first_line (codes "dremel-table 1" ++ (10 ∷ (codes "tablets " ++ (decimal t.tablets ++ (10 ∷ (codes "copies "
+pub lines_back : (t : Table) (behind : List ℕ) → IsWithinLimits t → parse_schema behind ≡ Ok t.schema → outcome (table_lines (codes "dremel-table 1" ++ (10 ∷ (codes "tablets " ++ (decimal t.tablets ++ (10 ∷ (codes "copies "
     ++ (decimal t.copies ++ (10 ∷ leaf_texts t.leaves (codes "schema" ++ (10 ∷ behind))))))))))) ≡ Ok t
 lines_back t behind h e =
-    let tn = number_back t.tablets h.5 (omega (arith, h.6)) in
-    let cn = number_back t.copies h.3 (omega (arith, h.4, h.1)) in
     let l3 : List ℕ = leaf_texts t.leaves (codes "schema" ++ (10 ∷ behind)) in
     let l2 : List ℕ = codes "copies " ++ (decimal t.copies ++ (10 ∷ l3)) in
-    let f1 : first_line (codes "tablets " ++ (decimal t.tablets ++ (10 ∷ l2))) ≡ Some (record { text = codes "tablets " ++ decimal t.tablets; behind = l2 }) = line_back (codes "tablets " ++ decimal t.tablets) l2 (no_end_append (codes "tablets ") (decimal t.tablets) refl tn.1) in
-    let f2 : first_line l2 ≡ Some (record { text = codes "copies " ++ decimal t.copies; behind = l3 }) = line_back (codes "copies " ++ decimal t.copies) l3 (no_end_append (codes "copies ") (decimal t.copies) refl cn.1) in
-    let g1 : number_behind (codes "tablets ") most_tablets (codes "tablets " ++ decimal t.tablets) ≡ Some t.tablets = number_line (codes "tablets ") most_tablets t.tablets h.5 h.6 (omega (arith, h.6)) in
-    let g2 : number_behind (codes "copies ") most_leaf_lines (codes "copies " ++ decimal t.copies) ≡ Some t.copies = number_line (codes "copies ") most_leaf_lines t.copies h.3 (omega (arith, h.4, h.1)) (omega (arith, h.4, h.1)) in
-    let i : leaf_lines most_leaf_lines t.tablets t.copies [] (first_line l3) ≡ Ok t = leaves_back t.tablets t.copies most_leaf_lines t.leaves [] t.schema behind h.2 e h.1 h.0 h.4 in
-    ap (λ x. on_tablets x) f1 ∙ (ap (λ x. at_copies l2 x) g1 ∙ (ap (λ x. on_copies t.tablets x) f2 ∙ (ap (λ x. at_leaves t.tablets l3 x) g2 ∙ i)))
+    let g1 : line_as bad_tablets (number_behind (codes "tablets ") most_tablets) (codes "tablets " ++ (decimal t.tablets ++ (10 ∷ l2))) ≡ got t.tablets l2 = number_line bad_tablets (codes "tablets ") most_tablets t.tablets l2 refl (omega arith) h.5 h.6 in
+    let g2 : line_as bad_copies (number_behind (codes "copies ") most_leaf_lines) l2 ≡ got t.copies l3 = number_line bad_copies (codes "copies ") most_leaf_lines t.copies l3 refl (omega arith) h.3 (omega (arith, h.4, h.1)) in
+    let i : leaf_lines most_leaf_lines 0 l3 ≡ got t.leaves behind = leaves_back most_leaf_lines 0 t.leaves behind h.2 h.1 (omega (arith, h.0)) in
+    rw (g1, g2, i, le-leb t.copies (length t.leaves) h.4, e) refl
 
 -- ---- the text is UTF-8
 

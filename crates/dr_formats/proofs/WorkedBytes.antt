@@ -9,7 +9,7 @@ use Rattle.dr_formats.specs.Compact.{ThriftType, Items, Pairs, list_header_bytes
 use Rattle.dr_formats.specs.Hybrid.{hybrid, hybrid_bytes}
 use Rattle.dr_formats.specs.Plain.{has_short_text, is_writable, from_complement, complement, plain, plain_values, plain_bytes, dictionary_values, too_short, bad_text}
 use Rattle.dr_meaning.specs.Column.{triplet}
-use Rattle.dr_formats.specs.Page.{is_triplet, level_width, levels}
+use Rattle.dr_formats.specs.Page.{is_triplet, level_width, level_part, levels, rle_truths, encoded_values}
 use Rattle.dr_formats.proofs.Hexadecimal.{hex}
 
 abbrev z : ℕ → ℤ
@@ -228,21 +228,60 @@ indices = (refl, refl, refl, refl, refl, refl, refl, refl)
 pub level_widths : map level_width (0 ∷ 1 ∷ 2 ∷ 3 ∷ 4 ∷ 7 ∷ 8 ∷ 15 ∷ 16 ∷ 31 ∷ 32 ∷ []) ≡ 0 ∷ 1 ∷ 2 ∷ 2 ∷ 3 ∷ 3 ∷ 4 ∷ 4 ∷ 5 ∷ 5 ∷ 6 ∷ []
 level_widths = refl
 
--- a length of four bytes and hybrid data; bytes of the part behind the levels aren't looked at, what is behind the part is left
-pub level_parts : (levels 2 (pos 3) 3 (hex (codes "03000000 03 2400 07")) ≡ got (0 ∷ 1 ∷ 2 ∷ []) (7 ∷ [])) × (levels 2 (pos 3) 3 (hex (codes "05000000 03 2400 FFFF 07")) ≡ got (0 ∷ 1 ∷ 2 ∷ []) (7 ∷ [])) × (levels 1 (pos 3) 2 (hex (codes "02000000 04 01")) ≡ got (1 ∷ 1 ∷ []) [])
-    × (levels 0 (pos 4) 3 (7 ∷ []) ≡ got (0 ∷ 0 ∷ 0 ∷ []) (7 ∷ []))
-unfolding hybrid
-level_parts = (refl, refl, refl, refl)
+-- a level part of a V1 page, behind its length in four bytes; what is behind the part is left. Where the greatest level is 0 there is none, and any encoding
+pub level_parts : (level_part 2 (pos 3) (hex (codes "03000000 03 2400 07")) ≡ got (hex (codes "03 2400")) (7 ∷ [])) × (level_part 1 (pos 3) (hex (codes "00000000")) ≡ got [] []) × (level_part 0 (pos 4) (7 ∷ []) ≡ got [] (7 ∷ []))
+level_parts = (refl, refl, refl)
 
--- a level above the greatest; another encoding; a part that is too short for its levels, or longer than the bytes
+-- another encoding; a length that is cut short; a part that is longer than the bytes
 abbrev is_refused : {A E : Type 0} → Reading E A → Bool
 is_refused (got a bs) = false
 is_refused (refused e bs) = true
 
-pub no_level_parts : map is_refused (levels 2 (pos 3) 1 (hex (codes "02000000 02 03")) ∷ levels 2 (pos 4) 1 (hex (codes "02000000 02 02")) ∷ levels 2 (pos 3) 3 (hex (codes "02000000 04 02")) ∷ levels 2 (pos 3) 1 (hex (codes "03000000 02 02")) ∷ levels 2 (pos 3) 1 (hex (codes "020000")) ∷ levels 2 (pos 3) 1 (hex (codes "02000000 02 02")) ∷ [])
-    ≡ true ∷ true ∷ true ∷ true ∷ true ∷ false ∷ []
-unfolding hybrid
+pub no_level_parts : map is_refused (level_part 2 (pos 4) (hex (codes "02000000 02 02")) ∷ level_part 2 (pos 3) (hex (codes "020000")) ∷ level_part 2 (pos 3) (hex (codes "03000000 02 02")) ∷ level_part 2 (pos 3) (hex (codes "02000000 02 02")) ∷ [])
+    ≡ true ∷ true ∷ true ∷ false ∷ []
 no_level_parts = refl
+
+-- the levels of a part; bytes behind them aren't looked at, nor any where the greatest level is 0
+pub part_levels : (levels 2 3 (hex (codes "03 2400")) ≡ Some (0 ∷ 1 ∷ 2 ∷ [])) × (levels 2 3 (hex (codes "03 2400 FFFF")) ≡ Some (0 ∷ 1 ∷ 2 ∷ [])) × (levels 1 2 (hex (codes "04 01")) ≡ Some (1 ∷ 1 ∷ []))
+    × (levels 0 3 (hex (codes "FF")) ≡ Some (0 ∷ 0 ∷ 0 ∷ [])) × (levels 0 2 [] ≡ Some (0 ∷ 0 ∷ [])) × (levels 2 0 [] ≡ Some [])
+unfolding hybrid
+part_levels = (refl, refl, refl, refl, refl, refl)
+
+-- a level above the greatest, also where its width is that of the greatest; a part that is too short for its levels
+pub no_part_levels : (levels 2 1 (hex (codes "02 03")) ≡ None) × (levels 2 3 (hex (codes "04 02")) ≡ None) × (levels 1 1 [] ≡ None) × (levels 1 1 (hex (codes "02 02")) ≡ None)
+unfolding hybrid
+no_part_levels = (refl, refl, refl, refl)
+
+-- ---- truth values in RLE
+
+abbrev T : ℕ → List ℕ → Option (List Value)
+T n digits = rle_truths n (hex digits)
+
+abbrev some_truths : List Bool → Option (List Value)
+some_truths bs = Some (map bool_value bs)
+
+-- a repeat; a packed group, from the lowest bit on; both. What is behind the runs in the part, and behind the part, isn't looked at
+pub rle_truth_values : (T 8 (codes "02000000 10 01") ≡ some_truths (replicate 8 true)) × (T 8 (codes "02000000 03 2D") ≡ some_truths (true ∷ false ∷ true ∷ true ∷ false ∷ true ∷ false ∷ false ∷ []))
+    × (T 5 (codes "04000000 06 00 03 02") ≡ some_truths (false ∷ false ∷ false ∷ false ∷ true ∷ [])) × (T 2 (codes "06000000 04 01 06 02 FFFF 07") ≡ some_truths (true ∷ true ∷ []))
+unfolding hybrid
+rle_truth_values = (refl, refl, refl, refl)
+
+-- with no value wanted nothing is needed, and nothing is looked at
+pub no_truth_value_wanted : (T 0 [] ≡ Some []) × (T 0 (codes "FF") ≡ Some []) × (T 0 (codes "02000000 10 02") ≡ Some [])
+no_truth_value_wanted = (refl, refl, refl)
+
+-- a value of 2; a length that is cut short; a part that is longer than the bytes; too few values; no bytes
+pub no_rle_truth_values : (T 8 (codes "02000000 10 02") ∷ T 8 (codes "020000") ∷ T 8 (codes "03000000 10 01") ∷ T 9 (codes "02000000 10 01") ∷ T 8 (codes "01000000 10 01") ∷ T 1 [] ∷ [])
+    ≡ None ∷ None ∷ None ∷ None ∷ None ∷ None ∷ []
+unfolding hybrid
+no_rle_truth_values = refl
+
+-- the encoding RLE 3 is one of truth values alone; each other number than 0, 2, 3 and 8 is none, also where no value is wanted
+pub encodings : (encoded_values (pos 3) bool_kind [] 1 (hex (codes "02000000 02 01")) ≡ some_truths (true ∷ [])) × (encoded_values (pos 0) bool_kind [] 1 (1 ∷ []) ≡ some_truths (true ∷ []))
+    × (map (λ k. encoded_values (pos 3) k [] 0 (hex (codes "02000000 02 01"))) (bool_kind ∷ int32_kind ∷ int64_kind ∷ text_kind ∷ []) ≡ Some [] ∷ None ∷ None ∷ None ∷ [])
+    × (map (λ (e : ℤ). encoded_values e bool_kind [] 0 []) (pos 0 ∷ pos 1 ∷ pos 2 ∷ pos 3 ∷ pos 4 ∷ pos 8 ∷ pos 9 ∷ z 1 ∷ []) ≡ Some [] ∷ None ∷ Some [] ∷ Some [] ∷ None ∷ Some [] ∷ None ∷ None ∷ [])
+unfolding hybrid
+encodings = (refl, refl, refl, refl)
 
 -- ---- what can be written
 

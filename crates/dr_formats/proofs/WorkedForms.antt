@@ -245,17 +245,6 @@ pub short_dictionary : Refused short_dictionary_bytes bad_data
 unfolding footer_of read_struct page_triplets hybrid
 short_dictionary = known_cause_holds short_dictionary_bytes one_schema one_leaf bad_data refl
 
-abbrev v2_page_bytes : List ℕ
-v2_page_bytes =
-    hex (codes "504152311506151015105C1502150015021500150015001200000700000000000000") ++
-    hex (codes "292C350018015415020015042500180161001602191C191C3C150435001602263C2608000026020000") ++
-    hex (codes "2900000050415231")
-
--- a page of the type DATA_PAGE_V2 3: not read yet
-pub v2_page : Refused v2_page_bytes bad_data
-unfolding footer_of read_struct page_triplets hybrid
-v2_page = known_cause_holds v2_page_bytes one_schema one_leaf bad_data refl
-
 abbrev data_page_without_header_bytes : List ℕ
 data_page_without_header_bytes =
     hex (codes "504152311500151015105C15021500150215001500150000000700000000000000") ++

@@ -13,6 +13,7 @@ use Rattle.dr_formats.specs.Hybrid.{hybrid}
 use Rattle.dr_formats.specs.Page.{page_triplets}
 use Rattle.dr_formats.specs.File.{Footer, rows_agree, values_fit, bad_footer, bad_schema, bad_codec, bad_data, footer_of, known_cause}
 use Rattle.dr_formats.specs.Opening.{opening_cause, leaf_cause, range, reader_ranges, is_inside, is_in_file}
+use Rattle.dr_formats.specs.Page.{data_page_v1, data_page_v2}
 use Rattle.dr_formats.specs.Writing.{file_bytes}
 use Rattle.dr_formats.specs.TableFile.{table_text, table_too_long, bad_head, bad_tablets, bad_copies, bad_leaf, bad_table_schema}
 use Rattle.dr_formats.specs.Loading.{Put, Plan, puts_of, load_taken, load, words_refusal, leaf_refused, copies_refused, most_loaded, most_tablet_rows}
@@ -109,13 +110,16 @@ inside = refl
 -- ---- load
 
 abbrev plan : ℕ → Plan
-plan rows = record { schema = one_schema; directories = codes "x" ∷ codes "y" ∷ []; copies = 2; rows = rows; table = Some (codes "T") }
+plan rows = record { schema = one_schema; directories = codes "x" ∷ codes "y" ∷ []; copies = 2; rows = rows; table = Some (codes "T"); form = data_page_v1 }
 
 abbrev number : ℕ → Node
 number n = slot (single (atom (int_value (pos n)))) no_slots
 
 abbrev file : List ℕ → List ℕ
-file ns = file_bytes one_schema (map number ns)
+file ns = file_bytes data_page_v1 one_schema (map number ns)
+
+abbrev file_v2 : List ℕ → List ℕ
+file_v2 ns = file_bytes data_page_v2 one_schema (map number ns)
 
 abbrev put : List ℕ → List ℕ → Put
 put path bytes = record { path = path; bytes = bytes }
@@ -127,14 +131,14 @@ pub three_records : puts_of (plan 2) (map number (1 ∷ 2 ∷ 3 ∷ [])) None �
 unfolding digits
 three_records = refl
 
--- copies and tablets in the table file, each in its place
-pub two_of_one : puts_of (record { schema = one_schema; directories = codes "x" ∷ codes "y" ∷ []; copies = 1; rows = 1; table = Some (codes "T") }) (map number (1 ∷ 2 ∷ [])) None ≡
-    put (codes "x/t000000.parquet") (file (1 ∷ [])) ∷ put (codes "y/t000001.parquet") (file (2 ∷ [])) ∷ put (codes "T") (table_text (record { schema = one_schema; leaves = codes "x" ∷ codes "y" ∷ []; copies = 1; tablets = 2 })) ∷ []
+-- copies and tablets in the table file, each in its place; pages of the other form
+pub two_of_one : puts_of (record { schema = one_schema; directories = codes "x" ∷ codes "y" ∷ []; copies = 1; rows = 1; table = Some (codes "T"); form = data_page_v2 }) (map number (1 ∷ 2 ∷ [])) None ≡
+    put (codes "x/t000000.parquet") (file_v2 (1 ∷ [])) ∷ put (codes "y/t000001.parquet") (file_v2 (2 ∷ [])) ∷ put (codes "T") (table_text (record { schema = one_schema; leaves = codes "x" ∷ codes "y" ∷ []; copies = 1; tablets = 2 })) ∷ []
 unfolding digits
 two_of_one = refl
 
 -- no records: one tablet without rows, and the table; where none is asked for, no table
-pub no_records : (puts_of (record { schema = one_schema; directories = codes "x" ∷ []; copies = 1; rows = 5; table = None }) [] None ≡ put (codes "x/t000000.parquet") (file []) ∷ [])
+pub no_records : (puts_of (record { schema = one_schema; directories = codes "x" ∷ []; copies = 1; rows = 5; table = None; form = data_page_v1 }) [] None ≡ put (codes "x/t000000.parquet") (file []) ∷ [])
 unfolding digits
 no_records = refl
 

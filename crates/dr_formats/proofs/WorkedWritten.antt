@@ -8,7 +8,7 @@ use Rattle.dr_meaning.specs.Record.{bool_value, int_value, text_value, Node, no_
 use Rattle.dr_meaning.specs.Column.{Triplet, triplet}
 use Rattle.dr_formats.specs.Compact.{read_struct, struct_bytes}
 use Rattle.dr_formats.specs.Hybrid.{hybrid, hybrid_bytes}
-use Rattle.dr_formats.specs.Page.{page_triplets, body_bytes}
+use Rattle.dr_formats.specs.Page.{data_page_v1, data_page_v2, page_triplets, body_bytes}
 use Rattle.dr_formats.specs.File.{IsFileOf, footer_of}
 use Rattle.dr_formats.specs.Writing.{enough_triplets, enough_bytes, is_full, cut_pages, file_bytes}
 use Rattle.dr_formats.proofs.Hexadecimal.{hex}
@@ -70,7 +70,7 @@ each_file =
     -- its length, and the magic
     hex (codes "E100000050415231")
 
-pub each_is_written : file_bytes each_schema three_rows ≡ each_file
+pub each_is_written : file_bytes data_page_v1 each_schema three_rows ≡ each_file
 unfolding file_bytes struct_bytes body_bytes hybrid_bytes
 each_is_written = refl
 
@@ -78,16 +78,52 @@ pub each_is_read : IsFileOf each_file each_schema (leaves each_schema.fields) th
 unfolding footer_of read_struct page_triplets hybrid is_utf8 chars lib.Utf8.encode
 each_is_read = (footer_or (footer_of each_file), refl, refl, refl, (refl, refl, refl, refl, refl))
 
--- ---- a file without rows has no row group
+-- ---- the same records in V2 pages: levels without lengths before them, whose lengths, with the numbers of NULLs and of rows, stand in the header
+
+abbrev each_file_v2 : List ℕ
+each_file_v2 =
+    -- magic
+    hex (codes "50415231") ++
+    -- the page of b, its header and its body
+    hex (codes "1506150215025C15061500150615001500150012000005") ++
+    -- the page of i, its header and its body
+    hex (codes "1506151415145C1506150215061500150415001200000305FEFFFFFF07000000") ++
+    -- the page of s, its header and its body
+    hex (codes "1506152C152C5C1508150215061500150415041200000302030B010000006102000000C3A90300000078797A") ++
+    -- the page of g.n, its header and its body
+    hex (codes "1506152A152A5C1508150415061500150615041200000302034A000100000000000000FFFFFFFFFFFFFFFF") ++
+    -- the page of g.t, its header and its body
+    hex (codes "1506151615165C1506150215061500150415001200000305000000000100000071") ++
+    -- the footer
+    hex (codes "1502197C48015415080015002500180162001502250218016900150C250418017325000035021801671504001504250418016E00150C25001801742500001606") ++
+    hex (codes "191C195C26081C1500192500061918016215001606162E162E2608000026361C1502192500061918016915001606164016402636000026761C150C1925000619") ++
+    hex (codes "18017315001608165816582676000026CE011C15041925000619280167016E150016081656165626CE01000026A4021C150C1925000619280167017415001606") ++
+    hex (codes "1642164226A402000016DE02160600280F6472656D656C2D6E6573746564203100") ++
+    -- its length, and the magic
+    hex (codes "E100000050415231")
+
+pub each_is_written_v2 : file_bytes data_page_v2 each_schema three_rows ≡ each_file_v2
+unfolding file_bytes struct_bytes body_bytes hybrid_bytes
+each_is_written_v2 = refl
+
+pub each_is_read_v2 : IsFileOf each_file_v2 each_schema (leaves each_schema.fields) three_rows
+unfolding footer_of read_struct page_triplets hybrid is_utf8 chars lib.Utf8.encode
+each_is_read_v2 = (footer_or (footer_of each_file_v2), refl, refl, refl, (refl, refl, refl, refl, refl))
+
+-- ---- a file without rows has no row group, whatever its pages would be
 
 abbrev no_rows : List ℕ
 no_rows =
     hex (codes "504152311502197C48015415080015002500180162001502250218016900150C250418017325000035021801671504001504250418016E00150C25001801742500") ++
     hex (codes "001600190C280F6472656D656C2D6E65737465642031005400000050415231")
 
-pub no_rows_are_written : file_bytes each_schema [] ≡ no_rows
+pub no_rows_are_written : file_bytes data_page_v1 each_schema [] ≡ no_rows
 unfolding file_bytes struct_bytes
 no_rows_are_written = refl
+
+pub no_rows_are_written_v2 : file_bytes data_page_v2 each_schema [] ≡ no_rows
+unfolding file_bytes struct_bytes
+no_rows_are_written_v2 = refl
 
 pub no_rows_are_read : IsFileOf no_rows each_schema (leaves each_schema.fields) []
 unfolding footer_of read_struct

@@ -1,15 +1,15 @@
 -- Column chunks: pages until the wanted triplets are taken (Apache Parquet, "Column chunks", "Data Pages").
 use Rattle.std.specs.Prelude.{ℕ, zero, suc, ◌+◌, ◌-◌, List, [], ◌++◌, length, take, drop, Bool, true, false, ◌&&◌, ◌||◌, nat_le, nat_lt}
-use Rattle.std.specs.Prelude.{if◌then◌else◌, ℤ, pos, Option, Some, None, option_and_then, Result, Ok, Err}
+use Rattle.std.specs.Prelude.{if◌then◌else◌, ℤ, pos, Option, Some, None, option_map, option_and_then, Result, Ok, Err}
 use Rattle.dr_meaning.specs.Record.{Value}
 use Rattle.dr_meaning.specs.Path.{Leaf, max_repetition, max_definition}
 use Rattle.dr_meaning.specs.Column.{Triplet}
 use Rattle.dr_formats.specs.Reading.{Reading, got, refused, Reader, give, ◌>>=◌, bytes_of}
 use Rattle.dr_formats.specs.Compact.{CompactFault, Struct, read_struct}
 use Rattle.dr_formats.specs.Plain.{plain_values}
-use Rattle.dr_formats.specs.Page.{data_page_v1, PageShape, PageFault, bad_page, found, is_number, plain_encoding, plain_dictionary_encoding}
-use Rattle.dr_formats.specs.Page.{page_triplets, triplets_read}
-use Rattle.dr_formats.specs.Metadata.{MetaFault, ColumnMeta, DataPageHeader, DictionaryPageHeader, PageHeader, view_page}
+use Rattle.dr_formats.specs.Page.{data_page_v1, data_page_v2, PageShape, PageFault, bad_page, found, is_number, plain_encoding}
+use Rattle.dr_formats.specs.Page.{plain_dictionary_encoding, page_triplets, triplets_read}
+use Rattle.dr_formats.specs.Metadata.{MetaFault, ColumnMeta, DataPageHeader, DataPageHeaderV2, DictionaryPageHeader, PageHeader, view_page}
 
 -- ---- pages
 
@@ -36,7 +36,7 @@ pub record PageTaken : Type 0 where
 abbrev pub taken : List Triplet → List Value → PageTaken
 taken ts d = record { triplets = ts; dictionary = d }
 
--- what a page's header and its leaf say of its body
+-- what a V1 page's header and its leaf say of its body
 abbrev pub shape_of_page : Leaf → DataPageHeader → PageShape
 shape_of_page l h = record {
   form = data_page_v1;
@@ -44,16 +44,34 @@ shape_of_page l h = record {
   encoding = h.encoding;
   definition_encoding = h.definition_encoding;
   repetition_encoding = h.repetition_encoding;
+  definition_bytes = 0;
+  repetition_bytes = 0;
   kind = l.kind;
   max_repetition = max_repetition l.path;
   max_definition = max_definition l.path;
 }
 
--- a data page, if it has at most the wanted triplets
-abbrev pub data_page : Leaf → ℕ → List Value → List ℕ → Option DataPageHeader → Reader PageFault PageTaken
-data_page l wanted dictionary body None = refused bad_page
-data_page l wanted dictionary body (Some h) =
-    if nat_le h.values wanted then (do ts ← found (page_triplets (shape_of_page l h) dictionary body); give (taken ts dictionary))
+-- what a V2 page's header and its leaf say of its body: levels are always in RLE. Its numbers of NULLs and rows aren't looked at, nor whether its values
+-- are compressed, since a chunk without compression has none that are
+abbrev pub shape_of_page_v2 : Leaf → DataPageHeaderV2 → PageShape
+shape_of_page_v2 l h = record {
+  form = data_page_v2;
+  triplets = h.values;
+  encoding = h.encoding;
+  definition_encoding = pos 3;
+  repetition_encoding = pos 3;
+  definition_bytes = h.definition_bytes;
+  repetition_bytes = h.repetition_bytes;
+  kind = l.kind;
+  max_repetition = max_repetition l.path;
+  max_definition = max_definition l.path;
+}
+
+-- a data page by its shape, where its header has one, if it has at most the wanted triplets
+abbrev pub data_page : ℕ → List Value → List ℕ → Option PageShape → Reader PageFault PageTaken
+data_page wanted dictionary body None = refused bad_page
+data_page wanted dictionary body (Some s) =
+    if nat_le s.triplets wanted then (do ts ← found (page_triplets s dictionary body); give (taken ts dictionary))
     else refused bad_page
 
 -- a dictionary page, if it is the first page, with PLAIN values
@@ -64,13 +82,15 @@ dictionary_page l first body (Some h) =
     then (do vs ← found (plain_values l.kind h.values body); give (taken [] vs))
     else refused bad_page
 
--- a page by its type: DATA_PAGE 0, INDEX_PAGE 1, DICTIONARY_PAGE 2 (parquet.thrift, PageType); index pages are passed over, any other is refused
+-- a page by its type: DATA_PAGE 0, INDEX_PAGE 1, DICTIONARY_PAGE 2, DATA_PAGE_V2 3 (parquet.thrift, PageType), with the header struct of its type; index
+-- pages are passed over, any other is refused
 abbrev pub page_taken : Leaf → ℕ → Bool → List Value → PageHeader → List ℕ → Reader PageFault PageTaken
 page_taken l wanted first dictionary h body =
-    if is_number 0 h.type then data_page l wanted dictionary body h.data_page
+    if is_number 0 h.type then data_page wanted dictionary body (option_map (shape_of_page l) h.data_page)
     else (if is_number 1 h.type then give (taken [] dictionary)
     else (if is_number 2 h.type then dictionary_page l first body h.dictionary_page
-    else refused bad_page))
+    else (if is_number 3 h.type then data_page wanted dictionary body (option_map (shape_of_page_v2 l) h.data_page_v2)
+    else refused bad_page)))
 
 -- at most k pages, until the wanted triplets are taken; each page takes a byte at least, so there are at most as many as bytes
 abbrev pub pages : Leaf → ℕ → ℕ → Bool → List Value → Reader PageFault (List Triplet)

@@ -1,17 +1,19 @@
 -- Files: the footer, which files are files of records for a set of leaves, and the causes for which others are not (Apache Parquet, "File format").
-use Rattle.std.specs.Prelude.{◌≡◌, ℕ, zero, suc, ◌+◌, ◌-◌, ◌^◌, List, [], ◌∷◌, ◌++◌, map, length, take, drop, Bool, true, false, ◌&&◌, ◌==◌, nat_le}
+use Rattle.std.specs.Prelude.{◌≡◌, ℕ, zero, suc, ◌+◌, ◌-◌, ◌^◌, List, [], ◌∷◌, ◌++◌, map, length, take, drop, replicate, Bool, true, false, ◌&&◌, ◌==◌, nat_le}
 use Rattle.std.specs.Prelude.{if◌then◌else◌, bytes_eq, Option, Some, None, option_map, option_and_then, Result, Ok, Err}
-use Rattle.std.specs.List.{list_all}
+use Rattle.std.specs.List.{list_all, flat_map}
 use Rattle.dr_meaning.specs.Schema.{Schema}
 use Rattle.dr_meaning.specs.Path.{Leaf}
 use Rattle.dr_meaning.specs.Record.{Node, is_record}
-use Rattle.dr_meaning.specs.Column.{Triplet, column}
+use Rattle.dr_meaning.specs.Column.{Triplet, triplet, column}
+use Rattle.dr_meaning.specs.OneColumn.{is_column}
 pub use Rattle.dr_meaning.specs.OneColumn.{starts, begins_record}
 use Rattle.dr_formats.specs.Reading.{Reading, got, refused}
 use Rattle.dr_formats.specs.LittleEndian.{little_endian}
 use Rattle.dr_formats.specs.Compact.{CompactFault, Struct, read_struct}
 use Rattle.dr_formats.specs.Metadata.{MetaFault, ColumnMeta, ColumnChunk, RowGroup, FileMeta, view_file}
 use Rattle.dr_formats.specs.FileSchema.{FileSchema, file_schema, file_leaves, place_of, open_schema}
+use Rattle.dr_formats.specs.Lacking.{StandIn, Source, own_chunks, no_chunks, chunks_of, source_in, has_source, leaf_read, outline}
 use Rattle.dr_formats.specs.Page.{is_number}
 use Rattle.dr_formats.specs.Chunk.{chunk_triplets}
 
@@ -86,9 +88,17 @@ abbrev pub is_found : Option ℕ → Bool
 is_found None = false
 is_found (Some i) = true
 
--- whether each of these leaves is an open leaf of the file
+-- where the column of a leaf is
+abbrev pub leaf_source : Footer → Leaf → Option Source
+leaf_source f l = source_in f.schema l
+
+-- whether a file has the column of each of these leaves
 abbrev pub has_leaves : Footer → List Leaf → Bool
-has_leaves f F = list_all (λ l. is_found (leaf_place f l)) F
+has_leaves f F = list_all (λ l. has_source (leaf_source f l)) F
+
+-- the leaves whose chunks are read for these: those that the file has, and stand-ins
+abbrev pub leaves_read : Footer → List Leaf → List Leaf
+leaves_read f F = flat_map (λ l. leaf_read l (leaf_source f l)) F
 
 -- the chunk at this place
 abbrev pub nth_chunk : List ColumnChunk → ℕ → Option ColumnChunk
@@ -154,24 +164,44 @@ groups_column bytes f l (g ∷ gs) = option_and_then (λ ts. option_map (λ more
 abbrev pub file_column : List ℕ → Footer → Leaf → Option (List Triplet)
 file_column bytes f l = groups_column bytes f l f.meta.groups
 
+-- the triplets, if they are a column of the leaf in so many rows
+abbrev pub if_column : Leaf → ℕ → List Triplet → Option (List Triplet)
+if_column l rows ts = if is_column l rows ts then Some ts else None
+
+-- what a stand-in's column tells of a leaf that its group lacks, where it is a column of some records
+abbrev pub lacking_column : StandIn → ℕ → Option (List Triplet) → Option (List Triplet)
+lacking_column x rows ts = option_map (outline x.repetition x.definition) (option_and_then (if_column x.leaf rows) ts)
+
+-- the column of a leaf by its source: the file's; a NULL for each row; what the stand-in's tells
+abbrev pub column_by : List ℕ → Footer → Leaf → Option Source → Option (List Triplet)
+column_by bytes f l None = None
+column_by bytes f l (Some own_chunks) = file_column bytes f l
+column_by bytes f l (Some no_chunks) = Some (replicate f.meta.rows (triplet 0 0 None))
+column_by bytes f l (Some (chunks_of x)) = lacking_column x f.meta.rows (file_column bytes f x.leaf)
+
+-- the column that a file gives of a leaf
+abbrev pub given_column : List ℕ → Footer → Leaf → Option (List Triplet)
+given_column bytes f l = column_by bytes f l (leaf_source f l)
+
 -- ---- files of records
 
--- the columns of the records are those of the file, for these leaves
+-- the columns of the records are those that the file gives, for these leaves
 abbrev pub AreColumns : List ℕ → Footer → List Leaf → List Node → Type 0
-AreColumns bytes f F R = map (file_column bytes f) F ≡ map (λ (l : Leaf). Some (column l.path R)) F
+AreColumns bytes f F R = map (given_column bytes f) F ≡ map (λ (l : Leaf). Some (column l.path R)) F
 
--- a footer's data is that of these records of the schema
+-- a footer's data is that of these records of the schema; no leaf whose chunks are read has too many triplets
 abbrev pub IsDataOf : List ℕ → Footer → Schema → List Leaf → List Node → Type 0
-IsDataOf bytes f s F R = (rows_agree f ≡ true) × (values_fit f F ≡ true) × (length R ≡ f.meta.rows) × (list_all (is_record s.fields) R ≡ true)
+IsDataOf bytes f s F R = (rows_agree f ≡ true) × (values_fit f (leaves_read f F) ≡ true) × (length R ≡ f.meta.rows) × (list_all (is_record s.fields) R ≡ true)
     × AreColumns bytes f F R
 
--- the bytes are a file of these records of the schema, for these of its leaves
+-- the bytes are a file of these records of the schema, for these of its leaves; in records of a wider schema than the file's the fields that it lacks are absent
 abbrev pub IsFileOf : List ℕ → Schema → List Leaf → List Node → Type 0
-IsFileOf bytes s F R = (f : Footer) × (footer_of bytes ≡ Some f) × (has_leaves f F ≡ true) × (are_uncompressed f F ≡ true) × IsDataOf bytes f s F R
+IsFileOf bytes s F R = (f : Footer) × (footer_of bytes ≡ Some f) × (has_leaves f F ≡ true) × (are_uncompressed f (leaves_read f F) ≡ true)
+    × IsDataOf bytes f s F R
 
 -- ---- causes
 
--- no footer; a leaf that isn't an open leaf of the file; a chunk with another codec; no records
+-- no footer; a leaf whose column the file doesn't have, not even by what it lacks; a chunk with another codec; no records
 pub data FileCause : Type 0 where
   bad_footer : FileCause
   bad_schema : FileCause
@@ -182,8 +212,8 @@ pub data FileCause : Type 0 where
 abbrev pub HasCause : List ℕ → Schema → List Leaf → FileCause → Type 0
 HasCause bytes s F bad_footer = footer_of bytes ≡ None
 HasCause bytes s F bad_schema = (f : Footer) × (footer_of bytes ≡ Some f) × (has_leaves f F ≡ false)
-HasCause bytes s F bad_codec = (f : Footer) × (footer_of bytes ≡ Some f) × (has_leaves f F ≡ true) × (are_uncompressed f F ≡ false)
-HasCause bytes s F bad_data = (f : Footer) × (footer_of bytes ≡ Some f) × (has_leaves f F ≡ true) × (are_uncompressed f F ≡ true)
+HasCause bytes s F bad_codec = (f : Footer) × (footer_of bytes ≡ Some f) × (has_leaves f F ≡ true) × (are_uncompressed f (leaves_read f F) ≡ false)
+HasCause bytes s F bad_data = (f : Footer) × (footer_of bytes ≡ Some f) × (has_leaves f F ≡ true) × (are_uncompressed f (leaves_read f F) ≡ true)
     × ((R : List Node) → IsDataOf bytes f s F R → ⊥)
 
 -- ---- a test for causes: of the last it knows only the reasons that need no records
@@ -193,15 +223,15 @@ abbrev pub is_decoded : Option (List Triplet) → Bool
 is_decoded None = false
 is_decoded (Some ts) = true
 
--- whether rows and numbers of triplets agree, and each chunk spells triplets of its rows
+-- whether rows and numbers of triplets agree, and the file gives a column of each leaf
 abbrev pub has_columns : List ℕ → Footer → List Leaf → Bool
-has_columns bytes f F = rows_agree f && values_fit f F && list_all (λ l. is_decoded (file_column bytes f l)) F
+has_columns bytes f F = rows_agree f && values_fit f (leaves_read f F) && list_all (λ l. is_decoded (given_column bytes f l)) F
 
 -- the cause by the tests of a footer, in their order, where this test tells whether the data is good
 abbrev pub cause_by : (Footer → Bool) → List Leaf → Option Footer → Option FileCause
 cause_by is_good F None = Some bad_footer
 cause_by is_good F (Some f) =
-    if has_leaves f F then (if are_uncompressed f F then (if is_good f then None else Some bad_data) else Some bad_codec) else Some bad_schema
+    if has_leaves f F then (if are_uncompressed f (leaves_read f F) then (if is_good f then None else Some bad_data) else Some bad_codec) else Some bad_schema
 
 abbrev pub footer_cause : List ℕ → List Leaf → Option Footer → Option FileCause
 footer_cause bytes F o = cause_by (λ f. has_columns bytes f F) F o

@@ -11,9 +11,10 @@ pub mod Hybrid
 -- values in the encodings PLAIN and RLE_DICTIONARY; bodies of data pages
 pub mod Plain
 pub mod Page
--- files: structs of the metadata, schemas, column chunks, footers and causes; the file that is written
+-- files: structs of the metadata, schemas, leaves that are lacking, column chunks, footers and causes; the file that is written
 pub mod Metadata
 pub mod FileSchema
+pub mod Lacking
 pub mod Chunk
 pub mod File
 pub mod Opening
@@ -30,6 +31,8 @@ pub mod CompactLaws
 pub mod HybridLaws
 pub mod PlainLaws
 pub mod FileLaws
+pub mod Widening
+pub mod LackingLaws
 pub mod WritingLaws
 pub mod OpenSchemaLaws
 pub mod TabletLaws

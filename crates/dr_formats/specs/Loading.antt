@@ -1,13 +1,12 @@
 -- What the command `load` does: which words it refuses, which tablets it puts and in which order, and where it stops.
-use Rattle.std.specs.Prelude.{ℕ, suc, ◌*◌, List, [], ◌∷◌, ◌++◌, map, length, filter, Bool, not, ◌&&◌, ◌==◌, nat_le, if◌then◌else◌, Option, Some, None}
-use Rattle.std.specs.List.{list_all}
+use Rattle.std.specs.Prelude.{ℕ, suc, ◌*◌, List, [], ◌∷◌, ◌++◌, map, length, filter, Bool, ◌==◌, nat_le, if◌then◌else◌, Option, Some, None}
 use Rattle.dr_meaning.specs.Schema.{Schema}
 use Rattle.dr_meaning.specs.Record.{Node}
 use Rattle.dr_meaning.specs.Lines.{Refusal, lines_of, Taken, taken_from}
+use Rattle.dr_formats.specs.Page.{PageForm}
 use Rattle.dr_formats.specs.Writing.{file_bytes}
 use Rattle.dr_formats.specs.Tablets.{tablets, copy_paths}
 use Rattle.dr_formats.specs.TableFile.{Table, most_tablets, table_text, is_line_text}
-use Rattle.dr_meaning.specs.Lists.{is_empty}
 
 -- ---- the limits
 
@@ -46,17 +45,19 @@ pub record Put : Type 0 where
   pub path : List ℕ
   pub bytes : List ℕ
 
--- where to load: the schema, the directories, how many copies of each tablet, how many records to a tablet, where the table file goes if it is to be put
+-- where to load: the schema, the directories, how many copies of each tablet, how many records to a tablet, where the table file goes if it is to be put; in pages
+-- of which form
 pub record Plan : Type 0 where
   pub schema : Schema
   pub directories : List (List ℕ)
   pub copies : ℕ
   pub rows : ℕ
   pub table : Option (List ℕ)
+  pub form : PageForm
 
 -- a tablet, on each of its leaves in order
 abbrev pub tablet_puts : Plan → ℕ → List Node → List Put
-tablet_puts p i R = map (λ path. record { path = path; bytes = file_bytes p.schema R }) (copy_paths p.directories p.copies i)
+tablet_puts p i R = map (λ path. record { path = path; bytes = file_bytes p.form p.schema R }) (copy_paths p.directories p.copies i)
 
 -- tablets in order, the first of which has this number
 abbrev pub puts_from : Plan → ℕ → List (List Node) → List Put

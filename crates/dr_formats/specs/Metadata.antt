@@ -345,8 +345,14 @@ data_header_tree h = count_i32 1 h.values (struct_field (pos 2) (i32_item h.enco
 abbrev pub dictionary_header_tree : DictionaryPageHeader → Struct
 dictionary_header_tree h = count_i32 1 h.values (struct_field (pos 2) (i32_item h.encoding) stop)
 
--- the header of a V1 or dictionary page; a V2 header isn't written yet
+-- the struct of a V2 data page header
+abbrev pub data_header_v2_tree : DataPageHeaderV2 → Struct
+data_header_v2_tree h = count_i32 1 h.values (with_i32 2 h.nulls (with_i32 3 h.rows (struct_field (pos 4) (i32_item h.encoding)
+    (count_i32 5 h.definition_bytes (count_i32 6 h.repetition_bytes (with_field 7 truth_item h.compressed stop))))))
+
+-- the struct of a page header, whichever header structs it has
 abbrev pub page_tree : PageHeader → Struct
 page_tree h = struct_field (pos 1) (i32_item h.type) (with_i32 2 h.uncompressed_size
     (count_i32 3 h.compressed_size (with_field 5 (λ d. struct_item (data_header_tree d)) h.data_page
-    (with_field 7 (λ d. struct_item (dictionary_header_tree d)) h.dictionary_page stop))))
+    (with_field 7 (λ d. struct_item (dictionary_header_tree d)) h.dictionary_page
+    (with_field 8 (λ d. struct_item (data_header_v2_tree d)) h.data_page_v2 stop)))))

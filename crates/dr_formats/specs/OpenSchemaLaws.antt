@@ -4,6 +4,7 @@ use Rattle.dr_meaning.specs.Schema.{Kind, Schema, is_schema, most_leaves}
 use Rattle.dr_meaning.specs.Path.{Step, Leaf, leaves}
 use Rattle.dr_meaning.specs.Record.{Node}
 use Rattle.dr_formats.specs.FileSchema.{FileLeaf, file_leaves, FileSchema, open_schema}
+use Rattle.dr_formats.specs.Page.{PageForm}
 use Rattle.dr_formats.specs.File.{schema_of_file}
 use Rattle.dr_formats.specs.Writing.{file_bytes}
 use Rattle.dr_formats.specs.WritingLaws.{FitsFile}
@@ -35,4 +36,4 @@ OpenPartHasOpenLeaves = (f : FileSchema) → leaves_of_part (open_schema f) ≡ 
 
 -- the schema of a written file is the schema of its records
 abbrev pub WrittenSchemaIsRead : Type 0
-WrittenSchemaIsRead = (s : Schema) (R : List Node) → FitsFile s R → schema_of_file (file_bytes s R) ≡ Ok s
+WrittenSchemaIsRead = (form : PageForm) (s : Schema) (R : List Node) → FitsFile form s R → schema_of_file (file_bytes form s R) ≡ Ok s

@@ -8,14 +8,14 @@ use Rattle.dr_meaning.specs.Column.{Triplet}
 use Rattle.dr_meaning.specs.OneColumn.{is_column}
 use Rattle.dr_formats.specs.Metadata.{ColumnMeta, RowGroup}
 use Rattle.dr_formats.specs.Chunk.{chunk_start}
-use Rattle.dr_formats.specs.File.{Footer, footer_of, footer_length, footer_place, is_framed, leaf_chunk, rows_agree, values_fit, file_column}
+use Rattle.dr_formats.specs.File.{Footer, footer_of, footer_length, footer_place, is_framed, leaf_chunk, leaves_read, rows_agree, values_fit, given_column}
 use Rattle.dr_formats.specs.File.{FileCause, HasCause, IsFileOf, cause_by}
 
 -- ---- causes
 
 -- whether the numbers of rows and of triplets, as the footer tells them, agree and aren't too great
 abbrev pub has_numbers : List Leaf → Footer → Bool
-has_numbers F f = rows_agree f && values_fit f F
+has_numbers F f = rows_agree f && values_fit f (leaves_read f F)
 
 -- the cause that the footer alone shows
 abbrev pub opening_cause : List ℕ → List Leaf → Option FileCause
@@ -26,9 +26,9 @@ abbrev pub has_column : Leaf → ℕ → Option (List Triplet) → Bool
 has_column l rows None = false
 has_column l rows (Some ts) = is_column l rows ts
 
--- whether the file has a column of one leaf
+-- whether the file gives a column of one leaf
 abbrev pub has_leaf_column : List ℕ → Leaf → Footer → Bool
-has_leaf_column bytes l f = has_numbers (l ∷ []) f && has_column l f.meta.rows (file_column bytes f l)
+has_leaf_column bytes l f = has_numbers (l ∷ []) f && has_column l f.meta.rows (given_column bytes f l)
 
 -- the cause of one leaf alone
 abbrev pub leaf_cause : List ℕ → Leaf → Option FileCause
@@ -63,12 +63,12 @@ chunk_range footer (Some m) =
 abbrev pub leaf_ranges : Footer → Leaf → List Range
 leaf_ranges f l = flat_map (λ (g : RowGroup). chunk_range f.place (leaf_chunk f l g)) f.meta.groups
 
--- the chunks of these leaves, where there is a footer
+-- the chunks that are read for these leaves, where there is a footer
 abbrev pub chunk_ranges : List Leaf → Option Footer → List Range
 chunk_ranges F None = []
-chunk_ranges F (Some f) = flat_map (leaf_ranges f) F
+chunk_ranges F (Some f) = flat_map (leaf_ranges f) (leaves_read f F)
 
--- what a reader of these leaves may look into: both ends of the file, the footer, the leaves' own chunks
+-- what a reader of these leaves may look into: both ends of the file, the footer, the chunks of the leaves, and of the stand-ins of those that are lacking
 abbrev pub reader_ranges : List ℕ → List Leaf → List Range
 reader_ranges bytes F = end_ranges bytes ++ (footer_ranges bytes ++ chunk_ranges F (footer_of bytes))
 

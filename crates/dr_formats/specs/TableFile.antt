@@ -1,5 +1,5 @@
 -- Table files: how many tablets a table has, how many copies of each, on which leaves they lie, and the schema.
-use Rattle.std.specs.Prelude.{ℕ, zero, suc, ◌+◌, ◌*◌, ◌-◌, List, [], ◌∷◌, ◌++◌, length, Bool, true, false, not, ◌&&◌, ◌==◌, nat_le, nat_lt}
+use Rattle.std.specs.Prelude.{ℕ, zero, suc, ◌+◌, ◌*◌, ◌-◌, List, [], ◌∷◌, ◌++◌, length, Bool, false, not, ◌&&◌, ◌==◌, nat_le, nat_lt}
 use Rattle.std.specs.Prelude.{if◌then◌else◌, bytes_eq, codes, Option, Some, None, option_map, option_and_then, Result, Ok, Err}
 use Rattle.std.specs.List.{list_all}
 use Rattle.std.specs.Str.{is_utf8}
@@ -8,6 +8,7 @@ use Rattle.dr_meaning.specs.Schema.{Schema}
 use Rattle.dr_meaning.specs.SchemaText.{SchemaFault, parse_schema, schema_text}
 use Rattle.dr_meaning.specs.Lists.{is_empty}
 use Rattle.dr_meaning.specs.Tokens.{is_digit}
+use Rattle.dr_formats.specs.Reading.{Reading, got, refused, Reader, give, ◌>>=◌}
 
 -- a table: its schema, the directories of its leaves, copies of each tablet, number of tablets
 pub record Table : Type 0 where
@@ -97,63 +98,79 @@ nonempty (b ∷ bs) = Some (b ∷ bs)
 abbrev pub leaf_line : List ℕ → Option (List ℕ)
 leaf_line t = option_and_then nonempty (behind_word (codes "leaf ") t)
 
+-- ---- forms of lines
+
+-- what is found, or else a fault
+abbrev pub found : {A : Type 0} → TableFault → Option A → Reader TableFault A
+found e None bs = refused e []
+found e (Some a) bs = got a bs
+
+-- what the first line stands for, behind which reading goes on
+abbrev pub line_read : {A : Type 0} → TableFault → (List ℕ → Option A) → Option Line → Reading TableFault A
+line_read e f None = refused e []
+line_read e f (Some l) = found e (f l.text) l.behind
+
+-- a line that stands for something; one that doesn't, or isn't ended, has this fault
+abbrev pub line_as : {A : Type 0} → TableFault → (List ℕ → Option A) → Reader TableFault A
+line_as e f text = line_read e f (first_line text)
+
+-- this text alone
+abbrev pub exactly : List ℕ → List ℕ → Option (List ℕ)
+exactly w t = if bytes_eq t w then Some t else None
+
+-- behind n leaf lines: the directory of a further one, or none at the line `schema`, before which there is one at least
+abbrev pub leaf_or_schema : ℕ → List ℕ → Option (Option (List ℕ))
+leaf_or_schema n t = if bytes_eq t (codes "schema") && nat_lt 0 n then Some None else option_map Some (leaf_line t)
+
 -- ---- the table of a text, or its first fault
 
--- the table with this schema, or the schema text's fault
-abbrev pub checked_schema : List (List ℕ) → ℕ → ℕ → Result Schema SchemaFault → Result Table TableFault
-checked_schema leaves copies tablets (Ok s) = Ok (record { schema = s; leaves = leaves; copies = copies; tablets = tablets })
-checked_schema leaves copies tablets (Err e) = Err (bad_table_schema e)
+-- a directory and those behind it, or none at the line `schema`
+abbrev pub up_to_schema : Reader TableFault (List (List ℕ)) → Option (List ℕ) → Reader TableFault (List (List ℕ))
+up_to_schema further None = give []
+up_to_schema further (Some d) = do
+  ds ← further
+  give (d ∷ ds)
 
--- behind the line `schema`: the copies are at most the leaves, then the schema
-abbrev pub at_schema : ℕ → ℕ → List (List ℕ) → List ℕ → Result Table TableFault
-at_schema tablets copies leaves t = if nat_le copies (length leaves) then checked_schema leaves copies tablets (parse_schema t) else Err bad_copies
+-- behind n leaf lines: the directories of the further ones, of which there are so many at most, and the line `schema`
+abbrev pub leaf_lines : ℕ → ℕ → Reader TableFault (List (List ℕ))
+leaf_lines zero n = do
+  _ ← line_as (bad_leaf n) (exactly (codes "schema"))
+  give []
+leaf_lines (suc most) n = do
+  d ← line_as (bad_leaf n) (leaf_or_schema n)
+  up_to_schema (leaf_lines most (suc n)) d
 
--- the table at a line that is a leaf line, or `schema` where the leaf lines may end
-abbrev pub on_leaf : ℕ → ℕ → List (List ℕ) → List ℕ → Bool → (List (List ℕ) → Result Table TableFault) → Option (List ℕ) → Result Table TableFault
-on_leaf tablets copies leaves behind may_end next (Some d) = next (leaves ++ d ∷ [])
-on_leaf tablets copies leaves behind true next None = at_schema tablets copies leaves behind
-on_leaf tablets copies leaves behind false next None = Err (bad_leaf (length leaves))
+-- a schema, or its text's fault
+abbrev pub schema_or_fault : Result Schema SchemaFault → Reader TableFault Schema
+schema_or_fault (Ok s) = give s
+schema_or_fault (Err e) = refused (bad_table_schema e)
 
--- the line `schema`, behind one leaf line at least
-abbrev pub is_schema_line : List (List ℕ) → List ℕ → Bool
-is_schema_line leaves t = nat_lt 0 (length leaves) && bytes_eq t (codes "schema")
+-- the schema that all the rest is the text of
+abbrev pub schema_behind : Reader TableFault Schema
+schema_behind text = schema_or_fault (parse_schema text) []
 
--- the table from the nth leaf line on, with room for so many more, where these directories come before
-abbrev pub leaf_lines : ℕ → ℕ → ℕ → List (List ℕ) → Option Line → Result Table TableFault
-leaf_lines room tablets copies leaves None = Err (bad_leaf (length leaves))
-leaf_lines zero tablets copies leaves (Some l) = on_leaf tablets copies leaves l.behind (is_schema_line leaves l.text)
-    (λ ds. Err (bad_leaf (length leaves))) None
-leaf_lines (suc room) tablets copies leaves (Some l) = on_leaf tablets copies leaves l.behind (is_schema_line leaves l.text)
-    (λ ds. leaf_lines room tablets copies ds (first_line l.behind)) (leaf_line l.text)
+-- the lines of a table file, and the schema's text behind them; that there are fewer leaf lines than copies is the fault of the copies
+abbrev pub table_lines : Reader TableFault Table
+table_lines = do
+  _ ← line_as bad_head (exactly (codes "dremel-table 1"))
+  tablets ← line_as bad_tablets (number_behind (codes "tablets ") most_tablets)
+  copies ← line_as bad_copies (number_behind (codes "copies ") most_leaf_lines)
+  leaves ← leaf_lines most_leaf_lines 0
+  _ ← found bad_copies (at_most (length leaves) copies)
+  schema ← schema_behind
+  give (record { schema = schema; leaves = leaves; copies = copies; tablets = tablets })
 
--- the table from the leaf lines on
-abbrev pub at_leaves : ℕ → List ℕ → Option ℕ → Result Table TableFault
-at_leaves tablets t None = Err bad_copies
-at_leaves tablets t (Some copies) = leaf_lines most_leaf_lines tablets copies [] (first_line t)
-
--- the table from the third line on
-abbrev pub on_copies : ℕ → Option Line → Result Table TableFault
-on_copies tablets None = Err bad_copies
-on_copies tablets (Some l) = at_leaves tablets l.behind (number_behind (codes "copies ") most_leaf_lines l.text)
-
--- the table behind the second line
-abbrev pub at_copies : List ℕ → Option ℕ → Result Table TableFault
-at_copies t None = Err bad_tablets
-at_copies t (Some tablets) = on_copies tablets (first_line t)
-
--- the table from the second line on
-abbrev pub on_tablets : Option Line → Result Table TableFault
-on_tablets None = Err bad_tablets
-on_tablets (Some l) = at_copies l.behind (number_behind (codes "tablets ") most_tablets l.text)
-
--- the table from the first line on
-abbrev pub on_head : Option Line → Result Table TableFault
-on_head None = Err bad_head
-on_head (Some l) = if bytes_eq l.text (codes "dremel-table 1") then on_tablets (first_line l.behind) else Err bad_head
+-- what was read, or the fault
+abbrev pub outcome : Reading TableFault Table → Result Table TableFault
+outcome (got t rest) = Ok t
+outcome (refused e rest) = Err e
 
 -- the table of a text, or its first fault
 unfoldable pub parse_table : List ℕ → Result Table TableFault
-parse_table text = if nat_lt longest_table (length text) then Err table_too_long else (if is_utf8 text then on_head (first_line text) else Err bad_head)
+parse_table text =
+    if nat_lt longest_table (length text) then Err table_too_long
+    else (if is_utf8 text then outcome (table_lines text)
+    else Err bad_head)
 
 -- ---- the text of a table
 

@@ -1,12 +1,11 @@
 -- Laws of table files.
-use Rattle.std.specs.Prelude.{◌≡◌, ◌↔◌, ℕ, ◌<◌, ◌≤◌, List, ◌∷◌, ◌++◌, length, Bool, true, not, ◌&&◌, ◌==◌, codes, Ok}
+use Rattle.std.specs.Prelude.{◌≡◌, ◌↔◌, ℕ, ◌<◌, ◌≤◌, List, ◌∷◌, ◌++◌, length, Bool, true, ◌&&◌, codes, Ok}
 use Rattle.std.specs.List.{list_all}
 use Rattle.std.specs.Str.{is_utf8}
 use Rattle.std.specs.Fmt.{decimal}
 use Rattle.dr_meaning.specs.Schema.{is_schema}
 use Rattle.dr_meaning.specs.SchemaText.{schema_text, parse_schema, longest_schema}
 use Rattle.dr_formats.specs.TableFile.{Table, most_tablets, most_leaf_lines, longest_table, leaf_texts, parse_table, table_text, is_line_text}
-use Rattle.dr_meaning.specs.Lists.{is_empty}
 
 abbrev pub is_directory : List ℕ → Bool
 is_directory d = is_line_text d && is_utf8 d

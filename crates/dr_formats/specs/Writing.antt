@@ -1,15 +1,16 @@
 -- The file that is written for records: pages, chunks, footer (Apache Parquet, "File format").
-use Rattle.std.specs.Prelude.{ℕ, suc, ◌+◌, ◌^◌, List, [], ◌∷◌, ◌++◌, map, length, Bool, true, false, ◌||◌, nat_le, codes, ℤ, pos, Option, Some, None}
+use Rattle.std.specs.Prelude.{ℕ, suc, ◌+◌, ◌-◌, ◌^◌, List, [], ◌∷◌, ◌++◌, map, length, Bool, true, false, ◌||◌, nat_le, codes, ℤ, pos, Option, Some, None}
 use Rattle.dr_meaning.specs.Schema.{Repetition, required, optional, repeated, Kind, bool_kind, int32_kind, int64_kind, text_kind, Fields, no_fields}
 use Rattle.dr_meaning.specs.Schema.{field, Shape, leaf, group, Schema}
 use Rattle.dr_meaning.specs.Path.{Leaf, leaves, max_repetition, max_definition}
 use Rattle.dr_meaning.specs.Record.{Node}
 use Rattle.dr_meaning.specs.Column.{Triplet, record_column}
+use Rattle.dr_meaning.specs.OneColumn.{starts}
 use Rattle.dr_formats.specs.LittleEndian.{little_endian_bytes}
 use Rattle.dr_formats.specs.Compact.{struct_bytes}
 use Rattle.dr_formats.specs.Metadata.{SchemaElement, ColumnChunk, RowGroup, FileMeta, PageHeader, page_tree, file_tree}
 use Rattle.dr_formats.specs.Plain.{plain_bytes}
-use Rattle.dr_formats.specs.Page.{body_bytes, column_values}
+use Rattle.dr_formats.specs.Page.{PageForm, data_page_v1, data_page_v2, level_data, column_repetitions, column_definitions, column_values, body_bytes}
 use Rattle.dr_formats.specs.File.{magic}
 
 -- ---- pages
@@ -47,29 +48,54 @@ abbrev pub cut_pages : Kind → List Triplet → List (List Triplet) → List (L
 cut_pages k page [] = last_page page
 cut_pages k page (c ∷ cs) = closed_page (is_full k (page ++ c)) (page ++ c) ++ cut_pages k (open_page (is_full k (page ++ c)) (page ++ c)) cs
 
--- the header of a page as it is written: DATA_PAGE, both sizes the body's, values PLAIN, levels RLE
-abbrev pub header_of_page : ℕ → ℕ → PageHeader
-header_of_page n size = record {
+-- how many triplets have no value
+abbrev pub null_count : List Triplet → ℕ
+null_count ts = length ts - length (column_values ts)
+
+-- the header of a page as it is written, of a leaf with these greatest levels: DATA_PAGE or DATA_PAGE_V2, both sizes the body's, values PLAIN; V1 levels in
+-- RLE; V2 with the numbers of NULLs and of rows, the lengths of the level parts, and no compression
+abbrev pub header_of_page : PageForm → ℕ → ℕ → List Triplet → ℕ → PageHeader
+header_of_page data_page_v1 max_r max_d ts size = record {
   type = pos 0;
   uncompressed_size = Some (pos size);
   compressed_size = size;
-  data_page = Some (record { values = n; encoding = pos 0; definition_encoding = pos 3; repetition_encoding = pos 3 });
+  data_page = Some (record { values = length ts; encoding = pos 0; definition_encoding = pos 3; repetition_encoding = pos 3 });
   dictionary_page = None;
   data_page_v2 = None;
 }
+header_of_page data_page_v2 max_r max_d ts size = record {
+  type = pos 3;
+  uncompressed_size = Some (pos size);
+  compressed_size = size;
+  data_page = None;
+  dictionary_page = None;
+  data_page_v2 = Some (record {
+    values = length ts;
+    nulls = Some (pos (null_count ts));
+    rows = Some (pos (starts ts));
+    encoding = pos 0;
+    definition_bytes = length (level_data max_d (column_definitions ts));
+    repetition_bytes = length (level_data max_r (column_repetitions ts));
+    compressed = Some false;
+  });
+}
 
--- a page of so many triplets with this body
-abbrev pub header_and_body : ℕ → List ℕ → List ℕ
-header_and_body n body = struct_bytes (page_tree (header_of_page n (length body))) ++ body
+-- the body of a page of a leaf
+abbrev pub leaf_body : PageForm → Leaf → List Triplet → List ℕ
+leaf_body form l ts = body_bytes form l.kind (max_repetition l.path) (max_definition l.path) ts
+
+-- the bytes of its header
+abbrev pub page_head_bytes : PageForm → Leaf → List Triplet → List ℕ
+page_head_bytes form l ts = struct_bytes (page_tree (header_of_page form (max_repetition l.path) (max_definition l.path) ts (length (leaf_body form l ts))))
 
 -- a page of a leaf
-abbrev pub page_bytes : Leaf → List Triplet → List ℕ
-page_bytes l ts = header_and_body (length ts) (body_bytes l.kind (max_repetition l.path) (max_definition l.path) ts)
+abbrev pub page_bytes : PageForm → Leaf → List Triplet → List ℕ
+page_bytes form l ts = page_head_bytes form l ts ++ leaf_body form l ts
 
 -- pages, one after another
-abbrev pub pages_bytes : Leaf → List (List Triplet) → List ℕ
-pages_bytes l [] = []
-pages_bytes l (p ∷ ps) = page_bytes l p ++ pages_bytes l ps
+abbrev pub pages_bytes : PageForm → Leaf → List (List Triplet) → List ℕ
+pages_bytes form l [] = []
+pages_bytes form l (p ∷ ps) = page_bytes form l p ++ pages_bytes form l ps
 
 -- ---- chunks
 
@@ -78,8 +104,8 @@ abbrev pub record_columns : Leaf → List Node → List (List Triplet)
 record_columns l R = map (record_column l.path) R
 
 -- the bytes of a leaf's chunk
-abbrev pub written_chunk : Leaf → List Node → List ℕ
-written_chunk l R = pages_bytes l (cut_pages l.kind [] (record_columns l R))
+abbrev pub written_chunk : PageForm → Leaf → List Node → List ℕ
+written_chunk form l R = pages_bytes form l (cut_pages l.kind [] (record_columns l R))
 
 -- how many triplets lists have together
 abbrev pub triplet_count : List (List Triplet) → ℕ
@@ -125,9 +151,9 @@ abbrev pub chunk_and_rest : Leaf → List Node → ℕ → List ℕ → (ℕ →
 chunk_and_rest l R place bytes rest = put_chunk bytes (chunk_at l R place (length bytes)) (rest (place + length bytes))
 
 -- the chunks of these leaves from a place on
-abbrev pub chunks_from : List Node → List Leaf → ℕ → WrittenChunks
-chunks_from R [] place = record { bytes = []; columns = [] }
-chunks_from R (l ∷ ls) place = chunk_and_rest l R place (written_chunk l R) (chunks_from R ls)
+abbrev pub chunks_from : PageForm → List Node → List Leaf → ℕ → WrittenChunks
+chunks_from form R [] place = record { bytes = []; columns = [] }
+chunks_from form R (l ∷ ls) place = chunk_and_rest l R place (written_chunk form l R) (chunks_from form R ls)
 
 -- ---- schema elements
 
@@ -194,23 +220,23 @@ abbrev pub framed : List ℕ → List ℕ → List ℕ
 framed chunks footer = magic ++ (chunks ++ (footer ++ (little_endian_bytes 4 (length footer) ++ magic)))
 
 -- the chunks of records, with the leaves in schema order from place 4 on; without records there are none
-abbrev pub written_chunks : Schema → List Node → WrittenChunks
-written_chunks s [] = record { bytes = []; columns = [] }
-written_chunks s (n ∷ ns) = chunks_from (n ∷ ns) (leaves s.fields) 4
+abbrev pub written_chunks : PageForm → Schema → List Node → WrittenChunks
+written_chunks form s [] = record { bytes = []; columns = [] }
+written_chunks form s (n ∷ ns) = chunks_from form (n ∷ ns) (leaves s.fields) 4
 
 -- the row groups of records: none without records, else one
-abbrev pub groups_of : Schema → List Node → List RowGroup
-groups_of s [] = []
-groups_of s (n ∷ ns) = written_groups (length (n ∷ ns)) (written_chunks s (n ∷ ns))
+abbrev pub groups_of : PageForm → Schema → List Node → List RowGroup
+groups_of form s [] = []
+groups_of form s (n ∷ ns) = written_groups (length (n ∷ ns)) (written_chunks form s (n ∷ ns))
 
 -- the metadata of the file of these records
-abbrev pub written_meta : Schema → List Node → FileMeta
-written_meta s R = file_meta s (length R) (groups_of s R)
+abbrev pub written_meta : PageForm → Schema → List Node → FileMeta
+written_meta form s R = file_meta s (length R) (groups_of form s R)
 
 -- the footer of the file of these records
-abbrev pub written_footer : Schema → List Node → List ℕ
-written_footer s R = struct_bytes (file_tree (written_meta s R))
+abbrev pub written_footer : PageForm → Schema → List Node → List ℕ
+written_footer form s R = struct_bytes (file_tree (written_meta form s R))
 
--- the file that is written for records
-unfoldable pub file_bytes : Schema → List Node → List ℕ
-file_bytes s R = framed (written_chunks s R).bytes (written_footer s R)
+-- the file that is written for records, with pages of this form
+unfoldable pub file_bytes : PageForm → Schema → List Node → List ℕ
+file_bytes form s R = framed (written_chunks form s R).bytes (written_footer form s R)

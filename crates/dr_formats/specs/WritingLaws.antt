@@ -6,12 +6,12 @@ use Rattle.dr_meaning.specs.Path.{Leaf, leaves, max_repetition, max_definition}
 use Rattle.dr_meaning.specs.Record.{Node, is_record, instance_count, text_bytes}
 use Rattle.dr_meaning.specs.JsonRecord.{most_instances, most_text_bytes}
 use Rattle.dr_meaning.specs.Column.{Triplet}
-use Rattle.dr_formats.specs.Metadata.{FileMeta, view_file, file_tree}
-use Rattle.dr_formats.specs.Page.{is_triplet, body_bytes}
+use Rattle.dr_formats.specs.Metadata.{FileMeta, view_file, file_tree, PageHeader, view_page, page_tree}
+use Rattle.dr_formats.specs.Page.{PageForm, is_triplet}
 use Rattle.dr_formats.specs.Chunk.{pages_triplets}
 use Rattle.dr_formats.specs.File.{most_rows, most_triplets, IsFileOf}
 use Rattle.dr_formats.specs.Loading.{most_tablet_rows}
-use Rattle.dr_formats.specs.Writing.{pages_bytes, triplet_count, cut_pages, record_columns, written_footer, file_bytes}
+use Rattle.dr_formats.specs.Writing.{leaf_body, pages_bytes, triplet_count, cut_pages, record_columns, written_footer, file_bytes}
 
 -- the triplets of lists, one after another
 abbrev pub all_triplets : List (List Triplet) → List Triplet
@@ -19,19 +19,19 @@ all_triplets [] = []
 all_triplets (p ∷ ps) = p ++ all_triplets ps
 
 -- triplets of a leaf that fit a page
-abbrev pub IsPage : Leaf → List Triplet → Type 0
-IsPage l p = (list_all (is_triplet l.kind (max_repetition l.path) (max_definition l.path)) p ≡ true) × (length p < 2 ^ 31)
-    × (length (body_bytes l.kind (max_repetition l.path) (max_definition l.path) p) < 2 ^ 63)
+abbrev pub IsPage : PageForm → Leaf → List Triplet → Type 0
+IsPage form l p = (list_all (is_triplet l.kind (max_repetition l.path) (max_definition l.path)) p ≡ true) × (length p < 2 ^ 31)
+    × (length (leaf_body form l p) < 2 ^ 63)
 
 -- lists of triplets of which each fits a page
-abbrev pub ArePages : Leaf → List (List Triplet) → Type 0
-ArePages l [] = Unit {0}
-ArePages l (p ∷ ps) = IsPage l p × ArePages l ps
+abbrev pub ArePages : PageForm → Leaf → List (List Triplet) → Type 0
+ArePages form l [] = Unit {0}
+ArePages form l (p ∷ ps) = IsPage form l p × ArePages form l ps
 
 -- the pages that are written for a leaf are read as their triplets, whatever follows them
 abbrev pub WrittenPagesAreRead : Type 0
-WrittenPagesAreRead = (l : Leaf) (ps : List (List Triplet)) (rest : List ℕ) → max_repetition l.path ≤ 32 → max_definition l.path ≤ 32 → ArePages l ps
-    → pages_triplets l (triplet_count ps) (pages_bytes l ps ++ rest) ≡ Some (all_triplets ps)
+WrittenPagesAreRead = (form : PageForm) (l : Leaf) (ps : List (List Triplet)) (rest : List ℕ) → max_repetition l.path ≤ 32 → max_definition l.path ≤ 32
+    → ArePages form l ps → pages_triplets l (triplet_count ps) (pages_bytes form l ps ++ rest) ≡ Some (all_triplets ps)
 
 -- cutting columns into pages keeps their triplets
 abbrev pub PagesKeepTriplets : Type 0
@@ -40,6 +40,10 @@ PagesKeepTriplets = (l : Leaf) (columns : List (List Triplet)) → all_triplets 
 -- the struct that is written for metadata is viewed as that metadata
 abbrev pub WrittenMetadataIsViewed : Type 0
 WrittenMetadataIsViewed = (m : FileMeta) → view_file (file_tree m) ≡ Ok m
+
+-- the struct of a page header is viewed as that header, whichever header structs it has
+abbrev pub WrittenHeaderIsViewed : Type 0
+WrittenHeaderIsViewed = (h : PageHeader) → view_page (page_tree h) ≡ Ok h
 
 -- ---- files
 
@@ -55,24 +59,26 @@ AreAmong ls [] = Unit {0}
 AreAmong ls (l ∷ F) = ((i : ℕ) × (nth_leaf ls i ≡ Some l)) × AreAmong ls F
 
 -- pages whose header can hold their sizes
-abbrev pub FitHeaders : Leaf → List (List Triplet) → Type 0
-FitHeaders l [] = Unit {0}
-FitHeaders l (p ∷ ps) = (length p < 2 ^ 31) × (length (body_bytes l.kind (max_repetition l.path) (max_definition l.path) p) < 2 ^ 63) × FitHeaders l ps
+abbrev pub FitHeaders : PageForm → Leaf → List (List Triplet) → Type 0
+FitHeaders form l [] = Unit {0}
+FitHeaders form l (p ∷ ps) = (length p < 2 ^ 31) × (length (leaf_body form l p) < 2 ^ 63) × FitHeaders form l ps
 
 -- leaves of which there are not too many triplets, in pages whose header can hold their sizes
-abbrev pub LeavesFit : List Node → List Leaf → Type 0
-LeavesFit R [] = Unit {0}
-LeavesFit R (l ∷ ls) = (triplet_count (record_columns l R) ≤ most_triplets) × FitHeaders l (cut_pages l.kind [] (record_columns l R)) × LeavesFit R ls
+abbrev pub LeavesFit : PageForm → List Node → List Leaf → Type 0
+LeavesFit form R [] = Unit {0}
+LeavesFit form R (l ∷ ls) = (triplet_count (record_columns l R) ≤ most_triplets) × FitHeaders form l (cut_pages l.kind [] (record_columns l R))
+    × LeavesFit form R ls
 
 -- records of a schema that one file can hold: not too many, with texts of fewer than 2^32 bytes in each, a footer of fewer than 2^32 bytes, a file of
 -- fewer than 2^63
-abbrev pub FitsFile : Schema → List Node → Type 0
-FitsFile s R = (is_schema s ≡ true) × (list_all (is_record s.fields) R ≡ true) × (list_all (λ (n : Node). nat_lt (text_bytes n) (2 ^ 32)) R ≡ true)
-    × (length R ≤ most_rows) × LeavesFit R (leaves s.fields) × (length (written_footer s R) < 2 ^ 32) × (length (file_bytes s R) < 2 ^ 63)
+abbrev pub FitsFile : PageForm → Schema → List Node → Type 0
+FitsFile form s R = (is_schema s ≡ true) × (list_all (is_record s.fields) R ≡ true) × (list_all (λ (n : Node). nat_lt (text_bytes n) (2 ^ 32)) R ≡ true)
+    × (length R ≤ most_rows) × LeavesFit form R (leaves s.fields) × (length (written_footer form s R) < 2 ^ 32) × (length (file_bytes form s R) < 2 ^ 63)
 
 -- the file that is written for records is a file of these records, for any of the schema's leaves
 abbrev pub WrittenFileIsFile : Type 0
-WrittenFileIsFile = (s : Schema) (R : List Node) (F : List Leaf) → FitsFile s R → AreAmong (leaves s.fields) F → IsFileOf (file_bytes s R) s F R
+WrittenFileIsFile = (form : PageForm) (s : Schema) (R : List Node) (F : List Leaf) → FitsFile form s R → AreAmong (leaves s.fields) F
+    → IsFileOf (file_bytes form s R) s F R
 
 -- ---- the limits under which files are written
 
@@ -82,5 +88,5 @@ is_limited n = nat_le (instance_count n) most_instances && nat_le (text_bytes n)
 
 -- records of a schema, each within the limits of a line, and not more than a tablet may have, fit one file
 abbrev pub LimitedRecordsFit : Type 0
-LimitedRecordsFit = (s : Schema) (R : List Node) → is_schema s ≡ true → list_all (is_record s.fields) R ≡ true → list_all is_limited R ≡ true
-    → length R ≤ most_tablet_rows → FitsFile s R
+LimitedRecordsFit = (form : PageForm) (s : Schema) (R : List Node) → is_schema s ≡ true → list_all (is_record s.fields) R ≡ true
+    → list_all is_limited R ≡ true → length R ≤ most_tablet_rows → FitsFile form s R

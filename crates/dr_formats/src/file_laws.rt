@@ -1,6 +1,7 @@
 //! Laws of files and causes.
 
 ghost use Rattle.dr_formats.specs.FileLaws.{CauseIsKnown, FileHasNoCause, KnownCauseHolds, OneCause};
+ghost use Rattle.dr_formats.specs.LackingLaws.{AbsentIsNull, AbsentIsOutline, NothingLacking};
 ghost use Rattle.dr_formats.specs.OpenSchemaLaws.{OpenPartHasOpenLeaves, OpenPartIsSchema, WrittenSchemaIsRead};
 ghost use Rattle.dr_formats.specs.Opening.{LeafCauseIsExact, NoFileHasCause, NoLeafCauseIsFile, OpeningCauseHolds, RangesAreInFile};
 
@@ -53,4 +54,16 @@ pub fn open_part_is_schema()
 /// where no leaf is open.
 pub fn open_part_has_open_leaves()
     ensures { OpenPartHasOpenLeaves }
+{}
+
+/// Where a file lacks none of these leaves, the leaves themselves are read, and their columns are those of their chunks.
+pub fn nothing_lacking()
+    ensures { NothingLacking }
+{}
+
+/// The column of what is absent in a group is the outline of the column of any leaf in that group; of what is absent in
+/// the records it is a NULL for each.
+pub fn absent_is_outline()
+    ensures group { AbsentIsOutline }
+    ensures records { AbsentIsNull }
 {}

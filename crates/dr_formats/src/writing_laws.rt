@@ -1,10 +1,11 @@
 //! Laws of what is written.
 
-ghost use Rattle.dr_formats.specs.WritingLaws.{LimitedRecordsFit, PagesKeepTriplets, WrittenFileIsFile, WrittenMetadataIsViewed, WrittenPagesAreRead};
+ghost use Rattle.dr_formats.specs.WritingLaws.{LimitedRecordsFit, PagesKeepTriplets, WrittenFileIsFile, WrittenHeaderIsViewed, WrittenMetadataIsViewed, WrittenPagesAreRead};
 
-/// The struct that is written for metadata is viewed as that metadata.
+/// The struct that is written for metadata, of a file or of a page, is viewed as that metadata.
 pub fn written_metadata_is_viewed()
-    ensures { WrittenMetadataIsViewed }
+    ensures file { WrittenMetadataIsViewed }
+    ensures page { WrittenHeaderIsViewed }
 {}
 
 /// Cutting columns into pages keeps their triplets, and the pages that are written are read as these.

@@ -21,7 +21,7 @@ use std::alloc::Global;
 
 impl GroupMap {
     /// How many groups there are.
-    pub(crate) fn len(&self) -> usize
+    pub fn len(&self) -> usize
         ensures { result ≡ length (groups_view self.now) }
     {
         self.groups.len()

@@ -8,6 +8,7 @@ use Rattle.dr_meaning.specs.Record.{Node, is_record}
 use Rattle.dr_meaning.specs.Lines.{Taken, lines_of, result_of, records_of}
 use Rattle.dr_meaning.proofs.LineLemmas.{taken_are_records}
 use Rattle.dr_formats.specs.File.{IsFileOf}
+use Rattle.dr_formats.specs.Page.{PageForm}
 use Rattle.dr_formats.specs.Loading.{Plan, Put, most_loaded, tablet_puts, puts_from, put_at, whole_puts, table_of}
 use Rattle.dr_formats.specs.TableFile.{table_text}
 use Rattle.dr_formats.specs.Tablets.{tablets, tablet_path}
@@ -37,7 +38,7 @@ nth_tablet [] i = []
 nth_tablet (t ∷ ts) zero = t
 nth_tablet (t ∷ ts) (suc i) = nth_tablet ts i
 
-files_by : (p : Plan) (file : ℕ → List ℕ) (k : ℕ) (ts : List (List Node)) → ((i : ℕ) → file (k + i) ≡ file_bytes p.schema (nth_tablet ts i)) → AreFilesBy p file k ts
+files_by : (p : Plan) (file : ℕ → List ℕ) (k : ℕ) (ts : List (List Node)) → ((i : ℕ) → file (k + i) ≡ file_bytes p.form p.schema (nth_tablet ts i)) → AreFilesBy p file k ts
 files_by p file k [] h = tt
 files_by p file k (t ∷ ts) h =
     let z : k + 0 ≡ k = omega arith in (
@@ -46,7 +47,7 @@ files_by p file k (t ∷ ts) h =
     )
 
 abbrev file_by : Plan → List (List Node) → ℕ → List ℕ
-file_by p ts i = file_bytes p.schema (nth_tablet ts i)
+file_by p ts i = file_bytes p.form p.schema (nth_tablet ts i)
 
 are_files_by : (p : Plan) (ts : List (List Node)) → AreFilesBy p (file_by p ts) 0 ts
 are_files_by p ts = files_by p (file_by p ts) 0 ts (λ i. let z : 0 + i ≡ i = omega arith in ap (file_by p ts) z)
@@ -55,16 +56,16 @@ are_files_by p ts = files_by p (file_by p ts) 0 ts (λ i. let z : 0 + i ≡ i = 
 
 -- records that can be written are a file
 is_file : (p : Plan) (R : List Node) (F : List Leaf) → IsPlan p → AreAmong (leaves p.schema.fields) F → length R ≤ p.rows → list_all (is_record p.schema.fields) R ≡ true → list_all is_limited R ≡ true
-    → IsFileOf (file_bytes p.schema R) p.schema F R
-is_file p R F s a n r l = written_file_is_file p.schema R F (limited_records_fit p.schema R s.schema r l (omega (arith, n, s.few_rows))) a
+    → IsFileOf (file_bytes p.form p.schema R) p.schema F R
+is_file p R F s a n r l = written_file_is_file p.form p.schema R F (limited_records_fit p.form p.schema R s.schema r l (omega (arith, n, s.few_rows))) a
 
 files_from : (p : Plan) (F : List Leaf) (file : ℕ → List ℕ) (ps : List Put) (files : Files) (k : ℕ) (ts : List (List Node)) → IsPlan p → AreAmong (leaves p.schema.fields) F → HoldTablets p file ps files
     → AreFilesBy p file k ts → k + length ts ≤ 4096 → AllFit p.rows (is_record p.schema.fields) ts → AllFit p.rows is_limited ts → ((path : List ℕ) → SomePut path (puts_from p k ts) → SomePut path ps)
-    → TabletsAreFiles p.schema F files (tablets_from p.directories p.copies k (length ts)) ts
+    → TabletsAreFiles p.form p.schema F files (tablets_from p.directories p.copies k (length ts)) ts
 files_from p F file ps files k [] s a h f n r l g = tt
 files_from p F file ps files k (t ∷ ts) s a h f n r l g = (
   is_file p t F s a r.0 r.1 l.1,
-  copies_hold p file ps files (file_bytes p.schema t) k 0 p.copies s.has_directory (omega (arith, n)) f.0 h (λ path q. g path (some_front path (tablet_puts p k t) (puts_from p (suc k) ts) q)),
+  copies_hold p file ps files (file_bytes p.form p.schema t) k 0 p.copies s.has_directory (omega (arith, n)) f.0 h (λ path q. g path (some_front path (tablet_puts p k t) (puts_from p (suc k) ts) q)),
   files_from p F file ps files (suc k) ts s a h f.1 (omega (arith, n)) r.2 l.2 (λ path q. g path (some_back path (tablet_puts p k t) (puts_from p (suc k) ts) q)),
 )
 
@@ -83,19 +84,19 @@ loaded_copies_are_files p R F before now s l a f h =
 
 -- ---- the table is held
 
-paths_hold : (s : Schema) (F : List Leaf) (files : Files) (cs : List Copy) (R : List Node) → IsFileOf (file_bytes s R) s F R → CopiesHold files (file_bytes s R) cs → PathsHold s F R files (copy_paths cs)
-paths_hold s F files [] R f h = tt
-paths_hold s F files (c ∷ cs) R f h = (subst (λ (o : Option (List ℕ)). HoldsRecords s F R (held_file o)) (sym h.0) (inl f), paths_hold s F files cs R f h.1)
+paths_hold : (form : PageForm) (s : Schema) (F : List Leaf) (files : Files) (cs : List Copy) (R : List Node) → IsFileOf (file_bytes form s R) s F R → CopiesHold files (file_bytes form s R) cs → PathsHold s F R files (copy_paths cs)
+paths_hold form s F files [] R f h = tt
+paths_hold form s F files (c ∷ cs) R f h = (subst (λ (o : Option (List ℕ)). HoldsRecords s F R (held_file o)) (sym h.0) (inl f), paths_hold form s F files cs R f h.1)
 
-pub files_are_held : (s : Schema) (F : List Leaf) (files : Files) (ts : List (List Copy)) (Rs : List (List Node)) → TabletsAreFiles s F files ts Rs → TabletsHold s F files ts Rs
-files_are_held s F files [] [] h = tt
-files_are_held s F files [] (R ∷ Rs) h = absurd h
-files_are_held s F files (cs ∷ ts) [] h = absurd h
-files_are_held s F files (cs ∷ ts) (R ∷ Rs) h = (paths_hold s F files cs R h.0 h.1, files_are_held s F files ts Rs h.2)
+pub files_are_held : (form : PageForm) (s : Schema) (F : List Leaf) (files : Files) (ts : List (List Copy)) (Rs : List (List Node)) → TabletsAreFiles form s F files ts Rs → TabletsHold s F files ts Rs
+files_are_held form s F files [] [] h = tt
+files_are_held form s F files [] (R ∷ Rs) h = absurd h
+files_are_held form s F files (cs ∷ ts) [] h = absurd h
+files_are_held form s F files (cs ∷ ts) (R ∷ Rs) h = (paths_hold form s F files cs R h.0 h.1, files_are_held form s F files ts Rs h.2)
 
 pub loaded_table_is_held : LoadedTableIsHeld
 loaded_table_is_held p R F before now s l a f h =
-    files_are_held p.schema F now (tablets_of (table_of p (length (tablets p.rows R)))) (tablets p.rows R) (loaded_copies_are_files p R F before now s l a f h)
+    files_are_held p.form p.schema F now (tablets_of (table_of p (length (tablets p.rows R)))) (tablets p.rows R) (loaded_copies_are_files p R F before now s l a f h)
 
 -- ---- what a load says
 
@@ -113,7 +114,7 @@ loaded_records_are_held p count input F before now s a f l =
     let fit : AreLoadable p l.records = record { records = l.are_records; limited = l.limited; few_tablets = omega (arith, l.tablets_of, l.few_tablets) } in
     let w : HoldsPut (whole_puts p ts) (Some before) (Some now) = subst (λ (k : ℕ). HoldsPut (puts_from p 0 ts ++ put_at p.table (table_text (table_of p k))) (Some before) (Some now)) (sym l.tablets_of) l.put in (
       omega (arith, some_tablet p.rows ts (tablets_are_full p.rows l.records s.has_rows), l.tablets_of),
-      subst (λ (k : ℕ). TabletsAreFiles p.schema F now (tablets_of (table_of p k)) ts) l.tablets_of (loaded_copies_are_files p l.records F before now s fit a f w),
+      subst (λ (k : ℕ). TabletsAreFiles p.form p.schema F now (tablets_of (table_of p k)) ts) l.tablets_of (loaded_copies_are_files p l.records F before now s fit a f w),
       told_records p input l.records l.taken,
     )
 

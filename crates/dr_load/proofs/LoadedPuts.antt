@@ -59,7 +59,7 @@ some_back path (p ∷ ps) qs h = inr (some_back path ps qs h)
 -- these tablets, the first of which has this number, have these files, each by its number
 abbrev pub AreFilesBy : Plan → (ℕ → List ℕ) → ℕ → List (List Node) → Type 0
 AreFilesBy p file k [] = Unit {0}
-AreFilesBy p file k (t ∷ ts) = (file k ≡ file_bytes p.schema t) × AreFilesBy p file (suc k) ts
+AreFilesBy p file k (t ∷ ts) = (file k ≡ file_bytes p.form p.schema t) × AreFilesBy p file (suc k) ts
 
 abbrev put_of : List ℕ → List ℕ → Put
 put_of bytes path = record { path = path; bytes = bytes }
@@ -76,7 +76,7 @@ tablets_all : (p : Plan) (directory : List ℕ) (i k : ℕ) (file : ℕ → List
 tablets_all p directory i k file [] hi hk a = tt
 tablets_all p directory i k file (t ∷ ts) hi hk a =
     all_append (tablet_path directory i) (file i) (tablet_puts p k t) (puts_from p (suc k) ts)
-    (tablet_all directory i k file (file_bytes p.schema t) p.directories 0 p.copies hi (omega (arith, hk)) a.0)
+    (tablet_all directory i k file (file_bytes p.form p.schema t) p.directories 0 p.copies hi (omega (arith, hk)) a.0)
     (tablets_all p directory i (suc k) file ts hi (omega (arith, hk)) a.1)
 
 -- the put of a table file that lies apart

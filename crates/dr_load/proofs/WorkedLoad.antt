@@ -1,9 +1,10 @@
--- A load of three records, two to a tablet, on two directories with two copies, by computation.
+-- A load of three records, two to a tablet, on two directories with two copies, in pages V2, by computation.
 use Rattle.std.specs.Prelude.{◌≡◌, ℕ, ◌⊎◌, List, [], ◌∷◌, map, pos, Some, codes}
 use Rattle.std.proofs.Common.{refl, inl, inr}
 use Rattle.std.specs.Fmt.{digits}
 use Rattle.dr_meaning.specs.Schema.{no_fields, field, leaf, required, int64_kind}
 use Rattle.dr_meaning.specs.Record.{int_value, Node, no_slots, slot, atom, single}
+use Rattle.dr_formats.specs.Page.{data_page_v2}
 use Rattle.dr_formats.specs.Loading.{Plan, Put, whole_puts, table_of}
 use Rattle.dr_formats.specs.TableFile.{table_text}
 use Rattle.dr_formats.specs.Tablets.{tablets}
@@ -26,6 +27,7 @@ plan = record {
   copies = 2;
   rows = 2;
   table = Some (codes "a/table");
+  form = data_page_v2;
 }
 
 -- what is held before: the same at each path
@@ -37,8 +39,8 @@ now = after_puts (whole_puts plan (tablets 2 three_numbers)) before
 
 -- each copy has its tablet's file, the table file is there, and another path has what it had
 pub held_then : map now (codes "a/t000000.parquet" ∷ codes "b/t000000.parquet" ∷ codes "a/t000001.parquet" ∷ codes "b/t000001.parquet" ∷ codes "a/table" ∷ codes "a/t000002.parquet" ∷ [])
-    ≡ Some (file_bytes plan.schema (number 1 ∷ number 2 ∷ [])) ∷ Some (file_bytes plan.schema (number 1 ∷ number 2 ∷ []))
-    ∷ Some (file_bytes plan.schema (number 3 ∷ [])) ∷ Some (file_bytes plan.schema (number 3 ∷ []))
+    ≡ Some (file_bytes data_page_v2 plan.schema (number 1 ∷ number 2 ∷ [])) ∷ Some (file_bytes data_page_v2 plan.schema (number 1 ∷ number 2 ∷ []))
+    ∷ Some (file_bytes data_page_v2 plan.schema (number 3 ∷ [])) ∷ Some (file_bytes data_page_v2 plan.schema (number 3 ∷ []))
     ∷ Some (table_text (table_of plan 2)) ∷ Some (codes "old") ∷ []
 unfolding digits
 held_then = refl
@@ -57,7 +59,7 @@ pub full_then : (paths (full_puts plan three_numbers) ≡ codes "a/t000000.parqu
     × (full_puts plan (number 1 ∷ []) ≡ []) × (full_puts plan [] ≡ [])
     × (paths (full_puts plan (number 1 ∷ number 2 ∷ number 3 ∷ number 4 ∷ []))
     ≡ codes "a/t000000.parquet" ∷ codes "b/t000000.parquet" ∷ codes "b/t000001.parquet" ∷ codes "a/t000001.parquet" ∷ [])
-    × (map (λ (p : Put). p.bytes) (full_puts plan three_numbers) ≡ file_bytes plan.schema (number 1 ∷ number 2 ∷ []) ∷ file_bytes plan.schema (number 1 ∷ number 2 ∷ []) ∷ [])
+    × (map (λ (p : Put). p.bytes) (full_puts plan three_numbers) ≡ file_bytes data_page_v2 plan.schema (number 1 ∷ number 2 ∷ []) ∷ file_bytes data_page_v2 plan.schema (number 1 ∷ number 2 ∷ []) ∷ [])
 unfolding digits
 full_then = (refl, refl, refl, refl, refl)
 

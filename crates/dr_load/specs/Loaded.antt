@@ -5,6 +5,7 @@ use Rattle.dr_meaning.specs.Schema.{Schema, is_schema}
 use Rattle.dr_meaning.specs.Path.{Leaf}
 use Rattle.dr_meaning.specs.Record.{Node, is_record}
 use Rattle.dr_formats.specs.File.{IsFileOf}
+use Rattle.dr_formats.specs.Page.{PageForm}
 use Rattle.dr_formats.specs.Loading.{Plan, most_tablet_rows}
 use Rattle.dr_formats.specs.TableFile.{most_tablets}
 use Rattle.dr_formats.specs.Tablets.{tablets, tablet_path}
@@ -37,8 +38,8 @@ abbrev pub CopiesHold : Files → List ℕ → List Copy → Type 0
 CopiesHold files bytes [] = ⊤
 CopiesHold files bytes (c ∷ cs) = (files c.path ≡ Some bytes) × CopiesHold files bytes cs
 
--- each copy of each tablet holds the file that is written for the tablet's records, and it is a file of them for these leaves
-abbrev pub TabletsAreFiles : Schema → List Leaf → Files → List (List Copy) → List (List Node) → Type 0
-TabletsAreFiles s F files [] [] = ⊤
-TabletsAreFiles s F files (cs ∷ ts) (R ∷ Rs) = IsFileOf (file_bytes s R) s F R × CopiesHold files (file_bytes s R) cs × TabletsAreFiles s F files ts Rs
-TabletsAreFiles s F files ts Rs = ⊥
+-- each copy of each tablet holds the file that is written for the tablet's records in pages of this form, and it is a file of them for these leaves
+abbrev pub TabletsAreFiles : PageForm → Schema → List Leaf → Files → List (List Copy) → List (List Node) → Type 0
+TabletsAreFiles form s F files [] [] = ⊤
+TabletsAreFiles form s F files (cs ∷ ts) (R ∷ Rs) = IsFileOf (file_bytes form s R) s F R × CopiesHold files (file_bytes form s R) cs × TabletsAreFiles form s F files ts Rs
+TabletsAreFiles form s F files ts Rs = ⊥

@@ -19,7 +19,7 @@ abbrev pub LoadedCopiesAreFiles : Type 0
 LoadedCopiesAreFiles = (p : Plan) (R : List Node) (F : List Leaf) (before now : Files)
     → IsPlan p → AreLoadable p R → IsApart p.directories p.table → AreAmong (leaves p.schema.fields) F
     → HoldsPut (whole_puts p (tablets p.rows R)) (Some before) (Some now)
-    → TabletsAreFiles p.schema F now (tablets_of (table_of p (length (tablets p.rows R)))) (tablets p.rows R)
+    → TabletsAreFiles p.form p.schema F now (tablets_of (table_of p (length (tablets p.rows R)))) (tablets p.rows R)
 
 -- so the table is held: what is read of it is its records
 abbrev pub LoadedTableIsHeld : Type 0
@@ -34,7 +34,7 @@ abbrev pub LoadedRecordsAreHeld : Type 0
 LoadedRecordsAreHeld = (p : Plan) (count : ℕ) (input : Option (List ℕ)) (F : List Leaf) (before now : Files)
     → IsPlan p → IsApart p.directories p.table → AreAmong (leaves p.schema.fields) F
     → (l : LoadsTable p p.table count input (Some before) (Some now))
-    → (0 < count) × TabletsAreFiles p.schema F now (tablets_of (table_of p count)) (tablets p.rows l.records)
+    → (0 < count) × TabletsAreFiles p.form p.schema F now (tablets_of (table_of p count)) (tablets p.rows l.records)
     × WhereTold input (λ bytes. records_of p.schema.fields (most_loaded p.rows) bytes ≡ Ok l.records)
 
 -- the records of the tablets, joined, are those that were loaded

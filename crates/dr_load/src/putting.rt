@@ -17,7 +17,7 @@ use crate::filled::Filled;
 use crate::loaded::Loaded;
 use crate::plan::Plan;
 use dr_outside::Keeper;
-use dr_write::write_file;
+use dr_write::write_file_as;
 use std::alloc::Global;
 
 /// Puts a tablet on the leaf of each copy, in order.
@@ -45,8 +45,9 @@ pub(crate) fn put_tablet<K: Keeper>(
     ensures steady { IsTrue (K.shows keeper.old).is_steady → result ≢ Err LoadFault.KeepFault }
     ensures stays_steady { IsTrue (K.shows keeper.old).is_steady → IsTrue (K.shows keeper.new).is_steady }
 {
-    match write_file(
+    match write_file_as(
         alloc,
+        plan.form,
         plan.schema,
         &filled.columns,
         u64::from(filled.records),

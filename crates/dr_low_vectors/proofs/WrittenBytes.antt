@@ -7,7 +7,7 @@ use Rattle.dr_formats.specs.Reading.{got}
 use Rattle.dr_formats.specs.Compact.{stop, struct_field, truth_item, binary_item, read_struct}
 use Rattle.dr_formats.specs.Hybrid.{hybrid_bytes}
 use Rattle.dr_formats.specs.Plain.{plain_bytes}
-use Rattle.dr_formats.specs.Page.{body_bytes, column_values}
+use Rattle.dr_formats.specs.Page.{data_page_v1, body_bytes, column_values}
 use Rattle.dr_formats.proofs.Hexadecimal.{hex}
 
 abbrev number : ℤ → Value
@@ -42,7 +42,7 @@ abbrev five : List Triplet
 five = triplet 0 3 (word (codes "us")) ∷ triplet 2 2 None ∷ triplet 1 1 None ∷ triplet 1 3 (word (codes "gb")) ∷ triplet 0 1 None ∷ []
 
 -- both levels, then the texts, which have 12 bytes
-pub page_of_texts : (body_bytes text_kind 2 3 five ≡ hex (codes "03000000 0358 00 03000000 03DB 01 02000000 7573 02000000 6762")) × (length (plain_bytes text_kind (column_values five)) ≡ 12)
+pub page_of_texts : (body_bytes data_page_v1 text_kind 2 3 five ≡ hex (codes "03000000 0358 00 03000000 03DB 01 02000000 7573 02000000 6762")) × (length (plain_bytes text_kind (column_values five)) ≡ 12)
 unfolding body_bytes hybrid_bytes
 page_of_texts = (refl, refl)
 
@@ -50,9 +50,9 @@ abbrev there : Value → Triplet
 there v = triplet 0 0 (Some v)
 
 -- of a leaf that is always there the values alone
-pub pages_of_required_leaves : (body_bytes bool_kind 0 0 (map there (bool_value true ∷ bool_value false ∷ bool_value true ∷ [])) ≡ 5 ∷ [])
-    × (body_bytes int32_kind 0 0 (map there (number (pos 1) ∷ number (minus 1) ∷ number (pos 2) ∷ [])) ≡ hex (codes "01000000 FFFFFFFF 02000000"))
-    × (body_bytes int64_kind 0 0 (there (number (minus 2)) ∷ []) ≡ hex (codes "FEFFFFFFFFFFFFFF"))
+pub pages_of_required_leaves : (body_bytes data_page_v1 bool_kind 0 0 (map there (bool_value true ∷ bool_value false ∷ bool_value true ∷ [])) ≡ 5 ∷ [])
+    × (body_bytes data_page_v1 int32_kind 0 0 (map there (number (pos 1) ∷ number (minus 1) ∷ number (pos 2) ∷ [])) ≡ hex (codes "01000000 FFFFFFFF 02000000"))
+    × (body_bytes data_page_v1 int64_kind 0 0 (there (number (minus 2)) ∷ []) ≡ hex (codes "FEFFFFFFFFFFFFFF"))
 unfolding body_bytes
 pages_of_required_leaves = (refl, refl, refl)
 

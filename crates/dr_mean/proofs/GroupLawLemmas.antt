@@ -10,8 +10,8 @@ use Rattle.dr_meaning.specs.Schema.{Fields}
 use Rattle.dr_meaning.specs.Path.{Step, longer}
 use Rattle.dr_meaning.specs.Record.{Value, Node, is_record, project}
 use Rattle.dr_meaning.specs.Rows.{rows}
-use Rattle.dr_meaning.specs.Expression.{Expression, constant, path_value, negative, arithmetic, comparison, like, contains, is_null, negation, conjunction, disjunction, paths_of, evaluate, is_true, expression_chain, longest_chain}
-use Rattle.dr_meaning.specs.Kept.{kept, kept_along}
+use Rattle.dr_meaning.specs.Expression.{Expression, paths_of, evaluate, expression_chain, longest_chain}
+use Rattle.dr_meaning.specs.Kept.{kept}
 use Rattle.dr_meaning.specs.Query.{GroupTerm, key, count_rows, aggregate, GroupItem, Selection, objects, groups, Query, key_tuple, levels_of}
 use Rattle.dr_meaning.specs.ProjectionLaws.{leads}
 use Rattle.dr_meaning.specs.MeaningLaws.{condition_paths, group_term_paths, all_lead, covers}
@@ -25,11 +25,10 @@ use Rattle.dr_partials.proofs.BoundLemmas.{bound_is_mergeable}
 use Rattle.dr_partials.proofs.PartialLemmas.{merged_stands}
 use Rattle.dr_partials.proofs.PutLemmas.{puts_are_merged}
 use Rattle.dr_partials.proofs.TypedLemmas.{records_have_partials}
-use Rattle.dr_plan.specs.Conjuncts.{conjuncts, condition_conjuncts, all_of}
+use Rattle.dr_plan.specs.Conjuncts.{condition_conjuncts, all_of}
 use Rattle.dr_plan.specs.Planned.{planned, planned_query}
-use Rattle.dr_plan.proofs.ConjunctLemmas.{true_where_each_is, conjuncts_have_paths}
+use Rattle.dr_scalar.proofs.ConditionLemmas.{condition_rejoined}
 use Rattle.dr_mean.specs.GroupLaws.{PutsOfProjection, OneRecordMore}
-use Rattle.dr_mean.proofs.ConditionLemmas.{kept_by_all}
 
 -- ---- projections
 
@@ -109,35 +108,6 @@ pub puts_of_projection : PutsOfProjection
 puts_of_projection F q R h = selection_put F q.condition q.selection R h
 
 -- ---- a condition cut into its parts keeps the same
-
-no_conjuncts : (e : Expression) → conjuncts e ≡ [] → ⊥
-no_conjuncts (conjunction a b) h = by_first (conjuncts a) refl h (no_conjuncts a)
-  where
-    by_first : (es : List Expression) → conjuncts a ≡ es → es ++ conjuncts b ≡ [] → (conjuncts a ≡ [] → ⊥) → ⊥
-    by_first [] e k g = g e
-    by_first (f ∷ fs) e k g = cc
-no_conjuncts (constant v) h = cc
-no_conjuncts (path_value p) h = cc
-no_conjuncts (negative e) h = cc
-no_conjuncts (arithmetic o a b) h = cc
-no_conjuncts (comparison c a b) h = cc
-no_conjuncts (like e t) h = cc
-no_conjuncts (contains e t) h = cc
-no_conjuncts (is_null e) h = cc
-no_conjuncts (negation e) h = cc
-no_conjuncts (disjunction a b) h = cc
-
-kept_rejoined : (e : Expression) (es : List Expression) (n : Node) → conjuncts e ≡ es → kept (all_of es) n ≡ kept (Some e) n
-kept_rejoined e [] n h = absurd (no_conjuncts e h)
-kept_rejoined e (f ∷ fs) n h =
-    kept_by_all f fs n
-    ∙ ap₂ (λ (p : List Step) (test : Node → Bool). kept_along p test n)
-    (ap longest_chain (ap (flat_map paths_of) (sym h) ∙ conjuncts_have_paths e))
-    (fun_ext (λ row. ap (λ (es : List Expression). list_all (λ g. is_true (evaluate g row)) es) (sym h) ∙ sym (true_where_each_is e row)))
-
-condition_rejoined : (c : Option Expression) (n : Node) → kept (all_of (condition_conjuncts c)) n ≡ kept c n
-condition_rejoined None n = refl
-condition_rejoined (Some e) n = kept_rejoined e (conjuncts e) n refl
 
 all_rejoined : (c : Option Expression) (R : List Node) → filter_map (kept (all_of (condition_conjuncts c))) R ≡ filter_map (kept c) R
 all_rejoined c R = ap (λ (f : Node → Option Node). filter_map f R) (fun_ext (condition_rejoined c))

@@ -20,6 +20,6 @@ pub use file::{ChunkMeta, ColumnMeta, FileMeta, GroupMeta, SchemaItem};
 pub use file_trees::tree_of_file;
 pub use one_tree::{count_leaves, group_size};
 pub use page::{DataPage, DataPageV2, DictionaryPage, PageHead};
-pub use page_trees::{head_is_viewed, tree_of_page};
+pub use page_trees::tree_of_page;
 pub use viewing_file::view_file;
 pub use viewing_page::view_page;

@@ -1,11 +1,9 @@
 //! Trees of page headers.
 
 ghost use Rattle.std.specs.Prelude.{◌≡◌, option_map, IfOk};
-ghost use Rattle.dr_formats.specs.Metadata.{data_header_tree, dictionary_header_tree};
+ghost use Rattle.dr_formats.specs.Metadata.{data_header_tree, dictionary_header_tree, data_header_v2_tree, page_tree};
 ghost use Rattle.dr_compact.specs.Views.{tree_view};
 ghost use Rattle.dr_meta.specs.Views.{data_page_view, dictionary_page_view, data_page_v2_view, page_view};
-ghost use Rattle.dr_meta.specs.Trees.{data_header_v2_tree, head_tree};
-ghost use Rattle.dr_meta.specs.TreeLaws.{HeadIsViewed, HeadIsThatOfFiles};
 
 use crate::building::{put_count32, put_i32, put_some_i32, put_some_struct, put_some_truth};
 use crate::ids::{data_page, data_page_v2, dictionary_page, page_header};
@@ -18,7 +16,7 @@ use std::alloc::Global;
 ///
 /// Errors: want of memory alone.
 pub fn tree_of_page(alloc: Global, head: &PageHead) -> Result<Tree<'static>, NoMemory>
-    ensures { IfOk result (λ t. tree_view t ≡ head_tree (page_view head.now)) }
+    ensures { IfOk result (λ t. tree_view t ≡ page_tree (page_view head.now)) }
 {
     let data_page = tree_of_data_page(alloc, head.data_page)?;
     let dictionary_page = tree_of_dictionary_page(alloc, head.dictionary_page)?;
@@ -110,10 +108,3 @@ fn tree_of_data_page_v2(
     put_some_truth(&mut fields, data_page_v2::COMPRESSED, page.compressed)?;
     Ok(Some(Tree { fields }))
 }
-
-/// What `tree_of_page` makes is viewed as that header, and without a data page of the second version it is what files
-/// are written with.
-pub fn head_is_viewed()
-    ensures viewed { HeadIsViewed }
-    ensures files { HeadIsThatOfFiles }
-{}

@@ -1,6 +1,6 @@
 -- The field of a name among those of a group, and the place of a leaf below it.
-use Rattle.std.proofs.Common.{◌≡◌, ℕ, suc, ◌+◌, ◌-◌, ◌≤◌, List, [], ◌∷◌, length, length-drop, map, take, drop, refl, sym, ap, ◌∙◌, subst, true, false, true≢false, arith, ◌⊎◌, inl, inr}
-use Rattle.std.specs.Prelude.{Option, Some, None, option_map, option_and_then, ◌&&◌, bytes_eq, IsSome, ℤ, pos, negsuc}
+use Rattle.std.proofs.Common.{◌≡◌, ℕ, suc, ◌+◌, ◌-◌, ◌≤◌, List, [], ◌∷◌, length, length-drop, map, take, drop, Bool, refl, sym, ap, ◌∙◌, subst, true, false, true≢false, arith, ◌⊎◌, inl, inr}
+use Rattle.std.specs.Prelude.{Option, Some, None, option_map, option_and_then, ◌&&◌, if◌then◌else◌, bytes_eq, IsSome, ℤ, pos, negsuc}
 use Rattle.std.proofs.lemmas.Bool.{and_parts, and_cases, and_from, and_left, and_right}
 use Rattle.std.proofs.lemmas.Slice.Eq.{bytes_eq-Decides}
 use Rattle.std.proofs.lemmas.Option.{same_Some}
@@ -12,6 +12,8 @@ use Rattle.dr_formats.specs.FileSchema.{FieldsRead, ShapeRead, as_group, shape_r
 use Rattle.dr_meta.specs.declared.file.SchemaItem.{SchemaItem}
 use Rattle.dr_meta.specs.Views.{item_view}
 use Rattle.dr_meta.specs.OneTree.{leaves_of_shape}
+use Rattle.dr_formats.specs.Lacking.{field_named}
+use Rattle.dr_open.specs.Sources.{first_named, file_field_of, field_from}
 use Rattle.dr_open.specs.Places.{next_fields, shape_from, Passed, passed_from, passed, behind_leaves, place_among, place_in_field, place_in_shape, place_in_file, is_repetition, leaf_of_element}
 use Rattle.dr_open.proofs.PassingLemmas.{is_there, First, first_next, rest_next, from_first, read_of, passes, shape_within, rest_from, from_place, first_from}
 use Rattle.dr_open.proofs.PlaceLemmas.{leaf_at, field_passed, field_found, closed, other_repetition, on_the_way, no_names, no_steps, place_in_leaves}
@@ -59,7 +61,22 @@ found_here m left n e es q h g l ns w =
 pub record GoesOn (m : List ℕ) (left n : ℕ) (all : List SchemaElement) (p : Passed) : Type 0 where
   pub are_fields : IsSome (passed n p.behind)
   pub place : (l : Leaf) (ns : List (List ℕ)) → l.names ≡ m ∷ ns → place_among l left all ≡ behind_leaves p.leaves (place_among l n p.behind)
+  pub named : first_named m left all ≡ first_named m n p.behind
   pub within : p.leaves + length p.behind ≤ length all
+
+named_read : (m : List ℕ) (n : ℕ) (es : List SchemaElement) (f : FieldsRead) → next_fields n es ≡ Some f → first_named m n es ≡ field_named m f.fields
+named_read m n es f h = ap (option_and_then (λ (f : FieldsRead). field_named m f.fields)) h
+
+-- the field has the name
+pub named_here : (m : List ℕ) (left n : ℕ) (e : SchemaElement) (es : List SchemaElement) → left ≡ suc n → IsSome (passed left (e ∷ es)) → bytes_eq m e.name ≡ true → first_named m left (e ∷ es) ≡ field_from e es
+named_here m left n e es q h g =
+    let f : (f : FieldsRead) × (next_fields (suc n) (e ∷ es) ≡ Some f) = first_there left n e es q h in
+    let x : First (length es) n e es f.0 = first_next n e es f.0 f.1 in
+    let a : field_from e es ≡ Some (file_field_of x.repetition x.shape) = rw (x.is_repetition, x.is_shape) refl in
+    ap (λ (j : ℕ). first_named m j (e ∷ es)) q
+    ∙ (named_read m (suc n) (e ∷ es) f.0 f.1
+    ∙ (ap (λ (y : FieldsRead). field_named m y.fields) (sym x.is_whole)
+    ∙ (ap (λ (b : Bool). if b then Some (file_field_of x.repetition x.shape) else field_named m x.rest.fields) g ∙ sym a)))
 
 pub goes_on : (m : List ℕ) (left n : ℕ) (e : SchemaElement) (es : List SchemaElement) (p : Passed) → left ≡ suc n → IsSome (passed left (e ∷ es)) → bytes_eq m e.name ≡ false → passed 1 (e ∷ es) ≡ Some p → GoesOn m left n (e ∷ es) p
 goes_on m left n e es p q h g w =
@@ -76,6 +93,11 @@ goes_on m left n e es p q h g w =
           ∙ (ap (λ (y : FieldsRead). place_of l (leaves_under [] y.fields)) (sym x.is_whole)
           ∙ (field_passed m ns l e.name x.repetition x.shape.shape x.rest.fields v g
           ∙ ap (behind_leaves (leaves_of_shape x.shape.shape)) (sym (among_read l n x.shape.behind x.rest r)))));
+      named =
+          ap (λ (j : ℕ). first_named m j (e ∷ es)) q
+          ∙ (named_read m (suc n) (e ∷ es) f.0 f.1
+          ∙ (ap (λ (y : FieldsRead). field_named m y.fields) (sym x.is_whole)
+          ∙ (ap (λ (b : Bool). if b then Some (file_field_of x.repetition x.shape) else field_named m x.rest.fields) g ∙ sym (named_read m n x.shape.behind x.rest r))));
       within = (shape_within e es x.shape x.is_shape).0;
     })
 
@@ -90,6 +112,7 @@ pub record Stepped (m : List ℕ) (xs : List SchemaItem) (at left n leaves eleme
   pub leaves_within : leaves ≤ elements
   pub are_fields : IsSome (passed n (from_place (at + elements) xs))
   pub place : (l : Leaf) (ns : List (List ℕ)) → l.names ≡ m ∷ ns → place_among l left (from_place at xs) ≡ behind_leaves leaves (place_among l n (from_place (at + elements) xs))
+  pub named : first_named m left (from_place at xs) ≡ first_named m n (from_place (at + elements) xs)
 
 pub stepped : (m : List ℕ) (xs : List SchemaItem) (at left n : ℕ) (x : SchemaItem) (ys : List SchemaItem) (leaves elements : ℕ) → left ≡ suc n → at ≤ length xs → take (length xs - at) (drop at xs) ≡ x ∷ ys → IsSome (passed left (from_place at xs))
     → bytes_eq m x.name.now ≡ false → passed 1 (map item_view (take (length xs - at) (drop at xs))) ≡ Some (record { leaves = leaves; behind = map item_view (drop elements (take (length xs - at) (drop at xs))) })
@@ -110,6 +133,7 @@ stepped m xs at left n x ys leaves elements q r h k g w v =
       leaves_within = omega (arith, z.within, part, whole, more, long, length-drop at xs, v, r);
       are_fields = z.are_fields;
       place = λ l ns e. ap (place_among l left) (first_from xs at x ys h) ∙ z.place l ns e;
+      named = ap (first_named m left) (first_from xs at x ys h) ∙ z.named;
     }
 
 -- ---- on along a path

@@ -140,7 +140,7 @@ field_found m ns l n r s fs h e = place_before l (map (leaf_under n r (is_open_n
 -- ---- the depth
 
 -- as many names as repetitions
-abbrev Even : List FileLeaf → Type 0
+abbrev pub Even : List FileLeaf → Type 0
 Even [] = Unit {0}
 Even (f ∷ fs) = (length f.names ≡ length f.repetitions) × Even fs
 
@@ -153,7 +153,7 @@ even_under n r b [] h = tt
 even_under n r b (f ∷ xs) h = (ap (λ (j : ℕ). suc j) h.0, even_under n r b xs h.1)
 
 mutual
-  even_fields : (earlier : List (List ℕ)) (fs : FileFields) → Even (leaves_under earlier fs)
+  pub even_fields : (earlier : List (List ℕ)) (fs : FileFields) → Even (leaves_under earlier fs)
   even_fields earlier no_file_fields = tt
   even_fields earlier (file_field n r s fs) =
       even_append (map (leaf_under n r (is_open_name earlier n)) (shape_leaves_under s)) (leaves_under (n ∷ earlier) fs) (even_under n r (is_open_name earlier n) (shape_leaves_under s) (even_shape s)) (even_fields (n ∷ earlier) fs)

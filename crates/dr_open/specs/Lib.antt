@@ -5,3 +5,6 @@ pub mod LeafView
 -- the open part
 pub mod Opens
 pub mod OpenViews
+-- where a leaf's column is
+pub mod Sources
+pub mod SourceViews

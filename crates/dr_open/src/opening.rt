@@ -25,7 +25,7 @@ const NAME: &str = "Records";
 /// The open part of fields, how many elements they are, and how many leaves may still come.
 #[derive(Drop)]
 pub(crate) struct OpenedFields {
-    fields: Vec<Field>,
+    pub(crate) fields: Vec<Field>,
     elements: usize,
     left: usize,
 }
@@ -211,7 +211,7 @@ fn open_field(
 
 /// The open part of the next so many fields of a group.
 #[cycle(opening)]
-fn open_fields(
+pub(crate) fn open_fields(
     alloc: Global,
     fields: u64,
     items: &[SchemaItem<'_>],

@@ -23,7 +23,7 @@ fn is_here(item: &SchemaItem<'_>, names: &[String], steps: &[Step], kind: Kind) 
 }
 
 /// Whether a path goes on at the first field of this name: the name is open, and the repetition the same.
-fn is_on_way(item: &SchemaItem<'_>, name: &[u8], rep: Rep) -> bool
+pub(crate) fn is_on_way(item: &SchemaItem<'_>, name: &[u8], rep: Rep) -> bool
     ensures { result ≡ (tree.is_short_name name.now && is_repetition (rep_view rep)
         (repetition_from item.now.repetition)) }
 {

@@ -1,8 +1,10 @@
 //! Fields passed in the list of schema elements, with all that is below them.
 
 ghost use Rattle.std.specs.Prelude.{◌≡◌, ◌<◌, ◌≤◌, ◌+◌, map, drop, length, Some, None, IsSome, IfSome, IfNone};
+ghost use Rattle.dr_formats.specs.FileSchema.{repetition_from};
 ghost use Rattle.dr_meta.specs.Views.{item_view};
 ghost use Rattle.dr_open.specs.Places.{passed, HasNoLeaf, HasLeavesIn, shape_from, behind_shape};
+ghost use Rattle.dr_open.specs.Sources.{first_named, field_from};
 ghost use Rattle.dr_open.specs.Skips.{skip_view};
 
 use dr_meta::{SchemaItem, group_size};
@@ -66,9 +68,13 @@ pub(crate) fn field_named<'t, 'a>(
     requires { IsSome (passed fields (map item_view items.now)) }
 
     ensures none { IfNone result (HasNoLeaf name.now fields (map item_view items.now)) }
+    ensures missing { IfNone result (first_named name.now fields (map item_view items.now) ≡ None) }
     ensures some { IfSome result (λ f. HasLeavesIn name.now fields (map item_view items.now) f.before
         (item_view f.item.now) (map item_view f.behind.now)) }
+    ensures first { IfSome result (λ f. first_named name.now fields (map item_view items.now)
+        ≡ field_from (item_view f.item.now) (map item_view f.behind.now)) }
     ensures name { IfSome result (λ f. f.item.now.name.now ≡ name.now) }
+    ensures repetition { IfSome result (λ f. IsSome (repetition_from f.item.now.repetition)) }
     ensures shape { IfSome result (λ f. IsSome (shape_from (item_view f.item.now) (map item_view f.behind.now))) }
     ensures within { IfSome result (λ f. f.before + length f.behind.now < length items.now) }
 {

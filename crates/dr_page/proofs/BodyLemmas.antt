@@ -7,13 +7,14 @@ use Rattle.dr_meaning.specs.Record.{Value}
 use Rattle.dr_meaning.specs.Column.{Triplet, triplet}
 use Rattle.dr_formats.specs.Reading.{Reading, got, refused, Reader, give, goes_on}
 use Rattle.dr_formats.specs.Page as page
-use Rattle.dr_formats.specs.Page.{PageShape, bad_page, found, levels, values, encoded_values, count_equal, first_if, behind_if, join_triplets, page_body, triplets_read, page_triplets}
+use Rattle.dr_formats.specs.Page.{PageShape, LevelParts, bad_page, found, level_parts_by, levels, values, encoded_values, count_equal, first_if, behind_if, join_triplets, page_body, triplets_read, page_triplets}
 use Rattle.dr_levels.specs.declared.triplet.Levels.{Levels}
 use Rattle.dr_levels.specs.Dense.{present, first_of, joined}
-use Rattle.dr_bytes.proofs.FaultLemmas.{was_fault}
+use Rattle.dr_bytes.specs.Numbers.{IsFault}
+use Rattle.dr_bytes.proofs.FaultLemmas.{is_fault, was_fault}
 use Rattle.dr_page.specs.declared.fault.PageFault.{PageFault}
 use Rattle.dr_page.specs.Reads.{WhereNone, WhereBad, Joins}
-use Rattle.dr_page.specs.Parts.{PairsOf, level_parts}
+use Rattle.dr_page.specs.Parts.{PairsOf, levels_ahead}
 use Rattle.dr_page.specs.Bodies.{triplets_behind}
 use Rattle.dr_page.proofs.CountLemmas.{values_count}
 
@@ -84,20 +85,57 @@ found_triplets (Some vs) f bs = refl
 abbrev behind : PageShape → List Value → List ℕ → List ℕ → Reader page.PageFault (List Triplet)
 behind s d rs ds bs = goes_on (values s.encoding s.kind d (count_equal s.max_definition ds) bs) (λ vs. give (join_triplets s.max_definition rs ds vs))
 
-by_parts : (s : PageShape) (d : List Value) (bs : List ℕ) → page_body s d bs ≡ goes_on (level_parts s bs) (λ (p : List ℕ × List ℕ). behind s d p.0 p.1)
-by_parts s d bs = regroup (levels s.max_repetition s.repetition_encoding s.triplets bs) (levels s.max_definition s.definition_encoding s.triplets) (behind s d)
+-- where the level parts are found
+by_part : (s : PageShape) (d : List Value) (r : Reading page.PageFault LevelParts)
+    → goes_on r (λ p bs. goes_on (found (levels s.max_repetition s.triplets p.repetitions) bs) (λ rs cs. goes_on (found (levels s.max_definition s.triplets p.definitions) cs) (λ ds. behind s d rs ds)))
+    ≡ goes_on (goes_on r (λ p bs. goes_on (found (levels s.max_repetition s.triplets p.repetitions) bs) (λ rs cs. goes_on (found (levels s.max_definition s.triplets p.definitions) cs) (λ ds. give (rs, ds))))) (λ (p : List ℕ × List ℕ). behind s d p.0 p.1)
+by_part s d (refused e bs) = refl
+by_part s d (got p bs) = regroup (found (levels s.max_repetition s.triplets p.repetitions) bs) (found (levels s.max_definition s.triplets p.definitions)) (behind s d)
+
+by_parts : (s : PageShape) (d : List Value) (bs : List ℕ) → page_body s d bs ≡ goes_on (levels_ahead s bs) (λ (p : List ℕ × List ℕ). behind s d p.0 p.1)
+by_parts s d bs = by_part s d (level_parts_by s.form s bs)
 
 -- the triplets of a body are those of its levels, with the values behind them
-pub body_is_behind : (s : PageShape) (d : List Value) (bs rest : List ℕ) (p : List ℕ × List ℕ) → level_parts s bs ≡ got p rest → page_triplets s d bs ≡ triplets_behind s d p rest
+pub body_is_behind : (s : PageShape) (d : List Value) (bs rest : List ℕ) (p : List ℕ × List ℕ) → levels_ahead s bs ≡ got p rest → page_triplets s d bs ≡ triplets_behind s d p rest
 unfolding page_triplets
 body_is_behind s d bs rest p e =
     ap triplets_read (by_parts s d bs ∙ ap (λ r. goes_on r (λ (q : List ℕ × List ℕ). behind s d q.0 q.1)) e)
     ∙ found_triplets (encoded_values s.encoding s.kind d (count_equal s.max_definition p.1) rest) (join_triplets s.max_definition p.0 p.1) []
 
 -- there are none where levels are refused
-pub no_levels : (s : PageShape) (d : List Value) (bs : List ℕ) (e : PageFault) → WhereBad e (level_parts s bs) → WhereNone e (page_triplets s d bs)
+pub no_levels : (s : PageShape) (d : List Value) (bs : List ℕ) (e : PageFault) → WhereBad e (levels_ahead s bs) → WhereNone e (page_triplets s d bs)
 unfolding page_triplets
 no_levels s d bs PageFault.NoMemory h = tt
 no_levels s d bs PageFault.BadData h =
-    let w = was_fault bad_page (level_parts s bs) h in
+    let w = was_fault bad_page (levels_ahead s bs) h in
     ap triplets_read (by_parts s d bs ∙ ap (λ r. goes_on r (λ (q : List ℕ × List ℕ). behind s d q.0 q.1)) w.1)
+
+-- ---- levels behind the parts
+
+-- the levels of parts that are found
+pub levels_are : (s : PageShape) (bs rest : List ℕ) (p : LevelParts) (rs ds : List ℕ) → level_parts_by s.form s bs ≡ got p rest → levels s.max_repetition s.triplets p.repetitions ≡ Some rs → levels s.max_definition s.triplets p.definitions ≡ Some ds
+    → levels_ahead s bs ≡ got (rs, ds) rest
+levels_are s bs rest p rs ds e h k = rw (e, h, k) refl
+
+-- the levels of parts
+abbrev levels_in : PageShape → LevelParts → Reader page.PageFault (List ℕ × List ℕ)
+levels_in s p bs = goes_on (found (levels s.max_repetition s.triplets p.repetitions) bs) (λ rs cs. goes_on (found (levels s.max_definition s.triplets p.definitions) cs) (λ ds. give (rs, ds)))
+
+parts_refused : (s : PageShape) (r : Reading page.PageFault LevelParts) → IsFault bad_page r → IsFault bad_page (goes_on r (levels_in s))
+parts_refused s (got p bs) h = absurd h
+parts_refused s (refused x bs) h = h
+
+-- they are refused where the parts are
+pub no_parts : (s : PageShape) (bs : List ℕ) (e : PageFault) → WhereBad e (level_parts_by s.form s bs) → WhereBad e (levels_ahead s bs)
+no_parts s bs PageFault.NoMemory h = tt
+no_parts s bs PageFault.BadData h = parts_refused s (level_parts_by s.form s bs) h
+
+-- or where a part has no levels
+pub no_repetitions : (s : PageShape) (bs rest : List ℕ) (p : LevelParts) (e : PageFault) → level_parts_by s.form s bs ≡ got p rest → WhereNone e (levels s.max_repetition s.triplets p.repetitions) → WhereBad e (levels_ahead s bs)
+no_repetitions s bs rest p PageFault.NoMemory h k = tt
+no_repetitions s bs rest p PageFault.BadData h k = is_fault bad_page (levels_ahead s bs) rest (rw (h, k) refl)
+
+pub no_definitions : (s : PageShape) (bs rest : List ℕ) (p : LevelParts) (rs : List ℕ) (e : PageFault) → level_parts_by s.form s bs ≡ got p rest → levels s.max_repetition s.triplets p.repetitions ≡ Some rs
+    → WhereNone e (levels s.max_definition s.triplets p.definitions) → WhereBad e (levels_ahead s bs)
+no_definitions s bs rest p rs PageFault.NoMemory h r k = tt
+no_definitions s bs rest p rs PageFault.BadData h r k = is_fault bad_page (levels_ahead s bs) rest (rw (h, r, k) refl)

@@ -1,14 +1,15 @@
 -- How many values are read: as many as are wanted.
 use Rattle.std.proofs.Common.{◌≡◌, ℕ, zero, suc, List, [], ◌∷◌, length, map, Bool, true, false, refl, sym, ap, ◌∙◌, ℤ, Option, Some, None}
 use Rattle.std.specs.Prelude.{◌||◌, nat_le, if◌then◌else◌, option_map, option_and_then, replicate}
-use Rattle.std.proofs.lemmas.List.{length-map}
+use Rattle.std.specs.List.{list_all}
+use Rattle.std.proofs.lemmas.List.{length-map, length-replicate}
 use Rattle.dr_meaning.specs.Schema as tree
 use Rattle.dr_meaning.specs.Record.{Value}
 use Rattle.dr_formats.specs.Reading.{Reading, got, refused, Reader, give, goes_on, ◌>>=◌, bytes_of}
 use Rattle.dr_formats.specs.LittleEndian.{little_endian, unpacked, bytes_for}
 use Rattle.dr_formats.specs.Hybrid.{hybrid}
 use Rattle.dr_formats.specs.Plain.{PlainFault, too_short, repeatedly, plain_number, plain_text, truth_of_bit, plain, plain_read, plain_values, nth_value, pick, dictionary_values}
-use Rattle.dr_formats.specs.Page.{is_number, encoded_values, count_equal}
+use Rattle.dr_formats.specs.Page.{is_number, level_width, none_above, levels, sized_part, part_read, rle_truths, rle_values, encoded_values, count_equal}
 use Rattle.dr_formats.proofs.ReadingLemmas.{not_refused, same_got}
 use Rattle.dr_formats.proofs.HybridGrammar.{runs_are_read_exactly, one_list_of_values}
 use Rattle.dr_bytes.proofs.BitLemmas.{length_unpacked}
@@ -71,18 +72,53 @@ found_count : (d : List Value) (n : ℕ) (o : Option (List ℕ)) (vs : List Valu
 found_count d n None vs h e = absurd (cc)
 found_count d n (Some is) vs h e = pick_count d is vs e ∙ h is refl
 
+-- ---- truth values in RLE
+
+above_count : (b : Bool) (ls us : List ℕ) → (if b then Some ls else None) ≡ Some us → length us ≡ length ls
+above_count true ls us e = let f : ls ≡ us = cc in sym (ap length f)
+above_count false ls us e = absurd (cc)
+
+levels_by : (g n : ℕ) (part ls : List ℕ) (o : Option (List ℕ)) → hybrid (level_width (suc g)) n part ≡ o → option_and_then (none_above (suc g)) o ≡ Some ls → length ls ≡ n
+levels_by g n part ls None h e = absurd (cc)
+levels_by g n part ls (Some vs) h e = above_count (list_all (λ l. nat_le l (suc g)) vs) vs ls e ∙ hybrid_count (level_width (suc g)) n part vs h
+
+pub levels_count : (g n : ℕ) (part ls : List ℕ) → levels g n part ≡ Some ls → length ls ≡ n
+levels_count zero n part ls e = let f : replicate n 0 ≡ ls = cc in sym (ap length f) ∙ length-replicate n 0
+levels_count (suc g) n part ls e = levels_by g n part ls (hybrid (level_width (suc g)) n part) refl e
+
+bits_count : (n : ℕ) (o : Option (List ℕ)) (vs : List Value) → ((ls : List ℕ) → o ≡ Some ls → length ls ≡ n) → option_map (map truth_of_bit) o ≡ Some vs → length vs ≡ n
+bits_count n None vs h e = absurd (cc)
+bits_count n (Some ls) vs h e = let f : map truth_of_bit ls ≡ vs = cc in sym (ap length f) ∙ (length-map ls truth_of_bit ∙ h ls refl)
+
+some_levels_count : (n : ℕ) (o : Option (List ℕ)) (ls : List ℕ) → option_and_then (levels 1 n) o ≡ Some ls → length ls ≡ n
+some_levels_count n None ls e = absurd (cc)
+some_levels_count n (Some part) ls e = levels_count 1 n part ls e
+
+rle_truths_count : (n : ℕ) (bs : List ℕ) (vs : List Value) → rle_truths n bs ≡ Some vs → length vs ≡ n
+rle_truths_count zero bs vs e = let none : List Value = [] in let f : none ≡ vs = cc in sym (ap length f)
+rle_truths_count (suc n) bs vs e = bits_count (suc n) (option_and_then (levels 1 (suc n)) (part_read (sized_part bs))) vs (λ ls f. some_levels_count (suc n) (part_read (sized_part bs)) ls f) e
+
+rle_count : (k : tree.Kind) (n : ℕ) (bs : List ℕ) (vs : List Value) → rle_values k n bs ≡ Some vs → length vs ≡ n
+rle_count tree.bool_kind n bs vs e = rle_truths_count n bs vs e
+rle_count tree.int32_kind n bs vs e = absurd (cc)
+rle_count tree.int64_kind n bs vs e = absurd (cc)
+rle_count tree.text_kind n bs vs e = absurd (cc)
+
 -- ---- values by their encoding
 
-either_count : (a b : Bool) (n : ℕ) (p q : Option (List Value)) (vs : List Value) → (p ≡ Some vs → length vs ≡ n) → (q ≡ Some vs → length vs ≡ n) → (if a then p else (if b then q else None)) ≡ Some vs → length vs ≡ n
-either_count true b n p q vs h k e = h e
-either_count false true n p q vs h k e = k e
-either_count false false n p q vs h k e = absurd (cc)
+either_count : (a b c : Bool) (n : ℕ) (p q r : Option (List Value)) (vs : List Value) → (p ≡ Some vs → length vs ≡ n) → (q ≡ Some vs → length vs ≡ n) → (r ≡ Some vs → length vs ≡ n)
+    → (if a then p else (if b then q else (if c then r else None))) ≡ Some vs → length vs ≡ n
+either_count true b c n p q r vs h k m e = h e
+either_count false true c n p q r vs h k m e = k e
+either_count false false true n p q r vs h k m e = m e
+either_count false false false n p q r vs h k m e = absurd (cc)
 
 pub values_count : (z : ℤ) (k : tree.Kind) (d : List Value) (n : ℕ) (bs : List ℕ) (vs : List Value) → encoded_values z k d n bs ≡ Some vs → length vs ≡ n
 values_count z k d n bs vs e =
-    either_count (is_number 0 z) (is_number 2 z || is_number 8 z) n (plain_values k n bs) (dictionary_values d n bs) vs
+    either_count (is_number 0 z) (is_number 2 z || is_number 8 z) (is_number 3 z) n (plain_values k n bs) (dictionary_values d n bs) (rle_values k n bs) vs
     (λ f. read_count n (plain k n bs) vs (λ us q g. plain_count k n bs us q g) f)
-    (λ f. found_count d n (indices_ahead n bs) vs (λ is g. indices_count n bs is g) (sym (by_indices d n bs) ∙ f)) e
+    (λ f. found_count d n (indices_ahead n bs) vs (λ is g. indices_count n bs is g) (sym (by_indices d n bs) ∙ f))
+    (λ f. rle_count k n bs vs f) e
 
 -- ---- levels that are all 0
 

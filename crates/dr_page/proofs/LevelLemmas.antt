@@ -1,32 +1,30 @@
--- Level parts.
-use Rattle.std.proofs.Common.{◌≡◌, ℕ, zero, suc, List, Bool, true, false, refl, sym, ap, ◌∙◌, subst, ℤ, Some, None}
-use Rattle.std.specs.Prelude.{nat_le, if◌then◌else◌, option_and_then}
+-- Levels of parts.
+use Rattle.std.proofs.Common.{◌≡◌, ℕ, zero, suc, List, Bool, refl, sym, ap, ◌∙◌, Some, None}
+use Rattle.std.specs.Prelude.{replicate, nat_le, if◌then◌else◌, option_and_then}
 use Rattle.std.specs.List.{list_all}
-use Rattle.dr_formats.specs.Reading.{Reading, got, refused, Reader, goes_on, bytes_of}
-use Rattle.dr_formats.specs.LittleEndian.{little_endian}
+use Rattle.std.proofs.lemmas.Bool.{ne_eqb}
 use Rattle.dr_formats.specs.Hybrid.{hybrid}
-use Rattle.dr_formats.specs.Page.{PageFault, bad_page, found, is_number, rle_encoding, level_width, none_above, level_part, levels}
-use Rattle.dr_bytes.specs.Numbers.{IsFault}
-use Rattle.dr_page.specs.Parts.{part_ahead}
+use Rattle.dr_formats.specs.Page.{level_width, none_above, levels}
+use Rattle.dr_page.specs.declared.fault.PageFault.{PageFault}
+use Rattle.dr_page.specs.Parts.{expanded}
+use Rattle.dr_page.specs.Reads.{WhereNone}
 
-regroup : {A B C : Type 0} (r : Reading PageFault A) (f : A → Reader PageFault B) (g : B → Reader PageFault C) → goes_on r (λ a bs. goes_on (f a bs) g) ≡ goes_on (goes_on r f) g
-regroup (got a bs) f g = refl
-regroup (refused e bs) f g = refl
+-- the levels of a part, where hybrid data has these
+pub levels_by : (g n w : ℕ) (part ls : List ℕ) (b : Bool) → (g ≡ 0 → ⊥) → w ≡ level_width g → hybrid w n part ≡ Some ls → list_all (λ l. nat_le l g) ls ≡ b → levels g n part ≡ (if b then Some ls else None)
+levels_by zero n w part ls b h f r a = absurd (h refl)
+levels_by (suc g) n w part ls b h f r a =
+    ap (λ v. option_and_then (none_above (suc g)) (hybrid v n part)) (sym f) ∙ (ap (option_and_then (none_above (suc g))) r ∙ ap (λ c. if c then Some ls else None) a)
 
-part_read : (g n : ℕ) (bs part rest : List ℕ) → part_ahead bs ≡ got part rest → level_part g n bs ≡ found (option_and_then (none_above g) (hybrid (level_width g) n part)) rest
-part_read g n bs part rest e =
-    regroup (bytes_of bad_page 4 bs) (λ b. bytes_of bad_page (little_endian b)) (λ c. found (option_and_then (none_above g) (hybrid (level_width g) n c)))
-    ∙ ap (λ r. goes_on r (λ c. found (option_and_then (none_above g) (hybrid (level_width g) n c)))) e
+-- levels that are not left out
+pub expanded_same : (g n : ℕ) (ls : List ℕ) → (g ≡ 0 → ⊥) → ls ≡ expanded g n ls
+expanded_same g n ls h = ap (λ b. if b then replicate n 0 else ls) (sym (ne_eqb g 0 h))
 
-refused_by : (b : Bool) (read : Reader PageFault (List ℕ)) (bs : List ℕ) → IsFault bad_page (read bs) → IsFault bad_page ((if b then read else refused bad_page) bs)
-refused_by true read bs h = h
-refused_by false read bs h = refl
+-- there are none where hybrid data has none
+no_levels_by : (g n w : ℕ) (part : List ℕ) → (g ≡ 0 → ⊥) → w ≡ level_width g → hybrid w n part ≡ None → levels g n part ≡ None
+no_levels_by zero n w part h f r = absurd (h refl)
+no_levels_by (suc g) n w part h f r = ap (λ v. option_and_then (none_above (suc g)) (hybrid v n part)) (sym f) ∙ ap (option_and_then (none_above (suc g))) r
 
--- a level above the greatest
-pub above_refused : (g : ℕ) (z : ℤ) (n w : ℕ) (bs part rest ls : List ℕ) → (g ≡ 0 → ⊥) → part_ahead bs ≡ got part rest → w ≡ level_width g → hybrid w n part ≡ Some ls → list_all (λ l. nat_le l g) ls ≡ false
-    → IsFault bad_page (levels g z n bs)
-above_refused zero z n w bs part rest ls h e f r a = absurd (h refl)
-above_refused (suc g) z n w bs part rest ls h e f r a =
-    let o : option_and_then (none_above (suc g)) (hybrid (level_width (suc g)) n part) ≡ None = ap (λ v. option_and_then (none_above (suc g)) (hybrid v n part)) (sym f) ∙ (ap (option_and_then (none_above (suc g))) r ∙ ap (λ b. if b then Some ls else None) a) in
-    let p : level_part (suc g) n bs ≡ refused bad_page rest = part_read (suc g) n bs part rest e ∙ ap (λ q. found q rest) o in
-    refused_by (is_number rle_encoding z) (level_part (suc g) n) bs (subst (IsFault bad_page) (sym p) refl)
+-- and for any fault
+pub no_runs : (g n w : ℕ) (part : List ℕ) (e : PageFault) → (g ≡ 0 → ⊥) → w ≡ level_width g → WhereNone e (hybrid w n part) → WhereNone e (levels g n part)
+no_runs g n w part PageFault.NoMemory h f r = tt
+no_runs g n w part PageFault.BadData h f r = no_levels_by g n w part h f r

@@ -6,6 +6,8 @@ pub mod WidthLemmas
 pub mod PairLemmas
 -- values by their encoding, dictionaries, texts
 pub mod ValueLemmas
+-- the parts of bodies by their places
+pub mod PartLemmas
 -- level parts
 pub mod LevelLemmas
 -- how many values there are

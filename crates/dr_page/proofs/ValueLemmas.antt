@@ -1,16 +1,17 @@
 -- Values by their encoding; values of dictionaries; places of texts.
 use Rattle.std.proofs.Common.{◌≡◌, ℕ, zero, suc, ◌+◌, List, [], ◌∷◌, ◌++◌, length, map, Bool, true, false, refl, sym, ap, ◌∙◌, subst, ℤ, Option, Some, None, Result, Ok, Err}
-use Rattle.std.specs.Prelude.{◌||◌, nat_le, if◌then◌else◌, option_and_then}
+use Rattle.std.specs.Prelude.{◌||◌, ◌==◌, nat_le, if◌then◌else◌, option_map, option_and_then}
 use Rattle.std.specs.List.{list_all, All}
 use Rattle.std.proofs.lemmas.Bool.{and_parts, and_from, le-leb}
 use Rattle.std.proofs.lemmas.List.Elements.{All-nil, All-cons, All-head, All-tail}
 use Rattle.std.proofs.lemmas.Str.{is_utf8-from_IsUtf8}
-use Rattle.dr_meaning.specs.Record.{Value, text_value}
+use Rattle.dr_meaning.specs.Record.{Value, bool_value, text_value}
 use Rattle.dr_meaning.specs.Schema as tree
 use Rattle.dr_formats.specs.Hybrid.{hybrid}
 use Rattle.dr_formats.specs.Plain as plain
 use Rattle.dr_formats.specs.Plain.{plain_values, dictionary_values}
-use Rattle.dr_formats.specs.Page.{is_number, encoded_values}
+use Rattle.dr_formats.specs.Reading.{got, refused}
+use Rattle.dr_formats.specs.Page.{bad_page, is_number, sized_part, part_read, levels, rle_truths, rle_values, encoded_values}
 use Rattle.dr_levels.specs.declared.text_place.TextPlace.{TextPlace}
 use Rattle.dr_levels.specs.Texts.{is_text, bytes_at}
 use Rattle.dr_levels.specs.Dense.{text_values}
@@ -18,41 +19,57 @@ use Rattle.dr_plain.specs.declared.values.TextPlace as dense
 use Rattle.dr_plain.specs.Views as dense_views
 use Rattle.dr_plain.specs.Picking.{picked}
 use Rattle.dr_plain.proofs.PickSteps.{picked_seen, not_picked_seen, picked_hold}
+use Rattle.dr_bytes.proofs.FaultLemmas.{was_fault}
 use Rattle.dr_page.specs.declared.encoding.ValueEncoding.{ValueEncoding}
 use Rattle.dr_page.specs.declared.fault.PageFault.{PageFault}
 use Rattle.dr_page.specs.Encodings.{encoding_of}
 use Rattle.dr_page.specs.Indices.{indices_ahead}
 use Rattle.dr_page.specs.Places.{column_place}
-use Rattle.dr_page.specs.Reads.{Reads}
+use Rattle.dr_page.specs.Reads.{WhereNone, WhereBad, Reads}
 
 -- ---- encodings
 
-abbrev encoded : Bool → Bool → Option ValueEncoding
-encoded a b = if a then Some ValueEncoding.Plain else (if b then Some ValueEncoding.Dictionary else None)
+abbrev encoded : Bool → Bool → Bool → Option ValueEncoding
+encoded a b c = if a then Some ValueEncoding.Plain else (if b then Some ValueEncoding.Dictionary else (if c then Some ValueEncoding.Hybrid else None))
 
-by_first : (a b : Bool) (p q : Option (List Value)) → encoded a b ≡ Some ValueEncoding.Plain → (if a then p else (if b then q else None)) ≡ p
-by_first true b p q e = refl
-by_first false true p q e = absurd (cc)
-by_first false false p q e = absurd (cc)
+abbrev either : Bool → Bool → Bool → Option (List Value) → Option (List Value) → Option (List Value) → Option (List Value)
+either a b c p q r = if a then p else (if b then q else (if c then r else None))
 
-by_second : (a b : Bool) (p q : Option (List Value)) → encoded a b ≡ Some ValueEncoding.Dictionary → (if a then p else (if b then q else None)) ≡ q
-by_second true b p q e = absurd (cc)
-by_second false true p q e = refl
-by_second false false p q e = absurd (cc)
+by_first : (a b c : Bool) (p q r : Option (List Value)) → encoded a b c ≡ Some ValueEncoding.Plain → either a b c p q r ≡ p
+by_first true b c p q r e = refl
+by_first false true c p q r e = absurd (cc)
+by_first false false true p q r e = absurd (cc)
+by_first false false false p q r e = absurd (cc)
 
-by_none : (a b : Bool) (p q : Option (List Value)) → encoded a b ≡ None → (if a then p else (if b then q else None)) ≡ None
-by_none true b p q e = absurd (cc)
-by_none false true p q e = absurd (cc)
-by_none false false p q e = refl
+by_second : (a b c : Bool) (p q r : Option (List Value)) → encoded a b c ≡ Some ValueEncoding.Dictionary → either a b c p q r ≡ q
+by_second true b c p q r e = absurd (cc)
+by_second false true c p q r e = refl
+by_second false false true p q r e = absurd (cc)
+by_second false false false p q r e = absurd (cc)
+
+by_third : (a b c : Bool) (p q r : Option (List Value)) → encoded a b c ≡ Some ValueEncoding.Hybrid → either a b c p q r ≡ r
+by_third true b c p q r e = absurd (cc)
+by_third false true c p q r e = absurd (cc)
+by_third false false true p q r e = refl
+by_third false false false p q r e = absurd (cc)
+
+by_none : (a b c : Bool) (p q r : Option (List Value)) → encoded a b c ≡ None → either a b c p q r ≡ None
+by_none true b c p q r e = absurd (cc)
+by_none false true c p q r e = absurd (cc)
+by_none false false true p q r e = absurd (cc)
+by_none false false false p q r e = refl
 
 pub by_plain : (z : ℤ) (k : tree.Kind) (d : List Value) (n : ℕ) (bs : List ℕ) → encoding_of z ≡ Some ValueEncoding.Plain → encoded_values z k d n bs ≡ plain_values k n bs
-by_plain z k d n bs e = by_first (is_number 0 z) (is_number 2 z || is_number 8 z) (plain_values k n bs) (dictionary_values d n bs) e
+by_plain z k d n bs e = by_first (is_number 0 z) (is_number 2 z || is_number 8 z) (is_number 3 z) (plain_values k n bs) (dictionary_values d n bs) (rle_values k n bs) e
 
 pub by_dictionary : (z : ℤ) (k : tree.Kind) (d : List Value) (n : ℕ) (bs : List ℕ) → encoding_of z ≡ Some ValueEncoding.Dictionary → encoded_values z k d n bs ≡ dictionary_values d n bs
-by_dictionary z k d n bs e = by_second (is_number 0 z) (is_number 2 z || is_number 8 z) (plain_values k n bs) (dictionary_values d n bs) e
+by_dictionary z k d n bs e = by_second (is_number 0 z) (is_number 2 z || is_number 8 z) (is_number 3 z) (plain_values k n bs) (dictionary_values d n bs) (rle_values k n bs) e
+
+pub by_rle : (z : ℤ) (k : tree.Kind) (d : List Value) (n : ℕ) (bs : List ℕ) → encoding_of z ≡ Some ValueEncoding.Hybrid → encoded_values z k d n bs ≡ rle_values k n bs
+by_rle z k d n bs e = by_third (is_number 0 z) (is_number 2 z || is_number 8 z) (is_number 3 z) (plain_values k n bs) (dictionary_values d n bs) (rle_values k n bs) e
 
 pub by_no_encoding : (z : ℤ) (k : tree.Kind) (d : List Value) (n : ℕ) (bs : List ℕ) → encoding_of z ≡ None → encoded_values z k d n bs ≡ None
-by_no_encoding z k d n bs e = by_none (is_number 0 z) (is_number 2 z || is_number 8 z) (plain_values k n bs) (dictionary_values d n bs) e
+by_no_encoding z k d n bs e = by_none (is_number 0 z) (is_number 2 z || is_number 8 z) (is_number 3 z) (plain_values k n bs) (dictionary_values d n bs) (rle_values k n bs) e
 
 -- ---- dictionaries
 
@@ -125,3 +142,37 @@ text_places bytes ps items out e f = sym (ap (text_values bytes) (f ∙ ap (map 
 
 pub text_places_hold : (bytes : List ℕ) (ps : List dense.TextPlace) (items : List dense.TextPlace) (out : List TextPlace) → items ≡ ps → out ≡ map column_place items → dense_views.AreTexts bytes ps → list_all (is_text bytes) out ≡ true
 text_places_hold bytes ps items out e f h = ap (list_all (is_text bytes)) (f ∙ ap (map column_place) e) ∙ still_texts bytes ps h
+
+-- ---- truth values in RLE
+
+truths_seen : (ls : List ℕ) → map bool_value (map (λ (l : ℕ). l == 1) ls) ≡ map plain.truth_of_bit ls
+truths_seen [] = refl
+truths_seen (l ∷ ls) = ap (λ vs. bool_value (l == 1) ∷ vs) (truths_seen ls)
+
+-- the truth values of a part's levels
+pub bits_read : (n : ℕ) (bs part rest ls : List ℕ) (out : List Bool) → (n ≡ 0 → ⊥) → sized_part bs ≡ got part rest → levels 1 n part ≡ Some ls → out ≡ map (λ (l : ℕ). l == 1) ls → rle_truths n bs ≡ Some (map bool_value out)
+bits_read zero bs part rest ls out h p l e = absurd (h refl)
+bits_read (suc n) bs part rest ls out h p l e =
+    let a : option_and_then (levels 1 (suc n)) (part_read (sized_part bs)) ≡ Some ls = ap (λ r. option_and_then (levels 1 (suc n)) (part_read r)) p ∙ l in
+    ap (option_map (map plain.truth_of_bit)) a ∙ ap Some (sym (ap (map bool_value) e ∙ truths_seen ls))
+
+-- there are none where there is no part, or its levels aren't
+no_part : (n : ℕ) (bs rest : List ℕ) → (n ≡ 0 → ⊥) → sized_part bs ≡ refused bad_page rest → rle_truths n bs ≡ None
+no_part zero bs rest h p = absurd (h refl)
+no_part (suc n) bs rest h p = ap (λ r. option_map (map plain.truth_of_bit) (option_and_then (levels 1 (suc n)) (part_read r))) p
+
+pub no_part_none : (n : ℕ) (bs : List ℕ) (e : PageFault) → (n ≡ 0 → ⊥) → WhereBad e (sized_part bs) → WhereNone e (rle_truths n bs)
+no_part_none n bs PageFault.NoMemory h w = tt
+no_part_none n bs PageFault.BadData h w = let p = was_fault bad_page (sized_part bs) w in no_part n bs p.0 h p.1
+
+no_bits : (n : ℕ) (bs part rest : List ℕ) → (n ≡ 0 → ⊥) → sized_part bs ≡ got part rest → levels 1 n part ≡ None → rle_truths n bs ≡ None
+no_bits zero bs part rest h p l = absurd (h refl)
+no_bits (suc n) bs part rest h p l = ap (λ r. option_map (map plain.truth_of_bit) (option_and_then (levels 1 (suc n)) (part_read r))) p ∙ ap (option_map (map plain.truth_of_bit)) l
+
+pub no_bits_none : (n : ℕ) (bs part rest : List ℕ) (e : PageFault) → (n ≡ 0 → ⊥) → sized_part bs ≡ got part rest → WhereNone e (levels 1 n part) → WhereNone e (rle_truths n bs)
+no_bits_none n bs part rest PageFault.NoMemory h p w = tt
+no_bits_none n bs part rest PageFault.BadData h p w = no_bits n bs part rest h p w
+
+-- they are the values of their encoding
+pub rle_reads : {B : Type 0} (z : ℤ) (d : List Value) (n : ℕ) (bs : List ℕ) (vs : List Value) (r : Result B PageFault) → encoding_of z ≡ Some ValueEncoding.Hybrid → Reads (rle_truths n bs) vs r → Reads (encoded_values z tree.bool_kind d n bs) vs r
+rle_reads z d n bs vs r e h = subst (λ (o : Option (List Value)). Reads o vs r) (sym (by_rle z tree.bool_kind d n bs e)) h

@@ -1,12 +1,11 @@
 -- What is written: levels at most the greatest, and values that are there.
-use Rattle.std.proofs.Common.{◌≡◌, ℕ, zero, suc, ◌+◌, ◌-◌, ◌*◌, ◌/◌, ◌^◌, ◌≤◌, ◌<◌, List, [], ◌∷◌, ◌++◌, map, length, drop, Bool, true, false, refl, sym, ap, ap₂, ◌∙◌, subst, arith, Option, Some, None, append_assoc, ℤ, Result, Ok, Err}
+use Rattle.std.proofs.Common.{◌≡◌, ℕ, zero, suc, ◌+◌, ◌-◌, ◌*◌, ◌/◌, ◌^◌, ◌≤◌, ◌<◌, List, [], ◌∷◌, ◌++◌, map, length, drop, Bool, true, false, refl, sym, ap, ap₂, ◌∙◌, subst, arith, Option, Some, None, append_assoc, ℤ}
 use Rattle.std.specs.Prelude.{nat_le, nat_lt, ◌&&◌, ◌==◌, if◌then◌else◌}
 use Rattle.std.specs.List.{list_all, sum_by}
 use Rattle.std.proofs.Math.Nat.{pow-suc}
 use Rattle.std.proofs.lemmas.Bool.{lt-ltb, leb-true, eqb-true, and_parts, and_from}
 use Rattle.std.proofs.lemmas.List.{length-map, length-append, length-drop, length-take-le}
 use Rattle.std.proofs.lemmas.List.Sums.{sum_by-cons}
-use Rattle.dr_memory.specs.declared.NoMemory.{NoMemory}
 use Rattle.dr_meaning.specs.Schema.{Kind}
 use Rattle.dr_meaning.specs.Schema as tree
 use Rattle.dr_meaning.specs.Record.{Value, bool_value, int_value, text_value}
@@ -14,14 +13,15 @@ use Rattle.dr_meaning.specs.Column.{Triplet}
 use Rattle.dr_formats.specs.LittleEndian.{little_endian_bytes, packed, bytes_for}
 use Rattle.dr_formats.specs.Plain.{complement, bit_of, plain_number_bytes, plain_text_bytes, joined, plain_bytes, is_writable}
 use Rattle.dr_formats.proofs.LittleEndianLemmas.{length_little_endian}
-use Rattle.dr_formats.specs.Page.{digits_within, level_width, with_value, column_values, has_value, is_value_of, same_truth, is_triplet}
+use Rattle.dr_formats.specs.Hybrid.{hybrid_bytes}
+use Rattle.dr_formats.specs.Page.{data_page_v1, level_data, behind_length, level_bytes, digits_within, level_width, with_value, column_values, has_value, is_value_of, same_truth, is_triplet}
 use Rattle.dr_levels.specs.declared.triplet.Levels.{Levels}
 use Rattle.dr_levels.specs.declared.text_place.TextPlace.{TextPlace}
 use Rattle.dr_levels.specs.Texts.{is_text, bytes_at}
 use Rattle.dr_levels.specs.Dense.{value_list, text_values}
 use Rattle.dr_levels.specs.Lent.{present_values}
 use Rattle.dr_levels.specs.Views.{levels_pair, triplet_levels}
-use Rattle.dr_page.specs.Writes.{Writes}
+use Rattle.dr_meaning.specs.Lists.{BeginsWith}
 
 -- ---- levels are of the width
 
@@ -45,6 +45,16 @@ levels_below g w (l ∷ ls) e k =
     let p : (nat_le l g ≡ true) × (list_all (λ l. nat_le l g) ls ≡ true) = and_parts _ _ k in
     let h : g < 2 ^ w = subst (λ (v : ℕ). g < 2 ^ v) (sym e) (digits_hold g g (below_power g)) in
     and_from _ _ (lt-ltb l (2 ^ w) (omega (arith, leb-true l g p.0, h))) (levels_below g w ls e p.1)
+
+-- the hybrid data of levels, where there are any
+pub data_written : (g w : ℕ) (ls : List ℕ) → 0 < g → w ≡ level_width g → level_data g ls ≡ hybrid_bytes w ls
+data_written zero w ls h e = absurd (omega (arith, h))
+data_written (suc g) w ls h e = ap (λ v. hybrid_bytes v ls) (sym e)
+
+-- a V1 page has it behind its length
+pub behind_written : (g : ℕ) (ls : List ℕ) → 0 < g → level_bytes data_page_v1 g ls ≡ behind_length (level_data g ls)
+behind_written zero ls h = absurd (omega (arith, h))
+behind_written (suc g) ls h = refl
 
 -- ---- triplets that can be written
 
@@ -111,11 +121,14 @@ definitions_fit k max_r max_d ls ts e h = ap (list_all (λ l. nat_le l max_d)) (
 
 -- ---- bytes behind others
 
-pub writes_last : (r : Result (Unit {0}) NoMemory) (a b c whole old one two new : List ℕ) → whole ≡ a ++ (b ++ c) → one ≡ old ++ a → two ≡ one ++ b → Writes c two new r → Writes whole old new r
-writes_last (Ok done) a b c whole old one two new w e f h =
-    h ∙ (ap (λ xs. xs ++ c) (f ∙ ap (λ xs. xs ++ b) e) ∙ (append_assoc (old ++ a) b c ∙ (append_assoc old a (b ++ c) ∙ ap (λ xs. old ++ xs) (sym w))))
-writes_last (Err x) a b c whole old one two new w e f h =
-    (a ++ (b ++ h.0), h.1 ∙ (ap (λ xs. xs ++ h.0) (f ∙ ap (λ xs. xs ++ b) e) ∙ (append_assoc (old ++ a) b h.0 ∙ append_assoc old a (b ++ h.0))))
+pub three_joined : (a b c old one two new : List ℕ) → one ≡ old ++ a → two ≡ one ++ b → new ≡ two ++ c → new ≡ old ++ (a ++ (b ++ c))
+three_joined a b c old one two new e f h = h ∙ (ap (λ xs. xs ++ c) (f ∙ ap (λ xs. xs ++ b) e) ∙ (append_assoc (old ++ a) b c ∙ append_assoc old a (b ++ c)))
+
+pub all_joined : (a b c whole old one two new : List ℕ) → whole ≡ a ++ (b ++ c) → one ≡ old ++ a → two ≡ one ++ b → new ≡ two ++ c → new ≡ old ++ whole
+all_joined a b c whole old one two new w e f h = three_joined a b c old one two new e f h ∙ ap (λ xs. old ++ xs) (sym w)
+
+pub some_joined : (a b old one two new : List ℕ) → one ≡ old ++ a → two ≡ one ++ b → BeginsWith two new → BeginsWith old new
+some_joined a b old one two new e f h = (a ++ (b ++ h.0), three_joined a b h.0 old one two new e f h.1)
 
 -- ---- how many bytes values take
 

@@ -5,18 +5,26 @@ use Rattle.dr_meaning.specs.Record.{Value, bool_value, int_value}
 use Rattle.dr_nested.specs.Views.{kind_view}
 use Rattle.dr_levels.specs.Dense.{text_values}
 use Rattle.dr_levels.specs.Views.{LeafForm, form}
-use Rattle.dr_formats.specs.Page.{PageShape, data_page_v1}
+use Rattle.dr_formats.specs.Page as page
+use Rattle.dr_formats.specs.Page.{PageShape, data_page_v1, data_page_v2}
+use Rattle.dr_page.specs.declared.shape.PageForm.{PageForm}
 use Rattle.dr_page.specs.declared.shape.Shape.{Shape}
 use Rattle.dr_page.specs.declared.dictionary.Entries.{Entries}
 use Rattle.dr_page.specs.declared.dictionary.Dictionary.{Dictionary}
 
+abbrev pub page_form_view : PageForm → page.PageForm
+page_form_view PageForm.V1 = data_page_v1
+page_form_view PageForm.V2 = data_page_v2
+
 abbrev pub shape_view : Shape → PageShape
 shape_view s = record {
-  form = data_page_v1;
+  form = page_form_view s.form;
   triplets = s.triplets;
   encoding = s.encoding;
   definition_encoding = s.definition_encoding;
   repetition_encoding = s.repetition_encoding;
+  definition_bytes = s.definition_bytes;
+  repetition_bytes = s.repetition_bytes;
   kind = kind_view s.kind;
   max_repetition = s.max_repetition;
   max_definition = s.max_definition;

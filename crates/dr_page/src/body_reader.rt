@@ -14,6 +14,7 @@ use std::alloc::Global;
 pub struct BodyReader {
     levels: LevelReader,
     indices: Vec<u32>,
+    bits: Vec<u8>,
     bools: Vec<bool>,
     integers: Vec<i64>,
     texts: Vec<dr_plain::TextPlace>,
@@ -36,6 +37,7 @@ impl BodyReader {
         BodyReader {
             levels: LevelReader::new(alloc),
             indices: Vec::new(alloc),
+            bits: Vec::new(alloc),
             bools: Vec::new(alloc),
             integers: Vec::new(alloc),
             texts: Vec::new(alloc),
@@ -99,6 +101,7 @@ impl BodyReader {
             count,
             bytes,
             &mut self.indices,
+            &mut self.bits,
             &mut self.bools,
         )?;
         self.levels.pair(shape)?;

@@ -19,6 +19,8 @@ pub(crate) enum ValueEncoding {
     Plain,
     /// Indices of the values of the chunk's dictionary.
     Dictionary,
+    /// Hybrid data behind its length, which truth values alone have.
+    Hybrid,
 }
 
 /// The encoding of values with a number of the format; none for any other number.
@@ -28,6 +30,7 @@ pub(crate) fn value_encoding(number: i64) -> Option<ValueEncoding>
     match number {
         PLAIN => Some(ValueEncoding::Plain),
         PLAIN_DICTIONARY | RLE_DICTIONARY => Some(ValueEncoding::Dictionary),
+        RLE => Some(ValueEncoding::Hybrid),
         _ => None,
     }
 }

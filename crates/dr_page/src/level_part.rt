@@ -1,61 +1,37 @@
-//! Level parts of page bodies.
+//! Levels of the parts of page bodies.
 
-ghost use Rattle.std.specs.Prelude.{◌≡◌, ◌≤◌, OnOk, IfOk, IfErr, length};
+ghost use Rattle.std.specs.Prelude.{◌≡◌, ◌≤◌, OnOk, length};
 ghost use Rattle.std.specs.List.{list_all};
 ghost use Rattle.std.specs.Prelude.{nat_le};
-ghost use Rattle.dr_formats.specs.Reading.{got};
 ghost use Rattle.dr_formats.specs.Page as page;
-ghost use Rattle.dr_page.specs.Reads.{WhereBad};
-ghost use Rattle.dr_page.specs.Parts.{part_ahead, expanded};
+ghost use Rattle.dr_page.specs.Reads.{Reads};
+ghost use Rattle.dr_page.specs.Parts.{expanded};
 
-use crate::encoding::is_hybrid;
 use crate::fault::PageFault;
 use crate::level_runs::read_runs;
-use dr_bytes::Cut;
 
-/// The bytes of the length before a part.
-pub(crate) const LENGTH_BYTES: usize = 4;
-
-/// Puts the levels with which a body goes on into the place of others, and answers the bytes behind them. Where the
-/// greatest level is 0 there are no bytes of them, and they are left out: all would be 0.
-pub(crate) fn read_levels<'a>(
-    bytes: &'a [u8],
+/// Puts the levels of a part into the place of others, as many as are wanted. Where the greatest level is 0 the part
+/// isn't looked at, and they are left out: all would be 0.
+pub(crate) fn read_levels(
+    part: &[u8],
     greatest: u8,
-    encoding: i64,
     count: usize,
     out: &mut Vec<u8>,
-) -> Result<&'a [u8], PageFault>
+) -> Result<(), PageFault>
     requires { greatest ≤ 32 }
-    ensures read { IfOk result (λ rest. page.levels greatest encoding count bytes.now
-        ≡ got (expanded greatest count (out.new).items) rest.now) }
-    ensures bad { IfErr result (λ e. WhereBad e (page.levels greatest encoding count bytes.now)) }
+    ensures read { Reads (page.levels greatest count part.now) (expanded greatest count (out.new).items) result }
     ensures count { OnOk result (length (expanded greatest count (out.new).items) ≡ count) }
 {
     if greatest == 0 {
         out.clear();
-        return Ok(bytes);
+        return Ok(());
     }
-    if !is_hybrid(encoding) {
-        return Err(PageFault::BadData);
-    }
-    let (part, rest) = split_part(bytes)?;
     read_runs(part, level_width(greatest), count, out)?;
     if none_above(greatest, out) {
-        Ok(rest)
+        Ok(())
     } else {
         Err(PageFault::BadData)
     }
-}
-
-/// The part of a body behind its length in four bytes, and the bytes behind the part.
-fn split_part(bytes: &[u8]) -> Result<(&[u8], &[u8]), PageFault>
-    ensures split { IfOk result (λ p. part_ahead bytes.now ≡ got p.0.now p.1.now) }
-    ensures bad { IfErr result (λ e. WhereBad e (part_ahead bytes.now)) }
-{
-    let mut cut = Cut::new(bytes);
-    let length = cut.le32()?;
-    let part = cut.take(length as usize)?;
-    Ok((part, cut.rest()))
 }
 
 /// The width of levels: the number of binary digits of the greatest.

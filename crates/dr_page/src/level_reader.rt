@@ -5,12 +5,13 @@ ghost use Rattle.dr_formats.specs.Reading.{got};
 ghost use Rattle.dr_formats.specs.Page.{count_equal};
 ghost use Rattle.dr_page.specs.Views.{shape_view};
 ghost use Rattle.dr_page.specs.Reads.{WhereBad};
-ghost use Rattle.dr_page.specs.Parts.{expanded, level_parts, PairsOf};
+ghost use Rattle.dr_page.specs.Parts.{expanded, levels_ahead, PairsOf};
 ghost use Rattle.dr_page.specs.Levels.{levels_view, pairs_of};
 
 use crate::fault::PageFault;
 use crate::level_part::read_levels;
 use crate::levels::{count_equal, pair_levels};
+use crate::part::find_parts;
 use crate::shape::Shape;
 use dr_levels::Levels;
 use dr_memory::NoMemory;
@@ -37,27 +38,29 @@ impl LevelReader {
 
     /// Reads the levels with which a body begins, and answers the bytes behind them.
     pub(crate) fn read<'a>(&mut self, shape: &Shape, bytes: &'a [u8]) -> Result<&'a [u8], PageFault>
-        ensures read { IfOk result (λ rest. level_parts (shape_view shape.now) bytes.now
+        ensures read { IfOk result (λ rest. levels_ahead (shape_view shape.now) bytes.now
             ≡ got (levels_view shape.now self.new) rest.now) }
-        ensures bad { IfErr result (λ e. WhereBad e (level_parts (shape_view shape.now) bytes.now)) }
+        ensures bad { IfErr result (λ e. WhereBad e (levels_ahead (shape_view shape.now) bytes.now)) }
         ensures repetitions { OnOk result (length (levels_view shape.now self.new).0 ≡ (shape.now).triplets) }
         ensures definitions { OnOk result (length (levels_view shape.now self.new).1 ≡ (shape.now).triplets) }
     {
+        let parts = find_parts(shape, bytes)?;
         let count = shape.triplets as usize;
-        let behind = read_levels(
-            bytes,
+        let repetitions = &bytes[parts.repetitions.start..parts.repetitions.end];
+        read_levels(
+            repetitions,
             shape.max_repetition,
-            shape.repetition_encoding,
             count,
             &mut self.repetitions,
         )?;
+        let definitions = &bytes[parts.definitions.start..parts.definitions.end];
         read_levels(
-            behind,
+            definitions,
             shape.max_definition,
-            shape.definition_encoding,
             count,
             &mut self.definitions,
-        )
+        )?;
+        Ok(&bytes[parts.values..])
     }
 
     /// How many triplets have a value.

@@ -15,6 +15,7 @@ use crate::dictionary::Texts;
 use crate::encoding::{ValueEncoding, value_encoding};
 use crate::fault::PageFault;
 use crate::picking::read_picked;
+use crate::rle_bools::read_rle_bools;
 use crate::text_places::read_places;
 use dr_levels::TextPlace;
 use dr_nested::Kind;
@@ -27,6 +28,7 @@ pub(crate) fn read_bools(
     count: usize,
     bytes: &[u8],
     indices: &mut Vec<u32>,
+    bits: &mut Vec<u8>,
     out: &mut Vec<bool>,
 ) -> Result<(), PageFault>
     ensures { Reads (encoded_values encoding tree.bool_kind (map bool_value dictionary.now) count bytes.now)
@@ -39,6 +41,7 @@ pub(crate) fn read_bools(
             Ok(())
         }
         Some(ValueEncoding::Dictionary) => read_picked(dictionary, count, bytes, indices, out),
+        Some(ValueEncoding::Hybrid) => read_rle_bools(count, bytes, bits, out),
         None => Err(PageFault::BadData),
     }
 }
@@ -60,6 +63,7 @@ pub(crate) fn read_integers(
     match value_encoding(encoding) {
         Some(ValueEncoding::Plain) => read_plain_integers(kind, count, bytes, out),
         Some(ValueEncoding::Dictionary) => read_picked(dictionary, count, bytes, indices, out),
+        Some(ValueEncoding::Hybrid) => Err(PageFault::BadData),
         None => Err(PageFault::BadData),
     }
 }
@@ -113,6 +117,7 @@ pub(crate) fn read_texts<'a>(
             read_picked(&dictionary.places, count, bytes, indices, out)?;
             Ok(&dictionary.bytes)
         }
+        Some(ValueEncoding::Hybrid) => Err(PageFault::BadData),
         None => Err(PageFault::BadData),
     }
 }

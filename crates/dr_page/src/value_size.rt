@@ -6,7 +6,7 @@ ghost use Rattle.dr_formats.specs.Page.{column_values};
 ghost use Rattle.dr_formats.specs.Plain.{plain_bytes};
 ghost use Rattle.dr_levels.specs.Views.{triplets_view, triplets_form};
 
-use crate::level_part::LENGTH_BYTES;
+use crate::part::LENGTH_BYTES;
 use dr_levels::{TextPlace, Triplets, ValuesRef};
 use dr_nested::Kind;
 

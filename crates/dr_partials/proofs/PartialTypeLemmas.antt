@@ -14,7 +14,7 @@ use Rattle.dr_meaning.specs.Query.{Aggregate, count, sum, least, greatest, Group
 use Rattle.dr_meaning.specs.BoundExpression.{ValueType}
 use Rattle.dr_partials.specs.Accumulators.{Accumulator, counted, summed, least_of, greatest_of, aggregate_of, empty_accumulator, join_options, join, result_of}
 use Rattle.dr_partials.specs.Partials.{Group, Partial, lines, grouped, join_all, join_groups, insert_group, merge_groups, merge, empty_term, empty_selected, empty_partial}
-use Rattle.dr_partials.specs.PartialTypes.{expression_type, has_type, are_keys, is_accumulator, with_aggregate, aggregates_among, are_accumulators, is_group, ascends, is_one_without_keys, has_cells, has_lists, is_of_selection, is_partial}
+use Rattle.dr_partials.specs.PartialTypes.{expression_type, has_type, are_keys, is_accumulator, with_aggregate, aggregates_among, are_accumulators, is_group, ascends, is_one_without_keys, shape_of, object_has_shape, is_of_selection, is_partial}
 use Rattle.dr_partials.specs.PartialLaws.{MergeIsAssociative, MergeIsCommutative, EmptyMergesToSame, EmptyIsPartial, MergedIsPartial, OneGroupWithoutKeys, CountIsNumber}
 use Rattle.dr_partials.proofs.AccumulatorLemmas.{OfOne, counts, sums, leasts, greatests, of_one, empty_left, empty_right}
 use Rattle.dr_partials.proofs.GroupLemmas.{Tuple, Ascending, ascending_groups, ascending_ascends, merged_ascends, AllOfKinds, merge_groups_assoc, merge_groups_comm, merge_groups_none}
@@ -299,7 +299,7 @@ one_of_keys fs (k ∷ ks) items gs hs a b = refl
 
 merged_of : (fs : Fields) (s : Selection) (p r : Partial) → is_of_selection fs s p ≡ true → is_of_selection fs s r ≡ true → is_of_selection fs s (merge p r) ≡ true
 unfolding merge
-merged_of fs (objects items) (lines os) (lines ps) h k = list_all-append (has_cells items [] (has_lists items (levels_of fs))) os ps ∙ ap₂ (λ a b. a && b) h k
+merged_of fs (objects items) (lines os) (lines ps) h k = list_all-append (object_has_shape (shape_of items (levels_of fs))) os ps ∙ ap₂ (λ a b. a && b) h k
 merged_of fs (objects items) (lines os) (grouped hs) h k = absurd (true≢false (sym k))
 merged_of fs (objects items) (grouped gs) r h k = absurd (true≢false (sym h))
 merged_of fs (groups keys items) (lines os) r h k = absurd (true≢false (sym h))

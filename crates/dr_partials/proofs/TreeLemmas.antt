@@ -1,5 +1,6 @@
 -- Trees gather what stands for all records; the tree of a fan.
-use Rattle.std.proofs.Common.{◌≡◌, ℕ, zero, suc, ◌+◌, ◌-◌, ◌*◌, ◌≤◌, List, [], ◌∷◌, ◌++◌, map, length, true, ◌&&◌, refl, sym, ap, ap₂, ◌∙◌, subst, append_assoc, append-nil, arith, length-append}
+use Rattle.std.proofs.Common.{◌≡◌, ℕ, zero, suc, ◌+◌, ◌-◌, ◌*◌, ◌≤◌, List, [], ◌∷◌, ◌++◌, map, length, take, drop, true, ◌&&◌, refl, sym, ap, ap₂, ◌∙◌, subst, append_assoc, append-nil, arith, length-append, length-drop, length-take, take-append-drop}
+use Rattle.std.proofs.lemmas.List.{length-map}
 use Rattle.std.specs.Prelude.{nat_le}
 use Rattle.std.specs.List.{list_all, flat_map, range_with_len}
 use Rattle.std.proofs.lemmas.Bool.{and_parts}
@@ -15,7 +16,7 @@ use Rattle.dr_partials.specs.PartialTypes.{is_partial}
 use Rattle.dr_partials.specs.PartialLaws.{is_mergeable}
 use Rattle.dr_partials.specs.PartialBounds.{PartialCanBeOf}
 use Rattle.dr_partials.proofs.BoundsLemmas.{bounds_add_up}
-use Rattle.dr_partials.specs.Trees.{Tree, leaf_server, intermediate_server, Trees, no_trees, next_tree, tablets_of, tablets_of_all, count_trees, children_at_most, all_at_most, gathered, gathered_behind, Packed, pack, trees_of, grow, of_fan}
+use Rattle.dr_partials.specs.Trees.{Tree, leaf_server, intermediate_server, Trees, no_trees, next_tree, tablets_of, tablets_of_all, count_trees, children_at_most, all_at_most, gathered, gathered_behind, trees_of, chunks_at_most, in_chunks, server_of, grow, of_fan}
 use Rattle.dr_partials.specs.TreeLaws.{records_of, StandsForEach, GatheredStands, GatheredMeansQuery, AreAllPartials, GatheredIsPartial, CanAllBeOf, GatheredIsBounded, TreesGatherAlike, FanHasAllTablets, FanIsKept}
 use Rattle.dr_partials.proofs.PartialLemmas.{merged_stands, finished_partial_is_meaning}
 use Rattle.dr_partials.proofs.PartialTypeLemmas.{merge_is_associative, empty_merges_to_same, merged_is_partial, empty_is_partial}
@@ -147,24 +148,28 @@ trees_gather_alike fs q piece a b h e =
 abbrev tablets_in : List Tree → List ℕ
 tablets_in ts = flat_map tablets_of ts
 
-packed_tablets : (more room : ℕ) (ts : List Tree) → tablets_of_all (pack more room ts).here ++ tablets_in (pack more room ts).behind ≡ tablets_in ts
-packed_tablets more room [] = refl
-packed_tablets more zero (t ∷ ts) =
-    append_assoc (tablets_of t) (tablets_of_all (pack more more ts).here) (tablets_in (pack more more ts).behind) ∙ ap (λ us. tablets_of t ++ us) (packed_tablets more more ts)
-packed_tablets more (suc room) (t ∷ ts) =
-    append_assoc (tablets_of t) (tablets_of_all (pack more room ts).here) (tablets_in (pack more room ts).behind) ∙ ap (λ us. tablets_of t ++ us) (packed_tablets more room ts)
-
 trees_tablets : (ts : List Tree) → tablets_of_all (trees_of ts) ≡ tablets_in ts
 trees_tablets [] = refl
 trees_tablets (t ∷ ts) = ap (λ us. tablets_of t ++ us) (trees_tablets ts)
 
-grown_tablets : (levels more : ℕ) (t : Tree) (ts : List Tree) → tablets_of (grow levels more t ts) ≡ tablets_of t ++ tablets_in ts
-grown_tablets levels more t [] = sym (append-nil (tablets_of t))
-grown_tablets zero more t (u ∷ us) = ap (λ vs. tablets_of t ++ vs) (trees_tablets (u ∷ us))
-grown_tablets (suc levels) more t (u ∷ us) =
-    let p : Packed = pack more more (u ∷ us) in
-    grown_tablets levels more (intermediate_server t p.here) p.behind
-    ∙ (append_assoc (tablets_of t) (tablets_of_all p.here) (tablets_in p.behind) ∙ ap (λ vs. tablets_of t ++ vs) (packed_tablets more more (u ∷ us)))
+chunks_tablets : (most fan : ℕ) (ts : List Tree) → length ts ≤ most → tablets_in (map server_of (chunks_at_most most fan ts)) ≡ tablets_in ts
+chunks_tablets zero fan [] h = refl
+chunks_tablets zero fan (t ∷ ts) h = absurd (omega (arith, h))
+chunks_tablets (suc most) fan [] h = refl
+chunks_tablets (suc most) fan (t ∷ ts) h =
+    let here : List Tree = take (fan - 1) ts in
+    let behind : List Tree = drop (fan - 1) ts in
+    ap₂ (λ us vs. (tablets_of t ++ us) ++ vs) (trees_tablets here) (chunks_tablets most fan behind (omega (arith, h, length-drop (fan - 1) ts)))
+    ∙ (append_assoc (tablets_of t) (tablets_in here) (tablets_in behind)
+    ∙ ap (λ us. tablets_of t ++ us) (sym (flat_map-append tablets_of here behind) ∙ ap tablets_in (take-append-drop (fan - 1) ts)))
+
+grown_tablets : (levels fan : ℕ) (t : Tree) (ts : List Tree) → tablets_of (grow levels fan (t ∷ ts)) ≡ tablets_in (t ∷ ts)
+grown_tablets levels fan t [] = sym (append-nil (tablets_of t))
+grown_tablets zero fan t (u ∷ us) = ap (λ vs. tablets_of t ++ vs) (trees_tablets (u ∷ us))
+grown_tablets (suc levels) fan t (u ∷ us) =
+    let here : List Tree = take (fan - 1) (u ∷ us) in
+    grown_tablets levels fan (intermediate_server t (trees_of here)) (map server_of (chunks_at_most (suc (length us)) fan (drop (fan - 1) (u ∷ us))))
+    ∙ chunks_tablets (suc (suc (length us))) fan (t ∷ u ∷ us) (omega arith)
 
 leaf_tablets : (ts : List ℕ) → tablets_in (map leaf_server ts) ≡ ts
 leaf_tablets [] = refl
@@ -174,47 +179,64 @@ pub fan_has_all_tablets : FanHasAllTablets
 unfolding of_fan
 fan_has_all_tablets zero fan h = absurd (omega (arith, h))
 fan_has_all_tablets (suc n) fan h =
-    let e : suc n - 1 ≡ n = omega arith in
-    grown_tablets (suc n) (fan - 1) (leaf_server 0) (map leaf_server (range_with_len 1 (suc n - 1)))
-    ∙ ap (λ ts. 0 ∷ ts) (leaf_tablets (range_with_len 1 (suc n - 1)) ∙ ap (range_with_len 1) e)
+    grown_tablets (suc n) fan (leaf_server 0) (map leaf_server (range_with_len 1 n)) ∙ leaf_tablets (range_with_len 0 (suc n))
 
 -- ---- its fan
 
 le_tested : (a b : ℕ) → a ≤ b → nat_le a b ≡ true
 le_tested a b h = grind (arith, nat_tests)
 
--- of what is packed: the children that are taken, and the servers behind
-record IsPacked (fan room n : ℕ) (p : Packed) : Type 0 where
-  few : count_trees p.here ≤ room
-  here_kept : all_at_most fan p.here ≡ true
-  behind_kept : list_all (children_at_most fan) p.behind ≡ true
-  short : length p.behind ≤ n
+few_trees : (n : ℕ) (ts : List Tree) → length ts ≤ n → count_trees (trees_of ts) ≤ n
+few_trees n [] h = omega arith
+few_trees zero (t ∷ ts) h = absurd (omega (arith, h))
+few_trees (suc n) (t ∷ ts) h = omega (arith, few_trees n ts (omega (arith, h)))
 
-packed : (fan more room : ℕ) (ts : List Tree) → suc more ≤ fan → list_all (children_at_most fan) ts ≡ true → IsPacked fan room (length ts) (pack more room ts)
-packed fan more room [] h k = record { few = omega arith; here_kept = refl; behind_kept = refl; short = omega arith }
-packed fan more zero (t ∷ ts) h k =
-    let a = and_parts (children_at_most fan t) (list_all (children_at_most fan) ts) k in
-    let r = packed fan more more ts h a.1 in
-    record {
-      few = omega arith;
-      here_kept = refl;
-      behind_kept = ap₂ (λ x y. x && y) (ap₂ (λ x y. x && y) (ap₂ (λ x y. x && y) (le_tested (suc (count_trees (pack more more ts).here)) fan (omega (arith, r.few, h))) a.0) r.here_kept) r.behind_kept;
-      short = omega (arith, r.short);
-    }
-packed fan more (suc room) (t ∷ ts) h k =
-    let a = and_parts (children_at_most fan t) (list_all (children_at_most fan) ts) k in
-    let r = packed fan more room ts h a.1 in
-    record { few = omega (arith, r.few); here_kept = ap₂ (λ x y. x && y) a.0 r.here_kept; behind_kept = r.behind_kept; short = omega (arith, r.short) }
+trees_kept : (fan : ℕ) (ts : List Tree) → list_all (children_at_most fan) ts ≡ true → all_at_most fan (trees_of ts) ≡ true
+trees_kept fan [] h = refl
+trees_kept fan (t ∷ ts) h =
+    let k = and_parts (children_at_most fan t) (list_all (children_at_most fan) ts) h in
+    ap₂ (λ x y. x && y) k.0 (trees_kept fan ts k.1)
 
-grown_kept : (fan levels more : ℕ) (t : Tree) (ts : List Tree) → suc (suc more) ≤ fan → length ts ≤ levels → children_at_most fan t ≡ true → list_all (children_at_most fan) ts ≡ true → children_at_most fan (grow levels (suc more) t ts) ≡ true
-grown_kept fan levels more t [] h l a b = a
-grown_kept fan zero more t (u ∷ us) h l a b = absurd (omega (arith, l))
-grown_kept fan (suc levels) more t (u ∷ us) h l a b =
-    let c = and_parts (children_at_most fan u) (list_all (children_at_most fan) us) b in
-    let r = packed fan (suc more) more us h c.1 in
-    let p : Packed = pack (suc more) more us in
-    grown_kept fan levels more (intermediate_server t (next_tree u p.here)) p.behind h (omega (arith, r.short, l))
-    (ap₂ (λ x y. x && y) (ap₂ (λ x y. x && y) (le_tested (suc (suc (count_trees p.here))) fan (omega (arith, r.few, h))) a) (ap₂ (λ x y. x && y) c.0 r.here_kept)) r.behind_kept
+-- the first and the others, where these are fewer than the fan
+server_kept : (fan : ℕ) (t : Tree) (ts : List Tree) → suc (length ts) ≤ fan → children_at_most fan t ≡ true → list_all (children_at_most fan) ts ≡ true
+    → children_at_most fan (intermediate_server t (trees_of ts)) ≡ true
+server_kept fan t ts h a b =
+    let few = few_trees (length ts) ts (omega arith) in
+    ap₂ (λ x y. x && y) (ap₂ (λ x y. x && y) (le_tested (suc (count_trees (trees_of ts))) fan (omega (arith, few, h))) a) (trees_kept fan ts b)
+
+both_kept : (fan n : ℕ) (ts : List Tree) → list_all (children_at_most fan) ts ≡ true
+    → (list_all (children_at_most fan) (take n ts) ≡ true) × (list_all (children_at_most fan) (drop n ts) ≡ true)
+both_kept fan n ts h =
+    and_parts _ _ (sym (list_all-append (children_at_most fan) (take n ts) (drop n ts)) ∙ (ap (list_all (children_at_most fan)) (take-append-drop n ts) ∙ h))
+
+chunks_kept : (most fan : ℕ) (ts : List Tree) → 1 ≤ fan → list_all (children_at_most fan) ts ≡ true
+    → list_all (children_at_most fan) (map server_of (chunks_at_most most fan ts)) ≡ true
+chunks_kept zero fan ts h a = refl
+chunks_kept (suc most) fan [] h a = refl
+chunks_kept (suc most) fan (t ∷ ts) h a =
+    let b = and_parts (children_at_most fan t) (list_all (children_at_most fan) ts) a in
+    let c = both_kept fan (fan - 1) ts b.1 in
+    ap₂ (λ x y. x && y) (server_kept fan t (take (fan - 1) ts) (omega (arith, h, length-take (fan - 1) ts)) b.0 c.0)
+    (chunks_kept most fan (drop (fan - 1) ts) h c.1)
+
+-- no more chunks than trees
+few_chunks : (most fan : ℕ) (ts : List Tree) → length (chunks_at_most most fan ts) ≤ length ts
+few_chunks zero fan ts = omega arith
+few_chunks (suc most) fan [] = omega arith
+few_chunks (suc most) fan (t ∷ ts) = omega (arith, few_chunks most fan (drop (fan - 1) ts), length-drop (fan - 1) ts)
+
+grown_kept : (levels fan : ℕ) (ts : List Tree) → 2 ≤ fan → length ts ≤ suc levels → list_all (children_at_most fan) ts ≡ true
+    → children_at_most fan (grow levels fan ts) ≡ true
+grown_kept levels fan [] h l a = refl
+grown_kept levels fan (t ∷ []) h l a = (and_parts (children_at_most fan t) true a).0
+grown_kept zero fan (t ∷ u ∷ us) h l a = absurd (omega (arith, l))
+grown_kept (suc levels) fan (t ∷ u ∷ us) h l a =
+    let ts : List Tree = t ∷ u ∷ us in
+    let behind : List Tree = drop (fan - 1) (u ∷ us) in
+    let few = few_chunks (suc (length us)) fan behind in
+    grown_kept levels fan (map server_of (in_chunks fan ts)) h
+    (omega (arith, h, l, few, length-drop (fan - 1) (u ∷ us), length-map (in_chunks fan ts) server_of))
+    (chunks_kept (length ts) fan ts (omega (arith, h)) a)
 
 leaves_kept : (fan : ℕ) (ts : List ℕ) → list_all (children_at_most fan) (map leaf_server ts) ≡ true
 leaves_kept fan [] = refl
@@ -222,10 +244,6 @@ leaves_kept fan (t ∷ ts) = leaves_kept fan ts
 
 pub fan_is_kept : FanIsKept
 unfolding of_fan
-fan_is_kept n zero h k = absurd (omega (arith, k))
-fan_is_kept n (suc zero) h k = absurd (omega (arith, k))
-fan_is_kept n (suc (suc more)) h k =
-    let e : suc (suc more) - 1 ≡ suc more = omega arith in
-    let l = length-map-range_with_len leaf_server 1 (n - 1) in
-    ap (λ m. children_at_most (suc (suc more)) (grow n m (leaf_server 0) (map leaf_server (range_with_len 1 (n - 1))))) e
-    ∙ grown_kept (suc (suc more)) n more (leaf_server 0) (map leaf_server (range_with_len 1 (n - 1))) (omega arith) (omega (arith, l)) refl (leaves_kept (suc (suc more)) (range_with_len 1 (n - 1)))
+fan_is_kept n fan h k =
+    let l = length-map-range_with_len leaf_server 0 n in
+    grown_kept n fan (map leaf_server (range_with_len 0 n)) k (omega (arith, l)) (leaves_kept fan (range_with_len 0 n))

@@ -31,7 +31,7 @@ use Rattle.dr_meaning.proofs.LeafKinds.{kind_if_some, leaf_kind, shape_kind, kin
 use Rattle.dr_meaning.proofs.ProjectionLemmas.{step}
 use Rattle.dr_partials.specs.Accumulators.{accumulator_of_cell, accumulated}
 use Rattle.dr_partials.specs.Partials.{term_accumulator, selected_partial, partial_of}
-use Rattle.dr_partials.specs.PartialTypes.{type_among, path_type, expression_type, has_type, are_keys, is_accumulator, with_aggregate, aggregates_among, are_accumulators, is_group, begins_with_cell, all_objects, begins_with_list, has_cells, has_lists, is_of_selection, is_partial}
+use Rattle.dr_partials.specs.PartialTypes.{type_among, path_type, expression_type, has_type, are_keys, is_accumulator, with_aggregate, aggregates_among, are_accumulators, is_group, ObjectShape, cell_named, list_named, shape_with_cells, shape_of_lists, shape_of, object_has_shape, objects_have_shape, is_of_selection, is_partial}
 use Rattle.dr_partials.specs.PartialLaws.{RecordsHavePartials}
 use Rattle.dr_partials.proofs.AccumulatorLemmas.{of_one, cell_aggregate, accumulated_aggregate}
 use Rattle.dr_partials.proofs.GroupLemmas.{Tuple, groups_at, ascending_ascends, distinct_ascends}
@@ -48,36 +48,43 @@ same_bytes (b ∷ bs) = ap₂ (λ x y. x && y) (same_number b) (same_bytes bs)
     same_number : (m : ℕ) → nat_eq m m ≡ true
     same_number m = grind (arith, nat_tests)
 
-cells_fit : (items : List RecordItem) (p : List Step) (row : Node) (rest : Object → Bool) (o : Object) → rest o ≡ true → has_cells items p rest (with_cells items p row o) ≡ true
+cells_fit : (items : List RecordItem) (p : List Step) (row : Node) (rest : ObjectShape) (o : Object) → object_has_shape rest o ≡ true
+    → object_has_shape (shape_with_cells items p rest) (with_cells items p row o) ≡ true
 cells_fit [] p row rest o h = h
 cells_fit (i ∷ items) p row rest o h = by_test (same_path p (term_chain i.term)) (cells_fit items p row rest o h)
   where
-    by_test : (b : Bool) → has_cells items p rest (with_cells items p row o) ≡ true
-        → (let e : Object = if b then cell i.name (term_value i.term row) (with_cells items p row o) else with_cells items p row o in
-        if b then begins_with_cell i.name (has_cells items p rest) e else has_cells items p rest e) ≡ true
+    by_test : (b : Bool) → object_has_shape (shape_with_cells items p rest) (with_cells items p row o) ≡ true
+        → object_has_shape (if b then cell_named i.name (shape_with_cells items p rest) else shape_with_cells items p rest)
+        (if b then cell i.name (term_value i.term row) (with_cells items p row o) else with_cells items p row o) ≡ true
     by_test true r = ap₂ (λ x y. x && y) (same_bytes i.name) r
     by_test false r = r
 
-all_fit : {A : Type 0} (test : Object → Bool) (f : A → Object) → ((a : A) → test (f a) ≡ true) → (xs : List A) → all_objects test (objects_of (map f xs)) ≡ true
-all_fit test f h [] = refl
-all_fit test f h (x ∷ xs) = ap₂ (λ a b. a && b) (h x) (all_fit test f h xs)
+all_fit : {A : Type 0} (s : ObjectShape) (f : A → Object) → ((a : A) → object_has_shape s (f a) ≡ true) → (xs : List A)
+    → objects_have_shape s (objects_of (map f xs)) ≡ true
+all_fit s f h [] = refl
+all_fit s f h (x ∷ xs) = ap₂ (λ a b. a && b) (h x) (all_fit s f h xs)
 
-lists_fit : (items : List RecordItem) (levels : Levels) (row : Node) → has_lists items levels (object_lists items levels row) ≡ true
+lists_fit : (items : List RecordItem) (levels : Levels) (row : Node)
+    → object_has_shape (shape_of_lists items levels) (object_lists items levels row) ≡ true
 lists_fit items no_levels row = refl
 lists_fit items (deeper names p below beside) row = by_test (leads_to_items items p) (lists_fit items beside row)
-    (all_fit (has_cells items p (has_lists items below)) (λ (m : Node). with_cells items p m (object_lists items below m))
-    (λ (m : Node). cells_fit items p m (has_lists items below) (object_lists items below m) (lists_fit items below m)) (instances_of p row))
+    (all_fit (shape_with_cells items p (shape_of_lists items below)) (λ (m : Node). with_cells items p m (object_lists items below m))
+    (λ (m : Node). cells_fit items p m (shape_of_lists items below) (object_lists items below m) (lists_fit items below m)) (instances_of p row))
   where
-    by_test : (b : Bool) → has_lists items beside (object_lists items beside row) ≡ true
-        → all_objects (has_cells items p (has_lists items below)) (objects_of (map (λ (m : Node). with_cells items p m (object_lists items below m)) (instances_of p row))) ≡ true
-        → (let e : Object = with_list b names (objects_of (map (λ (m : Node). with_cells items p m (object_lists items below m)) (instances_of p row))) (object_lists items beside row) in
-        if b then begins_with_list (join_with_byte 46 names) (has_cells items p (has_lists items below)) (has_lists items beside) e else has_lists items beside e) ≡ true
+    by_test : (b : Bool) → object_has_shape (shape_of_lists items beside) (object_lists items beside row) ≡ true
+        → objects_have_shape (shape_with_cells items p (shape_of_lists items below))
+        (objects_of (map (λ (m : Node). with_cells items p m (object_lists items below m)) (instances_of p row))) ≡ true
+        → object_has_shape (if b then list_named (join_with_byte 46 names) (shape_with_cells items p (shape_of_lists items below)) (shape_of_lists items beside)
+        else shape_of_lists items beside)
+        (with_list b names (objects_of (map (λ (m : Node). with_cells items p m (object_lists items below m)) (instances_of p row))) (object_lists items beside row)) ≡ true
     by_test true r a = ap₂ (λ x y. x && y) (ap₂ (λ x y. x && y) (same_bytes (join_with_byte 46 names)) a) r
     by_test false r a = r
 
-lines_fit : (items : List RecordItem) (levels : Levels) (ns : List Node) → list_all (has_cells items [] (has_lists items levels)) (map (record_object items levels) ns) ≡ true
+lines_fit : (items : List RecordItem) (levels : Levels) (ns : List Node)
+    → list_all (object_has_shape (shape_of items levels)) (map (record_object items levels) ns) ≡ true
 lines_fit items ls [] = refl
-lines_fit items ls (n ∷ ns) = ap₂ (λ a b. a && b) (cells_fit items [] n (has_lists items ls) (object_lists items ls n) (lists_fit items ls n)) (lines_fit items ls ns)
+lines_fit items ls (n ∷ ns) =
+    ap₂ (λ a b. a && b) (cells_fit items [] n (shape_of_lists items ls) (object_lists items ls n) (lists_fit items ls n)) (lines_fit items ls ns)
 
 -- ---- the type of a path
 

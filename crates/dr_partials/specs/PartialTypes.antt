@@ -100,38 +100,45 @@ is_one_without_keys (k ∷ ks) gs = true
 
 -- ---- lines
 
--- the object begins with a cell of this name, or a list of this name each of whose objects passes, and its rest passes
-abbrev pub begins_with_cell : List ℕ → (Object → Bool) → Object → Bool
-begins_with_cell name rest (cell n v o) = bytes_eq name n && rest o
-begins_with_cell name rest o = false
+-- the shape of an object: its cells and lists in order, each by its name, and of a list the shape of each of its objects
+pub data ObjectShape : Type 0 where
+  nothing_more : ObjectShape
+  cell_named : List ℕ → ObjectShape → ObjectShape
+  list_named : List ℕ → ObjectShape → ObjectShape → ObjectShape
 
-abbrev pub all_objects : (Object → Bool) → Objects → Bool
-all_objects test no_objects = true
-all_objects test (object o os) = test o && all_objects test os
+-- a cell for each item of a level, in SELECT order, before the rest of the shape
+abbrev pub shape_with_cells : List RecordItem → List Step → ObjectShape → ObjectShape
+shape_with_cells [] p rest = rest
+shape_with_cells (i ∷ is) p rest = if same_path p (term_chain i.term) then cell_named i.name (shape_with_cells is p rest)
+    else shape_with_cells is p rest
 
-abbrev pub begins_with_list : List ℕ → (Object → Bool) → (Object → Bool) → Object → Bool
-begins_with_list name each rest (list n os o) = bytes_eq name n && all_objects each os && rest o
-begins_with_list name each rest o = false
+-- a list for each next level that leads to items, with objects of that level
+abbrev pub shape_of_lists : List RecordItem → Levels → ObjectShape
+shape_of_lists items no_levels = nothing_more
+shape_of_lists items (deeper names p below beside) = if leads_to_items items p
+    then list_named (join_with_byte 46 names) (shape_with_cells items p (shape_of_lists items below)) (shape_of_lists items beside)
+    else shape_of_lists items beside
 
-abbrev pub is_end_of_object : Object → Bool
-is_end_of_object no_entries = true
-is_end_of_object o = false
+-- the shape of a record's object
+abbrev pub shape_of : List RecordItem → Levels → ObjectShape
+shape_of items levels = shape_with_cells items [] (shape_of_lists items levels)
 
--- the cells of a level's items, in order, before the rest
-abbrev pub has_cells : List RecordItem → List Step → (Object → Bool) → Object → Bool
-has_cells [] p rest o = rest o
-has_cells (i ∷ is) p rest o = if same_path p (term_chain i.term) then begins_with_cell i.name (has_cells is p rest) o else has_cells is p rest o
+abbrev mutual
+  -- whether an object has the cells and the lists of a shape, and nothing more
+  pub object_has_shape : ObjectShape → Object → Bool
+  object_has_shape nothing_more no_entries = true
+  object_has_shape (cell_named name rest) (cell n v o) = bytes_eq name n && object_has_shape rest o
+  object_has_shape (list_named name each rest) (list n os o) = bytes_eq name n && objects_have_shape each os && object_has_shape rest o
+  object_has_shape s o = false
 
--- for each level that leads to items a list of objects of that level
-abbrev pub has_lists : List RecordItem → Levels → Object → Bool
-has_lists items no_levels o = is_end_of_object o
-has_lists items (deeper names p below beside) o = if leads_to_items items p
-    then begins_with_list (join_with_byte 46 names) (has_cells items p (has_lists items below)) (has_lists items beside) o else has_lists items beside o
+  pub objects_have_shape : ObjectShape → Objects → Bool
+  objects_have_shape s no_objects = true
+  objects_have_shape s (object o os) = object_has_shape s o && objects_have_shape s os
 
 -- ---- partials
 
 abbrev pub is_of_selection : Fields → Selection → Partial → Bool
-is_of_selection fs (objects items) (lines os) = list_all (has_cells items [] (has_lists items (levels_of fs))) os
+is_of_selection fs (objects items) (lines os) = list_all (object_has_shape (shape_of items (levels_of fs))) os
 is_of_selection fs (groups keys items) (grouped gs) = list_all (is_group fs keys items) gs && ascends (map (λ (g : Group). g.keys) gs)
     && is_one_without_keys keys gs
 is_of_selection fs s p = false

@@ -1,5 +1,5 @@
 -- Serving trees: leaf servers, each with a tablet, below intermediate servers (Dremel 2010, section 6).
-use Rattle.std.specs.Prelude.{ℕ, zero, suc, ◌-◌, List, [], ◌∷◌, ◌++◌, map, Bool, true, ◌&&◌, nat_le}
+use Rattle.std.specs.Prelude.{ℕ, zero, suc, ◌-◌, List, [], ◌∷◌, ◌++◌, map, length, take, drop, Bool, true, ◌&&◌, nat_le}
 use Rattle.std.specs.List.{range_with_len}
 use Rattle.dr_partials.specs.Partials.{Partial, merge}
 
@@ -49,28 +49,36 @@ abbrev mutual
 
 -- ---- the tree of a fan
 
--- neighbours below servers: those that the server being filled still takes, and the servers behind it
-pub record Packed : Type 0 where
-  pub here : Trees
-  pub behind : List Tree
-
--- `more` children to each server beside its first; the server being filled takes so many more
-abbrev pub pack : ℕ → ℕ → List Tree → Packed
-pack more room [] = record { here = no_trees; behind = [] }
-pack more zero (t ∷ ts) = let p : Packed = pack more more ts in record { here = no_trees; behind = intermediate_server t p.here ∷ p.behind }
-pack more (suc room) (t ∷ ts) = let p : Packed = pack more room ts in record { here = next_tree t p.here; behind = p.behind }
-
 abbrev pub trees_of : List Tree → Trees
 trees_of [] = no_trees
 trees_of (t ∷ ts) = next_tree t (trees_of ts)
 
--- level by level, until one server is left; where the levels are used up before, one server takes all
-abbrev pub grow : ℕ → ℕ → Tree → List Tree → Tree
-grow levels more t [] = t
-grow zero more t (u ∷ us) = intermediate_server t (trees_of (u ∷ us))
-grow (suc levels) more t (u ∷ us) =
-    let p : Packed = pack more more (u ∷ us) in grow levels more (intermediate_server t p.here) p.behind
+-- neighbours that come below one server: the first and the others
+pub record Chunk : Type 0 where
+  pub first : Tree
+  pub others : List Tree
+
+-- the first `fan` of them, then those behind in the same way: so many chunks at most
+abbrev pub chunks_at_most : ℕ → ℕ → List Tree → List Chunk
+chunks_at_most zero fan ts = []
+chunks_at_most (suc most) fan [] = []
+chunks_at_most (suc most) fan (t ∷ ts) = record { first = t; others = take (fan - 1) ts } ∷ chunks_at_most most fan (drop (fan - 1) ts)
+
+-- neighbours, cut into chunks of `fan`; the last may have fewer
+abbrev pub in_chunks : ℕ → List Tree → List Chunk
+in_chunks fan ts = chunks_at_most (length ts) fan ts
+
+-- the intermediate server of a chunk
+abbrev pub server_of : Chunk → Tree
+server_of c = intermediate_server c.first (trees_of c.others)
+
+-- level by level, until one server is left; where the levels are used up before, one server takes all; of no trees tablet 0's leaf server
+abbrev pub grow : ℕ → ℕ → List Tree → Tree
+grow levels fan [] = leaf_server 0
+grow levels fan (t ∷ []) = t
+grow zero fan (t ∷ u ∷ us) = intermediate_server t (trees_of (u ∷ us))
+grow (suc levels) fan (t ∷ u ∷ us) = grow levels fan (map server_of (in_chunks fan (t ∷ u ∷ us)))
 
 -- the tree of the tablets 0 to n - 1, for one at least, with `fan` neighbours below one server, at least two
 unfoldable pub of_fan : ℕ → ℕ → Tree
-of_fan n fan = grow n (fan - 1) (leaf_server 0) (map leaf_server (range_with_len 1 (n - 1)))
+of_fan n fan = grow n fan (map leaf_server (range_with_len 0 n))

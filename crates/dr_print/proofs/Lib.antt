@@ -5,5 +5,7 @@ pub mod AutomatonLemmas
 pub mod MemberLemmas
 -- texts that grow part by part
 pub mod PartLemmas
+-- texts that stand in quotes as they are
+pub mod PlainLemmas
 -- shapes with their names in quotes
 pub mod QuotedLemmas

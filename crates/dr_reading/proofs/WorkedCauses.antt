@@ -3,6 +3,7 @@ use Rattle.std.proofs.Common.{arith, lit≤, inl, inr, sym, subst, ◌∙◌, tr
 use Rattle.std.specs.Prelude.{◌≡◌, ℕ, ◌-◌, ◌^◌, List, [], ◌∷◌, Bool, true, false, Some, None, codes, refl, bytes_eq, if◌then◌else◌}
 use Rattle.dr_meaning.specs.Path.{Step, Leaf}
 use Rattle.dr_meaning.specs.Schema.{required, int64_kind}
+use Rattle.dr_formats.specs.Page.{data_page_v1}
 use Rattle.dr_formats.specs.File.{IsFileOf, footer_of, FileCause, bad_footer, bad_schema, bad_codec, bad_data, HasCause}
 use Rattle.dr_formats.proofs.FileLemmas.{one_cause, file_has_no_cause}
 use Rattle.dr_formats.proofs.WorkedDamaged.{changed, double_type, other_codec, file_rows_disagree}
@@ -170,7 +171,7 @@ second_is_tried = (refl, (no_footer, λ h k. refl), (refl, (lit≤ tt, λ h k. a
 
 pub one_is_file : IsFileOf one_file one_schema (the_leaf ∷ []) (one_record ∷ [])
 one_is_file = subst (λ bytes. IsFileOf bytes one_schema (the_leaf ∷ []) (one_record ∷ [])) one_file_is_written
-    (written_file_is_file one_schema (one_record ∷ []) (the_leaf ∷ []) one_file_fits ((0, refl), tt))
+    (written_file_is_file data_page_v1 one_schema (one_record ∷ []) (the_leaf ∷ []) one_file_fits ((0, refl), tt))
 
 pub second_is_left : LeavesJust one_schema (the_leaf ∷ []) (shown false) 0 two_tablets (second ∷ [])
 second_is_left =

@@ -1,9 +1,9 @@
 //! Opened files.
 
-ghost use Rattle.std.specs.Prelude.{◌≡◌, ◌≤◌, ◌<◌, ℕ, List, length, false, Some, IsTrue, IfOk, IfErr};
-ghost use Rattle.std.specs.List.{slice_get};
+ghost use Rattle.std.specs.Prelude.{◌≡◌, ◌≤◌, ◌<◌, ℕ, List, [], ◌∷◌, length, false, Some, IsTrue, IfOk, IfErr};
+ghost use Rattle.std.specs.List.{slice_get, flat_map};
 ghost use Rattle.dr_meaning.specs.Path.{Leaf, max_definition};
-ghost use Rattle.dr_formats.specs.File.{Footer, footer_of, most_triplets};
+ghost use Rattle.dr_formats.specs.File.{Footer, footer_of, leaves_read, most_triplets};
 ghost use Rattle.dr_formats.specs.Opening.{leaf_cause, leaf_ranges};
 ghost use Rattle.dr_levels.specs.Views.{column_view, column_form, form};
 ghost use Rattle.dr_outside.specs.Telling.{Tells, Serves, AsksOnly};
@@ -35,8 +35,8 @@ pub fn column_of<L: Link>(
         → slice_get F index ≡ Some l → IfOk result (λ c. column_form c ≡ form l.kind (max_definition l.path)) }
     ensures asked { (bytes : List ℕ) (F : List Leaf) (l : Leaf) (f : Footer) → IsOpened bytes F opened.now
         → slice_get F index ≡ Some l → footer_of bytes ≡ Some f
-        → AsksOnly (is_read_inside (path_of opened.now) (leaf_ranges f l)) (L.shows link.old).asked
-        (L.shows link.new).asked }
+        → AsksOnly (is_read_inside (path_of opened.now) (flat_map (leaf_ranges f) (leaves_read f (l ∷ []))))
+        (L.shows link.old).asked (L.shows link.new).asked }
     ensures paths { AsksOnly (is_for_path (path_of opened.now)) (L.shows link.old).asked (L.shows link.new).asked }
     ensures same { (L.shows link.new).held ≡ (L.shows link.old).held }
     ensures counts { IfErr result (HasCounts (L.shows link.old).faults (L.shows link.new).faults) }

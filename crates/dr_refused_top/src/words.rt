@@ -1,7 +1,7 @@
 //! Words of commands.
 
 ghost use Rattle.std.specs.Prelude.{◌≡◌, ◌≢◌, IfOk, Some, None, map, string_bytes};
-ghost use Rattle.dr_commands.specs.CommandView.{command_view};
+ghost use Rattle.dr_commands.specs.Commands.{command_view};
 ghost use Rattle.dr_commands.specs.Commands as meant;
 
 use dr_commands::{Command, WordsFault, read_words};

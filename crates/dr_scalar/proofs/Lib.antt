@@ -21,6 +21,8 @@ pub mod SameReadLemmas
 pub mod TypeLemmas
 -- the leaves in an expression are its paths
 pub mod LeafPathLemmas
+-- expressions joined by AND, and a condition cut into its conjuncts
+pub mod ConditionLemmas
 -- the leaf that is read last
 pub mod LastLemmas
 -- worked examples

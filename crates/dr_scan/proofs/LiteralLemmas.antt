@@ -20,7 +20,7 @@ use Rattle.dr_plan.specs.declared.plan.GroupTerm.{GroupTerm}
 use Rattle.dr_plan.specs.declared.plan.GroupItem.{GroupItem}
 use Rattle.dr_plan.specs.declared.plan.Selection.{Selection}
 use Rattle.dr_plan.specs.declared.plan.Plan.{Plan}
-use Rattle.dr_mean.proofs.RecordPutLemmas.{groups_fit}
+use Rattle.dr_within.proofs.PlanAggregates.{groups_fit}
 
 -- ---- a number
 

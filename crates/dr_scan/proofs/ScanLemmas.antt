@@ -1,12 +1,13 @@
 -- The partial of the records of a file's columns.
 use Rattle.std.proofs.Common.{◌≡◌, ◌∙◌, ◌≤◌, inl, inr, ℕ, List, map, length, true, Option, Some, None, refl, sym, ap, subst, arith}
-use Rattle.std.specs.List.{list_all}
+use Rattle.std.specs.List.{filter_map}
+use Rattle.std.proofs.Math.Path.{fun_ext}
 use Rattle.std.proofs.lemmas.List.Folds.{list_all-map}
-use Rattle.dr_meaning.specs.Schema.{Schema}
+use Rattle.dr_meaning.specs.Schema.{Schema, Fields}
 use Rattle.dr_meaning.specs.Path.{Step, Leaf, paths_of_leaves}
 use Rattle.dr_meaning.specs.Record.{Node, project}
 use Rattle.dr_meaning.specs.Column.{Triplet, column}
-use Rattle.dr_meaning.specs.Query.{Query}
+use Rattle.dr_meaning.specs.Query.{Query, levels_of}
 use Rattle.dr_meaning.specs.QueryLeaves.{query_leaves}
 use Rattle.dr_formats.specs.File.{IsFileOf, most_rows, most_triplets}
 use Rattle.dr_formats.specs.Writing.{triplet_count}
@@ -14,8 +15,7 @@ use Rattle.dr_outside.specs.Link.{Files, LinkShown, Lacks}
 use Rattle.dr_outside.specs.Telling.{TellsFile}
 use Rattle.dr_nested.specs.PathView.{path_view, paths_view}
 use Rattle.dr_nested.specs.declared.path.Path.{Path}
-use Rattle.dr_assemble.specs.Assembly.{AreProjections}
-use Rattle.dr_partials.specs.Partials.{Partial, partial_of, Stands}
+use Rattle.dr_partials.specs.Partials.{Partial, partial_of, selected_partial, Stands}
 use Rattle.dr_partials.specs.PartialTypes.{is_partial}
 use Rattle.dr_partials.specs.PartialBounds.{PartialCanBeOf}
 use Rattle.dr_partials.specs.Rewriting.{leaf_query}
@@ -24,10 +24,10 @@ use Rattle.dr_partials.proofs.TypedLemmas.{records_have_partials}
 use Rattle.dr_bounds.specs.Few.{sums_are_small, has_few}
 use Rattle.dr_bounds.specs.BoundLaws.{projections}
 use Rattle.dr_bounds.proofs.BoundLemmas.{partial_of_few_projections}
-use Rattle.dr_plan.specs.Planned.{Planned, plan_view, plan_leaves, planned_query, IsOfSchema}
+use Rattle.dr_plan.specs.Planned.{Planned, planned, plan_view, plan_leaves, planned_query, IsOfSchema}
 use Rattle.dr_plan.specs.Views.{selection_view}
 use Rattle.dr_plan.specs.declared.plan.Plan.{Plan}
-use Rattle.dr_mean.proofs.GroupLawLemmas.{partials_rejoined}
+use Rattle.dr_scalar.proofs.ConditionLemmas.{condition_rejoined}
 use Rattle.dr_tablets.specs.FileRecords.{AreLeavesOf, AreColumnsOfFile, AreFew, IsFaultOf, are_short, assemble_fault, triplets_at}
 use Rattle.dr_tablets.proofs.FewLemmas.{few_assembled, counted_assembled}
 use Rattle.dr_tablets.proofs.LeafLemmas.{used_are_leaves}
@@ -58,12 +58,18 @@ plan_has_leaves s p ls h e =
 
 -- records with the columns of a plan's leaves are known by their projections to them
 pub plan_projections : (s : Schema) (p : Plan) (cs : List (List Triplet)) (rows : ℕ) (R : List Node) → HasColumns s.fields (paths_of_leaves (plan_leaves p)) cs rows R
-    → AreProjections s.fields (paths_view p.leaves.items) cs rows (projections (plan_leaves p) R)
+    → (S : List Node) × HasColumns s.fields (paths_view p.leaves.items) cs rows S × (projections (plan_leaves p) R ≡ map (project (paths_view p.leaves.items)) S)
 plan_projections s p cs rows R h =
     let e : paths_of_leaves (plan_leaves p) ≡ paths_view p.leaves.items = sym (paths_same p.leaves.items) in
     (R, subst (λ (F : List (List Step)). HasColumns s.fields F cs rows R) e h, ap (λ (F : List (List Step)). map (project F) R) e)
 
 -- ---- what the partial of columns is
+
+-- a plan's condition, its conjuncts joined again, keeps what the query's does
+partials_rejoined : (fs : Fields) (q : Query) (R : List Node) → partial_of fs (planned_query (planned fs q)) R ≡ partial_of fs q R
+unfolding partial_of
+partials_rejoined fs q R =
+    ap (λ (f : Node → Option Node). selected_partial q.selection (levels_of fs) (filter_map f R)) (fun_ext (condition_rejoined q.condition))
 
 pub partial_is : (s : Schema) (q : Query) (p : Plan) (R : List Node) (x : Partial) → IsPlanOf s q p → x ≡ partial_of s.fields (planned_query (plan_view p)) R → x ≡ partial_of s.fields q R
 partial_is s q p R x is e = e ∙ (ap (λ (y : Planned). partial_of s.fields (planned_query y) R) is.2 ∙ partials_rejoined s.fields q R)

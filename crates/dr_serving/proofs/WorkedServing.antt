@@ -6,6 +6,7 @@ use Rattle.dr_meaning.specs.Record.{int_value, Node}
 use Rattle.dr_meaning.specs.Expression.{path_value}
 use Rattle.dr_meaning.specs.Query.{sum, count_rows, aggregate, GroupItem, GroupTerm, Query, groups, cell, no_entries, meaning}
 use Rattle.dr_meaning.specs.QueryLeaves.{query_leaves}
+use Rattle.dr_formats.specs.Page.{data_page_v1}
 use Rattle.dr_formats.specs.Writing.{file_bytes}
 use Rattle.dr_formats.proofs.WorkedFiles.{one_schema, one_record, one_file, one_file_is_written, one_file_fits}
 use Rattle.dr_formats.proofs.FileBack.{written_file_is_file}
@@ -46,7 +47,7 @@ its_leaves = refl
 
 pub one_is_file : IsFileOf one_file one_schema (query_leaves one_schema.fields (leaf_query totals)) one
 one_is_file = subst (λ bytes. IsFileOf bytes one_schema (query_leaves one_schema.fields (leaf_query totals)) one) one_file_is_written
-    (subst (λ F. IsFileOf (file_bytes one_schema one) one_schema F one) (sym its_leaves) (written_file_is_file one_schema one (the_leaf ∷ []) one_file_fits ((0, refl), tt)))
+    (subst (λ F. IsFileOf (file_bytes data_page_v1 one_schema one) one_schema F one) (sym its_leaves) (written_file_is_file data_page_v1 one_schema one (the_leaf ∷ []) one_file_fits ((0, refl), tt)))
 
 abbrev truth_with : List Held → TabletTruth
 truth_with hs = record { schema = one_schema; query = leaf_query totals; held = hs }

@@ -5,7 +5,8 @@ ghost use Rattle.dr_nested.specs.Faults.{Gives};
 ghost use Rattle.dr_formats.specs.TableFile as meant;
 ghost use Rattle.dr_table.specs.Faults.{fault_view};
 ghost use Rattle.dr_table.specs.Views.{table_view};
-ghost use Rattle.dr_table.specs.Parsing.{at_last_line};
+ghost use Rattle.dr_table.specs.Parsing.{at_last_line, from_copies, from_leaves, from_schema, from_tablets};
+ghost use Rattle.dr_table.specs.Parsing.{is_schema_line};
 
 use crate::fault::{TableFault, TableProblem};
 use crate::limits::{LONGEST_TABLE, MOST_LEAF_LINES, MOST_TABLETS};
@@ -43,7 +44,7 @@ pub fn parse_table(alloc: Global, bytes: &[u8]) -> Result<Table, TableFault>
 
 /// The table from the first line on.
 fn read_head(alloc: Global, text: &str) -> Result<Table, TableFault>
-    ensures { Gives table_view fault_view (meant.on_head (meant.first_line text.now)) result }
+    ensures { Gives table_view fault_view (meant.outcome (meant.table_lines text.now)) result }
 {
     match cut_line(text) {
         Some((line, behind)) if line == HEAD => read_tablets(alloc, behind),
@@ -53,7 +54,7 @@ fn read_head(alloc: Global, text: &str) -> Result<Table, TableFault>
 
 /// The table from the second line on.
 fn read_tablets(alloc: Global, text: &str) -> Result<Table, TableFault>
-    ensures { Gives table_view fault_view (meant.on_tablets (meant.first_line text.now)) result }
+    ensures { Gives table_view fault_view (meant.outcome (from_tablets text.now)) result }
 {
     let Some((line, behind)) = cut_line(text) else {
         return Err(TableFault::Refused(TableProblem::Tablets));
@@ -68,7 +69,7 @@ fn read_tablets(alloc: Global, text: &str) -> Result<Table, TableFault>
 fn read_copies(alloc: Global, text: &str, tablets: u32) -> Result<Table, TableFault>
     requires has_tablet { 0 < tablets }
     requires few_tablets { tablets ≤ 4096 }
-    ensures { Gives table_view fault_view (meant.on_copies tablets (meant.first_line text.now)) result }
+    ensures { Gives table_view fault_view (meant.outcome (from_copies tablets text.now)) result }
 {
     let Some((line, behind)) = cut_line(text) else {
         return Err(TableFault::Refused(TableProblem::Copies));
@@ -84,8 +85,8 @@ fn read_leaves(alloc: Global, text: &str, tablets: u32, copies: u32) -> Result<T
     requires has_tablet { 0 < tablets }
     requires few_tablets { tablets ≤ 4096 }
     requires has_copy { 0 < copies }
-    ensures { Gives table_view fault_view (meant.leaf_lines meant.most_leaf_lines tablets copies []
-        (meant.first_line text.now)) result }
+    ensures { Gives table_view fault_view (meant.outcome
+        (from_leaves meant.most_leaf_lines tablets copies [] text.now)) result }
 {
     let mut leaves = Vec::new(alloc);
     let mut rest = text;
@@ -119,7 +120,7 @@ fn read_schema_line(
     requires has_copy { 0 < copies }
     requires few_leaves { length leaves.items ≤ 64 }
     ensures { Gives table_view fault_view (at_last_line tablets copies (map string_bytes leaves.items) behind.now
-        (meant.is_schema_line (map string_bytes leaves.items) line.now)) result }
+        (is_schema_line (map string_bytes leaves.items) line.now)) result }
 {
     if leaves.is_empty() || line != SCHEMA {
         return Err(TableFault::Refused(TableProblem::Leaf(leaves.len())));
@@ -140,8 +141,8 @@ fn read_schema(
     requires has_copy { 0 < copies }
     requires has_leaf { 0 < length leaves.items }
     requires few_leaves { length leaves.items ≤ 64 }
-    ensures { Gives table_view fault_view (meant.at_schema tablets copies (map string_bytes leaves.items) text.now)
-        result }
+    ensures { Gives table_view fault_view (meant.outcome
+        (from_schema tablets copies (map string_bytes leaves.items) text.now)) result }
 {
     if copies as usize > leaves.len() {
         return Err(TableFault::Refused(TableProblem::Copies));

@@ -2,9 +2,12 @@
 use Rattle.std.proofs.Common.{◌≡◌, ℕ, zero, suc, List, [], ◌∷◌, ◌++◌, Bool, true, false, ◌&&◌, ◌||◌, Option, Some, None, refl, sym, ap, ◌∙◌, subst}
 use Rattle.std.specs.Prelude.{bytes_eq}
 use Rattle.std.specs.List.{list_any, flat_map, slice_get}
+use Rattle.std.proofs.lemmas.List.{append-nil}
+use Rattle.std.proofs.lemmas.List.Concat.{flat_map-append}
 use Rattle.std.proofs.lemmas.List.Folds.{list_any-append}
 use Rattle.dr_meaning.specs.Path.{Leaf}
-use Rattle.dr_formats.specs.File.{Footer, footer_of}
+use Rattle.dr_formats.specs.Lacking.{leaf_read}
+use Rattle.dr_formats.specs.File.{Footer, footer_of, leaf_source, leaves_read}
 use Rattle.dr_formats.specs.Opening.{Range, range, is_inside, end_ranges, footer_ranges, leaf_ranges, chunk_ranges, reader_ranges}
 use Rattle.dr_outside.specs.Link.{Request, size_of, bytes_of}
 use Rattle.dr_outside.specs.Telling.{AsksOnly}
@@ -27,24 +30,34 @@ any_first t xs ys h = list_any-append t xs ys ∙ ap (λ b. b || list_any t ys) 
 any_later : (t : Range → Bool) (xs ys : List Range) → list_any t ys ≡ true → list_any t (xs ++ ys) ≡ true
 any_later t xs ys h = list_any-append t xs ys ∙ or_later (list_any t xs) (list_any t ys) h
 
--- inside the chunks of one leaf is inside those of all
-any_leaf : (t : Range → Bool) (f : Footer) (F : List Leaf) (i : ℕ) (l : Leaf) → slice_get F i ≡ Some l → list_any t (leaf_ranges f l) ≡ true → list_any t (flat_map (leaf_ranges f) F) ≡ true
+-- inside the chunks that are read for one leaf is inside those that are read for all
+any_leaf : (t : Range → Bool) (f : Footer) (F : List Leaf) (i : ℕ) (l : Leaf) → slice_get F i ≡ Some l → list_any t (flat_map (leaf_ranges f) (leaves_read f (l ∷ []))) ≡ true
+    → list_any t (flat_map (leaf_ranges f) (leaves_read f F)) ≡ true
 any_leaf t f [] i l e h = let no : None ≡ Some l = e in cc
 any_leaf t f (m ∷ F) zero l e h =
     let is : Some m ≡ Some l = e in
     let same : l ≡ m = cc in
-    any_first t (leaf_ranges f m) (flat_map (leaf_ranges f) F) (subst (λ (x : Leaf). list_any t (leaf_ranges f x) ≡ true) same h)
-any_leaf t f (m ∷ F) (suc i) l e h = any_later t (leaf_ranges f m) (flat_map (leaf_ranges f) F) (any_leaf t f F i l e h)
+    let own : List Leaf = leaf_read m (leaf_source f m) in
+    let one : list_any t (flat_map (leaf_ranges f) (own ++ [])) ≡ true = subst (λ (x : Leaf). list_any t (flat_map (leaf_ranges f) (leaves_read f (x ∷ []))) ≡ true) same h in
+    let here : list_any t (flat_map (leaf_ranges f) own) ≡ true = sym (ap (λ (xs : List Leaf). list_any t (flat_map (leaf_ranges f) xs)) (append-nil own)) ∙ one in
+    ap (list_any t) (flat_map-append (leaf_ranges f) own (leaves_read f F)) ∙ any_first t (flat_map (leaf_ranges f) own) (flat_map (leaf_ranges f) (leaves_read f F)) here
+any_leaf t f (m ∷ F) (suc i) l e h =
+    let own : List Leaf = leaf_read m (leaf_source f m) in
+    ap (list_any t) (flat_map-append (leaf_ranges f) own (leaves_read f F))
+    ∙ any_later t (flat_map (leaf_ranges f) own) (flat_map (leaf_ranges f) (leaves_read f F)) (any_leaf t f F i l e h)
 
-one_leaf : (path : List ℕ) (f : Footer) (F : List Leaf) (i : ℕ) (l : Leaf) → slice_get F i ≡ Some l → (r : Request) → is_read_inside path (leaf_ranges f l) r ≡ true → is_read_inside path (flat_map (leaf_ranges f) F) r ≡ true
+one_leaf : (path : List ℕ) (f : Footer) (F : List Leaf) (i : ℕ) (l : Leaf) → slice_get F i ≡ Some l → (r : Request) → is_read_inside path (flat_map (leaf_ranges f) (leaves_read f (l ∷ []))) r ≡ true
+    → is_read_inside path (flat_map (leaf_ranges f) (leaves_read f F)) r ≡ true
 one_leaf path f F i l e (size_of p) h = h
 one_leaf path f F i l e (bytes_of r) h =
-    and_weaker (bytes_eq r.path path) (list_any (is_inside (range r.start r.len)) (leaf_ranges f l)) (list_any (is_inside (range r.start r.len)) (flat_map (leaf_ranges f) F))
-    (any_leaf (is_inside (range r.start r.len)) f F i l e) h
+    let t : Range → Bool = is_inside (range r.start r.len) in
+    and_weaker (bytes_eq r.path path) (list_any t (flat_map (leaf_ranges f) (leaves_read f (l ∷ [])))) (list_any t (flat_map (leaf_ranges f) (leaves_read f F)))
+    (any_leaf t f F i l e) h
 
-pub leaf_asked : (path : List ℕ) (f : Footer) (F : List Leaf) (i : ℕ) (l : Leaf) (before after : Option (List Request)) → slice_get F i ≡ Some l → AsksOnly (is_read_inside path (leaf_ranges f l)) before after
-    → AsksOnly (is_read_inside path (flat_map (leaf_ranges f) F)) before after
-leaf_asked path f F i l before after e h = asks_weaker (is_read_inside path (leaf_ranges f l)) (is_read_inside path (flat_map (leaf_ranges f) F)) before after (one_leaf path f F i l e) h
+pub leaf_asked : (path : List ℕ) (f : Footer) (F : List Leaf) (i : ℕ) (l : Leaf) (before after : Option (List Request)) → slice_get F i ≡ Some l
+    → AsksOnly (is_read_inside path (flat_map (leaf_ranges f) (leaves_read f (l ∷ [])))) before after → AsksOnly (is_read_inside path (flat_map (leaf_ranges f) (leaves_read f F))) before after
+leaf_asked path f F i l before after e h =
+    asks_weaker (is_read_inside path (flat_map (leaf_ranges f) (leaves_read f (l ∷ [])))) (is_read_inside path (flat_map (leaf_ranges f) (leaves_read f F))) before after (one_leaf path f F i l e) h
 
 -- ---- of a file
 
@@ -66,24 +79,24 @@ pub opening_asked : (path bytes : List ℕ) (F : List Leaf) (before after : Opti
     → AsksOnly (is_request_for path (reader_ranges bytes F)) before after
 opening_asked path bytes F before after h = asks_weaker (is_request_for path (end_ranges bytes ++ footer_ranges bytes)) (is_request_for path (reader_ranges bytes F)) before after (opening_inside path bytes F) h
 
-chunks_inside : (path bytes : List ℕ) (F : List Leaf) (f : Footer) → footer_of bytes ≡ Some f → (r : Request) → is_read_inside path (flat_map (leaf_ranges f) F) r ≡ true → is_request_for path (reader_ranges bytes F) r ≡ true
+chunks_inside : (path bytes : List ℕ) (F : List Leaf) (f : Footer) → footer_of bytes ≡ Some f → (r : Request) → is_read_inside path (flat_map (leaf_ranges f) (leaves_read f F)) r ≡ true → is_request_for path (reader_ranges bytes F) r ≡ true
 chunks_inside path bytes F f e (size_of p) h = let no : false ≡ true = h in cc
 chunks_inside path bytes F f e (bytes_of r) h =
     let t : Range → Bool = is_inside (range r.start r.len) in
-    and_weaker (bytes_eq r.path path) (list_any t (flat_map (leaf_ranges f) F)) (list_any t (reader_ranges bytes F))
+    and_weaker (bytes_eq r.path path) (list_any t (flat_map (leaf_ranges f) (leaves_read f F))) (list_any t (reader_ranges bytes F))
     (λ k. any_later t (end_ranges bytes) (footer_ranges bytes ++ chunk_ranges F (footer_of bytes))
     (any_later t (footer_ranges bytes) (chunk_ranges F (footer_of bytes)) (ap (λ (o : Option Footer). list_any t (chunk_ranges F o)) e ∙ k))) h
 
 -- what the columns ask for, of a file at the same path
-columns_asked : (path own bytes : List ℕ) (F : List Leaf) (f : Footer) (before after : Option (List Request)) → own ≡ path → footer_of bytes ≡ Some f → AsksOnly (is_read_inside own (flat_map (leaf_ranges f) F)) before after
+columns_asked : (path own bytes : List ℕ) (F : List Leaf) (f : Footer) (before after : Option (List Request)) → own ≡ path → footer_of bytes ≡ Some f → AsksOnly (is_read_inside own (flat_map (leaf_ranges f) (leaves_read f F))) before after
     → AsksOnly (is_request_for path (reader_ranges bytes F)) before after
 columns_asked path own bytes F f before after p e h =
-    asks_weaker (is_read_inside path (flat_map (leaf_ranges f) F)) (is_request_for path (reader_ranges bytes F)) before after (chunks_inside path bytes F f e)
-    (subst (λ (x : List ℕ). AsksOnly (is_read_inside x (flat_map (leaf_ranges f) F)) before after) p h)
+    asks_weaker (is_read_inside path (flat_map (leaf_ranges f) (leaves_read f F))) (is_request_for path (reader_ranges bytes F)) before after (chunks_inside path bytes F f e)
+    (subst (λ (x : List ℕ). AsksOnly (is_read_inside x (flat_map (leaf_ranges f) (leaves_read f F))) before after) p h)
 
 -- what opening and then the columns ask for
 pub file_asked : (path own bytes : List ℕ) (F : List Leaf) (f : Footer) (a b c : Option (List Request)) → own ≡ path → footer_of bytes ≡ Some f → AsksOnly (is_request_for path (end_ranges bytes ++ footer_ranges bytes)) a b
-    → AsksOnly (is_read_inside own (flat_map (leaf_ranges f) F)) b c → AsksOnly (is_request_for path (reader_ranges bytes F)) a c
+    → AsksOnly (is_read_inside own (flat_map (leaf_ranges f) (leaves_read f F))) b c → AsksOnly (is_request_for path (reader_ranges bytes F)) a c
 file_asked path own bytes F f a b c p e h k =
     asks_then (is_request_for path (reader_ranges bytes F)) a b c (opening_asked path bytes F a b h) (columns_asked path own bytes F f b c p e k)
 

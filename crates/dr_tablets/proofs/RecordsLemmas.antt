@@ -2,6 +2,7 @@
 use Rattle.std.proofs.Common.{◌≡◌, ℕ, zero, suc, List, [], ◌∷◌, map, Option, Some, None, Bool, true, refl, sym, ap, ap₂, ◌∙◌, subst}
 use Rattle.std.specs.List.{list_all, slice_get}
 use Rattle.std.proofs.lemmas.Bool.{and_parts, and_from}
+use Rattle.std.proofs.lemmas.List.Folds.{list_all-append}
 use Rattle.std.proofs.lemmas.Simd.{map-map}
 use Rattle.dr_meaning.specs.Schema.{Schema, Fields}
 use Rattle.dr_meaning.specs.Path.{Step, Leaf, leaves, is_leaf_path, paths_of_leaves}
@@ -9,7 +10,8 @@ use Rattle.dr_meaning.specs.Record.{Node}
 use Rattle.dr_meaning.specs.Column.{Triplet, column}
 use Rattle.dr_nested.specs.PathView.{path_view, paths_view}
 use Rattle.dr_nested.specs.declared.path.Path.{Path}
-use Rattle.dr_formats.specs.File.{Footer, footer_of, file_column, AreColumns, IsDataOf, IsFileOf, bad_footer, bad_schema, bad_codec, bad_data, HasCause}
+use Rattle.dr_formats.specs.Lacking.{leaf_read}
+use Rattle.dr_formats.specs.File.{Footer, footer_of, leaf_source, leaves_read, given_column, AreColumns, IsDataOf, IsFileOf, bad_footer, bad_schema, bad_codec, bad_data, HasCause}
 use Rattle.dr_formats.specs.Opening.{opening_cause}
 use Rattle.dr_formats.proofs.OpeningLemmas.{opening_cause_holds, leaf_cause_is_exact}
 use Rattle.dr_formats.proofs.ColumnsFit.{EachLeaf}
@@ -60,10 +62,16 @@ opened_fault bytes s F (FileFault.Why Cause.BadData) h = opening_cause_holds byt
 
 -- ---- columns
 
-all_at : (p : Leaf → Bool) (F : List Leaf) (i : ℕ) (l : Leaf) → list_all p F ≡ true → slice_get F i ≡ Some l → list_all p (l ∷ []) ≡ true
-all_at p [] i l h e = let no : None ≡ Some l = e in cc
-all_at p (m ∷ F) zero l h e = let is : Some m ≡ Some l = e in let same : m ≡ l = cc in subst (λ (x : Leaf). list_all p (x ∷ []) ≡ true) same (and_from _ _ (and_parts (p m) (list_all p F) h).0 refl)
-all_at p (m ∷ F) (suc i) l h e = all_at p F i l (and_parts (p m) (list_all p F) h).1 e
+-- a test of what is read for some leaves is one of what is read for one of them
+read_at : (f : Footer) (p : Leaf → Bool) (F : List Leaf) (i : ℕ) (l : Leaf) → list_all p (leaves_read f F) ≡ true → slice_get F i ≡ Some l → list_all p (leaves_read f (l ∷ [])) ≡ true
+read_at f p [] i l h e = let no : None ≡ Some l = e in cc
+read_at f p (m ∷ F) zero l h e =
+    let is : Some m ≡ Some l = e in
+    let same : m ≡ l = cc in
+    let k = and_parts (list_all p (leaf_read m (leaf_source f m))) (list_all p (leaves_read f F)) (sym (list_all-append p (leaf_read m (leaf_source f m)) (leaves_read f F)) ∙ h) in
+    subst (λ (x : Leaf). list_all p (leaves_read f (x ∷ [])) ≡ true) same (list_all-append p (leaf_read m (leaf_source f m)) [] ∙ and_from _ _ k.0 refl)
+read_at f p (m ∷ F) (suc i) l h e =
+    read_at f p F i l (and_parts (list_all p (leaf_read m (leaf_source f m))) (list_all p (leaves_read f F)) (sym (list_all-append p (leaf_read m (leaf_source f m)) (leaves_read f F)) ∙ h)).1 e
 
 first_same : {A : Type 0} → (x y : A) (xs ys : List A) → x ∷ xs ≡ y ∷ ys → (x ≡ y) × (xs ≡ ys)
 first_same x y xs ys e = (cc, cc)
@@ -73,14 +81,14 @@ column_at bytes f [] R i l h e = let no : None ≡ Some l = e in cc
 column_at bytes f (m ∷ F) R zero l h e =
     let is : Some m ≡ Some l = e in
     let same : m ≡ l = cc in
-    let k = first_same (file_column bytes f m) (Some (column m.path R)) (map (file_column bytes f) F) (map (λ (x : Leaf). Some (column x.path R)) F) h in
+    let k = first_same (given_column bytes f m) (Some (column m.path R)) (map (given_column bytes f) F) (map (λ (x : Leaf). Some (column x.path R)) F) h in
     subst (λ (x : Leaf). AreColumns bytes f (x ∷ []) R) same (ap (λ (c : Option (List Triplet)). c ∷ []) k.0)
 column_at bytes f (m ∷ F) R (suc i) l h e =
-    let k = first_same (file_column bytes f m) (Some (column m.path R)) (map (file_column bytes f) F) (map (λ (x : Leaf). Some (column x.path R)) F) h in
+    let k = first_same (given_column bytes f m) (Some (column m.path R)) (map (given_column bytes f) F) (map (λ (x : Leaf). Some (column x.path R)) F) h in
     column_at bytes f F R i l k.1 e
 
 data_at : (bytes : List ℕ) (f : Footer) (s : Schema) (F : List Leaf) (R : List Node) (i : ℕ) (l : Leaf) → slice_get F i ≡ Some l → IsDataOf bytes f s F R → IsDataOf bytes f s (l ∷ []) R
-data_at bytes f s F R i l e d = (d.0, all_at _ F i l d.1 e, d.2, d.3, column_at bytes f F R i l d.4 e)
+data_at bytes f s F R i l e d = (d.0, read_at f _ F i l d.1 e, d.2, d.3, column_at bytes f F R i l d.4 e)
 
 same_footer : (f g : Footer) (o : Option Footer) → o ≡ Some f → o ≡ Some g → f ≡ g
 same_footer f g o h k = let e = sym h ∙ k in cc
@@ -103,13 +111,13 @@ columns_fault bytes s F o (FileFault.Why Cause.BadData) h are k = bad_leaf bytes
 
 -- ---- records
 
-columns_are : (bytes : List ℕ) (F : List Leaf) (cs : List (List Triplet)) (f : Footer) → footer_of bytes ≡ Some f → AreColumnsOf bytes F cs → map (file_column bytes f) F ≡ map Some cs
+columns_are : (bytes : List ℕ) (F : List Leaf) (cs : List (List Triplet)) (f : Footer) → footer_of bytes ≡ Some f → AreColumnsOf bytes F cs → map (given_column bytes f) F ≡ map Some cs
 columns_are bytes [] [] f e h = refl
 columns_are bytes [] (c ∷ cs) f e h = absurd h
 columns_are bytes (l ∷ F) [] f e h = absurd h
 columns_are bytes (l ∷ F) (c ∷ cs) f e h =
     let same : h.0.1 ≡ f = same_footer h.0.1 f (footer_of bytes) h.0.2 e in
-    ap₂ (λ (x : Option (List Triplet)) (xs : List (Option (List Triplet))). x ∷ xs) (subst (λ (x : Footer). file_column bytes x l ≡ Some c) same h.0.3) (columns_are bytes F cs f e h.1)
+    ap₂ (λ (x : Option (List Triplet)) (xs : List (Option (List Triplet))). x ∷ xs) (subst (λ (x : Footer). given_column bytes x l ≡ Some c) same h.0.3) (columns_are bytes F cs f e h.1)
 
 columns_from : (F : List Leaf) (R : List Node) → map (λ (l : Leaf). Some (column l.path R)) F ≡ map Some (map (λ (p : List Step). column p R) (paths_of_leaves F))
 columns_from [] R = refl

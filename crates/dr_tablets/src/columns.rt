@@ -4,7 +4,7 @@ ghost use Rattle.std.specs.Prelude.{◌≡◌, ◌≢◌, ◌≤◌, ℕ, List, 
 ghost use Rattle.std.specs.List.{flat_map};
 ghost use Rattle.dr_meaning.specs.Path.{Leaf};
 ghost use Rattle.dr_meaning.specs.Schema.{Schema as MeantSchema};
-ghost use Rattle.dr_formats.specs.File.{Footer, footer_of, most_rows};
+ghost use Rattle.dr_formats.specs.File.{Footer, footer_of, leaves_read, most_rows};
 ghost use Rattle.dr_formats.specs.Opening.{leaf_ranges, reader_ranges};
 ghost use Rattle.dr_formats.specs.Writing.{triplet_count};
 ghost use Rattle.dr_nested.specs.PathView.{path_view};
@@ -52,7 +52,8 @@ fn read_columns<L: Link>(
     ensures few { IfOk result (λ v. are_short (columns_view v.items) ≡ true) }
     ensures counted { IfOk result (λ v. steps.new ≡ counted steps.old (triplet_count (columns_view v.items))) }
     ensures asked { (bytes : List ℕ) (F : List Leaf) (f : Footer) → IsOpened bytes F opened.now → length F ≡ leaves
-        → footer_of bytes ≡ Some f → AsksOnly (is_read_inside (path_of opened.now) (flat_map (leaf_ranges f) F))
+        → footer_of bytes ≡ Some f
+        → AsksOnly (is_read_inside (path_of opened.now) (flat_map (leaf_ranges f) (leaves_read f F)))
         (L.shows link.old).asked (L.shows link.new).asked }
     ensures paths { AsksOnly (is_for_path (path_of opened.now)) (L.shows link.old).asked (L.shows link.new).asked }
     ensures same { (L.shows link.new).held ≡ (L.shows link.old).held }
@@ -76,9 +77,9 @@ fn read_columns<L: Link>(
     Ok(columns)
 }
 
-/// The columns of these leaves in the file at a path. The link is asked for the file's size, its two ends, the footer, and
-/// the chunks of these leaves. A step is a triplet of one of these leaves. Whether there are records that have them all
-/// isn't looked into.
+/// The columns of these leaves in the file at a path. The link is asked for the file's size, its two ends, the footer,
+/// and the chunks of these leaves, or of those that stand in for them. A step is a triplet of one of these leaves.
+/// Whether there are records that have them all isn't looked into.
 ///
 /// Errors, at which no step is counted: the link failed, with its counts of faults before and after this call; else a
 /// cause that opening the file or a single leaf has; want of memory.

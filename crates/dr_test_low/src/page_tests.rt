@@ -7,7 +7,7 @@ ghost use Rattle.dr_page.specs.Views.{shape_form};
 
 use dr_levels::Column;
 use dr_nested::Kind;
-use dr_page::{BodyReader, Dictionary, PageFault, Shape};
+use dr_page::{BodyReader, Dictionary, PageFault, PageForm, Shape};
 use std::alloc::Global;
 use std::test::Fail;
 
@@ -27,10 +27,13 @@ fn shape_of(kind: Kind, max_definition: u8, triplets: u64, encoding: i64) -> Sha
     ensures kind { result.kind ≡ kind }
 {
     Shape {
+        form: PageForm::V1,
         triplets,
         encoding,
         definition_encoding: 3,
         repetition_encoding: 3,
+        definition_bytes: 0,
+        repetition_bytes: 0,
         kind,
         max_repetition: 0,
         max_definition,

@@ -8,6 +8,7 @@ use dr_bind::read_query;
 use dr_load::{Plan as LoadPlan, load};
 use dr_nested::{Schema, parse_schema};
 use dr_outside::{MemSource, Shelf};
+use dr_page::PageForm;
 use dr_plan::Plan;
 use dr_samples::{DOCUMENT, RECORDS};
 use std::alloc::Global;
@@ -47,6 +48,7 @@ pub fn load_lines(
         copies,
         rows,
         table: Some(table),
+        form: PageForm::V1,
     };
     let mut source = MemSource::new(lines.as_bytes(), Vec::new(alloc));
     load(alloc, &plan, &mut source, shelf)?;

@@ -1,21 +1,15 @@
 -- The answer of `gen`.
 use Rattle.std.specs.Prelude.{◌≡◌, ℕ, List, []}
-use Rattle.std.proofs.Common.{refl, sym, ap}
-use Rattle.dr_gen.specs.Generator.{lines_from}
-use Rattle.dr_outside.specs.Source.{SourceShown}
-use Rattle.dr_outside.specs.Link.{LinkShown}
-use Rattle.dr_commands.specs.Gen.{GenWords, gen_meaning}
 use Rattle.dr_formats.specs.Loading.{Put}
+use Rattle.dr_gen.specs.Generator.{lines_from}
+use Rattle.dr_commands.specs.Gen.{GenWords, gen_meaning}
 use Rattle.dr_commands.specs.Refusals.{Refusal}
 use Rattle.dr_commands.specs.Meaning.{done, refused}
-use Rattle.dr_top.specs.World.{World, HasOutcome}
+use Rattle.dr_top.specs.World.{World}
 use Rattle.dr_top.specs.Ends.{IsAccepted}
-
-pub gen_ends : (w : GenWords) (k : LinkShown) (i : SourceShown) (out : List ℕ) → out ≡ lines_from w.seed w.records → HasOutcome (gen_meaning w) k i (done out [])
-gen_ends w k i out h = ([], refl, ap (λ (t : List ℕ). done t []) (sym h))
 
 done_is_not_refused : (text : List ℕ) (r : Refusal) (puts : List Put) → done text [] ≡ refused r puts → ⊥
 done_is_not_refused text r puts e = cc
 
 pub gen_accepted : (w : GenWords) (before : World) → IsAccepted before (gen_meaning w)
-gen_accepted w before r h = done_is_not_refused (lines_from w.seed w.records) r h.2.0 h.2.1
+gen_accepted w before r h = done_is_not_refused (lines_from w.seed w.records) r h.0 h.1

@@ -4,7 +4,7 @@ use Rattle.std.proofs.Common.{refl, sym, ap, ◌∙◌, append_assoc, append-nil
 use Rattle.dr_outside.specs.Link.{Files, LinkShown, Request, size_of, bytes_of, with_request, Holds, HasSize, HasRange, Reaches}
 use Rattle.dr_outside.specs.declared.fault.Fault.{Fault}
 use Rattle.dr_top.specs.KeeperFile.{IsLongFile}
-use Rattle.dr_top.specs.Stops.{AsksForFile, with_requests}
+use Rattle.dr_top.specs.Keeping.{AsksForFile, with_requests}
 
 no_more : (o : Option (List Request)) → o ≡ with_requests o []
 no_more None = refl

@@ -1,10 +1,12 @@
--- the keeper's files: the schema's and the table's
+-- the keeper's files, and the file that a command names
 pub mod KeeperFileLemmas
-pub mod SchemaFileLemmas
+pub mod NamedFileLemmas
 -- reading the records of the input
 pub mod InputLemmas
--- outcomes of commands, and of those that ask the first link
+-- outcomes of commands, what they put, what they answer, and those that ask the first link
 pub mod OutcomeLemmas
+pub mod PutLemmas
+pub mod CommandLemmas
 pub mod FirstLinkLemmas
 pub mod LinkLemmas
 -- single commands: their steps, and their answers

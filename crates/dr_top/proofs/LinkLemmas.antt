@@ -1,9 +1,8 @@
 -- What the first link is asked for.
-use Rattle.std.specs.Prelude.{◌≡◌, ◌<◌, ◌≤◌, ◌++◌, ℕ, zero, suc, List, [], ◌∷◌, length, map, drop, Option, Some, None}
+use Rattle.std.specs.Prelude.{◌≡◌, ◌≤◌, ◌++◌, ℕ, zero, suc, List, [], ◌∷◌, length, map, drop, Option, Some, None}
 use Rattle.std.specs.Option.{option_map}
-use Rattle.std.proofs.Common.{refl, ap, subst, get_or, slice_set, arith}
+use Rattle.std.proofs.Common.{refl, sym, ap, subst, arith}
 use Rattle.dr_formats.specs.Opening.{end_ranges, footer_ranges}
-use Rattle.dr_outside.specs.Source.{SourceShown}
 use Rattle.dr_outside.specs.Link.{LinkShown, Lacks}
 use Rattle.dr_outside.specs.Telling.{TellsFile, AsksOnly}
 use Rattle.dr_file.specs.Asking.{is_for_path, is_request_for}
@@ -12,33 +11,29 @@ use Rattle.dr_tablets.specs.Asked.{AsksForTablets}
 use Rattle.dr_tablets.proofs.AskedTablets.{asks_none, held_nothing, path_asks}
 use Rattle.dr_serve.specs.Serving.{OfEachLink}
 use Rattle.dr_commands.specs.Meaning.{Meaning, Outcome, done, refused, scans, serves, looks_at}
-use Rattle.dr_commands.specs.ShowSchema.{ShowSchemaWords, show_schema_meaning}
 use Rattle.dr_commands.specs.Commands.{CommandWords, meaning_of}
-use Rattle.dr_top.specs.World.{ForOutcome, WithEach}
+use Rattle.dr_top.specs.World.{Lent, WithEach}
 use Rattle.dr_top.specs.Answers.{schema_ranges, AsksLink, AsksEach, LeavesLinksBy, LeavesUnasked}
-use Rattle.dr_top.proofs.OutcomeLemmas.{of_each, weaker_for}
+use Rattle.dr_top.proofs.OutcomeLemmas.{of_each}
 
 -- a link that stays is asked for nothing
-unasked : (o : Outcome) (l : LinkShown) → AsksLink o l l
-unasked (done text puts) l = refl
-unasked (refused r puts) l = refl
-unasked (scans s) l = asks_none s.leaves s.tablets l l refl
-unasked (serves s n least) l = asks_none s.leaves s.tablets l l refl
-unasked (looks_at path) l = held_nothing (is_for_path path) (λ files. is_request_for path (schema_ranges (files path))) l.held l.asked l.asked refl
+pub not_asked : (o : Outcome) (l : LinkShown) → AsksLink o l l
+not_asked (done text puts) l = refl
+not_asked (refused r puts) l = refl
+not_asked (scans s) l = asks_none s.leaves s.tablets l l refl
+not_asked (serves s n least) l = asks_none s.leaves s.tablets l l refl
+not_asked (looks_at path) l = held_nothing (is_for_path path) (λ files. is_request_for path (schema_ranges (files path))) l.held l.asked l.asked refl
 
-each_unasked : (ls : List LinkShown) (o : Outcome) → WithEach ls ls (AsksLink o)
-each_unasked [] o = tt
-each_unasked (l ∷ ls) o = (unasked o l, each_unasked ls o)
+pub none_asked : (ls : List LinkShown) (o : Outcome) → WithEach ls ls (AsksLink o)
+none_asked [] o = tt
+none_asked (l ∷ ls) o = (not_asked o l, none_asked ls o)
 
-pub not_asked : (m : Meaning) (k : LinkShown) (i : SourceShown) (l : LinkShown) → ForOutcome m k i (λ o. AsksLink o l l)
-not_asked m k i l = of_each m k i (λ o. AsksLink o l l) (λ o. unasked o l)
+pub none_asked_of : (m : Meaning) (w w1 : Lent) → w1.links ≡ w.links → AsksEach (Some m) w w1
+none_asked_of m w w1 e = of_each m w (λ o. WithEach w.links w1.links (AsksLink o)) (λ o. subst (λ (ls : List LinkShown). WithEach w.links ls (AsksLink o)) (sym e) (none_asked w.links o))
 
-pub none_asked : (m : Meaning) (k : LinkShown) (i : SourceShown) (ls : List LinkShown) → ForOutcome m k i (λ o. WithEach ls ls (AsksLink o))
-none_asked m k i ls = of_each m k i (λ o. WithEach ls ls (AsksLink o)) (each_unasked ls)
-
-pub none_meant : (o : Option CommandWords) (k : LinkShown) (i : SourceShown) (ls : List LinkShown) → AsksEach (option_map meaning_of o) k i ls ls
-none_meant None k i ls = refl
-none_meant (Some w) k i ls = none_asked (meaning_of w) k i ls
+pub none_meant : (o : Option CommandWords) (w w1 : Lent) → w1.links ≡ w.links → AsksEach (option_map meaning_of o) w w1
+none_meant None w w1 e = e
+none_meant (Some c) w w1 e = none_asked_of (meaning_of c) w w1 e
 
 -- links that stay hold what they held
 pub links_stay : (n : ℕ) (ls : List LinkShown) → LeavesLinksBy n ls ls
@@ -51,10 +46,8 @@ none_unasked None ls = refl
 none_unasked (Some w) ls = links_stay (meaning_of w).links ls
 
 -- the first of some links
-pub first_asked : {A : Type 0} (m : Meaning) (k : LinkShown) (i : SourceShown) (shows : A → LinkShown) (ls : List A) (d y : A) → 0 < length ls → ForOutcome m k i (λ o. AsksLink o (shows (get_or ls 0 d)) (shows y))
-    → ForOutcome m k i (λ o. WithEach (map shows ls) (map shows (slice_set ls 0 y)) (AsksLink o))
-first_asked m k i shows [] d y n h = absurd (omega (arith, n))
-first_asked m k i shows (l ∷ ls) d y n h = weaker_for m k i (λ o. AsksLink o (shows l) (shows y)) (λ o. WithEach (shows l ∷ map shows ls) (shows y ∷ map shows ls) (AsksLink o)) (λ o a. (a, each_unasked (map shows ls) o)) h
+pub first_asked : (o : Outcome) (l k : LinkShown) (ls : List LinkShown) → AsksLink o l k → WithEach (l ∷ ls) (k ∷ ls) (AsksLink o)
+first_asked o l k ls h = (h, none_asked ls o)
 
 -- each of some links
 each_link : {A : Type 0} (shows : A → LinkShown) (P : LinkShown → LinkShown → Type 0) (olds news : List A) → length news ≡ length olds → OfEachLink shows P olds news → WithEach (map shows olds) (map shows news) P
@@ -83,6 +76,3 @@ links_left_by shows m n olds news same w e h d = links_left shows n olds news w 
 pub schema_asks : (path own : List ℕ) (l now : LinkShown) → path ≡ own → ((bytes : List ℕ) → TellsFile l.held path bytes → AsksOnly (is_request_for path (end_ranges bytes ++ footer_ranges bytes)) l.asked now.asked)
     → (Lacks l.held path → AsksOnly (is_request_for path []) l.asked now.asked) → AsksOnly (is_for_path path) l.asked now.asked → AsksLink (looks_at own) l now
 schema_asks path own l now p h none there = path_asks schema_ranges l.held path own l.asked now.asked p there h none
-
-pub schema_asked : (w : ShowSchemaWords) (k : LinkShown) (i : SourceShown) (l now : LinkShown) → AsksLink (looks_at w.file) l now → ForOutcome (show_schema_meaning w) k i (λ o. AsksLink o l now)
-schema_asked w k i l now h = λ file is. h

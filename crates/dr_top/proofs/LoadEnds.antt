@@ -1,55 +1,47 @@
 -- The answer of `load`, from its steps.
-use Rattle.std.specs.Prelude.{◌≡◌, ◌≢◌, ℕ, Bool, true, false, List, [], ◌∷◌, ◌++◌, length, Option, Some, None, MatchOption, Ok, ⊤, ◌⊎◌, IsTrue}
-use Rattle.std.proofs.Common.{refl, sym, ap, ap₂, ◌∙◌, subst, suc, inl, inr, append_assoc, append-nil}
+use Rattle.std.specs.Prelude.{◌≡◌, ◌≢◌, ◌<◌, ℕ, Bool, true, false, List, [], ◌∷◌, ◌++◌, length, Option, Some, None, MatchOption, Ok, ⊤, ◌⊎◌, IsTrue}
+use Rattle.std.proofs.Common.{refl, sym, ap, ap₂, ◌∙◌, subst, suc, inl, inr, append_assoc, append-nil, arith}
 use Rattle.dr_meaning.specs.Schema.{Schema}
 use Rattle.dr_meaning.specs.SchemaText.{parse_schema}
 use Rattle.dr_meaning.specs.Record.{Node}
 use Rattle.dr_meaning.specs.Lines as line
-use Rattle.dr_formats.specs.Loading.{Plan, Put, Loaded, WordsRefusal, words_refusal, puts_from, tablet_puts, puts_of, put_at, table_of, load_taken, most_loaded, load}
+use Rattle.dr_formats.specs.Loading.{Plan, Put, Loaded, words_refusal, puts_from, tablet_puts, puts_of, put_at, table_of, load_taken, most_loaded, load}
+use Rattle.dr_formats.specs.Page.{PageForm}
 use Rattle.dr_formats.specs.Reports.{loaded_text}
 use Rattle.dr_formats.specs.TableFile.{table_text}
 use Rattle.dr_formats.specs.Tablets.{tablets}
 use Rattle.dr_outside.specs.Faults.{raised}
 use Rattle.dr_outside.specs.Source.{SourceShown}
-use Rattle.dr_outside.specs.Link.{Files, LinkShown}
+use Rattle.dr_outside.specs.Link.{LinkShown}
 use Rattle.dr_load.specs.Faults.{refusal_of}
 use Rattle.dr_input.specs.Whole.{whole_lines}
-use Rattle.dr_input.specs.Taken.{WhereTold as WhereLoaded, WhereGiven, AcceptsRead, WhereTold}
+use Rattle.dr_input.specs.Taken.{AcceptsRead, WhereTold}
 use Rattle.dr_load.specs.Puts.{HasPut, HasPutSome, BreaksOff}
 use Rattle.dr_load.specs.Loads.{LeavesPuts, HasPutTablets, tablets_put, tablet_part, taken_of}
-use Rattle.dr_load.specs.Given.{WhereLines, full_puts, HasPutFull}
+use Rattle.dr_load.specs.Given.{WhereLines, HasPutFull}
 use Rattle.dr_load.specs.declared.fault.LoadFault.{LoadFault}
 use Rattle.dr_load.proofs.GivenLemmas.{puts_refused}
-use Rattle.dr_load.proofs.PutLemmas.{nothing_put, put_more, breaks_behind}
 use Rattle.dr_load.specs.Words.{words_problem_view}
 use Rattle.dr_load.specs.declared.words.WordsProblem.{WordsProblem}
-use Rattle.dr_commands.specs.Refusals.{Refusal as Refused, words_refused, line_refused}
-use Rattle.dr_commands.specs.Meaning.{Look, Outcome, refused, puts_in, IsEarly}
+use Rattle.dr_commands.specs.Refusals.{Refusal as Refused, line_refused}
+use Rattle.dr_commands.specs.Meaning.{done, refused, puts_in, IsEarly}
 use Rattle.dr_commands.specs.Load.{LoadWords, load_plan, loaded_outcome, load_checked, load_schema, load_meaning}
-use Rattle.dr_top.specs.Reading.{HasText}
-use Rattle.dr_top.specs.Answers.{Finishes}
-use Rattle.dr_top.specs.Stops.{IsUnput, StopsPlain, StopsWith, IsFileSchema, IsRefusedSo, PutsSome, PutsBeforeEnd, PutsBreak, all_but_last, puts_before_end, words_problem_stop, load_stop}
-use Rattle.dr_top.specs.declared.refusal.Refusal.{Refusal}
+use Rattle.dr_top.specs.World.{lent, file_of, IsFileOf, outcome_on, Opens, IsOpened, Accepts, WithOutcome}
+use Rattle.dr_top.specs.Keeping.{IsDoneSo, IsRefusedSo, PutsSome, PutsBeforeEnd, PutsBreak, all_but_last, puts_before_end}
+use Rattle.dr_top.specs.Stops.{StopsEarly, StopsWith, words_problem_stop, load_stop}
 use Rattle.dr_top.specs.declared.stop.Stop.{Stop}
-use Rattle.dr_top.proofs.OutcomeLemmas.{RefusesSchema, early_stop}
+use Rattle.dr_top.proofs.OutcomeLemmas.{told_so, given_so, with_file, with_told, for_told}
+use Rattle.dr_top.proofs.CommandLemmas.{RefusesSchema, opened}
 
 pub load_refuses_schema : (w : LoadWords) → RefusesSchema (load_meaning w)
 load_refuses_schema w look e h = ap (load_schema w look.input) h
 
 -- ---- the directories and the copies
 
-words_ends : (w : LoadWords) (held : Option Files) (path : List ℕ) (ds : List (List ℕ)) (s : Schema) (e : WordsRefusal) → path ≡ w.schema → ds ≡ w.directories → IsFileSchema held path s → words_refusal ds w.copies ≡ Some e
-    → WhereTold held (λ fs. (file : List ℕ) × (fs w.schema ≡ Some file) × ((look : Look) → look.file ≡ file → load_schema w look.input (parse_schema look.file) ≡ refused (words_refused e) []))
-words_ends w None path ds s e p d f h = tt
-words_ends w (Some fs) path ds s e p d f h = (
-  f.0,
-  ap fs (sym p) ∙ f.1,
-  λ look is. ap (load_schema w look.input) (ap parse_schema is ∙ f.2) ∙ ap (load_checked w look.input s) (ap (λ (x : List (List ℕ)). words_refusal x w.copies) (sym d) ∙ h),
-)
-
-pub words_stops : (w : LoadWords) (k k1 : LinkShown) (i : SourceShown) (path : List ℕ) (ds : List (List ℕ)) (s : Schema) (problem : WordsProblem) → path ≡ w.schema → ds ≡ w.directories → IsFileSchema k.held path s → k1.faults ≡ k.faults
-    → words_refusal ds w.copies ≡ Some (words_problem_view problem) → StopsPlain (load_meaning w) k k1 i i (words_problem_stop problem)
-words_stops w k k1 i path ds s problem p d f c h = early_stop (load_meaning w) w.schema k k1 i (Refusal.Words problem) refl c (words_ends w k.held path ds s (words_problem_view problem) p d f h)
+pub words_early : (w : LoadWords) (file : List ℕ) (ds : List (List ℕ)) (s : Schema) (problem : WordsProblem) → ds ≡ w.directories → parse_schema file ≡ Ok s
+    → words_refusal ds w.copies ≡ Some (words_problem_view problem) → StopsEarly (outcome_on (load_meaning w) file) (words_problem_stop problem)
+words_early w file ds s problem d f h = λ input.
+    ap (load_schema w input) f ∙ ap (load_checked w input s) (ap (λ (x : List (List ℕ)). words_refusal x w.copies) (sym d) ∙ h)
 
 -- ---- what is put
 
@@ -110,92 +102,12 @@ outcome_is : (w : LoadWords) (s : Schema) (p : Plan) (file input : List ℕ) →
 outcome_is w s p file input q f n =
     ap (load_schema w input) f ∙ (ap (load_checked w input s) n ∙ ap (λ (x : Plan). loaded_outcome (load x input) (load x input).refusal) (sym q))
 
-puts_of_outcome : (w : LoadWords) (s : Schema) (p : Plan) (file input : List ℕ) → p ≡ load_plan w s → parse_schema file ≡ Ok s → words_refusal w.directories w.copies ≡ None → puts_in (load_schema w input (parse_schema file)) ≡ (load p input).puts
-puts_of_outcome w s p file input q f n = ap puts_in (outcome_is w s p file input q f n) ∙ puts_are (load p input) (load p input).refusal
-
-same_file : (fs : Files) (path a b : List ℕ) → fs path ≡ Some a → fs path ≡ Some b → a ≡ b
-same_file fs path a b e f = cc
-
--- what holds of the puts holds of those of the outcome
-for_puts : (w : LoadWords) (s : Schema) (p : Plan) (path : List ℕ) (held : Option Files) (left : Option (List ℕ)) (P : List Put → Type 0) → path ≡ w.schema → p ≡ load_plan w s → IsFileSchema held path s → words_refusal w.directories w.copies ≡ None
-    → WhereTold left (λ input. P (load p input).puts)
-    → WhereTold held (λ fs. WhereTold left (λ input. (file : List ℕ) → fs w.schema ≡ Some file → P (puts_in (load_schema w input (parse_schema file)))))
-for_puts w s p path None left P a q f n h = tt
-for_puts w s p path (Some fs) None P a q f n h = tt
-for_puts w s p path (Some fs) (Some input) P a q f n h = λ file is.
-    let same : f.0 ≡ file = same_file fs path f.0 file f.1 (ap fs a ∙ is) in
-    subst P (sym (puts_of_outcome w s p file input q (ap parse_schema (sym same) ∙ f.2) n)) h
-
--- what holds of a load's outcome holds of the command's
-for_outcome : (w : LoadWords) (s : Schema) (p : Plan) (path : List ℕ) (held : Option Files) (left : Option (List ℕ)) (P : Outcome → Type 0) → path ≡ w.schema → p ≡ load_plan w s → IsFileSchema held path s → words_refusal w.directories w.copies ≡ None
-    → WhereTold left (λ input. P (loaded_outcome (load p input) (load p input).refusal))
-    → WhereTold held (λ fs. WhereTold left (λ input. (file : List ℕ) → fs w.schema ≡ Some file → P (load_schema w input (parse_schema file))))
-for_outcome w s p path None left P a q f n h = tt
-for_outcome w s p path (Some fs) None P a q f n h = tt
-for_outcome w s p path (Some fs) (Some input) P a q f n h = λ file is.
-    let same : f.0 ≡ file = same_file fs path f.0 file f.1 (ap fs a ∙ is) in
-    subst P (sym (outcome_is w s p file input q (ap parse_schema (sym same) ∙ f.2) n)) h
-
-told_before : (p : Plan) (path : List ℕ) (left : Option (List ℕ)) (k k1 : LinkShown) → p.table ≡ Some path → WhereTold left (λ input. HasPutTablets p input k k1)
-    → WhereTold left (λ input. HasPutSome (puts_before_end (loaded_outcome (load p input) (load p input).refusal)) k k1)
-told_before p path None k k1 t h = tt
-told_before p path (Some input) k k1 t h = subst (λ (ps : List Put). HasPutSome ps k k1) (sym (before_table p path input t)) (some_of_tablets p input k k1 h)
-
-told_all : (p : Plan) (left : Option (List ℕ)) (k k1 : LinkShown) → WhereLoaded left (λ input. HasPut (load p input).puts k k1) → WhereTold left (λ input. HasPutSome (load p input).puts k k1)
-told_all p None k k1 h = tt
-told_all p (Some input) k k1 h = all_put (load p input).puts k k1 h
-
--- what stands of a load that failed
-stands : (p : Plan) (left : Option (List ℕ)) (k k1 : LinkShown) (fault : LoadFault) (P : List ℕ → Type 0) → ((input : List ℕ) → LeavesPuts p input k k1 fault → P input) → WhereLoaded left (λ input. LeavesPuts p input k k1 fault) → WhereTold left P
-stands p None k k1 fault P w h = tt
-stands p (Some input) k k1 fault P w h = w input h
-
-either : (p : Plan) (left : Option (List ℕ)) (k k1 : LinkShown) → WhereLoaded left (λ input. LeavesPuts p input k k1 LoadFault.NoMemory)
-    → WhereTold left (λ input. HasPutSome (load p input).puts k k1) ⊎ WhereTold left (λ input. BreaksOff false (load p input).puts k k1)
-either p None k k1 h = inl tt
-either p (Some input) k k1 (inl a) = inl (some_of_part p input k k1 a)
-either p (Some input) k k1 (inr b) = inr b
-
--- ---- what is answered
-
--- all that the steps before the input give
-pub record Begun (w : LoadWords) (s : Schema) (p : Plan) (path : List ℕ) (held : Option Files) : Type 0 where
-  pub at : path ≡ w.schema
-  pub is : p ≡ load_plan w s
-  pub file : IsFileSchema held path s
-  pub words : words_refusal w.directories w.copies ≡ None
-
-module _ (w : LoadWords) (s : Schema) (p : Plan) (path : List ℕ) (k k1 : LinkShown) (i i1 : SourceShown) (ls : List LinkShown) (b : Begun w s p path k.held) where
-  some_put : WhereTold i.left (λ input. HasPutSome (load p input).puts k k1) → PutsSome (load_meaning w) k k1 i
-  some_put h = for_puts w s p path k.held i.left (λ ps. HasPutSome ps k k1) b.at b.is b.file b.words h
-
-  before_end : WhereTold i.left (λ input. HasPutTablets p input k k1) → PutsBeforeEnd (load_meaning w) k k1 i
-  before_end h = for_outcome w s p path k.held i.left (λ o. HasPutSome (puts_before_end o) k k1) b.at b.is b.file b.words (told_before p w.table i.left k k1 (ap (λ (x : Plan). x.table) b.is) h)
-
-  break_off : (known : Bool) → WhereTold i.left (λ input. BreaksOff known (load p input).puts k k1) → PutsBreak known (load_meaning w) k k1 i
-  break_off known h = for_puts w s p path k.held i.left (λ ps. BreaksOff known ps k k1) b.at b.is b.file b.words h
-
-  pub line_memory : k1.faults ≡ k.faults → i1.faults ≡ i.faults → WhereLoaded i.left (λ input. HasPut (load p input).puts k k1) → StopsWith (load_meaning w) k k1 i i1 ls ls Stop.NoMemory
-  line_memory c d h = (c, d, inl (some_put (told_all p i.left k k1 h)))
-
-  memory : WhereTold i.left (λ input. HasPutSome (load p input).puts k k1) ⊎ WhereTold i.left (λ input. BreaksOff false (load p input).puts k k1) → PutsSome (load_meaning w) k k1 i ⊎ PutsBreak false (load_meaning w) k k1 i
-  memory (inl a) = inl (some_put a)
-  memory (inr a) = inr (break_off false a)
+-- ---- what is said of the input
 
 late : (l : Loaded) (o : Option line.Refusal) (r : Refused) (puts : List Put) → IsEarly r → loaded_outcome l o ≡ refused r puts → ⊥
 late l None r puts early e = cc
 late l (Some x) r puts early e = let is : line_refused x ≡ r = cc in subst (λ (y : Refused). IsEarly y) (sym is) early
 
-opened : (w : LoadWords) (s : Schema) (path : List ℕ) (held : Option Files) → path ≡ w.schema → IsFileSchema held path s → words_refusal w.directories w.copies ≡ None
-    → WhereTold held (λ fs. (file : List ℕ) × (fs w.schema ≡ Some file) × ((look : Look) (r : Refused) (puts : List Put) → look.file ≡ file → IsEarly r → load_schema w look.input (parse_schema look.file) ≡ refused r puts → ⊥))
-opened w s path None a f n = tt
-opened w s path (Some fs) a f n = (
-  f.0,
-  ap fs (sym a) ∙ f.1,
-  λ look r puts is early e. late (load (load_plan w s) look.input) (load (load_plan w s) look.input).refusal r puts early (sym (outcome_is w s (load_plan w s) look.file look.input refl (ap parse_schema is ∙ f.2) n) ∙ e),
-)
-
--- what the source gave is accepted
 none_refused : (l : Loaded) (o : Option line.Refusal) (r : Refused) (puts : List Put) → o ≡ None → loaded_outcome l o ≡ refused r puts → ⊥
 none_refused l None r puts h e = cc
 none_refused l (Some x) r puts h e = cc
@@ -204,169 +116,149 @@ load_refusal : (p : Plan) (input : List ℕ) → (load p input).refusal ≡ (lin
 unfolding load
 load_refusal p input = refl
 
-accepts : (w : LoadWords) (s : Schema) (p : Plan) (path : List ℕ) (held : Option Files) (left now : Option (List ℕ)) → Begun w s p path held → AcceptsRead p.schema.fields (most_loaded p.rows) 0 left now
-    → WhereTold held (λ fs. WhereGiven left now (λ read. (file : List ℕ) × (fs w.schema ≡ Some file) × ((r : Refused) (puts : List Put) → load_schema w (whole_lines read) (parse_schema file) ≡ refused r puts → ⊥)))
-accepts w s p path None left now b a = tt
-accepts w s p path (Some fs) None now b a = tt
-accepts w s p path (Some fs) (Some all) None b a = absurd a
-accepts w s p path (Some fs) (Some all) (Some rest) b a = (
-  a.0,
-  a.1,
-  (
-    b.file.0,
-    ap fs (sym b.at) ∙ b.file.1,
-    λ r puts e. none_refused (load p (whole_lines a.0)) (load p (whole_lines a.0)).refusal r puts (load_refusal p (whole_lines a.0) ∙ a.2) (sym (outcome_is w s p b.file.0 (whole_lines a.0) b.is b.file.2 b.words) ∙ e),
-  ),
-)
+-- ---- what is answered
 
--- the full tablets of the lines that were given
-given : (w : LoadWords) (s : Schema) (p : Plan) (path : List ℕ) (held : Option Files) (left now : Option (List ℕ)) (k k1 : LinkShown) → Begun w s p path held → HasPutFull p left now k k1
-    → WhereTold held (λ fs. WhereLines left now (λ lines. (file : List ℕ) × (fs w.schema ≡ Some file) × HasPut (puts_in (load_schema w (lines ++ 10 ∷ []) (parse_schema file))) k k1))
-given w s p path None left now k k1 b h = tt
-given w s p path (Some fs) None now k k1 b h = tt
-given w s p path (Some fs) (Some all) None k k1 b h = absurd h
-given w s p path (Some fs) (Some all) (Some rest) k k1 b h =
-    let full : puts_in (load_schema w (h.1 ++ 10 ∷ []) (parse_schema b.file.0)) ≡ full_puts p h.4.0 =
-    puts_of_outcome w s p b.file.0 (h.1 ++ 10 ∷ []) b.is b.file.2 b.words ∙ puts_refused p h.1 h.0 rest h.4.0 h.3 h.4.1 in (
-      h.0,
-      h.1,
-      h.2,
-      h.3,
-      (b.file.0, ap fs (sym b.at) ∙ b.file.1, subst (λ (ps : List Put). HasPut ps k k1) (sym full) h.4.2),
-    )
+-- all that the steps before the input give
+pub record Begun (w : LoadWords) (s : Schema) (p : Plan) (file : List ℕ) : Type 0 where
+  pub is : p ≡ load_plan w s
+  pub schema : parse_schema file ≡ Ok s
+  pub words : words_refusal w.directories w.copies ≡ None
 
-refused_on : (w : LoadWords) (s : Schema) (p : Plan) (path : List ℕ) (held : Option Files) (k k1 : LinkShown) (left : Option (List ℕ)) (e : line.Refusal) → Begun w s p path held
-    → WhereTold left (λ input. (load p input).refusal ≡ Some e) → WhereTold left (λ input. HasPut (load p input).puts k k1)
-    → WhereTold held (λ fs. WhereTold left (λ input. (file : List ℕ) × (fs w.schema ≡ Some file) × IsRefusedSo (line_refused e) k k1 (load_schema w input (parse_schema file))))
-refused_on w s p path None k k1 left e b h put = tt
-refused_on w s p path (Some fs) k k1 None e b h put = tt
-refused_on w s p path (Some fs) k k1 (Some input) e b h put = (
-  b.file.0,
-  ap fs (sym b.at) ∙ b.file.1,
-  ((load p input).puts, outcome_is w s p b.file.0 input b.is b.file.2 b.words ∙ ap (loaded_outcome (load p input)) h, put),
-)
-
-told : (left : Option (List ℕ)) (P : List ℕ → Type 0) → WhereLoaded left P → WhereTold left P
-told None P h = tt
-told (Some input) P h = h
-
-pub load_stops : (w : LoadWords) (s : Schema) (p : Plan) (path : List ℕ) (k k1 : LinkShown) (i i1 : SourceShown) (ls : List LinkShown) (fault : LoadFault) → Begun w s p path k.held
-    → (fault ≡ LoadFault.ReadFault → i1.faults ≡ raised i.faults) → (fault ≢ LoadFault.ReadFault → i1.faults ≡ i.faults)
-    → (fault ≡ LoadFault.KeepFault → k1.faults ≡ raised k.faults) → (fault ≢ LoadFault.KeepFault → k1.faults ≡ k.faults) → (fault ≡ LoadFault.KeepFault → IsTrue k.is_steady → ⊥)
-    → (fault ≡ LoadFault.ReadFault → AcceptsRead p.schema.fields (most_loaded p.rows) 0 i.left i1.left) → (fault ≡ LoadFault.ReadFault → HasPutFull p i.left i1.left k k1)
-    → MatchOption (refusal_of fault) ⊤ (λ r. WhereLoaded i.left (λ input. (load p input).refusal ≡ Some r))
-    → WhereLoaded i.left (λ input. LeavesPuts p input k k1 fault)
-    → StopsWith (load_meaning w) k k1 i i1 ls ls (load_stop fault)
-load_stops w s p path k k1 i i1 ls LoadFault.NoMemory b sc sm kc km ks a g r h = (km (λ e. cc), sm (λ e. cc), memory w s p path k k1 i i1 ls b (either p i.left k k1 h))
-load_stops w s p path k k1 i i1 ls LoadFault.KeepFault b sc sm kc km ks a g r h =
-    (kc refl, sm (λ e. cc), refl, (λ kept. ks refl kept.steady), inr (break_off w s p path k k1 i i1 ls b true (stands p i.left k k1 LoadFault.KeepFault (λ input. BreaksOff true (load p input).puts k k1) (λ input x. x) h), opened w s path k.held b.at b.file b.words))
-load_stops w s p path k k1 i i1 ls LoadFault.ReadFault b sc sm kc km ks a g r h = (
-  sc refl,
-  km (λ e. cc),
-  refl,
-  opened w s path k.held b.at b.file b.words,
-  before_end w s p path k k1 i i1 ls b (stands p i.left k k1 LoadFault.ReadFault (λ input. HasPutTablets p input k k1) (λ input x. x) h),
-  accepts w s p path k.held i.left i1.left b (a refl),
-  given w s p path k.held i.left i1.left k k1 b (g refl),
-)
-load_stops w s p path k k1 i i1 ls (LoadFault.BadLine n x) b sc sm kc km ks a g r h = (
-  km (λ e. cc),
-  sm (λ e. cc),
-  refl,
-  refused_on w s p path k.held k k1 i.left _ b (told i.left _ r) (stands p i.left k k1 (LoadFault.BadLine n x) (λ input. HasPut (load p input).puts k k1) (λ input y. y) h),
-  λ early. absurd early,
-)
-load_stops w s p path k k1 i i1 ls (LoadFault.LineTooLong n) b sc sm kc km ks a g r h = (
-  km (λ e. cc),
-  sm (λ e. cc),
-  refl,
-  refused_on w s p path k.held k k1 i.left _ b (told i.left _ r) (stands p i.left k k1 (LoadFault.LineTooLong n) (λ input. HasPut (load p input).puts k k1) (λ input y. y) h),
-  λ early. absurd early,
-)
-load_stops w s p path k k1 i i1 ls (LoadFault.TooManyRecords n) b sc sm kc km ks a g r h = (
-  km (λ e. cc),
-  sm (λ e. cc),
-  refl,
-  refused_on w s p path k.held k k1 i.left _ b (told i.left _ r) (stands p i.left k k1 (LoadFault.TooManyRecords n) (λ input. HasPut (load p input).puts k k1) (λ input y. y) h),
-  λ early. absurd early,
-)
-
-finishes_on : (w : LoadWords) (s : Schema) (p : Plan) (path text : List ℕ) (held : Option Files) (k k1 : LinkShown) (left : Option (List ℕ)) (ls : List LinkShown) (records tablets : ℕ) → Begun w s p path held
-    → WhereLoaded left (λ input. (load p input).refusal ≡ None) → WhereLoaded left (λ input. records ≡ (load p input).records) → WhereLoaded left (λ input. tablets ≡ (load p input).tablets)
-    → WhereLoaded left (λ input. HasPut (load p input).puts k k1) → text ≡ loaded_text records tablets
-    → WhereTold held (λ fs. WhereTold left (λ input. (file : List ℕ) × (fs w.schema ≡ Some file)
-    × (HasText (load_schema w input (parse_schema file)) ls ls text × HasPut (puts_in (load_schema w input (parse_schema file))) k k1)))
-finishes_on w s p path text None k k1 left ls records tablets b a r t h e = tt
-finishes_on w s p path text (Some fs) k k1 None ls records tablets b a r t h e = tt
-finishes_on w s p path text (Some fs) k k1 (Some input) ls records tablets b a r t h e = (
-  b.file.0,
-  ap fs (sym b.at) ∙ b.file.1,
-  subst (λ (o : Outcome). HasText o ls ls text × HasPut (puts_in o) k k1) (sym (outcome_is w s p b.file.0 input b.is b.file.2 b.words ∙ ap (loaded_outcome (load p input)) a))
-      (e ∙ ap₂ loaded_text r t, h),
-)
-
-pub load_finishes : (w : LoadWords) (s : Schema) (p : Plan) (path text : List ℕ) (k k1 : LinkShown) (i : SourceShown) (ls : List LinkShown) (records tablets : ℕ) → Begun w s p path k.held
-    → WhereLoaded i.left (λ input. (load p input).refusal ≡ None) → WhereLoaded i.left (λ input. records ≡ (load p input).records) → WhereLoaded i.left (λ input. tablets ≡ (load p input).tablets)
-    → WhereLoaded i.left (λ input. HasPut (load p input).puts k k1) → text ≡ loaded_text records tablets → Finishes (load_meaning w) k k1 i ls ls text
-load_finishes w s p path text k k1 i ls records tablets b a r t h e = (finishes_on w s p path text k.held k k1 i.left ls records tablets b a r t h e, opened w s path k.held b.at b.file b.words)
-
--- ---- over a keeper of which the schema was read
-
-pub begun : (w : LoadWords) (s : Schema) (path : List ℕ) (ds es : List (List ℕ)) (table : List ℕ) (held : Option Files) → path ≡ w.schema → ds ≡ w.directories → es ≡ w.directories → table ≡ w.table → IsFileSchema held path s → words_refusal ds w.copies ≡ None
-    → Begun w s (record { schema = s; directories = es; copies = w.copies; rows = w.rows; table = Some table }) path held
-begun w s path ds es table held p d e t f n = record {
-  at = p;
-  is = ap₂ (λ (x : List (List ℕ)) (y : List ℕ). record { schema = s; directories = x; copies = w.copies; rows = w.rows; table = Some y }) e t;
-  file = f;
+pub begun : (w : LoadWords) (s : Schema) (file : List ℕ) (ds es : List (List ℕ)) (table : List ℕ) (form : PageForm) → ds ≡ w.directories → es ≡ w.directories → table ≡ w.table → form ≡ w.form → parse_schema file ≡ Ok s
+    → words_refusal ds w.copies ≡ None → Begun w s (record { schema = s; directories = es; copies = w.copies; rows = w.rows; table = Some table; form = form }) file
+begun w s file ds es table form d e t g f n = record {
+  is = ap₂ (λ (x : List (List ℕ)) (y : List ℕ). record { schema = s; directories = x; copies = w.copies; rows = w.rows; table = Some y; form = form }) e t
+      ∙ ap (λ (x : PageForm). record { schema = s; directories = w.directories; copies = w.copies; rows = w.rows; table = Some w.table; form = x }) g;
+  schema = f;
   words = ap (λ (x : List (List ℕ)). words_refusal x w.copies) (sym d) ∙ n;
 }
 
--- what is put behind a look at a file is put behind what was before
-put_later : (ps : List Put) (k k1 k2 : LinkShown) → IsUnput k k1 → HasPut ps k1 k2 → HasPut ps k k2
-put_later ps k k1 k2 e h = put_more [] ps k k1 k2 (nothing_put k k1 e.held e.puts) h
+module _ (w : LoadWords) (s : Schema) (p : Plan) (file : List ℕ) (k k1 : LinkShown) (i i1 : SourceShown) (b : Begun w s p file) (is : IsFileOf (load_meaning w) k file) where
+  on : (input : List ℕ) → load_schema w input (parse_schema file) ≡ loaded_outcome (load p input) (load p input).refusal
+  on input = outcome_is w s p file input b.is b.schema b.words
 
-fails_later : (known : Bool) (ps : List Put) (k k1 k2 : LinkShown) → IsUnput k k1 → BreaksOff known ps k1 k2 → BreaksOff known ps k k2
-fails_later known ps k k1 k2 e h = breaks_behind known [] ps k k1 k2 (nothing_put k k1 e.held e.puts) h
+  puts_on : (input : List ℕ) → puts_in (load_schema w input (parse_schema file)) ≡ (load p input).puts
+  puts_on input = ap puts_in (on input) ∙ puts_are (load p input) (load p input).refusal
 
-some_later : (ps : List Put) (k k1 k2 : LinkShown) → IsUnput k k1 → HasPutSome ps k1 k2 → HasPutSome ps k k2
-some_later ps k k1 k2 e h = (h.0, h.1, h.2, put_later h.0 k k1 k2 e h.3)
+  pub load_opens : Opens (outcome_on (load_meaning w) file)
+  load_opens = λ input r puts early e. late (load p input) (load p input).refusal r puts early (sym (on input) ∙ e)
 
-leaves_later : (p : Plan) (input : List ℕ) (k k1 k2 : LinkShown) (fault : LoadFault) → IsUnput k k1 → LeavesPuts p input k1 k2 fault → LeavesPuts p input k k2 fault
-leaves_later p input k k1 k2 LoadFault.NoMemory e (inl h) = inl (some_later (tablet_part p input) k k1 k2 e h)
-leaves_later p input k k1 k2 LoadFault.NoMemory e (inr h) = inr (fails_later false (load p input).puts k k1 k2 e h)
-leaves_later p input k k1 k2 LoadFault.ReadFault e h = (h.0, h.1, h.2, put_later (puts_from p 0 h.0) k k1 k2 e h.3)
-leaves_later p input k k1 k2 LoadFault.KeepFault e h = fails_later true (load p input).puts k k1 k2 e h
-leaves_later p input k k1 k2 (LoadFault.BadLine n w) e h = put_later (load p input).puts k k1 k2 e h
-leaves_later p input k k1 k2 (LoadFault.LineTooLong n) e h = put_later (load p input).puts k k1 k2 e h
-leaves_later p input k k1 k2 (LoadFault.TooManyRecords n) e h = put_later (load p input).puts k k1 k2 e h
+  load_opened : IsOpened (load_meaning w) k
+  load_opened = opened (load_meaning w) (lent i k []) file is load_opens
 
-where_loaded : (left : Option (List ℕ)) (P Q : List ℕ → Type 0) → ((input : List ℕ) → P input → Q input) → WhereLoaded left P → WhereLoaded left Q
-where_loaded None P Q f h = tt
-where_loaded (Some input) P Q f h = f input h
+  some_put : WhereTold i.left (λ input. HasPutSome (load p input).puts k k1) → PutsSome (load_meaning w) (lent i k []) (lent i1 k1 [])
+  some_put h =
+      for_told (load_meaning w) (lent i k []) file is (λ o. HasPutSome (puts_in o) k k1) refl
+      (told_so i.left (λ input. HasPutSome (load p input).puts k k1) (λ input. HasPutSome (puts_in (load_schema w input (parse_schema file))) k k1)
+      (λ input. subst (λ (ps : List Put). HasPutSome ps k k1) (sym (puts_on input))) h)
 
-full_later : (p : Plan) (left now : Option (List ℕ)) (k k1 k2 : LinkShown) → IsUnput k k1 → HasPutFull p left now k1 k2 → HasPutFull p left now k k2
-full_later p None now k k1 k2 e h = tt
-full_later p (Some all) None k k1 k2 e h = absurd h
-full_later p (Some all) (Some rest) k k1 k2 e h = (h.0, h.1, h.2, h.3, (h.4.0, h.4.1, put_later (full_puts p h.4.0) k k1 k2 e h.4.2))
+  break_off : (known : Bool) → WhereTold i.left (λ input. BreaksOff known (load p input).puts k k1) → PutsBreak known (load_meaning w) (lent i k []) (lent i1 k1 [])
+  break_off known h =
+      for_told (load_meaning w) (lent i k []) file is (λ o. BreaksOff known (puts_in o) k k1) refl
+      (told_so i.left (λ input. BreaksOff known (load p input).puts k k1) (λ input. BreaksOff known (puts_in (load_schema w input (parse_schema file))) k k1)
+      (λ input. subst (λ (ps : List Put). BreaksOff known ps k k1) (sym (puts_on input))) h)
 
-pub stops_later : (w : LoadWords) (s : Schema) (p : Plan) (path : List ℕ) (k k1 k2 : LinkShown) (i i1 : SourceShown) (ls : List LinkShown) (fault : LoadFault) → Begun w s p path k.held → IsUnput k k1 → k1.faults ≡ k.faults
-    → (fault ≡ LoadFault.ReadFault → i1.faults ≡ raised i.faults) → (fault ≢ LoadFault.ReadFault → i1.faults ≡ i.faults)
-    → (fault ≡ LoadFault.KeepFault → k2.faults ≡ raised k1.faults) → (fault ≢ LoadFault.KeepFault → k2.faults ≡ k1.faults) → (fault ≡ LoadFault.KeepFault → IsTrue k.is_steady → ⊥)
-    → (fault ≡ LoadFault.ReadFault → AcceptsRead p.schema.fields (most_loaded p.rows) 0 i.left i1.left) → (fault ≡ LoadFault.ReadFault → HasPutFull p i.left i1.left k1 k2)
-    → MatchOption (refusal_of fault) ⊤ (λ r. WhereLoaded i.left (λ input. (load p input).refusal ≡ Some r))
-    → WhereLoaded i.left (λ input. LeavesPuts p input k1 k2 fault)
-    → StopsWith (load_meaning w) k k2 i i1 ls ls (load_stop fault)
-stops_later w s p path k k1 k2 i i1 ls fault b e c sc sm kc km ks a g r h =
-    load_stops w s p path k k2 i i1 ls fault b sc sm (λ x. kc x ∙ ap raised c) (λ x. km x ∙ c) ks a (λ x. full_later p i.left i1.left k k1 k2 e (g x)) r
-    (where_loaded i.left _ _ (λ input. leaves_later p input k k1 k2 fault e) h)
+  ends_before : (input : List ℕ) → puts_before_end (load_schema w input (parse_schema file)) ≡ tablet_part p input
+  ends_before input = ap puts_before_end (on input) ∙ before_table p w.table input (ap (λ (x : Plan). x.table) b.is)
 
-pub finishes_later : (w : LoadWords) (s : Schema) (p : Plan) (path text : List ℕ) (k k1 k2 : LinkShown) (i : SourceShown) (ls : List LinkShown) (records tablets : ℕ) → Begun w s p path k.held → IsUnput k k1
-    → WhereLoaded i.left (λ input. (load p input).refusal ≡ None) → WhereLoaded i.left (λ input. records ≡ (load p input).records) → WhereLoaded i.left (λ input. tablets ≡ (load p input).tablets)
-    → WhereLoaded i.left (λ input. HasPut (load p input).puts k1 k2) → text ≡ loaded_text records tablets → Finishes (load_meaning w) k k2 i ls ls text
-finishes_later w s p path text k k1 k2 i ls records tablets b e a r t h q =
-    load_finishes w s p path text k k2 i ls records tablets b a r t (where_loaded i.left _ _ (λ input. put_later (load p input).puts k k1 k2 e) h) q
+  before_end : WhereTold i.left (λ input. HasPutTablets p input k k1) → PutsBeforeEnd (load_meaning w) (lent i k []) (lent i1 k1 [])
+  before_end h =
+      for_told (load_meaning w) (lent i k []) file is (λ o. HasPutSome (puts_before_end o) k k1) refl
+      (told_so i.left (λ input. HasPutTablets p input k k1) (λ input. HasPutSome (puts_before_end (load_schema w input (parse_schema file))) k k1)
+      (λ input g. subst (λ (ps : List Put). HasPutSome ps k k1) (sym (ends_before input)) (some_of_tablets p input k k1 g)) h)
 
-pub line_later : (w : LoadWords) (s : Schema) (p : Plan) (path : List ℕ) (k k1 k2 : LinkShown) (i i1 : SourceShown) (ls : List LinkShown) → Begun w s p path k.held → IsUnput k k1 → k2.faults ≡ k.faults → i1.faults ≡ i.faults
-    → WhereLoaded i.left (λ input. HasPut (load p input).puts k1 k2) → StopsWith (load_meaning w) k k2 i i1 ls ls Stop.NoMemory
-line_later w s p path k k1 k2 i i1 ls b e c d h =
-    line_memory w s p path k k2 i i1 ls b c d (where_loaded i.left _ _ (λ input. put_later (load p input).puts k k1 k2 e) h)
+  pub line_memory : k1.faults ≡ k.faults → i1.faults ≡ i.faults → WhereTold i.left (λ input. HasPut (load p input).puts k k1) → StopsWith (load_meaning w) (lent i k []) (lent i1 k1 []) Stop.NoMemory
+  line_memory c d h = (c, d, inl (some_put (told_so i.left _ _ (λ input. all_put (load p input).puts k k1) h)))
+
+  memory : (left : Option (List ℕ)) → i.left ≡ left → WhereTold left (λ input. LeavesPuts p input k k1 LoadFault.NoMemory) → PutsSome (load_meaning w) (lent i k []) (lent i1 k1 []) ⊎ PutsBreak false (load_meaning w) (lent i k []) (lent i1 k1 [])
+  memory None e h = inl (some_put (subst (λ (l : Option (List ℕ)). WhereTold l (λ input. HasPutSome (load p input).puts k k1)) (sym e) tt))
+  memory (Some input) e (inl h) = inl (some_put (subst (λ (l : Option (List ℕ)). WhereTold l (λ input. HasPutSome (load p input).puts k k1)) (sym e) (some_of_part p input k k1 h)))
+  memory (Some input) e (inr h) = inr (break_off false (subst (λ (l : Option (List ℕ)). WhereTold l (λ input. BreaksOff false (load p input).puts k k1)) (sym e) h))
+
+  -- what the source gave is accepted
+  accepts : AcceptsRead p.schema.fields (most_loaded p.rows) 0 i.left i1.left → Accepts (outcome_on (load_meaning w) file) i i1
+  accepts a =
+      given_so i.left i1.left (λ read. (line.taken_from p.schema.fields (most_loaded p.rows) 1 (line.lines_of (whole_lines read))).refusal ≡ None) (λ read. (r : Refused) (puts : List Put) → load_schema w (whole_lines read) (parse_schema file) ≡ refused r puts → ⊥)
+      (λ read h r puts e. none_refused (load p (whole_lines read)) (load p (whole_lines read)).refusal r puts (load_refusal p (whole_lines read) ∙ h) (sym (on (whole_lines read)) ∙ e)) a
+
+  -- the full tablets of the lines that were given
+  given : (left now : Option (List ℕ)) → HasPutFull p left now k k1 → WhereLines left now (λ lines. HasPut (puts_in (load_schema w (lines ++ 10 ∷ []) (parse_schema file))) k k1)
+  given None now h = tt
+  given (Some all) None h = h
+  given (Some all) (Some rest) h = (
+    h.0,
+    h.1,
+    h.2,
+    h.3,
+    subst (λ (ps : List Put). HasPut ps k k1) (sym (puts_on (h.1 ++ 10 ∷ []) ∙ puts_refused p h.1 h.0 rest h.4.0 h.3 h.4.1)) h.4.2,
+  )
+
+  refused_on : (left : Option (List ℕ)) (e : line.Refusal) → WhereTold left (λ input. (load p input).refusal ≡ Some e) → WhereTold left (λ input. HasPut (load p input).puts k k1)
+      → WhereTold left (λ input. IsRefusedSo (line_refused e) k k1 (load_schema w input (parse_schema file)))
+  refused_on None e h put = tt
+  refused_on (Some input) e h put = ((load p input).puts, on input ∙ ap (loaded_outcome (load p input)) h, put)
+
+  line_refuses : (e : line.Refusal) → WhereTold i.left (λ input. (load p input).refusal ≡ Some e) → WhereTold i.left (λ input. HasPut (load p input).puts k k1)
+      → WithOutcome (load_meaning w) (lent i k []) (IsRefusedSo (line_refused e) k k1)
+  line_refuses e h put = with_told (load_meaning w) (lent i k []) file is (IsRefusedSo (line_refused e) k k1) refl (refused_on i.left e h put)
+
+  pub load_stops : (fault : LoadFault)
+      → (fault ≡ LoadFault.ReadFault → i1.faults ≡ raised i.faults) → (fault ≢ LoadFault.ReadFault → i1.faults ≡ i.faults)
+      → (fault ≡ LoadFault.KeepFault → k1.faults ≡ raised k.faults) → (fault ≢ LoadFault.KeepFault → k1.faults ≡ k.faults) → (fault ≡ LoadFault.KeepFault → IsTrue k.is_steady → ⊥)
+      → (fault ≡ LoadFault.ReadFault → AcceptsRead p.schema.fields (most_loaded p.rows) 0 i.left i1.left) → (fault ≡ LoadFault.ReadFault → HasPutFull p i.left i1.left k k1)
+      → MatchOption (refusal_of fault) ⊤ (λ r. WhereTold i.left (λ input. (load p input).refusal ≡ Some r))
+      → WhereTold i.left (λ input. LeavesPuts p input k k1 fault)
+      → StopsWith (load_meaning w) (lent i k []) (lent i1 k1 []) (load_stop fault)
+  load_stops LoadFault.NoMemory sc sm kc km ks a g r h = (km (λ e. cc), sm (λ e. cc), memory i.left refl h)
+  load_stops LoadFault.KeepFault sc sm kc km ks a g r h =
+      (kc refl, sm (λ e. cc), refl, (λ kept. ks refl kept.steady), inr (break_off true (told_so i.left (λ input. LeavesPuts p input k k1 LoadFault.KeepFault) (λ input. BreaksOff true (load p input).puts k k1) (λ input x. x) h), load_opened))
+  load_stops LoadFault.ReadFault sc sm kc km ks a g r h = (
+    sc refl,
+    km (λ e. cc),
+    refl,
+    load_opened,
+    before_end (told_so i.left (λ input. LeavesPuts p input k k1 LoadFault.ReadFault) (λ input. HasPutTablets p input k k1) (λ input x. x) h),
+    with_file (file_of (load_meaning w) k) file (λ f. Accepts (outcome_on (load_meaning w) f) i i1) is (accepts (a refl)),
+    with_file (file_of (load_meaning w) k) file (λ f. WhereLines i.left i1.left (λ lines. HasPut (puts_in (outcome_on (load_meaning w) f (lines ++ 10 ∷ []))) k k1)) is (given i.left i1.left (g refl)),
+  )
+  load_stops (LoadFault.BadLine n x) sc sm kc km ks a g r h = (
+    km (λ e. cc),
+    sm (λ e. cc),
+    refl,
+    line_refuses _ r (told_so i.left (λ input. LeavesPuts p input k k1 (LoadFault.BadLine n x)) (λ input. HasPut (load p input).puts k k1) (λ input y. y) h),
+    λ early. absurd early,
+  )
+  load_stops (LoadFault.LineTooLong n) sc sm kc km ks a g r h = (
+    km (λ e. cc),
+    sm (λ e. cc),
+    refl,
+    line_refuses _ r (told_so i.left (λ input. LeavesPuts p input k k1 (LoadFault.LineTooLong n)) (λ input. HasPut (load p input).puts k k1) (λ input y. y) h),
+    λ early. absurd early,
+  )
+  load_stops (LoadFault.TooManyRecords n) sc sm kc km ks a g r h = (
+    km (λ e. cc),
+    sm (λ e. cc),
+    refl,
+    line_refuses _ r (told_so i.left (λ input. LeavesPuts p input k k1 (LoadFault.TooManyRecords n)) (λ input. HasPut (load p input).puts k k1) (λ input y. y) h),
+    λ early. absurd early,
+  )
+
+  pub done_on : (left : Option (List ℕ)) (text : List ℕ) (records tablets : ℕ) → WhereTold left (λ input. (load p input).refusal ≡ None) → WhereTold left (λ input. records ≡ (load p input).records)
+      → WhereTold left (λ input. tablets ≡ (load p input).tablets) → WhereTold left (λ input. HasPut (load p input).puts k k1) → text ≡ loaded_text records tablets
+      → WhereTold left (λ input. IsDoneSo text k k1 (load_schema w input (parse_schema file)))
+  done_on None text records tablets a r t h e = tt
+  done_on (Some input) text records tablets a r t h e =
+      let same : text ≡ loaded_text (load p input).records (load p input).tablets = e ∙ ap₂ loaded_text r t in
+      ((load p input).puts, on input ∙ ap (loaded_outcome (load p input)) a ∙ ap (λ (x : List ℕ). done x (load p input).puts) (sym same), h)
+
+-- a command that is lent no links leaves them
+module _ (w : LoadWords) (i i1 : SourceShown) (k k1 : LinkShown) (ls : List LinkShown) where
+  pub load_links : (stop : Stop) → StopsWith (load_meaning w) (lent i k []) (lent i1 k1 []) stop → StopsWith (load_meaning w) (lent i k ls) (lent i1 k1 ls) stop
+  load_links Stop.Usage h = h
+  load_links Stop.NoMemory h = h
+  load_links Stop.Source h = (h.0, h.1, refl, h.3, h.4, h.5, h.6)
+  load_links Stop.Keeper h = (h.0, h.1, refl, h.3, h.4)
+  load_links (Stop.Refused r) h = (h.0, h.1, refl, h.3, h.4)
+  load_links (Stop.Left left) h = let n : 0 < 0 = h.1 in absurd (omega (arith, n))
+  load_links (Stop.Most text left) h = let n : 0 < 0 = h.1 in absurd (omega (arith, n))
+  load_links (Stop.LeftFile cause) h = let n : 0 < 0 = h.1 in absurd (omega (arith, n))

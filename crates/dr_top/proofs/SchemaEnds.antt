@@ -15,12 +15,13 @@ use Rattle.dr_file.specs.declared.file_fault.FileFault.{FileFault}
 use Rattle.dr_reading.specs.Held.{held_at, held_file}
 use Rattle.dr_reading.specs.Causes.{is_read}
 use Rattle.dr_commands.specs.ShowSchema.{ShowSchemaWords, show_schema_meaning}
+use Rattle.dr_top.specs.World.{lent}
 use Rattle.dr_top.specs.Reading.{IsLookedAt, IsSchemaShown, IsSchemaCause, LeavesFile}
 use Rattle.dr_top.specs.Answers.{Finishes}
-use Rattle.dr_top.specs.Stops.{IsUnput, SchemaStops, StopsWith, file_stop}
+use Rattle.dr_top.specs.Stops.{SchemaStops, StopsWith, file_stop}
 use Rattle.dr_top.specs.declared.stop.Stop.{Stop}
 use Rattle.dr_tablets.proofs.CopyLemmas.{leads_more}
-use Rattle.dr_top.proofs.OutcomeLemmas.{put_nothing, put_none}
+use Rattle.dr_top.proofs.PutLemmas.{unput, put_nothing, put_none}
 
 -- ---- the text
 
@@ -100,16 +101,16 @@ schema_faults path (FileFault.Why c) l l1 n h none calm steady = file_left path 
 
 -- ---- in the program
 
-pub schema_finishes : (w : ShowSchemaWords) (k k1 : LinkShown) (i : SourceShown) (l l1 : LinkShown) (ls : List LinkShown) (path text : List ℕ) → path ≡ w.file → IsUnput k k1 → IsLookedAt path l l1 text → Finishes (show_schema_meaning w) k k1 i (l ∷ ls) (l1 ∷ ls) text
-schema_finishes w k k1 i l l1 ls path text p e h = (([], refl, (subst (λ (x : List ℕ). IsLookedAt x l l1 text) p h, put_none k k1 e)), tt)
+module _ (w : ShowSchemaWords) (i : SourceShown) (k : LinkShown) (l l1 : LinkShown) (ls : List LinkShown) where
+  pub schema_finishes : (path text : List ℕ) → path ≡ w.file → IsLookedAt path l l1 text → Finishes (show_schema_meaning w) (lent i k (l ∷ ls)) (lent i k (l1 ∷ ls)) text
+  schema_finishes path text p h = ((subst (λ (x : List ℕ). IsLookedAt x l l1 text) p h, put_none k k (unput k)), tt)
 
-pub schema_stop : (w : ShowSchemaWords) (k k1 : LinkShown) (i : SourceShown) (l l1 : LinkShown) (ls : List LinkShown) (path : List ℕ) (stop : Stop) → path ≡ w.file → IsUnput k k1 → k1.faults ≡ k.faults → SchemaStops path l l1 stop
-    → StopsWith (show_schema_meaning w) k k1 i i (l ∷ ls) (l1 ∷ ls) stop
-schema_stop w k k1 i l l1 ls path Stop.Usage p e f h = absurd h
-schema_stop w k k1 i l l1 ls path Stop.NoMemory p e f h = (f, refl, inl (put_nothing (show_schema_meaning w) k k1 i e))
-schema_stop w k k1 i l l1 ls path Stop.Source p e f h = absurd h
-schema_stop w k k1 i l l1 ls path Stop.Keeper p e f h = absurd h
-schema_stop w k k1 i l l1 ls path (Stop.Refused r) p e f h = absurd h
-schema_stop w k k1 i l l1 ls path (Stop.Left left) p e f h = absurd h
-schema_stop w k k1 i l l1 ls path (Stop.Most text left) p e f h = absurd h
-schema_stop w k k1 i l l1 ls path (Stop.LeftFile c) p e f h = (f, omega arith, refl, e, ([], refl, subst (λ (x : List ℕ). LeavesFile x c l l1) p h))
+  pub schema_ends : (path : List ℕ) (stop : Stop) → path ≡ w.file → SchemaStops path l l1 stop → StopsWith (show_schema_meaning w) (lent i k (l ∷ ls)) (lent i k (l1 ∷ ls)) stop
+  schema_ends path Stop.Usage p h = h
+  schema_ends path Stop.NoMemory p h = (refl, refl, inl (put_nothing (show_schema_meaning w) (lent i k (l ∷ ls)) (lent i k (l1 ∷ ls)) (unput k)))
+  schema_ends path Stop.Source p h = absurd h
+  schema_ends path Stop.Keeper p h = absurd h
+  schema_ends path (Stop.Refused r) p h = absurd h
+  schema_ends path (Stop.Left left) p h = absurd h
+  schema_ends path (Stop.Most text left) p h = absurd h
+  schema_ends path (Stop.LeftFile c) p h = (refl, omega arith, refl, unput k, subst (λ (x : List ℕ). LeavesFile x c l l1) p h)

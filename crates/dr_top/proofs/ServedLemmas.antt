@@ -1,7 +1,6 @@
 -- Where the first link is steady and tells that a copy of each tablet is a file, no tablet is left.
 use Rattle.std.proofs.Common.{nat_eq, ◌≡◌, ◌∙◌, inl, inr, ℕ, zero, suc, Bool, false, true≢false, List, [], ◌∷◌, Option, Some, None, refl, sym, ap, subst}
 use Rattle.std.specs.Prelude.{◌⊎◌, take, IsTrue, IsSome, Ok, Err}
-use Rattle.dr_outside.specs.Source.{SourceShown}
 use Rattle.dr_outside.specs.Link.{Files, LinkShown}
 use Rattle.dr_outside.specs.Link as Link
 use Rattle.dr_outside.specs.declared.cause.Cause.{Cause}
@@ -22,25 +21,22 @@ use Rattle.dr_reading.proofs.InTurnLemmas.{read_in_turn_leaves_just}
 use Rattle.dr_serve.specs.Serving.{first_shown}
 use Rattle.dr_serve.specs.Counted.{AreLeftOf}
 use Rattle.dr_commands.specs.Meaning.{Meaning, Outcome, done, refused, scans, serves, looks_at}
-use Rattle.dr_top.specs.World.{World, WithOutcome, WhereFile, WhereUsed, WithFirsts}
+use Rattle.dr_top.specs.World.{World, Lent, lent_in, told_file, file_of, WithFile, ForInput, outcome_on, WithOutcome, WithFirsts}
 use Rattle.dr_top.specs.Reading.{IsLeftWith, HasMost, IsFileLeft, IsSchemaCause, LeavesTablets, LeavesFile}
 use Rattle.dr_top.specs.Ends.{Holds, IsLeft, EndsBut, PrintsMost, IsComplete, ScansTable, IsHeldWhole, IsSchemaHeld, IsServed}
-use Rattle.dr_input.specs.Taken.{WhereTold}
 
--- what holds of the outcome of a command that reads no input, on the file that is there
-outcome_at : (m : Meaning) (k : LinkShown) (i : SourceShown) (P : Outcome → Type 0) (path file : List ℕ) (kept : Files) → m.file ≡ Some path → k.held ≡ Some kept → m.reads_input ≡ false
-    → kept path ≡ Some file → WithOutcome m k i P → P (m.outcome (record { file = file; input = [] }))
-outcome_at m k i P path file kept named keeps unread there w =
-    let is : (List ℕ → Type 0) → Type 0 = λ IsIt. WhereUsed m.reads_input [] i.left (λ bytes. (f : List ℕ) × IsIt f × P (m.outcome (record { file = f; input = bytes }))) in
-    let a : WhereFile (Some path) k.held is = subst (λ (o : Option (List ℕ)). WhereFile o k.held is) named w in
-    let b : is (λ f. kept path ≡ Some f) = subst (λ (h : Option Files). WhereTold h (λ (fs : Files). is (λ f. fs path ≡ Some f))) keeps a in
-    let c : (f : List ℕ) × (kept path ≡ Some f) × P (m.outcome (record { file = f; input = [] })) =
-    subst (λ (u : Bool). WhereUsed u [] i.left (λ bytes. (f : List ℕ) × (kept path ≡ Some f) × P (m.outcome (record { file = f; input = bytes })))) unread b in
-    subst (λ (f : List ℕ). P (m.outcome (record { file = f; input = [] }))) (ap (or_else c.0) (sym c.1 ∙ there)) c.2
-  where
-    or_else : List ℕ → Option (List ℕ) → List ℕ
-    or_else d None = d
-    or_else d (Some x) = x
+-- what holds of the outcome of a command that reads no input, on the file that is told
+outcome_at : (m : Meaning) (w : Lent) (P : Outcome → Type 0) (file : List ℕ) → file_of m w.keeper ≡ present file → m.reads_input ≡ false → WithOutcome m w P → P (outcome_on m file [])
+outcome_at m w P file told unread h =
+    let a : ForInput m.reads_input w.input.left (λ input. P (outcome_on m file input)) = subst (λ (t : Held). WithFile t (λ f. ForInput m.reads_input w.input.left (λ input. P (outcome_on m f input)))) told h in
+    subst (λ (b : Bool). ForInput b w.input.left (λ input. P (outcome_on m file input))) unread a
+
+-- what is told of the file
+whole_told : (m : Meaning) (w : World) (h : IsHeldWhole m w) → file_of m w.keeper ≡ present h.file
+whole_told m w h = ap (λ (f : Option (List ℕ)). told_file f w.keeper.held) h.named ∙ (ap (λ (x : Option Files). held_at x h.path) h.keeps ∙ ap held_file h.there)
+
+none_named : (m : Meaning) (w : World) → m.file ≡ None → file_of m w.keeper ≡ present []
+none_named m w e = ap (λ (f : Option (List ℕ)). told_file f w.keeper.held) e
 
 -- a steady link doesn't try all copies of a tablet in vain where one of them is a file
 module _ (s : Schema) (F : List Leaf) (link : LinkShown) (files : Files) (tells : link.held ≡ Some files) (steady : IsTrue link.is_steady) where
@@ -71,8 +67,8 @@ module _ (m : Meaning) (before : World) (h : IsHeldWhole m before) where
       v.0 (all_answered h.scan.schema h.scan.leaves h.first h.files h.tells h.steady 0 h.scan.tablets left h.each v.1)
 
 not_left : (m : Meaning) (before after : World) → IsHeldWhole m before → IsLeft m before after → ⊥
-not_left m before after h (inl t) = by (m.outcome (record { file = h.file; input = [] })) h.scans_it
-    (outcome_at m before.keeper before.input (λ o. IsLeftWith o before.links after.links t.0) h.path h.file h.kept h.named h.keeps h.reads_nothing h.there t.3)
+not_left m before after h (inl t) = by (outcome_on m h.file []) h.scans_it
+    (outcome_at m (lent_in before) (λ o. IsLeftWith o before.links after.links t.0) h.file (whole_told m before h) h.reads_nothing t.3)
   where
     in_links : (s : Scan) → s ≡ h.scan → (now : List LinkShown) → WithFirsts (h.first ∷ h.others) now (LeavesTablets s t.0) → ⊥
     in_links s e [] w = w
@@ -88,8 +84,8 @@ not_left m before after h (inl t) = by (m.outcome (record { file = h.file; input
     by (looks_at path) e k = e
     by (done text puts) e k = e
     by (refused r puts) e k = e
-not_left m before after h (inr t) = by (m.outcome (record { file = h.file; input = [] })) h.scans_it
-    (outcome_at m before.keeper before.input (λ o. IsFileLeft o before.links after.links t.0) h.path h.file h.kept h.named h.keeps h.reads_nothing h.there t.3)
+not_left m before after h (inr t) = by (outcome_on m h.file []) h.scans_it
+    (outcome_at m (lent_in before) (λ o. IsFileLeft o before.links after.links t.0) h.file (whole_told m before h) h.reads_nothing t.3)
   where
     by : (o : Outcome) → ScansTable h.scan o → IsFileLeft o before.links after.links t.0 → ⊥
     by (scans s) e k = k
@@ -99,8 +95,8 @@ not_left m before after h (inr t) = by (m.outcome (record { file = h.file; input
     by (refused r puts) e k = e
 
 not_most : (m : Meaning) (before after : World) (text : List ℕ) (left : List LeftTablet) → IsHeldWhole m before → EndsBut m before after left text → ⊥
-not_most m before after text left h t = by (m.outcome (record { file = h.file; input = [] })) h.scans_it
-    (outcome_at m before.keeper before.input (λ o. HasMost o before.links after.links left text) h.path h.file h.kept h.named h.keeps h.reads_nothing h.there t.1)
+not_most m before after text left h t = by (outcome_on m h.file []) h.scans_it
+    (outcome_at m (lent_in before) (λ o. HasMost o before.links after.links left text) h.file (whole_told m before h) h.reads_nothing t.1)
   where
     by : (o : Outcome) → ScansTable h.scan o → HasMost o before.links after.links left text → ⊥
     by (scans s) e k = k
@@ -126,24 +122,15 @@ no_cause path bytes s c l files tells steady there shows h calm =
     by_cause Cause.BadCodec k n = other bad_codec k
     by_cause Cause.BadData k n = other bad_data k
 
--- what holds of the outcome of a command that names no file and reads no input
-outcome_alone : (m : Meaning) (k : LinkShown) (i : SourceShown) (P : Outcome → Type 0) → m.file ≡ None → m.reads_input ≡ false → WithOutcome m k i P → P (m.outcome (record { file = []; input = [] }))
-outcome_alone m k i P named unread w =
-    let is : (List ℕ → Type 0) → Type 0 = λ IsIt. WhereUsed m.reads_input [] i.left (λ bytes. (f : List ℕ) × IsIt f × P (m.outcome (record { file = f; input = bytes }))) in
-    let a : is (λ f. f ≡ []) = subst (λ (o : Option (List ℕ)). WhereFile o k.held is) named w in
-    let b : (f : List ℕ) × (f ≡ []) × P (m.outcome (record { file = f; input = [] })) =
-    subst (λ (u : Bool). WhereUsed u [] i.left (λ bytes. (f : List ℕ) × (f ≡ []) × P (m.outcome (record { file = f; input = bytes })))) unread a in
-    subst (λ (f : List ℕ). P (m.outcome (record { file = f; input = [] }))) b.1 b.2
-
 file_not_left : (m : Meaning) (before after : World) → IsSchemaHeld m before → IsLeft m before after → ⊥
 file_not_left m before after h (inl t) =
     subst (λ (o : Outcome). IsLeftWith o before.links after.links t.0) h.looks_at_it
-    (outcome_alone m before.keeper before.input (λ o. IsLeftWith o before.links after.links t.0) h.names_none h.reads_nothing t.3)
+    (outcome_at m (lent_in before) (λ o. IsLeftWith o before.links after.links t.0) [] (none_named m before h.names_none) h.reads_nothing t.3)
 file_not_left m before after h (inr t) = in_links after.links (subst (λ (ls : List LinkShown). WithFirsts ls after.links (LeavesFile h.path t.0)) h.links looked)
   where
     looked : WithFirsts before.links after.links (LeavesFile h.path t.0)
     looked = subst (λ (o : Outcome). IsFileLeft o before.links after.links t.0) h.looks_at_it
-        (outcome_alone m before.keeper before.input (λ o. IsFileLeft o before.links after.links t.0) h.names_none h.reads_nothing t.3)
+        (outcome_at m (lent_in before) (λ o. IsFileLeft o before.links after.links t.0) [] (none_named m before h.names_none) h.reads_nothing t.3)
 
     in_links : (now : List LinkShown) → WithFirsts (h.first ∷ h.others) now (LeavesFile h.path t.0) → ⊥
     in_links [] w = w
@@ -152,7 +139,7 @@ file_not_left m before after h (inr t) = in_links after.links (subst (λ (ls : L
 file_not_most : (m : Meaning) (before after : World) (text : List ℕ) (left : List LeftTablet) → IsSchemaHeld m before → EndsBut m before after left text → ⊥
 file_not_most m before after text left h t =
     subst (λ (o : Outcome). HasMost o before.links after.links left text) h.looks_at_it
-    (outcome_alone m before.keeper before.input (λ o. HasMost o before.links after.links left text) h.names_none h.reads_nothing t.1)
+    (outcome_at m (lent_in before) (λ o. HasMost o before.links after.links left text) [] (none_named m before h.names_none) h.reads_nothing t.1)
 
 none_left : (m : Meaning) (before after : World) → IsHeldWhole m before ⊎ IsSchemaHeld m before → IsLeft m before after → ⊥
 none_left m before after (inl h) t = not_left m before after h t

@@ -13,20 +13,15 @@ use Rattle.dr_nested.specs.declared.fault.SchemaFault.{SchemaFault as TextFault}
 use Rattle.dr_gen.specs.Document.{document_text, trial_query}
 use Rattle.dr_gen.specs.Generator.{lines_from}
 use Rattle.dr_outside.specs.Faults.{raised}
-use Rattle.dr_outside.specs.Source.{SourceShown}
-use Rattle.dr_outside.specs.Link.{LinkShown}
-use Rattle.dr_input.specs.declared.fault.LineProblem.{LineProblem}
 use Rattle.dr_load.specs.Faults.{refusal_of as line_refusal_of}
 use Rattle.dr_load.specs.declared.fault.LoadFault.{LoadFault}
 use Rattle.dr_bind.specs.Faults.{IsRefusedAs, refusal_of}
 use Rattle.dr_bind.specs.declared.fault.QueryFault.{QueryFault}
 use Rattle.dr_ask.specs.Asked.{IsAnswerTo}
-use Rattle.dr_commands.specs.Meaning.{plain, done, refused}
+use Rattle.dr_commands.specs.Meaning.{plain, done}
 use Rattle.dr_commands.specs.Trial.{TrialWords, trial_meaning}
-use Rattle.dr_top.specs.World.{HasOutcome}
-use Rattle.dr_top.specs.Stops.{StopsPlain, refusal_view, schema_stop, query_stop, load_stop}
-use Rattle.dr_top.specs.declared.refusal.Refusal.{Refusal}
-use Rattle.dr_top.specs.declared.stop.Stop.{Stop}
+use Rattle.dr_top.specs.World.{outcome_on}
+use Rattle.dr_top.specs.Stops.{StopsEarly, schema_stop, query_stop, load_stop}
 
 -- its input
 abbrev pub made : TrialWords → List ℕ
@@ -44,29 +39,24 @@ schema_is text r e h = ap parse_schema (sym e) ∙ h
 pub never_raised : 0 ≡ raised 0 → ⊥
 never_raised e = cc
 
--- a refusal is a stop, whatever is looked at
-refused_so : (w : TrialWords) (k : LinkShown) (i : SourceShown) (r : Refusal) → plain (asked w) ≡ refused (refusal_view r) [] → StopsPlain (trial_meaning w) k k i i (Stop.Refused r)
-refused_so w k i r h = (refl, refl, ([], refl, h), λ _. (refl, ([], refl, λ look is. h)))
-
 -- ---- the schema
 
 by_schema : (w : TrialWords) (r : Result Schema SchemaFault) → parse_schema document_text ≡ r → asked w ≡ ask_schema w.rows trial_query (made w) r
 unfolding ask
 by_schema w r h = ap (ask_schema w.rows trial_query (made w)) h
 
-pub trial_schema_stops : (w : TrialWords) (k : LinkShown) (i : SourceShown) (fault : TextFault) → MatchOption (schema_fault_view fault) ⊤ (λ f. parse_schema document_text ≡ Err f) → StopsPlain (trial_meaning w) k k i i (schema_stop fault)
-trial_schema_stops w k i TextFault.NoMemory h = (refl, refl)
-trial_schema_stops w k i (TextFault.Refused p x) h = refused_so w k i (Refusal.Schema p x) (ap plain (by_schema w _ h))
+pub trial_schema_early : (w : TrialWords) (fault : TextFault) → MatchOption (schema_fault_view fault) ⊤ (λ f. parse_schema document_text ≡ Err f) → StopsEarly (outcome_on (trial_meaning w) []) (schema_stop fault)
+trial_schema_early w TextFault.NoMemory h = tt
+trial_schema_early w (TextFault.Refused p x) h = λ input. ap plain (by_schema w _ h)
 
 -- ---- the query
 
 by_query : (w : TrialWords) (s : Schema) (r : Result Query QueryRefusal) → parse_schema document_text ≡ Ok s → read_query s trial_query ≡ r → asked w ≡ ask_query w.rows s (made w) r
 by_query w s r f h = by_schema w (Ok s) f ∙ ap (ask_query w.rows s (made w)) h
 
-pub trial_query_stops : (w : TrialWords) (k : LinkShown) (i : SourceShown) (s : Schema) (fault : QueryFault) → parse_schema document_text ≡ Ok s → IsRefusedAs (read_query s trial_query) fault
-    → StopsPlain (trial_meaning w) k k i i (query_stop fault)
-trial_query_stops w k i s QueryFault.NoMemory f h = (refl, refl)
-trial_query_stops w k i s (QueryFault.Refused n x) f h = refused_so w k i (Refusal.Query n x) (ap plain (by_query w s (Err (refusal_of n x)) f h))
+pub trial_query_early : (w : TrialWords) (s : Schema) (fault : QueryFault) → parse_schema document_text ≡ Ok s → IsRefusedAs (read_query s trial_query) fault → StopsEarly (outcome_on (trial_meaning w) []) (query_stop fault)
+trial_query_early w s QueryFault.NoMemory f h = tt
+trial_query_early w s (QueryFault.Refused n x) f h = λ input. ap plain (by_query w s (Err (refusal_of n x)) f h)
 
 -- ---- the records
 
@@ -74,17 +64,16 @@ by_records : (w : TrialWords) (s : Schema) (q : Query) (r : Result (List Node) l
     → asked w ≡ ask_records s q r
 by_records w s q r f n h = by_query w s (Ok q) f n ∙ ap (ask_records s q) h
 
-pub trial_load_stops : (w : TrialWords) (k : LinkShown) (i : SourceShown) (s : Schema) (q : Query) (fault : LoadFault) → parse_schema document_text ≡ Ok s → read_query s trial_query ≡ Ok q → fault ≢ LoadFault.ReadFault → fault ≢ LoadFault.KeepFault
-    → MatchOption (line_refusal_of fault) ⊤ (λ r. line.records_of s.fields (most_asked w.rows) (made w) ≡ Err r) → StopsPlain (trial_meaning w) k k i i (load_stop fault)
-trial_load_stops w k i s q LoadFault.NoMemory f n never_source never_keeper h = (refl, refl)
-trial_load_stops w k i s q LoadFault.ReadFault f n never_source never_keeper h = absurd (never_source refl)
-trial_load_stops w k i s q LoadFault.KeepFault f n never_source never_keeper h = absurd (never_keeper refl)
-trial_load_stops w k i s q (LoadFault.BadLine m x) f n never_source never_keeper h = refused_so w k i (Refusal.Line m (LineProblem.Record x)) (ap plain (by_records w s q _ f n h))
-trial_load_stops w k i s q (LoadFault.LineTooLong m) f n never_source never_keeper h = refused_so w k i (Refusal.Line m LineProblem.TooLong) (ap plain (by_records w s q _ f n h))
-trial_load_stops w k i s q (LoadFault.TooManyRecords m) f n never_source never_keeper h = refused_so w k i (Refusal.Line m LineProblem.TooManyRecords) (ap plain (by_records w s q _ f n h))
+pub trial_load_early : (w : TrialWords) (s : Schema) (q : Query) (fault : LoadFault) → parse_schema document_text ≡ Ok s → read_query s trial_query ≡ Ok q → fault ≢ LoadFault.ReadFault → fault ≢ LoadFault.KeepFault
+    → MatchOption (line_refusal_of fault) ⊤ (λ r. line.records_of s.fields (most_asked w.rows) (made w) ≡ Err r) → StopsEarly (outcome_on (trial_meaning w) []) (load_stop fault)
+trial_load_early w s q LoadFault.NoMemory f n never_source never_keeper h = tt
+trial_load_early w s q LoadFault.ReadFault f n never_source never_keeper h = absurd (never_source refl)
+trial_load_early w s q LoadFault.KeepFault f n never_source never_keeper h = absurd (never_keeper refl)
+trial_load_early w s q (LoadFault.BadLine m x) f n never_source never_keeper h = λ input. ap plain (by_records w s q _ f n h)
+trial_load_early w s q (LoadFault.LineTooLong m) f n never_source never_keeper h = λ input. ap plain (by_records w s q _ f n h)
+trial_load_early w s q (LoadFault.TooManyRecords m) f n never_source never_keeper h = λ input. ap plain (by_records w s q _ f n h)
 
 -- ---- the text
 
-pub trial_ends : (w : TrialWords) (k : LinkShown) (i : SourceShown) (out : List ℕ) (s : Schema) (q : Query) → parse_schema document_text ≡ Ok s → read_query s trial_query ≡ Ok q → IsAnswerTo s q w.rows out (made w)
-    → HasOutcome (trial_meaning w) k i (done out [])
-trial_ends w k i out s q f n h = ([], refl, ap plain (by_records w s q (Ok h.0) f n h.1) ∙ ap (λ (t : List ℕ). done t []) (sym h.2))
+pub trial_ends : (w : TrialWords) (out : List ℕ) (s : Schema) (q : Query) → parse_schema document_text ≡ Ok s → read_query s trial_query ≡ Ok q → IsAnswerTo s q w.rows out (made w) → outcome_on (trial_meaning w) [] [] ≡ done out []
+trial_ends w out s q f n h = ap plain (by_records w s q (Ok h.0) f n h.1) ∙ ap (λ (t : List ℕ). done t []) (sym h.2)

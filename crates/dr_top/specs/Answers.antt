@@ -7,26 +7,26 @@ use Rattle.dr_load.specs.Puts.{HasPut}
 use Rattle.dr_file.specs.Asking.{is_for_path, is_request_for}
 use Rattle.dr_tablets.specs.Asked.{AsksHeld, AsksForTablets}
 use Rattle.dr_commands.specs.Meaning.{Meaning, Outcome, done, refused, scans, serves, looks_at, puts_in}
-use Rattle.dr_top.specs.World.{WithOutcome, ForOutcome, WithEach, OpensInput}
+use Rattle.dr_top.specs.World.{Lent, WithOutcome, ForOutcome, WithEach, OpensInput}
 use Rattle.dr_top.specs.Reading.{HasText}
-use Rattle.dr_top.specs.Stops.{IsUnput, StopsWith, AsksForFile}
+use Rattle.dr_top.specs.Keeping.{IsUnput, AsksForFile}
+use Rattle.dr_top.specs.Stops.{StopsWith}
 use Rattle.dr_top.specs.declared.stop.Stop.{Stop}
 
 -- an outcome has this text, and its files are put, in their order
-abbrev pub Gives : LinkShown → LinkShown → List LinkShown → List LinkShown → List ℕ → Outcome → Type 0
-Gives keeper keeper_now links links_now text o = HasText o links links_now text × HasPut (puts_in o) keeper keeper_now
+abbrev pub Gives : Lent → Lent → List ℕ → Outcome → Type 0
+Gives before after text o = HasText o before.links after.links text × HasPut (puts_in o) before.keeper after.keeper
 
 -- what a command of this meaning gives; nothing that comes before an input that it reads is refused, also where that isn't told
-abbrev pub Finishes : Meaning → LinkShown → LinkShown → SourceShown → List LinkShown → List LinkShown → List ℕ → Type 0
-Finishes m keeper keeper_now input links links_now text =
-    WithOutcome m keeper input (Gives keeper keeper_now links links_now text) × OpensInput m keeper
+abbrev pub Finishes : Meaning → Lent → Lent → List ℕ → Type 0
+Finishes m before after text = WithOutcome m before (Gives before after text) × OpensInput m before.keeper
 
 -- what words of this meaning are stopped by; those that mean nothing leave all as it was
-abbrev pub StopsMeant : Option Meaning → LinkShown → LinkShown → SourceShown → SourceShown → List LinkShown → List LinkShown → Stop → Type 0
-StopsMeant (Some m) keeper keeper_now input input_now links links_now stop = StopsWith m keeper keeper_now input input_now links links_now stop
-StopsMeant None keeper keeper_now input input_now links links_now Stop.Usage = (keeper_now ≡ keeper) × (input_now ≡ input) × (links_now ≡ links)
-StopsMeant None keeper keeper_now input input_now links links_now Stop.NoMemory = (keeper_now ≡ keeper) × (input_now ≡ input) × (links_now ≡ links)
-StopsMeant None keeper keeper_now input input_now links links_now stop = ⊥
+abbrev pub StopsMeant : Option Meaning → Lent → Lent → Stop → Type 0
+StopsMeant (Some m) before after stop = StopsWith m before after stop
+StopsMeant None before after Stop.Usage = after ≡ before
+StopsMeant None before after Stop.NoMemory = after ≡ before
+StopsMeant None before after stop = ⊥
 
 -- the keeper is asked for the file that a meaning names, if any, and for nothing else
 abbrev pub AsksFor : Option (List ℕ) → LinkShown → LinkShown → Type 0
@@ -73,6 +73,6 @@ AsksLink (done text puts) link now = now.asked ≡ link.asked
 AsksLink (refused r puts) link now = now.asked ≡ link.asked
 
 -- no link is asked for anything else, whatever comes of it
-abbrev pub AsksEach : Option Meaning → LinkShown → SourceShown → List LinkShown → List LinkShown → Type 0
-AsksEach (Some m) keeper input links links_now = ForOutcome m keeper input (λ o. WithEach links links_now (AsksLink o))
-AsksEach None keeper input links links_now = links_now ≡ links
+abbrev pub AsksEach : Option Meaning → Lent → Lent → Type 0
+AsksEach (Some m) before after = ForOutcome m before (λ o. WithEach before.links after.links (AsksLink o))
+AsksEach None before after = after.links ≡ before.links

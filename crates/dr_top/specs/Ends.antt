@@ -15,9 +15,10 @@ use Rattle.dr_reading.specs.Left.{LeftTablet}
 use Rattle.dr_reading.specs.LeftText.{told_cause, left_text}
 use Rattle.dr_commands.specs.Refusals.{Refusal, refusal_text}
 use Rattle.dr_commands.specs.Meaning.{Meaning, Outcome, refused, scans, serves, looks_at, IsEarly}
-use Rattle.dr_top.specs.World.{World, WithOutcome, IsOpened, OpensInput, AcceptsWhole, RefusesEarly}
+use Rattle.dr_top.specs.World.{World, lent_in, WithOutcome, IsOpened, OpensInput, AcceptsWhole, RefusesEarly}
 use Rattle.dr_top.specs.Reading.{IsLeftWith, HasMost, IsFileLeft}
-use Rattle.dr_top.specs.Stops.{IsUnput, KeepsFile, IsReadBy, IsRefusedSo, PutsSome, PutsBeforeEnd, PutsGiven, PutsBreak}
+use Rattle.dr_top.specs.Keeping.{IsUnput, KeepsFile, IsRefusedSo, PutsSome, PutsBeforeEnd, PutsGiven, PutsBreak}
+use Rattle.dr_top.specs.Stops.{IsReadBy}
 use Rattle.dr_top.specs.Answers.{Finishes, AsksMeant, LeavesUnread, LeavesUnput, LeavesUnasked, AsksEach}
 
 -- ---- words of the clauses
@@ -58,7 +59,7 @@ pub record IsCalm (before after : World) : Type 0 where
 -- 0: the whole text was written, the input read to its end or left alone, and the files put; nothing was said
 abbrev pub Prints : Meaning → World → World → Type 0
 Prints m before after = (text : List ℕ) × AddedWhole before.out after.out text
-    × Finishes m before.keeper after.keeper before.input before.links after.links text
+    × Finishes m (lent_in before) (lent_in after) text
     × IsReadBy m.reads_input before.input after.input
     × (after.err ≡ before.err)
 
@@ -72,20 +73,20 @@ IsUsage meant before after = (meant ≡ None)
 -- the file and the words whatever the input, and the input and what the keeper holds stay
 abbrev pub IsRefused : Meaning → World → World → Type 0
 IsRefused m before after = (r : Refusal) × Says before.err after.err (refusal_text r)
-    × WithOutcome m before.keeper before.input (IsRefusedSo r before.keeper after.keeper)
+    × WithOutcome m (lent_in before) (IsRefusedSo r before.keeper after.keeper)
     × (after.out ≡ before.out) × (after.links ≡ before.links)
     × (IsEarly r → (after.input ≡ before.input) × RefusesEarly m before.keeper r × HasPut [] before.keeper after.keeper)
 
 -- 3, tablets: the command asks a link; just these are left, each with a cause for each of its copies, which err tells; all else stays
 abbrev pub TabletsLeft : Meaning → World → World → Type 0
 TabletsLeft m before after = (left : List LeftTablet) × (0 < m.links) × Says before.err after.err (left_text left)
-    × WithOutcome m before.keeper before.input (λ o. IsLeftWith o before.links after.links left)
+    × WithOutcome m (lent_in before) (λ o. IsLeftWith o before.links after.links left)
     × (after.out ≡ before.out) × (after.input ≡ before.input) × IsUnput before.keeper after.keeper
 
 -- 3, a file: the command asks a link; its cause, which err tells; all else stays
 abbrev pub FileLeft : Meaning → World → World → Type 0
 FileLeft m before after = (c : Cause) × (0 < m.links) × Says before.err after.err (left_file_text (told_cause c))
-    × WithOutcome m before.keeper before.input (λ o. IsFileLeft o before.links after.links c)
+    × WithOutcome m (lent_in before) (λ o. IsFileLeft o before.links after.links c)
     × (after.out ≡ before.out) × (after.input ≡ before.input) × IsUnput before.keeper after.keeper
 
 abbrev pub IsLeft : Meaning → World → World → Type 0
@@ -94,7 +95,7 @@ IsLeft m before after = TabletsLeft m before after ⊎ FileLeft m before after
 -- some tablets are left, just these, and the others are the share that the command asks for, of which this is the text; the input stays, and what
 -- the keeper holds
 abbrev pub EndsBut : Meaning → World → World → List LeftTablet → List ℕ → Type 0
-EndsBut m before after left text = (0 < m.links) × WithOutcome m before.keeper before.input (λ o. HasMost o before.links after.links left text)
+EndsBut m before after left text = (0 < m.links) × WithOutcome m (lent_in before) (λ o. HasMost o before.links after.links left text)
     × (after.input ≡ before.input) × IsUnput before.keeper after.keeper
 
 -- 6: that text was wholly written, and err tells what is left
@@ -107,9 +108,9 @@ PrintsMost m before after = (text : List ℕ) × (left : List LeftTablet) × Add
 abbrev pub SourceFailed : Meaning → World → World → Type 0
 SourceFailed m before after = Says before.err after.err (codes "outside: source\n")
     × HasRisen before.input.faults after.input.faults
-    × IsOpened m before.keeper × PutsBeforeEnd m before.keeper after.keeper before.input
-    × AcceptsWhole m before.keeper before.input after.input
-    × PutsGiven m before.keeper after.keeper before.input after.input
+    × IsOpened m before.keeper × PutsBeforeEnd m (lent_in before) (lent_in after)
+    × AcceptsWhole m (lent_in before) (lent_in after)
+    × PutsGiven m (lent_in before) (lent_in after)
     × (after.keeper.faults ≡ before.keeper.faults) × (after.out ≡ before.out) × (after.links ≡ before.links)
 
 -- 4, the keeper, which isn't steady with the file there: it failed as the file was read, and the input and what it holds stay, or at one of the
@@ -117,12 +118,12 @@ SourceFailed m before after = Says before.err after.err (codes "outside: source\
 abbrev pub KeeperFailed : Meaning → World → World → Type 0
 KeeperFailed m before after = Says before.err after.err (codes "outside: keeper\n")
     × HasRisen before.keeper.faults after.keeper.faults × (KeepsFile m before.keeper → ⊥)
-    × (((after.input ≡ before.input) × IsUnput before.keeper after.keeper) ⊎ (PutsBreak true m before.keeper after.keeper before.input × OpensInput m before.keeper))
+    × (((after.input ≡ before.input) × IsUnput before.keeper after.keeper) ⊎ (PutsBreak true m (lent_in before) (lent_in after) × OpensInput m before.keeper))
     × (after.input.faults ≡ before.input.faults) × (after.out ≡ before.out) × (after.links ≡ before.links)
 
 -- the text is whole, and the input read to its end or left alone
 abbrev pub EndsWhole : Meaning → World → World → List ℕ → Type 0
-EndsWhole m before after text = Finishes m before.keeper after.keeper before.input before.links after.links text
+EndsWhole m before after text = Finishes m (lent_in before) (lent_in after) text
     × IsReadBy m.reads_input before.input after.input
 
 -- 4, out: it holds a front of the text, which is whole or that of most tablets, and no more was asked of it than it took to find that
@@ -139,7 +140,7 @@ IsOutside m before after = SourceFailed m before after ⊎ (KeeperFailed m befor
 -- the files that words of this meaning put, where memory ran out: some from the front on, or one that may be broken off
 abbrev pub PutsMeant : Option Meaning → World → World → Type 0
 PutsMeant None before after = after.keeper ≡ before.keeper
-PutsMeant (Some m) before after = PutsSome m before.keeper after.keeper before.input ⊎ PutsBreak false m before.keeper after.keeper before.input
+PutsMeant (Some m) before after = PutsSome m (lent_in before) (lent_in after) ⊎ PutsBreak false m (lent_in before) (lent_in after)
 
 -- 5: want of memory; nothing was printed
 abbrev pub IsMemory : Option Meaning → World → World → Type 0
@@ -156,7 +157,7 @@ ByInput false left untold told = told
 -- the command has this refusal; of an input that is read and isn't told, it is one that comes before the input
 abbrev pub Refuses : World → Meaning → Refusal → Type 0
 Refuses before m r = ByInput m.reads_input before.input.left (IsEarly r × RefusesEarly m before.keeper r)
-    (WithOutcome m before.keeper before.input (λ o. (puts : List Put) × (o ≡ refused r puts)))
+    (WithOutcome m (lent_in before) (λ o. (puts : List Put) × (o ≡ refused r puts)))
 
 -- nothing that the command looks at is refused: its schema or table, its FIELDs, its directories, its query, the input's lines where they are told
 abbrev pub IsAccepted : World → Meaning → Type 0
@@ -184,7 +185,7 @@ LeavesLinks meant before after = LeavesUnasked meant before.links after.links
 
 -- nor is one asked for anything but what the command's scan, the query that it serves, or its look at a file needs
 abbrev pub AsksLinks : Option Meaning → World → World → Type 0
-AsksLinks meant before after = AsksEach meant before.keeper before.input before.links after.links
+AsksLinks meant before after = AsksEach meant (lent_in before) (lent_in after)
 
 -- where the words mean something of which nothing is refused, and no count rises, the status is 0 or 5, or 3 or 6 where a link is asked, or 2
 -- where the input isn't told

@@ -4,12 +4,13 @@ pub mod World
 pub mod Printed
 -- what a command gives: its text, or what is left
 pub mod Reading
+-- what a command leaves of the keeper
+pub mod Keeping
 -- what stops a command
 pub mod Stops
--- the schema's file, the table file, and the leaf that a FIELD names
+-- the file that a command names, and the leaf that a FIELD names
 pub mod KeeperFile
-pub mod SchemaFile
-pub mod TableFile
+pub mod NamedFile
 pub mod Fields
 -- what was read of the records of the input
 pub mod Records

@@ -4,10 +4,11 @@ use Rattle.dr_outside.specs.Source.{SourceShown}
 use Rattle.dr_outside.specs.Sink.{SinkShown}
 use Rattle.dr_outside.specs.Link.{LinkShown, Files}
 use Rattle.dr_formats.specs.Loading.{Put}
+use Rattle.dr_reading.specs.Held.{Held, untold, absent, present, held_at}
 use Rattle.dr_commands.specs.Refusals.{Refusal}
 use Rattle.dr_input.specs.Whole.{whole_lines}
 use Rattle.dr_input.specs.Taken.{WhereGiven, WhereTold}
-use Rattle.dr_commands.specs.Meaning.{Look, Meaning, Outcome, refused, IsEarly}
+use Rattle.dr_commands.specs.Meaning.{Meaning, Outcome, refused, IsEarly}
 
 -- what each thing outside shows at one moment
 pub record World : Type 0 where
@@ -20,38 +21,87 @@ pub record World : Type 0 where
 abbrev pub world : SourceShown → SinkShown → SinkShown → LinkShown → List LinkShown → World
 world input out err keeper links = record { input = input; out = out; err = err; keeper = keeper; links = links }
 
+-- what a command is lent of that
+pub record Lent : Type 0 where
+  pub input : SourceShown
+  pub keeper : LinkShown
+  pub links : List LinkShown
+
+abbrev pub lent : SourceShown → LinkShown → List LinkShown → Lent
+lent input keeper links = record { input = input; keeper = keeper; links = links }
+
+abbrev pub lent_in : World → Lent
+lent_in w = lent w.input w.keeper w.links
+
 -- ---- what is told
 
--- P holds of what is told where it is used; where it isn't used, of this in its place
-abbrev pub WhereUsed : {A : Type 0} → Bool → A → Option A → (A → Type 0) → Type 0
-WhereUsed false unused told P = P unused
-WhereUsed true unused told P = WhereTold told P
+-- what is told of the file that is read at a path; where none is read, it has no bytes
+abbrev pub told_file : Option (List ℕ) → Option Files → Held
+told_file None held = present []
+told_file (Some path) held = held_at held path
 
--- P holds of which bytes the file has, where the keeper tells; where no file is read, of none
-abbrev pub WhereFile : Option (List ℕ) → Option Files → ((List ℕ → Type 0) → Type 0) → Type 0
-WhereFile None held P = P (λ file. file ≡ [])
-WhereFile (Some path) held P = WhereTold held (λ files. P (λ file. files path ≡ Some file))
+-- what the keeper tells of the file that a command names
+abbrev pub file_of : Meaning → LinkShown → Held
+file_of m keeper = told_file m.file keeper.held
 
--- the file that the command names is there, and P holds of the command's outcome on it and on the input, where these are told
-abbrev pub WithOutcome : Meaning → LinkShown → SourceShown → (Outcome → Type 0) → Type 0
-WithOutcome m keeper input P = WhereFile m.file keeper.held (λ IsIt. WhereUsed m.reads_input [] input.left (λ bytes.
-    (file : List ℕ) × IsIt file × P (m.outcome (record { file = file; input = bytes }))))
+-- where the file is told, it is there, and P holds of its bytes
+abbrev pub WithFile : Held → (List ℕ → Type 0) → Type 0
+WithFile untold P = ⊤
+WithFile absent P = ⊥
+WithFile (present bytes) P = P bytes
+
+-- where the file is told and there, P holds of its bytes
+abbrev pub ForFile : Held → (List ℕ → Type 0) → Type 0
+ForFile untold P = ⊤
+ForFile absent P = ⊤
+ForFile (present bytes) P = P bytes
+
+-- the file that a command names has these bytes, where it is told
+abbrev pub IsFileOf : Meaning → LinkShown → List ℕ → Type 0
+IsFileOf m keeper bytes = WithFile (file_of m keeper) (λ told. told ≡ bytes)
+
+-- where the input is told, P holds of it; where it isn't read, of no bytes
+abbrev pub ForInput : Bool → Option (List ℕ) → (List ℕ → Type 0) → Type 0
+ForInput false left P = P []
+ForInput true left P = WhereTold left P
+
+-- ---- what a command comes to
+
+-- the outcome on this file and this input
+abbrev pub outcome_on : Meaning → List ℕ → List ℕ → Outcome
+outcome_on m file input = m.outcome (record { file = file; input = input })
+
+-- the file that the command names is there, and P holds of the outcome on it and on the input, where these are told
+abbrev pub WithOutcome : Meaning → Lent → (Outcome → Type 0) → Type 0
+WithOutcome m w P = WithFile (file_of m w.keeper) (λ file. ForInput m.reads_input w.input.left (λ input. P (outcome_on m file input)))
 
 -- P holds of it where the file is there
-abbrev pub ForOutcome : Meaning → LinkShown → SourceShown → (Outcome → Type 0) → Type 0
-ForOutcome m keeper input P = WhereFile m.file keeper.held (λ IsIt. WhereUsed m.reads_input [] input.left (λ bytes.
-    (file : List ℕ) → IsIt file → P (m.outcome (record { file = file; input = bytes }))))
-
--- the command has this outcome
-abbrev pub HasOutcome : Meaning → LinkShown → SourceShown → Outcome → Type 0
-HasOutcome m keeper input o = WithOutcome m keeper input (λ x. x ≡ o)
+abbrev pub ForOutcome : Meaning → Lent → (Outcome → Type 0) → Type 0
+ForOutcome m w P = ForFile (file_of m w.keeper) (λ file. ForInput m.reads_input w.input.left (λ input. P (outcome_on m file input)))
 
 -- whatever the input, nothing that comes before it is refused
-abbrev pub IsOpened : Meaning → LinkShown → Type 0
-IsOpened m keeper = WhereFile m.file keeper.held (λ IsIt. (file : List ℕ) × IsIt file
-    × ((look : Look) (r : Refusal) (puts : List Put) → look.file ≡ file → IsEarly r → m.outcome look ≡ refused r puts → ⊥))
+abbrev pub Opens : (List ℕ → Outcome) → Type 0
+Opens on = (input : List ℕ) (r : Refusal) (puts : List Put) → IsEarly r → on input ≡ refused r puts → ⊥
 
--- so of an input that is read; nothing is said where none is
+-- whatever the input, this is refused, and nothing is put
+abbrev pub RefusesAlways : (List ℕ → Outcome) → Refusal → Type 0
+RefusesAlways on r = (input : List ℕ) → on input ≡ refused r []
+
+-- of the whole lines alone that the source gave of the input, nothing is refused
+abbrev pub Accepts : (List ℕ → Outcome) → SourceShown → SourceShown → Type 0
+Accepts on input input_now = WhereGiven input.left input_now.left (λ read. (r : Refusal) (puts : List Put) → on (whole_lines read) ≡ refused r puts → ⊥)
+
+-- so of a command on the file that it names
+abbrev pub IsOpened : Meaning → LinkShown → Type 0
+IsOpened m keeper = WithFile (file_of m keeper) (λ file. Opens (outcome_on m file))
+
+abbrev pub RefusesEarly : Meaning → LinkShown → Refusal → Type 0
+RefusesEarly m keeper r = WithFile (file_of m keeper) (λ file. RefusesAlways (outcome_on m file) r)
+
+abbrev pub AcceptsWhole : Meaning → Lent → Lent → Type 0
+AcceptsWhole m before after = WithFile (file_of m before.keeper) (λ file. Accepts (outcome_on m file) before.input after.input)
+
+-- and of an input that is read; nothing is said where none is
 abbrev pub IsOpenedBy : Bool → Meaning → LinkShown → Type 0
 IsOpenedBy false m keeper = ⊤
 IsOpenedBy true m keeper = IsOpened m keeper
@@ -59,21 +109,7 @@ IsOpenedBy true m keeper = IsOpened m keeper
 abbrev pub OpensInput : Meaning → LinkShown → Type 0
 OpensInput m keeper = IsOpenedBy m.reads_input m keeper
 
--- whatever the input, the command has this refusal, and puts nothing
-abbrev pub RefusesEarly : Meaning → LinkShown → Refusal → Type 0
-RefusesEarly m keeper r = WhereFile m.file keeper.held (λ IsIt. (file : List ℕ) × IsIt file
-    × ((look : Look) → look.file ≡ file → m.outcome look ≡ refused r []))
-
--- of the file, and of the whole lines alone that the source gave of the input, the command refuses nothing
-abbrev pub AcceptsWhole : Meaning → LinkShown → SourceShown → SourceShown → Type 0
-AcceptsWhole m keeper input input_now = WhereFile m.file keeper.held (λ IsIt. WhereGiven input.left input_now.left (λ read.
-    (file : List ℕ) × IsIt file
-    × ((r : Refusal) (puts : List Put) → m.outcome (record { file = file; input = whole_lines read }) ≡ refused r puts → ⊥)))
-
--- P holds of the first link
-abbrev pub WithFirst : List LinkShown → (LinkShown → Type 0) → Type 0
-WithFirst [] P = ⊤
-WithFirst (l ∷ ls) P = P l
+-- ---- links
 
 -- P holds of the first link, before and after
 abbrev pub WithFirsts : List LinkShown → List LinkShown → (LinkShown → LinkShown → Type 0) → Type 0

@@ -1,12 +1,13 @@
 //! The commands: what each answers.
 
-ghost use Rattle.std.specs.Prelude.{◌≡◌, ◌≢◌, ◌≤◌, length, Err, false, map, string_bytes, IfOk, IfErr, OnOk};
-ghost use Rattle.dr_commands.specs.Commands.{Taken, meaning_of, meant};
-ghost use Rattle.dr_commands.specs.CommandView.{command_view};
+ghost use Rattle.std.specs.Prelude.{◌≡◌, ◌≢◌, ◌≤◌, length, Err, None, Some, MatchOption, IfSome, false, map, string_bytes, IfOk, IfErr, OnOk};
+ghost use Rattle.dr_commands.specs.Commands.{Taken, meaning_of, meant, command_view};
+ghost use Rattle.dr_top.specs.NamedFile.{RefusesLonger};
 ghost use Rattle.dr_top.specs.Printed.{printed};
-ghost use Rattle.dr_top.specs.World.{ForOutcome, WithEach};
-ghost use Rattle.dr_top.specs.Stops.{IsUnput, StopsWith, IsReadBy};
-ghost use Rattle.dr_top.specs.Answers.{Finishes, StopsMeant, AsksFor, AsksMeant, LeavesUnread, LeavesUnput, LeavesUnasked, LeavesLinksBy, AsksEach, AsksLink};
+ghost use Rattle.dr_top.specs.World.{IsFileOf, lent};
+ghost use Rattle.dr_top.specs.Keeping.{IsUnput};
+ghost use Rattle.dr_top.specs.Stops.{StopsWith, IsReadBy};
+ghost use Rattle.dr_top.specs.Answers.{Finishes, StopsMeant, AsksMeant, LeavesUnread, LeavesUnput, LeavesUnasked, LeavesLinksBy, AsksEach};
 ghost use Rattle.dr_top.specs.Ends.{ForMeant};
 
 mod ask;
@@ -20,6 +21,7 @@ mod show_schema;
 mod stripe;
 mod trial;
 
+use crate::named_file::{Kind, read_named};
 use crate::output::Output;
 use crate::stop::Stop;
 use dr_commands::{Command, read_words};
@@ -28,46 +30,70 @@ use std::alloc::Global;
 use std::sync::Wait;
 use std::thread::Threads;
 
-/// What a command prints.
+/// The path of the file that a command names, if it names one, and what that is read as.
+pub fn named_file(command: &Command) -> Option<(&str, Kind)>
+    ensures path { MatchOption result ((meaning_of (command_view command.now)).file ≡ None)
+        (λ n. (meaning_of (command_view command.now)).file ≡ Some n.0.now) }
+    ensures longer { IfSome result (λ n. RefusesLonger (meaning_of (command_view command.now)) n.1) }
+{
+    match command {
+        Command::Load(load) => Some((load.schema.as_str(), Kind::Schema)),
+        Command::Query(query) => Some((query.table.as_str(), Kind::Table)),
+        Command::Ask(ask) => Some((ask.schema.as_str(), Kind::Schema)),
+        Command::Dump(dump) => Some((dump.table.as_str(), Kind::Table)),
+        Command::Stripe(stripe) => Some((stripe.schema.as_str(), Kind::Schema)),
+        Command::Fsm(fsm) => Some((fsm.schema.as_str(), Kind::Schema)),
+        Command::ShowSchema(_) => None,
+        Command::Explain(explain) => Some((explain.schema.as_str(), Kind::Schema)),
+        Command::Gen(_) => None,
+        Command::Trial(_) => None,
+    }
+}
+
+/// What a command prints, of the file that it names.
 ///
 /// Errors: its first refusal; the keeper or the source failed; what is left; want of memory.
 fn command_answer<R: Threads + Wait + Sync, S: Source, K: Keeper, L: Link + Send>(
     rt: &R,
     alloc: Global,
     command: &Command,
+    file: &[u8],
     source: &mut S,
     keeper: &mut K,
     links: &mut [L],
 ) -> Result<Output, Stop>
     requires links { 16 ≤ length links.old }
-    ensures text { IfOk result (λ t. Finishes (meaning_of (command_view command.now)) (K.shows keeper.old)
-        (K.shows keeper.new) (S.shows source.old) (map L.shows links.old) (map L.shows links.new) (printed t)) }
+    requires file { IsFileOf (meaning_of (command_view command.now)) (K.shows keeper.old) file.now }
+    ensures text { IfOk result (λ t. Finishes (meaning_of (command_view command.now))
+        (lent (S.shows source.old) (K.shows keeper.old) (map L.shows links.old))
+        (lent (S.shows source.new) (K.shows keeper.new) (map L.shows links.new)) (printed t)) }
     ensures read { OnOk result (IsReadBy (meaning_of (command_view command.now)).reads_input (S.shows source.old)
         (S.shows source.new)) }
     ensures source_calm { OnOk result ((S.shows source.new).faults ≡ (S.shows source.old).faults) }
     ensures keeper_calm { OnOk result ((K.shows keeper.new).faults ≡ (K.shows keeper.old).faults) }
-    ensures stops { IfErr result (StopsWith (meaning_of (command_view command.now)) (K.shows keeper.old)
-        (K.shows keeper.new) (S.shows source.old) (S.shows source.new) (map L.shows links.old)
-        (map L.shows links.new)) }
+    ensures stops { IfErr result (StopsWith (meaning_of (command_view command.now))
+        (lent (S.shows source.old) (K.shows keeper.old) (map L.shows links.old))
+        (lent (S.shows source.new) (K.shows keeper.new) (map L.shows links.new))) }
     ensures kept { (meaning_of (command_view command.now)).puts_files ≡ false
         → IsUnput (K.shows keeper.old) (K.shows keeper.new) }
-    ensures asks { AsksFor (meaning_of (command_view command.now)).file (K.shows keeper.old) (K.shows keeper.new) }
+    ensures asked { (K.shows keeper.new).asked ≡ (K.shows keeper.old).asked }
     ensures unread { (meaning_of (command_view command.now)).reads_input ≡ false → S.shows source.new
         ≡ S.shows source.old }
     ensures links { LeavesLinksBy (meaning_of (command_view command.now)).links (map L.shows links.old)
         (map L.shows links.new) }
-    ensures reads { ForOutcome (meaning_of (command_view command.now)) (K.shows keeper.old) (S.shows source.old)
-        (λ o. WithEach (map L.shows links.old) (map L.shows links.new) (AsksLink o)) }
+    ensures reads { AsksEach (Some (meaning_of (command_view command.now)))
+        (lent (S.shows source.old) (K.shows keeper.old) (map L.shows links.old))
+        (lent (S.shows source.new) (K.shows keeper.new) (map L.shows links.new)) }
 {
     match command {
-        Command::Load(load) => load::answer(alloc, load, source, keeper),
-        Command::Query(query) => query::answer(rt, alloc, query, keeper, links),
-        Command::Ask(ask) => ask::answer(rt, alloc, ask, source, keeper),
-        Command::Dump(dump) => dump::answer(alloc, dump, keeper, &mut links[0]),
-        Command::Stripe(stripe) => stripe::answer(alloc, stripe, source, keeper),
-        Command::Fsm(fsm) => fsm::answer(alloc, fsm, keeper),
+        Command::Load(load) => load::answer(alloc, load, file, source, keeper),
+        Command::Query(query) => query::answer(rt, alloc, query, file, links),
+        Command::Ask(ask) => ask::answer(rt, alloc, ask, file, source),
+        Command::Dump(dump) => dump::answer(alloc, dump, file, &mut links[0]),
+        Command::Stripe(stripe) => stripe::answer(alloc, stripe, file, source),
+        Command::Fsm(fsm) => fsm::answer(alloc, fsm, file),
         Command::ShowSchema(show) => show_schema::answer(alloc, show, &mut links[0]),
-        Command::Explain(explain) => explain::answer(alloc, explain, keeper),
+        Command::Explain(explain) => explain::answer(alloc, explain, file),
         Command::Gen(values) => gen_lines::answer(alloc, values),
         Command::Trial(trial) => trial::answer(rt, alloc, trial),
     }
@@ -86,24 +112,26 @@ pub fn answer<R: Threads + Wait + Sync, S: Source, K: Keeper, L: Link + Send>(
     links: &mut [L],
 ) -> Result<Output, Stop>
     requires links { 16 ≤ length links.old }
-    ensures text { IfOk result (λ t. ForMeant (meant (map string_bytes words.now))
-        (λ m. Finishes m (K.shows keeper.old) (K.shows keeper.new) (S.shows source.old) (map L.shows links.old)
-        (map L.shows links.new) (printed t))) }
+    ensures text { IfOk result (λ t. ForMeant (meant (map string_bytes words.now)) (λ m. Finishes m
+        (lent (S.shows source.old) (K.shows keeper.old) (map L.shows links.old))
+        (lent (S.shows source.new) (K.shows keeper.new) (map L.shows links.new)) (printed t))) }
     ensures read { OnOk result (ForMeant (meant (map string_bytes words.now))
         (λ m. IsReadBy m.reads_input (S.shows source.old) (S.shows source.new))) }
     ensures source_calm { OnOk result ((S.shows source.new).faults ≡ (S.shows source.old).faults) }
     ensures keeper_calm { OnOk result ((K.shows keeper.new).faults ≡ (K.shows keeper.old).faults) }
-    ensures stops { IfErr result (StopsMeant (meant (map string_bytes words.now)) (K.shows keeper.old)
-        (K.shows keeper.new) (S.shows source.old) (S.shows source.new) (map L.shows links.old)
-        (map L.shows links.new)) }
+    ensures stops { IfErr result (StopsMeant (meant (map string_bytes words.now))
+        (lent (S.shows source.old) (K.shows keeper.old) (map L.shows links.old))
+        (lent (S.shows source.new) (K.shows keeper.new) (map L.shows links.new))) }
     ensures kept { LeavesUnput (meant (map string_bytes words.now)) (K.shows keeper.old) (K.shows keeper.new) }
     ensures asks { AsksMeant (meant (map string_bytes words.now)) (K.shows keeper.old) (K.shows keeper.new) }
     ensures taken { Taken (map string_bytes words.now) → result ≢ Err Stop.Usage }
     ensures unread { LeavesUnread (meant (map string_bytes words.now)) (S.shows source.old) (S.shows source.new) }
     ensures links { LeavesUnasked (meant (map string_bytes words.now)) (map L.shows links.old) (map L.shows links.new) }
-    ensures reads { AsksEach (meant (map string_bytes words.now)) (K.shows keeper.old) (S.shows source.old)
-        (map L.shows links.old) (map L.shows links.new) }
+    ensures reads { AsksEach (meant (map string_bytes words.now))
+        (lent (S.shows source.old) (K.shows keeper.old) (map L.shows links.old))
+        (lent (S.shows source.new) (K.shows keeper.new) (map L.shows links.new)) }
 {
     let command = read_words(alloc, words)?;
-    command_answer(rt, alloc, &command, source, keeper, links)
+    let file = read_named(alloc, &command, keeper)?;
+    command_answer(rt, alloc, &command, &file, source, keeper, links)
 }

@@ -4,7 +4,7 @@ ghost use Rattle.std.specs.Prelude.{◌≡◌, ◌≢◌, ◌<◌, ◌^◌, Err,
 ghost use Rattle.dr_outside.specs.Faults.{raised};
 ghost use Rattle.dr_outside.specs.Link.{Holds};
 ghost use Rattle.dr_top.specs.KeeperFile.{IsFile, IsLongFile};
-ghost use Rattle.dr_top.specs.Stops.{IsUnput, AsksForFile};
+ghost use Rattle.dr_top.specs.Keeping.{IsUnput, AsksForFile};
 
 use dr_outside::{Fault, Keeper};
 use std::alloc::Global;

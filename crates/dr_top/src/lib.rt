@@ -7,14 +7,13 @@ mod fields;
 mod keeper_file;
 mod laws;
 mod left_file;
+mod named_file;
 mod output;
 mod refusal;
 mod report;
 mod running;
-mod schema_file;
 mod service;
 mod stop;
-mod table_file;
 
 pub use laws::{gen_refuses_nothing, served_prints_meaning};
 pub use running::run;

@@ -2,12 +2,10 @@
 
 ghost use Rattle.std.specs.Prelude.{◌≡◌};
 ghost use Rattle.dr_top.specs.declared.stop.Stop.TheVariants as stops;
-ghost use Rattle.dr_top.specs.Stops.{words_stop, schema_stop, schema_file_stop, table_file_stop, words_problem_stop, field_stop, query_stop, input_stop, load_stop, file_stop};
+ghost use Rattle.dr_top.specs.Stops.{words_stop, schema_stop, table_stop, keeper_stop, words_problem_stop, field_stop, query_stop, input_stop, load_stop, file_stop};
 
 use crate::field::FieldFault;
 use crate::refusal::Refusal;
-use crate::schema_file::SchemaFileFault;
-use crate::table_file::TableFileFault;
 use dr_bind::QueryFault;
 use dr_commands::WordsFault;
 use dr_file::FileFault;
@@ -15,7 +13,8 @@ use dr_input::{InputFault, LineProblem};
 use dr_load::{LoadFault, WordsProblem};
 use dr_memory::NoMemory;
 use dr_nested::SchemaFault;
-use dr_outside::Cause;
+use dr_outside::{Cause, Fault};
+use dr_table::TableFault;
 use dr_tablets::LeftTablet;
 
 /// Why a command doesn't give its whole text.
@@ -70,28 +69,25 @@ impl From<SchemaFault> for Stop {
     }
 }
 
-impl From<SchemaFileFault> for Stop {
-    ghost from_gives = { λ fault stop. stop ≡ schema_file_stop fault };
+impl From<TableFault> for Stop {
+    ghost from_gives = { λ fault stop. stop ≡ table_stop fault };
 
-    fn from(fault: SchemaFileFault) -> Stop {
+    fn from(fault: TableFault) -> Stop {
         match fault {
-            SchemaFileFault::NoMemory => Stop::NoMemory,
-            SchemaFileFault::Keeper => Stop::Keeper,
-            SchemaFileFault::Refused { offset, problem } => {
-                Stop::Refused(Refusal::Schema { offset, problem })
-            }
+            TableFault::NoMemory => Stop::NoMemory,
+            TableFault::Refused(problem) => Stop::Refused(Refusal::Table(problem)),
         }
     }
 }
 
-impl From<TableFileFault> for Stop {
-    ghost from_gives = { λ fault stop. stop ≡ table_file_stop fault };
+/// The fault of a call of the keeper.
+impl From<Fault> for Stop {
+    ghost from_gives = { λ fault stop. stop ≡ keeper_stop fault };
 
-    fn from(fault: TableFileFault) -> Stop {
+    fn from(fault: Fault) -> Stop {
         match fault {
-            TableFileFault::NoMemory => Stop::NoMemory,
-            TableFileFault::Keeper => Stop::Keeper,
-            TableFileFault::Refused(problem) => Stop::Refused(Refusal::Table(problem)),
+            Fault::Failed => Stop::Keeper,
+            Fault::NoMemory => Stop::NoMemory,
         }
     }
 }

@@ -2,25 +2,35 @@
 use Rattle.std.specs.Prelude.{◌≡◌, ◌≤◌, ◌<◌, ℕ, zero, suc, ◌+◌, ◌-◌, ◌++◌, List, [], ◌∷◌, map, length, take, drop, Box, Vec}
 use Rattle.std.specs.declared.alloc.Global.{Global}
 use Rattle.std.specs.List.{range_with_len}
-use Rattle.std.proofs.Common.{refl, sym, ap, ap₂, ◌∙◌, arith, append_assoc}
+use Rattle.std.proofs.Common.{refl, sym, ap, ap₂, ◌∙◌, arith, append_assoc, length-drop}
 use Rattle.std.proofs.lemmas.List.{map-append, take-map, drop-map}
 use Rattle.std.proofs.lemmas.List.FromFn.{map-range_with_len_more}
-use Rattle.dr_partials.specs.Trees.{Tree, leaf_server, intermediate_server, next_tree, Packed, pack, trees_of, grow, of_fan}
+use Rattle.dr_partials.specs.Trees.{Tree, leaf_server, intermediate_server, trees_of, Chunk, chunks_at_most, server_of, grow, of_fan}
 use Rattle.dr_tree.specs.Fan.{servers_of, all_grown}
 use Rattle.dr_tree.specs.Views.{tree_view, all_views}
 use Rattle.dr_tree.specs.declared.tree.Tree as code
 use Rattle.dr_tree.specs.declared.tree.Tree.TheVariants as variants
 use Rattle.dr_tree.proofs.ViewLemmas.{view-leaf, view-inner}
 
--- the server that is being filled takes the next trees, the others come behind it
-pub pack_more : (more room : ℕ) (ts : List Tree) → pack more room ts ≡ record { here = trees_of (take room ts); behind = servers_of more (drop room ts) }
-pack_more more zero [] = refl
-pack_more more (suc r) [] = refl
-pack_more more zero (t ∷ ts) = refl
-pack_more more (suc r) (t ∷ ts) = ap (λ (p : Packed). record { here = next_tree t p.here; behind = p.behind }) (pack_more more r ts)
+-- as many chunks as there are trees are enough
+enough_chunks : (most enough fan : ℕ) (ts : List Tree) → length ts ≤ most → length ts ≤ enough → chunks_at_most most fan ts ≡ chunks_at_most enough fan ts
+enough_chunks zero zero fan ts h k = refl
+enough_chunks zero (suc n) fan [] h k = refl
+enough_chunks zero (suc n) fan (t ∷ ts) h k = absurd (omega (arith, h))
+enough_chunks (suc m) zero fan [] h k = refl
+enough_chunks (suc m) zero fan (t ∷ ts) h k = absurd (omega (arith, k))
+enough_chunks (suc m) (suc n) fan [] h k = refl
+enough_chunks (suc m) (suc n) fan (t ∷ ts) h k =
+    let left = length-drop (fan - 1) ts in
+    ap (λ (cs : List Chunk). record { first = t; others = take (fan - 1) ts } ∷ cs)
+    (enough_chunks m n fan (drop (fan - 1) ts) (omega (arith, h, left)) (omega (arith, k, left)))
 
 pub servers_more : (more : ℕ) (t : Tree) (ts : List Tree) → servers_of more (t ∷ ts) ≡ intermediate_server t (trees_of (take more ts)) ∷ servers_of more (drop more ts)
-servers_more more t ts = ap (λ (p : Packed). intermediate_server t p.here ∷ p.behind) (pack_more more more ts)
+servers_more more t ts =
+    let e : suc more - 1 ≡ more = omega arith in
+    ap (λ k. intermediate_server t (trees_of (take k ts)) ∷ map server_of (chunks_at_most (length ts) (suc more) (drop k ts))) e
+    ∙ ap (λ cs. intermediate_server t (trees_of (take more ts)) ∷ map server_of cs)
+    (enough_chunks (length ts) (length (drop more ts)) (suc more) (drop more ts) (omega (arith, length-drop more ts)) (omega arith))
 
 -- several trees grow by a level
 pub grown_level : (k more : ℕ) (ts : List Tree) → 1 < length ts → all_grown (suc k) more ts ≡ all_grown k more (servers_of more ts)
@@ -35,11 +45,9 @@ grown_one k more (t ∷ []) h = refl
 grown_one k more (t ∷ u ∷ us) h = absurd (omega (arith, h))
 
 -- of all leaf servers grows the tree of the fan
-pub fan_grows : (n fan : ℕ) → 1 ≤ n → all_grown n (fan - 1) (map leaf_server (range_with_len 0 n)) ≡ of_fan n fan
+pub fan_grows : (n fan : ℕ) → 1 ≤ fan → all_grown n (fan - 1) (map leaf_server (range_with_len 0 n)) ≡ of_fan n fan
 unfolding of_fan
-fan_grows zero fan h = absurd (omega (arith, h))
-fan_grows (suc m) fan h = let e : suc m - 1 ≡ m = omega arith in
-    ap (λ k. grow (suc m) (fan - 1) (leaf_server 0) (map leaf_server (range_with_len 1 k))) (sym e)
+fan_grows n fan h = let e : suc (fan - 1) ≡ fan = omega (arith, h) in ap (λ k. grow n k (map leaf_server (range_with_len 0 n))) e
 
 -- ---- trees that are taken one after another
 

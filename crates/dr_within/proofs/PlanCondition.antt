@@ -1,13 +1,12 @@
 -- The tests of a plan, watched, are the condition of the query that it runs.
-use Rattle.std.proofs.Common.{◌≡◌, ℕ, zero, suc, List, [], ◌∷◌, map, Bool, true, false, ◌&&◌, Option, Some, None}
-use Rattle.std.proofs.Common.{refl, sym, ap, ap₂, subst, ◌∙◌, append-nil, append_assoc, true≢false}
+use Rattle.std.proofs.Common.{◌≡◌, ℕ, zero, suc, List, [], ◌∷◌, map, Bool, true, false, Option, Some, None}
+use Rattle.std.proofs.Common.{refl, sym, ap, subst, ◌∙◌, true≢false}
 use Rattle.std.specs.Prelude.{Ok, option_map}
 use Rattle.std.specs.List.{list_all, flat_map, slice_get}
-use Rattle.std.proofs.lemmas.List.Folds.{list_all-append}
 use Rattle.dr_meaning.specs.Schema.{Schema, Fields}
 use Rattle.dr_meaning.specs.Path.{Step, Leaf, paths_of_leaves, chain_end}
 use Rattle.dr_meaning.specs.Record.{Node, Instances, no_instances, instance, Instance, atom, inner, single, instances_at, put_at, is_record}
-use Rattle.dr_meaning.specs.Expression.{Expression, conjunction, evaluate, expression_chain, is_true, paths_of, longest_chain}
+use Rattle.dr_meaning.specs.Expression.{Expression, evaluate, expression_chain, is_true, paths_of, longest_chain}
 use Rattle.dr_meaning.specs.Kept.{with_kept, keep_each, if_some_kept, keep_below, keep_instance, kept, kept_along}
 use Rattle.dr_meaning.specs.Query.{Query}
 use Rattle.dr_meaning.specs.QueryLeaves.{query_leaves}
@@ -23,17 +22,17 @@ use Rattle.dr_put_laws.proofs.AlikeLemmas.{alike_conditions, constant_conditions
 use Rattle.dr_put_laws.proofs.ConditionLemmas.{condition_is_related}
 use Rattle.dr_put_laws.proofs.LastReadLemmas.{last_stands}
 use Rattle.dr_put_laws.proofs.LeavesInOrderLemmas.{query_leaves_in_order}
-use Rattle.dr_plan.specs.Conjuncts.{conjuncts, condition_conjuncts, joined, all_of}
+use Rattle.dr_plan.specs.Conjuncts.{condition_conjuncts, joined, all_of}
 use Rattle.dr_plan.specs.Fitting.{truth_fits}
 use Rattle.dr_plan.specs.Planned.{Planned, plan_view, plan_leaves, planned_query}
 use Rattle.dr_plan.specs.PlanOf.{IsPlanOf}
 use Rattle.dr_plan.specs.Views.{truth_view}
 use Rattle.dr_plan.specs.declared.expression.Truth.{Truth}
 use Rattle.dr_plan.specs.declared.plan.Plan.{Plan}
-use Rattle.dr_plan.proofs.ConjunctLemmas.{true_where_each_is, conjuncts_have_paths}
+use Rattle.dr_plan.proofs.ConjunctLemmas.{conjuncts_have_paths}
 use Rattle.dr_scalar.specs.Leaves.{greatest, tests_leaves}
 use Rattle.dr_scalar.specs.OverSlots.{tests_over}
-use Rattle.dr_scalar.specs.Tests.{all_true}
+use Rattle.dr_scalar.proofs.ConditionLemmas.{joined_paths, joined_true}
 use Rattle.dr_scalar.proofs.LeafPathLemmas.{test_leaves_are_paths}
 use Rattle.dr_scalar.proofs.SameReadLemmas.{same_test_leaves_tell}
 use Rattle.dr_scalar.proofs.TestLemmas.{tests_mean}
@@ -43,31 +42,6 @@ use Rattle.dr_within.proofs.GreatestLemmas.{same_greatest}
 use Rattle.dr_within.proofs.LeavesBelow.{are_below, test_leaves_below}
 use Rattle.dr_within.proofs.PartedLemmas.{no_greatest, constants_true, never_true}
 use Rattle.dr_within.proofs.ReadRows.{same_paths, below_paths, row_is_read, all_are_read, AreLeavesOf, plan_leaves_are, rows_typed}
-
--- ---- conjuncts, joined
-
-joined_paths : (e : Expression) (es : List Expression) → paths_of (joined e es) ≡ flat_map paths_of (e ∷ es)
-joined_paths e [] = sym (append-nil (paths_of e))
-joined_paths e (f ∷ fs) = joined_paths (conjunction e f) fs ∙ append_assoc (paths_of e) (paths_of f) (flat_map paths_of fs)
-
-and_assoc : (a b c : Bool) → ((a && b) && c) ≡ (a && (b && c))
-and_assoc true b c = refl
-and_assoc false b c = refl
-
-and_true : (b : Bool) → b ≡ (b && true)
-and_true true = refl
-and_true false = refl
-
-both_true : (e f : Expression) (row : Node) → is_true (evaluate (conjunction e f) row) ≡ (is_true (evaluate e row) && is_true (evaluate f row))
-both_true e f row =
-    true_where_each_is (conjunction e f) row ∙ (list_all-append (λ g. is_true (evaluate g row)) (conjuncts e) (conjuncts f)
-    ∙ ap₂ ◌&&◌ (sym (true_where_each_is e row)) (sym (true_where_each_is f row)))
-
-joined_true : (e : Expression) (es : List Expression) (row : Node) → is_true (evaluate (joined e es) row) ≡ all_true (e ∷ es) row
-joined_true e [] row = and_true (is_true (evaluate e row))
-joined_true e (f ∷ fs) row =
-    joined_true (conjunction e f) fs row
-    ∙ (ap (λ b. b && all_true fs row) (both_true e f row) ∙ and_assoc (is_true (evaluate e row)) (is_true (evaluate f row)) (all_true fs row))
 
 -- ---- their leaves
 

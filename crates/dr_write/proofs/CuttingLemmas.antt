@@ -224,7 +224,7 @@ few_by : (v : Option Value) (vs : List Value) (n : ℕ) → length vs ≤ n → 
 few_by None vs n h = omega (arith, h)
 few_by (Some v) vs n h = omega (arith, h)
 
-values_few : (ts : List Triplet) → length (column_values ts) ≤ length ts
+pub values_few : (ts : List Triplet) → length (column_values ts) ≤ length ts
 values_few [] = omega arith
 values_few (t ∷ ts) = few_by t.value (column_values ts) (length ts) (values_few ts)
 

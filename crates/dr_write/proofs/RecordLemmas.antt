@@ -11,6 +11,7 @@ use Rattle.dr_meaning.specs.OneColumn.{begins_record}
 use Rattle.dr_meaning.proofs.Blocks.{IsAbove, IsBlock, block-instance}
 use Rattle.dr_formats.specs.File.{magic}
 use Rattle.dr_formats.specs.Metadata.{RowGroup}
+use Rattle.dr_formats.specs.Page.{PageForm}
 use Rattle.dr_formats.specs.Writing.{cut_pages, pages_bytes, record_columns, written_chunk, triplet_count, chunk_at, WrittenChunks, put_chunk, chunks_from, written_chunks, groups_of, written_footer, file_bytes}
 use Rattle.dr_formats.proofs.ColumnsFit.{EachLeaf}
 use Rattle.dr_formats.proofs.ColumnRows.{leaf_paths, column_rows}
@@ -43,45 +44,45 @@ count_same l (n ∷ R) = length-append (record_column l.path n) (column l.path R
 
 -- ---- chunks
 
-pages_same : (l : Leaf) (ps : List (List Triplet)) → pages_of l.kind (max_repetition l.path) (max_definition l.path) ps ≡ pages_bytes l ps
-pages_same l [] = refl
-pages_same l (p ∷ ps) = ap (λ (x : List ℕ). page_of l.kind (max_repetition l.path) (max_definition l.path) p ++ x) (pages_same l ps)
+pages_same : (form : PageForm) (l : Leaf) (ps : List (List Triplet)) → pages_of form l.kind (max_repetition l.path) (max_definition l.path) ps ≡ pages_bytes form l ps
+pages_same form l [] = refl
+pages_same form l (p ∷ ps) = ap (λ (x : List ℕ). page_of form l.kind (max_repetition l.path) (max_definition l.path) p ++ x) (pages_same form l ps)
 
-chunk_same : (fs : Fields) (l : Leaf) (R : List Node) → is_leaf_path fs l.path ≡ true → list_all (is_record fs) R ≡ true → leaf_chunk (written_leaf l) (column l.path R) ≡ written_chunk l R
-chunk_same fs l R h v = ap (λ (cs : List (List Triplet)). pages_of l.kind (max_repetition l.path) (max_definition l.path) (cut_pages l.kind [] cs)) (records_same fs l.path R h v) ∙ pages_same l (cut_pages l.kind [] (record_columns l R))
+chunk_same : (form : PageForm) (fs : Fields) (l : Leaf) (R : List Node) → is_leaf_path fs l.path ≡ true → list_all (is_record fs) R ≡ true → leaf_chunk form (written_leaf l) (column l.path R) ≡ written_chunk form l R
+chunk_same form fs l R h v = ap (λ (cs : List (List Triplet)). pages_of form l.kind (max_repetition l.path) (max_definition l.path) (cut_pages l.kind [] cs)) (records_same fs l.path R h v) ∙ pages_same form l (cut_pages l.kind [] (record_columns l R))
 
 abbrev one_chunk : Leaf → ℕ → List ℕ → ℕ → (ℕ → WrittenChunks) → WrittenChunks
 one_chunk l place bytes count rest = put_chunk bytes (column_chunk (written_leaf l) count place (length bytes)) (rest (place + length bytes))
 
-chunks_same : (fs : Fields) (R : List Node) (ls : List Leaf) (place : ℕ) → list_all (is_record fs) R ≡ true → EachLeaf (λ l. is_leaf_path fs l.path ≡ true) ls
-    → chunks_of (map written_leaf ls) (map (λ (l : Leaf). column l.path R) ls) place ≡ chunks_from R ls place
-chunks_same fs R [] place v h = refl
-chunks_same fs R (l ∷ ls) place v h =
-    let rest : ℕ → WrittenChunks = chunks_of (map written_leaf ls) (map (λ (x : Leaf). column x.path R) ls) in
-    ap₂ (λ (b : List ℕ) (n : ℕ). one_chunk l place b n rest) (chunk_same fs l R h.0 v) (count_same l R)
-    ∙ ap (λ (w : WrittenChunks). put_chunk (written_chunk l R) (chunk_at l R place (length (written_chunk l R))) w) (chunks_same fs R ls (place + length (written_chunk l R)) v h.1)
+chunks_same : (form : PageForm) (fs : Fields) (R : List Node) (ls : List Leaf) (place : ℕ) → list_all (is_record fs) R ≡ true → EachLeaf (λ l. is_leaf_path fs l.path ≡ true) ls
+    → chunks_of form (map written_leaf ls) (map (λ (l : Leaf). column l.path R) ls) place ≡ chunks_from form R ls place
+chunks_same form fs R [] place v h = refl
+chunks_same form fs R (l ∷ ls) place v h =
+    let rest : ℕ → WrittenChunks = chunks_of form (map written_leaf ls) (map (λ (x : Leaf). column x.path R) ls) in
+    ap₂ (λ (b : List ℕ) (n : ℕ). one_chunk l place b n rest) (chunk_same form fs l R h.0 v) (count_same l R)
+    ∙ ap (λ (w : WrittenChunks). put_chunk (written_chunk form l R) (chunk_at l R place (length (written_chunk form l R))) w) (chunks_same form fs R ls (place + length (written_chunk form l R)) v h.1)
 
 -- ---- the file
 
-rows_chunks : (s : Schema) (R : List Node) → list_all (is_record s.fields) R ≡ true → chunks_in_rows (length R) (map written_leaf (leaves s.fields)) (map (λ (l : Leaf). column l.path R) (leaves s.fields)) 4 ≡ written_chunks s R
-rows_chunks s [] v = refl
-rows_chunks s (n ∷ R) v = chunks_same s.fields (n ∷ R) (leaves s.fields) 4 v (leaf_paths s.fields)
+rows_chunks : (form : PageForm) (s : Schema) (R : List Node) → list_all (is_record s.fields) R ≡ true → chunks_in_rows form (length R) (map written_leaf (leaves s.fields)) (map (λ (l : Leaf). column l.path R) (leaves s.fields)) 4 ≡ written_chunks form s R
+rows_chunks form s [] v = refl
+rows_chunks form s (n ∷ R) v = chunks_same form s.fields (n ∷ R) (leaves s.fields) 4 v (leaf_paths s.fields)
 
-rows_groups : (s : Schema) (R : List Node) → groups_in_rows (length R) (written_chunks s R) ≡ groups_of s R
-rows_groups s [] = refl
-rows_groups s (n ∷ R) = refl
+rows_groups : (form : PageForm) (s : Schema) (R : List Node) → groups_in_rows (length R) (written_chunks form s R) ≡ groups_of form s R
+rows_groups form s [] = refl
+rows_groups form s (n ∷ R) = refl
 
 -- what is written part by part is the file of the records
-pub file_is_written : (s : Schema) (R : List Node) (ls : List WrittenLeaf) (cs : List (List Triplet)) (n rows : ℕ) (begun chunked out : List ℕ) (gs : List RowGroup)
+pub file_is_written : (form : PageForm) (s : Schema) (R : List Node) (ls : List WrittenLeaf) (cs : List (List Triplet)) (n rows : ℕ) (begun chunked out : List ℕ) (gs : List RowGroup)
     → ls ≡ map written_leaf (leaves s.fields) → HaveColumns s R cs → length R ≡ rows → n ≡ rows → begun ≡ magic
-    → chunked ≡ begun ++ (chunks_in_rows n ls cs (length begun)).bytes → gs ≡ groups_in_rows n (chunks_in_rows n ls cs (length begun))
-    → out ≡ chunked ++ file_end (footer_of s n gs) → out ≡ file_bytes s R
+    → chunked ≡ begun ++ (chunks_in_rows form n ls cs (length begun)).bytes → gs ≡ groups_in_rows n (chunks_in_rows form n ls cs (length begun))
+    → out ≡ chunked ++ file_end (footer_of s n gs) → out ≡ file_bytes form s R
 unfolding file_bytes
-file_is_written s R ls cs n rows begun chunked out gs el h er en em ec eg eo =
+file_is_written form s R ls cs n rows begun chunked out gs el h er en em ec eg eo =
     let c : n ≡ length R = en ∙ sym er in
-    let w : chunks_in_rows n ls cs (length begun) ≡ written_chunks s R =
-    ap₂ (λ (x : ℕ) (b : List ℕ). chunks_in_rows x ls cs (length b)) c em ∙ (ap₂ (λ (xs : List WrittenLeaf) (ys : List (List Triplet)). chunks_in_rows (length R) xs ys 4) el h.1 ∙ rows_chunks s R h.0) in
-    let g : gs ≡ groups_of s R = eg ∙ (ap₂ groups_in_rows c w ∙ rows_groups s R) in
-    let f : footer_of s n gs ≡ written_footer s R = ap₂ (footer_of s) c g in
-    let b : chunked ≡ magic ++ (written_chunks s R).bytes = ec ∙ ap₂ (λ (x : List ℕ) (y : WrittenChunks). x ++ y.bytes) em w in
-    eo ∙ (ap₂ (λ (x y : List ℕ). x ++ file_end y) b f ∙ append_assoc magic (written_chunks s R).bytes (file_end (written_footer s R)))
+    let w : chunks_in_rows form n ls cs (length begun) ≡ written_chunks form s R =
+    ap₂ (λ (x : ℕ) (b : List ℕ). chunks_in_rows form x ls cs (length b)) c em ∙ (ap₂ (λ (xs : List WrittenLeaf) (ys : List (List Triplet)). chunks_in_rows form (length R) xs ys 4) el h.1 ∙ rows_chunks form s R h.0) in
+    let g : gs ≡ groups_of form s R = eg ∙ (ap₂ groups_in_rows c w ∙ rows_groups form s R) in
+    let f : footer_of s n gs ≡ written_footer form s R = ap₂ (footer_of s) c g in
+    let b : chunked ≡ magic ++ (written_chunks form s R).bytes = ec ∙ ap₂ (λ (x : List ℕ) (y : WrittenChunks). x ++ y.bytes) em w in
+    eo ∙ (ap₂ (λ (x y : List ℕ). x ++ file_end y) b f ∙ append_assoc magic (written_chunks form s R).bytes (file_end (written_footer form s R)))

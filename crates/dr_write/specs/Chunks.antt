@@ -4,9 +4,10 @@ use Rattle.std.specs.List.{list_all}
 use Rattle.dr_meaning.specs.Schema.{Kind}
 use Rattle.dr_meaning.specs.Path.{Leaf, max_repetition, max_definition}
 use Rattle.dr_meaning.specs.Column.{Triplet}
-use Rattle.dr_formats.specs.Metadata.{ColumnChunk, RowGroup}
-use Rattle.dr_formats.specs.Page.{is_triplet, body_bytes}
-use Rattle.dr_formats.specs.Writing.{cut_pages, header_and_body, type_from, WrittenChunks, put_chunk, written_groups}
+use Rattle.dr_formats.specs.Compact.{struct_bytes}
+use Rattle.dr_formats.specs.Metadata.{ColumnChunk, RowGroup, page_tree}
+use Rattle.dr_formats.specs.Page.{PageForm, is_triplet, body_bytes}
+use Rattle.dr_formats.specs.Writing.{cut_pages, header_of_page, type_from, WrittenChunks, put_chunk, written_groups}
 use Rattle.dr_levels.specs.declared.column.Column.{Column}
 use Rattle.dr_levels.specs.Views.{column_view, column_form, form}
 use Rattle.dr_write.specs.Cutting.{records_of}
@@ -21,21 +22,21 @@ pub record WrittenLeaf : Type 0 where
 abbrev pub written_leaf : Leaf → WrittenLeaf
 written_leaf l = record { names = l.names; kind = l.kind; max_repetition = max_repetition l.path; max_definition = max_definition l.path }
 
--- a page of a leaf of this kind with these greatest levels
-abbrev pub page_of : Kind → ℕ → ℕ → List Triplet → List ℕ
-page_of k r d ts = header_and_body (length ts) (body_bytes k r d ts)
+-- a page of this form, of a leaf of this kind with these greatest levels
+abbrev pub page_of : PageForm → Kind → ℕ → ℕ → List Triplet → List ℕ
+page_of form k r d ts = struct_bytes (page_tree (header_of_page form r d ts (length (body_bytes form k r d ts)))) ++ body_bytes form k r d ts
 
 -- pages, one after another
-abbrev pub pages_of : Kind → ℕ → ℕ → List (List Triplet) → List ℕ
-pages_of k r d [] = []
-pages_of k r d (p ∷ ps) = page_of k r d p ++ pages_of k r d ps
+abbrev pub pages_of : PageForm → Kind → ℕ → ℕ → List (List Triplet) → List ℕ
+pages_of form k r d [] = []
+pages_of form k r d (p ∷ ps) = page_of form k r d p ++ pages_of form k r d ps
 
 -- the pages of a column
-abbrev pub chunk_of : Kind → ℕ → ℕ → List Triplet → List ℕ
-chunk_of k r d ts = pages_of k r d (cut_pages k [] (records_of ts))
+abbrev pub chunk_of : PageForm → Kind → ℕ → ℕ → List Triplet → List ℕ
+chunk_of form k r d ts = pages_of form k r d (cut_pages k [] (records_of ts))
 
-abbrev pub leaf_chunk : WrittenLeaf → List Triplet → List ℕ
-leaf_chunk l ts = chunk_of l.kind l.max_repetition l.max_definition ts
+abbrev pub leaf_chunk : PageForm → WrittenLeaf → List Triplet → List ℕ
+leaf_chunk form l ts = chunk_of form l.kind l.max_repetition l.max_definition ts
 
 -- the column chunk of a leaf with so many triplets, whose chunk has so many bytes at a place
 abbrev pub column_chunk : WrittenLeaf → ℕ → ℕ → ℕ → ColumnChunk
@@ -60,16 +61,16 @@ abbrev pub no_chunks : WrittenChunks
 no_chunks = record { bytes = []; columns = [] }
 
 -- the chunks of the columns of leaves from a place on
-abbrev pub chunks_of : List WrittenLeaf → List (List Triplet) → ℕ → WrittenChunks
-chunks_of [] cs place = no_chunks
-chunks_of (l ∷ ls) [] place = no_chunks
-chunks_of (l ∷ ls) (c ∷ cs) place =
-    put_chunk (leaf_chunk l c) (column_chunk l (length c) place (length (leaf_chunk l c))) (chunks_of ls cs (place + length (leaf_chunk l c)))
+abbrev pub chunks_of : PageForm → List WrittenLeaf → List (List Triplet) → ℕ → WrittenChunks
+chunks_of form [] cs place = no_chunks
+chunks_of form (l ∷ ls) [] place = no_chunks
+chunks_of form (l ∷ ls) (c ∷ cs) place =
+    put_chunk (leaf_chunk form l c) (column_chunk l (length c) place (length (leaf_chunk form l c))) (chunks_of form ls cs (place + length (leaf_chunk form l c)))
 
 -- without rows there are no chunks
-abbrev pub chunks_in_rows : ℕ → List WrittenLeaf → List (List Triplet) → ℕ → WrittenChunks
-chunks_in_rows zero ls cs place = no_chunks
-chunks_in_rows (suc n) ls cs place = chunks_of ls cs place
+abbrev pub chunks_in_rows : PageForm → ℕ → List WrittenLeaf → List (List Triplet) → ℕ → WrittenChunks
+chunks_in_rows form zero ls cs place = no_chunks
+chunks_in_rows form (suc n) ls cs place = chunks_of form ls cs place
 
 -- and no row group
 abbrev pub groups_in_rows : ℕ → WrittenChunks → List RowGroup

@@ -5,17 +5,20 @@ ghost use Rattle.std.specs.List.{list_all};
 ghost use Rattle.dr_formats.specs.Page.{is_triplet};
 ghost use Rattle.dr_levels.specs.Views.{column_view, columns_view, column_form};
 ghost use Rattle.dr_meta.specs.Views.{chunk_view, chunks_view, groups_view};
+ghost use Rattle.dr_page.specs.Views.{page_form_view};
 ghost use Rattle.dr_write.specs.Chunks.{chunk_of, column_chunk, chunks_of, chunks_in_rows, groups_in_rows, AreFor};
 ghost use Rattle.dr_write.specs.Leaves.{leaf_view, leaves_view};
 
 use crate::counting::count_of;
 use crate::cutting::page_length;
 use crate::elements::type_number;
+use crate::heads::{PLAIN, RLE};
 use crate::leaf::Leaf;
-use crate::pages::{PLAIN, PageWriter, RLE};
+use crate::pages::PageWriter;
 use dr_levels::Column;
 use dr_memory::NoMemory;
 use dr_meta::{ChunkMeta, ColumnMeta, Count, GroupMeta};
+use dr_page::PageForm;
 use std::alloc::Global;
 
 /// The encodings of a chunk: those of its values and of its levels.
@@ -24,12 +27,13 @@ const ENCODINGS: [i64; 2] = [PLAIN, RLE];
 /// That nothing is compressed.
 const UNCOMPRESSED: i64 = 0;
 
-/// Appends the row groups of columns: none without rows, else one with a chunk for each leaf. Answers what the footer
-/// says of them.
+/// Appends the row groups of columns, with pages of this form: none without rows, else one with a chunk for each leaf.
+/// Answers what the footer says of them.
 ///
 /// Errors: want of memory alone; some bytes may have joined then.
 pub(crate) fn append_groups<'t, 'a>(
     alloc: Global,
+    form: PageForm,
     leaves: &'t [Leaf<'a>],
     columns: &[Column],
     rows: Count,
@@ -37,18 +41,18 @@ pub(crate) fn append_groups<'t, 'a>(
 ) -> Result<Vec<GroupMeta<'t, 'a>>, NoMemory>
     requires { AreFor (leaves_view leaves.now) columns.now }
     ensures bytes { OnOk result ((out.new).items
-        ≡ (out.old).items ++ (chunks_in_rows rows.number (leaves_view leaves.now) (columns_view columns.now)
-        (length (out.old).items)).bytes) }
+        ≡ (out.old).items ++ (chunks_in_rows (page_form_view form) rows.number (leaves_view leaves.now)
+        (columns_view columns.now) (length (out.old).items)).bytes) }
     ensures groups { IfOk result (λ v. groups_view v
-        ≡ groups_in_rows rows.number (chunks_in_rows rows.number (leaves_view leaves.now) (columns_view columns.now)
-        (length (out.old).items))) }
+        ≡ groups_in_rows rows.number (chunks_in_rows (page_form_view form) rows.number (leaves_view leaves.now)
+        (columns_view columns.now) (length (out.old).items))) }
 {
     let mut groups = Vec::new(alloc);
     if rows.get() == 0 {
         return Ok(groups);
     }
     let start = out.len();
-    let columns = append_chunks(alloc, leaves, columns, out)?;
+    let columns = append_chunks(alloc, form, leaves, columns, out)?;
     let size = count_of((out.len() - start) as u64)?;
     groups.push(GroupMeta {
         columns,
@@ -61,16 +65,18 @@ pub(crate) fn append_groups<'t, 'a>(
 /// Appends the chunks of columns, one for each leaf.
 fn append_chunks<'t, 'a>(
     alloc: Global,
+    form: PageForm,
     leaves: &'t [Leaf<'a>],
     columns: &[Column],
     out: &mut Vec<u8>,
 ) -> Result<Vec<ChunkMeta<'t, 'a>>, NoMemory>
     requires { AreFor (leaves_view leaves.now) columns.now }
     ensures bytes { OnOk result ((out.new).items
-        ≡ (out.old).items ++ (chunks_of (leaves_view leaves.now) (columns_view columns.now)
+        ≡ (out.old).items ++ (chunks_of (page_form_view form) (leaves_view leaves.now) (columns_view columns.now)
         (length (out.old).items)).bytes) }
     ensures chunks { IfOk result (λ v. chunks_view v
-        ≡ (chunks_of (leaves_view leaves.now) (columns_view columns.now) (length (out.old).items)).columns) }
+        ≡ (chunks_of (page_form_view form) (leaves_view leaves.now) (columns_view columns.now)
+        (length (out.old).items)).columns) }
 {
     let mut pages = PageWriter::new(alloc);
     let mut chunks = Vec::with_capacity(alloc, leaves.len())?;
@@ -78,7 +84,7 @@ fn append_chunks<'t, 'a>(
         let leaf = &leaves[index];
         let column = &columns[index];
         let place = out.len();
-        append_chunk(&mut pages, column, leaf.max_repetition, out)?;
+        append_chunk(&mut pages, form, column, leaf.max_repetition, out)?;
         chunks.push(chunk_meta(leaf, column.len(), place, out.len() - place)?)?;
     }
     Ok(chunks)
@@ -115,6 +121,7 @@ fn chunk_meta<'t, 'a>(
 /// Appends the pages of a column.
 fn append_chunk(
     pages: &mut PageWriter,
+    form: PageForm,
     column: &Column,
     max_repetition: u8,
     out: &mut Vec<u8>,
@@ -124,13 +131,13 @@ fn append_chunk(
     requires writable { list_all (is_triplet (column_form column.now).kind max_repetition
         (column_form column.now).greatest) (column_view column.now) ≡ true }
     ensures { OnOk result ((out.new).items ≡ (out.old).items
-        ++ chunk_of (column_form column.now).kind max_repetition (column_form column.now).greatest
+        ++ chunk_of (page_form_view form) (column_form column.now).kind max_repetition (column_form column.now).greatest
         (column_view column.now)) }
 {
     let mut rest = column.triplets();
     'pages: while rest.len() > 0 {
         let (page, behind) = rest.split_at(page_length(rest));
-        pages.append(page, max_repetition, out)?;
+        pages.append(form, page, max_repetition, out)?;
         rest = behind;
     }
     Ok(())

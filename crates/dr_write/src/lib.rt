@@ -8,9 +8,10 @@ mod cutting;
 mod elements;
 mod file;
 mod footer;
+mod heads;
 mod leaf;
 mod leaves;
 mod pages;
 
 pub use column_laws::record_columns_fit;
-pub use file::write_file;
+pub use file::{write_file, write_file_as};

@@ -1,28 +1,18 @@
 //! Pages.
 
-ghost use Rattle.std.specs.Prelude.{◌≡◌, ◌≤◌, ◌++◌, IfOk, OnOk};
-ghost use Rattle.dr_formats.specs.Writing.{header_of_page};
+ghost use Rattle.std.specs.Prelude.{◌≡◌, ◌≤◌, ◌++◌, OnOk};
 ghost use Rattle.dr_levels.specs.Views.{triplets_view, triplets_form};
-ghost use Rattle.dr_meta.specs.Views.{page_view};
+ghost use Rattle.dr_page.specs.Views.{page_form_view};
 ghost use Rattle.dr_page.specs.Writes.{AreWritable};
 ghost use Rattle.dr_write.specs.Chunks.{page_of};
 
-use crate::counting::count_of;
+use crate::heads::page_head;
 use dr_compact::write_struct;
 use dr_levels::Triplets;
 use dr_memory::NoMemory;
-use dr_meta::{DataPage, PageHead, tree_of_page};
-use dr_page::BodyWriter;
+use dr_meta::tree_of_page;
+use dr_page::{BodyWriter, PageForm};
 use std::alloc::Global;
-
-/// The type of a data page of the first version.
-const DATA_PAGE: i64 = 0;
-
-/// The encoding of values.
-pub(crate) const PLAIN: i64 = 0;
-
-/// The encoding of levels.
-pub(crate) const RLE: i64 = 3;
 
 /// Writes pages, with buffers that are used again page after page.
 #[derive(Drop)]
@@ -42,11 +32,12 @@ impl PageWriter {
         }
     }
 
-    /// Appends a page of these triplets: its header, and its body.
+    /// Appends a page of this form of these triplets: its header, and its body.
     ///
     /// Errors: want of memory alone; some bytes may have joined then.
     pub(crate) fn append(
         &mut self,
+        form: PageForm,
         triplets: Triplets<'_>,
         max_repetition: u8,
         out: &mut Vec<u8>,
@@ -55,36 +46,17 @@ impl PageWriter {
         requires definition { (triplets_form triplets).greatest ≤ 32 }
         requires writable { AreWritable max_repetition triplets }
         ensures { OnOk result ((out.new).items ≡ (out.old).items
-            ++ page_of (triplets_form triplets.entry).kind max_repetition (triplets_form triplets.entry).greatest
-            (triplets_view triplets.entry)) }
+            ++ page_of (page_form_view form) (triplets_form triplets.entry).kind max_repetition
+            (triplets_form triplets.entry).greatest (triplets_view triplets.entry)) }
     {
         self.body.clear();
-        self.bodies.write(triplets, max_repetition, &mut self.body)?;
-        let head = head_of(triplets.len(), self.body.len())?;
+        let lengths = self
+            .bodies
+            .write(form, triplets, max_repetition, &mut self.body)?;
+        let head = page_head(form, triplets, lengths, self.body.len())?;
         let tree = tree_of_page(self.alloc, &head)?;
         write_struct(&tree, out)?;
         out.extend_from_slice(&self.body)?;
         Ok(())
     }
-}
-
-/// The header of a page of so many triplets, with a body of so many bytes.
-fn head_of(triplets: usize, size: usize) -> Result<PageHead, NoMemory>
-    ensures { IfOk result (λ h. page_view h ≡ header_of_page triplets size) }
-{
-    let values = count_of(triplets as u64)?;
-    let size = count_of(size as u64)?;
-    Ok(PageHead {
-        kind: DATA_PAGE,
-        uncompressed_size: Some(size.get() as i64),
-        compressed_size: size,
-        data_page: Some(DataPage {
-            values,
-            encoding: PLAIN,
-            definition_encoding: RLE,
-            repetition_encoding: RLE,
-        }),
-        dictionary_page: None,
-        data_page_v2: None,
-    })
 }

@@ -1,25 +1,22 @@
 //! The answer of `fsm`.
 
-ghost use Rattle.std.specs.Prelude.{◌≡◌, [], map, string_bytes, IfOk, IfErr, OnOk};
+ghost use Rattle.std.specs.Prelude.{◌≡◌, [], map, string_bytes, IfOk, IfErr};
 ghost use Rattle.dr_meaning.specs.Fsm.{fsm_leaves};
 ghost use Rattle.dr_nested.specs.Views.{fields_view};
 ghost use Rattle.dr_nested.specs.PathView.{path_view};
-ghost use Rattle.dr_outside.specs.Source.{SourceShown};
 ghost use Rattle.dr_commands.specs.Meaning.{done};
 ghost use Rattle.dr_commands.specs.Fsm.{fsm_meaning, fsm_view};
 ghost use Rattle.dr_top.specs.Printed.{printed};
-ghost use Rattle.dr_top.specs.World.{HasOutcome};
-ghost use Rattle.dr_top.specs.Stops.{IsUnput, StopsPlain, AsksForFile};
+ghost use Rattle.dr_top.specs.World.{outcome_on};
+ghost use Rattle.dr_top.specs.Stops.{StopsEarly};
 
 use crate::fields::find_fields;
 use crate::output::Output;
-use crate::schema_file::read_schema;
 use crate::stop::Stop;
-use dr_commands::Fsm;
+use dr_commands::commands::Fsm;
 use dr_fsm::{Automaton, Order};
 use dr_memory::NoMemory;
-use dr_nested::{Path, Schema};
-use dr_outside::Keeper;
+use dr_nested::{Path, Schema, parse_schema};
 use dr_print::automaton_text;
 use std::alloc::Global;
 
@@ -32,19 +29,14 @@ fn leaves_text(alloc: Global, schema: &Schema, leaves: &[Path]) -> Result<String
     automaton_text(alloc, leaves, &automaton)
 }
 
-/// The text that `fsm` prints.
+/// The text that `fsm` prints, of its file.
 ///
-/// Errors: the first refusal: the schema, then the FIELD words in order; the keeper failed; want of memory.
-pub fn answer<K: Keeper>(alloc: Global, fsm: &Fsm, keeper: &mut K) -> Result<Output, Stop>
-    ensures text { (input : SourceShown) → IfOk result
-        (λ t. HasOutcome (fsm_meaning (fsm_view fsm.now)) (K.shows keeper.old) input (done (printed t) [])) }
-    ensures keeper_calm { OnOk result ((K.shows keeper.new).faults ≡ (K.shows keeper.old).faults) }
-    ensures stops { (input : SourceShown) → IfErr result
-        (StopsPlain (fsm_meaning (fsm_view fsm.now)) (K.shows keeper.old) (K.shows keeper.new) input input) }
-    ensures kept { IsUnput (K.shows keeper.old) (K.shows keeper.new) }
-    ensures asks { AsksForFile (string_bytes (fsm.now).schema) (K.shows keeper.old) (K.shows keeper.new) }
+/// Errors: the first refusal: the schema, then the FIELD words in order; want of memory.
+pub fn answer(alloc: Global, fsm: &Fsm, file: &[u8]) -> Result<Output, Stop>
+    ensures text { IfOk result (λ t. outcome_on (fsm_meaning (fsm_view fsm.now)) file.now [] ≡ done (printed t) []) }
+    ensures stops { IfErr result (StopsEarly (outcome_on (fsm_meaning (fsm_view fsm.now)) file.now)) }
 {
-    let schema = read_schema(alloc, keeper, fsm.schema.as_str())?;
+    let schema = parse_schema(alloc, file)?;
     let leaves = find_fields(alloc, &schema, &fsm.fields)?;
     let text = leaves_text(alloc, &schema, &leaves)?;
     Ok(Output::Text(text))

@@ -9,7 +9,7 @@ ghost use Rattle.dr_top.specs.Stops.{SchemaStops};
 
 use crate::output::Output;
 use crate::stop::Stop;
-use dr_commands::ShowSchema;
+use dr_commands::commands::ShowSchema;
 use dr_file::schema_of;
 use dr_nested::schema_text;
 use dr_outside::Link;

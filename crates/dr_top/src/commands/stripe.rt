@@ -1,6 +1,6 @@
 //! The answer of `stripe`.
 
-ghost use Rattle.std.specs.Prelude.{◌≡◌, ◌∷◌, [], Some, true, length, string_bytes, IfOk, IfErr, OnOk};
+ghost use Rattle.std.specs.Prelude.{◌≡◌, ◌∷◌, [], Some, true, length, IfOk, IfErr, OnOk};
 ghost use Rattle.dr_meaning.specs.Stripe.{most_striped};
 ghost use Rattle.dr_nested.specs.Views.{fields_view};
 ghost use Rattle.dr_nested.specs.PathView.{path_view};
@@ -10,20 +10,20 @@ ghost use Rattle.dr_striper.specs.Leaves.{is_leaf};
 ghost use Rattle.dr_commands.specs.Meaning.{done};
 ghost use Rattle.dr_commands.specs.Stripe.{stripe_meaning, stripe_view};
 ghost use Rattle.dr_top.specs.Printed.{printed};
-ghost use Rattle.dr_top.specs.World.{HasOutcome, IsOpened};
-ghost use Rattle.dr_top.specs.Stops.{IsUnput, StopsPlain, InputStops, IsReadBy, AsksForFile};
+ghost use Rattle.dr_top.specs.World.{Opens, outcome_on};
+ghost use Rattle.dr_top.specs.Stops.{StopsReading, InputStops, IsReadBy};
 ghost use Rattle.dr_top.specs.Records.{HasColumns};
 ghost use Rattle.dr_input.specs.Taken.{WhereTold};
 
 use crate::field::find_field;
 use crate::output::Output;
-use crate::schema_file::read_schema;
 use crate::stop::Stop;
-use dr_commands::{MOST_STRIPED, Stripe};
+use dr_commands::MOST_STRIPED;
+use dr_commands::commands::Stripe;
 use dr_input::{InputFault, Records};
 use dr_levels::Column;
-use dr_nested::{Path, Schema};
-use dr_outside::{Keeper, Source};
+use dr_nested::{Path, Schema, parse_schema};
+use dr_outside::Source;
 use dr_print::column_text;
 use dr_striper::Striper;
 use std::alloc::Global;
@@ -66,28 +66,24 @@ fn stripe_records<S: Source>(
     Ok(only_column(striper))
 }
 
-/// The text that `stripe` prints.
+/// The text that `stripe` prints, of its file and the input.
 ///
-/// Errors: the first refusal: the schema, the FIELD, then the input's lines; the keeper or the source failed; want of
-/// memory.
-pub fn answer<S: Source, K: Keeper>(
+/// Errors: the first refusal: the schema, the FIELD, then the input's lines; the source failed; want of memory.
+pub fn answer<S: Source>(
     alloc: Global,
     stripe: &Stripe,
+    file: &[u8],
     source: &mut S,
-    keeper: &mut K,
 ) -> Result<Output, Stop>
-    ensures text { IfOk result (λ t. HasOutcome (stripe_meaning (stripe_view stripe.now)) (K.shows keeper.old)
-        (S.shows source.old) (done (printed t) [])) }
-    ensures opened { OnOk result (IsOpened (stripe_meaning (stripe_view stripe.now)) (K.shows keeper.old)) }
+    ensures text { IfOk result (λ t. WhereTold (S.shows source.old).left
+        (λ lines. outcome_on (stripe_meaning (stripe_view stripe.now)) file.now lines ≡ done (printed t) [])) }
+    ensures opened { OnOk result (Opens (outcome_on (stripe_meaning (stripe_view stripe.now)) file.now)) }
     ensures read { OnOk result (IsReadBy true (S.shows source.old) (S.shows source.new)) }
     ensures source_calm { OnOk result ((S.shows source.new).faults ≡ (S.shows source.old).faults) }
-    ensures keeper_calm { OnOk result ((K.shows keeper.new).faults ≡ (K.shows keeper.old).faults) }
-    ensures stops { IfErr result (StopsPlain (stripe_meaning (stripe_view stripe.now)) (K.shows keeper.old)
-        (K.shows keeper.new) (S.shows source.old) (S.shows source.new)) }
-    ensures kept { IsUnput (K.shows keeper.old) (K.shows keeper.new) }
-    ensures asks { AsksForFile (string_bytes (stripe.now).schema) (K.shows keeper.old) (K.shows keeper.new) }
+    ensures stops { IfErr result (StopsReading (outcome_on (stripe_meaning (stripe_view stripe.now)) file.now)
+        (S.shows source.old) (S.shows source.new)) }
 {
-    let schema = read_schema(alloc, keeper, stripe.schema.as_str())?;
+    let schema = parse_schema(alloc, file)?;
     let field = find_field(alloc, &schema, stripe.field.as_str(), 0)?;
     let column = stripe_records(alloc, &schema, &field, source)?;
     let text = column_text(alloc, &column)?;

@@ -1,20 +1,18 @@
 //! The answer of `trial`.
 
-ghost use Rattle.std.specs.Prelude.{[], IfOk, IfErr};
-ghost use Rattle.dr_outside.specs.Source.{SourceShown};
-ghost use Rattle.dr_outside.specs.Link.{LinkShown};
+ghost use Rattle.std.specs.Prelude.{◌≡◌, [], IfOk, IfErr};
 ghost use Rattle.dr_commands.specs.Meaning.{done};
 ghost use Rattle.dr_commands.specs.Trial.{trial_meaning, trial_view};
 ghost use Rattle.dr_top.specs.Printed.{printed};
-ghost use Rattle.dr_top.specs.World.{HasOutcome};
-ghost use Rattle.dr_top.specs.Stops.{StopsPlain};
+ghost use Rattle.dr_top.specs.World.{outcome_on};
+ghost use Rattle.dr_top.specs.Stops.{StopsEarly};
 
 use crate::output::Output;
 use crate::service::{ALL_TABLETS, service_of};
 use crate::stop::Stop;
 use dr_ask::ask_input;
 use dr_bind::read_query;
-use dr_commands::Trial;
+use dr_commands::commands::Trial;
 use dr_gen::{GenSource, document_text, trial_query};
 use dr_nested::parse_schema;
 use std::alloc::Global;
@@ -29,10 +27,8 @@ pub fn answer<R: Threads + Wait + Sync>(
     alloc: Global,
     words: &Trial,
 ) -> Result<Output, Stop>
-    ensures text { (keeper : LinkShown) (input : SourceShown) → IfOk result
-        (λ t. HasOutcome (trial_meaning (trial_view words.now)) keeper input (done (printed t) [])) }
-    ensures stops { (keeper : LinkShown) (input : SourceShown) → IfErr result
-        (StopsPlain (trial_meaning (trial_view words.now)) keeper keeper input input) }
+    ensures text { IfOk result (λ t. outcome_on (trial_meaning (trial_view words.now)) [] [] ≡ done (printed t) []) }
+    ensures stops { IfErr result (StopsEarly (outcome_on (trial_meaning (trial_view words.now)) [])) }
 {
     let schema = parse_schema(alloc, document_text().as_bytes())?;
     let plan = read_query(alloc, &schema, trial_query())?;

@@ -3,7 +3,7 @@ use Rattle.std.specs.Prelude.{Option}
 use Rattle.std.proofs.lemmas.Result.{err_from_is_err_and}
 use Rattle.dr_formats.specs.File.{Footer}
 use Rattle.dr_nested.specs.PathView.{path_view}
-use Rattle.dr_file.specs.Openings.{opened_leaf_view, footer_cause, IsOpenedAs, IsOpenFault}
+use Rattle.dr_file.specs.Openings.{opened_field_view, footer_cause, IsOpenedAs, IsOpenFault}
 use Rattle.dr_file.proofs.StartLemmas.{footer_is, footer_fault_told}
 use Rattle.dr_file.proofs.start.open.Goals as goal
 
@@ -25,5 +25,5 @@ returns-clause-opened g c = λ bytes told.
     let F = map path_view c.args.fields.now in
     let t = c.in_ok-footer.ensures.footer bytes told in
     let f = footer_is bytes _ _ t in
-    let P : Option Footer → Type 0 = λ o. IsOpenedAs o F c.in_ok-rows.rows (map opened_leaf_view c.in_ok-rows.leaves.items) in
+    let P : Option Footer → Type 0 = λ o. IsOpenedAs o F c.in_ok-rows.rows (map opened_field_view c.in_ok-rows.leaves.items) in
     (t.1, subst P (sym f) c.in_ok-rows.ensures.opened)

@@ -3,6 +3,7 @@ use Rattle.std.specs.Prelude.{IsSome}
 use Rattle.dr_meaning.specs.Path.{Leaf}
 use Rattle.dr_meta.specs.Views.{item_view}
 use Rattle.dr_open.specs.Places.{passed, place_among, behind_leaves}
+use Rattle.dr_open.specs.Sources.{first_named}
 use Rattle.dr_open.proofs.skipping.field_named.Given as goal
 
 -- a leaf that begins with the name stands among the fields still to come
@@ -12,4 +13,5 @@ invariant-fields l = record {
   within : l.before ≤ l.at;
   are_fields : IsSome (passed (l.fn.fields - l.counter) (map item_view (drop l.at l.items)));
   same : (f : Leaf) (ns : List (List ℕ)) → f.names ≡ l.name ∷ ns → place_among f l.fn.fields (map item_view l.items) ≡ behind_leaves l.before (place_among f (l.fn.fields - l.counter) (map item_view (drop l.at l.items)));
+  named : first_named l.name l.fn.fields (map item_view l.items) ≡ first_named l.name (l.fn.fields - l.counter) (map item_view (drop l.at l.items));
 }

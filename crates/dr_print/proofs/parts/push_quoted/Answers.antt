@@ -1,9 +1,12 @@
-use Rattle.std.proofs.Common.{◌∙◌, string_bytes}
-use Rattle.serde_json.proofs.FreeTexts.{text_of_str}
-use Rattle.dr_print.proofs.PrintLemmas.{joined}
+use Rattle.std.proofs.Common.{◌≡◌, ◌∙◌, ◌++◌, ℕ, List, sym, ap, subst, true, string_bytes, OnOk}
+use Rattle.std.specs.List.{list_all}
+use Rattle.dr_print.specs.Parts.{is_plain}
+use Rattle.dr_print.proofs.PlainLemmas.{plain_quoted}
 use Rattle.dr_print.proofs.parts.push_quoted.Goals as goal
 
-pub returns-in-Ok : goal.returns-in-Ok
-returns-in-Ok c =
-    let e = c.in-Ok.ensures.events in
-    joined c.push_str.result _ _ _ _ c.push_str.ensures.bytes (c.as_str.ensures.value ∙ text_of_str c.args.value.now e.0 (string_bytes c.in-Ok.quote) e.1 e.2)
+pub returns-then-are_plain : goal.returns-then-are_plain
+returns-then-are_plain c =
+    let plain : list_all is_plain c.args.value.now ≡ true =
+    ap (list_all is_plain) (sym c.as_bytes.ensures.value) ∙ sym c.are_plain.ensures ∙ c.if-are_plain.true in
+    subst (λ (q : List ℕ). OnOk c.push_between_quotes.result (string_bytes c.push_between_quotes.new.text ≡ string_bytes c.args.text.now ++ q))
+    (plain_quoted c.args.value.now plain) c.push_between_quotes.ensures

@@ -4,6 +4,7 @@ use Rattle.std.specs.Prelude.{◌∷◌, []}
 use Rattle.dr_levels.specs.Views.{column_view}
 use Rattle.dr_outside.specs.Link.{Files}
 use Rattle.std.specs.List.{flat_map}
+use Rattle.dr_formats.specs.File.{leaves_read}
 use Rattle.dr_formats.specs.Opening.{leaf_ranges}
 use Rattle.dr_outside.specs.Telling.{TellsFile}
 use Rattle.dr_chunk.specs.Ranges.{is_read_inside}
@@ -41,7 +42,7 @@ leaves-preserved g c = (
   one_more_short _ _ (column_view c.in_ok-column.column) c.leaves.invariant.4 c.in_ok-column.ensures.few (ap (map column_view) c.in-Ok.ensures.items ∙ map-append column_view c.leaves.columns.items (c.in_ok-column.column ∷ [])),
   λ bytes F f o n e.
       let l = leaf_there F c.leaves.index (omega (arith, c.leaves-test.true, n)) in
-      asks_then (is_read_inside (path_of c.args.opened.now) (flat_map (leaf_ranges f) F)) _ _ _ (c.leaves.invariant.5 bytes F f o n e)
+      asks_then (is_read_inside (path_of c.args.opened.now) (flat_map (leaf_ranges f) (leaves_read f F))) _ _ _ (c.leaves.invariant.5 bytes F f o n e)
       (leaf_asked (path_of c.args.opened.now) f F c.leaves.index l.0 _ _ l.1 (c.column.ensures.asked bytes F l.0 f o l.1 e)),
   one_more_counted _ _ (column_view c.in_ok-column.column) _ _ _ c.leaves.invariant.6 (c.saturating_add-triplets.ensures ∙ ap (counted c.leaves.triplets) c.len.ensures) (ap (map column_view) c.in-Ok.ensures.items ∙ map-append column_view c.leaves.columns.items (c.in_ok-column.column ∷ [])),
   asks_then (is_for_path (path_of c.args.opened.now)) _ _ _ c.leaves.invariant.7 c.column.ensures.paths,
@@ -54,13 +55,13 @@ returns-clause-columns g c = λ bytes F o n t. all_columns bytes F c.leaves.inde
 pub returns-in_err-column-clause-asked : goal.returns-in_err-column-clause-asked
 returns-in_err-column-clause-asked g c = λ bytes F f o n e.
     let l = leaf_there F c.leaves.index (omega (arith, c.leaves-test.true, n)) in
-    asks_then (is_read_inside (path_of c.args.opened.now) (flat_map (leaf_ranges f) F)) _ _ _ (c.leaves.invariant.5 bytes F f o n e)
+    asks_then (is_read_inside (path_of c.args.opened.now) (flat_map (leaf_ranges f) (leaves_read f F))) _ _ _ (c.leaves.invariant.5 bytes F f o n e)
     (leaf_asked (path_of c.args.opened.now) f F c.leaves.index l.0 _ _ l.1 (c.column.ensures.asked bytes F l.0 f o l.1 e))
 
 pub returns-in-Err-clause-asked : goal.returns-in-Err-clause-asked
 returns-in-Err-clause-asked g c = λ bytes F f o n e.
     let l = leaf_there F c.leaves.index (omega (arith, c.leaves-test.true, n)) in
-    asks_then (is_read_inside (path_of c.args.opened.now) (flat_map (leaf_ranges f) F)) _ _ _ (c.leaves.invariant.5 bytes F f o n e)
+    asks_then (is_read_inside (path_of c.args.opened.now) (flat_map (leaf_ranges f) (leaves_read f F))) _ _ _ (c.leaves.invariant.5 bytes F f o n e)
     (leaf_asked (path_of c.args.opened.now) f F c.leaves.index l.0 _ _ l.1 (c.column.ensures.asked bytes F l.0 f o l.1 e))
 
 pub returns-clause-counted : goal.returns-clause-counted

@@ -3,7 +3,7 @@ use Rattle.std.specs.Prelude.{IsTrue, Some}
 use Rattle.std.specs.List.{flat_map}
 use Rattle.dr_meaning.specs.Path.{Leaf}
 use Rattle.dr_levels.specs.Views.{columns_view}
-use Rattle.dr_formats.specs.File.{Footer, footer_of}
+use Rattle.dr_formats.specs.File.{Footer, footer_of, leaves_read}
 use Rattle.dr_formats.specs.Opening.{leaf_ranges}
 use Rattle.dr_outside.specs.Telling.{Tells, AsksOnly}
 use Rattle.dr_chunk.specs.Ranges.{is_read_inside}
@@ -22,7 +22,7 @@ invariant-leaves g l =
     × (IsTrue (g.L.Link.shows l.initial.link).is_steady → IsTrue (g.L.Link.shows l.link).is_steady)
     × (are_short (columns_view l.columns.items) ≡ true)
     × ((bytes : List ℕ) (F : List Leaf) (f : Footer) → IsOpened bytes F l.opened → length F ≡ l.leaves → footer_of bytes ≡ Some f
-    → AsksOnly (is_read_inside (path_of l.opened) (flat_map (leaf_ranges f) F)) (g.L.Link.shows l.initial.link).asked (g.L.Link.shows l.link).asked)
+    → AsksOnly (is_read_inside (path_of l.opened) (flat_map (leaf_ranges f) (leaves_read f F))) (g.L.Link.shows l.initial.link).asked (g.L.Link.shows l.link).asked)
     × (l.triplets ≡ counted 0 (triplet_count (columns_view l.columns.items)))
     × AsksOnly (is_for_path (path_of l.opened)) (g.L.Link.shows l.initial.link).asked (g.L.Link.shows l.link).asked
     × (length l.columns.items ≡ l.index)

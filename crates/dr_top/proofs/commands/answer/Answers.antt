@@ -1,7 +1,13 @@
-use Rattle.std.proofs.Common.{ap, Err, map, string_bytes}
-use Rattle.dr_commands.specs.Commands.{asked}
+use Rattle.std.specs.Prelude.{IfOk, IfErr, Option, option_map}
+use Rattle.std.proofs.Common.{refl, sym, ap, subst, Err, map, string_bytes}
+use Rattle.dr_commands.specs.Commands.{CommandWords, asked, meaning_of, command_view}
 use Rattle.dr_commands.specs.declared.words_fault.WordsFault.{WordsFault}
-use Rattle.dr_top.proofs.OutcomeLemmas.{err_is}
+use Rattle.dr_top.specs.Printed.{printed}
+use Rattle.dr_top.specs.World.{lent, IsFileOf}
+use Rattle.dr_top.specs.Answers.{Finishes, StopsMeant, AsksMeant, LeavesUnput, AsksEach}
+use Rattle.dr_top.specs.Ends.{ForMeant}
+use Rattle.dr_top.proofs.OutcomeLemmas.{err_is, err_so, ok_so}
+use Rattle.dr_top.proofs.PutLemmas.{unput_more, unread_stops, asks_later, file_later, finishes_later, stops_later, asks_each_later}
 use Rattle.dr_top.proofs.RunLemmas.{words_stops}
 use Rattle.dr_top.proofs.LinkLemmas.{none_meant, none_unasked}
 use Rattle.dr_top.proofs.commands.answer.Goals as goal
@@ -9,10 +15,82 @@ use Rattle.dr_top.proofs.commands.answer.Goals as goal
 pub returns-in_err-command-clause-stops : goal.returns-in_err-command-clause-stops
 returns-in_err-command-clause-stops g c =
     err_is _ _ _ c.from_residual.ensures.1
-    (words_stops (asked (map string_bytes c.args.words.now)) c.in_err-command.field-0.0 (g.K.Link.shows c.args.keeper.now) (g.S.Source.shows c.args.source.now) (map g.L.Link.shows c.args.links.now) (λ e. c.in_err-command.ensures.refused (ap (λ (f : WordsFault). Err f) e)))
+    (words_stops (asked (map string_bytes c.args.words.now)) c.in_err-command.field-0.0 (lent (g.S.Source.shows c.args.source.now) (g.K.Link.shows c.args.keeper.now) (map g.L.Link.shows c.args.links.now)) (λ e. c.in_err-command.ensures.refused (ap (λ (f : WordsFault). Err f) e)))
 
 pub returns-in_err-command-clause-reads : goal.returns-in_err-command-clause-reads
-returns-in_err-command-clause-reads g c = none_meant (asked (map string_bytes c.args.words.now)) (g.K.Link.shows c.args.keeper.now) (g.S.Source.shows c.args.source.now) (map g.L.Link.shows c.args.links.now)
+returns-in_err-command-clause-reads g c =
+    let before = lent (g.S.Source.shows c.args.source.now) (g.K.Link.shows c.args.keeper.now) (map g.L.Link.shows c.args.links.now) in
+    none_meant (asked (map string_bytes c.args.words.now)) before before refl
 
 pub returns-in_err-command-clause-links : goal.returns-in_err-command-clause-links
 returns-in_err-command-clause-links g c = none_unasked (asked (map string_bytes c.args.words.now)) (map g.L.Link.shows c.args.links.now)
+
+pub returns-in_err-file-clause-stops : goal.returns-in_err-file-clause-stops
+returns-in_err-file-clause-stops g c =
+    let before = lent (g.S.Source.shows c.args.source.now) (g.K.Link.shows c.args.keeper.now) (map g.L.Link.shows c.args.links.now) in
+    let after = lent (g.S.Source.shows c.args.source.now) (g.K.Link.shows c.read_named.new.keeper) (map g.L.Link.shows c.args.links.now) in
+    err_is _ _ _ c.from_residual-in_err-file.ensures.1
+    (subst (λ (o : Option CommandWords). StopsMeant (option_map meaning_of o) before after c.in_err-file.field-0.0) (sym c.in_ok-command.ensures.values)
+    (unread_stops (meaning_of (command_view c.in_ok-command.command)) before.input before.keeper after.keeper before.links c.in_err-file.field-0.0 c.read_named.ensures.kept c.in_err-file.ensures.stops))
+
+pub returns-in_err-file-clause-asks : goal.returns-in_err-file-clause-asks
+returns-in_err-file-clause-asks g c =
+    subst (λ (o : Option CommandWords). AsksMeant (option_map meaning_of o) (g.K.Link.shows c.args.keeper.now) (g.K.Link.shows c.read_named.new.keeper)) (sym c.in_ok-command.ensures.values) c.read_named.ensures.asks
+
+pub returns-in_err-file-clause-reads : goal.returns-in_err-file-clause-reads
+returns-in_err-file-clause-reads g c =
+    none_meant (asked (map string_bytes c.args.words.now)) (lent (g.S.Source.shows c.args.source.now) (g.K.Link.shows c.args.keeper.now) (map g.L.Link.shows c.args.links.now))
+    (lent (g.S.Source.shows c.args.source.now) (g.K.Link.shows c.read_named.new.keeper) (map g.L.Link.shows c.args.links.now)) refl
+
+pub returns-in_err-file-clause-links : goal.returns-in_err-file-clause-links
+returns-in_err-file-clause-links g c = none_unasked (asked (map string_bytes c.args.words.now)) (map g.L.Link.shows c.args.links.now)
+
+pub command_answer-requires-clause-file : goal.command_answer-requires-clause-file
+command_answer-requires-clause-file g c = λ κs lives.
+    file_later (meaning_of (command_view c.in_ok-command.command)) (g.K.Link.shows c.args.keeper.now) (g.K.Link.shows c.read_named.new.keeper) c.deref.result.now c.read_named.ensures.kept
+    (subst (IsFileOf (meaning_of (command_view c.in_ok-command.command)) (g.K.Link.shows c.args.keeper.now)) (sym c.deref.ensures.value) c.in_ok-file.ensures.file)
+
+pub returns-clause-text : goal.returns-clause-text
+returns-clause-text g c =
+    let before = lent (g.S.Source.shows c.args.source.now) (g.K.Link.shows c.args.keeper.now) (map g.L.Link.shows c.args.links.now) in
+    let read = g.K.Link.shows c.read_named.new.keeper in
+    let after = lent (g.S.Source.shows c.command_answer.new.source) (g.K.Link.shows c.command_answer.new.keeper) (map g.L.Link.shows c.command_answer.new.links) in
+    let m = meaning_of (command_view c.in_ok-command.command) in
+    subst (λ (o : Option CommandWords). IfOk c.command_answer.result (λ t. ForMeant (option_map meaning_of o) (λ n. Finishes n before after (printed t)))) (sym c.in_ok-command.ensures.values)
+    (ok_so _ _ c.command_answer.result (λ t. finishes_later m before.input after.input before.keeper read after.keeper before.links after.links c.read_named.ensures.kept (printed t)) c.command_answer.ensures.text)
+
+pub returns-clause-stops : goal.returns-clause-stops
+returns-clause-stops g c =
+    let before = lent (g.S.Source.shows c.args.source.now) (g.K.Link.shows c.args.keeper.now) (map g.L.Link.shows c.args.links.now) in
+    let read = g.K.Link.shows c.read_named.new.keeper in
+    let after = lent (g.S.Source.shows c.command_answer.new.source) (g.K.Link.shows c.command_answer.new.keeper) (map g.L.Link.shows c.command_answer.new.links) in
+    let m = meaning_of (command_view c.in_ok-command.command) in
+    subst (λ (o : Option CommandWords). IfErr c.command_answer.result (StopsMeant (option_map meaning_of o) before after)) (sym c.in_ok-command.ensures.values)
+    (err_so _ _ c.command_answer.result (λ stop. stops_later m before.input after.input before.keeper read after.keeper before.links after.links c.read_named.ensures.kept stop c.in_ok-file.ensures.calm c.read_named.ensures.stays_steady) c.command_answer.ensures.stops)
+
+pub returns-clause-kept : goal.returns-clause-kept
+returns-clause-kept g c =
+    let before = lent (g.S.Source.shows c.args.source.now) (g.K.Link.shows c.args.keeper.now) (map g.L.Link.shows c.args.links.now) in
+    let read = g.K.Link.shows c.read_named.new.keeper in
+    let after = lent (g.S.Source.shows c.command_answer.new.source) (g.K.Link.shows c.command_answer.new.keeper) (map g.L.Link.shows c.command_answer.new.links) in
+    let m = meaning_of (command_view c.in_ok-command.command) in
+    subst (λ (o : Option CommandWords). LeavesUnput (option_map meaning_of o) before.keeper after.keeper) (sym c.in_ok-command.ensures.values)
+    (λ e. unput_more before.keeper read after.keeper c.read_named.ensures.kept (c.command_answer.ensures.kept e))
+
+pub returns-clause-asks : goal.returns-clause-asks
+returns-clause-asks g c =
+    let before = lent (g.S.Source.shows c.args.source.now) (g.K.Link.shows c.args.keeper.now) (map g.L.Link.shows c.args.links.now) in
+    let read = g.K.Link.shows c.read_named.new.keeper in
+    let after = lent (g.S.Source.shows c.command_answer.new.source) (g.K.Link.shows c.command_answer.new.keeper) (map g.L.Link.shows c.command_answer.new.links) in
+    let m = meaning_of (command_view c.in_ok-command.command) in
+    subst (λ (o : Option CommandWords). AsksMeant (option_map meaning_of o) before.keeper after.keeper) (sym c.in_ok-command.ensures.values)
+    (asks_later m.file before.keeper read after.keeper c.read_named.ensures.asks c.command_answer.ensures.asked)
+
+pub returns-clause-reads : goal.returns-clause-reads
+returns-clause-reads g c =
+    let before = lent (g.S.Source.shows c.args.source.now) (g.K.Link.shows c.args.keeper.now) (map g.L.Link.shows c.args.links.now) in
+    let read = g.K.Link.shows c.read_named.new.keeper in
+    let after = lent (g.S.Source.shows c.command_answer.new.source) (g.K.Link.shows c.command_answer.new.keeper) (map g.L.Link.shows c.command_answer.new.links) in
+    let m = meaning_of (command_view c.in_ok-command.command) in
+    subst (λ (o : Option CommandWords). AsksEach (option_map meaning_of o) before after) (sym c.in_ok-command.ensures.values)
+    (asks_each_later m before.input after.input before.keeper read after.keeper before.links after.links c.read_named.ensures.kept c.command_answer.ensures.reads)

@@ -5,6 +5,7 @@ use Rattle.dr_tablets.specs.Views.{all_left_view}
 use Rattle.dr_tablets.specs.declared.left.LeftTablet.{LeftTablet}
 use Rattle.dr_commands.specs.Commands.{meant}
 use Rattle.dr_top.specs.Printed.{printed}
+use Rattle.dr_top.specs.World.{lent}
 use Rattle.dr_top.specs.Ends.{Says}
 use Rattle.dr_top.specs.Answers.{StopsMeant}
 use Rattle.dr_top.specs.declared.stop.Stop.{Stop}
@@ -24,90 +25,90 @@ returns-in-Ok-clause-outside g c = λ _.
 pub returns-in-Err-Usage-clause-usage : goal.returns-in-Err-Usage-clause-usage
 returns-in-Err-Usage-clause-usage g c = λ _.
     usage_end _ _ _ _ _ _ _ _ _ _ (meant (map string_bytes c.args.words.now))
-    (subst (λ (s : Stop). StopsMeant (meant (map string_bytes c.args.words.now)) (g.K.Link.shows c.args.keeper.now) (g.K.Link.shows c.answer.new.keeper) (g.S.Source.shows c.args.source.now) (g.S.Source.shows c.answer.new.source) (map g.L.Link.shows c.args.links.now) (map g.L.Link.shows c.answer.new.links) s) c.in-Err-Usage.field-0-is c.in-Err-Usage.ensures.stops) refl
+    (subst (λ (s : Stop). StopsMeant (meant (map string_bytes c.args.words.now)) (lent (g.S.Source.shows c.args.source.now) (g.K.Link.shows c.args.keeper.now) (map g.L.Link.shows c.args.links.now)) (lent (g.S.Source.shows c.answer.new.source) (g.K.Link.shows c.answer.new.keeper) (map g.L.Link.shows c.answer.new.links)) s) c.in-Err-Usage.field-0-is c.in-Err-Usage.ensures.stops) refl
     (subst (λ (line : List ℕ). Says (g.E.Sink.shows c.args.err.now) (g.E.Sink.shows c.say-in-Err-Usage.new.err) line) c.as_bytes.ensures.value c.say-in-Err-Usage.ensures)
 
 pub returns-in-Err-NoMemory-clause-memory : goal.returns-in-Err-NoMemory-clause-memory
 returns-in-Err-NoMemory-clause-memory g c = λ _.
-    memory_end _ _ _ _ _ _ _ _ _ _ (meant (map string_bytes c.args.words.now)) (subst (λ (s : Stop). StopsMeant (meant (map string_bytes c.args.words.now)) (g.K.Link.shows c.args.keeper.now) (g.K.Link.shows c.answer.new.keeper) (g.S.Source.shows c.args.source.now) (g.S.Source.shows c.answer.new.source) (map g.L.Link.shows c.args.links.now) (map g.L.Link.shows c.answer.new.links) s) c.in-Err-NoMemory.field-0-is c.in-Err-NoMemory.ensures.stops) refl c.say-in-Err-NoMemory.ensures
+    memory_end _ _ _ _ _ _ _ _ _ _ (meant (map string_bytes c.args.words.now)) (subst (λ (s : Stop). StopsMeant (meant (map string_bytes c.args.words.now)) (lent (g.S.Source.shows c.args.source.now) (g.K.Link.shows c.args.keeper.now) (map g.L.Link.shows c.args.links.now)) (lent (g.S.Source.shows c.answer.new.source) (g.K.Link.shows c.answer.new.keeper) (map g.L.Link.shows c.answer.new.links)) s) c.in-Err-NoMemory.field-0-is c.in-Err-NoMemory.ensures.stops) refl c.say-in-Err-NoMemory.ensures
 
 pub returns-in-Err-NoMemory-clause-calm : goal.returns-in-Err-NoMemory-clause-calm
 returns-in-Err-NoMemory-clause-calm g c = λ _.
-    memory_counts _ _ _ _ _ _ _ _ _ _ (meant (map string_bytes c.args.words.now)) (subst (λ (s : Stop). StopsMeant (meant (map string_bytes c.args.words.now)) (g.K.Link.shows c.args.keeper.now) (g.K.Link.shows c.answer.new.keeper) (g.S.Source.shows c.args.source.now) (g.S.Source.shows c.answer.new.source) (map g.L.Link.shows c.args.links.now) (map g.L.Link.shows c.answer.new.links) s) c.in-Err-NoMemory.field-0-is c.in-Err-NoMemory.ensures.stops) refl
+    memory_counts _ _ _ _ _ _ _ _ _ _ (meant (map string_bytes c.args.words.now)) (subst (λ (s : Stop). StopsMeant (meant (map string_bytes c.args.words.now)) (lent (g.S.Source.shows c.args.source.now) (g.K.Link.shows c.args.keeper.now) (map g.L.Link.shows c.args.links.now)) (lent (g.S.Source.shows c.answer.new.source) (g.K.Link.shows c.answer.new.keeper) (map g.L.Link.shows c.answer.new.links)) s) c.in-Err-NoMemory.field-0-is c.in-Err-NoMemory.ensures.stops) refl
 
 pub returns-in-Err-Refused-clause-refused : goal.returns-in-Err-Refused-clause-refused
 returns-in-Err-Refused-clause-refused g c = λ _.
     let stop : c.in-Err-Refused.field-0 ≡ Stop.Refused c.in-Err-Refused.refusal = cc (c.in-Err-Refused.field-0-is) in
-    refused_end _ _ _ _ _ _ _ _ _ _ (meant (map string_bytes c.args.words.now)) c.in-Err-Refused.refusal (subst (λ (s : Stop). StopsMeant (meant (map string_bytes c.args.words.now)) (g.K.Link.shows c.args.keeper.now) (g.K.Link.shows c.answer.new.keeper) (g.S.Source.shows c.args.source.now) (g.S.Source.shows c.answer.new.source) (map g.L.Link.shows c.args.links.now) (map g.L.Link.shows c.answer.new.links) s) stop c.in-Err-Refused.ensures.stops) refl
+    refused_end _ _ _ _ _ _ _ _ _ _ (meant (map string_bytes c.args.words.now)) c.in-Err-Refused.refusal (subst (λ (s : Stop). StopsMeant (meant (map string_bytes c.args.words.now)) (lent (g.S.Source.shows c.args.source.now) (g.K.Link.shows c.args.keeper.now) (map g.L.Link.shows c.args.links.now)) (lent (g.S.Source.shows c.answer.new.source) (g.K.Link.shows c.answer.new.keeper) (map g.L.Link.shows c.answer.new.links)) s) stop c.in-Err-Refused.ensures.stops) refl
     (subst (λ (line : List ℕ). Says (g.E.Sink.shows c.args.err.now) (g.E.Sink.shows c.say-in-Err-Refused.new.err) line) (c.bytes.ensures ∙ c.report.ensures) c.say-in-Err-Refused.ensures)
 
 pub returns-in-Err-Refused-clause-complete : goal.returns-in-Err-Refused-clause-complete
 returns-in-Err-Refused-clause-complete g c =
     let stop : c.in-Err-Refused.field-0 ≡ Stop.Refused c.in-Err-Refused.refusal = cc (c.in-Err-Refused.field-0-is) in
-    refused_incomplete _ _ _ _ _ _ _ _ _ _ (meant (map string_bytes c.args.words.now)) c.in-Err-Refused.refusal (subst (λ (s : Stop). StopsMeant (meant (map string_bytes c.args.words.now)) (g.K.Link.shows c.args.keeper.now) (g.K.Link.shows c.answer.new.keeper) (g.S.Source.shows c.args.source.now) (g.S.Source.shows c.answer.new.source) (map g.L.Link.shows c.args.links.now) (map g.L.Link.shows c.answer.new.links) s) stop c.in-Err-Refused.ensures.stops)
+    refused_incomplete _ _ _ _ _ _ _ _ _ _ (meant (map string_bytes c.args.words.now)) c.in-Err-Refused.refusal (subst (λ (s : Stop). StopsMeant (meant (map string_bytes c.args.words.now)) (lent (g.S.Source.shows c.args.source.now) (g.K.Link.shows c.args.keeper.now) (map g.L.Link.shows c.args.links.now)) (lent (g.S.Source.shows c.answer.new.source) (g.K.Link.shows c.answer.new.keeper) (map g.L.Link.shows c.answer.new.links)) s) stop c.in-Err-Refused.ensures.stops)
 
 pub returns-in-Err-Usage-clause-calm : goal.returns-in-Err-Usage-clause-calm
 returns-in-Err-Usage-clause-calm g c = λ _.
-    usage_counts _ _ _ _ _ _ _ _ _ _ (meant (map string_bytes c.args.words.now)) (subst (λ (s : Stop). StopsMeant (meant (map string_bytes c.args.words.now)) (g.K.Link.shows c.args.keeper.now) (g.K.Link.shows c.answer.new.keeper) (g.S.Source.shows c.args.source.now) (g.S.Source.shows c.answer.new.source) (map g.L.Link.shows c.args.links.now) (map g.L.Link.shows c.answer.new.links) s) c.in-Err-Usage.field-0-is c.in-Err-Usage.ensures.stops) refl
+    usage_counts _ _ _ _ _ _ _ _ _ _ (meant (map string_bytes c.args.words.now)) (subst (λ (s : Stop). StopsMeant (meant (map string_bytes c.args.words.now)) (lent (g.S.Source.shows c.args.source.now) (g.K.Link.shows c.args.keeper.now) (map g.L.Link.shows c.args.links.now)) (lent (g.S.Source.shows c.answer.new.source) (g.K.Link.shows c.answer.new.keeper) (map g.L.Link.shows c.answer.new.links)) s) c.in-Err-Usage.field-0-is c.in-Err-Usage.ensures.stops) refl
 
 pub returns-in-Err-Source-clause-outside : goal.returns-in-Err-Source-clause-outside
 returns-in-Err-Source-clause-outside g c = λ _.
-    source_failed _ _ _ _ _ _ _ _ _ _ (meant (map string_bytes c.args.words.now)) (subst (λ (s : Stop). StopsMeant (meant (map string_bytes c.args.words.now)) (g.K.Link.shows c.args.keeper.now) (g.K.Link.shows c.answer.new.keeper) (g.S.Source.shows c.args.source.now) (g.S.Source.shows c.answer.new.source) (map g.L.Link.shows c.args.links.now) (map g.L.Link.shows c.answer.new.links) s) c.in-Err-Source.field-0-is c.in-Err-Source.ensures.stops) refl c.say-in-Err-Source.ensures
+    source_failed _ _ _ _ _ _ _ _ _ _ (meant (map string_bytes c.args.words.now)) (subst (λ (s : Stop). StopsMeant (meant (map string_bytes c.args.words.now)) (lent (g.S.Source.shows c.args.source.now) (g.K.Link.shows c.args.keeper.now) (map g.L.Link.shows c.args.links.now)) (lent (g.S.Source.shows c.answer.new.source) (g.K.Link.shows c.answer.new.keeper) (map g.L.Link.shows c.answer.new.links)) s) c.in-Err-Source.field-0-is c.in-Err-Source.ensures.stops) refl c.say-in-Err-Source.ensures
 
 pub returns-in-Err-Source-clause-complete : goal.returns-in-Err-Source-clause-complete
 returns-in-Err-Source-clause-complete g c =
-    source_incomplete _ _ _ _ _ _ _ _ _ _ (meant (map string_bytes c.args.words.now)) 4 (subst (λ (s : Stop). StopsMeant (meant (map string_bytes c.args.words.now)) (g.K.Link.shows c.args.keeper.now) (g.K.Link.shows c.answer.new.keeper) (g.S.Source.shows c.args.source.now) (g.S.Source.shows c.answer.new.source) (map g.L.Link.shows c.args.links.now) (map g.L.Link.shows c.answer.new.links) s) c.in-Err-Source.field-0-is c.in-Err-Source.ensures.stops)
+    source_incomplete _ _ _ _ _ _ _ _ _ _ (meant (map string_bytes c.args.words.now)) 4 (subst (λ (s : Stop). StopsMeant (meant (map string_bytes c.args.words.now)) (lent (g.S.Source.shows c.args.source.now) (g.K.Link.shows c.args.keeper.now) (map g.L.Link.shows c.args.links.now)) (lent (g.S.Source.shows c.answer.new.source) (g.K.Link.shows c.answer.new.keeper) (map g.L.Link.shows c.answer.new.links)) s) c.in-Err-Source.field-0-is c.in-Err-Source.ensures.stops)
 
 pub returns-in-Err-Keeper-clause-outside : goal.returns-in-Err-Keeper-clause-outside
 returns-in-Err-Keeper-clause-outside g c = λ _.
-    keeper_failed _ _ _ _ _ _ _ _ _ _ (meant (map string_bytes c.args.words.now)) (subst (λ (s : Stop). StopsMeant (meant (map string_bytes c.args.words.now)) (g.K.Link.shows c.args.keeper.now) (g.K.Link.shows c.answer.new.keeper) (g.S.Source.shows c.args.source.now) (g.S.Source.shows c.answer.new.source) (map g.L.Link.shows c.args.links.now) (map g.L.Link.shows c.answer.new.links) s) c.in-Err-Keeper.field-0-is c.in-Err-Keeper.ensures.stops) refl c.say-in-Err-Keeper.ensures
+    keeper_failed _ _ _ _ _ _ _ _ _ _ (meant (map string_bytes c.args.words.now)) (subst (λ (s : Stop). StopsMeant (meant (map string_bytes c.args.words.now)) (lent (g.S.Source.shows c.args.source.now) (g.K.Link.shows c.args.keeper.now) (map g.L.Link.shows c.args.links.now)) (lent (g.S.Source.shows c.answer.new.source) (g.K.Link.shows c.answer.new.keeper) (map g.L.Link.shows c.answer.new.links)) s) c.in-Err-Keeper.field-0-is c.in-Err-Keeper.ensures.stops) refl c.say-in-Err-Keeper.ensures
 
 pub returns-in-Err-Keeper-clause-complete : goal.returns-in-Err-Keeper-clause-complete
 returns-in-Err-Keeper-clause-complete g c =
-    keeper_incomplete _ _ _ _ _ _ _ _ _ _ (meant (map string_bytes c.args.words.now)) 4 (subst (λ (s : Stop). StopsMeant (meant (map string_bytes c.args.words.now)) (g.K.Link.shows c.args.keeper.now) (g.K.Link.shows c.answer.new.keeper) (g.S.Source.shows c.args.source.now) (g.S.Source.shows c.answer.new.source) (map g.L.Link.shows c.args.links.now) (map g.L.Link.shows c.answer.new.links) s) c.in-Err-Keeper.field-0-is c.in-Err-Keeper.ensures.stops)
+    keeper_incomplete _ _ _ _ _ _ _ _ _ _ (meant (map string_bytes c.args.words.now)) 4 (subst (λ (s : Stop). StopsMeant (meant (map string_bytes c.args.words.now)) (lent (g.S.Source.shows c.args.source.now) (g.K.Link.shows c.args.keeper.now) (map g.L.Link.shows c.args.links.now)) (lent (g.S.Source.shows c.answer.new.source) (g.K.Link.shows c.answer.new.keeper) (map g.L.Link.shows c.answer.new.links)) s) c.in-Err-Keeper.field-0-is c.in-Err-Keeper.ensures.stops)
 
 pub returns-in-Err-Refused-clause-calm : goal.returns-in-Err-Refused-clause-calm
 returns-in-Err-Refused-clause-calm g c = λ _.
     let stop : c.in-Err-Refused.field-0 ≡ Stop.Refused c.in-Err-Refused.refusal = cc (c.in-Err-Refused.field-0-is) in
-    refused_counts _ _ _ _ _ _ _ _ _ _ (meant (map string_bytes c.args.words.now)) c.in-Err-Refused.refusal (subst (λ (s : Stop). StopsMeant (meant (map string_bytes c.args.words.now)) (g.K.Link.shows c.args.keeper.now) (g.K.Link.shows c.answer.new.keeper) (g.S.Source.shows c.args.source.now) (g.S.Source.shows c.answer.new.source) (map g.L.Link.shows c.args.links.now) (map g.L.Link.shows c.answer.new.links) s) stop c.in-Err-Refused.ensures.stops) refl
+    refused_counts _ _ _ _ _ _ _ _ _ _ (meant (map string_bytes c.args.words.now)) c.in-Err-Refused.refusal (subst (λ (s : Stop). StopsMeant (meant (map string_bytes c.args.words.now)) (lent (g.S.Source.shows c.args.source.now) (g.K.Link.shows c.args.keeper.now) (map g.L.Link.shows c.args.links.now)) (lent (g.S.Source.shows c.answer.new.source) (g.K.Link.shows c.answer.new.keeper) (map g.L.Link.shows c.answer.new.links)) s) stop c.in-Err-Refused.ensures.stops) refl
 
 pub returns-in-Ok-left_text-clause-left : goal.returns-in-Ok-left_text-clause-left
 returns-in-Ok-left_text-clause-left g c = λ _.
     let stop : c.in-Err-Left.field-0 ≡ Stop.Left c.in-Err-Left.left = cc (c.in-Err-Left.field-0-is) in
-    left_end _ _ _ _ _ _ _ _ _ _ (meant (map string_bytes c.args.words.now)) c.in-Err-Left.left (subst (λ (s : Stop). StopsMeant (meant (map string_bytes c.args.words.now)) (g.K.Link.shows c.args.keeper.now) (g.K.Link.shows c.answer.new.keeper) (g.S.Source.shows c.args.source.now) (g.S.Source.shows c.answer.new.source) (map g.L.Link.shows c.args.links.now) (map g.L.Link.shows c.answer.new.links) s) stop c.in-Err-Left.ensures.stops) refl
+    left_end _ _ _ _ _ _ _ _ _ _ (meant (map string_bytes c.args.words.now)) c.in-Err-Left.left (subst (λ (s : Stop). StopsMeant (meant (map string_bytes c.args.words.now)) (lent (g.S.Source.shows c.args.source.now) (g.K.Link.shows c.args.keeper.now) (map g.L.Link.shows c.args.links.now)) (lent (g.S.Source.shows c.answer.new.source) (g.K.Link.shows c.answer.new.keeper) (map g.L.Link.shows c.answer.new.links)) s) stop c.in-Err-Left.ensures.stops) refl
     (subst (λ (line : List ℕ). Says (g.E.Sink.shows c.args.err.now) (g.E.Sink.shows c.say-in-Ok-left_text.new.err) line) (c.as_bytes-in-Ok-left_text.ensures.value ∙ (c.in-Ok-left_text.ensures ∙ ap (λ (left : List LeftTablet). left_text (all_left_view left)) c.deref.ensures.value)) c.say-in-Ok-left_text.ensures)
 
 pub returns-in-Ok-left_text-clause-calm : goal.returns-in-Ok-left_text-clause-calm
 returns-in-Ok-left_text-clause-calm g c = λ _.
     let stop : c.in-Err-Left.field-0 ≡ Stop.Left c.in-Err-Left.left = cc (c.in-Err-Left.field-0-is) in
-    left_counts _ _ _ _ _ _ _ _ _ _ (meant (map string_bytes c.args.words.now)) c.in-Err-Left.left (subst (λ (s : Stop). StopsMeant (meant (map string_bytes c.args.words.now)) (g.K.Link.shows c.args.keeper.now) (g.K.Link.shows c.answer.new.keeper) (g.S.Source.shows c.args.source.now) (g.S.Source.shows c.answer.new.source) (map g.L.Link.shows c.args.links.now) (map g.L.Link.shows c.answer.new.links) s) stop c.in-Err-Left.ensures.stops) refl
+    left_counts _ _ _ _ _ _ _ _ _ _ (meant (map string_bytes c.args.words.now)) c.in-Err-Left.left (subst (λ (s : Stop). StopsMeant (meant (map string_bytes c.args.words.now)) (lent (g.S.Source.shows c.args.source.now) (g.K.Link.shows c.args.keeper.now) (map g.L.Link.shows c.args.links.now)) (lent (g.S.Source.shows c.answer.new.source) (g.K.Link.shows c.answer.new.keeper) (map g.L.Link.shows c.answer.new.links)) s) stop c.in-Err-Left.ensures.stops) refl
 
 pub returns-in-Err-Left-clause-calm : goal.returns-in-Err-Left-clause-calm
 returns-in-Err-Left-clause-calm g c = λ _.
     let stop : c.in-Err-Left.field-0 ≡ Stop.Left c.in-Err-Left.left = cc (c.in-Err-Left.field-0-is) in
-    left_counts _ _ _ _ _ _ _ _ _ _ (meant (map string_bytes c.args.words.now)) c.in-Err-Left.left (subst (λ (s : Stop). StopsMeant (meant (map string_bytes c.args.words.now)) (g.K.Link.shows c.args.keeper.now) (g.K.Link.shows c.answer.new.keeper) (g.S.Source.shows c.args.source.now) (g.S.Source.shows c.answer.new.source) (map g.L.Link.shows c.args.links.now) (map g.L.Link.shows c.answer.new.links) s) stop c.in-Err-Left.ensures.stops) refl
+    left_counts _ _ _ _ _ _ _ _ _ _ (meant (map string_bytes c.args.words.now)) c.in-Err-Left.left (subst (λ (s : Stop). StopsMeant (meant (map string_bytes c.args.words.now)) (lent (g.S.Source.shows c.args.source.now) (g.K.Link.shows c.args.keeper.now) (map g.L.Link.shows c.args.links.now)) (lent (g.S.Source.shows c.answer.new.source) (g.K.Link.shows c.answer.new.keeper) (map g.L.Link.shows c.answer.new.links)) s) stop c.in-Err-Left.ensures.stops) refl
 
 pub returns-in-Err-Left-clause-memory : goal.returns-in-Err-Left-clause-memory
 returns-in-Err-Left-clause-memory g c = λ _.
     let stop : c.in-Err-Left.field-0 ≡ Stop.Left c.in-Err-Left.left = cc (c.in-Err-Left.field-0-is) in
-    left_memory _ _ _ _ _ _ _ _ _ _ (meant (map string_bytes c.args.words.now)) c.in-Err-Left.left (subst (λ (s : Stop). StopsMeant (meant (map string_bytes c.args.words.now)) (g.K.Link.shows c.args.keeper.now) (g.K.Link.shows c.answer.new.keeper) (g.S.Source.shows c.args.source.now) (g.S.Source.shows c.answer.new.source) (map g.L.Link.shows c.args.links.now) (map g.L.Link.shows c.answer.new.links) s) stop c.in-Err-Left.ensures.stops) refl
+    left_memory _ _ _ _ _ _ _ _ _ _ (meant (map string_bytes c.args.words.now)) c.in-Err-Left.left (subst (λ (s : Stop). StopsMeant (meant (map string_bytes c.args.words.now)) (lent (g.S.Source.shows c.args.source.now) (g.K.Link.shows c.args.keeper.now) (map g.L.Link.shows c.args.links.now)) (lent (g.S.Source.shows c.answer.new.source) (g.K.Link.shows c.answer.new.keeper) (map g.L.Link.shows c.answer.new.links)) s) stop c.in-Err-Left.ensures.stops) refl
     c.say-in-Err-left_text.ensures
 
 pub returns-clause-left : goal.returns-clause-left
 returns-clause-left g c = λ _.
     let stop : c.in-Err-LeftFile.field-0 ≡ Stop.LeftFile c.in-Err-LeftFile.cause = cc (c.in-Err-LeftFile.field-0-is) in
-    file_end _ _ _ _ _ _ _ _ _ _ (meant (map string_bytes c.args.words.now)) c.in-Err-LeftFile.cause (subst (λ (s : Stop). StopsMeant (meant (map string_bytes c.args.words.now)) (g.K.Link.shows c.args.keeper.now) (g.K.Link.shows c.answer.new.keeper) (g.S.Source.shows c.args.source.now) (g.S.Source.shows c.answer.new.source) (map g.L.Link.shows c.args.links.now) (map g.L.Link.shows c.answer.new.links) s) stop c.in-Err-LeftFile.ensures.stops) refl
+    file_end _ _ _ _ _ _ _ _ _ _ (meant (map string_bytes c.args.words.now)) c.in-Err-LeftFile.cause (subst (λ (s : Stop). StopsMeant (meant (map string_bytes c.args.words.now)) (lent (g.S.Source.shows c.args.source.now) (g.K.Link.shows c.args.keeper.now) (map g.L.Link.shows c.args.links.now)) (lent (g.S.Source.shows c.answer.new.source) (g.K.Link.shows c.answer.new.keeper) (map g.L.Link.shows c.answer.new.links)) s) stop c.in-Err-LeftFile.ensures.stops) refl
     (subst (λ (line : List ℕ). Says (g.E.Sink.shows c.args.err.now) (g.E.Sink.shows c.say-in-Err-LeftFile.new.err) line) (c.bytes-in-Err-LeftFile.ensures ∙ c.left_file_report.ensures) c.say-in-Err-LeftFile.ensures)
 
 pub returns-clause-calm : goal.returns-clause-calm
 returns-clause-calm g c = λ _.
     let stop : c.in-Err-LeftFile.field-0 ≡ Stop.LeftFile c.in-Err-LeftFile.cause = cc (c.in-Err-LeftFile.field-0-is) in
-    file_counts _ _ _ _ _ _ _ _ _ _ (meant (map string_bytes c.args.words.now)) c.in-Err-LeftFile.cause (subst (λ (s : Stop). StopsMeant (meant (map string_bytes c.args.words.now)) (g.K.Link.shows c.args.keeper.now) (g.K.Link.shows c.answer.new.keeper) (g.S.Source.shows c.args.source.now) (g.S.Source.shows c.answer.new.source) (map g.L.Link.shows c.args.links.now) (map g.L.Link.shows c.answer.new.links) s) stop c.in-Err-LeftFile.ensures.stops) refl
+    file_counts _ _ _ _ _ _ _ _ _ _ (meant (map string_bytes c.args.words.now)) c.in-Err-LeftFile.cause (subst (λ (s : Stop). StopsMeant (meant (map string_bytes c.args.words.now)) (lent (g.S.Source.shows c.args.source.now) (g.K.Link.shows c.args.keeper.now) (map g.L.Link.shows c.args.links.now)) (lent (g.S.Source.shows c.answer.new.source) (g.K.Link.shows c.answer.new.keeper) (map g.L.Link.shows c.answer.new.links)) s) stop c.in-Err-LeftFile.ensures.stops) refl
 
 pub returns-clause-complete : goal.returns-clause-complete
 returns-clause-complete g c =
     let stop : c.in-Err-LeftFile.field-0 ≡ Stop.LeftFile c.in-Err-LeftFile.cause = cc (c.in-Err-LeftFile.field-0-is) in
-    file_incomplete _ _ _ _ _ _ _ _ _ _ (meant (map string_bytes c.args.words.now)) c.in-Err-LeftFile.cause (subst (λ (s : Stop). StopsMeant (meant (map string_bytes c.args.words.now)) (g.K.Link.shows c.args.keeper.now) (g.K.Link.shows c.answer.new.keeper) (g.S.Source.shows c.args.source.now) (g.S.Source.shows c.answer.new.source) (map g.L.Link.shows c.args.links.now) (map g.L.Link.shows c.answer.new.links) s) stop c.in-Err-LeftFile.ensures.stops)
+    file_incomplete _ _ _ _ _ _ _ _ _ _ (meant (map string_bytes c.args.words.now)) c.in-Err-LeftFile.cause (subst (λ (s : Stop). StopsMeant (meant (map string_bytes c.args.words.now)) (lent (g.S.Source.shows c.args.source.now) (g.K.Link.shows c.args.keeper.now) (map g.L.Link.shows c.args.links.now)) (lent (g.S.Source.shows c.answer.new.source) (g.K.Link.shows c.answer.new.keeper) (map g.L.Link.shows c.answer.new.links)) s) stop c.in-Err-LeftFile.ensures.stops)
 
 pub returns-in-Ok-left_text-clause-served : goal.returns-in-Ok-left_text-clause-served
 returns-in-Ok-left_text-clause-served g c = served_by _ _ _ 3 (returns-in-Ok-left_text-clause-left g c refl)
@@ -120,7 +121,7 @@ returns-clause-served g c = served_by _ _ _ 3 (returns-clause-left g c refl)
 
 pub returns-in-Err-Usage-clause-complete : goal.returns-in-Err-Usage-clause-complete
 returns-in-Err-Usage-clause-complete g c =
-    usage_incomplete _ _ _ _ _ _ _ _ _ _ (meant (map string_bytes c.args.words.now)) 1 (subst (λ (s : Stop). StopsMeant (meant (map string_bytes c.args.words.now)) (g.K.Link.shows c.args.keeper.now) (g.K.Link.shows c.answer.new.keeper) (g.S.Source.shows c.args.source.now) (g.S.Source.shows c.answer.new.source) (map g.L.Link.shows c.args.links.now) (map g.L.Link.shows c.answer.new.links) s) c.in-Err-Usage.field-0-is c.in-Err-Usage.ensures.stops)
+    usage_incomplete _ _ _ _ _ _ _ _ _ _ (meant (map string_bytes c.args.words.now)) 1 (subst (λ (s : Stop). StopsMeant (meant (map string_bytes c.args.words.now)) (lent (g.S.Source.shows c.args.source.now) (g.K.Link.shows c.args.keeper.now) (map g.L.Link.shows c.args.links.now)) (lent (g.S.Source.shows c.answer.new.source) (g.K.Link.shows c.answer.new.keeper) (map g.L.Link.shows c.answer.new.links)) s) c.in-Err-Usage.field-0-is c.in-Err-Usage.ensures.stops)
 
 pub returns-in-Ok-write_to-clause-served : goal.returns-in-Ok-write_to-clause-served
 returns-in-Ok-write_to-clause-served g c = served_else _ _ 0 refl refl
@@ -149,14 +150,14 @@ returns-in-Err-Left-clause-served g c = served_else _ _ 5 refl refl
 pub returns-in-Ok-write_all-clause-most : goal.returns-in-Ok-write_all-clause-most
 returns-in-Ok-write_all-clause-most g c = λ _.
     let stop : c.in-Err-Most.field-0 ≡ Stop.Most c.in-Err-Most.text c.in-Err-Most.left = cc (c.in-Err-Most.field-0-is) in
-    most_end _ _ _ _ _ _ _ _ _ _ (meant (map string_bytes c.args.words.now)) c.in-Err-Most.text c.in-Err-Most.left (subst (λ (s : Stop). StopsMeant (meant (map string_bytes c.args.words.now)) (g.K.Link.shows c.args.keeper.now) (g.K.Link.shows c.answer.new.keeper) (g.S.Source.shows c.args.source.now) (g.S.Source.shows c.answer.new.source) (map g.L.Link.shows c.args.links.now) (map g.L.Link.shows c.answer.new.links) s) stop c.in-Err-Most.ensures.stops)
+    most_end _ _ _ _ _ _ _ _ _ _ (meant (map string_bytes c.args.words.now)) c.in-Err-Most.text c.in-Err-Most.left (subst (λ (s : Stop). StopsMeant (meant (map string_bytes c.args.words.now)) (lent (g.S.Source.shows c.args.source.now) (g.K.Link.shows c.args.keeper.now) (map g.L.Link.shows c.args.links.now)) (lent (g.S.Source.shows c.answer.new.source) (g.K.Link.shows c.answer.new.keeper) (map g.L.Link.shows c.answer.new.links)) s) stop c.in-Err-Most.ensures.stops)
     (subst (AddedWhole (g.O.Sink.shows c.args.out.now) (g.O.Sink.shows c.write_all.new.out)) c.as_bytes-in-Ok-left_text-2.ensures.value c.in-Ok-write_all.ensures.whole)
     (subst (λ (line : List ℕ). Says (g.E.Sink.shows c.args.err.now) (g.E.Sink.shows c.say-in-Ok-write_all.new.err) line) (c.as_bytes-in-Ok-write_all.ensures.value ∙ (c.in-Ok-left_text-2.ensures ∙ ap (λ (left : List LeftTablet). left_text (all_left_view left)) c.deref-in-Err-Most.ensures.value)) c.say-in-Ok-write_all.ensures)
 
 pub returns-in-Ok-write_all-clause-calm : goal.returns-in-Ok-write_all-clause-calm
 returns-in-Ok-write_all-clause-calm g c = λ _.
     let stop : c.in-Err-Most.field-0 ≡ Stop.Most c.in-Err-Most.text c.in-Err-Most.left = cc (c.in-Err-Most.field-0-is) in
-    most_counts _ _ _ _ _ _ _ _ _ _ (meant (map string_bytes c.args.words.now)) c.in-Err-Most.text c.in-Err-Most.left (subst (λ (s : Stop). StopsMeant (meant (map string_bytes c.args.words.now)) (g.K.Link.shows c.args.keeper.now) (g.K.Link.shows c.answer.new.keeper) (g.S.Source.shows c.args.source.now) (g.S.Source.shows c.answer.new.source) (map g.L.Link.shows c.args.links.now) (map g.L.Link.shows c.answer.new.links) s) stop c.in-Err-Most.ensures.stops) c.in-Ok-write_all.ensures.calm
+    most_counts _ _ _ _ _ _ _ _ _ _ (meant (map string_bytes c.args.words.now)) c.in-Err-Most.text c.in-Err-Most.left (subst (λ (s : Stop). StopsMeant (meant (map string_bytes c.args.words.now)) (lent (g.S.Source.shows c.args.source.now) (g.K.Link.shows c.args.keeper.now) (map g.L.Link.shows c.args.links.now)) (lent (g.S.Source.shows c.answer.new.source) (g.K.Link.shows c.answer.new.keeper) (map g.L.Link.shows c.answer.new.links)) s) stop c.in-Err-Most.ensures.stops) c.in-Ok-write_all.ensures.calm
 
 pub returns-in-Ok-write_all-clause-served : goal.returns-in-Ok-write_all-clause-served
 returns-in-Ok-write_all-clause-served g c = most_served _ _ _ 6 (returns-in-Ok-write_all-clause-most g c refl)
@@ -167,7 +168,7 @@ returns-in-Ok-write_all-clause-complete g c = most_complete _ _ _ (returns-in-Ok
 pub returns-in-Ok-left_text-2-clause-outside : goal.returns-in-Ok-left_text-2-clause-outside
 returns-in-Ok-left_text-2-clause-outside g c = λ _.
     let stop : c.in-Err-Most.field-0 ≡ Stop.Most c.in-Err-Most.text c.in-Err-Most.left = cc (c.in-Err-Most.field-0-is) in
-    most_failed _ _ _ _ _ _ _ _ _ _ (meant (map string_bytes c.args.words.now)) c.in-Err-Most.text c.in-Err-Most.left (subst (λ (s : Stop). StopsMeant (meant (map string_bytes c.args.words.now)) (g.K.Link.shows c.args.keeper.now) (g.K.Link.shows c.answer.new.keeper) (g.S.Source.shows c.args.source.now) (g.S.Source.shows c.answer.new.source) (map g.L.Link.shows c.args.links.now) (map g.L.Link.shows c.answer.new.links) s) stop c.in-Err-Most.ensures.stops)
+    most_failed _ _ _ _ _ _ _ _ _ _ (meant (map string_bytes c.args.words.now)) c.in-Err-Most.text c.in-Err-Most.left (subst (λ (s : Stop). StopsMeant (meant (map string_bytes c.args.words.now)) (lent (g.S.Source.shows c.args.source.now) (g.K.Link.shows c.args.keeper.now) (map g.L.Link.shows c.args.links.now)) (lent (g.S.Source.shows c.answer.new.source) (g.K.Link.shows c.answer.new.keeper) (map g.L.Link.shows c.answer.new.links)) s) stop c.in-Err-Most.ensures.stops)
     (subst (AddedFront (g.O.Sink.shows c.args.out.now) (g.O.Sink.shows c.write_all.new.out)) c.as_bytes-in-Ok-left_text-2.ensures.value c.in-Err-write_all.ensures.front) c.in-Err-write_all.ensures.cause c.say-in-Err-write_all.ensures
 
 pub returns-in-Ok-left_text-2-clause-served : goal.returns-in-Ok-left_text-2-clause-served
@@ -176,12 +177,12 @@ returns-in-Ok-left_text-2-clause-served g c = served_else _ _ 4 refl refl
 pub returns-in-Err-Most-clause-memory : goal.returns-in-Err-Most-clause-memory
 returns-in-Err-Most-clause-memory g c = λ _.
     let stop : c.in-Err-Most.field-0 ≡ Stop.Most c.in-Err-Most.text c.in-Err-Most.left = cc (c.in-Err-Most.field-0-is) in
-    most_memory _ _ _ _ _ _ _ _ _ _ (meant (map string_bytes c.args.words.now)) c.in-Err-Most.text c.in-Err-Most.left (subst (λ (s : Stop). StopsMeant (meant (map string_bytes c.args.words.now)) (g.K.Link.shows c.args.keeper.now) (g.K.Link.shows c.answer.new.keeper) (g.S.Source.shows c.args.source.now) (g.S.Source.shows c.answer.new.source) (map g.L.Link.shows c.args.links.now) (map g.L.Link.shows c.answer.new.links) s) stop c.in-Err-Most.ensures.stops) refl c.say-in-Err-left_text-2.ensures
+    most_memory _ _ _ _ _ _ _ _ _ _ (meant (map string_bytes c.args.words.now)) c.in-Err-Most.text c.in-Err-Most.left (subst (λ (s : Stop). StopsMeant (meant (map string_bytes c.args.words.now)) (lent (g.S.Source.shows c.args.source.now) (g.K.Link.shows c.args.keeper.now) (map g.L.Link.shows c.args.links.now)) (lent (g.S.Source.shows c.answer.new.source) (g.K.Link.shows c.answer.new.keeper) (map g.L.Link.shows c.answer.new.links)) s) stop c.in-Err-Most.ensures.stops) refl c.say-in-Err-left_text-2.ensures
 
 pub returns-in-Err-Most-clause-calm : goal.returns-in-Err-Most-clause-calm
 returns-in-Err-Most-clause-calm g c = λ _.
     let stop : c.in-Err-Most.field-0 ≡ Stop.Most c.in-Err-Most.text c.in-Err-Most.left = cc (c.in-Err-Most.field-0-is) in
-    most_counts _ _ _ _ _ _ _ _ _ _ (meant (map string_bytes c.args.words.now)) c.in-Err-Most.text c.in-Err-Most.left (subst (λ (s : Stop). StopsMeant (meant (map string_bytes c.args.words.now)) (g.K.Link.shows c.args.keeper.now) (g.K.Link.shows c.answer.new.keeper) (g.S.Source.shows c.args.source.now) (g.S.Source.shows c.answer.new.source) (map g.L.Link.shows c.args.links.now) (map g.L.Link.shows c.answer.new.links) s) stop c.in-Err-Most.ensures.stops) refl
+    most_counts _ _ _ _ _ _ _ _ _ _ (meant (map string_bytes c.args.words.now)) c.in-Err-Most.text c.in-Err-Most.left (subst (λ (s : Stop). StopsMeant (meant (map string_bytes c.args.words.now)) (lent (g.S.Source.shows c.args.source.now) (g.K.Link.shows c.args.keeper.now) (map g.L.Link.shows c.args.links.now)) (lent (g.S.Source.shows c.answer.new.source) (g.K.Link.shows c.answer.new.keeper) (map g.L.Link.shows c.answer.new.links)) s) stop c.in-Err-Most.ensures.stops) refl
 
 pub returns-in-Err-Most-clause-served : goal.returns-in-Err-Most-clause-served
 returns-in-Err-Most-clause-served g c = served_else _ _ 5 refl refl

@@ -1,66 +1,67 @@
-use Rattle.std.proofs.Common.{◌<◌, ◌*◌, ◌-◌, refl, inl, sym, ap, subst, string_bytes, Some, map, take, length, [], arith}
+use Rattle.std.proofs.Common.{◌<◌, ◌*◌, ◌-◌, subst, string_bytes, map, take, length, [], arith}
 use Rattle.dr_meaning.specs.QueryLeaves.{query_leaves}
 use Rattle.dr_table.specs.Views.{table_view}
 use Rattle.dr_reading.specs.Scan.{tablets_of}
+use Rattle.dr_tablets.specs.Views.{all_left_view}
 use Rattle.dr_serve.specs.Serving.{IsShare, first_shown}
 use Rattle.dr_serve.specs.Counted.{AreLeftOf}
 use Rattle.dr_commands.specs.Query.{query_meaning, query_view}
 use Rattle.dr_query.specs.Answers.{IsAnswerBut, WhereText, WhereMost, WhereSomeLeft, WhereLeft}
-use Rattle.dr_top.specs.Stops.{query_stop, table_file_stop}
-use Rattle.dr_top.proofs.OutcomeLemmas.{err_is, plain_stop, put_nothing, table_file_stops}
-use Rattle.dr_top.proofs.QueryEnds.{query_refuses_table, query_read_stops, query_text_ends, query_left, query_most, query_asks}
+use Rattle.dr_top.specs.World.{outcome_on}
+use Rattle.dr_top.specs.Stops.{query_stop, table_stop}
+use Rattle.dr_top.proofs.OutcomeLemmas.{err_is}
+use Rattle.dr_top.proofs.CommandLemmas.{table_early, early_asking}
+use Rattle.dr_top.proofs.QueryEnds.{query_refuses_table, query_read_early, query_text_ends, query_left, query_most, query_asks}
 use Rattle.dr_top.proofs.LinkLemmas.{none_asked, links_left_by, links_stay}
 use Rattle.dr_top.proofs.commands.query.answer.Goals as goal
 
 pub returns-in_err-table-clause-stops : goal.returns-in_err-table-clause-stops
-returns-in_err-table-clause-stops g c = λ input.
+returns-in_err-table-clause-stops g c =
     err_is _ _ _ c.from_residual.ensures.1
-    (plain_stop (query_meaning (query_view c.args.words.now)) (g.K.Link.shows c.args.keeper.now) (g.K.Link.shows c.read_table_file.new.keeper) input input _ (table_file_stop c.in_err-table.field-0.0) c.read_table_file.ensures.kept
-    (table_file_stops (query_meaning (query_view c.args.words.now)) (g.K.Link.shows c.args.keeper.now) (g.K.Link.shows c.read_table_file.new.keeper) input c.as_str.result.now c.in_err-table.field-0.0 (ap Some (sym c.as_str.ensures.value))
-    (query_refuses_table (query_view c.args.words.now)) c.in_err-table.ensures.stops))
+    (early_asking (outcome_on (query_meaning (query_view c.args.words.now)) c.args.file.now) (map g.L.Link.shows c.args.links.now) (table_stop c.in_err-table.field-0.0)
+    (table_early (query_meaning (query_view c.args.words.now)) c.args.file.now c.in_err-table.field-0.0 (query_refuses_table (query_view c.args.words.now)) c.in_err-table.ensures))
 
 pub returns-in_err-plan-clause-stops : goal.returns-in_err-plan-clause-stops
-returns-in_err-plan-clause-stops g c = λ input.
+returns-in_err-plan-clause-stops g c =
     err_is _ _ _ c.from_residual-in_err-plan.ensures.1
-    (plain_stop (query_meaning (query_view c.args.words.now)) (g.K.Link.shows c.args.keeper.now) (g.K.Link.shows c.read_table_file.new.keeper) input input _ (query_stop c.in_err-plan.field-0.0) c.in_ok-table.ensures.kept
-    (query_read_stops (query_view c.args.words.now) (g.K.Link.shows c.args.keeper.now) (g.K.Link.shows c.read_table_file.new.keeper) input c.as_str.result.now c.as_str-2.result.now (table_view c.in_ok-table.table) c.in_err-plan.field-0.0
-    c.as_str.ensures.value c.as_str-2.ensures.value c.in_ok-table.ensures.table c.in_ok-table.ensures.calm c.in_err-plan.ensures.refused))
+    (early_asking (outcome_on (query_meaning (query_view c.args.words.now)) c.args.file.now) (map g.L.Link.shows c.args.links.now) (query_stop c.in_err-plan.field-0.0)
+    (query_read_early (query_view c.args.words.now) c.args.file.now c.as_str.result.now (table_view c.in_ok-table.table) c.in_err-plan.field-0.0 c.as_str.ensures.value c.in_ok-table.ensures c.in_err-plan.ensures.refused))
+
+pub returns-in_err-text-clause-stops : goal.returns-in_err-text-clause-stops
+returns-in_err-text-clause-stops g c = err_is _ _ _ c.from_residual-in_err-text.ensures.1 tt
 
 pub returns-in-Text-clause-text : goal.returns-in-Text-clause-text
-returns-in-Text-clause-text g c = λ input.
+returns-in-Text-clause-text g c =
     let t = table_view c.in_ok-table.table in
     let read = c.in_ok-plan.ensures.plan in
-    query_text_ends (query_view c.args.words.now) (g.K.Link.shows c.args.keeper.now) input g.L.Link.shows c.args.links.now (map g.L.Link.shows c.query_table.new.links) c.service_of.result.workers c.as_str.result.now c.as_str-2.result.now (string_bytes c.in-Text.text) t read.0
-    c.as_str.ensures.value c.as_str-2.ensures.value c.service_of.ensures.workers c.in_ok-table.ensures.table read.1
+    query_text_ends (query_view c.args.words.now) g.L.Link.shows c.args.links.now c.service_of.result.workers c.args.file.now c.as_str.result.now t read.0 c.as_str.ensures.value c.service_of.ensures.workers c.in_ok-table.ensures read.1 (map g.L.Link.shows c.query_table.new.links) (string_bytes c.in-Text.text)
     (subst (WhereText (IsAnswerBut t read.0 (map g.L.Link.shows (take c.service_of.result.workers c.args.links.now)) [])) c.in-Text.is (c.in_ok-text.ensures.text read.0 read.2))
 
 pub returns-in-Most-clause-stops : goal.returns-in-Most-clause-stops
-returns-in-Most-clause-stops g c = λ input.
+returns-in-Most-clause-stops g c =
     let t = table_view c.in_ok-table.table in
     let read = c.in_ok-plan.ensures.plan in
     let now = map g.L.Link.shows c.query_table.new.links in
     let links = map g.L.Link.shows (take c.service_of.result.workers c.args.links.now) in
-    query_most (query_view c.args.words.now) (g.K.Link.shows c.args.keeper.now) (g.K.Link.shows c.read_table_file.new.keeper) input g.L.Link.shows c.args.links.now now c.service_of.result.workers c.service_of.result.least c.as_str.result.now c.as_str-2.result.now t read.0 c.in-Most.text
-    c.in-Most.left c.as_str.ensures.value c.as_str-2.ensures.value c.service_of.ensures.workers c.service_of.ensures.least c.args.words.now.serving.has_worker c.in_ok-table.ensures.table read.1 c.in_ok-table.ensures.calm c.in_ok-table.ensures.kept
+    query_most (query_view c.args.words.now) g.L.Link.shows c.args.links.now c.service_of.result.workers c.args.file.now c.as_str.result.now t read.0 c.as_str.ensures.value c.service_of.ensures.workers c.in_ok-table.ensures read.1 now c.service_of.result.least (string_bytes c.in-Most.text) (all_left_view c.in-Most.left.items) c.service_of.ensures.least
     (subst (WhereSomeLeft (AreLeftOf t.schema (query_leaves t.schema.fields read.0) (tablets_of t) links (first_shown now).faults)) c.in-Most.is (c.in_ok-text.ensures.left read.0 read.2))
     (subst (WhereMost (λ text left. IsShare c.service_of.result.least (t.tablets - length left) t.tablets)) c.in-Most.is c.in_ok-text.ensures.share)
     (subst (WhereMost (λ text left. IsAnswerBut t read.0 links left text)) c.in-Most.is (c.in_ok-text.ensures.most read.0 read.2))
 
 pub returns-clause-stops : goal.returns-clause-stops
-returns-clause-stops g c = λ input.
+returns-clause-stops g c =
     let t = table_view c.in_ok-table.table in
     let read = c.in_ok-plan.ensures.plan in
     let now = map g.L.Link.shows c.query_table.new.links in
-    query_left (query_view c.args.words.now) (g.K.Link.shows c.args.keeper.now) (g.K.Link.shows c.read_table_file.new.keeper) input g.L.Link.shows c.args.links.now now c.service_of.result.workers c.service_of.result.least c.as_str.result.now c.as_str-2.result.now t read.0 c.in-Left.left
-    c.as_str.ensures.value c.as_str-2.ensures.value c.service_of.ensures.workers c.service_of.ensures.least c.args.words.now.serving.has_worker c.in_ok-table.ensures.table read.1 c.in_ok-table.ensures.calm c.in_ok-table.ensures.kept
+    query_left (query_view c.args.words.now) g.L.Link.shows c.args.links.now c.service_of.result.workers c.args.file.now c.as_str.result.now t read.0 c.as_str.ensures.value c.service_of.ensures.workers c.in_ok-table.ensures read.1 now c.service_of.result.least (all_left_view c.in-Left.left.items) c.service_of.ensures.least
     (subst (WhereSomeLeft (AreLeftOf t.schema (query_leaves t.schema.fields read.0) (tablets_of t) (map g.L.Link.shows (take c.service_of.result.workers c.args.links.now)) (first_shown now).faults)) c.in-Left.is (c.in_ok-text.ensures.left read.0 read.2))
     (subst (WhereLeft (λ left. 100 * (t.tablets - length left) < c.service_of.result.least * t.tablets)) c.in-Left.is c.in_ok-text.ensures.short)
 
 pub returns-in_err-table-clause-reads : goal.returns-in_err-table-clause-reads
-returns-in_err-table-clause-reads g c = λ input. none_asked (query_meaning (query_view c.args.words.now)) (g.K.Link.shows c.args.keeper.now) input (map g.L.Link.shows c.args.links.now)
+returns-in_err-table-clause-reads g c = none_asked (map g.L.Link.shows c.args.links.now) (outcome_on (query_meaning (query_view c.args.words.now)) c.args.file.now [])
 
 pub returns-in_err-plan-clause-reads : goal.returns-in_err-plan-clause-reads
-returns-in_err-plan-clause-reads g c = λ input. none_asked (query_meaning (query_view c.args.words.now)) (g.K.Link.shows c.args.keeper.now) input (map g.L.Link.shows c.args.links.now)
+returns-in_err-plan-clause-reads g c = none_asked (map g.L.Link.shows c.args.links.now) (outcome_on (query_meaning (query_view c.args.words.now)) c.args.file.now [])
 
 pub returns-in_err-table-clause-links : goal.returns-in_err-table-clause-links
 returns-in_err-table-clause-links g c = links_stay c.args.words.now.serving.workers (map g.L.Link.shows c.args.links.now)
@@ -69,11 +70,10 @@ pub returns-in_err-plan-clause-links : goal.returns-in_err-plan-clause-links
 returns-in_err-plan-clause-links g c = links_stay c.args.words.now.serving.workers (map g.L.Link.shows c.args.links.now)
 
 pub returns-in_err-text-clause-reads : goal.returns-in_err-text-clause-reads
-returns-in_err-text-clause-reads g c = λ input.
+returns-in_err-text-clause-reads g c =
     let t = table_view c.in_ok-table.table in
     let read = c.in_ok-plan.ensures.plan in
-    query_asks (query_view c.args.words.now) (g.K.Link.shows c.args.keeper.now) input g.L.Link.shows c.args.links.now c.query_table.new.links c.as_str.result.now c.as_str-2.result.now t read.0
-    c.as_str.ensures.value c.as_str-2.ensures.value c.in_ok-table.ensures.table read.1 c.query_table.ensures.count (c.query_table.ensures.asks read.0 read.2)
+    query_asks (query_view c.args.words.now) g.L.Link.shows c.args.links.now c.service_of.result.workers c.args.file.now c.as_str.result.now t read.0 c.as_str.ensures.value c.service_of.ensures.workers c.in_ok-table.ensures read.1 c.query_table.new.links c.query_table.ensures.count (c.query_table.ensures.asks read.0 read.2)
 
 pub returns-in_err-text-clause-links : goal.returns-in_err-text-clause-links
 returns-in_err-text-clause-links g c =
@@ -81,11 +81,10 @@ returns-in_err-text-clause-links g c =
     c.query_table.ensures.same c.query_table.ensures.others
 
 pub returns-in-Text-clause-reads : goal.returns-in-Text-clause-reads
-returns-in-Text-clause-reads g c = λ input.
+returns-in-Text-clause-reads g c =
     let t = table_view c.in_ok-table.table in
     let read = c.in_ok-plan.ensures.plan in
-    query_asks (query_view c.args.words.now) (g.K.Link.shows c.args.keeper.now) input g.L.Link.shows c.args.links.now c.query_table.new.links c.as_str.result.now c.as_str-2.result.now t read.0
-    c.as_str.ensures.value c.as_str-2.ensures.value c.in_ok-table.ensures.table read.1 c.query_table.ensures.count (c.query_table.ensures.asks read.0 read.2)
+    query_asks (query_view c.args.words.now) g.L.Link.shows c.args.links.now c.service_of.result.workers c.args.file.now c.as_str.result.now t read.0 c.as_str.ensures.value c.service_of.ensures.workers c.in_ok-table.ensures read.1 c.query_table.new.links c.query_table.ensures.count (c.query_table.ensures.asks read.0 read.2)
 
 pub returns-in-Text-clause-links : goal.returns-in-Text-clause-links
 returns-in-Text-clause-links g c =
@@ -93,11 +92,10 @@ returns-in-Text-clause-links g c =
     c.query_table.ensures.same c.query_table.ensures.others
 
 pub returns-in-Most-clause-reads : goal.returns-in-Most-clause-reads
-returns-in-Most-clause-reads g c = λ input.
+returns-in-Most-clause-reads g c =
     let t = table_view c.in_ok-table.table in
     let read = c.in_ok-plan.ensures.plan in
-    query_asks (query_view c.args.words.now) (g.K.Link.shows c.args.keeper.now) input g.L.Link.shows c.args.links.now c.query_table.new.links c.as_str.result.now c.as_str-2.result.now t read.0
-    c.as_str.ensures.value c.as_str-2.ensures.value c.in_ok-table.ensures.table read.1 c.query_table.ensures.count (c.query_table.ensures.asks read.0 read.2)
+    query_asks (query_view c.args.words.now) g.L.Link.shows c.args.links.now c.service_of.result.workers c.args.file.now c.as_str.result.now t read.0 c.as_str.ensures.value c.service_of.ensures.workers c.in_ok-table.ensures read.1 c.query_table.new.links c.query_table.ensures.count (c.query_table.ensures.asks read.0 read.2)
 
 pub returns-in-Most-clause-links : goal.returns-in-Most-clause-links
 returns-in-Most-clause-links g c =
@@ -105,18 +103,12 @@ returns-in-Most-clause-links g c =
     c.query_table.ensures.same c.query_table.ensures.others
 
 pub returns-clause-reads : goal.returns-clause-reads
-returns-clause-reads g c = λ input.
+returns-clause-reads g c =
     let t = table_view c.in_ok-table.table in
     let read = c.in_ok-plan.ensures.plan in
-    query_asks (query_view c.args.words.now) (g.K.Link.shows c.args.keeper.now) input g.L.Link.shows c.args.links.now c.query_table.new.links c.as_str.result.now c.as_str-2.result.now t read.0
-    c.as_str.ensures.value c.as_str-2.ensures.value c.in_ok-table.ensures.table read.1 c.query_table.ensures.count (c.query_table.ensures.asks read.0 read.2)
+    query_asks (query_view c.args.words.now) g.L.Link.shows c.args.links.now c.service_of.result.workers c.args.file.now c.as_str.result.now t read.0 c.as_str.ensures.value c.service_of.ensures.workers c.in_ok-table.ensures read.1 c.query_table.new.links c.query_table.ensures.count (c.query_table.ensures.asks read.0 read.2)
 
 pub returns-clause-links : goal.returns-clause-links
 returns-clause-links g c =
     links_left_by g.L.Link.shows c.service_of.result.workers c.args.words.now.serving.workers c.args.links.now c.query_table.new.links c.service_of.ensures.workers (omega (arith, c.requires.links, c.args.words.now.serving.few_workers)) c.query_table.ensures.count
     c.query_table.ensures.same c.query_table.ensures.others
-
-pub returns-in_err-text-clause-stops : goal.returns-in_err-text-clause-stops
-returns-in_err-text-clause-stops g c = λ input.
-    err_is _ _ _ c.from_residual-in_err-text.ensures.1
-    (c.in_ok-table.ensures.calm, refl, inl (put_nothing (query_meaning (query_view c.args.words.now)) (g.K.Link.shows c.args.keeper.now) (g.K.Link.shows c.read_table_file.new.keeper) input c.in_ok-table.ensures.kept))

@@ -1,0 +1,8 @@
+//! Versions of data pages.
+
+/// The versions of the data pages that files are written in.
+#[derive(Clone, Copy, PartialEq, Eq, Debug)]
+pub enum PageVersion {
+    V1,
+    V2,
+}

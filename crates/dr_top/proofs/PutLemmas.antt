@@ -1,0 +1,172 @@
+-- Commands that put nothing, and what is said over the keeper after the file was read.
+use Rattle.std.specs.Prelude.{◌≡◌, ℕ, Bool, true, false, List, [], ◌∷◌, ◌++◌, Option, Some, None, Result, Ok, Err, IsTrue, ◌⊎◌, string_bytes}
+use Rattle.std.proofs.Common.{refl, sym, ap, ◌∙◌, subst, inl, inr}
+use Rattle.dr_meaning.specs.Refusals.{CommandRefusal}
+use Rattle.dr_formats.specs.Loading.{Put}
+use Rattle.dr_load.specs.Puts.{HasPut, HasPutSome, BreaksOff}
+use Rattle.dr_load.specs.Given.{WhereLines}
+use Rattle.dr_load.proofs.PutLemmas.{nothing_put, put_more, breaks_behind}
+use Rattle.dr_input.specs.Whole.{whole_lines}
+use Rattle.dr_input.specs.Taken.{WhereGiven}
+use Rattle.dr_outside.specs.Faults.{raised}
+use Rattle.dr_outside.specs.Source.{SourceShown}
+use Rattle.dr_outside.specs.Link.{Files, LinkShown, Holds}
+use Rattle.dr_commands.specs.Meaning.{Meaning, plain, puts_in}
+use Rattle.dr_top.specs.World.{Lent, lent, file_of, IsFileOf, outcome_on, Opens, RefusesAlways, Accepts, IsOpenedBy}
+use Rattle.dr_tablets.specs.Views.{all_left_view}
+use Rattle.dr_top.specs.Reading.{IsLeftWith, HasMost, IsFileLeft}
+use Rattle.dr_top.specs.Keeping.{IsUnput, KeepsFile, PutsSome, PutsBeforeEnd, PutsGiven, PutsBreak, IsRefusedSo, puts_before_end}
+use Rattle.dr_top.specs.Stops.{StopsUnread, StopsWith, refusal_view}
+use Rattle.dr_top.specs.Answers.{Gives, Finishes, AsksEach, AsksLink, AsksFor}
+use Rattle.dr_top.specs.World.{WithEach}
+use Rattle.dr_top.specs.declared.stop.Stop.{Stop}
+use Rattle.dr_top.proofs.OutcomeLemmas.{each_input, file_so, weaker, weaker_for, of_each, over, over_for, over_file}
+
+-- ---- what puts nothing
+
+pub unput : (k : LinkShown) → IsUnput k k
+unput k = record { held = refl; puts = refl }
+
+pub unput_more : (k k1 k2 : LinkShown) → IsUnput k k1 → IsUnput k1 k2 → IsUnput k k2
+unput_more k k1 k2 d e = record { held = e.held ∙ d.held; puts = e.puts ∙ d.puts }
+
+pub put_none : (k k1 : LinkShown) → IsUnput k k1 → HasPut [] k k1
+put_none k k1 e = nothing_put k k1 e.held e.puts
+
+some_of_none : (ps : List Put) (k k1 : LinkShown) → IsUnput k k1 → HasPutSome ps k k1
+some_of_none ps k k1 e = ([], ps, refl, put_none k k1 e)
+
+pub put_nothing : (m : Meaning) (before after : Lent) → IsUnput before.keeper after.keeper → PutsSome m before after
+put_nothing m before after e = of_each m before (λ o. HasPutSome (puts_in o) before.keeper after.keeper) (λ o. some_of_none (puts_in o) before.keeper after.keeper e)
+
+pub put_nothing_yet : (m : Meaning) (before after : Lent) → IsUnput before.keeper after.keeper → PutsBeforeEnd m before after
+put_nothing_yet m before after e = of_each m before (λ o. HasPutSome (puts_before_end o) before.keeper after.keeper) (λ o. some_of_none (puts_before_end o) before.keeper after.keeper e)
+
+pub plain_puts : (r : Result (List ℕ) CommandRefusal) → puts_in (plain r) ≡ []
+plain_puts (Ok text) = refl
+plain_puts (Err r) = refl
+
+pub lines_given : (left now : Option (List ℕ)) (P : List ℕ → Type 0) (Q : List ℕ → Type 0) → ((lines : List ℕ) → Q lines) → WhereGiven left now P → WhereLines left now Q
+lines_given None now P Q f h = tt
+lines_given (Some all) None P Q f h = h
+lines_given (Some all) (Some rest) P Q f h = (h.0, whole_lines h.0, h.1, inl refl, f (whole_lines h.0))
+
+lines_so : (left now : Option (List ℕ)) (P Q : List ℕ → Type 0) → ((lines : List ℕ) → P lines → Q lines) → WhereLines left now P → WhereLines left now Q
+lines_so None now P Q f h = tt
+lines_so (Some all) None P Q f h = h
+lines_so (Some all) (Some rest) P Q f h = (h.0, h.1, h.2, h.3, f h.1 h.4)
+
+-- ---- a file that gives no bytes
+
+pub unread_stops : (m : Meaning) (i : SourceShown) (k k1 : LinkShown) (ls : List LinkShown) (stop : Stop) → IsUnput k k1 → StopsUnread m k k1 stop → StopsWith m (lent i k ls) (lent i k1 ls) stop
+unread_stops m i k k1 ls Stop.Usage e h = h
+unread_stops m i k k1 ls Stop.NoMemory e h = (h, refl, inl (put_nothing m (lent i k ls) (lent i k1 ls) e))
+unread_stops m i k k1 ls Stop.Source e h = absurd h
+unread_stops m i k k1 ls Stop.Keeper e h = (h.0, refl, refl, h.1, inl (refl, e))
+unread_stops m i k k1 ls (Stop.Refused r) e h = (
+  h.0,
+  refl,
+  refl,
+  file_so (file_of m k) (λ file. RefusesAlways (outcome_on m file) (refusal_view r)) _
+      (λ file g. each_input m.reads_input i.left (λ input. IsRefusedSo (refusal_view r) k k1 (outcome_on m file input)) (λ input. ([], g input, put_none k k1 e))) h.1,
+  λ early. (refl, h.1, put_none k k1 e),
+)
+unread_stops m i k k1 ls (Stop.Left left) e h = absurd h
+unread_stops m i k k1 ls (Stop.Most text left) e h = absurd h
+unread_stops m i k k1 ls (Stop.LeftFile cause) e h = absurd h
+
+-- ---- what is put behind a look at a file is put behind what was before
+
+put_later : (ps : List Put) (k k1 k2 : LinkShown) → IsUnput k k1 → HasPut ps k1 k2 → HasPut ps k k2
+put_later ps k k1 k2 e h = put_more [] ps k k1 k2 (put_none k k1 e) h
+
+some_later : (ps : List Put) (k k1 k2 : LinkShown) → IsUnput k k1 → HasPutSome ps k1 k2 → HasPutSome ps k k2
+some_later ps k k1 k2 e h = (h.0, h.1, h.2, put_later h.0 k k1 k2 e h.3)
+
+breaks_later : (known : Bool) (ps : List Put) (k k1 k2 : LinkShown) → IsUnput k k1 → BreaksOff known ps k1 k2 → BreaksOff known ps k k2
+breaks_later known ps k k1 k2 e h = breaks_behind known [] ps k k1 k2 (put_none k k1 e) h
+
+pub asks_later : (path : Option (List ℕ)) (k k1 k2 : LinkShown) → AsksFor path k k1 → k2.asked ≡ k1.asked → AsksFor path k k2
+asks_later None k k1 k2 h e = e ∙ h
+asks_later (Some path) k k1 k2 h e = (h.0, e ∙ h.1, h.2)
+
+pub file_later : (m : Meaning) (k k1 : LinkShown) (file : List ℕ) → IsUnput k k1 → IsFileOf m k file → IsFileOf m k1 file
+file_later m k k1 file e h = over_file m k1 k (λ told. told ≡ file) (sym e.held) h
+
+module _ (m : Meaning) (i i1 : SourceShown) (k k1 k2 : LinkShown) (ls ls1 : List LinkShown) (e : IsUnput k k1) where
+  opens_later : (b : Bool) → IsOpenedBy b m k1 → IsOpenedBy b m k
+  opens_later false h = tt
+  opens_later true h = over_file m k k1 (λ file. Opens (outcome_on m file)) e.held h
+
+  pub finishes_later : (text : List ℕ) → Finishes m (lent i k1 ls) (lent i1 k2 ls1) text → Finishes m (lent i k ls) (lent i1 k2 ls1) text
+  finishes_later text h = (
+    weaker m (lent i k ls) (Gives (lent i k1 ls) (lent i1 k2 ls1) text) (Gives (lent i k ls) (lent i1 k2 ls1) text) (λ o g. (g.0, put_later (puts_in o) k k1 k2 e g.1))
+        (over m i k k1 ls (Gives (lent i k1 ls) (lent i1 k2 ls1) text) e.held h.0),
+    opens_later m.reads_input h.1,
+  )
+
+  pub asks_each_later : AsksEach (Some m) (lent i k1 ls) (lent i1 k2 ls1) → AsksEach (Some m) (lent i k ls) (lent i1 k2 ls1)
+  asks_each_later h = over_for m i k k1 ls (λ o. WithEach ls ls1 (AsksLink o)) e.held h
+
+  puts_later : PutsSome m (lent i k1 ls) (lent i1 k2 ls1) → PutsSome m (lent i k ls) (lent i1 k2 ls1)
+  puts_later h =
+      weaker_for m (lent i k ls) (λ o. HasPutSome (puts_in o) k1 k2) (λ o. HasPutSome (puts_in o) k k2) (λ o. some_later (puts_in o) k k1 k2 e)
+      (over_for m i k k1 ls (λ o. HasPutSome (puts_in o) k1 k2) e.held h)
+
+  yet_later : PutsBeforeEnd m (lent i k1 ls) (lent i1 k2 ls1) → PutsBeforeEnd m (lent i k ls) (lent i1 k2 ls1)
+  yet_later h =
+      weaker_for m (lent i k ls) (λ o. HasPutSome (puts_before_end o) k1 k2) (λ o. HasPutSome (puts_before_end o) k k2) (λ o. some_later (puts_before_end o) k k1 k2 e)
+      (over_for m i k k1 ls (λ o. HasPutSome (puts_before_end o) k1 k2) e.held h)
+
+  break_later : (told : Bool) → PutsBreak told m (lent i k1 ls) (lent i1 k2 ls1) → PutsBreak told m (lent i k ls) (lent i1 k2 ls1)
+  break_later told h =
+      weaker_for m (lent i k ls) (λ o. BreaksOff told (puts_in o) k1 k2) (λ o. BreaksOff told (puts_in o) k k2) (λ o. breaks_later told (puts_in o) k k1 k2 e)
+      (over_for m i k k1 ls (λ o. BreaksOff told (puts_in o) k1 k2) e.held h)
+
+  given_later : PutsGiven m (lent i k1 ls) (lent i1 k2 ls1) → PutsGiven m (lent i k ls) (lent i1 k2 ls1)
+  given_later h =
+      file_so (file_of m k) (λ file. WhereLines i.left i1.left (λ lines. HasPut (puts_in (outcome_on m file (lines ++ 10 ∷ []))) k1 k2)) _
+      (λ file. lines_so i.left i1.left (λ lines. HasPut (puts_in (outcome_on m file (lines ++ 10 ∷ []))) k1 k2) (λ lines. HasPut (puts_in (outcome_on m file (lines ++ 10 ∷ []))) k k2)
+      (λ lines. put_later (puts_in (outcome_on m file (lines ++ 10 ∷ []))) k k1 k2 e))
+      (over_file m k k1 (λ file. WhereLines i.left i1.left (λ lines. HasPut (puts_in (outcome_on m file (lines ++ 10 ∷ []))) k1 k2)) e.held h)
+
+  memory_later : PutsSome m (lent i k1 ls) (lent i1 k2 ls1) ⊎ PutsBreak false m (lent i k1 ls) (lent i1 k2 ls1) → PutsSome m (lent i k ls) (lent i1 k2 ls1) ⊎ PutsBreak false m (lent i k ls) (lent i1 k2 ls1)
+  memory_later (inl h) = inl (puts_later h)
+  memory_later (inr h) = inr (break_later false h)
+
+  failed_later : ((i1 ≡ i) × IsUnput k1 k2) ⊎ (PutsBreak true m (lent i k1 ls) (lent i1 k2 ls1) × IsOpenedBy m.reads_input m k1)
+      → ((i1 ≡ i) × IsUnput k k2) ⊎ (PutsBreak true m (lent i k ls) (lent i1 k2 ls1) × IsOpenedBy m.reads_input m k)
+  failed_later (inl h) = inl (h.0, unput_more k k1 k2 e h.1)
+  failed_later (inr h) = inr (break_later true h.0, opens_later m.reads_input h.1)
+
+  keeps_later : (IsTrue k.is_steady → IsTrue k1.is_steady) → KeepsFile m k → KeepsFile m k1
+  keeps_later steady kept = record {
+    path = kept.path;
+    named = kept.named;
+    steady = steady kept.steady;
+    holds = subst (λ (held : Option Files). Holds held kept.path) (sym e.held) kept.holds;
+  }
+
+  pub stops_later : (stop : Stop) → k1.faults ≡ k.faults → (IsTrue k.is_steady → IsTrue k1.is_steady) → StopsWith m (lent i k1 ls) (lent i1 k2 ls1) stop → StopsWith m (lent i k ls) (lent i1 k2 ls1) stop
+  stops_later Stop.Usage c s h = h
+  stops_later Stop.NoMemory c s h = (h.0 ∙ c, h.1, memory_later h.2)
+  stops_later Stop.Keeper c s h = (h.0 ∙ ap raised c, h.1, h.2, (λ kept. h.3 (keeps_later s kept)), failed_later h.4)
+  stops_later Stop.Source c s h = (
+    h.0,
+    h.1 ∙ c,
+    h.2,
+    over_file m k k1 (λ file. Opens (outcome_on m file)) e.held h.3,
+    yet_later h.4,
+    over_file m k k1 (λ file. Accepts (outcome_on m file) i i1) e.held h.5,
+    given_later h.6,
+  )
+  stops_later (Stop.Refused r) c s h = (
+    h.0 ∙ c,
+    h.1,
+    h.2,
+    weaker m (lent i k ls) (IsRefusedSo (refusal_view r) k1 k2) (IsRefusedSo (refusal_view r) k k2) (λ o g. (g.0, g.1, put_later g.0 k k1 k2 e g.2)) (over m i k k1 ls (IsRefusedSo (refusal_view r) k1 k2) e.held h.3),
+    λ early. let x = h.4 early in (x.0, over_file m k k1 (λ file. RefusesAlways (outcome_on m file) (refusal_view r)) e.held x.1, put_later [] k k1 k2 e x.2),
+  )
+  stops_later (Stop.Left left) c s h = (h.0 ∙ c, h.1, h.2, unput_more k k1 k2 e h.3, over m i k k1 ls (λ o. IsLeftWith o ls ls1 (all_left_view left.items)) e.held h.4)
+  stops_later (Stop.Most text left) c s h = (h.0 ∙ c, h.1, h.2, unput_more k k1 k2 e h.3, over m i k k1 ls (λ o. HasMost o ls ls1 (all_left_view left.items) (string_bytes text)) e.held h.4)
+  stops_later (Stop.LeftFile cause) c s h = (h.0 ∙ c, h.1, h.2, unput_more k k1 k2 e h.3, over m i k k1 ls (λ o. IsFileLeft o ls ls1 cause) e.held h.4)
