@@ -36,8 +36,8 @@ fn one_leaf(alloc: Global) -> Result<Vec<String>, NoMemory>
 }
 
 /// What a plan's query prints of the records of an input, which is read to its end. They are loaded into memory as a
-/// table, `rows` of them to a tablet, and the answer is that of the table, served so: each worker has a link of its own to
-/// the one shelf.
+/// table, `rows` of them to a tablet, and the answer is that of the table, served so: each worker has a link of its own
+/// to the one shelf.
 ///
 /// Errors: the first line that is refused, as is each past 4,096 times `rows`; the source failed, and no whole line
 /// that it gave before is refused; want of memory. Nothing else: no tablet of the table is left, whether the source

@@ -68,8 +68,8 @@ fn restore_rows(
 }
 
 /// The projections to the leaves of the fields of as many records of the schema as there are rows, which have these
-/// columns, one for each field: a walk over the columns judges them, and then the nodes are restored of the columns, the
-/// fields in schema order. The time is linear in the triplets and in the nodes' slots.
+/// columns, one for each field: a walk over the columns judges them, and then the nodes are restored of the columns,
+/// the fields in schema order. The time is linear in the triplets and in the nodes' slots.
 ///
 /// Errors: `BadData` exactly where no such records have these columns; want of memory.
 pub fn assemble(

@@ -115,8 +115,8 @@ impl<P: Piece + Drop, N: Naming<P>> Board<P, N> {
         self.state.take()
     }
 
-    /// Hands out the tablet on its first leaf, unless it was handed out before; None also where it has no leaf, or there
-    /// is no such tablet.
+    /// Hands out the tablet on its first leaf, unless it was handed out before; None also where it has no leaf, or
+    /// there is no such tablet.
     pub fn fresh(&mut self, tablet: u32) -> Option<Hand>
         ensures hand { result ≡ fresh N.job self.old.history tablet }
         ensures history { self.new.history ≡ after_give self.old.history (fresh N.job self.old.history tablet) }

@@ -33,7 +33,8 @@ impl Model for State {
 
     ghost view = { λ s. record { job = job_of s.lag s.tablets.items; history = s.history.items } };
 
-    ghost invariant = { λ s. KeepsState (job_of s.lag s.tablets.items) s.history.items s.tablets.items (vec_capacity s.history) s.start };
+    ghost invariant = { λ s. KeepsState (job_of s.lag s.tablets.items) s.history.items s.tablets.items
+        (vec_capacity s.history) s.start };
 }
 
 impl State {
@@ -143,8 +144,8 @@ impl State {
         )
     }
 
-    /// Hands out the tablet on its first leaf, unless it was handed out before; None also where it has no leaf, or there
-    /// is no such tablet.
+    /// Hands out the tablet on its first leaf, unless it was handed out before; None also where it has no leaf, or
+    /// there is no such tablet.
     pub fn fresh(&mut self, tablet: u32) -> Option<Hand>
         ensures hand { result ≡ fresh self.old.job self.old.history tablet }
         ensures history { self.new.history ≡ after_give self.old.history (fresh self.old.job self.old.history tablet) }

@@ -17,7 +17,11 @@ struct Dripping<'a> {
 }
 
 impl Source for Dripping<'_> {
-    ghost shows = { λ s. record { left = None; faults = s.source.failing.faults; is_steady = is_quiet s.source.failing } };
+    ghost shows = { λ s. record {
+      left = None;
+      faults = s.source.failing.faults;
+      is_steady = is_quiet s.source.failing;
+    } };
 
     fn read(&mut self, buf: &mut [u8]) -> Result<usize, Failed> {
         let most = self.most.min(buf.len());

@@ -38,7 +38,8 @@ pub(crate) fn shape_of(leaf: LeafShape, page: Option<DataPage>) -> Option<Shape>
     })
 }
 
-/// And of a V2 page. Its numbers of NULLs and rows aren't looked at, nor whether it says that its values are compressed.
+/// And of a V2 page. Its numbers of NULLs and rows aren't looked at, nor whether it says that its values are
+/// compressed.
 pub(crate) fn shape_of_v2(leaf: LeafShape, page: Option<DataPageV2>) -> Option<Shape>
     ensures shape { (l : Leaf) → IsLeafOf l leaf
         → option_map shape_view result ≡ option_map (shape_of_page_v2 l) (option_map data_page_v2_view page) }

@@ -122,7 +122,8 @@ impl PageTaker {
         ensures taken { OnOk result (Takes (data_page (wanted_of self.old) (dictionary_of self.old) body.now
             (option_map shape_view shape) []) (column_view out.old) (column_view out.new) (wanted_of self.old)
             (wanted_of self.new) (dictionary_of self.new)) }
-        ensures bad { IfErr result (λ e. IsChunkFault e (data_page (wanted_of self.old) (dictionary_of self.old) body.now
+        ensures bad { IfErr result (λ e. IsChunkFault e (data_page (wanted_of self.old) (dictionary_of self.old)
+            body.now
             (option_map shape_view shape) [])) }
         ensures count { OnOk result (length (column_view out.new) + wanted_of self.new
             ≡ length (column_view out.old) + wanted_of self.old) }

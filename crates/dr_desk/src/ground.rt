@@ -25,7 +25,8 @@ impl Model for Ground {
 
     ghost view = { λ g. record { table = g.table.shared.table_id; tablets = g.table.shared.key } };
 
-    ghost invariant = { λ g. (g.table.shared.table_id.words ≡ 2) × IsKeeperSeat g.table.shared.table_id g.keeper.table_id g.keeper.me [] };
+    ghost invariant = { λ g. (g.table.shared.table_id.words ≡ 2)
+        × IsKeeperSeat g.table.shared.table_id g.keeper.table_id g.keeper.me [] };
 }
 
 impl Ground {

@@ -24,7 +24,8 @@ pub(crate) struct OpenedField {
     pub(crate) kind: Kind,
     /// Its greatest definition level.
     pub(crate) greatest: u8,
-    /// The leaf that is read for it: itself, or one that stands in for it; one without chunks, where the records lack it.
+    /// The leaf that is read for it: itself, or one that stands in for it; one without chunks, where the records lack
+    /// it.
     pub(crate) read: OpenedLeaf,
     pub(crate) telling: Telling,
     pub ghost lower: { is_lower telling greatest ≡ true },

@@ -29,7 +29,8 @@ pub(crate) fn find_sources(
     ensures found { IfOk result (λ o. IfSome o
         (λ v. AreSources (file_schema (map item_view items.now)) (map path_view fields.now) v.items)) }
     ensures none { IfOk result (λ o. IfNone o
-        (list_all (λ l. has_source (source_in_file l (file_schema (map item_view items.now)))) (map path_view fields.now)
+        (list_all (λ l. has_source (source_in_file l (file_schema (map item_view items.now)))) (map path_view
+        fields.now)
         ≡ false)) }
 {
     let mut sources = Vec::with_capacity(alloc, fields.len())?;

@@ -44,8 +44,8 @@ fn cut(levels: Levels, definition: u8) -> Levels
     }
 }
 
-/// The column of a leaf of a kind with this greatest definition level that is the outline of another: a NULL for each of
-/// its triplets of at most this repetition level, their definition levels cut to this one.
+/// The column of a leaf of a kind with this greatest definition level that is the outline of another: a NULL for each
+/// of its triplets of at most this repetition level, their definition levels cut to this one.
 ///
 /// Errors: want of memory alone.
 fn outline_column(
@@ -56,7 +56,8 @@ fn outline_column(
     read: &Column,
 ) -> Result<Column, NoMemory>
     requires { most.definition < greatest }
-    ensures outline { IfOk result (λ c. column_view c ≡ outline most.repetition most.definition (column_view read.now)) }
+    ensures outline { IfOk result (λ c. column_view c
+        ≡ outline most.repetition most.definition (column_view read.now)) }
     ensures form { IfOk result (λ c. column_form c ≡ form (kind_view kind) greatest) }
 {
     let mut column = Column::new(alloc, kind, greatest);
@@ -76,7 +77,8 @@ impl OpenedField {
     ///
     /// Errors: want of memory alone.
     pub(crate) fn tell(&self, alloc: Global, rows: u64, read: Column) -> Result<Column, NoMemory>
-        ensures told { IfOk result (λ c. column_view c ≡ told (telling_view (self.now).telling) rows (column_view read)) }
+        ensures told { IfOk result (λ c. column_view c
+            ≡ told (telling_view (self.now).telling) rows (column_view read)) }
         ensures form { column_form read ≡ form (kind_view (self.now).kind) (self.now).greatest
             → IfOk result (λ c. column_form c ≡ form (kind_view (self.now).kind) (self.now).greatest) }
         ensures other_form { IfOk result (λ c. (telling_view (self.now).telling ≡ itself → ⊥)

@@ -56,7 +56,8 @@ pub fn open_part_has_open_leaves()
     ensures { OpenPartHasOpenLeaves }
 {}
 
-/// Where a file lacks none of these leaves, the leaves themselves are read, and their columns are those of their chunks.
+/// Where a file lacks none of these leaves, the leaves themselves are read, and their columns are those of their
+/// chunks.
 pub fn nothing_lacking()
     ensures { NothingLacking }
 {}

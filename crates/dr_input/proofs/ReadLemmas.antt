@@ -6,8 +6,8 @@ use Rattle.dr_meaning.specs.Schema.{Fields}
 use Rattle.dr_meaning.specs.Record.{Node, is_record}
 use Rattle.dr_meaning.specs.JsonRecord.{RecordFault, record_of_line}
 use Rattle.dr_meaning.specs.Lines.{lines_of, longest_line, LineFault, line_too_long, too_many_records, no_record, line_record, record_at, or_stop, taken_from}
-use Rattle.dr_nested.specs.Views.{node_view}
-use Rattle.dr_nested.specs.declared.record.Node.{Node as CodeNode}
+use Rattle.dr_json.specs.Parts.{line_node, line_fields}
+use Rattle.dr_json.specs.declared.record.LineRecord.{LineRecord}
 use Rattle.dr_json.specs.Faults.{record_problem_view}
 use Rattle.dr_lines.specs.Cutting.{CutsLine, CutsBytes, BeginsLine, IsTooLong}
 use Rattle.dr_lines.specs.declared.cutter.LineFault.{LineFault as CutFault}
@@ -19,7 +19,7 @@ use Rattle.dr_input.specs.Taken.{AreRecords, HasTaken, RefusesNext}
 use Rattle.dr_input.specs.Stops.{ReadsLine, NextStops, line_fault_in}
 use Rattle.dr_input.specs.declared.fault.LineProblem.{LineProblem}
 use Rattle.dr_input.specs.declared.fault.InputFault.{InputFault}
-use Rattle.dr_input.proofs.ReadForm.{line_form}
+use Rattle.dr_input.proofs.ReadForm.{is_read, line_form}
 use Rattle.dr_input.proofs.TextForm.{read_is_record}
 use Rattle.dr_input.proofs.WholeLemmas.{whole_line}
 
@@ -115,5 +115,7 @@ record_stops fs most number left rest bytes line before now (InputFault.Refused 
 
 -- ---- the record of a line
 
-pub line_is_record : (fs : Fields) (line : List ℕ) (n : CodeNode) → record_of_line fs line ≡ Ok (node_view n) → is_record fs (node_view n) ≡ true
-line_is_record fs line n e = read_is_record fs n (line_form fs line (node_view n) e)
+pub line_is_record : (fs : Fields) (line : List ℕ) (r : LineRecord) → line_fields r ≡ fs → record_of_line fs line ≡ Ok (line_node r) → is_record fs (line_node r) ≡ true
+line_is_record fs line r f e =
+    let P : Fields → Type 0 = λ gs. is_read gs (line_node r) ≡ true → is_record gs (line_node r) ≡ true in
+    subst P f (read_is_record (line_fields r) r.value) (line_form fs line (line_node r) e)

@@ -1,102 +1,118 @@
--- A record that is held as a node has UTF-8 texts: what is read as one is a record of its schema.
-use Rattle.std.specs.Prelude.{◌≡◌, List, [], ◌∷◌, map, Bool, true, ◌&&◌, Option, Some, None, ◌⊎◌, string_bytes}
-use Rattle.std.proofs.Common.{refl, sym, subst, inl, inr, true≢false}
+-- A value owns its texts, so they are UTF-8: what is held in it, and read as a record of a schema, is one.
+use Rattle.std.specs.Prelude.{◌≡◌, ℕ, List, [], ◌∷◌, Bool, true, false, ◌&&◌, Option, Some, None, option_map, if◌then◌else◌, string_bytes}
+use Rattle.std.specs.Cmp.Lexicographic.{slice_cmp}
+use Rattle.std.specs.Map.{lookup}
+use Rattle.std.specs.BTreeMap.{is_at}
+use Rattle.std.proofs.Common.{nat_cmp, refl, sym, subst}
 use Rattle.std.proofs.lemmas.Bool.{and_parts, and_from}
-use Rattle.std.proofs.lemmas.Str.{IsUtf8-string_bytes, is_utf8-from_IsUtf8}
-use Rattle.dr_meaning.specs.Schema.{Repetition, Kind, bool_kind, int32_kind, int64_kind, text_kind, Fields, no_fields, field, Shape, leaf, group}
-use Rattle.dr_meaning.specs.Record as tree
-use Rattle.dr_nested.specs.Views.{value_view, instance_view, slot_view, node_view, slots_view, instances_view, slots_of, instance_step, slot_step, node_step}
-use Rattle.dr_nested.specs.declared.record.Value.{Value}
-use Rattle.dr_nested.specs.declared.record.Instance as instances
-use Rattle.dr_nested.specs.declared.record.Instance.{Instance-F}
-use Rattle.dr_nested.specs.declared.record.Slot as slots
-use Rattle.dr_nested.specs.declared.record.Slot.{Slot-F}
-use Rattle.dr_nested.specs.declared.record.Node as nodes
-use Rattle.dr_nested.proofs.ViewLemmas.{view-node}
-use Rattle.dr_input.proofs.ReadForm.{reads_value, is_read, is_read_shape}
+use Rattle.serde_json.specs.Data.{Data, Items, Members}
+use Rattle.serde_json.specs.Find.{get_member, as_str, as_array, as_object}
+use Rattle.serde_json.specs.View.{view, items_view, members_view}
+use Rattle.serde_json.specs.declared.value.Value.{Value}
+use Rattle.serde_json.proofs.Views.{Entry, view-lookup}
+use Rattle.dr_meaning.specs.Schema.{Repetition, required, optional, repeated, Kind, bool_kind, int32_kind, int64_kind, text_kind, Fields, no_fields, field, Shape, leaf, group}
+use Rattle.dr_meaning.specs.Record.{bool_value, int_value, text_value, Instances, no_instances, Instance, atom, inner, all_instances, is_instance, is_record, fits_repetition, count_instances}
+use Rattle.dr_meaning.specs.JsonRecord.{is_null, given, of_text, leaf_value}
+use Rattle.dr_json.specs.Held.{leaf_held, before_held, each_held, list_held, field_held, slots_held, instance_held, object_held}
+use Rattle.dr_json.proofs.OwnedLemmas.{text_utf8, list_items, object_members}
+use Rattle.dr_input.proofs.ReadForm.{is_read, is_read_shape}
 
--- ---- what instances and slots are
+-- ---- leaves
 
-abbrev IsAtom : instances.Instance → Type 0
-IsAtom x = (v : Value) × (instance_view x ≡ tree.atom (value_view v))
+text_leaf : (v : Value) (o : Option (List ℕ)) (x : Instance) → as_str (view v) ≡ o → leaf_held (of_text o) ≡ Some x → is_instance (leaf text_kind) x ≡ true
+text_leaf v None x e h = absurd (cc)
+text_leaf v (Some t) x e h = let q : atom (text_value t) ≡ x = cc in subst (λ (y : Instance). is_instance (leaf text_kind) y ≡ true) q (text_utf8 v t e)
 
-abbrev IsGroup : instances.Instance → Type 0
-IsGroup x = (n : nodes.Node) × (instance_view x ≡ tree.inner (node_view n))
+leaf_text : (k : Kind) (v : Value) (x : Instance) → leaf_held (leaf_value k (view v)) ≡ Some x → is_read_shape (leaf k) x ≡ true → is_instance (leaf k) x ≡ true
+leaf_text text_kind v x e h = text_leaf v (as_str (view v)) x refl e
+leaf_text bool_kind v (inner n) e h = h
+leaf_text bool_kind v (atom (bool_value b)) e h = h
+leaf_text bool_kind v (atom (int_value z)) e h = h
+leaf_text bool_kind v (atom (text_value t)) e h = h
+leaf_text int32_kind v (inner n) e h = h
+leaf_text int32_kind v (atom (bool_value b)) e h = h
+leaf_text int32_kind v (atom (int_value z)) e h = h
+leaf_text int32_kind v (atom (text_value t)) e h = h
+leaf_text int64_kind v (inner n) e h = h
+leaf_text int64_kind v (atom (bool_value b)) e h = h
+leaf_text int64_kind v (atom (int_value z)) e h = h
+leaf_text int64_kind v (atom (text_value t)) e h = h
 
-atom_or_group : (x : instances.Instance) → IsAtom x ⊎ IsGroup x
-atom_or_group x = by (instances.out-Instance x) (instances.fold_out-Instance tree.Instance (Option tree.Instances) tree.Node instance_step slot_step node_step x)
-  where
-    by : (o : instances.Instance-F instances.Instance slots.Slot nodes.Node) → instance_view x ≡ instance_step (instances.map-Instance instances.Instance slots.Slot nodes.Node tree.Instance (Option tree.Instances) tree.Node instance_view slot_view node_view o) → IsAtom x ⊎ IsGroup x
-    by (Instance-F.Atom v) e = inl (v, e)
-    by (Instance-F.Group n) e = inr (n, e)
+-- ---- the instances of a field
 
-abbrev IsHeld : slots.Slot → Type 0
-IsHeld s = (xs : List instances.Instance) × (slot_view s ≡ Some (instances_view xs))
+one_text : (p q : Instance → Bool) (o : Option Instance) (xs : Instances) → ((x : Instance) → o ≡ Some x → p x ≡ true → q x ≡ true) → (all_instances p xs ≡ true → all_instances q xs ≡ true)
+    → all_instances p (before_held o xs) ≡ true → all_instances q (before_held o xs) ≡ true
+one_text p q None xs g r h = refl
+one_text p q (Some x) xs g r h = let a = and_parts (p x) (all_instances p xs) h in and_from (q x) (all_instances q xs) (g x refl a.0) (r a.1)
 
-gap_or_held : (s : slots.Slot) → (slot_view s ≡ None) ⊎ IsHeld s
-gap_or_held s = by (slots.out-Slot s) (slots.fold_out-Slot tree.Instance (Option tree.Instances) tree.Node instance_step slot_step node_step s)
-  where
-    by : (o : slots.Slot-F instances.Instance slots.Slot nodes.Node) → slot_view s ≡ slot_step (slots.map-Slot instances.Instance slots.Slot nodes.Node tree.Instance (Option tree.Instances) tree.Node instance_view slot_view node_view o) → (slot_view s ≡ None) ⊎ IsHeld s
-    by Slot-F.Gap e = inl e
-    by (Slot-F.Held xs) e = inr (xs.items, e)
+module _ (f : Data → Option Instance) (p q : Instance → Bool) (g : (v : Value) (x : Instance) → f (view v) ≡ Some x → p x ≡ true → q x ≡ true) where
+  each_text : (vs : List Value) → all_instances p (each_held f (items_view vs)) ≡ true → all_instances q (each_held f (items_view vs)) ≡ true
+  each_text [] h = refl
+  each_text (v ∷ vs) h = one_text p q (f (view v)) (each_held f (items_view vs)) (λ x e k. g v x e k) (λ k. each_text vs k) h
 
--- ---- records
+  list_text : (v : Value) (o : Option Items) → as_array (view v) ≡ o → all_instances p (list_held f o) ≡ true → all_instances q (list_held f o) ≡ true
+  list_text v None e h = refl
+  list_text v (Some ds) e h =
+      let k = list_items v ds e in
+      let P : Items → Type 0 = λ ys. all_instances p (each_held f ys) ≡ true → all_instances q (each_held f ys) ≡ true in
+      subst P k.1 (each_text k.0) h
 
-value_text : (k : Kind) (v : Value) → reads_value k (value_view v) ≡ true → tree.is_of_kind k (value_view v) ≡ true
-value_text bool_kind (Value.Bool b) h = h
-value_text int32_kind (Value.Bool b) h = h
-value_text int64_kind (Value.Bool b) h = h
-value_text text_kind (Value.Bool b) h = h
-value_text bool_kind (Value.Int z) h = h
-value_text int32_kind (Value.Int z) h = h
-value_text int64_kind (Value.Int z) h = h
-value_text text_kind (Value.Int z) h = h
-value_text bool_kind (Value.Text s) h = h
-value_text int32_kind (Value.Text s) h = h
-value_text int64_kind (Value.Text s) h = h
-value_text text_kind (Value.Text s) h = is_utf8-from_IsUtf8 (string_bytes s) (IsUtf8-string_bytes s)
+  field_text : (r : Repetition) (o : Option Value) → all_instances p (field_held r f (option_map view o)) ≡ true → all_instances q (field_held r f (option_map view o)) ≡ true
+  field_text required None h = refl
+  field_text required (Some v) h = one_text p q (f (view v)) no_instances (λ x e k. g v x e k) (λ k. refl) h
+  field_text optional None h = refl
+  field_text optional (Some v) h = one_text p q (f (view v)) no_instances (λ x e k. g v x e k) (λ k. refl) h
+  field_text repeated None h = refl
+  field_text repeated (Some v) h = list_text v (as_array (view v)) refl h
 
-leaf_text : (k : Kind) (x : instances.Instance) → IsAtom x ⊎ IsGroup x → is_read_shape (leaf k) (instance_view x) ≡ true → tree.is_instance (leaf k) (instance_view x) ≡ true
-leaf_text k x (inl a) h =
-    subst (λ y. tree.is_instance (leaf k) y ≡ true) (sym a.1) (value_text k a.0 (subst (λ y. is_read_shape (leaf k) y ≡ true) a.1 h))
-leaf_text k x (inr g) h = absurd (true≢false (sym (subst (λ y. is_read_shape (leaf k) y ≡ true) g.1 h)))
+  given_if : (r : Repetition) (v : Value) (b : Bool) → all_instances p (field_held r f (if b then None else Some (view v))) ≡ true → all_instances q (field_held r f (if b then None else Some (view v))) ≡ true
+  given_if r v true h = field_text r None h
+  given_if r v false h = field_text r (Some v) h
 
-group_text : (fs : Fields) (x : instances.Instance) → IsAtom x ⊎ IsGroup x → ((ss : List slots.Slot) → is_read fs (slots_view ss) ≡ true → tree.is_record fs (slots_view ss) ≡ true)
-    → is_read_shape (group fs) (instance_view x) ≡ true → tree.is_instance (group fs) (instance_view x) ≡ true
-group_text fs x (inl a) f h = absurd (true≢false (sym (subst (λ y. is_read_shape (group fs) y ≡ true) a.1 h)))
-group_text fs x (inr g) f h =
-    let v : node_view g.0 ≡ slots_view g.0.slots.items = view-node g.0 in
-    let r : is_read fs (slots_view g.0.slots.items) ≡ true = subst (λ m. is_read fs m ≡ true) v (subst (λ y. is_read_shape (group fs) y ≡ true) g.1 h) in
-    subst (λ y. tree.is_instance (group fs) y ≡ true) (sym g.1) (subst (λ m. tree.is_record fs m ≡ true) (sym v) (f g.0.slots.items r))
+  given_text : (r : Repetition) (o : Option Value) → all_instances p (field_held r f (given (option_map view o))) ≡ true → all_instances q (field_held r f (given (option_map view o))) ≡ true
+  given_text r None h = field_text r None h
+  given_text r (Some v) h = given_if r v (is_null (view v)) h
 
-all_text : (p q : tree.Instance → Bool) → ((x : instances.Instance) → p (instance_view x) ≡ true → q (instance_view x) ≡ true) → (xs : List instances.Instance) → tree.all_instances p (instances_view xs) ≡ true → tree.all_instances q (instances_view xs) ≡ true
-all_text p q f [] h = refl
-all_text p q f (x ∷ xs) h =
-    let a : (p (instance_view x) ≡ true) × (tree.all_instances p (instances_view xs) ≡ true) = and_parts _ _ h in
-    and_from _ _ (f x a.0) (all_text p q f xs a.1)
+  found_text : (r : Repetition) (n : List ℕ) (es : List Entry) → all_instances p (field_held r f (given (get_member n (members_view es)))) ≡ true → all_instances q (field_held r f (given (get_member n (members_view es)))) ≡ true
+  found_text r n es h =
+      let P : Option Data → Type 0 = λ o. all_instances p (field_held r f (given o)) ≡ true → all_instances q (field_held r f (given o)) ≡ true in
+      subst P (view-lookup n es) (given_text r (lookup (is_at (λ k. slice_cmp nat_cmp n (string_bytes k))) es)) h
 
-slot_text : (r : Repetition) (p q : tree.Instance → Bool) (P Q : tree.Node → Bool) (s : slots.Slot) (ss : List slots.Slot) → (slot_view s ≡ None) ⊎ IsHeld s
-    → ((x : instances.Instance) → p (instance_view x) ≡ true → q (instance_view x) ≡ true) → (P (slots_view ss) ≡ true → Q (slots_view ss) ≡ true)
-    → tree.is_slot_that r p P (slots_view (s ∷ ss)) ≡ true → tree.is_slot_that r q Q (slots_view (s ∷ ss)) ≡ true
-slot_text r p q P Q s ss (inl e) f g h = absurd (true≢false (sym (subst (λ (o : Option tree.Instances). tree.is_slot_that r p P (slots_of (o ∷ map slot_view ss)) ≡ true) e h)))
-slot_text r p q P Q s ss (inr k) f g h =
-    let a = and_parts (tree.fits_repetition r (tree.count_instances (instances_view k.0)) && tree.all_instances p (instances_view k.0)) (P (slots_view ss)) (subst (λ (o : Option tree.Instances). tree.is_slot_that r p P (slots_of (o ∷ map slot_view ss)) ≡ true) k.1 h) in
-    let b = and_parts (tree.fits_repetition r (tree.count_instances (instances_view k.0))) (tree.all_instances p (instances_view k.0)) a.0 in
-    subst (λ (o : Option tree.Instances). tree.is_slot_that r q Q (slots_of (o ∷ map slot_view ss)) ≡ true) (sym k.1)
-    (and_from (tree.fits_repetition r (tree.count_instances (instances_view k.0)) && tree.all_instances q (instances_view k.0)) (Q (slots_view ss))
-    (and_from (tree.fits_repetition r (tree.count_instances (instances_view k.0))) (tree.all_instances q (instances_view k.0)) b.0 (all_text p q f k.0 b.1)) (g a.1))
+-- ---- groups
+
+members_text : (fs : Fields) (v : Value) (ms : Members) → ((es : List Entry) → is_read fs (slots_held fs (members_view es)) ≡ true → is_record fs (slots_held fs (members_view es)) ≡ true)
+    → as_object (view v) ≡ Some ms → is_read fs (slots_held fs ms) ≡ true → is_record fs (slots_held fs ms) ≡ true
+members_text fs v ms g e h =
+    let k = object_members v ms e in
+    let P : Members → Type 0 = λ ns. is_read fs (slots_held fs ns) ≡ true → is_record fs (slots_held fs ns) ≡ true in
+    subst P k.1 (g k.0) h
+
+group_text : (fs : Fields) (v : Value) (o : Option Members) (x : Instance) → ((es : List Entry) → is_read fs (slots_held fs (members_view es)) ≡ true → is_record fs (slots_held fs (members_view es)) ≡ true)
+    → as_object (view v) ≡ o → option_map (λ ms. inner (slots_held fs ms)) o ≡ Some x → is_read_shape (group fs) x ≡ true → is_instance (group fs) x ≡ true
+group_text fs v None x g e k h = absurd (cc)
+group_text fs v (Some ms) x g e k h =
+    let q : inner (slots_held fs ms) ≡ x = cc in
+    subst (λ (y : Instance). is_instance (group fs) y ≡ true) q (members_text fs v ms g e (subst (λ (y : Instance). is_read_shape (group fs) y ≡ true) (sym q) h))
 
 mutual
-  fields_text : (fs : Fields) (ss : List slots.Slot) → is_read fs (slots_view ss) ≡ true → tree.is_record fs (slots_view ss) ≡ true
-  fields_text no_fields ss h = h
-  fields_text (field n r s fs) [] h = h
-  fields_text (field n r s fs) (x ∷ ss) h = slot_text r (is_read_shape s) (tree.is_instance s) (is_read fs) (tree.is_record fs) x ss (gap_or_held x) (λ y k. shape_text s y k) (λ k. fields_text fs ss k) h
+  fields_text : (fs : Fields) (es : List Entry) → is_read fs (slots_held fs (members_view es)) ≡ true → is_record fs (slots_held fs (members_view es)) ≡ true
+  fields_text no_fields es h = h
+  fields_text (field n r s fs) es h =
+      let xs = field_held r (instance_held s) (given (get_member n (members_view es))) in
+      let a = and_parts (fits_repetition r (count_instances xs) && all_instances (is_read_shape s) xs) (is_read fs (slots_held fs (members_view es))) h in
+      let b = and_parts (fits_repetition r (count_instances xs)) (all_instances (is_read_shape s) xs) a.0 in
+      and_from (fits_repetition r (count_instances xs) && all_instances (is_instance s) xs) (is_record fs (slots_held fs (members_view es)))
+      (and_from (fits_repetition r (count_instances xs)) (all_instances (is_instance s) xs) b.0 (found_text (instance_held s) (is_read_shape s) (is_instance s) (λ v x e k. shape_text s v x e k) r n es b.1))
+      (fields_text fs es a.1)
 
-  shape_text : (s : Shape) (x : instances.Instance) → is_read_shape s (instance_view x) ≡ true → tree.is_instance s (instance_view x) ≡ true
-  shape_text (leaf k) x h = leaf_text k x (atom_or_group x) h
-  shape_text (group fs) x h = group_text fs x (atom_or_group x) (λ ss k. fields_text fs ss k) h
+  shape_text : (s : Shape) (v : Value) (x : Instance) → instance_held s (view v) ≡ Some x → is_read_shape s x ≡ true → is_instance s x ≡ true
+  shape_text (leaf k) v x e h = leaf_text k v x e h
+  shape_text (group fs) v x e h = group_text fs v (as_object (view v)) x (λ es k. fields_text fs es k) refl e h
 
-pub read_is_record : (fs : Fields) (n : nodes.Node) → is_read fs (node_view n) ≡ true → tree.is_record fs (node_view n) ≡ true
-read_is_record fs n h =
-    let v : node_view n ≡ slots_view n.slots.items = view-node n in
-    subst (λ m. tree.is_record fs m ≡ true) (sym v) (fields_text fs n.slots.items (subst (λ m. is_read fs m ≡ true) v h))
+object_text : (fs : Fields) (v : Value) (o : Option Members) → as_object (view v) ≡ o → is_read fs (object_held fs o) ≡ true → is_record fs (object_held fs o) ≡ true
+object_text no_fields v None e h = h
+object_text (field n r s fs) v None e h = h
+object_text fs v (Some ms) e h = members_text fs v ms (λ es k. fields_text fs es k) e h
+
+pub read_is_record : (fs : Fields) (v : Value) → is_read fs (object_held fs (as_object (view v))) ≡ true → is_record fs (object_held fs (as_object (view v))) ≡ true
+read_is_record fs v h = object_text fs v (as_object (view v)) refl h

@@ -3,9 +3,9 @@ use Rattle.std.specs.Prelude.{◌≡◌, ℕ, List, Option, Result, Ok, Err, ⊤
 use Rattle.dr_meaning.specs.Schema.{Fields}
 use Rattle.dr_meaning.specs.Record as tree
 use Rattle.dr_meaning.specs.JsonRecord.{RecordFault}
-use Rattle.dr_nested.specs.Views.{node_view}
-use Rattle.dr_nested.specs.declared.record.Node.{Node}
 use Rattle.dr_json.specs.Faults.{record_problem_view}
+use Rattle.dr_json.specs.Parts.{line_node}
+use Rattle.dr_json.specs.declared.record.LineRecord.{LineRecord}
 use Rattle.dr_lines.specs.Cutting.{BeginsLine}
 use Rattle.dr_lines.specs.declared.cutter.LineFault.{LineFault}
 use Rattle.dr_outside.specs.Faults.{raised}
@@ -16,8 +16,8 @@ use Rattle.dr_input.specs.declared.fault.LineProblem.{LineProblem}
 use Rattle.dr_input.specs.declared.fault.InputFault.{InputFault}
 
 -- a line's record, or the line is refused by this number; want of memory may come in place of either
-abbrev pub ReadsLine : Result tree.Node RecordFault → ℕ → Result Node InputFault → Type 0
-ReadsLine meant number (Ok n) = meant ≡ Ok (node_view n)
+abbrev pub ReadsLine : Result tree.Node RecordFault → ℕ → Result LineRecord InputFault → Type 0
+ReadsLine meant number (Ok r) = meant ≡ Ok (line_node r)
 ReadsLine meant number (Err InputFault.NoMemory) = ⊤
 ReadsLine meant number (Err InputFault.Source) = ⊥
 ReadsLine meant number (Err (InputFault.Refused n (LineProblem.Record w))) = (n ≡ number) × (meant ≡ Err (record_problem_view w))

@@ -4,7 +4,8 @@ ghost use Rattle.std.specs.Prelude.{◌≡◌, ◌≤◌, ◌<◌, ◌+◌, ◌^
 ghost use Rattle.dr_meaning.specs.Record.{is_record};
 ghost use Rattle.dr_meaning.specs.JsonRecord.{record_of_line};
 ghost use Rattle.dr_formats.specs.WritingLaws.{is_limited};
-ghost use Rattle.dr_nested.specs.Views.{fields_view, node_view};
+ghost use Rattle.dr_nested.specs.Views.{fields_view};
+ghost use Rattle.dr_json.specs.Parts.{line_fields, line_node};
 ghost use Rattle.dr_lines.specs.Cutting.{rest_of, fault_of as line_fault_of, IsEnd};
 ghost use Rattle.dr_input.specs.Taken.{HasTaken};
 ghost use Rattle.dr_input.specs.Stops.{ReadsLine, NextStops, line_fault_in};
@@ -12,19 +13,25 @@ ghost use Rattle.dr_input.specs.Records.{fields_of, most_of, number_of, fault_of
 
 use crate::fault::{InputFault, LineProblem};
 use crate::reader::Records;
-use dr_json::{RecordFault, record_of};
+use dr_json::{LineRecord, RecordFault, line_record};
 use dr_lines::{LineFault, Lines};
 use dr_memory::NoMemory;
-use dr_nested::{Node, Schema};
+use dr_nested::Schema;
 use dr_outside::Source;
 use std::alloc::Global;
 
 /// The record of the line of this number.
-fn line_record(alloc: Global, schema: &Schema, line: &[u8], number: u64) -> Result<Node, InputFault>
-    ensures { ReadsLine (record_of_line (fields_view (schema.now).fields.items) line.now) number result }
+fn read_record<'s>(
+    alloc: Global,
+    schema: &'s Schema,
+    line: &[u8],
+    number: u64,
+) -> Result<LineRecord<'s>, InputFault>
+    ensures record { ReadsLine (record_of_line (fields_view (schema.now).fields.items) line.now) number result }
+    ensures fields { IfOk result (λ r. line_fields r ≡ fields_view (schema.now).fields.items) }
 {
-    match record_of(alloc, schema, line) {
-        Ok(node) => Ok(node),
+    match line_record(alloc, schema, line) {
+        Ok(record) => Ok(record),
         Err(RecordFault::NoMemory) => Err(InputFault::NoMemory),
         Err(RecordFault::Refused(problem)) => Err(InputFault::Refused {
             line: number,
@@ -47,23 +54,23 @@ fn no_line(fault: LineFault, number: u64) -> InputFault
 }
 
 /// The record of the next line, behind so many of at most this many lines; none where no line is left.
-fn next_record<S: Source>(
+fn next_record<'s, S: Source>(
     alloc: Global,
-    schema: &Schema,
+    schema: &'s Schema,
     lines: &mut Lines,
     number: u64,
     most: u64,
     source: &mut S,
-) -> Result<Option<Node>, InputFault>
+) -> Result<Option<LineRecord<'s>>, InputFault>
     requires going { line_fault_of lines.old ≡ None }
     requires few { number < 2 ^ 63 }
-    ensures record { IfOk result (λ o. IfSome o (λ n. HasTaken (fields_view (schema.now).fields.items) most number
-        (node_view n ∷ []) (rest_of lines.old (S.shows source.old).left) (rest_of lines.new
+    ensures record { IfOk result (λ o. IfSome o (λ r. HasTaken (fields_view (schema.now).fields.items) most number
+        (line_node r ∷ []) (rest_of lines.old (S.shows source.old).left) (rest_of lines.new
         (S.shows source.new).left))) }
     ensures form { IfOk result (λ o. IfSome o
-        (λ n. is_record (fields_view (schema.now).fields.items) (node_view n) ≡ true)) }
-    ensures limited { IfOk result (λ o. IfSome o (λ n. is_limited (node_view n) ≡ true)) }
-    ensures within { IfOk result (λ o. IfSome o (λ n. number + 1 ≤ most)) }
+        (λ r. is_record (fields_view (schema.now).fields.items) (line_node r) ≡ true)) }
+    ensures limited { IfOk result (λ o. IfSome o (λ r. is_limited (line_node r) ≡ true)) }
+    ensures within { IfOk result (λ o. IfSome o (λ r. number + 1 ≤ most)) }
     ensures end { IfOk result (λ o. IfNone o
         (IsEnd (rest_of lines.old (S.shows source.old).left) (rest_of lines.new (S.shows source.new).left))) }
     ensures goes_on { OnOk result (line_fault_of lines.new ≡ None) }
@@ -79,8 +86,8 @@ fn next_record<S: Source>(
             problem: LineProblem::TooManyRecords,
         }),
         Ok(true) => {
-            let node = line_record(alloc, schema, lines.line(), number + 1)?;
-            Ok(Some(node))
+            let record = read_record(alloc, schema, lines.line(), number + 1)?;
+            Ok(Some(record))
         }
     }
 }
@@ -112,14 +119,14 @@ impl<'s> Records<'s> {
     ///
     /// The source is the same at each call. Errors: the next line is refused; the source failed, and each whole line
     /// that it gave before is a record; want of memory. After an error it is repeated.
-    pub fn next<S: Source>(&mut self, source: &mut S) -> Result<Option<Node>, InputFault>
+    pub fn next<S: Source>(&mut self, source: &mut S) -> Result<Option<LineRecord<'s>>, InputFault>
         ensures record { IfOk result (λ o. IfSome o
-            (λ n. HasTaken (fields_of self.old) (most_of self.old) (number_of self.old)
-            (node_view n ∷ []) (left_of self.old (S.shows source.old).left) (left_of self.new
+            (λ r. HasTaken (fields_of self.old) (most_of self.old) (number_of self.old)
+            (line_node r ∷ []) (left_of self.old (S.shows source.old).left) (left_of self.new
             (S.shows source.new).left))) }
-        ensures counts { IfOk result (λ o. IfSome o (λ n. number_of self.new ≡ number_of self.old + 1)) }
-        ensures form { IfOk result (λ o. IfSome o (λ n. is_record (fields_of self.old) (node_view n) ≡ true)) }
-        ensures limited { IfOk result (λ o. IfSome o (λ n. is_limited (node_view n) ≡ true)) }
+        ensures counts { IfOk result (λ o. IfSome o (λ r. number_of self.new ≡ number_of self.old + 1)) }
+        ensures form { IfOk result (λ o. IfSome o (λ r. is_record (fields_of self.old) (line_node r) ≡ true)) }
+        ensures limited { IfOk result (λ o. IfSome o (λ r. is_limited (line_node r) ≡ true)) }
         ensures end { IfOk result (λ o. IfNone o
             (IsEnd (left_of self.old (S.shows source.old).left) (left_of self.new (S.shows source.new).left))) }
         ensures same_number { IfOk result (λ o. IfNone o (number_of self.new ≡ number_of self.old)) }
@@ -148,9 +155,9 @@ impl<'s> Records<'s> {
             self.most,
             source,
         ) {
-            Ok(Some(node)) => {
+            Ok(Some(record)) => {
                 self.number += 1;
-                Ok(Some(node))
+                Ok(Some(record))
             }
             Ok(None) => Ok(None),
             Err(fault) => {

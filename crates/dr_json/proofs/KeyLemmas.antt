@@ -19,6 +19,7 @@ use Rattle.dr_meaning.specs.JsonRecord.{are_known}
 use Rattle.dr_nested.specs.declared.shape.Field.{Field}
 use Rattle.dr_nested.specs.Views.{fields_view}
 use Rattle.dr_nested.proofs.ViewLemmas.{view-field}
+use Rattle.dr_json.specs.Checks.{given_count}
 
 abbrev pub Name : Type 0
 Name = List ℕ
@@ -170,22 +171,36 @@ named : (p : Name → Bool) (fs : List Field) → how_many (λ (f : Field). p (s
 named p [] = refl
 named p (f ∷ fs) = rw (view-field f) (ap (λ (m : ℕ). cond (p (string_bytes f.name)) (1 + m) m) (named p fs))
 
-some_of : {X Y : Type 0} (f : X → Y) (o : Option X) → is_some o ≡ is_some (option_map f o)
+pub some_of : {X Y : Type 0} (f : X → Y) (o : Option X) → is_some o ≡ is_some (option_map f o)
 some_of f None = refl
 some_of f (Some x) = refl
 
 found : (name : Name) (es : List Entry) → is_some (lookup (is_at (λ k. slice_cmp nat_cmp name (string_bytes k))) es) ≡ is_among (member_keys (members_view es)) name
 found name es = some_of view _ ∙ ap is_some (view-lookup name es) ∙ there name (members_view es)
 
--- as many fields have a key in the object as the object has keys exactly where each key is a field's name
+-- as many fields are among the object's keys as there are keys exactly where each key is a field's name
+as_many_known : (fs : List Field) (es : List Entry) → is_group (fields_view fs) ≡ true → IsStrictlySortedBy string_cmp (keys_of es)
+    → (how_many (λ (f : Field). is_among (member_keys (members_view es)) (string_bytes f.name)) fs == length es) ≡ are_known (field_names (fields_view fs)) (members_view es)
+as_many_known fs es h o =
+    let ns = field_names (fields_view fs) in
+    let ks = member_keys (members_view es) in
+    let turned = both ns ks (names_are_distinct (fields_view fs) h) (keys_are_distinct es o) in
+    ap (λ (m : ℕ). m == length es) (named (is_among ks) fs ∙ turned) ∙ ap (λ (m : ℕ). how_many (is_among ns) ks == m) (sym (keys_count es))
+    ∙ all_counted (is_among ns) ks ∙ sym (known ns (members_view es))
+
+-- as many fields have a key in the object, by looking each up
 pub keys_known : (fs : List Field) (es : List Entry) → is_group (fields_view fs) ≡ true → IsStrictlySortedBy string_cmp (keys_of es)
     → (count_by (λ (f : Field). is_some (lookup (is_at (λ k. slice_cmp nat_cmp (string_bytes f.name) (string_bytes k))) es)) fs == length es) ≡ are_known (field_names (fields_view fs)) (members_view es)
 keys_known fs es h o =
-    let ns = field_names (fields_view fs) in
     let ks = member_keys (members_view es) in
     let seen : (λ (f : Field). is_some (lookup (is_at (λ k. slice_cmp nat_cmp (string_bytes f.name) (string_bytes k))) es)) ≡ (λ (f : Field). is_among ks (string_bytes f.name)) = simp found refl in
-    let turned = both ns ks (names_are_distinct (fields_view fs) h) (keys_are_distinct es o) in
     ap (λ (p : Field → Bool). count_by p fs == length es) seen
-    ∙ ap (λ (m : ℕ). m == length es) (sym (counted (λ (f : Field). is_among ks (string_bytes f.name)) fs) ∙ named (is_among ks) fs ∙ turned)
-    ∙ ap (λ (m : ℕ). how_many (is_among ns) ks == m) (sym (keys_count es))
-    ∙ all_counted (is_among ns) ks ∙ sym (known ns (members_view es))
+    ∙ ap (λ (m : ℕ). m == length es) (sym (counted (λ (f : Field). is_among ks (string_bytes f.name)) fs)) ∙ as_many_known fs es h o
+
+given_many : (ms : Members) (fs : List Field) → given_count ms fs ≡ how_many (λ (f : Field). is_among (member_keys ms) (string_bytes f.name)) fs
+given_many ms [] = refl
+given_many ms (f ∷ fs) = ap₂ (λ (b : Bool) (m : ℕ). cond b (1 + m) m) (there (string_bytes f.name) ms) (given_many ms fs)
+
+-- as many fields have a key in the object, as a check counts them
+pub given_known : (fs : List Field) (es : List Entry) → is_group (fields_view fs) ≡ true → IsStrictlySortedBy string_cmp (keys_of es) → (given_count (members_view es) fs == length es) ≡ are_known (field_names (fields_view fs)) (members_view es)
+given_known fs es h o = ap (λ (m : ℕ). m == length es) (given_many (members_view es) fs) ∙ as_many_known fs es h o

@@ -80,7 +80,7 @@ slots_view-snoc (s ∷ ss) xs = slots_view-snoc_at (slot_view s) _ _ _ (slots_vi
 
 -- ---- the next element of a list
 
-is_null-as_null : (d : Data) → is_null d ≡ is_some (as_null d)
+pub is_null-as_null : (d : Data) → is_null d ≡ is_some (as_null d)
 is_null-as_null null = refl
 is_null-as_null (boolean b) = refl
 is_null-as_null (number n) = refl

@@ -13,20 +13,20 @@ use Rattle.dr_json.proofs.ReadingLemmas.{next_in}
 -- ---- a total, and what is still to be added
 
 -- the total so far, m more and then n more
-capped_step : (total m n : ℕ) → capped (total + (m + n)) ≡ capped (capped (total + capped m) + n)
+pub capped_step : (total m n : ℕ) → capped (total + (m + n)) ≡ capped (capped (total + capped m) + n)
 capped_step total m n = omega arith
 
 -- one more, m more and then n more
-capped_one_step : (total m n : ℕ) → capped (total + (1 + m + n)) ≡ capped (capped (total + capped (capped m + 1)) + n)
+pub capped_one_step : (total m n : ℕ) → capped (total + (1 + m + n)) ≡ capped (capped (total + capped (capped m + 1)) + n)
 capped_one_step total m n = omega arith
 
 capped_same : (total n : ℕ) → capped (total + n) ≡ capped (capped (total + capped 0) + n)
 capped_same total n = omega arith
 
-capped_end : (total : ℕ) → total < 2 ^ 64 → capped (total + 0) ≡ total
+pub capped_end : (total : ℕ) → total < 2 ^ 64 → capped (total + 0) ≡ total
 capped_end total h = omega arith
 
-same_size : (s : Size) (m n : ℕ) → s.instances ≡ capped m → s.text_bytes ≡ capped n → s ≡ size m n
+pub same_size : (s : Size) (m n : ℕ) → s.instances ≡ capped m → s.text_bytes ≡ capped n → s ≡ size m n
 same_size s m n e f = ap₂ (λ (a b : ℕ). let x : Size = record { instances = a; text_bytes = b } in x) e f
 
 -- ---- slots

@@ -1,6 +1,6 @@
 //! The record of a line.
 
-ghost use Rattle.std.specs.Prelude.{◌≡◌, true};
+ghost use Rattle.std.specs.Prelude.{◌≡◌, true, IfOk};
 ghost use Rattle.serde_json.specs.View.{view};
 ghost use Rattle.dr_meaning.specs.Schema.{is_group};
 ghost use Rattle.dr_meaning.specs.JsonRecord as meant;
@@ -8,9 +8,12 @@ ghost use Rattle.dr_meaning.specs.JsonRecord.{record_of_line, node_within_limits
 ghost use Rattle.dr_nested.specs.Views.{fields_view, node_view};
 ghost use Rattle.dr_nested.specs.Faults.{Gives};
 ghost use Rattle.dr_json.specs.Faults.{record_fault_view};
+ghost use Rattle.dr_json.specs.Parts.{line_fields, line_node};
 
+use crate::check::check_record;
 use crate::fault::{RecordFault, RecordProblem};
 use crate::nodes::node_of;
+use crate::record::LineRecord;
 use crate::size::node_size;
 use dr_nested::{Field, Node, Schema};
 use serde_json::Value as Json;
@@ -36,6 +39,27 @@ pub fn record_of(alloc: Global, schema: &Schema, line: &[u8]) -> Result<Node, Re
 {
     match Json::from_slice(alloc, line) {
         Ok(value) => record_of_value(alloc, &schema.fields, &value),
+        Err(error) if error.is_memory() => Err(RecordFault::NoMemory),
+        Err(_) => Err(RecordFault::Refused(RecordProblem::NotJson)),
+    }
+}
+
+/// The record that `record_of` gives, held in the value that was read of the line: neither a node is made nor a text
+/// copied.
+pub fn line_record<'s>(
+    alloc: Global,
+    schema: &'s Schema,
+    line: &[u8],
+) -> Result<LineRecord<'s>, RecordFault>
+    ensures record { Gives line_node record_fault_view (record_of_line (fields_view schema.now.fields.items) line.now)
+        result }
+    ensures fields { IfOk result (λ r. line_fields r ≡ fields_view schema.now.fields.items) }
+{
+    match Json::from_slice(alloc, line) {
+        Ok(value) => match check_record(&schema.fields, &value) {
+            Ok(()) => Ok(LineRecord { schema, value }),
+            Err(problem) => Err(RecordFault::Refused(problem)),
+        },
         Err(error) if error.is_memory() => Err(RecordFault::NoMemory),
         Err(_) => Err(RecordFault::Refused(RecordProblem::NotJson)),
     }

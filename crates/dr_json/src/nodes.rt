@@ -58,14 +58,14 @@ fn slots_of(
 }
 
 /// The value of a key, if the object has it.
-fn member<'v>(object: &'v Map<String, Json>, key: &str) -> Option<&'v Json>
+pub fn member<'v>(object: &'v Map<String, Json>, key: &str) -> Option<&'v Json>
     ensures { option_map (λ v. view v.now) result ≡ get_member key.now (members_view object.now.entries) }
 {
     object.get(key)
 }
 
 /// What stands for a field: nothing, where its key is missing or its value is null.
-fn present(found: Option<&Json>) -> Option<&Json>
+pub fn present(found: Option<&Json>) -> Option<&Json>
     ensures { option_map (λ v. view v.now) result ≡ given (option_map (λ v. view v.now) found.entry) }
 {
     match found {

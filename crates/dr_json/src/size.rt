@@ -16,12 +16,12 @@ pub struct Size {
 }
 
 impl Size {
-    const NOTHING: Size = Size {
+    pub(crate) const NOTHING: Size = Size {
         instances: 0,
         text_bytes: 0,
     };
 
-    fn plus(self, other: Size) -> Size
+    pub(crate) fn plus(self, other: Size) -> Size
         ensures instances { result.instances ≡ capped (self.instances + other.instances) }
         ensures text_bytes { result.text_bytes ≡ capped (self.text_bytes + other.text_bytes) }
     {
@@ -31,7 +31,7 @@ impl Size {
         }
     }
 
-    fn plus_instance(self) -> Size
+    pub(crate) fn plus_instance(self) -> Size
         ensures instances { result.instances ≡ capped (self.instances + 1) }
         ensures text_bytes { result.text_bytes ≡ self.text_bytes }
     {

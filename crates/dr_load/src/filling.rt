@@ -58,7 +58,7 @@ pub(crate) fn fill_tablet<S: Source>(
     let mut striper = Striper::new(alloc, fields)?;
     'lines: for count in 0..rows {
         match records.next(source)? {
-            Some(node) => striper.add(&node)?,
+            Some(record) => striper.add_held(record.part())?,
             None => {
                 return Ok(Filled {
                     columns: striper.finish(),

@@ -4,6 +4,7 @@ pub mod Source
 pub mod Sink
 pub mod Link
 pub mod Telling
+pub mod Leaving
 pub mod Failing
 pub mod Memory
 pub mod Puts

@@ -89,7 +89,13 @@ impl Link for MemLink<'_> {
     ghost use Rattle.dr_outside.specs.Shelf.{files_of};
     ghost use Rattle.dr_outside.specs.MemLink.{requests_of, shelf_of, link_failing};
 
-    ghost shows = { λ l. record { held = Some (files_of (shelf_of l)); asked = Some (requests_of l); puts = no_puts; faults = (link_failing l).faults; is_steady = is_quiet (link_failing l) } };
+    ghost shows = { λ l. record {
+      held = Some (files_of (shelf_of l));
+      asked = Some (requests_of l);
+      puts = no_puts;
+      faults = (link_failing l).faults;
+      is_steady = is_quiet (link_failing l);
+    } };
 
     /// Fails exactly at the listed calls and where the path isn't held.
     fn size(&mut self, path: &str) -> Result<u64, Fault>

@@ -107,7 +107,13 @@ impl Link for Shelf {
     ghost use Rattle.dr_outside.specs.Link.{Holds, Lacks, HasRange, LacksRange, HasSize, HasBytes, size_of, bytes_of, with_request, unknown};
     ghost use Rattle.dr_outside.specs.Shelf.{files_of, puts_of, shelf_failing};
 
-    ghost shows = { λ s. record { held = Some (files_of s); asked = unknown; puts = Some (puts_of s); faults = (shelf_failing s).faults; is_steady = is_quiet (shelf_failing s) } };
+    ghost shows = { λ s. record {
+      held = Some (files_of s);
+      asked = unknown;
+      puts = Some (puts_of s);
+      faults = (shelf_failing s).faults;
+      is_steady = is_quiet (shelf_failing s);
+    } };
 
     /// Fails exactly at the listed calls and where the path isn't held.
     fn size(&mut self, path: &str) -> Result<u64, Fault>

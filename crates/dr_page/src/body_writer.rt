@@ -28,8 +28,9 @@ impl BodyWriter {
         }
     }
 
-    /// Appends the body of a page of this form that is written for a stretch of a column's triplets, whose leaf has this
-    /// greatest repetition level: level parts in hybrid data, values in PLAIN. Answers how long the level parts are.
+    /// Appends the body of a page of this form that is written for a stretch of a column's triplets, whose leaf has
+    /// this greatest repetition level: level parts in hybrid data, values in PLAIN. Answers how long the level parts
+    /// are.
     ///
     /// Errors: want of memory alone; the bytes are then as they were.
     pub fn write(

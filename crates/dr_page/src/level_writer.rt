@@ -9,7 +9,7 @@ ghost use Rattle.dr_page.specs.Writes.{Writes};
 use crate::level_part::level_width;
 use crate::part::LENGTH_BYTES;
 use crate::shape::PageForm;
-use dr_hybrid::encode_levels;
+use dr_hybrid::encode;
 use dr_levels::Levels;
 use dr_memory::NoMemory;
 use std::alloc::Global;
@@ -28,7 +28,8 @@ impl LevelWriter {
         }
     }
 
-    /// Appends the part of the repetition levels, and answers how many bytes of hybrid data it has; none where the greatest is 0.
+    /// Appends the part of the repetition levels, and answers how many bytes of hybrid data it has; none where the
+    /// greatest is 0.
     pub(crate) fn append_repetitions(
         &mut self,
         form: PageForm,
@@ -38,7 +39,8 @@ impl LevelWriter {
     ) -> Result<usize, NoMemory>
         requires narrow { greatest ≤ 32 }
         requires most { list_all (λ l. nat_le l greatest) (map (λ (l : Levels). l.repetition) levels.now) ≡ true }
-        ensures written { Writes (level_bytes (page_form_view form) greatest (map (λ (l : Levels). l.repetition) levels.now))
+        ensures written { Writes (level_bytes (page_form_view form) greatest (map (λ (l : Levels). l.repetition)
+            levels.now))
             (out.old).items (out.new).items result }
         ensures length { IfOk result (λ n. n
             ≡ length (level_data greatest (map (λ (l : Levels). l.repetition) levels.now))) }
@@ -54,7 +56,8 @@ impl LevelWriter {
         append_part(form, greatest, &self.levels, out)
     }
 
-    /// Appends the part of the definition levels, and answers how many bytes of hybrid data it has; none where the greatest is 0.
+    /// Appends the part of the definition levels, and answers how many bytes of hybrid data it has; none where the
+    /// greatest is 0.
     pub(crate) fn append_definitions(
         &mut self,
         form: PageForm,
@@ -64,7 +67,8 @@ impl LevelWriter {
     ) -> Result<usize, NoMemory>
         requires narrow { greatest ≤ 32 }
         requires most { list_all (λ l. nat_le l greatest) (map (λ (l : Levels). l.definition) levels.now) ≡ true }
-        ensures written { Writes (level_bytes (page_form_view form) greatest (map (λ (l : Levels). l.definition) levels.now))
+        ensures written { Writes (level_bytes (page_form_view form) greatest (map (λ (l : Levels). l.definition)
+            levels.now))
             (out.old).items (out.new).items result }
         ensures length { IfOk result (λ n. n
             ≡ length (level_data greatest (map (λ (l : Levels). l.definition) levels.now))) }
@@ -81,7 +85,8 @@ impl LevelWriter {
     }
 }
 
-/// Appends the part of levels, and answers how many bytes of hybrid data it has: in a V1 page its length comes before it.
+/// Appends the part of levels, and answers how many bytes of hybrid data it has: in a V1 page its length comes before
+/// it.
 fn append_part(
     form: PageForm,
     greatest: u8,
@@ -129,6 +134,6 @@ fn append_data(greatest: u8, levels: &[u8], out: &mut Vec<u8>) -> Result<usize, 
     ensures length { IfOk result (λ n. n ≡ length (level_data greatest levels.now)) }
 {
     let start = out.len();
-    encode_levels(levels, level_width(greatest), out)?;
+    encode(levels, level_width(greatest), out)?;
     Ok(out.len() - start)
 }

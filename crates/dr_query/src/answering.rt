@@ -34,9 +34,9 @@ use std::thread::Threads;
 
 /// What a plan's query prints of the records of a table, served by so many workers, the first so many of the links with
 /// one to a worker. Of each tablet the plan's leaves alone are read, from a copy that gives records, and become a
-/// partial answer; a serving tree gathers the partials, and its root gives the result, which depends neither on the tree
-/// nor on the workers. Where some tablets are left, of which no copy gives records, the result is that of the others, if
-/// these are so many hundredths of all; else there is none.
+/// partial answer; a serving tree gathers the partials, and its root gives the result, which depends neither on the
+/// tree nor on the workers. Where some tablets are left, of which no copy gives records, the result is that of the
+/// others, if these are so many hundredths of all; else there is none.
 ///
 /// Errors: want of memory, or of room: the texts of a result have less than 4 GiB together, and the number of groups is
 /// bounded.

@@ -89,7 +89,8 @@ fn unary(
     ensures { IfOk result (λ o. (fs : Fields) (ls : List Leaf) (c : meant.Checked meant.BoundExpression)
         (before : Option meant.BindFault)
         → BindsAs (IsExpression fs ls) before (first_view first.old) c operand
-        → BindsAs (IsExpression fs ls) before (first_view first.new) (meant.one_operand place (unary_type operator.entry)
+        → BindsAs (IsExpression fs ls) before (first_view first.new) (meant.one_operand place (unary_type
+        operator.entry)
         (unary_of operator.entry) c) o) }
 {
     match operand {

@@ -20,8 +20,8 @@ fn call<P: Copy, T: Copy, D: Copy, L, F: Fn(P, T, D, usize, &mut L)>(
     f(plan, table, desk, worker, link);
 }
 
-// Calls it for each worker at the same time, with its number and its link. Each thing that is lent has a type of its own, so that a caller shows of each
-// by itself that threads may share it.
+// Calls it for each worker at the same time, with its number and its link. Each thing that is lent has a type of its
+// own, so that a caller shows of each by itself that threads may share it.
 pub(crate) fn for_each_worker<
     P: Copy + Sync,
     T: Copy + Sync,

@@ -20,8 +20,8 @@ use std::alloc::Global;
 use std::sync::Wait;
 
 /// A worker's loop: it takes a tablet on a leaf, scans the copy there through its link, and tells the desk the partial,
-/// or the cause for which there is none, until nothing is handed out. The pass ends with the history in which nothing is
-/// left to hand out; each of the worker's own hand-outs has an end there, and each of its own faults is justified.
+/// or the cause for which there is none, until nothing is handed out. The pass ends with the history in which nothing
+/// is left to hand out; each of the worker's own hand-outs has an end there, and each of its own faults is justified.
 ///
 /// Errors: a scan found no memory. Nothing is told of its tablet then, and the loop ends.
 pub fn work<N: Naming<Found>, B: Room, L: Link, R: Wait>(

@@ -60,22 +60,22 @@ gained_field at s x (p ∷ ps) (c ∷ cs) g =
     ap₂ (λ y ys. (c ++ y) ∷ ys) (ap (λ q. instance_column q at.level at.definition at.begin x) (sym g.0)) (gained_field at s x ps cs g.1)
 
 -- the first instance, then the later ones
-pub first_passed : (at b : Place) (s : Step) (x y : Instance) (xs : Instances) (ps : List (List Step)) (cs ds : List (List Triplet)) → b ≡ below at s.repetition → y ≡ x
-    → ds ≡ gained (λ p. instance_column (drop b.depth p) b.level b.definition at.begin y) ps cs
+pub first_passed : (at b : Place) (s : Step) (x : Instance) (xs : Instances) (ps : List (List Step)) (cs ds : List (List Triplet)) → b ≡ below at s.repetition
+    → ds ≡ gained (λ p. instance_column (drop b.depth p) b.level b.definition at.begin x) ps cs
     → gained (later_columns at s xs) ps ds ≡ gained (field_column at s (instance x xs)) ps cs
-first_passed at b s x y xs ps cs ds e f g =
-    ap (gained (later_columns at s xs) ps) (g ∙ ap₂ (λ (w : Place) (z : Instance). gained (λ p. instance_column (drop w.depth p) w.level w.definition at.begin z) ps cs) e f)
+first_passed at b s x xs ps cs ds e g =
+    ap (gained (later_columns at s xs) ps) (g ∙ ap (λ (w : Place). gained (λ p. instance_column (drop w.depth p) w.level w.definition at.begin x) ps cs) e)
     ∙ gained-twice (λ p. instance_column (drop (at.depth + 1) p) (at.level + repetition_count s.repetition) (at.definition + definition_count s.repetition) at.begin x) (later_columns at s xs) ps cs
 
-pub later_passed : (at b : Place) (s : Step) (x y : Instance) (xs : Instances) (ps : List (List Step)) (cs ds es : List (List Triplet)) → b ≡ below at s.repetition → y ≡ x
-    → ds ≡ gained (path_column b y) ps cs → gained (later_columns at s (instance x xs)) ps cs ≡ es
+pub later_passed : (at b : Place) (s : Step) (x : Instance) (xs ys : Instances) (ps : List (List Step)) (cs ds es : List (List Triplet)) → b ≡ below at s.repetition → ys ≡ instance x xs
+    → ds ≡ gained (path_column b x) ps cs → gained (later_columns at s ys) ps cs ≡ es
     → gained (later_columns at s xs) ps ds ≡ es
-later_passed at b s x y xs ps cs ds es e f g h =
-    ap (gained (later_columns at s xs) ps) (g ∙ ap₂ (λ (w : Place) (z : Instance). gained (path_column w z) ps cs) e f)
-    ∙ gained-twice (path_column (below at s.repetition) x) (later_columns at s xs) ps cs ∙ h
+later_passed at b s x xs ys ps cs ds es e f g h =
+    ap (gained (later_columns at s xs) ps) (g ∙ ap (λ (w : Place). gained (path_column w x) ps cs) e)
+    ∙ gained-twice (path_column (below at s.repetition) x) (later_columns at s xs) ps cs ∙ ap (λ zs. gained (later_columns at s zs) ps cs) (sym f) ∙ h
 
 -- no instances give a triplet without a value
-pub none_passed : (at : Place) (s : Step) (ps : List (List Step)) (cs ds : List (List Triplet)) (r : Result (Unit {0}) NoMemory) → length ps ≡ length cs
+none_passed : (at : Place) (s : Step) (ps : List (List Step)) (cs ds : List (List Triplet)) (r : Result (Unit {0}) NoMemory) → length ps ≡ length cs
     → Appends (triplet at.begin at.definition None) cs ds r → Stripes (field_column at s no_instances) ps cs ds r
 none_passed at s ps cs ds (Ok done) l h = h ∙ gained-each (triplet at.begin at.definition None ∷ []) ps cs l
 none_passed at s ps cs ds (Err e) l h = h
@@ -126,15 +126,9 @@ grown_at t now old i x y h l g a b e =
 
 -- ---- the rest of the instances
 
-pub instances_more : (xs : List code_record.Instance) (i : ℕ) (x : code_record.Instance) → i < length xs → x ≡ get_or xs i x
-    → instances_view (drop i xs) ≡ instance (instance_view x) (instances_view (drop (i + 1) xs))
-instances_more xs i x h g = ap instances_view (drop_more xs i x h ∙ ap (λ y. y ∷ drop (i + 1) xs) (sym g))
-
 -- nothing is left to come
-pub nothing_left : (at : Place) (s : Step) (xs : List code_record.Instance) (i : ℕ) (ps : List (List Step)) (cs es : List (List Triplet)) → length xs ≤ i
-    → gained (later_columns at s (instances_view (drop i xs))) ps cs ≡ es → cs ≡ es
-nothing_left at s xs i ps cs es h g =
-    sym (gained-nothing ps cs) ∙ ap (λ ys. gained (later_columns at s (instances_view ys)) ps cs) (sym (drop_all i xs h)) ∙ g
+pub nothing_left : (at : Place) (s : Step) (xs : Instances) (ps : List (List Step)) (cs es : List (List Triplet)) → xs ≡ no_instances → gained (later_columns at s xs) ps cs ≡ es → cs ≡ es
+nothing_left at s xs ps cs es h g = sym (gained-nothing ps cs) ∙ ap (λ ys. gained (later_columns at s ys) ps cs) (sym h) ∙ g
 
 pub length_paths : (fields : List paths.Path) → length (paths_view fields) ≡ length fields
 length_paths fields = length-map fields (λ (p : paths.Path). (path_view p).path)
@@ -142,13 +136,9 @@ length_paths fields = length-map fields (λ (p : paths.Path). (path_view p).path
 pub length_columns : (cs : List columns.Column) → length (columns_view cs) ≡ length cs
 length_columns cs = length-map cs column_view
 
-no_more : (xs : List code_record.Instance) → length xs < 1 → instances_view xs ≡ no_instances
-no_more [] h = refl
-no_more (x ∷ xs) h = absurd (omega (arith, h))
-
-pub empty_passed : (at : Place) (s : Step) (xs : List code_record.Instance) (ps : List (List Step)) (cs ds : List (List Triplet)) (r : Result (Unit {0}) NoMemory) → length xs < 1 → length ps ≡ length cs
-    → Appends (triplet at.begin at.definition None) cs ds r → Stripes (field_column at s (instances_view xs)) ps cs ds r
-empty_passed at s xs ps cs ds r h l g = subst (λ ys. Stripes (field_column at s ys) ps cs ds r) (sym (no_more xs h)) (none_passed at s ps cs ds r l g)
+pub empty_passed : (at : Place) (s : Step) (xs : Instances) (ps : List (List Step)) (cs ds : List (List Triplet)) (r : Result (Unit {0}) NoMemory) → xs ≡ no_instances → length ps ≡ length cs
+    → Appends (triplet at.begin at.definition None) cs ds r → Stripes (field_column at s xs) ps cs ds r
+empty_passed at s xs ps cs ds r h l g = subst (λ ys. Stripes (field_column at s ys) ps cs ds r) (sym h) (none_passed at s ps cs ds r l g)
 
 -- ---- one run of paths, then the others
 

@@ -113,36 +113,31 @@ takes_far f fields n cs ks bs c m l t =
 -- ---- the instances of a field
 
 -- the first
-pub takes_instance : (at b : Place) (s : Step) (x y : Instance) (xs : Instances) (ps : List (List Step)) (ks : List LeafForm) → b ≡ below at s.repetition → y ≡ x → Takes (field_column at s (instance x xs)) ps ks
-    → Takes (λ p. instance_column (drop b.depth p) b.level b.definition at.begin y) ps ks
-takes_instance at b s x y xs ps ks e f t =
-    subst (λ (w : Place). Takes (λ p. instance_column (drop w.depth p) w.level w.definition at.begin y) ps ks) (sym e)
-    (subst (λ (z : Instance). Takes (λ p. instance_column (drop (at.depth + 1) p) (at.level + repetition_count s.repetition) (at.definition + definition_count s.repetition) at.begin z) ps ks) (sym f)
-    (takes_first (λ p. instance_column (drop (at.depth + 1) p) (at.level + repetition_count s.repetition) (at.definition + definition_count s.repetition) at.begin x) (later_columns at s xs) ps ks t))
+pub takes_instance : (at b : Place) (s : Step) (x : Instance) (xs : Instances) (ps : List (List Step)) (ks : List LeafForm) → b ≡ below at s.repetition → Takes (field_column at s (instance x xs)) ps ks
+    → Takes (λ p. instance_column (drop b.depth p) b.level b.definition at.begin x) ps ks
+takes_instance at b s x xs ps ks e t =
+    subst (λ (w : Place). Takes (λ p. instance_column (drop w.depth p) w.level w.definition at.begin x) ps ks) (sym e)
+    (takes_first (λ p. instance_column (drop (at.depth + 1) p) (at.level + repetition_count s.repetition) (at.definition + definition_count s.repetition) at.begin x) (later_columns at s xs) ps ks t)
 
 pub takes_later : (at : Place) (s : Step) (x : Instance) (xs : Instances) (ps : List (List Step)) (ks : List LeafForm) → Takes (field_column at s (instance x xs)) ps ks → Takes (later_columns at s xs) ps ks
 takes_later at s x xs ps ks t =
     takes_second (λ p. instance_column (drop (at.depth + 1) p) (at.level + repetition_count s.repetition) (at.definition + definition_count s.repetition) at.begin x) (later_columns at s xs) ps ks t
 
--- the next of the later ones, and those behind it
-pub takes_next : (at b : Place) (s : Step) (x y : Instance) (xs : Instances) (ps : List (List Step)) (ks : List LeafForm) → b ≡ below at s.repetition → y ≡ x → Takes (later_columns at s (instance x xs)) ps ks
-    → Takes (path_column b y) ps ks
-takes_next at b s x y xs ps ks e f t =
-    subst (λ (w : Place). Takes (path_column w y) ps ks) (sym e)
-    (subst (λ (z : Instance). Takes (path_column (below at s.repetition) z) ps ks) (sym f) (takes_first (path_column (below at s.repetition) x) (later_columns at s xs) ps ks t))
+-- the next of the later ones, by columns of the same forms, and those behind it
+pub takes_next : (at b : Place) (s : Step) (x : Instance) (xs ys : Instances) (ps : List (List Step)) (ks js : List LeafForm) → b ≡ below at s.repetition → ys ≡ instance x xs → js ≡ ks → Takes (later_columns at s ys) ps ks
+    → Takes (path_column b x) ps js
+takes_next at b s x xs ys ps ks js e f j t =
+    subst (λ is. Takes (path_column b x) ps is) (sym j)
+    (subst (λ (w : Place). Takes (path_column w x) ps ks) (sym e)
+    (takes_first (path_column (below at s.repetition) x) (later_columns at s xs) ps ks (subst (λ zs. Takes (later_columns at s zs) ps ks) f t)))
 
-pub takes_rest : (at : Place) (s : Step) (x : Instance) (xs : Instances) (ps : List (List Step)) (ks : List LeafForm) → Takes (later_columns at s (instance x xs)) ps ks → Takes (later_columns at s xs) ps ks
-takes_rest at s x xs ps ks t = takes_second (path_column (below at s.repetition) x) (later_columns at s xs) ps ks t
+pub takes_rest : (at : Place) (s : Step) (x : Instance) (xs ys : Instances) (ps : List (List Step)) (ks : List LeafForm) → ys ≡ instance x xs → Takes (later_columns at s ys) ps ks → Takes (later_columns at s xs) ps ks
+takes_rest at s x xs ys ps ks f t = takes_second (path_column (below at s.repetition) x) (later_columns at s xs) ps ks (subst (λ zs. Takes (later_columns at s zs) ps ks) f t)
 
 -- none
-no_more : (xs : List code_record.Instance) → length xs < 1 → instances_view xs ≡ no_instances
-no_more [] h = refl
-no_more (x ∷ xs) h = absurd (omega (arith, h))
-
-pub takes_none : (at : Place) (s : Step) (xs : List code_record.Instance) (ps : List (List Step)) (ks : List LeafForm) → length xs < 1 → length ps ≡ length ks → Takes (field_column at s (instances_view xs)) ps ks
+pub takes_none : (at : Place) (s : Step) (xs : Instances) (ps : List (List Step)) (ks : List LeafForm) → xs ≡ no_instances → length ps ≡ length ks → Takes (field_column at s xs) ps ks
     → list_all (λ f. takes f (triplet at.begin at.definition None)) ks ≡ true
-takes_none at s xs ps ks h l t =
-    takes_each (triplet at.begin at.definition None) ps ks l (subst (λ ys. Takes (field_column at s ys) ps ks) (no_more xs h) t)
+takes_none at s xs ps ks h l t = takes_each (triplet at.begin at.definition None) ps ks l (subst (λ ys. Takes (field_column at s ys) ps ks) h t)
 
 -- the leaves of whole paths
 pub takes_all : (f : List Step → List Triplet) (fields : List paths.Path) → list_all (λ l. list_all (takes (leaf_form l)) (f l.path)) (leaves_of fields) ≡ true → Takes f (paths_view fields) (forms_of (leaves_of fields))

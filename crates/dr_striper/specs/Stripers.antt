@@ -2,7 +2,7 @@
 use Rattle.std.specs.Prelude.{◌≡◌, ℕ, List, [], ◌∷◌, take, Result, Ok, Err, Bool}
 use Rattle.std.specs.List.{list_all}
 use Rattle.dr_meaning.specs.Path.{Step, Leaf}
-use Rattle.dr_meaning.specs.Record.{Node}
+use Rattle.dr_meaning.specs.Record.{Node, no_slots, Instance, atom, inner}
 use Rattle.dr_meaning.specs.Column.{Triplet, record_column}
 use Rattle.dr_memory.specs.declared.NoMemory.{NoMemory}
 use Rattle.dr_levels.specs.Views.{columns_view}
@@ -26,6 +26,14 @@ fits_leaf n l = list_all (takes (leaf_form l)) (record_column l.path n)
 -- the paths of its leaves
 abbrev pub striped_paths : Striper → List (List Step)
 striped_paths s = paths_view s.fields.now
+
+-- the record that an instance is; a leaf's value is none
+abbrev pub record_in : Instance → Node
+record_in (atom v) = no_slots
+record_in (inner n) = n
+
+abbrev pub IsRecord : Instance → Type 0
+IsRecord x = x ≡ inner (record_in x)
 
 -- each column gained the record's; where memory was wanting, none did
 abbrev pub AddsRecord : Node → List (List Step) → List (List Triplet) → List (List Triplet) → Result (Unit {0}) NoMemory → Type 0

@@ -10,12 +10,13 @@ use Rattle.dr_nested.specs.PathView.{path_view}
 use Rattle.dr_nested.specs.declared.record.Value.{Value}
 use Rattle.dr_nested.specs.declared.path.Path.{Path}
 use Rattle.dr_memory.specs.declared.NoMemory.{NoMemory}
-use Rattle.dr_striper.specs.declared.dissection.Inside.{Inside}
+use Rattle.dr_striper.specs.declared.inside.Inside.{Inside}
 use Rattle.dr_striper.specs.declared.dissection.Place.{Place}
 use Rattle.dr_levels.specs.Views.{LeafForm, form}
 use Rattle.dr_levels.specs.Columns.{takes}
 use denote.Ref.{Bor}
 
+-- what is inside an instance of a node
 abbrev pub inside_view : Inside → tree.Instance
 inside_view (Inside.Atom v) = tree.atom (value_view v.now)
 inside_view (Inside.Group n) = tree.inner (node_view n.now)

@@ -2,25 +2,19 @@
 
 ghost use Rattle.std.specs.Prelude.{◌≡◌, ◌≤◌, ◌+◌, ◌-◌, ◌∷◌, [], true, length, take, drop, option_map};
 ghost use Rattle.std.specs.List.{list_all};
-ghost use Rattle.dr_meaning.specs.Column.{value_of, triplet};
+ghost use Rattle.dr_meaning.specs.Column.{triplet};
 ghost use Rattle.dr_meaning.specs.Record as record_tree;
 ghost use Rattle.dr_meaning.specs.Schema.{greatest_depth};
-ghost use Rattle.dr_nested.specs.Views.{rep_view, instance_view, instances_view, lent_value};
+ghost use Rattle.dr_nested.specs.Views.{rep_view};
 ghost use Rattle.dr_nested.specs.PathView.{path_view, step_view, paths_view};
-ghost use Rattle.dr_levels.specs.Views.{column_view, columns_view, column_form, forms_view};
+ghost use Rattle.dr_levels.specs.Views.{column_view, columns_view, column_form, forms_view, lent_value};
 ghost use Rattle.dr_levels.specs.Columns.{Adds, takes};
 ghost use Rattle.dr_striper.specs.Places.{IsWithin, below};
-ghost use Rattle.dr_striper.specs.Striping.{Appends, Stripes, Takes, EachGoesOn, inside_view, path_column, field_column};
+ghost use Rattle.dr_striper.specs.Striping.{Appends, Stripes, Takes, EachGoesOn, path_column, field_column};
 
+use crate::held::Held;
 use dr_levels::{Column, Triplet, ValueRef};
-use dr_nested::{Instance, NoMemory, Node, Path, Rep, Step, Value, instances_at};
-
-/// What an instance has inside: a leaf's value, or a group's node.
-#[derive(Clone, Copy)]
-pub enum Inside<'a> {
-    Atom(&'a Value),
-    Group(&'a Node),
-}
+use dr_nested::{NoMemory, Path, Rep, Step};
 
 /// Where a pass through a record stands: how many fields lie on the way, how many of them are repeated, how many need
 /// not be there, and the repetition level at which the next triplets begin.
@@ -53,35 +47,6 @@ impl Place {
             definition,
             begin: level,
         }
-    }
-}
-
-fn look_inside(instance: &Instance) -> Inside<'_>
-    ensures { inside_view result ≡ instance_view instance.now }
-{
-    match instance {
-        Instance::Atom(value) => Inside::Atom(value),
-        Instance::Group(node) => Inside::Group(node),
-    }
-}
-
-/// The instances of the field at a place; a value has none.
-fn instances_in<'a>(inside: Inside<'a>, place: usize) -> &'a [Instance]
-    ensures { instances_view result.now ≡ record_tree.instances_in place (inside_view inside.entry) }
-{
-    match inside {
-        Inside::Atom(_) => &[],
-        Inside::Group(node) => instances_at(node, place),
-    }
-}
-
-/// The value at a path's end: none in a group.
-fn value_in<'a>(inside: Inside<'a>) -> Option<&'a Value>
-    ensures { option_map lent_value result ≡ value_of (inside_view inside.entry) }
-{
-    match inside {
-        Inside::Atom(value) => Some(value),
-        Inside::Group(_) => None,
     }
 }
 
@@ -120,17 +85,13 @@ fn run_length(fields: &[Path], depth: usize, step: Step) -> usize
 }
 
 /// Appends a triplet of a place to a column.
-fn push_one(column: &mut Column, place: Place, value: Option<&Value>) -> Result<(), NoMemory>
+fn push_one(column: &mut Column, place: Place, value: Option<ValueRef<'_>>) -> Result<(), NoMemory>
     requires { takes (column_form column.old) (triplet place.begin place.definition (option_map lent_value value))
         ≡ true }
     ensures triplet { Adds (column_view column.old) (column_view column.new)
         (triplet place.begin place.definition (option_map lent_value value.entry) ∷ []) result }
     ensures form { column_form column.new ≡ column_form column.old }
 {
-    let value = match value {
-        Some(value) => Some(ValueRef::of(value)),
-        None => None,
-    };
     column.push(Triplet {
         repetition: place.begin,
         definition: place.definition,
@@ -139,7 +100,11 @@ fn push_one(column: &mut Column, place: Place, value: Option<&Value>) -> Result<
 }
 
 /// Appends a triplet of a place to each column.
-fn push_all(columns: &mut [Column], place: Place, value: Option<&Value>) -> Result<(), NoMemory>
+fn push_all(
+    columns: &mut [Column],
+    place: Place,
+    value: Option<ValueRef<'_>>,
+) -> Result<(), NoMemory>
     requires { list_all (λ f. takes f (triplet place.begin place.definition (option_map lent_value value)))
         (forms_view columns.old) ≡ true }
     ensures columns { Appends (triplet place.begin place.definition (option_map lent_value value.entry))
@@ -154,21 +119,20 @@ fn push_all(columns: &mut [Column], place: Place, value: Option<&Value>) -> Resu
 
 /// What the instances of a field that has some give the columns of the paths that go on by its step.
 #[cycle(passing)]
-fn stripe_instances(
+fn stripe_instances<H: Held>(
     fields: &[Path],
     columns: &mut [Column],
     step: Step,
-    first: &Instance,
-    later: &[Instance],
+    first: H,
+    later: H::List,
     place: Place,
 ) -> Result<(), NoMemory>
     requires as_many { length fields.now ≡ length columns.old }
     requires within { IsWithin place (greatest_depth - 1) }
-    requires takes { Takes (field_column place (step_view step)
-        (record_tree.instance (instance_view first.now) (instances_view later.now))) (paths_view fields.now)
-        (forms_view columns.old) }
+    requires takes { Takes (field_column place (step_view step) (record_tree.instance (H.shows first) (H.lists later)))
+        (paths_view fields.now) (forms_view columns.old) }
     ensures columns { Stripes (field_column place (step_view step)
-        (record_tree.instance (instance_view first.now) (instances_view later.now))) (paths_view fields.now)
+        (record_tree.instance (H.shows first) (H.lists later))) (paths_view fields.now)
         (columns_view columns.old) (columns_view columns.new) result }
     ensures forms { forms_view columns.new ≡ forms_view columns.old }
 {
@@ -177,48 +141,52 @@ fn stripe_instances(
         begin: place.begin,
         ..below
     };
-    stripe_inside(fields, columns, look_inside(first), begun)?;
-    'instances: for instance in later {
-        stripe_inside(fields, columns, look_inside(instance), below)?;
+    stripe_held(fields, columns, first, begun)?;
+    let mut rest = later;
+    'instances: while let Some((instance, behind)) = H::cut_first(rest) {
+        stripe_held(fields, columns, instance, below)?;
+        rest = behind;
     }
     Ok(())
 }
 
 /// What the instances of a field give the columns of the paths that go on by its step.
 #[cycle(passing)]
-fn stripe_field(
+fn stripe_field<H: Held>(
     fields: &[Path],
     columns: &mut [Column],
     step: Step,
-    instances: &[Instance],
+    instances: H::List,
     place: Place,
 ) -> Result<(), NoMemory>
     requires as_many { length fields.now ≡ length columns.old }
     requires within { IsWithin place (greatest_depth - 1) }
-    requires takes { Takes (field_column place (step_view step) (instances_view instances.now)) (paths_view fields.now)
+    requires takes { Takes (field_column place (step_view step) (H.lists instances)) (paths_view fields.now)
         (forms_view columns.old) }
-    ensures columns { Stripes (field_column place (step_view step) (instances_view instances.now)) (paths_view fields.now)
+    ensures columns { Stripes (field_column place (step_view step) (H.lists instances)) (paths_view fields.now)
         (columns_view columns.old) (columns_view columns.new) result }
     ensures forms { forms_view columns.new ≡ forms_view columns.old }
 {
-    match instances {
-        [] => push_all(columns, place, None),
-        [first, later @ ..] => stripe_instances(fields, columns, step, first, later, place),
+    match H::cut_first(instances) {
+        None => push_all(columns, place, None),
+        Some((first, later)) => {
+            stripe_instances::<H>(fields, columns, step, first, later, place)
+        }
     }
 }
 
 /// What an instance gives the columns of the paths that lead to it.
 #[cycle(passing)]
-pub fn stripe_inside(
+pub fn stripe_held<H: Held>(
     fields: &[Path],
     columns: &mut [Column],
-    inside: Inside<'_>,
+    held: H,
     place: Place,
 ) -> Result<(), NoMemory>
     requires as_many { length fields.now ≡ length columns.old }
     requires within { IsWithin place greatest_depth }
-    requires takes { Takes (path_column place (inside_view inside)) (paths_view fields.now) (forms_view columns.old) }
-    ensures columns { Stripes (path_column place (inside_view inside.entry)) (paths_view fields.now)
+    requires takes { Takes (path_column place (H.shows held)) (paths_view fields.now) (forms_view columns.old) }
+    ensures columns { Stripes (path_column place (H.shows held)) (paths_view fields.now)
         (columns_view columns.old) (columns_view columns.new) result }
     ensures forms { forms_view columns.new ≡ forms_view columns.old }
 {
@@ -228,15 +196,15 @@ pub fn stripe_inside(
     match head.steps.get(place.depth) {
         None => {
             let (near, far) = columns.split_at_mut(1);
-            push_all(near, place, value_in(inside))?;
-            stripe_inside(others, far, inside, place)
+            push_all(near, place, held.value())?;
+            stripe_held(others, far, held, place)
         }
         Some(step) => {
             let run = 1 + run_length(others, place.depth, *step);
             let (near, far) = columns.split_at_mut(run);
-            let instances = instances_in(inside, step.place);
-            stripe_field(&fields[..run], near, *step, instances, place)?;
-            stripe_inside(&fields[run..], far, inside, place)
+            let instances = held.instances_in(step.place);
+            stripe_field::<H>(&fields[..run], near, *step, instances, place)?;
+            stripe_held(&fields[run..], far, held, place)
         }
     }
 }

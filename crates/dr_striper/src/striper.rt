@@ -1,15 +1,18 @@
 //! The striper.
 
 ghost use Rattle.std.specs.Prelude.{◌≡◌, length, map, replicate, [], IfOk};
+ghost use Rattle.dr_meaning.specs.Record.{inner};
 ghost use Rattle.dr_nested.specs.Views.{node_view};
 ghost use Rattle.std.specs.Prelude.{true};
 ghost use Rattle.std.specs.List.{list_all};
 ghost use Rattle.dr_nested.specs.PathView.{path_view, paths_view};
 ghost use Rattle.dr_levels.specs.Views.{column_view, columns_view, column_form, forms_view};
 ghost use Rattle.dr_striper.specs.Striping.{leaves_of, leaf_form, forms_of};
-ghost use Rattle.dr_striper.specs.Stripers.{AddsRecord, cut_to, fits_leaf, striped, striped_leaves, striped_paths};
+ghost use Rattle.dr_striper.specs.Stripers.{AddsRecord, IsRecord, record_in, cut_to, fits_leaf, striped, striped_leaves, striped_paths};
 
-use crate::dissection::{Inside, Place, stripe_inside};
+use crate::dissection::{Place, stripe_held};
+use crate::held::Held;
+use crate::inside::Inside;
 use crate::making::Striper;
 use dr_levels::{Column, max_d};
 use dr_nested::{NoMemory, Node, Path};
@@ -37,16 +40,17 @@ fn cut_back(columns: &mut [Column], lengths: &[usize])
 }
 
 /// Appends what a record gives to each column, of these lengths; after a refusal they are cut back.
-fn stripe_record(
+fn stripe_record<H: Held>(
     fields: &[Path],
     columns: &mut [Column],
     lengths: &[usize],
-    node: &Node,
+    held: H,
 ) -> Result<(), NoMemory>
+    requires group { IsRecord (H.shows held) }
     requires fitted { forms_view columns.old ≡ forms_of (leaves_of fields.now) }
     requires noted { lengths.now ≡ map length (columns_view columns.old) }
-    requires fits { list_all (fits_leaf (node_view node.now)) (leaves_of fields.now) ≡ true }
-    ensures columns { AddsRecord (node_view node.now) (paths_view fields.now) (columns_view columns.old)
+    requires fits { list_all (fits_leaf (record_in (H.shows held))) (leaves_of fields.now) ≡ true }
+    ensures columns { AddsRecord (record_in (H.shows held)) (paths_view fields.now) (columns_view columns.old)
         (columns_view columns.new) result }
     ensures forms { forms_view columns.new ≡ forms_view columns.old }
 {
@@ -56,7 +60,7 @@ fn stripe_record(
         definition: 0,
         begin: 0,
     };
-    match stripe_inside(fields, columns, Inside::Group(node), root) {
+    match stripe_held(fields, columns, held, root) {
         Ok(()) => Ok(()),
         Err(NoMemory) => {
             cut_back(columns, lengths);
@@ -113,7 +117,20 @@ impl<'a> Striper<'a> {
             (striped self.new) result }
         ensures leaves { striped_leaves self.new ≡ striped_leaves self.old }
     {
-        stripe_record(self.fields, &mut self.columns, &self.lengths, node)?;
+        self.add_held(Inside::Group(node))
+    }
+
+    /// Appends what a record gives that is held in another form.
+    ///
+    /// Errors: as `add`.
+    pub fn add_held<H: Held>(&mut self, held: H) -> Result<(), NoMemory>
+        requires group { IsRecord (H.shows held) }
+        requires fits { list_all (fits_leaf (record_in (H.shows held))) (striped_leaves self.old) ≡ true }
+        ensures columns { AddsRecord (record_in (H.shows held)) (striped_paths self.old) (striped self.old)
+            (striped self.new) result }
+        ensures leaves { striped_leaves self.new ≡ striped_leaves self.old }
+    {
+        stripe_record(self.fields, &mut self.columns, &self.lengths, held)?;
         note_lengths(&mut self.lengths, &self.columns);
         Ok(())
     }

@@ -28,13 +28,15 @@ pub fn check_columns(
     columns: &[Triplets<'_>],
     rows: u64,
 ) -> Result<(), AssembleFault>
-    requires leaves { list_all (is_leaf_path (fields_view (schema.now).fields.items)) (map lent_path fields.now) ≡ true }
+    requires leaves { list_all (is_leaf_path (fields_view (schema.now).fields.items)) (map lent_path fields.now)
+        ≡ true }
     requires differ { all_differ (map lent_path fields.now) ≡ true }
     requires lengths { length columns.now ≡ length fields.now }
     ensures have { IfOk result (λ u. (R : List record_tree.Node) × HasColumns (fields_view (schema.now).fields.items)
         (map lent_path fields.now) (map triplets_view columns.now) rows R) }
     ensures none { IsErrOf result AssembleFault.BadData
-        → NoneHas (fields_view (schema.now).fields.items) (map lent_path fields.now) (map triplets_view columns.now) rows }
+        → NoneHas (fields_view (schema.now).fields.items) (map lent_path fields.now) (map triplets_view columns.now)
+        rows }
 {
     let mut walk = ColumnWalk::start(alloc, schema, fields, columns, rows)?;
     // No memory holds columns, or records, of more moves.

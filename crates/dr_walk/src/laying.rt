@@ -354,7 +354,8 @@ pub struct Table {
 /// Errors: want of memory alone.
 pub fn table_of(alloc: Global, schema: &Schema, fields: &[&[Step]]) -> Result<Table, NoMemory>
     requires { length fields.now < 2 ^ 32 }
-    ensures { IfOk result (λ t. is_table (course (fields_view (schema.now).fields.items) (map lent_path fields.now)) t) }
+    ensures { IfOk result (λ t. is_table (course (fields_view (schema.now).fields.items) (map lent_path fields.now))
+        t) }
 {
     let picks = picks_of(alloc, fields)?;
     let mut items = Vec::new(alloc);

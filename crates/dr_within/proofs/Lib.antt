@@ -5,18 +5,10 @@ pub mod LateLemmas
 -- which rows fire at a leaf, and what is read for them
 pub mod FiringLemmas
 pub mod FiredLemmas
--- the last of some leaves, the leaves in an expression, and what is read of a row
-pub mod GreatestLemmas
-pub mod LeavesBelow
-pub mod ReadRows
--- tests in parts
-pub mod PartedLemmas
--- what is known at the last of some leaves; the readings of a plan of groups, and its condition
+-- what is known at the last of some leaves; the readings of a plan of groups
 pub mod LastMeans
 pub mod PlanAggregates
 pub mod PlanReadings
-pub mod PlanCondition
-pub mod PlanParts
 -- moves one after another; what is made over the walk of records, and the partial of a scan of groups
 pub mod FramedLemmas
 pub mod PlanFrames
@@ -27,8 +19,7 @@ pub mod PlanItems
 pub mod ScanObjects
 -- what was made in open branches
 pub mod FramingLemmas
--- what a pruner tells, and what is known by its numbers
-pub mod WatchingLemmas
+-- what is known by a pruner's numbers
 pub mod SettledLemmas
 -- a scan behind one more move
 pub mod BehindLemmas

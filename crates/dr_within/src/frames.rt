@@ -78,7 +78,8 @@ impl<'a> Frames<'a> {
         ensures rows { OnOk result ((p : Planned) (made : List Put) (settled later : List Bool) (marks : List ℕ)
             → Holds p (length keys.now) made settled marks self.old → StaySettled settled later
             → (is_kept ≡ true → AllSettled later)
-            → Holds p (length keys.now) (made ++ all_read keys.now (takings_view takings.now) (slot_value slots.now)) later marks
+            → Holds p (length keys.now) (made
+            ++ all_read keys.now (takings_view takings.now) (slot_value slots.now)) later marks
             self.new) }
         ensures marks { (self.new).marks ≡ (self.old).marks }
     {
@@ -111,7 +112,8 @@ impl<'a> Frames<'a> {
         ensures left { OnOk result ((p : Planned) (made : List Put) (b : Bool) (settled : List Bool) (mark : ℕ)
             (marks : List ℕ) → Holds p (length keys.now) made (b ∷ settled) (mark ∷ marks) self.old
             → (is_dropped ≡ true → b ≡ false) → Holds p (length keys.now)
-            (if is_dropped then take mark made else made ++ all_read keys.now (takings_view takings.now) (slot_value slots.now))
+            (if is_dropped then take mark made else made
+            ++ all_read keys.now (takings_view takings.now) (slot_value slots.now))
             settled marks self.new) }
         ensures none { OnOk result ((p : Planned) (made : List Put)
             → Holds p (length keys.now) made [] [] self.old → Holds p (length keys.now) made [] [] self.new) }
@@ -131,7 +133,8 @@ impl<'a> Frames<'a> {
     ///
     /// Errors: want of memory, or of room for a count, a sum or a number of a group.
     pub(crate) fn close(self, alloc: Global) -> Result<Partial, NoMemory>
-        ensures partial { IfOk result (λ x. (p : Planned) (n : ℕ) (made : List Put) (settled : List Bool) (marks : List ℕ)
+        ensures partial { IfOk result (λ x. (p : Planned) (n : ℕ) (made : List Put) (settled : List Bool)
+            (marks : List ℕ)
             → Holds p n made settled marks self.entry → partial_view x
             ≡ put_all (planned_query p) made (empty_partial (planned_query p))) }
         ensures of_plan { IfOk result (λ x. (p : Planned) → IsPartialOf p (self.entry).partial → IsPartialOf p x) }

@@ -65,7 +65,8 @@ fn push_object(
 ) -> Result<(), NoMemory>
     ensures { OnOk result ((ls : List Leaf) (rs : List ReadItem) (made : List Made) (k : ℕ) (m : MeantLevel)
         → AreReadItems ls items.now rs → HoldsFrame (items_of rs) made inner.now → IsLevel (items_of rs) k m level.now
-        → cells_view cells.new ≡ cells_view cells.old ++ object_cells (object_made rs (suc k) m (slot_value slots.now) made)) }
+        → cells_view cells.new
+        ≡ cells_view cells.old ++ object_cells (object_made rs (suc k) m (slot_value slots.now) made)) }
 {
     push_own(alloc, items, &level.items, slots, &inner.values, cells)?;
     push_counts(&level.lists, &inner.built, cells)?;

@@ -17,7 +17,7 @@ ghost use Rattle.dr_within.specs.Scanning.{Scans, Begins, open_in_scan};
 ghost use Rattle.dr_within.specs.Behind.{IsOfLeaf};
 
 use crate::groups::GroupScan;
-use crate::plan_condition::condition_of;
+use dr_condition::condition_of;
 use dr_group::Partial;
 use dr_levels::Move;
 use dr_memory::NoMemory;
@@ -64,7 +64,8 @@ impl<'a> PlanScan<'a> {
     pub fn step(&mut self, alloc: Global, read: &Move<'a>) -> Result<(), NoMemory>
         requires few { open_in_scan self.old < 64 }
         ensures { OnOk result ((s : MeantSchema) (p : MeantPlan) (ms : List MeantMove) → Scans s p ms self.old
-            → IsOfLeaf (length (plan_leaves p)) (move_view read.now) → Scans s p (ms ++ move_view read.now ∷ []) self.new) }
+            → IsOfLeaf (length (plan_leaves p)) (move_view read.now)
+            → Scans s p (ms ++ move_view read.now ∷ []) self.new) }
     {
         self.groups.step(alloc, read)
     }
@@ -77,7 +78,8 @@ impl<'a> PlanScan<'a> {
             → list_all (is_record s.fields) R ≡ true
             → Scans s p (walk s.fields (paths_of_leaves (plan_leaves p)) R) self.entry
             → partial_view x ≡ partials.partial_of s.fields (planned_query (plan_view p)) R) }
-        ensures of_plan { IfOk result (λ x. (s : MeantSchema) (p : MeantPlan) (ms : List MeantMove) → Scans s p ms self.entry
+        ensures of_plan { IfOk result (λ x. (s : MeantSchema) (p : MeantPlan) (ms : List MeantMove)
+            → Scans s p ms self.entry
             → IsPartialOf (plan_view p) x) }
     {
         self.groups.close(alloc)

@@ -19,8 +19,8 @@ use dr_nested::Schema;
 use dr_page::PageForm;
 use std::alloc::Global;
 
-/// The bytes of the file of so many records of a schema, from the columns that they have at its leaves, in schema order;
-/// its pages are V1.
+/// The bytes of the file of so many records of a schema, from the columns that they have at its leaves, in schema
+/// order; its pages are V1.
 ///
 /// Errors: want of memory alone.
 pub fn write_file(

@@ -60,8 +60,8 @@ fn stripe_records<S: Source>(
 {
     let mut striper = Striper::new(alloc, slice::from_ref(field))?;
     let mut records = Records::new(alloc, schema, MOST_STRIPED)?;
-    'lines: while let Some(node) = records.next(source)? {
-        striper.add(&node)?;
+    'lines: while let Some(record) = records.next(source)? {
+        striper.add_held(record.part())?;
     }
     Ok(only_column(striper))
 }

@@ -2,12 +2,11 @@ use Rattle.std.proofs.Common.{arith, [], ◌∷◌, ◌∙◌, ap, sym, option_m
 use Rattle.std.specs.List.{list_all}
 use Rattle.dr_meaning.specs.Column.{triplet}
 use Rattle.dr_levels.specs.declared.column.Column.{Column}
-use Rattle.dr_levels.specs.Views.{column_form}
+use Rattle.dr_levels.specs.Views.{column_form, lent_value}
 use Rattle.dr_levels.specs.Columns.{takes}
 use Rattle.dr_striper.proofs.PassLemmas.{appended_more, grown_at}
 use Rattle.dr_striper.proofs.TakeLemmas.{takes_there, forms_set, failed_each}
 use Rattle.dr_striper.proofs.dissection.push_all.Goals as goal
-use Rattle.dr_nested.specs.Views.{lent_value}
 
 pub push_one-requires : goal.push_one-requires
 push_one-requires c =

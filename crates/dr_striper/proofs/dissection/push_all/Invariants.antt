@@ -1,8 +1,7 @@
 use Rattle.std.proofs.Common.{◌≡◌, ◌++◌, ◌∷◌, [], map, take, drop, option_map}
 use Rattle.dr_meaning.specs.Column.{triplet}
-use Rattle.dr_levels.specs.Views.{columns_view, forms_view}
+use Rattle.dr_levels.specs.Views.{columns_view, forms_view, lent_value}
 use Rattle.dr_striper.proofs.dissection.push_all.Given as goal
-use Rattle.dr_nested.specs.Views.{lent_value}
 
 -- the columns before this one gained the triplet, the others did not
 abbrev pub invariant-columns : goal.invariant-columns

@@ -2,15 +2,18 @@ use Rattle.std.proofs.Common.{◌≡◌, ◌+◌, ◌∷◌, [], ℕ, ap, subst,
 use Rattle.std.specs.List.{list_all}
 use Rattle.dr_meaning.specs.Schema.{Fields}
 use Rattle.dr_meaning.specs.Path.{Leaf}
-use Rattle.dr_meaning.specs.Record.{is_record}
+use Rattle.dr_meaning.specs.Record.{Instance, inner, is_record}
+use Rattle.dr_meaning.specs.Column.{record_column}
 use Rattle.dr_meaning.specs.Stripe.{most_striped}
-use Rattle.dr_nested.specs.Views.{fields_view, node_view}
+use Rattle.dr_nested.specs.Views.{fields_view}
+use Rattle.dr_json.specs.Parts.{line_node}
+use Rattle.dr_json.specs.declared.record.LineRecord.{LineRecord}
 use Rattle.dr_nested.specs.PathView.{path_view}
-use Rattle.dr_nested.specs.declared.record.Node.{Node}
 use Rattle.dr_lines.specs.Cutting.{pending, IsEnd}
 use Rattle.dr_input.specs.Taken.{HasTaken}
 use Rattle.dr_input.specs.Records.{fields_of, most_of, number_of, left_of}
-use Rattle.dr_striper.specs.Stripers.{striped, striped_paths, fits_leaf}
+use Rattle.dr_striper.specs.Striping.{gained}
+use Rattle.dr_striper.specs.Stripers.{record_in, striped, striped_leaves, striped_paths, fits_leaf}
 use Rattle.dr_striper.proofs.FitLemmas.{record_fits}
 use Rattle.dr_top.specs.Records.{AreColumns, HasColumns, HasRead}
 use Rattle.dr_top.proofs.InputLemmas.{read_start, read_more, read_all, all_ended, reader_stops, some_of, none_there}
@@ -36,43 +39,48 @@ lines-init g c =
       calm = refl;
     }
 
-pub returns-in_err-node-clause-stops : goal.returns-in_err-node-clause-stops
-returns-in_err-node-clause-stops g c =
-    err_is _ _ _ c.from_residual-in_err-node.ensures.1
+pub returns-in_err-record-clause-stops : goal.returns-in_err-record-clause-stops
+returns-in_err-record-clause-stops g c =
+    err_is _ _ _ c.from_residual-in_err-record.ensures.1
     (reader_stops (AreColumns ((path_view c.args.field.now).path ∷ []) (striped c.lines.striper)) (left_of c.lines.records (g.S.Source.shows c.lines.source).left)
-    (g.S.Source.shows c.args.source.now) (g.S.Source.shows c.lines.source) (g.S.Source.shows c.next.new.source) c.in_err-node.field-0.0 _ _ _ _ (number_of c.lines.records) c.lines.invariant.fields_are c.lines.invariant.most_is
-    c.lines.invariant.has_read c.lines.invariant.calm (c.in_err-node.ensures.stops c.lines.invariant.not_stopped))
+    (g.S.Source.shows c.args.source.now) (g.S.Source.shows c.lines.source) (g.S.Source.shows c.next.new.source) c.in_err-record.field-0.0 _ _ _ _ (number_of c.lines.records) c.lines.invariant.fields_are c.lines.invariant.most_is
+    c.lines.invariant.has_read c.lines.invariant.calm (c.in_err-record.ensures.stops c.lines.invariant.not_stopped))
 
-pub add-requires : goal.add-requires
-add-requires g c =
-    let n = node_view c.in-Some.node in
+pub add_held-requires : goal.add_held-requires
+add_held-requires g c =
+    let n = line_node c.in-Some.record in
     let fs = fields_view c.args.schema.now.fields.items in
     let read : is_record fs n ≡ true =
-    ap (λ (x : Fields). is_record x n) (sym c.lines.invariant.fields_are) ∙ some_of (λ (m : Node). is_record (fields_of c.lines.records) (node_view m) ≡ true) c.in_ok-node.field-0 c.in-Some.node c.in-Some.is c.in_ok-node.ensures.form in
-    record { fits = ap (list_all (fits_leaf n)) c.lines.invariant.leaves ∙ ap (λ b. b && true) (record_fits fs (path_view c.args.field.now) n c.requires read) }
+    ap (λ (x : Fields). is_record x n) (sym c.lines.invariant.fields_are) ∙ some_of (λ (m : LineRecord). is_record (fields_of c.lines.records) (line_node m) ≡ true) c.in_ok-record.field-0 c.in-Some.record c.in-Some.is c.in_ok-record.ensures.form in
+    record {
+      group = c.part.ensures ∙ ap (λ (x : Instance). inner (record_in x)) (sym c.part.ensures);
+      fits = ap (λ (x : Instance). list_all (fits_leaf (record_in x)) (striped_leaves c.lines.striper)) c.part.ensures ∙ ap (list_all (fits_leaf n)) c.lines.invariant.leaves
+          ∙ ap (λ b. b && true) (record_fits fs (path_view c.args.field.now) n c.requires read);
+    }
 
-pub lines-preserved : goal.lines-preserved
-lines-preserved g c =
+pub lines-preserved-in_ok-add_held-3 : goal.lines-preserved-in_ok-add_held-3
+lines-preserved-in_ok-add_held-3 g c =
     let F = (path_view c.args.field.now).path ∷ [] in
     let before = left_of c.lines.records (g.S.Source.shows c.lines.source).left in
     let now = left_of c.next.new.self (g.S.Source.shows c.next.new.source).left in
-    let n = node_view c.in-Some.node in
-    let taken : HasTaken (fields_of c.lines.records) (most_of c.lines.records) (number_of c.lines.records) (node_view c.in-Some.node ∷ []) (left_of c.lines.records (g.S.Source.shows c.lines.source).left) (left_of c.next.new.self (g.S.Source.shows c.next.new.source).left) =
-    some_of (λ (m : Node). HasTaken (fields_of c.lines.records) (most_of c.lines.records) (number_of c.lines.records) (node_view m ∷ []) (left_of c.lines.records (g.S.Source.shows c.lines.source).left) (left_of c.next.new.self (g.S.Source.shows c.next.new.source).left)) c.in_ok-node.field-0 c.in-Some.node c.in-Some.is c.in_ok-node.ensures.record in
-    let counts : number_of c.next.new.self ≡ number_of c.lines.records + 1 = some_of (λ (m : Node). number_of c.next.new.self ≡ number_of c.lines.records + 1) c.in_ok-node.field-0 c.in-Some.node c.in-Some.is c.in_ok-node.ensures.counts in
+    let n = line_node c.in-Some.record in
+    let taken : HasTaken (fields_of c.lines.records) (most_of c.lines.records) (number_of c.lines.records) (line_node c.in-Some.record ∷ []) (left_of c.lines.records (g.S.Source.shows c.lines.source).left) (left_of c.next.new.self (g.S.Source.shows c.next.new.source).left) =
+    some_of (λ (m : LineRecord). HasTaken (fields_of c.lines.records) (most_of c.lines.records) (number_of c.lines.records) (line_node m ∷ []) (left_of c.lines.records (g.S.Source.shows c.lines.source).left) (left_of c.next.new.self (g.S.Source.shows c.next.new.source).left)) c.in_ok-record.field-0 c.in-Some.record c.in-Some.is c.in_ok-record.ensures.record in
+    let counts : number_of c.next.new.self ≡ number_of c.lines.records + 1 = some_of (λ (m : LineRecord). number_of c.next.new.self ≡ number_of c.lines.records + 1) c.in_ok-record.field-0 c.in-Some.record c.in-Some.is c.in_ok-record.ensures.counts in
     record {
-      has_read = subst (λ (j : ℕ). HasRead (fields_view c.args.schema.now.fields.items) most_striped (AreColumns ((path_view c.args.field.now).path ∷ []) (striped c.add.new.self)) (g.S.Source.shows c.args.source.now).left (left_of c.next.new.self (g.S.Source.shows c.next.new.source).left) j) (sym counts)
-          (read_more (fields_view c.args.schema.now.fields.items) most_striped (AreColumns F (striped c.lines.striper)) (AreColumns F (striped c.add.new.self)) (g.S.Source.shows c.args.source.now).left before now (number_of c.lines.records) n
+      has_read = subst (λ (j : ℕ). HasRead (fields_view c.args.schema.now.fields.items) most_striped (AreColumns ((path_view c.args.field.now).path ∷ []) (striped c.add_held.new.self)) (g.S.Source.shows c.args.source.now).left (left_of c.next.new.self (g.S.Source.shows c.next.new.source).left) j) (sym counts)
+          (read_more (fields_view c.args.schema.now.fields.items) most_striped (AreColumns F (striped c.lines.striper)) (AreColumns F (striped c.add_held.new.self)) (g.S.Source.shows c.args.source.now).left before now (number_of c.lines.records) n
           c.lines.invariant.has_read
-          (subst (λ (fs : Fields). HasTaken fs most_striped (number_of c.lines.records) (node_view c.in-Some.node ∷ []) (left_of c.lines.records (g.S.Source.shows c.lines.source).left) (left_of c.next.new.self (g.S.Source.shows c.next.new.source).left)) c.lines.invariant.fields_are
-          (subst (λ (most : ℕ). HasTaken (fields_of c.lines.records) most (number_of c.lines.records) (node_view c.in-Some.node ∷ []) (left_of c.lines.records (g.S.Source.shows c.lines.source).left) (left_of c.next.new.self (g.S.Source.shows c.next.new.source).left)) c.lines.invariant.most_is taken))
-          (more_columns F (striped_paths c.lines.striper) (striped c.lines.striper) (striped c.add.new.self) n (paths_from_leaves c.lines.striper ∙ ap (map (λ (l : Leaf). l.path)) c.lines.invariant.leaves) c.in_ok-add.ensures.columns));
-      fields_are = c.in_ok-node.ensures.same_fields ∙ c.lines.invariant.fields_are;
-      most_is = c.in_ok-node.ensures.same_most ∙ c.lines.invariant.most_is;
-      leaves = c.in_ok-add.ensures.leaves ∙ c.lines.invariant.leaves;
-      not_stopped = c.in_ok-node.ensures.goes_on;
-      within = omega (arith, c.in_ok-node.ensures.within, c.in_ok-node.ensures.same_most, c.lines.invariant.most_is);
-      calm = c.in_ok-node.ensures.calm ∙ c.lines.invariant.calm;
+          (subst (λ (fs : Fields). HasTaken fs most_striped (number_of c.lines.records) (line_node c.in-Some.record ∷ []) (left_of c.lines.records (g.S.Source.shows c.lines.source).left) (left_of c.next.new.self (g.S.Source.shows c.next.new.source).left)) c.lines.invariant.fields_are
+          (subst (λ (most : ℕ). HasTaken (fields_of c.lines.records) most (number_of c.lines.records) (line_node c.in-Some.record ∷ []) (left_of c.lines.records (g.S.Source.shows c.lines.source).left) (left_of c.next.new.self (g.S.Source.shows c.next.new.source).left)) c.lines.invariant.most_is taken))
+          (more_columns F (striped_paths c.lines.striper) (striped c.lines.striper) (striped c.add_held.new.self) n (paths_from_leaves c.lines.striper ∙ ap (map (λ (l : Leaf). l.path)) c.lines.invariant.leaves)
+          (c.in_ok-add_held.ensures.columns ∙ ap (λ (x : Instance). gained (λ p. record_column p (record_in x)) (striped_paths c.lines.striper) (striped c.lines.striper)) c.part.ensures)));
+      fields_are = c.in_ok-record.ensures.same_fields ∙ c.lines.invariant.fields_are;
+      most_is = c.in_ok-record.ensures.same_most ∙ c.lines.invariant.most_is;
+      leaves = c.in_ok-add_held.ensures.leaves ∙ c.lines.invariant.leaves;
+      not_stopped = c.in_ok-record.ensures.goes_on;
+      within = omega (arith, c.in_ok-record.ensures.within, c.in_ok-record.ensures.same_most, c.lines.invariant.most_is);
+      calm = c.in_ok-record.ensures.calm ∙ c.lines.invariant.calm;
     }
 
 pub returns-clause-columns : goal.returns-clause-columns
@@ -80,10 +88,10 @@ returns-clause-columns g c =
     let F = (path_view c.args.field.now).path ∷ [] in
     subst (HasColumns (fields_view c.args.schema.now.fields.items) F (g.S.Source.shows c.args.source.now).left) c.only_column.ensures
     (read_all (fields_view c.args.schema.now.fields.items) most_striped (AreColumns F (striped c.lines.striper)) (g.S.Source.shows c.args.source.now).left (left_of c.lines.records (g.S.Source.shows c.lines.source).left) (left_of c.next.new.self (g.S.Source.shows c.next.new.source).left) (number_of c.lines.records)
-    c.lines.invariant.has_read (none_there (IsEnd (left_of c.lines.records (g.S.Source.shows c.lines.source).left) (left_of c.next.new.self (g.S.Source.shows c.next.new.source).left)) c.in_ok-node.field-0 c.in_default.not-Some c.in_ok-node.ensures.end))
+    c.lines.invariant.has_read (none_there (IsEnd (left_of c.lines.records (g.S.Source.shows c.lines.source).left) (left_of c.next.new.self (g.S.Source.shows c.next.new.source).left)) c.in_ok-record.field-0 c.in_default.not-Some c.in_ok-record.ensures.end))
 
 pub returns-clause-end : goal.returns-clause-end
 returns-clause-end g c =
     let F = (path_view c.args.field.now).path ∷ [] in
     all_ended (fields_view c.args.schema.now.fields.items) most_striped (AreColumns F (striped c.lines.striper)) (g.S.Source.shows c.args.source.now).left (left_of c.lines.records (g.S.Source.shows c.lines.source).left) (g.S.Source.shows c.next.new.source).left (pending c.next.new.self.lines) (number_of c.lines.records)
-    c.lines.invariant.has_read (none_there (IsEnd (left_of c.lines.records (g.S.Source.shows c.lines.source).left) (left_of c.next.new.self (g.S.Source.shows c.next.new.source).left)) c.in_ok-node.field-0 c.in_default.not-Some c.in_ok-node.ensures.end)
+    c.lines.invariant.has_read (none_there (IsEnd (left_of c.lines.records (g.S.Source.shows c.lines.source).left) (left_of c.next.new.self (g.S.Source.shows c.next.new.source).left)) c.in_ok-record.field-0 c.in_default.not-Some c.in_ok-record.ensures.end)

@@ -1,0 +1,58 @@
+#!/usr/bin/env bash
+# Measures reading N generated records (150,000 where no N is given, about 22 MB of JSON) beside other readers of the same lines: `load` and `ask` of one COUNT beside Rust's
+# serde_json into its `Value` (where cargo and its crates are there), and `ask` of the four queries of query.sh beside Python with orjson, and node (where these are there), which
+# have to print the same. A line for each, with the least processor seconds of five runs in turn, and in brackets what the program's are of it. Let nothing else run.
+# usage: bench/rivals.sh [N] [PROGRAM]
+set -euo pipefail
+count=${1:-150000}
+top=$(cd "$(dirname "${BASH_SOURCE[0]}")/.." && pwd)
+program=${2:-$top/crates/dremel/out/dremel}
+work=$(mktemp -d)
+trap 'rm -rf "$work"' EXIT
+"$program" gen --seed 0 --records "$count" >"$work/records.jsonl"
+mkdir "$work/leaf"
+cargo build --quiet --release --manifest-path "$top/bench/rivals/values/Cargo.toml" --target-dir "$work/values" 2>"$work/cargo" || echo "serde_json isn't there"
+echo "$(nproc) processors, load $(cut -d ' ' -f 1 /proc/loadavg)"
+
+python3 - "$program" "$work" "$top" <<'PY'
+import os, shutil, subprocess, sys
+program, work, top = sys.argv[1:]
+records, schema = f"{work}/records.jsonl", f"{top}/examples/document.txt"
+
+def seconds(words, out):
+    with open(records) as given, open(out, "w") as printed:
+        running = subprocess.Popen(words, stdin=given, stdout=printed)
+        _, status, used = os.wait4(running.pid, 0)
+    return used.ru_utime + used.ru_stime if status == 0 else None
+
+def compared(name, own, others, same):
+    least = {}
+    for _ in range(5):
+        for other, words in {"": own, **others}.items():
+            taken = seconds(words, f"{work}/out{other}")
+            if taken is not None:
+                least[other] = min(taken, least.get(other, taken))
+    mine = least.pop("")
+    told = "".join(f"  {other} {taken:.3f} s ({mine / taken:.2f})" for other, taken in least.items())
+    print(f"{name:16} {mine:.3f} s{told}", flush=True)
+    for other in least if same else []:
+        if open(f"{work}/out").read() != open(f"{work}/out{other}").read():
+            print(f"{name}: {other} prints something else")
+
+values = f"{work}/values/release/values"
+rust = {"serde_json": [values]} if os.path.exists(values) else {}
+compared("load", [program, "load", "--schema", schema, "--table", f"{work}/t.table", f"{work}/leaf"], rust, False)
+compared("ask, one COUNT", [program, "ask", "--schema", schema, "SELECT COUNT(Name.Url) FROM Document"], rust, False)
+queries = {
+    "five": "SELECT COUNT(*) AS r, COUNT(Name.Language.Code) AS c, COUNT(Name.Url) AS u, SUM(Links.Forward) AS f, MAX(DocId) AS m FROM Document",
+    "groups": "SELECT Name.Language.Country, COUNT(*) AS n, SUM(DocId) AS s FROM Document GROUP BY Name.Language.Country",
+    "objects": "SELECT DocId, COUNT(Name.Language.Code) WITHIN Name AS codes FROM Document WHERE Name.Url LIKE 'http://u/1%'",
+    "selective": "SELECT COUNT(*) AS n FROM Document WHERE DocId < 100",
+}
+has_orjson = subprocess.call([sys.executable, "-c", "import orjson"], stderr=subprocess.DEVNULL) == 0
+for name, query in queries.items():
+    others = {"orjson": [sys.executable, f"{top}/bench/rivals/ask.py", name]} if has_orjson else {}
+    if shutil.which("node"):
+        others["node"] = ["node", f"{top}/bench/rivals/ask.js", name, records]
+    compared(f"ask, {name}", [program, "ask", "--schema", schema, query], others, True)
+PY
