@@ -5,14 +5,10 @@ use Rattle.dr_meaning.specs.Path.{Leaf}
 use Rattle.dr_meaning.specs.Column.{Triplet}
 use Rattle.dr_formats.specs.Chunk.{pages_triplets}
 use Rattle.dr_formats.specs.Opening.{Range, range, has_column}
-use Rattle.dr_chunk.specs.Takers.{leaf_form, IsLeafOf}
-use Rattle.dr_levels.specs.Views.{LeafForm}
 use Rattle.dr_nested.specs.Views.{kind_view}
 use Rattle.dr_nested.specs.PathView.{step_view}
 use Rattle.dr_file.specs.Openings.{ShownChunk}
 use Rattle.dr_file.specs.declared.opened_leaf.OpenedLeaf.{OpenedLeaf}
-use Rattle.dr_file.specs.Floors.{AreFloorsOf}
-use Rattle.dr_file.specs.declared.leaf_reader.LeafReader.{LeafReader}
 
 -- whether a chunk lies between the magic and the footer
 abbrev pub lies_before : ℕ → ShownChunk → Bool
@@ -38,22 +34,6 @@ chunks_triplets bytes footer l cs = flat_map (λ c. triplets_given (shown_triple
 -- the bytes of a chunk, where it lies before the footer
 abbrev pub shown_range : ℕ → ShownChunk → List Range
 shown_range footer c = if lies_before footer c then range c.start c.size ∷ [] else []
-
--- where the file is that a leaf is read from
-abbrev pub file_of : LeafReader → List ℕ
-file_of r = r.path.now
-
--- the place of its footer
-abbrev pub footer_of_file : LeafReader → ℕ
-footer_of_file r = r.footer
-
--- what is read is this leaf
-abbrev pub IsReaderOf : Leaf → LeafReader → Type 0
-IsReaderOf l r = IsLeafOf l r.shape × AreFloorsOf l.path r.floors
-
--- the form of the leaf's columns
-abbrev pub reader_form : LeafReader → LeafForm
-reader_form r = leaf_form r.shape
 
 -- an opened leaf has the path and the kind of this leaf
 abbrev pub IsShownLeaf : Leaf → OpenedLeaf → Type 0

@@ -1,0 +1,11 @@
+use Rattle.std.proofs.Common.{arith}
+use Rattle.dr_file.proofs.RowOrderLemmas.{none_went, one_went, all_went, stuck_at}
+use Rattle.dr_file.proofs.row_order.RowOrder.go_on.Goals as goal
+
+pub levels-initial : goal.levels-initial
+levels-initial c = record { went = λ p rows ts f h. none_went p rows ts c.args.levels.now _ h }
+
+pub levels-preserved : goal.levels-preserved
+levels-preserved c = record {
+  went = λ p rows ts f h. one_went p rows ts c.args.levels.now c.levels.next-index _ _ _ c.levels-test.true (c.levels.invariant.went p rows ts f h) (λ us o. c.take.ensures.on p rows us f o c.if-not-take.false);
+}

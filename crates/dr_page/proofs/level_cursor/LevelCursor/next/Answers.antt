@@ -1,0 +1,47 @@
+use Rattle.std.proofs.Common.{◌≡◌, ◌+◌, ◌∙◌, ◌++◌, List, ℕ, Bool, true, false, Some, length, take, drop, sym, ap, subst, arith}
+use Rattle.std.specs.Prelude.{nat_le}
+use Rattle.std.specs.List.{list_all}
+use Rattle.std.proofs.lemmas.List.{length-append, length-replicate, take_at}
+use Rattle.dr_formats.specs.Hybrid.{hybrid}
+use Rattle.dr_formats.specs.Page.{level_width, levels}
+use Rattle.dr_page.specs.RunReading.{HasRead}
+use Rattle.dr_page.proofs.CursorLemmas.{levels_behind, zeros_behind}
+use Rattle.dr_page.proofs.level_cursor.LevelCursor.next.Goals as goal
+
+pub returns-then-self-eq0-clause-next : goal.returns-then-self-eq0-clause-next
+returns-then-self-eq0-clause-next c = λ given h. record {
+  taken = zeros_behind c.args.self.now.greatest c.args.count c.args.part.now given c.put_zeros.new.levels.items c.if-self-eq0.true c.in_ok-put_zeros.ensures h.taken;
+  runs = λ z. absurd (z c.if-self-eq0.true);
+}
+
+pub returns-then-none_above-clause-next : goal.returns-then-none_above-clause-next
+returns-then-none_above-clause-next c =
+    let g = c.args.self.now.greatest in
+    let part = c.args.part.now in
+    let v = c.put_zeros.new.levels in
+    let ws = c.next_levels.new.out in
+    let l : length ws ≡ v.len = omega (arith, ap length c.deref_mut.ensures.value, c.next_levels.auto.out, v.ok.0) in
+    let same : take v.len (ws ++ drop (length ws) v.items) ≡ ws = take_at ws (drop (length ws) v.items) v.len l in
+    let all : list_all (λ k. nat_le k g) ws ≡ true = ap (list_all (λ k. nat_le k g)) (sym (c.deref.ensures.value ∙ same)) ∙ sym c.if-none_above.ensures in
+    λ given h.
+    let r = c.in_ok-next_levels.ensures.read (level_width g) given (h.runs c.if-self-eq0.false) in
+    let t = levels_behind g (length (given ++ ws)) part given ws true c.if-self-eq0.false h.taken r.front all in
+    record {
+      taken = subst (λ (xs : List ℕ). levels g (length (given ++ xs)) part ≡ Some (given ++ xs)) (sym same) t;
+      runs = λ z. subst (λ (xs : List ℕ). HasRead (level_width g) part (given ++ xs) c.next_levels.new.self) (sym same) r;
+    }
+
+pub returns-else-none_above-clause-next : goal.returns-else-none_above-clause-next
+returns-else-none_above-clause-next c =
+    let g = c.args.self.now.greatest in
+    let part = c.args.part.now in
+    let v = c.put_zeros.new.levels in
+    let ws = c.next_levels.new.out in
+    let l : length ws ≡ v.len = omega (arith, ap length c.deref_mut.ensures.value, c.next_levels.auto.out, v.ok.0) in
+    let m : length ws ≡ c.args.count = omega (arith, l, v.ok.0, ap length c.in_ok-put_zeros.ensures, length-replicate {A = ℕ} c.args.count 0) in
+    let same : take v.len (ws ++ drop (length ws) v.items) ≡ ws = take_at ws (drop (length ws) v.items) v.len l in
+    let all : list_all (λ k. nat_le k g) ws ≡ false = ap (list_all (λ k. nat_le k g)) (sym (c.deref.ensures.value ∙ same)) ∙ sym c.if-none_above.ensures in
+    λ given h.
+    let r = c.in_ok-next_levels.ensures.read (level_width g) given (h.runs c.if-self-eq0.false) in
+    let n : length given + c.args.count ≡ length (given ++ ws) = omega (arith, length-append given ws, m) in
+    levels_behind g (length given + c.args.count) part given ws false c.if-self-eq0.false h.taken (ap (λ k. hybrid (level_width g) k part) n ∙ r.front) all
