@@ -1,5 +1,5 @@
 -- What the condition of a plan comes to.
-use Rattle.std.specs.Prelude.{◌≡◌, ◌<◌, ◌≤◌, ℕ, List, [], ◌∷◌, ◌++◌, Bool, true, false, Option, None, Some, is_some}
+use Rattle.std.specs.Prelude.{◌≡◌, ◌<◌, ◌≤◌, ℕ, List, [], ◌∷◌, ◌++◌, Bool, true, Option, None, Some, is_some}
 use Rattle.std.specs.List.{list_all}
 use Rattle.dr_meaning.specs.Schema.{Schema, Fields, depth, greatest_depth}
 use Rattle.dr_meaning.specs.Path.{Step, Leaf, paths_of_leaves, chain_end}

@@ -20,7 +20,8 @@ use Rattle.dr_walk.specs.Checking.{IsOn, NestsOn}
 use Rattle.dr_walk.specs.declared.column_walk.Advance.{Advance}
 use Rattle.dr_walk.specs.declared.walk.Walk.{Walk}
 use Rattle.dr_condition.proofs.OpenLemmas.{few_are_watched}
-use Rattle.dr_within.specs.Behind.{IsOfLeaf}
+use Rattle.dr_within.specs.Rows.{HasRead, IsOfLeaf}
+use Rattle.dr_within.specs.declared.row.Row.{Row}
 use Rattle.dr_within.specs.ObjectScanning.{ScansObjects, BeginsObjects, HasScannedAll, open_in_objects}
 use Rattle.dr_within.specs.declared.object_scan.ObjectScan.{ObjectScan}
 use Rattle.dr_scan.specs.OfColumns.{IsOfColumns}
@@ -29,47 +30,54 @@ use Rattle.dr_scan.proofs.GroupLemmas.{AdvancesPlan, leaf_within}
 -- ---- behind some moves
 
 -- a walk over columns gave these moves, which nest, and of them a scan has made what the plan makes of them
-pub record IsWalked (s : Schema) (p : Plan) (cs : List (List Triplet)) (rows : ℕ) (ms : List Move) (w : Walk) (rests : List Triplets) (g : ObjectScan) : Type 0 where
+pub record IsWalked (s : Schema) (p : Plan) (cs : List (List Triplet)) (rows : ℕ) (ms : List Move) (w : Walk) (rests : List Triplets) (g : ObjectScan) (r : Row) : Type 0 where
   pub on : IsOn s.fields (paths_of_leaves (plan_leaves p)) cs rows ms w rests
   pub made : ScansObjects s p ms g
   pub nests : is_some (open_after_moves s.fields (plan_leaves p) no_record ms) ≡ true
+  pub reads : HasRead (length (plan_leaves p)) ms r
 
-abbrev pub Walked : Schema → Plan → List (List Triplet) → ℕ → Walk → List Triplets → ObjectScan → Type 0
-Walked s p cs rows w rests g = (ms : List Move) × IsWalked s p cs rows ms w rests g
+abbrev pub Walked : Schema → Plan → List (List Triplet) → ℕ → Walk → List Triplets → ObjectScan → Row → Type 0
+Walked s p cs rows w rests g r = (ms : List Move) × IsWalked s p cs rows ms w rests g r
 
-pub walk_begins : (s : Schema) (p : Plan) (F : List (List Step)) (cs ds : List (List Triplet)) (rows : ℕ) (w : Walk) (rests : List Triplets) (g : ObjectScan) → F ≡ paths_of_leaves (plan_leaves p) → ds ≡ cs → IsOn s.fields F ds rows [] w rests
-    → ScansObjects s p [] g → Walked s p cs rows w rests g
-walk_begins s p F cs ds rows w rests g e d on made = (
+pub moved_to : (s : Schema) (p : Plan) (cs : List (List Triplet)) (rows : ℕ) (w : Walk) (rests : List Triplets) (g h : ObjectScan) (r t : Row) → h ≡ g → t ≡ r → Walked s p cs rows w rests g r → Walked s p cs rows w rests h t
+moved_to s p cs rows w rests g h r t a b x = subst (λ (i : ObjectScan). Walked s p cs rows w rests i t) (sym a) (subst (λ (i : Row). Walked s p cs rows w rests g i) (sym b) x)
+
+pub walk_begins : (s : Schema) (p : Plan) (F : List (List Step)) (cs ds : List (List Triplet)) (rows : ℕ) (w : Walk) (rests : List Triplets) (g : ObjectScan) (r : Row) → F ≡ paths_of_leaves (plan_leaves p) → ds ≡ cs → IsOn s.fields F ds rows [] w rests
+    → ScansObjects s p [] g → HasRead (length (plan_leaves p)) [] r → Walked s p cs rows w rests g r
+walk_begins s p F cs ds rows w rests g r e d on made reads = (
   [],
   record {
     on = subst (λ (G : List (List Step)). IsOn s.fields G cs rows [] w rests) e (subst (λ (es : List (List Triplet)). IsOn s.fields F es rows [] w rests) d on);
     made = made;
     nests = refl;
+    reads = reads;
   },
 )
 
 -- one instance is open for each level at most
-pub may_step : (s : Schema) (p : Plan) (cs : List (List Triplet)) (rows : ℕ) (ms : List Move) (w : Walk) (rests : List Triplets) (g : ObjectScan) → IsWalked s p cs rows ms w rests g → open_in_objects g < 64
-may_step s p cs rows ms w rests g h = few_are_watched s.fields (plan_leaves p) ms g.condition h.on.at.deep h.nests h.made.behind.watched
+pub may_step : (s : Schema) (p : Plan) (cs : List (List Triplet)) (rows : ℕ) (ms : List Move) (w : Walk) (rests : List Triplets) (g : ObjectScan) (r : Row) → IsWalked s p cs rows ms w rests g r → open_in_objects g < 64
+may_step s p cs rows ms w rests g r h = few_are_watched s.fields (plan_leaves p) ms g.condition h.on.at.levels.deep h.nests h.made.behind.watched
 
 -- ---- by what a call of the walk answers
 
-pub heard_walked : (s : Schema) (p : Plan) (cs : List (List Triplet)) (rows : ℕ) (ms : List Move) (v w : Walk) (before rests : List Triplets) (g : ObjectScan) (a : Advance) → IsWalked s p cs rows ms v before g → a ≡ Advance.Heard
-    → AdvancesPlan s p cs rows ms w rests (Ok a) → Walked s p cs rows w rests g
-heard_walked s p cs rows ms v w before rests g a h e goes =
-    (ms, record { on = subst (λ (b : Advance). AdvancesPlan s p cs rows ms w rests (Ok b)) e goes; made = h.made; nests = h.nests })
+pub heard_walked : (s : Schema) (p : Plan) (cs : List (List Triplet)) (rows : ℕ) (ms : List Move) (v w : Walk) (before rests : List Triplets) (g : ObjectScan) (r : Row) (a : Advance) → IsWalked s p cs rows ms v before g r → a ≡ Advance.Heard
+    → AdvancesPlan s p cs rows ms w rests (Ok a) → Walked s p cs rows w rests g r
+heard_walked s p cs rows ms v w before rests g r a h e goes =
+    (ms, record { on = subst (λ (b : Advance). AdvancesPlan s p cs rows ms w rests (Ok b)) e goes; made = h.made; nests = h.nests; reads = h.reads })
 
-pub gave_walked : (s : Schema) (p : Plan) (cs : List (List Triplet)) (rows : ℕ) (ms : List Move) (w : Walk) (rests : List Triplets) (old new : ObjectScan) (a : Advance) (m : CodeMove) → ScansObjects s p ms old → a ≡ Advance.Gave m
+pub gave_walked : (s : Schema) (p : Plan) (cs : List (List Triplet)) (rows : ℕ) (ms : List Move) (w : Walk) (rests : List Triplets) (old new : ObjectScan) (before after : Row) (a : Advance) (m : CodeMove) → ScansObjects s p ms old → HasRead (length (plan_leaves p)) ms before → a ≡ Advance.Gave m
     → AdvancesPlan s p cs rows ms w rests (Ok a) → NestsOn s.fields (plan_leaves p) ms (Ok a)
-    → ((t : Schema) (q : Plan) (ns : List Move) → ScansObjects t q ns old → IsOfLeaf (length (plan_leaves q)) (move_view m) → ScansObjects t q (ns ++ move_view m ∷ []) new) → Walked s p cs rows w rests new
-gave_walked s p cs rows ms w rests old new a m made e goes nests step =
+    → ((t : Schema) (q : Plan) (ns : List Move) → ScansObjects t q ns old → HasRead (length (plan_leaves q)) ns before → IsOfLeaf (length (plan_leaves q)) (move_view m) → ScansObjects t q (ns ++ move_view m ∷ []) new)
+    → ((n : ℕ) (ns : List Move) → HasRead n ns before → IsOfLeaf n (move_view m) → HasRead n (ns ++ move_view m ∷ []) after) → Walked s p cs rows w rests new after
+gave_walked s p cs rows ms w rests old new before after a m made read e goes nests step more =
     let gave : AdvancesPlan s p cs rows ms w rests (Ok (Advance.Gave m)) = subst (λ (b : Advance). AdvancesPlan s p cs rows ms w rests (Ok b)) e goes in
     let within : (i : ℕ) → leaf_of m ≡ Some i → i < length (plan_leaves p) = λ i q. subst (λ (n : ℕ). i < n) (length-map (plan_leaves p) (λ (l : Leaf). l.path)) (gave.1 i q) in (
       ms ++ move_view m ∷ [],
       record {
         on = gave.0;
-        made = step s p ms made (leaf_within (length (plan_leaves p)) m within);
+        made = step s p ms made read (leaf_within (length (plan_leaves p)) m within);
         nests = subst (λ (b : Advance). NestsOn s.fields (plan_leaves p) ms (Ok b)) e nests;
+        reads = more (length (plan_leaves p)) ms read (leaf_within (length (plan_leaves p)) m within);
       },
     )
 

@@ -15,7 +15,7 @@ use dr_nested::Schema;
 use dr_plan::{Aggregate, GroupItem, Plan};
 use dr_tablets::FileColumns;
 use dr_walk::{Advance, AssembleFault, ColumnWalk, check_columns};
-use dr_within::PlanScan;
+use dr_within::{LastRead, PlanScan};
 use std::alloc::Global;
 
 /// The partial of a plan of groups, which has these keys, aggregates and items, of so many records with these columns,
@@ -48,11 +48,13 @@ pub(crate) fn groups_of_moves(
         return Ok(Partial::empty(alloc, plan)?);
     };
     let mut walk = ColumnWalk::start(alloc, schema, &fields, &columns, file.rows)?;
+    let last = LastRead::new(alloc, plan.leaves.len())?;
+    let mut row = last.lend(alloc)?;
     // No memory holds columns, or records, of more moves.
     'moves: for _ in 0..u64::MAX {
         match walk.next()? {
             Advance::Heard => {}
-            Advance::Gave(read) => groups.step(alloc, &read)?,
+            Advance::Gave(read) => groups.step(alloc, &read, &mut row)?,
             Advance::Ended => return Ok(groups.close(alloc)?),
         }
     }

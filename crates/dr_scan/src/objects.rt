@@ -15,7 +15,7 @@ use dr_nested::Schema;
 use dr_plan::{ObjectPlan, Plan, RecordItem};
 use dr_tablets::FileColumns;
 use dr_walk::{Advance, AssembleFault, ColumnWalk, check_columns};
-use dr_within::ObjectScan;
+use dr_within::{LastRead, ObjectScan};
 use std::alloc::Global;
 
 /// The partial of a plan of objects, which has these items, of so many records with these columns, one for each leaf of
@@ -46,11 +46,13 @@ pub(crate) fn objects_of_moves(
         return Ok(Partial::empty(alloc, plan)?);
     };
     let mut walk = ColumnWalk::start(alloc, schema, &fields, &columns, file.rows)?;
+    let last = LastRead::new(alloc, plan.leaves.len())?;
+    let mut row = last.lend(alloc)?;
     // No memory holds columns, or records, of more moves.
     'moves: for _ in 0..u64::MAX {
         match walk.next()? {
             Advance::Heard => {}
-            Advance::Gave(read) => objects.step(alloc, &read)?,
+            Advance::Gave(read) => objects.step(alloc, &read, &mut row)?,
             Advance::Ended => return Ok(objects.close()?),
         }
     }

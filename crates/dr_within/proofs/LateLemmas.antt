@@ -5,11 +5,10 @@ use Rattle.std.proofs.lemmas.Bool.{cases_lt}
 use Rattle.std.proofs.lemmas.List.{take_all, take-take, drop-take, take-append-le, drop-append-le, length-drop, nil_from_length, take_min, drop_min, take-map, drop-map, drop-drop, drop_more}
 use Rattle.std.proofs.Math.Nat.{mul-le-mul_right}
 use Rattle.dr_meaning.specs.Record.{Value}
-use Rattle.dr_levels.specs.declared.triplet.ValueRef.{ValueRef}
+use Rattle.dr_nested.specs.declared.value.Value as code_value
 use Rattle.dr_partials.specs.Putting.{Put, Taken}
-use Rattle.dr_group.specs.Views.{lent_cell}
 use Rattle.dr_within.specs.Takings.{late_view}
-use Rattle.dr_within.specs.Late.{late_puts, puts_view}
+use Rattle.dr_within.specs.Late.{own_cell, late_puts, puts_view}
 use Rattle.dr_within.specs.declared.taking.LateTaken.{LateTaken}
 
 -- what is put of one row
@@ -72,12 +71,12 @@ drop_within k b K h =
     ap (λ (i : ℕ). drop i K) e ∙ drop_min k K
 
 -- of the rows from this one on the first, and those behind it
-pub puts_next : (n i : ℕ) (K : List (Option ValueRef)) (T : List (Option LateTaken)) (t : Option LateTaken) → i < length T → t ≡ get_or T i t
+pub puts_next : (n i : ℕ) (K : List (Option code_value.Value)) (T : List (Option LateTaken)) (t : Option LateTaken) → i < length T → t ≡ get_or T i t
     → puts_view n (drop (i * n) K) (drop i T)
-    ≡ one_put (map lent_cell (take n (drop (i * n) K))) (late_view t) ∷ puts_view n (drop ((i + 1) * n) K) (drop (i + 1) T)
+    ≡ one_put (map own_cell (take n (drop (i * n) K))) (late_view t) ∷ puts_view n (drop ((i + 1) * n) K) (drop (i + 1) T)
 puts_next n i K T t h e =
     let more : i * n + n ≡ (i + 1) * n = omega arith in
     ap (puts_view n (drop (i * n) K)) (drop_more T i t h ∙ ap (λ (u : Option LateTaken). u ∷ drop (i + 1) T) (sym e))
     ∙ ap₂ (λ (J : List (Option Value)) (L : List (Option Value)). one_put J (late_view t) ∷ late_puts n L (map late_view (drop (i + 1) T)))
-    (take-map lent_cell n (drop (i * n) K))
-    (drop-map lent_cell n (drop (i * n) K) ∙ ap (map lent_cell) (drop-drop n (i * n) K ∙ ap (λ (x : ℕ). drop x K) more))
+    (take-map own_cell n (drop (i * n) K))
+    (drop-map own_cell n (drop (i * n) K) ∙ ap (map own_cell) (drop-drop n (i * n) K ∙ ap (λ (x : ℕ). drop x K) more))

@@ -7,7 +7,7 @@ use Rattle.dr_plan.specs.declared.aggregate.Aggregate.{Aggregate}
 use Rattle.dr_plan.specs.declared.expression.Expr.{Expr}
 use Rattle.dr_scalar.specs.OverSlots.{expr_over}
 use Rattle.dr_scalar.specs.Leaves.{expr_leaves, greatest}
-use Rattle.dr_scalar.specs.Views.{evaluated_view}
+use Rattle.dr_nested.specs.Views.{value_view}
 use Rattle.dr_within.specs.declared.taking.Taking.{Taking}
 use Rattle.dr_within.specs.declared.taking.LateTaken.{LateTaken}
 
@@ -39,7 +39,7 @@ taken_with (take_values i e) v = Some (record { aggregate = i; value = v })
 
 -- what was taken
 abbrev pub late_view : Option LateTaken → Option Taken
-late_view t = option_map (λ (x : LateTaken). record { aggregate = x.aggregate; value = option_map evaluated_view x.value }) t
+late_view t = option_map (λ (x : LateTaken). record { aggregate = x.aggregate; value = option_map value_view x.value }) t
 
 -- what is put, by the numbers of the keys' leaves
 abbrev pub put_read : List ℕ → Take → Context → Put

@@ -8,26 +8,27 @@ ghost use Rattle.dr_scalar.specs.Slots.{slot_value};
 ghost use Rattle.dr_within.specs.Takings.{taking_view, put_read};
 ghost use Rattle.dr_within.specs.Late.{IsWhole, puts_view, rows_of};
 
-use crate::keys::push_key;
-use crate::taking::{LateTaken, Taking, late_as, lent_taken, value_of};
+use crate::keys::{lend_key, push_own_key};
+use crate::taking::{LateTaken, Taking, late_as, lent, lent_taken, owned, value_of};
 use dr_group::Partial;
 use dr_levels::ValueRef;
 use dr_memory::NoMemory;
+use dr_nested::Value;
 use std::alloc::Global;
 
 /// Rows of which it isn't known yet whether they are kept: the cells of their key tuples, one row's behind another's,
-/// and what was taken of each.
+/// and what was taken of each. The values are their own, for they are read at later moves.
 #[derive(Debug, Drop)]
-pub(crate) struct LateRows<'a> {
+pub(crate) struct LateRows {
     /// How many cells a key tuple has.
     pub(crate) width: usize,
-    pub(crate) cells: Vec<Option<ValueRef<'a>>>,
-    pub(crate) taken: Vec<Option<LateTaken<'a>>>,
+    pub(crate) cells: Vec<Option<Value>>,
+    pub(crate) taken: Vec<Option<LateTaken>>,
 }
 
-impl<'a> LateRows<'a> {
+impl LateRows {
     /// No rows.
-    pub(crate) fn new(alloc: Global, width: usize) -> LateRows<'a>
+    pub(crate) fn new(alloc: Global, width: usize) -> LateRows
         ensures whole { IsWhole result }
         ensures none { rows_of result ≡ [] }
         ensures width { result.width ≡ width }
@@ -53,8 +54,8 @@ impl<'a> LateRows<'a> {
         &mut self,
         alloc: Global,
         keys: &[u32],
-        slots: &[Option<ValueRef<'a>>],
-        taking: Taking<'a>,
+        slots: &[Option<ValueRef<'_>>],
+        taking: Taking<'_>,
     ) -> Result<(), NoMemory>
         ensures row { OnOk result (IsWhole self.old → (self.old).width ≡ length keys.now → rows_of self.new
             ≡ rows_of self.old ++ put_read keys.now (taking_view taking.entry) (slot_value slots.now) ∷ []) }
@@ -62,8 +63,9 @@ impl<'a> LateRows<'a> {
         ensures width { (self.new).width ≡ (self.old).width }
     {
         let value = value_of(alloc, taking, slots)?;
-        push_key(keys, slots, &mut self.cells)?;
-        self.taken.push(late_as(taking, value))?;
+        let kept = owned(alloc, lent(&value))?;
+        push_own_key(alloc, keys, slots, &mut self.cells)?;
+        self.taken.push(late_as(taking, kept))?;
         Ok(())
     }
 
@@ -96,11 +98,7 @@ impl<'a> LateRows<'a> {
 }
 
 /// The cells of the key tuple of the row of this number, of rows whose key tuples have so many cells each.
-fn row_cells<'s, 'a>(
-    cells: &'s [Option<ValueRef<'a>>],
-    width: usize,
-    number: usize,
-) -> &'s [Option<ValueRef<'a>>]
+fn row_cells(cells: &[Option<Value>], width: usize, number: usize) -> &[Option<Value>]
     ensures { result.now ≡ take width (drop (number * width) cells.now) }
 {
     let first = number.saturating_mul(width).min(cells.len());
@@ -112,17 +110,19 @@ fn row_cells<'s, 'a>(
 fn put_rows(
     alloc: Global,
     width: usize,
-    cells: &[Option<ValueRef<'_>>],
-    taken: &[Option<LateTaken<'_>>],
+    cells: &[Option<Value>],
+    taken: &[Option<LateTaken>],
     partial: &mut Partial,
 ) -> Result<(), NoMemory>
     ensures puts { OnOk result ((p : Planned) → IsPartialOf p partial.old → partial_view partial.new
         ≡ put_all (planned_query p) (puts_view width cells.now taken.now) (partial_view partial.old)) }
     ensures of_plan { (p : Planned) → IsPartialOf p partial.old → IsPartialOf p partial.new }
 {
+    let mut key = Vec::new(alloc);
     'rows: for (number, row) in taken.iter().enumerate() {
-        let key = row_cells(cells, width, number);
-        partial.put(alloc, key, lent_taken(row))?;
+        key.clear();
+        lend_key(row_cells(cells, width, number), &mut key)?;
+        partial.put(alloc, &key, lent_taken(row))?;
     }
     Ok(())
 }

@@ -1,6 +1,7 @@
 //! What is taken of a row.
 
 ghost use Rattle.std.specs.Prelude.{◌≡◌, option_map, IfOk};
+ghost use Rattle.dr_nested.specs.Views.{value_view};
 ghost use Rattle.dr_levels.specs.Views.{lent_value};
 ghost use Rattle.dr_scalar.specs.Slots.{slot_value};
 ghost use Rattle.dr_scalar.specs.Views.{evaluated_view};
@@ -10,6 +11,7 @@ ghost use Rattle.dr_within.specs.Takings.{taking_view, value_read, taken_with, l
 use dr_group::Taken;
 use dr_levels::ValueRef;
 use dr_memory::NoMemory;
+use dr_nested::Value;
 use dr_plan::Expr;
 use dr_scalar::{Evaluated, eval};
 use std::alloc::Global;
@@ -25,11 +27,11 @@ pub(crate) enum Taking<'p> {
     Value(u32, &'p Expr),
 }
 
-/// What was taken of a row: a value, or NULL, for the aggregate of a number.
+/// What was taken of a row, of its own: a value, or NULL, for the aggregate of a number.
 #[derive(Debug, Drop)]
-pub(crate) struct LateTaken<'a> {
+pub(crate) struct LateTaken {
     pub(crate) aggregate: u32,
-    pub(crate) value: Option<Evaluated<'a>>,
+    pub(crate) value: Option<Value>,
 }
 
 /// The value that is taken of what was read last of each leaf, where it isn't NULL.
@@ -48,11 +50,36 @@ pub(crate) fn value_of<'a>(
 }
 
 /// A value or NULL, lent.
-fn lent<'a>(value: &'a Option<Evaluated<'_>>) -> Option<ValueRef<'a>>
+pub(crate) fn lent<'a>(value: &'a Option<Evaluated<'_>>) -> Option<ValueRef<'a>>
     ensures { option_map lent_value result ≡ option_map evaluated_view value.now }
 {
     match value {
         Some(value) => Some(value.lend()),
+        None => None,
+    }
+}
+
+/// A value or NULL, of its own.
+///
+/// Errors: want of memory alone.
+pub(crate) fn owned(
+    alloc: Global,
+    value: Option<ValueRef<'_>>,
+) -> Result<Option<Value>, NoMemory>
+    ensures { IfOk result (λ v. option_map value_view v ≡ option_map lent_value value.entry) }
+{
+    match value {
+        Some(value) => Ok(Some(value.to_value(alloc)?)),
+        None => Ok(None),
+    }
+}
+
+/// A value or NULL of another's, lent.
+pub(crate) fn lent_of(value: &Option<Value>) -> Option<ValueRef<'_>>
+    ensures { option_map lent_value result ≡ option_map value_view value.now }
+{
+    match value {
+        Some(value) => Some(ValueRef::of(value)),
         None => None,
     }
 }
@@ -74,9 +101,9 @@ pub(crate) fn taken_as<'a>(
     }
 }
 
-/// The same, to be kept.
-pub(crate) fn late_as<'a>(taking: Taking<'_>, value: Option<Evaluated<'a>>) -> Option<LateTaken<'a>>
-    ensures { late_view result ≡ taken_with (taking_view taking.entry) (option_map evaluated_view value.entry) }
+/// The same, with a value of its own.
+pub(crate) fn late_as(taking: Taking<'_>, value: Option<Value>) -> Option<LateTaken>
+    ensures { late_view result ≡ taken_with (taking_view taking.entry) (option_map value_view value) }
 {
     match taking {
         Taking::Nothing => None,
@@ -87,13 +114,13 @@ pub(crate) fn late_as<'a>(taking: Taking<'_>, value: Option<Evaluated<'a>>) -> O
 }
 
 /// What was taken, lent.
-pub(crate) fn lent_taken<'a>(taken: &'a Option<LateTaken<'_>>) -> Option<Taken<'a>>
+pub(crate) fn lent_taken(taken: &Option<LateTaken>) -> Option<Taken<'_>>
     ensures { option_map taken_view result ≡ late_view taken.now }
 {
     match taken {
         Some(taken) => Some(Taken {
             aggregate: taken.aggregate,
-            value: lent(&taken.value),
+            value: lent_of(&taken.value),
         }),
         None => None,
     }

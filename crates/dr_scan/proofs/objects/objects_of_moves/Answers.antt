@@ -1,9 +1,10 @@
-use Rattle.std.proofs.Common.{◌≡◌, map, refl, sym, ap, subst, ◌∙◌, Err}
+use Rattle.std.proofs.Common.{◌≡◌, map, refl, sym, ap, subst, ◌∙◌, Err, ℕ, []}
 use Rattle.std.specs.List.{list_all}
+use Rattle.std.proofs.lemmas.List.{length-map}
 use Rattle.dr_meaning.specs.Path.{is_leaf_path, paths_of_leaves}
 use Rattle.dr_course.specs.Selection.{all_differ}
 use Rattle.dr_nested.specs.SchemaView.{schema_view}
-use Rattle.dr_nested.specs.PathView.{lent_path, paths_view}
+use Rattle.dr_nested.specs.PathView.{lent_path, path_view, paths_view}
 use Rattle.dr_levels.specs.Views.{columns_view, triplets_view}
 use Rattle.dr_group.specs.Partials.{partial_view}
 use Rattle.dr_plan.specs.Planned.{plan_leaves}
@@ -11,8 +12,9 @@ use Rattle.dr_tablets.proofs.RecordsLemmas.{paths_same}
 use Rattle.dr_walk.specs.Checking.{NestsOn}
 use Rattle.dr_walk.proofs.CheckingLemmas.{none_where, bad_handed}
 use Rattle.dr_within.specs.ObjectScanning.{BeginsObjects}
+use Rattle.dr_within.specs.Rows.{HasRead}
 use Rattle.dr_scan.proofs.GroupLemmas.{AdvancesPlan, plan_leaf_paths, plan_paths_differ, plan_leaves_stand, as_many, none_given}
-use Rattle.dr_scan.proofs.ObjectLemmas.{Walked, begins_without, may_step, walk_begins, heard_walked, gave_walked, ended_walked, all_scanned, nothing_kept}
+use Rattle.dr_scan.proofs.ObjectLemmas.{Walked, begins_without, may_step, moved_to, walk_begins, heard_walked, gave_walked, ended_walked, all_scanned, nothing_kept}
 use Rattle.dr_scan.proofs.objects.objects_of_moves.Goals as goal
 use Rattle.dr_scan.proofs.objects.objects_of_moves.Goals.{in-Heard, in-Gave+in_ok-step-in-Gave}
 
@@ -87,8 +89,9 @@ moves-init c =
     let file = c.args.file.now in
     let paths : map lent_path c.deref-3.result.now ≡ paths_of_leaves (plan_leaves p) = ap (map lent_path) c.deref-3.ensures.value ∙ (c.in_ok-fields.ensures ∙ (ap paths_view c.deref.ensures.value ∙ paths_same p.leaves.items)) in
     let columns : map triplets_view c.deref-4.result.now ≡ columns_view file.columns.items = ap (map triplets_view) c.deref-4.ensures.value ∙ (c.in_ok-columns.ensures ∙ ap columns_view c.deref-2.ensures.value) in
-    walk_begins s p (map lent_path c.deref-3.result.now) (columns_view file.columns.items) (map triplets_view c.deref-4.result.now) file.rows c.in_ok-walk.walk.walk c.in_ok-walk.walk.rests.items c.in-Some.objects paths columns
+    walk_begins s p (map lent_path c.deref-3.result.now) (columns_view file.columns.items) (map triplets_view c.deref-4.result.now) file.rows c.in_ok-walk.walk.walk c.in_ok-walk.walk.rests.items c.in-Some.objects c.in_ok-row.row paths columns
     c.in_ok-walk.ensures.given (subst (BeginsObjects s p) c.in-Some.is c.in_ok-objects.ensures)
+    (subst (λ (n : ℕ). HasRead n [] c.in_ok-row.row) (c.len.ensures ∙ sym (length-map p.leaves.items path_view)) (c.in_ok-row.ensures c.len.result [] c.in_ok-last.ensures))
 
 pub returns-in_err-next-clause-none : goal.returns-in_err-next-clause-none
 returns-in_err-next-clause-none c = λ q.
@@ -107,7 +110,7 @@ step-requires c =
     let s = schema_view c.args.schema.now in
     let p = c.args.plan.now in
     let file = c.args.file.now in
-    record { few = may_step s p (columns_view file.columns.items) file.rows c.moves.invariant.0 c.moves.walk.walk c.moves.walk.rests.items c.moves.objects c.moves.invariant.1 }
+    record { few = may_step s p (columns_view file.columns.items) file.rows c.moves.invariant.0 c.moves.walk.walk c.moves.walk.rests.items c.moves.objects c.moves.row c.moves.invariant.1 }
 
 pub close-requires : goal.close-requires
 close-requires c =
@@ -158,8 +161,8 @@ moves-preserved c =
     let nests = subst (NestsOn s.fields (plan_leaves p) ms) c.in_ok-next.was
     (c.next.ensures.nests s.fields F cs file.rows ms (plan_leaf_paths s p h) (plan_paths_differ s p h) inv.on (plan_leaves p) refl (plan_leaves_stand s p h)) in
     elim c.match-branch-9.branch [
-      | in-Heard w ↦ subst (Walked s p cs file.rows walk rests) (sym w.objects-is)
-          (heard_walked s p cs file.rows ms c.moves.walk.walk walk c.moves.walk.rests.items rests c.moves.objects c.in_ok-next.field-0 inv w.in-Heard.is goes)
-      | in-Gave+in_ok-step-in-Gave w ↦ subst (Walked s p cs file.rows walk rests) (sym w.objects-is)
-          (gave_walked s p cs file.rows ms walk rests c.moves.objects w.step.new.self c.in_ok-next.field-0 w.in-Gave.read inv.made w.in-Gave.is goes nests w.in_ok-step-in-Gave.ensures)
+      | in-Heard w ↦ moved_to s p cs file.rows walk rests _ _ _ _ w.objects-is w.row-is
+          (heard_walked s p cs file.rows ms c.moves.walk.walk walk c.moves.walk.rests.items rests c.moves.objects c.moves.row c.in_ok-next.field-0 inv w.in-Heard.is goes)
+      | in-Gave+in_ok-step-in-Gave w ↦ moved_to s p cs file.rows walk rests _ _ _ _ w.objects-is w.row-is
+          (gave_walked s p cs file.rows ms walk rests c.moves.objects w.step.new.self c.moves.row w.step.new.row c.in_ok-next.field-0 w.in-Gave.read inv.made inv.reads w.in-Gave.is goes nests w.in_ok-step-in-Gave.ensures.scans w.step.ensures.reads)
     ]

@@ -1,10 +1,11 @@
-use Rattle.std.proofs.Common.{◌∙◌, ◌+◌, ◌*◌, ap, ap₂, sym, List, Option, map, drop}
+use Rattle.std.proofs.Common.{◌∙◌, ◌+◌, ◌*◌, ◌++◌, ap, ap₂, sym, List, Option, map, drop}
 use Rattle.dr_meaning.specs.Record.{Value}
 use Rattle.dr_partials.specs.Putting.{Put, Taken, put, put_all}
 use Rattle.dr_plan.specs.Planned.{planned_query}
 use Rattle.dr_group.specs.Partials.{partial_view}
 use Rattle.dr_group.specs.Views.{lent_cell}
-use Rattle.dr_within.specs.Late.{puts_view}
+use Rattle.dr_levels.specs.declared.triplet.ValueRef.{ValueRef}
+use Rattle.dr_within.specs.Late.{own_cell, puts_view}
 use Rattle.dr_within.proofs.LateLemmas.{puts_next}
 use Rattle.dr_within.proofs.late.put_rows.Goals as goal
 
@@ -21,7 +22,7 @@ rows-preserved c =
           ap (put_all (planned_query p) (puts_view n (drop ((i + 1) * n) K) (drop (i + 1) T)))
           (c.in_ok-put.ensures.partial p (c.rows.invariant.of_plan p h)
           ∙ ap₂ (λ (ks : List (Option Value)) (t : Option Taken). put (planned_query p) (record { keys = ks; taken = t }) before)
-          (ap (map lent_cell) c.row_cells-key.ensures) c.lent_taken.ensures)
+          (ap (map lent_cell) c.deref.ensures.value ∙ c.in_ok-lend_key.ensures ∙ ap (λ (xs : List (Option ValueRef)). map lent_cell xs ++ map own_cell c.row_cells.result.now) c.clear.ensures.items ∙ ap (map own_cell) c.row_cells.ensures) c.lent_taken.ensures)
           ∙ (ap (λ (ps : List Put). put_all (planned_query p) ps before)
           (sym (puts_next n i K T c.index-taken-number.result c.rows-test.true c.index-taken-number.is))
           ∙ c.rows.invariant.puts p h);
