@@ -1,9 +1,9 @@
 -- The partial of groups along a walk over columns.
-use Rattle.std.proofs.Common.{◌≡◌, ◌∙◌, ◌<◌, ◌+◌, ℕ, zero, suc, List, [], ◌∷◌, ◌++◌, map, length, true, Option, Some, None, Result, Ok, refl, sym, ap, subst}
+use Rattle.std.proofs.Common.{◌≡◌, ◌∙◌, ◌<◌, ◌≤◌, ◌+◌, ℕ, zero, suc, List, [], ◌∷◌, ◌++◌, map, length, true, Option, Some, None, Result, Ok, refl, sym, ap, subst, arith}
 use Rattle.std.specs.Prelude.{is_some}
 use Rattle.std.specs.List.{list_all, slice_get}
 use Rattle.std.proofs.lemmas.List.{length-map}
-use Rattle.dr_meaning.specs.Schema.{Schema, Fields}
+use Rattle.dr_meaning.specs.Schema.{Schema, Fields, greatest_depth}
 use Rattle.dr_meaning.specs.Path.{Step, Leaf, leaves, is_leaf_path, paths_of_leaves}
 use Rattle.dr_meaning.specs.Record.{Node, is_record}
 use Rattle.dr_meaning.specs.Column.{Triplet}
@@ -21,6 +21,10 @@ use Rattle.dr_course.specs.Selection.{all_differ}
 use Rattle.dr_partials.specs.Partials.{Partial, partial_of, empty_partial}
 use Rattle.dr_plan.specs.Planned.{Planned, plan_view, plan_leaves, planned_query, IsOfSchema}
 use Rattle.dr_plan.specs.declared.plan.Plan.{Plan}
+use Rattle.dr_pruning_laws.specs.Parts.{all_tests}
+use Rattle.dr_prune.specs.PartAnswers.{lasts_of, untested}
+use Rattle.dr_prune.specs.Pruning.{open_in}
+use Rattle.dr_prune.proofs.OpenLemmas.{few_are_pruned}
 use Rattle.dr_put_laws.proofs.LeavesInOrderLemmas.{query_leaves_in_order}
 use Rattle.dr_tablets.specs.FileRecords.{AreLeavesOf}
 use Rattle.dr_walk.specs.Walking.{HasColumns, NoneHas, leaf_of}
@@ -28,9 +32,11 @@ use Rattle.dr_walk.specs.Checking.{IsOn, Advances, NestsOn}
 use Rattle.dr_walk.specs.declared.column_walk.Advance.{Advance}
 use Rattle.dr_walk.specs.declared.fault.AssembleFault.{AssembleFault}
 use Rattle.dr_walk.specs.declared.walk.Walk.{Walk}
-use Rattle.dr_condition.proofs.OpenLemmas.{few_are_watched}
 use Rattle.dr_within.specs.Behind.{IsOfLeaf}
 use Rattle.dr_within.specs.Scanning.{Scans, Begins, open_in_scan}
+use Rattle.dr_within.specs.Parted.{lent_tests, test_at}
+use Rattle.dr_within.specs.Conditions.{HasWatchedIf, open_if}
+use Rattle.dr_within.specs.declared.watched.Watched.{Watched}
 use Rattle.dr_within.specs.declared.plan_scan.PlanScan.{PlanScan}
 use Rattle.dr_scan.specs.OfColumns.{IsOfColumns, NoneHasLeaves}
 use Rattle.dr_scan.proofs.ScanLemmas.{plan_has_leaves}
@@ -75,7 +81,16 @@ walk_begins s p F cs ds rows w rests g e d on made = (
 
 -- one instance is open for each level at most
 pub may_step : (s : Schema) (p : Plan) (cs : List (List Triplet)) (rows : ℕ) (ms : List Move) (w : Walk) (rests : List Triplets) (g : PlanScan) → IsWalked s p cs rows ms w rests g → open_in_scan g < 64
-may_step s p cs rows ms w rests g h = few_are_watched s.fields (plan_leaves p) ms g.groups.condition h.on.at.deep h.nests h.made.behind.watched
+may_step s p cs rows ms w rests g h = by_watched g.groups.condition.watched h.made.behind.watched
+  where
+    by_watched : (o : Option Watched) → HasWatchedIf o ms → open_if o < 64
+    by_watched None seen = omega arith
+    by_watched (Some x) seen =
+        let ts = lent_tests x.tests.items in
+        let ls = lasts_of x.answers in
+        let few : open_in x.pruner ≤ 1 + greatest_depth =
+        few_are_pruned s.fields (plan_leaves p) ms (all_tests (untested (test_at ts) ls)) (test_at ts) ls x.pruner h.on.at.deep h.nests seen.pruned in
+        omega (arith, few)
 
 -- ---- by what a call of the walk answers
 

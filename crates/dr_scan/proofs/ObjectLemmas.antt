@@ -1,9 +1,9 @@
 -- The partial of objects along a walk over columns.
-use Rattle.std.proofs.Common.{◌≡◌, ◌∙◌, ◌<◌, ℕ, List, [], ◌∷◌, ◌++◌, length, true, Option, Some, None, Ok, refl, sym, subst}
+use Rattle.std.proofs.Common.{◌≡◌, ◌∙◌, ◌<◌, ◌≤◌, ◌+◌, ℕ, List, [], ◌∷◌, ◌++◌, length, true, Option, Some, None, Ok, refl, sym, subst, arith}
 use Rattle.std.specs.Prelude.{is_some}
 use Rattle.std.specs.List.{list_all}
 use Rattle.std.proofs.lemmas.List.{length-map}
-use Rattle.dr_meaning.specs.Schema.{Schema}
+use Rattle.dr_meaning.specs.Schema.{Schema, greatest_depth}
 use Rattle.dr_meaning.specs.Path.{Step, Leaf, paths_of_leaves}
 use Rattle.dr_meaning.specs.Record.{Node, is_record}
 use Rattle.dr_meaning.specs.Column.{Triplet}
@@ -15,13 +15,19 @@ use Rattle.dr_levels.specs.declared.triplets.Triplets.{Triplets}
 use Rattle.dr_partials.specs.Partials.{Partial, partial_of, empty_partial}
 use Rattle.dr_plan.specs.Planned.{plan_view, plan_leaves, planned_query, IsOfSchema}
 use Rattle.dr_plan.specs.declared.plan.Plan.{Plan}
+use Rattle.dr_pruning_laws.specs.Parts.{all_tests}
+use Rattle.dr_prune.specs.PartAnswers.{lasts_of, untested}
+use Rattle.dr_prune.specs.Pruning.{open_in}
+use Rattle.dr_prune.proofs.OpenLemmas.{few_are_pruned}
 use Rattle.dr_walk.specs.Walking.{HasColumns, leaf_of}
 use Rattle.dr_walk.specs.Checking.{IsOn, NestsOn}
 use Rattle.dr_walk.specs.declared.column_walk.Advance.{Advance}
 use Rattle.dr_walk.specs.declared.walk.Walk.{Walk}
-use Rattle.dr_condition.proofs.OpenLemmas.{few_are_watched}
 use Rattle.dr_within.specs.Behind.{IsOfLeaf}
 use Rattle.dr_within.specs.ObjectScanning.{ScansObjects, BeginsObjects, HasScannedAll, open_in_objects}
+use Rattle.dr_within.specs.Parted.{lent_tests, test_at}
+use Rattle.dr_within.specs.Conditions.{HasWatchedIf, open_if}
+use Rattle.dr_within.specs.declared.watched.Watched.{Watched}
 use Rattle.dr_within.specs.declared.object_scan.ObjectScan.{ObjectScan}
 use Rattle.dr_scan.specs.OfColumns.{IsOfColumns}
 use Rattle.dr_scan.proofs.GroupLemmas.{AdvancesPlan, leaf_within}
@@ -50,7 +56,16 @@ walk_begins s p F cs ds rows w rests g e d on made = (
 
 -- one instance is open for each level at most
 pub may_step : (s : Schema) (p : Plan) (cs : List (List Triplet)) (rows : ℕ) (ms : List Move) (w : Walk) (rests : List Triplets) (g : ObjectScan) → IsWalked s p cs rows ms w rests g → open_in_objects g < 64
-may_step s p cs rows ms w rests g h = few_are_watched s.fields (plan_leaves p) ms g.condition h.on.at.deep h.nests h.made.behind.watched
+may_step s p cs rows ms w rests g h = by_watched g.condition.watched h.made.behind.watched
+  where
+    by_watched : (o : Option Watched) → HasWatchedIf o ms → open_if o < 64
+    by_watched None seen = omega arith
+    by_watched (Some x) seen =
+        let ts = lent_tests x.tests.items in
+        let ls = lasts_of x.answers in
+        let few : open_in x.pruner ≤ 1 + greatest_depth =
+        few_are_pruned s.fields (plan_leaves p) ms (all_tests (untested (test_at ts) ls)) (test_at ts) ls x.pruner h.on.at.deep h.nests seen.pruned in
+        omega (arith, few)
 
 -- ---- by what a call of the walk answers
 

@@ -37,11 +37,11 @@ use Rattle.dr_group.specs.RowPartials.{gathered_of_rows, selected_of_rows, parti
 use Rattle.dr_scalar.specs.Leaves.{greatest, tests_leaves}
 use Rattle.dr_scalar.specs.OverSlots.{tests_over}
 use Rattle.dr_walk.specs.Walking.{HasColumns}
-use Rattle.dr_condition.proofs.LeavesBelow.{are_below, test_leaves_below}
-use Rattle.dr_condition.specs.Parted.{constants_hold}
-use Rattle.dr_condition.proofs.PartedLemmas.{constants_true, never_true}
-use Rattle.dr_condition.proofs.PlanCondition.{plan_constant}
+use Rattle.dr_within.proofs.LeavesBelow.{are_below, test_leaves_below}
 use Rattle.dr_within.proofs.PlanAggregates.{GroupsFit, groups_fit, plan_aggregates}
+use Rattle.dr_within.specs.Parted.{constants_hold}
+use Rattle.dr_within.proofs.PartedLemmas.{constants_true, never_true}
+use Rattle.dr_within.proofs.PlanCondition.{plan_constant}
 use Rattle.dr_within.proofs.ScanPartial.{nothing_partial}
 use Rattle.dr_scan.specs.OfColumns.{IsOfColumns}
 use Rattle.dr_scan.specs.RowCounts.{counts_rows}

@@ -9,10 +9,10 @@ use Rattle.dr_pruning_laws.specs.MovedContexts.{after_moves}
 use Rattle.dr_pruning_laws.specs.Parts.{pruning_tells}
 use Rattle.dr_pruning_laws.specs.Telling.{Verdict, Watching, nothing_read, watch_move, watch_moves, verdicts_at, told, first_dropped}
 use Rattle.dr_put_laws.specs.FramesPartial.{no_frames, all_moves}
-use Rattle.dr_condition.specs.Parted.{WatchedParts}
-use Rattle.dr_condition.specs.Watching.{pruned_behind, dropped_at}
-use Rattle.dr_condition.proofs.WatchingLemmas.{twice_reversed}
 use Rattle.dr_within.specs.FramedMoves.{framed_from, framed_behind}
+use Rattle.dr_within.specs.Parted.{WatchedParts}
+use Rattle.dr_within.specs.Watching.{pruned_behind, dropped_at}
+use Rattle.dr_within.proofs.WatchingLemmas.{twice_reversed}
 
 watch_snoc : (w : Watch) (g : Watching) (ms : List Move) (m : Move) → watch_moves w g (ms ++ m ∷ []) ≡ watch_move w (watch_moves w g ms) m
 watch_snoc w g [] m = refl

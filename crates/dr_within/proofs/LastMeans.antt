@@ -14,10 +14,10 @@ use Rattle.dr_put_laws.proofs.LastReadLemmas.{meant_at_last}
 use Rattle.dr_put_laws.proofs.LeavesInOrderLemmas.{query_leaves_in_order}
 use Rattle.dr_scalar.specs.Leaves.{greatest}
 use Rattle.dr_scalar.specs.LeafLaws.{SameRead}
-use Rattle.dr_condition.specs.RowValues.{read_of}
-use Rattle.dr_condition.proofs.GreatestLemmas.{same_greatest}
-use Rattle.dr_condition.proofs.LeavesBelow.{are_below}
-use Rattle.dr_condition.proofs.ReadRows.{below_paths, row_is_read, AreLeavesOf}
+use Rattle.dr_within.specs.Behind.{read_of}
+use Rattle.dr_within.proofs.GreatestLemmas.{same_greatest}
+use Rattle.dr_within.proofs.LeavesBelow.{are_below}
+use Rattle.dr_within.proofs.ReadRows.{below_paths, row_is_read, AreLeavesOf}
 
 abbrev pub MeansAtLast : Type 0 → List Leaf → Type 0
 MeansAtLast X ls = (K : List ℕ) (f : Context → X) → are_below ls K ≡ true → all_related (paths_at (paths_of_leaves ls) K) ≡ true

@@ -5,10 +5,18 @@ pub mod LateLemmas
 -- which rows fire at a leaf, and what is read for them
 pub mod FiringLemmas
 pub mod FiredLemmas
--- what is known at the last of some leaves; the readings of a plan of groups
+-- the last of some leaves, the leaves in an expression, and what is read of a row
+pub mod GreatestLemmas
+pub mod LeavesBelow
+pub mod ReadRows
+-- tests in parts
+pub mod PartedLemmas
+-- what is known at the last of some leaves; the readings of a plan of groups, and its condition
 pub mod LastMeans
 pub mod PlanAggregates
 pub mod PlanReadings
+pub mod PlanCondition
+pub mod PlanParts
 -- moves one after another; what is made over the walk of records, and the partial of a scan of groups
 pub mod FramedLemmas
 pub mod PlanFrames
@@ -19,7 +27,8 @@ pub mod PlanItems
 pub mod ScanObjects
 -- what was made in open branches
 pub mod FramingLemmas
--- what is known by a pruner's numbers
+-- what a pruner tells, and what is known by its numbers
+pub mod WatchingLemmas
 pub mod SettledLemmas
 -- a scan behind one more move
 pub mod BehindLemmas

@@ -29,16 +29,16 @@ use Rattle.dr_plan.proofs.ObjectLemmas.{tree_makes_object}
 use Rattle.dr_cells.specs.Results.{ShapeTree, FitsShape, AllFitShape}
 use Rattle.dr_cells.specs.Shapes.{tree_shape, names_of_items, plan_shape, shape_view}
 use Rattle.dr_cells.proofs.ShapeLemmas.{tree_objects_fit, names_of-views, objects_shape}
-use Rattle.dr_condition.specs.Conditions.{watch_in}
-use Rattle.dr_condition.specs.Parted.{constants_hold, WatchedParts}
-use Rattle.dr_condition.specs.Watching.{dropped_at}
-use Rattle.dr_condition.proofs.ReadRows.{are_leaf_paths, plan_leaves_are}
+use Rattle.dr_within.specs.Conditions.{watch_in}
 use Rattle.dr_within.specs.FramedMoves.{framed_from, framed_behind}
 use Rattle.dr_within.specs.ObjectFraming.{HoldsObjects, ClosesAs}
 use Rattle.dr_within.specs.ObjectsBehind.{read_items, objects_behind}
 use Rattle.dr_within.specs.ObjectScanning.{IsForItems, HasMade}
+use Rattle.dr_within.specs.Parted.{constants_hold, WatchedParts}
+use Rattle.dr_within.specs.Watching.{dropped_at}
 use Rattle.dr_within.specs.declared.object_scan.ObjectScan.{ObjectScan}
 use Rattle.dr_within.proofs.PlanItems.{plan_selects}
+use Rattle.dr_within.proofs.ReadRows.{are_leaf_paths, plan_leaves_are}
 use Rattle.dr_within.proofs.ScanObjects.{scan_objects, scan_lines, nothing_lines}
 
 -- ---- no branch is open behind the walk of records

@@ -16,17 +16,17 @@ use Rattle.dr_plan.specs.declared.plan.RecordTerm.{RecordTerm}
 use Rattle.dr_scalar.specs.Leaves.{expr_leaves, greatest}
 use Rattle.dr_scalar.specs.OverSlots.{expr_over}
 use Rattle.dr_scalar.specs.Slots.{slot_value}
-use Rattle.dr_condition.specs.Conditions.{HasWatched, watch_in}
-use Rattle.dr_condition.specs.Parted.{WatchedParts}
-use Rattle.dr_condition.specs.PlanConditions.{WatchesPlan}
-use Rattle.dr_condition.specs.Watching.{dropped_at}
+use Rattle.dr_within.specs.Conditions.{HasWatched, watch_in}
 use Rattle.dr_within.specs.ItemFirings.{term_taken_at, places_taken, FiresItems}
 use Rattle.dr_within.specs.LevelTable.{AreLevels}
 use Rattle.dr_cells.specs.Shapes.{shape_view}
 use Rattle.dr_within.specs.ObjectFraming.{argument_of, is_fired, fired_places, AreReadItems, HoldsObjects}
 use Rattle.dr_within.specs.ObjectsBehind.{term_expr, read_items, objects_behind}
 use Rattle.dr_within.specs.ObjectScanning.{IsForItems, ScansObjects}
+use Rattle.dr_within.specs.Parted.{WatchedParts}
+use Rattle.dr_within.specs.Scanning.{WatchesPlan}
 use Rattle.dr_within.specs.Takings.{same_leaf}
+use Rattle.dr_within.specs.Watching.{dropped_at}
 use Rattle.dr_within.specs.declared.object_frames.ObjectFrames.{ObjectFrames}
 use Rattle.dr_within.specs.declared.object_scan.ObjectScan.{ObjectScan}
 use Rattle.dr_within.proofs.FramedLemmas.{framed_snoc}

@@ -18,7 +18,7 @@ use Rattle.dr_plan.specs.declared.plan.GroupItem.{GroupItem}
 use Rattle.dr_plan.specs.declared.plan.GroupTerm.{GroupTerm as PlanTerm}
 use Rattle.dr_plan.specs.declared.plan.Plan.{Plan}
 use Rattle.dr_plan.specs.declared.plan.Selection.{Selection}
-use Rattle.dr_condition.proofs.LeavesBelow.{are_below}
+use Rattle.dr_within.proofs.LeavesBelow.{are_below}
 
 -- ---- what fits in it
 

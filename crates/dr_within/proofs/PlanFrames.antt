@@ -15,11 +15,11 @@ use Rattle.dr_plan.specs.Planned.{plan_leaves}
 use Rattle.dr_plan.specs.PlanOf.{IsPlanOf}
 use Rattle.dr_plan.specs.declared.plan.Plan.{Plan}
 use Rattle.dr_scalar.specs.Leaves.{greatest, tests_leaves}
-use Rattle.dr_condition.specs.Parted.{reading, lasts_read, constants_hold, watch_parts}
-use Rattle.dr_condition.proofs.PlanCondition.{watch_tests}
-use Rattle.dr_condition.proofs.PlanParts.{same_watch, plan_parts_tell}
 use Rattle.dr_within.specs.FramedMoves.{framed_behind}
+use Rattle.dr_within.specs.Parted.{reading, lasts_read, constants_hold, watch_parts}
 use Rattle.dr_within.proofs.FramedLemmas.{framed_watched}
+use Rattle.dr_within.proofs.PlanCondition.{watch_tests}
+use Rattle.dr_within.proofs.PlanParts.{same_watch, plan_parts_tell}
 
 pub watched_frames : {A : Type 0} (seen : ℕ → Context → List A) (left : ℕ → Context → List A → List A)
     → (s : Schema) (q : Query) (p : Plan) → IsPlanOf s q p → (last : ℕ) → greatest (tests_leaves p.test.items) ≡ Some last → (chain : List ℕ)

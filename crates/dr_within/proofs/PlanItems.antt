@@ -29,12 +29,12 @@ use Rattle.dr_scalar.specs.OverSlots.{expr_over}
 use Rattle.dr_scalar.proofs.LeafPathLemmas.{leaves_are_paths}
 use Rattle.dr_scalar.proofs.SameReadLemmas.{same_leaves_tell}
 use Rattle.dr_scalar.proofs.TestLemmas.{leaves_tell}
-use Rattle.dr_condition.specs.RowValues.{read_of}
-use Rattle.dr_condition.proofs.LeavesBelow.{leaves_below}
-use Rattle.dr_condition.proofs.ReadRows.{same_paths, all_are_read, AreLeavesOf, plan_leaves_are, rows_typed}
+use Rattle.dr_within.specs.Behind.{read_of}
 use Rattle.dr_within.specs.ObjectsBehind.{term_expr, read_item, read_items}
 use Rattle.dr_within.proofs.ItemsBound.{IsBoundItem, items_are_bound}
 use Rattle.dr_within.proofs.LastMeans.{read_means}
+use Rattle.dr_within.proofs.LeavesBelow.{leaves_below}
+use Rattle.dr_within.proofs.ReadRows.{same_paths, all_are_read, AreLeavesOf, plan_leaves_are, rows_typed}
 
 -- ---- the items
 

@@ -39,12 +39,11 @@ use Rattle.dr_scalar.specs.LeafLaws.{SameRead}
 use Rattle.dr_scalar.proofs.LeafPathLemmas.{leaves_are_paths}
 use Rattle.dr_scalar.proofs.SameReadLemmas.{first_same, second_same, same_leaves_tell}
 use Rattle.dr_scalar.proofs.TestLemmas.{leaves_tell}
-use Rattle.dr_condition.specs.RowValues.{read_of}
-use Rattle.dr_condition.proofs.LeavesBelow.{are_below, both_below, leaves_below}
-use Rattle.dr_condition.proofs.ReadRows.{same_paths, all_are_read, AreLeavesOf, plan_leaves_are, rows_typed}
 use Rattle.dr_within.specs.Takings.{leaves_of, put_read, taking_of, aggregate_takings, takings_of}
-use Rattle.dr_within.specs.Behind.{readings_at}
+use Rattle.dr_within.specs.Behind.{read_of, readings_at}
 use Rattle.dr_within.proofs.LastMeans.{read_means}
+use Rattle.dr_within.proofs.LeavesBelow.{are_below, both_below, leaves_below}
+use Rattle.dr_within.proofs.ReadRows.{same_paths, all_are_read, AreLeavesOf, plan_leaves_are, rows_typed}
 use Rattle.dr_within.proofs.PlanAggregates.{GroupsFit, groups_fit, plan_aggregates}
 
 -- ---- what is put depends on the leaves of a taking alone

@@ -23,14 +23,14 @@ use Rattle.dr_plan.specs.declared.plan.Plan.{Plan}
 use Rattle.dr_plan.specs.declared.plan.RecordItem.{RecordItem}
 use Rattle.dr_plan.specs.declared.plan.Selection.{Selection}
 use Rattle.dr_scalar.specs.Leaves.{greatest, tests_leaves}
-use Rattle.dr_condition.specs.Parted.{reading, lasts_read, constants_hold, WatchedParts, watch_parts}
-use Rattle.dr_condition.specs.PlanConditions.{WatchesPlan}
-use Rattle.dr_condition.proofs.PlanCondition.{watch_tests, plan_watches, plan_constant, plan_never}
-use Rattle.dr_condition.proofs.ReadRows.{are_leaf_paths, plan_leaves_are}
 use Rattle.dr_within.specs.ObjectsBehind.{read_items, objects_behind}
+use Rattle.dr_within.specs.Parted.{reading, lasts_read, constants_hold, WatchedParts, watch_parts}
+use Rattle.dr_within.specs.Scanning.{WatchesPlan}
 use Rattle.dr_within.proofs.FramedLemmas.{framed_whole}
+use Rattle.dr_within.proofs.PlanCondition.{watch_tests, plan_watches, plan_constant, plan_never}
 use Rattle.dr_within.proofs.PlanFrames.{watched_frames}
 use Rattle.dr_within.proofs.PlanItems.{plan_items_read, plan_selects}
+use Rattle.dr_within.proofs.ReadRows.{are_leaf_paths, plan_leaves_are}
 
 -- the objects of what a plan's condition keeps of records
 abbrev kept_objects : Schema → Plan → List RecordItem → List Node → List Made

@@ -22,13 +22,13 @@ use Rattle.dr_plan.specs.declared.plan.GroupItem.{GroupItem}
 use Rattle.dr_plan.specs.declared.plan.Plan.{Plan}
 use Rattle.dr_plan.specs.declared.plan.Selection.{Selection}
 use Rattle.dr_scalar.specs.Leaves.{greatest, tests_leaves}
-use Rattle.dr_condition.specs.Parted.{reading, lasts_read, constants_hold, WatchedParts, watch_parts}
-use Rattle.dr_condition.specs.PlanConditions.{WatchesPlan}
-use Rattle.dr_condition.proofs.ReadRows.{are_leaf_paths, plan_leaves_are}
-use Rattle.dr_condition.proofs.PlanCondition.{watch_tests, plan_watches, plan_constant, plan_never}
 use Rattle.dr_within.specs.Takings.{takings_of}
+use Rattle.dr_within.specs.Parted.{reading, lasts_read, constants_hold, WatchedParts, watch_parts}
 use Rattle.dr_within.specs.Behind.{readings_at, frames_behind}
+use Rattle.dr_within.specs.Scanning.{WatchesPlan}
+use Rattle.dr_within.proofs.ReadRows.{are_leaf_paths, plan_leaves_are}
 use Rattle.dr_within.proofs.PlanReadings.{plan_reads}
+use Rattle.dr_within.proofs.PlanCondition.{watch_tests, plan_watches, plan_constant, plan_never}
 use Rattle.dr_within.proofs.FramedLemmas.{framed_whole}
 use Rattle.dr_within.proofs.PlanFrames.{watched_frames}
 

@@ -11,11 +11,11 @@ use Rattle.dr_firing.specs.Condition.{Watch}
 use Rattle.dr_pruning_laws.specs.Telling.{kept, dropped, undecided, first_dropped, is_told_dropped}
 use Rattle.dr_pruning_laws.specs.Counting.{Numbers, whole_chain, is_first, count_entered, count_row, count_left, count_move, verdict_left, verdicts_of, left_among, context_behind}
 use Rattle.dr_pruning_laws.specs.Parts.{answering, parts_behind, Pruning, prune_move, prune_moves}
-use Rattle.dr_condition.specs.Parted.{WatchedParts}
-use Rattle.dr_condition.specs.Watching.{is_settled, pruned_behind, dropped_at, TellsKept}
-use Rattle.dr_condition.proofs.WatchingLemmas.{twice_reversed}
+use Rattle.dr_within.specs.Parted.{WatchedParts}
 use Rattle.dr_within.specs.Framing.{StaySettled, AllSettled}
-use Rattle.dr_within.specs.Behind.{settled_of, settled_by, settled_behind}
+use Rattle.dr_within.specs.Watching.{is_settled, settled_of, settled_by, pruned_behind, dropped_at, TellsKept}
+use Rattle.dr_within.specs.Behind.{settled_behind}
+use Rattle.dr_within.proofs.WatchingLemmas.{twice_reversed}
 
 -- ---- on the chain
 

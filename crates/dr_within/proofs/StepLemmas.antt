@@ -12,12 +12,12 @@ use Rattle.dr_pruning_laws.specs.Counting.{context_behind}
 use Rattle.dr_pruning_laws.specs.Frames.{Frames, frame_move}
 use Rattle.dr_pruning_laws.specs.MovedContexts.{after_moves}
 use Rattle.dr_scalar.specs.Slots.{slot_value}
-use Rattle.dr_condition.specs.Parted.{WatchedParts}
-use Rattle.dr_condition.specs.Conditions.{HasWatched, watch_in}
-use Rattle.dr_condition.specs.Watching.{dropped_at, TellsKept}
 use Rattle.dr_within.specs.Takings.{Take, all_read, firing_at, takings_view}
 use Rattle.dr_within.specs.Firings.{leaving_in, Fires}
 use Rattle.dr_within.specs.Framing.{Holds, StaySettled, AllSettled}
+use Rattle.dr_within.specs.Parted.{WatchedParts}
+use Rattle.dr_within.specs.Conditions.{HasWatched, watch_in}
+use Rattle.dr_within.specs.Watching.{dropped_at, TellsKept}
 use Rattle.dr_within.specs.Behind.{readings_at, reading_at, settled_behind, frames_behind, IsBehind}
 use Rattle.dr_within.specs.declared.firing.Firing.{Firing}
 use Rattle.dr_within.specs.declared.frames.Frames.{Frames as CodeFrames}

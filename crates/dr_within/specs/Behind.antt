@@ -1,28 +1,34 @@
 -- A scan of groups behind some moves: what it has made of them.
-use Rattle.std.specs.Prelude.{◌≡◌, ◌<◌, ℕ, zero, suc, ⊤, List, [], ◌∷◌, map, length, replicate, Bool, true, ◌||◌, nat_le, nat_lt, Option, None, Some}
+use Rattle.std.specs.Prelude.{◌≡◌, ◌<◌, ℕ, ⊤, List, map, length, replicate, Bool, true, Option, None, Some}
+use Rattle.std.specs.List.{slice_get}
 use Rattle.dr_meaning.specs.Path.{Leaf, paths_of_leaves}
 use Rattle.dr_meaning.specs.Record.{Node}
+use Rattle.dr_meaning.specs.Rows.{value_at}
 use Rattle.dr_meaning.specs.Expression.{longest_chain}
 use Rattle.dr_meaning.specs.Walk.{Move, enter, value, leave}
+use Rattle.dr_firing.specs.Context.{Context}
 use Rattle.dr_kept_laws.specs.GroupFlow.{Reading, all_fired, all_left, left_with}
-use Rattle.dr_pruning_laws.specs.Counting.{Numbers}
 use Rattle.dr_pruning_laws.specs.Frames.{Frames}
 use Rattle.dr_pruning_laws.specs.MovedContexts.{after_moves}
 use Rattle.dr_put_laws.specs.LastRead.{paths_at}
 use Rattle.dr_partials.specs.Putting.{Put}
 use Rattle.dr_plan.specs.Planned.{Planned}
+use Rattle.dr_plan.specs.Views.{path_of}
 use Rattle.dr_scalar.specs.Slots.{slot_value}
-use Rattle.dr_condition.specs.Parted.{WatchedParts}
-use Rattle.dr_condition.specs.RowValues.{read_of}
-use Rattle.dr_condition.specs.Conditions.{HasWatched, watch_in}
-use Rattle.dr_condition.specs.Watching.{pruned_behind}
 use Rattle.dr_within.specs.Takings.{Take, leaves_of, fires_at, put_read}
 use Rattle.dr_within.specs.Firings.{Fires}
 use Rattle.dr_within.specs.FramedMoves.{framed_behind}
 use Rattle.dr_within.specs.Framing.{Holds}
+use Rattle.dr_within.specs.Parted.{WatchedParts}
+use Rattle.dr_within.specs.Conditions.{HasWatched, watch_in}
+use Rattle.dr_within.specs.Watching.{pruned_behind, settled_by}
 use Rattle.dr_within.specs.declared.groups.GroupScan.{GroupScan}
 
 -- ---- the readings of takings
+
+-- what would be read of a row: the value of each leaf in it
+abbrev pub read_of : List Leaf → Node → Context
+read_of ls row k = value_at (path_of (slice_get ls k)) row
 
 -- a reading for the rows of the longest chain of the leaves on which a taking depends
 abbrev pub reading_at : List Leaf → List ℕ → Take → Reading Put
@@ -37,16 +43,6 @@ abbrev pub readings_at : List Leaf → List ℕ → List Take → List (Reading 
 readings_at ls keys ts = map (reading_at ls keys) ts
 
 -- ---- what is known
-
--- of the outermost so many open branches whether they are known to be kept, the innermost of them first, where so many are on the chain and so many
--- of these have a true row
-abbrev pub settled_of : ℕ → ℕ → ℕ → List Bool
-settled_of along hit zero = []
-settled_of along hit (suc i) = (nat_le along i || nat_lt i hit) ∷ settled_of along hit i
-
--- of all that are open
-abbrev pub settled_by : Numbers → List Bool
-settled_by n = settled_of n.along n.hit n.depth
 
 -- of each of so many open branches whether it is known to be kept, the innermost first
 abbrev pub settled_behind : Option WatchedParts → ℕ → List Move → List Bool

@@ -4,8 +4,8 @@ use Rattle.dr_meaning.specs.Walk.{Move}
 use Rattle.dr_firing.specs.Context.{Context}
 use Rattle.dr_pruning_laws.specs.Frames.{Frames, frame_move}
 use Rattle.dr_put_laws.specs.FramesPartial.{no_frames}
-use Rattle.dr_condition.specs.Parted.{WatchedParts}
-use Rattle.dr_condition.specs.Watching.{dropped_at}
+use Rattle.dr_within.specs.Parted.{WatchedParts}
+use Rattle.dr_within.specs.Watching.{dropped_at}
 
 -- moves behind others
 abbrev pub framed_from : {A : Type 0} → (ℕ → Context → List A) → (ℕ → Context → List A → List A) → Option WatchedParts → List Move → List Move

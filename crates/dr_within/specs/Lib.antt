@@ -5,6 +5,11 @@ pub mod Firings
 -- rows that aren't put yet; what was made in open branches
 pub mod Late
 pub mod Framing
+-- a plan's tests in parts, and the condition that is watched
+pub mod Parted
+pub mod TestParts
+pub mod Watching
+pub mod Conditions
 -- what is made behind some moves; a scan behind them, and the scan of a plan
 pub mod FramedMoves
 pub mod Behind

@@ -18,12 +18,12 @@ use Rattle.dr_plan.specs.declared.plan.RecordItem.{RecordItem}
 use Rattle.dr_plan.specs.declared.plan.Selection.{Selection}
 use Rattle.dr_cells.specs.Shapes.{plan_shape, shape_view}
 use Rattle.dr_scalar.specs.Slots.{slot_value}
-use Rattle.dr_condition.specs.Conditions.{watch_in, open_for, HasWatched}
-use Rattle.dr_condition.specs.PlanConditions.{WatchesPlan}
+use Rattle.dr_within.specs.Conditions.{watch_in, open_for, HasWatched}
 use Rattle.dr_within.specs.ItemFirings.{FiresItems}
 use Rattle.dr_within.specs.LevelTable.{AreLevels}
 use Rattle.dr_within.specs.ObjectFraming.{HoldsObjects}
 use Rattle.dr_within.specs.ObjectsBehind.{read_items, objects_behind}
+use Rattle.dr_within.specs.Scanning.{WatchesPlan}
 use Rattle.dr_within.specs.declared.object_scan.ObjectScan.{ObjectScan}
 
 -- for a plan of these items: what it goes by, whatever the moves

@@ -17,9 +17,9 @@ use Rattle.dr_plan.specs.declared.plan.RecordItem.{RecordItem}
 use Rattle.dr_plan.specs.declared.plan.RecordTerm.{RecordTerm}
 use Rattle.dr_scalar.specs.Leaves.{expr_leaves, greatest}
 use Rattle.dr_scalar.specs.OverSlots.{expr_over}
-use Rattle.dr_condition.specs.RowValues.{read_of}
-use Rattle.dr_condition.specs.Parted.{WatchedParts}
+use Rattle.dr_within.specs.Behind.{read_of}
 use Rattle.dr_within.specs.FramedMoves.{framed_behind}
+use Rattle.dr_within.specs.Parted.{WatchedParts}
 
 -- ---- the readings of items
 

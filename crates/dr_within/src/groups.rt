@@ -8,16 +8,16 @@ ghost use Rattle.dr_partials.specs.Partials.{empty_partial};
 ghost use Rattle.dr_partials.specs.Putting.{put_all};
 ghost use Rattle.dr_plan.specs.Planned.{Planned, plan_view, plan_leaves, planned_query};
 ghost use Rattle.dr_group.specs.Partials.{partial_view, IsPartialOf};
-ghost use Rattle.dr_condition.specs.Conditions.{open_for, watch_in, HasWatched};
 ghost use Rattle.dr_within.specs.Takings.{Take, takings_of};
 ghost use Rattle.dr_within.specs.Firings.{firing_in};
+ghost use Rattle.dr_within.specs.Conditions.{open_for, watch_in, HasWatched};
 ghost use Rattle.dr_within.specs.Behind.{IsBehind, IsOfLeaf, frames_behind, readings_at};
 
+use crate::condition::Condition;
 use crate::firing::Firing;
 use crate::frames::Frames;
 use crate::slots::keep_value;
 use crate::taking::Taking;
-use dr_condition::Condition;
 use dr_group::Partial;
 use dr_levels::{Move, ValueRef};
 use dr_memory::NoMemory;

@@ -4,6 +4,7 @@
 #![tactic(auto)]
 
 mod built;
+mod condition;
 mod copying;
 mod firing;
 mod frames;
@@ -17,10 +18,14 @@ mod object_frame;
 mod object_frames;
 mod object_scan;
 mod own_cells;
+mod parts;
+mod plan_condition;
 mod plan_scan;
 mod putting;
 mod slots;
 mod taking;
+mod told;
+mod watched;
 mod within_values;
 
 pub use object_scan::ObjectScan;

@@ -13,17 +13,18 @@ ghost use Rattle.dr_plan.specs.Planned.{IsOfSchema, plan_leaves, plan_view, plan
 ghost use Rattle.dr_plan.specs.declared.plan.Plan.{Plan as MeantPlan};
 ghost use Rattle.dr_plan.specs.declared.plan.Selection.{Selection as Selected};
 ghost use Rattle.dr_group.specs.Partials.{partial_view, IsPartialOf};
-ghost use Rattle.dr_condition.specs.Conditions.{watch_in, HasWatched};
-ghost use Rattle.dr_condition.specs.PlanConditions.{WatchesPlan};
 ghost use Rattle.dr_within.specs.Behind.{IsOfLeaf};
+ghost use Rattle.dr_within.specs.Conditions.{watch_in, HasWatched};
 ghost use Rattle.dr_within.specs.ObjectScanning.{ScansObjects, BeginsObjects, HasScannedAll, open_in_objects};
+ghost use Rattle.dr_within.specs.Scanning.{WatchesPlan};
 
+use crate::condition::Condition;
 use crate::item_firing::ItemFiring;
 use crate::levels::Levels;
 use crate::object_frames::ObjectFrames;
+use crate::plan_condition::condition_of;
 use crate::slots::keep_value;
 use dr_cells::{Shape, shape_of};
-use dr_condition::{Condition, condition_of};
 use dr_group::Partial;
 use dr_levels::{Move, ValueRef};
 use dr_memory::NoMemory;

@@ -17,7 +17,7 @@ ghost use Rattle.dr_within.specs.Scanning.{Scans, Begins, open_in_scan};
 ghost use Rattle.dr_within.specs.Behind.{IsOfLeaf};
 
 use crate::groups::GroupScan;
-use dr_condition::condition_of;
+use crate::plan_condition::condition_of;
 use dr_group::Partial;
 use dr_levels::Move;
 use dr_memory::NoMemory;

@@ -1,10 +1,10 @@
 use Rattle.std.proofs.Common.{◌≡◌, length, map, List, Bool, [], None, sym, ap, subst, ◌∙◌, arith}
 use Rattle.std.proofs.lemmas.List.{length-map}
 use Rattle.dr_nested.specs.PathView.{path_view}
-use Rattle.dr_condition.specs.Conditions.{watch_in}
 use Rattle.dr_within.specs.Firings.{Fires}
 use Rattle.dr_within.specs.Framing.{Holds}
 use Rattle.dr_within.specs.Takings.{takings_of}
+use Rattle.dr_within.specs.Conditions.{watch_in}
 use Rattle.dr_plan.specs.Planned.{plan_view}
 use Rattle.dr_scalar.specs.Slots.{slot_value}
 use Rattle.dr_within.proofs.BehindLemmas.{nothing_in, fresh, length_of_same}

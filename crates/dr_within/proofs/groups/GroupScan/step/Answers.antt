@@ -5,10 +5,10 @@ use Rattle.dr_firing.specs.Context.{Context, with_value}
 use Rattle.dr_kept_laws.specs.GroupFlow.{all_fired, all_left, left_with}
 use Rattle.dr_pruning_laws.specs.MovedContexts.{after_moves}
 use Rattle.dr_scalar.specs.Slots.{slot_value}
-use Rattle.dr_condition.specs.Conditions.{watch_in}
-use Rattle.dr_condition.specs.Watching.{TellsKept, dropped_at}
 use Rattle.dr_within.specs.Behind.{IsOfLeaf, readings_at}
 use Rattle.dr_within.specs.Takings.{Take, all_read}
+use Rattle.dr_within.specs.Conditions.{watch_in}
+use Rattle.dr_within.specs.Watching.{TellsKept, dropped_at}
 use Rattle.dr_within.proofs.FramingLemmas.{on_ok, on_both}
 use Rattle.dr_within.proofs.FramedLemmas.{framed_context}
 use Rattle.dr_within.proofs.StepLemmas.{is_behind, after_snoc, enter_made, read_made, leave_made, HoldsBehind, one_more, fired_rows, left_taken}

@@ -1,6 +1,6 @@
 use Rattle.std.proofs.Common.{subst}
 use Rattle.dr_nested.specs.SchemaView.{schema_view}
-use Rattle.dr_condition.specs.PlanConditions.{IsConditionOf}
+use Rattle.dr_within.specs.Scanning.{IsConditionOf}
 use Rattle.dr_within.proofs.ObjectEnds.{nothing_begins}
 use Rattle.dr_within.proofs.object_scan.ObjectScan.start.Goals as goal
 

@@ -8,12 +8,12 @@ use Rattle.dr_plan.specs.Planned.{plan_leaves}
 use Rattle.dr_plan.specs.declared.plan.RecordItem.{RecordItem}
 use Rattle.dr_pruning_laws.specs.MovedContexts.{after_moves}
 use Rattle.dr_scalar.specs.Slots.{slot_value}
-use Rattle.dr_condition.specs.Conditions.{watch_in}
-use Rattle.dr_condition.specs.Watching.{dropped_at}
 use Rattle.dr_within.specs.Behind.{IsOfLeaf}
+use Rattle.dr_within.specs.Conditions.{watch_in}
 use Rattle.dr_within.specs.ObjectFraming.{HoldsObjects, AreReadItems}
 use Rattle.dr_within.specs.ObjectLevels.{IsLevelAt}
 use Rattle.dr_within.specs.ObjectsBehind.{read_items}
+use Rattle.dr_within.specs.Watching.{dropped_at}
 use Rattle.dr_within.proofs.FramingLemmas.{on_ok, on_both}
 use Rattle.dr_within.proofs.FramedLemmas.{framed_context}
 use Rattle.dr_within.proofs.StepLemmas.{after_snoc}

@@ -4,9 +4,9 @@ use Rattle.dr_meaning.specs.Walk.{walk}
 use Rattle.dr_partials.specs.Partials.{empty_partial}
 use Rattle.dr_partials.specs.Putting.{put_all}
 use Rattle.dr_plan.specs.Planned.{plan_leaves, plan_view, planned_query}
-use Rattle.dr_condition.specs.Conditions.{watch_in}
 use Rattle.dr_within.specs.Behind.{frames_behind, readings_at}
 use Rattle.dr_within.specs.Takings.{takings_of}
+use Rattle.dr_within.specs.Conditions.{watch_in}
 use Rattle.dr_within.proofs.BehindLemmas.{if_ok}
 use Rattle.dr_within.proofs.ScanPartial.{scan_partial}
 use Rattle.dr_within.proofs.plan_scan.PlanScan.close.Goals as goal

@@ -2,8 +2,8 @@ use Rattle.std.proofs.Common.{List, [], sym, ap, subst, ◌∙◌}
 use Rattle.dr_nested.specs.SchemaView.{schema_view}
 use Rattle.dr_plan.specs.Planned.{plan_leaves, plan_view}
 use Rattle.dr_plan.specs.declared.aggregate.Aggregate.{Aggregate}
-use Rattle.dr_condition.specs.PlanConditions.{WatchesPlan, IsConditionOf}
 use Rattle.dr_within.specs.Behind.{IsBehind}
+use Rattle.dr_within.specs.Scanning.{WatchesPlan, IsConditionOf}
 use Rattle.dr_within.specs.Takings.{takings_of}
 use Rattle.dr_within.proofs.ScanPartial.{nothing_partial}
 use Rattle.dr_within.proofs.plan_scan.PlanScan.start.Goals as goal

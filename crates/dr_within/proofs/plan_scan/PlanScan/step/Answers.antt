@@ -1,6 +1,6 @@
 use Rattle.std.proofs.Common.{sym, ap, subst, ◌∙◌}
 use Rattle.dr_plan.specs.Planned.{plan_leaves, plan_view}
-use Rattle.dr_condition.specs.PlanConditions.{WatchesPlan}
+use Rattle.dr_within.specs.Scanning.{WatchesPlan}
 use Rattle.dr_within.specs.Takings.{takings_of}
 use Rattle.dr_within.proofs.FramingLemmas.{on_ok}
 use Rattle.dr_within.proofs.plan_scan.PlanScan.step.Goals as goal

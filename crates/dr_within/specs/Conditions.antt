@@ -1,0 +1,35 @@
+-- The condition of a plan, as it is kept: what it watches, and what it has seen.
+use Rattle.std.specs.Prelude.{ℕ, ⊤, List, Option, None, Some, option_map}
+use Rattle.dr_meaning.specs.Walk.{Move}
+use Rattle.dr_prune.specs.PartAnswers.{lasts_of}
+use Rattle.dr_prune.specs.Pruning.{open_in}
+use Rattle.dr_within.specs.Parted.{lent_tests, WatchedParts}
+use Rattle.dr_within.specs.Watching.{watch_with, HaveWatched}
+use Rattle.dr_within.specs.declared.condition.Condition.{Condition}
+use Rattle.dr_within.specs.declared.watched.Watched.{Watched}
+
+-- what tests with a pruner watch
+abbrev pub watched_parts : Watched → WatchedParts
+watched_parts w = watch_with (lent_tests w.tests.items) (lasts_of w.answers) w.pruner
+
+-- what a condition watches; none where each record is kept whole
+abbrev pub watch_in : Condition → Option WatchedParts
+watch_in c = option_map watched_parts c.watched
+
+-- where there are such, they have seen these moves
+abbrev pub HasWatchedIf : Option Watched → List Move → Type 0
+HasWatchedIf None ms = ⊤
+HasWatchedIf (Some w) ms = HaveWatched (lent_tests w.tests.items) w.answers ms w.pruner
+
+-- a condition has seen these moves
+abbrev pub HasWatched : Condition → List Move → Type 0
+HasWatched c ms = HasWatchedIf c.watched ms
+
+-- how many branches are open
+abbrev pub open_if : Option Watched → ℕ
+open_if None = 0
+open_if (Some w) = open_in w.pruner
+
+-- for a condition
+abbrev pub open_for : Condition → ℕ
+open_for c = open_if c.watched
