@@ -2,7 +2,7 @@
 
 use crate::texts::{count_of, push_hex, push_numbers, push_word, width_at};
 use dr_case_lines::Broken;
-use dr_hybrid::{are_of_width, decode, encode};
+use dr_hybrid::{are_of_width, decode, decode_levels, encode, encode_levels, levels_are_of_width};
 use std::alloc::Global;
 
 /// Appends the line for so many values of a width with which bytes begin, or for their want.
@@ -16,7 +16,7 @@ fn push_decoded(
     if width > 32 {
         return Err(Broken::Form);
     }
-    let mut out = vec![in alloc; 77u32; count]?;
+    let mut out = vec![in alloc; 77; count]?;
     if decode(bytes, width, &mut out).is_err() {
         return Ok(text.push_str("Short\n")?);
     }
@@ -45,8 +45,8 @@ fn push_levels(
     if width > 8 {
         return Err(Broken::Form);
     }
-    let mut out = vec![in alloc; 77u8; count]?;
-    if decode(bytes, width, &mut out).is_err() {
+    let mut out = vec![in alloc; 77; count]?;
+    if decode_levels(bytes, width, &mut out).is_err() {
         return Ok(text.push_str("Short\n")?);
     }
     for level in &out {
@@ -70,11 +70,11 @@ pub fn decoded_levels(alloc: Global, words: &[String], bytes: &[u8]) -> Result<S
 /// `encode_levels WIDTH`: the bytes that are written for levels, a byte each.
 pub fn encoded_levels(alloc: Global, words: &[String], levels: &[u8]) -> Result<String, Broken> {
     let width = width_at(words, 0)?;
-    if width > 8 || levels.len() >= 1 << 32 || !are_of_width(levels, width) {
+    if width > 8 || levels.len() >= 1 << 32 || !levels_are_of_width(levels, width) {
         return Err(Broken::Form);
     }
     let mut out = Vec::new(alloc);
-    encode(levels, width, &mut out)?;
+    encode_levels(levels, width, &mut out)?;
     let mut text = String::new(alloc);
     push_hex(alloc, &mut text, &out)?;
     Ok(text)
@@ -107,7 +107,7 @@ fn come_back(alloc: Global, width: u32, count: usize) -> Result<bool, Broken> {
     }
     let mut bytes = Vec::new(alloc);
     encode(&values, width, &mut bytes)?;
-    let mut back = vec![in alloc; 77u32; values.len()]?;
+    let mut back = vec![in alloc; 77; values.len()]?;
     let is_read = decode(&bytes, width, &mut back).is_ok();
     Ok(is_read && back == values)
 }

@@ -11,7 +11,7 @@ fn run_text(alloc: Global, run: &Run<'_>) -> Result<String, Broken> {
     if let Run::Repeat { value, .. } = run {
         return Ok(format!(in alloc; "{value}*{count}")?);
     }
-    let mut values = vec![in alloc; 0u32; count]?;
+    let mut values = vec![in alloc; 0; count]?;
     run.write(&mut values);
     let mut text = String::new(alloc);
     for value in &values {

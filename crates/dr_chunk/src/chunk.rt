@@ -1,17 +1,17 @@
 //! Column chunks, read page by page.
 
-ghost use Rattle.std.specs.Prelude.{◌≡◌, ◌≤◌, ◌+◌, ◌∷◌, [], ℕ, List, length, take, drop, false, None, OnOk, Err};
+ghost use Rattle.std.specs.Prelude.{◌≡◌, ◌≢◌, ◌≤◌, ◌+◌, ◌∷◌, [], ℕ, List, length, take, drop, false, None, OnOk, Err, IsTrue};
 ghost use Rattle.dr_meaning.specs.Path.{Leaf};
 ghost use Rattle.dr_formats.specs.Chunk.{pages_triplets};
 ghost use Rattle.dr_levels.specs.Views.{column_view, column_form};
+ghost use Rattle.dr_outside.specs.Faults.{raised};
 ghost use Rattle.dr_page.specs.Reads.{Joins};
 ghost use Rattle.dr_chunk.specs.Headers.{IsRefused};
 ghost use Rattle.dr_chunk.specs.Steps.{page_step};
 ghost use Rattle.dr_chunk.specs.Stretches.{rest_in, path_of, range_of};
 ghost use Rattle.dr_chunk.specs.Takers.{leaf_of, wanted_of, is_first_of, dictionary_of, leaf_form, IsLeafOf};
 ghost use Rattle.dr_chunk.specs.Pages.{TakesStep};
-ghost use Rattle.dr_outside.specs.Telling.{Tells, AsksOnly};
-ghost use Rattle.dr_outside.specs.Leaving.{LeavesLink, ServesUntil};
+ghost use Rattle.dr_outside.specs.Telling.{Tells, Serves, AsksOnly};
 ghost use Rattle.dr_chunk.specs.Ranges.{is_read_inside, inside};
 
 use crate::buffers::ChunkBuffers;
@@ -55,10 +55,14 @@ fn next_page<L: Link>(
     ensures form { column_form out.new ≡ column_form out.old }
     ensures path { path_of stretch.new ≡ path_of stretch.old }
     ensures range { range_of stretch.new ≡ range_of stretch.old }
-    ensures link { LeavesLink result ChunkFault.Failed (ServesUntil (L.shows link.old) (path_of stretch.old)
-        ((range_of stretch.old).start + (range_of stretch.old).size)) (L.shows link.old) (L.shows link.new) }
+    ensures same { (L.shows link.new).held ≡ (L.shows link.old).held }
     ensures asked { AsksOnly (is_read_inside (path_of stretch.old) (inside (range_of stretch.old) ∷ []))
         (L.shows link.old).asked (L.shows link.new).asked }
+    ensures cause { result ≡ Err ChunkFault.Failed → (L.shows link.new).faults ≡ raised (L.shows link.old).faults }
+    ensures calm { result ≢ Err ChunkFault.Failed → (L.shows link.new).faults ≡ (L.shows link.old).faults }
+    ensures steady { (bytes : List ℕ) → Serves (L.shows link.old) (path_of stretch.old) bytes
+        → (range_of stretch.old).start + (range_of stretch.old).size ≤ length bytes → result ≢ Err ChunkFault.Failed }
+    ensures stays_steady { IsTrue (L.shows link.old).is_steady → IsTrue (L.shows link.new).is_steady }
 {
     let head = next_header(alloc, stretch, link)?;
     let size = head.compressed_size.get() as usize;
@@ -97,10 +101,14 @@ pub fn read_chunk<L: Link>(
         → pages_triplets l wanted (take range.size (drop range.start bytes)) ≡ None }
     ensures count { OnOk result (length (column_view out.new) ≡ length (column_view out.old) + wanted) }
     ensures form { column_form out.new ≡ column_form out.old }
-    ensures link { LeavesLink result ChunkFault.Failed (ServesUntil (L.shows link.old) path.now
-        (range.start + range.size)) (L.shows link.old) (L.shows link.new) }
+    ensures same { (L.shows link.new).held ≡ (L.shows link.old).held }
     ensures asked { AsksOnly (is_read_inside path.now (inside range ∷ [])) (L.shows link.old).asked
         (L.shows link.new).asked }
+    ensures cause { result ≡ Err ChunkFault.Failed → (L.shows link.new).faults ≡ raised (L.shows link.old).faults }
+    ensures calm { result ≢ Err ChunkFault.Failed → (L.shows link.new).faults ≡ (L.shows link.old).faults }
+    ensures steady { (bytes : List ℕ) → Serves (L.shows link.old) path.now bytes → range.start + range.size
+        ≤ length bytes → result ≢ Err ChunkFault.Failed }
+    ensures stays_steady { IsTrue (L.shows link.old).is_steady → IsTrue (L.shows link.new).is_steady }
 {
     let ahead = mem::replace(&mut buffers.ahead, Vec::new(alloc));
     let mut stretch = Stretch::new(ahead, path, range);

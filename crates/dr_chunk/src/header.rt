@@ -1,14 +1,14 @@
 //! Headers of pages.
 
-ghost use Rattle.std.specs.Prelude.{◌≡◌, ◌≢◌, ◌≤◌, ◌+◌, ◌++◌, ◌∷◌, [], ℕ, List, length, drop, true, false, IfOk, IfErr, Err, IfSome, IfNone};
+ghost use Rattle.std.specs.Prelude.{◌≡◌, ◌≢◌, ◌≤◌, ◌++◌, ◌∷◌, [], ℕ, List, length, drop, true, false, IfOk, IfErr, Err, IfSome, IfNone, IsTrue, ◌+◌};
 ghost use Rattle.dr_formats.specs.Reading.{got};
 ghost use Rattle.dr_formats.specs.Chunk.{page_header};
 ghost use Rattle.dr_meta.specs.Views.{page_view};
 ghost use Rattle.dr_chunk.specs.Headers.{IsRefused, IsHeaderFault};
 ghost use Rattle.dr_chunk.specs.Stretches.{rest_in, path_of, range_of};
-ghost use Rattle.dr_outside.specs.Telling.{Tells, AsksOnly};
-ghost use Rattle.dr_outside.specs.Leaving.{LeavesLink, ServesUntil};
+ghost use Rattle.dr_outside.specs.Telling.{Tells, Serves, AsksOnly};
 ghost use Rattle.dr_chunk.specs.Ranges.{is_read_inside, inside};
+ghost use Rattle.dr_outside.specs.Faults.{raised};
 ghost use Rattle.dr_chunk.specs.Faults.{compact_fault, meta_fault};
 
 use crate::fault::ChunkFault;
@@ -106,10 +106,14 @@ pub(crate) fn next_header<L: Link>(
         ≡ Err ChunkFault.BadData → IsRefused (page_header (rest_in bytes stretch.old)) }
     ensures path { path_of stretch.new ≡ path_of stretch.old }
     ensures range { range_of stretch.new ≡ range_of stretch.old }
-    ensures link { LeavesLink result ChunkFault.Failed (ServesUntil (L.shows link.old) (path_of stretch.old)
-        ((range_of stretch.old).start + (range_of stretch.old).size)) (L.shows link.old) (L.shows link.new) }
+    ensures same { (L.shows link.new).held ≡ (L.shows link.old).held }
     ensures asked { AsksOnly (is_read_inside (path_of stretch.old) (inside (range_of stretch.old) ∷ []))
         (L.shows link.old).asked (L.shows link.new).asked }
+    ensures cause { result ≡ Err ChunkFault.Failed → (L.shows link.new).faults ≡ raised (L.shows link.old).faults }
+    ensures calm { result ≢ Err ChunkFault.Failed → (L.shows link.new).faults ≡ (L.shows link.old).faults }
+    ensures steady { (bytes : List ℕ) → Serves (L.shows link.old) (path_of stretch.old) bytes
+        → (range_of stretch.old).start + (range_of stretch.old).size ≤ length bytes → result ≢ Err ChunkFault.Failed }
+    ensures stays_steady { IsTrue (L.shows link.old).is_steady → IsTrue (L.shows link.new).is_steady }
 {
     let left = stretch.left();
     let mut ahead = left.min(HEADER_AHEAD);

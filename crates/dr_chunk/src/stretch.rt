@@ -1,8 +1,8 @@
 //! A stretch of a file, read ahead through a buffer that is used again.
 
-ghost use Rattle.std.specs.Prelude.{◌≡◌, ◌≤◌, ◌<◌, ◌+◌, ◌-◌, ◌∷◌, [], ℕ, List, length, take, drop, true, false, IfOk, OnOk};
-ghost use Rattle.dr_outside.specs.Telling.{Tells, AsksOnly};
-ghost use Rattle.dr_outside.specs.Leaving.{LeavesLink, ServesUntil};
+ghost use Rattle.std.specs.Prelude.{◌≡◌, ◌≢◌, ◌≤◌, ◌<◌, ◌+◌, ◌-◌, ◌∷◌, [], ℕ, List, length, take, drop, true, false, IfOk, OnOk, Err, IsTrue};
+ghost use Rattle.dr_outside.specs.Faults.{raised};
+ghost use Rattle.dr_outside.specs.Telling.{Tells, Serves, AsksOnly};
 ghost use Rattle.dr_chunk.specs.Ranges.{is_read_inside, inside};
 
 use crate::byte_range::ByteRange;
@@ -84,10 +84,14 @@ impl<'p> Stretch<'p> {
         ensures left { OnOk result (left_count self.new ≡ left_count self.old) }
         ensures path { path_of self.new ≡ path_of self.old }
         ensures range { range_of self.new ≡ range_of self.old }
-        ensures link { LeavesLink result Fault.Failed (ServesUntil (L.shows link.old) (path_of self.old)
-            ((range_of self.old).start + (range_of self.old).size)) (L.shows link.old) (L.shows link.new) }
+        ensures same { (L.shows link.new).held ≡ (L.shows link.old).held }
         ensures asked { AsksOnly (is_read_inside (path_of self.old) (inside (range_of self.old) ∷ []))
             (L.shows link.old).asked (L.shows link.new).asked }
+        ensures cause { result ≡ Err Fault.Failed → (L.shows link.new).faults ≡ raised (L.shows link.old).faults }
+        ensures calm { result ≢ Err Fault.Failed → (L.shows link.new).faults ≡ (L.shows link.old).faults }
+        ensures steady { (bytes : List ℕ) → Serves (L.shows link.old) (path_of self.old) bytes
+            → (range_of self.old).start + (range_of self.old).size ≤ length bytes → result ≢ Err Fault.Failed }
+        ensures stays_steady { IsTrue (L.shows link.old).is_steady → IsTrue (L.shows link.new).is_steady }
     {
         let have = self.buffer.len() - self.from;
         if have >= count {
@@ -128,10 +132,14 @@ impl<'p> Stretch<'p> {
         ensures left { OnOk result (left_count self.new ≡ left_count self.old) }
         ensures path { path_of self.new ≡ path_of self.old }
         ensures range { range_of self.new ≡ range_of self.old }
-        ensures link { LeavesLink result Fault.Failed (ServesUntil (L.shows link.old) (path_of self.old)
-            ((range_of self.old).start + (range_of self.old).size)) (L.shows link.old) (L.shows link.new) }
+        ensures same { (L.shows link.new).held ≡ (L.shows link.old).held }
         ensures asked { AsksOnly (is_read_inside (path_of self.old) (inside (range_of self.old) ∷ []))
             (L.shows link.old).asked (L.shows link.new).asked }
+        ensures cause { result ≡ Err Fault.Failed → (L.shows link.new).faults ≡ raised (L.shows link.old).faults }
+        ensures calm { result ≢ Err Fault.Failed → (L.shows link.new).faults ≡ (L.shows link.old).faults }
+        ensures steady { (bytes : List ℕ) → Serves (L.shows link.old) (path_of self.old) bytes
+            → (range_of self.old).start + (range_of self.old).size ≤ length bytes → result ≢ Err Fault.Failed }
+        ensures stays_steady { IsTrue (L.shows link.old).is_steady → IsTrue (L.shows link.new).is_steady }
     {
         let have = self.buffer.len();
         let Some(length) = have.checked_add(count) else {

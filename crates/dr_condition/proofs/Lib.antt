@@ -11,4 +11,3 @@ pub mod ReadRows
 -- what a plan's condition keeps, and what is told of it along the walk of records
 pub mod PlanCondition
 pub mod PlanParts
-pub mod KeepLemmas

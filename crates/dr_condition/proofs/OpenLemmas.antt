@@ -1,17 +1,22 @@
 -- How many branches are open for a condition.
-use Rattle.std.proofs.Common.{◌<◌, ◌≤◌, ◌+◌, Option, None, Some, arith}
-use Rattle.dr_meaning.specs.Schema.{greatest_depth}
+use Rattle.std.proofs.Common.{◌≡◌, ◌<◌, ◌≤◌, ◌+◌, List, true, Option, None, Some, arith}
+use Rattle.std.specs.Prelude.{is_some}
+use Rattle.dr_meaning.specs.Schema.{Fields, depth, greatest_depth}
+use Rattle.dr_meaning.specs.Path.{Leaf}
+use Rattle.dr_meaning.specs.Walk.{Move, no_record}
+use Rattle.dr_meaning.specs.WalkLaws.{open_after_moves}
 use Rattle.dr_pruning_laws.specs.Parts.{all_tests}
 use Rattle.dr_prune.specs.PartAnswers.{lasts_of, untested}
 use Rattle.dr_prune.specs.Pruning.{open_in}
 use Rattle.dr_prune.proofs.OpenLemmas.{few_are_pruned}
 use Rattle.dr_condition.specs.Parted.{lent_tests, test_at}
-use Rattle.dr_condition.specs.Conditions.{HasWatchedIf, open_if}
-use Rattle.dr_condition.specs.ConditionLaws.{FewAreWatched}
+use Rattle.dr_condition.specs.Conditions.{HasWatched, HasWatchedIf, open_for, open_if}
+use Rattle.dr_condition.specs.declared.condition.Condition.{Condition}
 use Rattle.dr_condition.specs.declared.watched.Watched.{Watched}
 
 -- behind moves that nest at most one for each level of a schema, and the record
-pub few_are_watched : FewAreWatched
+pub few_are_watched : (fs : Fields) (ls : List Leaf) (ms : List Move) (c : Condition) → depth fs ≤ greatest_depth
+    → is_some (open_after_moves fs ls no_record ms) ≡ true → HasWatched c ms → open_for c < 64
 few_are_watched fs ls ms c deep nests seen = by_watched c.watched seen
   where
     by_watched : (o : Option Watched) → HasWatchedIf o ms → open_if o < 64

@@ -38,7 +38,6 @@ use Rattle.dr_scalar.proofs.SameReadLemmas.{same_test_leaves_tell}
 use Rattle.dr_scalar.proofs.TestLemmas.{tests_mean}
 use Rattle.dr_condition.specs.RowValues.{read_of}
 use Rattle.dr_condition.specs.Parted.{constants_hold}
-use Rattle.dr_condition.specs.ConditionLaws.{WatchKeeps}
 use Rattle.dr_condition.proofs.GreatestLemmas.{same_greatest}
 use Rattle.dr_condition.proofs.LeavesBelow.{are_below, test_leaves_below}
 use Rattle.dr_condition.proofs.PartedLemmas.{no_greatest, constants_true, never_true}
@@ -121,6 +120,11 @@ chain_of_path : (fs : Fields) (ls : List Leaf) (last : ℕ) (chain : List ℕ)
 chain_of_path fs [] last chain h p e = absurd (cc)
 chain_of_path fs (l ∷ ls) zero chain h p e = let q : l.path ≡ p = cc in h l refl ∙ ap (chain_numbers fs) q
 chain_of_path fs (l ∷ ls) (suc last) chain h p e = chain_of_path fs ls last chain h p e
+
+-- what a watch stands for that keeps of records what a condition keeps
+abbrev pub WatchKeeps : Fields → List (List Step) → Watch → Option Expression → Type 0
+WatchKeeps fs F w c = (path : List Step) × (K : List ℕ) × (test : Node → Bool) × StandsFor fs F w path K test
+    × ((n : Node) → is_record fs n ≡ true → kept c n ≡ kept_along (chain_end path) test n)
 
 none_or_some : (last : ℕ) → None ≡ Some last → ⊥
 none_or_some last e = cc

@@ -5,7 +5,5 @@ pub mod TestParts
 pub mod Watching
 pub mod Conditions
 pub mod PlanConditions
--- what it comes to
-pub mod ConditionLaws
 -- what would be read of a row
 pub mod RowValues

@@ -16,7 +16,7 @@ use dr_levels::{Move, ValueRef};
 use dr_memory::NoMemory;
 use std::alloc::Global;
 
-/// The condition of a plan along a walk: its tests that are watched, none where each record is kept whole.
+/// The tests of a plan that are watched; none where each record is kept whole.
 #[derive(Drop)]
 pub struct Condition<'p> {
     pub(crate) watched: Option<Watched<'p>>,

@@ -3,7 +3,6 @@
 #![tactic(auto)]
 
 mod condition;
-pub mod condition_laws;
 mod parts;
 mod plan_condition;
 mod told;

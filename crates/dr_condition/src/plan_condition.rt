@@ -48,7 +48,7 @@ fn watched<'a>(
     Condition::new(alloc, parts, last, &chain)
 }
 
-/// The condition of a plan before any move; none where a test that reads no leaf isn't true: no record is kept then.
+/// The condition of a plan; none where a test that reads no leaf isn't true.
 ///
 /// Errors: want of memory alone.
 pub fn condition_of<'a>(

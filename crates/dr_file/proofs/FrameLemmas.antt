@@ -1,6 +1,6 @@
 -- The ends of a file, as they are read.
 use Rattle.std.proofs.Common.{◌≡◌, ℕ, ◌+◌, ◌-◌, ◌≤◌, List, length, take, drop, Bool, true, false, refl, sym, ap, ap₂, subst, ◌∙◌, arith}
-use Rattle.std.specs.Prelude.{Option, Some, None, Result, Ok, Err, option_map, ◌&&◌, nat_le, bytes_eq}
+use Rattle.std.specs.Prelude.{Option, Some, None, option_map, ◌&&◌, nat_le, bytes_eq}
 use Rattle.std.proofs.lemmas.List.{take_all, drop-drop, length-drop}
 use Rattle.std.proofs.lemmas.Bool.{le-leb, leb-true}
 use Rattle.dr_outside.specs.Link.{Files, HasSize, HasBytes, HasRange, Reaches, IsPartAt}
@@ -85,7 +85,3 @@ range_had (Some files) path bytes start len t h = let P : Option (List ℕ) → 
 pub failed_only : (e : Fault) → outside_fault e ≡ FooterFault.Failed → e ≡ Fault.Failed
 failed_only Fault.Failed h = refl
 failed_only Fault.NoMemory h = cc
-
-pub same_fault : {T : Type 0} (r : Result T Fault) (e f : Fault) → r ≡ Err e → r ≡ Err f → e ≡ f
-same_fault (Ok t) e f h k = absurd (cc)
-same_fault (Err x) e f h k = cc

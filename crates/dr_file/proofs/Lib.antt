@@ -4,8 +4,6 @@ pub mod AskLemmas
 pub mod OpeningLemmas
 -- opening a file
 pub mod StartLemmas
--- what calls leave of a link
-pub mod LeavingLemmas
 -- row groups
 pub mod GroupLemmas
 -- the ends of a file

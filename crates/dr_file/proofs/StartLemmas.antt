@@ -57,14 +57,6 @@ counts_told OpenFault.BadSchema old new before after b a h = tt
 counts_told OpenFault.BadCodec old new before after b a h = tt
 counts_told OpenFault.BadData old new before after b a h = tt
 
-pub failed_alone : (e : OpenFault) (before after : ℕ) → e ≢ OpenFault.Failed → is_link_fault (told_fault e before after) ≡ false
-failed_alone OpenFault.NoMemory before after n = refl
-failed_alone OpenFault.Failed before after n = absurd (n refl)
-failed_alone OpenFault.BadFooter before after n = refl
-failed_alone OpenFault.BadSchema before after n = refl
-failed_alone OpenFault.BadCodec before after n = refl
-failed_alone OpenFault.BadData before after n = refl
-
 pub not_failed : (e : OpenFault) (before after : ℕ) → is_link_fault (told_fault e before after) ≡ false → e ≢ OpenFault.Failed
 not_failed OpenFault.NoMemory before after h = λ e. cc
 not_failed OpenFault.Failed before after h = λ e. cc

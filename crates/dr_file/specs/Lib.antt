@@ -13,8 +13,6 @@ pub mod Fields
 pub mod Openings
 -- opened files
 pub mod OpenedFiles
--- what a call leaves of a link
-pub mod Leaving
 -- faults
 pub mod Faults
 -- which levels may follow one another

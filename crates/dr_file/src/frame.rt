@@ -1,11 +1,11 @@
 //! The two ends of a file, between which its footer lies.
 
-ghost use Rattle.std.specs.Prelude.{◌≡◌, ◌≢◌, ◌≤◌, ◌-◌, ℕ, List, length, take, true, false, IfOk, IfSome, IfNone, Err, []};
+ghost use Rattle.std.specs.Prelude.{◌≡◌, ◌≢◌, ◌≤◌, ◌-◌, ℕ, List, length, take, true, false, IfOk, IfSome, IfNone, Err, IsTrue, []};
 ghost use Rattle.dr_formats.specs.LittleEndian.{little_endian};
 ghost use Rattle.dr_formats.specs.File.{is_framed};
 ghost use Rattle.dr_formats.specs.Opening.{end_ranges};
+ghost use Rattle.dr_outside.specs.Faults.{raised};
 ghost use Rattle.dr_outside.specs.Telling.{Tells, AsksOnly, Serves};
-ghost use Rattle.dr_outside.specs.Leaving.{LeavesLink};
 ghost use Rattle.dr_file.specs.Asking.{is_for_path, is_request_for};
 ghost use Rattle.dr_file.specs.Frames.{IsFrame, are_ends, outside_fault};
 ghost use Rattle.dr_file.specs.declared.frame.FooterFault.TheVariants.{NoMemory as WantOfMemory};
@@ -95,10 +95,13 @@ pub(crate) fn read_frame<L: Link>(link: &mut L, path: &str) -> Result<Frame, Foo
     ensures asked_absent { Lacks (L.shows link.old).held path.now
         → AsksOnly (is_request_for path.now []) (L.shows link.old).asked (L.shows link.new).asked }
     ensures paths { AsksOnly (is_for_path path.now) (L.shows link.old).asked (L.shows link.new).asked }
-    ensures link { LeavesLink result FooterFault.Failed (Serves (L.shows link.old) path.now) (L.shows link.old)
-        (L.shows link.new) }
+    ensures same { (L.shows link.new).held ≡ (L.shows link.old).held }
+    ensures cause { result ≡ Err FooterFault.Failed → (L.shows link.new).faults ≡ raised (L.shows link.old).faults }
+    ensures calm { result ≢ Err FooterFault.Failed → (L.shows link.new).faults ≡ (L.shows link.old).faults }
+    ensures steady { (bytes : List ℕ) → Serves (L.shows link.old) path.now bytes → result ≢ Err FooterFault.Failed }
     ensures absent { Lacks (L.shows link.old).held path.now → result ≢ Err FooterFault.NoMemory → result
         ≡ Err FooterFault.Failed }
+    ensures stays_steady { IsTrue (L.shows link.old).is_steady → IsTrue (L.shows link.new).is_steady }
 {
     let size = link.size(path)?;
     if size < SHORTEST_FILE {

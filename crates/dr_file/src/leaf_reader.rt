@@ -1,12 +1,12 @@
 //! Reading the column of a leaf, chunk by chunk.
 
-ghost use Rattle.std.specs.Prelude.{◌≡◌, ◌≢◌, ◌≤◌, ℕ, List, map, length, true, false, IfOk, OnOk, Err};
+ghost use Rattle.std.specs.Prelude.{◌≡◌, ◌≢◌, ◌≤◌, ℕ, List, map, length, true, false, IfOk, OnOk, Err, IsTrue};
 ghost use Rattle.std.specs.List.{list_all, flat_map};
 ghost use Rattle.dr_meaning.specs.Path.{Leaf, max_definition};
 ghost use Rattle.dr_formats.specs.File.{most_triplets};
 ghost use Rattle.dr_levels.specs.Views.{column_view, column_form, form};
-ghost use Rattle.dr_outside.specs.Telling.{Tells, AsksOnly};
-ghost use Rattle.dr_outside.specs.Leaving.{LeavesLink, ServesUntil};
+ghost use Rattle.dr_outside.specs.Faults.{raised};
+ghost use Rattle.dr_outside.specs.Telling.{Tells, AsksOnly, Serves};
 ghost use Rattle.dr_chunk.specs.Ranges.{is_read_inside};
 ghost use Rattle.dr_file.specs.Openings.{chunk_place_view};
 ghost use Rattle.dr_file.specs.LeafColumns.{is_good_chunk, chunks_triplets, shown_range, IsShownLeaf};
@@ -89,11 +89,15 @@ impl<'p> LeafReader<'p> {
             ≡ false }
         ensures count { OnOk result (length (column_view column.new) ≡ length (column_view column.old) + chunk.values) }
         ensures form { column_form column.new ≡ column_form column.old }
-        ensures link { LeavesLink result ChunkFault.Failed (ServesUntil (L.shows link.old) (file_of self.now)
-            (footer_of_file self.now)) (L.shows link.old) (L.shows link.new) }
+        ensures same { (L.shows link.new).held ≡ (L.shows link.old).held }
         ensures asked { AsksOnly (is_read_inside (file_of self.now)
             (shown_range (footer_of_file self.now) (chunk_place_view chunk))) (L.shows link.old).asked
             (L.shows link.new).asked }
+        ensures cause { result ≡ Err ChunkFault.Failed → (L.shows link.new).faults ≡ raised (L.shows link.old).faults }
+        ensures calm { result ≢ Err ChunkFault.Failed → (L.shows link.new).faults ≡ (L.shows link.old).faults }
+        ensures steady { (bytes : List ℕ) → Serves (L.shows link.old) (file_of self.now) bytes → footer_of_file self.now
+            ≤ length bytes → result ≢ Err ChunkFault.Failed }
+        ensures stays_steady { IsTrue (L.shows link.old).is_steady → IsTrue (L.shows link.new).is_steady }
     {
         let Some(range) = chunk.range_before(self.footer) else {
             return Err(ChunkFault::BadData);
@@ -142,11 +146,15 @@ pub(crate) fn read_leaf<L: Link>(
     ensures few { IfOk result (λ c. length (column_view c) ≤ most_triplets) }
     ensures form { (l : Leaf) → IsShownLeaf l leaf.now
         → IfOk result (λ c. column_form c ≡ form l.kind (max_definition l.path)) }
-    ensures link { LeavesLink result ChunkFault.Failed (ServesUntil (L.shows link.old) path.now footer)
-        (L.shows link.old) (L.shows link.new) }
+    ensures same { (L.shows link.new).held ≡ (L.shows link.old).held }
     ensures asked { AsksOnly (is_read_inside path.now
         (flat_map (shown_range footer) (map chunk_place_view (leaf.now).chunks.items))) (L.shows link.old).asked
         (L.shows link.new).asked }
+    ensures cause { result ≡ Err ChunkFault.Failed → (L.shows link.new).faults ≡ raised (L.shows link.old).faults }
+    ensures calm { result ≢ Err ChunkFault.Failed → (L.shows link.new).faults ≡ (L.shows link.old).faults }
+    ensures steady { (bytes : List ℕ) → Serves (L.shows link.old) path.now bytes → footer ≤ length bytes → result
+        ≢ Err ChunkFault.Failed }
+    ensures stays_steady { IsTrue (L.shows link.old).is_steady → IsTrue (L.shows link.new).is_steady }
 {
     let reader = LeafReader::new(alloc, path, footer, leaf)?;
     let mut column = Column::new(alloc, reader.shape.kind, reader.shape.max_definition);

@@ -1,6 +1,6 @@
 //! The schemas of files.
 
-ghost use Rattle.std.specs.Prelude.{◌≡◌, ◌≢◌, ◌++◌, ℕ, List, IfOk, IfErr, Ok, Err, true, []};
+ghost use Rattle.std.specs.Prelude.{◌≡◌, ◌≢◌, ◌++◌, ℕ, List, false, IfOk, IfErr, Ok, Err, IsTrue, true, []};
 ghost use Rattle.dr_formats.specs.File.{schema_or_cause, schema_of_file, meta_of, meta_read};
 ghost use Rattle.dr_formats.specs.Opening.{end_ranges, footer_ranges};
 ghost use Rattle.dr_formats.specs.Metadata.{view_file as file_viewed};
@@ -8,12 +8,11 @@ ghost use Rattle.dr_formats.specs.Compact.{read_struct as struct_read};
 ghost use Rattle.dr_compact.specs.Views.{tree_view};
 ghost use Rattle.dr_meta.specs.Views.{file_view};
 ghost use Rattle.dr_nested.specs.SchemaView.{schema_view};
+ghost use Rattle.dr_outside.specs.Faults.{raised};
 ghost use Rattle.dr_outside.specs.Telling.{Tells, AsksOnly, Serves};
-ghost use Rattle.dr_outside.specs.Leaving.{LeavesLink};
 ghost use Rattle.dr_file.specs.Asking.{is_for_path, is_request_for};
 ghost use Rattle.dr_file.specs.Openings.{footer_with, footer_in, IsOpenFault};
-ghost use Rattle.dr_file.specs.OpenedFiles.{IsCauseOf, is_read_fault};
-ghost use Rattle.dr_file.specs.Leaving.{LeavesLinkCounted};
+ghost use Rattle.dr_file.specs.OpenedFiles.{IsCauseOf, is_read_fault, HasCounts};
 ghost use Rattle.dr_file.specs.Schemas.{cause_in};
 ghost use Rattle.dr_outside.specs.Link.{Lacks};
 
@@ -86,10 +85,13 @@ fn read_schema<L: Link>(alloc: Global, link: &mut L, path: &str) -> Result<Schem
     ensures asked_absent { Lacks (L.shows link.old).held path.now
         → AsksOnly (is_request_for path.now []) (L.shows link.old).asked (L.shows link.new).asked }
     ensures paths { AsksOnly (is_for_path path.now) (L.shows link.old).asked (L.shows link.new).asked }
-    ensures link { LeavesLink result OpenFault.Failed (Serves (L.shows link.old) path.now) (L.shows link.old)
-        (L.shows link.new) }
+    ensures same { (L.shows link.new).held ≡ (L.shows link.old).held }
+    ensures rose { result ≡ Err OpenFault.Failed → (L.shows link.new).faults ≡ raised (L.shows link.old).faults }
+    ensures calm { result ≢ Err OpenFault.Failed → (L.shows link.new).faults ≡ (L.shows link.old).faults }
+    ensures steady { (bytes : List ℕ) → Serves (L.shows link.old) path.now bytes → result ≢ Err OpenFault.Failed }
     ensures absent { Lacks (L.shows link.old).held path.now → result ≢ Err OpenFault.NoMemory → result
         ≡ Err OpenFault.Failed }
+    ensures stays_steady { IsTrue (L.shows link.old).is_steady → IsTrue (L.shows link.new).is_steady }
 {
     let footer = read_footer(alloc, link, path)?;
     footer_schema(alloc, &footer)
@@ -111,10 +113,13 @@ pub fn schema_of<L: Link>(alloc: Global, link: &mut L, path: &str) -> Result<Sch
     ensures asked_absent { Lacks (L.shows link.old).held path.now
         → AsksOnly (is_request_for path.now []) (L.shows link.old).asked (L.shows link.new).asked }
     ensures paths { AsksOnly (is_for_path path.now) (L.shows link.old).asked (L.shows link.new).asked }
-    ensures link { LeavesLinkCounted result (Serves (L.shows link.old) path.now) (L.shows link.old)
-        (L.shows link.new) }
+    ensures same { (L.shows link.new).held ≡ (L.shows link.old).held }
+    ensures counts { IfErr result (HasCounts (L.shows link.old).faults (L.shows link.new).faults) }
+    ensures calm { is_read_fault result ≡ false → (L.shows link.new).faults ≡ (L.shows link.old).faults }
+    ensures steady { (bytes : List ℕ) → Serves (L.shows link.old) path.now bytes → is_read_fault result ≡ false }
     ensures absent { Lacks (L.shows link.old).held path.now → result ≢ Err FileFault.NoMemory → is_read_fault result
         ≡ true }
+    ensures stays_steady { IsTrue (L.shows link.old).is_steady → IsTrue (L.shows link.new).is_steady }
 {
     let before = link.faults();
     match read_schema(alloc, link, path) {

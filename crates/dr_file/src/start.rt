@@ -1,15 +1,14 @@
 //! Opening a file.
 
-ghost use Rattle.std.specs.Prelude.{◌≡◌, ◌≢◌, ◌≤◌, ◌++◌, ℕ, List, map, IfOk, IfErr, Err, true, length, []};
+ghost use Rattle.std.specs.Prelude.{◌≡◌, ◌≢◌, ◌≤◌, ◌++◌, ℕ, List, map, false, IfOk, IfErr, Err, IsTrue, true, length, []};
 ghost use Rattle.dr_formats.specs.File.{most_rows};
 ghost use Rattle.dr_formats.specs.Opening.{opening_cause, end_ranges, footer_ranges};
+ghost use Rattle.dr_outside.specs.Faults.{raised};
 ghost use Rattle.dr_nested.specs.PathView.{path_view};
 ghost use Rattle.dr_outside.specs.Telling.{Tells, AsksOnly, Serves};
-ghost use Rattle.dr_outside.specs.Leaving.{LeavesLink};
 ghost use Rattle.dr_file.specs.Asking.{is_for_path, is_request_for};
 ghost use Rattle.dr_file.specs.Openings.{IsOpenFault};
-ghost use Rattle.dr_file.specs.OpenedFiles.{IsOpened, IsCauseOf, is_read_fault, told_fault, rows_of, path_of, leaf_count};
-ghost use Rattle.dr_file.specs.Leaving.{LeavesLinkCounted};
+ghost use Rattle.dr_file.specs.OpenedFiles.{IsOpened, IsCauseOf, is_read_fault, told_fault, HasCounts, rows_of, path_of, leaf_count};
 ghost use Rattle.dr_outside.specs.Link.{Lacks};
 
 use crate::fault::OpenFault;
@@ -56,10 +55,13 @@ fn open<L: Link>(
     ensures asked_absent { Lacks (L.shows link.old).held path.now
         → AsksOnly (is_request_for path.now []) (L.shows link.old).asked (L.shows link.new).asked }
     ensures paths { AsksOnly (is_for_path path.now) (L.shows link.old).asked (L.shows link.new).asked }
-    ensures link { LeavesLink result OpenFault.Failed (Serves (L.shows link.old) path.now) (L.shows link.old)
-        (L.shows link.new) }
+    ensures same { (L.shows link.new).held ≡ (L.shows link.old).held }
+    ensures rose { result ≡ Err OpenFault.Failed → (L.shows link.new).faults ≡ raised (L.shows link.old).faults }
+    ensures calm { result ≢ Err OpenFault.Failed → (L.shows link.new).faults ≡ (L.shows link.old).faults }
+    ensures steady { (bytes : List ℕ) → Serves (L.shows link.old) path.now bytes → result ≢ Err OpenFault.Failed }
     ensures absent { Lacks (L.shows link.old).held path.now → result ≢ Err OpenFault.NoMemory → result
         ≡ Err OpenFault.Failed }
+    ensures stays_steady { IsTrue (L.shows link.old).is_steady → IsTrue (L.shows link.new).is_steady }
 {
     let footer = read_footer(alloc, link, path)?;
     let (rows, leaves) = open_footer(alloc, &footer, fields)?;
@@ -97,10 +99,13 @@ impl Opened {
         ensures asked_absent { Lacks (L.shows link.old).held path.now
             → AsksOnly (is_request_for path.now []) (L.shows link.old).asked (L.shows link.new).asked }
         ensures paths { AsksOnly (is_for_path path.now) (L.shows link.old).asked (L.shows link.new).asked }
-        ensures link { LeavesLinkCounted result (Serves (L.shows link.old) path.now) (L.shows link.old)
-            (L.shows link.new) }
+        ensures same { (L.shows link.new).held ≡ (L.shows link.old).held }
+        ensures counts { IfErr result (HasCounts (L.shows link.old).faults (L.shows link.new).faults) }
+        ensures calm { is_read_fault result ≡ false → (L.shows link.new).faults ≡ (L.shows link.old).faults }
+        ensures steady { (bytes : List ℕ) → Serves (L.shows link.old) path.now bytes → is_read_fault result ≡ false }
         ensures absent { Lacks (L.shows link.old).held path.now → result ≢ Err FileFault.NoMemory → is_read_fault result
             ≡ true }
+        ensures stays_steady { IsTrue (L.shows link.old).is_steady → IsTrue (L.shows link.new).is_steady }
     {
         let before = link.faults();
         match open(alloc, link, path, fields) {

@@ -1,7 +1,5 @@
 -- numbers in bytes, and values in their bits
 pub mod UnpackLemmas
--- the numbers of values, piece by piece
-pub mod NumberLemmas
 -- runs, one after another
 pub mod RunLemmas
 -- what runs and answers of theirs hold

@@ -213,6 +213,6 @@ counting_ends v vs i h e f = sym (f ∙ (ap (λ xs. i + equal_front v xs) (drop_
 pub counting_all : (v : ℕ) (vs : List ℕ) (i : ℕ) → length vs ≤ i → equal_front v vs ≡ i + equal_front v (drop i vs) → equal_front v vs ≡ i
 counting_all v vs i h f = f ∙ (ap (λ xs. i + equal_front v xs) (drop_all i vs h) ∙ omega arith)
 
-pub either_ends : (equal m n : ℕ) → m ≡ n → (8 ≤ equal) ⊎ ((equal < 8) × (equal ≡ m)) → (8 ≤ equal) ⊎ (equal ≡ n)
-either_ends equal m n e (inl h) = inl h
-either_ends equal m n e (inr h) = inr (h.1 ∙ e)
+pub either_ends : (equal : ℕ) (rest same : List ℕ) → rest ≡ same → (8 ≤ equal) ⊎ ((equal < 8) × (equal ≡ length rest)) → (8 ≤ equal) ⊎ (equal ≡ length same)
+either_ends equal rest same e (inl h) = inl h
+either_ends equal rest same e (inr h) = inr (h.1 ∙ ap length e)

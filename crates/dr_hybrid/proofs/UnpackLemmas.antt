@@ -5,8 +5,8 @@ use Rattle.std.proofs.lemmas.Slice.{take-put_mid}
 use borrow.Rule.Slice.PartMut.{put_mid}
 use Rattle.std.specs.Prelude.{bit_and, IfSome, IfNone, SomeIff}
 use Rattle.std.specs.Int.{w64, from_le_bytes}
-use Rattle.std.proofs.lemmas.Nat.{one_shl, and_mask, shr-shr}
-use Rattle.std.proofs.Math.Nat.{mul-le-mul_right, mul-le-mul_left}
+use Rattle.std.proofs.lemmas.Nat.{one_shl, and_mask}
+use Rattle.std.proofs.Math.Nat.{mul-le-mul_right}
 use Rattle.dr_formats.specs.LittleEndian.{little_endian, unpacked, bytes_for}
 use Rattle.dr_bytes.proofs.BitLemmas.{AreBytes, number_padded, number_below, length_unpacked, unpacked_more, unpacked_front, in_word, one_in_word, word_of}
 
@@ -109,18 +109,3 @@ value_unpacked bs w out done place shift value h l s u m e = record {
   bits = omega (arith, u.bits);
   front = take_more_set out done value m ∙ (ap₂ (λ xs x. xs ++ x ∷ []) u.front e ∙ sym (wide_more bs w done place shift h l s u.bits));
 }
-
--- ---- the loop over the values of a word
-pub rest_all : (x w : ℕ) → x ≡ x / 2 ^ (0 * w)
-rest_all x w = let e : 0 * w ≡ 0 = omega arith in rw e (omega arith)
-
-pub rest_more : (x w i : ℕ) → x / 2 ^ (i * w) / 2 ^ w ≡ x / 2 ^ ((i + 1) * w)
-rest_more x w i = let e : i * w + w ≡ (i + 1) * w = omega arith in shr-shr x (i * w) w ∙ ap (λ k. x / 2 ^ k) e
-
-pub few_more : (x w : ℕ) (out : List ℕ) (i value : ℕ) → i < length out → take i out ≡ unpacked i w x → value ≡ x / 2 ^ (i * w) % 2 ^ w → take (i + 1) (set out i value) ≡ unpacked (i + 1) w x
-few_more x w out i value h e f = take_more_set out i value h ∙ (ap₂ (λ xs v. xs ++ v ∷ []) e f ∙ sym (unpacked_more i 1 w x))
-
-pub place_small : (w done place : ℕ) → w ≤ 8 → done * w ≡ 8 * place → place ≤ done
-place_small w done place h e =
-    let f : done * w ≤ done * 8 = mul-le-mul_left done h in
-    omega (arith, e, f)

@@ -30,10 +30,10 @@ abbrev pub IsOfWidth : ℕ → Run → Type 0
 IsOfWidth width (Run.Repeat v n) = v < 2 ^ (8 * bytes_for width)
 IsOfWidth width (Run.Packed p) = p.width ≡ width
 
--- each value is within a width
-abbrev pub IsWithin : ℕ → Run → Type 0
-IsWithin width (Run.Repeat v n) = v < 2 ^ width
-IsWithin width (Run.Packed p) = p.width ≤ width
+-- each value fits a byte
+abbrev pub FitsBytes : Run → Type 0
+FitsBytes (Run.Repeat v n) = v < 2 ^ 8
+FitsBytes (Run.Packed p) = p.width ≤ 8
 
 -- so many of one value, in whole bytes
 abbrev pub repeated : ℕ → ℕ → Reader HybridFault (List ℕ)

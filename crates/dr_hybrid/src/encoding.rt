@@ -5,18 +5,17 @@ ghost use Rattle.std.specs.Prelude.{◌≡◌, ◌≤◌, ◌<◌, ◌^◌, ◌+
 ghost use Rattle.dr_formats.specs.Hybrid.{hybrid_bytes, runs_behind, equal_front, group_of};
 ghost use Rattle.dr_hybrid.specs.Writing.{AreBelow, BeginsWith};
 
-use crate::packable::Packable;
 use crate::writing::{GROUP, append, append_repeat};
 use dr_memory::NoMemory;
 
 /// Appends the hybrid data that is written for values of a width of at most 32 bits.
 ///
 /// Errors: want of memory alone; the bytes are then as they were.
-pub fn encode<T: Packable>(values: &[T], width: u32, out: &mut Vec<u8>) -> Result<(), NoMemory>
+pub fn encode(values: &[u32], width: u32, out: &mut Vec<u8>) -> Result<(), NoMemory>
     requires narrow { width ≤ 32 }
-    requires below { AreBelow width (T.numbers values.now) }
+    requires below { AreBelow width values.now }
     requires few { length values.now < 2 ^ 63 }
-    ensures written { OnOk result ((out.new).items ≡ (out.old).items ++ hybrid_bytes width (T.numbers values.now)) }
+    ensures written { OnOk result ((out.new).items ≡ (out.old).items ++ hybrid_bytes width values.now) }
     ensures stays { OnErr result ((out.new).items ≡ (out.old).items) }
 {
     let start = out.len();
@@ -28,17 +27,17 @@ pub fn encode<T: Packable>(values: &[T], width: u32, out: &mut Vec<u8>) -> Resul
 }
 
 /// Appends the runs of values.
-fn append_runs<T: Packable>(values: &[T], width: u32, out: &mut Vec<u8>) -> Result<(), NoMemory>
+fn append_runs(values: &[u32], width: u32, out: &mut Vec<u8>) -> Result<(), NoMemory>
     requires narrow { width ≤ 32 }
-    requires below { AreBelow width (T.numbers values.now) }
+    requires below { AreBelow width values.now }
     requires few { length values.now < 2 ^ 63 }
-    ensures written { OnOk result ((out.new).items ≡ (out.old).items ++ runs_behind width 0 (T.numbers values.now)) }
+    ensures written { OnOk result ((out.new).items ≡ (out.old).items ++ runs_behind width 0 values.now) }
     ensures begins { BeginsWith (out.old).items (out.new).items }
 {
     let mut done = 0;
     'runs: while done < values.len() {
         let rest = &values[done..];
-        let first = values[done].widened();
+        let first = values[done];
         let equal = 1 + equal_count(first, &values[done + 1..]);
         if equal >= 8 || equal == rest.len() {
             append_repeat(first, equal, width, out)?;
@@ -52,12 +51,12 @@ fn append_runs<T: Packable>(values: &[T], width: u32, out: &mut Vec<u8>) -> Resu
 }
 
 /// How many values at the front equal this one.
-fn equal_count<T: Packable>(value: u32, values: &[T]) -> usize
-    ensures count { result ≡ equal_front value (T.numbers values.now) }
+fn equal_count(value: u32, values: &[u32]) -> usize
+    ensures count { result ≡ equal_front value values.now }
     ensures within { result ≤ length values.now }
 {
     for (index, other) in values.iter().enumerate() {
-        if other.widened() != value {
+        if *other != value {
             return index;
         }
     }
@@ -65,10 +64,10 @@ fn equal_count<T: Packable>(value: u32, values: &[T]) -> usize
 }
 
 /// Appends a group of the next eight values.
-fn append_group<T: Packable>(values: &[T], width: u32, out: &mut Vec<u8>) -> Result<(), NoMemory>
+fn append_group(values: &[u32], width: u32, out: &mut Vec<u8>) -> Result<(), NoMemory>
     requires narrow { width ≤ 32 }
-    requires below { AreBelow width (T.numbers values.now) }
-    ensures written { OnOk result ((out.new).items ≡ (out.old).items ++ (group_of width (T.numbers values.now)).bytes) }
+    requires below { AreBelow width values.now }
+    ensures written { OnOk result ((out.new).items ≡ (out.old).items ++ (group_of width values.now).bytes) }
     ensures begins { BeginsWith (out.old).items (out.new).items }
 {
     append(out, &[GROUP])?;
@@ -85,11 +84,11 @@ fn append_group<T: Packable>(values: &[T], width: u32, out: &mut Vec<u8>) -> Res
 }
 
 /// The value at an index, or 0 behind the last.
-fn value_at<T: Packable>(values: &[T], index: usize) -> u32
-    ensures { result ≡ slice_index (T.numbers values.now) index }
+fn value_at(values: &[u32], index: usize) -> u32
+    ensures { result ≡ slice_index values.now index }
 {
     if index < values.len() {
-        values[index].widened()
+        values[index]
     } else {
         0
     }

@@ -6,9 +6,9 @@ ghost use Rattle.dr_formats.specs.LittleEndian.{bytes_for};
 ghost use Rattle.dr_formats.specs.Hybrid.{short};
 ghost use Rattle.dr_bytes.specs.Numbers.{IsFault};
 
-use crate::packable::Packable;
+use crate::levels::unpack_levels;
 use crate::reading::next_run;
-use crate::unpacking::unpack;
+use crate::unpacking::{NARROW, unpack_narrow, unpack_wide};
 use dr_bytes::Cut;
 
 /// The greatest width of a value, in bits.
@@ -46,7 +46,7 @@ pub struct Runs<'a> {
 }
 
 impl Run<'_> {
-    ghost use Rattle.dr_hybrid.specs.Views.{values_of, IsWithin};
+    ghost use Rattle.dr_hybrid.specs.Views.{values_of, FitsBytes};
 
     /// How many values it has.
     pub fn count(&self) -> usize
@@ -58,15 +58,42 @@ impl Run<'_> {
         }
     }
 
-    /// Writes its values, which fit what they are held in, as many as there is room for.
-    pub fn write<T: Packable>(&self, out: &mut [T])
-        requires room { length out.old ≡ length (values_of self.now) }
-        requires narrow { IsWithin T.greatest_width self.now }
-        ensures { T.numbers out.new ≡ values_of self.now }
+    /// Writes its values, as many as there is room for.
+    pub fn write(&self, out: &mut [u32])
+        requires { length out.old ≡ length (values_of self.now) }
+        ensures { out.new ≡ values_of self.now }
     {
         match self {
-            Run::Repeat { value, .. } => T::fill(out, *value),
-            Run::Packed(packed) => unpack(packed.bytes, packed.width, out),
+            Run::Repeat { value, .. } => out.fill(*value),
+            Run::Packed(packed) => packed.unpack(out),
+        }
+    }
+
+    /// Writes its values as bytes, which they fit: levels, as many as there is room for.
+    pub fn write_levels(&self, out: &mut [u8])
+        requires room { length out.old ≡ length (values_of self.now) }
+        requires narrow { FitsBytes self.now }
+        ensures { out.new ≡ values_of self.now }
+    {
+        match self {
+            Run::Repeat { value, .. } => out.fill(*value as u8),
+            Run::Packed(packed) => unpack_levels(packed.bytes, packed.width, out),
+        }
+    }
+}
+
+impl Packed<'_> {
+    ghost use Rattle.dr_hybrid.specs.Views.{packed_values};
+
+    /// Writes the values.
+    fn unpack(&self, out: &mut [u32])
+        requires { length out.old ≡ (self.now).count }
+        ensures { out.new ≡ packed_values self.now }
+    {
+        if self.width <= NARROW {
+            unpack_narrow(self.bytes, self.width, out);
+        } else {
+            unpack_wide(self.bytes, self.width, out);
         }
     }
 }

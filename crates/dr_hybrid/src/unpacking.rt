@@ -1,29 +1,19 @@
 //! Values packed into bits.
 
-ghost use Rattle.std.specs.Prelude.{◌≡◌, ◌≤◌, ◌<◌, ◌-◌, ◌*◌, ◌^◌, length, bit_and};
+ghost use Rattle.std.specs.Prelude.{◌≡◌, ◌≤◌, ◌<◌, ◌*◌, length};
 ghost use Rattle.dr_formats.specs.LittleEndian.{little_endian, unpacked, bytes_for};
 
-use crate::packable::Packable;
 use crate::words::front_word;
 
 /// The widest values of which eight fill at most a word.
-const NARROW: u32 = 8;
-
-/// The value in the bits of a word that a mask leaves.
-fn masked<T: Packable>(word: u64, mask: u64) -> T
-    requires { mask < 2 ^ T.greatest_width }
-    ensures { T.number result ≡ bit_and word mask }
-{
-    T::narrowed((word & mask) as u32)
-}
+pub(crate) const NARROW: u32 = 8;
 
 /// The eight values of a width in the lowest bits of a word.
-fn group_of<T: Packable>(word: u64, width: u32, mask: u64) -> [T; 8]
-    requires low { mask ≡ 2 ^ width - 1 }
-    requires narrow { mask < 2 ^ T.greatest_width }
-    requires shift { width ≤ 8 }
-    ensures { T.numbers result ≡ unpacked 8 width word }
+fn group_of(word: u64, width: u32) -> [u32; 8]
+    requires { width ≤ 8 }
+    ensures { result ≡ unpacked 8 width word }
 {
+    let mask = (1u64 << width) - 1;
     let from_1 = word >> width;
     let from_2 = from_1 >> width;
     let from_3 = from_2 >> width;
@@ -32,79 +22,49 @@ fn group_of<T: Packable>(word: u64, width: u32, mask: u64) -> [T; 8]
     let from_6 = from_5 >> width;
     let from_7 = from_6 >> width;
     [
-        masked(word, mask),
-        masked(from_1, mask),
-        masked(from_2, mask),
-        masked(from_3, mask),
-        masked(from_4, mask),
-        masked(from_5, mask),
-        masked(from_6, mask),
-        masked(from_7, mask),
+        (word & mask) as u32,
+        (from_1 & mask) as u32,
+        (from_2 & mask) as u32,
+        (from_3 & mask) as u32,
+        (from_4 & mask) as u32,
+        (from_5 & mask) as u32,
+        (from_6 & mask) as u32,
+        (from_7 & mask) as u32,
     ]
 }
 
-/// The values of a width in the lowest bits of a word, as many as there is room for.
-fn unpack_few<T: Packable>(word: u64, width: u32, mask: u64, out: &mut [T])
-    requires low { mask ≡ 2 ^ width - 1 }
-    requires narrow { mask < 2 ^ T.greatest_width }
-    requires shift { width ≤ 8 }
-    ensures { T.numbers out.new ≡ unpacked (length out.old) width word }
-{
-    let mut rest = word;
-    'values: for index in 0..out.len() {
-        out[index] = masked(rest, mask);
-        rest >>= width;
-    }
-}
-
 /// Values of at most eight bits, eight at a time.
-fn unpack_narrow<T: Packable>(bytes: &[u8], width: u32, mask: u64, out: &mut [T])
+pub(crate) fn unpack_narrow(bytes: &[u8], width: u32, out: &mut [u32])
     requires narrow { width ≤ 8 }
-    requires low { mask ≡ 2 ^ width - 1 }
-    requires held { mask < 2 ^ T.greatest_width }
     requires whole { length bytes.now ≡ bytes_for (length out.old * width) }
-    ensures { T.numbers out.new ≡ unpacked (length out.old) width (little_endian bytes.now) }
+    ensures { out.new ≡ unpacked (length out.old) width (little_endian bytes.now) }
 {
     let mut place = 0;
     let mut done = 0;
     'groups: while out.len() - done >= 8 {
-        let group = group_of(front_word(&bytes[place..]), width, mask);
+        let group = group_of(front_word(&bytes[place..]), width);
         out[done..done + 8].copy_from_slice(&group);
         place += width as usize;
         done += 8;
     }
-    unpack_few(front_word(&bytes[place..]), width, mask, &mut out[done..]);
+    let group = group_of(front_word(&bytes[place..]), width);
+    let left = out.len() - done;
+    out[done..].copy_from_slice(&group[..left]);
 }
 
 /// Values of any width, one after another, each from the word at its first byte.
-fn unpack_wide<T: Packable>(bytes: &[u8], width: u32, mask: u64, out: &mut [T])
+pub(crate) fn unpack_wide(bytes: &[u8], width: u32, out: &mut [u32])
     requires narrow { width ≤ 32 }
-    requires low { mask ≡ 2 ^ width - 1 }
-    requires held { mask < 2 ^ T.greatest_width }
     requires whole { length bytes.now ≡ bytes_for (length out.old * width) }
-    ensures { T.numbers out.new ≡ unpacked (length out.old) width (little_endian bytes.now) }
+    ensures { out.new ≡ unpacked (length out.old) width (little_endian bytes.now) }
 {
+    let mask = (1u64 << width) - 1;
     let mut place = 0;
     let mut shift = 0;
     'values: for index in 0..out.len() {
-        out[index] = masked(front_word(&bytes[place..]) >> shift, mask);
+        out[index] = (front_word(&bytes[place..]) >> shift & mask) as u32;
         shift += width;
         place += (shift / 8) as usize;
         shift %= 8;
-    }
-}
-
-/// Values of a width, which fit what they are held in.
-pub(crate) fn unpack<T: Packable>(bytes: &[u8], width: u32, out: &mut [T])
-    requires narrow { width ≤ 32 }
-    requires held { width ≤ T.greatest_width }
-    requires whole { length bytes.now ≡ bytes_for (length out.old * width) }
-    ensures { T.numbers out.new ≡ unpacked (length out.old) width (little_endian bytes.now) }
-{
-    let mask = (1u64 << width) - 1;
-    if width <= NARROW {
-        unpack_narrow(bytes, width, mask, out);
-    } else {
-        unpack_wide(bytes, width, mask, out);
     }
 }

@@ -9,7 +9,7 @@ ghost use Rattle.dr_page.specs.Writes.{Writes};
 use crate::level_part::level_width;
 use crate::part::LENGTH_BYTES;
 use crate::shape::PageForm;
-use dr_hybrid::encode;
+use dr_hybrid::encode_levels;
 use dr_levels::Levels;
 use dr_memory::NoMemory;
 use std::alloc::Global;
@@ -134,6 +134,6 @@ fn append_data(greatest: u8, levels: &[u8], out: &mut Vec<u8>) -> Result<usize, 
     ensures length { IfOk result (λ n. n ≡ length (level_data greatest levels.now)) }
 {
     let start = out.len();
-    encode(levels, level_width(greatest), out)?;
+    encode_levels(levels, level_width(greatest), out)?;
     Ok(out.len() - start)
 }

@@ -1,13 +1,13 @@
 //! Column chunks.
 
-ghost use Rattle.std.specs.Prelude.{◌≡◌, ◌≤◌, ◌+◌, ◌∷◌, [], ℕ, List, length, take, drop, None, OnOk, Err};
+ghost use Rattle.std.specs.Prelude.{◌≡◌, ◌≢◌, ◌≤◌, ◌+◌, ◌∷◌, [], ℕ, List, length, take, drop, None, OnOk, Err, IsTrue};
 ghost use Rattle.dr_meaning.specs.Path.{Leaf};
 ghost use Rattle.dr_formats.specs.Chunk.{pages_triplets};
 ghost use Rattle.dr_levels.specs.Views.{column_view, column_form};
+ghost use Rattle.dr_outside.specs.Faults.{raised};
 ghost use Rattle.dr_page.specs.Reads.{Joins};
 ghost use Rattle.dr_chunk.specs.Takers.{leaf_form, IsLeafOf};
-ghost use Rattle.dr_outside.specs.Telling.{Tells, AsksOnly};
-ghost use Rattle.dr_outside.specs.Leaving.{LeavesLink, ServesUntil};
+ghost use Rattle.dr_outside.specs.Telling.{Tells, Serves, AsksOnly};
 ghost use Rattle.dr_chunk.specs.Ranges.{is_read_inside, inside};
 
 use dr_chunk::{ByteRange, ChunkBuffers, ChunkFault, LeafShape, read_chunk};
@@ -36,10 +36,14 @@ pub fn append_chunk<L: Link>(
         → pages_triplets l wanted (take range.size (drop range.start bytes)) ≡ None }
     ensures count { OnOk result (length (column_view out.new) ≡ length (column_view out.old) + wanted) }
     ensures form { column_form out.new ≡ column_form out.old }
-    ensures link { LeavesLink result ChunkFault.Failed (ServesUntil (L.shows link.old) path.now
-        (range.start + range.size)) (L.shows link.old) (L.shows link.new) }
+    ensures same { (L.shows link.new).held ≡ (L.shows link.old).held }
     ensures asked { AsksOnly (is_read_inside path.now (inside range ∷ [])) (L.shows link.old).asked
         (L.shows link.new).asked }
+    ensures cause { result ≡ Err ChunkFault.Failed → (L.shows link.new).faults ≡ raised (L.shows link.old).faults }
+    ensures calm { result ≢ Err ChunkFault.Failed → (L.shows link.new).faults ≡ (L.shows link.old).faults }
+    ensures steady { (bytes : List ℕ) → Serves (L.shows link.old) path.now bytes
+        → range.start + range.size ≤ length bytes → result ≢ Err ChunkFault.Failed }
+    ensures stays_steady { IsTrue (L.shows link.old).is_steady → IsTrue (L.shows link.new).is_steady }
 {
     read_chunk(alloc, buffers, link, path, range, leaf, wanted, out)
 }

@@ -1,16 +1,15 @@
 //! Opened files.
 
-ghost use Rattle.std.specs.Prelude.{◌≡◌, ◌≤◌, ◌<◌, ℕ, List, [], ◌∷◌, length, Some, IfOk, IfErr};
+ghost use Rattle.std.specs.Prelude.{◌≡◌, ◌≤◌, ◌<◌, ℕ, List, [], ◌∷◌, length, false, Some, IsTrue, IfOk, IfErr};
 ghost use Rattle.std.specs.List.{slice_get, flat_map};
 ghost use Rattle.dr_meaning.specs.Path.{Leaf, max_definition};
 ghost use Rattle.dr_formats.specs.File.{Footer, footer_of, leaves_read, most_triplets};
 ghost use Rattle.dr_formats.specs.Opening.{leaf_cause, leaf_ranges};
 ghost use Rattle.dr_levels.specs.Views.{column_view, column_form, form};
-ghost use Rattle.dr_outside.specs.Telling.{Tells, AsksOnly};
+ghost use Rattle.dr_outside.specs.Telling.{Tells, Serves, AsksOnly};
 ghost use Rattle.dr_chunk.specs.Ranges.{is_read_inside};
 ghost use Rattle.dr_file.specs.Asking.{is_for_path};
-ghost use Rattle.dr_file.specs.OpenedFiles.{IsOpened, IsColumnOf, IsColumnFault, leaf_count, path_of};
-ghost use Rattle.dr_file.specs.Leaving.{LeavesLinkCounted, ServesOpened};
+ghost use Rattle.dr_file.specs.OpenedFiles.{IsOpened, IsColumnOf, IsColumnFault, HasCounts, is_read_fault, leaf_count, path_of};
 
 use dr_file::{FileFault, Opened};
 use dr_levels::Column;
@@ -39,8 +38,12 @@ pub fn column_of<L: Link>(
         → AsksOnly (is_read_inside (path_of opened.now) (flat_map (leaf_ranges f) (leaves_read f (l ∷ []))))
         (L.shows link.old).asked (L.shows link.new).asked }
     ensures paths { AsksOnly (is_for_path (path_of opened.now)) (L.shows link.old).asked (L.shows link.new).asked }
-    ensures link { LeavesLinkCounted result (ServesOpened (L.shows link.old) opened.now) (L.shows link.old)
-        (L.shows link.new) }
+    ensures same { (L.shows link.new).held ≡ (L.shows link.old).held }
+    ensures counts { IfErr result (HasCounts (L.shows link.old).faults (L.shows link.new).faults) }
+    ensures calm { is_read_fault result ≡ false → (L.shows link.new).faults ≡ (L.shows link.old).faults }
+    ensures steady { (bytes : List ℕ) (F : List Leaf) → IsOpened bytes F opened.now
+        → Serves (L.shows link.old) (path_of opened.now) bytes → is_read_fault result ≡ false }
+    ensures stays_steady { IsTrue (L.shows link.old).is_steady → IsTrue (L.shows link.new).is_steady }
 {
     opened.column(alloc, link, index)
 }

@@ -1,6 +1,6 @@
 //! The records of files.
 
-ghost use Rattle.std.specs.Prelude.{◌≡◌, ◌≢◌, ◌≤◌, ℕ, List, map, true, IfOk, IfErr, Err, []};
+ghost use Rattle.std.specs.Prelude.{◌≡◌, ◌≢◌, ◌≤◌, ℕ, List, map, true, false, IfOk, IfErr, IsTrue, Err, []};
 ghost use Rattle.dr_formats.specs.Opening.{reader_ranges};
 ghost use Rattle.dr_nested.specs.Views.{fields_view};
 ghost use Rattle.dr_nested.specs.SchemaView.{schema_view};
@@ -9,8 +9,7 @@ ghost use Rattle.dr_assemble.specs.Views.{nodes_view};
 ghost use Rattle.dr_outside.specs.Link.{Lacks};
 ghost use Rattle.dr_outside.specs.Telling.{Tells, Serves, AsksOnly};
 ghost use Rattle.dr_file.specs.Asking.{is_for_path, is_request_for};
-ghost use Rattle.dr_file.specs.OpenedFiles.{is_read_fault};
-ghost use Rattle.dr_file.specs.Leaving.{LeavesLinkCounted};
+ghost use Rattle.dr_file.specs.OpenedFiles.{HasCounts, is_read_fault};
 ghost use Rattle.dr_tablets.specs.Counting.{counted};
 ghost use Rattle.dr_tablets.specs.FileRecords.{AreLeavesOf, AreOfFile, IsFaultOf, AreProjected, AreFew, triplets_at};
 
@@ -46,11 +45,14 @@ pub fn records_of<L: Link>(
     ensures asked_absent { Lacks (L.shows link.old).held path.now
         → AsksOnly (is_request_for path.now []) (L.shows link.old).asked (L.shows link.new).asked }
     ensures paths { AsksOnly (is_for_path path.now) (L.shows link.old).asked (L.shows link.new).asked }
-    ensures link { LeavesLinkCounted result (Serves (L.shows link.old) path.now) (L.shows link.old)
-        (L.shows link.new) }
+    ensures same { (L.shows link.new).held ≡ (L.shows link.old).held }
+    ensures counts { IfErr result (HasCounts (L.shows link.old).faults (L.shows link.new).faults) }
+    ensures calm { is_read_fault result ≡ false → (L.shows link.new).faults ≡ (L.shows link.old).faults }
+    ensures steady { (bytes : List ℕ) → Serves (L.shows link.old) path.now bytes → is_read_fault result ≡ false }
     ensures absent { Lacks (L.shows link.old).held path.now → result ≢ Err FileFault.NoMemory
         → is_read_fault result ≡ true }
     ensures never_falls { (L.shows link.old).faults ≤ (L.shows link.new).faults }
+    ensures stays_steady { IsTrue (L.shows link.old).is_steady → IsTrue (L.shows link.new).is_steady }
 {
     read_records(alloc, link, path, schema, fields, steps)
 }

@@ -1,13 +1,12 @@
 //! The partials of files.
 
-ghost use Rattle.std.specs.Prelude.{◌≡◌, ◌≢◌, ◌≤◌, ℕ, List, true, IfOk, IfErr, Err, []};
+ghost use Rattle.std.specs.Prelude.{◌≡◌, ◌≢◌, ◌≤◌, ℕ, List, true, false, IfOk, IfErr, IsTrue, Err, []};
 ghost use Rattle.dr_formats.specs.Opening.{reader_ranges};
 ghost use Rattle.dr_nested.specs.SchemaView.{schema_view};
 ghost use Rattle.dr_outside.specs.Link.{Lacks};
 ghost use Rattle.dr_outside.specs.Telling.{Tells, Serves, AsksOnly};
 ghost use Rattle.dr_file.specs.Asking.{is_for_path, is_request_for};
-ghost use Rattle.dr_file.specs.OpenedFiles.{is_read_fault};
-ghost use Rattle.dr_file.specs.Leaving.{LeavesLinkCounted};
+ghost use Rattle.dr_file.specs.OpenedFiles.{HasCounts, is_read_fault};
 ghost use Rattle.dr_meaning.specs.Record.{Node};
 ghost use Rattle.dr_formats.specs.File.{IsFileOf};
 ghost use Rattle.dr_tablets.specs.Counting.{counted};
@@ -64,11 +63,14 @@ pub fn scanned<L: Link>(
         → IsFileOf bytes (schema_view schema.now) (plan_leaves plan.now) R
         → IfOk result (λ p. steps.new ≡ counted steps.old (triplets_at (plan_leaves plan.now) R)) }
     ensures uncounted { IfErr result (λ e. steps.new ≡ steps.old) }
-    ensures link { LeavesLinkCounted result (Serves (L.shows link.old) path.now) (L.shows link.old)
-        (L.shows link.new) }
+    ensures same { (L.shows link.new).held ≡ (L.shows link.old).held }
+    ensures counts { IfErr result (HasCounts (L.shows link.old).faults (L.shows link.new).faults) }
+    ensures calm { is_read_fault result ≡ false → (L.shows link.new).faults ≡ (L.shows link.old).faults }
+    ensures steady { (bytes : List ℕ) → Serves (L.shows link.old) path.now bytes → is_read_fault result ≡ false }
     ensures absent { Lacks (L.shows link.old).held path.now → result ≢ Err FileFault.NoMemory
         → is_read_fault result ≡ true }
     ensures never_falls { (L.shows link.old).faults ≤ (L.shows link.new).faults }
+    ensures stays_steady { IsTrue (L.shows link.old).is_steady → IsTrue (L.shows link.new).is_steady }
 {
     scan(alloc, plan, link, path, schema, steps)
 }

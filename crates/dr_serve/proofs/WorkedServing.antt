@@ -1,5 +1,5 @@
 -- What workers have to do, and what serving ends with, on small cases by computation.
-use Rattle.std.specs.Prelude.{◌≡◌, ℕ, List, [], ◌∷◌, Some, None, codes, true, false, refl}
+use Rattle.std.specs.Prelude.{◌≡◌, ℕ, List, [], ◌∷◌, map, Some, None, codes, true, false, refl}
 use Rattle.std.specs.declared.alloc.Global.{Global}
 use Rattle.std.proofs.Common.{Vec, inl, inr, ap, arith}
 use Rattle.dr_meaning.specs.Schema.{Schema}
@@ -14,7 +14,7 @@ use Rattle.dr_tablets.specs.Views.{all_tried_view}
 use Rattle.dr_tablets.specs.declared.left.Tried as code
 use Rattle.dr_scan.specs.declared.tablet.Scanned.{Scanned}
 use Rattle.dr_serve.specs.Working.{table_job, found}
-use Rattle.dr_serve.specs.Closing.{has_piece, place_of, left_from}
+use Rattle.dr_serve.specs.Closing.{AreNew, has_some, place_of, left_from}
 use Rattle.dr_serve.specs.Serving.{IsShare}
 use Rattle.dr_serve.specs.Counted.{OneGives, AreCounted, no_more, is_counted, is_not_counted}
 
@@ -29,8 +29,15 @@ job_is s = refl
 
 -- ---- the closing round
 
-pub piece_of_the_second : (p : Partial) → (has_piece (found 1 p ∷ []) 0 ≡ false) × (has_piece (found 1 p ∷ []) 1 ≡ true)
-piece_of_the_second p = (refl, refl)
+-- each piece is the first of its tablet, or it isn't
+pub two_are_new : (p r : Partial) → AreNew (λ t f. Unit {0}) (None ∷ None ∷ []) (found 1 p ∷ found 0 r ∷ [])
+two_are_new p r = (tt, refl, (tt, refl, tt))
+
+pub no_second_piece : (p r : Partial) → AreNew (λ t f. Unit {0}) (None ∷ None ∷ []) (found 1 p ∷ found 1 r ∷ []) → ⊥
+no_second_piece p r h = let e : Some p ≡ None = h.2.1 in cc
+
+pub who_has_pieces : (p : Partial) → map has_some (None ∷ Some p ∷ []) ≡ false ∷ true ∷ []
+who_has_pieces p = refl
 
 pub places_are : (p : Partial) → (place_of (None ∷ Some p ∷ []) 0 ≡ None) × (place_of (None ∷ Some p ∷ []) 1 ≡ Some p) × (place_of (None ∷ Some p ∷ []) 2 ≡ None)
 places_are p = (refl, refl, refl)

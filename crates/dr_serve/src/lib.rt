@@ -1,6 +1,7 @@
 //! Serving a query over a table by workers, each with a link of its own.
 #![tactic(auto)]
 
+mod answered;
 mod closing;
 mod found;
 mod gated;

@@ -3,14 +3,12 @@ use Rattle.std.proofs.Common.{◌≡◌, ◌<◌, ◌≤◌, ℕ, false, IfErr, 
 use Rattle.std.specs.Prelude.{IsErrAnd, Result, Ok, Err}
 use Rattle.std.specs.List.{slice_get}
 use Rattle.dr_formats.specs.Opening.{leaf_cause}
-use Rattle.dr_outside.specs.Link.{LinkShown}
 use Rattle.dr_outside.specs.declared.cause.Cause.{Cause}
 use Rattle.dr_outside.proofs.FaultLemmas.{raised_never_falls}
 use Rattle.dr_file.specs.declared.file_fault.FileFault.{FileFault}
 use Rattle.dr_meaning.specs.Path.{Leaf}
 use Rattle.dr_meaning.specs.Column.{Triplet}
-use Rattle.dr_file.specs.OpenedFiles.{IsColumnOf, IsColumnFault, is_link_fault, is_read_fault}
-use Rattle.dr_file.specs.Leaving.{LeavesLinkCounted}
+use Rattle.dr_file.specs.OpenedFiles.{HasCounts, IsColumnOf, IsColumnFault, is_link_fault, is_read_fault}
 use Rattle.dr_tablets.specs.FileRecords.{AreColumnsOf, IsColumnsFault}
 
 -- there is a leaf at each index below their number
@@ -58,16 +56,12 @@ pub no_read_fault : {A : Type 0} (r : Result A FileFault) (e : FileFault) → Is
 no_read_fault (Ok a) e h p = refl
 no_read_fault (Err x) e h p = ap is_link_fault h ∙ p
 
-pub read_fault_is : {A : Type 0} (r : Result A FileFault) (e : FileFault) → IsErrAnd r (λ x. x ≡ e) → is_read_fault r ≡ false → is_link_fault e ≡ false
-read_fault_is (Ok a) e h p = elim h [ ]
-read_fault_is (Err x) e h p = ap is_link_fault (sym h) ∙ p
-
 -- a count that rises by one at a link's failure, and at nothing else, never falls
-pub never_falls : {A : Type 0} (r : Result A FileFault) (serves : List ℕ → Type 0) (before after : LinkShown) → LeavesLinkCounted r serves before after → before.faults ≤ after.faults
-never_falls (Ok a) serves before after link = omega (arith, link.calm refl)
-never_falls (Err FileFault.NoMemory) serves before after link = omega (arith, link.calm refl)
-never_falls (Err (FileFault.Why (Cause.ReadFailed b a))) serves before after link = omega (arith, raised_never_falls before.faults, link.counts.2)
-never_falls (Err (FileFault.Why Cause.BadFooter)) serves before after link = omega (arith, link.calm refl)
-never_falls (Err (FileFault.Why Cause.BadSchema)) serves before after link = omega (arith, link.calm refl)
-never_falls (Err (FileFault.Why Cause.BadCodec)) serves before after link = omega (arith, link.calm refl)
-never_falls (Err (FileFault.Why Cause.BadData)) serves before after link = omega (arith, link.calm refl)
+pub never_falls : {A : Type 0} (old new : ℕ) (r : Result A FileFault) → IfErr r (HasCounts old new) → (is_read_fault r ≡ false → new ≡ old) → old ≤ new
+never_falls old new (Ok a) h calm = omega (arith, calm refl)
+never_falls old new (Err FileFault.NoMemory) h calm = omega (arith, calm refl)
+never_falls old new (Err (FileFault.Why (Cause.ReadFailed before after))) h calm = omega (arith, raised_never_falls old, h.2)
+never_falls old new (Err (FileFault.Why Cause.BadFooter)) h calm = omega (arith, calm refl)
+never_falls old new (Err (FileFault.Why Cause.BadSchema)) h calm = omega (arith, calm refl)
+never_falls old new (Err (FileFault.Why Cause.BadCodec)) h calm = omega (arith, calm refl)
+never_falls old new (Err (FileFault.Why Cause.BadData)) h calm = omega (arith, calm refl)

@@ -1,5 +1,5 @@
 -- The records of a file's columns, and what the faults of its parts say of it.
-use Rattle.std.proofs.Common.{◌≡◌, ℕ, zero, suc, List, [], ◌∷◌, map, Option, Some, None, Bool, true, false, refl, sym, ap, ap₂, ◌∙◌, subst}
+use Rattle.std.proofs.Common.{◌≡◌, ℕ, zero, suc, List, [], ◌∷◌, map, Option, Some, None, Bool, true, refl, sym, ap, ap₂, ◌∙◌, subst}
 use Rattle.std.specs.List.{list_all, slice_get}
 use Rattle.std.proofs.lemmas.Bool.{and_parts, and_from}
 use Rattle.std.proofs.lemmas.List.Folds.{list_all-append}
@@ -19,7 +19,7 @@ use Rattle.dr_formats.proofs.ColumnRows.{leaf_paths}
 use Rattle.dr_assemble.specs.Assembly.{AreProjections}
 use Rattle.dr_walk.specs.declared.fault.AssembleFault.{AssembleFault}
 use Rattle.dr_outside.specs.declared.cause.Cause.{Cause}
-use Rattle.dr_file.specs.OpenedFiles.{IsOpened, IsCauseOf, is_link_fault}
+use Rattle.dr_file.specs.OpenedFiles.{IsOpened, IsCauseOf}
 use Rattle.dr_file.specs.declared.opened.Opened.{Opened}
 use Rattle.dr_file.specs.declared.file_fault.FileFault.{FileFault}
 use Rattle.dr_tablets.specs.FileRecords.{AreLeavesOf, AreOfFile, AreProjected, IsFaultOf, AreColumnsOf, AreColumnsOfFile, SomeIsBad, IsColumnsFault, assemble_fault, triplets_at}
@@ -206,8 +206,3 @@ file_triplets bytes s F P R a b =
     triplets_by_paths F P
     ∙ (ap (λ (Q : List Node). triplet_count (map (λ (p : List Step). column p Q) G)) a.2
     ∙ (ap triplet_count (columns_alike G G (λ q e. e) a.0) ∙ (ap triplet_count columns ∙ sym (triplets_by_paths F R))))
-
--- what isn't put together is no failure of the link
-pub assembled_alone : (e : AssembleFault) → is_link_fault (assemble_fault e) ≡ false
-assembled_alone AssembleFault.NoMemory = refl
-assembled_alone AssembleFault.BadData = refl

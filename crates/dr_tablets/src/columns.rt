@@ -1,6 +1,6 @@
 //! Reading the columns of a file.
 
-ghost use Rattle.std.specs.Prelude.{◌≡◌, ◌≢◌, ◌≤◌, ℕ, List, length, map, true, IfOk, IfErr, Err, Some, []};
+ghost use Rattle.std.specs.Prelude.{◌≡◌, ◌≢◌, ◌≤◌, ℕ, List, length, map, true, false, IfOk, IfErr, IsTrue, Err, Some, []};
 ghost use Rattle.std.specs.List.{flat_map};
 ghost use Rattle.dr_meaning.specs.Path.{Leaf};
 ghost use Rattle.dr_meaning.specs.Schema.{Schema as MeantSchema};
@@ -13,8 +13,7 @@ ghost use Rattle.dr_outside.specs.Link.{Lacks};
 ghost use Rattle.dr_outside.specs.Telling.{Tells, Serves, AsksOnly};
 ghost use Rattle.dr_chunk.specs.Ranges.{is_read_inside};
 ghost use Rattle.dr_file.specs.Asking.{is_for_path, is_request_for};
-ghost use Rattle.dr_file.specs.OpenedFiles.{IsOpened, is_read_fault, leaf_count, path_of};
-ghost use Rattle.dr_file.specs.Leaving.{LeavesLinkCounted, ServesOpened};
+ghost use Rattle.dr_file.specs.OpenedFiles.{IsOpened, HasCounts, is_read_fault, leaf_count, path_of};
 ghost use Rattle.dr_tablets.specs.Counting.{counted};
 ghost use Rattle.dr_tablets.specs.FileRecords.{AreLeavesOf, IsFaultOf, AreColumnsOf, AreColumnsOfFile, IsColumnsFault, are_short};
 
@@ -57,8 +56,12 @@ fn read_columns<L: Link>(
         → AsksOnly (is_read_inside (path_of opened.now) (flat_map (leaf_ranges f) (leaves_read f F)))
         (L.shows link.old).asked (L.shows link.new).asked }
     ensures paths { AsksOnly (is_for_path (path_of opened.now)) (L.shows link.old).asked (L.shows link.new).asked }
-    ensures link { LeavesLinkCounted result (ServesOpened (L.shows link.old) opened.now) (L.shows link.old)
-        (L.shows link.new) }
+    ensures same { (L.shows link.new).held ≡ (L.shows link.old).held }
+    ensures counts { IfErr result (HasCounts (L.shows link.old).faults (L.shows link.new).faults) }
+    ensures calm { is_read_fault result ≡ false → (L.shows link.new).faults ≡ (L.shows link.old).faults }
+    ensures steady { (bytes : List ℕ) (F : List Leaf) → IsOpened bytes F opened.now
+        → Serves (L.shows link.old) (path_of opened.now) bytes → is_read_fault result ≡ false }
+    ensures stays_steady { IsTrue (L.shows link.old).is_steady → IsTrue (L.shows link.new).is_steady }
 {
     let mut columns = Vec::new(alloc);
     let mut triplets = 0u64;
@@ -104,11 +107,14 @@ pub fn read_file_columns<L: Link>(
     ensures asked_absent { Lacks (L.shows link.old).held path.now
         → AsksOnly (is_request_for path.now []) (L.shows link.old).asked (L.shows link.new).asked }
     ensures paths { AsksOnly (is_for_path path.now) (L.shows link.old).asked (L.shows link.new).asked }
-    ensures link { LeavesLinkCounted result (Serves (L.shows link.old) path.now) (L.shows link.old)
-        (L.shows link.new) }
+    ensures same { (L.shows link.new).held ≡ (L.shows link.old).held }
+    ensures counts { IfErr result (HasCounts (L.shows link.old).faults (L.shows link.new).faults) }
+    ensures calm { is_read_fault result ≡ false → (L.shows link.new).faults ≡ (L.shows link.old).faults }
+    ensures steady { (bytes : List ℕ) → Serves (L.shows link.old) path.now bytes → is_read_fault result ≡ false }
     ensures absent { Lacks (L.shows link.old).held path.now → result ≢ Err FileFault.NoMemory → is_read_fault result
         ≡ true }
     ensures never_falls { (L.shows link.old).faults ≤ (L.shows link.new).faults }
+    ensures stays_steady { IsTrue (L.shows link.old).is_steady → IsTrue (L.shows link.new).is_steady }
 {
     let opened = Opened::start(alloc, link, path, fields)?;
     let mut read = Steps::new();

@@ -10,8 +10,10 @@ pub mod FieldLemmas
 pub mod LayingLemmas
 -- how many repeated fields and leaves there are
 pub mod SizeLemmas
--- where a walk stands, by the item that is next
+-- where a walk stands, its turn at an item, and its turn at an end and a begin
 pub mod SpotLemmas
+pub mod ItemTurnLemmas
+pub mod EndLemmas
 -- a walk over columns
 pub mod WalkLemmas
 -- what a walk's answers say of records

@@ -33,7 +33,7 @@ returns-in_err-take_page-clause-bad g c = λ bytes l leaf told e.
     let s = c.look_ahead.new.self in
     let rest = rest_in bytes c.next_header.new.stretch in
     let k : page_header (rest_in bytes c.args.stretch.now) ≡ got (page_view head) rest = c.in_ok-head.ensures.header bytes told in
-    let told′ = tells_same (g.L.Link.shows c.args.link.now) (g.L.Link.shows c.next_header.new.link) _ _ bytes c.next_header.ensures.link.same c.next_header.ensures.path told in
+    let told′ = tells_same (g.L.Link.shows c.args.link.now) (g.L.Link.shows c.next_header.new.link) _ _ bytes c.next_header.ensures.same c.next_header.ensures.path told in
     let same : rest_in bytes s ≡ rest = c.in_ok-look_ahead.ensures.rest bytes told′ in
     let w : c.get-size.result ≤ length (pending s) = c.in_ok-look_ahead.ensures.enough (cc c.if-not-branch.false) in
     let p = err_from_is_err_and c.from_residual-in_err-take_page.result c.from_residual-in_err-take_page.ensures.1 in
@@ -46,7 +46,7 @@ returns-clause-taken g c = λ bytes l leaf told.
     let s = c.look_ahead.new.self in
     let rest = rest_in bytes c.next_header.new.stretch in
     let k : page_header (rest_in bytes c.args.stretch.now) ≡ got (page_view head) rest = c.in_ok-head.ensures.header bytes told in
-    let told′ = tells_same (g.L.Link.shows c.args.link.now) (g.L.Link.shows c.next_header.new.link) _ _ bytes c.next_header.ensures.link.same c.next_header.ensures.path told in
+    let told′ = tells_same (g.L.Link.shows c.args.link.now) (g.L.Link.shows c.next_header.new.link) _ _ bytes c.next_header.ensures.same c.next_header.ensures.path told in
     let same : rest_in bytes s ≡ rest = c.in_ok-look_ahead.ensures.rest bytes told′ in
     let w : c.get-size.result ≤ length (pending s) = c.in_ok-look_ahead.ensures.enough (cc c.if-not-branch.false) in
     page_ahead_done l _ _ _ (rest_in bytes c.args.stretch.now) rest (pending s) _ _ _ c.get-size.result (page_view head) _ _ _ _ k same c.get-size.ensures w (ap (take c.get-size.result) c.pending.ensures)

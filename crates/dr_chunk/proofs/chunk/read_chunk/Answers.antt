@@ -34,10 +34,10 @@ pages-preserved g c =
       form = page.form ∙ inv.form;
       path = page.path ∙ inv.path;
       range = page.range ∙ inv.range;
-      same = page.link.same ∙ inv.same;
+      same = page.same ∙ inv.same;
       asked = asks_again _ _ _ _ _ _ _ inv.path inv.range inv.asked page.asked;
-      calm = page.link.calm (λ e. absurd (cc)) ∙ inv.calm;
-      steady = λ h. page.link.stays_steady (inv.steady h);
+      calm = page.calm (λ e. absurd (cc)) ∙ inv.calm;
+      steady = λ h. page.stays_steady (inv.steady h);
     }
 
 pub returns-in_err-next_page-clause-bad : goal.returns-in_err-next_page-clause-bad

@@ -43,8 +43,8 @@ tries-preserved g c =
       left = look.left ∙ inv.left;
       within = omega (arith, c.min-ahead-in-None.ensures);
       some = λ h. omega (arith, h, inv.some h, c.min-ahead-in-None.ensures, c.saturating_mul.ensures);
-      same = look.link.same ∙ inv.same;
+      same = look.same ∙ inv.same;
       asked = asks_again _ _ _ _ _ _ _ inv.path inv.range inv.asked look.asked;
-      calm = look.link.calm (λ e. absurd (cc)) ∙ inv.calm;
-      steady = λ h. look.link.stays_steady (inv.steady h);
+      calm = look.calm (λ e. absurd (cc)) ∙ inv.calm;
+      steady = λ h. look.stays_steady (inv.steady h);
     }

@@ -59,10 +59,10 @@ chunks-preserved g c =
           (read ∙ ap₂ (λ k x. column_view c.chunks.column ++ triplets_given (shown_triplets bytes k l (chunk_place_view x))) f.1 at) (inv.read bytes l shown told le);
       count = values_more cs c.chunks.chunk-index item _ _ _ w (group.count ∙ ap (λ (x : ChunkPlace). length (column_view c.chunks.column) + x.values) at) inv.count;
       form = group.form ∙ inv.form;
-      same = group.link.same ∙ inv.same;
+      same = group.same ∙ inv.same;
       asked = asks_then _ _ _ _ inv.asked (asks_chunk _ _ _ _ cs c.chunks.chunk-index item item _ _ w f.0 f.1 at group.asked);
-      calm = group.link.calm (λ e. absurd (cc)) ∙ inv.calm;
-      steady = λ h. group.link.stays_steady (inv.steady h);
+      calm = group.calm (λ e. absurd (cc)) ∙ inv.calm;
+      steady = λ h. group.stays_steady (inv.steady h);
     }
 
 pub returns-clause-good : goal.returns-clause-good

@@ -4,10 +4,10 @@ use Rattle.dr_hybrid.proofs.RunLemmas.{Decoded}
 use Rattle.dr_hybrid.proofs.decoding.decode.Given as goal
 
 abbrev pub invariant-runs : goal.invariant-runs
-invariant-runs g l = record {
+invariant-runs l = record {
   width : width_of l.runs ≡ l.width;
-  decoded : Decoded l.width (length l.initial.out) l.bytes (g.T.Packable.numbers l.out) l.done (left_of l.runs);
+  decoded : Decoded l.width (length l.initial.out) l.bytes l.out l.done (left_of l.runs);
 }
 
 abbrev pub decreases-runs : goal.decreases-runs
-decreases-runs g l = length (left_of l.runs)
+decreases-runs l = length (left_of l.runs)

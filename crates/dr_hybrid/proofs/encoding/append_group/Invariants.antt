@@ -3,4 +3,4 @@ use Rattle.dr_hybrid.proofs.PackLemmas.{Packing}
 use Rattle.dr_hybrid.proofs.encoding.append_group.Given as goal
 
 abbrev pub invariant-values : goal.invariant-values
-invariant-values g l = Packing l.width (take 8 (g.T.Packable.numbers l.values)) (l.fn.out.items ++ 3 ∷ []) l.out.items l.index l.word l.bits
+invariant-values l = Packing l.width (take 8 l.values) (l.fn.out.items ++ 3 ∷ []) l.out.items l.index l.word l.bits

@@ -3,4 +3,4 @@ use Rattle.dr_hybrid.proofs.encoding.encode.Goals as goal
 
 pub returns-else-is_err-clause-written : goal.returns-else-is_err-clause-written
 unfolding hybrid_bytes
-returns-else-is_err-clause-written g c = c.append_runs-written.ensures.written
+returns-else-is_err-clause-written c = c.append_runs-written.ensures.written

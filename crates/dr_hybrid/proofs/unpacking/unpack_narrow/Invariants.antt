@@ -3,7 +3,7 @@ use Rattle.dr_hybrid.proofs.UnpackLemmas.{Unpacked}
 use Rattle.dr_hybrid.proofs.unpacking.unpack_narrow.Given as goal
 
 abbrev pub invariant-groups : goal.invariant-groups
-invariant-groups g l = Unpacked l.bytes l.width (g.T.Packable.numbers l.out) l.done (8 * l.place)
+invariant-groups l = Unpacked l.bytes l.width l.out l.done (8 * l.place)
 
 abbrev pub decreases-groups : goal.decreases-groups
-decreases-groups g l = length l.initial.out - l.done
+decreases-groups l = length l.initial.out - l.done

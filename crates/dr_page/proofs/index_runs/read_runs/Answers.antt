@@ -1,9 +1,8 @@
-use Rattle.std.proofs.Common.{refl, ◌∙◌, ◌-◌, length, arith}
+use Rattle.std.proofs.Common.{◌∙◌, ◌-◌, length, arith}
 use Rattle.std.proofs.lemmas.Result.{err_from_is_err_and}
 use Rattle.dr_formats.specs.Hybrid.{short}
 use Rattle.dr_bytes.proofs.FaultLemmas.{was_fault}
 use Rattle.dr_hybrid.specs.Views.{left_of, width_of, values_of, run_ahead}
-use Rattle.dr_hybrid.proofs.RunFacts.{is_within}
 use Rattle.dr_hybrid.proofs.RunLemmas.{shortens}
 use Rattle.dr_page.proofs.GrowingLemmas.{grown_more, grown_all, grown_short, ahead_at}
 use Rattle.dr_page.proofs.index_runs.read_runs.Goals as goal
@@ -15,9 +14,6 @@ returns-in_err-run c =
     let same = ahead_at (width_of c.runs.runs) c.args.width wanted (c.args.count - length c.runs.out.items) (left_of c.runs.runs) c.runs.invariant.width (omega arith) in
     let f = was_fault short (run_ahead (width_of c.runs.runs) wanted (left_of c.runs.runs)) c.in_err-run.ensures.short in
     rw (p.1, p.2) (grown_short c.args.width c.args.count c.args.bytes.now c.runs.out.items (left_of c.runs.runs) f.0 c.runs.invariant.grown (omega arith) (same ∙ f.1))
-
-pub append_values-requires-clause-narrow : goal.append_values-requires-clause-narrow
-append_values-requires-clause-narrow c = is_within (width_of c.runs.runs) 32 c.in_ok-run.run' (omega (arith, c.runs.invariant.width, c.requires)) refl c.in_ok-run.ensures.kind
 
 pub runs-smaller : goal.runs-smaller
 runs-smaller c = shortens (width_of c.runs.runs) _ (left_of c.runs.runs) (values_of c.in_ok-run.run') (left_of c.next.new.self) c.in_ok-run.ensures.read

@@ -7,8 +7,6 @@ use Rattle.dr_nested.specs.PathView.{path_view}
 use Rattle.dr_nested.specs.declared.path.Path.{Path}
 use Rattle.dr_outside.specs.Telling.{AsksOnly}
 use Rattle.dr_file.specs.Asking.{is_request_for}
-use Rattle.dr_file.specs.OpenedFiles.{is_link_fault}
-use Rattle.dr_file.proofs.LeavingLemmas.{same_fault_leaves, value_leaves, refused_leaves}
 use Rattle.dr_group.specs.Partials.{partial_view}
 use Rattle.dr_plan.specs.Planned.{plan_leaves}
 use Rattle.dr_tablets.specs.Counting.{counted}
@@ -16,7 +14,6 @@ use Rattle.dr_tablets.specs.FileRecords.{IsFaultOf}
 use Rattle.dr_tablets.proofs.ColumnsLemmas.{err_is}
 use Rattle.dr_tablets.proofs.CopyLemmas.{not_absent}
 use Rattle.dr_tablets.proofs.FewLemmas.{taken_counted}
-use Rattle.dr_tablets.proofs.RecordsLemmas.{assembled_alone}
 use Rattle.dr_scan.proofs.LiteralLemmas.{sums_small}
 use Rattle.dr_scan.proofs.ScanLemmas.{plan_has_leaves, of_plan_leaves, gives_partial, stands_for_records, stands_for_bytes, columns_counted, columns_fault, gives_few, truth_is}
 use Rattle.dr_scan.proofs.scanning.scan.Goals as goal
@@ -79,16 +76,6 @@ returns-clause-cause g c = λ bytes tells.
     subst (IsFaultOf bytes s (plan_leaves p)) (sym c.file_fault.ensures)
     (columns_fault bytes s p cs file.rows c.in-Err.fault (of_plan_leaves bytes s p c.deref.result.now cs file.rows c.deref.ensures.value (c.in_ok-file.ensures.columns bytes s tells))
     (λ e. c.in-Err.ensures.none (ap Err e)))
-
-pub returns-in_err-file-clause-link : goal.returns-in_err-file-clause-link
-returns-in_err-file-clause-link g c = same_fault_leaves _ c.in_err-file.field-0.0 _ _ _ c.from_residual.ensures.1 c.in_err-file.ensures.link
-
-pub returns-in-Ok-clause-link : goal.returns-in-Ok-clause-link
-returns-in-Ok-clause-link g c = value_leaves c.in_ok-file.file _ _ _ _ c.in_ok-file.ensures.link
-
-pub returns-clause-link : goal.returns-clause-link
-returns-clause-link g c =
-    refused_leaves c.in_ok-file.file _ _ _ _ (ap is_link_fault c.file_fault.ensures ∙ assembled_alone c.in-Err.fault) c.in_ok-file.ensures.link
 
 pub returns-in_err-file-clause-asked : goal.returns-in_err-file-clause-asked
 returns-in_err-file-clause-asked g c = λ bytes tells.

@@ -32,19 +32,19 @@ pub returns-in-Ok-clause-link : goal.returns-in-Ok-clause-link
 returns-in-Ok-clause-link g c =
     scan_worked (table_view c.args.table.now) c.args.plan.now c.args.hand c.as_str.result.now (g.L.Link.shows c.args.link.now) (g.L.Link.shows c.scan.new.link)
     (hand_of_table c.args.table.now g.N.Naming.job c.args.pass.now.seen c.args.hand c.requires.job c.requires.recorded c.requires.given) (c.as_str.ensures.value ∙ c.in_ok-path.ensures)
-    c.scan.ensures.asked c.scan.ensures.asked_absent c.scan.ensures.paths c.scan.ensures.link.same c.scan.ensures.never_falls c.scan.ensures.link.stays_steady
+    c.scan.ensures.asked c.scan.ensures.asked_absent c.scan.ensures.paths c.scan.ensures.same c.scan.ensures.never_falls c.scan.ensures.stays_steady
 
 pub returns-in-Err-NoMemory-clause-link : goal.returns-in-Err-NoMemory-clause-link
 returns-in-Err-NoMemory-clause-link g c =
     scan_worked (table_view c.args.table.now) c.args.plan.now c.args.hand c.as_str.result.now (g.L.Link.shows c.args.link.now) (g.L.Link.shows c.scan.new.link)
     (hand_of_table c.args.table.now g.N.Naming.job c.args.pass.now.seen c.args.hand c.requires.job c.requires.recorded c.requires.given) (c.as_str.ensures.value ∙ c.in_ok-path.ensures)
-    c.scan.ensures.asked c.scan.ensures.asked_absent c.scan.ensures.paths c.scan.ensures.link.same c.scan.ensures.never_falls c.scan.ensures.link.stays_steady
+    c.scan.ensures.asked c.scan.ensures.asked_absent c.scan.ensures.paths c.scan.ensures.same c.scan.ensures.never_falls c.scan.ensures.stays_steady
 
 pub returns-clause-link : goal.returns-clause-link
 returns-clause-link g c =
     scan_worked (table_view c.args.table.now) c.args.plan.now c.args.hand c.as_str.result.now (g.L.Link.shows c.args.link.now) (g.L.Link.shows c.scan.new.link)
     (hand_of_table c.args.table.now g.N.Naming.job c.args.pass.now.seen c.args.hand c.requires.job c.requires.recorded c.requires.given) (c.as_str.ensures.value ∙ c.in_ok-path.ensures)
-    c.scan.ensures.asked c.scan.ensures.asked_absent c.scan.ensures.paths c.scan.ensures.link.same c.scan.ensures.never_falls c.scan.ensures.link.stays_steady
+    c.scan.ensures.asked c.scan.ensures.asked_absent c.scan.ensures.paths c.scan.ensures.same c.scan.ensures.never_falls c.scan.ensures.stays_steady
 
 pub returns-clause-told : goal.returns-clause-told
 returns-clause-told g c =
@@ -55,9 +55,9 @@ returns-clause-told g c =
     let new = (g.L.Link.shows c.scan.new.link).faults in
     let path = c.as_str.result.now in
     let at : path ≡ hand_path t c.args.hand = c.as_str.ensures.value ∙ c.in_ok-path.ensures in
-    let cause = copy_cause t.schema F link path c.in-Err-Why.cause old new (subst (HasCounts old new) c.in-Err-Why.field-0-is c.in-Err-Why.ensures.link.counts)
+    let cause = copy_cause t.schema F link path c.in-Err-Why.cause old new (subst (HasCounts old new) c.in-Err-Why.field-0-is c.in-Err-Why.ensures.counts)
     (λ bytes tells. subst (IsFaultOf bytes t.schema F) c.in-Err-Why.field-0-is (c.in-Err-Why.ensures.cause bytes tells))
     (λ lacks. subst (λ (f : FileFault). is_link_fault f ≡ true) c.in-Err-Why.field-0-is (c.in-Err-Why.ensures.absent lacks (λ e. no_memory c.in-Err-Why.field-0 c.in-Err-Why.cause c.in-Err-Why.field-0-is e)))
-    (λ bytes is tells. subst (λ (f : FileFault). is_link_fault f ≡ false) c.in-Err-Why.field-0-is (c.in-Err-Why.ensures.link.steady bytes (is, tells))) in
+    (λ bytes is tells. subst (λ (f : FileFault). is_link_fault f ≡ false) c.in-Err-Why.field-0-is (c.in-Err-Why.ensures.steady bytes (is, tells))) in
     fault_tells (IsCauseFor t c.args.plan.now link) g.N.Naming.job c.args.hand c.in-Err-Why.cause c.args.pass.now c.fault.new.pass c.fault.result
     (subst (λ (p : List ℕ). IsCauseAt t.schema F link p c.in-Err-Why.cause) at cause) c.fault.ensures.told

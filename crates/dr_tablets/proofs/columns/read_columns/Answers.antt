@@ -1,4 +1,4 @@
-use Rattle.std.proofs.Common.{ℕ, Option, refl, sym, ap, subst, ◌∙◌, arith, map}
+use Rattle.std.proofs.Common.{Option, refl, sym, ap, subst, ◌∙◌, arith, map}
 use Rattle.std.proofs.lemmas.List.{map-append}
 use Rattle.std.specs.Prelude.{◌∷◌, []}
 use Rattle.dr_levels.specs.Views.{column_view}
@@ -12,9 +12,9 @@ use Rattle.dr_chunk.proofs.AskLemmas.{asks_then}
 use Rattle.dr_tablets.proofs.FewLemmas.{one_more_short, one_more_length, one_more_counted, taken_counted}
 use Rattle.dr_tablets.proofs.AskedLemmas.{leaf_asked}
 use Rattle.dr_file.specs.Asking.{is_for_path}
-use Rattle.dr_file.specs.OpenedFiles.{HasCounts, path_of}
+use Rattle.dr_file.specs.OpenedFiles.{path_of}
 use Rattle.dr_tablets.specs.FileRecords.{IsColumnsFault}
-use Rattle.dr_tablets.proofs.ColumnsLemmas.{leaf_there, one_more, all_columns, one_fault, err_is, no_read_fault, read_fault_is}
+use Rattle.dr_tablets.proofs.ColumnsLemmas.{leaf_there, one_more, all_columns, one_fault, err_is, no_read_fault}
 use Rattle.dr_tablets.specs.Counting.{counted}
 use Rattle.dr_tablets.proofs.columns.read_columns.Goals as goal
 
@@ -24,21 +24,10 @@ returns-in_err-column-clause-cause g c = λ bytes F o n t.
     let now = subst (λ (h : Option Files). TellsFile h (path_of c.args.opened.now) bytes) (sym c.leaves.invariant.1) t in
     err_is (IsColumnsFault bytes F) _ c.in_err-column.field-0.0 c.from_residual.ensures.1 (one_fault bytes F c.leaves.index l.0 c.in_err-column.field-0.0 l.1 (c.in_err-column.ensures.cause bytes F l.0 o l.1 now))
 
-pub returns-in_err-column-clause-link : goal.returns-in_err-column-clause-link
-returns-in_err-column-clause-link g c =
-    let new = (g.L.Link.shows c.column.new.link).faults in
-    let link = c.in_err-column.ensures.link in
-    let inv = c.leaves.invariant in
-    let only = c.from_residual.ensures.1 in
-    record {
-      same = link.same ∙ inv.1;
-      counts = err_is (HasCounts (g.L.Link.shows c.args.link.now).faults new) _ c.in_err-column.field-0.0 only (subst (λ (n : ℕ). HasCounts n new c.in_err-column.field-0.0) inv.2 link.counts);
-      calm = λ h. link.calm (read_fault_is _ c.in_err-column.field-0.0 only h) ∙ inv.2;
-      steady = λ bytes serves.
-          let now = subst (λ (h : Option Files). TellsFile h (path_of c.args.opened.now) bytes) (sym inv.1) serves.2.1 in
-          no_read_fault _ c.in_err-column.field-0.0 only (link.steady bytes (serves.0, serves.1, (inv.3 serves.2.0, now)));
-      stays_steady = λ s. link.stays_steady (inv.3 s);
-    }
+pub returns-in_err-column-clause-steady : goal.returns-in_err-column-clause-steady
+returns-in_err-column-clause-steady g c = λ bytes F o s.
+    let now = subst (λ (h : Option Files). TellsFile h (path_of c.args.opened.now) bytes) (sym c.leaves.invariant.1) s.1 in
+    no_read_fault _ c.in_err-column.field-0.0 c.from_residual.ensures.1 (c.in_err-column.ensures.steady bytes F o (c.leaves.invariant.3 s.0, now))
 
 pub leaves-preserved : goal.leaves-preserved
 leaves-preserved g c = (
@@ -47,9 +36,9 @@ leaves-preserved g c = (
       let now = subst (λ (h : Option Files). TellsFile h (path_of c.args.opened.now) bytes) (sym c.leaves.invariant.1) t in
       one_more bytes F c.leaves.index _ _ l.0 (column_view c.in_ok-column.column) (c.leaves.invariant.0 bytes F o n t) l.1 (c.in_ok-column.ensures.column bytes F l.0 o l.1 now)
       (ap (map column_view) c.in-Ok.ensures.items ∙ map-append column_view c.leaves.columns.items (c.in_ok-column.column ∷ [])),
-  c.column.ensures.link.same ∙ c.leaves.invariant.1,
-  c.in_ok-column.ensures.link.calm refl ∙ c.leaves.invariant.2,
-  λ s. c.column.ensures.link.stays_steady (c.leaves.invariant.3 s),
+  c.column.ensures.same ∙ c.leaves.invariant.1,
+  c.in_ok-column.ensures.calm refl ∙ c.leaves.invariant.2,
+  λ s. c.column.ensures.stays_steady (c.leaves.invariant.3 s),
   one_more_short _ _ (column_view c.in_ok-column.column) c.leaves.invariant.4 c.in_ok-column.ensures.few (ap (map column_view) c.in-Ok.ensures.items ∙ map-append column_view c.leaves.columns.items (c.in_ok-column.column ∷ [])),
   λ bytes F f o n e.
       let l = leaf_there F c.leaves.index (omega (arith, c.leaves-test.true, n)) in

@@ -5,13 +5,11 @@ use Rattle.dr_nested.specs.Views.{fields_view}
 use Rattle.dr_nested.specs.PathView.{path_view}
 use Rattle.dr_nested.specs.SchemaView.{schema_view}
 use Rattle.dr_assemble.specs.Views.{nodes_view}
-use Rattle.dr_file.specs.OpenedFiles.{is_link_fault}
-use Rattle.dr_file.proofs.LeavingLemmas.{same_fault_leaves, value_leaves, refused_leaves}
 use Rattle.dr_tablets.specs.Counting.{counted}
 use Rattle.dr_tablets.specs.FileRecords.{IsFaultOf}
 use Rattle.dr_tablets.proofs.ColumnsLemmas.{err_is}
 use Rattle.dr_tablets.proofs.FewLemmas.{few_assembled, counted_assembled, taken_counted}
-use Rattle.dr_tablets.proofs.RecordsLemmas.{assembled_alone, have_leaf_paths, records_given, projected_given, assembled_fault}
+use Rattle.dr_tablets.proofs.RecordsLemmas.{have_leaf_paths, records_given, projected_given, assembled_fault}
 use Rattle.dr_tablets.proofs.records.read_records.Goals as goal
 
 pub returns-in_err-file-clause-cause : goal.returns-in_err-file-clause-cause
@@ -19,16 +17,6 @@ returns-in_err-file-clause-cause g c = λ bytes t.
     let s = schema_view c.args.schema.now in
     err_is (IsFaultOf bytes s (map path_view c.args.fields.now)) _ c.in_err-file.field-0.0 c.from_residual.ensures.1
     (c.in_err-file.ensures.cause bytes s t c.requires)
-
-pub returns-in_err-file-clause-link : goal.returns-in_err-file-clause-link
-returns-in_err-file-clause-link g c = same_fault_leaves _ c.in_err-file.field-0.0 _ _ _ c.from_residual.ensures.1 c.in_err-file.ensures.link
-
-pub returns-in-Ok-clause-link : goal.returns-in-Ok-clause-link
-returns-in-Ok-clause-link g c = value_leaves c.in_ok-file.file _ _ _ _ c.in_ok-file.ensures.link
-
-pub returns-clause-link : goal.returns-clause-link
-returns-clause-link g c =
-    refused_leaves c.in_ok-file.file _ _ _ _ (ap is_link_fault c.file_fault.ensures ∙ assembled_alone c.in-Err.fault) c.in_ok-file.ensures.link
 
 pub assemble-requires : goal.assemble-requires
 assemble-requires g c = have_leaf_paths _ c.args.fields.now c.requires

@@ -58,8 +58,8 @@ add_held-requires g c =
           ∙ ap (λ b. b && true) (record_fits fs (path_view c.args.field.now) n c.requires read);
     }
 
-pub lines-preserved-in_ok-add_held-3 : goal.lines-preserved-in_ok-add_held-3
-lines-preserved-in_ok-add_held-3 g c =
+pub lines-preserved : goal.lines-preserved
+lines-preserved g c =
     let F = (path_view c.args.field.now).path ∷ [] in
     let before = left_of c.lines.records (g.S.Source.shows c.lines.source).left in
     let now = left_of c.next.new.self (g.S.Source.shows c.next.new.source).left in

@@ -2,7 +2,7 @@ use Rattle.std.proofs.Common.{sym, ap, ◌∙◌, arith}
 use Rattle.std.proofs.lemmas.List.{length-map}
 use Rattle.std.specs.Prelude.{option_map}
 use Rattle.dr_walk.specs.Views.{items_view, item_view, lap_view}
-use Rattle.dr_walk.proofs.SpotLemmas.{at_again, begins_again}
+use Rattle.dr_walk.proofs.EndLemmas.{at_again, begins_again}
 use Rattle.dr_walk.proofs.spot.Spot.begin_again.Goals as goal
 
 pub returns-in_ok-begin-in-Some-clause-turn : goal.returns-in_ok-begin-in-Some-clause-turn

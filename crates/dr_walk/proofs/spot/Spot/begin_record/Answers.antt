@@ -1,7 +1,7 @@
 use Rattle.std.proofs.Common.{◌≡◌, suc, ap, arith}
 use Rattle.std.proofs.lemmas.List.{length-map}
 use Rattle.dr_walk.specs.Views.{items_view, item_view}
-use Rattle.dr_walk.proofs.SpotLemmas.{begins_record, all_done}
+use Rattle.dr_walk.proofs.EndLemmas.{begins_record, all_done}
 use Rattle.dr_walk.proofs.spot.Spot.begin_record.Goals as goal
 
 pub returns-then-self-eq0-clause-turn : goal.returns-then-self-eq0-clause-turn

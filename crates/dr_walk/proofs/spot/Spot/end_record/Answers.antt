@@ -1,5 +1,6 @@
 use Rattle.std.proofs.Common.{refl}
-use Rattle.dr_walk.proofs.SpotLemmas.{settle, at_end, leaves_record}
+use Rattle.dr_walk.proofs.SpotLemmas.{settle}
+use Rattle.dr_walk.proofs.EndLemmas.{at_end, leaves_record}
 use Rattle.std.proofs.Common.{None}
 use Rattle.dr_walk.proofs.spot.Spot.end_record.Goals as goal
 

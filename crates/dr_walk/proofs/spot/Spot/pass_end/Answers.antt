@@ -2,7 +2,8 @@ use Rattle.std.proofs.Common.{◌≡◌, sym, ap, ◌∙◌, subst, [], ◌∷�
 use Rattle.dr_walk.specs.Seen.{TakesLast, levels_at, level_repetition}
 use Rattle.dr_walk.specs.Views.{lap_view}
 use Rattle.dr_walk.specs.declared.spot.Spot.{Spot}
-use Rattle.dr_walk.proofs.SpotLemmas.{settle, at_end, is_within, leaves_out, leaves_again, tests_true, tests_false}
+use Rattle.dr_walk.proofs.SpotLemmas.{settle}
+use Rattle.dr_walk.proofs.EndLemmas.{at_end, is_within, leaves_out, leaves_again, tests_true, tests_false}
 use Rattle.dr_walk.proofs.spot.Spot.pass_end.Goals.{then-repetition-lap, else-repetition-lap+in-Some}
 use Rattle.dr_walk.proofs.spot.Spot.pass_end.Goals as goal
 

@@ -1,7 +1,8 @@
 use Rattle.std.proofs.Common.{add-one, sym, ap, refl, ◌∙◌}
 use Rattle.dr_walk.specs.Seen.{due_levels}
 use Rattle.dr_walk.specs.Views.{give_view}
-use Rattle.dr_walk.proofs.SpotLemmas.{settle, at_give, gives_leaf, stops_at_leaf}
+use Rattle.dr_walk.proofs.SpotLemmas.{settle}
+use Rattle.dr_walk.proofs.ItemTurnLemmas.{at_give, gives_leaf, stops_at_leaf}
 use Rattle.dr_walk.proofs.spot.Spot.pass_give.Goals as goal
 
 pub returns-in-Some-clause-turn : goal.returns-in-Some-clause-turn

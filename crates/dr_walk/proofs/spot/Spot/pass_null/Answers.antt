@@ -1,6 +1,7 @@
 use Rattle.std.proofs.Common.{add-one, sym, ap, refl, ◌∙◌, Some, None}
 use Rattle.dr_walk.specs.Seen.{due_levels}
-use Rattle.dr_walk.proofs.SpotLemmas.{settle, at_null, gives_null, stops_at_null}
+use Rattle.dr_walk.proofs.SpotLemmas.{settle}
+use Rattle.dr_walk.proofs.ItemTurnLemmas.{at_null, gives_null, stops_at_null}
 use Rattle.dr_walk.proofs.spot.Spot.pass_null.Goals as goal
 
 pub returns-in-Some-clause-turn : goal.returns-in-Some-clause-turn

@@ -4,7 +4,8 @@ use Rattle.dr_walk.specs.Seen.{absent_level, TakesSeen}
 use Rattle.dr_walk.specs.Views.{items_view, item_view, visit_view}
 use Rattle.dr_walk.specs.Standing.{IsTurn}
 use Rattle.dr_walk.specs.declared.spot.Frame.{Frame}
-use Rattle.dr_walk.proofs.SpotLemmas.{settle, at_visit, passes_absent, enters_first}
+use Rattle.dr_walk.proofs.SpotLemmas.{settle}
+use Rattle.dr_walk.proofs.ItemTurnLemmas.{at_visit, passes_absent, enters_first}
 use Rattle.dr_walk.proofs.spot.Spot.pass_visit.Goals as goal
 
 pub returns-in-Some-clause-turn : goal.returns-in-Some-clause-turn

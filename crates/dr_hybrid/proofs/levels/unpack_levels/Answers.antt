@@ -1,0 +1,18 @@
+use Rattle.std.proofs.Common.{◌≡◌, arith, ◌∙◌, sym, ap, take, length}
+use Rattle.std.proofs.lemmas.List.{take_rest, take_all}
+use Rattle.dr_formats.specs.LittleEndian.{little_endian, unpacked}
+use Rattle.dr_hybrid.proofs.UnpackLemmas.{group_unpacked, last_unpacked}
+use Rattle.dr_hybrid.proofs.levels.unpack_levels.Goals as goal
+
+pub groups-preserved : goal.groups-preserved
+groups-preserved c =
+    group_unpacked c.args.bytes.now c.args.width c.groups.out c.groups.done c.groups.place c.copy_from_slice.new.self (λ i. omega (arith, c.type_inv.bytes i)) c.requires.narrow c.groups.invariant (omega arith) (c.copy_from_slice.ensures.after ∙ (c.group_of-group.ensures ∙ ap (unpacked 8 c.args.width) (c.front_word.ensures ∙ ap (λ xs. little_endian (take 8 xs)) (take_rest c.args.bytes.now c.groups.place))))
+
+pub returns : goal.returns
+returns c =
+    last_unpacked c.args.bytes.now c.args.width c.groups.out c.groups.done c.groups.place _ c.copy_from_slice-2.new.self (λ i. omega (arith, c.type_inv.bytes i)) c.requires.narrow c.groups.invariant (omega arith) (omega arith) (c.copy_from_slice-2.ensures.after ∙ ap (take _) (c.group_of-group-2.ensures ∙ ap (unpacked 8 c.args.width) (c.front_word-2.ensures ∙ ap (λ xs. little_endian (take 8 xs)) (take_rest c.args.bytes.now c.groups.place)))) ∙ ap (λ n. unpacked n c.args.width (little_endian c.args.bytes.now)) c.groups.auto.out
+
+pub returns-then-left-eq0 : goal.returns-then-left-eq0
+returns-then-left-eq0 c =
+    let e : c.groups.done ≡ length c.groups.out = omega arith in
+    sym (take_all c.groups.done c.groups.out (omega arith)) ∙ (c.groups.invariant.front ∙ ap (λ n. unpacked n c.args.width (little_endian c.args.bytes.now)) (e ∙ c.groups.auto.out))

@@ -1,0 +1,95 @@
+//! Levels as hybrid data, from bytes: where at least eight equal values follow, or nothing but equal values, a repeat
+//! of them; else one packed group of the next eight, padded with 0.
+
+ghost use Rattle.std.specs.Prelude.{◌≡◌, ◌≤◌, ◌<◌, ◌^◌, ◌++◌, length, slice_index, OnOk, OnErr};
+ghost use Rattle.dr_formats.specs.Hybrid.{hybrid_bytes, runs_behind, equal_front, group_of};
+ghost use Rattle.dr_hybrid.specs.Writing.{AreBelow, BeginsWith};
+
+use crate::writing::{GROUP, append, append_repeat};
+use dr_memory::NoMemory;
+
+/// Appends the hybrid data that is written for levels of a width of at most eight bits.
+///
+/// Errors: want of memory alone; the bytes are then as they were.
+pub fn encode_levels(values: &[u8], width: u32, out: &mut Vec<u8>) -> Result<(), NoMemory>
+    requires narrow { width ≤ 8 }
+    requires below { AreBelow width values.now }
+    requires few { length values.now < 2 ^ 63 }
+    ensures written { OnOk result ((out.new).items ≡ (out.old).items ++ hybrid_bytes width values.now) }
+    ensures stays { OnErr result ((out.new).items ≡ (out.old).items) }
+{
+    let start = out.len();
+    let written = append_runs(values, width, out);
+    if written.is_err() {
+        out.truncate(start);
+    }
+    written
+}
+
+/// Appends the runs of values.
+fn append_runs(values: &[u8], width: u32, out: &mut Vec<u8>) -> Result<(), NoMemory>
+    requires narrow { width ≤ 8 }
+    requires below { AreBelow width values.now }
+    requires few { length values.now < 2 ^ 63 }
+    ensures written { OnOk result ((out.new).items ≡ (out.old).items ++ runs_behind width 0 values.now) }
+    ensures begins { BeginsWith (out.old).items (out.new).items }
+{
+    let mut done = 0;
+    'runs: while done < values.len() {
+        let rest = &values[done..];
+        let first = values[done];
+        let equal = 1 + equal_count(first, &values[done + 1..]);
+        if equal >= 8 || equal == rest.len() {
+            append_repeat(u32::from(first), equal, width, out)?;
+            done += equal;
+        } else {
+            append_group(rest, width, out)?;
+            done += rest.len().min(8);
+        }
+    }
+    Ok(())
+}
+
+/// How many values at the front equal this one.
+fn equal_count(value: u8, values: &[u8]) -> usize
+    ensures count { result ≡ equal_front value values.now }
+    ensures within { result ≤ length values.now }
+{
+    for (index, other) in values.iter().enumerate() {
+        if *other != value {
+            return index;
+        }
+    }
+    values.len()
+}
+
+/// Appends a group of the next eight values.
+fn append_group(values: &[u8], width: u32, out: &mut Vec<u8>) -> Result<(), NoMemory>
+    requires narrow { width ≤ 8 }
+    requires below { AreBelow width values.now }
+    ensures written { OnOk result ((out.new).items ≡ (out.old).items ++ (group_of width values.now).bytes) }
+    ensures begins { BeginsWith (out.old).items (out.new).items }
+{
+    append(out, &[GROUP])?;
+    let mut word = 0u64;
+    let mut bits = 0;
+    'values: for index in 0..8 {
+        word += u64::from(value_at(values, index)) << bits;
+        bits += width;
+        append(out, &word.to_le_bytes()[..(bits / 8) as usize])?;
+        word >>= bits / 8 * 8;
+        bits %= 8;
+    }
+    Ok(())
+}
+
+/// The value at an index, or 0 behind the last.
+fn value_at(values: &[u8], index: usize) -> u8
+    ensures { result ≡ slice_index values.now index }
+{
+    if index < values.len() {
+        values[index]
+    } else {
+        0
+    }
+}
