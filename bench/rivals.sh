@@ -1,7 +1,8 @@
 #!/usr/bin/env bash
 # Measures reading N generated records (150,000 where no N is given, about 22 MB of JSON) beside other readers of the same lines: `load` and `ask` of one COUNT beside Rust's
-# serde_json into its `Value` (where cargo and its crates are there), and `ask` of the four queries of query.sh beside Python with orjson, and node (where these are there), which
-# have to print the same. A line for each, with the least processor seconds of five runs in turn, and in brackets what the program's are of it. Let nothing else run.
+# serde_json into its `Value` (where cargo and its crates are there) and a hand-written loader (bench/limit/load.rs, where rustc is there), which has to write the same file; and `ask` of
+# the four queries of query.sh beside Python with orjson, and node (where these are there), which have to print the same. A line for each, with the least processor seconds of five runs in
+# turn, and in brackets what the program's are of it. Let nothing else run.
 # usage: bench/rivals.sh [N] [PROGRAM]
 set -euo pipefail
 count=${1:-150000}
@@ -12,11 +13,12 @@ trap 'rm -rf "$work"' EXIT
 "$program" gen --seed 0 --records "$count" >"$work/records.jsonl"
 mkdir "$work/leaf"
 cargo build --quiet --release --manifest-path "$top/bench/rivals/values/Cargo.toml" --target-dir "$work/values" 2>"$work/cargo" || echo "serde_json isn't there"
+rustc -O -o "$work/loader" "$top/bench/limit/load.rs" 2>"$work/rustc" || echo "rustc isn't there"
 echo "$(nproc) processors, load $(cut -d ' ' -f 1 /proc/loadavg)"
 
-python3 - "$program" "$work" "$top" <<'PY'
-import os, shutil, subprocess, sys
-program, work, top = sys.argv[1:]
+python3 - "$program" "$work" "$top" "$count" <<'PY'
+import filecmp, os, shutil, subprocess, sys
+program, work, top, count = sys.argv[1:]
 records, schema = f"{work}/records.jsonl", f"{top}/examples/document.txt"
 
 def seconds(words, out):
@@ -41,7 +43,10 @@ def compared(name, own, others, same):
 
 values = f"{work}/values/release/values"
 rust = {"serde_json": [values]} if os.path.exists(values) else {}
-compared("load", [program, "load", "--schema", schema, "--table", f"{work}/t.table", f"{work}/leaf"], rust, False)
+hand = {"hand-written": [f"{work}/loader", f"{work}/loaded"]} if os.path.exists(f"{work}/loader") else {}
+compared("load", [program, "load", "--schema", schema, "--table", f"{work}/t.table", "--rows", count, f"{work}/leaf"], {**rust, **hand}, False)
+if hand and not filecmp.cmp(f"{work}/leaf/t000000.parquet", f"{work}/loaded", shallow=False):
+    print("load: the hand-written loader writes another file")
 compared("ask, one COUNT", [program, "ask", "--schema", schema, "SELECT COUNT(Name.Url) FROM Document"], rust, False)
 queries = {
     "five": "SELECT COUNT(*) AS r, COUNT(Name.Language.Code) AS c, COUNT(Name.Url) AS u, SUM(Links.Forward) AS f, MAX(DocId) AS m FROM Document",

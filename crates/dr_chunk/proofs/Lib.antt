@@ -6,7 +6,8 @@ pub mod StepLemmas
 pub mod LengthLemmas
 pub mod TakeLemmas
 pub mod PageStepLemmas
-pub mod ChunkLemmas
+-- a chunk, a piece at a time
+pub mod TakingLemmas
 -- what a link was asked for
 pub mod AskLemmas
 -- page headers

@@ -14,11 +14,11 @@ use Rattle.dr_formats.specs.Chunk.{PageTaken, taken, page_header, shape_of_page,
 use Rattle.dr_chunk.specs.Headers.{IsRefused}
 use Rattle.dr_chunk.specs.Steps.{page_step}
 use Rattle.dr_chunk.specs.declared.fault.ChunkFault.{ChunkFault}
-use Rattle.dr_chunk.specs.Takers.{Takes, IsChunkFault}
-use Rattle.dr_chunk.specs.Pages.{TakesStep}
+use Rattle.dr_chunk.specs.Takers.{IsChunkFault}
 
 -- ---- a page takes no bytes of its own: what is read of its body, with other bytes behind it
 
+-- the same, with these bytes behind it
 abbrev pub moved : List ℕ → Reading PageFault PageTaken → Reading PageFault PageTaken
 moved rest (got t q) = got t rest
 moved rest (refused e q) = refused e rest
@@ -102,18 +102,6 @@ bad_body_no_page l w first d bytes rest body h e s b r =
     let P : List ℕ → Type 0 = λ xs. IsRefused (page_taken l w first d h xs []) in
     rw (whole_page l w first d bytes rest h e s) (refused_moved (drop h.compressed_size rest) (page_taken l w first d h (take h.compressed_size rest) []) (subst P b r))
 
-takes_moved : (rest new : List ℕ) (r : Reading PageFault PageTaken) (before after : List Triplet) (w left : ℕ) (d : List Value) → rest ≡ new → Takes r before after w left d → TakesStep (moved rest r) before after w left d new
-takes_moved rest new (got t q) before after w left d e t′ = (e, t′)
-takes_moved rest new (refused x q) before after w left d e t′ = elim t′ [ ]
-
--- a page that was taken
-page_done : (l : Leaf) (w : ℕ) (first : Bool) (d : List Value) (bytes rest body new : List ℕ) (h : PageHeader) (before after : List Triplet) (left : ℕ) (d′ : List Value) → page_header bytes ≡ got h rest
-    → h.compressed_size ≤ length rest → body ≡ take h.compressed_size rest → new ≡ drop h.compressed_size rest → Takes (page_taken l w first d h body []) before after w left d′
-    → TakesStep (page_step l w first d bytes) before after w left d′ new
-page_done l w first d bytes rest body new h before after left d′ e s b n t =
-    let P : List ℕ → Type 0 = λ xs. Takes (page_taken l w first d h xs []) before after w left d′ in
-    rw (whole_page l w first d bytes rest h e s) (takes_moved (drop h.compressed_size rest) new (page_taken l w first d h (take h.compressed_size rest) []) before after w left d′ (sym n) (subst P b t))
-
 -- what lies ahead is the front of what is left
 ahead_of : (n : ℕ) (pending more : List ℕ) → n ≤ length pending → (take n pending ≡ take n (pending ++ more)) × (n ≤ length (pending ++ more))
 ahead_of n pending more h = (sym (take-append-le n pending more h), omega (arith, length-append pending more))
@@ -133,13 +121,12 @@ bad_page_ahead x l w first d bytes rest pending more body size h f e r s q b i =
     let P : ChunkFault → Type 0 = λ y. IsChunkFault y (page_taken l w first d h body []) in
     bad_body_no_page l w first d bytes rest body h e a.1 a.0 (subst P f i)
 
--- a page that lies ahead and was taken
-pub page_ahead_done : (l : Leaf) (w : ℕ) (first : Bool) (d : List Value) (bytes rest pending more body new : List ℕ) (size : ℕ) (h : PageHeader) (before after : List Triplet) (left : ℕ) (d′ : List Value)
-    → page_header bytes ≡ got h rest → pending ++ more ≡ rest → size ≡ h.compressed_size → size ≤ length pending → body ≡ take size pending → new ≡ drop size (pending ++ more)
-    → Takes (page_taken l w first d h body []) before after w left d′ → TakesStep (page_step l w first d bytes) before after w left d′ new
-page_ahead_done l w first d bytes rest pending more body new size h before after left d′ e r s q b n t =
+-- a page that lies ahead and is there
+pub page_ahead : (l : Leaf) (w : ℕ) (first : Bool) (d : List Value) (bytes rest pending more body new : List ℕ) (size : ℕ) (h : PageHeader) → page_header bytes ≡ got h rest → pending ++ more ≡ rest
+    → size ≡ h.compressed_size → size ≤ length pending → body ≡ take size pending → new ≡ drop size (pending ++ more) → page_step l w first d bytes ≡ moved new (page_taken l w first d h body [])
+page_ahead l w first d bytes rest pending more body new size h e r s q b n =
     let a = body_ahead h.compressed_size size pending more rest body r s q b in
-    page_done l w first d bytes rest body new h before after left d′ e a.1 a.0 (n ∙ ap₂ drop s r) t
+    whole_page l w first d bytes rest h e a.1 ∙ ap₂ (λ xs ys. moved xs (page_taken l w first d h ys [])) (sym (n ∙ ap₂ drop s r)) (sym a.0)
 
 -- no more bytes are left than are counted
 pub rest_within : (pending bytes : List ℕ) (m at : ℕ) → length (pending ++ take m (drop at bytes)) ≤ length pending + m

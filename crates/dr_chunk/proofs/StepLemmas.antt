@@ -1,15 +1,13 @@
 -- A chunk's pages are its next page and those behind it.
-use Rattle.std.proofs.Common.{◌≡◌, ℕ, suc, ◌-◌, List, ◌++◌, length, Bool, false, refl, sym, ap, ◌∙◌, append_assoc}
-use Rattle.std.specs.Prelude.{None}
+use Rattle.std.proofs.Common.{◌≡◌, ℕ, suc, ◌-◌, List, ◌++◌, length, Bool, false, refl, sym}
 use Rattle.dr_meaning.specs.Record.{Value}
 use Rattle.dr_meaning.specs.Path.{Leaf}
 use Rattle.dr_meaning.specs.Column.{Triplet}
 use Rattle.dr_formats.specs.Reading.{Reading, got, refused, Reader, give, goes_on, ◌>>=◌, bytes_of}
 use Rattle.dr_formats.specs.Metadata.{PageHeader}
-use Rattle.dr_formats.specs.Page.{PageFault, bad_page, triplets_read}
+use Rattle.dr_formats.specs.Page.{PageFault, bad_page}
 use Rattle.dr_formats.specs.Chunk.{PageTaken, page_header, page_taken, pages}
-use Rattle.dr_chunk.specs.Headers.{IsRefused}
-use Rattle.dr_chunk.specs.Steps.{page_step, behind}
+use Rattle.dr_chunk.specs.Steps.{page_step}
 
 -- two steps behind one
 goes_on_assoc : {E A B C : Type 0} (r : Reading E A) (f : A → Reader E B) (g : B → Reader E C) → goes_on (goes_on r f) g ≡ goes_on r (λ a. f a >>= g)
@@ -31,27 +29,3 @@ headed l k n first d (refused e rest) = refl
 -- the pages of which some triplets are wanted: the next, and those behind it
 pub next_and_rest : (l : Leaf) (k n : ℕ) (first : Bool) (d : List Value) (bytes : List ℕ) → pages l (suc k) (suc n) first d bytes ≡ goes_on (page_step l (suc n) first d bytes) (pages_behind l k n)
 next_and_rest l k n first d bytes = headed l k n first d (page_header bytes)
-
--- where no next page is, there are no triplets
-pub no_next : (l : Leaf) (k n : ℕ) (first : Bool) (d : List Value) (bytes : List ℕ) → IsRefused (page_step l (suc n) first d bytes) → IsRefused (pages l (suc k) (suc n) first d bytes)
-no_next l k n first d bytes h = rw (next_and_rest l k n first d bytes) (refused_on (page_step l (suc n) first d bytes) h)
-  where
-    refused_on : (r : Reading PageFault PageTaken) → IsRefused r → IsRefused (goes_on r (pages_behind l k n))
-    refused_on (got t rest) i = elim i [ ]
-    refused_on (refused e rest) i = tt
-
--- triplets before triplets before what is read
-behind_behind : (ts us : List Triplet) (r : Reading PageFault (List Triplet)) → behind ts (behind us r) ≡ behind (ts ++ us) r
-behind_behind ts us (got vs rest) = ap (λ xs. got xs rest) (sym (append_assoc ts us vs))
-behind_behind ts us (refused e rest) = refl
-
--- the triplets so far with the next page's
-pub one_more_page : (l : Leaf) (k n : ℕ) (first : Bool) (d : List Value) (bytes rest : List ℕ) (t : PageTaken) (ts : List Triplet) → page_step l (suc n) first d bytes ≡ got t rest
-    → behind ts (pages l (suc k) (suc n) first d bytes) ≡ behind (ts ++ t.triplets) (pages l k (suc n - length t.triplets) false t.dictionary rest)
-one_more_page l k n first d bytes rest t ts e =
-    ap (behind ts) (next_and_rest l k n first d bytes ∙ ap (λ r. goes_on r (pages_behind l k n)) e)
-    ∙ behind_behind ts t.triplets (pages l k (suc n - length t.triplets) false t.dictionary rest)
-
-pub behind_refused : (ts : List Triplet) (r : Reading PageFault (List Triplet)) → IsRefused r → triplets_read (behind ts r) ≡ None
-behind_refused ts (got us rest) h = elim h [ ]
-behind_refused ts (refused e rest) h = refl

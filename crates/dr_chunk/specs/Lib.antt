@@ -12,5 +12,7 @@ pub mod Faults
 pub mod Takers
 -- shapes of data pages
 pub mod Shapes
--- a chunk's pages, taken
-pub mod Pages
+-- a page that is read a piece at a time
+pub mod Underway
+-- and a chunk
+pub mod Taking

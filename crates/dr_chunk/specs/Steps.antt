@@ -1,9 +1,8 @@
 -- A chunk's pages, one at a time.
-use Rattle.std.specs.Prelude.{ℕ, List, ◌++◌, Bool}
+use Rattle.std.specs.Prelude.{ℕ, List, Bool}
 use Rattle.dr_meaning.specs.Record.{Value}
 use Rattle.dr_meaning.specs.Path.{Leaf}
-use Rattle.dr_meaning.specs.Column.{Triplet}
-use Rattle.dr_formats.specs.Reading.{Reading, Reader, give, goes_on, ◌>>=◌, bytes_of}
+use Rattle.dr_formats.specs.Reading.{Reading, Reader, ◌>>=◌, bytes_of}
 use Rattle.dr_formats.specs.Page.{PageFault, bad_page}
 use Rattle.dr_formats.specs.Chunk.{PageTaken, page_header, page_taken}
 
@@ -13,7 +12,3 @@ page_step l wanted first dictionary = do
   h ← page_header
   body ← bytes_of bad_page h.compressed_size
   page_taken l wanted first dictionary h body
-
--- these triplets before what is read
-abbrev pub behind : List Triplet → Reading PageFault (List Triplet) → Reading PageFault (List Triplet)
-behind ts r = goes_on r (λ more. give (ts ++ more))

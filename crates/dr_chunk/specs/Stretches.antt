@@ -3,10 +3,6 @@ use Rattle.std.specs.Prelude.{ℕ, ◌+◌, ◌-◌, List, ◌++◌, length, tak
 use Rattle.dr_chunk.specs.declared.byte_range.ByteRange.{ByteRange}
 use Rattle.dr_chunk.specs.declared.stretch.Stretch.{Stretch}
 
--- the path of the file
-abbrev pub path_of : Stretch → List ℕ
-path_of s = s.path.now
-
 -- the range of the file
 abbrev pub range_of : Stretch → ByteRange
 range_of s = s.range

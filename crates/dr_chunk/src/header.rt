@@ -5,7 +5,7 @@ ghost use Rattle.dr_formats.specs.Reading.{got};
 ghost use Rattle.dr_formats.specs.Chunk.{page_header};
 ghost use Rattle.dr_meta.specs.Views.{page_view};
 ghost use Rattle.dr_chunk.specs.Headers.{IsRefused, IsHeaderFault};
-ghost use Rattle.dr_chunk.specs.Stretches.{rest_in, path_of, range_of};
+ghost use Rattle.dr_chunk.specs.Stretches.{rest_in, range_of};
 ghost use Rattle.dr_outside.specs.Telling.{Tells, AsksOnly};
 ghost use Rattle.dr_outside.specs.Leaving.{LeavesLink, ServesUntil};
 ghost use Rattle.dr_chunk.specs.Ranges.{is_read_inside, inside};
@@ -97,24 +97,24 @@ fn header_ahead(
 /// Errors: what is left begins with no page header; the link failed; want of memory.
 pub(crate) fn next_header<L: Link>(
     alloc: Global,
-    stretch: &mut Stretch<'_>,
+    stretch: &mut Stretch,
     link: &mut L,
+    path: &str,
 ) -> Result<PageHead, ChunkFault>
-    ensures header { (bytes : List ℕ) → Tells (L.shows link.old) (path_of stretch.old) bytes
+    ensures header { (bytes : List ℕ) → Tells (L.shows link.old) path.now bytes
         → IfOk result (λ h. page_header (rest_in bytes stretch.old) ≡ got (page_view h) (rest_in bytes stretch.new)) }
-    ensures bad { (bytes : List ℕ) → Tells (L.shows link.old) (path_of stretch.old) bytes → result
+    ensures bad { (bytes : List ℕ) → Tells (L.shows link.old) path.now bytes → result
         ≡ Err ChunkFault.BadData → IsRefused (page_header (rest_in bytes stretch.old)) }
-    ensures path { path_of stretch.new ≡ path_of stretch.old }
     ensures range { range_of stretch.new ≡ range_of stretch.old }
-    ensures link { LeavesLink result ChunkFault.Failed (ServesUntil (L.shows link.old) (path_of stretch.old)
+    ensures link { LeavesLink result ChunkFault.Failed (ServesUntil (L.shows link.old) path.now
         ((range_of stretch.old).start + (range_of stretch.old).size)) (L.shows link.old) (L.shows link.new) }
-    ensures asked { AsksOnly (is_read_inside (path_of stretch.old) (inside (range_of stretch.old) ∷ []))
+    ensures asked { AsksOnly (is_read_inside path.now (inside (range_of stretch.old) ∷ []))
         (L.shows link.old).asked (L.shows link.new).asked }
 {
     let left = stretch.left();
     let mut ahead = left.min(HEADER_AHEAD);
     'tries: loop {
-        stretch.look_ahead(link, ahead as usize)?;
+        stretch.look_ahead(link, path, ahead as usize)?;
         match header_ahead(alloc, stretch.pending(), ahead == left)? {
             Some((head, size)) => {
                 stretch.take(size);

@@ -2,9 +2,8 @@
 //! link.
 #![tactic(auto)]
 
-mod buffers;
 mod byte_range;
-mod chunk;
+mod chunk_reader;
 mod fault;
 mod header;
 mod leaf_shape;
@@ -12,8 +11,7 @@ mod page_shape;
 mod page_taker;
 mod stretch;
 
-pub use buffers::ChunkBuffers;
 pub use byte_range::ByteRange;
-pub use chunk::read_chunk;
+pub use chunk_reader::ChunkReader;
 pub use fault::ChunkFault;
 pub use leaf_shape::LeafShape;

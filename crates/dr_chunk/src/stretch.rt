@@ -7,12 +7,12 @@ ghost use Rattle.dr_chunk.specs.Ranges.{is_read_inside, inside};
 
 use crate::byte_range::ByteRange;
 use dr_outside::{Fault, Link};
+use std::alloc::Global;
 
-/// The bytes of a range of the file at a path, in order. Those read ahead, from `from` on in the buffer, are still to
-/// be taken; those from `at` on are still to be read.
-#[derive(Drop)]
-pub(crate) struct Stretch<'p> {
-    path: &'p str,
+/// The bytes of a range of a file, in order. Those read ahead, from `from` on in the buffer, are still to be taken;
+/// those from `at` on are still to be read.
+#[derive(Debug, Drop)]
+pub(crate) struct Stretch {
     range: ByteRange,
     at: u64,
     buffer: Vec<u8>,
@@ -23,29 +23,29 @@ pub(crate) struct Stretch<'p> {
     ghost once: { length buffer.items ≤ from + (at - range.start) },
 }
 
-impl<'p> Stretch<'p> {
-    ghost use Rattle.dr_chunk.specs.Stretches.{pending, left_count, rest_in, path_of, range_of};
+impl Stretch {
+    ghost use Rattle.dr_chunk.specs.Stretches.{pending, left_count, rest_in, range_of};
 
-    /// All bytes of a range, read ahead into a buffer that may hold anything.
-    pub(crate) fn new(mut buffer: Vec<u8>, path: &'p str, range: ByteRange) -> Stretch<'p>
-        ensures rest { (bytes : List ℕ) → rest_in bytes result ≡ take range.size (drop range.start bytes) }
-        ensures left { left_count result ≡ range.size }
-        ensures path { path_of result ≡ path.now }
-        ensures range { range_of result ≡ range }
-    {
-        buffer.clear();
+    /// No bytes. Takes no memory.
+    pub(crate) fn new(alloc: Global) -> Stretch {
         Stretch {
-            path,
-            range,
-            at: range.start,
-            buffer,
+            range: ByteRange { start: 0, size: 0 },
+            at: 0,
+            buffer: Vec::new(alloc),
             from: 0,
         }
     }
 
-    /// The buffer, to be used again.
-    pub(crate) fn into_buffer(self) -> Vec<u8> {
-        self.buffer
+    /// Goes over to all bytes of a range; what was read ahead is dropped.
+    pub(crate) fn restart(&mut self, range: ByteRange)
+        ensures rest { (bytes : List ℕ) → rest_in bytes self.new ≡ take range.size (drop range.start bytes) }
+        ensures left { left_count self.new ≡ range.size }
+        ensures range { range_of self.new ≡ range }
+    {
+        self.buffer.clear();
+        self.from = 0;
+        self.range = range;
+        self.at = range.start;
     }
 
     /// The bytes read ahead.
@@ -67,7 +67,6 @@ impl<'p> Stretch<'p> {
         requires { count ≤ length (pending self.old) }
         ensures rest { (bytes : List ℕ) → rest_in bytes self.new ≡ drop count (rest_in bytes self.old) }
         ensures left { left_count self.new + count ≡ left_count self.old }
-        ensures path { path_of self.new ≡ path_of self.old }
         ensures range { range_of self.new ≡ range_of self.old }
     {
         self.from += count;
@@ -76,17 +75,21 @@ impl<'p> Stretch<'p> {
     /// Sees that so many bytes are read ahead; false where fewer are left.
     ///
     /// Errors: the link failed; want of memory.
-    pub(crate) fn look_ahead<L: Link>(&mut self, link: &mut L, count: usize) -> Result<bool, Fault>
-        ensures rest { (bytes : List ℕ) → Tells (L.shows link.old) (path_of self.old) bytes
+    pub(crate) fn look_ahead<L: Link>(
+        &mut self,
+        link: &mut L,
+        path: &str,
+        count: usize,
+    ) -> Result<bool, Fault>
+        ensures rest { (bytes : List ℕ) → Tells (L.shows link.old) path.now bytes
             → OnOk result (rest_in bytes self.new ≡ rest_in bytes self.old) }
         ensures enough { IfOk result (λ some. some ≡ true → count ≤ length (pending self.new)) }
         ensures short { IfOk result (λ some. some ≡ false → left_count self.old < count) }
         ensures left { OnOk result (left_count self.new ≡ left_count self.old) }
-        ensures path { path_of self.new ≡ path_of self.old }
         ensures range { range_of self.new ≡ range_of self.old }
-        ensures link { LeavesLink result Fault.Failed (ServesUntil (L.shows link.old) (path_of self.old)
+        ensures link { LeavesLink result Fault.Failed (ServesUntil (L.shows link.old) path.now
             ((range_of self.old).start + (range_of self.old).size)) (L.shows link.old) (L.shows link.new) }
-        ensures asked { AsksOnly (is_read_inside (path_of self.old) (inside (range_of self.old) ∷ []))
+        ensures asked { AsksOnly (is_read_inside path.now (inside (range_of self.old) ∷ []))
             (L.shows link.old).asked (L.shows link.new).asked }
     {
         let have = self.buffer.len() - self.from;
@@ -98,7 +101,7 @@ impl<'p> Stretch<'p> {
             return Ok(false);
         }
         self.drop_taken();
-        self.read_more(link, missing)?;
+        self.read_more(link, path, missing)?;
         Ok(true)
     }
 
@@ -108,7 +111,6 @@ impl<'p> Stretch<'p> {
         ensures rest { (bytes : List ℕ) → rest_in bytes self.new ≡ rest_in bytes self.old }
         ensures left { left_count self.new ≡ left_count self.old }
         ensures at { self.new.at ≡ self.old.at }
-        ensures path { path_of self.new ≡ path_of self.old }
         ensures range { range_of self.new ≡ range_of self.old }
     {
         let have = self.buffer.len() - self.from;
@@ -120,17 +122,16 @@ impl<'p> Stretch<'p> {
     /// Reads so many bytes more.
     ///
     /// Errors: the link failed; want of memory.
-    fn read_more<L: Link>(&mut self, link: &mut L, count: usize) -> Result<(), Fault>
+    fn read_more<L: Link>(&mut self, link: &mut L, path: &str, count: usize) -> Result<(), Fault>
         requires { self.old.at + count ≤ self.old.range.start + self.old.range.size }
-        ensures rest { (bytes : List ℕ) → Tells (L.shows link.old) (path_of self.old) bytes
+        ensures rest { (bytes : List ℕ) → Tells (L.shows link.old) path.now bytes
             → OnOk result (rest_in bytes self.new ≡ rest_in bytes self.old) }
         ensures ahead { OnOk result (length (pending self.new) ≡ length (pending self.old) + count) }
         ensures left { OnOk result (left_count self.new ≡ left_count self.old) }
-        ensures path { path_of self.new ≡ path_of self.old }
         ensures range { range_of self.new ≡ range_of self.old }
-        ensures link { LeavesLink result Fault.Failed (ServesUntil (L.shows link.old) (path_of self.old)
+        ensures link { LeavesLink result Fault.Failed (ServesUntil (L.shows link.old) path.now
             ((range_of self.old).start + (range_of self.old).size)) (L.shows link.old) (L.shows link.new) }
-        ensures asked { AsksOnly (is_read_inside (path_of self.old) (inside (range_of self.old) ∷ []))
+        ensures asked { AsksOnly (is_read_inside path.now (inside (range_of self.old) ∷ []))
             (L.shows link.old).asked (L.shows link.new).asked }
     {
         let have = self.buffer.len();
@@ -138,7 +139,6 @@ impl<'p> Stretch<'p> {
             return Err(Fault::NoMemory);
         };
         self.buffer.resize(length, 0)?;
-        let path = self.path;
         if let Err(fault) = link.read_at(path, self.at, &mut self.buffer[have..]) {
             self.buffer.truncate(have);
             return Err(fault);

@@ -518,20 +518,22 @@ ranges_of_source f l (Some own_chunks) cs h = ranges_shown f l f.meta.groups cs 
 ranges_of_source f l (Some no_chunks) cs h = ap (flat_map (shown_range f.place)) h
 ranges_of_source f l (Some (chunks_of x)) cs h = ranges_shown f x.leaf f.meta.groups cs h ∙ sym (append-nil (leaf_ranges f x.leaf))
 
-ranges_kept : (bytes : List ℕ) (o : Opened) (field : OpenedField) (l : Leaf) (f : Footer) → Kept bytes o field l → footer_of bytes ≡ Some f
+pub ranges_kept : (bytes : List ℕ) (o : Opened) (field : OpenedField) (l : Leaf) (f : Footer) → Kept bytes o field l → footer_of bytes ≡ Some f
     → flat_map (shown_range o.footer) (shown_chunks_of field.read) ≡ flat_map (leaf_ranges f) (leaves_read f (l ∷ []))
 ranges_kept bytes o field l f k e =
     ap (λ p. flat_map (shown_range p) (shown_chunks_of field.read)) k.place
     ∙ (ranges_of_source k.f l (leaf_source k.f l) (shown_chunks_of field.read) k.chunks
     ∙ (ap (flat_map (leaf_ranges k.f)) (sym (append-nil (leaf_read l (leaf_source k.f l)))) ∙ ap (λ x. flat_map (leaf_ranges x) (leaves_read x (l ∷ []))) (some_footer k.f f (sym k.is ∙ e))))
 
--- only these chunks were asked for
-pub asks_kept : (bytes : List ℕ) (o : Opened) (field : OpenedField) (l : Leaf) (f : Footer) (path file : List ℕ) (before after : Option (List Request)) → Kept bytes o field l → footer_of bytes ≡ Some f → file ≡ path
-    → AsksOnly (is_read_inside file (flat_map (shown_range o.footer) (shown_chunks_of field.read))) before after → AsksOnly (is_read_inside path (flat_map (leaf_ranges f) (leaves_read f (l ∷ [])))) before after
-asks_kept bytes o field l f path file before after k e q h =
-    let P : List ℕ → Type 0 = λ x. AsksOnly (is_read_inside x (flat_map (shown_range o.footer) (shown_chunks_of field.read))) before after in
-    let Q : List Range → Type 0 = λ x. AsksOnly (is_read_inside path x) before after in
-    subst Q (ranges_kept bytes o field l f k e) (subst P q h)
+-- a leaf that the records lack has no chunks
+nowhere_by : (f : Footer) (l : Leaf) (o : Option Source) (cs : List ShownChunk) → ChunksShown f l o cs → (shown_from f l o).telling ≡ nulls → cs ≡ []
+nowhere_by f l None cs h e = h
+nowhere_by f l (Some own_chunks) cs h e = absurd (cc)
+nowhere_by f l (Some no_chunks) cs h e = h
+nowhere_by f l (Some (chunks_of x)) cs h e = absurd (cc)
+
+pub nowhere_kept : (bytes : List ℕ) (o : Opened) (field : OpenedField) (l : Leaf) → Kept bytes o field l → telling_view field.telling ≡ nulls → shown_chunks_of field.read ≡ []
+nowhere_kept bytes o field l k e = nowhere_by k.f l (leaf_source k.f l) (shown_chunks_of field.read) k.chunks (sym k.telling ∙ e)
 
 -- ---- faults as they are told
 

@@ -9,7 +9,8 @@ use Rattle.dr_outside.specs.declared.cause.Cause.{Cause}
 use Rattle.dr_file.specs.declared.opened.Opened.{Opened}
 use Rattle.dr_file.specs.declared.fault.OpenFault.{OpenFault}
 use Rattle.dr_file.specs.declared.file_fault.FileFault.{FileFault}
-use Rattle.dr_file.specs.OpenedFiles.{IsOpened, HasCounts, is_link_fault, path_of, told_fault}
+use Rattle.dr_formats.specs.File.{FileCause}
+use Rattle.dr_file.specs.OpenedFiles.{IsOpened, IsColumnFault, HasCounts, is_link_fault, path_of, told_fault}
 use Rattle.dr_file.specs.Leaving.{LeavesLinkCounted, ServesOpened}
 use Rattle.dr_file.proofs.StartLemmas.{counts_told, failed_alone, not_failed}
 
@@ -81,3 +82,19 @@ pub serves_opened : (o : Opened) (before after : LinkShown) (path : List ℕ) (F
 serves_opened o before after path F bytes at same stays is s =
     let now = subst (λ (h : Option Files). TellsFile h path bytes) (sym same) s.1 in
     (F, is, (stays s.0, subst (λ (p : List ℕ). TellsFile after.held p bytes) (sym at) now))
+
+-- calls that leave the link as it is, and one that refuses behind them
+pub stream_leaves : {A B : Type 0} (o o′ : Opened) (e : FileFault) (before between after : LinkShown) → o′ ≡ o → between.held ≡ before.held → between.faults ≡ before.faults → (IsTrue before.is_steady → IsTrue between.is_steady)
+    → LeavesLinkCounted {T = A} (Err e) (ServesOpened between o′) between after → LeavesLinkCounted {T = B} (Err e) (ServesOpened before o) before after
+stream_leaves o o′ e before between after same held calm steady link = record {
+  same = link.same ∙ held;
+  counts = subst (λ (n : ℕ). HasCounts n after.faults e) calm link.counts;
+  calm = λ h. link.calm h ∙ calm;
+  steady = λ bytes s. link.steady bytes (subst (λ (x : Opened). ServesOpened between x bytes) (sym same) (serves_opened o before between (path_of o) s.0 bytes refl held steady s.1 s.2));
+  stays_steady = λ s. link.stays_steady (steady s);
+}
+
+-- the cause of a fault that is handed on
+pub fault_handed : {B : Type 0} (r : Result B FileFault) (e : FileFault) (cause : Option FileCause) → IsErrAnd r (λ x. x ≡ e) → IsColumnFault e cause → IfErr r (λ x. IsColumnFault x cause)
+fault_handed (Ok b) e cause is h = tt
+fault_handed (Err x) e cause is h = subst (λ y. IsColumnFault y cause) (sym is) h

@@ -18,4 +18,9 @@ mod FloorLemmas
 mod OutlineLemmas
 -- columns of leaves, chunk by chunk
 mod ColumnLemmas
-mod ReaderLemmas
+-- rows of triplets that come a piece at a time
+mod RowOrderLemmas
+-- columns of leaves, a batch at a time
+mod LeafStreamLemmas
+mod LeafPlaceLemmas
+mod StreamLemmas

@@ -1,7 +1,8 @@
 -- The column of what is lacking is one of its leaf: a NULL for each row, or the outline of a stand-in's column.
-use Rattle.std.proofs.Common.{◌≡◌, ℕ, zero, suc, ◌+◌, ◌≤◌, ◌<◌, List, [], ◌∷◌, ◌++◌, length, map, take, Bool, true, false, refl, sym, ap, ap₂, ◌∙◌, arith}
+use Rattle.std.proofs.Common.{◌≡◌, ℕ, zero, suc, ◌+◌, ◌≤◌, ◌<◌, List, [], ◌∷◌, ◌++◌, length, map, take, get_or, append_assoc, Bool, true, false, refl, sym, ap, ap₂, ◌∙◌, arith}
 use Rattle.std.specs.Prelude.{None, nat_le, ◌==◌, if◌then◌else◌, min, replicate}
 use Rattle.std.specs.List.{list_all}
+use Rattle.std.proofs.lemmas.List.{take_more}
 use Rattle.std.proofs.lemmas.Bool.{and_parts, and_from, le-leb, leb-true, leb-false, eqb-true, eq-eqb}
 use Rattle.dr_meaning.specs.Schema.{Repetition, required, optional, repeated, Kind, repetition_count, definition_count}
 use Rattle.dr_meaning.specs.Path.{Step, Leaf, max_repetition, max_definition}
@@ -178,6 +179,30 @@ outline_by_levels r d (l ∷ ls) (t ∷ ts) e =
     let p = first_pair (levels_pair l) (triplet_levels t) (map levels_pair ls) (map triplet_levels ts) e in
     ap (λ (us : List Triplet). if nat_le l.repetition r then triplet l.repetition (min l.definition d) None ∷ us else us) (outline_by_levels r d ls ts p.2)
     ∙ ap₂ (λ (a b : ℕ). if nat_le a r then triplet a (min b d) None ∷ outline r d ts else outline r d ts) p.0 p.1
+
+-- of triplets behind others
+pub outline_append : (r d : ℕ) (ts us : List Triplet) → outline r d (ts ++ us) ≡ outline r d ts ++ outline r d us
+outline_append r d [] us = refl
+outline_append r d (t ∷ ts) us = by (nat_le t.repetition r) (outline_append r d ts us)
+  where
+    by : (b : Bool) → outline r d (ts ++ us) ≡ outline r d ts ++ outline r d us
+        → (if b then triplet t.repetition (min t.definition d) None ∷ outline r d (ts ++ us) else outline r d (ts ++ us))
+        ≡ (if b then triplet t.repetition (min t.definition d) None ∷ outline r d ts else outline r d ts) ++ outline r d us
+    by true e = ap (λ xs. triplet t.repetition (min t.definition d) None ∷ xs) e
+    by false e = e
+
+bare_append : (ls ms : List Levels) → map bare (ls ++ ms) ≡ map bare ls ++ map bare ms
+bare_append [] ms = refl
+bare_append (l ∷ ls) ms = ap (λ ts. bare l ∷ ts) (bare_append ls ms)
+
+-- that of the next levels joins those before
+pub outline_more : (r d : ℕ) (ls : List Levels) (i : ℕ) (other : Levels) (old before after : List Triplet) → i < length ls → before ≡ old ++ outline r d (map bare (take i ls))
+    → after ≡ before ++ outline r d (bare (get_or ls i other) ∷ []) → after ≡ old ++ outline r d (map bare (take (i + 1) ls))
+outline_more r d ls i other old before after w e f =
+    let x : Levels = get_or ls i other in
+    let m : map bare (take (i + 1) ls) ≡ map bare (take i ls) ++ (bare x ∷ []) = ap (map bare) (take_more ls i other w) ∙ bare_append (take i ls) (x ∷ []) in
+    let o : outline r d (map bare (take (i + 1) ls)) ≡ outline r d (map bare (take i ls)) ++ outline r d (bare x ∷ []) = ap (outline r d) m ∙ outline_append r d (map bare (take i ls)) (bare x ∷ []) in
+    f ∙ (ap (λ ts. ts ++ outline r d (bare x ∷ [])) e ∙ (append_assoc old (outline r d (map bare (take i ls))) (outline r d (bare x ∷ [])) ∙ ap (λ ts. old ++ ts) (sym o)))
 
 -- ---- columns
 

@@ -25,3 +25,7 @@ AreFloorsOf p f = (f.levels.items ≡ floors_of 0 p) × (f.greatest ≡ max_defi
 -- a triplet of these levels without its value
 abbrev pub bare : Levels → Triplet
 bare l = triplet l.repetition l.definition None
+
+-- a triplet without its value
+abbrev pub strip : Triplet → Triplet
+strip t = triplet t.repetition t.definition None

@@ -1,18 +1,17 @@
 -- The column of a leaf, chunk by chunk.
-use Rattle.std.specs.Prelude.{◌≡◌, ℕ, ◌+◌, List, [], ◌∷◌, map, take, drop, Bool, ◌&&◌, nat_le, if◌then◌else◌, Option, Some, None}
-use Rattle.std.specs.List.{flat_map}
+use Rattle.std.specs.Prelude.{◌≡◌, ℕ, ◌+◌, ◌-◌, ◌<◌, List, [], ◌∷◌, map, take, drop, Bool, true, ◌&&◌, nat_le, if◌then◌else◌, Option, Some, None, option_map}
+use Rattle.std.specs.List.{flat_map, slice_get}
 use Rattle.dr_meaning.specs.Path.{Leaf}
 use Rattle.dr_meaning.specs.Column.{Triplet}
 use Rattle.dr_formats.specs.Chunk.{pages_triplets}
 use Rattle.dr_formats.specs.Opening.{Range, range, has_column}
-use Rattle.dr_chunk.specs.Takers.{leaf_form, IsLeafOf}
-use Rattle.dr_levels.specs.Views.{LeafForm}
+use Rattle.dr_chunk.specs.Ranges.{inside}
+use Rattle.dr_chunk.specs.declared.byte_range.ByteRange.{ByteRange}
 use Rattle.dr_nested.specs.Views.{kind_view}
 use Rattle.dr_nested.specs.PathView.{step_view}
-use Rattle.dr_file.specs.Openings.{ShownChunk}
+use Rattle.dr_file.specs.Openings.{ShownChunk, chunk_place_view}
+use Rattle.dr_file.specs.declared.chunk_place.ChunkPlace.{ChunkPlace}
 use Rattle.dr_file.specs.declared.opened_leaf.OpenedLeaf.{OpenedLeaf}
-use Rattle.dr_file.specs.Floors.{AreFloorsOf}
-use Rattle.dr_file.specs.declared.leaf_reader.LeafReader.{LeafReader}
 
 -- whether a chunk lies between the magic and the footer
 abbrev pub lies_before : ℕ → ShownChunk → Bool
@@ -39,22 +38,12 @@ chunks_triplets bytes footer l cs = flat_map (λ c. triplets_given (shown_triple
 abbrev pub shown_range : ℕ → ShownChunk → List Range
 shown_range footer c = if lies_before footer c then range c.start c.size ∷ [] else []
 
--- where the file is that a leaf is read from
-abbrev pub file_of : LeafReader → List ℕ
-file_of r = r.path.now
-
--- the place of its footer
-abbrev pub footer_of_file : LeafReader → ℕ
-footer_of_file r = r.footer
-
--- what is read is this leaf
-abbrev pub IsReaderOf : Leaf → LeafReader → Type 0
-IsReaderOf l r = IsLeafOf l r.shape × AreFloorsOf l.path r.floors
-
--- the form of the leaf's columns
-abbrev pub reader_form : LeafReader → LeafForm
-reader_form r = leaf_form r.shape
-
 -- an opened leaf has the path and the kind of this leaf
 abbrev pub IsShownLeaf : Leaf → OpenedLeaf → Type 0
 IsShownLeaf l o = (l.path ≡ map step_view o.steps.items) × (l.kind ≡ kind_view o.kind)
+
+-- the chunk before this index lies before the footer, and has this range
+abbrev pub HasChunk : ℕ → List ChunkPlace → ℕ → ByteRange → Type 0
+HasChunk footer cs next r =
+    (0 < next) × (option_map (λ (c : ChunkPlace). lies_before footer (chunk_place_view c)) (slice_get cs (next - 1)) ≡ Some true)
+    × (option_map (λ (c : ChunkPlace). range c.start c.size) (slice_get cs (next - 1)) ≡ Some (inside r))

@@ -19,7 +19,12 @@ pub mod Leaving
 pub mod Faults
 -- which levels may follow one another
 pub mod Floors
--- columns of leaves, chunk by chunk
+-- rows of triplets that come a piece at a time
+pub mod RowOrders
+-- columns of leaves, chunk by chunk, and a batch at a time
 pub mod LeafColumns
+pub mod LeafStreams
 -- schemas of files
 pub mod Schemas
+-- columns of leaves, a batch at a time
+pub mod Streams

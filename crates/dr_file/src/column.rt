@@ -1,29 +1,14 @@
 //! The columns of an opened file.
 
-ghost use Rattle.std.specs.Prelude.{◌≡◌};
-ghost use Rattle.dr_file.specs.OpenedFiles.{told_chunk_fault};
-
 use crate::file_fault::FileFault;
-use crate::leaf_reader::read_leaf;
 use crate::opened::Opened;
-use dr_chunk::ChunkFault;
+use crate::stream::Stream;
 use dr_levels::Column;
-use dr_outside::{Cause, Link};
+use dr_outside::Link;
 use std::alloc::Global;
 
-/// A fault of a leaf's chunks as that of a file, where the link's count of faults was so great before and after.
-fn file_fault(fault: ChunkFault, before: u64, after: u64) -> FileFault
-    ensures { result ≡ told_chunk_fault fault before after }
-{
-    match fault {
-        ChunkFault::NoMemory => FileFault::NoMemory,
-        ChunkFault::Failed => FileFault::Why(Cause::ReadFailed { before, after }),
-        ChunkFault::BadData => FileFault::Why(Cause::BadData),
-    }
-}
-
 impl Opened {
-    ghost use Rattle.std.specs.Prelude.{◌≤◌, ◌<◌, ℕ, List, [], ◌∷◌, length, Some, IfOk, IfErr};
+    ghost use Rattle.std.specs.Prelude.{◌≡◌, ◌≤◌, ◌<◌, ℕ, List, [], ◌∷◌, length, Some, IfOk, IfErr};
     ghost use Rattle.std.specs.List.{slice_get, flat_map};
     ghost use Rattle.dr_meaning.specs.Path.{Leaf, max_definition};
     ghost use Rattle.dr_formats.specs.File.{Footer, footer_of, leaves_read, most_triplets};
@@ -64,11 +49,9 @@ impl Opened {
         ensures link { LeavesLinkCounted result (ServesOpened (L.shows link.old) self.now) (L.shows link.old)
             (L.shows link.new) }
     {
-        let before = link.faults();
-        let field = &self.leaves[index];
-        match read_leaf(alloc, link, &self.path, self.footer, &field.read) {
-            Ok(read) => Ok(field.tell(alloc, self.rows, read)?),
-            Err(fault) => Err(file_fault(fault, before, link.faults())),
-        }
+        let mut stream = Stream::start(alloc, self, index)?;
+        let mut column = stream.column(alloc);
+        'batches: while stream.next(alloc, link, &mut column)? {}
+        Ok(column)
     }
 }

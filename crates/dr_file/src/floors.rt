@@ -18,13 +18,11 @@ pub(crate) struct Floors {
 }
 
 impl Floors {
-    ghost use Rattle.std.specs.Prelude.{◌&&◌, ◌==◌, nat_le, List, None, true, false, map, IfOk, IfSome, IfNone};
-    ghost use Rattle.std.specs.List.{list_all};
+    ghost use Rattle.std.specs.Prelude.{List, map, IfOk};
     ghost use Rattle.dr_meaning.specs.Path.{Step as MeantStep, max_repetition, max_definition};
-    ghost use Rattle.dr_meaning.specs.OneColumn.{starts, is_in_order, all_follow, level_inside, may_follow};
-    ghost use Rattle.dr_meaning.specs.Column.{Triplet, triplet};
+    ghost use Rattle.dr_meaning.specs.OneColumn.{level_inside, may_follow};
     ghost use Rattle.dr_nested.specs.PathView.{step_view};
-    ghost use Rattle.dr_file.specs.Floors.{AreFloorsOf, bare};
+    ghost use Rattle.dr_file.specs.Floors.{AreFloorsOf};
 
     /// Those of a path of at most 32 steps.
     ///
@@ -75,7 +73,7 @@ impl Floors {
     }
 
     /// Whether these levels may follow those of a triplet of this definition level.
-    fn may_follow(&self, before: u8, levels: Levels) -> bool
+    pub(crate) fn may_follow(&self, before: u8, levels: Levels) -> bool
         ensures { (p : List MeantStep) → AreFloorsOf p self.now → result
             ≡ may_follow p before levels.definition levels.repetition }
     {
@@ -84,49 +82,5 @@ impl Floors {
         }
         let floor = self.floor(levels.repetition - 1);
         floor <= before && floor <= levels.definition
-    }
-
-    /// How many of these levels begin a record, where each may follow the one before it, and the first a triplet of
-    /// this definition level; none where one may not.
-    fn count_starts(&self, before: u8, levels: &[Levels]) -> Option<usize>
-        ensures some { (p : List MeantStep) → AreFloorsOf p self.now
-            → IfSome result (λ n. (all_follow p (triplet 0 before None) (map bare levels.now) ≡ true)
-            × (n ≡ starts (map bare levels.now))) }
-        ensures none { (p : List MeantStep) → AreFloorsOf p self.now
-            → IfNone result (all_follow p (triplet 0 before None) (map bare levels.now) ≡ false) }
-        ensures within { IfSome result (λ n. n ≤ length levels.now) }
-    {
-        let mut last = before;
-        let mut count = 0;
-        'levels: for next in levels {
-            if !self.may_follow(last, *next) {
-                return None;
-            }
-            count += usize::from(next.repetition == 0);
-            last = next.definition;
-        }
-        Some(count)
-    }
-
-    /// Whether triplets of these levels, none of them above the greatest, are whole records, so many of them, each
-    /// triplet where it may be.
-    pub(crate) fn are_rows(&self, levels: &[Levels], rows: u64) -> bool
-        ensures { (p : List MeantStep) → AreFloorsOf p self.now
-            → list_all (λ (t : Triplet). nat_le t.repetition (max_repetition p)) (map bare levels.now) ≡ true → result
-            ≡ (is_in_order p (map bare levels.now) && (starts (map bare levels.now) == rows)) }
-    {
-        if self.levels.is_empty() {
-            return levels.len() as u64 == rows;
-        }
-        let Some((first, rest)) = levels.split_first() else {
-            return rows == 0;
-        };
-        if first.repetition != 0 {
-            return false;
-        }
-        match self.count_starts(first.definition, rest) {
-            Some(count) => count as u64 + 1 == rows,
-            None => false,
-        }
     }
 }

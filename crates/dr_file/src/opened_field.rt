@@ -1,7 +1,7 @@
 //! A leaf that a file was opened for.
 
-ghost use Rattle.std.specs.Prelude.{◌≡◌, true};
-ghost use Rattle.dr_file.specs.Fields.{is_lower};
+ghost use Rattle.std.specs.Prelude.{◌≡◌, ◌≢◌, true};
+ghost use Rattle.dr_file.specs.Fields.{is_lower, telling_view, itself};
 
 use crate::opened_leaf::OpenedLeaf;
 use dr_levels::Levels;
@@ -29,4 +29,21 @@ pub(crate) struct OpenedField {
     pub(crate) read: OpenedLeaf,
     pub(crate) telling: Telling,
     pub ghost lower: { is_lower telling greatest ≡ true },
+}
+
+impl OpenedField {
+    /// The kind of the leaf's columns, and their greatest definition level where that of the leaf that is read is this
+    /// one.
+    pub(crate) fn form(&self, greatest: u8) -> (Kind, u8)
+        ensures own { telling_view (self.now).telling ≡ itself
+            → (result.0 ≡ (self.now).read.kind) × (result.1 ≡ greatest) }
+        ensures other { telling_view (self.now).telling ≢ itself
+            → (result.0 ≡ (self.now).kind) × (result.1 ≡ (self.now).greatest) }
+        ensures lower { is_lower (self.now).telling result.1 ≡ true }
+    {
+        match self.telling {
+            Telling::Itself => (self.read.kind, greatest),
+            Telling::Nulls | Telling::Outline(_) => (self.kind, self.greatest),
+        }
+    }
 }

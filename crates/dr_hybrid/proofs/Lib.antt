@@ -10,3 +10,5 @@ pub mod RunFacts
 pub mod PackLemmas
 -- whether values are of a width
 pub mod FittingLemmas
+-- hybrid data read a piece at a time
+pub mod ReaderLemmas

@@ -16,6 +16,10 @@ pub on_err : {T E : Type 0} (r : Result T E) (P : Type 0) → P → OnErr r P
 on_err (Ok x) P h = tt
 on_err (Err e) P h = h
 
+pub on_err_by : {T E : Type 0} (r : Result T E) (P Q : Type 0) → OnErr r P → (P → Q) → OnErr r Q
+on_err_by (Ok x) P Q h f = tt
+on_err_by (Err e) P Q h f = f h
+
 -- a run of a width is within any greater one of whole bytes
 pub is_within : (w b : ℕ) (r : Run) → w ≤ b → b % 8 ≡ 0 → IsOfWidth w r → IsWithin b r
 is_within w b (Run.Repeat v n) h m k =

@@ -1,10 +1,8 @@
 -- Runs, one after another.
-use Rattle.std.proofs.Common.{◌≡◌, ℕ, zero, suc, ◌+◌, ◌-◌, ◌*◌, ◌/◌, ◌%◌, ◌^◌, ◌≤◌, ◌<◌, List, [], ◌∷◌, ◌++◌, length, take, drop, Bool, true, false, refl, sym, ap, ap₂, ◌∙◌, arith, append_assoc, Option, Some, None, true≢false}
+use Rattle.std.proofs.Common.{◌≡◌, ℕ, zero, suc, ◌-◌, ◌*◌, ◌/◌, ◌%◌, ◌^◌, ◌≤◌, ◌<◌, List, [], ◌∷◌, ◌++◌, length, take, drop, Bool, true, false, refl, sym, ap, ◌∙◌, arith, Some, None, true≢false}
 use Rattle.std.specs.Prelude.{min, replicate, option_map, ◌==◌, nat_le, if◌then◌else◌}
 use Rattle.std.proofs.lemmas.Bool.{ne_eqb}
-use Rattle.std.proofs.lemmas.List.{length-append, length-drop, length-replicate, append-nil, take_all}
-use Rattle.std.proofs.lemmas.Slice.{take-put_mid}
-use borrow.Rule.Slice.PartMut.{put_mid}
+use Rattle.std.proofs.lemmas.List.{length-append, length-drop, length-replicate}
 use Rattle.dr_formats.specs.Reading.{Reading, got, refused, Reader, give, goes_on, ◌>>=◌, bytes_of}
 use Rattle.dr_formats.specs.Varint.{varint, is_chain}
 use Rattle.dr_formats.specs.LittleEndian.{little_endian, unpacked, bytes_for}
@@ -12,7 +10,6 @@ use Rattle.dr_formats.specs.Hybrid.{HybridFault, short, repeat_run, packed_run, 
 use Rattle.dr_formats.proofs.SoundLemmas.{sound_below}
 use Rattle.dr_formats.proofs.ReadingLemmas.{not_refused, same_got}
 use Rattle.dr_hybrid.specs.Views.{repeated, packed_ahead, run_ahead}
-use Rattle.dr_hybrid.proofs.UnpackLemmas.{length-put_mid}
 use Rattle.dr_bytes.proofs.BitLemmas.{length_unpacked}
 
 -- ---- the next run, by its header
@@ -37,7 +34,7 @@ chain_there : (h : List ℕ) → is_chain h ≡ true → 1 ≤ length h
 chain_there [] c = absurd (true≢false (sym c))
 chain_there (b ∷ h) c = omega arith
 
-header_shortens : (bs rest : List ℕ) (h : ℕ) → varint short short bs ≡ got h rest → length rest < length bs
+pub header_shortens : (bs rest : List ℕ) (h : ℕ) → varint short short bs ≡ got h rest → length rest < length bs
 header_shortens bs rest h e =
     let p = sound_below (2 ^ 64) short short bs h rest e in
     omega (arith, ap length p.1, length-append p.0 rest, chain_there p.0 p.2.0)
@@ -151,49 +148,3 @@ hybrid_short w (suc n) bs rest h e = short_by w n bs rest (length bs) e
 pub hybrid_none : (w : ℕ) (bs : List ℕ) → hybrid w 0 bs ≡ Some []
 unfolding hybrid
 hybrid_none w bs = refl
-
--- ---- the loop that decodes: so many values are there, and the others are in the bytes left
-pub record Decoded (w n : ℕ) (bs out : List ℕ) (done : ℕ) (left : List ℕ) : Type 0 where
-  pub size : length out ≡ n
-  pub within : done ≤ n
-  pub rest : hybrid w n bs ≡ option_map (λ more. take done out ++ more) (hybrid w (n - done) left)
-
-map_same : (o : Option (List ℕ)) → o ≡ option_map (λ more. [] ++ more) o
-map_same None = refl
-map_same (Some vs) = refl
-
-pub decoded_none : (w n : ℕ) (bs out : List ℕ) → length out ≡ n → Decoded w n bs out 0 bs
-decoded_none w n bs out l = record {
-  size = l;
-  within = omega arith;
-  rest = let e : n - 0 ≡ n = omega arith in rw e (map_same (hybrid w n bs));
-}
-
-map_map : (front vs : List ℕ) (o : Option (List ℕ)) → option_map (λ more. front ++ more) (option_map (λ more. vs ++ more) o) ≡ option_map (λ more. (front ++ vs) ++ more) o
-map_map front vs None = refl
-map_map front vs (Some more) = ap Some (sym (append_assoc front vs more))
-
-pub decoded_more : (w n : ℕ) (bs out : List ℕ) (done end : ℕ) (left vs rest part : List ℕ) → Decoded w n bs out done left → done < n → run_ahead w (n - done) left ≡ got vs rest → end ≡ done + length vs → part ≡ vs → Decoded w n bs (put_mid done (end - done) out part) end rest
-decoded_more w n bs out done end left vs rest part d h e f p =
-    let m : length vs ≤ n - done = no_more_than_wanted w (n - done) left vs rest e in
-    let k : end - done ≡ length vs = omega (arith, f) in
-    let l : length part ≡ length vs = ap length p in
-    let t : take end (put_mid done (length vs) out part) ≡ take done out ++ vs = take-put_mid done (length vs) out part end (omega (arith, f, l)) (omega (arith, d.within, d.size)) ∙ ap (λ xs. take done out ++ xs) p in
-    let q : n - done - length vs ≡ n - end = omega (arith, f) in
-    rw k record {
-      size = length-put_mid done (length vs) out part l (omega (arith, m, h, d.size)) ∙ d.size;
-      within = omega (arith, f, m, h);
-      rest = d.rest ∙ (ap (option_map (λ more. take done out ++ more)) (hybrid_more w (n - done) left vs rest (omega (arith, h)) e ∙ ap (λ j. option_map (λ more. vs ++ more) (hybrid w j rest)) q) ∙ (map_map (take done out) vs (hybrid w (n - end) rest) ∙ ap (λ xs. option_map (λ more. xs ++ more) (hybrid w (n - end) rest)) (sym t)));
-    }
-
-pub decoded_all : (w n : ℕ) (bs out : List ℕ) (done : ℕ) (left : List ℕ) → Decoded w n bs out done left → n ≤ done → hybrid w n bs ≡ Some out
-decoded_all w n bs out done left d h =
-    let e : n - done ≡ 0 = omega (arith, h) in
-    d.rest ∙ (ap (λ j. option_map (λ more. take done out ++ more) (hybrid w j left)) e ∙ (ap (option_map (λ more. take done out ++ more)) (hybrid_none w left) ∙ ap Some (append-nil (take done out) ∙ take_all done out (omega (arith, d.size, h)))))
-
-pub decoded_short : (w n : ℕ) (bs out : List ℕ) (done : ℕ) (left rest : List ℕ) → Decoded w n bs out done left → done < n → run_ahead w (n - done) left ≡ refused short rest → hybrid w n bs ≡ None
-decoded_short w n bs out done left rest d h e = d.rest ∙ ap (option_map (λ more. take done out ++ more)) (hybrid_short w (n - done) left rest (omega (arith, h)) e)
-
--- the same at equal widths and counts
-pub ahead_at : (v w m n done : ℕ) (bs : List ℕ) (r : Reading HybridFault (List ℕ)) → v ≡ w → m ≡ n → run_ahead v (m - done) bs ≡ r → run_ahead w (n - done) bs ≡ r
-ahead_at v w m n done bs r e f h = ap₂ (λ a b. run_ahead a (b - done) bs) (sym e) (sym f) ∙ h

@@ -1,6 +1,6 @@
 -- Unpacking: eight values of a word, one value of a word, and the loops over them.
 use Rattle.std.proofs.Common.{◌≡◌, ℕ, zero, suc, ◌+◌, ◌-◌, ◌*◌, ◌/◌, ◌%◌, ◌^◌, ◌≤◌, ◌<◌, List, [], ◌∷◌, ◌++◌, length, take, drop, replicate, set, refl, sym, ap, ap₂, ◌∙◌, arith, pow_mono, Option, Some, None}
-use Rattle.std.proofs.lemmas.List.{length-append, length-take, length-drop, length-replicate, length-set, take_all, take_more_set}
+use Rattle.std.proofs.lemmas.List.{length-append, length-take, length-drop, length-replicate, length-set, take_all, drop_all, take_more_set}
 use Rattle.std.proofs.lemmas.Slice.{take-put_mid}
 use borrow.Rule.Slice.PartMut.{put_mid}
 use Rattle.std.specs.Prelude.{bit_and, IfSome, IfNone, SomeIff}
@@ -68,7 +68,7 @@ told None a b h e = (tt, omega (arith, not_below a h, e))
     not_below a h = omega (arith, h)
 told (Some x) a b h e = (h.1 ∙ e, tt)
 
-drop_bytes : (k : ℕ) (bs : List ℕ) → AreBytes bs → AreBytes (drop k bs)
+pub drop_bytes : (k : ℕ) (bs : List ℕ) → AreBytes bs → AreBytes (drop k bs)
 drop_bytes zero bs h = h
 drop_bytes (suc k) [] h = h
 drop_bytes (suc k) (b ∷ bs) h = drop_bytes k bs (λ i. h (suc i))
@@ -124,3 +124,49 @@ pub place_small : (w done place : ℕ) → w ≤ 8 → done * w ≡ 8 * place �
 place_small w done place h e =
     let f : done * w ≤ done * 8 = mul-le-mul_left done h in
     omega (arith, e, f)
+
+-- ---- the loop over values behind the first few
+pub record Behind (bs : List ℕ) (w skipped : ℕ) (out : List ℕ) (done bit : ℕ) : Type 0 where
+  pub within : done ≤ length out
+  pub bits : (skipped + done) * w ≡ bit
+  pub front : take done out ≡ drop skipped (unpacked (skipped + done) w (little_endian bs))
+
+pub few_bits : (skipped w : ℕ) → skipped < 8 → w ≤ 32 → skipped * w ≤ 256
+few_bits skipped w h l =
+    let f : skipped * w ≤ 8 * w = mul-le-mul_right w (omega (arith, h)) in
+    omega (arith, f, l)
+
+pub drop_front : (s : ℕ) (xs ys : List ℕ) → s ≤ length xs → drop s (xs ++ ys) ≡ drop s xs ++ ys
+drop_front zero xs ys h = refl
+drop_front (suc s) [] ys h = absurd (omega (arith, h))
+drop_front (suc s) (x ∷ xs) ys h = drop_front s xs ys (omega (arith, h))
+
+pub behind_none : (bs : List ℕ) (w skipped : ℕ) (out : List ℕ) → Behind bs w skipped out 0 (8 * (skipped * w / 8) + skipped * w % 8)
+behind_none bs w skipped out =
+    let e : skipped + 0 ≡ skipped = omega arith in
+    record {
+      within = omega arith;
+      bits = ap (λ k. k * w) e ∙ omega arith;
+      front = sym (drop_all skipped (unpacked (skipped + 0) w (little_endian bs)) (omega (arith, length_unpacked (skipped + 0) w (little_endian bs))));
+    }
+
+pub behind_more : (bs : List ℕ) (w skipped : ℕ) (out : List ℕ) (done place shift value : ℕ) → AreBytes bs → w ≤ 32 → shift < 8 → Behind bs w skipped out done (8 * place + shift) → done < length out → value ≡ little_endian (take 8 (drop place bs)) / 2 ^ shift % 2 ^ w → Behind bs w skipped (set out done value) (done + 1) (8 * (place + (shift + w) / 8) + (shift + w) % 8)
+behind_more bs w skipped out done place shift value h l s u m e =
+    let k : skipped + (done + 1) ≡ skipped + done + 1 = omega arith in
+    let b : (skipped + done + 1) * w ≡ (skipped + done) * w + w = omega arith in
+    record {
+      within = omega (arith, m, length-set out done value);
+      bits = ap (λ n. n * w) k ∙ omega (arith, b, u.bits);
+      front = take_more_set out done value m ∙ (ap₂ (λ xs x. xs ++ x ∷ []) u.front e
+          ∙ sym (ap (λ n. drop skipped (unpacked n w (little_endian bs))) k ∙ (ap (drop skipped) (wide_more bs w (skipped + done) place shift h l s u.bits)
+          ∙ drop_front skipped (unpacked (skipped + done) w (little_endian bs)) (little_endian (take 8 (drop place bs)) / 2 ^ shift % 2 ^ w ∷ []) (omega (arith, length_unpacked (skipped + done) w (little_endian bs))))));
+    }
+
+pub place_behind : (w n done bit place length : ℕ) → done ≤ n → 8 * place ≤ bit → bit ≡ done * w → length ≡ bytes_for (n * w) → place ≤ length
+place_behind w n done bit place length h e f l = place_within w n done place length h (omega (arith, e, f)) l
+
+-- nothing is skipped
+pub none_skipped : (s n w x : ℕ) → s ≡ 0 → unpacked n w x ≡ drop s (unpacked (s + n) w x)
+none_skipped s n w x e =
+    let f : s + n ≡ n = omega (arith, e) in
+    sym (ap (λ k. drop s (unpacked k w x)) f ∙ ap (λ k. drop k (unpacked n w x)) e)

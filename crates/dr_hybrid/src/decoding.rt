@@ -4,7 +4,8 @@ ghost use Rattle.std.specs.Prelude.{◌≡◌, ◌≤◌, length, Some, None, On
 ghost use Rattle.dr_formats.specs.Hybrid.{hybrid};
 
 use crate::packable::Packable;
-use crate::runs::{Runs, Short};
+use crate::run_reader::RunReader;
+use crate::runs::Short;
 
 /// The values of a width with which bytes begin, as many as there is room for: of at most 32 bits, or of eight as
 /// bytes. Takes no memory.
@@ -15,13 +16,5 @@ pub fn decode<T: Packable>(bytes: &[u8], width: u32, out: &mut [T]) -> Result<()
     ensures decoded { OnOk result (hybrid width (length out.old) bytes.now ≡ Some (T.numbers out.new)) }
     ensures short { OnErr result (hybrid width (length out.old) bytes.now ≡ None) }
 {
-    let mut runs = Runs::new(bytes, width);
-    let mut done = 0;
-    'runs: while done < out.len() {
-        let run = runs.next(out.len() - done)?;
-        let end = done + run.count();
-        run.write(&mut out[done..end]);
-        done = end;
-    }
-    Ok(())
+    RunReader::start(width).next(bytes, out)
 }

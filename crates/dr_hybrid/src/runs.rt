@@ -66,7 +66,7 @@ impl Run<'_> {
     {
         match self {
             Run::Repeat { value, .. } => T::fill(out, *value),
-            Run::Packed(packed) => unpack(packed.bytes, packed.width, out),
+            Run::Packed(packed) => unpack(packed.bytes, packed.width, 0, out),
         }
     }
 }

@@ -1,6 +1,6 @@
 //! Values packed into bits.
 
-ghost use Rattle.std.specs.Prelude.{◌≡◌, ◌≤◌, ◌<◌, ◌-◌, ◌*◌, ◌^◌, length, bit_and};
+ghost use Rattle.std.specs.Prelude.{◌≡◌, ◌≤◌, ◌<◌, ◌+◌, ◌-◌, ◌*◌, ◌^◌, length, drop, bit_and};
 ghost use Rattle.dr_formats.specs.LittleEndian.{little_endian, unpacked, bytes_for};
 
 use crate::packable::Packable;
@@ -76,16 +76,18 @@ fn unpack_narrow<T: Packable>(bytes: &[u8], width: u32, mask: u64, out: &mut [T]
     unpack_few(front_word(&bytes[place..]), width, mask, &mut out[done..]);
 }
 
-/// Values of any width, one after another, each from the word at its first byte.
-fn unpack_wide<T: Packable>(bytes: &[u8], width: u32, mask: u64, out: &mut [T])
+/// Values of any width behind the first few, one after another, each from the word at its first byte.
+fn unpack_each<T: Packable>(bytes: &[u8], width: u32, skipped: u32, out: &mut [T])
     requires narrow { width ≤ 32 }
-    requires low { mask ≡ 2 ^ width - 1 }
-    requires held { mask < 2 ^ T.greatest_width }
-    requires whole { length bytes.now ≡ bytes_for (length out.old * width) }
-    ensures { T.numbers out.new ≡ unpacked (length out.old) width (little_endian bytes.now) }
+    requires held { width ≤ T.greatest_width }
+    requires few { skipped < 8 }
+    requires whole { length bytes.now ≡ bytes_for ((skipped + length out.old) * width) }
+    ensures { T.numbers out.new ≡ drop skipped (unpacked (skipped + length out.old) width (little_endian bytes.now)) }
 {
-    let mut place = 0;
-    let mut shift = 0;
+    let mask = (1u64 << width) - 1;
+    let bits = skipped * width;
+    let mut place = (bits / 8) as usize;
+    let mut shift = bits % 8;
     'values: for index in 0..out.len() {
         out[index] = masked(front_word(&bytes[place..]) >> shift, mask);
         shift += width;
@@ -94,17 +96,17 @@ fn unpack_wide<T: Packable>(bytes: &[u8], width: u32, mask: u64, out: &mut [T])
     }
 }
 
-/// Values of a width, which fit what they are held in.
-pub(crate) fn unpack<T: Packable>(bytes: &[u8], width: u32, out: &mut [T])
+/// Values of a width, which fit what they are held in, behind the first few of a group.
+pub(crate) fn unpack<T: Packable>(bytes: &[u8], width: u32, skipped: u32, out: &mut [T])
     requires narrow { width ≤ 32 }
     requires held { width ≤ T.greatest_width }
-    requires whole { length bytes.now ≡ bytes_for (length out.old * width) }
-    ensures { T.numbers out.new ≡ unpacked (length out.old) width (little_endian bytes.now) }
+    requires few { skipped < 8 }
+    requires whole { length bytes.now ≡ bytes_for ((skipped + length out.old) * width) }
+    ensures { T.numbers out.new ≡ drop skipped (unpacked (skipped + length out.old) width (little_endian bytes.now)) }
 {
-    let mask = (1u64 << width) - 1;
-    if width <= NARROW {
-        unpack_narrow(bytes, width, mask, out);
+    if skipped == 0 && width <= NARROW {
+        unpack_narrow(bytes, width, (1u64 << width) - 1, out);
     } else {
-        unpack_wide(bytes, width, mask, out);
+        unpack_each(bytes, width, skipped, out);
     }
 }

@@ -6,7 +6,9 @@ use Rattle.dr_meaning.specs.Schema.{Fields}
 use Rattle.dr_meaning.specs.Record.{Node, is_record}
 use Rattle.dr_meaning.specs.JsonRecord.{RecordFault, record_of_line}
 use Rattle.dr_meaning.specs.Lines.{lines_of, longest_line, LineFault, line_too_long, too_many_records, no_record, line_record, record_at, or_stop, taken_from}
-use Rattle.dr_json.specs.Parts.{line_node, line_fields}
+use Rattle.dr_json.specs.Lines.{is_formed}
+use Rattle.dr_json.specs.Parts.{value_node, line_node, line_fields}
+use Rattle.dr_json.specs.declared.record.LineValue.{LineValue}
 use Rattle.dr_json.specs.declared.record.LineRecord.{LineRecord}
 use Rattle.dr_json.specs.Faults.{record_problem_view}
 use Rattle.dr_lines.specs.Cutting.{CutsLine, CutsBytes, BeginsLine, IsTooLong}
@@ -16,7 +18,7 @@ use Rattle.dr_lines.proofs.CutLemmas.{cut_at_lf}
 use Rattle.dr_outside.specs.Faults.{raised}
 use Rattle.dr_outside.specs.Source.{SourceShown}
 use Rattle.dr_input.specs.Taken.{AreRecords, HasTaken, RefusesNext}
-use Rattle.dr_input.specs.Stops.{ReadsLine, NextStops, line_fault_in}
+use Rattle.dr_input.specs.Stops.{RefusesLine, NextStops, line_fault_in}
 use Rattle.dr_input.specs.declared.fault.LineProblem.{LineProblem}
 use Rattle.dr_input.specs.declared.fault.InputFault.{InputFault}
 use Rattle.dr_input.proofs.ReadForm.{is_read, line_form}
@@ -101,7 +103,7 @@ pub no_line_stops : (fs : Fields) (most number : ℕ) (left : Option (List ℕ))
 no_line_stops fs most number left before now cutter.TooLong long cause begins calm = (calm (λ e. cc), refuses_long fs most number left (long refl))
 no_line_stops fs most number left before now cutter.ReadFault long cause begins calm = (cause refl, begins refl)
 
-pub record_stops : (fs : Fields) (most number : ℕ) (left rest : Option (List ℕ)) (bytes line : List ℕ) (before now : SourceShown) (fault : InputFault) → ReadsLine (record_of_line fs line) (number + 1) (Err fault)
+pub record_stops : (fs : Fields) (most number : ℕ) (left rest : Option (List ℕ)) (bytes line : List ℕ) (before now : SourceShown) (fault : InputFault) → RefusesLine (record_of_line fs line) (number + 1) fault
     → line ≡ bytes → CutsLine left bytes rest → length bytes ≤ longest_line → number < most → now.faults ≡ before.faults → NextStops fs most number left before now fault
 record_stops fs most number left rest bytes line before now InputFault.NoMemory h g c l m calm = calm
 record_stops fs most number left rest bytes line before now InputFault.Source h g c l m calm = absurd h
@@ -115,7 +117,11 @@ record_stops fs most number left rest bytes line before now (InputFault.Refused 
 
 -- ---- the record of a line
 
+value_is_record : (fs : Fields) (v : LineValue) → is_formed fs v ≡ true → is_read fs (value_node fs v) ≡ true → is_record fs (value_node fs v) ≡ true
+value_is_record fs (LineValue.Read v) f h = read_is_record fs v h
+value_is_record fs (LineValue.Raw ms) f h = f
+
 pub line_is_record : (fs : Fields) (line : List ℕ) (r : LineRecord) → line_fields r ≡ fs → record_of_line fs line ≡ Ok (line_node r) → is_record fs (line_node r) ≡ true
 line_is_record fs line r f e =
     let P : Fields → Type 0 = λ gs. is_read gs (line_node r) ≡ true → is_record gs (line_node r) ≡ true in
-    subst P f (read_is_record (line_fields r) r.value) (line_form fs line (line_node r) e)
+    subst P f (value_is_record (line_fields r) r.value r.formed) (line_form fs line (line_node r) e)

@@ -8,3 +8,5 @@ pub mod Faults
 pub mod Records
 -- why the next line gives no record
 pub mod Stops
+-- what a line that was read gives columns
+pub mod Striped

@@ -4,11 +4,15 @@ use Rattle.dr_meaning.specs.Schema.{Fields}
 use Rattle.dr_nested.specs.Views.{fields_view}
 use Rattle.dr_lines.specs.Cutting.{rest_of}
 use Rattle.dr_input.specs.declared.fault.InputFault.{InputFault}
+use Rattle.dr_input.specs.declared.reader.LineReader.{LineReader}
 use Rattle.dr_input.specs.declared.reader.Records.{Records}
 
 -- the fields of the schema whose records it reads
+abbrev pub fields_read : LineReader → Fields
+fields_read r = fields_view r.schema.now.fields.items
+
 abbrev pub fields_of : Records → Fields
-fields_of r = fields_view r.schema.now.fields.items
+fields_of r = fields_read r.reader
 
 -- the greatest number of lines
 abbrev pub most_of : Records → ℕ

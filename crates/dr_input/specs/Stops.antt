@@ -15,13 +15,17 @@ use Rattle.dr_input.specs.Faults.{line_problem_view}
 use Rattle.dr_input.specs.declared.fault.LineProblem.{LineProblem}
 use Rattle.dr_input.specs.declared.fault.InputFault.{InputFault}
 
--- a line's record, or the line is refused by this number; want of memory may come in place of either
+-- a line is refused by this number; want of memory may come in place of any answer
+abbrev pub RefusesLine : Result tree.Node RecordFault → ℕ → InputFault → Type 0
+RefusesLine meant number InputFault.NoMemory = ⊤
+RefusesLine meant number InputFault.Source = ⊥
+RefusesLine meant number (InputFault.Refused n (LineProblem.Record w)) = (n ≡ number) × (meant ≡ Err (record_problem_view w))
+RefusesLine meant number (InputFault.Refused n w) = ⊥
+
+-- a line's record, or the line is refused by this number
 abbrev pub ReadsLine : Result tree.Node RecordFault → ℕ → Result LineRecord InputFault → Type 0
 ReadsLine meant number (Ok r) = meant ≡ Ok (line_node r)
-ReadsLine meant number (Err InputFault.NoMemory) = ⊤
-ReadsLine meant number (Err InputFault.Source) = ⊥
-ReadsLine meant number (Err (InputFault.Refused n (LineProblem.Record w))) = (n ≡ number) × (meant ≡ Err (record_problem_view w))
-ReadsLine meant number (Err (InputFault.Refused n w)) = ⊥
+ReadsLine meant number (Err e) = RefusesLine meant number e
 
 -- the fault of a line that isn't there
 abbrev pub line_fault_in : LineFault → ℕ → InputFault

@@ -43,7 +43,7 @@ node_known fs ms r k e = rw k e
 pub node_unknown : (fs : tree.Fields) (ms : Members) → are_known (tree.field_names fs) ms ≡ false → members_node fs ms ≡ Err unknown_field
 node_unknown fs ms k = rw k refl
 
-known_or_not : (b : Bool) (r : Result Node RecordFault) → (if b then then_give inner r else Err unknown_field) ≡ then_give inner (if b then r else Err unknown_field)
+pub known_or_not : (b : Bool) (r : Result Node RecordFault) → (if b then then_give inner r else Err unknown_field) ≡ then_give inner (if b then r else Err unknown_field)
 known_or_not true r = refl
 known_or_not false r = refl
 

@@ -24,14 +24,14 @@ use Rattle.dr_json.specs.Checks.{given_count}
 abbrev pub Name : Type 0
 Name = List ℕ
 
-abbrev is_among : List Name → Name → Bool
+abbrev pub is_among : List Name → Name → Bool
 is_among ks n = list_any (bytes_eq n) ks
 
-abbrev are_distinct : List Name → Bool
+abbrev pub are_distinct : List Name → Bool
 are_distinct [] = true
 are_distinct (n ∷ ns) = not (is_among ns n) && are_distinct ns
 
-abbrev how_many : {X : Type 0} → (X → Bool) → List X → ℕ
+abbrev pub how_many : {X : Type 0} → (X → Bool) → List X → ℕ
 how_many p [] = 0
 how_many p (x ∷ xs) = cond (p x) (1 + how_many p xs) (how_many p xs)
 
@@ -40,10 +40,10 @@ counted {X} p xs = is_count_by (how_many p) p refl (λ (y : X) (ys : List X). re
 
 -- ---- equal names
 
-same_name : (a b : Name) → bytes_eq a b ≡ true → a ≡ b
+pub same_name : (a b : Name) → bytes_eq a b ≡ true → a ≡ b
 same_name a b e = (bytes_eq-Decides a b).0 e
 
-equal_itself : (a : Name) → bytes_eq a a ≡ true
+pub equal_itself : (a : Name) → bytes_eq a a ≡ true
 equal_itself a = grind (arith, bytes_eq-Decides a a)
 
 equal_sym_at : (a b : Name) (x y : Bool) → bytes_eq a b ≡ x → bytes_eq b a ≡ y → x ≡ y
@@ -52,7 +52,7 @@ equal_sym_at a b false false p q = refl
 equal_sym_at a b true false p q = absurd (true≢false (sym (equal_itself b) ∙ ap (bytes_eq b) (sym (same_name a b p)) ∙ q))
 equal_sym_at a b false true p q = absurd (true≢false (sym (equal_itself a) ∙ ap (bytes_eq a) (sym (same_name b a q)) ∙ p))
 
-equal_sym : (a b : Name) → bytes_eq a b ≡ bytes_eq b a
+pub equal_sym : (a b : Name) → bytes_eq a b ≡ bytes_eq b a
 equal_sym a b = equal_sym_at a b _ _ refl refl
 
 -- ---- counting
@@ -159,7 +159,7 @@ keys_are_distinct (e ∷ es) h = rw (later_key e es h.0) (keys_are_distinct es h
 
 -- ---- the names of a group
 
-names_are_distinct : (fs : Fields) → is_group fs ≡ true → are_distinct (field_names fs) ≡ true
+pub names_are_distinct : (fs : Fields) → is_group fs ≡ true → are_distinct (field_names fs) ≡ true
 names_are_distinct no_fields h = refl
 names_are_distinct (field n r s fs) h =
     let apart_from_rest = not (is_among (field_names fs) n) in
@@ -167,7 +167,7 @@ names_are_distinct (field n r s fs) h =
     let first = and_right (is_short_name n) apart_from_rest (and_left (is_short_name n && apart_from_rest) (is_shape s) front) in
     ap₂ (λ (x y : Bool). x && y) first (names_are_distinct fs (and_right _ _ h))
 
-named : (p : Name → Bool) (fs : List Field) → how_many (λ (f : Field). p (string_bytes f.name)) fs ≡ how_many p (field_names (fields_view fs))
+pub named : (p : Name → Bool) (fs : List Field) → how_many (λ (f : Field). p (string_bytes f.name)) fs ≡ how_many p (field_names (fields_view fs))
 named p [] = refl
 named p (f ∷ fs) = rw (view-field f) (ap (λ (m : ℕ). cond (p (string_bytes f.name)) (1 + m) m) (named p fs))
 
@@ -204,3 +204,69 @@ given_many ms (f ∷ fs) = ap₂ (λ (b : Bool) (m : ℕ). cond b (1 + m) m) (th
 -- as many fields have a key in the object, as a check counts them
 pub given_known : (fs : List Field) (es : List Entry) → is_group (fields_view fs) ≡ true → IsStrictlySortedBy string_cmp (keys_of es) → (given_count (members_view es) fs == length es) ≡ are_known (field_names (fields_view fs)) (members_view es)
 given_known fs es h o = ap (λ (m : ℕ). m == length es) (given_many (members_view es) fs) ∙ as_many_known fs es h o
+
+-- ---- as many distinct names among keys as there are keys
+
+either_both_at : (x y : Bool) (i j m n : ℕ) → i + j ≡ m + n → cond (x || y) (1 + i) i + cond (x && y) (1 + j) j ≡ cond x (1 + m) m + cond y (1 + n) n
+either_both_at true true i j m n e = omega arith
+either_both_at true false i j m n e = omega arith
+either_both_at false true i j m n e = omega arith
+either_both_at false false i j m n e = e
+
+either_both : (p q : Name → Bool) (ns : List Name) → how_many (λ n. p n || q n) ns + how_many (λ n. p n && q n) ns ≡ how_many p ns + how_many q ns
+either_both p q [] = refl
+either_both p q (n ∷ ns) = either_both_at (p n) (q n) _ _ _ _ (either_both p q ns)
+
+at_most_one : (b : Bool) → cond b 1 0 ≤ 1
+at_most_one true = omega arith
+at_most_one false = omega arith
+
+one_then : (b : Bool) (n : ℕ) → n ≡ cond b 1 0 → n ≡ 1 → b ≡ true
+one_then true n e o = refl
+one_then false n e o = absurd (omega arith)
+
+-- the names that are among the keys, by the first key and the rest
+by_first : (k : Name) (ks ns : List Name) → are_distinct ns ≡ true → how_many (is_among (k ∷ ks)) ns + how_many (λ n. bytes_eq n k && is_among ks n) ns ≡ cond (is_among ns k) 1 0 + how_many (is_among ks) ns
+by_first k ks ns h = either_both (λ n. bytes_eq n k) (is_among ks) ns ∙ ap (λ (m : ℕ). m + how_many (is_among ks) ns) (once k ns h)
+
+at_most_keys : (ks ns : List Name) → are_distinct ns ≡ true → how_many (is_among ks) ns ≤ length ks
+at_most_keys [] ns h = let none = none_counted ns in omega arith
+at_most_keys (k ∷ ks) ns h =
+    let parts = by_first k ks ns h in
+    let later = at_most_keys ks ns h in
+    let one = at_most_one (is_among ns k) in
+    omega arith
+
+twice_at : (x : Bool) (k n : Name) (ks : List Name) (i j : ℕ) → bytes_eq n k ≡ x → is_among ks k ≡ true → i ≡ j → cond (x && is_among ks n) (1 + i) i ≡ cond x (1 + j) j
+twice_at true k n ks i j e h r = rw (same_name n k e, h, r) refl
+twice_at false k n ks i j e h r = r
+
+-- a key that comes again is counted both ways
+key_twice : (k : Name) (ks ns : List Name) → is_among ks k ≡ true → how_many (λ n. bytes_eq n k && is_among ks n) ns ≡ how_many (λ n. bytes_eq n k) ns
+key_twice k ks [] h = refl
+key_twice k ks (n ∷ ns) h = twice_at _ k n ks _ _ refl h (key_twice k ks ns h)
+
+first_alone : (b : Bool) (k : Name) (ks ns : List Name) → is_among ks k ≡ b → are_distinct ns ≡ true → is_among ns k ≡ true → how_many (λ n. bytes_eq n k && is_among ks n) ns ≡ 0 → not b ≡ true
+first_alone true k ks ns e h named none = absurd (let one = once k ns h ∙ ap (λ (x : Bool). cond x 1 0) named in let again = key_twice k ks ns e in omega arith)
+first_alone false k ks ns e h named none = refl
+
+pub record AllNamed (ks ns : List Name) : Type 0 where
+  pub distinct : are_distinct ks ≡ true
+  pub known : list_all (is_among ns) ks ≡ true
+
+pub as_many_named : (ks ns : List Name) → are_distinct ns ≡ true → how_many (is_among ks) ns ≡ length ks → AllNamed ks ns
+as_many_named [] ns h e = record { distinct = refl; known = refl }
+as_many_named (k ∷ ks) ns h e =
+    let parts = by_first k ks ns h in
+    let most = at_most_keys ks ns h in
+    let one = at_most_one (is_among ns k) in
+    let here : ℕ = cond (is_among ns k) 1 0 in
+    let one_is : here ≡ 1 = omega arith in
+    let rest_is : how_many (is_among ks) ns ≡ length ks = omega arith in
+    let none : how_many (λ n. bytes_eq n k && is_among ks n) ns ≡ 0 = omega arith in
+    let first = one_then (is_among ns k) here refl one_is in
+    let rest = as_many_named ks ns h rest_is in
+    record {
+      distinct = ap₂ (λ (x y : Bool). x && y) (first_alone _ k ks ns refl h first none) rest.distinct;
+      known = ap₂ (λ (x y : Bool). x && y) first rest.known;
+    }

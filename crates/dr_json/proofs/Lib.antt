@@ -8,3 +8,7 @@ pub mod CheckLemmas
 pub mod HeldLemmas
 -- texts, elements and members of a value
 pub mod OwnedLemmas
+-- the value of a line as the line has it
+pub mod RawLemmas
+-- its fields and elements, checked one after another
+pub mod PlainLemmas

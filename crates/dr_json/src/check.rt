@@ -46,7 +46,7 @@ pub fn check_record(fields: &[Field], value: &Json) -> Result<(), RecordProblem>
 }
 
 /// Whether a size is within the limits.
-fn check_limits(size: Size) -> Result<(), RecordProblem>
+pub fn check_limits(size: Size) -> Result<(), RecordProblem>
     ensures { (n : Node) → size ≡ node_size n → ChecksRecord (node_within_limits n) n result }
 {
     if size.instances > MOST_INSTANCES || size.text_bytes > MOST_TEXT_BYTES {
@@ -163,7 +163,8 @@ fn check_leaf(kind: Kind, value: &Json) -> Result<Size, RecordProblem>
     Ok(lent_size(lent_leaf(kind, value)?))
 }
 
-fn lent_size(lent: ValueRef<'_>) -> Size
+/// The size of a leaf's value, lent.
+pub fn lent_size(lent: ValueRef<'_>) -> Size
     ensures { result ≡ instance_size (atom (lent_value lent.entry)) }
 {
     match lent {

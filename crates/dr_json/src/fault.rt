@@ -3,6 +3,7 @@
 ghost use Rattle.std.specs.Prelude.{◌≡◌};
 ghost use Rattle.dr_json.specs.declared.fault.RecordFault.TheVariants.{NoMemory};
 
+use dr_nested::NoMemory as WantOfMemory;
 use std::alloc::{AllocError, AllocFailed};
 
 /// What is wrong with a line that is no record of a schema.
@@ -43,6 +44,14 @@ impl<T: Drop> From<AllocFailed<T>> for RecordFault {
     ghost from_gives = { λ _ e. e ≡ NoMemory };
 
     fn from(_refused: AllocFailed<T>) -> RecordFault {
+        RecordFault::NoMemory
+    }
+}
+
+impl From<WantOfMemory> for RecordFault {
+    ghost from_gives = { λ _ e. e ≡ NoMemory };
+
+    fn from(_refused: WantOfMemory) -> RecordFault {
         RecordFault::NoMemory
     }
 }

@@ -2,15 +2,13 @@
 
 ghost use Rattle.std.specs.Prelude.{◌≡◌, option_map};
 ghost use Rattle.serde_json.specs.View.{view};
-ghost use Rattle.dr_meaning.specs.Record.{inner};
 ghost use Rattle.dr_nested.specs.Views.{rep_view, shape_view};
 ghost use Rattle.dr_json.specs.Held.{instance_held, field_held};
-ghost use Rattle.dr_json.specs.Parts.{part_view, parts_view, line_node};
+ghost use Rattle.dr_json.specs.Parts.{part_view, parts_view};
 
 use crate::leaf::lent_leaf;
 use crate::nodes::{member, present};
 use crate::part::{Part, Parts};
-use crate::record::LineRecord;
 use dr_levels::ValueRef;
 use dr_nested::{Field, Rep, Shape};
 use dr_striper::Held;
@@ -81,18 +79,6 @@ impl<'v> Held for Part<'v> {
         match part_of(shape, first) {
             Some(part) => Some((part, Parts::Items(shape, later))),
             None => None,
-        }
-    }
-}
-
-impl<'s> LineRecord<'s> {
-    /// What it holds, lent.
-    pub fn part(&self) -> Part<'_>
-        ensures { part_view result ≡ inner (line_node self.now) }
-    {
-        match self.value.as_object() {
-            Some(object) => Part::Group(&self.schema.fields, object),
-            None => unreachable!(),
         }
     }
 }

@@ -13,9 +13,12 @@ ghost use Rattle.dr_json.specs.Parts.{line_fields, line_node};
 use crate::check::check_record;
 use crate::fault::{RecordFault, RecordProblem};
 use crate::nodes::node_of;
-use crate::record::LineRecord;
+use crate::plain::is_plain_record;
+use crate::raw::raw_members;
+use crate::record::{LineRecord, LineValue};
 use crate::size::node_size;
 use dr_nested::{Field, Node, Schema};
+use json::Scratch;
 use serde_json::Value as Json;
 use std::alloc::Global;
 
@@ -45,19 +48,44 @@ pub fn record_of(alloc: Global, schema: &Schema, line: &[u8]) -> Result<Node, Re
 }
 
 /// The record that `record_of` gives, held in the value that was read of the line: neither a node is made nor a text
-/// copied.
-pub fn line_record<'s>(
+/// copied. What a line needs lies in the scratch, which is used again.
+pub fn line_record<'r>(
     alloc: Global,
-    schema: &'s Schema,
+    schema: &'r Schema,
+    line: &'r [u8],
+    scratch: &'r mut Scratch,
+) -> Result<LineRecord<'r>, RecordFault>
+    ensures record { Gives line_node record_fault_view (record_of_line (fields_view schema.now.fields.items) line.now)
+        result }
+    ensures fields { IfOk result (λ r. line_fields r ≡ fields_view schema.now.fields.items) }
+{
+    if let Some(members) = raw_members(alloc, line, scratch)? {
+        if is_plain_record(&schema.fields, &members) {
+            return Ok(LineRecord {
+                schema,
+                value: LineValue::Raw(members),
+            });
+        }
+    }
+    read_record(alloc, schema, line)
+}
+
+/// The record of a line, by reading the line into a value of its own.
+fn read_record<'r>(
+    alloc: Global,
+    schema: &'r Schema,
     line: &[u8],
-) -> Result<LineRecord<'s>, RecordFault>
+) -> Result<LineRecord<'r>, RecordFault>
     ensures record { Gives line_node record_fault_view (record_of_line (fields_view schema.now.fields.items) line.now)
         result }
     ensures fields { IfOk result (λ r. line_fields r ≡ fields_view schema.now.fields.items) }
 {
     match Json::from_slice(alloc, line) {
         Ok(value) => match check_record(&schema.fields, &value) {
-            Ok(()) => Ok(LineRecord { schema, value }),
+            Ok(()) => Ok(LineRecord {
+                schema,
+                value: LineValue::Read(value),
+            }),
             Err(problem) => Err(RecordFault::Refused(problem)),
         },
         Err(error) if error.is_memory() => Err(RecordFault::NoMemory),

@@ -1,5 +1,5 @@
 -- The columns of a tablet, record by record.
-use Rattle.std.specs.Prelude.{◌≡◌, ℕ, ◌+◌, ◌<◌, List, [], ◌∷◌, ◌++◌, map, length, replicate, Bool, true, Option, Some, None, IfSome, MatchOption, Result, Ok, Err, IsErrAnd, IfErr, ⊤}
+use Rattle.std.specs.Prelude.{◌≡◌, ℕ, ◌+◌, ◌<◌, List, [], ◌∷◌, ◌++◌, map, length, replicate, Bool, true, Option, Some, None, MatchOption, Result, Ok, Err, IsErrAnd, IfErr, ⊤}
 use Rattle.std.specs.List.{list_all}
 use Rattle.std.proofs.Common.{arith, refl, sym, ap, ap₂, ◌∙◌, subst}
 use Rattle.std.proofs.lemmas.List.{length-append}
@@ -164,9 +164,3 @@ fills_same fs most number count rows a b old new h e r = record {
 -- each leaf takes what a record gives it
 pub record_fits : (fs : Fields) (ls : List Leaf) (n : Node) → ls ≡ leaves fs → is_record fs n ≡ true → list_all (fits_leaf n) ls ≡ true
 record_fits fs ls n e r = ap (list_all (fits_leaf n)) e ∙ record_fits_all fs (leaves fs) n (schema_leaves_are fs) r
-
--- ---- what is said of an option
-
-pub some_of : {A : Type 0} (P : A → Type 0) (o : Option A) (a : A) → o ≡ Some a → IfSome o P → P a
-some_of P None a e h = cc
-some_of P (Some b) a e h = let k : b ≡ a = cc in subst P k h

@@ -57,15 +57,13 @@ pub(crate) fn fill_tablet<S: Source>(
 {
     let mut striper = Striper::new(alloc, fields)?;
     'lines: for count in 0..rows {
-        match records.next(source)? {
-            Some(record) => striper.add_held(record.part())?,
-            None => {
-                return Ok(Filled {
-                    columns: striper.finish(),
-                    records: count,
-                    ended: true,
-                });
-            }
+        let more = records.stripe_next(source, &mut striper)?;
+        if !more {
+            return Ok(Filled {
+                columns: striper.finish(),
+                records: count,
+                ended: true,
+            });
         }
     }
     Ok(Filled {

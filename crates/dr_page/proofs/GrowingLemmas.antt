@@ -1,9 +1,10 @@
 -- Runs that are read one after another, each put behind those before.
-use Rattle.std.proofs.Common.{◌≡◌, ℕ, ◌+◌, ◌-◌, ◌≤◌, ◌<◌, List, [], ◌++◌, length, refl, sym, ap, ap₂, ◌∙◌, arith, append_assoc, append-nil, length-append, Option, Some, None}
+use Rattle.std.proofs.Common.{◌≡◌, ℕ, ◌+◌, ◌-◌, ◌≤◌, ◌<◌, List, [], ◌++◌, length, sym, ap, ap₂, ◌∙◌, arith, append-nil, length-append, Some, None}
 use Rattle.std.specs.Prelude.{option_map}
 use Rattle.dr_formats.specs.Reading.{got, refused}
 use Rattle.dr_formats.specs.Hybrid.{short, hybrid}
 use Rattle.dr_hybrid.specs.Views.{run_ahead}
+use Rattle.dr_page.proofs.RunSteps.{map_nil, map_map}
 use Rattle.dr_hybrid.proofs.RunLemmas.{hybrid_more, hybrid_short, hybrid_none, no_more_than_wanted}
 
 -- these values are there, and the others are in the bytes left
@@ -11,20 +12,12 @@ pub record Grown (w n : ℕ) (bs out left : List ℕ) : Type 0 where
   pub within : length out ≤ n
   pub rest : hybrid w n bs ≡ option_map (λ more. out ++ more) (hybrid w (n - length out) left)
 
-map_same : (o : Option (List ℕ)) → o ≡ option_map (λ more. [] ++ more) o
-map_same None = refl
-map_same (Some vs) = refl
-
-map_map : (front vs : List ℕ) (o : Option (List ℕ)) → option_map (λ more. front ++ more) (option_map (λ more. vs ++ more) o) ≡ option_map (λ more. (front ++ vs) ++ more) o
-map_map front vs None = refl
-map_map front vs (Some more) = ap Some (sym (append_assoc front vs more))
-
 pub grown_none : (w n : ℕ) (bs out left : List ℕ) → out ≡ [] → left ≡ bs → Grown w n bs out left
 grown_none w n bs out left e f =
     let k : n - 0 ≡ n = omega arith in
     rw (e, f) record {
       within = omega arith;
-      rest = rw k (map_same (hybrid w n bs));
+      rest = rw k (sym (map_nil (hybrid w n bs)));
     }
 
 pub grown_more : (w n : ℕ) (bs out left vs rest new : List ℕ) → Grown w n bs out left → length out < n → run_ahead w (n - length out) left ≡ got vs rest → new ≡ out ++ vs → Grown w n bs new rest

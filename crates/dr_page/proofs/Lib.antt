@@ -16,3 +16,14 @@ pub mod CountLemmas
 pub mod BodyLemmas
 -- what is written
 pub mod WriteLemmas
+-- where so many items are there, fewer of them are there, too
+pub mod FrontLemmas
+pub mod ValueFronts
+pub mod PageFronts
+-- a piece behind others
+pub mod CursorLemmas
+pub mod PageSteps
+pub mod ValueSteps
+pub mod BitSteps
+-- hybrid data, a piece behind others
+pub mod RunSteps

@@ -123,7 +123,7 @@ pass_all : {A : Type 0} (p : A → Bool) (xs : List A) → All (λ x. p x ≡ tr
 pass_all p [] h = refl
 pass_all p (x ∷ xs) h = and_from _ _ (All-head (λ y. p y ≡ true) x xs h) (pass_all p xs (All-tail (λ y. p y ≡ true) x xs h))
 
-picked_by : {A : Type 0} (p : A → Bool) (items found : List A) (o : Option (List ℕ)) → list_all p items ≡ true → option_and_then (picked items) o ≡ Some found → list_all p found ≡ true
+pub picked_by : {A : Type 0} (p : A → Bool) (items found : List A) (o : Option (List ℕ)) → list_all p items ≡ true → option_and_then (picked items) o ≡ Some found → list_all p found ≡ true
 picked_by p items found None h e = absurd (cc)
 picked_by p items found (Some is) h e = pass_all p found (picked_hold (λ x. p x ≡ true) items is found (all_pass p items h) e)
 
@@ -145,7 +145,7 @@ text_places_hold bytes ps items out e f h = ap (list_all (is_text bytes)) (f ∙
 
 -- ---- truth values in RLE
 
-truths_seen : (ls : List ℕ) → map bool_value (map (λ (l : ℕ). l == 1) ls) ≡ map plain.truth_of_bit ls
+pub truths_seen : (ls : List ℕ) → map bool_value (map (λ (l : ℕ). l == 1) ls) ≡ map plain.truth_of_bit ls
 truths_seen [] = refl
 truths_seen (l ∷ ls) = ap (λ vs. bool_value (l == 1) ∷ vs) (truths_seen ls)
 

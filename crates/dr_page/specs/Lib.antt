@@ -18,3 +18,8 @@ pub mod Bodies
 pub mod Writes
 -- places of texts
 pub mod Places
+-- hybrid data, levels, values and pages that are read a piece at a time
+pub mod RunReading
+pub mod LevelPieces
+pub mod ValuePieces
+pub mod PageReading

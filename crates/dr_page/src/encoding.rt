@@ -1,8 +1,11 @@
 //! Encodings of the format.
 
-ghost use Rattle.std.specs.Prelude.{◌≡◌};
+ghost use Rattle.std.specs.Prelude.{◌≡◌, IfSome, IfNone};
+ghost use Rattle.dr_nested.specs.Views.{kind_view};
 ghost use Rattle.dr_formats.specs.Page.{is_number, rle_encoding};
-ghost use Rattle.dr_page.specs.Encodings.{encoding_of};
+ghost use Rattle.dr_page.specs.Encodings.{encoding_of, IsFor, HasNoValues};
+
+use dr_nested::Kind;
 
 /// Values one after another (PLAIN).
 const PLAIN: i64 = 0;
@@ -32,6 +35,20 @@ pub(crate) fn value_encoding(number: i64) -> Option<ValueEncoding>
         PLAIN_DICTIONARY | RLE_DICTIONARY => Some(ValueEncoding::Dictionary),
         RLE => Some(ValueEncoding::Hybrid),
         _ => None,
+    }
+}
+
+/// The encoding of values of a kind with a number of the format: truth values alone have hybrid data.
+pub(crate) fn encoding_for(kind: Kind, number: i64) -> Option<ValueEncoding>
+    ensures some { IfSome result (λ e. IsFor e (kind_view kind) number) }
+    ensures none { IfNone result (HasNoValues (kind_view kind) number) }
+{
+    match value_encoding(number) {
+        Some(ValueEncoding::Hybrid) => match kind {
+            Kind::Bool => Some(ValueEncoding::Hybrid),
+            Kind::I32 | Kind::I64 | Kind::Text => None,
+        },
+        encoding => encoding,
     }
 }
 

@@ -50,7 +50,7 @@ pub(crate) fn level_width(greatest: u8) -> u32
 }
 
 /// Whether no level is above the greatest. All are looked at, many at once.
-fn none_above(greatest: u8, levels: &[u8]) -> bool
+pub(crate) fn none_above(greatest: u8, levels: &[u8]) -> bool
     ensures { result ≡ list_all (λ l. nat_le l greatest) levels.now }
 {
     let mut most = 0u8;

@@ -128,3 +128,13 @@ fn part_at(bytes: &[u8], start: usize, size: usize) -> Result<Part, PageFault>
         end: start + size,
     })
 }
+
+/// The bytes of a part of a body; none where it doesn't lie there.
+pub(crate) fn part_bytes(bytes: &[u8], part: Part) -> &[u8]
+    ensures { IsInside bytes.now part → result.now ≡ part_in bytes.now part }
+{
+    match bytes.get(part.start..part.end) {
+        Some(part) => part,
+        None => &[],
+    }
+}

@@ -23,7 +23,7 @@ pub(crate) fn read_picked<T: Copy + Drop>(
 }
 
 /// Puts the items at these indices into the place of others.
-fn pick_items<T: Copy + Drop>(
+pub(crate) fn pick_items<T: Copy + Drop>(
     items: &[T],
     indices: &[u32],
     out: &mut Vec<T>,

@@ -30,7 +30,7 @@ pub(crate) fn read_rle_bools(
 }
 
 /// Puts bits into the place of truth values: 1 for true.
-fn put_bits(bits: &[u8], out: &mut Vec<bool>) -> Result<(), NoMemory>
+pub(crate) fn put_bits(bits: &[u8], out: &mut Vec<bool>) -> Result<(), NoMemory>
     ensures { OnOk result ((out.new).items ≡ map (λ b. b == 1) bits.now) }
 {
     out.clear();

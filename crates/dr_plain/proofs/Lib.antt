@@ -4,3 +4,8 @@ pub mod ReadSteps
 pub mod PickSteps
 -- values that are written
 pub mod WriteSteps
+-- how many values there are
+pub mod CountSteps
+-- a piece behind others
+pub mod PieceSteps
+pub mod ReaderSteps

@@ -1,11 +1,11 @@
 -- Values read one after another.
 use Rattle.std.proofs.Common.{◌≡◌, ℕ, zero, suc, ◌+◌, ◌-◌, ◌*◌, ◌/◌, ◌%◌, ◌^◌, ◌≤◌, ◌<◌, List, [], ◌∷◌, ◌++◌, map, length, take, drop, set, replicate, get_or, Bool, true, false, refl, sym, ap, ap₂, ◌∙◌, subst, arith, append_assoc, Option, Some, None, ◌⊎◌, inl, inr, ℤ, pos, negsuc, Result, Ok, Err}
-use Rattle.std.specs.Prelude.{◌==◌, nat_lt, if◌then◌else◌, IfSome, is_ok, is_err}
+use Rattle.std.specs.Prelude.{◌==◌, nat_lt, nat_le, if◌then◌else◌, IfSome, is_ok, is_err}
 use Rattle.std.specs.Int.{w32, w64, from_le_bytes, cast_signed}
 use Rattle.std.specs.Simd.{first_chunks}
 use Rattle.std.specs.Str.{IsUtf8, is_utf8, IsCharBoundary}
 use Rattle.std.proofs.lemmas.Bool.{le-leb, lt-leb, cases_lt, false≢true}
-use Rattle.std.proofs.lemmas.List.{length-drop, length-take-le, take-take, drop-take, drop_more, take_all, append-nil, map_push, map_more, map-append, take_more_set, take_at, length-append}
+use Rattle.std.proofs.lemmas.List.{length-drop, length-take-le, take-take, drop-take, drop_more, take_all, append-nil, map_push, map_more, map-append, take_more_set, take_at, length-append, drop-drop}
 use Rattle.std.proofs.lemmas.List.Elements.{All-push}
 use Rattle.std.proofs.lemmas.Str.{is_utf8-from_IsUtf8, IsUtf8-from_is_utf8, IsUtf8-between}
 use Rattle.std.proofs.lemmas.Nat.{pow-add, shr-shr, pow_pos}
@@ -14,10 +14,12 @@ use Rattle.dr_meaning.specs.Record.{Value, bool_value, int_value, text_value}
 use Rattle.dr_formats.specs.Reading.{Reading, got, refused, Reader, give, goes_on, ◌>>=◌}
 use Rattle.dr_formats.specs.LittleEndian.{little_endian, unpacked, bytes_for}
 use Rattle.dr_formats.specs.Plain.{PlainFault, too_short, bad_text, from_complement, repeatedly, plain_number, plain_text, truth_of_bit, plain_truths, plain_read}
+use Rattle.dr_formats.proofs.LittleEndianLemmas.{unpacked_below}
 use Rattle.dr_bytes.specs.Numbers.{IsFault}
-use Rattle.dr_bytes.proofs.BitLemmas.{AreBytes, number_behind, unpacked_more, word_of, word_of_four}
+use Rattle.dr_bytes.proofs.BitLemmas.{AreBytes, number_behind, number_split, unpacked_more, word_of, word_of_four}
 use Rattle.dr_plain.specs.declared.values.TextPlace.{TextPlace}
 use Rattle.dr_plain.specs.Views.{Appends, BeginsWith, int64_of, text_at, text_values, AreTexts, IsText}
+use Rattle.dr_plain.specs.Pieces.{bits_of}
 
 -- ---- one value, and then the others
 
@@ -60,12 +62,14 @@ number_read bits bs h = rw (le-leb (bits / 8) (length bs) h) refl
 number_short : (bits : ℕ) (bs : List ℕ) → length bs < bits / 8 → plain_number bits bs ≡ refused too_short []
 number_short bits bs h = rw (lt-leb (bits / 8) (length bs) h) refl
 
-pub numbers_read : (bits n : ℕ) (bs : List ℕ) → n * (bits / 8) ≤ length bs → (rest : List ℕ) × (repeatedly (plain_number bits) n bs ≡ got (map (number_at bits) (first_chunks (bits / 8) n bs)) rest)
-numbers_read bits zero bs h = (bs, refl)
+pub numbers_read : (bits n : ℕ) (bs : List ℕ) → n * (bits / 8) ≤ length bs → repeatedly (plain_number bits) n bs ≡ got (map (number_at bits) (first_chunks (bits / 8) n bs)) (drop (n * (bits / 8)) bs)
+numbers_read bits zero bs h = let z : zero * (bits / 8) ≡ 0 = omega arith in ap (λ k. got [] (drop k bs)) (sym z)
 numbers_read bits (suc n) bs h =
     let k : ℕ = bits / 8 in
-    let r = numbers_read bits n (drop k bs) (omega (arith, h, length-drop k bs)) in
-    (r.0, one_more (plain_number bits) n bs (drop k bs) (number_at bits (take k bs)) (number_read bits bs (omega (arith, h))) ∙ ap (in_front (number_at bits (take k bs) ∷ [])) r.1)
+    let z : suc n * k ≡ n * k + k = omega arith in
+    one_more (plain_number bits) n bs (drop k bs) (number_at bits (take k bs)) (number_read bits bs (omega (arith, h)))
+    ∙ (ap (in_front (number_at bits (take k bs) ∷ [])) (numbers_read bits n (drop k bs) (omega (arith, h, length-drop k bs)))
+    ∙ ap (got (map (number_at bits) (first_chunks k (suc n) bs))) (drop-drop (n * k) k bs ∙ ap (λ j. drop j bs) (omega arith)))
 
 short_by : (bits n : ℕ) (bs : List ℕ) → length bs < suc n * (bits / 8) → ((bits / 8 ≤ length bs) → (rest : List ℕ) × (repeatedly (plain_number bits) n (drop (bits / 8) bs) ≡ refused too_short rest)) → (length bs < bits / 8) ⊎ (bits / 8 ≤ length bs) → (rest : List ℕ) × (repeatedly (plain_number bits) (suc n) bs ≡ refused too_short rest)
 short_by bits n bs h r (inl l) = ([], first_refused (plain_number bits) n bs [] too_short (number_short bits bs l))
@@ -123,8 +127,7 @@ numbers_more bits k n bs chunks old out new i z e l h m f g s =
 
 pub numbers_all : (bits n : ℕ) (bs : List ℕ) (chunks : List (List ℕ)) (old out : List ℤ) (i : ℕ) → chunks ≡ first_chunks (bits / 8) n bs → n * (bits / 8) ≤ length bs → length chunks ≤ i → Numbers bits chunks old out i → Appends (plain_read (repeatedly (plain_number bits) n bs)) (map int_value old) (map int_value out)
 numbers_all bits n bs chunks old out i e l h s =
-    let r = numbers_read bits n bs l in
-    appends (repeatedly (plain_number bits) n bs) (map (number_at bits) (first_chunks (bits / 8) n bs)) (map int_value old) (map int_value out) r.0 r.1 (s ∙ ap (λ xs. map int_value old ++ map (number_at bits) xs) (take_all i chunks h ∙ e))
+    appends (repeatedly (plain_number bits) n bs) (map (number_at bits) (first_chunks (bits / 8) n bs)) (map int_value old) (map int_value out) (drop (n * (bits / 8)) bs) (numbers_read bits n bs l) (s ∙ ap (λ xs. map int_value old ++ map (number_at bits) xs) (take_all i chunks h ∙ e))
 
 -- numbers of eight bytes that are put behind others all at once
 filled_are : (n : ℕ) (bs : List ℕ) → n * 8 ≤ length bs → map int_value (map int64_of (first_chunks 8 n bs)) ≡ map (number_at 64) (first_chunks 8 n bs)
@@ -133,8 +136,7 @@ filled_are (suc n) bs h = ap₂ (λ v vs. v ∷ vs) (ap int_value (eight_is (tak
 
 pub numbers_filled : (n : ℕ) (bs : List ℕ) (chunks : List (List ℕ)) (old out : List ℤ) → chunks ≡ first_chunks 8 n bs → n * 8 ≤ length bs → out ≡ old ++ map int64_of chunks → Appends (plain_read (repeatedly (plain_number 64) n bs)) (map int_value old) (map int_value out)
 numbers_filled n bs chunks old out e l g =
-    let r = numbers_read 64 n bs l in
-    appends (repeatedly (plain_number 64) n bs) (map (number_at 64) (first_chunks 8 n bs)) (map int_value old) (map int_value out) r.0 r.1 (ap (map int_value) g ∙ (map-append int_value old (map int64_of chunks) ∙ ap (λ xs. map int_value old ++ xs) (ap (λ cs. map int_value (map int64_of cs)) e ∙ filled_are n bs l)))
+    appends (repeatedly (plain_number 64) n bs) (map (number_at 64) (first_chunks 8 n bs)) (map int_value old) (map int_value out) (drop (n * 8) bs) (numbers_read 64 n bs l) (ap (map int_value) g ∙ (map-append int_value old (map int64_of chunks) ∙ ap (λ xs. map int_value old ++ xs) (ap (λ cs. map int_value (map int64_of cs)) e ∙ filled_are n bs l)))
 
 pub fill_more : (chunks : List (List ℕ)) (out : List ℤ) (i : ℕ) (z : ℤ) → i < length chunks → i < length out → z ≡ int64_of (get_or chunks i []) → take i out ≡ map int64_of (take i chunks) → take (i + 1) (set out i z) ≡ map int64_of (take (i + 1) chunks)
 fill_more chunks out i z h l e s = take_more_set out i z l ∙ (ap₂ (λ xs x. xs ++ x ∷ []) s e ∙ sym (map_more int64_of chunks i [] h))
@@ -151,7 +153,7 @@ where_no_error (Err t) new some old h e = absurd (false≢true h)
 
 -- ---- truth values
 
-bit_at : (bs : List ℕ) (i : ℕ) → AreBytes bs → i / 8 < length bs → little_endian bs / 2 ^ (i * 1) % 2 ^ 1 ≡ get_or bs (i / 8) 0 / 2 ^ (i % 8) % 2
+pub bit_at : (bs : List ℕ) (i : ℕ) → AreBytes bs → i / 8 < length bs → little_endian bs / 2 ^ (i * 1) % 2 ^ 1 ≡ get_or bs (i / 8) 0 / 2 ^ (i % 8) % 2
 bit_at bs i h l =
     let q : ℕ = i / 8 in
     let s : ℕ = i % 8 in
@@ -166,22 +168,49 @@ bit_at bs i h l =
     let m : b + 256 * z ≡ b + 2 ^ s * (2 * (2 ^ (7 - s) * z)) = omega (arith, pz) in
     rw (f, g, m, add-mul-div_left b (2 * (2 ^ (7 - s) * z)) {y = 2 ^ s} (pow_pos s)) (add-mul-mod_self_left (b / 2 ^ s) 2 (2 ^ (7 - s) * z))
 
-abbrev pub Truths : List ℕ → List Bool → List Bool → ℕ → Type 0
-Truths bs old out i = map bool_value out ≡ map bool_value old ++ map truth_of_bit (unpacked i 1 (little_endian bs))
+-- the loop that reads truth values: those of the bits from the first on are there
+abbrev pub Truths : List ℕ → List Bool → List Bool → ℕ → ℕ → Type 0
+Truths bs old out start i = map bool_value out ≡ map bool_value old ++ bits_of bs start (i - start)
 
-pub truths_more : (bs : List ℕ) (old out new : List Bool) (i : ℕ) (b : Bool) → AreBytes bs → i / 8 < length bs → b ≡ (get_or bs (i / 8) 0 / 2 ^ (i % 8) % 2 == 1) → new ≡ out ++ b ∷ [] → Truths bs old out i → Truths bs old new (i + 1)
-truths_more bs old out new i b h l e g s =
+pub truths_more : (bs : List ℕ) (old out new : List Bool) (start i : ℕ) (b : Bool) → AreBytes bs → start ≤ i → i / 8 < length bs → b ≡ (get_or bs (i / 8) 0 / 2 ^ (i % 8) % 2 == 1) → new ≡ out ++ b ∷ [] → Truths bs old out start i → Truths bs old new start (i + 1)
+truths_more bs old out new start i b h o l e g s =
+    let k : ℕ = i - start in
+    let y : ℕ = little_endian bs / 2 ^ start in
+    let n : i + 1 - start ≡ k + 1 = omega (arith, o) in
+    let j : start + k * 1 ≡ i * 1 = omega (arith, o) in
+    let z : y / 2 ^ (k * 1) ≡ little_endian bs / 2 ^ (i * 1) = shr-shr (little_endian bs) start (k * 1) ∙ ap (λ m. little_endian bs / 2 ^ m) j in
+    let v : truth_of_bit (y / 2 ^ (k * 1) % 2 ^ 1) ≡ bool_value b = ap truth_of_bit (ap (λ m. m % 2 ^ 1) z ∙ bit_at bs i h l) ∙ ap bool_value (sym e) in
+    let u : bits_of bs start (i + 1 - start) ≡ bits_of bs start k ++ truth_of_bit (y / 2 ^ (k * 1) % 2 ^ 1) ∷ [] = ap (bits_of bs start) n ∙ (ap (map truth_of_bit) (unpacked_more k 1 1 y) ∙ map-append truth_of_bit (unpacked k 1 y) (unpacked 1 1 (y / 2 ^ (k * 1)))) in
+    ap (map bool_value) g ∙ (map_push bool_value out b ∙ (ap₂ (λ xs x. xs ++ x ∷ []) s (sym v) ∙ (append_assoc (map bool_value old) (bits_of bs start k) (truth_of_bit (y / 2 ^ (k * 1) % 2 ^ 1) ∷ []) ∙ ap (λ xs. map bool_value old ++ xs) (sym u))))
+
+-- the first values are in the first bytes
+pub unpacked_in : (a w k : ℕ) (bs : List ℕ) → a * w ≤ 8 * k → unpacked a w (little_endian (take k bs)) ≡ unpacked a w (little_endian bs)
+unpacked_in a w k bs h =
+    let z : ℕ = little_endian (drop k bs) in
+    let g : 8 * k ≡ w * a + (8 * k - a * w) = omega (arith, h) in
+    let p : 2 ^ (8 * k) ≡ 2 ^ (w * a) * 2 ^ (8 * k - a * w) = ap (λ j. 2 ^ j) g ∙ pow-add 2 (w * a) (8 * k - a * w) in
+    let q : 2 ^ (8 * k) * z ≡ 2 ^ (w * a) * 2 ^ (8 * k - a * w) * z = ap (λ j. j * z) p in
+    let s : little_endian bs ≡ little_endian (take k bs) + 2 ^ (w * a) * (2 ^ (8 * k - a * w) * z) = omega (arith, number_split k bs, q) in
+    sym (ap (unpacked a w) s ∙ unpacked_below a w (little_endian (take k bs)) (2 ^ (8 * k - a * w) * z))
+
+-- so many truth values are those of the first bits
+pub truths_read : (n : ℕ) (bs : List ℕ) → bytes_for n ≤ length bs → plain_truths n bs ≡ got (bits_of bs 0 n) (drop (bytes_for n) bs)
+truths_read n bs h =
+    let i : n * 1 ≤ 8 * bytes_for n = omega arith in
     let x : ℕ = little_endian bs in
-    let v : truth_of_bit (x / 2 ^ (i * 1) % 2 ^ 1) ≡ bool_value b = ap truth_of_bit (bit_at bs i h l) ∙ ap bool_value (sym e) in
-    let u : map truth_of_bit (unpacked (i + 1) 1 x) ≡ map truth_of_bit (unpacked i 1 x) ++ truth_of_bit (x / 2 ^ (i * 1) % 2 ^ 1) ∷ [] = ap (map truth_of_bit) (unpacked_more i 1 1 x) ∙ map-append truth_of_bit (unpacked i 1 x) (unpacked 1 1 (x / 2 ^ (i * 1))) in
-    ap (map bool_value) g ∙ (map_push bool_value out b ∙ (ap₂ (λ xs y. xs ++ y ∷ []) s (sym v) ∙ (append_assoc (map bool_value old) (map truth_of_bit (unpacked i 1 x)) (truth_of_bit (x / 2 ^ (i * 1) % 2 ^ 1) ∷ []) ∙ ap (λ xs. map bool_value old ++ xs) (sym u))))
+    let z : x ≡ x / 2 ^ 0 = omega arith in
+    truths_at (nat_le (bytes_for n) (length bs)) n bs (le-leb (bytes_for n) (length bs) h) ∙ ap (λ vs. got (map truth_of_bit vs) (drop (bytes_for n) bs)) (unpacked_in n 1 (bytes_for n) bs i ∙ ap (unpacked n 1) z)
+  where
+    truths_at : (t : Bool) (n : ℕ) (bs : List ℕ) → t ≡ true
+        → goes_on (if t then got (take (bytes_for n) bs) (drop (bytes_for n) bs) else refused too_short []) (λ b. give (map truth_of_bit (unpacked n 1 (little_endian b))))
+        ≡ got (map truth_of_bit (unpacked n 1 (little_endian (take (bytes_for n) bs)))) (drop (bytes_for n) bs)
+    truths_at true n bs e = refl
+    truths_at false n bs e = absurd (cc)
 
-truths_read : (n : ℕ) (bs : List ℕ) → bytes_for n ≤ length bs → plain_truths n bs ≡ got (map truth_of_bit (unpacked n 1 (little_endian (take (bytes_for n) bs)))) (drop (bytes_for n) bs)
-truths_read n bs h = rw (le-leb (bytes_for n) (length bs) h) refl
-
-pub truths_all : (n k : ℕ) (bs packed : List ℕ) (old out : List Bool) → k ≡ bytes_for n → k ≤ length bs → packed ≡ take k bs → Truths packed old out n → Appends (plain_read (plain_truths n bs)) (map bool_value old) (map bool_value out)
-truths_all n k bs packed old out e h f s =
-    appends (plain_truths n bs) (map truth_of_bit (unpacked n 1 (little_endian (take (bytes_for n) bs)))) (map bool_value old) (map bool_value out) (drop (bytes_for n) bs) (truths_read n bs (omega (arith, e, h))) (s ∙ ap (λ xs. map bool_value old ++ map truth_of_bit (unpacked n 1 (little_endian xs))) (f ∙ ap (λ j. take j bs) e))
+pub truths_all : (n k : ℕ) (bs : List ℕ) (old out : List Bool) → k ≡ bytes_for n → k ≤ length bs → Truths bs old out 0 n → Appends (plain_read (plain_truths n bs)) (map bool_value old) (map bool_value out)
+truths_all n k bs old out e h s =
+    let z : n - 0 ≡ n = omega arith in
+    appends (plain_truths n bs) (bits_of bs 0 n) (map bool_value old) (map bool_value out) (drop (bytes_for n) bs) (truths_read n bs (omega (arith, e, h))) (s ∙ ap (λ j. map bool_value old ++ bits_of bs 0 j) z)
 
 pub truths_short : (n : ℕ) (bs : List ℕ) → length bs < bytes_for n → IsFault too_short (plain_truths n bs)
 truths_short n bs h = rw (lt-leb (bytes_for n) (length bs) h) refl

@@ -4,6 +4,7 @@
 
 mod picking;
 mod plain;
+mod plain_reader;
 mod reading;
 mod texts;
 mod values;
@@ -11,6 +12,7 @@ mod writing;
 
 pub use picking::pick;
 pub use plain::{read_plain, write_plain};
+pub use plain_reader::PlainReader;
 pub use reading::{append_bools, append_int32s, append_int64s};
 pub use texts::append_texts;
 pub use values::{PickFault, PlainFault, TextPlace, Values};

@@ -1,10 +1,12 @@
 //! Values of a fixed size, read in bulk.
 
-ghost use Rattle.std.specs.Prelude.{◌≡◌, length, map, OnOk, OnErr, IfErr};
+ghost use Rattle.std.specs.Prelude.{◌≡◌, ◌≤◌, ◌+◌, ◌-◌, ◌*◌, ◌++◌, length, map, vec_len, vec_capacity, OnOk, OnErr, IfErr};
 ghost use Rattle.dr_meaning.specs.Schema.{bool_kind, int32_kind, int64_kind};
 ghost use Rattle.dr_meaning.specs.Record.{bool_value, int_value};
+ghost use Rattle.dr_formats.specs.LittleEndian.{bytes_for};
 ghost use Rattle.dr_formats.specs.Plain.{plain, plain_values};
 ghost use Rattle.dr_plain.specs.Views.{Appends, IsFaultOf, int64_of};
+ghost use Rattle.dr_plain.specs.Pieces.{bits_of};
 
 use crate::values::PlainFault;
 
@@ -17,18 +19,33 @@ pub fn append_bools(bytes: &[u8], count: usize, out: &mut Vec<bool>) -> Result<(
     ensures fault { IfErr result (λ e. IsFaultOf e (plain bool_kind count bytes.now)) }
     ensures stays { OnErr result ((out.new).items ≡ (out.old).items) }
 {
-    let length = count / 8 + usize::from(count % 8 > 0);
-    if bytes.len() < length {
+    if bytes.len() < bytes_of_bits(count) {
         return Err(PlainFault::Short);
     }
     if out.reserve(count).is_err() {
         return Err(PlainFault::NoMemory);
     }
-    let packed = &bytes[..length];
-    'bits: for index in 0..count {
-        out.push_reserved((packed[index / 8] >> (index % 8)) % 2 == 1);
-    }
+    push_bits(bytes, 0, count, out);
     Ok(())
+}
+
+/// How many bytes so many bits take.
+pub(crate) fn bytes_of_bits(count: usize) -> usize
+    ensures { result ≡ bytes_for count }
+{
+    count / 8 + usize::from(count % 8 > 0)
+}
+
+/// Appends the truth values at these bits of bytes, the lowest of a byte first. There is room for them.
+pub(crate) fn push_bits(bytes: &[u8], start: usize, end: usize, out: &mut Vec<bool>)
+    requires order { start ≤ end }
+    requires within { end ≤ 8 * length bytes.now }
+    requires room { vec_len out.old + (end - start) ≤ vec_capacity out.old }
+    ensures { map bool_value (out.new).items ≡ map bool_value (out.old).items ++ bits_of bytes.now start (end - start) }
+{
+    'bits: for index in start..end {
+        out.push_reserved((bytes[index / 8] >> (index % 8)) % 2 == 1);
+    }
 }
 
 /// Appends the 32-bit numbers with which bytes begin, little-endian two's complement.

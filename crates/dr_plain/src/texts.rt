@@ -7,6 +7,7 @@ ghost use Rattle.dr_formats.specs.Plain.{plain, plain_values, plain_text};
 ghost use Rattle.dr_formats.specs.Reading.{got};
 ghost use Rattle.dr_meaning.specs.Record.{text_value};
 ghost use Rattle.dr_bytes.specs.Cutting.{whole, left};
+ghost use Rattle.dr_plain.specs.FrontTexts.{AreFrontTexts, Skips};
 ghost use Rattle.dr_plain.specs.Views.{Appends, IsFaultOf, BeginsWith, AreTexts, IsText, text_values, text_at};
 
 use crate::values::{PlainFault, TextPlace};
@@ -48,6 +49,30 @@ fn push_texts(bytes: &[u8], count: usize, out: &mut Vec<TextPlace>) -> Result<()
         }
     }
     Ok(())
+}
+
+/// The bytes of the first so many texts, each behind its length; all bytes where there are fewer.
+pub(crate) fn front_texts(bytes: &[u8], count: usize) -> &[u8]
+    ensures { AreFrontTexts count bytes.now result.now }
+{
+    let mut cut = Cut::new(bytes);
+    'texts: for _ in 0..count {
+        if !skip_text(&mut cut) {
+            return bytes;
+        }
+    }
+    &bytes[..cut.place()]
+}
+
+/// Goes on behind the next text, whatever its bytes are, and answers whether there is one.
+fn skip_text(cut: &mut Cut<'_>) -> bool
+    ensures skipped { Skips (left cut.old) (left cut.new) result }
+    ensures same { whole cut.new ≡ whole cut.old }
+{
+    match cut.le32() {
+        Ok(length) => cut.take(length as usize).is_ok(),
+        Err(_) => false,
+    }
 }
 
 /// The place of the next text of bytes, which are a text as a whole or not.

@@ -1,45 +1,51 @@
 //! Column chunks.
 
-ghost use Rattle.std.specs.Prelude.{◌≡◌, ◌≤◌, ◌+◌, ◌∷◌, [], ℕ, List, length, take, drop, None, OnOk, Err};
+ghost use Rattle.std.specs.Prelude.{◌≡◌, ◌≤◌, ◌<◌, ◌+◌, ◌∷◌, [], ℕ, List, length, None, Ok, Err, IfOk, OnOk, OnErr};
 ghost use Rattle.dr_meaning.specs.Path.{Leaf};
+ghost use Rattle.dr_meaning.specs.Column.{Triplet};
 ghost use Rattle.dr_formats.specs.Chunk.{pages_triplets};
 ghost use Rattle.dr_levels.specs.Views.{column_view, column_form};
-ghost use Rattle.dr_page.specs.Reads.{Joins};
-ghost use Rattle.dr_chunk.specs.Takers.{leaf_form, IsLeafOf};
+ghost use Rattle.dr_page.specs.PageReading.{Lengthens};
 ghost use Rattle.dr_outside.specs.Telling.{Tells, AsksOnly};
 ghost use Rattle.dr_outside.specs.Leaving.{LeavesLink, ServesUntil};
 ghost use Rattle.dr_chunk.specs.Ranges.{is_read_inside, inside};
+ghost use Rattle.dr_chunk.specs.Taking.{range_of, left_of, reader_form, chunk_of, IsTaking, TakesMore};
 
-use dr_chunk::{ByteRange, ChunkBuffers, ChunkFault, LeafShape, read_chunk};
+use dr_chunk::{ChunkFault, ChunkReader};
 use dr_levels::Column;
 use dr_outside::Link;
 use std::alloc::Global;
 
-/// As `read_chunk`.
-pub fn append_chunk<L: Link>(
+/// As `ChunkReader::next`.
+pub fn next_of_chunk<L: Link>(
+    reader: &mut ChunkReader,
     alloc: Global,
-    buffers: &mut ChunkBuffers,
     link: &mut L,
     path: &str,
-    range: ByteRange,
-    leaf: LeafShape,
-    wanted: u64,
+    most: usize,
     out: &mut Column,
-) -> Result<(), ChunkFault>
-    requires { column_form out.old ≡ leaf_form leaf }
-    ensures read { (bytes : List ℕ) (l : Leaf) → IsLeafOf l leaf → Tells (L.shows link.old) path.now bytes
-        → range.start + range.size ≤ length bytes → OnOk result
-        (Joins (pages_triplets l wanted (take range.size (drop range.start bytes))) (column_view out.old)
-        (column_view out.new)) }
-    ensures bad { (bytes : List ℕ) (l : Leaf) → IsLeafOf l leaf → Tells (L.shows link.old) path.now bytes
-        → range.start + range.size ≤ length bytes → result ≡ Err ChunkFault.BadData
-        → pages_triplets l wanted (take range.size (drop range.start bytes)) ≡ None }
-    ensures count { OnOk result (length (column_view out.new) ≡ length (column_view out.old) + wanted) }
+) -> Result<usize, ChunkFault>
+    requires form { column_form out.old ≡ reader_form reader.old }
+    requires some { 0 < most }
+    ensures takes { (l : Leaf) (wanted : ℕ) (bytes : List ℕ) (given : List Triplet)
+        → IsTaking l wanted bytes given reader.old → Tells (L.shows link.old) path.now bytes
+        → OnOk result (TakesMore l wanted bytes given (column_view out.old) (column_view out.new) reader.new) }
+    ensures bad { (l : Leaf) (wanted : ℕ) (bytes : List ℕ) (given : List Triplet)
+        → IsTaking l wanted bytes given reader.old → Tells (L.shows link.old) path.now bytes → result
+        ≡ Err ChunkFault.BadData → pages_triplets l wanted (chunk_of bytes (range_of reader.old)) ≡ None }
+    ensures longer { IfOk result (λ n. Lengthens (column_view out.old) (column_view out.new) n) }
+    ensures left { IfOk result (λ n. n + left_of reader.new ≡ left_of reader.old) }
+    ensures most { IfOk result (λ n. n ≤ most) }
+    ensures none { result ≡ Ok 0 → left_of reader.old ≡ 0 }
+    ensures stays { OnErr result (column_view out.new ≡ column_view out.old) }
+    ensures over { OnErr result (left_of reader.new ≡ 0) }
     ensures form { column_form out.new ≡ column_form out.old }
+    ensures reader_form { reader_form reader.new ≡ reader_form reader.old }
+    ensures range { range_of reader.new ≡ range_of reader.old }
     ensures link { LeavesLink result ChunkFault.Failed (ServesUntil (L.shows link.old) path.now
-        (range.start + range.size)) (L.shows link.old) (L.shows link.new) }
-    ensures asked { AsksOnly (is_read_inside path.now (inside range ∷ [])) (L.shows link.old).asked
+        ((range_of reader.old).start + (range_of reader.old).size)) (L.shows link.old) (L.shows link.new) }
+    ensures asked { AsksOnly (is_read_inside path.now (inside (range_of reader.old) ∷ [])) (L.shows link.old).asked
         (L.shows link.new).asked }
 {
-    read_chunk(alloc, buffers, link, path, range, leaf, wanted, out)
+    reader.next(alloc, link, path, most, out)
 }

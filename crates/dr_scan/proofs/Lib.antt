@@ -1,13 +1,20 @@
 -- literals that are summed
 pub mod LiteralLemmas
--- the partial of groups along a walk over columns
-pub mod GroupLemmas
--- that of objects
-pub mod ObjectLemmas
 -- the partial of records of which no leaf is read
 pub mod RowLemmas
 -- the partial of a file's records
 pub mod ScanLemmas
+-- leaves of a plan, and what is made of moves
+pub mod LeafLemmas
+pub mod MakingLemmas
+-- columns by their numbers
+pub mod Tabulated
+-- a stretch of a walk, the streams of columns, and the file that they are of
+pub mod StretchLemmas
+pub mod StreamLemmas
+pub mod FileLemmas
+-- stretch by stretch
+pub mod UnderwayLemmas
 -- the copies of one tablet
 pub mod TabletLemmas
 -- the truth of tablets

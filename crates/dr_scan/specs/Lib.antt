@@ -5,5 +5,8 @@ pub mod OfColumns
 pub mod Scans
 pub mod Tablets
 pub mod Tables
+-- what a plan makes of moves, and the streams of an opened file's leaves
+pub mod Makings
+pub mod Streamed
 -- a law, proved on a law function of src/
 pub mod ScanLaws

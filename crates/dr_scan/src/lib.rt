@@ -1,15 +1,17 @@
 //! Scans: a tablet's records as a partial of a query, from the file at a path, or from the first of the tablet's copies
-//! that gives one.
+//! that gives one. Of each leaf's column a batch is held at a time.
 #![tactic(auto)]
 
-mod columns;
-mod cursors;
-mod groups;
 pub mod laws;
-mod moves;
-mod objects;
+mod leaf_stream;
+mod leaf_streams;
+mod making;
+mod opened;
+mod paths;
 mod rows;
 mod scanning;
+mod streaming;
+mod stretch;
 mod tablet;
 
 pub use scanning::scan;

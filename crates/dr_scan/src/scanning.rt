@@ -21,13 +21,13 @@ ghost use Rattle.dr_serving.specs.Truth.{IsTrueOf, most_values};
 ghost use Rattle.dr_plan.specs.PlanOf.{ForQuery};
 ghost use Rattle.dr_scan.specs.Scans.{StandsForBytes, StandsForRecords, truth_at};
 
-use crate::columns::partial_of_columns;
-use dr_file::FileFault;
+use crate::opened::partial_of_opened;
+use dr_file::{FileFault, Opened};
 use dr_group::Partial;
 use dr_nested::Schema;
 use dr_outside::Link;
 use dr_plan::Plan;
-use dr_tablets::{Steps, file_fault, read_file_columns};
+use dr_tablets::Steps;
 use std::alloc::Global;
 
 /// A plan's partial of the records of the file at a path, of which the plan's leaves alone are read. The link is asked
@@ -75,13 +75,8 @@ pub fn scan<L: Link>(
         ≡ true }
     ensures never_falls { (L.shows link.old).faults ≤ (L.shows link.new).faults }
 {
-    let mut read = Steps::new();
-    let file = read_file_columns(alloc, link, path, &plan.leaves, &mut read)?;
-    match partial_of_columns(alloc, schema, plan, &file) {
-        Ok(partial) => {
-            steps.add(read.taken());
-            Ok(partial)
-        }
-        Err(fault) => Err(file_fault(fault)),
-    }
+    let opened = Opened::start(alloc, link, path, &plan.leaves)?;
+    let made = partial_of_opened(alloc, schema, plan, link, &opened)?;
+    steps.add(made.triplets);
+    Ok(made.partial)
 }

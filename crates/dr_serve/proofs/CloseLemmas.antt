@@ -1,12 +1,16 @@
 -- The tablets, closed one after another.
-use Rattle.std.proofs.Common.{◌≡◌, ◌≤◌, ℕ, suc, ◌+◌, List, [], ◌∷◌, ◌++◌, length, Option, refl, sym, ap, ◌∙◌, subst, append-nil, append_assoc, arith}
-use Rattle.std.specs.Prelude.{IsTrue}
+use Rattle.std.proofs.Common.{◌≡◌, ◌≤◌, ◌<◌, ℕ, zero, suc, ◌+◌, List, [], ◌∷◌, ◌++◌, map, length, get_or, drop, Bool, true, false, Option, None, Some, refl, sym, ap, ◌∙◌, subst, true≢false, append-nil, append_assoc, length-append, arith}
+use Rattle.std.specs.Prelude.{IsTrue, Result, Ok, Err, OnOk}
+use Rattle.std.proofs.lemmas.List.{drop_more, length-map, map-append}
 use Rattle.dr_formats.specs.TableFile.{Table}
 use Rattle.dr_outside.specs.Link.{Files, LinkShown, Holds}
 use Rattle.dr_outside.specs.declared.cause.Cause.{Cause}
+use Rattle.dr_memory.specs.declared.NoMemory.{NoMemory}
+use Rattle.dr_group.specs.Partials.{partial_view}
 use Rattle.dr_group.specs.declared.partial.Partial.{Partial}
 use Rattle.dr_meaning.specs.Schema.{Schema}
 use Rattle.dr_meaning.specs.Path.{Leaf}
+use Rattle.dr_partials.specs.Trees.{Tree}
 use Rattle.dr_plan.specs.Planned.{plan_leaves}
 use Rattle.dr_plan.specs.declared.plan.Plan.{Plan}
 use Rattle.dr_reading.specs.Causes.{IsJustified, RisesApart}
@@ -16,8 +20,14 @@ use Rattle.dr_reading.specs.Scan.{Copy, copies_from}
 use Rattle.dr_tablets.specs.Views.{all_tried_view}
 use Rattle.dr_scan.specs.Tables.{with_scanned}
 use Rattle.dr_scan.specs.declared.tablet.Scanned.{Scanned}
+use Rattle.dr_tree.specs.Grows.{Growth, CanAdd, Grows, with_added}
+use Rattle.dr_tree.specs.declared.growing.Growing.{Growing}
 use Rattle.dr_serve.specs.declared.found.Found.{Found}
-use Rattle.dr_serve.specs.Closing.{OfEachFrom, IsOutcomeOf, KeepsPlace, KeepsPlaces, IsPartialFor, ArePartialsFor, Closes, causes_at, left_from}
+use Rattle.dr_serve.specs.Closing.{OfEachFrom, IsTruePlace, AreAddable, HasFound, IsOutcomeOf, KeepsPlace, KeepsPlaces, CanKeep, HasKept, HasClosed, IsNext, Closes, causes_at, left_from, has_some, place_of, growth_by, piece_of, pieces_of}
+use Rattle.dr_serve.specs.Links.{Worked}
+use Rattle.dr_serve.proofs.FoundLemmas.{can_add, found_more}
+use Rattle.dr_serve.proofs.LinkLemmas.{worked_none, worked_more}
+use Rattle.dr_serve.proofs.PlaceLemmas.{set_behind}
 
 -- ---- one more behind others
 
@@ -36,12 +46,6 @@ keeps_length [] [] h = refl
 keeps_length [] (y ∷ xs) h = absurd h
 keeps_length (p ∷ os) [] h = absurd h
 keeps_length (p ∷ os) (y ∷ xs) h = ap suc (keeps_length os xs h.1)
-
-partials_more : (plan : Plan) (xs : List Scanned) (ps : List Partial) (x : Scanned) (p : Partial) → ArePartialsFor plan xs ps → IsPartialFor plan x p → ArePartialsFor plan (xs ++ x ∷ []) (ps ++ p ∷ [])
-partials_more plan [] [] x p h k = (k, tt)
-partials_more plan [] (q ∷ ps) x p h k = absurd h
-partials_more plan (y ∷ xs) [] x p h k = absurd h
-partials_more plan (y ∷ xs) (q ∷ ps) x p h k = (h.0, partials_more plan xs ps x p h.1 k)
 
 lefts_more : (t m : ℕ) (xs : List Scanned) (x : Scanned) → t + length xs ≡ m → left_from t (xs ++ x ∷ []) ≡ with_scanned m x (left_from t xs)
 lefts_more t m [] (Scanned.Given p) e = refl
@@ -93,64 +97,151 @@ pub outcome_before : (t : Table) (plan : Plan) (is_true : ℕ → Found → Type
 outcome_before t plan is_true l now tablet (Scanned.Given p) e w h = h
 outcome_before t plan is_true l now tablet (Scanned.Left tried) e w h = tried_before t.schema (plan_leaves plan) l now (copies_from t.leaves tablet 0 t.copies) (all_tried_view tried.items) e w h
 
--- ---- the tablets before one
+-- ---- a tablet more
 
--- what came of the first m tablets, whose places are all but the rest
-pub record HasClosed (t : Table) (plan : Plan) (is_true : ℕ → Found → Type 0) (l now : LinkShown) (all rest : List (Option Partial)) (m : ℕ) (partials : List Partial) (left : List LeftTablet) : Type 0 where
-  pub outcomes : List Scanned
-  pub done : List (Option Partial)
-  pub split : all ≡ done ++ rest
-  pub count : length outcomes ≡ m
-  pub each : OfEachFrom (IsOutcomeOf t plan is_true l) 0 outcomes
-  pub keeps : KeepsPlaces done outcomes
-  pub partials_are : ArePartialsFor plan outcomes partials
-  pub left_are : left ≡ left_from 0 outcomes
-  pub rises : RisesApart l.faults (causes_met left) now.faults
+length_one : {A : Type 0} (xs : List A) (x : A) → length (xs ++ x ∷ []) ≡ length xs + 1
+length_one [] x = refl
+length_one (y ∷ xs) x = let e = length_one xs x in omega (arith, e)
 
-pub none_closed : (t : Table) (plan : Plan) (is_true : ℕ → Found → Type 0) (l : LinkShown) (all : List (Option Partial)) (partials : List Partial) (left : List LeftTablet) → partials ≡ [] → left ≡ []
-    → HasClosed t plan is_true l l all all 0 partials left
-none_closed t plan is_true l all partials left e f = record {
-  outcomes = [];
-  done = [];
-  split = refl;
-  count = refl;
-  each = tt;
-  keeps = tt;
-  partials_are = subst (ArePartialsFor plan []) (sym e) tt;
-  left_are = f;
-  rises = subst (λ (ls : List LeftTablet). RisesApart l.faults (causes_met ls) l.faults) (sym f) (omega arith);
-}
+-- what holds of each holds of one
+each_at : {A : Type 0} (P : ℕ → A → Type 0) (t m : ℕ) (xs : List A) (x : A) (ys : List A) → OfEachFrom P t (xs ++ x ∷ ys) → t + length xs ≡ m → P m x
+each_at P t m [] x ys h e = subst (λ (n : ℕ). P n x) (let q : t ≡ m = omega (arith, e) in q) h.0
+each_at P t m (y ∷ xs) x ys h e = each_at P (suc t) m xs x ys h.1 (omega (arith, e))
 
-module _ (t : Table) (plan : Plan) (is_true : ℕ → Found → Type 0) (l was now : LinkShown) (all rest : List (Option Partial)) (m : ℕ) (partials more : List Partial) (left longer : List LeftTablet) where
-  pub one_closed : (o : Option Partial) (x : Scanned) (p : Partial) → HasClosed t plan is_true l was all (o ∷ rest) m partials left → was.held ≡ l.held → (IsTrue l.is_steady → IsTrue was.is_steady)
-      → IsOutcomeOf t plan is_true was m x → KeepsPlace o x → RisesApart was.faults (causes_at x) now.faults → more ≡ partials ++ p ∷ [] → IsPartialFor plan x p → longer ≡ with_scanned m x left
-      → HasClosed t plan is_true l now all rest (m + 1) more longer
-  one_closed o x p h e w is keeps rises f for g = record {
-    outcomes = h.outcomes ++ x ∷ [];
-    done = h.done ++ o ∷ [];
-    split = h.split ∙ sym (append_assoc h.done (o ∷ []) rest);
-    count = length_one h.outcomes x ∙ ap (λ (n : ℕ). n + 1) h.count;
-    each = each_more (IsOutcomeOf t plan is_true l) 0 m h.outcomes x h.each (omega (arith, h.count)) (outcome_before t plan is_true l was m x e w is);
-    keeps = keeps_more h.done h.outcomes o x h.keeps keeps;
-    partials_are = subst (ArePartialsFor plan (h.outcomes ++ x ∷ [])) (sym f) (partials_more plan h.outcomes partials x p h.partials_are for);
-    left_are = g ∙ (ap (with_scanned m x) h.left_are ∙ sym (lefts_more 0 m h.outcomes x (omega (arith, h.count))));
-    rises = subst (λ (cs : List Cause). RisesApart l.faults cs now.faults) (sym (ap causes_met g ∙ causes_more m x left))
-        (rises_join l.faults was.faults now.faults (causes_met left) (causes_at x) h.rises rises);
+place_at : (before : List (Option Partial)) (o : Option Partial) (behind : List (Option Partial)) (m : ℕ) → length before ≡ m → place_of (before ++ o ∷ behind) m ≡ o
+place_at [] o behind zero e = refl
+place_at [] o behind (suc m) e = absurd (omega (arith, e))
+place_at (b ∷ before) o behind zero e = absurd (omega (arith, e))
+place_at (b ∷ before) o behind (suc m) e = place_at before o behind m (omega (arith, e))
+
+within_more : {A : Type 0} (before : List A) (x : A) (behind : List A) (m : ℕ) → length before ≡ m → m < length (before ++ x ∷ behind)
+within_more before x behind m e = let n = length-append before (x ∷ behind) in omega (arith, n, e)
+
+pieces_more : (xs : List Scanned) (x : Scanned) (rest : List (Option Partial)) → pieces_of (xs ++ x ∷ []) ++ rest ≡ pieces_of xs ++ piece_of x ∷ rest
+pieces_more xs x rest = ap (λ os. os ++ rest) (map-append piece_of xs (x ∷ [])) ∙ append_assoc (pieces_of xs) (piece_of x ∷ []) rest
+
+no_piece : (o : Option Partial) → has_some o ≡ false → o ≡ None
+no_piece None h = refl
+no_piece (Some p) h = absurd (true≢false h)
+
+module _ (t : Table) (plan : Plan) (tree : Tree) (is_true : ℕ → Found → Type 0) where
+  pub none_closed : (l : LinkShown) (all : List (Option Partial)) (grown : Growing) (left : List LeftTablet) → HasFound t plan tree is_true all grown → left ≡ []
+      → HasClosed t plan tree is_true l l all all 0 grown left
+  none_closed l all grown left h f = record {
+    outcomes = [];
+    done = [];
+    split = refl;
+    count = refl;
+    each = tt;
+    keeps = tt;
+    left_are = f;
+    rises = subst (λ (ls : List LeftTablet). RisesApart l.faults (causes_met ls) l.faults) (sym f) (omega arith);
+    worked = worked_none t plan l;
+    found = h;
   }
-    where
-      length_one : {A : Type 0} (xs : List A) (x : A) → length (xs ++ x ∷ []) ≡ length xs + 1
-      length_one [] x = refl
-      length_one (y ∷ xs) x = let e = length_one xs x in omega (arith, e)
 
--- all tablets
-pub all_closed : (t : Table) (plan : Plan) (is_true : ℕ → Found → Type 0) (l now : LinkShown) (all rest : List (Option Partial)) (m : ℕ) (partials : List Partial) (left : List LeftTablet) → HasClosed t plan is_true l now all rest m partials left
-    → rest ≡ [] → length all ≡ t.tablets → Closes t plan is_true l all partials left
-all_closed t plan is_true l now all rest m partials left h e n =
-    let same : all ≡ h.done = h.split ∙ (ap (λ (os : List (Option Partial)). h.done ++ os) e ∙ append-nil h.done) in record {
-      outcomes = h.outcomes;
-      count = keeps_length h.done h.outcomes h.keeps ∙ (ap length (sym same) ∙ n);
-      each = h.each;
-      keeps = subst (λ (os : List (Option Partial)). KeepsPlaces os h.outcomes) (sym same) h.keeps;
-      partials_are = h.partials_are;
-      left_are = h.left_are;
+  module _ (l was now : LinkShown) (all rest : List (Option Partial)) (m : ℕ) (grown new : Growing) (left longer : List LeftTablet) (o : Option Partial) (h : HasClosed t plan tree is_true l was all (o ∷ rest) m grown left) where
+    -- by an outcome of the next
+    one_closed : (x : Scanned) → Worked t plan was now → IsOutcomeOf t plan is_true was m x → KeepsPlace o x → RisesApart was.faults (causes_at x) now.faults → longer ≡ with_scanned m x left
+        → HasFound t plan tree is_true (pieces_of h.outcomes ++ piece_of x ∷ rest) new → HasClosed t plan tree is_true l now all rest (m + 1) new longer
+    one_closed x w is keeps rises g found = record {
+      outcomes = h.outcomes ++ x ∷ [];
+      done = h.done ++ o ∷ [];
+      split = h.split ∙ sym (append_assoc h.done (o ∷ []) rest);
+      count = length_one h.outcomes x ∙ ap (λ (n : ℕ). n + 1) h.count;
+      each = each_more (IsOutcomeOf t plan is_true l) 0 m h.outcomes x h.each (omega (arith, h.count)) (outcome_before t plan is_true l was m x h.worked.same h.worked.stays_steady is);
+      keeps = keeps_more h.done h.outcomes o x h.keeps keeps;
+      left_are = g ∙ (ap (with_scanned m x) h.left_are ∙ sym (lefts_more 0 m h.outcomes x (omega (arith, h.count))));
+      rises = subst (λ (cs : List Cause). RisesApart l.faults cs now.faults) (sym (ap causes_met g ∙ causes_more m x left))
+          (rises_join l.faults was.faults now.faults (causes_met left) (causes_at x) h.rises rises);
+      worked = worked_more t plan l was now h.worked w;
+      found = subst (λ (os : List (Option Partial)). HasFound t plan tree is_true os new) (sym (pieces_more h.outcomes x rest)) found;
     }
+
+    many : length (pieces_of h.outcomes) ≡ m
+    many = length-map h.outcomes piece_of ∙ h.count
+
+    -- it has no piece, and what came of it can be kept
+    module _ (none : has_some o ≡ false) (addable : AreAddable t plan is_true) (few : t.tablets ≤ 4096) where
+      abbrev places : List (Option Partial)
+      places = pieces_of h.outcomes ++ o ∷ rest
+
+      free : place_of places m ≡ None
+      free = place_at (pieces_of h.outcomes) o rest m many ∙ no_piece o none
+
+      within : m < length places
+      within = within_more (pieces_of h.outcomes) o rest m many
+
+      pub can_keep : (x : Scanned) → IsOutcomeOf t plan is_true was m x → CanKeep m x grown
+      can_keep (Scanned.Given p) is = (growth_by t plan tree places, h.found.grows, can_add t plan tree is_true places grown m p h.found within free is addable few)
+      can_keep (Scanned.Left tried) is = tt
+
+      found_now : (x : Scanned) → IsOutcomeOf t plan is_true was m x → HasKept m x grown new → HasFound t plan tree is_true (pieces_of h.outcomes ++ piece_of x ∷ rest) new
+      found_now (Scanned.Given p) is kept =
+          subst (λ (os : List (Option Partial)). HasFound t plan tree is_true os new) (set_behind (pieces_of h.outcomes) o rest m (Some p) many)
+          (found_more t plan tree is_true places grown m p h.found within free is new (kept (growth_by t plan tree places) h.found.grows (can_add t plan tree is_true places grown m p h.found within free is addable few)))
+      found_now (Scanned.Left tried) is kept =
+          subst (HasFound t plan tree is_true (pieces_of h.outcomes ++ None ∷ rest)) (sym kept)
+          (subst (λ (x : Option Partial). HasFound t plan tree is_true (pieces_of h.outcomes ++ x ∷ rest) grown) (no_piece o none) h.found)
+
+      pub scanned_closed : (x : Scanned) → Worked t plan was now → IsOutcomeOf t plan is_true was m x → RisesApart was.faults (causes_at x) now.faults → longer ≡ with_scanned m x left → HasKept m x grown new
+          → HasClosed t plan tree is_true l now all rest (m + 1) new longer
+      scanned_closed x w is rises g kept = one_closed x w is (subst (λ (p : Option Partial). KeepsPlace p x) (sym (no_piece o none)) tt) rises g (found_now x is kept)
+
+  -- it has its piece
+  pub answered_closed : (l was : LinkShown) (all rest : List (Option Partial)) (m : ℕ) (grown : Growing) (left : List LeftTablet) (o : Option Partial) → HasClosed t plan tree is_true l was all (o ∷ rest) m grown left → has_some o ≡ true
+      → HasClosed t plan tree is_true l was all rest (m + 1) grown left
+  answered_closed l was all rest m grown left None h e = absurd (true≢false (sym e))
+  answered_closed l was all rest m grown left (Some p) h e =
+      one_closed l was was all rest m grown grown left left (Some p) h (Scanned.Given p) (worked_none t plan was)
+      (each_at (IsTruePlace is_true) 0 m (pieces_of h.outcomes) (Some p) rest h.found.truths (omega (arith, many l was was all rest m grown grown left left (Some p) h))) refl (omega arith) refl h.found
+
+  -- all tablets
+  pub all_closed : (l now : LinkShown) (all rest : List (Option Partial)) (m : ℕ) (grown : Growing) (left : List LeftTablet) → HasClosed t plan tree is_true l now all rest m grown left
+      → rest ≡ [] → length all ≡ t.tablets → Closes t plan tree is_true l all grown left
+  all_closed l now all rest m grown left h e n =
+      let same : all ≡ h.done = h.split ∙ (ap (λ (os : List (Option Partial)). h.done ++ os) e ∙ append-nil h.done) in record {
+        outcomes = h.outcomes;
+        count = keeps_length h.done h.outcomes h.keeps ∙ (ap length (sym same) ∙ n);
+        each = h.each;
+        keeps = subst (λ (os : List (Option Partial)). KeepsPlaces os h.outcomes) (sym same) h.keeps;
+        grows = subst (λ (os : List (Option Partial)). Grows (growth_by t plan tree os) grown) (ap (λ (os : List (Option Partial)). pieces_of h.outcomes ++ os) e ∙ append-nil (pieces_of h.outcomes)) h.found.grows;
+        left_are = h.left_are;
+      }
+
+-- ---- where a step was done
+
+pub where_both : {P Q S : Type 0} (r : Result (Unit {0}) NoMemory) → OnOk r P → OnOk r Q → (P → Q → S) → OnOk r S
+where_both (Ok done) h k f = f h k
+where_both (Err e) h k f = tt
+
+pub when_done : {P : Type 0} (r : Result (Unit {0}) NoMemory) (x : Unit {0}) → r ≡ Ok x → OnOk r P → P
+when_done {P} r x e h = subst (λ (y : Result (Unit {0}) NoMemory). OnOk y P) e h
+
+pub kept_given : (r : Result (Unit {0}) NoMemory) (t : ℕ) (p : Partial) (x : Scanned) (before now : Growing) → x ≡ Scanned.Given p
+    → ((w : Growth) → Grows w before → CanAdd w t p → OnOk r (Grows (with_added w t (partial_view p)) now)) → OnOk r (HasKept t x before now)
+kept_given (Ok done) t p x before now e f = subst (λ (y : Scanned). HasKept t y before now) (sym e) f
+kept_given (Err error) t p x before now e f = tt
+
+-- ---- the tablets, one after another
+
+pub next_place : (places : List (Option Partial)) (m : ℕ) → m < length places → drop m places ≡ get_or places m None ∷ drop (m + 1) places
+next_place places m l = drop_more places m None l
+
+pub has_piece_at : (places : List (Option Partial)) (m : ℕ) (b : Bool) → m < length places → b ≡ get_or (map has_some places) m b → b ≡ has_some (get_or places m None)
+has_piece_at [] m b l e = absurd (omega (arith, l))
+has_piece_at (o ∷ places) zero b l e = e
+has_piece_at (o ∷ places) (suc m) b l e = has_piece_at places m b (omega (arith, l)) e
+
+-- the next of all
+abbrev pub next_tablet : (t : Table) (plan : Plan) (tree : Tree) (is_true : ℕ → Found → Type 0) (first now : LinkShown) (places : List (Option Partial)) (flags : List Bool) (m : ℕ) (b : Bool) (grown : Growing) (left : List LeftTablet)
+    → HasClosed t plan tree is_true first now places (drop m places) m grown left → m < length places → flags ≡ map has_some places → b ≡ get_or flags m b → IsNext t plan is_true now m b grown left
+next_tablet t plan tree is_true first now places flags m b grown left h l e f = record {
+  tree = tree;
+  first = first;
+  all = places;
+  place = get_or places m None;
+  rest = drop (m + 1) places;
+  closed = subst (λ (os : List (Option Partial)). HasClosed t plan tree is_true first now places os m grown left) (next_place places m l) h;
+  same = has_piece_at places m b l (f ∙ ap (λ (bs : List Bool). get_or bs m b) e);
+}

@@ -1,6 +1,6 @@
 -- What a tree gathers of the partials of all tablets stands for the records of those that aren't left.
 use Rattle.std.proofs.Common.{◌≡◌, ◌<◌, inl, inr, ℕ, zero, suc, ◌+◌, List, [], ◌∷◌, ◌++◌, map, length, get_or, true, Option, Some, None, refl, sym, ap, ap₂, ◌∙◌, subst, append_assoc, arith}
-use Rattle.std.specs.Prelude.{◌⊎◌}
+use Rattle.std.specs.Prelude.{◌⊎◌, ⊤}
 use Rattle.std.specs.List.{list_all, flat_map, range_with_len}
 use Rattle.dr_meaning.specs.Schema.{Schema}
 use Rattle.dr_meaning.specs.Path.{Leaf}
@@ -30,15 +30,13 @@ use Rattle.dr_reading.specs.Scan.{Copy, copy_paths, copies_from, tablets_from, t
 use Rattle.dr_tablets.specs.Views.{all_tried_view}
 use Rattle.dr_serving.specs.Truth.{TabletTruth, StandsForFile}
 use Rattle.dr_serving.specs.Outcome.{truth_of}
-use Rattle.dr_scan.specs.Tables.{AllStand}
 use Rattle.dr_scan.specs.declared.tablet.Scanned.{Scanned}
 use Rattle.dr_scan.proofs.ScanLemmas.{leaves_are}
-use Rattle.dr_tree.specs.Together.{partials_view}
 use Rattle.dr_serve.specs.Working.{IsPiece}
-use Rattle.dr_serve.specs.Closing.{ArePartialsFor, left_from}
+use Rattle.dr_serve.specs.Closing.{left_from}
 use Rattle.dr_serve.specs.Serving.{serving_by, first_shown}
 use Rattle.dr_serve.specs.Counted.{OneGives, AreCounted, no_more, is_counted, is_not_counted, StandsForCounted, AreLeftOf, held_of}
-use Rattle.dr_serve.proofs.FinishLemmas.{AreOutcomes, as_many, piece_at, pieces_by_tablet, get_behind, length_one, empty_stands, true_there}
+use Rattle.dr_serve.proofs.FinishLemmas.{AreOutcomes, ArePartialsFor, as_many, piece_at, pieces_by_tablet, get_behind, length_one, empty_stands, true_there}
 
 -- ---- records by their tablets
 
@@ -60,43 +58,49 @@ stands_as : (s : Schema) (q : Query) (R : List Node) (p : meant.Partial) → Sta
 unfolding Stands
 stands_as s q R p h = h ∙ leaf_has_partials s.fields q R
 
-stand_from : (s : Schema) (q : Query) (Sb : List (List Node)) (pb : List meant.Partial) (Rs : List (List Node)) (ps : List Partial) → length Sb ≡ length pb → AllStand s q Rs ps
-    → StandsForEach s.fields q (records_at (Sb ++ Rs)) (piece_at (pb ++ partials_view ps)) (range_with_len (length pb) (length ps))
+-- each stands for the records of its tablet, which are records of the schema
+abbrev AllStand : Schema → Query → List (List Node) → List meant.Partial → Type 0
+AllStand s q [] [] = ⊤
+AllStand s q (R ∷ Rs) (p ∷ ps) = (list_all (is_record s.fields) R ≡ true) × Stands s.fields (leaf_query q) R p × AllStand s q Rs ps
+AllStand s q Rs ps = ⊥
+
+stand_from : (s : Schema) (q : Query) (Sb : List (List Node)) (pb : List meant.Partial) (Rs : List (List Node)) (ps : List meant.Partial) → length Sb ≡ length pb → AllStand s q Rs ps
+    → StandsForEach s.fields q (records_at (Sb ++ Rs)) (piece_at (pb ++ ps)) (range_with_len (length pb) (length ps))
 stand_from s q Sb pb [] [] e h = tt
 stand_from s q Sb pb [] (p ∷ ps) e h = absurd h
 stand_from s q Sb pb (R ∷ Rs) [] e h = absurd h
 stand_from s q Sb pb (R ∷ Rs) (p ∷ ps) e h =
     let here : records_at (Sb ++ R ∷ Rs) (length pb) ≡ R = ap (records_at (Sb ++ R ∷ Rs)) (sym e) ∙ get_behind Sb R Rs [] in
-    let mine : piece_at (pb ++ partial_view p ∷ partials_view ps) (length pb) ≡ partial_view p = get_behind pb (partial_view p) (partials_view ps) (lines []) in
-    let e' : length (Sb ++ R ∷ []) ≡ length (pb ++ partial_view p ∷ []) = length_one Sb R ∙ (ap (λ n. n + 1) e ∙ sym (length_one pb (partial_view p))) in
-    let rest = stand_from s q (Sb ++ R ∷ []) (pb ++ partial_view p ∷ []) Rs ps e' h.2 in (
+    let mine : piece_at (pb ++ p ∷ ps) (length pb) ≡ p = get_behind pb p ps (lines []) in
+    let e' : length (Sb ++ R ∷ []) ≡ length (pb ++ p ∷ []) = length_one Sb R ∙ (ap (λ n. n + 1) e ∙ sym (length_one pb p)) in
+    let rest = stand_from s q (Sb ++ R ∷ []) (pb ++ p ∷ []) Rs ps e' h.2 in (
       ap (list_all (is_record s.fields)) here ∙ h.0,
-      subst (λ (ns : List Node). Stands s.fields q ns (piece_at (pb ++ partial_view p ∷ partials_view ps) (length pb))) (sym here)
-          (subst (Stands s.fields q R) (sym mine) (stands_as s q R (partial_view p) h.1)),
-      subst (λ (n : ℕ). StandsForEach s.fields q (records_at (Sb ++ R ∷ Rs)) (piece_at (pb ++ partial_view p ∷ partials_view ps)) (range_with_len n (length ps))) (length_one pb (partial_view p))
-          (subst (λ (all : List meant.Partial). StandsForEach s.fields q (records_at (Sb ++ R ∷ Rs)) (piece_at all) (range_with_len (length (pb ++ partial_view p ∷ [])) (length ps))) (append_assoc pb (partial_view p ∷ []) (partials_view ps))
-          (subst (λ (all : List (List Node)). StandsForEach s.fields q (records_at all) (piece_at ((pb ++ partial_view p ∷ []) ++ partials_view ps)) (range_with_len (length (pb ++ partial_view p ∷ [])) (length ps)))
+      subst (λ (ns : List Node). Stands s.fields q ns (piece_at (pb ++ p ∷ ps) (length pb))) (sym here)
+          (subst (Stands s.fields q R) (sym mine) (stands_as s q R p h.1)),
+      subst (λ (n : ℕ). StandsForEach s.fields q (records_at (Sb ++ R ∷ Rs)) (piece_at (pb ++ p ∷ ps)) (range_with_len n (length ps))) (length_one pb p)
+          (subst (λ (all : List meant.Partial). StandsForEach s.fields q (records_at (Sb ++ R ∷ Rs)) (piece_at all) (range_with_len (length (pb ++ p ∷ [])) (length ps))) (append_assoc pb (p ∷ []) ps)
+          (subst (λ (all : List (List Node)). StandsForEach s.fields q (records_at all) (piece_at ((pb ++ p ∷ []) ++ ps)) (range_with_len (length (pb ++ p ∷ [])) (length ps)))
           (append_assoc Sb (R ∷ []) Rs) rest)),
     )
 
-same_length : (s : Schema) (q : Query) (Rs : List (List Node)) (ps : List Partial) → AllStand s q Rs ps → length Rs ≡ length ps
+same_length : (s : Schema) (q : Query) (Rs : List (List Node)) (ps : List meant.Partial) → AllStand s q Rs ps → length Rs ≡ length ps
 same_length s q [] [] h = refl
 same_length s q [] (p ∷ ps) h = absurd h
 same_length s q (R ∷ Rs) [] h = absurd h
 same_length s q (R ∷ Rs) (p ∷ ps) h = ap suc (same_length s q Rs ps h.2)
 
 -- what a tree of all tablets gathers stands for the records of all
-tree_stands : (s : Schema) (q : Query) (plan : Plan) (Rs : List (List Node)) (ps : List Partial) (n : ℕ) (tree : Tree) (p : meant.Partial) → IsPlanOf s q plan → AllStand s q Rs ps → length ps ≡ n → tablets_in tree ≡ range_with_len 0 n
-    → ((piece : ℕ → meant.Partial) → map piece (tablets_in tree) ≡ partials_view ps → p ≡ gathered piece tree) → Stands s.fields q (joined Rs) p
+tree_stands : (s : Schema) (q : Query) (plan : Plan) (Rs : List (List Node)) (ps : List meant.Partial) (n : ℕ) (tree : Tree) (p : meant.Partial) → IsPlanOf s q plan → AllStand s q Rs ps → length ps ≡ n → tablets_in tree ≡ range_with_len 0 n
+    → ((piece : ℕ → meant.Partial) → map piece (tablets_in tree) ≡ ps → p ≡ gathered piece tree) → Stands s.fields q (joined Rs) p
 tree_stands s q plan Rs ps n tree p is all each has gathers =
     let tablets : tablets_in tree ≡ range_with_len 0 (length ps) = has ∙ ap (range_with_len 0) (sym each) in
-    let pieces : map (piece_at (partials_view ps)) (tablets_in tree) ≡ partials_view ps = ap (map (piece_at (partials_view ps))) has ∙ pieces_by_tablet ps n each in
-    let stands : StandsForEach s.fields q (records_at Rs) (piece_at (partials_view ps)) (tablets_in tree) =
-    subst (StandsForEach s.fields q (records_at Rs) (piece_at (partials_view ps))) (sym tablets) (stand_from s q [] [] Rs ps refl all) in
+    let pieces : map (piece_at ps) (tablets_in tree) ≡ ps = ap (map (piece_at ps)) has ∙ pieces_by_tablet ps n each in
+    let stands : StandsForEach s.fields q (records_at Rs) (piece_at ps) (tablets_in tree) =
+    subst (StandsForEach s.fields q (records_at Rs) (piece_at ps)) (sym tablets) (stand_from s q [] [] Rs ps refl all) in
     let records : records_of (records_at Rs) (tablets_in tree) ≡ joined Rs = ap (records_of (records_at Rs)) (tablets ∙ ap (range_with_len 0) (sym (same_length s q Rs ps all))) ∙ all_records Rs in
-    subst (Stands s.fields q (joined Rs)) (sym (gathers (piece_at (partials_view ps)) pieces))
-    (subst (λ (ns : List Node). Stands s.fields q ns (gathered (piece_at (partials_view ps)) tree)) records
-    (gathered_stands s.fields q (records_at Rs) (piece_at (partials_view ps)) tree (bound_is_mergeable s is.0 q is.1) stands))
+    subst (Stands s.fields q (joined Rs)) (sym (gathers (piece_at ps) pieces))
+    (subst (λ (ns : List Node). Stands s.fields q ns (gathered (piece_at ps) tree)) records
+    (gathered_stands s.fields q (records_at Rs) (piece_at ps) tree (bound_is_mergeable s is.0 q is.1) stands))
 
 -- ---- what links hold, as what they give
 
@@ -183,14 +187,14 @@ module _ (t : Table) (plan : Plan) (q : Query) (first : LinkShown) (others : Lis
           }
 
   -- the records of some tablets, those of one that is left being none, for which the partials stand
-  record Counts (i n : ℕ) (xs : List Scanned) (ps : List Partial) : Type 0 where
+  record Counts (i n : ℕ) (xs : List Scanned) (ps : List meant.Partial) : Type 0 where
     counted : List (List Node)
     all : List (List Node)
     are : AreCounted t.schema F links i (tablets_from t.leaves t.copies i n) (left_from i xs) counted
     stand : AllStand t.schema q all ps
     same : joined all ≡ joined counted
 
-  counts : (i n : ℕ) (xs : List Scanned) (ps : List Partial) → i + n ≡ t.tablets → length xs ≡ n → AreOutcomes t plan links was i xs → ArePartialsFor plan xs ps → Counts i n xs ps
+  counts : (i n : ℕ) (xs : List Scanned) (ps : List meant.Partial) → i + n ≡ t.tablets → length xs ≡ n → AreOutcomes t plan links was i xs → ArePartialsFor plan xs ps → Counts i n xs ps
   counts i zero [] [] e l h k = record { counted = []; all = []; are = no_more i; stand = tt; same = refl }
   counts i zero [] (p ∷ ps) e l h k = absurd k
   counts i (suc n) [] ps e l h k = absurd (omega (arith, l))
@@ -202,7 +206,7 @@ module _ (t : Table) (plan : Plan) (q : Query) (first : LinkShown) (others : Lis
         counted = here.records ∷ more.counted;
         all = here.records ∷ more.all;
         are = is_counted i (copies_from t.leaves i 0 t.copies) (tablets_from t.leaves t.copies (suc i) n) (left_from (suc i) xs) here.records more.counted here.given more.are;
-        stand = (here.are_records, subst (λ (x : Partial). Stands t.schema.fields (leaf_query q) here.records (partial_view x)) (sym k.0) here.stands, more.stand);
+        stand = (here.are_records, subst (λ (x : meant.Partial). Stands t.schema.fields (leaf_query q) here.records x) (sym k.0) here.stands, more.stand);
         same = ap (λ (ns : List Node). here.records ++ ns) more.same;
       }
   counts i (suc n) (Scanned.Left tried ∷ xs) (p ∷ ps) e l h k =
@@ -233,8 +237,8 @@ module _ (t : Table) (plan : Plan) (q : Query) (first : LinkShown) (others : Lis
 -- ---- what serving ends with
 
 module _ (t : Table) (plan : Plan) (q : Query) (links : List LinkShown) (some : 0 < length links) (is : IsPlanOf t.schema q plan) (was : LinkShown) (xs : List Scanned) (many : length xs ≡ t.tablets) where
-  pub counted_by : (tree : Tree) (ps : List Partial) (p : meant.Partial) → tablets_in tree ≡ range_with_len 0 t.tablets → AreOutcomes t plan (held_of links) was 0 xs → ArePartialsFor plan xs ps
-      → ((piece : ℕ → meant.Partial) → map piece (tablets_in tree) ≡ partials_view ps → p ≡ gathered piece tree) → StandsForCounted t q (held_of links) (left_from 0 xs) p
+  pub counted_by : (tree : Tree) (ps : List meant.Partial) (p : meant.Partial) → tablets_in tree ≡ range_with_len 0 t.tablets → AreOutcomes t plan (held_of links) was 0 xs → ArePartialsFor plan xs ps
+      → ((piece : ℕ → meant.Partial) → map piece (tablets_in tree) ≡ ps → p ≡ gathered piece tree) → StandsForCounted t q (held_of links) (left_from 0 xs) p
   counted_by tree ps p has came are gathers = by links some came
     where
       by : (links : List LinkShown) → 0 < length links → AreOutcomes t plan (held_of links) was 0 xs → StandsForCounted t q (held_of links) (left_from 0 xs) p

@@ -1,130 +1,81 @@
 -- What the closing round gives, as what serving ends with.
-use Rattle.std.proofs.Common.{◌≡◌, ◌<◌, ◌≤◌, ℕ, zero, suc, ◌+◌, ◌*◌, List, [], ◌∷◌, ◌++◌, map, length, get_or, true, ◌&&◌, Option, refl, sym, ap, ap₂, ◌∙◌, subst, append_assoc, arith}
-use Rattle.std.specs.List.{list_all, range_with_len, filter_map}
-use Rattle.std.proofs.lemmas.List.{length-map}
+use Rattle.std.proofs.Common.{◌≡◌, ◌<◌, ◌≤◌, ℕ, zero, suc, ◌+◌, List, [], ◌∷◌, ◌++◌, map, length, get_or, Option, refl, sym, ap, ap₂, ◌∙◌, subst, append_assoc, arith}
+use Rattle.std.specs.Prelude.{⊤}
+use Rattle.std.specs.List.{range_with_len}
 use Rattle.dr_meaning.specs.Schema.{Schema, Fields}
-use Rattle.dr_meaning.specs.Query.{Query, count, sum, least, greatest, GroupTerm, key, count_rows, aggregate, GroupItem, Selection, objects, groups}
+use Rattle.dr_meaning.specs.Query.{Query}
 use Rattle.dr_meaning.specs.Path.{Leaf}
 use Rattle.dr_formats.specs.TableFile.{Table}
 use Rattle.dr_outside.specs.Link.{Files, LinkShown}
-use Rattle.dr_group.specs.Partials.{partial_view, IsPartialOf}
+use Rattle.dr_group.specs.Partials.{partial_view}
 use Rattle.dr_group.specs.declared.partial.Partial.{Partial}
 use Rattle.dr_partials.specs.Partials as meant
-use Rattle.dr_partials.specs.Partials.{lines, Stands, empty_term, empty_selected, empty_partial}
-use Rattle.dr_partials.specs.PartialTypes.{is_partial}
-use Rattle.dr_partials.specs.PartialBounds.{AllCanBeOf, PartialCanBeOf}
+use Rattle.dr_partials.specs.Partials.{lines, Stands, empty_partial}
 use Rattle.dr_partials.specs.Rewriting.{leaf_query}
 use Rattle.dr_partials.specs.Trees.{Tree, tablets_of as tablets_in, gathered}
 use Rattle.dr_partials.proofs.PartialLemmas.{empty_stands_for_none}
-use Rattle.dr_partials.proofs.PartialTypeLemmas.{empty_is_partial}
-use Rattle.dr_partials.proofs.RewritingLemmas.{leaf_has_partials, leaf_has_same_partials, leaf_uses_same_leaves}
-use Rattle.dr_plan.specs.PlanOf.{IsPlanOf, ForQuery}
-use Rattle.dr_plan.specs.Planned.{Planned, IsOfSchema, planned, planned_query, plan_leaves, plan_view}
+use Rattle.dr_partials.proofs.RewritingLemmas.{leaf_has_partials, leaf_uses_same_leaves}
+use Rattle.dr_plan.specs.PlanOf.{IsPlanOf}
+use Rattle.dr_plan.specs.Planned.{Planned, planned, planned_query, plan_leaves, plan_view}
 use Rattle.dr_plan.specs.declared.plan.Plan.{Plan}
 use Rattle.dr_reading.specs.Causes.{RisesApart}
 use Rattle.dr_reading.specs.Left.{LeftTablet, AreTried, LeftUnanswered, no_tablets, is_answered, is_left, causes_met}
 use Rattle.dr_reading.specs.Scan.{Copy, copies_from, tablets_from, tablets_of}
 use Rattle.dr_tablets.specs.Views.{all_tried_view}
-use Rattle.dr_serving.specs.Truth.{IsTrueOf, most_values}
+use Rattle.dr_serving.specs.Truth.{IsTrueOf}
 use Rattle.dr_serving.specs.Outcome.{Serving, serving_leaves, truth_of, HasPiece, AreTrueFrom, IsFinished, IsUnfinished}
 use Rattle.dr_scan.specs.declared.tablet.Scanned.{Scanned}
 use Rattle.dr_scan.proofs.ScanLemmas.{leaves_are}
-use Rattle.dr_tree.specs.Together.{AreOfPlan, CanBeTogether, Together, partials_view}
+use Rattle.dr_tree.specs.Places.{pieces_at}
 use Rattle.dr_serve.specs.Serving.{serving_by, first_shown, TrueUnlessLeft, no_more, is_counted, is_not_counted, IsFinishedBut}
 use Rattle.dr_serve.specs.Working.{IsPiece, IsPieceFound}
-use Rattle.dr_serve.specs.Closing.{OfEachFrom, IsOutcomeOf, IsEmptyOf, IsPartialFor, ArePartialsFor, left_from}
+use Rattle.dr_serve.specs.Closing.{OfEachFrom, IsOutcomeOf, left_from, pieces_of, places_from}
 use Rattle.dr_serve.specs.Counted.{held_of}
 use Rattle.dr_serve.proofs.LeafLemmas.{copies_of}
 
--- ---- the partial of no records
+-- ---- the partial of each tablet
 
-empty_terms : (n : ℕ) (items : List GroupItem) → AllCanBeOf n (filter_map (λ (i : GroupItem). empty_term i.term) items)
-empty_terms n [] = tt
-empty_terms n (i ∷ items) = by_term i.term (empty_terms n items)
-  where
-    by_term : (t : GroupTerm) → AllCanBeOf n (filter_map (λ (i : GroupItem). empty_term i.term) items) → AllCanBeOf n (filter_map (λ (i : GroupItem). empty_term i.term) (record { name = i.name; term = t } ∷ items))
-    by_term (key k) h = h
-    by_term count_rows h = (omega arith, h)
-    by_term (aggregate count e) h = (omega arith, h)
-    by_term (aggregate sum e) h = (tt, h)
-    by_term (aggregate least e) h = (tt, h)
-    by_term (aggregate greatest e) h = (tt, h)
+-- its piece, or of a tablet that is left that of no records
+abbrev pub partial_for : Plan → Scanned → meant.Partial
+partial_for plan (Scanned.Given p) = partial_view p
+partial_for plan (Scanned.Left tried) = empty_partial (planned_query (plan_view plan))
 
-empty_can_be : (n : ℕ) (q : Query) → PartialCanBeOf n (empty_partial q)
-unfolding empty_partial
-empty_can_be n q = of_selection q.selection
-  where
-    of_selection : (s : Selection) → PartialCanBeOf n (empty_selected s)
-    of_selection (objects items) = tt
-    of_selection (groups [] items) = (empty_terms n items, tt)
-    of_selection (groups (k ∷ keys) items) = tt
+abbrev pub ArePartialsFor : Plan → List Scanned → List meant.Partial → Type 0
+ArePartialsFor plan [] [] = ⊤
+ArePartialsFor plan (x ∷ xs) (p ∷ ps) = (p ≡ partial_for plan x) × ArePartialsFor plan xs ps
+ArePartialsFor plan xs ps = ⊥
+
+abbrev pub partials_of : Plan → List Scanned → List meant.Partial
+partials_of plan xs = map (partial_for plan) xs
+
+pub partials_are : (plan : Plan) (xs : List Scanned) → ArePartialsFor plan xs (partials_of plan xs)
+partials_are plan [] = tt
+partials_are plan (x ∷ xs) = (refl, partials_are plan xs)
+
+-- what a tree has to which the pieces were added
+pub pieces_are : (plan : Plan) (t : ℕ) (xs : List Scanned) → pieces_at (planned_query (plan_view plan)) (places_from t (pieces_of xs)) ≡ partials_of plan xs
+pieces_are plan t [] = refl
+pieces_are plan t (Scanned.Given p ∷ xs) = ap (λ ps. partial_view p ∷ ps) (pieces_are plan (suc t) xs)
+pieces_are plan t (Scanned.Left tried ∷ xs) = ap (λ ps. empty_partial (planned_query (plan_view plan)) ∷ ps) (pieces_are plan (suc t) xs)
 
 empty_planned : (fs : Fields) (q : Query) → empty_partial (planned_query (planned fs q)) ≡ empty_partial q
 unfolding empty_partial
 empty_planned fs q = refl
 
-is_empty : (s : Schema) (q : Query) (plan : Plan) (p : Partial) → IsPlanOf s q plan → IsEmptyOf plan p → partial_view p ≡ empty_partial q
-is_empty s q plan p is h = h.0 ∙ (ap (λ (x : Planned). empty_partial (planned_query x)) is.2 ∙ empty_planned s.fields q)
+is_empty : (s : Schema) (q : Query) (plan : Plan) (p : meant.Partial) → IsPlanOf s q plan → p ≡ empty_partial (planned_query (plan_view plan)) → p ≡ empty_partial q
+is_empty s q plan p is h = h ∙ (ap (λ (x : Planned). empty_partial (planned_query x)) is.2 ∙ empty_planned s.fields q)
 
-pub empty_stands : (s : Schema) (q : Query) (plan : Plan) (p : Partial) → IsPlanOf s q plan → IsEmptyOf plan p → Stands s.fields (leaf_query q) [] (partial_view p)
+pub empty_stands : (s : Schema) (q : Query) (plan : Plan) (p : meant.Partial) → IsPlanOf s q plan → p ≡ empty_partial (planned_query (plan_view plan)) → Stands s.fields (leaf_query q) [] p
 unfolding Stands
 empty_stands s q plan p is h = is_empty s q plan p is h ∙ (empty_stands_for_none s.fields q ∙ sym (leaf_has_partials s.fields q []))
 
--- ---- they go together
+-- ---- what came of the tablets
 
-module _ (t : Table) (plan : Plan) (links : List (Option Files)) (l : LinkShown) where
-  abbrev pub AreOutcomes : ℕ → List Scanned → Type 0
-  AreOutcomes i xs = OfEachFrom (IsOutcomeOf t plan (IsPieceFound t plan links) l) i xs
-
-  abbrev IsGood : Partial → Type 0
-  IsGood p = IsPartialOf (plan_view plan) p × ForQuery t.schema plan (λ q. (is_partial t.schema.fields (leaf_query q) (partial_view p) ≡ true) × PartialCanBeOf most_values (partial_view p))
-
-  is_good : (i : ℕ) (x : Scanned) (p : Partial) → IsOutcomeOf t plan (IsPieceFound t plan links) l i x → IsPartialFor plan x p → IsGood p
-  is_good i (Scanned.Given r) p h k = subst IsGood (sym k) (h.of_plan, λ q is. ((h.truth q is).partial, (h.truth q is).bounded))
-  is_good i (Scanned.Left tried) p h k = (
-    k.1,
-    λ q is. (
-      leaf_has_same_partials t.schema.fields q (partial_view p) ∙ (ap (is_partial t.schema.fields q) (is_empty t.schema q plan p is k) ∙ empty_is_partial t.schema.fields q),
-      subst (PartialCanBeOf most_values) (sym (is_empty t.schema q plan p is k)) (empty_can_be most_values q),
-    ),
-  )
-
-  of_plan : (i : ℕ) (xs : List Scanned) (ps : List Partial) → AreOutcomes i xs → ArePartialsFor plan xs ps → AreOfPlan (plan_view plan) ps
-  of_plan i [] [] h k = tt
-  of_plan i [] (p ∷ ps) h k = absurd k
-  of_plan i (x ∷ xs) [] h k = absurd k
-  of_plan i (x ∷ xs) (p ∷ ps) h k = ((is_good i x p h.0 k.0).0, of_plan (suc i) xs ps h.1 k.1)
-
-  all_partials : (q : Query) (i : ℕ) (xs : List Scanned) (ps : List Partial) → IsPlanOf t.schema q plan → AreOutcomes i xs → ArePartialsFor plan xs ps → list_all (is_partial t.schema.fields (leaf_query q)) (partials_view ps) ≡ true
-  all_partials q i [] [] is h k = refl
-  all_partials q i [] (p ∷ ps) is h k = absurd k
-  all_partials q i (x ∷ xs) [] is h k = absurd k
-  all_partials q i (x ∷ xs) (p ∷ ps) is h k = ap₂ (λ a b. a && b) ((is_good i x p h.0 k.0).1 q is).0 (all_partials q (suc i) xs ps is h.1 k.1)
-
-  all_bounded : (q : Query) (i : ℕ) (xs : List Scanned) (ps : List Partial) → IsPlanOf t.schema q plan → AreOutcomes i xs → ArePartialsFor plan xs ps → CanBeTogether (length ps * most_values) (partials_view ps)
-  all_bounded q i [] [] is h k = tt
-  all_bounded q i [] (p ∷ ps) is h k = absurd k
-  all_bounded q i (x ∷ xs) [] is h k = absurd k
-  all_bounded q i (x ∷ xs) (p ∷ ps) is h k = (most_values, length ps * most_values, omega arith, ((is_good i x p h.0 k.0).1 q is).1, all_bounded q (suc i) xs ps is h.1 k.1)
-
-  pub partials_together : (xs : List Scanned) (ps : List Partial) → IsOfSchema t.schema plan → AreOutcomes 0 xs → ArePartialsFor plan xs ps → length ps ≤ 4096 → Together ps
-  partials_together xs ps from h k few =
-      let q : Query = from.1 in
-      let is : IsPlanOf t.schema q plan = (from.0, from.2, from.3) in record {
-        plan = plan_view plan;
-        of_plan = of_plan 0 xs ps h k;
-        fields = t.schema.fields;
-        query = leaf_query q;
-        most = length ps * most_values;
-        bounds = record { partials = all_partials q 0 xs ps is h k; bounded = all_bounded q 0 xs ps is h k };
-        room = omega (arith, few);
-      }
-
-  pub partials_of_plan : (xs : List Scanned) (ps : List Partial) → AreOutcomes 0 xs → ArePartialsFor plan xs ps → AreOfPlan (plan_view plan) ps
-  partials_of_plan xs ps h k = of_plan 0 xs ps h k
+abbrev pub AreOutcomes : Table → Plan → List (Option Files) → LinkShown → ℕ → List Scanned → Type 0
+AreOutcomes t plan links l i xs = OfEachFrom (IsOutcomeOf t plan (IsPieceFound t plan links) l) i xs
 
 -- as many as there are tablets
-pub as_many : (plan : Plan) (xs : List Scanned) (ps : List Partial) → ArePartialsFor plan xs ps → length ps ≡ length xs
+pub as_many : (plan : Plan) (xs : List Scanned) (ps : List meant.Partial) → ArePartialsFor plan xs ps → length ps ≡ length xs
 as_many plan [] [] k = refl
 as_many plan [] (p ∷ ps) k = absurd k
 as_many plan (x ∷ xs) [] k = absurd k
@@ -149,9 +100,9 @@ pieces_from before (p ∷ ps) =
     ap₂ (λ (x : meant.Partial) xs. x ∷ xs) (get_behind before p ps (lines []))
     (ap₂ (λ (all : List meant.Partial) (n : ℕ). map (piece_at all) (range_with_len n (length ps))) (sym (append_assoc before (p ∷ []) ps)) (sym (length_one before p)) ∙ pieces_from (before ++ p ∷ []) ps)
 
-pub pieces_by_tablet : (ps : List Partial) (n : ℕ) → length ps ≡ n → map (piece_at (partials_view ps)) (range_with_len 0 n) ≡ partials_view ps
+pub pieces_by_tablet : (ps : List meant.Partial) (n : ℕ) → length ps ≡ n → map (piece_at ps) (range_with_len 0 n) ≡ ps
 pieces_by_tablet ps n e =
-    ap (λ (m : ℕ). map (piece_at (partials_view ps)) (range_with_len 0 m)) (sym (length-map ps partial_view ∙ e)) ∙ pieces_from [] (partials_view ps)
+    ap (λ (m : ℕ). map (piece_at ps) (range_with_len 0 m)) (sym e) ∙ pieces_from [] ps
 
 tablets_count : (ds : List (List ℕ)) (k t n : ℕ) → length (tablets_from ds k t n) ≡ n
 tablets_count ds k t zero = refl
@@ -159,13 +110,6 @@ tablets_count ds k t (suc n) = ap suc (tablets_count ds k (suc t) n)
 
 pub count_of : (t : Table) → length (tablets_of t) ≡ t.tablets
 count_of t = tablets_count t.leaves t.copies 0 t.tablets
-
-pub length_range : (n : ℕ) → length (range_with_len 0 n) ≡ n
-length_range n = from_any 0 n
-  where
-    from_any : (k n : ℕ) → length (range_with_len k n) ≡ n
-    from_any k zero = refl
-    from_any k (suc n) = ap suc (from_any (k + 1) n)
 
 -- ---- which tablets are left
 
@@ -199,7 +143,7 @@ module _ (t : Table) (plan : Plan) (q : Query) (first : LinkShown) (others : Lis
       (subst (λ (F : List Leaf). AreTried t.schema F first (copies_from t.leaves i 0 t.copies) (all_tried_view tried.items)) leaves_same h.0) (unanswered (suc i) n xs (omega (arith, e)) (omega (arith, l)) h.1)
 
   -- each has its piece, or that of no records
-  counted : (all before : List meant.Partial) (i n : ℕ) (xs : List Scanned) (ps : List Partial) → all ≡ before ++ partials_view ps → length before ≡ i → i + n ≡ t.tablets → length xs ≡ n
+  counted : (all before : List meant.Partial) (i n : ℕ) (xs : List Scanned) (ps : List meant.Partial) → all ≡ before ++ ps → length before ≡ i → i + n ≡ t.tablets → length xs ≡ n
       → AreOutcomes t plan (held_of (first ∷ others)) was i xs → ArePartialsFor plan xs ps → TrueUnlessLeft the_serving (piece_at all) i (tablets_from t.leaves t.copies i n) (left_from i xs)
   counted all before i zero [] ps a b e l h k = no_more i
   counted all before i (suc n) [] ps a b e l h k = absurd (omega (arith, l))
@@ -207,18 +151,18 @@ module _ (t : Table) (plan : Plan) (q : Query) (first : LinkShown) (others : Lis
   counted all before i (suc n) (x ∷ xs) [] a b e l h k = absurd k
   counted all before i (suc n) (Scanned.Given r ∷ xs) (p ∷ ps) a b e l h k =
       is_counted i (copies_from t.leaves i 0 t.copies) (tablets_from t.leaves t.copies (suc i) n) (left_from (suc i) xs)
-      (subst (λ (x : meant.Partial). IsTrueOf (truth_of the_serving (copies_from t.leaves i 0 t.copies)) x) (sym (here p ps a b ∙ ap partial_view k.0)) (true_there i r (omega (arith, e)) h.0))
-      (counted all (before ++ partial_view p ∷ []) (suc i) n xs ps (a ∙ sym (append_assoc before (partial_view p ∷ []) (partials_view ps))) (length_one before (partial_view p) ∙ omega (arith, b)) (omega (arith, e)) (omega (arith, l)) h.1 k.1)
+      (subst (λ (x : meant.Partial). IsTrueOf (truth_of the_serving (copies_from t.leaves i 0 t.copies)) x) (sym (here p ps a b ∙ k.0)) (true_there i r (omega (arith, e)) h.0))
+      (counted all (before ++ p ∷ []) (suc i) n xs ps (a ∙ sym (append_assoc before (p ∷ []) ps)) (length_one before p ∙ omega (arith, b)) (omega (arith, e)) (omega (arith, l)) h.1 k.1)
     where
-      here : (p : Partial) (ps : List Partial) → all ≡ before ++ partial_view p ∷ partials_view ps → length before ≡ i → piece_at all i ≡ partial_view p
-      here p ps a b = ap₂ piece_at a (sym b) ∙ get_behind before (partial_view p) (partials_view ps) (lines [])
+      here : (p : meant.Partial) (ps : List meant.Partial) → all ≡ before ++ p ∷ ps → length before ≡ i → piece_at all i ≡ p
+      here p ps a b = ap₂ piece_at a (sym b) ∙ get_behind before p ps (lines [])
   counted all before i (suc n) (Scanned.Left tried ∷ xs) (p ∷ ps) a b e l h k =
       is_not_counted i (copies_from t.leaves i 0 t.copies) (tablets_from t.leaves t.copies (suc i) n) (left_from (suc i) xs) (all_tried_view tried.items)
       (subst (Stands t.schema.fields (leaf_query q) []) (sym (here p ps a b)) (empty_stands t.schema q plan p is k.0))
-      (counted all (before ++ partial_view p ∷ []) (suc i) n xs ps (a ∙ sym (append_assoc before (partial_view p ∷ []) (partials_view ps))) (length_one before (partial_view p) ∙ omega (arith, b)) (omega (arith, e)) (omega (arith, l)) h.1 k.1)
+      (counted all (before ++ p ∷ []) (suc i) n xs ps (a ∙ sym (append_assoc before (p ∷ []) ps)) (length_one before p ∙ omega (arith, b)) (omega (arith, e)) (omega (arith, l)) h.1 k.1)
     where
-      here : (p : Partial) (ps : List Partial) → all ≡ before ++ partial_view p ∷ partials_view ps → length before ≡ i → piece_at all i ≡ partial_view p
-      here p ps a b = ap₂ piece_at a (sym b) ∙ get_behind before (partial_view p) (partials_view ps) (lines [])
+      here : (p : meant.Partial) (ps : List meant.Partial) → all ≡ before ++ p ∷ ps → length before ≡ i → piece_at all i ≡ p
+      here p ps a b = ap₂ piece_at a (sym b) ∙ get_behind before p ps (lines [])
 
 none_left : (s : Serving) (piece : ℕ → meant.Partial) (t : ℕ) (ts : List (List Copy)) (ls : List LeftTablet) → TrueUnlessLeft s piece t ts ls → ls ≡ [] → AreTrueFrom s piece t ts
 none_left s piece t [] ls (no_more m) e = tt
@@ -231,21 +175,21 @@ module _ (t : Table) (plan : Plan) (q : Query) (links : List LinkShown) (some : 
   abbrev CameOf : LinkShown → Type 0
   CameOf l = AreOutcomes t plan (held_of links) l 0 xs
 
-  pub finished_but : (tree : Tree) (ps : List Partial) (p : meant.Partial) → tablets_in tree ≡ range_with_len 0 t.tablets → CameOf was → ArePartialsFor plan xs ps
-      → ((piece : ℕ → meant.Partial) → map piece (tablets_in tree) ≡ partials_view ps → p ≡ gathered piece tree) → IsFinishedBut (serving_by t.schema q (tablets_of t) links) tree (left_from 0 xs) p
+  pub finished_but : (tree : Tree) (ps : List meant.Partial) (p : meant.Partial) → tablets_in tree ≡ range_with_len 0 t.tablets → CameOf was → ArePartialsFor plan xs ps
+      → ((piece : ℕ → meant.Partial) → map piece (tablets_in tree) ≡ ps → p ≡ gathered piece tree) → IsFinishedBut (serving_by t.schema q (tablets_of t) links) tree (left_from 0 xs) p
   finished_but tree ps p has came are gathers = by links some came
     where
       by : (links : List LinkShown) → 0 < length links → AreOutcomes t plan (held_of links) was 0 xs → IsFinishedBut (serving_by t.schema q (tablets_of t) links) tree (left_from 0 xs) p
       by [] some came = absurd (omega (arith, some))
       by (first ∷ others) some came = (
-        piece_at (partials_view ps),
+        piece_at ps,
         has ∙ ap (range_with_len 0) (sym (count_of t)),
-        counted t plan q first others was is (partials_view ps) [] 0 t.tablets xs ps refl refl (omega arith) many came are,
-        gathers (piece_at (partials_view ps)) (ap (map (piece_at (partials_view ps))) has ∙ pieces_by_tablet ps t.tablets (as_many plan xs ps are ∙ many)),
+        counted t plan q first others was is ps [] 0 t.tablets xs ps refl refl (omega arith) many came are,
+        gathers (piece_at ps) (ap (map (piece_at ps)) has ∙ pieces_by_tablet ps t.tablets (as_many plan xs ps are ∙ many)),
       )
 
-  pub finished_by : (tree : Tree) (ps : List Partial) (p : meant.Partial) → tablets_in tree ≡ range_with_len 0 t.tablets → CameOf was → ArePartialsFor plan xs ps
-      → ((piece : ℕ → meant.Partial) → map piece (tablets_in tree) ≡ partials_view ps → p ≡ gathered piece tree) → left_from 0 xs ≡ [] → IsFinished (serving_by t.schema q (tablets_of t) links) tree p
+  pub finished_by : (tree : Tree) (ps : List meant.Partial) (p : meant.Partial) → tablets_in tree ≡ range_with_len 0 t.tablets → CameOf was → ArePartialsFor plan xs ps
+      → ((piece : ℕ → meant.Partial) → map piece (tablets_in tree) ≡ ps → p ≡ gathered piece tree) → left_from 0 xs ≡ [] → IsFinished (serving_by t.schema q (tablets_of t) links) tree p
   finished_by tree ps p has came are gathers none =
       let s : Serving = serving_by t.schema q (tablets_of t) links in
       let h = finished_but tree ps p has came are gathers in

@@ -3,6 +3,7 @@ pub mod CountedLemmas
 pub mod CrossingLemmas
 pub mod EndLemmas
 pub mod FinishLemmas
+pub mod FoundLemmas
 pub mod LeafLemmas
 pub mod LinkLemmas
 pub mod OutcomeLemmas

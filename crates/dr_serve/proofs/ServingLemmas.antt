@@ -8,9 +8,10 @@ use Rattle.dr_meaning.specs.QueryLeaves.{query_leaves}
 use Rattle.dr_formats.specs.TableFile.{Table}
 use Rattle.dr_outside.specs.Link.{Files, LinkShown}
 use Rattle.dr_dispatch.specs.Job.{Job}
-use Rattle.dr_group.specs.Partials.{partial_view}
+use Rattle.dr_group.specs.Partials.{partial_view, IsPartialOf}
 use Rattle.dr_group.specs.declared.partial.Partial.{Partial}
-use Rattle.dr_partials.specs.Trees.{Tree, tablets_of as tablets_in}
+use Rattle.dr_partials.specs.Partials as meant
+use Rattle.dr_partials.specs.Trees.{Tree, tablets_of as tablets_in, gathered}
 use Rattle.dr_plan.specs.PlanOf.{IsPlanOf}
 use Rattle.dr_plan.specs.Planned.{IsOfSchema, plan_view}
 use Rattle.dr_plan.specs.declared.plan.Plan.{Plan}
@@ -21,12 +22,13 @@ use Rattle.dr_tablets.specs.Views.{left_view, all_left_view}
 use Rattle.dr_tablets.specs.declared.left.LeftTablet as code
 use Rattle.dr_serving.specs.Outcome.{IsFinished, IsUnfinished}
 use Rattle.dr_scan.specs.declared.tablet.Scanned.{Scanned}
-use Rattle.dr_tree.specs.Together.{AreOfPlan, Together}
+use Rattle.dr_tree.specs.Grows.{Growth, Grows}
+use Rattle.dr_tree.specs.declared.growing.Growing.{Growing}
 use Rattle.dr_serve.specs.declared.found.Found.{Found}
 use Rattle.dr_serve.specs.declared.outcome.Outcome.{Outcome}
 use Rattle.dr_serve.specs.Working.{directories_of, table_job, IsPieceFound, TakesFrom}
-use Rattle.dr_serve.specs.Closing.{ArePartialsFor, left_from}
-use Rattle.dr_serve.specs.Serving.{serving_by, first_shown, ClosesAfter, IsShare, IsFinishedBut, IsGatheredOf, WhereFinished, WhereMost, WhereUnfinished, WhereSomeLeft, OfEachLink}
+use Rattle.dr_serve.specs.Closing.{Closes, left_from, growth_by, pieces_of}
+use Rattle.dr_serve.specs.Serving.{serving_by, first_shown, ClosesAfter, IsShare, IsFinishedBut, IsGrownOf, IsOfGrown, WhereFinished, WhereMost, WhereUnfinished, WhereSomeLeft, OfEachLink}
 use Rattle.dr_serve.specs.Links.{Worked}
 use Rattle.dr_serve.specs.Counted.{StandsForCounted, AreLeftOf, held_of}
 use Rattle.dr_serve.proofs.CountedLemmas.{counted_by, left_by}
@@ -34,7 +36,7 @@ use Rattle.dr_serve.proofs.LeafLemmas.{IsOneOf, one_of_first, one_of_later}
 use Rattle.dr_serve.proofs.LinkLemmas.{worked_none, worked_more}
 use Rattle.dr_serve.proofs.TruthLemmas.{piece_by_more, piece_has_tablet}
 use Rattle.dr_serve.proofs.CloseLemmas.{outcome_before, rises_lower}
-use Rattle.dr_serve.proofs.FinishLemmas.{AreOutcomes, count_of, as_many, some_are_left, partials_together, partials_of_plan, finished_but, finished_by, unfinished_by}
+use Rattle.dr_serve.proofs.FinishLemmas.{AreOutcomes, partials_of, partials_are, pieces_are, count_of, some_are_left, finished_but, finished_by, unfinished_by}
 
 -- ---- before
 
@@ -95,35 +97,44 @@ job_is_small t j lag e few = let a = job_has_tablets t j lag e in omega (arith, 
 -- ---- after
 
 -- what came of all tablets, as the first link was before
-pub record Ends (t : Table) (plan : Plan) (links : List (Option Files)) (first now : LinkShown) (partials : List Partial) (left : List LeftTablet) : Type 0 where
+pub record Ends (t : Table) (plan : Plan) (tree : Tree) (links : List (Option Files)) (first now : LinkShown) (grown : Growing) (left : List LeftTablet) : Type 0 where
   pub outcomes : List Scanned
   pub count : length outcomes ≡ t.tablets
   pub came : AreOutcomes t plan links first 0 outcomes
-  pub partials_are : ArePartialsFor plan outcomes partials
+  pub grows : Grows (growth_by t plan tree (pieces_of outcomes)) grown
   pub left_are : left ≡ left_from 0 outcomes
   pub rises : RisesApart first.faults (causes_met left) now.faults
+
+-- the first link went on after the workers
+pub closed_after : {L : Type 0} (shows : L → LinkShown) (t : Table) (plan : Plan) (tree : Tree) (is_true : ℕ → Found → Type 0) (olds mids : List L) (d new l : L) (places : List (Option Partial)) (grown : Growing) (left : List LeftTablet)
+    → 0 < length olds → length mids ≡ length olds → OfEachLink shows (Worked t plan) olds mids → Closes t plan tree is_true (shows (slice_index_or mids 0 d)) places grown left
+    → RisesApart (shows (slice_index_or mids 0 d)).faults (causes_met left) (shows new).faults
+    → ClosesAfter t plan tree is_true (shows (slice_index_or olds 0 l)) (shows (slice_index_or (slice_set mids 0 new) 0 l)) grown left
+closed_after shows t plan tree is_true [] mids d new l places grown left some e w c r = absurd (omega (arith, some))
+closed_after shows t plan tree is_true (o ∷ olds) [] d new l places grown left some e w c r = absurd (omega (arith, e))
+closed_after shows t plan tree is_true (o ∷ olds) (m ∷ mids) d new l places grown left some e w c r = record { middle = shows m; worked = w 0 l some; places = places; closes = c; rises = r }
 
 came_before : (t : Table) (plan : Plan) (links : List (Option Files)) (before now : LinkShown) (i : ℕ) (xs : List Scanned) → Worked t plan before now → AreOutcomes t plan links now i xs → AreOutcomes t plan links before i xs
 came_before t plan links before now i [] w h = tt
 came_before t plan links before now i (x ∷ xs) w h =
     (outcome_before t plan (IsPieceFound t plan links) before now i x w.same w.stays_steady h.0, came_before t plan links before now (suc i) xs w h.1)
 
-ends_after : (t : Table) (plan : Plan) (links : List (Option Files)) (before now : LinkShown) (partials : List Partial) (left : List LeftTablet) → ClosesAfter t plan (IsPieceFound t plan links) before now partials left → Ends t plan links before now partials left
-ends_after t plan links before now partials left h = record {
+ends_after : (t : Table) (plan : Plan) (tree : Tree) (links : List (Option Files)) (before now : LinkShown) (grown : Growing) (left : List LeftTablet) → ClosesAfter t plan tree (IsPieceFound t plan links) before now grown left → Ends t plan tree links before now grown left
+ends_after t plan tree links before now grown left h = record {
   outcomes = h.closes.outcomes;
   count = h.closes.count;
   came = came_before t plan links before h.middle 0 h.closes.outcomes h.worked h.closes.each;
-  partials_are = h.closes.partials_are;
+  grows = h.closes.grows;
   left_are = h.closes.left_are;
   rises = rises_lower before.faults h.middle.faults now.faults (causes_met left) h.worked.never_falls h.rises;
 }
 
-pub serving_ends : {L : Type 0} (shows : L → LinkShown) (t : Table) (plan : Plan) (links : List (Option Files)) (olds news : List L) (partials : List Partial) (left : List LeftTablet) → 0 < length olds → length news ≡ length olds
-    → ((l : L) → ClosesAfter t plan (IsPieceFound t plan links) (shows (slice_index_or olds 0 l)) (shows (slice_index_or news 0 l)) partials left)
-    → Ends t plan links (first_shown (map shows olds)) (first_shown (map shows news)) partials left
-serving_ends shows t plan links [] news partials left some e h = absurd (omega (arith, some))
-serving_ends shows t plan links (o ∷ olds) [] partials left some e h = absurd (omega (arith, e))
-serving_ends shows t plan links (o ∷ olds) (n ∷ news) partials left some e h = ends_after t plan links (shows o) (shows n) partials left (h o)
+pub serving_ends : {L : Type 0} (shows : L → LinkShown) (t : Table) (plan : Plan) (tree : Tree) (links : List (Option Files)) (olds news : List L) (grown : Growing) (left : List LeftTablet) → 0 < length olds → length news ≡ length olds
+    → ((l : L) → ClosesAfter t plan tree (IsPieceFound t plan links) (shows (slice_index_or olds 0 l)) (shows (slice_index_or news 0 l)) grown left)
+    → Ends t plan tree links (first_shown (map shows olds)) (first_shown (map shows news)) grown left
+serving_ends shows t plan tree links [] news grown left some e h = absurd (omega (arith, some))
+serving_ends shows t plan tree links (o ∷ olds) [] grown left some e h = absurd (omega (arith, e))
+serving_ends shows t plan tree links (o ∷ olds) (n ∷ news) grown left some e h = ends_after t plan tree links (shows o) (shows n) grown left (h o)
 
 -- ---- by cases
 
@@ -166,11 +177,16 @@ module _ {E : Type 0} where
 
 -- ---- what serving ends with
 
+-- where both hold
+pub both_ok : {A E : Type 0} (r : Result A E) {P Q S : A → Type 0} → IfOk r P → IfOk r Q → ((x : A) → P x → Q x → S x) → IfOk r S
+both_ok (Ok x) h k f = f x h k
+both_ok (Err e) h k f = tt
+
 shown_some : {L : Type 0} (shows : L → LinkShown) (links : List L) → 0 < length links → 0 < length (map shows links)
 shown_some shows links h = omega (arith, h, length-map links shows)
 
-module _ {L : Type 0} (shows : L → LinkShown) (t : Table) (plan : Plan) (olds news : List L) (partials : List Partial) (ls : List code.LeftTablet) (some_link : 0 < length olds) (same : length news ≡ length olds)
-    (closes : (l : L) → ClosesAfter t plan (IsPieceFound t plan (held_by shows olds)) (shows (slice_index_or olds 0 l)) (shows (slice_index_or news 0 l)) partials (all_left_view ls)) where
+module _ {L : Type 0} (shows : L → LinkShown) (t : Table) (plan : Plan) (tree : Tree) (olds news : List L) (grown : Growing) (ls : List code.LeftTablet) (some_link : 0 < length olds) (same : length news ≡ length olds)
+    (closes : (l : L) → ClosesAfter t plan tree (IsPieceFound t plan (held_by shows olds)) (shows (slice_index_or olds 0 l)) (shows (slice_index_or news 0 l)) grown (all_left_view ls)) where
   abbrev links : List LinkShown
   links = map shows olds
 
@@ -180,48 +196,63 @@ module _ {L : Type 0} (shows : L → LinkShown) (t : Table) (plan : Plan) (olds 
   some : 0 < length links
   some = shown_some shows olds some_link
 
-  e : Ends t plan (held_of links) (first_shown links) now partials (all_left_view ls)
-  e = serving_ends shows t plan (held_of links) olds news partials (all_left_view ls) some_link same closes
+  e : Ends t plan tree (held_of links) (first_shown links) now grown (all_left_view ls)
+  e = serving_ends shows t plan tree (held_of links) olds news grown (all_left_view ls) some_link same closes
 
-  pub partials_count : length partials ≡ t.tablets
-  partials_count = as_many plan e.outcomes partials e.partials_are ∙ e.count
-
-  pub lefts_are_fewer : length ls ≤ length partials
+  pub lefts_are_fewer : length ls ≤ t.tablets
   lefts_are_fewer =
       let a : length ls ≡ length (left_from 0 e.outcomes) = sym (length-map ls left_view) ∙ ap length e.left_are in
-      omega (arith, a, some_are_left 0 e.outcomes, as_many plan e.outcomes partials e.partials_are)
+      let b = some_are_left 0 e.outcomes in
+      let c = e.count in
+      omega (arith, a, b, c)
 
-  pub they_go_together : IsOfSchema t.schema plan → t.tablets ≤ 4096 → Together partials
-  they_go_together planned few = partials_together t plan (held_of links) (first_shown links) e.outcomes partials planned e.came e.partials_are (omega (arith, few, partials_count))
+  pub it_grows : (w : Growth) × Grows w grown
+  it_grows = (growth_by t plan tree (pieces_of e.outcomes), e.grows)
 
-  pub they_are_of_plan : AreOfPlan (plan_view plan) partials
-  they_are_of_plan = partials_of_plan t plan (held_of links) (first_shown links) e.outcomes partials e.came e.partials_are
+  pub it_is_of_plan : (p : Partial) → IsOfGrown grown p → IsPartialOf (plan_view plan) p
+  it_is_of_plan p h = h (growth_by t plan tree (pieces_of e.outcomes)) e.grows
 
-  module _ (q : Query) (is : IsPlanOf t.schema q plan) (tree : Tree) (has : tablets_in tree ≡ range_with_len 0 t.tablets) {E : Type 0} (r : Result Outcome E) where
-    pub ends_finished : IfOk r (WhereFinished (λ p. ls ≡ [])) → IfOk r (WhereFinished (IsGatheredOf tree partials)) → IfOk r (WhereFinished (λ p. IsFinished (serving_by t.schema q (tablets_of t) links) tree (partial_view p)))
+  -- it is what the tree gathers of the partials of all tablets
+  gathers : (p : Partial) → IsGrownOf grown p → (piece : ℕ → meant.Partial) → map piece (tablets_in tree) ≡ partials_of plan e.outcomes → partial_view p ≡ gathered piece tree
+  gathers p h piece k = h (growth_by t plan tree (pieces_of e.outcomes)) piece e.grows (k ∙ sym (pieces_are plan 0 e.outcomes))
+
+  module _ {E : Type 0} (r : Result Outcome E) where
+    pub ends_of_plan : IfOk r (WhereFinished (IsOfGrown grown)) → IfOk r (WhereFinished (IsPartialOf (plan_view plan)))
+    ends_of_plan h = where_finished (IsOfGrown grown) (IsPartialOf (plan_view plan)) r it_is_of_plan h
+
+    pub ends_of_plan_but : IfOk r (WhereMost (λ p us. IsOfGrown grown p)) → IfOk r (WhereMost (λ p us. IsPartialOf (plan_view plan) p))
+    ends_of_plan_but h = where_most (λ p us. IsOfGrown grown p) (λ p us. IsPartialOf (plan_view plan) p) r (λ p us w. it_is_of_plan p w) h
+
+  module _ (q : Query) (is : IsPlanOf t.schema q plan) (has : tablets_in tree ≡ range_with_len 0 t.tablets) {E : Type 0} (r : Result Outcome E) where
+    pub ends_finished : IfOk r (WhereFinished (λ p. ls ≡ [])) → IfOk r (WhereFinished (IsGrownOf grown)) → IfOk r (WhereFinished (λ p. IsFinished (serving_by t.schema q (tablets_of t) links) tree (partial_view p)))
     ends_finished h k =
-        where_finished (λ p. (ls ≡ []) × IsGatheredOf tree partials p) (λ p. IsFinished (serving_by t.schema q (tablets_of t) links) tree (partial_view p)) r
-        (λ p w. finished_by t plan q links some is (first_shown links) e.outcomes e.count tree partials (partial_view p) has e.came e.partials_are w.1 (sym e.left_are ∙ ap all_left_view w.0))
-        (both_finished (λ p. ls ≡ []) (IsGatheredOf tree partials) r h k)
+        where_finished (λ p. (ls ≡ []) × IsGrownOf grown p) (λ p. IsFinished (serving_by t.schema q (tablets_of t) links) tree (partial_view p)) r
+        (λ p w. finished_by t plan q links some is (first_shown links) e.outcomes e.count tree (partials_of plan e.outcomes) (partial_view p) has e.came (partials_are plan e.outcomes) (gathers p w.1)
+        (sym e.left_are ∙ ap all_left_view w.0)) (both_finished (λ p. ls ≡ []) (IsGrownOf grown) r h k)
 
-    pub ends_but : IfOk r (WhereMost (λ p us. us ≡ all_left_view ls)) → IfOk r (WhereMost (λ p us. IsGatheredOf tree partials p)) → IfOk r (WhereMost (λ p us. IsFinishedBut (serving_by t.schema q (tablets_of t) links) tree us (partial_view p)))
+    but : (p : Partial) → IsGrownOf grown p → IsFinishedBut (serving_by t.schema q (tablets_of t) links) tree (left_from 0 e.outcomes) (partial_view p)
+    but p w = finished_but t plan q links some is (first_shown links) e.outcomes e.count tree (partials_of plan e.outcomes) (partial_view p) has e.came (partials_are plan e.outcomes) (gathers p w)
+
+    counted : (p : Partial) → IsGrownOf grown p → StandsForCounted t q (held_of links) (left_from 0 e.outcomes) (partial_view p)
+    counted p w = counted_by t plan q links some is (first_shown links) e.outcomes e.count tree (partials_of plan e.outcomes) (partial_view p) has e.came (partials_are plan e.outcomes) (gathers p w)
+
+    pub ends_but : IfOk r (WhereMost (λ p us. us ≡ all_left_view ls)) → IfOk r (WhereMost (λ p us. IsGrownOf grown p)) → IfOk r (WhereMost (λ p us. IsFinishedBut (serving_by t.schema q (tablets_of t) links) tree us (partial_view p)))
     ends_but h k =
-        where_most (λ p us. (us ≡ all_left_view ls) × IsGatheredOf tree partials p) (λ p us. IsFinishedBut (serving_by t.schema q (tablets_of t) links) tree us (partial_view p)) r
-        (λ p us w. subst (λ (vs : List LeftTablet). IsFinishedBut (serving_by t.schema q (tablets_of t) links) tree vs (partial_view p)) (sym (w.0 ∙ e.left_are))
-        (finished_but t plan q links some is (first_shown links) e.outcomes e.count tree partials (partial_view p) has e.came e.partials_are w.1)) (both_most (λ p us. us ≡ all_left_view ls) (λ p us. IsGatheredOf tree partials p) r h k)
+        where_most (λ p us. (us ≡ all_left_view ls) × IsGrownOf grown p) (λ p us. IsFinishedBut (serving_by t.schema q (tablets_of t) links) tree us (partial_view p)) r
+        (λ p us w. subst (λ (vs : List LeftTablet). IsFinishedBut (serving_by t.schema q (tablets_of t) links) tree vs (partial_view p)) (sym (w.0 ∙ e.left_are)) (but p w.1))
+        (both_most (λ p us. us ≡ all_left_view ls) (λ p us. IsGrownOf grown p) r h k)
 
-    pub ends_counted : IfOk r (WhereFinished (λ p. ls ≡ [])) → IfOk r (WhereFinished (IsGatheredOf tree partials)) → IfOk r (WhereFinished (λ p. StandsForCounted t q (held_of links) [] (partial_view p)))
+    pub ends_counted : IfOk r (WhereFinished (λ p. ls ≡ [])) → IfOk r (WhereFinished (IsGrownOf grown)) → IfOk r (WhereFinished (λ p. StandsForCounted t q (held_of links) [] (partial_view p)))
     ends_counted h k =
-        where_finished (λ p. (ls ≡ []) × IsGatheredOf tree partials p) (λ p. StandsForCounted t q (held_of links) [] (partial_view p)) r
-        (λ p w. subst (λ (vs : List LeftTablet). StandsForCounted t q (held_of links) vs (partial_view p)) (sym e.left_are ∙ ap all_left_view w.0)
-        (counted_by t plan q links some is (first_shown links) e.outcomes e.count tree partials (partial_view p) has e.came e.partials_are w.1))
-        (both_finished (λ p. ls ≡ []) (IsGatheredOf tree partials) r h k)
+        where_finished (λ p. (ls ≡ []) × IsGrownOf grown p) (λ p. StandsForCounted t q (held_of links) [] (partial_view p)) r
+        (λ p w. subst (λ (vs : List LeftTablet). StandsForCounted t q (held_of links) vs (partial_view p)) (sym e.left_are ∙ ap all_left_view w.0) (counted p w.1))
+        (both_finished (λ p. ls ≡ []) (IsGrownOf grown) r h k)
 
-    pub ends_counted_but : IfOk r (WhereMost (λ p us. us ≡ all_left_view ls)) → IfOk r (WhereMost (λ p us. IsGatheredOf tree partials p)) → IfOk r (WhereMost (λ p us. StandsForCounted t q (held_of links) us (partial_view p)))
+    pub ends_counted_but : IfOk r (WhereMost (λ p us. us ≡ all_left_view ls)) → IfOk r (WhereMost (λ p us. IsGrownOf grown p)) → IfOk r (WhereMost (λ p us. StandsForCounted t q (held_of links) us (partial_view p)))
     ends_counted_but h k =
-        where_most (λ p us. (us ≡ all_left_view ls) × IsGatheredOf tree partials p) (λ p us. StandsForCounted t q (held_of links) us (partial_view p)) r
-        (λ p us w. subst (λ (vs : List LeftTablet). StandsForCounted t q (held_of links) vs (partial_view p)) (sym (w.0 ∙ e.left_are))
-        (counted_by t plan q links some is (first_shown links) e.outcomes e.count tree partials (partial_view p) has e.came e.partials_are w.1)) (both_most (λ p us. us ≡ all_left_view ls) (λ p us. IsGatheredOf tree partials p) r h k)
+        where_most (λ p us. (us ≡ all_left_view ls) × IsGrownOf grown p) (λ p us. StandsForCounted t q (held_of links) us (partial_view p)) r
+        (λ p us w. subst (λ (vs : List LeftTablet). StandsForCounted t q (held_of links) vs (partial_view p)) (sym (w.0 ∙ e.left_are)) (counted p w.1))
+        (both_most (λ p us. us ≡ all_left_view ls) (λ p us. IsGrownOf grown p) r h k)
 
   module _ (q : Query) (is : IsPlanOf t.schema q plan) {E : Type 0} (r : Result Outcome E) where
     are_left : (us : List LeftTablet) → us ≡ all_left_view ls → (us ≡ [] → ⊥) → IsUnfinished (serving_by t.schema q (tablets_of t) links) now.faults us
@@ -255,18 +286,16 @@ module _ {L : Type 0} (shows : L → LinkShown) (t : Table) (plan : Plan) (olds 
   left_count us w = sym (ap length w ∙ length-map ls left_view)
 
   module _ (share : ℕ) {E : Type 0} (r : Result Outcome E) where
-    pub ends_share : IfOk r (WhereMost (λ p us. us ≡ all_left_view ls)) → IfOk r (WhereMost (λ p us. IsShare share (length partials - length ls) (length partials))) → IfOk r (WhereMost (λ p us. IsShare share (t.tablets - length us) t.tablets))
+    pub ends_share : IfOk r (WhereMost (λ p us. us ≡ all_left_view ls)) → IfOk r (WhereMost (λ p us. IsShare share (t.tablets - length ls) t.tablets)) → IfOk r (WhereMost (λ p us. IsShare share (t.tablets - length us) t.tablets))
     ends_share h k =
-        where_most (λ p us. (us ≡ all_left_view ls) × IsShare share (length partials - length ls) (length partials)) (λ p us. IsShare share (t.tablets - length us) t.tablets) r
-        (λ p us w. subst (λ (n : ℕ). IsShare share (n - length us) n) partials_count (subst (λ (m : ℕ). IsShare share (length partials - m) (length partials)) (left_count us w.0) w.1))
-        (both_most (λ p us. us ≡ all_left_view ls) (λ p us. IsShare share (length partials - length ls) (length partials)) r h k)
+        where_most (λ p us. (us ≡ all_left_view ls) × IsShare share (t.tablets - length ls) t.tablets) (λ p us. IsShare share (t.tablets - length us) t.tablets) r
+        (λ p us w. subst (λ (m : ℕ). IsShare share (t.tablets - m) t.tablets) (left_count us w.0) w.1)
+        (both_most (λ p us. us ≡ all_left_view ls) (λ p us. IsShare share (t.tablets - length ls) t.tablets) r h k)
 
-    abbrev IsShort : ℕ → ℕ → Type 0
-    IsShort counted all = 100 * counted < share * all
+    abbrev IsShort : ℕ → Type 0
+    IsShort few = 100 * (t.tablets - few) < share * t.tablets
 
-    pub ends_short : IfOk r (WhereUnfinished (λ us. us ≡ all_left_view ls)) → IfOk r (WhereUnfinished (λ us. 100 * (length partials - length ls) < share * length partials))
-        → IfOk r (WhereUnfinished (λ us. 100 * (t.tablets - length us) < share * t.tablets))
+    pub ends_short : IfOk r (WhereUnfinished (λ us. us ≡ all_left_view ls)) → IfOk r (WhereUnfinished (λ us. IsShort (length ls))) → IfOk r (WhereUnfinished (λ us. 100 * (t.tablets - length us) < share * t.tablets))
     ends_short h k =
-        where_unfinished (λ us. (us ≡ all_left_view ls) × IsShort (length partials - length ls) (length partials)) (λ us. IsShort (t.tablets - length us) t.tablets) r
-        (λ us w. subst (λ (n : ℕ). IsShort (n - length us) n) partials_count (subst (λ (m : ℕ). IsShort (length partials - m) (length partials)) (left_count us w.0) w.1))
-        (both_unfinished (λ us. us ≡ all_left_view ls) (λ us. IsShort (length partials - length ls) (length partials)) r h k)
+        where_unfinished (λ us. (us ≡ all_left_view ls) × IsShort (length ls)) (λ us. IsShort (length us)) r (λ us w. subst IsShort (left_count us w.0) w.1)
+        (both_unfinished (λ us. us ≡ all_left_view ls) (λ us. IsShort (length ls)) r h k)

@@ -1,5 +1,5 @@
 -- What workers have to do, and what serving ends with, on small cases by computation.
-use Rattle.std.specs.Prelude.{◌≡◌, ℕ, List, [], ◌∷◌, Some, None, codes, true, false, refl}
+use Rattle.std.specs.Prelude.{◌≡◌, ℕ, List, [], ◌∷◌, map, Some, None, codes, true, false, refl}
 use Rattle.std.specs.declared.alloc.Global.{Global}
 use Rattle.std.proofs.Common.{Vec, inl, inr, ap, arith}
 use Rattle.dr_meaning.specs.Schema.{Schema}
@@ -13,8 +13,9 @@ use Rattle.dr_reading.specs.Scan.{Copy}
 use Rattle.dr_tablets.specs.Views.{all_tried_view}
 use Rattle.dr_tablets.specs.declared.left.Tried as code
 use Rattle.dr_scan.specs.declared.tablet.Scanned.{Scanned}
-use Rattle.dr_serve.specs.Working.{table_job, found}
-use Rattle.dr_serve.specs.Closing.{has_piece, place_of, left_from}
+use Rattle.dr_tree.specs.Places.{has_free}
+use Rattle.dr_serve.specs.Working.{table_job}
+use Rattle.dr_serve.specs.Closing.{has_some, place_of, places_from, left_from}
 use Rattle.dr_serve.specs.Serving.{IsShare}
 use Rattle.dr_serve.specs.Counted.{OneGives, AreCounted, no_more, is_counted, is_not_counted}
 
@@ -29,8 +30,12 @@ job_is s = refl
 
 -- ---- the closing round
 
-pub piece_of_the_second : (p : Partial) → (has_piece (found 1 p ∷ []) 0 ≡ false) × (has_piece (found 1 p ∷ []) 1 ≡ true)
-piece_of_the_second p = (refl, refl)
+-- a tablet has a place for its first piece alone
+pub places_left : (p : Partial) → (has_free 0 (places_from 0 (None ∷ Some p ∷ [])) ≡ true) × (has_free 1 (places_from 0 (None ∷ Some p ∷ [])) ≡ false)
+places_left p = (refl, refl)
+
+pub who_has_pieces : (p : Partial) → map has_some (None ∷ Some p ∷ []) ≡ false ∷ true ∷ []
+who_has_pieces p = refl
 
 pub places_are : (p : Partial) → (place_of (None ∷ Some p ∷ []) 0 ≡ None) × (place_of (None ∷ Some p ∷ []) 1 ≡ Some p) × (place_of (None ∷ Some p ∷ []) 2 ≡ None)
 places_are p = (refl, refl, refl)

@@ -2,12 +2,14 @@
 pub mod Working
 -- what a pass knows of the work that was done with it
 pub mod Ends
+-- what a link shows after work
+pub mod Links
+-- what has grown of pieces, and grows on
+pub mod GrowsOn
 -- what the closing round gives
 pub mod Closing
 -- what serving ends with
 pub mod Serving
--- what a link shows after work
-pub mod Links
 -- what is lent to workers
 pub mod Lent
 -- the records that a query counts

@@ -9,9 +9,11 @@ use Rattle.dr_partials.specs.Partials as meant
 use Rattle.dr_partials.specs.Partials.{Stands}
 use Rattle.dr_partials.specs.Rewriting.{leaf_query}
 use Rattle.dr_partials.specs.Trees.{Tree, tablets_of, gathered}
-use Rattle.dr_group.specs.Partials.{partial_view}
+use Rattle.dr_group.specs.Partials.{partial_view, IsPartialOf}
 use Rattle.dr_group.specs.declared.partial.Partial.{Partial}
-use Rattle.dr_tree.specs.Together.{partials_view}
+use Rattle.dr_tree.specs.Grows.{Growth, Grows, grown_query}
+use Rattle.dr_tree.specs.Places.{pieces_at}
+use Rattle.dr_tree.specs.declared.growing.Growing.{Growing}
 use Rattle.dr_plan.specs.declared.plan.Plan.{Plan}
 use Rattle.dr_reading.specs.Causes.{RisesApart}
 use Rattle.dr_reading.specs.Left.{Tried, LeftTablet, causes_met}
@@ -40,12 +42,12 @@ first_shown [] = no_link
 first_shown (first ∷ others) = first
 
 -- the closing round came after the workers: the first link had worked, and what is left is justified by what it did since
-pub record ClosesAfter (t : Table) (plan : Plan) (is_true : ℕ → Found → Type 0) (before now : LinkShown)
-    (partials : List Partial) (left : List LeftTablet) : Type 0 where
+pub record ClosesAfter (t : Table) (plan : Plan) (tree : Tree) (is_true : ℕ → Found → Type 0) (before now : LinkShown)
+    (grown : Growing) (left : List LeftTablet) : Type 0 where
   pub middle : LinkShown
   pub worked : Worked t plan before middle
   pub places : List (Option Partial)
-  pub closes : Closes t plan is_true middle places partials left
+  pub closes : Closes t plan tree is_true middle places grown left
   pub rises : RisesApart middle.faults (causes_met left) now.faults
 
 -- ---- where some tablets are left
@@ -68,11 +70,16 @@ abbrev pub IsFinishedBut : Serving → Tree → List LeftTablet → meant.Partia
 IsFinishedBut s tree left p = (piece : ℕ → meant.Partial) × (tablets_of tree ≡ range_with_len 0 (length s.tablets))
     × TrueUnlessLeft s piece 0 s.tablets left × (p ≡ gathered piece tree)
 
--- ---- what a tree gathers
+-- ---- what has grown
 
--- of these partials, one of each of its tablets
-abbrev pub IsGatheredOf : Tree → List Partial → Partial → Type 0
-IsGatheredOf tree ps p = (piece : ℕ → meant.Partial) → map piece (tablets_of tree) ≡ partials_view ps → partial_view p ≡ gathered piece tree
+-- it is what a tree gathers that has grown so
+abbrev pub IsGrownOf : Growing → Partial → Type 0
+IsGrownOf grown p = (w : Growth) (piece : ℕ → meant.Partial) → Grows w grown → map piece (tablets_of w.tree) ≡ pieces_at (grown_query w) w.places
+    → partial_view p ≡ gathered piece w.tree
+
+-- and a partial of its plan
+abbrev pub IsOfGrown : Growing → Partial → Type 0
+IsOfGrown grown p = (w : Growth) → Grows w grown → IsPartialOf w.plan p
 
 -- ---- by cases
 

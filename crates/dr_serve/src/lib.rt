@@ -1,19 +1,26 @@
 //! Serving a query over a table by workers, each with a link of its own.
 #![tactic(auto)]
 
+mod added;
+mod answered;
 mod closing;
 mod found;
 mod gated;
+mod grown;
 mod job;
 mod lent;
 mod outcome;
 mod served;
+mod service;
 mod serving;
 mod turns;
 mod worker;
 
+pub use added::Added;
 pub use found::Found;
 pub use gated::Gated;
+pub use grown::Grown;
 pub use outcome::Outcome;
+pub use service::Service;
 pub use serving::serve;
 pub use worker::work;

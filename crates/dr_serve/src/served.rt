@@ -1,17 +1,19 @@
 // A table's tablets, handed out to workers.
-ghost use Rattle.std.specs.Prelude.{◌≡◌, ◌<◌, length, All, IfOk, List};
-ghost use Rattle.dr_dispatch.specs.Pieces.{KeepsPieces};
-ghost use Rattle.dr_dispatch.specs.declared.event.Event.{Event as Recorded};
+ghost use Rattle.std.specs.Prelude.{◌≡◌, ◌<◌, ℕ, length, All, IfOk};
 ghost use Rattle.dr_nested.specs.SchemaView.{schema_view};
 ghost use Rattle.dr_table.specs.Views.{table_view};
 ghost use Rattle.dr_plan.specs.Planned.{IsOfSchema};
 ghost use Rattle.dr_serve.specs.Working.{table_job, table_leaves, TakesFrom};
 ghost use Rattle.dr_serve.specs.Links.{Worked};
+ghost use Rattle.dr_serve.specs.GrowsOn.{GrowsOn};
 ghost use Rattle.dr_serve.specs.Serving.{OfEachLink};
 
-use crate::found::Found;
+use crate::added::Added;
+use crate::answered::Answered;
+use crate::grown::Grown;
 use crate::job::job_of;
 use crate::lent::for_each_worker;
+use crate::service::Service;
 use crate::worker::work;
 use dr_desk::{Board, Desk, Ground, Naming, Pass, Room};
 use dr_memory::NoMemory;
@@ -23,10 +25,11 @@ use std::sync::{Mutex, Wait};
 use std::thread::Threads;
 
 // A worker, which takes the pass of its number.
-fn start<N: Naming<Found>, B: Room, L: Link, R: Wait>(
+fn start<N: Naming<Added>, B: Room, S: Service, L: Link, R: Wait>(
     rt: &R,
     alloc: Global,
-    desk: &Desk<Found, N, B>,
+    desk: &Desk<Added, N, B>,
+    grown: &Mutex<Grown<S>>,
     plan: &Plan,
     table: &Table,
     passes: &[Mutex<Option<Pass<B>>>],
@@ -35,7 +38,9 @@ fn start<N: Naming<Found>, B: Room, L: Link, R: Wait>(
 )
     requires planned { IsOfSchema (schema_view (table.now).schema) plan.now }
     requires job { N.job.leaves ≡ table_leaves (table_view table.now) }
-    requires truth { TakesFrom (table_view table.now) plan.now N.is_true (L.shows link.old).held }
+    requires told { (t : ℕ) (a : Added) → N.is_true t a }
+    requires truth { TakesFrom (table_view table.now) plan.now S.is_true (L.shows link.old).held }
+    requires grows_on { GrowsOn S.is_true S.has_grown }
     ensures { Worked (table_view table.now) plan.now (L.shows link.old) (L.shows link.new) }
 {
     let Some(slot) = passes.get(worker) else {
@@ -45,19 +50,21 @@ fn start<N: Naming<Found>, B: Room, L: Link, R: Wait>(
         return;
     };
     // What a worker without memory left is done by the others, or after them.
-    let _ = work(rt, alloc, desk, plan, table, link, &mut pass);
+    let _ = work(rt, alloc, desk, grown, plan, table, link, &mut pass);
 }
 
 // Starts a worker for each link, and waits until all have ended.
 fn hand_out<
-    N: Naming<Found> + Send + Sync,
+    N: Naming<Added> + Send + Sync,
     B: Room + Send + Sync,
+    S: Service + Send + Sync,
     L: Link + Send,
     R: Threads + Wait + Sync,
 >(
     rt: &R,
     alloc: Global,
-    desk: &Desk<Found, N, B>,
+    desk: &Desk<Added, N, B>,
+    grown: &Mutex<Grown<S>>,
     plan: &Plan,
     table: &Table,
     passes: &[Mutex<Option<Pass<B>>>],
@@ -66,7 +73,9 @@ fn hand_out<
     requires planned { IsOfSchema (schema_view (table.now).schema) plan.now }
     requires job { N.job.leaves ≡ table_leaves (table_view table.now) }
     requires some { 0 < length links.old }
-    requires truth { All (λ l. TakesFrom (table_view table.now) plan.now N.is_true (L.shows l).held) links.old }
+    requires told { (t : ℕ) (a : Added) → N.is_true t a }
+    requires truth { All (λ l. TakesFrom (table_view table.now) plan.now S.is_true (L.shows l).held) links.old }
+    requires grows_on { GrowsOn S.is_true S.has_grown }
     ensures links { OfEachLink L.shows (Worked (table_view table.now) plan.now) links.old links.new }
     ensures count { length links.new ≡ length links.old }
 {
@@ -75,21 +84,27 @@ fn hand_out<
         plan,
         table,
         desk,
+        grown,
         links,
-        &|plan: &Plan, table: &Table, desk: &Desk<Found, N, B>, worker: usize, link: &mut L|
+        &|plan: &Plan, table: &Table, desk: &Desk<Added, N, B>, grown: &Mutex<
+            Grown<S>,
+        >, worker: usize, link: &mut L|
             requires { IsOfSchema (schema_view (table.now).schema) plan.now
                 × (N.job.leaves ≡ table_leaves (table_view table.now))
-                × TakesFrom (table_view table.now) plan.now N.is_true (L.shows link.now).held }
+                × ((t : ℕ) (a : Added) → N.is_true t a)
+                × TakesFrom (table_view table.now) plan.now S.is_true (L.shows link.now).held
+                × GrowsOn S.is_true S.has_grown }
             ensures { Worked (table_view table.entry.now) plan.entry.now (L.shows link.entry.now)
                 (L.shows link.exit.now) }
-        { start(rt, alloc, desk, plan, table, passes, worker, link) },
+        { start(rt, alloc, desk, grown, plan, table, passes, worker, link) },
     );
 }
 
-// What the workers found: a piece of each tablet that was answered.
+// Workers go on from what has grown: what they found has been added when all have ended.
 pub(crate) fn served<
-    N: Naming<Found> + Send + Sync,
+    N: Naming<Added> + Send + Sync,
     B: Room + Send + Sync,
+    S: Service + Send + Sync,
     L: Link + Send,
     R: Threads + Wait + Sync,
 >(
@@ -98,26 +113,39 @@ pub(crate) fn served<
     ground: Ground,
     plan: &Plan,
     table: &Table,
+    answered: Answered,
     links: &mut [L],
     lag: u64,
-) -> Result<Vec<Found>, NoMemory>
+) -> Result<Answered, NoMemory>
     requires ground { ground.table ≡ B.table }
     requires drawn { ground.tablets ≡ (table.now).tablets }
     requires planned { IsOfSchema (schema_view (table.now).schema) plan.now }
     requires job { N.job ≡ table_job (table_view table.now) lag }
+    requires grown { S.has_grown answered.grown answered.has_piece.items }
     requires some { 0 < length links.old }
-    requires truth { All (λ l. TakesFrom (table_view table.now) plan.now N.is_true (L.shows l).held) links.old }
-    ensures pieces { IfOk result (λ v. (history : List Recorded)
-        × KeepsPieces N.job (λ f. f.tablet) N.is_true history v.items) }
+    requires told { (t : ℕ) (a : Added) → N.is_true t a }
+    requires truth { All (λ l. TakesFrom (table_view table.now) plan.now S.is_true (L.shows l).held) links.old }
+    requires grows_on { GrowsOn S.is_true S.has_grown }
+    ensures grown { IfOk result (λ a. S.has_grown a.grown a.has_piece.items) }
     ensures links { OfEachLink L.shows (Worked (table_view table.now) plan.now) links.old links.new }
     ensures count { length links.new ≡ length links.old }
 {
     let job = job_of(alloc, table, lag)?;
-    let board: Board<Found, N> = Board::new(alloc, &job)?;
-    let (desk, passes) = Desk::<Found, N, B>::new(alloc, ground, board, links.len())?;
+    let board: Board<Added, N> = Board::new(alloc, &job)?;
+    let (desk, passes) = Desk::<Added, N, B>::new(alloc, ground, board, links.len())?;
     let slots = slots_of(alloc, passes)?;
-    hand_out(rt, alloc, &desk, plan, table, slots.as_slice(), links);
-    Ok(desk.shut(Vec::new(alloc)).pieces)
+    let grown = Mutex::new(Grown::<S>::new(answered));
+    hand_out(
+        rt,
+        alloc,
+        &desk,
+        &grown,
+        plan,
+        table,
+        slots.as_slice(),
+        links,
+    );
+    Ok(grown.into_inner().into_answered())
 }
 
 // Each pass under a lock of its own.

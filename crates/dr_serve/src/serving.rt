@@ -5,39 +5,44 @@ ghost use Rattle.dr_meaning.specs.QueryLeaves.{query_leaves};
 ghost use Rattle.dr_nested.specs.SchemaView.{schema_view};
 ghost use Rattle.dr_table.specs.Views.{table_view};
 ghost use Rattle.dr_tree.specs.Views.{tree_view};
-ghost use Rattle.dr_tree.specs.Together.{AreOfPlan, Together};
+ghost use Rattle.dr_tree.specs.Grows.{Growth, Grows};
 ghost use Rattle.dr_group.specs.Partials.{partial_view, IsPartialOf};
 ghost use Rattle.dr_plan.specs.PlanOf.{ForQuery};
-ghost use Rattle.dr_plan.specs.Planned.{Planned, IsOfSchema, plan_leaves, plan_view};
+ghost use Rattle.dr_plan.specs.Planned.{IsOfSchema, plan_leaves, plan_view};
 ghost use Rattle.dr_reading.specs.Scan.{tablets_of};
 ghost use Rattle.dr_tablets.specs.Views.{all_left_view};
 ghost use Rattle.dr_tablets.specs.Asked.{AsksForTablets};
 ghost use Rattle.dr_serving.specs.Outcome.{IsFinished, IsUnfinished};
+ghost use Rattle.dr_serve.specs.Closing.{AreAddable, HasAnswered};
+ghost use Rattle.dr_serve.specs.GrowsOn.{AreSame, GrowsOn};
 ghost use Rattle.dr_serve.specs.Working.{table_job, TakesFrom};
 ghost use Rattle.dr_serve.specs.Counted.{StandsForCounted, AreLeftOf, held_of};
 ghost use Rattle.dr_serve.specs.Links.{Worked};
-ghost use Rattle.dr_serve.specs.Serving.{serving_by, first_shown, ClosesAfter, IsShare, IsFinishedBut, IsGatheredOf, OfEachLink, WhereFinished, WhereMost, WhereUnfinished, WhereSomeLeft};
+ghost use Rattle.dr_serve.specs.Serving.{serving_by, first_shown, ClosesAfter, IsShare, IsFinishedBut, IsGrownOf, IsOfGrown, OfEachLink, WhereFinished, WhereMost, WhereUnfinished, WhereSomeLeft};
 
-use crate::closing::{Closed, close, placed};
-use crate::found::Found;
+use crate::added::Added;
+use crate::answered::none_answered;
+use crate::closing::{Closed, close};
 use crate::outcome::Outcome;
 use crate::served::served;
+use crate::service::Service;
 use dr_desk::{Ground, Naming, Room};
 use dr_memory::NoMemory;
 use dr_outside::Link;
 use dr_plan::Plan;
 use dr_table::Table;
-use dr_tree::{Tree, gather};
+use dr_tree::Tree;
 use std::alloc::Global;
 use std::marker::Brand;
 use std::sync::Wait;
 use std::thread::Threads;
 
-// The workers' pieces, and, after all workers have ended, the closing round over the other tablets, with the first
-// link.
+// The tree grows of what the workers find, as they find it, and, after all have ended, of what the closing round gives
+// of the other tablets, with the first link.
 fn closed<
-    N: Naming<Found> + Send + Sync,
+    N: Naming<Added> + Send + Sync,
     B: Room + Send + Sync,
+    S: Service + Send + Sync,
     L: Link + Send,
     R: Threads + Wait + Sync,
 >(
@@ -46,6 +51,7 @@ fn closed<
     ground: Ground,
     plan: &Plan,
     table: &Table,
+    tree: &Tree,
     links: &mut [L],
     lag: u64,
 ) -> Result<Closed, NoMemory>
@@ -53,18 +59,22 @@ fn closed<
     requires drawn { ground.tablets ≡ (table.now).tablets }
     requires planned { IsOfSchema (schema_view (table.now).schema) plan.now }
     requires job { N.job ≡ table_job (table_view table.now) lag }
+    requires tree { trees.tablets_of (tree_view tree.now) ≡ range_with_len 0 (table.now).tablets }
     requires some { 0 < length links.old }
-    requires truth { All (λ l. TakesFrom (table_view table.now) plan.now N.is_true (L.shows l).held) links.old }
-    requires tablets { (t : ℕ) (f : Found) → N.is_true t f → t < (table.now).tablets }
-    ensures closes { IfOk result (λ c. (l : L) → ClosesAfter (table_view table.now) plan.now N.is_true
-        (L.shows (slice_index_or links.old 0 l)) (L.shows (slice_index_or links.new 0 l)) c.partials.items
+    requires told { (t : ℕ) (a : Added) → N.is_true t a }
+    requires truth { All (λ l. TakesFrom (table_view table.now) plan.now S.is_true (L.shows l).held) links.old }
+    requires addable { AreAddable (table_view table.now) plan.now S.is_true }
+    requires grown { AreSame S.has_grown (HasAnswered (table_view table.now) plan.now (tree_view tree.now) S.is_true) }
+    requires grows_on { GrowsOn S.is_true S.has_grown }
+    ensures closes { IfOk result (λ c. (l : L) → ClosesAfter (table_view table.now) plan.now (tree_view tree.now)
+        S.is_true (L.shows (slice_index_or links.old 0 l)) (L.shows (slice_index_or links.new 0 l)) c.grown
         (all_left_view c.left.items)) }
     ensures links { OfEachLink L.shows (Worked (table_view table.now) plan.now) links.old links.new }
     ensures count { length links.new ≡ length links.old }
 {
-    let pieces = served::<N, B, L, R>(rt, alloc, ground, plan, table, links, lag)?;
-    let places = placed::<N>(alloc, table.tablets, pieces)?;
-    close::<N, L>(alloc, &mut links[0], plan, table, places)
+    let none = none_answered::<S>(alloc, plan, table, tree)?;
+    let answered = served::<N, B, S, L, R>(rt, alloc, ground, plan, table, none, links, lag)?;
+    close::<S, L>(alloc, &mut links[0], plan, table, answered)
 }
 
 // Whether so many of all tablets are at least this share of them, in hundredths.
@@ -77,46 +87,36 @@ fn is_share(least: u32, counted: usize, all: usize) -> bool
     least as usize * all <= 100 * counted
 }
 
-// Gathers the partials of all tablets, unless those that aren't left are less than the share.
-fn conclude<R: Threads + Sync>(
-    rt: &R,
-    alloc: Global,
-    tree: &Tree,
-    closed: Closed,
-    least: u32,
-) -> Result<Outcome, NoMemory>
+// Finishes what has grown, unless the tablets that aren't left are less than the share of all.
+fn conclude(alloc: Global, closed: Closed, tablets: usize, least: u32) -> Result<Outcome, NoMemory>
     requires least { (0 < least) × (least ≤ 100) }
-    requires few { length closed.partials.items ≤ 4096 }
-    requires left { length closed.left.items ≤ length closed.partials.items }
-    requires count { length closed.partials.items ≡ length (trees.tablets_of (tree_view tree.now)) }
-    requires together { Together closed.partials.items }
+    requires few { tablets ≤ 4096 }
+    requires left { length closed.left.items ≤ tablets }
+    requires grown { (w : Growth) × Grows w closed.grown }
     ensures none { IfOk result (WhereFinished (λ p. closed.left.items ≡ [])) }
-    ensures finished { IfOk result (WhereFinished (IsGatheredOf (tree_view tree.now) closed.partials.items)) }
-    ensures finished_plan { (planned : Planned) → AreOfPlan planned closed.partials.items
-        → IfOk result (WhereFinished (IsPartialOf planned)) }
-    ensures most { IfOk result (WhereMost (λ p ls. IsGatheredOf (tree_view tree.now) closed.partials.items p)) }
-    ensures most_plan { (planned : Planned) → AreOfPlan planned closed.partials.items
-        → IfOk result (WhereMost (λ p ls. IsPartialOf planned p)) }
+    ensures finished { IfOk result (WhereFinished (IsGrownOf closed.grown)) }
+    ensures finished_plan { IfOk result (WhereFinished (IsOfGrown closed.grown)) }
+    ensures most { IfOk result (WhereMost (λ p ls. IsGrownOf closed.grown p)) }
+    ensures most_plan { IfOk result (WhereMost (λ p ls. IsOfGrown closed.grown p)) }
     ensures most_left { IfOk result (WhereMost (λ p ls. ls ≡ all_left_view closed.left.items)) }
     ensures most_some { IfOk result (WhereMost (λ p ls. ls ≢ [])) }
-    ensures share { IfOk result (WhereMost (λ p ls. IsShare least
-        (length closed.partials.items - length closed.left.items) (length closed.partials.items))) }
+    ensures share { IfOk result (WhereMost (λ p ls. IsShare least (tablets - length closed.left.items) tablets)) }
     ensures left { IfOk result (WhereUnfinished (λ ls. ls ≡ all_left_view closed.left.items)) }
     ensures some { IfOk result (WhereUnfinished (λ ls. ls ≢ [])) }
-    ensures short { IfOk result (WhereUnfinished (λ ls. 100
-        * (length closed.partials.items - length closed.left.items) < least * length closed.partials.items)) }
+    ensures short { IfOk result (WhereUnfinished (λ ls. 100 * (tablets - length closed.left.items)
+        < least * tablets)) }
 
     // What follows from that.
     ensures all { least ≡ 100 → IfOk result (WhereMost (λ p ls. ⊥)) }
 {
-    let Closed { partials, left } = closed;
+    let Closed { grown, left } = closed;
     if left.is_empty() {
-        return Ok(Outcome::Finished(gather(rt, alloc, tree, partials)?));
+        return Ok(Outcome::Finished(grown.finish(alloc)?));
     }
-    if !is_share(least, partials.len() - left.len(), partials.len()) {
+    if !is_share(least, tablets - left.len(), tablets) {
         return Ok(Outcome::Unfinished(left));
     }
-    Ok(Outcome::Most(gather(rt, alloc, tree, partials)?, left))
+    Ok(Outcome::Most(grown.finish(alloc)?, left))
 }
 
 // Serves by all of these links.
@@ -168,8 +168,10 @@ fn serve_by<L: Link + Send, R: Threads + Wait + Sync>(
     ensures count { length links.new ≡ length links.old }
 {
     let ground = Ground::new(alloc, table.tablets as usize)?;
-    let closed = closed::<Brand, Brand, L, R>(rt, alloc, ground, plan, table, links, lag)?;
-    conclude(rt, alloc, tree, closed, least)
+    let closed = closed::<Brand, Brand, Brand, L, R>(
+        rt, alloc, ground, plan, table, tree, links, lag,
+    )?;
+    conclude(alloc, closed, table.tablets as usize, least)
 }
 
 /// Serves a plan's query over a table by so many workers, the first so many of the links with one to a worker. The

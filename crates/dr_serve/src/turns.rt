@@ -1,5 +1,5 @@
 // A worker's turns.
-ghost use Rattle.std.specs.Prelude.{◌≡◌, true, None, OnOk, OnErr};
+ghost use Rattle.std.specs.Prelude.{◌≡◌, ℕ, true, None, OnOk, OnErr};
 ghost use mathlib.Core.List.{IsPrefix};
 ghost use Rattle.dr_dispatch.specs.History.{has_give, is_history};
 ghost use Rattle.dr_dispatch.specs.Choice.{choice};
@@ -9,8 +9,12 @@ ghost use Rattle.dr_plan.specs.Planned.{IsOfSchema};
 ghost use Rattle.dr_serve.specs.Working.{table_leaves, TakesFrom, IsCauseFor};
 ghost use Rattle.dr_serve.specs.Ends.{HasEnd, EndsAll, TellsEnd};
 ghost use Rattle.dr_serve.specs.Links.{Worked};
+ghost use Rattle.dr_serve.specs.GrowsOn.{GrowsOn};
 
+use crate::added::Added;
 use crate::found::Found;
+use crate::grown::Grown;
+use crate::service::Service;
 use dr_desk::{Desk, Hand, Naming, Pass, Room};
 use dr_file::FileFault;
 use dr_memory::NoMemory;
@@ -20,13 +24,15 @@ use dr_scan::scan;
 use dr_table::{Table, path_of};
 use dr_tablets::Steps;
 use std::alloc::Global;
-use std::sync::Wait;
+use std::sync::{Mutex, Wait};
 
-// One turn: the hand's copy is scanned, and an answer or a fault is told; or there was no memory, and nothing is.
-pub(crate) fn turn<N: Naming<Found>, B: Room, L: Link, R: Wait>(
+// One turn: the hand's copy is scanned, and its partial is added and an answer told, or a fault is; or there was no
+// memory, and nothing is told.
+pub(crate) fn turn<N: Naming<Added>, B: Room, S: Service, L: Link, R: Wait>(
     rt: &R,
     alloc: Global,
-    desk: &Desk<Found, N, B>,
+    desk: &Desk<Added, N, B>,
+    grown: &Mutex<Grown<S>>,
     plan: &Plan,
     table: &Table,
     link: &mut L,
@@ -35,7 +41,9 @@ pub(crate) fn turn<N: Naming<Found>, B: Room, L: Link, R: Wait>(
 ) -> Result<(), NoMemory>
     requires planned { IsOfSchema (schema_view (table.now).schema) plan.now }
     requires job { N.job.leaves ≡ table_leaves (table_view table.now) }
-    requires truth { TakesFrom (table_view table.now) plan.now N.is_true (L.shows link.old).held }
+    requires told { (t : ℕ) (a : Added) → N.is_true t a }
+    requires truth { TakesFrom (table_view table.now) plan.now S.is_true (L.shows link.old).held }
+    requires grows_on { GrowsOn S.is_true S.has_grown }
     requires recorded { is_history N.job pass.old.seen ≡ true }
     requires given { has_give pass.old.seen hand ≡ true }
     ensures earlier { IsPrefix pass.old.seen pass.new.seen }
@@ -53,7 +61,11 @@ pub(crate) fn turn<N: Naming<Found>, B: Room, L: Link, R: Wait>(
                 tablet: hand.tablet,
                 partial,
             };
-            let _ = desk.answer(rt, pass, hand, found);
+            grown.lock(rt).add(alloc, found)?;
+            let added = Added {
+                tablet: hand.tablet,
+            };
+            let _ = desk.answer(rt, pass, hand, added);
             Ok(())
         }
         Err(FileFault::NoMemory) => Err(NoMemory),
@@ -65,10 +77,11 @@ pub(crate) fn turn<N: Naming<Found>, B: Room, L: Link, R: Wait>(
 }
 
 // Turns until nothing is handed out, or there is no memory.
-pub(crate) fn turns<N: Naming<Found>, B: Room, L: Link, R: Wait>(
+pub(crate) fn turns<N: Naming<Added>, B: Room, S: Service, L: Link, R: Wait>(
     rt: &R,
     alloc: Global,
-    desk: &Desk<Found, N, B>,
+    desk: &Desk<Added, N, B>,
+    grown: &Mutex<Grown<S>>,
     plan: &Plan,
     table: &Table,
     link: &mut L,
@@ -76,7 +89,9 @@ pub(crate) fn turns<N: Naming<Found>, B: Room, L: Link, R: Wait>(
 ) -> Result<(), NoMemory>
     requires planned { IsOfSchema (schema_view (table.now).schema) plan.now }
     requires job { N.job.leaves ≡ table_leaves (table_view table.now) }
-    requires truth { TakesFrom (table_view table.now) plan.now N.is_true (L.shows link.old).held }
+    requires told { (t : ℕ) (a : Added) → N.is_true t a }
+    requires truth { TakesFrom (table_view table.now) plan.now S.is_true (L.shows link.old).held }
+    requires grows_on { GrowsOn S.is_true S.has_grown }
     ensures earlier { IsPrefix pass.old.seen pass.new.seen }
     ensures none { OnOk result (choice N.job pass.new.seen ≡ None) }
     ensures ended { OnOk result (EndsAll (IsCauseFor (table_view table.now) plan.now (L.shows link.old)) pass.old
@@ -84,7 +99,7 @@ pub(crate) fn turns<N: Naming<Found>, B: Room, L: Link, R: Wait>(
     ensures link { Worked (table_view table.now) plan.now (L.shows link.old) (L.shows link.new) }
 {
     'turns: while let Some(hand) = desk.take(rt, pass) {
-        turn(rt, alloc, desk, plan, table, link, pass, hand)?;
+        turn(rt, alloc, desk, grown, plan, table, link, pass, hand)?;
     }
     Ok(())
 }

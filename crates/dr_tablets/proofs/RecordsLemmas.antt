@@ -45,7 +45,7 @@ leaf_paths_of fs (l ∷ F) h = and_from _ _ (nth_of (λ l. is_leaf_path fs l.pat
 pub have_leaf_paths : (fs : Fields) (ps : List Path) → AreLeavesOf fs (map path_view ps) → list_all (is_leaf_path fs) (paths_view ps) ≡ true
 have_leaf_paths fs ps h = ap (list_all (is_leaf_path fs)) (paths_same ps) ∙ leaf_paths_of fs (map path_view ps) h
 
-leaf_at : (fs : Fields) (F : List Leaf) (i : ℕ) (l : Leaf) → AreLeavesOf fs F → slice_get F i ≡ Some l → (k : ℕ) × (slice_get (leaves fs) k ≡ Some l)
+pub leaf_at : (fs : Fields) (F : List Leaf) (i : ℕ) (l : Leaf) → AreLeavesOf fs F → slice_get F i ≡ Some l → (k : ℕ) × (slice_get (leaves fs) k ≡ Some l)
 leaf_at fs [] i l h e = let no : None ≡ Some l = e in cc
 leaf_at fs (m ∷ F) zero l h e = let is : Some m ≡ Some l = e in let same : m ≡ l = cc in subst (λ (x : Leaf). (k : ℕ) × (slice_get (leaves fs) k ≡ Some x)) same h.0
 leaf_at fs (m ∷ F) (suc i) l h e = leaf_at fs F i l h.1 e
@@ -63,7 +63,7 @@ opened_fault bytes s F (FileFault.Why Cause.BadData) h = opening_cause_holds byt
 -- ---- columns
 
 -- a test of what is read for some leaves is one of what is read for one of them
-read_at : (f : Footer) (p : Leaf → Bool) (F : List Leaf) (i : ℕ) (l : Leaf) → list_all p (leaves_read f F) ≡ true → slice_get F i ≡ Some l → list_all p (leaves_read f (l ∷ [])) ≡ true
+pub read_at : (f : Footer) (p : Leaf → Bool) (F : List Leaf) (i : ℕ) (l : Leaf) → list_all p (leaves_read f F) ≡ true → slice_get F i ≡ Some l → list_all p (leaves_read f (l ∷ [])) ≡ true
 read_at f p [] i l h e = let no : None ≡ Some l = e in cc
 read_at f p (m ∷ F) zero l h e =
     let is : Some m ≡ Some l = e in
@@ -87,10 +87,10 @@ column_at bytes f (m ∷ F) R (suc i) l h e =
     let k = first_same (given_column bytes f m) (Some (column m.path R)) (map (given_column bytes f) F) (map (λ (x : Leaf). Some (column x.path R)) F) h in
     column_at bytes f F R i l k.1 e
 
-data_at : (bytes : List ℕ) (f : Footer) (s : Schema) (F : List Leaf) (R : List Node) (i : ℕ) (l : Leaf) → slice_get F i ≡ Some l → IsDataOf bytes f s F R → IsDataOf bytes f s (l ∷ []) R
+pub data_at : (bytes : List ℕ) (f : Footer) (s : Schema) (F : List Leaf) (R : List Node) (i : ℕ) (l : Leaf) → slice_get F i ≡ Some l → IsDataOf bytes f s F R → IsDataOf bytes f s (l ∷ []) R
 data_at bytes f s F R i l e d = (d.0, read_at f _ F i l d.1 e, d.2, d.3, column_at bytes f F R i l d.4 e)
 
-same_footer : (f g : Footer) (o : Option Footer) → o ≡ Some f → o ≡ Some g → f ≡ g
+pub same_footer : (f g : Footer) (o : Option Footer) → o ≡ Some f → o ≡ Some g → f ≡ g
 same_footer f g o h k = let e = sym h ∙ k in cc
 
 bad_leaf : (bytes : List ℕ) (s : Schema) (F : List Leaf) (o : Opened) → IsOpened bytes F o → AreLeavesOf s.fields F → SomeIsBad bytes F → HasCause bytes s F bad_data

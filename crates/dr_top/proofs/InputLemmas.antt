@@ -1,5 +1,5 @@
 -- Reading the records of an input.
-use Rattle.std.specs.Prelude.{◌≡◌, ℕ, ◌+◌, List, [], ◌∷◌, ◌++◌, length, Option, Some, None, IfSome, IfNone, Ok, Err}
+use Rattle.std.specs.Prelude.{◌≡◌, ℕ, ◌+◌, List, [], ◌∷◌, ◌++◌, length, Option, Some, None, Ok, Err}
 use Rattle.std.proofs.Common.{arith, refl, sym, ap, ◌∙◌, append-nil, subst}
 use Rattle.std.proofs.lemmas.List.{length-append}
 use Rattle.dr_meaning.specs.Schema.{Fields}
@@ -88,14 +88,3 @@ pub all_ended : (fs : Fields) (most : ℕ) (P : List Node → Type 0) (all befor
 all_ended fs most P None before left pending number h e = tt
 all_ended fs most P (Some all) None left pending number h e = absurd h.1
 all_ended fs most P (Some all) (Some rest) left pending number h e = left_nothing left pending e.1
-
--- ---- what is said of an option
-
-pub some_of : {A : Type 0} (P : A → Type 0) (o : Option A) (a : A) → o ≡ Some a → IfSome o P → P a
-some_of P None a e h = cc
-some_of P (Some b) a e h = let k : b ≡ a = cc in subst P k h
-
--- an option that is no value is none
-pub none_there : {A : Type 0} (Q : Type 0) (o : Option A) → ((a : A) → o ≡ Some a → ⊥) → IfNone o Q → Q
-none_there Q None n h = h
-none_there Q (Some b) n h = absurd (n b refl)

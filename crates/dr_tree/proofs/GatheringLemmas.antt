@@ -41,13 +41,13 @@ groups_more : (m n : ℕ) → m ≤ n → (gs : List meant.Group) → GroupsCanB
 groups_more m n h [] b = tt
 groups_more m n h (g ∷ gs) b = (all_more m n h g.accumulators b.0, groups_more m n h gs b.1)
 
-partial_more : (m n : ℕ) → m ≤ n → (p : meant.Partial) → PartialCanBeOf m p → PartialCanBeOf n p
+pub partial_more : (m n : ℕ) → m ≤ n → (p : meant.Partial) → PartialCanBeOf m p → PartialCanBeOf n p
 partial_more m n h (meant.lines os) b = tt
 partial_more m n h (meant.grouped gs) b = groups_more m n h gs b
 
 -- ---- two lists of partials
 
-of_plan_parts : (p : Planned) (ps qs : List Partial) → AreOfPlan p (ps ++ qs) → AreOfPlan p ps × AreOfPlan p qs
+pub of_plan_parts : (p : Planned) (ps qs : List Partial) → AreOfPlan p (ps ++ qs) → AreOfPlan p ps × AreOfPlan p qs
 of_plan_parts p [] qs h = (tt, h)
 of_plan_parts p (r ∷ ps) qs h = let k = of_plan_parts p ps qs h.1 in ((h.0, k.0), k.1)
 

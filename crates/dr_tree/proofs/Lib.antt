@@ -4,3 +4,14 @@ mod ViewLemmas
 mod FanLemmas
 -- what is gathered of partials
 mod GatheringLemmas
+-- places that are filled, and what is merged of them
+pub mod PlaceLemmas
+mod MergedLemmas
+-- lines that wait
+mod AppendLemmas
+-- groups that came one after another
+mod PileLemmas
+-- what grows of a tree
+mod GrowLemmas
+-- a tree that grows, by computation
+mod WorkedGrowing

@@ -4,3 +4,14 @@ pub mod Views
 pub mod Fan
 -- partials that are gathered together
 pub mod Together
+-- places of tablets, filled in any order
+pub mod Places
+-- lines that wait, and are appended
+pub mod Waiting
+pub mod Appending
+-- groups that came one after another
+pub mod Piles
+-- what grows of a tree
+pub mod Grows
+-- laws, each proved on a law function of src/laws.rt
+pub mod GrowingLaws

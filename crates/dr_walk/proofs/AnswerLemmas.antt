@@ -1,6 +1,7 @@
 -- What a walk's answers say of records: by the course's laws.
-use Rattle.std.proofs.Common.{◌≡◌, ◌≢◌, ◌⊎◌, inl, inr, ℕ, zero, suc, ◌≤◌, List, [], ◌∷◌, ◌++◌, map, length, Bool, true, false, ◌&&◌, Option, Some, None, refl, sym, ap, ap₂, subst, ◌∙◌, append-nil, length-append, arith}
-use Rattle.std.specs.Prelude.{◌==◌, nat_lt, if◌then◌else◌, is_some}
+use Rattle.std.proofs.Common.{◌≡◌, ◌≢◌, ◌⊎◌, inl, inr, ℕ, zero, suc, ◌≤◌, List, [], ◌∷◌, ◌++◌, map, length, Bool, true, false, ◌&&◌, Option, Some, None, refl, sym, ap, ap₂, subst, ◌∙◌, append-nil, length-append, arith, true≢false}
+use Rattle.std.specs.Prelude.{◌==◌, nat_lt, if◌then◌else◌, is_some, option_map}
+use Rattle.dr_nested.specs.Views.{kind_view}
 use Rattle.std.specs.List.{list_all, slice_get}
 use Rattle.std.proofs.lemmas.Bool.Decides.{nat_tests}
 use Rattle.dr_meaning.specs.Schema.{Fields}
@@ -16,12 +17,12 @@ use Rattle.dr_course.specs.Selection.{all_differ}
 use Rattle.dr_course.proofs.LeadingLemmas.{leads_taken, records_lead, led_to_records, walk_columns}
 use Rattle.dr_course.proofs.NestingOfTurns.{moves_nest}
 use Rattle.std.proofs.Common.{Result, Ok, Err}
-use Rattle.dr_levels.specs.Views.{move_view, triplet_view}
-use Rattle.dr_levels.specs.declared.triplet.Triplet.{Triplet as CodeTriplet}
-use Rattle.dr_levels.specs.declared.moves.Move.{Move as CodeMove}
+use Rattle.dr_levels.specs.Views.{levels_pair}
+use Rattle.dr_levels.specs.declared.triplet.Levels.{Levels}
 use Rattle.dr_walk.specs.declared.fault.AssembleFault.{AssembleFault}
-use Rattle.dr_walk.specs.Walking.{HasColumns, NoneHas, IsAt, Ends, Stuck, Goes, moves_of, left_behind}
-use Rattle.dr_walk.specs.declared.walk.Walk.{Walk}
+use Rattle.dr_walk.specs.Walking.{HasColumns, NoneHas, IsAtLevels, ComesNext, Ends, Stuck, Gave, Goes, next_levels, given_leaf, leaf_moves, moves_over, behind_moves, HasLevels, is_fit, fits_next, WantsNext}
+use Rattle.dr_walk.specs.declared.level_move.LevelMove.{LevelMove}
+use Rattle.dr_walk.specs.declared.level_walk.LevelWalk.{LevelWalk}
 
 -- ---- where records have the columns
 
@@ -30,7 +31,7 @@ leads_of : (fs : Fields) (F : List (List Step)) (rows : ℕ) (C : List (List Tri
 leads_of fs F rows C ms left S R h l =
     subst (λ (D : List (List Triplet)). Leads (course fs F) (between (length R)) (columns_of D) ms S left) (sym h.2) (subst (λ (n : ℕ). Leads (course fs F) (between n) (columns_of C) ms S left) (sym h.1) l)
 
-pub front_of : (fs : Fields) (F : List (List Step)) (rows : ℕ) (C : List (List Triplet)) (ms : List Move) (left : Left) (w : Walk) (R : List Node) → IsAt fs F rows C ms left w → list_all (is_leaf_path fs) F ≡ true → HasColumns fs F C rows R
+pub front_of : (fs : Fields) (F : List (List Step)) (rows : ℕ) (C : List (List Triplet)) (ms : List Move) (left : Left) (w : LevelWalk) (R : List Node) → IsAtLevels fs F rows C ms left w → list_all (is_leaf_path fs) F ≡ true → HasColumns fs F C rows R
     → (rest : List Move) × (walk fs F R ≡ ms ++ rest)
 front_of fs F rows C ms left w R at p h =
     let r = records_lead fs F R ms at.stack left p h.0 (leads_of fs F rows C ms left at.stack R h at.leads) in
@@ -57,6 +58,13 @@ none_has fs F rows C ms left s p R h =
         let m : walk fs F R ≡ ms = w ∙ ap (λ (x : List Move). ms ++ x) (b d.0) ∙ append-nil ms in
         let t : triplets_of i ms ++ left i ≡ triplets_of i ms = sym (leads_taken (course fs F) (between (length R)) s.stack (has_columns F R) left ms l i) ∙ walk_columns fs F R p h.0 i ∙ ap (triplets_of i) m in
         d.1.1 (none_more (triplets_of i ms) (left i) t)
+
+-- of columns whose records' whole walk was given nothing is left
+pub nothing_more : (fs : Fields) (F : List (List Step)) (rows : ℕ) (C : List (List Triplet)) (ms : List Move) (left : Left) (w : LevelWalk) (R : List Node) → IsAtLevels fs F rows C ms left w → list_all (is_leaf_path fs) F ≡ true → HasColumns fs F C rows R → walk fs F R ≡ ms
+    → (i : ℕ) → left i ≡ []
+nothing_more fs F rows C ms left w R at p h m i =
+    let l = leads_of fs F rows C ms left at.stack R h at.leads in
+    none_more (triplets_of i ms) (left i) (sym (leads_taken (course fs F) (between (length R)) at.stack (has_columns F R) left ms l i) ∙ walk_columns fs F R p h.0 i ∙ ap (triplets_of i) m)
 
 -- ---- where all is done
 
@@ -113,7 +121,7 @@ whole_walk fs F rows C ms left s c p d =
 
 -- ---- whatever the columns
 
-pub nests : (fs : Fields) (F : List (List Step)) (L : List Leaf) (rows : ℕ) (C : List (List Triplet)) (ms : List Move) (left : Left) (w : Walk) → map (λ (l : Leaf). l.path) L ≡ F → IsAt fs F rows C ms left w → AreLeavesOf fs L → all_differ F ≡ true
+pub nests : (fs : Fields) (F : List (List Step)) (L : List Leaf) (rows : ℕ) (C : List (List Triplet)) (ms : List Move) (left : Left) (w : LevelWalk) → map (λ (l : Leaf). l.path) L ≡ F → IsAtLevels fs F rows C ms left w → AreLeavesOf fs L → all_differ F ≡ true
     → is_some (open_after_moves fs L no_record ms) ≡ true
 nests fs F L rows C ms left w q at a d =
     let leads = subst (λ (E : List (List Step)). Leads (course fs E) (between rows) (columns_of C) ms at.stack left) (sym q) at.leads in
@@ -132,21 +140,47 @@ too_long ms rest m e =
 -- ---- by what is answered
 
 -- no move was given
-pub at_same : (fs : Fields) (F : List (List Step)) (rows : ℕ) (C : List (List Triplet)) (ms : List Move) (left : Left) (w : Walk) → IsAt fs F rows C ms left w → IsAt fs F rows C (ms ++ []) left w
-at_same fs F rows C ms left w at = subst (λ (ns : List Move). IsAt fs F rows C ns left w) (sym (append-nil ms)) at
+pub at_same : (fs : Fields) (F : List (List Step)) (rows : ℕ) (C : List (List Triplet)) (ms : List Move) (left : Left) (w : LevelWalk) → IsAtLevels fs F rows C ms left w → IsAtLevels fs F rows C (ms ++ []) left w
+at_same fs F rows C ms left w at = subst (λ (ns : List Move). IsAtLevels fs F rows C ns left w) (sym (append-nil ms)) at
 
-pub at_next : (fs : Fields) (F : List (List Step)) (rows : ℕ) (C : List (List Triplet)) (ms : List Move) (left : Left) (w : Walk) (m : Option CodeMove) → Goes fs F rows C ms left w (Ok m) → IsAt fs F rows C (ms ++ moves_of m) (left_behind m left) w
-at_next fs F rows C ms left w None g = at_same fs F rows C ms left w g.0
-at_next fs F rows C ms left w (Some m) g = g
+-- a call that answers so, behind what was wanted
+abbrev pub GoesTo : Fields → List (List Step) → ℕ → List (List Triplet) → List Move → Left → LevelWalk → Option LevelMove → Type 0
+GoesTo fs F rows C ms left w m = Goes fs F rows C ms left w (Ok m)
 
-pub at_end : (fs : Fields) (F : List (List Step)) (rows : ℕ) (C : List (List Triplet)) (ms : List Move) (left : Left) (w : Walk) (m : Option CodeMove) → m ≡ None → Goes fs F rows C ms left w (Ok m) → Ends fs F rows C ms left
+pub at_next : (fs : Fields) (F : List (List Step)) (rows : ℕ) (C : List (List Triplet)) (ms : List Move) (left : Left) (w : LevelWalk) (m : Option LevelMove) → GoesTo fs F rows C ms left w m → is_fit left m ≡ true
+    → IsAtLevels fs F rows C (ms ++ moves_over left m) (behind_moves (moves_over left m) left) w
+at_next fs F rows C ms left w None g f = at_same fs F rows C ms left w g.0
+at_next fs F rows C ms left w (Some m) g f = g.on f
+
+pub levels_next : (fs : Fields) (F : List (List Step)) (rows : ℕ) (C : List (List Triplet)) (ms : List Move) (left : Left) (w : LevelWalk) (m : Option LevelMove) → GoesTo fs F rows C ms left w m → HasLevels left m
+levels_next fs F rows C ms left w None g = tt
+levels_next fs F rows C ms left w (Some m) g = g.levels
+
+-- where records have the columns, the value that a move asks for is there
+pub fit_next : (fs : Fields) (F : List (List Step)) (rows : ℕ) (C : List (List Triplet)) (ms : List Move) (left : Left) (w : LevelWalk) (m : Option LevelMove) (R : List Node) → GoesTo fs F rows C ms left w m → list_all (is_leaf_path fs) F ≡ true → HasColumns fs F C rows R
+    → is_fit left m ≡ true
+fit_next fs F rows C ms left w None R g p h = refl
+fit_next fs F rows C ms left w (Some m) R g p h = by_bit (is_fit left (Some m)) refl
+  where
+    by_bit : (b : Bool) → is_fit left (Some m) ≡ b → is_fit left (Some m) ≡ true
+    by_bit true e = e
+    by_bit false e = absurd (none_has fs F rows C ms left (g.unfit e) p R h)
+
+pub front_next : (fs : Fields) (F : List (List Step)) (rows : ℕ) (C : List (List Triplet)) (ms : List Move) (left : Left) (w : LevelWalk) (m : Option LevelMove) (R : List Node) → GoesTo fs F rows C ms left w m → list_all (is_leaf_path fs) F ≡ true → HasColumns fs F C rows R
+    → (is_fit left m ≡ true) × (rest : List Move) × (walk fs F R ≡ (ms ++ moves_over left m) ++ rest)
+front_next fs F rows C ms left w m R g p h =
+    let f = fit_next fs F rows C ms left w m R g p h in
+    let x = front_of fs F rows C (ms ++ moves_over left m) (behind_moves (moves_over left m) left) w R (at_next fs F rows C ms left w m g f) p h in
+    (f, x.0, x.1)
+
+pub at_end : (fs : Fields) (F : List (List Step)) (rows : ℕ) (C : List (List Triplet)) (ms : List Move) (left : Left) (w : LevelWalk) (m : Option LevelMove) → m ≡ None → GoesTo fs F rows C ms left w m → Ends fs F rows C ms left
 at_end fs F rows C ms left w None e g = g.1
 at_end fs F rows C ms left w (Some m) e g = absurd (some_is_none e)
   where
     some_is_none : Some m ≡ None → ⊥
     some_is_none q = cc
 
-pub at_fault : (fs : Fields) (F : List (List Step)) (rows : ℕ) (C : List (List Triplet)) (ms : List Move) (left : Left) (w : Walk) (e : AssembleFault) → e ≡ AssembleFault.BadData → Goes fs F rows C ms left w (Err e) → Stuck fs F rows C ms left
+pub at_fault : (fs : Fields) (F : List (List Step)) (rows : ℕ) (C : List (List Triplet)) (ms : List Move) (left : Left) (w : LevelWalk) (e : AssembleFault) → e ≡ AssembleFault.BadData → Goes fs F rows C ms left w (Err e) → Stuck fs F rows C ms left
 at_fault fs F rows C ms left w AssembleFault.BadData q g = g
 at_fault fs F rows C ms left w AssembleFault.NoMemory q g = absurd (other q)
   where
@@ -154,9 +188,15 @@ at_fault fs F rows C ms left w AssembleFault.NoMemory q g = absurd (other q)
     other q = cc
 
 -- where the whole walk was given no move comes
-pub none_comes : (fs : Fields) (F : List (List Step)) (R : List Node) (ms : List Move) (m : Option CodeMove) → (rest : List Move) → walk fs F R ≡ (ms ++ moves_of m) ++ rest → walk fs F R ≡ ms → m ≡ None
-none_comes fs F R ms None rest e f = refl
-none_comes fs F R ms (Some m) rest e f = absurd (too_long ms rest (move_view m) (sym f ∙ e))
+pub none_comes : (fs : Fields) (F : List (List Step)) (R : List Node) (ms : List Move) (left : Left) (m : Option LevelMove) → is_fit left m ≡ true → (rest : List Move) → walk fs F R ≡ (ms ++ moves_over left m) ++ rest → walk fs F R ≡ ms → m ≡ None
+none_comes fs F R ms left None f rest e q = refl
+none_comes fs F R ms left (Some (LevelMove.Enter k)) f rest e q = absurd (too_long ms rest (enter k) (sym q ∙ e))
+none_comes fs F R ms left (Some (LevelMove.Leave k)) f rest e q = absurd (too_long ms rest (leave k) (sym q ∙ e))
+none_comes fs F R ms left (Some (LevelMove.Leaf i l k)) f rest e q = absurd (by_head (head_of (left i)) f e)
+  where
+    by_head : (o : Option Triplet) → fits_next (option_map kind_view k) o ≡ true → walk fs F R ≡ (ms ++ leaf_moves i o) ++ rest → ⊥
+    by_head None f e = true≢false (sym f)
+    by_head (Some t) f e = too_long ms rest (value i t) (sym q ∙ e)
 
 pub wanted_before : (o p : Option ℕ) (i : ℕ) → (o ≡ None → p ≡ None) → p ≡ Some i → (j : ℕ) × (o ≡ Some j)
 wanted_before None p i h e = absurd (none_is_some (sym (h refl) ∙ e))
@@ -167,55 +207,31 @@ wanted_before (Some j) p i h e = (j, refl)
 
 -- ---- no leaf is wanted behind its end
 
-one_more : (i : ℕ) (ms : List Move) (t : Triplet) → length (triplets_of i (ms ++ value i t ∷ [])) ≡ suc (length (triplets_of i ms))
-one_more i [] t = rw (same i) refl
+pub not_behind_end : (left : Left) (i : ℕ) (wanted : Option ℕ) (m : Option LevelMove) → None ≡ next_levels (left i) → wanted ≡ Some i → WantsNext m None wanted → HasLevels left m → ⊥
+not_behind_end left i wanted None e q w h = none_is_some (sym w ∙ q)
   where
-    same : (a : ℕ) → (a == a) ≡ true
-    same a = grind (arith, nat_tests)
-one_more i (enter k ∷ ms) t = one_more i ms t
-one_more i (value j u ∷ ms) t = by_bit (j == i) (one_more i ms t)
+    none_is_some : None ≡ Some i → ⊥
+    none_is_some q = cc
+not_behind_end left i wanted (Some (LevelMove.Enter k)) e q w h = none_is_some (sym w.1 ∙ q)
   where
-    by_bit : (b : Bool) → length (triplets_of i (ms ++ value i t ∷ [])) ≡ suc (length (triplets_of i ms))
-        → length (if b then u ∷ triplets_of i (ms ++ value i t ∷ []) else triplets_of i (ms ++ value i t ∷ [])) ≡ suc (length (if b then u ∷ triplets_of i ms else triplets_of i ms))
-    by_bit true e = ap suc e
-    by_bit false e = e
-one_more i (leave k ∷ ms) t = one_more i ms t
-
-pub not_behind_end : (fs : Fields) (F : List (List Step)) (rows : ℕ) (C : List (List Triplet)) (ms : List Move) (left : Left) (v w : Walk) (i : ℕ) (m : Option CodeMove) (t : CodeTriplet) → IsAt fs F rows C ms left v → None ≡ head_of (left i)
-    → m ≡ Some (CodeMove.Leaf i t) → Goes fs F rows C ms left w (Ok m) → ⊥
-not_behind_end fs F rows C ms left v w i m t at e q g =
-    let new = subst (λ (x : Option CodeMove). Goes fs F rows C ms left w (Ok x)) q g in
-    let a = leads_taken (course fs F) (between rows) at.stack (columns_of C) left ms at.leads i in
-    let after = left_behind (Some (CodeMove.Leaf i t)) left in
-    let b = leads_taken (course fs F) (between rows) new.stack (columns_of C) after (ms ++ value i (triplet_view t) ∷ []) new.leads i in
-    let n : length (left i) ≡ 0 = ap length (empty (left i) (sym e)) in
-    let x = length-append (triplets_of i ms) (left i) in
-    let y = length-append (triplets_of i (ms ++ value i (triplet_view t) ∷ [])) (after i) in
-    let z = one_more i ms (triplet_view t) in
-    let c = ap length (sym a ∙ b) in
-    never (omega (arith, n, x, y, z, c))
+    none_is_some : None ≡ Some i → ⊥
+    none_is_some q = cc
+not_behind_end left i wanted (Some (LevelMove.Leave k)) e q w h = none_is_some (sym w.1 ∙ q)
   where
-    never : 1 ≤ 0 → ⊥
-    never x = omega (arith, x)
+    none_is_some : None ≡ Some i → ⊥
+    none_is_some q = cc
+not_behind_end left i wanted (Some (LevelMove.Leaf j l k)) e q w h = none_is_some (e ∙ ap (λ (x : ℕ). next_levels (left x)) (sym (same (sym w.1 ∙ q))) ∙ h)
+  where
+    same : Some j ≡ Some i → j ≡ i
+    same q = cc
 
-    empty : (xs : List Triplet) → head_of xs ≡ None → xs ≡ []
-    empty [] q = refl
-    empty (x ∷ xs) q = absurd (some_is_none q)
-      where
-        some_is_none : Some x ≡ None → ⊥
-        some_is_none q = cc
+    none_is_some : None ≡ Some (levels_pair l) → ⊥
+    none_is_some q = cc
 
-abbrev Answer : Type 0
-Answer = Result (Option CodeMove) AssembleFault
+-- what comes of a leaf at its end
+pub comes_none : (left : Left) (o : Option ℕ) (i : ℕ) (more : Option Levels) → o ≡ Some i → more ≡ None → ComesNext left o more → None ≡ next_levels (left i)
+comes_none left o i more q n c = sym (ap (option_map levels_pair) n) ∙ subst (λ (o : Option ℕ). ComesNext left o more) q c
 
-abbrev is_ok : Option CodeMove → Answer
-is_ok m = Ok m
-
-abbrev is_err : AssembleFault → Answer
-is_err f = Err f
-
-pub ok_is : (a b : Option CodeMove) → is_ok a ≡ is_ok b → a ≡ b
-ok_is a b e = cc
-
-pub ok_is_not : (f : AssembleFault) (a : Option CodeMove) → is_err f ≡ is_ok a → ⊥
-ok_is_not f a e = cc
+-- and what a call leaves wanted
+pub wants_on : (m : Option LevelMove) (o p after : Option ℕ) → o ≡ p → WantsNext m o after → WantsNext m p after
+wants_on m o p after e h = subst (λ (q : Option ℕ). WantsNext m q after) e h

@@ -17,8 +17,10 @@ use Rattle.dr_course.proofs.WalkFollows.{group_paths, paths_from}
 use Rattle.dr_walk.specs.Flat.{leaves_in}
 use Rattle.dr_walk.proofs.LeafLemmas.{has_shape_near, has_shape_far, leaves_followed}
 use Rattle.dr_walk.proofs.SizeLemmas.{split_in_two}
-use Rattle.dr_walk.specs.Walking.{triplet_count, LastGives, count_one, count_some, pending, is_known, IsAt}
-use Rattle.dr_walk.specs.declared.walk.Walk.{Walk}
+use Rattle.std.specs.Prelude.{option_map}
+use Rattle.dr_levels.specs.Views.{triplet_levels}
+use Rattle.dr_walk.specs.Walking.{triplet_count, LastGives, count_one, count_some, pending, is_known, IsAtLevels}
+use Rattle.dr_walk.specs.declared.level_walk.LevelWalk.{LevelWalk}
 use Rattle.dr_walk.proofs.WalkLemmas.{left_past}
 use Rattle.std.proofs.lemmas.Bool.{eqb-true}
 
@@ -426,7 +428,7 @@ bounded top h few good f _ _ _ _ _ (turns S U V left end ms e l) s =
 
 -- ---- a walk's moves
 
-count_at : (P : ℕ → Option Triplet) (n i : ℕ) (t : Triplet) → i < n → P i ≡ Some t → 1 ≤ count_some P n
+count_at : (P : ℕ → Option (ℕ × ℕ)) (n i : ℕ) (t : ℕ × ℕ) → i < n → P i ≡ Some t → 1 ≤ count_some P n
 count_at P zero i t l e = absurd (never l)
   where
     never : i < 0 → ⊥
@@ -440,7 +442,7 @@ count_at P (suc n) i t l e = by_bit (i == n) refl (λ m. count_at P n i t m e)
         less : (a b : ℕ) → a < suc b → (a == b) ≡ false → a < b
         less a b x y = grind (arith, nat_tests)
 
-pub few_moves : (fs : Fields) (F : List (List Step)) (rows : ℕ) (C : List (List Triplet)) (ms : List Move) (left : Left) (w : Walk) → IsAt fs F rows C ms left w → list_all (is_leaf_path fs) F ≡ true → w.given ≤ 2 * rows + 65 * w.taken
+pub few_moves : (fs : Fields) (F : List (List Step)) (rows : ℕ) (C : List (List Triplet)) (ms : List Move) (left : Left) (w : LevelWalk) → IsAtLevels fs F rows C ms left w → list_all (is_leaf_path fs) F ≡ true → w.given ≤ 2 * rows + 65 * w.taken
 few_moves fs F rows C ms left w at p =
     let b = bounded (course fs F) 32 (omega arith) (good_course fs F 32 p at.deep) 0 (between rows) at.stack (columns_of C) left ms at.leads (record { fine = tt; within = omega arith; safe = inl refl; awaits = tt }) in
     let c = b.count in
@@ -465,8 +467,8 @@ few_moves fs F rows C ms left w at p =
     by_wanted : (f : ℕ) → length ms + owed at.stack + 0 ≤ 2 * rows + 65 * triplet_count ms + 2 * f → f ≤ 32 → Pends left → ((j : ℕ) → LastGives j ms → ⊥) → (o : Option ℕ) → w.wanted ≡ o → w.given ≤ 2 * rows + 65 * w.taken
     by_wanted f c l p n None e =
         let i = p.0 in
-        let q : pending w i ≡ Some p.1 = at.known i (ap (λ (o : Option ℕ). is_known o w.given i) e) ∙ p.2 in
-        let x = count_at (pending w) (length F) i p.1 (inside i p.1 p.2 (nat_lt i (length F)) refl) q in
+        let q : pending w i ≡ Some (triplet_levels p.1) = at.known i (ap (λ (o : Option ℕ). is_known o w.given i) e) ∙ ap (option_map triplet_levels) p.2 in
+        let x = count_at (pending w) (length F) i (triplet_levels p.1) (inside i p.1 p.2 (nat_lt i (length F)) refl) q in
         let g = at.gave in
         let t = at.took in
         omega (arith, c, l, x, g, t)

@@ -17,7 +17,8 @@ use Rattle.dr_levels.specs.declared.moves.Move.{Move as CodeMove}
 use Rattle.dr_course.specs.Course.{course}
 use Rattle.dr_course.specs.Turning.{between}
 use Rattle.dr_course.specs.Leading.{Left, head_of, tail_of, columns_of}
-use Rattle.dr_walk.specs.Walking.{IsAt, HasColumns, NoneHas, first_wanted, is_known, wanted_behind, then_wanted, Wants, leaf_of, Comes, moves_of, left_behind}
+use Rattle.dr_walk.specs.Walking.{HasColumns, NoneHas, first_wanted, is_known, wanted_behind, then_wanted, leaf_of}
+use Rattle.dr_walk.specs.Valued.{IsAt, Wants, Comes, moves_of, left_behind}
 use Rattle.dr_walk.specs.Checking.{rest_at, rest_behind, next_at, untaken, IsOn, Advances}
 use Rattle.dr_walk.specs.declared.column_walk.Advance.{Advance}
 use Rattle.dr_walk.specs.declared.fault.AssembleFault.{AssembleFault}
@@ -50,39 +51,39 @@ taken_by false k l ts h g = of (g refl)
     of (inr e) = ap (untaken k) e ∙ nothing_untaken k ∙ sym (nothing_untaken l) ∙ ap (untaken l) (sym e)
 
 pub taken_rest : (fs : Fields) (F : List (List Step)) (rows : ℕ) (C : List (List Triplet)) (ms : List Move) (left : Left) (w : Walk) → IsAt fs F rows C ms left w → (i : ℕ)
-    → rest_behind w.wanted i (untaken (is_known w.wanted w.given i) (left i)) ≡ untaken (is_known (then_wanted w.given (length w.course.heads.items) w.wanted) w.given i) (left i)
-taken_rest fs F rows C ms left w at i = of w.wanted
+    → rest_behind w.levels.wanted i (untaken (is_known w.levels.wanted w.levels.given i) (left i)) ≡ untaken (is_known (then_wanted w.levels.given (length w.levels.course.heads.items) w.levels.wanted) w.levels.given i) (left i)
+taken_rest fs F rows C ms left w at i = of w.levels.wanted
   where
     n : ℕ
-    n = length w.course.heads.items
+    n = length w.levels.course.heads.items
 
     nothing : n ≤ i → left i ≡ []
-    nothing p = let h : length w.course.heads.items ≡ length F = at.heads in left_past (course fs F) (between rows) at.stack C ms left (length F) i at.leads at.columns (omega (arith, h, p))
+    nothing p = let h : length w.levels.course.heads.items ≡ length F = at.levels.heads in left_past (course fs F) (between rows) at.levels.stack C ms left (length F) i at.levels.leads at.levels.columns (omega (arith, h, p))
 
-    here : (j : ℕ) → (i == j) ≡ true → (is_known (Some j) w.given i ≡ false) × (is_known (wanted_behind w.given n j) w.given i ≡ true)
-    here j e = let q : i ≡ j = eqb-true i j e in subst (λ (x : ℕ). (is_known (Some x) w.given i ≡ false) × (is_known (wanted_behind w.given n x) w.given i ≡ true)) q (not_known w.given i, behind_known w.given n i)
+    here : (j : ℕ) → (i == j) ≡ true → (is_known (Some j) w.levels.given i ≡ false) × (is_known (wanted_behind w.levels.given n j) w.levels.given i ≡ true)
+    here j e = let q : i ≡ j = eqb-true i j e in subst (λ (x : ℕ). (is_known (Some x) w.levels.given i ≡ false) × (is_known (wanted_behind w.levels.given n x) w.levels.given i ≡ true)) q (not_known w.levels.given i, behind_known w.levels.given n i)
 
-    there : (j : ℕ) → (i == j) ≡ false → (is_known (Some j) w.given i ≡ is_known (wanted_behind w.given n j) w.given i) ⊎ (left i ≡ [])
-    there j e = by_known (is_known (wanted_behind w.given n j) w.given i) refl
+    there : (j : ℕ) → (i == j) ≡ false → (is_known (Some j) w.levels.given i ≡ is_known (wanted_behind w.levels.given n j) w.levels.given i) ⊎ (left i ≡ [])
+    there j e = by_known (is_known (wanted_behind w.levels.given n j) w.levels.given i) refl
       where
         d : i ≢ j
         d q = true≢false (sym (eq-eqb i j q) ∙ e)
 
-        by_side : (is_known (Some j) w.given i ≡ true) ⊎ (n ≤ i) → (is_known (Some j) w.given i ≡ true) ⊎ (left i ≡ [])
+        by_side : (is_known (Some j) w.levels.given i ≡ true) ⊎ (n ≤ i) → (is_known (Some j) w.levels.given i ≡ true) ⊎ (left i ≡ [])
         by_side (inl h) = inl h
         by_side (inr p) = inr (nothing p)
 
-        both : (b : Bool) → is_known (wanted_behind w.given n j) w.given i ≡ b → (is_known (Some j) w.given i ≡ b) ⊎ (left i ≡ []) → (is_known (Some j) w.given i ≡ is_known (wanted_behind w.given n j) w.given i) ⊎ (left i ≡ [])
+        both : (b : Bool) → is_known (wanted_behind w.levels.given n j) w.levels.given i ≡ b → (is_known (Some j) w.levels.given i ≡ b) ⊎ (left i ≡ []) → (is_known (Some j) w.levels.given i ≡ is_known (wanted_behind w.levels.given n j) w.levels.given i) ⊎ (left i ≡ [])
         both b f (inl h) = inl (h ∙ sym f)
         both b f (inr p) = inr p
 
-        by_known : (b : Bool) → is_known (wanted_behind w.given n j) w.given i ≡ b → (is_known (Some j) w.given i ≡ is_known (wanted_behind w.given n j) w.given i) ⊎ (left i ≡ [])
-        by_known true f = both true f (by_side (known_before w.given n j i d f))
-        by_known false f = both false f (inl (unknown_before w.given n j i f).1)
+        by_known : (b : Bool) → is_known (wanted_behind w.levels.given n j) w.levels.given i ≡ b → (is_known (Some j) w.levels.given i ≡ is_known (wanted_behind w.levels.given n j) w.levels.given i) ⊎ (left i ≡ [])
+        by_known true f = both true f (by_side (known_before w.levels.given n j i d f))
+        by_known false f = both false f (inl (unknown_before w.levels.given n j i f).1)
 
-    of : (o : Option ℕ) → rest_behind o i (untaken (is_known o w.given i) (left i)) ≡ untaken (is_known (then_wanted w.given n o) w.given i) (left i)
+    of : (o : Option ℕ) → rest_behind o i (untaken (is_known o w.levels.given i) (left i)) ≡ untaken (is_known (then_wanted w.levels.given n o) w.levels.given i) (left i)
     of None = refl
-    of (Some j) = taken_by (i == j) (is_known (Some j) w.given i) (is_known (wanted_behind w.given n j) w.given i) (left i) (here j) (there j)
+    of (Some j) = taken_by (i == j) (is_known (Some j) w.levels.given i) (is_known (wanted_behind w.levels.given n j) w.levels.given i) (left i) (here j) (there j)
 
 -- ---- and behind the move that is given
 
@@ -118,29 +119,29 @@ comes_by : (o : Option ℕ) (given : ℕ) (left : Left) (rest : ℕ → List Tri
 comes_by None given left rest more r e = none_given None rest more e refl
 comes_by (Some i) given left rest more r e = e ∙ ap head_of (r i ∙ ap (λ (b : Bool). untaken b (left i)) (not_known given i))
 
-pub comes_on : (fs : Fields) (F : List (List Step)) (C : List (List Triplet)) (rows : ℕ) (ms : List Move) (w : Walk) (rests : List Triplets) (more : Option CodeTriplet) → (on : IsOn fs F C rows ms w rests) → option_map triplet_view more ≡ next_at w.wanted (rest_at rests) → Comes on.left w.wanted more
-comes_on fs F C rows ms w rests more on e = comes_by w.wanted w.given on.left (rest_at rests) more on.rest e
+pub comes_on : (fs : Fields) (F : List (List Step)) (C : List (List Triplet)) (rows : ℕ) (ms : List Move) (w : Walk) (rests : List Triplets) (more : Option CodeTriplet) → (on : IsOn fs F C rows ms w rests) → option_map triplet_view more ≡ next_at w.levels.wanted (rest_at rests) → Comes on.left w.levels.wanted more
+comes_on fs F C rows ms w rests more on e = comes_by w.levels.wanted w.levels.given on.left (rest_at rests) more on.rest e
 
 pub goes_on : (fs : Fields) (F : List (List Step)) (C : List (List Triplet)) (rows : ℕ) (ms : List Move) (old new : Walk) (rests later : List Triplets) (m : Option CodeMove) → (on : IsOn fs F C rows ms old rests)
-    → ((i : ℕ) → rest_at later i ≡ rest_behind old.wanted i (rest_at rests i)) → IsAt fs F rows C (ms ++ moves_of m) (left_behind m on.left) new
-    → Wants m (then_wanted old.given (length old.course.heads.items) old.wanted) new.wanted → IsOn fs F C rows (ms ++ moves_of m) new later
+    → ((i : ℕ) → rest_at later i ≡ rest_behind old.levels.wanted i (rest_at rests i)) → IsAt fs F rows C (ms ++ moves_of m) (left_behind m on.left) new
+    → Wants m (then_wanted old.levels.given (length old.levels.course.heads.items) old.levels.wanted) new.levels.wanted → IsOn fs F C rows (ms ++ moves_of m) new later
 goes_on fs F C rows ms old new rests later m on r at w = record {
   left = left_behind m on.left;
   at = at;
-  rest = λ i. r i ∙ ap (rest_behind old.wanted i) (on.rest i) ∙ taken_rest fs F rows C ms on.left old on.at i
-      ∙ given_rest on.left m (then_wanted old.given (length old.course.heads.items) old.wanted) new.wanted old.given new.given w same some i;
+  rest = λ i. r i ∙ ap (rest_behind old.levels.wanted i) (on.rest i) ∙ taken_rest fs F rows C ms on.left old on.at i
+      ∙ given_rest on.left m (then_wanted old.levels.given (length old.levels.course.heads.items) old.levels.wanted) new.levels.wanted old.levels.given new.levels.given w same some i;
 }
   where
-    same : m ≡ None → new.given ≡ old.given
-    same e = at.gave ∙ ap (λ (x : Option CodeMove). min (length (ms ++ moves_of x)) (2 ^ 64 - 1)) e ∙ ap (λ (ms : List Move). min (length ms) (2 ^ 64 - 1)) (append-nil ms) ∙ sym on.at.gave
+    same : m ≡ None → new.levels.given ≡ old.levels.given
+    same e = at.levels.gave ∙ ap (λ (x : Option CodeMove). min (length (ms ++ moves_of x)) (2 ^ 64 - 1)) e ∙ ap (λ (ms : List Move). min (length ms) (2 ^ 64 - 1)) (append-nil ms) ∙ sym on.at.levels.gave
 
     never : 1 ≤ 0 → ⊥
     never x = omega (arith, x)
 
-    some : (x : CodeMove) → m ≡ Some x → new.given ≢ 0
+    some : (x : CodeMove) → m ≡ Some x → new.levels.given ≢ 0
     some x e q =
         let l : length (ms ++ moves_of m) ≡ length ms + 1 = ap (λ (y : Option CodeMove). length (ms ++ moves_of y)) e ∙ one_more ms (move_view x) in
-        let g = at.gave in
+        let g = at.levels.gave in
         never (omega (arith, l, g, q))
 
 -- ---- what a call answers
@@ -152,11 +153,11 @@ pub ok_on : (P : Option CodeMove → Type 0) (r : Answer) (m : Option CodeMove) 
 ok_on P r m e h = subst (λ (x : Answer). IfOk x P) e h
 
 -- nothing was given: it goes on, or it is at its end
-pub ends_where : (fs : Fields) (F : List (List Step)) (C : List (List Triplet)) (rows : ℕ) (ms : List Move) (w : Walk) (rests : List Triplets) (b : Bool) → not b ≡ is_some w.wanted → b ≡ true
-    → (w.wanted ≡ None → (R : List Node) × HasColumns fs F C rows R × (walk fs F R ≡ ms)) → Advances fs F C rows ms w rests (Ok Advance.Ended)
-ends_where fs F C rows ms w rests b e t h = by_wanted w.wanted refl
+pub ends_where : (fs : Fields) (F : List (List Step)) (C : List (List Triplet)) (rows : ℕ) (ms : List Move) (w : Walk) (rests : List Triplets) (b : Bool) → not b ≡ is_some w.levels.wanted → b ≡ true
+    → (w.levels.wanted ≡ None → (R : List Node) × HasColumns fs F C rows R × (walk fs F R ≡ ms)) → Advances fs F C rows ms w rests (Ok Advance.Ended)
+ends_where fs F C rows ms w rests b e t h = by_wanted w.levels.wanted refl
   where
-    by_wanted : (o : Option ℕ) → w.wanted ≡ o → (R : List Node) × HasColumns fs F C rows R × (walk fs F R ≡ ms)
+    by_wanted : (o : Option ℕ) → w.levels.wanted ≡ o → (R : List Node) × HasColumns fs F C rows R × (walk fs F R ≡ ms)
     by_wanted None q = h q
     by_wanted (Some i) q = absurd (true≢false (sym (sym (ap not t) ∙ e ∙ ap is_some q)))
 
@@ -164,9 +165,9 @@ pub heard_where : (fs : Fields) (F : List (List Step)) (C : List (List Triplet))
 heard_where fs F C rows ms w rests on = subst (λ (ns : List Move). IsOn fs F C rows ns w rests) (append-nil ms) on
 
 -- a leaf's move is of one of the leaves
-pub gave_where : (fs : Fields) (F : List (List Step)) (C : List (List Triplet)) (rows : ℕ) (ms : List Move) (w : Walk) (rests : List Triplets) (m : CodeMove) (o : Option ℕ) → IsOn fs F C rows (ms ++ move_view m ∷ []) w rests → Wants (Some m) o w.wanted
+pub gave_where : (fs : Fields) (F : List (List Step)) (C : List (List Triplet)) (rows : ℕ) (ms : List Move) (w : Walk) (rests : List Triplets) (m : CodeMove) (o : Option ℕ) → IsOn fs F C rows (ms ++ move_view m ∷ []) w rests → Wants (Some m) o w.levels.wanted
     → Advances fs F C rows ms w rests (Ok (Advance.Gave m))
-gave_where fs F C rows ms w rests m o on n = (on, λ i e. on.at.wants i (n.1 ∙ e))
+gave_where fs F C rows ms w rests m o on n = (on, λ i e. on.at.levels.wants i (n.1 ∙ e))
 
 pub fails_with : (fs : Fields) (F : List (List Step)) (C : List (List Triplet)) (rows : ℕ) (ms : List Move) (w : Walk) (rests : List Triplets) (f : AssembleFault) → (f ≡ AssembleFault.BadData → NoneHas fs F C rows) → Advances fs F C rows ms w rests (Err f)
 fails_with fs F C rows ms w rests AssembleFault.BadData h = h refl
@@ -174,24 +175,24 @@ fails_with fs F C rows ms w rests AssembleFault.NoMemory h = tt
 
 -- ---- the beginning
 
-pub begins_on : (fs : Fields) (F : List (List Step)) (C : List (List Triplet)) (rows n : ℕ) (w : Walk) (rests : List Triplets) → IsAt fs F rows C [] (columns_of C) w → w.wanted ≡ first_wanted n → n ≡ length F → map triplets_view rests ≡ C → IsOn fs F C rows [] w rests
+pub begins_on : (fs : Fields) (F : List (List Step)) (C : List (List Triplet)) (rows n : ℕ) (w : Walk) (rests : List Triplets) → IsAt fs F rows C [] (columns_of C) w → w.levels.wanted ≡ first_wanted n → n ≡ length F → map triplets_view rests ≡ C → IsOn fs F C rows [] w rests
 begins_on fs F C rows n w rests at q k e = record {
   left = columns_of C;
   at = at;
   rest = λ i. ap (λ (D : List (List Triplet)). get_or D i []) e ∙ by_count n i q k;
 }
   where
-    none_gave : w.given ≡ 0
-    none_gave = let g = at.gave in omega (arith, g)
+    none_gave : w.levels.given ≡ 0
+    none_gave = let g = at.levels.gave in omega (arith, g)
 
     never : (i : ℕ) → nat_lt i 0 ≡ false
     never i = grind (arith, nat_tests)
 
-    by_count : (n i : ℕ) → w.wanted ≡ first_wanted n → n ≡ length F → columns_of C i ≡ untaken (is_known w.wanted w.given i) (columns_of C i)
+    by_count : (n i : ℕ) → w.levels.wanted ≡ first_wanted n → n ≡ length F → columns_of C i ≡ untaken (is_known w.levels.wanted w.levels.given i) (columns_of C i)
     by_count zero i q k =
-        let h = at.columns in
+        let h = at.levels.columns in
         let nil : columns_of C i ≡ [] = get_or_past C i [] (omega (arith, h, k)) in
-        nil ∙ sym (nothing_untaken (is_known w.wanted w.given i)) ∙ ap (untaken (is_known w.wanted w.given i)) (sym nil)
+        nil ∙ sym (nothing_untaken (is_known w.levels.wanted w.levels.given i)) ∙ ap (untaken (is_known w.levels.wanted w.levels.given i)) (sym nil)
     by_count (suc n) i q k = ap (λ (b : Bool). untaken b (columns_of C i)) (sym (never i) ∙ sym (ap₂ (λ (o : Option ℕ) (g : ℕ). is_known o g i) q none_gave))
 
 -- ---- a column's next triplet

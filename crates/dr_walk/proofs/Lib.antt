@@ -12,14 +12,20 @@ pub mod LayingLemmas
 pub mod SizeLemmas
 -- where a walk stands, by the item that is next
 pub mod SpotLemmas
--- a walk over columns
+-- a walk over columns by their levels
 pub mod WalkLemmas
--- what a walk's answers say of records
+-- what its answers say of records
 pub mod AnswerLemmas
+-- what it knows of each leaf
+pub mod KnownLemmas
+-- a walk over columns with their values
+pub mod ValueLemmas
 -- how many moves there are at most
 pub mod BoundLemmas
 -- a walk over columns of which so much is left
 pub mod CheckingLemmas
+-- a walk over batches of columns
+pub mod BatchLemmas
 -- examples, by computation
 pub mod WorkedLaying
 pub mod WorkedWalking

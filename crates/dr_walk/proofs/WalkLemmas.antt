@@ -1,4 +1,4 @@
--- A walk over columns: what it knows, what it takes, what it gives.
+-- A walk over columns by their levels: what it knows, what it takes, what it gives.
 use Rattle.std.proofs.Common.{◌≡◌, ◌≢◌, ◌⊎◌, inl, inr, ℕ, zero, suc, ◌+◌, ◌-◌, ◌^◌, ◌<◌, ◌≤◌, min, List, [], ◌∷◌, ◌++◌, length, get_or, Bool, true, false, ◌&&◌, Option, Some, None, refl, sym, ap, ap₂, subst, ◌∙◌, append-nil, true≢false, arith}
 use Rattle.std.specs.Prelude.{not, ◌==◌, nat_lt, if◌then◌else◌, option_map, replicate, IfOk}
 use Rattle.std.proofs.lemmas.List.{get_or_past, get_or-replicate, length-replicate}
@@ -6,11 +6,10 @@ use Rattle.std.proofs.lemmas.Bool.{eqb-true, ne_eqb, ltb-true}
 use Rattle.std.proofs.lemmas.Bool.Decides.{nat_tests}
 use Rattle.dr_meaning.specs.Schema.{Fields, depth, greatest_depth}
 use Rattle.dr_meaning.specs.Path.{Step}
-use Rattle.dr_meaning.specs.Record.{Value}
-use Rattle.dr_meaning.specs.Column.{Triplet, triplet}
+use Rattle.dr_meaning.specs.Column.{Triplet}
 use Rattle.dr_meaning.specs.Walk.{Move, enter, value, leave}
 use Rattle.dr_meaning.specs.WalkLaws.{triplets_of}
-use Rattle.dr_levels.specs.Views.{levels_pair, triplet_levels, lent_value}
+use Rattle.dr_levels.specs.Views.{levels_pair, triplet_levels}
 use Rattle.dr_levels.specs.declared.triplet.Levels.{Levels}
 use Rattle.dr_course.specs.Course.{Items, course}
 use Rattle.dr_course.specs.Turning.{Stack, between, gives, done, stops, turn}
@@ -20,26 +19,17 @@ use Rattle.dr_walk.specs.Seen.{levels_at, AreLevelsOf}
 use Rattle.std.proofs.Common.{Result, Ok, Err}
 use Rattle.dr_nested.specs.Views.{kind_view}
 use Rattle.dr_nested.specs.declared.shape.Kind as code_kind
-use Rattle.dr_levels.specs.declared.moves.Move.{Move as CodeMove}
-use Rattle.dr_levels.specs.declared.triplet.Triplet.{Triplet as CodeTriplet}
-use Rattle.dr_levels.specs.declared.triplet.ValueRef.{ValueRef}
 use Rattle.dr_walk.specs.Views.{items_view}
 use Rattle.dr_walk.specs.declared.course.Course.{Course}
 use Rattle.dr_walk.specs.declared.fault.AssembleFault.{AssembleFault}
 use Rattle.dr_walk.specs.Standing.{Stands, GoesOn, stays_here, goes_further, GivesLeaf, fits}
-use Rattle.dr_walk.specs.Walking.{with_value, pending, is_known, wanted_behind, triplet_count, count_one, count_some, first_wanted, given_move, LastGives, Goes, IsAt, Wants}
-use Rattle.dr_walk.specs.declared.walk.Walk.{Walk}
+use Rattle.dr_walk.specs.Walking.{pending, next_levels, is_known, wanted_behind, triplet_count, count_one, count_some, first_wanted, leaf_moves, moves_over, behind_moves, fits_next, LastGives, Gave, Goes, IsAtLevels}
+use Rattle.dr_walk.specs.declared.level_move.LevelMove.{LevelMove}
+use Rattle.dr_walk.specs.declared.level_walk.LevelWalk.{LevelWalk}
 
 -- ---- levels, of what is pending
 
-levels_with : (v : Option Value) (o : Option (ℕ × ℕ)) → option_map triplet_levels (with_value v o) ≡ o
-levels_with v None = refl
-levels_with v (Some p) = refl
-
-pub known_levels : (w : Walk) (left : Left) → ((i : ℕ) → pending w i ≡ head_of (left i)) → AreLevelsOf w.course.heads.items (next_of left)
-known_levels w left k i = sym (levels_with _ (levels_at w.course.heads.items i)) ∙ ap (option_map triplet_levels) (k i)
-
-pub all_known : (fs : Fields) (F : List (List Step)) (rows : ℕ) (C : List (List Triplet)) (ms : List Move) (left : Left) (w : Walk) → IsAt fs F rows C ms left w → w.wanted ≡ None → (i : ℕ) → pending w i ≡ head_of (left i)
+pub all_known : (fs : Fields) (F : List (List Step)) (rows : ℕ) (C : List (List Triplet)) (ms : List Move) (left : Left) (w : LevelWalk) → IsAtLevels fs F rows C ms left w → w.wanted ≡ None → AreLevelsOf w.course.heads.items (next_of left)
 all_known fs F rows C ms left w at n i = at.known i (ap (λ (o : Option ℕ). is_known o w.given i) n)
 
 -- ---- turns without a move
@@ -62,17 +52,17 @@ pub left_past : (top : Items) (start S : Stack) (C : List (List Triplet)) (ms : 
 left_past top start S C ms left n i l c p =
     nothing_behind (triplets_of i ms) (left i) (sym (get_or_past C i [] (omega (arith, c, p))) ∙ leads_taken top start S (columns_of C) left ms l i)
 
-pub pending_past : (w : Walk) (n i : ℕ) → length w.course.heads.items ≡ n → n ≤ i → pending w i ≡ None
-pending_past w n i c p = ap (λ (o : Option Levels). with_value (option_map lent_value (get_or w.values.items i None)) (option_map levels_pair o)) (get_or_past w.course.heads.items i None (omega (arith, c, p)))
+pub pending_past : (w : LevelWalk) (n i : ℕ) → length w.course.heads.items ≡ n → n ≤ i → pending w i ≡ None
+pending_past w n i c p = ap (λ (o : Option Levels). option_map levels_pair o) (get_or_past w.course.heads.items i None (omega (arith, c, p)))
 
 -- ---- counting
 
-pub same_count : (P Q : ℕ → Option Triplet) (n : ℕ) → ((j : ℕ) → j < n → Q j ≡ P j) → count_some Q n ≡ count_some P n
+pub same_count : (P Q : ℕ → Option (ℕ × ℕ)) (n : ℕ) → ((j : ℕ) → j < n → Q j ≡ P j) → count_some Q n ≡ count_some P n
 same_count P Q zero h = refl
 same_count P Q (suc n) h = ap₂ (λ (x y : ℕ). x + y) (ap count_one (h n (omega arith))) (same_count P Q n (λ j l. h j (omega (arith, l))))
 
 -- where only one changes
-pub count_changes : (P Q : ℕ → Option Triplet) (n i : ℕ) → i < n → ((j : ℕ) → j ≢ i → Q j ≡ P j) → count_some Q n + count_one (P i) ≡ count_some P n + count_one (Q i)
+pub count_changes : (P Q : ℕ → Option (ℕ × ℕ)) (n i : ℕ) → i < n → ((j : ℕ) → j ≢ i → Q j ≡ P j) → count_some Q n + count_one (P i) ≡ count_some P n + count_one (Q i)
 count_changes P Q zero i l h = absurd (no_less i l)
   where
     no_less : (i : ℕ) → i < 0 → ⊥
@@ -199,11 +189,11 @@ wanted_other given n leaf i q e = by_bit (given == 0) (nat_lt (leaf + 1) n) e
     by_bit false c e = none_is_some e
 
 -- a walk that took what comes of the leaf that it wants
-pub taken_at : (fs : Fields) (F : List (List Step)) (rows : ℕ) (C : List (List Triplet)) (ms : List Move) (left : Left) (old new : Walk) (leaf : ℕ) (t : Option Triplet) → IsAt fs F rows C ms left old → old.wanted ≡ Some leaf → t ≡ head_of (left leaf)
-    → pending new leaf ≡ t → ((i : ℕ) → i ≢ leaf → pending new i ≡ pending old i) → length new.course.heads.items ≡ length old.course.heads.items → length new.values.items ≡ length old.values.items
+pub taken_at : (fs : Fields) (F : List (List Step)) (rows : ℕ) (C : List (List Triplet)) (ms : List Move) (left : Left) (old new : LevelWalk) (leaf : ℕ) (t : Option (ℕ × ℕ)) → IsAtLevels fs F rows C ms left old → old.wanted ≡ Some leaf → t ≡ next_levels (left leaf)
+    → pending new leaf ≡ t → ((i : ℕ) → i ≢ leaf → pending new i ≡ pending old i) → length new.course.heads.items ≡ length old.course.heads.items
     → ((top : Items) (S : Stack) → Stands top old.course S → Stands top new.course S) → new.wanted ≡ wanted_behind old.given (length old.course.heads.items) leaf → new.failed ≡ old.failed → new.given ≡ old.given → new.taken ≡ min (old.taken + count_one t) (2 ^ 64 - 1)
-    → IsAt fs F rows C ms left new
-taken_at fs F rows C ms left old new leaf t at w e here others hs vs st nw nf ng nt =
+    → IsAtLevels fs F rows C ms left new
+taken_at fs F rows C ms left old new leaf t at w e here others hs st nw nf ng nt =
     let n = length old.course.heads.items in
     let within : leaf < length F = at.wants leaf w in
     let before : pending old leaf ≡ None = at.unknown leaf (ap (λ (o : Option ℕ). is_known o old.given leaf) w ∙ not_known old.given leaf) in
@@ -215,7 +205,6 @@ taken_at fs F rows C ms left old new leaf t at w e here others hs vs st nw nf ng
       few = at.few;
       deep = at.deep;
       heads = hs ∙ at.heads;
-      values = vs ∙ at.values;
       stack = at.stack;
       leads = at.leads;
       stands = st (course fs F) at.stack at.stands;
@@ -229,8 +218,8 @@ taken_at fs F rows C ms left old new leaf t at w e here others hs vs st nw nf ng
       took = let x = at.took in omega (arith, nt, x, count, a, b);
     }
   where
-    known_at : (i : ℕ) (b : Bool) → (i == leaf) ≡ b → is_known (wanted_behind old.given (length old.course.heads.items) leaf) old.given i ≡ true → pending new i ≡ head_of (left i)
-    known_at i true q k = let z : i ≡ leaf = eqb-true i leaf q in subst (λ (x : ℕ). pending new x ≡ head_of (left x)) (sym z) (here ∙ e)
+    known_at : (i : ℕ) (b : Bool) → (i == leaf) ≡ b → is_known (wanted_behind old.given (length old.course.heads.items) leaf) old.given i ≡ true → pending new i ≡ next_levels (left i)
+    known_at i true q k = let z : i ≡ leaf = eqb-true i leaf q in subst (λ (x : ℕ). pending new x ≡ next_levels (left x)) (sym z) (here ∙ e)
     known_at i false q k = by_side (known_before old.given (length old.course.heads.items) leaf i d k)
       where
         d : i ≢ leaf
@@ -239,10 +228,10 @@ taken_at fs F rows C ms left old new leaf t at w e here others hs vs st nw nf ng
             itself : (a b : ℕ) → a ≡ b → true ≡ (a == b)
             itself a b q = grind (arith, nat_tests)
 
-        by_side : (is_known (Some leaf) old.given i ≡ true) ⊎ (length old.course.heads.items ≤ i) → pending new i ≡ head_of (left i)
+        by_side : (is_known (Some leaf) old.given i ≡ true) ⊎ (length old.course.heads.items ≤ i) → pending new i ≡ next_levels (left i)
         by_side (inl h) = others i d ∙ at.known i (ap (λ (o : Option ℕ). is_known o old.given i) w ∙ h)
         by_side (inr h) = others i d ∙ pending_past old (length old.course.heads.items) i refl h
-            ∙ sym (ap head_of (left_past (course fs F) (between rows) at.stack C ms left (length F) i at.leads at.columns (omega (arith, h, at.heads))))
+            ∙ sym (ap next_levels (left_past (course fs F) (between rows) at.stack C ms left (length F) i at.leads at.columns (omega (arith, h, at.heads))))
 
 -- ---- a move that takes nothing
 
@@ -259,23 +248,22 @@ counted (enter k ∷ ms) m = counted ms m
 counted (value i t ∷ ms) m = let e = counted ms m in omega (arith, e)
 counted (leave k ∷ ms) m = counted ms m
 
-pub moved_at : (fs : Fields) (F : List (List Step)) (rows : ℕ) (C : List (List Triplet)) (ms : List Move) (left : Left) (old new : Walk) (m : Move) (V U : Stack) → (at : IsAt fs F rows C ms left old) → old.wanted ≡ None
+pub moved_at : (fs : Fields) (F : List (List Step)) (rows : ℕ) (C : List (List Triplet)) (ms : List Move) (left : Left) (old new : LevelWalk) (m : Move) (V U : Stack) → (at : IsAtLevels fs F rows C ms left old) → old.wanted ≡ None
     → GoesOn (course fs F) (next_of left) at.stack V → turn (course fs F) V (next_of left) ≡ gives m U → Stands (course fs F) new.course U → ((i : ℕ) → behind_move m left i ≡ left i) → triplet_count (m ∷ []) ≡ 0
-    → new.course.heads.items ≡ old.course.heads.items → new.values.items ≡ old.values.items → new.wanted ≡ old.wanted → new.failed ≡ old.failed → new.given ≡ min (old.given + 1) (2 ^ 64 - 1) → new.taken ≡ old.taken
-    → IsAt fs F rows C (ms ++ m ∷ []) (behind_move m left) new
-moved_at fs F rows C ms left old new m V U at w go made st same none nh nv nw nf ng nt =
-    let p : (i : ℕ) → pending new i ≡ pending old i = λ i. ap₂ (λ vs hs. with_value (option_map lent_value (get_or vs i None)) (levels_at hs i)) nv nh in
+    → new.course.heads.items ≡ old.course.heads.items → new.wanted ≡ old.wanted → new.failed ≡ old.failed → new.given ≡ min (old.given + 1) (2 ^ 64 - 1) → new.taken ≡ old.taken
+    → IsAtLevels fs F rows C (ms ++ m ∷ []) (behind_move m left) new
+moved_at fs F rows C ms left old new m V U at w go made st same none nh nw nf ng nt =
+    let p : (i : ℕ) → pending new i ≡ pending old i = λ i. ap (λ hs. levels_at hs i) nh in
     let none_wanted : new.wanted ≡ None = nw ∙ w in
     record {
       columns = at.columns;
       few = at.few;
       deep = at.deep;
       heads = ap length nh ∙ at.heads;
-      values = ap length nv ∙ at.values;
       stack = U;
       leads = moved (course fs F) (between rows) (columns_of C) left ms at.stack V U m at.leads go made;
       stands = st;
-      known = λ i k. p i ∙ all_known fs F rows C ms left old at w i ∙ ap head_of (sym (same i));
+      known = λ i k. p i ∙ all_known fs F rows C ms left old at w i ∙ ap next_levels (sym (same i));
       unknown = λ i k. absurd (true≢false (sym (ap (λ (o : Option ℕ). is_known o new.given i) none_wanted) ∙ k));
       wants = λ i k. absurd (none_is_some i (sym none_wanted ∙ k));
       asks = λ i k. absurd (none_is_some i (sym none_wanted ∙ k));
@@ -294,13 +282,7 @@ last_is [] j t = refl
 last_is (m ∷ []) j t = refl
 last_is (m ∷ n ∷ ms) j t = last_is (n ∷ ms) j t
 
-pub entry_is : (w : Walk) (leaf : ℕ) (entry : Triplet) (l : Levels) → pending w leaf ≡ Some entry → levels_at w.course.heads.items leaf ≡ Some (levels_pair l) → triplet l.repetition l.definition (option_map lent_value (get_or w.values.items leaf None)) ≡ entry
-entry_is w leaf entry l e f = one (sym (ap (with_value (option_map lent_value (get_or w.values.items leaf None))) f) ∙ e)
-  where
-    one : Some (triplet l.repetition l.definition (option_map lent_value (get_or w.values.items leaf None))) ≡ Some entry → triplet l.repetition l.definition (option_map lent_value (get_or w.values.items leaf None)) ≡ entry
-    one q = cc
-
-known_one : (given leaf j : ℕ) → given ≢ 0 → is_known (Some leaf) given j ≡ true → j ≢ leaf
+pub known_one : (given leaf j : ℕ) → given ≢ 0 → is_known (Some leaf) given j ≡ true → j ≢ leaf
 known_one given leaf j d k q = true≢false (sym k ∙ rw (ne_eqb given 0 d) (same j leaf q))
   where
     same : (a b : ℕ) → a ≡ b → not (a == b) ≡ false
@@ -313,12 +295,12 @@ unknown_one given leaf j d k = by_bit (j == leaf) refl (sym (rw (ne_eqb given 0 
     by_bit true e h = eqb-true j leaf e
     by_bit false e h = absurd (true≢false (sym (ap not e) ∙ h))
 
-pub gave_at : (fs : Fields) (F : List (List Step)) (rows : ℕ) (C : List (List Triplet)) (ms : List Move) (left : Left) (old new : Walk) (leaf : ℕ) (t : Triplet) (V U : Stack) → (at : IsAt fs F rows C ms left old) → old.wanted ≡ None
+pub gave_at : (fs : Fields) (F : List (List Step)) (rows : ℕ) (C : List (List Triplet)) (ms : List Move) (left : Left) (old new : LevelWalk) (leaf : ℕ) (t : Triplet) (V U : Stack) → (at : IsAtLevels fs F rows C ms left old) → old.wanted ≡ None
     → GoesOn (course fs F) (next_of left) at.stack V → turn (course fs F) V (next_of left) ≡ gives (value leaf t) U → Stands (course fs F) new.course U → head_of (left leaf) ≡ Some t
-    → (leaf < length F → pending new leaf ≡ None) → ((j : ℕ) → j ≢ leaf → pending new j ≡ pending old j) → length new.course.heads.items ≡ length old.course.heads.items → length new.values.items ≡ length old.values.items
+    → (leaf < length F → pending new leaf ≡ None) → ((j : ℕ) → j ≢ leaf → pending new j ≡ pending old j) → length new.course.heads.items ≡ length old.course.heads.items
     → new.wanted ≡ Some leaf → new.failed ≡ old.failed → new.given ≡ min (old.given + 1) (2 ^ 64 - 1) → new.taken ≡ old.taken
-    → IsAt fs F rows C (ms ++ value leaf t ∷ []) (behind_move (value leaf t) left) new
-gave_at fs F rows C ms left old new leaf t V U at w go made st next here others nh nv nw nf ng nt =
+    → IsAtLevels fs F rows C (ms ++ value leaf t ∷ []) (behind_move (value leaf t) left) new
+gave_at fs F rows C ms left old new leaf t V U at w go made st next here others nh nw nf ng nt =
     let within : leaf < length F = by_side (nat_lt leaf (length F)) refl in
     let gone : pending new leaf ≡ None = here within in
     let some : new.given ≢ 0 = λ q. never (omega (arith, ng, q)) in
@@ -327,11 +309,10 @@ gave_at fs F rows C ms left old new leaf t V U at w go made st next here others 
       few = at.few;
       deep = at.deep;
       heads = nh ∙ at.heads;
-      values = nv ∙ at.values;
       stack = U;
       leads = moved (course fs F) (between rows) (columns_of C) left ms at.stack V U (value leaf t) at.leads go made;
       stands = st;
-      known = λ j k. let d = known_one new.given leaf j some (sym (ap (λ (o : Option ℕ). is_known o new.given j) nw) ∙ k) in others j d ∙ all_known fs F rows C ms left old at w j ∙ ap head_of (sym (behind_other j d));
+      known = λ j k. let d = known_one new.given leaf j some (sym (ap (λ (o : Option ℕ). is_known o new.given j) nw) ∙ k) in others j d ∙ all_known fs F rows C ms left old at w j ∙ ap next_levels (sym (behind_other j d));
       unknown = λ j k. subst (λ (x : ℕ). pending new x ≡ None) (sym (unknown_one new.given leaf j some (sym (ap (λ (o : Option ℕ). is_known o new.given j) nw) ∙ k))) gone;
       wants = λ i k. let q : leaf ≡ i = same_leaf i (sym nw ∙ k) in subst (λ (x : ℕ). x < length F) q within;
       asks = λ i k. inr (subst (λ (x : ℕ). LastGives x (ms ++ value leaf t ∷ [])) (same_leaf i (sym nw ∙ k)) (last_is ms leaf t));
@@ -341,7 +322,7 @@ gave_at fs F rows C ms left old new leaf t V U at w go made st next here others 
           let x = at.took in
           let y = counted ms (value leaf t) in
           let z = count_changes (pending old) (pending new) (length F) leaf within others in
-          let a : count_one (pending old leaf) ≡ 1 = ap count_one (all_known fs F rows C ms left old at w leaf ∙ next) in
+          let a : count_one (pending old leaf) ≡ 1 = ap count_one (all_known fs F rows C ms left old at w leaf ∙ ap (option_map triplet_levels) next) in
           let b : count_one (pending new leaf) ≡ 0 = ap count_one gone in
           omega (arith, nt, x, y, z, a, b);
     }
@@ -367,25 +348,25 @@ gave_at fs F rows C ms left old new leaf t V U at w go made st next here others 
 
 -- ---- the end
 
-pub nothing_left : (w : Walk) (left : Left) → ((i : ℕ) → pending w i ≡ head_of (left i)) → ((i : ℕ) → levels_at w.course.heads.items i ≡ None) → (i : ℕ) → left i ≡ []
-nothing_left w left k e i = empty (left i) (sym (k i) ∙ ap (with_value (option_map lent_value (get_or w.values.items i None))) (e i))
+pub nothing_left : (w : LevelWalk) (left : Left) → ((i : ℕ) → pending w i ≡ next_levels (left i)) → ((i : ℕ) → pending w i ≡ None) → (i : ℕ) → left i ≡ []
+nothing_left w left k e i = empty (left i) (sym (k i) ∙ e i)
   where
-    empty : (xs : List Triplet) → head_of xs ≡ None → xs ≡ []
+    empty : (xs : List Triplet) → next_levels xs ≡ None → xs ≡ []
     empty [] q = refl
     empty (x ∷ xs) q = absurd (some_is_none q)
       where
-        some_is_none : Some x ≡ None → ⊥
+        some_is_none : Some (triplet_levels x) ≡ None → ⊥
         some_is_none q = cc
 
-pub something_left : (w : Walk) (left : Left) (i : ℕ) → ((i : ℕ) → pending w i ≡ head_of (left i)) → levels_at w.course.heads.items i ≢ None → left i ≢ []
-something_left w left i k d e = d (sym (levels_with (option_map lent_value (get_or w.values.items i None)) (levels_at w.course.heads.items i)) ∙ ap (option_map triplet_levels) (k i ∙ ap head_of e))
+pub something_left : (w : LevelWalk) (left : Left) (i : ℕ) → ((i : ℕ) → pending w i ≡ next_levels (left i)) → pending w i ≢ None → left i ≢ []
+something_left w left i k d e = d (k i ∙ ap next_levels e)
 
 -- ---- the beginning
 
-abbrev none_of : (A : Type 0) → Option A
+abbrev pub none_of : (A : Type 0) → Option A
 none_of A = None
 
-nothing_there : {A : Type 0} (n i : ℕ) → get_or (replicate n (none_of A)) i (none_of A) ≡ none_of A
+pub nothing_there : {A : Type 0} (n i : ℕ) → get_or (replicate n (none_of A)) i (none_of A) ≡ none_of A
 nothing_there {A} n i = by_side (nat_lt i n) refl
   where
     past : (a b : ℕ) → nat_lt a b ≡ false → b ≤ a
@@ -395,16 +376,15 @@ nothing_there {A} n i = by_side (nat_lt i n) refl
     by_side true e = get_or-replicate n i (none_of A) (none_of A) (ltb-true i n e)
     by_side false e = let l = past i n e in let m = length-replicate n (none_of A) in get_or_past (replicate n (none_of A)) i (none_of A) (omega (arith, l, m))
 
-pub at_start : (fs : Fields) (F : List (List Step)) (rows : ℕ) (C : List (List Triplet)) (w : Walk) (n : ℕ) → depth fs ≤ greatest_depth → length C ≡ length F → n ≡ length F → n < 2 ^ 32 → w.course.heads.items ≡ replicate n None → w.values.items ≡ replicate n None
-    → Stands (course fs F) w.course (between rows) → w.wanted ≡ first_wanted n → w.failed ≡ None → w.given ≡ 0 → w.taken ≡ 0 → IsAt fs F rows C [] (columns_of C) w
-at_start fs F rows C w n dp c k few hs vs st nw nf ng nt =
-    let none : (i : ℕ) → pending w i ≡ None = λ i. ap (λ hs. with_value (option_map lent_value (get_or w.values.items i None)) (option_map levels_pair (get_or hs i None))) hs ∙ ap (λ o. with_value (option_map lent_value (get_or w.values.items i None)) (option_map levels_pair o)) (nothing_there n i) in
+pub at_start : (fs : Fields) (F : List (List Step)) (rows : ℕ) (C : List (List Triplet)) (w : LevelWalk) (n : ℕ) → depth fs ≤ greatest_depth → length C ≡ length F → n ≡ length F → n < 2 ^ 32 → w.course.heads.items ≡ replicate n None
+    → Stands (course fs F) w.course (between rows) → w.wanted ≡ first_wanted n → w.failed ≡ None → w.given ≡ 0 → w.taken ≡ 0 → IsAtLevels fs F rows C [] (columns_of C) w
+at_start fs F rows C w n dp c k few hs st nw nf ng nt =
+    let none : (i : ℕ) → pending w i ≡ None = λ i. ap (λ hs. option_map levels_pair (get_or hs i None)) hs ∙ ap (λ o. option_map levels_pair o) (nothing_there n i) in
     record {
       columns = c;
       deep = dp;
       few = omega (arith, k, few);
       heads = ap length hs ∙ length-replicate n None ∙ k;
-      values = ap length vs ∙ length-replicate n None ∙ k;
       stack = between rows;
       leads = stays (between rows) (columns_of C);
       stands = st;
@@ -417,8 +397,8 @@ at_start fs F rows C w n dp c k few hs vs st nw nf ng nt =
       took = let x = none_yet (length F) none in omega (arith, nt, x);
     }
   where
-    known_at : (n i : ℕ) → n ≡ length F → is_known (first_wanted n) 0 i ≡ true → None ≡ head_of (columns_of C i)
-    known_at zero i e q = ap head_of (sym (get_or_past C i [] (omega (arith, c, e))))
+    known_at : (n i : ℕ) → n ≡ length F → is_known (first_wanted n) 0 i ≡ true → None ≡ next_levels (columns_of C i)
+    known_at zero i e q = ap next_levels (sym (get_or_past C i [] (omega (arith, c, e))))
     known_at (suc n) i e q = absurd (true≢false (sym q ∙ never i))
       where
         never : (i : ℕ) → nat_lt i 0 ≡ false
@@ -440,66 +420,46 @@ at_start fs F rows C w n dp c k few hs vs st nw nf ng nt =
 pub leads_to : (top : Items) (start : Stack) (C left : Left) (ms : List Move) (S V : Stack) → Leads top start C ms S left → GoesOn top (next_of left) S V → Leads top start C ms V left
 leads_to top start C left ms S V l g = subst (λ (ns : List Move). Leads top start C ns V left) (append-nil ms) (leads_on top start S V C left left ms [] l (gone top left S V g))
 
-pub goes_leaf : (fs : Fields) (F : List (List Step)) (rows : ℕ) (C : List (List Triplet)) (ms : List Move) (left : Left) (old new : Walk) (mid : Course) (leaf : ℕ) (l : Levels) (k : Option code_kind.Kind) (result : Result (Option CodeMove) AssembleFault)
-    → (at : IsAt fs F rows C ms left old) → old.wanted ≡ None → (g : GivesLeaf (items_view mid.table.items.items) (course fs F) at.stack (next_of left) mid.spot leaf l k)
-    → mid.heads.items ≡ old.course.heads.items → Stands (course fs F) mid g.to
-    → (fits (option_map kind_view k) (option_map lent_value (get_or old.values.items leaf None)) ≡ false → result ≡ Err AssembleFault.BadData)
-    → (fits (option_map kind_view k) (option_map lent_value (get_or old.values.items leaf None)) ≡ true → result ≡ Ok (Some (given_move leaf l (get_or old.values.items leaf None))))
-    → (fits (option_map kind_view k) (option_map lent_value (get_or old.values.items leaf None)) ≡ true → new.wanted ≡ Some leaf)
-    → (fits (option_map kind_view k) (option_map lent_value (get_or old.values.items leaf None)) ≡ true → new.given ≡ min (old.given + 1) (2 ^ 64 - 1))
-    → new.taken ≡ old.taken → new.failed ≡ old.failed → new.values.items ≡ old.values.items
-    → (fits (option_map kind_view k) (option_map lent_value (get_or old.values.items leaf None)) ≡ true → leaf < length mid.heads.items → levels_at new.course.heads.items leaf ≡ None)
+-- a leaf's move, whatever its column's next value is
+pub goes_leaf : (fs : Fields) (F : List (List Step)) (rows : ℕ) (C : List (List Triplet)) (ms : List Move) (left : Left) (old new : LevelWalk) (mid : Course) (leaf : ℕ) (l : Levels) (k : Option code_kind.Kind)
+    → (at : IsAtLevels fs F rows C ms left old) → old.wanted ≡ None → (g : GivesLeaf (items_view mid.table.items.items) (course fs F) at.stack (next_of left) mid.spot leaf l k)
+    → mid.heads.items ≡ old.course.heads.items → Stands (course fs F) mid g.to → new.wanted ≡ Some leaf → new.given ≡ min (old.given + 1) (2 ^ 64 - 1) → new.taken ≡ old.taken → new.failed ≡ old.failed
+    → (leaf < length mid.heads.items → levels_at new.course.heads.items leaf ≡ None)
     → ((i : ℕ) → i ≢ leaf → levels_at new.course.heads.items i ≡ levels_at mid.heads.items i) → length new.course.heads.items ≡ length mid.heads.items
     → ((top : Items) (S : Stack) → Stands top mid S → Stands top new.course S)
-    → Goes fs F rows C ms left new result
-goes_leaf fs F rows C ms left old new mid leaf l k result at w g mh ms_to refuses accepts nw ng nt nf nv here others nh st =
-    let V = option_map lent_value (get_or old.values.items leaf None) in
-    by_bit (fits (option_map kind_view k) V) refl
+    → Gave fs F rows C ms left new (LevelMove.Leaf leaf l k)
+goes_leaf fs F rows C ms left old new mid leaf l k at w g mh ms_to nw ng nt nf here others nh st = record {
+  levels = ap (option_map triplet_levels) g.next ∙ ap Some g.levels;
+  on = λ f.
+      let made : turn (course fs F) g.from (next_of left) ≡ gives (value leaf g.entry) g.to = g.made ∙ ap (λ (b : Bool). if b then gives (value leaf g.entry) g.to else stops) (fitting f) in
+      let at2 : IsAtLevels fs F rows C (ms ++ value leaf g.entry ∷ []) (behind_move (value leaf g.entry) left) new =
+      gave_at fs F rows C ms left old new leaf g.entry g.from g.to at w g.comes made (st (course fs F) g.to ms_to) g.next
+      (λ m. here (subst (λ (n : ℕ). leaf < n) (sym (ap length mh ∙ at.heads)) m)) (λ j d. others j d ∙ ap (λ hs. levels_at hs j) mh) (nh ∙ ap length mh) nw nf ng nt in
+      subst (λ (o : Option Triplet). IsAtLevels fs F rows C (ms ++ leaf_moves leaf o) (behind_moves (leaf_moves leaf o) left) new) (sym g.next) at2;
+  unfit = λ f. record {
+    stack = g.from;
+    leads = leads_to (course fs F) (between rows) (columns_of C) left ms at.stack g.from at.leads g.comes;
+    why = inl (g.made ∙ ap (λ (b : Bool). if b then gives (value leaf g.entry) g.to else stops) (fitting f));
+  };
+}
   where
-    ts_known : (i : ℕ) → pending old i ≡ head_of (left i)
-    ts_known = all_known fs F rows C ms left old at w
+    fitting : {b : Bool} → fits_next (option_map kind_view k) (head_of (left leaf)) ≡ b → fits (option_map kind_view k) g.entry.value ≡ b
+    fitting f = ap (fits_next (option_map kind_view k)) (sym g.next) ∙ f
 
-    levels_here : levels_at old.course.heads.items leaf ≡ Some (levels_pair l)
-    levels_here = known_levels old left ts_known leaf ∙ ap (option_map triplet_levels) g.next ∙ ap Some g.levels
-
-    given_triplet : Triplet
-    given_triplet = triplet l.repetition l.definition (option_map lent_value (get_or old.values.items leaf None))
-
-    by_bit : (b : Bool) → fits (option_map kind_view k) (option_map lent_value (get_or old.values.items leaf None)) ≡ b → Goes fs F rows C ms left new result
-    by_bit true f =
-        let E : triplet l.repetition l.definition (option_map lent_value (get_or old.values.items leaf None)) ≡ g.entry = entry_is old leaf g.entry l (ts_known leaf ∙ g.next) levels_here in
-        let v : fits (option_map kind_view k) g.entry.value ≡ true = ap (λ (t : Triplet). fits (option_map kind_view k) t.value) (sym E) ∙ f in
-        let made : turn (course fs F) g.from (next_of left) ≡ gives (value leaf g.entry) g.to = g.made ∙ ap (λ (b : Bool). if b then gives (value leaf g.entry) g.to else stops) v in
-        let at2 : IsAt fs F rows C (ms ++ value leaf g.entry ∷ []) (behind_move (value leaf g.entry) left) new =
-        gave_at fs F rows C ms left old new leaf g.entry g.from g.to at w g.comes made (st (course fs F) g.to ms_to) g.next
-        (λ m. ap (with_value (option_map lent_value (get_or new.values.items leaf None))) (here f (subst (λ (n : ℕ). leaf < n) (sym (ap length mh ∙ at.heads)) m)))
-        (λ j d. ap₂ (λ vs ls. with_value (option_map lent_value (get_or vs j None)) ls) nv (others j d ∙ ap (λ hs. levels_at hs j) mh))
-        (nh ∙ ap length mh) (ap length nv) (nw f) nf (ng f) nt in
-        subst (Goes fs F rows C ms left new) (sym (accepts f)) (subst (λ (t : Triplet). IsAt fs F rows C (ms ++ value leaf t ∷ []) (behind_move (value leaf t) left) new) (sym E) at2)
-    by_bit false f =
-        let E : triplet l.repetition l.definition (option_map lent_value (get_or old.values.items leaf None)) ≡ g.entry = entry_is old leaf g.entry l (ts_known leaf ∙ g.next) levels_here in
-        let v : fits (option_map kind_view k) g.entry.value ≡ false = ap (λ (t : Triplet). fits (option_map kind_view k) t.value) (sym E) ∙ f in
-        subst (Goes fs F rows C ms left new) (sym (refuses f)) (record {
-          stack = g.from;
-          leads = leads_to (course fs F) (between rows) (columns_of C) left ms at.stack g.from at.leads g.comes;
-          why = inl (g.made ∙ ap (λ (b : Bool). if b then gives (value leaf g.entry) g.to else stops) v);
-        })
-
-pub goes_end : (fs : Fields) (F : List (List Step)) (rows : ℕ) (C : List (List Triplet)) (ms : List Move) (left : Left) (old new : Walk) (result : Result (Option CodeMove) AssembleFault)
-    → (at : IsAt fs F rows C ms left old) → old.wanted ≡ None → (V : Stack) → GoesOn (course fs F) (next_of left) at.stack V → turn (course fs F) V (next_of left) ≡ done → Stands (course fs F) new.course V
-    → new.course.heads.items ≡ old.course.heads.items → new.values.items ≡ old.values.items → new.wanted ≡ old.wanted → new.failed ≡ old.failed → new.given ≡ old.given → new.taken ≡ old.taken
-    → (result ≡ Ok None → (i : ℕ) → levels_at new.course.heads.items i ≡ None) → (result ≡ Err AssembleFault.BadData → (i : ℕ) × (levels_at new.course.heads.items i ≢ None)) → ((m : CodeMove) → result ≡ Ok (Some m) → ⊥) → (result ≡ Err AssembleFault.NoMemory → ⊥)
+pub goes_end : (fs : Fields) (F : List (List Step)) (rows : ℕ) (C : List (List Triplet)) (ms : List Move) (left : Left) (old new : LevelWalk) (result : Result (Option LevelMove) AssembleFault)
+    → (at : IsAtLevels fs F rows C ms left old) → old.wanted ≡ None → (V : Stack) → GoesOn (course fs F) (next_of left) at.stack V → turn (course fs F) V (next_of left) ≡ done → Stands (course fs F) new.course V
+    → new.course.heads.items ≡ old.course.heads.items → new.wanted ≡ old.wanted → new.failed ≡ old.failed → new.given ≡ old.given → new.taken ≡ old.taken
+    → (result ≡ Ok None → (i : ℕ) → levels_at new.course.heads.items i ≡ None) → (result ≡ Err AssembleFault.BadData → (i : ℕ) × (levels_at new.course.heads.items i ≢ None)) → ((m : LevelMove) → result ≡ Ok (Some m) → ⊥) → (result ≡ Err AssembleFault.NoMemory → ⊥)
     → Goes fs F rows C ms left new result
-goes_end fs F rows C ms left old new (Ok None) at w V go made st nh nv nw nf ng nt e b o m =
+goes_end fs F rows C ms left old new (Ok None) at w V go made st nh nw nf ng nt e b o m =
     let l = leads_to (course fs F) (between rows) (columns_of C) left ms at.stack V at.leads go in
-    let p : (i : ℕ) → pending new i ≡ pending old i = λ i. ap₂ (λ vs hs. with_value (option_map lent_value (get_or vs i None)) (levels_at hs i)) nv nh in
+    let p : (i : ℕ) → pending new i ≡ pending old i = λ i. ap (λ hs. levels_at hs i) nh in
     let k : (i : ℕ) → is_known new.wanted new.given i ≡ is_known old.wanted old.given i = λ i. ap₂ (λ (x : Option ℕ) (y : ℕ). is_known x y i) nw ng in (
       record {
         columns = at.columns;
         few = at.few;
         deep = at.deep;
         heads = ap length nh ∙ at.heads;
-        values = ap length nv ∙ at.values;
         stack = V;
         leads = l;
         stands = st;
@@ -516,36 +476,18 @@ goes_end fs F rows C ms left old new (Ok None) at w V go made st nh nv nw nf ng 
   where
     none_is_some : (i : ℕ) → None ≡ Some i → ⊥
     none_is_some i q = cc
-goes_end fs F rows C ms left old new (Ok (Some x)) at w V go made st nh nv nw nf ng nt e b o m = absurd (o x refl)
-goes_end fs F rows C ms left old new (Err AssembleFault.BadData) at w V go made st nh nv nw nf ng nt e b o m =
-    let p : (i : ℕ) → pending new i ≡ pending old i = λ i. ap₂ (λ vs hs. with_value (option_map lent_value (get_or vs i None)) (levels_at hs i)) nv nh in
+goes_end fs F rows C ms left old new (Ok (Some x)) at w V go made st nh nw nf ng nt e b o m = absurd (o x refl)
+goes_end fs F rows C ms left old new (Err AssembleFault.BadData) at w V go made st nh nw nf ng nt e b o m =
+    let p : (i : ℕ) → pending new i ≡ pending old i = λ i. ap (λ hs. levels_at hs i) nh in
     let s = b refl in
     record {
       stack = V;
       leads = leads_to (course fs F) (between rows) (columns_of C) left ms at.stack V at.leads go;
       why = inr (made, (s.0, something_left new left s.0 (λ i. p i ∙ all_known fs F rows C ms left old at w i) s.1));
     }
-goes_end fs F rows C ms left old new (Err AssembleFault.NoMemory) at w V go made st nh nv nw nf ng nt e b o m = absurd (m refl)
+goes_end fs F rows C ms left old new (Err AssembleFault.NoMemory) at w V go made st nh nw nf ng nt e b o m = absurd (m refl)
 
--- the leaf that is wanted then is the one that was given
-pub wants_leaf : (leaf i : ℕ) (l : Levels) (v : Option ValueRef) (b : Bool) (before after : Option ℕ) (result : Result (Option CodeMove) AssembleFault) → before ≡ None → after ≡ Some i
-    → (b ≡ true → result ≡ Ok (Some (given_move leaf l v))) → (b ≡ true → after ≡ Some leaf) → (b ≡ false → after ≡ before) → (t : CodeTriplet) × (result ≡ Ok (Some (CodeMove.Leaf i t)))
-wants_leaf leaf i l v true before after result w n g a k =
-    let q : leaf ≡ i = one (sym (a refl) ∙ n) in
-    (record { repetition = l.repetition; definition = l.definition; value = v }, g refl ∙ ap (λ (x : ℕ). Ok (Some (given_move x l v))) q)
-  where
-    one : Some leaf ≡ Some i → leaf ≡ i
-    one q = cc
-wants_leaf leaf i l v false before after result w n g a k = absurd (none_is_some (sym w ∙ sym (k refl) ∙ n))
-  where
-    none_is_some : None ≡ Some i → ⊥
-    none_is_some q = cc
-
--- and what a call leaves wanted
-pub gives_wanted : (leaf : ℕ) (l : Levels) (v : Option ValueRef) (b : Bool) (after : Option ℕ) (result : Result (Option CodeMove) AssembleFault) → (b ≡ false → result ≡ Err AssembleFault.BadData)
-    → (b ≡ true → result ≡ Ok (Some (given_move leaf l v))) → (b ≡ true → after ≡ Some leaf) → IfOk result (λ m. Wants m None after)
-gives_wanted leaf l v true after result r g a = subst (λ (x : Result (Option CodeMove) AssembleFault). IfOk x (λ m. Wants m None after)) (sym (g refl)) (refl, a refl)
-gives_wanted leaf l v false after result r g a = subst (λ (x : Result (Option CodeMove) AssembleFault). IfOk x (λ m. Wants m None after)) (sym (r refl)) tt
-
-pub wants_on : (m : Option CodeMove) (o p after : Option ℕ) → o ≡ p → Wants m o after → Wants m p after
-wants_on m o p after e h = subst (λ (q : Option ℕ). Wants m q after) e h
+-- a move into an instance, or out of it
+pub goes_over : (fs : Fields) (F : List (List Step)) (rows : ℕ) (C : List (List Triplet)) (ms : List Move) (left : Left) (w : LevelWalk) (m : LevelMove) (n : Move) → moves_over left (Some m) ≡ n ∷ []
+    → IsAtLevels fs F rows C (ms ++ n ∷ []) (behind_move n left) w → IsAtLevels fs F rows C (ms ++ moves_over left (Some m)) (behind_moves (moves_over left (Some m)) left) w
+goes_over fs F rows C ms left w m n e at = subst (λ (ns : List Move). IsAtLevels fs F rows C (ms ++ ns) (behind_moves ns left) w) (sym e) at

@@ -11,7 +11,8 @@ use Rattle.dr_levels.specs.Views.{triplets_view, move_view}
 use Rattle.dr_levels.specs.declared.triplets.Triplets.{Triplets}
 use Rattle.dr_course.specs.Leading.{Left, head_of, tail_of}
 use Rattle.dr_course.specs.Selection.{all_differ}
-use Rattle.dr_walk.specs.Walking.{HasColumns, NoneHas, IsAt, is_known, leaf_of}
+use Rattle.dr_walk.specs.Walking.{HasColumns, NoneHas, is_known, leaf_of}
+use Rattle.dr_walk.specs.Valued.{IsAt}
 use Rattle.dr_walk.specs.declared.fault.AssembleFault.{AssembleFault}
 use Rattle.dr_walk.specs.declared.walk.Walk.{Walk}
 use Rattle.dr_walk.specs.declared.column_walk.Advance.{Advance}
@@ -40,7 +41,7 @@ untaken false ts = ts
 pub record IsOn (fs : Fields) (F : List (List Step)) (C : List (List Triplet)) (rows : ℕ) (ms : List Move) (w : Walk) (rests : List Triplets) : Type 0 where
   pub left : Left
   pub at : IsAt fs F rows C ms left w
-  pub rest : (i : ℕ) → rest_at rests i ≡ untaken (is_known w.wanted w.given i) (left i)
+  pub rest : (i : ℕ) → rest_at rests i ≡ untaken (is_known w.levels.wanted w.levels.given i) (left i)
 
 -- it has given these moves of so many records with these columns
 abbrev pub HasGiven : Fields → List (List Step) → List (List Triplet) → ℕ → List Move → ColumnWalk → Type 0

@@ -9,7 +9,11 @@ pub mod Views
 pub mod Flat
 -- where a walk stands
 pub mod Standing
--- a walk over columns, and its promises
+-- a walk over columns by their levels, and its promises
 pub mod Walking
+-- a walk over columns with their values, and its promises
+pub mod Valued
 -- a walk over columns of which so much is left
 pub mod Checking
+-- a walk over batches of columns
+pub mod Batches

@@ -1,24 +1,23 @@
--- A walk over columns: where it stands, and what its calls promise.
-use Rattle.std.specs.Prelude.{◌≡◌, ◌≢◌, ◌⊎◌, ℕ, zero, suc, ◌+◌, ◌-◌, ◌^◌, ◌<◌, ◌≤◌, min, ⊤, List, [], ◌∷◌, ◌++◌, map, length, Bool, true, false, not, ◌&&◌, ◌==◌, nat_lt, if◌then◌else◌, Option, Some, None, option_map, get_or, Result, Ok, Err}
+-- A walk over columns by their levels: where it stands, and what its calls promise.
+use Rattle.std.specs.Prelude.{◌≡◌, ◌≢◌, ◌⊎◌, ℕ, zero, suc, ◌+◌, ◌-◌, ◌^◌, ◌<◌, ◌≤◌, min, ⊤, List, [], ◌∷◌, ◌++◌, map, length, Bool, true, false, not, ◌&&◌, ◌==◌, nat_lt, if◌then◌else◌, Option, Some, None, option_map, Result, Ok, Err}
 use Rattle.std.specs.List.{list_all}
-use Rattle.dr_meaning.specs.Schema.{Fields, depth, greatest_depth}
+use Rattle.dr_meaning.specs.Schema.{Fields, Kind, depth, greatest_depth}
 use Rattle.dr_meaning.specs.Path.{Step}
 use Rattle.dr_meaning.specs.Record as record_tree
-use Rattle.dr_meaning.specs.Record.{Value}
-use Rattle.dr_meaning.specs.Column.{Triplet, triplet, column}
+use Rattle.dr_meaning.specs.Column.{Triplet, column}
 use Rattle.dr_meaning.specs.Walk.{Move, enter, value, leave}
-use Rattle.dr_levels.specs.Views.{triplet_view, move_view, lent_value}
+use Rattle.dr_nested.specs.Views.{kind_view}
+use Rattle.dr_levels.specs.Views.{levels_pair, triplet_levels}
 use Rattle.dr_levels.specs.declared.moves.Move.{Move as CodeMove}
-use Rattle.dr_levels.specs.declared.triplet.Triplet as code_triplet
-use Rattle.dr_levels.specs.declared.triplet.ValueRef.{ValueRef}
 use Rattle.dr_levels.specs.declared.triplet.Levels.{Levels}
 use Rattle.dr_course.specs.Course.{course}
 use Rattle.dr_course.specs.Turning.{Stack, between, done, stops, turn}
 use Rattle.dr_course.specs.Leading.{Left, Leads, columns_of, head_of, heads, behind_move}
 use Rattle.dr_walk.specs.Seen.{levels_at}
-use Rattle.dr_walk.specs.Standing.{Stands}
+use Rattle.dr_walk.specs.Standing.{Stands, fits}
 use Rattle.dr_walk.specs.declared.fault.AssembleFault.{AssembleFault}
-use Rattle.dr_walk.specs.declared.walk.Walk.{Walk}
+use Rattle.dr_walk.specs.declared.level_move.LevelMove.{LevelMove}
+use Rattle.dr_walk.specs.declared.level_walk.LevelWalk.{LevelWalk}
 
 -- ---- which records have columns
 
@@ -31,20 +30,6 @@ abbrev pub NoneHas : Fields → List (List Step) → List (List Triplet) → ℕ
 NoneHas fs F C rows = (R : List record_tree.Node) → HasColumns fs F C rows R → ⊥
 
 -- ---- where a walk stands
-
--- the levels and the value of a triplet
-abbrev pub with_value : Option Value → Option (ℕ × ℕ) → Option Triplet
-with_value v None = None
-with_value v (Some p) = Some (triplet p.0 p.1 v)
-
--- the triplet of a leaf that a walk has taken and not given
-abbrev pub pending : Walk → ℕ → Option Triplet
-pending w i = with_value (option_map lent_value (get_or w.values.items i None)) (levels_at w.course.heads.items i)
-
--- the value of a triplet
-abbrev pub meant_value : Option Triplet → Option Value
-meant_value None = None
-meant_value (Some t) = t.value
 
 -- the leaf of so many that is wanted first
 abbrev pub first_wanted : ℕ → Option ℕ
@@ -83,26 +68,33 @@ LastGives j [] = ⊥
 LastGives j (m ∷ []) = IsOfLeaf j m
 LastGives j (m ∷ n ∷ ms) = LastGives j (n ∷ ms)
 
--- how many of the first n leaves have a triplet
-abbrev pub count_one : Option Triplet → ℕ
+-- how many of the first n leaves have levels
+abbrev pub count_one : Option (ℕ × ℕ) → ℕ
 count_one None = 0
-count_one (Some t) = 1
+count_one (Some p) = 1
 
-abbrev pub count_some : (ℕ → Option Triplet) → ℕ → ℕ
-count_some ts zero = 0
-count_some ts (suc n) = count_one (ts n) + count_some ts n
+abbrev pub count_some : (ℕ → Option (ℕ × ℕ)) → ℕ → ℕ
+count_some ls zero = 0
+count_some ls (suc n) = count_one (ls n) + count_some ls n
+
+-- the levels of a leaf's triplet that a walk has taken and not given
+abbrev pub pending : LevelWalk → ℕ → Option (ℕ × ℕ)
+pending w i = levels_at w.course.heads.items i
+
+-- the levels of the triplet that comes next
+abbrev pub next_levels : List Triplet → Option (ℕ × ℕ)
+next_levels ts = option_map triplet_levels (head_of ts)
 
 -- a walk over these columns that gave these moves; this is left of each column behind what was given
-pub record IsAt (fs : Fields) (F : List (List Step)) (rows : ℕ) (C : List (List Triplet)) (ms : List Move) (left : Left) (w : Walk) : Type 0 where
+pub record IsAtLevels (fs : Fields) (F : List (List Step)) (rows : ℕ) (C : List (List Triplet)) (ms : List Move) (left : Left) (w : LevelWalk) : Type 0 where
   pub columns : length C ≡ length F
   pub deep : depth fs ≤ greatest_depth
   pub few : length F < 2 ^ 32
   pub heads : length w.course.heads.items ≡ length F
-  pub values : length w.values.items ≡ length F
   pub stack : Stack
   pub leads : Leads (course fs F) (between rows) (columns_of C) ms stack left
   pub stands : Stands (course fs F) w.course stack
-  pub known : (i : ℕ) → is_known w.wanted w.given i ≡ true → pending w i ≡ head_of (left i)
+  pub known : (i : ℕ) → is_known w.wanted w.given i ≡ true → pending w i ≡ next_levels (left i)
   pub unknown : (i : ℕ) → is_known w.wanted w.given i ≡ false → pending w i ≡ None
   pub wants : (i : ℕ) → w.wanted ≡ Some i → i < length F
   pub asks : (i : ℕ) → w.wanted ≡ Some i → (w.given ≡ 0) ⊎ LastGives i ms
@@ -110,20 +102,16 @@ pub record IsAt (fs : Fields) (F : List (List Step)) (rows : ℕ) (C : List (Lis
   pub gave : w.given ≡ min (length ms) (2 ^ 64 - 1)
   pub took : w.taken ≡ min (triplet_count ms + count_some (pending w) (length F)) (2 ^ 64 - 1)
 
--- where a leaf is wanted, its column's next triplet comes, none at its end
-abbrev pub Comes : Left → Option ℕ → Option code_triplet.Triplet → Type 0
-Comes left None more = more ≡ None
-Comes left (Some i) more = option_map triplet_view more ≡ head_of (left i)
+-- where a leaf is wanted, the levels of its column's next triplet come, none at its end
+abbrev pub ComesNext : Left → Option ℕ → Option Levels → Type 0
+ComesNext left None more = more ≡ None
+ComesNext left (Some i) more = option_map levels_pair more ≡ next_levels (left i)
 
--- what is said of a call, over any columns over which the walk stood, where what comes is their next triplet
-abbrev pub OverColumns : Walk → Option code_triplet.Triplet → (Fields → List (List Step) → ℕ → List (List Triplet) → List Move → Left → Type 0) → Type 0
-OverColumns w more says = (F : List (List Step)) (fs : Fields) (rows : ℕ) (C : List (List Triplet)) (ms : List Move) (left : Left) → IsAt fs F rows C ms left w → Comes left w.wanted more → says fs F rows C ms left
+-- what is said of a call, over any columns over which the walk stood, where what comes are the levels of their next triplet
+abbrev pub OverLevels : LevelWalk → Option Levels → (Fields → List (List Step) → ℕ → List (List Triplet) → List Move → Left → Type 0) → Type 0
+OverLevels w more says = (F : List (List Step)) (fs : Fields) (rows : ℕ) (C : List (List Triplet)) (ms : List Move) (left : Left) → IsAtLevels fs F rows C ms left w → ComesNext left w.wanted more → says fs F rows C ms left
 
 -- ---- what a call answers
-
--- a leaf's triplet of these levels, with this value
-abbrev pub given_move : ℕ → Levels → Option ValueRef → CodeMove
-given_move i l v = CodeMove.Leaf i (record { repetition = l.repetition; definition = l.definition; value = v })
 
 -- the leaf whose triplet a move gives
 abbrev pub leaf_of : CodeMove → Option ℕ
@@ -131,20 +119,51 @@ leaf_of (CodeMove.Enter k) = None
 leaf_of (CodeMove.Leaf i t) = Some i
 leaf_of (CodeMove.Leave k) = None
 
+abbrev pub given_leaf : LevelMove → Option ℕ
+given_leaf (LevelMove.Enter k) = None
+given_leaf (LevelMove.Leaf i l k) = Some i
+given_leaf (LevelMove.Leave k) = None
+
 -- what is wanted after a call, where this was once what was wanted came: a move comes only where nothing was
-abbrev pub Wants : Option CodeMove → Option ℕ → Option ℕ → Type 0
-Wants None before after = after ≡ before
-Wants (Some m) before after = (before ≡ None) × (after ≡ leaf_of m)
+abbrev pub WantsNext : Option LevelMove → Option ℕ → Option ℕ → Type 0
+WantsNext None before after = after ≡ before
+WantsNext (Some m) before after = (before ≡ None) × (after ≡ given_leaf m)
 
--- the move that it gives, if any
-abbrev pub moves_of : Option CodeMove → List Move
-moves_of None = []
-moves_of (Some m) = move_view m ∷ []
+-- the move of a leaf's triplet
+abbrev pub leaf_moves : ℕ → Option Triplet → List Move
+leaf_moves i None = []
+leaf_moves i (Some t) = value i t ∷ []
 
--- what is left behind the move
-abbrev pub left_behind : Option CodeMove → Left → Left
-left_behind None left = left
-left_behind (Some m) left = behind_move (move_view m) left
+-- the move that it gives, if any, where this is left of each column: a leaf's triplet is its column's next
+abbrev pub moves_over : Left → Option LevelMove → List Move
+moves_over left None = []
+moves_over left (Some (LevelMove.Enter k)) = enter k ∷ []
+moves_over left (Some (LevelMove.Leaf i l k)) = leaf_moves i (head_of (left i))
+moves_over left (Some (LevelMove.Leave k)) = leave k ∷ []
+
+-- what is left behind moves
+abbrev pub behind_moves : List Move → Left → Left
+behind_moves [] left = left
+behind_moves (m ∷ ms) left = behind_moves ms (behind_move m left)
+
+-- the leaf's next triplet has the levels of the move
+abbrev pub HasLevels : Left → Option LevelMove → Type 0
+HasLevels left None = ⊤
+HasLevels left (Some (LevelMove.Enter k)) = ⊤
+HasLevels left (Some (LevelMove.Leaf i l k)) = next_levels (left i) ≡ Some (levels_pair l)
+HasLevels left (Some (LevelMove.Leave k)) = ⊤
+
+-- whether a triplet is there, with a value of this kind, or where none is given, with none
+abbrev pub fits_next : Option Kind → Option Triplet → Bool
+fits_next k None = false
+fits_next k (Some t) = fits k t.value
+
+-- whether the leaf's next triplet has the value that the move asks for
+abbrev pub is_fit : Left → Option LevelMove → Bool
+is_fit left None = true
+is_fit left (Some (LevelMove.Enter k)) = true
+is_fit left (Some (LevelMove.Leaf i l k)) = fits_next (option_map kind_view k) (head_of (left i))
+is_fit left (Some (LevelMove.Leave k)) = true
 
 -- the columns end where all is done
 pub record Ends (fs : Fields) (F : List (List Step)) (rows : ℕ) (C : List (List Triplet)) (ms : List Move) (left : Left) : Type 0 where
@@ -159,9 +178,15 @@ pub record Stuck (fs : Fields) (F : List (List Step)) (rows : ℕ) (C : List (Li
   pub leads : Leads (course fs F) (between rows) (columns_of C) ms stack left
   pub why : (turn (course fs F) stack (heads left) ≡ stops) ⊎ ((turn (course fs F) stack (heads left) ≡ done) × ((i : ℕ) × (left i ≢ [])))
 
+-- a move is given, where the value that it asks for is there; else the columns go on as no records' do
+pub record Gave (fs : Fields) (F : List (List Step)) (rows : ℕ) (C : List (List Triplet)) (ms : List Move) (left : Left) (w : LevelWalk) (m : LevelMove) : Type 0 where
+  pub levels : HasLevels left (Some m)
+  pub on : is_fit left (Some m) ≡ true → IsAtLevels fs F rows C (ms ++ moves_over left (Some m)) (behind_moves (moves_over left (Some m)) left) w
+  pub unfit : is_fit left (Some m) ≡ false → Stuck fs F rows C ms left
+
 -- where nothing is wanted: the next move, the end, or that there is neither
-abbrev pub Goes : Fields → List (List Step) → ℕ → List (List Triplet) → List Move → Left → Walk → Result (Option CodeMove) AssembleFault → Type 0
-Goes fs F rows C ms left w (Ok None) = IsAt fs F rows C ms left w × Ends fs F rows C ms left
-Goes fs F rows C ms left w (Ok (Some m)) = IsAt fs F rows C (ms ++ move_view m ∷ []) (behind_move (move_view m) left) w
+abbrev pub Goes : Fields → List (List Step) → ℕ → List (List Triplet) → List Move → Left → LevelWalk → Result (Option LevelMove) AssembleFault → Type 0
+Goes fs F rows C ms left w (Ok None) = IsAtLevels fs F rows C ms left w × Ends fs F rows C ms left
+Goes fs F rows C ms left w (Ok (Some m)) = Gave fs F rows C ms left w m
 Goes fs F rows C ms left w (Err AssembleFault.BadData) = Stuck fs F rows C ms left
 Goes fs F rows C ms left w (Err AssembleFault.NoMemory) = ⊤

@@ -1,6 +1,7 @@
 //! The walk of records over their columns, one move at a time: no record is made.
 #![tactic(auto)]
 
+mod batches;
 mod checking;
 mod column_walk;
 mod counting;
@@ -10,14 +11,19 @@ mod heads;
 mod items;
 mod laying;
 mod level;
+mod level_move;
+mod level_walk;
 mod picks;
 mod spot;
 mod turn;
 mod values;
 mod walk;
 
+pub use batches::{Turned, step_over};
 pub use checking::check_columns;
 pub use column_walk::{Advance, ColumnWalk};
 pub use counting::count_repeated;
 pub use fault::AssembleFault;
+pub use level_move::LevelMove;
+pub use level_walk::LevelWalk;
 pub use walk::Walk;

@@ -1,16 +1,14 @@
 -- Rows that aren't put yet: one more, the first so many, and one after another.
 use Rattle.std.proofs.Common.{◌≡◌, ◌≤◌, ◌<◌, ◌+◌, ◌*◌, min, ℕ, zero, suc, List, [], ◌∷◌, ◌++◌, length, map, take, drop, get_or, refl, sym, ap, ap₂, subst, ◌∙◌, arith, ⊎_elim}
-use Rattle.std.specs.Prelude.{Option}
+use Rattle.std.specs.Prelude.{Option, Some, None}
 use Rattle.std.proofs.lemmas.Bool.{cases_lt}
 use Rattle.std.proofs.lemmas.List.{take_all, take-take, drop-take, take-append-le, drop-append-le, length-drop, nil_from_length, take_min, drop_min, take-map, drop-map, drop-drop, drop_more}
 use Rattle.std.proofs.Math.Nat.{mul-le-mul_right}
 use Rattle.dr_meaning.specs.Record.{Value}
-use Rattle.dr_levels.specs.declared.triplet.ValueRef.{ValueRef}
+use Rattle.dr_cells.specs.Results.{ResultCell}
 use Rattle.dr_partials.specs.Putting.{Put, Taken}
-use Rattle.dr_group.specs.Views.{lent_cell}
-use Rattle.dr_within.specs.Takings.{late_view}
-use Rattle.dr_within.specs.Late.{late_puts, puts_view}
-use Rattle.dr_within.specs.declared.taking.LateTaken.{LateTaken}
+use Rattle.dr_within.specs.Takings.{Take, take_nothing, take_rows, take_values, aggregate_for, taken_with}
+use Rattle.dr_within.specs.Late.{cell_value, cell_values, first_of, taken_for, all_taken, late_puts, puts_view}
 
 -- what is put of one row
 abbrev pub one_put : List (Option Value) → Option Taken → Put
@@ -66,18 +64,65 @@ take_within k b K h =
     let e : min (min k b) (length K) ≡ min k (length K) = omega arith in
     sym (take_min (min k b) K) ∙ (ap (λ (i : ℕ). take i K) e ∙ take_min k K)
 
-pub drop_within : {A : Type 0} (k b : ℕ) (K : List A) → length K ≤ b → drop (min (min k b) (length K)) K ≡ drop k K
+pub drop_within : {A : Type 0} (k b : ℕ) (K : List A) → length K ≤ b → drop (min k b) K ≡ drop k K
 drop_within k b K h =
     let e : min (min k b) (length K) ≡ min k (length K) = omega arith in
-    ap (λ (i : ℕ). drop i K) e ∙ drop_min k K
+    sym (drop_min (min k b) K) ∙ (ap (λ (i : ℕ). drop i K) e ∙ drop_min k K)
+
+-- ---- values and their aggregates
+
+abbrev none_first : Option Value
+none_first = None
+
+-- the value of a number, and those behind it
+pub first_then : (vs : List (Option Value)) (n : ℕ) → n < length vs → drop n vs ≡ first_of (drop n vs) ∷ drop (n + 1) vs
+first_then vs n h =
+    let e = drop_more vs n none_first h in
+    e ∙ ap (λ (v : Option Value). v ∷ drop (n + 1) vs) (sym (ap first_of e))
+
+pub taken_count : (os : List (Option ℕ)) (vs : List (Option Value)) → length (all_taken os vs) ≡ length os
+taken_count [] vs = refl
+taken_count (o ∷ os) vs = ap suc (taken_count os (drop 1 vs))
+
+pub taken_push : (os : List (Option ℕ)) (o : Option ℕ) (vs : List (Option Value)) (v : Option Value) → length vs ≡ length os
+    → all_taken (os ++ o ∷ []) (vs ++ v ∷ []) ≡ all_taken os vs ++ taken_for o v ∷ []
+taken_push [] o [] v h = refl
+taken_push [] o (w ∷ vs) v h = absurd (never (omega (arith, h)))
+  where
+    never : 1 ≤ 0 → ⊥
+    never q = omega (arith, q)
+taken_push (p ∷ os) o [] v h = absurd (never (omega (arith, h)))
+  where
+    never : 1 ≤ 0 → ⊥
+    never q = omega (arith, q)
+taken_push (p ∷ os) o (w ∷ vs) v h = ap (λ (ts : List (Option Taken)). taken_for p w ∷ ts) (taken_push os o vs v (omega (arith, h)))
+
+none_cut : (m : ℕ) (os : List (Option ℕ)) → all_taken (take m os) [] ≡ take m (all_taken os [])
+none_cut zero os = refl
+none_cut (suc m) [] = refl
+none_cut (suc m) (o ∷ os) = ap (λ (ts : List (Option Taken)). taken_for o None ∷ ts) (none_cut m os)
+
+pub taken_cut : (m : ℕ) (os : List (Option ℕ)) (vs : List (Option Value)) → all_taken (take m os) (take m vs) ≡ take m (all_taken os vs)
+taken_cut zero os vs = refl
+taken_cut (suc m) [] vs = refl
+taken_cut (suc m) (o ∷ os) [] = ap (λ (ts : List (Option Taken)). taken_for o None ∷ ts) (none_cut m os)
+taken_cut (suc m) (o ∷ os) (v ∷ vs) = ap (λ (ts : List (Option Taken)). taken_for o v ∷ ts) (taken_cut m os vs)
+
+-- what is taken is taken for the aggregate that there is
+pub taken_same : (t : Take) (v : Option Value) → taken_for (aggregate_for t) v ≡ taken_with t v
+taken_same take_nothing v = refl
+taken_same (take_rows i) v = refl
+taken_same (take_values i e) v = refl
 
 -- of the rows from this one on the first, and those behind it
-pub puts_next : (n i : ℕ) (K : List (Option ValueRef)) (T : List (Option LateTaken)) (t : Option LateTaken) → i < length T → t ≡ get_or T i t
-    → puts_view n (drop (i * n) K) (drop i T)
-    ≡ one_put (map lent_cell (take n (drop (i * n) K))) (late_view t) ∷ puts_view n (drop ((i + 1) * n) K) (drop (i + 1) T)
-puts_next n i K T t h e =
+pub puts_next : (n i : ℕ) (K : List ResultCell) (os : List (Option ℕ)) (V : List ResultCell) (o d : Option ℕ) → i < length os → o ≡ get_or os i d
+    → puts_view n (drop (i * n) K) (drop i os) (drop i V)
+    ≡ one_put (take n (drop (i * n) (cell_values K))) (taken_for o (first_of (drop i (cell_values V)))) ∷ puts_view n (drop ((i + 1) * n) K) (drop (i + 1) os) (drop (i + 1) V)
+puts_next n i K os V o d h e =
     let more : i * n + n ≡ (i + 1) * n = omega arith in
-    ap (puts_view n (drop (i * n) K)) (drop_more T i t h ∙ ap (λ (u : Option LateTaken). u ∷ drop (i + 1) T) (sym e))
-    ∙ ap₂ (λ (J : List (Option Value)) (L : List (Option Value)). one_put J (late_view t) ∷ late_puts n L (map late_view (drop (i + 1) T)))
-    (take-map lent_cell n (drop (i * n) K))
-    (drop-map lent_cell n (drop (i * n) K) ∙ ap (map lent_cell) (drop-drop n (i * n) K ∙ ap (λ (x : ℕ). drop x K) more))
+    ap (λ (ps : List (Option ℕ)). late_puts n (cell_values (drop (i * n) K)) (all_taken ps (cell_values (drop i V)))) (drop_more os i d h ∙ ap (λ (u : Option ℕ). u ∷ drop (i + 1) os) (sym e))
+    ∙ (ap₂ (λ (J : List (Option Value)) (W : List (Option Value)). one_put (take n J) (taken_for o (first_of W)) ∷ late_puts n (drop n (cell_values (drop (i * n) K))) (all_taken (drop (i + 1) os) (drop 1 (cell_values (drop i V)))))
+    (sym (drop-map cell_value (i * n) K)) (sym (drop-map cell_value i V))
+    ∙ ap₂ (λ (L : List (Option Value)) (W : List (Option Value)). one_put (take n (drop (i * n) (cell_values K))) (taken_for o (first_of (drop i (cell_values V)))) ∷ late_puts n L (all_taken (drop (i + 1) os) W))
+    (drop-map cell_value n (drop (i * n) K) ∙ ap cell_values (drop-drop n (i * n) K ∙ ap (λ (x : ℕ). drop x K) more))
+    (drop-map cell_value 1 (drop i V) ∙ ap cell_values (drop-drop 1 i V)))

@@ -24,6 +24,8 @@ pub mod SettledLemmas
 -- a scan behind one more move
 pub mod BehindLemmas
 pub mod StepLemmas
+-- what was read last of each leaf
+pub mod RowLemmas
 -- the table of a record query's levels
 pub mod LevelNumbering
 pub mod TableLemmas

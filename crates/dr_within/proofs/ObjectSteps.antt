@@ -8,14 +8,12 @@ use Rattle.dr_meaning.specs.Walk.{Move}
 use Rattle.dr_firing.specs.Context.{Context}
 use Rattle.dr_object_laws.specs.ObjectFlow.{Made, ReadItem, items_of, seen_items, left_items}
 use Rattle.dr_pruning_laws.specs.Frames.{Frames, frame_left, frame_move}
-use Rattle.dr_pruning_laws.specs.MovedContexts.{after_moves}
 use Rattle.dr_plan.specs.Planned.{plan_leaves}
 use Rattle.dr_plan.specs.declared.plan.Plan.{Plan}
 use Rattle.dr_plan.specs.declared.plan.RecordItem.{RecordItem}
 use Rattle.dr_plan.specs.declared.plan.RecordTerm.{RecordTerm}
 use Rattle.dr_scalar.specs.Leaves.{expr_leaves, greatest}
 use Rattle.dr_scalar.specs.OverSlots.{expr_over}
-use Rattle.dr_scalar.specs.Slots.{slot_value}
 use Rattle.dr_condition.specs.Conditions.{HasWatched, watch_in}
 use Rattle.dr_condition.specs.Parted.{WatchedParts}
 use Rattle.dr_condition.specs.PlanConditions.{WatchesPlan}
@@ -103,11 +101,10 @@ is_for_next s p items old new h a b c d e =
     }
 
 pub scans_next : (s : Schema) (p : Plan) (ms : List Move) (m : Move) (old new : ObjectScan) (g : ScansObjects s p ms old) → new.items ≡ old.items → new.levels ≡ old.levels
-    → new.firing ≡ old.firing → new.shape ≡ old.shape → watch_in new.condition ≡ watch_in old.condition → length new.slots.items ≡ length old.slots.items
-    → after_moves (λ i. None) (ms ++ m ∷ []) ≡ slot_value new.slots.items → HasWatched new.condition (ms ++ m ∷ [])
+    → new.firing ≡ old.firing → new.shape ≡ old.shape → watch_in new.condition ≡ watch_in old.condition → HasWatched new.condition (ms ++ m ∷ [])
     → HoldsMade (items_of (read_items (plan_leaves p) g.items.items)) (next_objects s p g.items.items (watch_in old.condition) ms m) new.frames
     → ScansObjects s p (ms ++ m ∷ []) new
-scans_next s p ms m old new g a b c d e slots context watched made =
+scans_next s p ms m old new g a b c d e watched made =
     let items = g.items.items in
     let rs = read_items (plan_leaves p) items in
     record {
@@ -116,8 +113,6 @@ scans_next s p ms m old new g a b c d e slots context watched made =
       selects = g.selects;
       is_for = is_for_next s p items old new g.is_for a b c d e;
       behind = record {
-        slots = slots ∙ g.behind.slots;
-        context = context;
         watched = watched;
         made = subst (λ (W : Option WatchedParts). HoldsMade (items_of rs) (behind_objects s p items W (ms ++ m ∷ [])) new.frames) (sym e)
             (subst (λ (f : Frames Made). HoldsMade (items_of rs) f new.frames)

@@ -11,7 +11,6 @@ use Rattle.dr_plan.specs.Planned.{Planned}
 use Rattle.dr_pruning_laws.specs.Counting.{context_behind}
 use Rattle.dr_pruning_laws.specs.Frames.{Frames, frame_move}
 use Rattle.dr_pruning_laws.specs.MovedContexts.{after_moves}
-use Rattle.dr_scalar.specs.Slots.{slot_value}
 use Rattle.dr_condition.specs.Parted.{WatchedParts}
 use Rattle.dr_condition.specs.Conditions.{HasWatched, watch_in}
 use Rattle.dr_condition.specs.Watching.{dropped_at, TellsKept}
@@ -124,16 +123,14 @@ left_taken ls keys ts f k c h = by_record (k == 0)
 -- ---- a scan behind one more move
 
 pub is_behind : (p : Planned) (ls : List Leaf) (ts : List Take) (ms : List Move) (m : Move) (old new : GroupScan) → IsBehind p ls ts ms old → new.keys ≡ old.keys → new.firing ≡ old.firing
-    → watch_in new.condition ≡ watch_in old.condition → length new.slots.items ≡ length ls → after_moves (λ i. None) (ms ++ m ∷ []) ≡ slot_value new.slots.items → HasWatched new.condition (ms ++ m ∷ [])
+    → watch_in new.condition ≡ watch_in old.condition → HasWatched new.condition (ms ++ m ∷ [])
     → HoldsBehind ls old.keys.now ts (watch_in old.condition) p (length old.keys.now) (ms ++ m ∷ []) (one_more ls old.keys.now ts (watch_in old.condition) ms m) new.frames
     → IsBehind p ls ts (ms ++ m ∷ []) new
-is_behind p ls ts ms m old new b k f w s c h made =
+is_behind p ls ts ms m old new b k f w h made =
     let keys = old.keys.now in
     let W = watch_in old.condition in
     record {
-      slots = s;
       fires = subst (λ g. Fires (length ls) g.now ts new.firing) (sym k) (subst (Fires (length ls) keys ts) (sym f) b.fires);
-      context = c;
       watched = h;
       made = subst (λ g. HoldsBehind ls g.now ts (watch_in new.condition) p (length g.now) (ms ++ m ∷ []) (behind ls g.now ts (watch_in new.condition) (ms ++ m ∷ [])) new.frames) (sym k)
           (subst (λ V. HoldsBehind ls keys ts V p (length keys) (ms ++ m ∷ []) (behind ls keys ts V (ms ++ m ∷ [])) new.frames) (sym w)

@@ -3,15 +3,13 @@ use Rattle.std.specs.Prelude.{◌≡◌, ◌<◌, ℕ, zero, suc, ⊤, List, [],
 use Rattle.dr_meaning.specs.Path.{Leaf, paths_of_leaves}
 use Rattle.dr_meaning.specs.Record.{Node}
 use Rattle.dr_meaning.specs.Expression.{longest_chain}
-use Rattle.dr_meaning.specs.Walk.{Move, enter, value, leave}
+use Rattle.dr_meaning.specs.Walk.{Move}
 use Rattle.dr_kept_laws.specs.GroupFlow.{Reading, all_fired, all_left, left_with}
 use Rattle.dr_pruning_laws.specs.Counting.{Numbers}
 use Rattle.dr_pruning_laws.specs.Frames.{Frames}
-use Rattle.dr_pruning_laws.specs.MovedContexts.{after_moves}
 use Rattle.dr_put_laws.specs.LastRead.{paths_at}
 use Rattle.dr_partials.specs.Putting.{Put}
 use Rattle.dr_plan.specs.Planned.{Planned}
-use Rattle.dr_scalar.specs.Slots.{slot_value}
 use Rattle.dr_condition.specs.Parted.{WatchedParts}
 use Rattle.dr_condition.specs.RowValues.{read_of}
 use Rattle.dr_condition.specs.Conditions.{HasWatched, watch_in}
@@ -60,16 +58,8 @@ frames_behind W xs ms = framed_behind (all_fired xs) (left_with (all_left xs)) W
 
 -- a scan for a plan with these leaves, by these takings, behind these moves
 pub record IsBehind (p : Planned) (ls : List Leaf) (ts : List Take) (ms : List Move) (g : GroupScan) : Type 0 where
-  pub slots : length g.slots.items ≡ length ls
   pub fires : Fires (length ls) g.keys.now ts g.firing
-  pub context : after_moves (λ i. None) ms ≡ slot_value g.slots.items
   pub watched : HasWatched g.condition ms
   pub made : Holds p (length g.keys.now) (frames_behind (watch_in g.condition) (readings_at ls g.keys.now ts) ms).made
       (settled_behind (watch_in g.condition) (length (frames_behind (watch_in g.condition) (readings_at ls g.keys.now ts) ms).marks) ms)
       (frames_behind (watch_in g.condition) (readings_at ls g.keys.now ts) ms).marks g.frames
-
--- a leaf's move is of one of so many leaves
-abbrev pub IsOfLeaf : ℕ → Move → Type 0
-IsOfLeaf n (enter k) = ⊤
-IsOfLeaf n (value i t) = i < n
-IsOfLeaf n (leave k) = ⊤

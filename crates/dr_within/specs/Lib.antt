@@ -1,4 +1,6 @@
 -- What the moves of a walk make of records for a plan of groups or of objects.
+-- what was read last of each leaf
+pub mod Rows
 -- what is taken of rows, and where they fire
 pub mod Takings
 pub mod Firings

@@ -10,14 +10,12 @@ use Rattle.dr_meaning.specs.Record.{Node, is_record}
 use Rattle.dr_meaning.specs.Walk.{Move, walk}
 use Rattle.dr_object_laws.specs.ObjectFlow.{items_of}
 use Rattle.dr_partials.specs.Partials.{empty_partial, partial_of}
-use Rattle.dr_pruning_laws.specs.MovedContexts.{after_moves}
 use Rattle.dr_plan.specs.Planned.{plan_leaves, plan_view, planned_query, IsOfSchema}
 use Rattle.dr_plan.specs.declared.objects.ObjectPlan.{ObjectPlan}
 use Rattle.dr_plan.specs.declared.plan.Plan.{Plan}
 use Rattle.dr_plan.specs.declared.plan.RecordItem.{RecordItem}
 use Rattle.dr_plan.specs.declared.plan.Selection.{Selection}
 use Rattle.dr_cells.specs.Shapes.{plan_shape, shape_view}
-use Rattle.dr_scalar.specs.Slots.{slot_value}
 use Rattle.dr_condition.specs.Conditions.{watch_in, open_for, HasWatched}
 use Rattle.dr_condition.specs.PlanConditions.{WatchesPlan}
 use Rattle.dr_within.specs.ItemFirings.{FiresItems}
@@ -36,8 +34,6 @@ pub record IsForItems (s : Schema) (p : Plan) (items : List RecordItem) (g : Obj
 
 -- what it made of these moves
 pub record HasMade (s : Schema) (p : Plan) (items : List RecordItem) (ms : List Move) (g : ObjectScan) : Type 0 where
-  pub slots : length g.slots.items ≡ length (plan_leaves p)
-  pub context : after_moves (λ i. None) ms ≡ slot_value g.slots.items
   pub watched : HasWatched g.condition ms
   pub made : HoldsObjects (items_of (read_items (plan_leaves p) items)) (objects_behind (watch_in g.condition) s.fields (read_items (plan_leaves p) items) ms).made
       (objects_behind (watch_in g.condition) s.fields (read_items (plan_leaves p) items) ms).marks g.frames

@@ -1,5 +1,5 @@
 -- What is taken of a row, by what was read last of each leaf, and at which leaf a row fires.
-use Rattle.std.specs.Prelude.{ℕ, suc, List, [], ◌∷◌, ◌++◌, map, Bool, true, false, ◌==◌, if◌then◌else◌, Option, Some, None, option_map}
+use Rattle.std.specs.Prelude.{ℕ, suc, List, [], ◌∷◌, ◌++◌, map, Bool, true, false, ◌==◌, if◌then◌else◌, Option, Some, None}
 use Rattle.dr_meaning.specs.Record.{Value}
 use Rattle.dr_firing.specs.Context.{Context}
 use Rattle.dr_partials.specs.Putting.{Taken, Put}
@@ -7,9 +7,7 @@ use Rattle.dr_plan.specs.declared.aggregate.Aggregate.{Aggregate}
 use Rattle.dr_plan.specs.declared.expression.Expr.{Expr}
 use Rattle.dr_scalar.specs.OverSlots.{expr_over}
 use Rattle.dr_scalar.specs.Leaves.{expr_leaves, greatest}
-use Rattle.dr_scalar.specs.Views.{evaluated_view}
 use Rattle.dr_within.specs.declared.taking.Taking.{Taking}
-use Rattle.dr_within.specs.declared.taking.LateTaken.{LateTaken}
 
 -- what is taken of each of some rows: nothing, the row, or the value of an expression in it; each for the aggregate of a number
 pub data Take : Type 0 where
@@ -37,9 +35,11 @@ taken_with take_nothing v = None
 taken_with (take_rows i) v = Some (record { aggregate = i; value = v })
 taken_with (take_values i e) v = Some (record { aggregate = i; value = v })
 
--- what was taken
-abbrev pub late_view : Option LateTaken → Option Taken
-late_view t = option_map (λ (x : LateTaken). record { aggregate = x.aggregate; value = option_map evaluated_view x.value }) t
+-- for which aggregate something is taken, if for one
+abbrev pub aggregate_for : Take → Option ℕ
+aggregate_for take_nothing = None
+aggregate_for (take_rows i) = Some i
+aggregate_for (take_values i e) = Some i
 
 -- what is put, by the numbers of the keys' leaves
 abbrev pub put_read : List ℕ → Take → Context → Put

@@ -21,26 +21,23 @@ use std::alloc::Global;
 /// What was put of the records so far, and the rows that aren't put yet, since a branch that is open isn't known to be
 /// kept.
 #[derive(Drop)]
-pub(crate) struct Frames<'a> {
-    pub(crate) late: LateRows<'a>,
+pub(crate) struct Frames {
+    pub(crate) late: LateRows,
     /// Of each open branch, the outermost first, how many late rows there were as it began.
     pub(crate) marks: Vec<usize>,
-    /// Room for a key tuple.
-    pub(crate) key: Vec<Option<ValueRef<'a>>>,
     pub(crate) partial: Partial,
 }
 
-impl<'a> Frames<'a> {
+impl Frames {
     /// Before any move, for a plan whose key tuples have so many cells.
     ///
     /// Errors: want of memory alone.
-    pub(crate) fn new(alloc: Global, plan: &Plan, width: usize) -> Result<Frames<'a>, NoMemory>
+    pub(crate) fn new(alloc: Global, plan: &Plan, width: usize) -> Result<Frames, NoMemory>
         ensures { IfOk result (Holds (plan_view plan.now) width [] [] []) }
     {
         Ok(Frames {
             late: LateRows::new(alloc, width),
             marks: Vec::new(alloc),
-            key: Vec::new(alloc),
             partial: Partial::empty(alloc, plan)?,
         })
     }
@@ -64,15 +61,16 @@ impl<'a> Frames<'a> {
     }
 
     /// Rows of what was read last of each leaf, one for each of some takings: they are put where all branches that are
-    /// open are known to be kept.
+    /// open are known to be kept. A key tuple is made in a buffer.
     ///
     /// Errors: want of memory, or of room for a count, a sum or a number of a group.
-    pub(crate) fn fire(
+    pub(crate) fn fire<'a>(
         &mut self,
         alloc: Global,
-        takings: &[Taking<'a>],
+        takings: &[Taking<'_>],
         keys: &[u32],
         slots: &[Option<ValueRef<'a>>],
+        key: &mut Vec<Option<ValueRef<'a>>>,
         is_kept: bool,
     ) -> Result<(), NoMemory>
         ensures rows { OnOk result ((p : Planned) (made : List Put) (settled later : List Bool) (marks : List ℕ)
@@ -85,14 +83,7 @@ impl<'a> Frames<'a> {
     {
         if is_kept {
             self.late.put_all(alloc, &mut self.partial)?;
-            put_each(
-                alloc,
-                takings,
-                keys,
-                slots,
-                &mut self.key,
-                &mut self.partial,
-            )
+            put_each(alloc, takings, keys, slots, key, &mut self.partial)
         } else {
             keep_each(alloc, takings, keys, slots, &mut self.late)
         }
@@ -101,12 +92,13 @@ impl<'a> Frames<'a> {
     /// Out of the innermost branch: what was made in it is cut off where it is dropped; else some rows come behind it.
     ///
     /// Errors: want of memory, or of room for a count, a sum or a number of a group.
-    pub(crate) fn leave(
+    pub(crate) fn leave<'a>(
         &mut self,
         alloc: Global,
-        takings: &[Taking<'a>],
+        takings: &[Taking<'_>],
         keys: &[u32],
         slots: &[Option<ValueRef<'a>>],
+        key: &mut Vec<Option<ValueRef<'a>>>,
         is_dropped: bool,
     ) -> Result<(), NoMemory>
         ensures left { OnOk result ((p : Planned) (made : List Put) (b : Bool) (settled : List Bool) (mark : ℕ)
@@ -126,7 +118,7 @@ impl<'a> Frames<'a> {
             return Ok(());
         }
         let is_outermost = self.marks.is_empty();
-        self.fire(alloc, takings, keys, slots, is_outermost)
+        self.fire(alloc, takings, keys, slots, key, is_outermost)
     }
 
     /// All that was made, put together.
@@ -135,9 +127,9 @@ impl<'a> Frames<'a> {
     pub(crate) fn close(self, alloc: Global) -> Result<Partial, NoMemory>
         ensures partial { IfOk result (λ x. (p : Planned) (n : ℕ) (made : List Put) (settled : List Bool)
             (marks : List ℕ)
-            → Holds p n made settled marks self.entry → partial_view x
+            → Holds p n made settled marks self → partial_view x
             ≡ put_all (planned_query p) made (empty_partial (planned_query p))) }
-        ensures of_plan { IfOk result (λ x. (p : Planned) → IsPartialOf p (self.entry).partial → IsPartialOf p x) }
+        ensures of_plan { IfOk result (λ x. (p : Planned) → IsPartialOf p self.partial → IsPartialOf p x) }
     {
         let mut late = self.late;
         let mut partial = self.partial;

@@ -1,6 +1,6 @@
 //! The groups of a plan, made along a walk.
 
-ghost use Rattle.std.specs.Prelude.{◌≡◌, ◌<◌, ◌++◌, ◌∷◌, [], List, length, IfOk, OnOk};
+ghost use Rattle.std.specs.Prelude.{◌≡◌, ◌<◌, ◌++◌, ◌∷◌, [], ℕ, List, length, IfOk, OnOk};
 ghost use Rattle.dr_levels.specs.Views.{move_view};
 ghost use Rattle.dr_meaning.specs.Path.{Leaf};
 ghost use Rattle.dr_meaning.specs.Walk.{Move as MeantMove};
@@ -11,15 +11,16 @@ ghost use Rattle.dr_group.specs.Partials.{partial_view, IsPartialOf};
 ghost use Rattle.dr_condition.specs.Conditions.{open_for, watch_in, HasWatched};
 ghost use Rattle.dr_within.specs.Takings.{Take, takings_of};
 ghost use Rattle.dr_within.specs.Firings.{firing_in};
-ghost use Rattle.dr_within.specs.Behind.{IsBehind, IsOfLeaf, frames_behind, readings_at};
+ghost use Rattle.dr_within.specs.Behind.{IsBehind, frames_behind, readings_at};
+ghost use Rattle.dr_within.specs.Rows.{HasRead, IsOfLeaf};
 
 use crate::firing::Firing;
 use crate::frames::Frames;
-use crate::slots::keep_value;
+use crate::row::Row;
 use crate::taking::Taking;
 use dr_condition::Condition;
 use dr_group::Partial;
-use dr_levels::{Move, ValueRef};
+use dr_levels::Move;
 use dr_memory::NoMemory;
 use dr_plan::{Aggregate, Plan};
 use std::alloc::Global;
@@ -31,9 +32,7 @@ pub struct GroupScan<'a> {
     pub(crate) keys: &'a [u32],
     pub(crate) firing: Firing<'a>,
     pub(crate) condition: Condition<'a>,
-    /// What was read last of each leaf.
-    pub(crate) slots: Vec<Option<ValueRef<'a>>>,
-    pub(crate) frames: Frames<'a>,
+    pub(crate) frames: Frames,
 }
 
 impl<'a> GroupScan<'a> {
@@ -52,45 +51,51 @@ impl<'a> GroupScan<'a> {
         ensures keys { IfOk result (λ g. g.keys ≡ keys.entry) }
     {
         let firing = Firing::new(alloc, plan.leaves.len(), keys, aggregates)?;
-        let mut slots = Vec::new(alloc);
-        slots.resize(plan.leaves.len(), None)?;
         let frames = Frames::new(alloc, plan, keys.len())?;
         Ok(GroupScan {
             keys,
             firing,
             condition,
-            slots,
             frames,
         })
     }
 
-    /// The next move of the walk.
+    /// The next move of the walk, where the row holds what was read last of each leaf.
     ///
     /// Errors: want of memory, or of room for a count, a sum or a number of a group.
-    pub fn step(&mut self, alloc: Global, read: &Move<'a>) -> Result<(), NoMemory>
+    pub fn step<'r>(
+        &mut self,
+        alloc: Global,
+        read: &Move<'r>,
+        row: &mut Row<'r>,
+    ) -> Result<(), NoMemory>
         requires few { open_for (self.old).condition < 64 }
         ensures behind { OnOk result ((p : Planned) (ls : List Leaf) (ts : List Take) (ms : List MeantMove)
-            → IsBehind p ls ts ms self.old → IsOfLeaf (length ls) (move_view read.now)
-            → IsBehind p ls ts (ms ++ move_view read.now ∷ []) self.new) }
+            → IsBehind p ls ts ms self.old → HasRead (length ls) ms row.old
+            → IsOfLeaf (length ls) (move_view read.now) → IsBehind p ls ts (ms ++ move_view read.now ∷ []) self.new) }
+        ensures reads { (n : ℕ) (ms : List MeantMove) → HasRead n ms row.old → IsOfLeaf n (move_view read.now)
+            → HasRead n (ms ++ move_view read.now ∷ []) row.new }
         ensures watches { watch_in (self.new).condition ≡ watch_in (self.old).condition }
         ensures keys { (self.new).keys ≡ (self.old).keys }
     {
-        keep_value(read, &mut self.slots);
-        let told = self.condition.step(alloc, read, &self.slots)?;
+        row.keep(read);
+        let told = self.condition.step(alloc, read, &row.slots)?;
         match read {
             Move::Enter(_) => self.frames.enter(),
             Move::Leaf(leaf, _) => self.frames.fire(
                 alloc,
                 self.firing.at(*leaf),
                 self.keys,
-                &self.slots,
+                &row.slots,
+                &mut row.key,
                 told.is_kept,
             ),
             Move::Leave(number) => self.frames.leave(
                 alloc,
                 self.firing.at_leave(*number),
                 self.keys,
-                &self.slots,
+                &row.slots,
+                &mut row.key,
                 told.is_dropped,
             ),
         }

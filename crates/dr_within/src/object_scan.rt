@@ -1,6 +1,6 @@
 //! The scan of a plan of objects.
 
-ghost use Rattle.std.specs.Prelude.{◌≡◌, ◌<◌, ◌++◌, ◌∷◌, [], List, length, true, IfOk, OnOk};
+ghost use Rattle.std.specs.Prelude.{◌≡◌, ◌<◌, ◌++◌, ◌∷◌, [], ℕ, List, length, true, IfOk, OnOk};
 ghost use Rattle.std.specs.List.{list_all};
 ghost use Rattle.dr_levels.specs.Views.{move_view};
 ghost use Rattle.dr_nested.specs.SchemaView.{schema_view};
@@ -15,17 +15,17 @@ ghost use Rattle.dr_plan.specs.declared.plan.Selection.{Selection as Selected};
 ghost use Rattle.dr_group.specs.Partials.{partial_view, IsPartialOf};
 ghost use Rattle.dr_condition.specs.Conditions.{watch_in, HasWatched};
 ghost use Rattle.dr_condition.specs.PlanConditions.{WatchesPlan};
-ghost use Rattle.dr_within.specs.Behind.{IsOfLeaf};
+ghost use Rattle.dr_within.specs.Rows.{HasRead, IsOfLeaf};
 ghost use Rattle.dr_within.specs.ObjectScanning.{ScansObjects, BeginsObjects, HasScannedAll, open_in_objects};
 
 use crate::item_firing::ItemFiring;
 use crate::levels::Levels;
 use crate::object_frames::ObjectFrames;
-use crate::slots::keep_value;
+use crate::row::Row;
 use dr_cells::{Shape, shape_of};
 use dr_condition::{Condition, condition_of};
 use dr_group::Partial;
-use dr_levels::{Move, ValueRef};
+use dr_levels::Move;
 use dr_memory::NoMemory;
 use dr_nested::Schema;
 use dr_plan::{ObjectPlan, Plan, RecordItem};
@@ -39,8 +39,6 @@ pub struct ObjectScan<'a> {
     pub(crate) levels: Levels,
     pub(crate) firing: ItemFiring,
     pub(crate) condition: Condition<'a>,
-    /// What was read last of each leaf.
-    pub(crate) slots: Vec<Option<ValueRef<'a>>>,
     pub(crate) frames: ObjectFrames,
     pub(crate) shape: Shape,
 }
@@ -63,15 +61,12 @@ impl<'a> ObjectScan<'a> {
     {
         let levels = Levels::of(alloc, schema, object)?;
         let firing = ItemFiring::new(alloc, plan.leaves.len(), items)?;
-        let mut slots = Vec::new(alloc);
-        slots.resize(plan.leaves.len(), None)?;
         let shape = shape_of(alloc, plan)?;
         Ok(ObjectScan {
             items,
             levels,
             firing,
             condition,
-            slots,
             frames: ObjectFrames::new(alloc),
             shape,
         })
@@ -101,29 +96,37 @@ impl<'a> ObjectScan<'a> {
         }
     }
 
-    /// The next move of the walk.
+    /// The next move of the walk, where the row holds what was read last of each leaf.
     ///
     /// Errors: want of memory, or of room for a count, a sum or the texts.
-    pub fn step(&mut self, alloc: Global, read: &Move<'a>) -> Result<(), NoMemory>
+    pub fn step<'r>(
+        &mut self,
+        alloc: Global,
+        read: &Move<'r>,
+        row: &mut Row<'r>,
+    ) -> Result<(), NoMemory>
         requires few { open_in_objects self.old < 64 }
-        ensures { OnOk result ((s : MeantSchema) (p : MeantPlan) (ms : List MeantMove) → ScansObjects s p ms self.old
+        ensures scans { OnOk result ((s : MeantSchema) (p : MeantPlan) (ms : List MeantMove)
+            → ScansObjects s p ms self.old → HasRead (length (plan_leaves p)) ms row.old
             → IsOfLeaf (length (plan_leaves p)) (move_view read.now)
             → ScansObjects s p (ms ++ move_view read.now ∷ []) self.new) }
+        ensures reads { (n : ℕ) (ms : List MeantMove) → HasRead n ms row.old → IsOfLeaf n (move_view read.now)
+            → HasRead n (ms ++ move_view read.now ∷ []) row.new }
     {
-        keep_value(read, &mut self.slots);
-        let told = self.condition.step(alloc, read, &self.slots)?;
+        row.keep(read);
+        let told = self.condition.step(alloc, read, &row.slots)?;
         match read {
             Move::Enter(_) => self.frames.enter(alloc),
             Move::Leaf(leaf, _) => {
                 let places = self.firing.at(*leaf);
-                self.frames.take(alloc, self.items, places, &self.slots)
+                self.frames.take(alloc, self.items, places, &row.slots)
             }
             Move::Leave(number) => self.frames.leave(
                 alloc,
                 self.items,
                 self.levels.at(*number),
                 *number,
-                &self.slots,
+                &row.slots,
                 told.is_dropped,
             ),
         }

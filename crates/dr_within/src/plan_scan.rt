@@ -1,6 +1,6 @@
 //! The scan of a plan of groups.
 
-ghost use Rattle.std.specs.Prelude.{◌≡◌, ◌<◌, ◌++◌, ◌∷◌, [], List, length, true, IfOk, OnOk};
+ghost use Rattle.std.specs.Prelude.{◌≡◌, ◌<◌, ◌++◌, ◌∷◌, [], ℕ, List, length, true, IfOk, OnOk};
 ghost use Rattle.std.specs.List.{list_all};
 ghost use Rattle.dr_levels.specs.Views.{move_view};
 ghost use Rattle.dr_nested.specs.SchemaView.{schema_view};
@@ -14,9 +14,10 @@ ghost use Rattle.dr_plan.specs.declared.plan.Plan.{Plan as MeantPlan};
 ghost use Rattle.dr_plan.specs.declared.plan.Selection.{Selection as Selected};
 ghost use Rattle.dr_group.specs.Partials.{partial_view, IsPartialOf};
 ghost use Rattle.dr_within.specs.Scanning.{Scans, Begins, open_in_scan};
-ghost use Rattle.dr_within.specs.Behind.{IsOfLeaf};
+ghost use Rattle.dr_within.specs.Rows.{HasRead, IsOfLeaf};
 
 use crate::groups::GroupScan;
+use crate::row::Row;
 use dr_condition::condition_of;
 use dr_group::Partial;
 use dr_levels::Move;
@@ -58,16 +59,23 @@ impl<'a> PlanScan<'a> {
         }
     }
 
-    /// The next move of the walk.
+    /// The next move of the walk, where the row holds what was read last of each leaf.
     ///
     /// Errors: want of memory, or of room for a count, a sum or a number of a group.
-    pub fn step(&mut self, alloc: Global, read: &Move<'a>) -> Result<(), NoMemory>
+    pub fn step<'r>(
+        &mut self,
+        alloc: Global,
+        read: &Move<'r>,
+        row: &mut Row<'r>,
+    ) -> Result<(), NoMemory>
         requires few { open_in_scan self.old < 64 }
-        ensures { OnOk result ((s : MeantSchema) (p : MeantPlan) (ms : List MeantMove) → Scans s p ms self.old
-            → IsOfLeaf (length (plan_leaves p)) (move_view read.now)
+        ensures scans { OnOk result ((s : MeantSchema) (p : MeantPlan) (ms : List MeantMove) → Scans s p ms self.old
+            → HasRead (length (plan_leaves p)) ms row.old → IsOfLeaf (length (plan_leaves p)) (move_view read.now)
             → Scans s p (ms ++ move_view read.now ∷ []) self.new) }
+        ensures reads { (n : ℕ) (ms : List MeantMove) → HasRead n ms row.old → IsOfLeaf n (move_view read.now)
+            → HasRead n (ms ++ move_view read.now ∷ []) row.new }
     {
-        self.groups.step(alloc, read)
+        self.groups.step(alloc, read, row)
     }
 
     /// The partial: that of the records whose walk it was.

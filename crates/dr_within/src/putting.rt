@@ -19,7 +19,7 @@ use std::alloc::Global;
 /// Puts a row into its group: what was read last of each leaf. Its key tuple is made in a buffer.
 fn put_one<'a>(
     alloc: Global,
-    taking: Taking<'a>,
+    taking: Taking<'_>,
     keys: &[u32],
     slots: &[Option<ValueRef<'a>>],
     key: &mut Vec<Option<ValueRef<'a>>>,
@@ -41,7 +41,7 @@ fn put_one<'a>(
 /// Errors: want of memory, or of room for a count, a sum or a number of a group.
 pub(crate) fn put_each<'a>(
     alloc: Global,
-    takings: &[Taking<'a>],
+    takings: &[Taking<'_>],
     keys: &[u32],
     slots: &[Option<ValueRef<'a>>],
     key: &mut Vec<Option<ValueRef<'a>>>,
@@ -61,12 +61,12 @@ pub(crate) fn put_each<'a>(
 /// Keeps a row for each of some takings, in order.
 ///
 /// Errors: want of memory alone.
-pub(crate) fn keep_each<'a>(
+pub(crate) fn keep_each(
     alloc: Global,
-    takings: &[Taking<'a>],
+    takings: &[Taking<'_>],
     keys: &[u32],
-    slots: &[Option<ValueRef<'a>>],
-    late: &mut LateRows<'a>,
+    slots: &[Option<ValueRef<'_>>],
+    late: &mut LateRows,
 ) -> Result<(), NoMemory>
     ensures rows { OnOk result (IsWhole late.old → (late.old).width ≡ length keys.now → rows_of late.new
         ≡ rows_of late.old ++ all_read keys.now (takings_view takings.now) (slot_value slots.now)) }

@@ -5,7 +5,8 @@ ghost use Rattle.dr_levels.specs.Views.{lent_value};
 ghost use Rattle.dr_scalar.specs.Slots.{slot_value};
 ghost use Rattle.dr_scalar.specs.Views.{evaluated_view};
 ghost use Rattle.dr_group.specs.Groups.{taken_view};
-ghost use Rattle.dr_within.specs.Takings.{taking_view, value_read, taken_with, late_view};
+ghost use Rattle.dr_within.specs.Takings.{taking_view, value_read, taken_with, aggregate_for};
+ghost use Rattle.dr_within.specs.Late.{taken_for as meant_taken};
 
 use dr_group::Taken;
 use dr_levels::ValueRef;
@@ -25,13 +26,6 @@ pub(crate) enum Taking<'p> {
     Value(u32, &'p Expr),
 }
 
-/// What was taken of a row: a value, or NULL, for the aggregate of a number.
-#[derive(Debug, Drop)]
-pub(crate) struct LateTaken<'a> {
-    pub(crate) aggregate: u32,
-    pub(crate) value: Option<Evaluated<'a>>,
-}
-
 /// The value that is taken of what was read last of each leaf, where it isn't NULL.
 pub(crate) fn value_of<'a>(
     alloc: Global,
@@ -48,7 +42,7 @@ pub(crate) fn value_of<'a>(
 }
 
 /// A value or NULL, lent.
-fn lent<'a>(value: &'a Option<Evaluated<'_>>) -> Option<ValueRef<'a>>
+pub(crate) fn lent<'a>(value: &'a Option<Evaluated<'_>>) -> Option<ValueRef<'a>>
     ensures { option_map lent_value result ≡ option_map evaluated_view value.now }
 {
     match value {
@@ -74,27 +68,25 @@ pub(crate) fn taken_as<'a>(
     }
 }
 
-/// The same, to be kept.
-pub(crate) fn late_as<'a>(taking: Taking<'_>, value: Option<Evaluated<'a>>) -> Option<LateTaken<'a>>
-    ensures { late_view result ≡ taken_with (taking_view taking.entry) (option_map evaluated_view value.entry) }
+/// For which aggregate something is taken, if for one.
+pub(crate) fn aggregate_of(taking: Taking<'_>) -> Option<u32>
+    ensures { result ≡ aggregate_for (taking_view taking.entry) }
 {
     match taking {
         Taking::Nothing => None,
-        Taking::Row(aggregate) | Taking::Value(aggregate, _) => {
-            Some(LateTaken { aggregate, value })
-        }
+        Taking::Row(aggregate) | Taking::Value(aggregate, _) => Some(aggregate),
     }
 }
 
-/// What was taken, lent.
-pub(crate) fn lent_taken<'a>(taken: &'a Option<LateTaken<'_>>) -> Option<Taken<'a>>
-    ensures { option_map taken_view result ≡ late_view taken.now }
+/// What is taken for an aggregate, if for one, where its value is this one.
+pub(crate) fn taken_for<'a>(
+    aggregate: Option<u32>,
+    value: Option<ValueRef<'a>>,
+) -> Option<Taken<'a>>
+    ensures { option_map taken_view result ≡ meant_taken aggregate (option_map lent_value value.entry) }
 {
-    match taken {
-        Some(taken) => Some(Taken {
-            aggregate: taken.aggregate,
-            value: lent(&taken.value),
-        }),
+    match aggregate {
         None => None,
+        Some(aggregate) => Some(Taken { aggregate, value }),
     }
 }

@@ -60,9 +60,7 @@ fn stripe_records<S: Source>(
 {
     let mut striper = Striper::new(alloc, slice::from_ref(field))?;
     let mut records = Records::new(alloc, schema, MOST_STRIPED)?;
-    'lines: while let Some(record) = records.next(source)? {
-        striper.add_held(record.part())?;
-    }
+    'lines: while records.stripe_next(source, &mut striper)? {}
     Ok(only_column(striper))
 }
 

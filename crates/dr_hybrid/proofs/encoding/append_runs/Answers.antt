@@ -1,6 +1,5 @@
 use Rattle.std.proofs.Common.{◌≡◌, ℕ, List, ◌+◌, ◌-◌, ◌∙◌, ◌++◌, suc, length, drop, take, get_or, arith, ap, sym, subst, ◌≤◌, ◌⊎◌}
 use Rattle.std.specs.Prelude.{min}
-use Rattle.std.proofs.lemmas.List.{length-drop}
 use Rattle.dr_formats.specs.Hybrid.{equal_front, group_of}
 use Rattle.dr_hybrid.specs.Writing.{AreBelow}
 use Rattle.dr_hybrid.proofs.NumberLemmas.{Told, length-numbers, number_read, numbers_rest, length_rest}

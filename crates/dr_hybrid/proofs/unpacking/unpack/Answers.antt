@@ -5,6 +5,3 @@ use Rattle.dr_hybrid.proofs.unpacking.unpack.Goals as goal
 
 pub unpack_narrow-requires-clause-held : goal.unpack_narrow-requires-clause-held
 unpack_narrow-requires-clause-held g c = omega (arith, mask_is c.args.width c.requires.narrow, pow_mono c.requires.held, pow_pos c.args.width)
-
-pub unpack_wide-requires-clause-held : goal.unpack_wide-requires-clause-held
-unpack_wide-requires-clause-held g c = omega (arith, mask_is c.args.width c.requires.narrow, pow_mono c.requires.held, pow_pos c.args.width)

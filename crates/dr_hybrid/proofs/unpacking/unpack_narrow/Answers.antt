@@ -1,4 +1,4 @@
-use Rattle.std.proofs.Common.{rules, ◌≡◌, ◌+◌, ◌-◌, ◌*◌, ◌≤◌, ◌∙◌, ℕ, List, subst, sym, arith, ap, take, drop, length, length-take, length-drop}
+use Rattle.std.proofs.Common.{rules, ◌≡◌, ◌+◌, ◌-◌, ◌*◌, ◌≤◌, ◌∙◌, ℕ, List, subst, sym, arith, ap, take, drop, length}
 use Rattle.std.proofs.lemmas.List.{take_rest}
 use Rattle.dr_bytes.proofs.BitLemmas.{unpacked_front}
 use Rattle.dr_formats.specs.LittleEndian.{little_endian, unpacked}

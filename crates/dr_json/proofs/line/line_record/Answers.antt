@@ -1,27 +1,20 @@
-use Rattle.std.proofs.Common.{◌≡◌, List, Ok, ap, sym, ◌∙◌, subst, true≢false}
-use Rattle.serde_json.specs.Errors.{IsMemory}
-use Rattle.serde_json.specs.Find.{as_object}
-use Rattle.serde_json.specs.View.{view}
-use Rattle.dr_meaning.specs.JsonRecord as meant
+use Rattle.std.proofs.Common.{◌≡◌, List, true, ap, subst}
+use Rattle.json.specs.Json.{Members}
+use Rattle.json.specs.Value.{members_view}
+use Rattle.dr_meaning.specs.Schema.{Fields}
 use Rattle.dr_nested.specs.declared.shape.Field.{Field}
 use Rattle.dr_nested.specs.Views.{fields_view}
-use Rattle.dr_json.specs.Held.{object_held}
-use Rattle.dr_json.proofs.LineLemmas.{line_read, line_refused}
+use Rattle.dr_json.specs.Plain.{PlainRecord}
+use Rattle.dr_json.proofs.LineLemmas.{line_plain, where_some}
+use Rattle.dr_json.proofs.RawLemmas.{Pair}
 use Rattle.dr_json.proofs.line.line_record.Goals as goal
 
-pub returns-in-Ok-check_record-clause-record : goal.returns-in-Ok-check_record-clause-record
-returns-in-Ok-check_record-clause-record c =
-    let d = view c.in-Ok.value in
-    let P : List Field → Type 0 = λ fs. meant.record_of_value (fields_view fs) d ≡ Ok (object_held (fields_view fs) (as_object d)) in
-    line_read (fields_view c.args.schema.now.fields.items) c.args.line.now d c.in-Ok.ensures.ok.0 c.in-Ok.ensures.ok.1 ∙ subst P c.deref.ensures.value c.in-Ok-check_record.ensures
-
-pub returns-in-Ok-clause-record : goal.returns-in-Ok-clause-record
-returns-in-Ok-clause-record c =
-    let d = view c.in-Ok.value in
-    line_read (fields_view c.args.schema.now.fields.items) c.args.line.now d c.in-Ok.ensures.ok.0 c.in-Ok.ensures.ok.1
-    ∙ sym (ap (λ (fs : List Field). meant.record_of_value (fields_view fs) d) c.deref.ensures.value) ∙ c.in-Err-check_record.ensures
-
-pub returns-clause-record : goal.returns-clause-record
-returns-clause-record c =
-    let refused = λ (m : IsMemory c.in-Err.error). true≢false (sym (c.is_memory.ensures.1 m) ∙ c.if-is_memory.false) in
-    line_refused (fields_view c.args.schema.now.fields.items) c.args.line.now (c.in-Err.ensures.err refused)
+pub returns-then-is_plain_record-clause-record : goal.returns-then-is_plain_record-clause-record
+returns-then-is_plain_record-clause-record c =
+    let fs = fields_view c.args.schema.now.fields.items in
+    let ms = members_view c.in-Some.members.items in
+    let fields : fields_view c.deref.result.now ≡ fs = ap (λ (x : List Field). fields_view x) c.deref.ensures.value in
+    let members : members_view c.deref-in-Some.result.now ≡ ms = ap (λ (x : List Pair). members_view x) c.deref-in-Some.ensures.value in
+    let plain = subst (PlainRecord (fields_view c.deref.result.now) (members_view c.deref-in-Some.result.now)) c.if-is_plain_record.true c.is_plain_record.ensures in
+    line_plain fs c.args.line.now ms (where_some _ c.in_ok-members.field-0 c.in-Some.members c.in-Some.is c.in_ok-members.ensures)
+    (subst (λ (x : Fields). PlainRecord x ms true) fields (subst (λ (x : Members). PlainRecord (fields_view c.deref.result.now) x true) members plain))

@@ -1,10 +1,10 @@
-use Rattle.std.proofs.Common.{arith, refl}
-use Rattle.std.proofs.lemmas.Grind.{common_steps}
-use Rattle.dr_plain.proofs.ReadSteps.{truths_more}
+use Rattle.std.proofs.Common.{◌-◌, ◌∙◌, ◌++◌, List, Bool, ap, arith, map}
+use Rattle.dr_meaning.specs.Record.{bool_value}
+use Rattle.dr_plain.specs.Pieces.{bits_of}
+use Rattle.dr_plain.proofs.ReadSteps.{truths_all}
 use Rattle.dr_plain.proofs.reading.append_bools.Goals as goal
 
-pub bits-preserved : goal.bits-preserved
-bits-preserved c = record {
-  room = omega arith;
-  read = truths_more _ c.args.out.now.items c.bits.out.items c.push_reserved.new.self.items c.bits.index _ (λ i. omega (arith, c.type_inv.packed i)) (grind (arith, common_steps)) refl c.push_reserved.ensures.items c.bits.invariant.read;
-}
+pub returns-clause-read : goal.returns-clause-read
+returns-clause-read c =
+    truths_all c.args.count c.bytes_of_bits.result c.args.bytes.now c.args.out.now.items c.push_bits.new.out.items c.bytes_of_bits.ensures (omega arith)
+    (c.push_bits.ensures ∙ ap (λ (xs : List Bool). map bool_value xs ++ bits_of c.args.bytes.now 0 (c.args.count - 0)) c.reserve.ensures.items)

@@ -1,118 +1,152 @@
-use Rattle.std.proofs.Common.{List, map, length, subst, sym, ap, ◌∙◌, Err}
-use Rattle.dr_formats.specs.Opening.{reader_ranges}
+use Rattle.std.proofs.Common.{ℕ, List, map, length, subst, sym, ap, ◌∙◌}
 use Rattle.dr_formats.specs.Writing.{triplet_count}
-use Rattle.dr_levels.specs.Views.{columns_view}
 use Rattle.dr_nested.specs.SchemaView.{schema_view}
 use Rattle.dr_nested.specs.PathView.{path_view}
 use Rattle.dr_nested.specs.declared.path.Path.{Path}
-use Rattle.dr_outside.specs.Telling.{AsksOnly}
+use Rattle.dr_formats.specs.Opening.{reader_ranges}
+use Rattle.dr_outside.specs.Telling.{AsksOnly, Serves}
 use Rattle.dr_file.specs.Asking.{is_request_for}
-use Rattle.dr_file.specs.OpenedFiles.{is_link_fault}
-use Rattle.dr_file.proofs.LeavingLemmas.{same_fault_leaves, value_leaves, refused_leaves}
+use Rattle.dr_file.specs.OpenedFiles.{rows_of}
+use Rattle.dr_file.specs.Leaving.{ServesOpened}
+use Rattle.dr_file.proofs.LeavingLemmas.{same_fault_leaves, value_leaves, then_leaves, serves_opened}
 use Rattle.dr_group.specs.Partials.{partial_view}
 use Rattle.dr_plan.specs.Planned.{plan_leaves}
 use Rattle.dr_tablets.specs.Counting.{counted}
 use Rattle.dr_tablets.specs.FileRecords.{IsFaultOf}
-use Rattle.dr_tablets.proofs.ColumnsLemmas.{err_is}
+use Rattle.dr_tablets.proofs.AskedLemmas.{opening_asked, file_asked, columns_there}
+use Rattle.dr_tablets.proofs.ColumnsLemmas.{err_is, never_falls}
 use Rattle.dr_tablets.proofs.CopyLemmas.{not_absent}
 use Rattle.dr_tablets.proofs.FewLemmas.{taken_counted}
-use Rattle.dr_tablets.proofs.RecordsLemmas.{assembled_alone}
+use Rattle.dr_tablets.proofs.RecordsLemmas.{opened_fault}
 use Rattle.dr_scan.proofs.LiteralLemmas.{sums_small}
-use Rattle.dr_scan.proofs.ScanLemmas.{plan_has_leaves, of_plan_leaves, gives_partial, stands_for_records, stands_for_bytes, columns_counted, columns_fault, gives_few, truth_is}
+use Rattle.dr_scan.proofs.ScanLemmas.{gives_partial, stands_for_records, stands_for_bytes, columns_counted, gives_few, truth_is}
+use Rattle.dr_scan.proofs.FileLemmas.{told_then, opened_columns}
 use Rattle.dr_scan.proofs.scanning.scan.Goals as goal
 
-pub partial_of_columns-requires : goal.partial_of_columns-requires
-partial_of_columns-requires g c = record { planned = c.requires.planned; lengths = c.in_ok-file.ensures.lengths ∙ ap length c.deref.ensures.value }
+pub partial_of_opened-requires : goal.partial_of_opened-requires
+partial_of_opened-requires g c = record { planned = c.requires.planned; count = c.in_ok-opened.ensures.count ∙ ap length c.deref.ensures.value }
 
-pub returns-in-Ok-clause-partial : goal.returns-in-Ok-clause-partial
-returns-in-Ok-clause-partial g c = λ q is.
-    let file = c.in_ok-file.file in
-    gives_partial (schema_view c.args.schema.now) q c.args.plan.now (columns_view file.columns.items) file.rows (partial_view c.in-Ok.partial) is c.in-Ok.ensures.partial
+pub returns-clause-partial : goal.returns-clause-partial
+returns-clause-partial g c = λ q is.
+    let w = c.in_ok-made.ensures.partial in
+    gives_partial (schema_view c.args.schema.now) q c.args.plan.now w.columns (rows_of c.in_ok-opened.opened) (partial_view c.in_ok-made.made.partial) is w.partial
 
-pub returns-in-Ok-clause-bounded : goal.returns-in-Ok-clause-bounded
-returns-in-Ok-clause-bounded g c =
-    let file = c.in_ok-file.file in
-    gives_few (schema_view c.args.schema.now) c.args.plan.now (columns_view file.columns.items) file.rows (partial_view c.in-Ok.partial) c.requires.planned c.in-Ok.ensures.partial c.in_ok-file.ensures.short c.in_ok-file.ensures.few
-    (sums_small c.args.plan.now)
+pub returns-clause-bounded : goal.returns-clause-bounded
+returns-clause-bounded g c =
+    let w = c.in_ok-made.ensures.partial in
+    let o = c.in_ok-opened.opened in
+    gives_few (schema_view c.args.schema.now) c.args.plan.now w.columns (rows_of o) (partial_view c.in_ok-made.made.partial) c.requires.planned w.partial w.short o.few (sums_small c.args.plan.now)
 
-pub returns-in-Ok-clause-records : goal.returns-in-Ok-clause-records
-returns-in-Ok-clause-records g c = λ q is.
-    let file = c.in_ok-file.file in
-    stands_for_records (schema_view c.args.schema.now) q c.args.plan.now (columns_view file.columns.items) file.rows (partial_view c.in-Ok.partial) is c.in-Ok.ensures.partial
+pub returns-clause-of_plan : goal.returns-clause-of_plan
+returns-clause-of_plan g c = c.in_ok-made.ensures.partial.of_plan
 
-pub returns-in-Ok-clause-stands : goal.returns-in-Ok-clause-stands
-returns-in-Ok-clause-stands g c = λ bytes tells q is.
+pub returns-clause-records : goal.returns-clause-records
+returns-clause-records g c = λ q is.
+    let w = c.in_ok-made.ensures.partial in
+    stands_for_records (schema_view c.args.schema.now) q c.args.plan.now w.columns (rows_of c.in_ok-opened.opened) (partial_view c.in_ok-made.made.partial) is w.partial
+
+pub returns-clause-stands : goal.returns-clause-stands
+returns-clause-stands g c = λ bytes tells q is.
     let s = schema_view c.args.schema.now in
     let p = c.args.plan.now in
-    let file = c.in_ok-file.file in
-    let cs = columns_view file.columns.items in
-    stands_for_bytes s q p cs file.rows (partial_view c.in-Ok.partial) bytes is c.in-Ok.ensures.partial
-    (of_plan_leaves bytes s p c.deref.result.now cs file.rows c.deref.ensures.value (c.in_ok-file.ensures.columns bytes s tells))
+    let o = c.in_ok-opened.opened in
+    let w = c.in_ok-made.ensures.partial in
+    let told = told_then c.deref.result.now p o (g.L.Link.shows c.args.link.now) (g.L.Link.shows c.start.new.link) c.args.path.now bytes c.deref.ensures.value c.in_ok-opened.ensures.path c.start.ensures.link.same (c.in_ok-opened.ensures.opened bytes tells) tells in
+    stands_for_bytes s q p w.columns (rows_of o) (partial_view c.in_ok-made.made.partial) bytes is w.partial (opened_columns bytes s p (g.L.Link.shows c.start.new.link).held o c.in_ok-made.made w told)
 
-pub returns-in-Ok-clause-truth : goal.returns-in-Ok-clause-truth
-returns-in-Ok-clause-truth g c = λ q is.
+pub returns-clause-truth : goal.returns-clause-truth
+returns-clause-truth g c = λ q is.
     let s = schema_view c.args.schema.now in
     let p = c.args.plan.now in
-    let file = c.in_ok-file.file in
-    let cs = columns_view file.columns.items in
-    let x = partial_view c.in-Ok.partial in
-    let o = c.in-Ok.ensures.partial in
-    truth_is s q (g.L.Link.shows c.args.link.now).held c.args.path.now x (gives_partial s q p cs file.rows x is o)
-    (gives_few s p cs file.rows x c.requires.planned o c.in_ok-file.ensures.short c.in_ok-file.ensures.few (sums_small p))
-    (λ bytes tells. stands_for_bytes s q p cs file.rows x bytes is o (of_plan_leaves bytes s p c.deref.result.now cs file.rows c.deref.ensures.value (c.in_ok-file.ensures.columns bytes s tells)))
-    (λ lacks. not_absent (c.in_ok-file.ensures.absent lacks (λ e. cc)))
+    let o = c.in_ok-opened.opened in
+    let w = c.in_ok-made.ensures.partial in
+    let x = partial_view c.in_ok-made.made.partial in
+    truth_is s q (g.L.Link.shows c.args.link.now).held c.args.path.now x (gives_partial s q p w.columns (rows_of o) x is w.partial)
+    (gives_few s p w.columns (rows_of o) x c.requires.planned w.partial w.short o.few (sums_small p))
+    (λ bytes tells.
+    let told = told_then c.deref.result.now p o (g.L.Link.shows c.args.link.now) (g.L.Link.shows c.start.new.link) c.args.path.now bytes c.deref.ensures.value c.in_ok-opened.ensures.path c.start.ensures.link.same (c.in_ok-opened.ensures.opened bytes tells) tells in
+    stands_for_bytes s q p w.columns (rows_of o) x bytes is w.partial (opened_columns bytes s p (g.L.Link.shows c.start.new.link).held o c.in_ok-made.made w told))
+    (λ lacks. not_absent (c.in_ok-opened.ensures.absent lacks (λ e. cc)))
 
-pub returns-in_err-file-clause-cause : goal.returns-in_err-file-clause-cause
-returns-in_err-file-clause-cause g c = λ bytes tells.
+pub returns-in_err-opened-clause-cause : goal.returns-in_err-opened-clause-cause
+returns-in_err-opened-clause-cause g c = λ bytes tells.
     let s = schema_view c.args.schema.now in
     let p = c.args.plan.now in
-    let ls = c.deref.result.now in
-    err_is (IsFaultOf bytes s (plan_leaves p)) _ c.in_err-file.field-0.0 c.from_residual.ensures.1
-    (subst (λ (ms : List Path). IsFaultOf bytes s (map path_view ms) c.in_err-file.field-0.0) c.deref.ensures.value (c.in_err-file.ensures.cause bytes s tells (plan_has_leaves s p ls c.requires.planned c.deref.ensures.value)))
+    err_is (IsFaultOf bytes s (plan_leaves p)) _ c.in_err-opened.field-0.0 c.from_residual.ensures.1
+    (subst (λ (ms : List Path). IsFaultOf bytes s (map path_view ms) c.in_err-opened.field-0.0) c.deref.ensures.value
+    (opened_fault bytes s (map path_view c.deref.result.now) c.in_err-opened.field-0.0 (c.in_err-opened.ensures.cause bytes tells)))
 
-pub returns-clause-cause : goal.returns-clause-cause
-returns-clause-cause g c = λ bytes tells.
+pub returns-in_err-made-clause-cause : goal.returns-in_err-made-clause-cause
+returns-in_err-made-clause-cause g c = λ bytes tells.
     let s = schema_view c.args.schema.now in
     let p = c.args.plan.now in
-    let file = c.in_ok-file.file in
-    let cs = columns_view file.columns.items in
-    subst (IsFaultOf bytes s (plan_leaves p)) (sym c.file_fault.ensures)
-    (columns_fault bytes s p cs file.rows c.in-Err.fault (of_plan_leaves bytes s p c.deref.result.now cs file.rows c.deref.ensures.value (c.in_ok-file.ensures.columns bytes s tells))
-    (λ e. c.in-Err.ensures.none (ap Err e)))
+    let told = told_then c.deref.result.now p c.in_ok-opened.opened (g.L.Link.shows c.args.link.now) (g.L.Link.shows c.start.new.link) c.args.path.now bytes c.deref.ensures.value c.in_ok-opened.ensures.path c.start.ensures.link.same (c.in_ok-opened.ensures.opened bytes tells) tells in
+    err_is (IsFaultOf bytes s (plan_leaves p)) _ c.in_err-made.field-0.0 c.from_residual-in_err-made.ensures.1 (c.in_err-made.ensures.cause bytes told)
 
-pub returns-in_err-file-clause-link : goal.returns-in_err-file-clause-link
-returns-in_err-file-clause-link g c = same_fault_leaves _ c.in_err-file.field-0.0 _ _ _ c.from_residual.ensures.1 c.in_err-file.ensures.link
+pub returns-in_err-opened-clause-link : goal.returns-in_err-opened-clause-link
+returns-in_err-opened-clause-link g c = same_fault_leaves _ c.in_err-opened.field-0.0 _ _ _ c.from_residual.ensures.1 c.in_err-opened.ensures.link
 
-pub returns-in-Ok-clause-link : goal.returns-in-Ok-clause-link
-returns-in-Ok-clause-link g c = value_leaves c.in_ok-file.file _ _ _ _ c.in_ok-file.ensures.link
+pub returns-in_err-made-clause-link : goal.returns-in_err-made-clause-link
+returns-in_err-made-clause-link g c =
+    let before = g.L.Link.shows c.args.link.now in
+    let between = g.L.Link.shows c.start.new.link in
+    let start = c.start.ensures.link in
+    let o = c.in_ok-opened.opened in
+    let opened = c.in_ok-opened.ensures in
+    then_leaves o _ (Serves before c.args.path.now) (ServesOpened between o) before between _ opened.link
+    (λ bytes s. serves_opened o before between c.args.path.now (map path_view c.deref.result.now) bytes opened.path start.same start.stays_steady (opened.opened bytes s.1) s)
+    (same_fault_leaves _ c.in_err-made.field-0.0 _ _ _ c.from_residual-in_err-made.ensures.1 c.in_err-made.ensures.link)
 
 pub returns-clause-link : goal.returns-clause-link
 returns-clause-link g c =
-    refused_leaves c.in_ok-file.file _ _ _ _ (ap is_link_fault c.file_fault.ensures ∙ assembled_alone c.in-Err.fault) c.in_ok-file.ensures.link
+    let before = g.L.Link.shows c.args.link.now in
+    let between = g.L.Link.shows c.start.new.link in
+    let start = c.start.ensures.link in
+    let o = c.in_ok-opened.opened in
+    let opened = c.in_ok-opened.ensures in
+    then_leaves o _ (Serves before c.args.path.now) (ServesOpened between o) before between _ opened.link
+    (λ bytes s. serves_opened o before between c.args.path.now (map path_view c.deref.result.now) bytes opened.path start.same start.stays_steady (opened.opened bytes s.1) s)
+    (value_leaves c.in_ok-made.made _ _ _ _ c.in_ok-made.ensures.link)
 
-pub returns-in_err-file-clause-asked : goal.returns-in_err-file-clause-asked
-returns-in_err-file-clause-asked g c = λ bytes tells.
-    subst (λ (ls : List Path). AsksOnly (is_request_for c.args.path.now (reader_ranges bytes (map path_view ls))) (g.L.Link.shows c.args.link.now).asked (g.L.Link.shows c.read_file_columns.new.link).asked) c.deref.ensures.value
-    (c.read_file_columns.ensures.asked bytes tells)
+pub returns-in_err-opened-clause-never_falls : goal.returns-in_err-opened-clause-never_falls
+returns-in_err-opened-clause-never_falls g c = never_falls _ _ _ _ (returns-in_err-opened-clause-link g c)
 
-pub returns-in-Ok-clause-asked : goal.returns-in-Ok-clause-asked
-returns-in-Ok-clause-asked g c = λ bytes tells.
-    subst (λ (ls : List Path). AsksOnly (is_request_for c.args.path.now (reader_ranges bytes (map path_view ls))) (g.L.Link.shows c.args.link.now).asked (g.L.Link.shows c.read_file_columns.new.link).asked) c.deref.ensures.value
-    (c.read_file_columns.ensures.asked bytes tells)
+pub returns-in_err-made-clause-never_falls : goal.returns-in_err-made-clause-never_falls
+returns-in_err-made-clause-never_falls g c = never_falls _ _ _ _ (returns-in_err-made-clause-link g c)
+
+pub returns-clause-never_falls : goal.returns-clause-never_falls
+returns-clause-never_falls g c = never_falls _ _ _ _ (returns-clause-link g c)
+
+pub returns-in_err-opened-clause-asked : goal.returns-in_err-opened-clause-asked
+returns-in_err-opened-clause-asked g c = λ bytes tells.
+    subst (λ (ls : List Path). AsksOnly (is_request_for c.args.path.now (reader_ranges bytes (map path_view ls))) (g.L.Link.shows c.args.link.now).asked (g.L.Link.shows c.start.new.link).asked) c.deref.ensures.value
+    (opening_asked c.args.path.now bytes (map path_view c.deref.result.now) _ _ (c.start.ensures.asked bytes tells))
+
+pub returns-in_err-made-clause-asked : goal.returns-in_err-made-clause-asked
+returns-in_err-made-clause-asked g c = λ bytes tells.
+    let p = c.args.plan.now in
+    let told = told_then c.deref.result.now p c.in_ok-opened.opened (g.L.Link.shows c.args.link.now) (g.L.Link.shows c.start.new.link) c.args.path.now bytes c.deref.ensures.value c.in_ok-opened.ensures.path c.start.ensures.link.same (c.in_ok-opened.ensures.opened bytes tells) tells in
+    file_asked c.args.path.now _ bytes (plan_leaves p) told.0.1.0 _ _ _ c.in_ok-opened.ensures.path told.0.1.1 (c.start.ensures.asked bytes tells) (c.partial_of_opened.ensures.asked bytes told.0.1.0 told told.0.1.1)
 
 pub returns-clause-asked : goal.returns-clause-asked
 returns-clause-asked g c = λ bytes tells.
-    subst (λ (ls : List Path). AsksOnly (is_request_for c.args.path.now (reader_ranges bytes (map path_view ls))) (g.L.Link.shows c.args.link.now).asked (g.L.Link.shows c.read_file_columns.new.link).asked) c.deref.ensures.value
-    (c.read_file_columns.ensures.asked bytes tells)
+    let p = c.args.plan.now in
+    let told = told_then c.deref.result.now p c.in_ok-opened.opened (g.L.Link.shows c.args.link.now) (g.L.Link.shows c.start.new.link) c.args.path.now bytes c.deref.ensures.value c.in_ok-opened.ensures.path c.start.ensures.link.same (c.in_ok-opened.ensures.opened bytes tells) tells in
+    file_asked c.args.path.now _ bytes (plan_leaves p) told.0.1.0 _ _ _ c.in_ok-opened.ensures.path told.0.1.1 (c.start.ensures.asked bytes tells) (c.partial_of_opened.ensures.asked bytes told.0.1.0 told told.0.1.1)
 
-pub returns-in-Ok-clause-counted : goal.returns-in-Ok-clause-counted
-returns-in-Ok-clause-counted g c = λ bytes R tells is.
+pub returns-in_err-made-clause-paths : goal.returns-in_err-made-clause-paths
+returns-in_err-made-clause-paths g c = columns_there c.args.path.now _ _ _ _ c.in_ok-opened.ensures.path c.start.ensures.paths c.partial_of_opened.ensures.paths
+
+pub returns-clause-paths : goal.returns-clause-paths
+returns-clause-paths g c = columns_there c.args.path.now _ _ _ _ c.in_ok-opened.ensures.path c.start.ensures.paths c.partial_of_opened.ensures.paths
+
+pub returns-clause-counted : goal.returns-clause-counted
+returns-clause-counted g c = λ bytes R tells is.
     let s = schema_view c.args.schema.now in
     let p = c.args.plan.now in
-    let file = c.in_ok-file.file in
-    let cs = columns_view file.columns.items in
-    let read = c.in_ok-file.ensures.counted ∙ ap (λ n. counted n (triplet_count cs)) c.new-read.ensures in
-    taken_counted _ _ _ _ c.add.ensures (c.taken.ensures ∙ read)
+    let o = c.in_ok-opened.opened in
+    let w = c.in_ok-made.ensures.partial in
+    let told = told_then c.deref.result.now p o (g.L.Link.shows c.args.link.now) (g.L.Link.shows c.start.new.link) c.args.path.now bytes c.deref.ensures.value c.in_ok-opened.ensures.path c.start.ensures.link.same (c.in_ok-opened.ensures.opened bytes tells) tells in
+    taken_counted _ _ _ _ c.add.ensures w.so_many
     ∙ ap (counted c.args.steps.now)
-    (columns_counted bytes s p cs file.rows (partial_view c.in-Ok.partial) R c.in-Ok.ensures.partial
-    (of_plan_leaves bytes s p c.deref.result.now cs file.rows c.deref.ensures.value (c.in_ok-file.ensures.columns bytes s tells)) is)
+    (columns_counted bytes s p w.columns (rows_of o) (partial_view c.in_ok-made.made.partial) R w.partial (opened_columns bytes s p (g.L.Link.shows c.start.new.link).held o c.in_ok-made.made w told) is)

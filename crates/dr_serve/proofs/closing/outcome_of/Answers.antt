@@ -1,22 +1,19 @@
 use Rattle.dr_table.specs.Views.{table_view}
-use Rattle.dr_serve.proofs.LinkLemmas.{worked_none, tablet_worked}
+use Rattle.dr_serve.proofs.LinkLemmas.{tablet_worked}
 use Rattle.dr_serve.proofs.OutcomeLemmas.{scan_outcome, scan_rises}
 use Rattle.dr_serve.proofs.closing.outcome_of.Goals as goal
 
-pub returns-in-None-clause-outcome : goal.returns-in-None-clause-outcome
-returns-in-None-clause-outcome g c =
-    scan_outcome (table_view c.args.table.now) c.args.plan.now g.N.Naming.is_true (g.L.Link.shows c.args.link.now) (g.L.Link.shows c.scan_tablet.new.link) c.args.tablet c.scan_tablet.result
+pub returns-clause-outcome : goal.returns-clause-outcome
+returns-clause-outcome g c =
+    scan_outcome (table_view c.args.table.now) c.args.plan.now g.S.Service.is_true (g.L.Link.shows c.args.link.now) (g.L.Link.shows c.scan_tablet.new.link) c.args.tablet c.scan_tablet.result
     c.requires.planned c.requires.tablet c.requires.truth c.scan_tablet.ensures.read c.scan_tablet.ensures.partial c.scan_tablet.ensures.bounded c.scan_tablet.ensures.of_plan
 
-pub returns-in-None-clause-rises : goal.returns-in-None-clause-rises
-returns-in-None-clause-rises g c =
-    scan_rises (table_view c.args.table.now) c.args.plan.now g.N.Naming.is_true (g.L.Link.shows c.args.link.now) (g.L.Link.shows c.scan_tablet.new.link) c.args.tablet c.scan_tablet.result
+pub returns-clause-rises : goal.returns-clause-rises
+returns-clause-rises g c =
+    scan_rises (table_view c.args.table.now) c.args.plan.now g.S.Service.is_true (g.L.Link.shows c.args.link.now) (g.L.Link.shows c.scan_tablet.new.link) c.args.tablet c.scan_tablet.result
     c.requires.planned c.scan_tablet.ensures.never_falls c.scan_tablet.ensures.read
 
-pub returns-in-None-clause-link : goal.returns-in-None-clause-link
-returns-in-None-clause-link g c =
+pub returns-clause-link : goal.returns-clause-link
+returns-clause-link g c =
     tablet_worked (table_view c.args.table.now) c.args.plan.now (g.L.Link.shows c.args.link.now) (g.L.Link.shows c.scan_tablet.new.link) c.args.tablet c.requires.tablet
     c.scan_tablet.ensures.asks c.scan_tablet.ensures.same c.scan_tablet.ensures.never_falls c.scan_tablet.ensures.stays_steady
-
-pub returns-in-Some-clause-link : goal.returns-in-Some-clause-link
-returns-in-Some-clause-link g c = worked_none (table_view c.args.table.now) c.args.plan.now (g.L.Link.shows c.args.link.now)

@@ -1,15 +1,31 @@
 use Rattle.std.proofs.Common.{Option, sym, subst}
 use Rattle.dr_outside.specs.Link.{Files}
 use Rattle.dr_table.specs.Views.{table_view}
+use Rattle.dr_tablets.specs.Views.{all_left_view}
+use Rattle.dr_tree.specs.Views.{tree_view}
 use Rattle.dr_serve.specs.Working.{TakesFrom}
-use Rattle.dr_serve.proofs.ServingLemmas.{first_worked}
+use Rattle.dr_serve.proofs.ServingLemmas.{first_worked, closed_after, both_ok}
 use Rattle.dr_serve.proofs.serving.closed.Goals as goal
+
+pub served-requires-clause-grown : goal.served-requires-clause-grown
+served-requires-clause-grown g c κs within = (c.requires.grown c.in_ok-none.none.grown c.in_ok-none.none.has_piece.items).1 c.in_ok-none.ensures
 
 pub close-requires-clause-truth : goal.close-requires-clause-truth
 close-requires-clause-truth g c =
     let first = c.index-links-0.result in
     let worked = c.served.ensures.links 0 first c.requires.some in
-    subst (λ (x : Option Files). TakesFrom (table_view c.args.table.now) c.args.plan.now g.N.Naming.is_true x) (sym worked.same) (c.requires.truth 0 first c.requires.some)
+    subst (λ (x : Option Files). TakesFrom (table_view c.args.table.now) c.args.plan.now g.S.Service.is_true x) (sym worked.same) (c.requires.truth 0 first c.requires.some)
+
+pub close-requires-clause-found : goal.close-requires-clause-found
+close-requires-clause-found g c =
+    let found = (c.requires.grown c.in_ok-answered.answered.grown c.in_ok-answered.answered.has_piece.items).0 c.in_ok-answered.ensures.grown in (tree_view c.args.tree.now, found.0, found.1, found.2)
+
+pub returns-clause-closes : goal.returns-clause-closes
+returns-clause-closes g c =
+    let found = (c.requires.grown c.in_ok-answered.answered.grown c.in_ok-answered.answered.has_piece.items).0 c.in_ok-answered.ensures.grown in
+    both_ok c.close.result (c.close.ensures.closes (tree_view c.args.tree.now) found.0 found.1 found.2) c.close.ensures.rises (λ x h k l.
+    closed_after g.L.Link.shows (table_view c.args.table.now) c.args.plan.now (tree_view c.args.tree.now) g.S.Service.is_true c.args.links.now c.served.new.links c.index-links-0.result c.close.new.link l found.0 x.grown
+    (all_left_view x.left.items) c.requires.some c.served.ensures.count c.served.ensures.links h k)
 
 pub returns-clause-links : goal.returns-clause-links
 returns-clause-links g c =

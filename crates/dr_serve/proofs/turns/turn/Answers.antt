@@ -1,6 +1,10 @@
-use Rattle.std.proofs.Common.{◌≡◌, List, ℕ, false, true, ◌∙◌, subst}
+use Rattle.std.proofs.Common.{◌≡◌, List, ℕ, false, true, ap, ◌∙◌, subst}
+use borrow.Enum.Total.{values_d}
 use Rattle.dr_file.specs.OpenedFiles.{HasCounts, is_link_fault}
 use Rattle.dr_file.specs.declared.file_fault.FileFault.{FileFault}
+use Rattle.dr_file.specs.contracts.file_fault.FileFault.{enum}
+use Rattle.dr_outside.specs.declared.cause.Cause.{Cause}
+use Rattle.dr_desk.specs.Calls.{IsFaultTold}
 use Rattle.dr_group.specs.Partials.{partial_view}
 use Rattle.dr_plan.specs.Planned.{plan_leaves}
 use Rattle.dr_reading.specs.Left.{IsCauseAt}
@@ -16,8 +20,8 @@ use Rattle.dr_serve.proofs.turns.turn.Goals as goal
 pub path_of-requires : goal.path_of-requires
 path_of-requires g c = (hand_of_table c.args.table.now g.N.Naming.job c.args.pass.now.seen c.args.hand c.requires.job c.requires.recorded c.requires.given).leaf_is
 
-pub answer-requires-clause-truth : goal.answer-requires-clause-truth
-answer-requires-clause-truth g c =
+pub add-requires-clause-truth : goal.add-requires-clause-truth
+add-requires-clause-truth g c =
     let t = table_view c.args.table.now in
     let at : c.as_str.result.now ≡ hand_path t c.args.hand = c.as_str.ensures.value ∙ c.in_ok-path.ensures in
     let of = hand_of_table c.args.table.now g.N.Naming.job c.args.pass.now.seen c.args.hand c.requires.job c.requires.recorded c.requires.given in
@@ -46,6 +50,12 @@ returns-clause-link g c =
     (hand_of_table c.args.table.now g.N.Naming.job c.args.pass.now.seen c.args.hand c.requires.job c.requires.recorded c.requires.given) (c.as_str.ensures.value ∙ c.in_ok-path.ensures)
     c.scan.ensures.asked c.scan.ensures.asked_absent c.scan.ensures.paths c.scan.ensures.link.same c.scan.ensures.never_falls c.scan.ensures.link.stays_steady
 
+pub returns-in_err-add-in-Ok-clause-link : goal.returns-in_err-add-in-Ok-clause-link
+returns-in_err-add-in-Ok-clause-link g c =
+    scan_worked (table_view c.args.table.now) c.args.plan.now c.args.hand c.as_str.result.now (g.L.Link.shows c.args.link.now) (g.L.Link.shows c.scan.new.link)
+    (hand_of_table c.args.table.now g.N.Naming.job c.args.pass.now.seen c.args.hand c.requires.job c.requires.recorded c.requires.given) (c.as_str.ensures.value ∙ c.in_ok-path.ensures)
+    c.scan.ensures.asked c.scan.ensures.asked_absent c.scan.ensures.paths c.scan.ensures.link.same c.scan.ensures.never_falls c.scan.ensures.link.stays_steady
+
 pub returns-clause-told : goal.returns-clause-told
 returns-clause-told g c =
     let t = table_view c.args.table.now in
@@ -60,4 +70,5 @@ returns-clause-told g c =
     (λ lacks. subst (λ (f : FileFault). is_link_fault f ≡ true) c.in-Err-Why.field-0-is (c.in-Err-Why.ensures.absent lacks (λ e. no_memory c.in-Err-Why.field-0 c.in-Err-Why.cause c.in-Err-Why.field-0-is e)))
     (λ bytes is tells. subst (λ (f : FileFault). is_link_fault f ≡ false) c.in-Err-Why.field-0-is (c.in-Err-Why.ensures.link.steady bytes (is, tells))) in
     fault_tells (IsCauseFor t c.args.plan.now link) g.N.Naming.job c.args.hand c.in-Err-Why.cause c.args.pass.now c.fault.new.pass c.fault.result
-    (subst (λ (p : List ℕ). IsCauseAt t.schema F link p c.in-Err-Why.cause) at cause) c.fault.ensures.told
+    (subst (λ (p : List ℕ). IsCauseAt t.schema F link p c.in-Err-Why.cause) at cause)
+    (subst (λ (x : Cause). IsFaultTold g.N.Naming.job c.args.hand x c.args.pass.now c.fault.new.pass c.fault.result) (ap (λ (f : FileFault). (values_d enum 1 (Cause.ReadFailed 0 0, tt) f).0) c.in-Err-Why.field-0-is) c.fault.ensures.told)

@@ -1,7 +1,6 @@
 use Rattle.std.proofs.Common.{rules, ◌≡◌, ◌+◌, ◌-◌, ◌++◌, ◌∙◌, sym, ap, subst, arith, length, take}
 use Rattle.std.proofs.lemmas.List.{take-append-drop}
 use Rattle.std.proofs.lemmas.Result.{IfOk-weaker, IfOk-at_ok}
-use Rattle.dr_partials.specs.Partials as meant
 use Rattle.dr_partials.specs.Trees.{gathered, tablets_of, tablets_of_all}
 use Rattle.dr_tree.specs.Together.{Together}
 use Rattle.dr_tree.specs.Views.{tree_view, all_views, trees_view}

@@ -10,8 +10,8 @@ returns-in-Ok-Some-clause-goes c = λ fs F C rows ms p d on.
     let old = c.args.walk.now in
     let rests = c.args.rests.now in
     let more = c.take_next-more.result in
-    let n : option_map triplet_view more ≡ next_at old.wanted (rest_at rests) = subst (λ o. option_map triplet_view more ≡ next_at o (rest_at rests)) c.wants.ensures c.take_next-more.ensures.next in
-    let r : (i : ℕ) → rest_at c.take_next-more.new.rests i ≡ rest_behind old.wanted i (rest_at rests i) = subst (λ o. (i : ℕ) → rest_at c.take_next-more.new.rests i ≡ rest_behind o i (rest_at rests i)) c.wants.ensures c.take_next-more.ensures.rests in
+    let n : option_map triplet_view more ≡ next_at old.levels.wanted (rest_at rests) = subst (λ o. option_map triplet_view more ≡ next_at o (rest_at rests)) c.wants.ensures c.take_next-more.ensures.next in
+    let r : (i : ℕ) → rest_at c.take_next-more.new.rests i ≡ rest_behind old.levels.wanted i (rest_at rests i) = subst (λ o. (i : ℕ) → rest_at c.take_next-more.new.rests i ≡ rest_behind o i (rest_at rests i)) c.wants.ensures c.take_next-more.ensures.rests in
     let comes = comes_on fs F C rows ms old rests more on n in
     let is = c.in-Ok-Some.is ∙ ap Ok c.in-Ok-Some.field-0-is in
     let at = ok_on _ c.next.result (Some c.in-Ok-Some.given) is (c.next.ensures.on F fs rows C ms on.left on.at comes) in
@@ -24,7 +24,7 @@ returns-in-Ok-Some-clause-nests c = λ fs F C rows ms p d on L e are.
     let old = c.args.walk.now in
     let rests = c.args.rests.now in
     let more = c.take_next-more.result in
-    let n : option_map triplet_view more ≡ next_at old.wanted (rest_at rests) = subst (λ o. option_map triplet_view more ≡ next_at o (rest_at rests)) c.wants.ensures c.take_next-more.ensures.next in
+    let n : option_map triplet_view more ≡ next_at old.levels.wanted (rest_at rests) = subst (λ o. option_map triplet_view more ≡ next_at o (rest_at rests)) c.wants.ensures c.take_next-more.ensures.next in
     let comes = comes_on fs F C rows ms old rests more on n in
     ok_on _ c.next.result (Some c.in-Ok-Some.given) (c.in-Ok-Some.is ∙ ap Ok c.in-Ok-Some.field-0-is) (c.next.ensures.nests F fs rows C ms on.left on.at comes L e are d)
 
@@ -33,7 +33,7 @@ returns-then-is_none-clause-goes c = λ fs F C rows ms p d on.
     let old = c.args.walk.now in
     let rests = c.args.rests.now in
     let more = c.take_next-more.result in
-    let n : option_map triplet_view more ≡ next_at old.wanted (rest_at rests) = subst (λ o. option_map triplet_view more ≡ next_at o (rest_at rests)) c.wants.ensures c.take_next-more.ensures.next in
+    let n : option_map triplet_view more ≡ next_at old.levels.wanted (rest_at rests) = subst (λ o. option_map triplet_view more ≡ next_at o (rest_at rests)) c.wants.ensures c.take_next-more.ensures.next in
     let comes = comes_on fs F C rows ms old rests more on n in
     ends_where fs F C rows ms c.next.new.self c.take_next-more.new.rests c.is_none.result (sym c.is_none.ensures ∙ ap is_some c.wants-in-Ok-None.ensures) c.if-is_none.true
     (λ z. c.next.ensures.whole F fs rows C ms on.left on.at comes p d (c.in-Ok-None.is ∙ ap Ok c.in-Ok-None.field-0-is) z)
@@ -43,8 +43,8 @@ returns-else-is_none-clause-goes c = λ fs F C rows ms p d on.
     let old = c.args.walk.now in
     let rests = c.args.rests.now in
     let more = c.take_next-more.result in
-    let n : option_map triplet_view more ≡ next_at old.wanted (rest_at rests) = subst (λ o. option_map triplet_view more ≡ next_at o (rest_at rests)) c.wants.ensures c.take_next-more.ensures.next in
-    let r : (i : ℕ) → rest_at c.take_next-more.new.rests i ≡ rest_behind old.wanted i (rest_at rests i) = subst (λ o. (i : ℕ) → rest_at c.take_next-more.new.rests i ≡ rest_behind o i (rest_at rests i)) c.wants.ensures c.take_next-more.ensures.rests in
+    let n : option_map triplet_view more ≡ next_at old.levels.wanted (rest_at rests) = subst (λ o. option_map triplet_view more ≡ next_at o (rest_at rests)) c.wants.ensures c.take_next-more.ensures.next in
+    let r : (i : ℕ) → rest_at c.take_next-more.new.rests i ≡ rest_behind old.levels.wanted i (rest_at rests i) = subst (λ o. (i : ℕ) → rest_at c.take_next-more.new.rests i ≡ rest_behind o i (rest_at rests i)) c.wants.ensures c.take_next-more.ensures.rests in
     let comes = comes_on fs F C rows ms old rests more on n in
     let is = c.in-Ok-None.is ∙ ap Ok c.in-Ok-None.field-0-is in
     let at = ok_on _ c.next.result None is (c.next.ensures.on F fs rows C ms on.left on.at comes) in
@@ -57,6 +57,6 @@ returns-in-Err-clause-goes c = λ fs F C rows ms p d on.
     let old = c.args.walk.now in
     let rests = c.args.rests.now in
     let more = c.take_next-more.result in
-    let n : option_map triplet_view more ≡ next_at old.wanted (rest_at rests) = subst (λ o. option_map triplet_view more ≡ next_at o (rest_at rests)) c.wants.ensures c.take_next-more.ensures.next in
+    let n : option_map triplet_view more ≡ next_at old.levels.wanted (rest_at rests) = subst (λ o. option_map triplet_view more ≡ next_at o (rest_at rests)) c.wants.ensures c.take_next-more.ensures.next in
     let comes = comes_on fs F C rows ms old rests more on n in
     fails_with fs F C rows ms c.next.new.self c.take_next-more.new.rests c.in-Err.fault (λ e. c.next.ensures.bad F fs rows C ms on.left on.at comes p (c.in-Err.is ∙ ap Err e))

@@ -1,4 +1,5 @@
 use Rattle.std.proofs.Common.{◌≡◌, ◌*◌, drop}
+use Rattle.dr_cells.specs.Views.{cells_view}
 use Rattle.dr_partials.specs.Putting.{put_all}
 use Rattle.dr_plan.specs.Planned.{Planned, planned_query}
 use Rattle.dr_group.specs.Partials.{partial_view, IsPartialOf}
@@ -11,6 +12,6 @@ invariant-rows l =
     record {
       of_plan : (p : Planned) → IsPartialOf p l.initial.partial → IsPartialOf p l.partial;
       puts : (p : Planned) → IsPartialOf p l.initial.partial
-          → put_all (planned_query p) (puts_view l.width (drop (l.number * l.width) l.cells) (drop l.number l.taken)) (partial_view l.partial)
-          ≡ put_all (planned_query p) (puts_view l.width l.cells l.taken) (partial_view l.initial.partial);
+          → put_all (planned_query p) (puts_view l.width (drop (l.number * l.width) (cells_view l.cells)) (drop l.number l.aggregates) (drop l.number (cells_view l.taken))) (partial_view l.partial)
+          ≡ put_all (planned_query p) (puts_view l.width (cells_view l.cells) l.aggregates (cells_view l.taken)) (partial_view l.initial.partial);
     }

@@ -11,5 +11,5 @@ returns-clause-rest g c = λ bytes told.
     ap (λ xs. drop s.from xs ++ take (s.range.start + s.range.size - (s.at + c.args.count)) (drop (s.at + c.args.count) bytes))
     (put_behind s.buffer.items c.deref_mut.result.now c.resize.new.self.items c.read_at.new.buf _ _ _ c.resize.new.self.len _ c.in-Some.length c.len-have.result c.args.count c.deref_mut.ensures.value
     (where_no_error c.resize.result c.resize.new.self.items _ s.buffer.items (search rules) c.resize.ensures.items) (omega (arith, c.in-Some.ensures)) (omega arith) (omega (arith, l)) n)
-    ∙ rest_stays (g.L.Link.shows c.args.link.now).held s.path.now bytes s.buffer.items c.read_at.new.buf s.from s.at c.args.count (s.range.start + s.range.size) told
+    ∙ rest_stays (g.L.Link.shows c.args.link.now).held c.args.path.now bytes s.buffer.items c.read_at.new.buf s.from s.at c.args.count (s.range.start + s.range.size) told
     (search rules) n s.ahead c.requires

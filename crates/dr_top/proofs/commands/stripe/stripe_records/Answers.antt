@@ -1,22 +1,20 @@
-use Rattle.std.proofs.Common.{◌≡◌, ◌+◌, ◌∷◌, [], ℕ, ap, subst, sym, refl, ◌∙◌, map, true, ◌&&◌, arith, rules}
+use Rattle.std.proofs.Common.{◌≡◌, ◌+◌, ◌∷◌, [], ℕ, ap, subst, sym, refl, ◌∙◌, map, Bool, true, false, Ok, ◌&&◌, arith, rules}
+use Rattle.std.specs.Prelude.{Result}
 use Rattle.std.specs.List.{list_all}
 use Rattle.dr_meaning.specs.Schema.{Fields}
 use Rattle.dr_meaning.specs.Path.{Leaf}
-use Rattle.dr_meaning.specs.Record.{Instance, inner, is_record}
-use Rattle.dr_meaning.specs.Column.{record_column}
+use Rattle.dr_meaning.specs.Record.{is_record}
 use Rattle.dr_meaning.specs.Stripe.{most_striped}
 use Rattle.dr_nested.specs.Views.{fields_view}
-use Rattle.dr_json.specs.Parts.{line_node}
-use Rattle.dr_json.specs.declared.record.LineRecord.{LineRecord}
 use Rattle.dr_nested.specs.PathView.{path_view}
-use Rattle.dr_lines.specs.Cutting.{pending, IsEnd}
+use Rattle.dr_lines.specs.Cutting.{pending}
 use Rattle.dr_input.specs.Taken.{HasTaken}
+use Rattle.dr_input.specs.declared.fault.InputFault.{InputFault}
 use Rattle.dr_input.specs.Records.{fields_of, most_of, number_of, left_of}
-use Rattle.dr_striper.specs.Striping.{gained}
-use Rattle.dr_striper.specs.Stripers.{record_in, striped, striped_leaves, striped_paths, fits_leaf}
+use Rattle.dr_striper.specs.Stripers.{striped, striped_leaves, striped_paths, fits_leaf}
 use Rattle.dr_striper.proofs.FitLemmas.{record_fits}
 use Rattle.dr_top.specs.Records.{AreColumns, HasColumns, HasRead}
-use Rattle.dr_top.proofs.InputLemmas.{read_start, read_more, read_all, all_ended, reader_stops, some_of, none_there}
+use Rattle.dr_top.proofs.InputLemmas.{read_start, read_more, read_all, all_ended, reader_stops}
 use Rattle.dr_top.proofs.OutcomeLemmas.{err_is}
 use Rattle.dr_top.proofs.StripeLemmas.{more_columns, paths_from_leaves}
 use Rattle.dr_top.proofs.commands.stripe.stripe_records.Goals as goal
@@ -39,59 +37,60 @@ lines-init g c =
       calm = refl;
     }
 
-pub returns-in_err-record-clause-stops : goal.returns-in_err-record-clause-stops
-returns-in_err-record-clause-stops g c =
-    err_is _ _ _ c.from_residual-in_err-record.ensures.1
+pub returns-in_err-stripe_next-clause-stops : goal.returns-in_err-stripe_next-clause-stops
+returns-in_err-stripe_next-clause-stops g c =
+    err_is _ _ _ c.from_residual-in_err-stripe_next.ensures.1
     (reader_stops (AreColumns ((path_view c.args.field.now).path ∷ []) (striped c.lines.striper)) (left_of c.lines.records (g.S.Source.shows c.lines.source).left)
-    (g.S.Source.shows c.args.source.now) (g.S.Source.shows c.lines.source) (g.S.Source.shows c.next.new.source) c.in_err-record.field-0.0 _ _ _ _ (number_of c.lines.records) c.lines.invariant.fields_are c.lines.invariant.most_is
-    c.lines.invariant.has_read c.lines.invariant.calm (c.in_err-record.ensures.stops c.lines.invariant.not_stopped))
+    (g.S.Source.shows c.args.source.now) (g.S.Source.shows c.lines.source) (g.S.Source.shows c.stripe_next.new.source) c.in_err-stripe_next.field-0.0 _ _ _ _ (number_of c.lines.records) c.lines.invariant.fields_are c.lines.invariant.most_is
+    c.lines.invariant.has_read c.lines.invariant.calm (c.in_err-stripe_next.ensures.stops c.lines.invariant.not_stopped))
 
-pub add_held-requires : goal.add_held-requires
-add_held-requires g c =
-    let n = line_node c.in-Some.record in
+pub stripe_next-requires : goal.stripe_next-requires
+stripe_next-requires g c =
     let fs = fields_view c.args.schema.now.fields.items in
-    let read : is_record fs n ≡ true =
-    ap (λ (x : Fields). is_record x n) (sym c.lines.invariant.fields_are) ∙ some_of (λ (m : LineRecord). is_record (fields_of c.lines.records) (line_node m) ≡ true) c.in_ok-record.field-0 c.in-Some.record c.in-Some.is c.in_ok-record.ensures.form in
     record {
-      group = c.part.ensures ∙ ap (λ (x : Instance). inner (record_in x)) (sym c.part.ensures);
-      fits = ap (λ (x : Instance). list_all (fits_leaf (record_in x)) (striped_leaves c.lines.striper)) c.part.ensures ∙ ap (list_all (fits_leaf n)) c.lines.invariant.leaves
-          ∙ ap (λ b. b && true) (record_fits fs (path_view c.args.field.now) n c.requires read);
+      fits = λ n form. ap (list_all (fits_leaf n)) c.lines.invariant.leaves ∙ ap (λ b. b && true) (record_fits fs (path_view c.args.field.now) n c.requires (ap (λ (x : Fields). is_record x n) (sym c.lines.invariant.fields_are) ∙ form));
     }
 
-pub lines-preserved-in_ok-add_held-3 : goal.lines-preserved-in_ok-add_held-3
-lines-preserved-in_ok-add_held-3 g c =
+pub lines-preserved : goal.lines-preserved
+lines-preserved g c =
+    let fs = fields_view c.args.schema.now.fields.items in
     let F = (path_view c.args.field.now).path ∷ [] in
     let before = left_of c.lines.records (g.S.Source.shows c.lines.source).left in
-    let now = left_of c.next.new.self (g.S.Source.shows c.next.new.source).left in
-    let n = line_node c.in-Some.record in
-    let taken : HasTaken (fields_of c.lines.records) (most_of c.lines.records) (number_of c.lines.records) (line_node c.in-Some.record ∷ []) (left_of c.lines.records (g.S.Source.shows c.lines.source).left) (left_of c.next.new.self (g.S.Source.shows c.next.new.source).left) =
-    some_of (λ (m : LineRecord). HasTaken (fields_of c.lines.records) (most_of c.lines.records) (number_of c.lines.records) (line_node m ∷ []) (left_of c.lines.records (g.S.Source.shows c.lines.source).left) (left_of c.next.new.self (g.S.Source.shows c.next.new.source).left)) c.in_ok-record.field-0 c.in-Some.record c.in-Some.is c.in_ok-record.ensures.record in
-    let counts : number_of c.next.new.self ≡ number_of c.lines.records + 1 = some_of (λ (m : LineRecord). number_of c.next.new.self ≡ number_of c.lines.records + 1) c.in_ok-record.field-0 c.in-Some.record c.in-Some.is c.in_ok-record.ensures.counts in
+    let now = left_of c.stripe_next.new.self (g.S.Source.shows c.stripe_next.new.source).left in
+    let next = c.in_ok-stripe_next.ensures.record c.if-branch.true in
+    let n = next.node in
+    let counts : number_of c.stripe_next.new.self ≡ number_of c.lines.records + 1 = c.in_ok-stripe_next.ensures.counts c.if-branch.true in
     record {
-      has_read = subst (λ (j : ℕ). HasRead (fields_view c.args.schema.now.fields.items) most_striped (AreColumns ((path_view c.args.field.now).path ∷ []) (striped c.add_held.new.self)) (g.S.Source.shows c.args.source.now).left (left_of c.next.new.self (g.S.Source.shows c.next.new.source).left) j) (sym counts)
-          (read_more (fields_view c.args.schema.now.fields.items) most_striped (AreColumns F (striped c.lines.striper)) (AreColumns F (striped c.add_held.new.self)) (g.S.Source.shows c.args.source.now).left before now (number_of c.lines.records) n
+      has_read = subst (λ (j : ℕ). HasRead fs most_striped (AreColumns F (striped c.stripe_next.new.striper)) (g.S.Source.shows c.args.source.now).left now j) (sym counts)
+          (read_more fs most_striped (AreColumns F (striped c.lines.striper)) (AreColumns F (striped c.stripe_next.new.striper)) (g.S.Source.shows c.args.source.now).left before now (number_of c.lines.records) n
           c.lines.invariant.has_read
-          (subst (λ (fs : Fields). HasTaken fs most_striped (number_of c.lines.records) (line_node c.in-Some.record ∷ []) (left_of c.lines.records (g.S.Source.shows c.lines.source).left) (left_of c.next.new.self (g.S.Source.shows c.next.new.source).left)) c.lines.invariant.fields_are
-          (subst (λ (most : ℕ). HasTaken (fields_of c.lines.records) most (number_of c.lines.records) (line_node c.in-Some.record ∷ []) (left_of c.lines.records (g.S.Source.shows c.lines.source).left) (left_of c.next.new.self (g.S.Source.shows c.next.new.source).left)) c.lines.invariant.most_is taken))
-          (more_columns F (striped_paths c.lines.striper) (striped c.lines.striper) (striped c.add_held.new.self) n (paths_from_leaves c.lines.striper ∙ ap (map (λ (l : Leaf). l.path)) c.lines.invariant.leaves)
-          (c.in_ok-add_held.ensures.columns ∙ ap (λ (x : Instance). gained (λ p. record_column p (record_in x)) (striped_paths c.lines.striper) (striped c.lines.striper)) c.part.ensures)));
-      fields_are = c.in_ok-record.ensures.same_fields ∙ c.lines.invariant.fields_are;
-      most_is = c.in_ok-record.ensures.same_most ∙ c.lines.invariant.most_is;
-      leaves = c.in_ok-add_held.ensures.leaves ∙ c.lines.invariant.leaves;
-      not_stopped = c.in_ok-record.ensures.goes_on;
-      within = omega (arith, c.in_ok-record.ensures.within, c.in_ok-record.ensures.same_most, c.lines.invariant.most_is);
-      calm = c.in_ok-record.ensures.calm ∙ c.lines.invariant.calm;
+          (subst (λ (x : Fields). HasTaken x most_striped (number_of c.lines.records) (n ∷ []) before now) c.lines.invariant.fields_are
+          (subst (λ (most : ℕ). HasTaken (fields_of c.lines.records) most (number_of c.lines.records) (n ∷ []) before now) c.lines.invariant.most_is next.taken))
+          (more_columns F (striped_paths c.lines.striper) (striped c.lines.striper) (striped c.stripe_next.new.striper) n (paths_from_leaves c.lines.striper ∙ ap (map (λ (l : Leaf). l.path)) c.lines.invariant.leaves) next.gains));
+      fields_are = c.in_ok-stripe_next.ensures.same_fields ∙ c.lines.invariant.fields_are;
+      most_is = c.in_ok-stripe_next.ensures.same_most ∙ c.lines.invariant.most_is;
+      leaves = c.in_ok-stripe_next.ensures.leaves ∙ c.lines.invariant.leaves;
+      not_stopped = c.in_ok-stripe_next.ensures.goes_on;
+      within = omega (arith, c.in_ok-stripe_next.ensures.within, c.in_ok-stripe_next.ensures.same_most, c.lines.invariant.most_is);
+      calm = c.in_ok-stripe_next.ensures.calm ∙ c.lines.invariant.calm;
     }
+
+-- where no line is left, the columns are as they were
+ok_other : (b : Bool) → b ≡ false → (r : Result Bool InputFault) → r ≡ Ok b → r ≡ Ok true → ⊥
+ok_other b e r is h = cc
 
 pub returns-clause-columns : goal.returns-clause-columns
 returns-clause-columns g c =
+    let fs = fields_view c.args.schema.now.fields.items in
     let F = (path_view c.args.field.now).path ∷ [] in
-    subst (HasColumns (fields_view c.args.schema.now.fields.items) F (g.S.Source.shows c.args.source.now).left) c.only_column.ensures
-    (read_all (fields_view c.args.schema.now.fields.items) most_striped (AreColumns F (striped c.lines.striper)) (g.S.Source.shows c.args.source.now).left (left_of c.lines.records (g.S.Source.shows c.lines.source).left) (left_of c.next.new.self (g.S.Source.shows c.next.new.source).left) (number_of c.lines.records)
-    c.lines.invariant.has_read (none_there (IsEnd (left_of c.lines.records (g.S.Source.shows c.lines.source).left) (left_of c.next.new.self (g.S.Source.shows c.next.new.source).left)) c.in_ok-record.field-0 c.in_default.not-Some c.in_ok-record.ensures.end))
+    let left = (g.S.Source.shows c.args.source.now).left in
+    let kept : striped c.stripe_next.new.striper ≡ striped c.lines.striper = c.in_ok-stripe_next.ensures.kept (ok_other c.in_ok-stripe_next.field-0 c.if-branch.false _ refl) in
+    subst (HasColumns fs F left) (sym kept ∙ c.only_column.ensures)
+    (read_all fs most_striped (AreColumns F (striped c.lines.striper)) left (left_of c.lines.records (g.S.Source.shows c.lines.source).left) (left_of c.stripe_next.new.self (g.S.Source.shows c.stripe_next.new.source).left) (number_of c.lines.records)
+    c.lines.invariant.has_read (c.in_ok-stripe_next.ensures.end c.if-branch.false))
 
 pub returns-clause-end : goal.returns-clause-end
 returns-clause-end g c =
     let F = (path_view c.args.field.now).path ∷ [] in
-    all_ended (fields_view c.args.schema.now.fields.items) most_striped (AreColumns F (striped c.lines.striper)) (g.S.Source.shows c.args.source.now).left (left_of c.lines.records (g.S.Source.shows c.lines.source).left) (g.S.Source.shows c.next.new.source).left (pending c.next.new.self.lines) (number_of c.lines.records)
-    c.lines.invariant.has_read (none_there (IsEnd (left_of c.lines.records (g.S.Source.shows c.lines.source).left) (left_of c.next.new.self (g.S.Source.shows c.next.new.source).left)) c.in_ok-record.field-0 c.in_default.not-Some c.in_ok-record.ensures.end)
+    all_ended (fields_view c.args.schema.now.fields.items) most_striped (AreColumns F (striped c.lines.striper)) (g.S.Source.shows c.args.source.now).left (left_of c.lines.records (g.S.Source.shows c.lines.source).left) (g.S.Source.shows c.stripe_next.new.source).left (pending c.stripe_next.new.self.lines) (number_of c.lines.records)
+    c.lines.invariant.has_read (c.in_ok-stripe_next.ensures.end c.if-branch.false)

@@ -1,83 +1,110 @@
-use Rattle.std.proofs.Common.{rules, ◌≡◌, [], ◌++◌, Some, None, sym, ap, subst, ◌∙◌}
-use Rattle.std.specs.Prelude.{option_map, IfOk}
-use Rattle.dr_levels.specs.Views.{triplet_view}
-use Rattle.dr_levels.specs.declared.moves.Move.{Move as CodeMove}
-use Rattle.dr_course.specs.Leading.{head_of}
-use Rattle.dr_walk.specs.Walking.{Goes, Comes, moves_of, left_behind, Wants}
+use Rattle.std.proofs.Common.{rules, ◌≡◌, ◌++◌, Ok, Err, true, List, sym, ap, ◌∙◌}
+use Rattle.std.specs.Prelude.{is_some}
+use Rattle.dr_meaning.specs.Walk.{Move, no_record}
+use Rattle.dr_meaning.specs.WalkLaws.{open_after_moves}
 use Rattle.dr_walk.specs.declared.fault.AssembleFault.{AssembleFault}
-use Rattle.dr_walk.proofs.AnswerLemmas.{front_of, none_has, whole_walk, nests, at_same, at_next, at_end, at_fault, none_comes, not_behind_end, ok_is, ok_is_not}
-use Rattle.dr_walk.proofs.BoundLemmas.{few_moves}
-use Rattle.dr_walk.proofs.WalkLemmas.{wants_on}
+use Rattle.dr_walk.proofs.ValueLemmas.{comes_levels, went, went_on, level_ok, valued_front, valued_bad, valued_moves, valued_bound, wants_valued, last_valued, none_valued}
 use Rattle.dr_walk.proofs.walk.Walk.next.Goals as goal
 
-pub returns-then-is_some-clause-front : goal.returns-then-is_some-clause-front
-returns-then-is_some-clause-front c = λ F fs rows C ms left at comes R p h.
-    front_of fs F rows C (ms ++ []) left c.take.new.self R (at_same fs F rows C ms left c.take.new.self (c.take.ensures.at F fs rows C ms left at comes)) p h
-
-pub returns-then-is_some-clause-nests : goal.returns-then-is_some-clause-nests
-returns-then-is_some-clause-nests c = λ F fs rows C ms left at comes L q a d.
-    nests fs F L rows C (ms ++ []) left c.take.new.self q (at_same fs F rows C ms left c.take.new.self (c.take.ensures.at F fs rows C ms left at comes)) a d
+pub returns-in-Ok-clause-on : goal.returns-in-Ok-clause-on
+returns-in-Ok-clause-on c = λ F fs rows C ms left at comes.
+    let old = c.args.self.now in
+    let values = c.keep.new.values.items in
+    let m = c.in-Ok.step in
+    let next = comes_levels left old.levels.wanted c.args.more c.levels_of.result comes c.levels_of.ensures.levels c.levels_of.ensures.none in
+    let g = went fs F rows C ms left old c.next.new.self values c.args.more m c.valued.result at comes (λ leaf q. c.keep.ensures.here leaf (c.wants.ensures ∙ q)) (λ i d. c.keep.ensures.others i (λ q. d (sym c.wants.ensures ∙ q)))
+    (level_ok _ c.next.result m c.in-Ok.is (c.next.ensures.on F fs rows C ms left at.levels next)) (level_ok _ c.next.result m c.in-Ok.is (c.next.ensures.levels F fs rows C ms left at.levels next))
+    (level_ok _ c.next.result m c.in-Ok.is (c.next.ensures.wants F fs rows C ms left at.levels next)) c.valued.ensures.valued c.valued.ensures.form in
+    went_on fs F rows C ms left old.levels c.next.new.self values m c.valued.result _ g c.valued.ensures.same (ap (λ v. v.items) c.valued.ensures.values) (c.keep.ensures.as_many ∙ at.values)
 
 pub returns-in-Ok-clause-front : goal.returns-in-Ok-clause-front
 returns-in-Ok-clause-front c = λ F fs rows C ms left at comes R p h.
-    let w : c.take.new.self.wanted ≡ None = search rules in
-    let g = subst (Goes fs F rows C ms left c.go_on.new.self) c.in-Ok.is (c.go_on.ensures.goes F fs rows C ms left (c.take.ensures.at F fs rows C ms left at comes) w) in
-    front_of fs F rows C (ms ++ moves_of c.in-Ok.step) (left_behind c.in-Ok.step left) c.go_on.new.self R (at_next fs F rows C ms left c.go_on.new.self c.in-Ok.step g) p h
+    let old = c.args.self.now in
+    let values = c.keep.new.values.items in
+    let m = c.in-Ok.step in
+    let next = comes_levels left old.levels.wanted c.args.more c.levels_of.result comes c.levels_of.ensures.levels c.levels_of.ensures.none in
+    let g = went fs F rows C ms left old c.next.new.self values c.args.more m c.valued.result at comes (λ leaf q. c.keep.ensures.here leaf (c.wants.ensures ∙ q)) (λ i d. c.keep.ensures.others i (λ q. d (sym c.wants.ensures ∙ q)))
+    (level_ok _ c.next.result m c.in-Ok.is (c.next.ensures.on F fs rows C ms left at.levels next)) (level_ok _ c.next.result m c.in-Ok.is (c.next.ensures.levels F fs rows C ms left at.levels next))
+    (level_ok _ c.next.result m c.in-Ok.is (c.next.ensures.wants F fs rows C ms left at.levels next)) c.valued.ensures.valued c.valued.ensures.form in
+    valued_front fs F ms R left m c.valued.result g.valued (level_ok _ c.next.result m c.in-Ok.is (c.next.ensures.front F fs rows C ms left at.levels next R p h))
+
+pub returns-in-Ok-clause-bad : goal.returns-in-Ok-clause-bad
+returns-in-Ok-clause-bad c = λ F fs rows C ms left at comes p e.
+    let old = c.args.self.now in
+    let values = c.keep.new.values.items in
+    let m = c.in-Ok.step in
+    let next = comes_levels left old.levels.wanted c.args.more c.levels_of.result comes c.levels_of.ensures.levels c.levels_of.ensures.none in
+    let g = went fs F rows C ms left old c.next.new.self values c.args.more m c.valued.result at comes (λ leaf q. c.keep.ensures.here leaf (c.wants.ensures ∙ q)) (λ i d. c.keep.ensures.others i (λ q. d (sym c.wants.ensures ∙ q)))
+    (level_ok _ c.next.result m c.in-Ok.is (c.next.ensures.on F fs rows C ms left at.levels next)) (level_ok _ c.next.result m c.in-Ok.is (c.next.ensures.levels F fs rows C ms left at.levels next))
+    (level_ok _ c.next.result m c.in-Ok.is (c.next.ensures.wants F fs rows C ms left at.levels next)) c.valued.ensures.valued c.valued.ensures.form in
+    valued_bad fs F C rows left m c.valued.result g.valued e (λ R h. (level_ok _ c.next.result m c.in-Ok.is (c.next.ensures.front F fs rows C ms left at.levels next R p h)).0)
 
 pub returns-in-Ok-clause-whole : goal.returns-in-Ok-clause-whole
 returns-in-Ok-clause-whole c = λ F fs rows C ms left at comes p d e n.
-    let w : c.take.new.self.wanted ≡ None = search rules in
-    let g = subst (Goes fs F rows C ms left c.go_on.new.self) c.in-Ok.is (c.go_on.ensures.goes F fs rows C ms left (c.take.ensures.at F fs rows C ms left at comes) w) in
-    whole_walk fs F rows C ms left (at_end fs F rows C ms left c.go_on.new.self c.in-Ok.step (ok_is c.in-Ok.step None e) g) at.columns p d
+    let old = c.args.self.now in
+    let values = c.keep.new.values.items in
+    let m = c.in-Ok.step in
+    let next = comes_levels left old.levels.wanted c.args.more c.levels_of.result comes c.levels_of.ensures.levels c.levels_of.ensures.none in
+    c.next.ensures.whole F fs rows C ms left at.levels next p d (c.in-Ok.is ∙ ap Ok (none_valued m c.valued.result c.valued.ensures.form e)) (sym c.valued.ensures.wanted ∙ n)
 
 pub returns-in-Ok-clause-last : goal.returns-in-Ok-clause-last
 returns-in-Ok-clause-last c = λ F fs rows C ms left at comes R p h e.
-    let w : c.take.new.self.wanted ≡ None = search rules in
-    let g = subst (Goes fs F rows C ms left c.go_on.new.self) c.in-Ok.is (c.go_on.ensures.goes F fs rows C ms left (c.take.ensures.at F fs rows C ms left at comes) w) in
-    let f = front_of fs F rows C (ms ++ moves_of c.in-Ok.step) (left_behind c.in-Ok.step left) c.go_on.new.self R (at_next fs F rows C ms left c.go_on.new.self c.in-Ok.step g) p h in
-    none_comes fs F R ms c.in-Ok.step f.0 f.1 e
+    let old = c.args.self.now in
+    let values = c.keep.new.values.items in
+    let m = c.in-Ok.step in
+    let next = comes_levels left old.levels.wanted c.args.more c.levels_of.result comes c.levels_of.ensures.levels c.levels_of.ensures.none in
+    last_valued m c.valued.result c.valued.ensures.form (level_ok _ c.next.result m c.in-Ok.is (c.next.ensures.last F fs rows C ms left at.levels next R p h e))
 
-pub returns-in-Ok-clause-ended : goal.returns-in-Ok-clause-ended
-returns-in-Ok-clause-ended c = λ F fs rows C ms left at comes i q n z.
-    let w : c.take.new.self.wanted ≡ None = search rules in
-    let at2 = c.take.ensures.at F fs rows C ms left at comes in
-    let g = subst (Goes fs F rows C ms left c.go_on.new.self) c.in-Ok.is (c.go_on.ensures.goes F fs rows C ms left at2 w) in
-    let x = c.go_on.ensures.wants i w z in
-    let m = ok_is c.in-Ok.step (Some (CodeMove.Leaf i x.0)) (sym c.in-Ok.is ∙ x.1) in
-    let e : None ≡ head_of (left i) = sym (ap (option_map triplet_view) n) ∙ subst (λ o. Comes left o c.args.more) q comes in
-    not_behind_end fs F rows C ms left c.take.new.self c.go_on.new.self i c.in-Ok.step x.0 at2 e m g
-
-pub returns-in-Ok-clause-nests : goal.returns-in-Ok-clause-nests
-returns-in-Ok-clause-nests c = λ F fs rows C ms left at comes L q a d.
-    let w : c.take.new.self.wanted ≡ None = search rules in
-    let g = subst (Goes fs F rows C ms left c.go_on.new.self) c.in-Ok.is (c.go_on.ensures.goes F fs rows C ms left (c.take.ensures.at F fs rows C ms left at comes) w) in
-    nests fs F L rows C (ms ++ moves_of c.in-Ok.step) (left_behind c.in-Ok.step left) c.go_on.new.self q (at_next fs F rows C ms left c.go_on.new.self c.in-Ok.step g) a d
-
-pub returns-in-Err-clause-bad : goal.returns-in-Err-clause-bad
-returns-in-Err-clause-bad c = λ F fs rows C ms left at comes p e.
-    let w : c.take.new.self.wanted ≡ None = search rules in
-    let g = subst (Goes fs F rows C ms left c.go_on.new.self) c.in-Err.is (c.go_on.ensures.goes F fs rows C ms left (c.take.ensures.at F fs rows C ms left at comes) w) in
-    let b : c.in-Err.fault ≡ AssembleFault.BadData = search rules in
-    none_has fs F rows C ms left (at_fault fs F rows C ms left c.go_on.new.self c.in-Err.fault b g) p
-
-pub returns-in-Err-clause-ended : goal.returns-in-Err-clause-ended
-returns-in-Err-clause-ended c = λ F fs rows C ms left at comes i q n z.
-    let w : c.take.new.self.wanted ≡ None = search rules in
-    let x = c.go_on.ensures.wants i w z in
-    ok_is_not c.in-Err.fault (Some (CodeMove.Leaf i x.0)) (sym c.in-Err.is ∙ x.1)
-
-pub returns-then-is_some-clause-bound : goal.returns-then-is_some-clause-bound
-returns-then-is_some-clause-bound c = λ F fs rows C ms left at comes p. few_moves fs F rows C ms left c.take.new.self (c.take.ensures.at F fs rows C ms left at comes) p
-
-pub returns-in-Ok-clause-bound : goal.returns-in-Ok-clause-bound
-returns-in-Ok-clause-bound c = λ F fs rows C ms left at comes p.
-    let w : c.take.new.self.wanted ≡ None = search rules in
-    let g = subst (Goes fs F rows C ms left c.go_on.new.self) c.in-Ok.is (c.go_on.ensures.goes F fs rows C ms left (c.take.ensures.at F fs rows C ms left at comes) w) in
-    few_moves fs F rows C (ms ++ moves_of c.in-Ok.step) (left_behind c.in-Ok.step left) c.go_on.new.self (at_next fs F rows C ms left c.go_on.new.self c.in-Ok.step g) p
+pub returns-in-Ok-clause-asked : goal.returns-in-Ok-clause-asked
+returns-in-Ok-clause-asked c = λ i e n. c.next.ensures.asked i (c.in-Ok.is ∙ ap Ok (none_valued c.in-Ok.step c.valued.result c.valued.ensures.form e)) (sym c.valued.ensures.wanted ∙ n)
 
 pub returns-in-Ok-clause-wants : goal.returns-in-Ok-clause-wants
 returns-in-Ok-clause-wants c = λ F fs rows C ms left at comes.
-    let w : c.take.new.self.wanted ≡ None = search rules in
-    let n = c.take.ensures.next F fs rows C ms left at comes in
-    let g : Wants c.in-Ok.step None c.go_on.new.self.wanted = subst (λ r. IfOk r (λ m. Wants m None c.go_on.new.self.wanted)) c.in-Ok.is (c.go_on.ensures.turns w) in
-    wants_on c.in-Ok.step None _ c.go_on.new.self.wanted (sym w ∙ n) g
+    let old = c.args.self.now in
+    let values = c.keep.new.values.items in
+    let m = c.in-Ok.step in
+    let next = comes_levels left old.levels.wanted c.args.more c.levels_of.result comes c.levels_of.ensures.levels c.levels_of.ensures.none in
+    wants_valued m c.valued.result _ c.next.new.self.wanted _ c.valued.ensures.form (level_ok _ c.next.result m c.in-Ok.is (c.next.ensures.wants F fs rows C ms left at.levels next)) c.valued.ensures.wanted
+
+pub returns-in-Ok-clause-ended : goal.returns-in-Ok-clause-ended
+returns-in-Ok-clause-ended c = λ F fs rows C ms left at comes i q n z.
+    let old = c.args.self.now in
+    let values = c.keep.new.values.items in
+    let m = c.in-Ok.step in
+    let next = comes_levels left old.levels.wanted c.args.more c.levels_of.result comes c.levels_of.ensures.levels c.levels_of.ensures.none in
+    c.next.ensures.ended F fs rows C ms left at.levels next i q (c.levels_of.ensures.none n) (sym c.valued.ensures.wanted ∙ z)
+
+pub returns-in-Ok-clause-nests : goal.returns-in-Ok-clause-nests
+returns-in-Ok-clause-nests c = λ F fs rows C ms left at comes L q a d.
+    let old = c.args.self.now in
+    let values = c.keep.new.values.items in
+    let m = c.in-Ok.step in
+    let next = comes_levels left old.levels.wanted c.args.more c.levels_of.result comes c.levels_of.ensures.levels c.levels_of.ensures.none in
+    let g = went fs F rows C ms left old c.next.new.self values c.args.more m c.valued.result at comes (λ leaf q. c.keep.ensures.here leaf (c.wants.ensures ∙ q)) (λ i d. c.keep.ensures.others i (λ q. d (sym c.wants.ensures ∙ q)))
+    (level_ok _ c.next.result m c.in-Ok.is (c.next.ensures.on F fs rows C ms left at.levels next)) (level_ok _ c.next.result m c.in-Ok.is (c.next.ensures.levels F fs rows C ms left at.levels next))
+    (level_ok _ c.next.result m c.in-Ok.is (c.next.ensures.wants F fs rows C ms left at.levels next)) c.valued.ensures.valued c.valued.ensures.form in
+    valued_moves (λ (ns : List Move). is_some (open_after_moves fs L no_record (ms ++ ns)) ≡ true) left m c.valued.result g.valued (level_ok _ c.next.result m c.in-Ok.is (c.next.ensures.nests F fs rows C ms left at.levels next L q a d))
+
+pub returns-in-Ok-clause-bound : goal.returns-in-Ok-clause-bound
+returns-in-Ok-clause-bound c = λ F fs rows C ms left at comes p.
+    let old = c.args.self.now in
+    let values = c.keep.new.values.items in
+    let m = c.in-Ok.step in
+    let next = comes_levels left old.levels.wanted c.args.more c.levels_of.result comes c.levels_of.ensures.levels c.levels_of.ensures.none in
+    let g = went fs F rows C ms left old c.next.new.self values c.args.more m c.valued.result at comes (λ leaf q. c.keep.ensures.here leaf (c.wants.ensures ∙ q)) (λ i d. c.keep.ensures.others i (λ q. d (sym c.wants.ensures ∙ q)))
+    (level_ok _ c.next.result m c.in-Ok.is (c.next.ensures.on F fs rows C ms left at.levels next)) (level_ok _ c.next.result m c.in-Ok.is (c.next.ensures.levels F fs rows C ms left at.levels next))
+    (level_ok _ c.next.result m c.in-Ok.is (c.next.ensures.wants F fs rows C ms left at.levels next)) c.valued.ensures.valued c.valued.ensures.form in
+    valued_bound left rows m c.valued.result c.next.new.self _ g.valued c.valued.ensures.same (level_ok _ c.next.result m c.in-Ok.is (c.next.ensures.bound F fs rows C ms left at.levels next p))
+
+pub returns-in-Err-clause-bad : goal.returns-in-Err-clause-bad
+returns-in-Err-clause-bad c = λ F fs rows C ms left at comes p e.
+    let old = c.args.self.now in
+    let next = comes_levels left old.levels.wanted c.args.more c.levels_of.result comes c.levels_of.ensures.levels c.levels_of.ensures.none in
+    let b : c.in-Err.fault ≡ AssembleFault.BadData = search rules in
+    c.next.ensures.bad F fs rows C ms left at.levels next p (c.in-Err.is ∙ ap Err b)
+
+pub returns-in-Err-clause-ended : goal.returns-in-Err-clause-ended
+returns-in-Err-clause-ended c = λ F fs rows C ms left at comes i q n z.
+    let old = c.args.self.now in
+    let next = comes_levels left old.levels.wanted c.args.more c.levels_of.result comes c.levels_of.ensures.levels c.levels_of.ensures.none in
+    c.next.ensures.ended F fs rows C ms left at.levels next i q (c.levels_of.ensures.none n) z

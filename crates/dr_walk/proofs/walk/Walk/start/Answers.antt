@@ -1,25 +1,16 @@
-use Rattle.std.proofs.Common.{length, map, string_bytes, refl, sym, ◌∙◌, arith}
-use Rattle.std.proofs.lemmas.List.{length-map}
+use Rattle.std.proofs.Common.{length, map, sym, ap, ◌∙◌}
+use Rattle.std.proofs.lemmas.List.{length-map, length-replicate}
 use Rattle.dr_nested.specs.Views.{fields_view}
 use Rattle.dr_nested.specs.PathView.{lent_path}
-use Rattle.dr_course.specs.Course.{course}
-use Rattle.dr_walk.proofs.SizeLemmas.{limits, selected_count}
-use Rattle.dr_walk.proofs.WalkLemmas.{at_start}
+use Rattle.std.specs.Prelude.{None}
+use Rattle.dr_walk.proofs.ValueLemmas.{kept_first}
 use Rattle.dr_walk.proofs.walk.Walk.start.Goals as goal
-
-pub table_of-requires : goal.table_of-requires
-table_of-requires c =
-    let fs = fields_view c.args.schema.now.fields.items in
-    let l = limits (record { name = string_bytes c.args.schema.now.name; fields = fs }) c.args.schema.now.valid in
-    let s = selected_count fs (map lent_path c.args.fields.now) c.requires.leaves c.requires.differ in
-    let m = length-map c.args.fields.now lent_path in
-    omega (arith, l.leaves, s, m)
 
 pub returns-clause-at : goal.returns-clause-at
 returns-clause-at c = λ C e.
     let fs = fields_view c.args.schema.now.fields.items in
     let F = map lent_path c.args.fields.now in
-    let l = limits (record { name = string_bytes c.args.schema.now.name; fields = fs }) c.args.schema.now.valid in
-    let s = selected_count fs F c.requires.leaves c.requires.differ in
-    let m = length-map c.args.fields.now lent_path in
-    at_start fs F c.args.rows C _ (length c.args.fields.now) l.deep (e ∙ sym m) (sym m) (omega (arith, l.leaves, s, m)) c.in_ok-course.ensures.heads c.in_ok-values.ensures (c.in_ok-course.ensures.stands (course fs F) c.in_ok-table.ensures) c.first_of.ensures refl refl refl
+    let n = length c.args.fields.now in
+    let m = sym (length-map c.args.fields.now lent_path) in
+    let at = c.in_ok-levels.ensures.at C e in
+    record { levels = at; values = ap length c.in_ok-values.ensures ∙ length-replicate n None ∙ m; kept = kept_first fs F c.args.rows C _ _ n at c.in_ok-levels.ensures.wants m c.in_ok-values.ensures }

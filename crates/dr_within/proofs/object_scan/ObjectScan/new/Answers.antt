@@ -1,14 +1,12 @@
-use Rattle.std.proofs.Common.{◌≡◌, ℕ, List, length, map, None, sym, ap, subst, ◌∙◌, arith}
+use Rattle.std.proofs.Common.{◌≡◌, ℕ, List, length, map, subst, arith}
 use Rattle.std.proofs.lemmas.List.{length-map}
 use Rattle.dr_nested.specs.PathView.{path_view}
 use Rattle.dr_nested.specs.SchemaView.{schema_view}
 use Rattle.dr_object_laws.specs.ObjectFlow.{items_of}
 use Rattle.dr_plan.specs.Planned.{plan_leaves}
 use Rattle.dr_plan.specs.declared.plan.RecordItem.{RecordItem}
-use Rattle.dr_scalar.specs.Slots.{slot_value}
 use Rattle.dr_within.specs.ItemFirings.{FiresItems}
 use Rattle.dr_within.specs.ObjectsBehind.{read_items}
-use Rattle.dr_within.proofs.BehindLemmas.{nothing_in, fresh, length_of_same}
 use Rattle.dr_within.proofs.ObjectEnds.{plan_tree}
 use Rattle.dr_within.proofs.object_scan.ObjectScan.new.Goals as goal
 
@@ -21,8 +19,6 @@ returns c =
     let I = items_of (read_items (plan_leaves p) items.items) in
     let n = length-map p.leaves.items path_view in
     let k : c.len.result ≡ length (map path_view p.leaves.items) = omega (arith, c.len.ensures, n, p.leaves.ok.0) in
-    let j : c.len-2.result ≡ length (map path_view p.leaves.items) = omega (arith, c.len-2.ensures, n, p.leaves.ok.0) in
-    let slots = c.in_ok-resize.ensures.items ∙ fresh None c.new-slots.result.items c.len-2.result _ c.new-slots.ensures.items c.new-slots.ensures.len in
     let fires = subst (λ (xs : List RecordItem). FiresItems c.len.result xs c.in_ok-firing.firing) c.deref.ensures.value c.in_ok-firing.ensures in
     record {
       items = items;
@@ -36,8 +32,6 @@ returns c =
         watches = c.requires.watches;
       };
       behind = record {
-        slots = ap length slots ∙ length_of_same None c.len-2.result ∙ j;
-        context = nothing_in c.len-2.result ∙ ap slot_value (sym slots);
         watched = c.requires.watched;
         made = c.new-2.ensures I;
       };

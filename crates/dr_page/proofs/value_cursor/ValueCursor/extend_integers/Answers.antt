@@ -1,0 +1,9 @@
+use Rattle.std.proofs.Common.{map}
+use Rattle.dr_meaning.specs.Record.{int_value}
+use Rattle.dr_levels.specs.Views.{column_view}
+use Rattle.dr_page.proofs.ValueSteps.{longer_by}
+use Rattle.dr_page.proofs.value_cursor.ValueCursor.extend_integers.Goals as goal
+
+pub returns-clause-longer : goal.returns-clause-longer
+returns-clause-longer c =
+    longer_by c.args.out.now.greatest c.args.pairs.now (map int_value c.deref.result.now) (column_view c.args.out.now) (column_view c.extend_integers.new.self) c.in_ok-extend_integers.ensures.triplets

@@ -1,9 +1,0 @@
-use Rattle.std.proofs.Common.{◌+◌, ◌-◌, ◌≤◌, vec_len, vec_capacity}
-use Rattle.dr_plain.proofs.ReadSteps.{Truths}
-use Rattle.dr_plain.proofs.reading.append_bools.Given as goal
-
-abbrev pub invariant-bits : goal.invariant-bits
-invariant-bits l = record {
-  room : vec_len l.out + (l.count - l.index) ≤ vec_capacity l.out;
-  read : Truths l.packed l.fn.out.items l.out.items l.index;
-}

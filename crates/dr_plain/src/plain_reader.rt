@@ -1,0 +1,139 @@
+//! Values in PLAIN, read a piece at a time.
+
+ghost use Rattle.std.specs.Prelude.{◌≡◌, ◌+◌, ◌*◌, ◌≤◌, ℕ, [], List, length, map, drop, OnOk, OnErr, IfOk};
+ghost use Rattle.dr_meaning.specs.Schema as tree;
+ghost use Rattle.dr_meaning.specs.Record.{Value, bool_value, int_value};
+ghost use Rattle.dr_plain.specs.Views.{AreTexts};
+ghost use Rattle.dr_plain.specs.Pieces.{HasGiven, GivesMore, GivesTexts};
+
+use crate::reading::{append_int32s, append_int64s, bytes_of_bits, push_bits};
+use crate::texts::{append_texts, front_texts};
+use crate::values::{PlainFault, TextPlace};
+
+/// Reads values in PLAIN a piece at a time. Each call takes the bytes of all values, the same ones, and the calls are of
+/// one kind. It has no buffers.
+#[derive(Clone, Copy, Debug)]
+pub struct PlainReader {
+    /// Where the next value begins: the place of its first byte; of a truth value that of its bit.
+    pub(crate) place: usize,
+}
+
+impl PlainReader {
+    /// A reader that gave nothing.
+    pub fn new() -> PlainReader
+        ensures { (k : tree.Kind) → (bytes : List ℕ) → HasGiven k bytes [] result }
+    {
+        PlainReader { place: 0 }
+    }
+
+    /// Appends the next truth values.
+    ///
+    /// Errors: the bytes end before; want of memory. The values are then as they were.
+    pub fn next_bools(
+        &mut self,
+        bytes: &[u8],
+        count: usize,
+        out: &mut Vec<bool>,
+    ) -> Result<(), PlainFault>
+        ensures next { (given : List Value) → HasGiven tree.bool_kind bytes.now given self.old
+            → GivesMore tree.bool_kind bytes.now given count (map bool_value (out.old).items)
+            (map bool_value (out.new).items) self.new result }
+        ensures count { OnOk result (length (out.new).items ≡ length (out.old).items + count) }
+        ensures stays { OnErr result ((out.new).items ≡ (out.old).items) }
+    {
+        let Some(end) = self.place.checked_add(count) else {
+            return Err(PlainFault::NoMemory);
+        };
+        if bytes.len() < bytes_of_bits(end) {
+            return Err(PlainFault::Short);
+        }
+        if out.reserve(count).is_err() {
+            return Err(PlainFault::NoMemory);
+        }
+        push_bits(bytes, self.place, end, out);
+        self.place = end;
+        Ok(())
+    }
+
+    /// Appends the next 32-bit numbers.
+    ///
+    /// Errors: the bytes end before; want of memory. The values are then as they were.
+    pub fn next_int32s(
+        &mut self,
+        bytes: &[u8],
+        count: usize,
+        out: &mut Vec<i64>,
+    ) -> Result<(), PlainFault>
+        ensures next { (given : List Value) → HasGiven tree.int32_kind bytes.now given self.old
+            → GivesMore tree.int32_kind bytes.now given count (map int_value (out.old).items)
+            (map int_value (out.new).items) self.new result }
+        ensures count { OnOk result (length (out.new).items ≡ length (out.old).items + count) }
+        ensures stays { OnErr result ((out.new).items ≡ (out.old).items) }
+    {
+        let rest = self.rest(bytes);
+        append_int32s(rest, count, out)?;
+        self.go_behind(bytes, rest, count, 4);
+        Ok(())
+    }
+
+    /// Appends the next 64-bit numbers.
+    ///
+    /// Errors: the bytes end before; want of memory. The values are then as they were.
+    pub fn next_int64s(
+        &mut self,
+        bytes: &[u8],
+        count: usize,
+        out: &mut Vec<i64>,
+    ) -> Result<(), PlainFault>
+        ensures next { (given : List Value) → HasGiven tree.int64_kind bytes.now given self.old
+            → GivesMore tree.int64_kind bytes.now given count (map int_value (out.old).items)
+            (map int_value (out.new).items) self.new result }
+        ensures count { OnOk result (length (out.new).items ≡ length (out.old).items + count) }
+        ensures stays { OnErr result ((out.new).items ≡ (out.old).items) }
+    {
+        let rest = self.rest(bytes);
+        append_int64s(rest, count, out)?;
+        self.go_behind(bytes, rest, count, 8);
+        Ok(())
+    }
+
+    /// Puts the places of the next texts into the place of others, and answers the bytes that they are places of: those
+    /// of these texts alone, each behind its length.
+    ///
+    /// Errors: the bytes end before, or a text is not UTF-8, whichever comes first; want of memory. There are then no
+    /// places.
+    pub fn next_texts<'a>(
+        &mut self,
+        bytes: &'a [u8],
+        count: usize,
+        out: &mut Vec<TextPlace>,
+    ) -> Result<&'a [u8], PlainFault>
+        ensures next { (given : List Value) → HasGiven tree.text_kind bytes.now given self.old
+            → GivesTexts bytes.now given count (out.new).items self.new result }
+        ensures count { OnOk result (length (out.new).items ≡ count) }
+        ensures texts { IfOk result (λ piece. AreTexts piece.now (out.new).items) }
+        ensures none { OnErr result ((out.new).items ≡ []) }
+    {
+        out.clear();
+        let rest = self.rest(bytes);
+        let piece = front_texts(rest, count);
+        append_texts(piece, count, out)?;
+        self.go_behind(bytes, rest, piece.len(), 1);
+        Ok(piece)
+    }
+
+    /// The bytes that weren't read.
+    fn rest<'a>(&self, bytes: &'a [u8]) -> &'a [u8]
+        ensures { result.now ≡ drop (self.now).place bytes.now }
+    {
+        &bytes[self.place.min(bytes.len())..]
+    }
+    /// Goes behind the next so many values of a size, with which the rest of the bytes begins.
+    fn go_behind(&mut self, bytes: &[u8], rest: &[u8], count: usize, size: usize)
+        requires rest { rest.now ≡ drop (self.old).place bytes.now }
+        requires there { count * size ≤ length rest.now }
+        ensures { drop (self.new).place bytes.now ≡ drop (count * size) rest.now }
+    {
+        self.place = bytes.len() - (rest.len() - count * size);
+    }
+}
