@@ -21,6 +21,7 @@ impl<'a> Cut<'a> {
     ghost use Rattle.dr_bytes.specs.Cutting.{whole, left};
 
     /// All of the bytes, at their front.
+    #[inline(always)]
     pub fn new(bytes: &'a [u8]) -> Cut<'a>
         ensures whole { whole result ≡ bytes.now }
         ensures left { left result ≡ bytes.now }
@@ -29,6 +30,7 @@ impl<'a> Cut<'a> {
     }
 
     /// The place, in bytes from the front.
+    #[inline(always)]
     pub fn place(&self) -> usize
         ensures { result + length (left self.now) ≡ length (whole self.now) }
     {
@@ -36,6 +38,7 @@ impl<'a> Cut<'a> {
     }
 
     /// The bytes from the place on.
+    #[inline(always)]
     pub fn rest(&self) -> &'a [u8]
         ensures { result.now ≡ left self.now }
     {
@@ -45,6 +48,7 @@ impl<'a> Cut<'a> {
     /// The next bytes, so many.
     ///
     /// Errors: fewer are left.
+    #[inline(always)]
     pub fn take(&mut self, count: usize) -> Result<&'a [u8], Short>
         ensures taken { IfOk result (λ b. b.now ≡ take count (left self.old)) }
         ensures behind { OnOk result (left self.new ≡ drop count (left self.old)) }
@@ -63,6 +67,7 @@ impl<'a> Cut<'a> {
     /// The number in the next four bytes, the lowest first.
     ///
     /// Errors: fewer are left.
+    #[inline(always)]
     pub fn le32(&mut self) -> Result<u32, Short>
         ensures number { IfOk result (λ n. n ≡ little_endian (take 4 (left self.old))) }
         ensures behind { OnOk result (left self.new ≡ drop 4 (left self.old)) }
@@ -82,6 +87,7 @@ impl<'a> Cut<'a> {
     /// The number in the next eight bytes, the lowest first.
     ///
     /// Errors: fewer are left.
+    #[inline(always)]
     pub fn le64(&mut self) -> Result<u64, Short>
         ensures number { IfOk result (λ n. n ≡ little_endian (take 8 (left self.old))) }
         ensures behind { OnOk result (left self.new ≡ drop 8 (left self.old)) }
@@ -102,6 +108,7 @@ impl<'a> Cut<'a> {
     /// below 2^64.
     ///
     /// Errors: the bytes end before; the spelling is too long.
+    #[inline]
     pub fn varint(&mut self) -> Result<u64, VarintFault>
         ensures number { IfOk result (λ n. read_varint (left self.old) ≡ got n (left self.new)) }
         ensures fault { IfErr result (λ e. IsFault (varint_fault_view e) (read_varint (left self.old))) }

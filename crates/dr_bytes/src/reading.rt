@@ -9,6 +9,7 @@ use crate::fault::VarintFault;
 use crate::spelling::LONGEST_VARINT;
 
 /// The number at the front of bytes, and how many bytes it takes.
+#[inline]
 pub(crate) fn front_varint(bytes: &[u8]) -> Result<(u64, usize), VarintFault>
     ensures number { IfOk result (λ r. read_varint bytes.now ≡ got r.0 (drop r.1 bytes.now)) }
     ensures within { IfOk result (λ r. r.1 ≤ length bytes.now) }

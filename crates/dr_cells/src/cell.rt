@@ -27,6 +27,7 @@ pub enum CellRef<'a> {
 }
 
 /// A cell of a buffer, lent.
+#[inline(always)]
 pub fn lend(bytes: &[u8], cell: Cell) -> CellRef<'_>
     requires { is_cell bytes.now cell ≡ true }
     ensures { lent_cell result ≡ cell_view bytes.now cell }

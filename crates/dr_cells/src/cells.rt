@@ -38,6 +38,7 @@ impl Cells {
     }
 
     /// How many there are.
+    #[inline(always)]
     pub fn len(&self) -> usize
         ensures { result ≡ length (cells_view self.now) }
     {
@@ -45,6 +46,7 @@ impl Cells {
     }
 
     /// Whether there are none.
+    #[inline(always)]
     pub fn is_empty(&self) -> bool
         ensures { result ≡ (length (cells_view self.now) == 0) }
     {
@@ -52,6 +54,7 @@ impl Cells {
     }
 
     /// The cell of this number.
+    #[inline(always)]
     pub fn get(&self, number: usize) -> CellRef<'_>
         requires { number < length (cells_view self.now) }
         ensures { drop number (cells_view self.now) ≡ lent_cell result ∷ drop (number + 1) (cells_view self.now) }
@@ -63,6 +66,7 @@ impl Cells {
     ///
     /// Errors: want of memory, or of room: the texts of a result have less than 4 GiB together. Nothing has changed
     /// then.
+    #[inline(always)]
     pub fn push(&mut self, value: Option<ValueRef<'_>>) -> Result<(), NoMemory>
         ensures { Adds (cells_view self.old) (cells_view self.new)
             (value_cell (option_map lent_value value.entry) ∷ []) result }
@@ -80,6 +84,7 @@ impl Cells {
     /// Appends a whole number, or NULL.
     ///
     /// Errors: want of memory alone. Nothing has changed then.
+    #[inline]
     pub fn push_whole(&mut self, whole: Option<i128>) -> Result<(), NoMemory>
         ensures { Adds (cells_view self.old) (cells_view self.new)
             (value_cell (option_map int_value whole) ∷ []) result }
@@ -95,6 +100,7 @@ impl Cells {
     /// Appends how many objects a list has.
     ///
     /// Errors: want of memory alone. Nothing has changed then.
+    #[inline(always)]
     pub fn push_count(&mut self, count: u64) -> Result<(), NoMemory>
         ensures { Adds (cells_view self.old) (cells_view self.new) (count_cell count ∷ []) result }
     {
@@ -103,6 +109,7 @@ impl Cells {
     }
 
     /// Appends a text.
+    #[inline]
     fn push_text(&mut self, text: &str) -> Result<(), NoMemory>
         ensures { Adds (cells_view self.old) (cells_view self.new)
             (value_cell (Some (text_value text.now)) ∷ []) result }
@@ -144,6 +151,7 @@ impl Cells {
     }
 
     /// Puts how many objects a list has into the place of a cell.
+    #[inline(always)]
     pub fn set_count(&mut self, number: usize, count: u64)
         requires { number < length (cells_view self.old) }
         ensures { cells_view self.new ≡ slice_set (cells_view self.old) number (count_cell count) }
@@ -152,6 +160,7 @@ impl Cells {
     }
 
     /// Puts a cell that has no text, or one that lies in the buffer, into the place of another.
+    #[inline(always)]
     fn set_cell(&mut self, number: usize, cell: Cell)
         requires number { number < length (cells_view self.old) }
         requires text { is_cell (self.old).bytes.items cell ≡ true }
@@ -191,6 +200,7 @@ impl Cells {
     }
 
     /// Drops all cells behind the first so many.
+    #[inline]
     pub fn truncate(&mut self, count: usize)
         ensures { cells_view self.new ≡ take count (cells_view self.old) }
     {

@@ -7,6 +7,7 @@ use crate::cells::Cells;
 
 impl Cells {
     /// Has no cells any more, and no texts: their memory is used for those that come.
+    #[inline(always)]
     pub fn clear(&mut self)
         ensures cells { cells_view self.new ≡ [] }
         ensures texts { (self.new).bytes.items ≡ [] }

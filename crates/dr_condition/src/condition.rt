@@ -55,6 +55,7 @@ impl<'p> Condition<'p> {
     /// What is known with the next move, where the slots hold what was read last of each leaf, with this move.
     ///
     /// Errors: want of memory alone.
+    #[inline(always)]
     pub fn step(
         &mut self,
         alloc: Global,

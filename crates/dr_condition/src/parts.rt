@@ -24,6 +24,7 @@ pub(crate) struct Parts<'p> {
 /// Whether a test is true, by what was read last of each leaf: neither false nor NULL.
 ///
 /// Errors: want of memory alone.
+#[inline(always)]
 pub(crate) fn is_true(
     alloc: Global,
     test: &Truth,

@@ -16,6 +16,7 @@ pub struct Told {
 }
 
 /// Whether all open branches are kept.
+#[inline(always)]
 pub(crate) fn is_all_kept(kept: Kept) -> bool
     ensures { result ≡ ((kept.undecided == 0) && (kept.dropped == 0)) }
 {
@@ -23,6 +24,7 @@ pub(crate) fn is_all_kept(kept: Kept) -> bool
 }
 
 /// Whether the branch that a move leaves is dropped, where so many were open before it.
+#[inline(always)]
 pub(crate) fn is_left_dropped(kept: Kept, read: &Move<'_>, depth: u32) -> bool
     requires { depth < 64 }
     ensures { result ≡ innermost_dropped (move_view read.now) depth kept }

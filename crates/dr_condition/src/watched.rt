@@ -29,6 +29,7 @@ pub(crate) struct Watched<'p> {
 }
 
 /// Tests each part whose last leaf is this one. The other answers stay.
+#[inline(always)]
 fn test_at_leaf(
     alloc: Global,
     leaf: u32,
@@ -55,6 +56,7 @@ fn test_at_leaf(
 /// with this move. The other answers stay.
 ///
 /// Errors: want of memory alone.
+#[inline(always)]
 fn test_at_move(
     alloc: Global,
     read: &Move<'_>,
@@ -103,6 +105,7 @@ impl<'p> Watched<'p> {
     /// What is known with the next move, where the slots hold what was read last of each leaf, with this move.
     ///
     /// Errors: want of memory alone.
+    #[inline(always)]
     pub(crate) fn step(
         &mut self,
         alloc: Global,

@@ -52,6 +52,7 @@ impl Accumulator {
     /// Takes a row with this value, or NULL.
     ///
     /// Errors: want of memory, or of room: a count is below 2^64, a sum within 128 bits. Nothing has changed then.
+    #[inline(always)]
     pub fn take(
         &mut self,
         alloc: Global,
@@ -69,6 +70,7 @@ impl Accumulator {
     }
 
     /// Takes a row, whatever is in it.
+    #[inline(always)]
     fn take_row(&mut self) -> Result<(), NoMemory>
         ensures { Becomes (accumulator_view self.old) (accumulator_view self.new)
             (take_row (accumulator_view self.old)) result }
@@ -83,6 +85,7 @@ impl Accumulator {
     }
 
     /// Takes a value.
+    #[inline(always)]
     fn take_value(&mut self, alloc: Global, value: ValueRef<'_>) -> Result<(), NoMemory>
         ensures { Becomes (accumulator_view self.old) (accumulator_view self.new)
             (take_value (accumulator_view self.old) (Some (lent_value value.entry))) result }
@@ -97,6 +100,7 @@ impl Accumulator {
 }
 
 /// Adds a number to a sum; what is no number counts as 0.
+#[inline(always)]
 fn add_number(sum: &mut Option<i128>, value: ValueRef<'_>) -> Result<(), NoMemory>
     ensures { Becomes sum.old sum.new (join_options (λ x y. x +ℤ y) sum.old
         (Some (integer_sum (lent_value value.entry ∷ [])))) result }
@@ -118,6 +122,7 @@ fn add_number(sum: &mut Option<i128>, value: ValueRef<'_>) -> Result<(), NoMemor
 }
 
 /// Keeps a value where it is less than the one that is held.
+#[inline]
 fn keep_least(alloc: Global, least: &mut Option<Value>, value: ValueRef<'_>) -> Result<(), NoMemory>
     ensures { Becomes (cell_view least.old) (cell_view least.new)
         (join_options smaller (cell_view least.old) (Some (lent_value value.entry))) result }
@@ -129,6 +134,7 @@ fn keep_least(alloc: Global, least: &mut Option<Value>, value: ValueRef<'_>) -> 
 }
 
 /// Keeps a value where it is greater than the one that is held.
+#[inline]
 fn keep_greatest(
     alloc: Global,
     greatest: &mut Option<Value>,
@@ -144,6 +150,7 @@ fn keep_greatest(
 }
 
 /// Whether a value is less than the one that is held, if one is.
+#[inline]
 fn is_less(held: &Option<Value>, value: ValueRef<'_>) -> bool
     ensures { join_options smaller (cell_view held.now) (Some (lent_value value.entry))
         ≡ (if result then Some (lent_value value.entry) else cell_view held.now) }
@@ -155,6 +162,7 @@ fn is_less(held: &Option<Value>, value: ValueRef<'_>) -> bool
 }
 
 /// Whether a value is greater than the one that is held, if one is.
+#[inline]
 fn is_greater(held: &Option<Value>, value: ValueRef<'_>) -> bool
     ensures { join_options larger (cell_view held.now) (Some (lent_value value.entry))
         ≡ (if result then Some (lent_value value.entry) else cell_view held.now) }

@@ -19,6 +19,7 @@ use std::alloc::Global;
 use std::cmp::Ordering;
 
 /// Whether a group has a key tuple.
+#[inline(always)]
 fn has_key(group: &Group, key: &[Option<ValueRef<'_>>]) -> bool
     ensures yes { result ≡ true → (group_view group.now).keys ≡ map lent_cell key.now }
     ensures no { result ≡ false → (group_view group.now).keys ≡ map lent_cell key.now → ⊥ }
@@ -45,6 +46,7 @@ fn index_of(alloc: Global, groups: &[Group]) -> Result<Index, NoMemory>
 
 impl GroupMap {
     /// Whether the group at the hint has a key tuple.
+    #[inline(always)]
     pub(crate) fn is_hinted(&self, key: &[Option<ValueRef<'_>>]) -> bool
         ensures { result ≡ true → IsFound (map lent_cell key.now) (map group_view (self.now).groups.items)
             (Some (self.now).hint) }
@@ -58,6 +60,7 @@ impl GroupMap {
     /// Indexes all groups, where some are not, or where the buckets are too few.
     ///
     /// Errors: want of memory, or of room for the number of a group. Nothing has changed then.
+    #[inline(always)]
     pub(crate) fn prepare(&mut self, alloc: Global) -> Result<(), NoMemory>
         ensures groups { (self.new).groups ≡ (self.old).groups }
         ensures gatherings { (self.new).gatherings ≡ (self.old).gatherings }
@@ -71,6 +74,7 @@ impl GroupMap {
     }
 
     /// The number of the group of a key tuple, if there is one.
+    #[inline]
     pub(crate) fn find(&self, hash: u64, key: &[Option<ValueRef<'_>>]) -> Option<usize>
         requires ready { IsReady self.now }
         requires hash { hash ≡ tuple_hash (map lent_cell key.now) }

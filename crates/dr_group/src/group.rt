@@ -30,6 +30,7 @@ pub struct Taken<'a> {
 /// Takes a value into the accumulator of its aggregate, if there is one.
 ///
 /// Errors: want of memory, or of room for a count or a sum. Nothing has changed then.
+#[inline(always)]
 pub fn take_into(
     alloc: Global,
     gatherings: &[Gathering],

@@ -10,6 +10,7 @@ use dr_nested::Value;
 use std::hash::{FoldHasher, Hasher};
 
 /// The hash of a lent key tuple.
+#[inline(always)]
 pub fn lent_hash(key: &[Option<ValueRef<'_>>]) -> u64
     ensures { result ≡ tuple_hash (map lent_cell key.now) }
 {
@@ -32,6 +33,7 @@ pub fn held_hash(key: &[Option<Value>]) -> u64
 }
 
 /// Hashes a lent cell.
+#[inline(always)]
 fn write_cell(hasher: &mut FoldHasher, cell: Option<ValueRef<'_>>)
     ensures { hasher.new ≡ fold folding.write hasher.old (cell_writes (lent_cell cell.entry)) }
 {

@@ -50,6 +50,7 @@ impl Index {
     }
 
     /// The bucket of a hash.
+    #[inline(always)]
     pub fn bucket(&self, hash: u64) -> usize
         requires { 0 < length (self.now).heads.items }
         ensures bucket { result ≡ bucket_of (self.now).heads.items hash }

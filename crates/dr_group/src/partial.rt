@@ -76,6 +76,7 @@ impl Partial {
     /// is given. Lines take nothing so.
     ///
     /// Errors: want of memory, or of room for a count, a sum or a number of a group. Nothing has changed then.
+    #[inline(always)]
     pub fn put(
         &mut self,
         alloc: Global,

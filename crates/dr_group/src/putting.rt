@@ -30,6 +30,7 @@ impl GroupMap {
     /// Puts a key tuple, which makes its group where there is none, and takes a value into it, if one is given.
     ///
     /// Errors: want of memory, or of room for a count, a sum or a number of a group. Nothing has changed then.
+    #[inline(always)]
     pub fn put(
         &mut self,
         alloc: Global,
@@ -49,6 +50,7 @@ impl GroupMap {
     }
 
     /// Puts a key tuple where all groups are indexed.
+    #[inline]
     fn put_ready(
         &mut self,
         alloc: Global,
@@ -74,6 +76,7 @@ impl GroupMap {
     }
 
     /// Puts a key tuple into its group, of this number.
+    #[inline(always)]
     fn put_at(
         &mut self,
         alloc: Global,
@@ -90,6 +93,7 @@ impl GroupMap {
     }
 
     /// Takes a value into the group of a number.
+    #[inline(always)]
     fn take_at(
         &mut self,
         alloc: Global,

@@ -44,6 +44,7 @@ impl RunReader {
     ///
     /// Errors: the bytes begin with no runs for all that was asked, this included; so says each later call, and there
     /// may be any values in `out`.
+    #[inline]
     pub fn next<T: Packable>(&mut self, bytes: &[u8], out: &mut [T]) -> Result<(), Short>
         requires { width_at self.old ≤ T.greatest_width }
         ensures read { OnOk result (ahead self.old (length out.old) bytes.now ≡ Some (T.numbers out.new)) }
@@ -66,6 +67,7 @@ impl RunReader {
     }
 
     /// Reads the next values, run by run.
+    #[inline]
     fn read<T: Packable>(&mut self, bytes: &[u8], out: &mut [T]) -> Result<(), Short>
         requires held { width_at self.old ≤ T.greatest_width }
         requires open { IsOpen (self.old).unread }
@@ -89,6 +91,7 @@ impl RunReader {
     }
 
     /// The bytes from its place on.
+    #[inline(always)]
     fn rest<'a>(&self, bytes: &'a [u8]) -> &'a [u8]
         ensures { result.now ≡ bytes_left self.now bytes.now }
     {
@@ -96,6 +99,7 @@ impl RunReader {
     }
 
     /// Goes on to the next run, behind one that is over.
+    #[inline(always)]
     fn go_on(&mut self, bytes: &[u8]) -> Result<(), Short>
         requires over { IsOver (self.old).unread }
         requires open { IsOpen (self.old).unread }
@@ -112,6 +116,7 @@ impl RunReader {
     }
 
     /// Reads values that are read at once.
+    #[inline(always)]
     fn take<T: Packable>(&mut self, bytes: &[u8], out: &mut [T]) -> Result<(), Short>
         requires held { width_at self.old ≤ T.greatest_width }
         requires open { IsOpen (self.old).unread }
@@ -137,6 +142,7 @@ impl RunReader {
     }
 
     /// Reads packed values of so many groups, of the first of which some are read.
+    #[inline(always)]
     fn take_packed<T: Packable>(
         &mut self,
         bytes: &[u8],

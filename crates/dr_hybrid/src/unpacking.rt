@@ -10,6 +10,7 @@ use crate::words::front_word;
 const NARROW: u32 = 8;
 
 /// The value in the bits of a word that a mask leaves.
+#[inline(always)]
 fn masked<T: Packable>(word: u64, mask: u64) -> T
     requires { mask < 2 ^ T.greatest_width }
     ensures { T.number result ≡ bit_and word mask }
@@ -18,6 +19,7 @@ fn masked<T: Packable>(word: u64, mask: u64) -> T
 }
 
 /// The eight values of a width in the lowest bits of a word.
+#[inline(always)]
 fn group_of<T: Packable>(word: u64, width: u32, mask: u64) -> [T; 8]
     requires low { mask ≡ 2 ^ width - 1 }
     requires narrow { mask < 2 ^ T.greatest_width }
@@ -44,6 +46,7 @@ fn group_of<T: Packable>(word: u64, width: u32, mask: u64) -> [T; 8]
 }
 
 /// The values of a width in the lowest bits of a word, as many as there is room for.
+#[inline(always)]
 fn unpack_few<T: Packable>(word: u64, width: u32, mask: u64, out: &mut [T])
     requires low { mask ≡ 2 ^ width - 1 }
     requires narrow { mask < 2 ^ T.greatest_width }
@@ -58,6 +61,7 @@ fn unpack_few<T: Packable>(word: u64, width: u32, mask: u64, out: &mut [T])
 }
 
 /// Values of at most eight bits, eight at a time.
+#[inline]
 fn unpack_narrow<T: Packable>(bytes: &[u8], width: u32, mask: u64, out: &mut [T])
     requires narrow { width ≤ 8 }
     requires low { mask ≡ 2 ^ width - 1 }
@@ -77,6 +81,7 @@ fn unpack_narrow<T: Packable>(bytes: &[u8], width: u32, mask: u64, out: &mut [T]
 }
 
 /// Values of any width behind the first few, one after another, each from the word at its first byte.
+#[inline]
 fn unpack_each<T: Packable>(bytes: &[u8], width: u32, skipped: u32, out: &mut [T])
     requires narrow { width ≤ 32 }
     requires held { width ≤ T.greatest_width }
@@ -97,6 +102,7 @@ fn unpack_each<T: Packable>(bytes: &[u8], width: u32, skipped: u32, out: &mut [T
 }
 
 /// Values of a width, which fit what they are held in, behind the first few of a group.
+#[inline]
 pub(crate) fn unpack<T: Packable>(bytes: &[u8], width: u32, skipped: u32, out: &mut [T])
     requires narrow { width ≤ 32 }
     requires held { width ≤ T.greatest_width }

@@ -54,6 +54,7 @@ impl Unread {
     ghost use Rattle.dr_hybrid.specs.Unread.{HasMore, IsInGroups, IsOver};
 
     /// How many of the wanted values are read at once; none where the run is over.
+    #[inline(always)]
     pub(crate) fn at_once(&self, wanted: usize) -> usize
         requires { IsInGroups self.now }
         ensures within { result ≤ wanted }

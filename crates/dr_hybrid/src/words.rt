@@ -4,6 +4,7 @@ ghost use Rattle.std.specs.Prelude.{◌≡◌, ◌≤◌, ◌<◌, ◌*◌, ◌^
 ghost use Rattle.dr_formats.specs.LittleEndian.{little_endian, bytes_for};
 
 /// The number in the first eight bytes, or in all where there are fewer, the lowest first.
+#[inline(always)]
 pub(crate) fn front_word(bytes: &[u8]) -> u64
     ensures { result ≡ little_endian (take 8 bytes.now) }
 {
@@ -26,6 +27,7 @@ fn short_word(bytes: &[u8]) -> u64
 }
 
 /// The number in at most four bytes.
+#[inline(always)]
 pub(crate) fn number_of(bytes: &[u8]) -> u32
     requires { length bytes.now ≤ 4 }
     ensures number { result ≡ little_endian bytes.now }
@@ -35,6 +37,7 @@ pub(crate) fn number_of(bytes: &[u8]) -> u32
 }
 
 /// The bytes that so many values of a width take; none where there are no slices of that length.
+#[inline(always)]
 pub(crate) fn packed_length(count: usize, width: u32) -> Option<usize>
     requires { width ≤ 32 }
     ensures length { IfSome result (λ n. n ≡ bytes_for (count * width)) }

@@ -46,6 +46,7 @@ pub fn check_record(fields: &[Field], value: &Json) -> Result<(), RecordProblem>
 }
 
 /// Whether a size is within the limits.
+#[inline(always)]
 pub fn check_limits(size: Size) -> Result<(), RecordProblem>
     ensures { (n : Node) → size ≡ node_size n → ChecksRecord (node_within_limits n) n result }
 {
@@ -164,6 +165,7 @@ fn check_leaf(kind: Kind, value: &Json) -> Result<Size, RecordProblem>
 }
 
 /// The size of a leaf's value, lent.
+#[inline(always)]
 pub fn lent_size(lent: ValueRef<'_>) -> Size
     ensures { result ≡ instance_size (atom (lent_value lent.entry)) }
 {

@@ -49,6 +49,7 @@ fn plain_node(fields: &[Field], members: &[Member<'_>]) -> Option<Size>
 
 /// The size of a field's instances.
 #[cycle(plain)]
+#[inline(always)]
 fn plain_field(field: &Field, found: Option<&Raw<'_>>) -> Option<Size>
     requires { is_shape (shape_view (field.now).shape) ≡ true }
     ensures { PlainField (rep_view (field.now).rep) (shape_view (field.now).shape)
@@ -68,6 +69,7 @@ fn plain_field(field: &Field, found: Option<&Raw<'_>>) -> Option<Size>
 
 /// The size of the only instance of a field.
 #[cycle(plain)]
+#[inline(always)]
 fn plain_only(shape: &Shape, value: &Raw<'_>) -> Option<Size>
     requires { is_shape (shape_view shape.now) ≡ true }
     ensures { PlainOnly (shape_view shape.now) (value_view value.now) result }
@@ -78,6 +80,7 @@ fn plain_only(shape: &Shape, value: &Raw<'_>) -> Option<Size>
 
 /// The size of a list's elements.
 #[cycle(plain)]
+#[inline(always)]
 fn plain_elements(shape: &Shape, items: &[Raw<'_>]) -> Option<Size>
     requires { is_shape (shape_view shape.now) ≡ true }
     ensures { PlainItems (shape_view shape.now) (items_view items.now) result }
@@ -94,6 +97,7 @@ fn plain_elements(shape: &Shape, items: &[Raw<'_>]) -> Option<Size>
 
 /// The size of what is in an instance of a leaf or a group.
 #[cycle(plain)]
+#[inline(always)]
 fn plain_instance(shape: &Shape, value: &Raw<'_>) -> Option<Size>
     requires { is_shape (shape_view shape.now) ≡ true }
     ensures { PlainOne (shape_view shape.now) (value_view value.now) result }
@@ -108,6 +112,7 @@ fn plain_instance(shape: &Shape, value: &Raw<'_>) -> Option<Size>
 }
 
 /// The size of a leaf's value.
+#[inline(always)]
 fn plain_leaf(kind: Kind, value: &Raw<'_>) -> Option<Size>
     ensures { PlainOne (leaf (kind_view kind)) (value_view value.now) result }
 {

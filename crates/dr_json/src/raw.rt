@@ -68,6 +68,7 @@ pub(crate) fn raw_members<'r>(
 }
 
 /// The last member of a name, and its place.
+#[inline(always)]
 fn last_named<'v, 'r>(members: &'v [Member<'r>], name: &str) -> Option<(usize, &'v Raw<'r>)>
     ensures value { option_map (λ r. value_view r.1.now) result ≡ get_member name.now (members_view members.now) }
     ensures place { IfSome result (λ r. r.0 < length members.now) }
@@ -84,6 +85,7 @@ fn last_named<'v, 'r>(members: &'v [Member<'r>], name: &str) -> Option<(usize, &
 }
 
 /// The member at a place, where it has this name, and else the last member of the name; and its place.
+#[inline(always)]
 pub(crate) fn member_near<'v, 'r>(
     members: &'v [Member<'r>],
     place: usize,
@@ -105,6 +107,7 @@ pub(crate) fn member_near<'v, 'r>(
 }
 
 /// The member of a name, looked for first at a place, which becomes the one behind it.
+#[inline(always)]
 pub(crate) fn next_member<'v, 'r>(
     members: &'v [Member<'r>],
     place: &mut usize,
@@ -118,6 +121,7 @@ pub(crate) fn next_member<'v, 'r>(
 }
 
 /// What stands for a field: nothing, where its key is missing or its value is null.
+#[inline(always)]
 pub(crate) fn present<'v, 'r>(found: Option<&'v Raw<'r>>) -> Option<&'v Raw<'r>>
     ensures { option_map (λ v. value_view v.now) result ≡ present_in (option_map (λ v. value_view v.now) found.entry) }
 {
@@ -128,6 +132,7 @@ pub(crate) fn present<'v, 'r>(found: Option<&'v Raw<'r>>) -> Option<&'v Raw<'r>>
 }
 
 /// The value of a leaf of this kind, if it is one.
+#[inline(always)]
 pub(crate) fn raw_leaf<'r>(kind: Kind, value: &Raw<'r>) -> Option<ValueRef<'r>>
     ensures value { option_map (λ v. atom (lent_value v)) result ≡ leaf_raw (kind_view kind) (value_view value.now) }
     ensures form { IfSome result (λ v. is_atom_of (kind_view kind) (atom (lent_value v)) ≡ true) }
@@ -140,6 +145,7 @@ pub(crate) fn raw_leaf<'r>(kind: Kind, value: &Raw<'r>) -> Option<ValueRef<'r>>
     }
 }
 
+#[inline(always)]
 fn bool_of<'r>(value: &Raw<'r>) -> Option<ValueRef<'r>>
     ensures value { option_map (λ v. atom (lent_value v)) result ≡ leaf_raw bool_kind (value_view value.now) }
     ensures form { IfSome result (λ v. is_atom_of bool_kind (atom (lent_value v)) ≡ true) }
@@ -150,6 +156,7 @@ fn bool_of<'r>(value: &Raw<'r>) -> Option<ValueRef<'r>>
     }
 }
 
+#[inline(always)]
 fn text_of<'r>(value: &Raw<'r>) -> Option<ValueRef<'r>>
     ensures value { option_map (λ v. atom (lent_value v)) result ≡ leaf_raw text_kind (value_view value.now) }
     ensures form { IfSome result (λ v. is_atom_of text_kind (atom (lent_value v)) ≡ true) }
@@ -160,6 +167,7 @@ fn text_of<'r>(value: &Raw<'r>) -> Option<ValueRef<'r>>
     }
 }
 
+#[inline(always)]
 fn lent_text(text: &str) -> ValueRef<'_>
     ensures value { lent_value result ≡ text_value text.now }
     ensures form { is_utf8 text.now ≡ true }
@@ -167,6 +175,7 @@ fn lent_text(text: &str) -> ValueRef<'_>
     ValueRef::Text(text)
 }
 
+#[inline(always)]
 fn int32_of<'r>(value: &Raw<'r>) -> Option<ValueRef<'r>>
     ensures value { option_map (λ v. atom (lent_value v)) result ≡ leaf_raw int32_kind (value_view value.now) }
     ensures form { IfSome result (λ v. is_atom_of int32_kind (atom (lent_value v)) ≡ true) }
@@ -180,12 +189,14 @@ fn int32_of<'r>(value: &Raw<'r>) -> Option<ValueRef<'r>>
     }
 }
 
+#[inline(always)]
 fn fits_int32(integer: i64) -> bool
     ensures { result ≡ in_int32 integer }
 {
     -(1 << 31) <= integer && integer < 1 << 31
 }
 
+#[inline(always)]
 fn int64_of<'r>(value: &Raw<'r>) -> Option<ValueRef<'r>>
     ensures value { option_map (λ v. atom (lent_value v)) result ≡ leaf_raw int64_kind (value_view value.now) }
     ensures form { IfSome result (λ v. is_atom_of int64_kind (atom (lent_value v)) ≡ true) }
@@ -200,6 +211,7 @@ fn int64_of<'r>(value: &Raw<'r>) -> Option<ValueRef<'r>>
 }
 
 /// The whole number that a number's text is, if `i64` holds it. `-0` is none, nor is one with a point or an exponent.
+#[inline]
 fn integer_of(text: &str) -> Option<i64>
     ensures { result ≡ where_fits in_int64 (option_and_then as_integer (number_of text.now)) }
 {
@@ -211,6 +223,7 @@ fn integer_of(text: &str) -> Option<i64>
     }
 }
 
+#[inline(always)]
 fn has_minus(bytes: &[u8]) -> bool
     ensures value { result ≡ (slice_index bytes.now 0 == 45) }
     ensures some { IsTrue result → 1 ≤ length bytes.now }
@@ -218,12 +231,14 @@ fn has_minus(bytes: &[u8]) -> bool
     !bytes.is_empty() && bytes[0] == b'-'
 }
 
+#[inline(always)]
 fn not_below_zero(numeral: &Numeral<'_>) -> Option<i64>
     ensures { result ≡ where_fits in_int64 (option_and_then as_integer (number_from false numeral.now)) }
 {
     numeral.to_i64(false)
 }
 
+#[inline(always)]
 fn below_zero(numeral: &Numeral<'_>) -> Option<i64>
     ensures { result ≡ where_fits in_int64 (option_and_then as_integer (number_from true numeral.now)) }
 {

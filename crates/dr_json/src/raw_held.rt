@@ -31,6 +31,7 @@ pub enum RawParts<'v, 'r> {
 }
 
 /// The instance that a line's own value is, if it is one.
+#[inline(always)]
 fn raw_part_of<'v, 'r>(shape: &'v Shape, value: &'v Raw<'r>) -> Option<RawPart<'v, 'r>>
     ensures { option_map raw_part_view result ≡ instance_raw (shape_view shape.now) (value_view value.now) }
 {
@@ -47,6 +48,7 @@ fn raw_part_of<'v, 'r>(shape: &'v Shape, value: &'v Raw<'r>) -> Option<RawPart<'
 }
 
 /// The instances of a field for which a line's own value stands.
+#[inline(always)]
 fn raw_parts_of<'v, 'r>(field: &'v Field, found: Option<&'v Raw<'r>>) -> RawParts<'v, 'r>
     ensures { raw_parts_view result ≡ field_raw (rep_view (field.now).rep) (instance_raw (shape_view (field.now).shape))
         (option_map (λ v. value_view v.now) found.entry) }
@@ -64,6 +66,7 @@ fn raw_parts_of<'v, 'r>(field: &'v Field, found: Option<&'v Raw<'r>>) -> RawPart
 }
 
 /// The instances of a field of an object of a line, whose member is looked for first at the field's place.
+#[inline(always)]
 fn raw_instances<'v, 'r>(
     field: &'v Field,
     place: usize,
@@ -79,6 +82,7 @@ fn raw_instances<'v, 'r>(
 }
 
 /// The first of some values of a line, which is an instance of a shape, and those behind it.
+#[inline(always)]
 fn cut_raw_items<'v, 'r>(
     shape: &'v Shape,
     values: &'v [Raw<'r>],
@@ -99,6 +103,7 @@ fn cut_raw_items<'v, 'r>(
 
 /// The instances of the field at a place of a group that an object of a line is. Its member is looked for first at the
 /// field's place.
+#[inline(always)]
 fn raw_group_instances<'v, 'r>(
     fields: &'v [Field],
     members: &'v [Member<'r>],
@@ -120,6 +125,7 @@ impl<'v, 'r> Held for RawPart<'v, 'r> {
 
     ghost lists = { raw_parts_view };
 
+    #[inline(always)]
     fn value(&self) -> Option<ValueRef<'_>> {
         match self {
             RawPart::Leaf(lent) => Some(*lent),
@@ -127,6 +133,7 @@ impl<'v, 'r> Held for RawPart<'v, 'r> {
         }
     }
 
+    #[inline(always)]
     fn instances_in(self, place: usize) -> RawParts<'v, 'r> {
         match self {
             RawPart::Leaf(_) => RawParts::Nothing,
@@ -134,6 +141,7 @@ impl<'v, 'r> Held for RawPart<'v, 'r> {
         }
     }
 
+    #[inline(always)]
     fn cut_first(list: RawParts<'v, 'r>) -> Option<(RawPart<'v, 'r>, RawParts<'v, 'r>)> {
         match list {
             RawParts::Nothing => None,

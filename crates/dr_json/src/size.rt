@@ -21,6 +21,7 @@ impl Size {
         text_bytes: 0,
     };
 
+    #[inline(always)]
     pub(crate) fn plus(self, other: Size) -> Size
         ensures instances { result.instances ≡ capped (self.instances + other.instances) }
         ensures text_bytes { result.text_bytes ≡ capped (self.text_bytes + other.text_bytes) }
@@ -31,6 +32,7 @@ impl Size {
         }
     }
 
+    #[inline(always)]
     pub(crate) fn plus_instance(self) -> Size
         ensures instances { result.instances ≡ capped (self.instances + 1) }
         ensures text_bytes { result.text_bytes ≡ self.text_bytes }

@@ -50,6 +50,7 @@ impl Column {
 
     /// How many triplets it has.
     #[tactic(auto, using(crate::proofs::DenseLemmas::joined_length))]
+    #[inline(always)]
     pub fn len(&self) -> usize
         ensures { result ≡ length (column_view self.now) }
     {
@@ -58,6 +59,7 @@ impl Column {
 
     /// Whether it has no triplets.
     #[tactic(auto, using(crate::proofs::DenseLemmas::joined_length))]
+    #[inline(always)]
     pub fn is_empty(&self) -> bool
         ensures { result ≡ (length (column_view self.now) == 0) }
     {
@@ -65,6 +67,7 @@ impl Column {
     }
 
     /// The kind of its leaf's values.
+    #[inline(always)]
     pub fn kind(&self) -> Kind
         ensures { kind_view result ≡ (column_form self.now).kind }
     {
@@ -72,6 +75,7 @@ impl Column {
     }
 
     /// Its leaf's greatest definition level.
+    #[inline(always)]
     pub fn greatest_definition(&self) -> u8
         ensures { result ≡ (column_form self.now).greatest }
     {
@@ -79,6 +83,7 @@ impl Column {
     }
 
     /// A cursor before its first triplet.
+    #[inline(always)]
     pub fn triplets(&self) -> Triplets<'_>
         ensures triplets { triplets_view result ≡ column_view self.now }
         ensures form { triplets_form result ≡ column_form self.now }
@@ -94,6 +99,7 @@ impl Column {
     /// Appends a triplet of the leaf.
     ///
     /// Errors: want of memory, or of room: a column's texts have less than 4 GiB together. Nothing has changed then.
+    #[inline]
     pub fn push(&mut self, triplet: Triplet<'_>) -> Result<(), NoMemory>
         requires { takes (column_form self.old) (triplet_view triplet) ≡ true }
         ensures triplet { Adds (column_view self.old) (column_view self.new) (triplet_view triplet.entry ∷ []) result }

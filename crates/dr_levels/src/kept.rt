@@ -21,6 +21,7 @@ pub struct Kept {
 }
 
 #[tactic(auto, using(std::proofs::lemmas::Nat::Bits::shr_and_one))]
+#[inline(always)]
 fn has_bit(mask: u64, place: u32) -> bool
     requires { place < 64 }
     ensures { result ≡ (bit_at mask place == 1) }
@@ -30,6 +31,7 @@ fn has_bit(mask: u64, place: u32) -> bool
 
 impl Kept {
     /// What is known of the branch at a place.
+    #[inline(always)]
     pub fn branch(self, place: u32) -> Branch
         requires { place < 64 }
         ensures { result ≡ branch_at self place }

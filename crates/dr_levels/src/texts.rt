@@ -35,6 +35,7 @@ impl Texts {
     }
 
     /// How many there are.
+    #[inline(always)]
     pub fn len(&self) -> usize
         ensures { result ≡ length (texts_view self.now) }
     {
@@ -42,6 +43,7 @@ impl Texts {
     }
 
     /// The text of this number.
+    #[inline(always)]
     pub fn get(&self, number: usize) -> &str
         requires { number < length (texts_view self.now) }
         ensures { drop number (texts_view self.now) ≡ text_value result.now ∷ drop (number + 1) (texts_view self.now) }
@@ -52,6 +54,7 @@ impl Texts {
     }
 
     /// So many texts from a number on.
+    #[inline]
     pub fn range(&self, from: usize, count: usize) -> ValuesRef<'_>
         requires { from + count ≤ length (texts_view self.now) }
         ensures values { lent_values result ≡ take count (drop from (texts_view self.now)) }
@@ -66,6 +69,7 @@ impl Texts {
     /// Appends a text.
     ///
     /// Errors: want of memory, or of room: a buffer has less than 4 GiB.
+    #[inline(always)]
     pub fn push(&mut self, text: &str) -> Result<(), NoMemory>
         ensures { Adds (texts_view self.old) (texts_view self.new) (text_value text.now ∷ []) result }
     {

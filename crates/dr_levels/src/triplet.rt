@@ -24,6 +24,7 @@ pub enum ValueRef<'a> {
 
 impl<'a> ValueRef<'a> {
     /// A value, lent.
+    #[inline(always)]
     pub fn of(value: &'a Value) -> ValueRef<'a>
         ensures { lent_value result ≡ value_view value.now }
     {

@@ -31,6 +31,7 @@ impl<'a> Triplets<'a> {
     ghost use Rattle.dr_levels.specs.Lent.{lent_values, lends_kind, present_values};
 
     /// The kind of the leaf's values.
+    #[inline(always)]
     pub fn kind(self) -> Kind
         ensures { kind_view result ≡ (triplets_form self.entry).kind }
     {
@@ -38,6 +39,7 @@ impl<'a> Triplets<'a> {
     }
 
     /// The leaf's greatest definition level.
+    #[inline(always)]
     pub fn greatest_definition(self) -> u8
         ensures { result ≡ (triplets_form self.entry).greatest }
     {
@@ -46,6 +48,7 @@ impl<'a> Triplets<'a> {
 
     /// How many triplets are left.
     #[tactic(auto, using(crate::proofs::DenseLemmas::joined_length))]
+    #[inline(always)]
     pub fn len(self) -> usize
         ensures { result ≡ length (triplets_view self.entry) }
     {
@@ -54,6 +57,7 @@ impl<'a> Triplets<'a> {
 
     /// The levels of the triplets that are left.
     #[tactic(auto, using(crate::proofs::DenseLemmas::joined_levels))]
+    #[inline(always)]
     pub fn levels(self) -> &'a [Levels]
         ensures { map levels_pair result.now ≡ map triplet_levels (triplets_view self.entry) }
     {
@@ -61,6 +65,7 @@ impl<'a> Triplets<'a> {
     }
 
     /// The values of the triplets that are left, which stand side by side.
+    #[inline(always)]
     pub fn values(self) -> ValuesRef<'a>
         ensures values { lent_values result ≡ present_values (triplets_view self.entry) }
         ensures kind { lends_kind (triplets_form self.entry).kind result ≡ true }
@@ -69,6 +74,7 @@ impl<'a> Triplets<'a> {
     }
 
     /// The next triplet, which is passed; none at the end.
+    #[inline(always)]
     pub fn next(&mut self) -> Option<Triplet<'a>>
         ensures triplet { Gives triplet_view (triplets_view self.old) (triplets_view self.new) result }
         ensures form { triplets_form self.new ≡ triplets_form self.old }
@@ -89,6 +95,7 @@ impl<'a> Triplets<'a> {
     }
 
     /// The first so many of them, and the others.
+    #[inline]
     pub fn split_at(self, count: usize) -> (Triplets<'a>, Triplets<'a>)
         requires { count ≤ length (triplets_view self) }
         ensures front { triplets_view result.0 ≡ take count (triplets_view self.entry) }

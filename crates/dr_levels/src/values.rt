@@ -40,6 +40,7 @@ impl Values {
     }
 
     /// How many there are.
+    #[inline(always)]
     pub fn len(&self) -> usize
         ensures { result ≡ length (values_view self.now) }
     {
@@ -51,6 +52,7 @@ impl Values {
     }
 
     /// The value of this number.
+    #[inline(always)]
     pub fn get(&self, number: usize) -> ValueRef<'_>
         requires { number < length (values_view self.now) }
         ensures { drop number (values_view self.now) ≡ lent_value result ∷ drop (number + 1) (values_view self.now) }
@@ -66,6 +68,7 @@ impl Values {
     }
 
     /// So many values from a number on.
+    #[inline]
     pub fn range(&self, from: usize, count: usize) -> ValuesRef<'_>
         requires { from + count ≤ length (values_view self.now) }
         ensures values { lent_values result ≡ take count (drop from (values_view self.now)) }
@@ -82,6 +85,7 @@ impl Values {
     /// Appends a value of the kind, where one is given.
     ///
     /// Errors: want of memory, or of room for texts; nothing has changed then.
+    #[inline(always)]
     pub fn push(&mut self, kind: Kind, value: Option<ValueRef<'_>>) -> Result<(), NoMemory>
         requires kinds { holds_kind (kind_view kind) self.old ≡ true }
         requires fits { IfSome value (λ v. is_held (kind_view kind) (lent_value v) ≡ true) }

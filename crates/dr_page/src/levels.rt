@@ -8,6 +8,7 @@ use dr_levels::Levels;
 use dr_memory::NoMemory;
 
 /// How many levels are this one.
+#[inline(always)]
 pub(crate) fn count_equal(level: u8, levels: &[u8]) -> usize
     ensures { result ≡ count_equal level levels.now }
 {
@@ -34,6 +35,7 @@ pub(crate) fn pair_levels(
 }
 
 /// Puts pairs of levels into the place of others, as many.
+#[inline(always)]
 fn fill_pairs(repetitions: &[u8], definitions: &[u8], out: &mut [Levels])
     requires repetitions { length out.old ≡ length repetitions.now }
     requires definitions { length out.old ≡ length definitions.now }

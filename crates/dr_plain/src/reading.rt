@@ -37,6 +37,7 @@ pub(crate) fn bytes_of_bits(count: usize) -> usize
 }
 
 /// Appends the truth values at these bits of bytes, the lowest of a byte first. There is room for them.
+#[inline]
 pub(crate) fn push_bits(bytes: &[u8], start: usize, end: usize, out: &mut Vec<bool>)
     requires order { start ≤ end }
     requires within { end ≤ 8 * length bytes.now }
@@ -92,6 +93,7 @@ pub fn append_int64s(bytes: &[u8], count: usize, out: &mut Vec<i64>) -> Result<(
 }
 
 /// Puts 64-bit numbers into the place of others, as many.
+#[inline]
 fn fill_int64s(numbers: &[[u8; 8]], out: &mut [i64])
     requires { length out.old ≡ length numbers.now }
     ensures { out.new ≡ map int64_of numbers.now }

@@ -65,6 +65,7 @@ pub(crate) fn front_texts(bytes: &[u8], count: usize) -> &[u8]
 }
 
 /// Goes on behind the next text, whatever its bytes are, and answers whether there is one.
+#[inline(always)]
 fn skip_text(cut: &mut Cut<'_>) -> bool
     ensures skipped { Skips (left cut.old) (left cut.new) result }
     ensures same { whole cut.new ≡ whole cut.old }
@@ -76,6 +77,7 @@ fn skip_text(cut: &mut Cut<'_>) -> bool
 }
 
 /// The place of the next text of bytes, which are a text as a whole or not.
+#[inline(always)]
 fn next_text(bytes: &[u8], all: Option<&str>, cut: &mut Cut<'_>) -> Result<TextPlace, PlainFault>
     requires same { whole cut.old ≡ bytes.now }
     requires all { IfSome all (λ t. t.now ≡ bytes.now) }
@@ -102,6 +104,7 @@ fn next_text(bytes: &[u8], all: Option<&str>, cut: &mut Cut<'_>) -> Result<TextP
 }
 
 /// Whether a part of bytes is UTF-8: where all of them are, a part at whose ends characters begin is.
+#[inline(always)]
 fn is_text(bytes: &[u8], all: Option<&str>, start: usize, end: usize) -> bool
     requires order { start ≤ end }
     requires within { end ≤ length bytes.now }

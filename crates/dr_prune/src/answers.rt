@@ -43,6 +43,7 @@ impl Answers {
     }
 
     /// Whether a part, by its number, is tested where this leaf is read.
+    #[inline(always)]
     pub fn is_tested_at(&self, part: usize, leaf: u32) -> bool
         requires { part < length (lasts_of self.now) }
         ensures here { result ≡ true → slice_get (lasts_of self.now) part ≡ Some leaf }
@@ -54,6 +55,7 @@ impl Answers {
     }
 
     /// A part, by its number, was tested.
+    #[inline(always)]
     pub fn set(&mut self, part: usize, is_true: bool)
         requires { part < length (lasts_of self.old) }
         ensures lasts { lasts_of self.new ≡ lasts_of self.old }
@@ -66,6 +68,7 @@ impl Answers {
     }
 
     /// Whether all parts are true by their answers.
+    #[inline(always)]
     pub fn all(&self) -> bool
         ensures { (t : ℕ → Context → Bool) → result ≡ all_answers (parts_of t self.now) }
     {
@@ -74,6 +77,7 @@ impl Answers {
 }
 
 /// Whether all answers are true.
+#[inline(always)]
 fn are_true(parts: &[Answer]) -> bool
     ensures { result ≡ list_all (λ (x : Answer). x.is_true) parts.now }
 {

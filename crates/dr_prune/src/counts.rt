@@ -35,6 +35,7 @@ impl Counts {
     }
 
     /// In one more branch, which is the next of the chain or not.
+    #[inline(always)]
     pub(crate) fn entered(self, on_chain: bool) -> Counts
         requires { self.depth < 2 ^ 32 - 1 }
         ensures { count_view result ≡ count_entered on_chain (count_view self) }
@@ -57,6 +58,7 @@ impl Counts {
     }
 
     /// With one more row, true or not: a true one is a row of each open branch on the chain.
+    #[inline(always)]
     pub(crate) fn with_row(self, is_true: bool) -> Counts
         ensures { count_view result ≡ count_row is_true (count_view self) }
     {
@@ -69,6 +71,7 @@ impl Counts {
     }
 
     /// Out of the innermost branch.
+    #[inline(always)]
     pub(crate) fn left(self) -> Counts
         ensures { count_view result ≡ count_left (self.along == self.depth) (count_view self) }
     {
@@ -91,6 +94,7 @@ impl Counts {
     }
 
     /// Whether the chain's end is open and has a row, where the chain is so long, with the record.
+    #[inline(always)]
     fn is_end_read(self, long: u32) -> bool
         ensures { result ≡ ((self.along == long) && self.read) }
     {
@@ -99,6 +103,7 @@ impl Counts {
 
     /// Where those that are dropped begin, of the branches on the chain: the innermost of these is dropped where it is
     /// over and has no true row.
+    #[inline(always)]
     fn first_dropped(self, is_over: bool) -> u32
         ensures over { is_over ≡ true → result ≡ max self.hit (self.along - 1) }
         ensures other { is_over ≡ false → result ≡ self.along }
@@ -113,6 +118,7 @@ impl Counts {
     }
 
     /// What is known of the open branches, where the chain is so long, with the record.
+    #[inline(always)]
     pub(crate) fn known(self, long: u32) -> Kept
         requires fits { self.along ≤ long }
         requires few { long < 64 }
@@ -123,6 +129,7 @@ impl Counts {
     }
 
     /// The same, and what is known of the innermost as it is left.
+    #[inline(always)]
     pub(crate) fn known_at_leave(self, long: u32) -> Kept
         requires fits { self.along ≤ long }
         requires few { long < 64 }

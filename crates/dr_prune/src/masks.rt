@@ -6,6 +6,7 @@ use dr_levels::Kept;
 
 /// The bits from one place up to another.
 #[tactic(auto, using(std::proofs::lemmas::Nat::one_shl))]
+#[inline(always)]
 fn bits(from: u32, to: u32) -> u64
     requires order { from ≤ to }
     requires few { to < 64 }
@@ -15,6 +16,7 @@ fn bits(from: u32, to: u32) -> u64
 }
 
 /// Of the branches in front of `along`, those from `top` on are dropped, the others from `hit` on are undecided.
+#[inline(always)]
 pub(crate) fn known_between(hit: u32, top: u32, along: u32) -> Kept
     requires hits { hit ≤ top }
     requires tops { top ≤ along }

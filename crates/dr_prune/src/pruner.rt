@@ -56,6 +56,7 @@ impl Pruner {
     }
 
     /// How many branches are open.
+    #[inline(always)]
     pub fn open(&self) -> u32
         ensures { result ≡ open_in self.now }
     {
@@ -63,6 +64,7 @@ impl Pruner {
     }
 
     /// The chain's length, with the record.
+    #[inline(always)]
     fn long(&self) -> u32
         ensures { result ≡ length (0 ∷ self.now.chain.items) }
     {
@@ -70,6 +72,7 @@ impl Pruner {
     }
 
     /// Whether a field is the next of the chain in the innermost branch.
+    #[inline(always)]
     fn goes_on(&self, number: u32) -> bool
         ensures first { result ≡ ((self.now.counts.along == self.now.counts.depth) && is_first number (drop
             self.now.counts.along (0 ∷ self.now.chain.items))) }
@@ -79,6 +82,7 @@ impl Pruner {
     }
 
     /// The chain's next number, none at its end.
+    #[inline(always)]
     fn next(&self) -> Option<u32>
         ensures { result ≡ slice_get (drop self.now.counts.along (0 ∷ self.now.chain.items)) 0 }
     {
@@ -89,6 +93,7 @@ impl Pruner {
     }
 
     /// Into the record or an instance.
+    #[inline(always)]
     fn enter(&mut self, number: u32) -> Kept
         requires { open_in self.old < 2 ^ 32 - 1 }
         ensures counts { (t : Context → Bool) (c : Context) → numbers_of self.new ≡ count_move (watch_of t
@@ -103,6 +108,7 @@ impl Pruner {
     }
 
     /// A triplet of a leaf, and whether the condition is true in its row, where it is the last leaf.
+    #[inline(always)]
     fn read(&mut self, leaf: u32, is_true: bool) -> Kept
         ensures counts { numbers_of self.new ≡ (if leaf == self.old.last then count_row is_true (numbers_of
             self.old) else numbers_of self.old) }
@@ -118,6 +124,7 @@ impl Pruner {
     }
 
     /// Out of the innermost branch.
+    #[inline(always)]
     fn leave(&mut self) -> Kept
         ensures counts { numbers_of self.new ≡ count_left (self.old.counts.along == self.old.counts.depth)
             (numbers_of self.old) }
@@ -134,6 +141,7 @@ impl Pruner {
     /// The next move of the walk, and whether the condition is true in the row that it reads; where it reads none, the
     /// answer is not looked at. What it tells is of the branches that are open behind the move, and of the one that it
     /// leaves.
+    #[inline(always)]
     pub fn step(&mut self, m: &Move<'_>, is_true: bool) -> Kept
         requires { open_in self.old < 2 ^ 32 - 1 }
         // The numbers count the move, by each test whose answer this is.
@@ -163,6 +171,7 @@ impl Pruner {
 
     /// The next move of the walk, where these are the answers of the condition's parts behind it: the row that it reads
     /// is true where all of them are.
+    #[inline(always)]
     pub fn step_with(&mut self, m: &Move<'_>, answers: &Answers) -> Kept
         requires { open_in self.old < 2 ^ 32 - 1 }
         // Behind the moves that it and the answers have seen, what it tells is what a pruner in parts tells.

@@ -9,6 +9,7 @@ use dr_plan::Comparison;
 use std::cmp::Ordering;
 
 /// What a comparison of two whole numbers gives; NULL where one is.
+#[inline(always)]
 pub(crate) fn compare_numbers(
     comparison: Comparison,
     left: Option<i64>,
@@ -21,6 +22,7 @@ pub(crate) fn compare_numbers(
 }
 
 /// What a comparison of two truth values gives; NULL where one is.
+#[inline(always)]
 pub(crate) fn compare_truths(
     comparison: Comparison,
     left: Option<bool>,
@@ -33,6 +35,7 @@ pub(crate) fn compare_truths(
 }
 
 /// What a comparison of two texts gives, by their bytes.
+#[inline]
 pub(crate) fn compare_texts(comparison: Comparison, left: &str, right: &str) -> bool
     ensures { result ≡ meant.is_true (meant.compared (comparison_view comparison) (text_value left.now)
         (text_value right.now)) }
@@ -41,6 +44,7 @@ pub(crate) fn compare_texts(comparison: Comparison, left: &str, right: &str) -> 
 }
 
 /// Whether a comparison holds of two values that stand in this order.
+#[inline(always)]
 fn holds(comparison: Comparison, order: Ordering) -> bool
     ensures { result ≡ meant.holds (comparison_view comparison) order }
 {

@@ -25,6 +25,7 @@ pub enum Evaluated<'v> {
 
 impl<'v> Evaluated<'v> {
     /// The value, lent.
+    #[inline(always)]
     pub fn lend(&self) -> ValueRef<'_>
         ensures { lent_value result ≡ evaluated_view self.now }
     {
@@ -39,6 +40,7 @@ impl<'v> Evaluated<'v> {
 /// An expression's value, where it isn't NULL.
 ///
 /// Errors: want of memory alone.
+#[inline(always)]
 pub(crate) fn value_of<'v>(
     alloc: Global,
     expression: &'v Expr,

@@ -27,6 +27,7 @@ use std::borrow::CowStr;
 /// An expression's value, where it isn't NULL.
 ///
 /// Errors: want of memory alone.
+#[inline(always)]
 pub fn eval<'v>(
     alloc: Global,
     expression: &'v Expr,
@@ -40,6 +41,7 @@ pub fn eval<'v>(
 }
 
 /// A number's value, where it isn't NULL.
+#[inline(always)]
 pub fn number(number: &Number, row: &[Option<ValueRef<'_>>]) -> Option<i64>
     ensures meant { (ls : List Leaf) (r : Node) → AreValues ls row.now r → number_fits ls number.now ≡ true
         → option_map int_value result ≡ evaluate (number_view ls number.now) r }
@@ -51,6 +53,7 @@ pub fn number(number: &Number, row: &[Option<ValueRef<'_>>]) -> Option<i64>
 /// A text's value, where it isn't NULL: lent where it is a leaf's or a literal, and made where texts are joined.
 ///
 /// Errors: want of memory alone.
+#[inline(always)]
 pub fn text<'v>(
     alloc: Global,
     text: &'v TextOf,
@@ -66,6 +69,7 @@ pub fn text<'v>(
 /// A truth value, where it isn't NULL.
 ///
 /// Errors: want of memory alone.
+#[inline(always)]
 pub fn truth(
     alloc: Global,
     truth: &Truth,

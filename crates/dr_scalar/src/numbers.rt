@@ -11,6 +11,7 @@ use dr_plan::Number;
 
 /// A number's value, where it isn't NULL.
 #[cycle(numbers)]
+#[inline(always)]
 pub(crate) fn number_of(number: &Number, row: &[Option<ValueRef<'_>>]) -> Option<i64>
     ensures { option_map int_value result ≡ number_over (slot_value row.now) number.now }
 {

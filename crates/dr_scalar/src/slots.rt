@@ -9,6 +9,7 @@ ghost use Rattle.dr_scalar.specs.Slots.{of_type, slot_value};
 use dr_levels::ValueRef;
 
 /// The value in the slot of a leaf.
+#[inline(always)]
 fn slot<'v>(row: &[Option<ValueRef<'v>>], leaf: u32) -> Option<ValueRef<'v>>
     ensures { option_map lent_value result ≡ slot_value row.now leaf }
 {
@@ -19,6 +20,7 @@ fn slot<'v>(row: &[Option<ValueRef<'v>>], leaf: u32) -> Option<ValueRef<'v>>
 }
 
 /// The whole number in the slot of a leaf.
+#[inline(always)]
 pub(crate) fn number_in(row: &[Option<ValueRef<'_>>], leaf: u32) -> Option<i64>
     ensures { option_map int_value result ≡ of_type number_type (slot_value row.now leaf) }
 {
@@ -29,6 +31,7 @@ pub(crate) fn number_in(row: &[Option<ValueRef<'_>>], leaf: u32) -> Option<i64>
 }
 
 /// The truth value in the slot of a leaf.
+#[inline(always)]
 pub(crate) fn truth_in(row: &[Option<ValueRef<'_>>], leaf: u32) -> Option<bool>
     ensures { option_map bool_value result ≡ of_type truth_type (slot_value row.now leaf) }
 {
@@ -39,6 +42,7 @@ pub(crate) fn truth_in(row: &[Option<ValueRef<'_>>], leaf: u32) -> Option<bool>
 }
 
 /// The text in the slot of a leaf.
+#[inline(always)]
 pub(crate) fn text_in<'v>(row: &[Option<ValueRef<'v>>], leaf: u32) -> Option<&'v str>
     ensures { option_map (λ t. text_value t.now) result ≡ of_type text_type (slot_value row.now leaf) }
 {

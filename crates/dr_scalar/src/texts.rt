@@ -16,6 +16,7 @@ use std::borrow::CowStr;
 /// A text's value, where it isn't NULL: lent where it is a leaf's or a literal, and made where texts are joined.
 ///
 /// Errors: want of memory alone.
+#[inline]
 pub(crate) fn text_of<'v>(
     alloc: Global,
     text: &'v TextOf,
@@ -41,6 +42,7 @@ pub(crate) fn text_of<'v>(
 }
 
 /// Whether a text is NULL.
+#[inline]
 pub(crate) fn text_is_null(text: &TextOf, row: &[Option<ValueRef<'_>>]) -> bool
     ensures { IsNullOrText (text_over (slot_value row.now) text.now) result }
 {

@@ -22,6 +22,7 @@ use std::alloc::Global;
 ///
 /// Errors: want of memory alone.
 #[cycle(truths)]
+#[inline(always)]
 pub(crate) fn truth_of(
     alloc: Global,
     truth: &Truth,
@@ -78,6 +79,7 @@ fn decided(
 }
 
 /// NOT
+#[inline(always)]
 fn negated(truth: Option<bool>) -> Option<bool>
     ensures { option_map bool_value result ≡ meant.not_value (option_map bool_value truth) }
 {
@@ -88,6 +90,7 @@ fn negated(truth: Option<bool>) -> Option<bool>
 }
 
 /// AND: false where one is false, else NULL where one is NULL.
+#[inline(always)]
 fn both(left: Option<bool>, right: Option<bool>) -> Option<bool>
     ensures { option_map bool_value result ≡ meant.and_values (option_map bool_value left)
         (option_map bool_value right) }
@@ -100,6 +103,7 @@ fn both(left: Option<bool>, right: Option<bool>) -> Option<bool>
 }
 
 /// OR: true where one is true, else NULL where one is NULL.
+#[inline(always)]
 fn either(left: Option<bool>, right: Option<bool>) -> Option<bool>
     ensures { option_map bool_value result ≡ meant.or_values (option_map bool_value left)
         (option_map bool_value right) }
@@ -112,6 +116,7 @@ fn either(left: Option<bool>, right: Option<bool>) -> Option<bool>
 }
 
 /// A comparison of two texts.
+#[inline]
 fn texts_compared(
     alloc: Global,
     comparison: Comparison,
@@ -133,6 +138,7 @@ fn texts_compared(
 }
 
 /// LIKE
+#[inline]
 fn text_like(
     alloc: Global,
     text: &TextOf,
@@ -149,6 +155,7 @@ fn text_like(
 }
 
 /// CONTAINS
+#[inline]
 fn text_contains(
     alloc: Global,
     text: &TextOf,

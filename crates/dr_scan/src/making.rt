@@ -63,6 +63,7 @@ impl<'p> Making<'p> {
     /// The next move of the walk, where the row holds what was read last of each leaf.
     ///
     /// Errors: want of memory, or of room for a count, a sum, a number of a group or the texts.
+    #[inline(always)]
     pub(crate) fn step<'r>(
         &mut self,
         alloc: Global,

@@ -28,6 +28,7 @@ pub struct Place {
 
 impl Place {
     /// In an instance of the field of a step, where the triplets of a later instance begin.
+    #[inline(always)]
     fn below(self, step: Step) -> Place
         requires { IsWithin self (greatest_depth - 1) }
         ensures place { result ≡ below self (step_view step).repetition }
@@ -50,6 +51,7 @@ impl Place {
     }
 }
 
+#[inline(always)]
 fn is_same(one: Rep, other: Rep) -> bool
     ensures { result ≡ true → rep_view one ≡ rep_view other }
 {
@@ -61,6 +63,7 @@ fn is_same(one: Rep, other: Rep) -> bool
 }
 
 /// Whether a path goes on by a step behind so many.
+#[inline(always)]
 fn goes_on(field: &Path, depth: usize, step: Step) -> bool
     ensures { result ≡ true → drop depth (path_view field.now).path
         ≡ step_view step ∷ drop (depth + 1) (path_view field.now).path }
@@ -72,6 +75,7 @@ fn goes_on(field: &Path, depth: usize, step: Step) -> bool
 }
 
 /// How many of the first paths go on by a step.
+#[inline(always)]
 fn run_length(fields: &[Path], depth: usize, step: Step) -> usize
     ensures within { result ≤ length fields.now }
     ensures same { EachGoesOn depth (step_view step) (paths_view (take result fields.now)) }
@@ -85,6 +89,7 @@ fn run_length(fields: &[Path], depth: usize, step: Step) -> usize
 }
 
 /// Appends a triplet of a place to a column.
+#[inline(always)]
 fn push_one(column: &mut Column, place: Place, value: Option<ValueRef<'_>>) -> Result<(), NoMemory>
     requires { takes (column_form column.old) (triplet place.begin place.definition (option_map lent_value value))
         ≡ true }
@@ -100,6 +105,7 @@ fn push_one(column: &mut Column, place: Place, value: Option<ValueRef<'_>>) -> R
 }
 
 /// Appends a triplet of a place to each column.
+#[inline(always)]
 fn push_all(
     columns: &mut [Column],
     place: Place,
@@ -119,6 +125,7 @@ fn push_all(
 
 /// What the instances of a field that has some give the columns of the paths that go on by its step.
 #[cycle(passing)]
+#[inline(always)]
 fn stripe_instances<H: Held>(
     fields: &[Path],
     columns: &mut [Column],
@@ -152,6 +159,7 @@ fn stripe_instances<H: Held>(
 
 /// What the instances of a field give the columns of the paths that go on by its step.
 #[cycle(passing)]
+#[inline(always)]
 fn stripe_field<H: Held>(
     fields: &[Path],
     columns: &mut [Column],

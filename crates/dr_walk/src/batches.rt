@@ -36,6 +36,7 @@ pub enum Turned<'a> {
 }
 
 /// The levels of the first of some triplets.
+#[inline(always)]
 fn first_levels(triplets: Triplets<'_>) -> Option<Levels>
     ensures { option_map levels_pair result ≡ meant_next (triplets_view triplets.entry) }
 {
@@ -46,6 +47,7 @@ fn first_levels(triplets: Triplets<'_>) -> Option<Levels>
 }
 
 /// The levels of the next triplet of a leaf's batch.
+#[inline(always)]
 fn next_levels(rests: &[Triplets<'_>], leaf: u32) -> Option<Levels>
     ensures { option_map levels_pair result ≡ meant_next (rest_at rests.now leaf) }
 {
@@ -56,6 +58,7 @@ fn next_levels(rests: &[Triplets<'_>], leaf: u32) -> Option<Levels>
 }
 
 /// Whether a leaf's column is at its end behind its batch.
+#[inline(always)]
 fn is_ended(ended: &[bool], leaf: u32) -> bool
     ensures { result ≡ is_last ended.now leaf }
 {
@@ -67,6 +70,7 @@ fn is_ended(ended: &[bool], leaf: u32) -> bool
 
 /// A move by levels as a move: a leaf's triplet is taken from its batch. None where its value is another than the one
 /// that is asked for.
+#[inline(always)]
 fn give<'a>(rests: &mut [Triplets<'a>], step: LevelMove) -> Option<Move<'a>>
     ensures gives { IsGivenOf (rest_at rests.old) step result }
     ensures rests { (i : ℕ) → rest_at rests.new i ≡ rest_behind (given_leaf step) i (rest_at rests.old i) }
@@ -86,6 +90,7 @@ fn give<'a>(rests: &mut [Triplets<'a>], step: LevelMove) -> Option<Move<'a>>
 }
 
 /// One call of a walk, where this comes of the leaf that is wanted.
+#[inline(always)]
 fn go_on<'a>(
     walk: &mut LevelWalk,
     rests: &mut [Triplets<'a>],
@@ -128,6 +133,7 @@ fn go_on<'a>(
 /// it. Values are lent by the batches.
 ///
 /// Errors: `BadData` where no records have columns that go on so; want of memory. A refusal is repeated.
+#[inline(always)]
 pub fn step_over<'a>(
     walk: &mut LevelWalk,
     rests: &mut [Triplets<'a>],

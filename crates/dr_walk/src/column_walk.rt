@@ -37,6 +37,7 @@ fn copied<'a>(alloc: Global, columns: &[Triplets<'a>]) -> Result<Vec<Triplets<'a
 }
 
 /// Takes the next triplet of a leaf, if one is wanted.
+#[inline(always)]
 pub(crate) fn take_next<'a>(rests: &mut [Triplets<'a>], wanted: Option<u32>) -> Option<Triplet<'a>>
     ensures next { option_map triplet_view result ≡ next_at wanted (rest_at rests.old) }
     ensures rests { (i : ℕ) → rest_at rests.new i ≡ rest_behind wanted i (rest_at rests.old i) }

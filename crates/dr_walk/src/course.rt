@@ -43,6 +43,7 @@ impl Course {
     }
 
     /// How many leaves there are.
+    #[inline(always)]
     pub fn leaves(&self) -> usize
         ensures { result ≡ length self.now.heads.items }
     {
@@ -50,6 +51,7 @@ impl Course {
     }
 
     /// The levels of a leaf come next, or there are none.
+    #[inline(always)]
     pub fn hear(&mut self, leaf: u32, levels: Option<Levels>)
         ensures here { leaf < length self.old.heads.items → levels_at self.new.heads.items leaf
             ≡ option_map levels_pair levels }
@@ -78,6 +80,7 @@ impl Course {
     /// The next turn.
     ///
     /// Errors: want of memory alone.
+    #[inline(always)]
     pub fn turn(&mut self) -> Result<Turn, NoMemory>
         ensures turn { IfOk result (λ t. (top : Items) (S : Stack) (ts : ℕ → Option meant_triplet)
             → Stands top self.old S → AreLevelsOf self.old.heads.items ts → IsStep top S ts self.new t) }
@@ -92,6 +95,7 @@ impl Course {
     /// Turns until one makes a move, or ends it.
     ///
     /// Errors: want of memory alone.
+    #[inline(always)]
     pub fn step(&mut self) -> Result<Turn, NoMemory>
         ensures step { IfOk result (λ t. (top : Items) (S : Stack) (ts : ℕ → Option meant_triplet)
             → Stands top self.old S → AreLevelsOf self.old.heads.items ts → IsStep top S ts self.new t) }

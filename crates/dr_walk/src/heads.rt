@@ -9,6 +9,7 @@ use dr_levels::Levels;
 use dr_nested::NoMemory;
 
 /// The next levels of a leaf, none where there is none.
+#[inline(always)]
 pub fn head(heads: &[Option<Levels>], leaf: u32) -> Option<Levels>
     ensures { result ≡ get_or heads.now leaf None }
 {
@@ -19,6 +20,7 @@ pub fn head(heads: &[Option<Levels>], leaf: u32) -> Option<Levels>
 }
 
 /// The next definition level of a leaf, 0 where there is none.
+#[inline(always)]
 pub fn definition(heads: &[Option<Levels>], leaf: u32) -> u8
     ensures { result ≡ next_definitions heads.now leaf }
 {
@@ -29,6 +31,7 @@ pub fn definition(heads: &[Option<Levels>], leaf: u32) -> u8
 }
 
 /// The next repetition level of a leaf, 0 where there is none.
+#[inline(always)]
 pub fn repetition(heads: &[Option<Levels>], leaf: u32) -> u8
     ensures { result ≡ level_repetition (levels_at heads.now leaf) }
 {
@@ -39,6 +42,7 @@ pub fn repetition(heads: &[Option<Levels>], leaf: u32) -> u8
 }
 
 /// The definition level of the first gate that is shut.
+#[inline(always)]
 pub fn first_shut(heads: &[Option<Levels>], gates: &[Gate]) -> Option<u8>
     ensures { result ≡ meant_shut (next_definitions heads.now) (gates_view gates.now) }
 {
@@ -51,6 +55,7 @@ pub fn first_shut(heads: &[Option<Levels>], gates: &[Gate]) -> Option<u8>
 }
 
 /// Looks at the gates of items, and keeps what is seen behind what was.
+#[inline]
 pub fn look(
     heads: &[Option<Levels>],
     groups: &[Vec<Gate>],
@@ -66,6 +71,7 @@ pub fn look(
 }
 
 /// Takes what was seen last, where an item stands behind gates.
+#[inline(always)]
 pub fn take_seen(shut: &mut Vec<Option<u8>>, gated: bool) -> Option<u8>
     ensures { TakesSeen gated (shut.old).items (shut.new).items result }
 {

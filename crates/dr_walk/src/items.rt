@@ -66,6 +66,7 @@ impl Give {
     ghost use Rattle.dr_walk.specs.Seen.{may_come, due_levels};
 
     /// Whether it may have a definition level, where this was seen of its gates.
+    #[inline(always)]
     fn may_have(&self, seen: Option<u8>, definition: u8) -> bool
         ensures { result ≡ may_come self.now.low self.now.full seen definition }
     {
@@ -76,6 +77,7 @@ impl Give {
     }
 
     /// Its next levels, where they are due in an instance that began with a repetition level.
+    #[inline(always)]
     pub fn due(&self, seen: Option<u8>, begun: u8, next: Option<Levels>) -> Option<Levels>
         ensures { result ≡ due_levels self.now.low self.now.full seen begun next }
     {
@@ -92,6 +94,7 @@ impl Give {
     }
 
     /// The kind of the value that it has with these levels.
+    #[inline(always)]
     pub fn kind_at(&self, levels: Levels) -> Option<Kind>
         ensures { option_map kind_view result ≡ (if levels.definition == self.now.full then Some (kind_view
             self.now.kind) else None) }
@@ -110,6 +113,7 @@ impl Visit {
 
     /// The definition level of the NULLs of its leaves, where it is absent; none where it is there. This was seen of
     /// its gates, and this is the next definition level of its leaf.
+    #[inline(always)]
     pub fn absent_level(&self, seen: Option<u8>, definition: u8) -> Option<u8>
         ensures { result ≡ meant_absent self.now.low seen definition }
     {

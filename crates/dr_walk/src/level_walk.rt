@@ -49,6 +49,7 @@ fn first_of(leaves: usize) -> Option<u32>
 }
 
 /// How many triplets come, one or none.
+#[inline(always)]
 fn count_of(levels: Option<Levels>) -> u64
     ensures { result ≡ count_one (option_map levels_pair levels) }
 {
@@ -94,6 +95,7 @@ impl LevelWalk {
     }
 
     /// The leaf whose next triplet is wanted, by its place in the selection.
+    #[inline(always)]
     pub fn wants(&self) -> Option<u32>
         ensures { result ≡ self.now.wanted }
     {
@@ -127,6 +129,7 @@ impl LevelWalk {
     /// isn't there, no records have the columns, and the walk is to be refused.
     ///
     /// Errors: no records have columns that go on so; want of memory. A walk repeats its refusal from then on.
+    #[inline(always)]
     pub fn next(&mut self, more: Option<Levels>) -> Result<Option<LevelMove>, AssembleFault>
         requires more { self.old.wanted ≡ None → more ≡ None }
         // Where it stood over columns, it goes on over them.
@@ -187,6 +190,7 @@ impl LevelWalk {
     }
 
     /// Takes what comes of the leaf that is wanted, if one is.
+    #[inline(always)]
     fn take(&mut self, more: Option<Levels>)
         ensures at { OverLevels self.old more (λ fs F rows C ms left. IsAtLevels fs F rows C ms left self.new) }
         ensures idle { self.old.wanted ≡ None → self.new.wanted ≡ None }
@@ -202,6 +206,7 @@ impl LevelWalk {
     }
 
     /// Keeps what comes of a leaf.
+    #[inline(always)]
     fn keep(&mut self, leaf: u32, more: Option<Levels>)
         ensures here { leaf < length self.old.course.heads.items → pending self.new leaf
             ≡ option_map levels_pair more }
@@ -218,6 +223,7 @@ impl LevelWalk {
     }
 
     /// The leaf that is wanted once this one's next triplet was taken: before the first move the next one.
+    #[inline(always)]
     fn wanted_behind(&self, leaf: u32) -> Option<u32>
         ensures next { leaf + 1 < 2 ^ 32 → result ≡ meant_behind self.now.given (length self.now.course.heads.items)
             leaf }
@@ -232,6 +238,7 @@ impl LevelWalk {
     }
 
     /// The next move, where nothing is wanted.
+    #[inline(always)]
     fn go_on(&mut self) -> Result<Option<LevelMove>, AssembleFault>
         ensures goes { (F : List (List MeantStep)) (fs : Fields) (rows : ℕ) (C : List (List meant_column.Triplet)) (ms :
             List meant.Move) (left : Left) → IsAtLevels fs F rows C ms left self.old → self.old.wanted ≡ None
@@ -258,6 +265,7 @@ impl LevelWalk {
     }
 
     /// Gives a leaf's triplet. The leaf is wanted next.
+    #[inline(always)]
     fn give_leaf(&mut self, leaf: u32, levels: Levels, kind: Option<Kind>) -> LevelMove
         ensures gives { result ≡ MeantMove.Leaf leaf levels kind }
         ensures wanted { self.new.wanted ≡ Some leaf }

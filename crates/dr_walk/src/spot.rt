@@ -49,6 +49,7 @@ pub struct Spot {
 }
 
 /// The repeated field whose instance ends at a place.
+#[inline(always)]
 fn lap_at(items: &[Item], place: usize) -> Option<Lap>
     ensures { option_map lap_view result ≡ lap_there (slice_get (items_view items.now) place) }
 {
@@ -59,6 +60,7 @@ fn lap_at(items: &[Item], place: usize) -> Option<Lap>
 }
 
 /// The gates of the items of an instance that begins at a place.
+#[inline(always)]
 fn looks_at(items: &[Item], place: usize) -> &[Vec<Gate>]
     ensures { groups_view result.now ≡ looks_there (slice_get (items_view items.now) place) }
 {
@@ -69,6 +71,7 @@ fn looks_at(items: &[Item], place: usize) -> &[Vec<Gate>]
 }
 
 /// The next levels of a leaf that has a NULL of a definition level, in an instance that began with a repetition level.
+#[inline(always)]
 fn due_null(absent: u8, begun: u8, next: Option<Levels>) -> Option<Levels>
     ensures { result ≡ due_levels 0 0 (Some absent) begun next }
 {
@@ -85,6 +88,7 @@ fn due_null(absent: u8, begun: u8, next: Option<Levels>) -> Option<Levels>
 }
 
 /// The place behind so many more items, at most their end.
+#[inline(always)]
 fn behind_nulls(items: &[Item], place: usize, nulls: usize) -> usize
     ensures { place + nulls ≤ length items.now → result ≡ place + nulls }
 {
@@ -92,6 +96,7 @@ fn behind_nulls(items: &[Item], place: usize, nulls: usize) -> usize
 }
 
 /// Takes the innermost of the instances to which a walk returns.
+#[inline(always)]
 fn take_frame(returns: &mut Vec<Frame>) -> Option<Frame>
     ensures { TakesLast (returns.old).items (returns.new).items result }
 {
@@ -123,6 +128,7 @@ impl Spot {
     /// The next turn.
     ///
     /// Errors: want of memory alone.
+    #[inline(always)]
     pub fn turn(&mut self, table: &Table, heads: &[Option<Levels>]) -> Result<Turn, NoMemory>
         ensures turn { IfOk result (Turns (items_view (table.now).items.items) (table.now).root heads.now self.old
             self.new) }
@@ -136,6 +142,7 @@ impl Spot {
     }
 
     /// Into the next record, where there is one.
+    #[inline(always)]
     fn begin_record(
         &mut self,
         items: &[Item],
@@ -155,6 +162,7 @@ impl Spot {
     }
 
     /// Into one more instance of the field at whose end the walk stands.
+    #[inline(always)]
     fn begin_again(&mut self, items: &[Item], heads: &[Option<Levels>]) -> Result<Turn, NoMemory>
         requires { self.old.stage ≡ Stage.Again }
         ensures turn { (root : ℕ) → IfOk result (Turns (items_view items.now) root heads.now self.old self.new) }
@@ -170,6 +178,7 @@ impl Spot {
     }
 
     /// Goes to the items of an instance that begins with a repetition level, and looks at their gates.
+    #[inline(always)]
     fn begin(
         &mut self,
         items: &[Item],
@@ -192,6 +201,7 @@ impl Spot {
     }
 
     /// Past the next item of an instance.
+    #[inline(always)]
     fn pass_item(&mut self, items: &[Item], heads: &[Option<Levels>]) -> Result<Turn, NoMemory>
         requires { self.old.stage ≡ Stage.Within }
         ensures turn { (root : ℕ) → IfOk result (Turns (items_view items.now) root heads.now self.old self.new) }
@@ -209,6 +219,7 @@ impl Spot {
     }
 
     /// A leaf, where its next levels are due.
+    #[inline(always)]
     fn pass_give(&mut self, give: &Give, heads: &[Option<Levels>]) -> Turn
         requires { self.old.here.place < 2 ^ 64 - 1 }
         ensures moves { (n : ℕ) → Passes n self.old.here.place self.new.here.place result }
@@ -226,6 +237,7 @@ impl Spot {
     }
 
     /// A leaf below a repeated field that is absent, where its next levels are due.
+    #[inline(always)]
     fn pass_null(&mut self, leaf: u32, heads: &[Option<Levels>]) -> Turn
         requires { self.old.here.place < 2 ^ 64 - 1 }
         ensures moves { (n : ℕ) → Passes n self.old.here.place self.new.here.place result }
@@ -242,6 +254,7 @@ impl Spot {
     }
 
     /// Into the first instance of a repeated field, or to the NULLs of its leaves where it is absent.
+    #[inline(always)]
     fn pass_visit(
         &mut self,
         visit: &Visit,
@@ -268,6 +281,7 @@ impl Spot {
     }
 
     /// To the NULLs of the leaves of a repeated field that is absent at this definition level.
+    #[inline(always)]
     fn pass_absent(&mut self, definition: u8) -> Turn
         requires { self.old.here.place < 2 ^ 64 - 1 }
         ensures passes { result ≡ Turn.Passes }
@@ -284,6 +298,7 @@ impl Spot {
     }
 
     /// Out of an instance of a repeated field.
+    #[inline(always)]
     fn pass_end(&mut self, lap: &Lap, heads: &[Option<Levels>]) -> Turn
         ensures moves { (n : ℕ) → Passes n self.old.here.place self.new.here.place result }
         ensures turn { (code : List laid.FlatItem) (root : ℕ)
@@ -301,6 +316,7 @@ impl Spot {
     }
 
     /// Out of a record.
+    #[inline(always)]
     fn end_record(&mut self) -> Turn
         ensures moves { (n : ℕ) → Passes n self.old.here.place self.new.here.place result }
         ensures turn { (code : List laid.FlatItem) (root : ℕ) (heads : List (Option levels.Levels))

@@ -10,6 +10,7 @@ use dr_levels::ValueRef;
 use dr_nested::Kind;
 
 /// Whether whole numbers of a kind include this one.
+#[inline(always)]
 fn is_number_of(kind: Kind, number: i64) -> bool
     ensures { result ≡ record_tree.is_of_kind (kind_view kind) (record_tree.int_value number) }
 {
@@ -21,6 +22,7 @@ fn is_number_of(kind: Kind, number: i64) -> bool
 }
 
 /// Whether a text is of a kind.
+#[inline(always)]
 fn is_text_of(kind: Kind, text: &str) -> bool
     ensures { result ≡ record_tree.is_of_kind (kind_view kind) (record_tree.text_value text.now) }
 {
@@ -31,6 +33,7 @@ fn is_text_of(kind: Kind, text: &str) -> bool
 }
 
 /// Whether a value is of a kind, and a whole number in its range.
+#[inline(always)]
 fn is_of_kind(kind: Kind, value: ValueRef<'_>) -> bool
     ensures { result ≡ record_tree.is_of_kind (kind_view kind) (lent_value value.entry) }
 {
@@ -42,6 +45,7 @@ fn is_of_kind(kind: Kind, value: ValueRef<'_>) -> bool
 }
 
 /// Whether there is a value of this kind, or none where no kind is given.
+#[inline(always)]
 pub fn fits(kind: Option<Kind>, value: Option<ValueRef<'_>>) -> bool
     ensures { result ≡ meant_fits (option_map kind_view kind) (option_map lent_value value.entry) }
 {

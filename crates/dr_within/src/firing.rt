@@ -125,6 +125,7 @@ impl<'p> Firing<'p> {
     }
 
     /// The rows that fire at a leaf.
+    #[inline(always)]
     pub(crate) fn at(&self, leaf: u32) -> &[Taking<'p>]
         ensures { takings_view result.now ≡ firing_in self.now leaf }
     {
@@ -137,6 +138,7 @@ impl<'p> Firing<'p> {
     }
 
     /// The rows that fire where an instance of a repeated field, or the record (0), is left.
+    #[inline(always)]
     pub(crate) fn at_leave(&self, number: u32) -> &[Taking<'p>]
         ensures { takings_view result.now ≡ leaving_in self.now number }
     {

@@ -43,6 +43,7 @@ impl Frames {
     }
 
     /// How many branches are open.
+    #[inline(always)]
     pub(crate) fn depth(&self) -> usize
         ensures { result ≡ length (self.now).marks.items }
     {
@@ -52,6 +53,7 @@ impl Frames {
     /// Into one more branch.
     ///
     /// Errors: want of memory alone.
+    #[inline(always)]
     pub(crate) fn enter(&mut self) -> Result<(), NoMemory>
         ensures { OnOk result ((p : Planned) (n : ℕ) (made : List Put) (settled : List Bool) (marks : List ℕ) (b : Bool)
             → Holds p n made settled marks self.old → Holds p n made (b ∷ settled) (length made ∷ marks) self.new) }
@@ -64,6 +66,7 @@ impl Frames {
     /// open are known to be kept. A key tuple is made in a buffer.
     ///
     /// Errors: want of memory, or of room for a count, a sum or a number of a group.
+    #[inline(always)]
     pub(crate) fn fire<'a>(
         &mut self,
         alloc: Global,
@@ -92,6 +95,7 @@ impl Frames {
     /// Out of the innermost branch: what was made in it is cut off where it is dropped; else some rows come behind it.
     ///
     /// Errors: want of memory, or of room for a count, a sum or a number of a group.
+    #[inline(always)]
     pub(crate) fn leave<'a>(
         &mut self,
         alloc: Global,

@@ -75,6 +75,7 @@ impl ItemFiring {
     }
 
     /// The places of the items for which a value is taken at a leaf.
+    #[inline(always)]
     pub(crate) fn at(&self, leaf: u32) -> &[u32]
         ensures { result.now ≡ places_in self.now leaf }
     {

@@ -14,6 +14,7 @@ use dr_levels::ValueRef;
 use dr_memory::NoMemory;
 
 /// What was read last of the leaf of a number; none where there is no such leaf.
+#[inline(always)]
 fn slot<'a>(slots: &[Option<ValueRef<'a>>], number: u32) -> Option<ValueRef<'a>>
     ensures { option_map lent_value result ≡ slot_value slots.now number }
 {
@@ -26,6 +27,7 @@ fn slot<'a>(slots: &[Option<ValueRef<'a>>], number: u32) -> Option<ValueRef<'a>>
 /// Appends the key tuple of what was read last of each leaf, by the numbers of the keys' leaves.
 ///
 /// Errors: want of memory alone.
+#[inline(always)]
 pub(crate) fn push_key<'a>(
     keys: &[u32],
     slots: &[Option<ValueRef<'a>>],

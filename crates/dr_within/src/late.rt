@@ -46,6 +46,7 @@ impl LateRows {
     }
 
     /// How many rows there are.
+    #[inline(always)]
     pub(crate) fn len(&self) -> usize
         ensures { result ≡ length (rows_of self.now) }
     {
@@ -55,6 +56,7 @@ impl LateRows {
     /// One row more: its key tuple and what is taken, of what was read last of each leaf.
     ///
     /// Errors: want of memory, or of room for the texts.
+    #[inline]
     pub(crate) fn push(
         &mut self,
         alloc: Global,
@@ -75,6 +77,7 @@ impl LateRows {
     }
 
     /// The first so many of the rows alone.
+    #[inline]
     pub(crate) fn truncate(&mut self, rows: usize)
         ensures rows { IsWhole self.old → rows_of self.new ≡ take rows (rows_of self.old) }
         ensures whole { IsWhole self.old → IsWhole self.new }
@@ -92,6 +95,7 @@ impl LateRows {
     /// Puts the rows into a partial, in order, and has none of them any more.
     ///
     /// Errors: want of memory, or of room for a count, a sum or a number of a group.
+    #[inline(always)]
     pub(crate) fn put_all(&mut self, alloc: Global, partial: &mut Partial) -> Result<(), NoMemory>
         ensures puts { OnOk result ((p : Planned) → IsPartialOf p partial.old → partial_view partial.new
             ≡ put_all (planned_query p) (rows_of self.old) (partial_view partial.old)) }
@@ -113,6 +117,7 @@ impl LateRows {
     }
 
     /// Has no rows any more, and no texts: their memory is used for those that come.
+    #[inline(always)]
     fn clear(&mut self)
         ensures none { rows_of self.new ≡ [] }
         ensures whole { IsWhole self.new }
@@ -125,6 +130,7 @@ impl LateRows {
 }
 
 /// Puts rows into a partial: the cells of their key tuples, so many each, and what was taken of each for an aggregate.
+#[inline]
 fn put_rows(
     alloc: Global,
     width: usize,

@@ -148,6 +148,7 @@ impl Levels {
     }
 
     /// The level of a number, where objects are made of its instances.
+    #[inline(always)]
     pub(crate) fn at(&self, number: u32) -> Option<&Level>
         ensures { lent_level result ≡ level_in (self.now).rows.items number }
     {

@@ -85,6 +85,7 @@ impl ObjectFrame {
     }
 
     /// Has nothing of it any more.
+    #[inline(always)]
     pub(crate) fn clear(&mut self)
         ensures { (items : List MeantItem) → HoldsFrame items [] self.new }
     {
@@ -93,6 +94,7 @@ impl ObjectFrame {
     }
 
     /// Takes the value of the item at a place for its aggregate, by what was read last of each leaf.
+    #[inline]
     fn take_one(
         &mut self,
         alloc: Global,
@@ -119,6 +121,7 @@ impl ObjectFrame {
     /// Takes the values of items for their aggregates: those that fire at a leaf, by what was read last of each leaf.
     ///
     /// Errors: want of memory, or of room for a count or a sum.
+    #[inline]
     pub(crate) fn take(
         &mut self,
         alloc: Global,

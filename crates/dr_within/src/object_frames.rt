@@ -48,6 +48,7 @@ impl ObjectFrames {
     }
 
     /// How many branches are open.
+    #[inline(always)]
     pub(crate) fn depth(&self) -> usize
         ensures { result ≡ length (self.now).around.items }
     {
@@ -57,6 +58,7 @@ impl ObjectFrames {
     /// Into one more branch.
     ///
     /// Errors: want of memory alone.
+    #[inline]
     pub(crate) fn enter(&mut self, alloc: Global) -> Result<(), NoMemory>
         ensures { OnOk result ((items : List MeantItem) (made : List Made) (marks : List ℕ)
             → HoldsObjects items made marks self.old → HoldsObjects items made (length made ∷ marks) self.new) }
@@ -75,6 +77,7 @@ impl ObjectFrames {
     /// leaf.
     ///
     /// Errors: want of memory, or of room for a count or a sum.
+    #[inline]
     pub(crate) fn take(
         &mut self,
         alloc: Global,
@@ -96,6 +99,7 @@ impl ObjectFrames {
     ///
     /// Errors: want of memory, or of room: a count is below 2^64, a sum within 128 bits, and the texts of a result have
     /// less than 4 GiB together.
+    #[inline]
     pub(crate) fn leave(
         &mut self,
         alloc: Global,

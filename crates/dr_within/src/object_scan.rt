@@ -99,6 +99,7 @@ impl<'a> ObjectScan<'a> {
     /// The next move of the walk, where the row holds what was read last of each leaf.
     ///
     /// Errors: want of memory, or of room for a count, a sum or the texts.
+    #[inline(always)]
     pub fn step<'r>(
         &mut self,
         alloc: Global,

@@ -62,6 +62,7 @@ impl<'a> PlanScan<'a> {
     /// The next move of the walk, where the row holds what was read last of each leaf.
     ///
     /// Errors: want of memory, or of room for a count, a sum or a number of a group.
+    #[inline(always)]
     pub fn step<'r>(
         &mut self,
         alloc: Global,

@@ -17,6 +17,7 @@ use dr_memory::NoMemory;
 use std::alloc::Global;
 
 /// Puts a row into its group: what was read last of each leaf. Its key tuple is made in a buffer.
+#[inline(always)]
 fn put_one<'a>(
     alloc: Global,
     taking: Taking<'_>,
@@ -39,6 +40,7 @@ fn put_one<'a>(
 /// Puts a row for each of some takings, in order.
 ///
 /// Errors: want of memory, or of room for a count, a sum or a number of a group.
+#[inline(always)]
 pub(crate) fn put_each<'a>(
     alloc: Global,
     takings: &[Taking<'_>],

@@ -21,6 +21,7 @@ pub struct Row<'r> {
 
 impl<'r> Row<'r> {
     /// Keeps the value of a leaf that a move reads.
+    #[inline(always)]
     pub fn keep(&mut self, read: &Move<'r>)
         ensures here { (i : ℕ) (t : Triplet) → move_view read.now ≡ meant.value i t
             → i < length (self.old).slots.items

@@ -10,6 +10,7 @@ ghost use Rattle.dr_scalar.specs.Slots.{slot_value};
 use dr_levels::{Move, ValueRef};
 
 /// Keeps the value of a leaf that a move reads, in the leaf's slot.
+#[inline(always)]
 pub(crate) fn keep_value<'a>(read: &Move<'a>, slots: &mut Vec<Option<ValueRef<'a>>>)
     ensures here { (i : ℕ) (t : Triplet) → move_view read.now ≡ meant.value i t → i < length (slots.old).items
         → slot_value (slots.new).items ≡ with_value i t.value (slot_value (slots.old).items) }

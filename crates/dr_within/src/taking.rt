@@ -27,6 +27,7 @@ pub(crate) enum Taking<'p> {
 }
 
 /// The value that is taken of what was read last of each leaf, where it isn't NULL.
+#[inline(always)]
 pub(crate) fn value_of<'a>(
     alloc: Global,
     taking: Taking<'a>,
@@ -42,6 +43,7 @@ pub(crate) fn value_of<'a>(
 }
 
 /// A value or NULL, lent.
+#[inline(always)]
 pub(crate) fn lent<'a>(value: &'a Option<Evaluated<'_>>) -> Option<ValueRef<'a>>
     ensures { option_map lent_value result ≡ option_map evaluated_view value.now }
 {
@@ -52,6 +54,7 @@ pub(crate) fn lent<'a>(value: &'a Option<Evaluated<'_>>) -> Option<ValueRef<'a>>
 }
 
 /// What is taken, if its value is this one.
+#[inline(always)]
 pub(crate) fn taken_as<'a>(
     taking: Taking<'_>,
     value: &'a Option<Evaluated<'_>>,
@@ -69,6 +72,7 @@ pub(crate) fn taken_as<'a>(
 }
 
 /// For which aggregate something is taken, if for one.
+#[inline(always)]
 pub(crate) fn aggregate_of(taking: Taking<'_>) -> Option<u32>
     ensures { result ≡ aggregate_for (taking_view taking.entry) }
 {
@@ -79,6 +83,7 @@ pub(crate) fn aggregate_of(taking: Taking<'_>) -> Option<u32>
 }
 
 /// What is taken for an aggregate, if for one, where its value is this one.
+#[inline(always)]
 pub(crate) fn taken_for<'a>(
     aggregate: Option<u32>,
     value: Option<ValueRef<'a>>,

@@ -32,6 +32,7 @@ pub(crate) struct WithinValues {
 }
 
 /// Where an item is among those for which something is gathered.
+#[inline(always)]
 fn find(entries: &[ItemValues], item: u32) -> Option<usize>
     ensures { IfSome result (λ k. option_map (λ e. e.item) (slice_get entries.now k) ≡ Some item) }
 {
@@ -44,6 +45,7 @@ fn find(entries: &[ItemValues], item: u32) -> Option<usize>
 }
 
 /// Whether a number is among others.
+#[inline(always)]
 fn is_among(numbers: &[u32], number: u32) -> bool
     ensures { result ≡ among numbers.now number }
 {
@@ -61,6 +63,7 @@ impl WithinValues {
     }
 
     /// Has nothing of it any more.
+    #[inline(always)]
     pub(crate) fn clear(&mut self)
         ensures { (items : List MeantItem) → HoldsValues items [] self.new }
     {
@@ -68,6 +71,7 @@ impl WithinValues {
     }
 
     /// Where an item is, with nothing gathered for it where it wasn't there.
+    #[inline]
     fn place_of(&mut self, item: u32, fold: Fold) -> Result<usize, NoMemory>
         ensures there { IfOk result (λ k. option_map (λ e. e.item) (slice_get (self.new).entries.items k) ≡ Some item) }
         ensures same { OnOk result ((items : List MeantItem) → aggregate_at items item ≡ Some (fold_view fold)
@@ -88,6 +92,7 @@ impl WithinValues {
     /// Takes a value for an item.
     ///
     /// Errors: want of memory, or of room for a count or a sum.
+    #[inline]
     pub(crate) fn take(
         &mut self,
         alloc: Global,
