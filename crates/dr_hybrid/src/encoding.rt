@@ -52,6 +52,7 @@ fn append_runs<T: Packable>(values: &[T], width: u32, out: &mut Vec<u8>) -> Resu
 }
 
 /// How many values at the front equal this one.
+#[inline]
 fn equal_count<T: Packable>(value: u32, values: &[T]) -> usize
     ensures count { result ≡ equal_front value (T.numbers values.now) }
     ensures within { result ≤ length values.now }
@@ -65,6 +66,7 @@ fn equal_count<T: Packable>(value: u32, values: &[T]) -> usize
 }
 
 /// Appends a group of the next eight values.
+#[inline]
 fn append_group<T: Packable>(values: &[T], width: u32, out: &mut Vec<u8>) -> Result<(), NoMemory>
     requires narrow { width ≤ 32 }
     requires below { AreBelow width (T.numbers values.now) }
@@ -85,6 +87,7 @@ fn append_group<T: Packable>(values: &[T], width: u32, out: &mut Vec<u8>) -> Res
 }
 
 /// The value at an index, or 0 behind the last.
+#[inline(always)]
 fn value_at<T: Packable>(values: &[T], index: usize) -> u32
     ensures { result ≡ slice_index (T.numbers values.now) index }
 {

@@ -11,6 +11,7 @@ use dr_memory::NoMemory;
 pub(crate) const GROUP: u8 = 3;
 
 /// Appends bytes, or none.
+#[inline(always)]
 pub(crate) fn append(out: &mut Vec<u8>, bytes: &[u8]) -> Result<(), NoMemory>
     ensures written { OnOk result ((out.new).items ≡ (out.old).items ++ bytes.now) }
     ensures stays { OnErr result ((out.new).items ≡ (out.old).items) }
