@@ -1,11 +1,9 @@
 -- Bodies, part by part.
-use Rattle.std.proofs.Common.{◌≡◌, ℕ, suc, List, [], ◌∷◌, ◌++◌, length, map, drop, Bool, true, false, refl, sym, ap, ap₂, ◌∙◌, subst, ℤ, Option, Some, None}
+use Rattle.std.proofs.Common.{◌≡◌, ℕ, suc, List, [], ◌∷◌, map, drop, Bool, true, false, refl, sym, ap, ap₂, ◌∙◌, Option, Some, None}
 use Rattle.std.specs.Prelude.{◌==◌, if◌then◌else◌, option_map}
-use Rattle.std.proofs.lemmas.List.{length-map}
-use Rattle.dr_meaning.specs.Schema as tree
 use Rattle.dr_meaning.specs.Record.{Value}
 use Rattle.dr_meaning.specs.Column.{Triplet, triplet}
-use Rattle.dr_formats.specs.Reading.{Reading, got, refused, Reader, give, goes_on}
+use Rattle.dr_formats.specs.Reading.{Reading, got, refused, Reader, give, goes_on, ◌>>=◌}
 use Rattle.dr_formats.specs.Page as page
 use Rattle.dr_formats.specs.Page.{PageShape, LevelParts, bad_page, found, level_parts_by, levels, values, encoded_values, count_equal, first_if, behind_if, join_triplets, page_body, triplets_read, page_triplets}
 use Rattle.dr_levels.specs.declared.triplet.Levels.{Levels}
@@ -13,10 +11,8 @@ use Rattle.dr_levels.specs.Dense.{present, first_of, joined}
 use Rattle.dr_bytes.specs.Numbers.{IsFault}
 use Rattle.dr_bytes.proofs.FaultLemmas.{is_fault, was_fault}
 use Rattle.dr_page.specs.declared.fault.PageFault.{PageFault}
-use Rattle.dr_page.specs.Reads.{WhereNone, WhereBad, Joins}
-use Rattle.dr_page.specs.Parts.{PairsOf, levels_ahead}
-use Rattle.dr_page.specs.Bodies.{triplets_behind}
-use Rattle.dr_page.proofs.CountLemmas.{values_count}
+use Rattle.dr_page.specs.Reads.{WhereNone, WhereBad}
+use Rattle.dr_page.specs.Parts.{PairsOf}
 
 -- ---- pairs of levels
 
@@ -47,26 +43,19 @@ pairs_joined g rs ds ls vs p = ap₂ (λ a b. join_triplets g a b vs) (sym p.0) 
 pub pairs_present : (g : ℕ) (rs ds : List ℕ) (ls : List Levels) → PairsOf rs ds ls → present g ls ≡ count_equal g ds
 pairs_present g rs ds ls p = same_present g ls ∙ ap (count_equal g) p.1
 
--- ---- what is behind the levels
-
--- as many values as places for them
-pub as_many : {A : Type 0} (f : A → Value) (z : ℤ) (k : tree.Kind) (d : List Value) (n g h : ℕ) (bs rs ds : List ℕ) (vs slice : List A) (ls pairs : List Levels) → encoded_values z k d n bs ≡ Some (map f vs)
-    → n ≡ count_equal g ds → PairsOf rs ds ls → pairs ≡ ls → slice ≡ vs → h ≡ g → present h pairs ≡ length slice
-as_many f z k d n g h bs rs ds vs slice ls pairs e c p a b q =
-    ap₂ present q a ∙ (pairs_present g rs ds ls p ∙ (sym c ∙ (sym (values_count z k d n bs (map f vs) e) ∙ (length-map vs f ∙ sym (ap length b)))))
-
-behind_is : (s : PageShape) (d vs : List Value) (rs ds : List ℕ) (bs : List ℕ) → encoded_values s.encoding s.kind d (count_equal s.max_definition ds) bs ≡ Some vs → triplets_behind s d (rs, ds) bs ≡ Some (join_triplets s.max_definition rs ds vs)
-behind_is s d vs rs ds bs e = ap (option_map (join_triplets s.max_definition rs ds)) e
-
-pub behind_read : {A : Type 0} (f : A → Value) (s : PageShape) (z : ℤ) (d e : List Value) (n h : ℕ) (bs rs ds : List ℕ) (vs slice : List A) (ls pairs : List Levels) (before after : List Triplet)
-    → z ≡ s.encoding → e ≡ d → encoded_values z s.kind e n bs ≡ Some (map f vs) → n ≡ count_equal s.max_definition ds → PairsOf rs ds ls → pairs ≡ ls → slice ≡ vs → h ≡ s.max_definition
-    → after ≡ before ++ joined h pairs (map f slice) → Joins (triplets_behind s d (rs, ds) bs) before after
-behind_read f s z d e n h bs rs ds vs slice ls pairs before after y t x c p a b q w =
-    let r : encoded_values s.encoding s.kind d (count_equal s.max_definition ds) bs ≡ Some (map f vs) = ap₂ (λ i j. encoded_values i s.kind j (count_equal s.max_definition ds) bs) (sym y) (sym t) ∙ (ap (λ m. encoded_values z s.kind e m bs) (sym c) ∙ x) in
-    let j : joined h pairs (map f slice) ≡ join_triplets s.max_definition rs ds (map f vs) = ap₂ (λ m xs. joined m xs (map f slice)) q a ∙ (ap (λ xs. joined s.max_definition ls (map f xs)) b ∙ sym (pairs_joined s.max_definition rs ds ls (map f vs) p)) in
-    subst (λ (o : Option (List Triplet)). Joins o before after) (sym (behind_is s d (map f vs) rs ds bs r)) (w ∙ ap (λ ts. before ++ ts) j)
-
 -- ---- whole bodies
+
+-- the repetition and the definition levels with which a body begins
+abbrev pub levels_ahead : PageShape → Reader page.PageFault (List ℕ × List ℕ)
+levels_ahead s = do
+  p ← level_parts_by s.form s
+  rs ← found (levels s.max_repetition s.triplets p.repetitions)
+  ds ← found (levels s.max_definition s.triplets p.definitions)
+  give (rs, ds)
+
+-- the triplets of repetition and definition levels, with the values that the rest of the body begins with
+abbrev pub triplets_behind : PageShape → List Value → List ℕ × List ℕ → List ℕ → Option (List Triplet)
+triplets_behind s d ls rest = option_map (join_triplets s.max_definition ls.0 ls.1) (encoded_values s.encoding s.kind d (count_equal s.max_definition ls.1) rest)
 
 regroup : {A B C : Type 0} (r : Reading page.PageFault A) (second : Reader page.PageFault B) (next : A → B → Reader page.PageFault C)
     → goes_on r (λ a bs. goes_on (second bs) (next a)) ≡ goes_on (goes_on r (λ a bs. goes_on (second bs) (λ b. give (a, b)))) (λ (p : A × B). next p.0 p.1)

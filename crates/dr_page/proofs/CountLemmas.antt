@@ -7,7 +7,7 @@ use Rattle.dr_meaning.specs.Schema as tree
 use Rattle.dr_meaning.specs.Record.{Value}
 use Rattle.dr_formats.specs.Hybrid.{hybrid}
 use Rattle.dr_formats.specs.Plain.{truth_of_bit, plain_values, nth_value, pick, dictionary_values}
-use Rattle.dr_formats.specs.Page.{is_number, level_width, none_above, levels, sized_part, part_read, rle_truths, rle_values, encoded_values, count_equal}
+use Rattle.dr_formats.specs.Page.{is_number, level_width, none_above, levels, sized_part, part_read, rle_truths, rle_values, encoded_values}
 use Rattle.dr_formats.proofs.HybridGrammar.{runs_are_read_exactly, one_list_of_values}
 use Rattle.dr_plain.proofs.CountSteps.{plain_values_count}
 use Rattle.dr_page.specs.Indices.{indices_ahead}
@@ -87,9 +87,3 @@ values_count z k d n bs vs e =
     (λ f. plain_values_count k n bs vs f)
     (λ f. found_count d n (indices_ahead n bs) vs (λ is g. indices_count n bs is g) (sym (by_indices d n bs) ∙ f))
     (λ f. rle_count k n bs vs f) e
-
--- ---- levels that are all 0
-
-pub count_zeros : (n : ℕ) → count_equal 0 (replicate n 0) ≡ n
-count_zeros zero = refl
-count_zeros (suc n) = ap suc (count_zeros n)

@@ -1,12 +1,10 @@
 -- Levels of parts.
 use Rattle.std.proofs.Common.{◌≡◌, ℕ, zero, suc, List, Bool, refl, sym, ap, ◌∙◌, Some, None}
-use Rattle.std.specs.Prelude.{replicate, nat_le, if◌then◌else◌, option_and_then}
+use Rattle.std.specs.Prelude.{nat_le, if◌then◌else◌, option_and_then}
 use Rattle.std.specs.List.{list_all}
-use Rattle.std.proofs.lemmas.Bool.{ne_eqb}
 use Rattle.dr_formats.specs.Hybrid.{hybrid}
 use Rattle.dr_formats.specs.Page.{level_width, none_above, levels}
 use Rattle.dr_page.specs.declared.fault.PageFault.{PageFault}
-use Rattle.dr_page.specs.Parts.{expanded}
 use Rattle.dr_page.specs.Reads.{WhereNone}
 
 -- the levels of a part, where hybrid data has these
@@ -14,10 +12,6 @@ pub levels_by : (g n w : ℕ) (part ls : List ℕ) (b : Bool) → (g ≡ 0 → �
 levels_by zero n w part ls b h f r a = absurd (h refl)
 levels_by (suc g) n w part ls b h f r a =
     ap (λ v. option_and_then (none_above (suc g)) (hybrid v n part)) (sym f) ∙ (ap (option_and_then (none_above (suc g))) r ∙ ap (λ c. if c then Some ls else None) a)
-
--- levels that are not left out
-pub expanded_same : (g n : ℕ) (ls : List ℕ) → (g ≡ 0 → ⊥) → ls ≡ expanded g n ls
-expanded_same g n ls h = ap (λ b. if b then replicate n 0 else ls) (sym (ne_eqb g 0 h))
 
 -- there are none where hybrid data has none
 no_levels_by : (g n w : ℕ) (part : List ℕ) → (g ≡ 0 → ⊥) → w ≡ level_width g → hybrid w n part ≡ None → levels g n part ≡ None

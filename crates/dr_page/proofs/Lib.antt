@@ -1,5 +1,3 @@
--- runs that are read one after another
-pub mod GrowingLemmas
 -- the width of levels
 pub mod WidthLemmas
 -- levels side by side

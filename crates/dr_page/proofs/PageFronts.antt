@@ -8,11 +8,10 @@ use Rattle.dr_formats.specs.Reading.{Reading, got, refused}
 use Rattle.dr_formats.specs.Page.{PageShape, PageForm, data_page_v1, data_page_v2, PageFault, bad_page, LevelParts, level_parts_by, levels, encoded_values, count_equal, first_if, behind_if, join_triplets, page_triplets}
 use Rattle.dr_bytes.proofs.FaultLemmas.{is_fault}
 use Rattle.dr_page.specs.declared.fault.PageFault as code
-use Rattle.dr_page.specs.Parts.{levels_ahead}
 use Rattle.dr_page.specs.Reads.{WhereBad}
 use Rattle.dr_page.specs.PageReading.{front_of, left_of, IsReading}
 use Rattle.dr_page.specs.declared.page_reader.PageReader.{PageReader}
-use Rattle.dr_page.proofs.BodyLemmas.{body_is_behind, levels_are, no_levels, no_parts, no_repetitions, no_definitions}
+use Rattle.dr_page.proofs.BodyLemmas.{levels_ahead, body_is_behind, levels_are, no_levels, no_parts, no_repetitions, no_definitions}
 use Rattle.dr_page.proofs.FrontLemmas.{Fronts, levels_fronts}
 use Rattle.dr_page.proofs.ValueFronts.{encoded_fronts}
 

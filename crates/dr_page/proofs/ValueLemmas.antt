@@ -1,5 +1,5 @@
 -- Values by their encoding; values of dictionaries; places of texts.
-use Rattle.std.proofs.Common.{◌≡◌, ℕ, zero, suc, ◌+◌, List, [], ◌∷◌, ◌++◌, length, map, Bool, true, false, refl, sym, ap, ◌∙◌, subst, ℤ, Option, Some, None, Result, Ok, Err}
+use Rattle.std.proofs.Common.{◌≡◌, ℕ, zero, suc, ◌+◌, List, [], ◌∷◌, length, map, Bool, true, false, refl, sym, ap, ◌∙◌, ℤ, Option, Some, None}
 use Rattle.std.specs.Prelude.{◌||◌, ◌==◌, nat_le, if◌then◌else◌, option_map, option_and_then}
 use Rattle.std.specs.List.{list_all, All}
 use Rattle.std.proofs.lemmas.Bool.{and_parts, and_from, le-leb}
@@ -18,14 +18,14 @@ use Rattle.dr_levels.specs.Dense.{text_values}
 use Rattle.dr_plain.specs.declared.values.TextPlace as dense
 use Rattle.dr_plain.specs.Views as dense_views
 use Rattle.dr_plain.specs.Picking.{picked}
-use Rattle.dr_plain.proofs.PickSteps.{picked_seen, not_picked_seen, picked_hold}
+use Rattle.dr_plain.proofs.PickSteps.{picked_hold}
 use Rattle.dr_bytes.proofs.FaultLemmas.{was_fault}
 use Rattle.dr_page.specs.declared.encoding.ValueEncoding.{ValueEncoding}
 use Rattle.dr_page.specs.declared.fault.PageFault.{PageFault}
 use Rattle.dr_page.specs.Encodings.{encoding_of}
 use Rattle.dr_page.specs.Indices.{indices_ahead}
 use Rattle.dr_page.specs.Places.{column_place}
-use Rattle.dr_page.specs.Reads.{WhereNone, WhereBad, Reads}
+use Rattle.dr_page.specs.Reads.{WhereNone, WhereBad}
 
 -- ---- encodings
 
@@ -83,26 +83,6 @@ by_indices d zero bs = refl
 by_indices d (suc n) [] = refl
 by_indices d (suc n) (w ∷ bs) = narrow_enough (nat_le w 32) d (hybrid w (suc n) bs)
 
-found_by : {A : Type 0} (f : A → Value) (items found : List A) (o : Option (List ℕ)) → option_and_then (picked items) o ≡ Some found → option_and_then (plain.pick (map f items)) o ≡ Some (map f found)
-found_by f items found None e = absurd (cc)
-found_by f items found (Some is) e = picked_seen f items found is e
-
-none_by : {A : Type 0} (f : A → Value) (items : List A) (o : Option (List ℕ)) → option_and_then (picked items) o ≡ None → option_and_then (plain.pick (map f items)) o ≡ None
-none_by f items None e = refl
-none_by f items (Some is) e = not_picked_seen f items is e
-
--- items that are picked, as values
-pub picked_reads : {A B : Type 0} (f : A → Value) (items found : List A) (n : ℕ) (bs : List ℕ) (r : Result B PageFault) → Reads (option_and_then (picked items) (indices_ahead n bs)) found r → Reads (dictionary_values (map f items) n bs) (map f found) r
-picked_reads f items found n bs (Ok b) h = by_indices (map f items) n bs ∙ found_by f items found (indices_ahead n bs) h
-picked_reads f items found n bs (Err PageFault.NoMemory) h = tt
-picked_reads f items found n bs (Err PageFault.BadData) h = by_indices (map f items) n bs ∙ none_by f items (indices_ahead n bs) h
-
-pub dictionary_reads : {A B : Type 0} (f : A → Value) (z : ℤ) (k : tree.Kind) (items found : List A) (n : ℕ) (bs : List ℕ) (r : Result B PageFault) → encoding_of z ≡ Some ValueEncoding.Dictionary
-    → Reads (option_and_then (picked items) (indices_ahead n bs)) found r → Reads (encoded_values z k (map f items) n bs) (map f found) r
-dictionary_reads {B = B} f z k items found n bs r e h =
-    let P : Option (List Value) → Type 0 = λ o. Reads o (map f found) r in
-    subst P (sym (by_dictionary z k (map f items) n bs e)) (picked_reads f items found n bs r h)
-
 -- ---- texts
 
 pub same_texts : (bytes : List ℕ) (ps : List dense.TextPlace) → text_values bytes (map column_place ps) ≡ dense_views.text_values bytes ps
@@ -127,15 +107,6 @@ pub picked_by : {A : Type 0} (p : A → Bool) (items found : List A) (o : Option
 picked_by p items found None h e = absurd (cc)
 picked_by p items found (Some is) h e = pass_all p found (picked_hold (λ x. p x ≡ true) items is found (all_pass p items h) e)
 
--- what passes for all items passes for those that are picked
-pub picked_pass : {A : Type 0} (p : A → Bool) (items found : List A) (n : ℕ) (bs : List ℕ) → list_all p items ≡ true → option_and_then (picked items) (indices_ahead n bs) ≡ Some found → list_all p found ≡ true
-picked_pass p items found n bs h e = picked_by p items found (indices_ahead n bs) h e
-
--- values that joined none
-pub joined_none : (o : Option (List Value)) (before after : List Value) → before ≡ [] → dense_views.Appends o before after → o ≡ Some after
-joined_none None before after e h = absurd h
-joined_none (Some vs) before after e h = ap Some (sym (h ∙ ap (λ us. us ++ vs) e))
-
 -- texts that stand in a buffer
 pub text_places : (bytes : List ℕ) (ps : List dense.TextPlace) (items : List dense.TextPlace) (out : List TextPlace) → items ≡ ps → out ≡ map column_place items → dense_views.text_values bytes ps ≡ text_values bytes out
 text_places bytes ps items out e f = sym (ap (text_values bytes) (f ∙ ap (map column_place) e) ∙ same_texts bytes ps)
@@ -148,13 +119,6 @@ text_places_hold bytes ps items out e f h = ap (list_all (is_text bytes)) (f ∙
 pub truths_seen : (ls : List ℕ) → map bool_value (map (λ (l : ℕ). l == 1) ls) ≡ map plain.truth_of_bit ls
 truths_seen [] = refl
 truths_seen (l ∷ ls) = ap (λ vs. bool_value (l == 1) ∷ vs) (truths_seen ls)
-
--- the truth values of a part's levels
-pub bits_read : (n : ℕ) (bs part rest ls : List ℕ) (out : List Bool) → (n ≡ 0 → ⊥) → sized_part bs ≡ got part rest → levels 1 n part ≡ Some ls → out ≡ map (λ (l : ℕ). l == 1) ls → rle_truths n bs ≡ Some (map bool_value out)
-bits_read zero bs part rest ls out h p l e = absurd (h refl)
-bits_read (suc n) bs part rest ls out h p l e =
-    let a : option_and_then (levels 1 (suc n)) (part_read (sized_part bs)) ≡ Some ls = ap (λ r. option_and_then (levels 1 (suc n)) (part_read r)) p ∙ l in
-    ap (option_map (map plain.truth_of_bit)) a ∙ ap Some (sym (ap (map bool_value) e ∙ truths_seen ls))
 
 -- there are none where there is no part, or its levels aren't
 no_part : (n : ℕ) (bs rest : List ℕ) → (n ≡ 0 → ⊥) → sized_part bs ≡ refused bad_page rest → rle_truths n bs ≡ None
@@ -172,7 +136,3 @@ no_bits (suc n) bs part rest h p l = ap (λ r. option_map (map plain.truth_of_bi
 pub no_bits_none : (n : ℕ) (bs part rest : List ℕ) (e : PageFault) → (n ≡ 0 → ⊥) → sized_part bs ≡ got part rest → WhereNone e (levels 1 n part) → WhereNone e (rle_truths n bs)
 no_bits_none n bs part rest PageFault.NoMemory h p w = tt
 no_bits_none n bs part rest PageFault.BadData h p w = no_bits n bs part rest h p w
-
--- they are the values of their encoding
-pub rle_reads : {B : Type 0} (z : ℤ) (d : List Value) (n : ℕ) (bs : List ℕ) (vs : List Value) (r : Result B PageFault) → encoding_of z ≡ Some ValueEncoding.Hybrid → Reads (rle_truths n bs) vs r → Reads (encoded_values z tree.bool_kind d n bs) vs r
-rle_reads z d n bs vs r e h = subst (λ (o : Option (List Value)). Reads o vs r) (sym (by_rle z tree.bool_kind d n bs e)) h

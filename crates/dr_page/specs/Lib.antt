@@ -8,12 +8,8 @@ pub mod Encodings
 pub mod Faults
 -- level parts, and levels side by side
 pub mod Parts
--- the levels that a reader holds
-pub mod Levels
 -- indices of a dictionary
 pub mod Indices
--- what is left of a body behind its levels
-pub mod Bodies
 -- what comes of writing
 pub mod Writes
 -- places of texts

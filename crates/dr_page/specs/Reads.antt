@@ -1,5 +1,5 @@
 -- What comes of reading, against what the definitions say.
-use Rattle.std.specs.Prelude.{◌≡◌, List, ◌++◌, Option, Some, None, Result, Ok, Err, ⊤}
+use Rattle.std.specs.Prelude.{◌≡◌, Option, Some, None, Result, Ok, Err, ⊤}
 use Rattle.dr_formats.specs.Reading.{Reading}
 use Rattle.dr_formats.specs.Page as page
 use Rattle.dr_bytes.specs.Numbers.{IsFault}
@@ -19,8 +19,3 @@ WhereBad PageFault.BadData reading = IsFault page.bad_page reading
 abbrev pub Reads : {A B : Type 0} → Option A → A → Result B PageFault → Type 0
 Reads meant a (Ok b) = meant ≡ Some a
 Reads meant a (Err e) = WhereNone e meant
-
--- what is meant is there, and joined the end
-abbrev pub Joins : {A : Type 0} → Option (List A) → List A → List A → Type 0
-Joins None before after = ⊥
-Joins (Some more) before after = after ≡ before ++ more

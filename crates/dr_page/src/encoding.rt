@@ -27,7 +27,7 @@ pub(crate) enum ValueEncoding {
 }
 
 /// The encoding of values with a number of the format; none for any other number.
-pub(crate) fn value_encoding(number: i64) -> Option<ValueEncoding>
+fn value_encoding(number: i64) -> Option<ValueEncoding>
     ensures { result ≡ encoding_of number }
 {
     match number {

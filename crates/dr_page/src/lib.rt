@@ -2,34 +2,27 @@
 //! columns and written from them in bulk.
 #![tactic(auto)]
 
-mod body_reader;
 mod body_writer;
 mod dictionary;
 mod encoding;
 mod fault;
 mod index_cursor;
-mod index_runs;
 mod level_cursor;
 mod level_lengths;
 mod level_pairs;
 mod level_part;
-mod level_reader;
-mod level_runs;
 mod level_writer;
 mod levels;
 mod page_reader;
 mod part;
 mod picking;
 mod rle_bools;
-mod run_appending;
 mod shape;
 mod text_places;
 mod value_cursor;
-mod value_reader;
 mod value_size;
 mod value_writer;
 
-pub use body_reader::BodyReader;
 pub use body_writer::BodyWriter;
 pub use dictionary::Dictionary;
 pub use fault::PageFault;

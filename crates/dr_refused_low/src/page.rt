@@ -1,31 +1,35 @@
 //! Bodies of data pages.
 
-ghost use Rattle.std.specs.Prelude.{◌≡◌, true, IfErr, OnOk, OnErr};
-ghost use Rattle.dr_nested.specs.Views.{kind_view};
-ghost use Rattle.dr_formats.specs.Page.{page_triplets};
+ghost use Rattle.std.specs.Prelude.{◌≡◌, ◌+◌, List, min, true, IfOk, OnErr};
+ghost use Rattle.dr_meaning.specs.Column as meant;
+ghost use Rattle.dr_formats.specs.Page.{PageShape};
 ghost use Rattle.dr_levels.specs.Views.{column_view, column_form};
-ghost use Rattle.dr_page.specs.Views.{shape_view, shape_form, dictionary_view, is_dictionary_of};
-ghost use Rattle.dr_page.specs.Reads.{Joins, WhereNone};
+ghost use Rattle.dr_page.specs.Views.{dictionary_view, is_dictionary_of};
+ghost use Rattle.dr_page.specs.PageReading.{left_of, reader_form, IsReading, Lengthens, Gives};
 
 use dr_levels::Column;
-use dr_page::{BodyReader, Dictionary, PageFault, Shape};
+use dr_page::{Dictionary, PageFault, PageReader};
 
-/// As `BodyReader::read`.
-pub fn read_body(
-    reader: &mut BodyReader,
-    shape: &Shape,
+/// As `PageReader::next`.
+pub fn next_of_page(
+    reader: &mut PageReader,
     dictionary: &Dictionary,
     bytes: &[u8],
+    most: usize,
     out: &mut Column,
-) -> Result<(), PageFault>
-    requires form { column_form out.old ≡ shape_form shape.now }
-    requires dictionary { is_dictionary_of (kind_view (shape.now).kind) dictionary.now ≡ true }
-    ensures read { OnOk result (Joins (page_triplets (shape_view shape.now) (dictionary_view dictionary.now) bytes.now)
-        (column_view out.old) (column_view out.new)) }
-    ensures bad { IfErr result (λ e. WhereNone e (page_triplets (shape_view shape.now) (dictionary_view dictionary.now)
-        bytes.now)) }
+) -> Result<usize, PageFault>
+    requires form { column_form out.old ≡ reader_form reader.old }
+    requires dictionary { is_dictionary_of (reader_form reader.old).kind dictionary.now ≡ true }
+    ensures gives { (s : PageShape) → (given : List meant.Triplet)
+        → IsReading s (dictionary_view dictionary.now) bytes.now given reader.old
+        → Gives s (dictionary_view dictionary.now) bytes.now given (min most (left_of reader.old))
+        (column_view out.old) (column_view out.new) reader.new result }
+    ensures count { IfOk result (λ n. n ≡ min most (left_of reader.old)) }
+    ensures left { IfOk result (λ n. n + left_of reader.new ≡ left_of reader.old) }
+    ensures longer { IfOk result (λ n. Lengthens (column_view out.old) (column_view out.new) n) }
     ensures stays { OnErr result (column_view out.new ≡ column_view out.old) }
     ensures form { column_form out.new ≡ column_form out.old }
+    ensures reader { reader_form reader.new ≡ reader_form reader.old }
 {
-    reader.read(shape, dictionary, bytes, out)
+    reader.next(dictionary, bytes, most, out)
 }
