@@ -12,6 +12,7 @@ use dr_cells::{CellRef, Cells};
 use itoa::Buffer;
 use std::alloc::{AllocError, Global};
 
+#[inline(always)]
 fn push_whole(text: &mut String, number: i128) -> Result<(), AllocError>
     ensures { OnOk result (string_bytes text.new ≡ string_bytes text.old ++ signed_decimal number) }
 {
@@ -20,6 +21,7 @@ fn push_whole(text: &mut String, number: i128) -> Result<(), AllocError>
 }
 
 /// Appends the value of a cell, or `null`.
+#[inline(always)]
 fn push_cell(alloc: Global, text: &mut String, cell: CellRef<'_>) -> Result<(), AllocError>
     ensures { OnOk result (string_bytes text.new
         ≡ string_bytes text.old ++ print.cell_text (own_value (lent_cell cell.entry))) }
@@ -34,6 +36,7 @@ fn push_cell(alloc: Global, text: &mut String, cell: CellRef<'_>) -> Result<(), 
 }
 
 /// Appends the value of the cell at a place, or `null`.
+#[inline]
 pub fn push_value(
     alloc: Global,
     text: &mut String,
@@ -51,6 +54,7 @@ pub fn push_value(
 }
 
 /// How many objects the list at a place has.
+#[inline(always)]
 pub fn count_at(cells: &Cells, at: usize) -> u64
     ensures { result ≡ first_count (drop at (cells_view cells.now)) }
 {

@@ -16,6 +16,7 @@ use dr_cells::Cells;
 use std::alloc::{AllocError, Global};
 
 /// Appends the values of these names, which are in quotes, from a place on.
+#[inline]
 fn push_values(
     alloc: Global,
     text: &mut String,
@@ -36,6 +37,7 @@ fn push_values(
 }
 
 /// Whether something stands before the list of this number.
+#[inline(always)]
 fn stands_before(behind: bool, number: usize) -> bool
     ensures { result ≡ (behind || nat_lt 0 number) }
 {

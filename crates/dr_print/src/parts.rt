@@ -9,6 +9,7 @@ ghost use Rattle.dr_print.specs.Parts as parts;
 use std::alloc::{AllocError, Global};
 
 /// Appends a comma, where something stands before.
+#[inline(always)]
 pub(crate) fn push_comma(text: &mut String, behind: bool) -> Result<(), AllocError>
     ensures { OnOk result (string_bytes text.new ≡ string_bytes text.old ++ comma_if behind) }
 {
@@ -19,6 +20,7 @@ pub(crate) fn push_comma(text: &mut String, behind: bool) -> Result<(), AllocErr
 }
 
 /// Whether a byte stands in quotes as it is: those below 32, a quote and a backslash are escaped.
+#[inline(always)]
 fn is_plain(byte: u8) -> bool
     ensures { result ≡ parts.is_plain byte }
 {
@@ -26,6 +28,7 @@ fn is_plain(byte: u8) -> bool
 }
 
 /// Whether each of some bytes stands in quotes as it is.
+#[inline(always)]
 fn are_plain(bytes: &[u8]) -> bool
     ensures { result ≡ list_all parts.is_plain bytes.now }
 {
@@ -33,6 +36,7 @@ fn are_plain(bytes: &[u8]) -> bool
 }
 
 /// Appends a text between quotes, as it is.
+#[inline(always)]
 fn push_between_quotes(text: &mut String, value: &str) -> Result<(), AllocError>
     ensures { OnOk result (string_bytes text.new
         ≡ string_bytes text.old ++ 34 ∷ (value.now ++ 34 ∷ [])) }
@@ -53,6 +57,7 @@ fn push_escaped(alloc: Global, text: &mut String, value: &str) -> Result<(), All
 }
 
 /// Appends a text in quotes, as compact JSON has it (RFC 8259, section 7).
+#[inline]
 pub(crate) fn push_quoted(alloc: Global, text: &mut String, value: &str) -> Result<(), AllocError>
     ensures { OnOk result (string_bytes text.new ≡ string_bytes text.old ++ quoted value.now) }
 {
@@ -64,6 +69,7 @@ pub(crate) fn push_quoted(alloc: Global, text: &mut String, value: &str) -> Resu
 }
 
 /// Appends a name in quotes and a colon.
+#[inline(always)]
 pub(crate) fn push_name(alloc: Global, text: &mut String, name: &str) -> Result<(), AllocError>
     ensures { OnOk result (string_bytes text.new ≡ string_bytes text.old ++ (quoted name.now ++ 58 ∷ [])) }
 {
