@@ -1,4 +1,4 @@
-# Two loads into one table at the same time, and queries meanwhile. Each ends as it would alone; which load's files stand there then isn't promised.
+# Two loads into one table at the same time, and queries and dumps meanwhile. Each ends as it would alone; which load's files stand there then isn't promised.
 
 mkdir "$work/once" "$work/apart"
 "$program" gen --seed 50000 --records 4000 >"$work/other.jsonl"
@@ -34,8 +34,10 @@ sees "two loads of other records at once: each ends with 0, and a query behind t
 meanwhile=ok
 for _ in $(seq 10); do
   load_once "$made" "$once" "$work/once" >"$work/ended" &
-  for _ in $(seq 10); do
-    "$program" query --table "$once" "$trial" >/dev/null 2>&1
+  for number in $(seq 10); do
+    words=(query --table "$once" "$trial")
+    [ $((number % 2)) = 0 ] || words=(dump --table "$once" DocId)
+    "$program" "${words[@]}" >/dev/null 2>&1
     case $? in
       0 | 2 | 3) ;;
       *) meanwhile= ;;
@@ -44,5 +46,5 @@ for _ in $(seq 10); do
   wait
   [ "$(cat "$work/ended")" = 0 ] || meanwhile=
 done
-sees "queries while a load replaces the table: each ends with 0, 2 or 3" [ "$meanwhile" ]
+sees "queries and dumps while a load replaces the table: each ends with 0, 2 or 3" [ "$meanwhile" ]
 told "the table behind them" 0 "$whole" "" query --table "$once" "$trial"

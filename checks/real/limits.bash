@@ -54,7 +54,12 @@ if [ "$(id -u)" = 0 ] && command -v setpriv >/dev/null; then
     load --schema "$schema" --table "$work/none.table" "$work/a" <"$records"
   chmod 600 "$table" && cp "$schema" "$work/schema" && chmod 0 "$work/schema"
   told "a table that may not be read" 4 "" "outside: keeper" query --table "$table" "$rows"
+  told "the same, dumped" 4 "" "outside: keeper" dump --table "$table" DocId
   told "a schema that may not be read" 4 "" "outside: keeper" ask --schema "$work/schema" "$rows" <"$records"
+  told "the same, of a load" 4 "" "outside: keeper" load --schema "$work/schema" --table "$work/none.table" "$work/a" <"$records"
+  told "of a column" 4 "" "outside: keeper" stripe --schema "$work/schema" DocId <"$records"
+  told "of an automaton" 4 "" "outside: keeper" fsm --schema "$work/schema" DocId
+  told "of an explained query" 4 "" "outside: keeper" explain --schema "$work/schema" "$rows"
   before=()
   chmod 755 "$work/b"
 else
@@ -72,6 +77,8 @@ for number in $(seq 1 63); do
   rm "$work/folder$number"/*
 done
 told "of which all but the last are empty" 0 '{"r":2}' "" query --table "$work/wide.table" "$rows"
+told "the same, dumped" 0 '{"DocId":10}
+{"DocId":20}' "" dump --table "$work/wide.table" DocId
 rm "$work/folder64/t000001.parquet"
 reads=$(printf '; %s read' $(seq 0 63))
 told "and one tablet is nowhere" 3 "" "left t000001: ${reads#; }" query --table "$work/wide.table" --workers 16 "$rows"
@@ -81,6 +88,8 @@ mkdir "$work/many"
 told "4,096 tablets" 0 "loaded 4096 records into 4096 tablets" "" \
   load --schema "$schema" --table "$work/many.table" --rows 1 "$work/many" <"$made"
 told "4,096 tablets, asked" 0 '{"r":4096}' "" query --table "$work/many.table" --workers 16 "$rows"
+told "4,096 tablets, dumped" 0 "$(seq -f '{"DocId":%.0f}' 0 4095)" "" dump --table "$work/many.table" DocId
+told "4,096 tablets in memory" 0 '{"r":4096}' "" ask --schema "$schema" --rows 1 --workers 16 "$rows" <"$made"
 rm "$work/many/t004095.parquet"
 told "of which one is gone" 3 "" "left t004095: 0 read" query --table "$work/many.table" "$rows"
 told "of which 99 of 100 are enough" 6 '{"r":4095}' "left t004095: 0 read" query --table "$work/many.table" --least 99 "$rows"
@@ -88,3 +97,4 @@ rm "$work/many"/*
 told "all of which are gone" 3 "" "$(printf 'left t%06d: 0 read\n' $(seq 0 4095))" dump --table "$work/many.table" DocId
 cat "$records" >>"$made"
 told "4,097 tablets" 2 "" "refused line 4097: TooManyRecords" load --schema "$schema" --table "$work/none.table" --rows 1 "$work/many" <"$made"
+told "4,097 tablets in memory" 2 "" "refused line 4097: TooManyRecords" ask --schema "$schema" --rows 1 "$rows" <"$made"

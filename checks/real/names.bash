@@ -1,11 +1,16 @@
 # Names of folders and files with odd bytes, and words that are no text.
 
-mkdir "$work/names"
+mkdir "$work/names" "$work/schemas"
 for name in "blank 'quote\" é" $'tab\tbell\a' "$(printf 'x%.0s' $(seq 255))" "%s%n" '$(x)' "*" "{}" "leaf x"; do
   mkdir -p "$work/names/$name"
   told "a table and folders named '${name:0:20}'" 0 "loaded 2 records into 2 tablets" "" \
     load --schema "$schema" --table "$work/names/$name/$name" --rows 1 "$work/names/$name" <"$records"
   told "the same, asked" 0 '{"r":2}' "" query --table "$work/names/$name/$name" "$rows"
+  told "the same, dumped" 0 '{"DocId":10}
+{"DocId":20}' "" dump --table "$work/names/$name/$name" DocId
+  told "a tablet there" 0 "$("$program" schema "$work/a/t000000.parquet")" "" schema "$work/names/$name/t000000.parquet"
+  cp "$schema" "$work/schemas/$name"
+  told "a schema of this name" 0 '{"r":2}' "" ask --schema "$work/schemas/$name" "$rows" <"$records"
 done
 
 cd "$work/names" || exit 1

@@ -13,6 +13,11 @@ for path in "$work/a" "$work/loop" "$work/nowhere" "$work/none" "$work/records/x
   told "a schema at '$name'" 4 "" "$keeper" ask --schema "$path" "$rows" <"$records"
   told "a table at '$name'" 4 "" "$keeper" query --table "$path" "$rows"
   told "a file at '$name'" 3 "" "$left" schema "$path"
+  told "a load's schema at '$name'" 4 "" "$keeper" load --schema "$path" --table "$work/none.table" "$work/leaf0" <"$records"
+  told "a column's schema at '$name'" 4 "" "$keeper" stripe --schema "$path" DocId <"$records"
+  told "an automaton's schema at '$name'" 4 "" "$keeper" fsm --schema "$path" DocId
+  told "an explained query's schema at '$name'" 4 "" "$keeper" explain --schema "$path" "$rows"
+  told "a dumped table at '$name'" 4 "" "$keeper" dump --table "$path" DocId
 done
 told "a schema that is empty" 2 "" "refused schema at 0: Syntax" ask --schema /dev/null "$rows" <"$records"
 told "a table that is empty" 2 "" "refused table: Head" query --table /dev/null "$rows"
@@ -41,6 +46,7 @@ told "a tablet onto a folder" 4 "" "$keeper" load --schema "$schema" --table "$w
 told "a tablet into a file" 4 "" "$keeper" load --schema "$schema" --table "$work/none.table" "$work/records" <"$records"
 told "a tablet into a folder that isn't there" 4 "" "$keeper" load --schema "$schema" --table "$work/none.table" "$work/none" <"$records"
 sees "no table is put where a tablet isn't" [ ! -e "$work/none.table" ]
+told "a table onto a full device" 4 "" "$keeper" load --schema "$schema" --table /dev/full "$work/leaf0" <"$records"
 told "a table onto a folder" 4 "" "$keeper" load --schema "$schema" --table "$work/a" "$work/leaf0" <"$records"
 rm -r "$work/a/t000000.parquet" "$work/b/t000000.parquet"
 

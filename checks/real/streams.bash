@@ -21,7 +21,9 @@ while read -r command words; do
   ended "$command, standard output full" 4 "" "outside: out" $?
 done <<'COMMANDS'
 load load --schema "$schema" --table "$table" --rows 1 --copies 2 "$work/a" "$work/b"
+load-in-V2 load --schema "$schema" --table "$work/later.table" --rows 1 --pages 2 "$work/later"
 query query --table "$table" "$rows"
+share query --table "$table" --least 50 "$rows"
 ask ask --schema "$schema" "$rows"
 dump dump --table "$table" DocId
 schema schema "$work/a/t000000.parquet"
@@ -50,5 +52,8 @@ ended "a result, all streams closed" 4 "" "" "$status"
 told "standard input closed" 0 '{"r":0}' "" ask --schema "$schema" "$rows" <&-
 told "standard input a folder" 4 "" "outside: source" ask --schema "$schema" "$rows" <"$work/a"
 told "standard input that never ends a line" 2 "" "refused line 1: LineTooLong" ask --schema "$schema" "$rows" </dev/zero
+told "a column, standard input closed" 0 "" "" stripe --schema "$schema" DocId <&-
+told "a column, standard input a folder" 4 "" "outside: source" stripe --schema "$schema" DocId <"$work/a"
+told "a load, standard input closed" 0 "loaded 0 records into 1 tablets" "" load --schema "$schema" --table "$work/later.table" "$work/later" <&-
 told "a load whose input is a folder" 4 "" "outside: source" load --schema "$schema" --table "$work/none.table" "$work/leaf0" <"$work/a"
 sees "no table is put where the input fails" [ ! -e "$work/none.table" ]
