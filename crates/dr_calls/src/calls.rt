@@ -6,6 +6,7 @@ use crate::leaves::{leaves_counted, place_found};
 use crate::lines::lines_cut;
 use crate::made::{lines_made, record_made};
 use crate::numbers::{signed, turned, varint_read, varint_written};
+use crate::pieces::{plain_by_pieces, runs_by_pieces};
 use crate::records::record_read;
 use crate::runs::runs_read;
 use crate::structs::{file_again, page_again, struct_again};
@@ -26,6 +27,7 @@ pub fn answer(alloc: Global, words: &[String], bytes: &[u8]) -> Result<String, B
         "decode" => decoded(alloc, words, bytes),
         "decode_levels" => decoded_levels(alloc, words, bytes),
         "runs" => runs_read(alloc, words, bytes),
+        "read_runs" => runs_by_pieces(alloc, words, bytes),
         "encode_levels" => encoded_levels(alloc, words, bytes),
         "read_back" => read_back(alloc, words),
         _ => answer_more(alloc, name.as_str(), words, bytes),
@@ -41,6 +43,7 @@ fn answer_more(
 ) -> Result<String, Broken> {
     match name {
         "read_plain" => plain_read(alloc, words, bytes),
+        "plain_pieces" => plain_by_pieces(alloc, words, bytes),
         "pick" => picked(alloc, words, bytes),
         "struct" => struct_again(alloc, bytes),
         "file" => file_again(alloc, bytes),

@@ -7,7 +7,7 @@ use dr_plain::{Values, pick, read_plain};
 use std::alloc::Global;
 
 /// The kind that an argument names.
-fn kind_at(words: &[String], place: usize) -> Result<Kind, Broken> {
+pub fn kind_at(words: &[String], place: usize) -> Result<Kind, Broken> {
     match argument(words, place)? {
         "boolean" => Ok(Kind::Bool),
         "int32" => Ok(Kind::I32),
@@ -18,7 +18,7 @@ fn kind_at(words: &[String], place: usize) -> Result<Kind, Broken> {
 }
 
 /// The line of values; of a text where it begins and how long it is.
-fn values_text(alloc: Global, values: &Values) -> Result<String, Broken> {
+pub fn values_text(alloc: Global, values: &Values) -> Result<String, Broken> {
     let mut text = String::new(alloc);
     match values {
         Values::Bools(truths) => {
