@@ -88,7 +88,13 @@ fn is_share(least: u32, counted: usize, all: usize) -> bool
 }
 
 // Finishes what has grown, unless the tablets that aren't left are less than the share of all.
-fn conclude(alloc: Global, closed: Closed, tablets: usize, least: u32) -> Result<Outcome, NoMemory>
+fn conclude<R: Threads + Sync>(
+    rt: &R,
+    alloc: Global,
+    closed: Closed,
+    tablets: usize,
+    least: u32,
+) -> Result<Outcome, NoMemory>
     requires least { (0 < least) × (least ≤ 100) }
     requires few { tablets ≤ 4096 }
     requires left { length closed.left.items ≤ tablets }
@@ -111,12 +117,12 @@ fn conclude(alloc: Global, closed: Closed, tablets: usize, least: u32) -> Result
 {
     let Closed { grown, left } = closed;
     if left.is_empty() {
-        return Ok(Outcome::Finished(grown.finish(alloc)?));
+        return Ok(Outcome::Finished(grown.finish(rt, alloc)?));
     }
     if !is_share(least, tablets - left.len(), tablets) {
         return Ok(Outcome::Unfinished(left));
     }
-    Ok(Outcome::Most(grown.finish(alloc)?, left))
+    Ok(Outcome::Most(grown.finish(rt, alloc)?, left))
 }
 
 // Serves by all of these links.
@@ -171,7 +177,7 @@ fn serve_by<L: Link + Send, R: Threads + Wait + Sync>(
     let closed = closed::<Brand, Brand, Brand, L, R>(
         rt, alloc, ground, plan, table, tree, links, lag,
     )?;
-    conclude(alloc, closed, table.tablets as usize, least)
+    conclude(rt, alloc, closed, table.tablets as usize, least)
 }
 
 /// Serves a plan's query over a table by so many workers, the first so many of the links with one to a worker. The

@@ -1,13 +1,13 @@
 -- What grows of a tree, step by step.
 use Rattle.std.specs.Prelude.{◌≡◌, ◌^◌, ℕ, List, [], ◌∷◌, ◌++◌, map, drop, get_or, true, Option, Some, None, option_map, IfSome, Result, Ok, Err, OnErr}
 use Rattle.std.specs.List.{fold, list_all}
-use Rattle.std.proofs.Common.{refl, sym, ap, ◌∙◌, subst, arith, append_assoc}
+use Rattle.std.proofs.Common.{refl, sym, ap, ◌∙◌, subst, append_assoc}
 use Rattle.std.proofs.lemmas.Bool.{and_parts}
 use Rattle.std.proofs.lemmas.List.Elements.{filter_map-append}
 use Rattle.std.proofs.lemmas.List.Folds.{list_all-append}
 use Rattle.std.proofs.lemmas.List.Sums.{fold-append}
 use Rattle.dr_meaning.specs.Schema.{Fields}
-use Rattle.dr_meaning.specs.Query.{Query, Object}
+use Rattle.dr_meaning.specs.Query.{Query}
 use Rattle.dr_partials.specs.Partials as meant
 use Rattle.dr_partials.specs.Partials.{Group, grouped, merge, merge_groups, empty_partial}
 use Rattle.dr_partials.specs.PartialTypes.{is_partial}

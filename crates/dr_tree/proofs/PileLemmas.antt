@@ -1,9 +1,9 @@
 -- Groups that came one after another: one more, the last two merged, and all of them.
-use Rattle.std.specs.Prelude.{◌≡◌, ◌≤◌, ◌^◌, ℕ, ◌+◌, List, [], ◌∷◌, ◌++◌, map, true, ◌&&◌}
+use Rattle.std.specs.Prelude.{◌≡◌, ◌≤◌, ◌^◌, ℕ, ◌+◌, List, [], ◌∷◌, ◌++◌, map, take, drop, true, ◌&&◌}
 use Rattle.std.specs.List.{fold, list_all}
 use Rattle.std.proofs.Common.{refl, sym, ap, ap₂, ◌∙◌, subst, arith, append_assoc}
 use Rattle.std.proofs.lemmas.Bool.{and_parts}
-use Rattle.std.proofs.lemmas.List.{map-append}
+use Rattle.std.proofs.lemmas.List.{map-append, take-append-drop}
 use Rattle.std.proofs.lemmas.List.Folds.{list_all-append}
 use Rattle.std.proofs.lemmas.List.Sums.{fold-append}
 use Rattle.dr_meaning.specs.Schema.{Fields}
@@ -178,3 +178,87 @@ pair_can_be front b m h =
 
 pub still_merges : (before rest : List GroupMap) (last now : GroupMap) → StaysPile before last rest now → CanMerge before last → CanMerge rest now
 still_merges before rest last now k h = (h.0, h.1, h.2, k h.0 h.1 (2 ^ 60) h.2 h.3)
+
+-- ---- halves of a pile
+
+together_more : (m n : ℕ) (ps : List meant.Partial) → m ≤ n → CanBeTogether m ps → CanBeTogether n ps
+together_more m n [] le h = tt
+together_more m n (p ∷ ps) le h = let l = h.2 in (h.0, h.1, omega (arith, l, le), h.3, h.4)
+
+pile_more : (plan : Planned) (fs : Fields) (m n : ℕ) (all : meant.Partial) (before : List GroupMap) (last : GroupMap) → m ≤ n → IsPile plan fs m all before last → IsPile plan fs n all before last
+pile_more plan fs m n all before last le h = record {
+  of_plan = h.of_plan;
+  bounds = record { partials = h.bounds.partials; bounded = together_more m n (partials_view (piled before last)) le h.bounds.bounded };
+  merged = h.merged;
+}
+
+-- what comes first may be merged last
+merged_behind : (fs : Fields) (q : Query) (p r : meant.Partial) (xs : List meant.Partial) → is_partial fs q p ≡ true → is_partial fs q r ≡ true → list_all (is_partial fs q) xs ≡ true
+    → fold merge (merge p r) xs ≡ merge p (fold merge r xs)
+merged_behind fs q p r [] h k l = refl
+merged_behind fs q p r (x ∷ xs) h k l =
+    let a = and_parts _ _ l in
+    ap (λ (s : meant.Partial). fold merge s xs) (merge_is_associative fs q p r x h k a.0) ∙ merged_behind fs q p (merge r x) xs h (merged_is_partial fs q r x k a.0) a.1
+
+-- all of a pile, merged
+abbrev all_of : Planned → List GroupMap → GroupMap → meant.Partial
+all_of plan before last = fold merge (empty_partial (planned_query plan)) (partials_view (piled before last))
+
+module _ (front : List GroupMap) (middle : GroupMap) (behind : List GroupMap) (last : GroupMap) where
+  cut_apart : piled (front ++ middle ∷ behind) last ≡ piled front middle ++ piled behind last
+  cut_apart =
+      ap (λ ps. ps ++ partial_of_groups last ∷ []) (map-append partial_of_groups front (middle ∷ behind))
+      ∙ (append_assoc (groups_partials front) (partial_of_groups middle ∷ groups_partials behind) (partial_of_groups last ∷ [])
+      ∙ sym (append_assoc (groups_partials front) (partial_of_groups middle ∷ []) (piled behind last)))
+
+  -- both halves are piles, of so many values together
+  abbrev Halves : Planned → Fields → ℕ → Type 0
+  Halves plan fs most =
+      (m : ℕ) × (k : ℕ) × (m + k ≤ most) × IsPile plan fs m (all_of plan front middle) front middle × IsPile plan fs k (all_of plan behind last) behind last
+
+  halves : (plan : Planned) (fs : Fields) (most : ℕ) (all : meant.Partial) → IsPile plan fs most all (front ++ middle ∷ behind) last → Halves plan fs most
+  halves plan fs most all h =
+      let q = planned_query plan in
+      let o = of_plan_parts plan (piled front middle) (piled behind last) (subst (AreOfPlan plan) cut_apart h.of_plan) in
+      let b = are_bounded_parts fs q most (piled front middle) (piled behind last) (subst (λ rs. AreBounded fs q most (partials_view rs)) cut_apart h.bounds) in
+      (b.0, b.1, b.2, record { of_plan = o.0; bounds = b.3; merged = refl }, record { of_plan = o.1; bounds = b.4; merged = refl })
+
+  -- merged, they are what all are
+  all_apart : (plan : Planned) (fs : Fields) (most : ℕ) (all : meant.Partial) → IsPile plan fs most all (front ++ middle ∷ behind) last
+      → merge (all_of plan front middle) (all_of plan behind last) ≡ all
+  all_apart plan fs most all h =
+      let q = planned_query plan in
+      let e = empty_partial q in
+      let firsts = partials_view (piled front middle) in
+      let others = partials_view (piled behind last) in
+      let c = halves plan fs most all h in
+      let is = folded_is_partial fs q e firsts (empty_is_partial fs q) c.3.bounds.partials in
+      sym (merged_behind fs q (all_of plan front middle) e others is (empty_is_partial fs q) c.4.bounds.partials)
+      ∙ (ap (λ (p : meant.Partial). fold merge p others) (empty_merges_to_same fs q (all_of plan front middle) is).1
+      ∙ (sym (fold-append merge e firsts others)
+      ∙ (ap (fold merge e) (sym (map-append partial_view (piled front middle) (piled behind last)))
+      ∙ (ap (λ rs. fold merge e (partials_view rs)) (sym cut_apart) ∙ h.merged))))
+
+  pub halves_merge : CanMerge (front ++ middle ∷ behind) last → CanMerge front middle × CanMerge behind last
+  halves_merge h =
+      let c = halves h.0 h.1 (2 ^ 60) h.2 h.3 in
+      let le = c.2 in (
+        (h.0, h.1, all_of h.0 front middle, pile_more h.0 h.1 c.0 (2 ^ 60) (all_of h.0 front middle) front middle (omega (arith, le)) c.3),
+        (h.0, h.1, all_of h.0 behind last, pile_more h.0 h.1 c.1 (2 ^ 60) (all_of h.0 behind last) behind last (omega (arith, le)) c.4),
+      )
+
+  -- what each half is merged to is a pile of two
+  pub halves_stay : (a b : GroupMap) → StaysPile front middle [] a → StaysPile behind last [] b → StaysPile (front ++ middle ∷ behind) last (a ∷ []) b
+  halves_stay a b x y = λ plan fs most all h.
+      let c = halves plan fs most all h in
+      let mine = x plan fs c.0 (all_of plan front middle) c.3 in
+      let theirs = y plan fs c.1 (all_of plan behind last) c.4 in
+      subst (λ (p : meant.Partial). IsPile plan fs most p (a ∷ []) b) (ap (merge (all_of plan front middle)) (pile_alone plan fs c.1 (all_of plan behind last) b theirs) ∙ all_apart plan fs most all h)
+      (pile_push plan fs c.0 (all_of plan front middle) c.1 most [] a b (last_of_plan plan fs c.1 (all_of plan behind last) [] b theirs)
+      (one_bounded fs (planned_query plan) c.1 (partial_of_groups b) theirs.bounds) c.2 mine)
+
+-- what was cut, together again
+pub together_again : (all cut front behind : List GroupMap) (middle : GroupMap) (at : ℕ) → cut ≡ front ++ middle ∷ [] → cut ≡ take at all → behind ≡ drop at all → front ++ middle ∷ behind ≡ all
+together_again all cut front behind middle at e f h =
+    sym (append_assoc front (middle ∷ []) behind)
+    ∙ (ap (λ xs. xs ++ behind) (sym e ∙ f) ∙ (ap (λ ys. take at all ++ ys) h ∙ take-append-drop at all))

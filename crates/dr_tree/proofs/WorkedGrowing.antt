@@ -1,7 +1,7 @@
 -- A tree of five tablets grows in every order, by computation.
 use Rattle.std.specs.Prelude.{◌≡◌, ℕ, ◌==◌, List, [], ◌∷◌, map, length, replicate, Bool, true, false, ◌&&◌, if◌then◌else◌, Option, Some, None, refl}
 use Rattle.std.specs.List.{flat_map, list_all}
-use Rattle.dr_meaning.specs.Query.{Query, objects, no_entries}
+use Rattle.dr_meaning.specs.Query.{Query, objects, Object, no_entries, cell}
 use Rattle.dr_partials.specs.Partials.{Partial, lines, grouped, merge, empty_partial}
 use Rattle.dr_partials.specs.Trees.{of_fan, tablets_of, gathered}
 use Rattle.dr_tree.specs.GrowingLaws.{fill_all}
@@ -10,9 +10,12 @@ use Rattle.dr_tree.specs.Places.{Place, free_places, has_free, filled, fill, mer
 abbrev five : List ℕ
 five = 0 ∷ 1 ∷ 2 ∷ 3 ∷ 4 ∷ []
 
--- the tablet t has t lines
+-- the tablet t has t lines, each with its number as a name
+abbrev lines_of_tablet : ℕ → List Object
+lines_of_tablet t = replicate t (cell (t ∷ []) None no_entries)
+
 abbrev piece : ℕ → Partial
-piece t = lines (replicate t no_entries)
+piece t = lines (lines_of_tablet t)
 
 -- ---- every order
 
@@ -51,10 +54,18 @@ the_tablets = (refl, refl)
 abbrev all_lines : Query
 all_lines = record { condition = None; selection = objects [] }
 
--- what either gathers is what was added, whatever came first
-pub both_gather : (gathered piece (of_fan 5 2) ≡ piece 10) × (gathered piece (of_fan 5 3) ≡ piece 10) × (merged all_lines (fill_all piece (3 ∷ 0 ∷ 4 ∷ 2 ∷ 1 ∷ []) (free_places five)) ≡ piece 10)
-unfolding of_fan merge empty_partial
-both_gather = (refl, refl, refl)
+-- all lines, in the order of the tablets
+abbrev all_five : Partial
+all_five = lines (flat_map lines_of_tablet five)
+
+pub both_gather : (gathered piece (of_fan 5 2) ≡ all_five) × (gathered piece (of_fan 5 3) ≡ all_five)
+unfolding of_fan merge
+both_gather = (refl, refl)
+
+-- what either gathers is what was added, in each of the orders
+pub any_order_gathers : map (λ order. merged all_lines (fill_all piece order (free_places five))) (orders five) ≡ replicate 120 all_five
+unfolding merge empty_partial
+any_order_gathers = refl
 
 -- ---- some alone
 

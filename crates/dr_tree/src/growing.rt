@@ -12,7 +12,8 @@ ghost use Rattle.dr_tree.specs.Places.{pieces_at};
 ghost use Rattle.dr_tree.specs.Views.{tree_view};
 ghost use Rattle.dr_tree.specs.Waiting.{lines_of};
 
-use crate::piled::{merge_all, merge_due, put_last};
+use crate::halved::merge_all;
+use crate::piled::{merge_due, put_last};
 use crate::tree::Tree;
 use crate::waiting::{Waiting, append_all, append_ready, keep, push_places};
 use dr_cells::RowsOut;
@@ -21,6 +22,7 @@ use dr_memory::NoMemory;
 use dr_plan::Plan;
 use std::alloc::Global;
 use std::collections::VecDeque;
+use std::thread::Threads;
 
 /// What a tree gathers of its tablets' partials, which are added in any order. Lines wait for those of the tablets to
 /// their left. Groups are piled: the last are merged with those before them, unless these are more than twice as many.
@@ -102,11 +104,11 @@ impl Growing {
     }
 
     /// What the tree gathers of the partials that were added, and of each other tablet of that of no records. Where
-    /// all were added, that is what `gather` gives.
+    /// all were added, that is what `gather` gives. Many groups that still lie apart are merged by several threads.
     ///
     /// Errors: want of memory, or of room: the texts of lines have less than 4 GiB together, and the number of groups
     /// is bounded.
-    pub fn finish(self, alloc: Global) -> Result<Partial, NoMemory>
+    pub fn finish<R: Threads + Sync>(self, rt: &R, alloc: Global) -> Result<Partial, NoMemory>
         requires { (w : Growth) × Grows w self }
         ensures gathered { IfOk result (λ r. (w : Growth) (piece : ℕ → meant.Partial) → Grows w self
             → map piece (tablets_of w.tree) ≡ pieces_at (grown_query w) w.places
@@ -120,7 +122,7 @@ impl Growing {
         } = self;
         match grown {
             Partial::Lines(rows) => Ok(Partial::Lines(append_all(rows, waiting)?)),
-            Partial::Groups(last) => Ok(Partial::Groups(merge_all(alloc, before, last)?)),
+            Partial::Groups(last) => Ok(Partial::Groups(merge_all(rt, alloc, before, last)?)),
         }
     }
 }

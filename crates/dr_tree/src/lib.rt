@@ -5,6 +5,7 @@
 mod fan;
 mod gathering;
 mod growing;
+mod halved;
 pub mod laws;
 mod piled;
 mod tree;

@@ -1,12 +1,10 @@
 //! Groups that come one after another, merged so that each group is moved but a few times.
 
-ghost use Rattle.std.specs.Prelude.{◌≡◌, ◌^◌, ◌<◌, ◌≤◌, ◌++◌, ◌∷◌, [], ℕ, IfOk, OnErr, OnOk, true, false, vec_len, vec_capacity};
-ghost use Rattle.dr_meaning.specs.Schema.{Fields};
+ghost use Rattle.std.specs.Prelude.{◌≡◌, ◌^◌, ◌<◌, ◌++◌, ◌∷◌, [], OnErr, OnOk, true, false, vec_len, vec_capacity};
 ghost use Rattle.dr_partials.specs.Partials as meant;
 ghost use Rattle.dr_partials.specs.PartialBounds.{GroupsCanBeOf};
-ghost use Rattle.dr_plan.specs.Planned.{Planned};
 ghost use Rattle.dr_group.specs.Maps.{groups_view, gatherings_view};
-ghost use Rattle.dr_tree.specs.Piles.{CanMerge, IsPile, StaysPile};
+ghost use Rattle.dr_tree.specs.Piles.{CanMerge, StaysPile};
 
 use dr_group::GroupMap;
 use dr_memory::NoMemory;
@@ -89,25 +87,4 @@ pub(crate) fn merge_due(alloc: Global, before: &mut Vec<GroupMap>, last: &mut Gr
             return;
         }
     }
-}
-
-/// Merges all, from the last on.
-///
-/// Errors: want of memory, or of room for the number of a group.
-pub(crate) fn merge_all(
-    alloc: Global,
-    before: Vec<GroupMap>,
-    last: GroupMap,
-) -> Result<GroupMap, NoMemory>
-    requires { CanMerge before.items last }
-    ensures { IfOk result (λ m. (plan : Planned) (fs : Fields) (most : ℕ) (all : meant.Partial)
-        → IsPile plan fs most all before.items last → IsPile plan fs most all [] m) }
-{
-    let mut before = before;
-    let mut last = last;
-    'pile: while let Some(mut earlier) = before.pop() {
-        earlier.merge(alloc, last)?;
-        last = earlier;
-    }
-    Ok(last)
 }

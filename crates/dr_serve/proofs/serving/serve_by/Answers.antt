@@ -22,11 +22,11 @@ closed-requires-clause-grows_on g c κs within =
     (λ t f h. true_of_some (table_view c.args.table.now) c.args.plan.now _ t f c.requires.planned h)
 
 pub conclude-requires-clause-left : goal.conclude-requires-clause-left
-conclude-requires-clause-left g c =
+conclude-requires-clause-left g c κs within =
     lefts_are_fewer g.L.Link.shows (table_view c.args.table.now) c.args.plan.now (tree_view c.args.tree.now) c.args.links.now c.closed.new.links c.in_ok-closed.closed.grown c.in_ok-closed.closed.left.items c.requires.some c.closed.ensures.count c.in_ok-closed.ensures.closes
 
 pub conclude-requires-clause-grown : goal.conclude-requires-clause-grown
-conclude-requires-clause-grown g c =
+conclude-requires-clause-grown g c κs within =
     it_grows g.L.Link.shows (table_view c.args.table.now) c.args.plan.now (tree_view c.args.tree.now) c.args.links.now c.closed.new.links c.in_ok-closed.closed.grown c.in_ok-closed.closed.left.items c.requires.some c.closed.ensures.count c.in_ok-closed.ensures.closes
 
 pub returns-clause-finished : goal.returns-clause-finished
