@@ -10,6 +10,7 @@ use dr_nested::Value;
 use std::cmp::Ordering;
 
 /// The order of two values: truth values, numbers, texts.
+#[inline(always)]
 pub fn value_order(left: ValueRef<'_>, right: ValueRef<'_>) -> Ordering
     ensures { result ≡ meant.value_order (lent_value left.entry) (lent_value right.entry) }
 {
@@ -25,6 +26,7 @@ pub fn value_order(left: ValueRef<'_>, right: ValueRef<'_>) -> Ordering
 }
 
 /// The order of a lent cell and a held one: NULL before all values.
+#[inline(always)]
 fn cell_order(left: Option<ValueRef<'_>>, right: &Option<Value>) -> Ordering
     ensures { result ≡ meant.cell_order (lent_cell left.entry) (cell_view right.now) }
 {
@@ -37,6 +39,7 @@ fn cell_order(left: Option<ValueRef<'_>>, right: &Option<Value>) -> Ordering
 }
 
 /// The order of a lent key tuple and a held one: the first cells that differ decide.
+#[inline(always)]
 pub fn tuple_order(left: &[Option<ValueRef<'_>>], right: &[Option<Value>]) -> Ordering
     ensures { result ≡ meant.tuple_order (map lent_cell left.now) (map cell_view right.now) }
 {

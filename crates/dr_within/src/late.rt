@@ -1,6 +1,6 @@
 //! Rows that aren't put yet.
 
-ghost use Rattle.std.specs.Prelude.{◌≡◌, ◌++◌, ◌∷◌, [], length, take, OnOk};
+ghost use Rattle.std.specs.Prelude.{◌≡◌, ◌++◌, ◌∷◌, [], length, take, OnOk, true};
 ghost use Rattle.dr_cells.specs.Views.{cells_view};
 ghost use Rattle.dr_group.specs.Partials.{partial_view, IsPartialOf};
 ghost use Rattle.dr_partials.specs.Putting.{put_all};
@@ -56,7 +56,6 @@ impl LateRows {
     /// One row more: its key tuple and what is taken, of what was read last of each leaf.
     ///
     /// Errors: want of memory, or of room for the texts.
-    #[inline]
     pub(crate) fn push(
         &mut self,
         alloc: Global,
@@ -92,6 +91,15 @@ impl LateRows {
         self.taken.truncate(rows);
     }
 
+    /// Whether nothing of any row is held.
+    #[inline(always)]
+    fn is_clear(&self) -> bool
+        ensures whole { result ≡ true → IsWhole self.now }
+        ensures none { result ≡ true → rows_of self.now ≡ [] }
+    {
+        self.aggregates.is_empty() && self.cells.is_empty() && self.taken.is_empty()
+    }
+
     /// Puts the rows into a partial, in order, and has none of them any more.
     ///
     /// Errors: want of memory, or of room for a count, a sum or a number of a group.
@@ -104,6 +112,9 @@ impl LateRows {
         ensures whole { OnOk result (IsWhole self.new) }
         ensures width { (self.new).width ≡ (self.old).width }
     {
+        if self.is_clear() {
+            return Ok(());
+        }
         put_rows(
             alloc,
             self.width,
@@ -130,7 +141,6 @@ impl LateRows {
 }
 
 /// Puts rows into a partial: the cells of their key tuples, so many each, and what was taken of each for an aggregate.
-#[inline]
 fn put_rows(
     alloc: Global,
     width: usize,

@@ -63,6 +63,7 @@ pub(crate) fn put_each<'a>(
 /// Keeps a row for each of some takings, in order.
 ///
 /// Errors: want of memory alone.
+#[inline(always)]
 pub(crate) fn keep_each(
     alloc: Global,
     takings: &[Taking<'_>],
