@@ -9,6 +9,7 @@ use crate::numbers::{signed, turned, varint_read, varint_written};
 use crate::pieces::{plain_by_pieces, runs_by_pieces};
 use crate::records::record_read;
 use crate::runs::runs_read;
+use crate::streams::stream_read;
 use crate::structs::{file_again, page_again, struct_again};
 use crate::values::{picked, plain_read};
 use crate::walks::{columns_walked, records_walked};
@@ -54,6 +55,7 @@ fn answer_more(
         "leaf_place" => place_found(alloc, words, bytes),
         "made" => lines_made(alloc, words),
         "made_record" => record_made(alloc, words),
+        "stream" => stream_read(alloc, words, bytes),
         "walk" => records_walked(alloc, words, bytes),
         "walk_columns" => columns_walked(alloc, words, bytes),
         _ => Err(Broken::Form),

@@ -13,6 +13,7 @@ mod pieces;
 mod records;
 mod runs;
 mod session;
+mod streams;
 mod structs;
 mod texts;
 mod triplets;
