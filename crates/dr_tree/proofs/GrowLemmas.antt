@@ -1,5 +1,5 @@
 -- What grows of a tree, step by step.
-use Rattle.std.specs.Prelude.{◌≡◌, ◌^◌, ℕ, List, [], ◌∷◌, ◌++◌, map, drop, get_or, true, Option, Some, None, option_map, IfSome, Result, Ok, Err, OnErr}
+use Rattle.std.specs.Prelude.{◌≡◌, ◌^◌, ◌<◌, ℕ, List, [], ◌∷◌, ◌++◌, map, length, drop, get_or, true, Option, Some, None, option_map, option_to_list, IfSome}
 use Rattle.std.specs.List.{fold, list_all}
 use Rattle.std.proofs.Common.{refl, sym, ap, ◌∙◌, subst, append_assoc}
 use Rattle.std.proofs.lemmas.Bool.{and_parts}
@@ -12,6 +12,7 @@ use Rattle.dr_partials.specs.Partials as meant
 use Rattle.dr_partials.specs.Partials.{Group, grouped, merge, merge_groups, empty_partial}
 use Rattle.dr_partials.specs.PartialTypes.{is_partial}
 use Rattle.dr_partials.specs.Trees.{Tree, tablets_of, gathered}
+use Rattle.dr_partials.proofs.PartialTypeLemmas.{empty_is_partial}
 use Rattle.dr_plan.specs.Planned.{Planned, planned_query}
 use Rattle.dr_cells.specs.Results.{ShapeTree}
 use Rattle.dr_cells.specs.Rows.{rows_shape}
@@ -22,15 +23,17 @@ use Rattle.dr_group.specs.Partials.{partial_view, IsPartialOf}
 use Rattle.dr_group.specs.declared.group_map.GroupMap.{GroupMap}
 use Rattle.dr_group.specs.declared.partial.Partial.{Partial}
 use Rattle.dr_tree.specs.Appending.{HaveMoved}
-use Rattle.dr_tree.specs.Grows.{Growth, not_grown, grown_query, with_added, CanAdd, HaveGrown, HasGrown, partial_of_lines, AreFree, Grows}
+use Rattle.dr_tree.specs.Grows.{Growth, not_grown, grown_query, with_added, CanAdd, HaveGrown, HavePiled, HasGrown, partial_of_lines, AreBare, AreFree, Grows}
 use Rattle.dr_tree.specs.Piles.{partial_of_groups, IsPile, CanMerge, StaysPile}
+use Rattle.dr_tree.specs.Subtrees.{all_piled}
 use Rattle.dr_tree.specs.Together.{CanBeTogether}
 use Rattle.dr_tree.specs.Places.{Place, free_places, fill, added, merged, pieces_at}
 use Rattle.dr_tree.specs.Waiting.{AreShaped, lines_of, place_of, places_of}
 use Rattle.dr_tree.specs.declared.growing.Growing.{Growing}
+use Rattle.dr_tree.specs.declared.subtree.Subtree.{Subtree}
 use Rattle.dr_tree.specs.declared.waiting.Waiting.{Waiting}
 use Rattle.dr_tree.proofs.MergedLemmas.{kinds_differ, merged_is, fill_is_of, merged_fill, together_apart, gathered_is_merged}
-use Rattle.dr_tree.proofs.PileLemmas.{pile_starts, pile_push, pile_alone, last_of_plan, last_is}
+use Rattle.dr_tree.proofs.PileLemmas.{one_of_pile, pile_alone, pile_append, pile_of_none, pile_of_one}
 use Rattle.dr_tree.proofs.PlaceLemmas.{fill_behind, full_append, fill_tablets, free_tablets, none_added}
 
 -- ---- before any partial
@@ -47,20 +50,24 @@ free_shaped s (t ∷ ts) (w ∷ ws) e = (of_lines w.lines (ap (λ ps. (get_or ps
     of_lines None h = tt
     of_lines (Some r) h = absurd (cc)
 
-pub starts : (plan : Planned) (fs : Fields) (tree : Tree) (g : Growing) → partial_view g.grown ≡ empty_partial (planned_query plan) → IsPartialOf plan g.grown → g.before.items ≡ []
+pub starts : (plan : Planned) (fs : Fields) (tree : Tree) (g : Growing) → partial_view g.grown ≡ empty_partial (planned_query plan) → IsPartialOf plan g.grown → AreBare g.grown g.subtrees.items
     → AreFree (tablets_of tree) g.grown g.waiting.items → Grows (not_grown plan fs tree) g
-starts plan fs tree g e is none free = record {
+starts plan fs tree g e is bare free = record {
   tablets = free_tablets (tablets_of tree);
   partials = ap (list_all (is_partial fs (planned_query plan))) (none_added (tablets_of tree));
   room = subst (CanBeTogether (2 ^ 60)) (sym (none_added (tablets_of tree))) tt;
   of_plan = is;
-  grown = subst (λ ms. HasGrown (not_grown plan fs tree) g.grown ms g.waiting.items) (sym none) (by_kind g.grown g.waiting.items e is free);
+  grown = by_kind g.grown g.subtrees.items g.waiting.items e bare free;
 }
   where
-    by_kind : (p : Partial) (ws : List Waiting) → partial_view p ≡ empty_partial (planned_query plan) → IsPartialOf plan p → AreFree (tablets_of tree) p ws → HasGrown (not_grown plan fs tree) p [] ws
-    by_kind (Partial.Lines r) ws h o f = record { done = []; split = sym f; full = refl; lines = h; shaped = free_shaped (plan_shape plan) (tablets_of tree) ws f }
-    by_kind (Partial.Groups m) ws h o f =
-        λ n c. subst (λ all. IsPile plan fs n all [] m) (sym (ap (fold merge (empty_partial (planned_query plan))) (none_added (tablets_of tree)))) (pile_starts plan fs n m h o)
+    by_kind : (p : Partial) (ss : List Subtree) (ws : List Waiting) → partial_view p ≡ empty_partial (planned_query plan) → AreBare p ss → AreFree (tablets_of tree) p ws → HasGrown (not_grown plan fs tree) p ss ws
+    by_kind (Partial.Lines r) ss ws h b f = record { done = []; split = sym f; full = refl; lines = h; shaped = free_shaped (plan_shape plan) (tablets_of tree) ws f }
+    by_kind (Partial.Groups m) ss ws h b f = record {
+      some = b.0;
+      empty = h;
+      pile = λ n c. subst (λ all. IsPile plan fs n all (all_piled ss)) (sym (ap (fold merge (empty_partial (planned_query plan))) (none_added (tablets_of tree))))
+          (subst (IsPile plan fs n (empty_partial (planned_query plan))) (sym b.1) (pile_of_none plan fs n));
+    }
 
 -- ---- groups are added
 
@@ -76,70 +83,73 @@ lines_are fs q s ps r ws h k =
 groups_are : (w : Growth) (g : Growing) (t : ℕ) (m : GroupMap) → Grows w g → CanAdd w t (partial_of_groups m) → (n : GroupMap) × (g.grown ≡ Partial.Groups n)
 groups_are w g t m h c = by_kind g.grown h.grown refl
   where
-    by_kind : (p : Partial) → HasGrown w p g.before.items g.waiting.items → g.grown ≡ p → (n : GroupMap) × (g.grown ≡ Partial.Groups n)
+    by_kind : (p : Partial) → HasGrown w p g.subtrees.items g.waiting.items → g.grown ≡ p → (n : GroupMap) × (g.grown ≡ Partial.Groups n)
     by_kind (Partial.Lines r) k e = absurd (kinds_differ w.fields (grown_query w) _ (groups_view m) (lines_are w.fields (grown_query w) (plan_shape w.plan) w.places r g.waiting.items k h.partials) c.partial)
     by_kind (Partial.Groups n) k e = (n, e)
 
-pub no_lines : (w : Growth) (g : Growing) (t : ℕ) (m : GroupMap) (r : RowsOut) → Grows w g → CanAdd w t (partial_of_groups m) → g.grown ≡ Partial.Lines r → ⊥
-no_lines w g t m r h c e = differ r (groups_are w g t m h c).0 (sym e ∙ (groups_are w g t m h c).1)
-  where
-    differ : (r : RowsOut) (n : GroupMap) → Partial.Lines r ≡ Partial.Groups n → ⊥
-    differ r n h = cc
+-- they lie below the root's children
+have_piled : (w : Growth) (g : Growing) (none : GroupMap) → Grows w g → g.grown ≡ Partial.Groups none → HavePiled w none g.subtrees.items
+have_piled w g none h e = subst (λ (p : Partial). HasGrown w p g.subtrees.items g.waiting.items) e h.grown
 
--- they are a pile
-pile_of : (w : Growth) (g : Growing) (last : GroupMap) (n : ℕ) → Grows w g → g.grown ≡ Partial.Groups last → CanBeTogether n (added w.places)
-    → IsPile w.plan w.fields n (merged (grown_query w) w.places) g.before.items last
-pile_of w g last n h e c = subst (λ (p : Partial). HasGrown w p g.before.items g.waiting.items) e h.grown n c
+module _ (w : Growth) (g : Growing) (t : ℕ) (m : GroupMap) (h : Grows w g) (c : CanAdd w t (partial_of_groups m)) where
+  -- the groups of no records
+  abbrev none : GroupMap
+  none = (groups_are w g t m h c).0
 
--- those that are added come last
-with_last : (w : Growth) (g : Growing) (t : ℕ) (m last : GroupMap) (n : ℕ) → Grows w g → CanAdd w t (partial_of_groups m) → g.grown ≡ Partial.Groups last
-    → CanBeTogether n (added (fill t (partial_view (partial_of_groups m)) w.places))
-    → IsPile w.plan w.fields n (merged (grown_query w) (fill t (partial_view (partial_of_groups m)) w.places)) (g.before.items ++ last ∷ []) m
-with_last w g t m last n h c e f =
-    let q = grown_query w in
-    let d = together_apart n t (partial_view (partial_of_groups m)) w.places c.free f in
-    subst (λ all. IsPile w.plan w.fields n all (g.before.items ++ last ∷ []) m) (sym (merged_fill w.fields q t (groups_view m) w.places c.partial h.partials c.free))
-    (pile_push w.plan w.fields d.0 (merged q w.places) d.1 n g.before.items last m c.of_plan (c.partial, d.4) d.2 (pile_of w g last d.0 h e d.3))
+  have_so_far : HavePiled w none g.subtrees.items
+  have_so_far = have_piled w g none h (groups_are w g t m h c).1
 
-pub can_merge : (w : Growth) (g : Growing) (t : ℕ) (m last now : GroupMap) (before : List GroupMap) → Grows w g → CanAdd w t (partial_of_groups m) → g.grown ≡ Partial.Groups last
-    → before ≡ g.before.items ++ last ∷ [] → now ≡ m → CanMerge before now
-can_merge w g t m last now before h c e f k =
-    subst (λ ms. CanMerge ms now) (sym f) (subst (CanMerge (g.before.items ++ last ∷ [])) (sym k)
-    (w.plan, w.fields, merged (grown_query w) (fill t (partial_view (partial_of_groups m)) w.places), with_last w g t m last (2 ^ 60) h c e c.room))
+  -- those that are added may come last
+  with_last : (n : ℕ) → CanBeTogether n (added (fill t (partial_view (partial_of_groups m)) w.places))
+      → IsPile w.plan w.fields n (merged (grown_query w) (fill t (partial_view (partial_of_groups m)) w.places)) (all_piled g.subtrees.items ++ m ∷ [])
+  with_last n f =
+      let q = grown_query w in
+      let d = together_apart n t (partial_view (partial_of_groups m)) w.places c.free f in
+      subst (λ all. IsPile w.plan w.fields n all (all_piled g.subtrees.items ++ m ∷ [])) (sym (merged_fill w.fields q t (groups_view m) w.places c.partial h.partials c.free))
+      (pile_append w.plan w.fields d.0 d.1 n (merged q w.places) (partial_view (partial_of_groups m)) (all_piled g.subtrees.items) (m ∷ []) d.2 (have_so_far.pile d.0 d.3)
+      (pile_of_one w.plan w.fields d.1 m c.of_plan (c.partial, d.4)))
 
-pub groups_added : (w : Growth) (g new : Growing) (t : ℕ) (m last put now : GroupMap) (before : List GroupMap) → Grows w g → CanAdd w t (partial_of_groups m) → g.grown ≡ Partial.Groups last
-    → before ≡ g.before.items ++ last ∷ [] → put ≡ m → StaysPile before put new.before.items now → new.grown ≡ Partial.Groups now
-    → Grows (with_added w t (partial_view (partial_of_groups m))) new
-groups_added w g new t m last put now before h c e f k stays is =
-    let q = grown_query w in
-    let r = partial_view (partial_of_groups m) in
-    let pile : (n : ℕ) → CanBeTogether n (added (fill t r w.places)) → IsPile w.plan w.fields n (merged q (fill t r w.places)) new.before.items now =
-    λ n b. stays w.plan w.fields n (merged q (fill t r w.places))
-    (subst (λ ms. IsPile w.plan w.fields n (merged q (fill t r w.places)) ms put) (sym f) (subst (IsPile w.plan w.fields n (merged q (fill t r w.places)) (g.before.items ++ last ∷ [])) (sym k) (with_last w g t m last n h c e b))) in
-    record {
-      tablets = fill_tablets t r w.places ∙ h.tablets;
-      partials = fill_is_of w.fields q t r w.places c.partial h.partials;
-      room = c.room;
-      of_plan = subst (IsPartialOf w.plan) (sym is) (last_of_plan w.plan w.fields (2 ^ 60) (merged q (fill t r w.places)) new.before.items now (pile (2 ^ 60) c.room));
-      grown = subst (λ (p : Partial). HasGrown (with_added w t r) p new.before.items new.waiting.items) (sym is) pile;
-    }
+  pub can_merge : CanMerge (all_piled g.subtrees.items ++ m ∷ [])
+  can_merge = (w.plan, w.fields, merged (grown_query w) (fill t (partial_view (partial_of_groups m)) w.places), with_last (2 ^ 60) c.room)
 
-pub on_err : {A E : Type 0} (r : Result A E) (P : Type 0) → P → OnErr r P
-on_err (Ok x) P p = tt
-on_err (Err e) P p = p
+  pub some_child : 0 < length g.subtrees.items
+  some_child = have_so_far.some
+
+  pub groups_added : (new : Growing) → StaysPile (all_piled g.subtrees.items ++ m ∷ []) (all_piled new.subtrees.items) → length new.subtrees.items ≡ length g.subtrees.items → new.grown ≡ g.grown
+      → Grows (with_added w t (partial_view (partial_of_groups m))) new
+  groups_added new stays count is =
+      let q = grown_query w in
+      let r = partial_view (partial_of_groups m) in
+      let still : new.grown ≡ Partial.Groups none = is ∙ (groups_are w g t m h c).1 in
+      record {
+        tablets = fill_tablets t r w.places ∙ h.tablets;
+        partials = fill_is_of w.fields q t r w.places c.partial h.partials;
+        room = c.room;
+        of_plan = subst (IsPartialOf w.plan) (sym is) h.of_plan;
+        grown = subst (λ (p : Partial). HasGrown (with_added w t r) p new.subtrees.items new.waiting.items) (sym still) (record {
+          some = subst (λ k. 0 < k) (sym count) some_child;
+          empty = have_so_far.empty;
+          pile = λ n b. stays w.plan w.fields n (merged q (fill t r w.places)) (with_last n b);
+        });
+      }
 
 -- where they were refused, all is as it was
-pub groups_stay : (w : Growth) (g new : Growing) (last now : GroupMap) → Grows w g → g.grown ≡ Partial.Groups last → new.before.items ≡ g.before.items → now ≡ last → new.grown ≡ Partial.Groups now
+pub groups_stay : (w : Growth) (g new : Growing) → Grows w g → all_piled new.subtrees.items ≡ all_piled g.subtrees.items → length new.subtrees.items ≡ length g.subtrees.items → new.grown ≡ g.grown
     → new.waiting.items ≡ g.waiting.items → Grows w new
-groups_stay w g new last now h e f k is same =
-    let still : new.grown ≡ g.grown = is ∙ (ap partial_of_groups k ∙ sym e) in
-    record {
-      tablets = h.tablets;
-      partials = h.partials;
-      room = h.room;
-      of_plan = subst (IsPartialOf w.plan) (sym still) h.of_plan;
-      grown = subst (λ (p : Partial). HasGrown w p new.before.items new.waiting.items) (sym still)
-          (subst (λ ms. HasGrown w g.grown ms new.waiting.items) (sym f) (subst (HasGrown w g.grown g.before.items) (sym same) h.grown));
+groups_stay w g new h e count is same = record {
+  tablets = h.tablets;
+  partials = h.partials;
+  room = h.room;
+  of_plan = subst (IsPartialOf w.plan) (sym is) h.of_plan;
+  grown = subst (λ (p : Partial). HasGrown w p new.subtrees.items new.waiting.items) (sym is) (by_kind g.grown h.grown);
+}
+  where
+    by_kind : (p : Partial) → HasGrown w p g.subtrees.items g.waiting.items → HasGrown w p new.subtrees.items new.waiting.items
+    by_kind (Partial.Lines r) k = subst (HaveGrown (grown_query w) (plan_shape w.plan) w.places r) (sym same) k
+    by_kind (Partial.Groups m) k = record {
+      some = subst (λ n. 0 < n) (sym count) k.some;
+      empty = k.empty;
+      pile = λ n b. subst (IsPile w.plan w.fields n (merged (grown_query w) w.places)) (sym e) (k.pile n b);
     }
 
 -- ---- lines are added
@@ -170,10 +180,10 @@ moved q s ps r longer ws rest h i m = record {
 lines_have : (w : Growth) (g : Growing) (t : ℕ) (l : RowsOut) → Grows w g → CanAdd w t (partial_of_lines l) → (r : RowsOut) × (g.grown ≡ Partial.Lines r)
 lines_have w g t l h c = by_kind g.grown h.grown refl
   where
-    by_kind : (p : Partial) → HasGrown w p g.before.items g.waiting.items → g.grown ≡ p → (r : RowsOut) × (g.grown ≡ Partial.Lines r)
+    by_kind : (p : Partial) → HasGrown w p g.subtrees.items g.waiting.items → g.grown ≡ p → (r : RowsOut) × (g.grown ≡ Partial.Lines r)
     by_kind (Partial.Lines r) k e = (r, e)
     by_kind (Partial.Groups n) k e = absurd (kinds_differ w.fields (grown_query w) _ (groups_view n) c.partial
-        (last_is w.plan w.fields (2 ^ 60) (merged (grown_query w) w.places) g.before.items n (k (2 ^ 60) h.room)))
+        (ap (is_partial w.fields (grown_query w)) k.empty ∙ empty_is_partial w.fields (grown_query w)))
 
 pub no_groups : (w : Growth) (g : Growing) (t : ℕ) (l : RowsOut) (n : GroupMap) → Grows w g → CanAdd w t (partial_of_lines l) → g.grown ≡ Partial.Groups n → ⊥
 no_groups w g t l n h c e = differ (lines_have w g t l h c).0 n (sym (lines_have w g t l h c).1 ∙ e)
@@ -183,7 +193,7 @@ no_groups w g t l n h c e = differ (lines_have w g t l h c).0 n (sym (lines_have
 
 module _ (w : Growth) (g : Growing) (t : ℕ) (l r : RowsOut) where
   have : Grows w g → g.grown ≡ Partial.Lines r → HaveGrown (grown_query w) (plan_shape w.plan) w.places r g.waiting.items
-  have h e = subst (λ (p : Partial). HasGrown w p g.before.items g.waiting.items) e h.grown
+  have h e = subst (λ (p : Partial). HasGrown w p g.subtrees.items g.waiting.items) e h.grown
 
   shape_is : Grows w g → g.grown ≡ Partial.Lines r → rows_shape r ≡ plan_shape w.plan
   shape_is h e = subst (IsPartialOf w.plan) e h.of_plan
@@ -206,7 +216,7 @@ module _ (w : Growth) (g : Growing) (t : ℕ) (l r : RowsOut) where
         partials = fill_is_of w.fields q t (lines_of l) w.places c.partial h.partials;
         room = c.room;
         of_plan = subst (IsPartialOf w.plan) (sym f) (m.shape ∙ shape_is h e);
-        grown = subst (λ (x : Partial). HasGrown (with_added w t (lines_of l)) x new.before.items new.waiting.items) (sym f)
+        grown = subst (λ (x : Partial). HasGrown (with_added w t (lines_of l)) x new.subtrees.items new.waiting.items) (sym f)
             (moved q s (fill t (lines_of l) w.places) r longer vs new.waiting.items (kept q s w.places r g.waiting.items vs t (lines_of l) (have h e) p now) (shape_is h e) m);
       }
 
@@ -223,23 +233,33 @@ finished_lines w g r all h e f =
 pub finished_shape : (w : Growth) (g : Growing) (r : RowsOut) → Grows w g → g.grown ≡ Partial.Lines r → AreShaped (rows_shape r) g.waiting.items
 finished_shape w g r h e = subst (λ (x : ShapeTree). AreShaped x g.waiting.items) (sym (shape_is w g 0 r r h e)) (have w g 0 r r h e).shaped
 
-pub can_finish : (w : Growth) (g : Growing) (last : GroupMap) → Grows w g → g.grown ≡ Partial.Groups last → CanMerge g.before.items last
-can_finish w g last h e = (w.plan, w.fields, merged (grown_query w) w.places, pile_of w g last (2 ^ 60) h e h.room)
+module _ (w : Growth) (g : Growing) (none : GroupMap) (h : Grows w g) (e : g.grown ≡ Partial.Groups none) where
+  have_all : IsPile w.plan w.fields (2 ^ 60) (merged (grown_query w) w.places) (all_piled g.subtrees.items)
+  have_all = (have_piled w g none h e).pile (2 ^ 60) h.room
 
--- all that were added are merged
-abbrev AreMerged : List GroupMap → GroupMap → GroupMap → Type 0
-AreMerged before last m = (plan : Planned) (fs : Fields) (most : ℕ) (all : meant.Partial) → IsPile plan fs most all before last → IsPile plan fs most all [] m
+  pub can_finish : CanMerge (all_piled g.subtrees.items)
+  can_finish = (w.plan, w.fields, merged (grown_query w) w.places, have_all)
 
-pub finished_groups : (w : Growth) (g : Growing) (last m : GroupMap) → Grows w g → g.grown ≡ Partial.Groups last → AreMerged g.before.items last m
-    → partial_view (partial_of_groups m) ≡ merged (grown_query w) w.places
-finished_groups w g last m h e f =
-    let q = grown_query w in
-    pile_alone w.plan w.fields (2 ^ 60) (merged q w.places) m (f w.plan w.fields (2 ^ 60) (merged q w.places) (pile_of w g last (2 ^ 60) h e h.room))
+  module _ (o : Option GroupMap) (f : StaysPile (all_piled g.subtrees.items) (option_to_list o)) where
+    left : IsPile w.plan w.fields (2 ^ 60) (merged (grown_query w) w.places) (option_to_list o)
+    left = f w.plan w.fields (2 ^ 60) (merged (grown_query w) w.places) have_all
 
-pub groups_of_plan : (w : Growth) (g : Growing) (last m : GroupMap) → Grows w g → g.grown ≡ Partial.Groups last → AreMerged g.before.items last m → IsPartialOf w.plan (partial_of_groups m)
-groups_of_plan w g last m h e f =
-    let q = grown_query w in
-    last_of_plan w.plan w.fields (2 ^ 60) (merged q w.places) [] m (f w.plan w.fields (2 ^ 60) (merged q w.places) (pile_of w g last (2 ^ 60) h e h.room))
+    left_of : (p : Option GroupMap) → o ≡ p → IsPile w.plan w.fields (2 ^ 60) (merged (grown_query w) w.places) (option_to_list p)
+    left_of p k = subst (λ (x : Option GroupMap). IsPile w.plan w.fields (2 ^ 60) (merged (grown_query w) w.places) (option_to_list x)) k left
+
+    -- all that were added are merged
+    pub finished_groups : (m : GroupMap) → o ≡ Some m → partial_view (partial_of_groups m) ≡ merged (grown_query w) w.places
+    finished_groups m k = pile_alone w.plan w.fields (2 ^ 60) (merged (grown_query w) w.places) m (left_of (Some m) k)
+
+    pub groups_of_plan : (m : GroupMap) → o ≡ Some m → IsPartialOf w.plan (partial_of_groups m)
+    groups_of_plan m k = (one_of_pile w.plan w.fields (2 ^ 60) (merged (grown_query w) w.places) m (left_of (Some m) k)).0
+
+    -- nothing was added
+    pub finished_none : o ≡ None → partial_view (partial_of_groups none) ≡ merged (grown_query w) w.places
+    finished_none k = (have_piled w g none h e).empty ∙ (left_of None k).merged
+
+  pub none_of_plan : IsPartialOf w.plan (partial_of_groups none)
+  none_of_plan = subst (IsPartialOf w.plan) e h.of_plan
 
 -- what is merged of all that were added is what the tree gathers
 pub finished : (w : Growth) (g : Growing) (piece : ℕ → meant.Partial) (p : meant.Partial) → Grows w g → map piece (tablets_of w.tree) ≡ pieces_at (grown_query w) w.places

@@ -9,8 +9,9 @@ pub mod PlaceLemmas
 mod MergedLemmas
 -- lines that wait
 mod AppendLemmas
--- groups that came one after another
+-- groups that came one after another, and below which of the root's children
 mod PileLemmas
+mod SubtreeLemmas
 -- what grows of a tree
 mod GrowLemmas
 -- a tree that grows, by computation

@@ -28,7 +28,7 @@ kinds_differ fs q os gs h k = of_selection q.selection h k
     of_selection (groups keys items) h k = true≢false (sym h)
 
 -- groups commute with any partial of their query
-commute : (fs : Fields) (q : Query) (gs : List Group) (p : Partial) → is_partial fs q (grouped gs) ≡ true → is_partial fs q p ≡ true → merge (grouped gs) p ≡ merge p (grouped gs)
+pub commute : (fs : Fields) (q : Query) (gs : List Group) (p : Partial) → is_partial fs q (grouped gs) ≡ true → is_partial fs q p ≡ true → merge (grouped gs) p ≡ merge p (grouped gs)
 commute fs q gs (grouped hs) h k = merge_is_commutative fs q gs hs h k
 commute fs q gs (lines os) h k = absurd (kinds_differ fs q os gs k h)
 

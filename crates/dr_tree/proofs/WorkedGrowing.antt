@@ -6,6 +6,7 @@ use Rattle.dr_partials.specs.Partials.{Partial, lines, grouped, merge, empty_par
 use Rattle.dr_partials.specs.Trees.{of_fan, tablets_of, gathered}
 use Rattle.dr_tree.specs.GrowingLaws.{fill_all}
 use Rattle.dr_tree.specs.Places.{Place, free_places, has_free, filled, fill, merged}
+use Rattle.dr_tree.specs.Subtrees.{tablets_by_child}
 
 abbrev five : List ℕ
 five = 0 ∷ 1 ∷ 2 ∷ 3 ∷ 4 ∷ []
@@ -50,6 +51,11 @@ any_order = refl
 pub the_tablets : (tablets_of (of_fan 5 2) ≡ five) × (tablets_of (of_fan 5 3) ≡ five)
 unfolding of_fan
 the_tablets = (refl, refl)
+
+-- the tablets below each child of their roots; a leaf server alone is its own
+pub the_children : (tablets_by_child (of_fan 5 2) ≡ (0 ∷ 1 ∷ 2 ∷ 3 ∷ []) ∷ (4 ∷ []) ∷ []) × (tablets_by_child (of_fan 5 3) ≡ (0 ∷ 1 ∷ 2 ∷ []) ∷ (3 ∷ 4 ∷ []) ∷ []) × (tablets_by_child (of_fan 1 3) ≡ (0 ∷ []) ∷ [])
+unfolding of_fan
+the_children = (refl, refl, refl)
 
 abbrev all_lines : Query
 all_lines = record { condition = None; selection = objects [] }

@@ -1,9 +1,10 @@
 -- What grows of a tree, as partials of its tablets are added.
-use Rattle.std.specs.Prelude.{◌≡◌, ℕ, ◌^◌, ⊤, true, List, ◌++◌}
+use Rattle.std.specs.Prelude.{◌≡◌, ℕ, ◌^◌, ◌<◌, ⊤, true, List, [], ◌++◌, length}
 use Rattle.std.specs.List.{list_all}
 use Rattle.dr_meaning.specs.Schema.{Fields}
 use Rattle.dr_meaning.specs.Query.{Query}
 use Rattle.dr_partials.specs.Partials as meant
+use Rattle.dr_partials.specs.Partials.{empty_partial}
 use Rattle.dr_partials.specs.PartialTypes.{is_partial}
 use Rattle.dr_partials.specs.Trees.{Tree, tablets_of}
 use Rattle.dr_plan.specs.Planned.{Planned, planned_query}
@@ -13,10 +14,12 @@ use Rattle.dr_cells.specs.declared.rows.RowsOut.{RowsOut}
 use Rattle.dr_group.specs.Partials.{partial_view, IsPartialOf}
 use Rattle.dr_group.specs.declared.group_map.GroupMap.{GroupMap}
 use Rattle.dr_group.specs.declared.partial.Partial.{Partial}
-use Rattle.dr_tree.specs.Piles.{IsPile}
+use Rattle.dr_tree.specs.Piles.{IsPile, partial_of_groups}
 use Rattle.dr_tree.specs.Places.{Place, free_places, tablets_at, has_free, fill, added, merged}
+use Rattle.dr_tree.specs.Subtrees.{all_piled}
 use Rattle.dr_tree.specs.Together.{CanBeTogether}
 use Rattle.dr_tree.specs.Waiting.{AreShaped, are_full, lines_of, places_of}
+use Rattle.dr_tree.specs.declared.subtree.Subtree.{Subtree}
 use Rattle.dr_tree.specs.declared.waiting.Waiting.{Waiting}
 use Rattle.dr_tree.specs.declared.growing.Growing.{Growing}
 
@@ -55,11 +58,15 @@ pub record HaveGrown (q : Query) (s : ShapeTree) (ps : List Place) (r : RowsOut)
   pub lines : lines_of r ≡ merged q done
   pub shaped : AreShaped s ws
 
--- groups are a pile: merged, in whatever order they came, all that were added, and of as many values as these
-abbrev pub HasGrown : Growth → Partial → List GroupMap → List Waiting → Type 0
-HasGrown w (Partial.Lines r) before ws = HaveGrown (grown_query w) (plan_shape w.plan) w.places r ws
-HasGrown w (Partial.Groups m) before ws =
-    (n : ℕ) → CanBeTogether n (added w.places) → IsPile w.plan w.fields n (merged (grown_query w) w.places) before m
+-- groups lie below the root's children: merged, in whatever order they came, all that were added, and of as many values as these
+pub record HavePiled (w : Growth) (none : GroupMap) (ss : List Subtree) : Type 0 where
+  pub some : 0 < length ss
+  pub empty : partial_view (partial_of_groups none) ≡ empty_partial (grown_query w)
+  pub pile : (n : ℕ) → CanBeTogether n (added w.places) → IsPile w.plan w.fields n (merged (grown_query w) w.places) (all_piled ss)
+
+abbrev pub HasGrown : Growth → Partial → List Subtree → List Waiting → Type 0
+HasGrown w (Partial.Lines r) ss ws = HaveGrown (grown_query w) (plan_shape w.plan) w.places r ws
+HasGrown w (Partial.Groups none) ss ws = HavePiled w none ss
 
 -- the partial with these lines
 abbrev pub partial_of_lines : RowsOut → Partial
@@ -70,10 +77,15 @@ abbrev pub AreFree : List ℕ → Partial → List Waiting → Type 0
 AreFree ts (Partial.Lines r) ws = places_of ws ≡ free_places ts
 AreFree ts (Partial.Groups m) ws = ⊤
 
+-- where groups are to grow, there is a child of the root, and nothing came below any
+abbrev pub AreBare : Partial → List Subtree → Type 0
+AreBare (Partial.Lines r) ss = ⊤
+AreBare (Partial.Groups m) ss = (0 < length ss) × (all_piled ss ≡ [])
+
 -- it is what has grown so far
 pub record Grows (w : Growth) (g : Growing) : Type 0 where
   pub tablets : tablets_at w.places ≡ tablets_of w.tree
   pub partials : list_all (is_partial w.fields (grown_query w)) (added w.places) ≡ true
   pub room : CanBeTogether (2 ^ 60) (added w.places)
   pub of_plan : IsPartialOf w.plan g.grown
-  pub grown : HasGrown w g.grown g.before.items g.waiting.items
+  pub grown : HasGrown w g.grown g.subtrees.items g.waiting.items

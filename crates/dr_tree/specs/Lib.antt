@@ -9,8 +9,9 @@ pub mod Places
 -- lines that wait, and are appended
 pub mod Waiting
 pub mod Appending
--- groups that came one after another
+-- groups that came one after another, and below which of the root's children
 pub mod Piles
+pub mod Subtrees
 -- what grows of a tree
 pub mod Grows
 -- laws, each proved on a law function of src/laws.rt

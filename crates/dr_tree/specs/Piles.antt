@@ -1,5 +1,5 @@
--- Groups that came one after another: those before, and the last.
-use Rattle.std.specs.Prelude.{◌≡◌, ℕ, ◌^◌, List, [], ◌∷◌, ◌++◌, map}
+-- Groups that lie one behind another until they are merged.
+use Rattle.std.specs.Prelude.{◌≡◌, ℕ, ◌^◌, List, map}
 use Rattle.std.specs.List.{fold}
 use Rattle.dr_meaning.specs.Schema.{Fields}
 use Rattle.dr_partials.specs.Partials as meant
@@ -14,19 +14,19 @@ abbrev pub partial_of_groups : GroupMap → Partial
 partial_of_groups m = Partial.Groups m
 
 -- as partials, in order
-abbrev pub piled : List GroupMap → GroupMap → List Partial
-piled before last = map partial_of_groups before ++ partial_of_groups last ∷ []
+abbrev pub piled : List GroupMap → List Partial
+piled ms = map partial_of_groups ms
 
 -- partials of a plan over a schema with these fields, of so many values together; merged, they are this one
-pub record IsPile (plan : Planned) (fs : Fields) (most : ℕ) (all : meant.Partial) (before : List GroupMap) (last : GroupMap) : Type 0 where
-  pub of_plan : AreOfPlan plan (piled before last)
-  pub bounds : AreBounded fs (planned_query plan) most (partials_view (piled before last))
-  pub merged : fold merge (empty_partial (planned_query plan)) (partials_view (piled before last)) ≡ all
+pub record IsPile (plan : Planned) (fs : Fields) (most : ℕ) (all : meant.Partial) (ms : List GroupMap) : Type 0 where
+  pub of_plan : AreOfPlan plan (piled ms)
+  pub bounds : AreBounded fs (planned_query plan) most (partials_view (piled ms))
+  pub merged : fold merge (empty_partial (planned_query plan)) (partials_view (piled ms)) ≡ all
 
 -- small enough to be merged
-abbrev pub CanMerge : List GroupMap → GroupMap → Type 0
-CanMerge before last = (plan : Planned) × (fs : Fields) × (all : meant.Partial) × IsPile plan fs (2 ^ 60) all before last
+abbrev pub CanMerge : List GroupMap → Type 0
+CanMerge ms = (plan : Planned) × (fs : Fields) × (all : meant.Partial) × IsPile plan fs (2 ^ 60) all ms
 
 -- whatever they are, merged, these are too
-abbrev pub StaysPile : List GroupMap → GroupMap → List GroupMap → GroupMap → Type 0
-StaysPile before last rest now = (plan : Planned) (fs : Fields) (most : ℕ) (all : meant.Partial) → IsPile plan fs most all before last → IsPile plan fs most all rest now
+abbrev pub StaysPile : List GroupMap → List GroupMap → Type 0
+StaysPile ms ns = (plan : Planned) (fs : Fields) (most : ℕ) (all : meant.Partial) → IsPile plan fs most all ms → IsPile plan fs most all ns

@@ -6,16 +6,16 @@ ghost use Rattle.dr_partials.specs.Partials as meant;
 ghost use Rattle.dr_partials.specs.Trees.{gathered, tablets_of};
 ghost use Rattle.dr_plan.specs.Planned.{plan_view};
 ghost use Rattle.dr_group.specs.Partials.{partial_view, IsPartialOf};
-ghost use Rattle.dr_tree.specs.Grows.{AreFree, CanAdd, Growth, Grows, grown_query, not_grown, partial_of_lines, with_added};
+ghost use Rattle.dr_tree.specs.Grows.{AreBare, AreFree, CanAdd, Growth, Grows, grown_query, not_grown, partial_of_lines, with_added};
 ghost use Rattle.dr_tree.specs.Piles.{partial_of_groups};
 ghost use Rattle.dr_tree.specs.Places.{pieces_at};
 ghost use Rattle.dr_tree.specs.Views.{tree_view};
 ghost use Rattle.dr_tree.specs.Waiting.{lines_of};
 
-use crate::halved::merge_all;
-use crate::piled::{merge_due, put_last};
+use crate::joined::merge_subtrees;
+use crate::subtree::{Subtree, add_to_subtree, bare_subtrees};
 use crate::tree::Tree;
-use crate::waiting::{Waiting, append_all, append_ready, keep, push_places};
+use crate::waiting::{Waiting, append_all, append_ready, free_places, keep};
 use dr_cells::RowsOut;
 use dr_group::{GroupMap, Partial};
 use dr_memory::NoMemory;
@@ -25,15 +25,16 @@ use std::collections::VecDeque;
 use std::thread::Threads;
 
 /// What a tree gathers of its tablets' partials, which are added in any order. Lines wait for those of the tablets to
-/// their left. Groups are piled: the last are merged with those before them, unless these are more than twice as many.
-/// So no more groups are held than twice those of the result, where there is memory to merge them, and all that come
+/// their left. Groups are merged as they come with others that came below the same child of the root: they are piled,
+/// and the last of a pile are merged with those before them, unless these are more than twice as many. So of each child
+/// no more groups are held than twice those of what it gathers, where there is memory to merge them, and all that come
 /// are moved about as often as in a merge sort.
 #[derive(Debug, Drop)]
 pub struct Growing {
-    // Of lines those that are appended; of groups those that came last.
+    // Of lines those that are appended; of groups those of no records.
     pub(crate) grown: Partial,
-    // The groups that came before these, in the order in which they came.
-    pub(crate) before: Vec<GroupMap>,
+    // Of groups the root's children, with what came below each. Lines need none.
+    pub(crate) subtrees: Vec<Subtree>,
     // Of lines the leaf servers whose aren't appended to what has grown, in order. Groups need no places.
     pub(crate) waiting: VecDeque<Waiting>,
 }
@@ -47,11 +48,11 @@ impl Growing {
             → Grows (not_grown (plan_view plan.now) fs (tree_view tree.now)) g) }
     {
         let grown = Partial::empty(alloc, plan)?;
+        let subtrees = subtrees_for(alloc, tree, &grown)?;
         let waiting = waiting_for(alloc, tree, &grown)?;
-        let before = Vec::new(alloc);
         Ok(Growing {
             grown,
-            before,
+            subtrees,
             waiting,
         })
     }
@@ -71,7 +72,7 @@ impl Growing {
                 self.add_lines(tablet, lines);
                 Ok(())
             }
-            Partial::Groups(groups) => self.add_groups(alloc, groups),
+            Partial::Groups(groups) => self.add_groups(alloc, tablet, groups),
         }
     }
 
@@ -90,21 +91,18 @@ impl Growing {
     /// Adds the groups of a tablet that has none yet.
     ///
     /// Errors: want of memory alone. All is as it was then.
-    fn add_groups(&mut self, alloc: Global, groups: GroupMap) -> Result<(), NoMemory>
-        requires { (w : Growth) × (tablet : ℕ) × Grows w self.old × CanAdd w tablet (partial_of_groups groups) }
-        ensures added { (w : Growth) (tablet : ℕ) → Grows w self.old → CanAdd w tablet (partial_of_groups groups)
+    fn add_groups(&mut self, alloc: Global, tablet: u32, groups: GroupMap) -> Result<(), NoMemory>
+        requires { (w : Growth) × Grows w self.old × CanAdd w tablet (partial_of_groups groups) }
+        ensures added { (w : Growth) → Grows w self.old → CanAdd w tablet (partial_of_groups groups)
             → OnOk result (Grows (with_added w tablet (partial_view (partial_of_groups groups))) self.new) }
         ensures refused { (w : Growth) → Grows w self.old → OnErr result (Grows w self.new) }
     {
-        if let Partial::Groups(last) = &mut self.grown {
-            put_last(&mut self.before, last, groups)?;
-            merge_due(alloc, &mut self.before, last);
-        }
-        Ok(())
+        add_to_subtree(alloc, &mut self.subtrees, tablet, groups)
     }
 
     /// What the tree gathers of the partials that were added, and of each other tablet of that of no records. Where
-    /// all were added, that is what `gather` gives. Many groups that still lie apart are merged by several threads.
+    /// all were added, that is what `gather` gives. Of groups the root's children are merged at the same time, and then
+    /// what they gave, where there are enough to be worth a thread.
     ///
     /// Errors: want of memory, or of room: the texts of lines have less than 4 GiB together, and the number of groups
     /// is bounded.
@@ -117,13 +115,26 @@ impl Growing {
     {
         let Growing {
             grown,
-            before,
+            subtrees,
             waiting,
         } = self;
         match grown {
             Partial::Lines(rows) => Ok(Partial::Lines(append_all(rows, waiting)?)),
-            Partial::Groups(last) => Ok(Partial::Groups(merge_all(rt, alloc, before, last)?)),
+            Partial::Groups(none) => match merge_subtrees(rt, alloc, subtrees)? {
+                Some(all) => Ok(Partial::Groups(all)),
+                None => Ok(Partial::Groups(none)),
+            },
         }
+    }
+}
+
+/// The children of a tree's root, to which nothing came; none where lines are gathered.
+fn subtrees_for(alloc: Global, tree: &Tree, grown: &Partial) -> Result<Vec<Subtree>, NoMemory>
+    ensures { IfOk result (λ v. AreBare grown.now v.items) }
+{
+    match grown {
+        Partial::Groups(_) => bare_subtrees(alloc, tree),
+        Partial::Lines(_) => Ok(Vec::new(alloc)),
     }
 }
 
@@ -131,12 +142,8 @@ impl Growing {
 fn waiting_for(alloc: Global, tree: &Tree, grown: &Partial) -> Result<VecDeque<Waiting>, NoMemory>
     ensures { IfOk result (λ v. AreFree (tablets_of (tree_view tree.now)) grown.now v.items) }
 {
-    let mut waiting = VecDeque::new(alloc);
     match grown {
-        Partial::Groups(_) => Ok(waiting),
-        Partial::Lines(_) => {
-            push_places(tree, &mut waiting)?;
-            Ok(waiting)
-        }
+        Partial::Groups(_) => Ok(VecDeque::new(alloc)),
+        Partial::Lines(_) => free_places(alloc, tree),
     }
 }

@@ -1,6 +1,6 @@
 //! What is left of a pile of groups in the end, merged by halves.
 
-ghost use Rattle.std.specs.Prelude.{◌<◌, ◌≤◌, ◌++◌, ◌∷◌, [], IfOk, length};
+ghost use Rattle.std.specs.Prelude.{◌<◌, ◌≤◌, ◌++◌, ◌∷◌, [], IfOk, length, option_to_list};
 ghost use denote.Param.Send.{IsSync};
 ghost use Rattle.dr_tree.specs.Piles.{CanMerge, StaysPile};
 
@@ -10,12 +10,12 @@ use std::alloc::Global;
 use std::thread::{Threads, join};
 
 /// So many groups at least are merged by a thread of their own: to start one costs as much as to merge some thousands.
-const WORTH_A_THREAD: usize = 1 << 14;
+pub(crate) const WORTH_A_THREAD: usize = 1 << 14;
 
-/// How many groups there are together.
-fn count_groups(before: &[GroupMap], last: &GroupMap) -> usize {
-    let mut count = last.len();
-    'groups: for groups in before {
+/// How many groups a pile has.
+pub(crate) fn count_groups(pile: &[GroupMap]) -> usize {
+    let mut count: usize = 0;
+    'groups: for groups in pile {
         count = count.saturating_add(groups.len());
     }
     count
@@ -23,7 +23,7 @@ fn count_groups(before: &[GroupMap], last: &GroupMap) -> usize {
 
 /// Whether to merge them is worth a thread.
 fn is_worth_a_thread(before: &[GroupMap], last: &GroupMap) -> bool {
-    !before.is_empty() && count_groups(before, last) >= WORTH_A_THREAD
+    !before.is_empty() && count_groups(before).saturating_add(last.len()) >= WORTH_A_THREAD
 }
 
 /// How many of them come first that have half of all together; the last isn't one of them.
@@ -32,7 +32,7 @@ fn first_half(before: &[GroupMap], last: &GroupMap) -> usize
     ensures some { 0 < result }
     ensures within { result ≤ length before.now }
 {
-    let half = count_groups(before, last) / 2;
+    let half = count_groups(before).saturating_add(last.len()) / 2;
     let mut count: usize = 0;
     'firsts: for at in 1..before.len() {
         count = count.saturating_add(before[at - 1].len());
@@ -43,19 +43,37 @@ fn first_half(before: &[GroupMap], last: &GroupMap) -> usize
     before.len()
 }
 
+/// Merges a pile. None where nothing came.
+///
+/// Errors: want of memory, or of room for the number of a group.
+pub(crate) fn merge_pile<R: Threads + Sync>(
+    rt: &R,
+    alloc: Global,
+    pile: Vec<GroupMap>,
+) -> Result<Option<GroupMap>, NoMemory>
+    requires { CanMerge pile.items }
+    ensures { IfOk result (λ m. StaysPile pile.items (option_to_list m)) }
+{
+    let mut before = pile;
+    match before.pop() {
+        Some(last) => Ok(Some(merge_all(rt, alloc, before, last)?)),
+        None => Ok(None),
+    }
+}
+
 /// Merges all: the first that have half of the groups, the others, and then both. So none is moved often, whatever
 /// their numbers, and where both halves are worth a thread, they are merged at the same time.
 ///
 /// Errors: want of memory, or of room for the number of a group.
 #[cycle(halving)]
-pub(crate) fn merge_all<R: Threads + Sync>(
+fn merge_all<R: Threads + Sync>(
     rt: &R,
     alloc: Global,
     before: Vec<GroupMap>,
     last: GroupMap,
 ) -> Result<GroupMap, NoMemory>
-    requires { CanMerge before.items last }
-    ensures { IfOk result (λ m. StaysPile before.items last [] m) }
+    requires { CanMerge (before.items ++ last ∷ []) }
+    ensures { IfOk result (λ m. StaysPile (before.items ++ last ∷ []) (m ∷ [])) }
 {
     if before.is_empty() {
         return Ok(last);
@@ -79,8 +97,8 @@ fn merge_halves<R: Threads + Sync>(
     behind: Vec<GroupMap>,
     last: GroupMap,
 ) -> Result<GroupMap, NoMemory>
-    requires { CanMerge (front.items ++ middle ∷ behind.items) last }
-    ensures { IfOk result (λ m. StaysPile (front.items ++ middle ∷ behind.items) last [] m) }
+    requires { CanMerge ((front.items ++ middle ∷ []) ++ (behind.items ++ last ∷ [])) }
+    ensures { IfOk result (λ m. StaysPile ((front.items ++ middle ∷ []) ++ (behind.items ++ last ∷ [])) (m ∷ [])) }
 {
     if !is_worth_a_thread(&front, &middle) || !is_worth_a_thread(&behind, &last) {
         let mine = merge_all(rt, alloc, front, middle)?;
@@ -88,21 +106,21 @@ fn merge_halves<R: Threads + Sync>(
         return merged(alloc, mine, theirs);
     }
     let mine = move || -> Result<GroupMap, NoMemory>
-        requires { IsSync R.row × CanMerge front.items middle }
-        ensures { IfOk result (λ m. StaysPile front.items middle [] m) }
+        requires { IsSync R.row × CanMerge (front.items ++ middle ∷ []) }
+        ensures { IfOk result (λ m. StaysPile (front.items ++ middle ∷ []) (m ∷ [])) }
     { merge_all(rt, alloc, front, middle) };
     let theirs = move || -> Result<GroupMap, NoMemory>
-        requires { IsSync R.row × CanMerge behind.items last }
-        ensures { IfOk result (λ m. StaysPile behind.items last [] m) }
+        requires { IsSync R.row × CanMerge (behind.items ++ last ∷ []) }
+        ensures { IfOk result (λ m. StaysPile (behind.items ++ last ∷ []) (m ∷ [])) }
     { merge_all(rt, alloc, behind, last) };
     let (mine, theirs) = join(rt, mine, theirs);
     merged(alloc, mine?, theirs?)
 }
 
 /// Two, merged.
-fn merged(alloc: Global, mine: GroupMap, theirs: GroupMap) -> Result<GroupMap, NoMemory>
-    requires { CanMerge (mine ∷ []) theirs }
-    ensures { IfOk result (λ m. StaysPile (mine ∷ []) theirs [] m) }
+pub(crate) fn merged(alloc: Global, mine: GroupMap, theirs: GroupMap) -> Result<GroupMap, NoMemory>
+    requires { CanMerge (mine ∷ theirs ∷ []) }
+    ensures { IfOk result (λ m. StaysPile (mine ∷ theirs ∷ []) (m ∷ [])) }
 {
     let mut mine = mine;
     mine.merge(alloc, theirs)?;

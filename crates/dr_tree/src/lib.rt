@@ -6,8 +6,10 @@ mod fan;
 mod gathering;
 mod growing;
 mod halved;
+mod joined;
 pub mod laws;
 mod piled;
+mod subtree;
 mod tree;
 mod waiting;
 

@@ -1,6 +1,6 @@
 //! Groups that come one after another, merged so that each group is moved but a few times.
 
-ghost use Rattle.std.specs.Prelude.{◌≡◌, ◌^◌, ◌<◌, ◌++◌, ◌∷◌, [], OnErr, OnOk, true, false, vec_len, vec_capacity};
+ghost use Rattle.std.specs.Prelude.{◌≡◌, ◌^◌, ◌<◌, ◌≤◌, ◌++◌, ◌∷◌, [], OnErr, OnOk, true, false, vec_len, vec_capacity};
 ghost use Rattle.dr_partials.specs.Partials as meant;
 ghost use Rattle.dr_partials.specs.PartialBounds.{GroupsCanBeOf};
 ghost use Rattle.dr_group.specs.Maps.{groups_view, gatherings_view};
@@ -12,31 +12,14 @@ use std::alloc::Global;
 use std::mem;
 
 /// Appends groups where there is room.
-fn push_reserved(before: &mut Vec<GroupMap>, groups: GroupMap)
-    requires { vec_len before.old < vec_capacity before.old }
-    ensures { (before.new).items ≡ (before.old).items ++ groups ∷ [] }
+fn push_reserved(pile: &mut Vec<GroupMap>, groups: GroupMap)
+    requires { vec_len pile.old < vec_capacity pile.old }
+    ensures items { (pile.new).items ≡ (pile.old).items ++ groups ∷ [] }
+    ensures capacity { vec_capacity pile.old ≤ vec_capacity pile.new }
 {
-    if before.push(groups).is_err() {
+    if pile.push(groups).is_err() {
         unreachable!()
     }
-}
-
-/// Puts groups behind the last ones.
-///
-/// Errors: want of memory alone. Nothing has changed then.
-pub(crate) fn put_last(
-    before: &mut Vec<GroupMap>,
-    last: &mut GroupMap,
-    groups: GroupMap,
-) -> Result<(), NoMemory>
-    ensures before { OnOk result ((before.new).items ≡ (before.old).items ++ last.old ∷ []) }
-    ensures last { OnOk result (last.new ≡ groups) }
-    ensures refused { OnErr result (((before.new).items ≡ (before.old).items) × (last.new ≡ last.old)) }
-{
-    before.reserve(1)?;
-    let pushed = mem::replace(last, groups);
-    push_reserved(before, pushed);
-    Ok(())
 }
 
 /// Merges the last groups into those before them, which become the last, unless these are more than twice as many, or
@@ -61,30 +44,53 @@ fn merge_pair(alloc: Global, before: &mut GroupMap, last: &mut GroupMap) -> bool
     true
 }
 
-/// Merges the last two of some groups, unless the first are more than twice as many, or there is no memory.
-fn merge_last(alloc: Global, before: &mut Vec<GroupMap>, last: &mut GroupMap) -> bool
-    requires { CanMerge (before.old).items last.old }
-    ensures { StaysPile (before.old).items last.old (before.new).items last.new }
+/// Merges the last two of a pile, unless the first are more than twice as many, or there is no memory.
+fn merge_last(alloc: Global, pile: &mut Vec<GroupMap>) -> bool
+    requires { CanMerge (pile.old).items }
+    ensures { StaysPile (pile.old).items (pile.new).items }
 {
-    let Some(mut earlier) = before.pop() else {
+    let Some(mut last) = pile.pop() else {
         return false;
     };
-    if merge_pair(alloc, &mut earlier, last) {
+    let Some(mut earlier) = pile.pop() else {
+        push_reserved(pile, last);
+        return false;
+    };
+    if merge_pair(alloc, &mut earlier, &mut last) {
+        push_reserved(pile, last);
         return true;
     }
-    push_reserved(before, earlier);
+    push_reserved(pile, earlier);
+    push_reserved(pile, last);
     false
 }
 
-/// Merges the last two of some groups, as long as the first are at most twice as many and there is memory. So what
-/// comes before is always more than twice what comes next, but where there was no memory.
-pub(crate) fn merge_due(alloc: Global, before: &mut Vec<GroupMap>, last: &mut GroupMap)
-    requires { CanMerge (before.old).items last.old }
-    ensures { StaysPile (before.old).items last.old (before.new).items last.new }
+/// Merges the last two of a pile, as long as the first are at most twice as many and there is memory. So what comes
+/// before is always more than twice what comes next, but where there was no memory.
+fn merge_due(alloc: Global, pile: &mut Vec<GroupMap>)
+    requires { CanMerge (pile.old).items }
+    ensures { StaysPile (pile.old).items (pile.new).items }
 {
-    'merges: for _ in 0..before.len() {
-        if !merge_last(alloc, before, last) {
+    'merges: for _ in 0..pile.len() {
+        if !merge_last(alloc, pile) {
             return;
         }
     }
+}
+
+/// Puts groups on a pile, and merges what is due.
+///
+/// Errors: want of memory alone. Nothing has changed then.
+pub(crate) fn add_to_pile(
+    alloc: Global,
+    pile: &mut Vec<GroupMap>,
+    groups: GroupMap,
+) -> Result<(), NoMemory>
+    requires { CanMerge ((pile.old).items ++ groups ∷ []) }
+    ensures added { OnOk result (StaysPile ((pile.old).items ++ groups ∷ []) (pile.new).items) }
+    ensures refused { OnErr result ((pile.new).items ≡ (pile.old).items) }
+{
+    pile.push(groups)?;
+    merge_due(alloc, pile);
+    Ok(())
 }

@@ -4,15 +4,17 @@ ghost use Rattle.std.specs.Prelude.{◌≡◌, ◌<◌, ◌++◌, IfOk, IfSome, 
 ghost use Rattle.std.specs.List.{fold};
 ghost use Rattle.dr_cells.specs.Rows.{rows_shape};
 ghost use Rattle.dr_partials.specs.Partials as meant;
-ghost use Rattle.dr_partials.specs.Trees.{tablets_of, tablets_of_all};
+ghost use Rattle.dr_partials.specs.Trees.{tablets_of};
 ghost use Rattle.dr_tree.specs.Appending.{HaveMoved, filled_at, with_lines};
-ghost use Rattle.dr_tree.specs.Places.{added, fill, free_places, is_free_for};
-ghost use Rattle.dr_tree.specs.Views.{tree_view, trees_view};
+ghost use Rattle.dr_tree.specs.Places.{added, fill, is_free_for};
+ghost use Rattle.dr_tree.specs.Places as places;
+ghost use Rattle.dr_tree.specs.Views.{tree_view};
 ghost use Rattle.dr_tree.specs.Waiting.{AreShaped, lines_of, place_of, places_of};
 
-use crate::tree::Tree;
+use crate::tree::{Tree, push_tablets};
 use dr_cells::RowsOut;
 use dr_memory::NoMemory;
+use std::alloc::Global;
 use std::collections::VecDeque;
 
 /// A leaf server whose lines aren't appended: its tablet, and its lines where they came.
@@ -22,37 +24,22 @@ pub(crate) struct Waiting {
     pub(crate) lines: Option<RowsOut>,
 }
 
-/// Pushes the leaf servers of a tree, in order, without lines.
-#[cycle(placing)]
-pub(crate) fn push_places(tree: &Tree, waiting: &mut VecDeque<Waiting>) -> Result<(), NoMemory>
-    ensures { OnOk result (places_of (waiting.new).items
-        ≡ places_of (waiting.old).items ++ free_places (tablets_of (tree_view tree.now))) }
+/// The leaf servers of a tree, in order, without lines.
+///
+/// Errors: want of memory alone.
+pub(crate) fn free_places(alloc: Global, tree: &Tree) -> Result<VecDeque<Waiting>, NoMemory>
+    ensures { IfOk result (λ v. places_of v.items ≡ places.free_places (tablets_of (tree_view tree.now))) }
 {
-    match tree {
-        Tree::Leaf(tablet) => {
-            waiting.push_back(Waiting {
-                tablet: *tablet,
-                lines: None,
-            })?;
-            Ok(())
-        }
-        Tree::Inner(first, rest) => {
-            push_places(first, waiting)?;
-            push_all(rest, waiting)
-        }
+    let mut tablets = Vec::new(alloc);
+    push_tablets(tree, &mut tablets)?;
+    let mut waiting = VecDeque::new(alloc);
+    'tablets: for tablet in &tablets {
+        waiting.push_back(Waiting {
+            tablet: *tablet,
+            lines: None,
+        })?;
     }
-}
-
-/// Pushes those of some trees.
-#[cycle(placing)]
-fn push_all(trees: &Vec<Tree>, waiting: &mut VecDeque<Waiting>) -> Result<(), NoMemory>
-    ensures { OnOk result (places_of (waiting.new).items
-        ≡ places_of (waiting.old).items ++ free_places (tablets_of_all (trees_view (trees.now).items))) }
-{
-    'trees: for tree in trees {
-        push_places(tree, waiting)?;
-    }
-    Ok(())
+    Ok(waiting)
 }
 
 /// Whether it is the tablet's, and has no lines.

@@ -6,6 +6,6 @@ returns-then-not-merge_last c = λ plan fs most all h. c.merge_last.ensures plan
 
 pub merges-preserved : goal.merges-preserved
 merges-preserved c = (
-  still_merges c.merges.before.items c.merge_last.new.before.items c.merges.last c.merge_last.new.last c.merge_last.ensures c.merges.invariant.0,
+  still_merges c.merge_last.ensures c.merges.invariant.0,
   λ plan fs most all h. c.merge_last.ensures plan fs most all (c.merges.invariant.1 plan fs most all h),
 )

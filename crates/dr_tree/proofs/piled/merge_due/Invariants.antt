@@ -3,4 +3,4 @@ use Rattle.dr_tree.proofs.piled.merge_due.Given as goal
 
 -- what is left of the pile merges to the same
 abbrev pub invariant-merges : goal.invariant-merges
-invariant-merges l = CanMerge l.before.items l.last × StaysPile l.initial.before.items l.initial.last l.before.items l.last
+invariant-merges l = CanMerge l.pile.items × StaysPile l.initial.pile.items l.pile.items
