@@ -258,9 +258,6 @@ module _ (w : Growth) (g : Growing) (none : GroupMap) (h : Grows w g) (e : g.gro
     pub finished_none : o ≡ None → partial_view (partial_of_groups none) ≡ merged (grown_query w) w.places
     finished_none k = (have_piled w g none h e).empty ∙ (left_of None k).merged
 
-  pub none_of_plan : IsPartialOf w.plan (partial_of_groups none)
-  none_of_plan = subst (IsPartialOf w.plan) e h.of_plan
-
 -- what is merged of all that were added is what the tree gathers
 pub finished : (w : Growth) (g : Growing) (piece : ℕ → meant.Partial) (p : meant.Partial) → Grows w g → map piece (tablets_of w.tree) ≡ pieces_at (grown_query w) w.places
     → p ≡ merged (grown_query w) w.places → p ≡ gathered piece w.tree

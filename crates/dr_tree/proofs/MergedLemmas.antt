@@ -32,29 +32,6 @@ pub commute : (fs : Fields) (q : Query) (gs : List Group) (p : Partial) → is_p
 commute fs q gs (grouped hs) h k = merge_is_commutative fs q gs hs h k
 commute fs q gs (lines os) h k = absurd (kinds_differ fs q os gs k h)
 
--- ---- the partial of no records
-
-empty_terms : (n : ℕ) (items : List GroupItem) → AllCanBeOf n (filter_map (λ (i : GroupItem). empty_term i.term) items)
-empty_terms n [] = tt
-empty_terms n (i ∷ items) = by_term i.term (empty_terms n items)
-  where
-    by_term : (t : GroupTerm) → AllCanBeOf n (filter_map (λ (i : GroupItem). empty_term i.term) items) → AllCanBeOf n (filter_map (λ (i : GroupItem). empty_term i.term) (record { name = i.name; term = t } ∷ items))
-    by_term (key k) h = h
-    by_term count_rows h = (omega arith, h)
-    by_term (aggregate count e) h = (omega arith, h)
-    by_term (aggregate sum e) h = (tt, h)
-    by_term (aggregate least e) h = (tt, h)
-    by_term (aggregate greatest e) h = (tt, h)
-
-pub empty_can_be : (n : ℕ) (q : Query) → PartialCanBeOf n (empty_partial q)
-unfolding empty_partial
-empty_can_be n q = of_selection q.selection
-  where
-    of_selection : (s : Selection) → PartialCanBeOf n (empty_selected s)
-    of_selection (objects items) = tt
-    of_selection (groups [] items) = (empty_terms n items, tt)
-    of_selection (groups (k ∷ keys) items) = tt
-
 -- ---- one more is added
 
 added_first : (t : ℕ) (r : Partial) (p : Place) (ps : List Place) → is_free_for t p ≡ true → added (fill t r (p ∷ ps)) ≡ r ∷ added (p ∷ ps)

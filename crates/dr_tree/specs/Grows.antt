@@ -64,6 +64,7 @@ pub record HavePiled (w : Growth) (none : GroupMap) (ss : List Subtree) : Type 0
   pub empty : partial_view (partial_of_groups none) ≡ empty_partial (grown_query w)
   pub pile : (n : ℕ) → CanBeTogether n (added w.places) → IsPile w.plan w.fields n (merged (grown_query w) w.places) (all_piled ss)
 
+-- lines or groups
 abbrev pub HasGrown : Growth → Partial → List Subtree → List Waiting → Type 0
 HasGrown w (Partial.Lines r) ss ws = HaveGrown (grown_query w) (plan_shape w.plan) w.places r ws
 HasGrown w (Partial.Groups none) ss ws = HavePiled w none ss
