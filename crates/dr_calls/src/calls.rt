@@ -6,6 +6,7 @@ use crate::leaves::{leaves_counted, place_found};
 use crate::lines::lines_cut;
 use crate::made::{lines_made, record_made};
 use crate::numbers::{signed, turned, varint_read, varint_written};
+use crate::pages::page_by_pieces;
 use crate::pieces::{plain_by_pieces, runs_by_pieces};
 use crate::records::record_read;
 use crate::runs::runs_read;
@@ -45,6 +46,7 @@ fn answer_more(
     match name {
         "read_plain" => plain_read(alloc, words, bytes),
         "plain_pieces" => plain_by_pieces(alloc, words, bytes),
+        "page_pieces" => page_by_pieces(alloc, words, bytes),
         "pick" => picked(alloc, words, bytes),
         "struct" => struct_again(alloc, bytes),
         "file" => file_again(alloc, bytes),

@@ -9,6 +9,7 @@ mod leaves;
 mod lines;
 mod made;
 mod numbers;
+mod pages;
 mod pieces;
 mod records;
 mod runs;
