@@ -1,5 +1,6 @@
--- putting, one thing after another
+-- putting, one thing after another; a key tuple alone before others
 pub mod PutLemmas
+pub mod NothingLemmas
 -- rows that aren't put yet
 pub mod LateLemmas
 -- which rows fire at a leaf, and what is read for them

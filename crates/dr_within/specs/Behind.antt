@@ -1,5 +1,5 @@
 -- A scan of groups behind some moves: what it has made of them.
-use Rattle.std.specs.Prelude.{◌≡◌, ◌<◌, ℕ, zero, suc, ⊤, List, [], ◌∷◌, map, length, replicate, Bool, true, ◌||◌, nat_le, nat_lt, Option, None, Some}
+use Rattle.std.specs.Prelude.{ℕ, zero, suc, List, [], ◌∷◌, map, length, replicate, Bool, true, ◌||◌, nat_le, nat_lt, Option, None, Some}
 use Rattle.dr_meaning.specs.Path.{Leaf, paths_of_leaves}
 use Rattle.dr_meaning.specs.Record.{Node}
 use Rattle.dr_meaning.specs.Expression.{longest_chain}

@@ -49,6 +49,14 @@ put_read keys t c = record { keys = map c keys; taken = taken_with t (value_read
 abbrev pub all_read : List ℕ → List Take → Context → List Put
 all_read keys ts c = map (λ (t : Take). put_read keys t c) ts
 
+-- how many needn't be put: nothing before others, which make the group as well
+abbrev pub needless : List Take → ℕ
+needless [] = 0
+needless (take_nothing ∷ []) = 0
+needless (take_nothing ∷ t ∷ ts) = 1
+needless (take_rows i ∷ ts) = 0
+needless (take_values i e ∷ ts) = 0
+
 -- ---- at which leaf a row fires
 
 -- the numbers of the leaves on which it depends

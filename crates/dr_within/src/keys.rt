@@ -15,7 +15,7 @@ use dr_memory::NoMemory;
 
 /// What was read last of the leaf of a number; none where there is no such leaf.
 #[inline(always)]
-fn slot<'a>(slots: &[Option<ValueRef<'a>>], number: u32) -> Option<ValueRef<'a>>
+pub(crate) fn slot<'a>(slots: &[Option<ValueRef<'a>>], number: u32) -> Option<ValueRef<'a>>
     ensures { option_map lent_value result ≡ slot_value slots.now number }
 {
     match slots.get(number as usize) {

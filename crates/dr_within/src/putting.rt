@@ -1,43 +1,94 @@
 //! What fires together.
 
-ghost use Rattle.std.specs.Prelude.{◌≡◌, ◌++◌, length, map, OnOk};
+ghost use Rattle.std.specs.Prelude.{◌≡◌, ◌++◌, ℕ, List, length, map, OnOk};
 ghost use Rattle.dr_group.specs.Partials.{partial_view, IsPartialOf};
 ghost use Rattle.dr_partials.specs.Putting.{put, put_all};
 ghost use Rattle.dr_plan.specs.Planned.{Planned, planned_query};
 ghost use Rattle.dr_scalar.specs.Slots.{slot_value};
-ghost use Rattle.dr_within.specs.Takings.{taking_view, takings_view, put_read, all_read};
+ghost use Rattle.dr_group.specs.Views.{lent_cell};
+ghost use Rattle.dr_within.specs.Takings.{taking_view, takings_view, put_read, all_read, needless as meant_needless};
 ghost use Rattle.dr_within.specs.Late.{IsWhole, rows_of};
 
 use crate::keys::push_key;
 use crate::late::LateRows;
-use crate::taking::{Taking, taken_as, value_of};
+use crate::taking::{Taking, aggregate_of, read_of, taken_as, taken_for, value_of};
 use dr_group::Partial;
 use dr_levels::ValueRef;
 use dr_memory::NoMemory;
 use std::alloc::Global;
 
-/// Puts a row into its group: what was read last of each leaf. Its key tuple is made in a buffer.
-#[inline(always)]
-fn put_one<'a>(
+/// Puts a row into the group of a key tuple, with the value that an expression has in it.
+fn put_computed<'a>(
     alloc: Global,
     taking: Taking<'_>,
-    keys: &[u32],
     slots: &[Option<ValueRef<'a>>],
-    key: &mut Vec<Option<ValueRef<'a>>>,
+    key: &[Option<ValueRef<'a>>],
     partial: &mut Partial,
 ) -> Result<(), NoMemory>
-    ensures puts { OnOk result ((p : Planned) → IsPartialOf p partial.old → partial_view partial.new
-        ≡ put (planned_query p) (put_read keys.now (taking_view taking.entry) (slot_value slots.now))
+    ensures puts { OnOk result ((p : Planned) (keys : List ℕ) → map lent_cell key.now
+        ≡ map (slot_value slots.now) keys → IsPartialOf p partial.old → partial_view partial.new
+        ≡ put (planned_query p) (put_read keys (taking_view taking.entry) (slot_value slots.now))
         (partial_view partial.old)) }
     ensures of_plan { (p : Planned) → IsPartialOf p partial.old → IsPartialOf p partial.new }
 {
-    key.clear();
-    push_key(keys, slots, key)?;
     let value = value_of(alloc, taking, slots)?;
     partial.put(alloc, key, taken_as(taking, &value))
 }
 
-/// Puts a row for each of some takings, in order.
+/// Puts a row into the group of a key tuple: what was read last of each leaf.
+#[inline(always)]
+fn put_one<'a>(
+    alloc: Global,
+    taking: Taking<'_>,
+    slots: &[Option<ValueRef<'a>>],
+    key: &[Option<ValueRef<'a>>],
+    partial: &mut Partial,
+) -> Result<(), NoMemory>
+    ensures puts { OnOk result ((p : Planned) (keys : List ℕ) → map lent_cell key.now
+        ≡ map (slot_value slots.now) keys → IsPartialOf p partial.old → partial_view partial.new
+        ≡ put (planned_query p) (put_read keys (taking_view taking.entry) (slot_value slots.now))
+        (partial_view partial.old)) }
+    ensures of_plan { (p : Planned) → IsPartialOf p partial.old → IsPartialOf p partial.new }
+{
+    match read_of(taking, slots) {
+        Some(value) => partial.put(alloc, key, taken_for(aggregate_of(taking), value)),
+        None => put_computed(alloc, taking, slots, key, partial),
+    }
+}
+
+/// How many takings needn't be put: one of nothing before others, since what these put makes the group as well.
+#[inline(always)]
+fn needless(takings: &[Taking<'_>]) -> usize
+    ensures { result ≡ meant_needless (takings_view takings.now) }
+{
+    match takings {
+        [Taking::Nothing, _, ..] => 1,
+        _ => 0,
+    }
+}
+
+/// Puts a row of a key tuple for each of some takings, in order.
+#[inline(always)]
+fn put_in_order<'a>(
+    alloc: Global,
+    takings: &[Taking<'_>],
+    slots: &[Option<ValueRef<'a>>],
+    key: &[Option<ValueRef<'a>>],
+    partial: &mut Partial,
+) -> Result<(), NoMemory>
+    ensures puts { OnOk result ((p : Planned) (keys : List ℕ) → map lent_cell key.now
+        ≡ map (slot_value slots.now) keys → IsPartialOf p partial.old → partial_view partial.new
+        ≡ put_all (planned_query p) (all_read keys (takings_view takings.now) (slot_value slots.now))
+        (partial_view partial.old)) }
+    ensures of_plan { (p : Planned) → IsPartialOf p partial.old → IsPartialOf p partial.new }
+{
+    'takings: for taking in takings {
+        put_one(alloc, *taking, slots, key, partial)?;
+    }
+    Ok(())
+}
+
+/// Puts a row for each of some takings, in order. Their key tuple is made in a buffer, once.
 ///
 /// Errors: want of memory, or of room for a count, a sum or a number of a group.
 #[inline(always)]
@@ -54,10 +105,13 @@ pub(crate) fn put_each<'a>(
         (partial_view partial.old)) }
     ensures of_plan { (p : Planned) → IsPartialOf p partial.old → IsPartialOf p partial.new }
 {
-    'takings: for taking in takings {
-        put_one(alloc, *taking, keys, slots, key, partial)?;
+    if takings.is_empty() {
+        return Ok(());
     }
-    Ok(())
+    key.clear();
+    push_key(keys, slots, key)?;
+    let (_, needed) = takings.split_at(needless(takings));
+    put_in_order(alloc, needed, slots, key, partial)
 }
 
 /// Keeps a row for each of some takings, in order.

@@ -1,10 +1,9 @@
 use Rattle.std.proofs.Common.{◌≡◌, ◌≤◌, ◌<◌, ◌+◌, ◌-◌, ◌++◌, ◌∷◌, [], ℕ, List, Option, length, map, take, drop, sym, ap, ◌∙◌, append_assoc, arith}
-use Rattle.std.specs.Prelude.{option_map}
 use Rattle.std.proofs.lemmas.List.{drop-drop, map_push, length-map}
 use Rattle.dr_meaning.specs.Record.{Value}
 use Rattle.dr_cells.specs.Views.{cells_view}
 use Rattle.dr_group.specs.Views.{lent_cell}
-use Rattle.dr_within.specs.Late.{cell_value, cell_values, first_of}
+use Rattle.dr_within.specs.Late.{cell_value, cell_values}
 use Rattle.dr_within.proofs.CopyLemmas.{take_one_more}
 use Rattle.dr_within.proofs.LateLemmas.{first_then}
 use Rattle.dr_within.proofs.keys.lend_key.Goals as goal

@@ -8,7 +8,7 @@ use Rattle.dr_plan.specs.Planned.{planned_query}
 use Rattle.dr_group.specs.Partials.{partial_view}
 use Rattle.dr_group.specs.Views.{lent_cell}
 use Rattle.dr_levels.specs.declared.triplet.ValueRef.{ValueRef}
-use Rattle.dr_within.specs.Late.{cell_value, cell_values, first_of, taken_for, puts_view}
+use Rattle.dr_within.specs.Late.{cell_value, cell_values, taken_for, puts_view}
 use Rattle.dr_within.proofs.LateLemmas.{puts_next, drop_within}
 use Rattle.dr_within.proofs.late.put_rows.Goals as goal
 

@@ -1,28 +1,27 @@
-use Rattle.std.proofs.Common.{◌∙◌, ◌+◌, ◌∷◌, ap, sym, List, drop}
-use Rattle.std.proofs.lemmas.List.{drop_more}
+use Rattle.std.proofs.Common.{◌∙◌, ◌++◌, ap, sym, List, Option, map, drop, ℕ}
+use Rattle.std.specs.List.{drop-map}
+use Rattle.dr_levels.specs.declared.triplet.ValueRef.{ValueRef}
 use Rattle.dr_partials.specs.Putting.{put_all}
 use Rattle.dr_plan.specs.Planned.{planned_query}
 use Rattle.dr_group.specs.Partials.{partial_view}
+use Rattle.dr_group.specs.Views.{lent_cell}
 use Rattle.dr_scalar.specs.Slots.{slot_value}
-use Rattle.dr_within.specs.Takings.{all_read, takings_view}
-use Rattle.dr_within.specs.declared.taking.Taking.{Taking}
+use Rattle.dr_within.specs.Takings.{Take, all_read, taking_view, takings_view}
+use Rattle.dr_within.proofs.FramingLemmas.{on_ok}
+use Rattle.dr_within.proofs.NothingLemmas.{needless_first}
 use Rattle.dr_within.proofs.putting.put_each.Goals as goal
 
-pub takings-preserved : goal.takings-preserved
-takings-preserved c =
-    let ts = c.args.takings.now in
-    let i = c.takings.taking-index in
-    let read = slot_value c.args.slots.now in
+pub returns-clause-puts : goal.returns-clause-puts
+returns-clause-puts c =
     let keys = c.args.keys.now in
-    record {
-      of_plan = λ p h. c.put_one.ensures.of_plan p (c.takings.invariant.of_plan p h);
-      puts = λ p h.
-          ap (put_all (planned_query p) (all_read keys (takings_view (drop (i + 1) ts)) read))
-          (c.in_ok-put_one.ensures.puts p (c.takings.invariant.of_plan p h))
-          ∙ (ap (λ (us : List Taking). put_all (planned_query p) (all_read keys (takings_view us) read) (partial_view c.takings.partial))
-          (sym (drop_more ts i c.taking-item.result c.takings-test.true ∙ ap (λ (u : Taking). u ∷ drop (i + 1) ts) (sym c.taking-item.is)))
-          ∙ c.takings.invariant.puts p h);
-    }
-
-pub returns-in_err-put_one-clause-of_plan : goal.returns-in_err-put_one-clause-of_plan
-returns-in_err-put_one-clause-of_plan c = λ p h. c.put_one.ensures.of_plan p (c.takings.invariant.of_plan p h)
+    let slots = slot_value c.args.slots.now in
+    let ts = c.args.takings.now in
+    on_ok c.put_in_order.result _ _ (λ puts p h.
+    puts p keys
+    (ap (map lent_cell) c.deref.ensures.value ∙ (c.in_ok-push_key.ensures
+    ∙ ap (λ (xs : List (Option ValueRef)). map lent_cell xs ++ map slots keys) c.clear.ensures.items)) h
+    ∙ (ap (λ (us : List Take). put_all (planned_query p) (all_read keys us slots) (partial_view c.args.partial.now))
+    (ap takings_view c.split_at.ensures.back ∙ (sym (drop-map taking_view c.needless.result ts)
+    ∙ ap (λ (n : ℕ). drop n (takings_view ts)) c.needless.ensures))
+    ∙ needless_first (planned_query p) keys slots (takings_view ts) (partial_view c.args.partial.now)))
+    c.put_in_order.ensures.puts

@@ -1,4 +1,4 @@
-use Rattle.std.proofs.Common.{◌≡◌, ◌∙◌, ◌+◌, ◌*◌, ℕ, ◌∷◌, ◌++◌, [], ap, ap₂, sym, arith, List, Option, map, length}
+use Rattle.std.proofs.Common.{◌≡◌, ◌∙◌, ◌+◌, ◌*◌, ℕ, ◌∷◌, ◌++◌, [], ap, ap₂, sym, arith, Option, map, length}
 use Rattle.std.specs.Prelude.{option_map}
 use Rattle.std.proofs.lemmas.List.{map_push, length-map, length-append, length_push}
 use Rattle.dr_meaning.specs.Record.{Value}
@@ -8,7 +8,7 @@ use Rattle.dr_levels.specs.Views.{lent_value}
 use Rattle.dr_partials.specs.Putting.{Taken}
 use Rattle.dr_scalar.specs.Slots.{slot_value}
 use Rattle.dr_within.specs.Takings.{taking_view, taken_with, value_read, aggregate_for}
-use Rattle.dr_within.specs.Late.{cell_value, cell_values, all_taken, late_puts, taken_for}
+use Rattle.dr_within.specs.Late.{cell_value, cell_values, all_taken, late_puts}
 use Rattle.dr_within.proofs.LateLemmas.{puts_push, whole_push, taken_push, taken_same, taken_count}
 use Rattle.dr_within.proofs.late.LateRows.push.Goals as goal
 

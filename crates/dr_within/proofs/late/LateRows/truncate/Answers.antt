@@ -1,9 +1,9 @@
-use Rattle.std.proofs.Common.{◌≡◌, ◌≤◌, ◌∙◌, ◌^◌, ◌-◌, ◌*◌, ap, ap₂, sym, arith, ℕ, map, take, length}
+use Rattle.std.proofs.Common.{◌≡◌, ◌∙◌, ◌^◌, ◌-◌, ◌*◌, ap, ap₂, sym, arith, ℕ, take, length}
 use Rattle.std.specs.Prelude.{min}
 use Rattle.std.proofs.lemmas.List.{take-map, length-take, length-map}
 use Rattle.dr_cells.specs.Held.{cell_view}
 use Rattle.dr_cells.specs.Views.{cells_view}
-use Rattle.dr_within.specs.Late.{cell_value, cell_values, all_taken, late_puts, rows_of, IsWhole}
+use Rattle.dr_within.specs.Late.{cell_value, cell_values, all_taken, late_puts, rows_of}
 use Rattle.dr_within.specs.declared.late.LateRows.{LateRows}
 use Rattle.dr_within.proofs.LateLemmas.{puts_cut, taken_cut, whole_cut, take_within}
 use Rattle.dr_within.proofs.late.LateRows.truncate.Goals as goal
