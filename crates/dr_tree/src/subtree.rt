@@ -67,13 +67,14 @@ fn bare_children(alloc: Global, first: &Tree, rest: &Vec<Tree>) -> Result<Vec<Su
     Ok(subtrees)
 }
 
-/// The number of the subtree below which a tablet stands; of one below none, that of the first.
+/// The number of the subtree below which a tablet stands, where the tablets of each ascend; of one that isn't found so,
+/// that of the first.
 fn subtree_of(subtrees: &[Subtree], tablet: u32) -> usize
     requires { 0 < length subtrees.now }
     ensures { result < length subtrees.now }
 {
     'subtrees: for at in 0..subtrees.len() {
-        if subtrees[at].tablets.contains(&tablet) {
+        if subtrees[at].tablets.binary_search(&tablet).is_ok() {
             return at;
         }
     }
