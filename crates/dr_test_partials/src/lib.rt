@@ -5,6 +5,8 @@
 #[cfg(test)]
 mod agreement_tests;
 #[cfg(test)]
+mod growing_tests;
+#[cfg(test)]
 mod meant;
 #[cfg(test)]
 mod scan_tests;

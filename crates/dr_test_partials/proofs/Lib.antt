@@ -1,0 +1,2 @@
+-- pieces that are added to a tree in some order
+mod AddedLemmas
