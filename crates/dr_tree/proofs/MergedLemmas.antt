@@ -1,13 +1,13 @@
 -- What is merged of the partials that were added: groups in any order, and what the tree gathers.
 use Rattle.std.specs.Prelude.{◌≡◌, ◌≤◌, ℕ, ◌+◌, List, [], ◌∷◌, ◌++◌, map, Bool, true, false, ◌&&◌, Option, Some, None}
-use Rattle.std.specs.List.{filter_map, fold, list_all}
+use Rattle.std.specs.List.{fold, list_all}
 use Rattle.std.proofs.Common.{refl, sym, ap, ap₂, ◌∙◌, subst, arith, true≢false}
 use Rattle.std.proofs.lemmas.Bool.{and_parts}
 use Rattle.dr_meaning.specs.Schema.{Fields}
-use Rattle.dr_meaning.specs.Query.{Query, count, sum, least, greatest, GroupTerm, key, count_rows, aggregate, GroupItem, Selection, objects, groups, Object}
-use Rattle.dr_partials.specs.Partials.{Group, Partial, lines, grouped, merge, empty_term, empty_selected, empty_partial}
+use Rattle.dr_meaning.specs.Query.{Query, Selection, objects, groups, Object}
+use Rattle.dr_partials.specs.Partials.{Group, Partial, lines, grouped, merge, empty_partial}
 use Rattle.dr_partials.specs.PartialTypes.{is_partial, is_of_selection}
-use Rattle.dr_partials.specs.PartialBounds.{AllCanBeOf, PartialCanBeOf}
+use Rattle.dr_partials.specs.PartialBounds.{PartialCanBeOf}
 use Rattle.dr_partials.specs.TreeLaws.{AreAllPartials}
 use Rattle.dr_partials.specs.Trees.{Tree, leaf_server, intermediate_server, Trees, no_trees, next_tree, tablets_of, tablets_of_all, gathered, gathered_behind}
 use Rattle.dr_partials.proofs.PartialTypeLemmas.{merge_is_associative, merge_is_commutative, empty_merges_to_same, empty_is_partial, merged_is_partial}
