@@ -20,7 +20,7 @@ use Rattle.dr_page.specs.Reads.{WhereNone, WhereBad}
 use Rattle.dr_page.specs.Parts.{part_in, parts_in, AreInside, PairsOf}
 use Rattle.dr_page.specs.LevelPieces.{HavePairs, WhereNotBoth}
 use Rattle.dr_page.specs.ValuePieces.{HasValues}
-use Rattle.dr_page.specs.PageReading.{front_of, left_of, Stands, IsReading, Gives}
+use Rattle.dr_page.specs.PageReading.{front_of, left_of, refused_of, Stands, IsReading, Gives}
 use Rattle.dr_page.proofs.BodyLemmas.{pairs_joined, no_levels, no_parts}
 use Rattle.dr_page.proofs.FrontLemmas.{none_beyond}
 use Rattle.dr_page.proofs.PageFronts.{Body, body_there, body_of, same_parts, page_fronts, count_joined, joined_more, length_joined}
@@ -148,9 +148,9 @@ front_there s d bytes given r h =
 pub gives_more : (s : PageShape) (d : List Value) (bytes : List ℕ) (given : List Triplet) (n g : ℕ) (r new : PageReader) (before after : List Triplet) (es fs : List ℕ) (pairs : List Levels) (us : List Value) (h : IsReading s d bytes given r)
     → new.kind ≡ r.kind → new.parts ≡ r.parts → new.levels.repetitions.greatest ≡ r.levels.repetitions.greatest → new.levels.definitions.greatest ≡ r.levels.definitions.greatest
     → HavePairs bytes r.parts (h.stands.rs ++ es) (h.stands.ds ++ fs) new.levels → PairsOf es fs pairs → length pairs ≡ n → length us ≡ count_equal s.max_definition fs
-    → HasValues s.encoding s.kind d (drop r.parts.values bytes) (h.stands.vs ++ us) new.values → g ≡ s.max_definition → after ≡ before ++ joined g pairs us → left_of new + n ≡ left_of r
+    → HasValues s.encoding s.kind d (drop r.parts.values bytes) (h.stands.vs ++ us) new.values → g ≡ s.max_definition → after ≡ before ++ joined g pairs us → left_of new + n ≡ left_of r → refused_of new ≡ None
     → (more : List Triplet) × (length more ≡ n) × (after ≡ before ++ more) × IsReading s d bytes (given ++ more) new
-gives_more s d bytes given n g r new before after es fs pairs us h k p x y l o m c v e a w =
+gives_more s d bytes given n g r new before after es fs pairs us h k p x y l o m c v e a w go =
     let z = pairs_length es fs pairs o in
     let same : length es ≡ length fs = z.0 ∙ sym z.1 in
     let more : List Triplet = join_triplets s.max_definition es fs us in
@@ -162,6 +162,7 @@ gives_more s d bytes given n g r new before after es fs pairs us h k p x y l o m
       record {
         front = front_there s d bytes (given ++ more) new st;
         left = omega (arith, length-append given more, h.left, w, j);
+        going = go;
         stands = st;
       },
     )
@@ -170,8 +171,8 @@ gives_more s d bytes given n g r new before after es fs pairs us h k p x y l o m
 
 pub begun : (s : PageShape) (d : List Value) (bytes : List ℕ) (r : PageReader) → kind_view r.kind ≡ s.kind → r.levels.repetitions.greatest ≡ s.max_repetition → r.levels.definitions.greatest ≡ s.max_definition
     → level_parts_by s.form s bytes ≡ got (parts_in bytes r.parts) (drop r.parts.values bytes) → AreInside bytes r.parts → HavePairs bytes r.parts [] [] r.levels
-    → HasValues s.encoding s.kind d (drop r.parts.values bytes) [] r.values → left_of r ≡ s.triplets → IsReading s d bytes [] r
-begun s d bytes r k x y p i l v w =
+    → HasValues s.encoding s.kind d (drop r.parts.values bytes) [] r.values → left_of r ≡ s.triplets → refused_of r ≡ None → IsReading s d bytes [] r
+begun s d bytes r k x y p i l v w go =
     let st : Stands s d bytes [] r = record {
       rs = [];
       ds = [];
@@ -190,6 +191,7 @@ begun s d bytes r k x y p i l v w =
     record {
       front = front_there s d bytes [] r st;
       left = omega (arith, w);
+      going = go;
       stands = st;
     }
 

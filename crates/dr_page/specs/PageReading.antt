@@ -1,5 +1,5 @@
 -- A page that is read a piece at a time: where its reader stands, and what its calls promise.
-use Rattle.std.specs.Prelude.{◌≡◌, ℕ, ◌+◌, List, ◌++◌, length, drop, Some, None, Result, Ok, Err, ⊤}
+use Rattle.std.specs.Prelude.{◌≡◌, ℕ, ◌+◌, List, ◌++◌, length, drop, Option, Some, None, Result, Ok, Err, ⊤}
 use Rattle.dr_meaning.specs.Record.{Value}
 use Rattle.dr_meaning.specs.Column.{Triplet}
 use Rattle.dr_nested.specs.Views.{kind_view}
@@ -19,6 +19,10 @@ front_of n s = record s { triplets = n }
 -- how many triplets of its page are left
 abbrev pub left_of : PageReader → ℕ
 left_of r = r.left
+
+-- why its page is refused, where it is
+abbrev pub refused_of : PageReader → Option PageFault
+refused_of r = r.refused
 
 -- the form of columns that take its page's triplets
 abbrev pub reader_form : PageReader → LeafForm
@@ -40,10 +44,11 @@ pub record Stands (s : PageShape) (d : List Value) (bytes : List ℕ) (given : L
   pub present : length vs ≡ count_equal s.max_definition ds
   pub triplets : given ≡ join_triplets s.max_definition rs ds vs
 
--- a reader of a page's body that gave these triplets
+-- a reader of a page's body that gave these triplets, and refused none
 pub record IsReading (s : PageShape) (d : List Value) (bytes : List ℕ) (given : List Triplet) (r : PageReader) : Type 0 where
   pub front : page_triplets (front_of (length given) s) d bytes ≡ Some given
   pub left : length given + left_of r ≡ s.triplets
+  pub going : refused_of r ≡ None
   pub stands : Stands s d bytes given r
 
 -- so many triplets joined the end

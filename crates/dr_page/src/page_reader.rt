@@ -17,6 +17,8 @@ pub struct PageReader {
     pub(crate) kind: Kind,
     /// How many triplets were not given.
     pub(crate) left: u64,
+    /// Why the page is refused from now on, where it is.
+    pub(crate) refused: Option<PageFault>,
     pub(crate) parts: BodyParts,
     pub(crate) levels: LevelPairs,
     pub(crate) values: ValueCursor,
@@ -26,14 +28,15 @@ pub struct PageReader {
 const NO_PART: Part = Part { start: 0, end: 0 };
 
 impl PageReader {
-    ghost use Rattle.std.specs.Prelude.{◌≡◌, ◌+◌, [], List, min, true, IfOk, IfErr, OnOk, OnErr};
+    ghost use Rattle.std.specs.Prelude.{◌≡◌, ◌+◌, [], List, min, true, Some, Err, IfOk, IfErr, OnOk, OnErr};
+    ghost use Rattle.dr_page.specs.declared.fault.PageFault.{PageFault};
     ghost use Rattle.dr_meaning.specs.Record.{Value};
     ghost use Rattle.dr_meaning.specs.Column as meant;
     ghost use Rattle.dr_formats.specs.Page.{PageShape, page_triplets};
     ghost use Rattle.dr_levels.specs.Views.{column_view, column_form};
     ghost use Rattle.dr_page.specs.Views.{shape_view, shape_form, dictionary_view, is_dictionary_of};
     ghost use Rattle.dr_page.specs.Reads.{WhereNone};
-    ghost use Rattle.dr_page.specs.PageReading.{front_of, left_of, reader_form, IsReading, Lengthens, Gives};
+    ghost use Rattle.dr_page.specs.PageReading.{front_of, left_of, reader_form, refused_of, IsReading, Lengthens, Gives};
 
     /// A reader without a page. Takes no memory.
     pub fn new(alloc: Global) -> PageReader
@@ -42,6 +45,7 @@ impl PageReader {
         PageReader {
             kind: Kind::Bool,
             left: 0,
+            refused: None,
             parts: BodyParts {
                 repetitions: NO_PART,
                 definitions: NO_PART,
@@ -73,6 +77,7 @@ impl PageReader {
         ensures none { OnErr result (left_of self.new ≡ 0) }
     {
         self.left = 0;
+        self.refused = None;
         let Some(encoding) = encoding_for(shape.kind, shape.encoding) else {
             return Err(PageFault::BadData);
         };
@@ -90,8 +95,43 @@ impl PageReader {
     /// where none are wanted, or left. The bytes are those that it began, the dictionary is the chunk's.
     ///
     /// Errors: the bytes spell no triplets of the shape, not even as many as were given, with these; want of memory, or
-    /// of room for texts. The column is then as it was.
+    /// of room for texts. The column is then as it was. A refusal is repeated until another page begins.
     pub fn next(
+        &mut self,
+        dictionary: &Dictionary,
+        bytes: &[u8],
+        most: usize,
+        out: &mut Column,
+    ) -> Result<usize, PageFault>
+        requires form { column_form out.old ≡ reader_form self.old }
+        requires dictionary { is_dictionary_of (reader_form self.old).kind dictionary.now ≡ true }
+        ensures gives { (s : PageShape) → (given : List meant.Triplet)
+            → IsReading s (dictionary_view dictionary.now) bytes.now given self.old
+            → Gives s (dictionary_view dictionary.now) bytes.now given (min most (left_of self.old))
+            (column_view out.old) (column_view out.new) self.new result }
+        ensures count { IfOk result (λ n. n ≡ min most (left_of self.old)) }
+        ensures left { IfOk result (λ n. n + left_of self.new ≡ left_of self.old) }
+        ensures longer { IfOk result (λ n. Lengthens (column_view out.old) (column_view out.new) n) }
+        ensures stays { OnErr result (column_view out.new ≡ column_view out.old) }
+        ensures again { (fault : PageFault) → refused_of self.old ≡ Some fault → result ≡ Err fault }
+        ensures refused { (fault : PageFault) → result ≡ Err fault → refused_of self.new ≡ Some fault }
+        ensures form { column_form out.new ≡ column_form out.old }
+        ensures reader { reader_form self.new ≡ reader_form self.old }
+    {
+        if let Some(fault) = self.refused {
+            return Err(fault);
+        }
+        match self.give(dictionary, bytes, most, out) {
+            Ok(count) => Ok(count),
+            Err(fault) => {
+                self.refused = Some(fault);
+                Err(fault)
+            }
+        }
+    }
+
+    /// The same of a page that isn't refused, where a refusal isn't noted.
+    fn give(
         &mut self,
         dictionary: &Dictionary,
         bytes: &[u8],

@@ -1,4 +1,4 @@
-use Rattle.std.proofs.Common.{◌≡◌, ◌∙◌, ℤ, List, ℕ, [], refl, sym, ap, subst, rules, to_z, of_z}
+use Rattle.std.proofs.Common.{◌≡◌, ◌∙◌, ℤ, List, ℕ, [], None, refl, sym, ap, subst, rules, to_z, of_z}
 use mir.Syntax.{w64}
 use Rattle.std.proofs.lemmas.List.{take_rest}
 use Rattle.std.proofs.lemmas.Result.{err_from_is_err_and}
@@ -37,6 +37,6 @@ returns-clause-begun c =
     let bs = c.args.bytes.now in
     let parts = c.in_ok-parts.parts in
     let same : to_z w64 (of_z w64 s.encoding) ≡ s.encoding = search rules in
-    λ d. begun (shape_view s) d bs (record { kind = s.kind; left = s.triplets; parts = parts; levels = c.begin.new.self; values = c.begin-2.new.self }) refl c.begin.ensures.repetition c.begin.ensures.definition
+    λ d. begun (shape_view s) d bs (record { kind = s.kind; left = s.triplets; parts = parts; levels = c.begin.new.self; values = c.begin-2.new.self; refused = None }) refl c.begin.ensures.repetition c.begin.ensures.definition
     c.in_ok-parts.ensures.found c.in_ok-parts.ensures.inside (c.begin.ensures.begun bs parts)
-    (subst (λ (xs : List ℕ). HasValues s.encoding (kind_view s.kind) d xs [] c.begin-2.new.self) (take_rest bs parts.values) (c.begin-2.ensures s.encoding (kind_view s.kind) d (ap encoding_of (sym same) ∙ c.in-Some.ensures.some.0, c.in-Some.ensures.some.1))) refl
+    (subst (λ (xs : List ℕ). HasValues s.encoding (kind_view s.kind) d xs [] c.begin-2.new.self) (take_rest bs parts.values) (c.begin-2.ensures s.encoding (kind_view s.kind) d (ap encoding_of (sym same) ∙ c.in-Some.ensures.some.0, c.in-Some.ensures.some.1))) refl refl

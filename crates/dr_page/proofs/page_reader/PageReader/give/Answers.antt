@@ -16,7 +16,7 @@ use Rattle.dr_page.specs.LevelPieces.{piece_of, WhereNotBoth}
 use Rattle.dr_page.specs.ValuePieces.{HasValues, ExtendsBy}
 use Rattle.dr_page.proofs.BodyLemmas.{pairs_present}
 use Rattle.dr_page.proofs.PageSteps.{no_more_levels, no_more_values, gives_more, behind_levels}
-use Rattle.dr_page.proofs.page_reader.PageReader.next.Goals as goal
+use Rattle.dr_page.proofs.page_reader.PageReader.give.Goals as goal
 
 pub returns-in_err-next-clause-gives : goal.returns-in_err-next-clause-gives
 returns-in_err-next-clause-gives c =
@@ -26,7 +26,7 @@ returns-in_err-next-clause-gives c =
     let e = c.in_err-next.field-0.0 in
     let count : c.min-count.result ≡ n = omega arith in
     let few : n ≤ r.left = omega arith in
-    let new : PageReader = record { kind = r.kind; left = r.left; parts = r.parts; levels = c.next.new.self; values = r.values } in
+    let new : PageReader = record { kind = r.kind; left = r.left; parts = r.parts; levels = c.next.new.self; values = r.values; refused = r.refused } in
     let p = err_from_is_err_and c.from_residual.result c.from_residual.ensures.1 in
     λ s given h.
     let st = h.stands in
@@ -55,7 +55,7 @@ returns-in_err-extend-clause-gives c =
     let count : c.min-count.result ≡ n = omega arith in
     let few : n ≤ r.left = omega arith in
     let many : length fs ≡ n = sym (ap length c.in_ok-next.ensures.pairs.1) ∙ (length-map c.next.new.self.pairs.items (λ (l : Levels). l.definition) ∙ (c.in_ok-next.ensures.count ∙ count)) in
-    let new : PageReader = record { kind = r.kind; left = r.left; parts = r.parts; levels = c.next.new.self; values = c.extend.new.self } in
+    let new : PageReader = record { kind = r.kind; left = r.left; parts = r.parts; levels = c.next.new.self; values = c.extend.new.self; refused = r.refused } in
     let p = err_from_is_err_and c.from_residual-in_err-extend.result c.from_residual-in_err-extend.ensures.1 in
     λ s given h.
     let st = h.stands in
@@ -80,7 +80,7 @@ returns-clause-gives c =
     let after = column_view c.extend.new.out in
     let count : c.min-count.result ≡ n = omega arith in
     let same = subst (λ (ls : List Levels). PairsOf es fs ls) (sym c.deref.ensures.value) c.in_ok-next.ensures.pairs in
-    let new : PageReader = record { kind = r.kind; left = r.left - c.min-count.result; parts = r.parts; levels = c.next.new.self; values = c.extend.new.self } in
+    let new : PageReader = record { kind = r.kind; left = r.left - c.min-count.result; parts = r.parts; levels = c.next.new.self; values = c.extend.new.self; refused = r.refused } in
     λ s given h.
     let st = h.stands in
     let rest = behind_levels c.min.result r.parts.values bs c.min.ensures st.inside.2 in
@@ -90,4 +90,4 @@ returns-clause-gives c =
     let x = asked st.values in
     gives_more s d bs given n g r new before after es fs pairs x.0 h refl refl c.in_ok-next.ensures.repetition c.in_ok-next.ensures.definition (c.in_ok-next.ensures.next st.rs st.ds st.inside st.levels) same
     (ap length c.deref.ensures.value ∙ (c.in_ok-next.ensures.count ∙ count)) (x.1 ∙ (c.count_values-values.ensures ∙ ap (λ q. count_equal q fs) (c.in_ok-next.ensures.definition ∙ st.definition))) x.3
-    (ap (λ (f : LeafForm). f.greatest) c.requires.form ∙ st.definition) x.2 (omega (arith, count))
+    (ap (λ (f : LeafForm). f.greatest) c.requires.form ∙ st.definition) x.2 (omega (arith, count)) h.going
