@@ -7,7 +7,7 @@ use dr_bound_parts::{BindFault, BindProblem};
 use dr_sql::{QueryFault as TextFault, QueryProblem as TextProblem};
 
 /// What is wrong with a query.
-#[derive(Clone, Copy, PartialEq, Eq, Debug)]
+#[derive(Clone, Copy, PartialEq, Eq)]
 pub enum QueryProblem {
     /// Its text spells none.
     Text(TextProblem),
@@ -40,7 +40,7 @@ impl QueryProblem {
 
 /// Why a text gives no plan: the first fault of the text, or else the first of binding it to the schema, with its byte
 /// place; or want of memory.
-#[derive(Clone, Copy, PartialEq, Eq, Debug)]
+#[derive(Clone, Copy, PartialEq, Eq)]
 pub enum QueryFault {
     NoMemory,
     Refused { place: usize, problem: QueryProblem },

@@ -9,7 +9,7 @@ use dr_memory::NoMemory;
 use std::alloc::{AllocError, AllocFailed};
 
 /// What is wrong with a query, in the order in which problems at one place are told.
-#[derive(Clone, Copy, PartialEq, Eq, Debug)]
+#[derive(Clone, Copy, PartialEq, Eq)]
 pub enum BindProblem {
     /// The table's name isn't the message's.
     UnknownTable,
@@ -48,7 +48,7 @@ impl BindProblem {
 }
 
 /// Why a query has no plan: its first problem, with its byte place, or want of memory.
-#[derive(Clone, Copy, PartialEq, Eq, Debug)]
+#[derive(Clone, Copy, PartialEq, Eq)]
 pub enum BindFault {
     NoMemory,
     Refused(Fault),
@@ -79,7 +79,7 @@ impl<T: Drop> From<AllocFailed<T>> for BindFault {
 }
 
 /// A problem at a byte place.
-#[derive(Clone, Copy, PartialEq, Eq, Debug)]
+#[derive(Clone, Copy, PartialEq, Eq)]
 pub struct Fault {
     pub place: usize,
     pub problem: BindProblem,
@@ -96,7 +96,7 @@ impl Fault {
 }
 
 /// The first of the faults so far, if there is one.
-#[derive(Clone, Copy, Debug)]
+#[derive(Clone, Copy)]
 pub struct FirstFault {
     pub fault: Option<Fault>,
 }

@@ -10,7 +10,7 @@ use crate::fault::{Short, VarintFault};
 use crate::reading::front_varint;
 
 /// Bytes with a place in them, from which they are read on. A call that is refused leaves the place.
-#[derive(Clone, Copy, Debug)]
+#[derive(Clone, Copy)]
 pub struct Cut<'a> {
     bytes: &'a [u8],
     place: usize,

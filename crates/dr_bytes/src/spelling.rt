@@ -7,7 +7,7 @@ ghost use Rattle.dr_formats.specs.Varint.{varint_bytes};
 pub const LONGEST_VARINT: usize = 10;
 
 /// The shortest spelling of a number (unsigned LEB128).
-#[derive(Clone, Copy, Debug)]
+#[derive(Clone, Copy)]
 pub struct Varint {
     bytes: [u8; LONGEST_VARINT],
     length: usize,

@@ -7,7 +7,7 @@ ghost use Rattle.dr_cells.specs.Views.{lent_cell};
 use dr_levels::TextPlace;
 
 /// A cell: NULL, a value, or how many objects a list has. A text is held by its place.
-#[derive(Clone, Copy, PartialEq, Eq, Debug)]
+#[derive(Clone, Copy, PartialEq, Eq)]
 pub enum Cell {
     Null,
     Bool(bool),
@@ -17,7 +17,7 @@ pub enum Cell {
 }
 
 /// A cell, lent.
-#[derive(Clone, Copy, PartialEq, Eq, Debug)]
+#[derive(Clone, Copy, PartialEq, Eq)]
 pub enum CellRef<'a> {
     Null,
     Bool(bool),

@@ -11,7 +11,7 @@ use dr_memory::NoMemory;
 use std::alloc::Global;
 
 /// Cells of a result, in order. All texts lie in one buffer.
-#[derive(Debug, Drop)]
+#[derive(Drop)]
 pub struct Cells {
     pub(crate) cells: Vec<Cell>,
     pub(crate) bytes: Vec<u8>,

@@ -10,7 +10,7 @@ use dr_memory::NoMemory;
 use std::alloc::Global;
 
 /// The objects of a result: their shape, their cells, and how many they are.
-#[derive(Debug, Drop)]
+#[derive(Drop)]
 pub struct RowsOut {
     pub shape: Shape,
     pub cells: Cells,

@@ -2,7 +2,7 @@
 
 /// An object: the names of its values, and then its lists.
 #[cycle(shape)]
-#[derive(Debug, Drop)]
+#[derive(Drop)]
 pub struct Shape {
     pub names: Vec<String>,
     pub lists: Vec<ListShape>,
@@ -10,7 +10,7 @@ pub struct Shape {
 
 /// A list in an object: its name, and the shape of its objects.
 #[cycle(shape)]
-#[derive(Debug, Drop)]
+#[derive(Drop)]
 pub struct ListShape {
     pub name: String,
     pub shape: Shape,

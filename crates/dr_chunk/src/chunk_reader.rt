@@ -20,7 +20,7 @@ use std::alloc::Global;
 
 /// Reads the triplets of column chunks a piece at a time, page by page, with buffers that are used again page after
 /// page. Beside the values of the chunk's dictionary it holds the body of one page, and what is read ahead behind it.
-#[derive(Debug, Drop)]
+#[derive(Drop)]
 pub struct ChunkReader {
     stretch: Stretch,
     taker: PageTaker,

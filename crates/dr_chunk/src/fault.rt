@@ -9,7 +9,7 @@ use dr_page::PageFault;
 use std::alloc::AllocError;
 
 /// Why a chunk gives no triplets.
-#[derive(Clone, Copy, PartialEq, Eq, Debug)]
+#[derive(Clone, Copy, PartialEq, Eq)]
 pub enum ChunkFault {
     NoMemory,
     /// The link failed.

@@ -22,7 +22,7 @@ use std::alloc::Global;
 const HEADER_AHEAD: u64 = 4_096;
 
 /// Why bytes begin with no page header.
-#[derive(Clone, Copy, PartialEq, Eq, Debug)]
+#[derive(Clone, Copy, PartialEq, Eq)]
 pub(crate) enum HeaderFault {
     NoMemory,
     /// They begin with no struct; more bytes may spell one.

@@ -5,7 +5,7 @@ ghost use Rattle.std.specs.Prelude.{◌≤◌};
 use dr_nested::Kind;
 
 /// The kind of a leaf, and its greatest levels, at most 32 each.
-#[derive(Clone, Copy, Debug)]
+#[derive(Clone, Copy)]
 pub struct LeafShape {
     pub kind: Kind,
     pub max_repetition: u8,

@@ -30,7 +30,7 @@ const PLAIN_DICTIONARY: i64 = 2;
 
 /// What is known between the pages of a chunk: how many of its triplets are wanted of pages that are still to come,
 /// whether a page came before, and the dictionary, with the size of its page's body.
-#[derive(Debug, Drop)]
+#[derive(Drop)]
 pub(crate) struct PageTaker {
     leaf: LeafShape,
     wanted: u64,

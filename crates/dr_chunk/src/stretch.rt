@@ -11,7 +11,7 @@ use std::alloc::Global;
 
 /// The bytes of a range of a file, in order. Those read ahead, from `from` on in the buffer, are still to be taken;
 /// those from `at` on are still to be read.
-#[derive(Debug, Drop)]
+#[derive(Drop)]
 pub(crate) struct Stretch {
     range: ByteRange,
     at: u64,

@@ -51,7 +51,7 @@ pub const USAGE: &str =
     "usage: dremel load|query|ask|dump|stripe|fsm|schema|explain|gen|trial ..\n";
 
 /// What a command line asks for.
-#[derive(PartialEq, Eq, Debug, Drop)]
+#[derive(PartialEq, Eq, Drop)]
 pub enum Command {
     Load(Load),
     Query(Query),

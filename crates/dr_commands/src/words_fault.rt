@@ -8,7 +8,7 @@ use clap::error::ErrorKind;
 use std::alloc::AllocError;
 
 /// Why words ask for nothing: clap refuses them, as it refuses words that ask for help; or want of memory.
-#[derive(Clone, Copy, PartialEq, Eq, Debug)]
+#[derive(Clone, Copy, PartialEq, Eq)]
 pub enum WordsFault {
     Usage,
     NoMemory,

@@ -7,7 +7,7 @@ use dr_bytes::{Short, VarintFault};
 use std::alloc::{AllocError, AllocFailed};
 
 /// Why bytes begin with no struct: the fault at the lowest place.
-#[derive(Clone, Copy, PartialEq, Eq, Debug)]
+#[derive(Clone, Copy, PartialEq, Eq)]
 pub enum CompactFault {
     NoMemory,
     /// No front of the bytes spells a struct.

@@ -5,7 +5,7 @@ ghost use Rattle.dr_formats.specs.Compact.{type_of, type_number};
 ghost use Rattle.dr_compact.specs.Types.{type_view};
 
 /// The type of a value.
-#[derive(Clone, Copy, PartialEq, Eq, Debug)]
+#[derive(Clone, Copy, PartialEq, Eq)]
 pub(crate) enum ThriftType {
     True = 1,
     False = 2,

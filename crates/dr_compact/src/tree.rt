@@ -60,7 +60,7 @@ pub struct Map<'a> {
 }
 
 /// Which of the two types that mean a truth value a list, a set or a map names.
-#[derive(Clone, Copy, PartialEq, Eq, Debug)]
+#[derive(Clone, Copy, PartialEq, Eq)]
 pub enum TruthType {
     /// Type 1.
     True,

@@ -7,7 +7,7 @@ ghost use Rattle.dr_condition.specs.Watching.{innermost_dropped};
 use dr_levels::{Branch, Kept, Move};
 
 /// What is known with a move.
-#[derive(Clone, Copy, PartialEq, Eq, Debug)]
+#[derive(Clone, Copy, PartialEq, Eq)]
 pub struct Told {
     /// Whether each open branch is known to be kept.
     pub is_kept: bool,

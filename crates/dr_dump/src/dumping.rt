@@ -22,7 +22,7 @@ use dr_tablets::{LeftTablet, Tablet, read_tablet};
 use std::alloc::Global;
 
 /// What is read of a table: the lines of its records, or the tablets that are left.
-#[derive(PartialEq, Eq, Debug, Drop)]
+#[derive(PartialEq, Eq, Drop)]
 pub enum Dumped {
     /// The lines of all records, each ended by LF.
     Lines(String),

@@ -5,7 +5,7 @@ ghost use Rattle.std.specs.Prelude.{◌<◌, ◌^◌};
 use dr_chunk::ByteRange;
 
 /// The chunk of a leaf in a row group, as the footer tells it.
-#[derive(Clone, Copy, Debug)]
+#[derive(Clone, Copy)]
 pub(crate) struct ChunkPlace {
     /// How many rows its row group has.
     pub(crate) rows: u64,

@@ -11,7 +11,7 @@ use dr_meta::MetaFault;
 use std::alloc::{AllocError, AllocFailed};
 
 /// Why a file isn't opened: the first of these that holds.
-#[derive(Clone, Copy, PartialEq, Eq, Debug)]
+#[derive(Clone, Copy, PartialEq, Eq)]
 pub(crate) enum OpenFault {
     NoMemory,
     /// The link failed.

@@ -7,7 +7,7 @@ use dr_memory::NoMemory;
 use dr_outside::Cause;
 
 /// Why a file gives nothing.
-#[derive(Clone, Copy, PartialEq, Eq, Debug)]
+#[derive(Clone, Copy, PartialEq, Eq)]
 pub enum FileFault {
     NoMemory,
     /// The link failed, or the file is none of any records for the leaves: the first cause that holds.

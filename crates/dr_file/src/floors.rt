@@ -9,7 +9,7 @@ use std::alloc::Global;
 
 /// For each repeated field on a leaf's path, outermost first, the definition level that its instances have at least;
 /// and the leaf's greatest definition level.
-#[derive(Debug, Drop)]
+#[derive(Drop)]
 pub(crate) struct Floors {
     levels: Vec<u8>,
     greatest: u8,

@@ -14,7 +14,7 @@ use dr_outside::Link;
 use std::alloc::Global;
 
 /// The bytes of a file's footer.
-#[derive(Debug, Drop)]
+#[derive(Drop)]
 pub(crate) struct FooterBytes {
     /// The byte offset of the first.
     pub(crate) place: u64,

@@ -22,7 +22,7 @@ const MAGIC: &[u8; 4] = b"PAR1";
 const SHORTEST_FILE: u64 = 12;
 
 /// Why no footer was read.
-#[derive(Clone, Copy, PartialEq, Eq, Debug)]
+#[derive(Clone, Copy, PartialEq, Eq)]
 pub(crate) enum FooterFault {
     NoMemory,
     /// The link failed.
@@ -51,7 +51,7 @@ impl From<Fault> for FooterFault {
 }
 
 /// Where the bytes of a footer lie in a file.
-#[derive(Clone, Copy, Debug)]
+#[derive(Clone, Copy)]
 pub(crate) struct Frame {
     /// The byte offset of the first.
     pub(crate) place: u64,

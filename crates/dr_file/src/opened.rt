@@ -5,7 +5,7 @@ ghost use Rattle.std.specs.Prelude.{◌≤◌};
 use crate::opened_field::OpenedField;
 
 /// A file that was opened for some leaves of a schema: what its footer says of them.
-#[derive(Debug, Drop)]
+#[derive(Drop)]
 pub struct Opened {
     pub(crate) path: String,
     /// The byte offset of its footer.

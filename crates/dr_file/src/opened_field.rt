@@ -8,7 +8,7 @@ use dr_levels::Levels;
 use dr_nested::Kind;
 
 /// How the column of a leaf is told by that of the leaf that is read for it.
-#[derive(Clone, Copy, Debug)]
+#[derive(Clone, Copy)]
 pub(crate) enum Telling {
     /// It is that column itself.
     Itself,
@@ -19,7 +19,7 @@ pub(crate) enum Telling {
 }
 
 /// A leaf that a file was opened for.
-#[derive(Debug, Drop)]
+#[derive(Drop)]
 pub(crate) struct OpenedField {
     pub(crate) kind: Kind,
     /// Its greatest definition level.

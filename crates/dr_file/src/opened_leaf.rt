@@ -10,7 +10,7 @@ use dr_nested::{Kind, Step};
 
 /// A leaf of an opened file: its path, its kind, and its chunks, one of each row group, which have not too many
 /// triplets together.
-#[derive(Debug, Drop)]
+#[derive(Drop)]
 pub(crate) struct OpenedLeaf {
     pub(crate) steps: Vec<Step>,
     pub(crate) kind: Kind,

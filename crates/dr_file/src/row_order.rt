@@ -10,7 +10,7 @@ use crate::floors::Floors;
 use dr_levels::Levels;
 
 /// How far the triplets of some rows have come.
-#[derive(Clone, Copy, Debug)]
+#[derive(Clone, Copy)]
 pub(crate) struct RowOrder {
     /// The definition level of the triplet before.
     pub(crate) last: Option<u8>,

@@ -9,7 +9,7 @@ mod building;
 
 /// The order in which an automaton has its leaves: that of the schema, depth first, or the reading order, level by
 /// level.
-#[derive(Clone, Copy, PartialEq, Eq, Debug)]
+#[derive(Clone, Copy, PartialEq, Eq)]
 pub enum Order {
     BySchema,
     Reading,
@@ -17,7 +17,7 @@ pub enum Order {
 
 /// An automaton over some leaves in an order: where each level leads from each leaf. Its leaves are known by their
 /// places in that order.
-#[derive(Debug, Drop)]
+#[derive(Drop)]
 pub struct Automaton {
     order: Vec<usize>,
     rows: Vec<Vec<State>>,

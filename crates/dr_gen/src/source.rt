@@ -4,7 +4,7 @@ ghost use Rattle.std.specs.Prelude.{◌≤◌, ◌^◌, ◌+◌, length, vec_cap
 
 /// The lines of made records, one after another: a source that tells its bytes and never fails. After it is made it
 /// takes no memory.
-#[derive(Debug, Drop)]
+#[derive(Drop)]
 pub struct GenSource {
     // The number of the next record, and how many are still to be made.
     pub(crate) next: u64,

@@ -70,7 +70,7 @@ put_items r items ks p gs after e s = subst (λ (x : List meant.Group). Becomes 
 
 -- ---- where one is made
 
-grown : (gs hs : List Group) (g : Group) (v : meant.Group) → hs ≡ gs ++ g ∷ [] → group_view g ≡ v → map group_view hs ≡ map group_view gs ++ v ∷ []
+pub grown : (gs hs : List Group) (g : Group) (v : meant.Group) → hs ≡ gs ++ g ∷ [] → group_view g ≡ v → map group_view hs ≡ map group_view gs ++ v ∷ []
 grown gs hs g v e f = ap (map group_view) e ∙ map-append group_view gs (g ∷ []) ∙ ap (λ (w : meant.Group). map group_view gs ++ w ∷ []) f
 
 pub grown_distinct : (gs hs : List Group) (g : Group) (v : meant.Group) → hs ≡ gs ++ g ∷ [] → group_view g ≡ v → AreDistinct (map group_view gs) → times v.keys (map group_view gs) ≡ 0 → AreDistinct (map group_view hs)

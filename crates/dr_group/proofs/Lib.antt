@@ -34,3 +34,7 @@ pub mod MovingLemmas
 pub mod TurnLemmas
 -- groups numbered from 0 on
 pub mod NumberedLemmas
+-- values that are taken one after another
+pub mod TakenLemmas
+-- groups by their numbers
+pub mod NumberLemmas

@@ -1,5 +1,6 @@
 -- Groups that are held, and their places in the order of key tuples.
 use Rattle.std.specs.Prelude.{ℕ, List, [], map, get_or, slice_set, Option, option_map}
+use Rattle.dr_meaning.specs.Record.{Value}
 use Rattle.dr_partials.specs.Partials as meant
 use Rattle.dr_partials.specs.Accumulators as accumulators
 use Rattle.dr_partials.specs.Putting as putting
@@ -42,6 +43,10 @@ taken_view t = record { aggregate = t.aggregate; value = lent_cell t.value }
 -- what is put
 abbrev pub put_view : List (Option ValueRef) → Option Taken → putting.Put
 put_view key taken = record { keys = map lent_cell key; taken = option_map taken_view taken }
+
+-- a value that is put with a key tuple
+abbrev pub put_of : List (Option Value) → Option putting.Taken → putting.Put
+put_of tuple taken = record { keys = tuple; taken = taken }
 
 -- ---- what is put into a group
 

@@ -25,3 +25,5 @@ pub mod RowPartials
 pub mod Turns
 -- merging
 pub mod Merging
+-- values that are taken one after another
+pub mod TakenValues

@@ -1,5 +1,6 @@
 -- What a map of groups stands for.
 use Rattle.std.specs.Prelude.{List, [], map, Option}
+use Rattle.dr_meaning.specs.Record.{Value}
 use Rattle.dr_meaning.specs.Query.{Aggregate}
 use Rattle.dr_partials.specs.Partials as meant
 use Rattle.dr_group.specs.Gathering.{gathering_view}
@@ -17,3 +18,10 @@ groups_view m = in_order (map group_view m.groups.items)
 -- what its aggregates gather
 abbrev pub gatherings_view : GroupMap → List (Option Aggregate)
 gatherings_view m = map gathering_view m.gatherings.items
+
+-- the key tuples of the groups by their numbers
+abbrev pub tuples_of : List meant.Group → List (List (Option Value))
+tuples_of gs = map (λ (g : meant.Group). g.keys) gs
+
+abbrev pub tuples_view : GroupMap → List (List (Option Value))
+tuples_view m = tuples_of (map group_view m.groups.items)

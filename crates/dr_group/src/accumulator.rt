@@ -18,7 +18,7 @@ use std::alloc::Global;
 
 /// What an aggregate has gathered: how many, the exact sum, the least or the greatest value; the last three have none
 /// where there was no value.
-#[derive(Debug, Drop)]
+#[derive(Drop)]
 pub enum Accumulator {
     Count(u64),
     Sum(Option<i128>),
@@ -71,7 +71,7 @@ impl Accumulator {
 
     /// Takes a row, whatever is in it.
     #[inline(always)]
-    fn take_row(&mut self) -> Result<(), NoMemory>
+    pub(crate) fn take_row(&mut self) -> Result<(), NoMemory>
         ensures { Becomes (accumulator_view self.old) (accumulator_view self.new)
             (take_row (accumulator_view self.old)) result }
     {
@@ -86,7 +86,7 @@ impl Accumulator {
 
     /// Takes a value.
     #[inline(always)]
-    fn take_value(&mut self, alloc: Global, value: ValueRef<'_>) -> Result<(), NoMemory>
+    pub(crate) fn take_value(&mut self, alloc: Global, value: ValueRef<'_>) -> Result<(), NoMemory>
         ensures { Becomes (accumulator_view self.old) (accumulator_view self.new)
             (take_value (accumulator_view self.old) (Some (lent_value value.entry))) result }
     {
@@ -123,7 +123,11 @@ fn add_number(sum: &mut Option<i128>, value: ValueRef<'_>) -> Result<(), NoMemor
 
 /// Keeps a value where it is less than the one that is held.
 #[inline]
-fn keep_least(alloc: Global, least: &mut Option<Value>, value: ValueRef<'_>) -> Result<(), NoMemory>
+pub(crate) fn keep_least(
+    alloc: Global,
+    least: &mut Option<Value>,
+    value: ValueRef<'_>,
+) -> Result<(), NoMemory>
     ensures { Becomes (cell_view least.old) (cell_view least.new)
         (join_options smaller (cell_view least.old) (Some (lent_value value.entry))) result }
 {
@@ -135,7 +139,7 @@ fn keep_least(alloc: Global, least: &mut Option<Value>, value: ValueRef<'_>) -> 
 
 /// Keeps a value where it is greater than the one that is held.
 #[inline]
-fn keep_greatest(
+pub(crate) fn keep_greatest(
     alloc: Global,
     greatest: &mut Option<Value>,
     value: ValueRef<'_>,

@@ -3,7 +3,7 @@
 use dr_plan::Fold;
 
 /// What an aggregate of a query gathers: rows, whatever is in them, or values.
-#[derive(Clone, Copy, PartialEq, Eq, Debug)]
+#[derive(Clone, Copy, PartialEq, Eq)]
 pub enum Gathering {
     Rows,
     Values(Fold),

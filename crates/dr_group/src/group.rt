@@ -14,14 +14,14 @@ use dr_nested::Value;
 use std::alloc::Global;
 
 /// A group: its key tuple, and what each aggregate has gathered.
-#[derive(Debug, Drop)]
+#[derive(Drop)]
 pub struct Group {
     pub keys: Vec<Option<Value>>,
     pub accumulators: Vec<Accumulator>,
 }
 
 /// A value, or NULL, for one of the aggregates, by its number.
-#[derive(Clone, Copy, PartialEq, Eq, Debug)]
+#[derive(Clone, Copy, PartialEq, Eq)]
 pub struct Taken<'a> {
     pub aggregate: u32,
     pub value: Option<ValueRef<'a>>,

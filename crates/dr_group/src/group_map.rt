@@ -11,7 +11,7 @@ use crate::index::Index;
 
 /// The groups, each key tuple once, in the order in which they came. Their key tuples are put in order where that is
 /// needed: where groups are merged or finished.
-#[derive(Debug, Drop)]
+#[derive(Drop)]
 pub struct GroupMap {
     pub(crate) gatherings: Vec<Gathering>,
     pub(crate) groups: Vec<Group>,

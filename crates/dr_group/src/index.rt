@@ -8,7 +8,7 @@ use dr_memory::NoMemory;
 use std::alloc::Global;
 
 /// The hash of a number, and the next number of its bucket.
-#[derive(Clone, Copy, PartialEq, Eq, Debug)]
+#[derive(Clone, Copy, PartialEq, Eq)]
 pub struct Link {
     pub hash: u64,
     pub next: u32,
@@ -16,7 +16,7 @@ pub struct Link {
 
 /// The numbers from 0 on, each with a hash. The numbers of a bucket of hashes are a chain, the last one first: a head,
 /// and the next of a number, is one more than a number, or 0 at the end.
-#[derive(Debug, Drop)]
+#[derive(Drop)]
 pub struct Index {
     pub(crate) heads: Vec<u32>,
     pub(crate) links: Vec<Link>,

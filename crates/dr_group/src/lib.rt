@@ -18,6 +18,7 @@ mod ordering;
 mod orders;
 mod partial;
 mod putting;
+mod taking;
 mod turn;
 
 pub use accumulator::Accumulator;

@@ -27,7 +27,7 @@ use dr_plan::{GroupItem, Plan, Selection};
 use std::alloc::Global;
 
 /// What a query gives on some of the records: the lines of a record query, or the groups of an aggregate query.
-#[derive(Debug, Drop)]
+#[derive(Drop)]
 pub enum Partial {
     Lines(RowsOut),
     Groups(GroupMap),

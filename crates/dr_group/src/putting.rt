@@ -1,15 +1,17 @@
 //! Putting rows into groups.
 
-ghost use Rattle.std.specs.Prelude.{◌≡◌, ◌<◌, List, map, length, option_map, None};
+ghost use Rattle.std.specs.Prelude.{◌≡◌, ◌<◌, List, map, length, option_map, ◌++◌, ◌∷◌, [], ℕ, IfOk, Option, Some, None};
+ghost use Rattle.std.specs.List.{slice_get};
+ghost use Rattle.dr_meaning.specs.Record.{Value};
 ghost use Rattle.dr_meaning.specs.Query.{GroupItem};
 ghost use Rattle.dr_partials.specs.Putting.{put_group};
 ghost use Rattle.dr_group.specs.Views.{lent_cell};
 ghost use Rattle.dr_group.specs.Gathering.{Becomes, gatherings_of, put_by};
-ghost use Rattle.dr_group.specs.Groups.{group_view, put_view, taken_view, taken_at};
+ghost use Rattle.dr_group.specs.Groups.{group_view, put_of, put_view, taken_view, taken_at};
 ghost use Rattle.dr_group.specs.Distinct.{IsFound};
 ghost use Rattle.dr_group.specs.Finding.{IsReady};
 ghost use Rattle.dr_group.specs.Hashes.{tuple_hash};
-ghost use Rattle.dr_group.specs.Maps.{groups_view, gatherings_view};
+ghost use Rattle.dr_group.specs.Maps.{groups_view, gatherings_view, tuples_view};
 
 use crate::group::{Taken, new_group, take_into};
 use crate::group_map::GroupMap;
@@ -47,6 +49,83 @@ impl GroupMap {
         }
         self.prepare(alloc)?;
         self.put_ready(alloc, key, taken)
+    }
+
+    /// The number of the group of a key tuple, which is made where there is none. Numbers that were found stay.
+    ///
+    /// Errors: want of memory, or of room for a number of a group.
+    #[inline(always)]
+    pub fn group_of(
+        &mut self,
+        alloc: Global,
+        key: &[Option<ValueRef<'_>>],
+    ) -> Result<usize, NoMemory>
+        ensures groups { IfOk result (λ n. (items : List GroupItem) → gatherings_of items ≡ gatherings_view self.old
+            → groups_view self.new ≡ put_group items (put_of (map lent_cell key.now) None) (groups_view self.old)) }
+        ensures gatherings { gatherings_view self.new ≡ gatherings_view self.old }
+        ensures found { IfOk result (λ n. slice_get (tuples_view self.new) n ≡ Some (map lent_cell key.now)) }
+        ensures stay { IfOk result (λ n. (k : ℕ) (tuple : List (Option Value)) → slice_get (tuples_view self.old) k ≡ Some tuple
+            → slice_get (tuples_view self.new) k ≡ Some tuple) }
+    {
+        if self.is_hinted(key) {
+            let number = self.hint;
+            self.put_at(alloc, number, key, None)?;
+            return Ok(number);
+        }
+        self.prepare(alloc)?;
+        self.find_or_make(alloc, key)
+    }
+
+    /// The same, where all groups are indexed.
+    #[inline]
+    fn find_or_make(
+        &mut self,
+        alloc: Global,
+        key: &[Option<ValueRef<'_>>],
+    ) -> Result<usize, NoMemory>
+        requires { IsReady self.old }
+        ensures groups { IfOk result (λ n. groups_view self.new
+            ≡ put_by (self.old).gatherings.items (put_of (map lent_cell key.now) None) (groups_view self.old)) }
+        ensures gatherings { (self.new).gatherings ≡ (self.old).gatherings }
+        ensures found { IfOk result (λ n. slice_get (tuples_view self.new) n ≡ Some (map lent_cell key.now)) }
+        ensures stay { IfOk result (λ n. (k : ℕ) (tuple : List (Option Value)) → slice_get (tuples_view self.old) k ≡ Some tuple
+            → slice_get (tuples_view self.new) k ≡ Some tuple) }
+    {
+        let hash = lent_hash(key);
+        match self.find(hash, key) {
+            Some(number) => {
+                self.hint = number;
+                self.put_at(alloc, number, key, None)?;
+                Ok(number)
+            }
+            None => {
+                let number = self.groups.len();
+                self.hint = number;
+                self.put_new(alloc, hash, key, None)?;
+                Ok(number)
+            }
+        }
+    }
+
+    /// Takes a value into the group of a number: so it is put with the group's key tuple. Numbers stay.
+    ///
+    /// Errors: want of memory, or of room for a count or a sum. Nothing has changed then.
+    #[inline(always)]
+    pub fn take_in(
+        &mut self,
+        alloc: Global,
+        number: usize,
+        taken: Option<Taken<'_>>,
+    ) -> Result<(), NoMemory>
+        requires { number < length (self.old).groups.items }
+        ensures groups { (items : List GroupItem) (tuple : List (Option Value)) → gatherings_of items ≡ gatherings_view self.old
+            → slice_get (tuples_view self.old) number ≡ Some tuple
+            → Becomes (groups_view self.old) (groups_view self.new)
+            (put_group items (put_of tuple (option_map taken_view taken.entry)) (groups_view self.old)) result }
+        ensures gatherings { gatherings_view self.new ≡ gatherings_view self.old }
+        ensures tuples { tuples_view self.new ≡ tuples_view self.old }
+    {
+        self.take_at(alloc, number, taken)
     }
 
     /// Puts a key tuple where all groups are indexed.
@@ -88,6 +167,7 @@ impl GroupMap {
         ensures groups { Becomes (groups_view self.old) (groups_view self.new)
             (put_by (self.old).gatherings.items (put_view key.now taken.entry) (groups_view self.old)) result }
         ensures gatherings { (self.new).gatherings ≡ (self.old).gatherings }
+        ensures tuples { tuples_view self.new ≡ tuples_view self.old }
     {
         self.take_at(alloc, number, taken)
     }
@@ -124,6 +204,7 @@ impl GroupMap {
         ensures groups { Becomes (groups_view self.old) (groups_view self.new)
             (put_by (self.old).gatherings.items (put_view key.now taken.entry) (groups_view self.old)) result }
         ensures gatherings { (self.new).gatherings ≡ (self.old).gatherings }
+        ensures tuples { IfOk result (λ done. tuples_view self.new ≡ tuples_view self.old ++ map lent_cell key.now ∷ []) }
     {
         let group = new_group(alloc, &self.gatherings, key, taken)?;
         self.groups.reserve(1)?;

@@ -12,7 +12,7 @@ use crate::orders::held_order;
 use std::cmp::Ordering;
 
 /// Whose group is next: that of the one side or of the other, or both, of one key tuple; or neither is left.
-#[derive(Clone, Copy, PartialEq, Eq, Debug)]
+#[derive(Clone, Copy, PartialEq, Eq)]
 pub enum Turn {
     Mine,
     Theirs,

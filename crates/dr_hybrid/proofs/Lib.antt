@@ -12,3 +12,5 @@ pub mod PackLemmas
 pub mod FittingLemmas
 -- hybrid data read a piece at a time
 pub mod ReaderLemmas
+-- how many values at the front are equal, piece by piece
+pub mod FrontLemmas

@@ -12,7 +12,7 @@ use crate::words::packed_length;
 
 /// Where the next values of hybrid data stand, a piece of which is read at each call. It doesn't hold the bytes: each
 /// call is given them, from the first on. Neither call takes memory.
-#[derive(Clone, Copy, Debug)]
+#[derive(Clone, Copy)]
 pub struct RunReader {
     width: u32,
     place: usize,

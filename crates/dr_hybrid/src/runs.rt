@@ -15,11 +15,11 @@ use dr_bytes::Cut;
 pub const GREATEST_WIDTH: u32 = 32;
 
 /// The bytes begin with no runs for the wanted values: they end before, or a run's header is no number below 2^64.
-#[derive(Clone, Copy, PartialEq, Eq, Debug)]
+#[derive(Clone, Copy, PartialEq, Eq)]
 pub struct Short;
 
 /// Values packed into bits, the lowest first: so many of a width, in as many bytes as they need.
-#[derive(Clone, Copy, Debug)]
+#[derive(Clone, Copy)]
 pub struct Packed<'a> {
     pub(crate) bytes: &'a [u8],
     pub(crate) width: u32,
@@ -29,7 +29,7 @@ pub struct Packed<'a> {
 }
 
 /// The values of a run that are wanted.
-#[derive(Clone, Copy, Debug)]
+#[derive(Clone, Copy)]
 pub enum Run<'a> {
     /// One value, so many times.
     Repeat { value: u32, count: usize },
@@ -38,7 +38,7 @@ pub enum Run<'a> {
 }
 
 /// Bytes of hybrid data of a width, read run by run.
-#[derive(Clone, Copy, Debug)]
+#[derive(Clone, Copy)]
 pub struct Runs<'a> {
     cut: Cut<'a>,
     width: u32,

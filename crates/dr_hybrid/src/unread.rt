@@ -9,7 +9,7 @@ use crate::words::number_of;
 use dr_bytes::Cut;
 
 /// What of a run is unread.
-#[derive(Clone, Copy, Debug)]
+#[derive(Clone, Copy)]
 pub(crate) enum Unread {
     /// One value, so many more times.
     Repeat { value: u32, left: u64 },

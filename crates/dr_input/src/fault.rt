@@ -7,7 +7,7 @@ use dr_json::RecordProblem;
 use dr_memory::NoMemory;
 
 /// What is wrong with an input line.
-#[derive(Clone, Copy, PartialEq, Eq, Debug)]
+#[derive(Clone, Copy, PartialEq, Eq)]
 pub enum LineProblem {
     /// It has more than 1,048,576 bytes.
     TooLong,
@@ -18,7 +18,7 @@ pub enum LineProblem {
 }
 
 /// Why an input gives no record.
-#[derive(Clone, Copy, PartialEq, Eq, Debug)]
+#[derive(Clone, Copy, PartialEq, Eq)]
 pub enum InputFault {
     NoMemory,
     /// The source failed.

@@ -25,7 +25,7 @@ use dr_nested::{Field, Kind, Rep, Shape};
 use serde_json::{Map, Value as Json};
 
 /// What a group's fields have: how large it is, and how many of them have a key.
-#[derive(Clone, Copy, Debug, PartialEq, Eq)]
+#[derive(Clone, Copy, PartialEq, Eq)]
 pub struct Given {
     pub size: Size,
     pub count: usize,

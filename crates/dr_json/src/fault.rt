@@ -7,7 +7,7 @@ use dr_nested::NoMemory as WantOfMemory;
 use std::alloc::{AllocError, AllocFailed};
 
 /// What is wrong with a line that is no record of a schema.
-#[derive(Clone, Copy, PartialEq, Eq, Debug)]
+#[derive(Clone, Copy, PartialEq, Eq)]
 pub enum RecordProblem {
     /// The line isn't UTF-8, or `serde_json` doesn't read it as a value.
     NotJson,
@@ -26,7 +26,7 @@ pub enum RecordProblem {
 }
 
 /// Why a line gives no record: its first problem, or want of memory, which says nothing of the line.
-#[derive(Clone, Copy, PartialEq, Eq, Debug)]
+#[derive(Clone, Copy, PartialEq, Eq)]
 pub enum RecordFault {
     NoMemory,
     Refused(RecordProblem),

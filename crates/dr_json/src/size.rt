@@ -9,7 +9,7 @@ use dr_nested::{Instance, Node, Slot, Value};
 
 /// How many instances of fields there are, and how many bytes their texts have together; the greatest number where
 /// there are more.
-#[derive(Clone, Copy, Debug, PartialEq, Eq)]
+#[derive(Clone, Copy, PartialEq, Eq)]
 pub struct Size {
     pub instances: u64,
     pub text_bytes: u64,

@@ -1,6 +1,6 @@
 -- Levels and values side by side: joined ends, fronts and rests.
 use Rattle.std.specs.Prelude.{◌≡◌, ◌<◌, ◌≤◌, ℕ, zero, suc, ◌+◌, ◌-◌, List, [], ◌∷◌, ◌++◌, length, map, take, drop, Bool, true, false, ◌==◌, if◌then◌else◌, Option, Some, None}
-use Rattle.std.proofs.Common.{refl, sym, ap, ap₂, ◌∙◌, arith, length-append, add-one}
+use Rattle.std.proofs.Common.{refl, sym, ap, ap₂, ◌∙◌, arith, append-nil, length-append, add-one}
 use Rattle.std.proofs.lemmas.List.{take-append-drop, length-take-le, take-map, drop-map}
 use Rattle.dr_meaning.specs.Record.{Value}
 use Rattle.dr_meaning.specs.Column.{Triplet, triplet}
@@ -192,6 +192,17 @@ pub joined_after : (x : Result (Unit {0}) NoMemory) (g r d n : ℕ) (ls now : Li
 joined_after (Ok done) g r d n ls now vs h a e =
     ap (λ ms. joined g ms vs) a ∙ joined-append g ls (replicate n (levels_of r d)) vs ∙ ap (λ ts. joined g ls vs ++ ts) (nulls_joined g r d n (drop (present g ls) vs) h)
 joined_after (Err f) g r d n ls now vs h a e = ap (λ ms. joined g ms vs) a
+
+-- levels without a value join others
+pub dense_joined : (x : Result (Unit {0}) NoMemory) (g : ℕ) (ls now ms : List Levels) (vs : List Value) → present g ms ≡ 0 → Adds ls now ms x → present g ls ≡ length vs → present g now ≡ length vs
+dense_joined (Ok done) g ls now ms vs n e d = ap (present g) e ∙ still_dense g ls ms vs [] d n ∙ ap length (append-nil vs)
+dense_joined (Err w) g ls now ms vs n e d = ap (present g) e ∙ d
+
+pub nulls_join : (x : Result (Unit {0}) NoMemory) (g : ℕ) (ls now ms : List Levels) (vs : List Value) → present g ms ≡ 0 → Adds ls now ms x → present g ls ≡ length vs
+    → Adds (joined g ls vs) (joined g now vs) (joined g ms []) x
+nulls_join (Ok done) g ls now ms vs n e d =
+    ap₂ (joined g) e (sym (append-nil vs)) ∙ joined-extended g ls ms vs [] d
+nulls_join (Err w) g ls now ms vs n e d = ap (λ (k : List Levels). joined g k vs) e
 
 pub truncated_count : (g n : ℕ) (ls : List Levels) (vs : List Value) → present g ls ≡ length vs → present g (take n ls) ≡ length (take (present g (take n ls)) vs)
 truncated_count g n ls vs h =

@@ -4,7 +4,7 @@ ghost use Rattle.std.specs.Prelude.{◌≡◌, length, true};
 ghost use Rattle.dr_nested.specs.Views.{kind_view};
 ghost use Rattle.dr_levels.specs.Dense.{holds_kind, values_view, present};
 
-use crate::joining::{count_present, join_levels, repeat_levels};
+use crate::joining::{append_levels, count_present, join_levels, repeat_levels};
 use crate::text_place::TextPlace;
 use crate::triplet::{Levels, Triplet};
 use crate::triplets::Triplets;
@@ -14,7 +14,7 @@ use std::alloc::Global;
 
 /// The triplets of one leaf, in the order of the records: their levels, and beside them the values that are there, in
 /// one vector of the leaf's kind. A value is there exactly where the definition level is the leaf's greatest.
-#[derive(Debug, Drop)]
+#[derive(Drop)]
 pub struct Column {
     pub(crate) kind: Kind,
     pub(crate) greatest: u8,
@@ -111,7 +111,7 @@ impl Column {
             repetition: triplet.repetition,
             definition: triplet.definition,
         };
-        join_levels(&mut self.levels, &[levels]);
+        self.levels.push_reserved(levels);
         Ok(())
     }
 
@@ -125,6 +125,33 @@ impl Column {
         ensures form { column_form self.new ≡ column_form self.old }
     {
         repeat_levels(&mut self.levels, levels, count)
+    }
+
+    /// Appends NULLs of these levels.
+    ///
+    /// Errors: want of memory alone. Nothing has changed then.
+    pub fn extend_nulls(&mut self, levels: &[Levels]) -> Result<(), NoMemory>
+        requires { present (column_form self.old).greatest levels.now ≡ 0 }
+        ensures triplets { Adds (column_view self.old) (column_view self.new)
+            (joined (column_form self.old).greatest levels.now []) result }
+        ensures form { column_form self.new ≡ column_form self.old }
+    {
+        append_levels(&mut self.levels, levels)
+    }
+
+    /// Nothing but NULLs of these levels, of its leaf.
+    #[inline(always)]
+    pub fn lent_nulls<'l>(&'l self, levels: &'l [Levels]) -> Triplets<'l>
+        requires { present (column_form self.now).greatest levels.now ≡ 0 }
+        ensures triplets { triplets_view result ≡ joined (column_form self.now).greatest levels.now [] }
+        ensures form { triplets_form result ≡ column_form self.now }
+    {
+        Triplets {
+            column: self,
+            levels,
+            value: self.values.len(),
+            count: 0,
+        }
     }
 
     /// Appends triplets of these levels, with these truth values at the places that have a value.
@@ -187,9 +214,12 @@ impl Column {
         ensures triplets { column_view self.new ≡ take length (column_view self.old) }
         ensures form { column_form self.new ≡ column_form self.old }
     {
+        if length >= self.levels.len() {
+            return;
+        }
+        let kept = self.values.len() - count_present(self.greatest, &self.levels[length..]);
         self.levels.truncate(length);
-        self.values
-            .truncate(count_present(self.greatest, &self.levels));
+        self.values.truncate(kept);
     }
 
     /// Drops all triplets, and keeps the room.

@@ -19,6 +19,16 @@ pub fn join_levels(levels: &mut Vec<Levels>, more: &[Levels])
     }
 }
 
+/// Appends levels.
+///
+/// Errors: want of memory alone. Nothing has changed then.
+pub fn append_levels(levels: &mut Vec<Levels>, more: &[Levels]) -> Result<(), NoMemory>
+    ensures { Adds levels.old.items levels.new.items more.now result }
+{
+    levels.extend_from_slice(more)?;
+    Ok(())
+}
+
 /// Appends the same levels so many times.
 ///
 /// Errors: want of memory alone. Nothing has changed then.

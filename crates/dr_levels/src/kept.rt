@@ -5,7 +5,7 @@ ghost use Rattle.std.specs.Int.{bit_at};
 ghost use Rattle.dr_levels.specs.Branches.{branch_at};
 
 /// What is known of a branch: it is kept, it is dropped, or neither is known yet.
-#[derive(Clone, Copy, PartialEq, Eq, Debug)]
+#[derive(Clone, Copy, PartialEq, Eq)]
 pub enum Branch {
     Kept,
     Dropped,
@@ -14,7 +14,7 @@ pub enum Branch {
 
 /// What is not kept of the open branches, the outermost first: bit i of each mask is for the branch at place i. A
 /// branch with neither bit is kept; one that is undecided is not dropped yet, whatever its other bit.
-#[derive(Clone, Copy, PartialEq, Eq, Debug)]
+#[derive(Clone, Copy, PartialEq, Eq)]
 pub struct Kept {
     pub undecided: u64,
     pub dropped: u64,

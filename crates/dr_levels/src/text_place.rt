@@ -7,7 +7,7 @@ ghost use Rattle.dr_levels.specs.Columns.{Adds};
 use dr_nested::NoMemory;
 
 /// A text by its place in a buffer: where it begins, and how many bytes it has.
-#[derive(Clone, Copy, PartialEq, Eq, Debug)]
+#[derive(Clone, Copy, PartialEq, Eq)]
 pub struct TextPlace {
     pub start: u32,
     pub length: u32,

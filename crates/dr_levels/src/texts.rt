@@ -10,7 +10,7 @@ use dr_nested::NoMemory;
 use std::alloc::Global;
 
 /// Texts by their places in one buffer.
-#[derive(Debug, Drop)]
+#[derive(Drop)]
 pub struct Texts {
     pub(crate) places: Vec<TextPlace>,
     pub(crate) bytes: Vec<u8>,

@@ -8,14 +8,14 @@ use dr_nested::{NoMemory, Value};
 use std::alloc::Global;
 
 /// A repetition level and a definition level, side by side.
-#[derive(Clone, Copy, PartialEq, Eq, Debug)]
+#[derive(Clone, Copy, PartialEq, Eq)]
 pub struct Levels {
     pub repetition: u8,
     pub definition: u8,
 }
 
 /// The value of a leaf, lent.
-#[derive(Clone, Copy, PartialEq, Eq, Debug)]
+#[derive(Clone, Copy, PartialEq, Eq)]
 pub enum ValueRef<'a> {
     Bool(bool),
     Int(i64),
@@ -51,7 +51,7 @@ impl<'a> ValueRef<'a> {
 
 /// One place of a leaf's column: the repetition level, the definition level, and the value, which is there where the
 /// definition level is the leaf's greatest. A text is lent.
-#[derive(Clone, Copy, PartialEq, Eq, Debug)]
+#[derive(Clone, Copy, PartialEq, Eq)]
 pub struct Triplet<'a> {
     pub repetition: u8,
     pub definition: u8,

@@ -19,7 +19,7 @@ use dr_nested::{Kind, NoMemory};
 use std::alloc::Global;
 
 /// Values of one kind, in order.
-#[derive(Debug, Drop)]
+#[derive(Drop)]
 pub enum Values {
     Bools(Vec<bool>),
     Integers(Vec<i64>),

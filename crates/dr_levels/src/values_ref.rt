@@ -3,7 +3,7 @@
 use crate::text_place::TextPlace;
 
 /// The values of a stretch of triplets, lent: one slice of their kind.
-#[derive(Clone, Copy, Debug)]
+#[derive(Clone, Copy)]
 pub enum ValuesRef<'a> {
     Bools(&'a [bool]),
     Integers(&'a [i64]),

@@ -6,7 +6,7 @@ ghost use Rattle.dr_lines.specs.declared.cutter.LineFault.TheVariants.{ReadFault
 use dr_outside::Failed;
 
 /// Why no line comes: the next one has more than 1,048,576 bytes, or the source failed.
-#[derive(Clone, Copy, PartialEq, Eq, Debug)]
+#[derive(Clone, Copy, PartialEq, Eq)]
 pub enum LineFault {
     TooLong,
     ReadFault,
@@ -21,7 +21,7 @@ impl From<Failed> for LineFault {
 }
 
 /// The lines of a source. The bytes read ahead, from `from` to `to` in the buffer, are still to be cut.
-#[derive(Debug, Drop)]
+#[derive(Drop)]
 pub struct Lines {
     pub(crate) buffer: Vec<u8>,
     pub(crate) from: usize,

@@ -11,7 +11,7 @@ use dr_outside::Fault;
 use std::alloc::{AllocError, AllocFailed};
 
 /// Why a table is not loaded. Lines are counted from 1.
-#[derive(Clone, Copy, PartialEq, Eq, Debug)]
+#[derive(Clone, Copy, PartialEq, Eq)]
 pub enum LoadFault {
     NoMemory,
     /// This line is no record.

@@ -7,7 +7,7 @@ use dr_page::PageForm;
 
 /// Where to load: the schema, the directories of the leaves, how many copies of each tablet, how many records to a
 /// tablet, the path of the table file, if it is to be put, and the form of the data pages.
-#[derive(Clone, Copy, Debug)]
+#[derive(Clone, Copy)]
 pub struct Plan<'s, 'l, 't> {
     pub schema: &'s Schema,
     pub leaves: &'l [String],

@@ -8,7 +8,7 @@ ghost use Rattle.dr_formats.specs.TableFile.{is_line_text};
 use memchr::memchr;
 
 /// What is wrong with the words of `load`.
-#[derive(Clone, Copy, PartialEq, Eq, Debug)]
+#[derive(Clone, Copy, PartialEq, Eq)]
 pub enum WordsProblem {
     /// The directory of this number, counted from 0, is empty or has a line feed.
     Leaf(usize),

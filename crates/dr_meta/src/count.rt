@@ -3,7 +3,7 @@
 ghost use Rattle.std.specs.Prelude.{◌≡◌, ◌<◌, ◌≤◌, ◌^◌, ◌↔◌, IfSome, IsNone, MatchOption, pos, ◌<ℤ◌};
 
 /// A number that is not negative, below 2^63: a count, a size in bytes or a byte offset.
-#[derive(Clone, Copy, Debug)]
+#[derive(Clone, Copy)]
 pub struct Count {
     number: u64,
     ghost in_range: { number < 2 ^ 63 },

@@ -7,7 +7,7 @@ use std::alloc::{AllocError, AllocFailed};
 
 /// Why a struct is no metadata: the first needed field, by its id, that is missing or out of range; a struct's own come
 /// before those of the structs inside it.
-#[derive(Clone, Copy, PartialEq, Eq, Debug)]
+#[derive(Clone, Copy, PartialEq, Eq)]
 pub enum MetaFault {
     NoMemory,
     /// It is not there with its type.

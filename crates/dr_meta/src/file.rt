@@ -4,7 +4,7 @@
 use crate::count::Count;
 
 /// An element of the schema: a leaf or a group.
-#[derive(Clone, Copy, Debug)]
+#[derive(Clone, Copy)]
 pub struct SchemaItem<'a> {
     pub kind: Option<i64>,
     pub kind_length: Option<i64>,
@@ -16,7 +16,7 @@ pub struct SchemaItem<'a> {
 }
 
 /// The metadata of a column chunk.
-#[derive(Clone, Copy, Debug)]
+#[derive(Clone, Copy)]
 pub struct ColumnMeta<'t, 'a> {
     pub kind: i64,
     pub encodings: Option<&'t [i64]>,
@@ -31,7 +31,7 @@ pub struct ColumnMeta<'t, 'a> {
 }
 
 /// A column chunk.
-#[derive(Clone, Copy, Debug)]
+#[derive(Clone, Copy)]
 pub struct ChunkMeta<'t, 'a> {
     /// The file that it lies in, where that is another one.
     pub file_path: Option<&'a [u8]>,

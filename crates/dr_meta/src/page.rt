@@ -3,7 +3,7 @@
 use crate::count::Count;
 
 /// What stands before a data page of the first version.
-#[derive(Clone, Copy, Debug)]
+#[derive(Clone, Copy)]
 pub struct DataPage {
     pub values: Count,
     pub encoding: i64,
@@ -12,14 +12,14 @@ pub struct DataPage {
 }
 
 /// What stands before a dictionary page.
-#[derive(Clone, Copy, Debug)]
+#[derive(Clone, Copy)]
 pub struct DictionaryPage {
     pub values: Count,
     pub encoding: i64,
 }
 
 /// What stands before a data page of the second version.
-#[derive(Clone, Copy, Debug)]
+#[derive(Clone, Copy)]
 pub struct DataPageV2 {
     pub values: Count,
     pub nulls: Option<i64>,
@@ -32,7 +32,7 @@ pub struct DataPageV2 {
 }
 
 /// The header of a page: its type, the sizes of its body, and what stands before a page of each type.
-#[derive(Clone, Copy, Debug)]
+#[derive(Clone, Copy)]
 pub struct PageHead {
     pub kind: i64,
     pub uncompressed_size: Option<i64>,

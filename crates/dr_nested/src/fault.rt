@@ -7,7 +7,7 @@ use dr_memory::NoMemory;
 use std::alloc::{AllocError, AllocFailed};
 
 /// What is wrong with a schema text.
-#[derive(Clone, Copy, PartialEq, Eq, Debug)]
+#[derive(Clone, Copy, PartialEq, Eq)]
 pub enum SchemaProblem {
     /// The text has more than 1,048,576 bytes.
     TooLong,
@@ -28,7 +28,7 @@ pub enum SchemaProblem {
 }
 
 /// Why a schema text gives no schema: its first problem, with its byte offset, or want of memory.
-#[derive(Clone, Copy, PartialEq, Eq, Debug)]
+#[derive(Clone, Copy, PartialEq, Eq)]
 pub enum SchemaFault {
     NoMemory,
     Refused {
@@ -38,7 +38,7 @@ pub enum SchemaFault {
 }
 
 /// What is wrong with the path of a leaf.
-#[derive(Clone, Copy, PartialEq, Eq, Debug)]
+#[derive(Clone, Copy, PartialEq, Eq)]
 pub enum PathProblem {
     /// It leads to no field.
     UnknownField,
@@ -47,7 +47,7 @@ pub enum PathProblem {
 }
 
 /// Why a path gives no leaf: its problem, or want of memory.
-#[derive(Clone, Copy, PartialEq, Eq, Debug)]
+#[derive(Clone, Copy, PartialEq, Eq)]
 pub enum PathFault {
     NoMemory,
     Refused(PathProblem),

@@ -1,7 +1,7 @@
 //! Records: trees that give each field of a group its instances.
 
 /// The value of a leaf.
-#[derive(Debug, Drop, PartialEq, Eq)]
+#[derive(Drop, PartialEq, Eq)]
 pub enum Value {
     Bool(bool),
     Int(i64),
@@ -10,7 +10,7 @@ pub enum Value {
 
 /// An instance of a field: a leaf's value, or a group's node.
 #[cycle(node)]
-#[derive(Debug, Drop)]
+#[derive(Drop)]
 pub enum Instance {
     Atom(Value),
     Group(Node),
@@ -18,7 +18,7 @@ pub enum Instance {
 
 /// A field's place in a node: its instances in order, or a gap where a projection dropped the field.
 #[cycle(node)]
-#[derive(Debug, Drop)]
+#[derive(Drop)]
 pub enum Slot {
     Gap,
     Held(Vec<Instance>),
@@ -26,7 +26,7 @@ pub enum Slot {
 
 /// A record, or an instance of a group: a slot for each field of the group, in schema order.
 #[cycle(node)]
-#[derive(Debug, Drop)]
+#[derive(Drop)]
 pub struct Node {
     pub slots: Vec<Slot>,
 }

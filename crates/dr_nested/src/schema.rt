@@ -8,7 +8,7 @@ use crate::shape::Field;
 
 /// A message: its name and its fields. It keeps the rules of schemas: names of the right form and of at most 64 bytes,
 /// distinct within a group; no empty group; paths of at most 32 parts; at most 1,024 leaves.
-#[derive(Debug, Drop)]
+#[derive(Drop)]
 pub struct Schema {
     pub name: String,
     pub fields: Vec<Field>,

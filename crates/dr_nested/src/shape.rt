@@ -1,7 +1,7 @@
 //! Fields and their shapes.
 
 /// How often a field stands in its group: exactly once, at most once, or any number of times.
-#[derive(Clone, Copy, PartialEq, Eq, Debug)]
+#[derive(Clone, Copy, PartialEq, Eq)]
 pub enum Rep {
     Required,
     Optional,
@@ -9,7 +9,7 @@ pub enum Rep {
 }
 
 /// The values of a leaf: truth values, whole numbers of 32 or 64 bits, or texts.
-#[derive(Clone, Copy, PartialEq, Eq, Debug)]
+#[derive(Clone, Copy, PartialEq, Eq)]
 pub enum Kind {
     Bool,
     I32,
@@ -19,7 +19,7 @@ pub enum Kind {
 
 /// What a field is: a leaf of a kind, or a group of fields.
 #[cycle(shape)]
-#[derive(Debug, Drop)]
+#[derive(Drop)]
 pub enum Shape {
     Leaf(Kind),
     Group(Vec<Field>),
@@ -27,7 +27,7 @@ pub enum Shape {
 
 /// A field of a group.
 #[cycle(shape)]
-#[derive(Debug, Drop)]
+#[derive(Drop)]
 pub struct Field {
     pub name: String,
     pub rep: Rep,

@@ -7,14 +7,14 @@ use crate::fault::SchemaProblem;
 use crate::shape::{Field, Kind, Rep};
 
 /// Why reading stops at a token.
-#[derive(Clone, Copy, Debug)]
+#[derive(Clone, Copy)]
 pub enum Stop {
     NoMemory,
     Problem(SchemaProblem),
 }
 
 /// What may stand next. The name that a leaf's `;` or a group's `{` follows is kept in `Reading::name`.
-#[derive(Clone, Copy, Debug)]
+#[derive(Clone, Copy)]
 pub enum Expected {
     MessageWord,
     MessageName,
@@ -31,7 +31,7 @@ pub enum Expected {
 }
 
 /// A group that is open: the fields before it in the group that holds it, its name and its repetition.
-#[derive(Debug, Drop)]
+#[derive(Drop)]
 pub struct OpenGroup {
     pub before: Vec<Field>,
     pub name: String,
@@ -40,7 +40,7 @@ pub struct OpenGroup {
 
 /// What has been read: the message's name, the fields so far of the innermost group, the open groups (the innermost
 /// last), and the number of leaves.
-#[derive(Debug, Drop)]
+#[derive(Drop)]
 pub struct Reading {
     pub expected: Expected,
     pub name: String,

@@ -3,7 +3,7 @@
 use dr_nested::Path;
 
 /// Where the column of a leaf is in a file.
-#[derive(Debug, Drop)]
+#[derive(Drop)]
 pub enum LeafSource {
     /// In its own chunks, at this place among the leaves of the file, from 0.
     Own(usize),
@@ -14,7 +14,7 @@ pub enum LeafSource {
 }
 
 /// A leaf of a file that stands in for one that a group of the file lacks.
-#[derive(Debug, Drop)]
+#[derive(Drop)]
 pub struct StandIn {
     /// The leaf; of its steps the repetitions count alone, the places are 0.
     pub leaf: Path,

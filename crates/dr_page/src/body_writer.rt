@@ -15,7 +15,7 @@ use dr_memory::NoMemory;
 use std::alloc::Global;
 
 /// Writes bodies of data pages, with a buffer that is used again page after page.
-#[derive(Debug, Drop)]
+#[derive(Drop)]
 pub struct BodyWriter {
     levels: LevelWriter,
 }

@@ -12,7 +12,7 @@ use dr_plain::{Values, read_plain};
 use std::alloc::Global;
 
 /// Texts of a dictionary, by their places in its page's bytes.
-#[derive(Debug, Drop)]
+#[derive(Drop)]
 pub(crate) struct Texts {
     pub(crate) bytes: Vec<u8>,
     pub(crate) places: Vec<TextPlace>,
@@ -20,7 +20,7 @@ pub(crate) struct Texts {
 }
 
 /// The values of a dictionary, in one vector of their kind.
-#[derive(Debug, Drop)]
+#[derive(Drop)]
 pub(crate) enum Entries {
     Bools(Vec<bool>),
     Integers(Vec<i64>),
@@ -29,7 +29,7 @@ pub(crate) enum Entries {
 
 /// The values of a chunk's dictionary, to which its pages refer by their places (Apache Parquet, "Dictionary
 /// Encoding").
-#[derive(Debug, Drop)]
+#[derive(Drop)]
 pub struct Dictionary {
     pub(crate) entries: Entries,
 }

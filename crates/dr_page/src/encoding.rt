@@ -17,7 +17,7 @@ const RLE: i64 = 3;
 const RLE_DICTIONARY: i64 = 8;
 
 /// How the values of a page are encoded.
-#[derive(Clone, Copy, PartialEq, Eq, Debug)]
+#[derive(Clone, Copy, PartialEq, Eq)]
 pub(crate) enum ValueEncoding {
     Plain,
     /// Indices of the values of the chunk's dictionary.

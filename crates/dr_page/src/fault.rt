@@ -8,7 +8,7 @@ use dr_memory::NoMemory;
 use std::alloc::{AllocError, AllocFailed};
 
 /// Why a page gives no triplets, or no dictionary.
-#[derive(Clone, Copy, PartialEq, Eq, Debug)]
+#[derive(Clone, Copy, PartialEq, Eq)]
 pub enum PageFault {
     NoMemory,
     /// The bytes spell none of the shape that is told.

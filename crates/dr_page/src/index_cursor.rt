@@ -9,7 +9,7 @@ use std::alloc::Global;
 
 /// Indices, read a piece at a time, and the last piece: a byte of width and hybrid data. As long as none is wanted no
 /// byte is needed.
-#[derive(Debug, Drop)]
+#[derive(Drop)]
 pub(crate) struct IndexCursor {
     pub(crate) runs: RunReader,
     pub(crate) indices: Vec<u32>,

@@ -11,7 +11,7 @@ use std::alloc::Global;
 
 /// Levels of a part, read a piece at a time, and the last piece. Where the greatest level is 0 the part isn't looked at:
 /// all are 0.
-#[derive(Debug, Drop)]
+#[derive(Drop)]
 pub(crate) struct LevelCursor {
     pub(crate) greatest: u8,
     pub(crate) runs: RunReader,

@@ -13,7 +13,7 @@ use dr_levels::Levels;
 use std::alloc::Global;
 
 /// The levels of a body, read a piece at a time, and the pairs of the last piece.
-#[derive(Debug, Drop)]
+#[derive(Drop)]
 pub(crate) struct LevelPairs {
     pub(crate) repetitions: LevelCursor,
     pub(crate) definitions: LevelCursor,

@@ -15,7 +15,7 @@ use dr_memory::NoMemory;
 use std::alloc::Global;
 
 /// Writes level parts, with a buffer that is used again page after page.
-#[derive(Debug, Drop)]
+#[derive(Drop)]
 pub(crate) struct LevelWriter {
     levels: Vec<u8>,
 }
@@ -48,11 +48,8 @@ impl LevelWriter {
         if greatest == 0 {
             return Ok(0);
         }
-        self.levels.clear();
-        self.levels.reserve(levels.len())?;
-        'levels: for level in levels {
-            self.levels.push_reserved(level.repetition);
-        }
+        self.levels.resize(levels.len(), 0)?;
+        fill_repetitions(levels, &mut self.levels);
         append_part(form, greatest, &self.levels, out)
     }
 
@@ -76,11 +73,8 @@ impl LevelWriter {
         if greatest == 0 {
             return Ok(0);
         }
-        self.levels.clear();
-        self.levels.reserve(levels.len())?;
-        'levels: for level in levels {
-            self.levels.push_reserved(level.definition);
-        }
+        self.levels.resize(levels.len(), 0)?;
+        fill_definitions(levels, &mut self.levels);
         append_part(form, greatest, &self.levels, out)
     }
 }
@@ -136,4 +130,24 @@ fn append_data(greatest: u8, levels: &[u8], out: &mut Vec<u8>) -> Result<usize, 
     let start = out.len();
     encode(levels, level_width(greatest), out)?;
     Ok(out.len() - start)
+}
+
+/// Puts repetition levels into the place of others, as many.
+fn fill_repetitions(levels: &[Levels], out: &mut [u8])
+    requires { length out.old ≡ length levels.now }
+    ensures { out.new ≡ map (λ (l : Levels). l.repetition) levels.now }
+{
+    'levels: for index in 0..out.len() {
+        out[index] = levels[index].repetition;
+    }
+}
+
+/// Puts definition levels into the place of others, as many.
+fn fill_definitions(levels: &[Levels], out: &mut [u8])
+    requires { length out.old ≡ length levels.now }
+    ensures { out.new ≡ map (λ (l : Levels). l.definition) levels.now }
+{
+    'levels: for index in 0..out.len() {
+        out[index] = levels[index].definition;
+    }
 }

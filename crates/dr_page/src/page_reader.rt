@@ -12,7 +12,7 @@ use dr_nested::Kind;
 use std::alloc::Global;
 
 /// Reads the body of a data page a piece at a time, with buffers that are used again page after page.
-#[derive(Debug, Drop)]
+#[derive(Drop)]
 pub struct PageReader {
     pub(crate) kind: Kind,
     /// How many triplets were not given.

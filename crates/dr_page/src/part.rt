@@ -16,14 +16,14 @@ use dr_bytes::Cut;
 pub(crate) const LENGTH_BYTES: usize = 4;
 
 /// Where a part of a body lies.
-#[derive(Clone, Copy, Debug)]
+#[derive(Clone, Copy)]
 pub(crate) struct Part {
     pub(crate) start: usize,
     pub(crate) end: usize,
 }
 
 /// Where the level parts of a body lie, without lengths before them, and where its values begin.
-#[derive(Clone, Copy, Debug)]
+#[derive(Clone, Copy)]
 pub(crate) struct BodyParts {
     pub(crate) repetitions: Part,
     pub(crate) definitions: Part,

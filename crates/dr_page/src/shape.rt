@@ -8,7 +8,7 @@ use dr_nested::Kind;
 pub const GREATEST_LEVEL: u8 = 32;
 
 /// The forms of a data page.
-#[derive(Clone, Copy, PartialEq, Eq, Debug)]
+#[derive(Clone, Copy, PartialEq, Eq)]
 pub enum PageForm {
     /// DATA_PAGE: each level part has its length before it.
     V1,
@@ -19,7 +19,7 @@ pub enum PageForm {
 /// What is known of a data page before its body: what its header says of it, and the leaf that its chunk is of.
 /// Encodings are the numbers of the format. Those of levels are looked at in V1 pages alone, the lengths of the level
 /// parts in V2 pages alone.
-#[derive(Clone, Copy, Debug)]
+#[derive(Clone, Copy)]
 pub struct Shape {
     pub form: PageForm,
     /// How many triplets it is said to have.

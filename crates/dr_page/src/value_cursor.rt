@@ -19,7 +19,7 @@ use dr_plain::PlainReader;
 use std::alloc::Global;
 
 /// Values behind the levels of a body, read a piece at a time, with buffers that are used again.
-#[derive(Debug, Drop)]
+#[derive(Drop)]
 pub(crate) struct ValueCursor {
     pub(crate) encoding: ValueEncoding,
     pub(crate) plain: PlainReader,

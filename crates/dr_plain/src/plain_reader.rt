@@ -12,7 +12,7 @@ use crate::values::{PlainFault, TextPlace};
 
 /// Reads values in PLAIN a piece at a time. Each call takes the bytes of all values, the same ones, and the calls are of
 /// one kind. It has no buffers.
-#[derive(Clone, Copy, Debug)]
+#[derive(Clone, Copy)]
 pub struct PlainReader {
     /// Where the next value begins: the place of its first byte; of a truth value that of its bit.
     pub(crate) place: usize,

@@ -1,7 +1,7 @@
 //! Values side by side, dense by kind.
 
 /// Where a text stands in the bytes that it was read from.
-#[derive(Clone, Copy, PartialEq, Eq, Debug)]
+#[derive(Clone, Copy, PartialEq, Eq)]
 pub struct TextPlace {
     /// The place of its first byte.
     pub start: usize,
@@ -10,7 +10,7 @@ pub struct TextPlace {
 }
 
 /// Values of one kind, in order. Texts are places in the bytes that they were read from; nothing is borrowed.
-#[derive(PartialEq, Eq, Debug, Drop)]
+#[derive(PartialEq, Eq, Drop)]
 pub enum Values {
     Bools(Vec<bool>),
     Integers(Vec<i64>),
@@ -18,7 +18,7 @@ pub enum Values {
 }
 
 /// Why bytes have no values.
-#[derive(Clone, Copy, PartialEq, Eq, Debug)]
+#[derive(Clone, Copy, PartialEq, Eq)]
 pub enum PlainFault {
     NoMemory,
     /// The bytes end before.
@@ -28,7 +28,7 @@ pub enum PlainFault {
 }
 
 /// Why a dictionary has no values at some indices.
-#[derive(Clone, Copy, PartialEq, Eq, Debug)]
+#[derive(Clone, Copy, PartialEq, Eq)]
 pub enum PickFault {
     NoMemory,
     /// An index is not below the dictionary's size.

@@ -4,7 +4,7 @@ use crate::expression::Expr;
 use dr_nested::Step;
 
 /// What is made of the values of an argument: COUNT, SUM, MIN, MAX.
-#[derive(Clone, Copy, PartialEq, Eq, Debug)]
+#[derive(Clone, Copy, PartialEq, Eq)]
 pub enum Fold {
     Count,
     Sum,
@@ -13,7 +13,7 @@ pub enum Fold {
 }
 
 /// An aggregate over the rows of a group.
-#[derive(Debug, Drop)]
+#[derive(Drop)]
 pub enum Aggregate {
     /// COUNT(*): the rows of the keys' chain.
     Rows,
@@ -22,7 +22,7 @@ pub enum Aggregate {
 }
 
 /// An aggregate within each instance of a node: the record, by no steps, or a repeated group.
-#[derive(Debug, Drop)]
+#[derive(Drop)]
 pub struct Within {
     pub fold: Fold,
     pub argument: Expr,

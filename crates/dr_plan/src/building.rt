@@ -10,6 +10,19 @@ use crate::expression::{Comparison, Number, TextOf, Truth};
 use dr_memory::NoMemory;
 use std::alloc::Global;
 
+/// Two operands, each in a box. Of any type, so that one is let go by one call where memory is wanting, and not variant
+/// by variant.
+///
+/// Errors: want of memory alone.
+pub(crate) fn both<T: Drop>(alloc: Global, left: T, right: T) -> Result<(Box<T>, Box<T>), NoMemory>
+    ensures left { IfOk result (λ b. b.0.value ≡ left) }
+    ensures right { IfOk result (λ b. b.1.value ≡ right) }
+{
+    let left = Box::new(alloc, left)?;
+    let right = Box::new(alloc, right)?;
+    Ok((left, right))
+}
+
 impl Number {
     /// `-a`
     ///
@@ -31,8 +44,7 @@ impl Number {
         ensures fits { IfOk result (λ e. (ls : List Leaf) → number_fits ls e
             ≡ (number_fits ls left && number_fits ls right)) }
     {
-        let left = Box::new(alloc, left)?;
-        let right = Box::new(alloc, right)?;
+        let (left, right) = both(alloc, left, right)?;
         Ok(Number::Add(left, right))
     }
 
@@ -45,8 +57,7 @@ impl Number {
         ensures fits { IfOk result (λ e. (ls : List Leaf) → number_fits ls e
             ≡ (number_fits ls left && number_fits ls right)) }
     {
-        let left = Box::new(alloc, left)?;
-        let right = Box::new(alloc, right)?;
+        let (left, right) = both(alloc, left, right)?;
         Ok(Number::Subtract(left, right))
     }
 
@@ -59,8 +70,7 @@ impl Number {
         ensures fits { IfOk result (λ e. (ls : List Leaf) → number_fits ls e
             ≡ (number_fits ls left && number_fits ls right)) }
     {
-        let left = Box::new(alloc, left)?;
-        let right = Box::new(alloc, right)?;
+        let (left, right) = both(alloc, left, right)?;
         Ok(Number::Multiply(left, right))
     }
 }
@@ -75,8 +85,7 @@ impl TextOf {
         ensures fits { IfOk result (λ e. (ls : List Leaf) → text_fits ls e
             ≡ (text_fits ls left && text_fits ls right)) }
     {
-        let left = Box::new(alloc, left)?;
-        let right = Box::new(alloc, right)?;
+        let (left, right) = both(alloc, left, right)?;
         Ok(TextOf::Join(left, right))
     }
 }
@@ -101,8 +110,7 @@ impl Truth {
         ensures fits { IfOk result (λ e. (ls : List Leaf) → truth_fits ls e
             ≡ (truth_fits ls left && truth_fits ls right)) }
     {
-        let left = Box::new(alloc, left)?;
-        let right = Box::new(alloc, right)?;
+        let (left, right) = both(alloc, left, right)?;
         Ok(Truth::And(left, right))
     }
 
@@ -115,8 +123,7 @@ impl Truth {
         ensures fits { IfOk result (λ e. (ls : List Leaf) → truth_fits ls e
             ≡ (truth_fits ls left && truth_fits ls right)) }
     {
-        let left = Box::new(alloc, left)?;
-        let right = Box::new(alloc, right)?;
+        let (left, right) = both(alloc, left, right)?;
         Ok(Truth::Or(left, right))
     }
 
@@ -134,8 +141,7 @@ impl Truth {
         ensures fits { IfOk result (λ e. (ls : List Leaf) → truth_fits ls e
             ≡ (truth_fits ls left && truth_fits ls right)) }
     {
-        let left = Box::new(alloc, left)?;
-        let right = Box::new(alloc, right)?;
+        let (left, right) = both(alloc, left, right)?;
         Ok(Truth::Truths(operator, left, right))
     }
 

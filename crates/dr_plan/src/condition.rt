@@ -14,7 +14,7 @@ use std::alloc::Global;
 
 /// A condition cut at its top: expressions all of which must be true, and how it joins them. Without a condition there
 /// is neither.
-#[derive(Debug, Drop)]
+#[derive(Drop)]
 pub struct CutCondition {
     pub test: Vec<Truth>,
     pub joining: Option<Joining>,

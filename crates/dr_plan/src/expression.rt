@@ -1,7 +1,7 @@
 //! Expressions of a plan, by the type of their values. A leaf is its number among the plan's leaves.
 
 /// `=`, `<>`, `<`, `<=`, `>`, `>=`.
-#[derive(Clone, Copy, PartialEq, Eq, Debug)]
+#[derive(Clone, Copy, PartialEq, Eq)]
 pub enum Comparison {
     Equal,
     Unequal,
@@ -12,7 +12,7 @@ pub enum Comparison {
 }
 
 /// An expression whose values are whole numbers of 64 bits. What doesn't fit is NULL.
-#[derive(Debug, Drop)]
+#[derive(Drop)]
 pub enum Number {
     Literal(i64),
     Leaf(u32),
@@ -23,7 +23,7 @@ pub enum Number {
 }
 
 /// An expression whose values are texts.
-#[derive(Debug, Drop)]
+#[derive(Drop)]
 pub enum TextOf {
     Literal(String),
     Leaf(u32),
@@ -31,7 +31,7 @@ pub enum TextOf {
 }
 
 /// An expression whose values are truth values. Operands of a comparison stand in its node, but for truth values.
-#[derive(Debug, Drop)]
+#[derive(Drop)]
 pub enum Truth {
     Literal(bool),
     Leaf(u32),
@@ -49,7 +49,7 @@ pub enum Truth {
 }
 
 /// An expression of any type.
-#[derive(Debug, Drop)]
+#[derive(Drop)]
 pub enum Expr {
     Truth(Truth),
     Number(Number),

@@ -12,35 +12,35 @@ use crate::objects::ObjectPlan;
 use dr_nested::Path;
 
 /// What an item of a record query gives.
-#[derive(Debug, Drop)]
+#[derive(Drop)]
 pub enum RecordTerm {
     Value(Expr),
     Within(Within),
 }
 
 /// An item of a record query, with the name of what it gives.
-#[derive(Debug, Drop)]
+#[derive(Drop)]
 pub struct RecordItem {
     pub name: String,
     pub term: RecordTerm,
 }
 
 /// What an item of an aggregate query gives: a key or an aggregate, by its number in the plan.
-#[derive(Clone, Copy, PartialEq, Eq, Debug)]
+#[derive(Clone, Copy, PartialEq, Eq)]
 pub enum GroupTerm {
     Key(u32),
     Aggregate(u32),
 }
 
 /// An item of an aggregate query, with the name of what it gives.
-#[derive(Debug, Drop)]
+#[derive(Drop)]
 pub struct GroupItem {
     pub name: String,
     pub term: GroupTerm,
 }
 
 /// What a plan selects.
-#[derive(Debug, Drop)]
+#[derive(Drop)]
 pub enum Selection {
     /// Objects of each record: the items in SELECT order, and which object has which of them.
     Objects(Vec<RecordItem>, ObjectPlan),
@@ -51,7 +51,7 @@ pub enum Selection {
 /// A query whose names are bound to a schema. Each number in it is that of a leaf, a key or an aggregate that it has;
 /// each leaf is of the type of its place; SUM is of numbers; the aggregates of groups are numbered in the order of the
 /// items that give them.
-#[derive(Debug, Drop)]
+#[derive(Drop)]
 pub struct Plan {
     /// The leaves that it uses, each once, in reading order.
     pub leaves: Vec<Path>,

@@ -4,7 +4,7 @@ use dr_nested::Step;
 
 /// A repeated field: its name from the level above, the names on the way joined by dots; its path; and the levels next
 /// below it.
-#[derive(Debug, Drop)]
+#[derive(Drop)]
 pub struct Level {
     pub name: String,
     pub path: Vec<Step>,

@@ -11,7 +11,7 @@ use dr_memory::NoMemory;
 use std::alloc::Global;
 
 /// A part of a condition: the leaf that is the last to be read of it, and whether it was true where that was read last.
-#[derive(Clone, Copy, PartialEq, Eq, Debug)]
+#[derive(Clone, Copy, PartialEq, Eq)]
 struct Answer {
     last: u32,
     is_true: bool,
@@ -19,7 +19,7 @@ struct Answer {
 
 /// The answers of the parts of a condition, all of which are to be true. A part is tested wherever the last of its own
 /// leaves is read, and its answer holds until that leaf is read again; before it is read, the answer is false.
-#[derive(Debug, Drop)]
+#[derive(Drop)]
 pub struct Answers {
     parts: Vec<Answer>,
 }

@@ -7,7 +7,7 @@ use dr_levels::Kept;
 
 /// How many branches are open; so many of them, the outermost, are on the condition's chain; so many of these, the
 /// outermost, have a true row; and whether the innermost on the chain has a row.
-#[derive(Clone, Copy, PartialEq, Eq, Debug)]
+#[derive(Clone, Copy, PartialEq, Eq)]
 pub(crate) struct Counts {
     pub(crate) depth: u32,
     pub(crate) along: u32,

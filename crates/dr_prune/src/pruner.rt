@@ -11,7 +11,7 @@ use std::alloc::Global;
 /// Along the moves of a walk it tells of each open branch whether a condition keeps it: a branch off the condition's
 /// chain is kept, one on the chain is kept where a row in it is true. The rows are the triplets of the condition's last
 /// leaf.
-#[derive(Debug, Drop)]
+#[derive(Drop)]
 pub struct Pruner {
     chain: Vec<u32>,
     last: u32,

@@ -19,7 +19,7 @@ use Rattle.dr_partials.proofs.PartialLemmas.{empty_stands_for_none, merged_stand
 use Rattle.dr_partials.proofs.PartialTypeLemmas.{empty_is_partial}
 use Rattle.dr_partials.proofs.PutLemmas.{puts_are_merged}
 use Rattle.dr_put_laws.specs.FlowPartial.{PutsMakePartial, GroupReadingsRead, FlowIsPartial, WholeFlowIsPartial, NothingIsPartial}
-use Rattle.dr_put_laws.proofs.AnyOrderLemmas.{puts_in_any_order}
+use Rattle.dr_puts.proofs.AnyOrderLemmas.{puts_in_any_order}
 use Rattle.dr_put_laws.proofs.ReadingLemmas.{readings_mean_puts}
 
 pub puts_make_partial : PutsMakePartial

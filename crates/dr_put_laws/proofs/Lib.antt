@@ -1,7 +1,6 @@
 -- worked examples, by computation
 pub mod WorkedPuts
 -- lemmas of the laws
-pub mod AnyOrderLemmas
 pub mod ConditionLemmas
 pub mod PicksAt
 pub mod LeavesInOrderLemmas

@@ -5,7 +5,6 @@ pub mod LastRead
 pub mod ConditionPaths
 -- the readings of a group query; puts in any order
 pub mod Readings
-pub mod AnyOrder
 -- what is the same in rows of values of the leaves' types
 pub mod Alike
 -- what is put over moves, and along them

@@ -3,7 +3,6 @@
 ghost use Rattle.dr_meaning.specs.Record.{Value};
 ghost use Rattle.dr_partials.specs.Putting.{Put};
 ghost use Rattle.dr_put_laws.specs.Alike.{AlikeConditions, AlikeReadings, ConstantConditions};
-ghost use Rattle.dr_put_laws.specs.AnyOrder.{PutsInAnyOrder};
 ghost use Rattle.dr_put_laws.specs.ConditionPaths.{ConditionIsRelated};
 ghost use Rattle.dr_put_laws.specs.FlowPartial.{FlowIsPartial, GroupReadingsRead, NothingIsPartial, PutsMakePartial, WholeFlowIsPartial};
 ghost use Rattle.dr_put_laws.specs.FramesPartial.{AllMovesPutPartial, FramesPutPartial};
@@ -11,11 +10,6 @@ ghost use Rattle.dr_put_laws.specs.LastRead.{LastReadsAll, LastStands, LongestOf
 ghost use Rattle.dr_put_laws.specs.LeavesInOrder.{QueryLeavesInOrder};
 ghost use Rattle.dr_put_laws.specs.Readings.{ReadingsMeanPuts};
 ghost use Rattle.std.specs.Prelude.{List, Option};
-
-/// Puts in any order make the same of a partial.
-pub fn puts_in_any_order()
-    ensures { PutsInAnyOrder }
-{}
 
 /// The leaves that a query uses are leaves of the schema, in reading order, each once.
 pub fn query_leaves_in_order()

@@ -1,7 +1,7 @@
 use dr_tablets::LeftTablet;
 
 /// What comes of a query over a table: what it prints, or the tablets that are left.
-#[derive(PartialEq, Eq, Debug, Drop)]
+#[derive(PartialEq, Eq, Drop)]
 pub enum Queried {
     /// The result's rows as compact JSON, one to a line.
     Text(String),

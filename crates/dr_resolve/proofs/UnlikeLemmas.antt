@@ -23,7 +23,7 @@ arithmetic_of_unlike meant.plus text_type text_type h = cc
 arithmetic_of_unlike meant.minus text_type t h = refl
 arithmetic_of_unlike meant.times text_type t h = refl
 
-of_unlike : (o : Binary) (s t : ValueType) → same_type s t ≡ false → binary_type o s t ≡ None
+pub of_unlike : (o : Binary) (s t : ValueType) → same_type s t ≡ false → binary_type o s t ≡ None
 of_unlike (Binary.Arithmetic a) s t h = arithmetic_of_unlike (arithmetic_view a) s t h
 of_unlike (Binary.Comparison c) s t h = rw h refl
 of_unlike Binary.And truth_type truth_type h = cc

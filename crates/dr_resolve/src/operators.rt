@@ -33,6 +33,9 @@ pub enum Binary {
     Or,
 }
 
+/// Lets go of a value: of any type, so that it is one call in place of an arm for each of its variants.
+fn let_go<T: Drop>(_value: T) {}
+
 impl Unary<'_> {
     /// What the operator makes of an operand, if that is of its type.
     ///
@@ -59,7 +62,10 @@ impl Unary<'_> {
         match self {
             Unary::IsNull => Ok(Some(Expr::Truth(Truth::is_null(alloc, operand)?))),
             Unary::Not => Ok(Some(Expr::Truth(Truth::negation(alloc, operand)?))),
-            Unary::Negative | Unary::Like(_) | Unary::Contains(_) => Ok(None),
+            Unary::Negative | Unary::Like(_) | Unary::Contains(_) => {
+                let_go(operand);
+                Ok(None)
+            }
         }
     }
 
@@ -72,7 +78,10 @@ impl Unary<'_> {
         match self {
             Unary::Negative => Ok(Some(Expr::Number(Number::negative(alloc, operand)?))),
             Unary::IsNull => Ok(Some(Expr::Truth(Truth::NumberIsNull(operand)))),
-            Unary::Like(_) | Unary::Contains(_) | Unary::Not => Ok(None),
+            Unary::Like(_) | Unary::Contains(_) | Unary::Not => {
+                let_go(operand);
+                Ok(None)
+            }
         }
     }
 
@@ -92,7 +101,10 @@ impl Unary<'_> {
                 Ok(Some(Expr::Truth(Truth::Contains(operand, part))))
             }
             Unary::IsNull => Ok(Some(Expr::Truth(Truth::TextIsNull(operand)))),
-            Unary::Negative | Unary::Not => Ok(None),
+            Unary::Negative | Unary::Not => {
+                let_go(operand);
+                Ok(None)
+            }
         }
     }
 }
@@ -109,18 +121,75 @@ impl Binary {
             ≡ (expr_fits ls left && expr_fits ls right))) }
     {
         match left {
-            Expr::Truth(left) => match right {
-                Expr::Truth(right) => self.of_truths(alloc, left, right),
-                Expr::Number(_) | Expr::Text(_) => Ok(None),
-            },
-            Expr::Number(left) => match right {
-                Expr::Number(right) => self.of_numbers(alloc, left, right),
-                Expr::Truth(_) | Expr::Text(_) => Ok(None),
-            },
-            Expr::Text(left) => match right {
-                Expr::Text(right) => self.of_texts(alloc, left, right),
-                Expr::Truth(_) | Expr::Number(_) => Ok(None),
-            },
+            Expr::Truth(left) => self.with_truth(alloc, left, right),
+            Expr::Number(left) => self.with_number(alloc, left, right),
+            Expr::Text(left) => self.with_text(alloc, left, right),
+        }
+    }
+
+    /// What the operator makes of a truth and another operand.
+    #[tactic(auto, using(crate::proofs::UnlikeLemmas::of_unlike))]
+    fn with_truth(self, alloc: Global, left: Truth, right: Expr) -> Result<Option<Expr>, NoMemory>
+        ensures typed { IfOk result (λ o. option_map type_of o ≡ binary_type self truth_type (type_of right)) }
+        ensures view { IfOk result (IsOver (λ ls. binary_of self (truth_view ls left) (expr_view ls right))) }
+        ensures fits { IfOk result (FitsWhere (λ ls. truth_fits ls left && expr_fits ls right)) }
+    {
+        match right {
+            Expr::Truth(right) => self.of_truths(alloc, left, right),
+            Expr::Number(right) => {
+                let_go(left);
+                let_go(right);
+                Ok(None)
+            }
+            Expr::Text(right) => {
+                let_go(left);
+                let_go(right);
+                Ok(None)
+            }
+        }
+    }
+
+    /// What the operator makes of a number and another operand.
+    #[tactic(auto, using(crate::proofs::UnlikeLemmas::of_unlike))]
+    fn with_number(self, alloc: Global, left: Number, right: Expr) -> Result<Option<Expr>, NoMemory>
+        ensures typed { IfOk result (λ o. option_map type_of o ≡ binary_type self number_type (type_of right)) }
+        ensures view { IfOk result (IsOver (λ ls. binary_of self (number_view ls left) (expr_view ls right))) }
+        ensures fits { IfOk result (FitsWhere (λ ls. number_fits ls left && expr_fits ls right)) }
+    {
+        match right {
+            Expr::Number(right) => self.of_numbers(alloc, left, right),
+            Expr::Truth(right) => {
+                let_go(left);
+                let_go(right);
+                Ok(None)
+            }
+            Expr::Text(right) => {
+                let_go(left);
+                let_go(right);
+                Ok(None)
+            }
+        }
+    }
+
+    /// What the operator makes of a text and another operand.
+    #[tactic(auto, using(crate::proofs::UnlikeLemmas::of_unlike))]
+    fn with_text(self, alloc: Global, left: TextOf, right: Expr) -> Result<Option<Expr>, NoMemory>
+        ensures typed { IfOk result (λ o. option_map type_of o ≡ binary_type self text_type (type_of right)) }
+        ensures view { IfOk result (IsOver (λ ls. binary_of self (text_view ls left) (expr_view ls right))) }
+        ensures fits { IfOk result (FitsWhere (λ ls. text_fits ls left && expr_fits ls right)) }
+    {
+        match right {
+            Expr::Text(right) => self.of_texts(alloc, left, right),
+            Expr::Truth(right) => {
+                let_go(left);
+                let_go(right);
+                Ok(None)
+            }
+            Expr::Number(right) => {
+                let_go(left);
+                let_go(right);
+                Ok(None)
+            }
         }
     }
 
@@ -137,7 +206,11 @@ impl Binary {
                 let operator = comparison_of(operator);
                 Ok(Some(Expr::Truth(Truth::comparison(alloc, operator, left, right)?)))
             }
-            Binary::Arithmetic(_) => Ok(None),
+            Binary::Arithmetic(_) => {
+                let_go(left);
+                let_go(right);
+                Ok(None)
+            }
         }
     }
 
@@ -166,7 +239,11 @@ impl Binary {
                 let operator = comparison_of(operator);
                 Ok(Some(Expr::Truth(Truth::Numbers(operator, left, right))))
             }
-            Binary::And | Binary::Or => Ok(None),
+            Binary::And | Binary::Or => {
+                let_go(left);
+                let_go(right);
+                Ok(None)
+            }
         }
     }
 
@@ -184,7 +261,11 @@ impl Binary {
                 let operator = comparison_of(operator);
                 Ok(Some(Expr::Truth(Truth::Texts(operator, left, right))))
             }
-            Binary::Arithmetic(_) | Binary::And | Binary::Or => Ok(None),
+            Binary::Arithmetic(_) | Binary::And | Binary::Or => {
+                let_go(left);
+                let_go(right);
+                Ok(None)
+            }
         }
     }
 }

@@ -94,11 +94,11 @@ impl Binder<'_> {
             → expr_fits (leaves_in self.entry) x.expression ≡ true) }
     {
         let number = leaf_number(self.leaves, &path.leaf.steps);
-        let expression = value_of_leaf(path.leaf.kind, number);
+        let kind = path.leaf.kind;
         let mut paths = Vec::new(self.alloc);
         paths.push(path)?;
         Ok(BoundExpression {
-            expression,
+            expression: value_of_leaf(kind, number),
             paths,
             is_path: true,
         })

@@ -18,7 +18,7 @@ use std::alloc::Global;
 
 /// What is made of the results of children: they stand one behind another, or a query is run over their rows, whose
 /// leaves are the rows' columns.
-#[derive(Debug, Drop)]
+#[derive(Drop)]
 pub enum Merge {
     Concatenate,
     Query(Plan),

@@ -16,7 +16,7 @@ use std::alloc::Global;
 use std::borrow::CowStr;
 
 /// What an expression gives where it isn't NULL. A text is lent where it is a leaf's or a literal.
-#[derive(Debug, Drop)]
+#[derive(Drop)]
 pub enum Evaluated<'v> {
     Bool(bool),
     Int(i64),

@@ -24,7 +24,7 @@ use dr_plan::Plan;
 use std::alloc::Global;
 
 /// What was made of the records of a file.
-#[derive(Debug, Drop)]
+#[derive(Drop)]
 pub(crate) struct Made {
     pub(crate) partial: Partial,
     /// How many triplets of the leaves there were.

@@ -17,7 +17,7 @@ use dr_within::Row;
 use std::alloc::Global;
 
 /// Where a stretch of moves ends.
-#[derive(Clone, Copy, PartialEq, Eq, Debug)]
+#[derive(Clone, Copy, PartialEq, Eq)]
 pub(crate) enum Stretch {
     /// The batch of this leaf is at its end.
     Wants(u32),

@@ -25,7 +25,7 @@ use dr_tablets::{Steps, Tried};
 use std::alloc::Global;
 
 /// What is scanned of a tablet: a partial of its records, or the copies that were tried, which is each of them.
-#[derive(Debug, Drop)]
+#[derive(Drop)]
 pub enum Scanned {
     Given(Partial),
     Left(Vec<Tried>),

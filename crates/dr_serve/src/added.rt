@@ -1,7 +1,7 @@
 use dr_desk::Piece;
 
 /// That what was found of a tablet was added: what the desk keeps of it.
-#[derive(Debug, Drop)]
+#[derive(Drop)]
 pub struct Added {
     pub tablet: u32,
 }

@@ -14,7 +14,7 @@ use dr_tree::{Growing, Tree};
 use std::alloc::Global;
 
 /// What a tree has grown of pieces, and whether each tablet has one.
-#[derive(Debug, Drop)]
+#[derive(Drop)]
 pub(crate) struct Answered {
     pub(crate) grown: Growing,
     pub(crate) has_piece: Vec<bool>,

@@ -26,7 +26,7 @@ use dr_tree::Growing;
 use std::alloc::Global;
 
 // What comes of a table's tablets: what has grown of their pieces, and those that are left, of which there is none.
-#[derive(Debug, Drop)]
+#[derive(Drop)]
 pub(crate) struct Closed {
     pub(crate) grown: Growing,
     pub(crate) left: Vec<LeftTablet>,

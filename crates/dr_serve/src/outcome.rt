@@ -2,7 +2,7 @@ use dr_group::Partial;
 use dr_tablets::LeftTablet;
 
 /// What serving a query ends with.
-#[derive(Debug, Drop)]
+#[derive(Drop)]
 pub enum Outcome {
     /// What the tree gathers of a piece of each tablet.
     Finished(Partial),

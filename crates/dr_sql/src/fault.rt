@@ -7,7 +7,7 @@ use dr_memory::NoMemory;
 use std::alloc::{AllocError, AllocFailed};
 
 /// What is wrong with a query's text.
-#[derive(Clone, Copy, PartialEq, Eq, Debug)]
+#[derive(Clone, Copy, PartialEq, Eq)]
 pub enum QueryProblem {
     /// The text has more than 65,536 bytes.
     TooLong,
@@ -20,7 +20,7 @@ pub enum QueryProblem {
 }
 
 /// Why a query's text gives no syntax tree: its first problem, with its byte place, or want of memory.
-#[derive(Clone, Copy, PartialEq, Eq, Debug)]
+#[derive(Clone, Copy, PartialEq, Eq)]
 pub enum QueryFault {
     NoMemory,
     Refused { place: usize, problem: QueryProblem },

@@ -9,7 +9,7 @@ use dr_nested::{SchemaFault, SchemaProblem};
 use std::alloc::{AllocError, AllocFailed};
 
 /// What is wrong with a table file: the first of these that is.
-#[derive(Clone, Copy, PartialEq, Eq, Debug)]
+#[derive(Clone, Copy, PartialEq, Eq)]
 pub enum TableProblem {
     /// The text has more than 2,097,152 bytes.
     TooLong,
@@ -30,7 +30,7 @@ pub enum TableProblem {
 }
 
 /// Why a table file gives no table: its first problem, or want of memory.
-#[derive(Clone, Copy, PartialEq, Eq, Debug)]
+#[derive(Clone, Copy, PartialEq, Eq)]
 pub enum TableFault {
     NoMemory,
     Refused(TableProblem),

@@ -7,7 +7,7 @@ use dr_nested::Schema;
 /// A table: its schema, the directories of its leaves, how many copies there are of each tablet, and how many tablets.
 ///
 /// It keeps the limits: 1 to 64 leaves, at least one copy and at most one a leaf, 1 to 4,096 tablets.
-#[derive(Debug, Drop)]
+#[derive(Drop)]
 pub struct Table {
     pub schema: Schema,
     pub leaves: Vec<String>,

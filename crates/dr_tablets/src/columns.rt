@@ -26,7 +26,7 @@ use dr_outside::Link;
 use std::alloc::Global;
 
 /// The columns of some leaves in a file, in the order of the leaves, and how many records the file has.
-#[derive(Debug, Drop)]
+#[derive(Drop)]
 pub struct FileColumns {
     pub columns: Vec<Column>,
     pub rows: u64,

@@ -23,7 +23,7 @@ use std::alloc::Global;
 
 /// What is read of a tablet: its records, projected to the leaves, or the copies that were tried, which is each of
 /// them.
-#[derive(Debug, Drop)]
+#[derive(Drop)]
 pub enum Tablet {
     Given(Vec<Node>),
     Left(Vec<Tried>),

@@ -6,7 +6,7 @@ ghost use Rattle.dr_tablets.specs.Counting.{counted};
 use std::marker::Model;
 
 /// How many steps were taken: a count that stands still at the greatest number of 64 bits.
-#[derive(Debug, Drop)]
+#[derive(Drop)]
 pub struct Steps {
     taken: u64,
 }

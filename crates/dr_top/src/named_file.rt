@@ -19,7 +19,7 @@ use dr_table::{LONGEST_TABLE, TableProblem};
 use std::alloc::Global;
 
 /// What a file that a command names is read as.
-#[derive(Clone, Copy, PartialEq, Eq, Debug)]
+#[derive(Clone, Copy, PartialEq, Eq)]
 pub enum Kind {
     Schema,
     Table,

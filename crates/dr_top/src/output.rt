@@ -9,7 +9,7 @@ use dr_gen::GenSource;
 use dr_outside::{Failed, Sink, write_all};
 
 /// What a finished command prints.
-#[derive(Debug, Drop)]
+#[derive(Drop)]
 pub enum Output {
     /// A text that is held whole.
     Text(String),

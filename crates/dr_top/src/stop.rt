@@ -18,7 +18,7 @@ use dr_table::TableFault;
 use dr_tablets::LeftTablet;
 
 /// Why a command doesn't give its whole text.
-#[derive(PartialEq, Eq, Debug, Drop)]
+#[derive(PartialEq, Eq, Drop)]
 pub enum Stop {
     /// The words ask for nothing.
     Usage,

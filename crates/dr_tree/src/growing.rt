@@ -29,7 +29,7 @@ use std::thread::Threads;
 /// and the last of a pile are merged with those before them, unless these are more than twice as many. So of each child
 /// no more groups are held than twice those of what it gathers, where there is memory to merge them, and all that come
 /// are moved about as often as in a merge sort.
-#[derive(Debug, Drop)]
+#[derive(Drop)]
 pub struct Growing {
     // Of lines those that are appended; of groups those of no records.
     pub(crate) grown: Partial,

@@ -13,7 +13,7 @@ use dr_memory::NoMemory;
 use std::alloc::Global;
 
 /// A child of a tree's root, with all below it.
-#[derive(Debug, Drop)]
+#[derive(Drop)]
 pub(crate) struct Subtree {
     // The tablets of its leaf servers, in order.
     pub(crate) tablets: Vec<u32>,

@@ -9,7 +9,7 @@ use dr_memory::NoMemory;
 /// A serving tree: a leaf server with the tablet of a number, or an intermediate server with its children, of which the
 /// first stands apart.
 #[cycle(tree)]
-#[derive(Debug, Drop)]
+#[derive(Drop)]
 pub enum Tree {
     Leaf(u32),
     Inner(Box<Tree>, Vec<Tree>),

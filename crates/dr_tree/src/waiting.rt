@@ -18,7 +18,7 @@ use std::alloc::Global;
 use std::collections::VecDeque;
 
 /// A leaf server whose lines aren't appended: its tablet, and its lines where they came.
-#[derive(Debug, Drop)]
+#[derive(Drop)]
 pub(crate) struct Waiting {
     pub(crate) tablet: u32,
     pub(crate) lines: Option<RowsOut>,

@@ -23,7 +23,7 @@ use crate::values::fits;
 use dr_levels::{Levels, Move, Triplets};
 
 /// What a call of a walk over batches brings.
-#[derive(Clone, Copy, PartialEq, Eq, Debug)]
+#[derive(Clone, Copy, PartialEq, Eq)]
 pub enum Turned<'a> {
     /// It took the levels of a triplet, or that there is none: no move yet.
     Heard,

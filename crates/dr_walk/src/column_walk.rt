@@ -17,7 +17,7 @@ use dr_nested::{NoMemory, Schema, Step};
 use std::alloc::Global;
 
 /// What a call of a walk over columns brings.
-#[derive(Clone, Copy, PartialEq, Eq, Debug)]
+#[derive(Clone, Copy, PartialEq, Eq)]
 pub enum Advance<'a> {
     /// It took a column's first triplet: no move yet.
     Heard,

@@ -15,7 +15,7 @@ use dr_nested::NoMemory;
 use std::alloc::Global;
 
 /// A course that is gone through: its table, the levels that come next of each leaf, and where it stands.
-#[derive(Debug, Drop)]
+#[derive(Drop)]
 pub struct Course {
     pub(crate) table: Table,
     pub(crate) heads: Vec<Option<Levels>>,

@@ -4,7 +4,7 @@ use dr_nested::NoMemory as MemoryLacked;
 use std::alloc::{AllocError, AllocFailed};
 
 /// Why columns give no records: no records of the schema have them; or want of memory.
-#[derive(Clone, Copy, PartialEq, Eq, Debug)]
+#[derive(Clone, Copy, PartialEq, Eq)]
 pub enum AssembleFault {
     /// No list of as many records of the schema has these columns.
     BadData,

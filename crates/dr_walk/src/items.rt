@@ -5,7 +5,7 @@ use dr_levels::Levels;
 use dr_nested::Kind;
 
 /// An optional group on the way to a leaf: it is there where the next definition level of a leaf below it is greater.
-#[derive(Clone, Copy, PartialEq, Eq, Debug)]
+#[derive(Clone, Copy, PartialEq, Eq)]
 pub struct Gate {
     pub leaf: u32,
     pub definition: u8,
@@ -13,7 +13,7 @@ pub struct Gate {
 
 /// A leaf of a level: its definition level where it is absent, and where it is there. Where it stands behind gates,
 /// these were looked at when the level began.
-#[derive(Clone, Copy, PartialEq, Eq, Debug)]
+#[derive(Clone, Copy, PartialEq, Eq)]
 pub struct Give {
     pub leaf: u32,
     pub kind: Kind,
@@ -25,7 +25,7 @@ pub struct Give {
 /// A next repeated field: its number, one of the leaves below it, the definition level where it is absent, and whether
 /// it stands behind gates. So many NULLs come behind it, for where it is absent; the items of an instance begin at
 /// `body`.
-#[derive(Clone, Copy, PartialEq, Eq, Debug)]
+#[derive(Clone, Copy, PartialEq, Eq)]
 pub struct Visit {
     pub number: u32,
     pub leaf: u32,
@@ -37,7 +37,7 @@ pub struct Visit {
 
 /// A repeated field at the end of an instance: its number, the repetition level with which a later instance begins, one
 /// of the leaves below it, and where the items of an instance begin.
-#[derive(Clone, Copy, PartialEq, Eq, Debug)]
+#[derive(Clone, Copy, PartialEq, Eq)]
 pub struct Lap {
     pub number: u32,
     pub level: u8,
@@ -46,7 +46,7 @@ pub struct Lap {
 }
 
 /// One item of a course.
-#[derive(Debug, Drop)]
+#[derive(Drop)]
 pub enum Item {
     /// Where an instance begins: the gates of its items, those of the last item first.
     Look(Vec<Vec<Gate>>),

@@ -343,7 +343,7 @@ fn add_shape_far(
 }
 
 /// A course laid out, and where the items of a record begin.
-#[derive(Debug, Drop)]
+#[derive(Drop)]
 pub struct Table {
     pub items: Vec<Item>,
     pub root: usize,

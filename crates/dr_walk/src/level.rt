@@ -12,7 +12,7 @@ use dr_nested::{Kind, NoMemory};
 use std::alloc::Global;
 
 /// The items of a level so far, and the gates of those that stand behind some, in order.
-#[derive(Debug, Drop)]
+#[derive(Drop)]
 pub struct Level {
     pub items: Vec<Item>,
     pub gates: Vec<Vec<Gate>>,

@@ -31,7 +31,7 @@ use std::alloc::Global;
 /// A walk over the columns of the selected leaves of records, by levels alone: it takes the levels of their triplets one
 /// at a time, each where they are wanted, and gives the moves of the records, in reading order. A leaf's move comes
 /// before the leaf's next triplet is wanted, so the value can be taken then.
-#[derive(Debug, Drop)]
+#[derive(Drop)]
 pub struct LevelWalk {
     pub(crate) course: Course,
     /// The leaf whose next triplet is wanted. At first each is, in turn, and then the one that was given last.

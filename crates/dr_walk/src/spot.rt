@@ -19,14 +19,14 @@ use std::alloc::Global;
 const MOST_FRAMES: usize = 33;
 
 /// The place of the next item of an instance, and the repetition level with which the instance began.
-#[derive(Clone, Copy, PartialEq, Eq, Debug)]
+#[derive(Clone, Copy, PartialEq, Eq)]
 pub struct Frame {
     pub place: usize,
     pub begun: u8,
 }
 
 /// Whether a walk is between records, in an instance, or at the end of one that another follows.
-#[derive(Clone, Copy, PartialEq, Eq, Debug)]
+#[derive(Clone, Copy, PartialEq, Eq)]
 pub enum Stage {
     Between,
     Within,
@@ -34,7 +34,7 @@ pub enum Stage {
 }
 
 /// Where a walk stands.
-#[derive(Debug, Drop)]
+#[derive(Drop)]
 pub struct Spot {
     pub(crate) stage: Stage,
     /// How many records are still to come.

@@ -27,7 +27,7 @@ use std::alloc::Global;
 
 /// A walk over the columns of the selected leaves of records: it takes their triplets one at a time, each where it is
 /// wanted, and gives the moves of the records, in reading order. A text is lent by the triplet that it came with.
-#[derive(Debug, Drop)]
+#[derive(Drop)]
 pub struct Walk<'a> {
     pub(crate) levels: LevelWalk,
     /// The value that comes next of each leaf.

@@ -14,7 +14,7 @@ use dr_memory::NoMemory;
 use std::alloc::Global;
 
 /// Objects of one level, one behind another.
-#[derive(Clone, Copy, PartialEq, Eq, Debug)]
+#[derive(Clone, Copy, PartialEq, Eq)]
 pub(crate) struct Run {
     /// The number of the level.
     pub(crate) level: u32,
@@ -25,7 +25,7 @@ pub(crate) struct Run {
 }
 
 /// Objects, run by run: their cells, one object's behind another's.
-#[derive(Debug, Drop)]
+#[derive(Drop)]
 pub(crate) struct Built {
     pub(crate) cells: Cells,
     pub(crate) runs: Vec<Run>,

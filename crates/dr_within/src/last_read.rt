@@ -11,7 +11,7 @@ use dr_memory::NoMemory;
 use std::alloc::Global;
 
 /// What a value is; a text lies in the buffer beside it.
-#[derive(Clone, Copy, PartialEq, Eq, Debug)]
+#[derive(Clone, Copy, PartialEq, Eq)]
 pub(crate) enum Scalar {
     Null,
     Bool(bool),
@@ -20,7 +20,7 @@ pub(crate) enum Scalar {
 }
 
 /// A value or NULL, of its own. The buffer of its text is used again.
-#[derive(Debug, Drop)]
+#[derive(Drop)]
 pub(crate) struct LastValue {
     pub(crate) scalar: Scalar,
     pub(crate) text: String,
@@ -88,7 +88,7 @@ fn keep_at(
 }
 
 /// What was read last of each of a plan's leaves, of its own.
-#[derive(Debug, Drop)]
+#[derive(Drop)]
 pub struct LastRead {
     pub(crate) values: Vec<LastValue>,
 }

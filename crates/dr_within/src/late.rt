@@ -19,7 +19,7 @@ use std::alloc::Global;
 
 /// Rows of which it isn't known yet whether they are kept: the cells of their key tuples, one row's behind another's,
 /// and what was taken of each. The values are their own, for they are read at later moves.
-#[derive(Debug, Drop)]
+#[derive(Drop)]
 pub(crate) struct LateRows {
     /// How many cells a key tuple has.
     pub(crate) width: usize,

@@ -27,14 +27,14 @@ use std::alloc::Global;
 
 /// A level of whose instances objects are made: the places of the items that belong to it, in SELECT order, and the
 /// numbers of the levels of its lists, in the order of the lists.
-#[derive(Debug, Drop)]
+#[derive(Drop)]
 pub(crate) struct Level {
     pub(crate) items: Vec<u32>,
     pub(crate) lists: Vec<u32>,
 }
 
 /// The levels of whose instances a plan makes objects, each at its number: 0 is the record's.
-#[derive(Debug, Drop)]
+#[derive(Drop)]
 pub(crate) struct Levels {
     pub(crate) rows: Vec<Option<Level>>,
 }

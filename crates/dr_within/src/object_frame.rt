@@ -25,7 +25,7 @@ use dr_scalar::eval;
 use std::alloc::Global;
 
 /// Objects, and what was gathered for items with WITHIN.
-#[derive(Debug, Drop)]
+#[derive(Drop)]
 pub(crate) struct ObjectFrame {
     pub(crate) built: Built,
     pub(crate) values: WithinValues,

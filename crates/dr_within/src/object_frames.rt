@@ -25,7 +25,7 @@ use std::mem;
 
 /// What was made in each open branch, but for what was made in those that are open inside of it, and what was made of
 /// the records before.
-#[derive(Debug, Drop)]
+#[derive(Drop)]
 pub(crate) struct ObjectFrames {
     /// In the innermost branch; where none is open, of the records before.
     pub(crate) inner: ObjectFrame,

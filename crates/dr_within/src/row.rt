@@ -12,7 +12,7 @@ use crate::slots::keep_value;
 use dr_levels::{Move, ValueRef};
 
 /// What was read last of each of a plan's leaves, lent: the moves of a stretch lend their values for its length.
-#[derive(Debug, Drop)]
+#[derive(Drop)]
 pub struct Row<'r> {
     pub(crate) slots: Vec<Option<ValueRef<'r>>>,
     /// Room for a key tuple.

@@ -19,14 +19,14 @@ use dr_plan::Fold;
 use std::alloc::Global;
 
 /// What is gathered for the item at a place.
-#[derive(Debug, Drop)]
+#[derive(Drop)]
 pub(crate) struct ItemValues {
     pub(crate) item: u32,
     pub(crate) gathered: Accumulator,
 }
 
 /// What is gathered for items in a branch.
-#[derive(Debug, Drop)]
+#[derive(Drop)]
 pub(crate) struct WithinValues {
     pub(crate) entries: Vec<ItemValues>,
 }

@@ -12,7 +12,7 @@ use clap::ArgMatches;
 use std::alloc::{AllocError, Global};
 
 /// The values of `dump`.
-#[derive(PartialEq, Eq, Debug, Drop)]
+#[derive(PartialEq, Eq, Drop)]
 pub struct Dump {
     /// The path of the table file.
     pub table: String,

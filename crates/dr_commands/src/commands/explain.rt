@@ -12,7 +12,7 @@ use clap::ArgMatches;
 use std::alloc::{AllocError, Global};
 
 /// The values of `explain`.
-#[derive(PartialEq, Eq, Debug, Drop)]
+#[derive(PartialEq, Eq, Drop)]
 pub struct Explain {
     /// The path of the schema.
     pub schema: String,

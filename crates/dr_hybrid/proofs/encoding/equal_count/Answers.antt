@@ -1,22 +1,28 @@
-use Rattle.std.proofs.Common.{◌≡◌, ◌∙◌, sym, length, get_or, arith}
-use Rattle.dr_hybrid.proofs.NumberLemmas.{Told, length-numbers, number_read}
-use Rattle.dr_hybrid.proofs.PackLemmas.{counting_more, counting_ends, counting_all}
+use Rattle.std.proofs.Common.{◌≡◌, ◌≤◌, ◌+◌, ◌-◌, ◌∙◌, ℕ, List, length, take, drop, ap, sym, arith}
+use Rattle.dr_formats.specs.Hybrid.{equal_front}
+use Rattle.dr_hybrid.proofs.NumberLemmas.{Told, length-numbers, numbers-take, numbers-drop, numbers_rest}
+use Rattle.dr_hybrid.proofs.FrontLemmas.{front_of_taken, more_equal}
 use Rattle.dr_hybrid.proofs.encoding.equal_count.Goals as goal
 
-pub returns-then-widened-value-clause-count : goal.returns-then-widened-value-clause-count
-returns-then-widened-value-clause-count g c =
+pub blocks-2-init : goal.blocks-2-init
+blocks-2-init g c =
     let t : Told g.row.T.Denot = record { number = g.T.Packable.number; numbers = g.T.Packable.numbers; none = g.met.T.Packable.none; more = g.met.T.Packable.more } in
-    let r : c.widened.result ≡ get_or (t.numbers c.args.values.now) c.loop-index.index 0 = c.widened.ensures ∙ number_read g.row.T.Denot t c.args.values.now c.loop-index.index c.index-values-index.result (omega arith) c.index-values-index.is in
-    counting_ends c.args.value (t.numbers c.args.values.now) c.loop-index.index (omega (arith, length-numbers g.row.T.Denot t c.args.values.now)) (λ e. c.if-widened-value.true (r ∙ e)) c.loop-index.invariant
+    let near : ℕ = c.min-near.result in
+    let e : c.equal_near-equal.result ≡ equal_front c.args.value (take near (t.numbers c.args.values.now)) = c.equal_near-equal.ensures.count ∙ ap (equal_front c.args.value) (numbers-take g.row.T.Denot t near c.args.values.now) in
+    (omega (arith, c.min-near.ensures), front_of_taken c.args.value near (t.numbers c.args.values.now) (omega (arith, c.if-equal-near.false, e)))
 
-pub loop-index-preserved : goal.loop-index-preserved
-loop-index-preserved g c =
+pub blocks-2-preserved : goal.blocks-2-preserved
+blocks-2-preserved g c =
     let t : Told g.row.T.Denot = record { number = g.T.Packable.number; numbers = g.T.Packable.numbers; none = g.met.T.Packable.none; more = g.met.T.Packable.more } in
-    let r : c.widened.result ≡ get_or (t.numbers c.args.values.now) c.loop-index.index 0 = c.widened.ensures ∙ number_read g.row.T.Denot t c.args.values.now c.loop-index.index c.index-values-index.result (omega arith) c.index-values-index.is in
-    counting_more c.args.value (t.numbers c.args.values.now) c.loop-index.index (omega (arith, length-numbers g.row.T.Denot t c.args.values.now)) (sym r ∙ c.if-widened-value.false) c.loop-index.invariant
+    let l : length (t.numbers c.args.values.now) ≡ length c.args.values.now = length-numbers g.row.T.Denot t c.args.values.now in
+    let some : c.blocks-2.done + 64 ≤ length c.args.values.now = omega (arith, c.blocks-2-test.true) in
+    let n : c.blocks-2.done + 64 - c.blocks-2.done ≡ 64 = omega arith in
+    (some, more_equal c.args.value 64 c.blocks-2.done (t.numbers c.args.values.now) _
+      (numbers-take g.row.T.Denot t _ (drop c.blocks-2.done c.args.values.now) ∙ ap (take _) (numbers-drop g.row.T.Denot t c.blocks-2.done c.args.values.now) ∙ ap (λ (k : ℕ). take k (drop c.blocks-2.done (t.numbers c.args.values.now))) n)
+      (c.are_all.ensures c.if-are_all.true) (omega (arith, some, l)) c.blocks-2.invariant.1)
 
 pub returns-clause-count : goal.returns-clause-count
 returns-clause-count g c =
     let t : Told g.row.T.Denot = record { number = g.T.Packable.number; numbers = g.T.Packable.numbers; none = g.met.T.Packable.none; more = g.met.T.Packable.more } in
-    let e : c.loop-index.index ≡ length c.args.values.now = omega arith in
-    sym (counting_all c.args.value (t.numbers c.args.values.now) c.loop-index.index (omega (arith, length-numbers g.row.T.Denot t c.args.values.now)) c.loop-index.invariant ∙ e)
+    let e : c.equal_near.result ≡ equal_front c.args.value (drop c.blocks-2.done (t.numbers c.args.values.now)) = c.equal_near.ensures.count ∙ ap (equal_front c.args.value) (numbers_rest g.row.T.Denot t c.blocks-2.done c.args.values.now) in
+    omega (arith, e, c.blocks-2.invariant.1)
