@@ -75,7 +75,7 @@ build() {
     return "$no_answer"
   fi
   grep '^logic=proved' "$room/dremel.log" >&2
-  say "proved and built in $((SECONDS / 60)) min $((SECONDS % 60)) s"
+  say "proved and built in $((SECONDS / 60)) min $((SECONDS % 60)) s; what was proved is kept for the next build in $libraries ($(du -sh "$libraries" | cut -f 1)), and may be removed"
   tell_where
 }
 
@@ -94,7 +94,7 @@ tell_where() {
 # Puts the program that was built into its place, where it answers; it is as old as its sources. The one without proof goes.
 put_program() {
   failed=dremel
-  { link_program "$room/dremel.o" "$room/dremel" && answers_first_query "$room/dremel" && cp "$room/dremel" "$program.new" \
+  { link_program "$room/dremel.o" "$room/dremel" && { answers_first_query "$room/dremel" || { echo "it does not answer the first query of README.md" && false; }; } && cp "$room/dremel" "$program.new" \
     && touch -r "$room/started" "$program.new" && mv "$program.new" "$program"; } >>"$room/dremel.log" 2>&1 || { rm -f "$program.new"; return 1; }
   rm -rf "$unproved" "$making"
 }
@@ -135,7 +135,7 @@ prove_crates() {
 begin_proofs() {
   local name first ready
   while [ "$running" -lt "$at_once" ] && { [ "$running" = 0 ] || has_memory; }; do
-    first= ready=0
+    first='' ready=0
     for name in "${!states[@]}"; do
       is_ready "$name" || continue
       ready=$((ready + 1))

@@ -18,7 +18,7 @@ prove_crate() {
 is_verdict() {
   local line each may=0
   line=$(tail -n 1 "$room/$1.log")
-  [[ $line =~ ^logic=proved( (functions|axioms|target|threads|main|may-wait|sum)=[^ ]+)+\ native=nat,char,string\ logic-built=trusted\ libraries-built=trusted\ statements=trusted$ ]] \
+  [[ $line =~ ^logic=proved( (functions|axioms|target|cpu|threads|main|may-wait|sum)=[^ ]+)+\ native=nat,char,string\ logic-built=trusted\ libraries-built=trusted\ statements=trusted$ ]] \
     || { echo "the last line is no verdict over statements alone"; return 1; }
   [[ $line =~ \ may-wait=([0-9]+) ]] && may=${BASH_REMATCH[1]}
   [ "$may" = "${may_wait[$1]:-0}" ] || { echo "$1 may wait at $may places, and crates.txt says ${may_wait[$1]:-0}"; return 1; }
@@ -31,7 +31,7 @@ is_verdict() {
 # A sum of all that a library is made from: the toolchain, its row of crates.txt, its files, and the sums of the libraries below it.
 sum_of_sources() {
   local each
-  { cat "$kit/WHAT" && grep "^$1[ :]" "$sources/crates.txt" && cd "$sources/crates/$1" && find . -type f -print0 | LC_ALL=C sort -z | xargs -0 sha256sum \
+  { tell_kit && grep "^$1[ :]" "$sources/crates.txt" && cd "$sources/crates/$1" && find . -type f -print0 | LC_ALL=C sort -z | xargs -0 sha256sum \
     && for each in ${own_uses[$1]}; do cat "$libraries/$each.sum" || return; done; } | sha256sum
 }
 
