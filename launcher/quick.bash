@@ -1,4 +1,4 @@
-# Answers where the program isn't built: a quick build without proof, made anew for each call.
+# Answers where no program can be made and kept: by a quick build without proof, made anew for each call.
 
 # the most bytes of standard input that the quick build takes
 most_input=67108864
@@ -11,12 +11,7 @@ want_build() {
 
 # Runs the words by `rt try`, which builds the program without proof and runs it, and gives what the program itself wrote and its status.
 run_quick() {
-  case $command in
-    query | ask | dump | stripe | fsm | schema | explain | gen | trial) ;;
-    load) want_build "load wants the built program"; return ;;
-    *) print_usage; return 1 ;;
-  esac
-  command -v rt >/dev/null || { say "the program isn't built: that wants the command rt of the Rattle toolchain"; return "$no_answer"; }
+  [ "$command" != load ] || { want_build "load wants a program that is kept, and none without proof can be made here"; return; }
   make_room
   if ! put_input; then
     want_build "the quick build takes at most $most_input bytes of standard input"
@@ -25,7 +20,7 @@ run_quick() {
   make_words_absolute
   local why="not built yet"
   [ ! -x "$program" ] || why="the program is older than its sources"
-  say "$why: this answer comes from a quick build without proof, which takes a minute or two; './dremel --build' proves and builds the program, once, in about $(build_minutes) min"
+  say "$why: this answer comes from a quick build without proof, made for this call alone, in a minute or two; './dremel --build' proves and builds the program, once, in about $(build_minutes) min"
   (cd "$top/crates/dremel" && exec rt try --seconds 300 -- "${words[@]}") <"$room/input" >"$room/out" 2>"$room/err"
   give_answer
 }

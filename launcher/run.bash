@@ -1,8 +1,9 @@
-# Runs the built program.
+# Runs a program.
 
 # Runs it with the words, in the launcher's place where nothing is left to do behind it. Where standard error is a terminal, what the
 # program says there is kept, to be looked at behind it.
 run_program() {
+  local program=$1
   if [ -n "$shows_progress" ] && [ -f /dev/stdin ]; then
     run_beside_progress
   elif [ -t 2 ]; then
