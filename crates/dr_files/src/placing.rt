@@ -102,11 +102,14 @@ fn finish<R: Files>(
     permissions: Option<Permissions>,
     bytes: &[u8],
 ) -> io::Result<()> {
-    unfinished.file.write_all(bytes)?;
-    if let Some(permissions) = permissions {
-        unfinished.file.set_permissions(permissions)?;
+    let file = &mut unfinished.file;
+    if let Some(permissions) = permissions
+        && file.metadata()?.permissions() != permissions
+    {
+        file.set_permissions(permissions)?;
     }
-    unfinished.file.sync_all()?;
+    file.write_all(bytes)?;
+    file.sync_all()?;
     fs::rename(files, unfinished.path.as_str(), path)
 }
 
