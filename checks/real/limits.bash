@@ -28,10 +28,10 @@ if [ "$(id -u)" = 0 ] && mkdir "$work/small" && mount -t tmpfs -o size=64k none 
   mkdir "$work/small/a"
   told "a full disk" 4 "" "outside: keeper" load --schema "$schema" --table "$work/full.table" "$work/small/a" <"$made"
   sees "no table is put" [ ! -e "$work/full.table" ]
-  rm "$work/small/a"/*
+  sees "and no part of a tablet" [ -z "$(ls "$work/small/a")" ]
   head -c 65536 /dev/zero >"$work/small/filler" 2>/dev/null
   told "a table on a full disk" 4 "" "outside: keeper" load --schema "$schema" --table "$work/small/t" --rows 1 "$work/a" <"$records"
-  told "what is left of it" 2 "" "refused table: Head" query --table "$work/small/t" "$rows"
+  sees "nothing is left of it" [ ! -e "$work/small/t" -a ! -e "$work/small/t.unfinished-0" ]
   "$program" gen --seed 0 --records 4096 >"$work/small/out" 2>"$work/err"
   status=$?
   : >"$work/out"

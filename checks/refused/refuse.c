@@ -8,8 +8,10 @@
 #include <fcntl.h>
 #include <pthread.h>
 #include <stdatomic.h>
+#include <stdio.h>
 #include <stdlib.h>
 #include <string.h>
+#include <sys/file.h>
 #include <sys/stat.h>
 #include <unistd.h>
 
@@ -84,6 +86,26 @@ int open(const char *path, int flags, ...) {
 int close(int file) {
     if (is_refused("close")) return REAL(close)(file), errno = EIO, -1;
     return REAL(close)(file);
+}
+
+int flock(int file, int how) {
+    if (is_refused("flock")) return errno = ENOLCK, -1;
+    return REAL(flock)(file, how);
+}
+
+int fchmod(int file, mode_t mode) {
+    if (is_refused("fchmod")) return errno = EPERM, -1;
+    return REAL(fchmod)(file, mode);
+}
+
+int fsync(int file) {
+    if (is_refused("fsync")) return errno = EIO, -1;
+    return REAL(fsync)(file);
+}
+
+int rename(const char *from, const char *to) {
+    if (is_refused("rename")) return errno = EIO, -1;
+    return REAL(rename)(from, to);
 }
 
 int statx(int folder, const char *path, int flags, unsigned mask, struct statx *told) {

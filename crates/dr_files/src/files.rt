@@ -4,6 +4,7 @@ ghost use Rattle.std.specs.BTreeMap.{get_by_text};
 ghost use Rattle.dr_outside.specs.Faults.{raised};
 ghost use Rattle.dr_outside.specs.Link.{IsPartAt, FallsShort};
 
+use crate::placing::{Claim, place};
 use crate::whole::{copy_range, read_whole, tells_size};
 use dr_outside::{Fault, Keeper, Link};
 use std::alloc::Global;
@@ -161,7 +162,7 @@ where
     }
 }
 
-/// The same files, which can also be replaced. It makes no folders.
+/// The same files, which can also be replaced, each whole or not at all. It makes no folders.
 #[derive(Drop)]
 pub struct DirKeeper<R: Files> {
     link: DirLink<R>,
@@ -169,7 +170,7 @@ pub struct DirKeeper<R: Files> {
 
 impl<R: Files> DirKeeper<R>
 where
-    R::File: FileExt,
+    R::File: FileExt + Claim,
 {
     /// The files that `files` reaches. No fault is counted yet.
     pub fn new(alloc: Global, files: R) -> Self
@@ -183,7 +184,7 @@ where
 
 impl<R: Files> Link for DirKeeper<R>
 where
-    R::File: FileExt,
+    R::File: FileExt + Claim,
 {
     ghost shows = { λ s. record { held = None; asked = None; puts = None; faults = s.link.faults; is_steady = false } };
 
@@ -202,12 +203,12 @@ where
 
 impl<R: Files> Keeper for DirKeeper<R>
 where
-    R::File: FileExt,
+    R::File: FileExt + Claim,
 {
     fn put(&mut self, path: &str, bytes: &[u8]) -> Result<(), Fault> {
         self.link.last = None;
         self.link.whole.remove(path);
-        let answer = fs::write(&self.link.files, path, bytes);
+        let answer = place(self.link.alloc, &self.link.files, path, bytes);
         counted(&mut self.link.faults, answer)
     }
 }

@@ -3,10 +3,12 @@
 #![tactic(auto)]
 
 mod files;
+mod placing;
 mod streams;
 #[cfg(test)]
 mod tests;
 mod whole;
 
 pub use files::{DirKeeper, DirLink};
+pub use placing::Claim;
 pub use streams::{Incoming, Outgoing};

@@ -7,7 +7,9 @@ use dr_files::{DirKeeper, DirLink, Incoming, Outgoing};
 use dr_outside::write_all;
 use dr_top::run;
 use std::alloc::{AllocError, Global};
+use std::fs::File;
 use std::io::ErrorKind;
+use std::os::fd::AsRawFd;
 use std::process::ExitCode;
 use std::{env, fs};
 
@@ -16,6 +18,9 @@ const LINKS: usize = 16;
 
 /// The device that holds nothing.
 const NOTHING: &str = "/dev/null";
+
+/// The descriptors of the standard streams are those up to this one.
+const LAST_STANDARD: i32 = 2;
 
 /// The status of a run for which memory was wanting.
 const NO_MEMORY: u8 = 5;
@@ -26,6 +31,15 @@ fn words_of(rt: &HostRuntime, alloc: Global) -> Result<Vec<String>, AllocError> 
         Ok(words) => words.collect(alloc),
         Err(error) if error.kind() == ErrorKind::InvalidData => Ok(Vec::new(alloc)),
         Err(_) => Err(AllocError),
+    }
+}
+
+/// The device that holds nothing in the place of a standard stream that is closed, if one is. The lowest free descriptor
+/// is taken first.
+fn stand_in(rt: &HostRuntime) -> Option<File> {
+    match fs::open(rt, NOTHING) {
+        Ok(file) if file.as_raw_fd() <= LAST_STANDARD => Some(file),
+        _ => None,
     }
 }
 
@@ -47,11 +61,10 @@ fn no_memory(rt: &HostRuntime) -> ExitCode {
 }
 
 fn main(rt: HostRuntime) -> ExitCode {
-    // The lowest free descriptors are taken first: a standard stream that is closed at the start is this device from
-    // here on, and no file that is opened later is taken for it.
-    let _input = fs::open(&rt, NOTHING);
-    let _output = fs::open(&rt, NOTHING);
-    let _error = fs::open(&rt, NOTHING);
+    // So no file that is opened later is taken for a standard stream that is closed at the start.
+    let _input = stand_in(&rt);
+    let _output = stand_in(&rt);
+    let _error = stand_in(&rt);
     let alloc = rt.alloc();
     let Ok(words) = words_of(&rt, alloc) else {
         return no_memory(&rt);
