@@ -1,5 +1,5 @@
 -- The condition of a plan, as it is kept: what it watches, and what it has seen.
-use Rattle.std.specs.Prelude.{ℕ, ⊤, List, Option, None, Some, option_map}
+use Rattle.std.specs.Prelude.{ℕ, ⊤, List, Bool, Option, None, Some, option_map}
 use Rattle.dr_meaning.specs.Walk.{Move}
 use Rattle.dr_prune.specs.PartAnswers.{lasts_of}
 use Rattle.dr_prune.specs.Pruning.{open_in}
@@ -33,3 +33,7 @@ open_if (Some w) = open_in w.pruner
 -- for a condition
 abbrev pub open_for : Condition → ℕ
 open_for c = open_if c.watched
+
+-- whether a condition refused a move
+abbrev pub failed_for : Condition → Bool
+failed_for c = c.failed

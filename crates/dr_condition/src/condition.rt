@@ -1,12 +1,12 @@
 //! The condition of a plan along a walk.
 
-ghost use Rattle.std.specs.Prelude.{◌≡◌, ◌<◌, ◌≤◌, ◌++◌, ◌∷◌, [], List, IfOk, OnOk, length, Some, None};
+ghost use Rattle.std.specs.Prelude.{◌≡◌, ◌<◌, ◌≤◌, ◌++◌, ◌∷◌, [], List, IfOk, OnOk, OnErr, IsErr, length, true, false, Some, None};
 ghost use Rattle.dr_levels.specs.Views.{move_view};
 ghost use Rattle.dr_meaning.specs.Walk.{Move as MeantMove};
 ghost use Rattle.dr_pruning_laws.specs.MovedContexts.{after_moves};
 ghost use Rattle.dr_scalar.specs.Slots.{slot_value};
 ghost use Rattle.dr_condition.specs.Parted.{lent_tests, watch_parts};
-ghost use Rattle.dr_condition.specs.Conditions.{watch_in, HasWatched, open_for};
+ghost use Rattle.dr_condition.specs.Conditions.{watch_in, HasWatched, open_for, failed_for};
 ghost use Rattle.dr_condition.specs.Watching.{TellsKept, dropped_at};
 
 use crate::parts::Parts;
@@ -20,6 +20,8 @@ use std::alloc::Global;
 #[derive(Drop)]
 pub struct Condition<'p> {
     pub(crate) watched: Option<Watched<'p>>,
+    /// Whether a move was refused.
+    pub(crate) failed: bool,
 }
 
 impl<'p> Condition<'p> {
@@ -28,7 +30,10 @@ impl<'p> Condition<'p> {
         ensures watches { watch_in result ≡ None }
         ensures begins { HasWatched result [] }
     {
-        Condition { watched: None }
+        Condition {
+            watched: None,
+            failed: false,
+        }
     }
 
     /// Tests, each with its last leaf, of which this is the last that is read, with the numbers of the repeated fields
@@ -49,14 +54,49 @@ impl<'p> Condition<'p> {
     {
         Ok(Condition {
             watched: Some(Watched::new(alloc, parts, last, chain)?),
+            failed: false,
         })
     }
 
     /// What is known with the next move, where the slots hold what was read last of each leaf, with this move.
     ///
-    /// Errors: want of memory alone.
+    /// Errors: want of memory alone. A condition refuses from then on.
     #[inline(always)]
     pub fn step(
+        &mut self,
+        alloc: Global,
+        read: &Move<'_>,
+        slots: &[Option<ValueRef<'_>>],
+    ) -> Result<Told, NoMemory>
+        requires { open_for self.old < 64 }
+        ensures kept { IfOk result (λ t. (ms : List MeantMove) → HasWatched self.old ms
+            → after_moves (λ i. None) (ms ++ move_view read.now ∷ []) ≡ slot_value slots.now
+            → TellsKept (watch_in self.old) ms (move_view read.now) t.is_kept) }
+        ensures dropped { IfOk result (λ t. (ms : List MeantMove) → HasWatched self.old ms
+            → after_moves (λ i. None) (ms ++ move_view read.now ∷ []) ≡ slot_value slots.now
+            → t.is_dropped ≡ dropped_at (watch_in self.old) ms (move_view read.now)) }
+        ensures watched { OnOk result ((ms : List MeantMove) → HasWatched self.old ms
+            → after_moves (λ i. None) (ms ++ move_view read.now ∷ []) ≡ slot_value slots.now
+            → HasWatched self.new (ms ++ move_view read.now ∷ [])) }
+        ensures watches { watch_in self.new ≡ watch_in self.old }
+        ensures again { failed_for self.old ≡ true → IsErr result }
+        ensures refused { OnErr result (failed_for self.new ≡ true) }
+    {
+        if self.failed {
+            return Err(NoMemory);
+        }
+        match self.watch(alloc, read, slots) {
+            Ok(told) => Ok(told),
+            Err(NoMemory) => {
+                self.failed = true;
+                Err(NoMemory)
+            }
+        }
+    }
+
+    /// As `step`, for a condition that refused nothing, where a refusal isn't noted.
+    #[inline(always)]
+    fn watch(
         &mut self,
         alloc: Global,
         read: &Move<'_>,

@@ -1,15 +1,14 @@
 -- Values in PLAIN, a piece behind others.
-use Rattle.std.proofs.Common.{◌≡◌, ℕ, zero, suc, ◌+◌, ◌-◌, ◌*◌, ◌/◌, ◌%◌, ◌^◌, ◌≤◌, ◌<◌, List, [], ◌∷◌, ◌++◌, map, length, take, drop, get_or, Bool, true, false, refl, sym, ap, ap₂, ◌∙◌, subst, arith, append_assoc, Option, Some, None, Result, Ok, Err}
-use Rattle.std.specs.Prelude.{◌↔◌, OnOk, IsErr, is_ok, is_err}
+use Rattle.std.proofs.Common.{◌≡◌, ℕ, zero, suc, ◌+◌, ◌-◌, ◌*◌, ◌/◌, ◌^◌, ◌≤◌, ◌<◌, List, [], ◌∷◌, ◌++◌, map, length, take, drop, Bool, true, false, refl, sym, ap, ap₂, ◌∙◌, subst, arith, append_assoc, Result, Ok, Err}
+use Rattle.std.specs.Prelude.{◌↔◌, OnOk, IsErr, is_ok}
 use Rattle.std.specs.Str.{is_utf8}
 use Rattle.std.proofs.lemmas.Bool.{le-leb, lt-leb, false≢true}
 use Rattle.std.proofs.lemmas.List.{length-append, length-map, map-append, take_at}
 use Rattle.std.proofs.Math.Seq.{drop-append_seam}
-use Rattle.dr_meaning.specs.Schema.{Kind, bool_kind, int32_kind, int64_kind, text_kind}
-use Rattle.dr_meaning.specs.Record.{Value, bool_value, text_value}
-use Rattle.dr_formats.specs.Reading.{Reading, got, refused, Reader, give, goes_on, ◌>>=◌, bytes_of, IsReadAs}
-use Rattle.dr_formats.specs.LittleEndian.{little_endian, unpacked, bytes_for}
-use Rattle.dr_formats.specs.Plain.{PlainFault, too_short, bad_text, repeatedly, plain_number, checked_text, plain_text, truth_of_bit, plain_truths, plain, plain_read, plain_values}
+use Rattle.dr_meaning.specs.Record.{Value, text_value}
+use Rattle.dr_formats.specs.Reading.{Reading, got, refused, Reader, goes_on, bytes_of, IsReadAs}
+use Rattle.dr_formats.specs.LittleEndian.{little_endian, unpacked}
+use Rattle.dr_formats.specs.Plain.{PlainFault, too_short, bad_text, repeatedly, checked_text, plain_text, truth_of_bit}
 use Rattle.dr_formats.proofs.LocalLemmas.{local_then, local_bytes}
 use Rattle.dr_formats.proofs.ReadingLemmas.{not_refused, same_got}
 use Rattle.dr_bytes.specs.Numbers.{IsFault}

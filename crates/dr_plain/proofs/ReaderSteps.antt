@@ -1,4 +1,5 @@
 -- A reader of values in PLAIN: what each piece leaves.
+use Rattle.std.specs.Prelude.{None}
 use Rattle.std.proofs.Common.{◌≡◌, ℕ, ◌+◌, ◌-◌, ◌*◌, ◌/◌, ◌^◌, ◌≤◌, ◌<◌, List, [], ◌++◌, map, length, drop, refl, sym, ap, ap₂, ◌∙◌, subst, arith, ◌⊎◌, inl, inr}
 use Rattle.std.proofs.lemmas.Bool.{cases_lt}
 use Rattle.std.proofs.lemmas.List.{drop_all, drop-drop, length-append, length-drop, length-map}
@@ -16,7 +17,7 @@ use Rattle.dr_plain.specs.declared.values.PlainFault.{PlainFault}
 use Rattle.dr_plain.specs.declared.values.TextPlace.{TextPlace}
 use Rattle.dr_plain.specs.declared.plain_reader.PlainReader.{PlainReader}
 use Rattle.dr_plain.specs.Views.{Appends, IsFaultOf, text_at, text_values}
-use Rattle.dr_plain.specs.Pieces.{bits_of, HasGiven}
+use Rattle.dr_plain.specs.Pieces.{bits_of, refused_of, HasGiven}
 use Rattle.dr_plain.specs.FrontTexts.{AreFrontTexts}
 use Rattle.dr_plain.proofs.ReadSteps.{in_front, number_at, numbers_read, numbers_short, length_chunks, truths_read, truths_short}
 use Rattle.dr_plain.proofs.CountSteps.{repeated_count}
@@ -57,9 +58,9 @@ pub numbers_joined : (bits n : ℕ) (piece : List ℕ) (before after : List Valu
 numbers_joined bits n piece before after h = joined_by bits n piece before after h (cases_lt (length piece) (n * (bits / 8)))
 
 -- numbers of 32 bits
-pub int32s_more : (n : ℕ) (bytes piece : List ℕ) (given before after : List Value) (r new : PlainReader) → HasGiven int32_kind bytes given r → piece ≡ drop r.place bytes → Appends (plain_read (plain int32_kind n piece)) before after → drop new.place bytes ≡ drop (n * 4) piece
+pub int32s_more : (n : ℕ) (bytes piece : List ℕ) (given before after : List Value) (r new : PlainReader) → HasGiven int32_kind bytes given r → piece ≡ drop r.place bytes → Appends (plain_read (plain int32_kind n piece)) before after → drop new.place bytes ≡ drop (n * 4) piece → refused_of new ≡ refused_of r
     → (more : List Value) × (length more ≡ n) × (after ≡ before ++ more) × HasGiven int32_kind bytes (given ++ more) new
-int32s_more n bytes piece given before after r new h p a e =
+int32s_more n bytes piece given before after r new h p a e u =
     let j = numbers_joined 32 n piece before after a in (
       j.0,
       j.1,
@@ -68,12 +69,13 @@ int32s_more n bytes piece given before after r new h p a e =
         rest = drop (n * 4) piece;
         read = given_more (plain_number 32) n r.place bytes h.rest piece (drop (n * 4) piece) given j.0 h.read h.stands p j.3 j.1;
         stands = sym e;
+        unrefused = u ∙ h.unrefused;
       },
     )
 
-pub int64s_more : (n : ℕ) (bytes piece : List ℕ) (given before after : List Value) (r new : PlainReader) → HasGiven int64_kind bytes given r → piece ≡ drop r.place bytes → Appends (plain_read (plain int64_kind n piece)) before after → drop new.place bytes ≡ drop (n * 8) piece
+pub int64s_more : (n : ℕ) (bytes piece : List ℕ) (given before after : List Value) (r new : PlainReader) → HasGiven int64_kind bytes given r → piece ≡ drop r.place bytes → Appends (plain_read (plain int64_kind n piece)) before after → drop new.place bytes ≡ drop (n * 8) piece → refused_of new ≡ refused_of r
     → (more : List Value) × (length more ≡ n) × (after ≡ before ++ more) × HasGiven int64_kind bytes (given ++ more) new
-int64s_more n bytes piece given before after r new h p a e =
+int64s_more n bytes piece given before after r new h p a e u =
     let j = numbers_joined 64 n piece before after a in (
       j.0,
       j.1,
@@ -82,6 +84,7 @@ int64s_more n bytes piece given before after r new h p a e =
         rest = drop (n * 8) piece;
         read = given_more (plain_number 64) n r.place bytes h.rest piece (drop (n * 8) piece) given j.0 h.read h.stands p j.3 j.1;
         stands = sym e;
+        unrefused = u ∙ h.unrefused;
       },
     )
 
@@ -97,9 +100,9 @@ int64s_fault PlainFault.BadText n bytes piece given r h p w = given_fault (plain
 
 -- ---- truth values
 
-pub bools_more : (n : ℕ) (bytes : List ℕ) (given before after : List Value) (r new : PlainReader) → HasGiven bool_kind bytes given r → bytes_for (r.place + n) ≤ length bytes → after ≡ before ++ bits_of bytes r.place n → new.place ≡ r.place + n
+pub bools_more : (n : ℕ) (bytes : List ℕ) (given before after : List Value) (r new : PlainReader) → HasGiven bool_kind bytes given r → bytes_for (r.place + n) ≤ length bytes → after ≡ before ++ bits_of bytes r.place n → new.place ≡ r.place + n → refused_of new ≡ refused_of r
     → (more : List Value) × (length more ≡ n) × (after ≡ before ++ more) × HasGiven bool_kind bytes (given ++ more) new
-bools_more n bytes given before after r new h l a e =
+bools_more n bytes given before after r new h l a e u =
     let m : ℕ = length given in
     let more : List Value = bits_of bytes r.place n in
     let j : length more ≡ n = length-map (unpacked n 1 (little_endian bytes / 2 ^ r.place)) truth_of_bit ∙ length_unpacked n 1 (little_endian bytes / 2 ^ r.place) in
@@ -113,6 +116,7 @@ bools_more n bytes given before after r new h l a e =
         rest = drop (bytes_for (r.place + n)) bytes;
         read = ap (λ k. plain_truths k bytes) z ∙ (truths_read (r.place + n) bytes l ∙ ap (λ vs. got vs (drop (bytes_for (r.place + n)) bytes)) (sym (bits_behind bytes r.place n) ∙ ap (λ vs. vs ++ more) (ap (bits_of bytes 0) h.stands ∙ same)));
         stands = e ∙ sym z;
+        unrefused = u ∙ h.unrefused;
       },
     )
   where
@@ -125,8 +129,8 @@ bools_fault n bytes given r h l = subst (λ k. IsFault too_short (plain_truths (
 -- ---- texts
 
 pub texts_more : (n : ℕ) (bytes behind piece : List ℕ) (given : List Value) (places : List TextPlace) (r new : PlainReader) → HasGiven text_kind bytes given r → behind ≡ drop r.place bytes → AreFrontTexts n behind piece
-    → Appends (plain_read (plain text_kind n piece)) [] (text_values piece places) → drop new.place bytes ≡ drop (length piece * 1) behind → (length places ≡ n) × HasGiven text_kind bytes (given ++ text_values piece places) new
-texts_more n bytes behind piece given places r new h p f a e =
+    → Appends (plain_read (plain text_kind n piece)) [] (text_values piece places) → drop new.place bytes ≡ drop (length piece * 1) behind → refused_of new ≡ refused_of r → (length places ≡ n) × HasGiven text_kind bytes (given ++ text_values piece places) new
+texts_more n bytes behind piece given places r new h p f a e u =
     let s = was_appended (repeatedly plain_text n piece) (text_values piece places) a in
     let l : length (text_values piece places) ≡ n = repeated_count plain_text n piece (text_values piece places) s.0 s.1 in
     let z : length piece * 1 ≡ length piece = omega arith in (
@@ -135,6 +139,7 @@ texts_more n bytes behind piece given places r new h p f a e =
         rest = drop (length piece) behind;
         read = given_more plain_text n r.place bytes h.rest behind (drop (length piece) behind) given (text_values piece places) h.read h.stands p (f.texts (text_values piece places) s.0 s.1) l;
         stands = sym (e ∙ ap (λ k. drop k behind) z);
+        unrefused = u ∙ h.unrefused;
       },
     )
   where
@@ -162,11 +167,11 @@ pub joined_count : {A : Type 0} (f : A → Value) (n : ℕ) (old new : List A) (
 joined_count f n old new more e l =
     sym (length-map new f) ∙ (ap length e ∙ (length-append (map f old) more ∙ ap₂ (λ x y. x + y) (length-map old f) l))
 
-pub nothing_given : (k : Kind) (bytes : List ℕ) (r : PlainReader) → r.place ≡ 0 → HasGiven k bytes [] r
-nothing_given bool_kind bytes r e = record { rest = drop (bytes_for 0) bytes; read = truths_read 0 bytes (omega arith); stands = e }
-nothing_given int32_kind bytes r e = record { rest = bytes; read = refl; stands = ap (λ k. drop k bytes) (sym e) }
-nothing_given int64_kind bytes r e = record { rest = bytes; read = refl; stands = ap (λ k. drop k bytes) (sym e) }
-nothing_given text_kind bytes r e = record { rest = bytes; read = refl; stands = ap (λ k. drop k bytes) (sym e) }
+pub nothing_given : (k : Kind) (bytes : List ℕ) (r : PlainReader) → r.place ≡ 0 → refused_of r ≡ None → HasGiven k bytes [] r
+nothing_given bool_kind bytes r e u = record { rest = drop (bytes_for 0) bytes; read = truths_read 0 bytes (omega arith); stands = e; unrefused = u }
+nothing_given int32_kind bytes r e u = record { rest = bytes; read = refl; stands = ap (λ k. drop k bytes) (sym e); unrefused = u }
+nothing_given int64_kind bytes r e u = record { rest = bytes; read = refl; stands = ap (λ k. drop k bytes) (sym e); unrefused = u }
+nothing_given text_kind bytes r e u = record { rest = bytes; read = refl; stands = ap (λ k. drop k bytes) (sym e); unrefused = u }
 
 -- the place behind so many more bytes
 pub place_behind : (place m p : ℕ) (bytes rest : List ℕ) → rest ≡ drop place bytes → m ≤ length rest → p ≡ length bytes - (length rest - m) → drop p bytes ≡ drop m rest

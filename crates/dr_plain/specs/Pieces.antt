@@ -1,5 +1,5 @@
 -- Values in PLAIN that are read a piece at a time.
-use Rattle.std.specs.Prelude.{◌≡◌, ◌+◌, ◌/◌, ◌^◌, ℕ, List, ◌++◌, length, drop, map, Result, Ok, Err}
+use Rattle.std.specs.Prelude.{◌≡◌, ◌+◌, ◌/◌, ◌^◌, ℕ, List, ◌++◌, length, drop, map, Option, None, Result, Ok, Err}
 use Rattle.std.specs.Borrow.{Bor}
 use Rattle.dr_meaning.specs.Schema.{Kind, bool_kind, int32_kind, int64_kind, text_kind}
 use Rattle.dr_meaning.specs.Record.{Value}
@@ -22,11 +22,16 @@ StandsBehind int32_kind bytes given rest r = rest ≡ drop r.place bytes
 StandsBehind int64_kind bytes given rest r = rest ≡ drop r.place bytes
 StandsBehind text_kind bytes given rest r = rest ≡ drop r.place bytes
 
--- a reader that gave these values, with which the bytes begin
+-- why a reader gives no values any more, where it is so
+abbrev pub refused_of : PlainReader → Option PlainFault
+refused_of r = r.refused
+
+-- a reader that gave these values, with which the bytes begin, and refused nothing
 pub record HasGiven (k : Kind) (bytes : List ℕ) (given : List Value) (r : PlainReader) : Type 0 where
   pub rest : List ℕ
   pub read : plain k (length given) bytes ≡ got given rest
   pub stands : StandsBehind k bytes given rest r
+  pub unrefused : refused_of r ≡ None
 
 -- n more values joined those before; or all that were asked for, with them, have the fault
 abbrev pub GivesMore : {A : Type 0} → Kind → List ℕ → List Value → ℕ → List Value → List Value → PlainReader → Result A PlainFault → Type 0

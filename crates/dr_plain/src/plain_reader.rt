@@ -1,21 +1,24 @@
 //! Values in PLAIN, read a piece at a time.
 
-ghost use Rattle.std.specs.Prelude.{◌≡◌, ◌+◌, ◌*◌, ◌≤◌, ℕ, [], List, length, map, drop, OnOk, OnErr, IfOk};
+ghost use Rattle.std.specs.Prelude.{◌≡◌, ◌+◌, ◌*◌, ◌≤◌, ℕ, [], List, length, map, drop, Some, Err, OnOk, OnErr, IfOk};
 ghost use Rattle.dr_meaning.specs.Schema as tree;
 ghost use Rattle.dr_meaning.specs.Record.{Value, bool_value, int_value};
 ghost use Rattle.dr_plain.specs.Views.{AreTexts};
-ghost use Rattle.dr_plain.specs.Pieces.{HasGiven, GivesMore, GivesTexts};
+ghost use Rattle.dr_plain.specs.declared.values.PlainFault.{PlainFault};
+ghost use Rattle.dr_plain.specs.Pieces.{HasGiven, GivesMore, GivesTexts, refused_of};
 
 use crate::reading::{append_int32s, append_int64s, bytes_of_bits, push_bits};
 use crate::texts::{append_texts, front_texts};
 use crate::values::{PlainFault, TextPlace};
 
 /// Reads values in PLAIN a piece at a time. Each call takes the bytes of all values, the same ones, and the calls are of
-/// one kind. It has no buffers.
+/// one kind. A refusal is repeated from then on. It has no buffers.
 #[derive(Clone, Copy)]
 pub struct PlainReader {
     /// Where the next value begins: the place of its first byte; of a truth value that of its bit.
     pub(crate) place: usize,
+    /// Why no values are given from now on, where it is so.
+    pub(crate) refused: Option<PlainFault>,
 }
 
 impl PlainReader {
@@ -23,7 +26,10 @@ impl PlainReader {
     pub fn new() -> PlainReader
         ensures { (k : tree.Kind) → (bytes : List ℕ) → HasGiven k bytes [] result }
     {
-        PlainReader { place: 0 }
+        PlainReader {
+            place: 0,
+            refused: None,
+        }
     }
 
     /// Appends the next truth values.
@@ -40,15 +46,20 @@ impl PlainReader {
             (map bool_value (out.new).items) self.new result }
         ensures count { OnOk result (length (out.new).items ≡ length (out.old).items + count) }
         ensures stays { OnErr result ((out.new).items ≡ (out.old).items) }
+        ensures again { (fault : PlainFault) → refused_of self.old ≡ Some fault → result ≡ Err fault }
+        ensures refused { (fault : PlainFault) → result ≡ Err fault → refused_of self.new ≡ Some fault }
     {
+        if let Some(fault) = self.refused {
+            return Err(fault);
+        }
         let Some(end) = self.place.checked_add(count) else {
-            return Err(PlainFault::NoMemory);
+            return self.refuse(PlainFault::NoMemory);
         };
         if bytes.len() < bytes_of_bits(end) {
-            return Err(PlainFault::Short);
+            return self.refuse(PlainFault::Short);
         }
         if out.reserve(count).is_err() {
-            return Err(PlainFault::NoMemory);
+            return self.refuse(PlainFault::NoMemory);
         }
         push_bits(bytes, self.place, end, out);
         self.place = end;
@@ -69,11 +80,20 @@ impl PlainReader {
             (map int_value (out.new).items) self.new result }
         ensures count { OnOk result (length (out.new).items ≡ length (out.old).items + count) }
         ensures stays { OnErr result ((out.new).items ≡ (out.old).items) }
+        ensures again { (fault : PlainFault) → refused_of self.old ≡ Some fault → result ≡ Err fault }
+        ensures refused { (fault : PlainFault) → result ≡ Err fault → refused_of self.new ≡ Some fault }
     {
+        if let Some(fault) = self.refused {
+            return Err(fault);
+        }
         let rest = self.rest(bytes);
-        append_int32s(rest, count, out)?;
-        self.go_behind(bytes, rest, count, 4);
-        Ok(())
+        match append_int32s(rest, count, out) {
+            Ok(()) => {
+                self.go_behind(bytes, rest, count, 4);
+                Ok(())
+            }
+            Err(fault) => self.refuse(fault),
+        }
     }
 
     /// Appends the next 64-bit numbers.
@@ -90,11 +110,20 @@ impl PlainReader {
             (map int_value (out.new).items) self.new result }
         ensures count { OnOk result (length (out.new).items ≡ length (out.old).items + count) }
         ensures stays { OnErr result ((out.new).items ≡ (out.old).items) }
+        ensures again { (fault : PlainFault) → refused_of self.old ≡ Some fault → result ≡ Err fault }
+        ensures refused { (fault : PlainFault) → result ≡ Err fault → refused_of self.new ≡ Some fault }
     {
+        if let Some(fault) = self.refused {
+            return Err(fault);
+        }
         let rest = self.rest(bytes);
-        append_int64s(rest, count, out)?;
-        self.go_behind(bytes, rest, count, 8);
-        Ok(())
+        match append_int64s(rest, count, out) {
+            Ok(()) => {
+                self.go_behind(bytes, rest, count, 8);
+                Ok(())
+            }
+            Err(fault) => self.refuse(fault),
+        }
     }
 
     /// Puts the places of the next texts into the place of others, and answers the bytes that they are places of: those
@@ -113,13 +142,22 @@ impl PlainReader {
         ensures count { OnOk result (length (out.new).items ≡ count) }
         ensures texts { IfOk result (λ piece. AreTexts piece.now (out.new).items) }
         ensures none { OnErr result ((out.new).items ≡ []) }
+        ensures again { (fault : PlainFault) → refused_of self.old ≡ Some fault → result ≡ Err fault }
+        ensures refused { (fault : PlainFault) → result ≡ Err fault → refused_of self.new ≡ Some fault }
     {
         out.clear();
+        if let Some(fault) = self.refused {
+            return Err(fault);
+        }
         let rest = self.rest(bytes);
         let piece = front_texts(rest, count);
-        append_texts(piece, count, out)?;
-        self.go_behind(bytes, rest, piece.len(), 1);
-        Ok(piece)
+        match append_texts(piece, count, out) {
+            Ok(()) => {
+                self.go_behind(bytes, rest, piece.len(), 1);
+                Ok(piece)
+            }
+            Err(fault) => self.refuse(fault),
+        }
     }
 
     /// The bytes that weren't read.
@@ -132,8 +170,18 @@ impl PlainReader {
     fn go_behind(&mut self, bytes: &[u8], rest: &[u8], count: usize, size: usize)
         requires rest { rest.now ≡ drop (self.old).place bytes.now }
         requires there { count * size ≤ length rest.now }
-        ensures { drop (self.new).place bytes.now ≡ drop (count * size) rest.now }
+        ensures place { drop (self.new).place bytes.now ≡ drop (count * size) rest.now }
+        ensures refused { refused_of self.new ≡ refused_of self.old }
     {
         self.place = bytes.len() - (rest.len() - count * size);
+    }
+
+    /// Refuses, now and from now on.
+    fn refuse<T>(&mut self, fault: PlainFault) -> Result<T, PlainFault>
+        ensures refuses { result ≡ Err fault }
+        ensures refused { refused_of self.new ≡ Some fault }
+    {
+        self.refused = Some(fault);
+        Err(fault)
     }
 }

@@ -9,7 +9,7 @@ use Rattle.dr_outside.specs.Link.{Files, LinkShown, Holds}
 use Rattle.dr_reading.specs.Causes.{is_read}
 use Rattle.dr_reading.specs.Scan.{Copy}
 use Rattle.dr_reading.specs.Given.{IsFileThere, SomeIsFile}
-use Rattle.dr_reading.specs.Left.{Tried, LeftTablet, IsCauseAt, AreTried, LeavesJust, no_tablets, is_answered, is_left}
+use Rattle.dr_reading.specs.Left.{Tried, LeftTablet, IsCauseAt, AreTried, LeftUnanswered, AreLeft, LeavesJust, no_tablets, is_answered, is_left}
 use Rattle.dr_reading.specs.Premises.{EachHasFile, SomeFileFailed, EachReadFailed}
 use Rattle.dr_reading.specs.ReadingLaws.{LeftFailedToRead, SteadyLeavesNone}
 use Rattle.dr_reading.proofs.ReadingLemmas.{left_holds_no_file}
@@ -37,7 +37,7 @@ module _ (s : Schema) (F : List Leaf) (link : LinkShown) (files : Files) (held :
   slice_behind [] cs rest = refl
   slice_behind (b ∷ before) cs rest = slice_behind before cs rest
 
-  each_failed : (all before ts : List (List Copy)) (n : ℕ) (left : List LeftTablet) → all ≡ before ++ ts → n ≡ length before → EachHasFile s F files ts → LeavesJust s F link n ts left → EachReadFailed s F files all left
+  each_failed : {HasAnswer : List Copy → Type 0} (all before ts : List (List Copy)) (n : ℕ) (left : List LeftTablet) → all ≡ before ++ ts → n ≡ length before → EachHasFile s F files ts → LeftUnanswered s F link HasAnswer n ts left → EachReadFailed s F files all left
   each_failed all before [] n left e l h (no_tablets m) = tt
   each_failed all before (cs ∷ rest) n left e l h (is_answered m ds more ls g k) =
       each_failed all (before ++ cs ∷ []) rest (suc n) left (e ∙ sym (append_assoc before (cs ∷ []) rest)) (ap suc l ∙ sym (length_one before)) h.1 k
@@ -69,13 +69,24 @@ module _ (s : Schema) (F : List Leaf) (link : LinkShown) (files : Files) (held :
     none_failed (c ∷ cs) (t ∷ ts) R a (inl f) = file_read c t R a.1 f
     none_failed (c ∷ cs) (t ∷ ts) R a (inr f) = none_failed cs ts R a.2 f
 
-    none_left : (ts : List (List Copy)) (n : ℕ) (left : List LeftTablet) → EachHasFile s F files ts → LeavesJust s F link n ts left → left ≡ []
+    none_left : {HasAnswer : List Copy → Type 0} (ts : List (List Copy)) (n : ℕ) (left : List LeftTablet) → EachHasFile s F files ts → LeftUnanswered s F link HasAnswer n ts left → left ≡ []
     none_left [] n left h (no_tablets m) = refl
     none_left (cs ∷ rest) n left h (is_answered m ds more ls g k) = none_left rest (suc n) left h.1 k
     none_left (cs ∷ rest) n left h (is_left m ds more ls tried a k) = absurd (none_failed cs tried h.0.0 a h.0.1)
 
+-- whatever answers the other tablets have
+pub are_left : {HasAnswer : List Copy → Type 0} (s : Schema) (F : List Leaf) (link : LinkShown) (n : ℕ) (ts : List (List Copy)) (left : List LeftTablet) → LeftUnanswered s F link HasAnswer n ts left → AreLeft s F link n ts left
+are_left s F link n ts left (no_tablets m) = no_tablets m
+are_left s F link n ts left (is_answered m ds more ls g k) = is_answered m ds more ls tt (are_left s F link (suc m) more ls k)
+are_left s F link n ts left (is_left m ds more ls tried a k) = is_left m ds more ls tried a (are_left s F link (suc m) more ls k)
+
 pub left_failed_to_read : LeftFailedToRead
 left_failed_to_read s F link files ts left held h k = each_failed s F link files held ts [] ts 0 left refl refl h k
 
-pub steady_leaves_none : SteadyLeavesNone
+pub steady_leaves_no_tablet : SteadyLeavesNone
+steady_leaves_no_tablet s F link files ts left held steady h k = none_left s F link files held steady ts 0 left h k
+
+-- where the link itself gives the others
+pub steady_leaves_none : (s : Schema) (F : List Leaf) (link : LinkShown) (files : Files) (ts : List (List Copy)) (left : List LeftTablet) → link.held ≡ Some files
+    → IsTrue link.is_steady → EachHasFile s F files ts → LeavesJust s F link 0 ts left → left ≡ []
 steady_leaves_none s F link files ts left held steady h k = none_left s F link files held steady ts 0 left h k

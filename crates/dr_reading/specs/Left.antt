@@ -40,6 +40,10 @@ pub data LeftUnanswered (s : Schema) (F : List Leaf) (link : LinkShown) (HasAnsw
       → AreTried s F link cs tried → LeftUnanswered s F link HasAnswer (suc t) rest left
       → LeftUnanswered s F link HasAnswer t (cs ∷ rest) (record { tablet = t; tried = tried } ∷ left)
 
+-- just these tablets are left, whatever answers the others have: records that this link gives, or another one
+abbrev pub AreLeft : Schema → List Leaf → LinkShown → ℕ → List (List Copy) → List LeftTablet → Type 0
+AreLeft s F link t tablets left = LeftUnanswered s F link (λ cs. ⊤) t tablets left
+
 -- just these tablets are left, and each other one gives some records
 abbrev pub LeavesJust : Schema → List Leaf → LinkShown → ℕ → List (List Copy) → List LeftTablet → Type 0
 LeavesJust s F link t tablets left = LeftUnanswered s F link (λ cs. (R : List Node) × IsGiven s F link.held cs R) t tablets left

@@ -12,7 +12,7 @@ use Rattle.dr_reading.specs.Scan.{Copy, Scan, joined}
 use Rattle.dr_reading.specs.Given.{AreGiven}
 use Rattle.dr_reading.specs.Held.{present}
 use Rattle.dr_reading.specs.Causes.{is_read, IsJustified, RisesApart}
-use Rattle.dr_reading.specs.Left.{LeftTablet, IsCauseAt, LeavesJust, causes_met}
+use Rattle.dr_reading.specs.Left.{LeftTablet, IsCauseAt, AreLeft, LeavesJust, causes_met}
 use Rattle.dr_reading.specs.InTurn.{TabletRead, AreRead, ReadsInTurn, left_from, records_in}
 
 -- the records that are given have the projections of the tablets' records
@@ -36,15 +36,16 @@ abbrev pub LeftHoldsNoFile : Type 0
 LeftHoldsNoFile = (s : Schema) (F : List Leaf) (link : LinkShown) (files : Files) (path bytes : List ℕ) (c : Cause) (R : List Node) → link.held ≡ Some files
     → files path ≡ Some bytes → IsCauseAt s F link path c → is_read c ≡ false → IsFileOf bytes s F R → ⊥
 
--- where each tablet has a copy that is a file of some records, each that is left has such a copy, and what is told of it is a failed read
+-- where each tablet has a copy that is a file of some records, each that is left has such a copy, and what is told of it is a failed read; whatever
+-- answers the other tablets have, by this link or by another
 abbrev pub LeftFailedToRead : Type 0
 LeftFailedToRead = (s : Schema) (F : List Leaf) (link : LinkShown) (files : Files) (ts : List (List Copy)) (left : List LeftTablet) → link.held ≡ Some files
-    → EachHasFile s F files ts → LeavesJust s F link 0 ts left → EachReadFailed s F files ts left
+    → EachHasFile s F files ts → AreLeft s F link 0 ts left → EachReadFailed s F files ts left
 
 -- and none is left where the link is steady
 abbrev pub SteadyLeavesNone : Type 0
 SteadyLeavesNone = (s : Schema) (F : List Leaf) (link : LinkShown) (files : Files) (ts : List (List Copy)) (left : List LeftTablet) → link.held ≡ Some files
-    → IsTrue link.is_steady → EachHasFile s F files ts → LeavesJust s F link 0 ts left → left ≡ []
+    → IsTrue link.is_steady → EachHasFile s F files ts → AreLeft s F link 0 ts left → left ≡ []
 
 -- ---- what one link reads in turn
 

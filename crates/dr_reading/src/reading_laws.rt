@@ -20,7 +20,7 @@ pub fn left_holds_no_file()
 {}
 
 /// Where each tablet has a copy that is a file, a tablet is left only where the read of such a copy failed, and none
-/// where the link is steady.
+/// where the link is steady, whatever answers the others have, by this link or by another.
 pub fn held_files_are_read()
     ensures failed { LeftFailedToRead }
     ensures steady { SteadyLeavesNone }

@@ -1,4 +1,4 @@
-use Rattle.std.proofs.Common.{◌≡◌, ◌∙◌, ◌++◌, ◌∷◌, [], sym, ap, arith, length, take, refl}
+use Rattle.std.proofs.Common.{◌≡◌, ◌∙◌, ◌++◌, ◌∷◌, [], ap, arith, length, take, refl}
 use Rattle.dr_formats.specs.Plain.{repeatedly}
 use Rattle.dr_bytes.specs.Cutting.{left}
 use Rattle.dr_plain.specs.FrontTexts.{text_bytes}

@@ -6,7 +6,7 @@ use Rattle.dr_condition.specs.Conditions.{watched_parts, HasWatchedIf}
 use Rattle.dr_condition.specs.Parted.{WatchedParts}
 use Rattle.dr_condition.specs.Watching.{TellsKept, dropped_at}
 use Rattle.dr_condition.specs.declared.watched.Watched.{Watched}
-use Rattle.dr_condition.proofs.condition.Condition.step.Goals as goal
+use Rattle.dr_condition.proofs.condition.Condition.watch.Goals as goal
 
 pub returns-in-Some-clause-watches : goal.returns-in-Some-clause-watches
 returns-in-Some-clause-watches c = ap (λ (w : WatchedParts). Some w) c.step.ensures.watches ∙ ap (option_map watched_parts) (sym c.in-Some.is)
