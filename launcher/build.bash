@@ -167,9 +167,9 @@ begin_proof() {
   [ "$jobs" -le 4 ] || jobs=4
   set -m
   { prove_crate "$1" "$jobs" >"$room/$1.log" 2>&1; echo "$?" >"$room/$1.end"; } </dev/null &
+  proofs[$!]=$! states[$1]=$!
   set +m
-  proofs[$!]=$!
-  states[$1]=$! running=$((running + 1))
+  running=$((running + 1))
 }
 
 # Takes the proofs that have ended, and fails where one of them did.

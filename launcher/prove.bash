@@ -3,6 +3,7 @@
 # Proves a crate with so many jobs. A library is built of it, with its statements, and kept; of the program an object file.
 prove_crate() {
   local words
+  export TMPDIR=$room
   cd "$sources/crates/$1" || return
   take_built_words "$1" "$libraries"
   words+=(--jobs "$2")
