@@ -23,13 +23,9 @@ apart=ok
 for _ in $(seq 20); do
   ends=$(load_once "$made" "$once" "$work/once" & load_once "$work/other.jsonl" "$once" "$work/once"; wait)
   [ "$ends" = $'0\n0' ] || apart=
-  "$program" query --table "$once" "$trial" >/dev/null 2>&1
-  case $? in
-    0 | 2 | 3) ;;
-    *) apart= ;;
-  esac
+  "$program" query --table "$once" "$trial" >/dev/null 2>&1 || apart=
 done
-sees "two loads of other records at once: each ends with 0, and a query behind them with 0, 2 or 3" [ "$apart" ]
+sees "two loads of other records at once: each ends with 0, and so does a query behind them" [ "$apart" ]
 
 meanwhile=ok
 for _ in $(seq 10); do
@@ -37,14 +33,10 @@ for _ in $(seq 10); do
   for number in $(seq 10); do
     words=(query --table "$once" "$trial")
     [ $((number % 2)) = 0 ] || words=(dump --table "$once" DocId)
-    "$program" "${words[@]}" >/dev/null 2>&1
-    case $? in
-      0 | 2 | 3) ;;
-      *) meanwhile= ;;
-    esac
+    "$program" "${words[@]}" >/dev/null 2>&1 || meanwhile=
   done
   wait
   [ "$(cat "$work/ended")" = 0 ] || meanwhile=
 done
-sees "queries and dumps while a load replaces the table: each ends with 0, 2 or 3" [ "$meanwhile" ]
+sees "queries and dumps while a load replaces the table: each ends with 0" [ "$meanwhile" ]
 told "the table behind them" 0 "$whole" "" query --table "$once" "$trial"

@@ -96,14 +96,15 @@ limited() {
 }
 
 mkdir "$work/few"
-head -n 300 "$made" >"$work/few.jsonl"
+"$program" gen --seed 0 --records 15000 >"$work/few.jsonl"
 limited 5
-told "a load of 300 tablets with 5 descriptors" 0 "loaded 300 records into 300 tablets" "" \
-  load --schema "$schema" --table "$work/few.table" --rows 1 "$work/few" <"$work/few.jsonl"
-told "300 tablets, dumped with 5 descriptors" 0 "$(seq -f '{"DocId":%.0f}' 0 299)" "" dump --table "$work/few.table" DocId
+told "a load of 300 tablets with 5 descriptors" 0 "loaded 15000 records into 300 tablets" "" \
+  load --schema "$schema" --table "$work/few.table" --rows 50 "$work/few" <"$work/few.jsonl"
+told "300 tablets, dumped with 5 descriptors" 0 "$(seq -f '{"DocId":%.0f}' 0 14999)" "" dump --table "$work/few.table" DocId
+few="SELECT COUNT(*) AS r, MAX(DocId) AS last FROM Document"
 for workers in 1 2 3 4 8 16; do
   limited $((workers + 5))
-  told "300 tablets, $workers workers, $((workers + 5)) descriptors" 0 '{"r":300}' "" \
-    query --table "$work/few.table" --workers "$workers" "$rows"
+  told "300 tablets, $workers workers, $((workers + 5)) descriptors" 0 '{"r":15000,"last":14999}' "" \
+    query --table "$work/few.table" --workers "$workers" "$few"
 done
 before=()

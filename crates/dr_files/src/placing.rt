@@ -147,21 +147,35 @@ where
     'numbers: for number in 0..MOST_UNFINISHED {
         let path = unfinished_path(alloc, path, number)?;
         remove_left(files, path.as_str());
-        match OpenOptions::new()
-            .write(true)
-            .create_new(true)
-            .open(files, path.as_str())
-        {
-            Ok(file) => {
-                if is_claimed(files, &file, path.as_str()) {
-                    return Ok(Unfinished { path, file });
-                }
-            }
-            Err(error) if error.kind() != ErrorKind::AlreadyExists => return Err(error),
-            Err(_) => {}
+        if let Some(unfinished) = make(files, path)? {
+            return Ok(unfinished);
         }
     }
     Err(io::Error::from(ErrorKind::AlreadyExists))
+}
+
+// Makes and claims an unfinished file at a path; none where something stands there, or another program has claimed it.
+fn make<R: Files>(files: &R, path: String) -> io::Result<Option<Unfinished<R::File>>>
+where
+    R::File: Claim,
+{
+    let made = OpenOptions::new()
+        .write(true)
+        .create_new(true)
+        .open(files, path.as_str());
+    let file = match made {
+        Ok(file) => file,
+        Err(error) if error.kind() == ErrorKind::AlreadyExists => return Ok(None),
+        Err(error) => return Err(error),
+    };
+    match is_claimed(files, &file, path.as_str()) {
+        Ok(true) => Ok(Some(Unfinished { path, file })),
+        Ok(false) => Ok(None),
+        Err(error) => {
+            let _ = fs::remove_file(files, path.as_str());
+            Err(error)
+        }
+    }
 }
 
 // The path of the unfinished file of a number, in the folder of a path.
@@ -186,28 +200,30 @@ where
     let Ok(file) = OpenOptions::new().write(true).open(files, path) else {
         return;
     };
-    if file.claim().is_ok() && stands_at(files, &file, path) {
+    if file.claim().is_ok() && matches!(stands_at(files, &file, path), Ok(true)) {
         let _ = fs::remove_file(files, path);
     }
 }
 
 // Claims a file that was just made at a path: whether no other program took it for one that is left, and has removed it.
 // Where the system lets no file be claimed, none does that.
-fn is_claimed<R: Files>(files: &R, file: &R::File, path: &str) -> bool
+fn is_claimed<R: Files>(files: &R, file: &R::File, path: &str) -> io::Result<bool>
 where
     R::File: Claim,
 {
     match file.claim() {
-        Err(TryLockError::WouldBlock) => false,
+        Err(TryLockError::WouldBlock) => Ok(false),
         _ => stands_at(files, file, path),
     }
 }
 
 // Whether an open file is the one at a path.
-fn stands_at<R: Files>(files: &R, file: &R::File, path: &str) -> bool {
-    match (file.metadata(), fs::metadata(files, path)) {
-        (Ok(own), Ok(there)) => own.dev() == there.dev() && own.ino() == there.ino(),
-        _ => false,
+fn stands_at<R: Files>(files: &R, file: &R::File, path: &str) -> io::Result<bool> {
+    let own = file.metadata()?;
+    match fs::metadata(files, path) {
+        Ok(there) => Ok(own.dev() == there.dev() && own.ino() == there.ino()),
+        Err(error) if error.kind() == ErrorKind::NotFound => Ok(false),
+        Err(error) => Err(error),
     }
 }
 
