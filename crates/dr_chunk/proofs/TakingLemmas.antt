@@ -17,7 +17,7 @@ use Rattle.dr_chunk.specs.declared.byte_range.ByteRange.{ByteRange}
 use Rattle.dr_chunk.specs.Underway.{of_page, ReadsPage, PassesPage, IsUnderway, Begins}
 use Rattle.dr_chunk.specs.declared.chunk_reader.ChunkReader.{ChunkReader}
 use Rattle.dr_chunk.specs.Takers.{leaf_of, wanted_of, is_first_of, dictionary_of, IsLeafOf}
-use Rattle.dr_chunk.specs.Taking.{range_of, left_of, chunk_of, body_in, behind_in, pages_left, joins, BeginWith, Stands, IsTaking, TakesMore}
+use Rattle.dr_chunk.specs.Taking.{range_of, left_of, chunk_of, body_in, behind_in, pages_left, joins, BeginWith, refused_of, Stands, IsTaking, TakesMore}
 use Rattle.dr_chunk.proofs.LengthLemmas.{page_count}
 use Rattle.dr_chunk.proofs.StepLemmas.{pages_behind, next_and_rest}
 use Rattle.dr_chunk.proofs.PageStepLemmas.{moved}
@@ -116,11 +116,12 @@ no_pages_left l k (suc n) first d bytes e z = ap (λ j. triplets_read (pages l j
 -- ---- a reader of a chunk
 
 -- what follows of where it stands
-pub taking : (l : Leaf) (wanted : ℕ) (bytes : List ℕ) (given : List Triplet) (r : ChunkReader) → Stands l wanted bytes given r.stretch r.taker r.page r.body r.pages → IsTaking l wanted bytes given r
-taking l wanted bytes given r s = record {
+pub taking : (l : Leaf) (wanted : ℕ) (bytes : List ℕ) (given : List Triplet) (r : ChunkReader) → refused_of r ≡ None → Stands l wanted bytes given r.stretch r.taker r.page r.body r.pages → IsTaking l wanted bytes given r
+taking l wanted bytes given r u s = record {
   whole = λ z. whole z;
   front = λ ts e. front ts e;
   count = omega (arith, counts, s.wants, ap length s.parts ∙ length-append s.before s.read);
+  unrefused = u;
   stands = s;
 }
   where
@@ -174,9 +175,9 @@ pub page_opened : (l : Leaf) (wanted : ℕ) (bytes : List ℕ) (given : List Tri
     → 0 < wanted_of r.taker → r.pages ≡ suc new.pages → range_of new ≡ range_of r → leaf_of new.taker ≡ leaf_of r.taker → is_first_of new.taker ≡ false
     → Begins page (wanted_of r.taker) (wanted_of new.taker) (dictionary_of new.taker) body new.page
     → page_step l (wanted_of r.taker) (is_first_of r.taker) (dictionary_of r.taker) (behind_in bytes r.stretch r.body) ≡ moved (behind_in bytes new.stretch new.body) page → body_in new.stretch new.body ≡ body
-    → IsTaking l wanted bytes given new
-page_opened l wanted bytes given r new page body t z w k range leaf first b step same =
-    taking l wanted bytes given new (record {
+    → refused_of new ≡ None → IsTaking l wanted bytes given new
+page_opened l wanted bytes given r new page body t z w k range leaf first b step same u =
+    taking l wanted bytes given new u (record {
       leaf = subst (IsLeafOf l) (sym leaf) s.leaf;
       within = subst (λ (x : ByteRange). x.start + x.size ≤ length bytes) (sym range) s.within;
       before = given;
@@ -213,8 +214,8 @@ pub read_on : (l : Leaf) (wanted n : ℕ) (bytes : List ℕ) (given before after
     → new.stretch ≡ r.stretch → new.taker ≡ r.taker → new.body ≡ r.body → new.pages ≡ r.pages
     → (d : List Value) (body : List ℕ) → d ≡ dictionary_of r.taker → body ≡ body_in r.stretch r.body
     → ((s : PageShape) (g : List Triplet) → IsReading s d body g r.page → (more : List Triplet) × (length more ≡ n) × (after ≡ before ++ more) × IsReading s d body (g ++ more) new.page)
-    → TakesMore l wanted bytes given before after new
-read_on l wanted n bytes given before after r new t z a b c d dictionary body e f k = by s.underway
+    → refused_of new ≡ None → TakesMore l wanted bytes given before after new
+read_on l wanted n bytes given before after r new t z a b c d dictionary body e f k left = by s.underway
   where
     s : Stands l wanted bytes given r.stretch r.taker r.page r.body r.pages
     s = t.stands
@@ -243,7 +244,7 @@ read_on l wanted n bytes given before after r new t z a b c d dictionary body e 
         } in
         let one = subst₂ (λ x y. Stands l wanted bytes (given ++ g.0) x y new.page r.body r.pages) (sym a) (sym b) stands in
         let two = subst₂ (λ x y. Stands l wanted bytes (given ++ g.0) new.stretch new.taker new.page x y) (sym c) (sym d) one in
-        (g.0, g.2, taking l wanted bytes (given ++ g.0) new two)
+        (g.0, g.2, taking l wanted bytes (given ++ g.0) new left two)
 
 -- the page spells nothing: the chunk has no triplets
 pub read_none : (l : Leaf) (wanted : ℕ) (bytes : List ℕ) (given : List Triplet) (r : ChunkReader) → IsTaking l wanted bytes given r → 0 < page_left r.page
@@ -263,9 +264,9 @@ read_none l wanted bytes given r t z d body e f k = by s.underway
 
 -- before the first page
 pub at_begin : (l : Leaf) (wanted : ℕ) (bytes : List ℕ) (r : ChunkReader) → IsLeafOf l (leaf_of r.taker) → (range_of r).start + (range_of r).size ≤ length bytes → page_left r.page ≡ 0 → wanted_of r.taker ≡ wanted
-    → is_first_of r.taker ≡ true → dictionary_of r.taker ≡ [] → r.pages ≡ (range_of r).size → behind_in bytes r.stretch r.body ≡ chunk_of bytes (range_of r) → IsTaking l wanted bytes [] r
-at_begin l wanted bytes r leaf within z w first d k rest =
-    taking l wanted bytes [] r (record {
+    → is_first_of r.taker ≡ true → dictionary_of r.taker ≡ [] → r.pages ≡ (range_of r).size → behind_in bytes r.stretch r.body ≡ chunk_of bytes (range_of r) → refused_of r ≡ None → IsTaking l wanted bytes [] r
+at_begin l wanted bytes r leaf within z w first d k rest u =
+    taking l wanted bytes [] r u (record {
       leaf = leaf;
       within = within;
       before = [];

@@ -1,5 +1,5 @@
 -- A chunk that is read a piece at a time: where its reader stands.
-use Rattle.std.specs.Prelude.{◌≡◌, ℕ, ◌+◌, ◌≤◌, List, [], ◌++◌, length, take, drop, Option, Some, None}
+use Rattle.std.specs.Prelude.{◌≡◌, ℕ, ◌+◌, ◌≤◌, List, [], ◌++◌, length, take, drop, Option, Some, None, Result, Ok, Err}
 use Rattle.dr_meaning.specs.Path.{Leaf}
 use Rattle.dr_meaning.specs.Column.{Triplet}
 use Rattle.dr_formats.specs.Page.{triplets_read}
@@ -8,6 +8,7 @@ use Rattle.dr_levels.specs.Views.{LeafForm}
 use Rattle.dr_page.specs.PageReading.{left_of as page_left}
 use Rattle.dr_page.specs.declared.page_reader.PageReader.{PageReader}
 use Rattle.dr_chunk.specs.declared.byte_range.ByteRange.{ByteRange}
+use Rattle.dr_chunk.specs.declared.fault.ChunkFault.{ChunkFault}
 use Rattle.dr_chunk.specs.declared.stretch.Stretch.{Stretch}
 use Rattle.dr_chunk.specs.declared.page_taker.PageTaker.{PageTaker}
 use Rattle.dr_chunk.specs.declared.chunk_reader.ChunkReader.{ChunkReader}
@@ -30,6 +31,15 @@ reader_form r = leaf_form (leaf_of r.taker)
 -- how many bytes of the dictionary's page body and of the page body it holds
 abbrev pub held_of : ChunkReader → ℕ
 held_of r = dictionary_size_of r.taker + r.body
+
+-- why it refuses its chunk, where it does
+abbrev pub refused_of : ChunkReader → Option ChunkFault
+refused_of r = r.refused
+
+-- the refusal of a call, if it is one
+abbrev pub fault_of : {A : Type 0} → Result A ChunkFault → Option ChunkFault
+fault_of (Ok a) = None
+fault_of (Err e) = Some e
 
 -- the bytes of a chunk in a file of these bytes
 abbrev pub chunk_of : List ℕ → ByteRange → List ℕ
@@ -77,6 +87,7 @@ pub record IsTaking (l : Leaf) (wanted : ℕ) (bytes : List ℕ) (given : List T
   -- the chunk's triplets, if it spells any, begin with these
   pub front : (ts : List Triplet) → pages_triplets l wanted (chunk_of bytes (range_of r)) ≡ Some ts → BeginWith given ts
   pub count : length given + left_of r ≡ wanted
+  pub unrefused : refused_of r ≡ None
   pub stands : Stands l wanted bytes given r.stretch r.taker r.page r.body r.pages
 
 -- more joined a column

@@ -1,10 +1,11 @@
 //! Column chunks, read a piece at a time.
 
-ghost use Rattle.std.specs.Prelude.{◌≡◌, ◌≤◌, ◌<◌, ◌+◌, ◌≢◌, ◌^◌, length};
+ghost use Rattle.std.specs.Prelude.{◌≡◌, ◌≤◌, ◌<◌, ◌+◌, ◌≢◌, ◌^◌, length, Some};
 ghost use Rattle.dr_page.specs.PageReading as reading;
 ghost use Rattle.dr_chunk.specs.Stretches.{pending};
 ghost use Rattle.dr_chunk.specs.Takers.{leaf_of, wanted_of};
 ghost use Rattle.dr_chunk.specs.Underway.{HasForm};
+ghost use Rattle.dr_chunk.specs.declared.fault.ChunkFault.{ChunkFault};
 
 use crate::byte_range::ByteRange;
 use crate::fault::ChunkFault;
@@ -29,10 +30,13 @@ pub struct ChunkReader {
     body: usize,
     /// How many pages may still come: each takes a byte at least.
     pages: u64,
+    /// Why the chunk is refused from now on, where it is.
+    refused: Option<ChunkFault>,
     ghost ahead: { body ≤ length (pending stretch) },
     ghost form: { HasForm (leaf_of taker) page },
     ghost few: { wanted_of taker + reading.left_of page < 2 ^ 64 },
     ghost small: { body < 2 ^ 63 },
+    ghost over: { (fault : ChunkFault) → refused ≡ Some fault → wanted_of taker + reading.left_of page ≡ 0 },
 }
 
 impl ChunkReader {
@@ -46,11 +50,12 @@ impl ChunkReader {
     ghost use Rattle.dr_outside.specs.Leaving.{LeavesLink, ServesUntil};
     ghost use Rattle.dr_chunk.specs.Ranges.{is_read_inside, inside};
     ghost use Rattle.dr_chunk.specs.Takers.{leaf_form, IsLeafOf};
-    ghost use Rattle.dr_chunk.specs.Taking.{range_of, left_of, reader_form, held_of, chunk_of, IsTaking, TakesMore};
+    ghost use Rattle.dr_chunk.specs.Taking.{range_of, left_of, reader_form, held_of, chunk_of, refused_of, fault_of, IsTaking, TakesMore};
 
     /// A reader without a chunk. Takes no memory.
     pub fn new(alloc: Global) -> ChunkReader
-        ensures { left_of result ≡ 0 }
+        ensures left { left_of result ≡ 0 }
+        ensures refused { refused_of result ≡ None }
     {
         let none = LeafShape {
             kind: Kind::Bool,
@@ -63,6 +68,7 @@ impl ChunkReader {
             page: PageReader::new(alloc),
             body: 0,
             pages: 0,
+            refused: None,
         }
     }
 
@@ -75,7 +81,9 @@ impl ChunkReader {
         ensures form { reader_form self.new ≡ leaf_form leaf }
         ensures range { range_of self.new ≡ range }
         ensures held { held_of self.new ≡ 0 }
+        ensures refused { refused_of self.new ≡ None }
     {
+        self.refused = None;
         self.page = PageReader::new(alloc);
         self.body = 0;
         self.pages = range.size;
@@ -102,7 +110,8 @@ impl ChunkReader {
     /// where all were given. The file is the one at this path; the link is asked for bytes of the chunk's range alone.
     ///
     /// Errors: the bytes aren't a chunk of so many triplets, an unimplemented encoding included; the link failed; want
-    /// of memory. The column is then as it was, and the reader has no chunk.
+    /// of memory. The column is then as it was. A refusal is repeated until another chunk begins, and the link isn't
+    /// asked.
     pub fn next<L: Link>(
         &mut self,
         alloc: Global,
@@ -128,31 +137,41 @@ impl ChunkReader {
         ensures form { column_form out.new ≡ column_form out.old }
         ensures reader_form { reader_form self.new ≡ reader_form self.old }
         ensures range { range_of self.new ≡ range_of self.old }
-        ensures link { LeavesLink result ChunkFault.Failed (ServesUntil (L.shows link.old) path.now
+        ensures link { refused_of self.old ≡ None
+            → LeavesLink result ChunkFault.Failed (ServesUntil (L.shows link.old) path.now
             ((range_of self.old).start + (range_of self.old).size)) (L.shows link.old) (L.shows link.new) }
         ensures asked { AsksOnly (is_read_inside path.now (inside (range_of self.old) ∷ [])) (L.shows link.old).asked
             (L.shows link.new).asked }
+        // A refusal is one from then on.
+        ensures refused { refused_of self.new ≡ fault_of result }
+        ensures again { (e : ChunkFault) → refused_of self.old ≡ Some e → (result ≡ Err e)
+            × (L.shows link.new ≡ L.shows link.old) }
     {
+        if let Some(fault) = self.refused {
+            return Err(fault);
+        }
         match self.give(alloc, link, path, most, out) {
             Ok(count) => Ok(count),
             Err(fault) => {
-                self.stop(alloc);
+                self.stop(alloc, fault);
                 Err(fault)
             }
         }
     }
 
-    /// Gives up the chunk.
-    fn stop(&mut self, alloc: Global)
+    /// Gives up the chunk, which is refused from now on.
+    fn stop(&mut self, alloc: Global, fault: ChunkFault)
         ensures left { left_of self.new ≡ 0 }
+        ensures refused { refused_of self.new ≡ Some fault }
         ensures reader_form { reader_form self.new ≡ reader_form self.old }
         ensures range { range_of self.new ≡ range_of self.old }
     {
         self.page = PageReader::new(alloc);
         self.taker.stop();
+        self.refused = Some(fault);
     }
 
-    /// As `next`, but for the reader behind an error.
+    /// As `next`, of a chunk that isn't refused, where a refusal isn't noted.
     fn give<L: Link>(
         &mut self,
         alloc: Global,
@@ -161,6 +180,7 @@ impl ChunkReader {
         most: usize,
         out: &mut Column,
     ) -> Result<usize, ChunkFault>
+        requires unrefused { refused_of self.old ≡ None }
         requires form { column_form out.old ≡ reader_form self.old }
         requires some { 0 < most }
         ensures takes { (l : Leaf) (wanted : ℕ) (bytes : List ℕ) (given : List Triplet)
@@ -177,6 +197,7 @@ impl ChunkReader {
         ensures form { column_form out.new ≡ column_form out.old }
         ensures reader_form { reader_form self.new ≡ reader_form self.old }
         ensures range { range_of self.new ≡ range_of self.old }
+        ensures unrefused { refused_of self.new ≡ None }
         ensures link { LeavesLink result ChunkFault.Failed (ServesUntil (L.shows link.old) path.now
             ((range_of self.old).start + (range_of self.old).size)) (L.shows link.old) (L.shows link.new) }
         ensures asked { AsksOnly (is_read_inside path.now (inside (range_of self.old) ∷ [])) (L.shows link.old).asked
@@ -200,6 +221,7 @@ impl ChunkReader {
         link: &mut L,
         path: &str,
     ) -> Result<(), ChunkFault>
+        requires unrefused { refused_of self.old ≡ None }
         requires over { reading.left_of (self.old).page ≡ 0 }
         requires wanted { 0 < wanted_of (self.old).taker }
         ensures takes { (l : Leaf) (wanted : ℕ) (bytes : List ℕ) (given : List Triplet)
@@ -212,6 +234,7 @@ impl ChunkReader {
         ensures pages { OnOk result ((self.new).pages < (self.old).pages) }
         ensures reader_form { reader_form self.new ≡ reader_form self.old }
         ensures range { range_of self.new ≡ range_of self.old }
+        ensures unrefused { refused_of self.new ≡ None }
         ensures link { LeavesLink result ChunkFault.Failed (ServesUntil (L.shows link.old) path.now
             ((range_of self.old).start + (range_of self.old).size)) (L.shows link.old) (L.shows link.new) }
         ensures asked { AsksOnly (is_read_inside path.now (inside (range_of self.old) ∷ [])) (L.shows link.old).asked
@@ -243,6 +266,7 @@ impl ChunkReader {
         most: usize,
         out: &mut Column,
     ) -> Result<usize, ChunkFault>
+        requires unrefused { refused_of self.old ≡ None }
         requires form { column_form out.old ≡ reader_form self.old }
         requires some { 0 < most }
         requires left { 0 < reading.left_of (self.old).page }
@@ -260,6 +284,7 @@ impl ChunkReader {
         ensures form { column_form out.new ≡ column_form out.old }
         ensures reader_form { reader_form self.new ≡ reader_form self.old }
         ensures range { range_of self.new ≡ range_of self.old }
+        ensures unrefused { refused_of self.new ≡ None }
         ensures calm { result ≢ Err ChunkFault.Failed }
     {
         let body = &self.stretch.pending()[..self.body];

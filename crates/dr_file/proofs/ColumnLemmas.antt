@@ -29,6 +29,9 @@ use Rattle.dr_file.specs.declared.opened.Opened.{Opened}
 use Rattle.dr_file.specs.Openings.{ShownChunk, shown_chunk, chunk_place_view, ShownField, shown_from, shown_field, opened_field_view}
 use Rattle.dr_file.specs.Fields.{ShownTelling, itself, nulls, outlined, telling_view, told}
 use Rattle.dr_file.proofs.OutlineLemmas.{outline_is_column, outline_shorter, nulls_are_column}
+use Rattle.dr_file.specs.ChunkPlaces.{all_values}
+use Rattle.dr_file.specs.declared.chunk_place.ChunkPlace.{ChunkPlace}
+use Rattle.dr_file.specs.Streams.{left_by, named_by, triplets_named}
 use Rattle.dr_file.specs.OpenedFiles.{IsOpened, IsColumnOf, IsColumnFault, told_chunk_fault, is_link_fault, HasCounts}
 use Rattle.dr_file.specs.LeafColumns.{shown_triplets, is_good_chunk, triplets_given, chunks_triplets, shown_range, IsShownLeaf}
 
@@ -407,6 +410,35 @@ kept bytes F o i field l h e g =
       rows = (and_parts (rows_agree k.0) (values_fit k.0 (leaves_read k.0 F)) k.4).0;
       all_rows = sym k.5;
     }
+
+-- how many triplets the chunks have that are shown
+value_shown : (n : ℕ) (c : ShownChunk) (o : Option ColumnMeta) → Some c ≡ option_map (shown_chunk n) o → c.values ≡ chunk_values o
+value_shown n c None e = absurd (cc)
+value_shown n c (Some m) e = ap (λ (x : ShownChunk). x.values) (some_chunk c (shown_chunk n m) e)
+
+values_shown : (f : Footer) (l : Leaf) (gs : List RowGroup) (cs : List ChunkPlace) → AreShown f l gs (map chunk_place_view cs) → all_values cs ≡ total (λ (g : RowGroup). chunk_values (leaf_chunk f l g)) gs
+values_shown f l [] [] h = refl
+values_shown f l [] (c ∷ cs) h = absurd (cc)
+values_shown f l (g ∷ gs) [] h = absurd (cc)
+values_shown f l (g ∷ gs) (c ∷ cs) h =
+    let e : Some (chunk_place_view c) ≡ option_map (shown_chunk g.rows) (leaf_chunk f l g) = cc in
+    let t : AreShown f l gs (map chunk_place_view cs) = cc in
+    ap₂ (λ x y. x + y) (value_shown g.rows (chunk_place_view c) (leaf_chunk f l g) e) (values_shown f l gs cs t)
+
+same_footer : (f g : Footer) → Some f ≡ Some g → f ≡ g
+same_footer f g e = cc
+
+-- as many triplets may come of a leaf as the footer names
+pub left_named : (bytes : List ℕ) (o : Opened) (field : OpenedField) (l : Leaf) (f : Footer) (left : ℕ) → Kept bytes o field l → footer_of bytes ≡ Some f → left ≡ all_values field.read.chunks.items
+    → left_by (telling_view field.telling) o.rows left ≡ triplets_named f l
+left_named bytes o field l f left k e h =
+    ap (λ t. left_by t o.rows left) k.telling ∙ (by (leaf_source k.f l) k.chunks ∙ ap (λ g. triplets_named g l) (same_footer k.f f (sym k.is ∙ e)))
+  where
+    by : (src : Option Source) → ChunksShown k.f l src (shown_chunks_of field.read) → left_by (shown_from k.f l src).telling o.rows left ≡ named_by k.f l src
+    by None c = k.all_rows
+    by (Some own_chunks) c = h ∙ values_shown k.f l k.f.meta.groups field.read.chunks.items c
+    by (Some no_chunks) c = k.all_rows
+    by (Some (chunks_of x)) c = h ∙ values_shown k.f x.leaf k.f.meta.groups field.read.chunks.items c
 
 -- the same, where the source is known
 record Sourced (bytes : List ℕ) (f : Footer) (l : Leaf) (src : Option Source) (cs : List ShownChunk) : Type 0 where

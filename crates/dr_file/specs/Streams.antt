@@ -3,9 +3,11 @@ use Rattle.std.specs.Prelude.{◌≡◌, ℕ, ◌+◌, ◌<◌, ◌≤◌, List,
 use Rattle.std.specs.List.{flat_map}
 use Rattle.dr_meaning.specs.Path.{Leaf}
 use Rattle.dr_meaning.specs.Column.{Triplet, triplet}
-use Rattle.dr_formats.specs.File.{Footer, footer_of, leaves_read, bad_data}
+use Rattle.dr_formats.specs.Metadata.{RowGroup}
+use Rattle.dr_formats.specs.File.{Footer, footer_of, leaf_chunk, chunk_values, total, leaf_source, leaves_read, bad_data}
 use Rattle.dr_formats.specs.Opening.{Range, leaf_cause, leaf_ranges}
-use Rattle.dr_formats.specs.Lacking.{outline}
+use Rattle.dr_formats.specs.Lacking.{Source, own_chunks, no_chunks, outline}
+use Rattle.dr_formats.specs.Lacking as Lacking
 use Rattle.dr_nested.specs.Views.{kind_view}
 use Rattle.dr_levels.specs.Views.{LeafForm, form}
 use Rattle.dr_chunk.specs.Taking.{BeginWith}
@@ -54,6 +56,20 @@ left_by (outlined r d) rows left = left
 
 unfoldable pub left_of : Stream → ℕ
 left_of s = left_by (telling_of s) s.rows (leaf_stream.left_of s.leaf)
+
+-- how many triplets a footer names for the chunks of a leaf
+abbrev pub chunks_named : Footer → Leaf → ℕ
+chunks_named f l = total (λ (g : RowGroup). chunk_values (leaf_chunk f l g)) f.meta.groups
+
+-- how many it names for a leaf with this source: those of its own chunks, or of the leaf that stands in, or a NULL for each row
+abbrev pub named_by : Footer → Leaf → Option Source → ℕ
+named_by f l None = f.meta.rows
+named_by f l (Some own_chunks) = chunks_named f l
+named_by f l (Some no_chunks) = f.meta.rows
+named_by f l (Some (Lacking.chunks_of x)) = chunks_named f x.leaf
+
+abbrev pub triplets_named : Footer → Leaf → ℕ
+triplets_named f l = named_by f l (leaf_source f l)
 
 -- how many bytes of the file it holds
 abbrev pub held_of : Stream → ℕ

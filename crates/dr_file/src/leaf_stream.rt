@@ -1,6 +1,6 @@
 //! The column of a leaf that a file has, a batch at a time, chunk by chunk.
 
-ghost use Rattle.std.specs.Prelude.{◌≡◌, ◌≤◌, ◌<◌, length, map, drop};
+ghost use Rattle.std.specs.Prelude.{◌≡◌, ◌≤◌, ◌<◌, None, length, map, drop};
 ghost use Rattle.dr_levels.specs.Views.{column_view};
 ghost use Rattle.dr_chunk.specs.Taking as taking;
 ghost use Rattle.dr_chunk.specs.Takers.{leaf_form};
@@ -46,6 +46,7 @@ pub(crate) struct LeafStream<'f> {
     ghost chunk: { 0 < taking.left_of reader
         → HasChunk footer (leaf.now).chunks.items next (taking.range_of reader) },
     ghost form: { 0 < taking.left_of reader → taking.reader_form reader ≡ leaf_form shape },
+    ghost unrefused: { 0 < taking.left_of reader → taking.refused_of reader ≡ None },
 }
 
 impl<'f> LeafStream<'f> {
@@ -58,6 +59,7 @@ impl<'f> LeafStream<'f> {
     ghost use Rattle.dr_outside.specs.Telling.{Tells, AsksOnly};
     ghost use Rattle.dr_outside.specs.Leaving.{LeavesLink, ServesUntil};
     ghost use Rattle.dr_chunk.specs.Ranges.{is_read_inside};
+    ghost use Rattle.dr_file.specs.ChunkPlaces.{all_values};
     ghost use Rattle.dr_file.specs.Openings.{chunk_place_view};
     ghost use Rattle.dr_file.specs.LeafColumns.{shown_range, IsShownLeaf};
     ghost use Rattle.dr_file.specs.LeafStreams.{path_of, footer_of, leaf_of, shown_chunks, left_of, stream_form, held_of, leaf_triplets, IsAt, GoesOn};
@@ -77,6 +79,7 @@ impl<'f> LeafStream<'f> {
             ≡ form l.kind (max_definition l.path)) }
         ensures file { IfOk result (λ s. (path_of s ≡ path.now) × (footer_of s ≡ footer) × (leaf_of s ≡ leaf.now)) }
         ensures few { IfOk result (λ s. left_of s ≤ most_triplets) }
+        ensures left { IfOk result (λ s. left_of s ≡ all_values (leaf.now).chunks.items) }
     {
         let floors = Floors::new(alloc, &leaf.steps)?;
         let shape = LeafShape {

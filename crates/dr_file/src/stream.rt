@@ -71,7 +71,7 @@ impl<'f> Stream<'f> {
     ghost use Rattle.dr_file.specs.Fields.{nulls, outlined};
     ghost use Rattle.dr_file.specs.OpenedFiles.{IsOpened, IsColumnOf, IsColumnFault, leaf_count, path_of};
     ghost use Rattle.dr_file.specs.Leaving.{LeavesLinkCounted, ServesOpened};
-    ghost use Rattle.dr_file.specs.Streams.{IsOfLeaf, IsStreamOf, StreamGoesOn, file_of, field_of, telling_of, ranges_of, stream_form, left_of, held_of, refused_of, fault_of, Fills, Reads};
+    ghost use Rattle.dr_file.specs.Streams.{IsOfLeaf, IsStreamOf, StreamGoesOn, file_of, field_of, telling_of, ranges_of, stream_form, left_of, triplets_named, held_of, refused_of, fault_of, Fills, Reads};
 
     /// The column of the leaf at an index of those that the file was opened for, before its first triplet. Nothing is
     /// read yet.
@@ -85,6 +85,9 @@ impl<'f> Stream<'f> {
             ≡ Some l → IfOk result (λ s. stream_form s ≡ form l.kind (max_definition l.path)) }
         ensures file { IfOk result (λ s. file_of s ≡ file.now) }
         ensures few { IfOk result (λ s. left_of s ≤ most_triplets) }
+        // As many may come as the footer names for the leaf.
+        ensures left { (bytes : List ℕ) (F : List Leaf) (l : Leaf) (f : Footer) → IsOpened bytes F file.now
+            → slice_get F index ≡ Some l → footer_of bytes ≡ Some f → IfOk result (λ s. left_of s ≡ triplets_named f l) }
         ensures refused { IfOk result (λ s. refused_of s ≡ None) }
     {
         let field = &file.leaves[index];

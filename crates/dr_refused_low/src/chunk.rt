@@ -1,6 +1,6 @@
 //! Column chunks.
 
-ghost use Rattle.std.specs.Prelude.{◌≡◌, ◌≤◌, ◌<◌, ◌+◌, ◌∷◌, [], ℕ, List, length, None, Ok, Err, IfOk, OnOk, OnErr};
+ghost use Rattle.std.specs.Prelude.{◌≡◌, ◌≤◌, ◌<◌, ◌+◌, ◌∷◌, [], ℕ, List, length, Some, None, Ok, Err, IfOk, OnOk, OnErr};
 ghost use Rattle.dr_meaning.specs.Path.{Leaf};
 ghost use Rattle.dr_meaning.specs.Column.{Triplet};
 ghost use Rattle.dr_formats.specs.Chunk.{pages_triplets};
@@ -9,7 +9,9 @@ ghost use Rattle.dr_page.specs.PageReading.{Lengthens};
 ghost use Rattle.dr_outside.specs.Telling.{Tells, AsksOnly};
 ghost use Rattle.dr_outside.specs.Leaving.{LeavesLink, ServesUntil};
 ghost use Rattle.dr_chunk.specs.Ranges.{is_read_inside, inside};
-ghost use Rattle.dr_chunk.specs.Taking.{range_of, left_of, reader_form, chunk_of, IsTaking, TakesMore};
+ghost use Rattle.dr_chunk.specs.Taking.{range_of, left_of, reader_form, chunk_of, refused_of, fault_of, IsTaking, TakesMore};
+
+ghost use Rattle.dr_chunk.specs.declared.fault.ChunkFault.{ChunkFault};
 
 use dr_chunk::{ChunkFault, ChunkReader};
 use dr_levels::Column;
@@ -42,10 +44,14 @@ pub fn next_of_chunk<L: Link>(
     ensures form { column_form out.new ≡ column_form out.old }
     ensures reader_form { reader_form reader.new ≡ reader_form reader.old }
     ensures range { range_of reader.new ≡ range_of reader.old }
-    ensures link { LeavesLink result ChunkFault.Failed (ServesUntil (L.shows link.old) path.now
+    ensures link { refused_of reader.old ≡ None
+        → LeavesLink result ChunkFault.Failed (ServesUntil (L.shows link.old) path.now
         ((range_of reader.old).start + (range_of reader.old).size)) (L.shows link.old) (L.shows link.new) }
     ensures asked { AsksOnly (is_read_inside path.now (inside (range_of reader.old) ∷ [])) (L.shows link.old).asked
         (L.shows link.new).asked }
+    ensures refused { refused_of reader.new ≡ fault_of result }
+    ensures again { (e : ChunkFault) → refused_of reader.old ≡ Some e → (result ≡ Err e)
+        × (L.shows link.new ≡ L.shows link.old) }
 {
     reader.next(alloc, link, path, most, out)
 }

@@ -1,5 +1,5 @@
 -- The scan of a plan of objects behind some moves.
-use Rattle.std.specs.Prelude.{◌≡◌, ℕ, List, [], length, true, Option, None, Some}
+use Rattle.std.specs.Prelude.{◌≡◌, ℕ, List, [], length, Bool, true, Option, None, Some}
 use Rattle.std.specs.List.{list_all}
 use Rattle.std.specs.declared.vec.Vec.{Vec}
 use Rattle.std.specs.declared.alloc.Global.{Global}
@@ -49,6 +49,10 @@ pub record ScansObjects (s : Schema) (p : Plan) (ms : List Move) (g : ObjectScan
 -- how many branches are open for its condition
 abbrev pub open_in_objects : ObjectScan → ℕ
 open_in_objects g = open_for g.condition
+
+-- whether it refused a move
+abbrev pub failed_in_objects : ObjectScan → Bool
+failed_in_objects g = g.failed
 
 -- before any move; there is none where of any records nothing is kept
 abbrev pub BeginsObjects : Schema → Plan → Option ObjectScan → Type 0

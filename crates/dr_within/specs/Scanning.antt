@@ -1,5 +1,5 @@
 -- The scan of a plan of groups behind some moves.
-use Rattle.std.specs.Prelude.{◌≡◌, ℕ, List, [], true, Option, None, Some}
+use Rattle.std.specs.Prelude.{◌≡◌, ℕ, List, [], Bool, true, Option, None, Some}
 use Rattle.std.specs.List.{list_all}
 use Rattle.std.specs.declared.vec.Vec.{Vec}
 use Rattle.std.specs.declared.alloc.Global.{Global}
@@ -31,6 +31,10 @@ pub record Scans (s : Schema) (p : Plan) (ms : List Move) (g : PlanScan) : Type 
 -- how many branches are open for its condition
 abbrev pub open_in_scan : PlanScan → ℕ
 open_in_scan g = open_for g.groups.condition
+
+-- whether it refused a move
+abbrev pub failed_in_scan : PlanScan → Bool
+failed_in_scan g = g.failed
 
 -- before any move; there is none where of any records nothing is kept
 abbrev pub Begins : Schema → Plan → Option PlanScan → Type 0

@@ -5,6 +5,7 @@
 
 mod built;
 mod copying;
+mod failed;
 mod firing;
 mod frames;
 mod groups;

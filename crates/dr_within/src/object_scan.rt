@@ -1,6 +1,6 @@
 //! The scan of a plan of objects.
 
-ghost use Rattle.std.specs.Prelude.{◌≡◌, ◌<◌, ◌++◌, ◌∷◌, [], ℕ, List, length, true, IfOk, OnOk};
+ghost use Rattle.std.specs.Prelude.{◌≡◌, ◌<◌, ◌++◌, ◌∷◌, [], ℕ, List, length, true, IfOk, OnOk, OnErr, IsErr};
 ghost use Rattle.std.specs.List.{list_all};
 ghost use Rattle.dr_levels.specs.Views.{move_view};
 ghost use Rattle.dr_nested.specs.SchemaView.{schema_view};
@@ -16,8 +16,9 @@ ghost use Rattle.dr_group.specs.Partials.{partial_view, IsPartialOf};
 ghost use Rattle.dr_condition.specs.Conditions.{watch_in, HasWatched};
 ghost use Rattle.dr_condition.specs.PlanConditions.{WatchesPlan};
 ghost use Rattle.dr_within.specs.Rows.{HasRead, IsOfLeaf};
-ghost use Rattle.dr_within.specs.ObjectScanning.{ScansObjects, BeginsObjects, HasScannedAll, open_in_objects};
+ghost use Rattle.dr_within.specs.ObjectScanning.{ScansObjects, BeginsObjects, HasScannedAll, open_in_objects, failed_in_objects};
 
+use crate::failed::unless_failed;
 use crate::item_firing::ItemFiring;
 use crate::levels::Levels;
 use crate::object_frames::ObjectFrames;
@@ -41,6 +42,8 @@ pub struct ObjectScan<'a> {
     pub(crate) condition: Condition<'a>,
     pub(crate) frames: ObjectFrames,
     pub(crate) shape: Shape,
+    /// Whether a move was refused.
+    pub(crate) failed: bool,
 }
 
 impl<'a> ObjectScan<'a> {
@@ -69,6 +72,7 @@ impl<'a> ObjectScan<'a> {
             condition,
             frames: ObjectFrames::new(alloc),
             shape,
+            failed: false,
         })
     }
 
@@ -98,9 +102,40 @@ impl<'a> ObjectScan<'a> {
 
     /// The next move of the walk, where the row holds what was read last of each leaf.
     ///
-    /// Errors: want of memory, or of room for a count, a sum or the texts.
+    /// Errors: want of memory, or of room for a count, a sum or the texts. A scan refuses from then on.
     #[inline(always)]
     pub fn step<'r>(
+        &mut self,
+        alloc: Global,
+        read: &Move<'r>,
+        row: &mut Row<'r>,
+    ) -> Result<(), NoMemory>
+        requires few { open_in_objects self.old < 64 }
+        ensures scans { OnOk result ((s : MeantSchema) (p : MeantPlan) (ms : List MeantMove)
+            → ScansObjects s p ms self.old → HasRead (length (plan_leaves p)) ms row.old
+            → IsOfLeaf (length (plan_leaves p)) (move_view read.now)
+            → ScansObjects s p (ms ++ move_view read.now ∷ []) self.new) }
+        ensures reads { (n : ℕ) (ms : List MeantMove) → HasRead n ms row.old → IsOfLeaf n (move_view read.now)
+            → HasRead n (ms ++ move_view read.now ∷ []) row.new }
+        ensures again { failed_in_objects self.old ≡ true → IsErr result }
+        ensures refused { OnErr result (failed_in_objects self.new ≡ true) }
+    {
+        if self.failed {
+            row.keep(read);
+            return Err(NoMemory);
+        }
+        match self.go_on(alloc, read, row) {
+            Ok(()) => Ok(()),
+            Err(NoMemory) => {
+                self.failed = true;
+                Err(NoMemory)
+            }
+        }
+    }
+
+    /// As `step`, for a scan that refused nothing, where a refusal isn't noted.
+    #[inline(always)]
+    fn go_on<'r>(
         &mut self,
         alloc: Global,
         read: &Move<'r>,
@@ -135,7 +170,7 @@ impl<'a> ObjectScan<'a> {
 
     /// The partial: that of the records whose walk it was.
     ///
-    /// Errors: want of room for the number of the objects.
+    /// Errors: a move was refused; want of room for the number of the objects.
     pub fn close(self) -> Result<Partial, NoMemory>
         requires all { HasScannedAll self }
         ensures partial { IfOk result (λ x. (s : MeantSchema) (p : MeantPlan) (R : List Node) → IsOfSchema s p
@@ -144,8 +179,9 @@ impl<'a> ObjectScan<'a> {
             → partial_view x ≡ partials.partial_of s.fields (planned_query (plan_view p)) R) }
         ensures of_plan { IfOk result (λ x. (s : MeantSchema) (p : MeantPlan) (ms : List MeantMove)
             → ScansObjects s p ms self.entry → IsPartialOf (plan_view p) x) }
+        ensures refused { failed_in_objects self.entry ≡ true → IsErr result }
     {
         let rows = self.frames.close(self.shape)?;
-        Ok(Partial::Lines(rows))
+        unless_failed(self.failed, Partial::Lines(rows))
     }
 }

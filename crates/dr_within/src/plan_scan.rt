@@ -1,6 +1,6 @@
 //! The scan of a plan of groups.
 
-ghost use Rattle.std.specs.Prelude.{◌≡◌, ◌<◌, ◌++◌, ◌∷◌, [], ℕ, List, length, true, IfOk, OnOk};
+ghost use Rattle.std.specs.Prelude.{◌≡◌, ◌<◌, ◌++◌, ◌∷◌, [], ℕ, List, length, true, IfOk, OnOk, OnErr, IsErr};
 ghost use Rattle.std.specs.List.{list_all};
 ghost use Rattle.dr_levels.specs.Views.{move_view};
 ghost use Rattle.dr_nested.specs.SchemaView.{schema_view};
@@ -13,9 +13,10 @@ ghost use Rattle.dr_plan.specs.Planned.{IsOfSchema, plan_leaves, plan_view, plan
 ghost use Rattle.dr_plan.specs.declared.plan.Plan.{Plan as MeantPlan};
 ghost use Rattle.dr_plan.specs.declared.plan.Selection.{Selection as Selected};
 ghost use Rattle.dr_group.specs.Partials.{partial_view, IsPartialOf};
-ghost use Rattle.dr_within.specs.Scanning.{Scans, Begins, open_in_scan};
+ghost use Rattle.dr_within.specs.Scanning.{Scans, Begins, open_in_scan, failed_in_scan};
 ghost use Rattle.dr_within.specs.Rows.{HasRead, IsOfLeaf};
 
+use crate::failed::unless_failed;
 use crate::groups::GroupScan;
 use crate::row::Row;
 use dr_condition::condition_of;
@@ -31,6 +32,8 @@ use std::alloc::Global;
 #[derive(Drop)]
 pub struct PlanScan<'a> {
     pub(crate) groups: GroupScan<'a>,
+    /// Whether a move was refused.
+    pub(crate) failed: bool,
 }
 
 impl<'a> PlanScan<'a> {
@@ -54,14 +57,17 @@ impl<'a> PlanScan<'a> {
             None => Ok(None),
             Some(condition) => {
                 let groups = GroupScan::new(alloc, plan, keys, aggregates, condition)?;
-                Ok(Some(PlanScan { groups }))
+                Ok(Some(PlanScan {
+                    groups,
+                    failed: false,
+                }))
             }
         }
     }
 
     /// The next move of the walk, where the row holds what was read last of each leaf.
     ///
-    /// Errors: want of memory, or of room for a count, a sum or a number of a group.
+    /// Errors: want of memory, or of room for a count, a sum or a number of a group. A scan refuses from then on.
     #[inline(always)]
     pub fn step<'r>(
         &mut self,
@@ -75,13 +81,25 @@ impl<'a> PlanScan<'a> {
             → Scans s p (ms ++ move_view read.now ∷ []) self.new) }
         ensures reads { (n : ℕ) (ms : List MeantMove) → HasRead n ms row.old → IsOfLeaf n (move_view read.now)
             → HasRead n (ms ++ move_view read.now ∷ []) row.new }
+        ensures again { failed_in_scan self.old ≡ true → IsErr result }
+        ensures refused { OnErr result (failed_in_scan self.new ≡ true) }
     {
-        self.groups.step(alloc, read, row)
+        if self.failed {
+            row.keep(read);
+            return Err(NoMemory);
+        }
+        match self.groups.step(alloc, read, row) {
+            Ok(()) => Ok(()),
+            Err(NoMemory) => {
+                self.failed = true;
+                Err(NoMemory)
+            }
+        }
     }
 
     /// The partial: that of the records whose walk it was.
     ///
-    /// Errors: want of memory, or of room for a count, a sum or a number of a group.
+    /// Errors: a move was refused; want of memory, or of room for a count, a sum or a number of a group.
     pub fn close(self, alloc: Global) -> Result<Partial, NoMemory>
         ensures partial { IfOk result (λ x. (s : MeantSchema) (p : MeantPlan) (R : List Node) → IsOfSchema s p
             → list_all (is_record s.fields) R ≡ true
@@ -90,7 +108,9 @@ impl<'a> PlanScan<'a> {
         ensures of_plan { IfOk result (λ x. (s : MeantSchema) (p : MeantPlan) (ms : List MeantMove)
             → Scans s p ms self.entry
             → IsPartialOf (plan_view p) x) }
+        ensures refused { failed_in_scan self.entry ≡ true → IsErr result }
     {
-        self.groups.close(alloc)
+        let partial = self.groups.close(alloc)?;
+        unless_failed(self.failed, partial)
     }
 }

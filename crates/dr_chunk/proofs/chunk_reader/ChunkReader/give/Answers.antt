@@ -17,6 +17,7 @@ pages-preserved g c =
       left = page.left ∙ inv.left;
       form = page.reader_form ∙ inv.form;
       range = page.range ∙ inv.range;
+      unrefused = page.unrefused;
       same = page.link.same ∙ inv.same;
       asked = asks_again _ _ _ _ _ _ _ refl inv.range inv.asked page.asked;
       calm = page.link.calm (λ e. absurd (cc)) ∙ inv.calm;

@@ -1,10 +1,10 @@
-use Rattle.std.specs.Prelude.{IsTrue}
+use Rattle.std.specs.Prelude.{IsTrue, None}
 use Rattle.std.proofs.Common.{◌≡◌, ◌∷◌, [], ℕ, List}
 use Rattle.dr_meaning.specs.Path.{Leaf}
 use Rattle.dr_meaning.specs.Column.{Triplet}
 use Rattle.dr_outside.specs.Telling.{Tells, AsksOnly}
 use Rattle.dr_chunk.specs.Ranges.{is_read_inside, inside}
-use Rattle.dr_chunk.specs.Taking.{range_of, left_of, reader_form, IsTaking}
+use Rattle.dr_chunk.specs.Taking.{range_of, left_of, reader_form, refused_of, IsTaking}
 use Rattle.dr_chunk.proofs.chunk_reader.ChunkReader.give.Given as goal
 
 -- the same triplets were given, and as many are left
@@ -14,6 +14,7 @@ invariant-pages g l = let shows = g.L.Link.shows in record {
   left : left_of l.self ≡ left_of l.initial.self;
   form : reader_form l.self ≡ reader_form l.initial.self;
   range : range_of l.self ≡ range_of l.initial.self;
+  unrefused : refused_of l.self ≡ None;
   same : (shows l.link).held ≡ (shows l.initial.link).held;
   asked : AsksOnly (is_read_inside l.path (inside (range_of l.initial.self) ∷ [])) (shows l.initial.link).asked (shows l.link).asked;
   calm : (shows l.link).faults ≡ (shows l.initial.link).faults;

@@ -59,7 +59,7 @@ returns-clause-takes g c = λ l wanted bytes given t told.
     page_opened l wanted bytes given c.args.self.now _ _ _ t c.requires.over c.requires.wanted (one_at_least _ c.if-self-eq0.false)
     (c.look_ahead.ensures.range ∙ (c.next_header.ensures.range ∙ c.take.ensures.range)) c.take_page.ensures.leaf c.in_ok-take_page.ensures.first (c.in_ok-take_page.ensures.begins l t.stands.leaf)
     (ap (page_step l (wanted_of c.args.self.now.taker) (is_first_of c.args.self.now.taker) (dictionary_of c.args.self.now.taker)) (sym (c.take.ensures.rest bytes))
-    ∙ page_ahead l (wanted_of c.args.self.now.taker) (is_first_of c.args.self.now.taker) (dictionary_of c.args.self.now.taker) (rest_in bytes c.take.new.self) rest (pending s) _ _ _ c.get-size.result (page_view head) (c.in_ok-head.ensures.header bytes told) same c.get-size.ensures w body refl) (sym body)
+    ∙ page_ahead l (wanted_of c.args.self.now.taker) (is_first_of c.args.self.now.taker) (dictionary_of c.args.self.now.taker) (rest_in bytes c.take.new.self) rest (pending s) _ _ _ c.get-size.result (page_view head) (c.in_ok-head.ensures.header bytes told) same c.get-size.ensures w body refl) (sym body) c.requires.unrefused
 
 pub returns-in_err-look_ahead-clause-asked : goal.returns-in_err-look_ahead-clause-asked
 returns-in_err-look_ahead-clause-asked g c =

@@ -11,6 +11,7 @@ invariant_of-self c = record {
   ahead = omega (arith, c.requires.some);
   chunk = λ z. has_chunk _ _ c.args.self.now.next _ c.index-chunk.result.now (range_of c.begin.new.self) c.requires.some c.index-chunk.ensures refl c.in-Some.ensures.some.0 (ap inside c.begin.ensures.range ∙ c.in-Some.ensures.some.1);
   form = λ z. c.begin.ensures.form;
+  unrefused = λ z. c.begin.ensures.refused;
 }
 
 pub returns-clause-more : goal.returns-clause-more

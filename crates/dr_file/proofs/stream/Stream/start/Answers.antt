@@ -2,7 +2,8 @@ use Rattle.std.proofs.Common.{◌≡◌, ◌∙◌, refl, sym, ap, ap₂, arith}
 use Rattle.dr_nested.specs.Views.{kind_view}
 use Rattle.dr_levels.specs.Views.{form}
 use Rattle.dr_file.specs.LeafStreams.{stream_form}
-use Rattle.dr_file.proofs.ColumnLemmas.{kept}
+use Rattle.dr_file.specs.Streams.{left_of}
+use Rattle.dr_file.proofs.ColumnLemmas.{kept, left_named}
 use Rattle.dr_file.proofs.StreamLemmas.{stream_begun, own_form, form_kept, few_left}
 use Rattle.dr_file.proofs.stream.Stream.start.Goals as goal
 
@@ -28,3 +29,9 @@ returns-clause-form c = λ bytes F l opened is.
 
 pub returns-clause-few : goal.returns-clause-few
 returns-clause-few c = few_left _ c.args.file.now.few c.in_ok-leaf.ensures.few
+
+pub returns-clause-left : goal.returns-clause-left
+unfolding left_of
+returns-clause-left c = λ bytes F l f opened is e.
+    let k = kept bytes F c.args.file.now c.args.index c.index-field.result.now l opened is c.index-field.ensures in
+    left_named bytes c.args.file.now c.index-field.result.now l f _ k e c.in_ok-leaf.ensures.left

@@ -18,7 +18,7 @@ use Rattle.dr_within.proofs.FramingLemmas.{on_ok, on_both}
 use Rattle.dr_within.proofs.FramedLemmas.{framed_context}
 use Rattle.dr_within.proofs.StepLemmas.{after_snoc}
 use Rattle.dr_within.proofs.ObjectSteps.{items_are_read, fired_are, HoldsMade, behind_objects, next_objects, left_holds, scans_next}
-use Rattle.dr_within.proofs.object_scan.ObjectScan.step.Goals as goal
+use Rattle.dr_within.proofs.object_scan.ObjectScan.go_on.Goals as goal
 
 pub returns-in-Enter-clause-scans : goal.returns-in-Enter-clause-scans
 returns-in-Enter-clause-scans c = on_ok c.enter.result _ _ (λ call s p ms g r of.
