@@ -4,8 +4,6 @@
 
 mod files;
 mod streams;
-#[cfg(test)]
-mod tests;
 mod whole;
 
 pub use files::{DirKeeper, DirLink};

@@ -18,10 +18,10 @@ const QUERIES: [&str; 2] = [
 #[test]
 fn each_server_has_a_plan(rt: HostRuntime) -> Result<(), Fail> {
     let alloc = rt.alloc();
-    let schema = parse_schema(alloc, SCHEMA)?;
+    let schema = parse_schema(alloc, SCHEMA).or(Err("schema"))?;
     for text in QUERIES {
-        let query = parse(alloc, text)?;
-        let plan = bind(alloc, &schema, &query)?;
+        let query = parse(alloc, text).or(Err("query"))?;
+        let plan = bind(alloc, &schema, &query).or(Err("plan"))?;
         inner_of(alloc, &plan)?;
         root_of(alloc, &plan)?;
         leaf_of(alloc, plan)?;
