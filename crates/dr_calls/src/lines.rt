@@ -3,6 +3,7 @@
 ghost use Rattle.std.specs.Prelude.{None};
 ghost use Rattle.dr_outside.specs.Failing.{is_quiet};
 
+use crate::faults::line_name;
 use crate::texts::{argument, count_of, line_of, number_at};
 use dr_case_lines::Broken;
 use dr_lines::Lines;
@@ -10,7 +11,7 @@ use dr_outside::{Failed, MemSource, Source};
 use std::alloc::Global;
 
 /// A source that gives at most this many bytes at once, and doesn't tell what is left.
-#[derive(Debug, Drop)]
+#[derive(Drop)]
 struct Dripping<'a> {
     source: MemSource<'a>,
     most: usize,
@@ -48,7 +49,7 @@ fn next_text(
             Ok(format!(in alloc; "{line:?}\n")?)
         }
         Ok(false) => line_of(alloc, "end"),
-        Err(fault) => Ok(format!(in alloc; "{fault:?}\n")?),
+        Err(fault) => line_of(alloc, line_name(fault)),
     }
 }
 

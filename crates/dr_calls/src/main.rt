@@ -4,6 +4,7 @@
 
 mod calls;
 mod cuts;
+mod faults;
 mod hybrids;
 mod leaves;
 mod lines;

@@ -1,5 +1,6 @@
 //! Calls of `dr_bytes`.
 
+use crate::faults::varint_name;
 use crate::texts::{argument, line_of, number_at, push_hex};
 use dr_bytes::{Cut, Varint, from_zigzag, zigzag};
 use dr_case_lines::Broken;
@@ -15,7 +16,7 @@ pub fn varint_read(alloc: Global, bytes: &[u8]) -> Result<String, Broken> {
         }
         Err(fault) => {
             let place = cut.place();
-            Ok(format!(in alloc; "{fault:?} at {place}\n")?)
+            Ok(format!(in alloc; "{} at {place}\n", varint_name(fault))?)
         }
     }
 }

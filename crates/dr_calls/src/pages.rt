@@ -6,7 +6,8 @@ ghost use Rattle.dr_levels.specs.Views.{column_form};
 ghost use Rattle.dr_page.specs.Views.{shape_form, is_dictionary_of};
 ghost use Rattle.dr_page.specs.PageReading.{reader_form};
 
-use crate::texts::{argument, count_of, number_at};
+use crate::faults::page_name;
+use crate::texts::{argument, count_of, line_of, number_at};
 use crate::triplets::push_triplet;
 use crate::values::kind_at;
 use dr_case_lines::Broken;
@@ -97,7 +98,7 @@ fn line_of_piece(
     let more = after.as_str().strip_prefix(before).ok_or(Broken::Form)?;
     match read {
         Ok(count) if count == added => Ok(format!(in alloc; "{}\n", more.trim_start())?),
-        Err(fault) if added == 0 => Ok(format!(in alloc; "{fault:?}\n")?),
+        Err(fault) if added == 0 => line_of(alloc, page_name(fault)),
         _ => Err(Broken::Form),
     }
 }
@@ -136,7 +137,7 @@ fn pieces_text(
     let mut column = Column::new(alloc, shape.kind, shape.max_definition);
     let mut text = String::new(alloc);
     if let Err(fault) = reader.begin(shape, body) {
-        return Ok(format!(in alloc; "begin: {fault:?}\n")?);
+        return Ok(format!(in alloc; "begin: {}\n", page_name(fault))?);
     }
     'pieces: for piece in pieces {
         if piece.as_str() == "again" {

@@ -3,7 +3,8 @@
 ghost use Rattle.std.specs.Prelude.{◌≡◌, ◌≤◌};
 ghost use Rattle.dr_hybrid.specs.Reader.{width_at};
 
-use crate::texts::{count_of, push_numbers, push_word, width_at};
+use crate::faults::plain_name;
+use crate::texts::{count_of, line_of, push_numbers, push_word, width_at};
 use crate::values::{kind_at, values_text};
 use dr_case_lines::Broken;
 use dr_hybrid::RunReader;
@@ -57,11 +58,6 @@ fn texts_line(alloc: Global, places: &[TextPlace], piece: &[u8]) -> Result<Strin
     Ok(text)
 }
 
-/// The line of a fault.
-fn fault_line(alloc: Global, fault: PlainFault) -> Result<String, Broken> {
-    Ok(format!(in alloc; "{fault:?}\n")?)
-}
-
 /// The line of values that were read, or of their fault.
 fn values_line(
     alloc: Global,
@@ -70,7 +66,7 @@ fn values_line(
 ) -> Result<String, Broken> {
     match read {
         Ok(()) => values_text(alloc, values),
-        Err(fault) => fault_line(alloc, fault),
+        Err(fault) => line_of(alloc, plain_name(fault)),
     }
 }
 
@@ -84,7 +80,7 @@ fn next_texts(
     let mut places = Vec::new(alloc);
     match reader.next_texts(bytes, count, &mut places) {
         Ok(piece) => texts_line(alloc, &places, piece),
-        Err(fault) => fault_line(alloc, fault),
+        Err(fault) => line_of(alloc, plain_name(fault)),
     }
 }
 

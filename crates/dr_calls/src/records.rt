@@ -1,5 +1,6 @@
 //! Calls of `dr_json`: a record longer than a line of an input can be.
 
+use crate::faults::record_name;
 use crate::texts::{argument, line_of};
 use dr_case_lines::Broken;
 use dr_json::{RecordFault, record_of};
@@ -12,7 +13,7 @@ pub fn record_read(alloc: Global, words: &[String], bytes: &[u8]) -> Result<Stri
     let schema = parse_schema(alloc, schema).or(Err(Broken::Form))?;
     match record_of(alloc, &schema, bytes) {
         Ok(_record) => line_of(alloc, "record"),
-        Err(RecordFault::Refused(problem)) => Ok(format!(in alloc; "{problem:?}\n")?),
+        Err(RecordFault::Refused(problem)) => line_of(alloc, record_name(problem)),
         Err(RecordFault::NoMemory) => Err(Broken::NoMemory),
     }
 }

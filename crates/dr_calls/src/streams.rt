@@ -5,6 +5,7 @@ ghost use Rattle.dr_levels.specs.Views.{column_form};
 ghost use Rattle.dr_file.specs.OpenedFiles.{leaf_count};
 ghost use Rattle.dr_file.specs.Streams.{stream_form};
 
+use crate::faults::file_line;
 use crate::texts::argument;
 use dr_case_lines::Broken;
 use dr_file::{FileFault, Opened, Stream};
@@ -87,7 +88,7 @@ fn all_batches(alloc: Global, link: &mut MemLink<'_>, opened: &Opened) -> Result
         match next_batch(alloc, link, &mut stream, &mut batch) {
             Ok(true) => told = told.with_batch(batch.len(), stream.held()),
             Ok(false) => return told.line(alloc),
-            Err(fault) => return Ok(format!(in alloc; "{fault:?}\n")?),
+            Err(fault) => return file_line(alloc, fault),
         }
     }
     Err(Broken::Form)
@@ -104,6 +105,6 @@ pub fn stream_read(alloc: Global, words: &[String], bytes: &[u8]) -> Result<Stri
     let mut link = MemLink::new(alloc, &shelf, Vec::new(alloc));
     match Opened::start(alloc, &mut link, PATH, slice::from_ref(&field)) {
         Ok(opened) => all_batches(alloc, &mut link, &opened),
-        Err(fault) => Ok(format!(in alloc; "{fault:?}\n")?),
+        Err(fault) => file_line(alloc, fault),
     }
 }

@@ -1,5 +1,6 @@
 //! Calls of `dr_plain`.
 
+use crate::faults::{pick_name, plain_name};
 use crate::texts::{argument, count_of, line_of, push_word};
 use dr_case_lines::Broken;
 use dr_nested::Kind;
@@ -48,7 +49,7 @@ pub fn plain_read(alloc: Global, words: &[String], bytes: &[u8]) -> Result<Strin
     let kind = kind_at(words, 0)?;
     match read_plain(alloc, kind, count_of(argument(words, 1)?)?, bytes) {
         Ok(values) => values_text(alloc, &values),
-        Err(fault) => Ok(format!(in alloc; "{fault:?}\n")?),
+        Err(fault) => line_of(alloc, plain_name(fault)),
     }
 }
 
@@ -65,6 +66,6 @@ pub fn picked(alloc: Global, words: &[String], bytes: &[u8]) -> Result<String, B
     }
     match pick(alloc, &dictionary, &indices) {
         Ok(values) => values_text(alloc, &values),
-        Err(fault) => Ok(format!(in alloc; "{fault:?}\n")?),
+        Err(fault) => line_of(alloc, pick_name(fault)),
     }
 }

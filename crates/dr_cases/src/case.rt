@@ -5,7 +5,7 @@ use dr_case_lines::{Broken, numbers_of};
 use std::alloc::Global;
 
 /// What the program meets outside itself.
-#[derive(Clone, Copy, PartialEq, Eq, Debug)]
+#[derive(Clone, Copy, PartialEq, Eq)]
 pub enum Thing {
     Source,
     Out,
@@ -63,7 +63,7 @@ impl Failing {
 }
 
 /// Which workers are held up before a read.
-#[derive(Clone, Copy, PartialEq, Eq, Debug)]
+#[derive(Clone, Copy, PartialEq, Eq)]
 pub enum Hold {
     Nobody,
     /// The first two, before their first reads, until both are there.

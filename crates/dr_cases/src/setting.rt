@@ -1,8 +1,7 @@
 //! The files and the input that runs are given.
 
-use dr_case_lines::{Broken, numbers_of, push_bytes};
+use dr_case_lines::{Broken, numbers_of, push_bytes, record_lines};
 use dr_outside::{Keeper, Shelf};
-use dr_samples::record_lines;
 use std::alloc::Global;
 
 /// The files and the input that runs are given.

@@ -5,8 +5,6 @@
 mod files;
 mod placing;
 mod streams;
-#[cfg(test)]
-mod tests;
 mod whole;
 
 pub use files::{DirKeeper, DirLink};

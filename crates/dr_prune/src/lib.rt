@@ -2,17 +2,11 @@
 #![tactic(auto)]
 
 mod answers;
-#[cfg(test)]
-mod answers_tests;
 mod chain;
-#[cfg(test)]
-mod chain_tests;
 mod counts;
 mod masks;
 mod pruner;
 pub mod pruner_laws;
-#[cfg(test)]
-mod pruner_tests;
 
 pub use answers::Answers;
 pub use chain::chain_numbers;

@@ -1,7 +1,6 @@
 //! Bodies of data pages.
 
 ghost use Rattle.std.specs.Prelude.{◌≡◌, ◌+◌, List, min, true, Some, Err, IfOk, OnErr};
-ghost use Rattle.dr_page.specs.declared.fault.PageFault.{PageFault as MeantFault};
 ghost use Rattle.dr_meaning.specs.Column as meant;
 ghost use Rattle.dr_formats.specs.Page.{PageShape};
 ghost use Rattle.dr_levels.specs.Views.{column_view, column_form};
@@ -29,8 +28,8 @@ pub fn next_of_page(
     ensures left { IfOk result (λ n. n + left_of reader.new ≡ left_of reader.old) }
     ensures longer { IfOk result (λ n. Lengthens (column_view out.old) (column_view out.new) n) }
     ensures stays { OnErr result (column_view out.new ≡ column_view out.old) }
-    ensures again { (fault : MeantFault) → refused_of reader.old ≡ Some fault → result ≡ Err fault }
-    ensures refused { (fault : MeantFault) → result ≡ Err fault → refused_of reader.new ≡ Some fault }
+    ensures again { (fault : PageFault) → refused_of reader.old ≡ Some fault → result ≡ Err fault }
+    ensures refused { (fault : PageFault) → result ≡ Err fault → refused_of reader.new ≡ Some fault }
     ensures form { column_form out.new ≡ column_form out.old }
     ensures reader { reader_form reader.new ≡ reader_form reader.old }
 {

@@ -163,6 +163,7 @@ fn a_late_tablet_is_handed_out_again_when_the_lag_is_reached(rt: HostRuntime) ->
         Call::TakeGivesNone,
         Call::AnswerIsKept(hand(0, 0)),
         Call::AnswerIsSpare(hand(0, 1)),
+        Call::FaultIs(hand(0, 1), false),
         Call::TakeGivesNone,
     ];
     let closing = follow(&rt, alloc, &job_of_two(alloc, &[0, 1], &[1, 0], 2)?, &calls)?;

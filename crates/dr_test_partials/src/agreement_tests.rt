@@ -5,14 +5,12 @@ ghost use Rattle.dr_nested.specs.SchemaView.{schema_view};
 ghost use Rattle.dr_plan.specs.Planned.{IsOfSchema};
 
 use crate::meant::{meant_text, records_of};
-use crate::worked::{load_lines, plan_of, text_of};
+use crate::worked::{load_lines, partial_at, plan_of, text_of};
+use dr_case_lines::{DOCUMENT, QUERIES, record_lines};
 use dr_nested::{Schema, parse_schema};
 use dr_outside::{Link, Shelf};
 use dr_plan::Plan;
 use dr_print::result_text;
-use dr_samples::{DOCUMENT, QUERIES, record_lines};
-use dr_scan::scan;
-use dr_tablets::Steps;
 use dr_tree::{gather, of_fan};
 use std::alloc::Global;
 use std::test::Fail;
@@ -55,9 +53,8 @@ fn gathered_text<R: Threads + Sync, L: Link>(
 {
     let front = format!(in alloc; "front{cut}/t000000.parquet")?;
     let behind = format!(in alloc; "behind{cut}/t000000.parquet")?;
-    let mut steps = Steps::new();
-    let first = scan(alloc, plan, link, front.as_str(), schema, &mut steps)?;
-    let second = scan(alloc, plan, link, behind.as_str(), schema, &mut steps)?;
+    let first = partial_at(alloc, link, schema, plan, front.as_str())?;
+    let second = partial_at(alloc, link, schema, plan, behind.as_str())?;
     let partials = vec![in alloc; first, second]?;
     let tree = of_fan(alloc, 2, 2)?;
     let partial = gather(rt, alloc, &tree, partials)?;
@@ -69,7 +66,7 @@ fn gathered_text<R: Threads + Sync, L: Link>(
 #[test]
 fn the_partials_of_two_tablets_give_the_answer(rt: HostRuntime) -> Result<(), Fail> {
     let alloc = rt.alloc();
-    let schema = parse_schema(alloc, DOCUMENT.as_bytes())?;
+    let schema = parse_schema(alloc, DOCUMENT.as_bytes()).or(Err("schema"))?;
     let lines = record_lines(alloc, COUNT)?;
     let records = records_of(alloc, &schema, &lines)?;
     let mut shelf = halves(alloc, &lines)?;

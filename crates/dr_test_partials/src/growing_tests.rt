@@ -9,14 +9,12 @@ ghost use Rattle.dr_tree.specs.Grows.{Growth, Grows};
 ghost use Rattle.dr_tree.specs.Views.{tree_view};
 
 use crate::meant::{meant_text, records_of};
-use crate::worked::{load_lines, plan_of, text_of};
+use crate::worked::{load_lines, partial_at, plan_of, text_of};
+use dr_case_lines::{DOCUMENT, record_lines};
 use dr_nested::{Schema, parse_schema};
 use dr_outside::{Link, Shelf};
 use dr_plan::Plan;
 use dr_print::result_text;
-use dr_samples::{DOCUMENT, record_lines};
-use dr_scan::scan;
-use dr_tablets::Steps;
 use dr_tree::{Growing, Tree, of_fan};
 use std::alloc::Global;
 use std::test::Fail;
@@ -74,8 +72,7 @@ fn grown<L: Link>(
             return Err("twice".into());
         }
         let path = format!(in alloc; "x/t00000{tablet}.parquet")?;
-        let mut steps = Steps::new();
-        let partial = scan(alloc, plan, link, path.as_str(), schema, &mut steps)?;
+        let partial = partial_at(alloc, link, schema, plan, path.as_str())?;
         growing.add(alloc, tablet, partial)?;
         has_piece[place] = true;
     }
@@ -133,7 +130,7 @@ fn orders_of<R: Threads + Sync, L: Link>(
 #[test]
 fn a_tree_grows_alike_in_every_order(rt: HostRuntime) -> Result<(), Fail> {
     let alloc = rt.alloc();
-    let schema = parse_schema(alloc, DOCUMENT.as_bytes())?;
+    let schema = parse_schema(alloc, DOCUMENT.as_bytes()).or(Err("schema"))?;
     let lines = record_lines(alloc, 15)?;
     let records = records_of(alloc, &schema, &lines)?;
     let text = text_of(alloc, &lines)?;

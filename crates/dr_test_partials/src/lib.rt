@@ -11,6 +11,4 @@ mod meant;
 #[cfg(test)]
 mod scan_tests;
 #[cfg(test)]
-mod tree_tests;
-#[cfg(test)]
 mod worked;

@@ -19,7 +19,10 @@ use std::test::Fail;
 pub fn records_of(alloc: Global, schema: &Schema, lines: &[String]) -> Result<Vec<Node>, Fail> {
     let mut records = Vec::new(alloc);
     for line in lines {
-        records.push(record_of(alloc, schema, line.as_bytes())?)?;
+        let Ok(record) = record_of(alloc, schema, line.as_bytes()) else {
+            return Err("no record".into());
+        };
+        records.push(record)?;
     }
     Ok(records)
 }

@@ -1,12 +1,13 @@
 //! Scans of a file over a link that fails.
 
 use crate::worked::{loaded, plan_of};
+use dr_case_lines::DOCUMENT;
+use dr_file::FileFault;
 use dr_group::Partial;
 use dr_nested::parse_schema;
 use dr_outside::{MemLink, Shelf};
 use dr_plan::Plan;
 use dr_print::result_text;
-use dr_samples::DOCUMENT;
 use dr_scan::scan;
 use dr_tablets::Steps;
 use std::alloc::Global;
@@ -33,14 +34,15 @@ fn file_scanned(
     query: &str,
     fails: u64,
 ) -> Result<(String, u64), Fail> {
-    let schema = parse_schema(alloc, DOCUMENT.as_bytes())?;
+    let schema = parse_schema(alloc, DOCUMENT.as_bytes()).or(Err("schema"))?;
     let plan = plan_of(alloc, &schema, query)?;
     let mut link = MemLink::new(alloc, shelf, [fails].to_vec(alloc)?);
     let mut steps = Steps::new();
     let scanned = scan(alloc, &plan, &mut link, path, &schema, &mut steps);
     let text = match scanned {
         Ok(partial) => printed(alloc, &plan, partial)?,
-        Err(fault) => format!(in alloc; "{fault:?}")?,
+        Err(FileFault::Why(cause)) => format!(in alloc; "{cause:?}")?,
+        Err(FileFault::NoMemory) => return Err("memory".into()),
     };
     Ok((text, link.asked().len() as u64))
 }
@@ -57,7 +59,7 @@ fn a_link_that_failed_is_not_asked_again(rt: HostRuntime) -> Result<(), Fail> {
         let failed = file_scanned(alloc, &shelf, path, QUERY, fails)?;
         assert_eq!(rt;
             failed.0.as_str(),
-            "Why(ReadFailed { before: 0, after: 1 })",
+            "ReadFailed { before: 0, after: 1 }",
             "{fails}"
         );
         assert_eq!(rt; failed.1, fails);

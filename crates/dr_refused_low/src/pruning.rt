@@ -1,0 +1,36 @@
+//! What a condition keeps.
+
+ghost use Rattle.std.specs.Prelude.{◌≡◌, ◌<◌, ◌-◌, ◌^◌, ◌++◌, ◌∷◌, [], List, Bool, reverse};
+ghost use Rattle.dr_levels.specs.Views.{move_view};
+ghost use Rattle.dr_firing.specs.Context.{Context};
+ghost use Rattle.dr_meaning.specs.Walk as meant;
+ghost use Rattle.dr_pruning_laws.specs.Telling.{told};
+ghost use Rattle.dr_pruning_laws.specs.Counting.{count_move, numbers_tell};
+ghost use Rattle.dr_prune.specs.Pruning.{numbers_of, watch_of, open_in, verdicts_in, told_count, HasSeen, IsAnswer, IsAnswerBehind};
+
+use dr_levels::{Kept, Move};
+use dr_prune::Pruner;
+
+/// As `Pruner::step`.
+pub fn step_of_pruner(pruner: &mut Pruner, m: &Move<'_>, is_true: bool) -> Kept
+    requires { open_in pruner.old < 2 ^ 32 - 1 }
+    // The numbers count the move, by each test whose answer this is.
+    ensures counts { (t : Context → Bool) (c : Context) → IsAnswer (watch_of t pruner.old) c (move_view m.now) is_true
+        → numbers_of pruner.new ≡ count_move (watch_of t pruner.old) c (move_view m.now) (numbers_of pruner.old) }
+    // What it tells is what the numbers tell.
+    ensures tells { (t : Context → Bool) (c : Context) → IsAnswer (watch_of t pruner.old) c (move_view m.now) is_true
+        → verdicts_in (told_count (open_in pruner.old) (move_view m.now)) result
+        ≡ reverse (numbers_tell (watch_of t pruner.old) c (move_view m.now) (numbers_of pruner.old)) }
+    // Behind the moves that it has seen it is what is told of their branches.
+    ensures told { (t : Context → Bool) (ms : List meant.Move) → HasSeen t ms pruner.old
+        → IsAnswerBehind (watch_of t pruner.old) ms (move_view m.now) is_true
+        → verdicts_in (told_count (open_in pruner.old) (move_view m.now)) result
+        ≡ told (watch_of t pruner.old) ms (move_view m.now) }
+    ensures seen { (t : Context → Bool) (ms : List meant.Move) → HasSeen t ms pruner.old
+        → IsAnswerBehind (watch_of t pruner.old) ms (move_view m.now) is_true
+        → HasSeen t (ms ++ move_view m.now ∷ []) pruner.new }
+    // It goes on to watch the same condition.
+    ensures watches { (t : Context → Bool) → watch_of t pruner.new ≡ watch_of t pruner.old }
+{
+    pruner.step(m, is_true)
+}
