@@ -11,8 +11,8 @@ use Rattle.dr_meaning.specs.BoundExpression.{BindFault}
 use Rattle.dr_meaning.specs.Binding as meant
 use Rattle.dr_meaning.specs.Binding.{first_fault, bind_parts, table_faults, part_faults, unrelated_faults, item_faults, duplicate_faults, passing, query_faults, query_of, unless_fault}
 use Rattle.dr_paths.proofs.UsedLemmas.{leaves_of_used}
-use Rattle.dr_bound_parts.specs.Faults.{earlier}
-use Rattle.dr_bound_parts.proofs.FaultLemmas.{noted_behind}
+use Rattle.dr_resolve.specs.Faults.{earlier}
+use Rattle.dr_resolve.proofs.FaultLemmas.{noted_behind}
 
 -- the faults of the names, after which come those of all items
 abbrev duplicates : Schema → QuerySyntax → List BindFault

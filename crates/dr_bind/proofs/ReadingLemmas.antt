@@ -9,7 +9,7 @@ use Rattle.dr_plan.specs.declared.plan.Plan.{Plan}
 use Rattle.dr_sql.specs.Faults as text
 use Rattle.dr_sql.specs.declared.fault.QueryFault.{QueryFault as TextFault}
 use Rattle.dr_bind.specs.Binds.{BindsTo}
-use Rattle.dr_bound_parts.specs.declared.fault.BindFault.{BindFault}
+use Rattle.dr_resolve.specs.declared.fault.BindFault.{BindFault}
 use Rattle.dr_bind.specs.Faults.{IsRefusedAs, text_fault, bind_fault}
 use Rattle.dr_bind.specs.Plans.{IsPlanMeant}
 

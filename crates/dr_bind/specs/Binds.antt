@@ -6,10 +6,10 @@ use Rattle.dr_meaning.specs.Syntax.{QuerySyntax}
 use Rattle.dr_meaning.specs.Binding as meant
 use Rattle.dr_plan.specs.declared.plan.Plan.{Plan}
 use Rattle.dr_plan.specs.Planned.{plan_view, planned}
-use Rattle.dr_bound_parts.specs.Faults.{fault_view}
-use Rattle.dr_bound_parts.specs.Parts.{AreParts}
-use Rattle.dr_bound_parts.specs.declared.fault.BindFault.{BindFault}
-use Rattle.dr_bound_parts.specs.declared.parts.BoundParts.{BoundParts}
+use Rattle.dr_resolve.specs.Faults.{fault_view}
+use Rattle.dr_resolve.specs.Parts.{AreParts}
+use Rattle.dr_resolve.specs.declared.fault.BindFault.{BindFault}
+use Rattle.dr_resolve.specs.declared.bound.BoundParts.{BoundParts}
 
 -- the plan of the query to which it is bound; or the first fault; want of memory stands for either
 abbrev pub BindsTo : Schema → QuerySyntax → Result Plan BindFault → Type 0

@@ -4,8 +4,8 @@ use Rattle.dr_meaning.specs.Query as meant
 use Rattle.dr_meaning.specs.Refusals.{QueryRefusal, text_refused, binding_refused, query_problem_name, bind_problem_name}
 use Rattle.dr_sql.specs.Faults as text
 use Rattle.dr_sql.specs.declared.fault.QueryFault.{QueryFault as TextFault}
-use Rattle.dr_bound_parts.specs.Faults as binding
-use Rattle.dr_bound_parts.specs.declared.fault.BindFault.{BindFault}
+use Rattle.dr_resolve.specs.Faults as binding
+use Rattle.dr_resolve.specs.declared.fault.BindFault.{BindFault}
 use Rattle.dr_bind.specs.declared.fault.QueryProblem.{QueryProblem}
 use Rattle.dr_bind.specs.declared.fault.QueryFault.{QueryFault}
 

@@ -7,16 +7,15 @@ ghost use Rattle.dr_planning.specs.NamedLevels.{joined, levels_view};
 ghost use Rattle.dr_meaning.specs.Query.{levels_of};
 ghost use Rattle.dr_plan.specs.Planned.{plan_view, planned};
 ghost use Rattle.dr_sql.specs.Views as syntax;
-ghost use Rattle.dr_bound_parts.specs.Faults.{earlier, first_view};
+ghost use Rattle.dr_resolve.specs.Faults.{earlier, first_view};
 ghost use Rattle.dr_bind.specs.Binds.{BindsTo, PartsOf};
 
-use dr_bound_parts::{BindFault, BindProblem, BoundParts, FirstFault};
 use dr_memory::NoMemory;
 use dr_nested::Schema;
 use dr_paths::used_leaves;
 use dr_plan::Plan;
-use dr_planning::{Level, levels_of, note_rules, plan_of, used_paths};
-use dr_resolve::Binder;
+use dr_planning::{Listed, levels_of, note_rules, plan_of, used_paths};
+use dr_resolve::{BindFault, BindProblem, Binder, BoundParts, FirstFault};
 use dr_sql::{Query, Table};
 use std::alloc::Global;
 
@@ -36,7 +35,7 @@ fn plan_without_faults(
     alloc: Global,
     schema: &Schema,
     query: &Query<'_>,
-    levels: &[Level],
+    levels: &[Listed],
     parts: &BoundParts,
 ) -> Result<Plan, NoMemory>
     requires levels { levels_view levels.now ≡ joined (levels_of (schema_view schema.now).fields) }
@@ -73,7 +72,6 @@ pub fn bind(alloc: Global, schema: &Schema, query: &Query<'_>) -> Result<Plan, B
         leaves: &[],
     };
     let parts = binder.parts(query, &mut first)?;
-    let parts = Box::new(alloc, parts)?;
     let levels = levels_of(alloc, schema)?;
     note_rules(&levels, &parts, &mut first);
     match first.fault {

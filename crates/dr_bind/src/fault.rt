@@ -3,7 +3,7 @@
 ghost use Rattle.std.specs.Prelude.{◌≡◌, ◌≤◌, length};
 ghost use Rattle.dr_bind.specs.Faults.{problem_name, text_fault, bind_fault};
 
-use dr_bound_parts::{BindFault, BindProblem};
+use dr_resolve::{BindFault, BindProblem};
 use dr_sql::{QueryFault as TextFault, QueryProblem as TextProblem};
 
 /// What is wrong with a query.

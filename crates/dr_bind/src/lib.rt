@@ -7,6 +7,6 @@ mod fault;
 mod reading;
 
 pub use binding::bind;
-pub use dr_bound_parts::{BindFault, BindProblem, Fault};
+pub use dr_resolve::{BindFault, BindProblem, Fault};
 pub use fault::{QueryFault, QueryProblem};
 pub use reading::read_query;

@@ -9,7 +9,7 @@ use Rattle.dr_meaning.specs.Query.{Levels, no_levels, deeper, append_levels}
 use Rattle.dr_meaning.specs.Binding.{levels_inside, next_levels, list_name, list_between}
 use Rattle.dr_planning.specs.NamedLevels.{NamedLevels, named, joined, levels_view, level_view}
 use Rattle.dr_planning.specs.Entries.{named_list, list_inside, next_list, named_between}
-use Rattle.dr_planning.specs.declared.level.Level as levels
+use Rattle.dr_planning.specs.declared.listed.Listed as levels
 
 -- ---- in the words of the definition
 
@@ -55,6 +55,6 @@ between-named ns ls o p e = ap (λ (m : NamedLevels). named_between m o p) e ∙
 -- ---- one level after another
 
 -- levels from one on
-pub levels_from : (ls : List levels.Level) (k : ℕ) (l : levels.Level) → k < length ls → l ≡ get_or ls k l
+pub levels_from : (ls : List levels.Listed) (k : ℕ) (l : levels.Listed) → k < length ls → l ≡ get_or ls k l
     → levels_view (drop k ls) ≡ named (level_view l).name (level_view l).path (level_view l).below (levels_view (drop (k + 1) ls))
-levels_from ls k l h at = ap levels_view (drop_more ls k l h ∙ ap (λ (x : levels.Level). x ∷ drop (k + 1) ls) (sym at))
+levels_from ls k l h at = ap levels_view (drop_more ls k l h ∙ ap (λ (x : levels.Listed). x ∷ drop (k + 1) ls) (sym at))

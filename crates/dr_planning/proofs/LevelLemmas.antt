@@ -14,9 +14,9 @@ use Rattle.dr_nested.specs.declared.shape.Field as fields
 use Rattle.dr_nested.specs.declared.shape.Rep.{Rep}
 use Rattle.dr_nested.proofs.ViewLemmas.{view-field}
 use Rattle.dr_planning.specs.NamedLevels.{NamedLevels, no_named, named, joined, append_named, SeenLevel, level_view, levels_view, as_named, fields_named, field_named, shape_named}
-use Rattle.dr_planning.specs.declared.level.Level as levels
+use Rattle.dr_planning.specs.declared.listed.Listed as levels
 
-pub view-level : (l : levels.Level) → level_view l ≡ record { name = string_bytes (levels.out-Level l).name; path = map step_view (levels.out-Level l).path.items; below = levels_view (levels.out-Level l).below.items }
+pub view-level : (l : levels.Listed) → level_view l ≡ record { name = string_bytes (levels.out-Listed l).name; path = map step_view (levels.out-Listed l).path.items; below = levels_view (levels.out-Listed l).below.items }
 view-level l = search (rules, levels.the_lemmas)
 
 pub append_named-none : (ls : NamedLevels) → append_named ls no_named ≡ ls
@@ -28,20 +28,20 @@ append_named-assoc no_named ls ms = refl
 append_named-assoc (named n p b ks) ls ms = ap (named n p b) (append_named-assoc ks ls ms)
 
 -- the view of levels behind others
-pub levels_view-append : (ks ls : List levels.Level) → levels_view (ks ++ ls) ≡ append_named (levels_view ks) (levels_view ls)
+pub levels_view-append : (ks ls : List levels.Listed) → levels_view (ks ++ ls) ≡ append_named (levels_view ks) (levels_view ls)
 levels_view-append [] ls = refl
 levels_view-append (k ∷ ks) ls = ap (named (level_view k).name (level_view k).path (level_view k).below) (levels_view-append ks ls)
 
 -- the parts of a level
-pub path-level : (l : levels.Level) → map step_view (levels.out-Level l).path.items ≡ (level_view l).path
+pub path-level : (l : levels.Listed) → map step_view (levels.out-Listed l).path.items ≡ (level_view l).path
 path-level l = sym (ap (λ (s : SeenLevel). s.path) (view-level l))
 
-pub below-level : (l : levels.Level) → levels_view (levels.out-Level l).below.items ≡ (level_view l).below
+pub below-level : (l : levels.Listed) → levels_view (levels.out-Listed l).below.items ≡ (level_view l).below
 below-level l = sym (ap (λ (s : SeenLevel). s.below) (view-level l))
 
 -- one level made of its parts
-levels_view-made : (n : String Global) (p : Vec steps.Step Global) (b : Vec levels.Level Global)
-    → levels_view (levels.roll-Level (record { name = n; path = p; below = b }) ∷ []) ≡ named (string_bytes n) (map step_view p.items) (levels_view b.items) no_named
+levels_view-made : (n : String Global) (p : Vec steps.Step Global) (b : Vec levels.Listed Global)
+    → levels_view (levels.roll-Listed (record { name = n; path = p; below = b }) ∷ []) ≡ named (string_bytes n) (map step_view p.items) (levels_view b.items) no_named
 levels_view-made n p b = search (rules, levels.the_lemmas)
 
 -- ---- joined names
@@ -103,11 +103,11 @@ fields_more fs k f t p q name before after h at n e pushed =
     ∙ ap (append_named before) (ap (λ (gs : Fields). fields_named gs k t p) (sym here))
 
 -- a level of its own behind those before it
-pub level_more : (before after : List levels.Level) (n : String Global) (p : Vec steps.Step Global) (b : Vec levels.Level Global) (r : Rep) (s : Shape)
-    → r ≡ Rep.Repeated → after ≡ before ++ levels.roll-Level (record { name = n; path = p; below = b }) ∷ [] → levels_view b.items ≡ shape_named s [] (map step_view p.items)
+pub level_more : (before after : List levels.Listed) (n : String Global) (p : Vec steps.Step Global) (b : Vec levels.Listed Global) (r : Rep) (s : Shape)
+    → r ≡ Rep.Repeated → after ≡ before ++ levels.roll-Listed (record { name = n; path = p; below = b }) ∷ [] → levels_view b.items ≡ shape_named s [] (map step_view p.items)
     → levels_view after ≡ append_named (levels_view before) (field_named (rep_view r) s (string_bytes n) (map step_view p.items))
 level_more before after n p b r s is made inside =
     let q : List path.Step = map step_view p.items in
-    ap levels_view made ∙ levels_view-append before (levels.roll-Level (record { name = n; path = p; below = b }) ∷ [])
+    ap levels_view made ∙ levels_view-append before (levels.roll-Listed (record { name = n; path = p; below = b }) ∷ [])
     ∙ ap (append_named (levels_view before)) (levels_view-made n p b ∙ ap (λ (ls : NamedLevels). named (string_bytes n) q ls no_named) inside
     ∙ ap (λ (x : Rep). field_named (rep_view x) s (string_bytes n) q) (sym is))

@@ -14,7 +14,7 @@ use Rattle.dr_plan.specs.declared.objects.ObjectPlan as objects
 use Rattle.dr_plan.specs.declared.objects.ListPlan as lists
 use Rattle.dr_planning.specs.NamedLevels.{NamedLevels, joined, levels_view, level_view, named}
 use Rattle.dr_planning.specs.Trees.{numbers_at, leads_to, named_trees, named_object, append_lists, list_view, lists_view}
-use Rattle.dr_planning.specs.declared.level.Level as levels
+use Rattle.dr_planning.specs.declared.listed.Listed as levels
 use Rattle.dr_planning.proofs.EntryLemmas.{levels_from}
 
 -- ---- the view of a plan
@@ -70,19 +70,19 @@ leads_to-lent [] p = refl
 leads_to-lent (q ∷ items) p = ap (λ (b : Bool). begins_with p (lent_path q) || b) (leads_to-lent items p)
 
 -- the object of a level
-abbrev object_below : List (List Step) → levels.Level → ObjectTree
+abbrev object_below : List (List Step) → levels.Listed → ObjectTree
 object_below qs l = object_tree (numbers_at 0 qs (level_view l).path) (named_trees qs (level_view l).below)
 
-abbrev list_if : List (List Step) → levels.Level → Bool → ListTrees → ListTrees
+abbrev list_if : List (List Step) → levels.Listed → Bool → ListTrees → ListTrees
 list_if qs l b rest = with_list_tree b (level_view l).name (level_view l).path (object_below qs l) rest
 
 -- a level that leads to no items
-pub no_list_more : (qs : List (List Step)) (l : levels.Level) (before : ListTrees) → leads_to qs (level_view l).path ≡ false
+pub no_list_more : (qs : List (List Step)) (l : levels.Listed) (before : ListTrees) → leads_to qs (level_view l).path ≡ false
     → before ≡ append_lists before (named_trees qs (levels_view (l ∷ [])))
 no_list_more qs l before h = sym (ap (λ (b : Bool). append_lists before (list_if qs l b no_lists)) h ∙ append_lists-none before)
 
 -- a level that leads to items
-pub list_more : (qs : List (List Step)) (l : levels.Level) (before after : List lists.ListPlan) (made : lists.ListPlan) (o : ObjectTree)
+pub list_more : (qs : List (List Step)) (l : levels.Listed) (before after : List lists.ListPlan) (made : lists.ListPlan) (o : ObjectTree)
     → after ≡ before ++ made ∷ [] → leads_to qs (level_view l).path ≡ true → list_view made ≡ record { name = (level_view l).name; level = (level_view l).path; object = o }
     → o ≡ object_tree (numbers_at 0 qs (level_view l).path) (named_trees qs (level_view l).below)
     → lists_view after ≡ append_lists (lists_view before) (named_trees qs (levels_view (l ∷ [])))
@@ -97,7 +97,7 @@ trees_by true n p o rest = refl
 trees_by false n p o rest = refl
 
 -- the trees of a level before those behind it
-pub trees_more : (qs : List (List Step)) (ls : List levels.Level) (k : ℕ) (l : levels.Level) (before after : ListTrees) → k < length ls → l ≡ get_or ls k l
+pub trees_more : (qs : List (List Step)) (ls : List levels.Listed) (k : ℕ) (l : levels.Listed) (before after : ListTrees) → k < length ls → l ≡ get_or ls k l
     → after ≡ append_lists before (named_trees qs (levels_view (l ∷ [])))
     → append_lists after (named_trees qs (levels_view (drop (k + 1) ls))) ≡ append_lists before (named_trees qs (levels_view (drop k ls)))
 trees_more qs ls k l before after h at e =

@@ -29,19 +29,19 @@ use Rattle.dr_planning.specs.NamedLevels.{NamedLevels, joined}
 use Rattle.dr_paths.specs.declared.bound.BoundPath.{BoundPath}
 use Rattle.dr_paths.specs.Views.{bound_path_view, paths_at}
 use Rattle.dr_paths.proofs.UsedLemmas.{number_of_used}
-use Rattle.dr_bound_parts.specs.declared.parts.BoundExpression.{BoundExpression}
-use Rattle.dr_bound_parts.specs.declared.parts.BoundCondition.{BoundCondition}
-use Rattle.dr_bound_parts.specs.declared.parts.BoundTerm.{BoundTerm}
-use Rattle.dr_bound_parts.specs.declared.parts.BoundItem.{BoundItem}
-use Rattle.dr_bound_parts.specs.declared.parts.BoundParts.{BoundParts}
-use Rattle.dr_bound_parts.specs.Bound.{Covers, AreReal, type_of, IsExpression}
-use Rattle.dr_bound_parts.specs.Items.{within_view, IsTerm, AreItems}
-use Rattle.dr_bound_parts.specs.Parts.{IsCheckedCondition, AreParts}
+use Rattle.dr_resolve.specs.declared.bound.BoundExpression.{BoundExpression}
+use Rattle.dr_resolve.specs.declared.bound.BoundCondition.{BoundCondition}
+use Rattle.dr_resolve.specs.declared.bound.BoundTerm.{BoundTerm}
+use Rattle.dr_resolve.specs.declared.bound.BoundItem.{BoundItem}
+use Rattle.dr_resolve.specs.declared.bound.BoundParts.{BoundParts}
+use Rattle.dr_resolve.specs.Bound.{Covers, AreReal, type_of, IsExpression}
+use Rattle.dr_resolve.specs.Items.{within_view, IsTerm, AreItems}
+use Rattle.dr_resolve.specs.Parts.{IsCheckedCondition, AreParts}
 use Rattle.dr_planning.specs.Planning.{condition_paths, record_paths, group_paths, record_item_paths, group_item_paths, selection_paths, parts_paths}
 use Rattle.dr_planning.specs.Planning.{condition_conjuncts, condition_joining}
 use Rattle.dr_planning.specs.Planning.{Selects}
 use Rattle.dr_planning.specs.Planning.{sums_numbers, CanBePlanned, SumsNumbers, AllSumNumbers}
-use Rattle.dr_bound_parts.proofs.BoundLemmas.{real_joined}
+use Rattle.dr_resolve.proofs.BoundLemmas.{real_joined}
 use Rattle.dr_planning.proofs.PlanPathLemmas.{term_cases, chosen, parts_used}
 use Rattle.dr_planning.proofs.PlanStepLemmas.{both}
 use Rattle.dr_planning.proofs.PlanSelectionLemmas.{cut_covers, condition_seen, joining_seen, all_summed, selection_seen, objects_seen}
@@ -110,12 +110,11 @@ real_parts fs ps qs h k = subst (λ (rs : List meant.BoundPath). AreReal fs rs) 
 expression_real : (fs : Fields) (ls : List Leaf) (e : meant.BoundExpression) (x : BoundExpression) → IsExpression fs ls e x → AreReal fs (map bound_path_view x.paths.items)
 expression_real fs ls e x h = subst (λ (ps : List meant.BoundPath). AreReal fs ps) (sym h.paths) h.real
 
-condition_real : (fs : Fields) (ls : List Leaf) (b : Checked (Option meant.BoundExpression)) (c : Option (Option BoundCondition)) → IsCheckedCondition fs ls b c → AreReal fs (map bound_path_view (condition_paths c))
-condition_real fs ls (passes b) None h = absurd h
-condition_real fs ls (passes None) (Some None) h = tt
-condition_real fs ls (passes None) (Some (Some c)) h = absurd h
-condition_real fs ls (passes (Some b)) (Some None) h = absurd h
-condition_real fs ls (passes (Some b)) (Some (Some c)) h = subst (λ (ps : List meant.BoundPath). AreReal fs ps) (sym h.paths) h.real
+condition_real : (fs : Fields) (ls : List Leaf) (b : Checked (Option meant.BoundExpression)) (c : Option BoundCondition) → IsCheckedCondition fs ls b c → AreReal fs (map bound_path_view (condition_paths c))
+condition_real fs ls (passes None) None h = tt
+condition_real fs ls (passes None) (Some c) h = absurd h
+condition_real fs ls (passes (Some b)) None h = absurd h
+condition_real fs ls (passes (Some b)) (Some c) h = subst (λ (ps : List meant.BoundPath). AreReal fs ps) (sym h.paths) h.real
 condition_real fs ls (fails e es) None h = tt
 condition_real fs ls (fails e es) (Some c) h = absurd h
 
@@ -166,8 +165,8 @@ term_summed fs ls =
     (λ e x h s. refl)
     (λ s. refl)
     (λ v s. refl)
-    (λ f e x h s. sums_of f e None x.expression h.gives s)
-    (λ f e x v h s. sums_of f e (Some (within_view v)) x.expression h.gives s)
+    (λ f e x h s. sums_of f e None x.expression.value h.gives s)
+    (λ f e x v h s. sums_of f e (Some (within_view v)) x.expression.value h.gives s)
 
 items_summed : (fs : Fields) (ls : List Leaf) (bs : List binding.BoundItem) (xs : List BoundItem) → AreItems fs ls bs xs → AllSumNumbers bs → all_summed xs ≡ true
 items_summed fs ls [] [] h s = refl

@@ -18,15 +18,15 @@ use Rattle.dr_plan.specs.Views.{fold_view}
 use Rattle.dr_plan.specs.declared.aggregate.Fold.{Fold}
 use Rattle.dr_paths.specs.declared.bound.BoundPath.{BoundPath}
 use Rattle.dr_paths.specs.Views.{bound_path_view, paths_at}
-use Rattle.dr_bound_parts.specs.declared.parts.BoundExpression.{BoundExpression}
-use Rattle.dr_bound_parts.specs.declared.parts.BoundCondition.{BoundCondition}
-use Rattle.dr_bound_parts.specs.declared.parts.BoundWithin.{BoundWithin}
-use Rattle.dr_bound_parts.specs.declared.parts.BoundTerm.{BoundTerm}
-use Rattle.dr_bound_parts.specs.declared.parts.BoundItem.{BoundItem}
-use Rattle.dr_bound_parts.specs.declared.parts.BoundParts.{BoundParts}
-use Rattle.dr_bound_parts.specs.Bound.{IsExpression}
-use Rattle.dr_bound_parts.specs.Items.{IsTruth, within_view, IsTerm, AreItems}
-use Rattle.dr_bound_parts.specs.Parts.{IsCheckedCondition, AreParts}
+use Rattle.dr_resolve.specs.declared.bound.BoundExpression.{BoundExpression}
+use Rattle.dr_resolve.specs.declared.bound.BoundCondition.{BoundCondition}
+use Rattle.dr_resolve.specs.declared.bound.BoundWithin.{BoundWithin}
+use Rattle.dr_resolve.specs.declared.bound.BoundTerm.{BoundTerm}
+use Rattle.dr_resolve.specs.declared.bound.BoundItem.{BoundItem}
+use Rattle.dr_resolve.specs.declared.bound.BoundParts.{BoundParts}
+use Rattle.dr_resolve.specs.Bound.{IsExpression}
+use Rattle.dr_resolve.specs.Items.{IsTruth, within_view, IsTerm, AreItems}
+use Rattle.dr_resolve.specs.Parts.{IsCheckedCondition, AreParts}
 use Rattle.dr_planning.specs.Planning.{condition_paths, record_paths, group_paths, record_item_paths, group_item_paths, selection_paths, parts_paths, steps_at}
 
 -- ---- lists of paths
@@ -126,13 +126,12 @@ group_items_used fs ls keys (b ∷ bs) (x ∷ xs) h =
     ∙ (ap (λ (ps : List (List MeantStep)). steps_at (group_paths x.term) ++ ps) (group_items_used fs ls keys bs xs h.1)
     ∙ group_term_used fs ls keys b.name (filter_map (binding.group_item keys) bs) b.term x.term h.0.term)
 
-condition_used : (fs : Fields) (ls : List Leaf) (b : Checked (Option meant.BoundExpression)) (c : Option (Option BoundCondition)) → IsCheckedCondition fs ls b c
+condition_used : (fs : Fields) (ls : List Leaf) (b : Checked (Option meant.BoundExpression)) (c : Option BoundCondition) → IsCheckedCondition fs ls b c
     → steps_at (condition_paths c) ≡ laws.condition_paths (binding.condition_of b)
-condition_used fs ls (passes b) None h = absurd h
-condition_used fs ls (passes None) (Some None) h = refl
-condition_used fs ls (passes None) (Some (Some c)) h = absurd h
-condition_used fs ls (passes (Some b)) (Some None) h = absurd h
-condition_used fs ls (passes (Some b)) (Some (Some c)) h = truth_paths fs ls b c h
+condition_used fs ls (passes None) None h = refl
+condition_used fs ls (passes None) (Some c) h = absurd h
+condition_used fs ls (passes (Some b)) None h = absurd h
+condition_used fs ls (passes (Some b)) (Some c) h = truth_paths fs ls b c h
 condition_used fs ls (fails e es) None h = refl
 condition_used fs ls (fails e es) (Some c) h = absurd h
 

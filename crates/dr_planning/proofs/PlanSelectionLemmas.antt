@@ -25,19 +25,19 @@ use Rattle.dr_plan.specs.declared.plan.Selection.{Selection}
 use Rattle.dr_planning.specs.NamedLevels.{NamedLevels, joined}
 use Rattle.dr_paths.specs.declared.bound.BoundPath.{BoundPath}
 use Rattle.dr_paths.specs.Views.{bound_path_view, paths_at}
-use Rattle.dr_bound_parts.specs.declared.parts.BoundExpression.{BoundExpression}
-use Rattle.dr_bound_parts.specs.declared.parts.BoundCondition.{BoundCondition}
-use Rattle.dr_bound_parts.specs.declared.parts.BoundTerm.{BoundTerm}
-use Rattle.dr_bound_parts.specs.declared.parts.BoundItem.{BoundItem}
+use Rattle.dr_resolve.specs.declared.bound.BoundExpression.{BoundExpression}
+use Rattle.dr_resolve.specs.declared.bound.BoundCondition.{BoundCondition}
+use Rattle.dr_resolve.specs.declared.bound.BoundTerm.{BoundTerm}
+use Rattle.dr_resolve.specs.declared.bound.BoundItem.{BoundItem}
 use Rattle.dr_planning.specs.declared.groups.Grouped.{Grouped}
-use Rattle.dr_bound_parts.specs.Bound.{Covers, is_path_value, Means, IsExpression}
-use Rattle.dr_bound_parts.specs.Items.{IsTerm, AreItems}
-use Rattle.dr_bound_parts.specs.Parts.{IsCheckedCondition}
+use Rattle.dr_resolve.specs.Bound.{Covers, is_path_value, Means, IsExpression}
+use Rattle.dr_resolve.specs.Items.{IsTerm, AreItems}
+use Rattle.dr_resolve.specs.Parts.{IsCheckedCondition}
 use Rattle.dr_planning.specs.Planning.{condition_paths, record_paths, group_paths, record_item_paths, group_item_paths, selection_paths, steps_at}
 use Rattle.dr_planning.specs.Planning.{condition_conjuncts, condition_joining, condition_fits, record_term_of, record_item_of, record_chain, record_chains}
 use Rattle.dr_planning.specs.Planning.{place_of_first, key_number, grouped_of, with_aggregate, aggregates_of, with_group_item, group_items_of, Selects}
 use Rattle.dr_planning.specs.Planning.{sums_numbers}
-use Rattle.dr_bound_parts.proofs.BoundLemmas.{covers_parts}
+use Rattle.dr_resolve.proofs.BoundLemmas.{covers_parts}
 use Rattle.dr_planning.proofs.PlanPathLemmas.{term_cases, expression_paths, named_record, named_group, chosen}
 use Rattle.dr_planning.proofs.PlanStepLemmas.{both}
 
@@ -46,38 +46,35 @@ use Rattle.dr_planning.proofs.PlanStepLemmas.{both}
 pub cut_covers : (ls : List Leaf) (ps qs : List BoundPath) → Covers ls (map bound_path_view (ps ++ qs)) → Covers ls (map bound_path_view ps) × Covers ls (map bound_path_view qs)
 cut_covers ls ps qs h = covers_parts ls (map bound_path_view ps) (map bound_path_view qs) (subst (λ (rs : List meant.BoundPath). Covers ls rs) (map-append bound_path_view ps qs) h)
 
-expression_means : (fs : Fields) (ls : List Leaf) (e : meant.BoundExpression) (x : BoundExpression) → IsExpression fs ls e x → Covers ls (map bound_path_view x.paths.items) → Means ls e x.expression
+expression_means : (fs : Fields) (ls : List Leaf) (e : meant.BoundExpression) (x : BoundExpression) → IsExpression fs ls e x → Covers ls (map bound_path_view x.paths.items) → Means ls e x.expression.value
 expression_means fs ls e x h k = h.means (subst (λ (ps : List meant.BoundPath). Covers ls ps) h.paths k)
 
 -- ---- the condition
 
-pub condition_seen : (fs : Fields) (ls : List Leaf) (b : Checked (Option meant.BoundExpression)) (c : Option (Option BoundCondition)) → IsCheckedCondition fs ls b c → Covers ls (map bound_path_view (condition_paths c))
+pub condition_seen : (fs : Fields) (ls : List Leaf) (b : Checked (Option meant.BoundExpression)) (c : Option BoundCondition) → IsCheckedCondition fs ls b c → Covers ls (map bound_path_view (condition_paths c))
     → condition_conjuncts ls c ≡ cut.condition_conjuncts (binding.condition_of b)
-condition_seen fs ls (passes b) None h k = absurd h
-condition_seen fs ls (passes None) (Some None) h k = refl
-condition_seen fs ls (passes None) (Some (Some c)) h k = absurd h
-condition_seen fs ls (passes (Some b)) (Some None) h k = absurd h
-condition_seen fs ls (passes (Some b)) (Some (Some c)) h k = ap cut.conjuncts (h.view (subst (λ (ps : List meant.BoundPath). Covers ls ps) h.paths k))
+condition_seen fs ls (passes None) None h k = refl
+condition_seen fs ls (passes None) (Some c) h k = absurd h
+condition_seen fs ls (passes (Some b)) None h k = absurd h
+condition_seen fs ls (passes (Some b)) (Some c) h k = ap cut.conjuncts (h.view (subst (λ (ps : List meant.BoundPath). Covers ls ps) h.paths k))
 condition_seen fs ls (fails e es) None h k = refl
 condition_seen fs ls (fails e es) (Some c) h k = absurd h
 
-pub joining_seen : (fs : Fields) (ls : List Leaf) (b : Checked (Option meant.BoundExpression)) (c : Option (Option BoundCondition)) → IsCheckedCondition fs ls b c → Covers ls (map bound_path_view (condition_paths c))
+pub joining_seen : (fs : Fields) (ls : List Leaf) (b : Checked (Option meant.BoundExpression)) (c : Option BoundCondition) → IsCheckedCondition fs ls b c → Covers ls (map bound_path_view (condition_paths c))
     → condition_joining ls c ≡ cut.condition_joining (binding.condition_of b)
-joining_seen fs ls (passes b) None h k = absurd h
-joining_seen fs ls (passes None) (Some None) h k = refl
-joining_seen fs ls (passes None) (Some (Some c)) h k = absurd h
-joining_seen fs ls (passes (Some b)) (Some None) h k = absurd h
-joining_seen fs ls (passes (Some b)) (Some (Some c)) h k = ap (λ (e : Expression). Some (cut.joining_from 0 e)) (h.view (subst (λ (ps : List meant.BoundPath). Covers ls ps) h.paths k))
+joining_seen fs ls (passes None) None h k = refl
+joining_seen fs ls (passes None) (Some c) h k = absurd h
+joining_seen fs ls (passes (Some b)) None h k = absurd h
+joining_seen fs ls (passes (Some b)) (Some c) h k = ap (λ (e : Expression). Some (cut.joining_from 0 e)) (h.view (subst (λ (ps : List meant.BoundPath). Covers ls ps) h.paths k))
 joining_seen fs ls (fails e es) None h k = refl
 joining_seen fs ls (fails e es) (Some c) h k = absurd h
 
-pub condition_right : (fs : Fields) (ls : List Leaf) (b : Checked (Option meant.BoundExpression)) (c : Option (Option BoundCondition)) → IsCheckedCondition fs ls b c → Covers ls (map bound_path_view (condition_paths c))
+pub condition_right : (fs : Fields) (ls : List Leaf) (b : Checked (Option meant.BoundExpression)) (c : Option BoundCondition) → IsCheckedCondition fs ls b c → Covers ls (map bound_path_view (condition_paths c))
     → condition_fits ls c ≡ true
-condition_right fs ls (passes b) None h k = absurd h
-condition_right fs ls (passes None) (Some None) h k = refl
-condition_right fs ls (passes None) (Some (Some c)) h k = absurd h
-condition_right fs ls (passes (Some b)) (Some None) h k = absurd h
-condition_right fs ls (passes (Some b)) (Some (Some c)) h k = h.fits (subst (λ (ps : List meant.BoundPath). Covers ls ps) h.paths k)
+condition_right fs ls (passes None) None h k = refl
+condition_right fs ls (passes None) (Some c) h k = absurd h
+condition_right fs ls (passes (Some b)) None h k = absurd h
+condition_right fs ls (passes (Some b)) (Some c) h k = h.fits (subst (λ (ps : List meant.BoundPath). Covers ls ps) h.paths k)
 condition_right fs ls (fails e es) None h k = refl
 condition_right fs ls (fails e es) (Some c) h k = absurd h
 
@@ -119,11 +116,11 @@ record_term_right : (fs : Fields) (ls : List Leaf) (n : String Global) (ys : Lis
 record_term_right fs ls n ys ey =
     let P : binding.BoundTerm → BoundTerm → Type 0 = λ t u. Covers ls (map bound_path_view (record_paths u)) → sums_numbers u ≡ true → list_all (item_fits ls) (cons_option (made_record n (record_term_of u)) ys) ≡ true in
     term_cases fs ls P
-    (λ e x h k s. both (expr_fits ls x.expression) (list_all (item_fits ls) ys) (expression_means fs ls e x h k).fits ey)
+    (λ e x h k s. both (expr_fits ls x.expression.value) (list_all (item_fits ls) ys) (expression_means fs ls e x h k).fits ey)
     (λ k s. ey)
     (λ v k s. ey)
     (λ f e x h k s. ey)
-    (λ f e x v h k s. both (expr_fits ls x.expression && is_summed f x.expression) (list_all (item_fits ls) ys) (both (expr_fits ls x.expression) (is_summed f x.expression) (expression_means fs ls e x h k).fits s) ey)
+    (λ f e x v h k s. both (expr_fits ls x.expression.value && is_summed f x.expression.value) (list_all (item_fits ls) ys) (both (expr_fits ls x.expression.value) (is_summed f x.expression.value) (expression_means fs ls e x h k).fits s) ey)
 
 abbrev pub all_summed : List BoundItem → Bool
 all_summed xs = list_all (λ (x : BoundItem). sums_numbers x.term) xs
@@ -243,7 +240,7 @@ aggregate_right fs ls keys ags ea =
     (λ e x h k s. ap (list_all (aggregate_fits ls)) (with_key (key_number keys x) ags) ∙ ea)
     (λ k s. ea)
     (λ v k s. ea)
-    (λ f e x h k s. both (expr_fits ls x.expression && is_summed f x.expression) (list_all (aggregate_fits ls) ags) (both (expr_fits ls x.expression) (is_summed f x.expression) (expression_means fs ls e x h k).fits s) ea)
+    (λ f e x h k s. both (expr_fits ls x.expression.value && is_summed f x.expression.value) (list_all (aggregate_fits ls) ags) (both (expr_fits ls x.expression.value) (is_summed f x.expression.value) (expression_means fs ls e x h k).fits s) ea)
     (λ f e x v h k s. ea)
 
 aggregates_right : (fs : Fields) (ls : List Leaf) (keys : List BoundPath) (bs : List binding.BoundItem) (xs : List BoundItem) → AreItems fs ls bs xs → Covers ls (map bound_path_view (group_item_paths xs)) → all_summed xs ≡ true

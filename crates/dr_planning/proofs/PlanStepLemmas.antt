@@ -19,12 +19,12 @@ use Rattle.dr_plan.specs.declared.plan.GroupItem.{GroupItem}
 use Rattle.dr_paths.specs.declared.bound.BoundPath.{BoundPath}
 use Rattle.dr_paths.specs.Views.{bound_path_view}
 use Rattle.dr_paths.specs.Numbers.{number_among}
-use Rattle.dr_bound_parts.specs.declared.parts.BoundItem.{BoundItem}
+use Rattle.dr_resolve.specs.declared.bound.BoundItem.{BoundItem}
 use Rattle.dr_planning.specs.declared.groups.Grouped.{Grouped}
-use Rattle.dr_bound_parts.specs.Bound.{IsAmong}
+use Rattle.dr_resolve.specs.Bound.{IsAmong}
 use Rattle.dr_planning.specs.Planning.{record_item_of}
 use Rattle.dr_planning.specs.Planning.{grouped_of, with_aggregate, aggregates_of, with_group_item, group_items_of, AreNumbers}
-use Rattle.dr_bound_parts.proofs.BoundLemmas.{covers_parts}
+use Rattle.dr_resolve.proofs.BoundLemmas.{covers_parts}
 
 -- ---- loops that make items
 

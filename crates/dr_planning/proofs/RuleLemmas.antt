@@ -19,18 +19,18 @@ use Rattle.dr_plan.specs.declared.aggregate.Fold.{Fold}
 use Rattle.dr_paths.specs.Related.{Spans, joined_before}
 use Rattle.dr_paths.specs.Views.{bound_path_view}
 use Rattle.dr_paths.proofs.RelatedLemmas.{unrelated_behind, unrelated_front}
-use Rattle.dr_bound_parts.specs.Faults.{earlier}
-use Rattle.dr_bound_parts.specs.Bound.{IsExpression}
-use Rattle.dr_bound_parts.specs.Items.{AreExpressions, AreItems, IsItem, IsTerm, within_view}
-use Rattle.dr_bound_parts.specs.Parts.{AreParts}
+use Rattle.dr_resolve.specs.Faults.{earlier}
+use Rattle.dr_resolve.specs.Bound.{IsExpression}
+use Rattle.dr_resolve.specs.Items.{AreExpressions, AreItems, IsItem, IsTerm, within_view}
+use Rattle.dr_resolve.specs.Parts.{AreParts}
 use Rattle.dr_planning.specs.Rules.{IsChain}
-use Rattle.dr_bound_parts.specs.declared.parts.BoundExpression.{BoundExpression}
-use Rattle.dr_bound_parts.specs.declared.parts.BoundWithin.{BoundWithin}
-use Rattle.dr_bound_parts.specs.declared.parts.BoundTerm.{BoundTerm}
-use Rattle.dr_bound_parts.specs.declared.parts.BoundItem.{BoundItem}
-use Rattle.dr_bound_parts.specs.declared.parts.BoundParts.{BoundParts}
+use Rattle.dr_resolve.specs.declared.bound.BoundExpression.{BoundExpression}
+use Rattle.dr_resolve.specs.declared.bound.BoundWithin.{BoundWithin}
+use Rattle.dr_resolve.specs.declared.bound.BoundTerm.{BoundTerm}
+use Rattle.dr_resolve.specs.declared.bound.BoundItem.{BoundItem}
+use Rattle.dr_resolve.specs.declared.bound.BoundParts.{BoundParts}
 use Rattle.dr_planning.specs.declared.rules.KeyChain.{KeyChain}
-use Rattle.dr_bound_parts.proofs.FaultLemmas.{earlier_none, earlier_assoc, first_fault-append}
+use Rattle.dr_resolve.proofs.FaultLemmas.{earlier_none, earlier_assoc, first_fault-append}
 
 -- ---- items, one after another
 

@@ -5,8 +5,8 @@ use Rattle.dr_meaning.specs.Schema.{Repetition, required, optional, repeated, Fi
 use Rattle.dr_meaning.specs.Path as path
 use Rattle.dr_meaning.specs.Query.{Levels, no_levels, deeper}
 use Rattle.dr_nested.specs.PathView.{step_view}
-use Rattle.dr_planning.specs.declared.level.Level.{Level, fold-Level}
-use Rattle.dr_planning.specs.declared.level.Level.TheOpen.{Level-F}
+use Rattle.dr_planning.specs.declared.listed.Listed.{Listed, fold-Listed}
+use Rattle.dr_planning.specs.declared.listed.Listed.TheOpen.{Listed-F}
 
 -- levels, each by its name from the level above, its path, the levels below it, and the levels beside it
 pub data NamedLevels : Type 0 where
@@ -34,13 +34,13 @@ abbrev pub named_of : List SeenLevel → NamedLevels
 named_of [] = no_named
 named_of (l ∷ ls) = named l.name l.path l.below (named_of ls)
 
-abbrev pub level_step : Level-F SeenLevel → SeenLevel
+abbrev pub level_step : Listed-F SeenLevel → SeenLevel
 level_step l = record { name = string_bytes l.name; path = map step_view l.path.items; below = named_of l.below.items }
 
-abbrev pub level_view : Level → SeenLevel
-level_view = fold-Level SeenLevel level_step
+abbrev pub level_view : Listed → SeenLevel
+level_view = fold-Listed SeenLevel level_step
 
-abbrev pub levels_view : List Level → NamedLevels
+abbrev pub levels_view : List Listed → NamedLevels
 levels_view ls = named_of (map level_view ls)
 
 -- ---- the levels of a schema, with one text for the names on the way

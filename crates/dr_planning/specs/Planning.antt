@@ -8,6 +8,7 @@ use Rattle.dr_meaning.specs.Expression.{Expression, longest_chain}
 use Rattle.dr_meaning.specs.BoundExpression as meant
 use Rattle.dr_meaning.specs.Binding as binding
 use Rattle.dr_meaning.specs.Query as query
+use Rattle.dr_meaning.specs.QueryLeaves.{query_leaves}
 use Rattle.dr_nested.specs.PathView.{step_view}
 use Rattle.dr_plan.specs.Conjuncts.{conjuncts, Joining, joining_from}
 use Rattle.dr_plan.specs.Objects.{object_view, object_tree_of}
@@ -20,24 +21,25 @@ use Rattle.dr_plan.specs.declared.plan.RecordItem.{RecordItem}
 use Rattle.dr_plan.specs.declared.plan.GroupTerm.{GroupTerm}
 use Rattle.dr_plan.specs.declared.plan.GroupItem.{GroupItem}
 use Rattle.dr_plan.specs.declared.plan.Selection.{Selection}
+use Rattle.dr_plan.specs.declared.plan.Plan.{Plan}
+use Rattle.dr_plan.specs.Planned.{plan_view, planned}
 use Rattle.dr_planning.specs.NamedLevels.{NamedLevels, joined}
 use Rattle.dr_paths.specs.declared.bound.BoundPath.{BoundPath}
 use Rattle.dr_paths.specs.Views.{bound_path_view, paths_at}
-use Rattle.dr_bound_parts.specs.declared.parts.BoundExpression.{BoundExpression}
-use Rattle.dr_bound_parts.specs.declared.parts.BoundCondition.{BoundCondition}
-use Rattle.dr_bound_parts.specs.declared.parts.BoundTerm.{BoundTerm}
-use Rattle.dr_bound_parts.specs.declared.parts.BoundItem.{BoundItem}
-use Rattle.dr_bound_parts.specs.declared.parts.BoundParts.{BoundParts}
+use Rattle.dr_resolve.specs.declared.bound.BoundExpression.{BoundExpression}
+use Rattle.dr_resolve.specs.declared.bound.BoundCondition.{BoundCondition}
+use Rattle.dr_resolve.specs.declared.bound.BoundTerm.{BoundTerm}
+use Rattle.dr_resolve.specs.declared.bound.BoundItem.{BoundItem}
+use Rattle.dr_resolve.specs.declared.bound.BoundParts.{BoundParts}
 use Rattle.dr_planning.specs.declared.groups.Grouped.{Grouped}
-use Rattle.dr_bound_parts.specs.Bound.{Covers}
-use Rattle.dr_bound_parts.specs.Parts.{AreParts}
+use Rattle.dr_resolve.specs.Bound.{Covers}
+use Rattle.dr_resolve.specs.Parts.{AreParts}
 
 -- ---- the paths whose values are used
 
-abbrev pub condition_paths : Option (Option BoundCondition) → List BoundPath
+abbrev pub condition_paths : Option BoundCondition → List BoundPath
 condition_paths None = []
-condition_paths (Some None) = []
-condition_paths (Some (Some c)) = c.paths.items
+condition_paths (Some c) = c.paths.items
 
 -- of a term of a record query: there is none for an aggregate without WITHIN
 abbrev pub record_paths : BoundTerm → List BoundPath
@@ -73,30 +75,27 @@ steps_at ps = paths_at (map bound_path_view ps)
 
 -- ---- the condition
 
-abbrev pub condition_conjuncts : List Leaf → Option (Option BoundCondition) → List Expression
+abbrev pub condition_conjuncts : List Leaf → Option BoundCondition → List Expression
 condition_conjuncts ls None = []
-condition_conjuncts ls (Some None) = []
-condition_conjuncts ls (Some (Some c)) = conjuncts (truth_view ls c.truth)
+condition_conjuncts ls (Some c) = conjuncts (truth_view ls c.truth.value)
 
 -- how the condition joins them
-abbrev pub condition_joining : List Leaf → Option (Option BoundCondition) → Option Joining
+abbrev pub condition_joining : List Leaf → Option BoundCondition → Option Joining
 condition_joining ls None = None
-condition_joining ls (Some None) = None
-condition_joining ls (Some (Some c)) = Some (joining_from 0 (truth_view ls c.truth))
+condition_joining ls (Some c) = Some (joining_from 0 (truth_view ls c.truth.value))
 
-abbrev pub condition_fits : List Leaf → Option (Option BoundCondition) → Bool
+abbrev pub condition_fits : List Leaf → Option BoundCondition → Bool
 condition_fits ls None = true
-condition_fits ls (Some None) = true
-condition_fits ls (Some (Some c)) = truth_fits ls c.truth
+condition_fits ls (Some c) = truth_fits ls c.truth.value
 
 -- ---- record queries
 
 -- the term of a record query: an expression, or an aggregate with WITHIN
 abbrev pub record_term_of : BoundTerm → Option RecordTerm
-record_term_of (BoundTerm.Value x) = Some (RecordTerm.Value x.expression)
+record_term_of (BoundTerm.Value x) = Some (RecordTerm.Value x.expression.value)
 record_term_of (BoundTerm.Rows w) = None
 record_term_of (BoundTerm.Aggregated f x None) = None
-record_term_of (BoundTerm.Aggregated f x (Some w)) = Some (RecordTerm.Within (record { fold = f; argument = x.expression; node = w.node }))
+record_term_of (BoundTerm.Aggregated f x (Some w)) = Some (RecordTerm.Within (record { fold = f; argument = x.expression.value; node = w.node }))
 
 abbrev pub record_item_of : BoundItem → Option RecordItem
 record_item_of x = option_map (λ t. record { name = x.name; term = t }) (record_term_of x.term)
@@ -136,7 +135,7 @@ abbrev pub grouped_of : List BoundPath → BoundTerm → Option Grouped
 grouped_of keys (BoundTerm.Value x) = option_map (λ k. Grouped.Key k) (key_number keys x)
 grouped_of keys (BoundTerm.Rows None) = Some (Grouped.Aggregate Aggregate.Rows)
 grouped_of keys (BoundTerm.Rows (Some w)) = None
-grouped_of keys (BoundTerm.Aggregated f x None) = Some (Grouped.Aggregate (Aggregate.Of f x.expression))
+grouped_of keys (BoundTerm.Aggregated f x None) = Some (Grouped.Aggregate (Aggregate.Of f x.expression.value))
 grouped_of keys (BoundTerm.Aggregated f x (Some w)) = None
 
 -- the aggregate of a term, before others
@@ -181,7 +180,7 @@ Selects false levels ls keys xs s = SelectsGroups ls keys xs s
 abbrev pub sums_numbers : BoundTerm → Bool
 sums_numbers (BoundTerm.Value x) = true
 sums_numbers (BoundTerm.Rows w) = true
-sums_numbers (BoundTerm.Aggregated f x w) = is_summed f x.expression
+sums_numbers (BoundTerm.Aggregated f x w) = is_summed f x.expression.value
 
 -- parts of some query over leaves that have all the paths whose values are used, with SUM of numbers alone
 pub record CanBePlanned (ls : List Leaf) (p : BoundParts) : Type 0 where
@@ -190,6 +189,11 @@ pub record CanBePlanned (ls : List Leaf) (p : BoundParts) : Type 0 where
   pub parts : AreParts fields ls bound p
   pub covered : Covers ls (map bound_path_view (parts_paths p))
   pub summed : list_all (λ (x : BoundItem). sums_numbers x.term) p.items.items ≡ true
+
+-- whatever parts of a query over a schema of these levels these stand for, where the leaves are the query's, this is its plan
+abbrev pub IsPlanOfParts : NamedLevels → List Leaf → BoundParts → Plan → Type 0
+IsPlanOfParts levels ls parts p = (fs : Fields) (b : binding.BoundParts) → AreParts fs ls b parts → levels ≡ joined (query.levels_of fs) → ls ≡ query_leaves fs (binding.query_of b)
+    → plan_view p ≡ planned fs (binding.query_of b)
 
 -- ---- what the definitions say of SUM
 

@@ -5,11 +5,11 @@ ghost use Rattle.dr_nested.specs.PathView.{path_view};
 ghost use Rattle.dr_paths.specs.Views.{bound_path_view};
 ghost use Rattle.dr_planning.specs.Planning as plan;
 
-use dr_bound_parts::{BoundExpression, BoundItem, BoundTerm, leaf_number, place_among};
 use dr_memory::NoMemory;
 use dr_nested::Path;
 use dr_paths::BoundPath;
 use dr_plan::{Aggregate, GroupItem, GroupTerm, Selection};
+use dr_resolve::{BoundExpression, BoundItem, BoundTerm, leaf_number, place_among};
 use std::alloc::Global;
 
 /// What an item of an aggregate query gives: a key by its number, or an aggregate.
@@ -66,7 +66,10 @@ fn group_term(keys: &[BoundPath], term: BoundTerm) -> Result<Option<Grouped>, No
             Some(_) => Ok(None),
         },
         BoundTerm::Aggregated(fold, argument, within) => match within {
-            None => Ok(Some(Grouped::Aggregate(Aggregate::Of(fold, argument.expression)))),
+            None => {
+                let argument = Box::into_inner(argument.expression);
+                Ok(Some(Grouped::Aggregate(Aggregate::Of(fold, argument))))
+            }
             Some(_) => Ok(None),
         },
     }
@@ -91,8 +94,9 @@ fn push_grouped(
             Ok(())
         }
         Some(Grouped::Aggregate(aggregate)) => {
-            let number = narrow(aggregates.len())?;
+            let number = aggregates.len();
             aggregates.push(aggregate)?;
+            let number = narrow(number)?;
             let term = GroupTerm::Aggregate(number);
             items.push(GroupItem { name, term })?;
             Ok(())

@@ -7,7 +7,7 @@ ghost use Rattle.dr_nested.specs.SchemaView.{schema_view};
 ghost use Rattle.dr_nested.specs.Views.{fields_view, rep_view, shape_view};
 ghost use Rattle.dr_planning.specs.NamedLevels.{append_named, field_named, fields_named, joined, levels_view, shape_named};
 
-use crate::level::Level;
+use crate::listed::Listed;
 use dr_memory::NoMemory;
 use dr_nested::{Field, Rep, Schema, Shape, Step};
 use std::alloc::Global;
@@ -15,7 +15,7 @@ use std::alloc::Global;
 /// The levels of a schema next below the record, each with the levels below it, in the schema's order.
 ///
 /// Errors: want of memory alone.
-pub fn levels_of(alloc: Global, schema: &Schema) -> Result<Vec<Level>, NoMemory>
+pub fn levels_of(alloc: Global, schema: &Schema) -> Result<Vec<Listed>, NoMemory>
     ensures { IfOk result (λ v. levels_view v.items ≡ joined (meant.levels_of (schema_view schema.now).fields)) }
 {
     let mut levels = Vec::new(alloc);
@@ -50,7 +50,7 @@ fn push_fields(
     names: &str,
     path: &[Step],
     fields: &Vec<Field>,
-    levels: &mut Vec<Level>,
+    levels: &mut Vec<Listed>,
 ) -> Result<(), NoMemory>
     ensures { OnOk result (levels_view (levels.new).items
         ≡ append_named (levels_view (levels.old).items)
@@ -73,7 +73,7 @@ fn push_field(
     path: Vec<Step>,
     rep: Rep,
     shape: &Shape,
-    levels: &mut Vec<Level>,
+    levels: &mut Vec<Listed>,
 ) -> Result<(), NoMemory>
     ensures { OnOk result (levels_view (levels.new).items
         ≡ append_named (levels_view (levels.old).items)
@@ -87,7 +87,7 @@ fn push_field(
         Rep::Repeated => {
             let mut below = Vec::new(alloc);
             push_shape(alloc, "", &path, shape, &mut below)?;
-            levels.push(Level { name, path, below })?;
+            levels.push(Listed { name, path, below })?;
             Ok(())
         }
     }
@@ -100,7 +100,7 @@ fn push_shape(
     names: &str,
     path: &[Step],
     shape: &Shape,
-    levels: &mut Vec<Level>,
+    levels: &mut Vec<Listed>,
 ) -> Result<(), NoMemory>
     ensures { OnOk result (levels_view (levels.new).items
         ≡ append_named (levels_view (levels.old).items)

@@ -3,8 +3,8 @@
 #![tactic(auto)]
 
 mod groups;
-mod level;
 mod levels;
+mod listed;
 mod names;
 mod objects;
 mod planning;
@@ -12,8 +12,8 @@ mod records;
 mod rules;
 mod value_paths;
 
-pub use level::Level;
 pub use levels::levels_of;
+pub use listed::Listed;
 pub use names::is_list_between;
 pub use objects::object_plan;
 pub use planning::plan_of;

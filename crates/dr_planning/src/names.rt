@@ -7,13 +7,13 @@ ghost use Rattle.dr_nested.specs.PathView.{step_view};
 ghost use Rattle.dr_planning.specs.Entries as entries;
 ghost use Rattle.dr_planning.specs.NamedLevels.{joined, levels_view};
 
-use crate::level::Level;
+use crate::listed::Listed;
 use dr_nested::Step;
 use dr_paths::{begins_with, same_path};
 
 /// Whether the list that leads from the object at a level to an item of another level, if one does, has the wanted
 /// name.
-pub fn is_list_between(levels: &[Level], object: &[Step], level: &[Step], wanted: &str) -> bool
+pub fn is_list_between(levels: &[Listed], object: &[Step], level: &[Step], wanted: &str) -> bool
     ensures named { result ≡ binding.is_named wanted.now
         (entries.named_between (levels_view levels.now) (map step_view object.now) (map step_view level.now)) }
     ensures meant { (ls : Levels) → levels_view levels.now ≡ joined ls → result
@@ -26,7 +26,7 @@ pub fn is_list_between(levels: &[Level], object: &[Step], level: &[Step], wanted
 }
 
 /// The name of the list that leads from the object at a level to an item of another level, if one does.
-fn list_between<'a>(levels: &'a [Level], object: &[Step], level: &[Step]) -> Option<&'a str>
+fn list_between<'a>(levels: &'a [Listed], object: &[Step], level: &[Step]) -> Option<&'a str>
     ensures { option_copied result ≡ entries.named_between (levels_view levels.now) (map step_view object.now)
         (map step_view level.now) }
 {
@@ -40,7 +40,7 @@ fn list_between<'a>(levels: &'a [Level], object: &[Step], level: &[Step]) -> Opt
 }
 
 /// The name of the list, among those of these levels, that leads to a level.
-fn list_name<'a>(levels: &'a [Level], level: &[Step]) -> Option<&'a str>
+fn list_name<'a>(levels: &'a [Listed], level: &[Step]) -> Option<&'a str>
     ensures { option_copied result ≡ entries.named_list (map step_view level.now) (levels_view levels.now) }
 {
     'levels: for next in levels {
@@ -52,7 +52,7 @@ fn list_name<'a>(levels: &'a [Level], level: &[Step]) -> Option<&'a str>
 }
 
 /// The same among the lists of the object at a level that is one of these or inside one of them.
-fn list_inside<'a>(levels: &'a [Level], object: &[Step], level: &[Step]) -> Option<&'a str>
+fn list_inside<'a>(levels: &'a [Listed], object: &[Step], level: &[Step]) -> Option<&'a str>
     ensures { option_copied result ≡ entries.list_inside (map step_view object.now) (map step_view level.now)
         (levels_view levels.now) }
 {

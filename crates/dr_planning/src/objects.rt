@@ -1,36 +1,32 @@
 //! The plan of a result's objects.
 
-ghost use Rattle.std.specs.Prelude.{◌≡◌, ◌<◌, ◌^◌, ◌∷◌, [], List, IfOk, OnOk, length, map};
+ghost use Rattle.std.specs.Prelude.{◌≡◌, ◌<◌, ◌^◌, ◌∷◌, [], IfOk, OnOk, length, map};
 ghost use Rattle.std.specs.List.{list_any};
 ghost use Rattle.dr_meaning.specs.Path as path_meaning;
-ghost use Rattle.dr_meaning.specs.Query as meant;
-ghost use Rattle.dr_meaning.specs.Schema.{Fields};
 ghost use Rattle.dr_nested.specs.PathView.{lent_path, step_view};
-ghost use Rattle.dr_planning.specs.NamedLevels.{joined, level_view, levels_view};
+ghost use Rattle.dr_planning.specs.NamedLevels.{level_view, levels_view};
+ghost use Rattle.dr_planning.specs.Planning.{AreObjects};
 ghost use Rattle.dr_planning.specs.Trees.{append_lists, list_view, lists_view, named_object, named_trees, numbers_at};
-ghost use Rattle.dr_plan.specs.Objects.{object_tree, object_tree_of, object_view};
+ghost use Rattle.dr_plan.specs.Objects.{object_tree, object_view};
 
-use crate::level::Level;
+use crate::listed::Listed;
 use dr_memory::NoMemory;
 use dr_nested::Step;
 use dr_paths::{begins_with, same_path};
 use dr_plan::{ListPlan, ObjectPlan};
 use std::alloc::Global;
 
-/// The plan of a result's objects, by a schema's levels and the level of each item, in SELECT order.
+/// The plan of a result's objects, by a schema's levels and the chain of each item, in SELECT order.
 ///
 /// Errors: want of memory alone.
 pub fn object_plan(
     alloc: Global,
-    levels: &[Level],
+    levels: &[Listed],
     items: &[&[Step]],
 ) -> Result<ObjectPlan, NoMemory>
     requires { length items.now < 2 ^ 32 }
     ensures tree { IfOk result (λ o. object_view o ≡ named_object (map lent_path items.now) (levels_view levels.now)) }
-    ensures meant { IfOk result (λ o. (fs : Fields) (its : List meant.RecordItem) → levels_view levels.now
-        ≡ joined (meant.levels_of fs)
-        → map (λ (i : meant.RecordItem). meant.term_chain
-        i.term) its ≡ map lent_path items.now → object_view o ≡ object_tree_of fs its) }
+    ensures meant { IfOk result (AreObjects (levels_view levels.now) (map lent_path items.now)) }
 {
     object_at(alloc, levels, &[], items)
 }
@@ -39,7 +35,7 @@ pub fn object_plan(
 #[cycle(objects)]
 fn object_at(
     alloc: Global,
-    below: &[Level],
+    below: &[Listed],
     level: &[Step],
     items: &[&[Step]],
 ) -> Result<ObjectPlan, NoMemory>
@@ -60,7 +56,7 @@ fn object_at(
 #[cycle(objects)]
 fn push_list(
     alloc: Global,
-    level: &Level,
+    level: &Listed,
     items: &[&[Step]],
     lists: &mut Vec<ListPlan>,
 ) -> Result<(), NoMemory>
@@ -78,7 +74,7 @@ fn push_list(
 }
 
 /// The list of a level, with an object for each instance.
-fn list_of(alloc: Global, level: &Level, object: ObjectPlan) -> Result<ListPlan, NoMemory>
+fn list_of(alloc: Global, level: &Listed, object: ObjectPlan) -> Result<ListPlan, NoMemory>
     ensures { IfOk result (λ l. list_view l ≡ record
         { name = (level_view level.now).name; level = (level_view level.now).path; object = object_view object }) }
 {

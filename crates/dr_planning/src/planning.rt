@@ -2,27 +2,21 @@
 
 ghost use Rattle.std.specs.Prelude.{◌≡◌, true, [], None, List, map, option_map, IfOk};
 ghost use Rattle.std.specs.List.{list_all};
-ghost use Rattle.dr_meaning.specs.Schema.{Fields};
 ghost use Rattle.dr_meaning.specs.Path as path_meaning;
-ghost use Rattle.dr_meaning.specs.Query as query;
-ghost use Rattle.dr_meaning.specs.QueryLeaves as used;
-ghost use Rattle.dr_meaning.specs.Binding as binding;
 ghost use Rattle.dr_nested.specs.PathView.{path_view};
 ghost use Rattle.dr_plan.specs.Views.{joining_view, truth_view};
 ghost use Rattle.dr_plan.specs.Fitting.{truth_fits};
-ghost use Rattle.dr_plan.specs.Planned.{plan_view, planned};
-ghost use Rattle.dr_planning.specs.NamedLevels.{joined, levels_view};
-ghost use Rattle.dr_bound_parts.specs.Parts.{AreParts};
+ghost use Rattle.dr_planning.specs.NamedLevels.{levels_view};
 ghost use Rattle.dr_planning.specs.Planning as plan;
 
 use crate::groups::selected_groups;
-use crate::level::Level;
+use crate::listed::Listed;
 use crate::records::selected_objects;
-use dr_bound_parts::{BoundCondition, BoundItem, BoundParts};
 use dr_memory::NoMemory;
 use dr_nested::Path;
 use dr_paths::BoundPath;
 use dr_plan::{CutCondition, Plan, Selection, conjuncts};
+use dr_resolve::{BoundCondition, BoundItem, BoundParts};
 use std::alloc::Global;
 
 /// Of a query without a condition.
@@ -37,10 +31,7 @@ fn without_condition(alloc: Global) -> CutCondition
 }
 
 /// The condition, cut at its top.
-fn cut_condition(
-    alloc: Global,
-    condition: Option<Option<BoundCondition>>,
-) -> Result<CutCondition, NoMemory>
+fn cut_condition(alloc: Global, condition: Option<BoundCondition>) -> Result<CutCondition, NoMemory>
     ensures view { IfOk result (λ c. (ls : List path_meaning.Leaf) → map (truth_view ls) c.test.items
         ≡ plan.condition_conjuncts ls condition) }
     ensures fits { IfOk result (λ c. (ls : List path_meaning.Leaf) → plan.condition_fits ls condition ≡ true
@@ -50,17 +41,14 @@ fn cut_condition(
 {
     match condition {
         None => Ok(without_condition(alloc)),
-        Some(passed) => match passed {
-            None => Ok(without_condition(alloc)),
-            Some(condition) => conjuncts(alloc, condition.truth),
-        },
+        Some(condition) => conjuncts(alloc, Box::into_inner(condition.truth)),
     }
 }
 
 /// What parts of a query select.
 fn selected(
     alloc: Global,
-    levels: &[Level],
+    levels: &[Listed],
     leaves: &[Path],
     is_record_query: bool,
     keys: &[BoundPath],
@@ -81,15 +69,12 @@ fn selected(
 /// Errors: want of memory alone.
 pub fn plan_of(
     alloc: Global,
-    levels: &[Level],
+    levels: &[Listed],
     leaves: Vec<Path>,
     parts: BoundParts,
 ) -> Result<Plan, NoMemory>
     requires { plan.CanBePlanned (map path_view leaves.items) parts }
-    ensures { IfOk result (λ p. (fs : Fields) (b : binding.BoundParts)
-        → AreParts fs (map path_view leaves.items) b parts → levels_view levels.now ≡ joined (query.levels_of fs)
-        → map path_view leaves.items ≡ used.query_leaves fs (binding.query_of
-        b) → plan_view p ≡ planned fs (binding.query_of b)) }
+    ensures { IfOk result (plan.IsPlanOfParts (levels_view levels.now) (map path_view leaves.items) parts) }
 {
     let is_record_query = parts.is_record_query;
     let keys = parts.keys;

@@ -6,13 +6,13 @@ ghost use Rattle.dr_nested.specs.PathView.{lent_path};
 ghost use Rattle.dr_planning.specs.NamedLevels.{levels_view};
 ghost use Rattle.dr_planning.specs.Planning as plan;
 
-use crate::level::Level;
+use crate::listed::Listed;
 use crate::objects::object_plan;
-use dr_bound_parts::{BoundItem, BoundTerm};
 use dr_memory::NoMemory;
 use dr_nested::Step;
 use dr_paths::{chain_end, longest_chain};
 use dr_plan::{ObjectPlan, RecordItem, RecordTerm, Selection, Within};
+use dr_resolve::{BoundItem, BoundTerm};
 use std::alloc::Global;
 
 /// The term of a record query, if this is one.
@@ -20,13 +20,13 @@ fn record_term(term: BoundTerm) -> Option<RecordTerm>
     ensures { result ≡ plan.record_term_of term }
 {
     match term {
-        BoundTerm::Value(value) => Some(RecordTerm::Value(value.expression)),
+        BoundTerm::Value(value) => { Some(RecordTerm::Value(Box::into_inner(value.expression))) }
         BoundTerm::Rows(_) => None,
         BoundTerm::Aggregated(fold, argument, within) => match within {
             None => None,
             Some(within) => Some(RecordTerm::Within(Within {
                 fold,
-                argument: argument.expression,
+                argument: Box::into_inner(argument.expression),
                 node: within.node,
             })),
         },
@@ -58,7 +58,7 @@ fn record_items(alloc: Global, items: Vec<BoundItem>) -> Result<Vec<RecordItem>,
     Ok(made)
 }
 
-/// The level of the object in which a term of a record query stands.
+/// The chain of the object in which a term of a record query stands.
 fn record_chain(term: &BoundTerm) -> Option<&[Step]>
     ensures { option_map lent_path result ≡ plan.record_chain term.now }
 {
@@ -72,22 +72,21 @@ fn record_chain(term: &BoundTerm) -> Option<&[Step]>
     }
 }
 
-/// The levels of the objects in which the items of a record query stand.
+/// The chains of the objects in which the items of a record query stand.
 fn record_chains(alloc: Global, items: &[BoundItem]) -> Result<Vec<&[Step]>, NoMemory>
     ensures { IfOk result (λ v. map lent_path v.items ≡ plan.record_chains items.now) }
 {
-    let mut levels = Vec::new(alloc);
+    let mut chains = Vec::new(alloc);
     'items: for item in items {
-        match record_chain(&item.term) {
-            None => {}
-            Some(level) => levels.push(level)?,
+        if let Some(chain) = record_chain(&item.term) {
+            chains.push(chain)?;
         }
     }
-    Ok(levels)
+    Ok(chains)
 }
 
 /// The plan of the objects in which the items of a record query stand.
-fn objects_of(alloc: Global, levels: &[Level], items: &[BoundItem]) -> Result<ObjectPlan, NoMemory>
+fn objects_of(alloc: Global, levels: &[Listed], items: &[BoundItem]) -> Result<ObjectPlan, NoMemory>
     ensures { IfOk result (λ o. plan.AreObjects (levels_view levels.now) (plan.record_chains items.now) o) }
 {
     let own = record_chains(alloc, items)?;
@@ -100,7 +99,7 @@ fn objects_of(alloc: Global, levels: &[Level], items: &[BoundItem]) -> Result<Ob
 /// The objects that a record query selects.
 pub(crate) fn selected_objects(
     alloc: Global,
-    levels: &[Level],
+    levels: &[Listed],
     items: Vec<BoundItem>,
 ) -> Result<Selection, NoMemory>
     ensures { IfOk result (λ s. plan.SelectsObjects (levels_view levels.now) items.items s) }

@@ -1,35 +1,36 @@
 //! The rules of a query above its paths and operators.
 
-ghost use Rattle.std.specs.Prelude.{◌≡◌, ◌++◌, [], List, Option, map, is_some, option_map};
-ghost use Rattle.std.specs.List.{flat_map, list_any};
+ghost use Rattle.std.specs.Prelude.{◌≡◌, List, Option, map, is_some, option_map};
 ghost use Rattle.dr_meaning.specs.Schema.{Fields};
 ghost use Rattle.dr_meaning.specs.Path as path_meaning;
 ghost use Rattle.dr_meaning.specs.Path.{Leaf};
-ghost use Rattle.dr_meaning.specs.Query as query;
 ghost use Rattle.dr_meaning.specs.BoundExpression as meant;
 ghost use Rattle.dr_meaning.specs.Binding as binding;
 ghost use Rattle.dr_nested.specs.PathView.{step_view};
 ghost use Rattle.dr_paths.specs.Related.{Spans};
 ghost use Rattle.dr_paths.specs.Views.{bound_path_view};
-ghost use Rattle.dr_planning.specs.NamedLevels.{joined, levels_view};
-ghost use Rattle.dr_bound_parts.specs.Faults.{earlier, first_view};
-ghost use Rattle.dr_bound_parts.specs.Bound.{IsExpression};
-ghost use Rattle.dr_bound_parts.specs.Items.{AreExpressions, AreItems, IsItem, IsTerm, within_view};
-ghost use Rattle.dr_bound_parts.specs.Parts.{AreParts, IsCheckedCondition};
-ghost use Rattle.dr_planning.specs.Rules.{IsChain, name_taken};
+ghost use Rattle.dr_planning.specs.NamedLevels.{levels_view};
+ghost use Rattle.dr_resolve.specs.Faults.{Notes};
+ghost use Rattle.dr_resolve.specs.Bound.{IsExpression};
+ghost use Rattle.dr_resolve.specs.Items.{AreItems, IsItem, IsTerm, within_view};
+ghost use Rattle.dr_resolve.specs.Parts.{AreParts, IsCheckedCondition};
+ghost use Rattle.dr_planning.specs.Rules.{IsChain, Keys, unrelated_behind_keys, unrelated_in_condition, unrelated_in_items};
+ghost use Rattle.dr_planning.specs.Rules.{NotesDuplicates, NotesRules, NotesTaken, NotesUnrelatedArguments};
+ghost use Rattle.dr_planning.specs.Rules.{NotesUngrouped, NotesUngroupedItem};
+ghost use Rattle.dr_planning.specs.Rules.{TellsItemName, TellsListName, TellsListNames, TellsTaken, within_in_items};
 
-use crate::level::Level;
+use crate::listed::Listed;
 use crate::names::is_list_between;
-use dr_bound_parts::{
-    BindProblem, BoundCondition, BoundExpression, BoundItem, BoundParts, BoundTerm, BoundWithin,
-    FirstFault, place_among,
-};
 use dr_nested::Step;
 use dr_paths::{
     BoundPath, begins_with, chain_end, deepest_chain, first_unrelated, longest_chain, same_path,
 };
+use dr_resolve::{
+    BindProblem, BoundCondition, BoundExpression, BoundItem, BoundParts, BoundTerm, BoundWithin,
+    FirstFault, place_among,
+};
 
-/// What the keys say of the paths behind them: nothing, where one of them couldn't be bound; their longest level; or
+/// What the keys say of the paths behind them: nothing, where one of them couldn't be bound; their longest chain; or
 /// the place of the first that isn't related to an earlier one.
 #[derive(Clone, Copy)]
 enum KeyChain<'k> {
@@ -39,12 +40,8 @@ enum KeyChain<'k> {
 }
 
 /// Notes the faults of all rules above paths and operators.
-pub fn note_rules(levels: &[Level], parts: &BoundParts, first: &mut FirstFault)
-    ensures { (fs : Fields) (ls : List Leaf) (b : binding.BoundParts) → AreParts fs ls b parts.now
-        → levels_view levels.now ≡ joined (query.levels_of fs)
-        → first_view first.new ≡ earlier (first_view first.old) (binding.first_fault (binding.unrelated_faults b
-        ++ (binding.item_faults b ++ binding.duplicate_faults (query.levels_of fs) b.is_record_query
-        (binding.passing b.items)))) }
+pub fn note_rules(levels: &[Listed], parts: &BoundParts, first: &mut FirstFault)
+    ensures { NotesRules (levels_view levels.now) parts.now first.old first.new }
 {
     note_unrelated(parts, first);
     note_item_rules(parts, first);
@@ -53,11 +50,10 @@ pub fn note_rules(levels: &[Level], parts: &BoundParts, first: &mut FirstFault)
 
 // ---- related paths
 
-/// Notes the first of some paths that isn't related to an earlier one, behind paths of which this is the longest level.
+/// Notes the first of some paths that isn't related to an earlier one, behind paths of which this is the longest chain.
 fn note_paths(longest: &[Step], paths: &[BoundPath], first: &mut FirstFault)
     ensures { (before : List (List path_meaning.Step)) → Spans before (map step_view longest.now)
-        → first_view first.new ≡ earlier (first_view first.old) (binding.first_fault (meant.unrelated_after before
-        (map bound_path_view paths.now))) }
+        → Notes (meant.unrelated_after before (map bound_path_view paths.now)) first.old first.new }
 {
     match first_unrelated(longest, paths) {
         Ok(_) => {}
@@ -66,19 +62,12 @@ fn note_paths(longest: &[Step], paths: &[BoundPath], first: &mut FirstFault)
 }
 
 /// Notes the first path of the condition that isn't related to an earlier one.
-fn note_condition(condition: &Option<Option<BoundCondition>>, first: &mut FirstFault)
+fn note_condition(condition: &Option<BoundCondition>, first: &mut FirstFault)
     ensures { (fs : Fields) (ls : List Leaf) (c : meant.Checked (Option meant.BoundExpression))
-        → IsCheckedCondition fs ls c condition.now
-        → first_view first.new ≡ earlier (first_view first.old) (binding.first_fault
-        (binding.where_passed (λ (o : Option meant.BoundExpression). meant.unrelated_among
-        (binding.paths_of_condition o)) c)) }
+        → IsCheckedCondition fs ls c condition.now → Notes (unrelated_in_condition c) first.old first.new }
 {
-    match condition {
-        None => {}
-        Some(condition) => match condition {
-            None => {}
-            Some(condition) => note_paths(&[], &condition.paths, first),
-        },
+    if let Some(condition) = condition {
+        note_paths(&[], &condition.paths, first);
     }
 }
 
@@ -98,9 +87,8 @@ fn key_chain(parts: &BoundParts) -> KeyChain<'_>
 
 /// Notes the first key that isn't related to an earlier one.
 fn note_keys(chain: KeyChain<'_>, first: &mut FirstFault)
-    ensures { (ks : meant.Checked (List meant.BoundPath)) → IsChain ks chain.entry
-        → first_view first.new ≡ earlier (first_view first.old) (binding.first_fault
-        (binding.where_passed meant.unrelated_among ks)) }
+    ensures { (ks : Keys) → IsChain ks chain.entry
+        → Notes (binding.where_passed meant.unrelated_among ks) first.old first.new }
 {
     match chain {
         KeyChain::Unbound => {}
@@ -111,10 +99,8 @@ fn note_keys(chain: KeyChain<'_>, first: &mut FirstFault)
 
 /// Notes the first of the keys, and of some paths behind them, that isn't related to an earlier one.
 fn note_behind_keys(chain: KeyChain<'_>, paths: &[BoundPath], first: &mut FirstFault)
-    ensures { (ks : meant.Checked (List meant.BoundPath)) → IsChain ks chain.entry
-        → first_view first.new ≡ earlier (first_view first.old) (binding.first_fault
-        (binding.where_passed (λ (qs : List meant.BoundPath). meant.unrelated_among
-        (qs ++ map bound_path_view paths.now)) ks)) }
+    ensures { (ks : Keys) → IsChain ks chain.entry
+        → Notes (unrelated_behind_keys (map bound_path_view paths.now) ks) first.old first.new }
 {
     match chain {
         KeyChain::Unbound => {}
@@ -125,9 +111,8 @@ fn note_behind_keys(chain: KeyChain<'_>, paths: &[BoundPath], first: &mut FirstF
 
 /// Notes the first path of an item that isn't related to an earlier one; those of an aggregate stand behind the keys.
 fn note_unrelated_term(chain: KeyChain<'_>, term: &BoundTerm, first: &mut FirstFault)
-    ensures { (fs : Fields) (ls : List Leaf) (ks : meant.Checked (List meant.BoundPath)) (t : binding.BoundTerm)
-        → IsChain ks chain.entry → IsTerm fs ls t term.now
-        → first_view first.new ≡ earlier (first_view first.old) (binding.first_fault (binding.unrelated_in_term ks t)) }
+    ensures { (fs : Fields) (ls : List Leaf) (ks : Keys) (t : binding.BoundTerm) → IsChain ks chain.entry
+        → IsTerm fs ls t term.now → Notes (binding.unrelated_in_term ks t) first.old first.new }
 {
     match term {
         BoundTerm::Value(value) => note_paths(&[], &value.paths, first),
@@ -136,28 +121,23 @@ fn note_unrelated_term(chain: KeyChain<'_>, term: &BoundTerm, first: &mut FirstF
     }
 }
 
-/// The same for each item.
+/// Notes, of each item, the first path that isn't related to an earlier one.
 fn note_unrelated_items(chain: KeyChain<'_>, items: &[BoundItem], first: &mut FirstFault)
-    ensures { (fs : Fields) (ls : List Leaf) (ks : meant.Checked (List meant.BoundPath)) (bs : List binding.BoundItem)
-        → IsChain ks chain.entry → AreItems fs ls bs items.now
-        → first_view first.new ≡ earlier (first_view first.old) (binding.first_fault
-        (flat_map (λ (i : binding.BoundItem). binding.unrelated_in_term ks i.term) bs)) }
+    ensures { (fs : Fields) (ls : List Leaf) (ks : Keys) (bs : List binding.BoundItem) → IsChain ks chain.entry
+        → AreItems fs ls bs items.now → Notes (unrelated_in_items ks bs) first.old first.new }
 {
     'items: for item in items {
         note_unrelated_term(chain, &item.term, first);
     }
 }
 
-/// The same for each argument that stands alone.
+/// Notes, of each argument that stands alone, the first path that isn't related to an earlier one or to the keys.
 fn note_unrelated_arguments(
     chain: KeyChain<'_>,
     arguments: &[BoundExpression],
     first: &mut FirstFault,
 )
-    ensures { (fs : Fields) (ls : List Leaf) (ks : meant.Checked (List meant.BoundPath))
-        (bs : List meant.BoundExpression) → IsChain ks chain.entry → AreExpressions fs ls bs arguments.now
-        → first_view first.new ≡ earlier (first_view first.old) (binding.first_fault
-        (flat_map (binding.unrelated_behind ks) bs)) }
+    ensures { NotesUnrelatedArguments chain.entry arguments.now first.old first.new }
 {
     'arguments: for argument in arguments {
         note_behind_keys(chain, &argument.paths, first);
@@ -168,7 +148,7 @@ fn note_unrelated_arguments(
 /// alone, of the keys.
 fn note_unrelated(parts: &BoundParts, first: &mut FirstFault)
     ensures { (fs : Fields) (ls : List Leaf) (b : binding.BoundParts) → AreParts fs ls b parts.now
-        → first_view first.new ≡ earlier (first_view first.old) (binding.first_fault (binding.unrelated_faults b)) }
+        → Notes (binding.unrelated_faults b) first.old first.new }
 {
     let chain = key_chain(parts);
     note_condition(&parts.condition, first);
@@ -190,30 +170,29 @@ fn holds_rows(argument: &BoundExpression, within: &BoundWithin) -> bool
 /// Notes an aggregate WITHIN a node that doesn't hold its rows, and COUNT(*) WITHIN any.
 fn note_within_term(term: &BoundTerm, first: &mut FirstFault)
     ensures { (fs : Fields) (ls : List Leaf) (t : binding.BoundTerm) → IsTerm fs ls t term.now
-        → first_view first.new ≡ earlier (first_view first.old) (binding.first_fault (binding.within_faults t)) }
+        → Notes (binding.within_faults t) first.old first.new }
 {
     match term {
         BoundTerm::Value(_) => {}
-        BoundTerm::Rows(within) => match within {
-            None => {}
-            Some(within) => first.note(within.place, BindProblem::BadWithin),
-        },
-        BoundTerm::Aggregated(_, argument, within) => match within {
-            None => {}
-            Some(within) => {
+        BoundTerm::Rows(within) => {
+            if let Some(within) = within {
+                first.note(within.place, BindProblem::BadWithin);
+            }
+        }
+        BoundTerm::Aggregated(_, argument, within) => {
+            if let Some(within) = within {
                 if !holds_rows(argument, within) {
                     first.note(within.place, BindProblem::BadWithin);
                 }
             }
-        },
+        }
     }
 }
 
-/// The same for each item.
+/// Notes, of each item, a WITHIN that doesn't hold its rows.
 fn note_within(items: &[BoundItem], first: &mut FirstFault)
     ensures { (fs : Fields) (ls : List Leaf) (bs : List binding.BoundItem) → AreItems fs ls bs items.now
-        → first_view first.new ≡ earlier (first_view first.old) (binding.first_fault
-        (flat_map (λ (i : binding.BoundItem). binding.within_faults i.term) bs)) }
+        → Notes (within_in_items bs) first.old first.new }
 {
     'items: for item in items {
         note_within_term(&item.term, first);
@@ -250,21 +229,16 @@ fn is_grouped(keys: &[BoundPath], term: &BoundTerm) -> bool
 
 /// Notes an item of an aggregate query that has no term there.
 fn note_grouping_item(keys: &[BoundPath], item: &BoundItem, first: &mut FirstFault)
-    ensures { (fs : Fields) (ls : List Leaf) (ks : List meant.BoundPath) (b : binding.BoundItem)
-        → IsItem fs ls b item.now → map bound_path_view keys.now ≡ ks
-        → first_view first.new ≡ earlier (first_view first.old) (binding.first_fault (binding.grouping_faults ks b)) }
+    ensures { NotesUngroupedItem keys.now item.now first.old first.new }
 {
     if !is_grouped(keys, &item.term) {
         first.note(item.place, BindProblem::NotGrouped);
     }
 }
 
-/// The same for each item.
+/// Notes each item of an aggregate query that has no term there.
 fn note_grouping(keys: &[BoundPath], items: &[BoundItem], first: &mut FirstFault)
-    ensures { (fs : Fields) (ls : List Leaf) (ks : List meant.BoundPath) (bs : List binding.BoundItem)
-        → AreItems fs ls bs items.now → map bound_path_view keys.now ≡ ks
-        → first_view first.new ≡ earlier (first_view first.old) (binding.first_fault
-        (flat_map (binding.grouping_faults ks) bs)) }
+    ensures { NotesUngrouped keys.now items.now first.old first.new }
 {
     'items: for item in items {
         note_grouping_item(keys, item, first);
@@ -274,7 +248,7 @@ fn note_grouping(keys: &[BoundPath], items: &[BoundItem], first: &mut FirstFault
 /// Notes the items that break a rule by themselves.
 fn note_item_rules(parts: &BoundParts, first: &mut FirstFault)
     ensures { (fs : Fields) (ls : List Leaf) (b : binding.BoundParts) → AreParts fs ls b parts.now
-        → first_view first.new ≡ earlier (first_view first.old) (binding.first_fault (binding.item_faults b)) }
+        → Notes (binding.item_faults b) first.old first.new }
 {
     note_within(&parts.items, first);
     if !parts.is_record_query {
@@ -284,7 +258,7 @@ fn note_item_rules(parts: &BoundParts, first: &mut FirstFault)
 
 // ---- names of one object
 
-/// The level of the node of a WITHIN.
+/// The chain of the node of a WITHIN.
 fn within_chain(within: &Option<BoundWithin>) -> &[Step]
     ensures { map step_view result.now ≡ binding.within_chain (option_map within_view within.now) }
 {
@@ -294,7 +268,7 @@ fn within_chain(within: &Option<BoundWithin>) -> &[Step]
     }
 }
 
-/// The level of the object in which an item of a record query stands.
+/// The chain of the object in which an item of a record query stands.
 fn item_chain(term: &BoundTerm) -> &[Step]
     ensures { (fs : Fields) (ls : List Leaf) (t : binding.BoundTerm) → IsTerm fs ls t term.now
         → map step_view result.now ≡ binding.item_chain t }
@@ -306,7 +280,7 @@ fn item_chain(term: &BoundTerm) -> &[Step]
     }
 }
 
-/// The level of the object in which an item stands: those of an aggregate query stand in one.
+/// The chain of the object in which an item stands: those of an aggregate query stand in one.
 fn object_of(is_record_query: bool, item: &BoundItem) -> &[Step]
     ensures { (fs : Fields) (ls : List Leaf) (b : binding.BoundItem) → IsItem fs ls b item.now
         → map step_view result.now ≡ binding.object_of is_record_query b }
@@ -331,14 +305,12 @@ fn has_name_of(is_record_query: bool, item: &BoundItem, other: &BoundItem) -> bo
 
 /// Whether an item has the name of a list of its object that leads to another item.
 fn has_name_of_list(
-    levels: &[Level],
+    levels: &[Listed],
     is_record_query: bool,
     item: &BoundItem,
     other: &BoundItem,
 ) -> bool
-    ensures { (fs : Fields) (ls : List Leaf) (tree : query.Levels) (b d : binding.BoundItem) → levels_view levels.now
-        ≡ joined tree → IsItem fs ls b item.now → IsItem fs ls d other.now
-        → result ≡ binding.has_name_of_list tree is_record_query b d }
+    ensures { TellsListName (levels_view levels.now) is_record_query item.now other.now result }
 {
     is_list_between(
         levels,
@@ -350,9 +322,7 @@ fn has_name_of_list(
 
 /// Whether an item has the name of one of some others of its object.
 fn is_item_name(is_record_query: bool, item: &BoundItem, others: &[BoundItem]) -> bool
-    ensures { (fs : Fields) (ls : List Leaf) (b : binding.BoundItem) (ds : List binding.BoundItem)
-        → IsItem fs ls b item.now → AreItems fs ls ds others.now
-        → result ≡ list_any (binding.has_name_of is_record_query b) ds }
+    ensures { TellsItemName is_record_query item.now others.now result }
 {
     'others: for other in others {
         if has_name_of(is_record_query, item, other) {
@@ -364,14 +334,12 @@ fn is_item_name(is_record_query: bool, item: &BoundItem, others: &[BoundItem]) -
 
 /// Whether an item has the name of a list of its object that leads to one of some others.
 fn is_list_name(
-    levels: &[Level],
+    levels: &[Listed],
     is_record_query: bool,
     item: &BoundItem,
     others: &[BoundItem],
 ) -> bool
-    ensures { (fs : Fields) (ls : List Leaf) (tree : query.Levels) (b : binding.BoundItem) (ds : List binding.BoundItem)
-        → levels_view levels.now ≡ joined tree → IsItem fs ls b item.now
-        → AreItems fs ls ds others.now → result ≡ list_any (binding.has_name_of_list tree is_record_query b) ds }
+    ensures { TellsListNames (levels_view levels.now) is_record_query item.now others.now result }
 {
     'others: for other in others {
         if has_name_of_list(levels, is_record_query, item, other) {
@@ -383,33 +351,27 @@ fn is_list_name(
 
 /// Whether an item has the name of an earlier one of its object, or of a list of its object that leads to any item.
 fn is_name_taken(
-    levels: &[Level],
+    levels: &[Listed],
     is_record_query: bool,
     item: &BoundItem,
     before: &[BoundItem],
     all: &[BoundItem],
 ) -> bool
-    ensures { (fs : Fields) (ls : List Leaf) (tree : query.Levels) (b : binding.BoundItem)
-        (ds bs : List binding.BoundItem) → levels_view levels.now ≡ joined tree → IsItem fs ls b item.now
-        → AreItems fs ls ds before.now → AreItems fs ls bs all.now → result ≡ name_taken tree is_record_query bs ds b }
+    ensures { TellsTaken (levels_view levels.now) is_record_query item.now before.now all.now result }
 {
     is_item_name(is_record_query, item, before) || is_list_name(levels, is_record_query, item, all)
 }
 
 /// Notes an item that has the name of an earlier one of its object, or of a list of its object that leads to any item.
 fn note_name(
-    levels: &[Level],
+    levels: &[Listed],
     is_record_query: bool,
     item: &BoundItem,
     before: &[BoundItem],
     all: &[BoundItem],
     first: &mut FirstFault,
 )
-    ensures { (fs : Fields) (ls : List Leaf) (tree : query.Levels) (b : binding.BoundItem)
-        (ds bs : List binding.BoundItem) → levels_view levels.now ≡ joined tree → IsItem fs ls b item.now
-        → AreItems fs ls ds before.now → AreItems fs ls bs all.now
-        → first_view first.new ≡ earlier (first_view first.old) (binding.first_fault (binding.name_faults tree
-        is_record_query bs ds b)) }
+    ensures { NotesTaken (levels_view levels.now) is_record_query item.now before.now all.now first.old first.new }
 {
     if is_name_taken(levels, is_record_query, item, before, all) {
         first.note(item.place, BindProblem::DuplicateName);
@@ -418,15 +380,12 @@ fn note_name(
 
 /// Notes the items whose names their objects have already.
 fn note_duplicates(
-    levels: &[Level],
+    levels: &[Listed],
     is_record_query: bool,
     items: &[BoundItem],
     first: &mut FirstFault,
 )
-    ensures { (fs : Fields) (ls : List Leaf) (tree : query.Levels) (bs : List binding.BoundItem)
-        → levels_view levels.now ≡ joined tree → AreItems fs ls bs items.now
-        → first_view first.new ≡ earlier (first_view first.old) (binding.first_fault (binding.duplicate_faults tree
-        is_record_query bs)) }
+    ensures { NotesDuplicates (levels_view levels.now) is_record_query items.now first.old first.new }
 {
     'items: for (number, item) in items.iter().enumerate() {
         note_name(

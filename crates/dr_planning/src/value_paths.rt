@@ -6,25 +6,22 @@ ghost use Rattle.dr_meaning.specs.Path as path_meaning;
 ghost use Rattle.dr_meaning.specs.QueryLeaves as used;
 ghost use Rattle.dr_meaning.specs.Binding as binding;
 ghost use Rattle.dr_nested.specs.PathView.{lent_path};
-ghost use Rattle.dr_bound_parts.specs.Parts.{AreParts};
+ghost use Rattle.dr_resolve.specs.Parts.{AreParts};
 ghost use Rattle.dr_planning.specs.Planning as plan;
 
-use dr_bound_parts::{BoundCondition, BoundItem, BoundParts, BoundTerm};
 use dr_memory::NoMemory;
 use dr_nested::Step;
 use dr_paths::BoundPath;
+use dr_resolve::{BoundCondition, BoundItem, BoundParts, BoundTerm};
 use std::alloc::Global;
 
 /// The paths of the condition.
-fn condition_paths(condition: &Option<Option<BoundCondition>>) -> &[BoundPath]
+fn condition_paths(condition: &Option<BoundCondition>) -> &[BoundPath]
     ensures { result.now ≡ plan.condition_paths condition.now }
 {
     match condition {
         None => &[],
-        Some(passed) => match passed {
-            None => &[],
-            Some(condition) => condition.paths.as_slice(),
-        },
+        Some(condition) => condition.paths.as_slice(),
     }
 }
 

@@ -1,9 +1,9 @@
 //! The first fault of a query.
 
 ghost use Rattle.std.specs.Prelude.{◌≡◌, Some};
-ghost use Rattle.dr_bound_parts.specs.Faults.{problem_view, first_view, earlier};
+ghost use Rattle.dr_resolve.specs.Faults.{problem_view, first_view, earlier};
 
-use dr_bound_parts::{BindProblem, FirstFault};
+use dr_resolve::{BindProblem, FirstFault};
 
 /// As `FirstFault::note`.
 pub fn noted(first: &mut FirstFault, place: usize, problem: BindProblem)

@@ -7,11 +7,11 @@ ghost use Rattle.dr_meaning.specs.Query as meant;
 
 use dr_memory::NoMemory;
 use dr_nested::Schema;
-use dr_planning::{Level, levels_of};
+use dr_planning::{Listed, levels_of};
 use std::alloc::Global;
 
 /// As `levels_of`.
-pub fn levels_below(alloc: Global, schema: &Schema) -> Result<Vec<Level>, NoMemory>
+pub fn levels_below(alloc: Global, schema: &Schema) -> Result<Vec<Listed>, NoMemory>
     ensures { IfOk result (λ v. levels_view v.items ≡ joined (meant.levels_of (schema_view schema.now).fields)) }
 {
     levels_of(alloc, schema)

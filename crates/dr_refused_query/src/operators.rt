@@ -4,7 +4,7 @@ ghost use Rattle.std.specs.Prelude.{◌≡◌, ◌&&◌, List, IfOk, IfSome, opt
 ghost use Rattle.dr_meaning.specs.Path.{Leaf};
 ghost use Rattle.dr_plan.specs.Views.{expr_view};
 ghost use Rattle.dr_plan.specs.Fitting.{expr_fits};
-ghost use Rattle.dr_bound_parts.specs.Bound.{type_of};
+ghost use Rattle.dr_resolve.specs.Bound.{type_of};
 ghost use Rattle.dr_resolve.specs.Operators.{binary_type, binary_of};
 
 use dr_memory::NoMemory;

@@ -1,15 +1,14 @@
 //! Bound parts of a query.
 
-ghost use Rattle.std.specs.Prelude.{◌≡◌, IfOk};
-ghost use Rattle.dr_bound_parts.specs.Faults.{earlier, first_view};
+ghost use Rattle.std.specs.Prelude.{IfOk, OnOk};
+ghost use Rattle.dr_resolve.specs.Faults.{Notes};
 ghost use Rattle.dr_resolve.specs.Outcomes.{fields_in, leaves_in};
-ghost use Rattle.dr_bound_parts.specs.Parts.{AreParts};
+ghost use Rattle.dr_resolve.specs.Parts.{AreParts};
 ghost use Rattle.dr_meaning.specs.Binding as binding;
 ghost use Rattle.dr_sql.specs.Views as syntax;
 
-use dr_bound_parts::{BoundParts, FirstFault};
 use dr_memory::NoMemory;
-use dr_resolve::Binder;
+use dr_resolve::{Binder, BoundParts, FirstFault};
 use dr_sql::Query;
 
 /// As `Binder::parts`.
@@ -20,9 +19,9 @@ pub fn parts_of(
 ) -> Result<BoundParts, NoMemory>
     ensures parts { IfOk result (λ p. AreParts (fields_in binder.entry) (leaves_in binder.entry)
         (binding.bind_parts (fields_in binder.entry) (syntax.query_view query.now)) p) }
-    ensures first { IfOk result (λ p. first_view first.new ≡ earlier (first_view first.old)
-        (binding.first_fault (binding.part_faults (binding.bind_parts (fields_in binder.entry)
-        (syntax.query_view query.now))))) }
+    ensures first { OnOk result (Notes
+        (binding.part_faults (binding.bind_parts (fields_in binder.entry) (syntax.query_view query.now))) first.old
+        first.new) }
 {
     binder.parts(query, first)
 }

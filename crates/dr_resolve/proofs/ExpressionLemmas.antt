@@ -1,5 +1,5 @@
 -- Operators over operands that have been bound.
-use Rattle.std.proofs.Common.{◌≡◌, ℕ, List, ◌∷◌, ◌++◌, map, false, ◌&&◌, Option, Some, None, refl, sym, ap, ap₂, ◌∙◌}
+use Rattle.std.proofs.Common.{◌≡◌, ℕ, List, ◌∷◌, ◌++◌, map, false, ◌&&◌, Option, Some, None, refl, sym, ap, ap₂, ◌∙◌, subst}
 use Rattle.std.specs.Prelude.{option_map, IfSome, Vec}
 use Rattle.std.specs.Option.{option_zip}
 use Rattle.std.specs.declared.alloc.Global.{Global}
@@ -13,17 +13,17 @@ use Rattle.dr_meaning.specs.Binding.{first_fault}
 use Rattle.dr_plan.specs.Views.{expr_view}
 use Rattle.dr_plan.specs.Fitting.{expr_fits}
 use Rattle.dr_plan.specs.declared.expression.Expr.{Expr}
-use Rattle.dr_bound_parts.specs.Faults.{earlier}
-use Rattle.dr_bound_parts.specs.Bound.{Covers, is_path_value, type_of, Means, IsExpression}
+use Rattle.dr_resolve.specs.Faults.{earlier}
+use Rattle.dr_resolve.specs.Bound.{Covers, is_path_value, type_of, Means, IsExpression}
 use Rattle.dr_resolve.specs.Outcomes.{BindsAs, MadeAt}
 use Rattle.dr_resolve.specs.Operators.{unary_of, binary_of}
 use Rattle.dr_paths.specs.declared.bound.BoundPath.{BoundPath}
 use Rattle.dr_paths.specs.Views.{bound_path_view}
-use Rattle.dr_bound_parts.specs.declared.parts.BoundExpression.{BoundExpression}
+use Rattle.dr_resolve.specs.declared.bound.BoundExpression.{BoundExpression}
 use Rattle.dr_resolve.specs.declared.operators.Unary.{Unary}
 use Rattle.dr_resolve.specs.declared.operators.Binary.{Binary}
-use Rattle.dr_bound_parts.proofs.FaultLemmas.{noted_behind}
-use Rattle.dr_bound_parts.proofs.BoundLemmas.{covers_parts, real_joined}
+use Rattle.dr_resolve.proofs.FaultLemmas.{noted_behind}
+use Rattle.dr_resolve.proofs.BoundLemmas.{covers_parts, real_joined}
 
 -- ---- one operand
 
@@ -63,7 +63,7 @@ FitsAs a made = IfSome made (λ e. (ls : List Leaf) → expr_fits ls e ≡ expr_
 
 pub one_made : (fs : Fields) (ls : List Leaf) (i : ℕ) (type : ValueType → Option ValueType) (make : Expression → Expression) (c : Checked meant.BoundExpression)
     (before between now : Option BindFault) (x : BoundExpression) (made : Option Expr) (o : Option BoundExpression) → KeepsPaths make → IsNoPath make
-    → option_map type_of made ≡ type (type_of x.expression) → ViewIs make x.expression made → FitsAs x.expression made → MadeAt i made x.paths between now o
+    → option_map type_of made ≡ type (type_of x.expression.value) → ViewIs make x.expression.value made → FitsAs x.expression.value made → MadeAt i made x.paths between now o
     → BindsAs (IsExpression fs ls) before between c (Some x) → BindsAs (IsExpression fs ls) before now (one_operand i type make c) o
 one_made fs ls i type make (fails e es) before between now x made o k np t v f m h = absurd h
 one_made fs ls i type make (passes b) before between now x None None k np t v f m h =
@@ -73,8 +73,8 @@ one_made fs ls i type make (passes b) before between now x (Some e) None k np t 
 one_made fs ls i type make (passes b) before between now x None (Some y) k np t v f m h = absurd (cc)
 one_made fs ls i type make (passes b) before between now x (Some e) (Some y) k np t v f m h =
     let some : type b.gives ≡ Some (type_of e) = ap type (sym h.1.gives) ∙ sym t in
-    let same : e ≡ y.expression = cc in
-    let means : Covers ls b.paths → Means ls (record { expression = make b.expression; gives = type_of e; paths = b.paths }) y.expression =
+    let same : e ≡ y.expression.value = cc in
+    let means : Covers ls b.paths → Means ls (record { expression = make b.expression; gives = type_of e; paths = b.paths }) y.expression.value =
     λ z. let n = h.1.means z in record { view = ap (expr_view ls) (sym same) ∙ v ls ∙ ap make n.view; fits = ap (expr_fits ls) (sym same) ∙ f ls ∙ n.fits } in
     rw some (
       m.2 ∙ h.0,
@@ -152,7 +152,7 @@ FitsBoth a b made = IfSome made (λ e. (ls : List Leaf) → expr_fits ls e ≡ (
 
 pub two_made : (fs : Fields) (ls : List Leaf) (i : ℕ) (type : ValueType → ValueType → Option ValueType) (make : Expression → Expression → Expression) (c d : Checked meant.BoundExpression)
     (before between next now : Option BindFault) (x y : BoundExpression) (made : Option Expr) (ps : Vec BoundPath Global) (o : Option BoundExpression) → JoinsPaths make → AreNoPath make
-    → option_map type_of made ≡ type (type_of x.expression) (type_of y.expression) → ViewJoins make x.expression y.expression made → FitsBoth x.expression y.expression made
+    → option_map type_of made ≡ type (type_of x.expression.value) (type_of y.expression.value) → ViewJoins make x.expression.value y.expression.value made → FitsBoth x.expression.value y.expression.value made
     → ps.items ≡ x.paths.items ++ y.paths.items → MadeAt i made ps next now o
     → BindsAs (IsExpression fs ls) before between c (Some x) → BindsAs (IsExpression fs ls) between next d (Some y) → BindsAs (IsExpression fs ls) before now (two_operands i type make c d) o
 two_made fs ls i type make (fails e es) d before between next now x y made ps o k np t v f p m h g = absurd h
@@ -164,8 +164,8 @@ two_made fs ls i type make (passes a) (passes b) before between next now x y (So
 two_made fs ls i type make (passes a) (passes b) before between next now x y None ps (Some z) k np t v f p m h g = absurd (cc)
 two_made fs ls i type make (passes a) (passes b) before between next now x y (Some e) ps (Some z) k np t v f p m h g =
     let some : type a.gives b.gives ≡ Some (type_of e) = ap₂ type (sym h.1.gives) (sym g.1.gives) ∙ sym t in
-    let same : e ≡ z.expression = cc in
-    let means : Covers ls (a.paths ++ b.paths) → Means ls (record { expression = make a.expression b.expression; gives = type_of e; paths = a.paths ++ b.paths }) z.expression =
+    let same : e ≡ z.expression.value = cc in
+    let means : Covers ls (a.paths ++ b.paths) → Means ls (record { expression = make a.expression b.expression; gives = type_of e; paths = a.paths ++ b.paths }) z.expression.value =
     λ w. let u = covers_parts ls a.paths b.paths w in let n = h.1.means u.0 in let q = g.1.means u.1 in record {
       view = ap (expr_view ls) (sym same) ∙ v ls ∙ ap₂ make n.view q.view;
       fits = ap (expr_fits ls) (sym same) ∙ f ls ∙ ap₂ (λ r s. r && s) n.fits q.fits;
@@ -181,3 +181,14 @@ two_made fs ls i type make (passes a) (passes b) before between next now x y (So
         means = means;
       },
     )
+
+-- the same, where what was made is of the operands out of their boxes
+pub both_made : (fs : Fields) (ls : List Leaf) (i : ℕ) (type : ValueType → ValueType → Option ValueType) (make : Expression → Expression → Expression) (c d : Checked meant.BoundExpression)
+    (before between next now : Option BindFault) (x y : BoundExpression) (a b : Expr) (made : Option Expr) (ps : Vec BoundPath Global) (o : Option BoundExpression) → a ≡ x.expression.value → b ≡ y.expression.value
+    → JoinsPaths make → AreNoPath make → option_map type_of made ≡ type (type_of a) (type_of b) → ViewJoins make a b made → FitsBoth a b made
+    → ps.items ≡ x.paths.items ++ y.paths.items → MadeAt i made ps next now o
+    → BindsAs (IsExpression fs ls) before between c (Some x) → BindsAs (IsExpression fs ls) between next d (Some y) → BindsAs (IsExpression fs ls) before now (two_operands i type make c d) o
+both_made fs ls i type make c d before between next now x y a b made ps o e g k np t v f =
+    two_made fs ls i type make c d before between next now x y made ps o k np (t ∙ ap₂ (λ (p q : Expr). type (type_of p) (type_of q)) e g)
+    (subst (λ (p : Expr). ViewJoins make p y.expression.value made) e (subst (λ (q : Expr). ViewJoins make a q made) g v))
+    (subst (λ (p : Expr). FitsBoth p y.expression.value made) e (subst (λ (q : Expr). FitsBoth a q made) g f))

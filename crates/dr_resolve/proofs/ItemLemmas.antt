@@ -15,13 +15,13 @@ use Rattle.dr_sql.specs.declared.query.Item.{Item}
 use Rattle.dr_sql.specs.declared.expression.Path.{Path}
 use Rattle.dr_paths.specs.declared.bound.BoundPath.{BoundPath}
 use Rattle.dr_paths.specs.Views.{bound_path_view}
-use Rattle.dr_bound_parts.specs.Faults.{earlier}
+use Rattle.dr_resolve.specs.Faults.{earlier}
 use Rattle.dr_resolve.specs.Outcomes.{Appends, BindsAs, IsPath}
-use Rattle.dr_bound_parts.specs.Items.{AreExpressions, AreItems, IsItem}
+use Rattle.dr_resolve.specs.Items.{AreExpressions, AreItems, IsItem}
 use Rattle.dr_resolve.specs.Outcomes.{present}
-use Rattle.dr_bound_parts.specs.declared.parts.BoundExpression.{BoundExpression}
-use Rattle.dr_bound_parts.specs.declared.parts.BoundItem.{BoundItem}
-use Rattle.dr_bound_parts.proofs.FaultLemmas.{earlier_assoc, first_fault-append}
+use Rattle.dr_resolve.specs.declared.bound.BoundExpression.{BoundExpression}
+use Rattle.dr_resolve.specs.declared.bound.BoundItem.{BoundItem}
+use Rattle.dr_resolve.proofs.FaultLemmas.{earlier_assoc, first_fault-append}
 use Rattle.dr_sql.specs.Views.{lent}
 
 -- the faults of a part are noted before those of the parts behind it

@@ -1,3 +1,7 @@
+-- the first of several faults
+pub mod FaultLemmas
+-- lists of bound paths
+pub mod BoundLemmas
 -- lemmas of going along names
 pub mod ResolvingLemmas
 -- operators over bound operands

@@ -1,6 +1,6 @@
 -- The condition and what items give.
 use Rattle.std.proofs.Common.{◌≡◌, ℕ, List, [], ◌∷◌, ◌++◌, map, true, false, Option, Some, None, refl, sym, ap, ◌∙◌, subst, append-nil}
-use Rattle.std.specs.Prelude.{Vec, Result, Ok, Err, OnOk}
+use Rattle.std.specs.Prelude.{Vec, Result, Ok, Err, IfOk, OnOk}
 use Rattle.std.specs.declared.alloc.Global.{Global}
 use Rattle.dr_meaning.specs.Schema.{Fields}
 use Rattle.dr_meaning.specs.Path.{Leaf}
@@ -14,17 +14,17 @@ use Rattle.dr_plan.specs.declared.expression.Expr.{Expr}
 use Rattle.dr_plan.specs.declared.aggregate.Fold.{Fold}
 use Rattle.dr_plan.specs.Views.{fold_view, expr_view}
 use Rattle.dr_plan.specs.Fitting.{expr_fits}
-use Rattle.dr_bound_parts.specs.Faults.{earlier}
-use Rattle.dr_bound_parts.specs.Bound.{type_of, IsExpression}
+use Rattle.dr_resolve.specs.Faults.{earlier}
+use Rattle.dr_resolve.specs.Bound.{type_of, IsExpression}
 use Rattle.dr_resolve.specs.Outcomes.{Appends, BindsAs}
 use Rattle.dr_paths.specs.declared.bound.BoundPath.{BoundPath}
 use Rattle.dr_paths.specs.Views.{bound_path_view}
-use Rattle.dr_bound_parts.specs.Items.{AreExpressions, IsTruth, IsWithin, IsTerm}
-use Rattle.dr_bound_parts.specs.declared.parts.BoundExpression.{BoundExpression}
-use Rattle.dr_bound_parts.specs.declared.parts.BoundCondition.{BoundCondition}
-use Rattle.dr_bound_parts.specs.declared.parts.BoundWithin.{BoundWithin}
-use Rattle.dr_bound_parts.specs.declared.parts.BoundTerm.{BoundTerm}
-use Rattle.dr_bound_parts.proofs.FaultLemmas.{noted_behind}
+use Rattle.dr_resolve.specs.Items.{AreExpressions, IsTruth, IsWithin, IsTerm}
+use Rattle.dr_resolve.specs.declared.bound.BoundExpression.{BoundExpression}
+use Rattle.dr_resolve.specs.declared.bound.BoundCondition.{BoundCondition}
+use Rattle.dr_resolve.specs.declared.bound.BoundWithin.{BoundWithin}
+use Rattle.dr_resolve.specs.declared.bound.BoundTerm.{BoundTerm}
+use Rattle.dr_resolve.proofs.FaultLemmas.{noted_behind}
 
 -- ---- a wanted type
 
@@ -42,14 +42,14 @@ mapped Is Is' f y z (passes b) before now g h = (h.0, g b h.1)
 mapped Is Is' f y z (fails e es) before now g h = absurd h
 
 -- a value of the wanted type
-pub of_wanted : (fs : Fields) (ls : List Leaf) (wanted : ValueType) (i : ℕ) (c : Checked meant.BoundExpression) (before now : Option BindFault) (x : BoundExpression) → same_type (type_of x.expression) wanted ≡ true
+pub of_wanted : (fs : Fields) (ls : List Leaf) (wanted : ValueType) (i : ℕ) (c : Checked meant.BoundExpression) (before now : Option BindFault) (x : BoundExpression) → same_type (type_of x.expression.value) wanted ≡ true
     → BindsAs (IsExpression fs ls) before now c (Some x) → BindsAs (IsExpression fs ls) before now (then_check (of_type wanted i) c) (Some x)
 of_wanted fs ls wanted i (fails e es) before now x t h = absurd h
 of_wanted fs ls wanted i (passes b) before now x t h = let s : same_type b.gives wanted ≡ true = ap (λ y. same_type y wanted) (sym h.1.gives) ∙ t in rw s h
 
 -- a value of another type
 pub of_other : {D : Type 0} (Is : meant.BoundExpression → D → Type 0) (fs : Fields) (ls : List Leaf) (wanted : ValueType) (i : ℕ) (c : Checked meant.BoundExpression) (before between now : Option BindFault) (x : BoundExpression)
-    → same_type (type_of x.expression) wanted ≡ false → now ≡ earlier between (Some (record { place = i; problem = type_mismatch }))
+    → same_type (type_of x.expression.value) wanted ≡ false → now ≡ earlier between (Some (record { place = i; problem = type_mismatch }))
     → BindsAs (IsExpression fs ls) before between c (Some x) → BindsAs Is before now (then_check (of_type wanted i) c) None
 of_other Is fs ls wanted i (fails e es) before between now x t n h = absurd h
 of_other Is fs ls wanted i (passes b) before between now x t n h =
@@ -57,12 +57,12 @@ of_other Is fs ls wanted i (passes b) before between now x t n h =
     rw s (n ∙ ap (λ y. earlier y (Some (record { place = i; problem = type_mismatch }))) h.0)
 
 -- a truth value
-pub of_truth : (fs : Fields) (ls : List Leaf) (i : ℕ) (c : Checked meant.BoundExpression) (before now : Option BindFault) (x : BoundExpression) (t : Truth) (y : BoundCondition) → x.expression ≡ Expr.Truth t
-    → y.truth ≡ t → y.paths ≡ x.paths → BindsAs (IsExpression fs ls) before now c (Some x) → BindsAs (IsTruth fs ls) before now (then_check (of_type truth_type i) c) (Some y)
+pub of_truth : (fs : Fields) (ls : List Leaf) (i : ℕ) (c : Checked meant.BoundExpression) (before now : Option BindFault) (x : BoundExpression) (t : Truth) (y : BoundCondition) → x.expression.value ≡ Expr.Truth t
+    → y.truth.value ≡ t → y.paths ≡ x.paths → BindsAs (IsExpression fs ls) before now c (Some x) → BindsAs (IsTruth fs ls) before now (then_check (of_type truth_type i) c) (Some y)
 of_truth fs ls i (fails e es) before now x t y e' t' p h = absurd h
 of_truth fs ls i (passes b) before now x t y e' t' p h =
     let s : same_type b.gives truth_type ≡ true = ap (λ z. same_type z truth_type) (sym h.1.gives ∙ ap type_of e') in
-    let same : Expr.Truth y.truth ≡ x.expression = ap Expr.Truth t' ∙ sym e' in
+    let same : Expr.Truth y.truth.value ≡ x.expression.value = ap Expr.Truth t' ∙ sym e' in
     rw s (
       h.0,
       record {
@@ -133,3 +133,8 @@ alone_here fs ls (passes b) (fails g gs) before between now x xs ys p h k = λ b
 pub on_ok_weaker : {A E : Type 0} (r : Result A E) (P Q : Type 0) → (P → Q) → OnOk r P → OnOk r Q
 on_ok_weaker (Ok a) P Q f h = f h
 on_ok_weaker (Err e) P Q f h = tt
+
+-- of an answer with a value what follows from it
+pub on_ok_if : {A E : Type 0} (r : Result A E) (P : A → Type 0) (Q : Type 0) → ((a : A) → P a → Q) → IfOk r P → OnOk r Q
+on_ok_if (Ok a) P Q f h = f a h
+on_ok_if (Err e) P Q f h = tt

@@ -8,7 +8,7 @@ use Rattle.dr_plan.specs.declared.expression.Number.{Number}
 use Rattle.dr_plan.specs.declared.expression.TextOf.{TextOf}
 use Rattle.dr_plan.specs.declared.expression.Truth.{Truth}
 use Rattle.dr_sql.specs.Views.{arithmetic_view}
-use Rattle.dr_bound_parts.specs.Bound.{type_of}
+use Rattle.dr_resolve.specs.Bound.{type_of}
 use Rattle.dr_resolve.specs.Operators.{binary_type}
 use Rattle.dr_resolve.specs.declared.operators.Binary.{Binary}
 

@@ -1,8 +1,8 @@
 -- What operators of one and of two operands make, and of which type it is.
-use Rattle.std.specs.Prelude.{◌≡◌, List, Bool, Option, IfSome}
+use Rattle.std.specs.Prelude.{◌≡◌, ℕ, List, Bool, Option, IfSome}
 use Rattle.dr_meaning.specs.Path.{Leaf}
 use Rattle.dr_meaning.specs.Expression as meant
-use Rattle.dr_meaning.specs.BoundExpression.{ValueType, truth_type, number_type, text_type, type_from, null_test_type, logic_type, comparison_type, arithmetic_type}
+use Rattle.dr_meaning.specs.BoundExpression.{BoundExpression, Checked, one_operand, two_operands, ValueType, truth_type, number_type, text_type, type_from, null_test_type, logic_type, comparison_type, arithmetic_type}
 use Rattle.dr_plan.specs.Views.{expr_view}
 use Rattle.dr_plan.specs.Fitting.{expr_fits}
 use Rattle.dr_plan.specs.declared.expression.Expr.{Expr}
@@ -36,6 +36,13 @@ binary_of (Binary.Arithmetic o) = meant.arithmetic (arithmetic_view o)
 binary_of (Binary.Comparison c) = meant.comparison (comparison_view c)
 binary_of Binary.And = meant.conjunction
 binary_of Binary.Or = meant.disjunction
+
+-- what an operator at a place makes of what its operands were bound as
+abbrev pub unary_rule : ℕ → Unary → Checked BoundExpression → Checked BoundExpression
+unary_rule i o = one_operand i (unary_type o) (unary_of o)
+
+abbrev pub binary_rule : ℕ → Binary → Checked BoundExpression → Checked BoundExpression → Checked BoundExpression
+binary_rule i o = two_operands i (binary_type o) (binary_of o)
 
 -- ---- what was made, over the leaves of a plan
 

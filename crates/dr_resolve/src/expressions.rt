@@ -1,19 +1,17 @@
 //! Binding expressions: each part has a type, and its paths become leaves of the schema.
 
-ghost use Rattle.std.specs.Prelude.{◌≡◌, ◌++◌, [], true, false, List, IfOk, Option};
-ghost use Rattle.dr_meaning.specs.Schema.{Fields};
+ghost use Rattle.std.specs.Prelude.{◌≡◌, ◌++◌, [], true, false, List, IfOk};
 ghost use Rattle.dr_meaning.specs.Path.{Leaf};
-ghost use Rattle.dr_meaning.specs.BoundExpression as meant;
 ghost use Rattle.dr_plan.specs.Fitting.{expr_fits};
-ghost use Rattle.dr_sql.specs.Views as syntax;
-ghost use Rattle.dr_bound_parts.specs.Faults.{first_view};
-ghost use Rattle.dr_bound_parts.specs.Bound.{IsExpression};
-ghost use Rattle.dr_resolve.specs.Outcomes.{BindsAs, BindsExpression, MadeAt, bound_in, fields_in, leaves_in};
-ghost use Rattle.dr_resolve.specs.Operators.{unary_type, unary_of, binary_type, binary_of};
+ghost use Rattle.dr_resolve.specs.Faults.{first_view};
+ghost use Rattle.dr_resolve.specs.Bound.{IsExpression};
+ghost use Rattle.dr_resolve.specs.Outcomes.{Binds, BindsBy, BindsByBoth, MadeAt, bound_in};
+ghost use Rattle.dr_resolve.specs.Operators.{unary_rule, binary_rule};
 
+use crate::bound::BoundExpression;
+use crate::fault::{BindProblem, FirstFault};
 use crate::names::Binder;
 use crate::operators::{Binary, Unary};
-use dr_bound_parts::{BindProblem, BoundExpression, FirstFault};
 use dr_memory::NoMemory;
 use dr_paths::BoundPath;
 use dr_plan::{Expr, Number, TextOf, Truth};
@@ -21,47 +19,57 @@ use dr_sql::{Expression, unquoted};
 use std::alloc::Global;
 
 /// A literal, which has no paths.
-fn literal(alloc: Global, expression: Expr) -> BoundExpression
-    ensures expression { result.expression ≡ expression }
-    ensures paths { result.paths.items ≡ [] }
-    ensures alone { result.is_path ≡ false }
+///
+/// Errors: want of memory alone.
+fn literal(alloc: Global, expression: Expr) -> Result<BoundExpression, NoMemory>
+    ensures expression { IfOk result (λ x. x.expression.value ≡ expression) }
+    ensures paths { IfOk result (λ x. x.paths.items ≡ []) }
+    ensures alone { IfOk result (λ x. x.is_path ≡ false) }
 {
-    BoundExpression {
-        expression,
+    Ok(BoundExpression {
+        expression: Box::new(alloc, expression)?,
         paths: Vec::new(alloc),
         is_path: false,
-    }
+    })
 }
 
 /// A number that was written, which is of 64 bits.
-fn number_literal(alloc: Global, value: i64) -> BoundExpression
-    ensures expression { result.expression ≡ Expr.Number (Number.Literal value) }
-    ensures fits { (ls : List Leaf) → expr_fits ls result.expression ≡ true }
-    ensures paths { result.paths.items ≡ [] }
-    ensures alone { result.is_path ≡ false }
+///
+/// Errors: want of memory alone.
+fn number_literal(alloc: Global, value: i64) -> Result<BoundExpression, NoMemory>
+    ensures expression { IfOk result (λ x. x.expression.value ≡ Expr.Number (Number.Literal value)) }
+    ensures fits { IfOk result (λ x. (ls : List Leaf) → expr_fits ls x.expression.value ≡ true) }
+    ensures paths { IfOk result (λ x. x.paths.items ≡ []) }
+    ensures alone { IfOk result (λ x. x.is_path ≡ false) }
 {
     literal(alloc, Expr::Number(Number::Literal(value)))
 }
 
 /// What an operator at a place has made of its operands, whose paths these are. Where they are of wrong types, that is
 /// noted.
+///
+/// Errors: want of memory alone.
 fn made_at(
+    alloc: Global,
     place: usize,
     made: Option<Expr>,
     paths: Vec<BoundPath>,
     first: &mut FirstFault,
-) -> Option<BoundExpression>
-    ensures { MadeAt place made paths (first_view first.old) (first_view first.new) result }
+) -> Result<Option<BoundExpression>, NoMemory>
+    ensures { IfOk result (MadeAt place made paths (first_view first.old) (first_view first.new)) }
 {
     match made {
-        Some(expression) => Some(BoundExpression {
-            expression,
-            paths,
-            is_path: false,
-        }),
+        Some(expression) => {
+            let expression = Box::new(alloc, expression)?;
+            Ok(Some(BoundExpression {
+                expression,
+                paths,
+                is_path: false,
+            }))
+        }
         None => {
             first.note(place, BindProblem::TypeMismatch);
-            None
+            Ok(None)
         }
     }
 }
@@ -86,18 +94,13 @@ fn unary(
     operand: Option<BoundExpression>,
     first: &mut FirstFault,
 ) -> Result<Option<BoundExpression>, NoMemory>
-    ensures { IfOk result (λ o. (fs : Fields) (ls : List Leaf) (c : meant.Checked meant.BoundExpression)
-        (before : Option meant.BindFault)
-        → BindsAs (IsExpression fs ls) before (first_view first.old) c operand
-        → BindsAs (IsExpression fs ls) before (first_view first.new) (meant.one_operand place (unary_type
-        operator.entry)
-        (unary_of operator.entry) c) o) }
+    ensures { IfOk result (BindsBy (unary_rule place operator.entry) IsExpression first.old first.new operand) }
 {
     match operand {
         None => Ok(None),
         Some(operand) => {
-            let made = operator.apply(alloc, operand.expression)?;
-            Ok(made_at(place, made, operand.paths, first))
+            let made = operator.apply(alloc, Box::into_inner(operand.expression))?;
+            made_at(alloc, place, made, operand.paths, first)
         }
     }
 }
@@ -113,19 +116,15 @@ fn binary(
     right: Option<BoundExpression>,
     first: &mut FirstFault,
 ) -> Result<Option<BoundExpression>, NoMemory>
-    ensures { IfOk result (λ o. (fs : Fields) (ls : List Leaf) (c d : meant.Checked meant.BoundExpression)
-        (before between : Option meant.BindFault)
-        → BindsAs (IsExpression fs ls) before between c left → BindsAs (IsExpression fs
-        ls) between (first_view first.old) d right
-        → BindsAs (IsExpression fs ls) before (first_view first.new) (meant.two_operands place (binary_type operator)
-        (binary_of operator) c d) o) }
+    ensures { IfOk result (BindsByBoth (binary_rule place operator) first.old first.new left right) }
 {
     let Some((left, right)) = left.zip(right) else {
         return Ok(None);
     };
-    let made = operator.apply(alloc, left.expression, right.expression)?;
     let paths = joined_paths(left.paths, right.paths)?;
-    Ok(made_at(place, made, paths, first))
+    let left = Box::into_inner(left.expression);
+    let made = operator.apply(alloc, left, Box::into_inner(right.expression))?;
+    made_at(alloc, place, made, paths, first)
 }
 
 impl Binder<'_> {
@@ -138,20 +137,20 @@ impl Binder<'_> {
         expression: &Expression<'_>,
         first: &mut FirstFault,
     ) -> Result<Option<BoundExpression>, NoMemory>
-        ensures { IfOk result (λ o. BindsAs (IsExpression (fields_in self.entry) (leaves_in self.entry))
-            (first_view first.old) (first_view first.new)
-            (meant.bind_expression (fields_in self.entry) (syntax.expression_view expression.now)) o) }
+        ensures { IfOk result (Binds self.entry IsExpression first.old first.new
+            (bound_in self.entry expression.now)) }
     {
         match expression {
             Expression::Number(number) => {
-                Ok(Some(number_literal(self.alloc, number.value as i64)))
+                Ok(Some(number_literal(self.alloc, number.value as i64)?))
             }
             Expression::Text(text) => {
                 let text = TextOf::Literal(unquoted(self.alloc, text)?);
-                Ok(Some(literal(self.alloc, Expr::Text(text))))
+                Ok(Some(literal(self.alloc, Expr::Text(text))?))
             }
             Expression::Truth(truth) => {
-                Ok(Some(literal(self.alloc, Expr::Truth(Truth::Literal(*truth)))))
+                let truth = Expr::Truth(Truth::Literal(*truth));
+                Ok(Some(literal(self.alloc, truth)?))
             }
             Expression::Path(path) => match self.path(path, first)? {
                 None => Ok(None),
@@ -193,10 +192,8 @@ impl Binder<'_> {
         operand: &Expression<'_>,
         first: &mut FirstFault,
     ) -> Result<Option<BoundExpression>, NoMemory>
-        ensures { IfOk result (λ o. BindsAs (IsExpression (fields_in self.entry) (leaves_in self.entry))
-            (first_view first.old) (first_view first.new)
-            (meant.one_operand place (unary_type operator.entry) (unary_of operator.entry)
-            (meant.bind_expression (fields_in self.entry) (syntax.expression_view operand.now))) o) }
+        ensures { IfOk result (Binds self.entry IsExpression first.old first.new
+            (unary_rule place operator.entry (bound_in self.entry operand.now))) }
     {
         let operand = self.expression(operand, first)?;
         unary(self.alloc, place, operator, operand, first)
@@ -211,9 +208,8 @@ impl Binder<'_> {
         right: &Expression<'_>,
         first: &mut FirstFault,
     ) -> Result<Option<BoundExpression>, NoMemory>
-        ensures { IfOk result (BindsExpression self.entry (first_view first.old) (first_view first.new)
-            (meant.two_operands place (binary_type operator) (binary_of operator) (bound_in self.entry left.now)
-            (bound_in self.entry right.now))) }
+        ensures { IfOk result (Binds self.entry IsExpression first.old first.new
+            (binary_rule place operator (bound_in self.entry left.now) (bound_in self.entry right.now))) }
     {
         let left = self.expression(left, first)?;
         let right = self.expression(right, first)?;

@@ -4,16 +4,18 @@ ghost use Rattle.std.specs.Prelude.{◌≡◌, ◌++◌, map, codes, decimal, st
 ghost use Rattle.std.specs.List.{flat_map, join_with_byte};
 ghost use Rattle.dr_meaning.specs.BoundExpression as meant;
 ghost use Rattle.dr_meaning.specs.Binding as binding;
+ghost use Rattle.dr_meaning.specs.Syntax.{expression as plain_term};
 ghost use Rattle.dr_sql.specs.Views as syntax;
-ghost use Rattle.dr_bound_parts.specs.Faults.{earlier, first_view};
-ghost use Rattle.dr_resolve.specs.Outcomes.{Appends, BindsAs, fields_in, leaves_in};
+ghost use Rattle.dr_resolve.specs.Faults.{Notes};
+ghost use Rattle.dr_resolve.specs.Outcomes.{AppendsIn, Binds, fields_in, leaves_in};
 ghost use Rattle.dr_paths.specs.Views.{bound_path_view};
-ghost use Rattle.dr_bound_parts.specs.Items.{AreItems, IsItem};
+ghost use Rattle.dr_resolve.specs.Items.{AreItems, IsItem};
 ghost use Rattle.dr_resolve.specs.Outcomes.{present};
 ghost use Rattle.dr_sql.specs.Views.{lent};
 
+use crate::bound::{BoundExpression, BoundItem};
+use crate::fault::FirstFault;
 use crate::names::Binder;
-use dr_bound_parts::{BoundExpression, BoundItem, FirstFault};
 use dr_memory::NoMemory;
 use dr_paths::BoundPath;
 use dr_sql::{Expression, Item, Path, Term};
@@ -36,25 +38,37 @@ fn numbered(alloc: Global, number: usize) -> Result<String, NoMemory>
     }
 }
 
+/// The name of an item that is an expression without AS: that of its path, or one by its number.
+fn expression_name(
+    alloc: Global,
+    number: usize,
+    expression: &Expression<'_>,
+) -> Result<String, NoMemory>
+    ensures { IfOk result (λ s. string_bytes s
+        ≡ binding.own_name number (plain_term (syntax.expression_view expression.now))) }
+{
+    match expression {
+        Expression::Path(path) => dotted(alloc, &path.names),
+        Expression::Number(_) | Expression::Text(_) | Expression::Truth(_) => {
+            numbered(alloc, number)
+        }
+        Expression::Negative(_, _) | Expression::IsNull(_, _) | Expression::Not(_, _) => {
+            numbered(alloc, number)
+        }
+        Expression::Like(_, _, _) | Expression::Contains(_, _, _) => numbered(alloc, number),
+        Expression::Arithmetic(_, _, _, _) | Expression::Comparison(_, _, _, _) => {
+            numbered(alloc, number)
+        }
+        Expression::And(_, _, _) | Expression::Or(_, _, _) => numbered(alloc, number),
+    }
+}
+
 /// The name of an item to which AS gives none: that of its path, or one by its number.
 fn own_name(alloc: Global, number: usize, term: &Term<'_>) -> Result<String, NoMemory>
     ensures { IfOk result (λ s. string_bytes s ≡ binding.own_name number (syntax.term_view term.now)) }
 {
     match term {
-        Term::Expression(expression) => match expression {
-            Expression::Path(path) => dotted(alloc, &path.names),
-            Expression::Number(_) | Expression::Text(_) | Expression::Truth(_) => {
-                numbered(alloc, number)
-            }
-            Expression::Negative(_, _) | Expression::IsNull(_, _) | Expression::Not(_, _) => {
-                numbered(alloc, number)
-            }
-            Expression::Like(_, _, _) | Expression::Contains(_, _, _) => numbered(alloc, number),
-            Expression::Arithmetic(_, _, _, _) | Expression::Comparison(_, _, _, _) => {
-                numbered(alloc, number)
-            }
-            Expression::And(_, _, _) | Expression::Or(_, _, _) => numbered(alloc, number),
-        },
+        Term::Expression(expression) => expression_name(alloc, number, expression),
         Term::CountRows(_) => numbered(alloc, number),
         Term::Aggregate(_, _, _) => numbered(alloc, number),
     }
@@ -96,12 +110,11 @@ impl Binder<'_> {
         alone: &mut Vec<BoundExpression>,
         first: &mut FirstFault,
     ) -> Result<Option<BoundItem>, NoMemory>
-        ensures alone { OnOk result (Appends (fields_in self.entry) (leaves_in self.entry)
+        ensures alone { OnOk result (AppendsIn self.entry
             (binding.argument_alone (fields_in self.entry) (item.now).place (syntax.term_view (item.now).term))
             (alone.old).items (alone.new).items) }
-        ensures item { IfOk result (λ o. BindsAs (IsItem (fields_in self.entry) (leaves_in self.entry))
-            (first_view first.old) (first_view first.new)
-            (binding.bind_item (fields_in self.entry) number (syntax.item_view item.now)) o) }
+        ensures item { IfOk result (Binds self.entry IsItem first.old first.new
+            (binding.bind_item (fields_in self.entry) number (syntax.item_view item.now))) }
     {
         let place = item.place;
         match self.term(place, &item.term, alone, first)? {
@@ -123,14 +136,13 @@ impl Binder<'_> {
         alone: &mut Vec<BoundExpression>,
         first: &mut FirstFault,
     ) -> Result<Vec<BoundItem>, NoMemory>
-        ensures alone { OnOk result (Appends (fields_in self.entry) (leaves_in self.entry)
+        ensures alone { OnOk result (AppendsIn self.entry
             (binding.arguments_alone (fields_in self.entry) (map syntax.item_view items.now)) (alone.old).items
             (alone.new).items) }
         ensures items { IfOk result (λ v. AreItems (fields_in self.entry) (leaves_in self.entry)
             (binding.passing (binding.bind_items (fields_in self.entry) 0 (map syntax.item_view items.now))) v.items) }
-        ensures first { IfOk result (λ v. first_view first.new
-            ≡ earlier (first_view first.old) (binding.first_fault (flat_map binding.faults_in
-            (binding.bind_items (fields_in self.entry) 0 (map syntax.item_view items.now))))) }
+        ensures first { OnOk result (Notes (flat_map binding.faults_in
+            (binding.bind_items (fields_in self.entry) 0 (map syntax.item_view items.now))) first.old first.new) }
     {
         let mut bound = Vec::new(self.alloc);
         'items: for (number, item) in items.iter().enumerate() {
@@ -150,9 +162,8 @@ impl Binder<'_> {
     ) -> Result<Vec<BoundPath>, NoMemory>
         ensures keys { IfOk result (λ v. map bound_path_view v.items
             ≡ binding.passing (map (meant.bind_path (fields_in self.entry)) (map syntax.path_view keys.now))) }
-        ensures first { IfOk result (λ v. first_view first.new
-            ≡ earlier (first_view first.old) (binding.first_fault (flat_map binding.faults_in
-            (map (meant.bind_path (fields_in self.entry)) (map syntax.path_view keys.now))))) }
+        ensures first { OnOk result (Notes (flat_map binding.faults_in
+            (map (meant.bind_path (fields_in self.entry)) (map syntax.path_view keys.now))) first.old first.new) }
     {
         let mut bound = Vec::new(self.alloc);
         'keys: for key in keys {

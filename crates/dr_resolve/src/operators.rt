@@ -6,7 +6,7 @@ ghost use Rattle.dr_meaning.specs.BoundExpression.{truth_type, number_type, text
 ghost use Rattle.dr_plan.specs.Views.{expr_view, truth_view, number_view, text_view, comparison_view as planned_comparison};
 ghost use Rattle.dr_plan.specs.Fitting.{expr_fits, truth_fits, number_fits, text_fits};
 ghost use Rattle.dr_sql.specs.Views.{comparison_view};
-ghost use Rattle.dr_bound_parts.specs.Bound.{type_of};
+ghost use Rattle.dr_resolve.specs.Bound.{type_of};
 ghost use Rattle.dr_resolve.specs.Operators.{unary_type, unary_of, binary_type, binary_of, IsOver, FitsWhere};
 
 use dr_memory::NoMemory;
@@ -34,7 +34,7 @@ pub enum Binary {
 }
 
 /// Lets go of a value: of any type, so that it is one call in place of an arm for each of its variants.
-fn let_go<T: Drop>(_value: T) {}
+pub(crate) fn let_go<T: Drop>(_value: T) {}
 
 impl Unary<'_> {
     /// What the operator makes of an operand, if that is of its type.

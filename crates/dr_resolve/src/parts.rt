@@ -1,16 +1,17 @@
 //! Binding the parts of a query, each by itself.
 
-ghost use Rattle.std.specs.Prelude.{◌≡◌, map, IfOk};
+ghost use Rattle.std.specs.Prelude.{◌≡◌, map, IfOk, OnOk};
 ghost use Rattle.dr_meaning.specs.Syntax.{ItemSyntax};
 ghost use Rattle.std.specs.List.{list_all};
 ghost use Rattle.dr_meaning.specs.Binding as binding;
 ghost use Rattle.dr_sql.specs.Views as syntax;
-ghost use Rattle.dr_bound_parts.specs.Faults.{earlier, first_view};
+ghost use Rattle.dr_resolve.specs.Faults.{Notes};
 ghost use Rattle.dr_resolve.specs.Outcomes.{fields_in, leaves_in};
-ghost use Rattle.dr_bound_parts.specs.Parts.{AreParts};
+ghost use Rattle.dr_resolve.specs.Parts.{AreParts};
 
+use crate::bound::BoundParts;
+use crate::fault::FirstFault;
 use crate::names::Binder;
-use dr_bound_parts::{BoundParts, FirstFault};
 use dr_memory::NoMemory;
 use dr_sql::{Item, Query, Term};
 
@@ -51,9 +52,9 @@ impl Binder<'_> {
     pub fn parts(self, query: &Query<'_>, first: &mut FirstFault) -> Result<BoundParts, NoMemory>
         ensures parts { IfOk result (λ p. AreParts (fields_in self.entry) (leaves_in self.entry)
             (binding.bind_parts (fields_in self.entry) (syntax.query_view query.now)) p) }
-        ensures first { IfOk result (λ p. first_view first.new
-            ≡ earlier (first_view first.old) (binding.first_fault
-            (binding.part_faults (binding.bind_parts (fields_in self.entry) (syntax.query_view query.now))))) }
+        ensures first { OnOk result (Notes
+            (binding.part_faults (binding.bind_parts (fields_in self.entry) (syntax.query_view query.now))) first.old
+            first.new) }
     {
         let condition = self.condition(&query.condition, first)?;
         let mut arguments = Vec::new(self.alloc);

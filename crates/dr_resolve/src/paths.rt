@@ -11,14 +11,16 @@ ghost use Rattle.dr_plan.specs.Views.{expr_view, leaf_value};
 ghost use Rattle.dr_plan.specs.Fitting.{expr_fits, leaf_has_type};
 ghost use Rattle.dr_sql.specs.Views as syntax;
 ghost use Rattle.dr_paths.specs.Views.{bound_path_view};
-ghost use Rattle.dr_bound_parts.specs.Faults.{first_view};
-ghost use Rattle.dr_bound_parts.specs.Bound.{IsAmong, type_of};
+ghost use Rattle.dr_resolve.specs.Faults.{first_view};
+ghost use Rattle.dr_resolve.specs.Bound.{IsAmong, type_of};
 ghost use Rattle.dr_resolve.specs.Outcomes.{BindsAs, IsPath, fields_in, leaves_in};
 ghost use Rattle.dr_sql.specs.Views.{lent};
 
+use crate::bound::BoundExpression;
+use crate::fault::{BindProblem, FirstFault};
 use crate::names::Binder;
+use crate::numbers::leaf_number;
 use crate::resolving::{End, resolve};
-use dr_bound_parts::{BindProblem, BoundExpression, FirstFault, leaf_number};
 use dr_memory::NoMemory;
 use dr_nested::{Kind, Path};
 use dr_paths::BoundPath;
@@ -59,8 +61,8 @@ impl Binder<'_> {
         path: &dr_sql::Path<'_>,
         first: &mut FirstFault,
     ) -> Result<Option<BoundPath>, NoMemory>
-        ensures { IfOk result (λ o. BindsAs IsPath (first_view first.old) (first_view first.new)
-            (meant.bind_path (fields_in self.entry) (syntax.path_view path.now)) o) }
+        ensures { IfOk result (BindsAs IsPath (first_view first.old) (first_view first.new)
+            (meant.bind_path (fields_in self.entry) (syntax.path_view path.now))) }
     {
         let place = path.place;
         let Some(found) = resolve(self.alloc, &self.schema.fields, &path.names)? else {
@@ -85,20 +87,20 @@ impl Binder<'_> {
     ///
     /// Errors: want of memory alone.
     pub(crate) fn value_at(self, path: BoundPath) -> Result<BoundExpression, NoMemory>
-        ensures gives { IfOk result (λ x. type_of x.expression ≡ meant.kind_type (path_view path.leaf).kind) }
+        ensures gives { IfOk result (λ x. type_of x.expression.value ≡ meant.kind_type (path_view path.leaf).kind) }
         ensures alone { IfOk result (λ x. x.is_path ≡ true) }
         ensures paths { IfOk result (λ x. map bound_path_view x.paths.items ≡ bound_path_view path ∷ []) }
         ensures view { IfOk result (λ x. IsAmong (leaves_in self.entry) (path_view path.leaf)
-            → expr_view (leaves_in self.entry) x.expression ≡ path_value (path_view path.leaf).path) }
+            → expr_view (leaves_in self.entry) x.expression.value ≡ path_value (path_view path.leaf).path) }
         ensures fits { IfOk result (λ x. IsAmong (leaves_in self.entry) (path_view path.leaf)
-            → expr_fits (leaves_in self.entry) x.expression ≡ true) }
+            → expr_fits (leaves_in self.entry) x.expression.value ≡ true) }
     {
         let number = leaf_number(self.leaves, &path.leaf.steps);
         let kind = path.leaf.kind;
         let mut paths = Vec::new(self.alloc);
         paths.push(path)?;
         Ok(BoundExpression {
-            expression: value_of_leaf(kind, number),
+            expression: Box::new(self.alloc, value_of_leaf(kind, number))?,
             paths,
             is_path: true,
         })

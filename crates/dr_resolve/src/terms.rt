@@ -1,27 +1,36 @@
 //! Binding the condition and what items give.
 
-ghost use Rattle.std.specs.Prelude.{◌≡◌, IfOk, OnOk, List, Option};
-ghost use Rattle.dr_meaning.specs.Schema.{Fields};
-ghost use Rattle.dr_meaning.specs.Path.{Leaf};
+ghost use Rattle.std.specs.Prelude.{◌≡◌, IfOk, OnOk};
 ghost use Rattle.dr_meaning.specs.BoundExpression as meant;
 ghost use Rattle.dr_meaning.specs.Binding as binding;
 ghost use Rattle.dr_plan.specs.Views.{fold_view};
 ghost use Rattle.dr_sql.specs.Views as syntax;
-ghost use Rattle.dr_bound_parts.specs.Faults.{first_view};
+ghost use Rattle.dr_resolve.specs.Faults.{Notes, first_view};
 ghost use Rattle.dr_resolve.specs.Resolved.{found_view};
-ghost use Rattle.dr_bound_parts.specs.Bound.{IsExpression, type_of};
-ghost use Rattle.dr_resolve.specs.Outcomes.{Appends, BindsAs, fields_in, leaves_in};
-ghost use Rattle.dr_bound_parts.specs.Items.{IsCondition, IsTerm, IsTruth, IsWithin};
+ghost use Rattle.dr_resolve.specs.Bound.{IsExpression, type_of};
+ghost use Rattle.dr_resolve.specs.Outcomes.{AppendsAlone, AppendsIn, Binds, BindsAggregate, BindsAs, BindsBy};
+ghost use Rattle.dr_resolve.specs.Outcomes.{fields_in, leaves_in, part_of};
+ghost use Rattle.dr_resolve.specs.Items.{IsTerm, IsTruth, IsWithin};
+ghost use Rattle.dr_resolve.specs.Parts.{IsCheckedCondition};
 
+use crate::bound::{BoundCondition, BoundExpression, BoundTerm, BoundWithin};
+use crate::fault::{BindProblem, FirstFault};
 use crate::names::Binder;
+use crate::operators::let_go;
 use crate::resolving::{End, Found, resolve};
-use dr_bound_parts::{
-    BindProblem, BoundCondition, BoundExpression, BoundTerm, BoundWithin, FirstFault,
-};
 use dr_memory::NoMemory;
 use dr_paths::{chain_end, same_path};
 use dr_plan::{Expr, Fold};
 use dr_sql::{Aggregate, Condition, Expression, Node, Term, Within};
+use std::alloc::Global;
+
+/// What came of binding a WITHIN: its path leads to no field, which is noted; it doesn't stand there; or its node.
+#[derive(Drop)]
+pub(crate) enum WithinPart {
+    Failed,
+    Absent,
+    Bound(BoundWithin),
+}
 
 /// Whether an expression gives numbers.
 fn is_number(expression: &Expr) -> bool
@@ -36,10 +45,8 @@ fn number_at(
     value: Option<BoundExpression>,
     first: &mut FirstFault,
 ) -> Option<BoundExpression>
-    ensures { (fs : Fields) (ls : List Leaf) (c : meant.Checked meant.BoundExpression) (before : Option meant.BindFault)
-        → BindsAs (IsExpression fs ls) before (first_view first.old) c value
-        → BindsAs (IsExpression fs ls) before (first_view first.new) (meant.then_check (meant.of_type meant.number_type
-        place) c) result }
+    ensures { BindsBy (meant.then_check (meant.of_type meant.number_type place)) IsExpression first.old first.new value
+        result }
 {
     match value {
         None => None,
@@ -55,33 +62,35 @@ fn number_at(
 }
 
 /// A value that is to be a truth value. Where it isn't, that is noted at a place.
+///
+/// Errors: want of memory alone.
 fn truth_at(
+    alloc: Global,
     place: usize,
     value: Option<BoundExpression>,
     first: &mut FirstFault,
-) -> Option<BoundCondition>
-    ensures { (fs : Fields) (ls : List Leaf) (c : meant.Checked meant.BoundExpression) (before : Option meant.BindFault)
-        → BindsAs (IsExpression fs ls) before (first_view first.old) c value
-        → BindsAs (IsTruth fs ls) before (first_view first.new) (meant.then_check (meant.of_type meant.truth_type place)
-        c) result }
+) -> Result<Option<BoundCondition>, NoMemory>
+    ensures { IfOk result (BindsBy (meant.then_check (meant.of_type meant.truth_type place)) IsTruth first.old
+        first.new value) }
 {
     match value {
-        None => None,
+        None => Ok(None),
         Some(value) => {
-            let BoundExpression {
-                expression,
-                paths,
-                is_path: _,
-            } = value;
-            match expression {
-                Expr::Truth(truth) => Some(BoundCondition { truth, paths }),
-                Expr::Number(_) => {
-                    first.note(place, BindProblem::TypeMismatch);
-                    None
+            let paths = value.paths;
+            match Box::into_inner(value.expression) {
+                Expr::Truth(truth) => {
+                    let truth = Box::new(alloc, truth)?;
+                    Ok(Some(BoundCondition { truth, paths }))
                 }
-                Expr::Text(_) => {
+                Expr::Number(number) => {
+                    let_go(number);
                     first.note(place, BindProblem::TypeMismatch);
-                    None
+                    Ok(None)
+                }
+                Expr::Text(text) => {
+                    let_go(text);
+                    first.note(place, BindProblem::TypeMismatch);
+                    Ok(None)
                 }
             }
         }
@@ -107,26 +116,23 @@ fn fold_of(aggregate: Aggregate) -> Fold
 fn aggregated(
     fold: Fold,
     argument: Option<BoundExpression>,
-    within: Option<Option<BoundWithin>>,
+    within: WithinPart,
     alone: &mut Vec<BoundExpression>,
 ) -> Result<Option<BoundTerm>, NoMemory>
-    ensures term { IfOk result (λ o. (fs : Fields) (ls : List Leaf) (c : meant.Checked meant.BoundExpression)
-        (d : meant.Checked (Option binding.BoundWithin)) (before between now : Option meant.BindFault)
-        → BindsAs (IsExpression fs ls) before between c argument → BindsAs IsWithin between now d within
-        → BindsAs (IsTerm fs ls) before now (meant.together (binding.aggregated (fold_view fold)) c d) o) }
-    ensures alone { OnOk result ((fs : Fields) (ls : List Leaf) (c : meant.Checked meant.BoundExpression)
-        (d : meant.Checked (Option binding.BoundWithin)) (before between now : Option meant.BindFault)
-        → BindsAs (IsExpression fs ls) before between c argument → BindsAs IsWithin between now d within
-        → Appends fs ls (binding.alone c d) (alone.old).items (alone.new).items) }
+    ensures term { IfOk result (BindsAggregate fold argument within) }
+    ensures alone { OnOk result (AppendsAlone argument within (alone.old).items (alone.new).items) }
 {
     match argument {
         None => Ok(None),
         Some(argument) => match within {
-            None => {
+            WithinPart::Failed => {
                 alone.push(argument)?;
                 Ok(None)
             }
-            Some(within) => Ok(Some(BoundTerm::Aggregated(fold, argument, within))),
+            WithinPart::Absent => Ok(Some(BoundTerm::Aggregated(fold, argument, None))),
+            WithinPart::Bound(node) => {
+                Ok(Some(BoundTerm::Aggregated(fold, argument, Some(node))))
+            }
         },
     }
 }
@@ -142,26 +148,24 @@ fn is_repeated_group(found: &Found<'_>) -> bool
 }
 
 impl Binder<'_> {
-    /// The condition, whose value is to be a truth value.
+    /// The condition, whose value is to be a truth value, if there is one and it could be bound.
     ///
     /// Errors: want of memory alone.
     pub(crate) fn condition(
         self,
         condition: &Option<Condition<'_>>,
         first: &mut FirstFault,
-    ) -> Result<Option<Option<BoundCondition>>, NoMemory>
-        ensures { IfOk result (λ o. BindsAs (IsCondition (fields_in self.entry) (leaves_in self.entry))
-            (first_view first.old) (first_view first.new)
-            (binding.bind_condition (fields_in self.entry) (syntax.maybe_condition condition.now)) o) }
+    ) -> Result<Option<BoundCondition>, NoMemory>
+        ensures bound { IfOk result (IsCheckedCondition (fields_in self.entry) (leaves_in self.entry)
+            (binding.bind_condition (fields_in self.entry) (syntax.maybe_condition condition.now))) }
+        ensures first { OnOk result (Notes (binding.faults_in (binding.bind_condition (fields_in self.entry)
+            (syntax.maybe_condition condition.now))) first.old first.new) }
     {
         match condition {
-            None => Ok(Some(None)),
+            None => Ok(None),
             Some(condition) => {
                 let value = self.expression(&condition.expression, first)?;
-                match truth_at(condition.place, value, first) {
-                    None => Ok(None),
-                    Some(truth) => Ok(Some(Some(truth))),
-                }
+                truth_at(self.alloc, condition.place, value, first)
             }
         }
     }
@@ -173,12 +177,12 @@ impl Binder<'_> {
         self,
         within: &Option<Within<'_>>,
         first: &mut FirstFault,
-    ) -> Result<Option<Option<BoundWithin>>, NoMemory>
-        ensures { IfOk result (λ o. BindsAs IsWithin (first_view first.old) (first_view first.new)
-            (binding.bind_within (fields_in self.entry) (syntax.maybe_within within.now)) o) }
+    ) -> Result<WithinPart, NoMemory>
+        ensures { IfOk result (λ w. BindsAs IsWithin (first_view first.old) (first_view first.new)
+            (binding.bind_within (fields_in self.entry) (syntax.maybe_within within.now)) (part_of w)) }
     {
         match within {
-            None => Ok(Some(None)),
+            None => Ok(WithinPart::Absent),
             Some(within) => self.node(within.place, &within.node, first),
         }
     }
@@ -191,29 +195,29 @@ impl Binder<'_> {
         place: usize,
         node: &Node<'_>,
         first: &mut FirstFault,
-    ) -> Result<Option<Option<BoundWithin>>, NoMemory>
-        ensures { IfOk result (λ o. BindsAs IsWithin (first_view first.old) (first_view first.new)
-            (binding.bind_node (fields_in self.entry) place (syntax.node_view node.now)) o) }
+    ) -> Result<WithinPart, NoMemory>
+        ensures { IfOk result (λ w. BindsAs IsWithin (first_view first.old) (first_view first.new)
+            (binding.bind_node (fields_in self.entry) place (syntax.node_view node.now)) (part_of w)) }
     {
         match node {
-            Node::Record => Ok(Some(Some(BoundWithin {
+            Node::Record => Ok(WithinPart::Bound(BoundWithin {
                 place,
                 node: Vec::new(self.alloc),
                 is_whole: true,
-            }))),
+            })),
             Node::Path(path) => match resolve(self.alloc, &self.schema.fields, &path.names)? {
                 None => {
                     first.note(path.place, BindProblem::UnknownField);
-                    Ok(None)
+                    Ok(WithinPart::Failed)
                 }
                 Some(found) => {
                     let is_whole = is_repeated_group(&found);
                     let node = found.steps;
-                    Ok(Some(Some(BoundWithin {
+                    Ok(WithinPart::Bound(BoundWithin {
                         place,
                         node,
                         is_whole,
-                    })))
+                    }))
                 }
             },
         }
@@ -229,10 +233,9 @@ impl Binder<'_> {
         argument: &Expression<'_>,
         first: &mut FirstFault,
     ) -> Result<Option<BoundExpression>, NoMemory>
-        ensures { IfOk result (λ o. BindsAs (IsExpression (fields_in self.entry) (leaves_in self.entry))
-            (first_view first.old) (first_view first.new)
+        ensures { IfOk result (Binds self.entry IsExpression first.old first.new
             (binding.bind_argument (fields_in self.entry) place (syntax.aggregate_view aggregate)
-            (syntax.expression_view argument.now)) o) }
+            (syntax.expression_view argument.now))) }
     {
         let argument = self.expression(argument, first)?;
         match aggregate {
@@ -252,10 +255,9 @@ impl Binder<'_> {
         alone: &mut Vec<BoundExpression>,
         first: &mut FirstFault,
     ) -> Result<Option<BoundTerm>, NoMemory>
-        ensures term { IfOk result (λ o. BindsAs (IsTerm (fields_in self.entry) (leaves_in self.entry))
-            (first_view first.old) (first_view first.new)
-            (binding.bind_term (fields_in self.entry) place (syntax.term_view term.now)) o) }
-        ensures alone { OnOk result (Appends (fields_in self.entry) (leaves_in self.entry)
+        ensures term { IfOk result (Binds self.entry IsTerm first.old first.new
+            (binding.bind_term (fields_in self.entry) place (syntax.term_view term.now))) }
+        ensures alone { OnOk result (AppendsIn self.entry
             (binding.argument_alone (fields_in self.entry) place (syntax.term_view term.now)) (alone.old).items
             (alone.new).items) }
     {
@@ -265,8 +267,9 @@ impl Binder<'_> {
                 Some(value) => Ok(Some(BoundTerm::Value(value))),
             },
             Term::CountRows(within) => match self.within(within, first)? {
-                None => Ok(None),
-                Some(within) => Ok(Some(BoundTerm::Rows(within))),
+                WithinPart::Failed => Ok(None),
+                WithinPart::Absent => Ok(Some(BoundTerm::Rows(None))),
+                WithinPart::Bound(node) => Ok(Some(BoundTerm::Rows(Some(node)))),
             },
             Term::Aggregate(aggregate, argument, within) => {
                 let argument = self.argument(*aggregate, place, argument, first)?;

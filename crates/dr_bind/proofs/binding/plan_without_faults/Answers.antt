@@ -16,7 +16,7 @@ use Rattle.dr_plan.specs.Planned.{plan_view, planned}
 use Rattle.dr_planning.specs.NamedLevels.{levels_view, joined}
 use Rattle.dr_meaning.specs.Query.{levels_of}
 use Rattle.dr_sql.specs.Views as syntax
-use Rattle.dr_bound_parts.specs.Parts.{AreParts}
+use Rattle.dr_resolve.specs.Parts.{AreParts}
 use Rattle.dr_bind.proofs.BindLemmas.{if_ok, leaves_are_used}
 use Rattle.dr_planning.proofs.PlanLemmas.{parts_can_be_planned}
 use Rattle.dr_bind.proofs.binding.plan_without_faults.Goals as goal

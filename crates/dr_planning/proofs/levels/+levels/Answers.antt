@@ -6,7 +6,7 @@ use Rattle.dr_meaning.specs.Schema.{Shape}
 use Rattle.dr_nested.specs.declared.shape.Field.{Field}
 use Rattle.dr_nested.specs.declared.path.Step.{Step}
 use Rattle.dr_planning.specs.NamedLevels.{append_named, levels_view, fields_named, shape_named}
-use Rattle.dr_planning.specs.declared.level.Level.{Level}
+use Rattle.dr_planning.specs.declared.listed.Listed.{Listed}
 use Rattle.dr_planning.proofs.LevelLemmas.{append_named-none, fields_more, level_more}
 use Rattle.dr_nested.proofs.ViewLemmas.{view-leaf}
 use Rattle.dr_planning.proofs.levels.+levels.Goals as goal
@@ -38,7 +38,7 @@ push_field-returns-in_ok-push-in-Repeated t c =
     let s = shape_view c.args.shape.now in
     level_more c.args.levels.now.items c.push.new.self.items c.args.name c.args.path c.push_shape-in-Repeated.new.levels c.args.rep s c.in-Repeated.is c.in_ok-push-in-Repeated.ensures.items
     (c.in_ok-push_shape-in-Repeated.ensures
-    ∙ ap (λ (ls : List Level). append_named (levels_view ls) (shape_named s [] (map step_view c.deref-in-Repeated.result.now))) c.new-below.ensures.items
+    ∙ ap (λ (ls : List Listed). append_named (levels_view ls) (shape_named s [] (map step_view c.deref-in-Repeated.result.now))) c.new-below.ensures.items
     ∙ ap (λ (p : List Step). shape_named s [] (map step_view p)) c.deref-in-Repeated.ensures.value)
 
 pub push_shape-returns-in-Leaf : goal.push_shape-returns-in-Leaf

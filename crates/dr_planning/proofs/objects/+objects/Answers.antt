@@ -5,7 +5,7 @@ use Rattle.dr_meaning.specs.Path.{Step as MeantStep}
 use Rattle.dr_planning.specs.NamedLevels.{NamedLevels, level_view, levels_view}
 use Rattle.dr_planning.specs.Trees.{leads_to, append_lists, lists_view, named_trees, numbers_at}
 use Rattle.dr_plan.specs.Objects.{object_tree, object_view, ListTrees}
-use Rattle.dr_planning.specs.declared.level.Level.{Level}
+use Rattle.dr_planning.specs.declared.listed.Listed.{Listed}
 use Rattle.dr_planning.proofs.LevelLemmas.{path-level, below-level}
 use Rattle.dr_planning.proofs.ObjectLemmas.{view-object, append_lists-none, leads_to-lent, no_list_more, list_more, trees_more}
 use Rattle.dr_planning.proofs.objects.+objects.Goals as goal
@@ -23,7 +23,7 @@ object_at-returns t c =
     let done : ListTrees = lists_view c.levels.lists.items in
     view-object c.in_ok-own.own c.levels.lists
     ∙ ap₂ object_tree c.in_ok-own.ensures (sym (append_lists-none done)
-    ∙ ap (λ (l : List Level). append_lists done (named_trees qs (levels_view l))) (sym (drop_all c.levels.next-index ls (omega arith)))
+    ∙ ap (λ (l : List Listed). append_lists done (named_trees qs (levels_view l))) (sym (drop_all c.levels.next-index ls (omega arith)))
     ∙ c.levels.invariant)
 
 pub push_list-returns-then-not-leads_to : goal.push_list-returns-then-not-leads_to

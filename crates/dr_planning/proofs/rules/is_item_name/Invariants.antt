@@ -3,7 +3,7 @@ use Rattle.std.specs.List.{list_any}
 use Rattle.dr_meaning.specs.Schema.{Fields}
 use Rattle.dr_meaning.specs.Path.{Leaf}
 use Rattle.dr_meaning.specs.Binding as binding
-use Rattle.dr_bound_parts.specs.Items.{AreItems, IsItem}
+use Rattle.dr_resolve.specs.Items.{AreItems, IsItem}
 use Rattle.dr_planning.proofs.rules.is_item_name.Given as goal
 
 -- none of the others so far has the name

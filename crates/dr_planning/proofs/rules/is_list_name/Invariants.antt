@@ -5,7 +5,7 @@ use Rattle.dr_meaning.specs.Path.{Leaf}
 use Rattle.dr_meaning.specs.Query.{Levels}
 use Rattle.dr_meaning.specs.Binding as binding
 use Rattle.dr_planning.specs.NamedLevels.{joined, levels_view}
-use Rattle.dr_bound_parts.specs.Items.{AreItems, IsItem}
+use Rattle.dr_resolve.specs.Items.{AreItems, IsItem}
 use Rattle.dr_planning.proofs.rules.is_list_name.Given as goal
 
 -- no list to one of the others so far has the name

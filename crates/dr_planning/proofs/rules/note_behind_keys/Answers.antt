@@ -1,5 +1,5 @@
 use Rattle.std.proofs.Common.{map}
-use Rattle.dr_bound_parts.specs.Faults.{first_view}
+use Rattle.dr_resolve.specs.Faults.{first_view}
 use Rattle.dr_paths.specs.Views.{bound_path_view}
 use Rattle.dr_planning.proofs.RuleLemmas.{behind_related, behind_unrelated}
 use Rattle.dr_planning.proofs.rules.note_behind_keys.Goals as goal

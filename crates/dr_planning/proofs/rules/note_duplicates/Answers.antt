@@ -1,6 +1,6 @@
 use Rattle.std.proofs.Common.{arith}
 use Rattle.dr_meaning.specs.Binding as binding
-use Rattle.dr_bound_parts.specs.Faults.{earlier, first_view}
+use Rattle.dr_resolve.specs.Faults.{earlier, first_view}
 use Rattle.dr_planning.proofs.RuleLemmas.{noted_name, noted_names}
 use Rattle.dr_planning.proofs.rules.note_duplicates.Goals as goal
 

@@ -4,8 +4,8 @@ use Rattle.dr_meaning.specs.Path.{Leaf}
 use Rattle.dr_meaning.specs.Query.{Levels}
 use Rattle.dr_meaning.specs.Binding as binding
 use Rattle.dr_planning.specs.NamedLevels.{joined, levels_view}
-use Rattle.dr_bound_parts.specs.Faults.{earlier, first_view}
-use Rattle.dr_bound_parts.specs.Items.{AreItems}
+use Rattle.dr_resolve.specs.Faults.{earlier, first_view}
+use Rattle.dr_resolve.specs.Items.{AreItems}
 use Rattle.dr_planning.proofs.RuleLemmas.{items_before}
 use Rattle.dr_planning.proofs.rules.note_duplicates.Given as goal
 

@@ -5,8 +5,8 @@ use Rattle.dr_meaning.specs.Path.{Leaf}
 use Rattle.dr_meaning.specs.BoundExpression as meant
 use Rattle.dr_meaning.specs.Binding as binding
 use Rattle.dr_paths.specs.Views.{bound_path_view}
-use Rattle.dr_bound_parts.specs.Faults.{earlier, first_view}
-use Rattle.dr_bound_parts.specs.Items.{AreItems}
+use Rattle.dr_resolve.specs.Faults.{earlier, first_view}
+use Rattle.dr_resolve.specs.Items.{AreItems}
 use Rattle.dr_planning.proofs.rules.note_grouping.Given as goal
 
 -- the first fault so far, with those of the items from here on, is that of all

@@ -4,9 +4,9 @@ use Rattle.std.specs.List.{flat_map}
 use Rattle.dr_meaning.specs.BoundExpression.{BindFault}
 use Rattle.dr_meaning.specs.Binding as binding
 use Rattle.dr_paths.specs.Views.{bound_path_view}
-use Rattle.dr_bound_parts.specs.Faults.{first_view}
-use Rattle.dr_bound_parts.specs.Items.{AreItems}
-use Rattle.dr_bound_parts.proofs.FaultLemmas.{noted_behind}
+use Rattle.dr_resolve.specs.Faults.{first_view}
+use Rattle.dr_resolve.specs.Items.{AreItems}
+use Rattle.dr_resolve.proofs.FaultLemmas.{noted_behind}
 use Rattle.dr_planning.proofs.RuleLemmas.{unless_told}
 use Rattle.dr_planning.proofs.rules.note_item_rules.Goals as goal
 

@@ -2,9 +2,9 @@ use Rattle.std.proofs.Common.{◌∙◌, ◌++◌, Bool, List, ap, sym, subst}
 use Rattle.dr_meaning.specs.BoundExpression.{BindFault}
 use Rattle.dr_meaning.specs.Query as query
 use Rattle.dr_meaning.specs.Binding as binding
-use Rattle.dr_bound_parts.specs.Faults.{earlier, first_view}
-use Rattle.dr_bound_parts.specs.Items.{AreItems}
-use Rattle.dr_bound_parts.proofs.FaultLemmas.{noted_behind}
+use Rattle.dr_resolve.specs.Faults.{earlier, first_view}
+use Rattle.dr_resolve.specs.Items.{AreItems}
+use Rattle.dr_resolve.proofs.FaultLemmas.{noted_behind}
 use Rattle.dr_planning.proofs.rules.note_rules.Goals as goal
 
 pub returns : goal.returns

@@ -3,9 +3,9 @@ use Rattle.std.specs.List.{flat_map}
 use Rattle.dr_meaning.specs.BoundExpression as meant
 use Rattle.dr_meaning.specs.BoundExpression.{BindFault}
 use Rattle.dr_meaning.specs.Binding as binding
-use Rattle.dr_bound_parts.specs.Faults.{first_view}
-use Rattle.dr_bound_parts.specs.Items.{AreExpressions, AreItems}
-use Rattle.dr_bound_parts.proofs.FaultLemmas.{noted_behind}
+use Rattle.dr_resolve.specs.Faults.{first_view}
+use Rattle.dr_resolve.specs.Items.{AreExpressions, AreItems}
+use Rattle.dr_resolve.proofs.FaultLemmas.{noted_behind}
 use Rattle.dr_planning.proofs.rules.note_unrelated.Goals as goal
 
 pub returns : goal.returns

@@ -5,7 +5,7 @@ use Rattle.dr_meaning.specs.BoundExpression.{BindFault, Checked}
 use Rattle.dr_meaning.specs.Binding as binding
 use Rattle.dr_paths.specs.Views.{bound_path_view}
 use Rattle.dr_paths.specs.declared.bound.BoundPath.{BoundPath}
-use Rattle.dr_bound_parts.specs.Faults.{earlier, first_view}
+use Rattle.dr_resolve.specs.Faults.{earlier, first_view}
 use Rattle.dr_planning.proofs.RuleLemmas.{noted_argument, noted_arguments}
 use Rattle.dr_planning.proofs.rules.note_unrelated_arguments.Goals as goal
 

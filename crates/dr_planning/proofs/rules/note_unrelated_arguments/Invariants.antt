@@ -4,8 +4,8 @@ use Rattle.dr_meaning.specs.Schema.{Fields}
 use Rattle.dr_meaning.specs.Path.{Leaf}
 use Rattle.dr_meaning.specs.BoundExpression as meant
 use Rattle.dr_meaning.specs.Binding as binding
-use Rattle.dr_bound_parts.specs.Faults.{earlier, first_view}
-use Rattle.dr_bound_parts.specs.Items.{AreExpressions}
+use Rattle.dr_resolve.specs.Faults.{earlier, first_view}
+use Rattle.dr_resolve.specs.Items.{AreExpressions}
 use Rattle.dr_planning.specs.Rules.{IsChain}
 use Rattle.dr_planning.proofs.rules.note_unrelated_arguments.Given as goal
 

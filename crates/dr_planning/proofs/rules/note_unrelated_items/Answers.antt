@@ -1,7 +1,7 @@
 use Rattle.std.proofs.Common.{arith}
 use Rattle.std.specs.List.{flat_map}
 use Rattle.dr_meaning.specs.Binding as binding
-use Rattle.dr_bound_parts.specs.Faults.{earlier, first_view}
+use Rattle.dr_resolve.specs.Faults.{earlier, first_view}
 use Rattle.dr_planning.proofs.RuleLemmas.{noted_item, noted_items}
 use Rattle.dr_planning.proofs.rules.note_unrelated_items.Goals as goal
 

@@ -3,8 +3,8 @@ use Rattle.std.specs.List.{flat_map}
 use Rattle.dr_meaning.specs.Schema.{Fields}
 use Rattle.dr_meaning.specs.Path.{Leaf}
 use Rattle.dr_meaning.specs.Binding as binding
-use Rattle.dr_bound_parts.specs.Faults.{earlier, first_view}
-use Rattle.dr_bound_parts.specs.Items.{AreItems}
+use Rattle.dr_resolve.specs.Faults.{earlier, first_view}
+use Rattle.dr_resolve.specs.Items.{AreItems}
 use Rattle.dr_planning.proofs.rules.note_within.Given as goal
 
 -- the first fault so far, with those of the items from here on, is that of all

@@ -1,7 +1,7 @@
 use Rattle.std.proofs.Common.{◌≡◌, List}
 use Rattle.dr_meaning.specs.BoundExpression.{BindFault, bad_within, fault_at}
 use Rattle.dr_meaning.specs.Binding.{first_fault}
-use Rattle.dr_bound_parts.specs.Faults.{earlier, first_view}
+use Rattle.dr_resolve.specs.Faults.{earlier, first_view}
 use Rattle.dr_planning.proofs.RuleLemmas.{within_aggregate, unless_told, unless_untold}
 use Rattle.dr_planning.proofs.rules.note_within_term.Goals as goal
 

@@ -1,9 +1,9 @@
 use Rattle.std.proofs.Common.{subst, Option}
-use Rattle.dr_bound_parts.specs.Faults.{first_view}
-use Rattle.dr_bound_parts.specs.Bound.{IsExpression}
+use Rattle.dr_resolve.specs.Faults.{first_view}
+use Rattle.dr_resolve.specs.Bound.{IsExpression}
 use Rattle.dr_resolve.specs.Outcomes.{BindsAs}
 use Rattle.dr_resolve.specs.Operators.{unary_type, unary_of}
-use Rattle.dr_bound_parts.specs.declared.parts.BoundExpression.{BoundExpression}
+use Rattle.dr_resolve.specs.declared.bound.BoundExpression.{BoundExpression}
 use Rattle.dr_resolve.proofs.ExpressionLemmas.{no_operand}
 use Rattle.dr_resolve.proofs.expressions.unary.Goals as goal
 

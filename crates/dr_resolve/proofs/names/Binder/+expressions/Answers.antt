@@ -2,7 +2,7 @@ use Rattle.std.proofs.Common.{subst, Option}
 use Rattle.dr_meaning.specs.BoundExpression.{bind_path}
 use Rattle.dr_sql.specs.Views as syntax
 use Rattle.dr_paths.specs.declared.bound.BoundPath.{BoundPath}
-use Rattle.dr_bound_parts.specs.Faults.{first_view}
+use Rattle.dr_resolve.specs.Faults.{first_view}
 use Rattle.dr_resolve.specs.Outcomes.{BindsAs, IsPath, fields_in, leaves_in}
 use Rattle.dr_resolve.proofs.SyntaxLemmas.{view-path, view-arithmetic, view-comparison}
 use Rattle.dr_resolve.proofs.PathLemmas.{value_bound}

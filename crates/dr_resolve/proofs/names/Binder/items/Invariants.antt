@@ -2,7 +2,7 @@ use Rattle.std.proofs.Common.{◌≡◌, map}
 use Rattle.std.specs.List.{flat_map}
 use Rattle.dr_meaning.specs.Binding.{first_fault, faults_in, bind_items, arguments_alone}
 use Rattle.dr_sql.specs.Views as syntax
-use Rattle.dr_bound_parts.specs.Faults.{earlier, first_view}
+use Rattle.dr_resolve.specs.Faults.{earlier, first_view}
 use Rattle.dr_resolve.specs.Outcomes.{fields_in, leaves_in}
 use Rattle.dr_resolve.proofs.ItemLemmas.{AloneSoFar, GoesOn, alone_from, items_from}
 use Rattle.dr_resolve.proofs.names.Binder.items.Given as goal

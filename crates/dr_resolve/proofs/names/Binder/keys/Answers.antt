@@ -3,7 +3,7 @@ use Rattle.std.specs.List.{flat_map}
 use Rattle.dr_meaning.specs.BoundExpression.{bind_path}
 use Rattle.dr_meaning.specs.Binding.{first_fault, faults_in, passing}
 use Rattle.dr_sql.specs.Views as syntax
-use Rattle.dr_bound_parts.specs.Faults.{earlier, first_view}
+use Rattle.dr_resolve.specs.Faults.{earlier, first_view}
 use Rattle.dr_resolve.specs.Outcomes.{fields_in}
 use Rattle.dr_resolve.proofs.ItemLemmas.{key_more, key_faults_more}
 use Rattle.dr_resolve.proofs.names.Binder.keys.Goals as goal

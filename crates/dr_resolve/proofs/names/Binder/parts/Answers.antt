@@ -6,12 +6,12 @@ use Rattle.dr_meaning.specs.Binding.{first_fault, faults_in, bind_items, bind_pa
 use Rattle.dr_sql.specs.Views as syntax
 use Rattle.dr_sql.specs.declared.query.Item.{Item}
 use Rattle.dr_sql.specs.declared.expression.Path.{Path}
-use Rattle.dr_bound_parts.specs.Faults.{earlier, first_view}
+use Rattle.dr_resolve.specs.Faults.{earlier, first_view}
 use Rattle.dr_paths.specs.Views.{bound_path_view}
 use Rattle.dr_resolve.specs.Outcomes.{Appends, fields_in, leaves_in}
-use Rattle.dr_bound_parts.specs.Items.{IsCondition, AreExpressions}
-use Rattle.dr_bound_parts.specs.declared.parts.BoundExpression.{BoundExpression}
-use Rattle.dr_resolve.proofs.PartLemmas.{came_noted, parts_noted}
+use Rattle.dr_resolve.specs.Items.{AreExpressions}
+use Rattle.dr_resolve.specs.declared.bound.BoundExpression.{BoundExpression}
+use Rattle.dr_resolve.proofs.PartLemmas.{parts_noted}
 use Rattle.dr_resolve.proofs.names.Binder.parts.Goals as goal
 
 pub returns-clause-parts : goal.returns-clause-parts
@@ -33,7 +33,7 @@ returns-clause-parts c =
     omega (arith, c.len-2.ensures, c.args.query.now.keys.ok, each) in
     record {
       record_query = search rules;
-      condition = search rules;
+      condition = c.in_ok-condition.ensures.bound;
       items = search rules;
       arguments = appends [] none;
       keys = kept;
@@ -49,6 +49,6 @@ returns-clause-first c =
     let two = first_view c.items.new.first in
     let three = first_view c.keys.new.first in
     parts_noted b zero one two three
-    (came_noted (IsCondition fs (leaves_in c.args.self)) b.condition zero one c.in_ok-condition.condition c.in_ok-condition.ensures)
+    c.in_ok-condition.ensures.first
     (subst (λ (xs : List Item). two ≡ earlier one (first_fault (flat_map faults_in (bind_items fs 0 (map syntax.item_view xs))))) c.deref.ensures.value c.in_ok-items.ensures.first)
     (subst (λ (xs : List Path). three ≡ earlier two (first_fault (flat_map faults_in (map (bind_path fs) (map syntax.path_view xs))))) c.deref-2.ensures.value c.in_ok-keys.ensures.first)

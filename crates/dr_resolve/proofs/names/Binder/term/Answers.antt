@@ -4,8 +4,8 @@ use Rattle.dr_meaning.specs.Query.{Aggregate}
 use Rattle.dr_meaning.specs.BoundExpression.{together}
 use Rattle.dr_meaning.specs.Binding as binding
 use Rattle.dr_sql.specs.Views as syntax
-use Rattle.dr_bound_parts.specs.Faults.{first_view}
-use Rattle.dr_bound_parts.specs.Items.{IsTerm}
+use Rattle.dr_resolve.specs.Faults.{first_view}
+use Rattle.dr_resolve.specs.Items.{IsTerm}
 use Rattle.dr_resolve.specs.Outcomes.{BindsAs, fields_in, leaves_in}
 use Rattle.dr_resolve.proofs.TermLemmas.{on_ok_weaker}
 use Rattle.dr_resolve.proofs.names.Binder.term.Goals as goal

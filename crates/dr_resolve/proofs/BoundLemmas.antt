@@ -3,7 +3,7 @@ use Rattle.std.proofs.Common.{List, [], ◌∷◌, ◌++◌}
 use Rattle.dr_meaning.specs.Schema.{Fields}
 use Rattle.dr_meaning.specs.Path.{Leaf}
 use Rattle.dr_meaning.specs.BoundExpression as meant
-use Rattle.dr_bound_parts.specs.Bound.{Covers, AreReal}
+use Rattle.dr_resolve.specs.Bound.{Covers, AreReal}
 
 pub covers_parts : (ls : List Leaf) (ps qs : List meant.BoundPath) → Covers ls (ps ++ qs) → Covers ls ps × Covers ls qs
 covers_parts ls [] qs h = (tt, h)

@@ -7,7 +7,7 @@ use dr_plan::{Expr, Fold, Truth};
 /// An expression, with its paths in the order of the text, and whether it is a path alone.
 #[derive(Drop)]
 pub struct BoundExpression {
-    pub expression: Expr,
+    pub expression: Box<Expr>,
     pub paths: Vec<BoundPath>,
     pub is_path: bool,
 }
@@ -15,7 +15,7 @@ pub struct BoundExpression {
 /// A condition, with its paths in the order of the text.
 #[derive(Drop)]
 pub struct BoundCondition {
-    pub truth: Truth,
+    pub truth: Box<Truth>,
     pub paths: Vec<BoundPath>,
 }
 
@@ -43,13 +43,13 @@ pub struct BoundItem {
     pub term: BoundTerm,
 }
 
-/// The parts of a query: whether it is a record query; the condition, if it could be bound; the items and keys that
-/// could be bound, and whether each key could be; of the items that could not, since WITHIN names no field, the
-/// arguments that could.
+/// The parts of a query: whether it is a record query; the condition, if there is one and it could be bound; the items
+/// and keys that could be bound, and whether each key could be; of the items that could not, since WITHIN names no
+/// field, the arguments that could.
 #[derive(Drop)]
 pub struct BoundParts {
     pub is_record_query: bool,
-    pub condition: Option<Option<BoundCondition>>,
+    pub condition: Option<BoundCondition>,
     pub items: Vec<BoundItem>,
     pub arguments: Vec<BoundExpression>,
     pub keys: Vec<BoundPath>,

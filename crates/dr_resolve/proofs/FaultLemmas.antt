@@ -4,7 +4,7 @@ use Rattle.std.specs.Prelude.{◌==◌, ◌||◌, ◌&&◌, nat_lt, if◌then◌
 use Rattle.std.proofs.lemmas.Bool.Decides.{nat_tests}
 use Rattle.dr_meaning.specs.BoundExpression.{BindFault}
 use Rattle.dr_meaning.specs.Binding.{rank, is_before, first_fault}
-use Rattle.dr_bound_parts.specs.Faults.{earlier}
+use Rattle.dr_resolve.specs.Faults.{earlier}
 
 abbrev before : ℕ → ℕ → ℕ → ℕ → Bool
 before a b c d = nat_lt a b || ((a == b) && nat_lt c d)

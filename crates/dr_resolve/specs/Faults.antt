@@ -1,10 +1,10 @@
 -- What the faults of this crate stand for.
-use Rattle.std.specs.Prelude.{Option, Some, None, option_map}
+use Rattle.std.specs.Prelude.{◌≡◌, List, Option, Some, None, option_map}
 use Rattle.dr_meaning.specs.BoundExpression as binding
-use Rattle.dr_meaning.specs.Binding.{first_of}
-use Rattle.dr_bound_parts.specs.declared.fault.BindProblem.{BindProblem}
-use Rattle.dr_bound_parts.specs.declared.fault.Fault.{Fault}
-use Rattle.dr_bound_parts.specs.declared.fault.FirstFault.{FirstFault}
+use Rattle.dr_meaning.specs.Binding.{first_fault, first_of}
+use Rattle.dr_resolve.specs.declared.fault.BindProblem.{BindProblem}
+use Rattle.dr_resolve.specs.declared.fault.Fault.{Fault}
+use Rattle.dr_resolve.specs.declared.fault.FirstFault.{FirstFault}
 
 abbrev pub problem_view : BindProblem → binding.BindProblem
 problem_view BindProblem.UnknownTable = binding.unknown_table
@@ -26,3 +26,7 @@ first_view f = option_map fault_view f.fault
 abbrev pub earlier : Option binding.BindFault → Option binding.BindFault → Option binding.BindFault
 earlier None g = g
 earlier (Some f) g = Some (first_of f g)
+
+-- these faults are noted behind those so far
+abbrev pub Notes : List binding.BindFault → FirstFault → FirstFault → Type 0
+Notes fs before now = first_view now ≡ earlier (first_view before) (first_fault fs)

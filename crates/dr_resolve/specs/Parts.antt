@@ -6,14 +6,13 @@ use Rattle.dr_meaning.specs.BoundExpression as meant
 use Rattle.dr_meaning.specs.BoundExpression.{Checked, passes, fails}
 use Rattle.dr_meaning.specs.Binding as binding
 use Rattle.dr_paths.specs.Views.{bound_path_view}
-use Rattle.dr_bound_parts.specs.Items.{IsCondition, AreItems, AreExpressions}
-use Rattle.dr_bound_parts.specs.declared.parts.BoundCondition.{BoundCondition}
-use Rattle.dr_bound_parts.specs.declared.parts.BoundParts.{BoundParts}
+use Rattle.dr_resolve.specs.Items.{IsCondition, AreItems, AreExpressions}
+use Rattle.dr_resolve.specs.declared.bound.BoundCondition.{BoundCondition}
+use Rattle.dr_resolve.specs.declared.bound.BoundParts.{BoundParts}
 
--- a condition that passes is bound, any other isn't
-abbrev pub IsCheckedCondition : Fields → List Leaf → Checked (Option meant.BoundExpression) → Option (Option BoundCondition) → Type 0
-IsCheckedCondition fs ls (passes b) None = ⊥
-IsCheckedCondition fs ls (passes b) (Some c) = IsCondition fs ls b c
+-- a condition that passes is bound; of one that fails there is none
+abbrev pub IsCheckedCondition : Fields → List Leaf → Checked (Option meant.BoundExpression) → Option BoundCondition → Type 0
+IsCheckedCondition fs ls (passes b) c = IsCondition fs ls b c
 IsCheckedCondition fs ls (fails e es) None = Unit {0}
 IsCheckedCondition fs ls (fails e es) (Some c) = ⊥
 

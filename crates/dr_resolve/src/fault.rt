@@ -2,8 +2,8 @@
 
 ghost use Rattle.std.specs.Prelude.{◌≡◌, Some, None};
 ghost use Rattle.dr_meaning.specs.Binding as binding;
-ghost use Rattle.dr_bound_parts.specs.Faults.{problem_view, fault_view, first_view, earlier};
-ghost use Rattle.dr_bound_parts.specs.declared.fault.BindFault.TheVariants.{NoMemory as WantOfMemory};
+ghost use Rattle.dr_resolve.specs.Faults.{problem_view, fault_view, first_view, earlier};
+ghost use Rattle.dr_resolve.specs.declared.fault.BindFault.TheVariants.{NoMemory as WantOfMemory};
 
 use dr_memory::NoMemory;
 use std::alloc::{AllocError, AllocFailed};

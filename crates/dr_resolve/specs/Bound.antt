@@ -11,7 +11,7 @@ use Rattle.dr_plan.specs.Fitting.{expr_fits}
 use Rattle.dr_plan.specs.declared.expression.Expr.{Expr}
 use Rattle.dr_paths.specs.Numbers.{number_among}
 use Rattle.dr_paths.specs.Views.{bound_path_view, paths_at}
-use Rattle.dr_bound_parts.specs.declared.parts.BoundExpression.{BoundExpression}
+use Rattle.dr_resolve.specs.declared.bound.BoundExpression.{BoundExpression}
 
 -- ---- leaves of a plan
 
@@ -48,9 +48,9 @@ pub record Means (ls : List Leaf) (b : meant.BoundExpression) (e : Expr) : Type 
 
 -- an expression as it was bound over the fields of a schema and leaves of a plan
 pub record IsExpression (fs : Fields) (ls : List Leaf) (b : meant.BoundExpression) (x : BoundExpression) : Type 0 where
-  pub gives : type_of x.expression ≡ b.gives
+  pub gives : type_of x.expression.value ≡ b.gives
   pub paths : map bound_path_view x.paths.items ≡ b.paths
   pub own : paths_of b.expression ≡ paths_at b.paths
   pub alone : x.is_path ≡ is_path_value b.expression
   pub real : AreReal fs b.paths
-  pub means : Covers ls b.paths → Means ls b x.expression
+  pub means : Covers ls b.paths → Means ls b x.expression.value

@@ -9,12 +9,12 @@ use Rattle.dr_nested.specs.PathView.{step_view}
 use Rattle.dr_plan.specs.Views.{truth_view, fold_view}
 use Rattle.dr_plan.specs.Fitting.{truth_fits}
 use Rattle.dr_paths.specs.Views.{bound_path_view, paths_at}
-use Rattle.dr_bound_parts.specs.Bound.{AreReal, Covers, IsExpression}
-use Rattle.dr_bound_parts.specs.declared.parts.BoundCondition.{BoundCondition}
-use Rattle.dr_bound_parts.specs.declared.parts.BoundExpression.{BoundExpression}
-use Rattle.dr_bound_parts.specs.declared.parts.BoundWithin.{BoundWithin}
-use Rattle.dr_bound_parts.specs.declared.parts.BoundTerm.{BoundTerm}
-use Rattle.dr_bound_parts.specs.declared.parts.BoundItem.{BoundItem}
+use Rattle.dr_resolve.specs.Bound.{AreReal, Covers, IsExpression}
+use Rattle.dr_resolve.specs.declared.bound.BoundCondition.{BoundCondition}
+use Rattle.dr_resolve.specs.declared.bound.BoundExpression.{BoundExpression}
+use Rattle.dr_resolve.specs.declared.bound.BoundWithin.{BoundWithin}
+use Rattle.dr_resolve.specs.declared.bound.BoundTerm.{BoundTerm}
+use Rattle.dr_resolve.specs.declared.bound.BoundItem.{BoundItem}
 
 -- ---- the condition
 
@@ -23,8 +23,8 @@ pub record IsTruth (fs : Fields) (ls : List Leaf) (b : meant.BoundExpression) (c
   pub paths : map bound_path_view c.paths.items ≡ b.paths
   pub own : paths_of b.expression ≡ paths_at b.paths
   pub real : AreReal fs b.paths
-  pub view : Covers ls b.paths → truth_view ls c.truth ≡ b.expression
-  pub fits : Covers ls b.paths → truth_fits ls c.truth ≡ true
+  pub view : Covers ls b.paths → truth_view ls c.truth.value ≡ b.expression
+  pub fits : Covers ls b.paths → truth_fits ls c.truth.value ≡ true
 
 -- the condition, if there is one
 abbrev pub IsCondition : Fields → List Leaf → Option meant.BoundExpression → Option BoundCondition → Type 0
