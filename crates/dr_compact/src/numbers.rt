@@ -1,6 +1,6 @@
 //! Bytes and numbers from the front of bytes.
 
-ghost use Rattle.std.specs.Prelude.{◌≡◌, ◌∷◌, [], IfOk, IfErr};
+ghost use Rattle.std.specs.Prelude.{◌≡◌, ◌==◌, ◌∷◌, [], ℕ, IfOk, IfErr};
 ghost use Rattle.dr_formats.specs.Varint.{varint};
 ghost use Rattle.dr_formats.specs.Reading.{bytes_of};
 ghost use Rattle.dr_formats.specs.Compact.{malformed, signed_varint, field_id, binary};
@@ -20,6 +20,14 @@ pub(crate) fn next_byte(cut: &mut Cut<'_>) -> Result<u8, CompactFault>
 {
     let byte = cut.take(1)?;
     Ok(byte[0])
+}
+
+/// The next truth value, in a byte: only 1 is true.
+pub(crate) fn next_truth(cut: &mut Cut<'_>) -> Result<bool, CompactFault>
+    ensures byte { IfOk result (λ t. (b : ℕ) × (left cut.old ≡ b ∷ left cut.new) × (t ≡ (b == 1))) }
+    ensures end { IfErr result (λ e. (e ≡ CompactFault.Malformed) × (left cut.old ≡ [])) }
+{
+    Ok(next_byte(cut)? == 1)
 }
 
 /// The next variable-length number.

@@ -1,18 +1,19 @@
 //! Reading structs.
 
-ghost use Rattle.std.specs.Prelude.{◌≡◌, ◌≤◌, length, drop, suc, IfOk, IfErr};
+ghost use Rattle.std.specs.Prelude.{◌≡◌, ◌≤◌, ◌++◌, ◌∷◌, [], ℤ, length, drop, suc, Err, IfOk, IfErr};
 ghost use Rattle.dr_formats.specs.Reading.{got};
 ghost use Rattle.dr_formats.specs.Compact as compact;
-ghost use Rattle.dr_formats.specs.Compact.{value_of, field_value};
+ghost use Rattle.dr_formats.specs.Compact.{value_of, field_value, signed_varint};
 ghost use Rattle.dr_bytes.specs.Cutting.{left};
 ghost use Rattle.dr_compact.specs.Reads.{Reads, IsFaultOf};
+ghost use Rattle.dr_compact.specs.declared.fault.CompactFault.{CompactFault};
 ghost use Rattle.dr_compact.specs.Steps.{elements, map_inside, struct_inside, joined};
 ghost use Rattle.dr_compact.specs.Types.{type_view};
 ghost use Rattle.dr_compact.specs.Views.{item_view, values_view, elements_view, map_view, tree_view};
 
 use crate::fault::CompactFault;
 use crate::headers::{field_header, key_and_value, list_header};
-use crate::numbers::{next_binary, next_byte, next_double, next_number, next_signed};
+use crate::numbers::{next_binary, next_byte, next_double, next_number, next_signed, next_truth};
 use crate::thrift_type::ThriftType;
 use crate::tree::{Field, Item, Map, Tree, Values};
 use crate::values::no_values;
@@ -148,49 +149,58 @@ fn read_element<'a>(
         (value_of depth (values_view values.entry).element (left cut.old))) (left cut.new) result }
 {
     match values {
-        Values::Truths(kind, mut truths) => {
-            truths.push(next_byte(cut)? == 1)?;
-            Ok(Values::Truths(kind, truths))
+        Values::Truths(kind, truths) => Ok(Values::Truths(
+            kind,
+            put_behind(truths, next_truth(cut))?,
+        )),
+        Values::Bytes(bytes) => Ok(Values::Bytes(put_behind(bytes, next_byte(cut))?)),
+        Values::I16s(numbers) => Ok(Values::I16s(put_signed(numbers, cut)?)),
+        Values::I32s(numbers) => Ok(Values::I32s(put_signed(numbers, cut)?)),
+        Values::I64s(numbers) => Ok(Values::I64s(put_signed(numbers, cut)?)),
+        Values::Doubles(doubles) => Ok(Values::Doubles(put_behind(doubles, next_double(cut))?)),
+        Values::Binaries(binaries) => {
+            Ok(Values::Binaries(put_behind(binaries, next_binary(cut))?))
         }
-        Values::Bytes(mut bytes) => {
-            bytes.push(next_byte(cut)?)?;
-            Ok(Values::Bytes(bytes))
+        Values::Lists(lists) => {
+            let list = read_elements(alloc, cut, depth);
+            Ok(Values::Lists(put_behind(lists, list)?))
         }
-        Values::I16s(mut numbers) => {
-            numbers.push(next_signed(cut)?)?;
-            Ok(Values::I16s(numbers))
+        Values::Sets(sets) => {
+            let set = read_elements(alloc, cut, depth);
+            Ok(Values::Sets(put_behind(sets, set)?))
         }
-        Values::I32s(mut numbers) => {
-            numbers.push(next_signed(cut)?)?;
-            Ok(Values::I32s(numbers))
+        Values::Maps(maps) => {
+            let map = read_map(alloc, cut, depth);
+            Ok(Values::Maps(put_behind(maps, map)?))
         }
-        Values::I64s(mut numbers) => {
-            numbers.push(next_signed(cut)?)?;
-            Ok(Values::I64s(numbers))
-        }
-        Values::Doubles(mut doubles) => {
-            doubles.push(next_double(cut)?)?;
-            Ok(Values::Doubles(doubles))
-        }
-        Values::Binaries(mut binaries) => {
-            binaries.push(next_binary(cut)?)?;
-            Ok(Values::Binaries(binaries))
-        }
-        Values::Lists(mut lists) => {
-            lists.push(read_elements(alloc, cut, depth)?)?;
-            Ok(Values::Lists(lists))
-        }
-        Values::Sets(mut sets) => {
-            sets.push(read_elements(alloc, cut, depth)?)?;
-            Ok(Values::Sets(sets))
-        }
-        Values::Maps(mut maps) => {
-            maps.push(read_map(alloc, cut, depth)?)?;
-            Ok(Values::Maps(maps))
-        }
-        Values::Structs(mut structs) => {
-            structs.push(read_tree(alloc, cut, depth)?)?;
-            Ok(Values::Structs(structs))
+        Values::Structs(structs) => {
+            let tree = read_tree(alloc, cut, depth);
+            Ok(Values::Structs(put_behind(structs, tree)?))
         }
     }
+}
+
+/// Values with one more behind them, if it was read.
+///
+/// Errors: the fault of reading; want of memory.
+fn put_behind<T: Drop>(
+    mut values: Vec<T>,
+    read: Result<T, CompactFault>,
+) -> Result<Vec<T>, CompactFault>
+    ensures put { IfOk read (λ x. IfOk result (λ v. v.items ≡ values.items ++ x ∷ [])) }
+    ensures want { IfOk read (λ _. IfErr result (λ e. e ≡ CompactFault.NoMemory)) }
+    ensures fault { IfErr read (λ e. result ≡ Err e) }
+{
+    values.push(read?)?;
+    Ok(values)
+}
+
+/// Numbers with the next signed one behind them.
+fn put_signed(mut numbers: Vec<i64>, cut: &mut Cut<'_>) -> Result<Vec<i64>, CompactFault>
+    ensures put { IfOk result (λ v. (z : ℤ) × (signed_varint (left cut.old) ≡ got z (left cut.new))
+        × (v.items ≡ numbers.items ++ z ∷ [])) }
+    ensures fault { IfErr result (λ e. IsFaultOf e (signed_varint (left cut.old))) }
+{
+    numbers.push(next_signed(cut)?)?;
+    Ok(numbers)
 }

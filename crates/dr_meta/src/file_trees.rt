@@ -21,12 +21,12 @@ use std::alloc::Global;
 pub fn tree_of_file<'a>(alloc: Global, meta: &FileMeta<'_, 'a>) -> Result<Tree<'a>, NoMemory>
     ensures { IfOk result (λ t. tree_view t ≡ file_tree (file_view meta.now)) }
 {
-    let elements = trees_of_items(alloc, &meta.schema)?;
-    let groups = trees_of_groups(alloc, &meta.groups)?;
     let mut fields = Vec::new(alloc);
     put_some_i32(&mut fields, file_meta::VERSION, meta.version)?;
+    let elements = trees_of_items(alloc, &meta.schema)?;
     put_structs(&mut fields, file_meta::SCHEMA, elements)?;
     put_count64(&mut fields, file_meta::ROWS, meta.rows)?;
+    let groups = trees_of_groups(alloc, &meta.groups)?;
     put_structs(&mut fields, file_meta::GROUPS, groups)?;
     put_some_binary(&mut fields, file_meta::CREATED_BY, meta.created_by)?;
     Ok(Tree { fields })
@@ -99,10 +99,10 @@ fn trees_of_chunks<'a>(
 fn tree_of_chunk<'a>(alloc: Global, chunk: &ChunkMeta<'_, 'a>) -> Result<Tree<'a>, NoMemory>
     ensures { IfOk result (λ t. tree_view t ≡ chunk_tree (chunk_view chunk.now)) }
 {
-    let meta = tree_of_column(alloc, &chunk.meta)?;
     let mut fields = Vec::new(alloc);
     put_some_binary(&mut fields, column_chunk::FILE_PATH, chunk.file_path)?;
     put_some_i64(&mut fields, column_chunk::FILE_OFFSET, chunk.file_offset)?;
+    let meta = tree_of_column(alloc, &chunk.meta)?;
     put(&mut fields, column_chunk::META, Item::Struct(meta))?;
     Ok(Tree { fields })
 }

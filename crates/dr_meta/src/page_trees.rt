@@ -18,9 +18,6 @@ use std::alloc::Global;
 pub fn tree_of_page(alloc: Global, head: &PageHead) -> Result<Tree<'static>, NoMemory>
     ensures { IfOk result (λ t. tree_view t ≡ page_tree (page_view head.now)) }
 {
-    let data_page = tree_of_data_page(alloc, head.data_page)?;
-    let dictionary_page = tree_of_dictionary_page(alloc, head.dictionary_page)?;
-    let data_page_v2 = tree_of_data_page_v2(alloc, head.data_page_v2)?;
     let mut fields = Vec::new(alloc);
     put_i32(&mut fields, page_header::KIND, head.kind)?;
     put_some_i32(
@@ -33,8 +30,11 @@ pub fn tree_of_page(alloc: Global, head: &PageHead) -> Result<Tree<'static>, NoM
         page_header::COMPRESSED_SIZE,
         head.compressed_size,
     )?;
+    let data_page = tree_of_data_page(alloc, head.data_page)?;
     put_some_struct(&mut fields, page_header::DATA_PAGE, data_page)?;
+    let dictionary_page = tree_of_dictionary_page(alloc, head.dictionary_page)?;
     put_some_struct(&mut fields, page_header::DICTIONARY_PAGE, dictionary_page)?;
+    let data_page_v2 = tree_of_data_page_v2(alloc, head.data_page_v2)?;
     put_some_struct(&mut fields, page_header::DATA_PAGE_V2, data_page_v2)?;
     Ok(Tree { fields })
 }

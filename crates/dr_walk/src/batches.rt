@@ -1,6 +1,6 @@
 //! A walk over batches of columns.
 
-ghost use Rattle.std.specs.Prelude.{◌≡◌, ℕ, List, map, true, false, None, Ok, option_map};
+ghost use Rattle.std.specs.Prelude.{◌≡◌, ℕ, List, map, true, false, Some, None, Ok, Err, option_map};
 ghost use Rattle.std.specs.List.{list_all};
 ghost use Rattle.dr_meaning.specs.Path.{Leaf, Step, is_leaf_path};
 ghost use Rattle.dr_meaning.specs.WalkLaws.{AreLeavesOf};
@@ -12,6 +12,7 @@ ghost use Rattle.dr_course.specs.Leading.{Left};
 ghost use Rattle.dr_course.specs.Selection.{all_differ};
 ghost use Rattle.dr_walk.specs.Walking.{next_levels as meant_next, given_leaf};
 ghost use Rattle.dr_walk.specs.Checking.{rest_at, rest_behind};
+ghost use Rattle.dr_walk.specs.declared.fault.AssembleFault.{AssembleFault};
 ghost use Rattle.dr_walk.specs.declared.batches.Turned.{Turned as MeantTurned};
 ghost use Rattle.dr_walk.specs.Batches.{IsOver, is_last, ComesOf, IsGivenOf, GoesOver, Shrinks, NestsOver, OverBatches};
 
@@ -109,6 +110,8 @@ fn go_on<'a>(
         → map (λ (l : Leaf). l.path) L ≡ F → AreLeavesOf fs L → NestsOver fs L ms result }
     ensures rests { Shrinks (rest_at rests.old) (rest_at rests.new) }
     ensures wants { (i : ℕ) → result ≡ Ok (MeantTurned.Wants i) → ⊥ }
+    ensures again { (fault : AssembleFault) → walk.old.failed ≡ Some fault → result ≡ Err fault }
+    ensures refused { (fault : AssembleFault) → result ≡ Err fault → walk.new.failed ≡ Some fault }
 {
     match walk.next(more) {
         Ok(Some(step)) => match give(rests, step) {
@@ -149,13 +152,19 @@ pub fn step_over<'a>(
     ensures rests { Shrinks (rest_at rests.old) (rest_at rests.new) }
     // More of a leaf is asked for only where more may come of it.
     ensures wants { (i : ℕ) → result ≡ Ok (MeantTurned.Wants i) → is_last ended.now i ≡ false }
+    // It repeats its refusal, and a refusal is one from then on.
+    ensures again { (fault : AssembleFault) → walk.old.failed ≡ Some fault → result ≡ Err fault }
+    ensures refused { (fault : AssembleFault) → result ≡ Err fault → walk.new.failed ≡ Some fault }
 {
     let Some(leaf) = walk.wants() else {
         return go_on(walk, rests, None);
     };
     let more = next_levels(rests, leaf);
     if more.is_none() && !is_ended(ended, leaf) {
-        return Ok(Turned::Wants(leaf));
+        return match walk.failed {
+            None => Ok(Turned::Wants(leaf)),
+            Some(fault) => Err(fault),
+        };
     }
     go_on(walk, rests, more)
 }

@@ -1,8 +1,8 @@
 use Rattle.std.proofs.Common.{◌≡◌, ◌≤◌, ◌<◌, ◌-◌, ◌+◌, sym, subst, map, to_z, of_z, ◌∙◌, length, refl, ap, arith, List, [], ◌∷◌, ◌++◌, ℕ, ℤ}
 use Rattle.std.proofs.lemmas.Int.{to_z-of_z}
-use Rattle.std.specs.Prelude.{◌==◌, option_map}
+use Rattle.std.specs.Prelude.{◌==◌, option_map, Ok, Err}
 use Rattle.std.proofs.lemmas.Result.{err_from_is_err_and}
-use Rattle.dr_formats.specs.Reading.{Reading, got, give, goes_on}
+use Rattle.dr_formats.specs.Reading.{Reading, got, give, goes_on, bytes_of}
 use Rattle.dr_formats.specs.Compact as compact
 use Rattle.dr_formats.specs.Compact.{CompactFault, value_of}
 use Rattle.dr_bytes.specs.Cutting.{left}
@@ -11,116 +11,143 @@ use Rattle.dr_compact.specs.Views.{SeenValues, field_view, values_view, elements
 use Rattle.dr_compact.specs.Steps.{start_view}
 use Rattle.dr_compact.specs.declared.tree.Values.TheVariants as lists
 use Rattle.dr_compact.proofs.ViewLemmas.{view-truths, view-bytes, view-i16s, view-i32s, view-i64s, view-doubles, view-binaries, view-lists, view-sets, view-maps, view-structs, view-list, view-set, view-map, view-struct, view-pair, view-tree_of, lent_binary, as_list, as_set, as_struct}
-use Rattle.dr_compact.proofs.ElementLemmas.{one_joined, none_joined, truth_got, byte_got, list_got, set_got, struct_got, list_refused, set_refused, map_refused, struct_refused}
+use Rattle.dr_compact.proofs.ElementLemmas.{behind_joined, signed_joined, item_reads, truth_reads, byte_reads, list_reads, set_reads, map_reads, struct_reads, list_got, set_got, struct_got, list_refused, set_refused, map_refused, struct_refused}
 use Rattle.dr_compact.proofs.StepLemmas.{map_is_inside, FieldsRead}
 use Rattle.dr_compact.proofs.LoopLemmas.{value_read, elements_got, elements_fault, map_got, two_read, no_key, no_value, struct_ended, one_field_read, no_start, no_item}
 use Rattle.dr_compact.proofs.reading.+reading.Goals as goal
 
 -- ---- one more value
 
-pub read_element-returns-in_ok-push-in-Truths : goal.read_element-returns-in_ok-push-in-Truths
-read_element-returns-in_ok-push-in-Truths t c =
-    let x = c.in_ok-next_byte-in-Truths in
-    one_joined (lists.Truths c.in-Truths.kind) (truth_type_view c.in-Truths.kind) compact.truth_item (view-truths c.in-Truths.kind) c.args.depth c.args.values c.in-Truths.truths c.push.new.self (x.field-0 == 1) (left c.args.cut.now) (left c.next_byte.new.cut) c.in-Truths.is
-    (truth_got c.in-Truths.kind c.args.depth x.field-0 (left c.args.cut.now) (left c.next_byte.new.cut) x.ensures.byte)
-    c.in_ok-push-in-Truths.ensures.items
+pub read_element-returns-in_ok-put_behind-in-Truths : goal.read_element-returns-in_ok-put_behind-in-Truths
+read_element-returns-in_ok-put_behind-in-Truths t c =
+    behind_joined (lists.Truths c.in-Truths.kind) (truth_type_view c.in-Truths.kind) compact.truth_item (view-truths c.in-Truths.kind) c.args.depth c.args.values c.in-Truths.truths (left c.args.cut.now) (left c.next_truth.new.cut) c.next_truth.result (Ok c.in_ok-put_behind-in-Truths.field-0) c.in-Truths.is
+    (truth_reads c.in-Truths.kind c.args.depth (left c.args.cut.now) (left c.next_truth.new.cut) c.next_truth.result c.next_truth.ensures.byte c.next_truth.ensures.end)
+    c.in_ok-put_behind-in-Truths.ensures.put c.in_ok-put_behind-in-Truths.ensures.want c.in_ok-put_behind-in-Truths.ensures.fault
 
-pub read_element-returns-in_ok-push-in-Bytes : goal.read_element-returns-in_ok-push-in-Bytes
-read_element-returns-in_ok-push-in-Bytes t c =
-    let x = c.in_ok-next_byte-in-Bytes in
-    one_joined lists.Bytes compact.byte_type compact.byte_item view-bytes c.args.depth c.args.values c.in-Bytes.bytes c.push-in-Bytes.new.self x.field-0 (left c.args.cut.now) (left c.next_byte-in-Bytes.new.cut) c.in-Bytes.is
-    (byte_got c.args.depth x.field-0 (left c.args.cut.now) (left c.next_byte-in-Bytes.new.cut) x.ensures.byte)
-    c.in_ok-push-in-Bytes.ensures.items
+pub read_element-returns-in_err-put_behind-in-Truths : goal.read_element-returns-in_err-put_behind-in-Truths
+read_element-returns-in_err-put_behind-in-Truths t c =
+    let p = err_from_is_err_and c.from_residual.result c.from_residual.ensures.1 in
+    rw (p.1, p.2) (behind_joined (lists.Truths c.in-Truths.kind) (truth_type_view c.in-Truths.kind) compact.truth_item (view-truths c.in-Truths.kind) c.args.depth c.args.values c.in-Truths.truths (left c.args.cut.now) (left c.next_truth.new.cut) c.next_truth.result (Err c.in_err-put_behind-in-Truths.field-0.0) c.in-Truths.is
+    (truth_reads c.in-Truths.kind c.args.depth (left c.args.cut.now) (left c.next_truth.new.cut) c.next_truth.result c.next_truth.ensures.byte c.next_truth.ensures.end)
+    c.in_err-put_behind-in-Truths.ensures.put c.in_err-put_behind-in-Truths.ensures.want c.in_err-put_behind-in-Truths.ensures.fault)
 
-pub read_element-returns-in_ok-push-in-I16s : goal.read_element-returns-in_ok-push-in-I16s
-read_element-returns-in_ok-push-in-I16s t c =
-    let x = c.in_ok-next_signed-in-I16s in
-    let pushed : c.push-in-I16s.new.self.items ≡ c.in-I16s.numbers.items ++ x.field-0 ∷ [] = grind (arith, to_z-of_z) in
-    one_joined lists.I16s compact.i16_type compact.i16_item view-i16s c.args.depth c.args.values c.in-I16s.numbers c.push-in-I16s.new.self x.field-0 (left c.args.cut.now) (left c.next_signed.new.cut) c.in-I16s.is
-    (ap (λ (r : Reading CompactFault ℤ). goes_on r (λ z. give (compact.i16_item z))) x.ensures)
-    pushed
+pub read_element-returns-in_ok-put_behind-in-Bytes : goal.read_element-returns-in_ok-put_behind-in-Bytes
+read_element-returns-in_ok-put_behind-in-Bytes t c =
+    behind_joined lists.Bytes compact.byte_type compact.byte_item view-bytes c.args.depth c.args.values c.in-Bytes.bytes (left c.args.cut.now) (left c.next_byte.new.cut) c.next_byte.result (Ok c.in_ok-put_behind-in-Bytes.field-0) c.in-Bytes.is
+    (byte_reads c.args.depth (left c.args.cut.now) (left c.next_byte.new.cut) c.next_byte.result c.next_byte.ensures.byte c.next_byte.ensures.end)
+    c.in_ok-put_behind-in-Bytes.ensures.put c.in_ok-put_behind-in-Bytes.ensures.want c.in_ok-put_behind-in-Bytes.ensures.fault
 
-pub read_element-returns-in_ok-push-in-I32s : goal.read_element-returns-in_ok-push-in-I32s
-read_element-returns-in_ok-push-in-I32s t c =
-    let x = c.in_ok-next_signed-in-I32s in
-    let pushed : c.push-in-I32s.new.self.items ≡ c.in-I32s.numbers.items ++ x.field-0 ∷ [] = grind (arith, to_z-of_z) in
-    one_joined lists.I32s compact.i32_type compact.i32_item view-i32s c.args.depth c.args.values c.in-I32s.numbers c.push-in-I32s.new.self x.field-0 (left c.args.cut.now) (left c.next_signed-in-I32s.new.cut) c.in-I32s.is
-    (ap (λ (r : Reading CompactFault ℤ). goes_on r (λ z. give (compact.i32_item z))) x.ensures)
-    pushed
+pub read_element-returns-in_err-put_behind-in-Bytes : goal.read_element-returns-in_err-put_behind-in-Bytes
+read_element-returns-in_err-put_behind-in-Bytes t c =
+    let p = err_from_is_err_and c.from_residual-in_err-put_behind-in-Bytes.result c.from_residual-in_err-put_behind-in-Bytes.ensures.1 in
+    rw (p.1, p.2) (behind_joined lists.Bytes compact.byte_type compact.byte_item view-bytes c.args.depth c.args.values c.in-Bytes.bytes (left c.args.cut.now) (left c.next_byte.new.cut) c.next_byte.result (Err c.in_err-put_behind-in-Bytes.field-0.0) c.in-Bytes.is
+    (byte_reads c.args.depth (left c.args.cut.now) (left c.next_byte.new.cut) c.next_byte.result c.next_byte.ensures.byte c.next_byte.ensures.end)
+    c.in_err-put_behind-in-Bytes.ensures.put c.in_err-put_behind-in-Bytes.ensures.want c.in_err-put_behind-in-Bytes.ensures.fault)
 
-pub read_element-returns-in_ok-push-in-I64s : goal.read_element-returns-in_ok-push-in-I64s
-read_element-returns-in_ok-push-in-I64s t c =
-    let x = c.in_ok-next_signed-in-I64s in
-    let pushed : c.push-in-I64s.new.self.items ≡ c.in-I64s.numbers.items ++ x.field-0 ∷ [] = grind (arith, to_z-of_z) in
-    one_joined lists.I64s compact.i64_type compact.i64_item view-i64s c.args.depth c.args.values c.in-I64s.numbers c.push-in-I64s.new.self x.field-0 (left c.args.cut.now) (left c.next_signed-in-I64s.new.cut) c.in-I64s.is
-    (ap (λ (r : Reading CompactFault ℤ). goes_on r (λ z. give (compact.i64_item z))) x.ensures)
-    pushed
+pub read_element-returns-in_ok-put_signed-in-I16s : goal.read_element-returns-in_ok-put_signed-in-I16s
+read_element-returns-in_ok-put_signed-in-I16s t c =
+    signed_joined lists.I16s compact.i16_type compact.i16_item view-i16s c.args.depth c.args.values c.in-I16s.numbers (left c.args.cut.now) (left c.put_signed.new.cut) (Ok c.in_ok-put_signed-in-I16s.field-0) c.in-I16s.is refl c.in_ok-put_signed-in-I16s.ensures.put c.in_ok-put_signed-in-I16s.ensures.fault
 
-pub read_element-returns-in_ok-push-in-Doubles : goal.read_element-returns-in_ok-push-in-Doubles
-read_element-returns-in_ok-push-in-Doubles t c =
-    let x = c.in_ok-next_double-in-Doubles in
-    one_joined lists.Doubles compact.double_type compact.double_item view-doubles c.args.depth c.args.values c.in-Doubles.doubles c.push-in-Doubles.new.self x.field-0 (left c.args.cut.now) (left c.next_double.new.cut) c.in-Doubles.is
-    (ap (λ (r : Reading CompactFault (List ℕ)). goes_on r (λ z. give (compact.double_item z))) x.ensures)
-    c.in_ok-push-in-Doubles.ensures.items
+pub read_element-returns-in_err-put_signed-in-I16s : goal.read_element-returns-in_err-put_signed-in-I16s
+read_element-returns-in_err-put_signed-in-I16s t c =
+    let p = err_from_is_err_and c.from_residual-in_err-put_signed-in-I16s.result c.from_residual-in_err-put_signed-in-I16s.ensures.1 in
+    rw (p.1, p.2) (signed_joined lists.I16s compact.i16_type compact.i16_item view-i16s c.args.depth c.args.values c.in-I16s.numbers (left c.args.cut.now) (left c.put_signed.new.cut) (Err c.in_err-put_signed-in-I16s.field-0.0) c.in-I16s.is refl c.in_err-put_signed-in-I16s.ensures.put c.in_err-put_signed-in-I16s.ensures.fault)
 
-pub read_element-returns-in_ok-push-in-Binaries : goal.read_element-returns-in_ok-push-in-Binaries
-read_element-returns-in_ok-push-in-Binaries t c =
-    let x = c.in_ok-next_binary-in-Binaries in
-    one_joined lists.Binaries compact.binary_type lent_binary view-binaries c.args.depth c.args.values c.in-Binaries.binaries c.push-in-Binaries.new.self x.field-0 (left c.args.cut.now) (left c.next_binary.new.cut) c.in-Binaries.is
-    (ap (λ (r : Reading CompactFault (List ℕ)). goes_on r (λ z. give (compact.binary_item z))) x.ensures)
-    c.in_ok-push-in-Binaries.ensures.items
+pub read_element-returns-in_ok-put_signed-in-I32s : goal.read_element-returns-in_ok-put_signed-in-I32s
+read_element-returns-in_ok-put_signed-in-I32s t c =
+    signed_joined lists.I32s compact.i32_type compact.i32_item view-i32s c.args.depth c.args.values c.in-I32s.numbers (left c.args.cut.now) (left c.put_signed-in-I32s.new.cut) (Ok c.in_ok-put_signed-in-I32s.field-0) c.in-I32s.is refl c.in_ok-put_signed-in-I32s.ensures.put c.in_ok-put_signed-in-I32s.ensures.fault
 
-pub read_element-returns-in_ok-push-in-Lists : goal.read_element-returns-in_ok-push-in-Lists
-read_element-returns-in_ok-push-in-Lists t c =
-    let x = c.in_ok-read_elements-in-Lists in
-    one_joined lists.Lists compact.list_type as_list view-lists c.args.depth c.args.values c.in-Lists.lists c.push-in-Lists.new.self x.field-0 (left c.args.cut.now) (left c.read_elements.new.cut) c.in-Lists.is
-    (list_got c.args.depth (left c.args.cut.now) (left c.read_elements.new.cut) (elements_view x.field-0) x.ensures)
-    c.in_ok-push-in-Lists.ensures.items
+pub read_element-returns-in_err-put_signed-in-I32s : goal.read_element-returns-in_err-put_signed-in-I32s
+read_element-returns-in_err-put_signed-in-I32s t c =
+    let p = err_from_is_err_and c.from_residual-in_err-put_signed-in-I32s.result c.from_residual-in_err-put_signed-in-I32s.ensures.1 in
+    rw (p.1, p.2) (signed_joined lists.I32s compact.i32_type compact.i32_item view-i32s c.args.depth c.args.values c.in-I32s.numbers (left c.args.cut.now) (left c.put_signed-in-I32s.new.cut) (Err c.in_err-put_signed-in-I32s.field-0.0) c.in-I32s.is refl c.in_err-put_signed-in-I32s.ensures.put c.in_err-put_signed-in-I32s.ensures.fault)
 
-pub read_element-returns-in_ok-push-in-Sets : goal.read_element-returns-in_ok-push-in-Sets
-read_element-returns-in_ok-push-in-Sets t c =
-    let x = c.in_ok-read_elements-in-Sets in
-    one_joined lists.Sets compact.set_type as_set view-sets c.args.depth c.args.values c.in-Sets.sets c.push-in-Sets.new.self x.field-0 (left c.args.cut.now) (left c.read_elements-in-Sets.new.cut) c.in-Sets.is
-    (set_got c.args.depth (left c.args.cut.now) (left c.read_elements-in-Sets.new.cut) (elements_view x.field-0) x.ensures)
-    c.in_ok-push-in-Sets.ensures.items
+pub read_element-returns-in_ok-put_signed-in-I64s : goal.read_element-returns-in_ok-put_signed-in-I64s
+read_element-returns-in_ok-put_signed-in-I64s t c =
+    signed_joined lists.I64s compact.i64_type compact.i64_item view-i64s c.args.depth c.args.values c.in-I64s.numbers (left c.args.cut.now) (left c.put_signed-in-I64s.new.cut) (Ok c.in_ok-put_signed-in-I64s.field-0) c.in-I64s.is refl c.in_ok-put_signed-in-I64s.ensures.put c.in_ok-put_signed-in-I64s.ensures.fault
 
-pub read_element-returns-in_ok-push-in-Maps : goal.read_element-returns-in_ok-push-in-Maps
-read_element-returns-in_ok-push-in-Maps t c =
-    let x = c.in_ok-read_map-in-Maps in
-    one_joined lists.Maps compact.map_type map_view view-maps c.args.depth c.args.values c.in-Maps.maps c.push-in-Maps.new.self x.field-0 (left c.args.cut.now) (left c.read_map.new.cut) c.in-Maps.is
-    (map_is_inside c.args.depth (left c.args.cut.now) ∙ x.ensures)
-    c.in_ok-push-in-Maps.ensures.items
+pub read_element-returns-in_err-put_signed-in-I64s : goal.read_element-returns-in_err-put_signed-in-I64s
+read_element-returns-in_err-put_signed-in-I64s t c =
+    let p = err_from_is_err_and c.from_residual-in_err-put_signed-in-I64s.result c.from_residual-in_err-put_signed-in-I64s.ensures.1 in
+    rw (p.1, p.2) (signed_joined lists.I64s compact.i64_type compact.i64_item view-i64s c.args.depth c.args.values c.in-I64s.numbers (left c.args.cut.now) (left c.put_signed-in-I64s.new.cut) (Err c.in_err-put_signed-in-I64s.field-0.0) c.in-I64s.is refl c.in_err-put_signed-in-I64s.ensures.put c.in_err-put_signed-in-I64s.ensures.fault)
 
-pub read_element-returns-in_ok-push-in-Structs : goal.read_element-returns-in_ok-push-in-Structs
-read_element-returns-in_ok-push-in-Structs t c =
-    let x = c.in_ok-read_tree-in-Structs in
-    one_joined lists.Structs compact.struct_type as_struct view-structs c.args.depth c.args.values c.in-Structs.structs c.push-in-Structs.new.self x.field-0 (left c.args.cut.now) (left c.read_tree.new.cut) c.in-Structs.is
-    (struct_got c.args.depth (left c.args.cut.now) (left c.read_tree.new.cut) (tree_view x.field-0) x.ensures)
-    c.in_ok-push-in-Structs.ensures.items
+pub read_element-returns-in_ok-put_behind-in-Doubles : goal.read_element-returns-in_ok-put_behind-in-Doubles
+read_element-returns-in_ok-put_behind-in-Doubles t c =
+    behind_joined lists.Doubles compact.double_type compact.double_item view-doubles c.args.depth c.args.values c.in-Doubles.doubles (left c.args.cut.now) (left c.next_double.new.cut) c.next_double.result (Ok c.in_ok-put_behind-in-Doubles.field-0) c.in-Doubles.is
+    (item_reads (λ b. b) compact.double_item (bytes_of compact.malformed 8 (left c.args.cut.now)) (left c.next_double.new.cut) c.next_double.result c.next_double.ensures)
+    c.in_ok-put_behind-in-Doubles.ensures.put c.in_ok-put_behind-in-Doubles.ensures.want c.in_ok-put_behind-in-Doubles.ensures.fault
 
-pub read_element-returns-in_err-read_elements-in-Lists : goal.read_element-returns-in_err-read_elements-in-Lists
-read_element-returns-in_err-read_elements-in-Lists t c =
-    let p = err_from_is_err_and c.from_residual-in_err-read_elements-in-Lists.result c.from_residual-in_err-read_elements-in-Lists.ensures.1 in
-    let e = c.in_err-read_elements-in-Lists.field-0.0 in
-    rw (p.1, p.2) (none_joined lists.Lists compact.list_type as_list view-lists c.args.depth c.args.values c.in-Lists.lists (left c.args.cut.now) e c.in-Lists.is (list_refused c.args.depth (left c.args.cut.now) e c.in_err-read_elements-in-Lists.ensures))
+pub read_element-returns-in_err-put_behind-in-Doubles : goal.read_element-returns-in_err-put_behind-in-Doubles
+read_element-returns-in_err-put_behind-in-Doubles t c =
+    let p = err_from_is_err_and c.from_residual-in_err-put_behind-in-Doubles.result c.from_residual-in_err-put_behind-in-Doubles.ensures.1 in
+    rw (p.1, p.2) (behind_joined lists.Doubles compact.double_type compact.double_item view-doubles c.args.depth c.args.values c.in-Doubles.doubles (left c.args.cut.now) (left c.next_double.new.cut) c.next_double.result (Err c.in_err-put_behind-in-Doubles.field-0.0) c.in-Doubles.is
+    (item_reads (λ b. b) compact.double_item (bytes_of compact.malformed 8 (left c.args.cut.now)) (left c.next_double.new.cut) c.next_double.result c.next_double.ensures)
+    c.in_err-put_behind-in-Doubles.ensures.put c.in_err-put_behind-in-Doubles.ensures.want c.in_err-put_behind-in-Doubles.ensures.fault)
 
-pub read_element-returns-in_err-read_elements-in-Sets : goal.read_element-returns-in_err-read_elements-in-Sets
-read_element-returns-in_err-read_elements-in-Sets t c =
-    let p = err_from_is_err_and c.from_residual-in_err-read_elements-in-Sets.result c.from_residual-in_err-read_elements-in-Sets.ensures.1 in
-    let e = c.in_err-read_elements-in-Sets.field-0.0 in
-    rw (p.1, p.2) (none_joined lists.Sets compact.set_type as_set view-sets c.args.depth c.args.values c.in-Sets.sets (left c.args.cut.now) e c.in-Sets.is (set_refused c.args.depth (left c.args.cut.now) e c.in_err-read_elements-in-Sets.ensures))
+pub read_element-returns-in_ok-put_behind-in-Binaries : goal.read_element-returns-in_ok-put_behind-in-Binaries
+read_element-returns-in_ok-put_behind-in-Binaries t c =
+    behind_joined lists.Binaries compact.binary_type lent_binary view-binaries c.args.depth c.args.values c.in-Binaries.binaries (left c.args.cut.now) (left c.next_binary.new.cut) c.next_binary.result (Ok c.in_ok-put_behind-in-Binaries.field-0) c.in-Binaries.is
+    (item_reads (λ b. b.now) compact.binary_item (compact.binary (left c.args.cut.now)) (left c.next_binary.new.cut) c.next_binary.result c.next_binary.ensures)
+    c.in_ok-put_behind-in-Binaries.ensures.put c.in_ok-put_behind-in-Binaries.ensures.want c.in_ok-put_behind-in-Binaries.ensures.fault
 
-pub read_element-returns-in_err-read_map-in-Maps : goal.read_element-returns-in_err-read_map-in-Maps
-read_element-returns-in_err-read_map-in-Maps t c =
-    let p = err_from_is_err_and c.from_residual-in_err-read_map-in-Maps.result c.from_residual-in_err-read_map-in-Maps.ensures.1 in
-    let e = c.in_err-read_map-in-Maps.field-0.0 in
-    rw (p.1, p.2) (none_joined lists.Maps compact.map_type map_view view-maps c.args.depth c.args.values c.in-Maps.maps (left c.args.cut.now) e c.in-Maps.is (map_refused c.args.depth (left c.args.cut.now) e c.in_err-read_map-in-Maps.ensures))
+pub read_element-returns-in_err-put_behind-in-Binaries : goal.read_element-returns-in_err-put_behind-in-Binaries
+read_element-returns-in_err-put_behind-in-Binaries t c =
+    let p = err_from_is_err_and c.from_residual-in_err-put_behind-in-Binaries.result c.from_residual-in_err-put_behind-in-Binaries.ensures.1 in
+    rw (p.1, p.2) (behind_joined lists.Binaries compact.binary_type lent_binary view-binaries c.args.depth c.args.values c.in-Binaries.binaries (left c.args.cut.now) (left c.next_binary.new.cut) c.next_binary.result (Err c.in_err-put_behind-in-Binaries.field-0.0) c.in-Binaries.is
+    (item_reads (λ b. b.now) compact.binary_item (compact.binary (left c.args.cut.now)) (left c.next_binary.new.cut) c.next_binary.result c.next_binary.ensures)
+    c.in_err-put_behind-in-Binaries.ensures.put c.in_err-put_behind-in-Binaries.ensures.want c.in_err-put_behind-in-Binaries.ensures.fault)
 
-pub read_element-returns-in_err-read_tree-in-Structs : goal.read_element-returns-in_err-read_tree-in-Structs
-read_element-returns-in_err-read_tree-in-Structs t c =
-    let p = err_from_is_err_and c.from_residual-in_err-read_tree-in-Structs.result c.from_residual-in_err-read_tree-in-Structs.ensures.1 in
-    let e = c.in_err-read_tree-in-Structs.field-0.0 in
-    rw (p.1, p.2) (none_joined lists.Structs compact.struct_type as_struct view-structs c.args.depth c.args.values c.in-Structs.structs (left c.args.cut.now) e c.in-Structs.is (struct_refused c.args.depth (left c.args.cut.now) e c.in_err-read_tree-in-Structs.ensures))
+pub read_element-returns-in_ok-put_behind-in-Lists : goal.read_element-returns-in_ok-put_behind-in-Lists
+read_element-returns-in_ok-put_behind-in-Lists t c =
+    behind_joined lists.Lists compact.list_type as_list view-lists c.args.depth c.args.values c.in-Lists.lists (left c.args.cut.now) (left c.read_elements-list.new.cut) c.read_elements-list.result (Ok c.in_ok-put_behind-in-Lists.field-0) c.in-Lists.is
+    (list_reads c.args.depth (left c.args.cut.now) (left c.read_elements-list.new.cut) c.read_elements-list.result c.read_elements-list.ensures)
+    c.in_ok-put_behind-in-Lists.ensures.put c.in_ok-put_behind-in-Lists.ensures.want c.in_ok-put_behind-in-Lists.ensures.fault
+
+pub read_element-returns-in_err-put_behind-in-Lists : goal.read_element-returns-in_err-put_behind-in-Lists
+read_element-returns-in_err-put_behind-in-Lists t c =
+    let p = err_from_is_err_and c.from_residual-in_err-put_behind-in-Lists.result c.from_residual-in_err-put_behind-in-Lists.ensures.1 in
+    rw (p.1, p.2) (behind_joined lists.Lists compact.list_type as_list view-lists c.args.depth c.args.values c.in-Lists.lists (left c.args.cut.now) (left c.read_elements-list.new.cut) c.read_elements-list.result (Err c.in_err-put_behind-in-Lists.field-0.0) c.in-Lists.is
+    (list_reads c.args.depth (left c.args.cut.now) (left c.read_elements-list.new.cut) c.read_elements-list.result c.read_elements-list.ensures)
+    c.in_err-put_behind-in-Lists.ensures.put c.in_err-put_behind-in-Lists.ensures.want c.in_err-put_behind-in-Lists.ensures.fault)
+
+pub read_element-returns-in_ok-put_behind-in-Sets : goal.read_element-returns-in_ok-put_behind-in-Sets
+read_element-returns-in_ok-put_behind-in-Sets t c =
+    behind_joined lists.Sets compact.set_type as_set view-sets c.args.depth c.args.values c.in-Sets.sets (left c.args.cut.now) (left c.read_elements-set.new.cut) c.read_elements-set.result (Ok c.in_ok-put_behind-in-Sets.field-0) c.in-Sets.is
+    (set_reads c.args.depth (left c.args.cut.now) (left c.read_elements-set.new.cut) c.read_elements-set.result c.read_elements-set.ensures)
+    c.in_ok-put_behind-in-Sets.ensures.put c.in_ok-put_behind-in-Sets.ensures.want c.in_ok-put_behind-in-Sets.ensures.fault
+
+pub read_element-returns-in_err-put_behind-in-Sets : goal.read_element-returns-in_err-put_behind-in-Sets
+read_element-returns-in_err-put_behind-in-Sets t c =
+    let p = err_from_is_err_and c.from_residual-in_err-put_behind-in-Sets.result c.from_residual-in_err-put_behind-in-Sets.ensures.1 in
+    rw (p.1, p.2) (behind_joined lists.Sets compact.set_type as_set view-sets c.args.depth c.args.values c.in-Sets.sets (left c.args.cut.now) (left c.read_elements-set.new.cut) c.read_elements-set.result (Err c.in_err-put_behind-in-Sets.field-0.0) c.in-Sets.is
+    (set_reads c.args.depth (left c.args.cut.now) (left c.read_elements-set.new.cut) c.read_elements-set.result c.read_elements-set.ensures)
+    c.in_err-put_behind-in-Sets.ensures.put c.in_err-put_behind-in-Sets.ensures.want c.in_err-put_behind-in-Sets.ensures.fault)
+
+pub read_element-returns-in_ok-put_behind-in-Maps : goal.read_element-returns-in_ok-put_behind-in-Maps
+read_element-returns-in_ok-put_behind-in-Maps t c =
+    behind_joined lists.Maps compact.map_type map_view view-maps c.args.depth c.args.values c.in-Maps.maps (left c.args.cut.now) (left c.read_map-map.new.cut) c.read_map-map.result (Ok c.in_ok-put_behind-in-Maps.field-0) c.in-Maps.is
+    (map_reads c.args.depth (left c.args.cut.now) (left c.read_map-map.new.cut) c.read_map-map.result c.read_map-map.ensures)
+    c.in_ok-put_behind-in-Maps.ensures.put c.in_ok-put_behind-in-Maps.ensures.want c.in_ok-put_behind-in-Maps.ensures.fault
+
+pub read_element-returns-in_err-put_behind-in-Maps : goal.read_element-returns-in_err-put_behind-in-Maps
+read_element-returns-in_err-put_behind-in-Maps t c =
+    let p = err_from_is_err_and c.from_residual-in_err-put_behind-in-Maps.result c.from_residual-in_err-put_behind-in-Maps.ensures.1 in
+    rw (p.1, p.2) (behind_joined lists.Maps compact.map_type map_view view-maps c.args.depth c.args.values c.in-Maps.maps (left c.args.cut.now) (left c.read_map-map.new.cut) c.read_map-map.result (Err c.in_err-put_behind-in-Maps.field-0.0) c.in-Maps.is
+    (map_reads c.args.depth (left c.args.cut.now) (left c.read_map-map.new.cut) c.read_map-map.result c.read_map-map.ensures)
+    c.in_err-put_behind-in-Maps.ensures.put c.in_err-put_behind-in-Maps.ensures.want c.in_err-put_behind-in-Maps.ensures.fault)
+
+pub read_element-returns-in_ok-put_behind-in-Structs : goal.read_element-returns-in_ok-put_behind-in-Structs
+read_element-returns-in_ok-put_behind-in-Structs t c =
+    behind_joined lists.Structs compact.struct_type as_struct view-structs c.args.depth c.args.values c.in-Structs.structs (left c.args.cut.now) (left c.read_tree-tree.new.cut) c.read_tree-tree.result (Ok c.in_ok-put_behind-in-Structs.field-0) c.in-Structs.is
+    (struct_reads c.args.depth (left c.args.cut.now) (left c.read_tree-tree.new.cut) c.read_tree-tree.result c.read_tree-tree.ensures)
+    c.in_ok-put_behind-in-Structs.ensures.put c.in_ok-put_behind-in-Structs.ensures.want c.in_ok-put_behind-in-Structs.ensures.fault
+
+pub read_element-returns-in_err-put_behind-in-Structs : goal.read_element-returns-in_err-put_behind-in-Structs
+read_element-returns-in_err-put_behind-in-Structs t c =
+    let p = err_from_is_err_and c.from_residual-in_err-put_behind-in-Structs.result c.from_residual-in_err-put_behind-in-Structs.ensures.1 in
+    rw (p.1, p.2) (behind_joined lists.Structs compact.struct_type as_struct view-structs c.args.depth c.args.values c.in-Structs.structs (left c.args.cut.now) (left c.read_tree-tree.new.cut) c.read_tree-tree.result (Err c.in_err-put_behind-in-Structs.field-0.0) c.in-Structs.is
+    (struct_reads c.args.depth (left c.args.cut.now) (left c.read_tree-tree.new.cut) c.read_tree-tree.result c.read_tree-tree.ensures)
+    c.in_err-put_behind-in-Structs.ensures.put c.in_err-put_behind-in-Structs.ensures.want c.in_err-put_behind-in-Structs.ensures.fault)
 
 -- ---- the value of a field
 
