@@ -72,6 +72,7 @@ pub fn bind(alloc: Global, schema: &Schema, query: &Query<'_>) -> Result<Plan, B
         leaves: &[],
     };
     let parts = binder.parts(query, &mut first)?;
+    let parts = Box::new(alloc, parts)?;
     let levels = levels_of(alloc, schema)?;
     note_rules(&levels, &parts, &mut first);
     match first.fault {

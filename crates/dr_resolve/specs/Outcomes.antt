@@ -62,6 +62,10 @@ bound_in b e = meant.bind_expression (fields_in b) (expression_view e)
 abbrev pub Binds : {B C : Type 0} → Binder → (Fields → List Leaf → B → C → Type 0) → FirstFault → FirstFault → Checked B → Option C → Type 0
 Binds b Is before now c o = BindsAs (Is (fields_in b) (leaves_in b)) (first_view before) (first_view now) c o
 
+-- a part of which nothing is noted, whatever the first fault so far
+abbrev pub BindsQuietly : {B C : Type 0} → Binder → (Fields → List Leaf → B → C → Type 0) → Checked B → Option C → Type 0
+BindsQuietly b Is c o = (before : Option meant.BindFault) → BindsAs (Is (fields_in b) (leaves_in b)) before before c o
+
 -- ---- paths
 
 abbrev pub IsPath : meant.BoundPath → BoundPath → Type 0

@@ -1,11 +1,15 @@
 //! Binding expressions: each part has a type, and its paths become leaves of the schema.
 
 ghost use Rattle.std.specs.Prelude.{◌≡◌, ◌++◌, [], true, false, List, IfOk};
+ghost use Rattle.dr_meaning.specs.BoundExpression as meant;
 ghost use Rattle.dr_meaning.specs.Path.{Leaf};
+ghost use Rattle.dr_meaning.specs.Syntax.{number_literal, path as meant_path, text_literal, truth_literal};
 ghost use Rattle.dr_plan.specs.Fitting.{expr_fits};
+ghost use Rattle.dr_sql.specs.TokenViews.{undoubled};
+ghost use Rattle.dr_sql.specs.Views.{path_view};
 ghost use Rattle.dr_resolve.specs.Faults.{first_view};
 ghost use Rattle.dr_resolve.specs.Bound.{IsExpression};
-ghost use Rattle.dr_resolve.specs.Outcomes.{Binds, BindsBy, BindsByBoth, MadeAt, bound_in};
+ghost use Rattle.dr_resolve.specs.Outcomes.{Binds, BindsBy, BindsByBoth, BindsQuietly, MadeAt, bound_in, fields_in};
 ghost use Rattle.dr_resolve.specs.Operators.{unary_rule, binary_rule};
 
 use crate::bound::BoundExpression;
@@ -15,7 +19,7 @@ use crate::operators::{Binary, Unary};
 use dr_memory::NoMemory;
 use dr_paths::BoundPath;
 use dr_plan::{Expr, Number, TextOf, Truth};
-use dr_sql::{Expression, unquoted};
+use dr_sql::{Expression, Numeral, Path, unquoted};
 use std::alloc::Global;
 
 /// A literal, which has no paths.
@@ -31,18 +35,6 @@ fn literal(alloc: Global, expression: Expr) -> Result<BoundExpression, NoMemory>
         paths: Vec::new(alloc),
         is_path: false,
     })
-}
-
-/// A number that was written, which is of 64 bits.
-///
-/// Errors: want of memory alone.
-fn number_literal(alloc: Global, value: i64) -> Result<BoundExpression, NoMemory>
-    ensures expression { IfOk result (λ x. x.expression.value ≡ Expr.Number (Number.Literal value)) }
-    ensures fits { IfOk result (λ x. (ls : List Leaf) → expr_fits ls x.expression.value ≡ true) }
-    ensures paths { IfOk result (λ x. x.paths.items ≡ []) }
-    ensures alone { IfOk result (λ x. x.is_path ≡ false) }
-{
-    literal(alloc, Expr::Number(Number::Literal(value)))
 }
 
 /// What an operator at a place has made of its operands, whose paths these are. Where they are of wrong types, that is
@@ -141,21 +133,10 @@ impl Binder<'_> {
             (bound_in self.entry expression.now)) }
     {
         match expression {
-            Expression::Number(number) => {
-                Ok(Some(number_literal(self.alloc, number.value as i64)?))
-            }
-            Expression::Text(text) => {
-                let text = TextOf::Literal(unquoted(self.alloc, text)?);
-                Ok(Some(literal(self.alloc, Expr::Text(text))?))
-            }
-            Expression::Truth(truth) => {
-                let truth = Expr::Truth(Truth::Literal(*truth));
-                Ok(Some(literal(self.alloc, truth)?))
-            }
-            Expression::Path(path) => match self.path(path, first)? {
-                None => Ok(None),
-                Some(path) => Ok(Some(self.value_at(path)?)),
-            },
+            Expression::Number(number) => self.number(number),
+            Expression::Text(text) => self.text(text),
+            Expression::Truth(truth) => self.truth(*truth),
+            Expression::Path(path) => self.path_value(path, first),
             Expression::Negative(place, e) => self.one(*place, Unary::Negative, e, first),
             Expression::Like(place, e, text) => self.one(*place, Unary::Like(text), e, first),
             Expression::Contains(place, e, text) => self.one(
@@ -180,6 +161,56 @@ impl Binder<'_> {
                 first,
             ),
             Expression::Or(place, left, right) => self.two(*place, Binary::Or, left, right, first),
+        }
+    }
+
+    /// A number that was written.
+    ///
+    /// Errors: want of memory alone.
+    fn number(self, number: &Numeral) -> Result<Option<BoundExpression>, NoMemory>
+        ensures { IfOk result (BindsQuietly self.entry IsExpression
+            (meant.bind_expression (fields_in self.entry) (number_literal (number.now).value))) }
+    {
+        let number = Number::Literal(number.value as i64);
+        Ok(Some(literal(self.alloc, Expr::Number(number))?))
+    }
+
+    /// A text that was written, as it stands between its quotes.
+    ///
+    /// Errors: want of memory alone.
+    fn text(self, text: &str) -> Result<Option<BoundExpression>, NoMemory>
+        ensures { IfOk result (BindsQuietly self.entry IsExpression
+            (meant.bind_expression (fields_in self.entry) (text_literal (undoubled text.now)))) }
+    {
+        let text = TextOf::Literal(unquoted(self.alloc, text)?);
+        Ok(Some(literal(self.alloc, Expr::Text(text))?))
+    }
+
+    /// A truth value that was written.
+    ///
+    /// Errors: want of memory alone.
+    fn truth(self, truth: bool) -> Result<Option<BoundExpression>, NoMemory>
+        ensures { IfOk result (BindsQuietly self.entry IsExpression
+            (meant.bind_expression (fields_in self.entry) (truth_literal truth))) }
+    {
+        let truth = Truth::Literal(truth);
+        Ok(Some(literal(self.alloc, Expr::Truth(truth))?))
+    }
+
+    /// The value of a path. What keeps it from being bound is noted.
+    ///
+    /// Errors: want of memory alone.
+    fn path_value(
+        self,
+        path: &Path<'_>,
+        first: &mut FirstFault,
+    ) -> Result<Option<BoundExpression>, NoMemory>
+        ensures { IfOk result (Binds self.entry IsExpression first.old first.new
+            (meant.bind_expression (fields_in self.entry) (meant_path (path_view path.now)))) }
+    {
+        match self.path(path, first)? {
+            None => Ok(None),
+            Some(path) => Ok(Some(self.value_at(path)?)),
         }
     }
 

@@ -7,8 +7,8 @@ pub mod ParseLemmas
 pub mod ListLemmas
 -- a text cut at a single quote
 pub mod QuoteLemmas
--- the levels of operators
-pub mod LevelLemmas
+-- the precedences of operators
+pub mod PrecedenceLemmas
 -- which production is read
 pub mod ReadLemmas
 -- what was read and is boxed

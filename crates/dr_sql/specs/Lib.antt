@@ -5,4 +5,4 @@ pub mod Faults
 pub mod Reads
 pub mod Tests
 pub mod Lexing
-pub mod Levels
+pub mod Precedences

@@ -83,9 +83,9 @@ abbrev pub maybe_lent : Option (Bor (List ℕ)) → Option (List ℕ)
 maybe_lent n = option_map lent n
 
 abbrev pub term_view : Term → syntax.TermSyntax
-term_view (Term.Expression e) = syntax.expression (expression_view e)
+term_view (Term.Expression e) = syntax.expression (expression_view e.value)
 term_view (Term.CountRows w) = syntax.count_rows (maybe_within w)
-term_view (Term.Aggregate a e w) = syntax.aggregate (aggregate_view a) (expression_view e) (maybe_within w)
+term_view (Term.Aggregate a e w) = syntax.aggregate (aggregate_view a) (expression_view e.value) (maybe_within w)
 
 abbrev pub item_view : Item → syntax.ItemSyntax
 item_view i = record { place = i.place; term = term_view i.term; name = maybe_lent i.name }
@@ -100,7 +100,7 @@ abbrev pub table_view : Table → syntax.NameSyntax
 table_view t = record { place = t.place; name = t.name.now }
 
 abbrev pub condition_view : Condition → syntax.ConditionSyntax
-condition_view c = record { place = c.place; expression = expression_view c.expression }
+condition_view c = record { place = c.place; expression = expression_view c.expression.value }
 
 abbrev pub maybe_condition : Option Condition → Option syntax.ConditionSyntax
 maybe_condition c = option_map condition_view c

@@ -3,14 +3,14 @@
 ghost use Rattle.std.specs.Prelude.{◌≡◌, IfOk};
 ghost use Rattle.dr_meaning.specs.Syntax as syntax;
 ghost use Rattle.dr_sql.specs.Boxes.{Built, boxed_view};
-ghost use Rattle.dr_sql.specs.Levels.{joined_view};
+ghost use Rattle.dr_sql.specs.Precedences.{joined_view};
 ghost use Rattle.dr_sql.specs.Tests.{shape, tested, text_test_view};
 ghost use Rattle.dr_sql.specs.TokenViews.{undoubled};
 ghost use Rattle.dr_sql.specs.Views.{expression_view};
 
 use crate::expression::Expression;
 use crate::fault::QueryFault;
-use crate::level::Joining;
+use crate::precedence::Joining;
 use crate::word_test::{TextTest, WordTest};
 use dr_memory::NoMemory;
 use std::alloc::Global;

@@ -2,8 +2,9 @@
 
 ghost use Rattle.std.specs.Prelude.{◌≡◌, option_map, option_and_then};
 ghost use Rattle.dr_meaning.specs.Parse as parse;
+ghost use Rattle.dr_sql.specs.Boxes.{boxed_view};
 ghost use Rattle.dr_sql.specs.Reads.{unread, Reads};
-ghost use Rattle.dr_sql.specs.Views.{aggregate_view, expression_view, item_view, items_view, maybe_lent, maybe_within, term_view};
+ghost use Rattle.dr_sql.specs.Views.{aggregate_view, item_view, items_view, maybe_lent, maybe_within, term_view};
 
 use crate::cursor::Cursor;
 use crate::expression::Expression;
@@ -49,15 +50,18 @@ fn begins_item(cursor: &Cursor<'_, '_>) -> bool
 pub fn whole_expression<'a>(
     alloc: Global,
     cursor: &mut Cursor<'_, 'a>,
-) -> Result<Expression<'a>, QueryFault>
-    ensures { Reads expression_view (parse.whole_expression (unread cursor.old)) (unread cursor.new) result }
+) -> Result<Box<Expression<'a>>, QueryFault>
+    ensures { Reads boxed_view (parse.whole_expression (unread cursor.old)) (unread cursor.new) result }
 {
     expression(alloc, cursor, GREATEST_NESTING)
 }
 
 /// expr in the parenthesis of an aggregate, which is a nesting
-fn argument<'a>(alloc: Global, cursor: &mut Cursor<'_, 'a>) -> Result<Expression<'a>, QueryFault>
-    ensures { Reads expression_view (parse.argument (unread cursor.old)) (unread cursor.new) result }
+fn argument<'a>(
+    alloc: Global,
+    cursor: &mut Cursor<'_, 'a>,
+) -> Result<Box<Expression<'a>>, QueryFault>
+    ensures { Reads boxed_view (parse.argument (unread cursor.old)) (unread cursor.new) result }
 {
     expression(alloc, cursor, GREATEST_NESTING - 1)
 }

@@ -1,21 +1,20 @@
-//! Reading expressions, by the productions of the grammar; those that join operands are one function, by levels.
+//! Reading expressions, by the productions of the grammar; those that join operands are one function, by precedences.
 //! `depth` says how many nestings may still be opened.
 
 ghost use Rattle.std.specs.Prelude.{◌≡◌, suc, IfOk, IfErr};
 ghost use Rattle.dr_meaning.specs.Parse as parse;
 ghost use Rattle.dr_sql.specs.Boxes.{boxed_view};
 ghost use Rattle.dr_sql.specs.Reads.{unread, Reads};
-ghost use Rattle.dr_sql.specs.Views.{expression_view};
-ghost use Rattle.dr_sql.specs.Levels.{level_of, nesting_view, operand_of};
+ghost use Rattle.dr_sql.specs.Precedences.{joined_of, nesting_view, operand_of};
 
 use crate::building::boxed;
 use crate::cursor::Cursor;
 use crate::expression::Expression;
 use crate::fault::{QueryFault, QueryProblem};
-use crate::level::{Joining, Level};
 use crate::nesting::Nesting;
 use crate::operators::next_comparison;
 use crate::paths::path;
+use crate::precedence::{Joining, Precedence};
 use crate::token::Token;
 use crate::word::{Sign, Word};
 use crate::word_tests::word_test;
@@ -41,60 +40,59 @@ pub fn expression<'a>(
     alloc: Global,
     cursor: &mut Cursor<'_, 'a>,
     depth: u32,
-) -> Result<Expression<'a>, QueryFault>
-    ensures { Reads expression_view (parse.expression_of (parse.nested depth) (unread cursor.old))
+) -> Result<Box<Expression<'a>>, QueryFault>
+    ensures { Reads boxed_view (parse.expression_of (parse.nested depth) (unread cursor.old))
         (unread cursor.new) result }
 {
-    let expression = joined(alloc, cursor, Level::Or, depth)?;
-    Ok(Box::into_inner(expression))
+    joined(alloc, cursor, Precedence::Or, depth)
 }
 
-/// Operands of a level, joined by its operators, as in and = not {AND not}, sum = prod {("+"|"-") prod} and
+/// Operands of a precedence, joined by its operators, as in and = not {AND not}, sum = prod {("+"|"-") prod} and
 /// prod = unary {"*" unary}.
 #[cycle(operands)]
 fn joined<'a>(
     alloc: Global,
     cursor: &mut Cursor<'_, 'a>,
-    level: Level,
+    precedence: Precedence,
     depth: u32,
 ) -> Result<Box<Expression<'a>>, QueryFault>
-    ensures { Reads boxed_view (level_of level (parse.nested depth) (unread cursor.old))
+    ensures { Reads boxed_view (joined_of precedence (parse.nested depth) (unread cursor.old))
         (unread cursor.new) result }
 {
-    let mut left = operand(alloc, cursor, level, depth)?;
+    let mut left = operand(alloc, cursor, precedence, depth)?;
     'operators: for _ in 0..cursor.left() {
-        let Some(joining) = level.next(cursor) else {
+        let Some(joining) = precedence.next(cursor) else {
             break;
         };
         let place = cursor.operator()?;
-        let right = operand(alloc, cursor, level, depth)?;
+        let right = operand(alloc, cursor, precedence, depth)?;
         left = boxed(alloc, Expression::joined(place, joining, left, right))?;
     }
     Ok(left)
 }
 
-/// An operand of a level, as in not = NOT not | test and unary = "-" unary | prim.
+/// An operand of a precedence, as in not = NOT not | test and unary = "-" unary | prim.
 #[cycle(operands)]
 fn operand<'a>(
     alloc: Global,
     cursor: &mut Cursor<'_, 'a>,
-    level: Level,
+    precedence: Precedence,
     depth: u32,
 ) -> Result<Box<Expression<'a>>, QueryFault>
-    ensures { Reads boxed_view (operand_of level (parse.nested depth) (unread cursor.old))
+    ensures { Reads boxed_view (operand_of precedence (parse.nested depth) (unread cursor.old))
         (unread cursor.new) result }
 {
-    match level {
-        Level::Or => joined(alloc, cursor, Level::And, depth),
-        Level::And if cursor.next_is_word(Word::Not) => {
+    match precedence {
+        Precedence::Or => joined(alloc, cursor, Precedence::And, depth),
+        Precedence::And if cursor.next_is_word(Word::Not) => {
             nested(alloc, cursor, Nesting::Not, depth)
         }
-        Level::And => test(alloc, cursor, depth),
-        Level::Sum => joined(alloc, cursor, Level::Product, depth),
-        Level::Product if cursor.next_is_sign(Sign::Minus) => {
+        Precedence::And => test(alloc, cursor, depth),
+        Precedence::Sum => joined(alloc, cursor, Precedence::Product, depth),
+        Precedence::Product if cursor.next_is_sign(Sign::Minus) => {
             nested(alloc, cursor, Nesting::Minus, depth)
         }
-        Level::Product => primary(alloc, cursor, depth),
+        Precedence::Product => primary(alloc, cursor, depth),
     }
 }
 
@@ -109,11 +107,11 @@ fn test<'a>(
     ensures { Reads boxed_view (parse.test_of (parse.nested depth) (unread cursor.old))
         (unread cursor.new) result }
 {
-    let left = joined(alloc, cursor, Level::Sum, depth)?;
+    let left = joined(alloc, cursor, Precedence::Sum, depth)?;
     match next_comparison(cursor) {
         Some(operator) => {
             let place = cursor.advance();
-            let right = joined(alloc, cursor, Level::Sum, depth)?;
+            let right = joined(alloc, cursor, Precedence::Sum, depth)?;
             let joining = Joining::Comparison(operator);
             boxed(alloc, Expression::joined(place, joining, left, right))
         }
@@ -174,18 +172,18 @@ fn nested<'a>(
     match nesting {
         Nesting::Parenthesis => {
             cursor.advance();
-            let inner = joined(alloc, cursor, Level::Or, inside)?;
+            let inner = joined(alloc, cursor, Precedence::Or, inside)?;
             cursor.sign(Sign::Close)?;
             Ok(inner)
         }
         Nesting::Not => {
             let place = cursor.advance();
-            let inner = operand(alloc, cursor, Level::And, inside)?;
+            let inner = operand(alloc, cursor, Precedence::And, inside)?;
             boxed(alloc, Expression::negation(place, inner))
         }
         Nesting::Minus => {
             let place = cursor.operator()?;
-            let inner = operand(alloc, cursor, Level::Product, inside)?;
+            let inner = operand(alloc, cursor, Precedence::Product, inside)?;
             boxed(alloc, Expression::negative(place, inner))
         }
     }

@@ -29,9 +29,9 @@ pub struct Within<'a> {
 /// What an item gives: an expression; `COUNT(*)`; an aggregate of an expression.
 #[derive(Drop)]
 pub enum Term<'a> {
-    Expression(Expression<'a>),
+    Expression(Box<Expression<'a>>),
     CountRows(Option<Within<'a>>),
-    Aggregate(Aggregate, Expression<'a>, Option<Within<'a>>),
+    Aggregate(Aggregate, Box<Expression<'a>>, Option<Within<'a>>),
 }
 
 /// An item, the name that AS gives it, and the place of its first token: of an aggregate, its word.
@@ -53,7 +53,7 @@ pub struct Table<'a> {
 #[derive(Drop)]
 pub struct Condition<'a> {
     pub place: usize,
-    pub expression: Expression<'a>,
+    pub expression: Box<Expression<'a>>,
 }
 
 /// SELECT items FROM table [WHERE condition] [GROUP BY keys]; without GROUP BY there are no keys.

@@ -12,6 +12,7 @@ returns-in_ok-value-in-Some-clause-first c =
     let ls = leaves_in c.args.self in
     let before = first_view c.args.first.now in
     let now = first_view c.truth_at.new.first in
-    let e = bind_expression fs (syntax.expression_view c.in-Some.condition.expression) in
+    let e = bind_expression fs (syntax.expression_view c.in-Some.condition.expression.value) in
     let t = then_check (of_type truth_type c.in-Some.condition.place) e in
-    rw c.in-Some.is (on_ok_if c.truth_at.result _ _ (λ o h. condition_noted fs ls t before now o (h fs ls e before c.in_ok-value-in-Some.ensures)) c.truth_at.ensures)
+    let value = rw c.deref.ensures at c.in_ok-value-in-Some.ensures in
+    rw c.in-Some.is (on_ok_if c.truth_at.result _ _ (λ o h. condition_noted fs ls t before now o (h fs ls e before value)) c.truth_at.ensures)

@@ -1,4 +1,4 @@
--- The levels of operators that join operands, and the nestings, in the definitions' words.
+-- The precedences of operators that join operands, and the nestings, in the definitions' words.
 use Rattle.std.specs.Prelude.{ℕ, Option, option_and_then, Box}
 use Rattle.std.specs.declared.alloc.Global.{Global}
 use Rattle.dr_meaning.specs.Tokens.{QueryToken}
@@ -6,32 +6,32 @@ use Rattle.dr_meaning.specs.Syntax.{ExpressionSyntax, disjunction, conjunction, 
 use Rattle.dr_meaning.specs.Parse as parse
 use Rattle.dr_sql.specs.Views.{arithmetic_view, comparison_view}
 use Rattle.dr_sql.specs.Boxes.{boxed_view}
-use Rattle.dr_sql.specs.declared.level.Level.{Level}
-use Rattle.dr_sql.specs.declared.level.Joining.{Joining}
+use Rattle.dr_sql.specs.declared.precedence.Precedence.{Precedence}
+use Rattle.dr_sql.specs.declared.precedence.Joining.{Joining}
 use Rattle.dr_sql.specs.declared.nesting.Nesting.{Nesting}
 use Rattle.dr_sql.specs.declared.expression.Expression.{Expression}
 
--- which tokens join operands of a level
-abbrev pub joining_of : Level → QueryToken → Option parse.Joining
-joining_of Level.Or = parse.or_in
-joining_of Level.And = parse.and_in
-joining_of Level.Sum = parse.sum_in
-joining_of Level.Product = parse.product_in
+-- which tokens join operands of a precedence
+abbrev pub joining_of : Precedence → QueryToken → Option parse.Joining
+joining_of Precedence.Or = parse.or_in
+joining_of Precedence.And = parse.and_in
+joining_of Precedence.Sum = parse.sum_in
+joining_of Precedence.Product = parse.product_in
 
--- what the operands of a level are
-abbrev pub operand_of : Level → parse.Inner → parse.Production ExpressionSyntax
-operand_of Level.Or = parse.and_of
-operand_of Level.And = parse.not_of
-operand_of Level.Sum = parse.product_of
-operand_of Level.Product = parse.unary
+-- what the operands of a precedence are
+abbrev pub operand_of : Precedence → parse.Inner → parse.Production ExpressionSyntax
+operand_of Precedence.Or = parse.and_of
+operand_of Precedence.And = parse.not_of
+operand_of Precedence.Sum = parse.product_of
+operand_of Precedence.Product = parse.unary
 
--- the operands of a level, joined by its operators
-abbrev pub level_of : Level → parse.Inner → parse.Production ExpressionSyntax
-level_of level inner = parse.operands (joining_of level) (operand_of level inner)
+-- the operands of a precedence, joined by its operators
+abbrev pub joined_of : Precedence → parse.Inner → parse.Production ExpressionSyntax
+joined_of precedence inner = parse.operands (joining_of precedence) (operand_of precedence inner)
 
--- the operator of a level that the next token is
-abbrev pub next_joining : Level → parse.Unread → Option parse.Joining
-next_joining level u = option_and_then (joining_of level) (parse.first_token u.tokens)
+-- the operator of a precedence that the next token is
+abbrev pub next_joining : Precedence → parse.Unread → Option parse.Joining
+next_joining precedence u = option_and_then (joining_of precedence) (parse.first_token u.tokens)
 
 -- from the place of an operator and its operands to their expression
 abbrev pub joining_view : Joining → parse.Joining

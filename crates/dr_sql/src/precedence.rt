@@ -1,8 +1,8 @@
-//! The levels of operators that join operands, and the operator of a level that the next token is.
+//! The precedences of operators that join operands, and the operator of a precedence that the next token is.
 
 ghost use Rattle.std.specs.Prelude.{◌≡◌, option_map};
 ghost use Rattle.dr_sql.specs.Reads.{unread};
-ghost use Rattle.dr_sql.specs.Levels.{joining_view, next_joining};
+ghost use Rattle.dr_sql.specs.Precedences.{joining_view, next_joining};
 
 use crate::cursor::Cursor;
 use crate::expression::{Arithmetic, Comparison};
@@ -11,7 +11,7 @@ use crate::word::{Sign, Word};
 
 /// How closely operators bind, the loosest first: OR; AND; `+` and `-`; `*`.
 #[derive(Clone, Copy)]
-pub enum Level {
+pub enum Precedence {
     Or,
     And,
     Sum,
@@ -27,19 +27,19 @@ pub enum Joining {
     Comparison(Comparison),
 }
 
-impl Level {
-    /// The operator of the level that the next token is.
+impl Precedence {
+    /// The operator of the precedence that the next token is.
     pub fn next(self, cursor: &Cursor<'_, '_>) -> Option<Joining>
         ensures { option_map joining_view result ≡ next_joining self (unread cursor.now) }
     {
         match self {
-            Level::Or if cursor.next_is_word(Word::Or) => Some(Joining::Or),
-            Level::And if cursor.next_is_word(Word::And) => Some(Joining::And),
-            Level::Sum => match next_of_sum(cursor) {
+            Precedence::Or if cursor.next_is_word(Word::Or) => Some(Joining::Or),
+            Precedence::And if cursor.next_is_word(Word::And) => Some(Joining::And),
+            Precedence::Sum => match next_of_sum(cursor) {
                 Some(sign) => Some(Joining::Arithmetic(sign)),
                 None => None,
             },
-            Level::Product if cursor.next_is_sign(Sign::Star) => {
+            Precedence::Product if cursor.next_is_sign(Sign::Star) => {
                 Some(Joining::Arithmetic(Arithmetic::Times))
             }
             _ => None,
