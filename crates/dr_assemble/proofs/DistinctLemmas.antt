@@ -9,7 +9,7 @@ use Rattle.dr_meaning.specs.Path.{Step, same_path, begins_with, same_repetition,
 use Rattle.dr_meaning.specs.Record.{Node, through_first, through_first_if, through_later, through_later_if}
 use Rattle.dr_meaning.specs.Column.{Triplet, column}
 use Rattle.dr_meaning.proofs.Blocks.{same_repetition-true}
-use Rattle.dr_course.specs.Selection.{all_differ, differs as differs_from}
+use Rattle.dr_moves.specs.Selection.{all_differ, differs as differs_from}
 use Rattle.dr_assemble.specs.Restoring.{Strip, rests, columns_of}
 use Rattle.dr_assemble.specs.Distinct.{is_again, AreDistinct, no_more, kept, kept_in_vain, passed, differs}
 use Rattle.dr_assemble.specs.Ordered.{HeadsFrom, EachOrdered, OrderedIn}

@@ -5,7 +5,7 @@ ghost use Rattle.std.specs.List.{list_all};
 ghost use Rattle.dr_meaning.specs.Path.{is_leaf_path};
 ghost use Rattle.dr_nested.specs.Views.{fields_view};
 ghost use Rattle.dr_nested.specs.PathView.{lent_path, path_view, paths_view};
-ghost use Rattle.dr_course.specs.Selection as selection;
+ghost use Rattle.dr_moves.specs.Selection as selection;
 ghost use Rattle.dr_striper.specs.Striping.{leaves_of};
 ghost use Rattle.dr_striper.specs.Stripers.{striped_leaves};
 ghost use Rattle.dr_striper.specs.Leaves.{is_leaf};

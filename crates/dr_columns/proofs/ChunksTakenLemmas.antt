@@ -20,11 +20,11 @@ use Rattle.dr_plan.specs.Views.{aggregate_view}
 use Rattle.dr_plan.specs.declared.aggregate.Aggregate.{Aggregate}
 use Rattle.dr_scalar.specs.Leaves.{greatest}
 use Rattle.dr_condition.proofs.ReadRows.{same_paths}
-use Rattle.dr_puts.specs.Readings.{Reading, readings_of, puts_of_reading, puts_of_groups}
-use Rattle.dr_puts.specs.SourcesPut.{puts_of_sources, is_one_of, are_different}
-use Rattle.dr_puts.specs.Together.{PutTheSame}
-use Rattle.dr_puts.proofs.GroupPutLemmas.{source_groups_first}
-use Rattle.dr_puts.proofs.TogetherLemmas.{both_same, crossed}
+use Rattle.dr_partials.specs.Readings.{Reading, readings_of, puts_of_reading, puts_of_groups}
+use Rattle.dr_partials.specs.SourcesPut.{puts_of_sources, is_one_of, are_different}
+use Rattle.dr_partials.specs.Together.{PutTheSame}
+use Rattle.dr_partials.proofs.GroupPutLemmas.{source_groups_first}
+use Rattle.dr_partials.proofs.TogetherLemmas.{both_same, crossed}
 use Rattle.dr_beside.specs.Chunks.{HasColumns}
 use Rattle.dr_columns.specs.RecordRows.{AreBeside}
 use Rattle.dr_columns.specs.RowPuts.{paths_at}

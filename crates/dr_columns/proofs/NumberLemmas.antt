@@ -11,7 +11,7 @@ use Rattle.dr_meaning.specs.Record.{Value}
 use Rattle.dr_meaning.specs.Query.{GroupItem}
 use Rattle.dr_partials.specs.Partials.{Group}
 use Rattle.dr_partials.specs.Putting.{Put, put_group}
-use Rattle.dr_puts.specs.GroupPuts.{put_each}
+use Rattle.dr_partials.specs.GroupPuts.{put_each}
 use Rattle.dr_group.specs.Gathering.{Becomes, gatherings_of}
 use Rattle.dr_group.specs.Groups.{put_of, group_view}
 use Rattle.dr_group.specs.declared.group.Group as held

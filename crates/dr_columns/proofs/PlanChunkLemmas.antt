@@ -42,11 +42,11 @@ use Rattle.dr_group.specs.Groups.{put_of}
 use Rattle.dr_condition.proofs.LeavesBelow.{are_below, both_below, leaves_below}
 use Rattle.dr_condition.proofs.PartedLemmas.{no_greatest}
 use Rattle.dr_condition.proofs.ReadRows.{AreLeavesOf, plan_leaves_are}
-use Rattle.dr_puts.specs.ChunkPuts.{query_of_all}
-use Rattle.dr_puts.specs.Readings.{Reading, readings_of, puts_of_reading, puts_of_groups}
-use Rattle.dr_puts.specs.SourcesPut.{puts_of_sources, is_one_of}
-use Rattle.dr_puts.proofs.ChunkPutLemmas.{chunks_are_taken}
-use Rattle.dr_puts.proofs.TogetherLemmas.{all_of, past}
+use Rattle.dr_partials.specs.ChunkPuts.{query_of_all}
+use Rattle.dr_partials.specs.Readings.{Reading, readings_of, puts_of_reading, puts_of_groups}
+use Rattle.dr_partials.specs.SourcesPut.{puts_of_sources, is_one_of}
+use Rattle.dr_partials.proofs.ChunkPutLemmas.{chunks_are_taken}
+use Rattle.dr_partials.proofs.TogetherLemmas.{all_of, past}
 use Rattle.dr_beside.specs.Chunks.{HasColumns}
 use Rattle.dr_columns.specs.RowPuts.{paths_at}
 use Rattle.dr_columns.specs.Takings.{Take, aggregate_leaves, are_numbered, taken_at, same_leaf, takings_at, fires_at, fires_of, CanFireEach, first_numbers, fired_puts, record_puts, end_puts}

@@ -18,7 +18,7 @@ use Rattle.std.proofs.lemmas.Bool.{and_from}
 use Rattle.dr_partials.specs.PartialLaws.{all_related}
 use Rattle.dr_partials.specs.Putting.{Put, puts_of_rows}
 use Rattle.dr_partials.proofs.RowLemmas.{Each}
-use Rattle.dr_put_laws.specs.LastRead as last_read
+use Rattle.dr_made_laws.specs.LastRead as last_read
 use Rattle.dr_plan.specs.Fitting.{aggregate_fits, expr_fits, is_summed}
 use Rattle.dr_plan.specs.Views.{path_of, expr_view, aggregate_view}
 use Rattle.dr_plan.specs.declared.aggregate.Aggregate.{Aggregate}
@@ -28,7 +28,7 @@ use Rattle.dr_scalar.proofs.LeafPathLemmas.{leaves_are_paths}
 use Rattle.dr_condition.proofs.LeavesBelow.{are_below, both_below, leaves_below}
 use Rattle.dr_condition.proofs.ReadRows.{same_paths, rows_typed, AreLeavesOf}
 use Rattle.std.proofs.lemmas.List.{map-append}
-use Rattle.dr_puts.specs.Readings.{puts_of_reading, puts_of_groups}
+use Rattle.dr_partials.specs.Readings.{puts_of_reading, puts_of_groups}
 use Rattle.dr_beside.specs.Chunks.{HasColumns}
 use Rattle.dr_columns.specs.declared.source.Beside.{Beside}
 use Rattle.dr_columns.specs.Rows.{Row}

@@ -9,13 +9,13 @@ use Rattle.dr_meaning.specs.Path.{Step, Leaf, paths_of_leaves, is_leaf_path, beg
 use Rattle.dr_meaning.specs.Expression.{longest_chain, expression_chain, evaluate}
 use Rattle.dr_meaning.specs.AutomatonLaws.{AreInReadingOrder}
 use Rattle.dr_meaning.specs.Record.{Node}
-use Rattle.dr_course.specs.Selection.{all_differ}
+use Rattle.dr_moves.specs.Selection.{all_differ}
 use Rattle.dr_partials.specs.PartialLaws.{all_related}
 use Rattle.dr_partials.proofs.RelatedLemmas.{chains_begin}
 use Rattle.dr_partials.proofs.RowLemmas.{Each}
-use Rattle.dr_put_laws.specs.LastRead as last_read
-use Rattle.dr_put_laws.proofs.LastReadLemmas.{last_reads_all, longest_of_both}
-use Rattle.dr_put_laws.proofs.LeavesInOrderLemmas.{query_leaves_in_order}
+use Rattle.dr_made_laws.specs.LastRead as last_read
+use Rattle.dr_made_laws.proofs.LastReadLemmas.{last_reads_all, longest_of_both}
+use Rattle.dr_made_laws.proofs.LeavesInOrderLemmas.{query_leaves_in_order}
 use Rattle.dr_plan.specs.Views.{path_of, expr_view, aggregate_view}
 use Rattle.dr_plan.specs.declared.aggregate.Aggregate.{Aggregate}
 use Rattle.dr_scalar.specs.Leaves.{greatest}
@@ -23,7 +23,7 @@ use Rattle.dr_scalar.proofs.LeafPathLemmas.{leaves_are_paths}
 use Rattle.dr_condition.proofs.GreatestLemmas.{same_greatest}
 use Rattle.dr_condition.proofs.LeavesBelow.{are_below}
 use Rattle.dr_condition.proofs.ReadRows.{same_paths, below_paths, AreLeavesOf}
-use Rattle.dr_puts.specs.Readings.{Reading, readings_of}
+use Rattle.dr_partials.specs.Readings.{Reading, readings_of}
 use Rattle.dr_columns.proofs.SourceLemmas.{less}
 use Rattle.dr_columns.specs.RowPuts.{paths_at}
 use Rattle.dr_columns.specs.Sources.{AreOnItsChain}

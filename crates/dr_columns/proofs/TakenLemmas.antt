@@ -16,8 +16,8 @@ use Rattle.dr_partials.specs.PartialTypes.{aggregates_among}
 use Rattle.dr_partials.specs.Partials.{Partial, grouped, partial_of, empty_partial}
 use Rattle.dr_partials.specs.Putting.{Put, put_all, puts_of, puts_of_terms}
 use Rattle.dr_partials.proofs.BoundLemmas.{bound_is_mergeable}
-use Rattle.dr_put_laws.proofs.FlowPartialLemmas.{puts_make_partial}
-use Rattle.dr_puts.proofs.GroupPutLemmas.{groups_become}
+use Rattle.dr_made_laws.proofs.FlowPartialLemmas.{puts_make_partial}
+use Rattle.dr_partials.proofs.GroupPutLemmas.{groups_become}
 use Rattle.dr_nested.specs.PathView.{path_view, paths_view}
 use Rattle.dr_nested.specs.declared.path.Path.{Path}
 use Rattle.std.proofs.lemmas.List.{length-map}

@@ -5,7 +5,7 @@ use Rattle.std.proofs.lemmas.List.{drop_more, drop_all}
 use Rattle.dr_meaning.specs.Column.{Triplet}
 use Rattle.dr_meaning.specs.Query.{GroupItem}
 use Rattle.dr_partials.specs.Putting.{Put, put_group}
-use Rattle.dr_puts.specs.GroupPuts.{put_each}
+use Rattle.dr_partials.specs.GroupPuts.{put_each}
 use Rattle.dr_group.specs.Gathering.{gatherings_of}
 use Rattle.dr_group.specs.Groups.{put_of}
 use Rattle.dr_group.specs.Maps.{groups_view, gatherings_view}

@@ -4,7 +4,7 @@ use Rattle.std.specs.List.{list_all, slice_get, slice_index_or}
 use Rattle.dr_meaning.specs.Record.{Value}
 use Rattle.dr_meaning.specs.Query.{GroupItem}
 use Rattle.dr_partials.specs.Putting.{Put}
-use Rattle.dr_puts.specs.GroupPuts.{put_each}
+use Rattle.dr_partials.specs.GroupPuts.{put_each}
 use Rattle.dr_group.specs.Gathering.{gatherings_of}
 use Rattle.dr_group.specs.Groups.{put_of}
 use Rattle.dr_group.specs.Maps.{groups_view, gatherings_view}

@@ -2,7 +2,7 @@
 use Rattle.std.proofs.Common.{◌≡◌, ℕ, max, List, [], ◌∷◌, Option, Some, None, refl, ap, ◌∙◌, arith}
 use Rattle.std.specs.Prelude.{nat_lt, if◌then◌else◌}
 use Rattle.std.proofs.lemmas.Bool.Decides.{nat_tests}
-use Rattle.dr_put_laws.specs.LastRead as last_read
+use Rattle.dr_made_laws.specs.LastRead as last_read
 use Rattle.dr_scalar.specs.Leaves.{greater, greatest}
 
 max_if : (k m : ℕ) → max k m ≡ (if nat_lt k m then m else k)

@@ -1,9 +1,9 @@
 -- What is watched of a plan keeps what the query's condition keeps, and tells it in parts.
 use Rattle.std.proofs.Common.{◌≡◌, None, Some, sym, ap, subst, ◌∙◌}
 use Rattle.dr_meaning.specs.Path.{paths_of_leaves}
-use Rattle.dr_firing.specs.Condition.{Watch}
-use Rattle.dr_pruning_laws.specs.Parts.{pruning_tells}
-use Rattle.dr_pruning_laws.specs.Telling.{told}
+use Rattle.dr_moves.specs.Condition.{Watch}
+use Rattle.dr_kept_laws.specs.Parts.{pruning_tells}
+use Rattle.dr_kept_laws.specs.Telling.{told}
 use Rattle.dr_plan.specs.Planned.{plan_view, plan_leaves, planned_query}
 use Rattle.dr_condition.specs.Parted.{WatchedParts}
 use Rattle.dr_condition.specs.Watching.{pruned_behind}

@@ -1,7 +1,7 @@
 -- How many branches are open for a condition.
 use Rattle.std.proofs.Common.{◌<◌, ◌≤◌, ◌+◌, Option, None, Some, arith}
 use Rattle.dr_meaning.specs.Schema.{greatest_depth}
-use Rattle.dr_pruning_laws.specs.Parts.{all_tests}
+use Rattle.dr_kept_laws.specs.Parts.{all_tests}
 use Rattle.dr_prune.specs.PartAnswers.{lasts_of, untested}
 use Rattle.dr_prune.specs.Pruning.{open_in}
 use Rattle.dr_prune.proofs.OpenLemmas.{few_are_pruned}

@@ -7,8 +7,8 @@ use Rattle.std.proofs.lemmas.Bool.{and_parts}
 use Rattle.std.proofs.lemmas.List.Elements.{filter-append, filter_map-append}
 use Rattle.dr_memory.specs.declared.NoMemory.{NoMemory}
 use Rattle.dr_meaning.specs.Expression.{is_true}
-use Rattle.dr_firing.specs.Context.{Context}
-use Rattle.dr_pruning_laws.specs.Parts.{Part, all_tests}
+use Rattle.dr_moves.specs.Context.{Context}
+use Rattle.dr_kept_laws.specs.Parts.{Part, all_tests}
 use Rattle.dr_plan.specs.declared.expression.Truth.{Truth}
 use Rattle.dr_prune.specs.PartAnswers.{untested, untested_from}
 use Rattle.dr_scalar.specs.Leaves.{greater, greatest, truth_leaves, tests_leaves}

@@ -13,15 +13,15 @@ use Rattle.dr_meaning.specs.QueryLeaves.{query_leaves}
 use Rattle.dr_meaning.specs.Syntax.{QuerySyntax}
 use Rattle.dr_meaning.specs.Binding.{bind}
 use Rattle.dr_meaning.specs.BindingLaws.{has_shapes}
-use Rattle.dr_firing.specs.Condition.{Watch}
-use Rattle.dr_pruning_laws.specs.ChainNumbers.{chain_numbers}
-use Rattle.dr_pruning_laws.specs.TellingLaws.{StandsFor}
+use Rattle.dr_moves.specs.Condition.{Watch}
+use Rattle.dr_kept_laws.specs.ChainNumbers.{chain_numbers}
+use Rattle.dr_kept_laws.specs.TellingLaws.{StandsFor}
 use Rattle.dr_partials.specs.PartialLaws.{all_related}
-use Rattle.dr_put_laws.specs.LastRead.{paths_at}
-use Rattle.dr_put_laws.proofs.AlikeLemmas.{alike_conditions, constant_conditions}
-use Rattle.dr_put_laws.proofs.ConditionLemmas.{condition_is_related}
-use Rattle.dr_put_laws.proofs.LastReadLemmas.{last_stands}
-use Rattle.dr_put_laws.proofs.LeavesInOrderLemmas.{query_leaves_in_order}
+use Rattle.dr_made_laws.specs.LastRead.{paths_at}
+use Rattle.dr_made_laws.proofs.AlikeLemmas.{alike_conditions, constant_conditions}
+use Rattle.dr_made_laws.proofs.ConditionLemmas.{condition_is_related}
+use Rattle.dr_made_laws.proofs.LastReadLemmas.{last_stands}
+use Rattle.dr_made_laws.proofs.LeavesInOrderLemmas.{query_leaves_in_order}
 use Rattle.dr_plan.specs.Conjuncts.{condition_conjuncts, joined, all_of}
 use Rattle.dr_plan.specs.Fitting.{truth_fits}
 use Rattle.dr_plan.specs.Planned.{Planned, plan_view, plan_leaves, planned_query}

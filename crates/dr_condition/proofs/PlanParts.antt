@@ -13,17 +13,17 @@ use Rattle.dr_meaning.specs.BoundExpression.{are_related}
 use Rattle.dr_meaning.specs.Query.{Query}
 use Rattle.dr_meaning.specs.QueryLeaves.{query_leaves}
 use Rattle.dr_meaning.specs.Walk.{Move, walk}
-use Rattle.dr_firing.specs.Context.{Context}
-use Rattle.dr_firing.specs.Firing.{AllTogether}
-use Rattle.dr_firing.specs.Together.{Together}
-use Rattle.dr_pruning_laws.specs.Parts.{Part, SameAt, ArePartsOf, no_part, one_part, pruning_tells}
-use Rattle.dr_pruning_laws.specs.Telling.{told}
-use Rattle.dr_pruning_laws.proofs.PartTelling.{parts_tell_told}
+use Rattle.dr_moves.specs.Context.{Context}
+use Rattle.dr_moves.specs.Firing.{AllTogether}
+use Rattle.dr_moves.specs.Together.{Together}
+use Rattle.dr_kept_laws.specs.Parts.{Part, SameAt, ArePartsOf, no_part, one_part, pruning_tells}
+use Rattle.dr_kept_laws.specs.Telling.{told}
+use Rattle.dr_kept_laws.proofs.PartTelling.{parts_tell_told}
 use Rattle.dr_partials.specs.PartialLaws.{all_related}
-use Rattle.dr_put_laws.specs.LastRead as of_last
-use Rattle.dr_put_laws.specs.LastRead.{paths_at}
-use Rattle.dr_put_laws.proofs.LastReadLemmas.{last_reads_all}
-use Rattle.dr_put_laws.proofs.LeavesInOrderLemmas.{query_leaves_in_order}
+use Rattle.dr_made_laws.specs.LastRead as of_last
+use Rattle.dr_made_laws.specs.LastRead.{paths_at}
+use Rattle.dr_made_laws.proofs.LastReadLemmas.{last_reads_all}
+use Rattle.dr_made_laws.proofs.LeavesInOrderLemmas.{query_leaves_in_order}
 use Rattle.dr_plan.specs.Planned.{plan_leaves}
 use Rattle.dr_plan.specs.PlanOf.{IsPlanOf}
 use Rattle.dr_plan.specs.declared.expression.Truth.{Truth}

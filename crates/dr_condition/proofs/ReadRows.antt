@@ -17,10 +17,10 @@ use Rattle.dr_meaning.specs.BoundExpression.{kind_type}
 use Rattle.dr_meaning.specs.BindingLaws.{is_of_type, has_shapes}
 use Rattle.dr_meaning.proofs.LeafKinds.{kind_of_leaf}
 use Rattle.dr_meaning.proofs.HasShapesLemmas.{leaf_typed}
-use Rattle.dr_firing.specs.Context.{Context}
-use Rattle.dr_firing.specs.Firing.{IsRow}
-use Rattle.dr_put_laws.specs.LastRead.{paths_at}
-use Rattle.dr_put_laws.proofs.LeavesInOrderLemmas.{query_leaves_in_order}
+use Rattle.dr_moves.specs.Context.{Context}
+use Rattle.dr_moves.specs.Firing.{IsRow}
+use Rattle.dr_made_laws.specs.LastRead.{paths_at}
+use Rattle.dr_made_laws.proofs.LeavesInOrderLemmas.{query_leaves_in_order}
 use Rattle.dr_plan.specs.Planned.{Planned, plan_leaves}
 use Rattle.dr_plan.specs.PlanOf.{IsPlanOf}
 use Rattle.dr_plan.specs.Views.{path_of}

@@ -13,10 +13,10 @@ use Rattle.dr_levels.specs.declared.kept.Branch.{Branch}
 use Rattle.dr_levels.specs.declared.kept.Kept.{Kept}
 use Rattle.dr_levels.specs.declared.moves.Move.{Move as CodeMove}
 use Rattle.dr_levels.specs.Views.{move_view}
-use Rattle.dr_firing.specs.Context.{Context}
-use Rattle.dr_firing.specs.Condition.{Watch}
-use Rattle.dr_pruning_laws.specs.Telling.{Verdict, first_dropped}
-use Rattle.dr_pruning_laws.specs.Parts.{all_tests, pruning_tells}
+use Rattle.dr_moves.specs.Context.{Context}
+use Rattle.dr_moves.specs.Condition.{Watch}
+use Rattle.dr_kept_laws.specs.Telling.{Verdict, first_dropped}
+use Rattle.dr_kept_laws.specs.Parts.{all_tests, pruning_tells}
 use Rattle.dr_plan.specs.declared.expression.Truth.{Truth}
 use Rattle.dr_prune.specs.PartAnswers.{lasts_of, untested, pruned, HasAnswered, HasPruned}
 use Rattle.dr_prune.specs.Pruning.{verdict_of, verdicts_in, watch_of, told_count}

@@ -9,10 +9,10 @@ use Rattle.dr_meaning.specs.Kept.{kept, kept_along}
 use Rattle.dr_meaning.specs.Query.{Query}
 use Rattle.dr_meaning.specs.Walk.{Move, walk, no_record}
 use Rattle.dr_meaning.specs.WalkLaws.{open_after_moves}
-use Rattle.dr_firing.specs.Condition.{Watch}
-use Rattle.dr_pruning_laws.specs.Parts.{pruning_tells}
-use Rattle.dr_pruning_laws.specs.Telling.{told}
-use Rattle.dr_pruning_laws.specs.TellingLaws.{StandsFor}
+use Rattle.dr_moves.specs.Condition.{Watch}
+use Rattle.dr_kept_laws.specs.Parts.{pruning_tells}
+use Rattle.dr_kept_laws.specs.Telling.{told}
+use Rattle.dr_kept_laws.specs.TellingLaws.{StandsFor}
 use Rattle.dr_plan.specs.Planned.{plan_view, plan_leaves, planned_query}
 use Rattle.dr_plan.specs.PlanOf.{IsPlanOf}
 use Rattle.dr_plan.specs.declared.plan.Plan.{Plan}

@@ -3,9 +3,9 @@ use Rattle.std.specs.Prelude.{ℕ, zero, suc, List, [], ◌∷◌, map, filter, 
 use Rattle.std.specs.List.{list_all, filter_map}
 use denote.Ref.{Bor}
 use Rattle.dr_meaning.specs.Expression.{is_true}
-use Rattle.dr_firing.specs.Context.{Context}
-use Rattle.dr_firing.specs.Condition.{Watch}
-use Rattle.dr_pruning_laws.specs.Parts.{Part, all_tests}
+use Rattle.dr_moves.specs.Context.{Context}
+use Rattle.dr_moves.specs.Condition.{Watch}
+use Rattle.dr_kept_laws.specs.Parts.{Part, all_tests}
 use Rattle.dr_plan.specs.declared.expression.Truth.{Truth}
 use Rattle.dr_prune.specs.PartAnswers.{untested}
 use Rattle.dr_scalar.specs.Leaves.{greatest, truth_leaves}

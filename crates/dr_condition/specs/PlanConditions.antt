@@ -3,7 +3,7 @@ use Rattle.std.specs.Prelude.{◌≡◌, ℕ, [], Bool, true, false, Option, Non
 use Rattle.std.specs.List.{slice_get}
 use Rattle.dr_meaning.specs.Schema.{Schema}
 use Rattle.dr_meaning.specs.Path.{Leaf}
-use Rattle.dr_pruning_laws.specs.ChainNumbers.{chain_numbers}
+use Rattle.dr_kept_laws.specs.ChainNumbers.{chain_numbers}
 use Rattle.dr_plan.specs.Planned.{plan_leaves}
 use Rattle.dr_plan.specs.declared.plan.Plan.{Plan}
 use Rattle.dr_scalar.specs.Leaves.{greatest, tests_leaves}

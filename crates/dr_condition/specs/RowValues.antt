@@ -4,7 +4,7 @@ use Rattle.std.specs.List.{slice_get}
 use Rattle.dr_meaning.specs.Path.{Leaf}
 use Rattle.dr_meaning.specs.Record.{Node}
 use Rattle.dr_meaning.specs.Rows.{value_at}
-use Rattle.dr_firing.specs.Context.{Context}
+use Rattle.dr_moves.specs.Context.{Context}
 use Rattle.dr_plan.specs.Views.{path_of}
 
 -- the value of each leaf in it

@@ -4,8 +4,8 @@ use Rattle.std.specs.List.{list_all}
 use Rattle.dr_meaning.specs.Walk.{Move, enter, value, leave}
 use Rattle.dr_levels.specs.Branches.{branch_at}
 use Rattle.dr_levels.specs.declared.kept.Kept.{Kept}
-use Rattle.dr_pruning_laws.specs.Telling.{Verdict, kept, dropped, undecided, first_dropped, is_told_dropped}
-use Rattle.dr_pruning_laws.specs.Parts.{all_tests, Pruning, nothing_pruned, prune_moves, pruning_tells}
+use Rattle.dr_kept_laws.specs.Telling.{Verdict, kept, dropped, undecided, first_dropped, is_told_dropped}
+use Rattle.dr_kept_laws.specs.Parts.{all_tests, Pruning, nothing_pruned, prune_moves, pruning_tells}
 use Rattle.dr_plan.specs.declared.expression.Truth.{Truth}
 use Rattle.dr_prune.specs.PartAnswers.{lasts_of, untested, HasAnswered, HasPruned}
 use Rattle.dr_prune.specs.Pruning.{verdict_of, watch_of}

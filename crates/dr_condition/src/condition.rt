@@ -3,7 +3,7 @@
 ghost use Rattle.std.specs.Prelude.{◌≡◌, ◌<◌, ◌≤◌, ◌++◌, ◌∷◌, [], List, IfOk, OnOk, OnErr, IsErr, length, true, false, Some, None};
 ghost use Rattle.dr_levels.specs.Views.{move_view};
 ghost use Rattle.dr_meaning.specs.Walk.{Move as MeantMove};
-ghost use Rattle.dr_pruning_laws.specs.MovedContexts.{after_moves};
+ghost use Rattle.dr_kept_laws.specs.MovedContexts.{after_moves};
 ghost use Rattle.dr_scalar.specs.Slots.{slot_value};
 ghost use Rattle.dr_condition.specs.Parted.{lent_tests, watch_parts};
 ghost use Rattle.dr_condition.specs.Conditions.{watch_in, HasWatched, open_for, failed_for};

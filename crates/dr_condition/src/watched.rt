@@ -5,7 +5,7 @@ ghost use Rattle.dr_levels.specs.Views.{move_view};
 ghost use Rattle.dr_meaning.specs.Walk.{Move as MeantMove};
 ghost use Rattle.dr_prune.specs.PartAnswers.{lasts_of, parts_of, tested_to, HasAnswered};
 ghost use Rattle.dr_prune.specs.Pruning.{open_in};
-ghost use Rattle.dr_pruning_laws.specs.MovedContexts.{after_moves};
+ghost use Rattle.dr_kept_laws.specs.MovedContexts.{after_moves};
 ghost use Rattle.dr_scalar.specs.Slots.{slot_value};
 ghost use Rattle.dr_condition.specs.Parted.{lent_tests, test_at, watch_parts};
 ghost use Rattle.dr_condition.specs.Watching.{watch_with, HaveWatched, TellsKept, dropped_at};

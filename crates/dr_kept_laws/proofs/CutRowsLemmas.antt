@@ -17,7 +17,7 @@ use Rattle.dr_kept_laws.proofs.RowLists.{not_same, AllOf, all_append, all_mapped
 use Rattle.dr_kept_laws.proofs.PutLemmas.{put_none, put_either, put_there, put_apart, put_twice, put_swap}
 use Rattle.dr_kept_laws.proofs.LevelLemmas.{none_repeated, on_below, on_apart, on_root}
 use Rattle.dr_kept_laws.proofs.RowsOfKeptLemmas.{FewIn, FewOn, kept_same, none_kept, all_rows}
-use Rattle.dr_firing.proofs.RowsRead.{map_same}
+use Rattle.dr_moves.proofs.RowsRead.{map_same}
 
 -- ---- a value without repeated fields is the same in each row
 

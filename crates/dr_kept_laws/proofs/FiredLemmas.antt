@@ -8,18 +8,18 @@ use Rattle.dr_meaning.specs.Walk.{Move, enter, leave, enclosed}
 use Rattle.dr_meaning.specs.WalkLaws.{triplets_of}
 use Rattle.dr_meaning.proofs.WalkLemmas.{of_append}
 use Rattle.dr_kept_laws.specs.GroupFlow.{fired_at, left_alone}
-use Rattle.dr_pruning_laws.specs.Leavings.{Leaving, tour_leavings}
-use Rattle.dr_pruning_laws.specs.MovedContexts.{after_moves}
-use Rattle.dr_pruning_laws.specs.Tours.{joined}
-use Rattle.dr_pruning_laws.proofs.TourParts.{joined_moves, joined_flow}
-use Rattle.dr_pruning_laws.proofs.MovedContextLemmas.{moved_after, contexts_more, contexts_count, contexts_none}
-use Rattle.dr_pruning_laws.proofs.OffChain.{IsWithin, Off}
-use Rattle.dr_pruning_laws.proofs.ChainHeads.{HeadApart}
-use Rattle.dr_firing.specs.Context.{Context, with_value, contexts}
-use Rattle.dr_firing.specs.Tour.{Tour, over, saw, inside, moves_of, after}
-use Rattle.dr_firing.specs.Condition.{Watch, some_true, rest_below, is_dropped}
-use Rattle.dr_firing.specs.Cutting.{flow}
-use Rattle.dr_firing.proofs.TourLemmas.{some_true_any, any_of_map}
+use Rattle.dr_kept_laws.specs.Leavings.{Leaving, tour_leavings}
+use Rattle.dr_kept_laws.specs.MovedContexts.{after_moves}
+use Rattle.dr_kept_laws.specs.Tours.{joined}
+use Rattle.dr_kept_laws.proofs.TourParts.{joined_moves, joined_flow}
+use Rattle.dr_kept_laws.proofs.MovedContextLemmas.{moved_after, contexts_more, contexts_count, contexts_none}
+use Rattle.dr_kept_laws.proofs.OffChain.{IsWithin, Off}
+use Rattle.dr_kept_laws.proofs.ChainHeads.{HeadApart}
+use Rattle.dr_moves.specs.Context.{Context, with_value, contexts}
+use Rattle.dr_moves.specs.Tour.{Tour, over, saw, inside, moves_of, after}
+use Rattle.dr_moves.specs.Condition.{Watch, some_true, rest_below, is_dropped}
+use Rattle.dr_moves.specs.Cutting.{flow}
+use Rattle.dr_moves.proofs.TourLemmas.{some_true_any, any_of_map}
 
 -- whether an answer is true
 abbrev pub some_answer : List Bool → Bool

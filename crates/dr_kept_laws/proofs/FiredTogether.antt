@@ -4,10 +4,10 @@ use Rattle.std.specs.Prelude.{◌==◌, if◌then◌else◌, IsPermutation}
 use Rattle.std.specs.List.{flat_map}
 use Rattle.std.proofs.lemmas.List.Sorted.{IsPermutation-refl, IsPermutation-trans, IsPermutation-append, IsPermutation-append_comm, IsPermutation-append_left, IsPermutation-append_right}
 use Rattle.dr_kept_laws.specs.GroupFlow.{left_with, Reading, fired_if, all_fired, left_if, all_left}
-use Rattle.dr_firing.specs.Context.{Context, with_value}
-use Rattle.dr_firing.specs.Tour.{Tour, over, saw, inside, after}
-use Rattle.dr_firing.specs.Condition.{Watch, some_true, rest_below, is_dropped}
-use Rattle.dr_firing.specs.Cutting.{flow}
+use Rattle.dr_moves.specs.Context.{Context, with_value}
+use Rattle.dr_moves.specs.Tour.{Tour, over, saw, inside, after}
+use Rattle.dr_moves.specs.Condition.{Watch, some_true, rest_below, is_dropped}
+use Rattle.dr_moves.specs.Cutting.{flow}
 
 module _ {X : Type 0} where
   -- two in the middle change places

@@ -10,16 +10,16 @@ use Rattle.dr_meaning.specs.Kept.{kept_along}
 use Rattle.dr_meaning.specs.Walk.{record_moves, walk}
 use Rattle.dr_kept_laws.specs.RowsOfKept.{rows_left}
 use Rattle.dr_kept_laws.specs.GroupFlow.{left_alone, left_with, Reading, fired_if, all_fired, left_if, all_left}
-use Rattle.dr_pruning_laws.specs.TellingLaws.{StandsFor}
+use Rattle.dr_kept_laws.specs.TellingLaws.{StandsFor}
 use Rattle.dr_kept_laws.specs.GroupFlowLaws.{MeansAt, AllMean, all_means, FiredTogether, AllFiredTogether}
 use Rattle.dr_kept_laws.proofs.RecordTours.{record_tour, nothing_seen}
 use Rattle.dr_kept_laws.proofs.FiredTogether.{one_flow, flows_of_each}
 use Rattle.dr_kept_laws.proofs.GroupFlowLaws.{Firing, record_firing, whole_firing, walk_firing, firing_of, all_some}
-use Rattle.dr_firing.specs.Context.{Context}
-use Rattle.dr_firing.specs.Tour.{over, inside, after}
-use Rattle.dr_firing.specs.Condition.{Watch, some_true}
-use Rattle.dr_firing.specs.Cutting.{flow}
-use Rattle.dr_firing.proofs.TourLemmas.{true_row_keeps}
+use Rattle.dr_moves.specs.Context.{Context}
+use Rattle.dr_moves.specs.Tour.{over, inside, after}
+use Rattle.dr_moves.specs.Condition.{Watch, some_true}
+use Rattle.dr_moves.specs.Cutting.{flow}
+use Rattle.dr_moves.proofs.TourLemmas.{true_row_keeps}
 
 module _ (X : Type 0) where
   either_same : (b : Bool) (xs : List X) → (if b then xs ++ [] else xs) ≡ xs

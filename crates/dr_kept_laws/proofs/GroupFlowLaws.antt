@@ -14,26 +14,26 @@ use Rattle.dr_meaning.specs.Automaton.{picks}
 use Rattle.dr_meaning.specs.Walk.{Move, first_of, node_of, near_moves, far_moves, top, record_moves, walk}
 use Rattle.dr_meaning.proofs.ProjectionLemmas.{step}
 use Rattle.dr_meaning.proofs.Blocks.{same_repetition-true}
-use Rattle.dr_pruning_laws.specs.ChainNumbers.{shape_numbers}
+use Rattle.dr_kept_laws.specs.ChainNumbers.{shape_numbers}
 use Rattle.dr_kept_laws.specs.RowsOfKept.{kept_instance_rows, kept_rows, rows_left}
 use Rattle.dr_kept_laws.specs.GroupFlow.{fired_at, left_alone}
-use Rattle.dr_pruning_laws.specs.TellingLaws.{StandsFor}
-use Rattle.dr_pruning_laws.specs.Tours.{joined}
+use Rattle.dr_kept_laws.specs.TellingLaws.{StandsFor}
+use Rattle.dr_kept_laws.specs.Tours.{joined}
 use Rattle.dr_kept_laws.specs.GroupFlowLaws.{IsTold, FiredOfKept, FiredOfAll}
-use Rattle.dr_pruning_laws.proofs.TourParts.{one_tour, joined_moves, joined_flow}
+use Rattle.dr_kept_laws.proofs.TourParts.{one_tour, joined_moves, joined_flow}
 use Rattle.dr_kept_laws.proofs.RecordTours.{record_tour}
-use Rattle.dr_pruning_laws.proofs.Selections.{leaf_selected, selected_only}
+use Rattle.dr_kept_laws.proofs.Selections.{leaf_selected, selected_only}
 use Rattle.dr_kept_laws.proofs.RowsOfKeptLaws.{rows_of_kept}
 use Rattle.dr_kept_laws.proofs.FiredLemmas.{Always, enclosed_always, fired_all}
 use Rattle.dr_kept_laws.proofs.RowValues.{instance_values, inner_values, none_true, no_level, along_level}
 use Rattle.dr_kept_laws.proofs.GroupFlowLemmas.{fires_in}
-use Rattle.dr_firing.specs.Context.{Context, contexts}
-use Rattle.dr_firing.specs.Tour.{Tour, over, inside as within_instance, moves_of, after}
-use Rattle.dr_firing.specs.Condition.{Watch}
-use Rattle.dr_firing.specs.Cutting.{flow}
-use Rattle.dr_firing.specs.Together.{Together, same_leaf, along, apart}
-use Rattle.dr_firing.specs.Firing.{AllTogether, IsRow}
-use Rattle.dr_firing.proofs.FiringLemmas.{rows_fire}
+use Rattle.dr_moves.specs.Context.{Context, contexts}
+use Rattle.dr_moves.specs.Tour.{Tour, over, inside as within_instance, moves_of, after}
+use Rattle.dr_moves.specs.Condition.{Watch}
+use Rattle.dr_moves.specs.Cutting.{flow}
+use Rattle.dr_moves.specs.Together.{Together, same_leaf, along, apart}
+use Rattle.dr_moves.specs.Firing.{AllTogether, IsRow}
+use Rattle.dr_moves.proofs.FiringLemmas.{rows_fire}
 
 -- ---- leaves that are read together with a leaf have their repeated fields on its level
 

@@ -15,21 +15,21 @@ use Rattle.dr_meaning.specs.WalkLaws.{triplets_of}
 use Rattle.dr_meaning.proofs.ProjectionLemmas.{step}
 use Rattle.dr_meaning.proofs.Blocks.{same_repetition-true}
 use Rattle.dr_meaning.proofs.WalkLemmas.{Only, Without, IsNode, FirstSlot, first_of_node, only_behind, only_beside, beside_first, behind_later, of_enclosed, far_in, far_in_nothing, far_nothing, shape_near_nothing, shape_far_nothing, selected}
-use Rattle.dr_pruning_laws.specs.ChainNumbers.{own_number, numbers_in, shape_numbers}
-use Rattle.dr_pruning_laws.specs.Leavings.{Leaving, off, instance_leavings}
+use Rattle.dr_kept_laws.specs.ChainNumbers.{own_number, numbers_in, shape_numbers}
+use Rattle.dr_kept_laws.specs.Leavings.{Leaving, off, instance_leavings}
 use Rattle.dr_kept_laws.specs.RowsOfKept.{kept_instance_rows, each_kept_rows, kept_field_rows, kept_rows}
 use Rattle.dr_kept_laws.proofs.RowLists.{not_same}
 use Rattle.dr_kept_laws.proofs.PutLemmas.{put_none}
 use Rattle.dr_kept_laws.proofs.FewLemmas.{few}
-use Rattle.dr_pruning_laws.proofs.OffChain.{Off, same_off, no_leavings, near_off, shape_near_off, instance_off, field_off, far_off, shape_far_off}
-use Rattle.dr_pruning_laws.proofs.ChainNumberLemmas.{shape_levels, nothing_numbered}
-use Rattle.dr_pruning_laws.proofs.ChainHeads.{head_before, head_behind, own_within, numbers_within, shape_numbers_within}
+use Rattle.dr_kept_laws.proofs.OffChain.{Off, same_off, no_leavings, near_off, shape_near_off, instance_off, field_off, far_off, shape_far_off}
+use Rattle.dr_kept_laws.proofs.ChainNumberLemmas.{shape_levels, nothing_numbered}
+use Rattle.dr_kept_laws.proofs.ChainHeads.{head_before, head_behind, own_within, numbers_within, shape_numbers_within}
 use Rattle.dr_kept_laws.proofs.FiredLemmas.{some_answer, Whole, apart_whole, bare_whole, silent_whole, both_whole, Fires, whole_fires, fires_before, fires_behind, Always, no_moves, both_always, always_fires, enclosed_always}
 use Rattle.dr_kept_laws.proofs.RowValues.{instance_values, many_values, field_values, node_values, inner_values, value_count, no_level, far_level, some_rows, ended_kept, apart_kept, along_kept, none_true}
-use Rattle.dr_firing.specs.Context.{Context, contexts}
-use Rattle.dr_firing.specs.Condition.{Watch}
-use Rattle.dr_firing.proofs.NearLemmas.{shape_near_silent, shape_far_silent}
-use Rattle.dr_firing.proofs.TourLemmas.{any_of_map}
+use Rattle.dr_moves.specs.Context.{Context, contexts}
+use Rattle.dr_moves.specs.Condition.{Watch}
+use Rattle.dr_moves.proofs.NearLemmas.{shape_near_silent, shape_far_silent}
+use Rattle.dr_moves.proofs.TourLemmas.{any_of_map}
 
 far_part_off : (h : Shape) (G : List Pick) (k : ℕ) (at : Depth) (x : Option Instance) → Off k (k + shape_repeated_fields h) (shape_far_moves h G k at x) (instance_leavings h G k off x)
 far_part_off h G k at x = shape_far_off h G k at x

@@ -9,12 +9,12 @@ use Rattle.dr_meaning.proofs.ProjectionLemmas.{step}
 use Rattle.dr_meaning.proofs.Blocks.{same_repetition-true}
 use Rattle.dr_meaning.proofs.WalkLemmas.{Without, Only, without_behind, without_beside, only_behind, beside_first, only_beside, behind_later}
 use Rattle.dr_kept_laws.specs.LaterLeaf.{comes_first, LaterReadsBoth}
-use Rattle.dr_course.proofs.Apart.{AtMostOne, Apart, ShapeApart}
-use Rattle.dr_pruning_laws.proofs.Selections.{leaf_selected, selected_only}
-use Rattle.dr_course.proofs.ApartLemmas.{leaves_apart}
+use Rattle.dr_moves.proofs.Apart.{AtMostOne, Apart, ShapeApart}
+use Rattle.dr_kept_laws.proofs.Selections.{leaf_selected, selected_only}
+use Rattle.dr_moves.proofs.ApartLemmas.{leaves_apart}
 use Rattle.dr_kept_laws.proofs.LevelLemmas.{on_root, on_apart}
 use Rattle.dr_kept_laws.proofs.RowValues.{no_level, level_none, along_level}
-use Rattle.dr_firing.specs.Together.{Together, same_leaf, along, apart}
+use Rattle.dr_moves.specs.Together.{Together, same_leaf, along, apart}
 
 -- ---- lists of leaves
 

@@ -9,10 +9,10 @@ use Rattle.dr_meaning.specs.Column.{Triplet}
 use Rattle.dr_meaning.specs.Automaton.{Pick}
 use Rattle.dr_meaning.specs.Walk.{leave, Depth, moves_in, shape_near_moves, shape_far_moves}
 use Rattle.dr_meaning.proofs.WalkLemmas.{of_append, Only, Without, shape_near_nothing, shape_far_nothing}
-use Rattle.dr_firing.specs.Context.{Context, with_value}
-use Rattle.dr_firing.specs.Tour.{Tour, over, saw, inside, moves_of, after}
-use Rattle.dr_firing.proofs.ReadingLemmas.{new, last, last_append, silent, last_single}
-use Rattle.dr_firing.proofs.NearLemmas.{shape_far_silent, shape_once}
+use Rattle.dr_moves.specs.Context.{Context, with_value}
+use Rattle.dr_moves.specs.Tour.{Tour, over, saw, inside, moves_of, after}
+use Rattle.dr_moves.proofs.ReadingLemmas.{new, last, last_append, silent, last_single}
+use Rattle.dr_moves.proofs.NearLemmas.{shape_far_silent, shape_once}
 
 -- behind a tour a leaf has the value that was read last
 pub after_last : (T : Tour) (c : Context) (k : ℕ) → after c T k ≡ last k (c k) (moves_of T)

@@ -9,14 +9,14 @@ use Rattle.dr_meaning.specs.Column.{Triplet, triplet}
 use Rattle.dr_meaning.specs.Automaton.{Pick, picks, first_picks, later_picks, indexes}
 use Rattle.dr_meaning.specs.Walk.{Move, enter, value, leave, Depth, inside, begun_later, first_of, first_slot, other_slots, node_of, value_there, triplet_moves, unless_repeated, enclosed, later_moves, repeated_moves, by_repetition, where_selected, moves_in, near_moves, far_moves, shape_near_moves, shape_far_moves, top, record_moves}
 use Rattle.dr_meaning.proofs.WalkLemmas.{near_in, far_in}
-use Rattle.dr_pruning_laws.specs.Tours.{joined}
+use Rattle.dr_kept_laws.specs.Tours.{joined}
 use Rattle.dr_kept_laws.specs.GroupFlow.{left_with}
-use Rattle.dr_pruning_laws.proofs.TourParts.{joined_moves}
-use Rattle.dr_pruning_laws.proofs.OffChain.{near_off, far_off}
-use Rattle.dr_firing.specs.Context.{Context, with_value}
-use Rattle.dr_firing.specs.Tour.{Tour, over, saw, inside as within_instance, moves_of, after}
-use Rattle.dr_firing.specs.Condition.{Watch, some_true, rest_below, is_dropped}
-use Rattle.dr_firing.specs.Cutting.{flow}
+use Rattle.dr_kept_laws.proofs.TourParts.{joined_moves}
+use Rattle.dr_kept_laws.proofs.OffChain.{near_off, far_off}
+use Rattle.dr_moves.specs.Context.{Context, with_value}
+use Rattle.dr_moves.specs.Tour.{Tour, over, saw, inside as within_instance, moves_of, after}
+use Rattle.dr_moves.specs.Condition.{Watch, some_true, rest_below, is_dropped}
+use Rattle.dr_moves.specs.Cutting.{flow}
 
 -- ---- no branch is a record's
 

@@ -20,10 +20,10 @@ use Rattle.dr_kept_laws.specs.RowsOfKept.{rows_where_any, kept_instance_rows, ke
 use Rattle.dr_kept_laws.proofs.LevelLemmas.{none_repeated}
 use Rattle.dr_kept_laws.proofs.RowsOfKeptLemmas.{none_kept, instance_none}
 use Rattle.dr_kept_laws.proofs.FiredLemmas.{some_answer}
-use Rattle.dr_firing.proofs.ReadingLemmas.{reads, own_read}
-use Rattle.dr_firing.proofs.RowsRead.{irows, single_rows, shape_reads, own_together}
-use Rattle.dr_firing.proofs.KeptRows.{any_map, instance_any, kept_any}
-use Rattle.dr_firing.proofs.TourLemmas.{any_of_map}
+use Rattle.dr_moves.proofs.ReadingLemmas.{reads, own_read}
+use Rattle.dr_moves.proofs.RowsRead.{irows, single_rows, shape_reads, own_together}
+use Rattle.dr_moves.proofs.KeptRows.{any_map, instance_any, kept_any}
+use Rattle.dr_moves.proofs.TourLemmas.{any_of_map}
 
 -- of an instance, of several, and of all those of a field, in the row that they make of the record
 abbrev pub instance_values : {Y : Type 0} → List Step → (Instances → Node) → (Node → Y) → Instance → List Y

@@ -14,7 +14,7 @@ use Rattle.dr_kept_laws.specs.RowsOfKeptLaws.{RowsOfKept, PresentInKept, EndInKe
 use Rattle.dr_kept_laws.proofs.PutLemmas.{put_none}
 use Rattle.dr_kept_laws.proofs.RowsOfKeptLemmas.{FewOn, look, none_kept, same_rows}
 use Rattle.dr_kept_laws.proofs.FewLemmas.{record_few, front_few}
-use Rattle.dr_firing.proofs.RowsRead.{map_same}
+use Rattle.dr_moves.proofs.RowsRead.{map_same}
 
 -- ---- values, and what is there
 

@@ -14,8 +14,8 @@ use Rattle.dr_kept_laws.specs.RowsOfKept.{rows_where_any, kept_instance_rows, ea
 use Rattle.dr_kept_laws.proofs.PutLemmas.{put_there, put_apart, put_twice, put_swap}
 use Rattle.dr_kept_laws.proofs.RowLists.{not_same, constant_maps}
 use Rattle.dr_kept_laws.proofs.LevelLemmas.{none_repeated, on_root, on_below, on_apart}
-use Rattle.dr_firing.proofs.KeptRows.{kept_any}
-use Rattle.dr_firing.proofs.RowsRead.{map_same}
+use Rattle.dr_moves.proofs.KeptRows.{kept_any}
+use Rattle.dr_moves.proofs.RowsRead.{map_same}
 
 -- ---- what is kept
 

@@ -9,14 +9,14 @@ use Rattle.dr_meaning.specs.Record.{Value, int_value}
 use Rattle.dr_meaning.specs.Rows.{value_at}
 use Rattle.dr_meaning.specs.Kept.{kept_along}
 use Rattle.dr_meaning.specs.Walk.{Move, enter, value, leave, walk}
-use Rattle.dr_pruning_laws.specs.ChainNumbers.{chain_numbers}
+use Rattle.dr_kept_laws.specs.ChainNumbers.{chain_numbers}
 use Rattle.dr_kept_laws.specs.GroupFlow.{fired_at, left_alone, left_with, Reading, all_fired, all_left}
 use Rattle.dr_kept_laws.specs.GroupFlowLaws.{all_means}
 use Rattle.dr_kept_laws.proofs.WorkedRowsOfKept.{c, d, e, h, x, y, some_number, whole, without_g}
-use Rattle.dr_firing.specs.Context.{Context}
-use Rattle.dr_firing.specs.Tour.{Tour, over, saw, inside}
-use Rattle.dr_firing.specs.Condition.{Watch}
-use Rattle.dr_firing.specs.Cutting.{flow}
+use Rattle.dr_moves.specs.Context.{Context}
+use Rattle.dr_moves.specs.Tour.{Tour, over, saw, inside}
+use Rattle.dr_moves.specs.Condition.{Watch}
+use Rattle.dr_moves.specs.Cutting.{flow}
 
 abbrev pub number_leaf : Repetition → Fields → Fields
 number_leaf r fs = field [] r (leaf int64_kind) fs

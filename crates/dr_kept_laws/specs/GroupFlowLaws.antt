@@ -7,13 +7,13 @@ use Rattle.dr_meaning.specs.Record.{Node, is_record}
 use Rattle.dr_meaning.specs.Rows.{rows}
 use Rattle.dr_meaning.specs.Kept.{kept_along}
 use Rattle.dr_meaning.specs.Walk.{walk}
-use Rattle.dr_pruning_laws.specs.TellingLaws.{StandsFor}
+use Rattle.dr_kept_laws.specs.TellingLaws.{StandsFor}
 use Rattle.dr_kept_laws.specs.GroupFlow.{fired_at, left_alone, Reading, all_fired, all_left, left_with}
-use Rattle.dr_firing.specs.Context.{Context}
-use Rattle.dr_firing.specs.Tour.{Tour, moves_of}
-use Rattle.dr_firing.specs.Condition.{Watch}
-use Rattle.dr_firing.specs.Cutting.{flow}
-use Rattle.dr_firing.specs.Firing.{AllTogether, IsRow}
+use Rattle.dr_moves.specs.Context.{Context}
+use Rattle.dr_moves.specs.Tour.{Tour, moves_of}
+use Rattle.dr_moves.specs.Condition.{Watch}
+use Rattle.dr_moves.specs.Cutting.{flow}
+use Rattle.dr_moves.specs.Firing.{AllTogether, IsRow}
 
 -- something that is told by the values of these leaves, which are read together with leaf i, whose path is p
 pub record IsTold (X : Type 0) (F : List (List Step)) (i : ℕ) (p : List Step) (f : Context → X) (g : Node → X) : Type 0 where

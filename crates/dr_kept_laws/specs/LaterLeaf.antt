@@ -4,8 +4,8 @@ use Rattle.std.specs.List.{slice_get, list_all}
 use Rattle.dr_meaning.specs.Schema.{Fields}
 use Rattle.dr_meaning.specs.Path.{Step, is_leaf_path, chain_end, begins_with}
 use Rattle.dr_meaning.specs.Automaton.{reading_order}
-use Rattle.dr_course.specs.Selection.{all_differ}
-use Rattle.dr_firing.specs.Together.{Together}
+use Rattle.dr_moves.specs.Selection.{all_differ}
+use Rattle.dr_moves.specs.Together.{Together}
 
 -- going through the list, leaf k is met no later than leaf i
 abbrev pub comes_first : ℕ → ℕ → List ℕ → Bool

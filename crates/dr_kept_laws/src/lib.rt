@@ -3,4 +3,5 @@
 //! is a law.
 #![tactic(auto)]
 
+pub mod pruning_laws;
 pub mod row_laws;

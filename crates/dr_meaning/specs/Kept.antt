@@ -1,5 +1,5 @@
 -- Kept branches: what WHERE leaves of a record (Dremel 2010, section 5). A branch of the condition's chain stays exactly where some row
--- through it is true, a record exactly where one of its rows is (dr_firing proves it).
+-- through it is true, a record exactly where one of its rows is (dr_moves proves it).
 use Rattle.std.specs.Prelude.{List, [], ◌∷◌, Bool, if◌then◌else◌, Option, Some, None, option_map}
 use Rattle.dr_meaning.specs.Path.{Step}
 use Rattle.dr_meaning.specs.Record.{Node, Instances, no_instances, instance, Instance, atom, inner, single, instances_at, put_at}

@@ -15,3 +15,20 @@ pub mod PartialLaws
 pub mod Putting
 pub mod TreeLaws
 pub mod RewritingLaws
+-- The order of puts.
+-- puts in any order
+pub mod AnyOrder
+-- puts of records that come in chunks
+pub mod Together
+-- what is put of the rows that aggregates read
+pub mod Readings
+-- readings grouped by sources
+pub mod SourcesPut
+-- chunks of records, source by source
+pub mod ChunkPuts
+-- puts into groups
+pub mod GroupPuts
+-- queries that sum no great literal, records with few triplets
+pub mod Few
+-- laws, each proved on a law function of src/
+pub mod BoundLaws

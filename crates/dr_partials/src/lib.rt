@@ -4,6 +4,8 @@
 #![tactic(auto)]
 
 pub mod accumulator_laws;
+pub mod bound_laws;
 pub mod partial_laws;
+pub mod put_order;
 pub mod rewriting_laws;
 pub mod tree_laws;

@@ -7,7 +7,7 @@ use Rattle.dr_nested.specs.declared.shape.Field.{Field}
 use Rattle.dr_nested.specs.Views.{rep_view, shape_view, fields_view}
 use Rattle.dr_nested.proofs.ViewLemmas.{view-field}
 use Rattle.dr_walk.proofs.FieldLemmas.{from_field, fields_in}
-use Rattle.dr_pruning_laws.specs.ChainNumbers.{by_place, own_number, numbers_in, shape_numbers}
+use Rattle.dr_kept_laws.specs.ChainNumbers.{by_place, own_number, numbers_in, shape_numbers}
 
 -- a step whose place is counted from the field at k
 abbrev pub counted_from : ℕ → Step → Step

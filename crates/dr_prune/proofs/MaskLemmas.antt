@@ -7,7 +7,7 @@ use Rattle.std.proofs.lemmas.Nat.Bits.{bit_at_mask_inside, bit_at_mask_below, bi
 use Rattle.dr_levels.specs.Branches.{branch_at}
 use Rattle.dr_levels.specs.declared.kept.Branch.{Branch}
 use Rattle.dr_levels.specs.declared.kept.Kept.{Kept}
-use Rattle.dr_pruning_laws.specs.Telling.{Verdict, kept, dropped, undecided}
+use Rattle.dr_kept_laws.specs.Telling.{Verdict, kept, dropped, undecided}
 use Rattle.dr_prune.specs.Pruning.{verdict_of}
 
 -- at a place, where of the outermost so many (along) those from `top` on are dropped, and the others from `hit` on undecided

@@ -9,11 +9,11 @@ use Rattle.dr_meaning.specs.Path.{Step, Leaf, chain}
 use Rattle.dr_meaning.specs.Column.{Triplet}
 use Rattle.dr_meaning.specs.Walk.{Move, enter, value, leave, own_path, repeated_paths, repeated_paths_from, shape_repeated_paths, Open, no_record, in_record, is_chain_front, is_same_chain, same_path, where_true, entered, left, is_of_leaf, passed_leaf, open_after}
 use Rattle.dr_meaning.specs.WalkLaws.{open_after_moves}
-use Rattle.dr_firing.specs.Context.{Context}
-use Rattle.dr_firing.specs.Condition.{Watch}
-use Rattle.dr_pruning_laws.specs.Constant.{depth_behind}
-use Rattle.dr_pruning_laws.specs.Counting.{Numbers, whole_chain, is_first, count_entered, count_row, count_left, count_move, context_behind, Counted, nothing_counted, count_on, count_all}
-use Rattle.dr_pruning_laws.specs.Parts.{Pruning, answering, parts_behind, nothing_pruned, prune_move, prune_moves}
+use Rattle.dr_moves.specs.Context.{Context}
+use Rattle.dr_moves.specs.Condition.{Watch}
+use Rattle.dr_kept_laws.specs.Constant.{depth_behind}
+use Rattle.dr_kept_laws.specs.Counting.{Numbers, whole_chain, is_first, count_entered, count_row, count_left, count_move, context_behind, Counted, nothing_counted, count_on, count_all}
+use Rattle.dr_kept_laws.specs.Parts.{Pruning, answering, parts_behind, nothing_pruned, prune_move, prune_moves}
 use Rattle.dr_prune.specs.AnswerLaws.{FewArePruned}
 use Rattle.dr_prune.specs.PartAnswers.{untested}
 use Rattle.dr_prune.specs.Nesting.{FewAreOpen}

@@ -6,8 +6,8 @@ use Rattle.std.proofs.Math.ListN.{set}
 use Rattle.std.proofs.lemmas.List.{length-map}
 use Rattle.std.proofs.lemmas.Option.{slice_get-map, slice_get-get_or}
 use Rattle.std.proofs.lemmas.Bool.{eq-eqb}
-use Rattle.dr_firing.specs.Context.{Context}
-use Rattle.dr_pruning_laws.specs.Parts.{Part, part_at, all_answers}
+use Rattle.dr_moves.specs.Context.{Context}
+use Rattle.dr_kept_laws.specs.Parts.{Part, part_at, all_answers}
 use Rattle.dr_prune.specs.declared.answers.Answer.{Answer}
 use Rattle.dr_prune.specs.PartAnswers.{parts_from, untested_from, tested_to}
 

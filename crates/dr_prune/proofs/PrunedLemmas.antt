@@ -3,11 +3,11 @@ use Rattle.std.proofs.Common.{◌≡◌, ℕ, List, [], ◌∷◌, ◌++◌, len
 use Rattle.std.specs.Prelude.{reverse}
 use Rattle.dr_meaning.specs.Walk.{Move, enter, value, leave}
 use Rattle.dr_levels.specs.declared.kept.Kept.{Kept}
-use Rattle.dr_firing.specs.Context.{Context}
-use Rattle.dr_firing.specs.Condition.{Watch}
-use Rattle.dr_pruning_laws.specs.MovedContexts.{after_moves}
-use Rattle.dr_pruning_laws.specs.Counting.{Numbers, count_move, numbers_tell, context_behind}
-use Rattle.dr_pruning_laws.specs.Parts.{Part, all_answers, parts_behind, answering, Pruning, prune_move, prune_moves, pruning_tells}
+use Rattle.dr_moves.specs.Context.{Context}
+use Rattle.dr_moves.specs.Condition.{Watch}
+use Rattle.dr_kept_laws.specs.MovedContexts.{after_moves}
+use Rattle.dr_kept_laws.specs.Counting.{Numbers, count_move, numbers_tell, context_behind}
+use Rattle.dr_kept_laws.specs.Parts.{Part, all_answers, parts_behind, answering, Pruning, prune_move, prune_moves, pruning_tells}
 use Rattle.dr_prune.specs.declared.answers.Answers.{Answers}
 use Rattle.dr_prune.specs.declared.pruner.Pruner.{Pruner}
 use Rattle.dr_prune.specs.Pruning.{numbers_of, open_in, watch_of, verdicts_in, told_count, IsAnswer}

@@ -5,11 +5,11 @@ use Rattle.std.proofs.lemmas.Bool.{eqb-true}
 use Rattle.dr_meaning.specs.Column.{Triplet}
 use Rattle.dr_meaning.specs.Walk.{Move, enter, value, leave}
 use Rattle.dr_levels.specs.declared.kept.Kept.{Kept}
-use Rattle.dr_firing.specs.Context.{Context}
-use Rattle.dr_firing.specs.Condition.{Watch}
-use Rattle.dr_pruning_laws.specs.MovedContexts.{after_moves}
-use Rattle.dr_pruning_laws.specs.Telling.{told}
-use Rattle.dr_pruning_laws.specs.Counting.{Numbers, count_row, count_left, count_move, verdicts_of, left_among, numbers_tell, context_behind, Counted, nothing_counted, count_on, count_all, NumbersTell}
+use Rattle.dr_moves.specs.Context.{Context}
+use Rattle.dr_moves.specs.Condition.{Watch}
+use Rattle.dr_kept_laws.specs.MovedContexts.{after_moves}
+use Rattle.dr_kept_laws.specs.Telling.{told}
+use Rattle.dr_kept_laws.specs.Counting.{Numbers, count_row, count_left, count_move, verdicts_of, left_among, numbers_tell, context_behind, Counted, nothing_counted, count_on, count_all, NumbersTell}
 use Rattle.dr_prune.specs.Pruning.{IsAnswer, HasSeen, numbers_of, open_in, watch_of, verdicts_in, told_count}
 use Rattle.dr_prune.specs.declared.pruner.Pruner.{Pruner}
 

@@ -6,8 +6,8 @@ use Rattle.std.proofs.lemmas.Bool.{eq-eqb, ne_eqb, eqb-true, leb-true, leb-false
 use Rattle.dr_levels.specs.Branches.{branch_at, branches_from, kept_view}
 use Rattle.dr_levels.specs.declared.kept.Branch.{Branch}
 use Rattle.dr_levels.specs.declared.kept.Kept.{Kept}
-use Rattle.dr_pruning_laws.specs.Telling.{Verdict, kept, dropped, undecided}
-use Rattle.dr_pruning_laws.specs.Counting.{Numbers, verdict_at, verdict_left, verdicts_of, left_among}
+use Rattle.dr_kept_laws.specs.Telling.{Verdict, kept, dropped, undecided}
+use Rattle.dr_kept_laws.specs.Counting.{Numbers, verdict_at, verdict_left, verdicts_of, left_among}
 use Rattle.dr_prune.specs.Pruning.{verdict_of, verdicts_in}
 use Rattle.dr_prune.proofs.MaskLemmas.{verdict_between, between_bits}
 

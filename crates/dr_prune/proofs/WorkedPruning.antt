@@ -4,11 +4,11 @@ use Rattle.std.specs.Prelude.{map, pos, ◌==◌}
 use Rattle.dr_meaning.specs.Record.{Value, int_value}
 use Rattle.dr_meaning.specs.Column.{triplet}
 use Rattle.dr_meaning.specs.Walk.{Move, enter, value, leave}
-use Rattle.dr_firing.specs.Context.{Context}
-use Rattle.dr_firing.specs.Condition.{Watch}
-use Rattle.dr_pruning_laws.specs.Telling.{kept, dropped, undecided, told}
-use Rattle.dr_pruning_laws.specs.Counting.{nothing_counted, count_all}
-use Rattle.dr_pruning_laws.specs.Parts.{Part}
+use Rattle.dr_moves.specs.Context.{Context}
+use Rattle.dr_moves.specs.Condition.{Watch}
+use Rattle.dr_kept_laws.specs.Telling.{kept, dropped, undecided, told}
+use Rattle.dr_kept_laws.specs.Counting.{nothing_counted, count_all}
+use Rattle.dr_kept_laws.specs.Parts.{Part}
 use Rattle.dr_prune.specs.PartAnswers.{pruned, tested_to, untested}
 use Rattle.dr_prune.proofs.MaskLemmas.{verdict_between}
 use Rattle.dr_prune.specs.Pruning.{verdicts_in, told_count, IsAnswer, IsAnswerBehind}

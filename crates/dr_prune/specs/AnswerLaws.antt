@@ -5,8 +5,8 @@ use Rattle.dr_meaning.specs.Path.{Leaf}
 use Rattle.dr_meaning.specs.Column.{Triplet}
 use Rattle.dr_meaning.specs.Walk.{Move, enter, value, leave, no_record}
 use Rattle.dr_meaning.specs.WalkLaws.{open_after_moves}
-use Rattle.dr_firing.specs.Context.{Context}
-use Rattle.dr_pruning_laws.specs.MovedContexts.{after_moves}
+use Rattle.dr_moves.specs.Context.{Context}
+use Rattle.dr_kept_laws.specs.MovedContexts.{after_moves}
 use Rattle.dr_prune.specs.Pruning.{open_in}
 use Rattle.dr_prune.specs.PartAnswers.{lasts_of, parts_of, tested_to, HasAnswered, HasPruned}
 use Rattle.dr_prune.specs.declared.answers.Answers.{Answers}

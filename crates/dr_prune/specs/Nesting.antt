@@ -4,7 +4,7 @@ use Rattle.dr_meaning.specs.Schema.{Fields, depth, greatest_depth}
 use Rattle.dr_meaning.specs.Path.{Leaf}
 use Rattle.dr_meaning.specs.Walk.{Move, no_record}
 use Rattle.dr_meaning.specs.WalkLaws.{open_after_moves}
-use Rattle.dr_firing.specs.Context.{Context}
+use Rattle.dr_moves.specs.Context.{Context}
 use Rattle.dr_prune.specs.Pruning.{HasSeen, open_in}
 use Rattle.dr_prune.specs.declared.pruner.Pruner.{Pruner}
 

@@ -1,9 +1,9 @@
 -- What the answers of a condition's parts stand for, and a pruner that steps by them.
 use Rattle.std.specs.Prelude.{◌≡◌, ℕ, zero, suc, List, [], ◌∷◌, map, Bool, false}
 use Rattle.dr_meaning.specs.Walk.{Move}
-use Rattle.dr_firing.specs.Context.{Context}
-use Rattle.dr_firing.specs.Condition.{Watch}
-use Rattle.dr_pruning_laws.specs.Parts.{Part, part_at, Pruning, nothing_pruned, prune_moves}
+use Rattle.dr_moves.specs.Context.{Context}
+use Rattle.dr_moves.specs.Condition.{Watch}
+use Rattle.dr_kept_laws.specs.Parts.{Part, part_at, Pruning, nothing_pruned, prune_moves}
 use Rattle.dr_prune.specs.declared.answers.Answer.{Answer}
 use Rattle.dr_prune.specs.declared.answers.Answers.{Answers}
 use Rattle.dr_prune.specs.declared.pruner.Pruner.{Pruner}

@@ -4,11 +4,11 @@ use Rattle.dr_meaning.specs.Walk.{Move, enter, value, leave}
 use Rattle.dr_levels.specs.Branches.{kept_view}
 use Rattle.dr_levels.specs.declared.kept.Branch.{Branch}
 use Rattle.dr_levels.specs.declared.kept.Kept.{Kept}
-use Rattle.dr_firing.specs.Context.{Context}
-use Rattle.dr_firing.specs.Condition.{Watch}
-use Rattle.dr_pruning_laws.specs.MovedContexts.{after_moves}
-use Rattle.dr_pruning_laws.specs.Telling.{Verdict, kept, dropped, undecided}
-use Rattle.dr_pruning_laws.specs.Counting.{Numbers, nothing_counted, count_all}
+use Rattle.dr_moves.specs.Context.{Context}
+use Rattle.dr_moves.specs.Condition.{Watch}
+use Rattle.dr_kept_laws.specs.MovedContexts.{after_moves}
+use Rattle.dr_kept_laws.specs.Telling.{Verdict, kept, dropped, undecided}
+use Rattle.dr_kept_laws.specs.Counting.{Numbers, nothing_counted, count_all}
 use Rattle.dr_prune.specs.declared.counts.Counts.{Counts}
 use Rattle.dr_prune.specs.declared.pruner.Pruner.{Pruner}
 

@@ -2,8 +2,8 @@
 
 ghost use Rattle.std.specs.Prelude.{◌≡◌, ◌<◌, ◌+◌, ℕ, List, [], Bool, true, false, Some, length, slice_get, IfOk};
 ghost use Rattle.std.specs.List.{list_all};
-ghost use Rattle.dr_firing.specs.Context.{Context};
-ghost use Rattle.dr_pruning_laws.specs.Parts.{Part, all_answers};
+ghost use Rattle.dr_moves.specs.Context.{Context};
+ghost use Rattle.dr_kept_laws.specs.Parts.{Part, all_answers};
 ghost use Rattle.dr_prune.specs.declared.answers.Answer.{Answer};
 ghost use Rattle.dr_prune.specs.PartAnswers.{lasts_of, parts_of, tested_to, HasAnswered};
 

@@ -4,7 +4,7 @@ ghost use Rattle.std.specs.Prelude.{◌≡◌, ◌<◌, ◌≤◌, ◌+◌, ◌^
 ghost use Rattle.dr_meaning.specs.Schema.{repeated_fields, shape_repeated_fields, repetition_count};
 ghost use Rattle.dr_nested.specs.Views.{rep_view, shape_view, fields_view};
 ghost use Rattle.dr_nested.specs.PathView.{step_view};
-ghost use Rattle.dr_pruning_laws.specs.ChainNumbers as meant;
+ghost use Rattle.dr_kept_laws.specs.ChainNumbers as meant;
 
 use dr_memory::NoMemory;
 use dr_nested::{Field, Rep, Schema, Shape, Step};

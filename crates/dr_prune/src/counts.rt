@@ -19,7 +19,7 @@ pub(crate) struct Counts {
 
 impl Counts {
     ghost use Rattle.std.specs.Prelude.{ℕ, ◌==◌, ◌&&◌, ◌+◌, ◌-◌, ◌^◌, max, true, false, reverse};
-    ghost use Rattle.dr_pruning_laws.specs.Counting.{no_numbers, count_entered, count_row, count_left, verdicts_of, left_among};
+    ghost use Rattle.dr_kept_laws.specs.Counting.{no_numbers, count_entered, count_row, count_left, verdicts_of, left_among};
     ghost use Rattle.dr_prune.specs.Pruning.{count_view, verdicts_in};
 
     /// Where nothing is open.

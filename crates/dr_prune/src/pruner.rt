@@ -23,12 +23,12 @@ pub struct Pruner {
 impl Pruner {
     ghost use Rattle.std.specs.Prelude.{ℕ, List, ◌∷◌, [], ◌++◌, ◌==◌, ◌&&◌, ◌-◌, ◌^◌, Bool, true, None, drop, slice_get, reverse, IfOk, if◌then◌else◌};
     ghost use Rattle.dr_levels.specs.Views.{move_view};
-    ghost use Rattle.dr_firing.specs.Context.{Context};
-    ghost use Rattle.dr_firing.specs.Condition.{Watch};
+    ghost use Rattle.dr_moves.specs.Context.{Context};
+    ghost use Rattle.dr_moves.specs.Condition.{Watch};
     ghost use Rattle.dr_meaning.specs.Walk as meant;
-    ghost use Rattle.dr_pruning_laws.specs.Telling.{told};
-    ghost use Rattle.dr_pruning_laws.specs.Counting.{no_numbers, is_first, count_row, count_left, count_move, numbers_tell, verdicts_of, left_among};
-    ghost use Rattle.dr_pruning_laws.specs.Parts.{pruning_tells};
+    ghost use Rattle.dr_kept_laws.specs.Telling.{told};
+    ghost use Rattle.dr_kept_laws.specs.Counting.{no_numbers, is_first, count_row, count_left, count_move, numbers_tell, verdicts_of, left_among};
+    ghost use Rattle.dr_kept_laws.specs.Parts.{pruning_tells};
     ghost use Rattle.dr_prune.specs.PartAnswers.{lasts_of, pruned, HasAnswered, HasPruned};
     ghost use Rattle.dr_prune.specs.Pruning.{numbers_of, watch_of, open_in, verdicts_in, told_count, HasSeen, IsAnswer, IsAnswerBehind};
 

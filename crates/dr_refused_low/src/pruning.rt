@@ -2,10 +2,10 @@
 
 ghost use Rattle.std.specs.Prelude.{◌≡◌, ◌<◌, ◌-◌, ◌^◌, ◌++◌, ◌∷◌, [], List, Bool, reverse};
 ghost use Rattle.dr_levels.specs.Views.{move_view};
-ghost use Rattle.dr_firing.specs.Context.{Context};
+ghost use Rattle.dr_moves.specs.Context.{Context};
 ghost use Rattle.dr_meaning.specs.Walk as meant;
-ghost use Rattle.dr_pruning_laws.specs.Telling.{told};
-ghost use Rattle.dr_pruning_laws.specs.Counting.{count_move, numbers_tell};
+ghost use Rattle.dr_kept_laws.specs.Telling.{told};
+ghost use Rattle.dr_kept_laws.specs.Counting.{count_move, numbers_tell};
 ghost use Rattle.dr_prune.specs.Pruning.{numbers_of, watch_of, open_in, verdicts_in, told_count, HasSeen, IsAnswer, IsAnswerBehind};
 
 use dr_levels::{Kept, Move};

@@ -16,7 +16,7 @@ use Rattle.dr_nested.specs.declared.path.Path.{Path}
 use Rattle.dr_outside.specs.Link.{Files, LinkShown}
 use Rattle.dr_outside.specs.Telling.{Tells, TellsFile}
 use Rattle.dr_outside.specs.declared.cause.Cause.{Cause}
-use Rattle.dr_course.specs.Leading.{Left, columns_of}
+use Rattle.dr_moves.specs.Leading.{Left, columns_of}
 use Rattle.dr_file.specs.OpenedFiles.{IsOpened, IsColumnOf, path_of, rows_of}
 use Rattle.dr_file.specs.declared.file_fault.FileFault.{FileFault}
 use Rattle.dr_file.specs.declared.opened.Opened.{Opened}

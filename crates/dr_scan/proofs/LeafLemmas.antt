@@ -6,10 +6,10 @@ use Rattle.dr_meaning.specs.Path.{Leaf, leaves, is_leaf_path, paths_of_leaves}
 use Rattle.dr_meaning.specs.WalkLaws as nesting
 use Rattle.dr_levels.specs.Views.{move_view}
 use Rattle.dr_levels.specs.declared.moves.Move.{Move as CodeMove}
-use Rattle.dr_course.specs.Selection.{all_differ}
+use Rattle.dr_moves.specs.Selection.{all_differ}
 use Rattle.dr_plan.specs.Planned.{Planned, plan_leaves, IsOfSchema}
 use Rattle.dr_plan.specs.declared.plan.Plan.{Plan}
-use Rattle.dr_put_laws.proofs.LeavesInOrderLemmas.{query_leaves_in_order}
+use Rattle.dr_made_laws.proofs.LeavesInOrderLemmas.{query_leaves_in_order}
 use Rattle.dr_tablets.specs.FileRecords.{AreLeavesOf}
 use Rattle.dr_walk.specs.Walking.{leaf_of}
 use Rattle.dr_within.specs.Rows.{IsOfLeaf}

@@ -5,7 +5,7 @@ use Rattle.std.proofs.lemmas.Bool.{and_parts}
 use Rattle.dr_meaning.specs.Path.{Leaf}
 use Rattle.dr_meaning.specs.Expression.{Expression}
 use Rattle.dr_meaning.specs.Query as meant
-use Rattle.dr_bounds.specs.Few.{is_small, term_is_small, sums_are_small}
+use Rattle.dr_partials.specs.Few.{is_small, term_is_small, sums_are_small}
 use Rattle.dr_plan.specs.Fitting.{number_fits, number_fits_step, expr_fits, is_summed, aggregate_fits}
 use Rattle.dr_plan.specs.Planned.{plan_leaves}
 use Rattle.dr_plan.specs.Views.{number_view, number_step, aggregate_view, found_term, group_term_view, group_item_view, selection_view}

@@ -19,9 +19,9 @@ use Rattle.dr_meaning.specs.Query.{GroupTerm, key, count_rows, aggregate, GroupI
 use Rattle.dr_nested.specs.PathView.{path_view}
 use Rattle.dr_levels.specs.Views.{column_view, columns_view}
 use Rattle.dr_levels.specs.declared.column.Column.{Column}
-use Rattle.dr_course.specs.Turning.{between}
-use Rattle.dr_course.specs.Leading.{stays}
-use Rattle.dr_course.proofs.NestingOfTurns.{moves_begin_walk}
+use Rattle.dr_moves.specs.Turning.{between}
+use Rattle.dr_moves.specs.Leading.{stays}
+use Rattle.dr_moves.proofs.NestingOfTurns.{moves_begin_walk}
 use Rattle.dr_partials.specs.Accumulators.{Accumulator, counted}
 use Rattle.dr_partials.specs.Partials.{Partial, grouped, term_accumulator, selected_partial, partial_of, empty_partial}
 use Rattle.dr_partials.specs.PartialTypes.{aggregates_among, with_aggregate}

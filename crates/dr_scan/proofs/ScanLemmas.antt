@@ -21,9 +21,9 @@ use Rattle.dr_partials.specs.PartialBounds.{PartialCanBeOf}
 use Rattle.dr_partials.specs.Rewriting.{leaf_query}
 use Rattle.dr_partials.proofs.RewritingLemmas.{leaf_has_partials, leaf_has_same_partials, leaf_uses_same_leaves}
 use Rattle.dr_partials.proofs.TypedLemmas.{records_have_partials}
-use Rattle.dr_bounds.specs.Few.{sums_are_small, has_few}
-use Rattle.dr_bounds.specs.BoundLaws.{projections}
-use Rattle.dr_bounds.proofs.BoundLemmas.{partial_of_few_projections}
+use Rattle.dr_partials.specs.Few.{sums_are_small, has_few}
+use Rattle.dr_partials.specs.BoundLaws.{projections}
+use Rattle.dr_partials.proofs.PartialBoundLemmas.{partial_of_few_projections}
 use Rattle.dr_plan.specs.Planned.{Planned, planned, plan_view, plan_leaves, planned_query, IsOfSchema}
 use Rattle.dr_plan.specs.Views.{selection_view}
 use Rattle.dr_plan.specs.declared.plan.Plan.{Plan}

@@ -13,7 +13,7 @@ use Rattle.dr_meaning.specs.Walk.{Move}
 use Rattle.dr_levels.specs.Views.{column_view, triplets_view}
 use Rattle.dr_levels.specs.declared.triplets.Triplets.{Triplets}
 use Rattle.dr_outside.specs.Link.{Files}
-use Rattle.dr_course.specs.Leading.{Left, columns_of}
+use Rattle.dr_moves.specs.Leading.{Left, columns_of}
 use Rattle.dr_file.specs.OpenedFiles.{IsColumnOf}
 use Rattle.dr_file.specs.Streams.{IsStreamOf, StreamGoesOn, Fills, file_of, left_of, refused_of}
 use Rattle.dr_file.specs.declared.opened.Opened.{Opened}

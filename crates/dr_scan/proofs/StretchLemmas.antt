@@ -10,7 +10,7 @@ use Rattle.dr_meaning.specs.Column.{Triplet, triplet}
 use Rattle.dr_meaning.specs.Walk.{Move}
 use Rattle.dr_levels.specs.Views.{move_view}
 use Rattle.dr_levels.specs.declared.moves.Move.{Move as CodeMove}
-use Rattle.dr_course.specs.Leading.{Left, columns_of}
+use Rattle.dr_moves.specs.Leading.{Left, columns_of}
 use Rattle.dr_plan.specs.Planned.{plan_leaves}
 use Rattle.dr_plan.specs.declared.plan.Plan.{Plan}
 use Rattle.dr_walk.specs.Walking.{leaf_of}

@@ -15,7 +15,7 @@ use Rattle.dr_levels.specs.Views.{triplets_view}
 use Rattle.dr_levels.specs.declared.triplets.Triplets.{Triplets}
 use Rattle.dr_outside.specs.Link.{Files, LinkShown}
 use Rattle.dr_outside.specs.Telling.{TellsFile}
-use Rattle.dr_course.specs.Leading.{Left}
+use Rattle.dr_moves.specs.Leading.{Left}
 use Rattle.dr_file.specs.Leaving.{LeavesLinkCounted, ServesOpened}
 use Rattle.dr_file.specs.OpenedFiles.{HasCounts, is_link_fault, path_of, rows_of}
 use Rattle.dr_file.specs.declared.file_fault.FileFault.{FileFault}

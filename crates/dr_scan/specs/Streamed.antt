@@ -14,7 +14,7 @@ use Rattle.dr_formats.specs.Writing.{triplet_count}
 use Rattle.dr_levels.specs.Views.{column_view}
 use Rattle.dr_outside.specs.Link.{Files}
 use Rattle.dr_outside.specs.Telling.{TellsFile}
-use Rattle.dr_course.specs.Leading.{Left, columns_of}
+use Rattle.dr_moves.specs.Leading.{Left, columns_of}
 use Rattle.dr_file.specs.OpenedFiles.{IsOpened, IsColumnOf, path_of, rows_of}
 use Rattle.dr_file.specs.Streams.{IsStreamOf, file_of, left_of, refused_of}
 use Rattle.dr_file.specs.declared.opened.Opened.{Opened}

@@ -9,7 +9,7 @@ ghost use Rattle.dr_formats.specs.Opening.{leaf_ranges};
 ghost use Rattle.dr_nested.specs.SchemaView.{schema_view};
 ghost use Rattle.dr_outside.specs.Telling.{AsksOnly};
 ghost use Rattle.dr_chunk.specs.Ranges.{is_read_inside};
-ghost use Rattle.dr_course.specs.Leading.{Left};
+ghost use Rattle.dr_moves.specs.Leading.{Left};
 ghost use Rattle.dr_file.specs.Asking.{is_for_path};
 ghost use Rattle.dr_file.specs.Leaving.{LeavesLinkCounted, ServesOpened};
 ghost use Rattle.dr_file.specs.OpenedFiles.{leaf_count, path_of};

@@ -3,7 +3,7 @@
 ghost use Rattle.std.specs.Prelude.{ℕ, List};
 ghost use Rattle.dr_meaning.specs.Schema.{Schema as MeantSchema};
 ghost use Rattle.dr_meaning.specs.Walk.{Move as MeantMove};
-ghost use Rattle.dr_course.specs.Leading.{Left};
+ghost use Rattle.dr_moves.specs.Leading.{Left};
 ghost use Rattle.dr_plan.specs.Planned.{IsOfSchema};
 ghost use Rattle.dr_plan.specs.declared.plan.Plan.{Plan as MeantPlan};
 ghost use Rattle.dr_walk.specs.Checking.{rest_at};

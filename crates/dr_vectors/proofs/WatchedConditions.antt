@@ -1,11 +1,11 @@
 -- The numbers of chains, and what is told of a record as it is entered, by computation.
 use Rattle.std.specs.Prelude.{◌≡◌, ℕ, List, [], ◌∷◌, Bool, true, false, None, refl}
 use Rattle.dr_meaning.specs.Walk.{enter}
-use Rattle.dr_firing.specs.Context.{Context}
-use Rattle.dr_firing.specs.Condition.{Watch}
-use Rattle.dr_pruning_laws.specs.ChainNumbers.{chain_numbers}
-use Rattle.dr_pruning_laws.specs.Parts.{Part, all_answers, part_at, nothing_pruned, pruning_tells}
-use Rattle.dr_pruning_laws.specs.Telling.{undecided, told}
+use Rattle.dr_moves.specs.Context.{Context}
+use Rattle.dr_moves.specs.Condition.{Watch}
+use Rattle.dr_kept_laws.specs.ChainNumbers.{chain_numbers}
+use Rattle.dr_kept_laws.specs.Parts.{Part, all_answers, part_at, nothing_pruned, pruning_tells}
+use Rattle.dr_kept_laws.specs.Telling.{undecided, told}
 use Rattle.dr_meaning.proofs.WorkedSchemas.{document}
 use Rattle.dr_meaning.proofs.WorkedPaths.{doc_id, forward, country, url}
 

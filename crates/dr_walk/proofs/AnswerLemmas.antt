@@ -10,12 +10,12 @@ use Rattle.dr_meaning.specs.Record.{Node}
 use Rattle.dr_meaning.specs.Column.{Triplet, column}
 use Rattle.dr_meaning.specs.Walk.{Move, enter, value, leave, walk, no_record}
 use Rattle.dr_meaning.specs.WalkLaws.{triplets_of, open_after_moves, AreLeavesOf}
-use Rattle.dr_course.specs.Course.{are_open, reach, Items, nothing, give, visit, course}
-use Rattle.dr_course.specs.Turning.{Stack, between, in_record, in_items, in_absent, lapped, entering, gives, goes_on, done, stops, turn, turn_given, turn_absent, is_due, is_null, definition_of, definitions_of}
-use Rattle.dr_course.specs.Leading.{Left, Leads, columns_of, has_columns, head_of, heads as next_of}
-use Rattle.dr_course.specs.Selection.{all_differ}
-use Rattle.dr_course.proofs.LeadingLemmas.{leads_taken, records_lead, led_to_records, walk_columns}
-use Rattle.dr_course.proofs.NestingOfTurns.{moves_nest}
+use Rattle.dr_moves.specs.Course.{are_open, reach, Items, nothing, give, visit, course}
+use Rattle.dr_moves.specs.Turning.{Stack, between, in_record, in_items, in_absent, lapped, entering, gives, goes_on, done, stops, turn, turn_given, turn_absent, is_due, is_null, definition_of, definitions_of}
+use Rattle.dr_moves.specs.Leading.{Left, Leads, columns_of, has_columns, head_of, heads as next_of}
+use Rattle.dr_moves.specs.Selection.{all_differ}
+use Rattle.dr_moves.proofs.LeadingLemmas.{leads_taken, records_lead, led_to_records, walk_columns}
+use Rattle.dr_moves.proofs.NestingOfTurns.{moves_nest}
 use Rattle.std.proofs.Common.{Result, Ok, Err}
 use Rattle.dr_levels.specs.Views.{levels_pair}
 use Rattle.dr_levels.specs.declared.triplet.Levels.{Levels}

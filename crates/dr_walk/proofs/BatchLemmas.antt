@@ -14,9 +14,9 @@ use Rattle.dr_nested.specs.Views.{kind_view}
 use Rattle.dr_levels.specs.Views.{levels_pair, triplet_levels, move_view}
 use Rattle.dr_levels.specs.declared.triplet.Levels.{Levels}
 use Rattle.dr_levels.specs.declared.moves.Move.{Move as CodeMove}
-use Rattle.dr_course.specs.Course.{course}
-use Rattle.dr_course.specs.Turning.{between}
-use Rattle.dr_course.specs.Leading.{Left, head_of, tail_of}
+use Rattle.dr_moves.specs.Course.{course}
+use Rattle.dr_moves.specs.Turning.{between}
+use Rattle.dr_moves.specs.Leading.{Left, head_of, tail_of}
 use Rattle.dr_walk.specs.Walking.{HasColumns, NoneHas, is_known, then_wanted, IsAtLevels, ComesNext, leaf_of, given_leaf, WantsNext, next_levels, leaf_moves, moves_over, behind_moves, HasLevels, fits_next, is_fit}
 use Rattle.dr_walk.specs.Checking.{rest_behind}
 use Rattle.dr_walk.specs.Batches.{IsOver, ComesOf, IsGivenOf, GoesOver, Shrinks}

@@ -9,11 +9,11 @@ use Rattle.dr_meaning.specs.Path.{Step, is_leaf_path}
 use Rattle.dr_meaning.specs.Column.{Triplet}
 use Rattle.dr_meaning.specs.Automaton.{Pick, picks, first_picks, later_picks, indexes, near_order, far_order, shape_near_order, shape_far_order, unless_repeated as order_unless_repeated, where_repeated}
 use Rattle.dr_meaning.specs.Walk.{Move, enter, value, leave}
-use Rattle.dr_course.specs.Course.{Gate, are_open, reach, Visit, Items, nothing, give, visit, followed_by, gated, low_in, give_each, unless_repeated, where_selected, by_repetition, visit_of, near_items, far_items, field_near_items, shape_near_items, shape_far_items, course}
-use Rattle.dr_course.specs.Turning.{Stack, between, in_record, in_items, in_absent, lapped, entering, Turn, gives, goes_on, done, stops, turn, turn_given, turn_absent, is_due, is_null, definition_of, definitions_of, level_of}
-use Rattle.dr_course.specs.Leading.{Left, Leads, stays, moves, turns, head_of, heads as next_of, behind_move, columns_of}
-use Rattle.dr_course.proofs.FollowsWalk.{Paths, ShapePaths, field_paths}
-use Rattle.dr_course.proofs.WalkFollows.{group_paths, paths_from}
+use Rattle.dr_moves.specs.Course.{Gate, are_open, reach, Visit, Items, nothing, give, visit, followed_by, gated, low_in, give_each, unless_repeated, where_selected, by_repetition, visit_of, near_items, far_items, field_near_items, shape_near_items, shape_far_items, course}
+use Rattle.dr_moves.specs.Turning.{Stack, between, in_record, in_items, in_absent, lapped, entering, Turn, gives, goes_on, done, stops, turn, turn_given, turn_absent, is_due, is_null, definition_of, definitions_of, level_of}
+use Rattle.dr_moves.specs.Leading.{Left, Leads, stays, moves, turns, head_of, heads as next_of, behind_move, columns_of}
+use Rattle.dr_moves.proofs.FollowsWalk.{Paths, ShapePaths, field_paths}
+use Rattle.dr_moves.proofs.WalkFollows.{group_paths, paths_from}
 use Rattle.dr_walk.specs.Flat.{leaves_in}
 use Rattle.dr_walk.proofs.LeafLemmas.{has_shape_near, has_shape_far, leaves_followed}
 use Rattle.dr_walk.proofs.SizeLemmas.{split_in_two}

@@ -14,9 +14,9 @@ use Rattle.dr_levels.specs.Columns.{Gives}
 use Rattle.dr_levels.specs.declared.triplet.Triplet.{Triplet as CodeTriplet}
 use Rattle.dr_levels.specs.declared.triplets.Triplets.{Triplets}
 use Rattle.dr_levels.specs.declared.moves.Move.{Move as CodeMove}
-use Rattle.dr_course.specs.Course.{course}
-use Rattle.dr_course.specs.Turning.{between}
-use Rattle.dr_course.specs.Leading.{Left, head_of, tail_of, columns_of}
+use Rattle.dr_moves.specs.Course.{course}
+use Rattle.dr_moves.specs.Turning.{between}
+use Rattle.dr_moves.specs.Leading.{Left, head_of, tail_of, columns_of}
 use Rattle.dr_walk.specs.Walking.{HasColumns, NoneHas, first_wanted, is_known, wanted_behind, then_wanted, leaf_of}
 use Rattle.dr_walk.specs.Valued.{IsAt, Wants, Comes, moves_of, left_behind}
 use Rattle.dr_walk.specs.Checking.{rest_at, rest_behind, next_at, untaken, IsOn, Advances}

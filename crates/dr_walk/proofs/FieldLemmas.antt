@@ -8,7 +8,7 @@ use Rattle.dr_levels.proofs.OrderLemmas.{shifted}
 use Rattle.dr_nested.specs.declared.shape.Field.{Field}
 use Rattle.dr_nested.specs.Views.{rep_view, shape_view, fields_view}
 use Rattle.dr_nested.proofs.ViewLemmas.{view-field}
-use Rattle.dr_course.specs.Course.{Gate, Items, followed_by, unless_repeated, where_selected, near_items, far_items, field_near_items}
+use Rattle.dr_moves.specs.Course.{Gate, Items, followed_by, unless_repeated, where_selected, near_items, far_items, field_near_items}
 use Rattle.dr_walk.specs.Laying.{Laid, lay}
 use Rattle.dr_walk.specs.Flat.{far_of_field}
 use Rattle.dr_walk.specs.declared.laying.Depth.{Depth}

@@ -3,8 +3,8 @@ use Rattle.std.proofs.Common.{◌≡◌, ℕ, suc, ◌+◌, List, [], ◌∷◌,
 use Rattle.std.specs.List.{slice_get}
 use Rattle.std.specs.Prelude.{reverse}
 use Rattle.std.proofs.lemmas.List.{length-map}
-use Rattle.dr_course.specs.Course.{Gate, Give, Visit, Items, nothing, give, visit, followed_by}
-use Rattle.dr_course.proofs.WalkFollows.{followed_nothing}
+use Rattle.dr_moves.specs.Course.{Gate, Give, Visit, Items, nothing, give, visit, followed_by}
+use Rattle.dr_moves.proofs.WalkFollows.{followed_nothing}
 use Rattle.dr_walk.specs.Laying.{FlatItem, flat_look, flat_give, flat_visit, flat_null, flat_end, Lap, lap_of, plain_give, plain_visit, Level, no_level, Laid, laying, lay, closed, given, visited, nulls_of, looks_for}
 use Rattle.dr_walk.specs.Flat.{gates_of, leaves_in, IsRun, IsCode, code_end, code_give, code_visit, IsBody}
 

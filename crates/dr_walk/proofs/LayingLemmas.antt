@@ -5,8 +5,8 @@ use Rattle.std.proofs.lemmas.List.{map-append, reverse-append}
 use Rattle.dr_meaning.specs.Schema.{required, repeated, Fields, Shape}
 use Rattle.dr_meaning.specs.Path.{Step}
 use Rattle.dr_meaning.specs.Automaton.{Pick, picks}
-use Rattle.dr_course.specs.Course.{Gate, Visit, Items, near_items, far_items, field_near_items, unless_repeated, shape_near_items, shape_far_items, course}
-use Rattle.dr_course.proofs.NodesMade.{required_items}
+use Rattle.dr_moves.specs.Course.{Gate, Visit, Items, near_items, far_items, field_near_items, unless_repeated, shape_near_items, shape_far_items, course}
+use Rattle.dr_moves.proofs.NodesMade.{required_items}
 use Rattle.dr_walk.specs.Laying.{FlatItem, flat_look, flat_end, flat_visit, plain_visit, lap_of, Lap, Level, no_level, noted, with_items, nulls_of, Laid, laying, lay, closed, visited}
 use Rattle.dr_walk.specs.Views.{items_view, item_view, groups_view, gates_view}
 use Rattle.dr_walk.specs.Flat.{IsBody, is_laid, visit_at, far_of_field}

@@ -3,8 +3,8 @@ use Rattle.std.proofs.Common.{◌≡◌, ℕ, suc, ◌+◌, List, [], ◌∷◌,
 use Rattle.dr_meaning.specs.Schema.{Repetition, required, optional, repeated, Kind, Fields, no_fields, field, Shape, leaf, group, repetition_count, definition_count, shape_repeated_fields}
 use Rattle.dr_meaning.specs.Path.{Step}
 use Rattle.dr_meaning.specs.Automaton.{Pick, picks, first_picks, later_picks, indexes, near_order, far_order, shape_near_order, shape_far_order, unless_repeated as order_unless_repeated, where_repeated}
-use Rattle.dr_course.specs.Course.{Gate, Items, nothing, give, visit, followed_by, gated, low_in, give_each, unless_repeated, where_selected, by_repetition, visit_of, near_items, far_items, field_near_items, shape_near_items, shape_far_items, course}
-use Rattle.dr_course.proofs.GateLemmas.{no_shape_near_order, no_shape_far_order}
+use Rattle.dr_moves.specs.Course.{Gate, Items, nothing, give, visit, followed_by, gated, low_in, give_each, unless_repeated, where_selected, by_repetition, visit_of, near_items, far_items, field_near_items, shape_near_items, shape_far_items, course}
+use Rattle.dr_moves.proofs.GateLemmas.{no_shape_near_order, no_shape_far_order}
 use Rattle.dr_walk.specs.Flat.{leaves_in}
 use Rattle.dr_walk.proofs.FlatLemmas.{HasLeaves}
 

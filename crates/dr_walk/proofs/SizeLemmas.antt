@@ -6,11 +6,11 @@ use Rattle.std.proofs.lemmas.Bool.{and_parts, leb-true}
 use Rattle.dr_meaning.specs.Schema.{Repetition, required, optional, repeated, Fields, no_fields, field, Shape, leaf, group, Schema, repetition_count, repeated_fields, shape_repeated_fields, leaf_count, shape_leaf_count, depth, shape_depth, greatest_depth, most_leaves, is_schema, is_group, is_shape, is_nonempty, is_short_name, field_names}
 use Rattle.dr_meaning.specs.Path.{Step, is_leaf_path}
 use Rattle.dr_meaning.specs.Automaton.{Pick, picks, picks_from, first_picks, first_picks_and, first_picks_if, later_picks, later_picks_and, later_picks_if}
-use Rattle.dr_course.specs.Selection.{all_differ}
-use Rattle.dr_course.proofs.Apart.{Apart, ShapeApart, AtMostOne}
-use Rattle.dr_course.proofs.ApartLemmas.{leaves_apart}
-use Rattle.dr_course.proofs.FollowsWalk.{Paths, ShapePaths, field_paths}
-use Rattle.dr_course.proofs.WalkFollows.{group_paths, paths_from}
+use Rattle.dr_moves.specs.Selection.{all_differ}
+use Rattle.dr_moves.proofs.Apart.{Apart, ShapeApart, AtMostOne}
+use Rattle.dr_moves.proofs.ApartLemmas.{leaves_apart}
+use Rattle.dr_moves.proofs.FollowsWalk.{Paths, ShapePaths, field_paths}
+use Rattle.dr_moves.proofs.WalkFollows.{group_paths, paths_from}
 
 one_more : (r : Repetition) → repetition_count r ≤ 1
 one_more required = omega arith

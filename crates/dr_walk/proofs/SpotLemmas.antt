@@ -13,8 +13,8 @@ use Rattle.dr_nested.specs.Views.{kind_view}
 use Rattle.dr_nested.specs.declared.shape.Kind as code_kind
 use Rattle.dr_levels.specs.Views.{levels_pair, triplet_levels}
 use Rattle.dr_levels.specs.declared.triplet.Levels.{Levels}
-use Rattle.dr_course.specs.Course.{Gate, reach, are_open, comes_to, Give, Visit, Items, nothing, give, visit}
-use Rattle.dr_course.specs.Turning.{Stack, between, in_record, in_items, in_absent, lapped, entering, Turn, gives, goes_on, stops, turn, turn_given, turn_absent, is_due, is_null, has_its_value, is_value_of, is_no_value, definition_of, definitions_of, level_of}
+use Rattle.dr_moves.specs.Course.{Gate, reach, are_open, comes_to, Give, Visit, Items, nothing, give, visit}
+use Rattle.dr_moves.specs.Turning.{Stack, between, in_record, in_items, in_absent, lapped, entering, Turn, gives, goes_on, stops, turn, turn_given, turn_absent, is_due, is_null, has_its_value, is_value_of, is_no_value, definition_of, definitions_of, level_of}
 use Rattle.dr_walk.specs.Laying.{FlatItem, flat_look, flat_give, flat_visit, flat_null, flat_end, FlatGive, FlatVisit, Lap, lap_of, plain_give, plain_visit, has_gates, looks_for}
 use Rattle.dr_walk.specs.Seen.{levels_at, level_definition, level_repetition, next_definitions, AreLevelsOf, first_shut, may_come, due_levels, absent_level, TakesSeen, lap_there, looks_there}
 use Rattle.dr_walk.specs.Flat.{IsRun, IsCode, code_end, code_give, code_visit, IsBody, gates_of}

@@ -17,9 +17,9 @@ use Rattle.dr_levels.specs.declared.triplet.Triplet.{Triplet as CodeTriplet}
 use Rattle.dr_levels.specs.declared.triplet.ValueRef.{ValueRef}
 use Rattle.dr_levels.specs.declared.moves.Move.{Move as CodeMove}
 use Rattle.dr_nested.specs.declared.shape.Kind as code_kind
-use Rattle.dr_course.specs.Course.{course}
-use Rattle.dr_course.specs.Turning.{between}
-use Rattle.dr_course.specs.Leading.{Left, head_of, columns_of, behind_move}
+use Rattle.dr_moves.specs.Course.{course}
+use Rattle.dr_moves.specs.Turning.{between}
+use Rattle.dr_moves.specs.Leading.{Left, head_of, columns_of, behind_move}
 use Rattle.dr_walk.specs.Standing.{fits}
 use Rattle.dr_walk.specs.Walking.{HasColumns, NoneHas, first_wanted, wanted_behind, then_wanted, is_known, IsAtLevels, ComesNext, leaf_of, given_leaf, WantsNext, next_levels, leaf_moves, moves_over, behind_moves, HasLevels, fits_next, is_fit}
 use Rattle.dr_walk.specs.Valued.{meant_value, kept_value, IsKept, IsAt, Comes, given_move, Wants, moves_of, left_behind, IsKeptFor, IsGiven, IsValued, HasForm}

@@ -11,10 +11,10 @@ use Rattle.dr_meaning.specs.Walk.{Move, enter, value, leave}
 use Rattle.dr_meaning.specs.WalkLaws.{triplets_of}
 use Rattle.dr_levels.specs.Views.{levels_pair, triplet_levels}
 use Rattle.dr_levels.specs.declared.triplet.Levels.{Levels}
-use Rattle.dr_course.specs.Course.{Items, course}
-use Rattle.dr_course.specs.Turning.{Stack, between, gives, done, stops, turn}
-use Rattle.dr_course.specs.Leading.{Left, Leads, stays, moves, turns, columns_of, head_of, heads as next_of, behind_move}
-use Rattle.dr_course.proofs.LeadingLemmas.{leads_taken, leads_on}
+use Rattle.dr_moves.specs.Course.{Items, course}
+use Rattle.dr_moves.specs.Turning.{Stack, between, gives, done, stops, turn}
+use Rattle.dr_moves.specs.Leading.{Left, Leads, stays, moves, turns, columns_of, head_of, heads as next_of, behind_move}
+use Rattle.dr_moves.proofs.LeadingLemmas.{leads_taken, leads_on}
 use Rattle.dr_walk.specs.Seen.{levels_at, AreLevelsOf}
 use Rattle.std.proofs.Common.{Result, Ok, Err}
 use Rattle.dr_nested.specs.Views.{kind_view}

@@ -11,9 +11,9 @@ use Rattle.dr_meaning.specs.Walk.{Move}
 use Rattle.dr_meaning.proofs.WorkedSchemas.{document}
 use Rattle.dr_meaning.proofs.WorkedRecords.{record_10, record_20, numbers}
 use Rattle.dr_meaning.proofs.WorkedPaths.{step, doc_id, country, url}
-use Rattle.dr_course.specs.Course.{Items, course}
-use Rattle.dr_course.specs.Turning.{Stack, between, Turn, gives, goes_on, done, stops, turn}
-use Rattle.dr_course.specs.Leading.{Left, Leads, stays, moves, turns, columns_of, heads, behind_move}
+use Rattle.dr_moves.specs.Course.{Items, course}
+use Rattle.dr_moves.specs.Turning.{Stack, between, Turn, gives, goes_on, done, stops, turn}
+use Rattle.dr_moves.specs.Leading.{Left, Leads, stays, moves, turns, columns_of, heads, behind_move}
 use Rattle.dr_walk.specs.Walking.{HasColumns, NoneHas}
 use Rattle.dr_walk.proofs.AnswerLemmas.{none_has}
 

@@ -3,8 +3,8 @@ use Rattle.std.specs.Prelude.{◌≡◌, ℕ, zero, suc, [], ◌∷◌, map, tru
 use Rattle.dr_meaning.specs.Schema.{int64_kind, text_kind}
 use Rattle.dr_meaning.proofs.WorkedSchemas.{document}
 use Rattle.dr_meaning.proofs.WorkedPaths.{doc_id, backward, forward, country, url}
-use Rattle.dr_course.specs.Course.{course}
-use Rattle.dr_course.proofs.WorkedCourse.{gate, fs, F}
+use Rattle.dr_moves.specs.Course.{course}
+use Rattle.dr_moves.proofs.WorkedCourse.{gate, fs, F}
 use Rattle.dr_walk.specs.Laying.{flat_look, flat_give, flat_visit, flat_null, flat_end, laying, lay, no_level, closed}
 use Rattle.dr_walk.specs.Seen.{first_shut, may_come, absent_level, due_levels}
 

@@ -10,8 +10,8 @@ use Rattle.dr_meaning.specs.WalkLaws.{open_after_moves}
 use Rattle.dr_levels.specs.Views.{levels_pair, move_view}
 use Rattle.dr_levels.specs.declared.moves.Move.{Move as CodeMove}
 use Rattle.dr_levels.specs.declared.triplet.Levels.{Levels}
-use Rattle.dr_course.specs.Leading.{Left}
-use Rattle.dr_course.specs.Selection.{all_differ}
+use Rattle.dr_moves.specs.Leading.{Left}
+use Rattle.dr_moves.specs.Selection.{all_differ}
 use Rattle.dr_walk.specs.Walking.{HasColumns, NoneHas, IsAtLevels, is_known, next_levels, leaf_of, given_leaf, moves_over, is_fit}
 use Rattle.dr_walk.specs.declared.batches.Turned.{Turned}
 use Rattle.dr_walk.specs.declared.fault.AssembleFault.{AssembleFault}

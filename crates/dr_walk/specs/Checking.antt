@@ -9,8 +9,8 @@ use Rattle.dr_meaning.specs.Walk.{Move, walk, no_record}
 use Rattle.dr_meaning.specs.WalkLaws.{open_after_moves}
 use Rattle.dr_levels.specs.Views.{triplets_view, move_view}
 use Rattle.dr_levels.specs.declared.triplets.Triplets.{Triplets}
-use Rattle.dr_course.specs.Leading.{Left, head_of, tail_of}
-use Rattle.dr_course.specs.Selection.{all_differ}
+use Rattle.dr_moves.specs.Leading.{Left, head_of, tail_of}
+use Rattle.dr_moves.specs.Selection.{all_differ}
 use Rattle.dr_walk.specs.Walking.{HasColumns, NoneHas, is_known, leaf_of}
 use Rattle.dr_walk.specs.Valued.{IsAt}
 use Rattle.dr_walk.specs.declared.fault.AssembleFault.{AssembleFault}

@@ -4,7 +4,7 @@ use Rattle.std.specs.List.{slice_get}
 use Rattle.dr_meaning.specs.Schema.{Repetition, required, optional, repeated, Shape}
 use Rattle.dr_meaning.specs.Schema as tree
 use Rattle.dr_meaning.specs.Automaton.{Pick}
-use Rattle.dr_course.specs.Course.{Gate, Give, Visit, Items, nothing, give, visit, visit_of, followed_by, gated, by_repetition, shape_near_items, shape_far_items}
+use Rattle.dr_moves.specs.Course.{Gate, Give, Visit, Items, nothing, give, visit, visit_of, followed_by, gated, by_repetition, shape_near_items, shape_far_items}
 use Rattle.dr_walk.specs.Laying.{FlatItem, flat_look, flat_give, flat_visit, flat_null, flat_end, Lap, lap_of, plain_give, plain_visit, looks_for}
 use Rattle.dr_walk.specs.Views.{items_view, lap_view}
 use Rattle.dr_walk.specs.declared.items.Lap as code_lap

@@ -1,7 +1,7 @@
 -- A course laid out in one array: the items of a level in one piece, those of each instance before the level that visits it.
 use Rattle.std.specs.Prelude.{ℕ, List, [], ◌∷◌, ◌++◌, length, reverse, Bool, true, false, Option, Some}
 use Rattle.dr_meaning.specs.Schema.{Kind}
-use Rattle.dr_course.specs.Course.{Gate, Give, Visit, Items, nothing, give, visit}
+use Rattle.dr_moves.specs.Course.{Gate, Give, Visit, Items, nothing, give, visit}
 
 -- a leaf of a level, without its gates: whether it stands behind some
 pub record FlatGive : Type 0 where

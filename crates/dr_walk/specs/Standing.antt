@@ -9,8 +9,8 @@ use Rattle.dr_levels.specs.Views.{levels_pair, triplet_levels}
 use Rattle.dr_levels.specs.declared.triplet.Levels.{Levels}
 use Rattle.dr_nested.specs.Views.{kind_view}
 use Rattle.dr_nested.specs.declared.shape.Kind as code_kind
-use Rattle.dr_course.specs.Course.{Visit, Items}
-use Rattle.dr_course.specs.Turning.{Stack, between, in_record, in_items, in_absent, lapped, entering, Turn as MeantTurn, gives, goes_on, done, stops, turn, is_value_of, is_no_value}
+use Rattle.dr_moves.specs.Course.{Visit, Items}
+use Rattle.dr_moves.specs.Turning.{Stack, between, in_record, in_items, in_absent, lapped, entering, Turn as MeantTurn, gives, goes_on, done, stops, turn, is_value_of, is_no_value}
 use Rattle.dr_walk.specs.Laying.{FlatItem, flat_null, flat_end, Lap, lap_of}
 use Rattle.dr_walk.specs.Seen.{first_shut, next_definitions, AreLevelsOf, looks_there}
 use Rattle.dr_walk.specs.Views.{items_view}

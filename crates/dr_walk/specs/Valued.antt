@@ -10,7 +10,7 @@ use Rattle.dr_levels.specs.declared.moves.Move.{Move as CodeMove}
 use Rattle.dr_levels.specs.declared.triplet.Triplet as code_triplet
 use Rattle.dr_levels.specs.declared.triplet.ValueRef.{ValueRef}
 use Rattle.dr_levels.specs.declared.triplet.Levels.{Levels}
-use Rattle.dr_course.specs.Leading.{Left, head_of, behind_move}
+use Rattle.dr_moves.specs.Leading.{Left, head_of, behind_move}
 use Rattle.dr_walk.specs.Walking.{is_known, leaf_of, given_leaf, moves_over, is_fit, IsAtLevels}
 use Rattle.dr_walk.specs.declared.fault.AssembleFault.{AssembleFault}
 use Rattle.dr_walk.specs.declared.level_move.LevelMove.{LevelMove}

@@ -4,7 +4,7 @@ use Rattle.std.specs.declared.alloc.Global.{Global}
 use Rattle.dr_meaning.specs.Automaton as automaton
 use Rattle.dr_nested.specs.Views.{kind_view}
 use Rattle.dr_nested.specs.PathView.{lent_path}
-use Rattle.dr_course.specs.Course as course
+use Rattle.dr_moves.specs.Course as course
 use Rattle.dr_walk.specs.Laying as laid
 use Rattle.dr_walk.specs.declared.items.Gate.{Gate}
 use Rattle.dr_walk.specs.declared.items.Give.{Give}

@@ -10,9 +10,9 @@ use Rattle.dr_nested.specs.Views.{kind_view}
 use Rattle.dr_levels.specs.Views.{levels_pair, triplet_levels}
 use Rattle.dr_levels.specs.declared.moves.Move.{Move as CodeMove}
 use Rattle.dr_levels.specs.declared.triplet.Levels.{Levels}
-use Rattle.dr_course.specs.Course.{course}
-use Rattle.dr_course.specs.Turning.{Stack, between, done, stops, turn}
-use Rattle.dr_course.specs.Leading.{Left, Leads, columns_of, head_of, heads, behind_move}
+use Rattle.dr_moves.specs.Course.{course}
+use Rattle.dr_moves.specs.Turning.{Stack, between, done, stops, turn}
+use Rattle.dr_moves.specs.Leading.{Left, Leads, columns_of, head_of, heads, behind_move}
 use Rattle.dr_walk.specs.Seen.{levels_at}
 use Rattle.dr_walk.specs.Standing.{Stands, fits}
 use Rattle.dr_walk.specs.declared.fault.AssembleFault.{AssembleFault}

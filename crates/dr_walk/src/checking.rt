@@ -6,7 +6,7 @@ ghost use Rattle.dr_meaning.specs.Path.{is_leaf_path};
 ghost use Rattle.dr_meaning.specs.Record as record_tree;
 ghost use Rattle.dr_nested.specs.Views.{fields_view};
 ghost use Rattle.dr_levels.specs.Views.{triplets_view};
-ghost use Rattle.dr_course.specs.Selection.{all_differ};
+ghost use Rattle.dr_moves.specs.Selection.{all_differ};
 ghost use Rattle.dr_walk.specs.Walking.{HasColumns, NoneHas};
 ghost use Rattle.dr_walk.specs.declared.fault.AssembleFault.{AssembleFault};
 ghost use Rattle.dr_nested.specs.PathView.{lent_path};

@@ -6,7 +6,7 @@ ghost use Rattle.dr_meaning.specs.Path.{Leaf, is_leaf_path};
 ghost use Rattle.dr_meaning.specs.WalkLaws.{AreLeavesOf};
 ghost use Rattle.dr_nested.specs.Views.{fields_view};
 ghost use Rattle.dr_levels.specs.Views.{triplet_view, triplets_view};
-ghost use Rattle.dr_course.specs.Selection.{all_differ};
+ghost use Rattle.dr_moves.specs.Selection.{all_differ};
 ghost use Rattle.dr_walk.specs.Checking.{rest_at, rest_behind, next_at, HasGiven, Advances, NestsOn, OverGiven};
 ghost use Rattle.dr_nested.specs.PathView.{lent_path};
 

@@ -3,8 +3,8 @@
 ghost use Rattle.std.specs.Prelude.{◌≡◌, ◌<◌, ◌≢◌, ℕ, List, length, true, false, Option, Some, None, option_map, IfOk, Ok, replicate};
 ghost use Rattle.dr_meaning.specs.Column.{Triplet as meant_triplet};
 ghost use Rattle.dr_levels.specs.Views.{levels_pair};
-ghost use Rattle.dr_course.specs.Course.{Items};
-ghost use Rattle.dr_course.specs.Turning.{Stack, between};
+ghost use Rattle.dr_moves.specs.Course.{Items};
+ghost use Rattle.dr_moves.specs.Turning.{Stack, between};
 ghost use Rattle.dr_walk.specs.Flat.{is_table};
 
 use crate::laying::Table;

@@ -4,7 +4,7 @@ ghost use Rattle.std.specs.Prelude.{◌≡◌, ◌≤◌, ◌<◌, ◌+◌, ◌^
 ghost use Rattle.dr_meaning.specs.Schema.{depth, shape_depth, greatest_depth, repeated_fields, shape_repeated_fields, repetition_count};
 ghost use Rattle.dr_meaning.specs.Schema as tree;
 ghost use Rattle.dr_nested.specs.Views.{rep_view, shape_view, fields_view};
-ghost use Rattle.dr_course.specs.Course.{near_items, far_items, field_near_items, shape_near_items, shape_far_items, unless_repeated, where_selected, gated as meant_gated, course, Gate as MeantGate};
+ghost use Rattle.dr_moves.specs.Course.{near_items, far_items, field_near_items, shape_near_items, shape_far_items, unless_repeated, where_selected, gated as meant_gated, course, Gate as MeantGate};
 ghost use Rattle.dr_walk.specs.Laying.{FlatItem, lay, laying, no_level, closed, visited, given, lap_of, plain_visit};
 ghost use Rattle.dr_walk.specs.Views.{picks_view, gates_view, level_view, items_view, lap_view, visit_view};
 ghost use Rattle.dr_walk.specs.Flat.{far_of_field, visit_at, is_laid, is_table};

@@ -2,7 +2,7 @@
 
 ghost use Rattle.std.specs.Prelude.{◌≡◌, ◌≤◌, ◌++◌, ◌∷◌, [], List, length, OnOk, IfOk};
 ghost use Rattle.dr_nested.specs.Views.{kind_view};
-ghost use Rattle.dr_course.specs.Course.{give_each};
+ghost use Rattle.dr_moves.specs.Course.{give_each};
 ghost use Rattle.dr_walk.specs.Laying.{FlatItem, lay, laying, nulls_of};
 ghost use Rattle.dr_walk.specs.Views.{picks_view, gates_view, level_view, items_view, item_view};
 

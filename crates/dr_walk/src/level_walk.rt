@@ -14,8 +14,8 @@ ghost use Rattle.dr_walk.specs.declared.level_move.LevelMove.{LevelMove as Meant
 ghost use Rattle.dr_walk.specs.Seen.{levels_at};
 ghost use Rattle.dr_walk.specs.Walking.{count_one, first_wanted};
 ghost use Rattle.dr_levels.specs.Views.{levels_pair};
-ghost use Rattle.dr_course.specs.Leading.{Left, columns_of};
-ghost use Rattle.dr_course.specs.Selection.{all_differ};
+ghost use Rattle.dr_moves.specs.Leading.{Left, columns_of};
+ghost use Rattle.dr_moves.specs.Selection.{all_differ};
 ghost use Rattle.dr_walk.specs.declared.fault.AssembleFault.{AssembleFault};
 ghost use Rattle.dr_nested.specs.PathView.{lent_path};
 
@@ -62,8 +62,8 @@ fn count_of(levels: Option<Levels>) -> u64
 impl LevelWalk {
     ghost use Rattle.dr_walk.specs.Walking.{OverLevels, IsAtLevels, ComesNext, HasColumns, NoneHas, Goes, moves_over, behind_moves, is_fit, HasLevels, pending, wanted_behind as meant_behind, then_wanted, WantsNext};
     ghost use Rattle.dr_walk.specs.Standing.{Stands};
-    ghost use Rattle.dr_course.specs.Course.{Items};
-    ghost use Rattle.dr_course.specs.Turning.{Stack};
+    ghost use Rattle.dr_moves.specs.Course.{Items};
+    ghost use Rattle.dr_moves.specs.Turning.{Stack};
 
     /// A walk over columns of so many records at some leaves, each given by its path; the columns go by the places of
     /// the leaves.

@@ -5,7 +5,7 @@ ghost use Rattle.dr_meaning.specs.Automaton as automaton;
 ghost use Rattle.dr_nested.specs.PathView.{lent_path};
 ghost use Rattle.dr_levels.specs.Orders.{picks_at};
 ghost use Rattle.dr_walk.specs.Views.{pick_view, picks_view};
-ghost use Rattle.dr_course.specs.Course.{first_index as meant_first};
+ghost use Rattle.dr_moves.specs.Course.{first_index as meant_first};
 
 use dr_nested::{NoMemory, Step};
 use std::alloc::Global;

@@ -12,8 +12,8 @@ ghost use Rattle.dr_walk.specs.Standing.{fits as meant_fits};
 ghost use Rattle.dr_levels.specs.Views.{levels_pair, triplet_levels, triplet_view, lent_value};
 ghost use Rattle.dr_walk.specs.Walking.{first_wanted};
 ghost use Rattle.dr_walk.specs.Valued.{kept_value, meant_value};
-ghost use Rattle.dr_course.specs.Leading.{Left, columns_of};
-ghost use Rattle.dr_course.specs.Selection.{all_differ};
+ghost use Rattle.dr_moves.specs.Leading.{Left, columns_of};
+ghost use Rattle.dr_moves.specs.Selection.{all_differ};
 ghost use Rattle.dr_walk.specs.declared.fault.AssembleFault.{AssembleFault};
 ghost use Rattle.dr_nested.specs.PathView.{lent_path};
 

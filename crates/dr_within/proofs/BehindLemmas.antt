@@ -9,10 +9,10 @@ use Rattle.dr_levels.specs.Views.{lent_value, move_view, triplet_view}
 use Rattle.dr_levels.specs.declared.moves.Move.{Move as CodeMove}
 use Rattle.dr_levels.specs.declared.triplet.Triplet.{Triplet as CodeTriplet}
 use Rattle.dr_levels.specs.declared.triplet.ValueRef.{ValueRef}
-use Rattle.dr_firing.specs.Context.{Context, with_value}
+use Rattle.dr_moves.specs.Context.{Context, with_value}
 use Rattle.dr_kept_laws.specs.GroupFlow.{left_with}
 use Rattle.dr_partials.specs.Putting.{Put}
-use Rattle.dr_pruning_laws.specs.Telling.{nothing_read}
+use Rattle.dr_kept_laws.specs.Telling.{nothing_read}
 use Rattle.dr_scalar.specs.Slots.{slot_value}
 use Rattle.dr_within.specs.Framing.{AreMarks}
 

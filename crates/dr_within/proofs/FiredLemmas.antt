@@ -2,7 +2,7 @@
 use Rattle.std.proofs.Common.{◌≡◌, ℕ, List, [], ◌∷◌, ◌++◌, map, Bool, true, false, Option, Some, None, refl, sym, ap, ◌∙◌, ⊎_elim}
 use Rattle.std.specs.Prelude.{◌==◌, if◌then◌else◌}
 use Rattle.std.proofs.lemmas.Bool.{eq-eqb, ne_eqb, cases_eq}
-use Rattle.dr_firing.specs.Context.{Context}
+use Rattle.dr_moves.specs.Context.{Context}
 use Rattle.dr_partials.specs.Putting.{Put}
 use Rattle.dr_kept_laws.specs.GroupFlow.{Reading, fired_if, all_fired, left_if, all_left}
 use Rattle.dr_within.specs.Takings.{Take, put_read, all_read, fires_at, same_leaf, firing_at}

@@ -2,13 +2,13 @@
 use Rattle.std.proofs.Common.{◌≡◌, ℕ, List, [], ◌∷◌, ◌++◌, Bool, false, Option, Some, None, refl, sym, ap, ap₂, ◌∙◌, append-nil, append_assoc}
 use Rattle.std.specs.Prelude.{reverse}
 use Rattle.dr_meaning.specs.Walk.{Move, enter, value, leave}
-use Rattle.dr_firing.specs.Context.{Context}
-use Rattle.dr_firing.specs.Condition.{Watch}
-use Rattle.dr_pruning_laws.specs.Frames.{Frames, frame_left, frame_move, frame_moves}
-use Rattle.dr_pruning_laws.specs.MovedContexts.{after_moves}
-use Rattle.dr_pruning_laws.specs.Parts.{pruning_tells}
-use Rattle.dr_pruning_laws.specs.Telling.{Verdict, Watching, nothing_read, watch_move, watch_moves, verdicts_at, told, first_dropped}
-use Rattle.dr_put_laws.specs.FramesPartial.{no_frames, all_moves}
+use Rattle.dr_moves.specs.Context.{Context}
+use Rattle.dr_moves.specs.Condition.{Watch}
+use Rattle.dr_kept_laws.specs.Frames.{Frames, frame_left, frame_move, frame_moves}
+use Rattle.dr_kept_laws.specs.MovedContexts.{after_moves}
+use Rattle.dr_kept_laws.specs.Parts.{pruning_tells}
+use Rattle.dr_kept_laws.specs.Telling.{Verdict, Watching, nothing_read, watch_move, watch_moves, verdicts_at, told, first_dropped}
+use Rattle.dr_made_laws.specs.FramesPartial.{no_frames, all_moves}
 use Rattle.dr_condition.specs.Parted.{WatchedParts}
 use Rattle.dr_condition.specs.Watching.{pruned_behind, dropped_at}
 use Rattle.dr_condition.proofs.WatchingLemmas.{twice_reversed}

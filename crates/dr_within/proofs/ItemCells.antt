@@ -3,9 +3,9 @@ use Rattle.std.proofs.Common.{◌≡◌, ℕ, List, [], ◌∷◌, Option, sym, 
 use Rattle.dr_meaning.specs.Path.{Leaf}
 use Rattle.dr_meaning.specs.Record.{Value}
 use Rattle.dr_meaning.specs.Query.{RecordTerm as MeantTerm, aggregated, present_values}
-use Rattle.dr_firing.specs.Context.{Context}
+use Rattle.dr_moves.specs.Context.{Context}
 use Rattle.dr_cells.specs.Results.{value_cell}
-use Rattle.dr_object_laws.specs.ObjectFlow.{Made, ReadItem, gathered, value_made, values_for}
+use Rattle.dr_made_laws.specs.ObjectFlow.{Made, ReadItem, gathered, value_made, values_for}
 use Rattle.dr_partials.specs.Accumulators.{Accumulator, accumulated, result_of}
 use Rattle.dr_partials.proofs.AccumulatorLemmas.{gives_aggregate}
 use Rattle.dr_plan.specs.Views.{record_term_view, fold_view}

@@ -5,9 +5,9 @@ use Rattle.std.specs.List.{slice_get, flat_map}
 use Rattle.dr_meaning.specs.Path.{Leaf}
 use Rattle.dr_meaning.specs.Record.{Value}
 use Rattle.dr_meaning.specs.Query.{RecordTerm as MeantTerm, expression, within, RecordItem as MeantItem}
-use Rattle.dr_firing.specs.Context.{Context}
+use Rattle.dr_moves.specs.Context.{Context}
 use Rattle.dr_kept_laws.specs.GroupFlow.{Reading, fired_if}
-use Rattle.dr_object_laws.specs.ObjectFlow.{Made, taken, ReadItem, items_of, taken_for, taken_from, seen_items}
+use Rattle.dr_made_laws.specs.ObjectFlow.{Made, taken, ReadItem, items_of, taken_for, taken_from, seen_items}
 use Rattle.dr_plan.specs.Views.{record_term_view, fold_view}
 use Rattle.dr_plan.specs.declared.aggregate.Within.{Within}
 use Rattle.dr_plan.specs.declared.expression.Expr.{Expr}

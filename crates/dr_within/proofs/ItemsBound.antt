@@ -18,10 +18,10 @@ use Rattle.dr_meaning.proofs.BindingFaultLemmas.{bound_is, bound_without_fault}
 use Rattle.dr_meaning.proofs.BoundPartsLemmas.{both_empty, no_part_faults}
 use Rattle.dr_partials.specs.PartialLaws.{all_related}
 use Rattle.dr_partials.proofs.RowLemmas.{Each}
-use Rattle.dr_put_laws.proofs.ConditionLemmas.{condition_is_related}
+use Rattle.dr_made_laws.proofs.ConditionLemmas.{condition_is_related}
 use Rattle.dr_kept_laws.specs.ObjectsOfKeptLaws.{term_expression}
-use Rattle.dr_object_laws.specs.ObjectFlowLaws.{HoldsRows}
-use Rattle.dr_object_laws.proofs.PathLemmas.{begins_along, chain_front}
+use Rattle.dr_made_laws.specs.ObjectFlowLaws.{HoldsRows}
+use Rattle.dr_made_laws.proofs.PathLemmas.{begins_along, chain_front}
 
 -- ---- an expression whose paths binding finds related
 

@@ -6,12 +6,12 @@ use Rattle.dr_meaning.specs.Record.{Node}
 use Rattle.dr_meaning.specs.Expression.{longest_chain}
 use Rattle.dr_meaning.specs.Query.{Query}
 use Rattle.dr_meaning.specs.QueryLeaves.{query_leaves}
-use Rattle.dr_firing.specs.Context.{Context}
+use Rattle.dr_moves.specs.Context.{Context}
 use Rattle.dr_kept_laws.specs.GroupFlowLaws.{MeansAt}
 use Rattle.dr_partials.specs.PartialLaws.{all_related}
-use Rattle.dr_put_laws.specs.LastRead.{paths_at}
-use Rattle.dr_put_laws.proofs.LastReadLemmas.{meant_at_last}
-use Rattle.dr_put_laws.proofs.LeavesInOrderLemmas.{query_leaves_in_order}
+use Rattle.dr_made_laws.specs.LastRead.{paths_at}
+use Rattle.dr_made_laws.proofs.LastReadLemmas.{meant_at_last}
+use Rattle.dr_made_laws.proofs.LeavesInOrderLemmas.{query_leaves_in_order}
 use Rattle.dr_scalar.specs.Leaves.{greatest}
 use Rattle.dr_scalar.specs.LeafLaws.{SameRead}
 use Rattle.dr_condition.specs.RowValues.{read_of}

@@ -4,9 +4,9 @@ use Rattle.std.specs.Prelude.{⊤}
 use Rattle.dr_meaning.specs.Schema.{Repetition, required, optional, repeated, Fields, no_fields, field, Shape, leaf, group, repetition_count, shape_repeated_fields}
 use Rattle.dr_meaning.specs.Path.{Step}
 use Rattle.dr_meaning.specs.Query.{Levels, no_levels, deeper, append_levels, as_level, levels_in, shape_levels, levels_of}
-use Rattle.dr_object_laws.specs.ObjectFlow.{level_count}
-use Rattle.dr_object_laws.proofs.LevelLemmas.{count_field, AllBelow, shape_below}
-use Rattle.dr_pruning_laws.specs.ChainNumbers.{numbers_in, shape_numbers, own_number}
+use Rattle.dr_made_laws.specs.ObjectFlow.{level_count}
+use Rattle.dr_made_laws.proofs.LevelLemmas.{count_field, AllBelow, shape_below}
+use Rattle.dr_kept_laws.specs.ChainNumbers.{numbers_in, shape_numbers, own_number}
 use Rattle.dr_within.specs.LevelTable.{last_or, level_number}
 
 -- each of these levels, of which the first has the number k, has its number by its path

@@ -3,8 +3,8 @@ use Rattle.std.proofs.Common.{◌≡◌, ℕ, List, [], ◌∷◌, ◌++◌, Boo
 use Rattle.std.specs.Prelude.{map, ◌==◌, if◌then◌else◌, Option}
 use Rattle.dr_meaning.specs.Record.{Value}
 use Rattle.dr_meaning.specs.Query.{Object}
-use Rattle.dr_object_laws.specs.ObjectFlow.{Made, built, taken, values_for, objects_for}
-use Rattle.dr_object_laws.specs.ObjectFlowLaws.{made_objects}
+use Rattle.dr_made_laws.specs.ObjectFlow.{Made, built, taken, values_for, objects_for}
+use Rattle.dr_made_laws.specs.ObjectFlowLaws.{made_objects}
 use Rattle.dr_within.specs.ObjectFraming.{built_in}
 
 -- ---- one part behind another

@@ -5,7 +5,7 @@ use Rattle.std.specs.declared.cmp.Ordering.{Ordering}
 use Rattle.std.specs.declared.cmp.Ordering.TheVariants.{Less, Equal, Greater}
 use Rattle.dr_meaning.specs.Record.{Value}
 use Rattle.dr_meaning.specs.Query.{GroupItem, Query, Selection, objects, groups, tuple_order}
-use Rattle.dr_firing.specs.Context.{Context}
+use Rattle.dr_moves.specs.Context.{Context}
 use Rattle.dr_partials.specs.Partials.{Group, Partial, lines, grouped}
 use Rattle.dr_partials.specs.Putting.{Taken, Put, put, put_all, put_group, put_into, put_selected, empty_accumulators}
 use Rattle.dr_partials.proofs.GroupLemmas.{same_itself}

@@ -9,13 +9,13 @@ use Rattle.dr_meaning.specs.Record.{Node, is_record}
 use Rattle.dr_meaning.specs.Kept.{kept}
 use Rattle.dr_meaning.specs.Query.{RecordItem as MeantItem, Query, objects, levels_of}
 use Rattle.dr_meaning.specs.Walk.{Move, enter, value, leave, walk}
-use Rattle.dr_firing.specs.Context.{Context}
-use Rattle.dr_firing.specs.Tour.{Tour, over, saw, inside, moves_of, Toured}
-use Rattle.dr_firing.proofs.TourLemmas.{walk_tour}
-use Rattle.dr_object_laws.specs.ObjectFlow.{Made, items_of, seen_items, left_items}
-use Rattle.dr_object_laws.specs.ObjectFlowLaws.{built_of, made_objects}
-use Rattle.dr_pruning_laws.specs.Frames.{Frames, frame_left, frame_move}
-use Rattle.dr_put_laws.specs.FramesPartial.{no_frames}
+use Rattle.dr_moves.specs.Context.{Context}
+use Rattle.dr_moves.specs.Tour.{Tour, over, saw, inside, moves_of, Toured}
+use Rattle.dr_moves.proofs.TourLemmas.{walk_tour}
+use Rattle.dr_made_laws.specs.ObjectFlow.{Made, items_of, seen_items, left_items}
+use Rattle.dr_made_laws.specs.ObjectFlowLaws.{built_of, made_objects}
+use Rattle.dr_kept_laws.specs.Frames.{Frames, frame_left, frame_move}
+use Rattle.dr_made_laws.specs.FramesPartial.{no_frames}
 use Rattle.dr_partials.specs.Partials.{lines, empty_selected, empty_partial, partial_of}
 use Rattle.dr_plan.specs.Objects.{ObjectTree, object_tree_of, object_view}
 use Rattle.dr_plan.specs.Planned.{Planned, plan_view, plan_leaves, planned_query, objects_of_plan, objects_of_query}

@@ -8,8 +8,8 @@ use Rattle.dr_meaning.specs.Query.{Aggregate, RecordItem as MeantItem, Object}
 use Rattle.dr_partials.specs.Accumulators.{Accumulator, empty_accumulator, accumulator_of_one, join, accumulated}
 use Rattle.dr_partials.proofs.AccumulatorLemmas.{join_of_both, empty_left, empty_right, cell_aggregate}
 use Rattle.dr_cells.specs.Results.{result_cells}
-use Rattle.dr_object_laws.specs.ObjectFlow.{Made, built, taken, values_for}
-use Rattle.dr_object_laws.specs.ObjectFlowLaws.{made_objects}
+use Rattle.dr_made_laws.specs.ObjectFlow.{Made, built, taken, values_for}
+use Rattle.dr_made_laws.specs.ObjectFlowLaws.{made_objects}
 use Rattle.dr_within.specs.ObjectFraming.{built_in, AreRuns, HoldsBuilt, aggregate_at, gathered_for, AreOfItems, HoldsValues, HoldsFrame, HoldsFrames}
 use Rattle.dr_within.specs.WithinValues.{is_among, JoinsAt, JoinsOthers}
 use Rattle.dr_within.specs.declared.built.Built.{Built}

@@ -6,11 +6,11 @@ use Rattle.std.proofs.lemmas.Bool.{eqb-true, eq-eqb, ne_eqb}
 use Rattle.dr_meaning.specs.Path.{Step, same_path}
 use Rattle.dr_meaning.specs.Record.{Value}
 use Rattle.dr_meaning.specs.Query.{RecordItem, term_chain, Object, cell, objects_of, Levels, no_levels, deeper, leads_to_items, with_list}
-use Rattle.dr_firing.specs.Context.{Context}
+use Rattle.dr_moves.specs.Context.{Context}
 use Rattle.dr_cells.specs.Results.{ResultCell, count_cell, own_values, count_objects, own_counts, all_cells, inner_cells, object_cells, result_cells}
 use Rattle.dr_plan.specs.Objects.{places_at}
-use Rattle.dr_object_laws.specs.ObjectFlow.{Made, built, taken, ReadItem, items_of, values_for, objects_for, value_made, cells_made, lists_made, Level, object_made, is_own, passed_on, level_count, level_from, left_level, left_items}
-use Rattle.dr_object_laws.specs.ObjectFlowLaws.{made_objects}
+use Rattle.dr_made_laws.specs.ObjectFlow.{Made, built, taken, ReadItem, items_of, values_for, objects_for, value_made, cells_made, lists_made, Level, object_made, is_own, passed_on, level_count, level_from, left_level, left_items}
+use Rattle.dr_made_laws.specs.ObjectFlowLaws.{made_objects}
 use Rattle.dr_within.specs.ObjectFraming.{built_in}
 use Rattle.dr_within.specs.ObjectLevels.{level_at, with_number, list_numbers, makes_objects}
 use Rattle.dr_within.specs.OwnCells.{cells_of_item, item_cells, own_cells, list_counts, list_cells}

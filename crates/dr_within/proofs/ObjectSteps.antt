@@ -5,9 +5,9 @@ use Rattle.dr_meaning.specs.Schema.{Schema}
 use Rattle.dr_meaning.specs.Path.{Leaf}
 use Rattle.dr_meaning.specs.Query.{RecordItem as MeantItem, levels_of}
 use Rattle.dr_meaning.specs.Walk.{Move}
-use Rattle.dr_firing.specs.Context.{Context}
-use Rattle.dr_object_laws.specs.ObjectFlow.{Made, ReadItem, items_of, seen_items, left_items}
-use Rattle.dr_pruning_laws.specs.Frames.{Frames, frame_left, frame_move}
+use Rattle.dr_moves.specs.Context.{Context}
+use Rattle.dr_made_laws.specs.ObjectFlow.{Made, ReadItem, items_of, seen_items, left_items}
+use Rattle.dr_kept_laws.specs.Frames.{Frames, frame_left, frame_move}
 use Rattle.dr_plan.specs.Planned.{plan_leaves}
 use Rattle.dr_plan.specs.declared.plan.Plan.{Plan}
 use Rattle.dr_plan.specs.declared.plan.RecordItem.{RecordItem}

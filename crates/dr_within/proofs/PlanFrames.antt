@@ -6,11 +6,11 @@ use Rattle.dr_meaning.specs.Path.{paths_of_leaves}
 use Rattle.dr_meaning.specs.Record.{Node, is_record}
 use Rattle.dr_meaning.specs.Query.{Query}
 use Rattle.dr_meaning.specs.Walk.{walk}
-use Rattle.dr_firing.specs.Context.{Context}
-use Rattle.dr_firing.specs.Condition.{Watch}
-use Rattle.dr_pruning_laws.specs.Frames.{frame_moves}
-use Rattle.dr_pruning_laws.specs.Telling.{nothing_read}
-use Rattle.dr_put_laws.specs.FramesPartial.{no_frames}
+use Rattle.dr_moves.specs.Context.{Context}
+use Rattle.dr_moves.specs.Condition.{Watch}
+use Rattle.dr_kept_laws.specs.Frames.{frame_moves}
+use Rattle.dr_kept_laws.specs.Telling.{nothing_read}
+use Rattle.dr_made_laws.specs.FramesPartial.{no_frames}
 use Rattle.dr_plan.specs.Planned.{plan_leaves}
 use Rattle.dr_plan.specs.PlanOf.{IsPlanOf}
 use Rattle.dr_plan.specs.declared.plan.Plan.{Plan}

@@ -10,8 +10,8 @@ use Rattle.dr_meaning.specs.Record.{Value}
 use Rattle.dr_meaning.specs.Expression.{evaluate, longest_chain, paths_of}
 use Rattle.dr_meaning.specs.Query.{RecordItem as MeantItem, objects, Query}
 use Rattle.dr_kept_laws.specs.ObjectsOfKeptLaws.{term_expression}
-use Rattle.dr_object_laws.specs.ObjectFlow.{items_of}
-use Rattle.dr_object_laws.specs.ObjectFlowLaws.{IsRead, AreRead}
+use Rattle.dr_made_laws.specs.ObjectFlow.{items_of}
+use Rattle.dr_made_laws.specs.ObjectFlowLaws.{IsRead, AreRead}
 use Rattle.dr_partials.specs.PartialLaws.{all_related}
 use Rattle.dr_partials.proofs.RowLemmas.{Each}
 use Rattle.dr_plan.specs.Fitting.{expr_fits, is_summed, record_term_fits, selection_fits}
@@ -23,7 +23,7 @@ use Rattle.dr_plan.specs.declared.plan.Plan.{Plan}
 use Rattle.dr_plan.specs.declared.plan.RecordItem.{RecordItem}
 use Rattle.dr_plan.specs.declared.plan.RecordTerm.{RecordTerm}
 use Rattle.dr_plan.specs.declared.plan.Selection.{Selection}
-use Rattle.dr_put_laws.specs.LastRead.{paths_at}
+use Rattle.dr_made_laws.specs.LastRead.{paths_at}
 use Rattle.dr_scalar.specs.Leaves.{expr_leaves}
 use Rattle.dr_scalar.specs.OverSlots.{expr_over}
 use Rattle.dr_scalar.proofs.LeafPathLemmas.{leaves_are_paths}

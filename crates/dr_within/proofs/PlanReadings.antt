@@ -12,19 +12,19 @@ use Rattle.dr_meaning.specs.Expression.{longest_chain, paths_of}
 use Rattle.dr_meaning.specs.Query.{GroupTerm, key, count_rows, aggregate, GroupItem, Selection, groups, Query, key_tuple}
 use Rattle.dr_meaning.specs.MeaningLaws.{group_term_paths}
 use Rattle.dr_meaning.specs.Kept.{kept}
-use Rattle.dr_firing.specs.Context.{Context}
+use Rattle.dr_moves.specs.Context.{Context}
 use Rattle.dr_kept_laws.specs.GroupFlowLaws.{AllMean}
 use Rattle.dr_partials.specs.PartialLaws.{all_related, is_mergeable_selection}
 use Rattle.dr_partials.specs.PartialTypes.{aggregates_among, with_aggregate}
 use Rattle.dr_partials.specs.Putting.{Put, puts_of_selection}
 use Rattle.dr_partials.proofs.BoundLemmas.{bound_is_mergeable}
-use Rattle.dr_put_laws.specs.LastRead.{paths_at}
-use Rattle.dr_put_laws.specs.Readings.{Trigger, term_readings, group_readings}
-use Rattle.dr_put_laws.specs.Alike.{MeanAlike}
-use Rattle.dr_put_laws.specs.FlowPartial.{ReadsGroups}
-use Rattle.dr_put_laws.proofs.LastReadLemmas.{longest_of_both}
-use Rattle.dr_put_laws.proofs.AlikeLemmas.{alike_readings}
-use Rattle.dr_put_laws.proofs.ReadingLemmas.{readings_mean_puts}
+use Rattle.dr_made_laws.specs.LastRead.{paths_at}
+use Rattle.dr_made_laws.specs.Readings.{Trigger, term_readings, group_readings}
+use Rattle.dr_made_laws.specs.Alike.{MeanAlike}
+use Rattle.dr_made_laws.specs.FlowPartial.{ReadsGroups}
+use Rattle.dr_made_laws.proofs.LastReadLemmas.{longest_of_both}
+use Rattle.dr_made_laws.proofs.AlikeLemmas.{alike_readings}
+use Rattle.dr_made_laws.proofs.ReadingLemmas.{readings_mean_puts}
 use Rattle.dr_plan.specs.Fitting.{aggregate_fits, expr_fits, is_summed}
 use Rattle.dr_plan.specs.Planned.{Planned, plan_view, plan_leaves, planned_query}
 use Rattle.dr_plan.specs.PlanOf.{IsPlanOf}

@@ -6,7 +6,7 @@ use Rattle.dr_meaning.specs.Column.{Triplet}
 use Rattle.dr_meaning.specs.Walk.{Move, enter, value, leave}
 use Rattle.dr_levels.specs.Views.{lent_value}
 use Rattle.dr_levels.specs.declared.triplet.ValueRef.{ValueRef}
-use Rattle.dr_firing.specs.Context.{with_value}
+use Rattle.dr_moves.specs.Context.{with_value}
 use Rattle.dr_scalar.specs.Slots.{slot_value}
 use Rattle.dr_within.specs.Rows.{HasRead, IsOfLeaf, value_in}
 use Rattle.dr_within.specs.declared.row.Row.{Row}

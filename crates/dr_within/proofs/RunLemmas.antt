@@ -7,8 +7,8 @@ use Rattle.std.proofs.Math.Seq.{drop-cons, take-append_seam, drop-append_seam}
 use Rattle.dr_meaning.specs.Query.{Object}
 use Rattle.dr_cells.specs.Results.{ResultCell, object_cells, result_cells}
 use Rattle.dr_cells.proofs.ReadingLemmas.{result_cells-append}
-use Rattle.dr_object_laws.specs.ObjectFlow.{Made, built, objects_for}
-use Rattle.dr_object_laws.specs.ObjectFlowLaws.{made_objects}
+use Rattle.dr_made_laws.specs.ObjectFlow.{Made, built, objects_for}
+use Rattle.dr_made_laws.specs.ObjectFlowLaws.{made_objects}
 use Rattle.dr_within.specs.ObjectFraming.{IsRun, BeginsWithRun, AreRuns}
 use Rattle.dr_within.specs.declared.built.Run.{Run}
 use Rattle.dr_within.proofs.MadeParts.{objects_both, objects_for_both, run_objects, run_objects_for}

@@ -9,13 +9,13 @@ use Rattle.dr_meaning.specs.Record.{Node, is_record}
 use Rattle.dr_meaning.specs.Kept.{kept}
 use Rattle.dr_meaning.specs.Query.{Query, levels_of}
 use Rattle.dr_meaning.specs.Walk.{walk}
-use Rattle.dr_pruning_laws.specs.ChainNumbers.{chain_numbers}
-use Rattle.dr_pruning_laws.specs.Frames.{Frames}
+use Rattle.dr_kept_laws.specs.ChainNumbers.{chain_numbers}
+use Rattle.dr_kept_laws.specs.Frames.{Frames}
 use Rattle.dr_partials.specs.Partials.{lines, partial_of}
-use Rattle.dr_object_laws.specs.ObjectFlow.{Made, items_of, seen_items, left_items}
-use Rattle.dr_object_laws.specs.ObjectFlowLaws.{built_of, made_objects}
-use Rattle.dr_object_laws.proofs.FramesObjects.{frames_make_objects, all_moves_make_objects}
-use Rattle.dr_object_laws.proofs.PartialLemmas.{objects_make_partial, no_objects_make_partial}
+use Rattle.dr_made_laws.specs.ObjectFlow.{Made, items_of, seen_items, left_items}
+use Rattle.dr_made_laws.specs.ObjectFlowLaws.{built_of, made_objects}
+use Rattle.dr_made_laws.proofs.FramesObjects.{frames_make_objects, all_moves_make_objects}
+use Rattle.dr_made_laws.proofs.PartialLemmas.{objects_make_partial, no_objects_make_partial}
 use Rattle.dr_plan.specs.Planned.{plan_view, plan_leaves, planned_query}
 use Rattle.dr_plan.specs.PlanOf.{IsPlanOf}
 use Rattle.dr_plan.specs.declared.objects.ObjectPlan.{ObjectPlan}

@@ -9,12 +9,12 @@ use Rattle.dr_meaning.specs.Record.{Node, is_record}
 use Rattle.dr_meaning.specs.Query.{Query}
 use Rattle.dr_meaning.specs.Walk.{walk}
 use Rattle.dr_kept_laws.specs.GroupFlow.{all_fired, all_left, left_with}
-use Rattle.dr_pruning_laws.specs.ChainNumbers.{chain_numbers}
-use Rattle.dr_pruning_laws.specs.Frames.{Frames}
+use Rattle.dr_kept_laws.specs.ChainNumbers.{chain_numbers}
+use Rattle.dr_kept_laws.specs.Frames.{Frames}
 use Rattle.dr_partials.specs.Partials.{empty_partial, partial_of}
 use Rattle.dr_partials.specs.Putting.{Put, put_all}
-use Rattle.dr_put_laws.proofs.FlowPartialLemmas.{nothing_is_partial}
-use Rattle.dr_put_laws.proofs.FramesPartialLemmas.{frames_put_partial, all_moves_put_partial}
+use Rattle.dr_made_laws.proofs.FlowPartialLemmas.{nothing_is_partial}
+use Rattle.dr_made_laws.proofs.FramesPartialLemmas.{frames_put_partial, all_moves_put_partial}
 use Rattle.dr_plan.specs.Planned.{plan_view, plan_leaves, planned_query}
 use Rattle.dr_plan.specs.PlanOf.{IsPlanOf}
 use Rattle.dr_plan.specs.declared.aggregate.Aggregate.{Aggregate}

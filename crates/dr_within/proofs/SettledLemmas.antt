@@ -6,11 +6,11 @@ use Rattle.std.proofs.lemmas.Bool.{eqb-true, and_parts}
 use Rattle.std.proofs.lemmas.Bool.Decides.{nat_tests}
 use Rattle.dr_meaning.specs.Column.{Triplet}
 use Rattle.dr_meaning.specs.Walk.{Move, enter, value, leave}
-use Rattle.dr_firing.specs.Context.{Context}
-use Rattle.dr_firing.specs.Condition.{Watch}
-use Rattle.dr_pruning_laws.specs.Telling.{kept, dropped, undecided, first_dropped, is_told_dropped}
-use Rattle.dr_pruning_laws.specs.Counting.{Numbers, whole_chain, is_first, count_entered, count_row, count_left, count_move, verdict_left, verdicts_of, left_among, context_behind}
-use Rattle.dr_pruning_laws.specs.Parts.{answering, parts_behind, Pruning, prune_move, prune_moves}
+use Rattle.dr_moves.specs.Context.{Context}
+use Rattle.dr_moves.specs.Condition.{Watch}
+use Rattle.dr_kept_laws.specs.Telling.{kept, dropped, undecided, first_dropped, is_told_dropped}
+use Rattle.dr_kept_laws.specs.Counting.{Numbers, whole_chain, is_first, count_entered, count_row, count_left, count_move, verdict_left, verdicts_of, left_among, context_behind}
+use Rattle.dr_kept_laws.specs.Parts.{answering, parts_behind, Pruning, prune_move, prune_moves}
 use Rattle.dr_condition.specs.Parted.{WatchedParts}
 use Rattle.dr_condition.specs.Watching.{is_settled, pruned_behind, dropped_at, TellsKept}
 use Rattle.dr_condition.proofs.WatchingLemmas.{twice_reversed}

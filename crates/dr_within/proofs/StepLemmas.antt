@@ -4,13 +4,13 @@ use Rattle.std.specs.Prelude.{◌==◌, reverse, if◌then◌else◌}
 use Rattle.dr_meaning.specs.Path.{Leaf}
 use Rattle.dr_meaning.specs.Column.{Triplet}
 use Rattle.dr_meaning.specs.Walk.{Move, enter, value, leave}
-use Rattle.dr_firing.specs.Context.{Context, with_value}
+use Rattle.dr_moves.specs.Context.{Context, with_value}
 use Rattle.dr_kept_laws.specs.GroupFlow.{Reading, all_fired, all_left, left_with}
 use Rattle.dr_partials.specs.Putting.{Put}
 use Rattle.dr_plan.specs.Planned.{Planned}
-use Rattle.dr_pruning_laws.specs.Counting.{context_behind}
-use Rattle.dr_pruning_laws.specs.Frames.{Frames, frame_move}
-use Rattle.dr_pruning_laws.specs.MovedContexts.{after_moves}
+use Rattle.dr_kept_laws.specs.Counting.{context_behind}
+use Rattle.dr_kept_laws.specs.Frames.{Frames, frame_move}
+use Rattle.dr_kept_laws.specs.MovedContexts.{after_moves}
 use Rattle.dr_condition.specs.Parted.{WatchedParts}
 use Rattle.dr_condition.specs.Conditions.{HasWatched, watch_in}
 use Rattle.dr_condition.specs.Watching.{dropped_at, TellsKept}

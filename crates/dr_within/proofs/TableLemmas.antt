@@ -6,9 +6,9 @@ use Rattle.dr_meaning.specs.Schema.{Fields}
 use Rattle.dr_meaning.specs.Path.{Step, begins_with}
 use Rattle.dr_meaning.specs.Query.{RecordItem, Levels, no_levels, deeper, levels_of, term_chain, leads_to_items}
 use Rattle.std.specs.List.{join_with_byte}
-use Rattle.dr_object_laws.specs.ObjectFlow.{Level as MeantLevel, level_count, level_from}
-use Rattle.dr_object_laws.proofs.LevelLemmas.{chosen, AllBelow, numbered_deeper}
-use Rattle.dr_object_laws.proofs.PathLemmas.{longer_apart}
+use Rattle.dr_made_laws.specs.ObjectFlow.{Level as MeantLevel, level_count, level_from}
+use Rattle.dr_made_laws.proofs.LevelLemmas.{chosen, AllBelow, numbered_deeper}
+use Rattle.dr_made_laws.proofs.PathLemmas.{longer_apart}
 use Rattle.dr_plan.specs.Objects.{ObjectTree, object_tree, places_at, with_list_tree, list_trees, object_tree_of}
 use Rattle.dr_within.specs.ObjectLevels.{IsLevelAt, list_numbers, with_number}
 use Rattle.dr_within.specs.LevelTable.{Row, Rows, no_rows, with_row, level_number, tree_numbers, tree_rows, list_rows, level_in, level_row, rows_in, AreLevels}

@@ -5,9 +5,9 @@ use Rattle.dr_meaning.specs.Record.{Node}
 use Rattle.dr_meaning.specs.Expression.{longest_chain}
 use Rattle.dr_meaning.specs.Walk.{Move}
 use Rattle.dr_kept_laws.specs.GroupFlow.{Reading, all_fired, all_left, left_with}
-use Rattle.dr_pruning_laws.specs.Counting.{Numbers}
-use Rattle.dr_pruning_laws.specs.Frames.{Frames}
-use Rattle.dr_put_laws.specs.LastRead.{paths_at}
+use Rattle.dr_kept_laws.specs.Counting.{Numbers}
+use Rattle.dr_kept_laws.specs.Frames.{Frames}
+use Rattle.dr_made_laws.specs.LastRead.{paths_at}
 use Rattle.dr_partials.specs.Putting.{Put}
 use Rattle.dr_plan.specs.Planned.{Planned}
 use Rattle.dr_condition.specs.Parted.{WatchedParts}

@@ -1,9 +1,9 @@
 -- What is made behind some moves: of what is seen at triplets and left of instances, cut where what is watched tells a branch dropped.
 use Rattle.std.specs.Prelude.{ℕ, List, [], ◌∷◌, ◌++◌, Option}
 use Rattle.dr_meaning.specs.Walk.{Move}
-use Rattle.dr_firing.specs.Context.{Context}
-use Rattle.dr_pruning_laws.specs.Frames.{Frames, frame_move}
-use Rattle.dr_put_laws.specs.FramesPartial.{no_frames}
+use Rattle.dr_moves.specs.Context.{Context}
+use Rattle.dr_kept_laws.specs.Frames.{Frames, frame_move}
+use Rattle.dr_made_laws.specs.FramesPartial.{no_frames}
 use Rattle.dr_condition.specs.Parted.{WatchedParts}
 use Rattle.dr_condition.specs.Watching.{dropped_at}
 

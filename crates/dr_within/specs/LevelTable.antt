@@ -4,7 +4,7 @@ use denote.Ref.{Bor}
 use Rattle.dr_meaning.specs.Schema.{Fields}
 use Rattle.dr_meaning.specs.Path.{Step}
 use Rattle.dr_meaning.specs.Query.{RecordItem, Levels as MeantLevels}
-use Rattle.dr_pruning_laws.specs.ChainNumbers.{chain_numbers}
+use Rattle.dr_kept_laws.specs.ChainNumbers.{chain_numbers}
 use Rattle.dr_plan.specs.Objects.{ObjectTree, object_tree, ListTrees, no_lists, list_tree}
 use Rattle.dr_within.specs.ObjectLevels.{IsLevelAt}
 use Rattle.dr_within.specs.declared.levels.Level.{Level}

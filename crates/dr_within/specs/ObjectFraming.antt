@@ -2,9 +2,9 @@
 use Rattle.std.specs.Prelude.{◌≡◌, ℕ, zero, suc, ⊤, List, [], ◌∷◌, ◌++◌, map, length, reverse, Bool, false, ◌==◌, if◌then◌else◌, Option, None, Some}
 use Rattle.dr_meaning.specs.Path.{Leaf}
 use Rattle.dr_meaning.specs.Query.{Aggregate, RecordTerm as MeantTerm, expression, within, RecordItem as MeantItem, Object}
-use Rattle.dr_firing.specs.Context.{Context}
-use Rattle.dr_object_laws.specs.ObjectFlow.{Made, built, taken, ReadItem, values_for}
-use Rattle.dr_object_laws.specs.ObjectFlowLaws.{made_objects}
+use Rattle.dr_moves.specs.Context.{Context}
+use Rattle.dr_made_laws.specs.ObjectFlow.{Made, built, taken, ReadItem, values_for}
+use Rattle.dr_made_laws.specs.ObjectFlowLaws.{made_objects}
 use Rattle.dr_partials.specs.Accumulators.{Accumulator, aggregate_of, empty_accumulator, join, accumulated}
 use Rattle.dr_plan.specs.Views.{record_item_view}
 use Rattle.dr_plan.specs.declared.expression.Expr.{Expr}

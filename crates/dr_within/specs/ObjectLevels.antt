@@ -2,7 +2,7 @@
 use Rattle.std.specs.Prelude.{◌≡◌, ℕ, zero, suc, ◌+◌, List, [], ◌∷◌, Bool, true, false, Option, None, Some}
 use Rattle.dr_meaning.specs.Path.{Step}
 use Rattle.dr_meaning.specs.Query.{RecordItem, Levels, no_levels, deeper, leads_to_items}
-use Rattle.dr_object_laws.specs.ObjectFlow.{Level as MeantLevel, level_count, level_from}
+use Rattle.dr_made_laws.specs.ObjectFlow.{Level as MeantLevel, level_count, level_from}
 use Rattle.dr_plan.specs.Objects.{places_at}
 use Rattle.dr_within.specs.declared.levels.Level.{Level}
 

@@ -8,7 +8,7 @@ use Rattle.dr_meaning.specs.Path.{paths_of_leaves}
 use Rattle.dr_meaning.specs.Query.{levels_of}
 use Rattle.dr_meaning.specs.Record.{Node, is_record}
 use Rattle.dr_meaning.specs.Walk.{Move, walk}
-use Rattle.dr_object_laws.specs.ObjectFlow.{items_of}
+use Rattle.dr_made_laws.specs.ObjectFlow.{items_of}
 use Rattle.dr_partials.specs.Partials.{empty_partial, partial_of}
 use Rattle.dr_plan.specs.Planned.{plan_leaves, plan_view, planned_query, IsOfSchema}
 use Rattle.dr_plan.specs.declared.objects.ObjectPlan.{ObjectPlan}

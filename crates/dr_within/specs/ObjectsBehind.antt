@@ -6,11 +6,11 @@ use Rattle.dr_meaning.specs.Record.{Value, Node}
 use Rattle.dr_meaning.specs.Expression.{longest_chain}
 use Rattle.dr_meaning.specs.Query.{levels_of}
 use Rattle.dr_meaning.specs.Walk.{Move}
-use Rattle.dr_firing.specs.Context.{Context}
+use Rattle.dr_moves.specs.Context.{Context}
 use Rattle.dr_kept_laws.specs.GroupFlow.{Reading}
-use Rattle.dr_pruning_laws.specs.Frames.{Frames}
-use Rattle.dr_put_laws.specs.LastRead.{paths_at}
-use Rattle.dr_object_laws.specs.ObjectFlow.{Made, ReadItem, seen_items, left_items}
+use Rattle.dr_kept_laws.specs.Frames.{Frames}
+use Rattle.dr_made_laws.specs.LastRead.{paths_at}
+use Rattle.dr_made_laws.specs.ObjectFlow.{Made, ReadItem, seen_items, left_items}
 use Rattle.dr_plan.specs.Views.{record_item_view}
 use Rattle.dr_plan.specs.declared.expression.Expr.{Expr}
 use Rattle.dr_plan.specs.declared.plan.RecordItem.{RecordItem}

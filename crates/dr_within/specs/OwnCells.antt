@@ -1,11 +1,11 @@
 -- The cells of an object by the places of its level's items and the numbers of its lists.
 use Rattle.std.specs.Prelude.{ℕ, List, [], ◌∷◌, map, length, Option, None, Some}
 use Rattle.std.specs.List.{slice_get, flat_map}
-use Rattle.dr_firing.specs.Context.{Context}
+use Rattle.dr_moves.specs.Context.{Context}
 use Rattle.dr_kept_laws.specs.GroupFlow.{Reading}
 use Rattle.dr_meaning.specs.Query.{RecordTerm, expression, within}
 use Rattle.dr_meaning.specs.Record.{Value}
-use Rattle.dr_object_laws.specs.ObjectFlow.{Made, taken, ReadItem, value_made, objects_for}
+use Rattle.dr_made_laws.specs.ObjectFlow.{Made, taken, ReadItem, value_made, objects_for}
 use Rattle.dr_cells.specs.Results.{ResultCell, value_cell, count_cell, result_cells}
 
 abbrev pub cells_of_item : Context → List Made → ℕ → Option ReadItem → List ResultCell

@@ -3,7 +3,7 @@ use Rattle.std.specs.Prelude.{◌≡◌, ◌<◌, ℕ, ⊤, List, map, length, O
 use Rattle.std.specs.List.{slice_index_or}
 use Rattle.dr_meaning.specs.Record.{Value, bool_value, int_value, text_value}
 use Rattle.dr_meaning.specs.Walk.{Move, enter, value, leave}
-use Rattle.dr_pruning_laws.specs.MovedContexts.{after_moves}
+use Rattle.dr_kept_laws.specs.MovedContexts.{after_moves}
 use Rattle.dr_scalar.specs.Slots.{slot_value}
 use Rattle.dr_within.specs.declared.last_read.Scalar.{Scalar}
 use Rattle.dr_within.specs.declared.last_read.LastValue.{LastValue}

@@ -1,7 +1,7 @@
 -- What is taken of a row, by what was read last of each leaf, and at which leaf a row fires.
 use Rattle.std.specs.Prelude.{ℕ, suc, List, [], ◌∷◌, ◌++◌, map, Bool, true, false, ◌==◌, if◌then◌else◌, Option, Some, None}
 use Rattle.dr_meaning.specs.Record.{Value}
-use Rattle.dr_firing.specs.Context.{Context}
+use Rattle.dr_moves.specs.Context.{Context}
 use Rattle.dr_partials.specs.Putting.{Taken, Put}
 use Rattle.dr_plan.specs.declared.aggregate.Aggregate.{Aggregate}
 use Rattle.dr_plan.specs.declared.expression.Expr.{Expr}

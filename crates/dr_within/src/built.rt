@@ -2,8 +2,8 @@
 
 ghost use Rattle.std.specs.Prelude.{◌≡◌, ◌+◌, ◌++◌, ◌∷◌, [], List, map, length, IfOk, IfSome, OnOk};
 ghost use Rattle.dr_meaning.specs.Query.{Object};
-ghost use Rattle.dr_object_laws.specs.ObjectFlow.{Made, built, objects_for};
-ghost use Rattle.dr_object_laws.specs.ObjectFlowLaws.{made_objects};
+ghost use Rattle.dr_made_laws.specs.ObjectFlow.{Made, built, objects_for};
+ghost use Rattle.dr_made_laws.specs.ObjectFlowLaws.{made_objects};
 ghost use Rattle.dr_cells.specs.Results.{object_cells, result_cells};
 ghost use Rattle.dr_cells.specs.Views.{cells_view};
 ghost use Rattle.dr_within.specs.ObjectFraming.{built_in, IsRun, AreRuns, HoldsBuilt};

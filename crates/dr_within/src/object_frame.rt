@@ -6,7 +6,7 @@ ghost use Rattle.dr_cells.specs.Results.{object_cells};
 ghost use Rattle.dr_cells.specs.Views.{cells_view};
 ghost use Rattle.dr_meaning.specs.Path.{Leaf};
 ghost use Rattle.dr_meaning.specs.Query.{Levels, RecordItem as MeantItem};
-ghost use Rattle.dr_object_laws.specs.ObjectFlow.{Level as MeantLevel, Made, ReadItem, items_of, left_items, object_made, seen_items};
+ghost use Rattle.dr_made_laws.specs.ObjectFlow.{Level as MeantLevel, Made, ReadItem, items_of, left_items, object_made, seen_items};
 ghost use Rattle.dr_scalar.specs.Slots.{slot_value};
 ghost use Rattle.dr_within.specs.declared.levels.Level.{Level};
 ghost use Rattle.dr_within.specs.ObjectFraming.{fired_places, AreReadItems, HoldsBuilt, HoldsFrame};

@@ -7,7 +7,7 @@ ghost use Rattle.dr_group.specs.Views.{accumulator_view};
 ghost use Rattle.dr_levels.specs.Views.{lent_value};
 ghost use Rattle.dr_meaning.specs.Path.{Leaf};
 ghost use Rattle.dr_meaning.specs.Query.{RecordItem as MeantItem};
-ghost use Rattle.dr_object_laws.specs.ObjectFlow.{Made, ReadItem, gathered, items_of, values_for};
+ghost use Rattle.dr_made_laws.specs.ObjectFlow.{Made, ReadItem, gathered, items_of, values_for};
 ghost use Rattle.dr_partials.specs.Accumulators.{accumulated, result_of};
 ghost use Rattle.dr_plan.specs.Views.{fold_view};
 ghost use Rattle.dr_scalar.specs.Leaves.{expr_leaves, greatest};

@@ -4,7 +4,7 @@ ghost use Rattle.std.specs.Prelude.{◌≡◌, ◌<◌, ℕ, length};
 ghost use Rattle.dr_levels.specs.Views.{move_view};
 ghost use Rattle.dr_meaning.specs.Column.{Triplet};
 ghost use Rattle.dr_meaning.specs.Walk as meant;
-ghost use Rattle.dr_firing.specs.Context.{with_value};
+ghost use Rattle.dr_moves.specs.Context.{with_value};
 ghost use Rattle.dr_scalar.specs.Slots.{slot_value};
 
 use dr_levels::{Move, ValueRef};

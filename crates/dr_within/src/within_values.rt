@@ -4,7 +4,7 @@ ghost use Rattle.std.specs.Prelude.{◌≡◌, ◌++◌, ◌∷◌, [], ℕ, Lis
 ghost use Rattle.std.specs.List.{slice_get, list_any};
 ghost use Rattle.dr_levels.specs.Views.{lent_value};
 ghost use Rattle.dr_meaning.specs.Query.{RecordItem as MeantItem};
-ghost use Rattle.dr_object_laws.specs.ObjectFlow.{Made};
+ghost use Rattle.dr_made_laws.specs.ObjectFlow.{Made};
 ghost use Rattle.dr_partials.specs.Accumulators.{aggregate_of, accumulator_of_one};
 ghost use Rattle.dr_plan.specs.Views.{fold_view};
 ghost use Rattle.dr_group.specs.Views.{accumulator_view};

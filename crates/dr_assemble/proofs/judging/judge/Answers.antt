@@ -8,7 +8,7 @@ use Rattle.dr_meaning.specs.Column.{Triplet}
 use Rattle.dr_nested.specs.Views.{fields_view}
 use Rattle.dr_nested.specs.PathView.{lent_path}
 use Rattle.dr_levels.specs.Views.{triplets_view}
-use Rattle.dr_course.specs.Selection.{all_differ}
+use Rattle.dr_moves.specs.Selection.{all_differ}
 use Rattle.dr_walk.specs.Walking.{HasColumns, NoneHas}
 use Rattle.dr_assemble.specs.Restoring.{Strip, rests, columns_of}
 use Rattle.dr_assemble.specs.Distinct.{AreDistinct}

@@ -9,7 +9,7 @@ use Rattle.dr_nested.specs.SchemaView.{schema_view}
 use Rattle.dr_plan.specs.Views.{path_of}
 use Rattle.dr_plan.specs.Planned.{plan_leaves}
 use Rattle.dr_plan.specs.declared.expression.Truth.{Truth}
-use Rattle.dr_pruning_laws.specs.ChainNumbers.{chain_numbers}
+use Rattle.dr_kept_laws.specs.ChainNumbers.{chain_numbers}
 use Rattle.dr_condition.specs.Parted.{lent_tests, reading, lasts_read, WatchedParts, watch_parts}
 use Rattle.dr_condition.specs.PlanConditions.{WatchesPlan}
 use Rattle.dr_condition.proofs.PartedLemmas.{one_last_each}

@@ -1,9 +1,9 @@
 use Rattle.std.proofs.Common.{◌≡◌, [], ◌∷◌, ◌++◌, length, None, sym, ap, subst, ◌∙◌}
 use Rattle.std.proofs.lemmas.Result.{on_ok_weaker}
 use Rattle.dr_levels.specs.Views.{move_view, triplet_view}
-use Rattle.dr_firing.specs.Context.{Context}
+use Rattle.dr_moves.specs.Context.{Context}
 use Rattle.dr_meaning.specs.Walk.{Move, value}
-use Rattle.dr_pruning_laws.specs.MovedContexts.{after_moves}
+use Rattle.dr_kept_laws.specs.MovedContexts.{after_moves}
 use Rattle.dr_prune.specs.PartAnswers.{HasAnswered, lasts_of, parts_of, tested_to}
 use Rattle.dr_prune.proofs.PrunedLemmas.{answers_are_tested}
 use Rattle.dr_condition.specs.Parted.{lent_tests, test_at}

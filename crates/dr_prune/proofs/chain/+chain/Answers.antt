@@ -5,7 +5,7 @@ use Rattle.dr_nested.specs.declared.shape.Field.{Field}
 use Rattle.dr_nested.specs.Views.{fields_view}
 use Rattle.dr_nested.specs.PathView.{step_view}
 use Rattle.dr_walk.proofs.FieldLemmas.{count_from, fields_in}
-use Rattle.dr_pruning_laws.specs.ChainNumbers.{numbers_in}
+use Rattle.dr_kept_laws.specs.ChainNumbers.{numbers_in}
 use Rattle.dr_prune.proofs.ChainLemmas.{goes_through, goes_past, goes_nowhere, at_end, counted_from}
 use Rattle.dr_prune.proofs.chain.+chain.Goals as goal
 

@@ -2,7 +2,7 @@ use Rattle.std.proofs.Common.{◌≡◌, ◌≤◌, ◌+◌, ◌*◌, ◌∷◌,
 use Rattle.dr_meaning.specs.Schema.{repeated_fields}
 use Rattle.dr_nested.specs.Views.{fields_view}
 use Rattle.dr_nested.specs.PathView.{step_view}
-use Rattle.dr_pruning_laws.specs.ChainNumbers.{numbers_in}
+use Rattle.dr_kept_laws.specs.ChainNumbers.{numbers_in}
 use Rattle.dr_prune.proofs.ChainLemmas.{counted_from}
 use Rattle.dr_prune.proofs.chain.+chain.Given as goal
 

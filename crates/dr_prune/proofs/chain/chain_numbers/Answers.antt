@@ -3,7 +3,7 @@ use Rattle.dr_nested.specs.Views.{fields_view}
 use Rattle.dr_nested.specs.PathView.{step_view}
 use Rattle.dr_nested.specs.SchemaView.{schema_view}
 use Rattle.dr_walk.proofs.SizeLemmas.{limits}
-use Rattle.dr_pruning_laws.specs.ChainNumbers.{numbers_in}
+use Rattle.dr_kept_laws.specs.ChainNumbers.{numbers_in}
 use Rattle.dr_prune.proofs.ChainLemmas.{numbers_deep}
 use Rattle.dr_prune.proofs.chain.chain_numbers.Goals as goal
 

@@ -5,7 +5,7 @@ use Rattle.std.proofs.lemmas.Option.{slice_get_read}
 use Rattle.dr_meaning.specs.Path.{Leaf}
 use Rattle.dr_outside.specs.Link.{Files}
 use Rattle.dr_outside.specs.Telling.{AsksOnly}
-use Rattle.dr_course.specs.Leading.{Left}
+use Rattle.dr_moves.specs.Leading.{Left}
 use Rattle.dr_file.specs.Asking.{is_for_path}
 use Rattle.dr_file.specs.Leaving.{LeavesLinkCounted, ServesOpened}
 use Rattle.dr_file.specs.OpenedFiles.{path_of}

@@ -1,7 +1,7 @@
 use Rattle.std.proofs.Common.{◌≡◌, ◌∙◌, ℕ, List, [], None, length, true, false, sym, ap, ap₂, rules, arith}
 use Rattle.std.proofs.lemmas.Bool.Decides.{nat_tests}
 use Rattle.std.specs.List.{list_all}
-use Rattle.dr_firing.specs.Context.{Context}
+use Rattle.dr_moves.specs.Context.{Context}
 use Rattle.dr_group.specs.Partials.{partial_view}
 use Rattle.dr_plan.specs.declared.expression.Truth.{Truth}
 use Rattle.dr_scalar.specs.OverSlots.{tests_over}

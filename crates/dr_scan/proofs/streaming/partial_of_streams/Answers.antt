@@ -13,8 +13,8 @@ use Rattle.dr_nested.specs.PathView.{lent_path, path_view, paths_view}
 use Rattle.dr_outside.specs.Telling.{AsksOnly}
 use Rattle.dr_chunk.specs.Ranges.{is_read_inside}
 use Rattle.dr_chunk.proofs.AskLemmas.{asks_then}
-use Rattle.dr_course.specs.Leading.{columns_of}
-use Rattle.dr_course.specs.Selection.{all_differ}
+use Rattle.dr_moves.specs.Leading.{columns_of}
+use Rattle.dr_moves.specs.Selection.{all_differ}
 use Rattle.dr_file.specs.Asking.{is_for_path}
 use Rattle.dr_file.specs.Leaving.{ServesOpened}
 use Rattle.dr_file.specs.OpenedFiles.{path_of, rows_of, is_link_fault}

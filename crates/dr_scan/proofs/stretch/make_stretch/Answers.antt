@@ -4,7 +4,7 @@ use Rattle.dr_meaning.specs.Schema.{Schema}
 use Rattle.dr_meaning.specs.Path.{paths_of_leaves}
 use Rattle.dr_meaning.specs.Walk.{Move}
 use Rattle.dr_levels.specs.Views.{move_view}
-use Rattle.dr_course.specs.Leading.{Left}
+use Rattle.dr_moves.specs.Leading.{Left}
 use Rattle.dr_plan.specs.Planned.{plan_leaves}
 use Rattle.dr_plan.specs.declared.plan.Plan.{Plan}
 use Rattle.dr_walk.specs.Checking.{rest_at}

@@ -1,7 +1,7 @@
 use Rattle.std.proofs.Common.{ℕ, List}
 use Rattle.dr_meaning.specs.Schema.{Schema}
 use Rattle.dr_meaning.specs.Walk.{Move}
-use Rattle.dr_course.specs.Leading.{Left}
+use Rattle.dr_moves.specs.Leading.{Left}
 use Rattle.dr_plan.specs.Planned.{IsOfSchema}
 use Rattle.dr_plan.specs.declared.plan.Plan.{Plan}
 use Rattle.dr_walk.specs.Checking.{rest_at}

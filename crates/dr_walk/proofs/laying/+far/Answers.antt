@@ -6,7 +6,7 @@ use Rattle.dr_nested.specs.declared.shape.Field.{Field}
 use Rattle.dr_nested.specs.Views.{rep_view, shape_view, fields_view}
 use Rattle.dr_levels.specs.Orders.{picks_at}
 use Rattle.dr_levels.proofs.OrderLemmas.{shifted}
-use Rattle.dr_course.specs.Course.{far_items, shape_near_items, shape_far_items}
+use Rattle.dr_moves.specs.Course.{far_items, shape_near_items, shape_far_items}
 use Rattle.dr_walk.specs.Laying.{Level, lay, laying}
 use Rattle.dr_walk.specs.Views.{picks_view, gates_view, level_view, items_view}
 use Rattle.dr_walk.specs.Flat.{far_of_field}

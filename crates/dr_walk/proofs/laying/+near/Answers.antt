@@ -7,7 +7,7 @@ use Rattle.dr_nested.specs.declared.shape.Field.{Field}
 use Rattle.dr_nested.specs.Views.{rep_view, shape_view, fields_view}
 use Rattle.dr_nested.proofs.ViewLemmas.{view-group}
 use Rattle.dr_levels.specs.Orders.{picks_at}
-use Rattle.dr_course.specs.Course.{Gate, Items, unless_repeated, gated, near_items, field_near_items, shape_near_items}
+use Rattle.dr_moves.specs.Course.{Gate, Items, unless_repeated, gated, near_items, field_near_items, shape_near_items}
 use Rattle.dr_walk.specs.Laying.{lay, laying}
 use Rattle.dr_walk.specs.Views.{picks_view, gates_view, level_view}
 use Rattle.dr_walk.proofs.FieldLemmas.{depth_at, near_next, near_of}

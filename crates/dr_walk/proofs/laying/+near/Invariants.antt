@@ -2,7 +2,7 @@ use Rattle.std.proofs.Common.{◌≡◌, ◌+◌, ◌*◌, List, drop}
 use Rattle.dr_meaning.specs.Schema.{depth, shape_depth}
 use Rattle.dr_nested.specs.Views.{shape_view, fields_view}
 use Rattle.dr_levels.proofs.OrderLemmas.{shifted}
-use Rattle.dr_course.specs.Course.{near_items}
+use Rattle.dr_moves.specs.Course.{near_items}
 use Rattle.dr_walk.specs.Laying.{FlatItem, lay, laying}
 use Rattle.dr_walk.specs.Views.{picks_view, gates_view, level_view}
 use Rattle.dr_walk.proofs.laying.+near.Given as goal

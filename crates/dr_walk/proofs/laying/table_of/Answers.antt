@@ -2,7 +2,7 @@ use Rattle.std.proofs.Common.{◌≡◌, List, [], map, string_bytes, ap, ◌∙
 use Rattle.std.proofs.lemmas.List.{length-map}
 use Rattle.dr_meaning.specs.Automaton.{Pick, picks}
 use Rattle.dr_nested.specs.Views.{fields_view}
-use Rattle.dr_course.specs.Course.{near_items, far_items, course}
+use Rattle.dr_moves.specs.Course.{near_items, far_items, course}
 use Rattle.dr_walk.specs.Laying.{Level, lay, laying, no_level}
 use Rattle.dr_walk.specs.Views.{picks_view, level_view, items_view, item_view}
 use Rattle.dr_walk.proofs.LeafLemmas.{course_has_leaves}

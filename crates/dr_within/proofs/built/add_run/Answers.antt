@@ -1,6 +1,6 @@
 use Rattle.std.proofs.Common.{◌≡◌, List, [], ◌∷◌, ◌++◌, sym, ap, subst, ◌∙◌}
 use Rattle.std.specs.Prelude.{map}
-use Rattle.dr_object_laws.specs.ObjectFlow.{built}
+use Rattle.dr_made_laws.specs.ObjectFlow.{built}
 use Rattle.dr_within.specs.ObjectFraming.{AreRuns}
 use Rattle.dr_within.specs.declared.built.Run.{Run}
 use Rattle.dr_within.proofs.RunLemmas.{run_behind, run_joined}

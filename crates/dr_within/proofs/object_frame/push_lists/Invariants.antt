@@ -1,6 +1,6 @@
 use Rattle.std.proofs.Common.{◌≡◌, ◌++◌, List, take}
 use Rattle.dr_cells.specs.Views.{cells_view}
-use Rattle.dr_object_laws.specs.ObjectFlow.{Made}
+use Rattle.dr_made_laws.specs.ObjectFlow.{Made}
 use Rattle.dr_within.specs.ObjectFraming.{HoldsBuilt}
 use Rattle.dr_within.specs.OwnCells.{list_cells}
 use Rattle.dr_within.proofs.object_frame.push_lists.Given as goal

@@ -1,7 +1,7 @@
 use Rattle.std.proofs.Common.{◌≡◌, ◌++◌, ℕ, suc, List, sym, ap, ap₂, ◌∙◌, append_assoc}
 use Rattle.dr_cells.specs.Results.{ResultCell}
 use Rattle.dr_cells.specs.Views.{cells_view}
-use Rattle.dr_object_laws.specs.ObjectFlow.{items_of}
+use Rattle.dr_made_laws.specs.ObjectFlow.{items_of}
 use Rattle.dr_plan.specs.Objects.{places_at}
 use Rattle.dr_scalar.specs.Slots.{slot_value}
 use Rattle.dr_within.specs.ObjectLevels.{list_numbers}

@@ -2,7 +2,7 @@ use Rattle.std.proofs.Common.{◌++◌, List, length, Option, refl, sym, ap, ◌
 use Rattle.std.proofs.lemmas.Option.{slice_get_read, slice_get_past}
 use Rattle.dr_cells.specs.Results.{ResultCell}
 use Rattle.dr_cells.specs.Views.{cells_view}
-use Rattle.dr_object_laws.specs.ObjectFlow.{ReadItem, items_of}
+use Rattle.dr_made_laws.specs.ObjectFlow.{ReadItem, items_of}
 use Rattle.dr_scalar.specs.Slots.{slot_value}
 use Rattle.dr_within.specs.OwnCells.{cells_of_item}
 use Rattle.dr_within.proofs.FramingLemmas.{on_ok}

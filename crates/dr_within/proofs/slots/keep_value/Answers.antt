@@ -1,6 +1,6 @@
 use Rattle.std.proofs.Common.{ℕ, Option, ap₂, ◌∙◌, arith}
 use Rattle.dr_meaning.specs.Record.{Value}
-use Rattle.dr_firing.specs.Context.{with_value}
+use Rattle.dr_moves.specs.Context.{with_value}
 use Rattle.dr_scalar.specs.Slots.{slot_value}
 use Rattle.dr_within.proofs.BehindLemmas.{one_read, leaf_is}
 use Rattle.dr_within.proofs.slots.keep_value.Goals as goal

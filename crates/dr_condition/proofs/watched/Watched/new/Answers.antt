@@ -1,6 +1,6 @@
 use Rattle.std.proofs.Common.{ℕ, List, ap, ◌∙◌}
-use Rattle.dr_firing.specs.Condition.{Watch}
-use Rattle.dr_pruning_laws.specs.Parts.{all_tests}
+use Rattle.dr_moves.specs.Condition.{Watch}
+use Rattle.dr_kept_laws.specs.Parts.{all_tests}
 use Rattle.dr_prune.specs.PartAnswers.{untested}
 use Rattle.dr_condition.specs.Parted.{lent_tests, test_at}
 use Rattle.dr_condition.specs.Watching.{watch_with}

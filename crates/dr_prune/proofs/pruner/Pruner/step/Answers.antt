@@ -1,7 +1,7 @@
 use Rattle.std.proofs.Common.{sym, subst}
 use Rattle.dr_levels.specs.Views.{move_view, triplet_view}
 use Rattle.dr_levels.specs.declared.moves.Move.{Move}
-use Rattle.dr_pruning_laws.proofs.CountingLemmas.{numbers_tell_told}
+use Rattle.dr_kept_laws.proofs.CountingLemmas.{numbers_tell_told}
 use Rattle.dr_prune.proofs.SeenLemmas.{IsStep, enters, reads, leaves, same_watch, seen_more, told_there}
 use Rattle.dr_prune.proofs.pruner.Pruner.step.Goals as goal
 

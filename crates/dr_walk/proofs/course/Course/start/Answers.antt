@@ -1,5 +1,5 @@
 use Rattle.std.proofs.Common.{ℕ, subst}
-use Rattle.dr_course.specs.Turning.{between}
+use Rattle.dr_moves.specs.Turning.{between}
 use Rattle.dr_walk.specs.Views.{items_view}
 use Rattle.dr_walk.specs.Standing.{IsSpot, spot_between}
 use Rattle.dr_walk.proofs.course.Course.start.Goals as goal

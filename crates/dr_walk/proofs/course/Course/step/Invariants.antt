@@ -1,7 +1,7 @@
 use Rattle.std.proofs.Common.{◌≡◌, ℕ, ◌-◌, Option, length}
 use Rattle.dr_meaning.specs.Column.{Triplet}
-use Rattle.dr_course.specs.Course.{Items}
-use Rattle.dr_course.specs.Turning.{Stack}
+use Rattle.dr_moves.specs.Course.{Items}
+use Rattle.dr_moves.specs.Turning.{Stack}
 use Rattle.dr_walk.specs.Seen.{AreLevelsOf}
 use Rattle.dr_walk.specs.Standing.{Stands, GoesOn}
 use Rattle.dr_walk.proofs.course.Course.step.Given as goal

@@ -1,6 +1,6 @@
 use Rattle.std.proofs.Common.{◌≡◌, List, drop}
 use Rattle.dr_nested.specs.Views.{kind_view}
-use Rattle.dr_course.specs.Course.{give_each}
+use Rattle.dr_moves.specs.Course.{give_each}
 use Rattle.dr_walk.specs.Laying.{FlatItem, lay, laying}
 use Rattle.dr_walk.specs.Views.{picks_view, gates_view, level_view}
 use Rattle.dr_walk.proofs.level.Level.add_gives.Given as goal

@@ -1,8 +1,8 @@
 use Rattle.std.proofs.Common.{None, Some, inl, refl, sym, subst, true≢false}
 use Rattle.dr_meaning.specs.Walk.{enter, leave}
-use Rattle.dr_course.specs.Course.{course}
-use Rattle.dr_course.specs.Turning.{between}
-use Rattle.dr_course.specs.Leading.{columns_of, heads as next_of}
+use Rattle.dr_moves.specs.Course.{course}
+use Rattle.dr_moves.specs.Turning.{between}
+use Rattle.dr_moves.specs.Leading.{columns_of, heads as next_of}
 use Rattle.dr_walk.specs.Standing.{IsStep}
 use Rattle.dr_walk.specs.Walking.{Gave, WantsNext}
 use Rattle.dr_walk.proofs.WalkLemmas.{moved_at, goes_leaf, goes_end, leads_to, all_known}

@@ -2,7 +2,7 @@ use Rattle.std.proofs.Common.{length, map, string_bytes, refl, sym, ◌∙◌, a
 use Rattle.std.proofs.lemmas.List.{length-map}
 use Rattle.dr_nested.specs.Views.{fields_view}
 use Rattle.dr_nested.specs.PathView.{lent_path}
-use Rattle.dr_course.specs.Course.{course}
+use Rattle.dr_moves.specs.Course.{course}
 use Rattle.dr_walk.proofs.SizeLemmas.{limits, selected_count}
 use Rattle.dr_walk.proofs.WalkLemmas.{at_start}
 use Rattle.dr_walk.proofs.level_walk.LevelWalk.start.Goals as goal

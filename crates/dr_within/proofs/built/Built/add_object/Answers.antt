@@ -1,7 +1,7 @@
 use Rattle.std.proofs.Common.{[], ◌∷◌, length, sym, ap, subst, ◌∙◌}
 use Rattle.dr_cells.specs.Results.{result_cells}
-use Rattle.dr_object_laws.specs.ObjectFlow.{built}
-use Rattle.dr_object_laws.specs.ObjectFlowLaws.{made_objects}
+use Rattle.dr_made_laws.specs.ObjectFlow.{built}
+use Rattle.dr_made_laws.specs.ObjectFlowLaws.{made_objects}
 use Rattle.dr_within.specs.ObjectFraming.{built_in, AreRuns}
 use Rattle.dr_within.proofs.FramingLemmas.{on_ok}
 use Rattle.dr_within.proofs.MadeParts.{built_both}

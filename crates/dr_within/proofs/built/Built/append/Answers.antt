@@ -3,8 +3,8 @@ use Rattle.std.specs.Prelude.{map}
 use Rattle.dr_cells.specs.Results.{ResultCell, result_cells}
 use Rattle.dr_cells.specs.Views.{cells_view}
 use Rattle.dr_cells.proofs.ReadingLemmas.{result_cells-append}
-use Rattle.dr_object_laws.specs.ObjectFlow.{Made, built}
-use Rattle.dr_object_laws.specs.ObjectFlowLaws.{made_objects}
+use Rattle.dr_made_laws.specs.ObjectFlow.{Made, built}
+use Rattle.dr_made_laws.specs.ObjectFlowLaws.{made_objects}
 use Rattle.dr_within.specs.ObjectFraming.{built_in, AreRuns}
 use Rattle.dr_within.specs.declared.built.Run.{Run}
 use Rattle.dr_within.proofs.MadeParts.{built_both, objects_both}

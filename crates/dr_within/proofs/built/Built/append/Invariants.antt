@@ -1,5 +1,5 @@
 use Rattle.std.proofs.Common.{◌≡◌, ◌++◌, List}
-use Rattle.dr_object_laws.specs.ObjectFlow.{Made}
+use Rattle.dr_made_laws.specs.ObjectFlow.{Made}
 use Rattle.dr_within.specs.ObjectFraming.{AreRuns}
 use Rattle.dr_within.proofs.RunLemmas.{RunsBehind}
 use Rattle.dr_within.proofs.built.Built.append.Given as goal

@@ -1,6 +1,6 @@
 use Rattle.std.proofs.Common.{◌≡◌, ◌<◌, ◌≤◌, List, length, get_or, ap, subst, ◌∙◌}
-use Rattle.dr_object_laws.specs.ObjectFlow.{Made}
-use Rattle.dr_object_laws.specs.ObjectFlowLaws.{made_objects}
+use Rattle.dr_made_laws.specs.ObjectFlow.{Made}
+use Rattle.dr_made_laws.specs.ObjectFlowLaws.{made_objects}
 use Rattle.dr_within.specs.ObjectFraming.{built_in}
 use Rattle.dr_within.specs.declared.built.Run.{Run}
 use Rattle.dr_within.proofs.MadeParts.{objects_of_built}

@@ -1,6 +1,6 @@
 use Rattle.std.proofs.Common.{◌≡◌, List, length}
-use Rattle.dr_object_laws.specs.ObjectFlow.{Made}
-use Rattle.dr_object_laws.specs.ObjectFlowLaws.{made_objects}
+use Rattle.dr_made_laws.specs.ObjectFlow.{Made}
+use Rattle.dr_made_laws.specs.ObjectFlowLaws.{made_objects}
 use Rattle.dr_within.specs.ObjectFraming.{built_in, HoldsBuilt}
 use Rattle.dr_within.proofs.RunLemmas.{RunsBehind}
 use Rattle.dr_within.proofs.built.Built.count.Given as goal

@@ -1,5 +1,5 @@
 use Rattle.std.proofs.Common.{◌≡◌, ◌<◌, ◌≤◌, List, length, get_or, ap, subst, ◌∙◌}
-use Rattle.dr_object_laws.specs.ObjectFlow.{Made, objects_for}
+use Rattle.dr_made_laws.specs.ObjectFlow.{Made, objects_for}
 use Rattle.dr_within.specs.ObjectFraming.{built_in}
 use Rattle.dr_within.specs.declared.built.Run.{Run}
 use Rattle.dr_within.proofs.MadeParts.{objects_for_built}

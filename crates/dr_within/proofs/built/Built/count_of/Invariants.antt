@@ -1,5 +1,5 @@
 use Rattle.std.proofs.Common.{◌≡◌, List, length}
-use Rattle.dr_object_laws.specs.ObjectFlow.{Made, objects_for}
+use Rattle.dr_made_laws.specs.ObjectFlow.{Made, objects_for}
 use Rattle.dr_within.specs.ObjectFraming.{built_in, HoldsBuilt}
 use Rattle.dr_within.proofs.RunLemmas.{RunsBehind}
 use Rattle.dr_within.proofs.built.Built.count_of.Given as goal

@@ -2,7 +2,7 @@ use Rattle.std.proofs.Common.{◌≡◌, ◌<◌, ◌≤◌, ◌++◌, List, len
 use Rattle.dr_meaning.specs.Query.{Object}
 use Rattle.dr_cells.specs.Results.{result_cells}
 use Rattle.dr_cells.specs.Views.{cells_view}
-use Rattle.dr_object_laws.specs.ObjectFlow.{Made}
+use Rattle.dr_made_laws.specs.ObjectFlow.{Made}
 use Rattle.dr_within.specs.ObjectFraming.{built_in}
 use Rattle.dr_within.specs.declared.built.Run.{Run}
 use Rattle.dr_within.proofs.MadeParts.{objects_of_built, objects_for_built}

@@ -1,5 +1,5 @@
 use Rattle.std.proofs.Common.{List}
-use Rattle.dr_object_laws.specs.ObjectFlow.{Made}
+use Rattle.dr_made_laws.specs.ObjectFlow.{Made}
 use Rattle.dr_cells.specs.Views.{cells_view}
 use Rattle.dr_within.specs.ObjectFraming.{built_in, HoldsBuilt}
 use Rattle.dr_within.proofs.RunLemmas.{Copied, RunsBehind}

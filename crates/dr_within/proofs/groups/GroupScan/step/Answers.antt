@@ -1,9 +1,9 @@
 use Rattle.std.proofs.Common.{◌≡◌, ◌<◌, ℕ, List, [], ◌∷◌, ◌++◌, length, None, refl, sym, ap, ap₂, subst, ◌∙◌}
 use Rattle.dr_levels.specs.Views.{move_view, triplet_view}
 use Rattle.dr_meaning.specs.Walk.{Move, enter, value, leave}
-use Rattle.dr_firing.specs.Context.{Context, with_value}
+use Rattle.dr_moves.specs.Context.{Context, with_value}
 use Rattle.dr_kept_laws.specs.GroupFlow.{all_fired, all_left, left_with}
-use Rattle.dr_pruning_laws.specs.MovedContexts.{after_moves}
+use Rattle.dr_kept_laws.specs.MovedContexts.{after_moves}
 use Rattle.dr_scalar.specs.Slots.{slot_value}
 use Rattle.dr_condition.specs.Conditions.{watch_in}
 use Rattle.dr_condition.specs.Watching.{TellsKept, dropped_at}

@@ -1,7 +1,7 @@
 use Rattle.std.proofs.Common.{◌≡◌, ◌++◌, ◌∷◌, [], ℕ, suc, List, Bool, length, refl, sym, ap, ◌∙◌}
 use Rattle.std.specs.Prelude.{if◌then◌else◌}
 use Rattle.dr_cells.specs.Results.{ResultCell, object_cells}
-use Rattle.dr_object_laws.specs.ObjectFlow.{built, items_of, object_made, passed_on, values_for}
+use Rattle.dr_made_laws.specs.ObjectFlow.{built, items_of, object_made, passed_on, values_for}
 use Rattle.dr_scalar.specs.Slots.{slot_value}
 use Rattle.dr_within.specs.WithinValues.{is_among}
 use Rattle.dr_within.proofs.FramingLemmas.{on_ok}

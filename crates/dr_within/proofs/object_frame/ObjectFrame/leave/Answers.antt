@@ -1,7 +1,7 @@
 use Rattle.std.proofs.Common.{◌++◌, List, sym, subst}
 use Rattle.std.specs.Prelude.{Option, option_map}
 use Rattle.std.specs.Borrow.{Bor}
-use Rattle.dr_object_laws.specs.ObjectFlow.{Made, items_of}
+use Rattle.dr_made_laws.specs.ObjectFlow.{Made, items_of}
 use Rattle.dr_scalar.specs.Slots.{slot_value}
 use Rattle.dr_within.specs.ObjectFraming.{HoldsFrame}
 use Rattle.dr_within.specs.ObjectLevels.{IsLevelAt}

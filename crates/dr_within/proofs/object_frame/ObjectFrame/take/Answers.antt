@@ -2,7 +2,7 @@ use Rattle.std.proofs.Common.{◌≡◌, ◌++◌, ◌∷◌, ◌+◌, [], ℕ, 
 use Rattle.std.specs.List.{flat_map}
 use Rattle.std.proofs.lemmas.List.{take_more, take_all}
 use Rattle.std.proofs.lemmas.Grind.{flat_map-append}
-use Rattle.dr_object_laws.specs.ObjectFlow.{Made, items_of}
+use Rattle.dr_made_laws.specs.ObjectFlow.{Made, items_of}
 use Rattle.dr_scalar.specs.Slots.{slot_value}
 use Rattle.dr_within.specs.ObjectFraming.{HoldsFrame}
 use Rattle.dr_within.specs.OwnCells.{taken_at}

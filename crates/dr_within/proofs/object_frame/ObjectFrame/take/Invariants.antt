@@ -1,7 +1,7 @@
 use Rattle.std.proofs.Common.{◌++◌, List, take}
 use Rattle.std.specs.List.{flat_map}
 use Rattle.dr_meaning.specs.Path.{Leaf}
-use Rattle.dr_object_laws.specs.ObjectFlow.{Made, ReadItem, items_of}
+use Rattle.dr_made_laws.specs.ObjectFlow.{Made, ReadItem, items_of}
 use Rattle.dr_scalar.specs.Slots.{slot_value}
 use Rattle.dr_within.specs.ObjectFraming.{AreReadItems, HoldsFrame}
 use Rattle.dr_within.specs.OwnCells.{taken_at}

@@ -3,7 +3,7 @@ use Rattle.std.specs.Prelude.{option_map}
 use Rattle.std.proofs.lemmas.Option.{slice_get_read, slice_get_past}
 use Rattle.dr_meaning.specs.Record.{Value}
 use Rattle.dr_levels.specs.Views.{lent_value}
-use Rattle.dr_object_laws.specs.ObjectFlow.{Made, taken, items_of}
+use Rattle.dr_made_laws.specs.ObjectFlow.{Made, taken, items_of}
 use Rattle.dr_scalar.specs.Slots.{slot_value}
 use Rattle.dr_scalar.specs.Views.{evaluated_view}
 use Rattle.dr_within.specs.ObjectFraming.{HoldsFrame}

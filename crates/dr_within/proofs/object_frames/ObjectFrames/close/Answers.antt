@@ -1,7 +1,7 @@
 use Rattle.std.specs.Prelude.{reverse}
 use Rattle.dr_cells.specs.Shapes.{shape_view}
 use Rattle.dr_cells.proofs.ReadingLemmas.{are_rows}
-use Rattle.dr_object_laws.specs.ObjectFlowLaws.{made_objects}
+use Rattle.dr_made_laws.specs.ObjectFlowLaws.{made_objects}
 use Rattle.dr_within.proofs.ObjectFrameLemmas.{frames_closed}
 use Rattle.dr_within.proofs.object_frames.ObjectFrames.close.Goals as goal
 

@@ -1,7 +1,7 @@
 use Rattle.std.proofs.Common.{◌≡◌, ◌∷◌, ◌++◌, [], List, take, drop, sym, ap, subst, ◌∙◌, true≢false}
 use Rattle.std.specs.Prelude.{reverse, if◌then◌else◌}
 use Rattle.std.proofs.lemmas.List.{reverse-append}
-use Rattle.dr_object_laws.specs.ObjectFlow.{Made, items_of, left_items}
+use Rattle.dr_made_laws.specs.ObjectFlow.{Made, items_of, left_items}
 use Rattle.dr_scalar.specs.Slots.{slot_value}
 use Rattle.dr_within.specs.ObjectFraming.{HoldsFrame, HoldsFrames}
 use Rattle.dr_within.specs.declared.object_frames.ObjectFrames.{ObjectFrames}

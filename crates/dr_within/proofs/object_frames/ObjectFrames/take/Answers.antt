@@ -1,5 +1,5 @@
 use Rattle.std.specs.Prelude.{reverse}
-use Rattle.dr_object_laws.specs.ObjectFlow.{items_of, seen_items}
+use Rattle.dr_made_laws.specs.ObjectFlow.{items_of, seen_items}
 use Rattle.dr_scalar.specs.Slots.{slot_value}
 use Rattle.dr_within.proofs.FramingLemmas.{on_ok}
 use Rattle.dr_within.proofs.ObjectFrameLemmas.{frames_more}

@@ -2,11 +2,11 @@ use Rattle.std.proofs.Common.{◌≡◌, ◌<◌, ℕ, List, [], ◌∷◌, ◌+
 use Rattle.dr_levels.specs.Views.{move_view, triplet_view}
 use Rattle.dr_meaning.specs.Query.{levels_of}
 use Rattle.dr_meaning.specs.Walk.{Move, enter, value, leave}
-use Rattle.dr_firing.specs.Context.{Context, with_value}
-use Rattle.dr_object_laws.specs.ObjectFlow.{items_of, seen_items, left_items}
+use Rattle.dr_moves.specs.Context.{Context, with_value}
+use Rattle.dr_made_laws.specs.ObjectFlow.{items_of, seen_items, left_items}
 use Rattle.dr_plan.specs.Planned.{plan_leaves}
 use Rattle.dr_plan.specs.declared.plan.RecordItem.{RecordItem}
-use Rattle.dr_pruning_laws.specs.MovedContexts.{after_moves}
+use Rattle.dr_kept_laws.specs.MovedContexts.{after_moves}
 use Rattle.dr_scalar.specs.Slots.{slot_value}
 use Rattle.dr_condition.specs.Conditions.{watch_in}
 use Rattle.dr_condition.specs.Watching.{dropped_at}

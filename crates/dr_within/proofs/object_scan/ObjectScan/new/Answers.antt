@@ -2,7 +2,7 @@ use Rattle.std.proofs.Common.{◌≡◌, ℕ, List, length, map, subst, arith}
 use Rattle.std.proofs.lemmas.List.{length-map}
 use Rattle.dr_nested.specs.PathView.{path_view}
 use Rattle.dr_nested.specs.SchemaView.{schema_view}
-use Rattle.dr_object_laws.specs.ObjectFlow.{items_of}
+use Rattle.dr_made_laws.specs.ObjectFlow.{items_of}
 use Rattle.dr_plan.specs.Planned.{plan_leaves}
 use Rattle.dr_plan.specs.declared.plan.RecordItem.{RecordItem}
 use Rattle.dr_within.specs.ItemFirings.{FiresItems}

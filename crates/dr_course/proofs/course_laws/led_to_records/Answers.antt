@@ -1,5 +1,0 @@
-use Rattle.dr_course.proofs.LeadingLemmas.{led_to_records}
-use Rattle.dr_course.proofs.course_laws.led_to_records.Goals as goal
-
-pub returns : goal.returns
-returns c = led_to_records

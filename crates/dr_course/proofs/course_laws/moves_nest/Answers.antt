@@ -1,5 +1,0 @@
-use Rattle.dr_course.proofs.NestingOfTurns.{moves_nest, moves_begin_walk}
-use Rattle.dr_course.proofs.course_laws.moves_nest.Goals as goal
-
-pub returns : goal.returns
-returns c = record { nests = moves_nest; begins = moves_begin_walk }

@@ -1,5 +1,0 @@
-use Rattle.dr_firing.proofs.CuttingLemmas.{goes_behind}
-use Rattle.dr_firing.proofs.cutting_laws.append_and_cut.Goals as goal
-
-pub returns : goal.returns
-returns c = record { values = λ seen left w r T g. goes_behind seen left w r T g; puts = λ seen left w r T g. goes_behind seen left w r T g }

@@ -1,5 +1,0 @@
-use Rattle.dr_object_laws.proofs.RecordObjects.{flow_makes_objects, whole_flow_makes_objects}
-use Rattle.dr_object_laws.proofs.object_laws.flow_makes_objects.Goals as goal
-
-pub returns : goal.returns
-returns c = record { cut = flow_makes_objects; whole = whole_flow_makes_objects }

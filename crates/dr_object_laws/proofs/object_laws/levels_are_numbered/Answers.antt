@@ -1,5 +1,0 @@
-use Rattle.dr_object_laws.proofs.NumberLemmas.{levels_are_numbered}
-use Rattle.dr_object_laws.proofs.object_laws.levels_are_numbered.Goals as goal
-
-pub returns : goal.returns
-returns c = levels_are_numbered

@@ -1,5 +1,0 @@
-use Rattle.dr_pruning_laws.proofs.TourParts.{one_tour}
-use Rattle.dr_pruning_laws.proofs.pruning_laws.one_tour.Goals as goal
-
-pub returns : goal.returns
-returns c = one_tour

@@ -1,5 +1,0 @@
-use Rattle.dr_pruning_laws.proofs.OpenNumberLemmas.{open_on_chain}
-use Rattle.dr_pruning_laws.proofs.pruning_laws.open_on_chain.Goals as goal
-
-pub returns : goal.returns
-returns c = open_on_chain

@@ -1,5 +1,0 @@
-use Rattle.dr_pruning_laws.proofs.PartTelling.{parts_tell_told}
-use Rattle.dr_pruning_laws.proofs.pruning_laws.parts_tell_told.Goals as goal
-
-pub returns : goal.returns
-returns c = parts_tell_told

@@ -1,5 +1,0 @@
-use Rattle.dr_pruning_laws.proofs.ReadingTogether.{read_together}
-use Rattle.dr_pruning_laws.proofs.pruning_laws.read_together.Goals as goal
-
-pub returns : goal.returns
-returns c = read_together

@@ -1,5 +1,0 @@
-use Rattle.dr_pruning_laws.proofs.TellingLemmas.{told_is_kept}
-use Rattle.dr_pruning_laws.proofs.pruning_laws.told_is_kept.Goals as goal
-
-pub returns : goal.returns
-returns c = told_is_kept

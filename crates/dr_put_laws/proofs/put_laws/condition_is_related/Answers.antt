@@ -1,5 +1,0 @@
-use Rattle.dr_put_laws.proofs.ConditionLemmas.{condition_is_related}
-use Rattle.dr_put_laws.proofs.put_laws.condition_is_related.Goals as goal
-
-pub returns : goal.returns
-returns c = condition_is_related

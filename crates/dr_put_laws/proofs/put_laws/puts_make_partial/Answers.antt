@@ -1,5 +1,0 @@
-use Rattle.dr_put_laws.proofs.FlowPartialLemmas.{puts_make_partial}
-use Rattle.dr_put_laws.proofs.put_laws.puts_make_partial.Goals as goal
-
-pub returns : goal.returns
-returns c = puts_make_partial

@@ -1,5 +1,0 @@
-use Rattle.dr_put_laws.proofs.LeavesInOrderLemmas.{query_leaves_in_order}
-use Rattle.dr_put_laws.proofs.put_laws.query_leaves_in_order.Goals as goal
-
-pub returns : goal.returns
-returns c = query_leaves_in_order
