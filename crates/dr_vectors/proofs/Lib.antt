@@ -23,6 +23,7 @@ pub mod BodiesOfNoPage
 pub mod OpenLeafLimit
 pub mod TabletCopies
 pub mod CountedTablets
+pub mod CountedTriplets
 -- commands
 pub mod EmptyCommandLine
 -- what is asked for

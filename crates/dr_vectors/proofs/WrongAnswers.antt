@@ -1,14 +1,12 @@
 -- What wrong bodies answer, and that the definitions say otherwise, by computation. Above each stands the wrong body, which is a file of wrong-bodies/ in
 -- the crate of the call whose contract says that its answer is the definition.
-use Rattle.std.specs.Prelude.{◌≡◌, ℕ, List, [], ◌∷◌, map, length, false, pos, Option, Some, None, option_map, refl}
+use Rattle.std.specs.Prelude.{◌≡◌, ℕ, List, [], ◌∷◌, length, false, Some, None, refl}
 use Rattle.std.proofs.Common.{ap, arith}
 use Rattle.dr_meaning.specs.Automaton.{transition}
 use Rattle.dr_meaning.specs.Column.{Triplet, triplet, column}
 use Rattle.dr_meaning.specs.Kept.{kept_along}
 use Rattle.dr_meaning.specs.Path.{Step}
-use Rattle.dr_meaning.specs.Record.{int_value}
 use Rattle.dr_meaning.specs.Rows.{rows}
-use Rattle.dr_meaning.specs.Query.{count}
 use Rattle.dr_meaning.proofs.WorkedRecords.{record_10, record_20, record_30}
 use Rattle.dr_meaning.proofs.WorkedPaths.{doc_id, name, language_level, backward, code, country, url}
 use Rattle.dr_partials.specs.Accumulators.{counted, join}
