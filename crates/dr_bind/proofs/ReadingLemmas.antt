@@ -1,5 +1,5 @@
 -- The plan of a query's text.
-use Rattle.std.proofs.Common.{◌≡◌, ◌∙◌, ℕ, List, sym, ap, map, subst, Result, Ok, Err}
+use Rattle.std.proofs.Common.{◌≡◌, ◌∙◌, ℕ, List, sym, ap, subst, Result, Ok, Err}
 use Rattle.std.specs.Prelude.{IsErrAnd, IfErr, MatchOption, ⊤}
 use Rattle.dr_meaning.specs.Schema.{Schema}
 use Rattle.dr_meaning.specs.Syntax.{QuerySyntax}

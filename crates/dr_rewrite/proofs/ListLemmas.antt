@@ -1,5 +1,5 @@
 -- Lists of texts.
-use Rattle.std.proofs.Common.{◌≡◌, ℕ, ◌+◌, ◌<◌, ◌≤◌, length, drop, add-one, append_assoc, List, [], ◌∷◌, ◌++◌, map, append-nil, refl, sym, ap, ◌∙◌}
+use Rattle.std.proofs.Common.{◌≡◌, ℕ, ◌+◌, ◌<◌, ◌≤◌, length, drop, add-one, append_assoc, List, [], ◌∷◌, ◌++◌, map, append-nil, sym, ap, ◌∙◌}
 use Rattle.std.proofs.lemmas.List.{map_push, map-id, drop_all, drop_more}
 use Rattle.dr_partials.specs.RewritingText.{commas}
 use Rattle.dr_rewrite.specs.Items.{indexed}

@@ -1,5 +1,5 @@
 -- Texts that are appended part by part.
-use Rattle.std.proofs.Common.{◌≡◌, ℕ, List, [], ◌∷◌, ◌++◌, cond, is_ok, Result, Ok, Err, OnOk, append_assoc, append-nil, sym, ap, ap₂, ◌∙◌}
+use Rattle.std.proofs.Common.{◌≡◌, ℕ, List, [], ◌++◌, cond, is_ok, Result, Ok, Err, OnOk, append_assoc, append-nil, sym, ap, ap₂, ◌∙◌}
 use Rattle.std.specs.Prelude.{codes}
 use Rattle.dr_partials.specs.RewritingText.{commas, group_by_text, select_text}
 

@@ -1,11 +1,11 @@
 //! Conditions.
 
-ghost use Rattle.std.specs.Prelude.{◌≡◌, ◌++◌, map, option_map, string_bytes, OnOk};
+ghost use Rattle.std.specs.Prelude.{◌≡◌, ◌++◌, map, string_bytes, OnOk};
 ghost use Rattle.std.specs.List.{slice_get};
 ghost use Rattle.dr_partials.specs.RewritingText as meant;
-ghost use Rattle.dr_plan.specs.Conjuncts.{condition_written, or_true, rejoined};
-ghost use Rattle.dr_plan.specs.Views.{joining_view, truth_view};
-ghost use Rattle.dr_rewrite.specs.Writing.{written_leaves, written_path};
+ghost use Rattle.dr_plan.specs.Conjuncts.{or_true};
+ghost use Rattle.dr_plan.specs.Views.{truth_view};
+ghost use Rattle.dr_rewrite.specs.Writing.{condition_text, rejoined_text, written_leaves, written_path};
 
 use crate::expressions::push_truth_of;
 use crate::literals::push_truth;
@@ -22,9 +22,7 @@ pub(crate) fn push_condition(
     out: &mut String,
 ) -> Result<(), AllocError>
     ensures { OnOk result (string_bytes out.new
-        ≡ string_bytes out.old ++ meant.where_text (written_path names.now)
-        (condition_written (map (truth_view (written_leaves names.now)) tests.now)
-        (option_map joining_view joining.now))) }
+        ≡ string_bytes out.old ++ condition_text names.now tests.now joining.now) }
 {
     match joining {
         None => Ok(()),
@@ -43,8 +41,7 @@ fn push_joined(
     out: &mut String,
 ) -> Result<(), AllocError>
     ensures { OnOk result (string_bytes out.new
-        ≡ string_bytes out.old ++ meant.expression_text (written_path names.now)
-        (rejoined (map (truth_view (written_leaves names.now)) tests.now) (joining_view joining.now))) }
+        ≡ string_bytes out.old ++ rejoined_text names.now tests.now joining.now) }
 {
     match joining {
         Joining::Conjunct(number) => push_conjunct(*number, tests, names, out),

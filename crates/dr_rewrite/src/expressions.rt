@@ -1,9 +1,10 @@
 //! Expressions.
 
 ghost use Rattle.std.specs.Prelude.{◌≡◌, ◌++◌, string_bytes, OnOk};
-ghost use Rattle.dr_meaning.specs.Expression as language;
 ghost use Rattle.dr_partials.specs.RewritingText as meant;
-ghost use Rattle.dr_plan.specs.Views.{comparison_view, expr_view, number_view, text_view, truth_view};
+ghost use Rattle.dr_plan.specs.Views.{comparison_view, expr_view};
+ghost use Rattle.dr_rewrite.specs.Writing.{number_null_text, number_text, numbers_compared};
+ghost use Rattle.dr_rewrite.specs.Writing.{text_null_text, text_text, texts_compared, truth_text};
 ghost use Rattle.dr_rewrite.specs.Writing.{written_leaves, written_path};
 
 use crate::literals::{push_number, push_text, push_truth};
@@ -15,8 +16,7 @@ use std::alloc::AllocError;
 #[cycle(numbers)]
 fn push_number_of(number: &Number, names: &Names<'_>, out: &mut String) -> Result<(), AllocError>
     ensures { OnOk result (string_bytes out.new
-        ≡ string_bytes out.old ++ meant.expression_text (written_path names.now)
-        (number_view (written_leaves names.now) number.now)) }
+        ≡ string_bytes out.old ++ number_text names.now number.now) }
 {
     match number {
         Number::Literal(value) => push_number(*value, out),
@@ -43,9 +43,7 @@ fn push_operation(
 ) -> Result<(), AllocError>
     ensures { OnOk result (string_bytes out.new
         ≡ string_bytes out.old ++ meant.in_parentheses
-        (meant.expression_text (written_path names.now) (number_view (written_leaves names.now) left.now)
-        ++ (sign.now ++ meant.expression_text (written_path names.now)
-        (number_view (written_leaves names.now) right.now)))) }
+        (number_text names.now left.now ++ (sign.now ++ number_text names.now right.now))) }
 {
     out.push_str("(")?;
     push_number_of(left, names, out)?;
@@ -57,8 +55,7 @@ fn push_operation(
 /// Appends a text's expression.
 fn push_text_of(text: &TextOf, names: &Names<'_>, out: &mut String) -> Result<(), AllocError>
     ensures { OnOk result (string_bytes out.new
-        ≡ string_bytes out.old ++ meant.expression_text (written_path names.now)
-        (text_view (written_leaves names.now) text.now)) }
+        ≡ string_bytes out.old ++ text_text names.now text.now) }
 {
     match text {
         TextOf::Literal(value) => push_text(value.as_str(), out),
@@ -81,8 +78,7 @@ pub(crate) fn push_truth_of(
     out: &mut String,
 ) -> Result<(), AllocError>
     ensures { OnOk result (string_bytes out.new
-        ≡ string_bytes out.old ++ meant.expression_text (written_path names.now)
-        (truth_view (written_leaves names.now) truth.now)) }
+        ≡ string_bytes out.old ++ truth_text names.now truth.now) }
 {
     match truth {
         Truth::Literal(value) => push_truth(*value, out),
@@ -114,16 +110,8 @@ pub(crate) fn push_truth_of(
         Truth::Contains(text, part) => {
             push_text_test(text, " CONTAINS ", part.as_str(), names, out)
         }
-        Truth::NumberIsNull(number) => {
-            out.push_str("(")?;
-            push_number_of(number, names, out)?;
-            out.push_str(" IS NULL)")
-        }
-        Truth::TextIsNull(text) => {
-            out.push_str("(")?;
-            push_text_of(text, names, out)?;
-            out.push_str(" IS NULL)")
-        }
+        Truth::NumberIsNull(number) => push_number_is_null(number, names, out),
+        Truth::TextIsNull(text) => push_text_is_null(text, names, out),
     }
 }
 
@@ -138,9 +126,7 @@ fn push_joined(
 ) -> Result<(), AllocError>
     ensures { OnOk result (string_bytes out.new
         ≡ string_bytes out.old ++ meant.in_parentheses
-        (meant.expression_text (written_path names.now) (truth_view (written_leaves names.now) left.now)
-        ++ (word.now ++ meant.expression_text (written_path names.now)
-        (truth_view (written_leaves names.now) right.now)))) }
+        (truth_text names.now left.now ++ (word.now ++ truth_text names.now right.now))) }
 {
     out.push_str("(")?;
     push_truth_of(left, names, out)?;
@@ -189,9 +175,7 @@ fn push_compared_numbers(
     out: &mut String,
 ) -> Result<(), AllocError>
     ensures { OnOk result (string_bytes out.new
-        ≡ string_bytes out.old ++ meant.expression_text (written_path names.now)
-        (language.comparison (comparison_view comparison) (number_view (written_leaves names.now) left.now)
-        (number_view (written_leaves names.now) right.now))) }
+        ≡ string_bytes out.old ++ numbers_compared names.now comparison left.now right.now) }
 {
     out.push_str("(")?;
     push_number_of(left, names, out)?;
@@ -209,15 +193,37 @@ fn push_compared_texts(
     out: &mut String,
 ) -> Result<(), AllocError>
     ensures { OnOk result (string_bytes out.new
-        ≡ string_bytes out.old ++ meant.expression_text (written_path names.now)
-        (language.comparison (comparison_view comparison) (text_view (written_leaves names.now) left.now)
-        (text_view (written_leaves names.now) right.now))) }
+        ≡ string_bytes out.old ++ texts_compared names.now comparison left.now right.now) }
 {
     out.push_str("(")?;
     push_text_of(left, names, out)?;
     out.push_str(sign_of(comparison))?;
     push_text_of(right, names, out)?;
     out.push_str(")")
+}
+
+/// Appends a test of a number for NULL.
+fn push_number_is_null(
+    number: &Number,
+    names: &Names<'_>,
+    out: &mut String,
+) -> Result<(), AllocError>
+    ensures { OnOk result (string_bytes out.new
+        ≡ string_bytes out.old ++ number_null_text names.now number.now) }
+{
+    out.push_str("(")?;
+    push_number_of(number, names, out)?;
+    out.push_str(" IS NULL)")
+}
+
+/// Appends a test of a text for NULL.
+fn push_text_is_null(text: &TextOf, names: &Names<'_>, out: &mut String) -> Result<(), AllocError>
+    ensures { OnOk result (string_bytes out.new
+        ≡ string_bytes out.old ++ text_null_text names.now text.now) }
+{
+    out.push_str("(")?;
+    push_text_of(text, names, out)?;
+    out.push_str(" IS NULL)")
 }
 
 /// Appends a test of a text by a word and a literal.
@@ -230,8 +236,7 @@ fn push_text_test(
 ) -> Result<(), AllocError>
     ensures { OnOk result (string_bytes out.new
         ≡ string_bytes out.old ++ meant.in_parentheses
-        (meant.expression_text (written_path names.now) (text_view (written_leaves names.now) text.now)
-        ++ (word.now ++ meant.text_literal literal.now))) }
+        (text_text names.now text.now ++ (word.now ++ meant.text_literal literal.now))) }
 {
     out.push_str("(")?;
     push_text_of(text, names, out)?;
