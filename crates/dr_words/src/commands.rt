@@ -1,7 +1,8 @@
 //! The command line of each command, and of all of them.
 
-ghost use Rattle.std.specs.Prelude.{◌≡◌, IfOk};
-ghost use Rattle.clap.specs.Words.{app_of, found_of, rows_of, subcommand_rows_of};
+ghost use Rattle.std.specs.Prelude.{◌≡◌, IfOk, false};
+ghost use Rattle.clap.specs.Words.{App, app_of, found_of, rows_of, subcommand_rows_of, with_subcommand};
+ghost use Rattle.clap.specs.declared.builder.command.Command.{out-Command as fields_of};
 ghost use Rattle.dr_commands.specs.Commands.{command_view};
 ghost use Rattle.dr_words.specs.Rules.{Answers};
 ghost use Rattle.dr_words.specs.Words as meant;
@@ -46,21 +47,32 @@ fn bare_command<'a>(alloc: Global) -> clap::Command<'a>
         .subcommand_required(true)
 }
 
+/// A command that one more subcommand joins.
+fn with_command<'a>(
+    command: clap::Command<'a>,
+    more: Result<clap::Command<'a>, AllocError>,
+) -> Result<clap::Command<'a>, AllocError>
+    requires local { IfOk more (λ subcommand. (fields_of subcommand).has_globals ≡ false) }
+    ensures { (app : App) → IfOk more.entry (λ subcommand. app_of subcommand ≡ app)
+        → IfOk result (λ longer. app_of longer ≡ with_subcommand (app_of command.entry) app.top) }
+{
+    command.subcommand(more?)
+}
+
 /// The whole command.
 pub fn dremel_command<'a>(alloc: Global) -> Result<clap::Command<'a>, AllocError>
     ensures { IfOk result (λ command. app_of command ≡ meant.dremel_app) }
 {
-    bare_command(alloc)
-        .subcommand(load_command(alloc)?)?
-        .subcommand(query_command(alloc)?)?
-        .subcommand(ask_command(alloc)?)?
-        .subcommand(dump_command(alloc)?)?
-        .subcommand(stripe_command(alloc)?)?
-        .subcommand(fsm_command(alloc)?)?
-        .subcommand(show_schema_command(alloc)?)?
-        .subcommand(explain_command(alloc)?)?
-        .subcommand(gen_command(alloc)?)?
-        .subcommand(trial_command(alloc)?)
+    let command = with_command(bare_command(alloc), load_command(alloc))?;
+    let command = with_command(command, query_command(alloc))?;
+    let command = with_command(command, ask_command(alloc))?;
+    let command = with_command(command, dump_command(alloc))?;
+    let command = with_command(command, stripe_command(alloc))?;
+    let command = with_command(command, fsm_command(alloc))?;
+    let command = with_command(command, show_schema_command(alloc))?;
+    let command = with_command(command, explain_command(alloc))?;
+    let command = with_command(command, gen_command(alloc))?;
+    with_command(command, trial_command(alloc))
 }
 
 /// The command of a subcommand's name and its values.
