@@ -10,7 +10,7 @@ are_utf8() {
 
 # the usage text, as the program has it, on standard error
 print_usage() {
-  sed -n 's/^ *"\(usage: .*\)\\n";$/\1/p' "$top/crates/dr_commands/src/read.rt" >&2
+  sed -n 's/^ *"\(usage: .*\)\\n";$/\1/p' "$top/crates/dr_words/src/commands.rt" >&2
 }
 
 # whether a word is an option that takes the next word as its value

@@ -5,7 +5,7 @@ use crate::each::Each;
 use crate::runs::try_case;
 use crate::setting::Setting;
 use dr_case_lines::{Broken, Place, Tally, numbers_of, push_copies, push_text, words_of};
-use dr_commands::USAGE;
+use dr_words::USAGE;
 use std::alloc::Global;
 use std::mem;
 use std::sync::Wait;

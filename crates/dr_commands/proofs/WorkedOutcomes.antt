@@ -32,7 +32,7 @@ use Rattle.dr_formats.proofs.WorkedTables.{two_copies_text}
 use Rattle.dr_reading.specs.Scan.{Copy}
 use Rattle.dr_commands.specs.Refusals.{schema_refused, table_refused, field_refused, words_refused, query_refused, line_refused, refusal_of, refusal_text}
 use Rattle.dr_commands.specs.Meaning.{Meaning, Outcome, done, refused, scans, serves, looks_at, plain, puts_in, IsEarly}
-use Rattle.dr_commands.specs.Numbers.{number_in, is_number_in, default_rows, least_fan, most_fan, default_fan, most_workers, default_workers, most_lag, default_lag, most_share, default_share}
+use Rattle.dr_commands.specs.Numbers.{default_rows, least_fan, most_fan, default_fan, most_workers, default_workers, most_lag, default_lag, most_share, default_share}
 use Rattle.dr_commands.specs.Serving.{ServingWords}
 use Rattle.dr_commands.specs.Load.{LoadWords, load_meaning, loaded_outcome}
 use Rattle.dr_commands.specs.Query.{query_meaning}
@@ -262,14 +262,6 @@ pub before_the_input : map IsEarly (schema_refused (record { place = 12; problem
 before_the_input = refl
 
 -- ---- numbers of options
-
--- a number between 2 and 64, digits alone, behind a plus where there is one; what isn't given or none of these is the other
-pub numbers_read : map (number_in 2 64 8) (Some (codes "2") ∷ Some (codes "64") ∷ Some (codes "+007") ∷ Some (codes "10") ∷ None ∷ []) ≡ 2 ∷ 64 ∷ 7 ∷ 10 ∷ 8 ∷ []
-numbers_read = refl
-
-pub no_numbers : map (is_number_in 2 64) (codes "1" ∷ codes "65" ∷ [] ∷ codes "+" ∷ codes "++7" ∷ codes "7 " ∷ codes "0x7" ∷ codes "-7" ∷ codes "a" ∷ []) ≡
-    false ∷ false ∷ false ∷ false ∷ false ∷ false ∷ false ∷ false ∷ false ∷ []
-no_numbers = refl
 
 pub limits : (default_rows ≡ 100000) × (least_fan ≡ 2) × (most_fan ≡ 64) × (default_fan ≡ 8)
 limits = (refl, refl, refl, refl)

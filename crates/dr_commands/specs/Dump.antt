@@ -1,7 +1,6 @@
 -- `dump --table F FIELD..`: the records of a table, projected to some leaves.
-use Rattle.std.specs.Prelude.{false, List, [], ◌∷◌, Option, Some, Result, Ok, Err, map, codes, option_map, option_and_then, string_bytes}
+use Rattle.std.specs.Prelude.{ℕ, false, List, [], Some, Result, Ok, Err, map, string_bytes}
 use Rattle.std.specs.List.{flat_map}
-use Rattle.clap.specs.Words.{App, Row, Text, all_of, first_of, new_rule}
 use Rattle.dr_meaning.specs.Path.{Leaf, paths_of_leaves}
 use Rattle.dr_meaning.specs.Record.{project}
 use Rattle.dr_meaning.specs.Print.{record_text}
@@ -11,22 +10,12 @@ use Rattle.dr_formats.specs.TableFile.{Table, TableFault, parse_table}
 use Rattle.dr_reading.specs.Scan.{Scan, tablets_of}
 use Rattle.dr_commands.specs.Refusals.{table_refused, refusal_of}
 use Rattle.dr_commands.specs.Meaning.{Meaning, Outcome, refused, scans}
-use Rattle.dr_commands.specs.Rules.{option_rule, needed, several, subcommand_app}
 use Rattle.dr_commands.specs.declared.commands.dump.Dump.{Dump}
 
 -- its values
 pub record DumpWords : Type 0 where
-  pub table : Text
-  pub fields : List Text
-
--- its part of the command line
-abbrev pub dump_app : App
-dump_app = subcommand_app (codes "dump") (needed (option_rule (codes "table")) ∷ several (needed (new_rule (codes "field"))) ∷ [])
-
--- its values in what clap found, where all are there
-abbrev pub dump_words : List Row → Option DumpWords
-dump_words rows = option_and_then (λ table. option_map (λ fields. record { table = table; fields = fields }) (all_of (codes "field") rows))
-    (first_of (codes "table") rows)
+  pub table : List ℕ
+  pub fields : List (List ℕ)
 
 abbrev pub dump_view : Dump → DumpWords
 dump_view d = record { table = string_bytes d.table; fields = map string_bytes d.fields.items }
@@ -46,7 +35,7 @@ abbrev pub dump_named : Table → Result (List Leaf) CommandRefusal → Outcome
 dump_named t (Ok F) = scans (dump_scan t F)
 dump_named t (Err e) = refused (refusal_of e) []
 
-abbrev pub dump_table : List Text → Result Table TableFault → Outcome
+abbrev pub dump_table : List (List ℕ) → Result Table TableFault → Outcome
 dump_table fields (Ok t) = dump_named t (named_leaves t.schema.fields [] 0 fields)
 dump_table fields (Err e) = refused (table_refused e) []
 

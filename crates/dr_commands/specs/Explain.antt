@@ -1,6 +1,5 @@
 -- `explain --schema F QUERY`: the queries of the servers of a tree by which a query over a schema is served. It reads no input.
-use Rattle.std.specs.Prelude.{ℕ, false, List, [], ◌∷◌, Option, Some, Result, Ok, Err, codes, option_map, option_and_then, string_bytes}
-use Rattle.clap.specs.Words.{App, Row, Text, first_of, new_rule}
+use Rattle.std.specs.Prelude.{ℕ, false, List, Some, Result, Ok, Err, string_bytes}
 use Rattle.dr_meaning.specs.Schema.{Schema}
 use Rattle.dr_meaning.specs.SchemaText.{SchemaFault, parse_schema}
 use Rattle.dr_meaning.specs.Query.{Query}
@@ -8,22 +7,12 @@ use Rattle.dr_meaning.specs.Ask.{read_query}
 use Rattle.dr_meaning.specs.Refusals.{QueryRefusal, CommandRefusal, schema_refused, query_refused}
 use Rattle.dr_partials.specs.RewritingText.{rewriting_text}
 use Rattle.dr_commands.specs.Meaning.{Meaning, plain}
-use Rattle.dr_commands.specs.Rules.{option_rule, needed, subcommand_app}
 use Rattle.dr_commands.specs.declared.commands.explain.Explain.{Explain}
 
 -- its values
 pub record ExplainWords : Type 0 where
-  pub schema : Text
-  pub query : Text
-
--- its part of the command line
-abbrev pub explain_app : App
-explain_app = subcommand_app (codes "explain") (needed (option_rule (codes "schema")) ∷ needed (new_rule (codes "query")) ∷ [])
-
--- its values in what clap found, where all are there
-abbrev pub explain_words : List Row → Option ExplainWords
-explain_words rows = option_and_then (λ schema. option_map (λ query. record { schema = schema; query = query }) (first_of (codes "query") rows))
-    (first_of (codes "schema") rows)
+  pub schema : List ℕ
+  pub query : List ℕ
 
 abbrev pub explain_view : Explain → ExplainWords
 explain_view e = record { schema = string_bytes e.schema; query = string_bytes e.query }

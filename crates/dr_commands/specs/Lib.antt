@@ -1,11 +1,10 @@
--- the parts of a command line's definition
-pub mod Rules
+-- limits, and how a query is served
 pub mod Numbers
 pub mod Serving
 -- what a command means
 pub mod Refusals
 pub mod Meaning
--- each command: its values, its part of the command line, its meaning
+-- each command: its values, and its meaning
 pub mod Load
 pub mod Query
 pub mod Ask
@@ -18,5 +17,5 @@ pub mod Gen
 pub mod Trial
 -- laws of what is printed of a table, each proved on a law function of src/
 pub mod ScanLaws
--- what the words of a command line ask for
+-- any command
 pub mod Commands

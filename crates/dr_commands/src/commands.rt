@@ -1,40 +1,17 @@
 //! The commands: what a command line asks for.
 
-ghost use Rattle.std.specs.Prelude.{◌≡◌, IfOk};
-ghost use Rattle.clap.specs.Words.{app_of, found_of, rows_of, subcommand_rows_of};
-ghost use Rattle.dr_commands.specs.Rules.{Answers};
-ghost use Rattle.dr_commands.specs.Commands as meant;
-ghost use Rattle.dr_commands.specs.Commands.{command_view};
-
 mod ask;
-mod ask_words;
 mod dump;
 mod explain;
 mod fsm;
 mod gen_values;
-mod gen_words;
 mod load;
-mod load_words;
 mod query;
-mod query_words;
 mod show_schema;
 mod stripe;
 mod trial;
-mod trial_words;
 
-use crate::commands::ask_words::{ask_command, ask_of};
-use crate::commands::dump::{dump_command, dump_of};
-use crate::commands::explain::{explain_command, explain_of};
-use crate::commands::fsm::{fsm_command, fsm_of};
-use crate::commands::gen_words::{gen_command, gen_of};
-use crate::commands::load_words::{load_command, load_of};
-use crate::commands::query_words::{query_command, query_of};
-use crate::commands::show_schema::{show_schema_command, show_schema_of};
-use crate::commands::stripe::{stripe_command, stripe_of};
-use crate::commands::trial_words::{trial_command, trial_of};
-use crate::words_fault::WordsFault;
 pub use ask::Ask;
-use clap::ArgMatches;
 pub use dump::Dump;
 pub use explain::Explain;
 pub use fsm::Fsm;
@@ -42,16 +19,11 @@ pub use gen_values::Gen;
 pub use load::Load;
 pub use query::Query;
 pub use show_schema::ShowSchema;
-use std::alloc::{AllocError, Global};
 pub use stripe::Stripe;
 pub use trial::Trial;
 
-/// What is printed where the words are refused.
-pub const USAGE: &str =
-    "usage: dremel load|query|ask|dump|stripe|fsm|schema|explain|gen|trial ..\n";
-
 /// What a command line asks for.
-#[derive(PartialEq, Eq, Drop)]
+#[derive(Drop)]
 pub enum Command {
     Load(Load),
     Query(Query),
@@ -63,62 +35,4 @@ pub enum Command {
     Explain(Explain),
     Gen(Gen),
     Trial(Trial),
-}
-
-/// The command before its subcommands join it. No word asks for help: those that would are refused as unknown.
-fn bare_command<'a>(alloc: Global) -> clap::Command<'a>
-    ensures { app_of result ≡ meant.bare_app }
-{
-    clap::Command::new(alloc, "dremel")
-        .disable_help_flag(true)
-        .disable_help_subcommand(true)
-        .subcommand_required(true)
-}
-
-/// The whole command.
-pub fn dremel_command<'a>(alloc: Global) -> Result<clap::Command<'a>, AllocError>
-    ensures { IfOk result (λ command. app_of command ≡ meant.dremel_app) }
-{
-    bare_command(alloc)
-        .subcommand(load_command(alloc)?)?
-        .subcommand(query_command(alloc)?)?
-        .subcommand(ask_command(alloc)?)?
-        .subcommand(dump_command(alloc)?)?
-        .subcommand(stripe_command(alloc)?)?
-        .subcommand(fsm_command(alloc)?)?
-        .subcommand(show_schema_command(alloc)?)?
-        .subcommand(explain_command(alloc)?)?
-        .subcommand(gen_command(alloc)?)?
-        .subcommand(trial_command(alloc)?)
-}
-
-/// The command of a subcommand's name and its values.
-///
-/// Errors: no subcommand has the name; want of memory.
-fn named_command(alloc: Global, name: &str, values: &ArgMatches<'_>) -> Result<Command, WordsFault>
-    ensures { Answers command_view (meant.words_of name.now (rows_of (found_of values.now))) result }
-{
-    match name {
-        "load" => Ok(Command::Load(load_of(alloc, values)?)),
-        "query" => Ok(Command::Query(query_of(alloc, values)?)),
-        "ask" => Ok(Command::Ask(ask_of(alloc, values)?)),
-        "dump" => Ok(Command::Dump(dump_of(alloc, values)?)),
-        "stripe" => Ok(Command::Stripe(stripe_of(alloc, values)?)),
-        "fsm" => Ok(Command::Fsm(fsm_of(alloc, values)?)),
-        "schema" => Ok(Command::ShowSchema(show_schema_of(alloc, values)?)),
-        "explain" => Ok(Command::Explain(explain_of(alloc, values)?)),
-        "gen" => Ok(Command::Gen(gen_of(values))),
-        "trial" => Ok(Command::Trial(trial_of(values))),
-        _ => Err(WordsFault::Usage),
-    }
-}
-
-/// The subcommand that clap met, with its values.
-pub fn command_of(alloc: Global, matches: &ArgMatches<'_>) -> Result<Command, WordsFault>
-    ensures { Answers command_view (meant.words_in (subcommand_rows_of matches.now)) result }
-{
-    match matches.subcommand() {
-        Some((name, values)) => named_command(alloc, name, values),
-        None => Err(WordsFault::Usage),
-    }
 }

@@ -1,7 +1,7 @@
 //! Commands.
 
 ghost use Rattle.std.specs.Prelude.{◌≡◌, ◌≢◌, ◌≤◌, ◌⊎◌, length, map, string_bytes};
-ghost use Rattle.dr_commands.specs.Commands.{Taken, meant};
+ghost use Rattle.dr_words.specs.Words.{Taken, meant};
 ghost use Rattle.dr_top.specs.World.{world};
 ghost use Rattle.dr_top.specs.Ends.{Holds, Prints, IsUsage, IsRefused, IsLeft, PrintsMost, IsOutside, IsMemory, SameCounts, LeavesInput, LeavesFiles, AsksKeeper, AsksLinks, LeavesLinks, IsComplete, IsServed};
 

@@ -2,9 +2,10 @@
 
 ghost use Rattle.std.specs.Prelude.{◌≡◌, ◌≢◌, IfOk, Some, None, map, string_bytes};
 ghost use Rattle.dr_commands.specs.Commands.{command_view};
-ghost use Rattle.dr_commands.specs.Commands as meant;
+ghost use Rattle.dr_words.specs.Words as meant;
 
-use dr_commands::{Command, WordsFault, read_words};
+use dr_commands::Command;
+use dr_words::{WordsFault, read_words};
 use std::alloc::Global;
 
 /// As `read_words`.

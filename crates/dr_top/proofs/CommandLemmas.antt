@@ -1,6 +1,6 @@
 -- What any command answers, from what it answers of the file that it is handed.
-use Rattle.std.specs.Prelude.{◌≡◌, ◌<◌, ℕ, Bool, true, false, List, [], ◌∷◌, ◌++◌, length, Some, Err, MatchOption, ⊤, string_bytes}
-use Rattle.std.proofs.Common.{refl, sym, ◌∙◌, subst, inl}
+use Rattle.std.specs.Prelude.{◌≡◌, ◌<◌, ℕ, Bool, true, false, List, [], ◌∷◌, ◌++◌, length, Some, Err, MatchOption, ⊤}
+use Rattle.std.proofs.Common.{refl, sym, ◌∙◌, subst, inl, inr}
 use Rattle.std.proofs.lemmas.Bool.{lt-ltb}
 use Rattle.dr_meaning.specs.SchemaText.{SchemaFault as SchemaRefusal, parse_schema}
 use Rattle.dr_formats.specs.Loading.{Put}
@@ -10,24 +10,24 @@ use Rattle.dr_nested.specs.declared.fault.SchemaFault.{SchemaFault}
 use Rattle.dr_nested.proofs.ParseLemmas.{text_is_too_long}
 use Rattle.dr_table.specs.Faults.{fault_view}
 use Rattle.dr_table.specs.declared.fault.TableFault.{TableFault}
-use Rattle.dr_load.specs.Puts.{HasPut}
+use Rattle.dr_load.specs.Puts.{HasPut, HasPutSome}
+use Rattle.dr_load.specs.Given.{WhereLines}
 use Rattle.dr_input.specs.Taken.{WhereTold}
 use Rattle.dr_outside.specs.Source.{SourceShown}
 use Rattle.dr_outside.specs.Link.{LinkShown}
 use Rattle.dr_commands.specs.Refusals.{schema_refused, table_refused}
 use Rattle.dr_commands.specs.Meaning.{Look, Meaning, Outcome, done, refused, puts_in}
-use Rattle.dr_tablets.specs.Views.{all_left_view}
-use Rattle.dr_top.specs.World.{Lent, lent, file_of, IsFileOf, outcome_on, Opens, RefusesAlways, Accepts, RefusesEarly, IsOpened, AcceptsWhole, IsOpenedBy, WithOutcome, WithEach}
-use Rattle.dr_top.specs.Reading.{HasText, IsLeftWith, HasMost, IsFileLeft}
-use Rattle.dr_top.specs.Keeping.{IsDoneSo, IsRefusedSo, PutsGiven}
+use Rattle.dr_top.specs.World.{Lent, lent, IsFileOf, ForInput, outcome_on, Opens, OpensBy, RefusesAlways, Accepts, WithEach}
+use Rattle.dr_top.specs.Reading.{HasText}
+use Rattle.dr_top.specs.Keeping.{IsDoneSo, IsRefusedSo, puts_before_end}
 use Rattle.dr_top.specs.Stops.{StopsEarly, StopsReading, StopsAsking, StopsWith, refusal_view, schema_stop, table_stop}
 use Rattle.dr_top.specs.Answers.{Gives, Finishes, AsksEach, AsksLink}
 use Rattle.dr_top.specs.NamedFile.{RefusesLonger}
 use Rattle.dr_top.specs.declared.named_file.Kind.{Kind}
 use Rattle.dr_top.specs.declared.refusal.Refusal.{Refusal}
 use Rattle.dr_top.specs.declared.stop.Stop.{Stop}
-use Rattle.dr_top.proofs.OutcomeLemmas.{told_so, each_told, with_file, with_each, with_told, for_each}
-use Rattle.dr_top.proofs.PutLemmas.{unput, put_none, put_nothing, put_nothing_yet, lines_given}
+use Rattle.dr_top.proofs.OutcomeLemmas.{told_so, each_told, each_input, told_input}
+use Rattle.dr_top.proofs.PutLemmas.{unput, put_none, some_of_none, put_nothing, lines_given}
 
 -- ---- what a command refuses before the input
 
@@ -82,28 +82,26 @@ early_asking on ls (Stop.LeftFile cause) h = absurd h
 -- ---- what is said of any command
 
 module _ (m : Meaning) (w : Lent) (file : List ℕ) (is : IsFileOf m w.keeper file) where
-  refuses : (r : Refusal) → RefusesAlways (outcome_on m file) (refusal_view r) → RefusesEarly m w.keeper (refusal_view r)
-  refuses r h = with_file (file_of m w.keeper) file (λ f. RefusesAlways (outcome_on m f) (refusal_view r)) is h
+  opens_input : m.reads_input ≡ true → Opens (outcome_on m file) → OpensBy m.reads_input (outcome_on m file)
+  opens_input r h = subst (λ (b : Bool). OpensBy b (outcome_on m file)) (sym r) h
 
-  pub opened : Opens (outcome_on m file) → IsOpened m w.keeper
-  opened h = with_file (file_of m w.keeper) file (λ f. Opens (outcome_on m f)) is h
+  opens_none : m.reads_input ≡ false → OpensBy m.reads_input (outcome_on m file)
+  opens_none r = subst (λ (b : Bool). OpensBy b (outcome_on m file)) (sym r) tt
 
-  pub accepted : (i1 : SourceShown) → Accepts (outcome_on m file) w.input i1 → AcceptsWhole m w (lent i1 w.keeper w.links)
-  accepted i1 h = with_file (file_of m w.keeper) file (λ f. Accepts (outcome_on m f) w.input i1) is h
-
-  pub opens_input : m.reads_input ≡ true → Opens (outcome_on m file) → IsOpenedBy m.reads_input m w.keeper
-  opens_input r h = subst (λ (b : Bool). IsOpenedBy b m w.keeper) (sym r) (opened h)
-
-  opens_none : m.reads_input ≡ false → IsOpenedBy m.reads_input m w.keeper
-  opens_none r = subst (λ (b : Bool). IsOpenedBy b m w.keeper) (sym r) tt
+  none_put : HasPut [] w.keeper w.keeper
+  none_put = put_none w.keeper w.keeper (unput w.keeper)
 
   refused_early : (r : Refusal) → RefusesAlways (outcome_on m file) (refusal_view r) → StopsWith m w w (Stop.Refused r)
   refused_early r h = (
     refl,
     refl,
     refl,
-    with_each m w file is (IsRefusedSo (refusal_view r) w.keeper w.keeper) (λ input. ([], h input, put_none w.keeper w.keeper (unput w.keeper))),
-    λ early. (refl, refuses r h, put_none w.keeper w.keeper (unput w.keeper)),
+    record {
+      file = file;
+      is_file = is;
+      refuses = each_input m.reads_input w.input.left (λ input. IsRefusedSo (refusal_view r) w.keeper w.keeper (outcome_on m file input)) (λ input. ([], h input, none_put));
+      early = λ early. (h, refl, none_put);
+    },
   )
 
   -- one that is stopped before it asks for anything
@@ -119,44 +117,66 @@ module _ (m : Meaning) (w : Lent) (file : List ℕ) (is : IsFileOf m w.keeper fi
 
   -- one whose outcome no input changes
   pub alone_finishes : (text : List ℕ) → m.reads_input ≡ false → ((input : List ℕ) → outcome_on m file input ≡ outcome_on m file []) → outcome_on m file [] ≡ done text [] → Finishes m w w text
-  alone_finishes text r same h =
-      (with_each m w file is (Gives w w text) (λ input. subst (Gives w w text) (sym (same input ∙ h)) (refl, put_none w.keeper w.keeper (unput w.keeper))), opens_none r)
+  alone_finishes text r same h = record {
+    file = file;
+    is_file = is;
+    gives = each_input m.reads_input w.input.left (λ input. Gives w w text (outcome_on m file input)) (λ input. subst (Gives w w text) (sym (same input ∙ h)) (refl, none_put));
+    opens = opens_none r;
+  }
 
   -- one that reads the input
   pub putting_finishes : (i1 : SourceShown) (k1 : LinkShown) (text : List ℕ) → m.reads_input ≡ true → Opens (outcome_on m file) → WhereTold w.input.left (λ input. IsDoneSo text w.keeper k1 (outcome_on m file input)) → Finishes m w (lent i1 k1 w.links) text
-  putting_finishes i1 k1 text reads o h = (
-    with_told m w file is (Gives w (lent i1 k1 w.links) text) reads
+  putting_finishes i1 k1 text reads o h = record {
+    file = file;
+    is_file = is;
+    gives = told_input m.reads_input w.input.left (λ input. Gives w (lent i1 k1 w.links) text (outcome_on m file input)) reads
         (told_so w.input.left (λ input. IsDoneSo text w.keeper k1 (outcome_on m file input)) (λ input. Gives w (lent i1 k1 w.links) text (outcome_on m file input))
-        (λ input g. subst (Gives w (lent i1 k1 w.links) text) (sym g.1) (refl, g.2)) h),
-    opens_input reads o,
-  )
+        (λ input g. subst (Gives w (lent i1 k1 w.links) text) (sym g.1) (refl, g.2)) h);
+    opens = opens_input reads o;
+  }
 
   -- and puts nothing
   module _ (i1 : SourceShown) (reads : m.reads_input ≡ true) (none : (look : Look) → puts_in (m.outcome look) ≡ []) where
     pub reading_finishes : (text : List ℕ) → Opens (outcome_on m file) → WhereTold w.input.left (λ input. outcome_on m file input ≡ done text []) → Finishes m w (lent i1 w.keeper w.links) text
     reading_finishes text o h =
         putting_finishes i1 w.keeper text reads o
-        (told_so w.input.left (λ input. outcome_on m file input ≡ done text []) (λ input. IsDoneSo text w.keeper w.keeper (outcome_on m file input)) (λ input e. ([], e, put_none w.keeper w.keeper (unput w.keeper))) h)
+        (told_so w.input.left (λ input. outcome_on m file input ≡ done text []) (λ input. IsDoneSo text w.keeper w.keeper (outcome_on m file input)) (λ input e. ([], e, none_put)) h)
 
-    given : Accepts (outcome_on m file) w.input i1 → PutsGiven m w (lent i1 w.keeper w.links)
+    given : Accepts (outcome_on m file) w.input i1 → WhereLines w.input.left i1.left (λ lines. HasPut (puts_in (outcome_on m file (lines ++ 10 ∷ []))) w.keeper w.keeper)
     given h =
-        with_file (file_of m w.keeper) file _ is
-        (lines_given w.input.left i1.left _ (λ lines. HasPut (puts_in (outcome_on m file (lines ++ 10 ∷ []))) w.keeper w.keeper)
-        (λ lines. subst (λ (ps : List Put). HasPut ps w.keeper w.keeper) (sym (none (record { file = file; input = lines ++ 10 ∷ [] }))) (put_none w.keeper w.keeper (unput w.keeper))) h)
+        lines_given w.input.left i1.left _ (λ lines. HasPut (puts_in (outcome_on m file (lines ++ 10 ∷ []))) w.keeper w.keeper)
+        (λ lines. subst (λ (ps : List Put). HasPut ps w.keeper w.keeper) (sym (none (record { file = file; input = lines ++ 10 ∷ [] }))) none_put) h
 
     pub reading_stops : (stop : Stop) → StopsReading (outcome_on m file) w.input i1 stop → StopsWith m w (lent i1 w.keeper w.links) stop
     reading_stops Stop.Usage h = h
     reading_stops Stop.NoMemory h = (refl, h, inl (put_nothing m w (lent i1 w.keeper w.links) (unput w.keeper)))
-    reading_stops Stop.Source h = (h.0, refl, refl, opened h.1, put_nothing_yet m w (lent i1 w.keeper w.links) (unput w.keeper), accepted i1 h.2, given h.2)
+    reading_stops Stop.Source h = (
+      h.0,
+      refl,
+      refl,
+      record {
+        file = file;
+        is_file = is;
+        opens = h.1;
+        accepts = h.2;
+        puts = each_input m.reads_input w.input.left (λ input. HasPutSome (puts_before_end (outcome_on m file input)) w.keeper w.keeper)
+            (λ input. some_of_none (puts_before_end (outcome_on m file input)) w.keeper w.keeper (unput w.keeper));
+        given = given h.2;
+      },
+    )
     reading_stops Stop.Keeper h = absurd h
     reading_stops (Stop.Refused r) h = (
       refl,
       h.0,
       refl,
-      with_told m w file is (IsRefusedSo (refusal_view r) w.keeper w.keeper) reads
-          (told_so w.input.left (λ input. outcome_on m file input ≡ refused (refusal_view r) []) (λ input. IsRefusedSo (refusal_view r) w.keeper w.keeper (outcome_on m file input))
-          (λ input e. ([], e, put_none w.keeper w.keeper (unput w.keeper))) h.1),
-      λ early. let x = h.2 early in (x.0, refuses r x.1, put_none w.keeper w.keeper (unput w.keeper)),
+      record {
+        file = file;
+        is_file = is;
+        refuses = told_input m.reads_input w.input.left (λ input. IsRefusedSo (refusal_view r) w.keeper w.keeper (outcome_on m file input)) reads
+            (told_so w.input.left (λ input. outcome_on m file input ≡ refused (refusal_view r) []) (λ input. IsRefusedSo (refusal_view r) w.keeper w.keeper (outcome_on m file input))
+            (λ input e. ([], e, none_put)) h.1);
+        early = λ early. let x = h.2 early in (x.1, x.0, none_put);
+      },
     )
     reading_stops (Stop.Left left) h = absurd h
     reading_stops (Stop.Most text left) h = absurd h
@@ -164,18 +184,19 @@ module _ (m : Meaning) (w : Lent) (file : List ℕ) (is : IsFileOf m w.keeper fi
 
   -- one that asks links, and puts nothing; no input changes its outcome
   module _ (ls : List LinkShown) (same : (input : List ℕ) → outcome_on m file input ≡ outcome_on m file []) where
-    by : (P : Outcome → Type 0) → P (outcome_on m file []) → WithOutcome m w P
-    by P h = with_each m w file is P (λ input. subst P (sym (same input)) h)
+    by : (P : Outcome → Type 0) → P (outcome_on m file []) → ForInput m.reads_input w.input.left (λ input. P (outcome_on m file input))
+    by P h = each_input m.reads_input w.input.left (λ input. P (outcome_on m file input)) (λ input. subst P (sym (same input)) h)
 
     pub asking_finishes : (text : List ℕ) → m.reads_input ≡ false → ((look : Look) → puts_in (m.outcome look) ≡ []) → HasText (outcome_on m file []) w.links ls text → Finishes m w (lent w.input w.keeper ls) text
-    asking_finishes text r none h = (
-      by (Gives w (lent w.input w.keeper ls) text)
-          (h, subst (λ (ps : List Put). HasPut ps w.keeper w.keeper) (sym (none (record { file = file; input = [] }))) (put_none w.keeper w.keeper (unput w.keeper))),
-      opens_none r,
-    )
+    asking_finishes text r none h = record {
+      file = file;
+      is_file = is;
+      gives = by (Gives w (lent w.input w.keeper ls) text) (h, subst (λ (ps : List Put). HasPut ps w.keeper w.keeper) (sym (none (record { file = file; input = [] }))) none_put);
+      opens = opens_none r;
+    }
 
     pub asking_reads : WithEach w.links ls (AsksLink (outcome_on m file [])) → AsksEach (Some m) w (lent w.input w.keeper ls)
-    asking_reads h = for_each m w file is (λ o. WithEach w.links ls (AsksLink o)) (λ input. subst (λ (o : Outcome). WithEach w.links ls (AsksLink o)) (sym (same input)) h)
+    asking_reads h = inr (file, is, h)
 
     pub asking_stops : (stop : Stop) → 0 < m.links → StopsAsking (outcome_on m file []) w.links ls stop → StopsWith m w (lent w.input w.keeper ls) stop
     asking_stops Stop.Usage some h = h
@@ -186,9 +207,13 @@ module _ (m : Meaning) (w : Lent) (file : List ℕ) (is : IsFileOf m w.keeper fi
       refl,
       refl,
       h.0,
-      by (IsRefusedSo (refusal_view r) w.keeper w.keeper) ([], h.1, put_none w.keeper w.keeper (unput w.keeper)),
-      λ early. (refl, refuses r (λ input. same input ∙ h.1), put_none w.keeper w.keeper (unput w.keeper)),
+      record {
+        file = file;
+        is_file = is;
+        refuses = by (IsRefusedSo (refusal_view r) w.keeper w.keeper) ([], h.1, none_put);
+        early = λ early. (λ input. same input ∙ h.1, refl, none_put);
+      },
     )
-    asking_stops (Stop.Left left) some h = (refl, some, refl, unput w.keeper, by (λ o. IsLeftWith o w.links ls (all_left_view left.items)) h)
-    asking_stops (Stop.Most text left) some h = (refl, some, refl, unput w.keeper, by (λ o. HasMost o w.links ls (all_left_view left.items) (string_bytes text)) h)
-    asking_stops (Stop.LeftFile cause) some h = (refl, some, refl, unput w.keeper, by (λ o. IsFileLeft o w.links ls cause) h)
+    asking_stops (Stop.Left left) some h = (refl, some, refl, unput w.keeper, (file, is, h))
+    asking_stops (Stop.Most text left) some h = (refl, some, refl, unput w.keeper, (file, is, h))
+    asking_stops (Stop.LeftFile cause) some h = (refl, some, refl, unput w.keeper, (file, is, h))

@@ -12,4 +12,4 @@ done_is_not_refused : (text : List ℕ) (r : Refusal) (puts : List Put) → done
 done_is_not_refused text r puts e = cc
 
 pub gen_accepted : (w : GenWords) (before : World) → IsAccepted before (gen_meaning w)
-gen_accepted w before r h = done_is_not_refused (lines_from w.seed w.records) r h.0 h.1
+gen_accepted w before r h = done_is_not_refused (lines_from w.seed w.records) r h.2.0 h.2.1

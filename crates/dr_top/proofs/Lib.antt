@@ -28,3 +28,6 @@ pub mod RunLemmas
 mod ServedLemmas
 -- what is printed of the records that links give
 pub mod ServedTextLemmas
+-- a query over a table in memory, and its premises by example
+pub mod TheoremLemmas
+mod WorkedTheorem

@@ -1,7 +1,7 @@
 -- What the first link is asked for.
 use Rattle.std.specs.Prelude.{◌≡◌, ◌≤◌, ◌++◌, ℕ, zero, suc, List, [], ◌∷◌, length, map, drop, Option, Some, None}
 use Rattle.std.specs.Option.{option_map}
-use Rattle.std.proofs.Common.{refl, sym, ap, subst, arith}
+use Rattle.std.proofs.Common.{refl, ap, subst, inl, arith}
 use Rattle.dr_formats.specs.Opening.{end_ranges, footer_ranges}
 use Rattle.dr_outside.specs.Link.{LinkShown, Lacks}
 use Rattle.dr_outside.specs.Telling.{TellsFile, AsksOnly}
@@ -14,7 +14,6 @@ use Rattle.dr_commands.specs.Meaning.{Meaning, Outcome, done, refused, scans, se
 use Rattle.dr_commands.specs.Commands.{CommandWords, meaning_of}
 use Rattle.dr_top.specs.World.{Lent, WithEach}
 use Rattle.dr_top.specs.Answers.{schema_ranges, AsksLink, AsksEach, LeavesLinksBy, LeavesUnasked}
-use Rattle.dr_top.proofs.OutcomeLemmas.{of_each}
 
 -- a link that stays is asked for nothing
 pub not_asked : (o : Outcome) (l : LinkShown) → AsksLink o l l
@@ -29,7 +28,7 @@ none_asked [] o = tt
 none_asked (l ∷ ls) o = (not_asked o l, none_asked ls o)
 
 pub none_asked_of : (m : Meaning) (w w1 : Lent) → w1.links ≡ w.links → AsksEach (Some m) w w1
-none_asked_of m w w1 e = of_each m w (λ o. WithEach w.links w1.links (AsksLink o)) (λ o. subst (λ (ls : List LinkShown). WithEach w.links ls (AsksLink o)) (sym e) (none_asked w.links o))
+none_asked_of m w w1 e = inl e
 
 pub none_meant : (o : Option CommandWords) (w w1 : Lent) → w1.links ≡ w.links → AsksEach (option_map meaning_of o) w w1
 none_meant None w w1 e = e

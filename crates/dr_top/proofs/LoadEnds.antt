@@ -26,12 +26,12 @@ use Rattle.dr_load.specs.declared.words.WordsProblem.{WordsProblem}
 use Rattle.dr_commands.specs.Refusals.{Refusal as Refused, line_refused}
 use Rattle.dr_commands.specs.Meaning.{done, refused, puts_in, IsEarly}
 use Rattle.dr_commands.specs.Load.{LoadWords, load_plan, loaded_outcome, load_checked, load_schema, load_meaning}
-use Rattle.dr_top.specs.World.{lent, file_of, IsFileOf, outcome_on, Opens, IsOpened, Accepts, WithOutcome}
-use Rattle.dr_top.specs.Keeping.{IsDoneSo, IsRefusedSo, PutsSome, PutsBeforeEnd, PutsBreak, all_but_last, puts_before_end}
+use Rattle.dr_top.specs.World.{lent, IsFileOf, outcome_on, Opens, Accepts}
+use Rattle.dr_top.specs.Keeping.{IsUnput, IsDoneSo, IsRefusedSo, RefusesSo, PutsSome, PutsBreak, all_but_last, puts_before_end}
 use Rattle.dr_top.specs.Stops.{StopsEarly, StopsWith, words_problem_stop, load_stop}
 use Rattle.dr_top.specs.declared.stop.Stop.{Stop}
-use Rattle.dr_top.proofs.OutcomeLemmas.{told_so, given_so, with_file, with_told, for_told}
-use Rattle.dr_top.proofs.CommandLemmas.{RefusesSchema, opened}
+use Rattle.dr_top.proofs.OutcomeLemmas.{told_so, given_so}
+use Rattle.dr_top.proofs.CommandLemmas.{RefusesSchema}
 
 pub load_refuses_schema : (w : LoadWords) → RefusesSchema (load_meaning w)
 load_refuses_schema w look e h = ap (load_schema w look.input) h
@@ -143,29 +143,31 @@ module _ (w : LoadWords) (s : Schema) (p : Plan) (file : List ℕ) (k k1 : LinkS
   pub load_opens : Opens (outcome_on (load_meaning w) file)
   load_opens = λ input r puts early e. late (load p input) (load p input).refusal r puts early (sym (on input) ∙ e)
 
-  load_opened : IsOpened (load_meaning w) k
-  load_opened = opened (load_meaning w) (lent i k []) file is load_opens
-
   some_put : WhereTold i.left (λ input. HasPutSome (load p input).puts k k1) → PutsSome (load_meaning w) (lent i k []) (lent i1 k1 [])
   some_put h =
-      for_told (load_meaning w) (lent i k []) file is (λ o. HasPutSome (puts_in o) k k1) refl
-      (told_so i.left (λ input. HasPutSome (load p input).puts k k1) (λ input. HasPutSome (puts_in (load_schema w input (parse_schema file))) k k1)
-      (λ input. subst (λ (ps : List Put). HasPutSome ps k k1) (sym (puts_on input))) h)
+      inr (record {
+        file = file;
+        is_file = is;
+        puts = told_so i.left (λ input. HasPutSome (load p input).puts k k1) (λ input. HasPutSome (puts_in (load_schema w input (parse_schema file))) k k1)
+            (λ input. subst (λ (ps : List Put). HasPutSome ps k k1) (sym (puts_on input))) h;
+      })
 
   break_off : (known : Bool) → WhereTold i.left (λ input. BreaksOff known (load p input).puts k k1) → PutsBreak known (load_meaning w) (lent i k []) (lent i1 k1 [])
-  break_off known h =
-      for_told (load_meaning w) (lent i k []) file is (λ o. BreaksOff known (puts_in o) k k1) refl
-      (told_so i.left (λ input. BreaksOff known (load p input).puts k k1) (λ input. BreaksOff known (puts_in (load_schema w input (parse_schema file))) k k1)
-      (λ input. subst (λ (ps : List Put). BreaksOff known ps k k1) (sym (puts_on input))) h)
+  break_off known h = record {
+    file = file;
+    is_file = is;
+    opens = load_opens;
+    breaks = told_so i.left (λ input. BreaksOff known (load p input).puts k k1) (λ input. BreaksOff known (puts_in (load_schema w input (parse_schema file))) k k1)
+        (λ input. subst (λ (ps : List Put). BreaksOff known ps k k1) (sym (puts_on input))) h;
+  }
 
   ends_before : (input : List ℕ) → puts_before_end (load_schema w input (parse_schema file)) ≡ tablet_part p input
   ends_before input = ap puts_before_end (on input) ∙ before_table p w.table input (ap (λ (x : Plan). x.table) b.is)
 
-  before_end : WhereTold i.left (λ input. HasPutTablets p input k k1) → PutsBeforeEnd (load_meaning w) (lent i k []) (lent i1 k1 [])
+  before_end : WhereTold i.left (λ input. HasPutTablets p input k k1) → WhereTold i.left (λ input. HasPutSome (puts_before_end (load_schema w input (parse_schema file))) k k1)
   before_end h =
-      for_told (load_meaning w) (lent i k []) file is (λ o. HasPutSome (puts_before_end o) k k1) refl
-      (told_so i.left (λ input. HasPutTablets p input k k1) (λ input. HasPutSome (puts_before_end (load_schema w input (parse_schema file))) k k1)
-      (λ input g. subst (λ (ps : List Put). HasPutSome ps k k1) (sym (ends_before input)) (some_of_tablets p input k k1 g)) h)
+      told_so i.left (λ input. HasPutTablets p input k k1) (λ input. HasPutSome (puts_before_end (load_schema w input (parse_schema file))) k k1)
+      (λ input g. subst (λ (ps : List Put). HasPutSome ps k k1) (sym (ends_before input)) (some_of_tablets p input k k1 g)) h
 
   pub line_memory : k1.faults ≡ k.faults → i1.faults ≡ i.faults → WhereTold i.left (λ input. HasPut (load p input).puts k k1) → StopsWith (load_meaning w) (lent i k []) (lent i1 k1 []) Stop.NoMemory
   line_memory c d h = (c, d, inl (some_put (told_so i.left _ _ (λ input. all_put (load p input).puts k k1) h)))
@@ -199,8 +201,8 @@ module _ (w : LoadWords) (s : Schema) (p : Plan) (file : List ℕ) (k k1 : LinkS
   refused_on (Some input) e h put = ((load p input).puts, on input ∙ ap (loaded_outcome (load p input)) h, put)
 
   line_refuses : (e : line.Refusal) → WhereTold i.left (λ input. (load p input).refusal ≡ Some e) → WhereTold i.left (λ input. HasPut (load p input).puts k k1)
-      → WithOutcome (load_meaning w) (lent i k []) (IsRefusedSo (line_refused e) k k1)
-  line_refuses e h put = with_told (load_meaning w) (lent i k []) file is (IsRefusedSo (line_refused e) k k1) refl (refused_on i.left e h put)
+      → RefusesSo (load_meaning w) (line_refused e) (lent i k []) (lent i1 k1 [])
+  line_refuses e h put = record { file = file; is_file = is; refuses = refused_on i.left e h put; early = λ early. absurd early }
 
   pub load_stops : (fault : LoadFault)
       → (fault ≡ LoadFault.ReadFault → i1.faults ≡ raised i.faults) → (fault ≢ LoadFault.ReadFault → i1.faults ≡ i.faults)
@@ -211,36 +213,37 @@ module _ (w : LoadWords) (s : Schema) (p : Plan) (file : List ℕ) (k k1 : LinkS
       → StopsWith (load_meaning w) (lent i k []) (lent i1 k1 []) (load_stop fault)
   load_stops LoadFault.NoMemory sc sm kc km ks a g r h = (km (λ e. cc), sm (λ e. cc), memory i.left refl h)
   load_stops LoadFault.KeepFault sc sm kc km ks a g r h =
-      (kc refl, sm (λ e. cc), refl, (λ kept. ks refl kept.steady), inr (break_off true (told_so i.left (λ input. LeavesPuts p input k k1 LoadFault.KeepFault) (λ input. BreaksOff true (load p input).puts k k1) (λ input x. x) h), load_opened))
+      (kc refl, sm (λ e. cc), refl, (λ kept. ks refl kept.steady), inr (break_off true (told_so i.left (λ input. LeavesPuts p input k k1 LoadFault.KeepFault) (λ input. BreaksOff true (load p input).puts k k1) (λ input x. x) h)))
   load_stops LoadFault.ReadFault sc sm kc km ks a g r h = (
     sc refl,
     km (λ e. cc),
     refl,
-    load_opened,
-    before_end (told_so i.left (λ input. LeavesPuts p input k k1 LoadFault.ReadFault) (λ input. HasPutTablets p input k k1) (λ input x. x) h),
-    with_file (file_of (load_meaning w) k) file (λ f. Accepts (outcome_on (load_meaning w) f) i i1) is (accepts (a refl)),
-    with_file (file_of (load_meaning w) k) file (λ f. WhereLines i.left i1.left (λ lines. HasPut (puts_in (outcome_on (load_meaning w) f (lines ++ 10 ∷ []))) k k1)) is (given i.left i1.left (g refl)),
+    record {
+      file = file;
+      is_file = is;
+      opens = load_opens;
+      accepts = accepts (a refl);
+      puts = before_end (told_so i.left (λ input. LeavesPuts p input k k1 LoadFault.ReadFault) (λ input. HasPutTablets p input k k1) (λ input x. x) h);
+      given = given i.left i1.left (g refl);
+    },
   )
   load_stops (LoadFault.BadLine n x) sc sm kc km ks a g r h = (
     km (λ e. cc),
     sm (λ e. cc),
     refl,
     line_refuses _ r (told_so i.left (λ input. LeavesPuts p input k k1 (LoadFault.BadLine n x)) (λ input. HasPut (load p input).puts k k1) (λ input y. y) h),
-    λ early. absurd early,
   )
   load_stops (LoadFault.LineTooLong n) sc sm kc km ks a g r h = (
     km (λ e. cc),
     sm (λ e. cc),
     refl,
     line_refuses _ r (told_so i.left (λ input. LeavesPuts p input k k1 (LoadFault.LineTooLong n)) (λ input. HasPut (load p input).puts k k1) (λ input y. y) h),
-    λ early. absurd early,
   )
   load_stops (LoadFault.TooManyRecords n) sc sm kc km ks a g r h = (
     km (λ e. cc),
     sm (λ e. cc),
     refl,
     line_refuses _ r (told_so i.left (λ input. LeavesPuts p input k k1 (LoadFault.TooManyRecords n)) (λ input. HasPut (load p input).puts k k1) (λ input y. y) h),
-    λ early. absurd early,
   )
 
   pub done_on : (left : Option (List ℕ)) (text : List ℕ) (records tablets : ℕ) → WhereTold left (λ input. (load p input).refusal ≡ None) → WhereTold left (λ input. records ≡ (load p input).records)
@@ -253,12 +256,29 @@ module _ (w : LoadWords) (s : Schema) (p : Plan) (file : List ℕ) (k k1 : LinkS
 
 -- a command that is lent no links leaves them
 module _ (w : LoadWords) (i i1 : SourceShown) (k k1 : LinkShown) (ls : List LinkShown) where
+  some_links : PutsSome (load_meaning w) (lent i k []) (lent i1 k1 []) → PutsSome (load_meaning w) (lent i k ls) (lent i1 k1 ls)
+  some_links (inl h) = inl h
+  some_links (inr h) = inr (record { file = h.file; is_file = h.is_file; puts = h.puts })
+
+  break_links : (known : Bool) → PutsBreak known (load_meaning w) (lent i k []) (lent i1 k1 []) → PutsBreak known (load_meaning w) (lent i k ls) (lent i1 k1 ls)
+  break_links known h = record { file = h.file; is_file = h.is_file; opens = h.opens; breaks = h.breaks }
+
+  memory_links : PutsSome (load_meaning w) (lent i k []) (lent i1 k1 []) ⊎ PutsBreak false (load_meaning w) (lent i k []) (lent i1 k1 [])
+      → PutsSome (load_meaning w) (lent i k ls) (lent i1 k1 ls) ⊎ PutsBreak false (load_meaning w) (lent i k ls) (lent i1 k1 ls)
+  memory_links (inl h) = inl (some_links h)
+  memory_links (inr h) = inr (break_links false h)
+
+  failed_links : ((i1 ≡ i) × IsUnput k k1) ⊎ PutsBreak true (load_meaning w) (lent i k []) (lent i1 k1 []) → ((i1 ≡ i) × IsUnput k k1) ⊎ PutsBreak true (load_meaning w) (lent i k ls) (lent i1 k1 ls)
+  failed_links (inl h) = inl h
+  failed_links (inr h) = inr (break_links true h)
+
   pub load_links : (stop : Stop) → StopsWith (load_meaning w) (lent i k []) (lent i1 k1 []) stop → StopsWith (load_meaning w) (lent i k ls) (lent i1 k1 ls) stop
   load_links Stop.Usage h = h
-  load_links Stop.NoMemory h = h
-  load_links Stop.Source h = (h.0, h.1, refl, h.3, h.4, h.5, h.6)
-  load_links Stop.Keeper h = (h.0, h.1, refl, h.3, h.4)
-  load_links (Stop.Refused r) h = (h.0, h.1, refl, h.3, h.4)
+  load_links Stop.NoMemory h = (h.0, h.1, memory_links h.2)
+  load_links Stop.Source h =
+      (h.0, h.1, refl, record { file = h.3.file; is_file = h.3.is_file; opens = h.3.opens; accepts = h.3.accepts; puts = h.3.puts; given = h.3.given })
+  load_links Stop.Keeper h = (h.0, h.1, refl, h.3, failed_links h.4)
+  load_links (Stop.Refused r) h = (h.0, h.1, refl, record { file = h.3.file; is_file = h.3.is_file; refuses = h.3.refuses; early = h.3.early })
   load_links (Stop.Left left) h = let n : 0 < 0 = h.1 in absurd (omega (arith, n))
   load_links (Stop.Most text left) h = let n : 0 < 0 = h.1 in absurd (omega (arith, n))
   load_links (Stop.LeftFile cause) h = let n : 0 < 0 = h.1 in absurd (omega (arith, n))

@@ -1,5 +1,5 @@
 -- Commands that put nothing, and what is said over the keeper after the file was read.
-use Rattle.std.specs.Prelude.{◌≡◌, ℕ, Bool, true, false, List, [], ◌∷◌, ◌++◌, Option, Some, None, Result, Ok, Err, IsTrue, ◌⊎◌, string_bytes}
+use Rattle.std.specs.Prelude.{◌≡◌, ℕ, Bool, true, false, List, [], ◌∷◌, ◌++◌, Option, Some, None, Result, Ok, Err, IsTrue, ◌⊎◌}
 use Rattle.std.proofs.Common.{refl, sym, ap, ◌∙◌, subst, inl, inr}
 use Rattle.dr_meaning.specs.Refusals.{CommandRefusal}
 use Rattle.dr_formats.specs.Loading.{Put}
@@ -11,16 +11,14 @@ use Rattle.dr_input.specs.Taken.{WhereGiven}
 use Rattle.dr_outside.specs.Faults.{raised}
 use Rattle.dr_outside.specs.Source.{SourceShown}
 use Rattle.dr_outside.specs.Link.{Files, LinkShown, Holds}
+use Rattle.dr_commands.specs.Refusals.{Refusal as Refused}
 use Rattle.dr_commands.specs.Meaning.{Meaning, plain, puts_in}
-use Rattle.dr_top.specs.World.{Lent, lent, file_of, IsFileOf, outcome_on, Opens, RefusesAlways, Accepts, IsOpenedBy}
-use Rattle.dr_tablets.specs.Views.{all_left_view}
-use Rattle.dr_top.specs.Reading.{IsLeftWith, HasMost, IsFileLeft}
-use Rattle.dr_top.specs.Keeping.{IsUnput, KeepsFile, PutsSome, PutsBeforeEnd, PutsGiven, PutsBreak, IsRefusedSo, puts_before_end}
+use Rattle.dr_top.specs.World.{Lent, lent, IsFileOf, outcome_on}
+use Rattle.dr_top.specs.Keeping.{IsUnput, KeepsFile, PutsSome, PutsGiven, PutsBreak, IsRefusedSo, RefusesSo, puts_before_end}
 use Rattle.dr_top.specs.Stops.{StopsUnread, StopsWith, refusal_view}
-use Rattle.dr_top.specs.Answers.{Gives, Finishes, AsksEach, AsksLink, AsksFor}
-use Rattle.dr_top.specs.World.{WithEach}
+use Rattle.dr_top.specs.Answers.{Gives, Finishes, AsksEach, AsksFor}
 use Rattle.dr_top.specs.declared.stop.Stop.{Stop}
-use Rattle.dr_top.proofs.OutcomeLemmas.{each_input, file_so, weaker, weaker_for, of_each, over, over_for, over_file}
+use Rattle.dr_top.proofs.OutcomeLemmas.{each_input, input_so, file_over}
 
 -- ---- what puts nothing
 
@@ -33,14 +31,11 @@ unput_more k k1 k2 d e = record { held = e.held ∙ d.held; puts = e.puts ∙ d.
 pub put_none : (k k1 : LinkShown) → IsUnput k k1 → HasPut [] k k1
 put_none k k1 e = nothing_put k k1 e.held e.puts
 
-some_of_none : (ps : List Put) (k k1 : LinkShown) → IsUnput k k1 → HasPutSome ps k k1
+pub some_of_none : (ps : List Put) (k k1 : LinkShown) → IsUnput k k1 → HasPutSome ps k k1
 some_of_none ps k k1 e = ([], ps, refl, put_none k k1 e)
 
 pub put_nothing : (m : Meaning) (before after : Lent) → IsUnput before.keeper after.keeper → PutsSome m before after
-put_nothing m before after e = of_each m before (λ o. HasPutSome (puts_in o) before.keeper after.keeper) (λ o. some_of_none (puts_in o) before.keeper after.keeper e)
-
-pub put_nothing_yet : (m : Meaning) (before after : Lent) → IsUnput before.keeper after.keeper → PutsBeforeEnd m before after
-put_nothing_yet m before after e = of_each m before (λ o. HasPutSome (puts_before_end o) before.keeper after.keeper) (λ o. some_of_none (puts_before_end o) before.keeper after.keeper e)
+put_nothing m before after e = inl e
 
 pub plain_puts : (r : Result (List ℕ) CommandRefusal) → puts_in (plain r) ≡ []
 plain_puts (Ok text) = refl
@@ -67,9 +62,12 @@ unread_stops m i k k1 ls (Stop.Refused r) e h = (
   h.0,
   refl,
   refl,
-  file_so (file_of m k) (λ file. RefusesAlways (outcome_on m file) (refusal_view r)) _
-      (λ file g. each_input m.reads_input i.left (λ input. IsRefusedSo (refusal_view r) k k1 (outcome_on m file input)) (λ input. ([], g input, put_none k k1 e))) h.1,
-  λ early. (refl, h.1, put_none k k1 e),
+  record {
+    file = h.1.0;
+    is_file = h.1.1;
+    refuses = each_input m.reads_input i.left (λ input. IsRefusedSo (refusal_view r) k k1 (outcome_on m h.1.0 input)) (λ input. ([], h.1.2 input, put_none k k1 e));
+    early = λ early. (h.1.2, refl, put_none k k1 e);
+  },
 )
 unread_stops m i k k1 ls (Stop.Left left) e h = absurd h
 unread_stops m i k k1 ls (Stop.Most text left) e h = absurd h
@@ -91,53 +89,71 @@ asks_later None k k1 k2 h e = e ∙ h
 asks_later (Some path) k k1 k2 h e = (h.0, e ∙ h.1, h.2)
 
 pub file_later : (m : Meaning) (k k1 : LinkShown) (file : List ℕ) → IsUnput k k1 → IsFileOf m k file → IsFileOf m k1 file
-file_later m k k1 file e h = over_file m k1 k (λ told. told ≡ file) (sym e.held) h
+file_later m k k1 file e h = file_over m k1 k file (sym e.held) h
 
 module _ (m : Meaning) (i i1 : SourceShown) (k k1 k2 : LinkShown) (ls ls1 : List LinkShown) (e : IsUnput k k1) where
-  opens_later : (b : Bool) → IsOpenedBy b m k1 → IsOpenedBy b m k
-  opens_later false h = tt
-  opens_later true h = over_file m k k1 (λ file. Opens (outcome_on m file)) e.held h
+  read_before : (file : List ℕ) → IsFileOf m k1 file → IsFileOf m k file
+  read_before file h = file_over m k k1 file e.held h
 
   pub finishes_later : (text : List ℕ) → Finishes m (lent i k1 ls) (lent i1 k2 ls1) text → Finishes m (lent i k ls) (lent i1 k2 ls1) text
-  finishes_later text h = (
-    weaker m (lent i k ls) (Gives (lent i k1 ls) (lent i1 k2 ls1) text) (Gives (lent i k ls) (lent i1 k2 ls1) text) (λ o g. (g.0, put_later (puts_in o) k k1 k2 e g.1))
-        (over m i k k1 ls (Gives (lent i k1 ls) (lent i1 k2 ls1) text) e.held h.0),
-    opens_later m.reads_input h.1,
-  )
+  finishes_later text h = record {
+    file = h.file;
+    is_file = read_before h.file h.is_file;
+    gives = input_so m.reads_input i.left (λ input. Gives (lent i k1 ls) (lent i1 k2 ls1) text (outcome_on m h.file input)) (λ input. Gives (lent i k ls) (lent i1 k2 ls1) text (outcome_on m h.file input))
+        (λ input g. (g.0, put_later (puts_in (outcome_on m h.file input)) k k1 k2 e g.1)) h.gives;
+    opens = h.opens;
+  }
 
   pub asks_each_later : AsksEach (Some m) (lent i k1 ls) (lent i1 k2 ls1) → AsksEach (Some m) (lent i k ls) (lent i1 k2 ls1)
-  asks_each_later h = over_for m i k k1 ls (λ o. WithEach ls ls1 (AsksLink o)) e.held h
+  asks_each_later (inl h) = inl h
+  asks_each_later (inr h) = inr (h.0, read_before h.0 h.1, h.2)
 
   puts_later : PutsSome m (lent i k1 ls) (lent i1 k2 ls1) → PutsSome m (lent i k ls) (lent i1 k2 ls1)
-  puts_later h =
-      weaker_for m (lent i k ls) (λ o. HasPutSome (puts_in o) k1 k2) (λ o. HasPutSome (puts_in o) k k2) (λ o. some_later (puts_in o) k k1 k2 e)
-      (over_for m i k k1 ls (λ o. HasPutSome (puts_in o) k1 k2) e.held h)
-
-  yet_later : PutsBeforeEnd m (lent i k1 ls) (lent i1 k2 ls1) → PutsBeforeEnd m (lent i k ls) (lent i1 k2 ls1)
-  yet_later h =
-      weaker_for m (lent i k ls) (λ o. HasPutSome (puts_before_end o) k1 k2) (λ o. HasPutSome (puts_before_end o) k k2) (λ o. some_later (puts_before_end o) k k1 k2 e)
-      (over_for m i k k1 ls (λ o. HasPutSome (puts_before_end o) k1 k2) e.held h)
+  puts_later (inl h) = inl (unput_more k k1 k2 e h)
+  puts_later (inr h) = inr (record {
+    file = h.file;
+    is_file = read_before h.file h.is_file;
+    puts = input_so m.reads_input i.left (λ input. HasPutSome (puts_in (outcome_on m h.file input)) k1 k2) (λ input. HasPutSome (puts_in (outcome_on m h.file input)) k k2)
+        (λ input. some_later (puts_in (outcome_on m h.file input)) k k1 k2 e) h.puts;
+  })
 
   break_later : (told : Bool) → PutsBreak told m (lent i k1 ls) (lent i1 k2 ls1) → PutsBreak told m (lent i k ls) (lent i1 k2 ls1)
-  break_later told h =
-      weaker_for m (lent i k ls) (λ o. BreaksOff told (puts_in o) k1 k2) (λ o. BreaksOff told (puts_in o) k k2) (λ o. breaks_later told (puts_in o) k k1 k2 e)
-      (over_for m i k k1 ls (λ o. BreaksOff told (puts_in o) k1 k2) e.held h)
+  break_later told h = record {
+    file = h.file;
+    is_file = read_before h.file h.is_file;
+    opens = h.opens;
+    breaks = input_so m.reads_input i.left (λ input. BreaksOff told (puts_in (outcome_on m h.file input)) k1 k2) (λ input. BreaksOff told (puts_in (outcome_on m h.file input)) k k2)
+        (λ input. breaks_later told (puts_in (outcome_on m h.file input)) k k1 k2 e) h.breaks;
+  }
 
   given_later : PutsGiven m (lent i k1 ls) (lent i1 k2 ls1) → PutsGiven m (lent i k ls) (lent i1 k2 ls1)
-  given_later h =
-      file_so (file_of m k) (λ file. WhereLines i.left i1.left (λ lines. HasPut (puts_in (outcome_on m file (lines ++ 10 ∷ []))) k1 k2)) _
-      (λ file. lines_so i.left i1.left (λ lines. HasPut (puts_in (outcome_on m file (lines ++ 10 ∷ []))) k1 k2) (λ lines. HasPut (puts_in (outcome_on m file (lines ++ 10 ∷ []))) k k2)
-      (λ lines. put_later (puts_in (outcome_on m file (lines ++ 10 ∷ []))) k k1 k2 e))
-      (over_file m k k1 (λ file. WhereLines i.left i1.left (λ lines. HasPut (puts_in (outcome_on m file (lines ++ 10 ∷ []))) k1 k2)) e.held h)
+  given_later h = record {
+    file = h.file;
+    is_file = read_before h.file h.is_file;
+    opens = h.opens;
+    accepts = h.accepts;
+    puts = input_so m.reads_input i.left (λ input. HasPutSome (puts_before_end (outcome_on m h.file input)) k1 k2) (λ input. HasPutSome (puts_before_end (outcome_on m h.file input)) k k2)
+        (λ input. some_later (puts_before_end (outcome_on m h.file input)) k k1 k2 e) h.puts;
+    given = lines_so i.left i1.left (λ lines. HasPut (puts_in (outcome_on m h.file (lines ++ 10 ∷ []))) k1 k2) (λ lines. HasPut (puts_in (outcome_on m h.file (lines ++ 10 ∷ []))) k k2)
+        (λ lines. put_later (puts_in (outcome_on m h.file (lines ++ 10 ∷ []))) k k1 k2 e) h.given;
+  }
+
+  refuses_later : (r : Refused) → RefusesSo m r (lent i k1 ls) (lent i1 k2 ls1) → RefusesSo m r (lent i k ls) (lent i1 k2 ls1)
+  refuses_later r h = record {
+    file = h.file;
+    is_file = read_before h.file h.is_file;
+    refuses = input_so m.reads_input i.left (λ input. IsRefusedSo r k1 k2 (outcome_on m h.file input)) (λ input. IsRefusedSo r k k2 (outcome_on m h.file input))
+        (λ input g. (g.0, g.1, put_later g.0 k k1 k2 e g.2)) h.refuses;
+    early = λ early. let x = h.early early in (x.0, x.1, put_later [] k k1 k2 e x.2);
+  }
 
   memory_later : PutsSome m (lent i k1 ls) (lent i1 k2 ls1) ⊎ PutsBreak false m (lent i k1 ls) (lent i1 k2 ls1) → PutsSome m (lent i k ls) (lent i1 k2 ls1) ⊎ PutsBreak false m (lent i k ls) (lent i1 k2 ls1)
   memory_later (inl h) = inl (puts_later h)
   memory_later (inr h) = inr (break_later false h)
 
-  failed_later : ((i1 ≡ i) × IsUnput k1 k2) ⊎ (PutsBreak true m (lent i k1 ls) (lent i1 k2 ls1) × IsOpenedBy m.reads_input m k1)
-      → ((i1 ≡ i) × IsUnput k k2) ⊎ (PutsBreak true m (lent i k ls) (lent i1 k2 ls1) × IsOpenedBy m.reads_input m k)
+  failed_later : ((i1 ≡ i) × IsUnput k1 k2) ⊎ PutsBreak true m (lent i k1 ls) (lent i1 k2 ls1) → ((i1 ≡ i) × IsUnput k k2) ⊎ PutsBreak true m (lent i k ls) (lent i1 k2 ls1)
   failed_later (inl h) = inl (h.0, unput_more k k1 k2 e h.1)
-  failed_later (inr h) = inr (break_later true h.0, opens_later m.reads_input h.1)
+  failed_later (inr h) = inr (break_later true h)
 
   keeps_later : (IsTrue k.is_steady → IsTrue k1.is_steady) → KeepsFile m k → KeepsFile m k1
   keeps_later steady kept = record {
@@ -151,22 +167,8 @@ module _ (m : Meaning) (i i1 : SourceShown) (k k1 k2 : LinkShown) (ls ls1 : List
   stops_later Stop.Usage c s h = h
   stops_later Stop.NoMemory c s h = (h.0 ∙ c, h.1, memory_later h.2)
   stops_later Stop.Keeper c s h = (h.0 ∙ ap raised c, h.1, h.2, (λ kept. h.3 (keeps_later s kept)), failed_later h.4)
-  stops_later Stop.Source c s h = (
-    h.0,
-    h.1 ∙ c,
-    h.2,
-    over_file m k k1 (λ file. Opens (outcome_on m file)) e.held h.3,
-    yet_later h.4,
-    over_file m k k1 (λ file. Accepts (outcome_on m file) i i1) e.held h.5,
-    given_later h.6,
-  )
-  stops_later (Stop.Refused r) c s h = (
-    h.0 ∙ c,
-    h.1,
-    h.2,
-    weaker m (lent i k ls) (IsRefusedSo (refusal_view r) k1 k2) (IsRefusedSo (refusal_view r) k k2) (λ o g. (g.0, g.1, put_later g.0 k k1 k2 e g.2)) (over m i k k1 ls (IsRefusedSo (refusal_view r) k1 k2) e.held h.3),
-    λ early. let x = h.4 early in (x.0, over_file m k k1 (λ file. RefusesAlways (outcome_on m file) (refusal_view r)) e.held x.1, put_later [] k k1 k2 e x.2),
-  )
-  stops_later (Stop.Left left) c s h = (h.0 ∙ c, h.1, h.2, unput_more k k1 k2 e h.3, over m i k k1 ls (λ o. IsLeftWith o ls ls1 (all_left_view left.items)) e.held h.4)
-  stops_later (Stop.Most text left) c s h = (h.0 ∙ c, h.1, h.2, unput_more k k1 k2 e h.3, over m i k k1 ls (λ o. HasMost o ls ls1 (all_left_view left.items) (string_bytes text)) e.held h.4)
-  stops_later (Stop.LeftFile cause) c s h = (h.0 ∙ c, h.1, h.2, unput_more k k1 k2 e h.3, over m i k k1 ls (λ o. IsFileLeft o ls ls1 cause) e.held h.4)
+  stops_later Stop.Source c s h = (h.0, h.1 ∙ c, h.2, given_later h.3)
+  stops_later (Stop.Refused r) c s h = (h.0 ∙ c, h.1, h.2, refuses_later (refusal_view r) h.3)
+  stops_later (Stop.Left left) c s h = (h.0 ∙ c, h.1, h.2, unput_more k k1 k2 e h.3, (h.4.0, read_before h.4.0 h.4.1, h.4.2))
+  stops_later (Stop.Most text left) c s h = (h.0 ∙ c, h.1, h.2, unput_more k k1 k2 e h.3, (h.4.0, read_before h.4.0 h.4.1, h.4.2))
+  stops_later (Stop.LeftFile cause) c s h = (h.0 ∙ c, h.1, h.2, unput_more k k1 k2 e h.3, (h.4.0, read_before h.4.0 h.4.1, h.4.2))

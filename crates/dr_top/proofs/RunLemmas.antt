@@ -1,5 +1,5 @@
 -- The ends of a run, from what the words are answered with.
-use Rattle.std.specs.Prelude.{◌≡◌, ◌<◌, ℕ, Bool, true, false, List, codes, Option, Some, None, option_map, Result, Ok, Err, IfErr, ⊤, ◌⊎◌, String, string_bytes}
+use Rattle.std.specs.Prelude.{◌≡◌, ◌<◌, ℕ, Bool, true, false, List, codes, Option, Some, None, option_map, ⊤, ◌⊎◌, String, string_bytes}
 use Rattle.std.specs.declared.alloc.Global.{Global}
 use Rattle.std.proofs.Common.{refl, sym, ap, subst, inl, inr, Vec}
 use Rattle.dr_formats.specs.Loading.{Put}
@@ -13,17 +13,17 @@ use Rattle.dr_reading.specs.LeftText.{told_cause, left_text}
 use Rattle.dr_tablets.specs.Views.{all_left_view}
 use Rattle.dr_tablets.specs.declared.left.LeftTablet.{LeftTablet}
 use Rattle.dr_commands.specs.Refusals.{refusal_text}
-use Rattle.dr_commands.specs.Meaning.{Meaning, Outcome, refused, IsEarly}
+use Rattle.dr_commands.specs.Meaning.{Meaning, refused, IsEarly}
 use Rattle.dr_commands.specs.Commands.{CommandWords, meaning_of}
-use Rattle.dr_commands.specs.declared.words_fault.WordsFault.{WordsFault}
-use Rattle.dr_top.specs.World.{Lent, lent, world, WithOutcome, RefusesEarly}
+use Rattle.dr_words.specs.declared.words_fault.WordsFault.{WordsFault}
+use Rattle.dr_top.specs.World.{Lent, lent, world, ForInput, outcome_on, RefusesAlways}
 use Rattle.dr_top.specs.Keeping.{IsRefusedSo}
 use Rattle.dr_top.specs.Stops.{StopsWith, IsReadBy, words_stop, refusal_view}
 use Rattle.dr_top.specs.Answers.{Finishes, StopsMeant}
 use Rattle.dr_top.specs.Ends.{ForMeant, Holds, Says, Prints, IsUsage, IsRefused, IsLeft, EndsBut, PrintsMost, IsOutside, IsMemory, SameCounts, ByInput, IsComplete}
 use Rattle.dr_top.specs.declared.refusal.Refusal.{Refusal}
 use Rattle.dr_top.specs.declared.stop.Stop.{Stop}
-use Rattle.dr_top.proofs.OutcomeLemmas.{weaker}
+use Rattle.dr_top.proofs.OutcomeLemmas.{input_so}
 use Rattle.dr_top.proofs.PutLemmas.{unput, put_nothing}
 
 -- ---- the words
@@ -65,7 +65,7 @@ module _ (i i1 : SourceShown) (out out1 err err1 : SinkShown) (k k1 : LinkShown)
 
   pub source_failed : (o : Option Meaning) → StopsMeant o (lent i k ls) (lent i1 k1 ls1) Stop.Source → out1 ≡ out → Says err err1 (codes "outside: source\n") → Holds o IsOutside (world i out err k ls) (world i1 out1 err1 k1 ls1)
   source_failed None h e s = absurd h
-  source_failed (Some m) h e s = inl (s, h.0, h.3, h.4, h.5, h.6, h.1, e, h.2)
+  source_failed (Some m) h e s = inl (s, h.0, h.3, h.1, e, h.2)
 
   pub keeper_failed : (o : Option Meaning) → StopsMeant o (lent i k ls) (lent i1 k1 ls1) Stop.Keeper → out1 ≡ out → Says err err1 (codes "outside: keeper\n") → Holds o IsOutside (world i out err k ls) (world i1 out1 err1 k1 ls1)
   keeper_failed None h e s = absurd h
@@ -74,7 +74,7 @@ module _ (i i1 : SourceShown) (out out1 err err1 : SinkShown) (k k1 : LinkShown)
   pub refused_end : (o : Option Meaning) (r : Refusal) → StopsMeant o (lent i k ls) (lent i1 k1 ls1) (Stop.Refused r) → out1 ≡ out → Says err err1 (refusal_text (refusal_view r))
       → Holds o IsRefused (world i out err k ls) (world i1 out1 err1 k1 ls1)
   refused_end None r h e s = absurd h
-  refused_end (Some m) r h e s = (refusal_view r, s, h.3, e, h.2, h.4)
+  refused_end (Some m) r h e s = (refusal_view r, s, h.3, e, h.2)
 
   pub refused_counts : (o : Option Meaning) (r : Refusal) → StopsMeant o (lent i k ls) (lent i1 k1 ls1) (Stop.Refused r) → out1 ≡ out → SameCounts (world i out err k ls) (world i1 out1 err1 k1 ls1)
   refused_counts None r h e = absurd h
@@ -140,12 +140,14 @@ module _ (i i1 : SourceShown) (out out1 err err1 : SinkShown) (k k1 : LinkShown)
 
   pub refused_incomplete : (o : Option Meaning) (r : Refusal) → StopsMeant o (lent i k ls) (lent i1 k1 ls1) (Stop.Refused r) → IsComplete o 2 (world i out err k ls) (world i1 out1 err1 k1 ls1)
   refused_incomplete None r h accepted calm = absurd h
-  refused_incomplete (Some m) r h accepted calm = by m.reads_input i.left (λ x. accepted (refusal_view r) x) 2 refl
+  refused_incomplete (Some m) r h accepted calm = by m.reads_input i.left (λ x. accepted (refusal_view r) (h.3.file, h.3.is_file, x)) 2 refl
     where
-      told : WithOutcome m (lent i k ls) (λ (x : Outcome). (puts : List Put) × (x ≡ refused (refusal_view r) puts))
-      told = weaker m (lent i k ls) (IsRefusedSo (refusal_view r) k k1) (λ (x : Outcome). (puts : List Put) × (x ≡ refused (refusal_view r) puts)) (λ x p. (p.0, p.1)) h.3
+      told : ForInput m.reads_input i.left (λ input. (puts : List Put) × (outcome_on m h.3.file input ≡ refused (refusal_view r) puts))
+      told = input_so m.reads_input i.left (λ input. IsRefusedSo (refusal_view r) k k1 (outcome_on m h.3.file input)) (λ input. (puts : List Put) × (outcome_on m h.3.file input ≡ refused (refusal_view r) puts))
+          (λ input p. (p.0, p.1)) h.3.refuses
 
-      by : (b : Bool) (left : Option (List ℕ)) → (ByInput b left (IsEarly (refusal_view r) × RefusesEarly m k (refusal_view r)) (WithOutcome m (lent i k ls) (λ (x : Outcome). (puts : List Put) × (x ≡ refused (refusal_view r) puts))) → ⊥)
+      by : (b : Bool) (left : Option (List ℕ))
+          → (ByInput b left (IsEarly (refusal_view r) × RefusesAlways (outcome_on m h.3.file) (refusal_view r)) (ForInput m.reads_input i.left (λ input. (puts : List Put) × (outcome_on m h.3.file input ≡ refused (refusal_view r) puts))) → ⊥)
           → (status : ℕ) → status ≡ 2 → (status ≡ 0) ⊎ ((status ≡ 5) ⊎ ((((status ≡ 3) ⊎ (status ≡ 6)) × (0 < m.links)) ⊎ ((status ≡ 2) × ByInput b left ⊤ ⊥)))
       by true None n status e = inr (inr (inr (e, tt)))
       by true (Some bytes) n status e = absurd (n told)

@@ -103,7 +103,12 @@ schema_faults path (FileFault.Why c) l l1 n h none calm steady = file_left path 
 
 module _ (w : ShowSchemaWords) (i : SourceShown) (k : LinkShown) (l l1 : LinkShown) (ls : List LinkShown) where
   pub schema_finishes : (path text : List ℕ) → path ≡ w.file → IsLookedAt path l l1 text → Finishes (show_schema_meaning w) (lent i k (l ∷ ls)) (lent i k (l1 ∷ ls)) text
-  schema_finishes path text p h = ((subst (λ (x : List ℕ). IsLookedAt x l l1 text) p h, put_none k k (unput k)), tt)
+  schema_finishes path text p h = record {
+    file = [];
+    is_file = refl;
+    gives = (subst (λ (x : List ℕ). IsLookedAt x l l1 text) p h, put_none k k (unput k));
+    opens = tt;
+  }
 
   pub schema_ends : (path : List ℕ) (stop : Stop) → path ≡ w.file → SchemaStops path l l1 stop → StopsWith (show_schema_meaning w) (lent i k (l ∷ ls)) (lent i k (l1 ∷ ls)) stop
   schema_ends path Stop.Usage p h = h
@@ -113,4 +118,4 @@ module _ (w : ShowSchemaWords) (i : SourceShown) (k : LinkShown) (l l1 : LinkSho
   schema_ends path (Stop.Refused r) p h = absurd h
   schema_ends path (Stop.Left left) p h = absurd h
   schema_ends path (Stop.Most text left) p h = absurd h
-  schema_ends path (Stop.LeftFile c) p h = (refl, omega arith, refl, unput k, subst (λ (x : List ℕ). LeavesFile x c l l1) p h)
+  schema_ends path (Stop.LeftFile c) p h = (refl, omega arith, refl, unput k, ([], refl, subst (λ (x : List ℕ). LeavesFile x c l l1) p h))

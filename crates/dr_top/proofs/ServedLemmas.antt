@@ -1,5 +1,5 @@
 -- Where the first link is steady and tells that a copy of each tablet is a file, no tablet is left.
-use Rattle.std.proofs.Common.{nat_eq, ◌≡◌, ◌∙◌, inl, inr, ℕ, zero, suc, Bool, false, true≢false, List, [], ◌∷◌, Option, Some, None, refl, sym, ap, subst}
+use Rattle.std.proofs.Common.{nat_eq, ◌≡◌, ◌∙◌, inl, inr, ℕ, zero, suc, false, true≢false, List, [], ◌∷◌, Option, Some, None, refl, sym, ap, subst}
 use Rattle.std.specs.Prelude.{◌⊎◌, take, IsTrue, IsSome, Ok, Err}
 use Rattle.dr_outside.specs.Link.{Files, LinkShown}
 use Rattle.dr_outside.specs.Link as Link
@@ -21,15 +21,15 @@ use Rattle.dr_reading.proofs.InTurnLemmas.{read_in_turn_leaves_just}
 use Rattle.dr_serve.specs.Serving.{first_shown}
 use Rattle.dr_serve.specs.Counted.{AreLeftOf}
 use Rattle.dr_commands.specs.Meaning.{Meaning, Outcome, done, refused, scans, serves, looks_at}
-use Rattle.dr_top.specs.World.{World, Lent, lent_in, told_file, file_of, WithFile, ForInput, outcome_on, WithOutcome, WithFirsts}
+use Rattle.dr_top.specs.World.{World, told_file, file_of, IsTold, IsFileOf, outcome_on, WithFirsts}
 use Rattle.dr_top.specs.Reading.{IsLeftWith, HasMost, IsFileLeft, IsSchemaCause, LeavesTablets, LeavesFile}
 use Rattle.dr_top.specs.Ends.{Holds, IsLeft, EndsBut, PrintsMost, IsComplete, ScansTable, IsHeldWhole, IsSchemaHeld, IsServed}
 
--- what holds of the outcome of a command that reads no input, on the file that is told
-outcome_at : (m : Meaning) (w : Lent) (P : Outcome → Type 0) (file : List ℕ) → file_of m w.keeper ≡ present file → m.reads_input ≡ false → WithOutcome m w P → P (outcome_on m file [])
-outcome_at m w P file told unread h =
-    let a : ForInput m.reads_input w.input.left (λ input. P (outcome_on m file input)) = subst (λ (t : Held). WithFile t (λ f. ForInput m.reads_input w.input.left (λ input. P (outcome_on m f input)))) told h in
-    subst (λ (b : Bool). ForInput b w.input.left (λ input. P (outcome_on m file input))) unread a
+-- what holds of the outcome on the file that was read holds of that on the file that is told
+outcome_at : (m : Meaning) (k : LinkShown) (P : Outcome → Type 0) (file : List ℕ) → file_of m k ≡ present file → (read : List ℕ) × IsFileOf m k read × P (outcome_on m read []) → P (outcome_on m file [])
+outcome_at m k P file told h =
+    let is : file ≡ h.0 = subst (λ (t : Held). IsTold t h.0) told h.1 in
+    subst (λ (f : List ℕ). P (outcome_on m f [])) (sym is) h.2
 
 -- what is told of the file
 whole_told : (m : Meaning) (w : World) (h : IsHeldWhole m w) → file_of m w.keeper ≡ present h.file
@@ -68,7 +68,7 @@ module _ (m : Meaning) (before : World) (h : IsHeldWhole m before) where
 
 not_left : (m : Meaning) (before after : World) → IsHeldWhole m before → IsLeft m before after → ⊥
 not_left m before after h (inl t) = by (outcome_on m h.file []) h.scans_it
-    (outcome_at m (lent_in before) (λ o. IsLeftWith o before.links after.links t.0) h.file (whole_told m before h) h.reads_nothing t.3)
+    (outcome_at m before.keeper (λ o. IsLeftWith o before.links after.links t.0) h.file (whole_told m before h) t.3)
   where
     in_links : (s : Scan) → s ≡ h.scan → (now : List LinkShown) → WithFirsts (h.first ∷ h.others) now (LeavesTablets s t.0) → ⊥
     in_links s e [] w = w
@@ -85,7 +85,7 @@ not_left m before after h (inl t) = by (outcome_on m h.file []) h.scans_it
     by (done text puts) e k = e
     by (refused r puts) e k = e
 not_left m before after h (inr t) = by (outcome_on m h.file []) h.scans_it
-    (outcome_at m (lent_in before) (λ o. IsFileLeft o before.links after.links t.0) h.file (whole_told m before h) h.reads_nothing t.3)
+    (outcome_at m before.keeper (λ o. IsFileLeft o before.links after.links t.0) h.file (whole_told m before h) t.3)
   where
     by : (o : Outcome) → ScansTable h.scan o → IsFileLeft o before.links after.links t.0 → ⊥
     by (scans s) e k = k
@@ -96,7 +96,7 @@ not_left m before after h (inr t) = by (outcome_on m h.file []) h.scans_it
 
 not_most : (m : Meaning) (before after : World) (text : List ℕ) (left : List LeftTablet) → IsHeldWhole m before → EndsBut m before after left text → ⊥
 not_most m before after text left h t = by (outcome_on m h.file []) h.scans_it
-    (outcome_at m (lent_in before) (λ o. HasMost o before.links after.links left text) h.file (whole_told m before h) h.reads_nothing t.1)
+    (outcome_at m before.keeper (λ o. HasMost o before.links after.links left text) h.file (whole_told m before h) t.1)
   where
     by : (o : Outcome) → ScansTable h.scan o → HasMost o before.links after.links left text → ⊥
     by (scans s) e k = k
@@ -125,12 +125,12 @@ no_cause path bytes s c l files tells steady there shows h calm =
 file_not_left : (m : Meaning) (before after : World) → IsSchemaHeld m before → IsLeft m before after → ⊥
 file_not_left m before after h (inl t) =
     subst (λ (o : Outcome). IsLeftWith o before.links after.links t.0) h.looks_at_it
-    (outcome_at m (lent_in before) (λ o. IsLeftWith o before.links after.links t.0) [] (none_named m before h.names_none) h.reads_nothing t.3)
+    (outcome_at m before.keeper (λ o. IsLeftWith o before.links after.links t.0) [] (none_named m before h.names_none) t.3)
 file_not_left m before after h (inr t) = in_links after.links (subst (λ (ls : List LinkShown). WithFirsts ls after.links (LeavesFile h.path t.0)) h.links looked)
   where
     looked : WithFirsts before.links after.links (LeavesFile h.path t.0)
     looked = subst (λ (o : Outcome). IsFileLeft o before.links after.links t.0) h.looks_at_it
-        (outcome_at m (lent_in before) (λ o. IsFileLeft o before.links after.links t.0) [] (none_named m before h.names_none) h.reads_nothing t.3)
+        (outcome_at m before.keeper (λ o. IsFileLeft o before.links after.links t.0) [] (none_named m before h.names_none) t.3)
 
     in_links : (now : List LinkShown) → WithFirsts (h.first ∷ h.others) now (LeavesFile h.path t.0) → ⊥
     in_links [] w = w
@@ -139,7 +139,7 @@ file_not_left m before after h (inr t) = in_links after.links (subst (λ (ls : L
 file_not_most : (m : Meaning) (before after : World) (text : List ℕ) (left : List LeftTablet) → IsSchemaHeld m before → EndsBut m before after left text → ⊥
 file_not_most m before after text left h t =
     subst (λ (o : Outcome). HasMost o before.links after.links left text) h.looks_at_it
-    (outcome_at m (lent_in before) (λ o. HasMost o before.links after.links left text) [] (none_named m before h.names_none) h.reads_nothing t.1)
+    (outcome_at m before.keeper (λ o. HasMost o before.links after.links left text) [] (none_named m before h.names_none) t.1)
 
 none_left : (m : Meaning) (before after : World) → IsHeldWhole m before ⊎ IsSchemaHeld m before → IsLeft m before after → ⊥
 none_left m before after (inl h) t = not_left m before after h t

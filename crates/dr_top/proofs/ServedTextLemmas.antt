@@ -1,5 +1,5 @@
 -- What is printed of the records that links give.
-use Rattle.std.specs.Prelude.{◌≡◌, ◌≢◌, ◌≤◌, ◌++◌, ℕ, suc, true, false, Bool, ⊤, List, [], ◌∷◌, map, Option, Some, None, if◌then◌else◌, nat_eq}
+use Rattle.std.specs.Prelude.{◌≡◌, ◌≤◌, ◌++◌, ℕ, suc, true, false, Bool, ⊤, List, [], ◌∷◌, map, Option, Some, None, if◌then◌else◌, nat_eq}
 use Rattle.std.specs.List.{list_all}
 use Rattle.std.proofs.Common.{inl, inr, refl, sym, ap, ap₂, ◌∙◌, subst, arith, append-nil}
 use Rattle.std.proofs.lemmas.Bool.{ne_eqb, eq-eqb}
@@ -45,7 +45,7 @@ left_next t tried left R Rs =
 -- ---- the records of the others
 
 module _ (s : Schema) (F : List Leaf) (files : Files) where
-  told_gives : (told : Files) (cs : List Copy) (R : List Node) → ((path : List ℕ) → told path ≡ files path) → SomeIsFile s F told cs R → SomeIsFile s F files cs R
+  pub told_gives : (told : Files) (cs : List Copy) (R : List Node) → ((path : List ℕ) → told path ≡ files path) → SomeIsFile s F told cs R → SomeIsFile s F files cs R
   told_gives told [] R e h = h
   told_gives told (c ∷ cs) R e (inl f) = inl (subst (IsFileThere s F R) (e c.path) f)
   told_gives told (c ∷ cs) R e (inr h) = inr (told_gives told cs R e h)

@@ -1,5 +1,5 @@
 -- What the words of a command line are answered with.
-use Rattle.std.specs.Prelude.{◌≡◌, false, List, [], ◌∷◌, ◌++◌, ℕ, zero, suc, ⊤, Option, Some, None}
+use Rattle.std.specs.Prelude.{◌≡◌, false, List, [], ◌∷◌, ◌++◌, ℕ, zero, suc, ⊤, ◌⊎◌, Option, Some, None}
 use Rattle.dr_formats.specs.Opening.{Range, end_ranges, footer_ranges}
 use Rattle.dr_outside.specs.Source.{SourceShown}
 use Rattle.dr_outside.specs.Link.{LinkShown}
@@ -7,7 +7,7 @@ use Rattle.dr_load.specs.Puts.{HasPut}
 use Rattle.dr_file.specs.Asking.{is_for_path, is_request_for}
 use Rattle.dr_tablets.specs.Asked.{AsksHeld, AsksForTablets}
 use Rattle.dr_commands.specs.Meaning.{Meaning, Outcome, done, refused, scans, serves, looks_at, puts_in}
-use Rattle.dr_top.specs.World.{Lent, WithOutcome, ForOutcome, WithEach, OpensInput}
+use Rattle.dr_top.specs.World.{Lent, IsFileOf, ForInput, outcome_on, OpensBy, WithEach}
 use Rattle.dr_top.specs.Reading.{HasText}
 use Rattle.dr_top.specs.Keeping.{IsUnput, AsksForFile}
 use Rattle.dr_top.specs.Stops.{StopsWith}
@@ -17,9 +17,15 @@ use Rattle.dr_top.specs.declared.stop.Stop.{Stop}
 abbrev pub Gives : Lent → Lent → List ℕ → Outcome → Type 0
 Gives before after text o = HasText o before.links after.links text × HasPut (puts_in o) before.keeper after.keeper
 
--- what a command of this meaning gives; nothing that comes before an input that it reads is refused, also where that isn't told
-abbrev pub Finishes : Meaning → Lent → Lent → List ℕ → Type 0
-Finishes m before after text = WithOutcome m before (Gives before after text) × OpensInput m before.keeper
+-- what a command of this meaning gives
+pub record Finishes (m : Meaning) (before after : Lent) (text : List ℕ) : Type 0 where
+  -- the file that it read
+  pub file : List ℕ
+  pub is_file : IsFileOf m before.keeper file
+  -- on the input, where that is told
+  pub gives : ForInput m.reads_input before.input.left (λ input. Gives before after text (outcome_on m file input))
+  -- nothing that comes before an input that it reads is refused, also where that isn't told
+  pub opens : OpensBy m.reads_input (outcome_on m file)
 
 -- what words of this meaning are stopped by; those that mean nothing leave all as it was
 abbrev pub StopsMeant : Option Meaning → Lent → Lent → Stop → Type 0
@@ -72,7 +78,11 @@ AsksLink (looks_at path) link now = AsksHeld (is_for_path path) (λ files. is_re
 AsksLink (done text puts) link now = now.asked ≡ link.asked
 AsksLink (refused r puts) link now = now.asked ≡ link.asked
 
--- no link is asked for anything else, whatever comes of it
+-- each link is asked for that by the outcome on the file that was read; a command that asks links reads no input
+abbrev pub AsksNeeded : Meaning → Lent → Lent → Type 0
+AsksNeeded m before after = (file : List ℕ) × IsFileOf m before.keeper file × WithEach before.links after.links (AsksLink (outcome_on m file []))
+
+-- no link is asked for anything, or for anything else, whatever comes of it
 abbrev pub AsksEach : Option Meaning → Lent → Lent → Type 0
-AsksEach (Some m) before after = ForOutcome m before (λ o. WithEach before.links after.links (AsksLink o))
+AsksEach (Some m) before after = (after.links ≡ before.links) ⊎ AsksNeeded m before after
 AsksEach None before after = after.links ≡ before.links

@@ -5,7 +5,6 @@ use Rattle.dr_formats.specs.File.{schema_of_file}
 use Rattle.dr_formats.specs.Loading.{Put}
 use Rattle.dr_formats.specs.Reports.{left_file_text}
 use Rattle.dr_outside.specs.Faults.{raised}
-use Rattle.dr_load.specs.Puts.{HasPut}
 use Rattle.dr_outside.specs.Link.{Files, LinkShown}
 use Rattle.dr_outside.specs.Sink.{SinkShown, AddedWhole, AddedFront}
 use Rattle.dr_outside.specs.declared.cause.Cause.{Cause}
@@ -15,9 +14,9 @@ use Rattle.dr_reading.specs.Left.{LeftTablet}
 use Rattle.dr_reading.specs.LeftText.{told_cause, left_text}
 use Rattle.dr_commands.specs.Refusals.{Refusal, refusal_text}
 use Rattle.dr_commands.specs.Meaning.{Meaning, Outcome, refused, scans, serves, looks_at, IsEarly}
-use Rattle.dr_top.specs.World.{World, lent_in, WithOutcome, IsOpened, OpensInput, AcceptsWhole, RefusesEarly}
+use Rattle.dr_top.specs.World.{World, lent_in, IsFileOf, ForInput, outcome_on, RefusesAlways}
 use Rattle.dr_top.specs.Reading.{IsLeftWith, HasMost, IsFileLeft}
-use Rattle.dr_top.specs.Keeping.{IsUnput, KeepsFile, IsRefusedSo, PutsSome, PutsBeforeEnd, PutsGiven, PutsBreak}
+use Rattle.dr_top.specs.Keeping.{IsUnput, KeepsFile, RefusesSo, PutsSome, PutsGiven, PutsBreak}
 use Rattle.dr_top.specs.Stops.{IsReadBy}
 use Rattle.dr_top.specs.Answers.{Finishes, AsksMeant, LeavesUnread, LeavesUnput, LeavesUnasked, AsksEach}
 
@@ -72,21 +71,19 @@ IsUsage meant before after = (meant ≡ None)
 -- 2: the first refusal, which err names; out and the links stay. Where it isn't a line of the input that is refused, the refusal is that of
 -- the file and the words whatever the input, and the input and what the keeper holds stay
 abbrev pub IsRefused : Meaning → World → World → Type 0
-IsRefused m before after = (r : Refusal) × Says before.err after.err (refusal_text r)
-    × WithOutcome m (lent_in before) (IsRefusedSo r before.keeper after.keeper)
+IsRefused m before after = (r : Refusal) × Says before.err after.err (refusal_text r) × RefusesSo m r (lent_in before) (lent_in after)
     × (after.out ≡ before.out) × (after.links ≡ before.links)
-    × (IsEarly r → (after.input ≡ before.input) × RefusesEarly m before.keeper r × HasPut [] before.keeper after.keeper)
 
 -- 3, tablets: the command asks a link; just these are left, each with a cause for each of its copies, which err tells; all else stays
 abbrev pub TabletsLeft : Meaning → World → World → Type 0
 TabletsLeft m before after = (left : List LeftTablet) × (0 < m.links) × Says before.err after.err (left_text left)
-    × WithOutcome m (lent_in before) (λ o. IsLeftWith o before.links after.links left)
+    × ((file : List ℕ) × IsFileOf m before.keeper file × IsLeftWith (outcome_on m file []) before.links after.links left)
     × (after.out ≡ before.out) × (after.input ≡ before.input) × IsUnput before.keeper after.keeper
 
 -- 3, a file: the command asks a link; its cause, which err tells; all else stays
 abbrev pub FileLeft : Meaning → World → World → Type 0
 FileLeft m before after = (c : Cause) × (0 < m.links) × Says before.err after.err (left_file_text (told_cause c))
-    × WithOutcome m (lent_in before) (λ o. IsFileLeft o before.links after.links c)
+    × ((file : List ℕ) × IsFileOf m before.keeper file × IsFileLeft (outcome_on m file []) before.links after.links c)
     × (after.out ≡ before.out) × (after.input ≡ before.input) × IsUnput before.keeper after.keeper
 
 abbrev pub IsLeft : Meaning → World → World → Type 0
@@ -95,7 +92,8 @@ IsLeft m before after = TabletsLeft m before after ⊎ FileLeft m before after
 -- some tablets are left, just these, and the others are the share that the command asks for, of which this is the text; the input stays, and what
 -- the keeper holds
 abbrev pub EndsBut : Meaning → World → World → List LeftTablet → List ℕ → Type 0
-EndsBut m before after left text = (0 < m.links) × WithOutcome m (lent_in before) (λ o. HasMost o before.links after.links left text)
+EndsBut m before after left text = (0 < m.links)
+    × ((file : List ℕ) × IsFileOf m before.keeper file × HasMost (outcome_on m file []) before.links after.links left text)
     × (after.input ≡ before.input) × IsUnput before.keeper after.keeper
 
 -- 6: that text was wholly written, and err tells what is left
@@ -108,8 +106,6 @@ PrintsMost m before after = (text : List ℕ) × (left : List LeftTablet) × Add
 abbrev pub SourceFailed : Meaning → World → World → Type 0
 SourceFailed m before after = Says before.err after.err (codes "outside: source\n")
     × HasRisen before.input.faults after.input.faults
-    × IsOpened m before.keeper × PutsBeforeEnd m (lent_in before) (lent_in after)
-    × AcceptsWhole m (lent_in before) (lent_in after)
     × PutsGiven m (lent_in before) (lent_in after)
     × (after.keeper.faults ≡ before.keeper.faults) × (after.out ≡ before.out) × (after.links ≡ before.links)
 
@@ -118,7 +114,7 @@ SourceFailed m before after = Says before.err after.err (codes "outside: source\
 abbrev pub KeeperFailed : Meaning → World → World → Type 0
 KeeperFailed m before after = Says before.err after.err (codes "outside: keeper\n")
     × HasRisen before.keeper.faults after.keeper.faults × (KeepsFile m before.keeper → ⊥)
-    × (((after.input ≡ before.input) × IsUnput before.keeper after.keeper) ⊎ (PutsBreak true m (lent_in before) (lent_in after) × OpensInput m before.keeper))
+    × (((after.input ≡ before.input) × IsUnput before.keeper after.keeper) ⊎ PutsBreak true m (lent_in before) (lent_in after))
     × (after.input.faults ≡ before.input.faults) × (after.out ≡ before.out) × (after.links ≡ before.links)
 
 -- the text is whole, and the input read to its end or left alone
@@ -156,8 +152,9 @@ ByInput false left untold told = told
 
 -- the command has this refusal; of an input that is read and isn't told, it is one that comes before the input
 abbrev pub Refuses : World → Meaning → Refusal → Type 0
-Refuses before m r = ByInput m.reads_input before.input.left (IsEarly r × RefusesEarly m before.keeper r)
-    (WithOutcome m (lent_in before) (λ o. (puts : List Put) × (o ≡ refused r puts)))
+Refuses before m r = (file : List ℕ) × IsFileOf m before.keeper file
+    × ByInput m.reads_input before.input.left (IsEarly r × RefusesAlways (outcome_on m file) r)
+    (ForInput m.reads_input before.input.left (λ input. (puts : List Put) × (outcome_on m file input ≡ refused r puts)))
 
 -- nothing that the command looks at is refused: its schema or table, its FIELDs, its directories, its query, the input's lines where they are told
 abbrev pub IsAccepted : World → Meaning → Type 0

@@ -1,12 +1,12 @@
 -- What a command leaves of the keeper: what it holds, and what it is asked for and to put.
-use Rattle.std.specs.Prelude.{◌≡◌, ℕ, Bool, List, [], ◌∷◌, ◌++◌, Option, Some, option_map, ⊤, IsTrue}
+use Rattle.std.specs.Prelude.{◌≡◌, ℕ, Bool, List, [], ◌∷◌, ◌++◌, Option, Some, option_map, ⊤, ◌⊎◌, IsTrue}
 use Rattle.dr_formats.specs.Loading.{Put}
 use Rattle.dr_load.specs.Puts.{HasPut, HasPutSome, BreaksOff}
 use Rattle.dr_load.specs.Given.{WhereLines}
 use Rattle.dr_outside.specs.Link.{LinkShown, Request, Holds, size_of, bytes_of}
 use Rattle.dr_commands.specs.Refusals.{Refusal}
-use Rattle.dr_commands.specs.Meaning.{Meaning, Outcome, done, refused, scans, serves, looks_at, puts_in}
-use Rattle.dr_top.specs.World.{Lent, file_of, outcome_on, WithFile, ForOutcome}
+use Rattle.dr_commands.specs.Meaning.{Meaning, Outcome, done, refused, scans, serves, looks_at, puts_in, IsEarly}
+use Rattle.dr_top.specs.World.{Lent, IsFileOf, ForInput, outcome_on, Opens, OpensBy, RefusesAlways, Accepts}
 
 -- ---- the file that is read
 
@@ -51,22 +51,40 @@ puts_before_end (scans s) = []
 puts_before_end (serves s workers least) = []
 puts_before_end (looks_at path) = []
 
--- a front of its puts was done, in their order, and no other was asked for
+-- a front of the puts of its outcome was done, in their order, and no other was asked for
+pub record PutsFront (m : Meaning) (before after : Lent) : Type 0 where
+  -- the file that it read
+  pub file : List ℕ
+  pub is_file : IsFileOf m before.keeper file
+  -- on the input, where that is told
+  pub puts : ForInput m.reads_input before.input.left (λ input. HasPutSome (puts_in (outcome_on m file input)) before.keeper after.keeper)
+
+-- nothing was put, or such a front
 abbrev pub PutsSome : Meaning → Lent → Lent → Type 0
-PutsSome m before after = ForOutcome m before (λ o. HasPutSome (puts_in o) before.keeper after.keeper)
-
--- the same of the puts before it is done
-abbrev pub PutsBeforeEnd : Meaning → Lent → Lent → Type 0
-PutsBeforeEnd m before after = ForOutcome m before (λ o. HasPutSome (puts_before_end o) before.keeper after.keeper)
-
--- it has put just what it puts where an empty line, which is refused, comes behind the lines that the source gave: each full tablet, before it asked for the next line
-abbrev pub PutsGiven : Meaning → Lent → Lent → Type 0
-PutsGiven m before after = WithFile (file_of m before.keeper) (λ file. WhereLines before.input.left after.input.left (λ lines.
-    HasPut (puts_in (outcome_on m file (lines ++ 10 ∷ []))) before.keeper after.keeper))
+PutsSome m before after = IsUnput before.keeper after.keeper ⊎ PutsFront m before after
 
 -- one of its puts failed, which is told or not; those before it were done, in their order, and none behind it was asked for
-abbrev pub PutsBreak : Bool → Meaning → Lent → Lent → Type 0
-PutsBreak told m before after = ForOutcome m before (λ o. BreaksOff told (puts_in o) before.keeper after.keeper)
+pub record PutsBreak (told : Bool) (m : Meaning) (before after : Lent) : Type 0 where
+  -- the file that it read, which isn't refused, nor is anything else that comes before an input that is read
+  pub file : List ℕ
+  pub is_file : IsFileOf m before.keeper file
+  pub opens : OpensBy m.reads_input (outcome_on m file)
+  -- on the input, where that is told
+  pub breaks : ForInput m.reads_input before.input.left (λ input. BreaksOff told (puts_in (outcome_on m file input)) before.keeper after.keeper)
+
+-- the source failed before the input's end
+pub record PutsGiven (m : Meaning) (before after : Lent) : Type 0 where
+  -- the file that was read, which isn't refused, nor is anything else that comes before the input
+  pub file : List ℕ
+  pub is_file : IsFileOf m before.keeper file
+  pub opens : Opens (outcome_on m file)
+  -- nor is a whole line that the source gave
+  pub accepts : Accepts (outcome_on m file) before.input after.input
+  -- on the input, where that is told, a front of the puts before it is done was done, in their order, and no other was asked for
+  pub puts : ForInput m.reads_input before.input.left (λ input. HasPutSome (puts_before_end (outcome_on m file input)) before.keeper after.keeper)
+  -- it has put just what it puts where an empty line, which is refused, comes behind the lines that the source gave: each full tablet, before it asked
+  -- for the next line
+  pub given : WhereLines before.input.left after.input.left (λ lines. HasPut (puts_in (outcome_on m file (lines ++ 10 ∷ []))) before.keeper after.keeper)
 
 -- it is done, with this text, and has put its files, in this order
 abbrev pub IsDoneSo : List ℕ → LinkShown → LinkShown → Outcome → Type 0
@@ -75,3 +93,12 @@ IsDoneSo text keeper keeper_now o = (puts : List Put) × (o ≡ done text puts) 
 -- its first refusal, before which it has put these files, in this order
 abbrev pub IsRefusedSo : Refusal → LinkShown → LinkShown → Outcome → Type 0
 IsRefusedSo r keeper keeper_now o = (puts : List Put) × (o ≡ refused r puts) × HasPut puts keeper keeper_now
+
+-- so its outcome is refused, on the file that it read
+pub record RefusesSo (m : Meaning) (r : Refusal) (before after : Lent) : Type 0 where
+  pub file : List ℕ
+  pub is_file : IsFileOf m before.keeper file
+  -- on the input, where that is told
+  pub refuses : ForInput m.reads_input before.input.left (λ input. IsRefusedSo r before.keeper after.keeper (outcome_on m file input))
+  -- where it isn't a line of the input that is refused, that is so whatever the input, and the input and what the keeper holds stay
+  pub early : IsEarly r → RefusesAlways (outcome_on m file) r × (after.input ≡ before.input) × HasPut [] before.keeper after.keeper

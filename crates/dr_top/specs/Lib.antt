@@ -20,3 +20,5 @@ pub mod Answers
 pub mod Ends
 -- a law of queries that links serve, proved on a law function of src/
 pub mod ServedLaws
+-- the theorem to read first: a query over a table in memory
+pub mod Theorem

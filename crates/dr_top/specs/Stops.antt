@@ -7,7 +7,6 @@ use Rattle.dr_table.specs.Faults.{problem_view as table_problem_view}
 use Rattle.dr_table.specs.declared.fault.TableFault.{TableFault}
 use Rattle.dr_file.specs.declared.file_fault.FileFault.{FileFault}
 use Rattle.dr_load.specs.declared.fault.LoadFault.{LoadFault}
-use Rattle.dr_load.specs.Puts.{HasPut}
 use Rattle.dr_nested.specs.Faults.{problem_view, path_problem_view}
 use Rattle.dr_nested.specs.declared.fault.SchemaFault.{SchemaFault}
 use Rattle.dr_input.specs.Taken.{AcceptsRead, WhereTold}
@@ -20,9 +19,9 @@ use Rattle.dr_outside.specs.Link.{LinkShown}
 use Rattle.dr_outside.specs.declared.fault.Fault.{Fault}
 use Rattle.dr_commands.specs.Refusals.{Refusal as Refused, schema_refused, table_refused, field_refused, words_refused, query_refused, line_refused}
 use Rattle.dr_commands.specs.Meaning.{Meaning, Outcome, refused, IsEarly}
-use Rattle.dr_commands.specs.declared.words_fault.WordsFault.{WordsFault}
-use Rattle.dr_top.specs.World.{Lent, Opens, RefusesAlways, Accepts, WithOutcome, IsOpened, OpensInput, AcceptsWhole, RefusesEarly}
-use Rattle.dr_top.specs.Keeping.{IsUnput, KeepsFile, PutsSome, PutsBeforeEnd, PutsGiven, PutsBreak, IsRefusedSo}
+use Rattle.dr_words.specs.declared.words_fault.WordsFault.{WordsFault}
+use Rattle.dr_top.specs.World.{Lent, IsFileOf, outcome_on, Opens, RefusesAlways, Accepts}
+use Rattle.dr_top.specs.Keeping.{IsUnput, KeepsFile, PutsSome, PutsGiven, PutsBreak, RefusesSo}
 use Rattle.dr_top.specs.Reading.{IsLeftWith, HasMost, IsFileLeft, LeavesFile}
 use Rattle.dr_tablets.specs.Views.{all_left_view}
 use Rattle.dr_load.specs.Words.{words_problem_view}
@@ -49,7 +48,8 @@ refusal_view (Refusal.Line n w) = line_refused (record { line = n; fault = line_
 abbrev pub StopsUnread : Meaning → LinkShown → LinkShown → Stop → Type 0
 StopsUnread m keeper keeper_now Stop.NoMemory = keeper_now.faults ≡ keeper.faults
 StopsUnread m keeper keeper_now Stop.Keeper = (keeper_now.faults ≡ raised keeper.faults) × (KeepsFile m keeper → ⊥)
-StopsUnread m keeper keeper_now (Stop.Refused r) = (keeper_now.faults ≡ keeper.faults) × RefusesEarly m keeper (refusal_view r)
+StopsUnread m keeper keeper_now (Stop.Refused r) = (keeper_now.faults ≡ keeper.faults)
+    × ((file : List ℕ) × IsFileOf m keeper file × RefusesAlways (outcome_on m file) (refusal_view r))
 StopsUnread m keeper keeper_now stop = ⊥
 
 -- ---- a FIELD
@@ -115,23 +115,22 @@ StopsWith m before after Stop.NoMemory =
     (after.keeper.faults ≡ before.keeper.faults) × (after.input.faults ≡ before.input.faults) × (PutsSome m before after ⊎ PutsBreak false m before after)
 StopsWith m before after Stop.Keeper =
     (after.keeper.faults ≡ raised before.keeper.faults) × (after.input.faults ≡ before.input.faults) × (after.links ≡ before.links) × (KeepsFile m before.keeper → ⊥)
-    × (((after.input ≡ before.input) × IsUnput before.keeper after.keeper) ⊎ (PutsBreak true m before after × OpensInput m before.keeper))
+    × (((after.input ≡ before.input) × IsUnput before.keeper after.keeper) ⊎ PutsBreak true m before after)
 StopsWith m before after Stop.Source =
     (after.input.faults ≡ raised before.input.faults) × (after.keeper.faults ≡ before.keeper.faults) × (after.links ≡ before.links)
-    × IsOpened m before.keeper × PutsBeforeEnd m before after × AcceptsWhole m before after × PutsGiven m before after
+    × PutsGiven m before after
 StopsWith m before after (Stop.Refused r) =
     (after.keeper.faults ≡ before.keeper.faults) × (after.input.faults ≡ before.input.faults) × (after.links ≡ before.links)
-    × WithOutcome m before (IsRefusedSo (refusal_view r) before.keeper after.keeper)
-    × (IsEarly (refusal_view r) → (after.input ≡ before.input) × RefusesEarly m before.keeper (refusal_view r) × HasPut [] before.keeper after.keeper)
+    × RefusesSo m (refusal_view r) before after
 StopsWith m before after (Stop.Left left) =
     (after.keeper.faults ≡ before.keeper.faults) × (0 < m.links) × (after.input ≡ before.input) × IsUnput before.keeper after.keeper
-    × WithOutcome m before (λ o. IsLeftWith o before.links after.links (all_left_view left.items))
+    × ((file : List ℕ) × IsFileOf m before.keeper file × IsLeftWith (outcome_on m file []) before.links after.links (all_left_view left.items))
 StopsWith m before after (Stop.Most text left) =
     (after.keeper.faults ≡ before.keeper.faults) × (0 < m.links) × (after.input ≡ before.input) × IsUnput before.keeper after.keeper
-    × WithOutcome m before (λ o. HasMost o before.links after.links (all_left_view left.items) (string_bytes text))
+    × ((file : List ℕ) × IsFileOf m before.keeper file × HasMost (outcome_on m file []) before.links after.links (all_left_view left.items) (string_bytes text))
 StopsWith m before after (Stop.LeftFile cause) =
     (after.keeper.faults ≡ before.keeper.faults) × (0 < m.links) × (after.input ≡ before.input) × IsUnput before.keeper after.keeper
-    × WithOutcome m before (λ o. IsFileLeft o before.links after.links cause)
+    × ((file : List ℕ) × IsFileOf m before.keeper file × IsFileLeft (outcome_on m file []) before.links after.links cause)
 
 -- the input was read to its end, or left alone where it isn't read
 abbrev pub IsReadBy : Bool → SourceShown → SourceShown → Type 0

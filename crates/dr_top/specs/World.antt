@@ -44,21 +44,16 @@ told_file (Some path) held = held_at held path
 abbrev pub file_of : Meaning → LinkShown → Held
 file_of m keeper = told_file m.file keeper.held
 
--- where the file is told, it is there, and P holds of its bytes
-abbrev pub WithFile : Held → (List ℕ → Type 0) → Type 0
-WithFile untold P = ⊤
-WithFile absent P = ⊥
-WithFile (present bytes) P = P bytes
+-- a file has these bytes, where they are told: where none are there it has none, and where nothing is told any may be its bytes
+abbrev pub IsTold : Held → List ℕ → Type 0
+IsTold untold file = ⊤
+IsTold absent file = ⊥
+IsTold (present bytes) file = bytes ≡ file
 
--- where the file is told and there, P holds of its bytes
-abbrev pub ForFile : Held → (List ℕ → Type 0) → Type 0
-ForFile untold P = ⊤
-ForFile absent P = ⊤
-ForFile (present bytes) P = P bytes
-
--- the file that a command names has these bytes, where it is told
+-- the bytes that a command reads of the file that it names: those that the keeper tells; where the keeper tells nothing, some bytes; where the
+-- command names no file, none
 abbrev pub IsFileOf : Meaning → LinkShown → List ℕ → Type 0
-IsFileOf m keeper bytes = WithFile (file_of m keeper) (λ told. told ≡ bytes)
+IsFileOf m keeper file = IsTold (file_of m keeper) file
 
 -- where the input is told, P holds of it; where it isn't read, of no bytes
 abbrev pub ForInput : Bool → Option (List ℕ) → (List ℕ → Type 0) → Type 0
@@ -70,14 +65,6 @@ ForInput true left P = WhereTold left P
 -- the outcome on this file and this input
 abbrev pub outcome_on : Meaning → List ℕ → List ℕ → Outcome
 outcome_on m file input = m.outcome (record { file = file; input = input })
-
--- the file that the command names is there, and P holds of the outcome on it and on the input, where these are told
-abbrev pub WithOutcome : Meaning → Lent → (Outcome → Type 0) → Type 0
-WithOutcome m w P = WithFile (file_of m w.keeper) (λ file. ForInput m.reads_input w.input.left (λ input. P (outcome_on m file input)))
-
--- P holds of it where the file is there
-abbrev pub ForOutcome : Meaning → Lent → (Outcome → Type 0) → Type 0
-ForOutcome m w P = ForFile (file_of m w.keeper) (λ file. ForInput m.reads_input w.input.left (λ input. P (outcome_on m file input)))
 
 -- whatever the input, nothing that comes before it is refused
 abbrev pub Opens : (List ℕ → Outcome) → Type 0
@@ -91,23 +78,10 @@ RefusesAlways on r = (input : List ℕ) → on input ≡ refused r []
 abbrev pub Accepts : (List ℕ → Outcome) → SourceShown → SourceShown → Type 0
 Accepts on input input_now = WhereGiven input.left input_now.left (λ read. (r : Refusal) (puts : List Put) → on (whole_lines read) ≡ refused r puts → ⊥)
 
--- so of a command on the file that it names
-abbrev pub IsOpened : Meaning → LinkShown → Type 0
-IsOpened m keeper = WithFile (file_of m keeper) (λ file. Opens (outcome_on m file))
-
-abbrev pub RefusesEarly : Meaning → LinkShown → Refusal → Type 0
-RefusesEarly m keeper r = WithFile (file_of m keeper) (λ file. RefusesAlways (outcome_on m file) r)
-
-abbrev pub AcceptsWhole : Meaning → Lent → Lent → Type 0
-AcceptsWhole m before after = WithFile (file_of m before.keeper) (λ file. Accepts (outcome_on m file) before.input after.input)
-
--- and of an input that is read; nothing is said where none is
-abbrev pub IsOpenedBy : Bool → Meaning → LinkShown → Type 0
-IsOpenedBy false m keeper = ⊤
-IsOpenedBy true m keeper = IsOpened m keeper
-
-abbrev pub OpensInput : Meaning → LinkShown → Type 0
-OpensInput m keeper = IsOpenedBy m.reads_input m keeper
+-- nothing that comes before an input that is read is refused; nothing is said where none is
+abbrev pub OpensBy : Bool → (List ℕ → Outcome) → Type 0
+OpensBy false on = ⊤
+OpensBy true on = Opens on
 
 -- ---- links
 

@@ -1,7 +1,8 @@
 //! The commands: what each answers.
 
 ghost use Rattle.std.specs.Prelude.{◌≡◌, ◌≢◌, ◌≤◌, length, Err, None, Some, MatchOption, IfSome, false, map, string_bytes, IfOk, IfErr, OnOk};
-ghost use Rattle.dr_commands.specs.Commands.{Taken, meaning_of, meant, command_view};
+ghost use Rattle.dr_commands.specs.Commands.{meaning_of, command_view};
+ghost use Rattle.dr_words.specs.Words.{Taken, meant};
 ghost use Rattle.dr_top.specs.NamedFile.{RefusesLonger};
 ghost use Rattle.dr_top.specs.Printed.{printed};
 ghost use Rattle.dr_top.specs.World.{IsFileOf, lent};
@@ -24,8 +25,9 @@ mod trial;
 use crate::named_file::{Kind, read_named};
 use crate::output::Output;
 use crate::stop::Stop;
-use dr_commands::{Command, read_words};
+use dr_commands::Command;
 use dr_outside::{Keeper, Link, Source};
+use dr_words::read_words;
 use std::alloc::Global;
 use std::sync::Wait;
 use std::thread::Threads;

@@ -14,6 +14,8 @@ mod report;
 mod running;
 mod service;
 mod stop;
+mod theorem;
 
 pub use laws::{gen_refuses_nothing, served_prints_meaning};
 pub use running::run;
+pub use theorem::query_in_memory;

@@ -1,16 +1,16 @@
 //! The whole program as one call.
 
 ghost use Rattle.std.specs.Prelude.{◌≡◌, ◌≢◌, ◌≤◌, ◌⊎◌, length, map, string_bytes};
-ghost use Rattle.dr_commands.specs.Commands.{Taken, meant};
+ghost use Rattle.dr_words.specs.Words.{Taken, meant};
 ghost use Rattle.dr_top.specs.World.{world};
 ghost use Rattle.dr_top.specs.Ends.{Says, Holds, Prints, IsUsage, IsRefused, IsLeft, PrintsMost, IsOutside, IsMemory, SameCounts, LeavesInput, LeavesFiles, AsksKeeper, AsksLinks, LeavesLinks, IsComplete, IsServed};
 
 use crate::commands::answer;
 use crate::left_file::left_file_report;
 use crate::stop::Stop;
-use dr_commands::USAGE;
 use dr_outside::{Keeper, Link, Sink, Source, write_all};
 use dr_tablets::left_text;
+use dr_words::USAGE;
 use std::alloc::Global;
 use std::sync::Wait;
 use std::thread::Threads;

@@ -7,7 +7,6 @@ ghost use Rattle.dr_top.specs.Stops.{words_stop, schema_stop, table_stop, keeper
 use crate::field::FieldFault;
 use crate::refusal::Refusal;
 use dr_bind::QueryFault;
-use dr_commands::WordsFault;
 use dr_file::FileFault;
 use dr_input::{InputFault, LineProblem};
 use dr_load::{LoadFault, WordsProblem};
@@ -16,6 +15,7 @@ use dr_nested::SchemaFault;
 use dr_outside::{Cause, Fault};
 use dr_table::TableFault;
 use dr_tablets::LeftTablet;
+use dr_words::WordsFault;
 
 /// Why a command doesn't give its whole text.
 #[derive(PartialEq, Eq, Drop)]

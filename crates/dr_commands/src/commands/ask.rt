@@ -5,7 +5,7 @@ ghost use Rattle.std.specs.Prelude.{◌<◌, ◌≤◌};
 use crate::serving::Serving;
 
 /// The values of `ask`.
-#[derive(PartialEq, Eq, Drop)]
+#[derive(Drop)]
 pub struct Ask {
     /// The path of the schema.
     pub schema: String,

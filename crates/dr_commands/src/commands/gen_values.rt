@@ -3,7 +3,7 @@
 ghost use Rattle.std.specs.Prelude.{◌≤◌};
 
 /// The values of `gen`.
-#[derive(PartialEq, Eq, Drop)]
+#[derive(Drop)]
 pub struct Gen {
     /// The number of the first record, at most 1,000,000,000.
     pub seed: u32,

@@ -5,7 +5,7 @@ ghost use Rattle.std.specs.Prelude.{◌<◌, ◌≤◌, length};
 use crate::page_version::PageVersion;
 
 /// The values of `load`.
-#[derive(PartialEq, Eq, Drop)]
+#[derive(Drop)]
 pub struct Load {
     /// The path of the schema.
     pub schema: String,

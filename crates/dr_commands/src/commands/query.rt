@@ -5,7 +5,7 @@ ghost use Rattle.std.specs.Prelude.{◌<◌, ◌≤◌};
 use crate::serving::Serving;
 
 /// The values of `query`.
-#[derive(PartialEq, Eq, Drop)]
+#[derive(Drop)]
 pub struct Query {
     /// The path of the table file.
     pub table: String,

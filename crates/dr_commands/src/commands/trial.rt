@@ -5,7 +5,7 @@ ghost use Rattle.std.specs.Prelude.{◌<◌, ◌≤◌};
 use crate::serving::Serving;
 
 /// The values of `trial`.
-#[derive(PartialEq, Eq, Drop)]
+#[derive(Drop)]
 pub struct Trial {
     /// The number of the first record, at most 1,000,000,000.
     pub seed: u32,

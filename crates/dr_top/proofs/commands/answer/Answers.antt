@@ -1,7 +1,8 @@
 use Rattle.std.specs.Prelude.{IfOk, IfErr, Option, option_map}
 use Rattle.std.proofs.Common.{refl, sym, ap, subst, Err, map, string_bytes}
-use Rattle.dr_commands.specs.Commands.{CommandWords, asked, meaning_of, command_view}
-use Rattle.dr_commands.specs.declared.words_fault.WordsFault.{WordsFault}
+use Rattle.dr_commands.specs.Commands.{CommandWords, meaning_of, command_view}
+use Rattle.dr_words.specs.Words.{asked}
+use Rattle.dr_words.specs.declared.words_fault.WordsFault.{WordsFault}
 use Rattle.dr_top.specs.Printed.{printed}
 use Rattle.dr_top.specs.World.{lent, IsFileOf}
 use Rattle.dr_top.specs.Answers.{Finishes, StopsMeant, AsksMeant, LeavesUnput, AsksEach}

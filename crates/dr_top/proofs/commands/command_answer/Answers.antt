@@ -1,4 +1,4 @@
-use Rattle.std.proofs.Common.{refl, sym, ap, subst, map, slice_set, get_or, drop, arith}
+use Rattle.std.proofs.Common.{refl, sym, ap, subst, inr, map, slice_set, get_or, drop, arith}
 use Rattle.std.specs.Prelude.{IfErr, IfOk, Some, []}
 use Rattle.dr_commands.specs.Load.{load_meaning, load_view}
 use Rattle.dr_commands.specs.Query.{query_meaning, query_view}
@@ -205,7 +205,7 @@ returns-in-ShowSchema-clause-reads g c =
     let before = lent (g.S.Source.shows c.args.source.now) (g.K.Link.shows c.args.keeper.now) (map g.L.Link.shows c.args.links.now) in
     let after = lent (g.S.Source.shows c.args.source.now) (g.K.Link.shows c.args.keeper.now) (map g.L.Link.shows (slice_set c.args.links.now 0 c.answer-in-ShowSchema.new.link)) in
     subst (λ (w : CommandWords). IsFileOf (meaning_of w) before.keeper c.args.file.now → AsksEach (Some (meaning_of w)) before after) (sym (ap command_view c.in-ShowSchema.is))
-    (λ is. first_of g.L.Link.shows c.args.links.now c.index-links-0-in-ShowSchema.result c.answer-in-ShowSchema.new.link (λ xs ys. AsksEach (Some (show_schema_meaning (show_schema_view c.in-ShowSchema.show))) (lent before.input before.keeper xs) (lent before.input before.keeper ys)) (omega (arith, c.requires.links)) (first_asked (outcome_on (show_schema_meaning (show_schema_view c.in-ShowSchema.show)) [] []) (g.L.Link.shows (get_or c.args.links.now 0 c.index-links-0-in-ShowSchema.result)) (g.L.Link.shows c.answer-in-ShowSchema.new.link) (map g.L.Link.shows (drop 1 c.args.links.now)) c.answer-in-ShowSchema.ensures.reads)) c.requires.file
+    (λ is. first_of g.L.Link.shows c.args.links.now c.index-links-0-in-ShowSchema.result c.answer-in-ShowSchema.new.link (λ xs ys. AsksEach (Some (show_schema_meaning (show_schema_view c.in-ShowSchema.show))) (lent before.input before.keeper xs) (lent before.input before.keeper ys)) (omega (arith, c.requires.links)) (inr ([], refl, first_asked (outcome_on (show_schema_meaning (show_schema_view c.in-ShowSchema.show)) [] []) (g.L.Link.shows (get_or c.args.links.now 0 c.index-links-0-in-ShowSchema.result)) (g.L.Link.shows c.answer-in-ShowSchema.new.link) (map g.L.Link.shows (drop 1 c.args.links.now)) c.answer-in-ShowSchema.ensures.reads))) c.requires.file
 
 pub answer-requires : goal.answer-requires
 answer-requires g c = record {

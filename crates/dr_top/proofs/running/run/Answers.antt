@@ -3,7 +3,7 @@ use Rattle.dr_outside.specs.Sink.{AddedWhole, AddedFront}
 use Rattle.dr_reading.specs.LeftText.{left_text}
 use Rattle.dr_tablets.specs.Views.{all_left_view}
 use Rattle.dr_tablets.specs.declared.left.LeftTablet.{LeftTablet}
-use Rattle.dr_commands.specs.Commands.{meant}
+use Rattle.dr_words.specs.Words.{meant}
 use Rattle.dr_top.specs.Printed.{printed}
 use Rattle.dr_top.specs.World.{lent}
 use Rattle.dr_top.specs.Ends.{Says}

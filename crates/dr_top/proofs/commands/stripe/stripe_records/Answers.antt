@@ -10,8 +10,8 @@ use Rattle.dr_nested.specs.PathView.{path_view}
 use Rattle.dr_lines.specs.Cutting.{pending}
 use Rattle.dr_input.specs.Taken.{HasTaken}
 use Rattle.dr_input.specs.declared.fault.InputFault.{InputFault}
-use Rattle.dr_input.specs.Records.{fields_of, most_of, number_of, left_of}
-use Rattle.dr_striper.specs.Stripers.{striped, striped_leaves, striped_paths, fits_leaf}
+use Rattle.dr_input.specs.Records.{fields_of, number_of, left_of}
+use Rattle.dr_striper.specs.Stripers.{striped, striped_paths, fits_leaf}
 use Rattle.dr_striper.proofs.FitLemmas.{record_fits}
 use Rattle.dr_top.specs.Records.{AreColumns, HasColumns, HasRead}
 use Rattle.dr_top.proofs.InputLemmas.{read_start, read_more, read_all, all_ended, reader_stops}

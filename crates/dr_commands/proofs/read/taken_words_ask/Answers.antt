@@ -1,5 +1,0 @@
-use Rattle.dr_commands.proofs.WordsLemmas.{faultless_are_taken, taken_ask}
-use Rattle.dr_commands.proofs.read.taken_words_ask.Goals as goal
-
-pub returns : goal.returns
-returns c = record { asks = taken_ask; faultless = faultless_are_taken }
