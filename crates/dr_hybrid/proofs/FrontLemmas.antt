@@ -6,7 +6,6 @@ use Rattle.std.proofs.lemmas.List.{drop-drop, length-take, length-drop}
 use Rattle.std.proofs.lemmas.Bool.{and_parts}
 use Rattle.dr_formats.specs.Hybrid.{equal_front}
 
-
 -- one more that is equal, or none
 one_more_front : (b : Bool) (k f t r : ℕ) → (k ≤ t → f ≡ k + r) → suc k ≤ (if b then suc t else 0) → (if b then suc f else 0) ≡ suc k + r
 one_more_front true k f t r rest e = omega (arith, rest (omega (arith, e)))

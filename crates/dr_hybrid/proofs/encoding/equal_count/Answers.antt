@@ -16,10 +16,12 @@ blocks-2-preserved g c =
     let t : Told g.row.T.Denot = record { number = g.T.Packable.number; numbers = g.T.Packable.numbers; none = g.met.T.Packable.none; more = g.met.T.Packable.more } in
     let l : length (t.numbers c.args.values.now) ≡ length c.args.values.now = length-numbers g.row.T.Denot t c.args.values.now in
     let some : c.blocks-2.done + 64 ≤ length c.args.values.now = omega (arith, c.blocks-2-test.true) in
-    let n : c.blocks-2.done + 64 - c.blocks-2.done ≡ 64 = omega arith in
-    (some, more_equal c.args.value 64 c.blocks-2.done (t.numbers c.args.values.now) _
-      (numbers-take g.row.T.Denot t _ (drop c.blocks-2.done c.args.values.now) ∙ ap (take _) (numbers-drop g.row.T.Denot t c.blocks-2.done c.args.values.now) ∙ ap (λ (k : ℕ). take k (drop c.blocks-2.done (t.numbers c.args.values.now))) n)
-      (c.are_all.ensures c.if-are_all.true) (omega (arith, some, l)) c.blocks-2.invariant.1)
+    let n : c.blocks-2.done + 64 - c.blocks-2.done ≡ 64 = omega arith in (
+      some,
+      more_equal c.args.value 64 c.blocks-2.done (t.numbers c.args.values.now) _
+          (numbers-take g.row.T.Denot t _ (drop c.blocks-2.done c.args.values.now) ∙ ap (take _) (numbers-drop g.row.T.Denot t c.blocks-2.done c.args.values.now) ∙ ap (λ (k : ℕ). take k (drop c.blocks-2.done (t.numbers c.args.values.now))) n)
+          (c.are_all.ensures c.if-are_all.true) (omega (arith, some, l)) c.blocks-2.invariant.1,
+    )
 
 pub returns-clause-count : goal.returns-clause-count
 returns-clause-count g c =
