@@ -22,7 +22,7 @@ for file in "$top"/bench/walk/*_answers.txt "$top"/bench/walk/*_invariants.txt; 
   mkdir -p "$crate/proofs/${name%_*}"
   cp "$file" "$crate/proofs/${name%_*}/${part^}.antt"
 done
-echo 'bench_walk: dr_course dr_hybrid dr_json dr_levels dr_lines dr_meaning dr_nested dr_outside dr_striper dr_walk serde_json' >>"$work/copy/crates.txt"
+echo 'bench_walk: dr_hybrid dr_json dr_levels dr_lines dr_meaning dr_moves dr_nested dr_outside dr_striper dr_walk serde_json' >>"$work/copy/crates.txt"
 git init -q "$work/copy"
 "$top/dremel" --build
 "$top/crates/dremel/out/dremel" gen --seed 0 --records "$count" >"$work/records.jsonl"
