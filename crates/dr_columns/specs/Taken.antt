@@ -1,5 +1,5 @@
 -- What a scan over columns has taken.
-use Rattle.std.specs.Prelude.{◌≡◌, ℕ, List, map, length, true, None}
+use Rattle.std.specs.Prelude.{◌≡◌, ℕ, List, [], ◌∷◌, map, length, Bool, true, false, ◌&&◌, None}
 use Rattle.std.specs.List.{list_all}
 use Rattle.std.specs.declared.alloc.Global.{Global}
 use Rattle.std.specs.declared.vec.Vec.{Vec}
@@ -12,7 +12,9 @@ use Rattle.dr_partials.specs.Putting.{put_all, puts_of}
 use Rattle.dr_plan.specs.Planned.{plan_leaves, plan_view, planned_query}
 use Rattle.dr_plan.specs.declared.aggregate.Aggregate.{Aggregate}
 use Rattle.dr_plan.specs.declared.plan.GroupItem.{GroupItem}
+use Rattle.dr_plan.specs.declared.expression.Truth.{Truth}
 use Rattle.dr_plan.specs.declared.plan.Plan.{Plan}
+use Rattle.dr_plan.specs.declared.plan.Selection.{Selection}
 use Rattle.dr_group.specs.Maps.{groups_view}
 use Rattle.dr_group.specs.Partials.{IsPartialOf}
 use Rattle.dr_group.specs.declared.partial.Partial as partial
@@ -47,3 +49,17 @@ AreAlone s p C n = (length (plan_paths p) ≡ length C) × EachAlone s.fields (p
 -- it can take such columns of its plan
 abbrev pub CanTake : List (List Triplet) → ℕ → ColumnScan → Type 0
 CanTake C n x = (s : Schema) × (p : Plan) × (R : List Node) × HasTaken s p R x × AreAlone s p C n
+
+-- ---- which plans
+
+abbrev pub has_no_tests : List Truth → Bool
+has_no_tests [] = true
+has_no_tests (t ∷ ts) = false
+
+abbrev pub gives_groups : Selection → Bool
+gives_groups (Selection.Objects items o) = false
+gives_groups (Selection.Groups keys aggregates items) = true
+
+-- a plan that keeps all records, and gives groups
+abbrev pub goes_by_columns : Plan → Bool
+goes_by_columns p = has_no_tests p.test.items && gives_groups p.selection

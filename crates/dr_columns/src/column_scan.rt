@@ -1,6 +1,6 @@
 //! What a plan makes of records, by their columns side by side.
 
-ghost use Rattle.std.specs.Prelude.{◌≡◌, ◌++◌, List, [], map, true, false, IfOk, IfSome};
+ghost use Rattle.std.specs.Prelude.{◌≡◌, ◌++◌, List, [], map, true, false, IfOk, IfSome, is_some};
 ghost use Rattle.dr_meaning.specs.Schema.{Schema};
 ghost use Rattle.dr_meaning.specs.Record.{Node};
 ghost use Rattle.dr_levels.specs.Views.{triplets_view};
@@ -35,14 +35,16 @@ pub struct ColumnScan<'p> {
     numbers: Vec<u32>,
 }
 
-ghost use Rattle.dr_columns.specs.Taken.{HasTaken, AreAlone, CanTake, plan_paths};
+ghost use Rattle.dr_columns.specs.Taken.{HasTaken, AreAlone, CanTake, plan_paths, goes_by_columns};
 
 impl<'p> ColumnScan<'p> {
-    /// Before any record. There is none for a plan that has a condition or gives objects.
+    /// Before any record, for a plan that has no condition and gives groups; for others there is none.
     ///
     /// Errors: want of memory, or of room for the number of a leaf or an aggregate.
     pub fn start(alloc: Global, plan: &'p Plan) -> Result<Option<ColumnScan<'p>>, NoMemory>
-        ensures { IfOk result (λ o. IfSome o (λ x. (s : Schema) → IsOfSchema s plan.now → HasTaken s plan.now [] x)) }
+        ensures taken { IfOk result (λ o. IfSome o (λ x. (s : Schema) → IsOfSchema s plan.now
+            → HasTaken s plan.now [] x)) }
+        ensures told { IfOk result (λ o. is_some o ≡ goes_by_columns plan.now) }
     {
         if !plan.test.is_empty() {
             return Ok(None);

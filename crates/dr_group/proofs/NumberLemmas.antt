@@ -1,8 +1,7 @@
 -- Groups by their numbers.
 use Rattle.std.proofs.lemmas.List.{map-append}
-use Rattle.std.proofs.Common.{◌≡◌, ◌<◌, ℕ, zero, suc, List, [], ◌∷◌, ◌++◌, map, length, get_or, Option, Some, None, Ok, Err, Result, refl, sym, ap, ap₂, ◌∙◌, arith, IfOk}
+use Rattle.std.proofs.Common.{◌≡◌, ℕ, zero, suc, List, [], ◌∷◌, ◌++◌, map, length, get_or, Option, Some, Ok, Err, Result, refl, ap, ap₂, ◌∙◌, arith, IfOk}
 use Rattle.std.specs.List.{slice_get}
-use Rattle.std.proofs.Math.ListN.{set}
 use Rattle.std.proofs.Math.Seq.{map-set_same}
 use Rattle.dr_memory.specs.declared.NoMemory.{NoMemory}
 use Rattle.dr_meaning.specs.Record.{Value}

@@ -1,6 +1,5 @@
 use Rattle.std.proofs.Common.{map, option_map}
 use Rattle.dr_group.specs.Groups.{group_view, put_of, taken_view}
-use Rattle.dr_group.specs.Distinct.{IsFound}
 use Rattle.dr_group.specs.Maps.{groups_view}
 use Rattle.dr_group.proofs.HeldLemmas.{ordered_put, put_items}
 use Rattle.dr_group.proofs.NumberLemmas.{numbered_found, tuples_stay}
