@@ -15,7 +15,7 @@ use crate::grown::Grown;
 use crate::job::job_of;
 use crate::lent::for_each_worker;
 use crate::service::Service;
-use crate::worker::work;
+use crate::turns::work;
 use dr_desk::{Board, Closing, Desk, Event, Ground, Pass, Room};
 use dr_memory::NoMemory;
 use dr_outside::Link;
