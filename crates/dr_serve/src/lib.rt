@@ -14,7 +14,6 @@ mod served;
 mod service;
 mod serving;
 mod turns;
-mod worker;
 
 pub use added::{Added, Jobs};
 pub use found::Found;
@@ -23,4 +22,4 @@ pub use grown::Grown;
 pub use outcome::{Outcome, Served};
 pub use service::Service;
 pub use serving::serve;
-pub use worker::work;
+pub use turns::work;

@@ -15,7 +15,7 @@ use crate::grown::Grown;
 use crate::job::job_of;
 use crate::lent::for_each_worker;
 use crate::service::Service;
-use crate::worker::work;
+use crate::turns::work;
 use dr_desk::{Board, Closing, Desk, Event, Ground, Pass, Room};
 use dr_memory::NoMemory;
 use dr_outside::Link;
@@ -137,10 +137,7 @@ pub(crate) fn served<
     ensures links { OfEachLink L.shows (Worked (table_view table.now) plan.now) links.old links.new }
     ensures count { length links.new ≡ length links.old }
 {
-    let job = job_of(alloc, table, lag)?;
-    let board: Board<Added<S>, Jobs<S>> = Board::new(alloc, &job)?;
-    let (desk, passes) = Desk::<Added<S>, Jobs<S>, B>::new(alloc, ground, board, links.len())?;
-    let slots = slots_of(alloc, passes)?;
+    let (desk, slots) = desk_of::<S, B>(alloc, ground, table, links.len(), lag)?;
     let grown = Mutex::new(Grown::<S>::new(answered, added));
     hand_out(
         rt,
@@ -154,6 +151,25 @@ pub(crate) fn served<
     );
     let closing = desk.shut(Vec::new(alloc));
     Ok(heard_of(grown.into_inner(), closing))
+}
+
+// A desk over the job of a table, and so many passes, each under a lock of its own.
+fn desk_of<S: Service + Room, B: Room>(
+    alloc: Global,
+    ground: Ground,
+    table: &Table,
+    count: usize,
+    lag: u64,
+) -> Result<(Desk<Added<S>, Jobs<S>, B>, Vec<Mutex<Option<Pass<B>>>>), NoMemory>
+    requires ground { ground.table ≡ B.table }
+    requires drawn { ground.tablets ≡ (table.now).tablets }
+    requires job { S.job ≡ table_job (table_view table.now) lag }
+{
+    let job = job_of(alloc, table, lag)?;
+    let board: Board<Added<S>, Jobs<S>> = Board::new(alloc, &job)?;
+    let (desk, passes) = Desk::<Added<S>, Jobs<S>, B>::new(alloc, ground, board, count)?;
+    let slots = slots_of(alloc, passes)?;
+    Ok((desk, slots))
 }
 
 // What was heard of all workers: each tablet that was answered has a piece.

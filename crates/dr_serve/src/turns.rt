@@ -68,8 +68,14 @@ pub(crate) fn turn<S: Service + Room, B: Room, L: Link, R: Wait>(
     }
 }
 
-// Turns until nothing is handed out, or there is no memory.
-pub(crate) fn turns<S: Service + Room, B: Room, L: Link, R: Wait>(
+/// A worker's loop: it takes a tablet on a leaf, scans the copy there through its link, adds the partial to what grows
+/// and tells the desk so, or tells it the cause for which there is none, until nothing is handed out. The pass ends
+/// with the history in which nothing is left to hand out; each of the worker's own hand-outs has an end there, and each
+/// of its own faults is justified: each failed read by a rise of the link's count of its own, in their order.
+///
+/// Errors: there was no memory to scan a tablet, or to add what was found. Nothing is told of it then, and the loop
+/// ends; all that is said of the worker's events holds of those before this last hand-out.
+pub fn work<S: Service + Room, B: Room, L: Link, R: Wait>(
     rt: &R,
     alloc: Global,
     desk: &Desk<Added<S>, Jobs<S>, B>,

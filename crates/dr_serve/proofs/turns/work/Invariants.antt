@@ -5,7 +5,7 @@ use Rattle.dr_table.specs.Views.{table_view}
 use Rattle.dr_serve.specs.Working.{IsCauseFor}
 use Rattle.dr_serve.specs.Ends.{EndsAll}
 use Rattle.dr_serve.specs.Links.{Worked}
-use Rattle.dr_serve.proofs.turns.turns.Given as goal
+use Rattle.dr_serve.proofs.turns.work.Given as goal
 
 -- each turn before this one ended
 abbrev pub invariant-turns : goal.invariant-turns

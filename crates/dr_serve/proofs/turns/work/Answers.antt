@@ -5,7 +5,7 @@ use Rattle.dr_serve.specs.Working.{IsCauseFor, IsRisenFor}
 use Rattle.dr_serve.proofs.EndLemmas.{on_err, ends_but_last, ends_longer, ends_turn, tells_weaker, IsRisen}
 use Rattle.dr_serve.proofs.LinkLemmas.{worked_more}
 use Rattle.dr_serve.proofs.TurnLemmas.{cause_before, turn_is_progress}
-use Rattle.dr_serve.proofs.turns.turns.Goals as goal
+use Rattle.dr_serve.proofs.turns.work.Goals as goal
 
 pub turns-smaller : goal.turns-smaller
 turns-smaller g c = turn_is_progress g.S.Service.job c.in-Some.hand c.turns.pass c.take.new.pass c.turn.new.pass c.in-Some.ensures.taken c.turn.ensures.earlier c.turn.ensures.recorded
