@@ -10,7 +10,6 @@ ghost use Rattle.dr_outside.specs.Telling.{Tells, AsksOnly};
 ghost use Rattle.dr_outside.specs.Leaving.{LeavesLink, ServesUntil};
 ghost use Rattle.dr_chunk.specs.Ranges.{is_read_inside, inside};
 ghost use Rattle.dr_chunk.specs.Taking.{range_of, left_of, reader_form, chunk_of, refused_of, fault_of, IsTaking, TakesMore};
-
 ghost use Rattle.dr_chunk.specs.declared.fault.ChunkFault.{ChunkFault};
 
 use dr_chunk::{ChunkFault, ChunkReader};
