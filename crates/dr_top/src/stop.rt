@@ -19,7 +19,7 @@ use dr_words::WordsFault;
 use std::alloc::AllocFailed;
 
 /// Why a command doesn't give its whole text.
-#[derive(PartialEq, Eq, Drop)]
+#[derive(Drop)]
 pub enum Stop {
     /// The words ask for nothing.
     Usage,
