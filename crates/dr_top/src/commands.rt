@@ -133,7 +133,8 @@ pub fn answer<R: Threads + Wait + Sync, S: Source, K: Keeper, L: Link + Send>(
         (lent (S.shows source.old) (K.shows keeper.old) (map L.shows links.old))
         (lent (S.shows source.new) (K.shows keeper.new) (map L.shows links.new)) }
 {
-    let command = read_words(alloc, words)?;
+    let read = read_words(alloc, words)?;
+    let command = Box::new(alloc, read)?;
     let file = read_named(alloc, &command, keeper)?;
     command_answer(rt, alloc, &command, &file, source, keeper, links)
 }

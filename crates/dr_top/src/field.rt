@@ -12,7 +12,7 @@ use dr_nested::{Path, PathFault, PathProblem, Schema, find};
 use std::alloc::{AllocFailed, Global};
 
 /// Why a FIELD names no leaf.
-#[derive(Clone, Copy, PartialEq, Eq)]
+#[derive(Clone, Copy)]
 pub enum FieldFault {
     NoMemory,
     /// The FIELD of this number, counted from 0, is refused.

@@ -19,7 +19,7 @@ use dr_table::{LONGEST_TABLE, TableProblem};
 use std::alloc::Global;
 
 /// What a file that a command names is read as.
-#[derive(Clone, Copy, PartialEq, Eq)]
+#[derive(Clone, Copy)]
 pub enum Kind {
     Schema,
     Table,

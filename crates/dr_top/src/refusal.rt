@@ -22,7 +22,7 @@ use dr_table::TableProblem;
 use itoa::Buffer;
 
 /// What is refused, in the order in which it is looked at.
-#[derive(Clone, Copy, PartialEq, Eq)]
+#[derive(Clone, Copy)]
 pub enum Refusal {
     /// The schema's first problem, at its byte offset.
     Schema {

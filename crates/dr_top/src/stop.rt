@@ -16,9 +16,10 @@ use dr_outside::{Cause, Fault};
 use dr_table::TableFault;
 use dr_tablets::LeftTablet;
 use dr_words::WordsFault;
+use std::alloc::AllocFailed;
 
 /// Why a command doesn't give its whole text.
-#[derive(PartialEq, Eq, Drop)]
+#[derive(Drop)]
 pub enum Stop {
     /// The words ask for nothing.
     Usage,
@@ -41,6 +42,14 @@ impl From<NoMemory> for Stop {
     ghost from_gives = { λ _ stop. stop ≡ stops.NoMemory };
 
     fn from(_: NoMemory) -> Stop {
+        Stop::NoMemory
+    }
+}
+
+impl<T: Drop> From<AllocFailed<T>> for Stop {
+    ghost from_gives = { λ _ stop. stop ≡ stops.NoMemory };
+
+    fn from(_: AllocFailed<T>) -> Stop {
         Stop::NoMemory
     }
 }
