@@ -1,6 +1,6 @@
 //! Answering a query from a table that can't be lost.
 
-ghost use Rattle.std.specs.Prelude.{◌≡◌, ◌<◌, ◌≤◌, List, Some, All, IfOk, IfErr, IsTrue, length, string_bytes};
+ghost use Rattle.std.specs.Prelude.{◌≡◌, ◌<◌, ◌≤◌, List, Some, All, IfOk, IsTrue, length, string_bytes};
 ghost use Rattle.dr_meaning.specs.Ask.{answer_text};
 ghost use Rattle.dr_meaning.specs.Query.{Query};
 ghost use Rattle.dr_meaning.specs.Record.{Node};
@@ -11,7 +11,7 @@ ghost use Rattle.dr_plan.specs.PlanOf.{IsPlanOf};
 ghost use Rattle.dr_table.specs.Views.{table_view};
 ghost use Rattle.dr_ask.specs.Asked.{HoldsTableOf};
 
-use dr_load::LoadFault;
+use dr_memory::NoMemory;
 use dr_outside::Link;
 use dr_plan::Plan;
 use dr_query::{Queried, Service, query_table};
@@ -23,8 +23,8 @@ use std::thread::Threads;
 /// What a plan's query prints of the records of a table, each copy of which is held as a file by links that hold the
 /// same and fail no more.
 ///
-/// Errors: want of memory alone. That a tablet is left, for which the body answers `KeepFault`, can't happen: the cause
-/// at a copy would be a failed read, or bytes that are no file.
+/// Errors: want of memory alone. No tablet is left: the cause at a copy would be a failed read, or bytes that are no
+/// file.
 pub(crate) fn answer_steady<R: Threads + Wait + Sync, L: Link + Send>(
     rt: &R,
     alloc: Global,
@@ -32,7 +32,7 @@ pub(crate) fn answer_steady<R: Threads + Wait + Sync, L: Link + Send>(
     table: &Table,
     plan: &Plan,
     service: &Service,
-) -> Result<String, LoadFault>
+) -> Result<String, NoMemory>
     requires planned { IsOfSchema (schema_view (table.now).schema) plan.now }
     requires workers { (0 < (service.now).workers) × ((service.now).workers ≤ length links.old) }
     requires fan { 1 ≤ (service.now).fan }
@@ -44,12 +44,10 @@ pub(crate) fn answer_steady<R: Threads + Wait + Sync, L: Link + Send>(
         → HoldsTableOf (table_view table.now) (Some files) R
         → IfOk result (λ t. (q : Query) → IsPlanOf (schema_view (table.now).schema) q plan.now → string_bytes t
         ≡ answer_text (schema_view (table.now).schema) q R) }
-    ensures memory { IfErr result (λ e. e ≡ LoadFault.NoMemory) }
 {
-    match query_table(rt, alloc, links, table, plan, service) {
-        Ok(Queried::Text(text)) => Ok(text),
-        Ok(Queried::Most(_, _)) => Err(LoadFault::KeepFault),
-        Ok(Queried::Left(_)) => Err(LoadFault::KeepFault),
-        Err(_) => Err(LoadFault::NoMemory),
+    match query_table(rt, alloc, links, table, plan, service)? {
+        Queried::Text(text) => Ok(text),
+        Queried::Most(_, _) => unreachable!(),
+        Queried::Left(_) => unreachable!(),
     }
 }

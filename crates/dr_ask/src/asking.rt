@@ -92,5 +92,6 @@ pub fn ask_input<R: Threads + Wait + Sync, S: Source>(
         tablets,
     };
     let mut links = lent(alloc, &shelf, service.workers)?;
-    answer_steady(rt, alloc, &mut links, &table, plan, service)
+    let text = answer_steady(rt, alloc, &mut links, &table, plan, service)?;
+    Ok(text)
 }

@@ -6,6 +6,7 @@
 mod desk;
 mod ground;
 mod handing;
+mod journal;
 mod locked;
 mod pass;
 mod room;
@@ -15,5 +16,6 @@ mod steps;
 pub use desk::Desk;
 pub use dr_board::{Board, Closing, Event, Hand, Job, Naming, NoMemory, Piece, Told};
 pub use ground::Ground;
+pub use journal::Journal;
 pub use pass::Pass;
 pub use room::Room;

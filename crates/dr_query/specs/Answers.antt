@@ -1,5 +1,5 @@
 -- What a query prints of a table's records, or which of its tablets are left.
-use Rattle.std.specs.Prelude.{◌≡◌, ℕ, List, string_bytes, ⊤}
+use Rattle.std.specs.Prelude.{◌≡◌, ◌<◌, ◌*◌, ◌-◌, ℕ, List, [], length, string_bytes}
 use Rattle.dr_meaning.specs.Record.{Node}
 use Rattle.dr_meaning.specs.Query.{Query}
 use Rattle.dr_meaning.specs.QueryLeaves.{query_leaves}
@@ -8,7 +8,9 @@ use Rattle.dr_formats.specs.TableFile.{Table}
 use Rattle.dr_outside.specs.Link.{LinkShown}
 use Rattle.dr_reading.specs.Scan.{joined, tablets_of}
 use Rattle.dr_reading.specs.Left.{LeftTablet}
-use Rattle.dr_serve.specs.Counted.{AreCounted, held_of}
+use Rattle.dr_serve.specs.Counted.{AreCounted, AreLeftOf, held_of}
+use Rattle.dr_serve.specs.Rounds.{Rounds}
+use Rattle.dr_serve.specs.Serving.{IsShare, first_shown}
 use Rattle.dr_tablets.specs.Views.{all_left_view}
 use Rattle.dr_query.specs.declared.queried.Queried.{Queried}
 
@@ -17,26 +19,36 @@ abbrev pub IsAnswerBut : Table → Query → List LinkShown → List LeftTablet 
 IsAnswerBut t q links left text = (Rs : List (List Node)) × AreCounted t.schema (query_leaves t.schema.fields q) (held_of links) 0 (tablets_of t) left Rs
     × (text ≡ answer_text t.schema q (joined Rs))
 
--- where a text of all tablets is answered, this holds of it
-abbrev pub WhereText : (List ℕ → Type 0) → Queried → Type 0
-WhereText P (Queried.Text s) = P (string_bytes s)
-WhereText P (Queried.Most s v) = ⊤
-WhereText P (Queried.Left v) = ⊤
+-- the tablets that are left
+abbrev pub left_in : Queried → List LeftTablet
+left_in (Queried.Text s) = []
+left_in (Queried.Most s v) = all_left_view v.items
+left_in (Queried.Left v) = all_left_view v.items
 
--- where a text of most tablets is answered, this holds of it and of those that are left
-abbrev pub WhereMost : (List ℕ → List LeftTablet → Type 0) → Queried → Type 0
-WhereMost P (Queried.Text s) = ⊤
-WhereMost P (Queried.Most s v) = P (string_bytes s) (all_left_view v.items)
-WhereMost P (Queried.Left v) = ⊤
+module _ (t : Table) (q : Query) (least : ℕ) (links : List LinkShown) (now : LinkShown) where
+  -- no tablet is left: a text of all
+  pub record AnswersAll (printed : List ℕ) : Type 0 where
+    pub text : IsAnswerBut t q links [] printed
 
--- where some tablets are left, this holds of them
-abbrev pub WhereSomeLeft : (List LeftTablet → Type 0) → Queried → Type 0
-WhereSomeLeft P (Queried.Text s) = ⊤
-WhereSomeLeft P (Queried.Most s v) = P (all_left_view v.items)
-WhereSomeLeft P (Queried.Left v) = P (all_left_view v.items)
+  -- these are left, and the others are the share that was asked for: a text of the others
+  pub record AnswersMost (printed : List ℕ) (those : List LeftTablet) : Type 0 where
+    pub most : IsAnswerBut t q links those printed
+    pub share : IsShare least (t.tablets - length those) t.tablets
+    pub left : AreLeftOf t.schema (query_leaves t.schema.fields q) (tablets_of t) links now.faults those
+    pub all : least ≡ 100 → ⊥
 
--- where nothing is answered, this holds of the tablets that are left
-abbrev pub WhereLeft : (List LeftTablet → Type 0) → Queried → Type 0
-WhereLeft P (Queried.Text s) = ⊤
-WhereLeft P (Queried.Most s v) = ⊤
-WhereLeft P (Queried.Left v) = P (all_left_view v.items)
+  -- these are left, and the others are less than that share
+  pub record LeavesSome (those : List LeftTablet) : Type 0 where
+    pub short : 100 * (t.tablets - length those) < least * t.tablets
+    pub left : AreLeftOf t.schema (query_leaves t.schema.fields q) (tablets_of t) links now.faults those
+
+  abbrev pub EndsAs : Queried → Type 0
+  EndsAs (Queried.Text s) = AnswersAll (string_bytes s)
+  EndsAs (Queried.Most s v) = AnswersMost (string_bytes s) (all_left_view v.items)
+  EndsAs (Queried.Left v) = LeavesSome (all_left_view v.items)
+
+  -- a query is answered over the table by these links, the first of which shows this now
+  pub record AnsweredAs (x : Queried) : Type 0 where
+    pub ends : EndsAs x
+    -- after the workers the first link read the tablets without a piece, and so its count of faults rose to what it is now
+    pub round : Rounds t (query_leaves t.schema.fields q) (first_shown links) now (left_in x)

@@ -3,37 +3,32 @@ use Rattle.std.proofs.Common.{◌≡◌, ◌≤◌, ◌<◌, ℕ, zero, suc, ◌
 use Rattle.std.specs.Prelude.{IsTrue, Result, Ok, Err, OnOk}
 use Rattle.std.proofs.lemmas.List.{drop_more, length-map, map-append}
 use Rattle.dr_formats.specs.TableFile.{Table}
-use Rattle.dr_outside.specs.Link.{Files, LinkShown, Holds}
+use Rattle.dr_outside.specs.Link.{LinkShown}
 use Rattle.dr_outside.specs.declared.cause.Cause.{Cause}
 use Rattle.dr_memory.specs.declared.NoMemory.{NoMemory}
 use Rattle.dr_group.specs.Partials.{partial_view}
 use Rattle.dr_group.specs.declared.partial.Partial.{Partial}
-use Rattle.dr_meaning.specs.Schema.{Schema}
-use Rattle.dr_meaning.specs.Path.{Leaf}
 use Rattle.dr_partials.specs.Trees.{Tree}
 use Rattle.dr_plan.specs.Planned.{plan_leaves}
 use Rattle.dr_plan.specs.declared.plan.Plan.{Plan}
-use Rattle.dr_reading.specs.Causes.{IsJustified, RisesApart}
-use Rattle.dr_reading.specs.Held.{held_at}
-use Rattle.dr_reading.specs.Left.{LeftTablet, Tried, AreTried, causes_of, causes_met}
-use Rattle.dr_reading.specs.Scan.{Copy, copies_from}
+use Rattle.dr_reading.specs.Causes.{RisesApart}
+use Rattle.dr_reading.specs.Left.{LeftTablet, causes_of, causes_met}
+use Rattle.dr_reading.specs.Scan.{copies_from}
 use Rattle.dr_tablets.specs.Views.{all_tried_view}
 use Rattle.dr_scan.specs.Tables.{with_scanned}
 use Rattle.dr_scan.specs.declared.tablet.Scanned.{Scanned}
 use Rattle.dr_tree.specs.Grows.{Growth, CanAdd, Grows, with_added}
 use Rattle.dr_tree.specs.declared.growing.Growing.{Growing}
 use Rattle.dr_serve.specs.declared.found.Found.{Found}
-use Rattle.dr_serve.specs.Closing.{OfEachFrom, IsTruePlace, AreAddable, HasFound, IsOutcomeOf, KeepsPlace, KeepsPlaces, CanKeep, HasKept, HasClosed, IsNext, Closes, causes_at, left_from, has_some, place_of, growth_by, piece_of, pieces_of}
+use Rattle.dr_serve.specs.Rounds.{OfEachFrom, HasRead}
+use Rattle.dr_serve.specs.Closing.{IsTruePlace, AreAddable, HasFound, IsOutcomeOf, KeepsPlace, KeepsPlaces, CanKeep, HasKept, HasClosed, IsNext, IsReadAs, Closes, causes_at, left_from, has_some, place_of, growth_by, piece_of, pieces_of}
 use Rattle.dr_serve.specs.Links.{Worked}
 use Rattle.dr_serve.proofs.FoundLemmas.{can_add, found_more}
 use Rattle.dr_serve.proofs.LinkLemmas.{worked_none, worked_more}
 use Rattle.dr_serve.proofs.PlaceLemmas.{set_behind}
+use Rattle.dr_serve.proofs.RoundLemmas.{each_more, length_one, rises_join, tried_before, none_read, read_skipped, read_more}
 
 -- ---- one more behind others
-
-each_more : {A : Type 0} (P : ℕ → A → Type 0) (t m : ℕ) (xs : List A) (x : A) → OfEachFrom P t xs → t + length xs ≡ m → P m x → OfEachFrom P t (xs ++ x ∷ [])
-each_more P t m [] x h e p = (subst (λ (n : ℕ). P n x) (let q : m ≡ t = omega (arith, e) in q) p, tt)
-each_more P t m (y ∷ xs) x h e p = (h.0, each_more P (suc t) m xs x h.1 (omega (arith, e)) p)
 
 keeps_more : (os : List (Option Partial)) (xs : List Scanned) (o : Option Partial) (x : Scanned) → KeepsPlaces os xs → KeepsPlace o x → KeepsPlaces (os ++ o ∷ []) (xs ++ x ∷ [])
 keeps_more [] [] o x h k = (k, tt)
@@ -54,23 +49,7 @@ lefts_more t m (Scanned.Given p ∷ xs) x e = lefts_more (suc t) m xs x (omega (
 lefts_more t m (Scanned.Left tried ∷ xs) (Scanned.Given p) e = ap (λ ls. record { tablet = t; tried = all_tried_view tried.items } ∷ ls) (lefts_more (suc t) m xs (Scanned.Given p) (omega (arith, e)))
 lefts_more t m (Scanned.Left tried ∷ xs) (Scanned.Left more) e = ap (λ ls. record { tablet = t; tried = all_tried_view tried.items } ∷ ls) (lefts_more (suc t) m xs (Scanned.Left more) (omega (arith, e)))
 
--- ---- rises
-
-pub rises_lower : (a b end : ℕ) (cs : List Cause) → a ≤ b → RisesApart b cs end → RisesApart a cs end
-rises_lower a b end [] l h = omega (arith, l, h)
-rises_lower a b end (Cause.ReadFailed before after ∷ cs) l h = (omega (arith, l, h.0), h.1, h.2)
-rises_lower a b end (Cause.BadFooter ∷ cs) l h = rises_lower a b end cs l h
-rises_lower a b end (Cause.BadSchema ∷ cs) l h = rises_lower a b end cs l h
-rises_lower a b end (Cause.BadCodec ∷ cs) l h = rises_lower a b end cs l h
-rises_lower a b end (Cause.BadData ∷ cs) l h = rises_lower a b end cs l h
-
-rises_join : (a b end : ℕ) (cs ds : List Cause) → RisesApart a cs b → RisesApart b ds end → RisesApart a (cs ++ ds) end
-rises_join a b end [] ds h k = rises_lower a b end ds h k
-rises_join a b end (Cause.ReadFailed before after ∷ cs) ds h k = (h.0, h.1, rises_join after b end cs ds h.2 k)
-rises_join a b end (Cause.BadFooter ∷ cs) ds h k = rises_join a b end cs ds h k
-rises_join a b end (Cause.BadSchema ∷ cs) ds h k = rises_join a b end cs ds h k
-rises_join a b end (Cause.BadCodec ∷ cs) ds h k = rises_join a b end cs ds h k
-rises_join a b end (Cause.BadData ∷ cs) ds h k = rises_join a b end cs ds h k
+-- ---- causes
 
 causes_more : (m : ℕ) (x : Scanned) (left : List LeftTablet) → causes_met (with_scanned m x left) ≡ causes_met left ++ causes_at x
 causes_more m (Scanned.Given p) left = sym (append-nil (causes_met left))
@@ -82,26 +61,12 @@ causes_more m (Scanned.Left tried) left = of_left left (record { tablet = m; tri
 
 -- ---- a link as it was before
 
-tried_before : (s : Schema) (F : List Leaf) (l now : LinkShown) (cs : List Copy) (ts : List Tried) → now.held ≡ l.held → (IsTrue l.is_steady → IsTrue now.is_steady) → AreTried s F now cs ts → AreTried s F l cs ts
-tried_before s F l now [] [] e w h = tt
-tried_before s F l now [] (t ∷ ts) e w h = absurd h
-tried_before s F l now (c ∷ cs) [] e w h = absurd h
-tried_before s F l now (c ∷ cs) (t ∷ ts) e w h = (
-  h.0,
-  (subst (λ (x : Option Files). IsJustified s F (held_at x c.path) t.cause) e h.1.0, λ is holds. h.1.1 (w is) (subst (λ (x : Option Files). Holds x c.path) (sym e) holds)),
-  tried_before s F l now cs ts e w h.2,
-)
-
 pub outcome_before : (t : Table) (plan : Plan) (is_true : ℕ → Found → Type 0) (l now : LinkShown) (tablet : ℕ) (x : Scanned) → now.held ≡ l.held → (IsTrue l.is_steady → IsTrue now.is_steady)
     → IsOutcomeOf t plan is_true now tablet x → IsOutcomeOf t plan is_true l tablet x
 outcome_before t plan is_true l now tablet (Scanned.Given p) e w h = h
 outcome_before t plan is_true l now tablet (Scanned.Left tried) e w h = tried_before t.schema (plan_leaves plan) l now (copies_from t.leaves tablet 0 t.copies) (all_tried_view tried.items) e w h
 
 -- ---- a tablet more
-
-length_one : {A : Type 0} (xs : List A) (x : A) → length (xs ++ x ∷ []) ≡ length xs + 1
-length_one [] x = refl
-length_one (y ∷ xs) x = let e = length_one xs x in omega (arith, e)
 
 -- what holds of each holds of one
 each_at : {A : Type 0} (P : ℕ → A → Type 0) (t m : ℕ) (xs : List A) (x : A) (ys : List A) → OfEachFrom P t (xs ++ x ∷ ys) → t + length xs ≡ m → P m x
@@ -136,6 +101,7 @@ module _ (t : Table) (plan : Plan) (tree : Tree) (is_true : ℕ → Found → Ty
     keeps = tt;
     left_are = f;
     rises = subst (λ (ls : List LeftTablet). RisesApart l.faults (causes_met ls) l.faults) (sym f) (omega arith);
+    read = none_read t (plan_leaves plan) l left f;
     worked = worked_none t plan l;
     found = h;
   }
@@ -143,8 +109,8 @@ module _ (t : Table) (plan : Plan) (tree : Tree) (is_true : ℕ → Found → Ty
   module _ (l was now : LinkShown) (all rest : List (Option Partial)) (m : ℕ) (grown new : Growing) (left longer : List LeftTablet) (o : Option Partial) (h : HasClosed t plan tree is_true l was all (o ∷ rest) m grown left) where
     -- by an outcome of the next
     one_closed : (x : Scanned) → Worked t plan was now → IsOutcomeOf t plan is_true was m x → KeepsPlace o x → RisesApart was.faults (causes_at x) now.faults → longer ≡ with_scanned m x left
-        → HasFound t plan tree is_true (pieces_of h.outcomes ++ piece_of x ∷ rest) new → HasClosed t plan tree is_true l now all rest (m + 1) new longer
-    one_closed x w is keeps rises g found = record {
+        → HasRead t (plan_leaves plan) l now (m + 1) longer → HasFound t plan tree is_true (pieces_of h.outcomes ++ piece_of x ∷ rest) new → HasClosed t plan tree is_true l now all rest (m + 1) new longer
+    one_closed x w is keeps rises g read found = record {
       outcomes = h.outcomes ++ x ∷ [];
       done = h.done ++ o ∷ [];
       split = h.split ∙ sym (append_assoc h.done (o ∷ []) rest);
@@ -154,6 +120,7 @@ module _ (t : Table) (plan : Plan) (tree : Tree) (is_true : ℕ → Found → Ty
       left_are = g ∙ (ap (with_scanned m x) h.left_are ∙ sym (lefts_more 0 m h.outcomes x (omega (arith, h.count))));
       rises = subst (λ (cs : List Cause). RisesApart l.faults cs now.faults) (sym (ap causes_met g ∙ causes_more m x left))
           (rises_join l.faults was.faults now.faults (causes_met left) (causes_at x) h.rises rises);
+      read = read;
       worked = worked_more t plan l was now h.worked w;
       found = subst (λ (os : List (Option Partial)). HasFound t plan tree is_true os new) (sym (pieces_more h.outcomes x rest)) found;
     }
@@ -184,9 +151,10 @@ module _ (t : Table) (plan : Plan) (tree : Tree) (is_true : ℕ → Found → Ty
           subst (HasFound t plan tree is_true (pieces_of h.outcomes ++ None ∷ rest)) (sym kept)
           (subst (λ (x : Option Partial). HasFound t plan tree is_true (pieces_of h.outcomes ++ x ∷ rest) grown) (no_piece o none) h.found)
 
-      pub scanned_closed : (x : Scanned) → Worked t plan was now → IsOutcomeOf t plan is_true was m x → RisesApart was.faults (causes_at x) now.faults → longer ≡ with_scanned m x left → HasKept m x grown new
+      pub scanned_closed : (x : Scanned) → Worked t plan was now → IsOutcomeOf t plan is_true was m x → RisesApart was.faults (causes_at x) now.faults → IsReadAs t plan was now m x → longer ≡ with_scanned m x left → HasKept m x grown new
           → HasClosed t plan tree is_true l now all rest (m + 1) new longer
-      scanned_closed x w is rises g kept = one_closed x w is (subst (λ (p : Option Partial). KeepsPlace p x) (sym (no_piece o none)) tt) rises g (found_now x is kept)
+      scanned_closed x w is rises read g kept =
+          one_closed x w is (subst (λ (p : Option Partial). KeepsPlace p x) (sym (no_piece o none)) tt) rises g (read_more t plan l was now m x left longer h.worked h.read read g) (found_now x is kept)
 
   -- it has its piece
   pub answered_closed : (l was : LinkShown) (all rest : List (Option Partial)) (m : ℕ) (grown : Growing) (left : List LeftTablet) (o : Option Partial) → HasClosed t plan tree is_true l was all (o ∷ rest) m grown left → has_some o ≡ true
@@ -194,7 +162,7 @@ module _ (t : Table) (plan : Plan) (tree : Tree) (is_true : ℕ → Found → Ty
   answered_closed l was all rest m grown left None h e = absurd (true≢false (sym e))
   answered_closed l was all rest m grown left (Some p) h e =
       one_closed l was was all rest m grown grown left left (Some p) h (Scanned.Given p) (worked_none t plan was)
-      (each_at (IsTruePlace is_true) 0 m (pieces_of h.outcomes) (Some p) rest h.found.truths (omega (arith, many l was was all rest m grown grown left left (Some p) h))) refl (omega arith) refl h.found
+      (each_at (IsTruePlace is_true) 0 m (pieces_of h.outcomes) (Some p) rest h.found.truths (omega (arith, many l was was all rest m grown grown left left (Some p) h))) refl (omega arith) refl (read_skipped t (plan_leaves plan) l was m left h.read) h.found
 
   -- all tablets
   pub all_closed : (l now : LinkShown) (all rest : List (Option Partial)) (m : ℕ) (grown : Growing) (left : List LeftTablet) → HasClosed t plan tree is_true l now all rest m grown left

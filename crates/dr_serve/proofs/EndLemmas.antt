@@ -1,8 +1,9 @@
 -- The events of one's own, turn by turn.
-use Rattle.std.proofs.Common.{◌≡◌, inl, inr, ℕ, zero, suc, List, [], ◌∷◌, ◌++◌, length, Bool, true, false, ◌||◌, Some, refl, sym, ap, ◌∙◌, subst, append-nil, append_assoc, true≢false}
-use Rattle.std.specs.Prelude.{◌==◌}
+use Rattle.std.proofs.Common.{◌≡◌, ◌≤◌, inl, inr, ℕ, zero, suc, List, [], ◌∷◌, ◌++◌, length, Bool, true, false, ◌||◌, Option, Some, refl, sym, ap, ap₂, ◌∙◌, subst, append-nil, append_assoc, true≢false, eq-eqb, arith}
+use Rattle.std.specs.Prelude.{◌==◌, Result, Ok, Err, OnErr}
 use Rattle.std.specs.List.{slice_get, list_any}
 use Rattle.std.proofs.lemmas.Bool.{eqb-true}
+use Rattle.std.proofs.Math.Bool.{or-true}
 use Rattle.std.proofs.lemmas.List.Folds.{list_any-append}
 use mathlib.Core.List.{IsPrefix}
 use Rattle.dr_dispatch.specs.Job.{Job}
@@ -15,7 +16,9 @@ use Rattle.dr_dispatch.specs.declared.seen.PassShown.{PassShown}
 use Rattle.dr_dispatch.proofs.Prefixes.{prefix_trans}
 use Rattle.dr_outside.specs.declared.cause.Cause.{Cause}
 use Rattle.dr_desk.specs.Calls.{Takes}
-use Rattle.dr_serve.specs.Ends.{HasEnd, IsEnded, EndsAll, IsEnd, TellsEnd}
+use Rattle.dr_reading.specs.Causes.{RisesApart}
+use Rattle.dr_serve.specs.Ends.{HasEnd, IsEnded, EndsAll, EndsAllButLast, IsEnd, TellsEnd, cause_of, causes_at}
+use Rattle.dr_serve.proofs.RoundLemmas.{rises_join, rises_higher}
 
 -- ---- places in longer histories
 
@@ -37,7 +40,7 @@ front_true : (a b : Bool) → a ≡ true → (a || b) ≡ true
 front_true true b h = refl
 front_true false b h = absurd (true≢false (sym h))
 
-any_longer : (test : Event → Bool) (xs ys : List Event) → IsPrefix xs ys → list_any test xs ≡ true → list_any test ys ≡ true
+pub any_longer : (test : Event → Bool) (xs ys : List Event) → IsPrefix xs ys → list_any test xs ≡ true → list_any test ys ≡ true
 any_longer test xs ys p h =
     subst (λ (es : List Event). list_any test es ≡ true) p.1 (list_any-append test xs p.0 ∙ front_true (list_any test xs) (list_any test p.0) h)
 
@@ -48,6 +51,10 @@ or_weaker false b false d f g h = g h
 
 end_longer : (xs ys : List Event) (h : Hand) → IsPrefix xs ys → HasEnd xs h → HasEnd ys h
 end_longer xs ys h p e = or_weaker (has_fault xs h) (has_answer xs h.tablet) (has_fault ys h) (has_answer ys h.tablet) (any_longer (faults h) xs ys p) (any_longer (answers h.tablet) xs ys p) e
+
+causes_push : (seen : List Event) (mine : List ℕ) (n : ℕ) → causes_at seen (mine ++ n ∷ []) ≡ causes_at seen mine ++ cause_of (slice_get seen n)
+causes_push seen [] n = append-nil (cause_of (slice_get seen n))
+causes_push seen (m ∷ mine) n = ap (λ (cs : List Cause). cause_of (slice_get seen m) ++ cs) (causes_push seen mine n) ∙ sym (append_assoc (cause_of (slice_get seen m)) (causes_at seen mine) (cause_of (slice_get seen n)))
 
 module _ (why : Hand → Cause → Type 0) where
   ended_longer : (xs ys : List Event) (e : Event) → IsPrefix xs ys → IsEnded why xs e → IsEnded why ys e
@@ -71,23 +78,58 @@ module _ (why : Hand → Cause → Type 0) where
       by_place false true i j k = (e, subst (λ (m : ℕ). slice_get seen m ≡ Some e) (eqb-true n place j) there, ended)
       by_place false false i j k = absurd (true≢false (sym k ∙ (ap (λ (x : Bool). x || ((n == place) || false)) i ∙ ap (λ (x : Bool). false || (x || false)) j)))
 
+  -- ---- the causes at these places
+
+  causes_longer : (xs ys : List Event) (mine : List ℕ) → IsPrefix xs ys → AreEnded xs mine → causes_at ys mine ≡ causes_at xs mine
+  causes_longer xs ys [] p all = refl
+  causes_longer xs ys (n ∷ mine) p all =
+      let here = all n (ap (λ (b : Bool). b || has_place n mine) (eq-eqb n n refl)) in
+      ap₂ (λ (cs ds : List Cause). cs ++ ds) (ap cause_of (get_longer xs ys n here.0 p here.1 ∙ sym here.1))
+      (causes_longer xs ys mine p (λ place h. all place (ap (λ (b : Bool). (n == place) || b) h ∙ or-true (n == place))))
+
   -- ---- a pass
 
-  pub ends_none : (pass : PassShown) → EndsAll why pass pass
-  ends_none pass = record { mine = []; own = sym (append-nil pass.own); ended = λ place h. absurd (true≢false (sym h)) }
+  pub ends_none : (pass : PassShown) (n : ℕ) → EndsAll why n n pass pass
+  ends_none pass n = record { mine = []; own = sym (append-nil pass.own); ended = λ place h. absurd (true≢false (sym h)); rises = omega arith }
 
-  pub ends_longer : (a b c : PassShown) → EndsAll why a b → IsPrefix b.seen c.seen → c.own ≡ b.own → EndsAll why a c
-  ends_longer a b c all p same = record { mine = all.mine; own = same ∙ all.own; ended = are_longer b.seen c.seen all.mine p all.ended }
+  pub ends_longer : (first last : ℕ) (a b c : PassShown) → EndsAll why first last a b → IsPrefix b.seen c.seen → c.own ≡ b.own → EndsAll why first last a c
+  ends_longer first last a b c all p same = record {
+    mine = all.mine;
+    own = same ∙ all.own;
+    ended = are_longer b.seen c.seen all.mine p all.ended;
+    rises = subst (λ (cs : List Cause). RisesApart first cs last) (sym (causes_longer b.seen c.seen all.mine p all.ended)) all.rises;
+  }
 
-  -- of an event that was told
-  end_is_ended : (seen : List Event) (e : Event) → IsEnd why e → IsEnded why seen e
-  end_is_ended seen (Give h) k = absurd k
-  end_is_ended seen (Answer h) k = tt
-  end_is_ended seen (Fault h cause) k = k
+  pub ends_higher : (first mid last : ℕ) (a b : PassShown) → mid ≤ last → EndsAll why first mid a b → EndsAll why first last a b
+  ends_higher first mid last a b le all = record { mine = all.mine; own = all.own; ended = all.ended; rises = rises_higher first mid last (causes_at b.seen all.mine) le all.rises }
+
+  -- a hand was taken, and nothing is told of it
+  pub ends_but_last : (j : Job) (first mid last : ℕ) (h : Hand) (a b c d : PassShown) → mid ≤ last → EndsAll why first mid a b → Takes j h b c → d ≡ c → EndsAllButLast why j first last a d
+  ends_but_last j first mid last h a b c d le all takes same = record {
+    turns = b;
+    ended = ends_higher first mid last a b le all;
+    hand = h;
+    taken = subst (Takes j h b) (sym same) takes;
+  }
+
+  -- an event that was told, whose cause rose between the two counts
+  abbrev pub IsRisen : ℕ → ℕ → Hand → Cause → Type 0
+  IsRisen mid last h cause = why h cause × RisesApart mid (cause ∷ []) last
+
+  end_is_ended : (mid last : ℕ) (seen : List Event) (e : Event) → IsEnd (IsRisen mid last) e → IsEnded why seen e
+  end_is_ended mid last seen (Give h) k = absurd k
+  end_is_ended mid last seen (Answer h) k = tt
+  end_is_ended mid last seen (Fault h cause) k = k.0
+
+  end_rises : (mid last : ℕ) (e : Event) → mid ≤ last → IsEnd (IsRisen mid last) e → RisesApart mid (cause_of (Some e)) last
+  end_rises mid last (Give h) le k = absurd k
+  end_rises mid last (Answer h) le k = le
+  end_rises mid last (Fault h cause) le k = k.1
 
   -- a turn: a hand was taken, and it has an end
-  pub ends_turn : (j : Job) (h : Hand) (a b c d : PassShown) → EndsAll why a b → Takes j h b c → IsPrefix c.seen d.seen → HasEnd d.seen h → TellsEnd why c d → EndsAll why a d
-  ends_turn j h a b c d all takes longer end told = by_told told
+  pub ends_turn : (j : Job) (first mid last : ℕ) (h : Hand) (a b c d : PassShown) → mid ≤ last → EndsAll why first mid a b → Takes j h b c → IsPrefix c.seen d.seen → HasEnd d.seen h → TellsEnd (IsRisen mid last) c d
+      → EndsAll why first last a d
+  ends_turn j first mid last h a b c d le all takes longer end told = by_told told
     where
       seen : c.seen ≡ takes.history ++ Give h ∷ []
       seen = ap (λ (x : PassShown). x.seen) takes.added
@@ -104,14 +146,31 @@ module _ (why : Hand → Cause → Type 0) where
       with_give : AreEnded d.seen (all.mine ++ length takes.history ∷ [])
       with_give = one_more d.seen all.mine (length takes.history) (Give h) (are_longer b.seen d.seen all.mine before all.ended) given end
 
-      by_told : TellsEnd why c d → EndsAll why a d
-      by_told (inl same) = record { mine = all.mine ++ length takes.history ∷ []; own = same ∙ own; ended = with_give }
+      causes : causes_at d.seen (all.mine ++ length takes.history ∷ []) ≡ causes_at b.seen all.mine
+      causes =
+          causes_push d.seen all.mine (length takes.history)
+          ∙ (ap₂ (λ (cs ds : List Cause). cs ++ ds) (causes_longer b.seen d.seen all.mine before all.ended) (ap cause_of given) ∙ append-nil (causes_at b.seen all.mine))
+
+      rises : RisesApart first (causes_at d.seen (all.mine ++ length takes.history ∷ [])) mid
+      rises = subst (λ (cs : List Cause). RisesApart first cs mid) (sym causes) all.rises
+
+      by_told : TellsEnd (IsRisen mid last) c d → EndsAll why first last a d
+      by_told (inl same) = record {
+        mine = all.mine ++ length takes.history ∷ [];
+        own = same ∙ own;
+        ended = with_give;
+        rises = rises_higher first mid last (causes_at d.seen (all.mine ++ length takes.history ∷ [])) le rises;
+      }
       by_told (inr t) =
-          let behind : slice_get d.seen (length t.0) ≡ Some t.1 = subst (λ (es : List Event). slice_get es (length t.0) ≡ Some t.1) (sym (ap (λ (x : PassShown). x.seen) t.2)) (get_last t.0 t.1) in record {
+          let behind : slice_get d.seen (length t.0) ≡ Some t.1 = subst (λ (es : List Event). slice_get es (length t.0) ≡ Some t.1) (sym (ap (λ (x : PassShown). x.seen) t.2)) (get_last t.0 t.1) in
+          let told_causes : causes_at d.seen ((all.mine ++ length takes.history ∷ []) ++ length t.0 ∷ []) ≡ causes_at d.seen (all.mine ++ length takes.history ∷ []) ++ cause_of (Some t.1)
+          = causes_push d.seen (all.mine ++ length takes.history ∷ []) (length t.0) ∙ ap (λ (o : Option Event). causes_at d.seen (all.mine ++ length takes.history ∷ []) ++ cause_of o) behind in record {
             mine = (all.mine ++ length takes.history ∷ []) ++ length t.0 ∷ [];
             own = ap (λ (x : PassShown). x.own) t.2
                 ∙ (ap (λ (o : List ℕ). o ++ length t.0 ∷ []) own ∙ append_assoc a.own (all.mine ++ length takes.history ∷ []) (length t.0 ∷ []));
-            ended = one_more d.seen (all.mine ++ length takes.history ∷ []) (length t.0) t.1 with_give behind (end_is_ended d.seen t.1 t.3);
+            ended = one_more d.seen (all.mine ++ length takes.history ∷ []) (length t.0) t.1 with_give behind (end_is_ended mid last d.seen t.1 t.3);
+            rises = subst (λ (cs : List Cause). RisesApart first cs last) (sym told_causes)
+                (rises_join first mid last (causes_at d.seen (all.mine ++ length takes.history ∷ [])) (cause_of (Some t.1)) rises (end_rises mid last t.1 le t.3));
           }
 
 -- ---- with another justification
@@ -124,3 +183,9 @@ tells_weaker why known b a f (inr t) = inr (t.0, t.1, t.2, end_weaker t.1 t.3)
     end_weaker (Give h) k = k
     end_weaker (Answer h) k = tt
     end_weaker (Fault h cause) k = f h cause k
+
+-- ---- at an error
+
+pub on_err : {A E P : Type 0} (r : Result A E) → P → OnErr r P
+on_err (Ok x) h = tt
+on_err (Err e) h = h

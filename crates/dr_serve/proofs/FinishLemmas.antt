@@ -29,7 +29,8 @@ use Rattle.dr_scan.proofs.ScanLemmas.{leaves_are}
 use Rattle.dr_tree.specs.Places.{pieces_at}
 use Rattle.dr_serve.specs.Serving.{serving_by, first_shown, TrueUnlessLeft, no_more, is_counted, is_not_counted, IsFinishedBut}
 use Rattle.dr_serve.specs.Working.{IsPiece, IsPieceFound}
-use Rattle.dr_serve.specs.Closing.{OfEachFrom, IsOutcomeOf, left_from, pieces_of, places_from}
+use Rattle.dr_serve.specs.Rounds.{OfEachFrom}
+use Rattle.dr_serve.specs.Closing.{IsOutcomeOf, left_from, pieces_of, places_from}
 use Rattle.dr_serve.specs.Counted.{held_of}
 use Rattle.dr_serve.proofs.LeafLemmas.{copies_of}
 

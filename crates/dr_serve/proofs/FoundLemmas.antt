@@ -22,7 +22,8 @@ use Rattle.dr_tree.specs.Together.{CanBeTogether}
 use Rattle.dr_tree.specs.declared.growing.Growing.{Growing}
 use Rattle.dr_serve.specs.declared.found.Found.{Found}
 use Rattle.dr_serve.specs.Working.{found, IsPieceFound}
-use Rattle.dr_serve.specs.Closing.{OfEachFrom, IsTruePlace, AreAddable, HasAnswered, HasFound, has_some, place_of, places_from, growth_by}
+use Rattle.dr_serve.specs.Rounds.{OfEachFrom}
+use Rattle.dr_serve.specs.Closing.{IsTruePlace, AreAddable, HasAnswered, HasFound, has_some, place_of, places_from, growth_by}
 use Rattle.dr_serve.specs.GrowsOn.{GrowsOn}
 use Rattle.dr_serve.proofs.PlaceLemmas.{each_set, set_length, none_true, replicate_length, free_range, fill_place, place_is_free, no_piece_at, no_pieces, set_has_piece}
 

@@ -4,10 +4,12 @@ pub mod CrossingLemmas
 pub mod EndLemmas
 pub mod FinishLemmas
 pub mod FoundLemmas
+pub mod JournalLemmas
 pub mod LeafLemmas
 pub mod LinkLemmas
 pub mod OutcomeLemmas
 pub mod PlaceLemmas
+pub mod RoundLemmas
 pub mod ServingLemmas
 pub mod TruthLemmas
 pub mod TurnLemmas

@@ -38,7 +38,7 @@ use Rattle.dr_scan.proofs.TabletLemmas.{of_given}
 use Rattle.dr_scan.proofs.TruthLemmas.{true_of_more_copies}
 use Rattle.dr_serve.specs.declared.found.Found.{Found}
 use Rattle.dr_serve.specs.Working.{truth_by, TakesFrom}
-use Rattle.dr_serve.specs.Closing.{IsOutcomeOf, causes_at}
+use Rattle.dr_serve.specs.Closing.{IsOutcomeOf, IsOfRead, IsReadAs, causes_at}
 use Rattle.dr_serve.proofs.LeafLemmas.{IsOneOf, one_of_first, one_of_later, copies_of, copy_among, link_among}
 
 -- ---- a partial is true
@@ -146,3 +146,20 @@ module _ (t : Table) (plan : Plan) (is_true : ℕ → Found → Type 0) (link no
       → IfOk r (λ x. RisesApart link.faults (causes_at x) now.faults)
   scan_rises (Ok x) planned up scanned = scanned_rises x planned up scanned
   scan_rises (Err e) planned up scanned = tt
+
+  pub scanned_read : (x : Scanned) → IsOfSchema t.schema plan → ForQuery t.schema plan (λ q. IsScannedAs t.schema q link now copies_there x) → IsReadAs t plan link now tablet x
+  scanned_read x planned scanned =
+      let q : Query = planned.1 in
+      let w : IsPlanOf t.schema q plan = (planned.0, planned.2, planned.3) in
+      let h = scanned q w in
+      (h.0, subst (λ (F : List Leaf). IsTabletRead t.schema F link copies_there h.0) (sym (leaves_are t.schema q plan w)) h.1, h.2, by q h.0 x h.3)
+    where
+      by : (q : Query) (r : TabletRead) (x : Scanned) → IsOfScan t.schema q r x → IsOfRead r x
+      by q (read_given ts R) (Scanned.Given p) o = tt
+      by q (read_given ts R) (Scanned.Left tried) o = o
+      by q (read_left ts) (Scanned.Given p) o = o
+      by q (read_left ts) (Scanned.Left tried) o = o
+
+  pub scan_read : {E : Type 0} (r : Result Scanned E) → IsOfSchema t.schema plan → ForQuery t.schema plan (λ q. IfOk r (IsScannedAs t.schema q link now copies_there)) → IfOk r (IsReadAs t plan link now tablet)
+  scan_read (Ok x) planned scanned = scanned_read x planned scanned
+  scan_read (Err e) planned scanned = tt

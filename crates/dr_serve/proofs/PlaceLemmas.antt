@@ -9,7 +9,8 @@ use Rattle.dr_partials.specs.Partials as meant
 use Rattle.dr_tree.specs.Places.{free_places, is_free, is_free_for, has_free, filled, fill}
 use Rattle.dr_tree.proofs.PlaceLemmas.{fill_here, fill_there}
 use Rattle.dr_serve.specs.declared.found.Found.{Found}
-use Rattle.dr_serve.specs.Closing.{OfEachFrom, IsTruePlace, has_some, place_of, places_from}
+use Rattle.dr_serve.specs.Rounds.{OfEachFrom}
+use Rattle.dr_serve.specs.Closing.{IsTruePlace, has_some, place_of, places_from}
 
 -- ---- one is set
 

@@ -1,41 +1,53 @@
 -- Serving: what holds before the workers start, and what came of all tablets after them and the closing round.
-use Rattle.std.proofs.Common.{◌≡◌, ◌<◌, ◌≤◌, ◌-◌, ◌*◌, ◌^◌, ℕ, zero, suc, List, [], ◌∷◌, ◌++◌, map, length, take, drop, Option, Result, Ok, Err, IfOk, refl, sym, ap, ◌∙◌, subst, arith}
+use Rattle.std.proofs.Common.{◌≡◌, ◌<◌, ◌≤◌, ◌-◌, ◌*◌, ◌^◌, ◌+◌, ℕ, zero, suc, List, [], ◌∷◌, ◌++◌, map, length, take, drop, Bool, true, false, true≢false, Option, Some, None, Result, Ok, Err, IfOk, Vec, length-append, length-drop, refl, sym, ap, ◌∙◌, subst, arith}
 use Rattle.std.specs.Prelude.{slice_index_or, slice_set}
 use Rattle.std.specs.List.{range_with_len}
+use Rattle.std.specs.declared.alloc.Global.{Global}
 use Rattle.std.proofs.lemmas.List.{length-map}
+use Rattle.dr_meaning.specs.Path.{Leaf}
 use Rattle.dr_meaning.specs.Query.{Query}
 use Rattle.dr_meaning.specs.QueryLeaves.{query_leaves}
 use Rattle.dr_formats.specs.TableFile.{Table}
 use Rattle.dr_outside.specs.Link.{Files, LinkShown}
 use Rattle.dr_dispatch.specs.Job.{Job}
+use Rattle.dr_dispatch.specs.History.{has_answer, is_history}
+use Rattle.dr_dispatch.specs.declared.event.Event.{Event}
 use Rattle.dr_group.specs.Partials.{partial_view, IsPartialOf}
 use Rattle.dr_group.specs.declared.partial.Partial.{Partial}
 use Rattle.dr_partials.specs.Partials as meant
 use Rattle.dr_partials.specs.Trees.{Tree, tablets_of as tablets_in, gathered}
 use Rattle.dr_plan.specs.PlanOf.{IsPlanOf}
-use Rattle.dr_plan.specs.Planned.{IsOfSchema, plan_view}
+use Rattle.dr_plan.specs.Planned.{IsOfSchema, plan_leaves, plan_view}
 use Rattle.dr_plan.specs.declared.plan.Plan.{Plan}
 use Rattle.dr_reading.specs.Causes.{RisesApart}
 use Rattle.dr_reading.specs.Left.{LeftTablet, causes_met}
 use Rattle.dr_reading.specs.Scan.{tablets_of}
+use Rattle.dr_tablets.specs.Asked.{is_at_tablets, is_for_tablets}
 use Rattle.dr_tablets.specs.Views.{left_view, all_left_view}
+use Rattle.dr_tablets.proofs.AskedTablets.{held_nothing}
 use Rattle.dr_tablets.specs.declared.left.LeftTablet as code
-use Rattle.dr_serving.specs.Outcome.{IsFinished, IsUnfinished}
+use Rattle.dr_tablets.specs.declared.left.Tried as code_tried
+use Rattle.dr_serving.specs.Outcome.{Serving, IsUnfinished}
 use Rattle.dr_scan.specs.declared.tablet.Scanned.{Scanned}
+use Rattle.dr_scan.proofs.ScanLemmas.{leaves_are}
 use Rattle.dr_tree.specs.Grows.{Growth, Grows}
 use Rattle.dr_tree.specs.declared.growing.Growing.{Growing}
 use Rattle.dr_serve.specs.declared.found.Found.{Found}
 use Rattle.dr_serve.specs.declared.outcome.Outcome.{Outcome}
 use Rattle.dr_serve.specs.Working.{directories_of, table_job, IsPieceFound, TakesFrom}
-use Rattle.dr_serve.specs.Closing.{Closes, left_from, growth_by, pieces_of}
-use Rattle.dr_serve.specs.Serving.{serving_by, first_shown, ClosesAfter, IsShare, IsFinishedBut, IsGrownOf, IsOfGrown, WhereFinished, WhereMost, WhereUnfinished, WhereSomeLeft, OfEachLink}
-use Rattle.dr_serve.specs.Links.{Worked}
+use Rattle.dr_serve.specs.Closing.{Closes, KeepsPlaces, has_some, left_from, growth_by, pieces_of}
+use Rattle.dr_serve.specs.Serving.{serving_by, first_shown, ClosesAfter, IsShare, IsFinishedBut, IsGrownOf, IsOfGrown, WhereFinished, WhereMost, WhereUnfinished}
+use Rattle.dr_serve.specs.Links.{Worked, OfEachLink, LeavesLinks}
+use Rattle.dr_serve.specs.GrowsOn.{AnsweredHavePieces}
+use Rattle.dr_serve.specs.Rounds.{HasRead, Rounds}
+use Rattle.dr_serve.specs.Served.{ServedAs, IsHistoryOf, NoneWasAnswered, left_in}
 use Rattle.dr_serve.specs.Counted.{StandsForCounted, AreLeftOf, held_of}
 use Rattle.dr_serve.proofs.CountedLemmas.{counted_by, left_by}
 use Rattle.dr_serve.proofs.LeafLemmas.{IsOneOf, one_of_first, one_of_later}
 use Rattle.dr_serve.proofs.LinkLemmas.{worked_none, worked_more}
 use Rattle.dr_serve.proofs.TruthLemmas.{piece_by_more, piece_has_tablet}
-use Rattle.dr_serve.proofs.CloseLemmas.{outcome_before, rises_lower}
+use Rattle.dr_serve.proofs.CloseLemmas.{outcome_before}
+use Rattle.dr_serve.proofs.RoundLemmas.{rises_lower, round_by}
 use Rattle.dr_serve.proofs.FinishLemmas.{AreOutcomes, partials_of, partials_are, pieces_are, count_of, some_are_left, finished_but, finished_by, unfinished_by}
 
 -- ---- before
@@ -76,6 +88,24 @@ module _ {L : Type 0} (shows : L → LinkShown) where
   part_worked t plan (suc n) (o ∷ olds) (p ∷ part) e w h (suc i) l lt =
       part_worked t plan n olds part (omega (arith, e)) (omega (arith, w)) (λ j m r. h (suc j) m (omega (arith, r))) i l (omega (arith, lt))
 
+  drop_part : (n : ℕ) (part rest : List L) → length part ≡ n → drop n (part ++ rest) ≡ rest
+  drop_part zero [] rest e = refl
+  drop_part zero (p ∷ part) rest e = absurd (omega (arith, e))
+  drop_part (suc n) [] rest e = absurd (omega (arith, e))
+  drop_part (suc n) (p ∷ part) rest e = drop_part n part rest (omega (arith, e))
+
+  pub part_leaves : (t : Table) (plan : Plan) (n : ℕ) (olds part : List L) → length part ≡ n → n ≤ length olds → OfEachLink shows (Worked t plan) (take n olds) part
+      → LeavesLinks (plan_leaves plan) (tablets_of t) shows n olds (part ++ drop n olds)
+  part_leaves t plan n olds part e w h =
+      let each = part_worked t plan n olds part e w h in record {
+        asks = λ i l lt. (each i l lt).asks;
+        same = λ i l lt. (each i l lt).same;
+        never_falls = λ i l lt. (each i l lt).never_falls;
+        stays_steady = λ i l lt. (each i l lt).stays_steady;
+        others = drop_part n part (drop n olds) e;
+        count = length-append part (drop n olds) ∙ (let k = length-drop n olds in omega (arith, k, e, w));
+      }
+
   -- the first of some links is that of these and others
   pub first_of_part : (n : ℕ) (olds part rest : List L) → 0 < n → n ≤ length olds → length part ≡ length (take n olds) → first_shown (map shows (part ++ rest)) ≡ first_shown (map shows part)
   first_of_part n olds [] rest some w e = let k = take_length n olds w in absurd (omega (arith, some, e, k))
@@ -104,15 +134,17 @@ pub record Ends (t : Table) (plan : Plan) (tree : Tree) (links : List (Option Fi
   pub grows : Grows (growth_by t plan tree (pieces_of outcomes)) grown
   pub left_are : left ≡ left_from 0 outcomes
   pub rises : RisesApart first.faults (causes_met left) now.faults
+  pub round : Rounds t (plan_leaves plan) first now left
 
 -- the first link went on after the workers
 pub closed_after : {L : Type 0} (shows : L → LinkShown) (t : Table) (plan : Plan) (tree : Tree) (is_true : ℕ → Found → Type 0) (olds mids : List L) (d new l : L) (places : List (Option Partial)) (grown : Growing) (left : List LeftTablet)
     → 0 < length olds → length mids ≡ length olds → OfEachLink shows (Worked t plan) olds mids → Closes t plan tree is_true (shows (slice_index_or mids 0 d)) places grown left
-    → RisesApart (shows (slice_index_or mids 0 d)).faults (causes_met left) (shows new).faults
+    → RisesApart (shows (slice_index_or mids 0 d)).faults (causes_met left) (shows new).faults → HasRead t (plan_leaves plan) (shows (slice_index_or mids 0 d)) (shows new) t.tablets left
     → ClosesAfter t plan tree is_true (shows (slice_index_or olds 0 l)) (shows (slice_index_or (slice_set mids 0 new) 0 l)) grown left
-closed_after shows t plan tree is_true [] mids d new l places grown left some e w c r = absurd (omega (arith, some))
-closed_after shows t plan tree is_true (o ∷ olds) [] d new l places grown left some e w c r = absurd (omega (arith, e))
-closed_after shows t plan tree is_true (o ∷ olds) (m ∷ mids) d new l places grown left some e w c r = record { middle = shows m; worked = w 0 l some; places = places; closes = c; rises = r }
+closed_after shows t plan tree is_true [] mids d new l places grown left some e w c r k = absurd (omega (arith, some))
+closed_after shows t plan tree is_true (o ∷ olds) [] d new l places grown left some e w c r k = absurd (omega (arith, e))
+closed_after shows t plan tree is_true (o ∷ olds) (m ∷ mids) d new l places grown left some e w c r k =
+    record { middle = shows m; worked = w 0 l some; places = places; closes = c; rises = r; read = k }
 
 came_before : (t : Table) (plan : Plan) (links : List (Option Files)) (before now : LinkShown) (i : ℕ) (xs : List Scanned) → Worked t plan before now → AreOutcomes t plan links now i xs → AreOutcomes t plan links before i xs
 came_before t plan links before now i [] w h = tt
@@ -127,6 +159,7 @@ ends_after t plan tree links before now grown left h = record {
   grows = h.closes.grows;
   left_are = h.closes.left_are;
   rises = rises_lower before.faults h.middle.faults now.faults (causes_met left) h.worked.never_falls h.rises;
+  round = round_by t plan (plan_leaves plan) before h.middle now left refl h.worked h.read;
 }
 
 pub serving_ends : {L : Type 0} (shows : L → LinkShown) (t : Table) (plan : Plan) (tree : Tree) (links : List (Option Files)) (olds news : List L) (grown : Growing) (left : List LeftTablet) → 0 < length olds → length news ≡ length olds
@@ -135,45 +168,6 @@ pub serving_ends : {L : Type 0} (shows : L → LinkShown) (t : Table) (plan : Pl
 serving_ends shows t plan tree links [] news grown left some e h = absurd (omega (arith, some))
 serving_ends shows t plan tree links (o ∷ olds) [] grown left some e h = absurd (omega (arith, e))
 serving_ends shows t plan tree links (o ∷ olds) (n ∷ news) grown left some e h = ends_after t plan tree links (shows o) (shows n) grown left (h o)
-
--- ---- by cases
-
-module _ {E : Type 0} where
-  pub where_finished : (P Q : Partial → Type 0) (r : Result Outcome E) → ((p : Partial) → P p → Q p) → IfOk r (WhereFinished P) → IfOk r (WhereFinished Q)
-  where_finished P Q (Ok (Outcome.Finished p)) f h = f p h
-  where_finished P Q (Ok (Outcome.Most p ls)) f h = tt
-  where_finished P Q (Ok (Outcome.Unfinished ls)) f h = tt
-  where_finished P Q (Err e) f h = tt
-
-  pub both_finished : (P Q : Partial → Type 0) (r : Result Outcome E) → IfOk r (WhereFinished P) → IfOk r (WhereFinished Q) → IfOk r (WhereFinished (λ p. P p × Q p))
-  both_finished P Q (Ok (Outcome.Finished p)) h k = (h, k)
-  both_finished P Q (Ok (Outcome.Most p ls)) h k = tt
-  both_finished P Q (Ok (Outcome.Unfinished ls)) h k = tt
-  both_finished P Q (Err e) h k = tt
-
-  pub where_most : (P Q : Partial → List LeftTablet → Type 0) (r : Result Outcome E) → ((p : Partial) (ls : List LeftTablet) → P p ls → Q p ls) → IfOk r (WhereMost P) → IfOk r (WhereMost Q)
-  where_most P Q (Ok (Outcome.Finished p)) f h = tt
-  where_most P Q (Ok (Outcome.Most p ls)) f h = f p _ h
-  where_most P Q (Ok (Outcome.Unfinished ls)) f h = tt
-  where_most P Q (Err e) f h = tt
-
-  pub both_most : (P Q : Partial → List LeftTablet → Type 0) (r : Result Outcome E) → IfOk r (WhereMost P) → IfOk r (WhereMost Q) → IfOk r (WhereMost (λ p ls. P p ls × Q p ls))
-  both_most P Q (Ok (Outcome.Finished p)) h k = tt
-  both_most P Q (Ok (Outcome.Most p ls)) h k = (h, k)
-  both_most P Q (Ok (Outcome.Unfinished ls)) h k = tt
-  both_most P Q (Err e) h k = tt
-
-  pub where_unfinished : (P Q : List LeftTablet → Type 0) (r : Result Outcome E) → ((ls : List LeftTablet) → P ls → Q ls) → IfOk r (WhereUnfinished P) → IfOk r (WhereUnfinished Q)
-  where_unfinished P Q (Ok (Outcome.Finished p)) f h = tt
-  where_unfinished P Q (Ok (Outcome.Most p ls)) f h = tt
-  where_unfinished P Q (Ok (Outcome.Unfinished ls)) f h = f _ h
-  where_unfinished P Q (Err e) f h = tt
-
-  pub both_unfinished : (P Q : List LeftTablet → Type 0) (r : Result Outcome E) → IfOk r (WhereUnfinished P) → IfOk r (WhereUnfinished Q) → IfOk r (WhereUnfinished (λ ls. P ls × Q ls))
-  both_unfinished P Q (Ok (Outcome.Finished p)) h k = tt
-  both_unfinished P Q (Ok (Outcome.Most p ls)) h k = tt
-  both_unfinished P Q (Ok (Outcome.Unfinished ls)) h k = (h, k)
-  both_unfinished P Q (Err e) h k = tt
 
 -- ---- what serving ends with
 
@@ -216,86 +210,129 @@ module _ {L : Type 0} (shows : L → LinkShown) (t : Table) (plan : Plan) (tree 
   gathers : (p : Partial) → IsGrownOf grown p → (piece : ℕ → meant.Partial) → map piece (tablets_in tree) ≡ partials_of plan e.outcomes → partial_view p ≡ gathered piece tree
   gathers p h piece k = h (growth_by t plan tree (pieces_of e.outcomes)) piece e.grows (k ∙ sym (pieces_are plan 0 e.outcomes))
 
-  module _ {E : Type 0} (r : Result Outcome E) where
-    pub ends_of_plan : IfOk r (WhereFinished (IsOfGrown grown)) → IfOk r (WhereFinished (IsPartialOf (plan_view plan)))
-    ends_of_plan h = where_finished (IsOfGrown grown) (IsPartialOf (plan_view plan)) r it_is_of_plan h
+  module _ (q : Query) (is : IsPlanOf t.schema q plan) (has : tablets_in tree ≡ range_with_len 0 t.tablets) (least : ℕ) where
+    abbrev serving : Serving
+    serving = serving_by t.schema q (tablets_of t) links
 
-    pub ends_of_plan_but : IfOk r (WhereMost (λ p us. IsOfGrown grown p)) → IfOk r (WhereMost (λ p us. IsPartialOf (plan_view plan) p))
-    ends_of_plan_but h = where_most (λ p us. IsOfGrown grown p) (λ p us. IsPartialOf (plan_view plan) p) r (λ p us w. it_is_of_plan p w) h
+    abbrev Served : Outcome → Type 0
+    Served x = ServedAs t plan q tree least links now x
 
-  module _ (q : Query) (is : IsPlanOf t.schema q plan) (has : tablets_in tree ≡ range_with_len 0 t.tablets) {E : Type 0} (r : Result Outcome E) where
-    pub ends_finished : IfOk r (WhereFinished (λ p. ls ≡ [])) → IfOk r (WhereFinished (IsGrownOf grown)) → IfOk r (WhereFinished (λ p. IsFinished (serving_by t.schema q (tablets_of t) links) tree (partial_view p)))
-    ends_finished h k =
-        where_finished (λ p. (ls ≡ []) × IsGrownOf grown p) (λ p. IsFinished (serving_by t.schema q (tablets_of t) links) tree (partial_view p)) r
-        (λ p w. finished_by t plan q links some is (first_shown links) e.outcomes e.count tree (partials_of plan e.outcomes) (partial_view p) has e.came (partials_are plan e.outcomes) (gathers p w.1)
-        (sym e.left_are ∙ ap all_left_view w.0)) (both_finished (λ p. ls ≡ []) (IsGrownOf grown) r h k)
+    but : (p : Partial) (us : List LeftTablet) → us ≡ all_left_view ls → IsGrownOf grown p → IsFinishedBut serving tree us (partial_view p)
+    but p us g w =
+        subst (λ (vs : List LeftTablet). IsFinishedBut serving tree vs (partial_view p)) (sym (g ∙ e.left_are))
+        (finished_but t plan q links some is (first_shown links) e.outcomes e.count tree (partials_of plan e.outcomes) (partial_view p) has e.came (partials_are plan e.outcomes) (gathers p w))
 
-    but : (p : Partial) → IsGrownOf grown p → IsFinishedBut (serving_by t.schema q (tablets_of t) links) tree (left_from 0 e.outcomes) (partial_view p)
-    but p w = finished_but t plan q links some is (first_shown links) e.outcomes e.count tree (partials_of plan e.outcomes) (partial_view p) has e.came (partials_are plan e.outcomes) (gathers p w)
+    counted : (p : Partial) (us : List LeftTablet) → us ≡ all_left_view ls → IsGrownOf grown p → StandsForCounted t q (held_of links) us (partial_view p)
+    counted p us g w =
+        subst (λ (vs : List LeftTablet). StandsForCounted t q (held_of links) vs (partial_view p)) (sym (g ∙ e.left_are))
+        (counted_by t plan q links some is (first_shown links) e.outcomes e.count tree (partials_of plan e.outcomes) (partial_view p) has e.came (partials_are plan e.outcomes) (gathers p w))
 
-    counted : (p : Partial) → IsGrownOf grown p → StandsForCounted t q (held_of links) (left_from 0 e.outcomes) (partial_view p)
-    counted p w = counted_by t plan q links some is (first_shown links) e.outcomes e.count tree (partials_of plan e.outcomes) (partial_view p) has e.came (partials_are plan e.outcomes) (gathers p w)
+    rises_of : (us : List LeftTablet) → us ≡ all_left_view ls → RisesApart (first_shown links).faults (causes_met us) now.faults
+    rises_of us g = subst (λ (vs : List LeftTablet). RisesApart (first_shown links).faults (causes_met vs) now.faults) (sym g) e.rises
 
-    pub ends_but : IfOk r (WhereMost (λ p us. us ≡ all_left_view ls)) → IfOk r (WhereMost (λ p us. IsGrownOf grown p)) → IfOk r (WhereMost (λ p us. IsFinishedBut (serving_by t.schema q (tablets_of t) links) tree us (partial_view p)))
-    ends_but h k =
-        where_most (λ p us. (us ≡ all_left_view ls) × IsGrownOf grown p) (λ p us. IsFinishedBut (serving_by t.schema q (tablets_of t) links) tree us (partial_view p)) r
-        (λ p us w. subst (λ (vs : List LeftTablet). IsFinishedBut (serving_by t.schema q (tablets_of t) links) tree vs (partial_view p)) (sym (w.0 ∙ e.left_are)) (but p w.1))
-        (both_most (λ p us. us ≡ all_left_view ls) (λ p us. IsGrownOf grown p) r h k)
+    unfinished : (us : List LeftTablet) → us ≡ all_left_view ls → (us ≡ [] → ⊥) → IsUnfinished serving now.faults us
+    unfinished us g none = unfinished_by t plan q links some is (first_shown links) e.outcomes e.count us now.faults e.came (g ∙ e.left_are) none (rises_of us g)
 
-    pub ends_counted : IfOk r (WhereFinished (λ p. ls ≡ [])) → IfOk r (WhereFinished (IsGrownOf grown)) → IfOk r (WhereFinished (λ p. StandsForCounted t q (held_of links) [] (partial_view p)))
-    ends_counted h k =
-        where_finished (λ p. (ls ≡ []) × IsGrownOf grown p) (λ p. StandsForCounted t q (held_of links) [] (partial_view p)) r
-        (λ p w. subst (λ (vs : List LeftTablet). StandsForCounted t q (held_of links) vs (partial_view p)) (sym e.left_are ∙ ap all_left_view w.0) (counted p w.1))
-        (both_finished (λ p. ls ≡ []) (IsGrownOf grown) r h k)
+    lefts : (us : List LeftTablet) → us ≡ all_left_view ls → (us ≡ [] → ⊥) → AreLeftOf t.schema (query_leaves t.schema.fields q) (tablets_of t) links now.faults us
+    lefts us g none = left_by t plan q links some is (first_shown links) e.outcomes e.count us now.faults e.came (g ∙ e.left_are) none (rises_of us g)
 
-    pub ends_counted_but : IfOk r (WhereMost (λ p us. us ≡ all_left_view ls)) → IfOk r (WhereMost (λ p us. IsGrownOf grown p)) → IfOk r (WhereMost (λ p us. StandsForCounted t q (held_of links) us (partial_view p)))
-    ends_counted_but h k =
-        where_most (λ p us. (us ≡ all_left_view ls) × IsGrownOf grown p) (λ p us. StandsForCounted t q (held_of links) us (partial_view p)) r
-        (λ p us w. subst (λ (vs : List LeftTablet). StandsForCounted t q (held_of links) vs (partial_view p)) (sym (w.0 ∙ e.left_are)) (counted p w.1))
-        (both_most (λ p us. us ≡ all_left_view ls) (λ p us. IsGrownOf grown p) r h k)
+    round_of : (us : List LeftTablet) → us ≡ all_left_view ls → Rounds t (query_leaves t.schema.fields q) (first_shown links) now us
+    round_of us g =
+        subst (λ (vs : List LeftTablet). Rounds t (query_leaves t.schema.fields q) (first_shown links) now vs) (sym g)
+        (subst (λ (F : List Leaf). Rounds t F (first_shown links) now (all_left_view ls)) (leaves_are t.schema q plan is) e.round)
 
-  module _ (q : Query) (is : IsPlanOf t.schema q plan) {E : Type 0} (r : Result Outcome E) where
-    are_left : (us : List LeftTablet) → us ≡ all_left_view ls → (us ≡ [] → ⊥) → IsUnfinished (serving_by t.schema q (tablets_of t) links) now.faults us
-    are_left us w none = unfinished_by t plan q links some is (first_shown links) e.outcomes e.count us now.faults e.came (w ∙ e.left_are) none (subst (λ (vs : List LeftTablet). RisesApart (first_shown links).faults (causes_met vs) now.faults) (sym w) e.rises)
+    left_count : (us : List LeftTablet) → us ≡ all_left_view ls → length ls ≡ length us
+    left_count us w = sym (ap length w ∙ length-map ls left_view)
 
-    pub ends_most : IfOk r (WhereMost (λ p us. us ≡ all_left_view ls)) → IfOk r (WhereMost (λ p us. us ≡ [] → ⊥)) → IfOk r (WhereMost (λ p us. IsUnfinished (serving_by t.schema q (tablets_of t) links) now.faults us))
-    ends_most h k =
-        where_most (λ p us. (us ≡ all_left_view ls) × (us ≡ [] → ⊥)) (λ p us. IsUnfinished (serving_by t.schema q (tablets_of t) links) now.faults us) r (λ p us w. are_left us w.0 w.1)
-        (both_most (λ p us. us ≡ all_left_view ls) (λ p us. us ≡ [] → ⊥) r h k)
+    finishes : (p : Partial) → ls ≡ [] → IsGrownOf grown p → IsOfGrown grown p → Served (Outcome.Finished p)
+    finishes p none w v =
+        let g : [] ≡ all_left_view ls = sym (ap all_left_view none) in record {
+          ends = record {
+            finished = finished_by t plan q links some is (first_shown links) e.outcomes e.count tree (partials_of plan e.outcomes) (partial_view p) has e.came (partials_are plan e.outcomes) (gathers p w) (sym (g ∙ e.left_are));
+            finished_plan = it_is_of_plan p v;
+            finished_records = counted p [] g w;
+          };
+          round = round_of [] g;
+        }
 
-    pub ends_unfinished : IfOk r (WhereUnfinished (λ us. us ≡ all_left_view ls)) → IfOk r (WhereUnfinished (λ us. us ≡ [] → ⊥)) → IfOk r (WhereUnfinished (IsUnfinished (serving_by t.schema q (tablets_of t) links) now.faults))
-    ends_unfinished h k =
-        where_unfinished (λ us. (us ≡ all_left_view ls) × (us ≡ [] → ⊥)) (IsUnfinished (serving_by t.schema q (tablets_of t) links) now.faults) r (λ us w. are_left us w.0 w.1)
-        (both_unfinished (λ us. us ≡ all_left_view ls) (λ us. us ≡ [] → ⊥) r h k)
+    finishes_most : (p : Partial) (us : Vec code.LeftTablet Global) → all_left_view us.items ≡ all_left_view ls → (all_left_view us.items ≡ [] → ⊥) → IsGrownOf grown p → IsOfGrown grown p
+        → IsShare least (t.tablets - length ls) t.tablets → (least ≡ 100 → ⊥) → Served (Outcome.Most p us)
+    finishes_most p us g some_left w v share all = record {
+      ends = record {
+        most = but p (all_left_view us.items) g w;
+        most_plan = it_is_of_plan p v;
+        most_records = counted p (all_left_view us.items) g w;
+        most_left = unfinished (all_left_view us.items) g some_left;
+        left_tablets = lefts (all_left_view us.items) g some_left;
+        share = subst (λ (m : ℕ). IsShare least (t.tablets - m) t.tablets) (left_count (all_left_view us.items) g) share;
+        all = all;
+      };
+      round = round_of (all_left_view us.items) g;
+    }
 
-    pub ends_left : IfOk r (WhereMost (λ p us. us ≡ all_left_view ls)) → IfOk r (WhereMost (λ p us. us ≡ [] → ⊥)) → IfOk r (WhereUnfinished (λ us. us ≡ all_left_view ls)) → IfOk r (WhereUnfinished (λ us. us ≡ [] → ⊥))
-        → IfOk r (WhereSomeLeft (AreLeftOf t.schema (query_leaves t.schema.fields q) (tablets_of t) links now.faults))
-    ends_left m n h k = by r m n h k
-      where
-        are : (us : List LeftTablet) → us ≡ all_left_view ls → (us ≡ [] → ⊥) → AreLeftOf t.schema (query_leaves t.schema.fields q) (tablets_of t) links now.faults us
-        are us w none = left_by t plan q links some is (first_shown links) e.outcomes e.count us now.faults e.came (w ∙ e.left_are) none (subst (λ (vs : List LeftTablet). RisesApart (first_shown links).faults (causes_met vs) now.faults) (sym w) e.rises)
+    leaves_some : (us : Vec code.LeftTablet Global) → all_left_view us.items ≡ all_left_view ls → (all_left_view us.items ≡ [] → ⊥) → 100 * (t.tablets - length ls) < least * t.tablets → Served (Outcome.Unfinished us)
+    leaves_some us g some_left short = record {
+      ends = record {
+        unfinished = unfinished (all_left_view us.items) g some_left;
+        left_tablets = lefts (all_left_view us.items) g some_left;
+        short = subst (λ (m : ℕ). 100 * (t.tablets - m) < least * t.tablets) (left_count (all_left_view us.items) g) short;
+      };
+      round = round_of (all_left_view us.items) g;
+    }
 
-        by : (r : Result Outcome E) → IfOk r (WhereMost (λ p us. us ≡ all_left_view ls)) → IfOk r (WhereMost (λ p us. us ≡ [] → ⊥)) → IfOk r (WhereUnfinished (λ us. us ≡ all_left_view ls)) → IfOk r (WhereUnfinished (λ us. us ≡ [] → ⊥))
-            → IfOk r (WhereSomeLeft (AreLeftOf t.schema (query_leaves t.schema.fields q) (tablets_of t) links now.faults))
-        by (Ok (Outcome.Finished p)) m n h k = tt
-        by (Ok (Outcome.Most p us)) m n h k = are (all_left_view us.items) m n
-        by (Ok (Outcome.Unfinished us)) m n h k = are (all_left_view us.items) h k
-        by (Err x) m n h k = tt
+    pub serves_as : (x : Outcome) → WhereFinished (λ p. ls ≡ []) x → WhereFinished (IsGrownOf grown) x → WhereFinished (IsOfGrown grown) x → WhereMost (λ p us. IsGrownOf grown p) x
+        → WhereMost (λ p us. IsOfGrown grown p) x → WhereMost (λ p us. us ≡ all_left_view ls) x → WhereMost (λ p us. us ≡ [] → ⊥) x → WhereMost (λ p us. IsShare least (t.tablets - length ls) t.tablets) x
+        → WhereUnfinished (λ us. us ≡ all_left_view ls) x → WhereUnfinished (λ us. us ≡ [] → ⊥) x → WhereUnfinished (λ us. 100 * (t.tablets - length ls) < least * t.tablets) x
+        → (least ≡ 100 → WhereMost (λ p us. ⊥) x) → Served x
+    serves_as (Outcome.Finished p) none fin of_fin most of_most those those_some share left left_some short all = finishes p none fin of_fin
+    serves_as (Outcome.Most p us) none fin of_fin most of_most those those_some share left left_some short all = finishes_most p us those those_some most of_most share all
+    serves_as (Outcome.Unfinished us) none fin of_fin most of_most those those_some share left left_some short all = leaves_some us left left_some short
 
-  left_count : (us : List LeftTablet) → us ≡ all_left_view ls → length ls ≡ length us
-  left_count us w = sym (ap length w ∙ length-map ls left_view)
+-- ---- the history
 
-  module _ (share : ℕ) {E : Type 0} (r : Result Outcome E) where
-    pub ends_share : IfOk r (WhereMost (λ p us. us ≡ all_left_view ls)) → IfOk r (WhereMost (λ p us. IsShare share (t.tablets - length ls) t.tablets)) → IfOk r (WhereMost (λ p us. IsShare share (t.tablets - length us) t.tablets))
-    ends_share h k =
-        where_most (λ p us. (us ≡ all_left_view ls) × IsShare share (t.tablets - length ls) t.tablets) (λ p us. IsShare share (t.tablets - length us) t.tablets) r
-        (λ p us w. subst (λ (m : ℕ). IsShare share (t.tablets - m) t.tablets) (left_count us w.0) w.1)
-        (both_most (λ p us. us ≡ all_left_view ls) (λ p us. IsShare share (t.tablets - length ls) t.tablets) r h k)
+pub left_is : (ls : List code.LeftTablet) (x : Outcome) → WhereFinished (λ p. ls ≡ []) x → WhereMost (λ p us. us ≡ all_left_view ls) x → WhereUnfinished (λ us. us ≡ all_left_view ls) x → left_in x ≡ all_left_view ls
+left_is ls (Outcome.Finished p) none those left = sym (ap all_left_view none)
+left_is ls (Outcome.Most p us) none those left = those
+left_is ls (Outcome.Unfinished us) none those left = left
 
-    abbrev IsShort : ℕ → Type 0
-    IsShort few = 100 * (t.tablets - few) < share * t.tablets
+none_answered_left : (history : List Event) (i : ℕ) (os : List (Option Partial)) (xs : List Scanned) → KeepsPlaces os xs → ((t : ℕ) → has_answer history (i + t) ≡ true → slice_index_or (map has_some os) t false ≡ true)
+    → NoneWasAnswered history (left_from i xs)
+none_answered_left history i [] [] k f = tt
+none_answered_left history i [] (x ∷ xs) k f = absurd k
+none_answered_left history i (o ∷ os) [] k f = absurd k
+none_answered_left history i (o ∷ os) (Scanned.Given p ∷ xs) k f =
+    none_answered_left history (suc i) os xs k.1 (λ t h. f (suc t) (subst (λ (n : ℕ). has_answer history n ≡ true) (let q : suc i + t ≡ i + suc t = omega arith in q) h))
+none_answered_left history i (Some p ∷ os) (Scanned.Left tried ∷ xs) k f = absurd (no_given p tried k.0)
+  where
+    no_given : (p : Partial) (tried : Vec code_tried.Tried Global) → Scanned.Left tried ≡ Scanned.Given p → ⊥
+    no_given p tried e = cc
+none_answered_left history i (None ∷ os) (Scanned.Left tried ∷ xs) k f =
+    (not_answered (has_answer history i) refl, none_answered_left history (suc i) os xs k.1 (λ t h. f (suc t) (subst (λ (n : ℕ). has_answer history n ≡ true) (let q : suc i + t ≡ i + suc t = omega arith in q) h)))
+  where
+    not_answered : (b : Bool) → has_answer history i ≡ b → has_answer history i ≡ false
+    not_answered false e = e
+    not_answered true e = absurd (true≢false (sym (f 0 (subst (λ (n : ℕ). has_answer history n ≡ true) (let q : i ≡ i + 0 = omega arith in q) e))))
 
-    pub ends_short : IfOk r (WhereUnfinished (λ us. us ≡ all_left_view ls)) → IfOk r (WhereUnfinished (λ us. IsShort (length ls))) → IfOk r (WhereUnfinished (λ us. 100 * (t.tablets - length us) < share * t.tablets))
-    ends_short h k =
-        where_unfinished (λ us. (us ≡ all_left_view ls) × IsShort (length ls)) (λ us. IsShort (length us)) r (λ us w. subst IsShort (left_count us w.0) w.1)
-        (both_unfinished (λ us. us ≡ all_left_view ls) (λ us. IsShort (length ls)) r h k)
+pub history_is : (t : Table) (plan : Plan) (tree : Tree) (is_true : ℕ → Found → Type 0) (link : LinkShown) (j : Job) (history : List Event) (flags : List Bool) (places : List (Option Partial)) (grown : Growing) (left : List LeftTablet)
+    → is_history j history ≡ true → AnsweredHavePieces history flags → flags ≡ map has_some places → Closes t plan tree is_true link places grown left → IsHistoryOf j history left
+history_is t plan tree is_true link j history flags places grown left recorded pieces same closes = record {
+  recorded = recorded;
+  unanswered = subst (NoneWasAnswered history) (sym closes.left_are)
+      (none_answered_left history 0 places closes.outcomes closes.keeps (λ u h. subst (λ (bs : List Bool). slice_index_or bs u false ≡ true) same (pieces u (subst (λ (n : ℕ). has_answer history n ≡ true) (let q : 0 + u ≡ u = omega arith in q) h))));
+}
+
+-- ---- the links, by the query
+
+pub leaves_for : {L : Type 0} (t : Table) (plan : Plan) (q : Query) → IsPlanOf t.schema q plan → (shows : L → LinkShown) (n : ℕ) (olds news : List L) → LeavesLinks (plan_leaves plan) (tablets_of t) shows n olds news
+    → LeavesLinks (query_leaves t.schema.fields q) (tablets_of t) shows n olds news
+leaves_for t plan q is shows n olds news h = subst (λ (F : List Leaf). LeavesLinks F (tablets_of t) shows n olds news) (leaves_are t.schema q plan is) h
+
+pub leaves_none : {L : Type 0} (F : List Leaf) (t : Table) (shows : L → LinkShown) (n : ℕ) (links : List L) → LeavesLinks F (tablets_of t) shows n links links
+leaves_none F t shows n links = record {
+  asks = λ i l lt. held_nothing (is_at_tablets (tablets_of t)) (is_for_tablets F (tablets_of t)) (shows (slice_index_or links i l)).held (shows (slice_index_or links i l)).asked (shows (slice_index_or links i l)).asked refl;
+  same = λ i l lt. refl;
+  never_falls = λ i l lt. omega arith;
+  stays_steady = λ i l lt is. is;
+  others = refl;
+  count = refl;
+}

@@ -21,7 +21,10 @@ use Rattle.dr_file.specs.Asking.{is_for_path, is_request_for}
 use Rattle.dr_plan.specs.Planned.{plan_leaves}
 use Rattle.dr_plan.specs.declared.plan.Plan.{Plan}
 use Rattle.dr_reading.specs.Held.{held_at}
-use Rattle.dr_reading.specs.Causes.{IsJustified}
+use Rattle.dr_reading.specs.Causes.{IsJustified, RisesApart}
+use Rattle.dr_outside.specs.Faults.{raised, Rose}
+use Rattle.dr_file.specs.OpenedFiles.{HasCounts}
+use Rattle.dr_file.specs.declared.file_fault.FileFault.{FileFault}
 use Rattle.dr_formats.specs.TableFile.{Table}
 use Rattle.dr_table.specs.Views.{table_view}
 use Rattle.dr_table.specs.declared.table.Table as code
@@ -64,6 +67,16 @@ scan_worked t p h path l now i e asked none there same falls steady = record {
 pub fault_tells : (why : Hand → Cause → Type 0) (j : Job) (h : Hand) (c : Cause) (before now : PassShown) (r : Bool) → why h c → IsFaultTold j h c before now r → TellsEnd why before now
 fault_tells why j h c before now true w told = inr (told.history, Fault h c, told.added, w)
 fault_tells why j h c before now false w told = inl told.1
+
+-- a failed read raised the count
+pub one_rises : (old new : ℕ) (c : Cause) → HasCounts old new (FileFault.Why c) → old ≤ new → RisesApart old (c ∷ []) new
+one_rises old new (Cause.ReadFailed before after) h le =
+    let rose : Rose old new = subst (λ (n : ℕ). raised old ≤ n) (sym h.2) (omega arith) in
+    (omega (arith, h.0), subst (λ (n : ℕ). Rose n after) (sym h.0) (subst (Rose old) (sym h.1) rose), omega (arith, h.1))
+one_rises old new Cause.BadFooter h le = le
+one_rises old new Cause.BadSchema h le = le
+one_rises old new Cause.BadCodec h le = le
+one_rises old new Cause.BadData h le = le
 
 -- a cause by what the link showed before
 pub cause_before : (t : Table) (p : Plan) (l now : LinkShown) (h : Hand) (c : Cause) → now.held ≡ l.held → (IsTrue l.is_steady → IsTrue now.is_steady) → IsCauseFor t p now h c → IsCauseFor t p l h c

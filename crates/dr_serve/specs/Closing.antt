@@ -10,8 +10,9 @@ use Rattle.dr_group.specs.Partials.{partial_view, IsPartialOf}
 use Rattle.dr_group.specs.declared.partial.Partial.{Partial}
 use Rattle.dr_plan.specs.Planned.{plan_leaves, plan_view, planned_query}
 use Rattle.dr_plan.specs.declared.plan.Plan.{Plan}
-use Rattle.dr_reading.specs.Causes.{RisesApart}
+use Rattle.dr_reading.specs.Causes.{RisesApart, LeadTo}
 use Rattle.dr_reading.specs.Left.{LeftTablet, AreTried, causes_of, causes_met}
+use Rattle.dr_reading.specs.InTurn.{TabletRead, read_given, read_left, IsTabletRead, causes_at as read_causes}
 use Rattle.dr_reading.specs.Scan.{copies_from}
 use Rattle.dr_serving.specs.Truth.{most_values}
 use Rattle.dr_tablets.specs.Views.{all_tried_view}
@@ -21,12 +22,8 @@ use Rattle.dr_tree.specs.Places.{Place}
 use Rattle.dr_tree.specs.declared.growing.Growing.{Growing}
 use Rattle.dr_serve.specs.declared.found.Found.{Found}
 use Rattle.dr_serve.specs.Links.{Worked}
+use Rattle.dr_serve.specs.Rounds.{HasRead, OfEachFrom}
 use Rattle.dr_serve.specs.Working.{found}
-
--- of each, the first of which has the number t, this holds
-abbrev pub OfEachFrom : {A : Type 0} → (ℕ → A → Type 0) → ℕ → List A → Type 0
-OfEachFrom P t [] = ⊤
-OfEachFrom P t (x ∷ xs) = P t x × OfEachFrom P (suc t) xs
 
 -- ---- pieces by their tablets
 
@@ -101,6 +98,16 @@ left_from t [] = []
 left_from t (Scanned.Given p ∷ xs) = left_from (suc t) xs
 left_from t (Scanned.Left tried ∷ xs) = record { tablet = t; tried = all_tried_view tried.items } ∷ left_from (suc t) xs
 
+-- what the link read of it, so far as that is told: why the copies before it gave nothing, and its count of faults
+abbrev pub IsOfRead : TabletRead → Scanned → Type 0
+IsOfRead (read_given ts R) (Scanned.Given p) = ⊤
+IsOfRead (read_left ts) (Scanned.Left tried) = all_tried_view tried.items ≡ ts
+IsOfRead r x = ⊥
+
+abbrev pub IsReadAs : Table → Plan → LinkShown → LinkShown → ℕ → Scanned → Type 0
+IsReadAs t plan link now tablet x = (r : TabletRead) × IsTabletRead t.schema (plan_leaves plan) link (copies_from t.leaves tablet 0 t.copies) r
+    × LeadTo link.faults (read_causes r) now.faults × IsOfRead r x
+
 -- ---- the tablets in their order
 
 -- the piece of what came of a tablet
@@ -132,6 +139,7 @@ pub record HasClosed (t : Table) (plan : Plan) (tree : Tree) (is_true : ℕ → 
   pub keeps : KeepsPlaces done outcomes
   pub left_are : left ≡ left_from 0 outcomes
   pub rises : RisesApart first.faults (causes_met left) now.faults
+  pub read : HasRead t (plan_leaves plan) first now m left
   pub worked : Worked t plan first now
   pub found : HasFound t plan tree is_true (pieces_of outcomes ++ rest) grown
 

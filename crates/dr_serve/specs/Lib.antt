@@ -6,7 +6,8 @@ pub mod Ends
 pub mod Links
 -- what has grown of pieces, and grows on
 pub mod GrowsOn
--- what the closing round gives
+-- what the closing round reads, and what it gives
+pub mod Rounds
 pub mod Closing
 -- what serving ends with
 pub mod Serving
@@ -14,3 +15,5 @@ pub mod Serving
 pub mod Lent
 -- the records that a query counts
 pub mod Counted
+-- what serving ends with, by cases
+pub mod Served

@@ -1,5 +1,5 @@
 -- What serving a table ends with.
-use Rattle.std.specs.Prelude.{◌≡◌, ◌<◌, ◌≤◌, ◌*◌, ℕ, suc, ⊤, false, List, [], ◌∷◌, map, length, Option, None, slice_index_or}
+use Rattle.std.specs.Prelude.{◌≡◌, ◌≤◌, ◌*◌, ℕ, suc, ⊤, false, List, [], ◌∷◌, map, length, Option, None}
 use Rattle.std.specs.List.{range_with_len}
 use Rattle.dr_meaning.specs.Schema.{Schema}
 use Rattle.dr_meaning.specs.Query.{Query}
@@ -14,6 +14,7 @@ use Rattle.dr_group.specs.declared.partial.Partial.{Partial}
 use Rattle.dr_tree.specs.Grows.{Growth, Grows, grown_query}
 use Rattle.dr_tree.specs.Places.{pieces_at}
 use Rattle.dr_tree.specs.declared.growing.Growing.{Growing}
+use Rattle.dr_plan.specs.Planned.{plan_leaves}
 use Rattle.dr_plan.specs.declared.plan.Plan.{Plan}
 use Rattle.dr_reading.specs.Causes.{RisesApart}
 use Rattle.dr_reading.specs.Left.{Tried, LeftTablet, causes_met}
@@ -25,6 +26,7 @@ use Rattle.dr_serve.specs.declared.found.Found.{Found}
 use Rattle.dr_serve.specs.declared.outcome.Outcome.{Outcome}
 use Rattle.dr_serve.specs.Closing.{Closes}
 use Rattle.dr_serve.specs.Links.{Worked}
+use Rattle.dr_serve.specs.Rounds.{HasRead}
 
 -- of no link: nothing is told
 abbrev pub no_link : LinkShown
@@ -49,6 +51,7 @@ pub record ClosesAfter (t : Table) (plan : Plan) (tree : Tree) (is_true : ℕ �
   pub places : List (Option Partial)
   pub closes : Closes t plan tree is_true middle places grown left
   pub rises : RisesApart middle.faults (causes_met left) now.faults
+  pub read : HasRead t (plan_leaves plan) middle now t.tablets left
 
 -- ---- where some tablets are left
 
@@ -100,13 +103,3 @@ abbrev pub WhereUnfinished : (List LeftTablet → Type 0) → Outcome → Type 0
 WhereUnfinished P (Outcome.Finished p) = ⊤
 WhereUnfinished P (Outcome.Most p left) = ⊤
 WhereUnfinished P (Outcome.Unfinished left) = P (all_left_view left.items)
-
--- where some tablets are left, this holds of them
-abbrev pub WhereSomeLeft : (List LeftTablet → Type 0) → Outcome → Type 0
-WhereSomeLeft P (Outcome.Finished p) = ⊤
-WhereSomeLeft P (Outcome.Most p left) = P (all_left_view left.items)
-WhereSomeLeft P (Outcome.Unfinished left) = P (all_left_view left.items)
-
--- this holds of each link before and after
-abbrev pub OfEachLink : {L : Type 0} → (L → LinkShown) → (LinkShown → LinkShown → Type 0) → List L → List L → Type 0
-OfEachLink {L} shows P before after = (i : ℕ) (l : L) → i < length before → P (shows (slice_index_or before i l)) (shows (slice_index_or after i l))

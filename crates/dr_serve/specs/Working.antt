@@ -13,6 +13,7 @@ use Rattle.dr_plan.specs.Planned.{plan_leaves, plan_view}
 use Rattle.dr_plan.specs.declared.plan.Plan.{Plan}
 use Rattle.dr_group.specs.Partials.{partial_view, IsPartialOf}
 use Rattle.dr_group.specs.declared.partial.Partial.{Partial}
+use Rattle.dr_reading.specs.Causes.{RisesApart}
 use Rattle.dr_reading.specs.Held.{held_by_all}
 use Rattle.dr_reading.specs.Left.{IsCauseAt}
 use Rattle.dr_reading.specs.Scan.{Copy, copy_in, copy_paths, tablets_of}
@@ -66,3 +67,7 @@ TakesFrom t plan is_true held = (tablet : ℕ) (p : Partial) → IsPiece t plan 
 -- a cause is justified at a hand's copy
 abbrev pub IsCauseFor : Table → Plan → LinkShown → Hand → Cause → Type 0
 IsCauseFor t plan link h c = IsCauseAt t.schema (plan_leaves plan) link (hand_path t h) c
+
+-- and where it is a failed read, the link's count rose by it
+abbrev pub IsRisenFor : Table → Plan → LinkShown → LinkShown → Hand → Cause → Type 0
+IsRisenFor t plan link now h c = IsCauseFor t plan link h c × RisesApart link.faults (c ∷ []) now.faults

@@ -1,10 +1,11 @@
 // What has grown of the pieces of some tablets.
-ghost use Rattle.std.specs.Prelude.{◌≡◌, false, IfOk, replicate};
+ghost use Rattle.std.specs.Prelude.{◌≡◌, [], false, IfOk, replicate};
 ghost use Rattle.std.specs.List.{range_with_len};
 ghost use Rattle.dr_partials.specs.Trees as trees;
 ghost use Rattle.dr_table.specs.Views.{table_view};
 ghost use Rattle.dr_tree.specs.Views.{tree_view};
 ghost use Rattle.dr_serve.specs.Closing.{HasAnswered};
+ghost use Rattle.dr_serve.specs.GrowsOn.{IsOfPieces};
 
 use crate::service::Service;
 use dr_memory::NoMemory;
@@ -39,8 +40,9 @@ pub(crate) fn none_answered<S: Service>(
     tree: &Tree,
 ) -> Result<Answered, NoMemory>
     requires { trees.tablets_of (tree_view tree.now) ≡ range_with_len 0 (table.now).tablets }
-    ensures { IfOk result (λ a. HasAnswered (table_view table.now) plan.now (tree_view tree.now) S.is_true a.grown
-        a.has_piece.items) }
+    ensures answered { IfOk result (λ a. HasAnswered (table_view table.now) plan.now (tree_view tree.now) S.is_true
+        a.grown a.has_piece.items) }
+    ensures none { IfOk result (λ a. IsOfPieces [] a.has_piece.items) }
 {
     let grown = Growing::new(alloc, tree, plan)?;
     let has_piece = no_pieces(alloc, table.tablets)?;

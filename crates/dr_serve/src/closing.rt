@@ -5,13 +5,14 @@ ghost use Rattle.dr_outside.specs.Link.{LinkShown};
 ghost use Rattle.dr_table.specs.Views.{table_view};
 ghost use Rattle.dr_partials.specs.Trees.{Tree};
 ghost use Rattle.dr_group.specs.declared.partial.Partial.{Partial};
-ghost use Rattle.dr_plan.specs.Planned.{IsOfSchema};
+ghost use Rattle.dr_plan.specs.Planned.{IsOfSchema, plan_leaves};
 ghost use Rattle.dr_reading.specs.Causes.{RisesApart};
 ghost use Rattle.dr_reading.specs.Left.{causes_met};
 ghost use Rattle.dr_tablets.specs.Views.{all_left_view};
 ghost use Rattle.dr_scan.specs.Tables.{with_scanned};
 ghost use Rattle.dr_serve.specs.Working.{TakesFrom};
-ghost use Rattle.dr_serve.specs.Closing.{AreAddable, CanKeep, Closes, HasClosed, HasFound, HasKept, IsNext, IsOutcomeOf, causes_at, has_some};
+ghost use Rattle.dr_serve.specs.Closing.{AreAddable, CanKeep, Closes, HasClosed, HasFound, HasKept, IsNext, IsOutcomeOf, IsReadAs, causes_at, has_some};
+ghost use Rattle.dr_serve.specs.Rounds.{HasRead};
 ghost use Rattle.dr_serve.specs.Links.{Worked};
 
 use crate::answered::Answered;
@@ -45,6 +46,7 @@ fn outcome_of<S: Service, L: Link>(
     requires tablet { tablet < (table.now).tablets }
     ensures outcome { IfOk result (IsOutcomeOf (table_view table.now) plan.now S.is_true (L.shows link.old) tablet) }
     ensures rises { IfOk result (λ x. RisesApart (L.shows link.old).faults (causes_at x) (L.shows link.new).faults) }
+    ensures read { IfOk result (IsReadAs (table_view table.now) plan.now (L.shows link.old) (L.shows link.new) tablet) }
     ensures link { Worked (table_view table.now) plan.now (L.shows link.old) (L.shows link.new) }
 {
     scan_tablet(alloc, link, table, plan, tablet)
@@ -116,6 +118,8 @@ pub(crate) fn close<S: Service, L: Link>(
         (all_left_view c.left.items)) }
     ensures rises { IfOk result (λ c. RisesApart (L.shows link.old).faults (causes_met (all_left_view c.left.items))
         (L.shows link.new).faults) }
+    ensures read { IfOk result (λ c. HasRead (table_view table.now) (plan_leaves plan.now) (L.shows link.old)
+        (L.shows link.new) (table.now).tablets (all_left_view c.left.items)) }
     ensures link { Worked (table_view table.now) plan.now (L.shows link.old) (L.shows link.new) }
 {
     let Answered { grown, has_piece } = answered;

@@ -14,13 +14,12 @@ mod served;
 mod service;
 mod serving;
 mod turns;
-mod worker;
 
-pub use added::Added;
+pub use added::{Added, Jobs};
 pub use found::Found;
 pub use gated::Gated;
 pub use grown::Grown;
-pub use outcome::Outcome;
+pub use outcome::{Outcome, Served};
 pub use service::Service;
 pub use serving::serve;
-pub use worker::work;
+pub use turns::work;

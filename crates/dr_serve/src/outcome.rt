@@ -1,3 +1,4 @@
+use dr_desk::Event;
 use dr_group::Partial;
 use dr_tablets::LeftTablet;
 
@@ -11,4 +12,11 @@ pub enum Outcome {
     Most(Partial, Vec<LeftTablet>),
     /// The tablets that are left, as above, where the others are less than that share.
     Unfinished(Vec<LeftTablet>),
+}
+
+/// What serving a query ends with, and the history of the desk that handed out the tablets, as it was shut.
+#[derive(Drop)]
+pub struct Served {
+    pub outcome: Outcome,
+    pub history: Vec<Event>,
 }

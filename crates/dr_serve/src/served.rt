@@ -1,21 +1,22 @@
 // A table's tablets, handed out to workers.
-ghost use Rattle.std.specs.Prelude.{◌≡◌, ◌<◌, ℕ, length, All, IfOk};
+ghost use Rattle.std.specs.Prelude.{◌≡◌, ◌<◌, [], true, length, All, IfOk};
+ghost use Rattle.dr_dispatch.specs.History.{is_history};
+ghost use Rattle.dr_dispatch.specs.Pieces.{KeepsPieces};
 ghost use Rattle.dr_nested.specs.SchemaView.{schema_view};
 ghost use Rattle.dr_table.specs.Views.{table_view};
 ghost use Rattle.dr_plan.specs.Planned.{IsOfSchema};
 ghost use Rattle.dr_serve.specs.Working.{table_job, table_leaves, TakesFrom};
-ghost use Rattle.dr_serve.specs.Links.{Worked};
-ghost use Rattle.dr_serve.specs.GrowsOn.{GrowsOn};
-ghost use Rattle.dr_serve.specs.Serving.{OfEachLink};
+ghost use Rattle.dr_serve.specs.Links.{Worked, OfEachLink};
+ghost use Rattle.dr_serve.specs.GrowsOn.{AnsweredHavePieces, GrowsOn, IsOfPieces};
 
-use crate::added::Added;
+use crate::added::{Added, Jobs};
 use crate::answered::Answered;
 use crate::grown::Grown;
 use crate::job::job_of;
 use crate::lent::for_each_worker;
 use crate::service::Service;
-use crate::worker::work;
-use dr_desk::{Board, Desk, Ground, Naming, Pass, Room};
+use crate::turns::work;
+use dr_desk::{Board, Closing, Desk, Event, Ground, Pass, Room};
 use dr_memory::NoMemory;
 use dr_outside::Link;
 use dr_plan::Plan;
@@ -24,11 +25,18 @@ use std::alloc::Global;
 use std::sync::{Mutex, Wait};
 use std::thread::Threads;
 
+// What was heard of workers that have ended: what has grown, and the history of the desk that was shut.
+#[derive(Drop)]
+pub(crate) struct Heard {
+    pub(crate) answered: Answered,
+    pub(crate) history: Vec<Event>,
+}
+
 // A worker, which takes the pass of its number.
-fn start<N: Naming<Added>, B: Room, S: Service, L: Link, R: Wait>(
+fn start<S: Service + Room, B: Room, L: Link, R: Wait>(
     rt: &R,
     alloc: Global,
-    desk: &Desk<Added, N, B>,
+    desk: &Desk<Added<S>, Jobs<S>, B>,
     grown: &Mutex<Grown<S>>,
     plan: &Plan,
     table: &Table,
@@ -37,8 +45,7 @@ fn start<N: Naming<Added>, B: Room, S: Service, L: Link, R: Wait>(
     link: &mut L,
 )
     requires planned { IsOfSchema (schema_view (table.now).schema) plan.now }
-    requires job { N.job.leaves ≡ table_leaves (table_view table.now) }
-    requires told { (t : ℕ) (a : Added) → N.is_true t a }
+    requires job { S.job.leaves ≡ table_leaves (table_view table.now) }
     requires truth { TakesFrom (table_view table.now) plan.now S.is_true (L.shows link.old).held }
     requires grows_on { GrowsOn S.is_true S.has_grown }
     ensures { Worked (table_view table.now) plan.now (L.shows link.old) (L.shows link.new) }
@@ -55,15 +62,14 @@ fn start<N: Naming<Added>, B: Room, S: Service, L: Link, R: Wait>(
 
 // Starts a worker for each link, and waits until all have ended.
 fn hand_out<
-    N: Naming<Added> + Send + Sync,
+    S: Service + Room + Send + Sync,
     B: Room + Send + Sync,
-    S: Service + Send + Sync,
     L: Link + Send,
     R: Threads + Wait + Sync,
 >(
     rt: &R,
     alloc: Global,
-    desk: &Desk<Added, N, B>,
+    desk: &Desk<Added<S>, Jobs<S>, B>,
     grown: &Mutex<Grown<S>>,
     plan: &Plan,
     table: &Table,
@@ -71,9 +77,8 @@ fn hand_out<
     links: &mut [L],
 )
     requires planned { IsOfSchema (schema_view (table.now).schema) plan.now }
-    requires job { N.job.leaves ≡ table_leaves (table_view table.now) }
+    requires job { S.job.leaves ≡ table_leaves (table_view table.now) }
     requires some { 0 < length links.old }
-    requires told { (t : ℕ) (a : Added) → N.is_true t a }
     requires truth { All (λ l. TakesFrom (table_view table.now) plan.now S.is_true (L.shows l).held) links.old }
     requires grows_on { GrowsOn S.is_true S.has_grown }
     ensures links { OfEachLink L.shows (Worked (table_view table.now) plan.now) links.old links.new }
@@ -86,12 +91,11 @@ fn hand_out<
         desk,
         grown,
         links,
-        &|plan: &Plan, table: &Table, desk: &Desk<Added, N, B>, grown: &Mutex<
+        &|plan: &Plan, table: &Table, desk: &Desk<Added<S>, Jobs<S>, B>, grown: &Mutex<
             Grown<S>,
         >, worker: usize, link: &mut L|
             requires { IsOfSchema (schema_view (table.now).schema) plan.now
-                × (N.job.leaves ≡ table_leaves (table_view table.now))
-                × ((t : ℕ) (a : Added) → N.is_true t a)
+                × (S.job.leaves ≡ table_leaves (table_view table.now))
                 × TakesFrom (table_view table.now) plan.now S.is_true (L.shows link.now).held
                 × GrowsOn S.is_true S.has_grown }
             ensures { Worked (table_view table.entry.now) plan.entry.now (L.shows link.entry.now)
@@ -102,39 +106,39 @@ fn hand_out<
 
 // Workers go on from what has grown: what they found has been added when all have ended.
 pub(crate) fn served<
-    N: Naming<Added> + Send + Sync,
+    S: Service + Room + Send + Sync,
     B: Room + Send + Sync,
-    S: Service + Send + Sync,
     L: Link + Send,
     R: Threads + Wait + Sync,
 >(
     rt: &R,
     alloc: Global,
     ground: Ground,
+    added: Ground,
     plan: &Plan,
     table: &Table,
     answered: Answered,
     links: &mut [L],
     lag: u64,
-) -> Result<Answered, NoMemory>
+) -> Result<Heard, NoMemory>
     requires ground { ground.table ≡ B.table }
     requires drawn { ground.tablets ≡ (table.now).tablets }
     requires planned { IsOfSchema (schema_view (table.now).schema) plan.now }
-    requires job { N.job ≡ table_job (table_view table.now) lag }
+    requires job { S.job ≡ table_job (table_view table.now) lag }
+    requires added { added.table ≡ S.table }
     requires grown { S.has_grown answered.grown answered.has_piece.items }
+    requires none { IsOfPieces [] answered.has_piece.items }
     requires some { 0 < length links.old }
-    requires told { (t : ℕ) (a : Added) → N.is_true t a }
     requires truth { All (λ l. TakesFrom (table_view table.now) plan.now S.is_true (L.shows l).held) links.old }
     requires grows_on { GrowsOn S.is_true S.has_grown }
-    ensures grown { IfOk result (λ a. S.has_grown a.grown a.has_piece.items) }
+    ensures grown { IfOk result (λ h. S.has_grown h.answered.grown h.answered.has_piece.items) }
+    ensures recorded { IfOk result (λ h. is_history S.job h.history.items ≡ true) }
+    ensures pieces { IfOk result (λ h. AnsweredHavePieces h.history.items h.answered.has_piece.items) }
     ensures links { OfEachLink L.shows (Worked (table_view table.now) plan.now) links.old links.new }
     ensures count { length links.new ≡ length links.old }
 {
-    let job = job_of(alloc, table, lag)?;
-    let board: Board<Added, N> = Board::new(alloc, &job)?;
-    let (desk, passes) = Desk::<Added, N, B>::new(alloc, ground, board, links.len())?;
-    let slots = slots_of(alloc, passes)?;
-    let grown = Mutex::new(Grown::<S>::new(answered));
+    let (desk, slots) = desk_of::<S, B>(alloc, ground, table, links.len(), lag)?;
+    let grown = Mutex::new(Grown::<S>::new(answered, added));
     hand_out(
         rt,
         alloc,
@@ -145,7 +149,42 @@ pub(crate) fn served<
         slots.as_slice(),
         links,
     );
-    Ok(grown.into_inner().into_answered())
+    let closing = desk.shut(Vec::new(alloc));
+    Ok(heard_of(grown.into_inner(), closing))
+}
+
+// A desk over the job of a table, and so many passes, each under a lock of its own.
+fn desk_of<S: Service + Room, B: Room>(
+    alloc: Global,
+    ground: Ground,
+    table: &Table,
+    count: usize,
+    lag: u64,
+) -> Result<(Desk<Added<S>, Jobs<S>, B>, Vec<Mutex<Option<Pass<B>>>>), NoMemory>
+    requires ground { ground.table ≡ B.table }
+    requires drawn { ground.tablets ≡ (table.now).tablets }
+    requires job { S.job ≡ table_job (table_view table.now) lag }
+{
+    let job = job_of(alloc, table, lag)?;
+    let board: Board<Added<S>, Jobs<S>> = Board::new(alloc, &job)?;
+    let (desk, passes) = Desk::<Added<S>, Jobs<S>, B>::new(alloc, ground, board, count)?;
+    let slots = slots_of(alloc, passes)?;
+    Ok((desk, slots))
+}
+
+// What was heard of all workers: each tablet that was answered has a piece.
+fn heard_of<S: Service + Room>(mut grown: Grown<S>, closing: Closing<Added<S>>) -> Heard
+    requires { KeepsPieces S.job (λ a. a) (λ t a. a ≡ t) closing.history.items closing.pieces.items }
+    ensures grown { S.has_grown result.answered.grown result.answered.has_piece.items }
+    ensures recorded { is_history S.job result.history.items ≡ true }
+    ensures pieces { AnsweredHavePieces result.history.items result.answered.has_piece.items }
+{
+    let Closing { history, pieces } = closing;
+    grown.confirm(pieces);
+    Heard {
+        answered: grown.into_answered(),
+        history,
+    }
 }
 
 // Each pass under a lock of its own.

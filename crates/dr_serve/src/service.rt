@@ -1,10 +1,13 @@
 use std::marker::Brand;
 
-/// Names what is true of a tablet, and when something has grown of that. Whoever serves picks it.
+/// Names the job of a table, what is true of a tablet, and when something has grown of that. Whoever serves picks it.
 pub trait Service {
     ghost use Rattle.std.specs.Prelude.{ℕ, Bool, List};
+    ghost use Rattle.dr_dispatch.specs.Job.{Job};
     ghost use Rattle.dr_tree.specs.declared.growing.Growing.{Growing};
     ghost use Rattle.dr_serve.specs.declared.found.Found.{Found};
+
+    ghost job: { Job };
 
     /// Whether what was found is true of a tablet.
     ghost is_true: { ℕ → Found → Type 0 };
@@ -14,7 +17,9 @@ pub trait Service {
 }
 
 impl Service for Brand {
-    ghost use Rattle.std.specs.Prelude.{⊤};
+    ghost use Rattle.std.specs.Prelude.{[], ⊤};
+
+    ghost job = { record { leaves = []; lag = 0 } };
 
     ghost is_true = { λ t f. ⊤ };
 

@@ -1,32 +1,27 @@
-ghost use Rattle.std.specs.Prelude.{◌≡◌, ◌≢◌, ◌<◌, ◌≤◌, ◌*◌, ◌-◌, ℕ, [], length, map, take, drop, nat_le, All, IfOk, IsTrue, slice_index_or};
+ghost use Rattle.std.specs.Prelude.{◌≡◌, ◌≢◌, ◌<◌, ◌≤◌, ◌*◌, ◌-◌, [], length, map, take, nat_le, All, IfOk, slice_index_or};
 ghost use Rattle.std.specs.List.{range_with_len};
 ghost use Rattle.dr_partials.specs.Trees as trees;
-ghost use Rattle.dr_meaning.specs.QueryLeaves.{query_leaves};
 ghost use Rattle.dr_nested.specs.SchemaView.{schema_view};
 ghost use Rattle.dr_table.specs.Views.{table_view};
 ghost use Rattle.dr_tree.specs.Views.{tree_view};
 ghost use Rattle.dr_tree.specs.Grows.{Growth, Grows};
-ghost use Rattle.dr_group.specs.Partials.{partial_view, IsPartialOf};
 ghost use Rattle.dr_plan.specs.PlanOf.{ForQuery};
-ghost use Rattle.dr_plan.specs.Planned.{IsOfSchema, plan_leaves, plan_view};
+ghost use Rattle.dr_plan.specs.Planned.{IsOfSchema, plan_leaves};
 ghost use Rattle.dr_reading.specs.Scan.{tablets_of};
 ghost use Rattle.dr_tablets.specs.Views.{all_left_view};
-ghost use Rattle.dr_tablets.specs.Asked.{AsksForTablets};
-ghost use Rattle.dr_serving.specs.Outcome.{IsFinished, IsUnfinished};
 ghost use Rattle.dr_serve.specs.Closing.{AreAddable, HasAnswered};
 ghost use Rattle.dr_serve.specs.GrowsOn.{AreSame, GrowsOn};
 ghost use Rattle.dr_serve.specs.Working.{table_job, TakesFrom};
-ghost use Rattle.dr_serve.specs.Counted.{StandsForCounted, AreLeftOf, held_of};
-ghost use Rattle.dr_serve.specs.Links.{Worked};
-ghost use Rattle.dr_serve.specs.Serving.{serving_by, first_shown, ClosesAfter, IsShare, IsFinishedBut, IsGrownOf, IsOfGrown, OfEachLink, WhereFinished, WhereMost, WhereUnfinished, WhereSomeLeft};
+ghost use Rattle.dr_serve.specs.Links.{Worked, LeavesLinks, OfEachLink};
+ghost use Rattle.dr_serve.specs.Serving.{first_shown, ClosesAfter, IsShare, IsGrownOf, IsOfGrown, WhereFinished, WhereMost, WhereUnfinished};
+ghost use Rattle.dr_serve.specs.Served.{ServedAs, IsHistoryOf, left_in};
 
-use crate::added::Added;
 use crate::answered::none_answered;
 use crate::closing::{Closed, close};
-use crate::outcome::Outcome;
-use crate::served::served;
+use crate::outcome::{Outcome, Served};
+use crate::served::{Heard, served};
 use crate::service::Service;
-use dr_desk::{Ground, Naming, Room};
+use dr_desk::{Event, Ground, Room};
 use dr_memory::NoMemory;
 use dr_outside::Link;
 use dr_plan::Plan;
@@ -37,44 +32,55 @@ use std::marker::Brand;
 use std::sync::Wait;
 use std::thread::Threads;
 
+// What came of all tablets, and the history of the desk that handed them out.
+#[derive(Drop)]
+struct Ended {
+    closed: Closed,
+    history: Vec<Event>,
+}
+
 // The tree grows of what the workers find, as they find it, and, after all have ended, of what the closing round gives
 // of the other tablets, with the first link.
 fn closed<
-    N: Naming<Added> + Send + Sync,
+    S: Service + Room + Send + Sync,
     B: Room + Send + Sync,
-    S: Service + Send + Sync,
     L: Link + Send,
     R: Threads + Wait + Sync,
 >(
     rt: &R,
     alloc: Global,
     ground: Ground,
+    added: Ground,
     plan: &Plan,
     table: &Table,
     tree: &Tree,
     links: &mut [L],
     lag: u64,
-) -> Result<Closed, NoMemory>
+) -> Result<Ended, NoMemory>
     requires ground { ground.table ≡ B.table }
     requires drawn { ground.tablets ≡ (table.now).tablets }
+    requires added { added.table ≡ S.table }
     requires planned { IsOfSchema (schema_view (table.now).schema) plan.now }
-    requires job { N.job ≡ table_job (table_view table.now) lag }
+    requires job { S.job ≡ table_job (table_view table.now) lag }
     requires tree { trees.tablets_of (tree_view tree.now) ≡ range_with_len 0 (table.now).tablets }
     requires some { 0 < length links.old }
-    requires told { (t : ℕ) (a : Added) → N.is_true t a }
     requires truth { All (λ l. TakesFrom (table_view table.now) plan.now S.is_true (L.shows l).held) links.old }
     requires addable { AreAddable (table_view table.now) plan.now S.is_true }
     requires grown { AreSame S.has_grown (HasAnswered (table_view table.now) plan.now (tree_view tree.now) S.is_true) }
     requires grows_on { GrowsOn S.is_true S.has_grown }
-    ensures closes { IfOk result (λ c. (l : L) → ClosesAfter (table_view table.now) plan.now (tree_view tree.now)
-        S.is_true (L.shows (slice_index_or links.old 0 l)) (L.shows (slice_index_or links.new 0 l)) c.grown
-        (all_left_view c.left.items)) }
+    ensures closes { IfOk result (λ e. (l : L) → ClosesAfter (table_view table.now) plan.now (tree_view tree.now)
+        S.is_true (L.shows (slice_index_or links.old 0 l)) (L.shows (slice_index_or links.new 0 l)) e.closed.grown
+        (all_left_view e.closed.left.items)) }
+    ensures history { IfOk result (λ e. IsHistoryOf (table_job (table_view table.now) lag) e.history.items
+        (all_left_view e.closed.left.items)) }
     ensures links { OfEachLink L.shows (Worked (table_view table.now) plan.now) links.old links.new }
     ensures count { length links.new ≡ length links.old }
 {
     let none = none_answered::<S>(alloc, plan, table, tree)?;
-    let answered = served::<N, B, S, L, R>(rt, alloc, ground, plan, table, none, links, lag)?;
-    close::<S, L>(alloc, &mut links[0], plan, table, answered)
+    let heard = served::<S, B, L, R>(rt, alloc, ground, added, plan, table, none, links, lag)?;
+    let Heard { answered, history } = heard;
+    let closed = close::<S, L>(alloc, &mut links[0], plan, table, answered)?;
+    Ok(Ended { closed, history })
 }
 
 // Whether so many of all tablets are at least this share of them, in hundredths.
@@ -135,49 +141,27 @@ fn serve_by<L: Link + Send, R: Threads + Wait + Sync>(
     links: &mut [L],
     lag: u64,
     least: u32,
-) -> Result<Outcome, NoMemory>
+) -> Result<Served, NoMemory>
     requires planned { IsOfSchema (schema_view (table.now).schema) plan.now }
     requires tree { trees.tablets_of (tree_view tree.now) ≡ range_with_len 0 (table.now).tablets }
     requires some { 0 < length links.old }
     requires least { (0 < least) × (least ≤ 100) }
-    ensures finished { ForQuery (schema_view (table.now).schema) plan.now
-        (λ q. IfOk result (WhereFinished (λ p. IsFinished (serving_by (schema_view (table.now).schema) q
-        (tablets_of (table_view table.now)) (map L.shows links.old)) (tree_view tree.now) (partial_view p)))) }
-    ensures finished_plan { IfOk result (WhereFinished (IsPartialOf (plan_view plan.now))) }
-    ensures finished_records { ForQuery (schema_view (table.now).schema) plan.now
-        (λ q. IfOk result (WhereFinished (λ p. StandsForCounted (table_view table.now) q
-        (held_of (map L.shows links.old)) [] (partial_view p)))) }
-    ensures most { ForQuery (schema_view (table.now).schema) plan.now
-        (λ q. IfOk result (WhereMost (λ p ls. IsFinishedBut (serving_by (schema_view (table.now).schema) q
-        (tablets_of (table_view table.now)) (map L.shows links.old)) (tree_view tree.now) ls (partial_view p)))) }
-    ensures most_records { ForQuery (schema_view (table.now).schema) plan.now
-        (λ q. IfOk result (WhereMost (λ p ls. StandsForCounted (table_view table.now) q
-        (held_of (map L.shows links.old)) ls (partial_view p)))) }
-    ensures most_plan { IfOk result (WhereMost (λ p ls. IsPartialOf (plan_view plan.now) p)) }
-    ensures most_left { ForQuery (schema_view (table.now).schema) plan.now
-        (λ q. IfOk result (WhereMost (λ p ls. IsUnfinished (serving_by (schema_view (table.now).schema) q
-        (tablets_of (table_view table.now)) (map L.shows links.old)) (first_shown (map L.shows links.new)).faults
-        ls))) }
-    ensures share { IfOk result (WhereMost (λ p ls. IsShare least ((table.now).tablets - length ls)
-        (table.now).tablets)) }
-    ensures unfinished { ForQuery (schema_view (table.now).schema) plan.now
-        (λ q. IfOk result (WhereUnfinished (IsUnfinished (serving_by (schema_view (table.now).schema) q
-        (tablets_of (table_view table.now)) (map L.shows links.old)) (first_shown (map L.shows links.new)).faults))) }
-    ensures short { IfOk result (WhereUnfinished (λ ls. 100 * ((table.now).tablets - length ls)
-        < least * (table.now).tablets)) }
-    ensures left_tablets { ForQuery (schema_view (table.now).schema) plan.now
-        (λ q. IfOk result (WhereSomeLeft (AreLeftOf (schema_view (table.now).schema)
-        (query_leaves (schema_view (table.now).schema).fields q) (tablets_of (table_view table.now))
-        (map L.shows links.old) (first_shown (map L.shows links.new)).faults))) }
-    ensures all { least ≡ 100 → IfOk result (WhereMost (λ p ls. ⊥)) }
+    ensures serves { ForQuery (schema_view (table.now).schema) plan.now
+        (λ q. IfOk result (λ s. ServedAs (table_view table.now) plan.now q (tree_view tree.now) least
+        (map L.shows links.old) (first_shown (map L.shows links.new)) s.outcome)) }
+    ensures history { IfOk result (λ s. IsHistoryOf (table_job (table_view table.now) lag) s.history.items
+        (left_in s.outcome)) }
     ensures links { OfEachLink L.shows (Worked (table_view table.now) plan.now) links.old links.new }
     ensures count { length links.new ≡ length links.old }
 {
     let ground = Ground::new(alloc, table.tablets as usize)?;
-    let closed = closed::<Brand, Brand, Brand, L, R>(
-        rt, alloc, ground, plan, table, tree, links, lag,
+    let added = Ground::new(alloc, 0)?;
+    let ended = closed::<Brand, Brand, L, R>(
+        rt, alloc, ground, added, plan, table, tree, links, lag,
     )?;
-    conclude(rt, alloc, closed, table.tablets as usize, least)
+    let Ended { closed, history } = ended;
+    let outcome = conclude(rt, alloc, closed, table.tablets as usize, least)?;
+    Ok(Served { outcome, history })
 }
 
 /// Serves a plan's query over a table by so many workers, the first so many of the links with one to a worker. The
@@ -199,64 +183,18 @@ pub fn serve<L: Link + Send, R: Threads + Wait + Sync>(
     workers: usize,
     lag: u64,
     least: u32,
-) -> Result<Outcome, NoMemory>
+) -> Result<Served, NoMemory>
     requires planned { IsOfSchema (schema_view (table.now).schema) plan.now }
     requires tree { trees.tablets_of (tree_view tree.now) ≡ range_with_len 0 (table.now).tablets }
     requires workers { (0 < workers) × (workers ≤ length links.old) }
     requires least { (0 < least) × (least ≤ 100) }
-
-    // None is left: the partial of all tablets.
-    ensures finished { ForQuery (schema_view (table.now).schema) plan.now
-        (λ q. IfOk result (WhereFinished (λ p. IsFinished (serving_by (schema_view (table.now).schema) q
-        (tablets_of (table_view table.now)) (map L.shows (take workers links.old))) (tree_view tree.now)
-        (partial_view p)))) }
-    ensures finished_plan { IfOk result (WhereFinished (IsPartialOf (plan_view plan.now))) }
-    ensures finished_records { ForQuery (schema_view (table.now).schema) plan.now
-        (λ q. IfOk result (WhereFinished (λ p. StandsForCounted (table_view table.now) q
-        (held_of (map L.shows (take workers links.old))) [] (partial_view p)))) }
-
-    // Some are left, and the others are the share: the partial of the others.
-    ensures most { ForQuery (schema_view (table.now).schema) plan.now
-        (λ q. IfOk result (WhereMost (λ p ls. IsFinishedBut (serving_by (schema_view (table.now).schema) q
-        (tablets_of (table_view table.now)) (map L.shows (take workers links.old))) (tree_view tree.now) ls
-        (partial_view p)))) }
-    ensures most_records { ForQuery (schema_view (table.now).schema) plan.now
-        (λ q. IfOk result (WhereMost (λ p ls. StandsForCounted (table_view table.now) q
-        (held_of (map L.shows (take workers links.old))) ls (partial_view p)))) }
-    ensures most_plan { IfOk result (WhereMost (λ p ls. IsPartialOf (plan_view plan.now) p)) }
-    ensures most_left { ForQuery (schema_view (table.now).schema) plan.now
-        (λ q. IfOk result (WhereMost (λ p ls. IsUnfinished (serving_by (schema_view (table.now).schema) q
-        (tablets_of (table_view table.now)) (map L.shows (take workers links.old)))
-        (first_shown (map L.shows links.new)).faults ls))) }
-    ensures share { IfOk result (WhereMost (λ p ls. IsShare least ((table.now).tablets - length ls)
-        (table.now).tablets)) }
-
-    // Some are left, and the others are less than it.
-    ensures unfinished { ForQuery (schema_view (table.now).schema) plan.now
-        (λ q. IfOk result (WhereUnfinished (IsUnfinished (serving_by (schema_view (table.now).schema) q
-        (tablets_of (table_view table.now)) (map L.shows (take workers links.old)))
-        (first_shown (map L.shows links.new)).faults))) }
-    ensures short { IfOk result (WhereUnfinished (λ ls. 100 * ((table.now).tablets - length ls)
-        < least * (table.now).tablets)) }
-
-    // Some are left.
-    ensures left_tablets { ForQuery (schema_view (table.now).schema) plan.now
-        (λ q. IfOk result (WhereSomeLeft (AreLeftOf (schema_view (table.now).schema)
-        (query_leaves (schema_view (table.now).schema).fields q) (tablets_of (table_view table.now))
-        (map L.shows (take workers links.old)) (first_shown (map L.shows links.new)).faults))) }
-
-    // The links.
-    ensures asks { OfEachLink L.shows (AsksForTablets (plan_leaves plan.now) (tablets_of (table_view table.now)))
-        links.old links.new }
-    ensures same { OfEachLink L.shows (λ old new. new.held ≡ old.held) links.old links.new }
-    ensures never_falls { OfEachLink L.shows (λ old new. old.faults ≤ new.faults) links.old links.new }
-    ensures stays_steady { OfEachLink L.shows (λ old new. IsTrue old.is_steady → IsTrue new.is_steady) links.old
+    ensures serves { ForQuery (schema_view (table.now).schema) plan.now
+        (λ q. IfOk result (λ s. ServedAs (table_view table.now) plan.now q (tree_view tree.now) least
+        (map L.shows (take workers links.old)) (first_shown (map L.shows links.new)) s.outcome)) }
+    ensures history { IfOk result (λ s. IsHistoryOf (table_job (table_view table.now) lag) s.history.items
+        (left_in s.outcome)) }
+    ensures links { LeavesLinks (plan_leaves plan.now) (tablets_of (table_view table.now)) L.shows workers links.old
         links.new }
-    ensures others { drop workers links.new ≡ drop workers links.old }
-    ensures count { length links.new ≡ length links.old }
-
-    // What follows from that.
-    ensures all { least ≡ 100 → IfOk result (WhereMost (λ p ls. ⊥)) }
 {
     serve_by(
         rt,

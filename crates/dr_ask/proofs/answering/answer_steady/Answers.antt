@@ -1,32 +1,39 @@
-use Rattle.std.proofs.Common.{string_bytes, map, take, [], subst}
-use Rattle.dr_meaning.specs.QueryLeaves.{query_leaves}
-use Rattle.dr_reading.specs.Scan.{tablets_of}
+use Rattle.std.proofs.Common.{string_bytes, map, take, subst}
 use Rattle.dr_table.specs.Views.{table_view}
 use Rattle.dr_tablets.specs.Views.{all_left_view}
 use Rattle.dr_serve.specs.Serving.{first_shown}
-use Rattle.dr_serve.specs.Counted.{AreLeftOf}
-use Rattle.dr_query.specs.Answers.{IsAnswerBut, WhereMost, WhereSomeLeft, WhereText}
+use Rattle.dr_query.specs.Answers.{AnsweredAs}
 use Rattle.dr_ask.proofs.AnswerLemmas.{answer_is, steady_leaves_none}
 use Rattle.dr_ask.proofs.answering.answer_steady.Goals as goal
 
-pub returns-in-Ok-Text-clause-text : goal.returns-in-Ok-Text-clause-text
-returns-in-Ok-Text-clause-text g c =
+pub returns : goal.returns
+returns g c =
     let t = table_view c.args.table.now in
     let links = map g.L.Link.shows (take c.args.service.now.workers c.args.links.now) in
-    λ files R hold h q b. answer_is g.L.Link.shows t q c.args.plan.now c.args.service.now.workers c.args.links.now files R (string_bytes c.in-Ok-Text.text) hold h b
-    (subst (WhereText (IsAnswerBut t q links [])) c.in-Ok-Text.field-0-is (c.in-Ok-Text.ensures.text q b))
+    let now = first_shown (map g.L.Link.shows c.query_table.new.links) in
+    record {
+      text = λ files R hold h q b.
+          let answered = subst (AnsweredAs t q c.args.service.now.least links now) c.in-Text.is (c.in_ok-text.ensures.answers q b) in
+          answer_is g.L.Link.shows t q c.args.plan.now c.args.service.now.workers c.args.links.now files R (string_bytes c.in-Text.text) hold h b answered.ends.text;
+    }
 
 -- all tablets are asked for
-pub returns-in-Ok-Most-clause-memory : goal.returns-in-Ok-Most-clause-memory
-returns-in-Ok-Most-clause-memory g c = absurd (subst (WhereMost (λ text left. ⊥)) c.in-Ok-Most.field-0-is (c.in-Ok-Most.ensures.all c.requires.least))
-
--- a query has this plan, and of its table no tablet is left
-pub returns-in-Ok-Left-clause-memory : goal.returns-in-Ok-Left-clause-memory
-returns-in-Ok-Left-clause-memory g c =
+pub unreachable-requires : goal.unreachable-requires
+unreachable-requires g c =
     let t = table_view c.args.table.now in
     let p = c.requires.planned in
     let links = map g.L.Link.shows (take c.args.service.now.workers c.args.links.now) in
-    let now = (first_shown (map g.L.Link.shows c.query_table.new.links)).faults in
-    let left = subst (WhereSomeLeft (AreLeftOf t.schema (query_leaves t.schema.fields p.1) (tablets_of t) links now)) c.in-Ok-Left.field-0-is (c.in-Ok-Left.ensures.left p.1 (p.0, p.2, p.3)) in
-    absurd (steady_leaves_none g.L.Link.shows t p.1 c.args.service.now.workers c.args.links.now now c.requires.held.0 c.requires.held.2 (all_left_view c.in-Ok-Left.field-0-0.items) c.requires.workers.0 c.requires.workers.1 c.requires.held.1 c.requires.steady
-    c.args.table.now.has_copy c.requires.held.3 left)
+    let now = first_shown (map g.L.Link.shows c.query_table.new.links) in
+    let answered = subst (AnsweredAs t p.1 c.args.service.now.least links now) c.in-Most.is (c.in_ok-text.ensures.answers p.1 (p.0, p.2, p.3)) in
+    absurd (answered.ends.all c.requires.least)
+
+-- a query has this plan, and of its table no tablet is left
+pub unreachable-requires-in-Left : goal.unreachable-requires-in-Left
+unreachable-requires-in-Left g c =
+    let t = table_view c.args.table.now in
+    let p = c.requires.planned in
+    let links = map g.L.Link.shows (take c.args.service.now.workers c.args.links.now) in
+    let now = first_shown (map g.L.Link.shows c.query_table.new.links) in
+    let answered = subst (AnsweredAs t p.1 c.args.service.now.least links now) c.in-Left.is (c.in_ok-text.ensures.answers p.1 (p.0, p.2, p.3)) in
+    absurd (steady_leaves_none g.L.Link.shows t p.1 c.args.service.now.workers c.args.links.now now.faults c.requires.held.0 c.requires.held.2 (all_left_view c.in-Left.field-0.items) c.requires.workers.0 c.requires.workers.1 c.requires.held.1 c.requires.steady
+    c.args.table.now.has_copy c.requires.held.3 answered.ends.left)

@@ -1,6 +1,5 @@
 use Rattle.std.proofs.Common.{arith, map, string_bytes, ap, ◌∙◌, length}
 use Rattle.std.proofs.lemmas.List.{length-map}
-use Rattle.std.proofs.lemmas.Result.{IfOk-weaker}
 use Rattle.dr_nested.specs.SchemaView.{schema_view}
 use Rattle.dr_outside.specs.Shelf.{files_of}
 use Rattle.dr_load.specs.Faults.{refusal_of}
@@ -36,4 +35,5 @@ returns-clause-text g c =
     let m : IsMemory (schema_view c.args.schema) ds c.args.rows = record { schema = c.args.schema.valid; one_directory = length-map c.deref.result.now string_bytes ∙ ap length c.deref.ensures.value ∙ c.in_ok-leaves.ensures; has_rows = c.requires.has_rows; few_rows = c.requires.few_rows } in
     let l = c.in-Ok.ensures.table in
     let held = memory_holds (schema_view c.args.schema) ds (map string_bytes c.in_ok-leaves.leaves.items) c.args.rows c.in-Ok.loaded.tablets (g.S.Source.shows c.args.source.now).left (files_of c.new-shelf.result) (files_of c.load.new.keeper) m l (ap (map string_bytes) c.deref.ensures.value) in
-    IfOk-weaker c.answer_steady.result _ _ (λ t f q b. memory_answers (schema_view c.args.schema) q ds c.args.rows c.in-Ok.loaded.tablets (g.S.Source.shows c.args.source.now).left (files_of c.new-shelf.result) (files_of c.load.new.keeper) (string_bytes t) m l (f q b)) (c.answer_steady.ensures.text (files_of c.load.new.keeper) l.records (lent_hold c.load.new.keeper c.in_ok-links.links.items c.deref_mut.result.now c.deref_mut.ensures.value c.in_ok-links.ensures.shelf) held)
+    let printed = c.in_ok-text.ensures.text (files_of c.load.new.keeper) l.records (lent_hold c.load.new.keeper c.in_ok-links.links.items c.deref_mut.result.now c.deref_mut.ensures.value c.in_ok-links.ensures.shelf) held in
+    λ q b. memory_answers (schema_view c.args.schema) q ds c.args.rows c.in-Ok.loaded.tablets (g.S.Source.shows c.args.source.now).left (files_of c.new-shelf.result) (files_of c.load.new.keeper) (string_bytes c.in_ok-text.text) m l (printed q b)

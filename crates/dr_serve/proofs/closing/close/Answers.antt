@@ -1,8 +1,10 @@
-use Rattle.std.proofs.Common.{length, ap, arith}
+use Rattle.std.proofs.Common.{◌≡◌, ℕ, length, ap, subst, arith}
+use Rattle.dr_plan.specs.Planned.{plan_leaves}
 use Rattle.std.proofs.lemmas.List.{drop_all, length-map}
 use Rattle.dr_table.specs.Views.{table_view}
 use Rattle.dr_tablets.specs.Views.{all_left_view}
 use Rattle.dr_serve.specs.Closing.{has_some}
+use Rattle.dr_serve.specs.Rounds.{HasRead}
 use Rattle.dr_serve.proofs.CloseLemmas.{none_closed, next_tablet, all_closed, when_done}
 use Rattle.dr_serve.proofs.LinkLemmas.{worked_none, worked_more}
 use Rattle.dr_serve.proofs.closing.close.Goals as goal
@@ -46,6 +48,14 @@ returns-clause-closes g c =
 
 pub returns-clause-rises : goal.returns-clause-rises
 returns-clause-rises g c = let found = c.requires.found in (c.tablets.invariant.0 found.0 found.1 found.2 found.3).rises
+
+pub returns-clause-read : goal.returns-clause-read
+returns-clause-read g c =
+    let found = c.requires.found in
+    let many = found.2.count in
+    let n : c.tablets.tablet ≡ c.args.table.now.tablets = omega (arith, c.tablets-test.false, c.tablets.auto.tablet-end) in
+    subst (λ (m : ℕ). HasRead (table_view c.args.table.now) (plan_leaves c.args.plan.now) (g.L.Link.shows c.args.link.now) (g.L.Link.shows c.tablets.link) m (all_left_view c.tablets.closed.left.items)) n
+    (c.tablets.invariant.0 found.0 found.1 found.2 found.3).read
 
 pub returns-in_err-close_tablet-clause-link : goal.returns-in_err-close_tablet-clause-link
 returns-in_err-close_tablet-clause-link g c =

@@ -23,4 +23,4 @@ returns-clause-closed g c =
     λ next. where_both c.keep.result c.keep.ensures.left c.keep.ensures.grown (λ e k.
     scanned_closed (table_view c.args.table.now) c.args.plan.now next.tree g.S.Service.is_true next.first (g.L.Link.shows c.args.link.now) now next.all next.rest c.args.tablet c.args.closed.now.grown c.keep.new.closed.grown
     (all_left_view c.args.closed.now.left.items) (all_left_view c.keep.new.closed.left.items) next.place next.closed (sym next.same ∙ c.if-has_piece.false) c.requires.addable c.args.table.now.few_tablets
-    c.in_ok-outcome.outcome c.outcome_of.ensures.link c.in_ok-outcome.ensures.outcome c.in_ok-outcome.ensures.rises e k)
+    c.in_ok-outcome.outcome c.outcome_of.ensures.link c.in_ok-outcome.ensures.outcome c.in_ok-outcome.ensures.rises c.in_ok-outcome.ensures.read e k)
