@@ -9,7 +9,7 @@ use Rattle.dr_file.specs.Asking.{is_for_path, is_request_for}
 use Rattle.dr_reading.specs.Scan.{Scan}
 use Rattle.dr_tablets.specs.Asked.{AsksForTablets}
 use Rattle.dr_tablets.proofs.AskedTablets.{asks_none, held_nothing, path_asks}
-use Rattle.dr_serve.specs.Serving.{OfEachLink}
+use Rattle.dr_serve.specs.Links.{OfEachLink}
 use Rattle.dr_commands.specs.Meaning.{Meaning, Outcome, done, refused, scans, serves, looks_at}
 use Rattle.dr_commands.specs.Commands.{CommandWords, meaning_of}
 use Rattle.dr_top.specs.World.{Lent, WithEach}

@@ -6,7 +6,7 @@ use Rattle.dr_tablets.specs.Views.{all_left_view}
 use Rattle.dr_serve.specs.Serving.{IsShare, first_shown}
 use Rattle.dr_serve.specs.Counted.{AreLeftOf}
 use Rattle.dr_commands.specs.Query.{query_meaning, query_view}
-use Rattle.dr_query.specs.Answers.{IsAnswerBut, WhereText, WhereMost, WhereSomeLeft, WhereLeft}
+use Rattle.dr_query.specs.Answers.{AnsweredAs}
 use Rattle.dr_top.specs.World.{outcome_on}
 use Rattle.dr_top.specs.Stops.{query_stop, table_stop}
 use Rattle.dr_top.proofs.OutcomeLemmas.{err_is}
@@ -35,27 +35,25 @@ returns-in-Text-clause-text g c =
     let t = table_view c.in_ok-table.table in
     let read = c.in_ok-plan.ensures.plan in
     query_text_ends (query_view c.args.words.now) g.L.Link.shows c.args.links.now c.service_of.result.workers c.args.file.now c.as_str.result.now t read.0 c.as_str.ensures.value c.service_of.ensures.workers c.in_ok-table.ensures read.1 (map g.L.Link.shows c.query_table.new.links) (string_bytes c.in-Text.text)
-    (subst (WhereText (IsAnswerBut t read.0 (map g.L.Link.shows (take c.service_of.result.workers c.args.links.now)) [])) c.in-Text.is (c.in_ok-text.ensures.text read.0 read.2))
+    (subst (AnsweredAs t read.0 c.service_of.result.least (map g.L.Link.shows (take c.service_of.result.workers c.args.links.now)) (first_shown (map g.L.Link.shows c.query_table.new.links))) c.in-Text.is (c.in_ok-text.ensures.answers read.0 read.2)).ends.text
 
 pub returns-in-Most-clause-stops : goal.returns-in-Most-clause-stops
 returns-in-Most-clause-stops g c =
     let t = table_view c.in_ok-table.table in
     let read = c.in_ok-plan.ensures.plan in
     let now = map g.L.Link.shows c.query_table.new.links in
-    let links = map g.L.Link.shows (take c.service_of.result.workers c.args.links.now) in
+    let answered = subst (AnsweredAs t read.0 c.service_of.result.least (map g.L.Link.shows (take c.service_of.result.workers c.args.links.now)) (first_shown now)) c.in-Most.is (c.in_ok-text.ensures.answers read.0 read.2) in
     query_most (query_view c.args.words.now) g.L.Link.shows c.args.links.now c.service_of.result.workers c.args.file.now c.as_str.result.now t read.0 c.as_str.ensures.value c.service_of.ensures.workers c.in_ok-table.ensures read.1 now c.service_of.result.least (string_bytes c.in-Most.text) (all_left_view c.in-Most.left.items) c.service_of.ensures.least
-    (subst (WhereSomeLeft (AreLeftOf t.schema (query_leaves t.schema.fields read.0) (tablets_of t) links (first_shown now).faults)) c.in-Most.is (c.in_ok-text.ensures.left read.0 read.2))
-    (subst (WhereMost (λ text left. IsShare c.service_of.result.least (t.tablets - length left) t.tablets)) c.in-Most.is c.in_ok-text.ensures.share)
-    (subst (WhereMost (λ text left. IsAnswerBut t read.0 links left text)) c.in-Most.is (c.in_ok-text.ensures.most read.0 read.2))
+    answered.ends.left answered.ends.share answered.ends.most answered.round
 
 pub returns-clause-stops : goal.returns-clause-stops
 returns-clause-stops g c =
     let t = table_view c.in_ok-table.table in
     let read = c.in_ok-plan.ensures.plan in
     let now = map g.L.Link.shows c.query_table.new.links in
+    let answered = subst (AnsweredAs t read.0 c.service_of.result.least (map g.L.Link.shows (take c.service_of.result.workers c.args.links.now)) (first_shown now)) c.in-Left.is (c.in_ok-text.ensures.answers read.0 read.2) in
     query_left (query_view c.args.words.now) g.L.Link.shows c.args.links.now c.service_of.result.workers c.args.file.now c.as_str.result.now t read.0 c.as_str.ensures.value c.service_of.ensures.workers c.in_ok-table.ensures read.1 now c.service_of.result.least (all_left_view c.in-Left.left.items) c.service_of.ensures.least
-    (subst (WhereSomeLeft (AreLeftOf t.schema (query_leaves t.schema.fields read.0) (tablets_of t) (map g.L.Link.shows (take c.service_of.result.workers c.args.links.now)) (first_shown now).faults)) c.in-Left.is (c.in_ok-text.ensures.left read.0 read.2))
-    (subst (WhereLeft (λ left. 100 * (t.tablets - length left) < c.service_of.result.least * t.tablets)) c.in-Left.is c.in_ok-text.ensures.short)
+    answered.ends.left answered.ends.short answered.round
 
 pub returns-in_err-table-clause-reads : goal.returns-in_err-table-clause-reads
 returns-in_err-table-clause-reads g c = none_asked (map g.L.Link.shows c.args.links.now) (outcome_on (query_meaning (query_view c.args.words.now)) c.args.file.now [])
@@ -73,42 +71,42 @@ pub returns-in_err-text-clause-reads : goal.returns-in_err-text-clause-reads
 returns-in_err-text-clause-reads g c =
     let t = table_view c.in_ok-table.table in
     let read = c.in_ok-plan.ensures.plan in
-    query_asks (query_view c.args.words.now) g.L.Link.shows c.args.links.now c.service_of.result.workers c.args.file.now c.as_str.result.now t read.0 c.as_str.ensures.value c.service_of.ensures.workers c.in_ok-table.ensures read.1 c.query_table.new.links c.query_table.ensures.count (c.query_table.ensures.asks read.0 read.2)
+    query_asks (query_view c.args.words.now) g.L.Link.shows c.args.links.now c.service_of.result.workers c.args.file.now c.as_str.result.now t read.0 c.as_str.ensures.value c.service_of.ensures.workers c.in_ok-table.ensures read.1 c.query_table.new.links (c.query_table.ensures.links read.0 read.2).count (c.query_table.ensures.links read.0 read.2).asks
 
 pub returns-in_err-text-clause-links : goal.returns-in_err-text-clause-links
 returns-in_err-text-clause-links g c =
-    links_left_by g.L.Link.shows c.service_of.result.workers c.args.words.now.serving.workers c.args.links.now c.query_table.new.links c.service_of.ensures.workers (omega (arith, c.requires.links, c.args.words.now.serving.few_workers)) c.query_table.ensures.count
-    c.query_table.ensures.same c.query_table.ensures.others
+    links_left_by g.L.Link.shows c.service_of.result.workers c.args.words.now.serving.workers c.args.links.now c.query_table.new.links c.service_of.ensures.workers (omega (arith, c.requires.links, c.args.words.now.serving.few_workers)) (c.query_table.ensures.links c.in_ok-plan.ensures.plan.0 c.in_ok-plan.ensures.plan.2).count
+    (c.query_table.ensures.links c.in_ok-plan.ensures.plan.0 c.in_ok-plan.ensures.plan.2).same (c.query_table.ensures.links c.in_ok-plan.ensures.plan.0 c.in_ok-plan.ensures.plan.2).others
 
 pub returns-in-Text-clause-reads : goal.returns-in-Text-clause-reads
 returns-in-Text-clause-reads g c =
     let t = table_view c.in_ok-table.table in
     let read = c.in_ok-plan.ensures.plan in
-    query_asks (query_view c.args.words.now) g.L.Link.shows c.args.links.now c.service_of.result.workers c.args.file.now c.as_str.result.now t read.0 c.as_str.ensures.value c.service_of.ensures.workers c.in_ok-table.ensures read.1 c.query_table.new.links c.query_table.ensures.count (c.query_table.ensures.asks read.0 read.2)
+    query_asks (query_view c.args.words.now) g.L.Link.shows c.args.links.now c.service_of.result.workers c.args.file.now c.as_str.result.now t read.0 c.as_str.ensures.value c.service_of.ensures.workers c.in_ok-table.ensures read.1 c.query_table.new.links (c.query_table.ensures.links read.0 read.2).count (c.query_table.ensures.links read.0 read.2).asks
 
 pub returns-in-Text-clause-links : goal.returns-in-Text-clause-links
 returns-in-Text-clause-links g c =
-    links_left_by g.L.Link.shows c.service_of.result.workers c.args.words.now.serving.workers c.args.links.now c.query_table.new.links c.service_of.ensures.workers (omega (arith, c.requires.links, c.args.words.now.serving.few_workers)) c.query_table.ensures.count
-    c.query_table.ensures.same c.query_table.ensures.others
+    links_left_by g.L.Link.shows c.service_of.result.workers c.args.words.now.serving.workers c.args.links.now c.query_table.new.links c.service_of.ensures.workers (omega (arith, c.requires.links, c.args.words.now.serving.few_workers)) (c.query_table.ensures.links c.in_ok-plan.ensures.plan.0 c.in_ok-plan.ensures.plan.2).count
+    (c.query_table.ensures.links c.in_ok-plan.ensures.plan.0 c.in_ok-plan.ensures.plan.2).same (c.query_table.ensures.links c.in_ok-plan.ensures.plan.0 c.in_ok-plan.ensures.plan.2).others
 
 pub returns-in-Most-clause-reads : goal.returns-in-Most-clause-reads
 returns-in-Most-clause-reads g c =
     let t = table_view c.in_ok-table.table in
     let read = c.in_ok-plan.ensures.plan in
-    query_asks (query_view c.args.words.now) g.L.Link.shows c.args.links.now c.service_of.result.workers c.args.file.now c.as_str.result.now t read.0 c.as_str.ensures.value c.service_of.ensures.workers c.in_ok-table.ensures read.1 c.query_table.new.links c.query_table.ensures.count (c.query_table.ensures.asks read.0 read.2)
+    query_asks (query_view c.args.words.now) g.L.Link.shows c.args.links.now c.service_of.result.workers c.args.file.now c.as_str.result.now t read.0 c.as_str.ensures.value c.service_of.ensures.workers c.in_ok-table.ensures read.1 c.query_table.new.links (c.query_table.ensures.links read.0 read.2).count (c.query_table.ensures.links read.0 read.2).asks
 
 pub returns-in-Most-clause-links : goal.returns-in-Most-clause-links
 returns-in-Most-clause-links g c =
-    links_left_by g.L.Link.shows c.service_of.result.workers c.args.words.now.serving.workers c.args.links.now c.query_table.new.links c.service_of.ensures.workers (omega (arith, c.requires.links, c.args.words.now.serving.few_workers)) c.query_table.ensures.count
-    c.query_table.ensures.same c.query_table.ensures.others
+    links_left_by g.L.Link.shows c.service_of.result.workers c.args.words.now.serving.workers c.args.links.now c.query_table.new.links c.service_of.ensures.workers (omega (arith, c.requires.links, c.args.words.now.serving.few_workers)) (c.query_table.ensures.links c.in_ok-plan.ensures.plan.0 c.in_ok-plan.ensures.plan.2).count
+    (c.query_table.ensures.links c.in_ok-plan.ensures.plan.0 c.in_ok-plan.ensures.plan.2).same (c.query_table.ensures.links c.in_ok-plan.ensures.plan.0 c.in_ok-plan.ensures.plan.2).others
 
 pub returns-clause-reads : goal.returns-clause-reads
 returns-clause-reads g c =
     let t = table_view c.in_ok-table.table in
     let read = c.in_ok-plan.ensures.plan in
-    query_asks (query_view c.args.words.now) g.L.Link.shows c.args.links.now c.service_of.result.workers c.args.file.now c.as_str.result.now t read.0 c.as_str.ensures.value c.service_of.ensures.workers c.in_ok-table.ensures read.1 c.query_table.new.links c.query_table.ensures.count (c.query_table.ensures.asks read.0 read.2)
+    query_asks (query_view c.args.words.now) g.L.Link.shows c.args.links.now c.service_of.result.workers c.args.file.now c.as_str.result.now t read.0 c.as_str.ensures.value c.service_of.ensures.workers c.in_ok-table.ensures read.1 c.query_table.new.links (c.query_table.ensures.links read.0 read.2).count (c.query_table.ensures.links read.0 read.2).asks
 
 pub returns-clause-links : goal.returns-clause-links
 returns-clause-links g c =
-    links_left_by g.L.Link.shows c.service_of.result.workers c.args.words.now.serving.workers c.args.links.now c.query_table.new.links c.service_of.ensures.workers (omega (arith, c.requires.links, c.args.words.now.serving.few_workers)) c.query_table.ensures.count
-    c.query_table.ensures.same c.query_table.ensures.others
+    links_left_by g.L.Link.shows c.service_of.result.workers c.args.words.now.serving.workers c.args.links.now c.query_table.new.links c.service_of.ensures.workers (omega (arith, c.requires.links, c.args.words.now.serving.few_workers)) (c.query_table.ensures.links c.in_ok-plan.ensures.plan.0 c.in_ok-plan.ensures.plan.2).count
+    (c.query_table.ensures.links c.in_ok-plan.ensures.plan.0 c.in_ok-plan.ensures.plan.2).same (c.query_table.ensures.links c.in_ok-plan.ensures.plan.0 c.in_ok-plan.ensures.plan.2).others
