@@ -32,6 +32,8 @@ pub mod Refusals
 pub mod Ask
 pub mod Stripe
 pub mod Fsm
+-- what each line of a session comes to, and what all lines print
+pub mod Session
 -- laws, each proved on a law function of src/
 pub mod SchemaTextLaws
 pub mod TokenLaws

@@ -37,3 +37,5 @@ pub mod WholeBinding
 -- worked examples
 pub mod WorkedRules
 pub mod WorkedReadBack
+pub mod RowSessions
+pub mod FullSession
