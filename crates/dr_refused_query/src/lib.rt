@@ -14,7 +14,6 @@ pub mod plan;
 pub mod planning;
 pub mod printing;
 pub mod resolving;
-pub mod rewriting;
 pub mod rules;
 pub mod scalar;
 pub mod sql;

@@ -6,6 +6,5 @@ pub mod ListLemmas
 pub mod RewritingTextLemmas
 pub mod LineLemmas
 pub mod ServerItemLemmas
-pub mod LeafLemmas
 pub mod MergeLemmas
 pub mod MergePlanLemmas

@@ -1,5 +1,5 @@
 -- The plans that merge results run the definitions' queries.
-use Rattle.std.proofs.Common.{◌≡◌, ℕ, ◌+◌, List, [], ◌++◌, map, length, true, None, Vec, sym, ap, ap₂, ◌∙◌, subst, arith}
+use Rattle.std.proofs.Common.{◌≡◌, ℕ, ◌+◌, List, [], ◌++◌, map, length, true, ◌&&◌, None, Vec, sym, ap, ap₂, ◌∙◌, subst, arith}
 use Rattle.std.specs.Prelude.{nat_lt}
 use Rattle.std.specs.List.{list_all, slice_get, range_with_len}
 use Rattle.std.specs.declared.alloc.Global.{Global}
@@ -18,18 +18,25 @@ use Rattle.dr_plan.specs.declared.plan.GroupItem.{GroupItem}
 use Rattle.dr_plan.specs.declared.plan.Plan.{Plan}
 use Rattle.dr_plan.specs.declared.plan.RecordItem.{RecordItem}
 use Rattle.dr_plan.specs.declared.plan.Selection.{Selection}
-use Rattle.dr_plan.specs.Fitting.{aggregate_fits, selection_fits}
+use Rattle.dr_plan.specs.Fitting.{aggregate_fits, are_numbered, has_key, selection_fits}
 use Rattle.dr_plan.specs.Planned.{plan_leaves, plan_view, planned_query}
 use Rattle.dr_plan.specs.Views.{aggregate_view, group_item_view, path_of, selection_view, truth_view}
 use Rattle.dr_rewrite.specs.Merge.{MergesColumns}
 use Rattle.dr_rewrite.specs.RowColumns.{row_columns}
 use Rattle.dr_rewrite.specs.ServerItems.{titled, server_items, are_placed}
-use Rattle.dr_rewrite.proofs.LeafLemmas.{groups_fit}
 use Rattle.dr_rewrite.proofs.LineLemmas.{items_at, parts_of, paths_at}
+use Rattle.dr_rewrite.proofs.RewritingTextLemmas.{numbers_of}
 use Rattle.dr_rewrite.proofs.MergeLemmas.{aggregates_fit, aggregates_seen, keys_below, keys_seen, many, root_seen, terms_count}
-use Rattle.dr_rewrite.proofs.ServerItemLemmas.{both_true, by_titles, placed_of, server_items_placed, server_items_seen, titled_view}
+use Rattle.dr_rewrite.proofs.ServerItemLemmas.{both_true, by_titles, placed_fit, placed_of, server_items_placed, server_items_seen, titled_view}
 
 -- ---- what is selected fits the columns
+
+-- keys and aggregates that fit, and items that are placed among them
+groups_fit : (ls : List Leaf) (keys : Vec ℕ Global) (all : Vec Aggregate Global) (items : Vec GroupItem Global) → (list_all (λ k. nat_lt k (length ls)) keys.items && list_all (aggregate_fits ls) all.items) ≡ true
+    → are_placed (length keys.items) (length all.items) (map titled items.items) ≡ true → selection_fits ls (Selection.Groups keys all items) ≡ true
+groups_fit ls keys all items h g =
+    let p = placed_fit (length keys.items) (length all.items) items.items g in
+    both_true _ (are_numbered 0 (numbers_of items.items) (length all.items)) (both_true _ (list_all (λ (i : GroupItem). has_key (length keys.items) i.term) items.items) h p.0) p.1
 
 pub merging_fits : (ls : List Leaf) (keys : List ℕ) (gs : List Aggregate) (items : Vec GroupItem Global) (s : Selection) → MergesColumns keys gs items s
     → are_placed (length keys) (length gs) (map titled items.items) ≡ true → selection_fits (row_columns ls keys gs) s ≡ true

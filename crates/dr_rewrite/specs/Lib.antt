@@ -1,5 +1,4 @@
 pub mod Items
-pub mod LeafPlans
 pub mod Lines
 pub mod Lists
 pub mod Merge

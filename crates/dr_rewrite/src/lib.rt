@@ -4,7 +4,6 @@
 mod columns;
 mod condition;
 mod expressions;
-mod leaf;
 mod leaf_items;
 mod lines;
 mod lists;
@@ -21,6 +20,5 @@ mod row_columns;
 mod server_items;
 mod terms;
 
-pub use leaf::leaf_of;
 pub use merge::{Merge, inner_of, root_of};
 pub use rewriting::rewriting_text;

@@ -2,7 +2,7 @@
 
 use dr_bind::bind;
 use dr_nested::parse_schema;
-use dr_rewrite::{inner_of, leaf_of, root_of};
+use dr_rewrite::{inner_of, root_of};
 use dr_sql::parse;
 use std::test::Fail;
 
@@ -24,7 +24,6 @@ fn each_server_has_a_plan(rt: HostRuntime) -> Result<(), Fail> {
         let plan = bind(alloc, &schema, &query).or(Err("plan"))?;
         inner_of(alloc, &plan)?;
         root_of(alloc, &plan)?;
-        leaf_of(alloc, plan)?;
     }
     Ok(())
 }
