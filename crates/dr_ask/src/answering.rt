@@ -14,7 +14,7 @@ ghost use Rattle.dr_ask.specs.Asked.{HoldsTableOf};
 use dr_memory::NoMemory;
 use dr_outside::Link;
 use dr_plan::Plan;
-use dr_query::{Queried, Service, query_table};
+use dr_query::{Queried, ServeOptions, query_table};
 use dr_table::Table;
 use std::alloc::Global;
 use std::sync::Wait;
@@ -31,12 +31,12 @@ pub(crate) fn answer_steady<R: Threads + Wait + Sync, L: Link + Send>(
     links: &mut [L],
     table: &Table,
     plan: &Plan,
-    service: &Service,
+    options: &ServeOptions,
 ) -> Result<String, NoMemory>
     requires planned { IsOfSchema (schema_view (table.now).schema) plan.now }
-    requires workers { (0 < (service.now).workers) × ((service.now).workers ≤ length links.old) }
-    requires fan { 1 ≤ (service.now).fan }
-    requires least { (service.now).least ≡ 100 }
+    requires workers { (0 < (options.now).workers) × ((options.now).workers ≤ length links.old) }
+    requires fan { 1 ≤ (options.now).fan }
+    requires least { (options.now).least ≡ 100 }
     requires steady { All (λ l. IsTrue (L.shows l).is_steady) links.old }
     requires held { (files : Files) × All (λ l. (L.shows l).held ≡ Some files) links.old
         × (R : List Node) × HoldsTableOf (table_view table.now) (Some files) R }
@@ -45,7 +45,7 @@ pub(crate) fn answer_steady<R: Threads + Wait + Sync, L: Link + Send>(
         → IfOk result (λ t. (q : Query) → IsPlanOf (schema_view (table.now).schema) q plan.now → string_bytes t
         ≡ answer_text (schema_view (table.now).schema) q R) }
 {
-    match query_table(rt, alloc, links, table, plan, service)? {
+    match query_table(rt, alloc, links, table, plan, options)? {
         Queried::Text(text) => Ok(text),
         Queried::Most(_, _) => unreachable!(),
         Queried::Left(_) => unreachable!(),

@@ -20,7 +20,7 @@ use dr_nested::Schema;
 use dr_outside::{Shelf, Source};
 use dr_page::PageForm;
 use dr_plan::Plan;
-use dr_query::Service;
+use dr_query::ServeOptions;
 use dr_table::Table;
 use std::alloc::Global;
 use std::sync::Wait;
@@ -48,15 +48,15 @@ pub fn ask_input<R: Threads + Wait + Sync, S: Source>(
     schema: Schema,
     plan: &Plan,
     rows: u32,
-    service: &Service,
+    options: &ServeOptions,
     source: &mut S,
 ) -> Result<String, LoadFault>
     requires planned { IsOfSchema (schema_view schema) plan.now }
     requires has_rows { 0 < rows }
     requires few_rows { rows ≤ 1000000 }
-    requires workers { 0 < (service.now).workers }
-    requires fan { 1 ≤ (service.now).fan }
-    requires least { (service.now).least ≡ 100 }
+    requires workers { 0 < (options.now).workers }
+    requires fan { 1 ≤ (options.now).fan }
+    requires least { (options.now).least ≡ 100 }
     ensures text { IfOk result (λ t. (q : Query) → IsPlanOf (schema_view schema) q plan.now
         → WhereTold (S.shows source.old).left (IsAnswerTo (schema_view schema) q rows (string_bytes t))) }
     ensures end { OnOk result (WhereTold (S.shows source.old).left (λ _. (S.shows source.new).left ≡ Some [])) }
@@ -91,7 +91,7 @@ pub fn ask_input<R: Threads + Wait + Sync, S: Source>(
         copies: 1,
         tablets,
     };
-    let mut links = lent(alloc, &shelf, service.workers)?;
-    let text = answer_steady(rt, alloc, &mut links, &table, plan, service)?;
+    let mut links = lent(alloc, &shelf, options.workers)?;
+    let text = answer_steady(rt, alloc, &mut links, &table, plan, options)?;
     Ok(text)
 }

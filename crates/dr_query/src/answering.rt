@@ -18,7 +18,7 @@ ghost use Rattle.dr_serve.specs.Serving.{first_shown};
 ghost use Rattle.dr_query.specs.Answers.{AnsweredAs};
 
 use crate::queried::Queried;
-use crate::service::Service;
+use crate::options::ServeOptions;
 use dr_group::Partial;
 use dr_memory::NoMemory;
 use dr_outside::Link;
@@ -45,20 +45,20 @@ pub fn query_table<R: Threads + Wait + Sync, L: Link + Send>(
     links: &mut [L],
     table: &Table,
     plan: &Plan,
-    service: &Service,
+    options: &ServeOptions,
 ) -> Result<Queried, NoMemory>
     requires planned { IsOfSchema (schema_view (table.now).schema) plan.now }
-    requires workers { (0 < (service.now).workers) × ((service.now).workers ≤ length links.old) }
-    requires fan { 1 ≤ (service.now).fan }
-    requires least { (0 < (service.now).least) × ((service.now).least ≤ 100) }
+    requires workers { (0 < (options.now).workers) × ((options.now).workers ≤ length links.old) }
+    requires fan { 1 ≤ (options.now).fan }
+    requires least { (0 < (options.now).least) × ((options.now).least ≤ 100) }
     ensures answers { ForQuery (schema_view (table.now).schema) plan.now
-        (λ q. IfOk result (AnsweredAs (table_view table.now) q (service.now).least
-        (map L.shows (take (service.now).workers links.old)) (first_shown (map L.shows links.new)))) }
+        (λ q. IfOk result (AnsweredAs (table_view table.now) q (options.now).least
+        (map L.shows (take (options.now).workers links.old)) (first_shown (map L.shows links.new)))) }
     ensures links { ForQuery (schema_view (table.now).schema) plan.now
         (λ q. LeavesLinks (query_leaves (table_view table.now).schema.fields q) (tablets_of (table_view table.now))
-        L.shows (service.now).workers links.old links.new) }
+        L.shows (options.now).workers links.old links.new) }
 {
-    let tree = of_fan(alloc, table.tablets, service.fan)?;
+    let tree = of_fan(alloc, table.tablets, options.fan)?;
     let served = serve(
         rt,
         alloc,
@@ -66,9 +66,9 @@ pub fn query_table<R: Threads + Wait + Sync, L: Link + Send>(
         table,
         &tree,
         links,
-        service.workers,
-        service.lag,
-        service.least,
+        options.workers,
+        options.lag,
+        options.least,
     )?;
     let Served {
         outcome,

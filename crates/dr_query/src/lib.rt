@@ -3,8 +3,8 @@
 
 mod answering;
 mod queried;
-mod service;
+mod options;
 
 pub use answering::query_table;
 pub use queried::Queried;
-pub use service::Service;
+pub use options::ServeOptions;

@@ -14,7 +14,7 @@ ghost use Rattle.dr_query.specs.Answers.{AnsweredAs};
 use dr_memory::NoMemory;
 use dr_outside::Link;
 use dr_plan::Plan;
-use dr_query::{Queried, Service, query_table};
+use dr_query::{Queried, ServeOptions, query_table};
 use dr_table::Table;
 use std::alloc::Global;
 use std::sync::Wait;
@@ -27,18 +27,18 @@ pub fn answer_of<R: Threads + Wait + Sync, L: Link + Send>(
     links: &mut [L],
     table: &Table,
     plan: &Plan,
-    service: &Service,
+    options: &ServeOptions,
 ) -> Result<Queried, NoMemory>
     requires planned { IsOfSchema (schema_view (table.now).schema) plan.now }
-    requires workers { (0 < (service.now).workers) × ((service.now).workers ≤ length links.old) }
-    requires fan { 1 ≤ (service.now).fan }
-    requires least { (0 < (service.now).least) × ((service.now).least ≤ 100) }
+    requires workers { (0 < (options.now).workers) × ((options.now).workers ≤ length links.old) }
+    requires fan { 1 ≤ (options.now).fan }
+    requires least { (0 < (options.now).least) × ((options.now).least ≤ 100) }
     ensures answers { ForQuery (schema_view (table.now).schema) plan.now
-        (λ q. IfOk result (AnsweredAs (table_view table.now) q (service.now).least
-        (map L.shows (take (service.now).workers links.old)) (first_shown (map L.shows links.new)))) }
+        (λ q. IfOk result (AnsweredAs (table_view table.now) q (options.now).least
+        (map L.shows (take (options.now).workers links.old)) (first_shown (map L.shows links.new)))) }
     ensures links { ForQuery (schema_view (table.now).schema) plan.now
         (λ q. LeavesLinks (query_leaves (table_view table.now).schema.fields q) (tablets_of (table_view table.now))
-        L.shows (service.now).workers links.old links.new) }
+        L.shows (options.now).workers links.old links.new) }
 {
-    query_table(rt, alloc, links, table, plan, service)
+    query_table(rt, alloc, links, table, plan, options)
 }

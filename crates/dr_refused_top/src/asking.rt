@@ -17,7 +17,7 @@ use dr_load::LoadFault;
 use dr_nested::Schema;
 use dr_outside::Source;
 use dr_plan::Plan;
-use dr_query::Service;
+use dr_query::ServeOptions;
 use std::alloc::Global;
 use std::sync::Wait;
 use std::thread::Threads;
@@ -29,15 +29,15 @@ pub fn answer_on<R: Threads + Wait + Sync, S: Source>(
     schema: Schema,
     plan: &Plan,
     rows: u32,
-    service: &Service,
+    options: &ServeOptions,
     source: &mut S,
 ) -> Result<String, LoadFault>
     requires planned { IsOfSchema (schema_view schema) plan.now }
     requires has_rows { 0 < rows }
     requires few_rows { rows ≤ 1000000 }
-    requires workers { 0 < (service.now).workers }
-    requires fan { 1 ≤ (service.now).fan }
-    requires least { (service.now).least ≡ 100 }
+    requires workers { 0 < (options.now).workers }
+    requires fan { 1 ≤ (options.now).fan }
+    requires least { (options.now).least ≡ 100 }
     ensures text { IfOk result (λ t. (q : Query) → IsPlanOf (schema_view schema) q plan.now
         → WhereTold (S.shows source.old).left (IsAnswerTo (schema_view schema) q rows (string_bytes t))) }
     ensures end { OnOk result (WhereTold (S.shows source.old).left (λ _. (S.shows source.new).left ≡ Some [])) }
@@ -52,5 +52,5 @@ pub fn answer_on<R: Threads + Wait + Sync, S: Source>(
     ensures source_calm { result ≢ Err LoadFault.ReadFault → (S.shows source.new).faults ≡ (S.shows source.old).faults }
     ensures never_keeper { result ≢ Err LoadFault.KeepFault }
 {
-    ask_input(rt, alloc, schema, plan, rows, service, source)
+    ask_input(rt, alloc, schema, plan, rows, options, source)
 }

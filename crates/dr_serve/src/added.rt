@@ -1,7 +1,7 @@
 ghost use Rattle.std.specs.Prelude.{◌≡◌, true};
 ghost use Rattle.dr_dispatch.specs.History.{has_answer};
 
-use crate::service::Service;
+use crate::table_job::TableJob;
 use dr_desk::{Naming, Pass, Piece, Room};
 use std::marker::{Model, PhantomData};
 
@@ -56,7 +56,7 @@ pub struct Jobs<S> {
     of: PhantomData<S>,
 }
 
-impl<S: Service + Room> Naming<Added<S>> for Jobs<S> {
+impl<S: TableJob + Room> Naming<Added<S>> for Jobs<S> {
     ghost use Rattle.std.specs.Prelude.{◌≡◌};
 
     ghost job = { S.job };

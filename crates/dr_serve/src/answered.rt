@@ -7,7 +7,7 @@ ghost use Rattle.dr_tree.specs.Views.{tree_view};
 ghost use Rattle.dr_serve.specs.Closing.{HasAnswered};
 ghost use Rattle.dr_serve.specs.GrowsOn.{IsOfPieces};
 
-use crate::service::Service;
+use crate::table_job::TableJob;
 use dr_memory::NoMemory;
 use dr_plan::Plan;
 use dr_table::Table;
@@ -33,7 +33,7 @@ fn no_pieces(alloc: Global, tablets: u32) -> Result<Vec<bool>, NoMemory>
 }
 
 // Nothing has grown.
-pub(crate) fn none_answered<S: Service>(
+pub(crate) fn none_answered<S: TableJob>(
     alloc: Global,
     plan: &Plan,
     table: &Table,

@@ -16,7 +16,7 @@ ghost use Rattle.dr_serve.specs.Rounds.{HasRead};
 ghost use Rattle.dr_serve.specs.Links.{Worked};
 
 use crate::answered::Answered;
-use crate::service::Service;
+use crate::table_job::TableJob;
 use dr_memory::NoMemory;
 use dr_outside::Link;
 use dr_plan::Plan;
@@ -34,7 +34,7 @@ pub(crate) struct Closed {
 }
 
 // What the link gives of a tablet.
-fn outcome_of<S: Service, L: Link>(
+fn outcome_of<S: TableJob, L: Link>(
     alloc: Global,
     link: &mut L,
     plan: &Plan,
@@ -69,7 +69,7 @@ fn keep(alloc: Global, closed: &mut Closed, tablet: u32, outcome: Scanned) -> Re
 }
 
 // Closes a tablet: one without a piece is scanned, and only here a tablet is left.
-fn close_tablet<S: Service, L: Link>(
+fn close_tablet<S: TableJob, L: Link>(
     alloc: Global,
     link: &mut L,
     plan: &Plan,
@@ -98,7 +98,7 @@ fn close_tablet<S: Service, L: Link>(
 }
 
 // Goes over all tablets, in order: what is scanned of those without a piece is added as it comes.
-pub(crate) fn close<S: Service, L: Link>(
+pub(crate) fn close<S: TableJob, L: Link>(
     alloc: Global,
     link: &mut L,
     plan: &Plan,

@@ -4,7 +4,7 @@ ghost use Rattle.dr_serve.specs.Working.{found};
 
 use crate::added::Added;
 use crate::answered::Answered;
-use crate::service::Service;
+use crate::table_job::TableJob;
 use dr_desk::{Event, Ground, Hand, Journal, Room};
 use dr_group::Partial;
 use dr_memory::NoMemory;
@@ -15,13 +15,13 @@ use std::marker::Model;
 /// What has grown of the pieces that came, each true of its tablet, and which tablets have one. Workers add to it under
 /// a lock. Beside it lies a journal, in which a tablet that has a piece is answered, and no other.
 #[derive(Drop)]
-pub struct Grown<S: Service + Room> {
+pub struct Grown<S: TableJob + Room> {
     grown: Growing,
     has_piece: Vec<bool>,
     journal: Journal<S>,
 }
 
-impl<S: Service + Room> Model for Grown<S> {
+impl<S: TableJob + Room> Model for Grown<S> {
     ghost use Rattle.std.specs.Prelude.{Bool, List};
     ghost use Rattle.dr_serve.specs.GrowsOn.{IsOfPieces};
 
@@ -32,7 +32,7 @@ impl<S: Service + Room> Model for Grown<S> {
     ghost invariant = { λ g. S.has_grown g.grown g.has_piece.items × IsOfPieces g.journal g.has_piece.items };
 }
 
-impl<S: Service + Room> Grown<S> {
+impl<S: TableJob + Room> Grown<S> {
     // This much has grown, and no tablet has a piece. The ground is that of the journal.
     pub(crate) fn new(answered: Answered, ground: Ground) -> Self
         requires grown { S.has_grown answered.grown answered.has_piece.items }

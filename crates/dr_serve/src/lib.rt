@@ -11,7 +11,7 @@ mod job;
 mod lent;
 mod outcome;
 mod served;
-mod service;
+mod table_job;
 mod serving;
 mod turns;
 
@@ -20,6 +20,6 @@ pub use found::Found;
 pub use gated::Gated;
 pub use grown::Grown;
 pub use outcome::{Outcome, Served};
-pub use service::Service;
+pub use table_job::TableJob;
 pub use serving::serve;
 pub use turns::work;

@@ -14,7 +14,7 @@ use crate::answered::Answered;
 use crate::grown::Grown;
 use crate::job::job_of;
 use crate::lent::for_each_worker;
-use crate::service::Service;
+use crate::table_job::TableJob;
 use crate::turns::work;
 use dr_desk::{Board, Closing, Desk, Event, Ground, Pass, Room};
 use dr_memory::NoMemory;
@@ -33,7 +33,7 @@ pub(crate) struct Heard {
 }
 
 // A worker, which takes the pass of its number.
-fn start<S: Service + Room, B: Room, L: Link, R: Wait>(
+fn start<S: TableJob + Room, B: Room, L: Link, R: Wait>(
     rt: &R,
     alloc: Global,
     desk: &Desk<Added<S>, Jobs<S>, B>,
@@ -62,7 +62,7 @@ fn start<S: Service + Room, B: Room, L: Link, R: Wait>(
 
 // Starts a worker for each link, and waits until all have ended.
 fn hand_out<
-    S: Service + Room + Send + Sync,
+    S: TableJob + Room + Send + Sync,
     B: Room + Send + Sync,
     L: Link + Send,
     R: Threads + Wait + Sync,
@@ -106,7 +106,7 @@ fn hand_out<
 
 // Workers go on from what has grown: what they found has been added when all have ended.
 pub(crate) fn served<
-    S: Service + Room + Send + Sync,
+    S: TableJob + Room + Send + Sync,
     B: Room + Send + Sync,
     L: Link + Send,
     R: Threads + Wait + Sync,
@@ -154,7 +154,7 @@ pub(crate) fn served<
 }
 
 // A desk over the job of a table, and so many passes, each under a lock of its own.
-fn desk_of<S: Service + Room, B: Room>(
+fn desk_of<S: TableJob + Room, B: Room>(
     alloc: Global,
     ground: Ground,
     table: &Table,
@@ -173,7 +173,7 @@ fn desk_of<S: Service + Room, B: Room>(
 }
 
 // What was heard of all workers: each tablet that was answered has a piece.
-fn heard_of<S: Service + Room>(mut grown: Grown<S>, closing: Closing<Added<S>>) -> Heard
+fn heard_of<S: TableJob + Room>(mut grown: Grown<S>, closing: Closing<Added<S>>) -> Heard
     requires { KeepsPieces S.job (λ a. a) (λ t a. a ≡ t) closing.history.items closing.pieces.items }
     ensures grown { S.has_grown result.answered.grown result.answered.has_piece.items }
     ensures recorded { is_history S.job result.history.items ≡ true }

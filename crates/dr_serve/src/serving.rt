@@ -20,7 +20,7 @@ use crate::answered::none_answered;
 use crate::closing::{Closed, close};
 use crate::outcome::{Outcome, Served};
 use crate::served::{Heard, served};
-use crate::service::Service;
+use crate::table_job::TableJob;
 use dr_desk::{Event, Ground, Room};
 use dr_memory::NoMemory;
 use dr_outside::Link;
@@ -42,7 +42,7 @@ struct Ended {
 // The tree grows of what the workers find, as they find it, and, after all have ended, of what the closing round gives
 // of the other tablets, with the first link.
 fn closed<
-    S: Service + Room + Send + Sync,
+    S: TableJob + Room + Send + Sync,
     B: Room + Send + Sync,
     L: Link + Send,
     R: Threads + Wait + Sync,

@@ -13,7 +13,7 @@ ghost use Rattle.dr_serve.specs.GrowsOn.{GrowsOn};
 
 use crate::added::{Added, Jobs};
 use crate::grown::Grown;
-use crate::service::Service;
+use crate::table_job::TableJob;
 use dr_desk::{Desk, Hand, Pass, Room};
 use dr_file::FileFault;
 use dr_memory::NoMemory;
@@ -27,7 +27,7 @@ use std::sync::{Mutex, Wait};
 
 // One turn: the hand's copy is scanned, and its partial is added and an answer told, or a fault is; or there was no
 // memory, and nothing is told.
-pub(crate) fn turn<S: Service + Room, B: Room, L: Link, R: Wait>(
+pub(crate) fn turn<S: TableJob + Room, B: Room, L: Link, R: Wait>(
     rt: &R,
     alloc: Global,
     desk: &Desk<Added<S>, Jobs<S>, B>,
@@ -75,7 +75,7 @@ pub(crate) fn turn<S: Service + Room, B: Room, L: Link, R: Wait>(
 ///
 /// Errors: there was no memory to scan a tablet, or to add what was found. Nothing is told of it then, and the loop
 /// ends; all that is said of the worker's events holds of those before this last hand-out.
-pub fn work<S: Service + Room, B: Room, L: Link, R: Wait>(
+pub fn work<S: TableJob + Room, B: Room, L: Link, R: Wait>(
     rt: &R,
     alloc: Global,
     desk: &Desk<Added<S>, Jobs<S>, B>,

@@ -9,12 +9,12 @@ use Rattle.dr_ask.proofs.answering.answer_steady.Goals as goal
 pub returns : goal.returns
 returns g c =
     let t = table_view c.args.table.now in
-    let links = map g.L.Link.shows (take c.args.service.now.workers c.args.links.now) in
+    let links = map g.L.Link.shows (take c.args.options.now.workers c.args.links.now) in
     let now = first_shown (map g.L.Link.shows c.query_table.new.links) in
     record {
       text = λ files R hold h q b.
-          let answered = subst (AnsweredAs t q c.args.service.now.least links now) c.in-Text.is (c.in_ok-text.ensures.answers q b) in
-          answer_is g.L.Link.shows t q c.args.plan.now c.args.service.now.workers c.args.links.now files R (string_bytes c.in-Text.text) hold h b answered.ends.text;
+          let answered = subst (AnsweredAs t q c.args.options.now.least links now) c.in-Text.is (c.in_ok-text.ensures.answers q b) in
+          answer_is g.L.Link.shows t q c.args.plan.now c.args.options.now.workers c.args.links.now files R (string_bytes c.in-Text.text) hold h b answered.ends.text;
     }
 
 -- all tablets are asked for
@@ -22,9 +22,9 @@ pub unreachable-requires : goal.unreachable-requires
 unreachable-requires g c =
     let t = table_view c.args.table.now in
     let p = c.requires.planned in
-    let links = map g.L.Link.shows (take c.args.service.now.workers c.args.links.now) in
+    let links = map g.L.Link.shows (take c.args.options.now.workers c.args.links.now) in
     let now = first_shown (map g.L.Link.shows c.query_table.new.links) in
-    let answered = subst (AnsweredAs t p.1 c.args.service.now.least links now) c.in-Most.is (c.in_ok-text.ensures.answers p.1 (p.0, p.2, p.3)) in
+    let answered = subst (AnsweredAs t p.1 c.args.options.now.least links now) c.in-Most.is (c.in_ok-text.ensures.answers p.1 (p.0, p.2, p.3)) in
     absurd (answered.ends.all c.requires.least)
 
 -- a query has this plan, and of its table no tablet is left
@@ -32,8 +32,8 @@ pub unreachable-requires-in-Left : goal.unreachable-requires-in-Left
 unreachable-requires-in-Left g c =
     let t = table_view c.args.table.now in
     let p = c.requires.planned in
-    let links = map g.L.Link.shows (take c.args.service.now.workers c.args.links.now) in
+    let links = map g.L.Link.shows (take c.args.options.now.workers c.args.links.now) in
     let now = first_shown (map g.L.Link.shows c.query_table.new.links) in
-    let answered = subst (AnsweredAs t p.1 c.args.service.now.least links now) c.in-Left.is (c.in_ok-text.ensures.answers p.1 (p.0, p.2, p.3)) in
-    absurd (steady_leaves_none g.L.Link.shows t p.1 c.args.service.now.workers c.args.links.now now.faults c.requires.held.0 c.requires.held.2 (all_left_view c.in-Left.field-0.items) c.requires.workers.0 c.requires.workers.1 c.requires.held.1 c.requires.steady
+    let answered = subst (AnsweredAs t p.1 c.args.options.now.least links now) c.in-Left.is (c.in_ok-text.ensures.answers p.1 (p.0, p.2, p.3)) in
+    absurd (steady_leaves_none g.L.Link.shows t p.1 c.args.options.now.workers c.args.links.now now.faults c.requires.held.0 c.requires.held.2 (all_left_view c.in-Left.field-0.items) c.requires.workers.0 c.requires.workers.1 c.requires.held.1 c.requires.steady
     c.args.table.now.has_copy c.requires.held.3 answered.ends.left)

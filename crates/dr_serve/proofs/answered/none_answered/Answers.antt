@@ -8,7 +8,7 @@ use Rattle.dr_serve.proofs.answered.none_answered.Goals as goal
 
 pub returns-clause-answered : goal.returns-clause-answered
 returns-clause-answered g c =
-    none_answered (table_view c.args.table.now) c.args.plan.now (tree_view c.args.tree.now) g.S.Service.is_true c.in_ok-grown.grown c.in_ok-has_piece.has_piece.items c.requires c.in_ok-has_piece.ensures
+    none_answered (table_view c.args.table.now) c.args.plan.now (tree_view c.args.tree.now) g.S.TableJob.is_true c.in_ok-grown.grown c.in_ok-has_piece.has_piece.items c.requires c.in_ok-has_piece.ensures
     (c.in_ok-grown.ensures (table_view c.args.table.now).schema.fields)
 
 pub returns-clause-none : goal.returns-clause-none

@@ -5,17 +5,17 @@ use Rattle.dr_serve.proofs.closing.outcome_of.Goals as goal
 
 pub returns-clause-outcome : goal.returns-clause-outcome
 returns-clause-outcome g c =
-    scan_outcome (table_view c.args.table.now) c.args.plan.now g.S.Service.is_true (g.L.Link.shows c.args.link.now) (g.L.Link.shows c.scan_tablet.new.link) c.args.tablet c.scan_tablet.result
+    scan_outcome (table_view c.args.table.now) c.args.plan.now g.S.TableJob.is_true (g.L.Link.shows c.args.link.now) (g.L.Link.shows c.scan_tablet.new.link) c.args.tablet c.scan_tablet.result
     c.requires.planned c.requires.tablet c.requires.truth c.scan_tablet.ensures.read c.scan_tablet.ensures.partial c.scan_tablet.ensures.bounded c.scan_tablet.ensures.of_plan
 
 pub returns-clause-rises : goal.returns-clause-rises
 returns-clause-rises g c =
-    scan_rises (table_view c.args.table.now) c.args.plan.now g.S.Service.is_true (g.L.Link.shows c.args.link.now) (g.L.Link.shows c.scan_tablet.new.link) c.args.tablet c.scan_tablet.result
+    scan_rises (table_view c.args.table.now) c.args.plan.now g.S.TableJob.is_true (g.L.Link.shows c.args.link.now) (g.L.Link.shows c.scan_tablet.new.link) c.args.tablet c.scan_tablet.result
     c.requires.planned c.scan_tablet.ensures.never_falls c.scan_tablet.ensures.read
 
 pub returns-clause-read : goal.returns-clause-read
 returns-clause-read g c =
-    scan_read (table_view c.args.table.now) c.args.plan.now g.S.Service.is_true (g.L.Link.shows c.args.link.now) (g.L.Link.shows c.scan_tablet.new.link) c.args.tablet c.scan_tablet.result
+    scan_read (table_view c.args.table.now) c.args.plan.now g.S.TableJob.is_true (g.L.Link.shows c.args.link.now) (g.L.Link.shows c.scan_tablet.new.link) c.args.tablet c.scan_tablet.result
     c.requires.planned c.scan_tablet.ensures.read
 
 pub returns-clause-link : goal.returns-clause-link

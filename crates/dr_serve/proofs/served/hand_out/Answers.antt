@@ -11,12 +11,12 @@ pub for_each_worker-requires-sync-P : goal.for_each_worker-requires-sync-P
 for_each_worker-requires-sync-P g c κs within = record { shared = (shr_sync (named 0) _ Plan.the_row plan_is_shared).shared }
 
 pub for_each_worker-requires-sync-G : goal.for_each_worker-requires-sync-G
-for_each_worker-requires-sync-G g c κs within = record { shared = (shr_sync (named 0) _ _ (grown_is_shared g.row.S g.S.Service g.S.Room)).shared }
+for_each_worker-requires-sync-G g c κs within = record { shared = (shr_sync (named 0) _ _ (grown_is_shared g.row.S g.S.TableJob g.S.Room)).shared }
 
 pub for_each_worker-requires-clause-accepts : goal.for_each_worker-requires-clause-accepts
 for_each_worker-requires-clause-accepts g c κs within = λ i x lt e l same. (
   c.requires.planned,
   c.requires.job,
-  subst (λ (y : g.row.L.Denot). TakesFrom (table_view c.args.table.now) c.args.plan.now g.S.Service.is_true (g.L.Link.shows y).held) (sym (same ∙ e)) (c.requires.truth i x lt),
+  subst (λ (y : g.row.L.Denot). TakesFrom (table_view c.args.table.now) c.args.plan.now g.S.TableJob.is_true (g.L.Link.shows y).held) (sym (same ∙ e)) (c.requires.truth i x lt),
   c.requires.grows_on,
 )

@@ -5,8 +5,8 @@ use Rattle.dr_serve.specs.Working.{table_job, IsPieceFound}
 use Rattle.dr_serve.proofs.ServingLemmas.{held_by}
 use Rattle.dr_serve.proofs.serving.serve_by.Given as goal
 
-abbrev pub ghosts-closed-S-Service : goal.ghosts-closed-S-Service
-ghosts-closed-S-Service g a = record {
+abbrev pub ghosts-closed-S-TableJob : goal.ghosts-closed-S-TableJob
+ghosts-closed-S-TableJob g a = record {
   job = table_job (table_view a.table.now) a.lag;
   is_true = IsPieceFound (table_view a.table.now) a.plan.now (held_by g.L.Link.shows a.links.now);
   has_grown = HasAnswered (table_view a.table.now) a.plan.now (tree_view a.tree.now) (IsPieceFound (table_view a.table.now) a.plan.now (held_by g.L.Link.shows a.links.now));

@@ -18,13 +18,13 @@ use Rattle.dr_serve.proofs.TurnLemmas.{hand_of_table, scan_worked, fault_tells, 
 use Rattle.dr_serve.proofs.turns.turn.Goals as goal
 
 pub path_of-requires : goal.path_of-requires
-path_of-requires g c = (hand_of_table c.args.table.now g.S.Service.job c.args.pass.now.seen c.args.hand c.requires.job c.requires.recorded c.requires.given).leaf_is
+path_of-requires g c = (hand_of_table c.args.table.now g.S.TableJob.job c.args.pass.now.seen c.args.hand c.requires.job c.requires.recorded c.requires.given).leaf_is
 
 pub add-requires-clause-truth : goal.add-requires-clause-truth
 add-requires-clause-truth g c =
     let t = table_view c.args.table.now in
     let at : c.as_str.result.now ≡ hand_path t c.args.hand = c.as_str.ensures.value ∙ c.in_ok-path.ensures in
-    let of = hand_of_table c.args.table.now g.S.Service.job c.args.pass.now.seen c.args.hand c.requires.job c.requires.recorded c.requires.given in
+    let of = hand_of_table c.args.table.now g.S.TableJob.job c.args.pass.now.seen c.args.hand c.requires.job c.requires.recorded c.requires.given in
     c.requires.truth c.args.hand.tablet c.in-Ok.partial (record {
       of_plan = c.in-Ok.ensures.of_plan;
       records = λ q is. c.in-Ok.ensures.records q is;
@@ -35,25 +35,25 @@ add-requires-clause-truth g c =
 pub returns-in-Ok-clause-link : goal.returns-in-Ok-clause-link
 returns-in-Ok-clause-link g c =
     scan_worked (table_view c.args.table.now) c.args.plan.now c.args.hand c.as_str.result.now (g.L.Link.shows c.args.link.now) (g.L.Link.shows c.scan.new.link)
-    (hand_of_table c.args.table.now g.S.Service.job c.args.pass.now.seen c.args.hand c.requires.job c.requires.recorded c.requires.given) (c.as_str.ensures.value ∙ c.in_ok-path.ensures)
+    (hand_of_table c.args.table.now g.S.TableJob.job c.args.pass.now.seen c.args.hand c.requires.job c.requires.recorded c.requires.given) (c.as_str.ensures.value ∙ c.in_ok-path.ensures)
     c.scan.ensures.asked c.scan.ensures.asked_absent c.scan.ensures.paths c.scan.ensures.link.same c.scan.ensures.never_falls c.scan.ensures.link.stays_steady
 
 pub returns-in-Err-NoMemory-clause-link : goal.returns-in-Err-NoMemory-clause-link
 returns-in-Err-NoMemory-clause-link g c =
     scan_worked (table_view c.args.table.now) c.args.plan.now c.args.hand c.as_str.result.now (g.L.Link.shows c.args.link.now) (g.L.Link.shows c.scan.new.link)
-    (hand_of_table c.args.table.now g.S.Service.job c.args.pass.now.seen c.args.hand c.requires.job c.requires.recorded c.requires.given) (c.as_str.ensures.value ∙ c.in_ok-path.ensures)
+    (hand_of_table c.args.table.now g.S.TableJob.job c.args.pass.now.seen c.args.hand c.requires.job c.requires.recorded c.requires.given) (c.as_str.ensures.value ∙ c.in_ok-path.ensures)
     c.scan.ensures.asked c.scan.ensures.asked_absent c.scan.ensures.paths c.scan.ensures.link.same c.scan.ensures.never_falls c.scan.ensures.link.stays_steady
 
 pub returns-clause-link : goal.returns-clause-link
 returns-clause-link g c =
     scan_worked (table_view c.args.table.now) c.args.plan.now c.args.hand c.as_str.result.now (g.L.Link.shows c.args.link.now) (g.L.Link.shows c.scan.new.link)
-    (hand_of_table c.args.table.now g.S.Service.job c.args.pass.now.seen c.args.hand c.requires.job c.requires.recorded c.requires.given) (c.as_str.ensures.value ∙ c.in_ok-path.ensures)
+    (hand_of_table c.args.table.now g.S.TableJob.job c.args.pass.now.seen c.args.hand c.requires.job c.requires.recorded c.requires.given) (c.as_str.ensures.value ∙ c.in_ok-path.ensures)
     c.scan.ensures.asked c.scan.ensures.asked_absent c.scan.ensures.paths c.scan.ensures.link.same c.scan.ensures.never_falls c.scan.ensures.link.stays_steady
 
 pub returns-in_err-added-in-Ok-clause-link : goal.returns-in_err-added-in-Ok-clause-link
 returns-in_err-added-in-Ok-clause-link g c =
     scan_worked (table_view c.args.table.now) c.args.plan.now c.args.hand c.as_str.result.now (g.L.Link.shows c.args.link.now) (g.L.Link.shows c.scan.new.link)
-    (hand_of_table c.args.table.now g.S.Service.job c.args.pass.now.seen c.args.hand c.requires.job c.requires.recorded c.requires.given) (c.as_str.ensures.value ∙ c.in_ok-path.ensures)
+    (hand_of_table c.args.table.now g.S.TableJob.job c.args.pass.now.seen c.args.hand c.requires.job c.requires.recorded c.requires.given) (c.as_str.ensures.value ∙ c.in_ok-path.ensures)
     c.scan.ensures.asked c.scan.ensures.asked_absent c.scan.ensures.paths c.scan.ensures.link.same c.scan.ensures.never_falls c.scan.ensures.link.stays_steady
 
 pub returns-clause-told : goal.returns-clause-told
@@ -70,6 +70,6 @@ returns-clause-told g c =
     (λ bytes tells. subst (IsFaultOf bytes t.schema F) c.in-Err-Why.field-0-is (c.in-Err-Why.ensures.cause bytes tells))
     (λ lacks. subst (λ (f : FileFault). is_link_fault f ≡ true) c.in-Err-Why.field-0-is (c.in-Err-Why.ensures.absent lacks (λ e. no_memory c.in-Err-Why.field-0 c.in-Err-Why.cause c.in-Err-Why.field-0-is e)))
     (λ bytes is tells. subst (λ (f : FileFault). is_link_fault f ≡ false) c.in-Err-Why.field-0-is (c.in-Err-Why.ensures.link.steady bytes (is, tells))) in
-    fault_tells (IsRisenFor t c.args.plan.now link (g.L.Link.shows c.scan.new.link)) g.S.Service.job c.args.hand c.in-Err-Why.cause c.args.pass.now c.fault.new.pass c.fault.result
+    fault_tells (IsRisenFor t c.args.plan.now link (g.L.Link.shows c.scan.new.link)) g.S.TableJob.job c.args.hand c.in-Err-Why.cause c.args.pass.now c.fault.new.pass c.fault.result
     (subst (λ (p : List ℕ). IsCauseAt t.schema F link p c.in-Err-Why.cause) at cause, one_rises old new c.in-Err-Why.cause counts c.scan.ensures.never_falls)
-    (subst (λ (x : Cause). IsFaultTold g.S.Service.job c.args.hand x c.args.pass.now c.fault.new.pass c.fault.result) (ap (λ (f : FileFault). (values_d enum 1 (Cause.ReadFailed 0 0, tt) f).0) c.in-Err-Why.field-0-is) c.fault.ensures.told)
+    (subst (λ (x : Cause). IsFaultTold g.S.TableJob.job c.args.hand x c.args.pass.now c.fault.new.pass c.fault.result) (ap (λ (f : FileFault). (values_d enum 1 (Cause.ReadFailed 0 0, tt) f).0) c.in-Err-Why.field-0-is) c.fault.ensures.told)

@@ -8,7 +8,7 @@ use Rattle.dr_serve.proofs.TurnLemmas.{cause_before, turn_is_progress}
 use Rattle.dr_serve.proofs.turns.work.Goals as goal
 
 pub turns-smaller : goal.turns-smaller
-turns-smaller g c = turn_is_progress g.S.Service.job c.in-Some.hand c.turns.pass c.take.new.pass c.turn.new.pass c.in-Some.ensures.taken c.turn.ensures.earlier c.turn.ensures.recorded
+turns-smaller g c = turn_is_progress g.S.TableJob.job c.in-Some.hand c.turns.pass c.take.new.pass c.turn.new.pass c.in-Some.ensures.taken c.turn.ensures.earlier c.turn.ensures.recorded
 
 pub turns-preserved : goal.turns-preserved
 turns-preserved g c =
@@ -19,7 +19,7 @@ turns-preserved g c =
     let new = g.L.Link.shows c.turn.new.link in (
       prefix_trans c.args.pass.now.seen c.take.new.pass.seen c.turn.new.pass.seen
           (prefix_trans c.args.pass.now.seen c.turns.pass.seen c.take.new.pass.seen c.turns.invariant.0 c.take.ensures.earlier) c.turn.ensures.earlier,
-      ends_turn (IsCauseFor t plan link) g.S.Service.job link.faults now.faults new.faults c.in-Some.hand c.args.pass.now c.turns.pass c.take.new.pass c.turn.new.pass c.turn.ensures.link.never_falls c.turns.invariant.1 c.in-Some.ensures.taken c.turn.ensures.earlier
+      ends_turn (IsCauseFor t plan link) g.S.TableJob.job link.faults now.faults new.faults c.in-Some.hand c.args.pass.now c.turns.pass c.take.new.pass c.turn.new.pass c.turn.ensures.link.never_falls c.turns.invariant.1 c.in-Some.ensures.taken c.turn.ensures.earlier
           c.in_ok-turn.ensures.ended
           (tells_weaker (IsRisenFor t plan now new) (IsRisen (IsCauseFor t plan link) now.faults new.faults) c.take.new.pass c.turn.new.pass
           (λ h cause k. (cause_before t plan link now h cause c.turns.invariant.2.same c.turns.invariant.2.stays_steady k.0, k.1)) c.turn.ensures.told),
@@ -30,7 +30,7 @@ pub returns-in_err-turn-clause-silent : goal.returns-in_err-turn-clause-silent
 returns-in_err-turn-clause-silent g c =
     let link = g.L.Link.shows c.args.link.now in
     on_err c.from_residual.result
-    (ends_but_last (IsCauseFor (table_view c.args.table.now) c.args.plan.now link) g.S.Service.job link.faults (g.L.Link.shows c.turns.link).faults (g.L.Link.shows c.turn.new.link).faults c.in-Some.hand
+    (ends_but_last (IsCauseFor (table_view c.args.table.now) c.args.plan.now link) g.S.TableJob.job link.faults (g.L.Link.shows c.turns.link).faults (g.L.Link.shows c.turn.new.link).faults c.in-Some.hand
     c.args.pass.now c.turns.pass c.take.new.pass c.turn.new.pass c.turn.ensures.link.never_falls c.turns.invariant.1 c.in-Some.ensures.taken c.in_err-turn.ensures.silent)
 
 pub returns-in_err-turn-clause-link : goal.returns-in_err-turn-clause-link

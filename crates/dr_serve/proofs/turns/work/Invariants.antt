@@ -16,4 +16,4 @@ invariant-turns g l =
 
 -- each turn adds an event, of which there are three a pair at most
 abbrev pub decreases-turns : goal.decreases-turns
-decreases-turns g l = 3 * pairs g.S.Service.job - length l.pass.seen
+decreases-turns g l = 3 * pairs g.S.TableJob.job - length l.pass.seen

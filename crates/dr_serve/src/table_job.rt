@@ -1,7 +1,7 @@
 use std::marker::Brand;
 
 /// Names the job of a table, what is true of a tablet, and when something has grown of that. Whoever serves picks it.
-pub trait Service {
+pub trait TableJob {
     ghost use Rattle.std.specs.Prelude.{ℕ, Bool, List};
     ghost use Rattle.dr_dispatch.specs.Job.{Job};
     ghost use Rattle.dr_tree.specs.declared.growing.Growing.{Growing};
@@ -16,7 +16,7 @@ pub trait Service {
     ghost has_grown: { Growing → List Bool → Type 0 };
 }
 
-impl Service for Brand {
+impl TableJob for Brand {
     ghost use Rattle.std.specs.Prelude.{[], ⊤};
 
     ghost job = { record { leaves = []; lag = 0 } };
