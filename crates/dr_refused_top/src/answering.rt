@@ -9,12 +9,12 @@ ghost use Rattle.dr_reading.specs.Scan.{tablets_of};
 ghost use Rattle.dr_table.specs.Views.{table_view};
 ghost use Rattle.dr_serve.specs.Links.{LeavesLinks};
 ghost use Rattle.dr_serve.specs.Serving.{first_shown};
-ghost use Rattle.dr_query.specs.Answers.{AnsweredAs};
+ghost use Rattle.dr_serve.specs.Answers.{AnsweredAs};
 
 use dr_memory::NoMemory;
 use dr_outside::Link;
 use dr_plan::Plan;
-use dr_query::{Queried, ServeOptions, query_table};
+use dr_serve::{Queried, ServeOptions, query_table};
 use dr_table::Table;
 use std::alloc::Global;
 use std::sync::Wait;

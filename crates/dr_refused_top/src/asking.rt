@@ -10,14 +10,14 @@ ghost use Rattle.dr_plan.specs.Planned.{IsOfSchema};
 ghost use Rattle.dr_plan.specs.PlanOf.{IsPlanOf};
 ghost use Rattle.dr_load.specs.Faults.{refusal_of};
 ghost use Rattle.dr_input.specs.Taken.{WhereTold, AcceptsRead};
-ghost use Rattle.dr_ask.specs.Asked.{IsAnswerTo};
+ghost use Rattle.dr_serve.specs.Asked.{IsAnswerTo};
 
-use dr_ask::ask_input;
+use dr_serve::ask_input;
 use dr_load::LoadFault;
 use dr_nested::Schema;
 use dr_outside::Source;
 use dr_plan::Plan;
-use dr_query::ServeOptions;
+use dr_serve::ServeOptions;
 use std::alloc::Global;
 use std::sync::Wait;
 use std::thread::Threads;

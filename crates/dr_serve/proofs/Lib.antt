@@ -14,3 +14,11 @@ pub mod ServingLemmas
 pub mod TruthLemmas
 pub mod TurnLemmas
 mod WorkedServing
+-- what a partial prints
+mod AnswerLemmas
+-- no tablet of a table that is held is left
+pub mod LeftLemmas
+-- what is printed of a table that is held
+pub mod AskLemmas
+-- an input that is loaded
+pub mod InputLemmas

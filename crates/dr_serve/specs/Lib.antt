@@ -17,3 +17,7 @@ pub mod Lent
 pub mod Counted
 -- what serving ends with, by cases
 pub mod Served
+-- what a query prints of a table, and what is left
+pub mod Answers
+-- a table that is held, and an input's answer
+pub mod Asked

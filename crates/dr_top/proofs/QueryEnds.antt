@@ -17,7 +17,7 @@ use Rattle.dr_serve.specs.Serving.{IsShare, first_shown}
 use Rattle.dr_serve.specs.Counted.{AreLeftOf}
 use Rattle.dr_serve.specs.Rounds.{Rounds, OfEachFrom, IsRoundAt}
 use Rattle.dr_serve.proofs.FinishLemmas.{count_of}
-use Rattle.dr_query.specs.Answers.{IsAnswerBut}
+use Rattle.dr_serve.specs.Answers.{IsAnswerBut}
 use Rattle.dr_bind.specs.Faults.{IsRefusedAs, refusal_of}
 use Rattle.dr_bind.specs.declared.fault.QueryFault.{QueryFault}
 use Rattle.dr_commands.specs.Meaning.{Look, Outcome, serves, puts_in}

@@ -17,7 +17,7 @@ use Rattle.dr_load.specs.Faults.{refusal_of as line_refusal_of}
 use Rattle.dr_load.specs.declared.fault.LoadFault.{LoadFault}
 use Rattle.dr_bind.specs.Faults.{IsRefusedAs, refusal_of}
 use Rattle.dr_bind.specs.declared.fault.QueryFault.{QueryFault}
-use Rattle.dr_ask.specs.Asked.{IsAnswerTo}
+use Rattle.dr_serve.specs.Asked.{IsAnswerTo}
 use Rattle.dr_commands.specs.Meaning.{plain, done}
 use Rattle.dr_commands.specs.Trial.{TrialWords, trial_meaning}
 use Rattle.dr_top.specs.World.{outcome_on}

@@ -3,7 +3,7 @@
 ghost use Rattle.std.specs.Prelude.{◌≡◌};
 
 use dr_commands::Serving;
-use dr_query::ServeOptions;
+use dr_serve::ServeOptions;
 
 /// The share of all tablets, in hundredths.
 pub const ALL_TABLETS: u32 = 100;

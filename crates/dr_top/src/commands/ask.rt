@@ -11,7 +11,7 @@ ghost use Rattle.dr_top.specs.Stops.{StopsReading, IsReadBy};
 use crate::output::Output;
 use crate::service::{ALL_TABLETS, service_of};
 use crate::stop::Stop;
-use dr_ask::ask_input;
+use dr_serve::ask_input;
 use dr_bind::read_query;
 use dr_commands::commands::Ask;
 use dr_nested::parse_schema;

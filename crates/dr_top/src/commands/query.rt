@@ -14,7 +14,7 @@ use crate::stop::Stop;
 use dr_bind::read_query;
 use dr_commands::commands::Query;
 use dr_outside::Link;
-use dr_query::{Queried, query_table};
+use dr_serve::{Queried, query_table};
 use dr_table::parse_table;
 use std::alloc::Global;
 use std::sync::Wait;

@@ -10,7 +10,7 @@ ghost use Rattle.dr_top.specs.Stops.{StopsEarly};
 use crate::output::Output;
 use crate::service::{ALL_TABLETS, service_of};
 use crate::stop::Stop;
-use dr_ask::ask_input;
+use dr_serve::ask_input;
 use dr_bind::read_query;
 use dr_commands::commands::Trial;
 use dr_gen::{GenSource, document_text, trial_query};

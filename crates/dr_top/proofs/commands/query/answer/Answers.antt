@@ -6,7 +6,7 @@ use Rattle.dr_tablets.specs.Views.{all_left_view}
 use Rattle.dr_serve.specs.Serving.{IsShare, first_shown}
 use Rattle.dr_serve.specs.Counted.{AreLeftOf}
 use Rattle.dr_commands.specs.Query.{query_meaning, query_view}
-use Rattle.dr_query.specs.Answers.{AnsweredAs}
+use Rattle.dr_serve.specs.Answers.{AnsweredAs}
 use Rattle.dr_top.specs.World.{outcome_on}
 use Rattle.dr_top.specs.Stops.{query_stop, table_stop}
 use Rattle.dr_top.proofs.OutcomeLemmas.{err_is}

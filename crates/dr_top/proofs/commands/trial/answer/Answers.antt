@@ -8,7 +8,7 @@ use Rattle.dr_nested.specs.SchemaView.{schema_view}
 use Rattle.dr_gen.specs.Generator.{lines_from}
 use Rattle.dr_load.specs.Faults.{refusal_of as line_refusal_of}
 use Rattle.dr_bind.specs.Faults.{IsRefusedAs}
-use Rattle.dr_ask.specs.Asked.{IsAnswerTo}
+use Rattle.dr_serve.specs.Asked.{IsAnswerTo}
 use Rattle.dr_commands.specs.Trial.{trial_view}
 use Rattle.dr_top.proofs.OutcomeLemmas.{err_is}
 use Rattle.dr_top.proofs.TrialEnds.{schema_is, never_raised, trial_schema_early, trial_query_early, trial_load_early, trial_ends}

@@ -9,12 +9,12 @@ ghost use Rattle.dr_outside.specs.Link.{Files};
 ghost use Rattle.dr_plan.specs.Planned.{IsOfSchema};
 ghost use Rattle.dr_plan.specs.PlanOf.{IsPlanOf};
 ghost use Rattle.dr_table.specs.Views.{table_view};
-ghost use Rattle.dr_ask.specs.Asked.{HoldsTableOf};
+ghost use Rattle.dr_serve.specs.Asked.{HoldsTableOf};
 
 use dr_memory::NoMemory;
 use dr_outside::Link;
 use dr_plan::Plan;
-use dr_query::{Queried, ServeOptions, query_table};
+use crate::{Queried, ServeOptions, query_table};
 use dr_table::Table;
 use std::alloc::Global;
 use std::sync::Wait;

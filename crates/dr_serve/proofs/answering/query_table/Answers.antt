@@ -9,8 +9,8 @@ use Rattle.dr_tree.specs.Views.{tree_view}
 use Rattle.dr_serve.specs.Served.{ServedAs}
 use Rattle.dr_serve.specs.Serving.{first_shown}
 use Rattle.dr_serve.proofs.ServingLemmas.{leaves_for}
-use Rattle.dr_query.proofs.AnswerLemmas.{counted_prints, fan_has_all}
-use Rattle.dr_query.proofs.answering.query_table.Goals as goal
+use Rattle.dr_serve.proofs.AnswerLemmas.{counted_prints, fan_has_all}
+use Rattle.dr_serve.proofs.answering.query_table.Goals as goal
 
 pub serve-requires-clause-tree : goal.serve-requires-clause-tree
 serve-requires-clause-tree g c κs within = fan_has_all c.args.table.now.tablets c.args.options.now.fan (tree_view c.in_ok-tree.tree) (omega (arith, c.args.table.now.has_tablet)) c.in_ok-tree.ensures

@@ -2,9 +2,9 @@ use Rattle.std.proofs.Common.{string_bytes, map, take, subst}
 use Rattle.dr_table.specs.Views.{table_view}
 use Rattle.dr_tablets.specs.Views.{all_left_view}
 use Rattle.dr_serve.specs.Serving.{first_shown}
-use Rattle.dr_query.specs.Answers.{AnsweredAs}
-use Rattle.dr_ask.proofs.AnswerLemmas.{answer_is, steady_leaves_none}
-use Rattle.dr_ask.proofs.answering.answer_steady.Goals as goal
+use Rattle.dr_serve.specs.Answers.{AnsweredAs}
+use Rattle.dr_serve.proofs.AskLemmas.{answer_is, steady_leaves_none}
+use Rattle.dr_serve.proofs.steady.answer_steady.Goals as goal
 
 pub returns : goal.returns
 returns g c =

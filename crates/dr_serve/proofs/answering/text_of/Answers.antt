@@ -2,8 +2,8 @@ use Rattle.std.specs.Prelude.{string_bytes}
 use Rattle.std.proofs.lemmas.Result.{IfOk-weaker}
 use Rattle.dr_cells.specs.Rows.{rows_view}
 use Rattle.dr_group.specs.Partials.{partial_view}
-use Rattle.dr_query.proofs.AnswerLemmas.{partial_prints}
-use Rattle.dr_query.proofs.answering.text_of.Goals as goal
+use Rattle.dr_serve.proofs.AnswerLemmas.{partial_prints}
+use Rattle.dr_serve.proofs.answering.text_of.Goals as goal
 
 pub returns : goal.returns
 returns c = λ s q R is stands.

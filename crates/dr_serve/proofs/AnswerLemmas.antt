@@ -19,7 +19,7 @@ use Rattle.dr_plan.specs.declared.plan.Plan.{Plan}
 use Rattle.dr_reading.specs.Left.{LeftTablet}
 use Rattle.dr_reading.specs.Scan.{joined}
 use Rattle.dr_serve.specs.Counted.{StandsForCounted, held_of}
-use Rattle.dr_query.specs.Answers.{IsAnswerBut}
+use Rattle.dr_serve.specs.Answers.{IsAnswerBut}
 
 -- ---- a partial
 

@@ -3,8 +3,8 @@ use Rattle.std.proofs.lemmas.List.{length-map}
 use Rattle.dr_nested.specs.SchemaView.{schema_view}
 use Rattle.dr_outside.specs.Shelf.{files_of}
 use Rattle.dr_load.specs.Faults.{refusal_of}
-use Rattle.dr_ask.proofs.InputLemmas.{refused_too, memory_plan, IsMemory, memory_has_tablet, memory_holds, memory_answers, lent_hold}
-use Rattle.dr_ask.proofs.asking.ask_input.Goals as goal
+use Rattle.dr_serve.proofs.InputLemmas.{refused_too, memory_plan, IsMemory, memory_has_tablet, memory_holds, memory_answers, lent_hold}
+use Rattle.dr_serve.proofs.asking.ask_input.Goals as goal
 
 pub returns-in-Err-clause-refused : goal.returns-in-Err-clause-refused
 returns-in-Err-clause-refused g c =

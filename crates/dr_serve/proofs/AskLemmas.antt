@@ -25,11 +25,11 @@ use Rattle.dr_reading.proofs.ReadingLemmas.{given_are_projected}
 use Rattle.dr_plan.specs.declared.plan.Plan.{Plan}
 use Rattle.dr_plan.specs.PlanOf.{IsPlanOf}
 use Rattle.dr_serve.specs.Counted.{OneGives, AreCounted, no_more, is_counted, is_not_counted, AreLeftOf, held_of}
-use Rattle.dr_query.specs.Answers.{IsAnswerBut}
+use Rattle.dr_serve.specs.Answers.{IsAnswerBut}
 use Rattle.dr_load.specs.Loaded.{TabletsAreFiles}
 use Rattle.dr_load.proofs.LoadedLemmas.{files_are_held}
-use Rattle.dr_ask.specs.Asked.{HoldsTableOf}
-use Rattle.dr_ask.proofs.LeftLemmas.{have_copies, none_left}
+use Rattle.dr_serve.specs.Asked.{HoldsTableOf}
+use Rattle.dr_serve.proofs.LeftLemmas.{have_copies, none_left}
 
 -- ---- the leaves of a query
 

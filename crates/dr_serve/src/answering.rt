@@ -15,7 +15,7 @@ ghost use Rattle.dr_table.specs.Views.{table_view};
 ghost use Rattle.dr_plan.specs.PlanOf.{ForQuery, IsPlanOf};
 ghost use Rattle.dr_serve.specs.Links.{LeavesLinks};
 ghost use Rattle.dr_serve.specs.Serving.{first_shown};
-ghost use Rattle.dr_query.specs.Answers.{AnsweredAs};
+ghost use Rattle.dr_serve.specs.Answers.{AnsweredAs};
 
 use crate::queried::Queried;
 use crate::options::ServeOptions;
@@ -24,7 +24,7 @@ use dr_memory::NoMemory;
 use dr_outside::Link;
 use dr_plan::Plan;
 use dr_print::result_text;
-use dr_serve::{Outcome, Served, serve};
+use crate::{Outcome, Served, serve};
 use dr_table::Table;
 use dr_tree::of_fan;
 use std::alloc::Global;

@@ -19,7 +19,7 @@ use Rattle.dr_load.specs.Loads.{taken_of, LoadsTable}
 use Rattle.dr_input.specs.Taken.{WhereTold}
 use Rattle.dr_load.specs.Loaded.{IsPlan, IsApart}
 use Rattle.dr_load.proofs.LoadedLemmas.{loaded_records_are_held, loaded_records_are_joined}
-use Rattle.dr_ask.specs.Asked.{HoldsTableOf, IsAnswerTo}
+use Rattle.dr_serve.specs.Asked.{HoldsTableOf, IsAnswerTo}
 
 -- what a load has put is a table that is held
 pub holds_table : (p : Plan) (count : ℕ) (input : Option (List ℕ)) (before now : Files) → IsPlan p → IsApart p.directories p.table → (l : LoadsTable p p.table count input (Some before) (Some now)) → HoldsTableOf (table_of p count) (Some now) l.records

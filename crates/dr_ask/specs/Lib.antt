@@ -1,2 +1,0 @@
--- a table that is held, and an input's answer
-pub mod Asked

@@ -1,2 +1,0 @@
--- what a partial prints
-mod AnswerLemmas

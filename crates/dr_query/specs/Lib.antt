@@ -1,2 +1,0 @@
--- what a query prints of a table, and what is left
-pub mod Answers
