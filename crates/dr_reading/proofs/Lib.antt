@@ -9,3 +9,8 @@ pub mod ReadingLemmas
 pub mod HeldFileLemmas
 -- what one link reads in turn
 pub mod InTurnLemmas
+-- worked examples
+pub mod WorkedServing
+-- lemmas of the laws
+pub mod ServingLemmas
+pub mod PieceLemmas

@@ -15,3 +15,13 @@ pub mod LeftText
 pub mod Premises
 -- laws, each proved on a law function of src/
 pub mod ReadingLaws
+-- those of serving a table
+-- when a piece is true of a tablet
+pub mod Truth
+-- what serving ends with
+pub mod Outcome
+pub mod Pieces
+-- what has to hold of all links and of a table's tablets
+pub mod ServingPremises
+-- laws, each proved on a law function of src/
+pub mod ServingLaws

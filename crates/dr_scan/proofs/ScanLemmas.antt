@@ -37,7 +37,7 @@ use Rattle.dr_walk.specs.declared.fault.AssembleFault.{AssembleFault}
 use Rattle.dr_reading.specs.Held.{held_at, held_file, present}
 use Rattle.dr_reading.specs.Scan.{Copy}
 use Rattle.dr_tablets.specs.Asked.{AsksForTablets}
-use Rattle.dr_serving.specs.Truth.{StandsForFile, IsTrueOf, most_values}
+use Rattle.dr_reading.specs.Truth.{StandsForFile, IsTrueOf, most_values}
 use Rattle.dr_plan.specs.PlanOf.{IsPlanOf}
 use Rattle.dr_scan.specs.OfColumns.{IsOfColumns, NoneHasLeaves}
 use Rattle.dr_scan.specs.Scans.{StandsForBytes, StandsForRecords, truth_at}

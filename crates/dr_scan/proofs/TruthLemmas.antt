@@ -7,7 +7,7 @@ use Rattle.dr_outside.specs.Link.{Files}
 use Rattle.dr_partials.specs.Partials.{Partial}
 use Rattle.dr_partials.specs.Rewriting.{leaf_query}
 use Rattle.dr_reading.specs.Held.{Held, untold, present, held_at, IsHeld, IsUntold}
-use Rattle.dr_serving.specs.Truth.{TabletTruth, StandsForFile}
+use Rattle.dr_reading.specs.Truth.{TabletTruth, StandsForFile}
 use Rattle.dr_scan.specs.Scans.{truth_at}
 use Rattle.dr_scan.specs.ScanLaws.{IsAmong, TrueOfMoreCopies}
 

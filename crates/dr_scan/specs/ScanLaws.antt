@@ -6,7 +6,7 @@ use Rattle.dr_outside.specs.Link.{Files}
 use Rattle.dr_partials.specs.Partials.{Partial}
 use Rattle.dr_partials.specs.Rewriting.{leaf_query}
 use Rattle.dr_reading.specs.Held.{Held, held_at}
-use Rattle.dr_serving.specs.Truth.{IsTrueOf}
+use Rattle.dr_reading.specs.Truth.{IsTrueOf}
 use Rattle.dr_scan.specs.Scans.{truth_at}
 
 -- it is held at one of a tablet's copies

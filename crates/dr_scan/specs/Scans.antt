@@ -10,7 +10,7 @@ use Rattle.dr_outside.specs.Link.{Files}
 use Rattle.dr_partials.specs.Partials.{Partial, Stands}
 use Rattle.dr_partials.specs.Rewriting.{leaf_query}
 use Rattle.dr_reading.specs.Held.{held_at}
-use Rattle.dr_serving.specs.Truth.{TabletTruth}
+use Rattle.dr_reading.specs.Truth.{TabletTruth}
 
 -- a partial stands for the leaf query on some records of which the bytes are a file for the leaves that the query uses
 abbrev pub StandsForBytes : Schema → Query → List ℕ → Partial → Type 0

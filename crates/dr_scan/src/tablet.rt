@@ -8,7 +8,7 @@ ghost use Rattle.dr_partials.specs.PartialBounds.{PartialCanBeOf};
 ghost use Rattle.dr_partials.specs.Rewriting.{leaf_query};
 ghost use Rattle.dr_plan.specs.Planned.{IsOfSchema, plan_leaves, plan_view};
 ghost use Rattle.dr_group.specs.Partials.{IsPartialOf, partial_view};
-ghost use Rattle.dr_serving.specs.Truth.{most_values};
+ghost use Rattle.dr_reading.specs.Truth.{most_values};
 ghost use Rattle.dr_reading.specs.Scan.{copies_from};
 ghost use Rattle.dr_plan.specs.PlanOf.{ForQuery};
 ghost use Rattle.dr_tablets.specs.Asked.{AsksForTablets};

@@ -15,7 +15,7 @@ use Rattle.dr_partials.specs.Trees.{Tree, tablets_of}
 use Rattle.dr_partials.proofs.RewritingLemmas.{leaf_has_same_partials}
 use Rattle.dr_plan.specs.Planned.{Planned, IsOfSchema, planned, planned_query, plan_view}
 use Rattle.dr_plan.specs.declared.plan.Plan.{Plan}
-use Rattle.dr_serving.specs.Truth.{most_values}
+use Rattle.dr_reading.specs.Truth.{most_values}
 use Rattle.dr_tree.specs.Grows.{CanAdd, Grows, not_grown, with_added}
 use Rattle.dr_tree.specs.Places.{Place, added, free_places}
 use Rattle.dr_tree.specs.Together.{CanBeTogether}

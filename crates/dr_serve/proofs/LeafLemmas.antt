@@ -10,7 +10,7 @@ use Rattle.dr_outside.specs.Link.{Files}
 use Rattle.dr_dispatch.specs.Job.{leaves_at}
 use Rattle.dr_reading.specs.Held.{Held, held_at, held_on, held_by_all}
 use Rattle.dr_reading.specs.Scan.{Copy, copy_in, copy_paths, copies_from, tablets_from, tablets_of}
-use Rattle.dr_serving.specs.Pieces.{copies_at}
+use Rattle.dr_reading.specs.Pieces.{copies_at}
 use Rattle.dr_scan.specs.ScanLaws.{IsAmong}
 use Rattle.dr_serve.specs.Working.{directories_of, IsOnLeaf}
 

@@ -28,8 +28,8 @@ use Rattle.dr_reading.specs.Left.{Tried, AreTried, causes_of}
 use Rattle.dr_reading.specs.Scan.{Copy, copy_paths, copies_from, tablets_of}
 use Rattle.dr_reading.proofs.InTurnLemmas.{left_rise_apart}
 use Rattle.dr_tablets.specs.Views.{all_tried_view}
-use Rattle.dr_serving.specs.Pieces.{copies_at}
-use Rattle.dr_serving.specs.Truth.{StandsForFile, IsTrueOf, most_values}
+use Rattle.dr_reading.specs.Pieces.{copies_at}
+use Rattle.dr_reading.specs.Truth.{StandsForFile, IsTrueOf, most_values}
 use Rattle.dr_scan.specs.Scans.{StandsForRecords, truth_at}
 use Rattle.dr_scan.specs.Tablets.{IsOfScan, IsScannedAs, WhereScanned}
 use Rattle.dr_scan.specs.declared.tablet.Scanned.{Scanned}

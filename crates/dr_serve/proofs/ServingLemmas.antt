@@ -27,7 +27,7 @@ use Rattle.dr_tablets.specs.Views.{left_view, all_left_view}
 use Rattle.dr_tablets.proofs.AskedTablets.{held_nothing}
 use Rattle.dr_tablets.specs.declared.left.LeftTablet as code
 use Rattle.dr_tablets.specs.declared.left.Tried as code_tried
-use Rattle.dr_serving.specs.Outcome.{Serving, IsUnfinished}
+use Rattle.dr_reading.specs.Outcome.{Serving, IsUnfinished}
 use Rattle.dr_scan.specs.declared.tablet.Scanned.{Scanned}
 use Rattle.dr_scan.proofs.ScanLemmas.{leaves_are}
 use Rattle.dr_tree.specs.Grows.{Growth, Grows}

@@ -12,8 +12,8 @@ use Rattle.dr_partials.specs.Rewriting.{leaf_query}
 use Rattle.dr_plan.specs.declared.plan.Plan.{Plan}
 use Rattle.dr_reading.specs.Held.{Held, held_at, held_on, held_by_all, IsHeld, IsUntold}
 use Rattle.dr_reading.specs.Scan.{Copy, copy_in, copy_paths, tablets_of}
-use Rattle.dr_serving.specs.Pieces.{copies_at}
-use Rattle.dr_serving.specs.Truth.{StandsForFile, IsTrueOf}
+use Rattle.dr_reading.specs.Pieces.{copies_at}
+use Rattle.dr_reading.specs.Truth.{StandsForFile, IsTrueOf}
 use Rattle.dr_scan.specs.Scans.{truth_at}
 use Rattle.dr_scan.proofs.TruthLemmas.{true_of_more_copies}
 use Rattle.dr_serve.specs.Working.{truth_by, IsPiece}

@@ -20,8 +20,8 @@ use Rattle.dr_reading.specs.Causes.{RisesApart}
 use Rattle.dr_reading.specs.Left.{Tried, LeftTablet, causes_met}
 use Rattle.dr_reading.specs.Scan.{Copy}
 use Rattle.dr_tablets.specs.Views.{all_left_view}
-use Rattle.dr_serving.specs.Truth.{IsTrueOf}
-use Rattle.dr_serving.specs.Outcome.{Serving, truth_of}
+use Rattle.dr_reading.specs.Truth.{IsTrueOf}
+use Rattle.dr_reading.specs.Outcome.{Serving, truth_of}
 use Rattle.dr_serve.specs.declared.found.Found.{Found}
 use Rattle.dr_serve.specs.declared.outcome.Outcome.{Outcome}
 use Rattle.dr_serve.specs.Closing.{Closes}

@@ -17,8 +17,8 @@ use Rattle.dr_reading.specs.Causes.{RisesApart}
 use Rattle.dr_reading.specs.Held.{held_by_all}
 use Rattle.dr_reading.specs.Left.{IsCauseAt}
 use Rattle.dr_reading.specs.Scan.{Copy, copy_in, copy_paths, tablets_of}
-use Rattle.dr_serving.specs.Pieces.{copies_at}
-use Rattle.dr_serving.specs.Truth.{TabletTruth, IsTrueOf}
+use Rattle.dr_reading.specs.Pieces.{copies_at}
+use Rattle.dr_reading.specs.Truth.{TabletTruth, IsTrueOf}
 use Rattle.dr_scan.specs.Scans.{StandsForRecords}
 use Rattle.dr_serve.specs.declared.found.Found.{Found}
 

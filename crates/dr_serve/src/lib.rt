@@ -1,4 +1,5 @@
-//! Serving a query over a table by workers, each with a link of its own.
+//! Serving a query over a table by workers, each with a link of its own; and what a query prints over a table, or over
+//! an input.
 #![tactic(auto)]
 
 mod added;

@@ -15,7 +15,7 @@ use Rattle.dr_partials.proofs.RewritingLemmas.{leaf_has_same_partials}
 use Rattle.dr_plan.specs.Planned.{Planned, planned, planned_query}
 use Rattle.dr_group.specs.Partials.{partial_view, IsPartialOf}
 use Rattle.dr_group.specs.declared.partial.Partial as coded
-use Rattle.dr_serving.specs.Truth.{most_values}
+use Rattle.dr_reading.specs.Truth.{most_values}
 use Rattle.dr_tree.specs.Grows.{CanAdd, Growth, Grows, not_grown, with_added}
 use Rattle.dr_tree.specs.Places.{Place, added, fill, filled, free_places, has_free, is_free, is_free_for}
 use Rattle.dr_tree.specs.Together.{CanBeTogether}

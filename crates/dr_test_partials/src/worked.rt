@@ -8,7 +8,7 @@ ghost use Rattle.dr_partials.specs.PartialTypes.{is_partial};
 ghost use Rattle.dr_partials.specs.PartialBounds.{PartialCanBeOf};
 ghost use Rattle.dr_partials.specs.Rewriting.{leaf_query};
 ghost use Rattle.dr_group.specs.Partials.{IsPartialOf, partial_view};
-ghost use Rattle.dr_serving.specs.Truth.{most_values};
+ghost use Rattle.dr_reading.specs.Truth.{most_values};
 
 use dr_bind::read_query;
 use dr_case_lines::{DOCUMENT, RECORDS};

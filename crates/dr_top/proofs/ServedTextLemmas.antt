@@ -14,7 +14,7 @@ use Rattle.dr_reading.specs.Given.{IsFileThere, SomeIsFile, IsGiven}
 use Rattle.dr_reading.specs.Left.{Tried, LeftTablet}
 use Rattle.dr_reading.specs.Premises.{PathsHold, TabletsHold}
 use Rattle.dr_reading.proofs.ReadingLemmas.{given_are_projected}
-use Rattle.dr_serving.specs.Premises.{AllTell}
+use Rattle.dr_reading.specs.ServingPremises.{AllTell}
 use Rattle.dr_serve.specs.Counted.{OneGives, AreCounted, no_more, is_counted, is_not_counted}
 use Rattle.dr_commands.specs.Query.{query_scan}
 use Rattle.dr_commands.proofs.ScanLemmas.{query_sees_leaves_alone}

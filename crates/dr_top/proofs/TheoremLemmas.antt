@@ -19,7 +19,7 @@ use Rattle.dr_outside.specs.declared.mem_link.MemLink.{MemLink}
 use Rattle.dr_reading.specs.Held.{Held, held_at, held_file}
 use Rattle.dr_reading.specs.Scan.{Copy, Scan, tablets_of}
 use Rattle.dr_reading.specs.Premises.{TabletsHold, EachHasFile}
-use Rattle.dr_serving.specs.Premises.{AllTell}
+use Rattle.dr_reading.specs.ServingPremises.{AllTell}
 use Rattle.dr_serve.specs.Counted.{held_of}
 use Rattle.dr_commands.specs.Refusals.{Refusal as Refused}
 use Rattle.dr_commands.specs.Meaning.{Meaning, serves, refused}

@@ -20,7 +20,7 @@ use Rattle.dr_outside.specs.Link.{Files}
 use Rattle.dr_reading.specs.Scan.{Copy, tablets_of, joined}
 use Rattle.dr_reading.specs.Premises.{TabletsHold}
 use Rattle.dr_reading.proofs.WorkedCauses.{path_of_a, the_leaf, no_footer, one_is_file}
-use Rattle.dr_serving.specs.Premises.{AllTell}
+use Rattle.dr_reading.specs.ServingPremises.{AllTell}
 use Rattle.dr_serve.specs.Counted.{AreCounted, no_more, is_counted}
 use Rattle.dr_commands.specs.Query.{query_scan}
 use Rattle.dr_words.proofs.WorkedWords.{totals_text, two_workers_line, two_workers_words, two_workers_asked}

@@ -8,7 +8,7 @@ use Rattle.dr_outside.specs.Link.{Files}
 use Rattle.dr_reading.specs.Left.{LeftTablet}
 use Rattle.dr_reading.specs.Scan.{joined, tablets_of}
 use Rattle.dr_reading.specs.Premises.{TabletsHold}
-use Rattle.dr_serving.specs.Premises.{AllTell}
+use Rattle.dr_reading.specs.ServingPremises.{AllTell}
 use Rattle.dr_serve.specs.Counted.{AreCounted}
 use Rattle.dr_commands.specs.Query.{query_scan}
 

@@ -4,7 +4,7 @@ use Rattle.dr_partials.specs.Rewriting.{leaf_query}
 use Rattle.dr_partials.specs.Trees.{Tree, of_fan, tablets_of}
 use Rattle.dr_plan.specs.Planned.{plan_view}
 use Rattle.dr_plan.specs.PlanOf.{IsPlanOf}
-use Rattle.dr_serving.specs.Truth.{most_values}
+use Rattle.dr_reading.specs.Truth.{most_values}
 use Rattle.dr_tree.specs.Together.{AreBounded, Together, partials_view}
 use Rattle.dr_test_partials.proofs.agreement_tests.gathered_text.Goals as goal
 

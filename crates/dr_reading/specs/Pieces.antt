@@ -2,8 +2,8 @@
 use Rattle.std.specs.Prelude.{ℕ, zero, suc, ◌==◌, List, [], ◌∷◌, if◌then◌else◌}
 use Rattle.dr_partials.specs.Partials.{Partial, lines}
 use Rattle.dr_reading.specs.Scan.{Copy}
-use Rattle.dr_serving.specs.Truth.{IsTrueOf}
-use Rattle.dr_serving.specs.Outcome.{Serving, truth_of}
+use Rattle.dr_reading.specs.Truth.{IsTrueOf}
+use Rattle.dr_reading.specs.Outcome.{Serving, truth_of}
 
 -- the partial of a tablet
 pub record TabletPiece : Type 0 where

@@ -1,6 +1,6 @@
 // Laws of serving.
 
-ghost use Rattle.dr_serving.specs.ServingLaws.{TrueOfTabletStands, FinishedMeansQuery, KeptPiecesAreTrue, BoundIsServable};
+ghost use Rattle.dr_reading.specs.ServingLaws.{TrueOfTabletStands, FinishedMeansQuery, KeptPiecesAreTrue, BoundIsServable};
 
 /// Where all links tell what they hold, and each leaf of a tablet holds a file of its records, or none of any, a piece
 /// that is true of the tablet stands for the leaf query on its records.

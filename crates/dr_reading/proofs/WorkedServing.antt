@@ -22,12 +22,12 @@ use Rattle.dr_reading.specs.Scan.{Copy}
 use Rattle.dr_reading.specs.Left.{AreTried, no_tablets, is_answered, is_left}
 use Rattle.dr_reading.specs.Premises.{HoldsRecords}
 use Rattle.dr_reading.proofs.WorkedCauses.{path_a, path_b, path_c, files, path_of_a, the_leaf, no_footer, copy, two_tablets, second}
-use Rattle.dr_serving.specs.Truth.{TabletTruth, IsTrueOf}
-use Rattle.dr_serving.specs.Outcome.{Serving, IsFinished, IsUnfinished}
-use Rattle.dr_serving.specs.Pieces.{TabletPiece, copies_at, IsTrueAt, kept_partial}
-use Rattle.dr_serving.specs.Premises.{AllTell, ServesRecords, IsServable}
-use Rattle.dr_serving.specs.ServingLaws.{HasEnoughLeaves}
-use Rattle.dr_serving.proofs.ServingLemmas.{true_of_tablet_stands, finished_means_query}
+use Rattle.dr_reading.specs.Truth.{TabletTruth, IsTrueOf}
+use Rattle.dr_reading.specs.Outcome.{Serving, IsFinished, IsUnfinished}
+use Rattle.dr_reading.specs.Pieces.{TabletPiece, copies_at, IsTrueAt, kept_partial}
+use Rattle.dr_reading.specs.ServingPremises.{AllTell, ServesRecords, IsServable}
+use Rattle.dr_reading.specs.ServingLaws.{HasEnoughLeaves}
+use Rattle.dr_reading.proofs.ServingLemmas.{true_of_tablet_stands, finished_means_query}
 
 -- ---- pieces
 

@@ -12,11 +12,11 @@ use Rattle.dr_dispatch.specs.declared.event.Event.{Event}
 use Rattle.dr_partials.specs.Partials.{Partial, Stands, finished}
 use Rattle.dr_partials.specs.Trees.{Tree}
 use Rattle.dr_reading.specs.Held.{Held}
-use Rattle.dr_serving.specs.Truth.{TabletTruth, leaves_of, IsTrueOf}
-use Rattle.dr_serving.specs.Outcome.{Serving, AreTrueFrom, IsFinished}
-use Rattle.dr_serving.specs.Pieces.{TabletPiece, IsTrueAt, kept_partial}
+use Rattle.dr_reading.specs.Truth.{TabletTruth, leaves_of, IsTrueOf}
+use Rattle.dr_reading.specs.Outcome.{Serving, AreTrueFrom, IsFinished}
+use Rattle.dr_reading.specs.Pieces.{TabletPiece, IsTrueAt, kept_partial}
 use Rattle.dr_reading.specs.Premises.{HoldsRecords}
-use Rattle.dr_serving.specs.Premises.{ServesRecords, IsServable, all_records}
+use Rattle.dr_reading.specs.ServingPremises.{ServesRecords, IsServable, all_records}
 use Rattle.dr_meaning.specs.Path.{paths_of_leaves}
 
 -- the leaves that a query uses are enough for it

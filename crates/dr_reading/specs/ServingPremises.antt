@@ -8,7 +8,7 @@ use Rattle.dr_partials.specs.PartialLaws.{is_mergeable}
 use Rattle.dr_partials.specs.TreeLaws.{records_of}
 use Rattle.dr_partials.specs.Rewriting.{leaf_query}
 use Rattle.dr_reading.specs.Premises.{TellsFiles, TabletsHold}
-use Rattle.dr_serving.specs.Outcome.{Serving, serving_leaves, held_by_links}
+use Rattle.dr_reading.specs.Outcome.{Serving, serving_leaves, held_by_links}
 use Rattle.dr_meaning.specs.Path.{paths_of_leaves}
 
 -- all links tell what they hold, and one path holds the same for all

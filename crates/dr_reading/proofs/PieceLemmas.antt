@@ -6,10 +6,10 @@ use Rattle.std.proofs.lemmas.Bool.{eqb-true}
 use Rattle.dr_dispatch.proofs.HistoryLemmas.{answered_have_answers}
 use Rattle.dr_partials.specs.Partials.{Partial}
 use Rattle.dr_reading.specs.Scan.{Copy}
-use Rattle.dr_serving.specs.Truth.{IsTrueOf}
-use Rattle.dr_serving.specs.Outcome.{Serving, truth_of, AreTrueFrom}
-use Rattle.dr_serving.specs.Pieces.{TabletPiece, copies_at, IsTrueAt, kept_partial}
-use Rattle.dr_serving.specs.ServingLaws.{KeptPiecesAreTrue}
+use Rattle.dr_reading.specs.Truth.{IsTrueOf}
+use Rattle.dr_reading.specs.Outcome.{Serving, truth_of, AreTrueFrom}
+use Rattle.dr_reading.specs.Pieces.{TabletPiece, copies_at, IsTrueAt, kept_partial}
+use Rattle.dr_reading.specs.ServingLaws.{KeptPiecesAreTrue}
 
 -- ---- kept pieces
 

@@ -28,10 +28,10 @@ use Rattle.dr_reading.specs.Held.{Held, present, held_file, held_on, held_by_all
 use Rattle.dr_reading.specs.Scan.{Copy, copy_paths}
 use Rattle.dr_reading.specs.Premises.{TellsFiles, HoldsRecords, PathsHold, TabletsHold}
 use Rattle.dr_reading.proofs.FileLemmas.{same_projections}
-use Rattle.dr_serving.specs.Truth.{TabletTruth, leaves_of, StandsForFile}
-use Rattle.dr_serving.specs.Outcome.{Serving, serving_leaves, held_by_links, truth_of, AreTrueFrom}
-use Rattle.dr_serving.specs.Premises.{AllTell, ServesRecords, IsServable, all_records}
-use Rattle.dr_serving.specs.ServingLaws.{HasEnoughLeaves, EachHolds, TrueOfTabletStands, FinishedMeansQuery, BoundIsServable}
+use Rattle.dr_reading.specs.Truth.{TabletTruth, leaves_of, StandsForFile}
+use Rattle.dr_reading.specs.Outcome.{Serving, serving_leaves, held_by_links, truth_of, AreTrueFrom}
+use Rattle.dr_reading.specs.ServingPremises.{AllTell, ServesRecords, IsServable, all_records}
+use Rattle.dr_reading.specs.ServingLaws.{HasEnoughLeaves, EachHolds, TrueOfTabletStands, FinishedMeansQuery, BoundIsServable}
 
 -- ---- a true piece
 

@@ -13,7 +13,7 @@ use Rattle.dr_reading.specs.Held.{held_by_all}
 use Rattle.dr_reading.specs.Causes.{RisesApart}
 use Rattle.dr_reading.specs.Scan.{Copy, copy_paths}
 use Rattle.dr_reading.specs.Left.{LeftTablet, LeftUnanswered, causes_met}
-use Rattle.dr_serving.specs.Truth.{TabletTruth, IsTrueOf}
+use Rattle.dr_reading.specs.Truth.{TabletTruth, IsTrueOf}
 
 -- what is served: a query on a table of this schema, by these links, of which the first goes last over what is left
 pub record Serving : Type 0 where

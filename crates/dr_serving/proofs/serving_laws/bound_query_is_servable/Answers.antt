@@ -1,5 +1,0 @@
-use Rattle.dr_serving.proofs.ServingLemmas.{bound_is_servable}
-use Rattle.dr_serving.proofs.serving_laws.bound_query_is_servable.Goals as goal
-
-pub returns : goal.returns
-returns c = bound_is_servable

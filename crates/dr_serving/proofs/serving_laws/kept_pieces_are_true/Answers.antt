@@ -1,5 +1,0 @@
-use Rattle.dr_serving.proofs.PieceLemmas.{kept_pieces_are_true}
-use Rattle.dr_serving.proofs.serving_laws.kept_pieces_are_true.Goals as goal
-
-pub returns : goal.returns
-returns c = kept_pieces_are_true
