@@ -15,7 +15,8 @@ use Rattle.dr_partials.specs.GroupPuts.{put_each}
 use Rattle.dr_group.specs.Gathering.{Becomes, gatherings_of}
 use Rattle.dr_group.specs.Groups.{put_of, group_view}
 use Rattle.dr_group.specs.declared.group.Group as held
-use Rattle.dr_group.specs.Maps.{groups_view, gatherings_view, tuples_of, tuples_view}
+use Rattle.dr_group.specs.Maps.{groups_view, gatherings_view, tuples_view}
+use Rattle.dr_group.specs.Distinct.{tuples_of}
 use Rattle.dr_group.specs.declared.group_map.GroupMap.{GroupMap}
 use Rattle.dr_columns.specs.Rows.{Row, NextRow}
 use Rattle.dr_columns.specs.RowPuts.{keys_in, puts_in}

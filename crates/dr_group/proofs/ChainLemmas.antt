@@ -1,11 +1,11 @@
 -- Chains of numbers: one number more, and what is found on the way along a chain.
-use Rattle.std.specs.Prelude.{◌≡◌, ◌<◌, ◌≤◌, ◌+◌, ◌%◌, ℕ, zero, suc, List, [], ◌∷◌, ◌++◌, length, get_or}
-use Rattle.std.proofs.Common.{◌⊎◌, inl, inr, refl, sym, ap, ◌∙◌, subst, arith, length-append}
+use Rattle.std.specs.Prelude.{◌≡◌, ◌<◌, ◌≤◌, ◌+◌, ◌%◌, ℕ, zero, suc, List, [], ◌∷◌, ◌++◌, length, get_or, true}
+use Rattle.std.proofs.Common.{◌⊎◌, inl, inr, refl, sym, ap, ◌∙◌, subst, arith, length-append, true≢false}
 use Rattle.std.proofs.Math.ListN.{set, replicate}
 use Rattle.std.proofs.lemmas.Bool.{cases_lt, cases_eq}
 use Rattle.std.proofs.lemmas.Nat.{mod_below}
 use Rattle.std.proofs.lemmas.List.{get_or-set_same, get_or-set_other, length-set}
-use Rattle.dr_group.specs.Chains.{AreChained, AreLinked, no_link, link_at, bucket_of, bucket_at, head_of, next_at}
+use Rattle.dr_group.specs.Chains.{AreChained, AreLinked, AreShort, no_link, link_at, bucket_of, bucket_at, head_of, next_at, most_linked, ends_within, depth_at, depth_before}
 use Rattle.dr_group.specs.declared.index.Link.{Link}
 
 -- what is told of one number more
@@ -97,9 +97,9 @@ last : (links : List Link) (l d : Link) → get_or (links ++ l ∷ []) (length l
 last [] l d = refl
 last (k ∷ links) l d = last links l d
 
-pub linked_more : (heads heads' : List ℕ) (links links' : List Link) (hash b n : ℕ) (l : Link) → 0 < length heads → b ≡ bucket_of heads hash → n ≡ length links + 1 → heads' ≡ set heads b n → l ≡ record { hash = hash; next = head_of heads b }
+pub linked_more : (heads heads' : List ℕ) (links links' : List Link) (hash b n d : ℕ) (l : Link) → 0 < length heads → b ≡ bucket_of heads hash → n ≡ length links + 1 → heads' ≡ set heads b n → l ≡ record { hash = hash; next = head_of heads b; depth = d }
     → links' ≡ links ++ l ∷ [] → AreLinked heads links → AreLinked heads' links'
-linked_more heads heads' links links' hash b n l h e f g k p s =
+linked_more heads heads' links links' hash b n d l h e f g k p s =
     let within : b < length heads = omega (arith, e, mod_below hash (length heads) h) in
     let size : length (set heads b n) ≡ length heads = length-set heads b n in
     let same_bucket : (x : ℕ) → x % length (set heads b n) ≡ x % length heads = λ x. ap (λ m. x % m) size in
@@ -117,6 +117,60 @@ linked_more heads heads' links links' hash b n l h e f g k p s =
     subst (λ m. AreChained m (bucket_at (set heads b n) (links ++ l ∷ [])) (head_of (set heads b n)) (next_at (links ++ l ∷ []))) (sym size_now)
     (one_more (length links) (bucket_at heads links) (head_of heads) (next_at links) (bucket_at (set heads b n) (links ++ l ∷ [])) (head_of (set heads b n)) (next_at (links ++ l ∷ [])) b more s) in
     subst (λ (hs : List ℕ). AreLinked hs links') (sym g) (subst (AreLinked (set heads b n)) (sym p) done)
+
+-- ---- chains are short
+
+abbrev GoesDown : List Link → Type 0
+GoesDown links = (i : ℕ) → i < length links → next_at links i ≤ i
+
+ends_kept : (n : ℕ) (links : List Link) (l : Link) (rest : ℕ) → GoesDown links → rest ≤ length links → ends_within n links rest ≡ true → ends_within n (links ++ l ∷ []) rest ≡ true
+ends_kept n links l zero g h e = refl
+ends_kept zero links l (suc i) g h e = absurd (true≢false (sym e))
+ends_kept (suc n) links l (suc i) g h e =
+    let below : i < length links = omega (arith, h) in
+    ap (ends_within n (links ++ l ∷ [])) (ap (λ (x : Link). x.next) (there links l no_link i below))
+    ∙ ends_kept n links l (next_at links i) g (omega (arith, g i below, below)) e
+
+head_kept : (links : List Link) (l : Link) (head : ℕ) → GoesDown links → AreShort links → head ≤ length links → ends_within (depth_before links head) (links ++ l ∷ []) head ≡ true
+head_kept links l zero g s h = refl
+head_kept links l (suc i) g s h = ends_kept (depth_at links i) links l (suc i) g h (s i (omega (arith, h))).1
+
+one_deeper : (d e : ℕ) (links : List Link) (i : ℕ) → e ≡ d + 1 → ends_within d links (next_at links i) ≡ true → ends_within e links (suc i) ≡ true
+one_deeper d e links i h k =
+    let same : suc d ≡ e = omega (arith, h) in
+    subst (λ n. ends_within n links (suc i) ≡ true) same k
+
+pub short_more : (links links' : List Link) (head d : ℕ) (l : Link) → GoesDown links → AreShort links → head ≤ length links → depth_before links head < most_linked → d ≡ depth_before links head + 1 → l.next ≡ head → l.depth ≡ d
+    → links' ≡ links ++ l ∷ [] → AreShort links'
+short_more links links' head d l g s h k e f m p = subst AreShort (sym p) (λ i b. by_last i b (cases_lt i (length links)))
+  where
+    by_last : (i : ℕ) → i < length (links ++ l ∷ []) → (i < length links) ⊎ (length links ≤ i) → (depth_at (links ++ l ∷ []) i ≤ most_linked) × (ends_within (depth_at (links ++ l ∷ []) i) (links ++ l ∷ []) (suc i) ≡ true)
+    by_last i b (inl x) =
+        let same : depth_at (links ++ l ∷ []) i ≡ depth_at links i = ap (λ (y : Link). y.depth) (there links l no_link i x) in (
+          omega (arith, same, (s i x).0),
+          ap (λ n. ends_within n (links ++ l ∷ []) (suc i)) same ∙ ends_kept (depth_at links i) links l (suc i) g (omega (arith, x)) (s i x).1,
+        )
+    by_last i b (inr x) =
+        let here : i ≡ length links = omega (arith, b, x, length-append links (l ∷ [])) in
+        let own : link_at (links ++ l ∷ []) i ≡ l = ap (link_at (links ++ l ∷ [])) here ∙ last links l no_link in
+        let deep : depth_at (links ++ l ∷ []) i ≡ depth_before links head + 1 = ap (λ (y : Link). y.depth) own ∙ m ∙ e in (
+          omega (arith, deep, k),
+          one_deeper (depth_before links head) (depth_at (links ++ l ∷ []) i) (links ++ l ∷ []) i deep
+              (ap (ends_within (depth_before links head) (links ++ l ∷ [])) (ap (λ (y : Link). y.next) own ∙ f) ∙ head_kept links l head g s h),
+        )
+
+more_steps : (n m : ℕ) (links : List Link) (rest : ℕ) → n ≤ m → ends_within n links rest ≡ true → ends_within m links rest ≡ true
+more_steps n m links zero h e = refl
+more_steps zero m links (suc i) h e = absurd (true≢false (sym e))
+more_steps (suc n) zero links (suc i) h e = absurd (omega (arith, h))
+more_steps (suc n) (suc m) links (suc i) h e = more_steps n m links (next_at links i) (omega (arith, h)) e
+
+-- from a head on
+pub chain_ends : (links : List Link) (n : ℕ) → AreShort links → n ≤ length links → ends_within most_linked links n ≡ true
+chain_ends links zero s h = refl
+chain_ends links (suc i) s h =
+    let d = s i (omega (arith, h)) in
+    more_steps (depth_at links i) most_linked links (suc i) d.0 d.1
 
 abbrev zeros_of : ℕ → List ℕ
 zeros_of n = replicate n 0

@@ -14,6 +14,10 @@ pub mod PutLemmas
 pub mod SortLemmas
 -- held groups, where one changes or is made
 pub mod HeldLemmas
+-- groups by their numbers
+pub mod NumberLemmas
+-- numbers that are found by the order of key tuples
+pub mod OrderedLemmas
 -- where a key tuple is looked for
 pub mod FindLemmas
 -- the cells of rows
@@ -36,5 +40,3 @@ pub mod TurnLemmas
 pub mod NumberedLemmas
 -- values that are taken one after another
 pub mod TakenLemmas
--- groups by their numbers
-pub mod NumberLemmas

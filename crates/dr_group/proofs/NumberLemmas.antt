@@ -1,6 +1,6 @@
 -- Groups by their numbers.
 use Rattle.std.proofs.lemmas.List.{map-append}
-use Rattle.std.proofs.Common.{◌≡◌, ℕ, zero, suc, List, [], ◌∷◌, ◌++◌, map, length, get_or, Option, Some, Ok, Err, Result, refl, ap, ap₂, ◌∙◌, arith, IfOk}
+use Rattle.std.proofs.Common.{◌≡◌, ℕ, zero, suc, List, [], ◌∷◌, ◌++◌, map, length, get_or, Option, Some, Ok, Err, Result, refl, ap, ◌∙◌, arith, IfOk}
 use Rattle.std.specs.List.{slice_get}
 use Rattle.std.proofs.Math.Seq.{map-set_same}
 use Rattle.dr_memory.specs.declared.NoMemory.{NoMemory}
@@ -11,7 +11,7 @@ use Rattle.dr_partials.specs.Putting.{Taken, Put, put_group}
 use Rattle.dr_group.specs.Gathering.{Becomes, taken_by, put_by, gatherings_of, gathering_view}
 use Rattle.dr_group.specs.Groups.{no_group, with_accumulators, taken_at}
 use Rattle.dr_group.specs.Distinct.{IsFound}
-use Rattle.dr_group.specs.Maps.{tuples_of}
+use Rattle.dr_group.specs.Distinct.{tuples_of}
 use Rattle.dr_group.specs.declared.gathering.Gathering.{Gathering}
 use Rattle.dr_group.proofs.HeldLemmas.{put_items}
 
@@ -50,8 +50,7 @@ tuples_grown gs hs g e = ap tuples_of e ∙ map-append (λ (h : Group). h.keys) 
 pub items_put : (items : List GroupItem) (ks : List Gathering) (p : Put) (gs after : List Group) → gatherings_of items ≡ map gathering_view ks → after ≡ put_by ks p gs → after ≡ put_group items p gs
 items_put items ks p gs after e s = put_items (Ok tt) items ks p gs after e s
 
-pub ready_put : (r : Result ℕ NoMemory) (ks js : List Gathering) (p : Put) (gs hs after : List Group) → hs ≡ gs → js ≡ ks → IfOk r (λ (n : ℕ). after ≡ put_by js p hs)
+pub made_put : (r : Result ℕ NoMemory) (ks : List Gathering) (p : Put) (gs after : List Group) → IfOk r (λ (n : ℕ). after ≡ put_by ks p gs)
     → IfOk r (λ (n : ℕ). (items : List GroupItem) → gatherings_of items ≡ map gathering_view ks → after ≡ put_group items p gs)
-ready_put (Ok n) ks js p gs hs after e f s = λ (items : List GroupItem) (h : gatherings_of items ≡ map gathering_view ks).
-    items_put items ks p gs after h (s ∙ ap₂ (λ (k : List Gathering) (x : List Group). put_by k p x) f e)
-ready_put (Err x) ks js p gs hs after e f s = tt
+made_put (Ok n) ks p gs after s = λ (items : List GroupItem) (h : gatherings_of items ≡ map gathering_view ks). items_put items ks p gs after h s
+made_put (Err x) ks p gs after s = tt

@@ -1,5 +1,5 @@
 -- Chains of numbers, one for each bucket of hashes. A head, and the next of a number, is one more than a number, or 0 at the end of a chain.
-use Rattle.std.specs.Prelude.{◌≡◌, ◌<◌, ◌≤◌, ◌+◌, ◌%◌, ℕ, List, map, length, get_or}
+use Rattle.std.specs.Prelude.{◌≡◌, ◌<◌, ◌≤◌, ◌+◌, ◌%◌, ℕ, zero, suc, List, map, length, get_or, Bool, true, false}
 use Rattle.dr_group.specs.declared.index.Link.{Link}
 
 -- of the numbers before n: each is not behind the head of its bucket, and none of its bucket is skipped; chains go down, and stay in one bucket
@@ -14,7 +14,7 @@ AreChained n bucket head next =
 
 -- where there is none
 abbrev pub no_link : Link
-no_link = record { hash = 0; next = 0 }
+no_link = record { hash = 0; next = 0; depth = 0 }
 
 abbrev pub link_at : List Link → ℕ → Link
 link_at links i = get_or links i no_link
@@ -36,6 +36,30 @@ next_at links i = (link_at links i).next
 -- from the hash of each number the chain of its bucket leads to it
 abbrev pub AreLinked : List ℕ → List Link → Type 0
 AreLinked heads links = AreChained (length links) (bucket_at heads links) (head_of heads) (next_at links)
+
+-- ---- chains are short
+
+-- how many numbers a chain has at most
+abbrev pub most_linked : ℕ
+most_linked = 16
+
+-- whether a chain ends within so many steps, from a head or from what is next of a number
+abbrev pub ends_within : ℕ → List Link → ℕ → Bool
+ends_within n links zero = true
+ends_within zero links (suc i) = false
+ends_within (suc n) links (suc i) = ends_within n links (next_at links i)
+
+-- the depth of a number, which is at most the greatest: within so many steps its chain ends
+abbrev pub depth_at : List Link → ℕ → ℕ
+depth_at links i = (link_at links i).depth
+
+-- that of a head or of what is next of a number: none at the end
+abbrev pub depth_before : List Link → ℕ → ℕ
+depth_before links zero = 0
+depth_before links (suc i) = depth_at links i
+
+abbrev pub AreShort : List Link → Type 0
+AreShort links = (i : ℕ) → i < length links → (depth_at links i ≤ most_linked) × (ends_within (depth_at links i) links (suc i) ≡ true)
 
 -- the hashes of all numbers
 abbrev pub hashes_of : List Link → List ℕ

@@ -27,6 +27,10 @@ abbrev pub IsFound : List (Option Value) → List meant.Group → Option ℕ →
 IsFound t gs (Some k) = (k < length gs) × ((get_or gs k no_group).keys ≡ t)
 IsFound t gs None = times t gs ≡ 0
 
+-- the key tuples of groups
+abbrev pub tuples_of : List meant.Group → List (List (Option Value))
+tuples_of gs = map (λ (g : meant.Group). g.keys) gs
+
 -- the hashes of the groups' key tuples
 abbrev pub group_hash : Group → ℕ
 group_hash g = tuple_hash (map cell_view g.keys.items)

@@ -9,6 +9,8 @@ pub mod Hashes
 pub mod Chains
 -- groups of distinct key tuples
 pub mod Distinct
+-- key tuples that are kept in order
+pub mod Keys
 -- maps of groups
 pub mod Maps
 -- where a group can be looked for
@@ -27,3 +29,5 @@ pub mod Turns
 pub mod Merging
 -- values that are taken one after another
 pub mod TakenValues
+-- how long it takes to look for a group by its hash
+pub mod ChainLaws

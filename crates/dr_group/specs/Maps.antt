@@ -3,6 +3,7 @@ use Rattle.std.specs.Prelude.{List, [], map, Option}
 use Rattle.dr_meaning.specs.Record.{Value}
 use Rattle.dr_meaning.specs.Query.{Aggregate}
 use Rattle.dr_partials.specs.Partials as meant
+use Rattle.dr_group.specs.Distinct.{tuples_of}
 use Rattle.dr_group.specs.Gathering.{gathering_view}
 use Rattle.dr_group.specs.Groups.{group_view}
 use Rattle.dr_group.specs.declared.group_map.GroupMap.{GroupMap}
@@ -20,8 +21,5 @@ abbrev pub gatherings_view : GroupMap → List (Option Aggregate)
 gatherings_view m = map gathering_view m.gatherings.items
 
 -- the key tuples of the groups by their numbers
-abbrev pub tuples_of : List meant.Group → List (List (Option Value))
-tuples_of gs = map (λ (g : meant.Group). g.keys) gs
-
 abbrev pub tuples_view : GroupMap → List (List (Option Value))
 tuples_view m = tuples_of (map group_view m.groups.items)

@@ -1,17 +1,18 @@
 //! Finding a group by its key tuple.
 
-ghost use Rattle.std.specs.Prelude.{◌≡◌, ◌<◌, IfOk, OnOk, map, length, true, false};
+ghost use Rattle.std.specs.Prelude.{◌≡◌, ◌<◌, IfOk, IfSome, OnOk, Some, map, length, true, false};
 ghost use Rattle.dr_group.specs.Views.{lent_cell};
 ghost use Rattle.dr_group.specs.Groups.{group_view};
 ghost use Rattle.dr_group.specs.Chains.{hashes_of};
 ghost use Rattle.dr_group.specs.Distinct.{IsFound, group_hashes};
-ghost use Rattle.dr_group.specs.Finding.{IsReady};
+ghost use Rattle.dr_group.specs.Finding.{IsIndexed, IsReady};
 ghost use Rattle.dr_group.specs.Hashes.{tuple_hash};
 
 use crate::group::Group;
 use crate::group_map::GroupMap;
-use crate::hashes::held_hash;
+use crate::hashes::{held_hash, lent_hash};
 use crate::index::Index;
+use crate::ordered_index::OrderedIndex;
 use crate::orders::tuple_order;
 use dr_levels::ValueRef;
 use dr_memory::NoMemory;
@@ -30,18 +31,22 @@ fn has_key(group: &Group, key: &[Option<ValueRef<'_>>]) -> bool
     }
 }
 
-/// An index of groups by the hashes of their key tuples.
+/// An index of groups by the hashes of their key tuples; none where a bucket has more of them than a chain may have.
 ///
 /// Errors: want of memory, or of room for the number of a group.
-fn index_of(alloc: Global, groups: &[Group]) -> Result<Index, NoMemory>
-    ensures hashes { IfOk result (λ x. hashes_of x.links.items ≡ group_hashes groups.now) }
-    ensures heads { IfOk result (λ x. 0 < length x.heads.items) }
+fn index_of(alloc: Global, groups: &[Group]) -> Result<Option<Index>, NoMemory>
+    ensures hashes { IfOk result (λ o. IfSome o (λ x. hashes_of x.links.items ≡ group_hashes groups.now)) }
+    ensures heads { IfOk result (λ o. IfSome o (λ x. 0 < length x.heads.items)) }
 {
     let mut index = Index::with_room(alloc, groups.len())?;
     'groups: for group in groups {
-        index.push(held_hash(&group.keys))?;
+        let hash = held_hash(&group.keys);
+        if index.is_full(hash) {
+            return Ok(None);
+        }
+        index.push(hash)?;
     }
-    Ok(index)
+    Ok(Some(index))
 }
 
 impl GroupMap {
@@ -57,26 +62,65 @@ impl GroupMap {
         has_key(&self.groups[self.hint], key)
     }
 
+    /// The number of the group of a key tuple, if there is one. All groups are indexed then.
+    ///
+    /// Errors: want of memory, or of room for the number of a group. Nothing has changed then.
+    #[inline(always)]
+    pub(crate) fn seek(
+        &mut self,
+        alloc: Global,
+        key: &[Option<ValueRef<'_>>],
+    ) -> Result<Option<usize>, NoMemory>
+        ensures groups { (self.new).groups ≡ (self.old).groups }
+        ensures gatherings { (self.new).gatherings ≡ (self.old).gatherings }
+        ensures found { IfOk result (IsFound (map lent_cell key.now) (map group_view (self.old).groups.items)) }
+        ensures ready { OnOk result (IsReady self.new) }
+    {
+        self.prepare(alloc)?;
+        match &self.ordered {
+            Some(ordered) => ordered.find(alloc, key),
+            None => Ok(self.find(lent_hash(key), key)),
+        }
+    }
+
     /// Indexes all groups, where some are not, or where the buckets are too few.
     ///
     /// Errors: want of memory, or of room for the number of a group. Nothing has changed then.
     #[inline(always)]
-    pub(crate) fn prepare(&mut self, alloc: Global) -> Result<(), NoMemory>
+    fn prepare(&mut self, alloc: Global) -> Result<(), NoMemory>
         ensures groups { (self.new).groups ≡ (self.old).groups }
         ensures gatherings { (self.new).gatherings ≡ (self.old).gatherings }
         ensures ready { OnOk result (IsReady self.new) }
     {
         let count = self.groups.len();
         if self.index.links.len() < count || self.index.heads.len() <= count {
-            self.index = index_of(alloc, &self.groups)?;
+            return self.arrange(alloc);
         }
         Ok(())
     }
 
-    /// The number of the group of a key tuple, if there is one.
+    /// Indexes all groups anew: by hashes, or in order, where one bucket has too many.
+    ///
+    /// Errors: want of memory, or of room for the number of a group. Nothing has changed then.
+    fn arrange(&mut self, alloc: Global) -> Result<(), NoMemory>
+        ensures groups { (self.new).groups ≡ (self.old).groups }
+        ensures gatherings { (self.new).gatherings ≡ (self.old).gatherings }
+        ensures ready { OnOk result (IsReady self.new) }
+    {
+        if self.ordered.is_some() {
+            return Ok(());
+        }
+        match index_of(alloc, &self.groups)? {
+            Some(index) => self.index = index,
+            None => self.ordered = Some(OrderedIndex::of(alloc, &self.groups)?),
+        }
+        Ok(())
+    }
+
+    /// The number of the group of a key tuple, if there is one, by its hash.
     #[inline]
-    pub(crate) fn find(&self, hash: u64, key: &[Option<ValueRef<'_>>]) -> Option<usize>
-        requires ready { IsReady self.now }
+    fn find(&self, hash: u64, key: &[Option<ValueRef<'_>>]) -> Option<usize>
+        requires ready { IsIndexed self.now }
         requires hash { hash ≡ tuple_hash (map lent_cell key.now) }
         ensures { IsFound (map lent_cell key.now) (map group_view (self.now).groups.items) result }
     {

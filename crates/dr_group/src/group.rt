@@ -102,7 +102,10 @@ pub fn accumulators_of_rows(
 }
 
 /// A key tuple of its own.
-fn held_keys(alloc: Global, key: &[Option<ValueRef<'_>>]) -> Result<Vec<Option<Value>>, NoMemory>
+pub fn held_keys(
+    alloc: Global,
+    key: &[Option<ValueRef<'_>>],
+) -> Result<Vec<Option<Value>>, NoMemory>
     ensures { IfOk result (λ v. map cell_view v.items ≡ map lent_cell key.now) }
 {
     let mut keys = Vec::with_capacity(alloc, key.len())?;
@@ -113,7 +116,7 @@ fn held_keys(alloc: Global, key: &[Option<ValueRef<'_>>]) -> Result<Vec<Option<V
 }
 
 /// A cell of its own.
-fn held_cell(alloc: Global, cell: Option<ValueRef<'_>>) -> Result<Option<Value>, NoMemory>
+pub fn held_cell(alloc: Global, cell: Option<ValueRef<'_>>) -> Result<Option<Value>, NoMemory>
     ensures { IfOk result (λ v. cell_view v ≡ lent_cell cell.entry) }
 {
     match cell {

@@ -2,6 +2,7 @@
 #![tactic(auto)]
 
 mod accumulator;
+mod entering;
 mod finding;
 mod finishing;
 mod gathering;
@@ -10,10 +11,12 @@ mod group_map;
 mod hashes;
 mod index;
 mod joining;
+mod key;
 pub mod laws;
 mod making;
 mod map_merging;
 mod merging;
+mod ordered_index;
 mod ordering;
 mod orders;
 mod partial;

@@ -39,6 +39,7 @@ impl GroupMap {
             gatherings,
             groups,
             index: Index::new(alloc),
+            ordered: None,
             hint: 0,
         })
     }
@@ -63,6 +64,7 @@ impl GroupMap {
             gatherings,
             groups,
             index: Index::new(alloc),
+            ordered: None,
             hint: 0,
         })
     }

@@ -47,6 +47,7 @@ impl GroupMap {
         let mut merged = Vec::with_capacity(alloc, count)?;
         let mut theirs = mem::replace(&mut other.groups, Vec::new(alloc));
         other.index = Index::new(alloc);
+        other.ordered = None;
         merge_into(
             alloc,
             &mut self.groups,
@@ -57,6 +58,7 @@ impl GroupMap {
         );
         self.groups = merged;
         self.index = Index::new(alloc);
+        self.ordered = None;
         Ok(())
     }
 }

@@ -10,12 +10,11 @@ ghost use Rattle.dr_group.specs.Gathering.{Becomes, gatherings_of, put_by};
 ghost use Rattle.dr_group.specs.Groups.{group_view, put_of, put_view, taken_view, taken_at};
 ghost use Rattle.dr_group.specs.Distinct.{IsFound};
 ghost use Rattle.dr_group.specs.Finding.{IsReady};
-ghost use Rattle.dr_group.specs.Hashes.{tuple_hash};
 ghost use Rattle.dr_group.specs.Maps.{groups_view, gatherings_view, tuples_view};
 
+use crate::entering::enter;
 use crate::group::{Taken, new_group, take_into};
 use crate::group_map::GroupMap;
-use crate::hashes::lent_hash;
 use crate::merging::push_reserved;
 use dr_levels::ValueRef;
 use dr_memory::NoMemory;
@@ -47,8 +46,16 @@ impl GroupMap {
         if self.is_hinted(key) {
             return self.put_at(alloc, self.hint, key, taken);
         }
-        self.prepare(alloc)?;
-        self.put_ready(alloc, key, taken)
+        match self.seek(alloc, key)? {
+            Some(number) => {
+                self.hint = number;
+                self.put_at(alloc, number, key, taken)
+            }
+            None => {
+                self.hint = self.groups.len();
+                self.put_new(alloc, key, taken)
+            }
+        }
     }
 
     /// The number of the group of a key tuple, which is made where there is none. Numbers that were found stay.
@@ -72,18 +79,16 @@ impl GroupMap {
             self.put_at(alloc, number, key, None)?;
             return Ok(number);
         }
-        self.prepare(alloc)?;
         self.find_or_make(alloc, key)
     }
 
-    /// The same, where all groups are indexed.
+    /// The same, where it isn't the group at the hint.
     #[inline]
     fn find_or_make(
         &mut self,
         alloc: Global,
         key: &[Option<ValueRef<'_>>],
     ) -> Result<usize, NoMemory>
-        requires { IsReady self.old }
         ensures groups { IfOk result (λ n. groups_view self.new
             ≡ put_by (self.old).gatherings.items (put_of (map lent_cell key.now) None) (groups_view self.old)) }
         ensures gatherings { (self.new).gatherings ≡ (self.old).gatherings }
@@ -91,8 +96,7 @@ impl GroupMap {
         ensures stay { IfOk result (λ n. (k : ℕ) (tuple : List (Option Value)) → slice_get (tuples_view self.old) k ≡ Some tuple
             → slice_get (tuples_view self.new) k ≡ Some tuple) }
     {
-        let hash = lent_hash(key);
-        match self.find(hash, key) {
+        match self.seek(alloc, key)? {
             Some(number) => {
                 self.hint = number;
                 self.put_at(alloc, number, key, None)?;
@@ -101,7 +105,7 @@ impl GroupMap {
             None => {
                 let number = self.groups.len();
                 self.hint = number;
-                self.put_new(alloc, hash, key, None)?;
+                self.put_new(alloc, key, None)?;
                 Ok(number)
             }
         }
@@ -126,32 +130,6 @@ impl GroupMap {
         ensures tuples { tuples_view self.new ≡ tuples_view self.old }
     {
         self.take_at(alloc, number, taken)
-    }
-
-    /// Puts a key tuple where all groups are indexed.
-    #[inline]
-    fn put_ready(
-        &mut self,
-        alloc: Global,
-        key: &[Option<ValueRef<'_>>],
-        taken: Option<Taken<'_>>,
-    ) -> Result<(), NoMemory>
-        requires { IsReady self.old }
-        ensures groups { Becomes (groups_view self.old) (groups_view self.new)
-            (put_by (self.old).gatherings.items (put_view key.now taken.entry) (groups_view self.old)) result }
-        ensures gatherings { (self.new).gatherings ≡ (self.old).gatherings }
-    {
-        let hash = lent_hash(key);
-        match self.find(hash, key) {
-            Some(number) => {
-                self.hint = number;
-                self.put_at(alloc, number, key, taken)
-            }
-            None => {
-                self.hint = self.groups.len();
-                self.put_new(alloc, hash, key, taken)
-            }
-        }
     }
 
     /// Puts a key tuple into its group, of this number.
@@ -190,16 +168,14 @@ impl GroupMap {
         take_into(alloc, &self.gatherings, &mut group.accumulators, taken)
     }
 
-    /// Puts a key tuple, of this hash, of which there is no group.
+    /// Puts a key tuple of which there is no group, where all groups are indexed.
     fn put_new(
         &mut self,
         alloc: Global,
-        hash: u64,
         key: &[Option<ValueRef<'_>>],
         taken: Option<Taken<'_>>,
     ) -> Result<(), NoMemory>
         requires ready { IsReady self.old }
-        requires hash { hash ≡ tuple_hash (map lent_cell key.now) }
         requires missing { IsFound (map lent_cell key.now) (map group_view (self.old).groups.items) None }
         ensures groups { Becomes (groups_view self.old) (groups_view self.new)
             (put_by (self.old).gatherings.items (put_view key.now taken.entry) (groups_view self.old)) result }
@@ -208,7 +184,7 @@ impl GroupMap {
     {
         let group = new_group(alloc, &self.gatherings, key, taken)?;
         self.groups.reserve(1)?;
-        self.index.push(hash)?;
+        enter(alloc, &mut self.index, &mut self.ordered, &self.groups, key)?;
         push_reserved(&mut self.groups, group);
         Ok(())
     }

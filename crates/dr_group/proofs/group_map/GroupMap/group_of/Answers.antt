@@ -3,8 +3,8 @@ use Rattle.std.specs.List.{slice_get}
 use Rattle.dr_meaning.specs.Record.{Value}
 use Rattle.dr_group.specs.Views.{lent_cell}
 use Rattle.dr_group.specs.Groups.{group_view, put_of}
-use Rattle.dr_group.specs.Maps.{in_order, groups_view}
-use Rattle.dr_group.proofs.NumberLemmas.{found_numbered, items_put, ready_put}
+use Rattle.dr_group.specs.Maps.{groups_view}
+use Rattle.dr_group.proofs.NumberLemmas.{found_numbered, items_put, made_put}
 use Rattle.dr_group.proofs.group_map.GroupMap.group_of.Goals as goal
 
 pub returns-then-is_hinted-clause-groups : goal.returns-then-is_hinted-clause-groups
@@ -21,6 +21,4 @@ returns-then-is_hinted-clause-found c =
 pub returns-clause-groups : goal.returns-clause-groups
 returns-clause-groups c =
     let s = c.args.self.now in
-    let ready = c.prepare.new.self in
-    ready_put c.find_or_make.result s.gatherings.items ready.gatherings.items (put_of (map lent_cell c.args.key.now) None) (groups_view s) (groups_view ready) (groups_view c.find_or_make.new.self)
-    (ap (λ v. in_order (map group_view v.items)) c.in_ok-prepare.ensures.groups) (ap (λ v. v.items) c.in_ok-prepare.ensures.gatherings) c.find_or_make.ensures.groups
+    made_put c.find_or_make.result s.gatherings.items (put_of (map lent_cell c.args.key.now) None) (groups_view s) (groups_view c.find_or_make.new.self) c.find_or_make.ensures.groups

@@ -42,6 +42,7 @@ invariant_of-self c =
     record {
       distinct = subst AreDistinct (sym views) (ascending_distinct (merge_groups (groups_view s) (groups_view o)) (merged_ascends (groups_view s) (groups_view o) (order_ascends (map group_view o.groups.items))));
       indexed = none_indexed c.new-3.result.links.items merged c.new-3.ensures;
+      numbered = tt;
     }
 
 pub returns-clause-groups : goal.returns-clause-groups
@@ -65,4 +66,5 @@ invariant_of-other c =
     record {
       distinct = subst (λ (gs : List Group). AreDistinct (map group_view gs)) (sym none) (λ t. omega arith);
       indexed = none_indexed c.new-2.result.links.items left c.new-2.ensures;
+      numbered = tt;
     }

@@ -9,11 +9,20 @@ returns-then-is_hinted-clause-groups c = λ items e.
     let s = c.args.self.now in
     put_items c.put_at.result items s.gatherings.items (put_view c.args.key.now c.args.taken) (groups_view s) (groups_view c.put_at.new.self) e c.put_at.ensures.groups
 
-pub returns-clause-groups : goal.returns-clause-groups
-returns-clause-groups c = λ items e.
+pub returns-in-Some-clause-groups : goal.returns-in-Some-clause-groups
+returns-in-Some-clause-groups c = λ items e.
     let s = c.args.self.now in
-    let ready = c.prepare.new.self in
+    let ready = c.seek.new.self in
     let p = put_view c.args.key.now c.args.taken in
-    put_items c.put_ready.result items s.gatherings.items p (groups_view s) (groups_view c.put_ready.new.self) e
-    (put_prepared c.put_ready.result s.gatherings.items ready.gatherings.items p (groups_view s) (groups_view ready) (groups_view c.put_ready.new.self)
-    (ap (λ v. in_order (map group_view v.items)) c.in_ok-prepare.ensures.groups) (ap (λ v. v.items) c.in_ok-prepare.ensures.gatherings) c.put_ready.ensures.groups)
+    put_items c.put_at-in-Some.result items s.gatherings.items p (groups_view s) (groups_view c.put_at-in-Some.new.self) e
+    (put_prepared c.put_at-in-Some.result s.gatherings.items ready.gatherings.items p (groups_view s) (groups_view ready) (groups_view c.put_at-in-Some.new.self)
+    (ap (λ v. in_order (map group_view v.items)) c.in_ok-number.ensures.groups) (ap (λ v. v.items) c.in_ok-number.ensures.gatherings) c.put_at-in-Some.ensures.groups)
+
+pub returns-in-None-clause-groups : goal.returns-in-None-clause-groups
+returns-in-None-clause-groups c = λ items e.
+    let s = c.args.self.now in
+    let ready = c.seek.new.self in
+    let p = put_view c.args.key.now c.args.taken in
+    put_items c.put_new.result items s.gatherings.items p (groups_view s) (groups_view c.put_new.new.self) e
+    (put_prepared c.put_new.result s.gatherings.items ready.gatherings.items p (groups_view s) (groups_view ready) (groups_view c.put_new.new.self)
+    (ap (λ v. in_order (map group_view v.items)) c.in_ok-number.ensures.groups) (ap (λ v. v.items) c.in_ok-number.ensures.gatherings) c.put_new.ensures.groups)

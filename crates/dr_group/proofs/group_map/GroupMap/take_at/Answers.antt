@@ -1,9 +1,10 @@
-use Rattle.std.proofs.Common.{◌∙◌, ap, sym, refl, subst, take, length, option_map, List}
+use Rattle.std.proofs.Common.{◌∙◌, ap, sym, refl, subst, map, take, length, option_map, slice_set, List}
 use Rattle.dr_group.specs.Gathering.{Becomes, taken_by}
-use Rattle.dr_group.specs.Groups.{taken_view, accumulators_view}
+use Rattle.dr_group.specs.Groups.{group_view, taken_view, accumulators_view}
 use Rattle.dr_group.specs.declared.gathering.Gathering.{Gathering}
 use Rattle.dr_group.specs.declared.group.Group.{Group}
 use Rattle.dr_group.proofs.HeldLemmas.{held_taken, held_distinct, held_hashes}
+use Rattle.dr_group.proofs.OrderedLemmas.{held_tuples, numbered_same}
 use Rattle.dr_group.proofs.group_map.GroupMap.take_at.Goals as goal
 
 pub invariant_of-self : goal.invariant_of-self
@@ -14,6 +15,7 @@ invariant_of-self c =
     record {
       distinct = held_distinct s.groups.items c.args.number g h c.requires c.index_mut-group.ensures.value refl s.distinct;
       indexed = s.indexed ∙ ap (take (length s.index.links.items)) (sym (held_hashes s.groups.items c.args.number g h c.index_mut-group.ensures.value refl));
+      numbered = numbered_same s.ordered (map group_view s.groups.items) (map group_view (slice_set s.groups.items c.args.number h)) (held_tuples s.groups.items c.args.number g h c.index_mut-group.ensures.value refl) s.numbered;
     }
 
 pub returns-clause-groups : goal.returns-clause-groups
