@@ -32,12 +32,14 @@ pub fn enter(
     requires heads { UnlessOrdered ordered.old (0 < length (index.old).heads.items) }
     requires numbered { IfSome ordered.old (λ o. AreNumbered o.numbers (tuples_of (map group_view groups.now))) }
     ensures hashes { UnlessOrdered ordered.new (Becomes (hashes_of (index.old).links.items)
-        (hashes_of (index.new).links.items) (hashes_of (index.old).links.items ++ tuple_hash (map lent_cell key.now) ∷ []) result) }
+        (hashes_of (index.new).links.items)
+        (hashes_of (index.old).links.items ++ tuple_hash (map lent_cell key.now) ∷ []) result) }
     ensures ordered { ordered.new ≡ None → ordered.old ≡ None }
     ensures others { IfSome ordered.new (λ o. (index.new).links.items ≡ (index.old).links.items) }
     ensures pushed { OnOk result (IfSome ordered.new (λ o. AreNumbered o.numbers
         (tuples_of (map group_view groups.now) ++ map lent_cell key.now ∷ []))) }
-    ensures kept { OnErr result (IfSome ordered.new (λ o. AreNumbered o.numbers (tuples_of (map group_view groups.now)))) }
+    ensures kept { OnErr result (IfSome ordered.new (λ o. AreNumbered o.numbers
+        (tuples_of (map group_view groups.now)))) }
 {
     if let Some(ordered) = ordered {
         return ordered.push(alloc, key, groups.len());

@@ -71,8 +71,8 @@ impl GroupMap {
             → groups_view self.new ≡ put_group items (put_of (map lent_cell key.now) None) (groups_view self.old)) }
         ensures gatherings { gatherings_view self.new ≡ gatherings_view self.old }
         ensures found { IfOk result (λ n. slice_get (tuples_view self.new) n ≡ Some (map lent_cell key.now)) }
-        ensures stay { IfOk result (λ n. (k : ℕ) (tuple : List (Option Value)) → slice_get (tuples_view self.old) k ≡ Some tuple
-            → slice_get (tuples_view self.new) k ≡ Some tuple) }
+        ensures stay { IfOk result (λ n. (k : ℕ) (tuple : List (Option Value))
+            → slice_get (tuples_view self.old) k ≡ Some tuple → slice_get (tuples_view self.new) k ≡ Some tuple) }
     {
         if self.is_hinted(key) {
             let number = self.hint;
@@ -93,8 +93,8 @@ impl GroupMap {
             ≡ put_by (self.old).gatherings.items (put_of (map lent_cell key.now) None) (groups_view self.old)) }
         ensures gatherings { (self.new).gatherings ≡ (self.old).gatherings }
         ensures found { IfOk result (λ n. slice_get (tuples_view self.new) n ≡ Some (map lent_cell key.now)) }
-        ensures stay { IfOk result (λ n. (k : ℕ) (tuple : List (Option Value)) → slice_get (tuples_view self.old) k ≡ Some tuple
-            → slice_get (tuples_view self.new) k ≡ Some tuple) }
+        ensures stay { IfOk result (λ n. (k : ℕ) (tuple : List (Option Value))
+            → slice_get (tuples_view self.old) k ≡ Some tuple → slice_get (tuples_view self.new) k ≡ Some tuple) }
     {
         match self.seek(alloc, key)? {
             Some(number) => {
@@ -122,8 +122,8 @@ impl GroupMap {
         taken: Option<Taken<'_>>,
     ) -> Result<(), NoMemory>
         requires { number < length (self.old).groups.items }
-        ensures groups { (items : List GroupItem) (tuple : List (Option Value)) → gatherings_of items ≡ gatherings_view self.old
-            → slice_get (tuples_view self.old) number ≡ Some tuple
+        ensures groups { (items : List GroupItem) (tuple : List (Option Value))
+            → gatherings_of items ≡ gatherings_view self.old → slice_get (tuples_view self.old) number ≡ Some tuple
             → Becomes (groups_view self.old) (groups_view self.new)
             (put_group items (put_of tuple (option_map taken_view taken.entry)) (groups_view self.old)) result }
         ensures gatherings { gatherings_view self.new ≡ gatherings_view self.old }
@@ -180,7 +180,8 @@ impl GroupMap {
         ensures groups { Becomes (groups_view self.old) (groups_view self.new)
             (put_by (self.old).gatherings.items (put_view key.now taken.entry) (groups_view self.old)) result }
         ensures gatherings { (self.new).gatherings ≡ (self.old).gatherings }
-        ensures tuples { IfOk result (λ done. tuples_view self.new ≡ tuples_view self.old ++ map lent_cell key.now ∷ []) }
+        ensures tuples { IfOk result (λ done.
+            tuples_view self.new ≡ tuples_view self.old ++ map lent_cell key.now ∷ []) }
     {
         let group = new_group(alloc, &self.gatherings, key, taken)?;
         self.groups.reserve(1)?;

@@ -58,7 +58,8 @@ fn total_of(numbers: &[i64]) -> i128
 
 /// Adds numbers to a sum.
 fn add_numbers(sum: &mut Option<i128>, numbers: &[i64]) -> Result<(), NoMemory>
-    ensures { Becomes (summed sum.old) (summed sum.new) (take_each (summed sum.old) (map int_value numbers.now)) result }
+    ensures { Becomes (summed sum.old) (summed sum.new)
+        (take_each (summed sum.old) (map int_value numbers.now)) result }
 {
     if numbers.is_empty() {
         return Ok(());
