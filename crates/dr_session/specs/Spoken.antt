@@ -1,10 +1,12 @@
 -- What was heard of an input.
-use Rattle.std.specs.Prelude.{◌≡◌, ℕ, ◌+◌, List, [], ◌++◌, length, Option, Some, None, ⊤, ◌⊎◌}
+use Rattle.std.specs.Prelude.{◌≡◌, ℕ, ◌+◌, List, [], ◌++◌, length, Option, Some, None, ⊤}
 use Rattle.dr_meaning.specs.Schema.{Schema}
 use Rattle.dr_meaning.specs.Lines.{lines_of}
-use Rattle.dr_input.specs.Whole.{whole_lines}
-use Rattle.dr_input.specs.Taken.{WhereTold, WhereGiven, EndsLine}
-use Rattle.dr_meaning.specs.Session.{Session, Spoken, SessionRefusal, spoken_from}
+use Rattle.dr_input.specs.Taken.{EndsLine}
+use Rattle.dr_meaning.specs.Session.{Session, Spoken, new_session, spoken_from}
+use Rattle.dr_outside.specs.Sink.{SinkShown, AddedWhole}
+use Rattle.dr_session.specs.Held.{IsSession}
+use Rattle.dr_session.specs.declared.kept.Kept.{Kept}
 
 -- what lines print, behind a text that was printed before
 abbrev pub behind : List ℕ → Spoken → Spoken
@@ -21,14 +23,11 @@ HasSpoken s w count text v (Some all) None = ⊥
 HasSpoken s w count text v (Some all) (Some rest) =
     (read : List ℕ) × (all ≡ read ++ rest) × EndsLine read rest × (length (lines_of read) ≡ count) × Speaks s w 1 (lines_of read) text v
 
--- what was left of the input prints this text before its first refused line, which is this
-abbrev pub RefusesBehind : Schema → Session → List ℕ → SessionRefusal → Option (List ℕ) → Type 0
-RefusesBehind s w text r left = WhereTold left (λ all. spoken_from s w 1 (lines_of all) ≡ record { text = text; refusal = Some r })
-
--- none of these lines is refused, and they print this text
-abbrev pub Prints : Schema → Session → List ℕ → List ℕ → Type 0
-Prints s w text bytes = spoken_from s w 1 (lines_of bytes) ≡ record { text = text; refusal = None }
-
--- the text is that of the whole lines that were read; or that of all lines, and nothing is left: a source may tell the input's end behind a last line without LF, and fail at the next read
-abbrev pub PrintsRead : Schema → Session → List ℕ → Option (List ℕ) → Option (List ℕ) → Type 0
-PrintsRead s w text before now = WhereGiven before now (λ read. Prints s w text (whole_lines read) ⊎ ((now ≡ Some []) × Prints s w text read))
+-- so many lines of what was left were heard: the session holds what they come to, and out gained their text wholly
+pub record HasTalked (s : Schema) (count : ℕ) (k : Kept) (tablets : List (List ℕ)) (left left_now : Option (List ℕ)) (out out_now : SinkShown) : Type 0 where
+  pub session : Session
+  pub text : List ℕ
+  pub holds : IsSession s session k tablets
+  pub spoken : HasSpoken s new_session count text session left left_now
+  pub writes : AddedWhole out out_now text
+  pub calm : out_now.faults ≡ out.faults

@@ -1,16 +1,26 @@
 //! A session over an input: each line's text is written before the next line is read.
 
 ghost use Rattle.std.specs.Prelude.{◌≡◌, ◌≤◌, None, true, false, IfOk, IfErr, OnOk};
+ghost use Rattle.dr_meaning.specs.Path.{leaves};
+ghost use Rattle.dr_nested.specs.SchemaView.{schema_view};
+ghost use Rattle.dr_striper.specs.Striping.{leaves_of};
 ghost use Rattle.dr_lines.specs.Cutting.{rest_of, last_line, fault_of as line_fault_of, CutsLine, CutsBytes, IsEnd};
-ghost use Rattle.dr_meaning.specs.Session.{Session as Meant, heard, most_lines};
+ghost use Rattle.dr_meaning.specs.Session.{Session as Meant, new_session, heard, most_lines};
 ghost use Rattle.dr_session.specs.Held.{IsSession, HoldsSome};
 ghost use Rattle.dr_session.specs.Saying.{Says, CutStops, cut_fault_in};
+ghost use Rattle.dr_session.specs.Talking.{TalksToEnd, TalkStops};
+ghost use Rattle.dr_session.specs.declared.talking.TalkFault.TheVariants as stops;
 
 use crate::fault::{HearFault, SessionProblem};
 use crate::session::{MOST_LINES, Session};
 use dr_lines::{LineFault, Lines};
+use dr_memory::NoMemory;
+use dr_nested::{Path, Schema};
 use dr_outside::{Sink, Source, write_all};
-use dr_service::Room;
+use dr_paths::leaf_paths;
+use dr_service::{Ground, Room};
+use std::alloc::Global;
+use std::marker::Brand;
 use std::sync::Wait;
 use std::thread::Threads;
 
@@ -24,6 +34,14 @@ pub enum TalkFault {
     Out,
     /// The line of this number is refused.
     Refused { line: u64, problem: SessionProblem },
+}
+
+impl From<NoMemory> for TalkFault {
+    ghost from_gives = { λ _ fault. fault ≡ stops.NoMemory };
+
+    fn from(_: NoMemory) -> TalkFault {
+        TalkFault::NoMemory
+    }
 }
 
 /// Why there is no line of this number.
@@ -40,7 +58,7 @@ fn no_line(fault: LineFault, number: u64) -> TalkFault
 }
 
 /// Cuts the line of this number, unless it is too long or past the greatest number; false where none is left.
-pub fn cut_line<S: Source>(
+fn cut_line<S: Source>(
     lines: &mut Lines,
     number: u64,
     source: &mut S,
@@ -70,7 +88,7 @@ pub fn cut_line<S: Source>(
 }
 
 /// Hears the line of this number, and writes its text.
-pub fn answer_line<B: Room, R: Threads + Wait + Sync, O: Sink>(
+fn answer_line<B: Room, R: Threads + Wait + Sync, O: Sink>(
     rt: &R,
     session: &mut Session<'_, B>,
     line: &[u8],
@@ -95,6 +113,55 @@ pub fn answer_line<B: Room, R: Threads + Wait + Sync, O: Sink>(
     }
 }
 
+/// Hears each line of an input, and writes its text, before more is read.
+///
+/// Errors: the first refused line; the source failed; the sink failed; want of memory.
+fn talk_lines<B: Room, R: Threads + Wait + Sync, S: Source, O: Sink>(
+    rt: &R,
+    alloc: Global,
+    session: &mut Session<'_, B>,
+    source: &mut S,
+    out: &mut O,
+) -> Result<(), TalkFault>
+    requires new { IsSession B.schema new_session session.old.kept session.old.publisher }
+    ensures ended { OnOk result (TalksToEnd B.schema (S.shows source.old) (S.shows source.new) (O.shows out.old)
+        (O.shows out.new)) }
+    ensures stopped { IfErr result (TalkStops B.schema (S.shows source.old) (S.shows source.new) (O.shows out.old)
+        (O.shows out.new)) }
+{
+    let mut lines = Lines::new(alloc)?;
+    let mut number = 0;
+    'input: while cut_line(&mut lines, number + 1, source)? {
+        number += 1;
+        answer_line(rt, session, lines.line(), number, out)?;
+    }
+    Ok(())
+}
+
+/// A new session over an input, on this ground.
+///
+/// Errors: as those of `talk`.
+fn talk_on<B: Room, R: Threads + Wait + Sync, S: Source, O: Sink>(
+    rt: &R,
+    alloc: Global,
+    ground: Ground,
+    schema: &Schema,
+    fields: &[Path],
+    source: &mut S,
+    out: &mut O,
+) -> Result<(), TalkFault>
+    requires ground { ground ≡ B.table }
+    requires schema { schema_view schema.now ≡ B.schema }
+    requires leaves { leaves_of fields.now ≡ leaves B.schema.fields }
+    ensures ended { OnOk result (TalksToEnd B.schema (S.shows source.old) (S.shows source.new) (O.shows out.old)
+        (O.shows out.new)) }
+    ensures stopped { IfErr result (TalkStops B.schema (S.shows source.old) (S.shows source.new) (O.shows out.old)
+        (O.shows out.new)) }
+{
+    let mut session = Session::<B>::new(alloc, ground, schema, fields)?;
+    talk_lines(rt, alloc, &mut session, source, out)
+}
+
 /// A session of a schema over an input: each line is heard, and its text written, before more is read.
 ///
 /// Errors: the first refused line; the source failed; the sink failed; want of memory. What was written before stays.
@@ -109,3 +176,8 @@ pub fn talk<R: Threads + Wait + Sync, S: Source, O: Sink>(
         (O.shows out.old) (O.shows out.new)) }
     ensures stopped { IfErr result (TalkStops (schema_view schema.now) (S.shows source.old) (S.shows source.new)
         (O.shows out.old) (O.shows out.new)) }
+{
+    let fields = leaf_paths(alloc, schema)?;
+    let ground = Ground::new(alloc)?;
+    talk_on::<Brand, R, S, O>(rt, alloc, ground, schema, &fields, source, out)
+}
