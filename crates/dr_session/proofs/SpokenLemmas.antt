@@ -1,6 +1,6 @@
 -- What lines print, one list of lines behind another.
 use Rattle.std.specs.Prelude.{◌≡◌, ℕ, suc, ◌+◌, List, [], ◌∷◌, ◌++◌, length, Option, Some, None, Result, Ok, Err, ◌⊎◌}
-use Rattle.std.proofs.Common.{arith, refl, sym, ap, ap₂, ◌∙◌, subst, append_assoc, append-nil, inl, inr}
+use Rattle.std.proofs.Common.{arith, refl, sym, ap, ◌∙◌, subst, append_assoc, append-nil, inl, inr}
 use Rattle.std.proofs.lemmas.List.{length-append}
 use Rattle.dr_meaning.specs.Schema.{Schema}
 use Rattle.dr_meaning.specs.Lines.{lines_of}
@@ -10,7 +10,7 @@ use Rattle.dr_input.specs.Whole.{whole_lines}
 use Rattle.dr_input.proofs.WholeLemmas.{whole_behind, whole_line, none_whole}
 use Rattle.dr_input.proofs.TakenLemmas.{lines_split, last_nothing}
 use Rattle.dr_input.specs.Taken.{EndsLine, WhereTold}
-use Rattle.dr_meaning.specs.Session.{Session, Heard, SessionFault, SessionRefusal, Spoken, new_session, heard, spoken_behind, spoken_from, spoken}
+use Rattle.dr_meaning.specs.Session.{Session, Heard, SessionFault, Spoken, new_session, heard, spoken_behind, spoken_from, spoken}
 use Rattle.dr_session.specs.Spoken.{behind, Speaks, HasSpoken}
 use Rattle.dr_session.specs.Saying.{RefusesFirst}
 use Rattle.dr_session.specs.Talking.{Prints, PrintsBefore, PrintsGiven, PrintsFront}

@@ -1,6 +1,7 @@
 -- A session over an input: its start, a line more, and its ends.
-use Rattle.std.specs.Prelude.{◌≡◌, ℕ, suc, ◌+◌, List, [], ◌++◌, Option, Some, None, Result, Ok, Err}
-use Rattle.std.proofs.Common.{arith, refl, sym, ap, ◌∙◌, subst}
+use Rattle.std.specs.Prelude.{◌≡◌, ℕ, suc, List, [], ◌++◌, Option, Some, None, Result, Ok, Err, IfErr}
+use Rattle.std.specs.Result.{IsErrAnd}
+use Rattle.std.proofs.Common.{refl, sym, ap, ◌∙◌, subst}
 use Rattle.dr_meaning.specs.Schema.{Schema}
 use Rattle.dr_meaning.specs.Session as session
 use Rattle.dr_meaning.specs.Session.{Heard, SessionFault, SessionRefusal, new_session, heard}
@@ -19,9 +20,10 @@ use Rattle.dr_session.specs.declared.talking.TalkFault.{TalkFault}
 use Rattle.dr_session.proofs.SayingLemmas.{added_nothing, added_both, front_behind}
 use Rattle.dr_session.proofs.SpokenLemmas.{nothing_spoken, spoken_line, refused_spoken, first_refused, end_prints, end_is_told, failed_spoken, front_spoken, front_cut, front_nothing}
 
--- the fault of an answer that was handed on
-pub err_is : (P : TalkFault → Type 0) (e f : TalkFault) → f ≡ e → P e → P f
-err_is P e f i h = subst P (sym i) h
+-- what holds of the only error holds of the answer's
+pub err_is : {A : Type 0} (P : TalkFault → Type 0) (r : Result A TalkFault) (e : TalkFault) → IsErrAnd r (λ x. x ≡ e) → P e → IfErr r P
+err_is P (Ok a) e h p = tt
+err_is P (Err x) e h p = subst P (sym h) p
 
 -- nothing was read or written
 pub wants_at_once : (s : Schema) (input : SourceShown) (out : SinkShown) → TalkStops s input input out out TalkFault.NoMemory
