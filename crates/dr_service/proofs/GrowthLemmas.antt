@@ -119,9 +119,12 @@ module _ (s : Schema) (q : Query) (plan : Plan) (tree : Tree) (is : IsPlanOf s q
     as_many_taken = length-take-le i all (omega (arith, within))
 
     pub can_add_next : length all ≤ most_tablets → IsPartialOf (plan_view plan) r → (w : Growth) × Grows w g × CanAdd w i r
-    can_add_next few of_plan =
-        (growth_with (plan_view plan) s tree with_one.partials (suc others), with_one.grows, subst (λ (n : ℕ). CanAdd (growth_with (plan_view plan) s tree with_one.partials (suc others)) n r) as_many_taken
-        (can_add (take i all) t r others g with_one scanned (omega (arith, within, few, as_many_taken)) of_plan))
+    can_add_next few of_plan = (
+      growth_with (plan_view plan) s tree with_one.partials (suc others),
+      with_one.grows,
+      subst (λ (n : ℕ). CanAdd (growth_with (plan_view plan) s tree with_one.partials (suc others)) n r) as_many_taken
+          (can_add (take i all) t r others g with_one scanned (omega (arith, within, few, as_many_taken)) of_plan),
+    )
 
     pub grown_next : (now : Growing) → length all ≤ most_tablets → IsPartialOf (plan_view plan) r → take (i + 1) all ≡ take i all ++ t ∷ []
         → ((w : Growth) → Grows w g → CanAdd w i r → Grows (with_added w i (partial_view r)) now) → HasGrownOf s q plan tree (take (i + 1) all) others now

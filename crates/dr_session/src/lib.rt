@@ -9,6 +9,5 @@ mod sign;
 mod talking;
 mod texts;
 
-pub use fault::{HearFault, SessionProblem};
-pub use session::{LONGEST_LINE, MOST_LINES, Session};
+pub use fault::SessionProblem;
 pub use talking::{TalkFault, talk};

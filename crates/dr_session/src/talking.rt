@@ -58,11 +58,7 @@ fn no_line(fault: LineFault, number: u64) -> TalkFault
 }
 
 /// Cuts the line of this number, unless it is too long or past the greatest number; false where none is left.
-fn cut_line<S: Source>(
-    lines: &mut Lines,
-    number: u64,
-    source: &mut S,
-) -> Result<bool, TalkFault>
+fn cut_line<S: Source>(lines: &mut Lines, number: u64, source: &mut S) -> Result<bool, TalkFault>
     requires going { line_fault_of lines.old ≡ None }
     ensures cuts { IfOk result (λ more. more ≡ true → CutsLine (rest_of lines.old (S.shows source.old).left)
         (last_line lines.new) (rest_of lines.new (S.shows source.new).left)) }
