@@ -118,18 +118,18 @@ module _ (s : Schema) (q : Query) (plan : Plan) (tree : Tree) (is : IsPlanOf s q
     as_many_taken : length (take i all) ≡ i
     as_many_taken = length-take-le i all (omega (arith, within))
 
+    abbrev here_now : Growth
+    here_now = growth_with (plan_view plan) s tree with_one.partials (suc others)
+
+    can_add_here : length all ≤ most_tablets → IsPartialOf (plan_view plan) r → CanAdd here_now i r
+    can_add_here few of_plan = subst (λ (n : ℕ). CanAdd here_now n r) as_many_taken
+        (can_add (take i all) t r others g with_one scanned (omega (arith, within, few, as_many_taken)) of_plan)
+
     pub can_add_next : length all ≤ most_tablets → IsPartialOf (plan_view plan) r → (w : Growth) × Grows w g × CanAdd w i r
-    can_add_next few of_plan = (
-      growth_with (plan_view plan) s tree with_one.partials (suc others),
-      with_one.grows,
-      subst (λ (n : ℕ). CanAdd (growth_with (plan_view plan) s tree with_one.partials (suc others)) n r) as_many_taken
-          (can_add (take i all) t r others g with_one scanned (omega (arith, within, few, as_many_taken)) of_plan),
-    )
+    can_add_next few of_plan = (here_now, with_one.grows, can_add_here few of_plan)
 
     pub grown_next : (now : Growing) → length all ≤ most_tablets → IsPartialOf (plan_view plan) r → take (i + 1) all ≡ take i all ++ t ∷ []
         → ((w : Growth) → Grows w g → CanAdd w i r → Grows (with_added w i (partial_view r)) now) → HasGrownOf s q plan tree (take (i + 1) all) others now
-    grown_next now few of_plan more adds =
-        let c = can_add_next few of_plan in
-        subst (λ (ts : List (List ℕ)). HasGrownOf s q plan tree ts others now) (sym more)
+    grown_next now few of_plan more adds = subst (λ (ts : List (List ℕ)). HasGrownOf s q plan tree ts others now) (sym more)
         (grown_more (take i all) t r others g with_one scanned now
-        (subst (λ (n : ℕ). Grows (with_added (growth_with (plan_view plan) s tree with_one.partials (suc others)) n (partial_view r)) now) (sym as_many_taken) (adds c.0 c.1 c.2)))
+        (subst (λ (n : ℕ). Grows (with_added here_now n (partial_view r)) now) (sym as_many_taken) (adds here_now with_one.grows (can_add_here few of_plan))))
