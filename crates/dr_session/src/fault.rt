@@ -30,7 +30,7 @@ pub enum SessionProblem {
 
 /// Why a line isn't answered.
 #[derive(Clone, Copy)]
-pub enum HearFault {
+pub(crate) enum HearFault {
     NoMemory,
     Refused(SessionProblem),
 }

@@ -19,6 +19,7 @@ use crate::kept::Kept;
 use crate::sign::{Sign, sign_of};
 use crate::texts::{answer_lines, published_line};
 use dr_bind::{QueryFault, read_query};
+use dr_lines::LONGEST_LINE;
 use dr_memory::NoMemory;
 use dr_nested::{Path, Schema};
 use dr_plan::Plan;
@@ -28,15 +29,12 @@ use std::str;
 use std::sync::Wait;
 use std::thread::Threads;
 
-/// The greatest number of bytes of a line.
-pub const LONGEST_LINE: usize = 1_048_576;
-
 /// The greatest number of lines.
-pub const MOST_LINES: u64 = 10_000_000_000;
+pub(crate) const MOST_LINES: u64 = 10_000_000_000;
 
 /// What a session holds: the service with its one publisher and one asker, and the records that are kept.
 #[derive(Drop)]
-pub struct Session<'s, B: Room> {
+pub(crate) struct Session<'s, B: Room> {
     pub(crate) alloc: Global,
     pub(crate) service: Service<'s, B>,
     pub(crate) publisher: Publisher<B>,
@@ -48,7 +46,7 @@ impl<'s, B: Room> Session<'s, B> {
     /// A session of a schema with these leaves, that has heard nothing.
     ///
     /// Errors: want of memory alone.
-    pub fn new(
+    pub(crate) fn new(
         alloc: Global,
         ground: Ground,
         schema: &'s Schema,
@@ -76,7 +74,7 @@ impl<'s, B: Room> Session<'s, B> {
     /// What the line of this number prints.
     ///
     /// Errors: the line is refused; want of memory. Behind an error the session isn't asked again.
-    pub fn hear<R: Threads + Wait + Sync>(
+    pub(crate) fn hear<R: Threads + Wait + Sync>(
         &mut self,
         rt: &R,
         number: u64,
