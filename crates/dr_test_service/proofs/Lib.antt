@@ -1,0 +1,2 @@
+-- threads may share a plan
+pub mod CrossingLemmas
