@@ -1,5 +1,5 @@
 -- The answer of `session`, from its steps.
-use Rattle.std.specs.Prelude.{◌≡◌, ℕ, List, [], ◌++◌, suc, Option, Some, None, Result, Ok, Err}
+use Rattle.std.specs.Prelude.{◌≡◌, ℕ, List, [], ◌∷◌, ◌++◌, suc, Option, Some, None, Result, Ok, Err}
 use Rattle.std.proofs.Common.{refl, sym, ap, ◌∙◌, subst}
 use Rattle.dr_meaning.specs.Schema.{Schema}
 use Rattle.dr_meaning.specs.SchemaText.{SchemaFault, parse_schema}

@@ -146,6 +146,7 @@ module _ (m : Meaning) (s : Schema) (i i1 : SourceShown) (out out1 err err1 : Si
   speaks_front text h = record { talks = b.talks; file = b.file; is_file = b.is_file; prints = front_text s (outcome_on m b.file) b.speaks text i i1 h }
 
   is_outside : k1.faults ≡ k.faults → IsHeldOutside s i i1 out out1 err err1 → IsOutside m (world i out err k ls) (world i1 out1 err1 k1 ls1)
+  unfolding given
   is_outside c (inl t) = inl (
     t.1,
     t.0.input_failed,

@@ -16,8 +16,9 @@ use std::alloc::Global;
 ///
 /// Errors: the schema is refused; want of memory.
 pub fn answer(alloc: Global, session: &Session, file: &[u8]) -> Result<Schema, Stop>
-    ensures speaks { IfOk result (λ s. (input : List ℕ) → outcome_on (session_meaning (session_view session.now)) file.now
-        input ≡ session_outcome (spoken (schema_view s) input)) }
+    ensures speaks { IfOk result (λ s. (input : List ℕ)
+        → outcome_on (session_meaning (session_view session.now)) file.now input
+        ≡ session_outcome (spoken (schema_view s) input)) }
     ensures stops { IfErr result (StopsEarly (outcome_on (session_meaning (session_view session.now)) file.now)) }
 {
     Ok(parse_schema(alloc, file)?)
