@@ -16,10 +16,10 @@ use Rattle.dr_top.proofs.TalkLemmas.{talk_prints, talk_refused, talk_outside, ta
 use Rattle.dr_top.proofs.ServedLemmas.{served_by, served_else, left_complete, most_served, most_complete}
 use Rattle.dr_top.proofs.running.run.Goals as goal
 
-pub returns-in-Ok-write_to-clause-prints : goal.returns-in-Ok-write_to-clause-prints
-returns-in-Ok-write_to-clause-prints g c = λ _.
+pub returns-in-Ok-clause-prints : goal.returns-in-Ok-clause-prints
+returns-in-Ok-clause-prints g c = λ _.
     let whole : c.in-Ok-Whole.field-0 ≡ Reply.Whole c.in-Ok-Whole.output = cc (c.in-Ok-Whole.field-0-is) in
-    prints_end _ _ _ _ _ _ _ _ _ _ (meant (map string_bytes c.args.words.now)) (printed c.in-Ok-Whole.output) (subst (λ (r : Reply). ForMeant (meant (map string_bytes c.args.words.now)) (λ m. Replies m (lent (g.S.Source.shows c.args.source.now) (g.K.Link.shows c.args.keeper.now) (map g.L.Link.shows c.args.links.now)) (lent (g.S.Source.shows c.answer.new.source) (g.K.Link.shows c.answer.new.keeper) (map g.L.Link.shows c.answer.new.links)) r)) whole c.in-Ok-Whole.ensures.replies) c.in-Ok-write_to.ensures.whole refl
+    prints_end _ _ _ _ _ _ _ _ _ _ (meant (map string_bytes c.args.words.now)) (printed c.in-Ok-Whole.output) (subst (λ (r : Reply). ForMeant (meant (map string_bytes c.args.words.now)) (λ m. Replies m (lent (g.S.Source.shows c.args.source.now) (g.K.Link.shows c.args.keeper.now) (map g.L.Link.shows c.args.links.now)) (lent (g.S.Source.shows c.answer.new.source) (g.K.Link.shows c.answer.new.keeper) (map g.L.Link.shows c.answer.new.links)) r)) whole c.in-Ok-Whole.ensures.replies) c.in-Ok.ensures.whole refl
 
 pub returns-in-Ok-Whole-clause-outside : goal.returns-in-Ok-Whole-clause-outside
 returns-in-Ok-Whole-clause-outside g c = λ _.
@@ -194,8 +194,8 @@ pub returns-in-Err-Usage-clause-complete : goal.returns-in-Err-Usage-clause-comp
 returns-in-Err-Usage-clause-complete g c =
     usage_incomplete _ _ _ _ _ _ _ _ _ _ (meant (map string_bytes c.args.words.now)) 1 (subst (λ (s : Stop). StopsMeant (meant (map string_bytes c.args.words.now)) (lent (g.S.Source.shows c.args.source.now) (g.K.Link.shows c.args.keeper.now) (map g.L.Link.shows c.args.links.now)) (lent (g.S.Source.shows c.answer.new.source) (g.K.Link.shows c.answer.new.keeper) (map g.L.Link.shows c.answer.new.links)) s) c.in-Err-Usage.field-0-is c.in-Err-Usage.ensures.stops)
 
-pub returns-in-Ok-write_to-clause-served : goal.returns-in-Ok-write_to-clause-served
-returns-in-Ok-write_to-clause-served g c = served_else _ _ 0 refl refl
+pub returns-in-Ok-clause-served : goal.returns-in-Ok-clause-served
+returns-in-Ok-clause-served g c = served_else _ _ 0 refl refl
 
 pub returns-in-Ok-Whole-clause-served : goal.returns-in-Ok-Whole-clause-served
 returns-in-Ok-Whole-clause-served g c = served_else _ _ 4 refl refl
