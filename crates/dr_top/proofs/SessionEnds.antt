@@ -2,13 +2,13 @@
 use Rattle.std.specs.Prelude.{◌≡◌, ℕ, List, [], ◌∷◌, ◌++◌, suc, Option, Some, None, Result, Ok, Err}
 use Rattle.std.proofs.Common.{refl, sym, ap, ◌∙◌, subst}
 use Rattle.dr_meaning.specs.Schema.{Schema}
-use Rattle.dr_meaning.specs.SchemaText.{SchemaFault, parse_schema}
+use Rattle.dr_meaning.specs.SchemaText.{parse_schema}
 use Rattle.dr_meaning.specs.Lines.{lines_of}
 use Rattle.dr_meaning.specs.Session.{Session, Heard, SessionFault, SessionRefusal, Spoken, heard, new_session, spoken, spoken_behind, spoken_from}
 use Rattle.dr_input.specs.Whole.{whole_lines}
 use Rattle.dr_input.proofs.WholeLemmas.{whole_front, whole_twice, lines_behind}
 use Rattle.dr_commands.specs.Refusals.{Refusal, session_refused}
-use Rattle.dr_commands.specs.Meaning.{Look, puts_in, first_refusal, IsEarly}
+use Rattle.dr_commands.specs.Meaning.{puts_in, first_refusal, IsEarly}
 use Rattle.dr_commands.specs.Session.{SessionWords, spoken_outcome, session_outcome, session_schema, session_meaning}
 use Rattle.dr_top.specs.World.{outcome_on}
 use Rattle.dr_top.proofs.CommandLemmas.{RefusesSchema}

@@ -1,26 +1,26 @@
 -- The ends of a run that holds a session.
-use Rattle.std.specs.Prelude.{◌≡◌, ◌≤◌, ◌⊎◌, ℕ, Bool, true, false, List, [], ◌∷◌, ◌++◌, Option, Some, None, codes}
+use Rattle.std.specs.Prelude.{◌≡◌, ◌≤◌, ◌⊎◌, ℕ, Bool, true, false, List, [], ◌∷◌, ◌++◌, Option, Some, None}
 use Rattle.std.proofs.Common.{nat_eq, refl, sym, ap, ◌∙◌, subst, inl, inr, arith, true≢false}
 use Rattle.dr_meaning.specs.Schema.{Schema}
 use Rattle.dr_meaning.specs.Session.{SessionRefusal, Spoken, spoken}
 use Rattle.dr_outside.specs.Faults.{raised}
 use Rattle.dr_outside.specs.Source.{SourceShown}
-use Rattle.dr_outside.specs.Sink.{SinkShown, AddedWhole}
+use Rattle.dr_outside.specs.Sink.{SinkShown}
 use Rattle.dr_outside.specs.Link.{LinkShown}
 use Rattle.dr_load.specs.Puts.{HasPut, HasPutSome}
 use Rattle.dr_formats.specs.Loading.{Put}
 use Rattle.dr_input.specs.Whole.{whole_lines}
 use Rattle.dr_input.specs.Taken.{EndsLine, WhereGiven, WhereTold}
 use Rattle.dr_session.specs.Talking as said
-use Rattle.dr_session.specs.Talking.{WhereRead, Prints, PrintsBefore, TalksToEnd, IsUnread, IsUnwritten, IsWanting}
-use Rattle.dr_commands.specs.Refusals.{Refusal, session_refused}
-use Rattle.dr_commands.specs.Meaning.{Meaning, Outcome, done, stops, puts_in, first_refusal, text_before}
+use Rattle.dr_session.specs.Talking.{WhereRead, Prints, PrintsBefore, TalksToEnd}
+use Rattle.dr_commands.specs.Refusals.{session_refused}
+use Rattle.dr_commands.specs.Meaning.{Meaning, Outcome, done, stops, puts_in, first_refusal}
 use Rattle.dr_commands.specs.Session.{session_outcome}
 use Rattle.dr_top.specs.World.{lent, world, ForInput, outcome_on, Opens, OpensBy, Accepts}
 use Rattle.dr_top.specs.Keeping.{PutsGiven, IsRefusedSo, RefusesSo, puts_before_end}
 use Rattle.dr_top.specs.Stops.{IsReadBy}
 use Rattle.dr_top.specs.Answers.{Gives, Finishes, BeginsTalk}
-use Rattle.dr_top.specs.Talking.{PrintsGiven, PrintsFront, SpeaksFront, WritesBefore, WritesGiven}
+use Rattle.dr_top.specs.Talking.{PrintsGiven, PrintsFront, SpeaksFront}
 use Rattle.dr_top.specs.Ends as ends
 use Rattle.dr_top.specs.Ends.{ForMeant, Holds, IsOutside, IsMemory, SameCounts, IsCalm, IsComplete, IsServed}
 use Rattle.dr_top.specs.Held.{IsHeldRefused, IsHeldOutside, IsHeldWanting}
