@@ -2,7 +2,6 @@
 use Rattle.std.specs.Prelude.{◌≡◌, ℕ, List, [], ◌∷◌, ◌++◌, suc, Option, Some, None, Result, Ok, Err}
 use Rattle.std.proofs.Common.{refl, sym, ap, ◌∙◌, subst}
 use Rattle.dr_meaning.specs.Schema.{Schema}
-use Rattle.dr_meaning.specs.SchemaText.{parse_schema}
 use Rattle.dr_meaning.specs.Lines.{lines_of}
 use Rattle.dr_meaning.specs.Session.{Session, Heard, SessionFault, SessionRefusal, Spoken, heard, new_session, spoken, spoken_behind, spoken_from}
 use Rattle.dr_input.specs.Whole.{whole_lines}
@@ -10,14 +9,10 @@ use Rattle.dr_input.proofs.WholeLemmas.{whole_front, whole_twice, lines_behind}
 use Rattle.dr_commands.specs.Refusals.{Refusal, session_refused}
 use Rattle.dr_commands.specs.Meaning.{puts_in, first_refusal, IsEarly}
 use Rattle.dr_commands.specs.Session.{SessionWords, spoken_outcome, session_outcome, session_schema, session_meaning}
-use Rattle.dr_top.specs.World.{outcome_on}
 use Rattle.dr_top.proofs.CommandLemmas.{RefusesSchema}
 
 pub session_refuses_schema : (w : SessionWords) → RefusesSchema (session_meaning w)
 session_refuses_schema w look e h = ap (session_schema look.input) h
-
-pub session_speaks : (w : SessionWords) (file : List ℕ) (s : Schema) → parse_schema file ≡ Ok s → (input : List ℕ) → outcome_on (session_meaning w) file input ≡ session_outcome (spoken s input)
-session_speaks w file s h input = ap (session_schema input) h
 
 -- ---- what lines come to
 
