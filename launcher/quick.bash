@@ -11,7 +11,9 @@ want_build() {
 
 # Runs the words by `rt try`, which builds the program without proof and runs it, and gives what the program itself wrote and its status.
 run_quick() {
-  [ "$command" != load ] || { want_build "load wants a program that is kept, and none without proof can be made here"; return; }
+  case $command in
+    load | session) want_build "$command wants a program that is kept, and none without proof can be made here"; return ;;
+  esac
   make_room
   if ! put_input; then
     want_build "the quick build takes at most $most_input bytes of standard input"

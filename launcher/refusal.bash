@@ -27,19 +27,31 @@ show_place() {
     }' "$1" >&2
 }
 
+# shows a place in `query`, and what is refused there
+tell_query() {
+  printf '%s\n' "$query" >"$room/text"
+  show_place "$room/text" "$1"
+  tell_word query "$2"
+}
+
 # the text of the schema in a table file
 schema_of_table() {
   awk 'behind { print } /^schema$/ { behind = 1 }' "$1"
 }
 
-# shows a line of the input, where that is read and can be read again
-show_line() {
+# a line of the input, where that is read and can be read again
+input_line() {
   [ "$command" != trial ] || return
   local from=/dev/stdin
   [ -s "$room/input" ] && from=$room/input
   if [ -f "$from" ]; then
-    sed -n "$1{p;q}" "$from" | cut -b -300 | tr '\000-\010\013-\037\177' '?' | sed 's/^/   /' >&2
+    sed -n "$1{p;q}" "$from"
   fi
+}
+
+# shows it
+show_line() {
+  input_line "$1" | cut -b -300 | tr '\000-\010\013-\037\177' '?' | sed 's/^/   /' >&2
 }
 
 # what is told of the first line that the program wrote on standard error, at this status
@@ -52,9 +64,7 @@ tell_refusal() {
     *) tell_word "$line" ''; return ;;
   esac
   if [[ $line =~ ^refused\ query\ at\ $number:\ $word$ ]]; then
-    printf '%s\n' "$query" >"$room/text"
-    show_place "$room/text" "${BASH_REMATCH[1]}"
-    tell_word query "${BASH_REMATCH[2]}"
+    tell_query "${BASH_REMATCH[1]}" "${BASH_REMATCH[2]}"
   elif [[ $line =~ ^refused\ schema\ at\ $number:\ $word$ ]]; then
     show_place "$schema_file" "${BASH_REMATCH[1]}"
     tell_word schema "${BASH_REMATCH[2]}"
@@ -67,6 +77,10 @@ tell_refusal() {
   elif [[ $line =~ ^refused\ line\ $number:\ $word$ ]]; then
     show_line "${BASH_REMATCH[1]}"
     tell_word line "${BASH_REMATCH[2]}"
+  elif [[ $line =~ ^refused\ line\ $number:\ query\ at\ $number:\ $word$ ]]; then
+    query=$(input_line "${BASH_REMATCH[1]}")
+    query=${query#\?}
+    [ -z "$query" ] && tell_word query "${BASH_REMATCH[3]}" || tell_query "${BASH_REMATCH[2]}" "${BASH_REMATCH[3]}"
   elif [[ $line =~ ^refused\ field\ $number:\ $word$ ]]; then
     printf '   %s\n' "${plain_words[BASH_REMATCH[1]]}" >&2
     tell_word field "${BASH_REMATCH[2]}"

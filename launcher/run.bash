@@ -4,7 +4,9 @@
 # program says there is kept, to be looked at behind it.
 run_program() {
   local program=$1
-  if [ -n "$shows_progress" ] && [ -f /dev/stdin ]; then
+  if is_typed "$program"; then
+    hold_session "$program"
+  elif [ -n "$shows_progress" ] && [ -f /dev/stdin ]; then
     run_beside_progress
   elif [ -t 2 ]; then
     make_room

@@ -29,7 +29,7 @@ take_words() {
   schema_file= table_file= query= plain_words=()
   case $command in
     load) put_options_first ;;
-    query | ask | dump | stripe | fsm | schema | explain) ;;
+    query | ask | dump | stripe | fsm | schema | explain | session) ;;
     *) return ;;
   esac
   local at=1 word plain=

@@ -57,3 +57,31 @@ told "a column, standard input a folder" 4 "" "outside: source" stripe --schema 
 told "a load, standard input closed" 0 "loaded 0 records into 1 tablets" "" load --schema "$schema" --table "$work/later.table" "$work/later" <&-
 told "a load whose input is a folder" 4 "" "outside: source" load --schema "$schema" --table "$work/none.table" "$work/leaf0" <"$work/a"
 sees "no table is put where the input fails" [ ! -e "$work/none.table" ]
+
+told "a session, standard input closed" 0 "" "" session --schema "$schema" <&-
+told "a session, standard input a folder" 4 "" "outside: source" session --schema "$schema" <"$work/a"
+"$program" session --schema "$schema" <<<. >/dev/full 2>"$work/err"
+status=$?
+: >"$work/out"
+ended "a session, standard output full" 4 "" "outside: out" "$status"
+
+# each line of a session is answered before the next is written
+coproc talk { exec "$program" session --schema "$schema" 2>"$work/err"; }
+talking=$talk_PID
+exec {lines}>&"${talk[1]}" {answers}<&"${talk[0]}"
+eval "exec ${talk[1]}>&-"
+for line in "?$rows" . "+$(head -n 1 "$records")" . "?$rows"; do
+  printf '%s\n' "$line" >&"$lines"
+  while [[ $line != +* ]] && IFS= read -r -t 20 answer <&"$answers"; do
+    printf '%s\n' "$line: $answer"
+    [[ $answer != at\ * && $answer != published\ * ]] || break
+  done
+done >"$work/out"
+exec {lines}>&-
+wait "$talking"
+ended "a session line by line" 0 "?$rows: {\"r\":0}
+?$rows: at 0
+.: published 1
+.: published 2
+?$rows: {\"r\":1}
+?$rows: at 2" "" $?

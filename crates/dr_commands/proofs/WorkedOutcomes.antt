@@ -17,6 +17,7 @@ use Rattle.dr_meaning.specs.Query.{Query}
 use Rattle.dr_meaning.specs.QueryLeaves.{query_leaves}
 use Rattle.dr_meaning.specs.Refusals as plainly
 use Rattle.dr_meaning.specs.Refusals.{QueryRefusal}
+use Rattle.dr_meaning.specs.Session.{SessionRefusal, Spoken, spoken, no_command, query_refused as session_query_refused}
 use Rattle.dr_meaning.specs.Stripe.{stripe}
 use Rattle.dr_meaning.specs.Fsm.{fsm}
 use Rattle.dr_meaning.specs.Ask.{read_query, answer_text}
@@ -30,8 +31,8 @@ use Rattle.dr_formats.specs.Loading.{Put, Plan, load, load_taken, puts_of, leaf_
 use Rattle.dr_formats.specs.TableFile.{parse_table, bad_head}
 use Rattle.dr_formats.proofs.WorkedTables.{two_copies_text}
 use Rattle.dr_reading.specs.Scan.{Copy}
-use Rattle.dr_commands.specs.Refusals.{schema_refused, table_refused, field_refused, words_refused, query_refused, line_refused, refusal_of, refusal_text}
-use Rattle.dr_commands.specs.Meaning.{Meaning, Outcome, done, refused, scans, serves, looks_at, plain, puts_in, IsEarly}
+use Rattle.dr_commands.specs.Refusals.{schema_refused, table_refused, field_refused, words_refused, query_refused, line_refused, session_refused, refusal_of, refusal_text}
+use Rattle.dr_commands.specs.Meaning.{Meaning, Outcome, done, refused, scans, serves, looks_at, stops, plain, puts_in, first_refusal, text_before, IsEarly}
 use Rattle.dr_commands.specs.Numbers.{default_rows, least_fan, most_fan, default_fan, most_workers, default_workers, most_lag, default_lag, most_share, default_share}
 use Rattle.dr_commands.specs.Serving.{ServingWords}
 use Rattle.dr_commands.specs.Load.{LoadWords, load_meaning, loaded_outcome}
@@ -42,6 +43,7 @@ use Rattle.dr_commands.specs.Stripe.{stripe_meaning}
 use Rattle.dr_commands.specs.Fsm.{fsm_meaning}
 use Rattle.dr_commands.specs.ShowSchema.{show_schema_meaning}
 use Rattle.dr_commands.specs.Explain.{explain_meaning}
+use Rattle.dr_commands.specs.Session.{session_meaning, session_outcome, spoken_outcome}
 
 abbrev url_count : List ℕ
 url_count = codes "SELECT COUNT(Name.Url) FROM Document"
@@ -59,33 +61,36 @@ load_words directories copies = record { schema = codes "s"; table = codes "t"; 
 
 -- ---- what a command looks at
 
--- the file that it reads; whether it reads the input, and whether it puts files; how many links it may ask
+-- the file that it reads; whether it reads the input, puts files, and talks; how many links it may ask
 abbrev Looks : Meaning → Option (List ℕ) → List Bool → ℕ → Type 0
-Looks m file does n = (m.file ≡ file) × ((m.reads_input ∷ m.puts_files ∷ []) ≡ does) × (m.links ≡ n)
+Looks m file does n = (m.file ≡ file) × ((m.reads_input ∷ m.puts_files ∷ m.talks ∷ []) ≡ does) × (m.links ≡ n)
 
-pub load_looks : Looks (load_meaning (load_words (codes "d" ∷ []) 1)) (Some (codes "s")) (true ∷ true ∷ []) 0
+pub load_looks : Looks (load_meaning (load_words (codes "d" ∷ []) 1)) (Some (codes "s")) (true ∷ true ∷ false ∷ []) 0
 load_looks = (refl, refl, refl)
 
-pub query_looks : Looks (query_meaning (record { table = codes "t"; serving = served_by 8; least = 100; query = url_count })) (Some (codes "t")) (false ∷ false ∷ []) 4
+pub query_looks : Looks (query_meaning (record { table = codes "t"; serving = served_by 8; least = 100; query = url_count })) (Some (codes "t")) (false ∷ false ∷ false ∷ []) 4
 query_looks = (refl, refl, refl)
 
-pub ask_looks : Looks (ask_meaning (record { schema = codes "s"; rows = 2; serving = served_by 8; query = url_count })) (Some (codes "s")) (true ∷ false ∷ []) 0
+pub ask_looks : Looks (ask_meaning (record { schema = codes "s"; rows = 2; serving = served_by 8; query = url_count })) (Some (codes "s")) (true ∷ false ∷ false ∷ []) 0
 ask_looks = (refl, refl, refl)
 
-pub dump_looks : Looks (dump_meaning (record { table = codes "t"; fields = codes "DocId" ∷ [] })) (Some (codes "t")) (false ∷ false ∷ []) 1
+pub dump_looks : Looks (dump_meaning (record { table = codes "t"; fields = codes "DocId" ∷ [] })) (Some (codes "t")) (false ∷ false ∷ false ∷ []) 1
 dump_looks = (refl, refl, refl)
 
-pub stripe_looks : Looks (stripe_meaning (record { schema = codes "s"; field = codes "DocId" })) (Some (codes "s")) (true ∷ false ∷ []) 0
+pub stripe_looks : Looks (stripe_meaning (record { schema = codes "s"; field = codes "DocId" })) (Some (codes "s")) (true ∷ false ∷ false ∷ []) 0
 stripe_looks = (refl, refl, refl)
 
-pub fsm_looks : Looks (fsm_meaning (record { schema = codes "s"; fields = codes "DocId" ∷ [] })) (Some (codes "s")) (false ∷ false ∷ []) 0
+pub fsm_looks : Looks (fsm_meaning (record { schema = codes "s"; fields = codes "DocId" ∷ [] })) (Some (codes "s")) (false ∷ false ∷ false ∷ []) 0
 fsm_looks = (refl, refl, refl)
 
-pub schema_looks : Looks (show_schema_meaning (record { file = codes "f" })) None (false ∷ false ∷ []) 1
+pub schema_looks : Looks (show_schema_meaning (record { file = codes "f" })) None (false ∷ false ∷ false ∷ []) 1
 schema_looks = (refl, refl, refl)
 
-pub explain_looks : Looks (explain_meaning (record { schema = codes "s"; query = url_count })) (Some (codes "s")) (false ∷ false ∷ []) 0
+pub explain_looks : Looks (explain_meaning (record { schema = codes "s"; query = url_count })) (Some (codes "s")) (false ∷ false ∷ false ∷ []) 0
 explain_looks = (refl, refl, refl)
+
+pub session_looks : Looks (session_meaning (record { schema = codes "s" })) (Some (codes "s")) (true ∷ false ∷ true ∷ []) 0
+session_looks = (refl, refl, refl)
 
 -- ---- commands that print the text of what they read
 
@@ -108,6 +113,19 @@ count_is_printed = ap plain first_answer
 
 pub schema_is_shown : at (show_schema_meaning (record { file = codes "f.parquet" })) [] [] ≡ looks_at (codes "f.parquet")
 schema_is_shown = refl
+
+-- a session prints what its lines print, or what those before the first that is refused print; its schema comes before them
+pub lines_are_printed : (said : Spoken) → (said.refusal ≡ None → session_outcome said ≡ done said.text [])
+    × ((e : SessionRefusal) → said.refusal ≡ Some e → session_outcome said ≡ stops said.text (session_refused e))
+lines_are_printed said = (λ e. ap (spoken_outcome said.text) e, λ e is. ap (spoken_outcome said.text) is)
+
+pub session_is_spoken : (bytes : List ℕ) → at (session_meaning (record { schema = codes "s" })) document_text bytes ≡ session_outcome (spoken document_schema bytes)
+unfolding parse_schema
+session_is_spoken bytes = refl
+
+pub session_refuses : (bytes : List ℕ) → at (session_meaning (record { schema = codes "s" })) (codes "message T { }") bytes ≡ refused (schema_refused (record { place = 12; problem = empty_group })) []
+unfolding parse_schema
+session_refuses bytes = refl
 
 -- what a command without tables refuses, and what it prints
 pub plain_ends : (plain (Ok (codes "x")) ≡ done (codes "x") []) × (plain (Err (plainly.field_refused 1 unknown_field)) ≡ refused (field_refused 1 unknown_field) [])
@@ -240,12 +258,25 @@ put = record { path = codes "d/t000000.parquet"; bytes = [] }
 pub puts_told : (puts_in (done (codes "x") (put ∷ [])) ≡ put ∷ []) × (puts_in (refused (words_refused copies_refused) (put ∷ [])) ≡ put ∷ []) × (puts_in (looks_at (codes "f")) ≡ [])
 puts_told = (refl, refl, refl)
 
+-- the first refusal, and what is printed before it
+abbrev second_line : SessionRefusal
+second_line = record { line = 2; fault = no_command }
+
+pub firsts_told : (first_refusal (done (codes "x") []) ≡ None) × (first_refusal (refused (words_refused copies_refused) (put ∷ [])) ≡ Some (words_refused copies_refused))
+    × (first_refusal (stops (codes "x") (session_refused second_line)) ≡ Some (session_refused second_line)) × (first_refusal (looks_at (codes "f")) ≡ None)
+firsts_told = (refl, refl, refl, refl)
+
+pub texts_told : (text_before (done (codes "x") []) ≡ []) × (text_before (stops (codes "x") (session_refused second_line)) ≡ codes "x") × (puts_in (stops (codes "x") (session_refused second_line)) ≡ [])
+texts_told = (refl, refl, refl)
+
 -- the line that names each refusal
 pub refusals_told :
     map refusal_text (schema_refused (record { place = 12; problem = empty_group }) ∷ table_refused bad_head ∷ field_refused 1 unknown_field ∷ words_refused (leaf_refused 1) ∷ words_refused copies_refused
-    ∷ query_refused (plainly.text_refused (record { place = 7; problem = syntax })) ∷ line_refused (record { line = 3; fault = no_record missing_field }) ∷ []) ≡
+    ∷ query_refused (plainly.text_refused (record { place = 7; problem = syntax })) ∷ line_refused (record { line = 3; fault = no_record missing_field }) ∷ session_refused second_line
+    ∷ session_refused (record { line = 1; fault = session_query_refused (plainly.text_refused (record { place = 7; problem = syntax })) }) ∷ []) ≡
     codes "refused schema at 12: EmptyGroup\n" ∷ codes "refused table: Head\n" ∷ codes "refused field 1: UnknownField\n" ∷ codes "refused leaf 1\n" ∷ codes "refused copies\n"
-    ∷ codes "refused query at 7: Syntax\n" ∷ codes "refused line 3: MissingField\n" ∷ []
+    ∷ codes "refused query at 7: Syntax\n" ∷ codes "refused line 3: MissingField\n" ∷ codes "refused line 2: Command\n"
+    ∷ codes "refused line 1: query at 7: Syntax\n" ∷ []
 unfolding digits
 refusals_told = refl
 
@@ -258,7 +289,8 @@ refusals_kept = refl
 
 -- all but those of lines are found before the input is read
 pub before_the_input : map IsEarly (schema_refused (record { place = 12; problem = empty_group }) ∷ table_refused bad_head ∷ field_refused 1 unknown_field ∷ words_refused copies_refused
-    ∷ query_refused (plainly.text_refused (record { place = 7; problem = syntax })) ∷ line_refused (record { line = 3; fault = no_record missing_field }) ∷ []) ≡ ⊤ ∷ ⊤ ∷ ⊤ ∷ ⊤ ∷ ⊤ ∷ ⊥ ∷ []
+    ∷ query_refused (plainly.text_refused (record { place = 7; problem = syntax })) ∷ line_refused (record { line = 3; fault = no_record missing_field }) ∷ session_refused second_line ∷ []) ≡
+    ⊤ ∷ ⊤ ∷ ⊤ ∷ ⊤ ∷ ⊤ ∷ ⊥ ∷ ⊥ ∷ []
 before_the_input = refl
 
 -- ---- numbers of options

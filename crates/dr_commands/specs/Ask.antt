@@ -22,5 +22,6 @@ ask_meaning w = record {
   reads_input = true;
   puts_files = false;
   links = 0;
+  talks = false;
   outcome = λ look. plain (meant.ask w.rows look.file w.query look.input);
 }

@@ -10,6 +10,7 @@ use Rattle.dr_commands.specs.Fsm.{FsmWords, fsm_meaning, fsm_view}
 use Rattle.dr_commands.specs.Explain.{ExplainWords, explain_meaning, explain_view}
 use Rattle.dr_commands.specs.Gen.{GenWords, gen_meaning, gen_view}
 use Rattle.dr_commands.specs.Trial.{TrialWords, trial_meaning, trial_view}
+use Rattle.dr_commands.specs.Session.{SessionWords, session_meaning, session_view}
 use Rattle.dr_commands.specs.declared.commands.Command.{Command}
 use Rattle.dr_commands.specs.declared.commands.Command.TheVariants as command
 
@@ -25,6 +26,7 @@ pub data CommandWords : Type 0 where
   explain : ExplainWords → CommandWords
   gen : GenWords → CommandWords
   trial : TrialWords → CommandWords
+  session : SessionWords → CommandWords
 
 -- what a command stands for
 abbrev pub command_view : Command → CommandWords
@@ -38,6 +40,7 @@ command_view (command.ShowSchema s) = show_schema (show_schema_view s)
 command_view (command.Explain e) = explain (explain_view e)
 command_view (command.Gen g) = gen (gen_view g)
 command_view (command.Trial t) = trial (trial_view t)
+command_view (command.Session s) = session (session_view s)
 
 -- what each command means
 abbrev pub meaning_of : CommandWords → Meaning
@@ -51,3 +54,4 @@ meaning_of (show_schema w) = show_schema_meaning w
 meaning_of (explain w) = explain_meaning w
 meaning_of (gen w) = gen_meaning w
 meaning_of (trial w) = trial_meaning w
+meaning_of (session w) = session_meaning w

@@ -45,5 +45,6 @@ dump_meaning w = record {
   reads_input = false;
   puts_files = false;
   links = 1;
+  talks = false;
   outcome = λ look. dump_table w.fields (parse_table look.file);
 }

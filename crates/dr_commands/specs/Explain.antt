@@ -37,5 +37,6 @@ explain_meaning w = record {
   reads_input = false;
   puts_files = false;
   links = 0;
+  talks = false;
   outcome = λ look. plain (explained look.file w.query);
 }

@@ -19,5 +19,6 @@ fsm_meaning w = record {
   reads_input = false;
   puts_files = false;
   links = 0;
+  talks = false;
   outcome = λ look. plain (meant.fsm look.file w.fields);
 }

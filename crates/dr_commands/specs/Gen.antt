@@ -14,4 +14,11 @@ gen_view g = record { seed = g.seed; records = g.records }
 
 -- what it means
 abbrev pub gen_meaning : GenWords → Meaning
-gen_meaning w = record { file = None; reads_input = false; puts_files = false; links = 0; outcome = λ look. done (lines_from w.seed w.records) [] }
+gen_meaning w = record {
+  file = None;
+  reads_input = false;
+  puts_files = false;
+  links = 0;
+  talks = false;
+  outcome = λ look. done (lines_from w.seed w.records) [];
+}

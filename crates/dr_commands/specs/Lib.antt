@@ -15,6 +15,7 @@ pub mod ShowSchema
 pub mod Explain
 pub mod Gen
 pub mod Trial
+pub mod Session
 -- laws of what is printed of a table, each proved on a law function of src/
 pub mod ScanLaws
 -- any command

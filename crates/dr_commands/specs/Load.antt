@@ -1,5 +1,5 @@
 -- `load --schema F --table F [--rows N] [--copies K] [--pages V] DIR..`: the records of the input, put as the tablets of a table.
-use Rattle.std.specs.Prelude.{ℕ, true, List, [], Option, Some, None, Result, Ok, Err, map, string_bytes}
+use Rattle.std.specs.Prelude.{ℕ, true, false, List, [], Option, Some, None, Result, Ok, Err, map, string_bytes}
 use Rattle.dr_meaning.specs.Schema.{Schema}
 use Rattle.dr_meaning.specs.SchemaText.{SchemaFault, parse_schema}
 use Rattle.dr_meaning.specs.Lines as line
@@ -59,5 +59,6 @@ load_meaning w = record {
   reads_input = true;
   puts_files = true;
   links = 0;
+  talks = false;
   outcome = λ look. load_schema w look.input (parse_schema look.file);
 }

@@ -46,5 +46,6 @@ query_meaning w = record {
   reads_input = false;
   puts_files = false;
   links = w.serving.workers;
+  talks = false;
   outcome = λ look. query_table w.serving.workers w.least w.query (parse_table look.file);
 }

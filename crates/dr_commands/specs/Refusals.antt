@@ -4,6 +4,7 @@ use Rattle.dr_meaning.specs.SchemaText.{SchemaFault}
 use Rattle.dr_meaning.specs.Path.{PathFault}
 use Rattle.dr_meaning.specs.Lines as line
 use Rattle.dr_meaning.specs.Refusals as plain
+use Rattle.dr_meaning.specs.Session.{SessionRefusal, session_refusal_text}
 use Rattle.dr_formats.specs.TableFile.{TableFault}
 use Rattle.dr_formats.specs.Loading.{WordsRefusal}
 use Rattle.dr_formats.specs.Reports.{table_refusal_text, words_refusal_text}
@@ -18,6 +19,8 @@ pub data Refusal : Type 0 where
   words_refused : WordsRefusal → Refusal
   query_refused : plain.QueryRefusal → Refusal
   line_refused : line.Refusal → Refusal
+  -- a line of a session
+  session_refused : SessionRefusal → Refusal
 
 -- a refusal of a command without tables
 abbrev pub refusal_of : plain.CommandRefusal → Refusal
@@ -34,3 +37,4 @@ refusal_text (field_refused n e) = plain.field_refusal_text n e
 refusal_text (words_refused e) = words_refusal_text e
 refusal_text (query_refused e) = plain.query_refusal_text e
 refusal_text (line_refused e) = plain.line_refusal_text e
+refusal_text (session_refused e) = session_refusal_text e

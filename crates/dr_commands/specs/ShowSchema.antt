@@ -12,4 +12,4 @@ show_schema_view s = record { file = string_bytes s.file }
 
 -- what it means
 abbrev pub show_schema_meaning : ShowSchemaWords → Meaning
-show_schema_meaning w = record { file = None; reads_input = false; puts_files = false; links = 1; outcome = λ look. looks_at w.file }
+show_schema_meaning w = record { file = None; reads_input = false; puts_files = false; links = 1; talks = false; outcome = λ look. looks_at w.file }

@@ -19,5 +19,6 @@ stripe_meaning w = record {
   reads_input = true;
   puts_files = false;
   links = 0;
+  talks = false;
   outcome = λ look. plain (meant.stripe look.file w.field look.input);
 }

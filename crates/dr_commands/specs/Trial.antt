@@ -24,5 +24,6 @@ trial_meaning w = record {
   reads_input = false;
   puts_files = false;
   links = 0;
+  talks = false;
   outcome = λ look. plain (meant.ask w.rows document_text trial_query (lines_from w.seed w.records));
 }

@@ -7,6 +7,7 @@ mod fsm;
 mod gen_values;
 mod load;
 mod query;
+mod session;
 mod show_schema;
 mod stripe;
 mod trial;
@@ -18,6 +19,7 @@ pub use fsm::Fsm;
 pub use gen_values::Gen;
 pub use load::Load;
 pub use query::Query;
+pub use session::Session;
 pub use show_schema::ShowSchema;
 pub use stripe::Stripe;
 pub use trial::Trial;
@@ -35,4 +37,5 @@ pub enum Command {
     Explain(Explain),
     Gen(Gen),
     Trial(Trial),
+    Session(Session),
 }

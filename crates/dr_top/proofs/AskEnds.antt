@@ -1,5 +1,5 @@
 -- The answer of `ask`, from its steps.
-use Rattle.std.specs.Prelude.{◌≡◌, ◌≢◌, ℕ, List, [], None, Result, Ok, Err, MatchOption, ⊤}
+use Rattle.std.specs.Prelude.{◌≡◌, ◌≢◌, ℕ, List, [], Some, None, Result, Ok, Err, MatchOption, ⊤}
 use Rattle.std.proofs.Common.{refl, sym, ap, ◌∙◌, subst}
 use Rattle.dr_meaning.specs.Schema.{Schema}
 use Rattle.dr_meaning.specs.SchemaText.{SchemaFault, parse_schema}
@@ -8,7 +8,6 @@ use Rattle.dr_meaning.specs.Lines as line
 use Rattle.dr_meaning.specs.Query.{Query}
 use Rattle.dr_meaning.specs.Refusals.{QueryRefusal}
 use Rattle.dr_meaning.specs.Ask.{ask, ask_schema, ask_query, ask_records, answer_text, read_query, most_asked}
-use Rattle.dr_formats.specs.Loading.{Put}
 use Rattle.dr_outside.specs.Faults.{raised}
 use Rattle.dr_outside.specs.Source.{SourceShown}
 use Rattle.dr_input.specs.Whole.{whole_lines}
@@ -18,7 +17,7 @@ use Rattle.dr_load.specs.declared.fault.LoadFault.{LoadFault}
 use Rattle.dr_bind.specs.Faults.{IsRefusedAs, refusal_of}
 use Rattle.dr_bind.specs.declared.fault.QueryFault.{QueryFault}
 use Rattle.dr_commands.specs.Refusals.{Refusal as Refused, line_refused}
-use Rattle.dr_commands.specs.Meaning.{Look, plain, done, refused, puts_in, IsEarly}
+use Rattle.dr_commands.specs.Meaning.{Look, plain, done, refused, puts_in, first_refusal, IsEarly}
 use Rattle.dr_commands.specs.Ask.{AskWords, ask_meaning}
 use Rattle.dr_top.specs.World.{outcome_on, Opens, Accepts}
 use Rattle.dr_top.specs.Stops.{StopsEarly, StopsReading, query_stop, load_stop}
@@ -49,13 +48,9 @@ ask_query_early w file text s (QueryFault.Refused n x) t f h = λ input. by_quer
 
 -- ---- the records
 
-late : (s : Schema) (q : Query) (recs : Result (List Node) line.Refusal) (r : Refused) (puts : List Put) → IsEarly r → plain (ask_records s q recs) ≡ refused r puts → ⊥
-late s q (Ok ns) r puts early e = cc
-late s q (Err x) r puts early e = let is : line_refused x ≡ r = cc in subst (λ (y : Refused). IsEarly y) (sym is) early
-
-none_refused : (s : Schema) (q : Query) (recs : Result (List Node) line.Refusal) (R : List Node) (r : Refused) (puts : List Put) → recs ≡ Ok R → plain (ask_records s q recs) ≡ refused r puts → ⊥
-none_refused s q (Ok ns) R r puts h e = cc
-none_refused s q (Err x) R r puts h e = cc
+late : (s : Schema) (q : Query) (recs : Result (List Node) line.Refusal) (r : Refused) → IsEarly r → first_refusal (plain (ask_records s q recs)) ≡ Some r → ⊥
+late s q (Ok ns) r early e = cc
+late s q (Err x) r early e = let is : line_refused x ≡ r = cc in subst (λ (y : Refused). IsEarly y) (sym is) early
 
 module _ (w : AskWords) (file text : List ℕ) (s : Schema) (q : Query) (t : text ≡ w.query) (f : parse_schema file ≡ Ok s) (n : read_query s text ≡ Ok q) where
   -- the outcome is that of the records that are read
@@ -63,14 +58,13 @@ module _ (w : AskWords) (file text : List ℕ) (s : Schema) (q : Query) (t : tex
   by_records input r h = by_query w file text input s (Ok q) t f n ∙ ap (λ (x : Result (List Node) line.Refusal). plain (ask_records s q x)) h
 
   pub ask_opens : Opens (outcome_on (ask_meaning w) file)
-  ask_opens = λ input r puts early e. late s q (line.records_of s.fields (most_asked w.rows) input) r puts early (sym (by_records input _ refl) ∙ e)
+  ask_opens = λ input r early e. late s q (line.records_of s.fields (most_asked w.rows) input) r early (ap first_refusal (sym (by_records input _ refl)) ∙ e)
 
   -- what the source gave is accepted
   accepts : (i i1 : SourceShown) → AcceptsRead s.fields (most_asked w.rows) 0 i.left i1.left → Accepts (outcome_on (ask_meaning w) file) i i1
   accepts i i1 a =
-      given_so i.left i1.left (λ read. (line.taken_from s.fields (most_asked w.rows) 1 (line.lines_of (whole_lines read))).refusal ≡ None) (λ read. (r : Refused) (puts : List Put) → outcome_on (ask_meaning w) file (whole_lines read) ≡ refused r puts → ⊥)
-      (λ read h r puts e. none_refused s q (line.records_of s.fields (most_asked w.rows) (whole_lines read)) (line.taken_from s.fields (most_asked w.rows) 1 (line.lines_of (whole_lines read))).records r puts
-      (records_accepted s.fields (most_asked w.rows) (whole_lines read) h) (sym (by_records (whole_lines read) _ refl) ∙ e)) a
+      given_so i.left i1.left (λ read. (line.taken_from s.fields (most_asked w.rows) 1 (line.lines_of (whole_lines read))).refusal ≡ None) (λ read. first_refusal (outcome_on (ask_meaning w) file (whole_lines read)) ≡ None)
+      (λ read h. ap first_refusal (by_records (whole_lines read) _ (records_accepted s.fields (most_asked w.rows) (whole_lines read) h))) a
 
   line_ends : (i : SourceShown) (e : line.Refusal) → WhereTold i.left (λ input. line.records_of s.fields (most_asked w.rows) input ≡ Err e) → WhereTold i.left (λ input. outcome_on (ask_meaning w) file input ≡ refused (line_refused e) [])
   line_ends i e h = told_so i.left _ _ (λ input g. by_records input (Err e) g) h

@@ -27,7 +27,7 @@ use Rattle.dr_top.specs.declared.named_file.Kind.{Kind}
 use Rattle.dr_top.specs.declared.refusal.Refusal.{Refusal}
 use Rattle.dr_top.specs.declared.stop.Stop.{Stop}
 use Rattle.dr_top.proofs.OutcomeLemmas.{told_so, each_told, each_input, told_input}
-use Rattle.dr_top.proofs.PutLemmas.{unput, put_none, some_of_none, put_nothing, lines_given}
+use Rattle.dr_top.proofs.PutLemmas.{unput, put_none, refused_so, some_of_none, put_nothing, lines_given}
 
 -- ---- what a command refuses before the input
 
@@ -99,7 +99,7 @@ module _ (m : Meaning) (w : Lent) (file : List ℕ) (is : IsFileOf m w.keeper fi
     record {
       file = file;
       is_file = is;
-      refuses = each_input m.reads_input w.input.left (λ input. IsRefusedSo (refusal_view r) w.keeper w.keeper (outcome_on m file input)) (λ input. ([], h input, none_put));
+      refuses = each_input m.reads_input w.input.left (λ input. IsRefusedSo (refusal_view r) [] w.keeper w.keeper (outcome_on m file input)) (λ input. refused_so (outcome_on m file input) (refusal_view r) [] w.keeper w.keeper (h input) none_put);
       early = λ early. (h, refl, none_put);
     },
   )
@@ -147,10 +147,10 @@ module _ (m : Meaning) (w : Lent) (file : List ℕ) (is : IsFileOf m w.keeper fi
         lines_given w.input.left i1.left _ (λ lines. HasPut (puts_in (outcome_on m file (lines ++ 10 ∷ []))) w.keeper w.keeper)
         (λ lines. subst (λ (ps : List Put). HasPut ps w.keeper w.keeper) (sym (none (record { file = file; input = lines ++ 10 ∷ [] }))) none_put) h
 
-    pub reading_stops : (stop : Stop) → StopsReading (outcome_on m file) w.input i1 stop → StopsWith m w (lent i1 w.keeper w.links) stop
-    reading_stops Stop.Usage h = h
-    reading_stops Stop.NoMemory h = (refl, h, inl (put_nothing m w (lent i1 w.keeper w.links) (unput w.keeper)))
-    reading_stops Stop.Source h = (
+    pub reading_stops : (stop : Stop) → m.talks ≡ false → StopsReading (outcome_on m file) w.input i1 stop → StopsWith m w (lent i1 w.keeper w.links) stop
+    reading_stops Stop.Usage n h = h
+    reading_stops Stop.NoMemory n h = (refl, h, inl (put_nothing m w (lent i1 w.keeper w.links) (unput w.keeper)))
+    reading_stops Stop.Source n h = (
       h.0,
       refl,
       refl,
@@ -163,24 +163,25 @@ module _ (m : Meaning) (w : Lent) (file : List ℕ) (is : IsFileOf m w.keeper fi
             (λ input. some_of_none (puts_before_end (outcome_on m file input)) w.keeper w.keeper (unput w.keeper));
         given = given h.2;
       },
+      n,
     )
-    reading_stops Stop.Keeper h = absurd h
-    reading_stops (Stop.Refused r) h = (
+    reading_stops Stop.Keeper n h = absurd h
+    reading_stops (Stop.Refused r) n h = (
       refl,
       h.0,
       refl,
       record {
         file = file;
         is_file = is;
-        refuses = told_input m.reads_input w.input.left (λ input. IsRefusedSo (refusal_view r) w.keeper w.keeper (outcome_on m file input)) reads
-            (told_so w.input.left (λ input. outcome_on m file input ≡ refused (refusal_view r) []) (λ input. IsRefusedSo (refusal_view r) w.keeper w.keeper (outcome_on m file input))
-            (λ input e. ([], e, none_put)) h.1);
+        refuses = told_input m.reads_input w.input.left (λ input. IsRefusedSo (refusal_view r) [] w.keeper w.keeper (outcome_on m file input)) reads
+            (told_so w.input.left (λ input. outcome_on m file input ≡ refused (refusal_view r) []) (λ input. IsRefusedSo (refusal_view r) [] w.keeper w.keeper (outcome_on m file input))
+            (λ input e. refused_so (outcome_on m file input) (refusal_view r) [] w.keeper w.keeper e none_put) h.1);
         early = λ early. let x = h.2 early in (x.1, x.0, none_put);
       },
     )
-    reading_stops (Stop.Left left) h = absurd h
-    reading_stops (Stop.Most text left) h = absurd h
-    reading_stops (Stop.LeftFile cause) h = absurd h
+    reading_stops (Stop.Left left) n h = absurd h
+    reading_stops (Stop.Most text left) n h = absurd h
+    reading_stops (Stop.LeftFile cause) n h = absurd h
 
   -- one that asks links, and puts nothing; no input changes its outcome
   module _ (ls : List LinkShown) (same : (input : List ℕ) → outcome_on m file input ≡ outcome_on m file []) where
@@ -210,7 +211,7 @@ module _ (m : Meaning) (w : Lent) (file : List ℕ) (is : IsFileOf m w.keeper fi
       record {
         file = file;
         is_file = is;
-        refuses = by (IsRefusedSo (refusal_view r) w.keeper w.keeper) ([], h.1, none_put);
+        refuses = by (IsRefusedSo (refusal_view r) [] w.keeper w.keeper) (refused_so (outcome_on m file []) (refusal_view r) [] w.keeper w.keeper h.1 none_put);
         early = λ early. (λ input. same input ∙ h.1, refl, none_put);
       },
     )

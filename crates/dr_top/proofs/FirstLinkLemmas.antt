@@ -4,7 +4,7 @@ use Rattle.std.proofs.Common.{ap, drop, get_or, slice_set, arith}
 use Rattle.dr_outside.specs.Link.{LinkShown}
 use Rattle.dr_tablets.specs.Views.{all_left_view}
 use Rattle.dr_outside.specs.declared.cause.Cause.{Cause}
-use Rattle.dr_commands.specs.Meaning.{Outcome, done, refused, scans, serves, looks_at}
+use Rattle.dr_commands.specs.Meaning.{Outcome, done, refused, scans, serves, looks_at, stops}
 use Rattle.dr_reading.specs.Left.{LeftTablet}
 use Rattle.dr_top.specs.Reading.{HasText, IsLeftWith, HasMost, IsFileLeft}
 use Rattle.dr_top.specs.Stops.{StopsAsking}
@@ -17,6 +17,7 @@ IsOfFirst (refused r puts) = ⊤
 IsOfFirst (scans s) = ⊤
 IsOfFirst (serves s n least) = ⊥
 IsOfFirst (looks_at path) = ⊤
+IsOfFirst (stops text r) = ⊤
 
 -- what holds of the first and the others holds of all, where the first alone changes
 pub first_of : {A : Type 0} (shows : A → LinkShown) (ls : List A) (d y : A) (P : List LinkShown → List LinkShown → Type 0) → 0 < length ls
@@ -32,6 +33,7 @@ module _ (l k : LinkShown) (ls : List LinkShown) where
   first_text (scans s) text one h = h
   first_text (serves s n least) text one h = absurd one
   first_text (looks_at path) text one h = h
+  first_text (stops t r) text one h = h
 
   first_left : (o : Outcome) (left : List LeftTablet) → IsOfFirst o → IsLeftWith o (l ∷ []) (k ∷ []) left → IsLeftWith o (l ∷ ls) (k ∷ ls) left
   first_left (done t puts) left one h = h
@@ -39,6 +41,7 @@ module _ (l k : LinkShown) (ls : List LinkShown) where
   first_left (scans s) left one h = h
   first_left (serves s n least) left one h = absurd one
   first_left (looks_at path) left one h = h
+  first_left (stops t r) left one h = h
 
   first_most : (o : Outcome) (left : List LeftTablet) (text : List ℕ) → IsOfFirst o → HasMost o (l ∷ []) (k ∷ []) left text → HasMost o (l ∷ ls) (k ∷ ls) left text
   first_most (done t puts) left text one h = h
@@ -46,6 +49,7 @@ module _ (l k : LinkShown) (ls : List LinkShown) where
   first_most (scans s) left text one h = h
   first_most (serves s n least) left text one h = absurd one
   first_most (looks_at path) left text one h = h
+  first_most (stops t r) left text one h = h
 
   first_file : (o : Outcome) (cause : Cause) → IsFileLeft o (l ∷ []) (k ∷ []) cause → IsFileLeft o (l ∷ ls) (k ∷ ls) cause
   first_file (done t puts) cause h = h
@@ -53,6 +57,7 @@ module _ (l k : LinkShown) (ls : List LinkShown) where
   first_file (scans s) cause h = h
   first_file (serves s n least) cause h = h
   first_file (looks_at path) cause h = h
+  first_file (stops t r) cause h = h
 
   stays : k ∷ [] ≡ l ∷ [] → k ≡ l
   stays e = cc

@@ -22,10 +22,13 @@ pub mod LoadEnds
 pub mod DumpEnds
 pub mod QueryEnds
 pub mod SchemaEnds
+pub mod SessionEnds
 -- the ends of a run
 pub mod RunLemmas
 -- tables that are held whole
 mod ServedLemmas
+-- the ends of a run that holds a session
+mod TalkLemmas
 -- what is printed of the records that links give
 pub mod ServedTextLemmas
 -- a query over a table in memory, and its premises by example

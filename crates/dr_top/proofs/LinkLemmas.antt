@@ -10,7 +10,7 @@ use Rattle.dr_reading.specs.Scan.{Scan}
 use Rattle.dr_tablets.specs.Asked.{AsksForTablets}
 use Rattle.dr_tablets.proofs.AskedTablets.{asks_none, held_nothing, path_asks}
 use Rattle.dr_serve.specs.Links.{OfEachLink}
-use Rattle.dr_commands.specs.Meaning.{Meaning, Outcome, done, refused, scans, serves, looks_at}
+use Rattle.dr_commands.specs.Meaning.{Meaning, Outcome, done, refused, scans, serves, looks_at, stops}
 use Rattle.dr_commands.specs.Commands.{CommandWords, meaning_of}
 use Rattle.dr_top.specs.World.{Lent, WithEach}
 use Rattle.dr_top.specs.Answers.{schema_ranges, AsksLink, AsksEach, LeavesLinksBy, LeavesUnasked}
@@ -22,6 +22,7 @@ not_asked (refused r puts) l = refl
 not_asked (scans s) l = asks_none s.leaves s.tablets l l refl
 not_asked (serves s n least) l = asks_none s.leaves s.tablets l l refl
 not_asked (looks_at path) l = held_nothing (is_for_path path) (λ files. is_request_for path (schema_ranges (files path))) l.held l.asked l.asked refl
+not_asked (stops text r) l = refl
 
 pub none_asked : (ls : List LinkShown) (o : Outcome) → WithEach ls ls (AsksLink o)
 none_asked [] o = tt

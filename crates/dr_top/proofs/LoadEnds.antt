@@ -24,13 +24,14 @@ use Rattle.dr_load.proofs.GivenLemmas.{puts_refused}
 use Rattle.dr_load.specs.Words.{words_problem_view}
 use Rattle.dr_load.specs.declared.words.WordsProblem.{WordsProblem}
 use Rattle.dr_commands.specs.Refusals.{Refusal as Refused, line_refused}
-use Rattle.dr_commands.specs.Meaning.{done, refused, puts_in, IsEarly}
+use Rattle.dr_commands.specs.Meaning.{done, puts_in, first_refusal, IsEarly}
 use Rattle.dr_commands.specs.Load.{LoadWords, load_plan, loaded_outcome, load_checked, load_schema, load_meaning}
 use Rattle.dr_top.specs.World.{lent, IsFileOf, outcome_on, Opens, Accepts}
 use Rattle.dr_top.specs.Keeping.{IsUnput, IsDoneSo, IsRefusedSo, RefusesSo, PutsSome, PutsBreak, all_but_last, puts_before_end}
 use Rattle.dr_top.specs.Stops.{StopsEarly, StopsWith, words_problem_stop, load_stop}
 use Rattle.dr_top.specs.declared.stop.Stop.{Stop}
 use Rattle.dr_top.proofs.OutcomeLemmas.{told_so, given_so}
+use Rattle.dr_top.proofs.PutLemmas.{refused_so}
 use Rattle.dr_top.proofs.CommandLemmas.{RefusesSchema}
 
 pub load_refuses_schema : (w : LoadWords) → RefusesSchema (load_meaning w)
@@ -104,13 +105,13 @@ outcome_is w s p file input q f n =
 
 -- ---- what is said of the input
 
-late : (l : Loaded) (o : Option line.Refusal) (r : Refused) (puts : List Put) → IsEarly r → loaded_outcome l o ≡ refused r puts → ⊥
-late l None r puts early e = cc
-late l (Some x) r puts early e = let is : line_refused x ≡ r = cc in subst (λ (y : Refused). IsEarly y) (sym is) early
+late : (l : Loaded) (o : Option line.Refusal) (r : Refused) → IsEarly r → first_refusal (loaded_outcome l o) ≡ Some r → ⊥
+late l None r early e = cc
+late l (Some x) r early e = let is : line_refused x ≡ r = cc in subst (λ (y : Refused). IsEarly y) (sym is) early
 
-none_refused : (l : Loaded) (o : Option line.Refusal) (r : Refused) (puts : List Put) → o ≡ None → loaded_outcome l o ≡ refused r puts → ⊥
-none_refused l None r puts h e = cc
-none_refused l (Some x) r puts h e = cc
+none_refused : (l : Loaded) (o : Option line.Refusal) → o ≡ None → first_refusal (loaded_outcome l o) ≡ None
+none_refused l None h = refl
+none_refused l (Some x) h = cc
 
 load_refusal : (p : Plan) (input : List ℕ) → (load p input).refusal ≡ (line.taken_from p.schema.fields (most_loaded p.rows) 1 (line.lines_of input)).refusal
 unfolding load
@@ -141,7 +142,7 @@ module _ (w : LoadWords) (s : Schema) (p : Plan) (file : List ℕ) (k k1 : LinkS
   puts_on input = ap puts_in (on input) ∙ puts_are (load p input) (load p input).refusal
 
   pub load_opens : Opens (outcome_on (load_meaning w) file)
-  load_opens = λ input r puts early e. late (load p input) (load p input).refusal r puts early (sym (on input) ∙ e)
+  load_opens = λ input r early e. late (load p input) (load p input).refusal r early (ap first_refusal (sym (on input)) ∙ e)
 
   some_put : WhereTold i.left (λ input. HasPutSome (load p input).puts k k1) → PutsSome (load_meaning w) (lent i k []) (lent i1 k1 [])
   some_put h =
@@ -180,8 +181,8 @@ module _ (w : LoadWords) (s : Schema) (p : Plan) (file : List ℕ) (k k1 : LinkS
   -- what the source gave is accepted
   accepts : AcceptsRead p.schema.fields (most_loaded p.rows) 0 i.left i1.left → Accepts (outcome_on (load_meaning w) file) i i1
   accepts a =
-      given_so i.left i1.left (λ read. (line.taken_from p.schema.fields (most_loaded p.rows) 1 (line.lines_of (whole_lines read))).refusal ≡ None) (λ read. (r : Refused) (puts : List Put) → load_schema w (whole_lines read) (parse_schema file) ≡ refused r puts → ⊥)
-      (λ read h r puts e. none_refused (load p (whole_lines read)) (load p (whole_lines read)).refusal r puts (load_refusal p (whole_lines read) ∙ h) (sym (on (whole_lines read)) ∙ e)) a
+      given_so i.left i1.left (λ read. (line.taken_from p.schema.fields (most_loaded p.rows) 1 (line.lines_of (whole_lines read))).refusal ≡ None) (λ read. first_refusal (load_schema w (whole_lines read) (parse_schema file)) ≡ None)
+      (λ read h. ap first_refusal (on (whole_lines read)) ∙ none_refused (load p (whole_lines read)) (load p (whole_lines read)).refusal (load_refusal p (whole_lines read) ∙ h)) a
 
   -- the full tablets of the lines that were given
   given : (left now : Option (List ℕ)) → HasPutFull p left now k k1 → WhereLines left now (λ lines. HasPut (puts_in (load_schema w (lines ++ 10 ∷ []) (parse_schema file))) k k1)
@@ -196,12 +197,12 @@ module _ (w : LoadWords) (s : Schema) (p : Plan) (file : List ℕ) (k k1 : LinkS
   )
 
   refused_on : (left : Option (List ℕ)) (e : line.Refusal) → WhereTold left (λ input. (load p input).refusal ≡ Some e) → WhereTold left (λ input. HasPut (load p input).puts k k1)
-      → WhereTold left (λ input. IsRefusedSo (line_refused e) k k1 (load_schema w input (parse_schema file)))
+      → WhereTold left (λ input. IsRefusedSo (line_refused e) [] k k1 (load_schema w input (parse_schema file)))
   refused_on None e h put = tt
-  refused_on (Some input) e h put = ((load p input).puts, on input ∙ ap (loaded_outcome (load p input)) h, put)
+  refused_on (Some input) e h put = refused_so (load_schema w input (parse_schema file)) (line_refused e) (load p input).puts k k1 (on input ∙ ap (loaded_outcome (load p input)) h) put
 
   line_refuses : (e : line.Refusal) → WhereTold i.left (λ input. (load p input).refusal ≡ Some e) → WhereTold i.left (λ input. HasPut (load p input).puts k k1)
-      → RefusesSo (load_meaning w) (line_refused e) (lent i k []) (lent i1 k1 [])
+      → RefusesSo (load_meaning w) (line_refused e) [] (lent i k []) (lent i1 k1 [])
   line_refuses e h put = record { file = file; is_file = is; refuses = refused_on i.left e h put; early = λ early. absurd early }
 
   pub load_stops : (fault : LoadFault)
@@ -226,6 +227,7 @@ module _ (w : LoadWords) (s : Schema) (p : Plan) (file : List ℕ) (k k1 : LinkS
       puts = before_end (told_so i.left (λ input. LeavesPuts p input k k1 LoadFault.ReadFault) (λ input. HasPutTablets p input k k1) (λ input x. x) h);
       given = given i.left i1.left (g refl);
     },
+    refl,
   )
   load_stops (LoadFault.BadLine n x) sc sm kc km ks a g r h = (
     km (λ e. cc),
@@ -276,7 +278,7 @@ module _ (w : LoadWords) (i i1 : SourceShown) (k k1 : LinkShown) (ls : List Link
   load_links Stop.Usage h = h
   load_links Stop.NoMemory h = (h.0, h.1, memory_links h.2)
   load_links Stop.Source h =
-      (h.0, h.1, refl, record { file = h.3.file; is_file = h.3.is_file; opens = h.3.opens; accepts = h.3.accepts; puts = h.3.puts; given = h.3.given })
+      (h.0, h.1, refl, record { file = h.3.file; is_file = h.3.is_file; opens = h.3.opens; accepts = h.3.accepts; puts = h.3.puts; given = h.3.given }, h.4)
   load_links Stop.Keeper h = (h.0, h.1, refl, h.3, failed_links h.4)
   load_links (Stop.Refused r) h = (h.0, h.1, refl, record { file = h.3.file; is_file = h.3.is_file; refuses = h.3.refuses; early = h.3.early })
   load_links (Stop.Left left) h = let n : 0 < 0 = h.1 in absurd (omega (arith, n))

@@ -12,11 +12,13 @@ use Rattle.dr_outside.specs.Faults.{raised}
 use Rattle.dr_outside.specs.Source.{SourceShown}
 use Rattle.dr_outside.specs.Link.{Files, LinkShown, Holds}
 use Rattle.dr_commands.specs.Refusals.{Refusal as Refused}
-use Rattle.dr_commands.specs.Meaning.{Meaning, plain, puts_in}
+use Rattle.dr_commands.specs.Meaning.{Meaning, Outcome, plain, refused, puts_in, first_refusal, text_before}
 use Rattle.dr_top.specs.World.{Lent, lent, IsFileOf, outcome_on}
 use Rattle.dr_top.specs.Keeping.{IsUnput, KeepsFile, PutsSome, PutsGiven, PutsBreak, IsRefusedSo, RefusesSo, puts_before_end}
 use Rattle.dr_top.specs.Stops.{StopsUnread, StopsWith, refusal_view}
-use Rattle.dr_top.specs.Answers.{Gives, Finishes, AsksEach, AsksFor}
+use Rattle.dr_top.specs.Printed.{printed}
+use Rattle.dr_top.specs.Answers.{Gives, Finishes, Replies, AsksEach, AsksFor}
+use Rattle.dr_top.specs.declared.reply.Reply.{Reply}
 use Rattle.dr_top.specs.declared.stop.Stop.{Stop}
 use Rattle.dr_top.proofs.OutcomeLemmas.{each_input, input_so, file_over}
 
@@ -36,6 +38,10 @@ some_of_none ps k k1 e = ([], ps, refl, put_none k k1 e)
 
 pub put_nothing : (m : Meaning) (before after : Lent) → IsUnput before.keeper after.keeper → PutsSome m before after
 put_nothing m before after e = inl e
+
+-- an outcome that is refused so
+pub refused_so : (o : Outcome) (r : Refused) (puts : List Put) (k k1 : LinkShown) → o ≡ refused r puts → HasPut puts k k1 → IsRefusedSo r [] k k1 o
+refused_so o r puts k k1 e h = (ap first_refusal e, ap text_before e, subst (λ (ps : List Put). HasPut ps k k1) (sym (ap puts_in e)) h)
 
 pub plain_puts : (r : Result (List ℕ) CommandRefusal) → puts_in (plain r) ≡ []
 plain_puts (Ok text) = refl
@@ -65,7 +71,7 @@ unread_stops m i k k1 ls (Stop.Refused r) e h = (
   record {
     file = h.1.0;
     is_file = h.1.1;
-    refuses = each_input m.reads_input i.left (λ input. IsRefusedSo (refusal_view r) k k1 (outcome_on m h.1.0 input)) (λ input. ([], h.1.2 input, put_none k k1 e));
+    refuses = each_input m.reads_input i.left (λ input. IsRefusedSo (refusal_view r) [] k k1 (outcome_on m h.1.0 input)) (λ input. refused_so (outcome_on m h.1.0 input) (refusal_view r) [] k k1 (h.1.2 input) (put_none k k1 e));
     early = λ early. (h.1.2, refl, put_none k k1 e);
   },
 )
@@ -104,6 +110,19 @@ module _ (m : Meaning) (i i1 : SourceShown) (k k1 k2 : LinkShown) (ls ls1 : List
     opens = h.opens;
   }
 
+  pub replies_later : (reply : Reply) → Replies m (lent i k1 ls) (lent i1 k2 ls1) reply → Replies m (lent i k ls) (lent i1 k2 ls1) reply
+  replies_later (Reply.Whole output) h = (finishes_later (printed output) h.0, h.1)
+  replies_later (Reply.Talk schema) h = record {
+    talks = h.talks;
+    reads = h.reads;
+    file = h.file;
+    is_file = read_before h.file h.is_file;
+    speaks = h.speaks;
+    unread = h.unread;
+    unput = unput_more k k1 k2 e h.unput;
+    links = h.links;
+  }
+
   pub asks_each_later : AsksEach (Some m) (lent i k1 ls) (lent i1 k2 ls1) → AsksEach (Some m) (lent i k ls) (lent i1 k2 ls1)
   asks_each_later (inl h) = inl h
   asks_each_later (inr h) = inr (h.0, read_before h.0 h.1, h.2)
@@ -138,12 +157,12 @@ module _ (m : Meaning) (i i1 : SourceShown) (k k1 k2 : LinkShown) (ls ls1 : List
         (λ lines. put_later (puts_in (outcome_on m h.file (lines ++ 10 ∷ []))) k k1 k2 e) h.given;
   }
 
-  refuses_later : (r : Refused) → RefusesSo m r (lent i k1 ls) (lent i1 k2 ls1) → RefusesSo m r (lent i k ls) (lent i1 k2 ls1)
-  refuses_later r h = record {
+  refuses_later : (r : Refused) (text : List ℕ) → RefusesSo m r text (lent i k1 ls) (lent i1 k2 ls1) → RefusesSo m r text (lent i k ls) (lent i1 k2 ls1)
+  refuses_later r text h = record {
     file = h.file;
     is_file = read_before h.file h.is_file;
-    refuses = input_so m.reads_input i.left (λ input. IsRefusedSo r k1 k2 (outcome_on m h.file input)) (λ input. IsRefusedSo r k k2 (outcome_on m h.file input))
-        (λ input g. (g.0, g.1, put_later g.0 k k1 k2 e g.2)) h.refuses;
+    refuses = input_so m.reads_input i.left (λ input. IsRefusedSo r text k1 k2 (outcome_on m h.file input)) (λ input. IsRefusedSo r text k k2 (outcome_on m h.file input))
+        (λ input g. (g.0, g.1, put_later (puts_in (outcome_on m h.file input)) k k1 k2 e g.2)) h.refuses;
     early = λ early. let x = h.early early in (x.0, x.1, put_later [] k k1 k2 e x.2);
   }
 
@@ -167,8 +186,8 @@ module _ (m : Meaning) (i i1 : SourceShown) (k k1 k2 : LinkShown) (ls ls1 : List
   stops_later Stop.Usage c s h = h
   stops_later Stop.NoMemory c s h = (h.0 ∙ c, h.1, memory_later h.2)
   stops_later Stop.Keeper c s h = (h.0 ∙ ap raised c, h.1, h.2, (λ kept. h.3 (keeps_later s kept)), failed_later h.4)
-  stops_later Stop.Source c s h = (h.0, h.1 ∙ c, h.2, given_later h.3)
-  stops_later (Stop.Refused r) c s h = (h.0 ∙ c, h.1, h.2, refuses_later (refusal_view r) h.3)
+  stops_later Stop.Source c s h = (h.0, h.1 ∙ c, h.2, given_later h.3, h.4)
+  stops_later (Stop.Refused r) c s h = (h.0 ∙ c, h.1, h.2, refuses_later (refusal_view r) [] h.3)
   stops_later (Stop.Left left) c s h = (h.0 ∙ c, h.1, h.2, unput_more k k1 k2 e h.3, (h.4.0, read_before h.4.0 h.4.1, h.4.2))
   stops_later (Stop.Most text left) c s h = (h.0 ∙ c, h.1, h.2, unput_more k k1 k2 e h.3, (h.4.0, read_before h.4.0 h.4.1, h.4.2))
   stops_later (Stop.LeftFile cause) c s h = (h.0 ∙ c, h.1, h.2, unput_more k k1 k2 e h.3, (h.4.0, read_before h.4.0 h.4.1, h.4.2))

@@ -20,7 +20,7 @@ use Rattle.dr_reading.proofs.ReadingLemmas.{left_holds_no_file}
 use Rattle.dr_reading.proofs.InTurnLemmas.{read_in_turn_leaves_just}
 use Rattle.dr_serve.specs.Serving.{first_shown}
 use Rattle.dr_serve.specs.Counted.{AreLeftOf}
-use Rattle.dr_commands.specs.Meaning.{Meaning, Outcome, done, refused, scans, serves, looks_at}
+use Rattle.dr_commands.specs.Meaning.{Meaning, Outcome, done, refused, scans, serves, looks_at, stops}
 use Rattle.dr_top.specs.World.{World, told_file, file_of, IsTold, IsFileOf, outcome_on, WithFirsts}
 use Rattle.dr_top.specs.Reading.{IsLeftWith, HasMost, IsFileLeft, IsSchemaCause, LeavesTablets, LeavesFile}
 use Rattle.dr_top.specs.Ends.{Holds, IsLeft, EndsBut, PrintsMost, IsComplete, ScansTable, IsHeldWhole, IsSchemaHeld, IsServed}
@@ -84,6 +84,7 @@ not_left m before after h (inl t) = by (outcome_on m h.file []) h.scans_it
     by (looks_at path) e k = e
     by (done text puts) e k = e
     by (refused r puts) e k = e
+    by (stops said r) e k = e
 not_left m before after h (inr t) = by (outcome_on m h.file []) h.scans_it
     (outcome_at m before.keeper (λ o. IsFileLeft o before.links after.links t.0) h.file (whole_told m before h) t.3)
   where
@@ -93,6 +94,7 @@ not_left m before after h (inr t) = by (outcome_on m h.file []) h.scans_it
     by (looks_at path) e k = e
     by (done text puts) e k = e
     by (refused r puts) e k = e
+    by (stops said r) e k = e
 
 not_most : (m : Meaning) (before after : World) (text : List ℕ) (left : List LeftTablet) → IsHeldWhole m before → EndsBut m before after left text → ⊥
 not_most m before after text left h t = by (outcome_on m h.file []) h.scans_it
@@ -105,6 +107,7 @@ not_most m before after text left h t = by (outcome_on m h.file []) h.scans_it
     by (looks_at path) e k = e
     by (done text puts) e k = e
     by (refused r puts) e k = e
+    by (stops said r) e k = e
 
 -- nor is the file of `schema`
 no_cause : (path bytes : List ℕ) (s : Schema) (c : Cause) (l : LinkShown) (files : Files) → l.held ≡ Some files → IsTrue l.is_steady → files path ≡ Some bytes → schema_of_file bytes ≡ Ok s

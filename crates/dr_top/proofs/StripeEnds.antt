@@ -1,14 +1,13 @@
 -- The answer of `stripe`, from its steps.
-use Rattle.std.specs.Prelude.{◌≡◌, ℕ, List, [], ◌∷◌, None, Result, Ok, Err}
+use Rattle.std.specs.Prelude.{◌≡◌, ℕ, List, [], ◌∷◌, Some, None, Result, Ok, Err}
 use Rattle.std.proofs.Common.{refl, sym, ap, ◌∙◌, subst}
 use Rattle.dr_meaning.specs.Schema.{Schema}
 use Rattle.dr_meaning.specs.SchemaText.{SchemaFault, parse_schema}
 use Rattle.dr_meaning.specs.Record.{Node}
 use Rattle.dr_meaning.specs.Lines as line
-use Rattle.dr_formats.specs.Loading.{Put}
 use Rattle.dr_commands.specs.Refusals.{Refusal as Refused, field_refused, line_refused}
 use Rattle.dr_outside.specs.Source.{SourceShown}
-use Rattle.dr_commands.specs.Meaning.{Look, plain, done, refused, puts_in, IsEarly}
+use Rattle.dr_commands.specs.Meaning.{Look, plain, done, refused, puts_in, first_refusal, IsEarly}
 use Rattle.dr_top.specs.World.{outcome_on, Opens, Accepts}
 use Rattle.dr_top.specs.Stops.{StopsEarly, StopsReading, InputStops, input_stop, field_stop}
 use Rattle.dr_input.specs.Whole.{whole_lines}
@@ -52,13 +51,9 @@ stripe_field_early w file text s (FieldFault.Refused n x) t f h = λ input.
 
 -- ---- the records
 
-late : (l : Leaf) (recs : Result (List Node) line.Refusal) (r : Refused) (puts : List Put) → IsEarly r → plain (stripe_records l recs) ≡ refused r puts → ⊥
-late l (Ok ns) r puts early e = cc
-late l (Err x) r puts early e = let is : line_refused x ≡ r = cc in subst (λ (y : Refused). IsEarly y) (sym is) early
-
-none_refused : (l : Leaf) (recs : Result (List Node) line.Refusal) (R : List Node) (r : Refused) (puts : List Put) → recs ≡ Ok R → plain (stripe_records l recs) ≡ refused r puts → ⊥
-none_refused l (Ok ns) R r puts h e = cc
-none_refused l (Err x) R r puts h e = cc
+late : (l : Leaf) (recs : Result (List Node) line.Refusal) (r : Refused) → IsEarly r → first_refusal (plain (stripe_records l recs)) ≡ Some r → ⊥
+late l (Ok ns) r early e = cc
+late l (Err x) r early e = let is : line_refused x ≡ r = cc in subst (λ (y : Refused). IsEarly y) (sym is) early
 
 only : (a b : List Triplet) → a ∷ [] ≡ b ∷ [] → a ≡ b
 only a b e = cc
@@ -69,14 +64,13 @@ module _ (w : StripeWords) (file text : List ℕ) (s : Schema) (l : Leaf) (t : t
   by_records input r h = by_field w file text input s (Ok l) t f n ∙ ap (λ (x : Result (List Node) line.Refusal). plain (stripe_records l x)) h
 
   pub stripe_opens : Opens (outcome_on (stripe_meaning w) file)
-  stripe_opens = λ input r puts early e. late l (line.records_of s.fields most_striped input) r puts early (sym (by_records input _ refl) ∙ e)
+  stripe_opens = λ input r early e. late l (line.records_of s.fields most_striped input) r early (ap first_refusal (sym (by_records input _ refl)) ∙ e)
 
   -- what the source gave is accepted
   accepts : (i i1 : SourceShown) → AcceptsRead s.fields most_striped 0 i.left i1.left → Accepts (outcome_on (stripe_meaning w) file) i i1
   accepts i i1 a =
-      given_so i.left i1.left (λ read. (line.taken_from s.fields most_striped 1 (line.lines_of (whole_lines read))).refusal ≡ None) (λ read. (r : Refused) (puts : List Put) → outcome_on (stripe_meaning w) file (whole_lines read) ≡ refused r puts → ⊥)
-      (λ read h r puts e. none_refused l (line.records_of s.fields most_striped (whole_lines read)) (line.taken_from s.fields most_striped 1 (line.lines_of (whole_lines read))).records r puts
-      (records_accepted s.fields most_striped (whole_lines read) h) (sym (by_records (whole_lines read) _ refl) ∙ e)) a
+      given_so i.left i1.left (λ read. (line.taken_from s.fields most_striped 1 (line.lines_of (whole_lines read))).refusal ≡ None) (λ read. first_refusal (outcome_on (stripe_meaning w) file (whole_lines read)) ≡ None)
+      (λ read h. ap first_refusal (by_records (whole_lines read) _ (records_accepted s.fields most_striped (whole_lines read) h))) a
 
   pub stripe_input_stops : (i i1 : SourceShown) (fault : InputFault) → InputStops s.fields most_striped i i1 fault → StopsReading (outcome_on (stripe_meaning w) file) i i1 (input_stop fault)
   stripe_input_stops i i1 InputFault.NoMemory h = h

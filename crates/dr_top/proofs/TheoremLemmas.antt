@@ -5,7 +5,6 @@ use Rattle.std.proofs.Common.{refl, sym, ap, ◌∙◌, subst, inl, inr, arith}
 use Rattle.dr_meaning.specs.Schema.{Schema}
 use Rattle.dr_meaning.specs.Path.{Leaf}
 use Rattle.dr_meaning.specs.Record.{Node}
-use Rattle.dr_formats.specs.Loading.{Put}
 use Rattle.dr_outside.specs.Faults.{raised}
 use Rattle.dr_outside.specs.Source.{SourceShown}
 use Rattle.dr_outside.specs.Sink.{SinkShown, AddedWhole}
@@ -22,7 +21,7 @@ use Rattle.dr_reading.specs.Premises.{TabletsHold, EachHasFile}
 use Rattle.dr_reading.specs.ServingPremises.{AllTell}
 use Rattle.dr_serve.specs.Counted.{held_of}
 use Rattle.dr_commands.specs.Refusals.{Refusal as Refused}
-use Rattle.dr_commands.specs.Meaning.{Meaning, serves, refused}
+use Rattle.dr_commands.specs.Meaning.{Meaning, serves, first_refusal}
 use Rattle.dr_commands.specs.Commands.{meaning_of}
 use Rattle.dr_commands.specs.Query.{query_meaning, query_scan, query_table, query_read}
 use Rattle.dr_words.specs.Words.{meant}
@@ -64,8 +63,8 @@ pub record LinksTell (files : Files) (links : List LinkShown) : Type 0 where
 
 -- ---- the run
 
-serves_is_not_refused : (s : Scan) (n least : ℕ) (r : Refused) (puts : List Put) → serves s n least ≡ refused r puts → ⊥
-serves_is_not_refused s n least r puts e = cc
+serves_is_not_refused : (s : Scan) (n least : ℕ) (r : Refused) → first_refusal (serves s n least) ≡ Some r → ⊥
+serves_is_not_refused s n least r e = cc
 
 scans_with : (s : Scan) (n least : ℕ) → 0 < n → ScansTable s (serves s n least)
 scans_with s zero least h = absurd (omega (arith, h))
@@ -108,8 +107,8 @@ module _ (words : List (List ℕ)) (tables files : Files) (a : AsksTable words t
 
   not_refused : IsRefused m before after → ⊥
   not_refused h =
-      let r : RefusesSo m h.0 (lent_in before) (lent_in after) = h.2 in
-      serves_is_not_refused scan a.query.serving.workers a.query.least h.0 r.refuses.0 (sym (outcome_is r.file r.is_file) ∙ r.refuses.1)
+      let r : RefusesSo m h.0 h.2.0 (lent_in before) (lent_in after) = h.2.1 in
+      serves_is_not_refused scan a.query.serving.workers a.query.least h.0 (ap first_refusal (sym (outcome_is r.file r.is_file)) ∙ r.refuses.0)
 
   keeps : KeepsFile m before.keeper
   keeps = record {

@@ -1,16 +1,22 @@
 -- What the words of a command line are answered with.
-use Rattle.std.specs.Prelude.{◌≡◌, false, List, [], ◌∷◌, ◌++◌, ℕ, zero, suc, ⊤, ◌⊎◌, Option, Some, None}
+use Rattle.std.specs.Prelude.{◌≡◌, true, false, List, [], ◌∷◌, ◌++◌, ℕ, zero, suc, ⊤, ◌⊎◌, Option, Some, None}
+use Rattle.dr_meaning.specs.Schema.{Schema}
+use Rattle.dr_meaning.specs.Session.{spoken}
+use Rattle.dr_nested.specs.SchemaView.{schema_view}
 use Rattle.dr_formats.specs.Opening.{Range, end_ranges, footer_ranges}
 use Rattle.dr_outside.specs.Source.{SourceShown}
 use Rattle.dr_outside.specs.Link.{LinkShown}
 use Rattle.dr_load.specs.Puts.{HasPut}
 use Rattle.dr_file.specs.Asking.{is_for_path, is_request_for}
 use Rattle.dr_tablets.specs.Asked.{AsksHeld, AsksForTablets}
-use Rattle.dr_commands.specs.Meaning.{Meaning, Outcome, done, refused, scans, serves, looks_at, puts_in}
+use Rattle.dr_commands.specs.Meaning.{Meaning, Outcome, done, refused, scans, serves, looks_at, stops, puts_in}
+use Rattle.dr_commands.specs.Session.{session_outcome}
 use Rattle.dr_top.specs.World.{Lent, IsFileOf, ForInput, outcome_on, OpensBy, WithEach}
 use Rattle.dr_top.specs.Reading.{HasText}
 use Rattle.dr_top.specs.Keeping.{IsUnput, AsksForFile}
-use Rattle.dr_top.specs.Stops.{StopsWith}
+use Rattle.dr_top.specs.Printed.{printed}
+use Rattle.dr_top.specs.Stops.{StopsWith, IsReadBy}
+use Rattle.dr_top.specs.declared.reply.Reply.{Reply}
 use Rattle.dr_top.specs.declared.stop.Stop.{Stop}
 
 -- an outcome has this text, and its files are put, in their order
@@ -26,6 +32,23 @@ pub record Finishes (m : Meaning) (before after : Lent) (text : List ℕ) : Type
   pub gives : ForInput m.reads_input before.input.left (λ input. Gives before after text (outcome_on m file input))
   -- nothing that comes before an input that it reads is refused, also where that isn't told
   pub opens : OpensBy m.reads_input (outcome_on m file)
+
+-- a session is to begin: of its file the schema was read, and nothing else was asked for
+pub record BeginsTalk (m : Meaning) (before after : Lent) (s : Schema) : Type 0 where
+  pub talks : m.talks ≡ true
+  pub reads : m.reads_input ≡ true
+  pub file : List ℕ
+  pub is_file : IsFileOf m before.keeper file
+  -- on each input it comes to what that input's lines print
+  pub speaks : (input : List ℕ) → outcome_on m file input ≡ session_outcome (spoken s input)
+  pub unread : after.input ≡ before.input
+  pub unput : IsUnput before.keeper after.keeper
+  pub links : after.links ≡ before.links
+
+-- what a command replies: a text that is held, with the input read to its end or left alone; or a session
+abbrev pub Replies : Meaning → Lent → Lent → Reply → Type 0
+Replies m before after (Reply.Whole output) = Finishes m before after (printed output) × IsReadBy m.reads_input before.input after.input
+Replies m before after (Reply.Talk schema) = BeginsTalk m before after (schema_view schema)
 
 -- what words of this meaning are stopped by; those that mean nothing leave all as it was
 abbrev pub StopsMeant : Option Meaning → Lent → Lent → Stop → Type 0
@@ -77,6 +100,7 @@ AsksLink (serves s n least) link now = AsksForTablets s.leaves s.tablets link no
 AsksLink (looks_at path) link now = AsksHeld (is_for_path path) (λ files. is_request_for path (schema_ranges (files path))) link.held link.asked now.asked
 AsksLink (done text puts) link now = now.asked ≡ link.asked
 AsksLink (refused r puts) link now = now.asked ≡ link.asked
+AsksLink (stops text r) link now = now.asked ≡ link.asked
 
 -- each link is asked for that by the outcome on the file that was read; a command that asks links reads no input
 abbrev pub AsksNeeded : Meaning → Lent → Lent → Type 0

@@ -2,7 +2,6 @@
 use Rattle.std.specs.Prelude.{◌≡◌, ◌≢◌, ◌<◌, ℕ, zero, suc, true, false, IsTrue, List, [], ◌∷◌, codes, ◌⊎◌, ⊤, Option, Some, None, Ok, Bool}
 use Rattle.dr_meaning.specs.Schema.{Schema}
 use Rattle.dr_formats.specs.File.{schema_of_file}
-use Rattle.dr_formats.specs.Loading.{Put}
 use Rattle.dr_formats.specs.Reports.{left_file_text}
 use Rattle.dr_outside.specs.Faults.{raised}
 use Rattle.dr_outside.specs.Link.{Files, LinkShown}
@@ -13,11 +12,12 @@ use Rattle.dr_reading.specs.Premises.{EachHasFile}
 use Rattle.dr_reading.specs.Left.{LeftTablet}
 use Rattle.dr_reading.specs.LeftText.{told_cause, left_text}
 use Rattle.dr_commands.specs.Refusals.{Refusal, refusal_text}
-use Rattle.dr_commands.specs.Meaning.{Meaning, Outcome, refused, scans, serves, looks_at, IsEarly}
+use Rattle.dr_commands.specs.Meaning.{Meaning, Outcome, scans, serves, looks_at, first_refusal, IsEarly}
 use Rattle.dr_top.specs.World.{World, lent_in, IsFileOf, ForInput, outcome_on, RefusesAlways}
 use Rattle.dr_top.specs.Reading.{IsLeftWith, HasMost, IsFileLeft}
 use Rattle.dr_top.specs.Keeping.{IsUnput, KeepsFile, RefusesSo, PutsSome, PutsGiven, PutsBreak}
 use Rattle.dr_top.specs.Stops.{IsReadBy}
+use Rattle.dr_top.specs.Talking.{SpeaksFront, WritesBefore, WritesGiven, WritesWanting}
 use Rattle.dr_top.specs.Answers.{Finishes, AsksMeant, LeavesUnread, LeavesUnput, LeavesUnasked, AsksEach}
 
 -- ---- words of the clauses
@@ -65,14 +65,16 @@ Prints m before after = (text : List ℕ) × AddedWhole before.out after.out tex
 -- 1: the words mean nothing; err has the usage text, and all else stays
 abbrev pub IsUsage : Option Meaning → World → World → Type 0
 IsUsage meant before after = (meant ≡ None)
-    × Says before.err after.err (codes "usage: dremel load|query|ask|dump|stripe|fsm|schema|explain|gen|trial ..\n")
+    × Says before.err after.err (codes "usage: dremel load|query|ask|dump|stripe|fsm|schema|explain|gen|trial|session ..\n")
     × (after.input ≡ before.input) × (after.out ≡ before.out) × (after.keeper ≡ before.keeper) × (after.links ≡ before.links)
 
--- 2: the first refusal, which err names; out and the links stay. Where it isn't a line of the input that is refused, the refusal is that of
--- the file and the words whatever the input, and the input and what the keeper holds stay
+-- 2: the first refusal, which err names; the links stay, and out, but that a command that talks has written the text of the lines before the refused one.
+-- Where it isn't a line of the input that is refused, the refusal is that of the file and the words whatever the input, and the input and what the keeper
+-- holds stay
 abbrev pub IsRefused : Meaning → World → World → Type 0
-IsRefused m before after = (r : Refusal) × Says before.err after.err (refusal_text r) × RefusesSo m r (lent_in before) (lent_in after)
-    × (after.out ≡ before.out) × (after.links ≡ before.links)
+IsRefused m before after = (r : Refusal) × Says before.err after.err (refusal_text r)
+    × ((text : List ℕ) × RefusesSo m r text (lent_in before) (lent_in after) × WritesBefore m r text before.out after.out)
+    × (after.links ≡ before.links)
 
 -- 3, tablets: the command asks a link; just these are left, each with a cause for each of its copies, which err tells; all else stays
 abbrev pub TabletsLeft : Meaning → World → World → Type 0
@@ -102,12 +104,13 @@ PrintsMost m before after = (text : List ℕ) × (left : List LeftTablet) × Add
     × Says before.err after.err (left_text left) × EndsBut m before after left text
 
 -- 4, the input: nothing before it is refused, nor is a whole line that the source gave; of the files that are to be put those from the front on were put,
--- without the last one, and just those that are put before the line behind those that the source gave
+-- without the last one, and just those that are put before the line behind those that the source gave; out stays, but that a command that talks has
+-- written the text of the lines that the source gave
 abbrev pub SourceFailed : Meaning → World → World → Type 0
 SourceFailed m before after = Says before.err after.err (codes "outside: source\n")
     × HasRisen before.input.faults after.input.faults
-    × PutsGiven m (lent_in before) (lent_in after)
-    × (after.keeper.faults ≡ before.keeper.faults) × (after.out ≡ before.out) × (after.links ≡ before.links)
+    × (given : PutsGiven m (lent_in before) (lent_in after)) × WritesGiven m given.file before after
+    × (after.keeper.faults ≡ before.keeper.faults) × (after.links ≡ before.links)
 
 -- 4, the keeper, which isn't steady with the file there: it failed as the file was read, and the input and what it holds stay, or at one of the
 -- files that are to be put, where nothing before the input is refused
@@ -122,10 +125,11 @@ abbrev pub EndsWhole : Meaning → World → World → List ℕ → Type 0
 EndsWhole m before after text = Finishes m (lent_in before) (lent_in after) text
     × IsReadBy m.reads_input before.input after.input
 
--- 4, out: it holds a front of the text, which is whole or that of most tablets, and no more was asked of it than it took to find that
+-- 4, out: it holds a front of the text, which is whole, or that of most tablets, or of a command that talks that of the first lines that the source gave;
+-- and no more was asked of it than it took to find that
 abbrev pub OutFailed : Meaning → World → World → Type 0
 OutFailed m before after = (text : List ℕ) × Says before.err after.err (codes "outside: out\n")
-    × (EndsWhole m before after text ⊎ ((left : List LeftTablet) × EndsBut m before after left text))
+    × (EndsWhole m before after text ⊎ (((left : List LeftTablet) × EndsBut m before after left text) ⊎ SpeaksFront m before after text))
     × HasRisen before.out.faults after.out.faults
     × AddedFront before.out after.out text
     × (after.keeper.faults ≡ before.keeper.faults) × (after.input.faults ≡ before.input.faults)
@@ -138,9 +142,9 @@ abbrev pub PutsMeant : Option Meaning → World → World → Type 0
 PutsMeant None before after = after.keeper ≡ before.keeper
 PutsMeant (Some m) before after = PutsSome m (lent_in before) (lent_in after) ⊎ PutsBreak false m (lent_in before) (lent_in after)
 
--- 5: want of memory; nothing was printed
+-- 5: want of memory; nothing was printed, but that a command that talks may have written the text of the first lines that the source gave
 abbrev pub IsMemory : Option Meaning → World → World → Type 0
-IsMemory meant before after = Says before.err after.err (codes "no memory\n") × (after.out ≡ before.out) × PutsMeant meant before after
+IsMemory meant before after = Says before.err after.err (codes "no memory\n") × WritesWanting meant before after × PutsMeant meant before after
 
 -- ---- at every status
 
@@ -154,7 +158,7 @@ ByInput false left untold told = told
 abbrev pub Refuses : World → Meaning → Refusal → Type 0
 Refuses before m r = (file : List ℕ) × IsFileOf m before.keeper file
     × ByInput m.reads_input before.input.left (IsEarly r × RefusesAlways (outcome_on m file) r)
-    (ForInput m.reads_input before.input.left (λ input. (puts : List Put) × (outcome_on m file input ≡ refused r puts)))
+    (ForInput m.reads_input before.input.left (λ input. first_refusal (outcome_on m file input) ≡ Some r))
 
 -- nothing that the command looks at is refused: its schema or table, its FIELDs, its directories, its query, the input's lines where they are told
 abbrev pub IsAccepted : World → Meaning → Type 0

@@ -5,7 +5,7 @@ use Rattle.dr_load.specs.Puts.{HasPut, HasPutSome, BreaksOff}
 use Rattle.dr_load.specs.Given.{WhereLines}
 use Rattle.dr_outside.specs.Link.{LinkShown, Request, Holds, size_of, bytes_of}
 use Rattle.dr_commands.specs.Refusals.{Refusal}
-use Rattle.dr_commands.specs.Meaning.{Meaning, Outcome, done, refused, scans, serves, looks_at, puts_in, IsEarly}
+use Rattle.dr_commands.specs.Meaning.{Meaning, Outcome, done, refused, scans, serves, looks_at, stops, puts_in, first_refusal, text_before, IsEarly}
 use Rattle.dr_top.specs.World.{Lent, IsFileOf, ForInput, outcome_on, Opens, OpensBy, RefusesAlways, Accepts}
 
 -- ---- the file that is read
@@ -50,6 +50,7 @@ puts_before_end (refused r puts) = puts
 puts_before_end (scans s) = []
 puts_before_end (serves s workers least) = []
 puts_before_end (looks_at path) = []
+puts_before_end (stops text r) = []
 
 -- a front of the puts of its outcome was done, in their order, and no other was asked for
 pub record PutsFront (m : Meaning) (before after : Lent) : Type 0 where
@@ -90,15 +91,15 @@ pub record PutsGiven (m : Meaning) (before after : Lent) : Type 0 where
 abbrev pub IsDoneSo : List ℕ → LinkShown → LinkShown → Outcome → Type 0
 IsDoneSo text keeper keeper_now o = (puts : List Put) × (o ≡ done text puts) × HasPut puts keeper keeper_now
 
--- its first refusal, before which it has put these files, in this order
-abbrev pub IsRefusedSo : Refusal → LinkShown → LinkShown → Outcome → Type 0
-IsRefusedSo r keeper keeper_now o = (puts : List Put) × (o ≡ refused r puts) × HasPut puts keeper keeper_now
+-- this is its first refusal, before which it prints this text, and has put its files, in their order
+abbrev pub IsRefusedSo : Refusal → List ℕ → LinkShown → LinkShown → Outcome → Type 0
+IsRefusedSo r text keeper keeper_now o = (first_refusal o ≡ Some r) × (text_before o ≡ text) × HasPut (puts_in o) keeper keeper_now
 
 -- so its outcome is refused, on the file that it read
-pub record RefusesSo (m : Meaning) (r : Refusal) (before after : Lent) : Type 0 where
+pub record RefusesSo (m : Meaning) (r : Refusal) (text : List ℕ) (before after : Lent) : Type 0 where
   pub file : List ℕ
   pub is_file : IsFileOf m before.keeper file
   -- on the input, where that is told
-  pub refuses : ForInput m.reads_input before.input.left (λ input. IsRefusedSo r before.keeper after.keeper (outcome_on m file input))
+  pub refuses : ForInput m.reads_input before.input.left (λ input. IsRefusedSo r text before.keeper after.keeper (outcome_on m file input))
   -- where it isn't a line of the input that is refused, that is so whatever the input, and the input and what the keeper holds stay
   pub early : IsEarly r → RefusesAlways (outcome_on m file) r × (after.input ≡ before.input) × HasPut [] before.keeper after.keeper

@@ -14,10 +14,14 @@ pub mod NamedFile
 pub mod Fields
 -- what was read of the records of the input
 pub mod Records
+-- what a command that talks has written
+pub mod Talking
 -- what words are answered with
 pub mod Answers
 -- how a run ends
 pub mod Ends
+-- how a session over the input ends
+pub mod Held
 -- a law of queries that links serve, proved on a law function of src/
 pub mod ServedLaws
 -- the theorem to read first: a query over a table in memory

@@ -18,7 +18,7 @@ use Rattle.dr_reading.specs.InTurn.{TabletRead, IsTabletRead, GiveInTurn, LeaveI
 use Rattle.dr_serve.specs.Serving.{IsShare, first_shown}
 use Rattle.dr_serve.specs.Counted.{held_of, AreCounted, AreLeftOf}
 use Rattle.dr_serve.specs.Rounds.{causes_read, left_round}
-use Rattle.dr_commands.specs.Meaning.{Outcome, done, refused, scans, serves, looks_at}
+use Rattle.dr_commands.specs.Meaning.{Outcome, done, refused, scans, serves, looks_at, stops}
 use Rattle.dr_top.specs.World.{WithFirsts}
 
 -- ---- the text
@@ -49,6 +49,7 @@ HasText (refused r puts) links now text = ⊥
 HasText (scans s) links now text = WithFirsts links now (λ l k. IsScanned s l k text)
 HasText (serves s n least) links now text = IsServedText s (take n links) [] text
 HasText (looks_at path) links now text = WithFirsts links now (λ l k. IsLookedAt path l k text)
+HasText (stops t r) links now text = ⊥
 
 -- ---- what is left
 

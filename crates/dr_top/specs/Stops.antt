@@ -12,12 +12,13 @@ use Rattle.dr_nested.specs.declared.fault.SchemaFault.{SchemaFault}
 use Rattle.dr_input.specs.Taken.{AcceptsRead, WhereTold}
 use Rattle.dr_input.specs.Faults.{line_problem_view}
 use Rattle.dr_input.specs.declared.fault.LineProblem.{LineProblem}
+use Rattle.dr_session.specs.Faults.{problem_view as session_problem_view}
 use Rattle.dr_input.specs.declared.fault.InputFault.{InputFault}
 use Rattle.dr_outside.specs.Faults.{raised}
 use Rattle.dr_outside.specs.Source.{SourceShown}
 use Rattle.dr_outside.specs.Link.{LinkShown}
 use Rattle.dr_outside.specs.declared.fault.Fault.{Fault}
-use Rattle.dr_commands.specs.Refusals.{Refusal as Refused, schema_refused, table_refused, field_refused, words_refused, query_refused, line_refused}
+use Rattle.dr_commands.specs.Refusals.{Refusal as Refused, schema_refused, table_refused, field_refused, words_refused, query_refused, line_refused, session_refused}
 use Rattle.dr_commands.specs.Meaning.{Meaning, Outcome, refused, IsEarly}
 use Rattle.dr_words.specs.declared.words_fault.WordsFault.{WordsFault}
 use Rattle.dr_top.specs.World.{Lent, IsFileOf, outcome_on, Opens, RefusesAlways, Accepts}
@@ -41,6 +42,7 @@ refusal_view (Refusal.Table w) = table_refused (table_problem_view w)
 refusal_view (Refusal.Words w) = words_refused (words_problem_view w)
 refusal_view (Refusal.Query place p) = query_refused (query_refusal_of place p)
 refusal_view (Refusal.Line n w) = line_refused (record { line = n; fault = line_problem_view w })
+refusal_view (Refusal.Session n w) = session_refused (record { line = n; fault = session_problem_view w })
 
 -- ---- the file that a command names
 
@@ -118,10 +120,10 @@ StopsWith m before after Stop.Keeper =
     × (((after.input ≡ before.input) × IsUnput before.keeper after.keeper) ⊎ PutsBreak true m before after)
 StopsWith m before after Stop.Source =
     (after.input.faults ≡ raised before.input.faults) × (after.keeper.faults ≡ before.keeper.faults) × (after.links ≡ before.links)
-    × PutsGiven m before after
+    × PutsGiven m before after × (m.talks ≡ false)
 StopsWith m before after (Stop.Refused r) =
     (after.keeper.faults ≡ before.keeper.faults) × (after.input.faults ≡ before.input.faults) × (after.links ≡ before.links)
-    × RefusesSo m (refusal_view r) before after
+    × RefusesSo m (refusal_view r) [] before after
 StopsWith m before after (Stop.Left left) =
     (after.keeper.faults ≡ before.keeper.faults) × (0 < m.links) × (after.input ≡ before.input) × IsUnput before.keeper after.keeper
     × ((file : List ℕ) × IsFileOf m before.keeper file × IsLeftWith (outcome_on m file []) before.links after.links (all_left_view left.items))

@@ -3,12 +3,11 @@ use Rattle.std.specs.Prelude.{◌≡◌, ℕ, Bool, true, false, List, [], ◌�
 use Rattle.dr_outside.specs.Source.{SourceShown}
 use Rattle.dr_outside.specs.Sink.{SinkShown}
 use Rattle.dr_outside.specs.Link.{LinkShown, Files}
-use Rattle.dr_formats.specs.Loading.{Put}
 use Rattle.dr_reading.specs.Held.{Held, untold, absent, present, held_at}
 use Rattle.dr_commands.specs.Refusals.{Refusal}
 use Rattle.dr_input.specs.Whole.{whole_lines}
 use Rattle.dr_input.specs.Taken.{WhereGiven, WhereTold}
-use Rattle.dr_commands.specs.Meaning.{Meaning, Outcome, refused, IsEarly}
+use Rattle.dr_commands.specs.Meaning.{Meaning, Outcome, refused, first_refusal, IsEarly}
 
 -- what each thing outside shows at one moment
 pub record World : Type 0 where
@@ -68,7 +67,7 @@ outcome_on m file input = m.outcome (record { file = file; input = input })
 
 -- whatever the input, nothing that comes before it is refused
 abbrev pub Opens : (List ℕ → Outcome) → Type 0
-Opens on = (input : List ℕ) (r : Refusal) (puts : List Put) → IsEarly r → on input ≡ refused r puts → ⊥
+Opens on = (input : List ℕ) (r : Refusal) → IsEarly r → first_refusal (on input) ≡ Some r → ⊥
 
 -- whatever the input, this is refused, and nothing is put
 abbrev pub RefusesAlways : (List ℕ → Outcome) → Refusal → Type 0
@@ -76,7 +75,7 @@ RefusesAlways on r = (input : List ℕ) → on input ≡ refused r []
 
 -- of the whole lines alone that the source gave of the input, nothing is refused
 abbrev pub Accepts : (List ℕ → Outcome) → SourceShown → SourceShown → Type 0
-Accepts on input input_now = WhereGiven input.left input_now.left (λ read. (r : Refusal) (puts : List Put) → on (whole_lines read) ≡ refused r puts → ⊥)
+Accepts on input input_now = WhereGiven input.left input_now.left (λ read. first_refusal (on (whole_lines read)) ≡ None)
 
 -- nothing that comes before an input that is read is refused; nothing is said where none is
 abbrev pub OpensBy : Bool → (List ℕ → Outcome) → Type 0

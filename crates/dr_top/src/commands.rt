@@ -8,7 +8,7 @@ ghost use Rattle.dr_top.specs.Printed.{printed};
 ghost use Rattle.dr_top.specs.World.{IsFileOf, lent};
 ghost use Rattle.dr_top.specs.Keeping.{IsUnput};
 ghost use Rattle.dr_top.specs.Stops.{StopsWith, IsReadBy};
-ghost use Rattle.dr_top.specs.Answers.{Finishes, StopsMeant, AsksMeant, LeavesUnread, LeavesUnput, LeavesUnasked, LeavesLinksBy, AsksEach};
+ghost use Rattle.dr_top.specs.Answers.{Finishes, Replies, StopsMeant, AsksMeant, LeavesUnread, LeavesUnput, LeavesUnasked, LeavesLinksBy, AsksEach};
 ghost use Rattle.dr_top.specs.Ends.{ForMeant};
 
 mod ask;
@@ -18,12 +18,14 @@ mod fsm;
 mod gen_lines;
 mod load;
 mod query;
+mod session;
 mod show_schema;
 mod stripe;
 mod trial;
 
 use crate::named_file::{Kind, read_named};
 use crate::output::Output;
+use crate::reply::Reply;
 use crate::stop::Stop;
 use dr_commands::Command;
 use dr_outside::{Keeper, Link, Source};
@@ -49,10 +51,11 @@ pub fn named_file(command: &Command) -> Option<(&str, Kind)>
         Command::Explain(explain) => Some((explain.schema.as_str(), Kind::Schema)),
         Command::Gen(_) => None,
         Command::Trial(_) => None,
+        Command::Session(session) => Some((session.schema.as_str(), Kind::Schema)),
     }
 }
 
-/// What a command prints, of the file that it names.
+/// What a command that doesn't talk prints, of the file that it names.
 ///
 /// Errors: its first refusal; the keeper or the source failed; what is left; want of memory.
 fn command_answer<R: Threads + Wait + Sync, S: Source, K: Keeper, L: Link + Send>(
@@ -65,6 +68,7 @@ fn command_answer<R: Threads + Wait + Sync, S: Source, K: Keeper, L: Link + Send
     links: &mut [L],
 ) -> Result<Output, Stop>
     requires links { 16 ≤ length links.old }
+    requires silent { (meaning_of (command_view command.now)).talks ≡ false }
     requires file { IsFileOf (meaning_of (command_view command.now)) (K.shows keeper.old) file.now }
     ensures text { IfOk result (λ t. Finishes (meaning_of (command_view command.now))
         (lent (S.shows source.old) (K.shows keeper.old) (map L.shows links.old))
@@ -98,10 +102,53 @@ fn command_answer<R: Threads + Wait + Sync, S: Source, K: Keeper, L: Link + Send
         Command::Explain(explain) => explain::answer(alloc, explain, file),
         Command::Gen(values) => gen_lines::answer(alloc, values),
         Command::Trial(trial) => trial::answer(rt, alloc, trial),
+        Command::Session(_) => unreachable!(),
     }
 }
 
-/// What is printed where the words ask for it.
+/// What a command replies, of the file that it names.
+///
+/// Errors: its first refusal; the keeper or the source failed; what is left; want of memory.
+fn reply<R: Threads + Wait + Sync, S: Source, K: Keeper, L: Link + Send>(
+    rt: &R,
+    alloc: Global,
+    command: &Command,
+    file: &[u8],
+    source: &mut S,
+    keeper: &mut K,
+    links: &mut [L],
+) -> Result<Reply, Stop>
+    requires links { 16 ≤ length links.old }
+    requires file { IsFileOf (meaning_of (command_view command.now)) (K.shows keeper.old) file.now }
+    ensures replies { IfOk result (Replies (meaning_of (command_view command.now))
+        (lent (S.shows source.old) (K.shows keeper.old) (map L.shows links.old))
+        (lent (S.shows source.new) (K.shows keeper.new) (map L.shows links.new))) }
+    ensures source_calm { OnOk result ((S.shows source.new).faults ≡ (S.shows source.old).faults) }
+    ensures keeper_calm { OnOk result ((K.shows keeper.new).faults ≡ (K.shows keeper.old).faults) }
+    ensures stops { IfErr result (StopsWith (meaning_of (command_view command.now))
+        (lent (S.shows source.old) (K.shows keeper.old) (map L.shows links.old))
+        (lent (S.shows source.new) (K.shows keeper.new) (map L.shows links.new))) }
+    ensures kept { (meaning_of (command_view command.now)).puts_files ≡ false
+        → IsUnput (K.shows keeper.old) (K.shows keeper.new) }
+    ensures asked { (K.shows keeper.new).asked ≡ (K.shows keeper.old).asked }
+    ensures unread { (meaning_of (command_view command.now)).reads_input ≡ false → S.shows source.new
+        ≡ S.shows source.old }
+    ensures links { LeavesLinksBy (meaning_of (command_view command.now)).links (map L.shows links.old)
+        (map L.shows links.new) }
+    ensures reads { AsksEach (Some (meaning_of (command_view command.now)))
+        (lent (S.shows source.old) (K.shows keeper.old) (map L.shows links.old))
+        (lent (S.shows source.new) (K.shows keeper.new) (map L.shows links.new)) }
+{
+    match command {
+        Command::Session(session) => Ok(Reply::Talk(session::answer(alloc, session, file)?)),
+        _ => {
+            let output = command_answer(rt, alloc, command, file, source, keeper, links)?;
+            Ok(Reply::Whole(output))
+        }
+    }
+}
+
+/// What is replied where the words ask for it.
 ///
 /// Errors: the words ask for nothing; the command's first refusal; the keeper or the source failed; what is left; want
 /// of memory.
@@ -112,13 +159,11 @@ pub fn answer<R: Threads + Wait + Sync, S: Source, K: Keeper, L: Link + Send>(
     source: &mut S,
     keeper: &mut K,
     links: &mut [L],
-) -> Result<Output, Stop>
+) -> Result<Reply, Stop>
     requires links { 16 ≤ length links.old }
-    ensures text { IfOk result (λ t. ForMeant (meant (map string_bytes words.now)) (λ m. Finishes m
+    ensures replies { IfOk result (λ t. ForMeant (meant (map string_bytes words.now)) (λ m. Replies m
         (lent (S.shows source.old) (K.shows keeper.old) (map L.shows links.old))
-        (lent (S.shows source.new) (K.shows keeper.new) (map L.shows links.new)) (printed t))) }
-    ensures read { OnOk result (ForMeant (meant (map string_bytes words.now))
-        (λ m. IsReadBy m.reads_input (S.shows source.old) (S.shows source.new))) }
+        (lent (S.shows source.new) (K.shows keeper.new) (map L.shows links.new)) t)) }
     ensures source_calm { OnOk result ((S.shows source.new).faults ≡ (S.shows source.old).faults) }
     ensures keeper_calm { OnOk result ((K.shows keeper.new).faults ≡ (K.shows keeper.old).faults) }
     ensures stops { IfErr result (StopsMeant (meant (map string_bytes words.now))
@@ -136,5 +181,5 @@ pub fn answer<R: Threads + Wait + Sync, S: Source, K: Keeper, L: Link + Send>(
     let read = read_words(alloc, words)?;
     let command = Box::new(alloc, read)?;
     let file = read_named(alloc, &command, keeper)?;
-    command_answer(rt, alloc, &command, &file, source, keeper, links)
+    reply(rt, alloc, &command, &file, source, keeper, links)
 }

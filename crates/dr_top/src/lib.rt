@@ -10,10 +10,13 @@ mod left_file;
 mod named_file;
 mod output;
 mod refusal;
+mod reply;
 mod report;
 mod running;
 mod service;
 mod stop;
+mod talking;
+mod telling;
 mod theorem;
 
 pub use laws::{gen_refuses_nothing, served_prints_meaning};

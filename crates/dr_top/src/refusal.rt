@@ -7,6 +7,8 @@ ghost use Rattle.dr_json.specs.Faults.{record_problem_view};
 ghost use Rattle.dr_formats.specs.Reports.{table_fault_name, table_refusal_text, words_refusal_text};
 ghost use Rattle.dr_table.specs.Faults.{problem_view as table_problem_view};
 ghost use Rattle.dr_commands.specs.Refusals.{refusal_text};
+ghost use Rattle.dr_meaning.specs.Session.{session_fault_name, session_refusal_text};
+ghost use Rattle.dr_session.specs.Faults.{problem_view as session_problem_view};
 ghost use Rattle.dr_load.specs.Words.{words_problem_view};
 ghost use Rattle.dr_bind.specs.Faults.{refusal_of as query_refusal_of};
 ghost use Rattle.dr_input.specs.Faults.{line_problem_view};
@@ -18,6 +20,7 @@ use dr_input::LineProblem;
 use dr_json::RecordProblem;
 use dr_load::WordsProblem;
 use dr_nested::{PathProblem, SchemaProblem};
+use dr_session::SessionProblem;
 use dr_table::TableProblem;
 use itoa::Buffer;
 
@@ -47,6 +50,11 @@ pub enum Refusal {
     Line {
         number: u64,
         problem: LineProblem,
+    },
+    /// The first line of a session that is refused, counted from 1.
+    Session {
+        number: u64,
+        problem: SessionProblem,
     },
 }
 
@@ -206,6 +214,41 @@ fn line_report(number: u64, problem: LineProblem) -> Report
     report
 }
 
+/// Appends the words for the problem of a session's line.
+fn push_session_problem(report: &mut Report, problem: SessionProblem)
+    requires { length report.old ≤ 60 }
+    ensures bytes { report.new ≡ report.old ++ session_fault_name (session_problem_view problem) }
+    ensures len { length report.new ≤ length report.old + 100 }
+{
+    match problem {
+        SessionProblem::TooLong => report.push("LineTooLong"),
+        SessionProblem::TooManyLines => report.push("TooManyLines"),
+        SessionProblem::TooManyRecords => report.push("TooManyRecords"),
+        SessionProblem::Record(problem) => report.push(record_word(problem)),
+        SessionProblem::Full => report.push("Full"),
+        SessionProblem::Query { place, problem } => {
+            report.push("query at ");
+            push_number(report, place as u64);
+            report.push(": ");
+            report.push(problem.name());
+        }
+        SessionProblem::Command => report.push("Command"),
+    }
+}
+
+/// `refused line N: WHAT`, of a session.
+fn session_report(number: u64, problem: SessionProblem) -> Report
+    ensures { result ≡ session_refusal_text (record { line = number; fault = session_problem_view problem }) }
+{
+    let mut report = Report::new();
+    report.push("refused line ");
+    push_number(&mut report, number);
+    report.push(": ");
+    push_session_problem(&mut report, problem);
+    report.push("\n");
+    report
+}
+
 /// `refused query at B: WHAT`.
 fn query_report(place: usize, problem: QueryProblem) -> Report
     ensures { result ≡ query_refusal_text (query_refusal_of place problem) }
@@ -231,6 +274,7 @@ impl Refusal {
             Refusal::Field { number, problem } => field_report(number, problem),
             Refusal::Query { place, problem } => query_report(place, problem),
             Refusal::Line { number, problem } => line_report(number, problem),
+            Refusal::Session { number, problem } => session_report(number, problem),
         }
     }
 }

@@ -3,24 +3,20 @@
 ghost use Rattle.std.specs.Prelude.{◌≡◌, ◌≢◌, ◌≤◌, ◌⊎◌, length, map, string_bytes};
 ghost use Rattle.dr_words.specs.Words.{Taken, meant};
 ghost use Rattle.dr_top.specs.World.{world};
-ghost use Rattle.dr_top.specs.Ends.{Says, Holds, Prints, IsUsage, IsRefused, IsLeft, PrintsMost, IsOutside, IsMemory, SameCounts, LeavesInput, LeavesFiles, AsksKeeper, AsksLinks, LeavesLinks, IsComplete, IsServed};
+ghost use Rattle.dr_top.specs.Ends.{Holds, Prints, IsUsage, IsRefused, IsLeft, PrintsMost, IsOutside, IsMemory, SameCounts, LeavesInput, LeavesFiles, AsksKeeper, AsksLinks, LeavesLinks, IsComplete, IsServed};
 
 use crate::commands::answer;
 use crate::left_file::left_file_report;
+use crate::reply::Reply;
 use crate::stop::Stop;
+use crate::talking::hold_session;
+use crate::telling::say;
 use dr_outside::{Keeper, Link, Sink, Source, write_all};
 use dr_tablets::left_text;
 use dr_words::USAGE;
 use std::alloc::Global;
 use std::sync::Wait;
 use std::thread::Threads;
-
-/// Writes a line on standard error; a failure changes nothing else.
-fn say<E: Sink>(err: &mut E, line: &[u8])
-    ensures { Says (E.shows err.old) (E.shows err.new) line.now }
-{
-    let _ = write_all(err, line);
-}
 
 /// Does what the words ask, of which the first is the program's name, and answers the program's status.
 ///
@@ -29,7 +25,8 @@ fn say<E: Sink>(err: &mut E, line: &[u8])
 /// that the command looks at. 3: tablets of a table are left, or the file of `schema`, each with its cause. 4: the
 /// source, the sink or the keeper failed. 5: want of memory. 6: tablets are left, each with its cause, and the whole
 /// text of the others was written, which are the share that the words ask for. What isn't 0 has a line on standard
-/// error.
+/// error. A session writes the text of each line before it reads the next; no other command writes before its end is
+/// known.
 ///
 /// The clauses speak of what the things outside show before the call and after it.
 pub fn run<R: Threads + Wait + Sync, S: Source, O: Sink, E: Sink, K: Keeper, L: Link + Send>(
@@ -93,13 +90,14 @@ pub fn run<R: Threads + Wait + Sync, S: Source, O: Sink, E: Sink, K: Keeper, L: 
         (world (S.shows source.new) (O.shows out.new) (E.shows err.new) (K.shows keeper.new) (map L.shows links.new)) }
 {
     match answer(rt, alloc, words, source, keeper, links) {
-        Ok(mut output) => match output.write_to(out) {
+        Ok(Reply::Whole(mut output)) => match output.write_to(out) {
             Ok(()) => 0,
             Err(_) => {
                 say(err, b"outside: out\n");
                 4
             }
         },
+        Ok(Reply::Talk(schema)) => hold_session(rt, alloc, &schema, source, out, err),
         Err(Stop::Usage) => {
             say(err, USAGE.as_bytes());
             1

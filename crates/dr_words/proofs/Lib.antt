@@ -15,6 +15,7 @@ mod ShowSchemaLemmas
 mod ExplainLemmas
 mod GenLemmas
 mod TrialLemmas
+mod SessionLemmas
 -- numbers that options have
 mod NumberLemmas
 -- clap's definitions of faults and of taken words agree

@@ -29,6 +29,7 @@ use Rattle.dr_words.proofs.FsmLemmas.{fsm_has_values}
 use Rattle.dr_words.proofs.ExplainLemmas.{explain_has_values}
 use Rattle.dr_words.proofs.GenLemmas.{gen_has_values}
 use Rattle.dr_words.proofs.TrialLemmas.{trial_has_values}
+use Rattle.dr_words.proofs.SessionLemmas.{session_has_values}
 
 -- ---- where clap takes words, and where it finds no fault
 
@@ -115,7 +116,7 @@ found_has_values (s ∷ rest) name words have passes there none =
 
 -- one part for each subcommand
 all_have_values : HaveValues completed.subs
-all_have_values = (load_has_values, (query_has_values, (ask_has_values, (dump_has_values, (stripe_has_values, (fsm_has_values, (show_schema_has_values, (explain_has_values, (gen_has_values, (trial_has_values, tt))))))))))
+all_have_values = (load_has_values, (query_has_values, (ask_has_values, (dump_has_values, (stripe_has_values, (fsm_has_values, (show_schema_has_values, (explain_has_values, (gen_has_values, (trial_has_values, (session_has_values, tt)))))))))))
 
 entered_has_values : (stop : Option (Text × List Text)) → entered_passes completed stop ≡ true → is_some (entered completed stop) ≡ true
     → words_in (entered completed stop) ≡ None → ⊥

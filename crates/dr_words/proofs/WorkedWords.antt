@@ -7,7 +7,7 @@ use Rattle.dr_formats.specs.Page.{PageForm, data_page_v1, data_page_v2}
 use Rattle.dr_commands.specs.Ask.{AskWords, ask_meaning}
 use Rattle.dr_commands.specs.Query.{QueryWords, query_meaning}
 use Rattle.dr_commands.specs.Serving.{ServingWords}
-use Rattle.dr_commands.specs.Commands.{CommandWords, load, ask, dump, stripe, fsm, show_schema, explain, query as query_words}
+use Rattle.dr_commands.specs.Commands.{CommandWords, load, ask, dump, stripe, fsm, show_schema, explain, session, query as query_words}
 use Rattle.dr_words.specs.Words.{Taken, asked, dremel_app}
 
 abbrev query : Text
@@ -133,6 +133,16 @@ explain_is_asked = refl
 pub nothing_explained : asked (codes "dremel" ∷ codes "explain" ∷ query ∷ []) ≡ None
 unfolding clap_on_literals
 nothing_explained = refl
+
+-- a session; its schema has to be named, and nothing else is
+pub session_is_asked : asked (codes "dremel" ∷ codes "session" ∷ codes "--schema" ∷ codes "document.txt" ∷ []) ≡ Some (session (record { schema = codes "document.txt" }))
+unfolding clap_on_literals
+session_is_asked = refl
+
+pub no_session : (asked (codes "dremel" ∷ codes "session" ∷ []) ≡ None) × (asked (codes "dremel" ∷ codes "session" ∷ codes "--schema" ∷ codes "document.txt" ∷ query ∷ []) ≡ None)
+    × (asked (codes "dremel" ∷ codes "session" ∷ codes "--rows" ∷ codes "2" ∷ codes "--schema" ∷ codes "document.txt" ∷ []) ≡ None)
+unfolding clap_on_literals
+no_session = (refl, refl, refl)
 
 -- ---- the other commands
 

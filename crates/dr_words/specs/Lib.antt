@@ -13,5 +13,6 @@ pub mod ShowSchema
 pub mod Explain
 pub mod Gen
 pub mod Trial
+pub mod Session
 -- what the words of a command line ask for
 pub mod Words

@@ -3,7 +3,7 @@ use Rattle.std.specs.Prelude.{◌≡◌, ◌↔◌, IsSome, true, List, [], ◌�
 use Rattle.std.specs.Str.{bytes_eq}
 use Rattle.clap.specs.Words.{App, Row, Shape, Text, fault_of, new_app, subcommand_of, takes, with_subcommand}
 use Rattle.dr_commands.specs.Meaning.{Meaning}
-use Rattle.dr_commands.specs.Commands.{CommandWords, meaning_of, load, query, ask, dump, stripe, fsm, show_schema, explain, gen, trial}
+use Rattle.dr_commands.specs.Commands.{CommandWords, meaning_of, load, query, ask, dump, stripe, fsm, show_schema, explain, gen, trial, session}
 use Rattle.dr_words.specs.Load.{load_app, load_words}
 use Rattle.dr_words.specs.Query.{query_app, query_words}
 use Rattle.dr_words.specs.Dump.{dump_app, dump_words}
@@ -14,11 +14,12 @@ use Rattle.dr_words.specs.Fsm.{fsm_app, fsm_words}
 use Rattle.dr_words.specs.Explain.{explain_app, explain_words}
 use Rattle.dr_words.specs.Gen.{gen_app, gen_words}
 use Rattle.dr_words.specs.Trial.{trial_app, trial_words}
+use Rattle.dr_words.specs.Session.{session_app, session_words}
 
 -- each subcommand
 abbrev pub subcommands : List Shape
 subcommands = load_app.top ∷ query_app.top ∷ ask_app.top ∷ dump_app.top ∷ stripe_app.top ∷ fsm_app.top ∷ show_schema_app.top ∷ explain_app.top
-    ∷ gen_app.top ∷ trial_app.top ∷ []
+    ∷ gen_app.top ∷ trial_app.top ∷ session_app.top ∷ []
 
 -- `dremel`, before its subcommands join: one of them has to be named, and no word asks for help
 abbrev pub bare_app : App
@@ -46,7 +47,8 @@ words_of name rows =
     else (if bytes_eq name (codes "schema") then option_map show_schema (show_schema_words rows)
     else (if bytes_eq name (codes "explain") then option_map explain (explain_words rows)
     else (if bytes_eq name (codes "gen") then Some (gen (gen_words rows))
-    else (if bytes_eq name (codes "trial") then Some (trial (trial_words rows)) else None)))))))))
+    else (if bytes_eq name (codes "trial") then Some (trial (trial_words rows))
+    else (if bytes_eq name (codes "session") then option_map session (session_words rows) else None))))))))))
 
 abbrev pub words_in : Option (Text × List Row) → Option CommandWords
 words_in = option_and_then (λ entered. words_of entered.0 entered.1)

@@ -14,6 +14,7 @@ mod fsm_words;
 mod gen_words;
 mod load_words;
 mod query_words;
+mod session_words;
 mod show_schema_words;
 mod stripe_words;
 mod trial_words;
@@ -25,6 +26,7 @@ use crate::commands::fsm_words::{fsm_command, fsm_of};
 use crate::commands::gen_words::{gen_command, gen_of};
 use crate::commands::load_words::{load_command, load_of};
 use crate::commands::query_words::{query_command, query_of};
+use crate::commands::session_words::{session_command, session_of};
 use crate::commands::show_schema_words::{show_schema_command, show_schema_of};
 use crate::commands::stripe_words::{stripe_command, stripe_of};
 use crate::commands::trial_words::{trial_command, trial_of};
@@ -35,7 +37,7 @@ use std::alloc::{AllocError, Global};
 
 /// What is printed where the words are refused.
 pub const USAGE: &str =
-    "usage: dremel load|query|ask|dump|stripe|fsm|schema|explain|gen|trial ..\n";
+    "usage: dremel load|query|ask|dump|stripe|fsm|schema|explain|gen|trial|session ..\n";
 
 /// The command before its subcommands join it. No word asks for help: those that would are refused as unknown.
 fn bare_command<'a>(alloc: Global) -> clap::Command<'a>
@@ -72,7 +74,8 @@ pub fn dremel_command<'a>(alloc: Global) -> Result<clap::Command<'a>, AllocError
     let command = with_command(command, show_schema_command(alloc))?;
     let command = with_command(command, explain_command(alloc))?;
     let command = with_command(command, gen_command(alloc))?;
-    with_command(command, trial_command(alloc))
+    let command = with_command(command, trial_command(alloc))?;
+    with_command(command, session_command(alloc))
 }
 
 /// The command of a subcommand's name and its values.
@@ -92,6 +95,7 @@ fn named_command(alloc: Global, name: &str, values: &ArgMatches<'_>) -> Result<C
         "explain" => Ok(Command::Explain(explain_of(alloc, values)?)),
         "gen" => Ok(Command::Gen(gen_of(values))),
         "trial" => Ok(Command::Trial(trial_of(values))),
+        "session" => Ok(Command::Session(session_of(alloc, values)?)),
         _ => Err(WordsFault::Usage),
     }
 }

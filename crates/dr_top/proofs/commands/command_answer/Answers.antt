@@ -57,7 +57,7 @@ returns-in-Ask-clause-stops g c =
     let before = lent (g.S.Source.shows c.args.source.now) (g.K.Link.shows c.args.keeper.now) (map g.L.Link.shows c.args.links.now) in
     let after = lent (g.S.Source.shows c.answer-in-Ask.new.source) (g.K.Link.shows c.args.keeper.now) (map g.L.Link.shows c.args.links.now) in
     subst (λ (w : CommandWords). IsFileOf (meaning_of w) before.keeper c.args.file.now → IfErr c.answer-in-Ask.result (StopsWith (meaning_of w) before after)) (sym (ap command_view c.in-Ask.is))
-    (λ is. err_so _ _ c.answer-in-Ask.result (reading_stops (ask_meaning (ask_view c.in-Ask.ask)) before c.args.file.now is after.input refl (ask_puts (ask_view c.in-Ask.ask))) c.answer-in-Ask.ensures.stops) c.requires.file
+    (λ is. err_so _ _ c.answer-in-Ask.result (λ stop. reading_stops (ask_meaning (ask_view c.in-Ask.ask)) before c.args.file.now is after.input refl (ask_puts (ask_view c.in-Ask.ask)) stop refl) c.answer-in-Ask.ensures.stops) c.requires.file
 
 pub returns-in-Ask-clause-reads : goal.returns-in-Ask-clause-reads
 returns-in-Ask-clause-reads g c = none_asked_of (meaning_of (command_view c.args.command.now)) (lent (g.S.Source.shows c.args.source.now) (g.K.Link.shows c.args.keeper.now) (map g.L.Link.shows c.args.links.now)) (lent (g.S.Source.shows c.answer-in-Ask.new.source) (g.K.Link.shows c.args.keeper.now) (map g.L.Link.shows c.args.links.now)) refl
@@ -74,7 +74,7 @@ returns-in-Stripe-clause-stops g c =
     let before = lent (g.S.Source.shows c.args.source.now) (g.K.Link.shows c.args.keeper.now) (map g.L.Link.shows c.args.links.now) in
     let after = lent (g.S.Source.shows c.answer-in-Stripe.new.source) (g.K.Link.shows c.args.keeper.now) (map g.L.Link.shows c.args.links.now) in
     subst (λ (w : CommandWords). IsFileOf (meaning_of w) before.keeper c.args.file.now → IfErr c.answer-in-Stripe.result (StopsWith (meaning_of w) before after)) (sym (ap command_view c.in-Stripe.is))
-    (λ is. err_so _ _ c.answer-in-Stripe.result (reading_stops (stripe_meaning (stripe_view c.in-Stripe.stripe)) before c.args.file.now is after.input refl (stripe_puts (stripe_view c.in-Stripe.stripe))) c.answer-in-Stripe.ensures.stops) c.requires.file
+    (λ is. err_so _ _ c.answer-in-Stripe.result (λ stop. reading_stops (stripe_meaning (stripe_view c.in-Stripe.stripe)) before c.args.file.now is after.input refl (stripe_puts (stripe_view c.in-Stripe.stripe)) stop refl) c.answer-in-Stripe.ensures.stops) c.requires.file
 
 pub returns-in-Stripe-clause-reads : goal.returns-in-Stripe-clause-reads
 returns-in-Stripe-clause-reads g c = none_asked_of (meaning_of (command_view c.args.command.now)) (lent (g.S.Source.shows c.args.source.now) (g.K.Link.shows c.args.keeper.now) (map g.L.Link.shows c.args.links.now)) (lent (g.S.Source.shows c.answer-in-Stripe.new.source) (g.K.Link.shows c.args.keeper.now) (map g.L.Link.shows c.args.links.now)) refl

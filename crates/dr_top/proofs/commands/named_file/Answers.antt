@@ -6,6 +6,7 @@ use Rattle.dr_commands.specs.Dump.{dump_meaning, dump_view}
 use Rattle.dr_commands.specs.Stripe.{stripe_meaning, stripe_view}
 use Rattle.dr_commands.specs.Fsm.{fsm_meaning, fsm_view}
 use Rattle.dr_commands.specs.Explain.{explain_meaning, explain_view}
+use Rattle.dr_commands.specs.Session.{session_meaning, session_view}
 use Rattle.dr_commands.specs.Commands.{CommandWords, meaning_of, command_view}
 use Rattle.dr_top.specs.NamedFile.{RefusesLonger}
 use Rattle.dr_top.specs.declared.named_file.Kind.{Kind}
@@ -17,6 +18,7 @@ use Rattle.dr_top.proofs.DumpEnds.{dump_refuses_table}
 use Rattle.dr_top.proofs.StripeEnds.{stripe_refuses_schema}
 use Rattle.dr_top.proofs.FsmEnds.{fsm_refuses_schema}
 use Rattle.dr_top.proofs.ExplainEnds.{explain_refuses_schema}
+use Rattle.dr_top.proofs.SessionEnds.{session_refuses_schema}
 use Rattle.dr_top.proofs.commands.named_file.Goals as goal
 
 pub returns-in-Load-clause-longer : goal.returns-in-Load-clause-longer
@@ -46,3 +48,7 @@ returns-in-Fsm-clause-longer c =
 pub returns-in-Explain-clause-longer : goal.returns-in-Explain-clause-longer
 returns-in-Explain-clause-longer c =
     subst (λ (w : CommandWords). RefusesLonger (meaning_of w) Kind.Schema) (sym (ap command_view c.in-Explain.is)) (schema_longer (explain_meaning (explain_view c.in-Explain.explain)) (explain_refuses_schema (explain_view c.in-Explain.explain)))
+
+pub returns-in-Session-clause-longer : goal.returns-in-Session-clause-longer
+returns-in-Session-clause-longer c =
+    subst (λ (w : CommandWords). RefusesLonger (meaning_of w) Kind.Schema) (sym (ap command_view c.in-Session.is)) (schema_longer (session_meaning (session_view c.in-Session.session)) (session_refuses_schema (session_view c.in-Session.session)))

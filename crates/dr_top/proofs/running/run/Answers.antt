@@ -3,24 +3,95 @@ use Rattle.dr_outside.specs.Sink.{AddedWhole, AddedFront}
 use Rattle.dr_reading.specs.LeftText.{left_text}
 use Rattle.dr_tablets.specs.Views.{all_left_view}
 use Rattle.dr_tablets.specs.declared.left.LeftTablet.{LeftTablet}
+use Rattle.dr_nested.specs.SchemaView.{schema_view}
 use Rattle.dr_words.specs.Words.{meant}
 use Rattle.dr_top.specs.Printed.{printed}
 use Rattle.dr_top.specs.World.{lent}
-use Rattle.dr_top.specs.Ends.{Says}
-use Rattle.dr_top.specs.Answers.{StopsMeant}
+use Rattle.dr_top.specs.Ends.{Says, ForMeant}
+use Rattle.dr_top.specs.Answers.{Replies, StopsMeant}
+use Rattle.dr_top.specs.declared.reply.Reply.{Reply}
 use Rattle.dr_top.specs.declared.stop.Stop.{Stop}
 use Rattle.dr_top.proofs.RunLemmas.{prints_end, out_failed, usage_end, usage_counts, usage_incomplete, memory_end, memory_counts, source_failed, source_incomplete, keeper_failed, keeper_incomplete, refused_end, refused_counts, refused_incomplete, left_end, left_counts, left_memory, most_end, most_failed, most_counts, most_memory, file_end, file_counts, file_incomplete}
+use Rattle.dr_top.proofs.TalkLemmas.{talk_prints, talk_refused, talk_outside, talk_memory, talk_usage, talk_left, talk_most, talk_known, talk_calm, talk_complete, talk_served}
 use Rattle.dr_top.proofs.ServedLemmas.{served_by, served_else, left_complete, most_served, most_complete}
 use Rattle.dr_top.proofs.running.run.Goals as goal
 
-pub returns-in-Ok-write_to-clause-prints : goal.returns-in-Ok-write_to-clause-prints
-returns-in-Ok-write_to-clause-prints g c = λ _.
-    prints_end _ _ _ _ _ _ _ _ _ _ (meant (map string_bytes c.args.words.now)) (printed c.in-Ok.output) c.in-Ok.ensures.text c.in-Ok.ensures.read c.in-Ok-write_to.ensures.whole refl
+pub returns-in-Ok-clause-prints : goal.returns-in-Ok-clause-prints
+returns-in-Ok-clause-prints g c = λ _.
+    let whole : c.in-Ok-Whole.field-0 ≡ Reply.Whole c.in-Ok-Whole.output = cc (c.in-Ok-Whole.field-0-is) in
+    prints_end _ _ _ _ _ _ _ _ _ _ (meant (map string_bytes c.args.words.now)) (printed c.in-Ok-Whole.output) (subst (λ (r : Reply). ForMeant (meant (map string_bytes c.args.words.now)) (λ m. Replies m (lent (g.S.Source.shows c.args.source.now) (g.K.Link.shows c.args.keeper.now) (map g.L.Link.shows c.args.links.now)) (lent (g.S.Source.shows c.answer.new.source) (g.K.Link.shows c.answer.new.keeper) (map g.L.Link.shows c.answer.new.links)) r)) whole c.in-Ok-Whole.ensures.replies) c.in-Ok.ensures.whole refl
 
-pub returns-in-Ok-clause-outside : goal.returns-in-Ok-clause-outside
-returns-in-Ok-clause-outside g c = λ _.
-    out_failed _ _ _ _ _ _ _ _ _ _ (meant (map string_bytes c.args.words.now)) (printed c.in-Ok.output) c.in-Ok.ensures.text c.in-Ok.ensures.read
-    c.in-Err.ensures.front c.in-Err.ensures.cause c.in-Ok.ensures.keeper_calm c.in-Ok.ensures.source_calm c.say.ensures
+pub returns-in-Ok-Whole-clause-outside : goal.returns-in-Ok-Whole-clause-outside
+returns-in-Ok-Whole-clause-outside g c = λ _.
+    let whole : c.in-Ok-Whole.field-0 ≡ Reply.Whole c.in-Ok-Whole.output = cc (c.in-Ok-Whole.field-0-is) in
+    out_failed _ _ _ _ _ _ _ _ _ _ (meant (map string_bytes c.args.words.now)) (printed c.in-Ok-Whole.output) (subst (λ (r : Reply). ForMeant (meant (map string_bytes c.args.words.now)) (λ m. Replies m (lent (g.S.Source.shows c.args.source.now) (g.K.Link.shows c.args.keeper.now) (map g.L.Link.shows c.args.links.now)) (lent (g.S.Source.shows c.answer.new.source) (g.K.Link.shows c.answer.new.keeper) (map g.L.Link.shows c.answer.new.links)) r)) whole c.in-Ok-Whole.ensures.replies)
+    c.in-Err.ensures.front c.in-Err.ensures.cause c.in-Ok-Whole.ensures.keeper_calm c.in-Ok-Whole.ensures.source_calm c.say.ensures
+
+pub returns-in-Ok-Talk-clause-prints : goal.returns-in-Ok-Talk-clause-prints
+returns-in-Ok-Talk-clause-prints g c =
+    let talk : c.in-Ok-Talk.field-0 ≡ Reply.Talk c.in-Ok-Talk.schema = cc (c.in-Ok-Talk.field-0-is) in
+    talk_prints (schema_view c.in-Ok-Talk.schema) (g.S.Source.shows c.args.source.now) (g.S.Source.shows c.answer.new.source) (g.S.Source.shows c.hold_session.new.source) (g.O.Sink.shows c.args.out.now) (g.O.Sink.shows c.hold_session.new.out) (g.E.Sink.shows c.args.err.now) (g.E.Sink.shows c.hold_session.new.err) (g.K.Link.shows c.args.keeper.now) (g.K.Link.shows c.answer.new.keeper) (map g.L.Link.shows c.args.links.now) (map g.L.Link.shows c.answer.new.links) c.hold_session.result
+    c.hold_session.ensures.prints c.hold_session.ensures.silent c.hold_session.ensures.refused c.hold_session.ensures.outside c.hold_session.ensures.memory c.hold_session.ensures.known (meant (map string_bytes c.args.words.now)) (subst (λ (r : Reply). ForMeant (meant (map string_bytes c.args.words.now)) (λ m. Replies m (lent (g.S.Source.shows c.args.source.now) (g.K.Link.shows c.args.keeper.now) (map g.L.Link.shows c.args.links.now)) (lent (g.S.Source.shows c.answer.new.source) (g.K.Link.shows c.answer.new.keeper) (map g.L.Link.shows c.answer.new.links)) r)) talk c.in-Ok-Talk.ensures.replies)
+
+pub returns-in-Ok-Talk-clause-refused : goal.returns-in-Ok-Talk-clause-refused
+returns-in-Ok-Talk-clause-refused g c =
+    let talk : c.in-Ok-Talk.field-0 ≡ Reply.Talk c.in-Ok-Talk.schema = cc (c.in-Ok-Talk.field-0-is) in
+    talk_refused (schema_view c.in-Ok-Talk.schema) (g.S.Source.shows c.args.source.now) (g.S.Source.shows c.answer.new.source) (g.S.Source.shows c.hold_session.new.source) (g.O.Sink.shows c.args.out.now) (g.O.Sink.shows c.hold_session.new.out) (g.E.Sink.shows c.args.err.now) (g.E.Sink.shows c.hold_session.new.err) (g.K.Link.shows c.args.keeper.now) (g.K.Link.shows c.answer.new.keeper) (map g.L.Link.shows c.args.links.now) (map g.L.Link.shows c.answer.new.links) c.hold_session.result
+    c.hold_session.ensures.prints c.hold_session.ensures.silent c.hold_session.ensures.refused c.hold_session.ensures.outside c.hold_session.ensures.memory c.hold_session.ensures.known (meant (map string_bytes c.args.words.now)) (subst (λ (r : Reply). ForMeant (meant (map string_bytes c.args.words.now)) (λ m. Replies m (lent (g.S.Source.shows c.args.source.now) (g.K.Link.shows c.args.keeper.now) (map g.L.Link.shows c.args.links.now)) (lent (g.S.Source.shows c.answer.new.source) (g.K.Link.shows c.answer.new.keeper) (map g.L.Link.shows c.answer.new.links)) r)) talk c.in-Ok-Talk.ensures.replies)
+
+pub returns-in-Ok-Talk-clause-outside : goal.returns-in-Ok-Talk-clause-outside
+returns-in-Ok-Talk-clause-outside g c =
+    let talk : c.in-Ok-Talk.field-0 ≡ Reply.Talk c.in-Ok-Talk.schema = cc (c.in-Ok-Talk.field-0-is) in
+    talk_outside (schema_view c.in-Ok-Talk.schema) (g.S.Source.shows c.args.source.now) (g.S.Source.shows c.answer.new.source) (g.S.Source.shows c.hold_session.new.source) (g.O.Sink.shows c.args.out.now) (g.O.Sink.shows c.hold_session.new.out) (g.E.Sink.shows c.args.err.now) (g.E.Sink.shows c.hold_session.new.err) (g.K.Link.shows c.args.keeper.now) (g.K.Link.shows c.answer.new.keeper) (map g.L.Link.shows c.args.links.now) (map g.L.Link.shows c.answer.new.links) c.hold_session.result
+    c.hold_session.ensures.prints c.hold_session.ensures.silent c.hold_session.ensures.refused c.hold_session.ensures.outside c.hold_session.ensures.memory c.hold_session.ensures.known (meant (map string_bytes c.args.words.now)) c.in-Ok-Talk.ensures.keeper_calm (subst (λ (r : Reply). ForMeant (meant (map string_bytes c.args.words.now)) (λ m. Replies m (lent (g.S.Source.shows c.args.source.now) (g.K.Link.shows c.args.keeper.now) (map g.L.Link.shows c.args.links.now)) (lent (g.S.Source.shows c.answer.new.source) (g.K.Link.shows c.answer.new.keeper) (map g.L.Link.shows c.answer.new.links)) r)) talk c.in-Ok-Talk.ensures.replies)
+
+pub returns-in-Ok-Talk-clause-memory : goal.returns-in-Ok-Talk-clause-memory
+returns-in-Ok-Talk-clause-memory g c =
+    let talk : c.in-Ok-Talk.field-0 ≡ Reply.Talk c.in-Ok-Talk.schema = cc (c.in-Ok-Talk.field-0-is) in
+    talk_memory (schema_view c.in-Ok-Talk.schema) (g.S.Source.shows c.args.source.now) (g.S.Source.shows c.answer.new.source) (g.S.Source.shows c.hold_session.new.source) (g.O.Sink.shows c.args.out.now) (g.O.Sink.shows c.hold_session.new.out) (g.E.Sink.shows c.args.err.now) (g.E.Sink.shows c.hold_session.new.err) (g.K.Link.shows c.args.keeper.now) (g.K.Link.shows c.answer.new.keeper) (map g.L.Link.shows c.args.links.now) (map g.L.Link.shows c.answer.new.links) c.hold_session.result
+    c.hold_session.ensures.prints c.hold_session.ensures.silent c.hold_session.ensures.refused c.hold_session.ensures.outside c.hold_session.ensures.memory c.hold_session.ensures.known (meant (map string_bytes c.args.words.now)) (subst (λ (r : Reply). ForMeant (meant (map string_bytes c.args.words.now)) (λ m. Replies m (lent (g.S.Source.shows c.args.source.now) (g.K.Link.shows c.args.keeper.now) (map g.L.Link.shows c.args.links.now)) (lent (g.S.Source.shows c.answer.new.source) (g.K.Link.shows c.answer.new.keeper) (map g.L.Link.shows c.answer.new.links)) r)) talk c.in-Ok-Talk.ensures.replies)
+
+pub returns-in-Ok-Talk-clause-calm : goal.returns-in-Ok-Talk-clause-calm
+returns-in-Ok-Talk-clause-calm g c =
+    let talk : c.in-Ok-Talk.field-0 ≡ Reply.Talk c.in-Ok-Talk.schema = cc (c.in-Ok-Talk.field-0-is) in
+    talk_calm (schema_view c.in-Ok-Talk.schema) (g.S.Source.shows c.args.source.now) (g.S.Source.shows c.answer.new.source) (g.S.Source.shows c.hold_session.new.source) (g.O.Sink.shows c.args.out.now) (g.O.Sink.shows c.hold_session.new.out) (g.E.Sink.shows c.args.err.now) (g.E.Sink.shows c.hold_session.new.err) (g.K.Link.shows c.args.keeper.now) (g.K.Link.shows c.answer.new.keeper) (map g.L.Link.shows c.args.links.now) (map g.L.Link.shows c.answer.new.links) c.hold_session.result
+    c.hold_session.ensures.prints c.hold_session.ensures.silent c.hold_session.ensures.refused c.hold_session.ensures.outside c.hold_session.ensures.memory c.hold_session.ensures.known (meant (map string_bytes c.args.words.now)) c.in-Ok-Talk.ensures.keeper_calm (subst (λ (r : Reply). ForMeant (meant (map string_bytes c.args.words.now)) (λ m. Replies m (lent (g.S.Source.shows c.args.source.now) (g.K.Link.shows c.args.keeper.now) (map g.L.Link.shows c.args.links.now)) (lent (g.S.Source.shows c.answer.new.source) (g.K.Link.shows c.answer.new.keeper) (map g.L.Link.shows c.answer.new.links)) r)) talk c.in-Ok-Talk.ensures.replies)
+
+pub returns-in-Ok-Talk-clause-complete : goal.returns-in-Ok-Talk-clause-complete
+returns-in-Ok-Talk-clause-complete g c =
+    let talk : c.in-Ok-Talk.field-0 ≡ Reply.Talk c.in-Ok-Talk.schema = cc (c.in-Ok-Talk.field-0-is) in
+    talk_complete (schema_view c.in-Ok-Talk.schema) (g.S.Source.shows c.args.source.now) (g.S.Source.shows c.answer.new.source) (g.S.Source.shows c.hold_session.new.source) (g.O.Sink.shows c.args.out.now) (g.O.Sink.shows c.hold_session.new.out) (g.E.Sink.shows c.args.err.now) (g.E.Sink.shows c.hold_session.new.err) (g.K.Link.shows c.args.keeper.now) (g.K.Link.shows c.answer.new.keeper) (map g.L.Link.shows c.args.links.now) (map g.L.Link.shows c.answer.new.links) c.hold_session.result
+    c.hold_session.ensures.prints c.hold_session.ensures.silent c.hold_session.ensures.refused c.hold_session.ensures.outside c.hold_session.ensures.memory c.hold_session.ensures.known (meant (map string_bytes c.args.words.now)) (subst (λ (r : Reply). ForMeant (meant (map string_bytes c.args.words.now)) (λ m. Replies m (lent (g.S.Source.shows c.args.source.now) (g.K.Link.shows c.args.keeper.now) (map g.L.Link.shows c.args.links.now)) (lent (g.S.Source.shows c.answer.new.source) (g.K.Link.shows c.answer.new.keeper) (map g.L.Link.shows c.answer.new.links)) r)) talk c.in-Ok-Talk.ensures.replies)
+
+pub returns-in-Ok-Talk-clause-served : goal.returns-in-Ok-Talk-clause-served
+returns-in-Ok-Talk-clause-served g c =
+    talk_served (schema_view c.in-Ok-Talk.schema) (g.S.Source.shows c.args.source.now) (g.S.Source.shows c.answer.new.source) (g.S.Source.shows c.hold_session.new.source) (g.O.Sink.shows c.args.out.now) (g.O.Sink.shows c.hold_session.new.out) (g.E.Sink.shows c.args.err.now) (g.E.Sink.shows c.hold_session.new.err) (g.K.Link.shows c.args.keeper.now) (g.K.Link.shows c.answer.new.keeper) (map g.L.Link.shows c.args.links.now) (map g.L.Link.shows c.answer.new.links) c.hold_session.result
+    c.hold_session.ensures.prints c.hold_session.ensures.silent c.hold_session.ensures.refused c.hold_session.ensures.outside c.hold_session.ensures.memory c.hold_session.ensures.known (meant (map string_bytes c.args.words.now))
+
+pub returns-in-Ok-Talk-clause-known : goal.returns-in-Ok-Talk-clause-known
+returns-in-Ok-Talk-clause-known g c =
+    talk_known (schema_view c.in-Ok-Talk.schema) (g.S.Source.shows c.args.source.now) (g.S.Source.shows c.answer.new.source) (g.S.Source.shows c.hold_session.new.source) (g.O.Sink.shows c.args.out.now) (g.O.Sink.shows c.hold_session.new.out) (g.E.Sink.shows c.args.err.now) (g.E.Sink.shows c.hold_session.new.err) (g.K.Link.shows c.args.keeper.now) (g.K.Link.shows c.answer.new.keeper) (map g.L.Link.shows c.args.links.now) (map g.L.Link.shows c.answer.new.links) c.hold_session.result
+    c.hold_session.ensures.prints c.hold_session.ensures.silent c.hold_session.ensures.refused c.hold_session.ensures.outside c.hold_session.ensures.memory c.hold_session.ensures.known
+
+pub returns-in-Ok-Talk-clause-usage : goal.returns-in-Ok-Talk-clause-usage
+returns-in-Ok-Talk-clause-usage g c = λ e.
+    absurd (talk_usage (schema_view c.in-Ok-Talk.schema) (g.S.Source.shows c.args.source.now) (g.S.Source.shows c.answer.new.source) (g.S.Source.shows c.hold_session.new.source) (g.O.Sink.shows c.args.out.now) (g.O.Sink.shows c.hold_session.new.out) (g.E.Sink.shows c.args.err.now) (g.E.Sink.shows c.hold_session.new.err) (g.K.Link.shows c.args.keeper.now) (g.K.Link.shows c.answer.new.keeper) (map g.L.Link.shows c.args.links.now) (map g.L.Link.shows c.answer.new.links) c.hold_session.result
+    c.hold_session.ensures.prints c.hold_session.ensures.silent c.hold_session.ensures.refused c.hold_session.ensures.outside c.hold_session.ensures.memory c.hold_session.ensures.known e)
+
+pub returns-in-Ok-Talk-clause-left : goal.returns-in-Ok-Talk-clause-left
+returns-in-Ok-Talk-clause-left g c = λ e.
+    absurd (talk_left (schema_view c.in-Ok-Talk.schema) (g.S.Source.shows c.args.source.now) (g.S.Source.shows c.answer.new.source) (g.S.Source.shows c.hold_session.new.source) (g.O.Sink.shows c.args.out.now) (g.O.Sink.shows c.hold_session.new.out) (g.E.Sink.shows c.args.err.now) (g.E.Sink.shows c.hold_session.new.err) (g.K.Link.shows c.args.keeper.now) (g.K.Link.shows c.answer.new.keeper) (map g.L.Link.shows c.args.links.now) (map g.L.Link.shows c.answer.new.links) c.hold_session.result
+    c.hold_session.ensures.prints c.hold_session.ensures.silent c.hold_session.ensures.refused c.hold_session.ensures.outside c.hold_session.ensures.memory c.hold_session.ensures.known e)
+
+pub returns-in-Ok-Talk-clause-most : goal.returns-in-Ok-Talk-clause-most
+returns-in-Ok-Talk-clause-most g c = λ e.
+    absurd (talk_most (schema_view c.in-Ok-Talk.schema) (g.S.Source.shows c.args.source.now) (g.S.Source.shows c.answer.new.source) (g.S.Source.shows c.hold_session.new.source) (g.O.Sink.shows c.args.out.now) (g.O.Sink.shows c.hold_session.new.out) (g.E.Sink.shows c.args.err.now) (g.E.Sink.shows c.hold_session.new.err) (g.K.Link.shows c.args.keeper.now) (g.K.Link.shows c.answer.new.keeper) (map g.L.Link.shows c.args.links.now) (map g.L.Link.shows c.answer.new.links) c.hold_session.result
+    c.hold_session.ensures.prints c.hold_session.ensures.silent c.hold_session.ensures.refused c.hold_session.ensures.outside c.hold_session.ensures.memory c.hold_session.ensures.known e)
+
+pub returns-in-Ok-Talk-clause-taken : goal.returns-in-Ok-Talk-clause-taken
+returns-in-Ok-Talk-clause-taken g c = λ taken.
+    talk_usage (schema_view c.in-Ok-Talk.schema) (g.S.Source.shows c.args.source.now) (g.S.Source.shows c.answer.new.source) (g.S.Source.shows c.hold_session.new.source) (g.O.Sink.shows c.args.out.now) (g.O.Sink.shows c.hold_session.new.out) (g.E.Sink.shows c.args.err.now) (g.E.Sink.shows c.hold_session.new.err) (g.K.Link.shows c.args.keeper.now) (g.K.Link.shows c.answer.new.keeper) (map g.L.Link.shows c.args.links.now) (map g.L.Link.shows c.answer.new.links) c.hold_session.result
+    c.hold_session.ensures.prints c.hold_session.ensures.silent c.hold_session.ensures.refused c.hold_session.ensures.outside c.hold_session.ensures.memory c.hold_session.ensures.known
 
 pub returns-in-Err-Usage-clause-usage : goal.returns-in-Err-Usage-clause-usage
 returns-in-Err-Usage-clause-usage g c = λ _.
@@ -123,11 +194,11 @@ pub returns-in-Err-Usage-clause-complete : goal.returns-in-Err-Usage-clause-comp
 returns-in-Err-Usage-clause-complete g c =
     usage_incomplete _ _ _ _ _ _ _ _ _ _ (meant (map string_bytes c.args.words.now)) 1 (subst (λ (s : Stop). StopsMeant (meant (map string_bytes c.args.words.now)) (lent (g.S.Source.shows c.args.source.now) (g.K.Link.shows c.args.keeper.now) (map g.L.Link.shows c.args.links.now)) (lent (g.S.Source.shows c.answer.new.source) (g.K.Link.shows c.answer.new.keeper) (map g.L.Link.shows c.answer.new.links)) s) c.in-Err-Usage.field-0-is c.in-Err-Usage.ensures.stops)
 
-pub returns-in-Ok-write_to-clause-served : goal.returns-in-Ok-write_to-clause-served
-returns-in-Ok-write_to-clause-served g c = served_else _ _ 0 refl refl
-
 pub returns-in-Ok-clause-served : goal.returns-in-Ok-clause-served
-returns-in-Ok-clause-served g c = served_else _ _ 4 refl refl
+returns-in-Ok-clause-served g c = served_else _ _ 0 refl refl
+
+pub returns-in-Ok-Whole-clause-served : goal.returns-in-Ok-Whole-clause-served
+returns-in-Ok-Whole-clause-served g c = served_else _ _ 4 refl refl
 
 pub returns-in-Err-Usage-clause-served : goal.returns-in-Err-Usage-clause-served
 returns-in-Err-Usage-clause-served g c = served_else _ _ 1 refl refl

@@ -11,6 +11,7 @@ use Rattle.dr_words.specs.ShowSchema.{show_schema_app}
 use Rattle.dr_words.specs.Explain.{explain_app}
 use Rattle.dr_words.specs.Gen.{gen_app}
 use Rattle.dr_words.specs.Trial.{trial_app}
+use Rattle.dr_words.specs.Session.{session_app}
 use Rattle.dr_words.proofs.commands.dremel_command.Goals as goal
 
 pub returns : goal.returns
@@ -24,4 +25,5 @@ returns c =
     let with_show_schema = c.in_ok-command-7.ensures show_schema_app c.show_schema_command.ensures.app ∙ ap (λ (a : App). with_subcommand a show_schema_app.top) with_fsm in
     let with_explain = c.in_ok-command-8.ensures explain_app c.explain_command.ensures.app ∙ ap (λ (a : App). with_subcommand a explain_app.top) with_show_schema in
     let with_gen = c.in_ok-command-9.ensures gen_app c.gen_command.ensures.app ∙ ap (λ (a : App). with_subcommand a gen_app.top) with_explain in
-    IfOk-weaker c.with_command-10.result _ _ (λ r h. h ∙ ap (λ (a : App). with_subcommand a trial_app.top) with_gen) (c.with_command-10.ensures trial_app c.trial_command.ensures.app)
+    let with_trial = c.in_ok-command-10.ensures trial_app c.trial_command.ensures.app ∙ ap (λ (a : App). with_subcommand a trial_app.top) with_gen in
+    IfOk-weaker c.with_command-11.result _ _ (λ r h. h ∙ ap (λ (a : App). with_subcommand a session_app.top) with_trial) (c.with_command-11.ensures session_app c.session_command.ensures.app)
