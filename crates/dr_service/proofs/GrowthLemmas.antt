@@ -12,7 +12,7 @@ use Rattle.dr_partials.proofs.RewritingLemmas.{leaf_has_same_partials}
 use Rattle.dr_plan.specs.Planned.{Planned, planned, planned_query, plan_view}
 use Rattle.dr_plan.specs.PlanOf.{IsPlanOf}
 use Rattle.dr_plan.specs.declared.plan.Plan.{Plan}
-use Rattle.dr_serving.specs.Truth.{most_values}
+use Rattle.dr_reading.specs.Truth.{most_values}
 use Rattle.dr_group.specs.Partials.{IsPartialOf, partial_view}
 use Rattle.dr_group.specs.declared.partial.Partial.{Partial as Gathered}
 use Rattle.dr_tree.specs.Grows.{Growth, Grows, CanAdd, not_grown, with_added}
