@@ -19,7 +19,7 @@ use Rattle.dr_outside.specs.declared.cause.Cause.{Cause}
 use Rattle.dr_reading.specs.Scan.{joined}
 use Rattle.dr_reading.proofs.FileLemmas.{other_causes_hold_no_file}
 use Rattle.dr_service.specs.Tablets.{AreTabletsOf, IsAnswer, IsTabletCause}
-use Rattle.dr_meaning.specs.Session.{asked_text, at_text, answers}
+use Rattle.dr_meaning.specs.Session.{asked_text, at_text}
 
 -- ---- texts
 

@@ -1,2 +1,0 @@
--- threads may share a plan
-pub mod CrossingLemmas

@@ -1,5 +1,0 @@
-use Rattle.dr_nested.specs.SchemaView.{schema_view}
-use Rattle.dr_test_service.proofs.service_tests.a_full_service_publishes_no_more.Given as goal
-
-abbrev pub ghosts-filled : goal.ghosts-filled
-ghosts-filled a = record { table = a.ground; schema = schema_view a.schema.now }
