@@ -1,0 +1,6 @@
+-- neighbours and outlines
+pub mod OutlinedLemmas
+-- triplets cut where records begin
+pub mod CutLemmas
+-- a leaf's triplets alone
+pub mod AloneLemmas
