@@ -4,3 +4,5 @@ pub mod OutlinedLemmas
 pub mod CutLemmas
 -- a leaf's triplets alone
 pub mod AloneLemmas
+-- columns of which a front was taken
+pub mod BehindLemmas

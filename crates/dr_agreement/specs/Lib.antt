@@ -9,3 +9,5 @@ pub mod Agreements
 pub mod Cuts
 -- a leaf's triplets alone
 pub mod Alone
+-- columns of which a front was taken
+pub mod Behind
