@@ -25,7 +25,7 @@ use Rattle.dr_levels.specs.Texts.{bytes_at, is_text}
 use Rattle.dr_levels.specs.declared.text_place.TextPlace.{TextPlace}
 use Rattle.dr_levels.specs.declared.values_ref.ValuesRef.{ValuesRef}
 use Rattle.dr_agreement.specs.Alone.{with_least, least_levels, may_stand, each_may_stand, IsTestOf, AreTestsOf, OneIsNoColumn}
-use Rattle.dr_agreement.specs.declared.leaf_test.LeafTest.{LeafTest}
+use Rattle.dr_agreement.specs.declared.column_of_leaf.LeafTest.{LeafTest}
 use Rattle.dr_agreement.proofs.OutlinedLemmas.{columns_at}
 use Rattle.dr_beside.specs.Neighbours.{column_at}
 use Rattle.dr_nested.specs.PathView.{path_view}

@@ -8,7 +8,7 @@ use Rattle.dr_meaning.specs.OneColumn.{may_follow, is_column}
 use Rattle.dr_nested.specs.Views.{kind_view}
 use Rattle.dr_levels.specs.Views.{LeafForm, form}
 use Rattle.dr_beside.specs.Neighbours.{column_at}
-use Rattle.dr_agreement.specs.declared.leaf_test.LeafTest.{LeafTest}
+use Rattle.dr_agreement.specs.declared.column_of_leaf.LeafTest.{LeafTest}
 
 -- a field has a least level where it is repeated
 abbrev pub with_least : Repetition → ℕ → List ℕ → List ℕ

@@ -6,7 +6,7 @@ ghost use Rattle.dr_nested.specs.PathView.{path_view};
 ghost use Rattle.dr_levels.specs.Views.{triplets_view};
 ghost use Rattle.dr_agreement.specs.Alone.{AreColumnsAlone, AreTestsOf, OneIsNoColumn};
 
-use crate::leaf_test::LeafTest;
+use crate::column_of_leaf::LeafTest;
 use dr_levels::Triplets;
 use dr_memory::NoMemory;
 use dr_nested::Path;

@@ -4,13 +4,13 @@
 
 mod agreement;
 mod alone;
+mod column_of_leaf;
 mod cuts;
 mod fronts;
-mod leaf_test;
 mod outlines;
 
 pub use agreement::Agreement;
 pub use alone::{Alone, each_alone, tests_of};
+pub use column_of_leaf::LeafTest;
 pub use cuts::{count_records, length_of};
 pub use fronts::{Front, front_of};
-pub use leaf_test::LeafTest;

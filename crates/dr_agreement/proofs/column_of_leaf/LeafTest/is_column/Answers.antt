@@ -9,7 +9,7 @@ use Rattle.dr_levels.specs.Views.{LeafForm, triplets_view}
 use Rattle.dr_agreement.specs.Alone.{each_may_stand}
 use Rattle.dr_agreement.proofs.CutLemmas.{begins_levels, begun_levels}
 use Rattle.dr_agreement.proofs.AloneLemmas.{column_tested, dense_triplets}
-use Rattle.dr_agreement.proofs.leaf_test.LeafTest.is_column.Goals as goal
+use Rattle.dr_agreement.proofs.column_of_leaf.LeafTest.is_column.Goals as goal
 
 pub are_of_kind-requires : goal.are_of_kind-requires
 are_of_kind-requires c = ap (λ (f : LeafForm). lends_kind f.kind c.values.result) (sym c.requires) ∙ c.values.ensures.kind

@@ -1,6 +1,6 @@
 use Rattle.std.proofs.Common.{◌∙◌, ℕ, List, length, get_or, ap, ap₂, arith}
 use Rattle.dr_agreement.proofs.AloneLemmas.{stands_by, stands_not}
-use Rattle.dr_agreement.proofs.leaf_test.LeafTest.may_stand.Goals as goal
+use Rattle.dr_agreement.proofs.column_of_leaf.LeafTest.may_stand.Goals as goal
 
 pub returns-in-Some : goal.returns-in-Some
 returns-in-Some c = λ l h.

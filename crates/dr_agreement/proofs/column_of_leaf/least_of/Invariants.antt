@@ -2,7 +2,7 @@ use Rattle.std.proofs.Common.{◌≡◌, ◌∷◌, ◌+◌, ◌++◌, ◌≤◌
 use Rattle.dr_meaning.specs.Path.{max_definition}
 use Rattle.dr_nested.specs.PathView.{step_view}
 use Rattle.dr_agreement.specs.Alone.{least_levels}
-use Rattle.dr_agreement.proofs.leaf_test.least_of.Given as goal
+use Rattle.dr_agreement.proofs.column_of_leaf.least_of.Given as goal
 
 -- the levels so far, and those of the steps from this one on
 abbrev pub invariant-steps : goal.invariant-steps
