@@ -31,7 +31,7 @@ use Rattle.dr_columns.specs.RowPuts.{paths_at}
 use Rattle.dr_columns.specs.Sources.{all_beside, AreOnItsChain}
 use Rattle.dr_columns.specs.TestRows.{AreReadBeside}
 use Rattle.dr_columns.specs.Takings.{Take, same_leaf, takings_at, read_of, is_nothing, Fires, fires_at, first_numbers, CanFire, CanFireEach, source_puts, fired_puts}
-use Rattle.dr_columns.proofs.OutlinedLemmas.{same_at}
+use Rattle.dr_agreement.proofs.OutlinedLemmas.{same_at}
 use Rattle.dr_columns.proofs.RecordRowLemmas.{rows_of_records}
 use Rattle.dr_columns.proofs.SourceLemmas.{sources_are_beside}
 use Rattle.dr_columns.proofs.SourceReadLemmas.{AreInOrder, leaves_in_order, path_there, IsLastOf, last_of, reading_of, TakenAt, readings_at_leaf}

@@ -37,7 +37,7 @@ use Rattle.dr_columns.specs.TestRows.{AreReadBeside}
 use Rattle.dr_columns.specs.RowPuts.{paths_at, groups_in}
 use Rattle.dr_columns.specs.Sources.{all_beside, AreOnItsChain}
 use Rattle.dr_columns.specs.Takings.{Take, aggregate_leaves, taken_at, same_leaf, takings_at, read_of, fires_at, taking_puts, source_puts}
-use Rattle.dr_columns.proofs.OutlinedLemmas.{same_at}
+use Rattle.dr_agreement.proofs.OutlinedLemmas.{same_at}
 use Rattle.dr_columns.proofs.RowPutLemmas.{puts_of_source}
 use Rattle.dr_columns.proofs.SourceLemmas.{sources_are_beside}
 use Rattle.dr_columns.proofs.SourceReadLemmas.{AreInOrder, IsLastOf, last_of, reading_of, reading_by, chain_read}

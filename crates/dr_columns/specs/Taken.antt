@@ -20,7 +20,7 @@ use Rattle.dr_group.specs.Partials.{IsPartialOf}
 use Rattle.dr_group.specs.declared.partial.Partial as partial
 use Rattle.dr_beside.specs.Neighbours.{EachAlone}
 use Rattle.dr_columns.specs.declared.column_scan.ColumnScan.{ColumnScan}
-use Rattle.dr_columns.specs.Agreements.{IsOfLeaves}
+use Rattle.dr_agreement.specs.Agreements.{IsOfLeaves}
 use Rattle.dr_columns.specs.Takings.{fired_view, fires_of, takings_view, takings_at}
 use Rattle.dr_columns.specs.ChunksTaken.{IsOfAllGroups}
 

@@ -10,10 +10,10 @@ ghost use Rattle.dr_plan.specs.declared.plan.Plan.{Plan as MeantPlan};
 ghost use Rattle.dr_group.specs.Partials.{partial_view, IsPartialOf};
 ghost use Rattle.dr_beside.specs.Chunks.{HasColumns, NoneHas};
 
-use crate::agreement::Agreement;
 use crate::firing::{Fired, fired_of, takings_at};
 use crate::sourcing::take_sources;
 use crate::taking::{Taking, take_records};
+use dr_agreement::Agreement;
 use dr_group::{GroupMap, Partial};
 use dr_levels::Triplets;
 use dr_memory::NoMemory;

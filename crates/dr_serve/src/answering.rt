@@ -17,14 +17,14 @@ ghost use Rattle.dr_serve.specs.Links.{LeavesLinks};
 ghost use Rattle.dr_serve.specs.Serving.{first_shown};
 ghost use Rattle.dr_serve.specs.Answers.{AnsweredAs};
 
-use crate::queried::Queried;
 use crate::options::ServeOptions;
+use crate::queried::Queried;
+use crate::{Outcome, Served, serve};
 use dr_group::Partial;
 use dr_memory::NoMemory;
 use dr_outside::Link;
 use dr_plan::Plan;
 use dr_print::result_text;
-use crate::{Outcome, Served, serve};
 use dr_table::Table;
 use dr_tree::of_fan;
 use std::alloc::Global;

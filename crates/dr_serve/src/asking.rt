@@ -12,15 +12,15 @@ ghost use Rattle.dr_load.specs.Faults.{refusal_of};
 ghost use Rattle.dr_input.specs.Taken.{WhereTold, AcceptsRead};
 ghost use Rattle.dr_serve.specs.Asked.{IsAnswerTo};
 
-use crate::steady::answer_steady;
+use crate::ServeOptions;
 use crate::shelf_links::lent;
+use crate::steady::answer_steady;
 use dr_load::{LoadFault, Plan as LoadPlan, load};
 use dr_memory::NoMemory;
 use dr_nested::Schema;
 use dr_outside::{Shelf, Source};
 use dr_page::PageForm;
 use dr_plan::Plan;
-use crate::ServeOptions;
 use dr_table::Table;
 use std::alloc::Global;
 use std::sync::Wait;

@@ -11,10 +11,10 @@ ghost use Rattle.dr_plan.specs.PlanOf.{IsPlanOf};
 ghost use Rattle.dr_table.specs.Views.{table_view};
 ghost use Rattle.dr_serve.specs.Asked.{HoldsTableOf};
 
+use crate::{Queried, ServeOptions, query_table};
 use dr_memory::NoMemory;
 use dr_outside::Link;
 use dr_plan::Plan;
-use crate::{Queried, ServeOptions, query_table};
 use dr_table::Table;
 use std::alloc::Global;
 use std::sync::Wait;

@@ -10,7 +10,7 @@ use Rattle.dr_plan.specs.Planned.{plan_leaves, plan_view, planned_query}
 use Rattle.dr_plan.specs.declared.aggregate.Aggregate.{Aggregate}
 use Rattle.dr_group.specs.Partials.{partial_view, IsPartialOf}
 use Rattle.dr_group.specs.declared.partial.Partial.{Partial}
-use Rattle.dr_columns.specs.Agreements.{IsOfLeaves}
+use Rattle.dr_agreement.specs.Agreements.{IsOfLeaves}
 use Rattle.dr_columns.specs.Taken.{gives_groups}
 use Rattle.dr_columns.specs.Takings.{are_numbered, takings_at}
 use Rattle.dr_columns.proofs.PlanChunkLemmas.{plan_numbered}

@@ -1,0 +1,8 @@
+-- neighbours and outlines
+pub mod OutlinedLemmas
+-- triplets cut where records begin
+pub mod CutLemmas
+-- a leaf's triplets alone
+pub mod AloneLemmas
+-- columns of which a front was taken
+pub mod BehindLemmas

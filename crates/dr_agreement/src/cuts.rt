@@ -1,0 +1,61 @@
+//! Where records end in a column.
+
+ghost use Rattle.std.specs.Prelude.{◌≡◌, ◌<◌, ◌≤◌, ◌+◌, length, take, drop, true};
+ghost use Rattle.dr_meaning.specs.OneColumn.{begins_record, starts as records_begun};
+ghost use Rattle.dr_levels.specs.Views.{triplets_view};
+ghost use Rattle.dr_agreement.specs.Cuts.{begins, repetitions, starts, IsCut};
+
+use dr_levels::{Levels, Triplets};
+
+/// How many records begin in some levels.
+pub(crate) fn count_begun(levels: &[Levels]) -> usize
+    ensures { result ≡ starts (repetitions levels.now) }
+{
+    let mut begun = 0;
+    'levels: for at in 0..levels.len() {
+        begun += usize::from(levels[at].repetition == 0);
+    }
+    begun
+}
+
+/// How many of some levels are those of the first so many records.
+fn end_of(levels: &[Levels], records: usize) -> usize
+    requires { records ≤ starts (repetitions levels.now) }
+    ensures { IsCut (repetitions levels.now) result records }
+{
+    let mut begun = 0;
+    'levels: for at in 0..levels.len() {
+        begun += usize::from(levels[at].repetition == 0);
+        if begun > records {
+            return at;
+        }
+    }
+    levels.len()
+}
+
+/// Whether the first of some levels, if there is one, begins a record.
+pub(crate) fn begin_record(levels: &[Levels]) -> bool
+    ensures { result ≡ begins (repetitions levels.now) }
+{
+    match levels {
+        [] => true,
+        [first, ..] => first.repetition == 0,
+    }
+}
+
+/// How many records begin in some triplets.
+pub fn count_records(triplets: Triplets<'_>) -> usize
+    ensures { result ≡ records_begun (triplets_view triplets.entry) }
+{
+    count_begun(triplets.levels())
+}
+
+/// How many of some triplets are those of the first so many records.
+pub fn length_of(triplets: Triplets<'_>, records: usize) -> usize
+    requires { records ≤ records_begun (triplets_view triplets) }
+    ensures within { result ≤ length (triplets_view triplets.entry) }
+    ensures records { records_begun (take result (triplets_view triplets.entry)) ≡ records }
+    ensures whole { begins_record (drop result (triplets_view triplets.entry)) ≡ true }
+{
+    end_of(triplets.levels(), records)
+}
