@@ -3,7 +3,6 @@
 use std::alloc::Global;
 use std::fs::{File, Files, OpenFile, OpenOptions, Permissions, TryLockError};
 use std::io::{ErrorKind, Write};
-use std::os::fd::IntoRawFd;
 use std::os::unix::fs::MetadataExt;
 use std::path::Path;
 use std::{fs, io};
@@ -24,25 +23,11 @@ const SHORT_STEM: &str = "dremel";
 pub trait Claim {
     /// Claims the file, where no other program has.
     fn claim(&self) -> Result<(), TryLockError>;
-
-    /// Closes a second descriptor of the file, which stays open by the first, and claimed.
-    ///
-    /// Errors: there is no second descriptor; the system told a failure as it was closed, as a file system does that
-    /// writes then.
-    fn close_once(&self) -> io::Result<()>;
 }
 
 impl Claim for File {
     fn claim(&self) -> Result<(), TryLockError> {
         self.try_lock()
-    }
-
-    fn close_once(&self) -> io::Result<()> {
-        let second = self.try_clone()?;
-        match libc::close(second.into_raw_fd()) {
-            0 => Ok(()),
-            _ => Err(io::Error::from(ErrorKind::Other)),
-        }
     }
 }
 
@@ -81,8 +66,7 @@ where
 {
     let metadata = old.metadata()?;
     if !metadata.is_file() {
-        old.write_all(bytes)?;
-        return old.close_once();
+        return old.write_all(bytes);
     }
     drop(old);
     replace(alloc, files, path, Some(metadata.permissions()), bytes)
@@ -117,10 +101,7 @@ fn finish<R: Files>(
     path: &str,
     permissions: Option<Permissions>,
     bytes: &[u8],
-) -> io::Result<()>
-where
-    R::File: Claim,
-{
+) -> io::Result<()> {
     let file = &mut unfinished.file;
     if let Some(permissions) = permissions
         && file.metadata()?.permissions() != permissions
@@ -129,7 +110,6 @@ where
     }
     file.write_all(bytes)?;
     file.sync_all()?;
-    file.close_once()?;
     fs::rename(files, unfinished.path.as_str(), path)
 }
 
