@@ -1,2 +1,9 @@
--- lines of records
-pub mod LineLemmas
+-- fronts of a column, and what joins one
+pub mod FrontLemmas
+pub mod AppendLemmas
+-- what is left of a leaf's batch
+pub mod RestLemmas
+-- calls that read leaves
+pub mod ReadsLemmas
+-- slices of columns
+pub mod SliceLemmas

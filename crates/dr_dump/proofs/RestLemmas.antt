@@ -1,0 +1,94 @@
+-- What is left of a leaf's batch, and what joins what was given.
+use Rattle.std.proofs.Common.{◌≡◌, ◌≢◌, ◌≤◌, ◌<◌, ℕ, zero, suc, ◌+◌, ◌-◌, List, [], ◌∷◌, ◌++◌, length, map, take, drop, Bool, true, false, not, Option, Some, None, refl, sym, ap, ap₂, ◌∙◌, subst, true≢false, append_assoc, append-nil, length-append, arith, ◌⊎◌, inl, inr}
+use Rattle.std.specs.Prelude.{◌==◌}
+use Rattle.std.proofs.lemmas.List.{drop-drop, length-drop, nil_from_length, take-append-drop}
+use Rattle.dr_meaning.specs.Path.{Leaf}
+use Rattle.dr_meaning.specs.Column.{Triplet}
+use Rattle.dr_meaning.specs.OneColumn.{starts, begins_record}
+use Rattle.dr_meaning.proofs.ColumnStarts.{starts_append}
+use Rattle.dr_levels.specs.Views.{column_view}
+use Rattle.dr_outside.specs.Link.{Files}
+use Rattle.dr_file.specs.OpenedFiles.{IsColumnOf}
+use Rattle.dr_file.specs.Streams.{IsStreamOf, StreamGoesOn, Fills, file_of, refused_of}
+use Rattle.dr_file.specs.declared.opened.Opened.{Opened}
+use Rattle.dr_dump.specs.Fronts.{IsFront}
+use Rattle.dr_dump.specs.declared.front.Front.{Front}
+use Rattle.dr_dump.specs.declared.leaf_records.LeafRecords.{LeafRecords}
+use Rattle.dr_dump.specs.Leaves.{last_of, rest_of, IsTold, IsLeafRecords, IsPassed}
+
+-- ---- lists
+
+pub whole_last : (v : List Triplet) (n : ℕ) → length v ≤ n → last_of n v ≡ v
+whole_last v n h = let z : length v - n ≡ 0 = omega (arith, h) in ap (λ (k : ℕ). drop k v) z
+
+-- a front is cut off
+pub last_cut : (v : List Triplet) (left n behind : ℕ) → n ≤ length (last_of left v) → behind ≡ length (last_of left v) - n → last_of behind v ≡ drop n (last_of left v)
+last_cut v left n behind h e =
+    let m : ℕ = length v - left in
+    let k : length (drop m v) ≡ length v - m = length-drop m v in
+    let at : length v - behind ≡ m + n = omega (arith, h, e, k) in
+    ap (λ (j : ℕ). drop j v) at ∙ sym (drop-drop n m v)
+
+some_left : (ts : List Triplet) → 0 < length ts → ts ≢ []
+some_left [] h e = absurd (omega (arith, h))
+some_left (t ∷ ts) h e = cc
+
+-- ---- a front passed
+
+pub passed : (x y : LeafRecords) (f : Front) (wanted still : ℕ) (before after : List Triplet) (whole : Bool) → IsFront (rest_of x) wanted f → column_view y.batch ≡ column_view x.batch → y.left ≡ length (rest_of x) - f.length
+    → still ≡ wanted - f.records → after ≡ before ++ take f.length (rest_of x) → (whole ≡ true → (0 < y.left) ⊎ (y.ended ≡ true)) → (whole ≢ true → (y.left ≡ 0) × (y.ended ≢ true)) → IsPassed x y wanted still before after whole
+passed x y f wanted still before after whole h b left s a stops runs = record {
+  front = take f.length (rest_of x);
+  lies = sym (take-append-drop f.length (rest_of x)) ∙ ap (λ (ts : List Triplet). take f.length (rest_of x) ++ ts) (sym rest);
+  joined = a;
+  fewer = let n = h.begun in let k = h.few in omega (arith, n, k, s);
+  cut = ap begins_record rest ∙ h.cut;
+  all = λ some. let n = h.all (λ e. some (rest ∙ e)) in omega (arith, s, n);
+  ends = λ w none. by_side (stops w) none;
+  goes_on = λ w. let k = runs w in (nil_from_length (rest_of y) (omega (arith, size, k.0)), k.1);
+}
+  where
+    rest : rest_of y ≡ drop f.length (rest_of x)
+    rest = ap (last_of y.left) b ∙ last_cut (column_view x.batch) x.left f.length y.left h.within left
+
+    size : length (rest_of y) ≡ y.left
+    size = let n = length-drop f.length (rest_of x) in omega (arith, ap length rest, n, left)
+
+    by_side : (0 < y.left) ⊎ (y.ended ≡ true) → rest_of y ≡ [] → y.ended ≡ true
+    by_side (inl k) none = absurd (some_left (rest_of y) (omega (arith, size, k)) none)
+    by_side (inr k) none = k
+
+-- ---- the stream of a leaf
+
+-- the same stream
+pub same_records : (held : Option Files) (o : Opened) (F : List Leaf) (l : Leaf) (given more : List Triplet) (x y : LeafRecords) → IsLeafRecords held o F l given x → y.stream ≡ x.stream → y.ended ≡ x.ended → more ≡ given → IsLeafRecords held o F l more y
+same_records held o F l given more x y h s e g = record {
+  file = ap file_of s ∙ h.file;
+  well = ap refused_of s ∙ h.well;
+  of = λ bytes t. subst (λ (ts : List Triplet). IsStreamOf bytes l ts y.stream) (sym g) (subst (IsStreamOf bytes l given) (sym s) (h.of bytes t));
+  last = λ bytes t z. subst (IsColumnOf bytes l) (sym g) (h.last bytes t (sym e ∙ z));
+}
+
+-- a batch more, or none
+pub refilled : (held : Option Files) (o : Opened) (F : List Leaf) (l : Leaf) (given more : List Triplet) (x y : LeafRecords) (some : Bool) → IsLeafRecords held o F l given x → file_of y.stream ≡ file_of x.stream → y.ended ≡ not some
+    → rest_of y ≡ more → (some ≡ false → more ≡ []) → refused_of y.stream ≡ None → ((bytes : List ℕ) → IsTold held o F bytes → StreamGoesOn bytes l given [] more y.stream some) → IsLeafRecords held o F l (given ++ rest_of y) y
+refilled held o F l given more x y true h f e b none well goes = subst (λ (ts : List Triplet). IsLeafRecords held o F l (given ++ ts) y) (sym b) (record {
+  file = f ∙ h.file;
+  well = well;
+  of = λ bytes told. let g = goes bytes told in subst (λ (ts : List Triplet). IsStreamOf bytes l (given ++ ts) y.stream) (sym g.1) g.2;
+  last = λ bytes told z. absurd (true≢false (sym z ∙ e));
+})
+refilled held o F l given more x y false h f e b none well goes = subst (λ (ts : List Triplet). IsLeafRecords held o F l (given ++ ts) y) (sym b) (record {
+  file = f ∙ h.file;
+  well = well;
+  of = λ bytes told. subst (λ (ts : List Triplet). IsStreamOf bytes l ts y.stream) (sym all) (goes bytes told).2;
+  last = λ bytes told z. subst (IsColumnOf bytes l) (sym all) (goes bytes told).1;
+})
+  where
+    all : given ++ more ≡ given
+    all = ap (λ (ts : List Triplet). given ++ ts) (none refl) ∙ append-nil given
+
+-- nothing came where no batch did
+pub none_came : (more : List Triplet) (some : Bool) (before left rest : ℕ) → Fills some before (length more) left rest → before ≡ 0 → some ≡ false → more ≡ []
+none_came more true before left rest f z e = absurd (true≢false e)
+none_came more false before left rest f z e = nil_from_length more (omega (arith, f.0, z))
