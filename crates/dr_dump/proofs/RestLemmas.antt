@@ -14,7 +14,7 @@ use Rattle.dr_file.specs.declared.opened.Opened.{Opened}
 use Rattle.dr_dump.specs.Fronts.{IsFront}
 use Rattle.dr_dump.specs.declared.front.Front.{Front}
 use Rattle.dr_dump.specs.declared.leaf_records.LeafRecords.{LeafRecords}
-use Rattle.dr_dump.specs.Leaves.{last_of, rest_of, IsTold, IsLeafRecords, IsPassed}
+use Rattle.dr_dump.specs.Leaves.{last_of, rest_of, IsTold, IsLeafRecords, IsPassed, IsTaken}
 
 -- ---- lists
 
@@ -92,3 +92,64 @@ refilled held o F l given more x y false h f e b none well goes = subst (λ (ts 
 pub none_came : (more : List Triplet) (some : Bool) (before left rest : ℕ) → Fills some before (length more) left rest → before ≡ 0 → some ≡ false → more ≡ []
 none_came more true before left rest f z e = absurd (true≢false e)
 none_came more false before left rest f z e = nil_from_length more (omega (arith, f.0, z))
+
+-- ---- what is taken, batch by batch
+
+-- what was passed joins the column
+pub passed_on : (held : Option Files) (o : Opened) (F : List Leaf) (l : Leaf) (front : List Triplet) (x y : LeafRecords) (wanted still : ℕ) (before after : List Triplet) (whole : Bool) → IsPassed x y wanted still before after whole → y.stream ≡ x.stream → y.ended ≡ x.ended
+    → IsLeafRecords held o F l (front ++ (before ++ rest_of x)) x → IsLeafRecords held o F l (front ++ (after ++ rest_of y)) y
+passed_on held o F l front x y wanted still before after whole p s e h =
+    let lies : after ++ rest_of y ≡ before ++ rest_of x = ap (λ (ts : List Triplet). ts ++ rest_of y) p.joined ∙ (append_assoc before p.front (rest_of y) ∙ ap (λ (ts : List Triplet). before ++ ts) (sym p.lies)) in
+    same_records held o F l (front ++ (before ++ rest_of x)) (front ++ (after ++ rest_of y)) x y h s e (ap (λ (ts : List Triplet). front ++ ts) lies)
+
+-- and a batch more comes behind it
+pub refilled_on : (held : Option Files) (o : Opened) (F : List Leaf) (l : Leaf) (front ts : List Triplet) (x y : LeafRecords) → rest_of x ≡ []
+    → ((given : List Triplet) → IsLeafRecords held o F l given x → IsLeafRecords held o F l (given ++ rest_of y) y) → IsLeafRecords held o F l (front ++ (ts ++ rest_of x)) x → IsLeafRecords held o F l (front ++ (ts ++ rest_of y)) y
+refilled_on held o F l front ts x y none refill h =
+    let at : front ++ (ts ++ rest_of x) ≡ front ++ ts = ap (λ (us : List Triplet). front ++ (ts ++ us)) none ∙ ap (λ (us : List Triplet). front ++ us) (append-nil ts) in
+    subst (λ (us : List Triplet). IsLeafRecords held o F l us y) (append_assoc front ts (rest_of y)) (refill (front ++ ts) (subst (λ (us : List Triplet). IsLeafRecords held o F l us x) at h))
+
+-- so many fewer are wanted
+pub fewer_on : (x y : LeafRecords) (wanted still k : ℕ) (before after : List Triplet) (whole : Bool) → IsPassed x y wanted still before after whole → starts before + wanted ≡ k → starts after + still ≡ k
+fewer_on x y wanted still k before after whole p h = let n = starts_append before p.front in omega (arith, h, n, ap starts p.joined, p.fewer)
+
+-- where a record began, the column begins with one, or a record begins in what is left
+abbrev pub Begun : List Triplet → LeafRecords → Type 0
+Begun ts x = (begins_record ts ≡ true) × (ts ≡ [] → (begins_record (rest_of x) ≡ true) × (rest_of x ≡ [] → x.ended ≡ true))
+
+joins_begun : (ts us rest : List Triplet) → begins_record ts ≡ true → (ts ≡ [] → begins_record (us ++ rest) ≡ true) → begins_record (ts ++ us) ≡ true
+joins_begun (t ∷ ts) us rest h k = h
+joins_begun [] [] rest h k = refl
+joins_begun [] (u ∷ us) rest h k = k refl
+
+no_both : (ts us : List Triplet) → ts ++ us ≡ [] → (ts ≡ []) × (us ≡ [])
+no_both [] us e = (refl, e)
+no_both (t ∷ ts) us e = absurd (cc)
+
+pub begun_passed : (x y : LeafRecords) (wanted still : ℕ) (before after : List Triplet) (whole : Bool) → IsPassed x y wanted still before after whole → y.ended ≡ x.ended → Begun before x → Begun after y
+begun_passed x y wanted still before after whole p e h = (
+  ap begins_record p.joined ∙ joins_begun before p.front (rest_of y) h.0 (λ none. sym (ap begins_record p.lies) ∙ (h.1 none).0),
+  λ none.
+      let both = no_both before p.front (sym p.joined ∙ none) in
+      let same : rest_of x ≡ rest_of y = p.lies ∙ ap (λ (ts : List Triplet). ts ++ rest_of y) both.1 in
+      (p.cut, λ gone. e ∙ (h.1 both.0).1 (same ∙ gone)),
+)
+
+-- a batch more is asked for only where something joined the column
+pub begun_refilled : (x y z : LeafRecords) (wanted still : ℕ) (before after : List Triplet) (whole : Bool) → IsPassed x y wanted still before after whole → whole ≢ true → y.ended ≡ x.ended → Begun before x → Begun after z
+begun_refilled x y z wanted still before after whole p w e h =
+    let b = begun_passed x y wanted still before after whole p e h in
+    let k = p.goes_on w in
+    (b.0, λ none. absurd (k.1 ((b.1 none).1 k.0)))
+
+-- all that is wanted was taken
+pub taken_all : (held : Option Files) (o : Opened) (F : List Leaf) (l : Leaf) (front : List Triplet) (k : ℕ) (first x y : LeafRecords) (wanted still : ℕ) (before after : List Triplet) (whole : Bool) → IsPassed x y wanted still before after whole → whole ≡ true
+    → starts after + still ≡ k → IsLeafRecords held o F l (front ++ (after ++ rest_of y)) y → (begins_record (rest_of first) ≡ true → (rest_of first ≡ [] → first.ended ≡ true) → Begun after y) → IsTaken held o F l front k first y after
+taken_all held o F l front k first x y wanted still before after whole p w n h b = record {
+  of = h;
+  few = omega (arith, n);
+  all = λ some. let z = p.all some in omega (arith, n, z);
+  cut = p.cut;
+  ends = p.ends w;
+  begins = λ c e. (b c e).0;
+}
