@@ -1,6 +1,9 @@
 -- Slices of a file's columns: those that records have, one behind the other; and which records the whole columns may be of.
 use Rattle.std.proofs.Common.{◌≡◌, ◌≢◌, ◌≤◌, ◌<◌, ℕ, zero, suc, ◌+◌, List, [], ◌∷◌, ◌++◌, length, map, get_or, Bool, true, false, Option, Some, None, refl, sym, ap, ap₂, ◌∙◌, subst, ◌⊎◌, inl, inr, true≢false, append_assoc, append-nil, length-append, arith}
-use Rattle.std.specs.Prelude.{◌==◌}
+use Rattle.std.specs.Prelude.{◌==◌, Result, Ok, Err, IfOk, slice_set}
+use Rattle.dr_levels.specs.declared.column.Column.{Column}
+use Rattle.dr_levels.specs.Views.{column_view}
+use Rattle.dr_file.specs.declared.file_fault.FileFault.{FileFault}
 use Rattle.std.specs.List.{list_all, slice_get}
 use Rattle.std.proofs.lemmas.Bool.{and_parts, and_from, eqb-true}
 use Rattle.std.proofs.lemmas.List.{length-map}
@@ -33,8 +36,32 @@ there [] i h = absurd (omega (arith, h))
 there (x ∷ xs) zero h = (x, refl)
 there (x ∷ xs) (suc i) h = there xs i (omega (arith, h))
 
-columns_from : List Leaf → List Node → List (List Triplet)
-columns_from F R = map (λ (p : List Step). column p R) (paths_of_leaves F)
+pub same_item : (x y : LeafRecords) → Some x ≡ Some y → x ≡ y
+same_item x y e = cc
+
+no_item : (x : LeafRecords) → None ≡ Some x → ⊥
+no_item x e = cc
+
+abbrev PushedAt : List LeafRecords → LeafRecords → ℕ → LeafRecords → Type 0
+PushedAt xs y i x = (slice_get xs i ≡ Some x) ⊎ ((i ≡ length xs) × (y ≡ x))
+
+later_pushed : (z : LeafRecords) (xs : List LeafRecords) (y : LeafRecords) (i : ℕ) (x : LeafRecords) → PushedAt xs y i x → PushedAt (z ∷ xs) y (suc i) x
+later_pushed z xs y i x (inl h) = inl h
+later_pushed z xs y i x (inr h) = inr (ap suc h.0, h.1)
+
+pushed_at : (xs : List LeafRecords) (y : LeafRecords) (i : ℕ) (x : LeafRecords) → slice_get (xs ++ y ∷ []) i ≡ Some x → PushedAt xs y i x
+pushed_at [] y zero x e = inr (refl, same_item y x e)
+pushed_at [] y (suc i) x e = absurd (no_item x e)
+pushed_at (z ∷ xs) y zero x e = inl e
+pushed_at (z ∷ xs) y (suc i) x e = later_pushed z xs y i x (pushed_at xs y i x e)
+
+-- one more behind others, of each of which something holds
+pub each_pushed : (P : ℕ → LeafRecords → Type 0) (xs : List LeafRecords) (y : LeafRecords) → ((i : ℕ) (x : LeafRecords) → slice_get xs i ≡ Some x → P i x) → P (length xs) y → (i : ℕ) (x : LeafRecords) → slice_get (xs ++ y ∷ []) i ≡ Some x → P i x
+each_pushed P xs y h k i x e = by_case (pushed_at xs y i x e)
+  where
+    by_case : PushedAt xs y i x → P i x
+    by_case (inl q) = h i x q
+    by_case (inr q) = subst (P i) q.1 (subst (λ (j : ℕ). P j y) (sym q.0) k)
 
 column_from : (F : List Leaf) (R : List Node) (i : ℕ) (l : Leaf) → slice_get F i ≡ Some l → get_or (map (λ (p : List Step). column p R) (paths_of_leaves F)) i [] ≡ column l.path R
 column_from [] R i l e = let no : None ≡ Some l = e in cc
@@ -232,7 +259,7 @@ all_of_file bytes s held o F R ys h over are count told =
         let y = there ys i (omega (arith, w, n)) in
         let e = over i y.0 y.1 in
         let whole : column l.path R ++ rest_of y.0 ≡ column l.path R = ap (λ (ts : List Triplet). column l.path R ++ ts) e.0 ∙ append-nil (column l.path R) in
-        subst (IsColumnOf bytes l) (sym (whole ∙ sym (column_from F R i l at)) ∙ refl) ((h.each i l y.0 at y.1).of.last bytes told e.1)
+        subst (IsColumnOf bytes l) (whole ∙ sym (column_from F R i l at)) ((h.each i l y.0 at y.1).of.last bytes told e.1)
 
 -- where something is left behind all records, no records have the columns
 pub some_behind_all : (held : Option Files) (o : Opened) (F : List Leaf) (fs : Fields) (R : List Node) (rows j : ℕ) (ys : List LeafRecords) (z : LeafRecords) → list_all (is_leaf_path fs) (paths_of_leaves F) ≡ true → list_all (is_record fs) R ≡ true → length R ≡ rows
@@ -255,3 +282,10 @@ some_behind_all held o F fs R rows j ys z paths are count h is some W all so_man
             let b : (t.repetition == 0) ≡ true = sym (ap begins_record e) ∙ (h.each j l.0 z l.1 is).cut in
             let c : starts (rest_of z) ≡ 1 + starts ts = ap starts e ∙ rw b refl in
             omega (arith, n, c)
+
+-- ---- one leaf among others
+
+pub taken_there : (held : Option Files) (o : Opened) (F : List Leaf) (l : Leaf) (front : List Triplet) (k i : ℕ) (x z y : LeafRecords) (xs ys : List LeafRecords) (r : Result Column FileFault) → x ≡ z → ys ≡ slice_set xs i y
+    → IfOk r (λ c. IsTaken held o F l front k z y (column_view c)) → IfOk r (λ c. (w : LeafRecords) × (ys ≡ slice_set xs i w) × IsTaken held o F l front k x w (column_view c))
+taken_there held o F l front k i x z y xs ys (Ok c) same e h = (y, e, subst (λ (w : LeafRecords). IsTaken held o F l front k w y (column_view c)) (sym same) h)
+taken_there held o F l front k i x z y xs ys (Err f) same e h = tt
