@@ -7,3 +7,8 @@ pub mod RestLemmas
 pub mod ReadsLemmas
 -- slices of columns
 pub mod SliceLemmas
+pub mod TakenLemmas
+pub mod PrintedLemmas
+-- texts, and the lines of tablets
+pub mod TextLemmas
+pub mod LineLemmas

@@ -1,6 +1,6 @@
 //! Dumping a table.
 
-ghost use Rattle.std.specs.Prelude.{◌≡◌, ◌≤◌, map, IfOk, OnOk, IsTrue};
+ghost use Rattle.std.specs.Prelude.{◌≡◌, ◌≤◌, [], map, IfOk, OnOk, IsTrue, string_bytes};
 ghost use Rattle.dr_nested.specs.Views.{fields_view};
 ghost use Rattle.dr_nested.specs.PathView.{path_view};
 ghost use Rattle.dr_table.specs.Views.{table_view};
@@ -43,6 +43,15 @@ fn keep(left: &mut Vec<LeftTablet>, tablet: u32, lines: TabletLines) -> Result<(
     Ok(())
 }
 
+/// Where a tablet is left, nothing is printed.
+fn clear_where_left(left: &[LeftTablet], text: &mut String)
+    ensures { left.now ≡ [] → string_bytes text.new ≡ string_bytes text.old }
+{
+    if !left.is_empty() {
+        text.clear();
+    }
+}
+
 /// The lines of the records of a table, projected to these leaves of its schema, in the order of the tablets; or the
 /// tablets that are left, of which no copy gives records. The link is asked for no file but those of the table, and,
 /// where it tells what it holds, for no bytes of them but what the leaves take.
@@ -70,10 +79,7 @@ pub fn dump_table<L: Link>(
     'tablets: for tablet in 0..table.tablets {
         let lines = push_tablet(alloc, link, table, fields, tablet, &mut text)?;
         keep(&mut left, tablet, lines)?;
-        // Where a tablet is left, nothing is printed.
-        if !left.is_empty() {
-            text.clear();
-        }
+        clear_where_left(&left, &mut text);
     }
     if left.is_empty() {
         Ok(Dumped::Lines(text))

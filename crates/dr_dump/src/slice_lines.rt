@@ -126,7 +126,7 @@ pub(crate) fn push_opened<L: Link>(
         Err(NoMemory) => return Err(FileFault::NoMemory),
     };
     let mut left = opened.rows();
-    let mut size = 1;
+    let mut size = 1u64;
     // No file has more slices.
     'slices: for _ in 0..u64::MAX {
         let records = size.min(left);
@@ -139,11 +139,10 @@ pub(crate) fn push_opened<L: Link>(
             Err(fault) => return Err(file_fault(fault)),
         }
         if left == 0 {
-            return if are_passed(&leaves) {
-                Ok(())
-            } else {
-                Err(FileFault::Why(Cause::BadData))
-            };
+            if are_passed(&leaves) {
+                return Ok(());
+            }
+            return Err(FileFault::Why(Cause::BadData));
         }
         left -= records;
         size = next_size(size, &columns);
