@@ -1,7 +1,6 @@
 -- A text that is cut back to where lines joined it.
 use Rattle.std.proofs.Common.{◌≡◌, ◌<◌, ℕ, zero, suc, ◌+◌, List, [], ◌∷◌, ◌++◌, length, map, take, refl, sym, ap, ◌∙◌, subst, append-nil, length-append, arith}
 use Rattle.std.specs.Prelude.{◌≤◌, Result, Err, slice_index}
-use Rattle.std_alloc.specs.String.Boundary.{IsSplitPoint}
 use Rattle.dr_outside.specs.declared.cause.Cause.{Cause}
 use Rattle.dr_file.specs.declared.file_fault.FileFault.{FileFault}
 use Rattle.std.specs.List.{flat_map}
@@ -10,6 +9,10 @@ use Rattle.dr_meaning.specs.Record.{Node}
 use Rattle.dr_meaning.specs.Print.{record_text}
 use Rattle.dr_dump.specs.Dumps.{lines_text}
 use Rattle.dr_dump.specs.Lines.{PrintsSome}
+
+-- a place in a text where it may be cut: its start, its end, or a byte that begins a character
+abbrev pub MayBeCut : List ℕ → ℕ → Type 0
+MayBeCut bs n = (n ≤ length bs) × (0 < n → n < length bs → 128 ≤ slice_index bs n → 192 ≤ slice_index bs n)
 
 -- a line begins with a brace
 line_begins : (fs : Fields) (n : Node) (rest : List ℕ) → slice_index (record_text fs n ++ rest) 0 ≡ 123
@@ -24,7 +27,7 @@ front_of_both : (xs ys : List ℕ) → take (length xs) (xs ++ ys) ≡ xs
 front_of_both [] ys = refl
 front_of_both (x ∷ xs) ys = ap (λ (zs : List ℕ). x ∷ zs) (front_of_both xs ys)
 
-seam : (fs : Fields) (P : List Node) (before after : List ℕ) → after ≡ before ++ lines_text fs P → IsSplitPoint after (length before)
+seam : (fs : Fields) (P : List Node) (before after : List ℕ) → after ≡ before ++ lines_text fs P → MayBeCut after (length before)
 seam fs [] before after e = let size : length after ≡ length before = ap length (e ∙ append-nil before) in (omega (arith, size), λ w v. absurd (omega (arith, v, size)))
 seam fs (p ∷ P) before after e =
     let rest : List ℕ = lines_text fs P in
@@ -33,8 +36,8 @@ seam fs (p ∷ P) before after e =
     (omega (arith, size), λ w v high. absurd (omega (arith, first, high)))
 
 -- where lines joined a text, it may be cut back
-pub may_cut : (fs : Fields) (before after : List ℕ) (n : ℕ) → n ≡ length before → PrintsSome fs before after → IsSplitPoint after n
-may_cut fs before after n e h = subst (λ (k : ℕ). IsSplitPoint after k) (sym e) (seam fs h.0 before after h.1)
+pub may_cut : (fs : Fields) (before after : List ℕ) (n : ℕ) → n ≡ length before → PrintsSome fs before after → MayBeCut after n
+may_cut fs before after n e h = subst (λ (k : ℕ). MayBeCut after k) (sym e) (seam fs h.0 before after h.1)
 
 -- and is then what it was
 pub cut_back : (fs : Fields) (before after now : List ℕ) (n : ℕ) → n ≡ length before → PrintsSome fs before after → now ≡ take n after → now ≡ before

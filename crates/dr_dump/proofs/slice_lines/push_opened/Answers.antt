@@ -25,7 +25,7 @@ slices-init g c =
     let link = g.L.Link.shows c.args.link.now in
     record {
       printed = printed_none (schema_view c.args.schema.now) F link.held c.args.opened.now c.rows-left.result (string_bytes c.args.text.now) c.in-Ok.leaves.items c.rows-left.ensures.rows (c.in-Ok.ensures link.held F (length-map c.args.fields.now path_view));
-      reads = reads_nothing _ _ _ _ tt _;
+      reads = reads_nothing c.args.opened.now F F (λ bytes. IsFaultOf bytes (schema_view c.args.schema.now) F) tt link;
     }
 
 pub returns-in-Err-take_slice-clause-reads : goal.returns-in-Err-take_slice-clause-reads
